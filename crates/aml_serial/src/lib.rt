@@ -1,0 +1,7 @@
+//! The plain executor: one transaction alone, and a list of transactions one after the other, exactly
+//! as `aml_check` says what they mean.
+#![tactic(auto)]
+
+mod runs;
+
+pub use runs::{run_alone, run_list};

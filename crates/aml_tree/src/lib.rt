@@ -1,0 +1,12 @@
+//! The method language as a tree, and the reader that makes it of a program's text.
+//!
+//! A tree keeps what the text says and nothing of how it is laid out. It is generic over what
+//! stands for a variable: its name as the text has it, or, once the program is checked, its place
+//! among the method's variables. `work_text` reads programs with it, `aml_check` resolves the names.
+#![tactic(auto)]
+
+mod parse;
+mod trees;
+
+pub use parse::{TextCause, TextFault, TextNo, parse_program, parse_program_bytes};
+pub use trees::{Expression, Link, Method, Name, Operand, Operator, Program, Statement};

@@ -1,0 +1,16 @@
+//! The words that every crate above speaks: who a transaction is, where it stands in the serial
+//! order, what it asks for, and what became of it. All of it is plain data: a value of these types
+//! is never in a wrong state, and each layer says for itself what it asks of one.
+#![tactic(auto)]
+
+mod ids;
+mod memory;
+mod sequences;
+mod transactions;
+mod verdicts;
+
+pub use ids::{ActorId, Bid, Tid, TxNo};
+pub use memory::Memory;
+pub use sequences::Sequence;
+pub use transactions::{Kind, State, SubBatch, Tx, TxResult, Who};
+pub use verdicts::{Place, Verdict};

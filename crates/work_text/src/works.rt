@@ -1,0 +1,22 @@
+use aml_check::Checked;
+use snap_base::{Sequence, State, Tx};
+
+/// What a run is asked for.
+#[derive(Drop)]
+pub struct Work {
+    /// How many coordinators pass the token on, 1 to 8.
+    pub coordinators: u8,
+    /// How many logs there are, 1 to 4.
+    pub logs: u8,
+    /// How many transactions a batch may have, 1 to 256.
+    pub batch: u16,
+    /// How many batches may be live, 1 to 32.
+    pub batches: u8,
+    /// How many ACTs may be live, 1 to 32.
+    pub acts: u8,
+    pub program: Checked,
+    /// Each actor's state at the beginning; 1 to 256 actors.
+    pub states: Sequence<State>,
+    /// The transactions in the order of the text.
+    pub txs: Sequence<Tx>,
+}
