@@ -1,4 +1,5 @@
 use crate::{ActorId, Bid, Tid, TxNo};
+use std::fmt;
 
 /// A transaction's place in the serial order. Places are compared by batch, then side, then order.
 #[derive(Clone, Copy, Debug, PartialEq, Eq, PartialOrd, Ord, Hash)]
@@ -52,4 +53,41 @@ pub enum Verdict {
     Unsure {
         log: u8,
     },
+}
+
+impl fmt::Display for Place {
+    ghost use Rattle.std.specs.Prelude.{Some};
+    ghost use Rattle.snap_base.specs.Text.{place_text};
+
+    ghost output = { λ p. Some (place_text p) };
+
+    fn fmt<W: fmt::Write>(&self, f: &mut fmt::Formatter<W>) -> fmt::Result {
+        let Place { batch, side, order } = *self;
+        write!(f, "{batch}.{side}.{order}")
+    }
+}
+
+impl fmt::Display for Verdict {
+    ghost use Rattle.std.specs.Prelude.{Some};
+    ghost use Rattle.snap_base.specs.Text.{verdict_text};
+
+    ghost output = { λ v. Some (verdict_text v) };
+
+    fn fmt<W: fmt::Write>(&self, f: &mut fmt::Formatter<W>) -> fmt::Result {
+        match *self {
+            Verdict::Committed { place, value } => write!(f, "committed {place} {value}"),
+            Verdict::Code { place, code } => write!(f, "code {place} {code}"),
+            Verdict::BatchCode { batch, at, code } => write!(f, "batchcode {batch} {at} {code}"),
+            Verdict::Cascade { batch, by } => write!(f, "cascade {batch} {by}"),
+            Verdict::Died { actor, older, own } => {
+                write!(f, "died actor {actor} older {older} own {own}")
+            }
+            Verdict::Order {
+                before,
+                after,
+                actor,
+            } => write!(f, "order before {before} after {after} actor {actor}"),
+            Verdict::Unsure { log } => write!(f, "unsure {log}"),
+        }
+    }
 }

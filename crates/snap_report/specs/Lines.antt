@@ -1,0 +1,64 @@
+-- The lines of the output, byte for byte. A line ends with a line feed.
+use Rattle.std.specs.Prelude.{ℕ, zero, suc, ℤ, pos, negsuc, Bool, true, false, if◌then◌else◌, List, [], ◌∷◌, ◌++◌, codes}
+use Rattle.std.specs.List.{flat_map}
+use Rattle.std.specs.Fmt.{decimal, signed_decimal}
+use Rattle.snap_base.specs.declared.verdicts.Verdict.{Verdict}
+use Rattle.snap_base.specs.Text.{verdict_text}
+use Rattle.snap_base.specs.declared.transactions.State.{State}
+use Rattle.work_text.specs.declared.parse.WorkCause.{WorkCause}
+use Rattle.work_text.specs.declared.parse.WorkCause.TheVariants.{Unbuilt}
+use Rattle.snap_report.specs.declared.statuses.Status.{Status}
+use Rattle.snap_report.specs.declared.statuses.Status.TheVariants as status
+
+abbrev pub line_end : List ℕ
+line_end = 10 ∷ []
+
+-- ---- replies
+
+abbrev pub reply_text : ℕ → Verdict → List ℕ
+reply_text tx verdict = codes "tx " ++ (decimal tx ++ (codes " " ++ (verdict_text verdict ++ line_end)))
+
+-- ---- actors
+
+abbrev pub is_zero : ℤ → Bool
+is_zero (pos zero) = true
+is_zero (pos (suc n)) = false
+is_zero (negsuc n) = false
+
+-- z and what stands behind it, without zeros at the end
+abbrev pub onto_shown : ℤ → List ℤ → List ℤ
+onto_shown z [] = if is_zero z then [] else z ∷ []
+onto_shown z (y ∷ ys) = z ∷ y ∷ ys
+
+-- without the zeros at the end
+abbrev pub without_last_zeros : List ℤ → List ℤ
+without_last_zeros [] = []
+without_last_zeros (z ∷ zs) = onto_shown z (without_last_zeros zs)
+
+-- the fields up to the last that is not 0, and at least one
+abbrev pub shown_fields : List ℤ → List ℤ
+shown_fields [] = []
+shown_fields (z ∷ zs) = z ∷ without_last_zeros zs
+
+abbrev pub actor_text : ℕ → State → List ℕ
+actor_text actor s = codes "actor " ++ (decimal actor ++ (flat_map (λ z. codes " " ++ signed_decimal z) (shown_fields s.0) ++ line_end))
+
+-- ---- the end
+
+abbrev pub end_text : ℕ → ℕ → ℕ → List ℕ
+end_text committed aborted batches =
+    codes "end committed " ++ (decimal committed ++ (codes " aborted " ++ (decimal aborted ++ (codes " batches " ++ (decimal batches ++ line_end)))))
+
+-- ---- the status
+
+abbrev pub cause_text : WorkCause → List ℕ
+cause_text Unbuilt = codes "Unbuilt"
+
+abbrev pub status_text : Status → List ℕ
+status_text status.Done = []
+status_text (status.Usage word) = codes "snapper: usage: word " ++ (decimal word ++ line_end)
+status_text (status.Input line cause) = codes "snapper: line " ++ (decimal line ++ (codes ": " ++ (cause_text cause ++ line_end)))
+status_text status.Memory = codes "snapper: out of memory" ++ line_end
+status_text status.ReadFault = codes "snapper: read fault" ++ line_end
+status_text status.OutFault = codes "snapper: output fault" ++ line_end
+status_text (status.Halted unanswered) = codes "snapper: halted " ++ (decimal unanswered ++ line_end)

@@ -1,0 +1,9 @@
+//! What is printed: a line for each reply, for each actor, for the end of a run, and for the status that
+//! a call ends with. What a line is stands in `specs/Lines.antt`.
+#![tactic(auto)]
+
+mod lines;
+mod statuses;
+
+pub use lines::{actor_line, end_line, reply_line};
+pub use statuses::{Status, status_line};

@@ -1,0 +1,50 @@
+ghost use Rattle.std.specs.Prelude.{◌≡◌, ◌<◌, ◌≤◌, IfOk, string_bytes, length, take};
+ghost use Rattle.snap_report.specs.Lines.{reply_text, actor_text, end_text, shown_fields};
+
+use snap_base::{ActorId, Memory, State, TxNo, Verdict};
+use std::alloc::Global;
+use std::fmt::Write;
+
+/// The reply to a transaction.
+pub fn reply_line(alloc: Global, tx: TxNo, verdict: &Verdict) -> Result<String, Memory>
+    ensures { IfOk result (λ s. string_bytes s ≡ reply_text tx.0 verdict.now) }
+{
+    Ok(format!(in alloc; "tx {tx} {verdict}\n")?)
+}
+
+/// An actor's fields up to the last that is not 0, and at least one.
+pub fn actor_line(alloc: Global, actor: ActorId, state: &State) -> Result<String, Memory>
+    ensures { IfOk result (λ s. string_bytes s ≡ actor_text actor.0 state.now) }
+{
+    let mut line = format!(in alloc; "actor {actor}")?;
+    let fields = state.0.as_slice();
+    for value in &fields[..shown(fields)] {
+        write!(line, " {value}")?;
+    }
+    line.push('\n')?;
+    Ok(line)
+}
+
+/// How many fields are shown.
+fn shown(fields: &[i64]) -> usize
+    requires { 0 < length fields.now }
+    ensures within { result ≤ length fields.now }
+    ensures shown { take result fields.now ≡ shown_fields fields.now }
+{
+    let mut count = 1;
+    for at in 1..fields.len() {
+        let field = fields[at];
+        if field != 0 {
+            count = at + 1;
+        }
+    }
+    count
+}
+
+/// The end of a run: how many transactions committed, how many had another reply, and how many batches
+/// were settled.
+pub fn end_line(alloc: Global, committed: u32, aborted: u32, batches: u32) -> Result<String, Memory>
+    ensures { IfOk result (λ s. string_bytes s ≡ end_text committed aborted batches) }
+{
+    Ok(format!(in alloc; "end committed {committed} aborted {aborted} batches {batches}\n")?)
+}

@@ -1,0 +1,69 @@
+ghost use Rattle.std.specs.Prelude.{◌≡◌, IfOk, string_bytes};
+ghost use Rattle.snap_report.specs.Lines.{cause_text, status_text};
+
+use snap_base::Memory;
+use std::alloc::Global;
+use work_text::WorkCause;
+
+/// How the top call ended. The number behind each is the program's exit status.
+#[derive(Clone, Copy, Debug, PartialEq, Eq)]
+pub enum Status {
+    /// 0: the input was read to its end, every transaction has a reply, and all was written.
+    Done,
+    /// 1: the words of the command line are no form. `word` is the place, from 0 on, of the first word
+    /// with which they begin none, or their number where all of them begin one.
+    Usage { word: u32 },
+    /// 2: the text stands for no work.
+    Input { line: u32, cause: WorkCause },
+    /// 4: there was no memory.
+    Memory,
+    /// 5: the source failed.
+    ReadFault,
+    /// 7: the sink failed.
+    OutFault,
+    /// 9: a transaction failed, which this stage cannot answer yet. `unanswered` is the number of
+    /// transactions without a reply.
+    Halted { unanswered: u32 },
+}
+
+impl Status {
+    /// The exit status of the program.
+    pub fn number(&self) -> u8 {
+        match self {
+            Status::Done => 0,
+            Status::Usage { .. } => 1,
+            Status::Input { .. } => 2,
+            Status::Memory => 4,
+            Status::ReadFault => 5,
+            Status::OutFault => 7,
+            Status::Halted { .. } => 9,
+        }
+    }
+}
+
+/// The line that the program writes to standard error; nothing for `Done`.
+pub fn status_line(alloc: Global, status: &Status) -> Result<String, Memory>
+    ensures { IfOk result (λ s. string_bytes s ≡ status_text status.now) }
+{
+    match *status {
+        Status::Done => Ok(String::new(alloc)),
+        Status::Usage { word } => Ok(format!(in alloc; "snapper: usage: word {word}\n")?),
+        Status::Input { line, cause } => {
+            let cause = cause_name(cause);
+            Ok(format!(in alloc; "snapper: line {line}: {cause}\n")?)
+        }
+        Status::Memory => Ok(String::from_str(alloc, "snapper: out of memory\n")?),
+        Status::ReadFault => Ok(String::from_str(alloc, "snapper: read fault\n")?),
+        Status::OutFault => Ok(String::from_str(alloc, "snapper: output fault\n")?),
+        Status::Halted { unanswered } => Ok(format!(in alloc; "snapper: halted {unanswered}\n")?),
+    }
+}
+
+/// The cause's name, as it is written in the code.
+fn cause_name(cause: WorkCause) -> &'static str
+    ensures { result.now ≡ cause_text cause }
+{
+    match cause {
+        WorkCause::Unbuilt => "Unbuilt",
+    }
+}
