@@ -1,0 +1,16 @@
+-- The words of the command line: which lists of them are a form, and which word is the first wrong one.
+use Rattle.std.specs.Prelude.{◌≡◌, ℕ, ◌+◌, ◌<◌, ◌⊎◌, List, [], ◌∷◌, ◌++◌, length, take, codes}
+
+abbrev pub IsForm : List (List ℕ) → Type 0
+IsForm words = words ≡ codes "run" ∷ []
+
+-- some words behind these make them a form
+abbrev pub BeginsForm : List (List ℕ) → Type 0
+BeginsForm front = (rest : List (List ℕ)) × IsForm (front ++ rest)
+
+-- The words are no form. The place is that of the last word of the shortest front that begins none, or
+-- the number of the words where all of them begin one.
+pub record IsUsageFault (words : List (List ℕ)) (place : ℕ) : Type 0 where
+  pub no_form : ¬ IsForm words
+  pub wrong : ((place ≡ length words) × BeginsForm words)
+      ⊎ ((place < length words) × BeginsForm (take place words) × ¬ BeginsForm (take (place + 1) words))
