@@ -1,6 +1,7 @@
 -- What a checked program is: the text's tree with each name replaced by its place among the variables
 -- that are visible there, which are the method's parameters in their order.
-use Rattle.std.specs.Prelude.{◌≡◌, ℕ, ◌<◌, List, [], ◌∷◌, map, Some, slice_get, Contains}
+use Rattle.std.specs.Prelude.{◌≡◌, ℕ, ◌<◌, ◌^◌, List, [], ◌∷◌, length, map, Some, slice_get, Contains}
+use Rattle.std.specs.List.{AllByRecursion}
 use Rattle.aml_tree.specs.Tree.{Expr, Number, Variable, Field, Binary, Block, End, SetField, Return, MethodTree}
 
 -- names, the visible variables; e, as the text has it; c, checked
@@ -38,9 +39,9 @@ pub record IsCheckedProgram (p : List (MethodTree (List ℕ))) (c : List (Method
 
 -- ---- what every checked program keeps
 
--- each variable is one of the first n
+-- each variable is one of the first n, each number is of signed 64 bits, and each field is the actor's
 abbrev pub IsClosedExpression : ℕ → Expr ℕ → Type 0
-IsClosedExpression n (Number _) = Unit {0}
+IsClosedExpression n (Number z) = z < 2 ^ 63
 IsClosedExpression n (Variable place) = place < n
 IsClosedExpression n (Field k) = k < 16
 IsClosedExpression n (Binary o a b) = IsClosedExpression n a × IsClosedExpression n b
@@ -50,3 +51,13 @@ abbrev pub IsClosedBlock : ℕ → Block ℕ → Type 0
 IsClosedBlock n End = ⊥
 IsClosedBlock n (SetField k value rest) = (k < 16) × IsClosedExpression n value × IsClosedBlock n rest
 IsClosedBlock n (Return value rest) = IsClosedExpression n value
+
+-- a place among the parameters fits a byte
+pub record IsClosedMethod (m : MethodTree ℕ) : Type 0 where
+  pub few : length m.parameters < 2 ^ 8
+  pub body : IsClosedBlock (length m.parameters) m.body
+
+-- and one among the methods fits two
+pub record IsClosedProgram (p : List (MethodTree ℕ)) : Type 0 where
+  pub few : length p < 2 ^ 16
+  pub methods : AllByRecursion IsClosedMethod p

@@ -3,6 +3,14 @@
 //! `specs/Meaning.antt`, which the executors and the top call cite.
 #![tactic(auto)]
 
+mod bodies;
 mod checks;
+mod laws;
+mod places;
+mod programs;
+#[cfg(test)]
+mod tests;
 
-pub use checks::{CheckCause, CheckFault, CheckNo, Checked, check};
+pub use checks::{CheckCause, CheckFault, CheckNo, check};
+pub use laws::one_checked;
+pub use programs::Checked;

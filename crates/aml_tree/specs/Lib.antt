@@ -1,3 +1,5 @@
 pub mod Tree
 pub mod Words
 pub mod Grammar
+pub mod Reading
+pub mod Lexing

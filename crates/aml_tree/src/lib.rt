@@ -5,8 +5,13 @@
 //! among the method's variables. `work_text` reads programs with it, `aml_check` resolves the names.
 #![tactic(auto)]
 
+mod lexer;
 mod parse;
+mod parser;
 mod trees;
 
-pub use parse::{TextCause, TextFault, TextNo, parse_program, parse_program_bytes};
+pub use parse::{TextCause, TextFault, TextNo, one_program, parse_program, parse_program_bytes};
 pub use trees::{Expression, Link, Method, Name, Operand, Operator, Program, Statement};
+
+#[cfg(test)]
+mod tests;

@@ -51,6 +51,16 @@ end_text committed aborted batches =
 
 -- ---- the status
 
+-- the program's exit status
+abbrev pub status_number : Status → ℕ
+status_number status.Done = 0
+status_number (status.Usage word) = 1
+status_number (status.Input line cause) = 2
+status_number status.Memory = 4
+status_number status.ReadFault = 5
+status_number status.OutFault = 7
+status_number (status.Halted unanswered) = 9
+
 abbrev pub cause_text : WorkCause → List ℕ
 cause_text Unbuilt = codes "Unbuilt"
 

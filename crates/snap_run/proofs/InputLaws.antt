@@ -21,10 +21,10 @@ all_asked program actors asked (tx ∷ txs) h = (h.4, all_asked program actors h
 -- a work that a text stands for can be executed
 pub executable : (text : List ℕ) (w : Work) → IsWork text w → IsExecutable w
 executable text w h = let rest = h.parts.5.2 in record {
-    transactions = all_asked _ _ _ w.txs rest.transactions;
-    few_transactions = omega (arith, rest.one_batch, h.settings.batch.1);
-    few_states = omega (arith, rest.actors.1);
-    }
+  transactions = all_asked _ _ _ w.txs rest.transactions;
+  few_transactions = omega (arith, rest.one_batch, h.settings.batch.1);
+  few_states = omega (arith, rest.actors.1);
+}
 
 -- what was read stands for no work, and neither does the input, of which it is all, or too much
 pub refused_input : (old new : Option (List ℕ)) (bytes : List ℕ) → Consumes old new bytes → (length bytes ≤ 8388608 → IsAtEnd new)
@@ -32,8 +32,9 @@ pub refused_input : (old new : Option (List ℕ)) (bytes : List ℕ) → Consume
 refused_input None new bytes moved whole h = tt
 refused_input (Some xs) None bytes moved whole h = absurd moved
 refused_input (Some xs) (Some ys) bytes moved whole h = λ w work. elim (cases_lt 8388608 (length bytes)) [
-      inr short ↦ h w (subst (λ t. IsWork t w) (moved ∙ ap (λ l. bytes ++ l) (whole short) ∙ append-nil bytes) work)
-    | inl long ↦ omega (arith, work.size, ap length moved, length-append bytes ys) ]
+  | inr short ↦ h w (subst (λ t. IsWork t w) (moved ∙ ap (λ l. bytes ++ l) (whole short) ∙ append-nil bytes) work)
+  | inl long ↦ omega (arith, work.size, ap length moved, length-append bytes ys)
+]
 
 -- so much was read
 pub reads_enough : (old new : Option (List ℕ)) (bytes : List ℕ) → Consumes old new bytes → (length bytes ≤ 8388608 → IsAtEnd new) → length bytes ≤ 8388609

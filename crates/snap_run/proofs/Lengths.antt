@@ -24,10 +24,10 @@ block_keeps actor variables End r = refl
 block_keeps actor variables (SetField k value rest) r =
     let s : Progress = record r { statements = r.statements + 1 } in
     count_keeps (nat_lt r.statements 10000) _ r s _
-        (bind_keeps _ (value_of variables (state_at s.world actor) value) _ (λ v.
-            let t : Progress = record s { world = slice_set s.world actor (with_field (state_at s.world actor) k v) } in
-            let kept : length t.world ≡ length s.world = length-set s.world actor (with_field (state_at s.world actor) k v) in
-            subst (λ n. HasActors n (block actor variables rest t)) kept (block_keeps actor variables rest t)))
+    (bind_keeps _ (value_of variables (state_at s.world actor) value) _ (λ v.
+    let t : Progress = record s { world = slice_set s.world actor (with_field (state_at s.world actor) k v) } in
+    let kept : length t.world ≡ length s.world = length-set s.world actor (with_field (state_at s.world actor) k v) in
+    subst (λ n. HasActors n (block actor variables rest t)) kept (block_keeps actor variables rest t)))
 block_keeps actor variables (Return value rest) r =
     let s : Progress = record r { statements = r.statements + 1 } in
     count_keeps (nat_lt r.statements 10000) _ r s _ (bind_keeps _ (value_of variables (state_at s.world actor) value) _ (λ v. refl))

@@ -25,18 +25,17 @@ pub(crate) fn answer<I: Source, O: Sink>(
     input: &mut I,
     out: &mut O,
 ) -> Result<(), Status>
-    ensures {
-        let u : Use = record {
-            words = map string_bytes words.now;
-            left_before = I.left input.old;
-            left_after = I.left input.new;
-            source_before = I.faults input.old;
-            source_after = I.faults input.new;
-            taken_before = O.taken out.old;
-            taken_after = O.taken out.new;
-            sink_before = O.faults out.old;
-            sink_after = O.faults out.new;
-        } in
+    ensures { let u : Use = record {
+      words = map string_bytes words.now;
+      left_before = I.left input.old;
+      left_after = I.left input.new;
+      source_before = I.faults input.old;
+      source_after = I.faults input.new;
+      taken_before = O.taken out.old;
+      taken_after = O.taken out.new;
+      sink_before = O.faults out.old;
+      sink_after = O.faults out.new;
+    } in
         MatchResult result (λ _. IsAnswer u status.Done) (λ s. IsAnswer u s) }
 {
     if let Err(word) = read_words(words) {
@@ -51,10 +50,9 @@ pub(crate) fn answer<I: Source, O: Sink>(
 
 /// The report of the work that the input stands for.
 fn report_of_input<I: Source>(alloc: Global, input: &mut I) -> Result<String, Status>
-    ensures {
-        MatchResult result
-            (λ report. IsAtEnd (I.left input.new) × IfSome (I.left input.old) (λ bytes. (w : Work) × IsWork bytes w × IsReport w (string_bytes report)))
-            (λ s. IsInputAnswer (I.left input.old) (I.left input.new) (I.faults input.old) (I.faults input.new) s) }
+    ensures { MatchResult result
+        (λ report. IsAtEnd (I.left input.new) × IfSome (I.left input.old) (λ bytes. (w : Work) × IsWork bytes w × IsReport w (string_bytes report)))
+        (λ s. IsInputAnswer (I.left input.old) (I.left input.new) (I.faults input.old) (I.faults input.new) s) }
 {
     let bytes = match read_input(alloc, input) {
         Ok(bytes) => bytes,

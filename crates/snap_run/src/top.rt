@@ -8,6 +8,7 @@ use snap_report::Status;
 use std::alloc::Global;
 
 /// How the top call ended, and what it was given.
+#[derive(Drop)]
 pub struct Outcome<D, O, T> {
     pub status: Status,
     pub logs: Vec<D>,
@@ -27,31 +28,29 @@ pub fn run<I: Source, D: LogDev, O: Sink, T: Sink>(
 ) -> Outcome<D, O, T>
     requires { vec_len logs ≡ 4 }
     // Each answer has its cause.
-    ensures answer {
-        let u : Use = record {
-            words = map string_bytes words.now;
-            left_before = I.left input.old;
-            left_after = I.left input.new;
-            source_before = I.faults input.old;
-            source_after = I.faults input.new;
-            taken_before = O.taken out;
-            taken_after = O.taken result.out;
-            sink_before = O.faults out;
-            sink_after = O.faults result.out;
-        } in IsAnswer u result.status }
+    ensures answer { let u : Use = record {
+      words = map string_bytes words.now;
+      left_before = I.left input.old;
+      left_after = I.left input.new;
+      source_before = I.faults input.old;
+      source_after = I.faults input.new;
+      taken_before = O.taken out;
+      taken_after = O.taken result.out;
+      sink_before = O.faults out;
+      sink_after = O.faults result.out;
+    } in IsAnswer u result.status }
     // Where nothing stands in the way, the work is done, or there is no memory.
-    ensures complete {
-        let u : Use = record {
-            words = map string_bytes words.now;
-            left_before = I.left input.old;
-            left_after = I.left input.new;
-            source_before = I.faults input.old;
-            source_after = I.faults input.new;
-            taken_before = O.taken out;
-            taken_after = O.taken result.out;
-            sink_before = O.faults out;
-            sink_after = O.faults result.out;
-        } in (text : List ℕ) → IsUntroubled u text → (result.status ≡ status.Done) ⊎ (result.status ≡ status.Memory) }
+    ensures complete { let u : Use = record {
+      words = map string_bytes words.now;
+      left_before = I.left input.old;
+      left_after = I.left input.new;
+      source_before = I.faults input.old;
+      source_after = I.faults input.new;
+      taken_before = O.taken out;
+      taken_after = O.taken result.out;
+      sink_before = O.faults out;
+      sink_after = O.faults result.out;
+    } in (text : List ℕ) → IsUntroubled u text → (result.status ≡ status.Done) ⊎ (result.status ≡ status.Memory) }
     ensures logs { result.logs ≡ logs }
     ensures trace { result.trace ≡ trace }
 {

@@ -14,5 +14,5 @@ loop-number-preserved c =
     ∙ ap (λ l. l ++ actor_text n (get_or states n (record { 0 = [] }))) c.loop-number.invariant
     ∙ append_assoc (string_bytes c.args.text.now) (actors_text 0 (take n states)) _
     ∙ ap (λ l. string_bytes c.args.text.now ++ l)
-        (sym (actors_text-push 0 n (take n states) (get_or states n (record { 0 = [] })) (omega (arith, length-take n states)))
-         ∙ ap (actors_text 0) (sym (take_more states n (record { 0 = [] }) (omega arith))))
+    (sym (actors_text-push 0 n (take n states) (get_or states n (record { 0 = [] })) (omega (arith, length-take n states)))
+    ∙ ap (actors_text 0) (sym (take_more states n (record { 0 = [] }) (omega arith))))

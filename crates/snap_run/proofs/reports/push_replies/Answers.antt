@@ -16,17 +16,17 @@ loop-number-preserved c =
     let results = c.args.results.now in
     let v = c.in-Value.value in
     let more : take (n + 1) results ≡ take n results ++ Value v ∷ [] =
-        take_more results n (Value (pos 0)) c.loop-number-test.true ∙ ap (λ r. take n results ++ r ∷ []) c.in-Value.is in
+    take_more results n (Value (pos 0)) c.loop-number-test.true ∙ ap (λ r. take n results ++ r ∷ []) c.in-Value.is in
     let values : map value_in (take (n + 1) results) ≡ map value_in (take n results) ++ v ∷ [] =
-        ap (map value_in) more ∙ map-append value_in (take n results) (Value v ∷ []) in
+    ap (map value_in) more ∙ map-append value_in (take n results) (Value v ∷ []) in
     let told : string_bytes c.push_reply.new.text ≡ string_bytes c.loop-number.text ++ reply_text n (committed n v) =
-        c.in_ok-push_reply.ensures ∙ ap (λ (z : ℤ). string_bytes c.loop-number.text ++ reply_text n (committed n z)) (to_z-of_z {w = w64} (search rules)) in
+    c.in_ok-push_reply.ensures ∙ ap (λ (z : ℤ). string_bytes c.loop-number.text ++ reply_text n (committed n z)) (to_z-of_z {w = w64} (search rules)) in
     record {
-        values = more ∙ all_values-push (take n results) v c.loop-number.invariant.values ∙ ap (λ l. map Value (map value_in l)) (sym more);
-        text = told
-            ∙ ap (λ l. l ++ reply_text n (committed n v)) c.loop-number.invariant.text
-            ∙ append_assoc (string_bytes c.args.text.now) (replies_text 0 (map value_in (take n results))) _
-            ∙ ap (λ l. string_bytes c.args.text.now ++ l)
-                (sym (replies_text-push 0 n (map value_in (take n results)) v (omega (arith, length-map (take n results) value_in, length-take n results)))
-                 ∙ ap (replies_text 0) (sym values));
+      values = more ∙ all_values-push (take n results) v c.loop-number.invariant.values ∙ ap (λ l. map Value (map value_in l)) (sym more);
+      text = told
+          ∙ ap (λ l. l ++ reply_text n (committed n v)) c.loop-number.invariant.text
+          ∙ append_assoc (string_bytes c.args.text.now) (replies_text 0 (map value_in (take n results))) _
+          ∙ ap (λ l. string_bytes c.args.text.now ++ l)
+          (sym (replies_text-push 0 n (map value_in (take n results)) v (omega (arith, length-map (take n results) value_in, length-take n results)))
+          ∙ ap (replies_text 0) (sym values));
     }

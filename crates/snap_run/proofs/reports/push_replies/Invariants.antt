@@ -7,6 +7,6 @@ use Rattle.snap_run.proofs.reports.push_replies.Given as goal
 -- the transactions so far gave values, and their lines are there
 abbrev pub invariant-loop-number : goal.invariant-loop-number
 invariant-loop-number l = record {
-    values : take l.number l.results ≡ map Value (map value_in (take l.number l.results));
-    text : string_bytes l.text ≡ string_bytes l.fn.text ++ replies_text 0 (map value_in (take l.number l.results));
-    }
+  values : take l.number l.results ≡ map Value (map value_in (take l.number l.results));
+  text : string_bytes l.text ≡ string_bytes l.fn.text ++ replies_text 0 (map value_in (take l.number l.results));
+}

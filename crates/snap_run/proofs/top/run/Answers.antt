@@ -6,5 +6,6 @@ use Rattle.snap_run.proofs.top.run.Goals.{in-Ok, in-Err}
 
 pub returns-clause-complete : goal.returns-clause-complete
 returns-clause-complete g c = λ text untroubled. elim c.match-answer.branch [
-      in-Ok w ↦ inl w.status-is
-    | in-Err w ↦ subst (λ s. (s ≡ status.Done) ⊎ (s ≡ status.Memory)) (sym w.status-is) (completed _ text _ untroubled w.in-Err.ensures) ]
+  | in-Ok w ↦ inl w.status-is
+  | in-Err w ↦ subst (λ s. (s ≡ status.Done) ⊎ (s ≡ status.Memory)) (sym w.status-is) (completed _ text _ untroubled w.in-Err.ensures)
+]

@@ -1,0 +1,10 @@
+pub mod MethodsByPlace
+pub mod Items
+pub mod NameLists
+pub mod Refused
+pub mod Chains
+pub mod Blocks
+pub mod MethodLists
+pub mod Closed
+pub mod OneChecked
+pub mod LetterNames

@@ -1,0 +1,11 @@
+pub mod Lexing
+pub mod Numbers
+pub mod Turns
+pub mod Bodies
+pub mod Names
+pub mod Steps
+pub mod Takes
+pub mod TakesMethods
+pub mod Again
+pub mod AgainMethods
+pub mod Programs

@@ -1,0 +1,85 @@
+use crate::runs::{DEPOSIT, DEPOSIT_OUTPUT, run_on};
+use snap_report::Status;
+use std::test::Fail;
+use work_text::WorkCause;
+
+const NO_FORM: Status = Status::Input {
+    line: 0,
+    cause: WorkCause::Unbuilt,
+};
+
+#[derive(Drop)]
+struct Row<'a> {
+    name: &'a str,
+    text: &'a str,
+    status: Status,
+    output: &'a str,
+}
+
+#[test]
+fn texts_give_their_reports(rt: HostRuntime) -> Result<(), Fail> {
+    let rows = [
+        Row {
+            name: "one deposit",
+            text: DEPOSIT,
+            status: Status::Done,
+            output: DEPOSIT_OUTPUT,
+        },
+        Row {
+            name: "two deposits",
+            text: "snapper 1\ncoordinators 1\nlogs 1\nbatch 16\nbatches 8\nacts 8\nprogram\nmethod put(n) { f0 = f0 + n; return f0; }\nend\nactors 1\nactor 0 100\npact 0 put 5 uses 0:1\npact 0 put 2 uses 0:1\n",
+            status: Status::Done,
+            output: "tx 0 committed 1.0.1 105\ntx 1 committed 1.0.2 107\nactor 0 107\nend committed 2 aborted 0 batches 1\n",
+        },
+        Row {
+            name: "no transaction, comments, blank lines, no last line end",
+            text: "# a text\nsnapper 1\n\ncoordinators 1\nlogs 1\nbatch 16\nbatches 8\nacts 8\nprogram\nmethod put(n) { # adds\n\tf0 = f0 + n; return f0; }\nend\n# three actors\nactors 3\nactor 1 0 -7",
+            status: Status::Done,
+            output: "actor 0 0\nactor 1 0 -7\nactor 2 0\nend committed 0 aborted 0 batches 0\n",
+        },
+        Row {
+            name: "fields and both signs",
+            text: "snapper 1\ncoordinators 1\nlogs 1\nbatch 1\nbatches 1\nacts 1\nprogram\nmethod swap() { f15 = f0 - f1 + 10; f0 = f1; f1 = f15 - 10 + f1; return 0 - f15; }\nend\nactors 2\nactor 1 8 3\npact 1 swap uses 1:1\n",
+            status: Status::Done,
+            output: "tx 0 committed 1.0.1 -15\nactor 0 0\nactor 1 3 8 0 0 0 0 0 0 0 0 0 0 0 0 0 15\nend committed 1 aborted 0 batches 1\n",
+        },
+        Row {
+            name: "a sum beyond 64 bits",
+            text: "snapper 1\ncoordinators 1\nlogs 1\nbatch 16\nbatches 8\nacts 8\nprogram\nmethod put(n) { f0 = f0 + n; return f0; }\nend\nactors 1\nactor 0 9223372036854775807\npact 0 put 5 uses 0:1\n",
+            status: Status::Halted { unanswered: 1 },
+            output: "",
+        },
+        Row {
+            name: "an empty text",
+            text: "",
+            status: NO_FORM,
+            output: "",
+        },
+        Row {
+            name: "two coordinators",
+            text: "snapper 1\ncoordinators 2\nlogs 1\nbatch 16\nbatches 8\nacts 8\nprogram\nmethod put(n) { f0 = f0 + n; return f0; }\nend\nactors 1\nactor 0 100\npact 0 put 5 uses 0:1\n",
+            status: NO_FORM,
+            output: "",
+        },
+    ];
+    for row in &rows {
+        let name = row.name;
+        let ran = run_on(rt.alloc(), &["run"], row.text, 0, 0)?;
+        assert_eq!(rt; ran.status, row.status, "{name}");
+        assert_eq!(rt; ran.output.as_slice(), row.output.as_bytes(), "{name}");
+    }
+    Ok(())
+}
+
+#[test]
+fn words_that_are_no_form_are_refused_at_their_place(rt: HostRuntime) -> Result<(), Fail> {
+    let none: [&str; 0] = [];
+    let ran = run_on(rt.alloc(), &none, DEPOSIT, 0, 0)?;
+    assert_eq!(rt; ran.status, Status::Usage { word: 0 });
+    let ran = run_on(rt.alloc(), &["run", "x"], DEPOSIT, 0, 0)?;
+    assert_eq!(rt; ran.status, Status::Usage { word: 1 });
+    let ran = run_on(rt.alloc(), &["fly"], DEPOSIT, 0, 0)?;
+    assert_eq!(rt; ran.status, Status::Usage { word: 0 });
+    assert_eq!(rt; ran.output.len(), 0);
+    Ok(())
+}
