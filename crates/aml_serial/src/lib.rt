@@ -2,6 +2,10 @@
 //! as `aml_check` says what they mean.
 #![tactic(auto)]
 
+mod blocks;
 mod runs;
+#[cfg(test)]
+mod tests;
+mod values;
 
 pub use runs::{run_alone, run_list};

@@ -1,5 +1,5 @@
 use crate::runs::{DEPOSIT, DEPOSIT_OUTPUT, run_on};
-use snap_report::Status;
+use snap_report::{Status, status_line};
 use std::test::Fail;
 use work_text::WorkCause;
 
@@ -81,5 +81,23 @@ fn words_that_are_no_form_are_refused_at_their_place(rt: HostRuntime) -> Result<
     let ran = run_on(rt.alloc(), &["fly"], DEPOSIT, 0, 0)?;
     assert_eq!(rt; ran.status, Status::Usage { word: 0 });
     assert_eq!(rt; ran.output.len(), 0);
+    Ok(())
+}
+
+#[test]
+fn status_lines_name_the_cause(rt: HostRuntime) -> Result<(), Fail> {
+    let lines = [
+        (Status::Done, ""),
+        (Status::Usage { word: 2 }, "snapper: usage: word 2\n"),
+        (NO_FORM, "snapper: line 0: Unbuilt\n"),
+        (Status::Memory, "snapper: out of memory\n"),
+        (Status::ReadFault, "snapper: read fault\n"),
+        (Status::OutFault, "snapper: output fault\n"),
+        (Status::Halted { unanswered: 3 }, "snapper: halted 3\n"),
+    ];
+    for (status, line) in &lines {
+        let written = status_line(rt.alloc(), status)?;
+        assert_eq!(rt; written.as_str(), *line);
+    }
     Ok(())
 }

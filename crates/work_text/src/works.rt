@@ -20,3 +20,13 @@ pub struct Work {
     /// The transactions in the order of the text.
     pub txs: Sequence<Tx>,
 }
+
+/// What the lines before the program set; the fields are those of `Work`.
+#[derive(Clone, Copy)]
+pub(crate) struct Settings {
+    pub(crate) coordinators: u8,
+    pub(crate) logs: u8,
+    pub(crate) batch: u16,
+    pub(crate) batches: u8,
+    pub(crate) acts: u8,
+}

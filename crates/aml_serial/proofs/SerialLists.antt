@@ -1,0 +1,33 @@
+-- A serial execution, one transaction more.
+use Rattle.std.proofs.Common.{◌≡◌, ℕ, zero, suc, ◌+◌, ◌<◌, List, [], ◌∷◌, ◌++◌, length, take, get_or, refl, sym, ap, ◌∙◌, subst, arith}
+use Rattle.std.specs.List.{AllByRecursion}
+use Rattle.std.proofs.lemmas.List.{take_more}
+use Rattle.snap_base.specs.declared.transactions.State.{State}
+use Rattle.snap_base.specs.declared.transactions.Tx.{Tx}
+use Rattle.snap_base.specs.declared.transactions.TxResult.{TxResult}
+use Rattle.aml_tree.specs.Tree.{MethodTree}
+use Rattle.aml_check.specs.Meaning.{After, alone, SerialRun, serial}
+
+abbrev pub serial_run : List TxResult → List State → SerialRun
+serial_run results world = record { results = results; world = world }
+
+abbrev then_one : SerialRun → After → SerialRun
+then_one run after = serial_run (run.results ++ after.result ∷ []) after.world
+
+serial-push : (p : List (MethodTree ℕ)) (world : List State) (txs : List Tx) (tx : Tx) → serial p world (txs ++ tx ∷ []) ≡ then_one (serial p world txs) (alone p (serial p world txs).world tx)
+serial-push p world [] tx = refl
+serial-push p world (x ∷ txs) tx =
+    ap (λ (run : SerialRun). serial_run ((alone p world x).result ∷ run.results) run.world) (serial-push p (alone p world x).world txs tx)
+
+pub serial_more : (p : List (MethodTree ℕ)) (world now : List State) (txs : List Tx) (i : ℕ) (tx : Tx) (results : List TxResult) (result : TxResult) (next : List State) → i < length txs → tx ≡ get_or txs i tx → serial p world (take i txs) ≡ serial_run results now → alone p now tx ≡ record { result = result; world = next } → serial p world (take (i + 1) txs) ≡ serial_run (results ++ result ∷ []) next
+serial_more p world now txs i tx results result next h is so_far one =
+    ap (serial p world) (take_more txs i tx h ∙ ap (λ t. take i txs ++ t ∷ []) (sym is))
+    ∙ serial-push p world (take i txs) tx
+    ∙ ap (λ (run : SerialRun). then_one run (alone p run.world tx)) so_far
+    ∙ ap (then_one (serial_run results now)) one
+
+-- what holds of every element holds of one
+pub at_place : {A : Type 0} (P : A → Type 0) (xs : List A) (i : ℕ) (x : A) → i < length xs → x ≡ get_or xs i x → AllByRecursion P xs → P x
+at_place P [] i x h is all = absurd (omega arith)
+at_place P (y ∷ ys) zero x h is all = subst P (sym is) all.0
+at_place P (y ∷ ys) (suc i) x h is all = at_place P ys i x (omega (arith, h)) is all.1

@@ -1,0 +1,11 @@
+pub mod Calls
+pub mod Cuts
+pub mod Lists
+pub mod OneWork
+pub mod Programs
+pub mod Refusals
+pub mod States
+pub mod Tails
+pub mod TextLines
+pub mod Standing
+pub mod Trees

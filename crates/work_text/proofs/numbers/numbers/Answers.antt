@@ -1,0 +1,21 @@
+use Rattle.std.proofs.Common.{◌≡◌, ℕ, ◌<◌, length, take, drop, map, ap, sym, refl, ◌∙◌, ◌++◌, List, Bor, arith, rules}
+use Rattle.std.specs.Prelude.{FitsSigned, ℤ}
+use Rattle.std.specs.Int.{w64}
+use Rattle.std.specs.Fmt.{signed_decimal}
+use Rattle.std.proofs.lemmas.List.{length-map}
+use Rattle.std.proofs.lemmas.Int.{to_z-of_z}
+use Rattle.work_text.proofs.Lists.{spelled_at, spelled_more, all_more, now_at}
+use Rattle.work_text.proofs.numbers.numbers.Goals as goal
+
+pub returns-in_default : goal.returns-in_default
+returns-in_default c values h =
+    let lt : c.loop-word.word-index < length (map (λ (word : Bor (List ℕ)). word.now) c.args.words.now) = omega (arith, length-map c.args.words.now (λ (word : Bor (List ℕ)). word.now)) in
+    let at = spelled_at (FitsSigned w64) signed_decimal values _ c.loop-word.word-index h.0 h.1 lt in
+    cc (c.in_default.ensures.only at.0 at.1 (sym (now_at c.args.words.now c.loop-word.word-index _ (omega arith)) ∙ at.2))
+
+pub loop-word-preserved : goal.loop-word-preserved
+loop-word-preserved c =
+    let fits : FitsSigned w64 c.in-Some.value = search rules in
+    rw (c.in_ok-push.ensures.items, to_z-of_z w64 c.in-Some.value fits) (record {
+        spelled = spelled_more signed_decimal c.args.words.now c.loop-word.values.items c.loop-word.word-index _ c.in-Some.value (omega arith) c.in-Some.ensures.found c.loop-word.invariant.spelled;
+        fits = all_more (FitsSigned w64) c.loop-word.values.items c.in-Some.value c.loop-word.invariant.fits fits })
