@@ -6,6 +6,7 @@ use Rattle.aml_tree.specs.declared.trees.Statement.{Statement}
 use Rattle.aml_tree.specs.declared.trees.Statement.TheVariants as statement
 use Rattle.aml_tree.specs.Tree.{Block, SetField, Return, expression_tree, block_tree}
 use Rattle.aml_tree.specs.Reading.{◌>>=◌, Fails, statement_at, body_at, is_return}
+use Rattle.aml_tree.proofs.Turns.{turn}
 
 -- a block with statements before it
 abbrev pub before : List (Statement (List ℕ)) → Block (List ℕ) → Block (List ℕ)
@@ -25,9 +26,6 @@ before-push : (ss : List (Statement (List ℕ))) (s : Statement (List ℕ)) (b :
 before-push [] s b = refl
 before-push (statement.SetField k value ∷ ss) s b = ap (SetField k (expression_tree value)) (before-push ss s b)
 before-push (statement.Return value ∷ ss) s b = ap (Return (expression_tree value)) (before-push ss s b)
-
-turn : (n i : ℕ) → i < n → n - i ≡ suc (n - (i + 1))
-turn n i lt = omega arith
 
 -- a field that is set stands before the rest
 set_before : (ss : List (Statement (List ℕ))) (s : Statement (List ℕ)) (most n : ℕ) (ws rest : List (List ℕ)) → statement_at most ws ≡ Some (block_tree (s ∷ []), rest) → is_return s ≡ false

@@ -8,21 +8,12 @@ use Rattle.aml_tree.specs.declared.trees.Operator.{Operator}
 use Rattle.aml_tree.specs.declared.trees.Link.{Link}
 use Rattle.aml_tree.specs.declared.trees.Method.{Method}
 use Rattle.aml_tree.specs.Tree.{Expr, Binary, operand_tree, chain_tree, MethodTree, method_tree}
-use Rattle.aml_tree.specs.Reading.{◌>>=◌, Fails, operator_at, operand_at, chain_at, name_at, behind, names_at, method_at, methods_at, is_ended}
-
--- a step that fails lets all fail
-pub first_fails : {A B : Type 0} (e : TextNo) (read : Option A) (f : A → Option B) → Fails e read → Fails e (read >>= f)
-first_fails no.Memory read f h = tt
-first_fails (no.Fault fault) read f h = rw h refl
-
-pub fails_along : {A : Type 0} (e : TextNo) (x y : Option A) → x ≡ y → Fails e x → Fails e y
-fails_along no.Memory x y same h = tt
-fails_along (no.Fault fault) x y same h = sym same ∙ h
+use Rattle.aml_tree.specs.Reading.{Fails, operator_at, operand_at, chain_at, name_at, behind, names_at, method_at, methods_at, is_ended}
 
 pub fails_unexpected : {A : Type 0} {fault : TextFault} (e : TextNo) (read : Option A) → e ≡ no.Fault fault → read ≡ None → Fails e read
 fails_unexpected e read same h = rw same h
 
-turn : (n i : ℕ) → i < n → n - i ≡ suc (n - (i + 1))
+pub turn : (n i : ℕ) → i < n → n - i ≡ suc (n - (i + 1))
 turn n i lt = omega arith
 
 -- ---- operators and operands
@@ -43,9 +34,9 @@ chain_goes_on n i e ls new l ws after rest total lt pushed h k so_far =
 pub chain_fails : (err : TextNo) (n i : ℕ) (e : Expr (List ℕ)) (ws after : List (List ℕ)) (o : Operator) (total : Option (Expr (List ℕ) × List (List ℕ))) → i < n
     → operator_at ws ≡ Some (o, after) → Fails err (operand_at after) → chain_at (n - i) e ws ≡ total → Fails err total
 unfolding chain_at
-chain_fails err n i e ws after o total lt h fails so_far =
-    let one : chain_at (n - i) e ws ≡ (operand_at after >>= λ x. chain_at (n - (i + 1)) (Binary o e x.0) x.1) = rw (turn n i lt, h) refl in
-    fails_along err _ _ (sym one ∙ so_far) (first_fails err (operand_at after) (λ x. chain_at (n - (i + 1)) (Binary o e x.0) x.1) fails)
+chain_fails no.Memory n i e ws after o total lt h fails so_far = tt
+chain_fails (no.Fault fault) n i e ws after o total lt h fails so_far =
+    let one : chain_at (n - i) e ws ≡ None = rw (turn n i lt, h, fails) refl in sym so_far ∙ one
 
 pub chain_stops : (k : ℕ) (e : Expr (List ℕ)) (ws : List (List ℕ)) → operator_at ws ≡ None → chain_at k e ws ≡ Some (e, ws)
 unfolding chain_at

@@ -1,9 +1,9 @@
 //! Bytes into words. A word is a part of the text, so nothing is copied but the text itself, once,
 //! with its comments blanked out.
 
-ghost use Rattle.std.specs.Prelude.{◌≡◌, ◌<◌, ◌≤◌, length, drop, take, false, ◌∷◌, [], slice_index, IfOk, MatchOption};
+ghost use Rattle.std.specs.Prelude.{◌≡◌, ◌<◌, ◌≤◌, length, drop, take, false, ◌∷◌, [], IfOk, MatchOption};
 ghost use Rattle.std.specs.List.{list_all, list_any};
-ghost use Rattle.aml_tree.specs.Words.{is_letter, is_digit, is_word_byte, is_blank, begins_comparison, without_comments, words};
+ghost use Rattle.aml_tree.specs.Words.{is_letter, is_word_byte, is_blank, begins_comparison, without_comments, words};
 ghost use Rattle.aml_tree.specs.Lexing.{joins_bytes, IsStart};
 
 use snap_base::Memory;

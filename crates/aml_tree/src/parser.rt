@@ -1,12 +1,12 @@
 //! Words into a tree. Each reader gives what it read and the bytes behind it, or a fault where the
 //! next words are none that it can read.
 
-ghost use Rattle.std.specs.Prelude.{◌≡◌, ℕ, ◌<◌, ◌≤◌, ◌^◌, length, map, [], ◌∷◌, IfOk, IfSome, option_map};
+ghost use Rattle.std.specs.Prelude.{◌≡◌, ◌<◌, length, map, [], ◌∷◌, IfOk, IfSome, option_map};
 ghost use Rattle.std.specs.List.{list_any};
 ghost use Rattle.std.specs.Str.{bytes_eq};
 ghost use Rattle.aml_tree.specs.Words.{words};
 ghost use Rattle.aml_tree.specs.Tree.{operand_tree, expression_tree, block_tree, method_tree};
-ghost use Rattle.aml_tree.specs.Reading.{Gives, number_below, field_of, is_reserved, is_name, operand_of, word_at, behind, name_at, operand_at, operator_at, expression_at, chain_at, value_at, set_at, return_at, statement_at, body_at, names_at, parameters_at, signature_at, block_at, method_at, methods_at, is_return, is_ended};
+ghost use Rattle.aml_tree.specs.Reading.{Gives, number_below, field_of, is_reserved, is_name, operand_of, word_at, behind, name_at, operand_at, operator_at, expression_at, chain_at, value_at, statement_at, body_at, names_at, parameters_at, signature_at, block_at, method_at, methods_at, is_return, is_ended};
 
 use crate::lexer::{are_word_bytes, begins_with_letter, next_word};
 use crate::{
@@ -23,10 +23,13 @@ const RESERVED: [&[u8]; 28] = [
     b"f11", b"f12", b"f13", b"f14", b"f15",
 ];
 
+/// How many methods a program may have.
 const MOST_METHODS: usize = 64;
 
+/// How many parameters a method may have.
 const MOST_PARAMETERS: usize = 8;
 
+/// The one fault of a text.
 pub fn unexpected() -> TextNo
     ensures { result ≡ TextNo.Fault (record { cause = TextCause.Unexpected }) }
 {
