@@ -10,6 +10,7 @@ use Rattle.aml_check.specs.declared.checks.CheckNo.{CheckNo}
 use Rattle.aml_check.specs.declared.checks.CheckNo.TheVariants.{Fault}
 use Rattle.aml_check.specs.Names.{AreDistinct, IsCheckedMethod, AreCheckedMethods, IsCheckedProgram}
 use Rattle.aml_check.specs.Refusals.{AreNamesKnown, AreNamesDistinct, IsRefusal}
+use Rattle.aml_check.proofs.MethodsByPlace.{blank}
 use Rattle.aml_check.proofs.Refused.{no_fault}
 
 abbrev pub method_name : {V : Type 0} → MethodTree V → List ℕ
@@ -63,9 +64,6 @@ get_or-names_of {V} ms i m d h =
 
 pub name_at : {V : Type 0} (ms : List (Method V)) (i : ℕ) (m : Method V) → i < length ms → m ≡ get_or ms i m → m.name ≡ get_or (names_of ms) i m.name
 name_at {V} ms i m h is = ap (λ (n : Method V). n.name) is ∙ sym (get_or-names_of ms i m m.name h)
-
-blank : List ℕ → Method ℕ
-blank name = record { name = name; parameters = []; body = [] }
 
 pub Contains-from_method : (cs : List (Method ℕ)) (name : List ℕ) (r : Option ℕ) → IfSome r (λ k. (k < length cs) × ((m : Method ℕ) → (get_or cs k m).name ≡ name)) → is_some r ≡ true → Contains (names_of cs) name
 Contains-from_method cs name (Some k) h e = (k, omega (arith, length-names_of cs, h.0), get_or-names_of cs k (blank name) name h.0 ∙ h.1 (blank name))

@@ -27,7 +27,7 @@ impl Model for Checked {
 }
 
 impl Checked {
-    /// The resolved program as the type that keeps it so.
+    // The resolved program as the type that keeps it closed.
     pub(crate) fn of(program: Program<u8>) -> Self
         requires { IsClosedProgram (program_tree program) }
         ensures { result ≡ program }
@@ -35,7 +35,7 @@ impl Checked {
         Checked { program }
     }
 
-    /// How many methods there are.
+    /// How many methods there are. Asking tells too that the program is closed.
     pub fn methods(&self) -> usize
         ensures number { result ≡ length (program_tree self.now) }
         ensures closed { IsClosedProgram (program_tree self.now) }

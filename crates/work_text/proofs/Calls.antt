@@ -1,11 +1,11 @@
 -- The words of a line that asks for a transaction, by their places.
-use Rattle.std.proofs.Common.{◌≡◌, ℕ, ◌+◌, ◌-◌, ◌<◌, ◌≤◌, List, [], ◌∷◌, ◌++◌, length, get_or, take, drop, map, refl, sym, ap, ◌∙◌, arith, inl, inr, zero, suc, append_assoc, length-append, length-take-le, Bor}
+use Rattle.std.proofs.Common.{◌≡◌, ℕ, ◌+◌, ◌-◌, ◌<◌, List, [], ◌∷◌, ◌++◌, length, get_or, take, drop, map, refl, sym, ap, ◌∙◌, arith, zero, suc, append_assoc, length-append, length-take-le, Bor}
 use Rattle.std.specs.Prelude.{ℤ, codes, FitsSigned}
 use Rattle.std.specs.Int.{w64}
 use Rattle.std.specs.List.{AllByRecursion}
 use Rattle.std.specs.Fmt.{decimal, signed_decimal}
 use Rattle.std.proofs.Math.Seq.{take-append_seam, get_or-append_seam}
-use Rattle.std.proofs.lemmas.List.{drop_more, drop_all, length-map, length-drop, take-append-drop, take-map, drop-map, drop-drop, take_more, map-append}
+use Rattle.std.proofs.lemmas.List.{drop_all, length-map, length-drop, take-append-drop, take-map, drop-map, drop-drop, take_more, map-append}
 use Rattle.std.proofs.lemmas.Fmt.{decimal_digit}
 use Rattle.snap_base.specs.declared.ids.ActorId.{ActorId}
 use Rattle.snap_base.specs.declared.transactions.Tx.{Tx}
@@ -34,10 +34,10 @@ by_parts : (ws : List (List ℕ)) (a b c d e : List ℕ) (n : ℕ) → length ws
     → ws ≡ a ∷ b ∷ c ∷ (take n (drop 3 ws) ++ d ∷ e ∷ [])
 by_parts ws a b c d e n len p0 p1 p2 p3 p4 =
     let last : drop (3 + n) ws ≡ d ∷ e ∷ [] =
-        drop_step ws (3 + n) d (e ∷ []) (omega arith) (ap (λ k. get_or ws k []) (omega arith) ∙ p3)
-            (drop_step ws (3 + n + 1) e [] (omega arith) (ap (λ k. get_or ws k []) (omega arith) ∙ p4) (drop_all (3 + n + 1 + 1) ws (omega arith))) in
+    drop_step ws (3 + n) d (e ∷ []) (omega arith) (ap (λ k. get_or ws k []) (omega arith) ∙ p3)
+    (drop_step ws (3 + n + 1) e [] (omega arith) (ap (λ k. get_or ws k []) (omega arith) ∙ p4) (drop_all (3 + n + 1 + 1) ws (omega arith))) in
     drop_step ws 0 a _ (omega arith) p0 (drop_step ws 1 b _ (omega arith) p1 (drop_step ws 2 c _ (omega arith) p2
-        (sym (take-append-drop n (drop 3 ws)) ∙ ap (λ xs. take n (drop 3 ws) ++ xs) (drop-drop n 3 ws ∙ last))))
+    (sym (take-append-drop n (drop 3 ws)) ∙ ap (λ xs. take n (drop 3 ws) ++ xs) (drop-drop n 3 ws ∙ last))))
 
 pub call_words : (program : List (MethodTree ℕ)) (actors : ℕ) (ws : List (List ℕ)) (actor method : ℕ) (args : List ℤ) → IsCall program actors ws actor method → take (length ws - 5) (drop 3 ws) ≡ map signed_decimal args
     → ws ≡ transaction_words program (call_tx actor method args)
@@ -49,12 +49,13 @@ call_words program actors ws actor method args h e =
 pub call_transaction : (program : List (MethodTree ℕ)) (actors : ℕ) (ws : List (List ℕ)) (actor method : ℕ) (args : List ℤ) → IsCall program actors ws actor method → take (length ws - 5) (drop 3 ws) ≡ map signed_decimal args
     → AllByRecursion (FitsSigned w64) args → IsTransaction program actors (call_tx actor method args)
 call_transaction program actors ws actor method args h e all = record {
-    actor = h.known_actor;
-    method = h.known_method;
-    arguments = omega (arith, h.count, ap length e, length-map args signed_decimal, length-take-le (length ws - 5) (drop 3 ws) (omega (arith, length-drop 3 ws)));
-    values = all;
-    declared = refl;
-    uses = refl }
+  actor = h.known_actor;
+  method = h.known_method;
+  arguments = omega (arith, h.count, ap length e, length-map args signed_decimal, length-take-le (length ws - 5) (drop 3 ws) (omega (arith, length-drop 3 ws)));
+  values = all;
+  declared = refl;
+  uses = refl;
+}
 
 -- and back
 asked_words : (program : List (MethodTree ℕ)) (actors : ℕ) (ws : List (List ℕ)) (tx : Tx) → ws ≡ transaction_words program tx → IsTransaction program actors tx
@@ -66,24 +67,26 @@ front_of_call program tx = codes "pact" ∷ decimal tx.actor.0 ∷ (method_at pr
 
 seen : (ws front : List (List ℕ)) (d e : List ℕ) → ws ≡ front ++ d ∷ e ∷ [] → (length ws ≡ length front + 2) × (get_or ws (length ws - 2) [] ≡ d) × (get_or ws (length ws - 1) [] ≡ e)
 seen ws front d e same =
-    let len : length ws ≡ length front + 2 = ap length same ∙ length-append front (d ∷ e ∷ []) in
-    (len,
-        ap (λ k. get_or ws k []) (omega arith) ∙ ap (λ xs. get_or xs (length front) []) same ∙ get_or-append_seam front d (e ∷ []) [],
-        ap (λ k. get_or ws k []) (omega (arith, length-append front (d ∷ []))) ∙ ap (λ xs. get_or xs (length (front ++ d ∷ [])) []) (same ∙ sym (append_assoc front (d ∷ []) (e ∷ []))) ∙ get_or-append_seam (front ++ d ∷ []) e [] [])
+    let len : length ws ≡ length front + 2 = ap length same ∙ length-append front (d ∷ e ∷ []) in (
+      len,
+      ap (λ k. get_or ws k []) (omega arith) ∙ ap (λ xs. get_or xs (length front) []) same ∙ get_or-append_seam front d (e ∷ []) [],
+      ap (λ k. get_or ws k []) (omega (arith, length-append front (d ∷ []))) ∙ ap (λ xs. get_or xs (length (front ++ d ∷ [])) []) (same ∙ sym (append_assoc front (d ∷ []) (e ∷ []))) ∙ get_or-append_seam (front ++ d ∷ []) e [] [],
+    )
 
 pub asked_call : (program : List (MethodTree ℕ)) (actors : ℕ) (ws : List (List ℕ)) (tx : Tx) → ws ≡ transaction_words program tx → IsTransaction program actors tx → IsCall program actors ws tx.actor.0 tx.method
 asked_call program actors ws tx e h =
     let same = asked_words program actors ws tx e h in
     let at = seen ws (front_of_call program tx) (codes "uses") (use_word (one_use tx.actor.0)) same in
     record {
-        count = omega (arith, at.0, length-map tx.args signed_decimal, h.arguments);
-        first = ap (λ xs. get_or xs 0 []) same;
-        second = ap (λ xs. get_or xs 1 []) same;
-        third = ap (λ xs. get_or xs 2 []) same;
-        uses = at.1;
-        used = at.2 ∙ one_use_word tx.actor.0;
-        known_actor = h.actor;
-        known_method = h.method }
+      count = omega (arith, at.0, length-map tx.args signed_decimal, h.arguments);
+      first = ap (λ xs. get_or xs 0 []) same;
+      second = ap (λ xs. get_or xs 1 []) same;
+      third = ap (λ xs. get_or xs 2 []) same;
+      uses = at.1;
+      used = at.2 ∙ one_use_word tx.actor.0;
+      known_actor = h.actor;
+      known_method = h.method;
+    }
 
 pub asked_args : (program : List (MethodTree ℕ)) (actors : ℕ) (ws : List (List ℕ)) (tx : Tx) → ws ≡ transaction_words program tx → IsTransaction program actors tx → take (length ws - 5) (drop 3 ws) ≡ map signed_decimal tx.args
 asked_args program actors ws tx e h =
@@ -134,7 +137,7 @@ pub asked_step : (program : List (MethodTree ℕ)) (actors : ℕ) (lines : List 
     → AreTransactions program actors (map (λ line. line.now) (take i lines)) txs → IsAsked program actors (get_or lines i d).now tx → AreTransactions program actors (map (λ line. line.now) (take (i + 1) lines)) (txs ++ tx ∷ [])
 asked_step program actors lines txs i d tx lt all h =
     let more : map (λ (line : Bor (List ℕ)). line.now) (take (i + 1) lines) ≡ map (λ (line : Bor (List ℕ)). line.now) (take i lines) ++ (get_or lines i d).now ∷ [] =
-        ap (λ ys. map (λ (y : Bor (List ℕ)). y.now) ys) (take_more lines i d lt) ∙ map-append (λ (y : Bor (List ℕ)). y.now) (take i lines) (get_or lines i d ∷ []) in
+    ap (λ ys. map (λ (y : Bor (List ℕ)). y.now) ys) (take_more lines i d lt) ∙ map-append (λ (y : Bor (List ℕ)). y.now) (take i lines) (get_or lines i d ∷ []) in
     rw more (asked_more program actors _ txs _ tx all h)
 
 pub not_asked : (program : List (MethodTree ℕ)) (actors : ℕ) (lines : List (Bor (List ℕ))) (txs : List Tx) (i : ℕ) (d : Bor (List ℕ)) → i < length lines

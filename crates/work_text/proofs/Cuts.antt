@@ -1,7 +1,7 @@
 -- A text is laid out in one way at most: head, program and rest are cut at the first lines `program` and `end`.
-use Rattle.std.proofs.Common.{◌≡◌, ℕ, ◌+◌, ◌<◌, Bool, true, false, List, [], ◌∷◌, ◌++◌, length, get_or, refl, sym, ap, ◌∙◌, arith, inl, inr, zero, suc, eqb, cond, append_assoc, length-append, ◌≢◌, append-nil}
-use Rattle.std.specs.Prelude.{Contains, codes, filter, ◌⊎◌}
-use Rattle.std.specs.List.{slice_split, onto_first, AllByRecursion}
+use Rattle.std.proofs.Common.{◌≡◌, ℕ, ◌<◌, Bool, true, false, List, [], ◌∷◌, ◌++◌, length, get_or, refl, sym, ap, ◌∙◌, arith, inl, inr, zero, suc, eqb, cond, append_assoc, length-append, ◌≢◌, append-nil}
+use Rattle.std.specs.Prelude.{Contains, codes}
+use Rattle.std.specs.List.{onto_first, AllByRecursion}
 use Rattle.std.proofs.lemmas.List.Splits.{slice_split_at}
 use Rattle.std.proofs.lemmas.List.Elements.{All-from_recursion, All-contains, Contains-append_right, filter-append}
 use Rattle.work_text.specs.Lines.{lines, said, says, text_of}
@@ -112,10 +112,11 @@ contains_said (l ∷ ls) x (suc k) lt e s = contains_cond (says l) l (said ls) x
 no_setting : (w : Work) → ¬ Contains (settings w) (codes "program")
 no_setting w has =
     All-contains (λ l. get_or l 0 0 ≢ 112) (settings w) (codes "program")
-        (All-from_recursion (λ l. get_or l 0 0 ≢ 112) (settings w) ((λ e. omega arith), ((λ e. omega arith), ((λ e. omega arith), ((λ e. omega arith), ((λ e. omega arith), ((λ e. omega arith), tt))))))) has refl
+    (All-from_recursion (λ l. get_or l 0 0 ≢ 112) (settings w) ((λ e. omega arith), ((λ e. omega arith), ((λ e. omega arith), ((λ e. omega arith), ((λ e. omega arith), ((λ e. omega arith), tt))))))) has refl
 
 pub cut_of_work : (text : List ℕ) (w : Work) (h p r : List (List ℕ)) → IsLaidOut text w h p r → IsCut text h p r
 cut_of_work text w h p r laid = record {
-    cut = laid.cut;
-    first_program = λ has. no_setting w (let c = contains_said h (codes "program") has.0 has.1 has.2 refl in rw laid.head_said at c);
-    first_end = laid.first_end }
+  cut = laid.cut;
+  first_program = λ has. no_setting w (let c = contains_said h (codes "program") has.0 has.1 has.2 refl in rw laid.head_said at c);
+  first_end = laid.first_end;
+}

@@ -1,6 +1,5 @@
 -- Lists by their elements, and lists of references.
 use Rattle.std.proofs.Common.{◌≡◌, ℕ, ◌+◌, ◌<◌, List, [], ◌∷◌, ◌++◌, length, get_or, drop, take, map, refl, sym, ap, ◌∙◌, arith, Bool, true, false, eqb, zero, suc, Bor, not, ◌≢◌, length-append, ◌-◌}
-use Rattle.std.specs.Prelude.{FitsSigned, ℤ}
 use Rattle.std.specs.List.{AllByRecursion}
 use Rattle.std.specs.Bool.{Decides}
 use Rattle.std.specs.Cmp.Lexicographic.{pointwise}
@@ -36,7 +35,7 @@ pub six_lines : (xs : List (List ℕ)) (a b c d e f : List ℕ) → length xs �
     → xs ≡ a ∷ b ∷ c ∷ d ∷ e ∷ f ∷ []
 six_lines xs a b c d e f n p0 p1 p2 p3 p4 p5 =
     drop_step xs 0 a _ (omega arith) p0 (drop_step xs 1 b _ (omega arith) p1 (drop_step xs 2 c _ (omega arith) p2
-        (drop_step xs 3 d _ (omega arith) p3 (drop_step xs 4 e _ (omega arith) p4 (drop_step xs 5 f _ (omega arith) p5 (drop_all 6 xs (omega arith)))))))
+    (drop_step xs 3 d _ (omega arith) p3 (drop_step xs 4 e _ (omega arith) p4 (drop_step xs 5 f _ (omega arith) p5 (drop_all 6 xs (omega arith)))))))
 
 -- an element behind a reference
 pub now_at : (xs : List (Bor (List ℕ))) (i : ℕ) (d : Bor (List ℕ)) → i < length xs → get_or (map (λ y. y.now) xs) i [] ≡ (get_or xs i d).now

@@ -1,23 +1,21 @@
 -- A text stands for one work at most.
-use Rattle.std.proofs.Common.{◌≡◌, ℕ, ◌+◌, ◌-◌, ◌<◌, ◌≤◌, ◌^◌, List, [], ◌∷◌, ◌++◌, length, take, drop, map, refl, sym, ap, ◌∙◌, arith, inl, inr, zero, suc, length-append}
-use Rattle.std.specs.Prelude.{codes, ℤ}
-use Rattle.std.specs.Fmt.{decimal, signed_decimal}
+use Rattle.std.proofs.Common.{◌≡◌, ℕ, ◌+◌, ◌<◌, ◌≤◌, ◌^◌, List, [], ◌∷◌, ◌++◌, length, refl, sym, ap, ◌∙◌, arith, inl, inr, suc}
+use Rattle.std.specs.Fmt.{decimal}
 use Rattle.std.proofs.lemmas.Fmt.{decimal_injective}
 use Rattle.snap_base.specs.declared.transactions.State.{State}
 use Rattle.snap_base.specs.declared.transactions.Kind.{Kind}
 use Rattle.snap_base.specs.declared.transactions.Tx.{Tx}
 use Rattle.snap_base.specs.declared.ids.ActorId.{ActorId}
 use Rattle.aml_tree.specs.Tree.{MethodTree, program_tree}
-use Rattle.aml_tree.specs.declared.trees.Program.{Program}
 use Rattle.aml_tree.specs.Grammar.{IsProgramText}
 use Rattle.aml_check.specs.Meaning.{method_at}
 use Rattle.aml_check.specs.Names.{IsCheckedProgram}
 use Rattle.work_text.specs.Lines.{words, said, text_of}
-use Rattle.work_text.specs.Work.{IsWork, IsRest, IsActorLine, AreStates, AreTransactions, transaction_words, settings}
-use Rattle.work_text.specs.Parts.{AreToldApart, IsProgramOf, AreWithin, IsAsked, TakesState, TakesStates, setting_lines}
+use Rattle.work_text.specs.Work.{IsWork, IsRest, IsActorLine, AreStates, AreTransactions, transaction_words}
+use Rattle.work_text.specs.Parts.{AreToldApart, IsProgramOf, AreWithin, IsAsked, TakesStates, setting_lines}
 use Rattle.work_text.specs.declared.works.Work.{Work}
 use Rattle.work_text.specs.declared.works.Settings.{Settings}
-use Rattle.work_text.proofs.Calls.{asked_args, call_tx, one_use}
+use Rattle.work_text.proofs.Calls.{asked_args, call_tx}
 use Rattle.work_text.proofs.Cuts.{cut_unique}
 use Rattle.work_text.proofs.Programs.{told_apart}
 use Rattle.work_text.proofs.Standing.{settings_of, work_of, work_cut, tree_one}

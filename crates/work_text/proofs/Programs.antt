@@ -1,10 +1,9 @@
 -- No two methods of a checked program share a name.
 use Rattle.std.proofs.Common.{◌≡◌, ℕ, ◌<◌, List, [], ◌∷◌, length, get_or, map, refl, sym, ap, ◌∙◌, arith, zero, suc}
-use Rattle.std.specs.Prelude.{Contains}
 use Rattle.std.proofs.lemmas.List.{length-map, get_or-map}
 use Rattle.std.proofs.lemmas.List.Elements.{Contains-get_or}
 use Rattle.aml_tree.specs.Tree.{MethodTree}
-use Rattle.aml_check.specs.Meaning.{method_at, no_method}
+use Rattle.aml_check.specs.Meaning.{no_method}
 use Rattle.aml_check.specs.Names.{AreDistinct, AreCheckedMethods, IsCheckedProgram}
 use Rattle.work_text.specs.Parts.{AreToldApart}
 
@@ -29,4 +28,4 @@ told_apart p c h m n l k e =
     let lm : m < length (names c) = omega (arith, length-map c (λ (m : MethodTree ℕ). m.name)) in
     let ln : n < length (names c) = omega (arith, length-map c (λ (m : MethodTree ℕ). m.name)) in
     distinct_apart (names c) m n distinct lm ln
-        (get_or-map (λ (m : MethodTree ℕ). m.name) c m no_method [] l ∙ e ∙ sym (get_or-map (λ (m : MethodTree ℕ). m.name) c n no_method [] k))
+    (get_or-map (λ (m : MethodTree ℕ). m.name) c m no_method [] l ∙ e ∙ sym (get_or-map (λ (m : MethodTree ℕ). m.name) c n no_method [] k))

@@ -1,6 +1,6 @@
 -- The parts of a text stand for a work, and a work's parts are those of its text.
-use Rattle.std.proofs.Common.{◌≡◌, ℕ, ◌<◌, ◌≤◌, ◌^◌, List, [], ◌∷◌, ◌++◌, length, get_or, refl, sym, ap, ◌∙◌, arith}
-use Rattle.std.specs.Prelude.{codes, Bool, true, false, Result, Ok, Err}
+use Rattle.std.proofs.Common.{◌≡◌, ℕ, ◌≤◌, List, ◌∷◌, ◌++◌, length, refl, sym, ap, ◌∙◌, arith}
+use Rattle.std.specs.Prelude.{codes, Bool, false, Result, Ok, Err}
 use Rattle.std.specs.Result.{is_err}
 use Rattle.std.specs.Str.{IsUtf8}
 use Rattle.std.specs.Fmt.{decimal}
@@ -12,7 +12,7 @@ use Rattle.aml_tree.specs.declared.trees.Program.{Program}
 use Rattle.aml_tree.specs.Grammar.{IsProgramText}
 use Rattle.aml_check.specs.Names.{IsCheckedProgram}
 use Rattle.work_text.specs.Lines.{lines, said, text_of}
-use Rattle.work_text.specs.Work.{IsWork, settings}
+use Rattle.work_text.specs.Work.{IsWork}
 use Rattle.work_text.specs.Parts.{IsCut, IsLaid, AreSet, IsProgramOf, IsTail, setting_lines}
 use Rattle.work_text.specs.declared.works.Work.{Work}
 use Rattle.work_text.specs.declared.works.Settings.{Settings}
@@ -36,9 +36,10 @@ said_head : (text hb pb rb : List ℕ) (l : IsLaid text hb pb rb) → said (line
 said_head text hb pb rb l = ap (λ t. said (lines t)) l.4 ∙ said_text_of text l.0 (codes "program" ∷ (l.1 ++ codes "end" ∷ l.2)) l.3.cut
 
 pub work_settings : (text hb pb rb : List ℕ) → IsLaid text hb pb rb → (w : Work) → IsWork text w → AreSet (said (lines hb)) (settings_of w)
-work_settings text hb pb rb l w h =
-    (said_head text hb pb rb l ∙ ap said (same_parts text hb pb rb l w h).0 ∙ h.parts.3.head_said,
-        record { coordinators = h.settings.coordinators; logs = h.settings.logs; batch = h.settings.batch; batches = h.settings.batches; acts = h.settings.acts })
+work_settings text hb pb rb l w h = (
+  said_head text hb pb rb l ∙ ap said (same_parts text hb pb rb l w h).0 ∙ h.parts.3.head_said,
+  record { coordinators = h.settings.coordinators; logs = h.settings.logs; batch = h.settings.batch; batches = h.settings.batches; acts = h.settings.acts },
+)
 
 pub work_program : (text hb pb rb : List ℕ) → IsLaid text hb pb rb → (w : Work) → IsWork text w → IsProgramOf pb (program_tree w.program)
 work_program text hb pb rb l w h =
@@ -55,11 +56,18 @@ work_tail text hb pb rb l w h =
 pub work_found : (text hb pb rb : List ℕ) → IsLaid text hb pb rb → length text ≤ 8388608 → IsUtf8 text → (s : Settings) (program : Program ℕ) (states : List State) (txs : List Tx)
     → AreSet (said (lines hb)) s → IsProgramOf pb (program_tree program) → IsTail (program_tree program) s.batch (said (lines rb)) states txs → IsWork text (work_of s program states txs)
 work_found text hb pb rb l small utf8 s program states txs set prog tail = record {
-    size = small;
-    utf8 = utf8;
-    settings = record { coordinators = set.1.coordinators; logs = set.1.logs; batch = set.1.batch; batches = set.1.batches; acts = set.1.acts };
-    parts = (l.0, l.1, l.2, record { cut = l.3.cut; head_said = sym (said_head text hb pb rb l) ∙ set.0; first_end = l.3.first_end }, (rw l.5 at prog),
-        (tail.0, tail.1, record { count = sym l.6 ∙ tail.2; actors = tail.3; states = tail.4; transactions = tail.5; one_batch = tail.6 })) }
+  size = small;
+  utf8 = utf8;
+  settings = record { coordinators = set.1.coordinators; logs = set.1.logs; batch = set.1.batch; batches = set.1.batches; acts = set.1.acts };
+  parts = (
+    l.0,
+    l.1,
+    l.2,
+    record { cut = l.3.cut; head_said = sym (said_head text hb pb rb l) ∙ set.0; first_end = l.3.first_end },
+    (rw l.5 at prog),
+    (tail.0, tail.1, record { count = sym l.6 ∙ tail.2; actors = tail.3; states = tail.4; transactions = tail.5; one_batch = tail.6 }),
+  );
+}
 
 -- ---- the parts are determined
 

@@ -1,5 +1,5 @@
 -- The lines behind the program say one thing at most.
-use Rattle.std.proofs.Common.{◌≡◌, ℕ, ◌+◌, ◌-◌, ◌<◌, ◌≤◌, ◌^◌, List, [], ◌∷◌, ◌++◌, length, get_or, take, drop, map, refl, sym, ap, subst, ◌∙◌, arith, inl, inr, zero, suc, length-append, Bor}
+use Rattle.std.proofs.Common.{◌≡◌, ℕ, ◌+◌, ◌-◌, ◌<◌, ◌≤◌, ◌^◌, List, [], ◌∷◌, ◌++◌, length, get_or, take, drop, map, refl, sym, ap, ◌∙◌, arith, inl, inr, suc, Bor}
 use Rattle.std.specs.Prelude.{ℤ, pos, negsuc, codes, FitsSigned}
 use Rattle.std.specs.Int.{w64}
 use Rattle.std.specs.List.{AllByRecursion}
@@ -11,7 +11,6 @@ use lib.Signed.{mag}
 use Rattle.snap_base.specs.declared.transactions.State.{State}
 use Rattle.snap_base.specs.declared.transactions.Tx.{Tx}
 use Rattle.aml_tree.specs.Tree.{MethodTree}
-use Rattle.aml_check.specs.Meaning.{zero_state}
 use Rattle.work_text.specs.Lines.{words}
 use Rattle.work_text.specs.Work.{IsActorLine, AreStates, AreTransactions, state_of}
 use Rattle.work_text.specs.Parts.{TakesState, TakesStates, IsTail}
@@ -96,7 +95,7 @@ takes_only ls a [] rest h named asked (o ∷ others) e st len small none = absur
 takes_only ls a (s ∷ states) rest h named asked [] e st len small none = absurd (omega arith)
 takes_only ls a (s ∷ states) rest h named asked (o ∷ others) e st len small none =
     only_step ls a s states h.0 rest h.1 named asked o others e st (omega arith) none
-        (λ more em sm. takes_only h.0 (a + 1) states rest h.2 more asked others em sm (omega arith) (omega arith) none)
+    (λ more em sm. takes_only h.0 (a + 1) states rest h.2 more asked others em sm (omega arith) (omega arith) none)
 
 -- a line that asks for a transaction names no actor's state
 pub asked_no_actor : (program : List (MethodTree ℕ)) (actors : ℕ) (asked : List (List ℕ)) (txs : List Tx) → AreTransactions program actors asked txs → NoActor asked
@@ -115,9 +114,15 @@ length-asked program actors asked (tx ∷ txs) h = ap length h.2 ∙ ap suc (len
 pub tail_found : (program : List (MethodTree ℕ)) (batch : ℕ) (ls mid rest : List (List ℕ)) (actors : ℕ) (states : List State) (txs : List Tx) → ls ≡ (codes "actors " ++ decimal actors) ∷ mid → 1 ≤ actors → actors ≤ 256
     → length states ≡ actors → TakesStates mid 0 states rest → AreTransactions program actors rest txs → length rest ≤ batch → IsTail program batch ls states txs
 tail_found program batch ls mid rest actors states txs e low high len takes asked few =
-    let f = takes_found mid 0 states rest takes in
-    (f.0, rest, e ∙ ap (λ n. (codes "actors " ++ decimal n) ∷ mid) (sym len) ∙ ap (λ xs. (codes "actors " ++ decimal (length states)) ∷ xs) f.1, (omega arith, omega arith), f.2,
-        rw len asked, omega (arith, length-asked program actors rest txs asked))
+    let f = takes_found mid 0 states rest takes in (
+      f.0,
+      rest,
+      e ∙ ap (λ n. (codes "actors " ++ decimal n) ∷ mid) (sym len) ∙ ap (λ xs. (codes "actors " ++ decimal (length states)) ∷ xs) f.1,
+      (omega arith, omega arith),
+      f.2,
+      rw len asked,
+      omega (arith, length-asked program actors rest txs asked),
+    )
 
 pub tail_only : (program : List (MethodTree ℕ)) (batch : ℕ) (ls mid rest : List (List ℕ)) (actors : ℕ) (states : List State) → ls ≡ (codes "actors " ++ decimal actors) ∷ mid → actors ≤ 256 → length states ≡ actors → TakesStates mid 0 states rest
     → (others : List State) (txs : List Tx) → IsTail program batch ls others txs → (states ≡ others) × AreTransactions program actors rest txs × (length rest ≤ batch)
@@ -129,7 +134,6 @@ tail_only program batch ls mid rest actors states e high len takes others txs t 
     let r = takes_only mid 0 states rest takes t.0 t.1 others more t.4 (omega arith) (omega arith) (asked_no_actor program (length others) t.1 txs t.5) in
     let asked : AreTransactions program actors rest txs = rw (same, r.1) t.5 in
     (r.0, asked, omega (arith, length-asked program actors rest txs asked, t.6))
-
 
 -- ---- at lists of references
 
@@ -153,7 +157,7 @@ tail_found_at program batch ws d actors behind states txs some e low high len ta
     let rest : List (List ℕ) = map (λ (line : Bor (List ℕ)). line.now) (take (length ws - (1 + behind)) (drop (1 + behind) ws)) in
     let taken : TakesStates (map (λ (line : Bor (List ℕ)). line.now) (take (length ws - 1) (drop 1 ws))) 0 states rest = rw (asked_lines ws behind) takes in
     tail_found program batch _ _ rest actors states txs (count_line ws d actors some e) low high len taken asked
-        (omega (arith, few, length-map (take (length ws - (1 + behind)) (drop (1 + behind) ws)) (λ (line : Bor (List ℕ)). line.now)))
+    (omega (arith, few, length-map (take (length ws - (1 + behind)) (drop (1 + behind) ws)) (λ (line : Bor (List ℕ)). line.now)))
 
 pub tail_only_at : (program : List (MethodTree ℕ)) (batch : ℕ) (ws : List (Bor (List ℕ))) (d : Bor (List ℕ)) (actors behind : ℕ) (states : List State) → 0 < length ws → (get_or ws 0 d).now ≡ codes "actors " ++ decimal actors
     → actors ≤ 256 → length states ≡ actors

@@ -1,13 +1,13 @@
 -- The lines of a text, the text of lines, and where a line's text stands.
-use Rattle.std.proofs.Common.{◌≡◌, ◌≢◌, ℕ, ◌+◌, ◌<◌, ◌≤◌, Bool, true, false, List, [], ◌∷◌, ◌++◌, length, get_or, drop, take, refl, sym, ap, ◌∙◌, arith, inl, inr, ⊎_elim, zero, suc, eqb, cond, append_assoc, length-append}
+use Rattle.std.proofs.Common.{◌≡◌, ◌≢◌, ℕ, ◌+◌, ◌<◌, ◌≤◌, Bool, true, false, List, [], ◌∷◌, ◌++◌, length, get_or, drop, take, refl, sym, ap, ◌∙◌, arith, inl, inr, ⊎_elim, suc, eqb, cond, append_assoc, length-append}
 use Rattle.std.proofs.lemmas.Bool.{eqb-true}
 use Rattle.std.proofs.lemmas.List.{take-append-le, take-append-drop, drop-drop, drop_more, drop_all, take_more}
 use Rattle.std.proofs.lemmas.List.Elements.{Contains-push_cases}
 use Rattle.std.proofs.Math.Seq.{take-append_seam, take-length}
 use Rattle.std.proofs.lemmas.List.Concat.{flat_map-append}
-use Rattle.std.specs.Prelude.{Contains, ◌⊎◌}
-use Rattle.std.specs.List.{slice_split, onto_first}
-use Rattle.work_text.specs.Lines.{lines, said, says, text_of}
+use Rattle.std.specs.Prelude.{Contains}
+use Rattle.std.specs.List.{onto_first}
+use Rattle.work_text.specs.Lines.{lines, text_of}
 use Rattle.work_text.specs.Parts.{IsBehind, IsCutAt}
 
 -- ---- the text of a text's lines is the text and a line feed
@@ -59,7 +59,7 @@ lines-drop [] text more some e = e
 lines-drop (w ∷ front) text more some e =
     let rest : 0 < length (front ++ more) = omega (arith, length-append front more) in
     rw (length-text_of_cons w front) (rw (sym (drop-drop (length (text_of front)) (suc (length w)) text))
-        (lines-drop front (drop (suc (length w)) text) more some (behind_some text w (front ++ more) rest e)))
+    (lines-drop front (drop (suc (length w)) text) more some (behind_some text w (front ++ more) rest e)))
 
 -- ---- a text begins with the text of its first lines
 
@@ -104,10 +104,15 @@ pub cut_found : (text word line : List ℕ) (n at : ℕ) → n < length (lines t
 cut_found text word line n at lt is same place none before behind b1 b2 =
     let front = take n (lines text) in
     let rest = drop (n + 1) (lines text) in
-    let cut : lines text ≡ front ++ word ∷ rest = cut_at_place (lines text) n line lt is ∙ ap (λ w. front ++ w ∷ rest) same in
-    (front, rest, cut, none, b1 ∙ ap (λ k. take k text) place ∙ text_of_front text front word rest cut,
-        (let e : drop (at + length line + 1) text ≡ drop (length (text_of front) + length word + 1) text = ap (λ k. drop (k + length line + 1) text) place ∙ ap (λ w. drop (length (text_of front) + length w + 1) text) same in
-         rw (b2 ∙ e) (behind_cut text front word rest cut)))
+    let cut : lines text ≡ front ++ word ∷ rest = cut_at_place (lines text) n line lt is ∙ ap (λ w. front ++ w ∷ rest) same in (
+      front,
+      rest,
+      cut,
+      none,
+      b1 ∙ ap (λ k. take k text) place ∙ text_of_front text front word rest cut,
+      (let e : drop (at + length line + 1) text ≡ drop (length (text_of front) + length word + 1) text = ap (λ k. drop (k + length line + 1) text) place ∙ ap (λ w. drop (length (text_of front) + length w + 1) text) same in
+          rw (b2 ∙ e) (behind_cut text front word rest cut)),
+    )
 
 -- one more line that is not the word
 pub none_more : (ls : List (List ℕ)) (word line : List ℕ) (n : ℕ) → n < length ls → line ≡ get_or ls n line → line ≢ word → ¬ Contains (take n ls) word → ¬ Contains (take (n + 1) ls) word

@@ -1,6 +1,6 @@
 -- A program's tree is of one program.
-use Rattle.std.proofs.Common.{◌≡◌, ℕ, ◌+◌, List, [], ◌∷◌, length, map, refl, sym, ap, ◌∙◌, arith, zero, suc}
-use Rattle.aml_tree.specs.Tree.{Expr, Number, Variable, Field, Binary, Block, End, SetField, Return, operand_tree, chain_tree, expression_tree, block_tree, method_tree, program_tree}
+use Rattle.std.proofs.Common.{◌≡◌, ℕ, ◌+◌, List, [], ◌∷◌, length, map, refl, ap, ◌∙◌, arith, suc}
+use Rattle.aml_tree.specs.Tree.{Expr, Number, Variable, Field, Binary, operand_tree, chain_tree, expression_tree, block_tree, method_tree, program_tree}
 use Rattle.aml_tree.specs.declared.trees.Operator.{Operator}
 use Rattle.aml_tree.specs.declared.trees.Operand.{Operand}
 use Rattle.aml_tree.specs.declared.trees.Operand.TheVariants as operand

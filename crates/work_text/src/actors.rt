@@ -12,7 +12,11 @@ use std::alloc::{AllocError, Global};
 
 /// The states of the first actors, by the lines that name them in ascending order, and the place of
 /// the first line behind those.
-pub(crate) fn read_states(alloc: Global, lines: &[&[u8]], actors: u16) -> Result<(Sequence<State>, usize), AllocError>
+pub(crate) fn read_states(
+    alloc: Global,
+    lines: &[&[u8]],
+    actors: u16,
+) -> Result<(Sequence<State>, usize), AllocError>
     ensures taken { IfOk result (λ read. TakesStates (map (λ line. line.now) lines.now) 0 read.0 (drop read.1 (map (λ line. line.now) lines.now))) }
     ensures each { IfOk result (λ read. length read.0 ≡ actors) }
     ensures within { IfOk result (λ read. read.1 ≤ length lines.now) }
@@ -29,7 +33,12 @@ pub(crate) fn read_states(alloc: Global, lines: &[&[u8]], actors: u16) -> Result
 
 // The state of an actor by the line at a place, and the place of the next line to be read: where the
 // line does not name the actor, the state is all zeros and the line is left.
-fn state_at(alloc: Global, lines: &[&[u8]], at: usize, actor: u16) -> Result<(State, usize), AllocError>
+fn state_at(
+    alloc: Global,
+    lines: &[&[u8]],
+    at: usize,
+    actor: u16,
+) -> Result<(State, usize), AllocError>
     requires { at ≤ length lines.now }
     ensures taken { IfOk result (λ read. TakesState (drop at (map (λ line. line.now) lines.now)) actor read.0 (drop read.1 (map (λ line. line.now) lines.now))) }
     ensures within { IfOk result (λ read. read.1 ≤ length lines.now) }

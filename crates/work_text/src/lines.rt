@@ -34,7 +34,9 @@ pub(crate) fn lay_out(text: &[u8]) -> Option<(&[u8], &[u8], &[u8])>
 pub(crate) fn said_lines(alloc: Global, text: &[u8]) -> Result<Vec<&[u8]>, AllocError>
     ensures { IfOk result (λ v. map (λ line. line.now) v.items ≡ said (lines text.now)) }
 {
-    text.split(|b| *b == b'\n').filter(|line| is_said(line)).collect(alloc)
+    text.split(|b| *b == b'\n')
+        .filter(|line| is_said(line))
+        .collect(alloc)
 }
 
 fn is_said(line: &[u8]) -> bool

@@ -17,7 +17,12 @@ use snap_base::{Sequence, State, Tx};
 use std::alloc::Global;
 
 /// The states of the actors, and the transactions, of which there may be as many as a batch has.
-pub(crate) fn read_tail(alloc: Global, program: &Checked, batch: u16, text: &[u8]) -> Result<(Sequence<State>, Sequence<Tx>), WorkNo>
+pub(crate) fn read_tail(
+    alloc: Global,
+    program: &Checked,
+    batch: u16,
+    text: &[u8],
+) -> Result<(Sequence<State>, Sequence<Tx>), WorkNo>
     requires { AreToldApart (program_tree program.now) }
     ensures { MatchResult result (λ read. IsTail (program_tree program.now) batch (said (lines text.now)) read.0 read.1) (IsNo ((states : List State) (txs : List Tx) → ¬ IsTail (program_tree program.now) batch (said (lines text.now)) states txs)) }
 {
@@ -26,7 +31,12 @@ pub(crate) fn read_tail(alloc: Global, program: &Checked, batch: u16, text: &[u8
 }
 
 // The same of the lines that say something.
-fn tail_of(alloc: Global, program: &Checked, batch: u16, lines: &[&[u8]]) -> Result<(Sequence<State>, Sequence<Tx>), WorkNo>
+fn tail_of(
+    alloc: Global,
+    program: &Checked,
+    batch: u16,
+    lines: &[&[u8]],
+) -> Result<(Sequence<State>, Sequence<Tx>), WorkNo>
     requires { AreToldApart (program_tree program.now) }
     ensures { MatchResult result (λ read. IsTail (program_tree program.now) batch (map (λ line. line.now) lines.now) read.0 read.1) (IsNo ((states : List State) (txs : List Tx) → ¬ IsTail (program_tree program.now) batch (map (λ line. line.now) lines.now) states txs)) }
 {

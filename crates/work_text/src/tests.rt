@@ -5,7 +5,9 @@ use std::rt::HostRuntime;
 use std::test::Fail;
 
 const HEAD: &str = "snapper 1\ncoordinators 1\nlogs 1\nbatch 2\nbatches 8\nacts 8\n";
+
 const PROGRAM: &str = "program\nmethod put(n) { f0 = f0 + n; return f0; }\nend\n";
+
 const REST: &str = "actors 1\nactor 0 100\npact 0 put 5 uses 0:1\n";
 
 fn is_the_work(work: &Work) -> bool {
@@ -51,7 +53,9 @@ fn a_text_stands_for_its_work(rt: HostRuntime) -> Result<(), Fail> {
 
 #[test]
 fn comments_and_empty_lines_are_skipped(rt: HostRuntime) -> Result<(), Fail> {
-    let text = format!(in rt.alloc(); "# a comment\n\n{HEAD}\n{PROGRAM}#\n\nactors 1\n#\nactor 0 100\n\npact 0 put 5 uses 0:1")?;
+    let text = format!(in rt.alloc();
+        "# a comment\n\n{HEAD}\n{PROGRAM}#\n\nactors 1\n#\nactor 0 100\n\npact 0 put 5 uses 0:1"
+    )?;
     match parse_work(rt.alloc(), text.as_bytes()) {
         Ok(work) => assert!(rt; is_the_work(&work)),
         Err(_) => panic!(rt; "refused"),
@@ -113,13 +117,17 @@ fn tails_that_ask_for_nothing_known_are_refused(rt: HostRuntime) -> Result<(), F
 #[test]
 fn texts_that_are_not_laid_out_are_refused(rt: HostRuntime) -> Result<(), Fail> {
     assert!(rt; is_refused(rt.alloc(), b""));
-    let no_end = format!(in rt.alloc(); "{HEAD}program\nmethod put(n) {{ f0 = f0 + n; return f0; }}\n{REST}")?;
+    let no_end = format!(in rt.alloc();
+        "{HEAD}program\nmethod put(n) {{ f0 = f0 + n; return f0; }}\n{REST}"
+    )?;
     assert!(rt; is_refused(rt.alloc(), no_end.as_bytes()));
     let no_program = format!(in rt.alloc(); "{HEAD}{REST}")?;
     assert!(rt; is_refused(rt.alloc(), no_program.as_bytes()));
     let no_method = format!(in rt.alloc(); "{HEAD}program\nend\n{REST}")?;
     assert!(rt; is_refused(rt.alloc(), no_method.as_bytes()));
-    let unknown = format!(in rt.alloc(); "{HEAD}program\nmethod put(n) {{ return m; }}\nend\n{REST}")?;
+    let unknown = format!(in rt.alloc();
+        "{HEAD}program\nmethod put(n) {{ return m; }}\nend\n{REST}"
+    )?;
     assert!(rt; is_refused(rt.alloc(), unknown.as_bytes()));
     Ok(())
 }

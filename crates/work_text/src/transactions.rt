@@ -16,7 +16,12 @@ use snap_base::{ActorId, Kind, Sequence, Tx};
 use std::alloc::{AllocError, Global};
 
 /// The transactions that lines ask for, one each.
-pub(crate) fn read_transactions(alloc: Global, program: &Checked, actors: u16, lines: &[&[u8]]) -> Result<Sequence<Tx>, WorkNo>
+pub(crate) fn read_transactions(
+    alloc: Global,
+    program: &Checked,
+    actors: u16,
+    lines: &[&[u8]],
+) -> Result<Sequence<Tx>, WorkNo>
     requires { AreToldApart (program_tree program.now) }
     ensures { MatchResult result (AreTransactions (program_tree program.now) actors (map (λ line. line.now) lines.now)) (IsNo ((txs : List Tx) → ¬ AreTransactions (program_tree program.now) actors (map (λ line. line.now) lines.now) txs)) }
 {
@@ -31,7 +36,12 @@ pub(crate) fn read_transactions(alloc: Global, program: &Checked, actors: u16, l
 }
 
 // The transaction that a line asks for, and `None` where it asks for none that may be asked.
-fn transaction(alloc: Global, program: &Checked, actors: u16, line: &[u8]) -> Result<Option<Tx>, AllocError>
+fn transaction(
+    alloc: Global,
+    program: &Checked,
+    actors: u16,
+    line: &[u8],
+) -> Result<Option<Tx>, AllocError>
     requires { AreToldApart (program_tree program.now) }
     ensures { IfOk result (λ read. MatchOption read ((tx : Tx) → ¬ IsAsked (program_tree program.now) actors line.now tx) (IsAsked (program_tree program.now) actors line.now)) }
 {

@@ -6,5 +6,5 @@ abbrev pub invariant-loop-actor : goal.invariant-loop-actor
 invariant-loop-actor l = record {
   taken : TakesStates (map (λ line. line.now) l.lines) 0 l.states.items (drop l.at (map (λ line. line.now) l.lines));
   each : length l.states.items ≡ l.actor;
-  within : l.at ≤ length l.lines
+  within : l.at ≤ length l.lines;
 }

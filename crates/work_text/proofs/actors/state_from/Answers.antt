@@ -1,4 +1,4 @@
-use Rattle.std.proofs.Common.{◌≡◌, ℕ, length, drop, ap, ◌∙◌, ◌++◌, List}
+use Rattle.std.proofs.Common.{length, drop, ap, ◌∙◌, ◌++◌, List}
 use Rattle.std.specs.Prelude.{ℤ, pos, replicate}
 use Rattle.std.proofs.lemmas.List.{drop-replicate}
 use Rattle.snap_base.specs.declared.transactions.State.{State}

@@ -1,7 +1,7 @@
-use Rattle.std.proofs.Common.{List, Bool, ◌≡◌, ℕ, ◌+◌, ◌≤◌, eqb, ◌<◌, length, get_or, take, ap, sym, refl, [], ◌∷◌, ◌++◌, length-append, length-take-le, ◌∙◌, arith, rules}
+use Rattle.std.proofs.Common.{List, Bool, ◌≡◌, ℕ, ◌+◌, ◌≤◌, eqb, ◌<◌, length, get_or, ap, sym, refl, [], ◌∷◌, length-append, length-take-le, ◌∙◌, arith, rules}
 use Rattle.std.proofs.lemmas.Iterator.Splits.{YieldsList-from_slice_split}
 use Rattle.std.proofs.lemmas.Iterator.Consumers.{YieldsList-turn, YieldsList-end}
-use Rattle.work_text.specs.Lines.{lines, text_of}
+use Rattle.work_text.specs.Lines.{lines}
 use Rattle.work_text.proofs.TextLines.{cut_found, cut_at_place, none_more, length_cut, length-text_of_more, take_whole}
 use Rattle.std.proofs.lemmas.List.{drop_min, take_rest}
 use Rattle.std.proofs.lemmas.Slice.Eq.{slice_eq-Decides}
@@ -18,7 +18,7 @@ turn : (c : In-Some) → (length c.loop-line.yielded < length (lines c.args.text
 turn c =
     let e = c.into_iter-line-iterator.ensures.into_iter_gives in
     YieldsList-turn (YieldsList-from_slice_split {s = c.into_iter-line-iterator.result} _ (λ b. eqb b 10) c.args.text.now (cc) (cc) (cc) (λ x b q k. search rules))
-        c.loop-line.yielded _ c.loop-line.yielded_by _ _ c.in-Some.line c.in-Some.is c.next.ensures.steps
+    c.loop-line.yielded _ c.loop-line.yielded_by _ _ c.in-Some.line c.in-Some.is c.next.ensures.steps
 
 fits : (c : In-Some) → c.loop-line.at + length c.in-Some.line.now ≤ length c.args.text.now
 fits c =
@@ -44,12 +44,13 @@ pub loop-line-preserved : goal.loop-line-preserved
 loop-line-preserved c =
     let t = turn ((goal.at.loop-line-preserved c).In-Some) in
     rw (length-append c.loop-line.yielded (c.in-Some.line ∷ [])) (record {
-        at = ap (λ n. n + length c.in-Some.line.now + 1) c.loop-line.invariant.at ∙ sym (length-text_of_more (lines c.args.text.now) c.in-Some.line.now (length c.loop-line.yielded) t.0 t.1);
-        none = none_more (lines c.args.text.now) c.args.word.now c.in-Some.line.now (length c.loop-line.yielded) t.0 t.1 (λ e. cc ((eq c.eq.ensures).1 e)) c.loop-line.invariant.none })
+      at = ap (λ n. n + length c.in-Some.line.now + 1) c.loop-line.invariant.at ∙ sym (length-text_of_more (lines c.args.text.now) c.in-Some.line.now (length c.loop-line.yielded) t.0 t.1);
+      none = none_more (lines c.args.text.now) c.args.word.now c.in-Some.line.now (length c.loop-line.yielded) t.0 t.1 (λ e. cc ((eq c.eq.ensures).1 e)) c.loop-line.invariant.none;
+    })
 
 pub returns : goal.returns
 returns c has =
     let e = c.into_iter-line-iterator.ensures.into_iter_gives in
     let all = YieldsList-end (YieldsList-from_slice_split {s = c.into_iter-line-iterator.result} _ (λ b. eqb b 10) c.args.text.now (cc) (cc) (cc) (λ x b q k. search rules))
-        c.loop-line.yielded _ c.loop-line.yielded_by _ _ c.in-None.is c.next.ensures.steps in
+    c.loop-line.yielded _ c.loop-line.yielded_by _ _ c.in-None.is c.next.ensures.steps in
     c.loop-line.invariant.none (rw (take_whole (lines c.args.text.now) (length c.loop-line.yielded) all.1) has)

@@ -1,4 +1,4 @@
-use Rattle.std.proofs.Common.{◌≡◌, ℕ, eqb, length, take, drop, ap, sym, refl, ◌∙◌, ◌++◌, List, arith, rules}
+use Rattle.std.proofs.Common.{◌≡◌, length, take, drop, ap, sym, refl, ◌∙◌, ◌++◌, arith}
 use Rattle.std.proofs.Math.Seq.{take-append_seam}
 use Rattle.std.proofs.lemmas.List.{take-append-drop}
 use Rattle.std.specs.Fmt.{decimal}

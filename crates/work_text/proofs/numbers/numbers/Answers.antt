@@ -1,5 +1,5 @@
-use Rattle.std.proofs.Common.{◌≡◌, ℕ, ◌<◌, length, take, drop, map, ap, sym, refl, ◌∙◌, ◌++◌, List, Bor, arith, rules}
-use Rattle.std.specs.Prelude.{FitsSigned, ℤ}
+use Rattle.std.proofs.Common.{ℕ, ◌<◌, length, map, sym, ◌∙◌, List, Bor, arith, rules}
+use Rattle.std.specs.Prelude.{FitsSigned}
 use Rattle.std.specs.Int.{w64}
 use Rattle.std.specs.Fmt.{signed_decimal}
 use Rattle.std.proofs.lemmas.List.{length-map}
@@ -17,5 +17,6 @@ pub loop-word-preserved : goal.loop-word-preserved
 loop-word-preserved c =
     let fits : FitsSigned w64 c.in-Some.value = search rules in
     rw (c.in_ok-push.ensures.items, to_z-of_z w64 c.in-Some.value fits) (record {
-        spelled = spelled_more signed_decimal c.args.words.now c.loop-word.values.items c.loop-word.word-index _ c.in-Some.value (omega arith) c.in-Some.ensures.found c.loop-word.invariant.spelled;
-        fits = all_more (FitsSigned w64) c.loop-word.values.items c.in-Some.value c.loop-word.invariant.fits fits })
+      spelled = spelled_more signed_decimal c.args.words.now c.loop-word.values.items c.loop-word.word-index _ c.in-Some.value (omega arith) c.in-Some.ensures.found c.loop-word.invariant.spelled;
+      fits = all_more (FitsSigned w64) c.loop-word.values.items c.in-Some.value c.loop-word.invariant.fits fits;
+    })

@@ -1,4 +1,4 @@
-use Rattle.std.proofs.Common.{◌≡◌, refl, sym, arith}
+use Rattle.std.proofs.Common.{refl, arith}
 use Rattle.std.proofs.lemmas.Result.{err_from_is_err_and}
 use Rattle.work_text.proofs.Refusals.{IsNo-mono}
 use Rattle.work_text.proofs.Programs.{told_apart}
@@ -26,8 +26,8 @@ pub returns-in_err-states : goal.returns-in_err-states
 returns-in_err-states c =
     let p = err_from_is_err_and c.from_residual-in_err-states.result c.from_residual-in_err-states.ensures.1 in
     rw (p.1, p.2) (IsNo-mono c.in_err-states.field-0.0 (λ none w h. none w.states w.txs (tail_same _ _ _ _ _ w.states w.txs (tree_one c.in-Some.program.now (program_tree w.program) (program_tree c.in_ok-program.program) c.one_program.ensures c.one_checked.ensures (work_program c.args.bytes.now c.in-Some.head.now c.in-Some.program.now c.in-Some.rest.now c.in-Some.ensures w h) c.in_ok-program.ensures)
-        (batch_one _ (settings_of w) c.in_ok-settings.settings (work_settings c.args.bytes.now c.in-Some.head.now c.in-Some.program.now c.in-Some.rest.now c.in-Some.ensures w h) c.in_ok-settings.ensures)
-        (work_tail c.args.bytes.now c.in-Some.head.now c.in-Some.program.now c.in-Some.rest.now c.in-Some.ensures w h))) c.in_err-states.ensures)
+    (batch_one _ (settings_of w) c.in_ok-settings.settings (work_settings c.args.bytes.now c.in-Some.head.now c.in-Some.program.now c.in-Some.rest.now c.in-Some.ensures w h) c.in_ok-settings.ensures)
+    (work_tail c.args.bytes.now c.in-Some.head.now c.in-Some.program.now c.in-Some.rest.now c.in-Some.ensures w h))) c.in_err-states.ensures)
 
 pub returns : goal.returns
 returns c =

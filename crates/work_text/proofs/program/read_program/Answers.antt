@@ -1,5 +1,3 @@
-use Rattle.work_text.proofs.Tails.{takes_only}
-use Rattle.work_text.proofs.Programs.{told_apart}
 use Rattle.work_text.proofs.program.read_program.Goals as goal
 use Rattle.std.proofs.Common.{refl}
 

@@ -7,11 +7,12 @@ pub returns : goal.returns
 returns c =
     let count : length (map (λ (word : Bor (List ℕ)). word.now) c.args.words.now) ≡ length c.args.words.now = length-map c.args.words.now (λ (word : Bor (List ℕ)). word.now) in
     record {
-        count = omega (arith, c.params.ensures);
-        first = now_at c.args.words.now 0 _ (omega arith) ∙ not_differs c.ne.ensures c.if-ne.false ∙ c.as_slice.ensures;
-        second = now_at c.args.words.now 1 _ (omega arith) ∙ c.in_ok-actor.ensures.found.0;
-        third = now_at c.args.words.now 2 _ (omega arith) ∙ sym c.in_ok-method.ensures.found.1;
-        uses = ap (λ k. get_or (map (λ (word : Bor (List ℕ)). word.now) c.args.words.now) k []) (omega arith) ∙ now_at c.args.words.now (length c.args.words.now - 2) _ (omega arith) ∙ not_differs c.ne-else-ne.ensures c.if-ne-2.false ∙ c.as_slice-else-ne.ensures;
-        used = ap (λ k. get_or (map (λ (word : Bor (List ℕ)). word.now) c.args.words.now) k []) (omega arith) ∙ now_at c.args.words.now (length c.args.words.now - 1) _ (omega arith) ∙ c.is_one_use.ensures.0 c.if-not-is_one_use.false;
-        known_actor = c.in_ok-actor.ensures.found.1;
-        known_method = c.in_ok-method.ensures.found.0 }
+      count = omega (arith, c.params.ensures);
+      first = now_at c.args.words.now 0 _ (omega arith) ∙ not_differs c.ne.ensures c.if-ne.false ∙ c.as_slice.ensures;
+      second = now_at c.args.words.now 1 _ (omega arith) ∙ c.in_ok-actor.ensures.found.0;
+      third = now_at c.args.words.now 2 _ (omega arith) ∙ sym c.in_ok-method.ensures.found.1;
+      uses = ap (λ k. get_or (map (λ (word : Bor (List ℕ)). word.now) c.args.words.now) k []) (omega arith) ∙ now_at c.args.words.now (length c.args.words.now - 2) _ (omega arith) ∙ not_differs c.ne-else-ne.ensures c.if-ne-2.false ∙ c.as_slice-else-ne.ensures;
+      used = ap (λ k. get_or (map (λ (word : Bor (List ℕ)). word.now) c.args.words.now) k []) (omega arith) ∙ now_at c.args.words.now (length c.args.words.now - 1) _ (omega arith) ∙ c.is_one_use.ensures.0 c.if-not-is_one_use.false;
+      known_actor = c.in_ok-actor.ensures.found.1;
+      known_method = c.in_ok-method.ensures.found.0;
+    }

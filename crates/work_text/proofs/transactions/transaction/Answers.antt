@@ -1,4 +1,4 @@
-use Rattle.std.proofs.Common.{◌≡◌, ◌++◌, ◌∷◌, [], ap, sym, ◌∙◌, map, List, ℕ, Bor, arith}
+use Rattle.std.proofs.Common.{◌++◌, ◌∷◌, [], ap, ◌∙◌, map, List, ℕ, Bor, arith}
 use Rattle.work_text.proofs.Calls.{call_asked, one_use, no_call, no_numbers}
 use Rattle.work_text.proofs.transactions.transaction.Goals as goal
 
