@@ -5,8 +5,8 @@ use Rattle.std.specs.Fmt.{decimal, signed_decimal}
 use Rattle.snap_base.specs.declared.verdicts.Verdict.{Verdict}
 use Rattle.snap_base.specs.Text.{verdict_text}
 use Rattle.snap_base.specs.declared.transactions.State.{State}
-use Rattle.work_text.specs.declared.parse.WorkCause.{WorkCause}
-use Rattle.work_text.specs.declared.parse.WorkCause.TheVariants.{Unbuilt}
+use Rattle.work_text.specs.declared.faults.WorkCause.{WorkCause}
+use Rattle.work_text.specs.declared.faults.WorkCause.TheVariants.{Unbuilt}
 use Rattle.snap_report.specs.declared.statuses.Status.{Status}
 use Rattle.snap_report.specs.declared.statuses.Status.TheVariants as status
 

@@ -5,7 +5,7 @@ use Rattle.snap_outside.specs.Causes.{Rose}
 use Rattle.snap_report.specs.declared.statuses.Status.{Status}
 use Rattle.snap_report.specs.declared.statuses.Status.TheVariants as status
 use Rattle.work_text.specs.declared.works.Work.{Work}
-use Rattle.work_text.specs.declared.parse.WorkCause.TheVariants.{Unbuilt}
+use Rattle.work_text.specs.declared.faults.WorkCause.TheVariants.{Unbuilt}
 use Rattle.work_text.specs.Work.{IsWork}
 use Rattle.snap_run.specs.Words.{IsForm, IsUsageFault}
 use Rattle.snap_run.specs.Report.{IsReport, Fails}

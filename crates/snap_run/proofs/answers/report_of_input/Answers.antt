@@ -1,7 +1,7 @@
 use Rattle.std.proofs.Common.{◌≤◌, ap, sym, length, subst, Err}
 use Rattle.std.specs.Prelude.{string_bytes}
 use Rattle.std.specs.Io.KnownBytes.{Consumes, IsAtEnd}
-use Rattle.work_text.specs.declared.parse.WorkFault.{WorkFault}
+use Rattle.work_text.specs.declared.faults.WorkFault.{WorkFault}
 use Rattle.snap_run.proofs.InputLaws.{executable, reads_enough, refused_input, executed}
 use Rattle.snap_run.proofs.answers.report_of_input.Goals as goal
 
