@@ -1,5 +1,6 @@
 pub mod Calls
 pub mod Cuts
+pub mod Fronts
 pub mod Lists
 pub mod OneWork
 pub mod Programs

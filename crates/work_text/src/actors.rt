@@ -51,10 +51,15 @@ fn state_at(
     Ok((State([0; 16]), at))
 }
 
-// The state that a line gives an actor, and `None` where it gives it none.
+// The state that a line gives an actor, and `None` where it gives it none. A line that does not begin with
+// the actor's number is not looked at further, so a line is cut into words for one actor at most.
 fn actor_state(alloc: Global, line: &[u8], actor: u16) -> Result<Option<State>, AllocError>
     ensures { IfOk result (λ read. MatchOption read ((s : State) → ¬ IsActorLine line.now actor s) (IsActorLine line.now actor)) }
 {
+    let front = format!(in alloc; "actor {actor} ")?;
+    if !line.starts_with(front.as_bytes()) {
+        return Ok(None);
+    }
     let words = words_of(alloc, line)?;
     if !names_actor(&words, actor) {
         return Ok(None);
