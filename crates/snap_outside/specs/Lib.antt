@@ -1,2 +1,5 @@
 pub mod Causes
+pub mod Disk
 pub mod Fakes
+pub mod Images
+pub mod MemoryLog

@@ -5,13 +5,19 @@
 #![tactic(auto)]
 
 mod devices;
+mod disks;
 mod gates;
+mod memory;
 mod schedules;
 mod sinks;
 mod sources;
 
-pub use devices::{LogDev, MemLog};
+pub use devices::{DevOp, LogDev};
 pub use gates::{FreeGate, Gate};
+pub use memory::MemLog;
 pub use schedules::Failed;
 pub use sinks::{MemSink, NullSink, Sink};
 pub use sources::{MemSource, Source};
+
+#[cfg(test)]
+mod tests;

@@ -62,8 +62,8 @@ impl MemSink {
     }
 }
 
-/// The room, in bytes, that a new sink or log in memory has.
-pub(crate) const FIRST_ROOM: usize = 64;
+/// The room, in bytes, that a new sink in memory has.
+const FIRST_ROOM: usize = 64;
 
 impl Sink for MemSink {
     ghost use Rattle.std.specs.Prelude.{◌≡◌, ◌<◌, ◌≤◌, ◌⊎◌, length, Some, IfOk, IsErr, OnErr};

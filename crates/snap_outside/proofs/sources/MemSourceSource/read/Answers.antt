@@ -1,4 +1,4 @@
-use Rattle.std.proofs.Common.{◌≡◌, ap, ◌∙◌, sym, min, length, take}
+use Rattle.std.proofs.Common.{ap, ◌∙◌, sym, min, length, take}
 use Rattle.snap_outside.proofs.Moves.{moved_front}
 use Rattle.snap_outside.proofs.sources.MemSourceSource.read.Goals as goal
 

@@ -1,0 +1,12 @@
+pub mod AppendBytes
+pub mod AppendDisks
+pub mod AppendExits
+pub mod AppendItems
+pub mod AppendLogs
+pub mod OneReading
+pub mod OpenCrashes
+pub mod OpenDisks
+pub mod ReadingCounted
+pub mod ReadingGroups
+pub mod ReadingHeader
+pub mod ReadingItems

@@ -1,0 +1,103 @@
+-- What a device holds once its log is opened.
+use Rattle.std.proofs.Common.{◌≡◌, ℕ, ◌+◌, ◌^◌, ◌<◌, ◌≤◌, List, [], ◌∷◌, ◌++◌, length, take, drop, Option, Some, None, Result, Ok, Err, refl, sym, ap, subst, ◌∙◌, inr, append_assoc, arith}
+use Rattle.std.specs.Prelude.{MatchResult, IfOk, OnOk, IfSome, IsSome}
+use Rattle.std.specs.Option.{ForSome}
+use Rattle.std.proofs.lemmas.List.{append-nil, nil_from_length, length-take, drop_all, map-append}
+use Rattle.snap_outside.specs.declared.devices.DevOp.{DevOp}
+use Rattle.snap_outside.specs.declared.devices.DevOp.TheVariants.{Write, Sync}
+use Rattle.snap_outside.specs.Disk.{History, Disk, disk, disk_after, content, settled, written, op_done, Adds, MayAdd, AddsAll}
+use Rattle.gate_log.specs.declared.logs.LogItem.{LogItem}
+use Rattle.gate_log.specs.Bytes.{items_bytes, items_of, placed_items, placed, IsLogAt, IsPlacedLogAt}
+use Rattle.gate_log.specs.Device.{DeviceLog, IsReady}
+use Rattle.gate_log.specs.Opened.{bytes_of, new_log}
+
+-- ---- what the calls add
+
+-- a write, and then a sync that may fail
+pub write_then_sync : {T E : Type 0} (write : DevOp) (t0 t1 t2 : Option History) (r : Result T E) → Adds t0 t1 write → MatchResult r (λ _. Adds t1 t2 Sync) (λ _. t2 ≡ t1)
+    → MatchResult r (λ _. AddsAll t0 t2 (write ∷ Sync ∷ [])) (λ _. MayAdd t0 t2 write)
+write_then_sync write None t1 t2 (Ok x) first second = subst (λ (t : Option History). Adds t t2 Sync) first second
+write_then_sync write None t1 t2 (Err x) first second = second ∙ first
+write_then_sync write (Some h) t1 t2 (Ok x) first second =
+    subst (λ (t : Option History). Adds t t2 Sync) first second ∙ ap (λ (ops : List DevOp). Some (record { first = h.first; ops = ops })) (append_assoc h.ops (write ∷ []) (Sync ∷ []))
+write_then_sync write (Some h) t1 t2 (Err x) first second = inr (second ∙ first)
+
+disk_after-append : (ops more : List DevOp) (d : Disk) → disk_after (ops ++ more) d ≡ disk_after more (disk_after ops d)
+disk_after-append [] more d = refl
+disk_after-append (op ∷ ops) more d = disk_after-append ops more (op_done op d)
+
+-- ---- the log on the device
+
+settled_log : (h : History) (bytes : List ℕ) (end : ℕ) (items : List (List ℕ)) → disk h ≡ settled bytes → IsLogAt bytes end items → DeviceLog h end items
+settled_log h bytes end items e l = record {
+  log = subst (λ (x : List ℕ). IsLogAt x end items) (sym (ap (λ (d : Disk). d.now) e)) l;
+  quiet = e ∙ ap (λ (d : Disk). settled d.now) (sym e);
+}
+
+-- a piece that is written over all there is
+pub written_over : (old piece : List ℕ) → length old ≤ length piece → written old 0 piece ≡ piece
+written_over old piece le =
+    let front : take 0 old ≡ [] = nil_from_length (take 0 old) (omega (arith, length-take 0 old)) in
+    let behind : drop (0 + length piece) old ≡ [] = drop_all (0 + length piece) old (omega arith) in
+    ap (λ (x : List ℕ). x ++ (piece ++ drop (0 + length piece) old)) front ∙ ap (λ (x : List ℕ). piece ++ x) behind ∙ append-nil piece
+
+disk_written_over : (h : History) (piece : List ℕ) → length (content h) ≤ length piece
+    → disk (record { first = h.first; ops = h.ops ++ Write 0 piece ∷ Sync ∷ [] }) ≡ settled piece
+disk_written_over h piece le = disk_after-append h.ops (Write 0 piece ∷ Sync ∷ []) (settled h.first) ∙ ap settled (written_over (content h) piece le)
+
+new_is_log : IsLogAt new_log 8 []
+new_is_log = record { parts = ([], 0, [], tt, (λ e. omega arith), refl, refl, refl) }
+
+-- a log made on a device whose length, at most nine, is that of its content
+pub made_log : (old new : Option History) (old_length : Option ℕ) (len : ℕ) → ((h : History) (n : ℕ) → old ≡ Some h → old_length ≡ Some n → n ≡ length (content h)) → old_length ≡ Some len → len ≤ 9
+    → AddsAll old new (Write 0 new_log ∷ Sync ∷ []) → IfSome new (λ g. DeviceLog g 8 [])
+made_log None new old_length len same e short adds = subst (λ (t : Option History). IfSome t (λ g. DeviceLog g 8 [])) (sym adds) tt
+made_log (Some h) new old_length len same e short adds =
+    let le : length (content h) ≤ 9 = omega (arith, same h len refl e) in
+    subst (λ (t : Option History). IfSome t (λ g. DeviceLog g 8 [])) (sym adds) (settled_log _ new_log 8 [] (disk_written_over h new_log le) new_is_log)
+
+bytes_of-placed_items : (place : ℕ) (items : List (List ℕ)) → bytes_of (placed_items place items) ≡ items
+bytes_of-placed_items place [] = refl
+bytes_of-placed_items place (i ∷ is) = ap (λ (xs : List (List ℕ)). i ∷ xs) (bytes_of-placed_items (place + 2 + length i) is)
+
+bytes_of-placed : (place : ℕ) (groups : List (List (List ℕ))) → bytes_of (placed place groups) ≡ items_of groups
+bytes_of-placed place [] = refl
+bytes_of-placed place (g ∷ gs) =
+    let first : List LogItem = placed_items (place + 5) g in
+    let others : List LogItem = placed (place + 5 + length (items_bytes g)) gs in
+    map-append (λ (i : LogItem). i.bytes) first others ∙ ap (λ (xs : List (List ℕ)). xs ++ bytes_of others) (bytes_of-placed_items (place + 5) g)
+    ∙ ap (λ (xs : List (List ℕ)). g ++ xs) (bytes_of-placed (place + 5 + length (items_bytes g)) gs)
+
+placed_log : (bytes : List ℕ) (end : ℕ) (found : List LogItem) → IsPlacedLogAt bytes end found → IsLogAt bytes end (bytes_of found)
+placed_log bytes end found p =
+    let s = p.parts in
+    record { parts = (s.0, s.1, s.2, s.3, s.4, s.5, s.6, ap bytes_of s.7 ∙ bytes_of-placed 8 s.0) }
+
+synced_log : (h : History) (end : ℕ) (found : List LogItem) → IsPlacedLogAt (content h) end found → DeviceLog (record { first = h.first; ops = h.ops ++ Sync ∷ [] }) end (bytes_of found)
+synced_log h end found p = settled_log _ (content h) end (bytes_of found) (disk_after-append h.ops (Sync ∷ []) (settled h.first)) (placed_log (content h) end found p)
+
+found_on : (old new : Option History) (end : ℕ) (found : List LogItem) → IfSome old (λ h. IsPlacedLogAt (content h) end found) → AddsAll old new (Sync ∷ []) → IfSome new (λ g. DeviceLog g end (bytes_of found))
+found_on None new end found p adds = subst (λ (t : Option History). IfSome t (λ g. DeviceLog g end (bytes_of found))) (sym adds) tt
+found_on (Some h) new end found p adds = subst (λ (t : Option History). IfSome t (λ g. DeviceLog g end (bytes_of found))) (sym adds) (synced_log h end found p)
+
+-- a log found on a longer device
+pub found_log : {E : Type 0} (old new : Option History) (r : Result (ℕ × List LogItem) E) → IfOk r (λ log. IfSome old (λ h. IsPlacedLogAt (content h) log.0 log.1)) → OnOk r (AddsAll old new (Sync ∷ []))
+    → IfOk r (λ log. IfSome new (λ g. DeviceLog g log.0 (bytes_of log.1)))
+found_log old new (Ok log) p adds = found_on old new log.0 log.1 p adds
+found_log old new (Err e) p adds = tt
+
+-- ---- what appending needs
+
+pub is_ready : (told : Option History) (told_length : Option ℕ) (end : ℕ) (items : List (List ℕ)) → IfSome told (λ h. DeviceLog h end items) → IsSome told_length → ForSome told_length (λ len. end < len) → IsReady told told_length end
+is_ready None told_length end items log known within = record { log = tt; known = known; within = within }
+is_ready (Some h) told_length end items log known within = record { log = (items, log); known = known; within = within }
+
+ready_at : (told : Option History) (told_length : Option ℕ) (len end : ℕ) (items : List (List ℕ)) → IfSome told (λ h. DeviceLog h end items) → told_length ≡ Some len → end < len → IsReady told told_length end
+ready_at told told_length len end items log e lt =
+    is_ready told told_length end items log (subst (λ (o : Option ℕ). IsSome o) (sym e) refl)
+    (λ n f. let same : len ≡ n = cc in subst (λ (m : ℕ). end < m) same lt)
+
+pub found_ready : {E : Type 0} (told : Option History) (told_length : Option ℕ) (len : ℕ) (r : Result (ℕ × List LogItem) E) → IfOk r (λ log. IfSome told (λ g. DeviceLog g log.0 (bytes_of log.1)))
+    → told_length ≡ Some len → IfOk r (λ log. (log.0 < len) × (log.0 < 2 ^ 63)) → IfOk r (λ log. IsReady told told_length log.0)
+found_ready told told_length len (Ok log) d e within = ready_at told told_length len log.0 (bytes_of log.1) d e within.0
+found_ready told told_length len (Err e) d f within = tt

@@ -1,0 +1,20 @@
+use Rattle.std.proofs.Common.{◌∙◌}
+use Rattle.gate_log.proofs.OpenDisks.{made_log, found_log, is_ready, found_ready}
+use Rattle.gate_log.proofs.opens.find_log.Goals as goal
+
+pub returns-then-len-le9-clause-log : goal.returns-then-len-le9-clause-log
+returns-then-len-le9-clause-log g c =
+    rw c.new.ensures (made_log _ _ _ c.in_ok-len.len (g.met.D.LogDev.content_length _) c.in_ok-len.ensures.told c.if-len-le9.true c.in_ok-make_log.ensures.told)
+
+pub returns-then-len-le9-clause-ready : goal.returns-then-len-le9-clause-ready
+returns-then-len-le9-clause-ready g c =
+    is_ready _ _ 8 _ (made_log _ _ _ c.in_ok-len.len (g.met.D.LogDev.content_length _) c.in_ok-len.ensures.told c.if-len-le9.true c.in_ok-make_log.ensures.told)
+    c.in_ok-make_log.ensures.known c.in_ok-make_log.ensures.within
+
+pub returns-clause-log : goal.returns-clause-log
+returns-clause-log g c = found_log _ _ c.read_device.result c.read_device.ensures.read c.read_device.ensures.synced
+
+pub returns-clause-ready : goal.returns-clause-ready
+returns-clause-ready g c =
+    found_ready _ _ c.in_ok-len.len c.read_device.result (found_log _ _ c.read_device.result c.read_device.ensures.read c.read_device.ensures.synced)
+    (c.read_device.ensures.same ∙ c.in_ok-len.ensures.told) c.read_device.ensures.within

@@ -1,0 +1,84 @@
+-- What a log is, as bytes: a header, groups of items behind open gates, and the first gate that is not open.
+use Rattle.std.specs.Prelude.{◌≡◌, ◌≢◌, ℕ, ◌+◌, ◌<◌, ◌≤◌, ◌^◌, ◌⊎◌, List, [], ◌∷◌, ◌++◌, length, take, slice_index, codes}
+use Rattle.std.specs.List.{AllByRecursion, flat_map}
+use Rattle.gate_log.specs.declared.logs.LogItem.{LogItem}
+use Rattle.std.specs.Int.{to_be_bytes, w16, w32}
+
+abbrev pub header : List ℕ
+header = codes "SNAPLOG1"
+
+-- an item is its length in two bytes, and its bytes
+abbrev pub item_bytes : List ℕ → List ℕ
+item_bytes item = to_be_bytes w16 (length item) ++ item
+
+abbrev pub items_bytes : List (List ℕ) → List ℕ
+items_bytes items = flat_map item_bytes items
+
+-- a group is the length of its items in four bytes, and its items
+abbrev pub group_bytes : List (List ℕ) → List ℕ
+group_bytes items = to_be_bytes w32 (length (items_bytes items)) ++ items_bytes items
+
+-- each group stands behind an open gate, the byte 1
+abbrev pub blocks : List (List (List ℕ)) → List ℕ
+blocks groups = flat_map (λ group. 1 ∷ group_bytes group) groups
+
+-- the items of the groups, in order
+abbrev pub items_of : List (List (List ℕ)) → List (List ℕ)
+items_of groups = flat_map (λ (group : List (List ℕ)). group) groups
+
+pub record IsItem (item : List ℕ) : Type 0 where
+  pub some : 1 ≤ length item
+  pub short : length item < 2 ^ 16
+
+pub record IsGroup (group : List (List ℕ)) : Type 0 where
+  pub items : AllByRecursion IsItem group
+  pub short : length (items_bytes group) < 2 ^ 32
+
+-- The bytes are a log whose first gate that is not open stands at `end`, and whose groups hold these items.
+-- What lies behind that gate is no part of the log.
+pub record IsLogAt (bytes : List ℕ) (end : ℕ) (items : List (List ℕ)) : Type 0 where
+  pub parts : (groups : List (List (List ℕ))) × (gate : ℕ) × (rest : List ℕ)
+      × AllByRecursion IsGroup groups × (gate ≢ 1)
+      × (bytes ≡ (header ++ blocks groups) ++ gate ∷ rest)
+      × (end ≡ length (header ++ blocks groups))
+      × (items ≡ items_of groups)
+
+-- a file of at most nine bytes holds no block, and stands for no item
+abbrev pub IsLog : List ℕ → List (List ℕ) → Type 0
+IsLog bytes items = ((length bytes ≤ 9) × (items ≡ [])) ⊎ ((9 < length bytes) × ((end : ℕ) × IsLogAt bytes end items))
+
+-- ---- what is no log
+
+-- the first byte that differs from the header
+pub record DiffersAt (bytes : List ℕ) (offset : ℕ) : Type 0 where
+  pub within : offset < 8
+  pub same : take offset bytes ≡ take offset header
+  pub differs : slice_index bytes offset ≢ slice_index header offset
+
+-- behind the open gate at the offset there is no whole group with a gate behind it
+pub record IsDamagedAt (bytes : List ℕ) (offset : ℕ) : Type 0 where
+  pub parts : (groups : List (List (List ℕ))) × (rest : List ℕ)
+      × AllByRecursion IsGroup groups
+      × (bytes ≡ (header ++ blocks groups) ++ 1 ∷ rest)
+      × (offset ≡ length (header ++ blocks groups))
+      × ((group : List (List ℕ)) (gate : ℕ) (more : List ℕ) → IsGroup group → rest ≢ group_bytes group ++ gate ∷ more)
+
+-- ---- where the items stand
+
+-- the items of a group whose first length stands at an offset
+abbrev pub placed_items : ℕ → List (List ℕ) → List LogItem
+placed_items offset [] = []
+placed_items offset (item ∷ items) = record { at = offset + 2; bytes = item } ∷ placed_items (offset + 2 + length item) items
+
+-- the items of groups the first of whose gates stands at an offset
+abbrev pub placed : ℕ → List (List (List ℕ)) → List LogItem
+placed offset [] = []
+placed offset (group ∷ groups) = placed_items (offset + 5) group ++ placed (offset + 5 + length (items_bytes group)) groups
+
+-- the bytes are a log at `end` with these items at their places
+pub record IsPlacedLogAt (bytes : List ℕ) (end : ℕ) (found : List LogItem) : Type 0 where
+  pub parts : (groups : List (List (List ℕ))) × (gate : ℕ) × (rest : List ℕ)
+      × AllByRecursion IsGroup groups × (gate ≢ 1)
+      × (bytes ≡ (header ++ blocks groups) ++ gate ∷ rest)
+      × (end ≡ length (header ++ blocks groups))
+      × (found ≡ placed 8 groups)

@@ -1,0 +1,36 @@
+-- A log on a device, and what each crash inside a call leaves of it.
+use Rattle.std.specs.Prelude.{◌≡◌, ℕ, ◌+◌, ◌-◌, ◌<◌, ◌≤◌, ◌^◌, ◌⊎◌, List, ◌++◌, length, Option, IfSome, IsSome}
+use Rattle.std.specs.Option.{ForSome}
+use Rattle.std.specs.List.{AllByRecursion}
+use Rattle.snap_outside.specs.declared.devices.DevOp.{DevOp}
+use Rattle.snap_outside.specs.Disk.{History, disk, content, settled, EachMoment, AddsAll}
+use Rattle.gate_log.specs.Bytes.{IsItem, IsLog, IsLogAt, items_bytes}
+
+-- The device holds a log of these items whose closed gate stands at `end`, and nothing of it is loose.
+pub record DeviceLog (h : History) (end : ℕ) (items : List (List ℕ)) : Type 0 where
+  pub log : IsLogAt (content h) end items
+  pub quiet : disk h ≡ settled (content h)
+
+-- what may be appended at `end`
+pub record MayAppend (end : ℕ) (added : List (List ℕ)) : Type 0 where
+  pub items : AllByRecursion IsItem added
+  pub short : length (items_bytes added) ≤ 2 ^ 31
+  pub fits : end + length (items_bytes added) < 2 ^ 64 - 8
+
+-- The device held a log; now it holds the same with the items added.
+abbrev pub Appended : Option History → Option History → ℕ → ℕ → List (List ℕ) → Type 0
+Appended old new end_before end_after added =
+    IfSome old (λ h. IfSome new (λ g. (items : List (List ℕ)) → DeviceLog h end_before items → DeviceLog g end_after (items ++ added)))
+
+-- Whatever a crash leaves at any moment of the call is the log from before it, or that log with all that is added.
+abbrev pub Crashes : Option History → Option History → ℕ → List (List ℕ) → Type 0
+Crashes old new end added =
+    IfSome old (λ h. (ops : List DevOp) × AddsAll old new ops
+    × ((items : List (List ℕ)) → DeviceLog h end items → EachMoment (disk h) ops (λ image. IsLog image items ⊎ IsLog image (items ++ added))))
+
+-- Where a log is not shut: if the device tells its history, it holds a log at `end`; its length is known, and the
+-- closed gate lies in the device.
+pub record IsReady (told : Option History) (told_length : Option ℕ) (end : ℕ) : Type 0 where
+  pub log : IfSome told (λ h. (items : List (List ℕ)) × DeviceLog h end items)
+  pub known : IsSome told_length
+  pub within : ForSome told_length (λ len. end < len)

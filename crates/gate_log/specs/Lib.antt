@@ -1,0 +1,6 @@
+pub mod Appends
+pub mod Bytes
+pub mod Device
+pub mod Opened
+pub mod Reading
+pub mod State

@@ -1,0 +1,59 @@
+-- What opening finds on a device, and what it does to it.
+use Rattle.std.specs.Prelude.{◌≡◌, ℕ, ◌<◌, ◌≤◌, ◌⊎◌, List, [], ◌∷◌, ◌++◌, length, map, Option, None, Some, IfSome}
+use Rattle.snap_outside.specs.declared.devices.DevOp.{DevOp}
+use Rattle.snap_outside.specs.declared.devices.DevOp.TheVariants.{Write, Sync}
+use Rattle.snap_outside.specs.Disk.{History, disk, content, with_op, EachMoment, AddsAll}
+use Rattle.snap_outside.specs.Causes.{Rose}
+use Rattle.gate_log.specs.declared.logs.LogItem.{LogItem}
+use Rattle.gate_log.specs.declared.opens.OpenNo.{OpenNo}
+use Rattle.gate_log.specs.declared.opens.OpenNo.TheVariants.{NotALog, Damage, Device, Memory}
+use Rattle.gate_log.specs.Bytes.{header, IsLog, DiffersAt, IsDamagedAt, IsPlacedLogAt}
+
+-- the bytes of items, without where they stand
+abbrev pub bytes_of : List LogItem → List (List ℕ)
+bytes_of items = map (λ (i : LogItem). i.bytes) items
+
+-- a log with no group: the header and a closed gate
+abbrev pub new_log : List ℕ
+new_log = header ++ 0 ∷ []
+
+-- A device of at most nine bytes is made a new log, and made durable. A longer one is read, and made durable.
+pub record OpenedOn (h : History) (new : Option History) (end : ℕ) (found : List LogItem) : Type 0 where
+  pub made : length (content h) ≤ 9 → (end ≡ 8) × (found ≡ []) × AddsAll (Some h) new (Write 0 new_log ∷ Sync ∷ [])
+  pub read : 9 < length (content h) → IsPlacedLogAt (content h) end found × AddsAll (Some h) new (Sync ∷ [])
+
+-- from what the device told before, what it tells now, the end and the found items
+abbrev pub Opened : Option History → Option History → ℕ → List LogItem → Type 0
+Opened None new end found = new ≡ None
+Opened (Some h) new end found = OpenedOn h new end found
+
+-- a device that failed may have been made a new log, where it had at most nine bytes
+abbrev pub MayBeMade : Option History → Option History → Type 0
+MayBeMade None new = new ≡ None
+MayBeMade (Some h) new = (new ≡ Some h) ⊎ ((length (content h) ≤ 9) × (new ≡ Some (with_op h (Write 0 new_log))))
+
+-- Why a log was not opened, and what it did to the device.
+abbrev pub Refused : Option History → Option History → OpenNo → Type 0
+Refused old new (NotALog offset) = (new ≡ old) × IfSome old (λ h. (9 < length (content h)) × DiffersAt (content h) offset)
+Refused old new (Damage offset) = (new ≡ old) × IfSome old (λ h. (9 < length (content h)) × IsDamagedAt (content h) offset)
+Refused old new Device = MayBeMade old new
+Refused old new Memory = new ≡ old
+
+-- Whatever a crash leaves at any moment of the call of a device of at most nine bytes holds no item.
+abbrev pub MadeSafely : Option History → Option History → Type 0
+MadeSafely old new =
+    IfSome old (λ h. length (content h) ≤ 9 → (ops : List DevOp) × AddsAll old new ops × EachMoment (disk h) ops (λ image. IsLog image []))
+
+-- the same of a device of more than nine bytes
+abbrev pub RefusedLong : Option History → Option History → OpenNo → Type 0
+RefusedLong old new (NotALog offset) = (new ≡ old) × IfSome old (λ h. DiffersAt (content h) offset)
+RefusedLong old new (Damage offset) = (new ≡ old) × IfSome old (λ h. IsDamagedAt (content h) offset)
+RefusedLong old new Device = new ≡ old
+RefusedLong old new Memory = new ≡ old
+
+-- the cause of a call that reads no log
+abbrev pub IsNoRead : ℕ → ℕ → OpenNo → Type 0
+IsNoRead before now (NotALog offset) = ⊥
+IsNoRead before now (Damage offset) = ⊥
+IsNoRead before now Device = Rose before now
+IsNoRead before now Memory = Unit {0}

@@ -1,0 +1,16 @@
+//! The journal of one device: a list of items that grows by whole groups. A group is written behind a closed
+//! gate and made durable before the gate is opened, so a crash at any moment leaves the list from before an
+//! append or the one with the whole group.
+#![tactic(auto)]
+
+mod appends;
+mod blocks;
+mod laws;
+mod logs;
+mod opens;
+mod reads;
+mod sizes;
+
+pub use laws::{one_list, one_reading};
+pub use logs::{AppendNo, Log, LogItem};
+pub use opens::{OpenNo, damage_is_no_log, one_damage};

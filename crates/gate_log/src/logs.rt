@@ -1,0 +1,127 @@
+ghost use Rattle.std.specs.Prelude.{◌≡◌, ◌≢◌, ◌↔◌, ◌+◌, ◌≤◌, [], length, true, false, IsOk, IsErr, IsTrue, OnOk, IsErrOf};
+ghost use Rattle.snap_outside.specs.Causes.{Rose};
+ghost use Rattle.gate_log.specs.Bytes.{items_bytes};
+ghost use Rattle.gate_log.specs.Device.{MayAppend, Appended, Crashes};
+
+use crate::appends::append_group;
+use crate::blocks::block_of;
+use crate::sizes::size_of_group;
+use snap_base::Sequence;
+use snap_outside::LogDev;
+use std::alloc::Global;
+use std::marker::Model;
+
+/// Why nothing was appended, or why it is not known.
+#[derive(Clone, Copy, Debug, PartialEq, Eq)]
+pub enum AppendNo {
+    /// The device failed. The log is shut from now on: a crash leaves the list with the group or without it.
+    Device,
+    /// An earlier append met a failing device.
+    Shut,
+    /// There was no memory. No call of the device was made.
+    Memory,
+}
+
+/// An item and the offset of its bytes in the file.
+#[derive(Drop)]
+pub struct LogItem {
+    pub at: u64,
+    pub bytes: Sequence<u8>,
+}
+
+/// A log on a device.
+pub struct Log<D: LogDev> {
+    pub(crate) alloc: Global,
+    pub(crate) dev: D,
+    pub(crate) end: u64,
+    pub(crate) shut: bool,
+    pub(crate) found: Sequence<LogItem>,
+}
+
+impl<D: LogDev> Model for Log<D> {
+    ghost use Rattle.std.specs.Prelude.{◌≡◌, false};
+    ghost use Rattle.gate_log.specs.State.{LogState};
+    ghost use Rattle.gate_log.specs.Device.{IsReady};
+
+    ghost Value = { LogState };
+
+    ghost view = { λ l. record { told = D.told l.dev; end = l.end; shut = l.shut; found = l.found; faults = D.faults l.dev } };
+
+    ghost invariant = { λ l. l.shut ≡ false → IsReady (D.told l.dev) (D.told_length l.dev) l.end };
+}
+
+impl<D: LogDev> Log<D> {
+    ghost use Rattle.gate_log.specs.State.{IsUntouched};
+
+    /// Whether the items may be appended: each has 1 to 65,535 bytes, all of them together with two more bytes
+    /// each have at most 2^31, and offsets behind them fit a `u64`.
+    pub fn may_append(&self, items: &[Sequence<u8>]) -> bool
+        ensures { IsTrue result ↔ MayAppend self.now.end items.now }
+    {
+        match size_of_group(items) {
+            Some(size) => self
+                .end
+                .checked_add(size)
+                .is_some_and(|end| end < u64::MAX - 7),
+            None => false,
+        }
+    }
+
+    /// Appends the items as one group. Nothing is written for an empty list.
+    pub fn append(&mut self, alloc: Global, items: &[Sequence<u8>]) -> Result<(), AppendNo>
+        requires { MayAppend self.old.end items.now }
+
+        ensures appended { OnOk result (Appended self.old.told self.new.told self.old.end self.new.end items.now) }
+
+        // A crash at any moment of the call leaves the list from before it, or that list with all that is added.
+        ensures crashes { Crashes self.old.told self.new.told self.old.end items.now }
+
+        ensures grown { items.now ≢ [] → OnOk result (self.new.end ≡ self.old.end + 5 + length (items_bytes items.now)) }
+        ensures empty { items.now ≡ [] → IsUntouched self.old self.new × (self.old.shut ≡ false → IsOk result) }
+        ensures end_kept { IsErr result → self.new.end ≡ self.old.end }
+        ensures open { OnOk result (self.new.shut ≡ false) }
+
+        ensures device { IsErrOf result AppendNo.Device → (self.new.shut ≡ true) × Rose self.old.faults self.new.faults }
+        ensures shut { IsErrOf result AppendNo.Shut ↔ (self.old.shut ≡ true) }
+        ensures shut_kept { IsErrOf result AppendNo.Shut → IsUntouched self.old self.new }
+        ensures memory { IsErrOf result AppendNo.Memory → IsUntouched self.old self.new }
+
+        ensures faults { self.old.faults ≤ self.new.faults }
+        ensures found { self.new.found ≡ self.old.found }
+    {
+        if self.shut {
+            return Err(AppendNo::Shut);
+        }
+        if items.is_empty() {
+            return Ok(());
+        }
+        let Ok(block) = block_of(alloc, items) else {
+            return Err(AppendNo::Memory);
+        };
+        match append_group(&mut self.dev, self.end, block.as_slice()) {
+            Ok(()) => {
+                self.end += block.len() as u64;
+                Ok(())
+            }
+            Err(_) => {
+                self.shut = true;
+                Err(AppendNo::Device)
+            }
+        }
+    }
+
+    /// The device.
+    pub fn into_dev(self) -> D
+        ensures told { D.told result ≡ self.told }
+        ensures faults { D.faults result ≡ self.faults }
+    {
+        let Log {
+            alloc: _,
+            dev,
+            end: _,
+            shut: _,
+            found: _,
+        } = self;
+        dev
+    }
+}

@@ -1,0 +1,185 @@
+ghost use Rattle.std.specs.Prelude.{◌≡◌, ℕ, ◌<◌, ◌≤◌, ◌^◌, List, [], ◌∷◌, length, Some, IsSome, IfSome, IfOk, IfErr, OnOk, MatchResult, false};
+ghost use Rattle.std.specs.Option.{ForSome};
+ghost use Rattle.snap_outside.specs.Causes.{Rose, HasCause};
+ghost use Rattle.snap_outside.specs.Disk.{content, AddsAll, MayAdd};
+ghost use Rattle.snap_outside.specs.declared.devices.DevOp.TheVariants as operation;
+ghost use Rattle.gate_log.specs.Bytes.{DiffersAt, IsLogAt, IsDamagedAt, IsPlacedLogAt};
+ghost use Rattle.gate_log.specs.Device.{DeviceLog, IsReady};
+ghost use Rattle.gate_log.specs.Opened.{bytes_of, new_log, Opened, Refused, MadeSafely, RefusedLong, IsNoRead};
+
+use crate::reads::read_log;
+use crate::{Log, LogItem};
+use snap_base::{Memory, Sequence};
+use snap_outside::{Failed, LogDev};
+use std::alloc::{AllocError, Global};
+use std::mem;
+
+const NEW_LOG: [u8; 9] = *b"SNAPLOG1\0";
+
+/// Why a log was not opened. No error but `Device` comes after a write or a sync.
+#[derive(Clone, Copy, Debug, PartialEq, Eq)]
+pub enum OpenNo {
+    /// The device holds more than nine bytes that do not begin with the header: the first byte that differs.
+    NotALog { offset: u64 },
+    /// Behind the open gate at the offset there is no whole group with a gate behind it.
+    Damage { offset: u64 },
+    /// The device failed.
+    Device,
+    /// There was no memory.
+    Memory,
+}
+
+impl From<Memory> for OpenNo {
+    ghost use Rattle.std.specs.Prelude.{◌≡◌};
+    ghost use Rattle.gate_log.specs.declared.opens.OpenNo.TheVariants as no;
+
+    ghost from_gives = { λ _ e. e ≡ no.Memory };
+
+    fn from(_error: Memory) -> OpenNo {
+        OpenNo::Memory
+    }
+}
+
+impl From<Failed> for OpenNo {
+    ghost use Rattle.std.specs.Prelude.{◌≡◌};
+    ghost use Rattle.gate_log.specs.declared.opens.OpenNo.TheVariants as no;
+
+    ghost from_gives = { λ _ e. e ≡ no.Device };
+
+    fn from(_error: Failed) -> OpenNo {
+        OpenNo::Device
+    }
+}
+
+impl From<AllocError> for OpenNo {
+    ghost use Rattle.std.specs.Prelude.{◌≡◌};
+    ghost use Rattle.gate_log.specs.declared.opens.OpenNo.TheVariants as no;
+
+    ghost from_gives = { λ _ e. e ≡ no.Memory };
+
+    fn from(_error: AllocError) -> OpenNo {
+        OpenNo::Memory
+    }
+}
+
+impl<D: LogDev> Log<D> {
+    /// The log on a device. A device of at most nine bytes is made a new log, in which no item is found; a
+    /// longer one is read, and its items are found with their places. Then the device is durable.
+    pub fn open(alloc: Global, dev: D) -> Result<Log<D>, (D, OpenNo)>
+        ensures opened { IfOk result (λ log. Opened (D.told dev) log.told log.end log.found) }
+        ensures log { IfOk result (λ log. IfSome log.told (λ h. DeviceLog h log.end (bytes_of log.found))) }
+        ensures open { IfOk result (λ log. log.shut ≡ false) }
+        ensures crashes { MatchResult result (λ log. MadeSafely (D.told dev) log.told) (λ no. MadeSafely (D.told dev) (D.told no.0)) }
+        ensures end { IfOk result (λ log. log.end ≤ 2 ^ 63) }
+        ensures refused { IfErr result (λ no. Refused (D.told dev) (D.told no.0) no.1) }
+        ensures device { IfErr result (λ no. no.1 ≡ OpenNo.Device → Rose (D.faults dev) (D.faults no.0)) }
+        ensures later { MatchResult result (λ log. D.faults dev ≤ log.faults) (λ no. D.faults dev ≤ D.faults no.0) }
+    {
+        let mut dev = dev;
+        match find_log(alloc, &mut dev) {
+            Ok((end, found)) => Ok(Log {
+                alloc,
+                dev,
+                end,
+                shut: false,
+                found,
+            }),
+            Err(no) => Err((dev, no)),
+        }
+    }
+
+    /// The items that were found at opening, the first time; none from then on.
+    pub fn take_found(&mut self) -> Sequence<LogItem>
+        ensures items { result ≡ self.old.found }
+        ensures others { self.new ≡ record self.old { found = [] } }
+    {
+        mem::replace(&mut self.found, Sequence::new(self.alloc))
+    }
+}
+
+/// Finds the log on the device, or makes it one.
+fn find_log<D: LogDev>(alloc: Global, dev: &mut D) -> Result<(u64, Sequence<LogItem>), OpenNo>
+    ensures opened { IfOk result (λ log. Opened (D.told dev.old) (D.told dev.new) log.0 log.1) }
+    ensures log { IfOk result (λ log. IfSome (D.told dev.new) (λ h. DeviceLog h log.0 (bytes_of log.1))) }
+    ensures ready { IfOk result (λ log. IsReady (D.told dev.new) (D.told_length dev.new) log.0) }
+    ensures end { IfOk result (λ log. log.0 ≤ 2 ^ 63) }
+    ensures refused { IfErr result (Refused (D.told dev.old) (D.told dev.new)) }
+    ensures device { IfErr result (λ no. no ≡ OpenNo.Device → Rose (D.faults dev.old) (D.faults dev.new)) }
+    ensures later { D.faults dev.old ≤ D.faults dev.new }
+{
+    let len = dev.len()?;
+    if len <= 9 {
+        make_log(dev)?;
+        return Ok((8, Sequence::new(alloc)));
+    }
+    read_device(alloc, dev, len)
+}
+
+/// Makes a short device a new log.
+fn make_log<D: LogDev>(dev: &mut D) -> Result<(), Failed>
+    requires { IsSome (D.told_length dev.old) }
+    ensures told { MatchResult result
+        (λ _. AddsAll (D.told dev.old) (D.told dev.new) (operation.Write 0 new_log ∷ operation.Sync ∷ []))
+        (λ _. MayAdd (D.told dev.old) (D.told dev.new) (operation.Write 0 new_log)) }
+    ensures known { OnOk result (IsSome (D.told_length dev.new)) }
+    ensures within { OnOk result (ForSome (D.told_length dev.new) (λ len. 8 < len)) }
+    ensures cause { HasCause (D.faults dev.old) (D.faults dev.new) result }
+{
+    dev.write_at(0, &NEW_LOG)?;
+    dev.sync()
+}
+
+/// The log that a longer device holds, which is then durable.
+fn read_device<D: LogDev>(
+    alloc: Global,
+    dev: &mut D,
+    len: u64,
+) -> Result<(u64, Sequence<LogItem>), OpenNo>
+    requires known { D.told_length dev.old ≡ Some len }
+    requires long { 9 < len }
+    ensures read { IfOk result (λ log. IfSome (D.told dev.old) (λ h. IsPlacedLogAt (content h) log.0 log.1)) }
+    ensures within { IfOk result (λ log. (log.0 < len) × (log.0 < 2 ^ 63)) }
+    ensures synced { OnOk result (AddsAll (D.told dev.old) (D.told dev.new) (operation.Sync ∷ [])) }
+    ensures refused { IfErr result (RefusedLong (D.told dev.old) (D.told dev.new)) }
+    ensures same { D.told_length dev.new ≡ D.told_length dev.old }
+    ensures device { IfErr result (λ no. no ≡ OpenNo.Device → Rose (D.faults dev.old) (D.faults dev.new)) }
+    ensures later { D.faults dev.old ≤ D.faults dev.new }
+{
+    let bytes = read_all(alloc, dev, len)?;
+    let log = read_log(alloc, &bytes)?;
+    dev.sync()?;
+    Ok(log)
+}
+
+/// All bytes of the device.
+fn read_all<D: LogDev>(alloc: Global, dev: &mut D, len: u64) -> Result<Vec<u8>, OpenNo>
+    requires { D.told_length dev.old ≡ Some len }
+    ensures bytes { IfOk result (λ bytes. IfSome (D.told dev.old) (λ h. bytes.items ≡ content h)) }
+    ensures count { IfOk result (λ bytes. length bytes.items ≡ len) }
+    ensures history { D.told dev.new ≡ D.told dev.old }
+    ensures same { D.told_length dev.new ≡ D.told_length dev.old }
+    ensures cause { IfErr result (IsNoRead (D.faults dev.old) (D.faults dev.new)) }
+    ensures later { D.faults dev.old ≤ D.faults dev.new }
+{
+    let mut bytes = vec![in alloc; 0u8; len as usize]?;
+    dev.read_at(0, &mut bytes)?;
+    Ok(bytes)
+}
+
+/// Damaged bytes are no log.
+pub fn damage_is_no_log()
+    ensures { (bytes : List ℕ) (offset end : ℕ) (items : List (List ℕ)) → IsDamagedAt bytes offset → IsLogAt bytes end items → ⊥ }
+{}
+
+/// Bytes are damaged at one gate alone.
+pub fn one_damage()
+    ensures { (bytes : List ℕ) (offset other : ℕ) → IsDamagedAt bytes offset → IsDamagedAt bytes other → offset ≡ other }
+{}
+
+/// Bytes that do not begin with the header are no log and are not damaged, and one byte is the first that
+/// differs.
+pub fn one_difference()
+    ensures no_log { (bytes : List ℕ) (offset end : ℕ) (items : List (List ℕ)) → DiffersAt bytes offset → IsLogAt bytes end items → ⊥ }
+    ensures no_damage { (bytes : List ℕ) (offset gate : ℕ) → DiffersAt bytes offset → IsDamagedAt bytes gate → ⊥ }
+    ensures once { (bytes : List ℕ) (offset other : ℕ) → DiffersAt bytes offset → DiffersAt bytes other → offset ≡ other }
+{}
