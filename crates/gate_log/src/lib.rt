@@ -13,4 +13,4 @@ mod sizes;
 
 pub use laws::{one_list, one_reading};
 pub use logs::{AppendNo, Log, LogItem};
-pub use opens::{OpenNo, damage_is_no_log, one_damage};
+pub use opens::{OpenNo, damage_is_no_log, one_damage, one_difference};
