@@ -45,7 +45,8 @@ pub trait LogDev {
 
     /// Writes the bytes at `at`, over what is there or past the end. A write that fails may have happened.
     fn write_at(&mut self, at: u64, bytes: &[u8]) -> Result<(), Failed>
-        requires { ForSome (told_length self.old) (λ len. at ≤ len) }
+        requires told { IsSome (told_length self.old) }
+        requires within { ForSome (told_length self.old) (λ len. at ≤ len) }
         ensures length { OnOk result (IfSome (told_length self.old) (λ len. told_length self.new ≡ Some (max len (at + length bytes.now)))) }
         ensures kept { IsSome (told_length self.new) }
         ensures history { MatchResult result

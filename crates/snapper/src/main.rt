@@ -3,11 +3,10 @@
 #![tactic(auto)]
 
 mod arguments;
-mod streams;
 
 use crate::arguments::arguments;
-use crate::streams::{ReadSource, WriteSink};
 use snap_base::Memory;
+use snap_files::{StdinSource, StdoutSink};
 use snap_outside::{MemLog, NullSink};
 use snap_report::{Status, status_line};
 use snap_run::run;
@@ -29,8 +28,8 @@ fn run_on_streams<R: Env + Input + Print + AllocGlobal>(rt: &R) -> Result<Status
     let alloc = rt.alloc();
     let words = arguments(rt)?;
     let logs = vec![in alloc; log(alloc)?, log(alloc)?, log(alloc)?, log(alloc)?]?;
-    let mut input = ReadSource::new(rt.reader());
-    let out = WriteSink::new(std::io::writer(rt));
+    let mut input = StdinSource::new(rt);
+    let out = StdoutSink::new(rt);
     Ok(
         run(
             alloc,
