@@ -1,0 +1,171 @@
+-- The fields of a record, one behind the other: a stop at any of them is a stop of the record.
+use Rattle.std.proofs.Common.{◌≡◌, ℕ, ◌^◌, List, [], ◌++◌, pos, refl, sym, ◌∙◌, arith, FitsSigned}
+use Rattle.std.specs.Int.{w16, w64, to_be_bytes}
+use Rattle.snap_base.specs.declared.ids.ActorId.{ActorId}
+use Rattle.snap_base.specs.declared.ids.Tid.{Tid}
+use Rattle.snap_base.specs.declared.transactions.State.{State}
+use Rattle.txn_records.specs.declared.numbers.Stop.{Stop}
+use Rattle.txn_records.specs.Records.{IsState, state_bytes, states_bytes, actors_bytes, tids_bytes}
+use Rattle.txn_records.specs.Stops.{Fails, Any, Nil, Seq}
+use Rattle.txn_records.specs.Numbers.{Between}
+use Rattle.txn_records.specs.Texts.{one_byte, AreStates, AreActors, AreTids, Count, Number, Actor, GenesisTexts, InfoTexts, CompleteTexts, CommitTexts}
+use Rattle.txn_records.proofs.OneRecord.{SpelledApart, apart_through, apart16, apart64, Below, lists_apart, actors_apart, tids_apart, states_apart, actor_bytes, tid_bytes, IsActor, IsTid, are_actors, are_tids}
+use Rattle.txn_records.proofs.Digits.{bytes_apart}
+use Rattle.txn_records.proofs.Lists.{copies, are_copies, row, row_rises, fails_first, fails_after}
+
+-- ---- no spelling of a field begins another
+
+number_apart : SpelledApart (Between 0 18446744073709551615) (to_be_bytes w64)
+number_apart = apart_through (Between 0 18446744073709551615) (Below (2 ^ 64)) (λ (n : ℕ). n) (to_be_bytes w64) (λ a p. omega (arith, p)) (λ a b p q e. e) apart64
+
+actor_apart : SpelledApart (Between 0 65535) (to_be_bytes w16)
+actor_apart = apart_through (Between 0 65535) (Below (2 ^ 16)) (λ (n : ℕ). n) (to_be_bytes w16) (λ a p. omega (arith, p)) (λ a b p q e. e) apart16
+
+count_apart : SpelledApart (Between 1 256) (to_be_bytes w16)
+count_apart = apart_through (Between 1 256) (Below (2 ^ 16)) (λ (n : ℕ). n) (to_be_bytes w16) (λ a p. omega (arith, p)) (λ a b p q e. e) apart16
+
+so_many_states : (n : ℕ) → SpelledApart (AreStates n) states_bytes
+so_many_states n = record { apart = λ a b x y p q e. lists_apart IsState state_bytes states_apart a b x y p.1 q.1 (p.0 ∙ sym q.0) e }
+
+so_many_actors : (n : ℕ) → SpelledApart (AreActors n) actors_bytes
+so_many_actors n = record { apart = λ a b x y p q e. lists_apart IsActor actor_bytes actors_apart a b x y (are_actors 0 a p.1) (are_actors 0 b q.1) (p.0 ∙ sym q.0) e }
+
+so_many_tids : (n : ℕ) → SpelledApart (AreTids n) tids_bytes
+so_many_tids n = record { apart = λ a b x y p q e. lists_apart IsTid tid_bytes tids_apart a b x y (are_tids 0 a p.1) (are_tids 0 b q.1) (p.0 ∙ sym q.0) e }
+
+-- ---- there is some text of each language
+
+abbrev pub Some : (List ℕ → Type 0) → Type 0
+Some F = (f : List ℕ) × F f
+
+nil_some : Some Nil
+nil_some = ([], refl)
+
+seq_some : {X : Type 0} (Is : X → Type 0) (spell : X → List ℕ) (G : X → List ℕ → Type 0) (x : X) → Is x → Some (G x) → Some (Seq Is spell G)
+seq_some Is spell G x p s = (spell x ++ s.0, (x, s.0, p, s.1, refl))
+
+abbrev pub InfoTids : ℕ → List ℕ → Type 0
+InfoTids n = Seq (AreTids n) tids_bytes (λ xs. Nil)
+
+abbrev pub InfoActors : ℕ → List ℕ → Type 0
+InfoActors n = Seq (AreActors n) actors_bytes (λ xs. Count InfoTids)
+
+abbrev pub GenesisStates : ℕ → List ℕ → Type 0
+GenesisStates n = Seq (AreStates n) states_bytes (λ xs. Nil)
+
+abbrev pub CompleteState : ℕ → List ℕ → Type 0
+CompleteState n = Seq IsState state_bytes (λ s. Nil)
+
+some_state : (s : State) × IsState s
+some_state =
+    let r = are_copies (FitsSigned w64) (pos 0) (omega arith) 16 in
+    let s : State = record { 0 = copies (pos 0) 16 } in
+    (s, record { len = r.0; fields = r.1 })
+
+tids_some : (n : ℕ) → Between 1 256 n → Some (InfoTids n)
+tids_some n p =
+    let make : ℕ → Tid = λ m. let t : Tid = record { 0 = m } in t in
+    seq_some (AreTids n) tids_bytes (λ xs. Nil) (row make 0 n) (row_rises (λ (t : Tid). t.0) make (λ m. refl) 0 (2 ^ 64) n (omega (arith, p))) nil_some
+
+count_tids_some : Some (Count InfoTids)
+count_tids_some = seq_some (Between 1 256) (to_be_bytes w16) InfoTids 1 (omega arith, omega arith) (tids_some 1 (omega arith, omega arith))
+
+actors_some : (n : ℕ) → Between 1 256 n → Some (InfoActors n)
+actors_some n p =
+    let make : ℕ → ActorId = λ m. let t : ActorId = record { 0 = m } in t in
+    seq_some (AreActors n) actors_bytes (λ xs. Count InfoTids) (row make 0 n) (row_rises (λ (t : ActorId). t.0) make (λ m. refl) 0 (2 ^ 16) n (omega (arith, p))) count_tids_some
+
+count_actors_some : Some (Count InfoActors)
+count_actors_some = seq_some (Between 1 256) (to_be_bytes w16) InfoActors 1 (omega arith, omega arith) (actors_some 1 (omega arith, omega arith))
+
+states_some : (n : ℕ) → Some (GenesisStates n)
+states_some n = seq_some (AreStates n) states_bytes (λ xs. Nil) (copies some_state.0 n) (are_copies IsState some_state.0 some_state.1 n) nil_some
+
+count_states_some : Some (Count GenesisStates)
+count_states_some = seq_some (Between 1 256) (to_be_bytes w16) GenesisStates 1 (omega arith, omega arith) (states_some 1)
+
+state_some : (n : ℕ) → Some (CompleteState n)
+state_some n = seq_some IsState state_bytes (λ s. Nil) some_state.0 some_state.1 nil_some
+
+actor_some : Some (Actor CompleteState)
+actor_some = seq_some (Between 0 65535) (to_be_bytes w16) CompleteState 0 (omega arith, omega arith) (state_some 0)
+
+-- ---- BatchCommit
+
+pub commit_bid : (bytes : List ℕ) (stop : Stop) → Fails (Number (λ n. Any)) bytes stop → Fails CommitTexts bytes stop
+commit_bid bytes stop s = fails_first (Between 0 18446744073709551615) (to_be_bytes w64) (λ n. Nil) bytes stop (λ n p. nil_some) s
+
+pub commit_end : (n : ℕ) (bytes rest : List ℕ) (stop : Stop) → Between 0 18446744073709551615 n × (bytes ≡ to_be_bytes w64 n ++ rest) → Fails Nil rest stop → Fails CommitTexts bytes stop
+commit_end n bytes rest stop p s = fails_after (Between 0 18446744073709551615) (to_be_bytes w64) (λ n. Nil) number_apart n bytes rest stop p.0 p.1 s
+
+-- ---- BatchComplete
+
+pub complete_bid : (bytes : List ℕ) (stop : Stop) → Fails (Number (λ n. Any)) bytes stop → Fails CompleteTexts bytes stop
+complete_bid bytes stop s = fails_first (Between 0 18446744073709551615) (to_be_bytes w64) (λ n. Actor CompleteState) bytes stop (λ n p. actor_some) s
+
+pub behind_complete_bid : (n : ℕ) (bytes rest : List ℕ) (stop : Stop) → Between 0 18446744073709551615 n × (bytes ≡ to_be_bytes w64 n ++ rest) → Fails (Actor CompleteState) rest stop → Fails CompleteTexts bytes stop
+behind_complete_bid n bytes rest stop p s = fails_after (Between 0 18446744073709551615) (to_be_bytes w64) (λ n. Actor CompleteState) number_apart n bytes rest stop p.0 p.1 s
+
+pub complete_actor : (bytes : List ℕ) (stop : Stop) → Fails (Actor (λ n. Any)) bytes stop → Fails (Actor CompleteState) bytes stop
+complete_actor bytes stop s = fails_first (Between 0 65535) (to_be_bytes w16) CompleteState bytes stop (λ n p. state_some n) s
+
+pub behind_complete_actor : (n : ℕ) (bytes rest : List ℕ) (stop : Stop) → Between 0 65535 n × (bytes ≡ to_be_bytes w16 n ++ rest) → Fails (CompleteState n) rest stop → Fails (Actor CompleteState) bytes stop
+behind_complete_actor n bytes rest stop p s = fails_after (Between 0 65535) (to_be_bytes w16) CompleteState actor_apart n bytes rest stop p.0 p.1 s
+
+pub complete_state : (n : ℕ) (bytes : List ℕ) (stop : Stop) → Fails (Seq IsState state_bytes (λ s. Any)) bytes stop → Fails (CompleteState n) bytes stop
+complete_state n bytes stop s = fails_first IsState state_bytes (λ s. Nil) bytes stop (λ s p. nil_some) s
+
+pub complete_end : (n : ℕ) (state : State) (bytes rest : List ℕ) (stop : Stop) → IsState state × (bytes ≡ state_bytes state ++ rest) → Fails Nil rest stop → Fails (CompleteState n) bytes stop
+complete_end n state bytes rest stop p s = fails_after IsState state_bytes (λ s. Nil) states_apart state bytes rest stop p.0 p.1 s
+
+-- ---- BatchInfo
+
+pub info_bid : (bytes : List ℕ) (stop : Stop) → Fails (Number (λ n. Any)) bytes stop → Fails InfoTexts bytes stop
+info_bid bytes stop s = fails_first (Between 0 18446744073709551615) (to_be_bytes w64) (λ n. Count InfoActors) bytes stop (λ n p. count_actors_some) s
+
+pub behind_info_bid : (n : ℕ) (bytes rest : List ℕ) (stop : Stop) → Between 0 18446744073709551615 n × (bytes ≡ to_be_bytes w64 n ++ rest) → Fails (Count InfoActors) rest stop → Fails InfoTexts bytes stop
+behind_info_bid n bytes rest stop p s = fails_after (Between 0 18446744073709551615) (to_be_bytes w64) (λ n. Count InfoActors) number_apart n bytes rest stop p.0 p.1 s
+
+pub info_count : (bytes : List ℕ) (stop : Stop) → Fails (Count (λ n. Any)) bytes stop → Fails (Count InfoActors) bytes stop
+info_count bytes stop s = fails_first (Between 1 256) (to_be_bytes w16) InfoActors bytes stop actors_some s
+
+pub behind_info_count : (n : ℕ) (bytes rest : List ℕ) (stop : Stop) → Between 1 256 n × (bytes ≡ to_be_bytes w16 n ++ rest) → Fails (InfoActors n) rest stop → Fails (Count InfoActors) bytes stop
+behind_info_count n bytes rest stop p s = fails_after (Between 1 256) (to_be_bytes w16) InfoActors count_apart n bytes rest stop p.0 p.1 s
+
+pub info_actors : (n : ℕ) (bytes : List ℕ) (stop : Stop) → Fails (Seq (AreActors n) actors_bytes (λ xs. Any)) bytes stop → Fails (InfoActors n) bytes stop
+info_actors n bytes stop s = fails_first (AreActors n) actors_bytes (λ xs. Count InfoTids) bytes stop (λ xs p. count_tids_some) s
+
+pub behind_info_actors : (n : ℕ) (xs : List ActorId) (bytes rest : List ℕ) (stop : Stop) → AreActors n xs × (bytes ≡ actors_bytes xs ++ rest) → Fails (Count InfoTids) rest stop → Fails (InfoActors n) bytes stop
+behind_info_actors n xs bytes rest stop p s = fails_after (AreActors n) actors_bytes (λ xs. Count InfoTids) (so_many_actors n) xs bytes rest stop p.0 p.1 s
+
+pub info_count_2 : (bytes : List ℕ) (stop : Stop) → Fails (Count (λ n. Any)) bytes stop → Fails (Count InfoTids) bytes stop
+info_count_2 bytes stop s = fails_first (Between 1 256) (to_be_bytes w16) InfoTids bytes stop tids_some s
+
+pub behind_info_count_2 : (n : ℕ) (bytes rest : List ℕ) (stop : Stop) → Between 1 256 n × (bytes ≡ to_be_bytes w16 n ++ rest) → Fails (InfoTids n) rest stop → Fails (Count InfoTids) bytes stop
+behind_info_count_2 n bytes rest stop p s = fails_after (Between 1 256) (to_be_bytes w16) InfoTids count_apart n bytes rest stop p.0 p.1 s
+
+pub info_tids : (n : ℕ) (bytes : List ℕ) (stop : Stop) → Fails (Seq (AreTids n) tids_bytes (λ xs. Any)) bytes stop → Fails (InfoTids n) bytes stop
+info_tids n bytes stop s = fails_first (AreTids n) tids_bytes (λ xs. Nil) bytes stop (λ xs p. nil_some) s
+
+pub info_end : (n : ℕ) (xs : List Tid) (bytes rest : List ℕ) (stop : Stop) → AreTids n xs × (bytes ≡ tids_bytes xs ++ rest) → Fails Nil rest stop → Fails (InfoTids n) bytes stop
+info_end n xs bytes rest stop p s = fails_after (AreTids n) tids_bytes (λ xs. Nil) (so_many_tids n) xs bytes rest stop p.0 p.1 s
+
+-- ---- Genesis
+
+pub genesis_logs : (bytes : List ℕ) (stop : Stop) → Fails (Seq (Between 1 4) one_byte (λ n. Any)) bytes stop → Fails GenesisTexts bytes stop
+genesis_logs bytes stop s = fails_first (Between 1 4) one_byte (λ n. Count GenesisStates) bytes stop (λ n p. count_states_some) s
+
+pub behind_genesis_logs : (n : ℕ) (bytes rest : List ℕ) (stop : Stop) → Between 1 4 n × (bytes ≡ one_byte n ++ rest) → Fails (Count GenesisStates) rest stop → Fails GenesisTexts bytes stop
+behind_genesis_logs n bytes rest stop p s = fails_after (Between 1 4) one_byte (λ n. Count GenesisStates) (bytes_apart (Between 1 4)) n bytes rest stop p.0 p.1 s
+
+pub genesis_count : (bytes : List ℕ) (stop : Stop) → Fails (Count (λ n. Any)) bytes stop → Fails (Count GenesisStates) bytes stop
+genesis_count bytes stop s = fails_first (Between 1 256) (to_be_bytes w16) GenesisStates bytes stop (λ n p. states_some n) s
+
+pub behind_genesis_count : (n : ℕ) (bytes rest : List ℕ) (stop : Stop) → Between 1 256 n × (bytes ≡ to_be_bytes w16 n ++ rest) → Fails (GenesisStates n) rest stop → Fails (Count GenesisStates) bytes stop
+behind_genesis_count n bytes rest stop p s = fails_after (Between 1 256) (to_be_bytes w16) GenesisStates count_apart n bytes rest stop p.0 p.1 s
+
+pub genesis_states : (n : ℕ) (bytes : List ℕ) (stop : Stop) → Fails (Seq (AreStates n) states_bytes (λ xs. Any)) bytes stop → Fails (GenesisStates n) bytes stop
+genesis_states n bytes stop s = fails_first (AreStates n) states_bytes (λ xs. Nil) bytes stop (λ xs p. nil_some) s
+
+pub genesis_end : (n : ℕ) (xs : List State) (bytes rest : List ℕ) (stop : Stop) → AreStates n xs × (bytes ≡ states_bytes xs ++ rest) → Fails Nil rest stop → Fails (GenesisStates n) bytes stop
+genesis_end n xs bytes rest stop p s = fails_after (AreStates n) states_bytes (λ xs. Nil) (so_many_states n) xs bytes rest stop p.0 p.1 s

@@ -1,0 +1,10 @@
+pub mod Chains
+pub mod Digits
+pub mod FirstBad
+pub mod Lists
+pub mod OneRecord
+pub mod Parts
+pub mod SoFar
+pub mod Stopping
+pub mod Tags
+pub mod Walks

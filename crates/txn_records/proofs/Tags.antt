@@ -1,0 +1,158 @@
+-- The tag chooses the fields, and where they stop the record does.
+use Rattle.std.proofs.Common.{◌≡◌, ◌≢◌, ℕ, ◌≤◌, List, [], ◌∷◌, ◌++◌, length, take, get_or, refl, sym, ap, subst, ◌∙◌, arith, Result, Ok, Err, MatchResult}
+use Rattle.std.specs.Int.{w16, w64, to_be_bytes}
+use Rattle.std.proofs.lemmas.List.{append-nil}
+use Rattle.snap_base.specs.declared.ids.ActorId.{ActorId}
+use Rattle.snap_base.specs.declared.ids.Bid.{Bid}
+use Rattle.txn_records.specs.declared.records.Record.{Record}
+use Rattle.txn_records.specs.declared.records.Record.TheVariants.{Genesis, BatchInfo, BatchComplete, BatchCommit}
+use Rattle.txn_records.specs.declared.numbers.Stop.{Stop}
+use Rattle.txn_records.specs.declared.numbers.Stop.TheVariants.{Left, Memory}
+use Rattle.txn_records.specs.Records.{IsRecord, record_bytes, states_bytes, actors_bytes, tids_bytes, state_bytes}
+use Rattle.txn_records.specs.Stops.{Stops, Fails}
+use Rattle.txn_records.specs.Texts.{GenesisTexts, InfoTexts, CompleteTexts, CommitTexts, RecordTexts}
+use Rattle.txn_records.proofs.OneRecord.{other_tag, other_tag_down}
+use Rattle.txn_records.proofs.Stopping.{stops_here}
+use Rattle.txn_records.proofs.Chains.{Some}
+
+tag_stops : (T : List ℕ → Type 0) (t : ℕ) (rest : List ℕ) (left : ℕ) → ((f : List ℕ) → T f → RecordTexts (t ∷ f)) → ((f : List ℕ) → RecordTexts (t ∷ f) → T f) → Stops T rest left → Stops RecordTexts (t ∷ rest) left
+tag_stops T t rest left there back s = record {
+  front = t ∷ s.front;
+  behind = s.behind;
+  parts = ap (λ (z : List ℕ). t ∷ z) s.parts;
+  left_is = s.left_is;
+  goes = (t ∷ s.goes.0, s.goes.1, there s.goes.0 s.goes.2, ap (λ (z : List ℕ). t ∷ z) s.goes.3);
+  stops = λ f y p e. s.stops (s.front ++ (take 1 s.behind ++ y)) y (back (s.front ++ (take 1 s.behind ++ y)) (subst RecordTexts e p)) refl;
+}
+
+abbrev pub IsRead : List ℕ → Result Record Stop → Type 0
+IsRead bytes r = MatchResult r (λ x. IsRecord x × (bytes ≡ record_bytes x)) (Fails RecordTexts bytes)
+
+abbrev pub IsReadBehind : ℕ → (List ℕ → Type 0) → List ℕ → Result Record Stop → Type 0
+IsReadBehind t T rest r = MatchResult r (λ x. IsRecord x × (t ∷ rest ≡ record_bytes x)) (Fails T rest)
+
+tag_read : (T : List ℕ → Type 0) (t : ℕ) (rest : List ℕ) (r : Result Record Stop) → ((f : List ℕ) → T f → RecordTexts (t ∷ f)) → ((f : List ℕ) → RecordTexts (t ∷ f) → T f) → IsReadBehind t T rest r → IsRead (t ∷ rest) r
+tag_read T t rest (Ok x) there back s = s
+tag_read T t rest (Err (Left left)) there back s = tag_stops T t rest left there back s
+tag_read T t rest (Err Memory) there back s = tt
+
+pub tagged : (T : List ℕ → Type 0) (t b : ℕ) (bytes rest : List ℕ) (r : Result Record Stop) → ((f : List ℕ) → T f → RecordTexts (t ∷ f)) → ((f : List ℕ) → RecordTexts (t ∷ f) → T f) → bytes ≡ b ∷ rest → b ≡ t → IsReadBehind t T rest r → IsRead bytes r
+tagged T t b bytes rest r there back e same s = subst (λ (z : List ℕ). IsRead z r) (sym (e ∙ ap (λ (z : ℕ). z ∷ rest) same)) (tag_read T t rest r there back s)
+
+tail_of : (t : ℕ) (f g : List ℕ) → t ∷ f ≡ t ∷ g → f ≡ g
+tail_of t f g e = cc
+
+-- ---- the fields of a kind are the records with its tag
+
+pub genesis_in : (f : List ℕ) → GenesisTexts f → RecordTexts (1 ∷ f)
+genesis_in f (l, g, p, (n, h, q, (xs, k, r, nil, e3), e2), e1) =
+    let whole : h ≡ states_bytes xs = e3 ∙ ap (λ (z : List ℕ). states_bytes xs ++ z) nil ∙ append-nil (states_bytes xs) in
+    let counted : g ≡ to_be_bytes w16 (length xs) ++ states_bytes xs = e2 ∙ ap (λ (z : List ℕ). to_be_bytes w16 n ++ z) whole ∙ ap (λ (z : ℕ). to_be_bytes w16 z ++ states_bytes xs) (sym r.0) in (
+      Genesis l xs,
+      record { some_logs = p.0; few_logs = p.1; some = omega (arith, q, r.0); few = omega (arith, q, r.0); each = r.1 },
+      ap (λ (z : List ℕ). 1 ∷ z) (e1 ∙ ap (λ (z : List ℕ). l ∷ z) counted),
+    )
+
+pub genesis_out : (f : List ℕ) → RecordTexts (1 ∷ f) → GenesisTexts f
+genesis_out f (Genesis l xs, p, e) =
+    let tail : f ≡ l ∷ (to_be_bytes w16 (length xs) ++ states_bytes xs) = tail_of 1 f (l ∷ (to_be_bytes w16 (length xs) ++ states_bytes xs)) e in
+    (l, to_be_bytes w16 (length xs) ++ states_bytes xs, (p.some_logs, p.few_logs), (length xs, states_bytes xs, (p.some, p.few), (xs, [], (refl, p.each), refl, sym (append-nil (states_bytes xs))), refl), tail)
+genesis_out f (BatchInfo a xs ts, p, e) = other_tag 1 2 _ _ (omega arith) e
+genesis_out f (BatchComplete a m x, p, e) = other_tag 1 3 _ _ (omega arith) e
+genesis_out f (BatchCommit a, p, e) = other_tag 1 4 _ _ (omega arith) e
+
+pub info_in : (f : List ℕ) → InfoTexts f → RecordTexts (2 ∷ f)
+info_in f (b, g, p, (n, h, q, (xs, k, r, (m, i, v, (ts, j, w, nil, e5), e4), e3), e2), e1) =
+    let bid : Bid = record { 0 = b } in
+    let tids : i ≡ tids_bytes ts = e5 ∙ ap (λ (z : List ℕ). tids_bytes ts ++ z) nil ∙ append-nil (tids_bytes ts) in
+    let tail : k ≡ to_be_bytes w16 (length ts) ++ tids_bytes ts = e4 ∙ ap (λ (z : List ℕ). to_be_bytes w16 m ++ z) tids ∙ ap (λ (z : ℕ). to_be_bytes w16 z ++ tids_bytes ts) (sym w.0) in
+    let actors : h ≡ actors_bytes xs ++ (to_be_bytes w16 (length ts) ++ tids_bytes ts) = e3 ∙ ap (λ (z : List ℕ). actors_bytes xs ++ z) tail in
+    let counted : g ≡ to_be_bytes w16 (length xs) ++ (actors_bytes xs ++ (to_be_bytes w16 (length ts) ++ tids_bytes ts)) =
+    e2 ∙ ap (λ (z : List ℕ). to_be_bytes w16 n ++ z) actors ∙ ap (λ (z : ℕ). to_be_bytes w16 z ++ (actors_bytes xs ++ (to_be_bytes w16 (length ts) ++ tids_bytes ts))) (sym r.0) in (
+      BatchInfo bid xs ts,
+      record { bid_fits = omega (arith, p); some_actors = omega (arith, q, r.0); few_actors = omega (arith, q, r.0); actors_ascend = r.1; some_tids = omega (arith, v, w.0); few_tids = omega (arith, v, w.0); tids_ascend = w.1 },
+      ap (λ (z : List ℕ). 2 ∷ z) (e1 ∙ ap (λ (z : List ℕ). to_be_bytes w64 b ++ z) counted),
+    )
+
+pub info_out : (f : List ℕ) → RecordTexts (2 ∷ f) → InfoTexts f
+info_out f (Genesis l xs, p, e) = other_tag_down 2 1 _ _ (omega arith) e
+info_out f (BatchInfo b xs ts, p, e) =
+    let xt : List ℕ = to_be_bytes w16 (length ts) ++ tids_bytes ts in
+    let xa : List ℕ = to_be_bytes w16 (length xs) ++ (actors_bytes xs ++ xt) in
+    let tail : f ≡ to_be_bytes w64 b.0 ++ xa = tail_of 2 f (to_be_bytes w64 b.0 ++ xa) e in (
+      b.0,
+      xa,
+      (omega arith, omega (arith, p.bid_fits)),
+      (
+        length xs,
+        actors_bytes xs ++ xt,
+        (p.some_actors, p.few_actors),
+        (xs, xt, (refl, p.actors_ascend), (length ts, tids_bytes ts, (p.some_tids, p.few_tids), (ts, [], (refl, p.tids_ascend), refl, sym (append-nil (tids_bytes ts))), refl), refl),
+        refl,
+      ),
+      tail,
+    )
+info_out f (BatchComplete a m x, p, e) = other_tag 2 3 _ _ (omega arith) e
+info_out f (BatchCommit a, p, e) = other_tag 2 4 _ _ (omega arith) e
+
+pub complete_in : (f : List ℕ) → CompleteTexts f → RecordTexts (3 ∷ f)
+complete_in f (b, g, p, (a, h, q, (s, k, r, nil, e3), e2), e1) =
+    let bid : Bid = record { 0 = b } in
+    let actor : ActorId = record { 0 = a } in
+    let state : h ≡ state_bytes s = e3 ∙ ap (λ (z : List ℕ). state_bytes s ++ z) nil ∙ append-nil (state_bytes s) in (
+      BatchComplete bid actor s,
+      record { bid_fits = omega (arith, p); actor_fits = omega (arith, q); is_state = r },
+      ap (λ (z : List ℕ). 3 ∷ z) (e1 ∙ ap (λ (z : List ℕ). to_be_bytes w64 b ++ z) (e2 ∙ ap (λ (z : List ℕ). to_be_bytes w16 a ++ z) state)),
+    )
+
+pub complete_out : (f : List ℕ) → RecordTexts (3 ∷ f) → CompleteTexts f
+complete_out f (Genesis l xs, p, e) = other_tag_down 3 1 _ _ (omega arith) e
+complete_out f (BatchInfo a xs ts, p, e) = other_tag_down 3 2 _ _ (omega arith) e
+complete_out f (BatchComplete b a s, p, e) = (
+  b.0,
+  to_be_bytes w16 a.0 ++ state_bytes s,
+  (omega arith, omega (arith, p.bid_fits)),
+  (a.0, state_bytes s, (omega arith, omega (arith, p.actor_fits)), (s, [], p.is_state, refl, sym (append-nil (state_bytes s))), refl),
+  tail_of 3 f (to_be_bytes w64 b.0 ++ (to_be_bytes w16 a.0 ++ state_bytes s)) e,
+)
+complete_out f (BatchCommit a, p, e) = other_tag 3 4 _ _ (omega arith) e
+
+pub commit_in : (f : List ℕ) → CommitTexts f → RecordTexts (4 ∷ f)
+commit_in f (b, g, p, nil, e) =
+    let bid : Bid = record { 0 = b } in
+    (BatchCommit bid, record { bid_fits = omega (arith, p) }, ap (λ (z : List ℕ). 4 ∷ z) (e ∙ ap (λ (z : List ℕ). to_be_bytes w64 b ++ z) nil ∙ append-nil (to_be_bytes w64 b)))
+
+pub commit_out : (f : List ℕ) → RecordTexts (4 ∷ f) → CommitTexts f
+commit_out f (Genesis l xs, p, e) = other_tag_down 4 1 _ _ (omega arith) e
+commit_out f (BatchInfo a xs ts, p, e) = other_tag_down 4 2 _ _ (omega arith) e
+commit_out f (BatchComplete a m x, p, e) = other_tag_down 4 3 _ _ (omega arith) e
+commit_out f (BatchCommit b, p, e) = (b.0, [], (omega arith, omega (arith, p.bid_fits)), refl, tail_of 4 f (to_be_bytes w64 b.0) e ∙ sym (append-nil (to_be_bytes w64 b.0)))
+
+-- ---- no tag
+
+some_record : Some RecordTexts
+some_record = let b : Bid = record { 0 = 0 } in (record_bytes (BatchCommit b), (BatchCommit b, record { bid_fits = omega arith }, refl))
+
+abbrev IsTag : ℕ → Type 0
+IsTag t = (1 ≤ t) × (t ≤ 4)
+
+tag_of : (r : Record) (c : ℕ) (y : List ℕ) → record_bytes r ≡ c ∷ y → IsTag c
+tag_of (Genesis l xs) c y e = let h = ap (λ (z : List ℕ). get_or z 0 0) e in (omega (arith, h), omega (arith, h))
+tag_of (BatchInfo a xs ts) c y e = let h = ap (λ (z : List ℕ). get_or z 0 0) e in (omega (arith, h), omega (arith, h))
+tag_of (BatchComplete a m x) c y e = let h = ap (λ (z : List ℕ). get_or z 0 0) e in (omega (arith, h), omega (arith, h))
+tag_of (BatchCommit a) c y e = let h = ap (λ (z : List ℕ). get_or z 0 0) e in (omega (arith, h), omega (arith, h))
+
+not_empty : (r : Record) → record_bytes r ≢ []
+not_empty (Genesis l xs) e = cc
+not_empty (BatchInfo a xs ts) e = cc
+not_empty (BatchComplete a m x) e = cc
+not_empty (BatchCommit a) e = cc
+
+pub nothing_stops : (bytes : List ℕ) → length bytes ≡ 0 → Stops RecordTexts bytes 0
+nothing_stops [] e = stops_here RecordTexts [] some_record (λ f y p h. (refl, λ z. not_empty p.0 (sym p.2 ∙ h ∙ z)))
+nothing_stops (b ∷ x) e = absurd (omega (arith, e))
+
+pub no_tag_stops : (b : ℕ) (bytes rest : List ℕ) → bytes ≡ b ∷ rest → b ≢ 1 → b ≢ 2 → b ≢ 3 → b ≢ 4 → Stops RecordTexts bytes (length bytes)
+no_tag_stops b bytes rest e n1 n2 n3 n4 =
+    let here : Stops RecordTexts (b ∷ rest) (length (b ∷ rest)) = stops_here RecordTexts (b ∷ rest) some_record (λ f y p h. let t = tag_of p.0 b y (sym p.2 ∙ h) in absurd (omega (arith, t, n1, n2, n3, n4))) in
+    subst (λ (z : List ℕ). Stops RecordTexts z (length z)) (sym e) here

@@ -1,0 +1,5 @@
+pub mod Faults
+pub mod Numbers
+pub mod Records
+pub mod Stops
+pub mod Texts

@@ -1,0 +1,108 @@
+-- What a record is, as bytes, and what is no record.
+use Rattle.std.specs.Prelude.{◌≡◌, ℕ, ℤ, ◌+◌, ◌<◌, ◌≤◌, ◌^◌, List, [], ◌∷◌, ◌++◌, length, map, FitsSigned}
+use Rattle.std.specs.List.{AllByRecursion, flat_map}
+use Rattle.std.specs.Int.{to_be_bytes, cast_unsigned, w16, w64}
+use Rattle.snap_base.specs.declared.ids.ActorId.{ActorId}
+use Rattle.snap_base.specs.declared.ids.Bid.{Bid}
+use Rattle.snap_base.specs.declared.ids.Tid.{Tid}
+use Rattle.snap_base.specs.declared.transactions.State.{State}
+use Rattle.txn_records.specs.declared.records.Record.{Record}
+use Rattle.txn_records.specs.declared.records.Record.TheVariants.{Genesis, BatchInfo, BatchComplete, BatchCommit}
+use Rattle.txn_records.specs.declared.keys.Key.{Key}
+use Rattle.txn_records.specs.declared.keys.Key.TheVariants as keys
+
+-- ---- the spelling
+
+-- a number with a sign stands in two's complement
+unfoldable pub field_bytes : ℤ → List ℕ
+field_bytes z = to_be_bytes w64 (cast_unsigned w64 z)
+
+unfoldable pub state_bytes : State → List ℕ
+state_bytes s = flat_map field_bytes s.0
+
+abbrev pub states_bytes : List State → List ℕ
+states_bytes states = flat_map state_bytes states
+
+abbrev pub actors_bytes : List ActorId → List ℕ
+actors_bytes actors = flat_map (λ (a : ActorId). to_be_bytes w16 a.0) actors
+
+abbrev pub tids_bytes : List Tid → List ℕ
+tids_bytes tids = flat_map (λ (t : Tid). to_be_bytes w64 t.0) tids
+
+abbrev pub genesis_bytes : ℕ → List State → List ℕ
+genesis_bytes logs states = (1 ∷ logs ∷ []) ++ (to_be_bytes w16 (length states) ++ states_bytes states)
+
+abbrev pub info_bytes : Bid → List ActorId → List Tid → List ℕ
+info_bytes bid actors tids =
+    (2 ∷ []) ++ (to_be_bytes w64 bid.0 ++ (to_be_bytes w16 (length actors) ++ (actors_bytes actors ++ (to_be_bytes w16 (length tids) ++ tids_bytes tids))))
+
+abbrev pub complete_bytes : Bid → ActorId → State → List ℕ
+complete_bytes bid actor state = (3 ∷ []) ++ (to_be_bytes w64 bid.0 ++ (to_be_bytes w16 actor.0 ++ state_bytes state))
+
+abbrev pub commit_bytes : Bid → List ℕ
+commit_bytes bid = (4 ∷ []) ++ to_be_bytes w64 bid.0
+
+abbrev pub record_bytes : Record → List ℕ
+record_bytes (Genesis logs states) = genesis_bytes logs states
+record_bytes (BatchInfo bid actors tids) = info_bytes bid actors tids
+record_bytes (BatchComplete bid actor state) = complete_bytes bid actor state
+record_bytes (BatchCommit bid) = commit_bytes bid
+
+-- ---- what has a spelling
+
+abbrev pub IsCount : ℕ → Type 0
+IsCount n = (1 ≤ n) × (n ≤ 256)
+
+-- sixteen numbers of 64 bits with a sign
+pub record IsState (s : State) : Type 0 where
+  pub len : length s.0 ≡ 16
+  pub fields : AllByRecursion (FitsSigned w64) s.0
+
+-- the numbers ascend strictly, from `low` on, and stay below `limit`
+abbrev pub Ascend : ℕ → ℕ → List ℕ → Type 0
+Ascend low limit [] = Unit {0}
+Ascend low limit (n ∷ ns) = (low ≤ n) × (n < limit) × Ascend (n + 1) limit ns
+
+abbrev pub actor_numbers : List ActorId → List ℕ
+actor_numbers actors = map (λ (a : ActorId). a.0) actors
+
+abbrev pub tid_numbers : List Tid → List ℕ
+tid_numbers tids = map (λ (t : Tid). t.0) tids
+
+pub record IsGenesis (logs : ℕ) (states : List State) : Type 0 where
+  pub some_logs : 1 ≤ logs
+  pub few_logs : logs ≤ 4
+  pub some : 1 ≤ length states
+  pub few : length states ≤ 256
+  pub each : AllByRecursion IsState states
+
+pub record IsInfo (bid : Bid) (actors : List ActorId) (tids : List Tid) : Type 0 where
+  pub bid_fits : bid.0 < 2 ^ 64
+  pub some_actors : 1 ≤ length actors
+  pub few_actors : length actors ≤ 256
+  pub actors_ascend : Ascend 0 (2 ^ 16) (actor_numbers actors)
+  pub some_tids : 1 ≤ length tids
+  pub few_tids : length tids ≤ 256
+  pub tids_ascend : Ascend 0 (2 ^ 64) (tid_numbers tids)
+
+pub record IsComplete (bid : Bid) (actor : ActorId) (state : State) : Type 0 where
+  pub bid_fits : bid.0 < 2 ^ 64
+  pub actor_fits : actor.0 < 2 ^ 16
+  pub is_state : IsState state
+
+pub record IsCommit (bid : Bid) : Type 0 where
+  pub bid_fits : bid.0 < 2 ^ 64
+
+abbrev pub IsRecord : Record → Type 0
+IsRecord (Genesis logs states) = IsGenesis logs states
+IsRecord (BatchInfo bid actors tids) = IsInfo bid actors tids
+IsRecord (BatchComplete bid actor state) = IsComplete bid actor state
+IsRecord (BatchCommit bid) = IsCommit bid
+
+-- ---- what a record is about
+
+abbrev pub key : Record → Key
+key (Genesis logs states) = keys.Genesis
+key (BatchInfo bid actors tids) = keys.Info bid
+key (BatchComplete bid actor state) = keys.Complete bid actor
+key (BatchCommit bid) = keys.Commit bid

@@ -1,0 +1,48 @@
+-- The fields of each kind of record, behind its tag.
+use Rattle.std.specs.Prelude.{◌≡◌, ℕ, ◌^◌, List, [], ◌∷◌, length}
+use Rattle.std.specs.List.{AllByRecursion}
+use Rattle.std.specs.Int.{to_be_bytes, w16, w64}
+use Rattle.snap_base.specs.declared.ids.ActorId.{ActorId}
+use Rattle.snap_base.specs.declared.ids.Tid.{Tid}
+use Rattle.snap_base.specs.declared.transactions.State.{State}
+use Rattle.txn_records.specs.declared.records.Record.{Record}
+use Rattle.txn_records.specs.Numbers.{Between}
+use Rattle.txn_records.specs.Records.{Ascend, IsState, IsRecord, actor_numbers, tid_numbers, actors_bytes, tids_bytes, state_bytes, states_bytes, record_bytes}
+use Rattle.txn_records.specs.Stops.{Nil, Seq}
+
+abbrev pub AreStates : ℕ → List State → Type 0
+AreStates n states = (length states ≡ n) × AllByRecursion IsState states
+
+abbrev pub AreActors : ℕ → List ActorId → Type 0
+AreActors n actors = (length actors ≡ n) × Ascend 0 (2 ^ 16) (actor_numbers actors)
+
+abbrev pub AreTids : ℕ → List Tid → Type 0
+AreTids n tids = (length tids ≡ n) × Ascend 0 (2 ^ 64) (tid_numbers tids)
+
+abbrev pub one_byte : ℕ → List ℕ
+one_byte b = b ∷ []
+
+abbrev pub Count : (ℕ → List ℕ → Type 0) → List ℕ → Type 0
+Count G = Seq (Between 1 256) (to_be_bytes w16) G
+
+abbrev pub Number : (ℕ → List ℕ → Type 0) → List ℕ → Type 0
+Number G = Seq (Between 0 18446744073709551615) (to_be_bytes w64) G
+
+abbrev pub Actor : (ℕ → List ℕ → Type 0) → List ℕ → Type 0
+Actor G = Seq (Between 0 65535) (to_be_bytes w16) G
+
+abbrev pub GenesisTexts : List ℕ → Type 0
+GenesisTexts = Seq (Between 1 4) one_byte (λ l. Count (λ n. Seq (AreStates n) states_bytes (λ xs. Nil)))
+
+abbrev pub InfoTexts : List ℕ → Type 0
+InfoTexts = Number (λ b. Count (λ n. Seq (AreActors n) actors_bytes (λ xs. Count (λ m. Seq (AreTids m) tids_bytes (λ ys. Nil)))))
+
+abbrev pub CompleteTexts : List ℕ → Type 0
+CompleteTexts = Number (λ b. Actor (λ a. Seq IsState state_bytes (λ s. Nil)))
+
+abbrev pub CommitTexts : List ℕ → Type 0
+CommitTexts = Number (λ b. Nil)
+
+-- the bytes of records
+abbrev pub RecordTexts : List ℕ → Type 0
+RecordTexts f = (r : Record) × IsRecord r × (f ≡ record_bytes r)

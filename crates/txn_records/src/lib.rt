@@ -1,0 +1,21 @@
+//! The records of transactions that a journal keeps: each is one item of bytes, big-endian, with nothing
+//! behind its last field. Every record has one spelling, and what is no record is told by the first byte at
+//! which none goes on.
+#![tactic(auto)]
+
+mod decoding;
+mod encoding;
+mod keys;
+mod laws;
+mod numbers;
+mod reading;
+mod records;
+
+pub use decoding::{DecodeNo, decode};
+pub use encoding::encode;
+pub use keys::{Key, key_of};
+pub use laws::one_record;
+pub use records::Record;
+
+#[cfg(test)]
+mod tests;

@@ -1,0 +1,158 @@
+ghost use Rattle.std.specs.Prelude.{◌≡◌, ℕ, ◌+◌, ◌<◌, ◌≤◌, ◌^◌, List, [], ◌∷◌, ◌++◌, length, take, MatchResult};
+ghost use Rattle.std.specs.Int.{to_be_bytes, w16, w64};
+ghost use Rattle.txn_records.specs.Stops.{Fails, Any, Nil, Seq};
+ghost use Rattle.txn_records.specs.Numbers.{Between};
+ghost use Rattle.txn_records.specs.Records.{IsState, IsRecord, state_bytes, states_bytes, actors_bytes, tids_bytes, record_bytes};
+ghost use Rattle.txn_records.specs.Texts.{AreStates, AreActors, AreTids, GenesisTexts, InfoTexts, CompleteTexts, CommitTexts, RecordTexts};
+
+use crate::Record;
+use crate::numbers::{Stop, u8_between, u16_between, u64_between};
+use snap_base::{ActorId, Bid, Sequence, State, Tid};
+use std::alloc::Global;
+
+/// The state that stands first, and what is behind it.
+fn state_of(bytes: &[u8]) -> Result<(State, &[u8]), Stop>
+    ensures { MatchResult result (λ x. IsState x.0 × (bytes.now ≡ state_bytes x.0 ++ x.1.now)) (Fails (Seq IsState state_bytes (λ s. Any)) bytes.now) }
+{
+    let mut fields = [0i64; 16];
+    let mut rest = bytes;
+    for i in 0..16 {
+        let (bits, behind) = u64_between(rest, 0, u64::MAX)?;
+        fields[i] = bits.cast_signed();
+        rest = behind;
+    }
+    Ok((State(fields), rest))
+}
+
+/// So many states, and what is behind them.
+fn states_of(alloc: Global, bytes: &[u8], count: usize) -> Result<(Sequence<State>, &[u8]), Stop>
+    ensures { MatchResult result (λ x. AreStates count x.0 × (bytes.now ≡ states_bytes x.0 ++ x.1.now)) (Fails (Seq (AreStates count) states_bytes (λ xs. Any)) bytes.now) }
+{
+    let mut states = Sequence::new(alloc);
+    let mut rest = bytes;
+    for i in 0..count {
+        let (state, behind) = state_of(rest)?;
+        states.push(state)?;
+        rest = behind;
+    }
+    Ok((states, rest))
+}
+
+/// So many actors, which ascend, and what is behind them.
+fn actors_of(alloc: Global, bytes: &[u8], count: usize) -> Result<(Sequence<ActorId>, &[u8]), Stop>
+    requires { count ≤ 256 }
+    ensures { MatchResult result (λ x. AreActors count x.0 × (bytes.now ≡ actors_bytes x.0 ++ x.1.now)) (Fails (Seq (AreActors count) actors_bytes (λ xs. Any)) bytes.now) }
+{
+    let mut actors = Sequence::new(alloc);
+    let mut rest = bytes;
+    let mut low: u32 = 0;
+    for i in 0..count {
+        let high = 65_535 - (count - 1 - i) as u16;
+        let (number, behind) = u16_between(rest, low as u16, high)?;
+        actors.push(ActorId(number))?;
+        low = number as u32 + 1;
+        rest = behind;
+    }
+    Ok((actors, rest))
+}
+
+/// So many tids, which ascend, and what is behind them.
+fn tids_of(alloc: Global, bytes: &[u8], count: usize) -> Result<(Sequence<Tid>, &[u8]), Stop>
+    requires { count ≤ 256 }
+    ensures { MatchResult result (λ x. AreTids count x.0 × (bytes.now ≡ tids_bytes x.0 ++ x.1.now)) (Fails (Seq (AreTids count) tids_bytes (λ xs. Any)) bytes.now) }
+{
+    let mut tids = Sequence::new(alloc);
+    let mut rest = bytes;
+    let mut low: u128 = 0;
+    for i in 0..count {
+        let high = u64::MAX - (count - 1 - i) as u64;
+        let (number, behind) = u64_between(rest, low as u64, high)?;
+        tids.push(Tid(number))?;
+        low = number as u128 + 1;
+        rest = behind;
+    }
+    Ok((tids, rest))
+}
+
+/// A count from 1 to 256, and what is behind it.
+fn count_of(bytes: &[u8]) -> Result<(usize, &[u8]), Stop>
+    ensures { MatchResult result (λ x. Between 1 256 x.0 × (bytes.now ≡ to_be_bytes w16 x.0 ++ x.1.now)) (Fails (Seq (Between 1 256) (to_be_bytes w16) (λ n. Any)) bytes.now) }
+{
+    let (count, rest) = u16_between(bytes, 1, 256)?;
+    Ok((count as usize, rest))
+}
+
+/// Nothing is left.
+fn end_of(bytes: &[u8]) -> Result<(), Stop>
+    ensures { MatchResult result (λ x. bytes.now ≡ []) (Fails Nil bytes.now) }
+{
+    if bytes.is_empty() {
+        Ok(())
+    } else {
+        Err(Stop::Left(bytes.len()))
+    }
+}
+
+fn commit_of(bytes: &[u8]) -> Result<Record, Stop>
+    ensures { MatchResult result (λ r. IsRecord r × (4 ∷ bytes.now ≡ record_bytes r)) (Fails CommitTexts bytes.now) }
+{
+    let (bid, rest) = u64_between(bytes, 0, u64::MAX)?;
+    end_of(rest)?;
+    Ok(Record::BatchCommit { bid: Bid(bid) })
+}
+
+fn complete_of(bytes: &[u8]) -> Result<Record, Stop>
+    ensures { MatchResult result (λ r. IsRecord r × (3 ∷ bytes.now ≡ record_bytes r)) (Fails CompleteTexts bytes.now) }
+{
+    let (bid, rest) = u64_between(bytes, 0, u64::MAX)?;
+    let (actor, rest) = u16_between(rest, 0, u16::MAX)?;
+    let (state, rest) = state_of(rest)?;
+    end_of(rest)?;
+    Ok(Record::BatchComplete {
+        bid: Bid(bid),
+        actor: ActorId(actor),
+        state,
+    })
+}
+
+fn info_of(alloc: Global, bytes: &[u8]) -> Result<Record, Stop>
+    ensures { MatchResult result (λ r. IsRecord r × (2 ∷ bytes.now ≡ record_bytes r)) (Fails InfoTexts bytes.now) }
+{
+    let (bid, rest) = u64_between(bytes, 0, u64::MAX)?;
+    let (count, rest) = count_of(rest)?;
+    let (actors, rest) = actors_of(alloc, rest, count)?;
+    let (count, rest) = count_of(rest)?;
+    let (tids, rest) = tids_of(alloc, rest, count)?;
+    end_of(rest)?;
+    Ok(Record::BatchInfo {
+        bid: Bid(bid),
+        actors,
+        tids,
+    })
+}
+
+fn genesis_of(alloc: Global, bytes: &[u8]) -> Result<Record, Stop>
+    ensures { MatchResult result (λ r. IsRecord r × (1 ∷ bytes.now ≡ record_bytes r)) (Fails GenesisTexts bytes.now) }
+{
+    let (logs, rest) = u8_between(bytes, 1, 4)?;
+    let (count, rest) = count_of(rest)?;
+    let (states, rest) = states_of(alloc, rest, count)?;
+    end_of(rest)?;
+    Ok(Record::Genesis { logs, states })
+}
+
+/// The record that the bytes are.
+pub(crate) fn read(alloc: Global, bytes: &[u8]) -> Result<Record, Stop>
+    ensures { MatchResult result (λ r. IsRecord r × (bytes.now ≡ record_bytes r)) (Fails RecordTexts bytes.now) }
+{
+    let Some((tag, rest)) = bytes.split_first() else {
+        return Err(Stop::Left(0));
+    };
+    match *tag {
+        1 => genesis_of(alloc, rest),
+        2 => info_of(alloc, rest),
+        3 => complete_of(rest),
+        4 => commit_of(rest),
+        _ => Err(Stop::Left(bytes.len())),
+    }
+}

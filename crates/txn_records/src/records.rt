@@ -1,0 +1,28 @@
+use snap_base::{ActorId, Bid, Sequence, State, Tid};
+
+/// What is written down of transactions.
+#[derive(Drop)]
+pub enum Record {
+    /// How many logs there are, and the state that each actor begins with, in the order of their numbers.
+    Genesis {
+        logs: u8,
+        states: Sequence<State>,
+    },
+    /// A batch that was formed: the actors that take part in it and the transactions that it runs, both
+    /// ascending.
+    BatchInfo {
+        bid: Bid,
+        actors: Sequence<ActorId>,
+        tids: Sequence<Tid>,
+    },
+    /// An actor has run its part of a batch, and this is its state then.
+    BatchComplete {
+        bid: Bid,
+        actor: ActorId,
+        state: State,
+    },
+    /// A batch is committed.
+    BatchCommit {
+        bid: Bid,
+    },
+}
