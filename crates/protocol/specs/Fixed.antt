@@ -1,0 +1,101 @@
+-- What is fixed during a run: the sizes, the transactions, the opening, and what a slice of a method does.
+-- Actors, coordinators, logs, transactions, tids and batches are numbers. C is the type of controls.
+use Rattle.std.specs.Prelude.{◌≡◌, ℕ, ◌-◌, ◌<◌, ◌≤◌, ◌==◌, Bool, true, false, pos, List, [], map, length, replicate, slice_index_or}
+use Rattle.std.specs.List.{AllByRecursion, list_any}
+use Rattle.snap_base.specs.declared.transactions.Kind.{Kind}
+use Rattle.snap_base.specs.declared.transactions.Kind.TheVariants as kinds
+use Rattle.snap_base.specs.declared.transactions.State.{State}
+use Rattle.snap_base.specs.declared.transactions.Tx.{Tx}
+use Rattle.snap_base.specs.declared.transactions.TxResult.{TxResult}
+
+-- ---- method code: a control is the rest of a transaction
+
+-- where a slice leaves its transaction: on the way to another actor, or at its end
+pub data Next (C : Type 0) : Type 0 where
+  Go : ℕ → C → Next C
+  Ended : TxResult → Next C
+
+pub record Sliced (C : Type 0) : Type 0 where
+  pub state : State
+  pub next : Next C
+
+pub record Code (C : Type 0) : Type 0 where
+  -- the control of a transaction, with its tid, that has not begun
+  pub start : ℕ → Tx → C
+  -- the actor on which it stands
+  pub at : C → ℕ
+  -- a frame stands on the actor, or declared calls to it are left
+  pub rests_on : C → ℕ → Bool
+  -- the actors on which a frame has stood
+  pub visited : C → List ℕ
+  -- a bound of the visits that are left, this one among them
+  pub visits_left : C → ℕ
+  -- runs on the state of the actor on which the control stands, until it leaves the actor or ends
+  pub slice : C → State → Sliced C
+
+-- ---- the text, its limits, and what earlier runs left
+
+pub record Opening : Type 0 where
+  pub states : List State
+  pub next_tid : ℕ
+  pub next_bid : ℕ
+  pub next_c : ℕ
+
+pub record Fixed (C : Type 0) : Type 0 where
+  pub coordinators : ℕ
+  pub logs : ℕ
+  -- the most PACTs of a batch, live batches and live ACTs
+  pub batch : ℕ
+  pub batches : ℕ
+  pub acts : ℕ
+  pub txs : List Tx
+  pub opening : Opening
+  pub code : Code C
+
+-- The last batch number of earlier runs. It stands where no batch of this run stands before.
+abbrev pub base : {C : Type 0} → Fixed C → ℕ
+base w = w.opening.next_bid - 1
+
+abbrev pub no_state : State
+no_state = record { 0 = replicate 16 (pos 0) }
+
+abbrev pub no_tx : Tx
+no_tx = record { kind = kinds.Act; actor = record { 0 = 0 }; method = 0; args = []; uses = [] }
+
+-- transaction n of the text
+abbrev pub tx_at : {C : Type 0} → Fixed C → ℕ → Tx
+tx_at w n = slice_index_or w.txs n no_tx
+
+abbrev pub is_pact_kind : Kind → Bool
+is_pact_kind kinds.Pact = true
+is_pact_kind kinds.Act = false
+
+abbrev pub is_pact : Tx → Bool
+is_pact tx = is_pact_kind tx.kind
+
+abbrev pub root : Tx → ℕ
+root tx = tx.actor.0
+
+-- the actors that a PACT declares
+abbrev pub declared : Tx → List ℕ
+declared tx = map (λ u. u.0.0) tx.uses
+
+-- ---- what is known of it
+
+-- each actor that the transaction names is below this number, and a PACT declares its root
+pub record IsTxOf (actors : ℕ) (tx : Tx) : Type 0 where
+  pub root_exists : root tx < actors
+  pub declared_exist : AllByRecursion (λ a. a < actors) (declared tx)
+  pub declares_root : is_pact tx ≡ true → list_any (λ a. a == root tx) (declared tx) ≡ true
+
+-- an accepted text, and an opening for it
+pub record IsText {C : Type 0} (w : Fixed C) : Type 0 where
+  pub some_coordinators : 1 ≤ w.coordinators
+  pub some_logs : 1 ≤ w.logs
+  pub some_batch : 1 ≤ w.batch
+  pub some_batches : 1 ≤ w.batches
+  pub some_acts : 1 ≤ w.acts
+  pub txs : AllByRecursion (IsTxOf (length w.opening.states)) w.txs
+  pub tids : 1 ≤ w.opening.next_tid
+  pub bids : 1 ≤ w.opening.next_bid
+  pub cs : 1 ≤ w.opening.next_c

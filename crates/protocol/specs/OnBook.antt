@@ -1,0 +1,178 @@
+-- What the events do to the book.
+use Rattle.std.specs.Prelude.{ℕ, ◌+◌, ◌-◌, ◌==◌, nat_le, max, Bool, true, false, not, ◌&&◌, if◌then◌else◌, Option, Some, None, List, [], ◌∷◌, ◌++◌, map, filter}
+use Rattle.snap_base.specs.declared.transactions.TxResult.{TxResult}
+use Rattle.protocol.specs.Fixed.{Fixed, base, Next, Go, Ended}
+use Rattle.protocol.specs.Rivals.{Lock}
+use Rattle.protocol.specs.Parts.{Ring, Book, Joined, Status, Live, Doomed, Decided, Sealed, Act, Pair, Outcome, Cell, Batch, Desk, Entry}
+use Rattle.protocol.specs.Words.{is_doomed, is_live_status, is_value, is_among, act_of, holds, least_of, acts_on, has_act, rivals_in_tail, least_older, outcome_of, batch_of, first_failed, Failure}
+use Rattle.snap_base.specs.declared.verdicts.Verdict.{Verdict}
+use Rattle.protocol.specs.Verdicts.{died, taken_along}
+use Rattle.protocol.specs.Spread.{raised, doomed_by_order}
+use Rattle.protocol.specs.OnPost.{next_act}
+
+-- ---- one ACT among all
+
+abbrev pub change_if : Bool → (Act → Act) → Act → Act
+change_if true f x = f x
+change_if false f x = x
+
+-- the ACT with this tid is changed
+abbrev pub changed_act : ℕ → (Act → Act) → List Act → List Act
+changed_act t f acts = map (λ x. change_if (x.tid == t) f x) acts
+
+abbrev pub mark_if : Bool → (Joined → Joined) → Joined → Joined
+mark_if true f p = f p
+mark_if false f p = p
+
+-- the ACT's mark on this actor is changed
+abbrev pub marked : ℕ → (Joined → Joined) → Act → Act
+marked a f x = record x { places = map (λ p. mark_if (p.actor == a) f p) x.places }
+
+-- it is given up; the first doom stays
+abbrev pub doomed_by : Verdict → Act → Act
+doomed_by v x = record x { status = if is_doomed x.status then x.status else Doomed v }
+
+-- ---- admission
+
+abbrev pub new_act : ℕ → ℕ → ℕ → Act
+new_act t n m = record { tid = t; tx = n; m = m; n = None; places = []; result = None; status = Live }
+
+abbrev pub act_admitted : {C : Type 0} → Fixed C → ℕ → Ring → Book → Book
+act_admitted w t r b = record b { acts = b.acts ++ new_act t (next_act r) (base w) ∷ [] }
+
+-- ---- a batch arrives behind ACTs
+
+-- batch k stands behind the ACT, where it is one of these
+abbrev pub lowered : ℕ → List ℕ → Act → Act
+lowered k tids x = record x { n = if is_among x.tid tids then Some (least_of k x.n) else x.n }
+
+abbrev pub tids_on : List Entry → List ℕ
+tids_on entries = map (λ x. x.tid) (acts_on entries)
+
+abbrev pub batch_arrived : {C : Type 0} → ℕ → ℕ → Cell C → Book → Book
+batch_arrived k a c b = record b { acts = doomed_by_order a (map (lowered k (tids_on c.entries)) b.acts) }
+
+-- ---- an ACT asks for an actor
+
+-- the ACT stands last on the actor, behind these numbers
+abbrev pub joins : ℕ → ℕ → Act → Act
+joins a m x = record x { m = max x.m m; places = x.places ++ record { actor = a; prepared = false; vouched = false; finished = false } ∷ [] }
+
+abbrev pub is_doomed_act : List Act → Lock → Bool
+is_doomed_act acts x = holds (λ y. is_doomed y.status) (act_of x.tid acts)
+
+-- it stands behind each rival of the tail group that is not doomed
+abbrev pub new_pairs : ℕ → ℕ → List Lock → List Act → List Pair
+new_pairs t a group acts = map (λ x. record { behind = t; ahead = x.tid; actor = a }) (filter (λ x. not (is_doomed_act acts x)) group)
+
+-- the older one in its way, where there is one; the locks that it can't stand beside
+abbrev pub asked_acts : {C : Type 0} → Option ℕ → List Lock → ℕ → ℕ → Cell C → Book → List Act
+asked_acts (Some older) group t a c b = changed_act t (doomed_by (died a older t)) b.acts
+asked_acts None group t a c b = doomed_by_order a (raised (b.pairs ++ new_pairs t a group b.acts) (changed_act t (joins a (max c.last c.floor)) b.acts))
+
+abbrev pub asked_pairs : Option ℕ → List Lock → ℕ → ℕ → Book → List Pair
+asked_pairs (Some older) group t a b = b.pairs
+asked_pairs None group t a b = b.pairs ++ new_pairs t a group b.acts
+
+-- the rivals of the tail group, as the ACT meets them
+abbrev pub met : {C : Type 0} → ℕ → Cell C → List Lock
+met t c = rivals_in_tail (record { tid = t }) c.entries
+
+-- the oldest of them that is older than the ACT
+abbrev pub in_the_way : {C : Type 0} → ℕ → Cell C → Option ℕ
+in_the_way t c = least_older t (met t c)
+
+abbrev pub act_asked : {C : Type 0} → ℕ → ℕ → Cell C → Book → Book
+act_asked t a c b = record b { acts = asked_acts (in_the_way t c) (met t c) t a c b; pairs = asked_pairs (in_the_way t c) (met t c) t a b }
+
+-- ---- it ends, is voted on, decided and sealed
+
+abbrev pub with_result : TxResult → Act → Act
+with_result r x = record x { result = Some r }
+
+abbrev pub noted_for : {C : Type 0} → ℕ → Next C → List Act → List Act
+noted_for t (Go b control) acts = acts
+noted_for t (Ended r) acts = changed_act t (with_result r) acts
+
+abbrev pub noted_from : {C : Type 0} → ℕ → Option (Outcome C) → List Act → List Act
+noted_from t None acts = acts
+noted_from t (Some x) acts = noted_for t x.next acts
+
+-- the result of an ACT, which has an entry of its own on the actor
+abbrev pub act_ended : {C : Type 0} → ℕ → Cell C → Book → Book
+act_ended t c b = record b { acts = if has_act t c.entries then noted_from t (outcome_of t c.outbox) b.acts else b.acts }
+
+abbrev pub is_prepared : Joined → Joined
+is_prepared p = record p { prepared = true }
+
+abbrev pub is_vouched : Joined → Joined
+is_vouched p = record p { vouched = true }
+
+abbrev pub has_left : Joined → Joined
+has_left p = record p { finished = true }
+
+abbrev pub act_prepared : ℕ → ℕ → Book → Book
+act_prepared t a b = record b { acts = changed_act t (marked a is_prepared) b.acts }
+
+abbrev pub act_vouched : ℕ → ℕ → Book → Book
+act_vouched t a b = record b { acts = changed_act t (marked a is_vouched) b.acts }
+
+-- a live one gets a commit number; with a value its commit record is still to become durable
+abbrev pub decided_status : ℕ → Bool → Status → Status
+decided_status c has_value Live = if has_value then Decided c else Sealed c
+decided_status c has_value (Doomed v) = Doomed v
+decided_status c has_value (Decided d) = Decided d
+decided_status c has_value (Sealed d) = Sealed d
+
+abbrev pub decided_as : ℕ → Act → Act
+decided_as c x = record x { status = decided_status c (is_value x.result) x.status }
+
+abbrev pub act_decided : ℕ → Book → Book
+act_decided t b = record b { next_c = b.next_c + 1; acts = changed_act t (decided_as b.next_c) b.acts }
+
+abbrev pub sealed_status : Status → Status
+sealed_status Live = Live
+sealed_status (Doomed v) = Doomed v
+sealed_status (Decided c) = Sealed c
+sealed_status (Sealed c) = Sealed c
+
+abbrev pub sealed : Act → Act
+sealed x = record x { status = sealed_status x.status }
+
+abbrev pub act_sealed : ℕ → Book → Book
+act_sealed t b = record b { acts = changed_act t sealed b.acts }
+
+-- nobody stands behind it there any more
+abbrev pub act_finished : ℕ → ℕ → Book → Book
+act_finished t a b = record b {
+  acts = changed_act t (marked a has_left) b.acts;
+  pairs = filter (λ p. not ((p.ahead == t) && (p.actor == a))) b.pairs;
+}
+
+-- ---- a cascade
+
+abbrev pub failure_of : Option Batch → Option Failure
+failure_of None = None
+failure_of (Some b) = first_failed b.pacts
+
+abbrev pub failed_tx : Option Failure → ℕ
+failed_tx None = 0
+failed_tx (Some f) = f.tx
+
+abbrev pub failed_code : Option Failure → ℕ
+failed_code None = 0
+failed_code (Some f) = f.code
+
+-- why batch k fails
+abbrev pub why : ℕ → Desk → Option Failure
+why k d = failure_of (batch_of k d.batches)
+
+-- an ACT that stands behind an aborted batch is given up; every after number is forgotten
+abbrev pub cascaded : ℕ → ℕ → Act → Act
+cascaded k by x = record x { n = None; status = if is_live_status x.status && nat_le k x.m then Doomed (taken_along k by) else x.status }
+
+abbrev pub batch_aborted : ℕ → Ring → Desk → Book → Book
+batch_aborted k r d b = record b {
+  cascades = b.cascades ++ record { first = k; upto = r.next_bid - 1; by = failed_tx (why k d); at = b.next_c; code = failed_code (why k d) } ∷ [];
+  acts = map (cascaded k (failed_tx (why k d))) b.acts;
+}
