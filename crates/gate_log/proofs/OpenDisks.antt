@@ -45,6 +45,9 @@ disk_written_over : (h : History) (piece : List ℕ) → length (content h) ≤ 
     → disk (record { first = h.first; ops = h.ops ++ Write 0 piece ∷ Sync ∷ [] }) ≡ settled piece
 disk_written_over h piece le = disk_after-append h.ops (Write 0 piece ∷ Sync ∷ []) (settled h.first) ∙ ap settled (written_over (content h) piece le)
 
+pub new_is_placed : IsPlacedLogAt new_log 8 []
+new_is_placed = record { parts = ([], 0, [], tt, (λ e. omega arith), refl, refl, refl) }
+
 new_is_log : IsLogAt new_log 8 []
 new_is_log = record { parts = ([], 0, [], tt, (λ e. omega arith), refl, refl, refl) }
 
@@ -68,7 +71,7 @@ bytes_of-placed place (g ∷ gs) =
     map-append (λ (i : LogItem). i.bytes) first others ∙ ap (λ (xs : List (List ℕ)). xs ++ bytes_of others) (bytes_of-placed_items (place + 5) g)
     ∙ ap (λ (xs : List (List ℕ)). g ++ xs) (bytes_of-placed (place + 5 + length (items_bytes g)) gs)
 
-placed_log : (bytes : List ℕ) (end : ℕ) (found : List LogItem) → IsPlacedLogAt bytes end found → IsLogAt bytes end (bytes_of found)
+pub placed_log : (bytes : List ℕ) (end : ℕ) (found : List LogItem) → IsPlacedLogAt bytes end found → IsLogAt bytes end (bytes_of found)
 placed_log bytes end found p =
     let s = p.parts in
     record { parts = (s.0, s.1, s.2, s.3, s.4, s.5, s.6, ap bytes_of s.7 ∙ bytes_of-placed 8 s.0) }

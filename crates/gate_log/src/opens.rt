@@ -68,6 +68,8 @@ impl<D: LogDev> Log<D> {
     pub fn open(alloc: Global, dev: D) -> Result<Log<D>, (D, OpenNo)>
         ensures opened { IfOk result (λ log. Opened (D.told dev) log.told log.end log.found) }
         ensures log { IfOk result (λ log. IfSome log.told (λ h. DeviceLog h log.end (bytes_of log.found))) }
+        // The items found stand so in the bytes that were read, or made, also where the device tells nothing.
+        ensures placed { IfOk result (λ log. (bytes : List ℕ) × IsPlacedLogAt bytes log.end log.found) }
         ensures open { IfOk result (λ log. log.shut ≡ false) }
         ensures crashes { MatchResult result (λ log. MadeSafely (D.told dev) log.told) (λ no. MadeSafely (D.told dev) (D.told no.0)) }
         ensures end { IfOk result (λ log. log.end ≤ 2 ^ 63) }
@@ -101,6 +103,7 @@ impl<D: LogDev> Log<D> {
 fn find_log<D: LogDev>(alloc: Global, dev: &mut D) -> Result<(u64, Sequence<LogItem>), OpenNo>
     ensures opened { IfOk result (λ log. Opened (D.told dev.old) (D.told dev.new) log.0 log.1) }
     ensures log { IfOk result (λ log. IfSome (D.told dev.new) (λ h. DeviceLog h log.0 (bytes_of log.1))) }
+    ensures placed { IfOk result (λ log. (bytes : List ℕ) × IsPlacedLogAt bytes log.0 log.1) }
     ensures ready { IfOk result (λ log. IsReady (D.told dev.new) (D.told_length dev.new) log.0) }
     ensures end { IfOk result (λ log. log.0 ≤ 2 ^ 63) }
     ensures refused { IfErr result (Refused (D.told dev.old) (D.told dev.new)) }
@@ -138,6 +141,7 @@ fn read_device<D: LogDev>(
     requires known { D.told_length dev.old ≡ Some len }
     requires long { 9 < len }
     ensures read { IfOk result (λ log. IfSome (D.told dev.old) (λ h. IsPlacedLogAt (content h) log.0 log.1)) }
+    ensures placed { IfOk result (λ log. (bytes : List ℕ) × IsPlacedLogAt bytes log.0 log.1) }
     ensures within { IfOk result (λ log. (log.0 < len) × (log.0 < 2 ^ 63)) }
     ensures synced { OnOk result (AddsAll (D.told dev.old) (D.told dev.new) (operation.Sync ∷ [])) }
     ensures refused { IfErr result (RefusedLong (D.told dev.old) (D.told dev.new)) }

@@ -1,5 +1,5 @@
 -- The lines of the output, byte for byte. A line ends with a line feed.
-use Rattle.std.specs.Prelude.{ℕ, zero, suc, ℤ, pos, negsuc, Bool, true, false, if◌then◌else◌, List, [], ◌∷◌, ◌++◌, codes}
+use Rattle.std.specs.Prelude.{ℕ, zero, suc, ℤ, pos, negsuc, Bool, true, false, if◌then◌else◌, List, [], ◌∷◌, ◌++◌, length, codes}
 use Rattle.std.specs.List.{flat_map}
 use Rattle.std.specs.Fmt.{decimal, signed_decimal}
 use Rattle.snap_base.specs.declared.verdicts.Verdict.{Verdict}
@@ -7,6 +7,9 @@ use Rattle.snap_base.specs.Text.{verdict_text}
 use Rattle.snap_base.specs.declared.transactions.State.{State}
 use Rattle.work_text.specs.declared.faults.WorkCause.{WorkCause}
 use Rattle.work_text.specs.declared.faults.WorkCause.TheVariants.{Unbuilt}
+use Rattle.snap_recover.specs.declared.openings.Opening.{Opening}
+use Rattle.snap_report.specs.declared.causes.LogCause.{LogCause}
+use Rattle.snap_report.specs.declared.causes.LogCause.TheVariants as cause
 use Rattle.snap_report.specs.declared.statuses.Status.{Status}
 use Rattle.snap_report.specs.declared.statuses.Status.TheVariants as status
 
@@ -49,6 +52,12 @@ abbrev pub end_text : ℕ → ℕ → ℕ → List ℕ
 end_text committed aborted batches =
     codes "end committed " ++ (decimal committed ++ (codes " aborted " ++ (decimal aborted ++ (codes " batches " ++ (decimal batches ++ line_end)))))
 
+-- what logs recover to; nothing commits outside of batches yet
+abbrev pub recovered_text : Opening → List ℕ
+recovered_text o =
+    codes "recovered batches " ++ (decimal (length o.committed) ++ (codes " acts 0 next " ++ (decimal o.next_tid.0
+    ++ (codes " " ++ (decimal o.next_bid.0 ++ (codes " " ++ (decimal o.next_c ++ line_end)))))))
+
 -- ---- the status
 
 -- the program's exit status
@@ -56,19 +65,36 @@ abbrev pub status_number : Status → ℕ
 status_number status.Done = 0
 status_number (status.Usage word) = 1
 status_number (status.Input line cause) = 2
+status_number (status.Logs log offset c) = 3
 status_number status.Memory = 4
 status_number status.ReadFault = 5
+status_number (status.LogFault log) = 6
 status_number status.OutFault = 7
 status_number (status.Halted unanswered) = 9
 
 abbrev pub cause_text : WorkCause → List ℕ
 cause_text Unbuilt = codes "Unbuilt"
 
+abbrev pub log_cause_text : LogCause → List ℕ
+log_cause_text cause.NotALog = codes "NotALog"
+log_cause_text cause.Damage = codes "Damage"
+log_cause_text cause.BadRecord = codes "BadRecord"
+log_cause_text cause.NoGenesis = codes "NoGenesis"
+log_cause_text cause.TwoGenesis = codes "TwoGenesis"
+log_cause_text (cause.LogCount kept found) = codes "LogCount"
+log_cause_text (cause.Range k) = codes "Range"
+log_cause_text (cause.Missing k) = codes "Missing"
+log_cause_text (cause.Spent number) = codes "Spent"
+log_cause_text (cause.Differs what kept text) = codes "Differs"
+
 abbrev pub status_text : Status → List ℕ
 status_text status.Done = []
 status_text (status.Usage word) = codes "snapper: usage: word " ++ (decimal word ++ line_end)
 status_text (status.Input line cause) = codes "snapper: line " ++ (decimal line ++ (codes ": " ++ (cause_text cause ++ line_end)))
+status_text (status.Logs log offset c) =
+    codes "snapper: log " ++ (decimal log ++ (codes " at " ++ (decimal offset ++ (codes ": " ++ (log_cause_text c ++ line_end)))))
 status_text status.Memory = codes "snapper: out of memory" ++ line_end
 status_text status.ReadFault = codes "snapper: read fault" ++ line_end
+status_text (status.LogFault log) = codes "snapper: log fault " ++ (decimal log ++ line_end)
 status_text status.OutFault = codes "snapper: output fault" ++ line_end
 status_text (status.Halted unanswered) = codes "snapper: halted " ++ (decimal unanswered ++ line_end)

@@ -1,7 +1,8 @@
 ghost use Rattle.std.specs.Prelude.{◌≡◌, ◌<◌, ◌≤◌, IfOk, string_bytes, length, take};
-ghost use Rattle.snap_report.specs.Lines.{reply_text, actor_text, end_text, shown_fields};
+ghost use Rattle.snap_report.specs.Lines.{reply_text, actor_text, end_text, recovered_text, shown_fields};
 
 use snap_base::{ActorId, Memory, State, TxNo, Verdict};
+use snap_recover::Opening;
 use std::alloc::Global;
 use std::fmt::Write;
 
@@ -47,4 +48,14 @@ pub fn end_line(alloc: Global, committed: u32, aborted: u32, batches: u32) -> Re
     ensures { IfOk result (λ s. string_bytes s ≡ end_text committed aborted batches) }
 {
     Ok(format!(in alloc; "end committed {committed} aborted {aborted} batches {batches}\n")?)
+}
+
+/// What the logs recover to, behind the lines of the actors: how many batches and how many transactions
+/// outside of batches are committed, and the next transaction's, batch's and commit's number.
+pub fn recovered_line(alloc: Global, opening: &Opening) -> Result<String, Memory>
+    ensures { IfOk result (λ s. string_bytes s ≡ recovered_text opening.now) }
+{
+    let batches = opening.committed.len();
+    let (tid, bid, c) = (opening.next_tid, opening.next_bid, opening.next_c);
+    Ok(format!(in alloc; "recovered batches {batches} acts 0 next {tid} {bid} {c}\n")?)
 }

@@ -1,6 +1,7 @@
 ghost use Rattle.std.specs.Prelude.{◌≡◌, IfOk, string_bytes};
-ghost use Rattle.snap_report.specs.Lines.{cause_text, status_text};
+ghost use Rattle.snap_report.specs.Lines.{cause_text, log_cause_text, status_text};
 
+use crate::LogCause;
 use snap_base::Memory;
 use std::alloc::Global;
 use work_text::WorkCause;
@@ -12,18 +13,36 @@ pub enum Status {
     Done,
     /// 1: the words of the command line are no form. `word` is the place, from 0 on, of the first word
     /// with which they begin none, or their number where all of them begin one.
-    Usage { word: u32 },
+    Usage {
+        word: u32,
+    },
     /// 2: the text stands for no work.
-    Input { line: u32, cause: WorkCause },
+    Input {
+        line: u32,
+        cause: WorkCause,
+    },
+    /// 3: what the log holds is refused. `offset` is the place in the file where the file is, or one of its
+    /// records, is the cause, and else 0.
+    Logs {
+        log: u8,
+        offset: u64,
+        cause: LogCause,
+    },
     /// 4: there was no memory.
     Memory,
     /// 5: the source failed.
     ReadFault,
+    /// 6: the device that holds this log failed.
+    LogFault {
+        log: u8,
+    },
     /// 7: the sink failed.
     OutFault,
     /// 9: a transaction failed, which this stage cannot answer yet. `unanswered` is the number of
     /// transactions without a reply.
-    Halted { unanswered: u32 },
+    Halted {
+        unanswered: u32,
+    },
 }
 
 impl Status {
@@ -38,8 +57,10 @@ impl Status {
             Status::Done => 0,
             Status::Usage { .. } => 1,
             Status::Input { .. } => 2,
+            Status::Logs { .. } => 3,
             Status::Memory => 4,
             Status::ReadFault => 5,
+            Status::LogFault { .. } => 6,
             Status::OutFault => 7,
             Status::Halted { .. } => 9,
         }
@@ -57,8 +78,13 @@ pub fn status_line(alloc: Global, status: &Status) -> Result<String, Memory>
             let cause = cause_name(cause);
             Ok(format!(in alloc; "snapper: line {line}: {cause}\n")?)
         }
+        Status::Logs { log, offset, cause } => {
+            let cause = log_cause_name(cause);
+            Ok(format!(in alloc; "snapper: log {log} at {offset}: {cause}\n")?)
+        }
         Status::Memory => Ok(String::from_str(alloc, "snapper: out of memory\n")?),
         Status::ReadFault => Ok(String::from_str(alloc, "snapper: read fault\n")?),
+        Status::LogFault { log } => Ok(format!(in alloc; "snapper: log fault {log}\n")?),
         Status::OutFault => Ok(String::from_str(alloc, "snapper: output fault\n")?),
         Status::Halted { unanswered } => Ok(format!(in alloc; "snapper: halted {unanswered}\n")?),
     }
@@ -70,5 +96,23 @@ fn cause_name(cause: WorkCause) -> &'static str
 {
     match cause {
         WorkCause::Unbuilt => "Unbuilt",
+    }
+}
+
+/// The cause's name, as it is written in the code.
+fn log_cause_name(cause: LogCause) -> &'static str
+    ensures { result.now ≡ log_cause_text cause }
+{
+    match cause {
+        LogCause::NotALog => "NotALog",
+        LogCause::Damage => "Damage",
+        LogCause::BadRecord => "BadRecord",
+        LogCause::NoGenesis => "NoGenesis",
+        LogCause::TwoGenesis => "TwoGenesis",
+        LogCause::LogCount { .. } => "LogCount",
+        LogCause::Range { .. } => "Range",
+        LogCause::Missing { .. } => "Missing",
+        LogCause::Spent { .. } => "Spent",
+        LogCause::Differs { .. } => "Differs",
     }
 }

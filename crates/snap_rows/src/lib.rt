@@ -1,10 +1,19 @@
-//! Worked rows: texts with the answer and the output that a run of them gives, and runs whose source or
-//! sink fails at each call in turn. Expected values are worked out by hand from the rules.
+//! Worked rows: texts with the answer and the output that a run of them gives, on empty and on kept logs; what
+//! every crash of a run is recovered to; and calls whose source, sink or device fails at each call in turn.
+//! Expected values are worked out by hand from the rules.
 #![tactic(auto)]
 
 #[cfg(test)]
+mod calls;
+#[cfg(test)]
+mod crashes;
+#[cfg(test)]
+mod devices;
+#[cfg(test)]
 mod faults;
+#[cfg(test)]
+mod kept;
 #[cfg(test)]
 mod rows;
 #[cfg(test)]
-mod runs;
+mod texts;

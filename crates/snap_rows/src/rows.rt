@@ -1,5 +1,6 @@
-use crate::runs::{DEPOSIT, DEPOSIT_OUTPUT, run_on};
-use snap_report::{Status, status_line};
+use crate::calls::run_on_empty_logs;
+use crate::texts::{DEPOSIT, DEPOSIT_OUTPUT, NO_TRANSACTION, TWO_DEPOSITS, refused};
+use snap_report::{LogCause, Status, status_line};
 use std::test::Fail;
 use work_text::WorkCause;
 
@@ -27,13 +28,13 @@ fn texts_give_their_reports(rt: HostRuntime) -> Result<(), Fail> {
         },
         Row {
             name: "two deposits",
-            text: "snapper 1\ncoordinators 1\nlogs 1\nbatch 16\nbatches 8\nacts 8\nprogram\nmethod put(n) { f0 = f0 + n; return f0; }\nend\nactors 1\nactor 0 100\npact 0 put 5 uses 0:1\npact 0 put 2 uses 0:1\n",
+            text: TWO_DEPOSITS,
             status: Status::Done,
             output: "tx 0 committed 1.0.1 105\ntx 1 committed 1.0.2 107\nactor 0 107\nend committed 2 aborted 0 batches 1\n",
         },
         Row {
             name: "no transaction, comments, blank lines, no last line end",
-            text: "# a text\nsnapper 1\n\ncoordinators 1\nlogs 1\nbatch 16\nbatches 8\nacts 8\nprogram\nmethod put(n) { # adds\n\tf0 = f0 + n; return f0; }\nend\n# three actors\nactors 3\nactor 1 0 -7",
+            text: NO_TRANSACTION,
             status: Status::Done,
             output: "actor 0 0\nactor 1 0 -7\nactor 2 0\nend committed 0 aborted 0 batches 0\n",
         },
@@ -64,7 +65,7 @@ fn texts_give_their_reports(rt: HostRuntime) -> Result<(), Fail> {
     ];
     for row in &rows {
         let name = row.name;
-        let ran = run_on(rt.alloc(), &["run"], row.text, 0, 0)?;
+        let ran = run_on_empty_logs(rt.alloc(), &["run"], row.text, 0, 0)?;
         assert_eq!(rt; ran.status, row.status, "{name}");
         assert_eq!(rt; ran.output.as_slice(), row.output.as_bytes(), "{name}");
     }
@@ -74,13 +75,15 @@ fn texts_give_their_reports(rt: HostRuntime) -> Result<(), Fail> {
 #[test]
 fn words_that_are_no_form_are_refused_at_their_place(rt: HostRuntime) -> Result<(), Fail> {
     let none: [&str; 0] = [];
-    let ran = run_on(rt.alloc(), &none, DEPOSIT, 0, 0)?;
+    let ran = run_on_empty_logs(rt.alloc(), &none, DEPOSIT, 0, 0)?;
     assert_eq!(rt; ran.status, Status::Usage { word: 0 });
-    let ran = run_on(rt.alloc(), &["run", "x"], DEPOSIT, 0, 0)?;
+    let ran = run_on_empty_logs(rt.alloc(), &["run", "x"], DEPOSIT, 0, 0)?;
     assert_eq!(rt; ran.status, Status::Usage { word: 1 });
-    let ran = run_on(rt.alloc(), &["fly"], DEPOSIT, 0, 0)?;
-    assert_eq!(rt; ran.status, Status::Usage { word: 0 });
-    assert_eq!(rt; ran.output.len(), 0);
+    let ran = run_on_empty_logs(rt.alloc(), &["fly"], DEPOSIT, 0, 0)?;
+    assert!(rt; ran.gives(Status::Usage { word: 0 }, ""));
+    let ran = run_on_empty_logs(rt.alloc(), &["recover", "x"], DEPOSIT, 0, 0)?;
+    assert!(rt; ran.gives(Status::Usage { word: 1 }, ""));
+    assert_eq!(rt; ran.operations(), Some(0));
     Ok(())
 }
 
@@ -90,8 +93,13 @@ fn status_lines_name_the_cause(rt: HostRuntime) -> Result<(), Fail> {
         (Status::Done, ""),
         (Status::Usage { word: 2 }, "snapper: usage: word 2\n"),
         (NO_FORM, "snapper: line 0: Unbuilt\n"),
+        (
+            refused(8, LogCause::Damage),
+            "snapper: log 0 at 8: Damage\n",
+        ),
         (Status::Memory, "snapper: out of memory\n"),
         (Status::ReadFault, "snapper: read fault\n"),
+        (Status::LogFault { log: 0 }, "snapper: log fault 0\n"),
         (Status::OutFault, "snapper: output fault\n"),
         (Status::Halted { unanswered: 3 }, "snapper: halted 3\n"),
     ];

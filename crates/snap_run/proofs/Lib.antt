@@ -1,5 +1,9 @@
+pub mod Complete
+pub mod Crashes
 pub mod InputLaws
-pub mod Lengths
+pub mod Joined
+pub mod Outcomes
 pub mod Pieces
-pub mod ReportLaws
+pub mod Recovering
+pub mod UnsureLaws
 pub mod Usage

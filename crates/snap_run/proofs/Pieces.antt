@@ -1,5 +1,5 @@
 -- Pieces of a list of bytes that is written bit by bit.
-use Rattle.std.proofs.Common.{◌≡◌, ℕ, ◌+◌, ◌-◌, List, ◌++◌, length, take, drop, sym, ap, ◌∙◌, Result, Ok, Err, OnErr}
+use Rattle.std.proofs.Common.{◌≡◌, ℕ, ◌+◌, ◌-◌, List, ◌++◌, length, take, drop, sym, ap, ◌∙◌, Result, Ok, Err, OnErr, is_err, true}
 use Rattle.std.proofs.lemmas.List.{length-drop}
 use Rattle.std.proofs.Math.Seq.{take-add, take-length}
 
@@ -15,3 +15,8 @@ take_on bytes at n = ap (λ l. take at bytes ++ take n l) (take_rest bytes at) �
 pub on_any_err : {T E : Type 0} (P : Type 0) (r : Result T E) → P → OnErr r P
 on_any_err P (Ok x) p = tt
 on_any_err P (Err e) p = p
+
+-- what holds of an error, where there is one
+pub of_err : {T E : Type 0} (P : Type 0) (r : Result T E) → is_err r ≡ true → OnErr r P → P
+of_err P (Ok x) is p = cc
+of_err P (Err e) is p = p

@@ -1,88 +1,99 @@
--- Why the top call answers what it answers: one table by cases on the status.
-use Rattle.std.specs.Prelude.{◌≡◌, ◌⊎◌, ℕ, List, ◌++◌, length, Option, Some, IfSome}
-use Rattle.std.specs.Io.KnownBytes.{Keeps, Appends, Consumes, IsAtEnd}
+-- Why the top call answers what it answers: one table by cases on the status, for each form of the words.
+use Rattle.std.specs.Prelude.{◌≡◌, ◌⊎◌, ℕ, List, length, Some, IfSome}
+use Rattle.std.specs.Io.KnownBytes.{Keeps, Consumes, IsAtEnd}
 use Rattle.snap_outside.specs.Causes.{Rose}
+use Rattle.snap_outside.specs.Disk.{History, content}
+use Rattle.txn_records.specs.declared.records.Record.{Record}
+use Rattle.record_log.specs.Records.{HoldsRecords}
+use Rattle.snap_recover.specs.declared.openings.Opening.{Opening}
 use Rattle.snap_report.specs.declared.statuses.Status.{Status}
 use Rattle.snap_report.specs.declared.statuses.Status.TheVariants as status
 use Rattle.work_text.specs.declared.works.Work.{Work}
 use Rattle.work_text.specs.declared.faults.WorkCause.TheVariants.{Unbuilt}
 use Rattle.work_text.specs.Work.{IsWork}
-use Rattle.snap_run.specs.Words.{IsForm, IsUsageFault}
-use Rattle.snap_run.specs.Report.{IsReport, Fails}
-
--- what the call was given and what it left: the words, what the source and the sink told, their faults
-pub record Use : Type 0 where
-  pub words : List (List ℕ)
-  pub left_before : Option (List ℕ)
-  pub left_after : Option (List ℕ)
-  pub source_before : ℕ
-  pub source_after : ℕ
-  pub taken_before : Option (List ℕ)
-  pub taken_after : Option (List ℕ)
-  pub sink_before : ℕ
-  pub sink_after : ℕ
+use Rattle.run_opening.specs.Begins.{Begins}
+use Rattle.run_batch.specs.Report.{Fails}
+use Rattle.snap_run.specs.Words.{IsRun, IsRecover, IsUsageFault}
+use Rattle.kept_logs.specs.Devices.{device_at}
+use Rattle.snap_run.specs.Uses.{Reading, Use, WritesNothing}
+use Rattle.snap_run.specs.Runs.{IsWorkAnswer}
+use Rattle.snap_run.specs.Recoveries.{IsRecoverAnswer}
 
 -- the input is one that stands for no work
 abbrev pub IsRefused : List ℕ → Type 0
 IsRefused input = (w : Work) → ¬ IsWork input w
 
 -- The input was read to its end, or one byte more of it than an input may have.
-abbrev pub ReadsEnough : Option (List ℕ) → Option (List ℕ) → Type 0
-ReadsEnough old new = (bytes : List ℕ) × Consumes old new bytes × (IsAtEnd new ⊎ (length bytes ≡ 8388609))
+abbrev pub ReadsEnough : Reading → Type 0
+ReadsEnough r = (bytes : List ℕ) × Consumes r.left_before r.left_after bytes × (IsAtEnd r.left_after ⊎ (length bytes ≡ 8388609))
 
--- Nothing was written.
-abbrev pub WritesNothing : Use → Type 0
-WritesNothing u = Keeps u.taken_before u.taken_after
+-- The input was read to its end and stands for a work of which this holds.
+abbrev pub OfText : Reading → (Work → Type 0) → Type 0
+OfText r P = IsAtEnd r.left_after × IfSome r.left_before (λ input. (w : Work) × IsWork input w × P w)
 
--- The input is read to its end, and its report is written whole.
-abbrev pub Reports : Use → List ℕ → Type 0
-Reports u input = (w : Work) × (report : List ℕ) × IsWork input w × IsReport w report × Appends u.taken_before u.taken_after report
+abbrev pub OfWork : Use → Status → Type 0
+OfWork u s = OfText u.reading (λ w. IsWorkAnswer w (device_at u.devices_before 0) (device_at u.devices_after 0) u.writing s)
 
--- The same, but only a front of the report is written.
-abbrev pub ReportsFront : Use → List ℕ → Type 0
-ReportsFront u input =
-    (w : Work) × (front rest : List ℕ) × IsWork input w × IsReport w (front ++ rest) × Appends u.taken_before u.taken_after front
+-- what reading and parsing may answer in place of a work
+abbrev pub IsInputAnswer : Reading → Status → Type 0
+IsInputAnswer r (status.Input line cause) = (line ≡ 0) × (cause ≡ Unbuilt) × ReadsEnough r × IfSome r.left_before IsRefused
+IsInputAnswer r status.Memory = Unit {0}
+IsInputAnswer r status.ReadFault = Rose r.faults_before r.faults_after
+IsInputAnswer r status.Done = ⊥
+IsInputAnswer r (status.Usage place) = ⊥
+IsInputAnswer r (status.Logs log offset cause) = ⊥
+IsInputAnswer r (status.LogFault log) = ⊥
+IsInputAnswer r status.OutFault = ⊥
+IsInputAnswer r (status.Halted unanswered) = ⊥
 
--- The input asks for so many transactions, and one of them fails.
-abbrev pub Halts : List ℕ → ℕ → Type 0
-Halts input unanswered = (w : Work) × IsWork input w × Fails w × (unanswered ≡ length w.txs)
+-- the answers of the command that runs the input
+abbrev pub IsRunAnswer : Use → Status → Type 0
+IsRunAnswer u status.Done = OfWork u status.Done
+IsRunAnswer u (status.Usage place) = ⊥
+IsRunAnswer u (status.Input line cause) = IsInputAnswer u.reading (status.Input line cause) × WritesNothing u.writing
+IsRunAnswer u (status.Logs log offset cause) = OfWork u (status.Logs log offset cause) × WritesNothing u.writing
+IsRunAnswer u status.Memory = WritesNothing u.writing
+IsRunAnswer u status.ReadFault = IsInputAnswer u.reading status.ReadFault × WritesNothing u.writing
+IsRunAnswer u (status.LogFault log) =
+    OfWork u (status.LogFault log) × (log ≡ 0) × Rose (device_at u.devices_before 0).faults (device_at u.devices_after 0).faults
+IsRunAnswer u status.OutFault = OfWork u status.OutFault × Rose u.writing.faults_before u.writing.faults_after
+IsRunAnswer u (status.Halted unanswered) = OfWork u (status.Halted unanswered) × WritesNothing u.writing
 
--- what reading, parsing and executing may answer in place of a report, from what the source told before
--- and after and its faults before and after
-abbrev pub IsInputAnswer : Option (List ℕ) → Option (List ℕ) → ℕ → ℕ → Status → Type 0
-IsInputAnswer old new before after (status.Input line cause) = (line ≡ 0) × (cause ≡ Unbuilt) × ReadsEnough old new × IfSome old IsRefused
-IsInputAnswer old new before after status.Memory = Unit {0}
-IsInputAnswer old new before after status.ReadFault = Rose before after
-IsInputAnswer old new before after (status.Halted unanswered) = IsAtEnd new × IfSome old (λ input. Halts input unanswered)
-IsInputAnswer old new before after status.Done = ⊥
-IsInputAnswer old new before after (status.Usage place) = ⊥
-IsInputAnswer old new before after status.OutFault = ⊥
+-- the words are no form
+abbrev pub IsUsageAnswer : Use → Status → Type 0
+IsUsageAnswer u s = (place : ℕ) × (s ≡ status.Usage place) × IsUsageFault u.words place
 
--- what executing may answer in place of a report
-abbrev pub IsExecutionAnswer : Work → Status → Type 0
-IsExecutionAnswer w status.Memory = Unit {0}
-IsExecutionAnswer w (status.Halted unanswered) = Fails w × (unanswered ≡ length w.txs)
-IsExecutionAnswer w status.ReadFault = ⊥
-IsExecutionAnswer w (status.Input line cause) = ⊥
-IsExecutionAnswer w status.Done = ⊥
-IsExecutionAnswer w (status.Usage place) = ⊥
-IsExecutionAnswer w status.OutFault = ⊥
+-- nothing was read
+abbrev pub ReadsNothing : Reading → Type 0
+ReadsNothing r = Keeps r.left_before r.left_after
 
 abbrev pub IsAnswer : Use → Status → Type 0
-IsAnswer u status.Done = IsForm u.words × IsAtEnd u.left_after × IfSome u.left_before (Reports u)
-IsAnswer u (status.Usage place) = IsUsageFault u.words place × Keeps u.left_before u.left_after × WritesNothing u
-IsAnswer u (status.Input line cause) =
-    IsForm u.words × (line ≡ 0) × (cause ≡ Unbuilt) × ReadsEnough u.left_before u.left_after × IfSome u.left_before IsRefused × WritesNothing u
-IsAnswer u status.Memory = WritesNothing u
-IsAnswer u status.ReadFault = IsForm u.words × Rose u.source_before u.source_after × WritesNothing u
-IsAnswer u status.OutFault = IsForm u.words × IsAtEnd u.left_after × Rose u.sink_before u.sink_after × IfSome u.left_before (ReportsFront u)
-IsAnswer u (status.Halted unanswered) = IsForm u.words × IsAtEnd u.left_after × IfSome u.left_before (λ input. Halts input unanswered) × WritesNothing u
+IsAnswer u s =
+    (IsRun u.words × IsRunAnswer u s)
+    ⊎ ((IsRecover u.words × ReadsNothing u.reading × IsRecoverAnswer u.devices_before u.devices_after u.writing s)
+    ⊎ (IsUsageAnswer u s × ReadsNothing u.reading × WritesNothing u.writing))
 
--- The words are a form, the input stands for a work of which no transaction fails, and no count rises.
-pub record IsUntroubled (u : Use) (input : List ℕ) : Type 0 where
-  pub form : IsForm u.words
-  pub known : u.left_before ≡ Some input
+-- the call ended before a log was needed
+abbrev pub GetsNoCall : Status → Type 0
+GetsNoCall status.Done = ⊥
+GetsNoCall (status.Usage place) = Unit {0}
+GetsNoCall (status.Input line cause) = Unit {0}
+GetsNoCall (status.Logs log offset cause) = ⊥
+GetsNoCall status.Memory = ⊥
+GetsNoCall status.ReadFault = Unit {0}
+GetsNoCall (status.LogFault log) = ⊥
+GetsNoCall status.OutFault = ⊥
+GetsNoCall (status.Halted unanswered) = ⊥
+
+-- The words run the input; it stands for a work; the log, if it holds records, goes on with them; no transaction
+-- fails; and no count rises.
+pub record IsUntroubled (u : Use) (input : List ℕ) (h : History) : Type 0 where
+  pub run : IsRun u.words
+  pub known : u.reading.left_before ≡ Some input
+  pub told : (device_at u.devices_before 0).told ≡ Some h
   pub some : (w : Work) × IsWork input w
-  pub passes : (w : Work) → IsWork input w → ¬ Fails w
-  pub source : ¬ Rose u.source_before u.source_after
-  pub sink : ¬ Rose u.sink_before u.sink_after
+  pub begins : (w : Work) → IsWork input w → (rs : List Record) × (o : Opening) × HoldsRecords (content h) rs × Begins rs w.states o
+  pub passes : (w : Work) (rs : List Record) (o : Opening) → IsWork input w → HoldsRecords (content h) rs → Begins rs w.states o → ¬ Fails o w
+  pub source : ¬ Rose u.reading.faults_before u.reading.faults_after
+  pub device : ¬ Rose (device_at u.devices_before 0).faults (device_at u.devices_after 0).faults
+  pub sink : ¬ Rose u.writing.faults_before u.writing.faults_after

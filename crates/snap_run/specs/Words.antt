@@ -1,8 +1,16 @@
 -- The words of the command line: which lists of them are a form, and which word is the first wrong one.
 use Rattle.std.specs.Prelude.{◌≡◌, ℕ, ◌+◌, ◌<◌, ◌⊎◌, List, [], ◌∷◌, ◌++◌, length, take, codes}
 
+-- runs the work text
+abbrev pub IsRun : List (List ℕ) → Type 0
+IsRun words = words ≡ codes "run" ∷ []
+
+-- prints what the logs recover to
+abbrev pub IsRecover : List (List ℕ) → Type 0
+IsRecover words = words ≡ codes "recover" ∷ []
+
 abbrev pub IsForm : List (List ℕ) → Type 0
-IsForm words = words ≡ codes "run" ∷ []
+IsForm words = IsRun words ⊎ IsRecover words
 
 -- some words behind these make them a form
 abbrev pub BeginsForm : List (List ℕ) → Type 0

@@ -1,11 +1,14 @@
-//! The top call: from the words of the command line and the input's bytes to the output's bytes.
+//! The top call: from the words of the command line and the input's bytes to the output's bytes and the logs.
 #![tactic(auto)]
 
-mod answers;
+mod commands;
 mod reads;
-mod reports;
+mod recoveries;
+mod runs;
 mod top;
+mod unsures;
 mod words;
+mod works;
 mod writes;
 
 pub use top::{Outcome, run};

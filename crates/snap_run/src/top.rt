@@ -1,11 +1,22 @@
-ghost use Rattle.std.specs.Prelude.{◌≡◌, ◌⊎◌, ℕ, List, map, string_bytes, vec_len};
+ghost use Rattle.std.specs.Prelude.{◌≡◌, ◌⊎◌, ◌<◌, ℕ, List, [], ◌∷◌, map, drop, codes, string_bytes, vec_len, vec_capacity, IfErr, MatchResult};
+ghost use Rattle.snap_outside.specs.Disk.{History};
 ghost use Rattle.snap_report.specs.declared.statuses.Status.TheVariants as status;
-ghost use Rattle.snap_run.specs.Answers.{Use, IsAnswer, IsUntroubled};
+ghost use Rattle.kept_logs.specs.Devices.{devices_of};
+ghost use Rattle.snap_run.specs.Words.{IsRun};
+ghost use Rattle.snap_run.specs.Uses.{Use};
+ghost use Rattle.snap_run.specs.Answers.{IsUntroubled, GetsNoCall};
+ghost use Rattle.snap_run.specs.Outcomes.{IsOutcome};
 
-use crate::answers::answer;
+use crate::commands::Command;
+use crate::recoveries::print_recovered;
+use crate::runs::run_work;
+use crate::words::read_words;
+use crate::works::read_work;
 use snap_outside::{LogDev, Sink, Source};
+use snap_recover::{begun_is_recovered, one_opening, refused_is_not_recovered};
 use snap_report::Status;
 use std::alloc::Global;
+use work_text::one_work;
 
 /// How the top call ended, and what it was given.
 #[derive(Drop)]
@@ -16,8 +27,9 @@ pub struct Outcome<D, O, T> {
     pub trace: T,
 }
 
-/// Reads a work text from `input`, executes it, and writes its report to `out`. The logs and the trace are
-/// handed back without a call on them.
+/// Does what the words ask for. `run` reads a work text from `input`, goes on from what log 0 holds, writes the
+/// records of the text's batch there, and then its report to `out`. `recover` reads no input and prints what the
+/// logs recover to. The trace is handed back without a call on it.
 pub fn run<I: Source, D: LogDev, O: Sink, T: Sink>(
     alloc: Global,
     words: &[String],
@@ -27,35 +39,34 @@ pub fn run<I: Source, D: LogDev, O: Sink, T: Sink>(
     trace: T,
 ) -> Outcome<D, O, T>
     requires { vec_len logs ≡ 4 }
-    // Each answer has its cause.
-    ensures answer { let u : Use = record {
+    // Each answer has its cause, and a crash at any moment is recovered from.
+    ensures outcome { let u : Use = record {
       words = map string_bytes words.now;
-      left_before = I.left input.old;
-      left_after = I.left input.new;
-      source_before = I.faults input.old;
-      source_after = I.faults input.new;
-      taken_before = O.taken out;
-      taken_after = O.taken result.out;
-      sink_before = O.faults out;
-      sink_after = O.faults result.out;
-    } in IsAnswer u result.status }
+      reading = record { left_before = I.left input.old; left_after = I.left input.new; faults_before = I.faults input.old; faults_after = I.faults input.new };
+      writing = record { taken_before = O.taken out; taken_after = O.taken result.out; faults_before = O.faults out; faults_after = O.faults result.out };
+      devices_before = devices_of D.told D.faults logs.items;
+      devices_after = devices_of D.told D.faults result.logs.items;
+    } in IsOutcome u result.status }
     // Where nothing stands in the way, the work is done, or there is no memory.
     ensures complete { let u : Use = record {
       words = map string_bytes words.now;
-      left_before = I.left input.old;
-      left_after = I.left input.new;
-      source_before = I.faults input.old;
-      source_after = I.faults input.new;
-      taken_before = O.taken out;
-      taken_after = O.taken result.out;
-      sink_before = O.faults out;
-      sink_after = O.faults result.out;
-    } in (text : List ℕ) → IsUntroubled u text → (result.status ≡ status.Done) ⊎ (result.status ≡ status.Memory) }
-    ensures logs { result.logs ≡ logs }
+      reading = record { left_before = I.left input.old; left_after = I.left input.new; faults_before = I.faults input.old; faults_after = I.faults input.new };
+      writing = record { taken_before = O.taken out; taken_after = O.taken result.out; faults_before = O.faults out; faults_after = O.faults result.out };
+      devices_before = devices_of D.told D.faults logs.items;
+      devices_after = devices_of D.told D.faults result.logs.items;
+    } in (text : List ℕ) (h : History) → IsUntroubled u text h → (result.status ≡ status.Done) ⊎ (result.status ≡ status.Memory) }
+    // A run leaves the other logs as they are.
+    ensures others { IsRun (map string_bytes words.now) → drop 1 result.logs.items ≡ drop 1 logs.items }
+    // Before the text is accepted, no log gets a call.
+    ensures untouched { GetsNoCall result.status → result.logs ≡ logs }
+    // The trace gets none.
     ensures trace { result.trace ≡ trace }
 {
+    one_opening();
+    refused_is_not_recovered();
+    let mut logs = logs;
     let mut out = out;
-    let status = match answer(alloc, words, input, &mut out) {
+    let status = match answer(alloc, words, input, &mut logs, &mut out) {
         Ok(()) => Status::Done,
         Err(status) => status,
     };
@@ -64,5 +75,72 @@ pub fn run<I: Source, D: LogDev, O: Sink, T: Sink>(
         logs,
         out,
         trace,
+    }
+}
+
+/// The words, then what they ask for. The first answer other than Ok decides.
+fn answer<I: Source, D: LogDev, O: Sink>(
+    alloc: Global,
+    words: &[String],
+    input: &mut I,
+    logs: &mut Vec<D>,
+    out: &mut O,
+) -> Result<(), Status>
+    requires { vec_len logs.old ≡ 4 }
+    ensures outcome { let u : Use = record {
+      words = map string_bytes words.now;
+      reading = record { left_before = I.left input.old; left_after = I.left input.new; faults_before = I.faults input.old; faults_after = I.faults input.new };
+      writing = record { taken_before = O.taken out.old; taken_after = O.taken out.new; faults_before = O.faults out.old; faults_after = O.faults out.new };
+      devices_before = devices_of D.told D.faults logs.old.items;
+      devices_after = devices_of D.told D.faults logs.new.items;
+    } in MatchResult result (λ _. IsOutcome u status.Done) (λ s. IsOutcome u s) }
+    ensures others { IsRun (map string_bytes words.now) → drop 1 logs.new.items ≡ drop 1 logs.old.items }
+    ensures untouched { IfErr result (λ s. GetsNoCall s → logs.new ≡ logs.old) }
+{
+    match read_words(words) {
+        Ok(Command::Run) => run_input(alloc, input, logs, out),
+        Ok(Command::Recover) => print_recovered(alloc, logs, out),
+        Err(word) => Err(Status::Usage { word }),
+    }
+}
+
+/// Runs the input on log 0.
+fn run_input<I: Source, D: LogDev, O: Sink>(
+    alloc: Global,
+    input: &mut I,
+    logs: &mut Vec<D>,
+    out: &mut O,
+) -> Result<(), Status>
+    requires { vec_len logs.old ≡ 4 }
+    ensures outcome { let u : Use = record {
+      words = codes "run" ∷ [];
+      reading = record { left_before = I.left input.old; left_after = I.left input.new; faults_before = I.faults input.old; faults_after = I.faults input.new };
+      writing = record { taken_before = O.taken out.old; taken_after = O.taken out.new; faults_before = O.faults out.old; faults_after = O.faults out.new };
+      devices_before = devices_of D.told D.faults logs.old.items;
+      devices_after = devices_of D.told D.faults logs.new.items;
+    } in MatchResult result (λ _. IsOutcome u status.Done) (λ s. IsOutcome u s) }
+    ensures others { drop 1 logs.new.items ≡ drop 1 logs.old.items }
+    ensures untouched { IfErr result (λ s. GetsNoCall s → logs.new ≡ logs.old) }
+{
+    begun_is_recovered();
+    one_work();
+    let work = match read_work(alloc, input) {
+        Ok(work) => work,
+        Err(status) => return Err(status),
+    };
+    let dev = logs.remove(0);
+    let (dev, answer) = run_work(alloc, &work, dev, out);
+    put_first(logs, dev);
+    answer
+}
+
+/// Puts an object in front of the others, for which there is room.
+fn put_first<T>(objects: &mut Vec<T>, first: T)
+    requires { vec_len objects.old < vec_capacity objects.old }
+    ensures { objects.new.items ≡ first ∷ objects.old.items }
+{
+    match objects.insert(0, first) {
+        Ok(()) => {}
+        Err(_failed) => unreachable!(),
     }
 }

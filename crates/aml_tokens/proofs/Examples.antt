@@ -1,0 +1,40 @@
+-- Short texts, and the tokens that they are cut into: what the definitions say, evaluated.
+use Rattle.std.proofs.Common.{◌≡◌, [], ◌∷◌, Some, None, codes, refl}
+use Rattle.aml_tokens.specs.declared.tokens.Symbol.TheVariants as symbol
+use Rattle.aml_tokens.specs.declared.tokens.TextCause.TheVariants as cause
+use Rattle.aml_tokens.specs.Token.{Name, Number, Field, Sign, CloseBrace}
+use Rattle.aml_tokens.specs.Lexing.{tokens, stop, lexed, line_at, column_at}
+
+-- three signs of '=' are two tokens, and '<' before '=' is one with it
+three_equals : tokens (codes "a===b<=1") ≡ Name (record { name = codes "a"; line = 1 }) ∷ Sign symbol.Equal ∷ Sign symbol.Assign ∷ Name (record { name = codes "b"; line = 1 }) ∷ Sign symbol.LessOrEqual ∷ Number 1 ∷ []
+three_equals = refl
+
+-- fields, a name that is none, a keyword, and a comment up to the line's end
+fields_and_words : lexed (codes "f15 f16#x!\n\tself }") ≡ record {
+  tokens = Field 15 ∷ Name (record { name = codes "f16"; line = 1 }) ∷ Sign symbol.Own ∷ CloseBrace 2 ∷ [];
+  places = 0 ∷ 4 ∷ 12 ∷ 17 ∷ [];
+  stop = None;
+}
+fields_and_words = refl
+
+number_before_letter : lexed (codes "1 12a") ≡ record { tokens = Number 1 ∷ []; places = 0 ∷ []; stop = Some (2, cause.BadToken) }
+number_before_letter = refl
+
+leading_zero : stop (codes "x 007") ≡ Some (2, cause.BadToken)
+leading_zero = refl
+
+largest : tokens (codes "9223372036854775807") ≡ Number 9223372036854775807 ∷ []
+largest = refl
+
+too_large : stop (codes "9223372036854775808") ≡ Some (0, cause.NumberRange)
+too_large = refl
+
+alone : stop (codes "a ! =") ≡ Some (2, cause.BadToken)
+alone = refl
+
+-- a carriage return is no blank
+carriage_return : stop (97 ∷ 13 ∷ 10 ∷ []) ≡ Some (1, cause.BadByte)
+carriage_return = refl
+
+place_of_end : (line_at (codes "a\nbc") 4 ≡ 2) × (column_at (codes "a\nbc") 4 ≡ 3)
+place_of_end = (refl, refl)

@@ -1,0 +1,10 @@
+pub mod Examples
+mod Fronts
+mod Numerals
+mod Joined
+mod Appended
+mod Spaced
+mod Placed
+mod Printable
+mod Told
+pub mod ReadBack

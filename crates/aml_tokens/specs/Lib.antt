@@ -1,0 +1,5 @@
+pub mod Token
+pub mod Bytes
+pub mod Lexing
+pub mod Reading
+pub mod Writing

@@ -1,0 +1,5 @@
+pub mod Flow
+pub mod Opening
+pub mod Places
+pub mod Reading
+pub mod Refusing

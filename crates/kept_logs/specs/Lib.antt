@@ -1,0 +1,4 @@
+pub mod Devices
+pub mod Found
+pub mod Kept
+pub mod Reads

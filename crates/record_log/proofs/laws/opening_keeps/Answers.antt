@@ -1,0 +1,5 @@
+use Rattle.record_log.proofs.Holding.{opened_keeps}
+use Rattle.record_log.proofs.laws.opening_keeps.Goals as goal
+
+pub returns : goal.returns
+returns c = opened_keeps

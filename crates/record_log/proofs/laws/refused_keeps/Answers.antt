@@ -1,0 +1,5 @@
+use Rattle.record_log.proofs.Holding.{refused_keeps}
+use Rattle.record_log.proofs.laws.refused_keeps.Goals as goal
+
+pub returns : goal.returns
+returns c = refused_keeps

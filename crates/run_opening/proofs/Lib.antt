@@ -1,0 +1,4 @@
+pub mod Beginning
+pub mod Differing
+pub mod Moments
+pub mod Starting

@@ -1,0 +1,100 @@
+ghost use Rattle.std.specs.Prelude.{◌≡◌, ℕ, ◌-◌, ◌≤◌, ◌^◌, List, [], ◌∷◌, length, MatchOption};
+ghost use Rattle.snap_base.specs.declared.transactions.State.{State};
+ghost use Rattle.txn_records.specs.declared.records.Record.TheVariants.{Genesis};
+ghost use Rattle.snap_recover.specs.Logs.{geneses};
+ghost use Rattle.run_opening.specs.Begins.{IsUnspent, IsFirstSpent, IsDifference, IsFieldDifference};
+
+use snap_base::{ActorId, State};
+use snap_recover::Opening;
+use snap_report::What;
+use txn_records::Record;
+
+/// The greatest number with which a run begins.
+const MOST: u64 = (1 << 62) - (1 << 20);
+
+/// What two texts differ in, and its values.
+#[derive(Clone, Copy, Debug, PartialEq, Eq)]
+pub(crate) struct Difference {
+    pub what: What,
+    pub kept: i64,
+    pub text: i64,
+}
+
+/// The first field that differs, and its values.
+#[derive(Clone, Copy, Debug, PartialEq, Eq)]
+struct FieldDifference {
+    field: u8,
+    kept: i64,
+    text: i64,
+}
+
+/// The next number of transactions, batches or commits that is too large to begin with, the first in this order.
+pub(crate) fn spent(opening: &Opening) -> Option<u64>
+    ensures { MatchOption result (IsUnspent opening.now) (IsFirstSpent opening.now) }
+{
+    if opening.next_tid.0 > MOST {
+        return Some(opening.next_tid.0);
+    }
+    if opening.next_bid.0 > MOST {
+        return Some(opening.next_bid.0);
+    }
+    if opening.next_c > MOST {
+        return Some(opening.next_c);
+    }
+    None
+}
+
+/// The states that the first Genesis of the records tells; none where there is no Genesis.
+pub(crate) fn first_states(records: &[Record]) -> &[State]
+    ensures { (logs : ℕ) (first : List State) → geneses (records.now ∷ []) ≡ Genesis logs first ∷ [] → result.now ≡ first }
+{
+    for record in records {
+        if let Record::Genesis { logs: _, states } = record {
+            return states.as_slice();
+        }
+    }
+    &[]
+}
+
+/// What differs first between the states that a log began with and the text's.
+pub(crate) fn compare_states(kept: &[State], text: &[State]) -> Option<Difference>
+    requires { length text.now ≤ 256 }
+    ensures { MatchOption result (kept.now ≡ text.now) (λ d. IsDifference kept.now text.now d.what d.kept d.text) }
+{
+    if kept.len() != text.len() {
+        return Some(Difference {
+            what: What::Actors,
+            kept: kept.len() as i64,
+            text: text.len() as i64,
+        });
+    }
+    for actor in 0..kept.len() {
+        if let Some(d) = compare_fields(&kept[actor].0, &text[actor].0) {
+            return Some(Difference {
+                what: What::Field {
+                    actor: ActorId(actor as u16),
+                    field: d.field,
+                },
+                kept: d.kept,
+                text: d.text,
+            });
+        }
+    }
+    None
+}
+
+/// The first field that differs.
+fn compare_fields(kept: &[i64; 16], text: &[i64; 16]) -> Option<FieldDifference>
+    ensures { MatchOption result (kept.now ≡ text.now) (λ d. IsFieldDifference kept.now text.now d.field d.kept d.text) }
+{
+    for field in 0..16 {
+        if kept[field] != text[field] {
+            return Some(FieldDifference {
+                field: field as u8,
+                kept: kept[field],
+                text: text[field],
+            });
+        }
+    }
+    None
+}

@@ -1,0 +1,160 @@
+-- Sets that a pass over each log fills.
+use Rattle.std.proofs.Common.{◌≡◌, ◌≢◌, ℕ, ◌+◌, ◌%◌, ◌<◌, ◌≤◌, ◌⊎◌, inl, inr, Bool, true, false, cond, List, [], ◌∷◌, ◌++◌, length, map, take, get_or, refl, sym, ap, subst, ◌∙◌, arith, IsTrue, ◌↔◌}
+use Rattle.std.proofs.Math.Nat.{mod-lt}
+use Rattle.std.proofs.lemmas.Bool.{cases_lt}
+use Rattle.std.proofs.lemmas.Bool.Decides.{nat_tests}
+use Rattle.std.proofs.lemmas.List.{get_or_default}
+use Rattle.std.specs.List.{list_any}
+use Rattle.std.specs.Ordering.{nat_cmp}
+use Rattle.std.specs.BTreeSet as bag
+use Rattle.std.specs.BTreeSet.{BTreeSet}
+use Rattle.std.specs.BTreeMap.{is_at}
+use Rattle.snap_base.specs.declared.ids.Bid.{Bid}
+use Rattle.txn_records.specs.declared.records.Record.{Record}
+use Rattle.txn_records.specs.declared.keys.Key.{Key}
+use Rattle.txn_records.specs.Records.{key}
+use Rattle.snap_recover.specs.Logs.{Has, log_of}
+use Rattle.snap_recover.specs.Passes.{Adds, In, InPair, pair_cmp, commit_key, complete_key, bid_at, actor_at}
+use Rattle.snap_recover.proofs.Lists.{contains_here, contains_none, contains_cases, contains_right}
+use Rattle.snap_recover.proofs.Growing.{has_left, has_cases}
+use Rattle.snap_recover.proofs.Steps.{taken}
+
+-- ---- a record more
+
+pub has_more : (rs : List Record) (r : Record) (k : Key) → Has (rs ++ r ∷ []) k → Has rs k ⊎ (key r ≡ k)
+has_more rs r k h =
+    elim (has_cases rs (r ∷ []) k h) [
+      | inl i ↦ inl i
+      | inr i ↦ elim (contains_cases (key r) k [] i) [ inl e ↦ inr e | inr n ↦ absurd (contains_none k n) ]
+    ]
+
+pub has_last : (rs : List Record) (r : Record) (k : Key) → key r ≡ k → Has (rs ++ r ∷ []) k
+has_last [] r k e = subst (λ (z : Key). Has (r ∷ []) z) e (contains_here (key r) [])
+has_last (s ∷ rs) r k e = contains_right (key s ∷ []) (map key (rs ++ r ∷ [])) k (has_last rs r k e)
+
+-- ---- one pass
+
+-- x is in, and what was
+abbrev pub Inserts : {X : Type 0} → X → (X → Type 0) → (X → Type 0) → Type 0
+Inserts {X} x Old New = (y : X) → New y ↔ (Old y ⊎ (x ≡ y))
+
+pub adds_none : {X : Type 0} (AtHome : X → Type 0) (key_at : X → Key) (Old : X → Type 0) → Adds AtHome key_at [] Old Old
+adds_none AtHome key_at Old x = (λ i. inl i, λ h. elim h [ inl i ↦ i | inr p ↦ absurd (contains_none (key_at x) p.1) ])
+
+adds_quiet : {X : Type 0} (AtHome : X → Type 0) (key_at : X → Key) (rs : List Record) (r : Record) (Old New : X → Type 0)
+    → ((x : X) → AtHome x → key r ≢ key_at x) → Adds AtHome key_at rs Old New → Adds AtHome key_at (rs ++ r ∷ []) Old New
+adds_quiet AtHome key_at rs r Old New quiet h x = (
+  λ i. elim ((h x).0 i) [ inl o ↦ inl o | inr p ↦ inr (p.0, has_left rs (r ∷ []) (key_at x) p.1) ],
+  λ i. elim i [
+    | inl o ↦ (h x).1 (inl o)
+    | inr p ↦ elim (has_more rs r (key_at x) p.1) [ inl q ↦ (h x).1 (inr (p.0, q)) | inr e ↦ absurd (quiet x p.0 e) ]
+  ],
+)
+
+adds_one : {X : Type 0} (AtHome : X → Type 0) (key_at : X → Key) (apart : (x y : X) → key_at x ≡ key_at y → x ≡ y) (rs : List Record) (r : Record) (Old Mid New : X → Type 0) (x : X)
+    → AtHome x → key r ≡ key_at x → Inserts x Mid New → Adds AtHome key_at rs Old Mid → Adds AtHome key_at (rs ++ r ∷ []) Old New
+adds_one AtHome key_at apart rs r Old Mid New x home e ins h y = (
+  λ i. elim ((ins y).0 i) [
+    | inl m ↦ elim ((h y).0 m) [ inl o ↦ inl o | inr p ↦ inr (p.0, has_left rs (r ∷ []) (key_at y) p.1) ]
+    | inr s ↦ inr (subst AtHome s home, has_last rs r (key_at y) (e ∙ ap key_at s))
+  ],
+  λ i. elim i [
+    | inl o ↦ (ins y).1 (inl ((h y).1 (inl o)))
+    | inr p ↦ elim (has_more rs r (key_at y) p.1) [ inl q ↦ (ins y).1 (inl ((h y).1 (inr (p.0, q)))) | inr f ↦ (ins y).1 (inr (apart x y (sym e ∙ f))) ]
+  ],
+)
+
+-- the same at the index of a loop
+pub adds_step_quiet : {X : Type 0} (AtHome : X → Type 0) (key_at : X → Key) (rs : List Record) (i : ℕ) (r : Record) (Old New : X → Type 0)
+    → i < length rs → r ≡ get_or rs i r → ((x : X) → AtHome x → key r ≢ key_at x) → Adds AtHome key_at (take i rs) Old New → Adds AtHome key_at (take (i + 1) rs) Old New
+adds_step_quiet AtHome key_at rs i r Old New l at quiet h =
+    subst (λ (z : List Record). Adds AtHome key_at z Old New) (sym (taken rs i r l at)) (adds_quiet AtHome key_at (take i rs) r Old New quiet h)
+
+pub adds_step : {X : Type 0} (AtHome : X → Type 0) (key_at : X → Key) (apart : (x y : X) → key_at x ≡ key_at y → x ≡ y) (rs : List Record) (i : ℕ) (r : Record) (Old Mid New : X → Type 0) (x : X)
+    → i < length rs → r ≡ get_or rs i r → AtHome x → key r ≡ key_at x → Inserts x Mid New → Adds AtHome key_at (take i rs) Old Mid → Adds AtHome key_at (take (i + 1) rs) Old New
+adds_step AtHome key_at apart rs i r Old Mid New x l at home e ins h =
+    subst (λ (z : List Record). Adds AtHome key_at z Old New) (sym (taken rs i r l at)) (adds_one AtHome key_at apart (take i rs) r Old Mid New x home e ins h)
+
+-- ---- a pass for each log
+
+abbrev pub Through : {X : Type 0} → (X → ℕ) → (X → Key) → List (List Record) → ℕ → (X → Type 0) → Type 0
+Through {X} number key_at logs i New = (x : X) → New x ↔ ((number x % length logs < i) × Has (log_of logs (number x)) (key_at x))
+
+pub through_none : {X : Type 0} (number : X → ℕ) (key_at : X → Key) (logs : List (List Record)) (New : X → Type 0) → ((x : X) → ¬ New x) → Through number key_at logs 0 New
+through_none number key_at logs New none x = (λ i. absurd (none x i), λ h. absurd (omega (arith, h.0)))
+
+pub at_log : (logs : List (List Record)) (n i : ℕ) (rs : List Record) → i < length logs → rs ≡ get_or logs i rs → n % length logs ≡ i → log_of logs n ≡ rs
+at_log logs n i rs l at e = ap (λ (z : ℕ). get_or logs z []) e ∙ get_or_default logs i [] rs l ∙ sym at
+
+pub below_cases : (a b : ℕ) → a < b + 1 → (a < b) ⊎ (a ≡ b)
+below_cases a b h = elim (cases_lt a b) [ inl l ↦ inl l | inr l ↦ inr (omega arith) ]
+
+pub through_step : {X : Type 0} (number : X → ℕ) (key_at : X → Key) (logs : List (List Record)) (i : ℕ) (rs : List Record) (Old New : X → Type 0)
+    → i < length logs → rs ≡ get_or logs i rs → Adds (λ x. number x % length logs ≡ i) key_at rs Old New → Through number key_at logs i Old → Through number key_at logs (i + 1) New
+through_step number key_at logs i rs Old New l at adds h x = (
+  λ n. elim ((adds x).0 n) [
+    | inl o ↦ (let p = (h x).0 o in let low : number x % length logs < i = p.0 in omega arith, ((h x).0 o).1)
+    | inr p ↦ (let e : number x % length logs ≡ i = p.0 in omega arith, subst (λ (z : List Record). Has z (key_at x)) (sym (at_log logs (number x) i rs l at p.0)) p.1)
+  ],
+  λ p. elim (below_cases (number x % length logs) i p.0) [
+    | inl low ↦ (adds x).1 (inl ((h x).1 (low, p.1)))
+    | inr e ↦ (adds x).1 (inr (e, subst (λ (z : List Record). Has z (key_at x)) (at_log logs (number x) i rs l at e) p.1))
+  ],
+)
+
+pub through_end : {X : Type 0} (number : X → ℕ) (key_at : X → Key) (logs : List (List Record)) (i : ℕ) (New : X → Type 0) → 0 < length logs → length logs ≤ i
+    → Through number key_at logs i New → (x : X) → New x ↔ Has (log_of logs (number x)) (key_at x)
+through_end number key_at logs i New some l h x = (λ n. ((h x).0 n).1, λ p. (h x).1 (let low = mod-lt (number x) some in omega (arith, low), p))
+
+-- ---- insertions
+
+cond_true : (b t r : Bool) → r ≡ cond b true t → IsTrue r ↔ (IsTrue t ⊎ (b ≡ true))
+cond_true true t r e = (λ h. inr refl, λ h. e)
+cond_true false t r e = (λ h. inl (subst IsTrue e h), λ h. elim h [ inl i ↦ subst IsTrue (sym e) i | inr n ↦ absurd (cc) ])
+
+pub at_true : (k q : ℕ) → is_at (nat_cmp k) q ≡ true → k ≡ q
+at_true k q h = grind (arith, nat_tests)
+
+pub at_same : (k : ℕ) → is_at (nat_cmp k) k ≡ true
+at_same k = grind (arith, nat_tests)
+
+pub inserts : (k : ℕ) (old new : BTreeSet ℕ) → bag.Updates nat_cmp old new k true → Inserts k (In old) (In new)
+inserts k old new u y =
+    let c = cond_true (is_at (nat_cmp k) y) (bag.contains nat_cmp old y) (bag.contains nat_cmp new y) (u.0 y) in (
+      λ i. elim (c.0 i) [ inl o ↦ inl o | inr e ↦ inr (at_true k y e) ],
+      λ i. elim i [ inl o ↦ c.1 (inl o) | inr e ↦ c.1 (inr (subst (λ (z : ℕ). is_at (nat_cmp k) z ≡ true) e (at_same k))) ],
+    )
+
+pair_true : (k q : ℕ × ℕ) → is_at (pair_cmp k) q ≡ true → (k.0 ≡ q.0) × (k.1 ≡ q.1)
+pair_true k q h = grind (arith, nat_tests)
+
+pair_same : (k : ℕ × ℕ) → is_at (pair_cmp k) k ≡ true
+pair_same k = grind (arith, nat_tests)
+
+pub inserts_pair : (k : ℕ × ℕ) (old new : BTreeSet (ℕ × ℕ)) → bag.Updates pair_cmp old new k true → Inserts k (InPair old) (InPair new)
+inserts_pair k old new u y =
+    let c = cond_true (is_at (pair_cmp k) y) (bag.contains pair_cmp old y) (bag.contains pair_cmp new y) (u.0 y) in (
+      λ i. elim (c.0 i) [ inl o ↦ inl o | inr e ↦ inr (let p = pair_true k y e in λ i. (p.0 i, p.1 i)) ],
+      λ i. elim i [ inl o ↦ c.1 (inl o) | inr e ↦ c.1 (inr (subst (λ (z : ℕ × ℕ). is_at (pair_cmp k) z ≡ true) e (pair_same k))) ],
+    )
+
+-- ---- keys tell what they are of
+
+pub commits_apart : (n m : ℕ) → commit_key n ≡ commit_key m → n ≡ m
+commits_apart n m e = let same : bid_at n ≡ bid_at m = cc in ap (λ (b : Bid). b.0) same
+
+pub completes_apart : (x y : ℕ × ℕ) → complete_key x ≡ complete_key y → x ≡ y
+completes_apart x y e =
+    let bids : bid_at x.0 ≡ bid_at y.0 = cc in
+    let actors : actor_at x.1 ≡ actor_at y.1 = cc in
+    λ i. ((bids i).0, (actors i).0)
+
+pub empty_set : (set : BTreeSet ℕ) → set.keys ≡ [] → (n : ℕ) → ¬ In set n
+empty_set set e n h =
+    let bad : false ≡ true = subst (λ (z : List ℕ). IsTrue (list_any (is_at (nat_cmp n)) z)) e h in
+    absurd (cc)
+
+pub empty_pairs : (set : BTreeSet (ℕ × ℕ)) → set.keys ≡ [] → (x : ℕ × ℕ) → ¬ InPair set x
+empty_pairs set e x h =
+    let bad : false ≡ true = subst (λ (z : List (ℕ × ℕ)). IsTrue (list_any (is_at (pair_cmp x)) z)) e h in
+    absurd (cc)

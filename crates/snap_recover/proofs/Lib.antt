@@ -1,0 +1,15 @@
+pub mod Lists
+pub mod OneOpening
+pub mod OneRefusal
+pub mod Begun
+pub mod Greatest
+pub mod StatesOver
+pub mod Growing
+pub mod NextBatch
+pub mod NextCommit
+pub mod Steps
+pub mod Homes
+pub mod Placing
+pub mod Replaying
+pub mod Keeping
+pub mod Whole

@@ -1,0 +1,114 @@
+-- The states of actors as passes over the logs tell them.
+use Rattle.std.proofs.Common.{◌≡◌, ℕ, suc, ◌+◌, ◌%◌, ◌<◌, ◌≤◌, inl, inr, List, [], ◌∷◌, ◌++◌, length, take, drop, set, get_or, refl, sym, ap, subst, ◌∙◌, arith}
+use Rattle.std.proofs.Math.Nat.{mod-lt}
+use Rattle.std.proofs.lemmas.Bool.{cases_eq}
+use Rattle.std.proofs.lemmas.List.{get_or-set_same, get_or-set_other, length-set}
+use Rattle.std.specs.List.{AllByRecursion, AllZip, enumerate_from}
+use Rattle.std.specs.BTreeSet.{BTreeSet}
+use Rattle.snap_base.specs.declared.ids.ActorId.{ActorId}
+use Rattle.snap_base.specs.declared.ids.Bid.{Bid}
+use Rattle.snap_base.specs.declared.transactions.State.{State}
+use Rattle.txn_records.specs.declared.records.Record.{Record}
+use Rattle.txn_records.specs.declared.records.Record.TheVariants.{Genesis, BatchInfo, BatchComplete, BatchCommit}
+use Rattle.snap_recover.specs.Logs.{all_of}
+use Rattle.snap_recover.specs.Opening.{IsInRange, Counts, IsStateOf, AreStates}
+use Rattle.snap_recover.specs.Passes.{In, HasCommitted, Tells, StateOver, Replays}
+use Rattle.snap_recover.proofs.Lists.{all_left, all_right, all_of_each, all_middle}
+use Rattle.snap_recover.proofs.Homes.{at_log, below_cases}
+use Rattle.snap_recover.proofs.Steps.{taken, split_at, logs_split}
+use Rattle.snap_recover.proofs.StatesOver.{Agree, over_alike, over_quiet, over_counts}
+
+-- ---- one pass
+
+pub replays_none : (log logs : ℕ) (Is : ℕ → Type 0) (states : List State) → Replays log logs Is [] states states
+replays_none log logs Is states = record { long = refl; here = λ a d l e. inr (tt, refl); elsewhere = λ a d l e. refl }
+
+pub replays_quiet : (log logs : ℕ) (Is : ℕ → Type 0) (rs : List Record) (i : ℕ) (r : Record) (old new : List State) → i < length rs → r ≡ get_or rs i r
+    → ((a : ℕ) → a % logs ≡ log → ¬ Tells Is a r) → Replays log logs Is (take i rs) old new → Replays log logs Is (take (i + 1) rs) old new
+replays_quiet log logs Is rs i r old new l at quiet h =
+    subst (λ (z : List Record). Replays log logs Is z old new) (sym (taken rs i r l at))
+    (record { long = h.long; here = λ a d b e. over_quiet (Tells Is a) (take i rs) (r ∷ []) (get_or old a d) (get_or new a d) (quiet a e, tt) (h.here a d b e); elsewhere = h.elsewhere })
+
+one_told : (log logs : ℕ) (Is : ℕ → Type 0) (rs : List Record) (bid : Bid) (actor : ActorId) (k : ℕ) (s : State) (old mid : List State) → actor.0 ≡ k → k % logs ≡ log → Is bid.0 → k < length old
+    → Replays log logs Is rs old mid → Replays log logs Is (rs ++ BatchComplete bid actor s ∷ []) old (set mid k s)
+one_told log logs Is rs bid actor k s old mid is home in' low h = record {
+  long = length-set mid k s ∙ h.long;
+  here = λ a d b e.
+      elim (cases_eq a k) [
+        | inl same ↦
+            let now : get_or (set mid k s) a d ≡ s = ap (λ (z : ℕ). get_or (set mid k s) z d) same ∙ get_or-set_same mid k s d (omega (arith, h.long)) in
+            subst (λ (z : State). StateOver (Tells Is a) (rs ++ BatchComplete bid actor s ∷ []) (get_or old a d) z) (sym now)
+            (over_counts (Tells Is a) rs bid actor (get_or old a d) s (is ∙ sym same, in'))
+        | inr apart ↦
+            subst (λ (z : State). StateOver (Tells Is a) (rs ++ BatchComplete bid actor s ∷ []) (get_or old a d) z) (sym (get_or-set_other mid k a s d apart))
+            (over_quiet (Tells Is a) rs (BatchComplete bid actor s ∷ []) (get_or old a d) (get_or mid a d) (λ t. apart (sym t.0 ∙ is), tt) (h.here a d b e))
+      ];
+  elsewhere = λ a d b away. get_or-set_other mid k a s d (λ e. away (ap (λ (z : ℕ). z % logs) e ∙ home)) ∙ h.elsewhere a d b away;
+}
+
+pub replays_step : (log logs : ℕ) (Is : ℕ → Type 0) (rs : List Record) (i : ℕ) (r : Record) (bid : Bid) (actor : ActorId) (k : ℕ) (s : State) (old mid : List State) → i < length rs → r ≡ get_or rs i r
+    → r ≡ BatchComplete bid actor s → actor.0 ≡ k → k % logs ≡ log → Is bid.0 → k < length old → Replays log logs Is (take i rs) old mid → Replays log logs Is (take (i + 1) rs) old (set mid k s)
+replays_step log logs Is rs i r bid actor k s old mid l at told is home in' low h =
+    subst (λ (z : List Record). Replays log logs Is z old (set mid k s)) (sym (taken rs i r l at ∙ ap (λ (z : Record). take i rs ++ z ∷ []) told))
+    (one_told log logs Is (take i rs) bid actor k s old mid is home in' low h)
+
+-- the record's actor is one
+pub told_below : (n : ℕ) (rs : List Record) (i : ℕ) (r : Record) (bid : Bid) (actor : ActorId) (k : ℕ) (s : State) → i < length rs → r ≡ get_or rs i r → r ≡ BatchComplete bid actor s → actor.0 ≡ k
+    → AllByRecursion (IsInRange n) rs → k < n
+told_below n rs i r bid actor k s l at told is range =
+    let one : IsInRange n r = all_middle (IsInRange n) (take i rs) r (drop (i + 1) rs) (subst (AllByRecursion (IsInRange n)) (split_at rs i r l at) range) in
+    let this : IsInRange n (BatchComplete bid actor s) = subst (IsInRange n) told one in
+    let low : actor.0 < n = this.actors_below.0 in
+    omega arith
+
+-- ---- over the logs
+
+pub record StatesThrough (logs : List (List Record)) (i : ℕ) (first states : List State) : Type 0 where
+  pub long : length states ≡ length first
+  pub done : (a : ℕ) (d : State) → a < length first → a % length logs < i → IsStateOf logs a (get_or first a d) (get_or states a d)
+  pub left : (a : ℕ) (d : State) → a < length first → i ≤ a % length logs → get_or states a d ≡ get_or first a d
+
+pub states_begin : (logs : List (List Record)) (first : List State) → StatesThrough logs 0 first first
+states_begin logs first = record { long = refl; done = λ a d l h. absurd (omega arith); left = λ a d l h. refl }
+
+tells_counts : (logs : List (List Record)) (set : BTreeSet ℕ) (a : ℕ) (r : Record) → HasCommitted logs set → Agree (Tells (In set) a) (Counts logs a) r
+tells_counts logs set a (Genesis c s) h = (λ t. t, λ t. t)
+tells_counts logs set a (BatchInfo b x t) h = (λ t. t, λ t. t)
+tells_counts logs set a (BatchComplete b x s) h = (λ t. (t.0, (h b.0).0 t.1), λ t. (t.0, (h b.0).1 t.1))
+tells_counts logs set a (BatchCommit b) h = (λ t. t, λ t. t)
+
+pub states_through : (logs : List (List Record)) (i : ℕ) (rs : List Record) (set : BTreeSet ℕ) (first old new : List State) → i < length logs → rs ≡ get_or logs i rs → HasCommitted logs set
+    → Replays i (length logs) (In set) rs old new → StatesThrough logs i first old → StatesThrough logs (i + 1) first new
+states_through logs i rs set first old new l at has p h = record {
+  long = p.long ∙ h.long;
+  done = λ a d b low.
+      elim (below_cases (a % length logs) i low) [
+        | inl less ↦ subst (λ (z : State). IsStateOf logs a (get_or first a d) z) (sym (p.elsewhere a d (omega (arith, h.long)) (omega arith))) (h.done a d b less)
+        | inr e ↦
+            let told : StateOver (Tells (In set) a) rs (get_or first a d) (get_or new a d) =
+            subst (λ (z : State). StateOver (Tells (In set) a) rs z (get_or new a d)) (h.left a d b (omega arith)) (p.here a d (omega (arith, h.long)) e) in
+            let counted : StateOver (Counts logs a) rs (get_or first a d) (get_or new a d) =
+            over_alike (Tells (In set) a) (Counts logs a) rs (get_or first a d) (get_or new a d) (all_of_each (Agree (Tells (In set) a) (Counts logs a)) rs (λ r. tells_counts logs set a r has)) told in
+            subst (λ (z : List Record). StateOver (Counts logs a) z (get_or first a d) (get_or new a d)) (sym (at_log logs a i rs l at e)) counted
+      ];
+  left = λ a d b high. p.elsewhere a d (omega (arith, h.long)) (omega arith) ∙ h.left a d b (omega arith);
+}
+
+zip_by_places : {X : Type 0} (R : ℕ × X → X → Type 0) (n : ℕ) (xs ys : List X) → length ys ≡ length xs → ((k : ℕ) (d : X) → k < length xs → R (n + k, get_or xs k d) (get_or ys k d)) → AllZip R (enumerate_from n xs) ys
+zip_by_places R n [] [] e h = tt
+zip_by_places R n [] (y ∷ ys) e h = absurd (omega arith)
+zip_by_places R n (x ∷ xs) [] e h = absurd (omega arith)
+zip_by_places R n (x ∷ xs) (y ∷ ys) e h = (
+  let same : n + 0 ≡ n = omega arith in subst (λ (z : ℕ). R (z, x) y) same (h 0 x (omega arith)),
+  zip_by_places R (n + 1) xs ys (omega arith) (λ k d l. let same : n + suc k ≡ (n + 1) + k = omega arith in subst (λ (z : ℕ). R (z, get_or xs k d) (get_or ys k d)) same (h (suc k) d (omega arith))),
+)
+
+pub states_end : (logs : List (List Record)) (i : ℕ) (first states : List State) → 0 < length logs → length logs ≤ i → StatesThrough logs i first states → AreStates logs first states
+states_end logs i first states some l h =
+    zip_by_places (λ (x : ℕ × State) s. IsStateOf logs x.0 x.1 s) 0 first states h.long
+    (λ k d b. let same : 0 + k ≡ k = omega arith in subst (λ (z : ℕ). IsStateOf logs z (get_or first k d) (get_or states k d)) (sym same) (h.done k d b (let low = mod-lt k some in omega (arith, low))))
+
+-- the records of one log
+pub log_in_range : (n : ℕ) (logs : List (List Record)) (i : ℕ) (rs : List Record) → i < length logs → rs ≡ get_or logs i rs → AllByRecursion (IsInRange n) (all_of logs) → AllByRecursion (IsInRange n) rs
+log_in_range n logs i rs l at h =
+    all_left (IsInRange n) rs (all_of (drop (i + 1) logs)) (all_right (IsInRange n) (all_of (take i logs)) (rs ++ all_of (drop (i + 1) logs)) (subst (AllByRecursion (IsInRange n)) (logs_split logs i rs l at) h))

@@ -1,0 +1,5 @@
+pub mod Batches
+pub mod Logs
+pub mod Opening
+pub mod Refusals
+pub mod Passes

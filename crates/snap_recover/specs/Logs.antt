@@ -1,0 +1,53 @@
+-- What stands in the logs: lists of records, one for each log. Batch k writes to log k, and actor a to log a,
+-- both modulo the number of logs.
+use Rattle.std.specs.Prelude.{◌≡◌, ℕ, ◌%◌, Bool, true, false, List, [], ◌∷◌, ◌++◌, length, map, filter, slice_index_or, Contains}
+use Rattle.std.specs.List.{AllByRecursion, flat_map}
+use Rattle.txn_records.specs.declared.records.Record.{Record}
+use Rattle.txn_records.specs.declared.records.Record.TheVariants.{Genesis, BatchInfo, BatchComplete, BatchCommit}
+use Rattle.txn_records.specs.declared.keys.Key.{Key}
+use Rattle.txn_records.specs.Records.{key, actor_numbers, tid_numbers}
+
+-- all records, log by log
+abbrev pub all_of : List (List Record) → List Record
+all_of logs = flat_map (λ (rs : List Record). rs) logs
+
+-- the log to which the batch, or the actor, of this number writes
+abbrev pub log_of : List (List Record) → ℕ → List Record
+log_of logs n = slice_index_or logs (n % length logs) []
+
+-- some record has the key
+abbrev pub Has : List Record → Key → Type 0
+Has rs k = Contains (map key rs) k
+
+-- r is the last one that has P
+abbrev pub IsLastOf : (Record → Type 0) → List Record → Record → Type 0
+IsLastOf P rs r = (front behind : List Record) × (rs ≡ front ++ r ∷ behind) × P r × AllByRecursion (λ x. ¬ P x) behind
+
+-- ---- which numbers occur
+
+abbrev pub actors_in : Record → List ℕ
+actors_in (Genesis logs states) = []
+actors_in (BatchInfo bid actors tids) = actor_numbers actors
+actors_in (BatchComplete bid actor state) = actor.0 ∷ []
+actors_in (BatchCommit bid) = []
+
+abbrev pub tids_in : Record → List ℕ
+tids_in (Genesis logs states) = []
+tids_in (BatchInfo bid actors tids) = tid_numbers tids
+tids_in (BatchComplete bid actor state) = []
+tids_in (BatchCommit bid) = []
+
+abbrev pub bids_in : Record → List ℕ
+bids_in (Genesis logs states) = []
+bids_in (BatchInfo bid actors tids) = bid.0 ∷ []
+bids_in (BatchComplete bid actor state) = bid.0 ∷ []
+bids_in (BatchCommit bid) = bid.0 ∷ []
+
+abbrev pub is_genesis : Record → Bool
+is_genesis (Genesis logs states) = true
+is_genesis (BatchInfo bid actors tids) = false
+is_genesis (BatchComplete bid actor state) = false
+is_genesis (BatchCommit bid) = false
+
+abbrev pub geneses : List (List Record) → List Record
+geneses logs = filter is_genesis (all_of logs)

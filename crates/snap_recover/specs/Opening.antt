@@ -1,0 +1,97 @@
+-- What logs recover to: which batches are in, the state of each actor, and the next numbers.
+use Rattle.std.specs.Prelude.{◌≡◌, ℕ, ◌+◌, ◌<◌, ◌≤◌, ◌^◌, ◌⊎◌, max, List, [], ◌∷◌, ◌++◌, length, map, Contains}
+use Rattle.std.specs.List.{AllByRecursion, AllZip, AllPairs, flat_map, enumerate_from}
+use Rattle.snap_base.specs.declared.ids.ActorId.{ActorId}
+use Rattle.snap_base.specs.declared.ids.Bid.{Bid}
+use Rattle.snap_base.specs.declared.ids.Tid.{Tid}
+use Rattle.snap_base.specs.declared.transactions.State.{State}
+use Rattle.txn_records.specs.declared.records.Record.{Record}
+use Rattle.txn_records.specs.declared.records.Record.TheVariants.{Genesis, BatchInfo, BatchComplete, BatchCommit}
+use Rattle.txn_records.specs.declared.keys.Key.TheVariants as keys
+use Rattle.txn_records.specs.Records.{key}
+use Rattle.snap_recover.specs.declared.openings.Opening.{Opening}
+use Rattle.snap_recover.specs.declared.openings.Kept.{Kept}
+use Rattle.snap_recover.specs.declared.openings.Kept.TheVariants as kept
+use Rattle.snap_recover.specs.Logs.{all_of, log_of, Has, IsLastOf, actors_in, tids_in, bids_in, geneses}
+
+-- ---- batches
+
+-- A batch is in where its log has its commit.
+abbrev pub IsIn : List (List Record) → Bid → Type 0
+IsIn logs bid = Has (log_of logs bid.0) (keys.Commit bid)
+
+-- what its log says of a batch: its actors and its transactions; where it says so twice, the last counts
+abbrev pub IsInfoOf : List (List Record) → Bid → List ActorId → List Tid → Type 0
+IsInfoOf logs bid actors tids = IsLastOf (λ r. key r ≡ keys.Info bid) (log_of logs bid.0) (BatchInfo bid actors tids)
+
+-- the actor's log says that it has run its part of the batch
+abbrev pub HasCompleted : List (List Record) → Bid → ActorId → Type 0
+HasCompleted logs bid actor = Has (log_of logs actor.0) (keys.Complete bid actor)
+
+-- nothing is lacking of a batch
+abbrev pub IsWhole : List (List Record) → Bid → Type 0
+IsWhole logs bid = (actors : List ActorId) × (tids : List Tid) × IsInfoOf logs bid actors tids × AllByRecursion (HasCompleted logs bid) actors
+
+-- ---- states
+
+-- a record that tells a state of the actor, of a batch that is in
+abbrev pub Counts : List (List Record) → ℕ → Record → Type 0
+Counts logs a (Genesis count states) = ⊥
+Counts logs a (BatchInfo bid actors tids) = ⊥
+Counts logs a (BatchComplete bid actor state) = (actor.0 ≡ a) × IsIn logs bid
+Counts logs a (BatchCommit bid) = ⊥
+
+-- The state of actor a is that of the last record of its log that counts, and where none does it is the first one.
+abbrev pub IsStateOf : List (List Record) → ℕ → State → State → Type 0
+IsStateOf logs a first s =
+    ((bid : Bid) × (actor : ActorId) × IsLastOf (Counts logs a) (log_of logs a) (BatchComplete bid actor s))
+    ⊎ (AllByRecursion (λ r. ¬ Counts logs a r) (log_of logs a) × (s ≡ first))
+
+-- the states of the actors, which began with these
+abbrev pub AreStates : List (List Record) → List State → List State → Type 0
+AreStates logs first states = AllZip (λ (x : ℕ × State) s. IsStateOf logs x.0 x.1 s) (enumerate_from 0 first) states
+
+-- ---- what is committed
+
+abbrev pub bid_of : Kept → Bid
+bid_of (kept.Batch bid tids) = bid
+
+abbrev pub IsKept : List (List Record) → Kept → Type 0
+IsKept logs (kept.Batch bid tids) = IsIn logs bid × ((actors : List ActorId) × IsInfoOf logs bid actors tids)
+
+-- the batches that are in, in the order of their numbers
+pub record IsCommitted (logs : List (List Record)) (committed : List Kept) : Type 0 where
+  pub ascend : AllPairs (λ a b. (bid_of a).0 < (bid_of b).0) committed
+  pub each : AllByRecursion (IsKept logs) committed
+  pub all : (bid : Bid) → IsIn logs bid → Contains (map bid_of committed) bid
+
+-- ---- next numbers
+
+abbrev pub greatest : List ℕ → ℕ
+greatest [] = 0
+greatest (n ∷ ns) = max n (greatest ns)
+
+-- one above all numbers that occur, and at least 1
+abbrev pub next_of : (Record → List ℕ) → List (List Record) → ℕ
+next_of numbers logs = greatest (flat_map numbers (all_of logs)) + 1
+
+-- ---- the whole
+
+-- the actors are among so many, and no number is too large
+pub record IsInRange (actors : ℕ) (r : Record) : Type 0 where
+  pub actors_below : AllByRecursion (λ a. a < actors) (actors_in r)
+  pub numbers_below : AllByRecursion (λ n. n ≤ 2 ^ 62) (bids_in r ++ tids_in r)
+
+-- The logs have one Genesis, which tells their number and the first states, and their records are in range.
+pub record IsBegun (logs : List (List Record)) (first : List State) : Type 0 where
+  pub one : geneses logs ≡ Genesis (length logs) first ∷ []
+  pub range : AllByRecursion (IsInRange (length first)) (all_of logs)
+
+pub record IsRecovered (logs : List (List Record)) (o : Opening) : Type 0 where
+  pub begun : (first : List State) × IsBegun logs first × AreStates logs first o.states
+  pub whole : (bid : Bid) → IsIn logs bid → IsWhole logs bid
+  pub committed : IsCommitted logs o.committed
+  pub next_tid : o.next_tid.0 ≡ next_of tids_in logs
+  pub next_bid : o.next_bid.0 ≡ next_of bids_in logs
+  -- nothing draws a commit number yet
+  pub next_c : o.next_c ≡ 1

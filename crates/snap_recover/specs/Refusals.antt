@@ -1,0 +1,51 @@
+-- Why logs recover to nothing. The causes stand in the order in which they are asked.
+use Rattle.std.specs.Prelude.{◌≡◌, ◌≢◌, ℕ, ◌%◌, ◌<◌, ◌≤◌, ◌⊎◌, List, [], ◌∷◌, ◌++◌, length}
+use Rattle.std.specs.List.{AllByRecursion}
+use Rattle.snap_base.specs.declared.ids.ActorId.{ActorId}
+use Rattle.snap_base.specs.declared.ids.Bid.{Bid}
+use Rattle.snap_base.specs.declared.ids.Tid.{Tid}
+use Rattle.snap_base.specs.declared.transactions.State.{State}
+use Rattle.txn_records.specs.declared.records.Record.{Record}
+use Rattle.txn_records.specs.declared.records.Record.TheVariants.{Genesis}
+use Rattle.txn_records.specs.declared.keys.Key.{Key}
+use Rattle.txn_records.specs.declared.keys.Key.TheVariants as keys
+use Rattle.txn_records.specs.Records.{key}
+use Rattle.snap_recover.specs.declared.refusals.RecoverNo.{RecoverNo}
+use Rattle.snap_recover.specs.declared.refusals.RecoverNo.TheVariants.{NoGenesis, TwoGenesis, LogCount, Range, Missing, Memory}
+use Rattle.snap_recover.specs.Logs.{all_of, log_of, Has, geneses}
+use Rattle.snap_recover.specs.Opening.{IsIn, IsInfoOf, HasCompleted, IsWhole, IsInRange, IsBegun}
+
+-- the first record, log by log, that is not in range, and the log in which it stands
+abbrev pub IsFirstOutOfRange : ℕ → List (List Record) → Record → ℕ → Type 0
+IsFirstOutOfRange actors logs r log =
+    (before after : List (List Record)) × (front behind : List Record)
+    × (logs ≡ before ++ (front ++ r ∷ behind) ∷ after) × (log ≡ length before)
+    × AllByRecursion (IsInRange actors) (all_of before ++ front) × ¬ IsInRange actors r
+
+-- a batch lacks its info
+abbrev pub LacksInfo : List (List Record) → Bid → Key → ℕ → Type 0
+LacksInfo logs bid k log = (k ≡ keys.Info bid) × (log ≡ bid.0 % length logs) × ¬ Has (log_of logs bid.0) k
+
+-- an actor of the batch has not completed it, and all before it have
+abbrev pub LacksComplete : List (List Record) → Bid → Key → ℕ → Type 0
+LacksComplete logs bid k log =
+    (front behind : List ActorId) × (actor : ActorId) × (tids : List Tid)
+    × IsInfoOf logs bid (front ++ actor ∷ behind) tids × AllByRecursion (HasCompleted logs bid) front
+    × (k ≡ keys.Complete bid actor) × (log ≡ actor.0 % length logs) × ¬ HasCompleted logs bid actor
+
+-- the first key that is lacking, batches by number first, and the log in which it should be
+abbrev pub IsFirstLacking : List (List Record) → Key → ℕ → Type 0
+IsFirstLacking logs k log =
+    (bid : Bid) × IsIn logs bid × ((b : Bid) → b.0 < bid.0 → IsIn logs b → IsWhole logs b)
+    × (LacksInfo logs bid k log ⊎ LacksComplete logs bid k log)
+
+abbrev pub IsRefused : List (List Record) → RecoverNo → Type 0
+IsRefused logs NoGenesis = geneses logs ≡ []
+IsRefused logs TwoGenesis = 2 ≤ length (geneses logs)
+IsRefused logs (LogCount count found) =
+    (first : List State) × (geneses logs ≡ Genesis count first ∷ []) × (found ≡ length logs) × (count ≢ found)
+IsRefused logs (Range k log) =
+    (first : List State) × (r : Record) × (geneses logs ≡ Genesis (length logs) first ∷ [])
+    × IsFirstOutOfRange (length first) logs r log × (k ≡ key r)
+IsRefused logs (Missing k log) = (first : List State) × IsBegun logs first × IsFirstLacking logs k log
+IsRefused logs Memory = Unit {0}

@@ -1,0 +1,39 @@
+ghost use Rattle.std.specs.Prelude.{◌≡◌, [], IfOk};
+
+use snap_base::{Bid, Memory, Sequence, State, Tid};
+use std::alloc::Global;
+
+/// Transactions that are committed.
+#[derive(Drop)]
+pub enum Kept {
+    /// A batch and its transactions, ascending.
+    Batch { bid: Bid, tids: Sequence<Tid> },
+}
+
+/// What a run begins with.
+#[derive(Drop)]
+pub struct Opening {
+    /// The state of each actor, in the order of their numbers.
+    pub states: Sequence<State>,
+    /// What earlier runs committed, in the order of the places.
+    pub committed: Sequence<Kept>,
+    /// The next transaction's identifier, at least 1.
+    pub next_tid: Tid,
+    /// The next batch's number, at least 1.
+    pub next_bid: Bid,
+    /// The next commit number, at least 1.
+    pub next_c: u64,
+}
+
+/// What the first run on empty logs begins with: these states, nothing committed, and all numbers from 1 on.
+pub fn fresh(alloc: Global, states: &[State]) -> Result<Opening, Memory>
+    ensures { IfOk result (λ o. o ≡ record { states = states.now; committed = []; next_tid = record { 0 = 1 }; next_bid = record { 0 = 1 }; next_c = 1 }) }
+{
+    Ok(Opening {
+        states: Sequence::from_vec(Vec::from_slice(alloc, states)?),
+        committed: Sequence::new(alloc),
+        next_tid: Tid(1),
+        next_bid: Bid(1),
+        next_c: 1,
+    })
+}

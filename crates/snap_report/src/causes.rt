@@ -1,0 +1,36 @@
+use snap_base::ActorId;
+use txn_records::Key;
+
+/// Why what a log holds is refused.
+#[derive(Clone, Copy, Debug, PartialEq, Eq)]
+pub enum LogCause {
+    /// The file holds more than nine bytes and is no log: the first byte that differs.
+    NotALog,
+    /// Behind an open gate there is no whole group: the gate.
+    Damage,
+    /// An item is no record: the first byte at which none goes on.
+    BadRecord,
+    /// No log has a Genesis.
+    NoGenesis,
+    /// The logs have more than one.
+    TwoGenesis,
+    /// Genesis says that there are `kept` logs, and `found` are here.
+    LogCount { kept: u64, found: u64 },
+    /// The record with the key names an actor that there is not, or a number above 2^62.
+    Range { key: Key },
+    /// A batch is committed, and the record with the key, which it rests on, is not in its log.
+    Missing { key: Key },
+    /// The next number of transactions, batches or commits is above 2^62 - 2^20.
+    Spent { number: u64 },
+    /// The logs began with another text: what differs first, with both values.
+    Differs { what: What, kept: i64, text: i64 },
+}
+
+/// What of two texts differs.
+#[derive(Clone, Copy, Debug, PartialEq, Eq)]
+pub enum What {
+    /// The number of actors.
+    Actors,
+    /// A field of an actor's first state.
+    Field { actor: ActorId, field: u8 },
+}

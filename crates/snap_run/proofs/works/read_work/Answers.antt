@@ -1,0 +1,39 @@
+use Rattle.std.proofs.Common.{◌≤◌, ap, sym, length, subst, Err}
+use Rattle.std.specs.Io.KnownBytes.{Consumes, IsAtEnd}
+use Rattle.work_text.specs.declared.faults.WorkFault.{WorkFault}
+use Rattle.snap_run.specs.Uses.{Reading}
+use Rattle.snap_run.proofs.InputLaws.{runnable, reads_enough, refused_input, of_text}
+use Rattle.snap_run.proofs.works.read_work.Goals as goal
+
+pub returns-in-Ok-parse_work-clause-runnable : goal.returns-in-Ok-parse_work-clause-runnable
+returns-in-Ok-parse_work-clause-runnable g c = runnable _ _ c.in-Ok-parse_work.ensures.found
+
+pub returns-in-Ok-parse_work-clause-answer : goal.returns-in-Ok-parse_work-clause-answer
+returns-in-Ok-parse_work-clause-answer g c =
+    let r : Reading = record {
+      left_before = g.I.Source.left c.args.input.now;
+      left_after = g.I.Source.left c.read_input.new.input;
+      faults_before = g.I.Source.faults c.args.input.now;
+      faults_after = g.I.Source.faults c.read_input.new.input;
+    } in
+    of_text r c.as_slice.result.now _ c.in-Ok-parse_work.ensures.found
+    (subst (Consumes (g.I.Source.left c.args.input.now) (g.I.Source.left c.read_input.new.input)) (sym c.as_slice.ensures.value) c.in-Ok.ensures.moved)
+    (subst (λ l. length l ≤ 8388608 → IsAtEnd (g.I.Source.left c.read_input.new.input)) (sym c.as_slice.ensures.value) c.in-Ok.ensures.whole)
+
+pub returns-in-Err-Fault-parse_work-clause-answer : goal.returns-in-Err-Fault-parse_work-clause-answer
+returns-in-Err-Fault-parse_work-clause-answer g c =
+    let r : Reading = record {
+      left_before = g.I.Source.left c.args.input.now;
+      left_after = g.I.Source.left c.read_input.new.input;
+      faults_before = g.I.Source.faults c.args.input.now;
+      faults_after = g.I.Source.faults c.read_input.new.input;
+    } in
+    let is = ap Err c.in-Err-Fault-parse_work.field-0-is in
+    let fault = c.in-Err-Fault-parse_work.ensures.fault _ is in
+    let moved = subst (Consumes (g.I.Source.left c.args.input.now) (g.I.Source.left c.read_input.new.input)) (sym c.as_slice.ensures.value) c.in-Ok.ensures.moved in
+    let whole = subst (λ l. length l ≤ 8388608 → IsAtEnd (g.I.Source.left c.read_input.new.input)) (sym c.as_slice.ensures.value) c.in-Ok.ensures.whole in (
+      ap (λ (f : WorkFault). f.line) fault,
+      ap (λ (f : WorkFault). f.cause) fault,
+      reads_enough r c.as_slice.result.now moved whole (subst (λ l. length l ≤ 8388609) (sym c.as_slice.ensures.value) c.in-Ok.ensures.most),
+      refused_input _ _ c.as_slice.result.now moved whole (c.in-Err-Fault-parse_work.ensures.refused _ is),
+    )

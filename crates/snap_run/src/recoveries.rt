@@ -1,0 +1,70 @@
+ghost use Rattle.std.specs.Prelude.{◌≡◌, ◌≤◌, ◌++◌, length, vec_len, IfOk, MatchResult, string_bytes};
+ghost use Rattle.std.specs.List.{AllZip};
+ghost use Rattle.record_log.specs.Records.{KeepsRecords};
+ghost use Rattle.kept_logs.specs.Devices.{Device, devices_of, IsOpenedAtMost};
+ghost use Rattle.snap_report.specs.declared.statuses.Status.TheVariants as status;
+ghost use Rattle.snap_run.specs.Statuses.{kept_status};
+ghost use Rattle.snap_run.specs.Uses.{Writing};
+ghost use Rattle.snap_run.specs.Recoveries.{recovered_report, IsRecoverAnswer};
+
+use crate::writes::write_all;
+use kept_logs::{KeptNo, recover_kept};
+use run_batch::actors_report;
+use snap_base::Memory;
+use snap_outside::{LogDev, Sink};
+use snap_recover::Opening;
+use snap_report::{Status, recovered_line};
+use std::alloc::Global;
+
+/// Prints what the logs on these devices recover to.
+pub(crate) fn print_recovered<D: LogDev, O: Sink>(
+    alloc: Global,
+    devices: &mut Vec<D>,
+    out: &mut O,
+) -> Result<(), Status>
+    requires { vec_len devices.old ≡ 4 }
+    ensures answer { let writing : Writing = record {
+      taken_before = O.taken out.old;
+      taken_after = O.taken out.new;
+      faults_before = O.faults out.old;
+      faults_after = O.faults out.new;
+    } in MatchResult result
+        (λ _. IsRecoverAnswer (devices_of D.told D.faults devices.old.items) (devices_of D.told D.faults devices.new.items) writing status.Done)
+        (λ s. IsRecoverAnswer (devices_of D.told D.faults devices.old.items) (devices_of D.told D.faults devices.new.items) writing s) }
+    ensures four { vec_len devices.new ≡ 4 }
+    ensures opened { AllZip IsOpenedAtMost (devices_of D.told D.faults devices.old.items) (devices_of D.told D.faults devices.new.items) }
+    ensures safe { AllZip (λ (a b : Device). KeepsRecords a.told b.told) (devices_of D.told D.faults devices.old.items) (devices_of D.told D.faults devices.new.items) }
+{
+    let opening = match recover_kept(alloc, devices) {
+        Ok(opening) => opening,
+        Err(no) => return Err(status_of(no)),
+    };
+    let Ok(report) = report_of(alloc, &opening) else {
+        return Err(Status::Memory);
+    };
+    if write_all(out, report.as_bytes()).is_err() {
+        return Err(Status::OutFault);
+    }
+    Ok(())
+}
+
+fn status_of(no: KeptNo) -> Status
+    ensures { result ≡ kept_status no }
+{
+    match no {
+        KeptNo::Logs { log, offset, cause } => Status::Logs { log, offset, cause },
+        KeptNo::Device { log } => Status::LogFault { log },
+        KeptNo::Memory => Status::Memory,
+    }
+}
+
+/// The lines of the actors, and what is recovered.
+fn report_of(alloc: Global, opening: &Opening) -> Result<String, Memory>
+    requires { length opening.now.states ≤ 256 }
+    ensures { IfOk result (λ s. string_bytes s ≡ recovered_report opening.now) }
+{
+    let mut text = actors_report(alloc, opening.states.as_slice())?;
+    let line = recovered_line(alloc, opening)?;
+    text.push_str(line.as_str())?;
+    Ok(text)
+}

@@ -1,0 +1,35 @@
+ghost use Rattle.std.specs.Prelude.{◌≡◌, IfOk, MatchResult};
+ghost use Rattle.snap_run.specs.Uses.{Reading};
+ghost use Rattle.snap_run.specs.Runs.{IsRunnable};
+ghost use Rattle.snap_run.specs.Answers.{OfText, IsInputAnswer};
+
+use crate::reads::{ReadNo, read_input};
+use snap_outside::Source;
+use snap_report::Status;
+use std::alloc::Global;
+use work_text::{Work, WorkNo, parse_work};
+
+/// The work that the input stands for.
+pub(crate) fn read_work<I: Source>(alloc: Global, input: &mut I) -> Result<Work, Status>
+    ensures answer { let r : Reading = record {
+      left_before = I.left input.old;
+      left_after = I.left input.new;
+      faults_before = I.faults input.old;
+      faults_after = I.faults input.new;
+    } in MatchResult result (λ w. OfText r (λ v. v ≡ w)) (λ s. IsInputAnswer r s) }
+    ensures runnable { IfOk result IsRunnable }
+{
+    let bytes = match read_input(alloc, input) {
+        Ok(bytes) => bytes,
+        Err(ReadNo::Fault) => return Err(Status::ReadFault),
+        Err(ReadNo::Memory) => return Err(Status::Memory),
+    };
+    match parse_work(alloc, bytes.as_slice()) {
+        Ok(work) => Ok(work),
+        Err(WorkNo::Fault(fault)) => Err(Status::Input {
+            line: fault.line,
+            cause: fault.cause,
+        }),
+        Err(WorkNo::Memory) => Err(Status::Memory),
+    }
+}
