@@ -1,4 +1,7 @@
 pub mod Names
-pub mod Refusals
+pub mod Faults
+pub mod Closed
 pub mod Meaning
 pub mod Transactions
+pub mod Checked
+pub mod Resolving

@@ -1,63 +1,64 @@
--- What a checked program is: the text's tree with each name replaced by its place among the variables
--- that are visible there, which are the method's parameters in their order.
-use Rattle.std.specs.Prelude.{◌≡◌, ℕ, ◌<◌, ◌^◌, List, [], ◌∷◌, length, map, Some, slice_get, Contains}
-use Rattle.std.specs.List.{AllByRecursion}
-use Rattle.aml_tree.specs.Tree.{Expr, Number, Variable, Field, Binary, Block, End, SetField, Return, MethodTree}
+-- What names stand for: a variable for its place among those that are visible, a method for its place
+-- in the program.
+use Rattle.std.specs.Prelude.{ℕ, ◌+◌, if◌then◌else◌, List, [], ◌∷◌, ◌++◌, length, map, Option, Some, None, unwrap_or, slice_index_or}
+use Rattle.std.specs.Str.{bytes_eq}
+use Rattle.aml_tokens.specs.declared.tokens.Word.{Word}
+use Rattle.aml_tree.specs.Tree.{Expr, Code, End, Let, Call, Set, SetField, If, IfElse, While, Fail, Return, MethodTree, TextMethod, CheckedMethod, renamed_expression}
 
--- names, the visible variables; e, as the text has it; c, checked
-abbrev pub IsCheckedExpression : List (List ℕ) → Expr (List ℕ) → Expr ℕ → Type 0
-IsCheckedExpression names (Number n) c = c ≡ Number n
-IsCheckedExpression names (Variable name) c = (place : ℕ) × (slice_get names place ≡ Some name) × (c ≡ Variable place)
-IsCheckedExpression names (Field k) c = c ≡ Field k
-IsCheckedExpression names (Binary o a b) c = (x y : Expr ℕ) × IsCheckedExpression names a x × IsCheckedExpression names b y × (c ≡ Binary o x y)
+-- ---- names
 
-abbrev pub IsCheckedBlock : List (List ℕ) → Block (List ℕ) → Block ℕ → Type 0
-IsCheckedBlock names End c = c ≡ End
-IsCheckedBlock names (SetField k value rest) c = (x : Expr ℕ) × (more : Block ℕ) × IsCheckedExpression names value x × IsCheckedBlock names rest more × (c ≡ SetField k x more)
-IsCheckedBlock names (Return value rest) c = (x : Expr ℕ) × (more : Block ℕ) × IsCheckedExpression names value x × IsCheckedBlock names rest more × (c ≡ Return x more)
+abbrev pub names_of : List Word → List (List ℕ)
+names_of ws = map (λ (w : Word). w.name) ws
 
--- no two are the same
-abbrev pub AreDistinct : List (List ℕ) → Type 0
-AreDistinct [] = Unit {0}
-AreDistinct (name ∷ names) = ¬ Contains names name × AreDistinct names
+-- the first place of a name, counted from a number on
+abbrev pub place_from : ℕ → List (List ℕ) → List ℕ → Option ℕ
+place_from k [] name = None
+place_from k (n ∷ ns) name = if bytes_eq n name then Some k else place_from (k + 1) ns name
 
-pub record IsCheckedMethod (m : MethodTree (List ℕ)) (c : MethodTree ℕ) : Type 0 where
-  pub name : c.name ≡ m.name
-  pub parameters : c.parameters ≡ m.parameters
-  pub distinct : AreDistinct m.parameters
-  pub body : IsCheckedBlock m.parameters m.body c.body
+abbrev pub place_of : List (List ℕ) → List ℕ → Option ℕ
+place_of names name = place_from 0 names name
 
-abbrev pub AreCheckedMethods : List (MethodTree (List ℕ)) → List (MethodTree ℕ) → Type 0
-AreCheckedMethods [] cs = cs ≡ []
-AreCheckedMethods (m ∷ ms) cs = (c : MethodTree ℕ) × (more : List (MethodTree ℕ)) × IsCheckedMethod m c × AreCheckedMethods ms more × (cs ≡ c ∷ more)
+abbrev pub method_names : {V M : Type 0} → List (MethodTree V M) → List (List ℕ)
+method_names p = map (λ (m : MethodTree _ _). m.name.name) p
 
--- c is the program p with its names resolved: no two methods share a name, no two parameters of a
--- method do, and each variable is a parameter of its method
-pub record IsCheckedProgram (p : List (MethodTree (List ℕ))) (c : List (MethodTree ℕ)) : Type 0 where
-  pub distinct : AreDistinct (map (λ (m : MethodTree (List ℕ)). m.name) p)
-  pub methods : AreCheckedMethods p c
+abbrev pub no_method : {V M : Type 0} → MethodTree V M
+no_method = record { name = record { name = []; line = 0 }; parameters = []; body = End 0 }
 
--- ---- what every checked program keeps
+-- the method at a place
+abbrev pub method_at : {V M : Type 0} → List (MethodTree V M) → ℕ → MethodTree V M
+method_at p place = slice_index_or p place no_method
 
--- each variable is one of the first n, each number is of signed 64 bits, and each field is the actor's
-abbrev pub IsClosedExpression : ℕ → Expr ℕ → Type 0
-IsClosedExpression n (Number z) = z < 2 ^ 63
-IsClosedExpression n (Variable place) = place < n
-IsClosedExpression n (Field k) = k < 16
-IsClosedExpression n (Binary o a b) = IsClosedExpression n a × IsClosedExpression n b
+-- ---- the program with places for names
 
--- and the block ends with a return
-abbrev pub IsClosedBlock : ℕ → Block ℕ → Type 0
-IsClosedBlock n End = ⊥
-IsClosedBlock n (SetField k value rest) = (k < 16) × IsClosedExpression n value × IsClosedBlock n rest
-IsClosedBlock n (Return value rest) = IsClosedExpression n value
+-- methods, the names of the program's methods; names, the visible variables in their order
+abbrev pub placed : List (List ℕ) → Word → ℕ
+placed names w = unwrap_or (place_of names w.name) (length names)
 
--- a place among the parameters fits a byte
-pub record IsClosedMethod (m : MethodTree ℕ) : Type 0 where
-  pub few : length m.parameters < 2 ^ 8
-  pub body : IsClosedBlock (length m.parameters) m.body
+abbrev pub checked_expression : List (List ℕ) → Expr Word → Expr ℕ
+checked_expression names e = renamed_expression (placed names) e
 
--- and one among the methods fits two
-pub record IsClosedProgram (p : List (MethodTree ℕ)) : Type 0 where
-  pub few : length p < 2 ^ 16
-  pub methods : AllByRecursion IsClosedMethod p
+-- a new variable comes behind those that are visible, and is visible up to the end of its block
+abbrev pub checked_block : List (List ℕ) → List (List ℕ) → Code Word Word → Code ℕ ℕ
+checked_block methods names (End line) = End line
+checked_block methods names (Let v value rest) = Let (length names) (checked_expression names value) (checked_block methods (names ++ v.name ∷ []) rest)
+checked_block methods names (Call v target m arguments rest) =
+    Call (length names) (checked_expression names target) (placed methods m) (map (checked_expression names) arguments) (checked_block methods (names ++ v.name ∷ []) rest)
+checked_block methods names (Set v value rest) = Set (placed names v) (checked_expression names value) (checked_block methods names rest)
+checked_block methods names (SetField k value rest) = SetField k (checked_expression names value) (checked_block methods names rest)
+checked_block methods names (If condition first rest) = If (checked_expression names condition) (checked_block methods names first) (checked_block methods names rest)
+checked_block methods names (IfElse condition first other rest) =
+    IfElse (checked_expression names condition) (checked_block methods names first) (checked_block methods names other) (checked_block methods names rest)
+checked_block methods names (While condition body rest) = While (checked_expression names condition) (checked_block methods names body) (checked_block methods names rest)
+checked_block methods names (Fail code rest) = Fail code (checked_block methods names rest)
+checked_block methods names (Return value rest) = Return (checked_expression names value) (checked_block methods names rest)
+
+-- the numbers from one on, as many as there are parameters
+abbrev pub counted_from : {V : Type 0} → ℕ → List V → List ℕ
+counted_from k [] = []
+counted_from k (v ∷ vs) = k ∷ counted_from (k + 1) vs
+
+abbrev pub checked_method : List (List ℕ) → TextMethod → CheckedMethod
+checked_method methods m = record { name = m.name; parameters = counted_from 0 m.parameters; body = checked_block methods (names_of m.parameters) m.body }
+
+abbrev pub checked_program : List TextMethod → List CheckedMethod
+checked_program p = map (checked_method (method_names p)) p

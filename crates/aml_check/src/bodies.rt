@@ -1,91 +1,110 @@
-ghost use Rattle.std.specs.Prelude.{ℕ, ◌<◌, ◌^◌, [], ◌∷◌, length, IfOk, IfErr};
-ghost use Rattle.aml_tree.specs.Tree.{Expr, Block, operand_tree, expression_tree, block_tree};
-ghost use Rattle.aml_check.specs.Names.{IsCheckedExpression, IsCheckedBlock};
-ghost use Rattle.aml_check.specs.Refusals.{IsRefusal};
+//! Blocks with places for names.
 
-use crate::places::place_of;
-use crate::{CheckCause, CheckFault, CheckNo};
-use aml_tree::{Expression, Link, Name, Operand, Statement};
-use snap_base::Sequence;
+ghost use Rattle.std.specs.Prelude.{◌≡◌, ◌+◌, ◌≤◌, ◌<◌, length, drop, map, slice_index_or, IfOk};
+ghost use Rattle.aml_tree.specs.Limits.{lets};
+ghost use Rattle.aml_tree.specs.Tree.{End, statement_tree, statements_tree, block_tree, method_tree};
+ghost use Rattle.aml_check.specs.Faults.{block_faults};
+ghost use Rattle.aml_check.specs.Names.{method_names, checked_block};
+ghost use Rattle.aml_check.specs.Resolving.{Resolves, Steps};
+
+use crate::expressions::expression;
+use crate::statements::{
+    call_statement, field_statement, let_statement, return_statement, set_statement,
+};
+use crate::{CheckNo, makers};
+use aml_tokens::{Name, Word};
+use aml_tree::{Block, Method, Statement};
 use std::alloc::Global;
 
-// In each function `names` are the method's parameters.
+// In each function `methods` are the program's, and `names` the visible variables.
 
-fn operand(names: &[Name], operand: &Operand<Name>) -> Result<Operand<u8>, CheckNo>
-    requires { length names.now < 2 ^ 8 }
-    ensures found { IfOk result (λ c. IsCheckedExpression names.now (operand_tree operand.now) (operand_tree c)) }
-    ensures refused { IfErr result (IsRefusal ((c : Expr ℕ) × IsCheckedExpression names.now (operand_tree operand.now) c) (Unit {0})) }
-{
-    match operand {
-        Operand::Number(number) => Ok(Operand::Number(*number)),
-        Operand::Variable(name) => match place_of(names, name.as_slice()) {
-            Some(place) => Ok(Operand::Variable(place as u8)),
-            None => Err(CheckNo::Fault(CheckFault {
-                cause: CheckCause::UnknownName,
-            })),
-        },
-        Operand::Field(field) => Ok(Operand::Field(*field)),
-    }
-}
-
-fn expression(
+/// Resolves a block. Behind it the same variables are visible as before.
+#[cycle(bodies)]
+pub(crate) fn block(
     alloc: Global,
-    names: &[Name],
-    expression: &Expression<Name>,
-) -> Result<Expression<u8>, CheckNo>
-    requires { length names.now < 2 ^ 8 }
-    ensures found { IfOk result (λ c. IsCheckedExpression names.now (expression_tree expression.now) (expression_tree c)) }
-    ensures refused { IfErr result (IsRefusal ((c : Expr ℕ) × IsCheckedExpression names.now (expression_tree expression.now) c) (Unit {0})) }
+    methods: &[Method<Word, Word>],
+    names: &mut Vec<Name>,
+    code: &Block<Statement<Word, Word>>,
+) -> Result<Block<Statement<u8, u16>>, CheckNo>
+    requires room { length names.old.items + lets (block_tree code.now) ≤ 32 }
+    requires few { length methods.now ≤ 64 }
+    ensures resolved { Resolves block_tree (block_faults (map method_tree methods.now) names.old.items (block_tree code.now)) (checked_block (method_names (map method_tree methods.now)) names.old.items (block_tree code.now)) result }
+    ensures names { IfOk result (λ _. names.new.items ≡ names.old.items) }
 {
-    let first = operand(names, &expression.first)?;
-    let mut rest = Sequence::new(alloc);
-    for link in expression.rest.as_slice() {
-        let joined = operand(names, &link.operand)?;
-        rest.push(Link {
-            operator: link.operator,
-            operand: joined,
-        })?;
+    let visible = names.len();
+    let mut resolved = Vec::new(alloc);
+    for (at, each) in code.statements.iter().enumerate() {
+        has_room(names.as_slice(), code.statements.as_slice(), at, each);
+        let next = statement(alloc, methods, names, each)?;
+        makers::put_statement(&mut resolved, next)?;
     }
-    Ok(Expression { first, rest })
+    names.truncate(visible);
+    Ok(Block {
+        statements: resolved,
+        last_line: code.last_line,
+    })
 }
 
-// A statement is the block that has it alone.
+/// Where a block's names fit from a statement on, those of the statement do.
+fn has_room(
+    _names: &[Name],
+    _statements: &[Statement<Word, Word>],
+    _at: usize,
+    _one: &Statement<Word, Word>,
+)
+    requires within { _at < length _statements.now }
+    requires here { _one.now ≡ slice_index_or _statements.now _at _one.now }
+    requires room { length _names.now + lets (statements_tree (drop _at _statements.now) (End 0)) ≤ 32 }
+    ensures { length _names.now + lets (statement_tree _one.now (End 0)) ≤ 32 }
+{}
+
+/// Resolves a statement.
+#[cycle(bodies)]
 fn statement(
     alloc: Global,
-    names: &[Name],
-    statement: &Statement<Name>,
-) -> Result<Statement<u8>, CheckNo>
-    requires { length names.now < 2 ^ 8 }
-    ensures found { IfOk result (λ c. IsCheckedBlock names.now (block_tree (statement.now ∷ [])) (block_tree (c ∷ []))) }
-    ensures refused { IfErr result (IsRefusal ((c : Block ℕ) × IsCheckedBlock names.now (block_tree (statement.now ∷ [])) c) (Unit {0})) }
+    methods: &[Method<Word, Word>],
+    names: &mut Vec<Name>,
+    one: &Statement<Word, Word>,
+) -> Result<Statement<u8, u16>, CheckNo>
+    requires room { length names.old.items + lets (statement_tree one.now (End 0)) ≤ 32 }
+    requires few { length methods.now ≤ 64 }
+    ensures { Steps (map method_tree methods.now) names.old.items names.new.items (statement_tree one.now) result }
 {
-    match statement {
+    match one {
+        Statement::Let { variable, value } => let_statement(alloc, methods, names, variable, value),
+        Statement::Call {
+            variable,
+            target,
+            method,
+            arguments,
+        } => call_statement(alloc, methods, names, variable, target, method, arguments),
+        Statement::Set { variable, value } => {
+            set_statement(alloc, methods, names.as_slice(), variable, value)
+        }
         Statement::SetField { field, value } => {
-            let value = expression(alloc, names, value)?;
-            Ok(Statement::SetField {
-                field: *field,
-                value,
-            })
+            field_statement(alloc, methods, names.as_slice(), *field, value)
         }
-        Statement::Return { value } => {
-            let value = expression(alloc, names, value)?;
-            Ok(Statement::Return { value })
+        Statement::If { condition, first } => {
+            let holds = expression(alloc, names.as_slice(), condition)?;
+            let then = block(alloc, methods, names, first)?;
+            Ok(makers::if_statement(holds, then))
         }
+        Statement::IfElse {
+            condition,
+            first,
+            other,
+        } => {
+            let holds = expression(alloc, names.as_slice(), condition)?;
+            let then = block(alloc, methods, names, first)?;
+            let otherwise = block(alloc, methods, names, other)?;
+            Ok(makers::if_else_statement(holds, then, otherwise))
+        }
+        Statement::While { condition, body } => {
+            let holds = expression(alloc, names.as_slice(), condition)?;
+            let turn = block(alloc, methods, names, body)?;
+            Ok(makers::while_statement(holds, turn))
+        }
+        Statement::Fail { code } => Ok(makers::fail_statement(*code)),
+        Statement::Return { value } => return_statement(alloc, methods, names.as_slice(), value),
     }
-}
-
-pub fn block(
-    alloc: Global,
-    names: &[Name],
-    statements: &[Statement<Name>],
-) -> Result<Sequence<Statement<u8>>, CheckNo>
-    requires { length names.now < 2 ^ 8 }
-    ensures found { IfOk result (λ c. IsCheckedBlock names.now (block_tree statements.now) (block_tree c)) }
-    ensures refused { IfErr result (IsRefusal ((c : Block ℕ) × IsCheckedBlock names.now (block_tree statements.now) c) (Unit {0})) }
-{
-    let mut resolved = Sequence::new(alloc);
-    for each in statements {
-        resolved.push(statement(alloc, names, each)?)?;
-    }
-    Ok(resolved)
 }

@@ -1,8 +1,13 @@
-ghost use Rattle.std.specs.Prelude.{◌≡◌, ℕ, List};
-ghost use Rattle.aml_tree.specs.Tree.{MethodTree};
-ghost use Rattle.aml_check.specs.Names.{IsCheckedProgram};
+//! What follows for a caller: a fault stands where the program does. It is called to cite it.
 
-/// A program resolves in one way at most.
-pub fn one_checked()
-    ensures { (p : List (MethodTree (List ℕ))) (c d : List (MethodTree ℕ)) → IsCheckedProgram p c → IsCheckedProgram p d → c ≡ d }
+ghost use Rattle.std.specs.Prelude.{◌≤◌, List};
+ghost use Rattle.aml_tree.specs.Lines.{LinesUpTo};
+ghost use Rattle.aml_tree.specs.Tree.{TextMethod};
+ghost use Rattle.aml_check.specs.Faults.{IsFirstFault};
+
+use crate::CheckFault;
+
+/// A program's first fault stands in a line of one of its words, or in that of a closing brace.
+pub fn faults_stand_in_the_program(_most: usize)
+    ensures { (p : List TextMethod) (f : CheckFault) → LinesUpTo _most p → IsFirstFault p f → f.line ≤ _most }
 {}

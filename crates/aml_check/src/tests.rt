@@ -1,160 +1,157 @@
-ghost use Rattle.std.specs.Prelude.{◌≡◌, [], ◌∷◌, IfOk, IsTrue};
-ghost use Rattle.aml_tree.specs.Grammar.{IsMethod, IsProgram};
-ghost use Rattle.aml_tree.specs.Tree.{method_tree, program_tree};
-ghost use Rattle.aml_tree.specs.Words.{is_letter};
-
-use crate::{CheckCause, CheckNo, check};
-use aml_tree::{Expression, Link, Method, Name, Operand, Operator, Program, Statement};
-use snap_base::{Memory, Sequence};
+use crate::{CheckCause, CheckFault, CheckNo, check};
+use aml_tree::parse_program;
+use snap_base::Memory;
 use std::alloc::Global;
+use std::rt::HostRuntime;
 use std::test::Fail;
 
-fn letter(alloc: Global, byte: u8) -> Result<Name, Memory>
-    ensures { IfOk result (λ name. name ≡ byte ∷ []) }
-{
-    let mut name = Sequence::new(alloc);
-    name.push(byte)?;
-    Ok(name)
-}
-
-// `method NAME(FIRST, SECOND) { f1 = FIRST - 7 + VARIABLE; return f1; }`, each name a letter
-fn method(
-    alloc: Global,
-    name: u8,
-    first: u8,
-    second: u8,
-    variable: u8,
-) -> Result<Method<Name>, Memory>
-    requires name { IsTrue (is_letter name) }
-    requires first { IsTrue (is_letter first) }
-    requires second { IsTrue (is_letter second) }
-    requires variable { IsTrue (is_letter variable) }
-    ensures { IfOk result (λ m. IsMethod (method_tree m)) }
-{
-    let mut parameters = Sequence::new(alloc);
-    parameters.push(letter(alloc, first)?)?;
-    parameters.push(letter(alloc, second)?)?;
-    let mut rest = Sequence::new(alloc);
-    rest.push(Link {
-        operator: Operator::Minus,
-        operand: Operand::Number(7),
-    })?;
-    rest.push(Link {
-        operator: Operator::Plus,
-        operand: Operand::Variable(letter(alloc, variable)?),
-    })?;
-    let sum = Expression {
-        first: Operand::Variable(letter(alloc, first)?),
-        rest,
+/// The first fault of the program that a text spells, if it has one.
+fn fault_of(alloc: Global, text: &str) -> Result<Option<CheckFault>, Memory> {
+    let Ok(program) = parse_program(alloc, text) else {
+        return Err(Memory);
     };
-    let field = Expression {
-        first: Operand::Field(1),
-        rest: Sequence::new(alloc),
-    };
-    let mut body = Sequence::new(alloc);
-    body.push(Statement::SetField {
-        field: 1,
-        value: sum,
-    })?;
-    body.push(Statement::Return { value: field })?;
-    Ok(Method {
-        name: letter(alloc, name)?,
-        parameters,
-        body,
-    })
-}
-
-fn program(
-    alloc: Global,
-    first: Method<Name>,
-    second: Method<Name>,
-) -> Result<Program<Name>, Memory>
-    requires first { IsMethod (method_tree first) }
-    requires second { IsMethod (method_tree second) }
-    ensures { IfOk result (λ p. IsProgram (program_tree p)) }
-{
-    let mut methods = Sequence::new(alloc);
-    methods.push(first)?;
-    methods.push(second)?;
-    Ok(Program { methods })
-}
-
-fn is_place(operand: &Operand<u8>, place: u8) -> bool {
-    match operand {
-        Operand::Variable(found) => *found == place,
-        Operand::Number(_) | Operand::Field(_) => false,
-    }
-}
-
-// `f1 = (the parameter at 0) - 7 + (the parameter at 1)`
-fn is_sum(statement: &Statement<u8>) -> bool {
-    match statement {
-        Statement::SetField { field, value } => {
-            let rest = value.rest.as_slice();
-            *field == 1
-                && is_place(&value.first, 0)
-                && rest.len() == 2
-                && rest[0].operator == Operator::Minus
-                && rest[1].operator == Operator::Plus
-                && is_place(&rest[1].operand, 1)
-        }
-        Statement::Return { value: _ } => false,
-    }
-}
-
-#[test]
-fn resolves_names(rt: HostRuntime) -> Result<(), Fail> {
-    let alloc = rt.alloc();
-    let first = method(alloc, b'a', b'b', b'c', b'c')?;
-    let second = method(alloc, b'd', b'b', b'a', b'b')?;
-    match check(alloc, program(alloc, first, second)?) {
-        Ok(checked) => {
-            assert_eq!(rt; checked.methods(), 2);
-            assert_eq!(rt; checked.method_named(b"a"), Some(0));
-            assert_eq!(rt; checked.method_named(b"d"), Some(1));
-            assert_eq!(rt; checked.method_named(b"b"), None);
-            assert_eq!(rt; checked.params(0), 2);
-            let body = checked.body(0);
-            assert_eq!(rt; body.len(), 2);
-            assert!(rt; is_sum(&body[0]));
-        }
-        Err(_) => assert!(rt; false),
-    }
-    Ok(())
-}
-
-// The cause for which a program is refused that has `method a(b, c)`, and then
-// `method NAME(b, SECOND) { f1 = b - 7 + VARIABLE; return f1; }`.
-fn refusal(alloc: Global, name: u8, second: u8, variable: u8) -> Result<Option<CheckCause>, Memory>
-    requires name { IsTrue (is_letter name) }
-    requires second { IsTrue (is_letter second) }
-    requires variable { IsTrue (is_letter variable) }
-{
-    let good = method(alloc, b'a', b'b', b'c', b'c')?;
-    let other = method(alloc, name, b'b', second, variable)?;
-    match check(alloc, program(alloc, good, other)?) {
+    match check(alloc, program) {
         Ok(_) => Ok(None),
-        Err(CheckNo::Fault(fault)) => Ok(Some(fault.cause)),
+        Err(CheckNo::Fault(fault)) => Ok(Some(fault)),
         Err(CheckNo::Memory) => Err(Memory),
     }
 }
 
 #[test]
-fn refuses_names(rt: HostRuntime) -> Result<(), Fail> {
+fn programs_without_faults_are_checked(rt: HostRuntime) -> Result<(), Fail> {
     let alloc = rt.alloc();
-    assert_eq!(rt; refusal(alloc, b'd', b'c', b'c')?, None);
-    assert_eq!(rt;
-        refusal(alloc, b'a', b'c', b'c')?,
-        Some(CheckCause::Duplicate)
-    );
-    assert_eq!(rt;
-        refusal(alloc, b'd', b'b', b'b')?,
-        Some(CheckCause::Duplicate)
-    );
-    // `a` is the name of a method
-    assert_eq!(rt;
-        refusal(alloc, b'd', b'c', b'a')?,
-        Some(CheckCause::UnknownName)
-    );
+    let table = [
+        "method n(p, q) { let v = call self m(p); if 1 { let w = 1; } v = 2; return q; } method m(r) { fail 7; }",
+        // a method and a variable of one name, and one name in blocks behind each other
+        "method n(n) { if n { let w = 1; } else { let w = 2; } let w = 3; return w; }",
+        "method n() { if 1 { return 1; } else { if 2 { fail 3; } else { return 4; } } }",
+    ];
+    for text in &table {
+        assert_eq!(rt; fault_of(alloc, text)?, None);
+    }
+    Ok(())
+}
+
+#[test]
+fn the_first_fault_is_told(rt: HostRuntime) -> Result<(), Fail> {
+    let alloc = rt.alloc();
+    let table = [
+        // a called method's faults come before those of its arguments, and behind those of the actor
+        (
+            "method n() {\n let v = call 1 z(\n y);\n return v;\n}",
+            2,
+            CheckCause::UnknownName,
+        ),
+        (
+            "method n(p) {\n let v = call 1\n n(\n z, z);\n return v;\n}",
+            3,
+            CheckCause::ArgCount,
+        ),
+        (
+            "method n() {\n let v = call\n z\n n(1);\n return v;\n}",
+            3,
+            CheckCause::UnknownName,
+        ),
+        (
+            "method n(p) {\n let p =\n call z n(1);\n return p;\n}",
+            2,
+            CheckCause::Duplicate,
+        ),
+        // a name is visible from behind its statement to the end of its block
+        (
+            "method n() {\n let v =\n v;\n return v;\n}",
+            3,
+            CheckCause::UnknownName,
+        ),
+        (
+            "method n() {\n if 1 { let w = 1; }\n w = 2;\n return 1;\n}",
+            3,
+            CheckCause::UnknownName,
+        ),
+        (
+            "method n() {\n if 1 { let w = 1; } else {\n f0 = w; }\n return 1;\n}",
+            3,
+            CheckCause::UnknownName,
+        ),
+        (
+            "method n() {\n while 1 { let w = 1; }\n return w;\n}",
+            3,
+            CheckCause::UnknownName,
+        ),
+        (
+            "method n() {\n z =\n y;\n return 1;\n}",
+            2,
+            CheckCause::UnknownName,
+        ),
+        (
+            "method n(v) {\n while 1 { if 1 {\n let v = 1; } }\n return v;\n}",
+            3,
+            CheckCause::Duplicate,
+        ),
+        (
+            "method n(p,\n p) {\n return z;\n}",
+            2,
+            CheckCause::Duplicate,
+        ),
+        (
+            "method n() {\n return 1; }\nmethod n() {\n return 1; }",
+            3,
+            CheckCause::Duplicate,
+        ),
+        // a method's end is its last brace, and its body comes before
+        (
+            "method n() {\n}\nmethod n() {\n return 1; }",
+            2,
+            CheckCause::NoReturn,
+        ),
+        ("method n() {\n f0 = z;\n}", 2, CheckCause::UnknownName),
+        (
+            "method n() {\n return 1;\n f0 = 1;\n}",
+            4,
+            CheckCause::NoReturn,
+        ),
+        (
+            "method n() {\n if 1 {\n return 1;\n }\n}",
+            5,
+            CheckCause::NoReturn,
+        ),
+        (
+            "method n() {\n if 1 { return 1; } else {\n }\n}",
+            4,
+            CheckCause::NoReturn,
+        ),
+        (
+            "method n() {\n while 1 { return 1; }\n}",
+            3,
+            CheckCause::NoReturn,
+        ),
+    ];
+    for (text, line, cause) in &table {
+        assert_eq!(rt;
+            fault_of(alloc, text)?,
+            Some(CheckFault {
+                line: *line,
+                cause: *cause
+            })
+        );
+    }
+    Ok(())
+}
+
+#[test]
+fn methods_are_found_by_name(rt: HostRuntime) -> Result<(), Fail> {
+    let alloc = rt.alloc();
+    let text = "method n() { return 1; } method m(r, s) { fail 7; }";
+    if let Ok(program) = parse_program(alloc, text)
+        && let Ok(checked) = check(alloc, program)
+    {
+        assert_eq!(rt; checked.methods(), 2);
+        assert_eq!(rt; checked.method_named(b"r"), None);
+        assert_eq!(rt; checked.method_named(b"m"), Some(1));
+        if let Some(method) = checked.method_named(b"m") {
+            assert_eq!(rt; checked.params(method), 2);
+            assert_eq!(rt; checked.body(method).last_line, 1);
+        }
+    }
     Ok(())
 }

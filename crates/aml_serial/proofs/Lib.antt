@@ -1,3 +1,2 @@
-pub mod ChainValues
-pub mod BlockSteps
 pub mod SerialLists
+pub mod Steps

@@ -1,48 +1,126 @@
-ghost use Rattle.std.specs.Prelude.{◌≡◌, ℕ, ◌<◌, List, length};
-ghost use Rattle.snap_base.specs.declared.transactions.State.{State};
-ghost use Rattle.aml_tree.specs.Tree.{block_tree};
-ghost use Rattle.aml_check.specs.Meaning.{block, ended, state_at};
-ghost use Rattle.aml_check.specs.Names.{IsClosedBlock};
-ghost use Rattle.aml_serial.specs.OneState.{left_by};
+//! Statements that have no blocks in them, run.
 
-use crate::values::{Code, value};
-use aml_tree::Statement;
-use snap_base::State;
+ghost use Rattle.std.specs.Prelude.{◌≡◌, ◌+◌, ◌<◌, ◌^◌, ◌∷◌, ◌++◌, ℕ, [], length, slice_set, IfOk};
+ghost use Rattle.aml_tree.specs.Tree.{Let, Set, SetField, Fail, Return, expression_tree};
+ghost use Rattle.aml_check.specs.Closed.{IsClosedExpression};
+ghost use Rattle.aml_check.specs.Meaning.{Caller, with_field, state_at};
+ghost use Rattle.aml_values.specs.Statements.{counted};
+ghost use Rattle.aml_serial.specs.Runs.{IsMeant, Keeps, Leaves, progress_of};
 
-/// How many statements a transaction may begin.
-const MOST_STATEMENTS: u16 = 10_000;
+use crate::progress::{Run, begin};
+use crate::stops::Stop;
+use crate::values::put_value;
+use aml_tree::Expression;
+use aml_values::value;
 
-/// A transaction would begin more statements than it may.
-const STATEMENTS: Code = 1008;
+/// How a block is left.
+#[derive(Clone, Copy, Debug, PartialEq, Eq)]
+pub(crate) enum Exit {
+    /// Behind its last statement.
+    Goes,
+    /// By the value that is returned.
+    Gives(i64),
+}
 
-/// What a block gives, and the state that it leaves, which is given up where it fails. `variables` are
-/// the values of the method's parameters, and `state` is the actor's.
-pub fn run_block(
+// In each function `variables` are the values of the method's variables, and `own` is the actor on
+// which it runs.
+
+/// Counts a statement, and computes the expression that it begins with.
+pub(crate) fn counted(
+    own: usize,
     variables: &[i64],
-    mut state: State,
-    body: &[Statement<u8>],
-) -> Result<(i64, State), Code>
-    requires { IsClosedBlock (length variables.now) (block_tree body.now) }
-    // The block means this in every world where the actor's state is the one that is given.
-    ensures { (world : List State) (actor : ℕ) → actor < length world → state_at world actor ≡ state → ended world (block actor variables.now (block_tree body.now) (record { world = world; statements = 0 })) ≡ left_by world actor result }
+    run: &mut Run,
+    e: &Expression<u8>,
+) -> Result<i64, Stop>
+    requires own { own < length run.old.world.items }
+    requires small { own < 2 ^ 63 }
+    requires closed { IsClosedExpression (length variables.now) (expression_tree e.now) }
+    ensures meant { IsMeant (λ v. (v, progress_of run.new)) (counted own variables.now (expression_tree e.now) (progress_of run.old)) result }
+    ensures keeps { Keeps run.old run.new }
+    ensures one { IfOk result (λ _. run.old.statements < run.new.statements) }
 {
-    let mut begun: u16 = 0;
-    for statement in body {
-        if begun == MOST_STATEMENTS {
-            return Err(STATEMENTS);
-        }
-        begun += 1;
-        match statement {
-            Statement::SetField {
-                field,
-                value: expression,
-            } => {
-                state.0[*field as usize] = value(variables, &state, expression)?;
-            }
-            Statement::Return { value: expression } => {
-                return Ok((value(variables, &state, expression)?, state));
-            }
-        }
-    }
-    Ok((0, state))
+    begin(run)?;
+    let state = &run.world[own];
+    Ok(value(own, variables, state, e)?)
+}
+
+pub(crate) fn let_value(
+    own: usize,
+    variables: &mut Vec<i64>,
+    run: &mut Run,
+    e: &Expression<u8>,
+) -> Result<Exit, Stop>
+    requires own { own < length run.old.world.items }
+    requires small { own < 2 ^ 63 }
+    requires closed { IsClosedExpression (length variables.old.items) (expression_tree e.now) }
+    ensures leaves { (call : Caller) (v : ℕ) → Leaves call own variables.old.items (progress_of run.old) variables.new.items (progress_of run.new) (Let v (expression_tree e.now)) result }
+    ensures keeps { Keeps run.old run.new }
+    ensures more { IfOk result (λ _. length variables.new.items ≡ length variables.old.items + 1) }
+{
+    let next = counted(own, variables.as_slice(), run, e)?;
+    put_value(variables, next)?;
+    Ok(Exit::Goes)
+}
+
+pub(crate) fn set(
+    own: usize,
+    variables: &mut Vec<i64>,
+    run: &mut Run,
+    place: u8,
+    e: &Expression<u8>,
+) -> Result<Exit, Stop>
+    requires own { own < length run.old.world.items }
+    requires small { own < 2 ^ 63 }
+    requires place { place < length variables.old.items }
+    requires closed { IsClosedExpression (length variables.old.items) (expression_tree e.now) }
+    ensures leaves { (call : Caller) → Leaves call own variables.old.items (progress_of run.old) variables.new.items (progress_of run.new) (Set place (expression_tree e.now)) result }
+    ensures keeps { Keeps run.old run.new }
+    ensures same { length variables.new.items ≡ length variables.old.items }
+{
+    let next = counted(own, variables.as_slice(), run, e)?;
+    variables[place as usize] = next;
+    Ok(Exit::Goes)
+}
+
+pub(crate) fn set_field(
+    own: usize,
+    variables: &[i64],
+    run: &mut Run,
+    field: u8,
+    e: &Expression<u8>,
+) -> Result<Exit, Stop>
+    requires own { own < length run.old.world.items }
+    requires small { own < 2 ^ 63 }
+    requires field { field < 16 }
+    requires closed { IsClosedExpression (length variables.now) (expression_tree e.now) }
+    ensures leaves { (call : Caller) → Leaves call own variables.now (progress_of run.old) variables.now (progress_of run.new) (SetField field (expression_tree e.now)) result }
+    ensures keeps { Keeps run.old run.new }
+{
+    let next = counted(own, variables, run, e)?;
+    run.world[own].0[field as usize] = next;
+    Ok(Exit::Goes)
+}
+
+pub(crate) fn give(
+    own: usize,
+    variables: &[i64],
+    run: &mut Run,
+    e: &Expression<u8>,
+) -> Result<Exit, Stop>
+    requires own { own < length run.old.world.items }
+    requires small { own < 2 ^ 63 }
+    requires closed { IsClosedExpression (length variables.now) (expression_tree e.now) }
+    ensures leaves { (call : Caller) → Leaves call own variables.now (progress_of run.old) variables.now (progress_of run.new) (Return (expression_tree e.now)) result }
+    ensures keeps { Keeps run.old run.new }
+{
+    let next = counted(own, variables, run, e)?;
+    Ok(Exit::Gives(next))
+}
+
+pub(crate) fn fail(own: usize, variables: &[i64], run: &mut Run, code: u16) -> Result<Exit, Stop>
+    ensures leaves { (call : Caller) → Leaves call own variables.now (progress_of run.old) variables.now (progress_of run.new) (Fail code) result }
+    ensures keeps { Keeps run.old run.new }
+{
+    begin(run)?;
+    Err(Stop::Code(code))
 }

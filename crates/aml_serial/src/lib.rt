@@ -3,7 +3,10 @@
 #![tactic(auto)]
 
 mod blocks;
+mod calls;
+mod progress;
 mod runs;
+mod stops;
 #[cfg(test)]
 mod tests;
 mod values;

@@ -1,49 +1,45 @@
-ghost use Rattle.std.specs.Prelude.{◌≡◌, ℕ, ℤ, length, Ok};
-ghost use Rattle.aml_tree.specs.Tree.{expression_tree, operand_tree};
-ghost use Rattle.aml_check.specs.Meaning.{joined, value_of};
-ghost use Rattle.aml_check.specs.Names.{IsClosedExpression};
+//! What lists of expressions give.
 
-use aml_tree::{Expression, Operand, Operator};
-use snap_base::State;
+ghost use Rattle.std.specs.Prelude.{◌≡◌, ◌<◌, ◌^◌, ◌∷◌, ◌++◌, [], length, map, IfOk};
+ghost use Rattle.std.specs.List.{AllByRecursion};
+ghost use Rattle.aml_tree.specs.Tree.{expression_tree};
+ghost use Rattle.aml_check.specs.Closed.{IsClosedExpression};
+ghost use Rattle.aml_check.specs.Meaning.{values_of};
+ghost use Rattle.aml_serial.specs.Runs.{IsMeant};
 
-/// The code of a failure, which a report names.
-pub type Code = u16;
+use crate::stops::Stop;
+use aml_tree::Expression;
+use aml_values::value;
+use snap_base::{Memory, State};
+use std::alloc::Global;
 
-/// A result is outside signed 64 bits.
-const OVERFLOW: Code = 1002;
-
-// In each function `variables` are the values of the method's parameters, and `state` is the actor's.
-
-fn joined(operator: Operator, left: i64, right: i64) -> Result<i64, Code>
-    ensures { result ≡ joined operator left right }
+/// What expressions give, from the left, with an actor's number and state and the values of variables.
+pub(crate) fn values(
+    alloc: Global,
+    own: usize,
+    variables: &[i64],
+    state: &State,
+    es: &[Expression<u8>],
+) -> Result<Vec<i64>, Stop>
+    requires small { own < 2 ^ 63 }
+    requires closed { AllByRecursion (IsClosedExpression (length variables.now)) (map expression_tree es.now) }
+    ensures same { IfOk result (λ xs. length xs.items ≡ length (map expression_tree es.now)) }
+    ensures meant { IsMeant (λ xs. xs.items) (values_of own variables.now state.now (map expression_tree es.now)) result }
 {
-    let exact = match operator {
-        Operator::Plus => left.checked_add(right),
-        Operator::Minus => left.checked_sub(right),
-    };
-    exact.ok_or(OVERFLOW)
+    let mut given = Vec::new(alloc);
+    for e in es {
+        match value(own, variables, state, e) {
+            Ok(next) => put_value(&mut given, next)?,
+            Err(code) => return Err(Stop::Code(code)),
+        }
+    }
+    Ok(given)
 }
 
-fn operand_value(variables: &[i64], state: &State, operand: &Operand<u8>) -> i64
-    requires { IsClosedExpression (length variables.now) (operand_tree operand.now) }
-    ensures { value_of variables.now state.now (operand_tree operand.now) ≡ Ok result }
+/// One more value.
+pub(crate) fn put_value(values: &mut Vec<i64>, value: i64) -> Result<(), Memory>
+    ensures { IfOk result (λ _. values.new.items ≡ values.old.items ++ value ∷ []) }
 {
-    match operand {
-        Operand::Number(number) => *number as i64,
-        Operand::Variable(place) => variables[*place as usize],
-        Operand::Field(field) => state.0[*field as usize],
-    }
-}
-
-/// What an expression gives.
-pub fn value(variables: &[i64], state: &State, expression: &Expression<u8>) -> Result<i64, Code>
-    requires { IsClosedExpression (length variables.now) (expression_tree expression.now) }
-    ensures { result ≡ value_of variables.now state.now (expression_tree expression.now) }
-{
-    let mut value = operand_value(variables, state, &expression.first);
-    for link in expression.rest.as_slice() {
-        let right = operand_value(variables, state, &link.operand);
-        value = joined(link.operator, value, right)?;
-    }
-    Ok(value)
+    values.push(value)?;
+    Ok(())
 }

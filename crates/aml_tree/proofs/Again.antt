@@ -1,109 +1,89 @@
--- What is of the grammar and spelled so is read.
-use Rattle.std.proofs.Common.{◌≡◌, ℕ, zero, suc, ◌+◌, ◌-◌, ◌<◌, ◌≤◌, false, List, [], ◌∷◌, ◌++◌, length, Option, Some, None, codes, refl, sym, ap, subst, ◌∙◌, append_assoc, arith, length-append}
-use Rattle.std.specs.Str.{bytes_eq}
-use Rattle.aml_tree.specs.declared.trees.Operator.{Operator}
-use Rattle.aml_tree.specs.declared.trees.Operator.TheVariants.{Plus, Minus}
-use Rattle.aml_tree.specs.Tree.{Expr, Number, Variable, Field, Binary, Block, End, SetField, Return}
-use Rattle.aml_tree.specs.Grammar.{operator_word, field_word, spelling, block_spelling, IsName, IsOperand, IsExpression, IsBody}
-use Rattle.aml_tree.specs.Reading.{◌>>=◌, behind, name_at, operand_at, operator_at, chain_at, expression_at, value_at, set_at, return_at, statement_at, body_at}
-use Rattle.aml_tree.proofs.Names.{same_bytes, is_name_of, is_field, is_operand_name, is_operand_field, is_operand_number}
-use Rattle.aml_tree.proofs.Turns.{chain_stops}
+-- What is there is read, up to the first limit that it passes.
+use Rattle.std.proofs.Common.{◌≡◌, ◌≢◌, ℕ, suc, ◌+◌, nat_lt, nat_le, ◌&&◌, Bool, true, false, cond, List, [], ◌∷◌, ◌++◌, Option, Some, None, Result, Ok, refl, sym, ap, subst, ◌∙◌, inl, inr}
+use Rattle.std.specs.List.{AllByRecursion}
+use Rattle.aml_tokens.specs.declared.tokens.TextCause.{TextCause}
+use Rattle.aml_tokens.specs.declared.tokens.TextCause.TheVariants.{Unexpected, NumberRange, TooDeep, TooMany}
+use Rattle.aml_tokens.specs.Token.{Token}
+use Rattle.aml_tree.specs.Limits.{Mark}
+use Rattle.aml_tree.specs.Items.{Item, Methods, Value, Values, Production, Event, Plain, Opens, Names, Parametrizes, Begins, Codes, mark, counted, front, joined, expand}
+use Rattle.aml_tree.specs.Reading.{Fault, ◌>>=◌, passing, begun, read}
+use Rattle.aml_tree.proofs.Written.{spelled, all_marked, AllFit}
+use Rattle.aml_tree.proofs.Split.{Closed, Split, Over, split, front_joined, back_joined, fit_joined}
+use Rattle.aml_tree.proofs.ReadLaws.{gathered, made_by, gathered_tokens, gathered_marks, passing_all, passing_all_map, over_again}
 
--- ---- words
+-- a limit is not that nothing goes on
+abbrev pub IsLimit : Mark → Type 0
+IsLimit m = m ≢ Some Unexpected
 
-pub behind_again : (word : List ℕ) (rest : List (List ℕ)) → behind word (word ∷ rest) ≡ Some rest
-unfolding behind
-behind_again word rest = rw (same_bytes word) refl
+limit_test : (b : Bool) (c : TextCause) → c ≢ Unexpected → IsLimit (cond b None (Some c))
+limit_test true c h e = absurd cc
+limit_test false c h e = h cc
 
-pub behind_other : (word next : List ℕ) (rest : List (List ℕ)) → bytes_eq next word ≡ false → behind word (next ∷ rest) ≡ None
-unfolding behind
-behind_other word next rest h = rw h refl
+mark_limit : (names : ℕ) (event : Event) → IsLimit (mark names event)
+mark_limit names Plain e = absurd cc
+mark_limit names (Opens depth) e = limit_test (nat_lt depth 32) TooDeep (λ e. absurd cc) e
+mark_limit names Names e = limit_test (nat_lt names 32) TooMany (λ e. absurd cc) e
+mark_limit names Parametrizes e = limit_test (nat_lt names 8) TooMany (λ e. absurd cc) e
+mark_limit names (Begins before) e = limit_test (nat_lt before 64) TooMany (λ e. absurd cc) e
+mark_limit names (Codes code) e = limit_test (nat_le 1 code && nat_le code 999) NumberRange (λ e. absurd cc) e
 
-pub name_again : (name : List ℕ) (rest : List (List ℕ)) → IsName name → name_at (name ∷ rest) ≡ Some (name, rest)
-unfolding name_at
-name_again name rest h = rw (is_name_of name h) refl
+pub record Again (ts : List Token) (s : List Item) (names at : ℕ) (vs : Values s) : Type 0 where
+  pub reads : read s names at ts ≡ passing_all (all_marked s names vs) at (Ok vs)
+  pub limits : AllByRecursion IsLimit (all_marked s names vs)
 
-operand_again : (e : Expr (List ℕ)) (rest : List (List ℕ)) → IsOperand e → operand_at (spelling e ++ rest) ≡ Some (e, rest)
-unfolding operand_at
-operand_again (Number n) rest h = rw (is_operand_number n h) refl
-operand_again (Variable name) rest h = rw (is_operand_name name h) refl
-operand_again (Field k) rest h = rw (is_operand_field k h) refl
-operand_again (Binary o a b) rest h = absurd h
+over_limits : (i : Item) (s : List Item) (names : ℕ) (v : Value i) (vs : Values s) → Over i v → Closed (i ∷ s) → AllByRecursion IsLimit (all_marked (i ∷ s) names (v, vs))
+over_limits (Methods (suc before)) [] names [] vs over closed = tt
+over_limits (Methods (suc before)) (j ∷ s) names [] vs over closed = absurd cc
+over_limits _ s names v vs over closed = absurd over
 
-operator_again : (o : Operator) (rest : List (List ℕ)) → operator_at (operator_word o ∷ rest) ≡ Some (o, rest)
-unfolding operator_at
-operator_again Plus rest = refl
-operator_again Minus rest = refl
+-- a value that its first token's production makes
+parted : (i : Item) (s : List Item) (v : Value i) (vs : Values s) (x : Split i v) → (v, vs) ≡ gathered i s x.production (joined x.production.items s x.parts vs)
+parted i s v vs x =
+    let p = x.production in
+    ap (λ (u : Value i). (u, vs)) x.made
+    ∙ ap (λ (us : Values p.items). (p.make us, vs)) (sym (front_joined p.items s x.parts vs))
+    ∙ ap (λ (ws : Values s). (p.make (front p.items s (joined p.items s x.parts vs)), ws)) (sym (back_joined p.items s x.parts vs))
 
-no_operator : (rest : List (List ℕ)) → operator_at (codes ";" ∷ rest) ≡ None
-unfolding operator_at
-no_operator rest = refl
+first_token : (i : Item) (s : List Item) (v : Value i) (vs : Values s) (x : Split i v) → spelled (i ∷ s) (v, vs) ≡ x.token ∷ spelled (x.production.items ++ s) (joined x.production.items s x.parts vs)
+first_token i s v vs x =
+    ap (λ (w : Values (i ∷ s)). spelled (i ∷ s) w) (parted i s v vs x)
+    ∙ gathered_tokens i s x.token x.production (joined x.production.items s x.parts vs) (made_by i x.token x.production x.is_token x.found)
 
--- ---- expressions
+first_again : (t : Token) (ts : List Token) (i : Item) (s : List Item) (names at : ℕ) (v : Value i) (vs : Values s) (x : Split i v) → t ∷ ts ≡ spelled (i ∷ s) (v, vs) → AllFit s vs → Closed (i ∷ s)
+    → ((s : List Item) (names at : ℕ) (vs : Values s) → ts ≡ spelled s vs → AllFit s vs → Closed s → Again ts s names at vs) → Again (t ∷ ts) (i ∷ s) names at (v, vs)
+unfolding read
+first_again t ts i s names at v vs x e fits closed others =
+    let p = x.production in
+    let behind : Values (p.items ++ s) = joined p.items s x.parts vs in
+    let made = made_by i x.token p x.is_token x.found in
+    let tokens : t ∷ ts ≡ x.token ∷ spelled (p.items ++ s) behind = e ∙ first_token i s v vs x in
+    let first : t ≡ x.token = cc in
+    let rest : ts ≡ spelled (p.items ++ s) behind = cc in
+    let found : expand i t ≡ Some p = ap (λ (u : Token). expand i u) first ∙ x.found in
+    let more = others (p.items ++ s) (counted names p.event) (at + 1) behind rest (fit_joined p.items s x.parts vs x.fits fits) (x.closed s closed) in
+    let marked : all_marked (i ∷ s) names (v, vs) ≡ mark names p.event ∷ all_marked (p.items ++ s) (counted names p.event) behind =
+    ap (λ (w : Values (i ∷ s)). all_marked (i ∷ s) names w) (parted i s v vs x) ∙ gathered_marks i s x.token p names behind made in
+    record {
+      reads =
+          ap (λ (o : Option (Production i)). begun i s names at o (λ p. read (p.items ++ s) (counted names p.event) (at + 1) ts)) found
+          ∙ ap (λ (r : Result (Values (p.items ++ s)) Fault). passing (mark names p.event) at (r >>= λ vs. Ok (gathered i s p vs))) more.reads
+          ∙ ap (λ (r : Result (Values (i ∷ s)) Fault). passing (mark names p.event) at r) (passing_all_map (all_marked (p.items ++ s) (counted names p.event) behind) (at + 1) behind (gathered i s p))
+          ∙ ap (λ (ms : List Mark). passing_all ms at (Ok (gathered i s p behind))) (sym marked)
+          ∙ ap (λ (w : Values (i ∷ s)). passing_all (all_marked (i ∷ s) names (v, vs)) at (Ok w)) (sym (parted i s v vs x));
+      limits = subst (λ (ms : List Mark). AllByRecursion IsLimit ms) (sym marked) (mark_limit names p.event, more.limits);
+    }
 
--- how many operators join its operands
-operators : Expr (List ℕ) → ℕ
-operators (Number n) = 0
-operators (Variable name) = 0
-operators (Field k) = 0
-operators (Binary o a b) = operators a + 1
-
-few_operators : (e : Expr (List ℕ)) → operators e ≤ length (spelling e)
-unfolding operators
-few_operators (Number n) = omega arith
-few_operators (Variable name) = omega arith
-few_operators (Field k) = omega arith
-few_operators (Binary o a b) = let i = few_operators a in omega (arith, i, length-append (spelling a) (operator_word o ∷ spelling b))
-
--- the operand that comes first, and the chain behind it
-operand_first : (most : ℕ) (e : Expr (List ℕ)) (tail : List (List ℕ)) → IsOperand e → expression_at most (spelling e ++ tail) ≡ chain_at most e tail
-unfolding expression_at
-operand_first most e tail h = ap (λ (read : Option (Expr (List ℕ) × List (List ℕ))). read >>= λ first. chain_at most first.0 first.1) (operand_again e tail h)
-
-chain_more : (k : ℕ) (o : Operator) (a b : Expr (List ℕ)) (tail : List (List ℕ)) → IsOperand b → chain_at (suc k) a (operator_word o ∷ (spelling b ++ tail)) ≡ chain_at k (Binary o a b) tail
-unfolding chain_at
-chain_more k o a b tail h = rw (operator_again o (spelling b ++ tail), operand_again b tail h) refl
-
-expression_again : (most k : ℕ) (e : Expr (List ℕ)) (tail : List (List ℕ)) → IsExpression e → operators e + k ≡ most → expression_at most (spelling e ++ tail) ≡ chain_at k e tail
-unfolding operators
-expression_again most k (Number n) tail h turns = operand_first most (Number n) tail h ∙ ap (λ (n' : ℕ). chain_at n' (Number n) tail) (omega arith)
-expression_again most k (Variable name) tail h turns = operand_first most (Variable name) tail h ∙ ap (λ (n : ℕ). chain_at n (Variable name) tail) (omega arith)
-expression_again most k (Field f) tail h turns = operand_first most (Field f) tail h ∙ ap (λ (n : ℕ). chain_at n (Field f) tail) (omega arith)
-expression_again most k (Binary o a b) tail h turns =
-    ap (expression_at most) (append_assoc (spelling a) (operator_word o ∷ spelling b) tail)
-    ∙ expression_again most (suc k) a (operator_word o ∷ (spelling b ++ tail)) h.0 (omega arith)
-    ∙ chain_more k o a b tail h.1
-
-pub value_again : (most : ℕ) (e : Expr (List ℕ)) (rest : List (List ℕ)) → IsExpression e → length (spelling e) ≤ most → value_at most (spelling e ++ codes ";" ∷ rest) ≡ Some (e, rest)
-unfolding value_at
-value_again most e rest h short =
-    let few = few_operators e in
-    let turns : operators e + (most - operators e) ≡ most = omega (arith, few) in
-    let read : expression_at most (spelling e ++ codes ";" ∷ rest) ≡ Some (e, codes ";" ∷ rest) =
-    expression_again most (most - operators e) e (codes ";" ∷ rest) h turns ∙ chain_stops (most - operators e) e (codes ";" ∷ rest) (no_operator rest) in
-    rw (read, behind_again (codes ";") rest) refl
-
--- ---- statements
-
-return_again : (most : ℕ) (e : Expr (List ℕ)) (rest : List (List ℕ)) → IsExpression e → length (spelling e) ≤ most → statement_at most (codes "return" ∷ (spelling e ++ codes ";" ∷ rest)) ≡ Some (Return e End, rest)
-unfolding statement_at return_at
-return_again most e rest h short = rw (value_again most e rest h short) refl
-
-set_again : (most k : ℕ) (e : Expr (List ℕ)) (rest : List (List ℕ)) → k < 16 → IsExpression e → length (spelling e) ≤ most
-    → statement_at most (field_word k ∷ codes "=" ∷ (spelling e ++ codes ";" ∷ rest)) ≡ Some (SetField k e End, rest)
-unfolding statement_at set_at
-set_again most k e rest lt h short = rw (is_field k lt, behind_again (codes "=") (spelling e ++ codes ";" ∷ rest), value_again most e rest h short) refl
-
-pub body_again : (most n : ℕ) (b : Block (List ℕ)) (rest : List (List ℕ)) → IsBody b → length (block_spelling b) ≤ n → length (block_spelling b) ≤ most → body_at most n (block_spelling b ++ rest) ≡ Some (b, rest)
-unfolding body_at
-body_again most n End rest h turns short = absurd h
-body_again most zero (SetField k e b) rest h turns short = absurd (omega arith)
-body_again most zero (Return e b) rest h turns short = absurd (omega arith)
-body_again most (suc n) (Return e b) rest h turns short =
-    subst (λ (o : Block (List ℕ)). body_at most (suc n) (block_spelling (Return e o) ++ rest) ≡ Some (Return e o, rest)) (sym h.1)
-    (ap (λ (w : List (List ℕ)). body_at most (suc n) (codes "return" ∷ w)) (append_assoc (spelling e) (codes ";" ∷ []) rest)
-    ∙ rw (return_again most e rest h.0 (omega (arith, length-append (spelling e) (codes ";" ∷ block_spelling b)))) refl)
-body_again most (suc n) (SetField k e b) rest h turns short =
-    let parts = length-append (spelling e) (codes ";" ∷ block_spelling b) in
-    ap (λ (w : List (List ℕ)). body_at most (suc n) (field_word k ∷ codes "=" ∷ w)) (append_assoc (spelling e) (codes ";" ∷ block_spelling b) rest)
-    ∙ rw (set_again most k e (block_spelling b ++ rest) h.0 h.1 (omega (arith, parts)), body_again most n b rest h.2 (omega (arith, parts)) (omega (arith, parts))) refl
+pub again : (ts : List Token) (s : List Item) (names at : ℕ) (vs : Values s) → ts ≡ spelled s vs → AllFit s vs → Closed s → Again ts s names at vs
+unfolding read
+again [] [] names at vs e fits closed = record { reads = refl; limits = tt }
+again (t ∷ ts) [] names at vs e fits closed = absurd cc
+again [] (i ∷ s) names at vs e fits closed =
+    elim (split i vs.0 fits.0) [
+      | inl x ↦ let none = e ∙ first_token i s vs.0 vs.1 x in absurd cc
+      | inr over ↦ record { reads = over_again i s names at vs.0 vs.1 [] over e closed; limits = over_limits i s names vs.0 vs.1 over closed }
+    ]
+again (t ∷ ts) (i ∷ s) names at vs e fits closed =
+    elim (split i vs.0 fits.0) [
+      | inl x ↦ first_again t ts i s names at vs.0 vs.1 x e fits.1 closed (λ s names at vs. again ts s names at vs)
+      | inr over ↦ record { reads = over_again i s names at vs.0 vs.1 (t ∷ ts) over e closed; limits = over_limits i s names vs.0 vs.1 over closed }
+    ]

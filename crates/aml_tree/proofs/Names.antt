@@ -1,161 +1,117 @@
--- What a word is: a name, a field or a number. No two of their spellings are alike.
-use Rattle.std.proofs.Common.{◌≡◌, ℕ, zero, suc, ◌+◌, ◌^◌, ◌<◌, ◌≤◌, Bool, true, false, cond, leb, ◌&&◌, List, [], ◌∷◌, ◌++◌, length, take, Option, Some, None, refl, sym, ap, subst, ◌∙◌, arith, eqb, eqb-true, ◌%◌}
-use Rattle.std.specs.List.{list_any, list_all}
-use Rattle.std.specs.Fmt.{decimal, digits}
-use Rattle.std.specs.Str.{bytes_eq}
-use Rattle.std.proofs.lemmas.Bool.{leb-true, le-leb}
-use Rattle.std.proofs.lemmas.Bool.Decides.{nat_tests}
-use Rattle.std.proofs.lemmas.Cmp.{nat_list_eq_equiv}
-use Rattle.std.proofs.lemmas.Fmt.{decimal_by_steps}
-use Rattle.std.proofs.lemmas.Map.Views.{list_any-from_Contains, Contains-from_any}
-use Rattle.std.proofs.lemmas.Slice.Eq.{bytes_eq-Decides}
-use Rattle.aml_tree.specs.Tree.{Expr, Number, Variable, Field}
-use Rattle.aml_tree.specs.Words.{is_letter, is_word_byte}
-use Rattle.aml_tree.specs.Grammar.{field_word, spelling, reserved, IsName, IsOperand}
-use Rattle.aml_tree.specs.Reading.{◌>>=◌, either, number_below, field_of, is_reserved, is_name, operand_of}
-use Rattle.aml_tree.proofs.Numbers.{number_is, is_number}
+-- Reading names, as the functions of the code read them.
+use Rattle.std.proofs.Common.{◌≡◌, ℕ, ◌+◌, ◌<◌, ◌≤◌, nat_lt, nat_le, true, false, List, [], ◌∷◌, Option, Some, None, refl, sym, ap, subst, slice_get, rules, tests}
+use Rattle.aml_tokens.specs.declared.tokens.TextCause.TheVariants.{Unexpected, TooMany, NumberRange}
+use Rattle.aml_tokens.specs.declared.tokens.Word.{Word}
+use Rattle.aml_tokens.specs.Token.{Token}
+use Rattle.aml_tokens.specs.Token as token
+use Rattle.aml_tree.specs.declared.readers.ReadNo.{ReadNo}
+use Rattle.aml_tree.specs.declared.readers.ReadNo.TheVariants as no
+use Rattle.aml_tree.specs.Limits.{named, parameter, code_mark}
+use Rattle.aml_tree.specs.Items.{Item, Called, New, Parameter, Failing, Block, Plain, Names, Parametrizes, Codes, single}
+use Rattle.aml_tree.specs.Tree.{End}
+use Rattle.aml_tree.specs.Reading.{Fault, Fails, Takes, Stops, there, is_name, brace_there, number_there}
+use Rattle.aml_tree.proofs.Steps.{takes_none, takes_by, stops_limit, stops_none, NoBegin}
 
-pub same_bytes : (x : List ℕ) → bytes_eq x x ≡ true
-same_bytes x = (bytes_eq-Decides x x).1 refl
+not_named : (o : Option Token) → there is_name o ≡ false → NoBegin Called o × NoBegin New o × NoBegin Parameter o
+not_named None e = (λ s at. refl, λ s at. refl, λ s at. refl)
+not_named (Some (token.Name w)) e = absurd cc
+not_named (Some _) e = (refl, refl, refl)
 
-pub are_same : (x y : List ℕ) → bytes_eq x y ≡ true → x ≡ y
-are_same x y e = (bytes_eq-Decides x y).0 e
+at_end : {ts : List Token} {i : Item} {v : _} {names at after end : ℕ} → end ≡ at + 1 → Takes ts (i ∷ []) v names at after (at + 1) → Takes ts (i ∷ []) v names at after end
+at_end {ts} {i} {v} {names} {at} {after} {end} e x = subst (λ (n : ℕ). Takes ts (i ∷ []) v names at after n) (sym e) x
 
--- ---- names
+pub called_takes : (ts : List Token) (names at end : ℕ) (w : Word) → slice_get ts at ≡ Some (token.Name w) → end ≡ at + 1 → Takes ts (Called ∷ []) (w, tt) names at names end
+called_takes ts names at end w is e = at_end e (takes_by ts Called (token.Name w) (single Plain w) tt names at names (at + 1) is refl refl (takes_none ts names (at + 1)))
 
-name_tests : (r a b c : Bool) → cond r false (a && b && c) ≡ true → (r ≡ false) × (a ≡ true) × (b ≡ true) × (c ≡ true)
-name_tests true a b c e = absurd cc
-name_tests false true true true e = (refl, refl, refl, refl)
-name_tests false true true false e = absurd cc
-name_tests false true false c e = absurd cc
-name_tests false false b c e = absurd cc
+pub called_stops : (ts : List Token) (names at : ℕ) (fault : Fault) → fault ≡ (at, Unexpected) → there is_name (slice_get ts at) ≡ false → Stops ts (Called ∷ []) names at fault
+called_stops ts names at fault e none = subst (λ (f : Fault). Stops ts (Called ∷ []) names at f) (sym e) (stops_none ts Called names at (slice_get ts at) refl (not_named (slice_get ts at) none).0)
 
-pub not_true : (b : Bool) → (b ≡ true → ⊥) → b ≡ false
-not_true true h = absurd (h refl)
-not_true false h = refl
+few_names : (names : ℕ) → names < 32 → named names ≡ None
+few_names names lt = let e : nat_lt names 32 ≡ true = search (rules, tests) in rw e refl
 
-pub name_is : (word : List ℕ) → is_name word ≡ true → IsName word
-unfolding is_name is_reserved
-name_is word e =
-    let t = name_tests (is_reserved word) (list_any is_letter (take 1 word)) (list_all is_word_byte word) (leb (length word) 32) e in
-    record {
-      first = t.1;
-      bytes = t.2;
-      short = leb-true (length word) 32 t.3;
-      free = λ h. let used : is_reserved word ≡ true = list_any-from_Contains nat_list_eq_equiv word reserved h in absurd (cc (used, t.0));
-    }
+many_names : (names : ℕ) → 32 ≤ names → named names ≡ Some TooMany
+many_names names le = let e : nat_lt names 32 ≡ false = search (rules, tests) in rw e refl
 
-pub is_name_of : (word : List ℕ) → IsName word → is_name word ≡ true
-unfolding is_name is_reserved
-is_name_of word h =
-    let unused : is_reserved word ≡ false = not_true (is_reserved word) (λ used. h.free (Contains-from_any are_same word reserved used)) in
-    let short : leb (length word) 32 ≡ true = le-leb (length word) 32 h.short in
-    rw (unused, h.first, h.bytes, short) refl
+pub new_takes : (ts : List Token) (names at end : ℕ) (w : Word) → slice_get ts at ≡ Some (token.Name w) → end ≡ at + 1 → names < 32 → Takes ts (New ∷ []) (w, tt) names at (names + 1) end
+new_takes ts names at end w is e lt = at_end e (takes_by ts New (token.Name w) (single Names w) tt names at (names + 1) (at + 1) is refl (few_names names lt) (takes_none ts (names + 1) (at + 1)))
 
--- what begins with a byte that is no letter is no name
-pub no_name : (b : ℕ) (rest : List ℕ) → is_letter b ≡ false → is_name (b ∷ rest) ≡ false
-unfolding is_name
-no_name b rest h = rw h (elim (is_reserved (b ∷ rest)) as (λ r. cond r false false ≡ false) [ true ↦ refl | false ↦ refl ])
+pub new_stops : (ts : List Token) (names at : ℕ) (fault : Fault) → fault ≡ (at, Unexpected) → there is_name (slice_get ts at) ≡ false → Stops ts (New ∷ []) names at fault
+new_stops ts names at fault e none = subst (λ (f : Fault). Stops ts (New ∷ []) names at f) (sym e) (stops_none ts New names at (slice_get ts at) refl (not_named (slice_get ts at) none).1)
 
--- ---- fields
+pub new_many : (ts : List Token) (names at : ℕ) (w : Word) → slice_get ts at ≡ Some (token.Name w) → 32 ≤ names → Stops ts (New ∷ []) names at (at, TooMany)
+new_many ts names at w is le = stops_limit ts New (token.Name w) (single Names w) names at TooMany is refl (many_names names le)
 
-reserved_field : (k : ℕ) → k < 16 → is_reserved (field_word k) ≡ true
-unfolding is_reserved digits
-reserved_field zero lt = refl
-reserved_field (suc zero) lt = refl
-reserved_field (suc (suc zero)) lt = refl
-reserved_field (suc (suc (suc zero))) lt = refl
-reserved_field (suc (suc (suc (suc zero)))) lt = refl
-reserved_field (suc (suc (suc (suc (suc zero))))) lt = refl
-reserved_field (suc (suc (suc (suc (suc (suc zero)))))) lt = refl
-reserved_field (suc (suc (suc (suc (suc (suc (suc zero))))))) lt = refl
-reserved_field (suc (suc (suc (suc (suc (suc (suc (suc zero)))))))) lt = refl
-reserved_field (suc (suc (suc (suc (suc (suc (suc (suc (suc zero))))))))) lt = refl
-reserved_field (suc (suc (suc (suc (suc (suc (suc (suc (suc (suc zero)))))))))) lt = refl
-reserved_field (suc (suc (suc (suc (suc (suc (suc (suc (suc (suc (suc zero))))))))))) lt = refl
-reserved_field (suc (suc (suc (suc (suc (suc (suc (suc (suc (suc (suc (suc zero)))))))))))) lt = refl
-reserved_field (suc (suc (suc (suc (suc (suc (suc (suc (suc (suc (suc (suc (suc zero))))))))))))) lt = refl
-reserved_field (suc (suc (suc (suc (suc (suc (suc (suc (suc (suc (suc (suc (suc (suc zero)))))))))))))) lt = refl
-reserved_field (suc (suc (suc (suc (suc (suc (suc (suc (suc (suc (suc (suc (suc (suc (suc zero))))))))))))))) lt = refl
-reserved_field (suc (suc (suc (suc (suc (suc (suc (suc (suc (suc (suc (suc (suc (suc (suc (suc k)))))))))))))))) lt = absurd (omega arith)
+few_parameters : (names : ℕ) → names < 8 → parameter names ≡ None
+few_parameters names lt = let e : nat_lt names 8 ≡ true = search (rules, tests) in rw e refl
 
-field_no_name : (k : ℕ) → k < 16 → is_name (field_word k) ≡ false
-unfolding is_name
-field_no_name k lt = rw (reserved_field k lt) refl
+many_parameters : (names : ℕ) → 8 ≤ names → parameter names ≡ Some TooMany
+many_parameters names le = let e : nat_lt names 8 ≡ false = search (rules, tests) in rw e refl
 
-pub field_is : (word : List ℕ) (k : ℕ) → field_of word ≡ Some k → (k < 16) × (word ≡ field_word k)
-unfolding field_of
-field_is [] k e = absurd cc
-field_is (b ∷ number) k e = by_first (eqb b 102) refl
-  where
-    by_first : (t : Bool) → eqb b 102 ≡ t → (k < 16) × (b ∷ number ≡ field_word k)
-    by_first true first =
-        let n = number_is 16 k number (sym (rw first refl) ∙ e) in
-        (n.0, let letter : b ≡ 102 = eqb-true b 102 first in cc (letter, n.1))
-    by_first false first = absurd (cc (e, first))
+pub parameter_takes : (ts : List Token) (names at end : ℕ) (w : Word) → slice_get ts at ≡ Some (token.Name w) → end ≡ at + 1 → names < 8 → Takes ts (Parameter ∷ []) (w, tt) names at (names + 1) end
+parameter_takes ts names at end w is e lt = at_end e (takes_by ts Parameter (token.Name w) (single Parametrizes w) tt names at (names + 1) (at + 1) is refl (few_parameters names lt) (takes_none ts (names + 1) (at + 1)))
 
-pub is_field : (k : ℕ) → k < 16 → field_of (field_word k) ≡ Some k
-unfolding field_of
-is_field k lt = is_number 16 k (decimal k) (omega arith) lt refl
+pub parameter_stops : (ts : List Token) (names at : ℕ) (fault : Fault) → fault ≡ (at, Unexpected) → there is_name (slice_get ts at) ≡ false → Stops ts (Parameter ∷ []) names at fault
+parameter_stops ts names at fault e none = subst (λ (f : Fault). Stops ts (Parameter ∷ []) names at f) (sym e) (stops_none ts Parameter names at (slice_get ts at) refl (not_named (slice_get ts at) none).2)
 
--- ---- numbers
+pub parameter_many : (ts : List Token) (names at : ℕ) (w : Word) → slice_get ts at ≡ Some (token.Name w) → 8 ≤ names → Stops ts (Parameter ∷ []) names at (at, TooMany)
+parameter_many ts names at w is le = stops_limit ts Parameter (token.Name w) (single Parametrizes w) names at TooMany is refl (many_parameters names le)
 
--- a digit comes first
-abbrev IsDigitFirst : List ℕ → Type 0
-IsDigitFirst [] = ⊥
-IsDigitFirst (b ∷ rest) = b ≤ 57
+-- ---- no name there
 
-digit_first : (n : ℕ) → n < 2 ^ 64 → IsDigitFirst (decimal n)
-digit_first n lt = decimal_by_steps (λ m ds. IsDigitFirst ds) (λ m small. omega arith) more n lt
-  where
-    more : (m : ℕ) (ds : List ℕ) → 10 ≤ m → IsDigitFirst ds → IsDigitFirst (ds ++ ((48 + m % 10) ∷ []))
-    more m [] large h = absurd h
-    more m (b ∷ ds) large h = h
+abbrev pub NotNamed : List Token → ℕ → Fault → Type 0
+NotNamed ts at fault = (fault ≡ (at, Unexpected)) × (there is_name (slice_get ts at) ≡ false)
 
-pub is_digit_no_name : (word : List ℕ) → IsDigitFirst word → (is_name word ≡ false) × (field_of word ≡ None)
-unfolding field_of
-is_digit_no_name [] h = absurd h
-is_digit_no_name (b ∷ rest) h =
-    let letter : is_letter b ≡ false = grind (arith, nat_tests) in
-    let other : eqb b 102 ≡ false = grind (arith, nat_tests) in
-    (no_name b rest letter, rw other refl)
+pub called_fails : (ts : List Token) (at : ℕ) (e : ReadNo) → Fails (NotNamed ts at) e → Fails (λ fault. (names : ℕ) → Stops ts (Called ∷ []) names at fault) e
+called_fails ts at no.Memory h = tt
+called_fails ts at (no.At place cause) h = λ names. called_stops ts names at (place, cause) h.0 h.1
 
--- ---- operands
+pub new_fails : (ts : List Token) (names at : ℕ) (e : ReadNo) → Fails (NotNamed ts at) e → Fails (λ fault. Stops ts (New ∷ []) names at fault) e
+new_fails ts names at no.Memory h = tt
+new_fails ts names at (no.At place cause) h = new_stops ts names at (place, cause) h.0 h.1
 
-pub operand_is : (word : List ℕ) (e : Expr (List ℕ)) → operand_of word ≡ Some e → (spelling e ≡ word ∷ []) × IsOperand e
-unfolding operand_of
-operand_is word e h = by_name (is_name word) refl
-  where
-    by_number : (n : Option ℕ) → number_below (2 ^ 63) word ≡ n → (n >>= λ n. Some (Number n)) ≡ Some e → (spelling e ≡ word ∷ []) × IsOperand e
-    by_number None is g = absurd cc
-    by_number (Some n) is g =
-        let t = number_is (2 ^ 63) n word is in
-        let tree : Number n ≡ e = cc in
-        subst (λ (x : Expr (List ℕ)). (spelling x ≡ word ∷ []) × IsOperand x) tree (ap (λ (w : List ℕ). w ∷ []) (sym t.1), t.0)
+pub parameter_fails : (ts : List Token) (names at : ℕ) (e : ReadNo) → Fails (NotNamed ts at) e → Fails (λ fault. Stops ts (Parameter ∷ []) names at fault) e
+parameter_fails ts names at no.Memory h = tt
+parameter_fails ts names at (no.At place cause) h = parameter_stops ts names at (place, cause) h.0 h.1
 
-    by_field : (k : Option ℕ) → field_of word ≡ k → either (k >>= λ k. Some (Field k)) (number_below (2 ^ 63) word >>= λ n. Some (Number n)) ≡ Some e → (spelling e ≡ word ∷ []) × IsOperand e
-    by_field None is g = by_number (number_below (2 ^ 63) word) refl g
-    by_field (Some k) is g =
-        let t = field_is word k is in
-        let tree : Field k ≡ e = cc in
-        subst (λ (x : Expr (List ℕ)). (spelling x ≡ word ∷ []) × IsOperand x) tree (ap (λ (w : List ℕ). w ∷ []) (sym t.1), t.0)
+-- ---- the end of a block
 
-    by_name : (b : Bool) → is_name word ≡ b → (spelling e ≡ word ∷ []) × IsOperand e
-    by_name true is =
-        let tree : Variable word ≡ e = let g : Some (Variable word) ≡ Some e = sym (rw is refl) ∙ h in cc in
-        subst (λ (x : Expr (List ℕ)). (spelling x ≡ word ∷ []) × IsOperand x) tree (refl, name_is word is)
-    by_name false is = by_field (field_of word) refl (sym (rw is refl) ∙ h)
+brace_is : (o : Option Token) (line : ℕ) → brace_there o ≡ Some line → o ≡ Some (token.CloseBrace line)
+brace_is None line e = absurd cc
+brace_is (Some (token.CloseBrace l)) line e = let same : l ≡ line = cc in ap (λ (n : ℕ). Some (token.CloseBrace n)) same
+brace_is (Some _) line e = absurd cc
 
-pub is_operand_name : (word : List ℕ) → IsName word → operand_of word ≡ Some (Variable word)
-unfolding operand_of
-is_operand_name word h = rw (is_name_of word h) refl
+pub brace_takes : (ts : List Token) (depth names at line : ℕ) → brace_there (slice_get ts at) ≡ Some line → Takes ts (Block depth ∷ []) (End line, tt) names at names (at + 1)
+brace_takes ts depth names at line is = takes_by ts (Block depth) (token.CloseBrace line) (single Plain (End line)) tt names at names (at + 1) (brace_is (slice_get ts at) line is) refl refl (takes_none ts names (at + 1))
 
-pub is_operand_field : (k : ℕ) → k < 16 → operand_of (field_word k) ≡ Some (Field k)
-unfolding operand_of
-is_operand_field k lt = rw (field_no_name k lt, is_field k lt) refl
+-- ---- the code behind `fail`
 
-pub is_operand_number : (n : ℕ) → n < 2 ^ 63 → operand_of (decimal n) ≡ Some (Number n)
-unfolding operand_of
-is_operand_number n lt =
-    let d = is_digit_no_name (decimal n) (digit_first n (omega arith)) in
-    rw (d.0, d.1, is_number (2 ^ 63) n (decimal n) (omega arith) lt refl) refl
+number_is : (o : Option Token) (n : ℕ) → number_there o ≡ Some n → o ≡ Some (token.Number n)
+number_is None n e = absurd cc
+number_is (Some (token.Number m)) n e = let same : m ≡ n = cc in ap (λ (k : ℕ). Some (token.Number k)) same
+number_is (Some _) n e = absurd cc
+
+no_number : (o : Option Token) → number_there o ≡ None → NoBegin Failing o
+no_number None e = λ s at. refl
+no_number (Some (token.Number m)) e = absurd cc
+no_number (Some _) e = refl
+
+in_range : (n : ℕ) → 1 ≤ n → n ≤ 999 → code_mark n ≡ None
+in_range n a b = let x : nat_le 1 n ≡ true = search (rules, tests) in let y : nat_le n 999 ≡ true = search (rules, tests) in rw (x, y) refl
+
+below_range : (n : ℕ) → n < 1 → code_mark n ≡ Some NumberRange
+below_range n a = let x : nat_le 1 n ≡ false = search (rules, tests) in rw x refl
+
+above_range : (n : ℕ) → 999 < n → code_mark n ≡ Some NumberRange
+above_range n a = let x : nat_le 1 n ≡ true = search (rules, tests) in let y : nat_le n 999 ≡ false = search (rules, tests) in rw (x, y) refl
+
+pub failing_takes : (ts : List Token) (names at n : ℕ) → number_there (slice_get ts at) ≡ Some n → 1 ≤ n → n ≤ 999 → Takes ts (Failing ∷ []) (n, tt) names at names (at + 1)
+failing_takes ts names at n is a b = takes_by ts Failing (token.Number n) (single (Codes n) n) tt names at names (at + 1) (number_is (slice_get ts at) n is) refl (in_range n a b) (takes_none ts names (at + 1))
+
+pub failing_below : (ts : List Token) (names at n : ℕ) → number_there (slice_get ts at) ≡ Some n → n < 1 → Stops ts (Failing ∷ []) names at (at, NumberRange)
+failing_below ts names at n is a = stops_limit ts Failing (token.Number n) (single (Codes n) n) names at NumberRange (number_is (slice_get ts at) n is) refl (below_range n a)
+
+pub failing_above : (ts : List Token) (names at n : ℕ) → number_there (slice_get ts at) ≡ Some n → 999 < n → Stops ts (Failing ∷ []) names at (at, NumberRange)
+failing_above ts names at n is a = stops_limit ts Failing (token.Number n) (single (Codes n) n) names at NumberRange (number_is (slice_get ts at) n is) refl (above_range n a)
+
+pub failing_none : (ts : List Token) (names at : ℕ) → number_there (slice_get ts at) ≡ None → Stops ts (Failing ∷ []) names at (at, Unexpected)
+failing_none ts names at none = stops_none ts Failing names at (slice_get ts at) refl (no_number (slice_get ts at) none)

@@ -1,96 +1,160 @@
--- The grammar of the method language: how a tree is spelled in words, and which trees a program may be.
-use Rattle.std.specs.Prelude.{◌≡◌, ℕ, ◌<◌, ◌≤◌, ◌^◌, false, IsTrue, List, [], ◌∷◌, ◌++◌, length, take, drop, codes, Contains}
+-- The grammar of the method language, without its limits: how a tree is spelled in tokens, and which
+-- trees a program may be. Groups are part of a tree, so a program has one spelling.
+use Rattle.std.specs.Prelude.{◌≡◌, ℕ, ◌-◌, ◌<◌, ◌≤◌, ◌^◌, ◌==◌, IsTrue, false, if◌then◌else◌, List, [], ◌∷◌, ◌++◌, length, take, map}
 use Rattle.std.specs.List.{AllByRecursion, list_all, list_any, flat_map}
-use Rattle.std.specs.Fmt.{decimal}
+use Rattle.std.specs.Str.{bytes_eq}
+use Rattle.aml_tokens.specs.declared.tokens.Word.{Word}
+use Rattle.aml_tokens.specs.declared.tokens.Symbol.{Symbol}
+use Rattle.aml_tokens.specs.declared.tokens.Symbol.TheVariants as symbol
+use Rattle.aml_tokens.specs.Token.{Token}
+use Rattle.aml_tokens.specs.Token as token
+use Rattle.aml_tokens.specs.Bytes.{is_letter, is_word_byte, symbol_bytes, keywords}
+use Rattle.aml_tokens.specs.Lexing.{field_words}
 use Rattle.aml_tree.specs.declared.trees.Operator.{Operator}
-use Rattle.aml_tree.specs.declared.trees.Operator.TheVariants.{Plus, Minus}
-use Rattle.aml_tree.specs.Tree.{Expr, Number, Variable, Field, Binary, Block, End, SetField, Return, MethodTree}
-use Rattle.aml_tree.specs.Words.{is_letter, is_word_byte, is_blank, without_comments, words_of_text}
+use Rattle.aml_tree.specs.declared.trees.Operator.TheVariants as operator
+use Rattle.aml_tree.specs.Tree.{Expr, Number, Variable, Field, Own, Group, Negative, Binary, Code, End, Let, Call, Set, SetField, If, IfElse, While, Fail, Return, TextMethod}
 
--- ---- spelling: the words of a tree
+-- ---- spelling: the tokens of a tree
 
-abbrev pub operator_word : Operator → List ℕ
-operator_word Plus = codes "+"
-operator_word Minus = codes "-"
+abbrev pub sign : Operator → Symbol
+sign operator.Or = symbol.Or
+sign operator.And = symbol.And
+sign operator.Equal = symbol.Equal
+sign operator.NotEqual = symbol.NotEqual
+sign operator.Less = symbol.Less
+sign operator.LessOrEqual = symbol.LessOrEqual
+sign operator.Greater = symbol.Greater
+sign operator.GreaterOrEqual = symbol.GreaterOrEqual
+sign operator.Plus = symbol.Plus
+sign operator.Minus = symbol.Minus
+sign operator.Times = symbol.Times
+sign operator.Over = symbol.Over
+sign operator.Remainder = symbol.Remainder
 
-abbrev pub field_word : ℕ → List ℕ
-field_word k = codes "f" ++ decimal k
+abbrev pub spelling : Expr Word → List Token
+spelling (Number n) = token.Number n ∷ []
+spelling (Variable w) = token.Name w ∷ []
+spelling (Field k) = token.Field k ∷ []
+spelling Own = token.Sign symbol.Own ∷ []
+spelling (Group e) = token.Sign symbol.Open ∷ (spelling e ++ token.Sign symbol.Close ∷ [])
+spelling (Negative e) = token.Sign symbol.Minus ∷ spelling e
+spelling (Binary o a b) = spelling a ++ token.Sign (sign o) ∷ spelling b
 
-abbrev pub spelling : Expr (List ℕ) → List (List ℕ)
-spelling (Number n) = decimal n ∷ []
-spelling (Variable name) = name ∷ []
-spelling (Field k) = field_word k ∷ []
-spelling (Binary o a b) = spelling a ++ operator_word o ∷ spelling b
-
-abbrev pub block_spelling : Block (List ℕ) → List (List ℕ)
-block_spelling End = []
-block_spelling (SetField k value rest) = field_word k ∷ codes "=" ∷ (spelling value ++ codes ";" ∷ block_spelling rest)
-block_spelling (Return value rest) = codes "return" ∷ (spelling value ++ codes ";" ∷ block_spelling rest)
-
--- with commas between them
-abbrev pub listed : List (List ℕ) → List (List ℕ)
+-- lists of tokens with commas between them
+abbrev pub listed : List (List Token) → List Token
 listed [] = []
-listed (name ∷ []) = name ∷ []
-listed (name ∷ next ∷ names) = name ∷ codes "," ∷ listed (next ∷ names)
+listed (first ∷ []) = first
+listed (first ∷ next ∷ more) = first ++ token.Sign symbol.Comma ∷ listed (next ∷ more)
 
-abbrev pub method_spelling : MethodTree (List ℕ) → List (List ℕ)
-method_spelling m = codes "method" ∷ m.name ∷ codes "(" ∷ (listed m.parameters ++ codes ")" ∷ codes "{" ∷ (block_spelling m.body ++ codes "}" ∷ []))
+-- the statements of a block and its closing brace
+abbrev pub block_spelling : Code Word Word → List Token
+block_spelling (End line) = token.CloseBrace line ∷ []
+block_spelling (Let v value rest) =
+    token.Sign symbol.Let ∷ token.Name v ∷ token.Sign symbol.Assign ∷ (spelling value ++ token.Sign symbol.Semicolon ∷ block_spelling rest)
+block_spelling (Call v target m arguments rest) =
+    token.Sign symbol.Let ∷ token.Name v ∷ token.Sign symbol.Assign ∷ token.Sign symbol.Call ∷ (spelling target ++ token.Name m ∷ token.Sign symbol.Open
+    ∷ (listed (map spelling arguments) ++ token.Sign symbol.Close ∷ token.Sign symbol.Semicolon ∷ block_spelling rest))
+block_spelling (Set v value rest) = token.Name v ∷ token.Sign symbol.Assign ∷ (spelling value ++ token.Sign symbol.Semicolon ∷ block_spelling rest)
+block_spelling (SetField k value rest) = token.Field k ∷ token.Sign symbol.Assign ∷ (spelling value ++ token.Sign symbol.Semicolon ∷ block_spelling rest)
+block_spelling (If condition first rest) = token.Sign symbol.If ∷ (spelling condition ++ token.Sign symbol.OpenBrace ∷ (block_spelling first ++ block_spelling rest))
+block_spelling (IfElse condition first other rest) =
+    token.Sign symbol.If ∷ (spelling condition ++ token.Sign symbol.OpenBrace ∷ (block_spelling first
+    ++ token.Sign symbol.Else ∷ token.Sign symbol.OpenBrace ∷ (block_spelling other ++ block_spelling rest)))
+block_spelling (While condition body rest) = token.Sign symbol.While ∷ (spelling condition ++ token.Sign symbol.OpenBrace ∷ (block_spelling body ++ block_spelling rest))
+block_spelling (Fail code rest) = token.Sign symbol.Fail ∷ token.Number code ∷ token.Sign symbol.Semicolon ∷ block_spelling rest
+block_spelling (Return value rest) = token.Sign symbol.Return ∷ (spelling value ++ token.Sign symbol.Semicolon ∷ block_spelling rest)
 
-abbrev pub program_spelling : List (MethodTree (List ℕ)) → List (List ℕ)
+abbrev pub name_spelling : Word → List Token
+name_spelling w = token.Name w ∷ []
+
+abbrev pub method_spelling : TextMethod → List Token
+method_spelling m =
+    token.Sign symbol.Method ∷ token.Name m.name ∷ token.Sign symbol.Open
+    ∷ (listed (map name_spelling m.parameters) ++ token.Sign symbol.Close ∷ token.Sign symbol.OpenBrace ∷ block_spelling m.body)
+
+abbrev pub program_spelling : List TextMethod → List Token
 program_spelling p = flat_map method_spelling p
 
--- ---- names
+-- ---- words
 
--- the keywords and the fields
+-- the keywords, the fields
 abbrev pub reserved : List (List ℕ)
-reserved =
-    codes "method" ∷ codes "read" ∷ codes "let" ∷ codes "if" ∷ codes "else" ∷ codes "while" ∷ codes "call" ∷ codes "fail"
-    ∷ codes "return" ∷ codes "self" ∷ codes "and" ∷ codes "or"
-    ∷ codes "f0" ∷ codes "f1" ∷ codes "f2" ∷ codes "f3" ∷ codes "f4" ∷ codes "f5" ∷ codes "f6" ∷ codes "f7"
-    ∷ codes "f8" ∷ codes "f9" ∷ codes "f10" ∷ codes "f11" ∷ codes "f12" ∷ codes "f13" ∷ codes "f14" ∷ codes "f15" ∷ []
+reserved = map symbol_bytes keywords ++ field_words
 
 -- a letter or '_', then letters, digits and '_', at most 32 bytes, and no keyword or field
 pub record IsName (name : List ℕ) : Type 0 where
   pub first : IsTrue (list_any is_letter (take 1 name))
   pub bytes : IsTrue (list_all is_word_byte name)
   pub short : length name ≤ 32
-  pub free : ¬ Contains reserved name
+  pub free : list_any (λ (word : List ℕ). bytes_eq word name) reserved ≡ false
+
+abbrev pub IsWord : Word → Type 0
+IsWord w = IsName w.name
 
 -- ---- grammar
 
-abbrev pub IsOperand : Expr (List ℕ) → Type 0
-IsOperand (Number n) = n < 2 ^ 63
-IsOperand (Variable name) = IsName name
-IsOperand (Field k) = k < 16
-IsOperand (Binary o a b) = ⊥
+-- how loosely an operator binds: 1 products, 2 sums, 3 comparisons, 4 conjunctions, 5 disjunctions
+abbrev pub level : Operator → ℕ
+level operator.Or = 5
+level operator.And = 4
+level operator.Equal = 3
+level operator.NotEqual = 3
+level operator.Less = 3
+level operator.LessOrEqual = 3
+level operator.Greater = 3
+level operator.GreaterOrEqual = 3
+level operator.Plus = 2
+level operator.Minus = 2
+level operator.Times = 1
+level operator.Over = 1
+level operator.Remainder = 1
 
--- operators join operands from the left
-abbrev pub IsExpression : Expr (List ℕ) → Type 0
-IsExpression (Number n) = n < 2 ^ 63
-IsExpression (Variable name) = IsName name
-IsExpression (Field k) = k < 16
-IsExpression (Binary o a b) = IsExpression a × IsOperand b
+-- the level of the left operand: chains lean to the left, and comparisons make no chain
+abbrev pub lean : ℕ → ℕ
+lean k = if k == 3 then 2 else k
 
--- fields are set, and last a value is returned
-abbrev pub IsBody : Block (List ℕ) → Type 0
-IsBody End = ⊥
-IsBody (SetField k value rest) = (k < 16) × IsExpression value × IsBody rest
-IsBody (Return value rest) = IsExpression value × (rest ≡ End)
+-- An expression of the grammar's rule for a level: 0 operands with signs, 1 products, 2 sums, 3
+-- comparisons, 4 conjunctions, 5 disjunctions, which are all expressions.
+abbrev pub IsAt : ℕ → Expr Word → Type 0
+IsAt k (Number n) = n < 2 ^ 63
+IsAt k (Variable w) = IsWord w
+IsAt k (Field f) = f < 16
+IsAt k Own = Unit {0}
+IsAt k (Group e) = IsAt 5 e
+IsAt k (Negative e) = IsAt 0 e
+IsAt k (Binary o a b) = (level o ≤ k) × IsAt (lean (level o)) a × IsAt (level o - 1) b
 
-pub record IsMethod (m : MethodTree (List ℕ)) : Type 0 where
-  pub name : IsName m.name
-  pub parameters : AllByRecursion IsName m.parameters
-  pub few : length m.parameters ≤ 8
-  pub body : IsBody m.body
+abbrev pub IsExpression : Expr Word → Type 0
+IsExpression e = IsAt 5 e
 
-pub record IsProgram (p : List (MethodTree (List ℕ))) : Type 0 where
+-- an operand without a sign, as the actor of a call is one
+abbrev pub IsPrimary : Expr Word → Type 0
+IsPrimary (Number n) = n < 2 ^ 63
+IsPrimary (Variable w) = IsWord w
+IsPrimary (Field f) = f < 16
+IsPrimary Own = Unit {0}
+IsPrimary (Group e) = IsAt 5 e
+IsPrimary (Negative e) = ⊥
+IsPrimary (Binary o a b) = ⊥
+
+abbrev pub IsBlock : Code Word Word → Type 0
+IsBlock (End line) = Unit {0}
+IsBlock (Let v value rest) = IsWord v × IsExpression value × IsBlock rest
+IsBlock (Call v target m arguments rest) = IsWord v × IsPrimary target × IsWord m × AllByRecursion IsExpression arguments × IsBlock rest
+IsBlock (Set v value rest) = IsWord v × IsExpression value × IsBlock rest
+IsBlock (SetField k value rest) = (k < 16) × IsExpression value × IsBlock rest
+IsBlock (If condition first rest) = IsExpression condition × IsBlock first × IsBlock rest
+IsBlock (IfElse condition first other rest) = IsExpression condition × IsBlock first × IsBlock other × IsBlock rest
+IsBlock (While condition body rest) = IsExpression condition × IsBlock body × IsBlock rest
+IsBlock (Fail code rest) = (code < 2 ^ 63) × IsBlock rest
+IsBlock (Return value rest) = IsExpression value × IsBlock rest
+
+pub record IsMethod (m : TextMethod) : Type 0 where
+  pub name : IsWord m.name
+  pub parameters : AllByRecursion IsWord m.parameters
+  pub body : IsBlock m.body
+
+-- a tree of the grammar
+pub record IsGrammatical (p : List TextMethod) : Type 0 where
   pub some : 0 < length p
-  pub few : length p ≤ 64
   pub methods : AllByRecursion IsMethod p
-
--- The text is the program's: its words are the program's spelling, and beyond the first 65,536 bytes
--- there are only blanks and comments.
-pub record IsProgramText (text : List ℕ) (p : List (MethodTree (List ℕ))) : Type 0 where
-  pub spelled : words_of_text text ≡ program_spelling p
-  pub grammar : IsProgram p
-  pub within : IsTrue (list_all is_blank (drop 65536 (without_comments false text)))

@@ -1,5 +1,8 @@
 pub mod Tree
-pub mod Words
 pub mod Grammar
+pub mod Limits
+pub mod Programs
+pub mod Faults
+pub mod Items
 pub mod Reading
-pub mod Lexing
+pub mod Lines

@@ -1,181 +1,174 @@
--- Reading words from left to right. A reader gives what it read and the words behind it, or nothing
--- where the next words are none that it can read.
-use Rattle.std.specs.Prelude.{◌≡◌, ℕ, zero, suc, ◌^◌, nat_lt, nat_le, ◌==◌, ◌&&◌, Bool, true, false, if◌then◌else◌, List, [], ◌∷◌, ◌++◌, length, take, Option, Some, None, Result, Ok, Err, codes}
-use Rattle.std.specs.List.{list_any, list_all}
-use Rattle.std.specs.Str.{bytes_eq}
-use Rattle.std.specs.Str.Parse.{digits_value}
-use Rattle.std.specs.Fmt.{decimal}
+-- Reading tokens from left to right: what the items to come are, or the first token with which nothing
+-- goes on or which passes a limit.
+use Rattle.std.specs.Prelude.{◌≡◌, ℕ, suc, ◌+◌, nat_lt, Bool, true, false, if◌then◌else◌, slice_get, List, [], ◌∷◌, ◌++◌, drop, Option, Some, None, Result, Ok, Err}
+use Rattle.aml_tokens.specs.declared.tokens.TextCause.{TextCause}
+use Rattle.aml_tokens.specs.declared.tokens.TextCause.TheVariants.{Unexpected}
+use Rattle.aml_tokens.specs.declared.tokens.Word.{Word}
+use Rattle.aml_tokens.specs.Token.{Token}
+use Rattle.aml_tokens.specs.Token as token
+use Rattle.aml_tree.specs.declared.readers.Sign.{Sign}
+use Rattle.aml_tree.specs.declared.readers.Sign.TheVariants as fixed
 use Rattle.aml_tree.specs.declared.trees.Operator.{Operator}
-use Rattle.aml_tree.specs.declared.trees.Operator.TheVariants.{Plus, Minus}
-use Rattle.aml_tree.specs.declared.trees.Statement.{Statement}
-use Rattle.aml_tree.specs.declared.trees.Statement.TheVariants as statement
-use Rattle.aml_tree.specs.declared.parse.TextNo.{TextNo}
-use Rattle.aml_tree.specs.declared.parse.TextNo.TheVariants as no
-use Rattle.aml_tree.specs.Tree.{Expr, Number, Variable, Field, Binary, Block, End, SetField, Return, MethodTree}
-use Rattle.aml_tree.specs.Words.{is_letter, is_word_byte}
-use Rattle.aml_tree.specs.Grammar.{reserved}
+use Rattle.aml_tree.specs.declared.readers.ReadNo.{ReadNo}
+use Rattle.aml_tree.specs.declared.readers.ReadNo.TheVariants as no
+use Rattle.aml_tree.specs.Limits.{Mark}
+use Rattle.aml_tree.specs.Tree.{Expr, Code, TextMethod, Onto}
+use Rattle.aml_tree.specs.Items.{Item, Called, Opening, Parameters, Expression, More, Methods, Block, Letting, LetRest, Closer, Links, Value, Values, all_attached, allowed, let_of, is_sign, operator_of, Production, front, back, joined, mark, counted, expand}
+
+-- the place of a token, and what is wrong with it
+abbrev pub Fault : Type 0
+Fault = ℕ × TextCause
 
 infixl 10 ◌>>=◌
-abbrev pub ◌>>=◌ : {A B : Type 0} → Option A → (A → Option B) → Option B
-(Some x) >>= f = f x
-None >>= f = None
+abbrev pub ◌>>=◌ : {A B : Type 0} → Result A Fault → (A → Result B Fault) → Result B Fault
+(Ok x) >>= f = f x
+(Err e) >>= f = Err e
 
--- what is made of a value, where there is one
-abbrev pub found : {A B : Type 0} → Option A → B → (A → B) → B
-found None none some = none
-found (Some x) none some = some x
+-- a limit that is passed at a place
+abbrev pub passing : {A : Type 0} → Mark → ℕ → Result A Fault → Result A Fault
+passing None at read = read
+passing (Some cause) at read = Err (at, cause)
 
--- the first one, if it is there, and else the second
-abbrev pub either : {A : Type 0} → Option A → Option A → Option A
-either (Some x) other = Some x
-either None other = other
+-- behind a first token that is followed so, or with which nothing goes on
+abbrev pub begun : (i : Item) → (s : List Item) → ℕ → ℕ → Option (Production i) → ((p : Production i) → Result (Values (p.items ++ s)) Fault) → Result (Values (i ∷ s)) Fault
+begun i s names at None go = Err (at, Unexpected)
+begun i s names at (Some p) go = passing (mark names p.event) at (go p >>= λ vs. Ok (p.make (front p.items s vs), back p.items s vs))
 
--- What a function returned, seen by view, is what reading gives, unless memory ran out.
-abbrev pub Fails : {Y : Type 0} → TextNo → Option Y → Type 0
-Fails no.Memory read = Unit {0}
-Fails (no.Fault fault) read = read ≡ None
+-- A text may end where methods come, if one was there.
+abbrev pub ended : (i : Item) → (s : List Item) → ℕ → Result (Values (i ∷ s)) Fault
+ended (Methods (suc before)) [] at = Ok ([], tt)
+ended _ _ at = Err (at, Unexpected)
 
-abbrev pub Gives : {X Y : Type 0} → (X → Y) → Result X TextNo → Option Y → Type 0
-Gives view (Ok x) read = read ≡ Some (view x)
-Gives view (Err e) read = Fails e read
+-- The items to come as the tokens from a place on have them, where so many names are declared.
+unfoldable pub read : (s : List Item) → ℕ → ℕ → List Token → Result (Values s) Fault
+read [] names at [] = Ok tt
+read [] names at (t ∷ ts) = Err (at, Unexpected)
+read (i ∷ s) names at [] = ended i s at
+read (i ∷ s) names at (t ∷ ts) = begun i s names at (expand i t) (λ p. read (p.items ++ s) (counted names p.event) (at + 1) ts)
 
--- ---- what a word is
+-- a program
+abbrev pub program : List Token → Result (List TextMethod) Fault
+program ts = read (Methods 0 ∷ []) 0 0 ts >>= λ vs. Ok vs.0
 
--- the number below a limit that it spells
-unfoldable pub number_below : ℕ → List ℕ → Option ℕ
-number_below limit word = if nat_lt (digits_value 10 word) limit && bytes_eq (decimal (digits_value 10 word)) word then Some (digits_value 10 word) else None
+-- ---- what a function of the code reads
 
-unfoldable pub field_of : List ℕ → Option ℕ
-field_of [] = None
-field_of (b ∷ digits) = if b == 102 then number_below 16 digits else None
+-- Items are these values, from a place and a number of names on up to another: behind them is read
+-- what is read from there.
+pub record Takes (ts : List Token) (is : List Item) (us : Values is) (names at after end : ℕ) : Type 0 where
+  pub goes : (s : List Item) → read (is ++ s) names at (drop at ts) ≡ (read s after end (drop end ts) >>= λ vs. Ok (joined is s us vs))
 
-unfoldable pub is_reserved : List ℕ → Bool
-is_reserved word = list_any (bytes_eq word) reserved
+-- Items are not there, for the fault.
+pub record Stops (ts : List Token) (is : List Item) (names at : ℕ) (fault : Fault) : Type 0 where
+  pub goes : (s : List Item) → read (is ++ s) names at (drop at ts) ≡ Err fault
 
-unfoldable pub is_name : List ℕ → Bool
-is_name word = if is_reserved word then false else (list_any is_letter (take 1 word) && list_all is_word_byte word && nat_le (length word) 32)
+-- a part at the front of a block
+pub record TakesPart (ts : List Token) (depth : ℕ) (part : Onto Word Word) (names at after end : ℕ) : Type 0 where
+  pub goes : (s : List Item) → read (Block depth ∷ s) names at (drop at ts) ≡ (read (Block depth ∷ s) after end (drop end ts) >>= λ vs. Ok (part vs.0, vs.1))
 
-unfoldable pub operand_of : List ℕ → Option (Expr (List ℕ))
-operand_of word = if is_name word then Some (Variable word) else either (field_of word >>= λ k. Some (Field k)) (number_below (2 ^ 63) word >>= λ n. Some (Number n))
+-- What a function returned is read there, or it is not there, unless memory ran out.
+abbrev pub Fails : (Fault → Type 0) → ReadNo → Type 0
+Fails stops no.Memory = Unit {0}
+Fails stops (no.At place cause) = stops (place, cause)
 
--- ---- what the next words are
+abbrev pub Reads : {X : Type 0} → (X → Type 0) → (Fault → Type 0) → Result X ReadNo → Type 0
+Reads takes stops (Ok x) = takes x
+Reads takes stops (Err e) = Fails stops e
 
-abbrev pub word_at : List (List ℕ) → Option (List ℕ × List (List ℕ))
-word_at [] = None
-word_at (word ∷ rest) = Some (word, rest)
+-- ---- what stands at a place
 
--- what stands behind a word, where it comes next
-unfoldable pub behind : List ℕ → List (List ℕ) → Option (List (List ℕ))
-behind word [] = None
-behind word (next ∷ rest) = if bytes_eq next word then Some rest else None
+abbrev pub there : (Token → Bool) → Option Token → Bool
+there test None = false
+there test (Some t) = test t
 
-unfoldable pub name_at : List (List ℕ) → Option (List ℕ × List (List ℕ))
-name_at ws = do
-  word ← word_at ws
-  if is_name word.0 then Some word else None
+abbrev pub sign_there : Sign → Option Token → Bool
+sign_there s (Some (token.Sign u)) = is_sign s u
+sign_there s _ = false
 
-unfoldable pub operand_at : List (List ℕ) → Option (Expr (List ℕ) × List (List ℕ))
-operand_at ws = do
-  word ← word_at ws
-  operand ← operand_of word.0
-  Some (operand, word.1)
+-- an operator that is allowed
+abbrev pub if_allowed : Bool → Option Operator → Option Operator
+if_allowed compared None = None
+if_allowed compared (Some o) = if allowed compared o then Some o else None
 
-unfoldable pub operator_at : List (List ℕ) → Option (Operator × List (List ℕ))
-operator_at [] = None
-operator_at (word ∷ rest) = if bytes_eq word (codes "+") then Some (Plus, rest) else (if bytes_eq word (codes "-") then Some (Minus, rest) else None)
+abbrev pub operator_there : Bool → Option Token → Option Operator
+operator_there compared (Some (token.Sign s)) = if_allowed compared (operator_of s)
+operator_there compared _ = None
 
--- operators and operands behind an expression, in at most so many turns
-unfoldable pub chain_at : ℕ → Expr (List ℕ) → List (List ℕ) → Option (Expr (List ℕ) × List (List ℕ))
-chain_at zero e ws = Some (e, ws)
-chain_at (suc n) e ws = found (operator_at ws) (Some (e, ws)) (λ o. operand_at o.1 >>= λ x. chain_at n (Binary o.0 e x.0) x.1)
+-- An operand and the operators behind it, up to a place where no operator is allowed: what ends the
+-- expression is not read yet.
+pub record Chains (ts : List Token) (depth at : ℕ) (e : Expr Word) (compared : Bool) (end : ℕ) : Type 0 where
+  pub first : Expr Word
+  pub links : Links
+  pub tree : e ≡ all_attached first links
+  pub goes : (closer : Closer) (s : List Item) (names : ℕ)
+      → read (Expression depth closer ∷ s) names at (drop at ts)
+      ≡ (read (More depth compared closer ∷ s) names end (drop end ts) >>= λ vs. Ok ((all_attached first (links ++ vs.0.0), vs.0.1), vs.1))
 
-unfoldable pub expression_at : ℕ → List (List ℕ) → Option (Expr (List ℕ) × List (List ℕ))
-expression_at most ws = do
-  first ← operand_at ws
-  chain_at most first.0 first.1
+pub record Chained (ts : List Token) (depth at : ℕ) (e : Expr Word) (end : ℕ) : Type 0 where
+  pub compared : Bool
+  pub chain : Chains ts depth at e compared end
+  pub over : operator_there compared (slice_get ts end) ≡ None
 
--- an expression and the semicolon behind it
-unfoldable pub value_at : ℕ → List (List ℕ) → Option (Expr (List ℕ) × List (List ℕ))
-value_at most ws = do
-  value ← expression_at most ws
-  rest ← behind (codes ";") value.1
-  Some (value.0, rest)
+-- ---- clauses of the functions that read
 
--- a statement, as the block of it alone
-unfoldable pub set_at : ℕ → Option ℕ → List (List ℕ) → Option (Block (List ℕ) × List (List ℕ))
-set_at most field ws = do
-  k ← field
-  rest ← behind (codes "=") ws
-  value ← value_at most rest
-  Some (SetField k value.0 End, value.1)
+-- an item that declares no name, whatever is declared before it
+abbrev pub ReadsItem : {X : Type 0} → (ts : List Token) → (i : Item) → (X → Value i) → (X → ℕ) → ℕ → Result X ReadNo → Type 0
+ReadsItem ts i view end at result = Reads (λ x. (names : ℕ) → Takes ts (i ∷ []) (view x, tt) names at names (end x)) (λ fault. (names : ℕ) → Stops ts (i ∷ []) names at fault) result
 
-unfoldable pub return_at : ℕ → List (List ℕ) → Option (Block (List ℕ) × List (List ℕ))
-return_at most ws = do
-  value ← value_at most ws
-  Some (Return value.0 End, value.1)
+-- an operand and its operators, whatever ends the expression
+abbrev pub ReadsChain : {X : Type 0} → (ts : List Token) → ℕ → (X → Expr Word) → (X → ℕ) → ℕ → Result X ReadNo → Type 0
+ReadsChain ts depth view end at result = Reads (λ x. Chained ts depth at (view x) (end x)) (λ fault. (closer : Closer) (names : ℕ) → Stops ts (Expression depth closer ∷ []) names at fault) result
 
-unfoldable pub statement_at : ℕ → List (List ℕ) → Option (Block (List ℕ) × List (List ℕ))
-statement_at most ws = do
-  word ← word_at ws
-  if bytes_eq word.0 (codes "return") then return_at most word.1 else set_at most (field_of word.0) word.1
+-- whether the level that a sign opens at an expression's end may be opened
+abbrev pub may_close : ℕ → Sign → Bool
+may_close depth fixed.OpenBrace = nat_lt depth 32
+may_close depth _ = true
 
-abbrev pub is_return : Statement (List ℕ) → Bool
-is_return (statement.SetField k value) = false
-is_return (statement.Return value) = true
+-- an item that ends with the rest of the block
+pub record Rests (ts : List Token) (depth : ℕ) (j : Item) (f : Code Word Word → Value j) (names at after end : ℕ) : Type 0 where
+  pub goes : (s : List Item) → read (j ∷ s) names at (drop at ts) ≡ (read (Block depth ∷ s) after end (drop end ts) >>= λ vs. Ok (f vs.0, vs.1))
 
--- a statement before those that are read behind it; a return is the last one
-abbrev pub onto_body : Block (List ℕ) → List (List ℕ) → Option (Block (List ℕ) × List (List ℕ)) → Option (Block (List ℕ) × List (List ℕ))
-onto_body End rest others = None
-onto_body (SetField k value _) rest others = others >>= λ x. Some (SetField k value x.0, x.1)
-onto_body (Return value _) rest others = Some (Return value End, rest)
+-- what stands behind `let`, the variable and `=`, up to the rest of the block
+pub record TakesLet (ts : List Token) (depth : ℕ) (v : Word) (part : Onto Word Word) (names at after end : ℕ) : Type 0 where
+  pub rest : Code Word Word → LetRest
+  pub made : (code : Code Word Word) → part code ≡ let_of v (rest code)
+  pub rests : Rests ts depth (Letting depth) rest names at after end
 
--- statements up to a return, in at most so many turns
-unfoldable pub body_at : ℕ → ℕ → List (List ℕ) → Option (Block (List ℕ) × List (List ℕ))
-body_at most zero ws = None
-body_at most (suc n) ws = do
-  s ← statement_at most ws
-  onto_body s.0 s.1 (body_at most n s.1)
+abbrev pub ReadsLet : {X : Type 0} → (ts : List Token) → ℕ → Word → (X → Onto Word Word) → (X → ℕ) → ℕ → Result X ReadNo → Type 0
+ReadsLet ts depth v view end at result = Reads (λ x. (names : ℕ) → TakesLet ts depth v (view x) names at names (end x)) (λ fault. (names : ℕ) → Stops ts (Letting depth ∷ []) names at fault) result
 
--- so many names at most, up to the closing parenthesis, behind the names in front
-unfoldable pub names_at : ℕ → List (List ℕ) → List (List ℕ) → Option (List (List ℕ) × List (List ℕ))
-names_at zero front ws = None
-names_at (suc n) front ws = do
-  name ← name_at ws
-  found (behind (codes ")") name.1) (behind (codes ",") name.1 >>= λ rest. names_at n (front ++ name.0 ∷ []) rest) (λ rest. Some (front ++ name.0 ∷ [], rest))
+-- an item from a number of names on up to another, a part of a block, and an item that ends with the
+-- block's rest
+abbrev pub ReadsFrom : {X : Type 0} → (ts : List Token) → (i : Item) → (X → Value i) → (X → ℕ) → (X → ℕ) → ℕ → ℕ → Result X ReadNo → Type 0
+ReadsFrom ts i view after end names at result = Reads (λ x. Takes ts (i ∷ []) (view x, tt) names at (after x) (end x)) (λ fault. Stops ts (i ∷ []) names at fault) result
 
-unfoldable pub parameters_at : List (List ℕ) → Option (List (List ℕ) × List (List ℕ))
-parameters_at ws = found (behind (codes ")") ws) (names_at 8 [] ws) (λ rest. Some ([], rest))
+abbrev pub ReadsPart : {X : Type 0} → (ts : List Token) → ℕ → (X → Onto Word Word) → (X → ℕ) → (X → ℕ) → ℕ → ℕ → Result X ReadNo → Type 0
+ReadsPart ts depth view after end names at result = Reads (λ x. TakesPart ts depth (view x) names at (after x) (end x)) (λ fault. Stops ts (Block depth ∷ []) names at fault) result
 
--- a method up to its parameters: the name and those
-unfoldable pub signature_at : List (List ℕ) → Option ((List ℕ × List (List ℕ)) × List (List ℕ))
-signature_at ws = do
-  named ← behind (codes "method") ws
-  name ← name_at named
-  opened ← behind (codes "(") name.1
-  parameters ← parameters_at opened
-  Some ((name.0, parameters.0), parameters.1)
+-- a method behind the word `method`, where names are counted anew, up to some number of them
+abbrev pub method_items : List Item
+method_items = Called ∷ Opening 0 fixed.Open ∷ Parameters ∷ Opening 0 fixed.OpenBrace ∷ Block 1 ∷ []
 
-unfoldable pub block_at : ℕ → List (List ℕ) → Option (Block (List ℕ) × List (List ℕ))
-block_at most ws = do
-  begun ← behind (codes "{") ws
-  body ← body_at most most begun
-  rest ← behind (codes "}") body.1
-  Some (body.0, rest)
+pub record TakesMethod (ts : List Token) (m : TextMethod) (at end : ℕ) : Type 0 where
+  pub after : ℕ
+  pub takes : Takes ts method_items (m.name, (tt, (m.parameters, (tt, (m.body, tt))))) 0 at after end
 
-unfoldable pub method_at : ℕ → List (List ℕ) → Option (MethodTree (List ℕ) × List (List ℕ))
-method_at most ws = do
-  signature ← signature_at ws
-  body ← block_at most signature.1
-  Some (record { name = signature.0.0; parameters = signature.0.1; body = body.0 }, body.1)
+abbrev pub ReadsMethod : {X : Type 0} → (ts : List Token) → (X → TextMethod) → (X → ℕ) → ℕ → Result X ReadNo → Type 0
+ReadsMethod ts view end at result = Reads (λ x. TakesMethod ts (view x) at (end x)) (λ fault. Stops ts method_items 0 at fault) result
 
--- no word is left
-abbrev pub is_ended : List (List ℕ) → Bool
-is_ended [] = true
-is_ended (word ∷ rest) = false
+-- a name, whatever item it is
+abbrev pub is_name : Token → Bool
+is_name (token.Name w) = true
+is_name _ = false
 
--- so many methods at most, up to the last word, behind the methods in front
-unfoldable pub methods_at : ℕ → ℕ → List (MethodTree (List ℕ)) → List (List ℕ) → Option (List (MethodTree (List ℕ)))
-methods_at most zero front ws = None
-methods_at most (suc n) front ws = do
-  m ← method_at most ws
-  if is_ended m.1 then Some (front ++ m.0 ∷ []) else methods_at most n (front ++ m.0 ∷ []) m.1
+abbrev pub ReadsName : (ts : List Token) → ℕ → Result (Word × ℕ) ReadNo → Type 0
+ReadsName ts at result = Reads (λ x. (slice_get ts at ≡ Some (token.Name x.0)) × (x.1 ≡ at + 1)) (λ fault. (fault ≡ (at, Unexpected)) × (there is_name (slice_get ts at) ≡ false)) result
+
+-- the line of a closing brace
+abbrev pub brace_there : Option Token → Option ℕ
+brace_there (Some (token.CloseBrace line)) = Some line
+brace_there _ = None
+
+-- a number
+abbrev pub number_there : Option Token → Option ℕ
+number_there (Some (token.Number n)) = Some n
+number_there _ = None

@@ -1,12 +1,14 @@
--- A program as a tree, over what stands for a variable, and the tree that a value of the code is.
+-- A program as a tree, over what stands for a variable and for a called method, and the tree that a
+-- value of the code is.
 use Rattle.std.specs.Prelude.{ℕ, List, [], ◌∷◌, map}
+use Rattle.aml_tokens.specs.declared.tokens.Word.{Word}
 use Rattle.aml_tree.specs.declared.trees.Operator.{Operator}
-use Rattle.aml_tree.specs.declared.trees.Operand.{Operand}
-use Rattle.aml_tree.specs.declared.trees.Operand.TheVariants as operand
+use Rattle.aml_tree.specs.declared.trees.Expression.{Expression, fold-Expression}
+use Rattle.aml_tree.specs.declared.trees.Expression.TheOpen.{Expression-F}
 use Rattle.aml_tree.specs.declared.trees.Link.{Link}
-use Rattle.aml_tree.specs.declared.trees.Expression.{Expression}
-use Rattle.aml_tree.specs.declared.trees.Statement.{Statement}
-use Rattle.aml_tree.specs.declared.trees.Statement.TheVariants as statement
+use Rattle.aml_tree.specs.declared.trees.Block as block
+use Rattle.aml_tree.specs.declared.trees.Statement.{Statement, fold-Statement}
+use Rattle.aml_tree.specs.declared.trees.Statement.TheOpen.{Statement-F}
 use Rattle.aml_tree.specs.declared.trees.Method as method
 use Rattle.aml_tree.specs.declared.trees.Program as program
 
@@ -14,39 +16,128 @@ pub data Expr (V : Type 0) : Type 0 where
   Number : (n : ℕ) → Expr V
   Variable : (v : V) → Expr V
   Field : (k : ℕ) → Expr V
+  Own : Expr V
+  Group : (e : Expr V) → Expr V
+  Negative : (e : Expr V) → Expr V
   Binary : (o : Operator) → (a b : Expr V) → Expr V
 
--- a block is a statement and the rest of the block
-pub data Block (V : Type 0) : Type 0 where
-  End : Block V
-  SetField : (k : ℕ) → (value : Expr V) → (rest : Block V) → Block V
-  Return : (value : Expr V) → (rest : Block V) → Block V
+-- a block is a statement and the rest of the block, up to the closing brace with its line
+pub data Code (V M : Type 0) : Type 0 where
+  End : (line : ℕ) → Code V M
+  Let : (v : V) → (value : Expr V) → (rest : Code V M) → Code V M
+  Call : (v : V) → (target : Expr V) → (m : M) → (arguments : List (Expr V)) → (rest : Code V M) → Code V M
+  Set : (v : V) → (value : Expr V) → (rest : Code V M) → Code V M
+  SetField : (k : ℕ) → (value : Expr V) → (rest : Code V M) → Code V M
+  If : (condition : Expr V) → (first rest : Code V M) → Code V M
+  IfElse : (condition : Expr V) → (first other rest : Code V M) → Code V M
+  While : (condition : Expr V) → (body rest : Code V M) → Code V M
+  Fail : (code : ℕ) → (rest : Code V M) → Code V M
+  Return : (value : Expr V) → (rest : Code V M) → Code V M
 
-pub record MethodTree (V : Type 0) : Type 0 where
-  pub name : List ℕ
-  pub parameters : List (List ℕ)
-  pub body : Block V
+pub record MethodTree (V M : Type 0) : Type 0 where
+  pub name : Word
+  pub parameters : List V
+  pub body : Code V M
 
-abbrev pub operand_tree : {V : Type 0} → Operand V → Expr V
-operand_tree (operand.Number n) = Number n
-operand_tree (operand.Variable v) = Variable v
-operand_tree (operand.Field k) = Field k
+-- a program as its text has it
+abbrev pub TextMethod : Type 0
+TextMethod = MethodTree Word Word
+
+-- and with its names resolved: a variable's place among those that are visible, a method's in the program
+abbrev pub CheckedMethod : Type 0
+CheckedMethod = MethodTree ℕ ℕ
+
+-- ---- the trees of values
 
 -- operators join operands from the left
-abbrev pub chain_tree : {V : Type 0} → Expr V → List (Link V) → Expr V
+abbrev pub chain_tree : {V : Type 0} → Expr V → List (Link (Expr V)) → Expr V
 chain_tree first [] = first
-chain_tree first (l ∷ ls) = chain_tree (Binary l.operator first (operand_tree l.operand)) ls
+chain_tree first (l ∷ ls) = chain_tree (Binary l.operator first l.operand) ls
+
+abbrev pub expression_step : {V : Type 0} → Expression-F V (Expr V) → Expr V
+expression_step (Expression-F.Number n) = Number n
+expression_step (Expression-F.Variable v) = Variable v
+expression_step (Expression-F.Field k) = Field k
+expression_step Expression-F.Own = Own
+expression_step (Expression-F.Group e) = Group e.value
+expression_step (Expression-F.Negative e) = Negative e.value
+expression_step (Expression-F.Chain first rest) = chain_tree first.value rest.items
 
 abbrev pub expression_tree : {V : Type 0} → Expression V → Expr V
-expression_tree e = chain_tree (operand_tree e.first) e.rest
+expression_tree {V} = fold-Expression V (Expr V) expression_step
 
-abbrev pub block_tree : {V : Type 0} → List (Statement V) → Block V
-block_tree [] = End
-block_tree (statement.SetField k value ∷ rest) = SetField k (expression_tree value) (block_tree rest)
-block_tree (statement.Return value ∷ rest) = Return (expression_tree value) (block_tree rest)
+-- the operators with the trees of their operands
+abbrev pub link_trees : {V : Type 0} → List (Link (Expression V)) → List (Link (Expr V))
+link_trees ls = map (λ l. record { operator = l.operator; operand = expression_tree l.operand }) ls
 
-abbrev pub method_tree : {V : Type 0} → method.Method V → MethodTree V
+-- a statement before the rest of its block
+abbrev pub Onto : (V M : Type 0) → Type 0
+Onto V M = Code V M → Code V M
+
+abbrev pub statements_onto : {V M : Type 0} → List (Onto V M) → Code V M → Code V M
+statements_onto [] rest = rest
+statements_onto (s ∷ ss) rest = s (statements_onto ss rest)
+
+abbrev pub block_code : {V M : Type 0} → block.Block (Onto V M) → Code V M
+block_code b = statements_onto b.statements.items (End b.last_line)
+
+abbrev pub statement_step : {V M : Type 0} → Statement-F V M (Onto V M) → Onto V M
+statement_step (Statement-F.Let v value) rest = Let v (expression_tree value) rest
+statement_step (Statement-F.Call v target m arguments) rest = Call v (expression_tree target) m (map expression_tree arguments.items) rest
+statement_step (Statement-F.Set v value) rest = Set v (expression_tree value) rest
+statement_step (Statement-F.SetField k value) rest = SetField k (expression_tree value) rest
+statement_step (Statement-F.If condition first) rest = If (expression_tree condition) (block_code first) rest
+statement_step (Statement-F.IfElse condition first other) rest = IfElse (expression_tree condition) (block_code first) (block_code other) rest
+statement_step (Statement-F.While condition body) rest = While (expression_tree condition) (block_code body) rest
+statement_step (Statement-F.Fail code) rest = Fail code rest
+statement_step (Statement-F.Return value) rest = Return (expression_tree value) rest
+
+abbrev pub statement_tree : {V M : Type 0} → Statement V M → Onto V M
+statement_tree {V} {M} = fold-Statement V M (Onto V M) statement_step
+
+abbrev pub statements_tree : {V M : Type 0} → List (Statement V M) → Code V M → Code V M
+statements_tree ss rest = statements_onto (map statement_tree ss) rest
+
+abbrev pub block_tree : {V M : Type 0} → block.Block (Statement V M) → Code V M
+block_tree b = statements_tree b.statements.items (End b.last_line)
+
+abbrev pub method_tree : {V M : Type 0} → method.Method V M → MethodTree V M
 method_tree m = record { name = m.name; parameters = m.parameters; body = block_tree m.body }
 
-abbrev pub program_tree : {V : Type 0} → program.Program V → List (MethodTree V)
+abbrev pub program_tree : {V M : Type 0} → program.Program V M → List (MethodTree V M)
 program_tree p = map method_tree p.methods
+
+-- ---- another view of the same tree
+
+abbrev pub renamed_expression : {V W : Type 0} → (V → W) → Expr V → Expr W
+renamed_expression f (Number n) = Number n
+renamed_expression f (Variable v) = Variable (f v)
+renamed_expression f (Field k) = Field k
+renamed_expression f Own = Own
+renamed_expression f (Group e) = Group (renamed_expression f e)
+renamed_expression f (Negative e) = Negative (renamed_expression f e)
+renamed_expression f (Binary o a b) = Binary o (renamed_expression f a) (renamed_expression f b)
+
+abbrev pub without_lines : Code Word Word → Code (List ℕ) (List ℕ)
+without_lines (End line) = End 0
+without_lines (Let v value rest) = Let v.name (renamed_expression (λ w. w.name) value) (without_lines rest)
+without_lines (Call v target m arguments rest) = Call v.name (renamed_expression (λ w. w.name) target) m.name (map (renamed_expression (λ w. w.name)) arguments) (without_lines rest)
+without_lines (Set v value rest) = Set v.name (renamed_expression (λ w. w.name) value) (without_lines rest)
+without_lines (SetField k value rest) = SetField k (renamed_expression (λ w. w.name) value) (without_lines rest)
+without_lines (If condition first rest) = If (renamed_expression (λ w. w.name) condition) (without_lines first) (without_lines rest)
+without_lines (IfElse condition first other rest) = IfElse (renamed_expression (λ w. w.name) condition) (without_lines first) (without_lines other) (without_lines rest)
+without_lines (While condition body rest) = While (renamed_expression (λ w. w.name) condition) (without_lines body) (without_lines rest)
+without_lines (Fail code rest) = Fail code (without_lines rest)
+without_lines (Return value rest) = Return (renamed_expression (λ w. w.name) value) (without_lines rest)
+
+-- a method as its words alone say it
+pub record BareMethod : Type 0 where
+  pub name : List ℕ
+  pub parameters : List (List ℕ)
+  pub body : Code (List ℕ) (List ℕ)
+
+abbrev pub bare_method : TextMethod → BareMethod
+bare_method m = record { name = m.name.name; parameters = map (λ (w : Word). w.name) m.parameters; body = without_lines m.body }
+
+abbrev pub bare : List TextMethod → List BareMethod
+bare p = map bare_method p

@@ -1,21 +1,30 @@
-//! The method language as a tree, and the reader that makes it of a program's text.
+//! The method language as a tree, and the reader that makes it of a program's text. `aml_print` writes
+//! such a tree as a text again.
 //!
-//! A tree keeps what the text says and nothing of how it is laid out. It is generic over what
-//! stands for a variable: its name as the text has it, or, once the program is checked, its place
-//! among the method's variables. `work_text` reads programs with it, `aml_check` resolves the names.
+//! A tree keeps what the text says, with the lines of names and of closing braces, and every group in
+//! parentheses, so each tree has one spelling. It is generic over what stands for a variable and for a
+//! called method: words of the text, or, once `aml_check` has resolved them, places.
 //!
-//! The grammar is a spelling of trees in words (`specs/Grammar.antt`), and how bytes make words
-//! (`specs/Words.antt`). A text spells one program at most; that one is read, unless memory runs out,
-//! and nothing else is. Reading takes time in proportion to the text.
+//! Which texts are programs is `specs/Grammar.antt` (trees, and how they are spelled in tokens) and
+//! `specs/Limits.antt`; the first fault of another text is `specs/Faults.antt`.
 #![tactic(auto)]
 
-mod lexer;
+mod attaching;
+mod expressions;
+mod faults;
+mod laws;
+mod looks;
+mod makers;
+mod methods;
 mod parse;
-mod parser;
-mod trees;
-
-pub use parse::{TextCause, TextFault, TextNo, one_program, parse_program, parse_program_bytes};
-pub use trees::{Expression, Link, Method, Name, Operand, Operator, Program, Statement};
-
+mod readers;
+mod signs;
+mod statements;
 #[cfg(test)]
 mod tests;
+mod trees;
+
+pub use faults::{TextFault, TextNo};
+pub use laws::{faults_stand_in_the_text, faulty, lines_stand_in_the_text, one_fault, one_program};
+pub use parse::{parse_program, parse_program_bytes};
+pub use trees::{Block, Expression, Link, Method, Operator, Program, Statement};

@@ -1,70 +1,103 @@
-ghost use Rattle.std.specs.Prelude.{◌≡◌, ℕ, List, IfOk, IsErrOf};
-ghost use Rattle.aml_tree.specs.Tree.{MethodTree, program_tree};
-ghost use Rattle.aml_tree.specs.Grammar.{IsProgramText};
+ghost use Rattle.std.specs.Prelude.{◌≡◌, Ok, Err, map, IfOk, IsErrOf, slice_get};
+ghost use Rattle.aml_tokens.specs.Lexing.{tokens, places, stop, line_at, column_at};
+ghost use Rattle.aml_tree.specs.Tree.{method_tree, program_tree};
+ghost use Rattle.aml_tree.specs.Faults.{IsFirstFault};
+ghost use Rattle.aml_tree.specs.Programs.{IsProgramText};
+ghost use Rattle.aml_tree.specs.Reading.{program};
 
-use crate::lexer::{is_blank_from, without_comments};
-use crate::parser::{methods_at, unexpected};
-use crate::{Name, Program};
-use snap_base::Memory;
+use crate::methods::methods;
+use crate::readers::ReadNo;
+use crate::{Method, Program, TextFault, TextNo};
+use aml_tokens::{TextCause, Word, lex, position};
+use snap_base::Sequence;
 use std::alloc::Global;
 
-/// How many bytes of a text may hold more than blanks and comments: the first ones.
-const ROOM: usize = 65536;
-
-/// Why a text is no program.
-#[derive(Clone, Copy, Debug, PartialEq, Eq)]
-pub enum TextCause {
-    /// The text is not of the grammar.
-    Unexpected,
-}
-
-/// What is wrong with a text.
-#[derive(Clone, Copy, Debug, PartialEq, Eq)]
-pub struct TextFault {
-    pub cause: TextCause,
-}
-
-/// Why there is no tree.
-#[derive(Clone, Copy, Debug, PartialEq, Eq)]
-pub enum TextNo {
-    Fault(TextFault),
-    Memory,
-}
-
-impl From<Memory> for TextNo {
-    ghost use Rattle.aml_tree.specs.declared.parse.TextNo.TheVariants as no;
-
-    ghost from_gives = { λ _ e. e ≡ no.Memory };
-
-    fn from(_error: Memory) -> TextNo {
-        TextNo::Memory
-    }
-}
-
 /// Reads the text of a program.
-pub fn parse_program(alloc: Global, text: &str) -> Result<Program<Name>, TextNo>
+pub fn parse_program(alloc: Global, text: &str) -> Result<Program<Word, Word>, TextNo>
     // What is read is the program that the text spells.
     ensures found { IfOk result (λ p. IsProgramText text.now (program_tree p)) }
-    // A fault comes only where the text is no program's.
-    ensures refused { (fault : TextFault) → IsErrOf result (TextNo.Fault fault) → (p : List (MethodTree (List ℕ))) → ¬ IsProgramText text.now p }
+    // A fault is the first one of the text.
+    ensures fault { (fault : TextFault) → IsErrOf result (TextNo.Fault fault) → IsFirstFault text.now fault }
 {
     parse_program_bytes(alloc, text.as_bytes())
 }
 
 /// The same of a text that is given by its bytes.
-pub fn parse_program_bytes(alloc: Global, text: &[u8]) -> Result<Program<Name>, TextNo>
+pub fn parse_program_bytes(alloc: Global, text: &[u8]) -> Result<Program<Word, Word>, TextNo>
     ensures found { IfOk result (λ p. IsProgramText text.now (program_tree p)) }
-    ensures refused { (fault : TextFault) → IsErrOf result (TextNo.Fault fault) → (p : List (MethodTree (List ℕ))) → ¬ IsProgramText text.now p }
+    ensures fault { (fault : TextFault) → IsErrOf result (TextNo.Fault fault) → IsFirstFault text.now fault }
 {
-    let bytes = without_comments(alloc, text)?;
-    if !is_blank_from(&bytes, ROOM) {
-        return Err(unexpected());
+    let Ok(lexed) = lex(alloc, text) else {
+        return Err(TextNo::Memory);
+    };
+    match methods(alloc, &lexed.tokens) {
+        Ok(read) => whole(text, lexed.stop, read),
+        Err(ReadNo::At { place, cause }) => Err(TextNo::Fault(fault_at(
+            text,
+            &lexed.places,
+            lexed.stop,
+            place,
+            cause,
+        ))),
+        Err(ReadNo::Memory) => Err(TextNo::Memory),
     }
-    let methods = methods_at(alloc, &bytes)?;
-    Ok(Program { methods })
 }
 
-/// A text spells one program, if any.
-pub fn one_program()
-    ensures { (text : List ℕ) (p q : List (MethodTree (List ℕ))) → IsProgramText text p → IsProgramText text q → p ≡ q }
-{}
+/// The program whose tokens were read, where no piece behind them is none.
+fn whole(
+    text: &[u8],
+    piece: Option<(usize, TextCause)>,
+    methods: Vec<Method<Word, Word>>,
+) -> Result<Program<Word, Word>, TextNo>
+    requires piece { piece ≡ stop text.now }
+    requires read { program (tokens text.now) ≡ Ok (map method_tree methods.items) }
+    ensures found { IfOk result (λ p. IsProgramText text.now (program_tree p)) }
+    ensures fault { (fault : TextFault) → IsErrOf result (TextNo.Fault fault) → IsFirstFault text.now fault }
+{
+    match piece {
+        Some((at, cause)) => Err(TextNo::Fault(fault_of(text, at, cause))),
+        None => Ok(Program {
+            methods: Sequence::from_vec(methods),
+        }),
+    }
+}
+
+/// The fault where reading the tokens stops: at a token, or else behind the last one.
+fn fault_at(
+    text: &[u8],
+    starts: &[usize],
+    piece: Option<(usize, TextCause)>,
+    place: usize,
+    cause: TextCause,
+) -> TextFault
+    requires starts { starts.now ≡ places text.now }
+    requires piece { piece ≡ stop text.now }
+    requires stops { program (tokens text.now) ≡ Err (place, cause) }
+    ensures { IsFirstFault text.now result }
+{
+    if let Some(at) = start_of(starts, place) {
+        return fault_of(text, at, cause);
+    }
+    match piece {
+        Some((at, cause)) => fault_of(text, at, cause),
+        None => fault_of(text, text.len(), cause),
+    }
+}
+
+/// Where the token begins with a number, if there is one.
+fn start_of(starts: &[usize], place: usize) -> Option<usize>
+    ensures { result ≡ slice_get starts.now place }
+{
+    starts.get(place).copied()
+}
+
+fn fault_of(text: &[u8], at: usize, cause: TextCause) -> TextFault
+    ensures { result ≡ record { line = line_at text.now at; column = column_at text.now at; cause = cause } }
+{
+    let (line, column) = position(text, at);
+    TextFault {
+        line,
+        column,
+        cause,
+    }
+}

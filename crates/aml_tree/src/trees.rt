@@ -1,56 +1,122 @@
+use aml_tokens::Word;
 use snap_base::Sequence;
 
-/// A name of a method or a variable, as its bytes: a letter or `_`, then letters, digits and `_`.
-pub type Name = Sequence<u8>;
-
-/// A program: its methods in the order of the text.
+/// A program: its methods in the order of the text. `V` stands for a variable and `M` for a method that
+/// is called.
 #[derive(Drop)]
-pub struct Program<V> {
-    pub methods: Sequence<Method<V>>,
+pub struct Program<V, M> {
+    pub methods: Sequence<Method<V, M>>,
 }
 
 /// A method: a name, its parameters, and what it does.
 #[derive(Drop)]
-pub struct Method<V> {
-    pub name: Name,
-    pub parameters: Sequence<Name>,
-    pub body: Sequence<Statement<V>>,
+pub struct Method<V, M> {
+    pub name: Word,
+    pub parameters: Sequence<V>,
+    pub body: Block<Statement<V, M>>,
 }
 
-/// A statement, over what stands for a variable.
+/// Statements between braces.
 #[derive(Drop)]
-pub enum Statement<V> {
+pub struct Block<S> {
+    pub statements: Vec<S>,
+    /// The line of the closing brace, from 1 on.
+    pub last_line: u32,
+}
+
+/// A statement, over what stands for a variable and for a method.
+#[derive(Drop)]
+pub enum Statement<V, M> {
+    /// A new variable takes the value.
+    Let {
+        variable: V,
+        value: Expression<V>,
+    },
+    /// A new variable takes what a method gives that is called on an actor.
+    Call {
+        variable: V,
+        target: Expression<V>,
+        method: M,
+        arguments: Vec<Expression<V>>,
+    },
+    /// A variable that there is takes the value.
+    Set {
+        variable: V,
+        value: Expression<V>,
+    },
     /// The actor's field `f0` to `f15` takes the value.
-    SetField { field: u8, value: Expression<V> },
+    SetField {
+        field: u8,
+        value: Expression<V>,
+    },
+    /// The block where the condition holds.
+    If {
+        condition: Expression<V>,
+        first: Block<Statement<V, M>>,
+    },
+    /// The first block where the condition holds, and else the other.
+    IfElse {
+        condition: Expression<V>,
+        first: Block<Statement<V, M>>,
+        other: Block<Statement<V, M>>,
+    },
+    /// The block as long as the condition holds.
+    While {
+        condition: Expression<V>,
+        body: Block<Statement<V, M>>,
+    },
+    /// The transaction fails with the code, 1 to 999.
+    Fail {
+        code: u16,
+    },
     /// The method ends with the value.
-    Return { value: Expression<V> },
-}
-
-/// An operand, and further ones that operators join to it from the left.
-#[derive(Drop)]
-pub struct Expression<V> {
-    pub first: Operand<V>,
-    pub rest: Sequence<Link<V>>,
-}
-
-/// An operator and the operand behind it.
-#[derive(Drop)]
-pub struct Link<V> {
-    pub operator: Operator,
-    pub operand: Operand<V>,
-}
-
-#[derive(Clone, Copy, Debug, PartialEq, Eq)]
-pub enum Operator {
-    Plus,
-    Minus,
+    Return {
+        value: Expression<V>,
+    },
 }
 
 #[derive(Drop)]
-pub enum Operand<V> {
+pub enum Expression<V> {
     /// A number from 0 to 2^63 - 1.
     Number(u64),
     Variable(V),
     /// A field of the actor, 0 to 15.
     Field(u8),
+    /// The number of the actor on which the method runs.
+    Own,
+    /// An expression in parentheses.
+    Group(Box<Expression<V>>),
+    /// The negative of an operand.
+    Negative(Box<Expression<V>>),
+    /// An operand, and further ones that operators join to it from the left.
+    Chain {
+        first: Box<Expression<V>>,
+        rest: Vec<Link<Expression<V>>>,
+    },
+}
+
+/// An operator and the operand behind it.
+#[derive(Drop)]
+pub struct Link<E> {
+    pub operator: Operator,
+    pub operand: E,
+}
+
+/// An operator, from the loosest to the tightest.
+#[derive(Clone, Copy, Debug, PartialEq, Eq, Hash)]
+pub enum Operator {
+    Or,
+    And,
+    Equal,
+    NotEqual,
+    Less,
+    LessOrEqual,
+    Greater,
+    GreaterOrEqual,
+    Plus,
+    Minus,
+    Times,
+    /// Division.
+    Over,
+    Remainder,
 }

@@ -1,4 +1,5 @@
 pub mod Completions
+pub mod Keeping
 pub mod OneTransaction
 pub mod ReportLaws
 pub mod RunRecords

@@ -1,7 +1,8 @@
 -- What a run writes are records.
-use Rattle.std.proofs.Common.{◌≡◌, ◌≢◌, ℕ, ◌+◌, ◌<◌, ◌≤◌, ◌^◌, zero, suc, List, [], ◌∷◌, length, map, refl, sym, ap, ◌∙◌, subst, arith, true, ◌||◌}
+use Rattle.std.proofs.Common.{◌≡◌, ◌≢◌, ℕ, ◌+◌, ◌<◌, ◌≤◌, ◌^◌, zero, suc, List, [], ◌∷◌, length, map, get_or, refl, sym, ap, ◌∙◌, subst, arith, true, ◌||◌}
 use Rattle.std.specs.List.{AllByRecursion, list_any, range_with_len}
 use Rattle.std.specs.Prelude.{◌==◌}
+use Rattle.std.proofs.Math.Bool.{or-true}
 use Rattle.std.proofs.lemmas.Bool.{eq-eqb}
 use Rattle.std.proofs.lemmas.List.{length-map}
 use Rattle.std.proofs.lemmas.List.FromFn.{length-map-range_with_len}
@@ -9,14 +10,14 @@ use Rattle.snap_base.specs.declared.ids.ActorId.{ActorId}
 use Rattle.snap_base.specs.declared.ids.Bid.{Bid}
 use Rattle.snap_base.specs.declared.ids.Tid.{Tid}
 use Rattle.snap_base.specs.declared.transactions.State.{State}
+use Rattle.snap_base.specs.declared.transactions.Kind.TheVariants.{Pact}
 use Rattle.snap_base.specs.declared.transactions.Tx.{Tx}
-use Rattle.aml_tree.specs.Tree.{program_tree}
-use Rattle.aml_check.specs.Names.{IsClosedProgram}
-use Rattle.aml_check.specs.Transactions.{IsTransaction}
+use Rattle.aml_check.specs.Closed.{IsClosedProgram}
+use Rattle.aml_check.specs.Transactions.{IsDeclaration, Declares, IsTransaction}
 use Rattle.txn_records.specs.declared.records.Record.{Record}
 use Rattle.txn_records.specs.declared.records.Record.TheVariants.{BatchComplete, BatchCommit}
 use Rattle.txn_records.specs.Records.{Ascend, IsState, IsRecord, IsInfo, tid_numbers}
-use Rattle.work_text.specs.declared.works.Work.{Work}
+use Rattle.work_text.specs.Works.{Work}
 use Rattle.snap_recover.specs.declared.openings.Opening.{Opening}
 use Rattle.snap_recover.specs.Batches.{Completion, tids_from, batch_records}
 use Rattle.run_batch.specs.Report.{serial_from, IsExecutable}
@@ -39,23 +40,31 @@ completes_are bid limit low [] fits few rise states = tt
 completes_are bid limit low (c ∷ cs) fits few rise states =
     (record { bid_fits = fits; actor_fits = omega (arith, rise.1); is_state = states.0 }, completes_are bid limit (c.0.0 + 1) cs fits few rise.2 states.1)
 
--- the first transaction's own actor is declared
-own_declared : (tx : Tx) (txs : List Tx) → tx.uses ≡ record { 0 = tx.actor; 1 = 1 } ∷ [] → declares (tx ∷ txs) tx.actor ≡ true
-own_declared tx txs is =
-    let P : List (ActorId × ℕ) → Type 0 = λ us. (list_any (λ (u : ActorId × ℕ). u.0.0 == tx.actor.0) us || declares txs tx.actor) ≡ true in
-    subst P (sym is) (rw (eq-eqb tx.actor.0 tx.actor.0 refl) refl)
+-- what an actor among those that are declared tells
+found_among : (us : List (ActorId × ℕ)) (a k d : ℕ) → k < length us → get_or (map (λ (u : ActorId × ℕ). u.0.0) us) k d ≡ a → list_any (λ (u : ActorId × ℕ). u.0.0 == a) us ≡ true
+found_among [] a k d within is = absurd (omega arith)
+found_among (u ∷ us) a zero d within is = rw (eq-eqb u.0.0 a is) refl
+found_among (u ∷ us) a (suc k) d within is = rw (found_among us a k d (omega arith) is) (or-true (u.0.0 == a))
+
+-- the first PACT's own actor is declared
+own_declared : (count : ℕ) (tx : Tx) (txs : List Tx) → tx.kind ≡ Pact → Declares count tx.actor.0 tx.kind tx.uses → declares (tx ∷ txs) tx.actor ≡ true
+own_declared count tx txs is declared =
+    let root : IsDeclaration count tx.actor.0 tx.uses = subst (λ k. Declares count tx.actor.0 k tx.uses) is declared in
+    let there = root.root_declared in
+    rw (found_among tx.uses tx.actor.0 there.0 tx.actor.0 (omega (arith, there.1, length-map tx.uses (λ (u : ActorId × ℕ). u.0.0))) there.2) refl
 
 some_completed : (o : Opening) (w : Work) (tx : Tx) (txs : List Tx) → w.txs ≡ tx ∷ txs → IsExecutable o w → 1 ≤ length (completions o w)
 some_completed o w tx txs is h =
-    let asked : AllByRecursion (IsTransaction (program_tree w.program) (length o.states)) (tx ∷ txs) = subst (AllByRecursion (IsTransaction (program_tree w.program) (length o.states))) is h.transactions in
+    let asked : AllByRecursion (IsTransaction w.program (length o.states)) (tx ∷ txs) = subst (AllByRecursion (IsTransaction w.program (length o.states))) is h.transactions in
+    let pacts : AllByRecursion (λ (x : Tx). x.kind ≡ Pact) (tx ∷ txs) = subst (AllByRecursion (λ (x : Tx). x.kind ≡ Pact)) is h.pacts in
     let own = asked.0 in
-    let same = serial_actors (program_tree w.program) o.states w.txs in
-    let passes : declares w.txs tx.actor ≡ true = ap (λ ts. declares ts tx.actor) is ∙ own_declared tx txs own.uses in
+    let same = serial_actors w.program o.states w.txs in
+    let passes : declares w.txs tx.actor ≡ true = ap (λ ts. declares ts tx.actor) is ∙ own_declared (length o.states) tx txs pacts.0 own.declares in
     chosen_some (declares w.txs) 0 (serial_from o w).world tx.actor.0 tx.actor.0 (omega arith) (omega (arith, same, own.actor)) passes
 
 few_completed : (o : Opening) (w : Work) → IsExecutable o w → length (completions o w) ≤ 256
 few_completed o w h =
-    let same = serial_actors (program_tree w.program) o.states w.txs in
+    let same = serial_actors w.program o.states w.txs in
     let few = chosen_few (declares w.txs) 0 (serial_from o w).world in
     omega (arith, same, few, h.few_states)
 
@@ -74,16 +83,16 @@ info_is o w tx txs is h =
       tids_ascend = tids_ascend o.next_tid.0 0 (length (tx ∷ txs)) (omega arith) (omega (arith, h.unspent.tid, count, h.few_transactions));
     }
 
-batch_of : (o : Opening) (w : Work) (txs : List Tx) → w.txs ≡ txs → IsExecutable o w → IsClosedProgram (program_tree w.program) → AllByRecursion IsRecord (batch_part o w txs)
+batch_of : (o : Opening) (w : Work) (txs : List Tx) → w.txs ≡ txs → IsExecutable o w → IsClosedProgram w.program → AllByRecursion IsRecord (batch_part o w txs)
 batch_of o w [] is h closed = tt
 batch_of o w (tx ∷ txs) is h closed =
-    let states = serial_states (program_tree w.program) (length o.states) o.states w.txs closed h.transactions h.states in (
+    let states = serial_states w.program (length o.states) o.states w.txs closed h.transactions h.few_states h.states in (
       info_is o w tx txs is h,
       completes_are o.next_bid (length o.states) 0 (completions o w) (omega (arith, h.unspent.bid)) (omega (arith, h.few_states)) (completions_rise o w)
           (chosen_states (declares w.txs) 0 (serial_from o w).world states),
     )
 
-pub batch_are_records : (o : Opening) (w : Work) → IsExecutable o w → IsClosedProgram (program_tree w.program) → AllByRecursion IsRecord (batch_part o w w.txs)
+pub batch_are_records : (o : Opening) (w : Work) → IsExecutable o w → IsClosedProgram w.program → AllByRecursion IsRecord (batch_part o w w.txs)
 batch_are_records o w h closed = batch_of o w w.txs refl h closed
 
 pub commit_is_record : (o : Opening) (w : Work) (txs : List Tx) → IsExecutable o w → AllByRecursion IsRecord (commit_part o txs)

@@ -1,11 +1,10 @@
 -- What a run writes is a batch that may follow, and the completions make the world that its transactions leave.
 use Rattle.std.proofs.Common.{◌≡◌, ℕ, ◌≤◌, List, [], ◌∷◌, ◌++◌, length, refl, sym, ap, subst, arith, append_assoc, append-nil, false}
 use Rattle.snap_base.specs.declared.transactions.Tx.{Tx}
-use Rattle.aml_tree.specs.Tree.{program_tree}
 use Rattle.aml_check.specs.Meaning.{zero_state, serial}
 use Rattle.txn_records.specs.declared.records.Record.{Record}
 use Rattle.txn_records.specs.declared.records.Record.TheVariants.{BatchCommit}
-use Rattle.work_text.specs.declared.works.Work.{Work}
+use Rattle.work_text.specs.Works.{Work}
 use Rattle.snap_recover.specs.declared.openings.Opening.{Opening}
 use Rattle.snap_recover.specs.Opening.{IsRecovered}
 use Rattle.snap_recover.specs.Batches.{Completion, tids_from, batch_records, with_completions, with_numbers_drawn, with_batch, MayRun}
@@ -16,16 +15,15 @@ use Rattle.run_batch.proofs.Completions.{Rises, chosen_rises, rises_below, rises
 
 pub completions_rise : (o : Opening) (w : Work) → Rises 0 (length o.states) (completions o w)
 completions_rise o w =
-    let same = serial_actors (program_tree w.program) o.states w.txs in
+    let same = serial_actors w.program o.states w.txs in
     chosen_rises (declares w.txs) 0 (length o.states) (serial_from o w).world (omega (arith, same))
 
 pub completions_make : (o : Opening) (w : Work) → IsExecutable o w → with_completions o.states (completions o w) ≡ (serial_from o w).world
 completions_make o w h =
-    let program = program_tree w.program in
     with_chosen (declares w.txs) o.states (serial_from o w).world
-    (keeps_from (declares w.txs) 0 zero_state o.states (serial_from o w).world (serial_actors program o.states w.txs)
+    (keeps_from (declares w.txs) 0 zero_state o.states (serial_from o w).world (serial_actors w.program o.states w.txs)
     (λ i m is none. let here : m ≡ i = omega arith in
-    sym (serial_others program (length o.states) o.states w.txs (record { 0 = i }) zero_state h.transactions (subst (λ k. declares w.txs (record { 0 = k }) ≡ false) here none))))
+    sym (serial_others w.program o.states w.txs (record { 0 = i }) zero_state h.pacts (subst (λ k. declares w.txs (record { 0 = k }) ≡ false) here none))))
 
 pub may_run : (o : Opening) (w : Work) → IsExecutable o w → 1 ≤ length w.txs → MayRun o (length w.txs) (completions o w)
 may_run o w h some = let rise = completions_rise o w in record {
@@ -61,7 +59,7 @@ before law rs o w h may = before_of law rs o w w.txs refl h may
 
 after_of : (law : WithCommit) (rs : List Record) (o : Opening) (w : Work) (txs : List Tx) → w.txs ≡ txs → IsRecovered (rs ∷ []) o → IsExecutable o w
     → (p : Opening) × IsRecovered ((rs ++ (batch_part o w txs ++ commit_part o txs)) ∷ []) p × (p.states ≡ (serial_from o w).world)
-after_of law rs o w [] is h may = (o, subst (λ l. IsRecovered (l ∷ []) o) (sym (append-nil rs)) h, ap (λ ts. (serial (program_tree w.program) o.states ts).world) (sym is))
+after_of law rs o w [] is h may = (o, subst (λ l. IsRecovered (l ∷ []) o) (sym (append-nil rs)) h, ap (λ ts. (serial w.program o.states ts).world) (sym is))
 after_of law rs o w (tx ∷ txs) is h may =
     let count : length w.txs ≡ length (tx ∷ txs) = ap length is in
     let able : MayRun o (length (tx ∷ txs)) (completions o w) = subst (λ n. MayRun o n (completions o w)) count (may_run o w may (omega (arith, count))) in (

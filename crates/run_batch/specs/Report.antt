@@ -3,22 +3,22 @@
 use Rattle.std.specs.Prelude.{◌≡◌, ℕ, ◌+◌, ◌≤◌, ℤ, List, [], ◌∷◌, ◌++◌, length, map, if◌then◌else◌, ◌==◌}
 use Rattle.std.specs.List.{AllByRecursion}
 use Rattle.snap_base.specs.declared.transactions.State.{State}
+use Rattle.snap_base.specs.declared.transactions.Kind.TheVariants.{Pact}
 use Rattle.snap_base.specs.declared.transactions.Tx.{Tx}
 use Rattle.snap_base.specs.declared.transactions.TxResult.TheVariants.{Value}
 use Rattle.snap_base.specs.declared.verdicts.Verdict.{Verdict}
 use Rattle.snap_base.specs.declared.verdicts.Verdict.TheVariants.{Committed, Unsure}
-use Rattle.aml_tree.specs.Tree.{program_tree}
 use Rattle.aml_check.specs.Meaning.{serial, SerialRun}
 use Rattle.aml_check.specs.Transactions.{IsTransaction}
 use Rattle.txn_records.specs.Records.{IsState}
-use Rattle.work_text.specs.declared.works.Work.{Work}
+use Rattle.work_text.specs.Works.{Work}
 use Rattle.snap_recover.specs.declared.openings.Opening.{Opening}
 use Rattle.snap_report.specs.Lines.{reply_text, actor_text, end_text}
 use Rattle.run_opening.specs.Begins.{IsUnspent}
 
 -- the serial execution of a work from the states of an opening
 abbrev pub serial_from : Opening → Work → SerialRun
-serial_from o w = serial (program_tree w.program) o.states w.txs
+serial_from o w = serial w.program o.states w.txs
 
 -- the transactions take the next numbers, in order
 abbrev pub committed : Opening → ℕ → ℤ → Verdict
@@ -55,9 +55,11 @@ abbrev pub unsures_text : ℕ → ℕ → List Tx → List ℕ
 unsures_text log n [] = []
 unsures_text log n (tx ∷ txs) = reply_text n (Unsure log) ++ unsures_text log (n + 1) txs
 
--- What executing needs: the transactions are ones that may be asked for, the states are states, and the numbers fit.
+-- What executing needs: the transactions are PACTs that may be asked for, the states are states, and the numbers
+-- fit.
 pub record IsExecutable (o : Opening) (w : Work) : Type 0 where
-  pub transactions : AllByRecursion (IsTransaction (program_tree w.program) (length o.states)) w.txs
+  pub transactions : AllByRecursion (IsTransaction w.program (length o.states)) w.txs
+  pub pacts : AllByRecursion (λ (tx : Tx). tx.kind ≡ Pact) w.txs
   pub few_transactions : length w.txs ≤ 256
   pub some_states : 1 ≤ length o.states
   pub few_states : length o.states ≤ 256

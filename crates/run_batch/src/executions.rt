@@ -1,5 +1,6 @@
 ghost use Rattle.std.specs.Prelude.{◌≡◌, ◌≢◌, ◌+◌, ◌≤◌, ◌^◌, [], ◌∷◌, length, IfOk, IsErrOf, string_bytes};
 ghost use Rattle.std.specs.List.{filter};
+ghost use Rattle.work_text.specs.Works.{work_of};
 ghost use Rattle.txn_records.specs.declared.records.Record.TheVariants.{BatchCommit};
 ghost use Rattle.snap_recover.specs.Batches.{Completion, tids_from, batch_records};
 ghost use Rattle.run_batch.specs.Report.{actors_text, IsReport, Fails, IsExecutable};
@@ -17,11 +18,11 @@ use work_text::Work;
 
 /// Executes the text's transactions, one after the other, from the opening's states.
 pub fn execute(alloc: Global, work: &Work, opening: &Opening) -> Result<Executed, ExecuteNo>
-    requires { IsExecutable opening.now work.now }
-    ensures report { IfOk result (λ x. IsReport opening.now work.now (string_bytes x.report)) }
-    ensures batch { IfOk result (λ x. x.batch ≡ batch_part opening.now work.now work.now.txs) }
+    requires { IsExecutable opening.now (work_of work.now) }
+    ensures report { IfOk result (λ x. IsReport opening.now (work_of work.now) (string_bytes x.report)) }
+    ensures batch { IfOk result (λ x. x.batch ≡ batch_part opening.now (work_of work.now) work.now.txs) }
     ensures commit { IfOk result (λ x. x.commit ≡ commit_part opening.now work.now.txs) }
-    ensures failed { IsErrOf result ExecuteNo.Failed → Fails opening.now work.now }
+    ensures failed { IsErrOf result ExecuteNo.Failed → Fails opening.now (work_of work.now) }
 {
     let mut world = opening.states.as_slice().to_vec(alloc)?;
     let txs = work.txs.as_slice();

@@ -1,7 +1,8 @@
 ghost use Rattle.std.specs.Prelude.{◌≡◌, ℕ, ◌≤◌, ◌^◌, List, IfOk};
 ghost use Rattle.gate_log.specs.Bytes.{IsPlacedLogAt};
-ghost use Rattle.work_text.specs.Work.{IsWork};
-ghost use Rattle.work_text.specs.declared.works.Work.{Work};
+ghost use Rattle.work_text.specs.Built.{IsBuilt};
+ghost use Rattle.work_text.specs.Works as works;
+ghost use Rattle.work_text.specs.Works.{work_of};
 ghost use Rattle.snap_recover.specs.declared.openings.Opening.{Opening};
 ghost use Rattle.run_batch.specs.Report.{IsExecutable};
 ghost use Rattle.run_batch.specs.Batch.{batch_part, commit_part};
@@ -15,7 +16,7 @@ use snap_recover::{Opening, recover};
 use std::alloc::Global;
 use std::rt::HostRuntime;
 use std::test::Fail;
-use work_text::{Work, parse_work};
+use work_text::{Work, built_works, one_batch, parse_work, transactions_may_run};
 
 /// One actor of 100 that is given 5.
 const DEPOSIT: &str =
@@ -24,6 +25,10 @@ const DEPOSIT: &str =
 /// Three actors, of which two are given something, the last one first.
 const TWO_OF_THREE: &str =
     "snapper 1\ncoordinators 1\nlogs 1\nbatch 16\nbatches 8\nacts 8\nprogram\nmethod put(n) { f0 = f0 + n; return f0; }\nend\nactors 3\nactor 0 10\nactor 1 20\nactor 2 30\npact 2 put 5 uses 2:1\npact 0 put 7 uses 0:1\n";
+
+/// The last of three actors calls the first one, and declares the one between them too.
+const ONE_CALLS_ANOTHER: &str =
+    "snapper 1\ncoordinators 1\nlogs 1\nbatch 16\nbatches 8\nacts 8\nprogram\nmethod put(n) { f0 = f0 + n; return f0; }\nmethod give(to, n) { f0 = f0 - n; let r = call to put(n); return r; }\nend\nactors 3\nactor 0 10\nactor 1 20\nactor 2 30\npact 2 give 0 5 uses 0:1 1:3 2:1\n";
 
 const NO_TRANSACTION: &str =
     "snapper 1\ncoordinators 1\nlogs 1\nbatch 16\nbatches 8\nacts 8\nprogram\nmethod put(n) { f0 = f0 + n; return f0; }\nend\nactors 2\nactor 0 1 0 2\n";
@@ -48,9 +53,12 @@ enum Ending {
 
 /// Executes the work from its own states, with these next numbers.
 fn execute_work(alloc: Global, work: &Work, tid: u32, bid: u32) -> Result<Executed, ExecuteNo>
-    requires { (text : List ℕ) × IsWork text work.now }
-    ensures parts { IfOk result (λ x. (o : Opening) × (w : Work) × IsExecutable o w × (x.batch ≡ batch_part o w w.txs) × (x.commit ≡ commit_part o w.txs)) }
+    requires { (text : List ℕ) × IsBuilt text (work_of work.now) }
+    ensures parts { IfOk result (λ x. (o : Opening) × (w : works.Work) × IsExecutable o w × (x.batch ≡ batch_part o w w.txs) × (x.commit ≡ commit_part o w.txs)) }
 {
+    built_works();
+    transactions_may_run();
+    one_batch();
     let opening = Opening {
         states: Sequence::from_vec(work.states.as_slice().to_vec(alloc)?),
         committed: Sequence::new(alloc),
@@ -195,6 +203,34 @@ fn two_of_three_actors_complete(rt: HostRuntime) -> Result<(), Fail> {
     let report = report_of(alloc, TWO_OF_THREE, 7, 4)?;
     let lines =
         "tx 0 committed 4.0.7 35\ntx 1 committed 4.0.8 17\nactor 0 17\nactor 1 20\nactor 2 35\nend committed 2 aborted 0 batches 1\n";
+    assert!(rt; report.is_some_and(|text| text.as_bytes() == lines.as_bytes()));
+    Ok(())
+}
+
+// Every declared actor completes, whether it was called or not.
+#[test]
+fn a_call_of_another_actor_completes_on_both(rt: HostRuntime) -> Result<(), Fail> {
+    let alloc = rt.alloc();
+    let expected = joined(
+        alloc,
+        &[
+            b"SNAPLOG1\x01\0\0\x01\xc4\0\x1b\x02\0\0\0\0\0\0\0\x01\0\x03\0\0\0\x01\0\x02\0\x01\0\0\0\0\0\0\0\x01".as_slice(),
+            b"\0\x8b\x03\0\0\0\0\0\0\0\x01\0\0\0\0\0\0\0\0\0\x0f".as_slice(),
+            NOUGHTS.as_slice(),
+            b"\0\x8b\x03\0\0\0\0\0\0\0\x01\0\x01\0\0\0\0\0\0\0\x14".as_slice(),
+            NOUGHTS.as_slice(),
+            b"\0\x8b\x03\0\0\0\0\0\0\0\x01\0\x02\0\0\0\0\0\0\0\x19".as_slice(),
+            NOUGHTS.as_slice(),
+            b"\x01\0\0\0\x0b\0\x09\x04\0\0\0\0\0\0\0\x01\0".as_slice(),
+        ],
+    )?;
+    assert_eq!(rt;
+        bytes_of_run(alloc, ONE_CALLS_ANOTHER, 1, 1)?.as_slice(),
+        expected.as_slice()
+    );
+    let report = report_of(alloc, ONE_CALLS_ANOTHER, 1, 1)?;
+    let lines =
+        "tx 0 committed 1.0.1 15\nactor 0 15\nactor 1 20\nactor 2 25\nend committed 1 aborted 0 batches 1\n";
     assert!(rt; report.is_some_and(|text| text.as_bytes() == lines.as_bytes()));
     Ok(())
 }

@@ -5,8 +5,14 @@ use Rattle.std.specs.Fmt.{decimal, signed_decimal}
 use Rattle.snap_base.specs.declared.verdicts.Verdict.{Verdict}
 use Rattle.snap_base.specs.Text.{verdict_text}
 use Rattle.snap_base.specs.declared.transactions.State.{State}
+use Rattle.aml_tokens.specs.declared.tokens.TextCause.{TextCause}
+use Rattle.aml_tokens.specs.declared.tokens.TextCause.TheVariants as text
+use Rattle.aml_check.specs.declared.faults.CheckCause.{CheckCause}
+use Rattle.aml_check.specs.declared.faults.CheckCause.TheVariants as check
+use Rattle.work_text.specs.declared.faults.ProgramCause.{ProgramCause}
+use Rattle.work_text.specs.declared.faults.ProgramCause.TheVariants as program
 use Rattle.work_text.specs.declared.faults.WorkCause.{WorkCause}
-use Rattle.work_text.specs.declared.faults.WorkCause.TheVariants.{Unbuilt}
+use Rattle.work_text.specs.declared.faults.WorkCause.TheVariants as work
 use Rattle.snap_recover.specs.declared.openings.Opening.{Opening}
 use Rattle.snap_report.specs.declared.causes.LogCause.{LogCause}
 use Rattle.snap_report.specs.declared.causes.LogCause.TheVariants as cause
@@ -72,8 +78,34 @@ status_number (status.LogFault log) = 6
 status_number status.OutFault = 7
 status_number (status.Halted unanswered) = 9
 
+abbrev pub text_cause_text : TextCause → List ℕ
+text_cause_text text.BadByte = codes "BadByte"
+text_cause_text text.BadToken = codes "BadToken"
+text_cause_text text.Unexpected = codes "Unexpected"
+text_cause_text text.NumberRange = codes "NumberRange"
+text_cause_text text.TooDeep = codes "TooDeep"
+text_cause_text text.TooMany = codes "TooMany"
+
+abbrev pub check_cause_text : CheckCause → List ℕ
+check_cause_text check.UnknownName = codes "UnknownName"
+check_cause_text check.Duplicate = codes "Duplicate"
+check_cause_text check.ArgCount = codes "ArgCount"
+check_cause_text check.NoReturn = codes "NoReturn"
+
+-- of a program's cause, the name of what is wrong with the program
+abbrev pub program_cause_text : ProgramCause → List ℕ
+program_cause_text (program.Text c column) = text_cause_text c
+program_cause_text (program.Check c) = check_cause_text c
+
 abbrev pub cause_text : WorkCause → List ℕ
-cause_text Unbuilt = codes "Unbuilt"
+cause_text work.NotUtf8 = codes "NotUtf8"
+cause_text work.BadHeader = codes "BadHeader"
+cause_text (work.Program p) = program_cause_text p
+cause_text work.BadActor = codes "BadActor"
+cause_text work.BadTx = codes "BadTx"
+cause_text (work.Limit which found) = codes "Limit"
+cause_text work.RootNotDeclared = codes "RootNotDeclared"
+cause_text work.Unbuilt = codes "Unbuilt"
 
 abbrev pub log_cause_text : LogCause → List ℕ
 log_cause_text cause.NotALog = codes "NotALog"

@@ -1,10 +1,12 @@
 ghost use Rattle.std.specs.Prelude.{◌≡◌, IfOk, string_bytes};
-ghost use Rattle.snap_report.specs.Lines.{cause_text, log_cause_text, status_text};
+ghost use Rattle.snap_report.specs.Lines.{text_cause_text, check_cause_text, program_cause_text, cause_text, log_cause_text, status_text};
 
 use crate::LogCause;
+use aml_check::CheckCause;
+use aml_tokens::TextCause;
 use snap_base::Memory;
 use std::alloc::Global;
-use work_text::WorkCause;
+use work_text::{ProgramCause, WorkCause};
 
 /// How the top call ended. The number behind each is the program's exit status.
 #[derive(Clone, Copy, Debug, PartialEq, Eq)]
@@ -16,7 +18,7 @@ pub enum Status {
     Usage {
         word: u32,
     },
-    /// 2: the text stands for no work.
+    /// 2: the text stands for no work, or for one that is not built yet: its first fault.
     Input {
         line: u32,
         cause: WorkCause,
@@ -90,12 +92,52 @@ pub fn status_line(alloc: Global, status: &Status) -> Result<String, Memory>
     }
 }
 
-/// The cause's name, as it is written in the code.
+/// The cause's name, as it is written in the code; of a program's, that of what is wrong with the program.
 fn cause_name(cause: WorkCause) -> &'static str
     ensures { result.now ≡ cause_text cause }
 {
     match cause {
+        WorkCause::NotUtf8 => "NotUtf8",
+        WorkCause::BadHeader => "BadHeader",
+        WorkCause::Program(cause) => program_cause_name(cause),
+        WorkCause::BadActor => "BadActor",
+        WorkCause::BadTx => "BadTx",
+        WorkCause::Limit { .. } => "Limit",
+        WorkCause::RootNotDeclared => "RootNotDeclared",
         WorkCause::Unbuilt => "Unbuilt",
+    }
+}
+
+fn program_cause_name(cause: ProgramCause) -> &'static str
+    ensures { result.now ≡ program_cause_text cause }
+{
+    match cause {
+        ProgramCause::Text { cause, .. } => text_cause_name(cause),
+        ProgramCause::Check(cause) => check_cause_name(cause),
+    }
+}
+
+fn text_cause_name(cause: TextCause) -> &'static str
+    ensures { result.now ≡ text_cause_text cause }
+{
+    match cause {
+        TextCause::BadByte => "BadByte",
+        TextCause::BadToken => "BadToken",
+        TextCause::Unexpected => "Unexpected",
+        TextCause::NumberRange => "NumberRange",
+        TextCause::TooDeep => "TooDeep",
+        TextCause::TooMany => "TooMany",
+    }
+}
+
+fn check_cause_name(cause: CheckCause) -> &'static str
+    ensures { result.now ≡ check_cause_text cause }
+{
+    match cause {
+        CheckCause::UnknownName => "UnknownName",
+        CheckCause::Duplicate => "Duplicate",
+        CheckCause::ArgCount => "ArgCount",
+        CheckCause::NoReturn => "NoReturn",
     }
 }
 

@@ -94,11 +94,11 @@ fn what_ends_before_the_text_is_accepted_calls_no_device(rt: HostRuntime) -> Res
     assert!(rt; words.gives(Status::Usage { word: 1 }, ""));
     assert_eq!(rt; words.logs.len(), 4);
     let text = run_on_logs(alloc, &["run"], "snapper 1\n", words.logs, 0, 0)?;
-    let no_form = Status::Input {
-        line: 0,
-        cause: WorkCause::Unbuilt,
+    let too_short = Status::Input {
+        line: 2,
+        cause: WorkCause::BadHeader,
     };
-    assert!(rt; text.gives(no_form, ""));
+    assert!(rt; text.gives(too_short, ""));
     assert_eq!(rt; text.logs.len(), 4);
     let ran = run_on_logs(alloc, &["run"], DEPOSIT, text.logs, 0, 0)?;
     assert!(rt; ran.gives(Status::LogFault { log: 0 }, "tx 0 unsure 0\n"));

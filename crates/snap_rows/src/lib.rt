@@ -1,5 +1,6 @@
 //! Worked rows: texts with the answer and the output that a run of them gives, on empty and on kept logs; what
-//! every crash of a run is recovered to; and calls whose source, sink or device fails at each call in turn.
+//! every crash of a run is recovered to; calls whose source, sink or device fails at each call in turn; and the
+//! method language, with the first faults of texts.
 //! Expected values are worked out by hand from the rules.
 #![tactic(auto)]
 
@@ -13,6 +14,8 @@ mod devices;
 mod faults;
 #[cfg(test)]
 mod kept;
+#[cfg(test)]
+mod language;
 #[cfg(test)]
 mod rows;
 #[cfg(test)]

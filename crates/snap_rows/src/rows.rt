@@ -1,13 +1,31 @@
 use crate::calls::run_on_empty_logs;
 use crate::texts::{DEPOSIT, DEPOSIT_OUTPUT, NO_TRANSACTION, TWO_DEPOSITS, refused};
+use aml_check::CheckCause;
+use aml_tokens::TextCause;
 use snap_report::{LogCause, Status, status_line};
 use std::test::Fail;
-use work_text::WorkCause;
+use work_text::{Limit, ProgramCause, WorkCause};
 
-const NO_FORM: Status = Status::Input {
-    line: 0,
-    cause: WorkCause::Unbuilt,
+/// The answer to an empty text.
+const NO_TEXT: Status = Status::Input {
+    line: 1,
+    cause: WorkCause::BadHeader,
 };
+
+const TOO_DEEP: WorkCause = WorkCause::Program(ProgramCause::Text {
+    cause: TextCause::TooDeep,
+    column: 40,
+});
+
+const TOO_LONG: WorkCause = WorkCause::Limit {
+    which: Limit::Input,
+    found: 8_388_609,
+};
+
+/// The text is refused so.
+fn input(line: u32, cause: WorkCause) -> Status {
+    Status::Input { line, cause }
+}
 
 #[derive(Drop)]
 struct Row<'a> {
@@ -53,13 +71,16 @@ fn texts_give_their_reports(rt: HostRuntime) -> Result<(), Fail> {
         Row {
             name: "an empty text",
             text: "",
-            status: NO_FORM,
+            status: NO_TEXT,
             output: "",
         },
         Row {
             name: "two coordinators",
             text: "snapper 1\ncoordinators 2\nlogs 1\nbatch 16\nbatches 8\nacts 8\nprogram\nmethod put(n) { f0 = f0 + n; return f0; }\nend\nactors 1\nactor 0 100\npact 0 put 5 uses 0:1\n",
-            status: NO_FORM,
+            status: Status::Input {
+                line: 2,
+                cause: WorkCause::Unbuilt,
+            },
             output: "",
         },
     ];
@@ -92,7 +113,27 @@ fn status_lines_name_the_cause(rt: HostRuntime) -> Result<(), Fail> {
     let lines = [
         (Status::Done, ""),
         (Status::Usage { word: 2 }, "snapper: usage: word 2\n"),
-        (NO_FORM, "snapper: line 0: Unbuilt\n"),
+        (NO_TEXT, "snapper: line 1: BadHeader\n"),
+        (input(3, WorkCause::NotUtf8), "snapper: line 3: NotUtf8\n"),
+        (input(8, TOO_DEEP), "snapper: line 8: TooDeep\n"),
+        (
+            input(
+                9,
+                WorkCause::Program(ProgramCause::Check(CheckCause::ArgCount)),
+            ),
+            "snapper: line 9: ArgCount\n",
+        ),
+        (
+            input(10, WorkCause::BadActor),
+            "snapper: line 10: BadActor\n",
+        ),
+        (input(11, WorkCause::BadTx), "snapper: line 11: BadTx\n"),
+        (input(0, TOO_LONG), "snapper: line 0: Limit\n"),
+        (
+            input(12, WorkCause::RootNotDeclared),
+            "snapper: line 12: RootNotDeclared\n",
+        ),
+        (input(2, WorkCause::Unbuilt), "snapper: line 2: Unbuilt\n"),
         (
             refused(8, LogCause::Damage),
             "snapper: log 0 at 8: Damage\n",

@@ -18,20 +18,24 @@ use Rattle.snap_report.specs.declared.causes.What.{What}
 use Rattle.snap_report.specs.declared.causes.What.TheVariants.{Actors, Field}
 use Rattle.snap_report.specs.declared.statuses.Status.{Status}
 use Rattle.snap_report.specs.declared.statuses.Status.TheVariants as status
-use Rattle.work_text.specs.declared.works.Work.{Work}
-use Rattle.work_text.specs.Work.{IsWork}
+use Rattle.work_text.specs.Works.{Work}
+use Rattle.work_text.specs.declared.faults.WorkFault.{WorkFault}
+use Rattle.work_text.specs.Built.{IsBuilt, IsFirstFault}
 use Rattle.run_opening.specs.Begins.{IsUnspent, IsFirstSpent, GoesOn, Begins, IsFieldDifference, IsDifference, IsCause, IsRefusedLog}
 use Rattle.kept_logs.specs.Devices.{device_at}
 use Rattle.snap_run.specs.Uses.{Use}
 use Rattle.snap_run.specs.Runs.{Starts, IsWorkAnswer}
 use Rattle.snap_run.specs.Answers.{IsRunAnswer, IsAnswer, IsUntroubled}
-use Rattle.snap_run.specs.Answers as answers
 use Rattle.snap_run.proofs.Crashes.{OneOpening}
 use Rattle.snap_run.proofs.Outcomes.{not_both}
 
 -- what the law refused_is_not_recovered of snap_recover says
 abbrev pub NeverBoth : Type 0
 NeverBoth = (logs : List (List Record)) (no : RecoverNo) (o : Opening) → no ≢ recover.Memory → IsRefused logs no → ¬ IsRecovered logs o
+
+-- what the law fault_or_work of work_text says
+abbrev pub FaultOrWork : Type 0
+FaultOrWork = (text : List ℕ) (f : WorkFault) (w : Work) → IsFirstFault text f → ¬ IsBuilt text w
 
 -- ---- nothing differs from itself
 
@@ -96,26 +100,26 @@ not_refused one never h new rs states o log offset (cause.Differs w k t) held be
 
 -- ---- the answers that are left
 
-run_completed : (one : OneOpening) (never : NeverBoth) (u : Use) (input : List ℕ) (h : History) (s : Status) → IsUntroubled u input h → IsRunAnswer u s → (s ≡ status.Done) ⊎ (s ≡ status.Memory)
-run_completed one never u input h status.Done t a = inl refl
-run_completed one never u input h status.Memory t a = inr refl
-run_completed one never u input h status.ReadFault t a = absurd (t.source a.0)
-run_completed one never u input h status.OutFault t a = absurd (t.sink a.1)
-run_completed one never u input h (status.LogFault log) t a = absurd (t.device a.2)
-run_completed one never u input h (status.Usage place) t a = absurd a
-run_completed one never u input h (status.Input line e) t a =
-    let x : IfSome (Some input) answers.IsRefused = subst (λ o. IfSome o answers.IsRefused) t.known a.0.3 in absurd (x t.some.0 t.some.1)
-run_completed one never u input h (status.Logs log offset c) t a =
-    let x = subst (λ o. IfSome o (λ text. (w : Work) × IsWork text w × IsWorkAnswer w (device_at u.devices_before 0) (device_at u.devices_after 0) u.writing (status.Logs log offset c))) t.known a.0.1 in
+run_completed : (one : OneOpening) (never : NeverBoth) (apart : FaultOrWork) (u : Use) (input : List ℕ) (h : History) (s : Status) → IsUntroubled u input h → IsRunAnswer u s → (s ≡ status.Done) ⊎ (s ≡ status.Memory)
+run_completed one never apart u input h status.Done t a = inl refl
+run_completed one never apart u input h status.Memory t a = inr refl
+run_completed one never apart u input h status.ReadFault t a = absurd (t.source a.0)
+run_completed one never apart u input h status.OutFault t a = absurd (t.sink a.1)
+run_completed one never apart u input h (status.LogFault log) t a = absurd (t.device a.2)
+run_completed one never apart u input h (status.Usage place) t a = absurd a
+run_completed one never apart u input h (status.Input line e) t a =
+    let x = subst (λ o. IfSome o (λ text. IsFirstFault text (record { line = line; cause = e }))) t.known a.0.1 in absurd (apart input (record { line = line; cause = e }) t.some.0 x t.some.1)
+run_completed one never apart u input h (status.Logs log offset c) t a =
+    let x = subst (λ o. IfSome o (λ text. (w : Work) × IsBuilt text w × IsWorkAnswer w (device_at u.devices_before 0) (device_at u.devices_after 0) u.writing (status.Logs log offset c))) t.known a.0.1 in
     let b = t.begins x.0 x.1 in
     absurd (not_refused one never h (device_at u.devices_after 0).told b.0 x.0.states b.1 log offset c b.2 b.3
     (subst (λ o. IsRefusedLog o (device_at u.devices_after 0).told x.0.states log offset c) t.told x.2.0))
-run_completed one never u input h (status.Halted n) t a =
-    let x = subst (λ o. IfSome o (λ text. (w : Work) × IsWork text w × IsWorkAnswer w (device_at u.devices_before 0) (device_at u.devices_after 0) u.writing (status.Halted n))) t.known a.0.1 in
+run_completed one never apart u input h (status.Halted n) t a =
+    let x = subst (λ o. IfSome o (λ text. (w : Work) × IsBuilt text w × IsWorkAnswer w (device_at u.devices_before 0) (device_at u.devices_after 0) u.writing (status.Halted n))) t.known a.0.1 in
     let b = subst (λ told. Starts told x.0 x.2.0) t.told x.2.1 in
     absurd (t.passes x.0 b.0 x.2.0 x.1 b.1 b.2 x.2.2)
 
-pub completed : (one : OneOpening) (never : NeverBoth) (u : Use) (input : List ℕ) (h : History) (s : Status) → IsUntroubled u input h → IsAnswer u s → (s ≡ status.Done) ⊎ (s ≡ status.Memory)
-completed one never u input h s t (inl x) = run_completed one never u input h s t x.1
-completed one never u input h s t (inr (inl x)) = absurd (not_both u.words t.run x.0)
-completed one never u input h s t (inr (inr x)) = absurd (x.0.2.no_form (inl t.run))
+pub completed : (one : OneOpening) (never : NeverBoth) (apart : FaultOrWork) (u : Use) (input : List ℕ) (h : History) (s : Status) → IsUntroubled u input h → IsAnswer u s → (s ≡ status.Done) ⊎ (s ≡ status.Memory)
+completed one never apart u input h s t (inl x) = run_completed one never apart u input h s t x.1
+completed one never apart u input h s t (inr (inl x)) = absurd (not_both u.words t.run x.0)
+completed one never apart u input h s t (inr (inr x)) = absurd (x.0.2.no_form (inl t.run))

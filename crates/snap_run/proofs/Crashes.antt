@@ -10,7 +10,7 @@ use Rattle.record_log.specs.Records.{spelled, HoldsRecords, RecordLog}
 use Rattle.record_log.proofs.Holding.{one_list_held, image_is}
 use Rattle.snap_recover.specs.declared.openings.Opening.{Opening}
 use Rattle.snap_recover.specs.Opening.{IsRecovered}
-use Rattle.work_text.specs.declared.works.Work.{Work}
+use Rattle.work_text.specs.Works.{Work}
 use Rattle.run_opening.specs.Begins.{Begins, begun, fresh_opening, IsBegunOn, BeginsSafely}
 use Rattle.run_opening.proofs.Moments.{moments_weaker}
 use Rattle.run_batch.specs.Report.{serial_from, IsExecutable}

@@ -1,14 +1,13 @@
 -- The answers of a run, from those of its beginning and of its batch.
 use Rattle.std.proofs.Common.{◌≡◌, ◌⊎◌, inl, inr, ℕ, ◌≤◌, length, Option, Result, Ok, Err, MatchResult, refl, sym, subst, arith}
 use Rattle.std.specs.List.{AllByRecursion}
-use Rattle.aml_tree.specs.Tree.{program_tree}
 use Rattle.aml_check.specs.Transactions.{IsTransaction}
 use Rattle.txn_records.specs.Records.{IsState}
 use Rattle.snap_outside.specs.Causes.{Rose}
 use Rattle.snap_outside.specs.Disk.{History}
 use Rattle.snap_report.specs.declared.statuses.Status.{Status}
 use Rattle.snap_report.specs.declared.statuses.Status.TheVariants as status
-use Rattle.work_text.specs.declared.works.Work.{Work}
+use Rattle.work_text.specs.Works.{Work}
 use Rattle.snap_recover.specs.declared.openings.Opening.{Opening}
 use Rattle.kept_logs.specs.Devices.{Device}
 use Rattle.run_opening.specs.Begins.{IsUnspent, IsBegunOn, BeginsSafely}
@@ -74,7 +73,8 @@ match_durable (Err s) P D then p = then s p
 -- what is runnable is executable from the opening with which it begins
 pub executable : (w : Work) (o : Opening) → IsRunnable w → length o.states ≡ length w.states → AllByRecursion IsState o.states → IsUnspent o → IsExecutable o w
 executable w o able same states unspent = record {
-  transactions = subst (λ n. AllByRecursion (IsTransaction (program_tree w.program) n) w.txs) (sym same) able.transactions;
+  transactions = subst (λ n. AllByRecursion (IsTransaction w.program n) w.txs) (sym same) able.transactions;
+  pacts = able.pacts;
   few_transactions = able.few_transactions;
   some_states = omega (arith, same, able.some_states);
   few_states = omega (arith, same, able.few_states);

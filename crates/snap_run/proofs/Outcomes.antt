@@ -5,8 +5,8 @@ use Rattle.std.specs.List.{AllZip}
 use Rattle.snap_outside.specs.Disk.{History}
 use Rattle.snap_report.specs.declared.statuses.Status.{Status}
 use Rattle.snap_report.specs.declared.statuses.Status.TheVariants as status
-use Rattle.work_text.specs.declared.works.Work.{Work}
-use Rattle.work_text.specs.Work.{IsWork}
+use Rattle.work_text.specs.Works.{Work}
+use Rattle.work_text.specs.Built.{IsBuilt}
 use Rattle.record_log.specs.Records.{KeepsRecords}
 use Rattle.kept_logs.specs.Devices.{Device, devices_of, device_at, IsOpenedAtMost}
 use Rattle.snap_run.specs.Words.{IsRun, IsRecover, IsUsageFault}
@@ -26,7 +26,7 @@ not_both words run recover = let e : codes "run" ∷ [] ≡ codes "recover" ∷ 
 of_log_still : (u : Use) (P : Device → Device → Work → Type 0) → u.devices_after ≡ u.devices_before → ((d : Device) (w : Work) → P d d w) → OfLog u P
 of_log_still u P same all run = still u.reading.left_before
   where
-    still : (left : Option (List ℕ)) → IfSome left (λ text. (w : Work) → IsWork text w → P (device_at u.devices_before 0) (device_at u.devices_after 0) w)
+    still : (left : Option (List ℕ)) → IfSome left (λ text. (w : Work) → IsBuilt text w → P (device_at u.devices_before 0) (device_at u.devices_after 0) w)
     still None = tt
     still (Some text) = λ w work. rw same (all (device_at u.devices_before 0) w)
 
@@ -59,17 +59,17 @@ input_outcome law u s run same nothing a = record {
 
 -- what the law one_work of work_text says
 abbrev pub OneWork : Type 0
-OneWork = (text : List ℕ) (v w : Work) → IsWork text v → IsWork text w → v ≡ w
+OneWork = (text : List ℕ) (v w : Work) → IsBuilt text v → IsBuilt text w → v ≡ w
 
 of_text_then : (r : Reading) (w : Work) (P : Work → Type 0) → OfText r (λ v. v ≡ w) → P w → OfText r P
 of_text_then r w P of p = (of.0, known r.left_before of.1)
   where
-    known : (left : Option (List ℕ)) → IfSome left (λ text. (v : Work) × IsWork text v × (v ≡ w)) → IfSome left (λ text. (v : Work) × IsWork text v × P v)
+    known : (left : Option (List ℕ)) → IfSome left (λ text. (v : Work) × IsBuilt text v × (v ≡ w)) → IfSome left (λ text. (v : Work) × IsBuilt text v × P v)
     known None h = tt
     known (Some text) h = (h.0, h.1, subst P (sym h.2) p)
 
-known_work : (one : OneWork) (left : Option (List ℕ)) (w : Work) (P : Work → Type 0) → IfSome left (λ text. (v : Work) × IsWork text v × (v ≡ w)) → P w
-    → IfSome left (λ text. (v : Work) → IsWork text v → P v)
+known_work : (one : OneWork) (left : Option (List ℕ)) (w : Work) (P : Work → Type 0) → IfSome left (λ text. (v : Work) × IsBuilt text v × (v ≡ w)) → P w
+    → IfSome left (λ text. (v : Work) → IsBuilt text v → P v)
 known_work one None w P of p = tt
 known_work one (Some text) w P of p = λ v work. subst P (sym (one text v of.0 work of.1 ∙ of.2)) p
 

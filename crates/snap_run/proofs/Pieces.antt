@@ -1,5 +1,5 @@
 -- Pieces of a list of bytes that is written bit by bit.
-use Rattle.std.proofs.Common.{◌≡◌, ℕ, ◌+◌, ◌-◌, List, ◌++◌, length, take, drop, sym, ap, ◌∙◌, Result, Ok, Err, OnErr, is_err, true}
+use Rattle.std.proofs.Common.{◌≡◌, ℕ, ◌+◌, ◌-◌, List, ◌++◌, length, take, drop, sym, ap, ◌∙◌, Result, Ok, Err, OnOk, OnErr, is_err, true, false}
 use Rattle.std.proofs.lemmas.List.{length-drop}
 use Rattle.std.proofs.Math.Seq.{take-add, take-length}
 
@@ -20,3 +20,8 @@ on_any_err P (Err e) p = p
 pub of_err : {T E : Type 0} (P : Type 0) (r : Result T E) → is_err r ≡ true → OnErr r P → P
 of_err P (Ok x) is p = cc
 of_err P (Err e) is p = p
+
+-- what holds of a value, where there is one
+pub of_ok : {T E : Type 0} (P : Type 0) (r : Result T E) → is_err r ≡ false → OnOk r P → P
+of_ok P (Ok x) is p = p
+of_ok P (Err e) is p = cc

@@ -8,9 +8,8 @@ use Rattle.record_log.specs.Records.{HoldsRecords}
 use Rattle.snap_recover.specs.declared.openings.Opening.{Opening}
 use Rattle.snap_report.specs.declared.statuses.Status.{Status}
 use Rattle.snap_report.specs.declared.statuses.Status.TheVariants as status
-use Rattle.work_text.specs.declared.works.Work.{Work}
-use Rattle.work_text.specs.declared.faults.WorkCause.TheVariants.{Unbuilt}
-use Rattle.work_text.specs.Work.{IsWork}
+use Rattle.work_text.specs.Works.{Work}
+use Rattle.work_text.specs.Built.{IsBuilt, IsFirstFault}
 use Rattle.run_opening.specs.Begins.{Begins}
 use Rattle.run_batch.specs.Report.{Fails}
 use Rattle.snap_run.specs.Words.{IsRun, IsRecover, IsUsageFault}
@@ -19,24 +18,20 @@ use Rattle.snap_run.specs.Uses.{Reading, Use, WritesNothing}
 use Rattle.snap_run.specs.Runs.{IsWorkAnswer}
 use Rattle.snap_run.specs.Recoveries.{IsRecoverAnswer}
 
--- the input is one that stands for no work
-abbrev pub IsRefused : List ℕ → Type 0
-IsRefused input = (w : Work) → ¬ IsWork input w
-
 -- The input was read to its end, or one byte more of it than an input may have.
 abbrev pub ReadsEnough : Reading → Type 0
 ReadsEnough r = (bytes : List ℕ) × Consumes r.left_before r.left_after bytes × (IsAtEnd r.left_after ⊎ (length bytes ≡ 8388609))
 
 -- The input was read to its end and stands for a work of which this holds.
 abbrev pub OfText : Reading → (Work → Type 0) → Type 0
-OfText r P = IsAtEnd r.left_after × IfSome r.left_before (λ input. (w : Work) × IsWork input w × P w)
+OfText r P = IsAtEnd r.left_after × IfSome r.left_before (λ input. (w : Work) × IsBuilt input w × P w)
 
 abbrev pub OfWork : Use → Status → Type 0
 OfWork u s = OfText u.reading (λ w. IsWorkAnswer w (device_at u.devices_before 0) (device_at u.devices_after 0) u.writing s)
 
--- what reading and parsing may answer in place of a work
+-- what reading and parsing may answer in place of a work; a text that is refused is told with its first fault
 abbrev pub IsInputAnswer : Reading → Status → Type 0
-IsInputAnswer r (status.Input line cause) = (line ≡ 0) × (cause ≡ Unbuilt) × ReadsEnough r × IfSome r.left_before IsRefused
+IsInputAnswer r (status.Input line cause) = ReadsEnough r × IfSome r.left_before (λ input. IsFirstFault input (record { line = line; cause = cause }))
 IsInputAnswer r status.Memory = Unit {0}
 IsInputAnswer r status.ReadFault = Rose r.faults_before r.faults_after
 IsInputAnswer r status.Done = ⊥
@@ -91,9 +86,9 @@ pub record IsUntroubled (u : Use) (input : List ℕ) (h : History) : Type 0 wher
   pub run : IsRun u.words
   pub known : u.reading.left_before ≡ Some input
   pub told : (device_at u.devices_before 0).told ≡ Some h
-  pub some : (w : Work) × IsWork input w
-  pub begins : (w : Work) → IsWork input w → (rs : List Record) × (o : Opening) × HoldsRecords (content h) rs × Begins rs w.states o
-  pub passes : (w : Work) (rs : List Record) (o : Opening) → IsWork input w → HoldsRecords (content h) rs → Begins rs w.states o → ¬ Fails o w
+  pub some : (w : Work) × IsBuilt input w
+  pub begins : (w : Work) → IsBuilt input w → (rs : List Record) × (o : Opening) × HoldsRecords (content h) rs × Begins rs w.states o
+  pub passes : (w : Work) (rs : List Record) (o : Opening) → IsBuilt input w → HoldsRecords (content h) rs → Begins rs w.states o → ¬ Fails o w
   pub source : ¬ Rose u.reading.faults_before u.reading.faults_after
   pub device : ¬ Rose (device_at u.devices_before 0).faults (device_at u.devices_after 0).faults
   pub sink : ¬ Rose u.writing.faults_before u.writing.faults_after

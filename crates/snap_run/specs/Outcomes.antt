@@ -3,8 +3,8 @@ use Rattle.std.specs.Prelude.{◌≡◌, ◌⊎◌, IfSome}
 use Rattle.std.specs.List.{AllZip}
 use Rattle.snap_report.specs.declared.statuses.Status.{Status}
 use Rattle.snap_report.specs.declared.statuses.Status.TheVariants as status
-use Rattle.work_text.specs.declared.works.Work.{Work}
-use Rattle.work_text.specs.Work.{IsWork}
+use Rattle.work_text.specs.Works.{Work}
+use Rattle.work_text.specs.Built.{IsBuilt}
 use Rattle.record_log.specs.Records.{KeepsRecords}
 use Rattle.kept_logs.specs.Devices.{Device, device_at, IsOpenedAtMost}
 use Rattle.snap_run.specs.Words.{IsRun, IsRecover}
@@ -14,7 +14,7 @@ use Rattle.snap_run.specs.Answers.{IsAnswer}
 
 -- P holds of what log 0 told before, what it tells now, and the work that the input stands for
 abbrev pub OfLog : Use → (Device → Device → Work → Type 0) → Type 0
-OfLog u P = IsRun u.words → IfSome u.reading.left_before (λ text. (w : Work) → IsWork text w → P (device_at u.devices_before 0) (device_at u.devices_after 0) w)
+OfLog u P = IsRun u.words → IfSome u.reading.left_before (λ text. (w : Work) → IsBuilt text w → P (device_at u.devices_before 0) (device_at u.devices_after 0) w)
 
 pub record IsOutcome (u : Use) (s : Status) : Type 0 where
   -- each answer has its cause

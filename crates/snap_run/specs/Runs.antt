@@ -1,7 +1,8 @@
 -- Why a run of an accepted text answers what it answers, and what a crash leaves of its log.
 use Rattle.std.specs.Prelude.{◌≡◌, ℕ, ◌≤◌, ◌⊎◌, List, [], ◌++◌, length, Option, IfSome}
 use Rattle.std.specs.List.{AllByRecursion}
-use Rattle.aml_tree.specs.Tree.{program_tree}
+use Rattle.snap_base.specs.declared.transactions.Kind.TheVariants.{Pact}
+use Rattle.snap_base.specs.declared.transactions.Tx.{Tx}
 use Rattle.aml_check.specs.Transactions.{IsTransaction}
 use Rattle.snap_outside.specs.Causes.{Rose}
 use Rattle.snap_outside.specs.declared.devices.DevOp.{DevOp}
@@ -12,16 +13,17 @@ use Rattle.record_log.specs.Records.{HoldsRecords}
 use Rattle.snap_recover.specs.declared.openings.Opening.{Opening}
 use Rattle.snap_report.specs.declared.statuses.Status.{Status}
 use Rattle.snap_report.specs.declared.statuses.Status.TheVariants as status
-use Rattle.work_text.specs.declared.works.Work.{Work}
+use Rattle.work_text.specs.Works.{Work}
 use Rattle.run_opening.specs.Begins.{Begins, begun, IsRefusedLog}
 use Rattle.run_batch.specs.Report.{serial_from, IsReport, Fails, unsures_text}
 use Rattle.run_batch.specs.Batch.{run_records, AppendsRun, RecoversTo}
 use Rattle.kept_logs.specs.Devices.{Device}
 use Rattle.snap_run.specs.Uses.{Writing, WritesNothing, Writes, WritesFront}
 
--- what running needs of a work: it is one that a text stands for
+-- what running needs of a work: it is one that a text stands for, and that is built
 pub record IsRunnable (w : Work) : Type 0 where
-  pub transactions : AllByRecursion (IsTransaction (program_tree w.program) (length w.states)) w.txs
+  pub transactions : AllByRecursion (IsTransaction w.program (length w.states)) w.txs
+  pub pacts : AllByRecursion (λ (tx : Tx). tx.kind ≡ Pact) w.txs
   pub few_transactions : length w.txs ≤ 256
   pub some_states : 1 ≤ length w.states
   pub few_states : length w.states ≤ 256

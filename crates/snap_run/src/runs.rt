@@ -1,5 +1,6 @@
 ghost use Rattle.std.specs.Prelude.{◌≡◌, ◌⊎◌, ◌+◌, ◌≤◌, ◌^◌, MatchResult, false};
 ghost use Rattle.snap_report.specs.declared.statuses.Status.TheVariants as status;
+ghost use Rattle.work_text.specs.Works.{work_of};
 ghost use Rattle.run_batch.specs.Report.{IsExecutable};
 ghost use Rattle.run_batch.specs.Batch.{CrashesRun};
 ghost use Rattle.kept_logs.specs.Devices.{Device};
@@ -28,7 +29,7 @@ pub(crate) fn run_work<D: LogDev, O: Sink>(
     dev: D,
     out: &mut O,
 ) -> (D, Result<(), Status>)
-    requires { IsRunnable work.now }
+    requires { IsRunnable (work_of work.now) }
     ensures answer { let before : Device = record { told = D.told dev; faults = D.faults dev } in
         let after : Device = record { told = D.told result.0; faults = D.faults result.0 } in
         let writing : Writing = record {
@@ -36,9 +37,9 @@ pub(crate) fn run_work<D: LogDev, O: Sink>(
           taken_after = O.taken out.new;
           faults_before = O.faults out.old;
           faults_after = O.faults out.new;
-        } in MatchResult result.1 (λ _. IsWorkAnswer work.now before after writing status.Done) (λ s. IsWorkAnswer work.now before after writing s) }
-    ensures crashes { IsCrashSafe (D.told dev) (D.told result.0) work.now }
-    ensures durable { MatchResult result.1 (λ _. IsDurable (D.told dev) (D.told result.0) work.now) (λ s. (s ≡ status.Done) ⊎ (s ≡ status.OutFault) → IsDurable (D.told dev) (D.told result.0) work.now) }
+        } in MatchResult result.1 (λ _. IsWorkAnswer (work_of work.now) before after writing status.Done) (λ s. IsWorkAnswer (work_of work.now) before after writing s) }
+    ensures crashes { IsCrashSafe (D.told dev) (D.told result.0) (work_of work.now) }
+    ensures durable { MatchResult result.1 (λ _. IsDurable (D.told dev) (D.told result.0) (work_of work.now)) (λ s. (s ≡ status.Done) ⊎ (s ≡ status.OutFault) → IsDurable (D.told dev) (D.told result.0) (work_of work.now)) }
 {
     let (dev, answer) = run_on_device(alloc, work, dev, out);
     if let Err(Status::LogFault { log }) = answer {
@@ -55,7 +56,7 @@ fn run_on_device<D: LogDev, O: Sink>(
     dev: D,
     out: &mut O,
 ) -> (D, Result<(), Status>)
-    requires { IsRunnable work.now }
+    requires { IsRunnable (work_of work.now) }
     ensures answer { let before : Device = record { told = D.told dev; faults = D.faults dev } in
         let after : Device = record { told = D.told result.0; faults = D.faults result.0 } in
         let writing : Writing = record {
@@ -63,9 +64,9 @@ fn run_on_device<D: LogDev, O: Sink>(
           taken_after = O.taken out.new;
           faults_before = O.faults out.old;
           faults_after = O.faults out.new;
-        } in MatchResult result.1 (λ _. IsDeviceAnswer work.now before after writing status.Done) (λ s. IsDeviceAnswer work.now before after writing s) }
-    ensures crashes { IsCrashSafe (D.told dev) (D.told result.0) work.now }
-    ensures durable { MatchResult result.1 (λ _. IsDurable (D.told dev) (D.told result.0) work.now) (λ s. (s ≡ status.Done) ⊎ (s ≡ status.OutFault) → IsDurable (D.told dev) (D.told result.0) work.now) }
+        } in MatchResult result.1 (λ _. IsDeviceAnswer (work_of work.now) before after writing status.Done) (λ s. IsDeviceAnswer (work_of work.now) before after writing s) }
+    ensures crashes { IsCrashSafe (D.told dev) (D.told result.0) (work_of work.now) }
+    ensures durable { MatchResult result.1 (λ _. IsDurable (D.told dev) (D.told result.0) (work_of work.now)) (λ s. (s ≡ status.Done) ⊎ (s ≡ status.OutFault) → IsDurable (D.told dev) (D.told result.0) (work_of work.now)) }
     ensures later { O.faults out.old ≤ O.faults out.new }
 {
     begun_is_recovered();
@@ -97,7 +98,7 @@ fn run_on_log<D: LogDev, O: Sink>(
     log: &mut Log<D>,
     out: &mut O,
 ) -> Result<(), Status>
-    requires executable { IsExecutable opening.now work.now }
+    requires executable { IsExecutable opening.now (work_of work.now) }
     requires end { log.old.end ≤ 2 ^ 63 + 2 ^ 20 }
     requires open { log.old.shut ≡ false }
     ensures answer { let before : Device = record { told = log.old.told; faults = log.old.faults } in
@@ -107,8 +108,8 @@ fn run_on_log<D: LogDev, O: Sink>(
           taken_after = O.taken out.new;
           faults_before = O.faults out.old;
           faults_after = O.faults out.new;
-        } in MatchResult result (λ _. IsBatchAnswer opening.now work.now before after log.old.end writing status.Done) (λ s. IsBatchAnswer opening.now work.now before after log.old.end writing s) }
-    ensures crashes { CrashesRun log.old.told log.new.told log.old.end opening.now work.now }
+        } in MatchResult result (λ _. IsBatchAnswer opening.now (work_of work.now) before after log.old.end writing status.Done) (λ s. IsBatchAnswer opening.now (work_of work.now) before after log.old.end writing s) }
+    ensures crashes { CrashesRun log.old.told log.new.told log.old.end opening.now (work_of work.now) }
     ensures later { O.faults out.old ≤ O.faults out.new }
     ensures faults { log.old.faults ≤ log.new.faults }
 {

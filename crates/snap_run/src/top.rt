@@ -16,7 +16,7 @@ use snap_outside::{LogDev, Sink, Source};
 use snap_recover::{begun_is_recovered, one_opening, refused_is_not_recovered};
 use snap_report::Status;
 use std::alloc::Global;
-use work_text::one_work;
+use work_text::{fault_or_work, one_work};
 
 /// How the top call ended, and what it was given.
 #[derive(Drop)]
@@ -64,6 +64,7 @@ pub fn run<I: Source, D: LogDev, O: Sink, T: Sink>(
 {
     one_opening();
     refused_is_not_recovered();
+    fault_or_work();
     let mut logs = logs;
     let mut out = out;
     let status = match answer(alloc, words, input, &mut logs, &mut out) {

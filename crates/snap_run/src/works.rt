@@ -1,4 +1,5 @@
 ghost use Rattle.std.specs.Prelude.{◌≡◌, IfOk, MatchResult};
+ghost use Rattle.work_text.specs.Works.{work_of};
 ghost use Rattle.snap_run.specs.Uses.{Reading};
 ghost use Rattle.snap_run.specs.Runs.{IsRunnable};
 ghost use Rattle.snap_run.specs.Answers.{OfText, IsInputAnswer};
@@ -7,7 +8,9 @@ use crate::reads::{ReadNo, read_input};
 use snap_outside::Source;
 use snap_report::Status;
 use std::alloc::Global;
-use work_text::{Work, WorkNo, parse_work};
+use work_text::{
+    Work, WorkNo, a_work_is_short, built_works, one_batch, parse_work, transactions_may_run,
+};
 
 /// The work that the input stands for.
 pub(crate) fn read_work<I: Source>(alloc: Global, input: &mut I) -> Result<Work, Status>
@@ -16,9 +19,13 @@ pub(crate) fn read_work<I: Source>(alloc: Global, input: &mut I) -> Result<Work,
       left_after = I.left input.new;
       faults_before = I.faults input.old;
       faults_after = I.faults input.new;
-    } in MatchResult result (λ w. OfText r (λ v. v ≡ w)) (λ s. IsInputAnswer r s) }
-    ensures runnable { IfOk result IsRunnable }
+    } in MatchResult result (λ w. OfText r (λ v. v ≡ work_of w)) (λ s. IsInputAnswer r s) }
+    ensures runnable { IfOk result (λ w. IsRunnable (work_of w)) }
 {
+    built_works();
+    a_work_is_short();
+    transactions_may_run();
+    one_batch();
     let bytes = match read_input(alloc, input) {
         Ok(bytes) => bytes,
         Err(ReadNo::Fault) => return Err(Status::ReadFault),

@@ -1,31 +1,42 @@
--- No two methods of a checked program share a name.
-use Rattle.std.proofs.Common.{◌≡◌, ℕ, ◌<◌, List, [], ◌∷◌, length, get_or, map, refl, sym, ap, ◌∙◌, arith, zero, suc}
-use Rattle.std.proofs.lemmas.List.{length-map, get_or-map}
-use Rattle.std.proofs.lemmas.List.Elements.{Contains-get_or}
-use Rattle.aml_tree.specs.Tree.{MethodTree}
-use Rattle.aml_check.specs.Meaning.{no_method}
-use Rattle.aml_check.specs.Names.{AreDistinct, AreCheckedMethods, IsCheckedProgram}
-use Rattle.work_text.specs.Parts.{AreToldApart}
+-- What is wrong with a program's text.
+use Rattle.std.proofs.Common.{◌≡◌, ℕ, List, refl}
+use Rattle.aml_tree.specs.declared.faults.TextFault.{TextFault}
+use Rattle.aml_tree.specs.Tree.{TextMethod, CheckedMethod}
+use Rattle.std.specs.Prelude.{Option, Some, Ok, Err, Result}
+use Rattle.aml_tree.specs.Programs.{IsProgramText}
+use Rattle.aml_tree.specs.Faults as text
+use Rattle.aml_check.specs.declared.faults.CheckFault.{CheckFault}
+use Rattle.aml_check.specs.Faults as check
+use Rattle.work_text.specs.declared.faults.ProgramCause.TheVariants as program_cause
+use Rattle.work_text.specs.declared.faults.WorkCause.TheVariants as cause
+use Rattle.work_text.specs.declared.faults.WorkNo.{WorkNo}
+use Rattle.work_text.specs.declared.faults.WorkNo.TheVariants as no
+use Rattle.work_text.specs.Readings.{IsNo}
+use Rattle.work_text.specs.Reads.{program_text, program_lines}
+use Rattle.work_text.specs.Lines.{Line, text_of}
+use Rattle.work_text.specs.Parts.{IsBehind, IsTextNo}
+use Rattle.aml_tree.specs.declared.faults.TextNo.{TextNo}
+use Rattle.aml_tree.specs.declared.faults.TextNo.TheVariants as text_no
+use Rattle.aml_tree.specs.declared.trees.Program.{Program}
+use Rattle.aml_tokens.specs.declared.tokens.Word.{Word}
 
--- the names that a program has
-abbrev names : {V : Type 0} → List (MethodTree V) → List (List ℕ)
-names {V} p = map (λ (m : MethodTree V). m.name) p
+pub text_fails : (before : ℕ) (bytes : List ℕ) (f : TextFault) (r : WorkNo) → text.IsFirstFault bytes f → IsBehind before f.line (cause.Program (program_cause.Text f.cause f.column)) r → IsNo (program_text before bytes) r
+text_fails before bytes f (no.Fault g) h b = rw b.1 (f, h, b.0, refl, refl)
+text_fails before bytes f no.Memory h b = absurd b
 
-names_kept : (ms : List (MethodTree (List ℕ))) (cs : List (MethodTree ℕ)) → AreCheckedMethods ms cs → names cs ≡ names ms
-names_kept [] cs h = ap names h
-names_kept (m ∷ ms) cs h = ap names h.4 ∙ ap (λ n. n ∷ names h.1) h.2.name ∙ ap (λ ns. m.name ∷ ns) (names_kept ms h.1 h.3)
+pub check_fails : (before : ℕ) (bytes : List ℕ) (p : List TextMethod) (f : CheckFault) (r : WorkNo) → IsProgramText bytes p → check.IsFirstFault p f → IsBehind before f.line (cause.Program (program_cause.Check f.cause)) r → IsNo (program_text before bytes) r
+check_fails before bytes p f (no.Fault g) t h b = rw b.1 (p, t, f, h, b.0, refl)
+check_fails before bytes p f no.Memory t h b = absurd b
 
-distinct_apart : (ns : List (List ℕ)) (m n : ℕ) → AreDistinct ns → m < length ns → n < length ns → get_or ns m [] ≡ get_or ns n [] → m ≡ n
-distinct_apart [] m n h l k e = absurd (omega arith)
-distinct_apart (x ∷ ns) zero zero h l k e = refl
-distinct_apart (x ∷ ns) zero (suc n) h l k e = absurd (h.0 (rw e (Contains-get_or ns n [] (omega arith))))
-distinct_apart (x ∷ ns) (suc m) zero h l k e = absurd (h.0 (rw (sym e) (Contains-get_or ns m [] (omega arith))))
-distinct_apart (x ∷ ns) (suc m) (suc n) h l k e = ap suc (distinct_apart ns m n h.1 (omega arith) (omega arith) e)
+pub program_found : (last before : ℕ) (bytes : List ℕ) (up : Option (List (List ℕ) × List Line)) (front : List (List ℕ)) (ls : List Line) (c : List CheckedMethod) → up ≡ Some (front, ls) → bytes ≡ text_of front → program_text before bytes (Ok c)
+    → program_lines last before up (Ok (c, ls))
+program_found last before bytes up front ls c e b h = rw e (Ok c, (rw b at h), refl)
 
-pub told_apart : (p : List (MethodTree (List ℕ))) (c : List (MethodTree ℕ)) → IsCheckedProgram p c → AreToldApart c
-told_apart p c h m n l k e =
-    let distinct : AreDistinct (names c) = rw (names_kept p c h.methods) h.distinct in
-    let lm : m < length (names c) = omega (arith, length-map c (λ (m : MethodTree ℕ). m.name)) in
-    let ln : n < length (names c) = omega (arith, length-map c (λ (m : MethodTree ℕ). m.name)) in
-    distinct_apart (names c) m n distinct lm ln
-    (get_or-map (λ (m : MethodTree ℕ). m.name) c m no_method [] l ∙ e ∙ sym (get_or-map (λ (m : MethodTree ℕ). m.name) c n no_method [] k))
+pub program_fails : (last before : ℕ) (bytes : List ℕ) (up : Option (List (List ℕ) × List Line)) (front : List (List ℕ)) (ls : List Line) (r : WorkNo) → up ≡ Some (front, ls) → bytes ≡ text_of front → IsNo (program_text before bytes) r
+    → IsNo (program_lines last before up) r
+program_fails last before bytes up front ls (no.Fault f) e b h = rw e (Err f, (rw b at h), refl)
+program_fails last before bytes up front ls no.Memory e b h = tt
+
+pub text_wrong : (before : ℕ) (bytes : List ℕ) (why : TextNo) (r : WorkNo) → ((f : TextFault) → ◌≡◌ {A = Result (Program Word Word) TextNo} (Err why) (Err (text_no.Fault f)) → text.IsFirstFault bytes f) → IsTextNo before why r → IsNo (program_text before bytes) r
+text_wrong before bytes (text_no.Fault f) r fault b = text_fails before bytes f r (fault f refl) b
+text_wrong before bytes text_no.Memory r fault b = rw b tt

@@ -1,3 +1,12 @@
 pub mod Lines
-pub mod Work
+pub mod Cursors
+pub mod Works
+pub mod Readings
+pub mod Settings
+pub mod Actors
+pub mod Transactions
 pub mod Parts
+pub mod Reads
+pub mod Endings
+pub mod Built
+pub mod Kept

@@ -1,19 +1,68 @@
 ghost use Rattle.std.specs.Prelude.{◌≡◌};
 ghost use Rattle.work_text.specs.declared.faults.WorkNo.TheVariants.{Memory};
+ghost use Rattle.work_text.specs.declared.faults.WorkNo.TheVariants as no;
 
+use aml_check::CheckCause;
+use aml_tokens::TextCause;
 use std::alloc::{AllocError, AllocFailed};
 
+/// A number in a work text that has a range.
+#[derive(Clone, Copy, Debug, PartialEq, Eq, Hash)]
+pub enum Limit {
+    /// Bytes of the text, at most 8,388,608.
+    Input,
+    /// 1 to 8.
+    Coordinators,
+    /// 1 to 4.
+    Logs,
+    /// Transactions of a batch, 1 to 256.
+    Batch,
+    /// Live batches, 1 to 32.
+    Batches,
+    /// Live ACTs, 1 to 32.
+    Acts,
+    /// 1 to 256.
+    Actors,
+    /// Values in an actor's line, at most 16.
+    Fields,
+    /// Actors that a PACT declares, at most 16.
+    Uses,
+    /// At most 20,000.
+    Transactions,
+}
+
+/// What is wrong with the program of a work text.
+#[derive(Clone, Copy, Debug, PartialEq, Eq, Hash)]
+pub enum ProgramCause {
+    /// It is no text of a program; the column is that of the byte in its line, from 1 on.
+    Text { cause: TextCause, column: u32 },
+    /// Its names or ends are wrong.
+    Check(CheckCause),
+}
+
 /// Why a text stands for no work.
-#[derive(Clone, Copy, Debug, PartialEq, Eq)]
+#[derive(Clone, Copy, Debug, PartialEq, Eq, Hash)]
 pub enum WorkCause {
-    /// The text is not of the part of the language that is built so far.
+    NotUtf8,
+    /// A line is not the one that its place asks for, or the text ends too early.
+    BadHeader,
+    Program(ProgramCause),
+    /// A line of an actor has not its form, or does not name an actor above the one before it.
+    BadActor,
+    /// A line of a transaction has not its form, or asks for what there is not.
+    BadTx,
+    /// A number is out of its range; `found` is the number.
+    Limit { which: Limit, found: u64 },
+    /// A PACT does not declare its own actor.
+    RootNotDeclared,
+    /// The text stands for a work, but for one that is not built yet.
     Unbuilt,
 }
 
-/// What is wrong with a text.
+/// What is wrong with a text: its first fault.
 #[derive(Clone, Copy, Debug, PartialEq, Eq)]
 pub struct WorkFault {
-    /// The line, from 1 on; 0 where the fault is of the text as a whole.
+    /// The line, from 1 on; 0 where the text is too long.
     pub line: u32,
     pub cause: WorkCause,
 }
@@ -24,12 +73,6 @@ pub enum WorkNo {
     Fault(WorkFault),
     Memory,
 }
-
-/// The one fault so far.
-pub(crate) const UNBUILT: WorkNo = WorkNo::Fault(WorkFault {
-    line: 0,
-    cause: WorkCause::Unbuilt,
-});
 
 impl From<AllocError> for WorkNo {
     ghost from_gives = { λ _ e. e ≡ Memory };
@@ -45,4 +88,11 @@ impl<T: Drop> From<AllocFailed<T>> for WorkNo {
     fn from(_error: AllocFailed<T>) -> WorkNo {
         WorkNo::Memory
     }
+}
+
+/// A fault of a line.
+pub(crate) fn at_line(line: u32, cause: WorkCause) -> WorkNo
+    ensures { result ≡ no.Fault (record { line = line; cause = cause }) }
+{
+    WorkNo::Fault(WorkFault { line, cause })
 }

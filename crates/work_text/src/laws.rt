@@ -1,14 +1,60 @@
-ghost use Rattle.std.specs.Prelude.{◌≡◌, ℕ, List};
-ghost use Rattle.work_text.specs.Work.{IsWork};
-ghost use Rattle.work_text.specs.declared.works.Work.{Work};
+//! What follows for a caller: a text is read as one thing, and what a work keeps. Each is called to cite it.
 
-use aml_check::one_checked;
-use aml_tree::one_program;
+ghost use Rattle.std.specs.Prelude.{◌≡◌, ℕ, ◌≤◌, List, length, Result};
+ghost use Rattle.work_text.specs.declared.faults.WorkFault.{WorkFault};
+ghost use Rattle.work_text.specs.Works.{Work};
+ghost use Rattle.work_text.specs.Reads.{Laid, Reads, IsWork};
+ghost use Rattle.work_text.specs.Built.{IsBuilt, IsFirstFault};
+ghost use Rattle.work_text.specs.Kept.{IsKept, IsOneBatch};
+
+use aml_tree::{faulty, one_fault, one_program};
+
+/// What a work keeps that a text stands for: its transactions may be asked of its states.
+pub fn transactions_may_run()
+    ensures { (text : List ℕ) (w : Work) → IsWork text w → IsKept w }
+{}
+
+/// A work that is built is one batch of PACTs.
+pub fn one_batch()
+    ensures { (text : List ℕ) (w : Work) → IsBuilt text w → IsOneBatch w }
+{}
+
+/// A text that stands for a work is not too long.
+pub fn a_work_is_short()
+    ensures { (text : List ℕ) (w : Work) → IsWork text w → length text ≤ 8388608 }
+{}
+
+/// A text that stands for a work that is built stands for it.
+pub fn built_works()
+    ensures { (text : List ℕ) (w : Work) → IsBuilt text w → IsWork text w }
+{}
+
+/// A text is read as one thing.
+pub fn one_reading()
+    ensures { (text : List ℕ) (r s : Result Laid WorkFault) → Reads text r → Reads text s → r ≡ s }
+{
+    one_program();
+    one_fault();
+    faulty();
+}
 
 /// A text stands for one work at most.
 pub fn one_work()
-    ensures { (text : List ℕ) (v w : Work) → IsWork text v → IsWork text w → v ≡ w }
+    ensures { (text : List ℕ) (v w : Work) → IsBuilt text v → IsBuilt text w → v ≡ w }
 {
-    one_program();
-    one_checked();
+    one_reading();
+}
+
+/// A text has one first fault at most.
+pub fn one_first_fault()
+    ensures { (text : List ℕ) (f g : WorkFault) → IsFirstFault text f → IsFirstFault text g → f ≡ g }
+{
+    one_reading();
+}
+
+/// A text with a first fault stands for no work that is built.
+pub fn fault_or_work()
+    ensures { (text : List ℕ) (f : WorkFault) (w : Work) → IsFirstFault text f → ¬ IsBuilt text w }
+{
+    one_reading();
 }

@@ -1,23 +1,30 @@
 //! The work text: the settings, the program, the actors with their states, and the transactions that a
-//! run is asked for. `parse_work` reads it; what a text stands for is `specs/Work.antt`.
+//! run is asked for. `parse_work` reads it. What a text stands for, and the first fault of one that
+//! stands for nothing, are one relation, `specs/Reads.antt`, by the parts of a text in their order.
 #![tactic(auto)]
 
 mod actors;
+mod calls;
 mod faults;
 mod laws;
 mod lines;
 mod numbers;
 mod parse;
 mod program;
+mod reading;
 mod settings;
-mod tail;
-mod transactions;
-mod works;
-
-pub use faults::{WorkCause, WorkFault, WorkNo};
-pub use laws::one_work;
-pub use parse::parse_work;
-pub use works::Work;
-
+mod states;
 #[cfg(test)]
 mod tests;
+mod texts;
+mod transactions;
+mod uses;
+mod works;
+
+pub use faults::{Limit, ProgramCause, WorkCause, WorkFault, WorkNo};
+pub use laws::{
+    a_work_is_short, built_works, fault_or_work, one_batch, one_first_fault, one_reading, one_work,
+    transactions_may_run,
+};
+pub use parse::parse_work;
+pub use works::Work;

@@ -1,53 +1,69 @@
-//! A text's lines, and the words of a line.
+//! The lines of a text, one after the other.
 
-ghost use Rattle.std.specs.Prelude.{◌≡◌, ℕ, List, ◌++◌, ◌∷◌, [], map, filter, IfOk, MatchOption, Contains};
-ghost use Rattle.work_text.specs.Lines.{lines, words, says, said, text_of};
-ghost use Rattle.work_text.specs.Parts.{IsCutAt, IsCut, IsLaid};
+ghost use Rattle.std.specs.Prelude.{◌≡◌, ◌≢◌, ℕ, ◌+◌, ◌<◌, ◌≤◌, List, ◌++◌, ◌∷◌, [], length, IfSome, take, drop, None, Some, MatchOption, MatchResult, IfOk};
+ghost use Rattle.work_text.specs.Lines.{lines, says, next};
+ghost use Rattle.work_text.specs.Cursors.{line_of, ahead, end_of, IsShort};
 
-use std::alloc::{AllocError, Global};
+use crate::texts::{Cursor, Line};
 
-// The text before the first line that is a word, and the text behind that line.
-fn cut_at_line<'a>(text: &'a [u8], word: &[u8]) -> Option<(&'a [u8], &'a [u8])>
-    ensures { MatchOption result (¬ Contains (lines text.now) word.now) (λ parts. IsCutAt text.now word.now parts.0.now parts.1.now) }
+// Where the first line of a text ends.
+fn line_end(rest: &[u8]) -> usize
+    ensures within { result ≤ length rest.now }
+    ensures feed { result < length rest.now → rest.now ≡ take result rest.now ++ 10 ∷ drop (result + 1) rest.now }
+    ensures cut { rest.now ≢ [] → lines rest.now ≡ take result rest.now ∷ lines (drop (result + 1) rest.now) }
 {
     let mut at = 0;
-    for line in text.split(|b| *b == b'\n') {
-        let next = at + line.len() + 1;
-        if line == word {
-            return Some((&text[..at], &text[next.min(text.len())..]));
-        }
-        at = next;
+    while at < rest.len() && rest[at] != b'\n' {
+        at += 1;
     }
-    None
+    at
 }
 
-/// The text before the line `program`, between it and the first line `end`, and behind that.
-pub(crate) fn lay_out(text: &[u8]) -> Option<(&[u8], &[u8], &[u8])>
-    ensures { MatchOption result ((head program rest : List (List ℕ)) → ¬ IsCut text.now head program rest) (λ parts. IsLaid text.now parts.0.now parts.1.now parts.2.now) }
+/// The next line, and what lies behind it.
+pub(crate) fn next_line<'a>(cursor: Cursor<'a>) -> Option<(Line<'a>, Cursor<'a>)>
+    requires { IsShort cursor }
+    ensures found { MatchOption result (ahead cursor.entry ≡ []) (λ x. ahead cursor.entry ≡ line_of x.0 ∷ ahead x.1) }
+    ensures onward { MatchOption result (end_of cursor.entry ≡ cursor.entry.line) (λ x. (end_of x.1 ≡ end_of cursor.entry) × IsShort x.1 × (length x.1.rest.now < length cursor.entry.rest.now)) }
+    ensures feed { IfSome result (λ x. x.1.rest.now ≢ [] → cursor.entry.rest.now ≡ x.0.bytes.now ++ 10 ∷ x.1.rest.now) }
+    ensures some { IfSome result (λ x. cursor.entry.rest.now ≢ []) }
+    ensures number { IfSome result (λ x. x.0.number < x.1.line) }
 {
-    let (head, behind) = cut_at_line(text, b"program")?;
-    let (program, rest) = cut_at_line(behind, b"end")?;
-    Some((head, program, rest))
+    if cursor.rest.is_empty() {
+        return None;
+    }
+    let at = line_end(cursor.rest);
+    let line = Line {
+        number: cursor.line,
+        bytes: &cursor.rest[..at],
+    };
+    let behind = (at + 1).min(cursor.rest.len());
+    let next = Cursor {
+        rest: &cursor.rest[behind..],
+        line: cursor.line + 1,
+    };
+    Some((line, next))
 }
 
-/// The lines of a text that say something.
-pub(crate) fn said_lines(alloc: Global, text: &[u8]) -> Result<Vec<&[u8]>, AllocError>
-    ensures { IfOk result (λ v. map (λ line. line.now) v.items ≡ said (lines text.now)) }
-{
-    text.split(|b| *b == b'\n')
-        .filter(|line| is_said(line))
-        .collect(alloc)
-}
-
-fn is_said(line: &[u8]) -> bool
+/// Whether a line outside the program is not skipped.
+pub(crate) fn is_said(line: &[u8]) -> bool
     ensures { result ≡ says line.now }
 {
     !line.is_empty() && line[0] != b'#'
 }
 
-/// The words of a line.
-pub(crate) fn words_of(alloc: Global, line: &[u8]) -> Result<Vec<&[u8]>, AllocError>
-    ensures { IfOk result (λ v. map (λ word. word.now) v.items ≡ words line.now) }
+/// The next line that says something, and what lies behind it; or the number behind the last line.
+pub(crate) fn next_said<'a>(cursor: Cursor<'a>) -> Result<(Line<'a>, Cursor<'a>), u32>
+    requires { IsShort cursor }
+    ensures found { MatchResult result (λ x. next (ahead cursor.entry) ≡ Some (line_of x.0, ahead x.1)) (λ last. next (ahead cursor.entry) ≡ None) }
+    ensures onward { MatchResult result (λ x. (end_of x.1 ≡ end_of cursor.entry) × IsShort x.1 × (length x.1.rest.now < length cursor.entry.rest.now)) (λ last. last ≡ end_of cursor.entry) }
+    ensures number { IfOk result (λ x. x.0.number < x.1.line) }
 {
-    line.split(|b| *b == b' ').collect(alloc)
+    let mut at = cursor;
+    while let Some((line, behind)) = next_line(at) {
+        if is_said(line.bytes) {
+            return Ok((line, behind));
+        }
+        at = behind;
+    }
+    Err(at.line)
 }

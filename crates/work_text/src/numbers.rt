@@ -1,22 +1,18 @@
-//! Numbers in a line.
+//! The words of a line, and numbers that words spell.
 
-ghost use Rattle.std.specs.Prelude.{◌≡◌, ℕ, ℤ, ◌<◌, ◌≤◌, ◌++◌, ◌^◌, List, map, Some, IfOk, IfSome, IsTrue, ◌↔◌, MatchOption};
+ghost use Rattle.std.specs.Prelude.{◌≡◌, ℕ, ℤ, ◌<◌, List, map, Some, IfOk, IfSome, MatchOption};
 ghost use Rattle.std.specs.Fmt.{decimal};
+ghost use Rattle.work_text.specs.Lines.{words};
 ghost use Rattle.work_text.specs.Parts.{AreNumbers};
 
 use decimal_words::{natural, signed};
 use std::alloc::{AllocError, Global};
 
-/// The number from 1 up to a limit that stands behind a word, and nothing behind it.
-pub(crate) fn number_behind(line: &[u8], word: &[u8], limit: u16) -> Option<u16>
-    ensures found { IfSome result (λ n. (line.now ≡ word.now ++ decimal n) × (1 ≤ n) × (n ≤ limit)) }
-    ensures only { (n : ℕ) → line.now ≡ word.now ++ decimal n → 1 ≤ n → n ≤ limit → result ≡ Some n }
+/// The words of a line.
+pub(crate) fn words_of(alloc: Global, line: &[u8]) -> Result<Vec<&[u8]>, AllocError>
+    ensures { IfOk result (λ v. map (λ word. word.now) v.items ≡ words line.now) }
 {
-    let number = natural(line.strip_prefix(word)?)?;
-    if number == 0 || number > limit as u64 {
-        return None;
-    }
-    Some(number as u16)
+    line.split(|b| *b == b' ').collect(alloc)
 }
 
 /// The numbers that words spell, and `None` where one of them spells none.
@@ -33,9 +29,14 @@ pub(crate) fn numbers(alloc: Global, words: &[&[u8]]) -> Result<Option<Vec<i64>>
     Ok(Some(values))
 }
 
-/// Whether a word spells a number.
-pub(crate) fn spells(word: &[u8], number: u16) -> bool
-    ensures { IsTrue result ↔ (word.now ≡ decimal number) }
+/// The actor that a word names, if it is one of the first ones.
+pub(crate) fn actor_of(word: &[u8], actors: u16) -> Option<u16>
+    ensures found { IfSome result (λ n. (word.now ≡ decimal n) × (n < actors)) }
+    ensures only { (n : ℕ) → word.now ≡ decimal n → n < actors → result ≡ Some n }
 {
-    natural(word) == Some(number as u64)
+    let number = natural(word)?;
+    if number >= actors as u64 {
+        return None;
+    }
+    Some(number as u16)
 }

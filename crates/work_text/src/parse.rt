@@ -1,18 +1,17 @@
-ghost use Rattle.std.specs.Prelude.{◌≡◌, IfOk, IsErrOf, MatchResult};
-ghost use Rattle.work_text.specs.Work.{IsWork};
-ghost use Rattle.work_text.specs.Parts.{IsNo};
-ghost use Rattle.work_text.specs.declared.works.Work.{Work};
-ghost use Rattle.work_text.specs.declared.faults.WorkFault.{WorkFault};
-ghost use Rattle.work_text.specs.declared.faults.WorkCause.TheVariants.{Unbuilt};
+ghost use Rattle.std.specs.Prelude.{◌≡◌, ℕ, ◌≤◌, ◌+◌, ◌==◌, [], ◌∷◌, if◌then◌else◌, length, take, IfOk, IsErrOf};
+ghost use Rattle.std.specs.List.{count_by};
+ghost use Rattle.work_text.specs.Built.{IsBuilt, IsFirstFault};
+ghost use Rattle.work_text.specs.Built as built;
+ghost use Rattle.work_text.specs.Parts.{IsHead};
+ghost use Rattle.work_text.specs.Works.{work_of};
+ghost use Rattle.work_text.specs.Readings.{Is};
+ghost use Rattle.work_text.specs.Reads as reads;
 
-use crate::faults::UNBUILT;
-use crate::lines::lay_out;
-use crate::program::read_program;
-use crate::settings::read_settings;
-use crate::tail::read_tail;
-use crate::{Work, WorkFault, WorkNo};
-use aml_check::one_checked;
-use aml_tree::one_program;
+use crate::faults::at_line;
+use crate::reading::{Laid, read_lines};
+use crate::texts::Cursor;
+use crate::{Limit, Work, WorkCause, WorkFault, WorkNo};
+use snap_base::{Kind, Tx};
 use std::alloc::Global;
 
 // The length of the longest text.
@@ -21,36 +20,97 @@ const LONGEST: usize = 8_388_608;
 /// Reads a work text.
 pub fn parse_work(alloc: Global, bytes: &[u8]) -> Result<Work, WorkNo>
     // What is read is what the text stands for.
-    ensures found { IfOk result (λ w. IsWork bytes.now w) }
-    // A fault comes only where the text stands for no work.
-    ensures refused { (fault : WorkFault) → IsErrOf result (WorkNo.Fault fault) → (w : Work) → ¬ IsWork bytes.now w }
-    ensures fault { (fault : WorkFault) → IsErrOf result (WorkNo.Fault fault) → fault ≡ record { line = 0; cause = Unbuilt } }
+    ensures found { IfOk result (λ w. IsBuilt bytes.now (work_of w)) }
+    // A fault is the first one of the text.
+    ensures fault { (fault : WorkFault) → IsErrOf result (WorkNo.Fault fault) → IsFirstFault bytes.now fault }
 {
-    read_work(alloc, bytes)
+    let laid = read_text(alloc, bytes)?;
+    match unbuilt(&laid) {
+        Some(line) => Err(at_line(line, WorkCause::Unbuilt)),
+        None => Ok(laid.work),
+    }
 }
 
-fn read_work(alloc: Global, bytes: &[u8]) -> Result<Work, WorkNo>
-    ensures { MatchResult result (IsWork bytes.now) (IsNo ((w : Work) → ¬ IsWork bytes.now w)) }
+// The first line that asks for more than is built.
+fn unbuilt(laid: &Laid) -> Option<u32>
+    ensures { IsHead result (built.unbuilt (record { work = work_of laid.now.work; coordinators_line = laid.now.coordinators; logs_line = laid.now.logs; transaction_lines = laid.now.transactions })) }
 {
-    if bytes.len() > LONGEST || str::from_utf8(bytes).is_err() {
-        return Err(UNBUILT);
+    if laid.work.coordinators > 1 {
+        return Some(laid.coordinators);
     }
-    one_program();
-    one_checked();
-    let Some((head, program, rest)) = lay_out(bytes) else {
-        return Err(UNBUILT);
-    };
-    let settings = read_settings(alloc, head)?;
-    let program = read_program(alloc, program)?;
-    let (states, txs) = read_tail(alloc, &program, settings.batch, rest)?;
-    Ok(Work {
-        coordinators: settings.coordinators,
-        logs: settings.logs,
-        batch: settings.batch,
-        batches: settings.batches,
-        acts: settings.acts,
-        program,
-        states,
-        txs,
-    })
+    if laid.work.logs > 1 {
+        return Some(laid.logs);
+    }
+    unbuilt_transaction(
+        laid.work.batch,
+        laid.work.txs.as_slice(),
+        laid.transactions.as_slice(),
+    )
+}
+
+// Whether a transaction is not built; so many come before it.
+fn is_unbuilt(kind: Kind, batch: u16, before: usize) -> bool
+    ensures { (line : ℕ) → built.unbuilt_kind kind batch before line ≡ (if result then line ∷ [] else []) }
+{
+    match kind {
+        Kind::Act => true,
+        Kind::Pact => before >= batch as usize,
+    }
+}
+
+// The first line of a transaction that is not built.
+fn unbuilt_transaction(batch: u16, txs: &[Tx], lines: &[u32]) -> Option<u32>
+    ensures { IsHead result (built.unbuilt_transactions batch 0 txs.now lines.now) }
+{
+    let mut at = 0;
+    while at < txs.len() && at < lines.len() {
+        if is_unbuilt(txs[at].kind, batch, at) {
+            return Some(lines[at]);
+        }
+        at += 1;
+    }
+    None
+}
+
+// What a text is read as, whether or not it is built.
+fn read_text(alloc: Global, bytes: &[u8]) -> Result<Laid, WorkNo>
+    ensures { Is (λ x. record { work = work_of x.work; coordinators_line = x.coordinators; logs_line = x.logs; transaction_lines = x.transactions }) result (reads.Reads bytes.now) }
+{
+    if bytes.len() > LONGEST {
+        let cause = WorkCause::Limit {
+            which: Limit::Input,
+            found: 8_388_609,
+        };
+        return Err(at_line(0, cause));
+    }
+    match str::from_utf8(bytes) {
+        Ok(_) => {
+            let cursor = Cursor {
+                rest: bytes,
+                line: 1,
+            };
+            read_lines(alloc, cursor)
+        }
+        Err(end) => {
+            let line = line_at(bytes, end.valid_up_to());
+            Err(at_line(line, WorkCause::NotUtf8))
+        }
+    }
+}
+
+// The line of a place in a text, from 1 on.
+fn line_at(bytes: &[u8], place: usize) -> u32
+    requires within { place ≤ length bytes.now }
+    requires short { length bytes.now ≤ 8388608 }
+    ensures { result ≡ 1 + count_by (λ b. b == 10) (take place bytes.now) }
+{
+    let mut line = 1;
+    let mut at = 0;
+    while at < place {
+        if bytes[at] == b'\n' {
+            line += 1;
+        }
+        at += 1;
+    }
+    line
 }

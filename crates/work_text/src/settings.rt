@@ -1,40 +1,89 @@
-//! The lines before the program.
+//! Lines that set a number.
 
-ghost use Rattle.std.specs.Prelude.{◌≡◌, ◌≤◌, List, map, Some, MatchResult, MatchOption};
-ghost use Rattle.work_text.specs.Lines.{lines, said};
-ghost use Rattle.work_text.specs.Parts.{AreSet, IsNo};
-ghost use Rattle.work_text.specs.declared.works.Settings.{Settings};
+ghost use Rattle.std.specs.Prelude.{◌≡◌, ℕ, ◌<◌, ◌≤◌, ◌++◌, ◌^◌, Some, IfOk, IfSome};
+ghost use Rattle.std.specs.Fmt.{decimal};
+ghost use Rattle.work_text.specs.Readings.{Is};
+ghost use Rattle.work_text.specs.Settings as spec;
+ghost use Rattle.work_text.specs.Reads as reads;
+ghost use Rattle.work_text.specs.Cursors.{line_of, ahead, end_of, IsShort};
+ghost use Rattle.work_text.specs.declared.faults.WorkNo.TheVariants as no;
 
-use crate::faults::{UNBUILT, WorkNo};
-use crate::lines::said_lines;
-use crate::numbers::number_behind;
-use crate::works::Settings;
-use std::alloc::Global;
+use crate::faults::at_line;
+use crate::lines::next_said;
+use crate::texts::{Cursor, Line};
+use crate::{Limit, WorkCause, WorkNo};
+use decimal_words::natural;
 
-/// What the text before the program sets.
-pub(crate) fn read_settings(alloc: Global, head: &[u8]) -> Result<Settings, WorkNo>
-    ensures { MatchResult result (AreSet (said (lines head.now))) (IsNo ((s : Settings) → ¬ AreSet (said (lines head.now)) s)) }
+// The number behind a word.
+fn number_behind(line: &[u8], word: &[u8]) -> Option<u64>
+    ensures found { IfSome result (λ n. line.now ≡ word.now ++ decimal n) }
+    ensures only { (n : ℕ) → n < 2 ^ 64 → line.now ≡ word.now ++ decimal n → result ≡ Some n }
 {
-    let lines = said_lines(alloc, head)?;
-    settings_of(&lines).ok_or(UNBUILT)
+    let number = natural(line.strip_prefix(word)?)?;
+    Some(number)
 }
 
-fn settings_of(lines: &[&[u8]]) -> Option<Settings>
-    ensures { MatchOption result ((s : Settings) → ¬ AreSet (map (λ line. line.now) lines.now) s) (AreSet (map (λ line. line.now) lines.now)) }
+// The number that a line sets, from 1 on.
+fn setting(line: Line<'_>, word: &[u8], most: u64, which: Limit) -> Result<u64, WorkNo>
+    ensures reads { Is (λ n. n) result (spec.setting (record { word = word.now; most = most; which = which }) (line_of line.entry)) }
+    ensures within { IfOk result (λ n. n ≤ most) }
 {
-    if lines.len() != 6 || lines[0] != b"snapper 1".as_slice() {
-        return None;
+    let Some(found) = number_behind(line.bytes, word) else {
+        return Err(at_line(line.number, WorkCause::BadHeader));
+    };
+    if found < 1 || found > most {
+        return Err(at_line(line.number, WorkCause::Limit { which, found }));
     }
-    let coordinators = number_behind(lines[1], b"coordinators ", 1)?;
-    let logs = number_behind(lines[2], b"logs ", 1)?;
-    let batch = number_behind(lines[3], b"batch ", 256)?;
-    let batches = number_behind(lines[4], b"batches ", 32)?;
-    let acts = number_behind(lines[5], b"acts ", 32)?;
-    Some(Settings {
-        coordinators: coordinators as u8,
-        logs: logs as u8,
-        batch,
-        batches: batches as u8,
-        acts: acts as u8,
-    })
+    Ok(found)
+}
+
+// The same with the line's number.
+fn set_by(line: Line<'_>, word: &[u8], most: u64, which: Limit) -> Result<(u64, u32), WorkNo>
+    ensures reads { Is (λ x. x) result (reads.set (record { word = word.now; most = most; which = which }) (line_of line.entry)) }
+    ensures within { IfOk result (λ x. x.0 ≤ most) }
+{
+    let number = setting(line, word, most, which)?;
+    Ok((number, line.number))
+}
+
+/// The number that the next line sets, the line's number, and what lies behind it.
+pub(crate) fn set<'a>(
+    cursor: Cursor<'a>,
+    word: &[u8],
+    most: u64,
+    which: Limit,
+) -> Result<((u64, u32), Cursor<'a>), WorkNo>
+    requires { IsShort cursor }
+    ensures reads { Is (λ x. (x.0, ahead x.1)) result (reads.line (end_of cursor.entry) (ahead cursor.entry) (reads.set (record { word = word.now; most = most; which = which }))) }
+    ensures within { IfOk result (λ x. x.0.0 ≤ most) }
+    ensures kept { IfOk result (λ x. (end_of x.1 ≡ end_of cursor.entry) × IsShort x.1) }
+{
+    match next_said(cursor) {
+        Ok((line, behind)) => Ok((set_by(line, word, most, which)?, behind)),
+        Err(last) => Err(at_line(last, WorkCause::BadHeader)),
+    }
+}
+
+/// The number of the next line, which is just this, and what lies behind it.
+pub(crate) fn exactly<'a>(cursor: Cursor<'a>, bytes: &[u8]) -> Result<(u32, Cursor<'a>), WorkNo>
+    requires { IsShort cursor }
+    ensures reads { Is (λ x. (x.0, ahead x.1)) result (reads.line (end_of cursor.entry) (ahead cursor.entry) (reads.exactly bytes.now)) }
+    ensures number { IfOk result (λ x. x.0 < x.1.line) }
+    ensures kept { IfOk result (λ x. (end_of x.1 ≡ end_of cursor.entry) × IsShort x.1) }
+{
+    match next_said(cursor) {
+        Ok((line, behind)) => Ok((just(line, bytes)?, behind)),
+        Err(last) => Err(at_line(last, WorkCause::BadHeader)),
+    }
+}
+
+fn just(line: Line<'_>, bytes: &[u8]) -> Result<u32, WorkNo>
+    ensures reads { Is (λ n. n) result (reads.exactly bytes.now (line_of line.entry)) }
+    ensures number { IfOk result (λ n. n ≡ line.entry.number) }
+{
+    if line.bytes == bytes {
+        Ok(line.number)
+    } else {
+        Err(at_line(line.number, WorkCause::BadHeader))
+    }
 }

@@ -17,16 +17,6 @@ pub struct Work {
     pub program: Checked,
     /// Each actor's state at the beginning; 1 to 256 actors.
     pub states: Sequence<State>,
-    /// The transactions in the order of the text.
+    /// The transactions in the order of the text, at most 20,000.
     pub txs: Sequence<Tx>,
-}
-
-/// What the lines before the program set; the fields are those of `Work`.
-#[derive(Clone, Copy)]
-pub(crate) struct Settings {
-    pub(crate) coordinators: u8,
-    pub(crate) logs: u8,
-    pub(crate) batch: u16,
-    pub(crate) batches: u8,
-    pub(crate) acts: u8,
 }

@@ -1,11 +1,11 @@
-use Rattle.std.proofs.Common.{take, map}
-use Rattle.aml_tree.specs.Tree.{method_tree}
-use Rattle.aml_check.specs.Names.{AreDistinct, AreCheckedMethods}
-use Rattle.aml_check.proofs.MethodLists.{names_of}
+use Rattle.std.proofs.Common.{◌≡◌, [], take, drop, map}
+use Rattle.aml_tree.specs.Tree.{method_tree, program_tree}
+use Rattle.aml_check.specs.Faults.{faults_behind}
+use Rattle.aml_check.specs.Names.{method_names, checked_method}
 use Rattle.aml_check.proofs.checks.check.Given as goal
 
-abbrev pub invariant-loop-method : goal.invariant-loop-method
-invariant-loop-method l = record {
-  methods : AreCheckedMethods (map method_tree (take l.method-index l.fn.program.methods)) (map method_tree l.methods);
-  distinct : AreDistinct (take l.method-index (names_of l.fn.program.methods));
+abbrev pub invariant-loop-one : goal.invariant-loop-one
+invariant-loop-one l = record {
+  faultless : faults_behind (program_tree l.fn.program) l.names.items (map method_tree (drop l.one-index l.fn.program.methods)) ≡ faults_behind (program_tree l.fn.program) [] (program_tree l.fn.program);
+  resolved : map method_tree l.checked ≡ map (checked_method (method_names (program_tree l.fn.program))) (map method_tree (take l.one-index l.fn.program.methods));
 }

@@ -2,7 +2,7 @@ use Rattle.std.proofs.Common.{◌≡◌, ◌∙◌, ap, sym, subst, length, arit
 use Rattle.std.specs.List.{AllByRecursion}
 use Rattle.snap_base.specs.declared.transactions.State.{State}
 use Rattle.snap_base.specs.declared.transactions.Tx.{Tx}
-use Rattle.aml_tree.specs.Tree.{program_tree}
+use Rattle.work_text.specs.Works.{work_of}
 use Rattle.aml_check.specs.Meaning.{serial, SerialRun}
 use Rattle.txn_records.specs.Records.{IsRecord}
 use Rattle.run_batch.specs.Report.{serial_from}
@@ -34,8 +34,8 @@ written-requires-clause-few c =
 pub invariant_of-result : goal.invariant_of-result
 invariant_of-result c =
     let o = c.args.opening.now in
-    let w = c.args.work.now in
-    let p = program_tree w.program in
+    let w = work_of c.args.work.now in
+    let p = w.program in
     let left : c.as_slice-4.result.now ≡ (serial_from o w).world =
     c.as_slice-4.ensures.value ∙ sym (ap (λ (r : SerialRun). r.world) c.in_ok-results.ensures.serial)
     ∙ ap (λ (ws : List State). (serial p ws c.as_slice-txs.result.now).world) (c.in_ok-world.ensures.items_if_clones_equal (λ x y same. same) ∙ c.as_slice.ensures)
@@ -51,8 +51,8 @@ invariant_of-result c =
 pub returns-clause-batch : goal.returns-clause-batch
 returns-clause-batch c =
     let o = c.args.opening.now in
-    let w = c.args.work.now in
-    let p = program_tree w.program in
+    let w = work_of c.args.work.now in
+    let p = w.program in
     let left : c.as_slice-4.result.now ≡ (serial_from o w).world =
     c.as_slice-4.ensures.value ∙ sym (ap (λ (r : SerialRun). r.world) c.in_ok-results.ensures.serial)
     ∙ ap (λ (ws : List State). (serial p ws c.as_slice-txs.result.now).world) (c.in_ok-world.ensures.items_if_clones_equal (λ x y same. same) ∙ c.as_slice.ensures)

@@ -8,5 +8,5 @@ pub returns-clause-complete : goal.returns-clause-complete
 returns-clause-complete g c = λ text h untroubled. elim c.match-answer.branch [
   | in-Ok w ↦ inl w.status-is
   | in-Err w ↦ subst (λ s. (s ≡ status.Done) ⊎ (s ≡ status.Memory)) (sym w.status-is)
-      (completed c.one_opening.ensures c.refused_is_not_recovered.ensures _ text h _ untroubled w.in-Err.ensures.outcome.answer)
+      (completed c.one_opening.ensures c.refused_is_not_recovered.ensures c.fault_or_work.ensures _ text h _ untroubled w.in-Err.ensures.outcome.answer)
 ]

@@ -2,6 +2,7 @@ use Rattle.std.proofs.Common.{arith, [], ◌∷◌, refl, ap}
 use Rattle.std.specs.Prelude.{codes}
 use Rattle.std.proofs.KnownBytes.{Keeps-refl}
 use Rattle.kept_logs.specs.Devices.{Device, devices_of, device_at}
+use Rattle.work_text.specs.Works.{work_of}
 use Rattle.snap_run.specs.Uses.{Use}
 use Rattle.snap_run.specs.Runs.{IsWorkAnswer, IsDurable}
 use Rattle.snap_run.specs.Outcomes.{IsOutcome}
@@ -51,8 +52,8 @@ returns-clause-outcome g c =
     let before : Device = record { told = g.D.LogDev.told c.remove-dev.result; faults = g.D.LogDev.faults c.remove-dev.result } in
     let after : Device = record { told = g.D.LogDev.told c.run_work-dev.result.0; faults = g.D.LogDev.faults c.run_work-dev.result.0 } in
     match_both c.run_work-dev.result.1
-    (λ s. IsWorkAnswer c.in-Ok.work before after u.writing s)
+    (λ s. IsWorkAnswer (work_of c.in-Ok.work) before after u.writing s)
     (IsOutcome u)
-    (IsDurable before.told after.told c.in-Ok.work)
-    (λ s a durable. run_outcome c.one_work.ensures u c.in-Ok.work before after s refl c.in-Ok.ensures.answer (first_device g.D.LogDev.told g.D.LogDev.faults c.args.logs.now.items c.remove-dev.result (omega (arith, c.requires, c.args.logs.now.ok.0)) c.remove-dev.ensures.value) (ap (λ items. device_at (devices_of g.D.LogDev.told g.D.LogDev.faults items) 0) c.put_first.ensures) c.run_work-dev.ensures.crashes a durable)
+    (IsDurable before.told after.told (work_of c.in-Ok.work))
+    (λ s a durable. run_outcome c.one_work.ensures u (work_of c.in-Ok.work) before after s refl c.in-Ok.ensures.answer (first_device g.D.LogDev.told g.D.LogDev.faults c.args.logs.now.items c.remove-dev.result (omega (arith, c.requires, c.args.logs.now.ok.0)) c.remove-dev.ensures.value) (ap (λ items. device_at (devices_of g.D.LogDev.told g.D.LogDev.faults items) 0) c.put_first.ensures) c.run_work-dev.ensures.crashes a durable)
     c.run_work-dev.ensures.answer c.run_work-dev.ensures.durable

@@ -1,12 +1,14 @@
 use Rattle.std.proofs.Common.{◌≤◌, ap, sym, length, subst, Err}
 use Rattle.std.specs.Io.KnownBytes.{Consumes, IsAtEnd}
-use Rattle.work_text.specs.declared.faults.WorkFault.{WorkFault}
+use Rattle.work_text.specs.Works.{work_of}
 use Rattle.snap_run.specs.Uses.{Reading}
-use Rattle.snap_run.proofs.InputLaws.{runnable, reads_enough, refused_input, of_text}
+use Rattle.snap_run.proofs.InputLaws.{runnable, reads_enough, fault_of_input, of_text}
 use Rattle.snap_run.proofs.works.read_work.Goals as goal
 
 pub returns-in-Ok-parse_work-clause-runnable : goal.returns-in-Ok-parse_work-clause-runnable
-returns-in-Ok-parse_work-clause-runnable g c = runnable _ _ c.in-Ok-parse_work.ensures.found
+returns-in-Ok-parse_work-clause-runnable g c =
+    runnable (work_of c.in-Ok-parse_work.work)
+    (c.transactions_may_run.ensures _ _ (c.built_works.ensures _ _ c.in-Ok-parse_work.ensures.found)) (c.one_batch.ensures _ _ c.in-Ok-parse_work.ensures.found)
 
 pub returns-in-Ok-parse_work-clause-answer : goal.returns-in-Ok-parse_work-clause-answer
 returns-in-Ok-parse_work-clause-answer g c =
@@ -16,7 +18,7 @@ returns-in-Ok-parse_work-clause-answer g c =
       faults_before = g.I.Source.faults c.args.input.now;
       faults_after = g.I.Source.faults c.read_input.new.input;
     } in
-    of_text r c.as_slice.result.now _ c.in-Ok-parse_work.ensures.found
+    of_text r c.as_slice.result.now (work_of c.in-Ok-parse_work.work) c.in-Ok-parse_work.ensures.found (c.a_work_is_short.ensures _ _ (c.built_works.ensures _ _ c.in-Ok-parse_work.ensures.found))
     (subst (Consumes (g.I.Source.left c.args.input.now) (g.I.Source.left c.read_input.new.input)) (sym c.as_slice.ensures.value) c.in-Ok.ensures.moved)
     (subst (λ l. length l ≤ 8388608 → IsAtEnd (g.I.Source.left c.read_input.new.input)) (sym c.as_slice.ensures.value) c.in-Ok.ensures.whole)
 
@@ -29,11 +31,8 @@ returns-in-Err-Fault-parse_work-clause-answer g c =
       faults_after = g.I.Source.faults c.read_input.new.input;
     } in
     let is = ap Err c.in-Err-Fault-parse_work.field-0-is in
-    let fault = c.in-Err-Fault-parse_work.ensures.fault _ is in
     let moved = subst (Consumes (g.I.Source.left c.args.input.now) (g.I.Source.left c.read_input.new.input)) (sym c.as_slice.ensures.value) c.in-Ok.ensures.moved in
     let whole = subst (λ l. length l ≤ 8388608 → IsAtEnd (g.I.Source.left c.read_input.new.input)) (sym c.as_slice.ensures.value) c.in-Ok.ensures.whole in (
-      ap (λ (f : WorkFault). f.line) fault,
-      ap (λ (f : WorkFault). f.cause) fault,
       reads_enough r c.as_slice.result.now moved whole (subst (λ l. length l ≤ 8388609) (sym c.as_slice.ensures.value) c.in-Ok.ensures.most),
-      refused_input _ _ c.as_slice.result.now moved whole (c.in-Err-Fault-parse_work.ensures.refused _ is),
+      fault_of_input _ _ c.as_slice.result.now _ moved whole (c.in-Err-Fault-parse_work.ensures.fault _ is),
     )

@@ -1,0 +1,83 @@
+-- Short programs: their faults and what they mean, evaluated.
+use Rattle.std.proofs.Common.{◌≡◌, pos, negsuc, Ok, Err, [], ◌∷◌, codes, refl}
+use Rattle.snap_base.specs.declared.transactions.Kind.TheVariants.{Pact, Act}
+use Rattle.snap_base.specs.declared.transactions.TxResult.TheVariants as result
+use Rattle.aml_tree.specs.declared.trees.Operator.TheVariants as operator
+use Rattle.aml_tree.specs.Tree.{Number, Variable, Field, Own, Group, Negative, Binary, End, Let, Call, Set, SetField, If, While, Fail, Return}
+use Rattle.aml_check.specs.declared.faults.CheckCause.TheVariants as cause
+use Rattle.aml_check.specs.Names.{checked_program}
+use Rattle.aml_check.specs.Faults.{program_faults}
+use Rattle.aml_check.specs.Meaning.{alone, value_of, zero_state}
+
+-- ---- names
+
+-- `method f() { return g; }`
+unknown_name : program_faults (record { name = record { name = codes "f"; line = 1 }; parameters = []; body = Return (Variable (record { name = codes "g"; line = 1 })) (End 2) } ∷ []) ≡ record { line = 1; cause = cause.UnknownName } ∷ []
+unknown_name = refl
+
+-- `if 1 { let a = 1; } a = 2;`: a name is gone behind its block, and the method does not end
+gone_behind_its_block : program_faults (record { name = record { name = codes "f"; line = 1 }; parameters = []; body = If (Number 1) (Let (record { name = codes "a"; line = 2 }) (Number 1) (End 2)) (Set (record { name = codes "a"; line = 3 }) (Number 2) (End 4)) } ∷ []) ≡ record { line = 3; cause = cause.UnknownName } ∷ record { line = 4; cause = cause.NoReturn } ∷ []
+gone_behind_its_block = refl
+
+-- a second method of the name, and a call with an argument too many
+duplicate_and_count : program_faults (record { name = record { name = codes "f"; line = 1 }; parameters = []; body = Call (record { name = codes "a"; line = 2 }) Own (record { name = codes "f"; line = 2 }) (Number 1 ∷ []) (Return (Number 0) (End 3)) } ∷ record { name = record { name = codes "f"; line = 4 }; parameters = []; body = Fail 7 (End 4) } ∷ [])
+    ≡ record { line = 2; cause = cause.ArgCount } ∷ record { line = 4; cause = cause.Duplicate } ∷ []
+duplicate_and_count = refl
+
+-- a variable becomes its place, and a method its own
+places_for_names : checked_program (record { name = record { name = codes "f"; line = 1 }; parameters = record { name = codes "n"; line = 1 } ∷ []; body = Let (record { name = codes "a"; line = 1 }) (Variable (record { name = codes "n"; line = 1 })) (Return (Variable (record { name = codes "a"; line = 1 })) (End 1)) } ∷ [])
+    ≡ record { name = record { name = codes "f"; line = 1 }; parameters = 0 ∷ []; body = Let 1 (Variable 0) (Return (Variable 1) (End 1)) } ∷ []
+places_for_names = refl
+
+-- ---- values
+
+quotient_and_remainder : (value_of 0 [] zero_state (Binary operator.Over (Group (Binary operator.Minus (Number 0) (Number 7))) (Number 2)) ≡ Ok (negsuc 2))
+    × (value_of 0 [] zero_state (Binary operator.Remainder (Negative (Number 7)) (Number 2)) ≡ Ok (negsuc 0))
+quotient_and_remainder = (refl, refl)
+
+least_by_minus_one : (value_of 0 (negsuc 9223372036854775807 ∷ []) zero_state (Binary operator.Over (Variable 0) (Negative (Number 1))) ≡ Err 1002)
+    × (value_of 0 (negsuc 9223372036854775807 ∷ []) zero_state (Binary operator.Remainder (Variable 0) (Negative (Number 1))) ≡ Err 1002)
+least_by_minus_one = (refl, refl)
+
+-- the right side of `or` is left out where the left one holds
+left_out : value_of 0 [] zero_state (Binary operator.Or (Number 5) (Binary operator.Over (Number 1) (Number 0))) ≡ Ok (pos 1)
+left_out = refl
+
+-- ---- transactions
+
+sum_too_large : alone (record { name = record { name = codes "f"; line = 1 }; parameters = []; body = Return (Binary operator.Plus (Number 9223372036854775807) (Number 1)) (End 1) } ∷ []) (zero_state ∷ []) (record { kind = Act; actor = record { 0 = 0 }; method = 0; args = []; uses = [] })
+    ≡ record { result = result.Fail 1002; world = zero_state ∷ [] }
+sum_too_large = refl
+
+-- `let r = call 2 f();` with two actors
+no_such_actor : alone (record { name = record { name = codes "f"; line = 1 }; parameters = []; body = Call 0 (Number 2) 0 [] (Return (Variable 0) (End 1)) } ∷ []) (zero_state ∷ zero_state ∷ []) (record { kind = Act; actor = record { 0 = 0 }; method = 0; args = []; uses = [] })
+    ≡ record { result = result.Fail 1004; world = zero_state ∷ zero_state ∷ [] }
+no_such_actor = refl
+
+-- a method that calls itself on its own actor: the call from depth 16 fails
+too_deep : alone (record { name = record { name = codes "f"; line = 1 }; parameters = []; body = Call 0 Own 0 [] (Return (Variable 0) (End 1)) } ∷ []) (zero_state ∷ []) (record { kind = Act; actor = record { 0 = 0 }; method = 0; args = []; uses = [] })
+    ≡ record { result = result.Fail 1007; world = zero_state ∷ [] }
+too_deep = refl
+
+-- a PACT that declared one call of each actor and calls actor 1 a second time
+undeclared_call : alone
+    (record { name = record { name = codes "twice"; line = 1 }; parameters = []; body = Call 0 (Number 1) 1 [] (Call 1 (Number 1) 1 [] (Return (Variable 1) (End 1))) }
+    ∷ record { name = record { name = codes "one"; line = 2 }; parameters = []; body = SetField 0 (Binary operator.Plus (Field 0) (Number 1)) (Return (Field 0) (End 2)) } ∷ [])
+    (zero_state ∷ zero_state ∷ [])
+    (record { kind = Pact; actor = record { 0 = 0 }; method = 0; args = []; uses = (record { 0 = 0 }, 1) ∷ (record { 0 = 1 }, 1) ∷ [] })
+    ≡ record { result = result.Fail 1001; world = zero_state ∷ zero_state ∷ [] }
+undeclared_call = refl
+
+-- with two calls declared it gives 2
+declared_calls : (alone
+    (record { name = record { name = codes "twice"; line = 1 }; parameters = []; body = Call 0 (Number 1) 1 [] (Call 1 (Number 1) 1 [] (Return (Variable 1) (End 1))) }
+    ∷ record { name = record { name = codes "one"; line = 2 }; parameters = []; body = SetField 0 (Binary operator.Plus (Field 0) (Number 1)) (Return (Field 0) (End 2)) } ∷ [])
+    (zero_state ∷ zero_state ∷ [])
+    (record { kind = Pact; actor = record { 0 = 0 }; method = 0; args = []; uses = (record { 0 = 0 }, 1) ∷ (record { 0 = 1 }, 2) ∷ [] })).result
+    ≡ result.Value (pos 2)
+declared_calls = refl
+
+-- `while 1 { f0 = f0; }`
+endless_loop : alone (record { name = record { name = codes "f"; line = 1 }; parameters = []; body = While (Number 1) (SetField 0 (Field 0) (End 1)) (Return (Number 0) (End 1)) } ∷ []) (zero_state ∷ []) (record { kind = Act; actor = record { 0 = 0 }; method = 0; args = []; uses = [] })
+    ≡ record { result = result.Fail 1008; world = zero_state ∷ [] }
+endless_loop = refl

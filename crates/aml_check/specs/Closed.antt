@@ -1,0 +1,65 @@
+-- What every checked program keeps.
+use Rattle.std.specs.Prelude.{◌≡◌, ℕ, ◌+◌, ◌<◌, ◌≤◌, ◌^◌, max, IsTrue, List, [], length, slice_index_or}
+use Rattle.std.specs.List.{AllByRecursion}
+use Rattle.aml_tree.specs.Tree.{Expr, Number, Variable, Field, Own, Group, Negative, Binary, Code, End, Let, Call, Set, SetField, If, IfElse, While, Fail, Return, CheckedMethod}
+use Rattle.aml_tree.specs.Limits.{lets}
+use Rattle.aml_check.specs.Names.{method_at, method_names, counted_from}
+use Rattle.aml_check.specs.Faults.{ends}
+
+-- each variable is one of the first n, each number is of signed 64 bits, and each field is an actor's
+abbrev pub IsClosedExpression : ℕ → Expr ℕ → Type 0
+IsClosedExpression n (Number z) = z < 2 ^ 63
+IsClosedExpression n (Variable place) = place < n
+IsClosedExpression n (Field k) = k < 16
+IsClosedExpression n Own = Unit {0}
+IsClosedExpression n (Group e) = IsClosedExpression n e
+IsClosedExpression n (Negative e) = IsClosedExpression n e
+IsClosedExpression n (Binary o a b) = IsClosedExpression n a × IsClosedExpression n b
+
+-- each call is of a method of the program with as many arguments as that has parameters
+abbrev pub IsClosedCall : List CheckedMethod → ℕ → ℕ → Type 0
+IsClosedCall p m arguments = (m < length p) × (arguments ≡ length (method_at p m).parameters)
+
+-- where n variables are visible; a new one has the next place
+abbrev pub IsClosedBlock : List CheckedMethod → ℕ → Code ℕ ℕ → Type 0
+IsClosedBlock p n (End line) = Unit {0}
+IsClosedBlock p n (Let v value rest) = (v ≡ n) × IsClosedExpression n value × IsClosedBlock p (n + 1) rest
+IsClosedBlock p n (Call v target m arguments rest) =
+    (v ≡ n) × IsClosedExpression n target × IsClosedCall p m (length arguments) × AllByRecursion (IsClosedExpression n) arguments × IsClosedBlock p (n + 1) rest
+IsClosedBlock p n (Set v value rest) = (v < n) × IsClosedExpression n value × IsClosedBlock p n rest
+IsClosedBlock p n (SetField k value rest) = (k < 16) × IsClosedExpression n value × IsClosedBlock p n rest
+IsClosedBlock p n (If condition first rest) = IsClosedExpression n condition × IsClosedBlock p n first × IsClosedBlock p n rest
+IsClosedBlock p n (IfElse condition first other rest) = IsClosedExpression n condition × IsClosedBlock p n first × IsClosedBlock p n other × IsClosedBlock p n rest
+IsClosedBlock p n (While condition body rest) = IsClosedExpression n condition × IsClosedBlock p n body × IsClosedBlock p n rest
+IsClosedBlock p n (Fail code rest) = ((1 ≤ code) × (code ≤ 999)) × IsClosedBlock p n rest
+IsClosedBlock p n (Return value rest) = IsClosedExpression n value × IsClosedBlock p n rest
+
+-- how many blocks are open at most, with this one
+abbrev pub nesting : Code ℕ ℕ → ℕ
+nesting (End line) = 1
+nesting (Let v value rest) = nesting rest
+nesting (Call v target m arguments rest) = nesting rest
+nesting (Set v value rest) = nesting rest
+nesting (SetField k value rest) = nesting rest
+nesting (If condition first rest) = max (1 + nesting first) (nesting rest)
+nesting (IfElse condition first other rest) = max (max (1 + nesting first) (1 + nesting other)) (nesting rest)
+nesting (While condition body rest) = max (1 + nesting body) (nesting rest)
+nesting (Fail code rest) = nesting rest
+nesting (Return value rest) = nesting rest
+
+pub record IsClosedMethod (p : List CheckedMethod) (m : CheckedMethod) : Type 0 where
+  pub places : m.parameters ≡ counted_from 0 m.parameters
+  pub parameters : length m.parameters ≤ 8
+  pub variables : length m.parameters + lets m.body ≤ 32
+  pub deep : nesting m.body ≤ 32
+  pub body : IsClosedBlock p (length m.parameters) m.body
+  pub ended : IsTrue (ends m.body)
+
+-- no two are the same
+abbrev pub AreDistinct : List (List ℕ) → Type 0
+AreDistinct names = (i j : ℕ) → i < length names → j < length names → (slice_index_or names i [] ≡ slice_index_or names j []) → i ≡ j
+
+pub record IsClosedProgram (p : List CheckedMethod) : Type 0 where
+  pub few : length p ≤ 64
+  pub distinct : AreDistinct (method_names p)
+  pub methods : AllByRecursion (IsClosedMethod p) p

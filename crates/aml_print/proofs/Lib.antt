@@ -1,0 +1,3 @@
+pub mod PrintingSteps
+pub mod PrintingTrees
+pub mod PrintingLines

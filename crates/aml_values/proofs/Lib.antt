@@ -1,0 +1,4 @@
+pub mod ChainValues
+pub mod BlockLaws
+pub mod Turns
+pub mod Declared

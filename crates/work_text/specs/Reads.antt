@@ -1,0 +1,153 @@
+-- What a work text stands for, or its first fault: the parts of a text in their order.
+use Rattle.std.specs.Prelude.{◌≡◌, ℕ, ◌+◌, ◌<◌, ◌≤◌, ◌⊎◌, ◌==◌, Bool, false, List, [], ◌∷◌, length, take, map, codes, Option, Some, None, Ok, Err}
+use Rattle.std.specs.List.{count_by}
+use Rattle.std.specs.Str.{IsUtf8, bytes_eq}
+use Rattle.snap_base.specs.declared.transactions.Tx.{Tx}
+use Rattle.aml_tree.specs.declared.faults.TextFault.{TextFault}
+use Rattle.aml_tree.specs.Tree.{TextMethod, CheckedMethod}
+use Rattle.aml_tree.specs.Programs.{IsProgramText}
+use Rattle.aml_tree.specs.Faults as text
+use Rattle.aml_check.specs.declared.faults.CheckFault.{CheckFault}
+use Rattle.aml_check.specs.Faults as check
+use Rattle.work_text.specs.declared.faults.Limit.TheVariants as limit
+use Rattle.work_text.specs.declared.faults.ProgramCause.{ProgramCause}
+use Rattle.work_text.specs.declared.faults.ProgramCause.TheVariants as program_cause
+use Rattle.work_text.specs.declared.faults.WorkCause.{WorkCause}
+use Rattle.work_text.specs.declared.faults.WorkCause.TheVariants as cause
+use Rattle.work_text.specs.Lines.{Line, lines, text_of, words, numbered, said, next, up_to_end}
+use Rattle.work_text.specs.Works.{Work}
+use Rattle.work_text.specs.Readings.{Reading, gives, fails, ◌>>=◌, only, whether}
+use Rattle.work_text.specs.Settings.{Setting, setting, coordinators, logs, batch, batches, acts, actors}
+use Rattle.work_text.specs.Actors.{Named, actor, states_in}
+use Rattle.work_text.specs.Transactions.{transaction}
+
+-- ---- lines one after the other; last, the number behind that of the text's last line
+
+-- a reading of the next line that says something, and the lines behind it; a text must not end before it
+abbrev pub by_next : {A : Type 0} → ℕ → Option (Line × List Line) → (Line → Reading A) → Reading (A × List Line)
+by_next last None reading = fails last cause.BadHeader
+by_next last (Some found) reading = reading found.0 >>= λ x. gives (x, found.1)
+
+abbrev pub line : {A : Type 0} → ℕ → List Line → (Line → Reading A) → Reading (A × List Line)
+line last ls reading = by_next last (next ls) reading
+
+-- a line that is just this, and its number
+abbrev pub exactly : List ℕ → Line → Reading ℕ
+exactly bytes l = only (bytes_eq l.bytes bytes) l.number cause.BadHeader (gives l.number)
+
+-- a number that a line sets, with the line's number
+abbrev pub set : Setting → Line → Reading (ℕ × ℕ)
+set s l = setting s l >>= λ n. gives (n, l.number)
+
+-- ---- the program
+
+-- What is wrong with the program's text, or with the names of the program that it spells; the line is
+-- that of the whole text, in which the program begins behind line `before`.
+abbrev pub ProgramFault : ℕ → List ℕ → ℕ → ProgramCause → Type 0
+ProgramFault before bytes line (program_cause.Text cause column) =
+    (f : TextFault) × text.IsFirstFault bytes f × (line ≡ before + f.line) × (cause ≡ f.cause) × (column ≡ f.column)
+ProgramFault before bytes line (program_cause.Check cause) =
+    (p : List TextMethod) × IsProgramText bytes p × (f : CheckFault) × check.IsFirstFault p f × (line ≡ before + f.line) × (cause ≡ f.cause)
+
+abbrev pub IsProgramFault : ℕ → List ℕ → ℕ → WorkCause → Type 0
+IsProgramFault before bytes line (cause.Program p) = ProgramFault before bytes line p
+IsProgramFault before bytes line cause.NotUtf8 = ⊥
+IsProgramFault before bytes line cause.BadHeader = ⊥
+IsProgramFault before bytes line cause.BadActor = ⊥
+IsProgramFault before bytes line cause.BadTx = ⊥
+IsProgramFault before bytes line (cause.Limit which found) = ⊥
+IsProgramFault before bytes line cause.RootNotDeclared = ⊥
+IsProgramFault before bytes line cause.Unbuilt = ⊥
+
+abbrev pub program_text : ℕ → List ℕ → Reading (List CheckedMethod)
+program_text before bytes (Ok c) = (p : List TextMethod) × IsProgramText bytes p × check.IsCheckedProgram p c
+program_text before bytes (Err f) = IsProgramFault before bytes f.line f.cause
+
+-- the lines up to `end`, and those behind it; the program is read when its end is reached
+abbrev pub program_lines : ℕ → ℕ → Option (List (List ℕ) × List Line) → Reading (List CheckedMethod × List Line)
+program_lines last before None = fails last cause.BadHeader
+program_lines last before (Some cut) = program_text before (text_of cut.0) >>= λ p. gives (p, cut.1)
+
+-- ---- the lines behind the number of actors
+
+-- the first word of a line is `actor`
+abbrev pub first_is_actor : List (List ℕ) → Bool
+first_is_actor [] = false
+first_is_actor (word ∷ more) = bytes_eq word (codes "actor")
+
+-- the transactions that lines ask for, with their lines' numbers, behind so many
+abbrev pub transactions : List CheckedMethod → ℕ → ℕ → List Line → Reading (List (Tx × ℕ))
+transactions p count before [] = gives []
+transactions p count before (l ∷ ls) =
+    transaction p count before l >>= λ tx. transactions p count (before + 1) ls >>= λ more. gives ((tx, l.number) ∷ more)
+
+-- the actors that lines name, and the transactions behind them; the actor named last, if any
+abbrev pub tail : List CheckedMethod → ℕ → Option ℕ → List Line → Reading (List Named × List (Tx × ℕ))
+tail p count before [] = gives ([], [])
+tail p count before (l ∷ ls) =
+    whether (first_is_actor (words l.bytes))
+    (actor count before l >>= λ n. tail p count (Some n.actor) ls >>= λ more. gives (n ∷ more.0, more.1))
+    (transactions p count 0 (l ∷ ls) >>= λ txs. gives ([], txs))
+
+-- ---- the text
+
+-- a work, with the lines of what may be more than is built
+pub record Laid : Type 0 where
+  pub work : Work
+  pub coordinators_line : ℕ
+  pub logs_line : ℕ
+  pub transaction_lines : List ℕ
+
+abbrev pub laid : ℕ × ℕ → ℕ × ℕ → ℕ → ℕ → ℕ → List CheckedMethod → ℕ → List Named → List (Tx × ℕ) → Laid
+laid coordinators logs batch batches acts p actors named txs = record {
+  work = record {
+    coordinators = coordinators.0;
+    logs = logs.0;
+    batch = batch;
+    batches = batches;
+    acts = acts;
+    program = p;
+    states = states_in named 0 actors;
+    txs = map (λ (t : Tx × ℕ). t.0) txs;
+  };
+  coordinators_line = coordinators.1;
+  logs_line = logs.1;
+  transaction_lines = map (λ (t : Tx × ℕ). t.1) txs;
+}
+
+-- the lines in their order
+abbrev pub reads_lines : ℕ → List Line → Reading Laid
+reads_lines last ls = do
+  header ← line last ls (exactly (codes "snapper 1"))
+  c ← line last header.1 (set coordinators)
+  l ← line last c.1 (set logs)
+  b ← line last l.1 (set batch)
+  s ← line last b.1 (set batches)
+  a ← line last s.1 (set acts)
+  begin ← line last a.1 (exactly (codes "program"))
+  p ← program_lines last begin.0 (up_to_end begin.1)
+  n ← line last p.1 (set actors)
+  t ← tail p.0 n.0.0 None (said n.1)
+  gives (laid c.0 l.0 b.0.0 s.0.0 a.0.0 p.0 n.0.0 t.0 t.1)
+
+-- the longest front of the text that is UTF-8 ends at a place before its end
+pub record EndsUtf8 (text : List ℕ) (at : ℕ) : Type 0 where
+  pub within : at < length text
+  pub front : IsUtf8 (take at text)
+  pub longest : (n : ℕ) → at < n → n ≤ length text → ¬ IsUtf8 (take n text)
+
+-- a text that is not UTF-8 has its fault in the line where its longest front ends that is
+abbrev pub not_utf8 : List ℕ → Reading Laid
+not_utf8 text (Ok x) = ⊥
+not_utf8 text (Err f) = (at : ℕ) × EndsUtf8 text at × (f ≡ record { line = 1 + count_by (λ b. b == 10) (take at text); cause = cause.NotUtf8 })
+
+-- What the text is read as: its size is asked first, then UTF-8, then line by line.
+abbrev pub Reads : List ℕ → Reading Laid
+Reads text read =
+    ((8388608 < length text) × (read ≡ Err (record { line = 0; cause = cause.Limit limit.Input 8388609 })))
+    ⊎ ((length text ≤ 8388608) × not_utf8 text read)
+    ⊎ ((length text ≤ 8388608) × IsUtf8 text × reads_lines (1 + length (lines text)) (numbered 1 (lines text)) read)
+
+-- the text stands for the work
+abbrev pub IsWork : List ℕ → Work → Type 0
+IsWork text w = (t : Laid) × Reads text (Ok t) × (w ≡ t.work)

@@ -1,0 +1,123 @@
+//! The lines of a text in their order.
+
+ghost use Rattle.std.specs.Prelude.{◌≡◌, ◌≤◌, ℕ};
+ghost use Rattle.aml_check.specs.Checked.{methods_of};
+ghost use Rattle.work_text.specs.Lines.{said};
+ghost use Rattle.work_text.specs.Readings.{Is};
+ghost use Rattle.work_text.specs.Reads as reads;
+ghost use Rattle.work_text.specs.Endings as endings;
+ghost use Rattle.work_text.specs.Works.{work_of};
+ghost use Rattle.work_text.specs.Cursors.{ahead, end_of, IsShort};
+
+use crate::lines::next_said;
+use crate::program::program;
+use crate::settings::{exactly, set};
+use crate::states::states;
+use crate::texts::Cursor;
+use crate::transactions::transaction;
+use crate::{Limit, Work, WorkNo};
+use aml_check::Checked;
+use snap_base::{Sequence, State, Tx};
+use std::alloc::Global;
+
+// The transactions that lines ask for, and the numbers of these lines.
+fn asked(
+    alloc: Global,
+    program: &Checked,
+    actors: u16,
+    cursor: Cursor<'_>,
+) -> Result<(Sequence<Tx>, Sequence<u32>), WorkNo>
+    requires { IsShort cursor }
+    ensures { Is (λ x. (x.0, x.1)) result (endings.asked (methods_of program.now) actors (said (ahead cursor.entry))) }
+{
+    let mut txs = Vec::new(alloc);
+    let mut lines = Vec::new(alloc);
+    let mut at = cursor;
+    while let Ok((line, behind)) = next_said(at) {
+        let tx = transaction(alloc, program, actors, txs.len(), line)?;
+        txs.push(tx)?;
+        lines.push(line.number)?;
+        at = behind;
+    }
+    Ok((Sequence::from_vec(txs), Sequence::from_vec(lines)))
+}
+
+// The states, the transactions, and the numbers of the lines that ask for these.
+fn tail(
+    alloc: Global,
+    program: &Checked,
+    actors: u64,
+    cursor: Cursor<'_>,
+) -> Result<(Sequence<State>, Sequence<Tx>, Sequence<u32>), WorkNo>
+    requires short { IsShort cursor }
+    requires few { actors ≤ 256 }
+    ensures { Is (λ x. (x.0, x.1, x.2)) result (endings.ending (methods_of program.now) actors (said (ahead cursor.entry))) }
+{
+    let count = actors as u16;
+    let (states, behind) = states(alloc, count, cursor)?;
+    let (txs, lines) = asked(alloc, program, count, behind)?;
+    Ok((Sequence::from_vec(states), txs, lines))
+}
+
+/// A work, with the lines of what may be more than is built.
+#[derive(Drop)]
+pub(crate) struct Laid {
+    pub(crate) work: Work,
+    pub(crate) coordinators: u32,
+    pub(crate) logs: u32,
+    pub(crate) transactions: Sequence<u32>,
+}
+
+// A work of its parts.
+fn put_together(
+    setup: (u64, u64),
+    live: (u64, u64, u64),
+    program: Checked,
+    states: Sequence<State>,
+    txs: Sequence<Tx>,
+) -> Work
+    requires setup { (setup.0 ≤ 8) × (setup.1 ≤ 4) }
+    requires live { (live.0 ≤ 256) × (live.1 ≤ 32) × (live.2 ≤ 32) }
+    ensures { work_of result ≡ record { coordinators = setup.0; logs = setup.1; batch = live.0; batches = live.1; acts = live.2; program = methods_of program; states = states; txs = txs } }
+{
+    Work {
+        coordinators: setup.0 as u8,
+        logs: setup.1 as u8,
+        batch: live.0 as u16,
+        batches: live.1 as u8,
+        acts: live.2 as u8,
+        program,
+        states,
+        txs,
+    }
+}
+
+/// The work that lines stand for.
+pub(crate) fn read_lines(alloc: Global, cursor: Cursor<'_>) -> Result<Laid, WorkNo>
+    requires { IsShort cursor }
+    ensures { Is (λ x. record { work = work_of x.work; coordinators_line = x.coordinators; logs_line = x.logs; transaction_lines = x.transactions }) result (reads.reads_lines (end_of cursor.entry) (ahead cursor.entry)) }
+{
+    let header = exactly(cursor, b"snapper 1")?;
+    let coordinators = set(header.1, b"coordinators ", 8, Limit::Coordinators)?;
+    let logs = set(coordinators.1, b"logs ", 4, Limit::Logs)?;
+    let batch = set(logs.1, b"batch ", 256, Limit::Batch)?;
+    let batches = set(batch.1, b"batches ", 32, Limit::Batches)?;
+    let acts = set(batches.1, b"acts ", 32, Limit::Acts)?;
+    let begin = exactly(acts.1, b"program")?;
+    let (program, behind) = program(alloc, begin.0, begin.1)?;
+    let actors = set(behind, b"actors ", 256, Limit::Actors)?;
+    let (states, txs, lines) = tail(alloc, &program, actors.0.0, actors.1)?;
+    let work = put_together(
+        (coordinators.0.0, logs.0.0),
+        (batch.0.0, batches.0.0, acts.0.0),
+        program,
+        states,
+        txs,
+    );
+    Ok(Laid {
+        work,
+        coordinators: coordinators.0.1,
+        logs: logs.0.1,
+        transactions: lines,
+    })
+}
