@@ -1,0 +1,13 @@
+pub mod Rising
+pub mod MovedRuns
+pub mod Leaving
+pub mod Behinds
+pub mod Variants
+pub mod Keeping
+pub mod Asking
+pub mod Insides
+pub mod Fuel
+pub mod Loops
+pub mod Goings
+pub mod Runnables
+pub mod Sequels

@@ -1,0 +1,4 @@
+pub mod Places
+pub mod Resuming
+pub mod Rooms
+pub mod Runs

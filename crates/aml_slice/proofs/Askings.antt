@@ -1,0 +1,113 @@
+-- What stands on an actor, and what is left of it, element by element.
+use Rattle.std.proofs.Common.{◌≡◌, ◌≢◌, ℕ, zero, suc, ◌+◌, ◌<◌, ◌≤◌, ◌⊎◌, inl, inr, ◌==◌, ◌||◌, Bool, true, false, List, [], ◌∷◌, ◌++◌, length, map, reverse, get_or, drop, refl, sym, ap, ◌∙◌, subst, arith}
+use Rattle.std.specs.List.{list_any, Contains}
+use Rattle.std.proofs.lemmas.Bool.Decides.{nat_tests}
+use Rattle.std.proofs.lemmas.Bool.{eq-eqb}
+use Rattle.std.proofs.lemmas.List.{drop_more, drop_all, map-append, reverse-append}
+use Rattle.snap_base.specs.declared.ids.ActorId.{ActorId}
+use Rattle.aml_slice.specs.declared.frames.Frame as code
+use Rattle.aml_slice.specs.Controls.{Frame, IsLeft, StandsOn}
+use Rattle.aml_slice.specs.Views.{frame_of}
+use Rattle.aml_slice.specs.Waits.{WaitsOn}
+use Rattle.aml_slice.proofs.FrameLists.{last_first}
+
+-- none among those behind a place, if none is there and none behind the next
+pub left_behind : (us : List (ActorId × ℕ)) (i : ℕ) (u : ActorId × ℕ) (a : ℕ) → i < length us → u ≡ get_or us i u → IsLeft (drop i us) a → (((u.0.0 ≡ a) × (1 ≤ u.1)) ⊎ IsLeft (drop (i + 1) us) a)
+left_behind us i u a within is h =
+    let P : List (ActorId × ℕ) → Type 0 = λ vs. IsLeft vs a in
+    subst P (drop_more us i u within ∙ ap (λ v. v ∷ drop (i + 1) us) (sym is)) h
+
+left_from : (us : List (ActorId × ℕ)) (i a : ℕ) → IsLeft (drop i us) a → IsLeft us a
+left_from us zero a h = h
+left_from [] (suc i) a h = h
+left_from (u ∷ us) (suc i) a h = inr (left_from us i a h)
+
+pub left_here : (us : List (ActorId × ℕ)) (i : ℕ) (u : ActorId × ℕ) (a : ℕ) → i < length us → u ≡ get_or us i u → u.0.0 ≡ a → 1 ≤ u.1 → IsLeft us a
+left_here us i u a within is same some =
+    let P : List (ActorId × ℕ) → Type 0 = λ vs. IsLeft vs a in
+    left_from us i a (subst P (sym (drop_more us i u within ∙ ap (λ v. v ∷ drop (i + 1) us) (sym is))) (inl (same, some)))
+
+pub waits_behind : (fs : List code.Frame) (i : ℕ) (f : code.Frame) (a : ℕ) → i < length fs → f ≡ get_or fs i f → WaitsOn (drop i fs) a → ((f.actor ≡ a) ⊎ WaitsOn (drop (i + 1) fs) a)
+waits_behind fs i f a within is h =
+    let P : List code.Frame → Type 0 = λ gs. WaitsOn gs a in
+    subst P (drop_more fs i f within ∙ ap (λ g. g ∷ drop (i + 1) fs) (sym is)) h
+
+waits_from : (fs : List code.Frame) (i a : ℕ) → WaitsOn (drop i fs) a → WaitsOn fs a
+waits_from fs zero a h = h
+waits_from [] (suc i) a h = h
+waits_from (f ∷ fs) (suc i) a h = inr (waits_from fs i a h)
+
+pub waits_here : (fs : List code.Frame) (i : ℕ) (f : code.Frame) (a : ℕ) → i < length fs → f ≡ get_or fs i f → f.actor ≡ a → WaitsOn fs a
+waits_here fs i f a within is same =
+    let P : List code.Frame → Type 0 = λ gs. WaitsOn gs a in
+    waits_from fs i a (subst P (sym (drop_more fs i f within ∙ ap (λ g. g ∷ drop (i + 1) fs) (sym is))) (inl same))
+
+-- ---- the other way round
+
+waits_map : (fs : List code.Frame) (a : ℕ) → WaitsOn fs a → StandsOn (map frame_of fs) a
+waits_map [] a h = h
+waits_map (f ∷ fs) a (inl here) = inl here
+waits_map (f ∷ fs) a (inr more) = inr (waits_map fs a more)
+
+map_waits : (fs : List code.Frame) (a : ℕ) → StandsOn (map frame_of fs) a → WaitsOn fs a
+map_waits [] a h = h
+map_waits (f ∷ fs) a (inl here) = inl here
+map_waits (f ∷ fs) a (inr more) = inr (map_waits fs a more)
+
+stands_front : (fs gs : List Frame) (a : ℕ) → StandsOn fs a → StandsOn (fs ++ gs) a
+stands_front [] gs a h = absurd h
+stands_front (f ∷ fs) gs a (inl here) = inl here
+stands_front (f ∷ fs) gs a (inr more) = inr (stands_front fs gs a more)
+
+stands_back : (fs gs : List Frame) (a : ℕ) → StandsOn gs a → StandsOn (fs ++ gs) a
+stands_back [] gs a h = h
+stands_back (f ∷ fs) gs a h = inr (stands_back fs gs a h)
+
+stands_either : (fs gs : List Frame) (a : ℕ) → StandsOn (fs ++ gs) a → StandsOn fs a ⊎ StandsOn gs a
+stands_either [] gs a h = inr h
+stands_either (f ∷ fs) gs a (inl here) = inl (inl here)
+stands_either (f ∷ fs) gs a (inr more) = elim (stands_either fs gs a more) [ inl x ↦ inl (inr x) | inr y ↦ inr y ]
+
+turned : (fs : List Frame) (a : ℕ) → StandsOn fs a → StandsOn (reverse fs) a
+turned [] a h = absurd h
+turned (f ∷ fs) a h =
+    let P : List Frame → Type 0 = λ gs. StandsOn gs a in
+    subst P (sym (reverse-append (f ∷ []) fs)) (elim h [ inl here ↦ stands_back (reverse fs) (f ∷ []) a (inl here) | inr more ↦ stands_front (reverse fs) (f ∷ []) a (turned fs a more) ])
+
+turned_back : (fs : List Frame) (a : ℕ) → StandsOn (reverse fs) a → StandsOn fs a
+turned_back [] a h = h
+turned_back (f ∷ fs) a h =
+    let P : List Frame → Type 0 = λ gs. StandsOn gs a in
+    elim (stands_either (reverse fs) (f ∷ []) a (subst P (reverse-append (f ∷ []) fs) h)) [ inl front ↦ inr (turned_back fs a front) | inr (inl here) ↦ inl here | inr (inr none) ↦ absurd none ]
+
+pub waits_stand : (fs : List code.Frame) (a : ℕ) → WaitsOn fs a → StandsOn (reverse (map frame_of fs)) a
+waits_stand fs a h = turned (map frame_of fs) a (waits_map fs a h)
+
+pub stand_waits : (fs : List code.Frame) (a : ℕ) → StandsOn (reverse (map frame_of fs)) a → WaitsOn fs a
+stand_waits fs a h = map_waits fs a (turned_back (map frame_of fs) a h)
+
+-- ---- actors that were called
+
+any_by : (a b : ℕ) (bs : List ℕ) (t : Bool) → (b == a) ≡ t → ((let o : Bool = t || list_any (λ c. c == a) bs in o ≡ true) → (b ≡ a) ⊎ (list_any (λ c. c == a) bs ≡ true))
+any_by a b bs true e h = let same : b ≡ a = grind (arith, nat_tests) in inl same
+any_by a b bs false e h = inr h
+
+pub any_contains : (a : ℕ) (bs : List ℕ) → list_any (λ c. c == a) bs ≡ true → Contains bs a
+any_contains a [] h = absurd cc
+any_contains a (b ∷ bs) h =
+    elim (any_by a b bs (b == a) refl h) [
+      | inl same ↦ (0, omega arith, same)
+      | inr more ↦ (let k = any_contains a bs more in (k.0 + 1, omega (arith, k.1), (let e : k.0 + 1 ≡ suc k.0 = omega arith in rw e k.2)))
+    ]
+
+or_true : (b : Bool) → (b || true) ≡ true
+or_true true = refl
+or_true false = refl
+
+any_at : (a : ℕ) (bs : List ℕ) (k : ℕ) → k < length bs → get_or bs k a ≡ a → list_any (λ c. c == a) bs ≡ true
+any_at a [] k within is = absurd (omega arith)
+any_at a (b ∷ bs) zero within is = ap (λ (t : Bool). t || list_any (λ c. c == a) bs) (eq-eqb b a is)
+any_at a (b ∷ bs) (suc k) within is = ap (λ (t : Bool). (b == a) || t) (any_at a bs k (omega arith) is) ∙ or_true (b == a)
+
+pub contains_any : (a : ℕ) (bs : List ℕ) → Contains bs a → list_any (λ c. c == a) bs ≡ true
+contains_any a bs h = any_at a bs h.0 h.1 h.2

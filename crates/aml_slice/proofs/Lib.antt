@@ -1,0 +1,14 @@
+pub mod Binding
+pub mod RisingRests
+pub mod NearLaws
+pub mod FrameLists
+pub mod Askings
+pub mod Admissions
+pub mod Worlds
+pub mod MoveLaws
+pub mod Following
+pub mod Reaching
+pub mod KeptRests
+pub mod Roots
+pub mod Beginnings
+pub mod SlicesAddUp

@@ -1,0 +1,32 @@
+use Rattle.std.proofs.Common.{◌≡◌, ◌+◌, ◌≤◌, ◌<◌, ℕ, List, [], ◌∷◌, ◌++◌, length, map, reverse, vec_len, vec_capacity, sym, ap, ◌∙◌, subst, arith, length-append}
+use Rattle.std.specs.List.{AllByRecursion}
+use Rattle.aml_resume.specs.declared.activations.Activation.{Activation}
+use Rattle.aml_resume.specs.Rooms.{HasRoom}
+use Rattle.aml_slice.specs.declared.frames.Frame as code
+use Rattle.aml_slice.specs.Controls.{Frame}
+use Rattle.aml_slice.specs.Frames.{HasPlace}
+use Rattle.aml_slice.specs.Views.{frame_of}
+use Rattle.aml_slice.proofs.FrameLists.{last_first, all_front, all_last, all_push}
+use Rattle.aml_slice.proofs.running.Running.give.Goals as goal
+
+pub push_reserved-requires-2 : goal.push_reserved-requires-2
+push_reserved-requires-2 c =
+    let places : HasPlace (frame_of c.in_ok-frame.frame ∷ reverse (map frame_of c.pop.new.self.items)) = subst HasPlace (ap (λ fs. reverse (map frame_of fs)) c.in_ok-frame.ensures.items ∙ last_first frame_of c.pop.new.self.items c.in_ok-frame.frame) c.requires.places in
+    let Q : List code.Frame → Type 0 = AllByRecursion (λ (f : code.Frame). HasRoom f.activation) in
+    let room = all_last (λ (f : code.Frame). HasRoom f.activation) c.pop.new.self.items c.in_ok-frame.frame (subst Q c.in_ok-frame.ensures.items c.requires.rooms.waiting) in
+    rw c.replace-ended.ensures.after (omega (arith, places.0, room.0))
+
+pub returns-clause-rooms : goal.returns-clause-rooms
+returns-clause-rooms c =
+    let Q : List code.Frame → Type 0 = AllByRecursion (λ (f : code.Frame). HasRoom f.activation) in
+    let all = subst Q c.in_ok-frame.ensures.items c.requires.rooms.waiting in
+    let room = all_last (λ (f : code.Frame). HasRoom f.activation) c.pop.new.self.items c.in_ok-frame.frame all in
+    record {
+      top = rw (c.push_reserved-2.ensures.capacity, c.replace-ended.ensures.after) room;
+      waiting = all_front (λ (f : code.Frame). HasRoom f.activation) c.pop.new.self.items c.in_ok-frame.frame all;
+      spare = rw (c.push_reserved.ensures.items, c.replace-ended.ensures.value) (all_push HasRoom c.args.self.now.spare.items c.args.self.now.top.activation c.requires.rooms.spare c.requires.rooms.top);
+      frames = omega (arith, c.requires.rooms.frames, ap length c.in_ok-frame.ensures.items, ap length c.push_reserved.ensures.items, length-append c.pop.new.self.items (c.in_ok-frame.frame ∷ []), length-append c.args.self.now.spare.items (c.replace-ended.result.activation ∷ []));
+      frames_fit = (omega (arith, c.requires.rooms.frames_fit.0, c.in_ok-frame.ensures.capacity), omega (arith, c.requires.rooms.frames_fit.1, c.push_reserved.ensures.capacity));
+      arguments = c.requires.rooms.arguments;
+      actors = c.requires.rooms.actors;
+    }

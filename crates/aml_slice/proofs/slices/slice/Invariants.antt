@@ -1,0 +1,16 @@
+use Rattle.std.proofs.Common.{◌≡◌}
+use Rattle.aml_check.specs.Checked.{methods_of}
+use Rattle.aml_slice.specs.Controls.{moves_left}
+use Rattle.aml_slice.specs.Moving.{Reaches}
+use Rattle.aml_slice.specs.Views.{rest_of, HasRooms}
+use Rattle.aml_slice.proofs.slices.slice.Given as goal
+
+abbrev pub invariant-loop-result : goal.invariant-loop-result
+invariant-loop-result l = record {
+  reaches : Reaches (methods_of l.program) l.actors l.fn.control l.initial.state l.state (rest_of l.running);
+  rooms : HasRooms l.running;
+  own : l.own ≡ l.fn.control.top.actor;
+}
+
+abbrev pub decreases-loop-result : goal.decreases-loop-result
+decreases-loop-result l = moves_left (rest_of l.running)

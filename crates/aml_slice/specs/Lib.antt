@@ -1,0 +1,10 @@
+pub mod Controls
+pub mod Nearby
+pub mod Slices
+pub mod Frames
+pub mod Moving
+pub mod Sequences
+pub mod Starts
+pub mod Nexts
+pub mod Waits
+pub mod Views
