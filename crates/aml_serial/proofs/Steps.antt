@@ -1,11 +1,9 @@
 -- What statements with blocks and calls mean, from what their parts gave.
-use Rattle.std.proofs.Common.{◌≡◌, ◌≢◌, ℕ, zero, suc, ◌+◌, ◌-◌, ◌≤◌, ◌<◌, ℤ, nat_lt, Bool, true, false, if◌then◌else◌, Result, Ok, Err, List, [], ◌∷◌, length, refl, sym, ap, ◌∙◌, arith}
-use Rattle.std.proofs.lemmas.Bool.Decides.{nat_tests}
-use Rattle.std.proofs.lemmas.List.{take_all}
+use Rattle.std.proofs.Common.{◌≡◌, ◌≢◌, ℕ, zero, suc, ◌+◌, ◌-◌, ◌≤◌, ◌<◌, ℤ, true, if◌then◌else◌, Result, Ok, Err, List, [], ◌∷◌, length, refl, ap, ◌∙◌, arith}
 use Rattle.snap_base.specs.declared.transactions.State.{State}
 use Rattle.aml_tree.specs.Tree.{Expr, Code, While, Onto, CheckedMethod}
 use Rattle.aml_check.specs.Names.{method_at}
-use Rattle.aml_check.specs.Meaning.{◌>>=◌, Progress, Exit, Goes, Gives, Caller, statements, begun, state_at, value_of, values_of, holds, block, behind, turns, called, given, actor_of, admitted}
+use Rattle.aml_check.specs.Meaning.{◌>>=◌, Progress, Exit, Gives, Caller, begun, state_at, value_of, values_of, holds, block, behind, turns, called, given, actor_of, admitted}
 use Rattle.aml_serial.specs.declared.stops.Stop.{Stop}
 use Rattle.aml_serial.specs.declared.stops.Stop.TheVariants as stop
 use Rattle.aml_serial.specs.declared.blocks.Exit.TheVariants as exit

@@ -1,10 +1,10 @@
 -- What a call that is admitted takes of a transaction's limits.
-use Rattle.std.proofs.Common.{◌≡◌, ◌≢◌, ℕ, zero, suc, ◌+◌, ◌-◌, ◌<◌, ◌≤◌, ◌⊎◌, inl, inr, nat_lt, ◌==◌, ◌||◌, Bool, true, false, if◌then◌else◌, Result, Ok, Err, Option, Some, None, List, [], ◌∷◌, ◌++◌, length, get_or, refl, sym, ap, ◌∙◌, subst, arith, length-append}
+use Rattle.std.proofs.Common.{◌≡◌, ℕ, zero, suc, ◌+◌, ◌<◌, ◌≤◌, inl, inr, nat_lt, ◌==◌, Bool, true, false, if◌then◌else◌, Result, Ok, Err, Option, Some, None, List, [], ◌∷◌, ◌++◌, length, refl, sym, ap, ◌∙◌, subst, arith, length-append}
 use Rattle.std.specs.List.{list_any, Contains}
 use Rattle.std.proofs.lemmas.Bool.Decides.{nat_tests}
 use Rattle.std.proofs.lemmas.List.Elements.{Contains-push, Contains-append_left}
 use Rattle.snap_base.specs.declared.ids.ActorId.{ActorId}
-use Rattle.aml_check.specs.Meaning.{◌>>=◌, Progress, calls, actors, undeclared, one_call, with_actor, declared, by_declaration, with_left, used, before, one_less, admitted}
+use Rattle.aml_check.specs.Meaning.{◌>>=◌, Progress, calls, actors, one_call, with_actor, declared, by_declaration, with_left, used, before, one_less, admitted}
 use Rattle.aml_slice.specs.Controls.{IsLeft, HasLeft}
 use Rattle.aml_slice.proofs.Askings.{any_contains}
 

@@ -1,15 +1,14 @@
 -- What stands on an actor, and what is left of it, element by element.
-use Rattle.std.proofs.Common.{◌≡◌, ◌≢◌, ℕ, zero, suc, ◌+◌, ◌<◌, ◌≤◌, ◌⊎◌, inl, inr, ◌==◌, ◌||◌, Bool, true, false, List, [], ◌∷◌, ◌++◌, length, map, reverse, get_or, drop, refl, sym, ap, ◌∙◌, subst, arith}
+use Rattle.std.proofs.Common.{◌≡◌, ℕ, zero, suc, ◌+◌, ◌<◌, ◌≤◌, ◌⊎◌, inl, inr, ◌==◌, ◌||◌, Bool, true, false, List, [], ◌∷◌, ◌++◌, length, map, reverse, get_or, drop, refl, sym, ap, ◌∙◌, subst, arith}
 use Rattle.std.specs.List.{list_any, Contains}
 use Rattle.std.proofs.lemmas.Bool.Decides.{nat_tests}
 use Rattle.std.proofs.lemmas.Bool.{eq-eqb}
-use Rattle.std.proofs.lemmas.List.{drop_more, drop_all, map-append, reverse-append}
+use Rattle.std.proofs.lemmas.List.{drop_more, reverse-append}
 use Rattle.snap_base.specs.declared.ids.ActorId.{ActorId}
 use Rattle.aml_slice.specs.declared.frames.Frame as code
 use Rattle.aml_slice.specs.Controls.{Frame, IsLeft, StandsOn}
 use Rattle.aml_slice.specs.Views.{frame_of}
 use Rattle.aml_slice.specs.Waits.{WaitsOn}
-use Rattle.aml_slice.proofs.FrameLists.{last_first}
 
 -- none among those behind a place, if none is there and none behind the next
 pub left_behind : (us : List (ActorId × ℕ)) (i : ℕ) (u : ActorId × ℕ) (a : ℕ) → i < length us → u ≡ get_or us i u → IsLeft (drop i us) a → (((u.0.0 ≡ a) × (1 ≤ u.1)) ⊎ IsLeft (drop (i + 1) us) a)

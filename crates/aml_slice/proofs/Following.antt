@@ -1,18 +1,15 @@
 -- What a control keeps in one move.
-use Rattle.std.proofs.Common.{◌≡◌, ◌≢◌, ℕ, zero, suc, ◌+◌, ◌-◌, ◌*◌, ◌<◌, ◌≤◌, ◌⊎◌, inl, inr, ℤ, Result, Ok, Err, Option, Some, None, List, [], ◌∷◌, ◌++◌, length, get_or, refl, sym, ap, ◌∙◌, subst, arith, length-append}
+use Rattle.std.proofs.Common.{◌≡◌, ℕ, zero, suc, ◌+◌, ◌<◌, ◌≤◌, inl, inr, ℤ, Ok, Option, List, [], ◌∷◌, length, get_or, sym, ap, ◌∙◌, subst, arith, length-append}
 use Rattle.std.specs.List.{AllByRecursion, Contains}
 use Rattle.snap_base.specs.declared.ids.ActorId.{ActorId}
 use Rattle.snap_base.specs.declared.transactions.State.{State}
 use Rattle.aml_tree.specs.Tree.{Code, CheckedMethod}
-use Rattle.aml_tree.specs.Limits.{lets}
 use Rattle.aml_check.specs.Names.{method_at, no_method}
-use Rattle.aml_check.specs.Closed.{IsClosedBlock, IsClosedMethod, IsClosedProgram}
-use Rattle.aml_check.specs.Meaning.{Progress}
-use Rattle.aml_resume.specs.declared.exits.Exit.{Exit}
+use Rattle.aml_check.specs.Closed.{IsClosedMethod, IsClosedProgram}
 use Rattle.aml_resume.specs.declared.exits.Exit.TheVariants as exit
 use Rattle.aml_resume.specs.declared.places.Spot.{Spot}
 use Rattle.aml_resume.specs.Places.{IsPlace, IsRunnable, behind_some, inner_of}
-use Rattle.aml_slice.specs.Controls.{Frame, Rest, IsFrame, IsRest, StandsOn, HasLeft, RestsOn, progress_in, with_given, moves_left}
+use Rattle.aml_slice.specs.Controls.{Frame, Rest, IsFrame, IsRest, StandsOn, HasLeft, progress_in, with_given}
 use Rattle.aml_slice.specs.Frames.{fresh, NextFrame, HasPlace}
 use Rattle.aml_slice.specs.Moving.{Ran, Enters, Follows}
 use Rattle.aml_slice.proofs.Admissions.{Admits, admits}

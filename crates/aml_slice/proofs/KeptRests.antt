@@ -1,5 +1,5 @@
 -- A slice keeps what the rest of its transaction gives by the meaning.
-use Rattle.std.proofs.Common.{◌≡◌, ℕ, ◌-◌, ◌⊎◌, inl, inr, ℤ, Result, Ok, Err, List, [], ◌∷◌, length, set, refl, sym, ap, ◌∙◌}
+use Rattle.std.proofs.Common.{◌≡◌, ℕ, ◌-◌, inl, inr, ℤ, Result, List, [], length, set, sym, ap, ◌∙◌}
 use mathlib.Core.Path.{fun_ext}
 use Rattle.snap_base.specs.declared.transactions.State.{State}
 use Rattle.snap_base.specs.declared.transactions.TxResult.{TxResult}
@@ -9,9 +9,9 @@ use Rattle.aml_check.specs.Names.{method_at}
 use Rattle.aml_check.specs.Meaning.{◌>>=◌, Progress, block, called, given}
 use Rattle.aml_resume.specs.declared.places.Spot.{Spot}
 use Rattle.aml_resume.specs.Places.{resumed}
-use Rattle.aml_slice.specs.Controls.{Frame, Rest, progress_in, with_given, frame_gives, value_to, rest_gives}
-use Rattle.aml_slice.specs.Nearby.{Others, as_meant, value_near, gives_near, elsewhere}
-use Rattle.aml_slice.specs.Slices.{Holds, EndsWith, EndsRest, CallsAway, ReturnsAway, GoesAway, KeepsRest}
+use Rattle.aml_slice.specs.Controls.{Frame, Rest, progress_in, frame_gives, value_to}
+use Rattle.aml_slice.specs.Nearby.{as_meant, value_near, elsewhere}
+use Rattle.aml_slice.specs.Slices.{EndsWith, EndsRest, CallsAway, ReturnsAway, GoesAway, KeepsRest}
 use Rattle.aml_slice.proofs.RisingRests.{as_meant_rise}
 use Rattle.aml_slice.proofs.NearLaws.{value_meant, gives_meant}
 

@@ -1,5 +1,5 @@
 -- With the others as the meaning has them, what the own actor sees is the meaning.
-use Rattle.std.proofs.Common.{◌≡◌, ℕ, zero, suc, ◌-◌, ◌==◌, Bool, true, false, if◌then◌else◌, ℤ, Result, Ok, Err, List, [], ◌∷◌, length, refl, sym, ap, ◌∙◌}
+use Rattle.std.proofs.Common.{◌≡◌, ℕ, zero, suc, ◌==◌, Bool, true, false, if◌then◌else◌, ℤ, Result, List, [], ◌∷◌, length, refl, ap, ◌∙◌}
 use mathlib.Core.Path.{fun_ext}
 use Rattle.snap_base.specs.declared.transactions.State.{State}
 use Rattle.aml_tree.specs.Tree.{CheckedMethod}

@@ -1,14 +1,14 @@
 -- Moves on one actor, one after the other.
-use Rattle.std.proofs.Common.{◌≡◌, ◌≢◌, ℕ, ◌+◌, ◌-◌, ◌<◌, ◌≤◌, ◌⊎◌, inl, inr, ℤ, Result, Ok, Err, List, [], ◌∷◌, length, set, refl, sym, ap, ◌∙◌, subst, arith}
+use Rattle.std.proofs.Common.{◌≡◌, ◌≢◌, ℕ, ◌-◌, ◌<◌, inl, inr, List, length, set, refl, sym, ap, ◌∙◌, subst, arith}
 use Rattle.std.proofs.lemmas.List.{set-set}
 use Rattle.snap_base.specs.declared.ids.ActorId.{ActorId}
 use Rattle.snap_base.specs.declared.transactions.State.{State}
 use Rattle.snap_base.specs.declared.transactions.TxResult.{TxResult}
 use Rattle.snap_base.specs.declared.transactions.TxResult.TheVariants as result
 use Rattle.aml_tree.specs.Tree.{CheckedMethod}
-use Rattle.aml_check.specs.Meaning.{◌>>=◌, Progress}
-use Rattle.aml_slice.specs.Controls.{Frame, Rest, IsRest, progress_in}
-use Rattle.aml_slice.specs.Nearby.{Others, Rise, value_near, gives_near, elsewhere}
+use Rattle.aml_check.specs.Meaning.{◌>>=◌}
+use Rattle.aml_slice.specs.Controls.{Rest, IsRest, progress_in}
+use Rattle.aml_slice.specs.Nearby.{value_near, gives_near, elsewhere}
 use Rattle.aml_slice.specs.Slices.{Holds, EndsWith, CallsAway, ReturnsAway, GoesAway, HandsOn}
 use Rattle.aml_slice.specs.Moving.{Follows, GoesOn, Reaches}
 use Rattle.aml_slice.proofs.Worlds.{same_state, holds_set}

@@ -1,15 +1,14 @@
 -- The rests of transactions take no statements back.
 use Rattle.std.proofs.Common.{◌≡◌, ℕ, zero, suc, ◌-◌, ◌≤◌, ◌==◌, Bool, true, false, if◌then◌else◌, ℤ, Result, Ok, Err, List, [], ◌∷◌, length, arith}
-use Rattle.snap_base.specs.declared.transactions.State.{State}
 use Rattle.aml_tree.specs.Tree.{Code, CheckedMethod}
 use Rattle.aml_check.specs.Names.{method_at}
 use Rattle.aml_check.specs.Meaning.{◌>>=◌, Progress, Exit, Goes, Gives, Caller, block, given, called, actor_of, admitted, depth}
 use Rattle.aml_resume.specs.declared.places.Spot.{Spot}
 use Rattle.aml_resume.specs.Places.{keeping, resumed, behind_some, inner_of, after_inner}
-use Rattle.aml_resume.specs.Resuming.{Rises, gives}
-use Rattle.aml_resume.proofs.Rising.{AtLeast, Reaches, by_equation, of_equation, fewer, after_any, after_run, after_both, block_rises, given_rises, called_rises, admitted_reaches}
+use Rattle.aml_resume.specs.Resuming.{Rises}
+use Rattle.aml_resume.proofs.Rising.{AtLeast, by_equation, of_equation, fewer, after_any, after_run, after_both, block_rises, given_rises, called_rises, admitted_reaches}
 use Rattle.aml_slice.specs.Controls.{Frame, Callers, with_given, frame_gives, value_to}
-use Rattle.aml_slice.specs.Nearby.{Others, Rise, by_actor, near, as_meant}
+use Rattle.aml_slice.specs.Nearby.{Others, Rise, near, as_meant}
 
 keeping_rises : (n k : ℕ) (o : Result (Exit × Progress) ℕ) (next : List ℤ → Progress → Result (Exit × Progress) ℕ) → AtLeast n o → ((ws : List ℤ) (q : Progress) → n ≤ q.statements → AtLeast n (next ws q)) → AtLeast n (keeping k o next)
 keeping_rises n k (Ok (Goes inner, r)) next h on = on _ r h

@@ -1,5 +1,5 @@
 -- A transaction's root is always admitted, and what its control is then.
-use Rattle.std.proofs.Common.{◌≡◌, ◌≢◌, ℕ, zero, suc, ◌+◌, ◌-◌, ◌<◌, ◌≤◌, ◌⊎◌, inl, inr, nat_lt, ◌==◌, Bool, true, false, if◌then◌else◌, ℤ, pos, Result, Ok, Err, Option, Some, None, List, [], ◌∷◌, length, map, get_or, refl, sym, ap, ◌∙◌, subst, arith}
+use Rattle.std.proofs.Common.{◌≡◌, ◌≢◌, ℕ, zero, suc, ◌+◌, ◌<◌, ◌≤◌, ◌⊎◌, inl, inr, nat_lt, ◌==◌, Bool, true, false, if◌then◌else◌, ℤ, Result, Ok, Err, Option, Some, List, [], ◌∷◌, length, map, get_or, refl, sym, ap, ◌∙◌, subst, arith}
 use Rattle.std.specs.List.{AllByRecursion, Contains}
 use Rattle.std.proofs.lemmas.Bool.Decides.{nat_tests}
 use Rattle.snap_base.specs.declared.ids.ActorId.{ActorId}
@@ -12,8 +12,8 @@ use Rattle.aml_tree.specs.Tree.{CheckedMethod}
 use Rattle.aml_check.specs.Names.{method_at}
 use Rattle.aml_check.specs.Closed.{IsClosedProgram}
 use Rattle.aml_check.specs.Transactions.{IsUse, IsTransaction, Declares}
-use Rattle.aml_check.specs.Meaning.{◌>>=◌, Progress, actor_of, admitted, used, before, one_less, by_declaration, with_left, declaration, beginning, block, called, given, alone, ended}
-use Rattle.aml_slice.specs.Controls.{Frame, Rest, IsFrame, IsRest, StandsOn, IsLeft, HasLeft, RestsOn, progress_in, rest_gives, moves_left}
+use Rattle.aml_check.specs.Meaning.{◌>>=◌, Progress, admitted, used, before, one_less, by_declaration, with_left, declaration, beginning, block, called, given, alone, ended}
+use Rattle.aml_slice.specs.Controls.{Frame, Rest, IsFrame, StandsOn, IsLeft, HasLeft, RestsOn, progress_in, rest_gives}
 use Rattle.aml_slice.specs.Frames.{fresh}
 use Rattle.aml_slice.specs.Starts.{Begins}
 use Rattle.aml_slice.proofs.Admissions.{Admits, admits}

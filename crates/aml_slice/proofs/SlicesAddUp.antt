@@ -1,5 +1,5 @@
 -- Slices, one after the other, add up to the transaction alone.
-use Rattle.std.proofs.Common.{◌≡◌, ℕ, ◌<◌, ℤ, Result, Ok, Err, List, [], ◌∷◌, length, set, refl, sym, ap, ◌∙◌, arith}
+use Rattle.std.proofs.Common.{◌≡◌, ℕ, ◌<◌, ℤ, Result, Ok, Err, List, [], ◌∷◌, length, set, sym, ap, ◌∙◌, arith}
 use Rattle.std.proofs.lemmas.List.{length-set}
 use Rattle.snap_base.specs.declared.ids.Tid.{Tid}
 use Rattle.snap_base.specs.declared.transactions.State.{State}
@@ -7,7 +7,7 @@ use Rattle.snap_base.specs.declared.transactions.Tx.{Tx}
 use Rattle.snap_base.specs.declared.transactions.TxResult.{TxResult}
 use Rattle.snap_base.specs.declared.transactions.TxResult.TheVariants as result
 use Rattle.aml_tree.specs.Tree.{CheckedMethod}
-use Rattle.aml_check.specs.Meaning.{Progress, After, alone, ended, state_at}
+use Rattle.aml_check.specs.Meaning.{Progress, After, alone, ended}
 use Rattle.aml_slice.specs.Controls.{Rest, rest_gives}
 use Rattle.aml_slice.specs.Slices.{Holds}
 use Rattle.aml_slice.specs.Starts.{Begins}

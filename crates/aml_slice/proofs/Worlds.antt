@@ -1,5 +1,5 @@
 -- One actor's state in a world.
-use Rattle.std.proofs.Common.{◌≡◌, ℕ, ◌<◌, List, length, get_or, set, refl, sym, ap, ◌∙◌, arith}
+use Rattle.std.proofs.Common.{◌≡◌, ℕ, ◌<◌, List, length, set, refl, sym, ap, ◌∙◌, arith}
 use Rattle.std.proofs.lemmas.List.{get_or-set_same, set-get_or, length-set}
 use Rattle.snap_base.specs.declared.transactions.State.{State}
 use Rattle.aml_check.specs.Meaning.{state_at, zero_state}

@@ -1,14 +1,13 @@
 -- A control as the rest of a transaction: the calls that are open, and what of the transaction's limits
 -- is left; and what this rest gives on a world.
-use Rattle.std.specs.Prelude.{◌≡◌, ℕ, ◌+◌, ◌-◌, ◌*◌, ◌<◌, ◌≤◌, ◌⊎◌, ℤ, pos, Result, Ok, Err, Option, Some, None, List, [], ◌∷◌, length, map, Contains}
+use Rattle.std.specs.Prelude.{◌≡◌, ℕ, ◌+◌, ◌-◌, ◌*◌, ◌<◌, ◌≤◌, ◌⊎◌, ℤ, Result, Ok, Option, Some, None, List, [], ◌∷◌, length, Contains}
 use Rattle.std.specs.List.{AllByRecursion}
 use Rattle.snap_base.specs.declared.ids.ActorId.{ActorId}
 use Rattle.snap_base.specs.declared.ids.Tid.{Tid}
 use Rattle.snap_base.specs.declared.transactions.State.{State}
-use Rattle.snap_base.specs.declared.transactions.Tx.{Tx}
 use Rattle.aml_tree.specs.Tree.{CheckedMethod}
 use Rattle.aml_check.specs.Names.{method_at}
-use Rattle.aml_check.specs.Meaning.{◌>>=◌, Progress, Caller, called, beginning}
+use Rattle.aml_check.specs.Meaning.{◌>>=◌, Progress, Caller, called}
 use Rattle.aml_resume.specs.Places.{IsPlace}
 use Rattle.aml_resume.specs.Resuming.{Standing, with_value, gives}
 

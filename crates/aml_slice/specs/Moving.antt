@@ -1,14 +1,14 @@
 -- One move of a control on the actor where it stands: up to a call, a return, or the end.
-use Rattle.std.specs.Prelude.{◌≡◌, ◌≢◌, ℕ, ◌+◌, ◌-◌, ◌<◌, ◌≤◌, ◌⊎◌, ℤ, Result, Ok, Err, Option, Some, List, [], ◌∷◌, length, slice_set, Contains}
+use Rattle.std.specs.Prelude.{◌≡◌, ◌≢◌, ℕ, ◌+◌, ◌<◌, ◌≤◌, ◌⊎◌, ℤ, Result, Ok, Err, Some, List, ◌∷◌, length, slice_set, Contains}
 use Rattle.snap_base.specs.declared.ids.ActorId.{ActorId}
 use Rattle.snap_base.specs.declared.transactions.State.{State}
 use Rattle.snap_base.specs.declared.transactions.TxResult.{TxResult}
 use Rattle.aml_tree.specs.Tree.{CheckedMethod}
 use Rattle.aml_check.specs.Names.{method_at}
-use Rattle.aml_check.specs.Meaning.{Progress, actor_of, admitted, depth}
+use Rattle.aml_check.specs.Meaning.{actor_of, admitted, depth}
 use Rattle.aml_resume.specs.declared.exits.Exit.{Exit}
-use Rattle.aml_resume.specs.Resuming.{Standing, RunsTo, AsksWell}
-use Rattle.aml_slice.specs.Controls.{Frame, Rest, IsRest, RestsOn, progress_in, moves_left}
+use Rattle.aml_resume.specs.Resuming.{RunsTo, AsksWell}
+use Rattle.aml_slice.specs.Controls.{Rest, IsRest, RestsOn, progress_in, moves_left}
 use Rattle.aml_slice.specs.Frames.{fresh}
 use Rattle.aml_slice.specs.Nearby.{Others, Rise, gives_near, elsewhere}
 use Rattle.aml_slice.specs.Slices.{Holds, EndsWith, GoesAway}

@@ -1,7 +1,7 @@
 -- The rest of a transaction as seen from the actor on which it stands, whatever other actors make of it:
 -- the meaning in which calls of other actors, and values that are returned to them, are left open. It
 -- pins the first moment at which a transaction calls or returns to another actor.
-use Rattle.std.specs.Prelude.{◌≡◌, ℕ, zero, suc, ◌+◌, ◌-◌, ◌≤◌, ◌==◌, if◌then◌else◌, ℤ, Result, Ok, Err, List, [], ◌∷◌, length}
+use Rattle.std.specs.Prelude.{◌≡◌, ℕ, zero, suc, ◌≤◌, ◌==◌, if◌then◌else◌, ℤ, Result, Ok, Err, List, [], ◌∷◌, length}
 use Rattle.snap_base.specs.declared.transactions.State.{State}
 use Rattle.aml_tree.specs.Tree.{CheckedMethod}
 use Rattle.aml_check.specs.Names.{method_at}

@@ -1,10 +1,8 @@
 -- What the values of the code are as frames and rests, and the room that running them needs.
-use Rattle.std.specs.Prelude.{◌≡◌, ℕ, ◌+◌, ◌≤◌, Bool, true, false, Result, Ok, Err, Option, Some, None, List, length, map, reverse, option_map, vec_capacity}
+use Rattle.std.specs.Prelude.{◌≡◌, ℕ, ◌+◌, ◌≤◌, Result, Ok, Err, List, length, map, reverse, option_map, vec_capacity}
 use Rattle.std.specs.List.{AllByRecursion}
-use Rattle.snap_base.specs.declared.ids.ActorId.{ActorId}
 use Rattle.snap_base.specs.declared.transactions.State.{State}
 use Rattle.aml_check.specs.Meaning.{Progress}
-use Rattle.aml_resume.specs.declared.activations.Activation.{Activation}
 use Rattle.aml_resume.specs.Rooms.{standing_of, HasRoom}
 use Rattle.aml_slice.specs.declared.allowances.Allowance.{Allowance}
 use Rattle.aml_slice.specs.declared.frames.Frame as code

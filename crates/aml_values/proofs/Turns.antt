@@ -4,7 +4,7 @@ use Rattle.std.proofs.Common.{◌≡◌, ℕ, zero, suc, ◌+◌, ◌-◌, ◌�
 use Rattle.std.proofs.lemmas.Bool.Decides.{nat_tests}
 use Rattle.std.proofs.lemmas.List.{take_all}
 use Rattle.aml_tree.specs.Tree.{Expr}
-use Rattle.aml_check.specs.Meaning.{◌>>=◌, Progress, Exit, Goes, Gives, statements, begun, state_at, value_of, holds, behind, turns}
+use Rattle.aml_check.specs.Meaning.{◌>>=◌, Progress, Exit, Goes, statements, begun, state_at, value_of, holds, behind, turns}
 use Rattle.aml_values.specs.Statements.{counted}
 
 abbrev pub Next : Type 0

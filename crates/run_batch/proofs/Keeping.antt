@@ -1,9 +1,8 @@
 -- What a transaction under way keeps: an induction on the meaning, stated once. What each count, each write and
 -- each admitted call keep, a whole call keeps.
-use Rattle.std.proofs.Common.{◌≡◌, ℕ, zero, suc, ◌+◌, ◌-◌, ◌<◌, List, [], ◌∷◌, ◌++◌, length, take, slice_set, slice_index_or, get_or, refl, sym, ℤ, pos, negsuc, Result, Ok, Err, Bool, true, false, cond, nat_lt, arith}
+use Rattle.std.proofs.Common.{◌≡◌, ℕ, zero, suc, ◌+◌, ◌-◌, ◌<◌, List, [], ◌∷◌, ◌++◌, length, take, slice_set, get_or, refl, sym, ℤ, pos, negsuc, Result, Ok, Err, Bool, true, false, cond, nat_lt}
 use Rattle.std.specs.List.{AllByRecursion}
 use Rattle.std.proofs.lemmas.Bool.{ltb-true}
-use Rattle.snap_base.specs.declared.transactions.State.{State}
 use Rattle.aml_tree.specs.Tree.{Expr, Code, End, Let, Call, Set, SetField, If, IfElse, While, Fail, Return, CheckedMethod}
 use Rattle.aml_check.specs.Names.{method_at, no_method}
 use Rattle.aml_check.specs.Meaning.{◌>>=◌, Progress, value_of, values_of, state_at, with_field, begun, actor_of, admitted, Exit, Goes, Gives, behind, Caller, turns, block, given, called, holds, statements, no_actor}

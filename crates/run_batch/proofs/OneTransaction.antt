@@ -1,8 +1,8 @@
 -- What one transaction leaves of the world: as many actors, states, and of a PACT those actors as they were that it
 -- does not declare. All that is said of several transactions rests on these three alone.
-use Rattle.std.proofs.Common.{◌≡◌, ◌≢◌, ℕ, zero, suc, ◌+◌, ◌<◌, ◌≤◌, ◌%◌, ◌^◌, List, [], ◌∷◌, ◌++◌, length, slice_set, get_or, refl, sym, ◌∙◌, subst, ℤ, pos, negsuc, neg_ℤ, Option, None, Some, IfSome, Result, Ok, Err, Bool, true, false, cond, nat_lt, arith, w64, FitsSigned, replicate}
+use Rattle.std.proofs.Common.{◌≡◌, ◌≢◌, ℕ, zero, suc, ◌+◌, ◌<◌, ◌≤◌, ◌%◌, ◌^◌, List, [], ◌∷◌, ◌++◌, length, get_or, refl, sym, ◌∙◌, subst, ℤ, pos, negsuc, neg_ℤ, Option, None, Some, IfSome, Result, Ok, Err, Bool, true, false, cond, nat_lt, arith, w64, FitsSigned, replicate}
 use Rattle.std.specs.List.{AllByRecursion, list_any}
-use Rattle.std.specs.Prelude.{◌+ℤ◌, ◌-ℤ◌, ◌*ℤ◌, int_lt, int_div, int_rem, unsigned_abs, ◌||◌, ◌==◌}
+use Rattle.std.specs.Prelude.{◌+ℤ◌, ◌-ℤ◌, ◌*ℤ◌, int_div, int_rem, unsigned_abs, ◌||◌, ◌==◌}
 use Rattle.std.specs.Ordering.{int_eq}
 use Rattle.std.proofs.Math.Nat.{mod-le}
 use Rattle.std.proofs.lemmas.Bool.{eq-eqb}
@@ -10,14 +10,13 @@ use Rattle.std.proofs.lemmas.Bool.Decides.{nat_tests}
 use Rattle.std.proofs.lemmas.List.{length-set, get_or-set_other}
 use Rattle.snap_base.specs.declared.ids.ActorId.{ActorId}
 use Rattle.snap_base.specs.declared.transactions.State.{State}
-use Rattle.snap_base.specs.declared.transactions.Kind.{Kind}
 use Rattle.snap_base.specs.declared.transactions.Kind.TheVariants.{Pact}
 use Rattle.snap_base.specs.declared.transactions.Tx.{Tx}
 use Rattle.aml_tree.specs.declared.trees.Operator.{Operator}
 use Rattle.aml_tree.specs.declared.trees.Operator.TheVariants as operator
 use Rattle.aml_tree.specs.Tree.{Expr, Number, Variable, Field, Own, Group, Negative, Binary, Code, End, Let, Call, Set, SetField, If, IfElse, While, Fail, Return, CheckedMethod}
 use Rattle.aml_check.specs.Closed.{IsClosedExpression, IsClosedBlock, IsClosedMethod, IsClosedProgram}
-use Rattle.aml_check.specs.Meaning.{◌>>=◌, overflow, zero_divisor, calls, actors, undeclared, Progress, value_of, in_range, truth, holds, divided, joined, decided, unless_decided, zero_state, state_at, field_at, with_field, one_call, with_actor, before, one_less, used, with_left, by_declaration, declared, admitted, called, ended, declaration, beginning, alone}
+use Rattle.aml_check.specs.Meaning.{◌>>=◌, overflow, zero_divisor, calls, actors, Progress, value_of, in_range, truth, holds, divided, joined, decided, unless_decided, zero_state, state_at, with_field, one_call, with_actor, before, one_less, used, with_left, by_declaration, declared, admitted, ended, declaration, beginning, alone}
 use Rattle.aml_check.specs.Transactions.{IsTransaction}
 use Rattle.txn_records.specs.Records.{IsState}
 use Rattle.run_batch.specs.Batch.{declares}

@@ -1,5 +1,5 @@
-use Rattle.std.proofs.Common.{◌≡◌, ◌≤◌, get_or, length, drop, refl, arith}
-use Rattle.aml_slice.proofs.Askings.{waits_here, waits_behind}
+use Rattle.std.proofs.Common.{refl}
+use Rattle.aml_slice.proofs.Askings.{waits_here}
 use Rattle.aml_slice.proofs.running.waits_on.Goals as goal
 
 pub returns-then-frame-actor : goal.returns-then-frame-actor

@@ -1,9 +1,9 @@
-use Rattle.std.proofs.Common.{◌≡◌, ◌≢◌, ◌⊎◌, inl, inr, ℕ, ℤ, Result, Ok, List, refl, sym, ap, ◌∙◌, subst, arith, rules, w64, FitsSigned}
+use Rattle.std.proofs.Common.{inl, inr, ℕ, Result, Ok, sym, ap, ◌∙◌, subst, rules, w64, FitsSigned}
 use Rattle.std.proofs.lemmas.Int.{to_z-of_z}
 use Rattle.aml_check.specs.Checked.{methods_of}
 use Rattle.aml_resume.specs.declared.exits.Exit.{Exit}
 use Rattle.aml_slice.specs.Controls.{Frame, Rest}
-use Rattle.aml_slice.specs.Frames.{HasPlace, NextFrame}
+use Rattle.aml_slice.specs.Frames.{HasPlace}
 use Rattle.aml_slice.specs.Moving.{Ran}
 use Rattle.aml_slice.specs.Views.{rest_of}
 use Rattle.aml_slice.proofs.MoveLaws.{fails, ends, return_stays, return_away, refused, call_stays, call_away}

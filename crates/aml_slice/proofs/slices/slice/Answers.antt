@@ -1,4 +1,4 @@
-use Rattle.std.proofs.Common.{◌≡◌, ◌≢◌, ℕ, sym, ap, ◌∙◌, subst}
+use Rattle.std.proofs.Common.{◌≢◌, sym, ap, ◌∙◌, subst}
 use Rattle.aml_check.specs.Checked.{methods_of}
 use Rattle.aml_slice.specs.Controls.{Rest}
 use Rattle.aml_slice.specs.Moving.{Reaches}

@@ -1,5 +1,5 @@
-use Rattle.std.proofs.Common.{◌≡◌, ℕ, Ok, List, [], sym, ap, ◌∙◌, subst}
-use Rattle.aml_check.specs.Meaning.{Progress, admitted, beginning}
+use Rattle.std.proofs.Common.{[], sym, ap, ◌∙◌}
+use Rattle.aml_check.specs.Meaning.{admitted}
 use Rattle.aml_slice.proofs.Beginnings.{nothing_taken}
 use Rattle.aml_slice.proofs.Roots.{root_admitted}
 use Rattle.aml_slice.proofs.starts.with_root.Goals as goal

@@ -1,4 +1,4 @@
-use Rattle.std.proofs.Common.{◌≡◌, ◌<◌, ℕ, List, length, sym, ap, ◌∙◌, subst, arith, rules}
+use Rattle.std.proofs.Common.{◌≡◌, ◌<◌, List, length, sym, subst, arith, rules}
 use Rattle.snap_base.specs.declared.transactions.State.{State}
 use Rattle.aml_check.specs.Checked.{methods_of}
 use Rattle.aml_check.specs.Meaning.{alone, ended}

@@ -1,4 +1,4 @@
-use Rattle.std.proofs.Common.{◌≡◌, sym, ◌∙◌}
+use Rattle.std.proofs.Common.{sym, ◌∙◌}
 use Rattle.aml_slice.proofs.Askings.{any_contains, contains_any}
 use Rattle.aml_slice.proofs.allowances.Allowance.has_called.Goals as goal
 

@@ -1,9 +1,7 @@
-use Rattle.std.proofs.Common.{◌≡◌, ◌+◌, ◌≤◌, ◌<◌, ℕ, List, [], ◌∷◌, ◌++◌, length, map, reverse, vec_len, vec_capacity, sym, ap, ◌∙◌, subst, arith, length-append}
+use Rattle.std.proofs.Common.{List, [], ◌∷◌, length, map, reverse, ap, ◌∙◌, subst, arith, length-append}
 use Rattle.std.specs.List.{AllByRecursion}
-use Rattle.aml_resume.specs.declared.activations.Activation.{Activation}
 use Rattle.aml_resume.specs.Rooms.{HasRoom}
 use Rattle.aml_slice.specs.declared.frames.Frame as code
-use Rattle.aml_slice.specs.Controls.{Frame}
 use Rattle.aml_slice.specs.Frames.{HasPlace}
 use Rattle.aml_slice.specs.Views.{frame_of}
 use Rattle.aml_slice.proofs.FrameLists.{last_first, all_front, all_last, all_push}

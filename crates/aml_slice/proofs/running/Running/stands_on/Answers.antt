@@ -1,4 +1,4 @@
-use Rattle.std.proofs.Common.{◌≡◌, ◌⊎◌, inl, inr, ℕ, List, subst, sym}
+use Rattle.std.proofs.Common.{inl, inr, List, subst, sym}
 use Rattle.aml_slice.specs.declared.frames.Frame as code
 use Rattle.aml_slice.specs.Waits.{WaitsOn}
 use Rattle.aml_slice.proofs.Askings.{waits_stand, stand_waits}
