@@ -12,3 +12,4 @@ pub mod KeptRests
 pub mod Roots
 pub mod Beginnings
 pub mod SlicesAddUp
+pub mod OneEnd

@@ -6,5 +6,6 @@ pub mod Moving
 pub mod Sequences
 pub mod Starts
 pub mod Nexts
+pub mod OneMoment
 pub mod Waits
 pub mod Views

@@ -14,6 +14,6 @@ mod starts;
 mod wholes;
 
 pub use controls::Control;
-pub use laws::slices_add_up;
+pub use laws::{one_moment, slices_add_up};
 pub use slices::{Next, slice};
 pub use wholes::run_in_slices;
