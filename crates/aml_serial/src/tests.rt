@@ -1,134 +1,25 @@
-ghost use Rattle.std.specs.Prelude.{◌≡◌, [], ◌∷◌, length, IfOk, IfSome};
-ghost use Rattle.aml_tokens.specs.declared.tokens.Word.{Word};
-ghost use Rattle.aml_tree.specs.declared.trees.Operator.TheVariants.{Plus, Less};
-ghost use Rattle.aml_tree.specs.Programs.{IsProgram};
-ghost use Rattle.aml_tree.specs.Tree.{Code, Number, Variable, Field, Own, Binary, Call, SetField, If, Return, End, expression_tree, statement_tree, statements_tree, block_tree, program_tree};
+ghost use Rattle.std.specs.Prelude.{length, IfOk, IfSome};
 ghost use Rattle.aml_check.specs.Checked.{methods_of};
 ghost use Rattle.aml_check.specs.Transactions.{IsTransaction};
 
 use crate::{run_alone, run_list};
 use aml_check::{Checked, check};
-use aml_tokens::Word;
-use aml_tree::{Block, Expression, Link, Method, Operator, Program, Statement};
+use aml_tree::parse_program;
 use snap_base::{ActorId, Kind, Memory, Sequence, State, Tx, TxResult};
 use std::alloc::Global;
 use std::test;
 
-fn word(alloc: Global, letter: u8) -> Result<Word, Memory>
-    ensures { IfOk result (λ w. w ≡ record { name = letter ∷ []; line = 1 }) }
-{
-    let mut name = Sequence::new(alloc);
-    name.push(letter)?;
-    Ok(Word { name, line: 1 })
-}
+// Adds to `f0`, and again until it is 3.
+const TEXT: &str = "method a(b) { f0 = f0 + b; if f0 < 3 { let c = call self a(1); } return f0; }";
 
-fn words(alloc: Global, letter: u8) -> Result<Sequence<Word>, Memory>
-    ensures { IfOk result (λ ws. ws ≡ record { name = letter ∷ []; line = 1 } ∷ []) }
-{
-    let mut parameters = Sequence::new(alloc);
-    parameters.push(word(alloc, letter)?)?;
-    Ok(parameters)
-}
-
-fn put(
-    statements: &mut Vec<Statement<Word, Word>>,
-    statement: Statement<Word, Word>,
-) -> Result<(), Memory>
-    ensures { IfOk result (λ _. (rest : Code Word Word) → statements_tree statements.new.items rest ≡ statements_tree statements.old.items (statement_tree statement rest)) }
-{
-    statements.push(statement)?;
-    Ok(())
-}
-
-fn binary(
-    alloc: Global,
-    left: Expression<Word>,
-    operator: Operator,
-    right: Expression<Word>,
-) -> Result<Expression<Word>, Memory>
-    ensures { IfOk result (λ e. expression_tree e ≡ Binary operator (expression_tree left) (expression_tree right)) }
-{
-    let mut rest = Vec::new(alloc);
-    rest.push(Link {
-        operator,
-        operand: right,
-    })?;
-    Ok(Expression::Chain {
-        first: Box::new(alloc, left)?,
-        rest,
-    })
-}
-
-// `f0 = f0 + b;`
-fn add(alloc: Global) -> Result<Statement<Word, Word>, Memory>
-    ensures { IfOk result (λ s. (rest : Code Word Word) → statement_tree s rest ≡ SetField 0 (Binary Plus (Field 0) (Variable (record { name = 98 ∷ []; line = 1 }))) rest) }
-{
-    let right = Expression::Variable(word(alloc, b'b')?);
-    let value = binary(alloc, Expression::Field(0), Operator::Plus, right)?;
-    Ok(Statement::SetField { field: 0, value })
-}
-
-// `{ let c = call self a(1); }`
-fn inside(alloc: Global) -> Result<Block<Statement<Word, Word>>, Memory>
-    ensures { IfOk result (λ b. block_tree b ≡ Call (record { name = 99 ∷ []; line = 1 }) Own (record { name = 97 ∷ []; line = 1 }) (Number 1 ∷ []) (End 1)) }
-{
-    let mut arguments = Vec::new(alloc);
-    arguments.push(Expression::Number(1))?;
-    let call = Statement::Call {
-        variable: word(alloc, b'c')?,
-        target: Expression::Own,
-        method: word(alloc, b'a')?,
-        arguments,
+fn program(alloc: Global) -> Result<Option<Checked>, Memory> {
+    let Ok(tree) = parse_program(alloc, TEXT) else {
+        return Ok(None);
     };
-    let mut statements = Vec::new(alloc);
-    put(&mut statements, call)?;
-    Ok(Block {
-        statements,
-        last_line: 1,
-    })
-}
-
-// `if f0 < 3 { let c = call self a(1); }`
-fn again(alloc: Global) -> Result<Statement<Word, Word>, Memory>
-    ensures { IfOk result (λ s. (rest : Code Word Word) → statement_tree s rest ≡ If (Binary Less (Field 0) (Number 3)) (Call (record { name = 99 ∷ []; line = 1 }) Own (record { name = 97 ∷ []; line = 1 }) (Number 1 ∷ []) (End 1)) rest) }
-{
-    let condition = binary(
-        alloc,
-        Expression::Field(0),
-        Operator::Less,
-        Expression::Number(3),
-    )?;
-    let first = inside(alloc)?;
-    Ok(Statement::If { condition, first })
-}
-
-fn body(alloc: Global) -> Result<Block<Statement<Word, Word>>, Memory>
-    ensures { IfOk result (λ b. block_tree b ≡ SetField 0 (Binary Plus (Field 0) (Variable (record { name = 98 ∷ []; line = 1 }))) (If (Binary Less (Field 0) (Number 3)) (Call (record { name = 99 ∷ []; line = 1 }) Own (record { name = 97 ∷ []; line = 1 }) (Number 1 ∷ []) (End 1)) (Return (Field 0) (End 1)))) }
-{
-    let mut statements = Vec::new(alloc);
-    put(&mut statements, add(alloc)?)?;
-    put(&mut statements, again(alloc)?)?;
-    let last = Statement::Return {
-        value: Expression::Field(0),
-    };
-    put(&mut statements, last)?;
-    Ok(Block {
-        statements,
-        last_line: 1,
-    })
-}
-
-// `method a(b) { f0 = f0 + b; if f0 < 3 { let c = call self a(1); } return f0; }`
-fn program(alloc: Global) -> Result<Program<Word, Word>, Memory>
-    ensures { IfOk result (λ p. IsProgram (program_tree p)) }
-{
-    let mut methods = Sequence::new(alloc);
-    methods.push(Method {
-        name: word(alloc, b'a')?,
-        parameters: words(alloc, b'b')?,
-        body: body(alloc)?,
-    })?;
-    Ok(Program { methods })
+    match check(alloc, tree) {
+        Ok(checked) => Ok(Some(checked)),
+        Err(_) => Ok(None),
+    }
 }
 
 // A call of the method on actor 0 with the argument 1, where the program and the world have it: a PACT
@@ -167,7 +58,7 @@ fn state(first: i64) -> State {
 
 // What the transaction gives where actor 0 has this in `f0`, and what `f0` is then.
 fn ran(alloc: Global, first: i64, calls: u8) -> Result<Option<(TxResult, State)>, Memory> {
-    let Ok(checked) = check(alloc, program(alloc)?) else {
+    let Some(checked) = program(alloc)? else {
         return Ok(None);
     };
     let mut world = Vec::new(alloc);
@@ -205,7 +96,7 @@ fn runs_one(rt: HostRuntime) -> Result<(), test::Fail> {
 
 // What a PACT that declares one call gives where `f0` is 1, and an ACT behind it.
 fn ran_list(alloc: Global) -> Result<Option<Sequence<TxResult>>, Memory> {
-    let Ok(checked) = check(alloc, program(alloc)?) else {
+    let Some(checked) = program(alloc)? else {
         return Ok(None);
     };
     let mut world = Vec::new(alloc);
