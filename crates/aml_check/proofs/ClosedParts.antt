@@ -16,7 +16,7 @@ use Rattle.aml_tokens.specs.declared.tokens.TextCause.TheVariants.{NumberRange}
 use Rattle.aml_check.specs.declared.faults.CheckFault.{CheckFault}
 use Rattle.aml_check.specs.declared.faults.CheckCause.TheVariants.{UnknownName, ArgCount}
 use Rattle.aml_check.specs.Names.{place_from, place_of, placed, method_names, method_at, no_method, counted_from, checked_expression, checked_block, checked_method, checked_program}
-use Rattle.aml_check.specs.Faults.{at, unknown, duplicate, faults, called, call_faults, block_faults}
+use Rattle.aml_check.specs.Faults.{at, unknown, duplicate, faults, call_faults_at, call_faults, block_faults}
 use Rattle.aml_check.specs.Closed.{IsClosedExpression, IsClosedCall, IsClosedBlock}
 use Rattle.aml_check.proofs.Lookup.{among_from}
 
@@ -145,7 +145,7 @@ by_count : (b : Bool) (w : Word) → (if b then [] else at w ArgCount) ≡ [] �
 by_count true w e = refl
 by_count false w e = absurd cc
 
-closed_by : (p : List TextMethod) (w : Word) (n : ℕ) (o : Option ℕ) → IfSome o (λ j. j < 0 + length (method_names p)) → called p w n o ≡ [] → IsClosedCall (checked_program p) (unwrap_or o (length (method_names p))) n
+closed_by : (p : List TextMethod) (w : Word) (n : ℕ) (o : Option ℕ) → IfSome o (λ j. j < 0 + length (method_names p)) → call_faults_at p w n o ≡ [] → IsClosedCall (checked_program p) (unwrap_or o (length (method_names p))) n
 closed_by p w n (Some place) inside e =
     let h : place < length p = omega (arith, inside, length-map p (λ (m : TextMethod). m.name.name)) in
     let same : length (method_at p place).parameters ≡ n = eqb-true (length (method_at p place).parameters) n (by_count (length (method_at p place).parameters == n) w e) in

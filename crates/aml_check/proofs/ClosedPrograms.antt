@@ -10,14 +10,14 @@ use Rattle.std.proofs.lemmas.Slice.Eq.{bytes_eq-Decides}
 use Rattle.aml_tokens.specs.declared.tokens.Word.{Word}
 use Rattle.aml_tokens.specs.declared.tokens.TextCause.TheVariants.{TooDeep, TooMany}
 use Rattle.aml_tree.specs.declared.trees.Method as code
-use Rattle.aml_tree.specs.Tree.{method_tree, block_tree, Code, End, Let, Call, Set, SetField, If, IfElse, While, Fail, Return, TextMethod}
+use Rattle.aml_tree.specs.Tree.{method_tree, block_tree, Code, End, Let, Call, Set, SetField, If, IfElse, While, Fail, Return, TextMethod, CheckedMethod}
 use Rattle.aml_tree.specs.Limits.{Mark, opened, marks, listed_marks, lets, block_marks, parameter_marks, method_marks, methods_marks}
 use Rattle.aml_tree.specs.Programs.{IsUnmarked, IsProgram}
 use Rattle.aml_tree.specs.Grammar.{IsMethod}
 use Rattle.aml_check.specs.declared.faults.CheckCause.TheVariants.{Duplicate, NoReturn}
 use Rattle.aml_check.specs.declared.faults.CheckFault.{CheckFault}
 use Rattle.aml_check.specs.Names.{names_of, method_names, counted_from, checked_block, checked_method, checked_program}
-use Rattle.aml_check.specs.Faults.{at, is_among, duplicate, repeated, block_faults, if_last, ends, last_line, end_faults, method_faults, faults_behind, program_faults}
+use Rattle.aml_check.specs.Faults.{at, is_among, duplicate, repeated, block_faults, if_last, ends, last_line, end_faults, method_faults, faults_behind, program_faults, IsCheckedProgram}
 use Rattle.aml_check.specs.Closed.{IsClosedBlock, nesting, IsClosedMethod, AreDistinct, IsClosedProgram}
 use Rattle.aml_check.proofs.ClosedParts.{none_left, none_right, all_left, all_right, below, counted_length, closed_block}
 
@@ -233,6 +233,9 @@ closed_program p rule none = record {
   distinct = subst AreDistinct (sym (same_names (method_names p) p)) (distinct_all p [] p none_distinct none);
   methods = closed_methods p [] 0 p rule.grammar.methods none rule.limits;
 }
+
+pub closed_checked : (p : List TextMethod) (c : List CheckedMethod) → IsProgram p → IsCheckedProgram p c → IsClosedProgram c
+closed_checked p c rule checked = subst IsClosedProgram (sym checked.resolved) (closed_program p rule checked.faultless)
 
 -- ---- the methods of a program, as the code has them
 

@@ -7,7 +7,7 @@ use Rattle.aml_tree.specs.Tree.{Expr, Number, Variable, Field, Own, Group, Negat
 use Rattle.aml_check.specs.declared.faults.CheckCause.TheVariants.{UnknownName, Duplicate, ArgCount, NoReturn}
 use Rattle.aml_check.specs.declared.faults.CheckFault.{CheckFault}
 use Rattle.aml_check.specs.Names.{names_of, method_names, place_of, method_at}
-use Rattle.aml_check.specs.Faults.{at, is_among, unknown, duplicate, faults, called, call_faults, block_faults, repeated, ends, last_line, end_faults, method_faults, faults_behind, IsFirstFault}
+use Rattle.aml_check.specs.Faults.{at, is_among, unknown, duplicate, faults, call_faults_at, call_faults, block_faults, repeated, ends, last_line, end_faults, method_faults, faults_behind, IsFirstFault}
 
 abbrev FaultsUpTo : ℕ → List CheckFault → Type 0
 FaultsUpTo most fs = AllByRecursion (λ (f : CheckFault). f.line ≤ most) fs
@@ -32,7 +32,7 @@ duplicate_up_to most names w h = by (is_among names w)
     by true = (h, tt)
     by false = tt
 
-called_up_to : (most : ℕ) (p : List TextMethod) (w : Word) (arguments : ℕ) (place : Option ℕ) → WordUpTo most w → FaultsUpTo most (called p w arguments place)
+called_up_to : (most : ℕ) (p : List TextMethod) (w : Word) (arguments : ℕ) (place : Option ℕ) → WordUpTo most w → FaultsUpTo most (call_faults_at p w arguments place)
 called_up_to most p w arguments None h = (h, tt)
 called_up_to most p w arguments (Some place) h = by (length (method_at p place).parameters == arguments)
   where

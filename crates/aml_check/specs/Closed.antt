@@ -2,6 +2,7 @@
 use Rattle.std.specs.Prelude.{◌≡◌, ℕ, ◌+◌, ◌<◌, ◌≤◌, ◌^◌, max, IsTrue, List, [], length, slice_index_or}
 use Rattle.std.specs.List.{AllByRecursion}
 use Rattle.aml_tree.specs.Tree.{Expr, Number, Variable, Field, Own, Group, Negative, Binary, Code, End, Let, Call, Set, SetField, If, IfElse, While, Fail, Return, CheckedMethod}
+use Rattle.aml_tree.specs.declared.limits.TheConstants.{GREATEST_CODE, MOST_LEVELS, MOST_METHODS, MOST_NAMES, MOST_PARAMETERS}
 use Rattle.aml_tree.specs.Limits.{lets}
 use Rattle.aml_check.specs.Names.{method_at, method_names, counted_from}
 use Rattle.aml_check.specs.Faults.{ends}
@@ -31,7 +32,7 @@ IsClosedBlock p n (SetField k value rest) = (k < 16) × IsClosedExpression n val
 IsClosedBlock p n (If condition first rest) = IsClosedExpression n condition × IsClosedBlock p n first × IsClosedBlock p n rest
 IsClosedBlock p n (IfElse condition first other rest) = IsClosedExpression n condition × IsClosedBlock p n first × IsClosedBlock p n other × IsClosedBlock p n rest
 IsClosedBlock p n (While condition body rest) = IsClosedExpression n condition × IsClosedBlock p n body × IsClosedBlock p n rest
-IsClosedBlock p n (Fail code rest) = ((1 ≤ code) × (code ≤ 999)) × IsClosedBlock p n rest
+IsClosedBlock p n (Fail code rest) = ((1 ≤ code) × (code ≤ GREATEST_CODE)) × IsClosedBlock p n rest
 IsClosedBlock p n (Return value rest) = IsClosedExpression n value × IsClosedBlock p n rest
 
 -- how many blocks are open at most, with this one
@@ -49,9 +50,9 @@ nesting (Return value rest) = nesting rest
 
 pub record IsClosedMethod (p : List CheckedMethod) (m : CheckedMethod) : Type 0 where
   pub places : m.parameters ≡ counted_from 0 m.parameters
-  pub parameters : length m.parameters ≤ 8
-  pub variables : length m.parameters + lets m.body ≤ 32
-  pub deep : nesting m.body ≤ 32
+  pub parameters : length m.parameters ≤ MOST_PARAMETERS
+  pub variables : length m.parameters + lets m.body ≤ MOST_NAMES
+  pub deep : nesting m.body ≤ MOST_LEVELS
   pub body : IsClosedBlock p (length m.parameters) m.body
   pub ended : IsTrue (ends m.body)
 
@@ -60,6 +61,6 @@ abbrev pub AreDistinct : List (List ℕ) → Type 0
 AreDistinct names = (i j : ℕ) → i < length names → j < length names → (slice_index_or names i [] ≡ slice_index_or names j []) → i ≡ j
 
 pub record IsClosedProgram (p : List CheckedMethod) : Type 0 where
-  pub few : length p ≤ 64
+  pub few : length p ≤ MOST_METHODS
   pub distinct : AreDistinct (method_names p)
   pub methods : AllByRecursion (IsClosedMethod p) p

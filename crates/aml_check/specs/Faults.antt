@@ -32,13 +32,14 @@ faults names (Group e) = faults names e
 faults names (Negative e) = faults names e
 faults names (Binary o a b) = faults names a ++ faults names b
 
--- a call of a method with so many arguments; the first method of the name counts
-abbrev pub called : List TextMethod → Word → ℕ → Option ℕ → List CheckFault
-called p w arguments None = at w UnknownName
-called p w arguments (Some place) = if length (method_at p place).parameters == arguments then [] else at w ArgCount
+-- a call, with so many arguments, of the method at a place, if there is one
+abbrev pub call_faults_at : List TextMethod → Word → ℕ → Option ℕ → List CheckFault
+call_faults_at p w arguments None = at w UnknownName
+call_faults_at p w arguments (Some place) = if length (method_at p place).parameters == arguments then [] else at w ArgCount
 
+-- a call of a method by its name; the first method of the name counts
 abbrev pub call_faults : List TextMethod → Word → ℕ → List CheckFault
-call_faults p w arguments = called p w arguments (place_of (method_names p) w.name)
+call_faults p w arguments = call_faults_at p w arguments (place_of (method_names p) w.name)
 
 -- A name stands before the value that it takes, and the called method before its arguments. A variable
 -- is visible from behind its statement up to the end of its block.

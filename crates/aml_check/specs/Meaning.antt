@@ -13,6 +13,7 @@ use Rattle.snap_base.specs.declared.transactions.TxResult.TheVariants as result
 use Rattle.aml_tree.specs.declared.trees.Operator.{Operator}
 use Rattle.aml_tree.specs.declared.trees.Operator.TheVariants as operator
 use Rattle.aml_tree.specs.Tree.{Expr, Number, Variable, Field, Own, Group, Negative, Binary, Code, End, Let, Call, Set, SetField, If, IfElse, While, Fail, Return, CheckedMethod}
+use Rattle.aml_check.specs.declared.limits.TheConstants.{MOST_CALLED_ACTORS, MOST_CALLS, MOST_OPEN_CALLS, MOST_STATEMENTS}
 use Rattle.aml_check.specs.Names.{method_at}
 
 -- ---- the codes of failures
@@ -33,21 +34,21 @@ zero_divisor = 1003
 abbrev pub no_actor : ℕ
 no_actor = 1004
 
--- the 65th call, the root counted
-abbrev pub calls : ℕ
-calls = 1005
+-- a call more than `MOST_CALLS`, the root counted
+abbrev pub too_many_calls : ℕ
+too_many_calls = 1005
 
--- the 17th actor
-abbrev pub actors : ℕ
-actors = 1006
+-- an actor more than `MOST_CALLED_ACTORS`
+abbrev pub too_many_actors : ℕ
+too_many_actors = 1006
 
--- a call where sixteen are open
-abbrev pub depth : ℕ
-depth = 1007
+-- a call where `MOST_OPEN_CALLS` are open
+abbrev pub too_deep : ℕ
+too_deep = 1007
 
--- the 10,001st statement
-abbrev pub statements : ℕ
-statements = 1008
+-- a statement more than `MOST_STATEMENTS`
+abbrev pub too_many_statements : ℕ
+too_many_statements = 1008
 
 -- a failure ends what goes on
 infixl 10 ◌>>=◌
@@ -153,7 +154,7 @@ pub record Progress : Type 0 where
 
 -- each statement counts before it runs
 abbrev pub begun : Progress → Result Progress ℕ
-begun r = if nat_lt r.statements 10000 then Ok (record r { statements = r.statements + 1 }) else Err statements
+begun r = if nat_lt r.statements MOST_STATEMENTS then Ok (record r { statements = r.statements + 1 }) else Err too_many_statements
 
 -- the actor that a value is the number of
 abbrev pub actor_of : ℕ → ℤ → Result ℕ ℕ
@@ -161,14 +162,14 @@ actor_of count (pos n) = if nat_lt n count then Ok n else Err no_actor
 actor_of count (negsuc n) = Err no_actor
 
 abbrev pub one_call : Progress → Result Progress ℕ
-one_call r = if nat_lt r.calls 64 then Ok (record r { calls = r.calls + 1 }) else Err calls
+one_call r = if nat_lt r.calls MOST_CALLS then Ok (record r { calls = r.calls + 1 }) else Err too_many_calls
 
 -- an actor joins those that were called, if it is not among them
 abbrev pub with_actor : ℕ → Progress → Result Progress ℕ
 with_actor a r =
     if list_any (λ b. b == a) r.actors
     then Ok r
-    else (if nat_lt (length r.actors) 16 then Ok (record r { actors = r.actors ++ a ∷ [] }) else Err actors)
+    else (if nat_lt (length r.actors) MOST_CALLED_ACTORS then Ok (record r { actors = r.actors ++ a ∷ [] }) else Err too_many_actors)
 
 -- an entry before others, where there are any
 abbrev pub before : ActorId × ℕ → Option (List (ActorId × ℕ)) → Option (List (ActorId × ℕ))
@@ -196,8 +197,8 @@ by_declaration a r (Some us) = with_left r (used a us)
 abbrev pub declared : ℕ → Progress → Result Progress ℕ
 declared a r = by_declaration a r r.left
 
--- What a call asks in this order, behind the target and the depth: one of 64 calls, one of 16 actors,
--- and of a PACT one that it declared.
+-- What a call asks in this order, behind the target and the depth: one of the calls, one of the actors,
+-- and of a PACT one call that it declared.
 abbrev pub admitted : ℕ → Progress → Result Progress ℕ
 admitted a r = one_call r >>= λ r. with_actor a r >>= λ r. declared a r
 
@@ -220,7 +221,7 @@ Caller = ℤ → ℕ → List ℤ → Progress → Result (ℤ × Progress) ℕ
 
 -- A loop makes at most so many turns. Each turn counts as a statement, so those are never wanting.
 abbrev pub turns : ℕ → ℕ → Expr ℕ → (List ℤ → Progress → Result (Exit × Progress) ℕ) → List ℤ → Progress → Result (Exit × Progress) ℕ
-turns zero own condition body variables r = Err statements
+turns zero own condition body variables r = Err too_many_statements
 turns (suc n) own condition body variables r =
     begun r >>= λ r. value_of own variables (state_at r.world own) condition >>= λ v.
     if holds v then behind variables (body variables r) (turns n own condition body) else Ok (Goes variables, r)
@@ -244,7 +245,7 @@ block call own (IfElse condition first other rest) variables r =
     begun r >>= λ r. value_of own variables (state_at r.world own) condition >>= λ x.
     behind variables (if holds x then block call own first variables r else block call own other variables r) (block call own rest)
 block call own (While condition body rest) variables r =
-    behind variables (turns (10001 - r.statements) own condition (block call own body) variables r) (block call own rest)
+    behind variables (turns (1 + MOST_STATEMENTS - r.statements) own condition (block call own body) variables r) (block call own rest)
 block call own (Fail code rest) variables r = begun r >>= λ r. Err code
 block call own (Return value rest) variables r =
     begun r >>= λ r. value_of own variables (state_at r.world own) value >>= λ x. Ok (Gives x, r)
@@ -259,7 +260,7 @@ given (Err code) = Err code
 
 -- a call where so many more may be open
 abbrev pub called : List CheckedMethod → ℕ → Caller
-called p zero target m arguments r = actor_of (length r.world) target >>= λ a. Err depth
+called p zero target m arguments r = actor_of (length r.world) target >>= λ a. Err too_deep
 called p (suc more) target m arguments r =
     actor_of (length r.world) target >>= λ a. admitted a r >>= λ r. given (block (called p more) a (method_at p m).body arguments r)
 
@@ -283,9 +284,9 @@ abbrev pub beginning : List State → Tx → Progress
 beginning world tx = record { world = world; statements = 0; calls = 0; actors = []; left = declaration tx.kind tx.uses }
 
 -- A transaction alone: a value and the new world, or a failure and the world as it was. Its root is the
--- first of at most sixteen calls that are open at a time.
+-- first of the calls that are open at a time.
 abbrev pub alone : List CheckedMethod → List State → Tx → After
-alone p world tx = ended world (called p 16 (pos tx.actor.0) tx.method tx.args (beginning world tx))
+alone p world tx = ended world (called p MOST_OPEN_CALLS (pos tx.actor.0) tx.method tx.args (beginning world tx))
 
 -- what became of a list of transactions
 pub record SerialRun : Type 0 where

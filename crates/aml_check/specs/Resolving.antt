@@ -1,3 +1,4 @@
+-- Only private contracts cite this; the rules are Names.antt and Faults.antt.
 -- What checking a part of a program gives: the part with its names resolved where it has no fault, and
 -- else its first fault.
 use Rattle.std.specs.Prelude.{◌≡◌, ℕ, ◌+◌, ◌≤◌, Result, Ok, Err, List, [], ◌∷◌, length, take, map}

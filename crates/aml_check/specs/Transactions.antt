@@ -7,6 +7,7 @@ use Rattle.snap_base.specs.declared.transactions.Tx.{Tx}
 use Rattle.snap_base.specs.declared.transactions.Kind.{Kind}
 use Rattle.snap_base.specs.declared.transactions.Kind.TheVariants.{Pact, Act}
 use Rattle.aml_tree.specs.Tree.{CheckedMethod}
+use Rattle.aml_check.specs.declared.limits.TheConstants.{MOST_CALLED_ACTORS, MOST_CALLS}
 use Rattle.aml_check.specs.Names.{method_at}
 
 -- each actor is above the one before it
@@ -15,14 +16,15 @@ AreAscending [] = Unit {0}
 AreAscending (u ∷ []) = Unit {0}
 AreAscending (u ∷ v ∷ us) = (u.0.0 < v.0.0) × AreAscending (v ∷ us)
 
--- one to 64 calls of an actor that there is
+-- one call or more of an actor that there is
 pub record IsUse (actors : ℕ) (u : ActorId × ℕ) : Type 0 where
   pub actor : u.0.0 < actors
-  pub calls : (1 ≤ u.1) × (u.1 ≤ 64)
+  pub calls : (1 ≤ u.1) × (u.1 ≤ MOST_CALLS)
 
 -- the actors that a PACT declares, itself among them
 pub record IsDeclaration (actors root : ℕ) (uses : List (ActorId × ℕ)) : Type 0 where
-  pub few : length uses ≤ 16
+  pub some : 1 ≤ length uses
+  pub few : length uses ≤ MOST_CALLED_ACTORS
   pub each : AllByRecursion (IsUse actors) uses
   pub ascending : AreAscending uses
   pub root_declared : Contains (map (λ (u : ActorId × ℕ). u.0.0) uses) root

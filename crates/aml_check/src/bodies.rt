@@ -7,13 +7,13 @@ ghost use Rattle.aml_check.specs.Faults.{block_faults};
 ghost use Rattle.aml_check.specs.Names.{method_names, checked_block};
 ghost use Rattle.aml_check.specs.Resolving.{Resolves, Steps};
 
+use crate::CheckNo;
 use crate::expressions::expression;
 use crate::statements::{
     call_statement, field_statement, let_statement, return_statement, set_statement,
 };
-use crate::{CheckNo, makers};
 use aml_tokens::{Name, Word};
-use aml_tree::{Block, Method, Statement};
+use aml_tree::{Block, MOST_METHODS, MOST_NAMES, Method, Statement, makers};
 use std::alloc::Global;
 
 // In each function `methods` are the program's, and `names` the visible variables.
@@ -26,8 +26,8 @@ pub(crate) fn block(
     names: &mut Vec<Name>,
     code: &Block<Statement<Word, Word>>,
 ) -> Result<Block<Statement<u8, u16>>, CheckNo>
-    requires room { length names.old.items + lets (block_tree code.now) ≤ 32 }
-    requires few { length methods.now ≤ 64 }
+    requires room { length names.old.items + lets (block_tree code.now) ≤ MOST_NAMES }
+    requires few { length methods.now ≤ MOST_METHODS }
     ensures resolved { Resolves block_tree (block_faults (map method_tree methods.now) names.old.items (block_tree code.now)) (checked_block (method_names (map method_tree methods.now)) names.old.items (block_tree code.now)) result }
     ensures names { IfOk result (λ _. names.new.items ≡ names.old.items) }
 {
@@ -54,8 +54,8 @@ fn has_room(
 )
     requires within { _at < length _statements.now }
     requires here { _one.now ≡ slice_index_or _statements.now _at _one.now }
-    requires room { length _names.now + lets (statements_tree (drop _at _statements.now) (End 0)) ≤ 32 }
-    ensures { length _names.now + lets (statement_tree _one.now (End 0)) ≤ 32 }
+    requires room { length _names.now + lets (statements_tree (drop _at _statements.now) (End 0)) ≤ MOST_NAMES }
+    ensures { length _names.now + lets (statement_tree _one.now (End 0)) ≤ MOST_NAMES }
 {}
 
 /// Resolves a statement.
@@ -66,8 +66,8 @@ fn statement(
     names: &mut Vec<Name>,
     one: &Statement<Word, Word>,
 ) -> Result<Statement<u8, u16>, CheckNo>
-    requires room { length names.old.items + lets (statement_tree one.now (End 0)) ≤ 32 }
-    requires few { length methods.now ≤ 64 }
+    requires room { length names.old.items + lets (statement_tree one.now (End 0)) ≤ MOST_NAMES }
+    requires few { length methods.now ≤ MOST_METHODS }
     ensures { Steps (map method_tree methods.now) names.old.items names.new.items (statement_tree one.now) result }
 {
     match one {

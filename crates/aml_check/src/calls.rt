@@ -9,7 +9,7 @@ ghost use Rattle.aml_check.specs.Resolving.{Resolves};
 use crate::names::fault_at;
 use crate::{CheckCause, CheckNo};
 use aml_tokens::Word;
-use aml_tree::Method;
+use aml_tree::{MOST_METHODS, Method};
 
 /// The first method of a name.
 pub(crate) fn first_named(methods: &[Method<Word, Word>], name: &[u8]) -> Option<usize>
@@ -30,7 +30,7 @@ pub(crate) fn called(
     word: &Word,
     arguments: usize,
 ) -> Result<u16, CheckNo>
-    requires { length methods.now ≤ 64 }
+    requires { length methods.now ≤ MOST_METHODS }
     ensures { Resolves (λ k. k) (call_faults (map method_tree methods.now) word.now arguments) (placed (method_names (map method_tree methods.now)) word.now) result }
 {
     match first_named(methods, word.name.as_slice()) {

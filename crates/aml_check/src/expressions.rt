@@ -7,10 +7,10 @@ ghost use Rattle.aml_check.specs.Faults.{faults};
 ghost use Rattle.aml_check.specs.Names.{checked_expression};
 ghost use Rattle.aml_check.specs.Resolving.{Resolves, links_faults, checked_links};
 
+use crate::CheckNo;
 use crate::names::variable;
-use crate::{CheckNo, makers};
 use aml_tokens::{Name, Word};
-use aml_tree::{Expression, Link};
+use aml_tree::{Expression, Link, MOST_NAMES, makers};
 use std::alloc::Global;
 
 /// Resolves the variables of an expression, where these names are visible.
@@ -20,7 +20,7 @@ pub(crate) fn expression(
     names: &[Name],
     e: &Expression<Word>,
 ) -> Result<Expression<u8>, CheckNo>
-    requires { length names.now ≤ 32 }
+    requires { length names.now ≤ MOST_NAMES }
     ensures { Resolves expression_tree (faults names.now (expression_tree e.now)) (checked_expression names.now (expression_tree e.now)) result }
 {
     match e {
@@ -51,7 +51,7 @@ fn links(
     names: &[Name],
     rest: &[Link<Expression<Word>>],
 ) -> Result<Vec<Link<Expression<u8>>>, CheckNo>
-    requires { length names.now ≤ 32 }
+    requires { length names.now ≤ MOST_NAMES }
     ensures { Resolves (λ ls. link_trees ls.items) (links_faults names.now (link_trees rest.now)) (checked_links names.now (link_trees rest.now)) result }
 {
     let mut joined = Vec::new(alloc);
@@ -68,7 +68,7 @@ pub(crate) fn arguments(
     names: &[Name],
     values: &[Expression<Word>],
 ) -> Result<Vec<Expression<u8>>, CheckNo>
-    requires { length names.now ≤ 32 }
+    requires { length names.now ≤ MOST_NAMES }
     ensures { Resolves (λ es. map expression_tree es.items) (flat_map (faults names.now) (map expression_tree values.now)) (map (checked_expression names.now) (map expression_tree values.now)) result }
 {
     let mut given = Vec::new(alloc);

@@ -12,16 +12,15 @@ mod ends;
 mod expressions;
 mod faults;
 mod laws;
-mod makers;
+mod limits;
 mod methods;
 mod names;
 mod places;
 mod programs;
 mod statements;
-#[cfg(test)]
-mod tests;
 
 pub use checks::check;
 pub use faults::{CheckCause, CheckFault, CheckNo};
-pub use laws::faults_stand_in_the_program;
+pub use laws::{checked_programs_are_closed, faults_stand_in_the_program};
+pub use limits::{MOST_CALLED_ACTORS, MOST_CALLS, MOST_OPEN_CALLS, MOST_STATEMENTS};
 pub use programs::Checked;

@@ -13,7 +13,7 @@ use crate::ends::ended;
 use crate::names::new_name;
 use crate::statements::put_name;
 use aml_tokens::{Name, Word};
-use aml_tree::Method;
+use aml_tree::{MOST_METHODS, MOST_NAMES, Method};
 use snap_base::{Memory, Sequence};
 use std::alloc::Global;
 
@@ -31,7 +31,7 @@ fn parameters(alloc: Global, words: &[Word]) -> Result<Vec<Name>, CheckNo>
 
 /// The places of parameters.
 fn numbered(alloc: Global, words: &[Word]) -> Result<Sequence<u8>, Memory>
-    requires { length words.now ≤ 32 }
+    requires { length words.now ≤ MOST_NAMES }
     ensures { IfOk result (λ places. places ≡ counted_from 0 words.now) }
 {
     let mut places = Sequence::new(alloc);
@@ -57,8 +57,8 @@ pub(crate) fn method(
     before: &[Name],
     one: &Method<Word, Word>,
 ) -> Result<Method<u8, u16>, CheckNo>
-    requires few { length methods.now ≤ 64 }
-    requires room { length one.now.parameters + lets (block_tree one.now.body) ≤ 32 }
+    requires few { length methods.now ≤ MOST_METHODS }
+    requires room { length one.now.parameters + lets (block_tree one.now.body) ≤ MOST_NAMES }
     ensures { Resolves method_tree (method_faults (map method_tree methods.now) before.now (method_tree one.now)) (checked_method (method_names (map method_tree methods.now)) (method_tree one.now)) result }
 {
     new_name(before, &one.name)?;

@@ -8,6 +8,7 @@ ghost use Rattle.aml_check.specs.declared.faults.CheckNo.TheVariants.{Fault};
 
 use crate::{CheckCause, CheckFault, CheckNo};
 use aml_tokens::{Name, Word};
+use aml_tree::MOST_NAMES;
 
 /// The first place of a name.
 pub(crate) fn place_of(names: &[Name], name: &[u8]) -> Option<usize>
@@ -34,7 +35,7 @@ pub(crate) fn fault_at(word: &Word, cause: CheckCause) -> CheckNo
 
 /// The place of a variable that has to be visible.
 pub(crate) fn variable(names: &[Name], word: &Word) -> Result<u8, CheckNo>
-    requires { length names.now ≤ 32 }
+    requires { length names.now ≤ MOST_NAMES }
     ensures { Resolves (λ k. k) (unknown names.now word.now) (placed names.now word.now) result }
 {
     match place_of(names, word.name.as_slice()) {

@@ -4,12 +4,12 @@ ghost use Rattle.std.specs.Prelude.{◌≡◌, ◌+◌, ◌≤◌, ◌<◌, ◌+
 ghost use Rattle.aml_tree.specs.Tree.{Let, Call, Set, SetField, Return, expression_tree, method_tree};
 ghost use Rattle.aml_check.specs.Resolving.{Steps};
 
+use crate::CheckNo;
 use crate::calls::called;
 use crate::expressions::{arguments, expression};
 use crate::names::{new_name, variable};
-use crate::{CheckNo, makers};
 use aml_tokens::{Name, Word};
-use aml_tree::{Expression, Method, Statement};
+use aml_tree::{Expression, MOST_METHODS, MOST_NAMES, Method, Statement, makers};
 use snap_base::{Memory, Sequence};
 use std::alloc::Global;
 
@@ -31,7 +31,7 @@ pub(crate) fn let_statement(
     word: &Word,
     value: &Expression<Word>,
 ) -> Result<Statement<u8, u16>, CheckNo>
-    requires { length names.old.items < 32 }
+    requires { length names.old.items < MOST_NAMES }
     ensures { Steps (map method_tree methods.now) names.old.items names.new.items (Let word.now (expression_tree value.now)) result }
 {
     new_name(names.as_slice(), word)?;
@@ -50,8 +50,8 @@ pub(crate) fn call_statement(
     method: &Word,
     values: &[Expression<Word>],
 ) -> Result<Statement<u8, u16>, CheckNo>
-    requires room { length names.old.items < 32 }
-    requires few { length methods.now ≤ 64 }
+    requires room { length names.old.items < MOST_NAMES }
+    requires few { length methods.now ≤ MOST_METHODS }
     ensures { Steps (map method_tree methods.now) names.old.items names.new.items (Call word.now (expression_tree target.now) method.now (map expression_tree values.now)) result }
 {
     new_name(names.as_slice(), word)?;
@@ -70,7 +70,7 @@ pub(crate) fn set_statement(
     word: &Word,
     value: &Expression<Word>,
 ) -> Result<Statement<u8, u16>, CheckNo>
-    requires { length names.now ≤ 32 }
+    requires { length names.now ≤ MOST_NAMES }
     ensures { Steps (map method_tree methods.now) names.now names.now (Set word.now (expression_tree value.now)) result }
 {
     let place = variable(names, word)?;
@@ -85,7 +85,7 @@ pub(crate) fn field_statement(
     field: u8,
     value: &Expression<Word>,
 ) -> Result<Statement<u8, u16>, CheckNo>
-    requires { length names.now ≤ 32 }
+    requires { length names.now ≤ MOST_NAMES }
     ensures { Steps (map method_tree methods.now) names.now names.now (SetField field (expression_tree value.now)) result }
 {
     let resolved = expression(alloc, names, value)?;
@@ -98,7 +98,7 @@ pub(crate) fn return_statement(
     names: &[Name],
     value: &Expression<Word>,
 ) -> Result<Statement<u8, u16>, CheckNo>
-    requires { length names.now ≤ 32 }
+    requires { length names.now ≤ MOST_NAMES }
     ensures { Steps (map method_tree methods.now) names.now names.now (Return (expression_tree value.now)) result }
 {
     let resolved = expression(alloc, names, value)?;

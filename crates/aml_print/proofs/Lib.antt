@@ -1,3 +1,4 @@
 pub mod PrintingSteps
 pub mod PrintingTrees
 pub mod PrintingLines
+mod PrintingTokens

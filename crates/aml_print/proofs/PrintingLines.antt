@@ -1,21 +1,21 @@
 -- A program with all in the first line: its tokens, its grammar, its limits and its words.
-use Rattle.std.proofs.Common.{◌≡◌, ℕ, ◌+◌, ◌-◌, ◌<◌, List, [], ◌∷◌, ◌++◌, length, map, refl, sym, ap, subst, ◌∙◌}
+use Rattle.std.proofs.Common.{◌≡◌, ℕ, ◌+◌, ◌-◌, ◌<◌, ◌≤◌, None, List, [], ◌∷◌, ◌++◌, length, map, refl, sym, ap, subst, ◌∙◌}
 use Rattle.std.specs.List.{AllByRecursion}
-use Rattle.std.specs.Str.{IsUtf8}
 use Rattle.std.proofs.lemmas.List.{map-append, length-map}
 use Rattle.std.proofs.lemmas.List.Concat.{flat_map-cons}
-use Rattle.std.proofs.lemmas.Str.{IsUtf8-from_ascii}
+use Rattle.aml_tokens.specs.declared.limits.TheConstants.{LONGEST_PROGRAM}
 use Rattle.aml_tokens.specs.declared.tokens.Word.{Word}
 use Rattle.aml_tokens.specs.declared.tokens.Symbol.TheVariants as symbol
 use Rattle.aml_tokens.specs.Token.{Token, Name, Sign}
-use Rattle.aml_tokens.specs.Lexing.{tokens}
-use Rattle.aml_tokens.specs.Writing.{nothing_written, with_tokens, in_first_line}
-use Rattle.aml_tokens.proofs.ReadBack.{IsReadBack, read_back}
+use Rattle.aml_tokens.specs.Lexing.{stop, tokens}
+use Rattle.aml_tokens.specs.Names.{IsToken}
+use Rattle.aml_tokens.specs.Writing.{nothing_written, with_tokens, in_first_line, IsReadBack}
 use Rattle.aml_tree.specs.Tree.{Expr, Number, Variable, Field, Own, Group, Negative, Binary, Code, End, Let, Call, Set, SetField, If, IfElse, While, Fail, Return, TextMethod, renamed_expression, without_lines, bare}
 use Rattle.aml_tree.specs.Grammar.{sign, spelling, listed, block_spelling, name_spelling, method_spelling, program_spelling, IsWord, IsAt, IsExpression, IsPrimary, IsBlock, IsMethod, level, lean}
 use Rattle.aml_tree.specs.Limits.{Mark, marks, lets, block_marks, parameter_marks, method_marks, methods_marks}
 use Rattle.aml_tree.specs.Programs.{IsUnmarked, IsProgram, IsProgramText, IsTextOf}
 use Rattle.aml_print.specs.Printing.{after}
+use Rattle.aml_print.proofs.PrintingTokens.{program_tokens}
 
 abbrev one : Word → Word
 one w = record { name = w.name; line = 1 }
@@ -256,26 +256,32 @@ bare_lined (m ∷ ms) = rw (parameter_words m.parameters, block_words m.body, ba
 
 -- ---- the printed text
 
-read_again : (p : List TextMethod) (source text : List ℕ) → IsProgramText source p → IsReadBack text (tokens source) → IsTextOf text p
-read_again p source text h r = (
+-- the text that a tree's tokens are written as
+abbrev pub line_of : List TextMethod → List ℕ
+line_of p = (with_tokens nothing_written (program_spelling p)).text
+
+pub after_is : (p : List TextMethod) → (after nothing_written (program_spelling p)).text ≡ line_of p
+unfolding after
+after_is p = refl
+
+-- a text with the tokens of a program, all in the first line
+read_as : (p : List TextMethod) (text : List ℕ) → IsProgram p → IsReadBack text (program_spelling p) → IsTextOf text p
+read_as p text h r = (
   map method_lined p,
-  record {
-    whole = r.whole;
-    spelled = r.same ∙ ap (map in_first_line) h.spelled ∙ sym (program_spelling_lined p);
-    program = program_lined p h.program;
-  },
+  record { whole = r.whole; spelled = r.same ∙ sym (program_spelling_lined p); program = program_lined p h },
   bare_lined p,
 )
 
-after_is : (p : List TextMethod) (source : List ℕ) → tokens source ≡ program_spelling p → (with_tokens nothing_written (tokens source)).text ≡ (after nothing_written (program_spelling p)).text
-unfolding after
-after_is p source h = ap (λ (ts : List Token). (with_tokens nothing_written ts).text) h
+abbrev TokensAreRead : Type 0
+TokensAreRead = (ts : List Token) → AllByRecursion IsToken ts → length (with_tokens nothing_written ts).text ≤ LONGEST_PROGRAM → IsReadBack (with_tokens nothing_written ts).text ts
 
-pub printed : (p : List TextMethod) (text : List ℕ) → (IsUtf8 (after nothing_written (program_spelling p)).text → text ≡ (after nothing_written (program_spelling p)).text)
-    → (source : List ℕ) → IsProgramText source p → IsTextOf text p
-printed p text h source is =
-    let r : IsReadBack (with_tokens nothing_written (tokens source)).text (tokens source) = read_back source is.whole in
-    let same = after_is p source is.spelled in
-    let seen : IsReadBack (after nothing_written (program_spelling p)).text (tokens source) = subst (λ (x : List ℕ). IsReadBack x (tokens source)) same r in
-    let here : text ≡ (after nothing_written (program_spelling p)).text = h (IsUtf8-from_ascii (after nothing_written (program_spelling p)).text seen.ascii) in
-    read_again p source text is (subst (λ (x : List ℕ). IsReadBack x (tokens source)) (sym here) seen)
+abbrev WrittenIsRead : Type 0
+WrittenIsRead = (source : List ℕ) → stop source ≡ None → IsReadBack (with_tokens nothing_written (tokens source)).text (tokens source)
+
+pub printed : TokensAreRead → (p : List TextMethod) → IsProgram p → length (line_of p) ≤ LONGEST_PROGRAM → IsTextOf (line_of p) p
+printed law p h fits = read_as p (line_of p) h (law (program_spelling p) (program_tokens p h.grammar.methods) fits)
+
+pub printed_again : WrittenIsRead → (p : List TextMethod) (source : List ℕ) → IsProgramText source p → IsTextOf (line_of p) p
+printed_again law p source h =
+    let Back : List Token → Type 0 = λ ts. IsReadBack (with_tokens nothing_written ts).text ts in
+    read_as p (line_of p) h.program (subst Back h.spelled (law source h.whole))

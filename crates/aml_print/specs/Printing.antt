@@ -1,3 +1,4 @@
+-- Only private contracts cite this; the rule is `program_spelling` of aml_tree/specs/Grammar.antt.
 -- What a writer holds once tokens are written behind what it held.
 use Rattle.std.specs.Prelude.{◌≡◌, ℕ, ◌==◌, if◌then◌else◌, List, [], ◌∷◌}
 use Rattle.std.specs.List.{flat_map}

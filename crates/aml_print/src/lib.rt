@@ -2,8 +2,10 @@
 //! same program again, but for the lines; it is one line, with a blank only where two tokens need one.
 #![tactic(auto)]
 
+mod blocks;
+mod expressions;
 mod print;
-#[cfg(test)]
-mod tests;
+mod statements;
+mod tokens;
 
 pub use print::print_program;

@@ -1,5 +1,5 @@
 -- Short texts, and the tokens that they are cut into: what the definitions say, evaluated.
-use Rattle.std.proofs.Common.{◌≡◌, [], ◌∷◌, Some, None, codes, refl}
+use Rattle.std.proofs.Common.{◌≡◌, ℕ, List, [], ◌∷◌, Some, None, codes, refl}
 use Rattle.aml_tokens.specs.declared.tokens.Symbol.TheVariants as symbol
 use Rattle.aml_tokens.specs.declared.tokens.TextCause.TheVariants as cause
 use Rattle.aml_tokens.specs.Token.{Name, Number, Field, Sign, CloseBrace}
@@ -36,5 +36,12 @@ alone = refl
 carriage_return : stop (97 ∷ 13 ∷ 10 ∷ []) ≡ Some (1, cause.BadByte)
 carriage_return = refl
 
-place_of_end : (line_at (codes "a\nbc") 4 ≡ 2) × (column_at (codes "a\nbc") 4 ≡ 3)
-place_of_end = (refl, refl)
+-- the line and the column of a place, from 1 on; a column counts bytes
+abbrev at : List ℕ → ℕ → ℕ × ℕ
+at text place = (line_at text place, column_at text place)
+
+places_of_text : (at (codes "a\nbc") 1 ≡ (1, 2)) × (at (codes "a\nbc") 2 ≡ (2, 1)) × (at (codes "a\nbc") 4 ≡ (2, 3)) × (at (codes "a\nbc") 9 ≡ (2, 3))
+places_of_text = (refl, refl, refl, refl)
+
+places_elsewhere : (at [] 0 ≡ (1, 1)) × (at (codes "ab") 1 ≡ (1, 2)) × (at (195 ∷ 164 ∷ 120 ∷ 10 ∷ []) 2 ≡ (1, 3))
+places_elsewhere = (refl, refl, refl)

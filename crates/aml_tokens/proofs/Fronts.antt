@@ -1,9 +1,9 @@
 -- What a byte does to the piece before it.
-use Rattle.std.proofs.Common.{◌≡◌, ℕ, suc, ◌+◌, ◌-◌, ◌<◌, ◌≤◌, Bool, true, false, ◌&&◌, ◌||◌, ◌==◌, List, [], ◌∷◌, ◌++◌, length, get_or, take, drop, refl, sym, ap, subst, ◌∙◌, arith, eqb-true}
-use Rattle.std.specs.List.{between, count_by, sum_by}
+use Rattle.std.proofs.Common.{◌≡◌, ℕ, ◌+◌, ◌-◌, ◌<◌, Bool, true, false, ◌&&◌, ◌||◌, ◌==◌, List, [], ◌∷◌, ◌++◌, length, get_or, drop, refl, sym, ap, subst, ◌∙◌, arith, eqb-true}
+use Rattle.std.specs.List.{between}
 use Rattle.std.proofs.lemmas.List.{drop_more}
 use Rattle.std.proofs.lemmas.List.Edits.{between_more, length-between}
-use Rattle.aml_tokens.specs.Bytes.{is_word_byte, is_blank, begins_comparison}
+use Rattle.aml_tokens.specs.Bytes.{is_word_byte, begins_comparison}
 use Rattle.aml_tokens.specs.Lexing.{Piece, joins, ended, pieces_from, without_comments}
 use Rattle.aml_tokens.specs.Reading.{pieces_at}
 

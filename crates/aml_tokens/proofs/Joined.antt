@@ -1,12 +1,12 @@
 -- Tokens before those of the rest of a text.
 use Rattle.std.proofs.Common.{◌≡◌, ℕ, ◌+◌, ◌≤◌, ◌==◌, cond, List, [], ◌∷◌, ◌++◌, length, take, drop, Ok, Err, Some, Result, refl, ap, sym, subst, ◌∙◌, arith}
-use Rattle.std.specs.List.{between, count_by, sum_by}
+use Rattle.std.specs.List.{between, count_by}
 use Rattle.std.proofs.lemmas.List.{append-nil, append_assoc, take_at, length-append, length-take}
 use Rattle.std.proofs.lemmas.List.Edits.{split_between, length-between}
 use Rattle.std.proofs.lemmas.List.Sums.{sum_by-append}
 use Rattle.aml_tokens.specs.declared.tokens.TextCause.{TextCause}
 use Rattle.aml_tokens.specs.Token.{Token}
-use Rattle.aml_tokens.specs.Lexing.{Tokens, Piece, onto, within, token_in, tokens_in, line_at, told}
+use Rattle.aml_tokens.specs.Lexing.{Tokens, Piece, onto, within, token_in, tokens_in, line_at}
 use Rattle.aml_tokens.specs.Reading.{pieces_at}
 
 abbrev pub joined : List Token → List ℕ → Tokens → Tokens

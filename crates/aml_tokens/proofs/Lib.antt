@@ -1,4 +1,4 @@
-pub mod Examples
+mod Examples
 mod Fronts
 mod Numerals
 mod Joined
@@ -7,4 +7,6 @@ mod Spaced
 mod Placed
 mod Printable
 mod Told
-pub mod ReadBack
+mod ReadBack
+mod Alone
+mod WrittenBack

@@ -1,15 +1,14 @@
 -- The tokens of a text, written in one line, are read back.
-use Rattle.std.proofs.Common.{◌≡◌, ℕ, ◌+◌, ◌<◌, ◌≤◌, nat_le, Bool, true, false, List, [], ◌∷◌, ◌++◌, length, map, Option, Some, None, Result, Ok, Err, refl, sym, ap, subst, ◌∙◌, arith, leb}
-use Rattle.std.specs.Prelude.{if◌then◌else◌}
+use Rattle.std.proofs.Common.{◌≡◌, ℕ, ◌+◌, ◌≤◌, Bool, true, false, List, [], ◌∷◌, ◌++◌, length, map, None, Result, Ok, Err, refl, sym, ap, subst, ◌∙◌, arith, leb}
 use Rattle.std.specs.List.{AllByRecursion}
-use Rattle.std.specs.Str.{IsAscii}
 use Rattle.std.proofs.lemmas.Bool.{leb-true, le-leb}
 use Rattle.std.proofs.lemmas.List.{append-nil, append_assoc}
+use Rattle.aml_tokens.specs.declared.limits.TheConstants.{LONGEST_PROGRAM}
 use Rattle.aml_tokens.specs.declared.tokens.TextCause.{TextCause}
 use Rattle.aml_tokens.specs.declared.tokens.TextCause.TheVariants as cause
 use Rattle.aml_tokens.specs.Token.{Token}
-use Rattle.aml_tokens.specs.Lexing.{Piece, Tokens, onto, within, token_in, token_at, tokens_in, lexed, tokens, stop, pieces, line_at}
-use Rattle.aml_tokens.specs.Writing.{Written, nothing_written, parted, with_piece, with_tokens, token_bytes, in_first_line}
+use Rattle.aml_tokens.specs.Lexing.{Piece, Tokens, onto, within, token_in, token_at, tokens_in, tokens, stop, pieces, line_at}
+use Rattle.aml_tokens.specs.Writing.{Written, nothing_written, parted, with_piece, with_tokens, token_bytes, in_first_line, IsReadBack}
 use Rattle.aml_tokens.proofs.Spaced.{Spaced, gap, pieces_spaced}
 use Rattle.aml_tokens.proofs.Placed.{behind, placed, IsClean, behind_read}
 use Rattle.aml_tokens.proofs.Printable.{IsPrinted, token_clean, token_printed, behind_printed, printed_ascii, first_line}
@@ -26,19 +25,19 @@ all_read : (at : ℕ) (r : Result Token TextCause) (rest : Tokens) → (onto at 
 all_read at (Ok t) rest h = (t, refl, h)
 all_read at (Err e) rest h = absurd cc
 
-within_ok : (p : Piece) (r : Result Token TextCause) (t : Token) → within p r ≡ Ok t → (r ≡ Ok t) × (p.at + length p.bytes ≤ 65536)
+within_ok : (p : Piece) (r : Result Token TextCause) (t : Token) → within p r ≡ Ok t → (r ≡ Ok t) × (p.at + length p.bytes ≤ LONGEST_PROGRAM)
 within_ok p (Err e) t h = absurd cc
-within_ok p (Ok x) t h = by_end (leb (p.at + length p.bytes) 65536) refl
+within_ok p (Ok x) t h = by_end (leb (p.at + length p.bytes) LONGEST_PROGRAM) refl
   where
-    by_end : (u : Bool) → leb (p.at + length p.bytes) 65536 ≡ u → (◌≡◌ {A = Result Token TextCause} (Ok x) (Ok t)) × (p.at + length p.bytes ≤ 65536)
-    by_end true f = (sym (rw f refl) ∙ h, leb-true (p.at + length p.bytes) 65536 f)
+    by_end : (u : Bool) → leb (p.at + length p.bytes) LONGEST_PROGRAM ≡ u → (◌≡◌ {A = Result Token TextCause} (Ok x) (Ok t)) × (p.at + length p.bytes ≤ LONGEST_PROGRAM)
+    by_end true f = (sym (rw f refl) ∙ h, leb-true (p.at + length p.bytes) LONGEST_PROGRAM f)
     by_end false f =
         let is : within p (Ok x) ≡ Err cause.TooMany = rw f refl in
         absurd (cc (is, h))
 
-is_within : (p : Piece) (r : Result Token TextCause) (t : Token) → r ≡ Ok t → p.at + length p.bytes ≤ 65536 → within p r ≡ Ok t
+pub is_within : (p : Piece) (r : Result Token TextCause) (t : Token) → r ≡ Ok t → p.at + length p.bytes ≤ LONGEST_PROGRAM → within p r ≡ Ok t
 is_within p r t h le =
-    let f : leb (p.at + length p.bytes) 65536 ≡ true = le-leb (p.at + length p.bytes) 65536 le in
+    let f : leb (p.at + length p.bytes) LONGEST_PROGRAM ≡ true = le-leb (p.at + length p.bytes) LONGEST_PROGRAM le in
     let is : within p (Ok t) ≡ Ok t = rw f refl in
     ap (within p) h ∙ is
 
@@ -90,15 +89,10 @@ carried source text (p ∷ ps) end last begun s le h line =
 
 -- ---- the whole text
 
-written_text : (ts : List Token) (w : Written) → (with_tokens w ts).text ≡ w.text ++ behind w.last (map token_bytes ts)
+pub written_text : (ts : List Token) (w : Written) → (with_tokens w ts).text ≡ w.text ++ behind w.last (map token_bytes ts)
 written_text [] w = sym (append-nil w.text)
 written_text (t ∷ ts) w =
     written_text ts (with_piece w (token_bytes t)) ∙ append_assoc w.text (parted w.last (token_bytes t)) (behind (token_bytes t) (map token_bytes ts))
-
-pub record IsReadBack (text : List ℕ) (ts : List Token) : Type 0 where
-  pub whole : stop text ≡ None
-  pub same : tokens text ≡ map in_first_line ts
-  pub ascii : IsAscii text
 
 pub read_back : (source : List ℕ) → stop source ≡ None → IsReadBack (with_tokens nothing_written (tokens source)).text (tokens source)
 read_back source h =

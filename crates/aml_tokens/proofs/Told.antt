@@ -1,7 +1,6 @@
 -- Which bytes a token has, and what they are in the first line.
 use Rattle.std.proofs.Common.{rules, ◌≡◌, ℕ, suc, ◌+◌, ◌-◌, ◌^◌, ◌<◌, ◌≤◌, ◌==◌, nat_lt, nat_le, Bool, true, false, ◌&&◌, List, [], ◌∷◌, length, get_or, Option, Some, None, Result, Ok, Err, refl, sym, ap, subst, ◌∙◌, arith, ltb-true}
 use Rattle.std.specs.Prelude.{if◌then◌else◌, codes}
-use Rattle.std.specs.Fmt.{decimal}
 use Rattle.std.specs.List.{list_all}
 use Rattle.std.specs.Str.{bytes_eq}
 use Rattle.std.specs.Str.Parse.{digits_value}
@@ -12,7 +11,7 @@ use Rattle.aml_tokens.specs.declared.tokens.TextCause.{TextCause}
 use Rattle.aml_tokens.specs.declared.tokens.TextCause.TheVariants as cause
 use Rattle.aml_tokens.specs.Token.{Token, Name, Number, Field, Sign, CloseBrace}
 use Rattle.aml_tokens.specs.Bytes.{is_letter, is_digit, symbol_bytes, keywords, signs}
-use Rattle.aml_tokens.specs.Lexing.{symbol_of, field_of, field_words, is_plain, number_token, word_token, sign_token, token_in, either}
+use Rattle.aml_tokens.specs.Lexing.{symbol_of, field_of, field_words, is_plain, number_token, word_token, sign_token, token_in}
 use Rattle.aml_tokens.specs.Writing.{token_bytes, in_first_line}
 use Rattle.aml_tokens.proofs.Printable.{same_bytes, no_token}
 

@@ -3,6 +3,7 @@ use Rattle.std.specs.Prelude.{ℕ, ◌+◌, ◌-◌, ◌^◌, min, nat_lt, nat_l
 use Rattle.std.specs.List.{list_all, count_by}
 use Rattle.std.specs.Str.{bytes_eq}
 use Rattle.std.specs.Str.Parse.{digits_value}
+use Rattle.aml_tokens.specs.declared.limits.TheConstants.{LONGEST_NAME, LONGEST_PROGRAM}
 use Rattle.aml_tokens.specs.declared.tokens.Symbol.{Symbol}
 use Rattle.aml_tokens.specs.declared.tokens.TextCause.{TextCause}
 use Rattle.aml_tokens.specs.declared.tokens.TextCause.TheVariants.{BadByte, BadToken, NumberRange, TooMany}
@@ -102,7 +103,7 @@ abbrev pub word_token : ℕ → List ℕ → Result Token TextCause
 word_token line bytes =
     either (symbol_of keywords bytes) (λ s. Ok (Sign s))
     (either (field_of 0 field_words bytes) (λ k. Ok (Field k))
-    (if nat_le (length bytes) 32 then Ok (Name (record { name = bytes; line = line })) else Err BadToken))
+    (if nat_le (length bytes) LONGEST_NAME then Ok (Name (record { name = bytes; line = line })) else Err BadToken))
 
 abbrev pub sign_token : ℕ → List ℕ → Result Token TextCause
 sign_token line bytes =
@@ -115,10 +116,10 @@ token_in line [] = Err BadByte
 token_in line (b ∷ bs) =
     if is_digit b then number_token (b ∷ bs) else (if is_letter b then word_token line (b ∷ bs) else sign_token line (b ∷ bs))
 
--- The token that a piece of a text is. It lies within the first 65,536 bytes.
+-- The token that a piece of a text is. It lies within the longest program.
 abbrev pub within : Piece → Result Token TextCause → Result Token TextCause
 within piece (Err cause) = Err cause
-within piece (Ok token) = if nat_le (piece.at + length piece.bytes) 65536 then Ok token else Err TooMany
+within piece (Ok token) = if nat_le (piece.at + length piece.bytes) LONGEST_PROGRAM then Ok token else Err TooMany
 
 abbrev pub token_at : List ℕ → Piece → Result Token TextCause
 token_at text piece = within piece (token_in (line_at text piece.at) piece.bytes)

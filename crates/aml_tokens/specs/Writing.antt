@@ -1,9 +1,10 @@
 -- How tokens are written in one line: a blank stands only where two of them would make one piece.
-use Rattle.std.specs.Prelude.{ℕ, if◌then◌else◌, List, [], ◌∷◌, ◌++◌, slice_index, slice_index_or, codes}
+use Rattle.std.specs.Prelude.{◌≡◌, ℕ, if◌then◌else◌, List, [], ◌∷◌, ◌++◌, map, None, slice_index, slice_index_or, codes}
 use Rattle.std.specs.Fmt.{decimal}
+use Rattle.std.specs.Str.{IsAscii}
 use Rattle.aml_tokens.specs.Token.{Token, Name, Number, Field, Sign, CloseBrace}
 use Rattle.aml_tokens.specs.Bytes.{symbol_bytes}
-use Rattle.aml_tokens.specs.Lexing.{joins, field_words}
+use Rattle.aml_tokens.specs.Lexing.{joins, field_words, stop, tokens}
 
 abbrev pub token_bytes : Token → List ℕ
 token_bytes (Name w) = w.name
@@ -37,3 +38,9 @@ in_first_line (Number n) = Number n
 in_first_line (Field k) = Field k
 in_first_line (Sign s) = Sign s
 in_first_line (CloseBrace line) = CloseBrace 1
+
+-- The text is whole, and has these tokens, with all in the first line.
+pub record IsReadBack (text : List ℕ) (ts : List Token) : Type 0 where
+  pub whole : stop text ≡ None
+  pub same : tokens text ≡ map in_first_line ts
+  pub ascii : IsAscii text

@@ -1,13 +1,22 @@
-ghost use Rattle.std.specs.Prelude.{◌≡◌, None, map};
-ghost use Rattle.std.specs.Str.{IsAscii};
-ghost use Rattle.aml_tokens.specs.Lexing.{tokens, stop};
-ghost use Rattle.aml_tokens.specs.Writing.{nothing_written, with_tokens, in_first_line};
+//! What follows for a caller: tokens that are written in one line are read back. Each is called to cite it.
 
-/// The tokens of a text that is whole are read back where they are written in one line: no piece of
-/// that line is no token, nor does one lie beyond the first 65,536 bytes.
-pub fn written_is_read(_source: &[u8])
-    requires { stop _source.now ≡ None }
-    ensures whole { stop (with_tokens nothing_written (tokens _source.now)).text ≡ None }
-    ensures same { tokens (with_tokens nothing_written (tokens _source.now)).text ≡ map in_first_line (tokens _source.now) }
-    ensures ascii { IsAscii (with_tokens nothing_written (tokens _source.now)).text }
+ghost use Rattle.std.specs.Prelude.{◌≡◌, ◌≤◌, ℕ, List, None, length};
+ghost use Rattle.std.specs.List.{AllByRecursion};
+ghost use Rattle.std.specs.Str.{IsAscii};
+ghost use Rattle.aml_tokens.specs.Token.{Token};
+ghost use Rattle.aml_tokens.specs.Lexing.{tokens, stop};
+ghost use Rattle.aml_tokens.specs.Names.{IsToken};
+ghost use Rattle.aml_tokens.specs.Writing.{nothing_written, with_tokens, IsReadBack};
+
+use crate::LONGEST_PROGRAM;
+
+/// The tokens of a text that is whole are read back where they are written in one line.
+pub fn written_is_read()
+    ensures { (source : List ℕ) → stop source ≡ None → IsReadBack (with_tokens nothing_written (tokens source)).text (tokens source) }
+{}
+
+/// So are any tokens that a text may have, where the line is not too long; its bytes are ASCII in any case.
+pub fn tokens_are_read()
+    ensures ascii { (ts : List Token) → AllByRecursion IsToken ts → IsAscii (with_tokens nothing_written ts).text }
+    ensures read { (ts : List Token) → AllByRecursion IsToken ts → length (with_tokens nothing_written ts).text ≤ LONGEST_PROGRAM → IsReadBack (with_tokens nothing_written ts).text ts }
 {}

@@ -1,8 +1,9 @@
 ghost use Rattle.std.specs.Prelude.{◌≡◌, ℕ, ◌+◌, IfOk, length};
 ghost use Rattle.aml_tokens.specs.Token.{tokens_of};
 ghost use Rattle.aml_tokens.specs.Lexing.{Piece, within, token_in, tokens, places, stop};
-ghost use Rattle.aml_tokens.specs.Reading.{read};
+ghost use Rattle.aml_tokens.specs.Reading.{as_token};
 
+use crate::LONGEST_PROGRAM;
 use crate::pieces::{next_piece, piece_end};
 use crate::places::{line_feeds, told};
 use crate::tokens::{TextCause, Token};
@@ -10,16 +11,13 @@ use crate::words::token_in;
 use snap_base::Memory;
 use std::alloc::Global;
 
-/// The most bytes of a text within which its tokens lie.
-const LONGEST_TEXT: usize = 65_536;
-
 /// The tokens of a text up to the first piece that is none.
 #[derive(Drop)]
 pub struct Lexed<'a> {
     pub tokens: Vec<Token<'a>>,
     /// The place of each token's first byte, from 0 on.
     pub places: Vec<usize>,
-    /// The place of the first piece that is no token, or that lies beyond the first 65,536 bytes, and
+    /// The place of the first piece that is no token, or that lies beyond the first `LONGEST_PROGRAM` bytes, and
     /// what is wrong with it.
     pub stop: Option<(usize, TextCause)>,
 }
@@ -63,10 +61,10 @@ pub fn lex(alloc: Global, text: &[u8]) -> Result<Lexed<'_>, Memory>
 
 /// The token that a piece is which ends before a place.
 fn token_before(bytes: &[u8], end: usize, line: u32) -> Result<Token<'_>, TextCause>
-    ensures { (at : ℕ) → at + length bytes.now ≡ end → read result ≡ within (record { at = at; bytes = bytes.now }) (token_in line bytes.now) }
+    ensures { (at : ℕ) → at + length bytes.now ≡ end → as_token result ≡ within (record { at = at; bytes = bytes.now }) (token_in line bytes.now) }
 {
     let token = token_in(bytes, line)?;
-    if end <= LONGEST_TEXT {
+    if end <= LONGEST_PROGRAM {
         Ok(token)
     } else {
         Err(TextCause::TooMany)

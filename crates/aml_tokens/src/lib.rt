@@ -8,17 +8,17 @@
 mod bytes;
 mod laws;
 mod lexer;
+mod limits;
 mod pieces;
 mod places;
 mod spellings;
-#[cfg(test)]
-mod tests;
 mod tokens;
 mod words;
 mod writer;
 
-pub use laws::written_is_read;
+pub use laws::{tokens_are_read, written_is_read};
 pub use lexer::{Lexed, lex};
+pub use limits::{LONGEST_NAME, LONGEST_PROGRAM};
 pub use places::position;
 pub use spellings::{field_bytes, symbol_bytes};
 pub use tokens::{Name, Symbol, TextCause, Token, Word};

@@ -3,8 +3,9 @@ ghost use Rattle.std.specs.List.{list_all};
 ghost use Rattle.std.specs.Str.Parse.{digits_value};
 ghost use Rattle.aml_tokens.specs.Bytes.{is_digit, keywords, signs};
 ghost use Rattle.aml_tokens.specs.Lexing.{symbol_of, field_of, field_words, is_plain, number_token, word_token, sign_token, token_in};
-ghost use Rattle.aml_tokens.specs.Reading.{read};
+ghost use Rattle.aml_tokens.specs.Reading.{as_token};
 
+use crate::LONGEST_NAME;
 use crate::bytes::{is_digit, is_letter};
 use crate::spellings::{field_bytes, symbol_bytes};
 use crate::tokens::{Symbol, TextCause, Token};
@@ -47,12 +48,9 @@ const SIGNS: [Symbol; 17] = [
 /// The first number that is too large for a text.
 const NUMBER_LIMIT: u64 = 1 << 63;
 
-/// The most bytes of a name.
-const LONGEST_NAME: usize = 32;
-
 /// The token that a piece of bytes in a line is, or what is wrong with it.
 pub fn token_in(bytes: &[u8], line: u32) -> Result<Token<'_>, TextCause>
-    ensures { read result ≡ token_in line bytes.now }
+    ensures { as_token result ≡ token_in line bytes.now }
 {
     match bytes {
         [] => Err(TextCause::BadByte),
@@ -63,7 +61,7 @@ pub fn token_in(bytes: &[u8], line: u32) -> Result<Token<'_>, TextCause>
 }
 
 fn number(bytes: &[u8]) -> Result<Token<'_>, TextCause>
-    ensures { read result ≡ number_token bytes.now }
+    ensures { as_token result ≡ number_token bytes.now }
 {
     if !is_plain(bytes) {
         return Err(TextCause::BadToken);
@@ -109,7 +107,7 @@ fn value(digits: &[u8]) -> u64
 }
 
 fn word(bytes: &[u8], line: u32) -> Result<Token<'_>, TextCause>
-    ensures { read result ≡ word_token line bytes.now }
+    ensures { as_token result ≡ word_token line bytes.now }
 {
     if let Some(symbol) = symbol_in(&KEYWORDS, bytes) {
         return Ok(Token::Symbol(symbol));
@@ -125,7 +123,7 @@ fn word(bytes: &[u8], line: u32) -> Result<Token<'_>, TextCause>
 }
 
 fn sign(bytes: &[u8], line: u32) -> Result<Token<'_>, TextCause>
-    ensures { read result ≡ sign_token line bytes.now }
+    ensures { as_token result ≡ sign_token line bytes.now }
 {
     if bytes == b"}".as_slice() {
         return Ok(Token::CloseBrace { line });

@@ -5,7 +5,7 @@ use Rattle.aml_tokens.specs.declared.tokens.TextCause.{TextCause}
 use Rattle.aml_tokens.specs.declared.tokens.TextCause.TheVariants.{Unexpected, NumberRange, TooDeep, TooMany}
 use Rattle.aml_tokens.specs.Token.{Token}
 use Rattle.aml_tree.specs.Limits.{Mark}
-use Rattle.aml_tree.specs.Items.{Item, Methods, Value, Values, Production, Event, Plain, Opens, Names, Parametrizes, Begins, Codes, mark, counted, front, joined, expand}
+use Rattle.aml_tree.specs.Items.{Item, Methods, Value, Values, Production, Event, Plain, Opens, Names, Parametrizes, Begins, Codes, mark, counted, front, joined_values, expand}
 use Rattle.aml_tree.specs.Reading.{Fault, ◌>>=◌, passing, begun, read}
 use Rattle.aml_tree.proofs.Written.{spelled, all_marked, AllFit}
 use Rattle.aml_tree.proofs.Split.{Closed, Split, Over, split, front_joined, back_joined, fit_joined}
@@ -37,24 +37,24 @@ over_limits (Methods (suc before)) (j ∷ s) names [] vs over closed = absurd cc
 over_limits _ s names v vs over closed = absurd over
 
 -- a value that its first token's production makes
-parted : (i : Item) (s : List Item) (v : Value i) (vs : Values s) (x : Split i v) → (v, vs) ≡ gathered i s x.production (joined x.production.items s x.parts vs)
+parted : (i : Item) (s : List Item) (v : Value i) (vs : Values s) (x : Split i v) → (v, vs) ≡ gathered i s x.production (joined_values x.production.items s x.parts vs)
 parted i s v vs x =
     let p = x.production in
     ap (λ (u : Value i). (u, vs)) x.made
     ∙ ap (λ (us : Values p.items). (p.make us, vs)) (sym (front_joined p.items s x.parts vs))
-    ∙ ap (λ (ws : Values s). (p.make (front p.items s (joined p.items s x.parts vs)), ws)) (sym (back_joined p.items s x.parts vs))
+    ∙ ap (λ (ws : Values s). (p.make (front p.items s (joined_values p.items s x.parts vs)), ws)) (sym (back_joined p.items s x.parts vs))
 
-first_token : (i : Item) (s : List Item) (v : Value i) (vs : Values s) (x : Split i v) → spelled (i ∷ s) (v, vs) ≡ x.token ∷ spelled (x.production.items ++ s) (joined x.production.items s x.parts vs)
+first_token : (i : Item) (s : List Item) (v : Value i) (vs : Values s) (x : Split i v) → spelled (i ∷ s) (v, vs) ≡ x.token ∷ spelled (x.production.items ++ s) (joined_values x.production.items s x.parts vs)
 first_token i s v vs x =
     ap (λ (w : Values (i ∷ s)). spelled (i ∷ s) w) (parted i s v vs x)
-    ∙ gathered_tokens i s x.token x.production (joined x.production.items s x.parts vs) (made_by i x.token x.production x.is_token x.found)
+    ∙ gathered_tokens i s x.token x.production (joined_values x.production.items s x.parts vs) (made_by i x.token x.production x.is_token x.found)
 
 first_again : (t : Token) (ts : List Token) (i : Item) (s : List Item) (names at : ℕ) (v : Value i) (vs : Values s) (x : Split i v) → t ∷ ts ≡ spelled (i ∷ s) (v, vs) → AllFit s vs → Closed (i ∷ s)
     → ((s : List Item) (names at : ℕ) (vs : Values s) → ts ≡ spelled s vs → AllFit s vs → Closed s → Again ts s names at vs) → Again (t ∷ ts) (i ∷ s) names at (v, vs)
 unfolding read
 first_again t ts i s names at v vs x e fits closed others =
     let p = x.production in
-    let behind : Values (p.items ++ s) = joined p.items s x.parts vs in
+    let behind : Values (p.items ++ s) = joined_values p.items s x.parts vs in
     let made = made_by i x.token p x.is_token x.found in
     let tokens : t ∷ ts ≡ x.token ∷ spelled (p.items ++ s) behind = e ∙ first_token i s v vs x in
     let first : t ≡ x.token = cc in

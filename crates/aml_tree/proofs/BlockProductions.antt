@@ -3,6 +3,7 @@
 use Rattle.std.proofs.Common.{◌≡◌, ℕ, ◌+◌, List, [], ◌∷◌, ◌++◌, length, map, None, refl, sym, ap, ◌∙◌, append_assoc, arith}
 use Rattle.std.proofs.lemmas.List.{append-nil}
 use Rattle.std.proofs.lemmas.List.Concat.{flat_map-cons}
+use Rattle.aml_tokens.specs.Names.{IsToken}
 use Rattle.aml_tokens.specs.declared.tokens.Symbol.TheVariants as symbol
 use Rattle.aml_tokens.specs.declared.tokens.Word.{Word}
 use Rattle.aml_tokens.specs.Token.{Token}
@@ -12,7 +13,7 @@ use Rattle.aml_tree.specs.Tree.{Expr, Code, TextMethod}
 use Rattle.aml_tree.specs.Grammar.{spelling, block_spelling, method_spelling, program_spelling, name_spelling, listed, IsExpression, IsBlock}
 use Rattle.aml_tree.specs.Limits.{Mark, method, opened, named, marks, lets, block_marks, method_marks, methods_marks, listed_marks, parameter_marks}
 use Rattle.aml_tree.specs.Items.{Item, Called, New, Parameter, Fixed, Opening, Target, Operand, More, Expression, Argued, Failing, Letting, Block, After, Parameters, MoreParameters, Methods, To, LetRest, Valued, Calling, IfRest, Without, WithElse, expression_by, letting_by, let_of, if_of, block_by, after_by, parameters_by, more_parameters_by, methods_by, expand}
-use Rattle.aml_tree.proofs.Written.{IsToken, let_rest, if_rest, let_marks, if_marks, let_names, if_names, parameters, parameters_marks, method_names, IsLetRest, IsIfRest}
+use Rattle.aml_tree.proofs.Written.{let_rest, if_rest, let_marks, if_marks, let_names, if_names, parameters, parameters_marks, method_names, IsLetRest, IsIfRest}
 use Rattle.aml_tree.proofs.Lists.{arguments_listed, arguments_marked, parameters_listed, parameters_marked}
 use Rattle.aml_tree.proofs.Made.{Good, good_renamed, Joins, good_followed}
 use Rattle.aml_tree.proofs.Productions.{good_called, good_new, good_parameter, good_fixed, good_opening, good_failing, good_target, good_operand, good_expression, good_behind, good_argued}

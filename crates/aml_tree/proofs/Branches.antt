@@ -7,7 +7,7 @@ use Rattle.aml_tokens.specs.Token as token
 use Rattle.aml_tree.specs.declared.readers.Sign.TheVariants as fixed
 use Rattle.aml_tree.specs.Tree.{Expr, Code, Onto, Number, Variable, Field, Own, Group, Negative}
 use Rattle.aml_tree.specs.Limits.{opened}
-use Rattle.aml_tree.specs.Items.{Item, Called, New, Fixed, Opening, Target, Operand, More, Expression, Argued, Letting, Block, After, To, LetRest, Valued, Calling, IfRest, Without, WithElse, Value, Values, counted, is_else, is_call, joined, let_of, if_of, all_attached, expand}
+use Rattle.aml_tree.specs.Items.{Item, Called, New, Fixed, Opening, Target, Operand, More, Expression, Argued, Letting, Block, After, To, LetRest, Valued, Calling, IfRest, Without, WithElse, Value, Values, counted, is_else, is_call, joined_values, let_of, if_of, all_attached, expand}
 use Rattle.aml_tree.specs.Reading.{Fault, ◌>>=◌, begun, read, Takes, Stops, TakesPart, Rests, there}
 use Rattle.aml_tree.proofs.ReadLaws.{fine}
 use Rattle.aml_tree.proofs.Steps.{bound_twice, passed_twice, drop_none, begins, stops_by, paired}
@@ -16,18 +16,18 @@ use Rattle.aml_tree.proofs.Exprs.{Same, renamed_reads}
 -- a part whose items come before an item that ends with the rest of the block
 part_via : (ts : List Token) (depth names at m mid after end : ℕ) (is : List Item) (us : Values is) (j : Item) (f : Code Word Word → Value j) (part : Onto Word Word) (make : (s : List Item) → Values (is ++ (j ∷ s)) → Values (Block depth ∷ s))
     → ((s : List Item) → read (Block depth ∷ s) names at (drop at ts) ≡ (read (is ++ (j ∷ s)) names (at + 1) (drop (at + 1) ts) >>= λ vs. Ok (make s vs)))
-    → ((s : List Item) (ws : Values (Block depth ∷ s)) → make s (joined is (j ∷ s) us (paired j s (f ws.0) ws.1)) ≡ paired (Block depth) s (part ws.0) ws.1)
+    → ((s : List Item) (ws : Values (Block depth ∷ s)) → make s (joined_values is (j ∷ s) us (paired j s (f ws.0) ws.1)) ≡ paired (Block depth) s (part ws.0) ws.1)
     → Takes ts is us names (at + 1) m mid → Rests ts depth j f m mid after end → TakesPart ts depth part names at after end
 part_via ts depth names at m mid after end is us j f part make first same x y = record {
   goes = λ s.
       first s ∙ ap (λ (r : Result (Values (is ++ (j ∷ s))) Fault). r >>= λ vs. Ok (make s vs)) (x.goes (j ∷ s))
-      ∙ bound_twice (read (j ∷ s) m mid (drop mid ts)) (joined is (j ∷ s) us) (make s)
-      ∙ ap (λ (r : Result (Values (j ∷ s)) Fault). r >>= λ vs. Ok (make s (joined is (j ∷ s) us vs))) (y.goes s)
-      ∙ bound_twice (read (Block depth ∷ s) after end (drop end ts)) (λ vs. paired j s (f vs.0) vs.1) (λ vs. make s (joined is (j ∷ s) us vs))
+      ∙ bound_twice (read (j ∷ s) m mid (drop mid ts)) (joined_values is (j ∷ s) us) (make s)
+      ∙ ap (λ (r : Result (Values (j ∷ s)) Fault). r >>= λ vs. Ok (make s (joined_values is (j ∷ s) us vs))) (y.goes s)
+      ∙ bound_twice (read (Block depth ∷ s) after end (drop end ts)) (λ vs. paired j s (f vs.0) vs.1) (λ vs. make s (joined_values is (j ∷ s) us vs))
       ∙ put s (read (Block depth ∷ s) after end (drop end ts));
 }
   where
-    put : (s : List Item) (r : Result (Values (Block depth ∷ s)) Fault) → (r >>= λ ws. Ok (make s (joined is (j ∷ s) us (paired j s (f ws.0) ws.1)))) ≡ (r >>= λ ws. Ok (paired (Block depth) s (part ws.0) ws.1))
+    put : (s : List Item) (r : Result (Values (Block depth ∷ s)) Fault) → (r >>= λ ws. Ok (make s (joined_values is (j ∷ s) us (paired j s (f ws.0) ws.1)))) ≡ (r >>= λ ws. Ok (paired (Block depth) s (part ws.0) ws.1))
     put s (Err e) = refl
     put s (Ok ws) = ap fine (same s ws)
 
@@ -65,7 +65,7 @@ with_else ts depth names at after end other is x = record {
   goes = λ s.
       begins ts (After depth) s names at (token.Sign symbol.Else) (else_is (slice_get ts at) is)
       ∙ ap (λ (r : Result (Values (Opening depth fixed.OpenBrace ∷ Block (depth + 1) ∷ Block depth ∷ s)) Fault). r >>= λ vs. Ok (paired (After depth) s (WithElse vs.1.0 vs.1.1.0) vs.1.1.1)) (x.goes (Block depth ∷ s))
-      ∙ bound_twice (read (Block depth ∷ s) after end (drop end ts)) (joined (Opening depth fixed.OpenBrace ∷ Block (depth + 1) ∷ []) (Block depth ∷ s) (tt, (other, tt))) (λ vs. paired (After depth) s (WithElse vs.1.0 vs.1.1.0) vs.1.1.1);
+      ∙ bound_twice (read (Block depth ∷ s) after end (drop end ts)) (joined_values (Opening depth fixed.OpenBrace ∷ Block (depth + 1) ∷ []) (Block depth ∷ s) (tt, (other, tt))) (λ vs. paired (After depth) s (WithElse vs.1.0 vs.1.1.0) vs.1.1.1);
 }
 
 pub else_stops : (ts : List Token) (depth names at : ℕ) (fault : Fault) → there is_else (slice_get ts at) ≡ true
@@ -132,7 +132,7 @@ call_rests ts depth names at end target m es is x = record {
   goes = λ s.
       begins ts (Letting depth) s names at (token.Sign symbol.Call) (call_is (slice_get ts at) is)
       ∙ ap (λ (r : Result (Values (Target depth ∷ Called ∷ Opening depth fixed.Open ∷ Argued (depth + 1) ∷ Fixed fixed.Semicolon ∷ Block depth ∷ s)) Fault). r >>= λ vs. Ok (paired (Letting depth) s (Calling vs.0 vs.1.0 vs.1.1.1.0 vs.1.1.1.1.1.0) vs.1.1.1.1.1.1)) (x.goes (Block depth ∷ s))
-      ∙ bound_twice (read (Block depth ∷ s) names end (drop end ts)) (joined (Target depth ∷ Called ∷ Opening depth fixed.Open ∷ Argued (depth + 1) ∷ Fixed fixed.Semicolon ∷ []) (Block depth ∷ s) (target, (m, (tt, (es, (tt, tt))))))
+      ∙ bound_twice (read (Block depth ∷ s) names end (drop end ts)) (joined_values (Target depth ∷ Called ∷ Opening depth fixed.Open ∷ Argued (depth + 1) ∷ Fixed fixed.Semicolon ∷ []) (Block depth ∷ s) (target, (m, (tt, (es, (tt, tt))))))
       (λ vs. paired (Letting depth) s (Calling vs.0 vs.1.0 vs.1.1.1.0 vs.1.1.1.1.1.0) vs.1.1.1.1.1.1);
 }
 

@@ -5,6 +5,7 @@ use Rattle.std.specs.List.{AllByRecursion}
 use Rattle.aml_tokens.specs.declared.tokens.TextCause.{TextCause}
 use Rattle.aml_tokens.specs.declared.tokens.TextCause.TheVariants.{Unexpected}
 use Rattle.aml_tokens.specs.Token.{Token}
+use Rattle.aml_tokens.specs.Names.{IsToken}
 use Rattle.aml_tree.specs.Tree.{TextMethod}
 use Rattle.aml_tree.specs.Grammar.{program_spelling, IsGrammatical}
 use Rattle.aml_tree.specs.Limits.{Mark, program_marks}
@@ -12,7 +13,6 @@ use Rattle.aml_tree.specs.Programs.{IsUnmarked}
 use Rattle.aml_tree.specs.Faults.{Begins, IsDeadEnd, IsClear, IsUnexpected, PassesLimit}
 use Rattle.aml_tree.specs.Items.{Methods, Values}
 use Rattle.aml_tree.specs.Reading.{Fault, ◌>>=◌, read, program}
-use Rattle.aml_tree.proofs.Written.{IsToken}
 use Rattle.aml_tree.proofs.ReadLaws.{fine, halt, ok_same, err_same, bound_is, bound_err, passing_all, sound, steady}
 use Rattle.aml_tree.proofs.Again.{IsLimit, again}
 use Rattle.aml_tree.proofs.Viable.{Passes, Cut, viable}

@@ -9,7 +9,7 @@ use Rattle.aml_tokens.specs.Token as token
 use Rattle.aml_tree.specs.declared.readers.Sign.{Sign}
 use Rattle.aml_tree.specs.declared.readers.Sign.TheVariants as fixed
 use Rattle.aml_tree.specs.Tree.{Expr, Code, Onto, Set, SetField, While, Fail, Return}
-use Rattle.aml_tree.specs.Items.{Item, Fixed, Opening, Expression, Failing, Block, To, Values, Production, Plain, Opens, single, mark, counted, is_sign, on_test, joined, block_by}
+use Rattle.aml_tree.specs.Items.{Item, Fixed, Opening, Expression, Failing, Block, To, Values, Production, Plain, Opens, single, mark, counted, is_sign, on_test, joined_values, block_by}
 use Rattle.aml_tree.specs.Reading.{Fault, ◌>>=◌, read, Takes, Stops, TakesPart, there, sign_there}
 use Rattle.aml_tree.proofs.ReadLaws.{fine}
 use Rattle.aml_tree.proofs.Steps.{bound_twice, begins, takes_none, takes_then, takes_by, stops_by, stops_limit, stops_none, stops_then, stops_first, NoBegin, paired}
@@ -63,16 +63,16 @@ opening_stops ts depth sign names at none = stops_none ts (Opening depth sign) n
 -- a part whose items are read behind its first token, up to the rest of the block
 pub part_of : (ts : List Token) (depth names at after end : ℕ) (is : List Item) (us : Values is) (m : ℕ) (part : Onto Word Word) (make : (s : List Item) → Values (is ++ (Block depth ∷ s)) → Values (Block depth ∷ s))
     → ((s : List Item) → read (Block depth ∷ s) names at (drop at ts) ≡ (read (is ++ (Block depth ∷ s)) m (at + 1) (drop (at + 1) ts) >>= λ vs. Ok (make s vs)))
-    → ((s : List Item) (ws : Values (Block depth ∷ s)) → make s (joined is (Block depth ∷ s) us ws) ≡ paired (Block depth) s (part ws.0) ws.1)
+    → ((s : List Item) (ws : Values (Block depth ∷ s)) → make s (joined_values is (Block depth ∷ s) us ws) ≡ paired (Block depth) s (part ws.0) ws.1)
     → Takes ts is us m (at + 1) after end → TakesPart ts depth part names at after end
 part_of ts depth names at after end is us m part make first same x = record {
   goes = λ s.
       first s ∙ ap (λ (r : Result (Values (is ++ (Block depth ∷ s))) Fault). r >>= λ vs. Ok (make s vs)) (x.goes (Block depth ∷ s))
-      ∙ bound_twice (read (Block depth ∷ s) after end (drop end ts)) (joined is (Block depth ∷ s) us) (make s)
+      ∙ bound_twice (read (Block depth ∷ s) after end (drop end ts)) (joined_values is (Block depth ∷ s) us) (make s)
       ∙ put s (read (Block depth ∷ s) after end (drop end ts));
 }
   where
-    put : (s : List Item) (r : Result (Values (Block depth ∷ s)) Fault) → (r >>= λ ws. Ok (make s (joined is (Block depth ∷ s) us ws))) ≡ (r >>= λ ws. Ok (paired (Block depth) s (part ws.0) ws.1))
+    put : (s : List Item) (r : Result (Values (Block depth ∷ s)) Fault) → (r >>= λ ws. Ok (make s (joined_values is (Block depth ∷ s) us ws))) ≡ (r >>= λ ws. Ok (paired (Block depth) s (part ws.0) ws.1))
     put s (Err e) = refl
     put s (Ok ws) = ap fine (same s ws)
 

@@ -6,6 +6,7 @@ use Rattle.aml_tokens.specs.declared.tokens.Symbol.TheVariants as symbol
 use Rattle.aml_tokens.specs.declared.tokens.Word.{Word}
 use Rattle.aml_tokens.specs.Token.{Token}
 use Rattle.aml_tokens.specs.Token as token
+use Rattle.aml_tokens.specs.Names.{IsToken}
 use Rattle.aml_tree.specs.declared.readers.Sign.{Sign}
 use Rattle.aml_tree.specs.declared.readers.Sign.TheVariants as fixed
 use Rattle.aml_tree.specs.declared.trees.Operator.{Operator}
@@ -13,7 +14,7 @@ use Rattle.aml_tree.specs.Tree.{Expr, Number, Variable, Field, Own, Group, Negat
 use Rattle.aml_tree.specs.Grammar.{sign, spelling, IsAt, IsPrimary}
 use Rattle.aml_tree.specs.Limits.{Mark, opened, marks}
 use Rattle.aml_tree.specs.Items.{Called, New, Parameter, Fixed, Opening, Target, Operand, More, Expression, Argued, Failing, Closer, To, Arguments, Plain, Opens, mark, counted, all_attached, allowed, compares, closing, single, is_sign, operator_of, target_by, operand_by, expression_by, ending_by, more_by, argued_by, expand}
-use Rattle.aml_tree.proofs.Written.{IsToken, symbol_of, closing_mark, further, ending, ending_marks, links, link_marks}
+use Rattle.aml_tree.proofs.Written.{symbol_of, closing_mark, further, ending, ending_marks, links, link_marks}
 use Rattle.aml_tree.proofs.Attached.{all_attached_tokens, all_attached_marks, read_at}
 use Rattle.aml_tree.proofs.Made.{Good, good_test, good_renamed, Joins, good_followed}
 

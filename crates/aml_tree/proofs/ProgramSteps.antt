@@ -9,7 +9,7 @@ use Rattle.aml_tokens.specs.Token as token
 use Rattle.aml_tree.specs.declared.readers.Sign.TheVariants as fixed
 use Rattle.aml_tree.specs.Tree.{TextMethod}
 use Rattle.aml_tree.specs.Limits.{Mark, method}
-use Rattle.aml_tree.specs.Items.{Called, Opening, Parameters, Block, Methods, Values, is_method, joined, expand}
+use Rattle.aml_tree.specs.Items.{Called, Opening, Parameters, Block, Methods, Values, is_method, joined_values, expand}
 use Rattle.aml_tree.specs.Reading.{Fault, ◌>>=◌, passing, read, program, Takes, Stops, TakesMethod, method_items, there}
 use Rattle.aml_tree.proofs.ReadLaws.{fine}
 use Rattle.aml_tree.proofs.Steps.{bound_twice, drop_none, begins, stops_none, takes_then, stops_then, stops_first, paired}
@@ -96,7 +96,7 @@ listing_goes ts end behind ms new m so_far is lt x pushed =
           ∙ ap (λ (r : Result (Values (Methods (length ms) ∷ [])) Fault). r >>= λ vs. Ok (behind_methods (length ms) ms vs))
           (method_runs ts (length ms) so_far.names end is lt
           ∙ ap (λ (r : Result (Values (method_items ++ (Methods (length ms + 1) ∷ []))) Fault). r >>= λ vs. Ok (begin_method (length ms) vs)) (x.takes.goes (Methods (length ms + 1) ∷ []))
-          ∙ bound_twice (read (Methods (length ms + 1) ∷ []) x.after behind (drop behind ts)) (joined method_items (Methods (length ms + 1) ∷ []) (m.name, (tt, (m.parameters, (tt, (m.body, tt)))))) (begin_method (length ms)))
+          ∙ bound_twice (read (Methods (length ms + 1) ∷ []) x.after behind (drop behind ts)) (joined_values method_items (Methods (length ms + 1) ∷ []) (m.name, (tt, (m.parameters, (tt, (m.body, tt)))))) (begin_method (length ms)))
           ∙ bound_twice (read (Methods (length ms + 1) ∷ []) x.after behind (drop behind ts)) (λ vs. paired (Methods (length ms)) [] (m ∷ vs.0) tt) (behind_methods (length ms) ms)
           ∙ put (length ms + 1) (read (Methods (length ms + 1) ∷ []) x.after behind (drop behind ts))
           ∙ counts (length_after ms m);

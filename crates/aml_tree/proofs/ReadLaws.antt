@@ -2,6 +2,7 @@
 -- grammar goes on up to there, and reading sees no token behind the one at which it stops.
 use Rattle.std.proofs.Common.{◌≡◌, ℕ, suc, ◌+◌, ◌≤◌, List, [], ◌∷◌, ◌++◌, length, Option, Some, None, Result, Ok, Err, refl, sym, ap, subst, ◌∙◌, inl, inr, ◌⊎◌, arith}
 use Rattle.std.specs.List.{AllByRecursion}
+use Rattle.aml_tokens.specs.Names.{IsToken}
 use Rattle.aml_tokens.specs.declared.tokens.TextCause.{TextCause}
 use Rattle.aml_tokens.specs.declared.tokens.TextCause.TheVariants.{Unexpected}
 use Rattle.aml_tokens.specs.Token.{Token}
@@ -9,7 +10,7 @@ use Rattle.aml_tree.specs.Limits.{Mark}
 use Rattle.aml_tree.specs.Programs.{IsUnmarked}
 use Rattle.aml_tree.specs.Items.{Item, Methods, Value, Values, Production, mark, counted, front, back, expand}
 use Rattle.aml_tree.specs.Reading.{Fault, ◌>>=◌, passing, begun, ended, read}
-use Rattle.aml_tree.proofs.Written.{IsToken, spelled, all_marked, then_named, AllFit}
+use Rattle.aml_tree.proofs.Written.{spelled, all_marked, then_named, AllFit}
 use Rattle.aml_tree.proofs.Made.{Made, Good, spelled_parts, marked_parts, fit_front, fit_back}
 use Rattle.aml_tree.proofs.BlockProductions.{good}
 use Rattle.aml_tree.proofs.Split.{Closed, Over}

@@ -4,14 +4,15 @@ use Rattle.aml_tokens.specs.declared.tokens.Symbol.TheVariants as symbol
 use Rattle.aml_tokens.specs.declared.tokens.Word.{Word}
 use Rattle.aml_tokens.specs.Token.{Token}
 use Rattle.aml_tokens.specs.Token as token
+use Rattle.aml_tokens.specs.Names.{IsToken}
 use Rattle.aml_tree.specs.declared.readers.Sign.{Sign}
 use Rattle.aml_tree.specs.declared.readers.Sign.TheVariants as fixed
 use Rattle.aml_tree.specs.declared.trees.Operator.{Operator}
 use Rattle.aml_tree.specs.declared.trees.Operator.TheVariants as operator
 use Rattle.aml_tree.specs.Tree.{Expr, Number, Variable, Field, Own, Group, Negative, Binary, End, Let, Call, Set, SetField, If, IfElse, While, Fail, Return, TextMethod}
 use Rattle.aml_tree.specs.Grammar.{sign, IsAt, IsExpression}
-use Rattle.aml_tree.specs.Items.{Item, Called, New, Parameter, Fixed, Opening, Target, Operand, More, Expression, Argued, Failing, Letting, Block, After, Parameters, MoreParameters, Methods, Closer, To, Arguments, LetRest, Valued, Calling, IfRest, Without, WithElse, Value, Values, Production, Plain, Opens, single, closing, all_attached, compares, front, back, joined, Ending, Links, renamed, followed, on_test, is_sign, operator_of, expand, expression_by, is_close, is_call, is_else, block_by, letting_by, after_by}
-use Rattle.aml_tree.proofs.Written.{IsToken, symbol_of, Fits, AllFit, AreLinks, IsEnding}
+use Rattle.aml_tree.specs.Items.{Item, Called, New, Parameter, Fixed, Opening, Target, Operand, More, Expression, Argued, Failing, Letting, Block, After, Parameters, MoreParameters, Methods, Closer, To, Arguments, LetRest, Valued, Calling, IfRest, Without, WithElse, Value, Values, Production, Plain, Opens, single, closing, all_attached, compares, front, back, joined_values, Ending, Links, renamed, followed, on_test, is_sign, operator_of, expand, expression_by, is_close, is_call, is_else, block_by, letting_by, after_by}
+use Rattle.aml_tree.proofs.Written.{symbol_of, Fits, AllFit, AreLinks, IsEnding}
 use Rattle.aml_tree.proofs.Attached.{no_operator}
 use Rattle.aml_tree.proofs.Flattened.{first_operand, operators, reattached, first_at, are_operators}
 
@@ -31,17 +32,17 @@ pub record Split (i : Item) (v : Value i) : Type 0 where
   pub fits : AllFit production.items parts
   pub closed : (s : List Item) → Closed (i ∷ s) → Closed (production.items ++ s)
 
--- ---- values joined
+-- ---- joined values
 
-pub front_joined : (is s : List Item) (us : Values is) (ws : Values s) → front is s (joined is s us ws) ≡ us
+pub front_joined : (is s : List Item) (us : Values is) (ws : Values s) → front is s (joined_values is s us ws) ≡ us
 front_joined [] s us ws = refl
 front_joined (i ∷ is) s us ws = ap (λ (vs : Values is). (us.0, vs)) (front_joined is s us.1 ws)
 
-pub back_joined : (is s : List Item) (us : Values is) (ws : Values s) → back is s (joined is s us ws) ≡ ws
+pub back_joined : (is s : List Item) (us : Values is) (ws : Values s) → back is s (joined_values is s us ws) ≡ ws
 back_joined [] s us ws = refl
 back_joined (i ∷ is) s us ws = back_joined is s us.1 ws
 
-pub fit_joined : (is s : List Item) (us : Values is) (ws : Values s) → AllFit is us → AllFit s ws → AllFit (is ++ s) (joined is s us ws)
+pub fit_joined : (is s : List Item) (us : Values is) (ws : Values s) → AllFit is us → AllFit s ws → AllFit (is ++ s) (joined_values is s us ws)
 fit_joined [] s us ws a b = b
 fit_joined (i ∷ is) s us ws a b = (a.0, fit_joined is s us.1 ws a.1 b)
 
@@ -72,11 +73,11 @@ split_followed i is j f v ws x same fits deeper =
       is_token = x.is_token;
       production = record { event = p.event; items = p.items ++ is; make = λ vs. f (p.make (front p.items is vs)) (back p.items is vs) };
       found = same ∙ ap (λ (o : Option (Production i)). followed is f o) x.found;
-      parts = joined p.items is x.parts ws;
+      parts = joined_values p.items is x.parts ws;
       made =
           ap (λ (u : Value i). f u ws) x.made
           ∙ ap (λ (us : Values p.items). f (p.make us) ws) (sym (front_joined p.items is x.parts ws))
-          ∙ ap (λ (vs : Values is). f (p.make (front p.items is (joined p.items is x.parts ws))) vs) (sym (back_joined p.items is x.parts ws));
+          ∙ ap (λ (vs : Values is). f (p.make (front p.items is (joined_values p.items is x.parts ws))) vs) (sym (back_joined p.items is x.parts ws));
       fits = fit_joined p.items is x.parts ws x.fits fits;
       closed = λ s h. append_three p.items is s Closed (x.closed (is ++ s) (deeper s h));
     }

@@ -8,7 +8,7 @@ use Rattle.aml_tree.specs.declared.readers.ReadNo.{ReadNo}
 use Rattle.aml_tree.specs.declared.readers.ReadNo.TheVariants as no
 use Rattle.aml_tree.specs.Limits.{Mark}
 use Rattle.aml_tree.specs.Tree.{Code, Onto}
-use Rattle.aml_tree.specs.Items.{Item, Block, Value, Values, Production, mark, counted, front, back, joined, expand}
+use Rattle.aml_tree.specs.Items.{Item, Block, Value, Values, Production, mark, counted, front, back, joined_values, expand}
 use Rattle.aml_tree.proofs.ReadLaws.{fine, gathered}
 use Rattle.aml_tree.specs.Reading.{Fault, ◌>>=◌, passing, begun, ended, read, Takes, Stops, TakesPart, Fails}
 
@@ -58,7 +58,7 @@ pub takes_then : {ts : List Token} {i : Item} {is : List Item} {v : Value i} {us
 takes_then {ts} {i} {is} {v} {us} {names} {at} {m} {mid} {after} {end} a b = record {
   goes = λ s.
       a.goes (is ++ s) ∙ ap (λ (r : Result (Values (is ++ s)) Fault). r >>= λ vs. Ok (v, vs)) (b.goes s)
-      ∙ bound_twice (read s after end (drop end ts)) (joined is s us) (λ vs. (v, vs));
+      ∙ bound_twice (read s after end (drop end ts)) (joined_values is s us) (λ vs. (v, vs));
 }
 
 pub stops_first : {ts : List Token} {i : Item} {is : List Item} {names at : ℕ} {fault : Fault} → Stops ts (i ∷ []) names at fault → Stops ts (i ∷ is) names at fault
@@ -70,11 +70,11 @@ stops_then {ts} {i} {is} {v} a b = record { goes = λ s. a.goes (is ++ s) ∙ ap
 
 -- ---- an item by its first token
 
-front_of_joined : (is s : List Item) (us : Values is) (ws : Values s) → front is s (joined is s us ws) ≡ us
+front_of_joined : (is s : List Item) (us : Values is) (ws : Values s) → front is s (joined_values is s us ws) ≡ us
 front_of_joined [] s us ws = refl
 front_of_joined (i ∷ is) s us ws = ap (λ (vs : Values is). (us.0, vs)) (front_of_joined is s us.1 ws)
 
-back_of_joined : (is s : List Item) (us : Values is) (ws : Values s) → back is s (joined is s us ws) ≡ ws
+back_of_joined : (is s : List Item) (us : Values is) (ws : Values s) → back is s (joined_values is s us ws) ≡ ws
 back_of_joined [] s us ws = refl
 back_of_joined (i ∷ is) s us ws = back_of_joined is s us.1 ws
 
@@ -82,10 +82,10 @@ abbrev pub paired : (i : Item) (s : List Item) → Value i → Values s → Valu
 paired i s v vs = (v, vs)
 
 gathered_joined : (i : Item) (s : List Item) (p : Production i) (us : Values p.items) (r : Result (Values s) Fault)
-    → ((r >>= λ ws. Ok (joined p.items s us ws)) >>= λ vs. Ok (gathered i s p vs)) ≡ (r >>= λ ws. Ok (paired i s (p.make us) ws))
+    → ((r >>= λ ws. Ok (joined_values p.items s us ws)) >>= λ vs. Ok (gathered i s p vs)) ≡ (r >>= λ ws. Ok (paired i s (p.make us) ws))
 gathered_joined i s p us (Err f) = refl
 gathered_joined i s p us (Ok ws) =
-    ap (λ (vs : Values p.items). fine (paired i s (p.make vs) (back p.items s (joined p.items s us ws)))) (front_of_joined p.items s us ws)
+    ap (λ (vs : Values p.items). fine (paired i s (p.make vs) (back p.items s (joined_values p.items s us ws)))) (front_of_joined p.items s us ws)
     ∙ ap (λ (xs : Values s). fine (paired i s (p.make us) xs)) (back_of_joined p.items s us ws)
 
 pub takes_by : (ts : List Token) (i : Item) (t : Token) (p : Production i) (us : Values p.items) (names at after end : ℕ) → slice_get ts at ≡ Some t → expand i t ≡ Some p → mark names p.event ≡ None

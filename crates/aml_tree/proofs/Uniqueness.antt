@@ -3,6 +3,7 @@ use Rattle.std.proofs.Common.{◌≡◌, ℕ, zero, suc, ◌+◌, ◌≤◌, Lis
 use Rattle.std.proofs.lemmas.Bool.{cases_lt}
 use Rattle.std.proofs.lemmas.List.{take-append-drop}
 use Rattle.std.specs.List.{AllByRecursion}
+use Rattle.aml_tokens.specs.Names.{IsToken}
 use Rattle.aml_tokens.specs.declared.tokens.TextCause.{TextCause}
 use Rattle.aml_tokens.specs.declared.tokens.TextCause.TheVariants.{Unexpected}
 use Rattle.aml_tokens.specs.Token.{Token}
@@ -11,7 +12,6 @@ use Rattle.aml_tree.specs.Grammar.{program_spelling}
 use Rattle.aml_tree.specs.Limits.{program_marks}
 use Rattle.aml_tree.specs.Faults.{Begins, IsClear, IsUnexpected, PassesLimit}
 use Rattle.aml_tree.specs.Reading.{Fault, program}
-use Rattle.aml_tree.proofs.Written.{IsToken}
 use Rattle.aml_tree.proofs.ReadLaws.{halt}
 use Rattle.aml_tree.proofs.Firsts.{first_mark, marked_stops, unmarked_before, take_less, alike, program_again, program_sound, read_stops, stops_read, program_cut, cut_begins, limit_begins, end_unexpected}
 

@@ -2,6 +2,7 @@
 -- them, and they go on with the next one where that passes a limit.
 use Rattle.std.proofs.Common.{◌≡◌, ℕ, suc, ◌+◌, ◌<◌, ◌≤◌, codes, List, [], ◌∷◌, ◌++◌, length, take, Some, None, Err, refl, sym, ap, subst, ◌∙◌, inl, inr, ◌⊎◌, slice_get, arith}
 use Rattle.std.specs.List.{AllByRecursion}
+use Rattle.aml_tokens.specs.Names.{IsToken}
 use Rattle.aml_tokens.specs.declared.tokens.TextCause.{TextCause}
 use Rattle.aml_tokens.specs.declared.tokens.TextCause.TheVariants.{Unexpected}
 use Rattle.aml_tokens.specs.declared.tokens.Word.{Word}
@@ -12,7 +13,7 @@ use Rattle.aml_tree.specs.Limits.{Mark}
 use Rattle.aml_tree.specs.Programs.{IsUnmarked}
 use Rattle.aml_tree.specs.Items.{Item, Called, New, Parameter, Fixed, Opening, Target, Operand, More, Expression, Argued, Failing, Letting, Block, After, Parameters, MoreParameters, Methods, Closer, To, Arguments, Valued, Without, Ending, Value, Values, Production, mark, counted, expand}
 use Rattle.aml_tree.specs.Reading.{Fault, read}
-use Rattle.aml_tree.proofs.Written.{IsToken, spelled, all_marked, Fits, AllFit, IsEnding}
+use Rattle.aml_tree.proofs.Written.{spelled, all_marked, Fits, AllFit, IsEnding}
 use Rattle.aml_tree.proofs.Made.{Made}
 use Rattle.aml_tree.proofs.ReadLaws.{gathered, made_by, gathered_fits, gathered_tokens, gathered_marks, ended_not, halted, err_same}
 

@@ -14,14 +14,7 @@ use Rattle.aml_tree.specs.Grammar.{sign, spelling, block_spelling, program_spell
 use Rattle.aml_tree.specs.Limits.{Mark, opened, parameter, named, code_mark, marks, lets, block_marks, methods_marks}
 use Rattle.aml_tree.specs.Items.{Item, Called, New, Parameter, Fixed, Opening, Target, Operand, More, Expression, Argued, Failing, Letting, Block, After, Parameters, MoreParameters, Methods, Closer, To, Arguments, LetRest, Valued, Calling, IfRest, Without, WithElse, Links, Ending, Value, Values, allowed, compares}
 
--- ---- tokens of a text
-
-abbrev pub IsToken : Token → Type 0
-IsToken (token.Name w) = IsWord w
-IsToken (token.Number n) = n < 2 ^ 63
-IsToken (token.Field k) = k < 16
-IsToken (token.Sign s) = Unit {0}
-IsToken (token.CloseBrace line) = Unit {0}
+-- ---- signs
 
 abbrev pub symbol_of : Sign → Symbol
 symbol_of fixed.Open = symbol.Open

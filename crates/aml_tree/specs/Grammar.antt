@@ -1,15 +1,13 @@
 -- The grammar of the method language, without its limits: how a tree is spelled in tokens, and which
 -- trees a program may be. Groups are part of a tree, so a program has one spelling.
-use Rattle.std.specs.Prelude.{◌≡◌, ℕ, ◌-◌, ◌<◌, ◌≤◌, ◌^◌, ◌==◌, IsTrue, false, if◌then◌else◌, List, [], ◌∷◌, ◌++◌, length, take, map}
-use Rattle.std.specs.List.{AllByRecursion, list_all, list_any, flat_map}
-use Rattle.std.specs.Str.{bytes_eq}
+use Rattle.std.specs.Prelude.{◌≡◌, ℕ, ◌-◌, ◌<◌, ◌≤◌, ◌^◌, ◌==◌, if◌then◌else◌, List, [], ◌∷◌, ◌++◌, length, map}
+use Rattle.std.specs.List.{AllByRecursion, flat_map}
 use Rattle.aml_tokens.specs.declared.tokens.Word.{Word}
 use Rattle.aml_tokens.specs.declared.tokens.Symbol.{Symbol}
 use Rattle.aml_tokens.specs.declared.tokens.Symbol.TheVariants as symbol
 use Rattle.aml_tokens.specs.Token.{Token}
 use Rattle.aml_tokens.specs.Token as token
-use Rattle.aml_tokens.specs.Bytes.{is_letter, is_word_byte, symbol_bytes, keywords}
-use Rattle.aml_tokens.specs.Lexing.{field_words}
+use Rattle.aml_tokens.specs.Names.{IsName}
 use Rattle.aml_tree.specs.declared.trees.Operator.{Operator}
 use Rattle.aml_tree.specs.declared.trees.Operator.TheVariants as operator
 use Rattle.aml_tree.specs.Tree.{Expr, Number, Variable, Field, Own, Group, Negative, Binary, Code, End, Let, Call, Set, SetField, If, IfElse, While, Fail, Return, TextMethod}
@@ -76,17 +74,6 @@ abbrev pub program_spelling : List TextMethod → List Token
 program_spelling p = flat_map method_spelling p
 
 -- ---- words
-
--- the keywords, the fields
-abbrev pub reserved : List (List ℕ)
-reserved = map symbol_bytes keywords ++ field_words
-
--- a letter or '_', then letters, digits and '_', at most 32 bytes, and no keyword or field
-pub record IsName (name : List ℕ) : Type 0 where
-  pub first : IsTrue (list_any is_letter (take 1 name))
-  pub bytes : IsTrue (list_all is_word_byte name)
-  pub short : length name ≤ 32
-  pub free : list_any (λ (word : List ℕ). bytes_eq word name) reserved ≡ false
 
 abbrev pub IsWord : Word → Type 0
 IsWord w = IsName w.name

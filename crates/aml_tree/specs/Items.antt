@@ -1,3 +1,4 @@
+-- Only private contracts cite this; the rule is Grammar.antt, with Limits.antt.
 -- What is still to come in a text: items, and the values that are read of them. Each item begins with
 -- a token, and its first token alone tells which items stand behind it.
 use Rattle.std.specs.Prelude.{ℕ, ◌+◌, nat_lt, ◌==◌, Bool, true, false, if◌then◌else◌, List, [], ◌∷◌, ◌++◌, Option, Some, None}
@@ -123,9 +124,9 @@ abbrev pub back : (is behind : List Item) → Values (is ++ behind) → Values b
 back [] behind vs = vs
 back (i ∷ is) behind vs = back is behind vs.1
 
-abbrev pub joined : (is behind : List Item) → Values is → Values behind → Values (is ++ behind)
-joined [] behind us vs = vs
-joined (i ∷ is) behind us vs = (us.0, joined is behind us.1 vs)
+abbrev pub joined_values : (is behind : List Item) → Values is → Values behind → Values (is ++ behind)
+joined_values [] behind us vs = vs
+joined_values (i ∷ is) behind us vs = (us.0, joined_values is behind us.1 vs)
 
 -- ---- what a token does
 

@@ -3,6 +3,7 @@
 use Rattle.std.specs.Prelude.{ℕ, ◌+◌, nat_lt, nat_le, ◌&&◌, if◌then◌else◌, List, [], ◌∷◌, ◌++◌, length, map, Option, Some, None}
 use Rattle.aml_tokens.specs.declared.tokens.TextCause.{TextCause}
 use Rattle.aml_tokens.specs.declared.tokens.TextCause.TheVariants.{NumberRange, TooDeep, TooMany}
+use Rattle.aml_tree.specs.declared.limits.TheConstants.{GREATEST_CODE, MOST_LEVELS, MOST_METHODS, MOST_NAMES, MOST_PARAMETERS}
 use Rattle.aml_tree.specs.Tree.{Expr, Number, Variable, Field, Own, Group, Negative, Binary, Code, End, Let, Call, Set, SetField, If, IfElse, While, Fail, Return, TextMethod}
 
 abbrev pub Mark : Type 0
@@ -10,21 +11,23 @@ Mark = Option TextCause
 
 -- a token that opens a level where so many are open: blocks, parentheses and signs together
 abbrev pub opened : ℕ → Mark
-opened depth = if nat_lt depth 32 then None else Some TooDeep
+opened depth = if nat_lt depth MOST_LEVELS then None else Some TooDeep
 
--- a parameter behind so many, a name of a method behind so many, a method behind so many
+-- a parameter behind so many
 abbrev pub parameter : ℕ → Mark
-parameter before = if nat_lt before 8 then None else Some TooMany
+parameter before = if nat_lt before MOST_PARAMETERS then None else Some TooMany
 
+-- a name that a method declares, its parameters among them, behind so many
 abbrev pub named : ℕ → Mark
-named before = if nat_lt before 32 then None else Some TooMany
+named before = if nat_lt before MOST_NAMES then None else Some TooMany
 
+-- a method behind so many
 abbrev pub method : ℕ → Mark
-method before = if nat_lt before 64 then None else Some TooMany
+method before = if nat_lt before MOST_METHODS then None else Some TooMany
 
 -- the code behind `fail`
 abbrev pub code_mark : ℕ → Mark
-code_mark code = if nat_le 1 code && nat_le code 999 then None else Some NumberRange
+code_mark code = if nat_le 1 code && nat_le code GREATEST_CODE then None else Some NumberRange
 
 -- where so many levels are open
 abbrev pub marks : {V : Type 0} → ℕ → Expr V → List Mark

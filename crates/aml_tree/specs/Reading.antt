@@ -1,3 +1,4 @@
+-- Only private contracts cite this; the rules are Programs.antt and Faults.antt.
 -- Reading tokens from left to right: what the items to come are, or the first token with which nothing
 -- goes on or which passes a limit.
 use Rattle.std.specs.Prelude.{◌≡◌, ℕ, suc, ◌+◌, nat_lt, Bool, true, false, if◌then◌else◌, slice_get, List, [], ◌∷◌, ◌++◌, drop, Option, Some, None, Result, Ok, Err}
@@ -11,9 +12,10 @@ use Rattle.aml_tree.specs.declared.readers.Sign.TheVariants as fixed
 use Rattle.aml_tree.specs.declared.trees.Operator.{Operator}
 use Rattle.aml_tree.specs.declared.readers.ReadNo.{ReadNo}
 use Rattle.aml_tree.specs.declared.readers.ReadNo.TheVariants as no
+use Rattle.aml_tree.specs.declared.limits.TheConstants.{MOST_LEVELS}
 use Rattle.aml_tree.specs.Limits.{Mark}
 use Rattle.aml_tree.specs.Tree.{Expr, Code, TextMethod, Onto}
-use Rattle.aml_tree.specs.Items.{Item, Called, Opening, Parameters, Expression, More, Methods, Block, Letting, LetRest, Closer, Links, Value, Values, all_attached, allowed, let_of, is_sign, operator_of, Production, front, back, joined, mark, counted, expand}
+use Rattle.aml_tree.specs.Items.{Item, Called, Opening, Parameters, Expression, More, Methods, Block, Letting, LetRest, Closer, Links, Value, Values, all_attached, allowed, let_of, is_sign, operator_of, Production, front, back, joined_values, mark, counted, expand}
 
 -- the place of a token, and what is wrong with it
 abbrev pub Fault : Type 0
@@ -55,7 +57,7 @@ program ts = read (Methods 0 ∷ []) 0 0 ts >>= λ vs. Ok vs.0
 -- Items are these values, from a place and a number of names on up to another: behind them is read
 -- what is read from there.
 pub record Takes (ts : List Token) (is : List Item) (us : Values is) (names at after end : ℕ) : Type 0 where
-  pub goes : (s : List Item) → read (is ++ s) names at (drop at ts) ≡ (read s after end (drop end ts) >>= λ vs. Ok (joined is s us vs))
+  pub goes : (s : List Item) → read (is ++ s) names at (drop at ts) ≡ (read s after end (drop end ts) >>= λ vs. Ok (joined_values is s us vs))
 
 -- Items are not there, for the fault.
 pub record Stops (ts : List Token) (is : List Item) (names at : ℕ) (fault : Fault) : Type 0 where
@@ -120,7 +122,7 @@ ReadsChain ts depth view end at result = Reads (λ x. Chained ts depth at (view 
 
 -- whether the level that a sign opens at an expression's end may be opened
 abbrev pub may_close : ℕ → Sign → Bool
-may_close depth fixed.OpenBrace = nat_lt depth 32
+may_close depth fixed.OpenBrace = nat_lt depth MOST_LEVELS
 may_close depth _ = true
 
 -- an item that ends with the rest of the block

@@ -13,12 +13,9 @@ use crate::looks::{
     unexpected, word,
 };
 use crate::readers::{ReadNo, Sign};
-use crate::{Expression, makers};
+use crate::{Expression, MOST_LEVELS, makers};
 use aml_tokens::{Symbol, Token, Word};
 use std::alloc::Global;
-
-/// The greatest number of levels that may be open: blocks, parentheses and signs together.
-pub(crate) const MOST_LEVELS: usize = 32;
 
 /// An operand without a sign, where so many levels are open.
 #[cycle(expressions)]
@@ -28,7 +25,7 @@ pub(crate) fn primary(
     depth: usize,
     at: usize,
 ) -> Result<(Expression<Word>, usize), ReadNo>
-    requires { depth ≤ 32 }
+    requires { depth ≤ MOST_LEVELS }
     ensures reads { ReadsItem (tokens_of tokens.now) (item.Target depth) (λ x. expression_tree x.0) (λ x. x.1) at result }
     ensures onward { IfOk result (λ x. at < x.1) }
 {
@@ -53,7 +50,7 @@ fn primary_by(
     at: usize,
     symbol: Symbol,
 ) -> Result<(Expression<Word>, usize), ReadNo>
-    requires deep { depth ≤ 32 }
+    requires deep { depth ≤ MOST_LEVELS }
     requires within { at < length tokens.now }
     requires there { slice_get (tokens_of tokens.now) at ≡ Some (spec_token.Sign symbol) }
     ensures reads { ReadsItem (tokens_of tokens.now) (item.Target depth) (λ x. expression_tree x.0) (λ x. x.1) at result }
@@ -74,7 +71,7 @@ fn group_at(
     depth: usize,
     at: usize,
 ) -> Result<(Expression<Word>, usize), ReadNo>
-    requires deep { depth ≤ 32 }
+    requires deep { depth ≤ MOST_LEVELS }
     requires within { at < length tokens.now }
     requires there { slice_get (tokens_of tokens.now) at ≡ Some (spec_token.Sign Symbol.Open) }
     ensures reads { ReadsItem (tokens_of tokens.now) (item.Target depth) (λ x. expression_tree x.0) (λ x. x.1) at result }
@@ -95,7 +92,7 @@ fn operand(
     depth: usize,
     at: usize,
 ) -> Result<(Expression<Word>, usize), ReadNo>
-    requires { depth ≤ 32 }
+    requires { depth ≤ MOST_LEVELS }
     ensures reads { ReadsItem (tokens_of tokens.now) (item.Operand depth) (λ x. expression_tree x.0) (λ x. x.1) at result }
     ensures onward { IfOk result (λ x. at < x.1) }
 {
@@ -118,7 +115,7 @@ pub(crate) fn chain(
     depth: usize,
     at: usize,
 ) -> Result<(Expression<Word>, usize), ReadNo>
-    requires { depth ≤ 32 }
+    requires { depth ≤ MOST_LEVELS }
     ensures reads { ReadsChain (tokens_of tokens.now) depth (λ x. expression_tree x.0) (λ x. x.1) at result }
     ensures onward { IfOk result (λ x. at < x.1) }
 {
@@ -154,7 +151,7 @@ pub(crate) fn expression(
     sign: Sign,
     at: usize,
 ) -> Result<(Expression<Word>, usize), ReadNo>
-    requires { depth ≤ 32 }
+    requires { depth ≤ MOST_LEVELS }
     ensures reads { ReadsItem (tokens_of tokens.now) (item.Expression depth (item.To sign)) (λ x. (expression_tree x.0, tt)) (λ x. x.1) at result }
     ensures onward { IfOk result (λ x. at < x.1) }
     ensures deeper { IfOk result (λ _. may_close depth sign ≡ true) }
@@ -176,7 +173,7 @@ pub(crate) fn arguments(
     depth: usize,
     at: usize,
 ) -> Result<(Vec<Expression<Word>>, usize), ReadNo>
-    requires { depth ≤ 32 }
+    requires { depth ≤ MOST_LEVELS }
     ensures reads { ReadsItem (tokens_of tokens.now) (item.Argued depth) (λ x. map expression_tree x.0.items) (λ x. x.1) at result }
     ensures onward { IfOk result (λ x. at < x.1) }
 {

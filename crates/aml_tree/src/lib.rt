@@ -13,18 +13,18 @@ mod attaching;
 mod expressions;
 mod faults;
 mod laws;
+mod limits;
 mod looks;
-mod makers;
+pub mod makers;
 mod methods;
 mod parse;
 mod readers;
 mod signs;
 mod statements;
-#[cfg(test)]
-mod tests;
 mod trees;
 
 pub use faults::{TextFault, TextNo};
 pub use laws::{faults_stand_in_the_text, faulty, lines_stand_in_the_text, one_fault, one_program};
+pub use limits::{GREATEST_CODE, MOST_LEVELS, MOST_METHODS, MOST_NAMES, MOST_PARAMETERS};
 pub use parse::{parse_program, parse_program_bytes};
 pub use trees::{Block, Expression, Link, Method, Operator, Program, Statement};

@@ -1,55 +1,58 @@
-//! Trees put together: each function says which tree its result is.
+//! Trees put together: each function says which tree its result is. `V` stands for a variable and `M` for
+//! a method that is called.
 
-ghost use Rattle.std.specs.Prelude.{◌≡◌, ℕ, List, ◌∷◌, ◌++◌, [], map, IfOk};
-ghost use Rattle.aml_tokens.specs.declared.tokens.Word.{Word};
-ghost use Rattle.aml_tree.specs.Tree.{Code, Let, Call, Set, SetField, Return, Fail, While, If, IfElse, End, Binary, Group, Negative, Number, Variable, Field, Own, expression_tree, link_trees, chain_tree, statement_tree, statements_tree, block_tree, method_tree};
+ghost use Rattle.std.specs.Prelude.{◌≡◌, ◌∷◌, ◌++◌, [], map, IfOk};
+ghost use Rattle.aml_tree.specs.Tree.{Code, Let, Call, Set, SetField, Return, Fail, While, If, IfElse, Group, Negative, Number, Variable, Field, Own, expression_tree, link_trees, chain_tree, statement_tree, statements_tree, block_tree};
 
-use crate::{Block, Expression, Link, Method, Operator, Statement};
-use aml_tokens::Word;
+use crate::{Block, Expression, Link, Operator, Statement};
 use snap_base::Memory;
 use std::alloc::Global;
 
-pub(crate) fn number(n: u64) -> Expression<Word>
+/// A number from 0 to 2^63 - 1.
+pub fn number<V: Drop>(n: u64) -> Expression<V>
     ensures { expression_tree result ≡ Number n }
 {
     Expression::Number(n)
 }
 
-pub(crate) fn variable(word: Word) -> Expression<Word>
-    ensures { expression_tree result ≡ Variable word }
+pub fn variable<V: Drop>(variable: V) -> Expression<V>
+    ensures { expression_tree result ≡ Variable variable }
 {
-    Expression::Variable(word)
+    Expression::Variable(variable)
 }
 
-pub(crate) fn field(k: u8) -> Expression<Word>
+/// A field, 0 to 15.
+pub fn field<V: Drop>(k: u8) -> Expression<V>
     ensures { expression_tree result ≡ Field k }
 {
     Expression::Field(k)
 }
 
-pub(crate) fn own() -> Expression<Word>
+pub fn own<V: Drop>() -> Expression<V>
     ensures { expression_tree result ≡ Own }
 {
     Expression::Own
 }
 
-pub(crate) fn group(alloc: Global, inner: Expression<Word>) -> Result<Expression<Word>, Memory>
+/// An expression in parentheses.
+pub fn group<V: Drop>(alloc: Global, inner: Expression<V>) -> Result<Expression<V>, Memory>
     ensures { IfOk result (λ e. expression_tree e ≡ Group (expression_tree inner)) }
 {
     Ok(Expression::Group(Box::new(alloc, inner)?))
 }
 
-pub(crate) fn negative(alloc: Global, inner: Expression<Word>) -> Result<Expression<Word>, Memory>
+pub fn negative<V: Drop>(alloc: Global, inner: Expression<V>) -> Result<Expression<V>, Memory>
     ensures { IfOk result (λ e. expression_tree e ≡ Negative (expression_tree inner)) }
 {
     Ok(Expression::Negative(Box::new(alloc, inner)?))
 }
 
-pub(crate) fn chain(
+/// An operand and further ones that operators join to it from the left.
+pub fn chain<V: Drop>(
     alloc: Global,
-    first: Expression<Word>,
-    rest: Vec<Link<Expression<Word>>>,
-) -> Result<Expression<Word>, Memory>
+    first: Expression<V>,
+    rest: Vec<Link<Expression<V>>>,
+) -> Result<Expression<V>, Memory>
     ensures { IfOk result (λ e. expression_tree e ≡ chain_tree (expression_tree first) (link_trees rest.items)) }
 {
     Ok(Expression::Chain {
@@ -58,10 +61,10 @@ pub(crate) fn chain(
     })
 }
 
-pub(crate) fn put_link(
-    rest: &mut Vec<Link<Expression<Word>>>,
+pub fn put_link<V: Drop>(
+    rest: &mut Vec<Link<Expression<V>>>,
     operator: Operator,
-    operand: Expression<Word>,
+    operand: Expression<V>,
 ) -> Result<(), Memory>
     ensures { IfOk result (λ _. link_trees rest.new.items ≡ link_trees rest.old.items ++ record { operator = operator; operand = expression_tree operand } ∷ []) }
 {
@@ -69,9 +72,9 @@ pub(crate) fn put_link(
     Ok(())
 }
 
-pub(crate) fn put_argument(
-    arguments: &mut Vec<Expression<Word>>,
-    value: Expression<Word>,
+pub fn put_argument<V: Drop>(
+    arguments: &mut Vec<Expression<V>>,
+    value: Expression<V>,
 ) -> Result<(), Memory>
     ensures { IfOk result (λ _. map expression_tree arguments.new.items ≡ map expression_tree arguments.old.items ++ expression_tree value ∷ []) }
 {
@@ -79,19 +82,19 @@ pub(crate) fn put_argument(
     Ok(())
 }
 
-pub(crate) fn let_statement(variable: Word, value: Expression<Word>) -> Statement<Word, Word>
-    ensures { (rest : Code Word Word) → statement_tree result rest ≡ Let variable (expression_tree value) rest }
+pub fn let_statement<V: Drop, M: Drop>(variable: V, value: Expression<V>) -> Statement<V, M>
+    ensures { (rest : Code V M) → statement_tree result rest ≡ Let variable (expression_tree value) rest }
 {
     Statement::Let { variable, value }
 }
 
-pub(crate) fn call_statement(
-    variable: Word,
-    target: Expression<Word>,
-    method: Word,
-    arguments: Vec<Expression<Word>>,
-) -> Statement<Word, Word>
-    ensures { (rest : Code Word Word) → statement_tree result rest ≡ Call variable (expression_tree target) method (map expression_tree arguments.items) rest }
+pub fn call_statement<V: Drop, M: Drop>(
+    variable: V,
+    target: Expression<V>,
+    method: M,
+    arguments: Vec<Expression<V>>,
+) -> Statement<V, M>
+    ensures { (rest : Code V M) → statement_tree result rest ≡ Call variable (expression_tree target) method (map expression_tree arguments.items) rest }
 {
     Statement::Call {
         variable,
@@ -101,54 +104,33 @@ pub(crate) fn call_statement(
     }
 }
 
-pub(crate) fn set_statement(variable: Word, value: Expression<Word>) -> Statement<Word, Word>
-    ensures { (rest : Code Word Word) → statement_tree result rest ≡ Set variable (expression_tree value) rest }
+pub fn set_statement<V: Drop, M: Drop>(variable: V, value: Expression<V>) -> Statement<V, M>
+    ensures { (rest : Code V M) → statement_tree result rest ≡ Set variable (expression_tree value) rest }
 {
     Statement::Set { variable, value }
 }
 
-pub(crate) fn set_field_statement(field: u8, value: Expression<Word>) -> Statement<Word, Word>
-    ensures { (rest : Code Word Word) → statement_tree result rest ≡ SetField field (expression_tree value) rest }
+pub fn field_statement<V: Drop, M: Drop>(field: u8, value: Expression<V>) -> Statement<V, M>
+    ensures { (rest : Code V M) → statement_tree result rest ≡ SetField field (expression_tree value) rest }
 {
     Statement::SetField { field, value }
 }
 
-pub(crate) fn return_statement(value: Expression<Word>) -> Statement<Word, Word>
-    ensures { (rest : Code Word Word) → statement_tree result rest ≡ Return (expression_tree value) rest }
-{
-    Statement::Return { value }
-}
-
-pub(crate) fn fail_statement(code: u16) -> Statement<Word, Word>
-    ensures { (rest : Code Word Word) → statement_tree result rest ≡ Fail code rest }
-{
-    Statement::Fail { code }
-}
-
-pub(crate) fn while_statement(
-    condition: Expression<Word>,
-    body: Block<Statement<Word, Word>>,
-) -> Statement<Word, Word>
-    ensures { (rest : Code Word Word) → statement_tree result rest ≡ While (expression_tree condition) (block_tree body) rest }
-{
-    Statement::While { condition, body }
-}
-
-pub(crate) fn if_statement(
-    condition: Expression<Word>,
-    first: Block<Statement<Word, Word>>,
-) -> Statement<Word, Word>
-    ensures { (rest : Code Word Word) → statement_tree result rest ≡ If (expression_tree condition) (block_tree first) rest }
+pub fn if_statement<V: Drop, M: Drop>(
+    condition: Expression<V>,
+    first: Block<Statement<V, M>>,
+) -> Statement<V, M>
+    ensures { (rest : Code V M) → statement_tree result rest ≡ If (expression_tree condition) (block_tree first) rest }
 {
     Statement::If { condition, first }
 }
 
-pub(crate) fn if_else_statement(
-    condition: Expression<Word>,
-    first: Block<Statement<Word, Word>>,
-    other: Block<Statement<Word, Word>>,
-) -> Statement<Word, Word>
-    ensures { (rest : Code Word Word) → statement_tree result rest ≡ IfElse (expression_tree condition) (block_tree first) (block_tree other) rest }
+pub fn if_else_statement<V: Drop, M: Drop>(
+    condition: Expression<V>,
+    first: Block<Statement<V, M>>,
+    other: Block<Statement<V, M>>,
+) -> Statement<V, M>
+    ensures { (rest : Code V M) → statement_tree result rest ≡ IfElse (expression_tree condition) (block_tree first) (block_tree other) rest }
 {
     Statement::IfElse {
         condition,
@@ -157,29 +139,34 @@ pub(crate) fn if_else_statement(
     }
 }
 
-pub(crate) fn put_statement(
-    block: &mut Vec<Statement<Word, Word>>,
-    statement: Statement<Word, Word>,
+pub fn while_statement<V: Drop, M: Drop>(
+    condition: Expression<V>,
+    body: Block<Statement<V, M>>,
+) -> Statement<V, M>
+    ensures { (rest : Code V M) → statement_tree result rest ≡ While (expression_tree condition) (block_tree body) rest }
+{
+    Statement::While { condition, body }
+}
+
+pub fn fail_statement<V: Drop, M: Drop>(code: u16) -> Statement<V, M>
+    ensures { (rest : Code V M) → statement_tree result rest ≡ Fail code rest }
+{
+    Statement::Fail { code }
+}
+
+pub fn return_statement<V: Drop, M: Drop>(value: Expression<V>) -> Statement<V, M>
+    ensures { (rest : Code V M) → statement_tree result rest ≡ Return (expression_tree value) rest }
+{
+    Statement::Return { value }
+}
+
+/// Puts a statement at the end of a block.
+pub fn put_statement<V: Drop, M: Drop>(
+    block: &mut Vec<Statement<V, M>>,
+    statement: Statement<V, M>,
 ) -> Result<(), Memory>
-    ensures { IfOk result (λ _. (rest : Code Word Word) → statements_tree block.new.items rest ≡ statements_tree block.old.items (statement_tree statement rest)) }
+    ensures { IfOk result (λ _. (rest : Code V M) → statements_tree block.new.items rest ≡ statements_tree block.old.items (statement_tree statement rest)) }
 {
     block.push(statement)?;
-    Ok(())
-}
-
-pub(crate) fn put_parameter(parameters: &mut Vec<Word>, name: Word) -> Result<(), Memory>
-    ensures { IfOk result (λ _. parameters.new.items ≡ parameters.old.items ++ name ∷ []) }
-{
-    parameters.push(name)?;
-    Ok(())
-}
-
-pub(crate) fn put_method(
-    methods: &mut Vec<Method<Word, Word>>,
-    method: Method<Word, Word>,
-) -> Result<(), Memory>
-    ensures { IfOk result (λ _. map method_tree methods.new.items ≡ map method_tree methods.old.items ++ method_tree method ∷ []) }
-{
-    methods.push(method)?;
     Ok(())
 }

@@ -1,6 +1,6 @@
 //! Tokens into parameters, methods and programs.
 
-ghost use Rattle.std.specs.Prelude.{◌≡◌, true, false, ℕ, ◌+◌, ◌<◌, ◌≤◌, [], length, map, Ok, Err, IfOk, slice_get};
+ghost use Rattle.std.specs.Prelude.{◌≡◌, true, false, ℕ, ◌+◌, ◌<◌, ◌≤◌, ◌∷◌, ◌++◌, [], length, map, Ok, Err, IfOk, slice_get};
 ghost use Rattle.aml_tokens.specs.Token.{tokens_of};
 ghost use Rattle.aml_tree.specs.Tree.{method_tree};
 ghost use Rattle.aml_tree.specs.Items as item;
@@ -11,13 +11,10 @@ use crate::looks::{is_close_at, is_comma_at, is_method_at, too_many, unexpected}
 use crate::readers::{ReadNo, Sign};
 use crate::signs::{called_at, open, parameter_at};
 use crate::statements::block;
-use crate::{Method, makers};
+use crate::{MOST_METHODS, Method};
 use aml_tokens::{Token, Word};
-use snap_base::Sequence;
+use snap_base::{Memory, Sequence};
 use std::alloc::Global;
-
-/// The greatest number of methods of a program.
-const MOST_METHODS: usize = 64;
 
 /// The parameters of a method behind the opening parenthesis, and the closing one; how many they are.
 fn parameters(
@@ -36,7 +33,7 @@ fn parameters(
     let mut end = at;
     loop {
         let (name, behind) = parameter_at(alloc, tokens, count, end)?;
-        makers::put_parameter(&mut parameters, name)?;
+        put_parameter(&mut parameters, name)?;
         count += 1;
         if is_close_at(tokens, behind) {
             return Ok((parameters, count, behind + 1));
@@ -99,7 +96,24 @@ pub(crate) fn methods(
             return Err(too_many(end));
         }
         let (method, behind) = method(alloc, tokens, end + 1)?;
-        makers::put_method(&mut methods, method)?;
+        put_method(&mut methods, method)?;
         end = behind;
     }
+}
+
+fn put_parameter(parameters: &mut Vec<Word>, name: Word) -> Result<(), Memory>
+    ensures { IfOk result (λ _. parameters.new.items ≡ parameters.old.items ++ name ∷ []) }
+{
+    parameters.push(name)?;
+    Ok(())
+}
+
+fn put_method(
+    methods: &mut Vec<Method<Word, Word>>,
+    method: Method<Word, Word>,
+) -> Result<(), Memory>
+    ensures { IfOk result (λ _. map method_tree methods.new.items ≡ map method_tree methods.old.items ++ method_tree method ∷ []) }
+{
+    methods.push(method)?;
+    Ok(())
 }

@@ -5,16 +5,11 @@ ghost use Rattle.aml_tokens.specs.Token.{tokens_of};
 ghost use Rattle.aml_tree.specs.Items as item;
 ghost use Rattle.aml_tree.specs.Reading.{ReadsItem, ReadsFrom, ReadsName, brace_there, number_there};
 
-use crate::expressions::MOST_LEVELS;
 use crate::looks::{is_sign_at, out_of_range, token_at, too_deep, too_many, unexpected, word};
 use crate::readers::{ReadNo, Sign};
+use crate::{GREATEST_CODE, MOST_LEVELS, MOST_NAMES, MOST_PARAMETERS};
 use aml_tokens::{Token, Word};
 use std::alloc::Global;
-
-/// The greatest numbers of names and of parameters that a method may declare.
-const MOST_NAMES: usize = 32;
-
-const MOST_PARAMETERS: usize = 8;
 
 /// The place behind a sign.
 pub(crate) fn skip(tokens: &[Token<'_>], sign: Sign, at: usize) -> Result<usize, ReadNo>
@@ -36,7 +31,7 @@ pub(crate) fn open(
 ) -> Result<usize, ReadNo>
     ensures reads { ReadsItem (tokens_of tokens.now) (item.Opening depth sign) (λ _. tt) (λ x. x) at result }
     ensures onward { IfOk result (λ x. at < x) }
-    ensures deeper { IfOk result (λ _. depth < 32) }
+    ensures deeper { IfOk result (λ _. depth < MOST_LEVELS) }
 {
     if !is_sign_at(tokens, sign, at) {
         return Err(unexpected(at));
@@ -84,7 +79,7 @@ pub(crate) fn new_at(
 ) -> Result<(Word, usize), ReadNo>
     ensures reads { ReadsFrom (tokens_of tokens.now) item.New (λ x. x.0) (λ _. names + 1) (λ x. x.1) names at result }
     ensures onward { IfOk result (λ x. at < x.1) }
-    ensures few { IfOk result (λ _. names < 32) }
+    ensures few { IfOk result (λ _. names < MOST_NAMES) }
 {
     let (name, end) = name_at(alloc, tokens, at)?;
     if names >= MOST_NAMES {
@@ -102,7 +97,7 @@ pub(crate) fn parameter_at(
 ) -> Result<(Word, usize), ReadNo>
     ensures reads { ReadsFrom (tokens_of tokens.now) item.Parameter (λ x. x.0) (λ _. names + 1) (λ x. x.1) names at result }
     ensures onward { IfOk result (λ x. at < x.1) }
-    ensures few { IfOk result (λ _. names < 8) }
+    ensures few { IfOk result (λ _. names < MOST_PARAMETERS) }
 {
     let (name, end) = name_at(alloc, tokens, at)?;
     if names >= MOST_PARAMETERS {
@@ -143,7 +138,7 @@ pub(crate) fn code_at(tokens: &[Token<'_>], at: usize) -> Result<(u16, usize), R
     if number < 1 {
         return Err(out_of_range(at));
     }
-    if number > 999 {
+    if number > GREATEST_CODE {
         return Err(out_of_range(at));
     }
     Ok((number as u16, at + 1))

@@ -12,7 +12,7 @@ use crate::expressions::{arguments, expression, primary};
 use crate::looks::{is_call_at, is_else_at, token_at, unexpected, word};
 use crate::readers::{ReadNo, Sign};
 use crate::signs::{brace_at, called_at, code_at, new_at, open, skip};
-use crate::{Block, Statement, makers};
+use crate::{Block, MOST_LEVELS, Statement, makers};
 use aml_tokens::{Symbol, Token, Word};
 use std::alloc::Global;
 
@@ -25,7 +25,7 @@ fn set_at(
     at: usize,
     variable: Word,
 ) -> Result<(Statement<Word, Word>, usize, usize), ReadNo>
-    requires deep { depth ≤ 32 }
+    requires deep { depth ≤ MOST_LEVELS }
     requires within { at < length tokens.now }
     requires there { slice_get (tokens_of tokens.now) at ≡ Some (spec_token.Name variable) }
     ensures reads { ReadsPart (tokens_of tokens.now) depth (λ x. statement_tree x.0) (λ x. x.1) (λ x. x.2) names at result }
@@ -45,7 +45,7 @@ fn set_field_at(
     at: usize,
     field: u8,
 ) -> Result<(Statement<Word, Word>, usize, usize), ReadNo>
-    requires deep { depth ≤ 32 }
+    requires deep { depth ≤ MOST_LEVELS }
     requires within { at < length tokens.now }
     requires there { slice_get (tokens_of tokens.now) at ≡ Some (spec_token.Field field) }
     ensures reads { ReadsPart (tokens_of tokens.now) depth (λ x. statement_tree x.0) (λ x. x.1) (λ x. x.2) names at result }
@@ -53,7 +53,7 @@ fn set_field_at(
 {
     let start = skip(tokens, Sign::Assign, at + 1)?;
     let (value, end) = expression(alloc, tokens, depth, Sign::Semicolon, start)?;
-    Ok((makers::set_field_statement(field, value), names, end))
+    Ok((makers::field_statement(field, value), names, end))
 }
 
 /// The end of the method with a value; `return` stands at the place.
@@ -64,7 +64,7 @@ fn return_at(
     names: usize,
     at: usize,
 ) -> Result<(Statement<Word, Word>, usize, usize), ReadNo>
-    requires deep { depth ≤ 32 }
+    requires deep { depth ≤ MOST_LEVELS }
     requires within { at < length tokens.now }
     requires there { slice_get (tokens_of tokens.now) at ≡ Some (spec_token.Sign Symbol.Return) }
     ensures reads { ReadsPart (tokens_of tokens.now) depth (λ x. statement_tree x.0) (λ x. x.1) (λ x. x.2) names at result }
@@ -99,7 +99,7 @@ fn call_at(
     at: usize,
     variable: Word,
 ) -> Result<(Statement<Word, Word>, usize), ReadNo>
-    requires deep { depth ≤ 32 }
+    requires deep { depth ≤ MOST_LEVELS }
     requires within { at < length tokens.now }
     requires there { there is_call (slice_get (tokens_of tokens.now) at) ≡ true }
     ensures reads { ReadsLet (tokens_of tokens.now) depth variable (λ x. statement_tree x.0) (λ x. x.1) at result }
@@ -124,7 +124,7 @@ fn let_at(
     names: usize,
     at: usize,
 ) -> Result<(Statement<Word, Word>, usize, usize), ReadNo>
-    requires deep { depth ≤ 32 }
+    requires deep { depth ≤ MOST_LEVELS }
     requires within { at < length tokens.now }
     requires there { slice_get (tokens_of tokens.now) at ≡ Some (spec_token.Sign Symbol.Let) }
     ensures reads { ReadsPart (tokens_of tokens.now) depth (λ x. statement_tree x.0) (λ x. x.1) (λ x. x.2) names at result }
@@ -149,7 +149,7 @@ fn while_at(
     names: usize,
     at: usize,
 ) -> Result<(Statement<Word, Word>, usize, usize), ReadNo>
-    requires deep { depth ≤ 32 }
+    requires deep { depth ≤ MOST_LEVELS }
     requires within { at < length tokens.now }
     requires there { slice_get (tokens_of tokens.now) at ≡ Some (spec_token.Sign Symbol.While) }
     ensures reads { ReadsPart (tokens_of tokens.now) depth (λ x. statement_tree x.0) (λ x. x.1) (λ x. x.2) names at result }
@@ -169,7 +169,7 @@ fn if_at(
     names: usize,
     at: usize,
 ) -> Result<(Statement<Word, Word>, usize, usize), ReadNo>
-    requires deep { depth ≤ 32 }
+    requires deep { depth ≤ MOST_LEVELS }
     requires within { at < length tokens.now }
     requires there { slice_get (tokens_of tokens.now) at ≡ Some (spec_token.Sign Symbol.If) }
     ensures reads { ReadsPart (tokens_of tokens.now) depth (λ x. statement_tree x.0) (λ x. x.1) (λ x. x.2) names at result }
@@ -199,7 +199,7 @@ fn by_keyword(
     at: usize,
     symbol: Symbol,
 ) -> Result<(Statement<Word, Word>, usize, usize), ReadNo>
-    requires deep { depth ≤ 32 }
+    requires deep { depth ≤ MOST_LEVELS }
     requires within { at < length tokens.now }
     requires there { slice_get (tokens_of tokens.now) at ≡ Some (spec_token.Sign symbol) }
     ensures reads { ReadsPart (tokens_of tokens.now) depth (λ x. statement_tree x.0) (λ x. x.1) (λ x. x.2) names at result }
@@ -224,7 +224,7 @@ fn statement(
     names: usize,
     at: usize,
 ) -> Result<(Statement<Word, Word>, usize, usize), ReadNo>
-    requires deep { depth ≤ 32 }
+    requires deep { depth ≤ MOST_LEVELS }
     requires open { brace_there (slice_get (tokens_of tokens.now) at) ≡ None }
     ensures reads { ReadsPart (tokens_of tokens.now) depth (λ x. statement_tree x.0) (λ x. x.1) (λ x. x.2) names at result }
     ensures onward { IfOk result (λ x. at < x.2) }
@@ -252,7 +252,7 @@ pub(crate) fn block(
     names: usize,
     at: usize,
 ) -> Result<(Block<Statement<Word, Word>>, usize, usize), ReadNo>
-    requires deep { depth ≤ 32 }
+    requires deep { depth ≤ MOST_LEVELS }
     ensures reads { ReadsFrom (tokens_of tokens.now) (item.Block depth) (λ x. block_tree x.0) (λ x. x.1) (λ x. x.2) names at result }
     ensures onward { IfOk result (λ x. at < x.2) }
 {

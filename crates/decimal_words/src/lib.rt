@@ -52,6 +52,3 @@ fn is_signed_plain(word: &[u8]) -> bool
         is_plain(word)
     }
 }
-
-#[cfg(test)]
-mod tests;

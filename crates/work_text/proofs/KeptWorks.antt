@@ -11,25 +11,27 @@ use Rattle.snap_base.specs.declared.transactions.Kind.TheVariants.{Pact, Act}
 use Rattle.snap_base.specs.declared.transactions.State.{State}
 use Rattle.snap_base.specs.declared.transactions.Tx.{Tx}
 use Rattle.aml_tree.specs.Tree.{CheckedMethod}
+use Rattle.aml_check.specs.declared.limits.TheConstants.{MOST_CALLED_ACTORS}
 use Rattle.aml_check.specs.Closed.{IsClosedProgram}
 use Rattle.aml_check.specs.Transactions.{Declares, IsTransaction}
+use Rattle.work_text.specs.declared.limits.TheConstants.{MOST_ACTORS, MOST_ACTS, MOST_BATCHES, MOST_COORDINATORS, MOST_IN_A_BATCH, MOST_LOGS, MOST_TRANSACTIONS, MOST_VALUES}
 use Rattle.work_text.specs.Lines.{Line, lines, words, numbered, said, up_to_end}
 use Rattle.work_text.specs.Readings.{Reading, gives, ◌>>=◌}
 use Rattle.work_text.specs.Settings as setting
 use Rattle.work_text.specs.Actors.{Named, actor, state_with, state_in, states_in}
 use Rattle.work_text.specs.Transactions.{AreUses, DeclaresRoot, transaction}
 use Rattle.work_text.specs.Works.{Work}
-use Rattle.work_text.specs.Reads.{line, set, exactly, program_lines, first_is_actor, transactions, tail, Laid, laid, reads_lines, Reads, IsWork}
+use Rattle.work_text.specs.Reads.{line, set, exactly, program_lines, first_is_actor, transactions, tail, Setup, Laid, laid, reads_lines, Reads, IsWork}
 use Rattle.work_text.specs.Built.{above_one, unbuilt_kind, unbuilt_transactions, IsBuilt}
 use Rattle.work_text.specs.Kept.{IsState, IsKept, IsOneBatch}
 use Rattle.work_text.proofs.OneOf.{ok_parts, ok_same}
-use Rattle.work_text.proofs.OneText.{in_range, closed_lines}
+use Rattle.work_text.proofs.OneText.{AreClosed, in_range, closed_lines}
 use Rattle.work_text.proofs.StateLines.{length-states_in}
 
 -- ---- transactions
 
-declares : (k : Kind) (actors root : ℕ) (uses : List (ActorId × ℕ)) → AreUses k actors uses → length uses ≤ 16 → DeclaresRoot k root uses → Declares actors root k uses
-declares Pact actors root uses h few own = record { few = few; each = h.1; ascending = h.2; root_declared = own }
+declares : (k : Kind) (actors root : ℕ) (uses : List (ActorId × ℕ)) → AreUses k actors uses → length uses ≤ MOST_CALLED_ACTORS → DeclaresRoot k root uses → Declares actors root k uses
+declares Pact actors root uses h few own = record { some = h.0; few = few; each = h.1; ascending = h.2; root_declared = own }
 declares Act actors root uses h few own = h
 
 may_run : (p : List CheckedMethod) (actors before : ℕ) (l : Line) (tx : Tx) → transaction p actors before l (Ok tx) → IsTransaction p actors tx
@@ -51,15 +53,25 @@ all_run p count before (l ∷ ls) xs h =
     let rest = ok_parts (transactions p count (before + 1) ls) (λ more. gives ((first.0, l.number) ∷ more)) xs first.2 in
     subst (AllRun p count) (sym (ok_same xs ((first.0, l.number) ∷ rest.0) rest.2)) (may_run p count before l first.0 first.1, all_run p count (before + 1) ls rest.0 rest.1)
 
+few_left : (p : List CheckedMethod) (count before : ℕ) (ls : List Line) (xs : List (Tx × ℕ)) → before ≤ MOST_TRANSACTIONS → transactions p count before ls (Ok xs) → before + length xs ≤ MOST_TRANSACTIONS
+few_left p count before [] xs fits h = let none : xs ≡ [] = ok_same xs [] h in subst (λ (ys : List (Tx × ℕ)). before + length ys ≤ MOST_TRANSACTIONS) (sym none) (omega (arith, fits))
+few_left p count before (l ∷ ls) xs fits h =
+    let first = ok_parts (transaction p count before l) (λ tx. transactions p count (before + 1) ls >>= λ more. gives ((tx, l.number) ∷ more)) xs h in
+    let rest = ok_parts (transactions p count (before + 1) ls) (λ more. gives ((first.0, l.number) ∷ more)) xs first.2 in
+    let room : before < MOST_TRANSACTIONS = first.1.2 in
+    let more = few_left p count (before + 1) ls rest.0 (omega (arith, room)) rest.1 in
+    subst (λ (ys : List (Tx × ℕ)). before + length ys ≤ MOST_TRANSACTIONS) (sym (ok_same xs ((first.0, l.number) ∷ rest.0) rest.2)) (omega (arith, more))
+
 -- ---- actors
 
 pub record IsNamed (n : Named) : Type 0 where
-  pub few : length n.values ≤ 16
+  pub few : length n.values ≤ MOST_VALUES
   pub fit : AllByRecursion (FitsSigned w64) n.values
 
 pub record IsTail (p : List CheckedMethod) (count : ℕ) (x : List Named × List (Tx × ℕ)) : Type 0 where
   pub named : AllByRecursion IsNamed x.0
   pub run : AllRun p count x.1
+  pub few : length x.1 ≤ MOST_TRANSACTIONS
 
 tail_by : (t : Bool) (p : List CheckedMethod) (count : ℕ) (last : Option ℕ) (l : Line) (ls : List Line) (x : List Named × List (Tx × ℕ)) → first_is_actor (words l.bytes) ≡ t
     → ((n : Named) (y : List Named × List (Tx × ℕ)) → tail p count (Some n.actor) ls (Ok y) → IsTail p count y) → tail p count last (l ∷ ls) (Ok x) → IsTail p count x
@@ -67,13 +79,13 @@ tail_by true p count last l ls x is rec h =
     let first = ok_parts (actor count last l) (λ n. tail p count (Some n.actor) ls >>= λ more. gives (n ∷ more.0, more.1)) x (rw is at h) in
     let rest = ok_parts (tail p count (Some first.0.actor) ls) (λ more. gives (first.0 ∷ more.0, more.1)) x first.2 in
     let behind = rec first.0 rest.0 rest.1 in
-    subst (IsTail p count) (sym (ok_same x (first.0 ∷ rest.0.0, rest.0.1) rest.2)) (record { named = (record { few = first.1.1; fit = first.1.0.fit }, behind.named); run = behind.run })
+    subst (IsTail p count) (sym (ok_same x (first.0 ∷ rest.0.0, rest.0.1) rest.2)) (record { named = (record { few = first.1.1; fit = first.1.0.fit }, behind.named); run = behind.run; few = behind.few })
 tail_by false p count last l ls x is rec h =
     let all = ok_parts (transactions p count 0 (l ∷ ls)) (λ txs. gives ([], txs)) x (rw is at h) in
-    subst (IsTail p count) (sym (ok_same x ([], all.0) all.2)) (record { named = tt; run = all_run p count 0 (l ∷ ls) all.0 all.1 })
+    subst (IsTail p count) (sym (ok_same x ([], all.0) all.2)) (record { named = tt; run = all_run p count 0 (l ∷ ls) all.0 all.1; few = omega (arith, few_left p count 0 (l ∷ ls) all.0 (omega arith) all.1) })
 
 tail_kept : (p : List CheckedMethod) (count : ℕ) (last : Option ℕ) (ls : List Line) (x : List Named × List (Tx × ℕ)) → tail p count last ls (Ok x) → IsTail p count x
-tail_kept p count last [] x h = subst (IsTail p count) (sym (ok_same x ([], []) h)) (record { named = tt; run = tt })
+tail_kept p count last [] x h = subst (IsTail p count) (sym (ok_same x ([], []) h)) (record { named = tt; run = tt; few = omega arith })
 tail_kept p count last (l ∷ ls) x h = tail_by (first_is_actor (words l.bytes)) p count last l ls x refl (λ n y k. tail_kept p count (Some n.actor) ls y k) h
 
 -- ---- states
@@ -86,10 +98,10 @@ fits_append : (xs ys : List ℤ) → AllByRecursion (FitsSigned w64) xs → AllB
 fits_append [] ys h g = g
 fits_append (x ∷ xs) ys h g = (h.0, fits_append xs ys h.1 g)
 
-named_state : (values : List ℤ) → length values ≤ 16 → AllByRecursion (FitsSigned w64) values → IsState (state_with values)
+named_state : (values : List ℤ) → length values ≤ MOST_VALUES → AllByRecursion (FitsSigned w64) values → IsState (state_with values)
 named_state values few fits = record {
-  fields = omega (arith, few, length-append values (replicate (16 - length values) (pos 0)), length-replicate (16 - length values) (pos 0));
-  values = fits_append values _ fits (noughts_fit (16 - length values));
+  fields = omega (arith, few, length-append values (replicate (MOST_VALUES - length values) (pos 0)), length-replicate (MOST_VALUES - length values) (pos 0));
+  values = fits_append values _ fits (noughts_fit (MOST_VALUES - length values));
 }
 
 either_state : (b : Bool) (x y : State) → IsState x → IsState y → IsState (if b then x else y)
@@ -117,8 +129,11 @@ IsIn n most = (1 ≤ n) × (n ≤ most)
 abbrev Read : Type 0
 Read = (ℕ × ℕ) × List Line
 
+abbrev set_up : Read → Read → Read → Read → Read → List CheckedMethod × List Line → Read → Setup
+set_up c l b s a p n = record { coordinators = c.0; logs = l.0; batch = b.0.0; batches = s.0.0; acts = a.0.0; program = p.0; actors = n.0.0 }
+
 abbrev from_tail : Read → Read → Read → Read → Read → List CheckedMethod × List Line → Read → Reading Laid
-from_tail c l b s a p n = tail p.0 n.0.0 None (said n.1) >>= λ t. gives (laid c.0 l.0 b.0.0 s.0.0 a.0.0 p.0 n.0.0 t.0 t.1)
+from_tail c l b s a p n = tail p.0 n.0.0 None (said n.1) >>= λ t. gives (laid (set_up c l b s a p n) t.0 t.1)
 
 abbrev from_actors : ℕ → Read → Read → Read → Read → Read → List CheckedMethod × List Line → Reading Laid
 from_actors last c l b s a p = line last p.1 (set setting.actors) >>= λ n. from_tail c l b s a p n
@@ -144,69 +159,70 @@ from_logs last c = line last c.1 (set setting.logs) >>= λ l. from_batch last c 
 abbrev from_coordinators : ℕ → ℕ × List Line → Reading Laid
 from_coordinators last header = line last header.1 (set setting.coordinators) >>= λ c. from_logs last c
 
-laid_kept : (c l : ℕ × ℕ) (b s a : ℕ) (p : List CheckedMethod) (n : ℕ) (x : List Named × List (Tx × ℕ)) → IsIn c.0 8 → IsIn l.0 4 → IsIn b 256 → IsClosedProgram p → IsIn n 256 → IsTail p n x → IsLaid (laid c l b s a p n x.0 x.1)
-laid_kept c l b s a p n x hc hl hb hp hn end =
-    let count = length-states_in x.0 0 n in
+pub record IsSetUp (s : Setup) : Type 0 where
+  pub coordinators : IsIn s.coordinators.0 MOST_COORDINATORS
+  pub logs : IsIn s.logs.0 MOST_LOGS
+  pub batch : IsIn s.batch MOST_IN_A_BATCH
+  pub batches : IsIn s.batches MOST_BATCHES
+  pub acts : IsIn s.acts MOST_ACTS
+  pub program : IsClosedProgram s.program
+  pub actors : IsIn s.actors MOST_ACTORS
+
+laid_kept : (s : Setup) (x : List Named × List (Tx × ℕ)) → IsSetUp s → IsTail s.program s.actors x → IsLaid (laid s x.0 x.1)
+laid_kept s x h end =
+    let count = length-states_in x.0 0 s.actors in
+    let many = length-map x.1 (λ (y : Tx × ℕ). y.0) in
     record {
       kept = record {
-        program = hp;
-        some_actors = omega (arith, hn.0, count);
-        few_actors = omega (arith, hn.1, count);
-        states = all_states x.0 0 n end.named;
-        transactions = subst (λ k. AllByRecursion (IsTransaction p k) (map (λ (y : Tx × ℕ). y.0) x.1)) (sym count) end.run;
-        batch = hb;
-        coordinators = hc;
-        logs = hl;
+        program = h.program;
+        some_actors = omega (arith, h.actors.0, count);
+        few_actors = omega (arith, h.actors.1, count);
+        states = all_states x.0 0 s.actors end.named;
+        transactions = subst (λ k. AllByRecursion (IsTransaction s.program k) (map (λ (y : Tx × ℕ). y.0) x.1)) (sym count) end.run;
+        few_transactions = omega (arith, end.few, many);
+        batch = h.batch;
+        batches = h.batches;
+        acts = h.acts;
+        coordinators = h.coordinators;
+        logs = h.logs;
       };
-      each = length-map x.1 (λ (y : Tx × ℕ). y.1) ∙ sym (length-map x.1 (λ (y : Tx × ℕ). y.0));
+      each = length-map x.1 (λ (y : Tx × ℕ). y.1) ∙ sym many;
     }
 
-by_tail : (c l b s a : Read) (p : List CheckedMethod × List Line) (n : Read) (t : Laid) → IsIn c.0.0 8 → IsIn l.0.0 4 → IsIn b.0.0 256 → IsClosedProgram p.0 → IsIn n.0.0 256 → from_tail c l b s a p n (Ok t) → IsLaid t
-by_tail c l b s a p n t hc hl hb hp hn h =
-    let x = ok_parts (tail p.0 n.0.0 None (said n.1)) (λ (t : List Named × List (Tx × ℕ)). gives (laid c.0 l.0 b.0.0 s.0.0 a.0.0 p.0 n.0.0 t.0 t.1)) t h in
-    let same : t ≡ laid c.0 l.0 b.0.0 s.0.0 a.0.0 p.0 n.0.0 x.0.0 x.0.1 = ok_same t _ x.2 in
-    subst IsLaid (sym same) (laid_kept c.0 l.0 b.0.0 s.0.0 a.0.0 p.0 n.0.0 x.0 hc hl hb hp hn (tail_kept p.0 n.0.0 None (said n.1) x.0 x.1))
+by_tail : (c l b s a : Read) (p : List CheckedMethod × List Line) (n : Read) (t : Laid) → IsSetUp (set_up c l b s a p n) → from_tail c l b s a p n (Ok t) → IsLaid t
+by_tail c l b s a p n t within h =
+    let x = ok_parts (tail p.0 n.0.0 None (said n.1)) (λ (t : List Named × List (Tx × ℕ)). gives (laid (set_up c l b s a p n) t.0 t.1)) t h in
+    let same : t ≡ laid (set_up c l b s a p n) x.0.0 x.0.1 = ok_same t _ x.2 in
+    subst IsLaid (sym same) (laid_kept (set_up c l b s a p n) x.0 within (tail_kept p.0 n.0.0 None (said n.1) x.0 x.1))
 
-by_actors : (last : ℕ) (c l b s a : Read) (p : List CheckedMethod × List Line) (t : Laid) → IsIn c.0.0 8 → IsIn l.0.0 4 → IsIn b.0.0 256 → IsClosedProgram p.0 → from_actors last c l b s a p (Ok t) → IsLaid t
-by_actors last c l b s a p t hc hl hb hp h =
-    let n = ok_parts (line last p.1 (set setting.actors)) (from_tail c l b s a p) t h in
-    by_tail c l b s a p n.0 t hc hl hb hp (in_range setting.actors last p.1 n.0 n.1) n.2
-
-by_program : (last : ℕ) (c l b s a : Read) (begin : ℕ × List Line) (t : Laid) → IsIn c.0.0 8 → IsIn l.0.0 4 → IsIn b.0.0 256 → from_program last c l b s a begin (Ok t) → IsLaid t
-by_program last c l b s a begin t hc hl hb h =
-    let p = ok_parts (program_lines last begin.0 (up_to_end begin.1)) (from_actors last c l b s a) t h in
-    by_actors last c l b s a p.0 t hc hl hb (closed_lines last begin.0 (up_to_end begin.1) p.0 p.1) p.2
-
-by_acts : (last : ℕ) (c l b s : Read) (t : Laid) → IsIn c.0.0 8 → IsIn l.0.0 4 → IsIn b.0.0 256 → from_acts last c l b s (Ok t) → IsLaid t
-by_acts last c l b s t hc hl hb h =
-    let a = ok_parts (line last s.1 (set setting.acts)) (from_begin last c l b s) t h in
-    let begin = ok_parts (line last a.0.1 (exactly (codes "program"))) (from_program last c l b s a.0) t a.2 in
-    by_program last c l b s a.0 begin.0 t hc hl hb begin.2
-
-by_batch : (last : ℕ) (c l : Read) (t : Laid) → IsIn c.0.0 8 → IsIn l.0.0 4 → from_batch last c l (Ok t) → IsLaid t
-by_batch last c l t hc hl h =
-    let b = ok_parts (line last l.1 (set setting.batch)) (from_batches last c l) t h in
-    let s = ok_parts (line last b.0.1 (set setting.batches)) (from_acts last c l b.0) t b.2 in
-    by_acts last c l b.0 s.0 t hc hl (in_range setting.batch last l.1 b.0 b.1) s.2
-
-by_coordinators : (last : ℕ) (header : ℕ × List Line) (t : Laid) → from_coordinators last header (Ok t) → IsLaid t
-by_coordinators last header t h =
-    let c = ok_parts (line last header.1 (set setting.coordinators)) (from_logs last) t h in
-    let l = ok_parts (line last c.0.1 (set setting.logs)) (from_batch last c.0) t c.2 in
-    by_batch last c.0 l.0 t (in_range setting.coordinators last header.1 c.0 c.1) (in_range setting.logs last c.0.1 l.0 l.1) l.2
-
-kept_lines : (last : ℕ) (ls : List Line) (t : Laid) → reads_lines last ls (Ok t) → IsLaid t
-kept_lines last ls t h =
+kept_lines : AreClosed → (last : ℕ) (ls : List Line) (t : Laid) → reads_lines last ls (Ok t) → IsLaid t
+kept_lines closed last ls t h =
     let header = ok_parts (line last ls (exactly (codes "snapper 1"))) (from_coordinators last) t h in
-    by_coordinators last header.0 t header.2
+    let c = ok_parts (line last header.0.1 (set setting.coordinators)) (from_logs last) t header.2 in
+    let l = ok_parts (line last c.0.1 (set setting.logs)) (from_batch last c.0) t c.2 in
+    let b = ok_parts (line last l.0.1 (set setting.batch)) (from_batches last c.0 l.0) t l.2 in
+    let s = ok_parts (line last b.0.1 (set setting.batches)) (from_acts last c.0 l.0 b.0) t b.2 in
+    let a = ok_parts (line last s.0.1 (set setting.acts)) (from_begin last c.0 l.0 b.0 s.0) t s.2 in
+    let begin = ok_parts (line last a.0.1 (exactly (codes "program"))) (from_program last c.0 l.0 b.0 s.0 a.0) t a.2 in
+    let p = ok_parts (program_lines last begin.0.0 (up_to_end begin.0.1)) (from_actors last c.0 l.0 b.0 s.0 a.0) t begin.2 in
+    let n = ok_parts (line last p.0.1 (set setting.actors)) (from_tail c.0 l.0 b.0 s.0 a.0 p.0) t p.2 in
+    by_tail c.0 l.0 b.0 s.0 a.0 p.0 n.0 t (record {
+      coordinators = in_range setting.coordinators last header.0.1 c.0 c.1;
+      logs = in_range setting.logs last c.0.1 l.0 l.1;
+      batch = in_range setting.batch last l.0.1 b.0 b.1;
+      batches = in_range setting.batches last b.0.1 s.0 s.1;
+      acts = in_range setting.acts last s.0.1 a.0 a.1;
+      program = closed_lines closed last begin.0.0 (up_to_end begin.0.1) p.0 p.1;
+      actors = in_range setting.actors last p.0.1 n.0 n.1;
+    }) n.2
 
-pub kept_text : (text : List ℕ) (t : Laid) → Reads text (Ok t) → IsLaid t
-kept_text text t (inl h) = cc
-kept_text text t (inr (inl h)) = absurd h.1
-kept_text text t (inr (inr h)) = kept_lines (1 + length (lines text)) (numbered 1 (lines text)) t h.2
+pub kept_text : AreClosed → (text : List ℕ) (t : Laid) → Reads text (Ok t) → IsLaid t
+kept_text closed text t (inl h) = cc
+kept_text closed text t (inr (inl h)) = absurd h.1
+kept_text closed text t (inr (inr h)) = kept_lines closed (1 + length (lines text)) (numbered 1 (lines text)) t h.2
 
-pub kept_work : (text : List ℕ) (w : Work) → IsWork text w → IsKept w
-kept_work text w (t, reads, same) = rw same (kept_text text t reads).kept
+pub kept_work : AreClosed → (text : List ℕ) (w : Work) → IsWork text w → IsKept w
+kept_work closed text w (t, reads, same) = rw same (kept_text closed text t reads).kept
 
 -- ---- one batch
 
@@ -238,9 +254,9 @@ built_all batch before (tx ∷ txs) (l ∷ ls) len le e =
     let rest = built_all batch (before + 1) txs ls (omega (arith, len)) (omega (arith, here.1)) parts.1 in
     (omega (arith, rest.0), (here.0, rest.1))
 
-pub batch_work : (text : List ℕ) (w : Work) → IsBuilt text w → IsOneBatch w
-batch_work text w (t, reads, same, none) =
-    let all = kept_text text t reads in
+pub batch_work : AreClosed → (text : List ℕ) (w : Work) → IsBuilt text w → IsOneBatch w
+batch_work closed text w (t, reads, same, none) =
+    let all = kept_text closed text t reads in
     let first = no_parts (above_one t.work.coordinators t.coordinators_line) (above_one t.work.logs t.logs_line ++ unbuilt_transactions t.work.batch 0 t.work.txs t.transaction_lines) none in
     let rest = no_parts (above_one t.work.logs t.logs_line) (unbuilt_transactions t.work.batch 0 t.work.txs t.transaction_lines) first.1 in
     let txs = built_all t.work.batch 0 t.work.txs t.transaction_lines all.each (omega arith) rest.1 in

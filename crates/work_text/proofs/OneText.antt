@@ -7,13 +7,13 @@ use Rattle.std.proofs.lemmas.Bool.{cases_order}
 use Rattle.std.proofs.Math.Seq.{take-length}
 use Rattle.aml_tree.specs.declared.faults.TextFault.{TextFault}
 use Rattle.aml_tree.specs.Tree.{TextMethod, CheckedMethod}
-use Rattle.aml_tree.specs.Programs.{IsProgramText}
+use Rattle.aml_tree.specs.Programs.{IsProgram, IsProgramText}
 use Rattle.aml_tree.specs.Faults as text
 use Rattle.aml_check.specs.declared.faults.CheckFault.{CheckFault}
 use Rattle.aml_check.specs.Faults as check
+use Rattle.aml_check.specs.Faults.{IsCheckedProgram}
 use Rattle.aml_check.specs.Names.{checked_program}
 use Rattle.aml_check.specs.Closed.{IsClosedProgram}
-use Rattle.aml_check.proofs.ClosedPrograms.{closed_program}
 use Rattle.work_text.specs.declared.faults.ProgramCause.TheVariants as program_cause
 use Rattle.work_text.specs.declared.faults.WorkFault.{WorkFault}
 use Rattle.work_text.specs.declared.faults.WorkCause.{WorkCause}
@@ -30,11 +30,15 @@ use Rattle.work_text.proofs.OneAsked.{AreToldApart, one_transaction}
 
 -- ---- the program
 
--- a text spells one program, has one first fault, and not both
+abbrev pub AreClosed : Type 0
+AreClosed = (p : List TextMethod) (c : List CheckedMethod) → IsProgram p → IsCheckedProgram p c → IsClosedProgram c
+
+-- a text spells one program, has one first fault, and not both; and a checked program is closed
 pub record TextLaws : Type 0 where
   pub program : (bytes : List ℕ) (p q : List TextMethod) → IsProgramText bytes p → IsProgramText bytes q → p ≡ q
   pub first : (bytes : List ℕ) (f g : TextFault) → text.IsFirstFault bytes f → text.IsFirstFault bytes g → f ≡ g
   pub either : (bytes : List ℕ) (f : TextFault) (p : List TextMethod) → text.IsFirstFault bytes f → ¬ IsProgramText bytes p
+  pub closed : AreClosed
 
 abbrev IsNoProgram : ℕ → List ℕ → ℕ → WorkCause → Type 0
 IsNoProgram before bytes line why =
@@ -85,13 +89,12 @@ one_program laws last before None = one_fails last cause.BadHeader
 one_program laws last before (Some cut) =
     one_then (program_text before (text_of cut.0)) (λ p. gives (p, cut.1)) (record { same = program_same laws before (text_of cut.0) }) (λ p h. one_gives (p, cut.1))
 
-pub closed_lines : (last before : ℕ) (up : Option (List (List ℕ) × List Line)) (p : List CheckedMethod × List Line) → program_lines last before up (Ok p) → IsClosedProgram p.0
-closed_lines last before None p h = cc
-closed_lines last before (Some cut) p h =
+pub closed_lines : AreClosed → (last before : ℕ) (up : Option (List (List ℕ) × List Line)) (p : List CheckedMethod × List Line) → program_lines last before up (Ok p) → IsClosedProgram p.0
+closed_lines closed last before None p h = cc
+closed_lines closed last before (Some cut) p h =
     let x = ok_parts (program_text before (text_of cut.0)) (λ q. gives (q, cut.1)) p h in
     let same : p ≡ (x.0, cut.1) = ok_same p (x.0, cut.1) x.2 in
-    let closed : IsClosedProgram (checked_program x.1.0) = closed_program x.1.0 x.1.1.program x.1.2.faultless in
-    subst IsClosedProgram (sym (ap (λ (z : List CheckedMethod × List Line). z.0) same ∙ x.1.2.resolved)) closed
+    subst IsClosedProgram (sym (ap (λ (z : List CheckedMethod × List Line). z.0) same)) (closed x.1.0 x.0 x.1.1.program x.1.2)
 
 -- ---- the lines behind the number of actors
 
@@ -129,8 +132,8 @@ one_lines laws last ls =
     one_then _ _ (one_line last a.1 (exactly (codes "program")) (one_exactly (codes "program"))) (λ begin h6.
     one_then _ _ (one_program laws last begin.0 (up_to_end begin.1)) (λ p h7.
     one_then _ _ (one_line last p.1 (set setting.actors) (one_set setting.actors)) (λ n h8.
-    one_then _ _ (one_tail p.0 n.0.0 (record { distinct = (closed_lines last begin.0 (up_to_end begin.1) p h7).distinct; few = (in_range setting.actors last p.1 n h8).1 }) None (said n.1)) (λ t h9.
-    one_gives (laid c.0 l.0 b.0.0 s.0.0 a.0.0 p.0 n.0.0 t.0 t.1)))))))))))
+    one_then _ _ (one_tail p.0 n.0.0 (record { distinct = (closed_lines laws.closed last begin.0 (up_to_end begin.1) p h7).distinct; few = (in_range setting.actors last p.1 n h8).1 }) None (said n.1)) (λ t h9.
+    one_gives (laid (record { coordinators = c.0; logs = l.0; batch = b.0.0; batches = s.0.0; acts = a.0.0; program = p.0; actors = n.0.0 }) t.0 t.1)))))))))))
 
 -- ---- the text
 

@@ -14,17 +14,17 @@ use Rattle.work_text.specs.declared.faults.WorkNo.TheVariants as no
 use Rattle.work_text.specs.Readings.{IsNo}
 use Rattle.work_text.specs.Reads.{program_text, program_lines}
 use Rattle.work_text.specs.Lines.{Line, text_of}
-use Rattle.work_text.specs.Parts.{IsBehind, IsTextNo}
+use Rattle.work_text.specs.Parts.{IsFaultBehind, IsTextNo}
 use Rattle.aml_tree.specs.declared.faults.TextNo.{TextNo}
 use Rattle.aml_tree.specs.declared.faults.TextNo.TheVariants as text_no
 use Rattle.aml_tree.specs.declared.trees.Program.{Program}
 use Rattle.aml_tokens.specs.declared.tokens.Word.{Word}
 
-pub text_fails : (before : ℕ) (bytes : List ℕ) (f : TextFault) (r : WorkNo) → text.IsFirstFault bytes f → IsBehind before f.line (cause.Program (program_cause.Text f.cause f.column)) r → IsNo (program_text before bytes) r
+pub text_fails : (before : ℕ) (bytes : List ℕ) (f : TextFault) (r : WorkNo) → text.IsFirstFault bytes f → IsFaultBehind before f.line (cause.Program (program_cause.Text f.cause f.column)) r → IsNo (program_text before bytes) r
 text_fails before bytes f (no.Fault g) h b = rw b.1 (f, h, b.0, refl, refl)
 text_fails before bytes f no.Memory h b = absurd b
 
-pub check_fails : (before : ℕ) (bytes : List ℕ) (p : List TextMethod) (f : CheckFault) (r : WorkNo) → IsProgramText bytes p → check.IsFirstFault p f → IsBehind before f.line (cause.Program (program_cause.Check f.cause)) r → IsNo (program_text before bytes) r
+pub check_fails : (before : ℕ) (bytes : List ℕ) (p : List TextMethod) (f : CheckFault) (r : WorkNo) → IsProgramText bytes p → check.IsFirstFault p f → IsFaultBehind before f.line (cause.Program (program_cause.Check f.cause)) r → IsNo (program_text before bytes) r
 check_fails before bytes p f (no.Fault g) t h b = rw b.1 (p, t, f, h, b.0, refl)
 check_fails before bytes p f no.Memory t h b = absurd b
 

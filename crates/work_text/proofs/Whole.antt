@@ -19,7 +19,7 @@ use Rattle.work_text.specs.declared.faults.WorkNo.{WorkNo}
 use Rattle.work_text.specs.declared.faults.WorkNo.TheVariants as no
 
 abbrev pub whole : ℕ × ℕ → ℕ × ℕ → ℕ → ℕ → ℕ → List CheckedMethod → ℕ → List Line → Reading Laid
-whole c l b s a p n ls = tail p n None ls >>= λ t. gives (laid c l b s a p n t.0 t.1)
+whole c l b s a p n ls = tail p n None ls >>= λ t. gives (laid (record { coordinators = c; logs = l; batch = b; batches = s; acts = a; program = p; actors = n }) t.0 t.1)
 
 abbrev pub put : ℕ × ℕ → ℕ × ℕ → ℕ → ℕ → ℕ → List CheckedMethod → List State × List Tx × List ℕ → Laid
 put c l b s a p x = record {

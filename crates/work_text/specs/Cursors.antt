@@ -1,3 +1,4 @@
+-- Only private contracts cite this; the rule is Reads.antt.
 -- The lines that lie ahead of a place in a text.
 use Rattle.std.specs.Prelude.{ℕ, ◌+◌, ◌≤◌, List, length}
 use Rattle.work_text.specs.Lines.{Line, lines, numbered}

@@ -1,3 +1,4 @@
+-- Only private contracts cite this; the rule is Reads.antt.
 -- The end of a text as the reader takes it.
 use Rattle.std.specs.Prelude.{ℕ, List, [], ◌∷◌, map, Option, None, Some}
 use Rattle.snap_base.specs.declared.transactions.State.{State}

@@ -7,23 +7,27 @@ use Rattle.snap_base.specs.declared.transactions.State.{State}
 use Rattle.snap_base.specs.declared.transactions.Tx.{Tx}
 use Rattle.aml_check.specs.Closed.{IsClosedProgram}
 use Rattle.aml_check.specs.Transactions.{IsTransaction}
+use Rattle.work_text.specs.declared.limits.TheConstants.{MOST_ACTORS, MOST_ACTS, MOST_BATCHES, MOST_COORDINATORS, MOST_IN_A_BATCH, MOST_LOGS, MOST_TRANSACTIONS, MOST_VALUES}
 use Rattle.work_text.specs.Works.{Work}
 
--- 16 fields of signed 64 bits
+-- a value of signed 64 bits for each field
 pub record IsState (s : State) : Type 0 where
-  pub fields : length s.0 ≡ 16
+  pub fields : length s.0 ≡ MOST_VALUES
   pub values : AllByRecursion (FitsSigned w64) s.0
 
--- The program is closed, there are states and not too many, and the transactions may be asked of them.
+-- The program is closed, the transactions may be asked of the states, and each number is within its limits.
 pub record IsKept (w : Work) : Type 0 where
   pub program : IsClosedProgram w.program
   pub some_actors : 1 ≤ length w.states
-  pub few_actors : length w.states ≤ 256
+  pub few_actors : length w.states ≤ MOST_ACTORS
   pub states : AllByRecursion IsState w.states
   pub transactions : AllByRecursion (IsTransaction w.program (length w.states)) w.txs
-  pub batch : (1 ≤ w.batch) × (w.batch ≤ 256)
-  pub coordinators : (1 ≤ w.coordinators) × (w.coordinators ≤ 8)
-  pub logs : (1 ≤ w.logs) × (w.logs ≤ 4)
+  pub few_transactions : length w.txs ≤ MOST_TRANSACTIONS
+  pub batch : (1 ≤ w.batch) × (w.batch ≤ MOST_IN_A_BATCH)
+  pub batches : (1 ≤ w.batches) × (w.batches ≤ MOST_BATCHES)
+  pub acts : (1 ≤ w.acts) × (w.acts ≤ MOST_ACTS)
+  pub coordinators : (1 ≤ w.coordinators) × (w.coordinators ≤ MOST_COORDINATORS)
+  pub logs : (1 ≤ w.logs) × (w.logs ≤ MOST_LOGS)
 
 -- what is built so far: one coordinator, one log, and one batch of PACTs
 pub record IsOneBatch (w : Work) : Type 0 where

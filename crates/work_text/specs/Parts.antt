@@ -1,3 +1,4 @@
+-- Only private contracts cite this; the rules are Reads.antt, Actors.antt and Transactions.antt.
 -- The parts of a line, each as the reader takes it from the others.
 use Rattle.std.specs.Prelude.{◌≡◌, ℕ, ℤ, ◌+◌, ◌<◌, ◌≤◌, ◌==◌, false, List, length, map, codes, slice_index_or, [], ◌∷◌, Option, None, Some, IfSome, FitsSigned}
 use Rattle.std.specs.List.{AllByRecursion}
@@ -15,6 +16,7 @@ use Rattle.work_text.specs.declared.faults.WorkCause.TheVariants as cause
 use Rattle.work_text.specs.declared.faults.ProgramCause.TheVariants as program_cause
 use Rattle.aml_tree.specs.declared.faults.TextNo.{TextNo}
 use Rattle.aml_tree.specs.declared.faults.TextNo.TheVariants as text_no
+use Rattle.work_text.specs.declared.limits.TheConstants.{LONGEST_WORK}
 use Rattle.work_text.specs.Transactions.{kind_word, use_word}
 
 -- the words spell the values
@@ -49,18 +51,18 @@ abbrev pub IsWithoutColon : List ℕ → Type 0
 IsWithoutColon word = AllByRecursion (λ b. (b == 58) ≡ false) word
 
 -- a fault with a line behind another one
-abbrev pub IsBehind : ℕ → ℕ → WorkCause → WorkNo → Type 0
-IsBehind before line cause (no.Fault f) = (f.line ≡ before + line) × (f.cause ≡ cause)
-IsBehind before line cause no.Memory = ⊥
+abbrev pub IsFaultBehind : ℕ → ℕ → WorkCause → WorkNo → Type 0
+IsFaultBehind before line cause (no.Fault f) = (f.line ≡ before + line) × (f.cause ≡ cause)
+IsFaultBehind before line cause no.Memory = ⊥
 
 -- a fault whose line behind another one is a line of a text that is not too long
 abbrev pub IsNear : ℕ → TextNo → Type 0
-IsNear before (text_no.Fault f) = before + f.line ≤ 8388609
+IsNear before (text_no.Fault f) = before + f.line ≤ 1 + LONGEST_WORK
 IsNear before text_no.Memory = Unit {0}
 
 -- what is wrong with a program's text, with its line in the whole text
 abbrev pub IsTextNo : ℕ → TextNo → WorkNo → Type 0
-IsTextNo before (text_no.Fault f) why = IsBehind before f.line (cause.Program (program_cause.Text f.cause f.column)) why
+IsTextNo before (text_no.Fault f) why = IsFaultBehind before f.line (cause.Program (program_cause.Text f.cause f.column)) why
 IsTextNo before text_no.Memory why = why ≡ no.Memory
 
 -- the first number of a list, if it has one

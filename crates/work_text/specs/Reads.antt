@@ -14,6 +14,7 @@ use Rattle.work_text.specs.declared.faults.ProgramCause.{ProgramCause}
 use Rattle.work_text.specs.declared.faults.ProgramCause.TheVariants as program_cause
 use Rattle.work_text.specs.declared.faults.WorkCause.{WorkCause}
 use Rattle.work_text.specs.declared.faults.WorkCause.TheVariants as cause
+use Rattle.work_text.specs.declared.limits.TheConstants.{LONGEST_WORK}
 use Rattle.work_text.specs.Lines.{Line, lines, text_of, words, numbered, said, next, up_to_end}
 use Rattle.work_text.specs.Works.{Work}
 use Rattle.work_text.specs.Readings.{Reading, gives, fails, ◌>>=◌, only, whether}
@@ -98,20 +99,30 @@ pub record Laid : Type 0 where
   pub logs_line : ℕ
   pub transaction_lines : List ℕ
 
-abbrev pub laid : ℕ × ℕ → ℕ × ℕ → ℕ → ℕ → ℕ → List CheckedMethod → ℕ → List Named → List (Tx × ℕ) → Laid
-laid coordinators logs batch batches acts p actors named txs = record {
+-- what stands before the actors' states: numbers, two of them with their lines' numbers, and the program
+pub record Setup : Type 0 where
+  pub coordinators : ℕ × ℕ
+  pub logs : ℕ × ℕ
+  pub batch : ℕ
+  pub batches : ℕ
+  pub acts : ℕ
+  pub program : List CheckedMethod
+  pub actors : ℕ
+
+abbrev pub laid : Setup → List Named → List (Tx × ℕ) → Laid
+laid setup named txs = record {
   work = record {
-    coordinators = coordinators.0;
-    logs = logs.0;
-    batch = batch;
-    batches = batches;
-    acts = acts;
-    program = p;
-    states = states_in named 0 actors;
+    coordinators = setup.coordinators.0;
+    logs = setup.logs.0;
+    batch = setup.batch;
+    batches = setup.batches;
+    acts = setup.acts;
+    program = setup.program;
+    states = states_in named 0 setup.actors;
     txs = map (λ (t : Tx × ℕ). t.0) txs;
   };
-  coordinators_line = coordinators.1;
-  logs_line = logs.1;
+  coordinators_line = setup.coordinators.1;
+  logs_line = setup.logs.1;
   transaction_lines = map (λ (t : Tx × ℕ). t.1) txs;
 }
 
@@ -128,7 +139,7 @@ reads_lines last ls = do
   p ← program_lines last begin.0 (up_to_end begin.1)
   n ← line last p.1 (set actors)
   t ← tail p.0 n.0.0 None (said n.1)
-  gives (laid c.0 l.0 b.0.0 s.0.0 a.0.0 p.0 n.0.0 t.0 t.1)
+  gives (laid (record { coordinators = c.0; logs = l.0; batch = b.0.0; batches = s.0.0; acts = a.0.0; program = p.0; actors = n.0.0 }) t.0 t.1)
 
 -- the longest front of the text that is UTF-8 ends at a place before its end
 pub record EndsUtf8 (text : List ℕ) (at : ℕ) : Type 0 where
@@ -144,9 +155,9 @@ not_utf8 text (Err f) = (at : ℕ) × EndsUtf8 text at × (f ≡ record { line =
 -- What the text is read as: its size is asked first, then UTF-8, then line by line.
 abbrev pub Reads : List ℕ → Reading Laid
 Reads text read =
-    ((8388608 < length text) × (read ≡ Err (record { line = 0; cause = cause.Limit limit.Input 8388609 })))
-    ⊎ ((length text ≤ 8388608) × not_utf8 text read)
-    ⊎ ((length text ≤ 8388608) × IsUtf8 text × reads_lines (1 + length (lines text)) (numbered 1 (lines text)) read)
+    ((LONGEST_WORK < length text) × (read ≡ Err (record { line = 0; cause = cause.Limit limit.Input (1 + LONGEST_WORK) })))
+    ⊎ ((length text ≤ LONGEST_WORK) × not_utf8 text read)
+    ⊎ ((length text ≤ LONGEST_WORK) × IsUtf8 text × reads_lines (1 + length (lines text)) (numbered 1 (lines text)) read)
 
 -- the text stands for the work
 abbrev pub IsWork : List ℕ → Work → Type 0

@@ -5,6 +5,7 @@ use Rattle.work_text.specs.declared.faults.Limit.{Limit}
 use Rattle.work_text.specs.declared.faults.Limit.TheVariants as limit
 use Rattle.work_text.specs.declared.faults.WorkCause.{WorkCause}
 use Rattle.work_text.specs.declared.faults.WorkCause.TheVariants as cause
+use Rattle.work_text.specs.declared.limits.TheConstants.{MOST_ACTORS, MOST_ACTS, MOST_BATCHES, MOST_COORDINATORS, MOST_IN_A_BATCH, MOST_LOGS}
 use Rattle.work_text.specs.Lines.{Line}
 use Rattle.work_text.specs.Readings.{Reading}
 
@@ -15,22 +16,22 @@ pub record Setting : Type 0 where
   pub which : Limit
 
 abbrev pub coordinators : Setting
-coordinators = record { word = codes "coordinators "; most = 8; which = limit.Coordinators }
+coordinators = record { word = codes "coordinators "; most = MOST_COORDINATORS; which = limit.Coordinators }
 
 abbrev pub logs : Setting
-logs = record { word = codes "logs "; most = 4; which = limit.Logs }
+logs = record { word = codes "logs "; most = MOST_LOGS; which = limit.Logs }
 
 abbrev pub batch : Setting
-batch = record { word = codes "batch "; most = 256; which = limit.Batch }
+batch = record { word = codes "batch "; most = MOST_IN_A_BATCH; which = limit.Batch }
 
 abbrev pub batches : Setting
-batches = record { word = codes "batches "; most = 32; which = limit.Batches }
+batches = record { word = codes "batches "; most = MOST_BATCHES; which = limit.Batches }
 
 abbrev pub acts : Setting
-acts = record { word = codes "acts "; most = 32; which = limit.Acts }
+acts = record { word = codes "acts "; most = MOST_ACTS; which = limit.Acts }
 
 abbrev pub actors : Setting
-actors = record { word = codes "actors "; most = 256; which = limit.Actors }
+actors = record { word = codes "actors "; most = MOST_ACTORS; which = limit.Actors }
 
 -- the line sets a number of 64 bits
 abbrev pub Sets : Setting → List ℕ → ℕ → Type 0

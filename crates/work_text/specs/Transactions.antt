@@ -8,12 +8,14 @@ use Rattle.snap_base.specs.declared.transactions.Kind.{Kind}
 use Rattle.snap_base.specs.declared.transactions.Kind.TheVariants.{Pact, Act}
 use Rattle.snap_base.specs.declared.transactions.Tx.{Tx}
 use Rattle.aml_tree.specs.Tree.{CheckedMethod}
+use Rattle.aml_check.specs.declared.limits.TheConstants.{MOST_CALLED_ACTORS}
 use Rattle.aml_check.specs.Names.{method_at}
 use Rattle.aml_check.specs.Transactions.{AreAscending, IsUse}
 use Rattle.work_text.specs.declared.faults.Limit.{Limit}
 use Rattle.work_text.specs.declared.faults.Limit.TheVariants as limit
 use Rattle.work_text.specs.declared.faults.WorkCause.{WorkCause}
 use Rattle.work_text.specs.declared.faults.WorkCause.TheVariants as cause
+use Rattle.work_text.specs.declared.limits.TheConstants.{MOST_TRANSACTIONS}
 use Rattle.work_text.specs.Lines.{Line, words}
 use Rattle.work_text.specs.Readings.{Reading}
 
@@ -59,8 +61,8 @@ DeclaresRoot Act root uses = Unit {0}
 -- The causes in their order: what is no transaction, too many actors, one transaction too many, and an
 -- own actor that is not declared. So many transactions come before.
 abbrev pub LimitFault : List CheckedMethod → ℕ → ℕ → List ℕ → Limit → ℕ → Type 0
-LimitFault p actors before line limit.Uses found = (tx : Tx) × Asks p actors line tx × (found ≡ length tx.uses) × (16 < found)
-LimitFault p actors before line limit.Transactions found = (tx : Tx) × Asks p actors line tx × (length tx.uses ≤ 16) × (found ≡ before + 1) × (20000 < found)
+LimitFault p actors before line limit.Uses found = (tx : Tx) × Asks p actors line tx × (found ≡ length tx.uses) × (MOST_CALLED_ACTORS < found)
+LimitFault p actors before line limit.Transactions found = (tx : Tx) × Asks p actors line tx × (length tx.uses ≤ MOST_CALLED_ACTORS) × (found ≡ before + 1) × (MOST_TRANSACTIONS < found)
 LimitFault p actors before line limit.Input found = ⊥
 LimitFault p actors before line limit.Coordinators found = ⊥
 LimitFault p actors before line limit.Logs found = ⊥
@@ -74,7 +76,7 @@ abbrev pub TransactionFault : List CheckedMethod → ℕ → ℕ → List ℕ �
 TransactionFault p actors before line cause.BadTx = (tx : Tx) → ¬ Asks p actors line tx
 TransactionFault p actors before line (cause.Limit which found) = LimitFault p actors before line which found
 TransactionFault p actors before line cause.RootNotDeclared =
-    (tx : Tx) × Asks p actors line tx × (length tx.uses ≤ 16) × (before < 20000) × ¬ DeclaresRoot tx.kind tx.actor.0 tx.uses
+    (tx : Tx) × Asks p actors line tx × (length tx.uses ≤ MOST_CALLED_ACTORS) × (before < MOST_TRANSACTIONS) × ¬ DeclaresRoot tx.kind tx.actor.0 tx.uses
 TransactionFault p actors before line cause.NotUtf8 = ⊥
 TransactionFault p actors before line cause.BadHeader = ⊥
 TransactionFault p actors before line (cause.Program q) = ⊥
@@ -82,5 +84,5 @@ TransactionFault p actors before line cause.BadActor = ⊥
 TransactionFault p actors before line cause.Unbuilt = ⊥
 
 abbrev pub transaction : List CheckedMethod → ℕ → ℕ → Line → Reading Tx
-transaction p actors before line (Ok tx) = Asks p actors line.bytes tx × (length tx.uses ≤ 16) × (before < 20000) × DeclaresRoot tx.kind tx.actor.0 tx.uses
+transaction p actors before line (Ok tx) = Asks p actors line.bytes tx × (length tx.uses ≤ MOST_CALLED_ACTORS) × (before < MOST_TRANSACTIONS) × DeclaresRoot tx.kind tx.actor.0 tx.uses
 transaction p actors before line (Err f) = (f.line ≡ line.number) × TransactionFault p actors before line.bytes f.cause

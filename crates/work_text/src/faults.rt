@@ -9,25 +9,25 @@ use std::alloc::{AllocError, AllocFailed};
 /// A number in a work text that has a range.
 #[derive(Clone, Copy, Debug, PartialEq, Eq, Hash)]
 pub enum Limit {
-    /// Bytes of the text, at most 8,388,608.
+    /// Bytes of the text, at most `LONGEST_WORK`.
     Input,
-    /// 1 to 8.
+    /// Coordinators, 1 to `MOST_COORDINATORS`.
     Coordinators,
-    /// 1 to 4.
+    /// Logs, 1 to `MOST_LOGS`.
     Logs,
-    /// Transactions of a batch, 1 to 256.
+    /// Transactions of a batch, 1 to `MOST_IN_A_BATCH`.
     Batch,
-    /// Live batches, 1 to 32.
+    /// Live batches, 1 to `MOST_BATCHES`.
     Batches,
-    /// Live ACTs, 1 to 32.
+    /// Live ACTs, 1 to `MOST_ACTS`.
     Acts,
-    /// 1 to 256.
+    /// Actors, 1 to `MOST_ACTORS`.
     Actors,
-    /// Values in an actor's line, at most 16.
+    /// Values in an actor's line, at most `MOST_VALUES`.
     Fields,
-    /// Actors that a PACT declares, at most 16.
+    /// Actors that a PACT declares, at most `aml_check::MOST_CALLED_ACTORS`.
     Uses,
-    /// At most 20,000.
+    /// Transactions, at most `MOST_TRANSACTIONS`.
     Transactions,
 }
 

@@ -7,21 +7,28 @@ ghost use Rattle.work_text.specs.Reads.{Laid, Reads, IsWork};
 ghost use Rattle.work_text.specs.Built.{IsBuilt, IsFirstFault};
 ghost use Rattle.work_text.specs.Kept.{IsKept, IsOneBatch};
 
+use crate::LONGEST_WORK;
+use aml_check::checked_programs_are_closed;
 use aml_tree::{faulty, one_fault, one_program};
 
-/// What a work keeps that a text stands for: its transactions may be asked of its states.
+/// What a work keeps that a text stands for: its transactions may be asked of its states, and its numbers
+/// are within their limits.
 pub fn transactions_may_run()
     ensures { (text : List ℕ) (w : Work) → IsWork text w → IsKept w }
-{}
+{
+    checked_programs_are_closed();
+}
 
 /// A work that is built is one batch of PACTs.
 pub fn one_batch()
     ensures { (text : List ℕ) (w : Work) → IsBuilt text w → IsOneBatch w }
-{}
+{
+    checked_programs_are_closed();
+}
 
 /// A text that stands for a work is not too long.
 pub fn a_work_is_short()
-    ensures { (text : List ℕ) (w : Work) → IsWork text w → length text ≤ 8388608 }
+    ensures { (text : List ℕ) (w : Work) → IsWork text w → length text ≤ LONGEST_WORK }
 {}
 
 /// A text that stands for a work that is built stands for it.
@@ -36,6 +43,7 @@ pub fn one_reading()
     one_program();
     one_fault();
     faulty();
+    checked_programs_are_closed();
 }
 
 /// A text stands for one work at most.

@@ -7,6 +7,7 @@ mod actors;
 mod calls;
 mod faults;
 mod laws;
+mod limits;
 mod lines;
 mod numbers;
 mod parse;
@@ -14,8 +15,6 @@ mod program;
 mod reading;
 mod settings;
 mod states;
-#[cfg(test)]
-mod tests;
 mod texts;
 mod transactions;
 mod uses;
@@ -25,6 +24,10 @@ pub use faults::{Limit, ProgramCause, WorkCause, WorkFault, WorkNo};
 pub use laws::{
     a_work_is_short, built_works, fault_or_work, one_batch, one_first_fault, one_reading, one_work,
     transactions_may_run,
+};
+pub use limits::{
+    LONGEST_WORK, MOST_ACTORS, MOST_ACTS, MOST_BATCHES, MOST_COORDINATORS, MOST_IN_A_BATCH,
+    MOST_LOGS, MOST_TRANSACTIONS, MOST_VALUES,
 };
 pub use parse::parse_work;
 pub use works::Work;

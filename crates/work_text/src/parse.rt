@@ -10,12 +10,9 @@ ghost use Rattle.work_text.specs.Reads as reads;
 use crate::faults::at_line;
 use crate::reading::{Laid, read_lines};
 use crate::texts::Cursor;
-use crate::{Limit, Work, WorkCause, WorkFault, WorkNo};
+use crate::{LONGEST_WORK, Limit, Work, WorkCause, WorkFault, WorkNo};
 use snap_base::{Kind, Tx};
 use std::alloc::Global;
-
-// The length of the longest text.
-const LONGEST: usize = 8_388_608;
 
 /// Reads a work text.
 pub fn parse_work(alloc: Global, bytes: &[u8]) -> Result<Work, WorkNo>
@@ -76,10 +73,10 @@ fn unbuilt_transaction(batch: u16, txs: &[Tx], lines: &[u32]) -> Option<u32>
 fn read_text(alloc: Global, bytes: &[u8]) -> Result<Laid, WorkNo>
     ensures { Is (λ x. record { work = work_of x.work; coordinators_line = x.coordinators; logs_line = x.logs; transaction_lines = x.transactions }) result (reads.Reads bytes.now) }
 {
-    if bytes.len() > LONGEST {
+    if bytes.len() > LONGEST_WORK {
         let cause = WorkCause::Limit {
             which: Limit::Input,
-            found: 8_388_609,
+            found: LONGEST_WORK as u64 + 1,
         };
         return Err(at_line(0, cause));
     }
@@ -101,7 +98,7 @@ fn read_text(alloc: Global, bytes: &[u8]) -> Result<Laid, WorkNo>
 // The line of a place in a text, from 1 on.
 fn line_at(bytes: &[u8], place: usize) -> u32
     requires within { place ≤ length bytes.now }
-    requires short { length bytes.now ≤ 8388608 }
+    requires short { length bytes.now ≤ LONGEST_WORK }
     ensures { result ≡ 1 + count_by (λ b. b == 10) (take place bytes.now) }
 {
     let mut line = 1;

@@ -5,21 +5,21 @@ ghost use Rattle.aml_check.specs.Checked.{methods_of};
 ghost use Rattle.work_text.specs.Lines.{text_of, up_to_end};
 ghost use Rattle.work_text.specs.Readings.{Is};
 ghost use Rattle.work_text.specs.Reads as reads;
-ghost use Rattle.work_text.specs.Parts.{IsBehind, IsNear, IsTextNo};
+ghost use Rattle.work_text.specs.Parts.{IsFaultBehind, IsNear, IsTextNo};
 ghost use Rattle.work_text.specs.Cursors.{ahead, end_of, IsShort};
 
 use crate::faults::at_line;
 use crate::lines::next_line;
 use crate::texts::Cursor;
-use crate::{ProgramCause, WorkCause, WorkNo};
+use crate::{LONGEST_WORK, ProgramCause, WorkCause, WorkNo};
 use aml_check::{CheckNo, Checked, check, faults_stand_in_the_program};
 use aml_tree::{TextNo, faults_stand_in_the_text, lines_stand_in_the_text, parse_program_bytes};
 use std::alloc::Global;
 
 // A fault of a line behind another one.
 fn fault_behind(before: u32, line: u32, cause: WorkCause) -> WorkNo
-    requires { before + line ≤ 8388609 }
-    ensures { IsBehind before line cause result }
+    requires { before + line ≤ 1 + LONGEST_WORK }
+    ensures { IsFaultBehind before line cause result }
 {
     at_line(before + line, cause)
 }
@@ -43,7 +43,7 @@ fn text_no(before: u32, no: TextNo) -> WorkNo
 
 // The program of a text that begins behind a line.
 fn program_text(alloc: Global, before: u32, text: &[u8]) -> Result<Checked, WorkNo>
-    requires { before + length text.now ≤ 8388608 }
+    requires { before + length text.now ≤ LONGEST_WORK }
     ensures { Is methods_of result (reads.program_text before text.now) }
 {
     faults_stand_in_the_text(text);

@@ -15,7 +15,10 @@ use crate::settings::{exactly, set};
 use crate::states::states;
 use crate::texts::Cursor;
 use crate::transactions::transaction;
-use crate::{Limit, Work, WorkNo};
+use crate::{
+    Limit, MOST_ACTORS, MOST_ACTS, MOST_BATCHES, MOST_COORDINATORS, MOST_IN_A_BATCH, MOST_LOGS,
+    Work, WorkNo,
+};
 use aml_check::Checked;
 use snap_base::{Sequence, State, Tx};
 use std::alloc::Global;
@@ -50,7 +53,7 @@ fn tail(
     cursor: Cursor<'_>,
 ) -> Result<(Sequence<State>, Sequence<Tx>, Sequence<u32>), WorkNo>
     requires short { IsShort cursor }
-    requires few { actors ≤ 256 }
+    requires few { actors ≤ MOST_ACTORS }
     ensures { Is (λ x. (x.0, x.1, x.2)) result (endings.ending (methods_of program.now) actors (said (ahead cursor.entry))) }
 {
     let count = actors as u16;
@@ -76,8 +79,8 @@ fn put_together(
     states: Sequence<State>,
     txs: Sequence<Tx>,
 ) -> Work
-    requires setup { (setup.0 ≤ 8) × (setup.1 ≤ 4) }
-    requires live { (live.0 ≤ 256) × (live.1 ≤ 32) × (live.2 ≤ 32) }
+    requires setup { (setup.0 ≤ MOST_COORDINATORS) × (setup.1 ≤ MOST_LOGS) }
+    requires live { (live.0 ≤ MOST_IN_A_BATCH) × (live.1 ≤ MOST_BATCHES) × (live.2 ≤ MOST_ACTS) }
     ensures { work_of result ≡ record { coordinators = setup.0; logs = setup.1; batch = live.0; batches = live.1; acts = live.2; program = methods_of program; states = states; txs = txs } }
 {
     Work {
@@ -98,14 +101,19 @@ pub(crate) fn read_lines(alloc: Global, cursor: Cursor<'_>) -> Result<Laid, Work
     ensures { Is (λ x. record { work = work_of x.work; coordinators_line = x.coordinators; logs_line = x.logs; transaction_lines = x.transactions }) result (reads.reads_lines (end_of cursor.entry) (ahead cursor.entry)) }
 {
     let header = exactly(cursor, b"snapper 1")?;
-    let coordinators = set(header.1, b"coordinators ", 8, Limit::Coordinators)?;
-    let logs = set(coordinators.1, b"logs ", 4, Limit::Logs)?;
-    let batch = set(logs.1, b"batch ", 256, Limit::Batch)?;
-    let batches = set(batch.1, b"batches ", 32, Limit::Batches)?;
-    let acts = set(batches.1, b"acts ", 32, Limit::Acts)?;
+    let coordinators = set(
+        header.1,
+        b"coordinators ",
+        MOST_COORDINATORS,
+        Limit::Coordinators,
+    )?;
+    let logs = set(coordinators.1, b"logs ", MOST_LOGS, Limit::Logs)?;
+    let batch = set(logs.1, b"batch ", MOST_IN_A_BATCH, Limit::Batch)?;
+    let batches = set(batch.1, b"batches ", MOST_BATCHES, Limit::Batches)?;
+    let acts = set(batches.1, b"acts ", MOST_ACTS, Limit::Acts)?;
     let begin = exactly(acts.1, b"program")?;
     let (program, behind) = program(alloc, begin.0, begin.1)?;
-    let actors = set(behind, b"actors ", 256, Limit::Actors)?;
+    let actors = set(behind, b"actors ", MOST_ACTORS, Limit::Actors)?;
     let (states, txs, lines) = tail(alloc, &program, actors.0.0, actors.1)?;
     let work = put_together(
         (coordinators.0.0, logs.0.0),

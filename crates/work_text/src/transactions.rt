@@ -12,8 +12,8 @@ use crate::faults::at_line;
 use crate::numbers::{numbers, words_of};
 use crate::texts::Line;
 use crate::uses::{declaration, declares_root};
-use crate::{Limit, WorkCause, WorkNo};
-use aml_check::Checked;
+use crate::{Limit, MOST_TRANSACTIONS, WorkCause, WorkNo};
+use aml_check::{Checked, MOST_CALLED_ACTORS};
 use snap_base::{ActorId, Sequence, Tx};
 use std::alloc::{AllocError, Global};
 
@@ -48,8 +48,8 @@ fn asked(
 }
 
 /// The transaction that a line asks for; so many transactions come before it. A line that asks for none
-/// is refused first, then one that declares more than 16 actors, then the 20,001st, and then a PACT that
-/// does not declare its own actor.
+/// is refused first, then one that declares too many actors, then one transaction too many, and then a
+/// PACT that does not declare its own actor.
 pub(crate) fn transaction(
     alloc: Global,
     program: &Checked,
@@ -57,20 +57,20 @@ pub(crate) fn transaction(
     before: usize,
     line: Line<'_>,
 ) -> Result<Tx, WorkNo>
-    requires { before ≤ 20000 }
+    requires { before ≤ MOST_TRANSACTIONS }
     ensures { Is (λ tx. tx) result (spec.transaction (methods_of program.now) actors before (line_of line.entry)) }
 {
     let Some(tx) = asked(alloc, program, actors, line.bytes)? else {
         return Err(at_line(line.number, WorkCause::BadTx));
     };
-    if tx.uses.len() > 16 {
+    if tx.uses.len() > MOST_CALLED_ACTORS {
         let cause = WorkCause::Limit {
             which: Limit::Uses,
             found: tx.uses.len() as u64,
         };
         return Err(at_line(line.number, cause));
     }
-    if before >= 20_000 {
+    if before >= MOST_TRANSACTIONS {
         let cause = WorkCause::Limit {
             which: Limit::Transactions,
             found: before as u64 + 1,

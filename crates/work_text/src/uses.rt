@@ -9,6 +9,7 @@ ghost use Rattle.work_text.specs.Transactions.{use_word, uses_words, AreUses, De
 ghost use Rattle.work_text.specs.Parts.{AreDeclared, IsWithoutColon};
 
 use crate::numbers::actor_of;
+use aml_check::MOST_CALLS;
 use decimal_words::natural;
 use snap_base::{ActorId, Kind};
 use std::alloc::{AllocError, Global};
@@ -49,11 +50,11 @@ fn declared(actors: u16, actor: &[u8], calls: &[u8]) -> Option<(ActorId, u8)>
 
 // The number of calls that a word spells.
 fn calls_of(word: &[u8]) -> Option<u8>
-    ensures found { IfSome result (λ n. (word.now ≡ decimal n) × (1 ≤ n) × (n ≤ 64)) }
-    ensures only { (n : ℕ) → word.now ≡ decimal n → 1 ≤ n → n ≤ 64 → result ≡ Some n }
+    ensures found { IfSome result (λ n. (word.now ≡ decimal n) × (1 ≤ n) × (n ≤ MOST_CALLS)) }
+    ensures only { (n : ℕ) → word.now ≡ decimal n → 1 ≤ n → n ≤ MOST_CALLS → result ≡ Some n }
 {
     let calls = natural(word)?;
-    if calls < 1 || calls > 64 {
+    if calls < 1 || calls > u64::from(MOST_CALLS) {
         return None;
     }
     Some(calls as u8)

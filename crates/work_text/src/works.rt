@@ -4,19 +4,19 @@ use snap_base::{Sequence, State, Tx};
 /// What a run is asked for.
 #[derive(Drop)]
 pub struct Work {
-    /// How many coordinators pass the token on, 1 to 8.
+    /// How many coordinators pass the token on, 1 to `MOST_COORDINATORS`.
     pub coordinators: u8,
-    /// How many logs there are, 1 to 4.
+    /// How many logs there are, 1 to `MOST_LOGS`.
     pub logs: u8,
-    /// How many transactions a batch may have, 1 to 256.
+    /// How many transactions a batch may have, 1 to `MOST_IN_A_BATCH`.
     pub batch: u16,
-    /// How many batches may be live, 1 to 32.
+    /// How many batches may be live, 1 to `MOST_BATCHES`.
     pub batches: u8,
-    /// How many ACTs may be live, 1 to 32.
+    /// How many ACTs may be live, 1 to `MOST_ACTS`.
     pub acts: u8,
     pub program: Checked,
-    /// Each actor's state at the beginning; 1 to 256 actors.
+    /// Each actor's state at the beginning; 1 to `MOST_ACTORS` actors.
     pub states: Sequence<State>,
-    /// The transactions in the order of the text, at most 20,000.
+    /// The transactions in the order of the text, at most `MOST_TRANSACTIONS`.
     pub txs: Sequence<Tx>,
 }

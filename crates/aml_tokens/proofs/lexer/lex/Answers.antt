@@ -1,11 +1,11 @@
-use Rattle.std.proofs.Common.{◌≡◌, ◌+◌, ◌-◌, ℕ, List, Some, length, sym, ap, ◌∙◌, arith}
+use Rattle.std.proofs.Common.{◌≡◌, ◌+◌, ℕ, Some, length, sym, ap, ◌∙◌, arith}
 use Rattle.std.specs.List.{between}
 use Rattle.std.proofs.lemmas.List.{map_push}
 use Rattle.std.proofs.lemmas.List.Edits.{length-between}
 use Rattle.aml_tokens.specs.Token.{tokens_of, token_of}
 use Rattle.aml_tokens.specs.Lexing.{Tokens, line_at, told, lexed}
 use Rattle.aml_tokens.specs.Reading.{pieces_at}
-use Rattle.aml_tokens.proofs.Joined.{joined, stops_at, one_more, more_lines}
+use Rattle.aml_tokens.proofs.Joined.{stops_at, one_more, more_lines}
 use Rattle.aml_tokens.proofs.lexer.lex.Goals as goal
 
 stopped : (c : goal.In-Err) → lexed c.args.text.now ≡ record { tokens = tokens_of c.loop-at.tokens.items; places = c.loop-at.places.items; stop = Some (c.loop-at.at, c.in-Err.cause) }

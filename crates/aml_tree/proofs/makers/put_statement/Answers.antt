@@ -2,4 +2,4 @@ use Rattle.aml_tree.proofs.Blocks.{put_last}
 use Rattle.aml_tree.proofs.makers.put_statement.Goals as goal
 
 pub returns : goal.returns
-returns c rest = rw c.in_ok-push.ensures.items (put_last c.args.block.now.items c.args.statement rest)
+returns g c rest = rw c.in_ok-push.ensures.items (put_last c.args.block.now.items c.args.statement rest)

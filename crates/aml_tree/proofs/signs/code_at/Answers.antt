@@ -9,8 +9,8 @@ returns-in_default-clause-reads c = rw c.unexpected.ensures (λ names. failing_n
 pub returns-then-number-lt1-clause-reads : goal.returns-then-number-lt1-clause-reads
 returns-then-number-lt1-clause-reads c = rw c.out_of_range.ensures (λ names. failing_below (tokens_of c.args.tokens.now) names c.args.at c.in-Some.number (sym c.in-Some.ensures.number) c.if-number-lt1.true)
 
-pub returns-then-number-gt999-clause-reads : goal.returns-then-number-gt999-clause-reads
-returns-then-number-gt999-clause-reads c = rw c.out_of_range-then-number-gt999.ensures (λ names. failing_above (tokens_of c.args.tokens.now) names c.args.at c.in-Some.number (sym c.in-Some.ensures.number) c.if-number-gt999.true)
+pub returns-then-number-gt-GREATEST_CODE-clause-reads : goal.returns-then-number-gt-GREATEST_CODE-clause-reads
+returns-then-number-gt-GREATEST_CODE-clause-reads c = rw c.out_of_range-then-number-gt-GREATEST_CODE.ensures (λ names. failing_above (tokens_of c.args.tokens.now) names c.args.at c.in-Some.number (sym c.in-Some.ensures.number) c.if-number-gt-GREATEST_CODE.true)
 
 pub returns-clause-reads : goal.returns-clause-reads
-returns-clause-reads c = λ names. failing_takes (tokens_of c.args.tokens.now) names c.args.at c.in-Some.number (sym c.in-Some.ensures.number) c.if-number-lt1.false c.if-number-gt999.false
+returns-clause-reads c = λ names. failing_takes (tokens_of c.args.tokens.now) names c.args.at c.in-Some.number (sym c.in-Some.ensures.number) c.if-number-lt1.false c.if-number-gt-GREATEST_CODE.false

@@ -18,4 +18,4 @@ returns-in_err-value-clause-reads c =
 
 pub returns-clause-reads : goal.returns-clause-reads
 returns-clause-reads c =
-    set_field_reads (tokens_of c.args.tokens.now) c.args.depth c.args.names c.args.at c.in_ok-start.start c.in_ok-value.end c.args.field (expression_tree c.in_ok-value.value) (statement_tree c.set_field_statement.result) c.requires.there c.set_field_statement.ensures c.in_ok-start.ensures.reads c.in_ok-value.ensures.reads
+    set_field_reads (tokens_of c.args.tokens.now) c.args.depth c.args.names c.args.at c.in_ok-start.start c.in_ok-value.end c.args.field (expression_tree c.in_ok-value.value) (statement_tree c.field_statement.result) c.requires.there c.field_statement.ensures c.in_ok-start.ensures.reads c.in_ok-value.ensures.reads
