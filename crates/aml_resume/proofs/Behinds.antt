@@ -2,11 +2,12 @@
 use Rattle.std.proofs.Common.{◌≡◌, ℕ, zero, suc, ◌+◌, ◌≤◌, ◌<◌, Bool, true, false, List, [], ◌∷◌, length, drop, get_or, refl, ap, ◌∙◌, subst, arith}
 use Rattle.aml_tree.specs.declared.trees.Statement.{Statement}
 use Rattle.aml_tree.specs.declared.trees.Statement.TheOpen.{Statement-F}
-use Rattle.aml_tree.specs.Tree.{Code, End, Let, Call, Set, SetField, If, IfElse, While, Fail, Return, Onto, statement_step, statement_tree, statements_tree}
+use Rattle.aml_tree.specs.Tree.{CheckedMethod, Code, End, Let, Call, Set, SetField, If, IfElse, While, Fail, Return, Onto, statement_step, statement_tree, statements_tree}
 use Rattle.aml_check.specs.Closed.{nesting}
 use Rattle.aml_check.proofs.Layers.{layer}
-use Rattle.aml_values.proofs.BlockLaws.{Step, from_here}
-use Rattle.aml_resume.specs.Places.{behind_some, HasInner, inner_of}
+use Rattle.aml_resume.proofs.BlockLaws.{Step, from_here}
+use Rattle.aml_resume.specs.declared.places.Spot.{Spot}
+use Rattle.aml_resume.specs.Places.{behind_some, HasInner, IsPlace, IsRunnable, after_inner, inner_of, kept}
 
 behind_step : (x : Step) (rest : Code ℕ ℕ) (n : ℕ) → behind_some (suc n) (statement_step x rest) ≡ behind_some n rest
 behind_step (Statement-F.Let v value) rest n = refl
@@ -108,3 +109,17 @@ inner_deep true (Return value rest) h = absurd h
 
 pub deep_inside : (other : Bool) (n : ℕ) (b : Code ℕ ℕ) → HasInner other (behind_some n b) → nesting (inner_of other (behind_some n b)) + 1 ≤ nesting b
 deep_inside other n b h = omega (arith, inner_deep other (behind_some n b) h, deep_some n b)
+
+-- ---- the outermost open block
+
+pub record Opened (p : List CheckedMethod) (n : ℕ) (b : Code ℕ ℕ) (q : Spot) (qs : List Spot) (next : ℕ) : Type 0 where
+  pub has : HasInner q.other (behind_some q.at b)
+  pub place : IsPlace p n (inner_of q.other (behind_some q.at b)) qs next
+  pub keeps : q.keep ≤ kept n qs
+  pub after : IsRunnable p q.keep (after_inner (behind_some q.at b))
+
+pub opened : (p : List CheckedMethod) (n : ℕ) (b : Code ℕ ℕ) (path : List Spot) (q : Spot) (qs : List Spot) (next : ℕ) → path ≡ q ∷ qs → IsPlace p n b path next → Opened p n b q qs next
+opened p n b path q qs next is place =
+    let P : List Spot → Type 0 = λ ps. IsPlace p n b ps next in
+    let h = subst P is place in
+    record { has = h.0; place = h.1; keeps = h.2; after = h.3 }

@@ -3,17 +3,16 @@ use Rattle.std.proofs.Common.{◌≡◌, ℕ, ◌≤◌, ℤ, Result, Ok, Err, L
 use Rattle.aml_tree.specs.Tree.{Code}
 use Rattle.aml_check.specs.Meaning.{◌>>=◌, Progress, Exit, Goes, Gives, Caller, block, behind}
 use Rattle.aml_resume.specs.declared.places.Spot.{Spot}
-use Rattle.aml_resume.specs.Places.{keeping, resumed, inner_of, behind_some, after_inner}
-use Rattle.aml_resume.specs.Resuming.{Rises}
-use Rattle.aml_resume.specs.Runs.{Next}
-use Rattle.aml_resume.proofs.Rising.{AtLeast, fewer, block_rises}
+use Rattle.aml_resume.specs.Places.{inner_of, behind_some, after_inner}
+use Rattle.aml_resume.specs.Resuming.{AtLeast, keeping, resumed, Rises}
+use Rattle.aml_resume.proofs.Rising.{Going, fewer, block_rises}
 
-pub behind_keeping : (vs : List ℤ) (o : Result (Exit × Progress) ℕ) (next : Next) → behind vs o next ≡ keeping (length vs) o next
+pub behind_keeping : (vs : List ℤ) (o : Result (Exit × Progress) ℕ) (next : Going) → behind vs o next ≡ keeping (length vs) o next
 behind_keeping vs (Ok (Goes inner, r)) next = refl
 behind_keeping vs (Ok (Gives v, r)) next = refl
 behind_keeping vs (Err code) next = refl
 
-pub keeping_after : (n : ℕ) (o : Result (ℤ × Progress) ℕ) (f : ℤ × Progress → Result (Exit × Progress) ℕ) (next : Next) → keeping n (o >>= f) next ≡ (o >>= λ x. keeping n (f x) next)
+pub keeping_after : (n : ℕ) (o : Result (ℤ × Progress) ℕ) (f : ℤ × Progress → Result (Exit × Progress) ℕ) (next : Going) → keeping n (o >>= f) next ≡ (o >>= λ x. keeping n (f x) next)
 keeping_after n (Ok x) f next = refl
 keeping_after n (Err code) f next = refl
 
@@ -22,7 +21,7 @@ pub same_after : {B : Type 0} (o : Result (ℤ × Progress) ℕ) (f g : ℤ × P
 same_after (Ok x) f g h = h x.0 x.1 refl
 same_after (Err code) f g h = refl
 
-keeping_rises : (m n : ℕ) (o : Result (Exit × Progress) ℕ) (next : Next) → AtLeast m o → ((ws : List ℤ) (q : Progress) → m ≤ q.statements → AtLeast m (next ws q)) → AtLeast m (keeping n o next)
+keeping_rises : (m n : ℕ) (o : Result (Exit × Progress) ℕ) (next : Going) → AtLeast m o → ((ws : List ℤ) (q : Progress) → m ≤ q.statements → AtLeast m (next ws q)) → AtLeast m (keeping n o next)
 keeping_rises m n (Ok (Goes inner, r)) next h on = on _ r h
 keeping_rises m n (Ok (Gives v, r)) next h on = h
 keeping_rises m n (Err code) next h on = tt

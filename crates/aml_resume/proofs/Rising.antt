@@ -2,17 +2,16 @@
 use Rattle.std.proofs.Common.{◌≡◌, ℕ, zero, suc, ◌+◌, ◌-◌, ◌≤◌, nat_lt, ◌==◌, Bool, true, false, if◌then◌else◌, ℤ, Result, Ok, Err, Option, Some, None, List, [], ◌∷◌, ◌++◌, length, refl, arith}
 use Rattle.std.specs.List.{list_any}
 use Rattle.snap_base.specs.declared.ids.ActorId.{ActorId}
-use Rattle.aml_tree.specs.Tree.{Expr, Code, End, Let, Call, Set, SetField, If, IfElse, While, Fail, Return, CheckedMethod}
+use Rattle.aml_tree.specs.Tree.{Expr, End, Let, Call, Set, SetField, If, IfElse, While, Fail, Return, CheckedMethod}
 use Rattle.aml_check.specs.Names.{method_at}
-use Rattle.aml_check.specs.Meaning.{◌>>=◌, Progress, Exit, Goes, Gives, Caller, statements, begun, state_at, value_of, values_of, holds, block, behind, turns, called, given, actor_of, admitted, one_call, with_actor, declared, by_declaration, with_left, used}
-use Rattle.aml_resume.specs.Resuming.{Rises}
+use Rattle.aml_check.specs.Meaning.{◌>>=◌, Progress, Exit, Goes, Gives, too_many_statements, begun, state_at, value_of, values_of, holds, block, behind, turns, called, given, actor_of, admitted, one_call, with_actor, declared, by_declaration, with_left, used}
+use Rattle.aml_resume.specs.Resuming.{AtLeast, BlocksRise, CallsRise, Rises}
 
--- a result with a run of so many statements at least
-abbrev pub AtLeast : {A : Type 0} → ℕ → Result (A × Progress) ℕ → Type 0
-AtLeast n (Ok x) = n ≤ x.1.statements
-AtLeast n (Err code) = Unit {0}
+-- what goes on behind a block
+abbrev pub Going : Type 0
+Going = List ℤ → Progress → Result (Exit × Progress) ℕ
 
--- the same of a run alone
+-- a run of so many statements at least
 abbrev pub Reaches : ℕ → Result Progress ℕ → Type 0
 Reaches n (Ok q) = n ≤ q.statements
 Reaches n (Err code) = Unit {0}
@@ -55,7 +54,7 @@ by_test : {A : Type 0} (n : ℕ) (b : Bool) (x y : Result (A × Progress) ℕ) �
 by_test n true x y h k = h
 by_test n false x y h k = k
 
-begun_by : (b : Bool) (r : Progress) → Reaches r.statements (if b then Ok (record r { statements = r.statements + 1 }) else Err statements)
+begun_by : (b : Bool) (r : Progress) → Reaches r.statements (if b then Ok (record r { statements = r.statements + 1 }) else Err too_many_statements)
 begun_by true r = omega arith
 begun_by false r = tt
 
@@ -77,7 +76,7 @@ turns_rise (suc n) own e body h vs r =
     (after_inner r.statements vs (body vs q) (turns n own e body) (fewer r.statements q.statements (body vs q) k (h vs q)) (λ ws z l. fewer r.statements z.statements (turns n own e body ws z) l (turns_rise n own e body h ws z)))
     k))
 
-pub block_rises : (call : Caller) → Rises call → (own : ℕ) (b : Code ℕ ℕ) (vs : List ℤ) (r : Progress) → AtLeast r.statements (block call own b vs r)
+pub block_rises : BlocksRise
 block_rises call rising own (End line) vs r = omega arith
 block_rises call rising own (Let v value rest) vs r =
     counts r (λ q. value_of own vs (state_at q.world own) value >>= λ x. block call own rest (vs ++ x ∷ []) q) (λ q k.
@@ -164,6 +163,6 @@ refused_by (Ok a) code v q n e = absurd cc
 refused_by (Err c) code v q n e = absurd cc
 
 -- a call of the meaning takes no statements back
-pub called_rises : (p : List CheckedMethod) (more : ℕ) → Rises (called p more)
+pub called_rises : CallsRise
 called_rises p zero target m arguments r q v e = refused_by (actor_of (length r.world) target) _ v q r.statements e
 called_rises p (suc more) target m arguments r q v e = of_equation r.statements _ v q (called_by p more (called_rises p more) target m arguments r) e

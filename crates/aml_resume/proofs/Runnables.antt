@@ -6,8 +6,8 @@ use Rattle.aml_tree.specs.Limits.{lets}
 use Rattle.aml_tree.specs.Tree.{Code, End, Onto, CheckedMethod, statement_step, statement_tree, statements_tree}
 use Rattle.aml_check.specs.Closed.{nesting}
 use Rattle.aml_check.proofs.Layers.{layer, lets_onto}
-use Rattle.aml_values.specs.Statements.{declares}
-use Rattle.aml_values.proofs.BlockLaws.{Step, from_here, deep_step, closed_here, closed_next}
+use Rattle.aml_resume.specs.Ways.{declares}
+use Rattle.aml_resume.proofs.BlockLaws.{Step, from_here, deep_step, closed_here, closed_next}
 use Rattle.aml_resume.specs.Places.{behind_some, IsRunnable}
 use Rattle.aml_resume.proofs.Behinds.{behind_statements}
 

@@ -6,7 +6,7 @@ use Rattle.aml_tree.specs.declared.trees.Statement.{Statement}
 use Rattle.aml_tree.specs.declared.trees.Statement as variant
 use Rattle.aml_tree.specs.Tree.{Expr, Code, End, Let, Call, Set, SetField, If, IfElse, While, Fail, Return, Onto, expression_tree, statement_tree, statements_tree, block_tree}
 use Rattle.aml_check.proofs.TreeOfStatement.{tree_of_let, tree_of_call, tree_of_set, tree_of_field, tree_of_if, tree_of_if_else, tree_of_while, tree_of_fail, tree_of_return}
-use Rattle.aml_resume.specs.Places.{behind_some, HasInner, inner_of, after_inner}
+use Rattle.aml_resume.specs.Places.{behind_some, HasInner, inner_of, after_inner, place_behind}
 use Rattle.aml_resume.proofs.Behinds.{behind_more, block_here}
 
 -- a statement at a place of a block where an inner block is open
@@ -106,3 +106,10 @@ pub while_again : (ss : List (Statement ℕ ℕ)) (line i : ℕ) (other : Bool) 
 while_again ss line i other s e body here same =
     let is = as_tree ss line i other s (variant.While e body) (While (expression_tree e) (block_tree body)) here same (tree_of_while e body) in
     is ∙ ap after_inner (sym is)
+
+pub while_place : (ss : List (Statement ℕ ℕ)) (line i : ℕ) (other : Bool) (s : Statement ℕ ℕ) (e : Expression ℕ) (body : Block (Statement ℕ ℕ)) → Here ss line i other s → s ≡ variant.While e body → i ≡ place_behind i (behind_some i (statements_tree ss (End line)))
+while_place ss line i other s e body here same = sym (ap (place_behind i) (as_tree ss line i other s (variant.While e body) (While (expression_tree e) (block_tree body)) here same (tree_of_while e body)))
+
+pub choice_place : (ss : List (Statement ℕ ℕ)) (line i : ℕ) (other : Bool) (s : Statement ℕ ℕ) → Here ss line i other s → IsChoice s → i + 1 ≡ place_behind i (behind_some i (statements_tree ss (End line)))
+choice_place ss line i other s here (inl x) = sym (ap (place_behind i) (as_tree ss line i other s (variant.If x.0 x.1) (If (expression_tree x.0) (block_tree x.1)) here x.2 (tree_of_if x.0 x.1)))
+choice_place ss line i other s here (inr x) = sym (ap (place_behind i) (as_tree ss line i other s (variant.IfElse x.0 x.1 x.2) (IfElse (expression_tree x.0) (block_tree x.1) (block_tree x.2)) here x.3 (tree_of_if_else x.0 x.1 x.2)))

@@ -1,4 +1,5 @@
 pub mod Places
+pub mod Pausing
 pub mod Resuming
 pub mod Rooms
-pub mod Runs
+pub mod Ways

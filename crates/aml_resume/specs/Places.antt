@@ -1,10 +1,21 @@
 -- Where a method stands between two statements, and what is left of it from there.
-use Rattle.std.specs.Prelude.{ℕ, zero, suc, ◌+◌, ◌≤◌, Bool, true, false, ℤ, Result, Ok, Err, List, [], ◌∷◌, take}
+use Rattle.std.specs.Prelude.{ℕ, zero, suc, ◌+◌, ◌≤◌, Bool, true, false, ℤ, List, [], ◌∷◌, ◌++◌}
 use Rattle.aml_tree.specs.Tree.{Code, End, Let, Call, Set, SetField, If, IfElse, While, Fail, Return, CheckedMethod}
+use Rattle.aml_tree.specs.declared.limits.TheConstants.{MOST_NAMES}
 use Rattle.aml_tree.specs.Limits.{lets}
 use Rattle.aml_check.specs.Closed.{IsClosedBlock}
-use Rattle.aml_check.specs.Meaning.{Progress, Exit, Goes, Gives, Caller, block}
 use Rattle.aml_resume.specs.declared.places.Spot.{Spot}
+
+-- Where a method stands: the statements whose inner blocks are open, from the outermost, and the statement of
+-- the innermost open block that is next; with the values of the variables in view.
+pub record Standing : Type 0 where
+  pub path : List Spot
+  pub next : ℕ
+  pub variables : List ℤ
+
+-- with the value of a call in a new variable
+abbrev pub with_value : Standing → ℤ → Standing
+with_value f v = record f { variables = f.variables ++ v ∷ [] }
 
 -- what is left of a block behind so many statements
 abbrev pub behind_some : ℕ → Code ℕ ℕ → Code ℕ ℕ
@@ -42,22 +53,14 @@ after_inner (IfElse condition first second rest) = rest
 after_inner (While condition body rest) = While condition body rest
 after_inner _ = End 0
 
--- what goes on behind an inner block with so many variables, unless a value was returned
-abbrev pub keeping : ℕ → Result (Exit × Progress) ℕ → (List ℤ → Progress → Result (Exit × Progress) ℕ) → Result (Exit × Progress) ℕ
-keeping n (Ok (Goes inner, r)) next = next (take n inner) r
-keeping n (Ok (Gives v, r)) next = Ok (Gives v, r)
-keeping n (Err code) next = Err code
+-- the place of what goes on there: a loop's own, and else the one behind
+abbrev pub place_behind : ℕ → Code ℕ ℕ → ℕ
+place_behind at (While condition body rest) = at
+place_behind at _ = at + 1
 
--- A block from a place in it on: the statements whose inner blocks are open, from the outermost, and the
--- statement of the innermost open block that is next.
-abbrev pub resumed : Caller → ℕ → Code ℕ ℕ → List Spot → ℕ → List ℤ → Progress → Result (Exit × Progress) ℕ
-resumed call own b [] next variables r = block call own (behind_some next b) variables r
-resumed call own b (q ∷ qs) next variables r =
-    keeping q.keep (resumed call own (inner_of q.other (behind_some q.at b)) qs next variables r) (block call own (after_inner (behind_some q.at b)))
-
--- a block that is run with n variables in view: it is closed, and no more than 32 are ever in view
+-- a block that is run with n variables in view: it is closed, and no more than `MOST_NAMES` are ever in view
 abbrev pub IsRunnable : List CheckedMethod → ℕ → Code ℕ ℕ → Type 0
-IsRunnable p n b = IsClosedBlock p n b × (n + lets b ≤ 32)
+IsRunnable p n b = IsClosedBlock p n b × (n + lets b ≤ MOST_NAMES)
 
 -- how many variables are in view behind the outermost of the open blocks
 abbrev pub kept : ℕ → List Spot → ℕ

@@ -7,13 +7,13 @@ ghost use Rattle.aml_check.specs.Checked.{methods_of};
 ghost use Rattle.aml_check.specs.Closed.{IsClosedCall, IsClosedExpression};
 ghost use Rattle.aml_check.specs.Meaning.{values_of};
 ghost use Rattle.aml_resume.specs.Rooms.{standing_of};
-ghost use Rattle.aml_resume.specs.Runs.{AsksThere, IfGoes, IsMeant, IsReady, Keeps, Leaves};
+ghost use Rattle.aml_resume.specs.Ways.{IfGoes, IsMeant, IsReady, StaysReady, Runs};
 
 use crate::Activation;
 use crate::statements::{counted, put_value};
 use crate::ways::Way;
 use aml_check::Checked;
-use aml_tree::Expression;
+use aml_tree::{Expression, MOST_PARAMETERS};
 use aml_values::{Code, value};
 use snap_base::State;
 
@@ -40,10 +40,10 @@ fn pass(
     Ok(())
 }
 
-/// A call that a program allows passes no more than eight values.
+/// A call that a program allows passes no more values than a method may have parameters.
 fn few(program: &Checked, method: u16, _es: &[Expression<u8>])
     requires { IsClosedCall (methods_of program.now) method (length (map expression_tree _es.now)) }
-    ensures few { length _es.now ≤ 8 }
+    ensures few { length _es.now ≤ MOST_PARAMETERS }
     ensures closed { IsClosedCall (methods_of program.now) method (length _es.now) }
 {
     let _body = program.body(method);
@@ -70,10 +70,10 @@ pub(crate) fn ask(
     requires target { IsClosedExpression (length activation.old.variables.items) (expression_tree target.now) }
     requires method { IsClosedCall (methods_of program.now) method (length (map expression_tree es.now)) }
     requires arguments { AllByRecursion (IsClosedExpression (length activation.old.variables.items)) (map expression_tree es.now) }
-    ensures leaves { (v : ℕ) → Leaves own at (Call v (expression_tree target.now) method (map expression_tree es.now)) activation.old.variables.items state.now statements.old (standing_of activation.new) arguments.new.items state.now statements.new result }
-    ensures asks { (v levels : ℕ) → 1 ≤ levels → AsksThere (methods_of program.now) at (length activation.old.variables.items) levels (Call v (expression_tree target.now) method (map expression_tree es.now)) (standing_of activation.new) arguments.new.items result }
+    ensures runs { (v : ℕ) → Runs own at (Call v (expression_tree target.now) method (map expression_tree es.now)) activation.old.variables.items state.now statements.old (standing_of activation.new) arguments.new.items state.now statements.new result }
+    ensures path { activation.new.path.items ≡ [] }
     ensures goes { IfGoes result ⊥ }
-    ensures keeps { Keeps (vec_capacity arguments.old) statements.old activation.new (vec_capacity arguments.new) statements.new }
+    ensures keeps { StaysReady (vec_capacity arguments.old) statements.old activation.new (vec_capacity arguments.new) statements.new }
 {
     let actor = counted(
         own,

@@ -4,19 +4,18 @@ ghost use Rattle.std.specs.Prelude.{◌≡◌, ◌<◌, ◌≤◌, ◌^◌, ◌+
 ghost use Rattle.aml_tree.specs.Tree.{Code, End, If, IfElse, While, expression_tree, statement_tree, statements_tree, block_tree};
 ghost use Rattle.aml_check.specs.Checked.{methods_of};
 ghost use Rattle.aml_check.specs.Closed.{IsClosedBlock, IsClosedExpression, nesting};
-ghost use Rattle.aml_check.specs.Meaning.{block};
-ghost use Rattle.aml_values.specs.Statements.{declares};
 ghost use Rattle.aml_resume.specs.declared.places.Spot.{Spot};
 ghost use Rattle.aml_resume.specs.Places.{behind_some, IsRunnable};
+ghost use Rattle.aml_resume.specs.Pausing.{Through, block_pause, spot};
 ghost use Rattle.aml_resume.specs.Rooms.{standing_of};
-ghost use Rattle.aml_resume.specs.Runs.{AsksAt, AsksInside, AsksThere, IfAsks, IfGoes, IsReady, Keeps, Leaves, RunsInside, RunsOn};
+ghost use Rattle.aml_resume.specs.Ways.{IfAsks, IfGoes, IsReady, StaysReady, Runs, RunsInside, declares, then_on};
 
 use crate::arguments::ask;
 use crate::statements::{counted, fail, give, let_value, set, set_field};
 use crate::ways::Way;
 use crate::{Activation, Spot};
 use aml_check::Checked;
-use aml_tree::{Block, Expression, Statement};
+use aml_tree::{Block, Expression, MOST_LEVELS, Statement};
 use aml_values::{Code, holds};
 use snap_base::State;
 
@@ -42,12 +41,12 @@ pub(crate) fn block(
     requires path { activation.old.path.items ≡ [] }
     requires runnable { IsRunnable (methods_of program.now) (length activation.old.variables.items) (behind_some from (block_tree code.now)) }
     requires deep { nesting (block_tree code.now) ≤ levels }
-    requires levels { levels ≤ 32 }
-    ensures runs { RunsOn own (λ call r. block call own (behind_some from (block_tree code.now)) activation.old.variables.items r) (block_tree code.now) state.old statements.old (standing_of activation.new) arguments.new.items state.new statements.new result }
-    ensures asks { IfAsks result (AsksAt (methods_of program.now) (length activation.old.variables.items) levels (block_tree code.now) (standing_of activation.new) arguments.new.items) }
+    requires levels { levels ≤ MOST_LEVELS }
+    ensures runs { block_pause own from (behind_some from (block_tree code.now)) activation.old.variables.items state.old statements.old ≡ then_on result (standing_of activation.new) arguments.new.items state.new statements.new Through }
+    ensures few { IfAsks result (length activation.new.path.items + 1 ≤ levels) }
     ensures path { IfGoes result (activation.new.path.items ≡ []) }
     ensures longer { IfGoes result (length activation.old.variables.items ≤ length activation.new.variables.items) }
-    ensures keeps { Keeps (vec_capacity arguments.old) statements.old activation.new (vec_capacity arguments.new) statements.new }
+    ensures keeps { StaysReady (vec_capacity arguments.old) statements.old activation.new (vec_capacity arguments.new) statements.new }
 {
     for at in from..code.statements.len() {
         let one = &code.statements[at];
@@ -108,12 +107,12 @@ fn statement(
     requires runnable { IsRunnable (methods_of program.now) (length activation.old.variables.items) (statement_tree one.now (End 0)) }
     requires deep { nesting (statement_tree one.now (End 0)) ≤ levels }
     requires some { 1 ≤ levels }
-    requires levels { levels ≤ 32 }
-    ensures leaves { Leaves own at (statement_tree one.now) activation.old.variables.items state.old statements.old (standing_of activation.new) arguments.new.items state.new statements.new result }
-    ensures asks { AsksThere (methods_of program.now) at (length activation.old.variables.items) levels (statement_tree one.now) (standing_of activation.new) arguments.new.items result }
+    requires levels { levels ≤ MOST_LEVELS }
+    ensures runs { Runs own at (statement_tree one.now) activation.old.variables.items state.old statements.old (standing_of activation.new) arguments.new.items state.new statements.new result }
+    ensures few { IfAsks result (length activation.new.path.items + 1 ≤ levels) }
     ensures path { IfGoes result (activation.new.path.items ≡ []) }
     ensures more { IfGoes result (length activation.new.variables.items ≡ length activation.old.variables.items + declares (statement_tree one.now (End 0))) }
-    ensures keeps { Keeps (vec_capacity arguments.old) statements.old activation.new (vec_capacity arguments.new) statements.new }
+    ensures keeps { StaysReady (vec_capacity arguments.old) statements.old activation.new (vec_capacity arguments.new) statements.new }
 {
     match one {
         Statement::Let { variable: _, value } => {
@@ -193,12 +192,12 @@ fn inner(
     requires path { activation.old.path.items ≡ [] }
     requires runnable { IsRunnable (methods_of program.now) (length activation.old.variables.items) (block_tree code.now) }
     requires deep { nesting (block_tree code.now) ≤ levels }
-    requires levels { levels ≤ 31 }
-    ensures runs { RunsInside own (λ call r. block call own (block_tree code.now) activation.old.variables.items r) (block_tree code.now) state.old statements.old (record { at = at; other = other; keep = length activation.old.variables.items }) (standing_of activation.new) arguments.new.items state.new statements.new result }
-    ensures asks { IfAsks result (AsksInside (methods_of program.now) levels (block_tree code.now) (record { at = at; other = other; keep = length activation.old.variables.items }) (standing_of activation.new) arguments.new.items) }
+    requires levels { levels < MOST_LEVELS }
+    ensures runs { RunsInside own (block_tree code.now) (spot at other activation.old.variables.items) activation.old.variables.items state.old statements.old (standing_of activation.new) arguments.new.items state.new statements.new result }
+    ensures few { IfAsks result (length activation.new.path.items ≤ levels) }
     ensures path { IfGoes result (activation.new.path.items ≡ []) }
     ensures same { IfGoes result (length activation.new.variables.items ≡ length activation.old.variables.items) }
-    ensures keeps { Keeps (vec_capacity arguments.old) statements.old activation.new (vec_capacity arguments.new) statements.new }
+    ensures keeps { StaysReady (vec_capacity arguments.old) statements.old activation.new (vec_capacity arguments.new) statements.new }
 {
     let keep = activation.variables.len();
     match block(
@@ -245,12 +244,12 @@ fn repeat(
     requires condition { IsClosedExpression (length activation.old.variables.items) (expression_tree condition.now) }
     requires runnable { IsRunnable (methods_of program.now) (length activation.old.variables.items) (block_tree body.now) }
     requires deep { nesting (block_tree body.now) + 1 ≤ levels }
-    requires levels { levels ≤ 32 }
-    ensures leaves { Leaves own at (While (expression_tree condition.now) (block_tree body.now)) activation.old.variables.items state.old statements.old (standing_of activation.new) arguments.new.items state.new statements.new result }
-    ensures asks { AsksThere (methods_of program.now) at (length activation.old.variables.items) levels (While (expression_tree condition.now) (block_tree body.now)) (standing_of activation.new) arguments.new.items result }
+    requires levels { levels ≤ MOST_LEVELS }
+    ensures runs { Runs own at (While (expression_tree condition.now) (block_tree body.now)) activation.old.variables.items state.old statements.old (standing_of activation.new) arguments.new.items state.new statements.new result }
+    ensures few { IfAsks result (length activation.new.path.items + 1 ≤ levels) }
     ensures path { IfGoes result (activation.new.path.items ≡ []) }
     ensures same { IfGoes result (length activation.new.variables.items ≡ length activation.old.variables.items) }
-    ensures keeps { Keeps (vec_capacity arguments.old) statements.old activation.new (vec_capacity arguments.new) statements.new }
+    ensures keeps { StaysReady (vec_capacity arguments.old) statements.old activation.new (vec_capacity arguments.new) statements.new }
 {
     loop {
         let value = counted(
@@ -301,12 +300,12 @@ fn choice(
     requires condition { IsClosedExpression (length activation.old.variables.items) (expression_tree condition.now) }
     requires runnable { IsRunnable (methods_of program.now) (length activation.old.variables.items) (block_tree first.now) }
     requires deep { nesting (block_tree first.now) + 1 ≤ levels }
-    requires levels { levels ≤ 32 }
-    ensures leaves { Leaves own at (If (expression_tree condition.now) (block_tree first.now)) activation.old.variables.items state.old statements.old (standing_of activation.new) arguments.new.items state.new statements.new result }
-    ensures asks { AsksThere (methods_of program.now) at (length activation.old.variables.items) levels (If (expression_tree condition.now) (block_tree first.now)) (standing_of activation.new) arguments.new.items result }
+    requires levels { levels ≤ MOST_LEVELS }
+    ensures runs { Runs own at (If (expression_tree condition.now) (block_tree first.now)) activation.old.variables.items state.old statements.old (standing_of activation.new) arguments.new.items state.new statements.new result }
+    ensures few { IfAsks result (length activation.new.path.items + 1 ≤ levels) }
     ensures path { IfGoes result (activation.new.path.items ≡ []) }
     ensures same { IfGoes result (length activation.new.variables.items ≡ length activation.old.variables.items) }
-    ensures keeps { Keeps (vec_capacity arguments.old) statements.old activation.new (vec_capacity arguments.new) statements.new }
+    ensures keeps { StaysReady (vec_capacity arguments.old) statements.old activation.new (vec_capacity arguments.new) statements.new }
 {
     let value = counted(
         own,
@@ -355,12 +354,12 @@ fn either(
     requires other { IsRunnable (methods_of program.now) (length activation.old.variables.items) (block_tree other.now) }
     requires first_deep { nesting (block_tree first.now) + 1 ≤ levels }
     requires other_deep { nesting (block_tree other.now) + 1 ≤ levels }
-    requires levels { levels ≤ 32 }
-    ensures leaves { Leaves own at (IfElse (expression_tree condition.now) (block_tree first.now) (block_tree other.now)) activation.old.variables.items state.old statements.old (standing_of activation.new) arguments.new.items state.new statements.new result }
-    ensures asks { AsksThere (methods_of program.now) at (length activation.old.variables.items) levels (IfElse (expression_tree condition.now) (block_tree first.now) (block_tree other.now)) (standing_of activation.new) arguments.new.items result }
+    requires levels { levels ≤ MOST_LEVELS }
+    ensures runs { Runs own at (IfElse (expression_tree condition.now) (block_tree first.now) (block_tree other.now)) activation.old.variables.items state.old statements.old (standing_of activation.new) arguments.new.items state.new statements.new result }
+    ensures few { IfAsks result (length activation.new.path.items + 1 ≤ levels) }
     ensures path { IfGoes result (activation.new.path.items ≡ []) }
     ensures same { IfGoes result (length activation.new.variables.items ≡ length activation.old.variables.items) }
-    ensures keeps { Keeps (vec_capacity arguments.old) statements.old activation.new (vec_capacity arguments.new) statements.new }
+    ensures keeps { StaysReady (vec_capacity arguments.old) statements.old activation.new (vec_capacity arguments.new) statements.new }
 {
     let value = counted(
         own,

@@ -5,25 +5,22 @@ ghost use Rattle.aml_tree.specs.Tree.{block_tree};
 ghost use Rattle.aml_check.specs.Checked.{methods_of};
 ghost use Rattle.aml_check.specs.Closed.{nesting};
 ghost use Rattle.aml_check.specs.Names.{method_at};
-ghost use Rattle.aml_resume.specs.Places.{HasInner, IsPlace, after_inner, behind_some, inner_of, kept, resumed};
-ghost use Rattle.aml_resume.specs.Resuming.{AsksWell, RunsTo};
+ghost use Rattle.aml_resume.specs.Places.{HasInner, IsPlace, after_inner, behind_some, inner_of, kept, place_behind};
+ghost use Rattle.aml_resume.specs.Pausing.{Through, method_pause, pause_from, pause_of};
 ghost use Rattle.aml_resume.specs.Rooms.{HasRoom, standing_of};
-ghost use Rattle.aml_resume.specs.Runs.{AsksAt, IfAsks, IfGoes, IsReady, Keeps, RunsOn};
+ghost use Rattle.aml_resume.specs.Ways.{IfAsks, IfGoes, IsReady, StaysReady, then_on};
 
 use crate::blocks::{block, put_spot};
 use crate::ways::Way;
 use crate::{Activation, Exit, Spot};
-use aml_check::Checked;
-use aml_tree::{Block, Statement};
+use aml_check::{Checked, MOST_STATEMENTS};
+use aml_tree::{Block, MOST_LEVELS, MOST_PARAMETERS, Statement};
 use aml_values::Code;
 use snap_base::State;
 
-/// How many blocks may be open in a method.
-const MOST_LEVELS: usize = 32;
-
 /// Runs a method on an actor up to its next call, or to its end. At a call, `arguments` holds the
-/// values that are passed. A failure, told by its code, leaves the state, the variables and the place
-/// as they happen to be.
+/// values that are passed. A failure, told by its code, leaves the state as the statements made it
+/// so far, and the variables and the place as they happen to be.
 pub fn resume(
     program: &Checked,
     method: u16,
@@ -35,15 +32,14 @@ pub fn resume(
 ) -> Result<Exit, u16>
     requires method { method < length (methods_of program.now) }
     requires small { own < 2 ^ 63 }
-    requires count { statements.old ≤ 10000 }
+    requires count { statements.old ≤ MOST_STATEMENTS }
     requires place { IsPlace (methods_of program.now) (length activation.old.variables.items) (method_at (methods_of program.now) method).body (reverse activation.old.path.items) activation.old.next }
     requires room { HasRoom activation.old }
-    requires arguments { 8 ≤ vec_capacity arguments.old }
-    ensures runs { RunsTo own (method_at (methods_of program.now) method).body (standing_of activation.old) state.old statements.old (standing_of activation.new) arguments.new.items state.new statements.new result }
-    ensures asks { AsksWell (methods_of program.now) (method_at (methods_of program.now) method).body (standing_of activation.new) arguments.new.items result }
+    requires arguments { MOST_PARAMETERS ≤ vec_capacity arguments.old }
+    ensures exactly { pause_of result (standing_of activation.new) arguments.new.items state.new statements.new ≡ method_pause own (method_at (methods_of program.now) method).body (standing_of activation.old) state.old statements.old }
     ensures room { HasRoom activation.new }
     ensures arguments { vec_capacity arguments.new ≡ vec_capacity arguments.old }
-    ensures count { (statements.old ≤ statements.new) × (statements.new ≤ 10000) }
+    ensures count { (statements.old ≤ statements.new) × (statements.new ≤ MOST_STATEMENTS) }
 {
     let body = program.body(method);
     match go_on(
@@ -77,12 +73,12 @@ fn go_on(
     requires small { own < 2 ^ 63 }
     requires place { IsPlace (methods_of program.now) (length activation.old.variables.items) (block_tree code.now) (reverse activation.old.path.items) activation.old.next }
     requires deep { nesting (block_tree code.now) ≤ levels }
-    requires levels { levels ≤ 32 }
-    ensures runs { RunsOn own (λ call r. resumed call own (block_tree code.now) (reverse activation.old.path.items) activation.old.next activation.old.variables.items r) (block_tree code.now) state.old statements.old (standing_of activation.new) arguments.new.items state.new statements.new result }
-    ensures asks { IfAsks result (AsksAt (methods_of program.now) (kept (length activation.old.variables.items) (reverse activation.old.path.items)) levels (block_tree code.now) (standing_of activation.new) arguments.new.items) }
+    requires levels { levels ≤ MOST_LEVELS }
+    ensures runs { pause_from own (block_tree code.now) (reverse activation.old.path.items) activation.old.next activation.old.variables.items state.old statements.old ≡ then_on result (standing_of activation.new) arguments.new.items state.new statements.new Through }
+    ensures few { IfAsks result (length activation.new.path.items + 1 ≤ levels) }
     ensures path { IfGoes result (activation.new.path.items ≡ []) }
     ensures longer { IfGoes result (kept (length activation.old.variables.items) (reverse activation.old.path.items) ≤ length activation.new.variables.items) }
-    ensures keeps { Keeps (vec_capacity arguments.old) statements.old activation.new (vec_capacity arguments.new) statements.new }
+    ensures keeps { StaysReady (vec_capacity arguments.old) statements.old activation.new (vec_capacity arguments.new) statements.new }
 {
     match take_spot(&mut activation.path) {
         None => {
@@ -156,7 +152,8 @@ fn inner_block(code: &Block<Statement<u8, u16>>, spot: Spot) -> &Block<Statement
 /// The statement that is next behind an inner block: a loop itself, and else the one behind.
 fn next_behind(code: &Block<Statement<u8, u16>>, spot: Spot) -> usize
     requires { HasInner spot.other (behind_some spot.at (block_tree code.now)) }
-    ensures { behind_some result (block_tree code.now) ≡ after_inner (behind_some spot.at (block_tree code.now)) }
+    ensures after { behind_some result (block_tree code.now) ≡ after_inner (behind_some spot.at (block_tree code.now)) }
+    ensures place { result ≡ place_behind spot.at (behind_some spot.at (block_tree code.now)) }
 {
     match &code.statements[spot.at] {
         Statement::While { .. } => spot.at,

@@ -1,13 +1,16 @@
 //! Statements that have no blocks in them and ask for no call, run.
 
-ghost use Rattle.std.specs.Prelude.{◌≡◌, ◌+◌, ◌<◌, ◌≤◌, ◌^◌, ◌∷◌, ◌++◌, ℕ, [], length, vec_capacity, IfOk, OnErr, Err};
+ghost use Rattle.std.specs.Prelude.{◌≡◌, ◌+◌, ◌<◌, ◌≤◌, ◌^◌, ◌∷◌, ◌++◌, ℕ, [], length, min, vec_capacity, IfOk, OnErr, Err};
 ghost use Rattle.aml_tree.specs.Tree.{Let, Set, SetField, Fail, Return, expression_tree};
 ghost use Rattle.aml_check.specs.Closed.{IsClosedExpression};
-ghost use Rattle.aml_resume.specs.Runs.{IfAsks, IfGoes, IsMeant, LeavesPlainly, counted_at};
+ghost use Rattle.aml_check.specs.Meaning.{too_many_statements};
+ghost use Rattle.aml_resume.specs.Pausing.{counted_value};
+ghost use Rattle.aml_resume.specs.Ways.{IfAsks, IfGoes, IsMeant, RunsPlainly};
 
 use crate::ways::Way;
+use aml_check::MOST_STATEMENTS;
 use aml_tree::Expression;
-use aml_values::{Code, MOST_STATEMENTS, STATEMENTS, value};
+use aml_values::{Code, TOO_MANY_STATEMENTS, value};
 use snap_base::State;
 
 // In each function `own` is the actor on which the method runs, `variables` are the values of the
@@ -16,15 +19,16 @@ use snap_base::State;
 
 /// Counts a statement before it runs.
 fn begin(statements: &mut u16) -> Result<(), Code>
-    requires { statements.old ≤ 10000 }
-    ensures one { IfOk result (λ _. (statements.old < 10000) × (statements.new ≡ statements.old + 1)) }
-    ensures full { OnErr result ((statements.old ≡ 10000) × (statements.new ≡ statements.old) × (result ≡ Err 1008)) }
+    requires { statements.old ≤ MOST_STATEMENTS }
+    ensures one { IfOk result (λ _. (statements.old < MOST_STATEMENTS) × (statements.new ≡ statements.old + 1)) }
+    ensures full { OnErr result ((statements.old ≡ MOST_STATEMENTS) × (statements.new ≡ statements.old) × (result ≡ Err too_many_statements)) }
+    ensures counts { statements.new ≡ min (statements.old + 1) MOST_STATEMENTS }
 {
     if *statements < MOST_STATEMENTS {
         *statements += 1;
         Ok(())
     } else {
-        Err(STATEMENTS)
+        Err(TOO_MANY_STATEMENTS)
     }
 }
 
@@ -37,10 +41,11 @@ pub(crate) fn counted(
     e: &Expression<u8>,
 ) -> Result<i64, Code>
     requires small { own < 2 ^ 63 }
-    requires count { statements.old ≤ 10000 }
+    requires count { statements.old ≤ MOST_STATEMENTS }
     requires closed { IsClosedExpression (length variables.now) (expression_tree e.now) }
-    ensures meant { IsMeant (λ v. (v, statements.new)) (counted_at own variables.now state.now statements.old (expression_tree e.now)) result }
-    ensures risen { (statements.old ≤ statements.new) × (statements.new ≤ 10000) }
+    ensures meant { IsMeant (λ v. (v, statements.new)) (counted_value own variables.now state.now statements.old (expression_tree e.now)) result }
+    ensures risen { (statements.old ≤ statements.new) × (statements.new ≤ MOST_STATEMENTS) }
+    ensures counts { statements.new ≡ min (statements.old + 1) MOST_STATEMENTS }
     ensures one { IfOk result (λ _. statements.old < statements.new) }
 {
     begin(statements)?;
@@ -55,13 +60,13 @@ pub(crate) fn let_value(
     e: &Expression<u8>,
 ) -> Result<Way, Code>
     requires small { own < 2 ^ 63 }
-    requires count { statements.old ≤ 10000 }
+    requires count { statements.old ≤ MOST_STATEMENTS }
     requires room { length variables.old.items < vec_capacity variables.old }
     requires closed { IsClosedExpression (length variables.old.items) (expression_tree e.now) }
-    ensures leaves { (v : ℕ) → LeavesPlainly own (Let v (expression_tree e.now)) variables.old.items state.now statements.old variables.new.items state.now statements.new result }
+    ensures runs { (v : ℕ) → RunsPlainly own (Let v (expression_tree e.now)) variables.old.items state.now statements.old variables.new.items state.now statements.new result }
     ensures goes { IfGoes result (length variables.new.items ≡ length variables.old.items + 1) }
-    ensures asks { IfAsks result (λ _. ⊥) }
-    ensures risen { (statements.old ≤ statements.new) × (statements.new ≤ 10000) }
+    ensures asks { IfAsks result ⊥ }
+    ensures risen { (statements.old ≤ statements.new) × (statements.new ≤ MOST_STATEMENTS) }
     ensures room { vec_capacity variables.new ≡ vec_capacity variables.old }
 {
     let next = counted(own, variables.as_slice(), state, statements, e)?;
@@ -87,13 +92,13 @@ pub(crate) fn set(
     e: &Expression<u8>,
 ) -> Result<Way, Code>
     requires small { own < 2 ^ 63 }
-    requires count { statements.old ≤ 10000 }
+    requires count { statements.old ≤ MOST_STATEMENTS }
     requires place { place < length variables.old.items }
     requires closed { IsClosedExpression (length variables.old.items) (expression_tree e.now) }
-    ensures leaves { LeavesPlainly own (Set place (expression_tree e.now)) variables.old.items state.now statements.old variables.new.items state.now statements.new result }
+    ensures runs { RunsPlainly own (Set place (expression_tree e.now)) variables.old.items state.now statements.old variables.new.items state.now statements.new result }
     ensures same { length variables.new.items ≡ length variables.old.items }
-    ensures asks { IfAsks result (λ _. ⊥) }
-    ensures risen { (statements.old ≤ statements.new) × (statements.new ≤ 10000) }
+    ensures asks { IfAsks result ⊥ }
+    ensures risen { (statements.old ≤ statements.new) × (statements.new ≤ MOST_STATEMENTS) }
     ensures room { vec_capacity variables.new ≡ vec_capacity variables.old }
 {
     let next = counted(own, variables.as_slice(), state, statements, e)?;
@@ -110,12 +115,12 @@ pub(crate) fn set_field(
     e: &Expression<u8>,
 ) -> Result<Way, Code>
     requires small { own < 2 ^ 63 }
-    requires count { statements.old ≤ 10000 }
+    requires count { statements.old ≤ MOST_STATEMENTS }
     requires field { field < 16 }
     requires closed { IsClosedExpression (length variables.now) (expression_tree e.now) }
-    ensures leaves { LeavesPlainly own (SetField field (expression_tree e.now)) variables.now state.old statements.old variables.now state.new statements.new result }
-    ensures asks { IfAsks result (λ _. ⊥) }
-    ensures risen { (statements.old ≤ statements.new) × (statements.new ≤ 10000) }
+    ensures runs { RunsPlainly own (SetField field (expression_tree e.now)) variables.now state.old statements.old variables.now state.new statements.new result }
+    ensures asks { IfAsks result ⊥ }
+    ensures risen { (statements.old ≤ statements.new) × (statements.new ≤ MOST_STATEMENTS) }
 {
     let next = counted(own, variables, state, statements, e)?;
     state.0[field as usize] = next;
@@ -130,11 +135,11 @@ pub(crate) fn give(
     e: &Expression<u8>,
 ) -> Result<Way, Code>
     requires small { own < 2 ^ 63 }
-    requires count { statements.old ≤ 10000 }
+    requires count { statements.old ≤ MOST_STATEMENTS }
     requires closed { IsClosedExpression (length variables.now) (expression_tree e.now) }
-    ensures leaves { LeavesPlainly own (Return (expression_tree e.now)) variables.now state.now statements.old variables.now state.now statements.new result }
-    ensures asks { IfAsks result (λ _. ⊥) }
-    ensures risen { (statements.old ≤ statements.new) × (statements.new ≤ 10000) }
+    ensures runs { RunsPlainly own (Return (expression_tree e.now)) variables.now state.now statements.old variables.now state.now statements.new result }
+    ensures asks { IfAsks result ⊥ }
+    ensures risen { (statements.old ≤ statements.new) × (statements.new ≤ MOST_STATEMENTS) }
 {
     let next = counted(own, variables, state, statements, e)?;
     Ok(Way::Gives(next))
@@ -147,10 +152,10 @@ pub(crate) fn fail(
     statements: &mut u16,
     code: u16,
 ) -> Result<Way, Code>
-    requires count { statements.old ≤ 10000 }
-    ensures leaves { LeavesPlainly own (Fail code) variables.now state.now statements.old variables.now state.now statements.new result }
-    ensures asks { IfAsks result (λ _. ⊥) }
-    ensures risen { (statements.old ≤ statements.new) × (statements.new ≤ 10000) }
+    requires count { statements.old ≤ MOST_STATEMENTS }
+    ensures runs { RunsPlainly own (Fail code) variables.now state.now statements.old variables.now state.now statements.new result }
+    ensures asks { IfAsks result ⊥ }
+    ensures risen { (statements.old ≤ statements.new) × (statements.new ≤ MOST_STATEMENTS) }
 {
     begin(statements)?;
     Err(code)

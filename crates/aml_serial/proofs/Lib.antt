@@ -1,2 +1,3 @@
 pub mod SerialLists
-pub mod Steps
+pub mod PuttingBack
+pub mod Slices

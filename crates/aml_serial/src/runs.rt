@@ -1,36 +1,60 @@
-ghost use Rattle.std.specs.Prelude.{◌≡◌, ℕ, ◌≤◌, length, take, IfOk, OnErr};
+ghost use Rattle.std.specs.Prelude.{◌≡◌, ◌<◌, ℕ, ◌≤◌, length, take, IfOk, OnErr};
 ghost use Rattle.std.specs.List.{AllByRecursion};
 ghost use Rattle.aml_check.specs.Checked.{methods_of};
-ghost use Rattle.aml_check.specs.Meaning.{alone, beginning, serial};
+ghost use Rattle.aml_check.specs.Meaning.{alone, serial};
 ghost use Rattle.aml_check.specs.Transactions.{IsTransaction};
-ghost use Rattle.aml_serial.specs.Runs.{progress_of};
+ghost use Rattle.aml_slice.specs.Controls.{IsRest};
+ghost use Rattle.aml_slice.specs.Finishing.{finished};
+ghost use Rattle.aml_serial.specs.Images.{IsWithin, has_value, put_back};
 
-use crate::calls::call;
-use crate::progress::Run;
-use crate::stops::Stop;
+use crate::images::{BeforeImage, keep, put_back};
 use aml_check::Checked;
-use aml_values::MOST_DEPTH;
-use snap_base::{Kind, Memory, Sequence, State, Tx, TxResult};
+use aml_slice::{Control, Next, each_slice, slice, slices_finish, transactions_begin};
+use snap_base::{Memory, Sequence, State, Tid, Tx, TxResult};
 use std::alloc::Global;
 
-/// What a transaction has at its beginning, on a copy of the world.
-fn beginning(alloc: Global, world: &[State], tx: &Tx) -> Result<Run, Memory>
-    ensures { IfOk result (λ r. progress_of r ≡ beginning world.now tx.now) }
+/// The identifier of each transaction here, since nobody asks for it.
+const NO_TID: Tid = Tid(0);
+
+/// Runs what is left of a transaction, and keeps the states that it comes upon. A failure and want of
+/// memory leave the world as the statements made it; the images put it back.
+fn finish(
+    program: &Checked,
+    actors: u16,
+    world: &mut Vec<State>,
+    control: Control,
+    images: &mut Vec<BeforeImage>,
+) -> Result<TxResult, Memory>
+    requires rest { IsRest (methods_of program.now) actors control }
+    requires size { length world.old.items ≡ actors }
+    requires within { IsWithin actors images.old.items }
+    ensures finished { IfOk result (λ r. finished (methods_of program.now) actors control world.old.items ≡ record { result = r; world = world.new.items }) }
+    ensures kept { put_back images.new.items world.new.items ≡ put_back images.old.items world.old.items }
+    ensures within { IsWithin actors images.new.items }
+    ensures size { length world.new.items ≡ actors }
 {
-    let left = match tx.kind {
-        Kind::Pact => Some(Vec::from_slice(alloc, tx.uses.as_slice())?),
-        Kind::Act => None,
-    };
-    Ok(Run {
-        world: Vec::from_slice(alloc, world)?,
-        statements: 0,
-        calls: 0,
-        actors: Vec::new(alloc),
-        left,
-    })
+    each_slice(program);
+    slices_finish(program);
+    let mut rest = control;
+    loop {
+        let actor = rest.at().0;
+        keep(images, world.as_slice(), actor)?;
+        match slice(program, actors, &mut world[actor as usize], rest) {
+            Next::Go(_, next) => rest = next,
+            Next::Ended(result) => return Ok(result),
+        }
+    }
 }
 
-/// Runs one transaction. A failure leaves the world as it was, and so does want of memory.
+/// Whether a transaction has ended with a value.
+fn has_value(outcome: &Result<TxResult, Memory>) -> bool
+    ensures { result ≡ has_value outcome.now }
+{
+    matches!(outcome, Ok(TxResult::Value(_)))
+}
+
+/// Runs one transaction. A failure leaves the world as it was, and so does want of memory. A world of
+/// more than 65,535 actors, which is more than a slice counts and no text has, is told as want of memory.
 pub fn run_alone(
     alloc: Global,
     program: &Checked,
@@ -42,19 +66,17 @@ pub fn run_alone(
     ensures memory { OnErr result (world.new.items ≡ world.old.items) }
     ensures actors { length world.new.items ≡ length world.old.items }
 {
-    let mut run = beginning(alloc, world.as_slice(), tx)?;
-    let arguments = Vec::from_slice(alloc, tx.args.as_slice())?;
-    let actor = tx.actor.0 as i64;
-    match call(
-        alloc, program, MOST_DEPTH, actor, tx.method, arguments, &mut run,
-    ) {
-        Ok(value) => {
-            *world = run.world;
-            Ok(TxResult::Value(value))
-        }
-        Err(Stop::Code(code)) => Ok(TxResult::Fail(code)),
-        Err(Stop::Memory) => Err(Memory),
+    let actors = u16::try_from(world.len()).map_err(|_| Memory)?;
+    transactions_begin(program);
+    let control = Control::start(alloc, program, NO_TID, tx)?;
+    let mut images = Vec::new(alloc);
+    slices_finish(program);
+    let outcome = finish(program, actors, world, control, &mut images);
+    if has_value(&outcome) {
+        return outcome;
     }
+    put_back(world, &images);
+    outcome
 }
 
 /// Runs transactions one after the other. For want of memory the world is the one after the first of

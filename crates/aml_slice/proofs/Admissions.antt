@@ -4,7 +4,7 @@ use Rattle.std.specs.List.{list_any, Contains}
 use Rattle.std.proofs.lemmas.Bool.Decides.{nat_tests}
 use Rattle.std.proofs.lemmas.List.Elements.{Contains-push, Contains-append_left}
 use Rattle.snap_base.specs.declared.ids.ActorId.{ActorId}
-use Rattle.aml_check.specs.Meaning.{◌>>=◌, Progress, calls, actors, one_call, with_actor, declared, by_declaration, with_left, used, before, one_less, admitted}
+use Rattle.aml_check.specs.Meaning.{◌>>=◌, Progress, too_many_calls, too_many_actors, one_call, with_actor, declared, by_declaration, with_left, used, before, one_less, admitted}
 use Rattle.aml_slice.specs.Controls.{IsLeft, HasLeft}
 use Rattle.aml_slice.proofs.Askings.{any_contains}
 
@@ -27,7 +27,7 @@ record Counts (r q : Progress) : Type 0 where
   left : q.left ≡ r.left
   statements : q.statements ≡ r.statements
 
-counts_by : (r q : Progress) (b : Bool) → nat_lt r.calls 64 ≡ b → (let o : Result Progress ℕ = (if b then Ok (record r { calls = r.calls + 1 }) else Err calls) in o ≡ Ok q) → Counts r q
+counts_by : (r q : Progress) (b : Bool) → nat_lt r.calls 64 ≡ b → (let o : Result Progress ℕ = (if b then Ok (record r { calls = r.calls + 1 }) else Err too_many_calls) in o ≡ Ok q) → Counts r q
 counts_by r q true t e =
     let same : record r { calls = r.calls + 1 } ≡ q = cc in
     let P : Progress → Type 0 = λ z. Counts r z in
@@ -46,7 +46,7 @@ record Joins (a : ℕ) (r q : Progress) : Type 0 where
   statements : q.statements ≡ r.statements
 
 joins_by : (a : ℕ) (r q : Progress) (b c : Bool) → list_any (λ d. d == a) r.actors ≡ b → nat_lt (length r.actors) 16 ≡ c
-    → (let o : Result Progress ℕ = (if b then Ok r else (if c then Ok (record r { actors = r.actors ++ a ∷ [] }) else Err actors)) in o ≡ Ok q) → Joins a r q
+    → (let o : Result Progress ℕ = (if b then Ok r else (if c then Ok (record r { actors = r.actors ++ a ∷ [] }) else Err too_many_actors)) in o ≡ Ok q) → Joins a r q
 joins_by a r q true c among few e =
     let same : r ≡ q = cc in
     let P : Progress → Type 0 = λ z. Joins a r z in

@@ -7,14 +7,7 @@ use Rattle.std.proofs.lemmas.List.{drop_more, reverse-append}
 use Rattle.snap_base.specs.declared.ids.ActorId.{ActorId}
 use Rattle.aml_slice.specs.declared.frames.Frame as code
 use Rattle.aml_slice.specs.Controls.{Frame, IsLeft, StandsOn}
-use Rattle.aml_slice.specs.Views.{frame_of}
-use Rattle.aml_slice.specs.Waits.{WaitsOn}
-
--- none among those behind a place, if none is there and none behind the next
-pub left_behind : (us : List (ActorId × ℕ)) (i : ℕ) (u : ActorId × ℕ) (a : ℕ) → i < length us → u ≡ get_or us i u → IsLeft (drop i us) a → (((u.0.0 ≡ a) × (1 ≤ u.1)) ⊎ IsLeft (drop (i + 1) us) a)
-left_behind us i u a within is h =
-    let P : List (ActorId × ℕ) → Type 0 = λ vs. IsLeft vs a in
-    subst P (drop_more us i u within ∙ ap (λ v. v ∷ drop (i + 1) us) (sym is)) h
+use Rattle.aml_slice.specs.Views.{frame_of, WaitsOn}
 
 left_from : (us : List (ActorId × ℕ)) (i a : ℕ) → IsLeft (drop i us) a → IsLeft us a
 left_from us zero a h = h
@@ -25,11 +18,6 @@ pub left_here : (us : List (ActorId × ℕ)) (i : ℕ) (u : ActorId × ℕ) (a :
 left_here us i u a within is same some =
     let P : List (ActorId × ℕ) → Type 0 = λ vs. IsLeft vs a in
     left_from us i a (subst P (sym (drop_more us i u within ∙ ap (λ v. v ∷ drop (i + 1) us) (sym is))) (inl (same, some)))
-
-pub waits_behind : (fs : List code.Frame) (i : ℕ) (f : code.Frame) (a : ℕ) → i < length fs → f ≡ get_or fs i f → WaitsOn (drop i fs) a → ((f.actor ≡ a) ⊎ WaitsOn (drop (i + 1) fs) a)
-waits_behind fs i f a within is h =
-    let P : List code.Frame → Type 0 = λ gs. WaitsOn gs a in
-    subst P (drop_more fs i f within ∙ ap (λ g. g ∷ drop (i + 1) fs) (sym is)) h
 
 waits_from : (fs : List code.Frame) (i a : ℕ) → WaitsOn (drop i fs) a → WaitsOn fs a
 waits_from fs zero a h = h

@@ -9,9 +9,9 @@ use Rattle.aml_check.specs.Closed.{IsClosedMethod, IsClosedProgram}
 use Rattle.aml_resume.specs.declared.exits.Exit.TheVariants as exit
 use Rattle.aml_resume.specs.declared.places.Spot.{Spot}
 use Rattle.aml_resume.specs.Places.{IsPlace, IsRunnable, behind_some, inner_of}
-use Rattle.aml_slice.specs.Controls.{Frame, Rest, IsFrame, IsRest, StandsOn, HasLeft, progress_in, with_given}
-use Rattle.aml_slice.specs.Frames.{fresh, NextFrame, HasPlace}
-use Rattle.aml_slice.specs.Moving.{Ran, Enters, Follows}
+use Rattle.aml_slice.specs.Controls.{Frame, Rest, IsFrame, IsRest, StandsOn, HasLeft, progress_in, with_given, fresh}
+use Rattle.aml_slice.specs.Views.{NextFrame, HasPlace, Enters}
+use Rattle.aml_slice.proofs.Moving.{Ran, Follows}
 use Rattle.aml_slice.proofs.Admissions.{Admits, admits}
 
 pub all_at : {X : Type 0} (P : X → Type 0) (xs : List X) (i : ℕ) (d : X) → AllByRecursion P xs → i < length xs → P (get_or xs i d)

@@ -5,6 +5,7 @@ pub mod FrameLists
 pub mod Askings
 pub mod Admissions
 pub mod Worlds
+pub mod Moving
 pub mod MoveLaws
 pub mod Following
 pub mod Reaching
@@ -13,3 +14,7 @@ pub mod Roots
 pub mod Beginnings
 pub mod SlicesAddUp
 pub mod OneEnd
+pub mod SlicedMoves
+pub mod ExactMoves
+pub mod ExactStarts
+pub mod Finished

@@ -7,15 +7,16 @@ use Rattle.snap_base.specs.declared.transactions.State.{State}
 use Rattle.snap_base.specs.declared.transactions.TxResult.TheVariants as result
 use Rattle.aml_tree.specs.Tree.{CheckedMethod}
 use Rattle.aml_check.specs.Names.{method_at}
-use Rattle.aml_check.specs.Meaning.{◌>>=◌, Progress, actor_of, admitted, depth, block, given}
+use Rattle.aml_check.specs.Meaning.{◌>>=◌, Progress, actor_of, admitted, too_deep, block, given}
 use Rattle.aml_resume.specs.declared.exits.Exit.{Exit}
 use Rattle.aml_resume.specs.declared.exits.Exit.TheVariants as exit
-use Rattle.aml_resume.specs.Resuming.{Standing, with_value, gives, moved}
-use Rattle.aml_slice.specs.Controls.{Frame, Rest, progress_in, with_given, frame_gives}
-use Rattle.aml_slice.specs.Frames.{fresh, NextFrame}
-use Rattle.aml_slice.specs.Nearby.{Others, Rise, by_actor, near, value_near, gives_near, elsewhere}
-use Rattle.aml_slice.specs.Slices.{Holds, EndsWith, CallsAway, ReturnsAway}
-use Rattle.aml_slice.specs.Moving.{Ran, Enters, Refuses, GoesOn}
+use Rattle.aml_resume.specs.Places.{Standing, with_value}
+use Rattle.aml_resume.specs.Resuming.{gives, moved}
+use Rattle.aml_slice.specs.Controls.{Frame, Rest, progress_in, with_given, fresh}
+use Rattle.aml_slice.specs.Wholes.{frame_gives, Holds}
+use Rattle.aml_slice.specs.Moments.{Others, Rise, by_actor, near, value_near, gives_near, elsewhere, EndsWith, CallsAway, ReturnsAway}
+use Rattle.aml_slice.specs.Views.{NextFrame, Enters, Refuses}
+use Rattle.aml_slice.proofs.Moving.{Ran, GoesOn}
 use Rattle.aml_slice.proofs.Binding.{bind_assoc}
 use Rattle.aml_slice.proofs.RisingRests.{near_rises}
 use Rattle.aml_slice.proofs.Worlds.{holds_at}
@@ -54,7 +55,7 @@ gave : (p : List CheckedMethod) (count : ℕ) (c d : Rest) (s t : State) (argume
 gave p count c d s t arguments v ran known o rise w h =
     let own = c.top.actor in
     ap (λ (k : Result (ℤ × Progress) ℕ). k >>= λ x. value_near p c.top.actor o c.waiting x.0 x.1)
-    (ran.runs (near p c.top.actor o (15 - length c.waiting)) (near_rises p c.top.actor o rise (15 - length c.waiting)) (progress_in c w) (holds_at count c.top.actor s c w known h))
+    (ran.runs (near p c.top.actor o (15 - length c.waiting)) (near_rises ran.blocks p c.top.actor o rise (15 - length c.waiting)) (progress_in c w) (holds_at count c.top.actor s c w known h))
     ∙ ap (value_near p c.top.actor o c.waiting v) (run_then p c d s t arguments (Ok (exit.Gives v)) ran w)
     ∙ ap (λ (fs : List Frame). value_near p c.top.actor o fs v (progress_in d (set w c.top.actor t))) (sym (waiting_then p c d s t arguments (Ok (exit.Gives v)) ran))
 
@@ -63,7 +64,7 @@ gave p count c d s t arguments v ran known o rise w h =
 pub fails : (p : List CheckedMethod) (count : ℕ) (c d : Rest) (s t : State) (arguments : List ℤ) (code : ℕ) → Ran p c d s t arguments (Err code) → c.top.actor < count → EndsWith p count c s t (result.Fail code)
 fails p count c d s t arguments code ran known o rise w h =
     ap (λ (k : Result (ℤ × Progress) ℕ). k >>= λ x. value_near p c.top.actor o c.waiting x.0 x.1)
-    (ran.runs (near p c.top.actor o (15 - length c.waiting)) (near_rises p c.top.actor o rise (15 - length c.waiting)) (progress_in c w) (holds_at count c.top.actor s c w known h))
+    (ran.runs (near p c.top.actor o (15 - length c.waiting)) (near_rises ran.blocks p c.top.actor o rise (15 - length c.waiting)) (progress_in c w) (holds_at count c.top.actor s c w known h))
 
 pub ends : (p : List CheckedMethod) (count : ℕ) (c d : Rest) (s t : State) (arguments : List ℤ) (v : ℤ) → Ran p c d s t arguments (Ok (exit.Gives v)) → c.top.actor < count → d.waiting ≡ [] → EndsWith p count c s t (result.Value v)
 ends p count c d s t arguments v ran known none o rise w h = (
@@ -124,7 +125,7 @@ asked p count c d s t arguments target m ran known o rise w h =
     let n = 15 - length c.waiting in
     let g = d.top.standing in
     ap (λ (k : Result (ℤ × Progress) ℕ). k >>= λ x. value_near p c.top.actor o c.waiting x.0 x.1)
-    (ran.runs (near p c.top.actor o (15 - length c.waiting)) (near_rises p c.top.actor o rise (15 - length c.waiting)) (progress_in c w) (holds_at count c.top.actor s c w known h))
+    (ran.runs (near p c.top.actor o (15 - length c.waiting)) (near_rises ran.blocks p c.top.actor o rise (15 - length c.waiting)) (progress_in c w) (holds_at count c.top.actor s c w known h))
     ∙ bind_assoc (near p c.top.actor o (15 - length c.waiting) target m arguments (moved c.top.actor t d.statements (progress_in c w))) (λ x. gives (near p c.top.actor o (15 - length c.waiting)) c.top.actor (method_at p c.top.method).body (with_value d.top.standing x.0) x.1) (λ x. value_near p c.top.actor o c.waiting x.0 x.1)
     ∙ ap (λ (k : ℤ × Progress → Result (ℤ × Progress) ℕ). near p c.top.actor o (15 - length c.waiting) target m arguments (moved c.top.actor t d.statements (progress_in c w)) >>= k) (fun_ext (λ x. asked_there p c o d.top.standing d.statements x))
     ∙ ap (λ (z : Rest). near p c.top.actor o (15 - length z.waiting) target m arguments (moved c.top.actor t d.statements (progress_in c w)) >>= behind_call p c o z) (sym ran.others)
@@ -133,11 +134,11 @@ asked p count c d s t arguments target m ran known o rise w h =
 -- ---- refused
 
 near_no_actor : (p : List CheckedMethod) (own : ℕ) (o : Others) (n : ℕ) (target : ℤ) (m : ℕ) (arguments : List ℤ) (r : Progress) (code : ℕ) → actor_of (length r.world) target ≡ Err code → near p own o n target m arguments r ≡ Err code
-near_no_actor p own o zero target m arguments r code none = ap (λ (x : Result ℕ ℕ). let y : Result (ℤ × Progress) ℕ = (x >>= λ a. Err depth) in y) none
+near_no_actor p own o zero target m arguments r code none = ap (λ (x : Result ℕ ℕ). let y : Result (ℤ × Progress) ℕ = (x >>= λ a. Err too_deep) in y) none
 near_no_actor p own o (suc n) target m arguments r code none = ap (λ (x : Result ℕ ℕ). x >>= λ a. admitted a r >>= λ q. by_actor p own o (near p own o n) n a m arguments q) none
 
-near_deep : (p : List CheckedMethod) (own : ℕ) (o : Others) (n : ℕ) (target : ℤ) (m : ℕ) (arguments : List ℤ) (r : Progress) (a : ℕ) → n ≡ 0 → actor_of (length r.world) target ≡ Ok a → near p own o n target m arguments r ≡ Err depth
-near_deep p own o zero target m arguments r a none is = ap (λ (x : Result ℕ ℕ). let y : Result (ℤ × Progress) ℕ = (x >>= λ a. Err depth) in y) is
+near_deep : (p : List CheckedMethod) (own : ℕ) (o : Others) (n : ℕ) (target : ℤ) (m : ℕ) (arguments : List ℤ) (r : Progress) (a : ℕ) → n ≡ 0 → actor_of (length r.world) target ≡ Ok a → near p own o n target m arguments r ≡ Err too_deep
+near_deep p own o zero target m arguments r a none is = ap (λ (x : Result ℕ ℕ). let y : Result (ℤ × Progress) ℕ = (x >>= λ a. Err too_deep) in y) is
 near_deep p own o (suc n) target m arguments r a none is = absurd (omega arith)
 
 near_more : (p : List CheckedMethod) (own : ℕ) (o : Others) (n k : ℕ) (target : ℤ) (m : ℕ) (arguments : List ℤ) (r : Progress) (a : ℕ) → n ≡ k + 1 → actor_of (length r.world) target ≡ Ok a

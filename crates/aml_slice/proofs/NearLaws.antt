@@ -5,8 +5,9 @@ use Rattle.snap_base.specs.declared.transactions.State.{State}
 use Rattle.aml_tree.specs.Tree.{CheckedMethod}
 use Rattle.aml_check.specs.Names.{method_at}
 use Rattle.aml_check.specs.Meaning.{◌>>=◌, Progress, Caller, called, actor_of, admitted, block, given}
-use Rattle.aml_slice.specs.Controls.{Frame, Rest, Callers, progress_in, with_given, frame_gives, value_to, rest_gives}
-use Rattle.aml_slice.specs.Nearby.{Others, by_actor, near, value_near, gives_near, elsewhere, as_meant}
+use Rattle.aml_slice.specs.Controls.{Frame, Rest, progress_in, with_given}
+use Rattle.aml_slice.specs.Wholes.{Callers, frame_gives, value_to, rest_gives}
+use Rattle.aml_slice.specs.Moments.{Others, by_actor, near, value_near, gives_near, elsewhere, as_meant}
 use Rattle.aml_slice.proofs.Binding.{same_either}
 
 same_callers : (c d : Caller) → ((target : ℤ) (m : ℕ) (arguments : List ℤ) (r : Progress) → c target m arguments r ≡ d target m arguments r) → c ≡ d

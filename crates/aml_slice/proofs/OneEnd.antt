@@ -1,19 +1,17 @@
 -- The first moment at which a transaction leaves its actor, or ends, is one: others that fail with codes of
 -- their own tell a call from a return, from a value and from a failure.
-use Rattle.std.proofs.Common.{◌≡◌, ℕ, zero, suc, ◌+◌, ◌-◌, ◌*◌, ◌<◌, ◌≤◌, ◌⊎◌, inl, inr, ℤ, pos, negsuc, Result, Ok, Err, List, [], ◌∷◌, length, replicate, set, refl, sym, ap, ◌∙◌, arith}
+use Rattle.std.proofs.Common.{◌≡◌, ℕ, zero, suc, ◌+◌, ◌*◌, ◌<◌, inl, inr, ℤ, pos, negsuc, Result, Ok, Err, List, ◌∷◌, length, replicate, set, refl, sym, ap, ◌∙◌, arith}
 use Rattle.std.proofs.lemmas.List.{length-set, get_or-set_same}
 use Rattle.snap_base.specs.declared.transactions.State.{State}
 use Rattle.snap_base.specs.declared.transactions.TxResult.{TxResult}
 use Rattle.snap_base.specs.declared.transactions.TxResult.TheVariants as result
 use Rattle.aml_tree.specs.Tree.{CheckedMethod}
-use Rattle.aml_check.specs.Meaning.{◌>>=◌, Progress, state_at, field_at, zero_state}
+use Rattle.aml_check.specs.Meaning.{Progress, state_at, field_at, zero_state}
 use Rattle.aml_slice.specs.declared.slices.Next.{Next}
 use Rattle.aml_slice.specs.declared.slices.Next.TheVariants.{Go, Ended}
-use Rattle.aml_slice.specs.Controls.{Frame, Rest, progress_in, with_given}
-use Rattle.aml_slice.specs.Nearby.{Others, Rise, gives_near, value_near, elsewhere}
-use Rattle.aml_slice.specs.Slices.{Holds, EndsWith, CallsAway, ReturnsAway, GoesAway}
-use Rattle.aml_slice.specs.Nexts.{IsMoment}
-use Rattle.aml_slice.specs.OneMoment.{IsSameEnd, IsSameState}
+use Rattle.aml_slice.specs.Controls.{Frame, Rest}
+use Rattle.aml_slice.specs.Wholes.{Holds}
+use Rattle.aml_slice.specs.Moments.{Others, Rise, gives_near, EndsWith, CallsAway, ReturnsAway, GoesAway, IsMoment, IsSameEnd, IsSameState}
 
 -- others that fail, a call by its actor above one code, and a return with another
 abbrev telling : ℕ → ℕ → Others

@@ -8,9 +8,9 @@ use Rattle.snap_base.specs.declared.transactions.TxResult.TheVariants as result
 use Rattle.aml_tree.specs.Tree.{CheckedMethod}
 use Rattle.aml_check.specs.Meaning.{◌>>=◌}
 use Rattle.aml_slice.specs.Controls.{Rest, IsRest, progress_in}
-use Rattle.aml_slice.specs.Nearby.{value_near, gives_near, elsewhere}
-use Rattle.aml_slice.specs.Slices.{Holds, EndsWith, CallsAway, ReturnsAway, GoesAway, HandsOn}
-use Rattle.aml_slice.specs.Moving.{Follows, GoesOn, Reaches}
+use Rattle.aml_slice.specs.Wholes.{Holds}
+use Rattle.aml_slice.specs.Moments.{value_near, gives_near, elsewhere, EndsWith, CallsAway, ReturnsAway, GoesAway, HandsOn}
+use Rattle.aml_slice.proofs.Moving.{Follows, GoesOn, Reaches}
 use Rattle.aml_slice.proofs.Worlds.{same_state, holds_set}
 
 pub no_move : (p : List CheckedMethod) (count : ℕ) (c : Rest) (s : State) → IsRest p count c → Reaches p count c s s c
@@ -96,5 +96,6 @@ hands_on p count first s t c d b r follows stands other = record {
   tid = follows.tid ∙ r.tid;
   fewer = omega (arith, follows.fewer, r.fewer);
   visited = λ a h. follows.visited a (r.visited a h);
+  declares = λ us h. (let vs = r.declares us h in follows.declares vs.0 vs.1);
   rests = λ us h a on. (let vs = r.declares us h in r.rests us h a (follows.rests vs.0 vs.1 a on));
 }

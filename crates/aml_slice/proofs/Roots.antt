@@ -13,9 +13,8 @@ use Rattle.aml_check.specs.Names.{method_at}
 use Rattle.aml_check.specs.Closed.{IsClosedProgram}
 use Rattle.aml_check.specs.Transactions.{IsUse, IsTransaction, Declares}
 use Rattle.aml_check.specs.Meaning.{◌>>=◌, Progress, admitted, used, before, one_less, by_declaration, with_left, declaration, beginning, block, called, given, alone, ended}
-use Rattle.aml_slice.specs.Controls.{Frame, Rest, IsFrame, StandsOn, IsLeft, HasLeft, RestsOn, progress_in, rest_gives}
-use Rattle.aml_slice.specs.Frames.{fresh}
-use Rattle.aml_slice.specs.Starts.{Begins}
+use Rattle.aml_slice.specs.Controls.{Frame, Rest, IsFrame, StandsOn, IsLeft, HasLeft, RestsOn, progress_in, fresh}
+use Rattle.aml_slice.specs.Wholes.{rest_gives, Begins}
 use Rattle.aml_slice.proofs.Admissions.{Admits, admits}
 use Rattle.aml_slice.proofs.Following.{fresh_frame}
 
@@ -47,9 +46,6 @@ declared_spent a n (u ∷ us) (suc k) each within is = spent_by a u us (u.0.0 ==
 length_actors : (us : List (ActorId × ℕ)) → length (actors_of us) ≡ length us
 length_actors [] = refl
 length_actors (u ∷ us) = ap (λ n. suc n) (length_actors us)
-
-abbrev root_run : List State → Tx → ℕ → Option (List (ActorId × ℕ)) → Progress
-root_run w tx a left = record { world = w; statements = 0; calls = 1; actors = a ∷ []; left = left }
 
 root_by : (p : List CheckedMethod) (n a : ℕ) (w : List State) (kind : Kind) (uses : List (ActorId × ℕ)) (code : ℕ) → Declares n a kind uses
     → by_declaration a (record { world = w; statements = 0; calls = 1; actors = a ∷ []; left = declaration kind uses }) (declaration kind uses) ≡ Err code → ⊥

@@ -5,7 +5,7 @@ use Rattle.snap_base.specs.declared.transactions.State.{State}
 use Rattle.aml_check.specs.Meaning.{state_at, zero_state}
 use Rattle.aml_resume.specs.Resuming.{IsAt}
 use Rattle.aml_slice.specs.Controls.{Rest, progress_in}
-use Rattle.aml_slice.specs.Slices.{Holds}
+use Rattle.aml_slice.specs.Wholes.{Holds}
 
 pub same_state : (w : List State) (own : ℕ) (s : State) → state_at w own ≡ s → set w own s ≡ w
 same_state w own s e = ap (set w own) (sym e) ∙ set-get_or w own zero_state

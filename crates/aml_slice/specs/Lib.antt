@@ -1,11 +1,6 @@
 pub mod Controls
-pub mod Nearby
-pub mod Slices
-pub mod Frames
-pub mod Moving
-pub mod Sequences
-pub mod Starts
-pub mod Nexts
-pub mod OneMoment
-pub mod Waits
+pub mod Slicing
+pub mod Wholes
+pub mod Moments
+pub mod Finishing
 pub mod Views

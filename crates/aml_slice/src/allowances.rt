@@ -6,15 +6,16 @@ ghost use Rattle.snap_base.specs.declared.transactions.State.{State};
 ghost use Rattle.aml_slice.specs.Controls.{IsLeft, HasLeft};
 ghost use Rattle.aml_check.specs.Meaning.{actor_of, one_call, with_actor, declared, admitted};
 
-use aml_values::{ACTORS, CALLS, Code, MOST_ACTORS, MOST_CALLS, NO_ACTOR, UNDECLARED, one_less};
+use aml_check::{MOST_CALLED_ACTORS, MOST_CALLS};
+use aml_values::{Code, NO_ACTOR, TOO_MANY_ACTORS, TOO_MANY_CALLS, UNDECLARED, one_less};
 use snap_base::ActorId;
 
 /// The calls of a transaction so far, and those that it may still make.
 #[derive(Drop)]
 pub(crate) struct Allowance {
-    /// The calls, the root's among them, at most 64.
+    /// The calls, the root's among them, at most `MOST_CALLS`.
     pub(crate) calls: u8,
-    /// The actors that were called, in the order of their first calls, at most 16.
+    /// The actors that were called, in the order of their first calls, at most `MOST_CALLED_ACTORS`.
     pub(crate) actors: Vec<u16>,
     /// Of a PACT the calls that it declared and has left.
     pub(crate) left: Option<Vec<(ActorId, u8)>>,
@@ -53,35 +54,39 @@ impl Allowance {
     ghost use Rattle.aml_slice.specs.Views.{Moves, progress_with};
 
     fn one_call(&mut self) -> Result<(), Code>
+        requires { self.old.calls ≤ MOST_CALLS }
         ensures moves { (n : ℕ) (w : List State) → Moves (one_call (progress_with self.old n w)) (progress_with self.new n w) result }
+        ensures few { self.new.calls ≤ MOST_CALLS }
         ensures room { vec_capacity self.new.actors ≡ vec_capacity self.old.actors }
     {
         if self.calls < MOST_CALLS {
             self.calls += 1;
             Ok(())
         } else {
-            Err(CALLS)
+            Err(TOO_MANY_CALLS)
         }
     }
 
     fn with_actor(&mut self, actor: u16) -> Result<(), Code>
-        requires { 16 ≤ vec_capacity self.old.actors }
+        requires { MOST_CALLED_ACTORS ≤ vec_capacity self.old.actors }
         ensures moves { (n : ℕ) (w : List State) → Moves (with_actor actor (progress_with self.old n w)) (progress_with self.new n w) result }
+        ensures same { self.new.calls ≡ self.old.calls }
         ensures room { vec_capacity self.new.actors ≡ vec_capacity self.old.actors }
     {
         if is_called(&self.actors, actor) {
             return Ok(());
         }
-        if self.actors.len() < MOST_ACTORS {
+        if self.actors.len() < MOST_CALLED_ACTORS {
             self.actors.push_reserved(actor);
             Ok(())
         } else {
-            Err(ACTORS)
+            Err(TOO_MANY_ACTORS)
         }
     }
 
     fn declared(&mut self, actor: u16) -> Result<(), Code>
         ensures moves { (n : ℕ) (w : List State) → Moves (declared actor (progress_with self.old n w)) (progress_with self.new n w) result }
+        ensures same { self.new.calls ≡ self.old.calls }
         ensures room { vec_capacity self.new.actors ≡ vec_capacity self.old.actors }
     {
         match &mut self.left {
@@ -96,11 +101,13 @@ impl Allowance {
         }
     }
 
-    /// Takes one of 64 calls, one of 16 actors, and of a PACT one call that it declared; a refusal
+    /// Takes one of the calls, one of the actors, and of a PACT one call that it declared; a refusal
     /// tells the code of the first that is not there.
     pub(crate) fn admit(&mut self, actor: u16) -> Result<(), Code>
-        requires { 16 ≤ vec_capacity self.old.actors }
+        requires room { MOST_CALLED_ACTORS ≤ vec_capacity self.old.actors }
+        requires few { self.old.calls ≤ MOST_CALLS }
         ensures moves { (n : ℕ) (w : List State) → Moves (admitted actor (progress_with self.old n w)) (progress_with self.new n w) result }
+        ensures few { self.new.calls ≤ MOST_CALLS }
         ensures room { vec_capacity self.new.actors ≡ vec_capacity self.old.actors }
     {
         self.one_call()?;

@@ -1,4 +1,5 @@
 use crate::running::Running;
+use aml_check::MOST_CALLS;
 use snap_base::{ActorId, Tid};
 use std::marker::Model;
 
@@ -71,9 +72,8 @@ impl Control {
 
     /// Twice the calls that are left, and the frames that wait: 126 at first, and less after each slice.
     pub fn moves_left(&self) -> u32
-        requires { self.now.calls ≤ 64 }
         ensures { result ≡ moves_left self.now }
     {
-        2 * (64 - self.running.allowance.calls as u32) + self.running.waiting.len() as u32
+        2 * (MOST_CALLS - self.running.allowance.calls) as u32 + self.running.waiting.len() as u32
     }
 }

@@ -1,7 +1,9 @@
 //! A transaction in slices: a control is what is left of a transaction, and a slice runs it on the one
 //! actor where it stands, up to the first moment at which it calls or returns to another actor, or ends.
 //! Controls hold no reference, so they can be sent from actor to actor, and all the memory that they will
-//! ever need. Contracts see one as the rest of its transaction (`specs/Controls.antt`).
+//! ever need. Contracts see one as the rest of its transaction (`specs/Controls.antt`); how it begins and
+//! what a slice makes of it are functions (`specs/Slicing.antt`), and what these mean are laws
+//! (`specs/Wholes.antt`, `specs/Moments.antt`).
 #![tactic(auto)]
 
 mod allowances;
@@ -11,9 +13,7 @@ mod laws;
 mod running;
 mod slices;
 mod starts;
-mod wholes;
 
 pub use controls::Control;
-pub use laws::{one_moment, slices_add_up};
+pub use laws::{each_slice, one_moment, slices_add_up, slices_finish, transactions_begin};
 pub use slices::{Next, slice};
-pub use wholes::run_in_slices;

@@ -4,13 +4,13 @@ ghost use Rattle.std.specs.Prelude.{◌≡◌, ◌+◌, ◌<◌, ◌≤◌, ◌�
 ghost use Rattle.aml_check.specs.Checked.{methods_of};
 ghost use Rattle.aml_check.specs.Names.{method_at};
 ghost use Rattle.aml_resume.specs.Places.{IsPlace};
-ghost use Rattle.aml_slice.specs.Waits.{WaitsOn};
+ghost use Rattle.aml_slice.specs.Views.{WaitsOn};
 
 use crate::allowances::{Allowance, actor_of};
 use crate::frames::Frame;
-use aml_check::Checked;
+use aml_check::{Checked, MOST_OPEN_CALLS, MOST_STATEMENTS};
 use aml_resume::{Activation, Exit, resume};
-use aml_values::{Code, DEPTH, MOST_DEPTH};
+use aml_values::{Code, TOO_DEEP};
 use snap_base::{State, Tid};
 use std::mem;
 
@@ -22,11 +22,11 @@ pub(crate) struct Running {
     pub(crate) top: Frame,
     /// The frames that wait for a value, the root first.
     pub(crate) waiting: Vec<Frame>,
-    /// Room for the frames that are not open, sixteen frames together.
+    /// Room for the frames that are not open: with those that are, as many as calls may be open.
     pub(crate) spare: Vec<Activation>,
     /// The values that a call passes on.
     pub(crate) arguments: Vec<i64>,
-    /// The statements that were begun, at most 10,000.
+    /// The statements that were begun, at most `MOST_STATEMENTS`.
     pub(crate) statements: u16,
     pub(crate) allowance: Allowance,
 }
@@ -44,18 +44,18 @@ fn waits_on(frames: &[Frame], actor: u16) -> bool
 }
 
 impl Running {
-    ghost use Rattle.aml_slice.specs.Views.{frame_of, rest_of, HasRooms};
-    ghost use Rattle.aml_slice.specs.Controls.{StandsOn};
-    ghost use Rattle.aml_slice.specs.Frames.{HasPlace, NextFrame, NewFrame};
-    ghost use Rattle.aml_slice.specs.Moving.{Ran, Enters, Refuses};
+    ghost use Rattle.aml_resume.specs.Pausing.{method_pause, pause_of};
+    ghost use Rattle.aml_slice.specs.Controls.{StandsOn, most_waiting};
+    ghost use Rattle.aml_slice.specs.Views.{frame_of, rest_of, Enters, HasPlace, HasRooms, NewFrame, NextFrame, Refuses};
 
     /// Runs the frame on its actor's state up to its next call, or to its end.
     pub(crate) fn run(&mut self, program: &Checked, state: &mut State) -> Result<Exit, Code>
         requires method { self.old.top.method < length (methods_of program.now) }
         requires place { IsPlace (methods_of program.now) (length self.old.top.activation.variables.items) (method_at (methods_of program.now) self.old.top.method).body (rest_of self.old).top.standing.path self.old.top.activation.next }
-        requires count { self.old.statements ≤ 10000 }
+        requires count { self.old.statements ≤ MOST_STATEMENTS }
         requires rooms { HasRooms self.old }
-        ensures ran { Ran (methods_of program.now) (rest_of self.old) (rest_of self.new) state.old state.new self.new.arguments.items result }
+        ensures runs { pause_of result (rest_of self.new).top.standing self.new.arguments.items state.new (rest_of self.new).statements ≡ method_pause (rest_of self.old).top.actor (method_at (methods_of program.now) (rest_of self.old).top.method).body (rest_of self.old).top.standing state.old (rest_of self.old).statements }
+        ensures others { rest_of self.new ≡ record (rest_of self.old) { top = record (rest_of self.old).top { standing = (rest_of self.new).top.standing }; statements = (rest_of self.new).statements } }
         ensures rooms { HasRooms self.new }
     {
         let top = &mut self.top;
@@ -78,8 +78,8 @@ impl Running {
         ensures rooms { IfOk result (λ _. HasRooms self.new) }
     {
         let actor = actor_of(actors, target)?;
-        if self.waiting.len() + 1 >= MOST_DEPTH {
-            return Err(DEPTH);
+        if self.waiting.len() + 1 >= MOST_OPEN_CALLS {
+            return Err(TOO_DEEP);
         }
         self.allowance.admit(actor)?;
         self.enter(actor, method);
@@ -104,7 +104,7 @@ impl Running {
     /// The frame that runs waits, and one for a method on an actor runs with the arguments that are passed.
     pub(crate) fn enter(&mut self, actor: u16, method: u16)
         requires rooms { HasRooms self.old }
-        requires few { length self.old.waiting.items < 15 }
+        requires few { length self.old.waiting.items < most_waiting }
         ensures entered { NewFrame (rest_of self.old) (rest_of self.new) actor method self.old.arguments.items }
         ensures rooms { HasRooms self.new }
     {

@@ -2,13 +2,12 @@
 
 ghost use Rattle.std.specs.Prelude.{◌≡◌, ◌<◌, ◌≤◌, ℕ, IfOk};
 ghost use Rattle.aml_check.specs.Checked.{methods_of};
-ghost use Rattle.aml_check.specs.Closed.{IsClosedProgram};
 ghost use Rattle.aml_slice.specs.Controls.{IsRest};
-ghost use Rattle.aml_slice.specs.Moving.{Advances};
-ghost use Rattle.aml_slice.specs.Nexts.{IsMoment, IsKept, IsHandedOn};
-ghost use Rattle.aml_slice.specs.Views.{rest_of, HasRooms};
+ghost use Rattle.aml_slice.specs.Slicing.{move, slice_end};
+ghost use Rattle.aml_slice.specs.Views.{move_at, rest_of, HasRooms};
 
 use crate::controls::Control;
+use crate::laws::known;
 use crate::running::Running;
 use aml_check::Checked;
 use aml_resume::Exit;
@@ -23,13 +22,6 @@ pub enum Next {
     Ended(TxResult),
 }
 
-/// The program of a text is closed.
-fn closed(program: &Checked)
-    ensures { IsClosedProgram (methods_of program.now) }
-{
-    program.methods();
-}
-
 /// One move of a control on the actor where it stands: the actor where it stands then, or what became of
 /// the transaction.
 fn advance(
@@ -40,10 +32,10 @@ fn advance(
 ) -> Result<u16, TxResult>
     requires rest { IsRest (methods_of program.now) actors (rest_of running.old) }
     requires rooms { HasRooms running.old }
-    ensures advances { Advances (methods_of program.now) actors (rest_of running.old) state.old state.new (rest_of running.new) result }
+    ensures exactly { move_at state.new (rest_of running.new) result ≡ move (methods_of program.now) actors (rest_of running.old) state.old }
+    ensures stands { IfOk result (λ a. (rest_of running.new).top.actor ≡ a) }
     ensures rooms { IfOk result (λ _. HasRooms running.new) }
 {
-    closed(program);
     match running.run(program, state) {
         Err(code) => Err(TxResult::Fail(code)),
         Ok(Exit::Gives(value)) => match running.give(value) {
@@ -59,13 +51,13 @@ fn advance(
 
 /// Runs a control on its actor's state, up to the first moment at which the transaction calls or returns
 /// to another actor, or ends. A call of the own actor is run on. It takes no memory, and ends for every
-/// control. Where the transaction fails, the state is what its statements made of it so far.
+/// control of a transaction of this program. Where the transaction fails, the state is what its statements
+/// made of it so far.
 pub fn slice(program: &Checked, actors: u16, state: &mut State, control: Control) -> Next
     requires { IsRest (methods_of program.now) actors control }
-    ensures moment { IsMoment (methods_of program.now) actors control state.old state.new result }
-    ensures kept { IsKept (methods_of program.now) actors control state.old state.new result }
-    ensures handed_on { IsHandedOn (methods_of program.now) actors control result }
+    ensures exactly { record { state = state.new; next = result } ≡ slice_end (methods_of program.now) actors control state.old }
 {
+    known(program);
     let mut running = control.into_running();
     let own = running.top.actor;
     loop {

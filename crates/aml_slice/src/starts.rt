@@ -3,37 +3,32 @@
 ghost use Rattle.std.specs.Prelude.{◌≡◌, ◌≤◌, ◌<◌, ◌+◌, ◌∷◌, ◌++◌, ℕ, [], List, Ok, length, IfOk, option_map, vec_capacity};
 ghost use Rattle.std.specs.List.{AllByRecursion};
 ghost use Rattle.aml_check.specs.Checked.{methods_of};
-ghost use Rattle.aml_check.specs.Closed.{IsClosedProgram};
 ghost use Rattle.aml_check.specs.Meaning.{admitted, beginning, declaration};
 ghost use Rattle.aml_check.specs.Transactions.{IsTransaction};
 ghost use Rattle.aml_resume.specs.Rooms.{HasRoom};
 ghost use Rattle.aml_tree.specs.Tree.{CheckedMethod};
 ghost use Rattle.snap_base.specs.declared.transactions.State.{State};
-ghost use Rattle.aml_slice.specs.Controls.{progress_in};
-ghost use Rattle.aml_slice.specs.Frames.{fresh};
-ghost use Rattle.aml_slice.specs.Starts.{Begins};
+ghost use Rattle.aml_slice.specs.Controls.{fresh, most_waiting, progress_in};
+ghost use Rattle.aml_slice.specs.Slicing.{started};
 ghost use Rattle.aml_slice.specs.Views.{HasRooms, progress_with, rest_of};
 
 use crate::allowances::Allowance;
 use crate::controls::Control;
 use crate::frames::Frame;
 use crate::running::Running;
-use aml_check::Checked;
+use aml_check::{Checked, MOST_CALLED_ACTORS, MOST_CALLS, MOST_OPEN_CALLS};
 use aml_resume::Activation;
-use aml_values::{MOST_ACTORS, MOST_DEPTH};
+use aml_tree::{MOST_LEVELS, MOST_NAMES};
 use snap_base::{ActorId, Kind, Memory, Sequence, Tid, Tx};
 use std::alloc::Global;
-
-/// How many variables, and how many open blocks, a method may have.
-const MOST_OF_A_METHOD: usize = 32;
 
 /// Room for one frame.
 fn room(alloc: Global) -> Result<Activation, Memory>
     ensures { IfOk result (λ a. HasRoom a × (a.variables.items ≡ []) × (a.path.items ≡ []) × (a.next ≡ 0)) }
 {
     Ok(Activation {
-        variables: Vec::with_capacity(alloc, MOST_OF_A_METHOD)?,
-        path: Vec::with_capacity(alloc, MOST_OF_A_METHOD)?,
+        variables: Vec::with_capacity(alloc, MOST_NAMES)?,
+        path: Vec::with_capacity(alloc, MOST_LEVELS)?,
         next: 0,
     })
 }
@@ -41,10 +36,10 @@ fn room(alloc: Global) -> Result<Activation, Memory>
 /// Room for the frames that the root's calls may open.
 fn rooms(alloc: Global) -> Result<Vec<Activation>, Memory>
     ensures all { IfOk result (λ rooms. AllByRecursion HasRoom rooms.items) }
-    ensures number { IfOk result (λ rooms. (length rooms.items ≡ 15) × (15 ≤ vec_capacity rooms)) }
+    ensures number { IfOk result (λ rooms. (length rooms.items ≡ most_waiting) × (most_waiting ≤ vec_capacity rooms)) }
 {
-    let mut rooms = Vec::with_capacity(alloc, MOST_DEPTH - 1)?;
-    for made in 0..MOST_DEPTH - 1 {
+    let mut rooms = Vec::with_capacity(alloc, MOST_OPEN_CALLS - 1)?;
+    for made in 0..MOST_OPEN_CALLS - 1 {
         rooms.push_reserved(room(alloc)?);
     }
     Ok(rooms)
@@ -52,7 +47,7 @@ fn rooms(alloc: Global) -> Result<Vec<Activation>, Memory>
 
 /// A method at its beginning, with its arguments.
 fn at_beginning(alloc: Global, arguments: &[i64]) -> Result<Activation, Memory>
-    requires { length arguments.now ≤ 32 }
+    requires { length arguments.now ≤ MOST_NAMES }
     ensures room { IfOk result (λ a. HasRoom a) }
     ensures first { IfOk result (λ a. (a.variables.items ≡ arguments.now) × (a.path.items ≡ []) × (a.next ≡ 0)) }
 {
@@ -65,7 +60,7 @@ fn at_beginning(alloc: Global, arguments: &[i64]) -> Result<Activation, Memory>
 
 /// What a transaction may call before its root is called.
 fn allowance(alloc: Global, kind: Kind, uses: &Sequence<(ActorId, u8)>) -> Result<Allowance, Memory>
-    ensures none { IfOk result (λ a. (a.calls ≡ 0) × (a.actors.items ≡ []) × (16 ≤ vec_capacity a.actors)) }
+    ensures none { IfOk result (λ a. (a.calls ≡ 0) × (a.actors.items ≡ []) × (MOST_CALLED_ACTORS ≤ vec_capacity a.actors)) }
     ensures left { IfOk result (λ a. option_map (λ us. us.items) a.left ≡ declaration kind uses.now) }
 {
     let left = match kind {
@@ -74,7 +69,7 @@ fn allowance(alloc: Global, kind: Kind, uses: &Sequence<(ActorId, u8)>) -> Resul
     };
     Ok(Allowance {
         calls: 0,
-        actors: Vec::with_capacity(alloc, MOST_ACTORS)?,
+        actors: Vec::with_capacity(alloc, MOST_CALLED_ACTORS)?,
         left,
     })
 }
@@ -83,7 +78,7 @@ fn allowance(alloc: Global, kind: Kind, uses: &Sequence<(ActorId, u8)>) -> Resul
 fn with_root(alloc: Global, tx: &Tx) -> Result<Allowance, Memory>
     requires { (p : List CheckedMethod) × (actors : ℕ) × IsTransaction p actors tx.now }
     ensures admitted { IfOk result (λ a. (w : List State) → admitted tx.now.actor.0 (beginning w tx.now) ≡ Ok (progress_with a 0 w)) }
-    ensures room { IfOk result (λ a. 16 ≤ vec_capacity a.actors) }
+    ensures room { IfOk result (λ a. (MOST_CALLED_ACTORS ≤ vec_capacity a.actors) × (a.calls ≤ MOST_CALLS)) }
 {
     let mut allowance = allowance(alloc, tx.kind, &tx.uses)?;
     match allowance.admit(tx.actor.0) {
@@ -95,7 +90,7 @@ fn with_root(alloc: Global, tx: &Tx) -> Result<Allowance, Memory>
 /// A transaction's root at its beginning.
 fn root(alloc: Global, tid: Tid, tx: &Tx) -> Result<Running, Memory>
     requires transaction { (p : List CheckedMethod) × (actors : ℕ) × IsTransaction p actors tx.now }
-    requires few { length tx.now.args ≤ 32 }
+    requires few { length tx.now.args ≤ MOST_NAMES }
     ensures admitted { IfOk result (λ r. (w : List State) → admitted tx.now.actor.0 (beginning w tx.now) ≡ Ok (progress_in (rest_of r) w)) }
     ensures frames { IfOk result (λ r. ((rest_of r).top ≡ fresh tx.now.actor.0 tx.now.method tx.now.args) × ((rest_of r).waiting ≡ []) × (r.tid ≡ tid)) }
     ensures rooms { IfOk result HasRooms }
@@ -108,9 +103,9 @@ fn root(alloc: Global, tid: Tid, tx: &Tx) -> Result<Running, Memory>
     Ok(Running {
         tid,
         top,
-        waiting: Vec::with_capacity(alloc, MOST_DEPTH - 1)?,
+        waiting: Vec::with_capacity(alloc, MOST_OPEN_CALLS - 1)?,
         spare: rooms(alloc)?,
-        arguments: Vec::with_capacity(alloc, MOST_OF_A_METHOD)?,
+        arguments: Vec::with_capacity(alloc, MOST_NAMES)?,
         statements: 0,
         allowance: with_root(alloc, tx)?,
     })
@@ -120,7 +115,7 @@ impl Control {
     /// A transaction at its beginning, with all the memory that it will need.
     pub fn start(alloc: Global, program: &Checked, tid: Tid, tx: &Tx) -> Result<Control, Memory>
         requires { (actors : ℕ) × IsTransaction (methods_of program.now) actors tx.now }
-        ensures { IfOk result (Begins (methods_of program.now) tid tx.now) }
+        ensures exactly { IfOk result (λ c. c ≡ started tid tx.now) }
     {
         has_parameters(program, tx);
         Ok(Control::of(root(alloc, tid, tx)?))
@@ -130,8 +125,7 @@ impl Control {
 /// What a checked program says of a method that it has: its parameters are few.
 fn has_parameters(program: &Checked, _tx: &Tx)
     requires { (actors : ℕ) × IsTransaction (methods_of program.now) actors _tx.now }
-    ensures few { length _tx.now.args ≤ 32 }
-    ensures closed { IsClosedProgram (methods_of program.now) }
+    ensures { length _tx.now.args ≤ MOST_NAMES }
 {
     program.methods();
 }

@@ -1,13 +1,13 @@
--- The value of a chain of operators, from the left; and lists of values.
-use Rattle.std.proofs.Common.{◌≡◌, ℕ, zero, suc, ◌+◌, ◌≤◌, ◌<◌, ℤ, Result, Ok, Err, List, [], ◌∷◌, ◌++◌, length, drop, get_or, map, refl, sym, ap, ◌∙◌, subst, arith, append_assoc, append-nil}
+-- The value of a chain of operators, from the left.
+use Rattle.std.proofs.Common.{◌≡◌, ℕ, zero, suc, ◌+◌, ◌<◌, ℤ, Result, Ok, Err, List, [], ◌∷◌, length, drop, get_or, map, refl, sym, ap, ◌∙◌, subst, arith}
 use Rattle.std.specs.List.{AllByRecursion}
-use Rattle.std.proofs.lemmas.List.{drop_more, drop_all}
+use Rattle.std.proofs.lemmas.List.{drop_more}
 use Rattle.snap_base.specs.declared.transactions.State.{State}
 use Rattle.aml_tree.specs.declared.trees.Expression.{Expression}
 use Rattle.aml_tree.specs.declared.trees.Link.{Link}
 use Rattle.aml_tree.specs.Tree.{Expr, Binary, expression_tree, chain_tree, link_trees}
 use Rattle.aml_check.specs.Closed.{IsClosedExpression}
-use Rattle.aml_check.specs.Meaning.{◌>>=◌, value_of, values_of}
+use Rattle.aml_check.specs.Meaning.{◌>>=◌, value_of}
 use Rattle.aml_values.specs.Chains.{linked, along, ClosedLinks}
 
 pub chain_value : (own : ℕ) (vs : List ℤ) (s : State) (e : Expr ℕ) (ls : List (Link (Expr ℕ))) → value_of own vs s (chain_tree e ls) ≡ along own vs s (value_of own vs s e) ls
@@ -36,39 +36,9 @@ view_at P f (y ∷ ys) (suc i) x h is all = view_at P f ys i x (omega (arith, h)
 
 -- ---- one link on
 
-abbrev link_of : Link (Expression ℕ) → Link (Expr ℕ)
-link_of l = record { operator = l.operator; operand = expression_tree l.operand }
-
 pub along_here : (own : ℕ) (vs : List ℤ) (s : State) (r : Result ℤ ℕ) (ls : List (Link (Expression ℕ))) (i : ℕ) (l : Link (Expression ℕ)) → i < length ls → l ≡ get_or ls i l → along own vs s r (link_trees (drop i ls)) ≡ along own vs s (r >>= λ x. linked own vs s l.operator (expression_tree l.operand) x) (link_trees (drop (i + 1) ls))
 along_here own vs s r ls i l h is =
     ap (λ ks. along own vs s r (link_trees ks)) (drop_more ls i l h ∙ ap (λ k. k ∷ drop (i + 1) ls) (sym is))
-
--- ---- lists of values
-
-pub values_here : (own : ℕ) (vs : List ℤ) (s : State) (es : List (Expression ℕ)) (i : ℕ) (e : Expression ℕ) → i < length es → e ≡ get_or es i e → values_of own vs s (map expression_tree (drop i es)) ≡ (value_of own vs s (expression_tree e) >>= λ v. values_of own vs s (map expression_tree (drop (i + 1) es)) >>= λ xs. Ok (v ∷ xs))
-values_here own vs s es i e h is =
-    ap (λ ks. values_of own vs s (map expression_tree ks)) (drop_more es i e h ∙ ap (λ k. k ∷ drop (i + 1) es) (sym is))
-
-more_given : (given : List ℤ) (v : ℤ) (r : Result (List ℤ) ℕ) → ((r >>= λ xs. Ok (v ∷ xs)) >>= λ xs. Ok (given ++ xs)) ≡ (r >>= λ xs. Ok ((given ++ v ∷ []) ++ xs))
-more_given given v (Ok xs) = ap (λ ys. let a : Result (List ℤ) ℕ = Ok ys in a) (sym (append_assoc given (v ∷ []) xs))
-more_given given v (Err code) = refl
-
-pub values_next : (own : ℕ) (vs : List ℤ) (s : State) (es : List (Expression ℕ)) (given next : List ℤ) (i : ℕ) (e : Expression ℕ) (v : ℤ) → i < length es → e ≡ get_or es i e → Ok v ≡ value_of own vs s (expression_tree e) → next ≡ given ++ v ∷ []
-    → values_of own vs s (map expression_tree es) ≡ (values_of own vs s (map expression_tree (drop i es)) >>= λ xs. Ok (given ++ xs))
-    → values_of own vs s (map expression_tree es) ≡ (values_of own vs s (map expression_tree (drop (i + 1) es)) >>= λ xs. Ok (next ++ xs))
-values_next own vs s es given next i e v h is here new so_far =
-    let rest = values_of own vs s (map expression_tree (drop (i + 1) es)) in
-    so_far
-    ∙ ap (λ (r : Result (List ℤ) ℕ). r >>= λ xs. Ok (given ++ xs)) (values_here own vs s es i e h is ∙ ap (λ (r : Result ℤ ℕ). r >>= λ v. rest >>= λ xs. Ok (v ∷ xs)) (sym here))
-    ∙ more_given given v rest
-    ∙ ap (λ ys. rest >>= λ xs. Ok (ys ++ xs)) (sym new)
-
-pub values_fail : (own : ℕ) (vs : List ℤ) (s : State) (es : List (Expression ℕ)) (given : List ℤ) (i : ℕ) (e : Expression ℕ) (code : ℕ) → i < length es → e ≡ get_or es i e → Err code ≡ value_of own vs s (expression_tree e)
-    → values_of own vs s (map expression_tree es) ≡ (values_of own vs s (map expression_tree (drop i es)) >>= λ xs. Ok (given ++ xs))
-    → values_of own vs s (map expression_tree es) ≡ Err code
-values_fail own vs s es given i e code h is here so_far =
-    let rest = values_of own vs s (map expression_tree (drop (i + 1) es)) in
-    so_far ∙ ap (λ (r : Result (List ℤ) ℕ). r >>= λ xs. Ok (given ++ xs)) (values_here own vs s es i e h is ∙ ap (λ (r : Result ℤ ℕ). r >>= λ v. rest >>= λ xs. Ok (v ∷ xs)) (sym here))
 
 pub chain_next : (own : ℕ) (vs : List ℤ) (s : State) (ls : List (Link (Expression ℕ))) (i : ℕ) (l : Link (Expression ℕ)) (x y : ℤ) (whole : Result ℤ ℕ) → i < length ls → l ≡ get_or ls i l → along own vs s (Ok x) (link_trees (drop i ls)) ≡ whole → Ok y ≡ linked own vs s l.operator (expression_tree l.operand) x
     → along own vs s (Ok y) (link_trees (drop (i + 1) ls)) ≡ whole
@@ -79,7 +49,3 @@ pub chain_stops : (own : ℕ) (vs : List ℤ) (s : State) (ls : List (Link (Expr
     → Err code ≡ whole
 chain_stops own vs s ls i l x code whole h is so_far here =
     sym (along_fails own vs s code (link_trees (drop (i + 1) ls))) ∙ ap (λ (r : Result ℤ ℕ). along own vs s r (link_trees (drop (i + 1) ls))) here ∙ sym (along_here own vs s (Ok x) ls i l h is) ∙ so_far
-
-pub values_all : (own : ℕ) (vs : List ℤ) (s : State) (es : List (Expression ℕ)) (given : List ℤ) (i : ℕ) → length es ≤ i → values_of own vs s (map expression_tree es) ≡ (values_of own vs s (map expression_tree (drop i es)) >>= λ xs. Ok (given ++ xs)) → values_of own vs s (map expression_tree es) ≡ Ok given
-values_all own vs s es given i past so_far =
-    so_far ∙ ap (λ ks. values_of own vs s (map expression_tree ks) >>= λ xs. Ok (given ++ xs)) (drop_all i es past) ∙ ap (λ ys. let a : Result (List ℤ) ℕ = Ok ys in a) (append-nil given)

@@ -1,4 +1,2 @@
 pub mod ChainValues
-pub mod BlockLaws
-pub mod Turns
 pub mod Declared

@@ -1,4 +1,4 @@
-//! The codes of failures, and the limits behind them.
+//! The codes of failures.
 
 /// The code of a failure, which a report names.
 pub type Code = u16;
@@ -15,26 +15,14 @@ pub const ZERO_DIVISOR: Code = 1003;
 /// The target is no actor.
 pub const NO_ACTOR: Code = 1004;
 
-/// The 65th call, the root counted.
-pub const CALLS: Code = 1005;
+/// A call more than `MOST_CALLS`, the root counted.
+pub const TOO_MANY_CALLS: Code = 1005;
 
-/// The 17th actor.
-pub const ACTORS: Code = 1006;
+/// An actor more than `MOST_CALLED_ACTORS`.
+pub const TOO_MANY_ACTORS: Code = 1006;
 
-/// A call where sixteen are open.
-pub const DEPTH: Code = 1007;
+/// A call where `MOST_OPEN_CALLS` are open.
+pub const TOO_DEEP: Code = 1007;
 
-/// The 10,001st statement.
-pub const STATEMENTS: Code = 1008;
-
-/// How many statements a transaction may begin.
-pub const MOST_STATEMENTS: u16 = 10_000;
-
-/// How many calls a transaction may make, the root counted.
-pub const MOST_CALLS: u8 = 64;
-
-/// How many actors a transaction may call.
-pub const MOST_ACTORS: usize = 16;
-
-/// How many calls may be open at a time.
-pub const MOST_DEPTH: usize = 16;
+/// A statement more than `MOST_STATEMENTS`.
+pub const TOO_MANY_STATEMENTS: Code = 1008;

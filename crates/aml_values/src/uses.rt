@@ -1,14 +1,13 @@
 //! The calls that a PACT declared and has left.
 
-ghost use Rattle.aml_check.specs.Meaning.{used};
-ghost use Rattle.aml_values.specs.Uses.{Uses};
+ghost use Rattle.aml_values.specs.Uses.{IsTaken};
 
 use snap_base::ActorId;
 
 /// One call of an actor less of those that a PACT declared. False, with nothing changed, where none of them
 /// is left.
 pub fn one_less(uses: &mut [(ActorId, u8)], actor: usize) -> bool
-    ensures { Uses (used actor uses.old) uses.new result }
+    ensures { IsTaken actor uses.old uses.new result }
 {
     for at in 0..uses.len() {
         if uses[at].0.0 as usize == actor {

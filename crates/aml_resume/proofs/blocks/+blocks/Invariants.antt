@@ -2,11 +2,10 @@ use Rattle.std.proofs.Common.{◌≡◌, ◌+◌, ◌-◌, ◌*◌, ◌≤◌, l
 use Rattle.aml_tree.specs.Tree.{End, expression_tree, statements_tree, block_tree}
 use Rattle.aml_check.specs.Checked.{methods_of}
 use Rattle.aml_check.specs.Closed.{nesting}
-use Rattle.aml_check.specs.Meaning.{Progress, Caller, block, turns}
-use Rattle.aml_values.proofs.Turns.{Stands}
 use Rattle.aml_resume.specs.Places.{IsRunnable, behind_some}
-use Rattle.aml_resume.specs.Resuming.{IsAt, moved, Rises}
-use Rattle.aml_resume.specs.Runs.{Keeps}
+use Rattle.aml_resume.specs.Pausing.{block_pause}
+use Rattle.aml_resume.specs.Ways.{StaysReady}
+use Rattle.aml_resume.proofs.RunningOn.{LoopTurns}
 use Rattle.aml_resume.proofs.blocks.+blocks.Given as goal
 
 abbrev pub decreases-statement : goal.decreases-statement
@@ -32,21 +31,19 @@ decreases-repeat-loop-value l = 65536 - l.statements
 
 abbrev pub invariant-block-loop-at : goal.invariant-block-loop-at
 invariant-block-loop-at l = record {
-  goes : (call : Caller) → Rises call → (r : Progress) → IsAt l.own l.fn.state l.fn.statements r
-      → block call l.own (behind_some l.from (block_tree l.code)) l.fn.activation.variables.items r
-      ≡ block call l.own (statements_tree (drop l.at l.code.statements.items) (End l.code.last_line)) l.activation.variables.items (moved l.own l.state l.statements r);
+  runs : block_pause l.own l.from (behind_some l.from (block_tree l.code)) l.fn.activation.variables.items l.fn.state l.fn.statements
+      ≡ block_pause l.own l.at (statements_tree (drop l.at l.code.statements.items) (End l.code.last_line)) l.activation.variables.items l.state l.statements;
   runnable : IsRunnable (methods_of l.program) (length l.activation.variables.items) (statements_tree (drop l.at l.code.statements.items) (End l.code.last_line));
   deep : nesting (statements_tree (drop l.at l.code.statements.items) (End l.code.last_line)) ≤ l.levels;
   longer : length l.fn.activation.variables.items ≤ length l.activation.variables.items;
   path : l.activation.path.items ≡ [];
-  keeps : Keeps (vec_capacity l.fn.arguments) l.fn.statements l.activation (vec_capacity l.arguments) l.statements;
+  keeps : StaysReady (vec_capacity l.fn.arguments) l.fn.statements l.activation (vec_capacity l.arguments) l.statements;
 }
 
 abbrev pub invariant-repeat-loop-value : goal.invariant-repeat-loop-value
 invariant-repeat-loop-value l = record {
-  stands : (call : Caller) → Rises call → (r : Progress) → IsAt l.own l.fn.state l.fn.statements r
-      → Stands l.fn.activation.variables.items (turns (10001 - r.statements) l.own (expression_tree l.condition) (block call l.own (block_tree l.body)) l.fn.activation.variables.items r) l.own (expression_tree l.condition) (block call l.own (block_tree l.body)) l.activation.variables.items (moved l.own l.state l.statements r);
+  turns : LoopTurns l.own l.at (expression_tree l.condition) (block_tree l.body) l.fn.activation.variables.items l.fn.state l.fn.statements l.activation.variables.items l.state l.statements;
   same : length l.activation.variables.items ≡ length l.fn.activation.variables.items;
   path : l.activation.path.items ≡ [];
-  keeps : Keeps (vec_capacity l.fn.arguments) l.fn.statements l.activation (vec_capacity l.arguments) l.statements;
+  keeps : StaysReady (vec_capacity l.fn.arguments) l.fn.statements l.activation (vec_capacity l.arguments) l.statements;
 }

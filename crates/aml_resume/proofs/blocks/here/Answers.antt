@@ -1,7 +1,7 @@
 use Rattle.std.proofs.Common.{length, drop, arith}
 use Rattle.aml_tree.specs.Tree.{End, statements_tree}
 use Rattle.aml_check.specs.Checked.{methods_of}
-use Rattle.aml_values.proofs.BlockLaws.{deep_here, some_level}
+use Rattle.aml_resume.proofs.BlockLaws.{deep_here, some_level}
 use Rattle.aml_resume.proofs.Runnables.{runnable_here}
 use Rattle.aml_resume.proofs.blocks.here.Goals as goal
 

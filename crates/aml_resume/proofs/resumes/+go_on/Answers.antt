@@ -1,14 +1,14 @@
-use Rattle.std.proofs.Common.{ℕ, Ok, length, reverse, arith, ap, sym, subst}
+use Rattle.std.proofs.Common.{◌≡◌, ℕ, length, reverse, arith, ap, sym, subst}
 use Rattle.aml_tree.specs.Tree.{Code, block_tree}
 use Rattle.aml_check.specs.Checked.{methods_of}
-use Rattle.aml_values.proofs.BlockLaws.{some_level}
 use Rattle.aml_check.specs.Closed.{nesting}
-use Rattle.aml_resume.specs.declared.ways.Way.TheVariants as way
-use Rattle.aml_resume.specs.Places.{IsPlace, resumed}
+use Rattle.aml_resume.specs.Places.{IsPlace}
+use Rattle.aml_resume.specs.Pausing.{Through, pause_from}
 use Rattle.aml_resume.specs.Rooms.{standing_of}
-use Rattle.aml_resume.specs.Runs.{RunsOn}
-use Rattle.aml_resume.proofs.Behinds.{deep_inside}
-use Rattle.aml_resume.proofs.Goings.{opened, goes_behind}
+use Rattle.aml_resume.specs.Ways.{then_on}
+use Rattle.aml_resume.proofs.BlockLaws.{some_level}
+use Rattle.aml_resume.proofs.Behinds.{deep_inside, opened}
+use Rattle.aml_resume.proofs.RunningOn.{runs_behind}
 use Rattle.aml_resume.proofs.resumes.+go_on.Goals as goal
 
 pub overflow_sub-levels : goal.overflow_sub-levels
@@ -34,7 +34,8 @@ returns-in-Goes-clause-runs t c =
     let qs = reverse c.take_spot.new.path.items in
     let next = c.args.activation.now.next in
     let vs = c.args.activation.now.variables.items in
-    let Q : Code ℕ ℕ → Type 0 = λ d. RunsOn c.args.own (λ call r. resumed call c.args.own d qs next vs r) d c.args.state.now c.args.statements.now (standing_of c.go_on.new.activation) c.go_on.new.arguments.items c.go_on.new.state c.go_on.new.statements (Ok way.Goes) in
+    let Q : Code ℕ ℕ → Type 0 = λ d. pause_from c.args.own d qs next vs c.args.state.now c.args.statements.now ≡ Through c.go_on.new.activation.variables.items c.go_on.new.state c.go_on.new.statements in
     let inside = subst Q c.inner_block.ensures (rw c.in-Goes.is at c.in_ok-way-in-Some.ensures.runs) in
-    goes_behind c.args.own b q qs (reverse c.args.activation.now.path.items) next vs c.args.state.now c.args.statements.now (standing_of c.go_on.new.activation) c.go_on.new.arguments.items c.go_on.new.state c.go_on.new.statements c.next_behind-next.result c.truncate.new.self.items (standing_of c.block-in-Goes.new.activation) c.block-in-Goes.new.arguments.items c.block-in-Goes.new.state c.block-in-Goes.new.statements c.block-in-Goes.result
-    c.in-Some.ensures.outermost.0 inside c.truncate.ensures.items c.next_behind-next.ensures c.block-in-Goes.ensures.runs
+    runs_behind c.args.own b q qs (reverse c.args.activation.now.path.items) next vs c.args.state.now c.args.statements.now c.go_on.new.activation.variables.items c.truncate.new.self.items c.go_on.new.state c.go_on.new.statements c.next_behind-next.result
+    (then_on c.block-in-Goes.result (standing_of c.block-in-Goes.new.activation) c.block-in-Goes.new.arguments.items c.block-in-Goes.new.state c.block-in-Goes.new.statements Through)
+    c.in-Some.ensures.outermost.0 inside c.truncate.ensures.items c.next_behind-next.ensures.place c.next_behind-next.ensures.after c.block-in-Goes.ensures.runs

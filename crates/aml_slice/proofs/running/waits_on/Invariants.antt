@@ -1,5 +1,5 @@
 use Rattle.std.proofs.Common.{drop}
-use Rattle.aml_slice.specs.Waits.{WaitsOn}
+use Rattle.aml_slice.specs.Views.{WaitsOn}
 use Rattle.aml_slice.proofs.running.waits_on.Given as goal
 
 -- what waits on the actor stands behind this place

@@ -1,55 +1,50 @@
-use Rattle.std.proofs.Common.{◌≢◌, sym, ap, ◌∙◌, subst}
+use Rattle.std.proofs.Common.{◌≡◌, ◌≢◌, ℕ, sym, ap, ◌∙◌, subst, arith}
 use Rattle.aml_check.specs.Checked.{methods_of}
-use Rattle.aml_slice.specs.Controls.{Rest}
-use Rattle.aml_slice.specs.Moving.{Reaches}
-use Rattle.aml_slice.specs.Slices.{GoesAway, KeepsRest, HandsOn}
+use Rattle.aml_slice.specs.declared.slices.Next.TheVariants.{Go}
+use Rattle.aml_slice.specs.Controls.{Rest, IsRest}
+use Rattle.aml_slice.specs.Slicing.{SliceEnd, actor_id, slice_end}
 use Rattle.aml_slice.specs.Views.{rest_of}
-use Rattle.aml_slice.proofs.Reaching.{no_move, one_more, ends_there, goes_there, hands_on}
-use Rattle.aml_slice.proofs.KeptRests.{ends_kept, goes_kept}
+use Rattle.aml_slice.proofs.ExactMoves.{SlicesFrom, moves_on, slice_begins, slice_stays, slice_goes, slice_ends}
 use Rattle.aml_slice.proofs.slices.slice.Goals as goal
 
 pub loop-result-init : goal.loop-result-init
 loop-result-init c =
-    let P : Rest → Type 0 = λ z. Reaches (methods_of c.args.program.now) c.args.actors c.args.control c.args.state.now c.args.state.now z in
+    let P : Rest → Type 0 = IsRest (methods_of c.args.program.now) c.args.actors in
+    let E : Rest → Type 0 = λ z. SlicesFrom (methods_of c.args.program.now) c.args.actors c.args.control c.args.state.now z c.args.state.now in
     record {
-      reaches = subst P (sym c.into_running-running.ensures.rest) (no_move (methods_of c.args.program.now) c.args.actors c.args.control c.args.state.now c.requires);
+      rest = subst P (sym c.into_running-running.ensures.rest) c.requires;
       rooms = c.into_running-running.ensures.rooms;
+      exact = subst E (sym c.into_running-running.ensures.rest) (slice_begins (methods_of c.args.program.now) c.args.actors c.args.control c.args.state.now);
       own = ap (λ (z : Rest). z.top.actor) c.into_running-running.ensures.rest;
     }
 
 pub loop-result-preserved : goal.loop-result-preserved
 loop-result-preserved c =
-    let stays = c.if-actor-own.false ∙ c.loop-result.invariant.own in
+    let p = methods_of c.args.program.now in
+    let follows = moves_on (record { meant = c.known.ensures.meant; allowed = c.known.ensures.allowed; counts = c.known.ensures.counts; blocks = c.known.ensures.blocks; calls = c.known.ensures.calls }) (methods_of c.args.program.now) c.args.actors (rest_of c.loop-result.running) (rest_of c.advance.new.running) c.loop-result.state c.advance.new.state c.known.ensures.closed c.loop-result.invariant.rest (sym c.in-Ok.ensures.exactly) in
     record {
-      reaches = one_more (methods_of c.args.program.now) c.args.actors c.args.control c.args.state.now c.loop-result.state c.advance.new.state (rest_of c.loop-result.running) (rest_of c.advance.new.running) c.in-Ok.actor c.requires.top.known c.loop-result.invariant.reaches c.in-Ok.ensures.advances.0 c.in-Ok.ensures.advances.1 stays c.in-Ok.ensures.advances.2;
+      rest = follows.rest;
       rooms = c.in-Ok.ensures.rooms;
+      exact = slice_stays (methods_of c.args.program.now) c.args.actors c.args.control c.args.state.now (rest_of c.loop-result.running) (rest_of c.advance.new.running) c.loop-result.state c.advance.new.state c.loop-result.invariant.exact (sym c.in-Ok.ensures.exactly) (c.in-Ok.ensures.stands ∙ c.if-actor-own.false ∙ c.loop-result.invariant.own) follows.fewer;
       own = c.loop-result.invariant.own;
     }
 
-pub returns-in-Err-clause-moment : goal.returns-in-Err-clause-moment
-returns-in-Err-clause-moment c =
-    ends_there (methods_of c.args.program.now) c.args.actors c.args.control c.args.state.now c.loop-result.state c.advance.new.state (rest_of c.loop-result.running) c.in-Err.result c.requires.top.known c.loop-result.invariant.reaches c.in-Err.ensures.advances
+pub loop-result-smaller : goal.loop-result-smaller
+loop-result-smaller c =
+    let follows = moves_on (record { meant = c.known.ensures.meant; allowed = c.known.ensures.allowed; counts = c.known.ensures.counts; blocks = c.known.ensures.blocks; calls = c.known.ensures.calls }) (methods_of c.args.program.now) c.args.actors (rest_of c.loop-result.running) (rest_of c.advance.new.running) c.loop-result.state c.advance.new.state c.known.ensures.closed c.loop-result.invariant.rest (sym c.in-Ok.ensures.exactly) in
+    omega (arith, follows.fewer)
 
-pub returns-in-Err-clause-kept : goal.returns-in-Err-clause-kept
-returns-in-Err-clause-kept c =
-    ends_kept (methods_of c.args.program.now) c.args.actors c.args.control c.args.state.now c.advance.new.state c.in-Err.result
-    (ends_there (methods_of c.args.program.now) c.args.actors c.args.control c.args.state.now c.loop-result.state c.advance.new.state (rest_of c.loop-result.running) c.in-Err.result c.requires.top.known c.loop-result.invariant.reaches c.in-Err.ensures.advances)
+pub returns-in-Err : goal.returns-in-Err
+returns-in-Err c =
+    record { exactly = sym (slice_ends (methods_of c.args.program.now) c.args.actors c.args.control c.args.state.now (rest_of c.loop-result.running) c.loop-result.state c.advance.new.state c.in-Err.result c.loop-result.invariant.exact (sym c.in-Err.ensures.exactly)) }
 
-pub returns-then-actor-own-clause-moment : goal.returns-then-actor-own-clause-moment
-returns-then-actor-own-clause-moment c =
-    let away : c.in-Ok.actor ≢ (rest_of c.loop-result.running).top.actor = λ same. c.if-actor-own.true (same ∙ c.loop-result.invariant.reaches.actor ∙ sym c.loop-result.invariant.own) in
-    let P : Rest → Type 0 = λ z. GoesAway (methods_of c.args.program.now) c.args.actors c.args.control c.args.state.now c.advance.new.state z in
-    subst P (sym c.of.ensures) (goes_there (methods_of c.args.program.now) c.args.actors c.args.control c.args.state.now c.loop-result.state c.advance.new.state (rest_of c.loop-result.running) (rest_of c.advance.new.running) c.requires.top.known c.loop-result.invariant.reaches (c.in-Ok.ensures.advances.3 away))
-
-pub returns-then-actor-own-clause-kept : goal.returns-then-actor-own-clause-kept
-returns-then-actor-own-clause-kept c =
-    let away : c.in-Ok.actor ≢ (rest_of c.loop-result.running).top.actor = λ same. c.if-actor-own.true (same ∙ c.loop-result.invariant.reaches.actor ∙ sym c.loop-result.invariant.own) in
-    let P : Rest → Type 0 = λ z. KeepsRest (methods_of c.args.program.now) c.args.actors c.args.control c.args.state.now c.advance.new.state z in
-    subst P (sym c.of.ensures) (goes_kept (methods_of c.args.program.now) c.args.actors c.args.control c.args.state.now c.advance.new.state (rest_of c.advance.new.running)
-    (goes_there (methods_of c.args.program.now) c.args.actors c.args.control c.args.state.now c.loop-result.state c.advance.new.state (rest_of c.loop-result.running) (rest_of c.advance.new.running) c.requires.top.known c.loop-result.invariant.reaches (c.in-Ok.ensures.advances.3 away)))
-
-pub returns-then-actor-own-clause-handed_on : goal.returns-then-actor-own-clause-handed_on
-returns-then-actor-own-clause-handed_on c =
-    let other : c.in-Ok.actor ≢ c.args.control.top.actor = λ same. c.if-actor-own.true (same ∙ sym c.loop-result.invariant.own) in
-    let P : Rest → Type 0 = λ z. HandsOn (methods_of c.args.program.now) c.args.actors c.args.control (record { 0 = c.in-Ok.actor }) z in
-    subst P (sym c.of.ensures) (hands_on (methods_of c.args.program.now) c.args.actors c.args.control c.args.state.now c.loop-result.state (rest_of c.loop-result.running) (rest_of c.advance.new.running) (record { 0 = c.in-Ok.actor }) c.loop-result.invariant.reaches c.in-Ok.ensures.advances.0 c.in-Ok.ensures.advances.1 other)
+pub returns-then-actor-own : goal.returns-then-actor-own
+returns-then-actor-own c =
+    let d = rest_of c.advance.new.running in
+    let other : (rest_of c.advance.new.running).top.actor ≢ c.args.control.top.actor = λ same. c.if-actor-own.true (sym c.in-Ok.ensures.stands ∙ same ∙ sym c.loop-result.invariant.own) in
+    let P : Rest → Type 0 = λ z. (let x : SliceEnd = record { state = c.advance.new.state; next = Go (actor_id c.in-Ok.actor) z } in x) ≡ slice_end (methods_of c.args.program.now) c.args.actors c.args.control c.args.state.now in
+    record {
+      exactly = subst P (sym c.of.ensures)
+          (ap (λ (a : ℕ). let x : SliceEnd = record { state = c.advance.new.state; next = Go (actor_id a) (rest_of c.advance.new.running) } in x) (sym c.in-Ok.ensures.stands)
+          ∙ sym (slice_goes (methods_of c.args.program.now) c.args.actors c.args.control c.args.state.now (rest_of c.loop-result.running) (rest_of c.advance.new.running) c.loop-result.state c.advance.new.state c.loop-result.invariant.exact (sym c.in-Ok.ensures.exactly) other));
+    }

@@ -1,14 +1,15 @@
 use Rattle.std.proofs.Common.{◌≡◌}
 use Rattle.aml_check.specs.Checked.{methods_of}
-use Rattle.aml_slice.specs.Controls.{moves_left}
-use Rattle.aml_slice.specs.Moving.{Reaches}
+use Rattle.aml_slice.specs.Controls.{IsRest, moves_left}
 use Rattle.aml_slice.specs.Views.{rest_of, HasRooms}
+use Rattle.aml_slice.proofs.ExactMoves.{SlicesFrom}
 use Rattle.aml_slice.proofs.slices.slice.Given as goal
 
 abbrev pub invariant-loop-result : goal.invariant-loop-result
 invariant-loop-result l = record {
-  reaches : Reaches (methods_of l.program) l.actors l.fn.control l.initial.state l.state (rest_of l.running);
+  rest : IsRest (methods_of l.program) l.actors (rest_of l.running);
   rooms : HasRooms l.running;
+  exact : SlicesFrom (methods_of l.program) l.actors l.fn.control l.initial.state (rest_of l.running) l.state;
   own : l.own ≡ l.fn.control.top.actor;
 }
 

@@ -7,7 +7,7 @@ pub returns-then-uses-at-eq0 : goal.returns-then-uses-at-eq0
 returns-then-uses-at-eq0 c =
     let us = c.loop-at.uses in
     let h : c.loop-at.at < length us = omega (arith, ap length c.loop-at.invariant.1) in
-    ap (used c.args.actor) (sym c.loop-at.invariant.1) ∙ used_up c.args.actor us c.loop-at.at (get_or us c.loop-at.at (record { 0 = 0 }, 0)) h (element us c.loop-at.at (record { 0 = 0 }, 0) h) c.if-uses-at.true c.if-uses-at-eq0.true c.loop-at.invariant.0
+    (ap (used c.args.actor) (sym c.loop-at.invariant.1) ∙ used_up c.args.actor us c.loop-at.at (get_or us c.loop-at.at (record { 0 = 0 }, 0)) h (element us c.loop-at.at (record { 0 = 0 }, 0) h) c.if-uses-at.true c.if-uses-at-eq0.true c.loop-at.invariant.0, c.loop-at.invariant.1)
 
 pub returns-then-uses-at : goal.returns-then-uses-at
 returns-then-uses-at c =
@@ -25,4 +25,4 @@ pub returns : goal.returns
 returns c =
     let us = c.loop-at.uses in
     let past : length us ≤ c.loop-at.at = omega (arith, ap length c.loop-at.invariant.1) in
-    ap (used c.args.actor) (sym c.loop-at.invariant.1) ∙ used_never c.args.actor us c.loop-at.at past c.loop-at.invariant.0
+    (ap (used c.args.actor) (sym c.loop-at.invariant.1) ∙ used_never c.args.actor us c.loop-at.at past c.loop-at.invariant.0, c.loop-at.invariant.1)

@@ -19,4 +19,5 @@ returns-clause-rooms c =
       frames_fit = (omega (arith, c.requires.rooms.frames_fit.0, c.push_reserved.ensures.capacity), omega (arith, c.requires.rooms.frames_fit.1, c.in-Some.ensures.capacity));
       arguments = rw c.swap.ensures.y_after (omega (arith, room.0));
       actors = c.requires.rooms.actors;
+      calls = c.requires.rooms.calls;
     }

@@ -1,9 +1,8 @@
 use Rattle.std.proofs.Common.{List, [], ◌∷◌, length, map, reverse, ap, ◌∙◌, subst, arith, length-append}
 use Rattle.std.specs.List.{AllByRecursion}
 use Rattle.aml_resume.specs.Rooms.{HasRoom}
+use Rattle.aml_slice.specs.Views.{HasPlace, frame_of}
 use Rattle.aml_slice.specs.declared.frames.Frame as code
-use Rattle.aml_slice.specs.Frames.{HasPlace}
-use Rattle.aml_slice.specs.Views.{frame_of}
 use Rattle.aml_slice.proofs.FrameLists.{last_first, all_front, all_last, all_push}
 use Rattle.aml_slice.proofs.running.Running.give.Goals as goal
 
@@ -27,4 +26,5 @@ returns-clause-rooms c =
       frames_fit = (omega (arith, c.requires.rooms.frames_fit.0, c.in_ok-frame.ensures.capacity), omega (arith, c.requires.rooms.frames_fit.1, c.push_reserved.ensures.capacity));
       arguments = c.requires.rooms.arguments;
       actors = c.requires.rooms.actors;
+      calls = c.requires.rooms.calls;
     }

@@ -1,6 +1,6 @@
 use Rattle.std.proofs.Common.{inl, inr, List, subst, sym}
 use Rattle.aml_slice.specs.declared.frames.Frame as code
-use Rattle.aml_slice.specs.Waits.{WaitsOn}
+use Rattle.aml_slice.specs.Views.{WaitsOn}
 use Rattle.aml_slice.proofs.Askings.{waits_stand, stand_waits}
 use Rattle.aml_slice.proofs.running.Running.stands_on.Goals as goal
 

@@ -1,0 +1,32 @@
+-- The values that a call passes, one after the other.
+use Rattle.std.proofs.Common.{◌≡◌, ℕ, zero, suc, ◌+◌, ◌<◌, ℤ, Result, Ok, Err, List, [], ◌∷◌, ◌++◌, length, drop, get_or, map, refl, sym, ap, ◌∙◌, subst, arith, append_assoc}
+use Rattle.std.specs.List.{AllByRecursion}
+use Rattle.std.proofs.lemmas.List.{drop_more}
+use Rattle.snap_base.specs.declared.transactions.State.{State}
+use Rattle.aml_tree.specs.declared.trees.Expression.{Expression}
+use Rattle.aml_tree.specs.Tree.{expression_tree}
+use Rattle.aml_check.specs.Meaning.{◌>>=◌, value_of, values_of}
+
+-- what holds of every element's view holds of one's
+pub view_at : {A B : Type 0} (P : B → Type 0) (f : A → B) (xs : List A) (i : ℕ) (x : A) → i < length xs → x ≡ get_or xs i x → AllByRecursion P (map f xs) → P (f x)
+view_at P f [] i x h is all = absurd (omega (arith, h))
+view_at P f (y ∷ ys) zero x h is all = let Q : _ → Type 0 = λ z. P (f z) in subst Q (sym is) all.0
+view_at P f (y ∷ ys) (suc i) x h is all = view_at P f ys i x (omega (arith, h)) is all.1
+
+values_here : (own : ℕ) (vs : List ℤ) (s : State) (es : List (Expression ℕ)) (i : ℕ) (e : Expression ℕ) → i < length es → e ≡ get_or es i e → values_of own vs s (map expression_tree (drop i es)) ≡ (value_of own vs s (expression_tree e) >>= λ v. values_of own vs s (map expression_tree (drop (i + 1) es)) >>= λ xs. Ok (v ∷ xs))
+values_here own vs s es i e h is =
+    ap (λ ks. values_of own vs s (map expression_tree ks)) (drop_more es i e h ∙ ap (λ k. k ∷ drop (i + 1) es) (sym is))
+
+more_given : (given : List ℤ) (v : ℤ) (r : Result (List ℤ) ℕ) → ((r >>= λ xs. Ok (v ∷ xs)) >>= λ xs. Ok (given ++ xs)) ≡ (r >>= λ xs. Ok ((given ++ v ∷ []) ++ xs))
+more_given given v (Ok xs) = ap (λ ys. let a : Result (List ℤ) ℕ = Ok ys in a) (sym (append_assoc given (v ∷ []) xs))
+more_given given v (Err code) = refl
+
+pub values_next : (own : ℕ) (vs : List ℤ) (s : State) (es : List (Expression ℕ)) (given next : List ℤ) (i : ℕ) (e : Expression ℕ) (v : ℤ) → i < length es → e ≡ get_or es i e → Ok v ≡ value_of own vs s (expression_tree e) → next ≡ given ++ v ∷ []
+    → values_of own vs s (map expression_tree es) ≡ (values_of own vs s (map expression_tree (drop i es)) >>= λ xs. Ok (given ++ xs))
+    → values_of own vs s (map expression_tree es) ≡ (values_of own vs s (map expression_tree (drop (i + 1) es)) >>= λ xs. Ok (next ++ xs))
+values_next own vs s es given next i e v h is here new so_far =
+    let rest = values_of own vs s (map expression_tree (drop (i + 1) es)) in
+    so_far
+    ∙ ap (λ (r : Result (List ℤ) ℕ). r >>= λ xs. Ok (given ++ xs)) (values_here own vs s es i e h is ∙ ap (λ (r : Result ℤ ℕ). r >>= λ v. rest >>= λ xs. Ok (v ∷ xs)) (sym here))
+    ∙ more_given given v rest
+    ∙ ap (λ ys. rest >>= λ xs. Ok (ys ++ xs)) (sym new)
