@@ -1,5 +1,5 @@
 -- The events that name numbers drawn so far, in order, and those of them that are allowed.
-use Rattle.std.specs.Prelude.{ℕ, zero, suc, ◌-◌, ◌==◌, Option, None, Some, List, [], ◌∷◌, length, map, find}
+use Rattle.std.specs.Prelude.{ℕ, zero, suc, ◌-◌, ◌==◌, Option, None, Some, List, [], ◌∷◌, length, map, filter, find}
 use Rattle.std.specs.List.{flat_map}
 use Rattle.protocol.specs.Fixed.{Fixed}
 use Rattle.protocol.specs.Parts.{Machine}
@@ -17,16 +17,16 @@ abbrev pub each_two : (ℕ → ℕ → Event) → List ℕ → List ℕ → List
 each_two kind xs ys = flat_map (λ x. map (kind x) ys) xs
 
 abbrev pub tids_drawn : {C : Type 0} → Fixed C → Machine C → List ℕ
-tids_drawn w s = from w.opening.next_tid (s.ring.next_tid - w.opening.next_tid)
+tids_drawn w s = from w.text.opening.next_tid (s.ring.next_tid - w.text.opening.next_tid)
 
 abbrev pub bids_drawn : {C : Type 0} → Fixed C → Machine C → List ℕ
-bids_drawn w s = from w.opening.next_bid (s.ring.next_bid - w.opening.next_bid)
+bids_drawn w s = from w.text.opening.next_bid (s.ring.next_bid - w.text.opening.next_bid)
 
 -- in the order of the kinds, then of the first number, then of the second
 abbrev pub offers : List ℕ → List ℕ → List ℕ → {C : Type 0} → Fixed C → Machine C → List (List Event)
 offers ks ts cells w s =
     (Submit s.ring.next_tx ∷ [])
-    ∷ each Pass (below w.coordinators)
+    ∷ each Pass (below w.text.coordinators)
     ∷ (Form s.ring.next_bid ∷ [])
     ∷ (Admit s.ring.next_tid ∷ [])
     ∷ each_two Arrive ks cells
@@ -37,7 +37,7 @@ offers ks ts cells w s =
     ∷ each_two End ts cells
     ∷ each_two Close ts cells
     ∷ each_two Complete ks cells
-    ∷ each Sync (below w.logs)
+    ∷ each Sync (below w.text.logs)
     ∷ each_two Note ks cells
     ∷ each Commit ks
     ∷ each Settle ks
@@ -50,11 +50,15 @@ offers ks ts cells w s =
     ∷ each Decide ts
     ∷ each Seal ts
     ∷ each_two Finish ts cells
-    ∷ each Reply (below (length w.txs))
+    ∷ each Reply (below (length w.text.txs))
     ∷ each_two Trim ks cells ∷ []
 
 abbrev pub candidates : {C : Type 0} → Fixed C → Machine C → List Event
 candidates w s = flat_map (λ xs. xs) (offers (bids_drawn w s) (tids_drawn w s) (below (length s.cells)) w s)
+
+-- those that are allowed, in order
+abbrev pub allowed_candidates : {C : Type 0} → Fixed C → Machine C → List Event
+allowed_candidates w s = filter (λ e. refusal w e s == 0) (candidates w s)
 
 -- the first candidate that is allowed
 abbrev pub first_allowed : {C : Type 0} → Fixed C → Machine C → Option Event

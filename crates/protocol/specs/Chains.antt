@@ -1,7 +1,7 @@
 -- The order in which what committed was placed, the sets of transactions that this order closes, and the serial
 -- order of places.
-use Rattle.std.specs.Prelude.{◌≡◌, ℕ, ◌==◌, nat_lt, Bool, true, ◌&&◌, ◌||◌, if◌then◌else◌, Some, List, [], ◌∷◌, ◌++◌, map, filter}
-use Rattle.std.specs.List.{list_any, flat_map}
+use Rattle.std.specs.Prelude.{◌≡◌, ℕ, ◌==◌, nat_lt, Bool, true, ◌&&◌, ◌||◌, if◌then◌else◌, is_some, Some, List, [], ◌∷◌, ◌++◌, map, filter}
+use Rattle.std.specs.List.{flat_map}
 use Rattle.snap_base.specs.declared.transactions.State.{State}
 use Rattle.snap_base.specs.declared.transactions.Tx.{Tx}
 use Rattle.snap_base.specs.declared.verdicts.Place.{Place}
@@ -9,16 +9,13 @@ use Rattle.protocol.specs.Fixed.{Fixed, tx_at}
 use Rattle.protocol.specs.Facts.{Alone, Serial, serial}
 use Rattle.protocol.specs.Parts.{Who}
 use Rattle.protocol.specs.Words.{is_value, is_who, is_act_who}
-use Rattle.protocol.specs.History.{Visit, Done, History}
+use Rattle.protocol.specs.History.{Done, History}
 
 -- ---- the chain of an actor
 
-abbrev pub has_visit : ℕ → List Visit → Bool
-has_visit a visits = list_any (λ v. v.actor == a) visits
-
 -- it is of this batch and ran on the actor, or is this ACT
 abbrev pub stands_for : ℕ → Who → Done → Bool
-stands_for a who d = is_who who d.who && (is_act_who who || has_visit a d.visits)
+stands_for a who d = is_who who d.who && (is_act_who who || is_some (d.views a))
 
 -- What was placed on the actor, in that order: each committed batch stands there for its PACTs that ran on the
 -- actor, by tid, and each decided ACT for itself.
@@ -79,11 +76,11 @@ PlacesRise (d ∷ ds) = IsBelowAll d.place ds × PlacesRise ds
 -- ---- the serial run of what committed
 
 abbrev pub txs_of : {C : Type 0} → Fixed C → List Done → List Tx
-txs_of w ds = map (λ d. tx_at w d.tx) ds
+txs_of w ds = map (λ d. tx_at w.text d.tx) ds
 
 -- What committed, run one after the other in the order of places from the opening's states.
 abbrev pub serial_run : {C : Type 0} → Fixed C → (C → List State → Alone) → List Done → Serial
-serial_run w finish ds = serial w.code finish w.opening.states (txs_of w (by_place ds))
+serial_run w finish ds = serial w.code finish w.text.opening.states (txs_of w (by_place ds))
 
 -- it gives each the result that it had
 abbrev pub IsSerial : {C : Type 0} → Fixed C → (C → List State → Alone) → List Done → Type 0

@@ -35,19 +35,19 @@ is_given_up (OfAct t) b = holds (λ x. is_doomed x.status) (act_of t b.acts)
 
 unfoldable pub conditions : {C : Type 0} → Fixed C → Event → Machine C → List Bool
 conditions w (Submit n) s =
-    ((n == s.ring.next_tx) && nat_lt n (length w.txs)) ∷ []
+    ((n == s.ring.next_tx) && nat_lt n (length w.text.txs)) ∷ []
 conditions w (Pass c) s =
-    (c == (s.ring.holder + 1) % w.coordinators)
+    (c == (s.ring.holder + 1) % w.text.coordinators)
     ∷ is_idle_at s.ring.holder s.ring
     ∷ not (is_idle s.ring) ∷ []
 conditions w (Form k) s =
     (k == s.ring.next_bid)
     ∷ not (is_empty (queue s.ring.pacts s.ring.holder))
-    ∷ nat_lt (count is_live_batch s.desk.batches) w.batches ∷ []
+    ∷ nat_lt (count is_live_batch s.desk.batches) w.text.batches ∷ []
 conditions w (Admit t) s =
     (t == s.ring.next_tid)
     ∷ not (is_empty (queue s.ring.acts s.ring.holder))
-    ∷ nat_lt (count is_live_act s.book.acts) w.acts ∷ []
+    ∷ nat_lt (count is_live_act s.book.acts) w.text.acts ∷ []
 conditions w (Arrive k a) s =
     is_some (sub_of k a s.post.subs)
     ∷ not (is_aborted k s.book.cascades)
@@ -80,15 +80,15 @@ conditions w (Sync l) s =
     holds (λ g. nat_lt g.synced (length g.records)) (slice_get s.logs l) ∷ []
 conditions w (Note k a) s =
     holds (λ b. is_open b && holds (λ p. not p.noted) (declared_of a b)) (batch_of k s.desk.batches)
-    ∷ holds (is_durable (is_complete k a)) (slice_get s.logs (a % w.logs)) ∷ []
+    ∷ holds (is_durable (is_complete k a)) (slice_get s.logs (a % w.text.logs)) ∷ []
 conditions w (Commit k) s =
     holds (λ b. is_open b && is_next_to_commit k s.desk.batches) (batch_of k s.desk.batches)
     ∷ holds (λ b. list_all (λ p. is_value p.result) b.pacts) (batch_of k s.desk.batches)
     ∷ holds (λ b. list_all (λ p. p.noted) b.places) (batch_of k s.desk.batches)
-    ∷ holds (is_durable (is_info k)) (slice_get s.logs (k % w.logs)) ∷ []
+    ∷ holds (is_durable (is_info k)) (slice_get s.logs (k % w.text.logs)) ∷ []
 conditions w (Settle k) s =
     holds (λ b. is_committing b.stage && not b.aborted) (batch_of k s.desk.batches)
-    ∷ holds (is_durable (is_commit k)) (slice_get s.logs (k % w.logs)) ∷ []
+    ∷ holds (is_durable (is_commit k)) (slice_get s.logs (k % w.text.logs)) ∷ []
 conditions w (Abort k) s =
     holds (λ b. is_open b && is_next_to_commit k s.desk.batches) (batch_of k s.desk.batches)
     ∷ holds (λ b. is_some (first_failed b.pacts)) (batch_of k s.desk.batches) ∷ []
@@ -105,14 +105,14 @@ conditions w (Prepare t a) s =
     ∷ holds (λ x. holds (λ p. not p.prepared) (joined_of a x)) (act_of t s.book.acts) ∷ []
 conditions w (Vouch t a) s =
     holds (λ x. is_live_act x && (not (is_doomed x.status) && holds (λ p. p.prepared && not p.vouched) (joined_of a x))) (act_of t s.book.acts)
-    ∷ holds (is_durable (is_prepare t a)) (slice_get s.logs (a % w.logs)) ∷ []
+    ∷ holds (is_durable (is_prepare t a)) (slice_get s.logs (a % w.text.logs)) ∷ []
 conditions w (Decide t) s =
     holds (λ x. is_some x.result && is_live_status x.status) (act_of t s.book.acts)
     ∷ holds (λ x. is_failure x.result || is_vouched_everywhere x) (act_of t s.book.acts)
-    ∷ holds (λ x. nat_le x.m (max s.desk.settled (base w))) (act_of t s.book.acts) ∷ []
+    ∷ holds (λ x. nat_le x.m (max s.desk.settled (base w.text))) (act_of t s.book.acts) ∷ []
 conditions w (Seal t) s =
     holds (λ x. is_decided x.status) (act_of t s.book.acts)
-    ∷ holds (is_durable (is_act_commit t)) (slice_get s.logs (t % w.logs)) ∷ []
+    ∷ holds (is_durable (is_act_commit t)) (slice_get s.logs (t % w.text.logs)) ∷ []
 conditions w (Finish t a) s =
     holds (λ x. is_doomed x.status || is_sealed x.status) (act_of t s.book.acts)
     ∷ holds (λ x. holds (λ p. not p.finished) (joined_of a x)) (act_of t s.book.acts) ∷ []

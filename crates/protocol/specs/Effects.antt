@@ -1,10 +1,10 @@
 -- What each event makes of a state: each part that it names becomes what the event makes of it, from the
 -- parts of the event's footprint, and nothing else changes.
-use Rattle.std.specs.Prelude.{ℕ, ◌%◌, nat_le, if◌then◌else◌, Option, Some, None, List, [], ◌∷◌, ◌++◌, length, map, slice_set, slice_index_or}
-use Rattle.protocol.specs.Fixed.{Fixed, no_state}
+use Rattle.std.specs.Prelude.{ℕ, ◌-◌, ◌%◌, nat_le, max, if◌then◌else◌, Option, Some, None, List, [], ◌∷◌, ◌++◌, length, map, slice_set, slice_index_or}
+use Rattle.protocol.specs.Fixed.{Fixed, base, no_state}
 use Rattle.protocol.specs.Records.{LogRecord, BatchInfo, BatchComplete, BatchCommit, ActPrepare, ActCommit}
 use Rattle.protocol.specs.Parts.{Act, Log, Cell, Machine}
-use Rattle.protocol.specs.Words.{is_value, act_of, sub_of, control_of}
+use Rattle.protocol.specs.Words.{is_value, act_of, sub_of, control_of, who_on, outcome_of, has_act}
 use Rattle.protocol.specs.Events.{Event, Submit, Pass, Form, Admit, Arrive, Ask, Take, Run, Send, End, Close, Complete, Sync, Note, Commit, Settle, Abort, Rollback, DropSub, DropControl, Prepare, Vouch, Decide, Seal, Finish, Reply, Trim}
 use Rattle.protocol.specs.OnRing as ring
 use Rattle.protocol.specs.OnPost as post
@@ -58,26 +58,26 @@ act_commit c (Some x) = if is_value x.result then ActCommit x.tid x.m c (ascendi
 -- ---- the table
 
 unfoldable pub after : {C : Type 0} → Fixed C → Event → Machine C → Machine C
-after w (Submit n) s = record s { ring = ring.submitted w n s.ring }
+after w (Submit n) s = record s { ring = ring.submitted w.text n s.ring }
 after w (Pass c) s = record s { ring = ring.passed c s.ring }
 after w (Form k) s = record s {
-  ring = ring.formed w k s.ring;
-  post = post.posted_batch w k s.ring s.post;
-  desk = desk.batch_formed w k s.ring s.desk;
-  logs = adds s (k % w.logs) (BatchInfo k (ring.next_actors w s.ring) (map (λ p. p.tid) (ring.next_pacts w s.ring)) ∷ []);
+  ring = ring.formed (ring.planned w.text k s.ring) w.text.batch s.ring;
+  post = post.posted_batch w (ring.planned w.text k s.ring) s.post;
+  desk = desk.batch_formed (ring.planned w.text k s.ring) s.desk;
+  logs = adds s (k % w.text.logs) (BatchInfo k (ring.next_actors w.text s.ring) (map (λ p. p.tid) (ring.next_pacts w.text s.ring)) ∷ []);
 }
 after w (Admit t) s = record s {
   ring = ring.admitted s.ring;
-  book = book.act_admitted w t s.ring s.book;
-  post = post.posted_act w t s.ring s.post;
+  book = book.act_admitted t (post.next_act s.ring) (base w.text) s.book;
+  post = post.posted_act w t (post.next_act s.ring) s.post;
 }
 after w (Arrive k a) s = record s {
-  book = book.batch_arrived k a (cell_at s a) s.book;
+  book = book.batch_arrived k a (book.tids_on (cell_at s a).entries) s.book;
   post = post.sub_taken k a s.post;
   cells = puts s a (cell.batch_placed k (sub_of k a s.post.subs) (cell_at s a));
 }
 after w (Ask t a) s = record s {
-  book = book.act_asked t a (cell_at s a) s.book;
+  book = book.act_asked (book.in_the_way t (cell_at s a)) (book.met t (cell_at s a)) t a (max (cell_at s a).last (cell_at s a).floor) s.book;
   post = post.control_taken t s.post;
   cells = puts s a (cell.act_placed t (book.in_the_way t (cell_at s a)) (control_of t s.post.controls) (cell_at s a));
 }
@@ -87,47 +87,47 @@ after w (Take t a) s = record s {
 }
 after w (Run t a) s = record s { cells = puts s a (cell.slice_run w.code t a (cell_at s a)) }
 after w (Send t a) s = record s {
-  post = post.sent t (cell_at s a) s.post;
+  post = post.sent (who_on t (cell_at s a).entries) (outcome_of t (cell_at s a).outbox) s.post;
   cells = puts s a (cell.outcome_taken t (cell_at s a));
 }
 after w (End t a) s = record s {
-  book = book.act_ended t (cell_at s a) s.book;
-  desk = desk.pact_ended t (cell_at s a) s.desk;
+  book = book.act_ended t (has_act t (cell_at s a).entries) (outcome_of t (cell_at s a).outbox) s.book;
+  desk = desk.pact_ended t (has_act t (cell_at s a).entries) (outcome_of t (cell_at s a).outbox) s.desk;
   cells = puts s a (cell.outcome_taken t (cell_at s a));
 }
 after w (Close t a) s = record s { cells = puts s a (cell.pact_closed t (cell_at s a)) }
 after w (Complete k a) s = record s {
-  logs = adds s (a % w.logs) (BatchComplete k a (cell_at s a).state ∷ []);
+  logs = adds s (a % w.text.logs) (BatchComplete k a (cell_at s a).state ∷ []);
   cells = puts s a (cell.batch_completed k (cell_at s a));
 }
 after w (Sync l) s = record s { logs = slice_set s.logs l (synced (log_at s l)) }
 after w (Note k a) s = record s { desk = desk.batch_noted k a s.desk }
 after w (Commit k) s = record s {
   desk = desk.batch_committing k s.desk;
-  logs = adds s (k % w.logs) (BatchCommit k ∷ []);
+  logs = adds s (k % w.text.logs) (BatchCommit k ∷ []);
 }
 after w (Settle k) s = record s { desk = desk.batch_settled k s.desk }
 after w (Abort k) s = record s {
   ring = ring.cut s.ring;
-  book = book.batch_aborted k s.ring s.desk s.book;
+  book = book.batch_aborted k (s.ring.next_bid - 1) (book.why k s.desk) s.book;
   desk = desk.batches_aborted k s.desk;
 }
-after w (Rollback a) s = record s { cells = puts s a (cell.rolled_back s.book (cell_at s a)) }
+after w (Rollback a) s = record s { cells = puts s a (cell.rolled_back s.book.cascades (cell_at s a)) }
 after w (DropSub k a) s = record s { post = post.sub_taken k a s.post }
 after w (DropControl t) s = record s { post = post.control_taken t s.post }
 after w (Prepare t a) s = record s {
   book = book.act_prepared t a s.book;
-  logs = adds s (a % w.logs) (ActPrepare t a (cell_at s a).state ∷ []);
+  logs = adds s (a % w.text.logs) (ActPrepare t a (cell_at s a).state ∷ []);
 }
 after w (Vouch t a) s = record s { book = book.act_vouched t a s.book }
 after w (Decide t) s = record s {
   book = book.act_decided t s.book;
-  logs = adds s (t % w.logs) (act_commit s.book.next_c (act_of t s.book.acts));
+  logs = adds s (t % w.text.logs) (act_commit s.book.next_c (act_of t s.book.acts));
 }
 after w (Seal t) s = record s { book = book.act_sealed t s.book }
 after w (Finish t a) s = record s {
   book = book.act_finished t a s.book;
-  cells = puts s a (cell.act_left t s.book (cell_at s a));
+  cells = puts s a (cell.act_left t (act_of t s.book.acts) (cell_at s a));
 }
 after w (Reply n) s = record s { desk = desk.replied_to n s.desk }
 after w (Trim k a) s = record s {

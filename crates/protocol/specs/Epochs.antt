@@ -2,7 +2,7 @@
 use Rattle.std.specs.Prelude.{◌≡◌, ℕ, ◌<◌, ◌≤◌, ◌==◌, nat_lt, Bool, true, false, ◌&&◌, List, length, map, filter, slice_index_or}
 use Rattle.std.specs.List.{AllByRecursion}
 use Rattle.protocol.specs.Fixed.{Fixed}
-use Rattle.protocol.specs.Parts.{Cascade, SubMessage, Batch, Cell, Machine}
+use Rattle.protocol.specs.Parts.{Cascade, SubBatch, Batch, Cell, Machine}
 use Rattle.protocol.specs.Words.{is_among, greatest, is_aborted, epoch_of, batches_on}
 
 -- the batch is below a number, of this epoch, and has the actor
@@ -14,7 +14,7 @@ abbrev pub last_below : {C : Type 0} → ℕ → ℕ → ℕ → Machine C → �
 last_below k e a s = greatest (map (λ b. b.bid) (filter (is_of k e a s.book.cascades) s.desk.batches))
 
 -- a message tells the epoch of its batch, and the batch before it in this epoch on its actor
-pub record NamesItsPlace {C : Type 0} (s : Machine C) (m : SubMessage) : Type 0 where
+pub record NamesItsPlace {C : Type 0} (s : Machine C) (m : SubBatch) : Type 0 where
   pub formed : m.bid < s.ring.next_bid
   pub epoch : m.epoch ≡ epoch_of m.bid s.book.cascades
   pub prev : m.prev ≡ last_below m.bid m.epoch m.actor s

@@ -5,7 +5,7 @@ use Rattle.snap_base.specs.declared.transactions.State.{State}
 use Rattle.snap_base.specs.declared.transactions.Tx.{Tx}
 use Rattle.snap_base.specs.declared.transactions.TxResult.{TxResult}
 use Rattle.snap_base.specs.declared.transactions.TxResult.TheVariants.{Value, Fail}
-use Rattle.protocol.specs.Fixed.{Next, Go, Ended, Code, IsTxOf, no_state, is_pact, root, declared}
+use Rattle.protocol.specs.Fixed.{Next, Go, Ended, Code, no_state, is_pact, root, declared}
 use Rattle.protocol.specs.Words.{is_among}
 
 -- ---- transactions alone
@@ -49,16 +49,16 @@ abbrev pub rest_of : {C : Type 0} → (C → List State → Alone) → Next C �
 rest_of finish (Go b control) world = finish control world
 rest_of finish (Ended r) world = record { result = r; world = world }
 
--- Over so many actors. `Of` tells of which transaction a control is a rest. The transactions are those that a text may have.
-pub record Facts {C : Type 0} (actors : ℕ) (code : Code C) (Of : Tx → C → Type 0) (finish : C → List State → Alone) : Type 0 where
-  pub starts : (t : ℕ) (tx : Tx) → IsTxOf (actors) tx → Of tx (code.start t tx)
+-- Over so many actors. `Allowed` tells which transactions are begun, and `Of` of which transaction a control is a rest.
+pub record Facts {C : Type 0} (actors : ℕ) (code : Code C) (Allowed : Tx → Type 0) (Of : Tx → C → Type 0) (finish : C → List State → Alone) : Type 0 where
+  pub starts : (t : ℕ) (tx : Tx) → Allowed tx → Of tx (code.start t tx)
   pub stays : (tx : Tx) (c d : C) (s : State) (b : ℕ) → Of tx c → (code.slice c s).next ≡ Go b d → Of tx d
   -- where it stands
   pub begins_at_root : (t : ℕ) (tx : Tx) → code.at (code.start t tx) ≡ root tx
   pub goes_elsewhere : (tx : Tx) (c d : C) (s : State) (b : ℕ) → Of tx c → (code.slice c s).next ≡ Go b d → (code.at d ≡ b) × (b ≢ code.at c) × (b < actors)
   -- what a PACT rests on
   pub rests_where_it_stands : (tx : Tx) (c : C) → is_pact tx ≡ true → Of tx c → code.rests_on c (code.at c) ≡ true
-  pub rests_on_declared : (t : ℕ) (tx : Tx) (a : ℕ) → is_pact tx ≡ true → code.rests_on (code.start t tx) a ≡ true → is_among a (declared tx) ≡ true
+  pub rests_on_declared : (t : ℕ) (tx : Tx) (a : ℕ) → Allowed tx → is_pact tx ≡ true → code.rests_on (code.start t tx) a ≡ true → is_among a (declared tx) ≡ true
   pub rests_no_further : (tx : Tx) (c d : C) (s : State) (a b : ℕ) → is_pact tx ≡ true → Of tx c → (code.slice c s).next ≡ Go b d → code.rests_on d a ≡ true → code.rests_on c a ≡ true
   -- where it has been
   pub stood_here : (tx : Tx) (c : C) → Of tx c → is_among (code.at c) (code.visited c) ≡ true

@@ -19,17 +19,17 @@ SameOn is s t = AllByRecursion (λ i. part s i ≡ part t i) is
 
 -- it has as many logs as the text says
 abbrev pub HasLogs : {C : Type 0} → Fixed C → Machine C → Type 0
-HasLogs w s = length s.logs ≡ w.logs
+HasLogs w s = length s.logs ≡ w.text.logs
 
 -- An event leaves every part outside its footprint.
 abbrev pub LeavesOthers : {C : Type 0} → Fixed C → Event → Machine C → Type 0
-LeavesOthers w e s = (i : ℕ) → is_among i (footprint w.logs e) ≡ false → part (after w e s) i ≡ part s i
+LeavesOthers w e s = (i : ℕ) → is_among i (footprint w.text.logs e) ≡ false → part (after w e s) i ≡ part s i
 
 -- Where two states have the same parts in an event's footprint, its conditions are the same in both, and so are
 -- these parts after it.
 pub record ReadsItsParts {C : Type 0} (w : Fixed C) (e : Event) (s t : Machine C) : Type 0 where
   pub asks : conditions w e s ≡ conditions w e t
-  pub parts : SameOn (footprint w.logs e) (after w e s) (after w e t)
+  pub parts : SameOn (footprint w.text.logs e) (after w e s) (after w e t)
 
 pub record IsFootprint (logs : ℕ) (e : Event) : Type 0 where
   pub few : length (footprint logs e) ≤ 4

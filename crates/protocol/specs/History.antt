@@ -6,21 +6,22 @@ use Rattle.snap_base.specs.declared.transactions.State.{State}
 use Rattle.snap_base.specs.declared.transactions.TxResult.{TxResult}
 use Rattle.snap_base.specs.declared.verdicts.Place.{Place}
 use Rattle.protocol.specs.Fixed.{Fixed, base}
-use Rattle.protocol.specs.Rivals.{Lock, rivals}
-use Rattle.protocol.specs.Parts.{Act, Pair, Who, OfBatch, OfAct, Pact, Batch, Machine}
-use Rattle.protocol.specs.Events.{Event, Admit, Arrive, Ask, Run, Commit, Abort, Rollback, Decide, Finish}
-use Rattle.protocol.specs.Words.{is_among, is_doomed, is_sealed, is_failure, is_who, who_on, act_of, batch_of}
+use Rattle.protocol.specs.Rivals.{Lock, lock_of, rivals}
+use Rattle.protocol.specs.Parts.{Act, Pair, Cascade, Who, OfBatch, OfAct, Pact, Batch, Machine}
+use Rattle.protocol.specs.Events.{Event, Form, Admit, Arrive, Ask, Run, Complete, Commit, Abort, Rollback, Decide, Finish, Trim}
+use Rattle.protocol.specs.Words.{is_among, is_value, is_sealed, is_who, who_on, act_of, batch_of}
 use Rattle.protocol.specs.Verdicts.{pact_place, act_place}
+use Rattle.protocol.specs.OnRing.{next_pacts}
+use Rattle.protocol.specs.OnPost.{next_act}
 use Rattle.protocol.specs.OnBook.{met, in_the_way, is_doomed_act, new_pairs, tids_on}
-use Rattle.protocol.specs.OnCell.{going, is_entry_among}
+use Rattle.protocol.specs.OnCell.{is_cut, slice_run, is_undone_act}
 use Rattle.protocol.specs.Effects.{after, cell_at}
 use Rattle.protocol.specs.Runs.{opening}
 
 -- ---- what is carried
 
--- an actor on which a transaction ran: the state that it found at its first run, and the one that it left
-pub record Visit : Type 0 where
-  pub actor : ℕ
+-- What a transaction did on an actor: the state that its first slice there found, and the one that its last left.
+pub record View : Type 0 where
   pub found : State
   pub left : State
 
@@ -31,22 +32,45 @@ pub record Done : Type 0 where
   pub tx : ℕ
   pub place : Place
   pub result : Option TxResult
-  pub visits : List Visit
+  -- at each actor
+  pub views : ℕ → Option View
 
--- who was placed, and the tids that ran there, in the order of their first runs
-pub record Ran : Type 0 where
-  pub who : Who
-  pub tids : List ℕ
+-- a slice: whose it was, the state that it found, and the one that it left
+pub record Slice : Type 0 where
+  pub tid : ℕ
+  pub found : State
+  pub left : State
+
+-- Who was placed: it stands on the actor, with whether it is a complete batch, or has left for good. With its
+-- slices, in order.
+pub data Ran : Type 0 where
+  Stands : Who → Bool → List Slice → Ran
+  Gone : Who → List Slice → Ran
+
+-- a slice, where it ran
+pub record Step : Type 0 where
+  pub actor : ℕ
+  pub found : State
+  pub left : State
+
+-- the transaction of a tid, and all its slices, in order
+pub record Trail : Type 0 where
+  pub tx : ℕ
+  pub steps : List Step
 
 pub record History : Type 0 where
   -- for each actor, who was placed there; nothing leaves it
   pub placed : ℕ → List Who
   -- for each actor its schedule as if nothing that stays had ever left it
   pub long : ℕ → List Ran
-  -- for each tid, where it ran
-  pub visits : ℕ → List Visit
+  -- for each tid its trail
+  pub trails : ℕ → Trail
+  -- for each tid whose it is: a batch's, or an ACT's own
+  pub owners : ℕ → Who
   -- in the order of their Commit and Decide events
   pub committed : List Done
+  -- who committed with a value
+  pub kept : List Who
   -- for each ACT the batches that stand before it, and those that stand behind it
   pub before : ℕ → List ℕ
   pub behind : ℕ → List ℕ
@@ -59,7 +83,9 @@ abbrev pub no_history : History
 no_history = record {
   placed = λ a. [];
   long = λ a. [];
-  visits = λ t. [];
+  kept = [];
+  trails = λ t. record { tx = 0; steps = [] };
+  owners = λ t. OfAct t;
   committed = [];
   before = λ t. [];
   behind = λ t. [];
@@ -79,7 +105,7 @@ is_none (Some x) = false
 
 -- the pairs that still carry what an ACT gains
 abbrev pub carrying : List Act → List Pair → List Pair
-carrying acts pairs = filter (λ p. not (is_doomed_act acts (record { tid = p.ahead }))) pairs
+carrying acts pairs = filter (λ p. not (is_doomed_act acts (lock_of p.ahead))) pairs
 
 -- ---- the order of placing
 
@@ -87,7 +113,7 @@ abbrev pub with_placed : ℕ → List Who → History → ℕ → List Who
 with_placed a who h = with_at a (h.placed a ++ who) h.placed
 
 abbrev pub not_run : Who → Ran
-not_run who = record { who = who; tids = [] }
+not_run who = Stands who false []
 
 abbrev pub with_long : ℕ → List Who → History → ℕ → List Ran
 with_long a who h = with_at a (h.long a ++ map not_run who) h.long
@@ -98,15 +124,57 @@ asks t (Some older) = []
 
 -- ---- runs
 
-abbrev pub ran_too : ℕ → List ℕ → List ℕ
-ran_too t tids = if is_among t tids then tids else tids ++ t ∷ []
+abbrev pub ran_in : Who → Slice → Ran → Ran
+ran_in who x (Stands y c ss) = Stands y c (if is_who y who then ss ++ x ∷ [] else ss)
+ran_in who x (Gone y ss) = Gone y ss
 
-abbrev pub ran_in : Who → ℕ → Ran → Ran
-ran_in who t r = record r { tids = if is_who who r.who then ran_too t r.tids else r.tids }
+abbrev pub completed : ℕ → Ran → Ran
+completed k (Stands y c ss) = Stands y (c || is_who y (OfBatch k)) ss
+completed k (Gone y ss) = Gone y ss
 
-abbrev pub visited : ℕ → State → State → List Visit → List Visit
-visited a old new [] = record { actor = a; found = old; left = new } ∷ []
-visited a old new (v ∷ vs) = if v.actor == a then record v { left = new } ∷ vs else v ∷ visited a old new vs
+abbrev pub left_for_good : Who → Ran → Ran
+left_for_good who (Stands y c ss) = if is_who y who then Gone y ss else Stands y c ss
+left_for_good who (Gone y ss) = Gone y ss
+
+abbrev pub without_standing : Who → List Ran → List Ran
+without_standing who [] = []
+without_standing who (Stands y c ss ∷ rs) = if is_who y who then without_standing who rs else Stands y c ss ∷ without_standing who rs
+without_standing who (Gone y ss ∷ rs) = Gone y ss ∷ without_standing who rs
+
+-- up to the first aborted batch that stands there
+abbrev pub long_staying : List Cascade → List Ran → List Ran
+long_staying cascades [] = []
+long_staying cascades (Stands y c ss ∷ rs) = if is_cut cascades y then [] else Stands y c ss ∷ long_staying cascades rs
+long_staying cascades (Gone y ss ∷ rs) = Gone y ss ∷ long_staying cascades rs
+
+-- ---- trails
+
+abbrev pub begun : List Pact → (ℕ → Trail) → ℕ → Trail
+begun [] f = f
+begun (p ∷ ps) f = with_at p.tid (record { tx = p.tx; steps = [] }) (begun ps f)
+
+abbrev pub owned_by : ℕ → List Pact → (ℕ → Who) → ℕ → Who
+owned_by k [] f = f
+owned_by k (p ∷ ps) f = with_at p.tid (OfBatch k) (owned_by k ps f)
+
+abbrev pub gone_on : Step → Trail → Trail
+gone_on x r = record r { steps = r.steps ++ x ∷ [] }
+
+-- ---- views
+
+abbrev pub last_left : ℕ → State → List Slice → State
+last_left t s [] = s
+last_left t s (x ∷ xs) = last_left t (if x.tid == t then x.left else s) xs
+
+abbrev pub view_in : ℕ → List Slice → Option View
+view_in t [] = None
+view_in t (x ∷ xs) = if x.tid == t then Some (record { found = x.found; left = last_left t x.left xs }) else view_in t xs
+
+-- the slices of who stands there
+abbrev pub slices_of : Who → List Ran → List Slice
+slices_of who [] = []
+slices_of who (Stands y c ss ∷ rs) = if is_who y who then ss else slices_of who rs
+slices_of who (Gone y ss ∷ rs) = slices_of who rs
 
 -- ---- sets
 
@@ -117,7 +185,8 @@ batch_in (OfAct t) = []
 -- the batches that were placed on the actor and not rolled back there
 abbrev pub batches_in : List Ran → List ℕ
 batches_in [] = []
-batches_in (r ∷ rs) = batch_in r.who ++ batches_in rs
+batches_in (Stands y c ss ∷ rs) = batch_in y ++ batches_in rs
+batches_in (Gone y ss ∷ rs) = batch_in y ++ batches_in rs
 
 abbrev pub sets_of : (ℕ → List ℕ) → List Lock → List ℕ
 sets_of before xs = flat_map (λ x. before x.tid) xs
@@ -126,7 +195,7 @@ sets_of before xs = flat_map (λ x. before x.tid) xs
 -- rivals in the tail group that are not doomed
 abbrev pub asked_set : {C : Type 0} → ℕ → ℕ → Machine C → History → List ℕ
 asked_set t a s h =
-    batches_in (h.long a) ++ (sets_of h.before (filter (rivals (record { tid = t })) (h.left_sealed a))
+    batches_in (h.long a) ++ (sets_of h.before (filter (rivals (lock_of t)) (h.left_sealed a))
     ++ sets_of h.before (filter (λ x. not (is_doomed_act s.book.acts x)) (met t (cell_at s a))))
 
 abbrev pub gained : List Pair → ℕ → (ℕ → List ℕ) → List ℕ
@@ -158,7 +227,7 @@ behind_too k tids f t = if is_among t tids then f t ++ k ∷ [] else f t
 -- ---- places
 
 abbrev pub done_pact : ℕ → History → Pact → Done
-done_pact k h p = record { who = OfBatch k; tid = p.tid; tx = p.tx; place = pact_place k p.tid; result = p.result; visits = h.visits p.tid }
+done_pact k h p = record { who = OfBatch k; tid = p.tid; tx = p.tx; place = pact_place k p.tid; result = p.result; views = λ a. view_in p.tid (slices_of (OfBatch k) (h.long a)) }
 
 abbrev pub done_batch : ℕ → History → Option Batch → List Done
 done_batch k h None = []
@@ -166,25 +235,23 @@ done_batch k h (Some b) = map (done_pact k h) b.pacts
 
 abbrev pub done_act : ℕ → History → Option Act → List Done
 done_act c h None = []
-done_act c h (Some x) = record { who = OfAct x.tid; tid = x.tid; tx = x.tx; place = act_place x.m c; result = x.result; visits = h.visits x.tid } ∷ []
+done_act c h (Some x) = record { who = OfAct x.tid; tid = x.tid; tx = x.tx; place = act_place x.m c; result = x.result; views = λ a. view_in x.tid (slices_of (OfAct x.tid) (h.long a)) } ∷ []
+
+abbrev pub kept_act : Option Act → List Who
+kept_act None = []
+kept_act (Some x) = if is_value x.result then OfAct x.tid ∷ [] else []
 
 -- ---- ACTs that leave
 
-abbrev pub leaves_nothing : Option Act → Bool
-leaves_nothing None = false
-leaves_nothing (Some x) = is_doomed x.status || is_failure x.result
-
 abbrev pub seals : ℕ → Option Act → List Lock
 seals t None = []
-seals t (Some x) = if is_sealed x.status then record { tid = t } ∷ [] else []
-
-abbrev pub without_act : ℕ → List Ran → List Ran
-without_act t rs = filter (λ r. not (is_who (OfAct t) r.who)) rs
+seals t (Some x) = if is_sealed x.status then lock_of t ∷ [] else []
 
 -- ---- the table: s is the state before the event
 
 unfoldable pub grown : {C : Type 0} → Fixed C → Event → Machine C → History → History
-grown w (Admit t) s h = record h { before = with_at t (base w ∷ []) h.before; behind = with_at t [] h.behind }
+grown w (Form k) s h = record h { trails = begun (next_pacts w.text s.ring) h.trails; owners = owned_by k (next_pacts w.text s.ring) h.owners }
+grown w (Admit t) s h = record h { trails = with_at t (record { tx = next_act s.ring; steps = [] }) h.trails; owners = with_at t (OfAct t) h.owners; before = with_at t (base w.text ∷ []) h.before; behind = with_at t [] h.behind }
 grown w (Arrive k a) s h = record h {
   placed = with_placed a (OfBatch k ∷ []) h;
   long = with_long a (OfBatch k ∷ []) h;
@@ -198,21 +265,23 @@ grown w (Ask t a) s h = record h {
   gains = carrying (after w (Ask t a) s).book.acts (gains_after_ask (is_none (in_the_way t (cell_at s a))) t a s h);
 }
 grown w (Run t a) s h = record h {
-  long = with_at a (map (ran_in (who_on t (cell_at s a).entries) t) (h.long a)) h.long;
-  visits = with_at t (visited a (cell_at s a).state (cell_at (after w (Run t a) s) a).state (h.visits t)) h.visits;
+  long = with_at a (map (ran_in (who_on t (cell_at s a).entries) (record { tid = t; found = (cell_at s a).state; left = (slice_run w.code t a (cell_at s a)).state })) (h.long a)) h.long;
+  trails = with_at t (gone_on (record { actor = a; found = (cell_at s a).state; left = (slice_run w.code t a (cell_at s a)).state }) (h.trails t)) h.trails;
 }
-grown w (Commit k) s h = record h { committed = h.committed ++ done_batch k h (batch_of k s.desk.batches) }
+grown w (Complete k a) s h = record h { long = with_at a (map (completed k) (h.long a)) h.long }
+grown w (Commit k) s h = record h { committed = h.committed ++ done_batch k h (batch_of k s.desk.batches); kept = h.kept ++ OfBatch k ∷ [] }
 grown w (Abort k) s h = record h {
   behind = λ t. filter (λ j. nat_lt j k || not (nat_lt j s.ring.next_bid)) (h.behind t);
   gains = carrying (after w (Abort k) s).book.acts h.gains;
 }
-grown w (Rollback a) s h = record h { long = with_at a (filter (λ r. not (is_entry_among r.who (going false s.book.cascades (cell_at s a).entries))) (h.long a)) h.long }
-grown w (Decide t) s h = record h { committed = h.committed ++ done_act s.book.next_c h (act_of t s.book.acts) }
+grown w (Rollback a) s h = record h { long = with_at a (long_staying s.book.cascades (h.long a)) h.long }
+grown w (Decide t) s h = record h { committed = h.committed ++ done_act s.book.next_c h (act_of t s.book.acts); kept = h.kept ++ kept_act (act_of t s.book.acts) }
 grown w (Finish t a) s h = record h {
-  long = with_at a (if leaves_nothing (act_of t s.book.acts) then without_act t (h.long a) else h.long a) h.long;
+  long = with_at a (if is_undone_act (act_of t s.book.acts) then without_standing (OfAct t) (h.long a) else map (left_for_good (OfAct t)) (h.long a)) h.long;
   gains = filter (λ p. not ((p.ahead == t) && (p.actor == a))) h.gains;
   left_sealed = with_at a (h.left_sealed a ++ seals t (act_of t s.book.acts)) h.left_sealed;
 }
+grown w (Trim k a) s h = record h { long = with_at a (map (left_for_good (OfBatch k)) (h.long a)) h.long }
 grown w _ s h = h
 
 -- the history of some events, beside the states between them

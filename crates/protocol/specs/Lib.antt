@@ -1,12 +1,11 @@
 pub mod Candidates
+pub mod CellParts
 pub mod Chains
 pub mod Conditions
 pub mod Contents
 pub mod Effects
 pub mod Epochs
 pub mod Events
-pub mod ExampleCode
-pub mod Examples
 pub mod Facts
 pub mod Fixed
 pub mod Footprints
@@ -22,7 +21,9 @@ pub mod OnRing
 pub mod Parts
 pub mod Records
 pub mod Report
+pub mod Rests
 pub mod Rivals
+pub mod Rows
 pub mod Runs
 pub mod Schedule
 pub mod Settling

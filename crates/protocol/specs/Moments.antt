@@ -28,7 +28,7 @@ pub record Moment {C : Type 0} (w : Fixed C) (es : List Event) : Type 0 where
   pub later : List Event
   pub splits : es ≡ events ++ later
   pub has_begun : ℕ → Bool
-  pub begun : (l : ℕ) → has_begun l ≡ true → IsUnderWay w.logs l later
+  pub begun : (l : ℕ) → has_begun l ≡ true → IsUnderWay w.text.logs l later
 
 -- How many records of each log are left: those that are synced and some, or all, or none of the others.
 pub record IsCut {C : Type 0} (s : Machine C) (kept : ℕ → ℕ) : Type 0 where

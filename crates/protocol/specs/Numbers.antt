@@ -33,7 +33,7 @@ once_in low high n = one_if (nat_le low n && nat_lt n high)
 -- ---- the numbers that a run draws, in order
 
 abbrev pub tids_by : {C : Type 0} → Fixed C → Event → Machine C → List ℕ
-tids_by w (Form k) s = map (λ p. p.tid) (next_pacts w s.ring)
+tids_by w (Form k) s = map (λ p. p.tid) (next_pacts w.text s.ring)
 tids_by w (Admit t) s = t ∷ []
 tids_by w _ s = []
 
@@ -76,9 +76,9 @@ controls_in s = tids_in s.post.controls (map (λ c. c.inbox) s.cells) (map (λ c
 -- The batches have the numbers from the opening's on, in order, and each tid from the opening's on that was drawn
 -- is one batch's or one ACT's.
 pub record NumbersDrawnOnce {C : Type 0} (w : Fixed C) (s : Machine C) : Type 0 where
-  pub bids : map (λ b. b.bid) s.desk.batches ≡ from w.opening.next_bid (length s.desk.batches)
-  pub next_bid : s.ring.next_bid ≡ w.opening.next_bid + length s.desk.batches
-  pub tids : (t : ℕ) → times t (tids_of s) ≡ once_in w.opening.next_tid s.ring.next_tid t
+  pub bids : map (λ b. b.bid) s.desk.batches ≡ from w.text.opening.next_bid (length s.desk.batches)
+  pub next_bid : s.ring.next_bid ≡ w.text.opening.next_bid + length s.desk.batches
+  pub tids : (t : ℕ) → times t (tids_of s) ≡ once_in w.text.opening.next_tid s.ring.next_tid t
 
 -- Each submitted transaction is in one place, and no other is in any.
 abbrev pub TransactionsInOnePlace : {C : Type 0} → Fixed C → Machine C → Type 0

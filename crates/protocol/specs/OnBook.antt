@@ -1,14 +1,13 @@
 -- What the events do to the book.
-use Rattle.std.specs.Prelude.{ℕ, ◌+◌, ◌-◌, ◌==◌, nat_le, max, Bool, true, false, not, ◌&&◌, if◌then◌else◌, Option, Some, None, List, [], ◌∷◌, ◌++◌, map, filter}
+use Rattle.std.specs.Prelude.{ℕ, ◌+◌, ◌==◌, nat_le, max, Bool, true, false, not, ◌&&◌, if◌then◌else◌, Option, Some, None, List, [], ◌∷◌, ◌++◌, map, filter}
 use Rattle.snap_base.specs.declared.transactions.TxResult.{TxResult}
-use Rattle.protocol.specs.Fixed.{Fixed, base, Next, Go, Ended}
-use Rattle.protocol.specs.Rivals.{Lock}
-use Rattle.protocol.specs.Parts.{Ring, Book, Joined, Status, Live, Doomed, Decided, Sealed, Act, Pair, Outcome, Cell, Batch, Desk, Entry}
-use Rattle.protocol.specs.Words.{is_doomed, is_live_status, is_value, is_among, act_of, holds, least_of, acts_on, has_act, rivals_in_tail, least_older, outcome_of, batch_of, first_failed, Failure}
+use Rattle.protocol.specs.Fixed.{Next, Go, Ended}
+use Rattle.protocol.specs.Rivals.{Lock, lock_of}
+use Rattle.protocol.specs.Parts.{Book, Joined, Status, Live, Doomed, Decided, Sealed, Act, Pair, Outcome, Cell, Batch, Desk, Entry}
+use Rattle.protocol.specs.Words.{is_doomed, is_live_status, is_value, is_among, act_of, holds, least_of, acts_on, rivals_in_tail, least_older, batch_of, first_failed, Failure}
 use Rattle.snap_base.specs.declared.verdicts.Verdict.{Verdict}
 use Rattle.protocol.specs.Verdicts.{died, taken_along}
 use Rattle.protocol.specs.Spread.{raised, doomed_by_order}
-use Rattle.protocol.specs.OnPost.{next_act}
 
 -- ---- one ACT among all
 
@@ -30,15 +29,16 @@ marked a f x = record x { places = map (λ p. mark_if (p.actor == a) f p) x.plac
 
 -- it is given up; the first doom stays
 abbrev pub doomed_by : Verdict → Act → Act
-doomed_by v x = record x { status = if is_doomed x.status then x.status else Doomed v }
+doomed_by v x = record x { status = if is_live_status x.status then Doomed v else x.status }
 
 -- ---- admission
 
 abbrev pub new_act : ℕ → ℕ → ℕ → Act
 new_act t n m = record { tid = t; tx = n; m = m; n = None; places = []; result = None; status = Live }
 
-abbrev pub act_admitted : {C : Type 0} → Fixed C → ℕ → Ring → Book → Book
-act_admitted w t r b = record b { acts = b.acts ++ new_act t (next_act r) (base w) ∷ [] }
+-- transaction n begins as ACT t, with this before number
+abbrev pub act_admitted : ℕ → ℕ → ℕ → Book → Book
+act_admitted t n m b = record b { acts = b.acts ++ new_act t n m ∷ [] }
 
 -- ---- a batch arrives behind ACTs
 
@@ -49,8 +49,9 @@ lowered k tids x = record x { n = if is_among x.tid tids then Some (least_of k x
 abbrev pub tids_on : List Entry → List ℕ
 tids_on entries = map (λ x. x.tid) (acts_on entries)
 
-abbrev pub batch_arrived : {C : Type 0} → ℕ → ℕ → Cell C → Book → Book
-batch_arrived k a c b = record b { acts = doomed_by_order a (map (lowered k (tids_on c.entries)) b.acts) }
+-- these ACTs are on actor a
+abbrev pub batch_arrived : ℕ → ℕ → List ℕ → Book → Book
+batch_arrived k a tids b = record b { acts = doomed_by_order a (map (lowered k tids) b.acts) }
 
 -- ---- an ACT asks for an actor
 
@@ -65,10 +66,11 @@ is_doomed_act acts x = holds (λ y. is_doomed y.status) (act_of x.tid acts)
 abbrev pub new_pairs : ℕ → ℕ → List Lock → List Act → List Pair
 new_pairs t a group acts = map (λ x. record { behind = t; ahead = x.tid; actor = a }) (filter (λ x. not (is_doomed_act acts x)) group)
 
--- the older one in its way, where there is one; the locks that it can't stand beside
-abbrev pub asked_acts : {C : Type 0} → Option ℕ → List Lock → ℕ → ℕ → Cell C → Book → List Act
-asked_acts (Some older) group t a c b = changed_act t (doomed_by (died a older t)) b.acts
-asked_acts None group t a c b = doomed_by_order a (raised (b.pairs ++ new_pairs t a group b.acts) (changed_act t (joins a (max c.last c.floor)) b.acts))
+-- The older one in its way, where there is one; the locks that it can't stand beside; and the least before number
+-- that the actor lets it have.
+abbrev pub asked_acts : Option ℕ → List Lock → ℕ → ℕ → ℕ → Book → List Act
+asked_acts (Some older) group t a m b = changed_act t (doomed_by (died a older t)) b.acts
+asked_acts None group t a m b = doomed_by_order a (raised (b.pairs ++ new_pairs t a group b.acts) (changed_act t (joins a m) b.acts))
 
 abbrev pub asked_pairs : Option ℕ → List Lock → ℕ → ℕ → Book → List Pair
 asked_pairs (Some older) group t a b = b.pairs
@@ -76,14 +78,14 @@ asked_pairs None group t a b = b.pairs ++ new_pairs t a group b.acts
 
 -- the rivals of the tail group, as the ACT meets them
 abbrev pub met : {C : Type 0} → ℕ → Cell C → List Lock
-met t c = rivals_in_tail (record { tid = t }) c.entries
+met t c = rivals_in_tail (lock_of t) c.entries
 
 -- the oldest of them that is older than the ACT
 abbrev pub in_the_way : {C : Type 0} → ℕ → Cell C → Option ℕ
 in_the_way t c = least_older t (met t c)
 
-abbrev pub act_asked : {C : Type 0} → ℕ → ℕ → Cell C → Book → Book
-act_asked t a c b = record b { acts = asked_acts (in_the_way t c) (met t c) t a c b; pairs = asked_pairs (in_the_way t c) (met t c) t a b }
+abbrev pub act_asked : Option ℕ → List Lock → ℕ → ℕ → ℕ → Book → Book
+act_asked older group t a m b = record b { acts = asked_acts older group t a m b; pairs = asked_pairs older group t a b }
 
 -- ---- it ends, is voted on, decided and sealed
 
@@ -99,8 +101,8 @@ noted_from t None acts = acts
 noted_from t (Some x) acts = noted_for t x.next acts
 
 -- the result of an ACT, which has an entry of its own on the actor
-abbrev pub act_ended : {C : Type 0} → ℕ → Cell C → Book → Book
-act_ended t c b = record b { acts = if has_act t c.entries then noted_from t (outcome_of t c.outbox) b.acts else b.acts }
+abbrev pub act_ended : {C : Type 0} → ℕ → Bool → Option (Outcome C) → Book → Book
+act_ended t is_act x b = record b { acts = if is_act then noted_from t x b.acts else b.acts }
 
 abbrev pub is_prepared : Joined → Joined
 is_prepared p = record p { prepared = true }
@@ -171,8 +173,9 @@ why k d = failure_of (batch_of k d.batches)
 abbrev pub cascaded : ℕ → ℕ → Act → Act
 cascaded k by x = record x { n = None; status = if is_live_status x.status && nat_le k x.m then Doomed (taken_along k by) else x.status }
 
-abbrev pub batch_aborted : ℕ → Ring → Desk → Book → Book
-batch_aborted k r d b = record b {
-  cascades = b.cascades ++ record { first = k; upto = r.next_bid - 1; by = failed_tx (why k d); at = b.next_c; code = failed_code (why k d) } ∷ [];
-  acts = map (cascaded k (failed_tx (why k d))) b.acts;
+-- the batches from k to this one are aborted, since a PACT failed
+abbrev pub batch_aborted : ℕ → ℕ → Option Failure → Book → Book
+batch_aborted k upto why b = record b {
+  cascades = b.cascades ++ record { first = k; upto = upto; by = failed_tx why; at = b.next_c; code = failed_code why } ∷ [];
+  acts = map (cascaded k (failed_tx why)) b.acts;
 }

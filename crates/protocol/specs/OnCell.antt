@@ -1,22 +1,22 @@
 -- What the events do to a cell.
-use Rattle.std.specs.Prelude.{ℕ, ◌==◌, max, Bool, true, false, not, ◌||◌, if◌then◌else◌, Option, Some, None, is_some, List, [], ◌∷◌, ◌++◌, map, filter, find}
+use Rattle.std.specs.Prelude.{ℕ, ◌==◌, max, Bool, true, false, not, ◌||◌, if◌then◌else◌, Option, Some, None, is_some, List, [], ◌∷◌, ◌++◌, length, map, filter, find}
 use Rattle.std.specs.List.{list_any}
 use Rattle.snap_base.specs.declared.transactions.State.{State}
 use Rattle.protocol.specs.Fixed.{Next, Go, Ended, Sliced, Code}
-use Rattle.protocol.specs.Parts.{Act, Book, Cascade, Who, OfBatch, SubMessage, ControlMessage, Slot, Entry, BatchEntry, ActEntry, Image, Waiting, Outcome, Cell}
-use Rattle.protocol.specs.Words.{is_aborted, is_doomed, is_sealed, is_failure, act_of, is_batch_entry, is_act_entry, is_entry_of, who_of, who_on, is_who, waiting_of, without_waiting, without_outcome, image_of, batches_on, greatest}
-use Rattle.protocol.specs.Conditions.{epoch}
+use Rattle.protocol.specs.Rivals.{lock_of}
+use Rattle.protocol.specs.Parts.{Act, Cascade, Who, OfBatch, OfAct, SubBatch, ControlMessage, Slot, Entry, BatchEntry, ActEntry, Image, Waiting, Outcome, Cell}
+use Rattle.protocol.specs.Words.{is_aborted, is_doomed, is_sealed, is_failure, is_batch_entry, is_act_entry, is_entry_of, who_of, who_on, is_who, waiting_of, without_waiting, without_outcome, image_of, batches_on, greatest}
 
 -- ---- what is placed at the end of the schedule
 
 abbrev pub not_done : ℕ → Slot
 not_done t = record { tid = t; done = false }
 
-abbrev pub batch_entries : ℕ → Option SubMessage → List Entry
+abbrev pub batch_entries : ℕ → Option SubBatch → List Entry
 batch_entries k None = []
 batch_entries k (Some m) = BatchEntry (record { bid = k; slots = map not_done m.tids; complete = false }) ∷ []
 
-abbrev pub batch_placed : {C : Type 0} → ℕ → Option SubMessage → Cell C → Cell C
+abbrev pub batch_placed : {C : Type 0} → ℕ → Option SubBatch → Cell C → Cell C
 batch_placed k m c = record c { entries = c.entries ++ batch_entries k m; tail = k; last = k }
 
 abbrev pub arrived : {C : Type 0} → Option (ControlMessage C) → List (Waiting C)
@@ -24,7 +24,7 @@ arrived None = []
 arrived (Some m) = record { tid = m.tid; control = m.control } ∷ []
 
 abbrev pub act_entries : ℕ → Option ℕ → List Entry
-act_entries t None = ActEntry (record { tid = t }) ∷ []
+act_entries t None = ActEntry (lock_of t) ∷ []
 act_entries t (Some older) = []
 
 abbrev pub where_placed : {C : Type 0} → Option ℕ → Option (ControlMessage C) → List (Waiting C)
@@ -113,8 +113,8 @@ state_from s None = s
 state_from s (Some i) = i.state
 
 -- The state as it was before the first of these entries ran. Images are kept in the order of first runs.
-abbrev pub state_before : {C : Type 0} → List Entry → Cell C → State
-state_before gone c = state_from c.state (find (λ i. is_entry_among i.who gone) c.images)
+abbrev pub state_before : List Entry → State → List Image → State
+state_before gone s images = state_from s (find (λ i. is_entry_among i.who gone) images)
 
 abbrev pub images_without : List Entry → List Image → List Image
 images_without gone images = filter (λ i. not (is_entry_among i.who gone)) images
@@ -125,30 +125,33 @@ inbox_without gone inbox = filter (λ x. not (is_tid_among x.tid gone)) inbox
 abbrev pub outbox_without : {C : Type 0} → List Entry → List (Outcome C) → List (Outcome C)
 outbox_without gone outbox = filter (λ x. not (is_tid_among x.tid gone)) outbox
 
--- ---- rollback: the aborted batches go, and the ACTs behind the first of them
+-- ---- rollback: the schedule is cut at the first aborted batch
 
--- what stays of a schedule; the flag tells whether an aborted batch was passed
-abbrev pub staying : Bool → List Cascade → List Entry → List Entry
-staying passed cascades [] = []
-staying passed cascades (BatchEntry b ∷ es) = if is_aborted b.bid cascades then staying true cascades es else BatchEntry b ∷ staying passed cascades es
-staying passed cascades (ActEntry x ∷ es) = if passed then staying passed cascades es else ActEntry x ∷ staying passed cascades es
+-- it is an aborted batch
+abbrev pub is_cut : List Cascade → Who → Bool
+is_cut cascades (OfBatch k) = is_aborted k cascades
+is_cut cascades (OfAct t) = false
+
+-- what stays of a schedule
+abbrev pub staying : List Cascade → List Entry → List Entry
+staying cascades [] = []
+staying cascades (e ∷ es) = if is_cut cascades (who_of e) then [] else e ∷ staying cascades es
 
 -- what goes
-abbrev pub going : Bool → List Cascade → List Entry → List Entry
-going passed cascades [] = []
-going passed cascades (BatchEntry b ∷ es) = if is_aborted b.bid cascades then BatchEntry b ∷ going true cascades es else going passed cascades es
-going passed cascades (ActEntry x ∷ es) = if passed then ActEntry x ∷ going passed cascades es else going passed cascades es
+abbrev pub going : List Cascade → List Entry → List Entry
+going cascades [] = []
+going cascades (e ∷ es) = if is_cut cascades (who_of e) then e ∷ es else going cascades es
 
-abbrev pub rolled_back : {C : Type 0} → Book → Cell C → Cell C
-rolled_back b c = record c {
-  state = state_before (going false b.cascades c.entries) c;
-  images = images_without (going false b.cascades c.entries) c.images;
-  epoch = epoch b;
-  last = max c.last_trimmed (greatest (batches_on (staying false b.cascades c.entries)));
+abbrev pub rolled_back : {C : Type 0} → List Cascade → Cell C → Cell C
+rolled_back cascades c = record c {
+  state = state_before (going cascades c.entries) c.state c.images;
+  images = images_without (going cascades c.entries) c.images;
+  epoch = length cascades;
+  last = max c.last_trimmed (greatest (batches_on (staying cascades c.entries)));
   tail = 0;
-  entries = staying false b.cascades c.entries;
-  inbox = inbox_without (going false b.cascades c.entries) c.inbox;
-  outbox = outbox_without (going false b.cascades c.entries) c.outbox;
+  entries = staying cascades c.entries;
+  inbox = inbox_without (going cascades c.entries) c.inbox;
+  outbox = outbox_without (going cascades c.entries) c.outbox;
 }
 
 -- ---- an ACT leaves
@@ -166,11 +169,12 @@ floor_after floor (Some x) = if is_sealed x.status then max floor x.m else floor
 abbrev pub own_entries : ℕ → List Entry → List Entry
 own_entries t entries = filter (is_act_entry t) entries
 
-abbrev pub act_left : {C : Type 0} → ℕ → Book → Cell C → Cell C
-act_left t b c = record c {
-  state = if is_undone_act (act_of t b.acts) then state_before (own_entries t c.entries) c else c.state;
-  images = images_without (own_entries t c.entries) c.images;
-  floor = floor_after c.floor (act_of t b.acts);
+-- what the book knows of ACT t
+abbrev pub act_left : {C : Type 0} → ℕ → Option Act → Cell C → Cell C
+act_left t x c = record c {
+  state = if is_undone_act x then state_from c.state (image_of (OfAct t) c.images) else c.state;
+  images = filter (λ i. not (is_who (OfAct t) i.who)) c.images;
+  floor = floor_after c.floor x;
   entries = filter (λ e. not (is_act_entry t e)) c.entries;
   inbox = inbox_without (own_entries t c.entries) c.inbox;
   outbox = outbox_without (own_entries t c.entries) c.outbox;

@@ -1,10 +1,10 @@
 -- What the events do to the desk.
 use Rattle.std.specs.Prelude.{ℕ, ◌==◌, nat_le, Bool, true, false, ◌||◌, if◌then◌else◌, Option, Some, None, List, [], ◌∷◌, ◌++◌, map, slice_set}
 use Rattle.snap_base.specs.declared.transactions.TxResult.{TxResult}
-use Rattle.protocol.specs.Fixed.{Fixed, Next, Go, Ended}
-use Rattle.protocol.specs.Parts.{Ring, Declared, Pact, Stage, Formed, Committing, Settled, Batch, Desk, Outcome, Cell}
-use Rattle.protocol.specs.Words.{has_act, outcome_of}
-use Rattle.protocol.specs.OnRing.{next_pacts, next_actors}
+use Rattle.protocol.specs.Fixed.{Next, Go, Ended}
+use Rattle.protocol.specs.Parts as stages
+use Rattle.protocol.specs.Parts.{Declared, Pact, Stage, Committing, Settled, Batch, Desk, Outcome}
+use Rattle.protocol.specs.OnRing.{Formed}
 
 -- ---- one batch among all
 
@@ -33,10 +33,10 @@ abbrev pub new_declared : ℕ → Declared
 new_declared a = record { actor = a; noted = false; trimmed = false }
 
 abbrev pub new_batch : ℕ → List ℕ → List Pact → Batch
-new_batch k actors pacts = record { bid = k; places = map new_declared actors; pacts = pacts; stage = Formed; aborted = false }
+new_batch k actors pacts = record { bid = k; places = map new_declared actors; pacts = pacts; stage = stages.Formed; aborted = false }
 
-abbrev pub batch_formed : {C : Type 0} → Fixed C → ℕ → Ring → Desk → Desk
-batch_formed w k r d = record d { batches = d.batches ++ new_batch k (next_actors w r) (next_pacts w r) ∷ [] }
+abbrev pub batch_formed : Formed → Desk → Desk
+batch_formed f d = record d { batches = d.batches ++ new_batch f.bid f.actors f.pacts ∷ [] }
 
 abbrev pub is_noted : Declared → Declared
 is_noted p = record p { noted = true }
@@ -81,8 +81,8 @@ noted_from t None batches = batches
 noted_from t (Some x) batches = noted_for t x.next batches
 
 -- the result of a PACT, which has no entry of its own on the actor
-abbrev pub pact_ended : {C : Type 0} → ℕ → Cell C → Desk → Desk
-pact_ended t c d = record d { batches = if has_act t c.entries then d.batches else noted_from t (outcome_of t c.outbox) d.batches }
+abbrev pub pact_ended : {C : Type 0} → ℕ → Bool → Option (Outcome C) → Desk → Desk
+pact_ended t is_act x d = record d { batches = if is_act then d.batches else noted_from t x d.batches }
 
 -- ---- replies
 

@@ -85,7 +85,7 @@ pub data Who : Type 0 where
   OfAct : (tid : ℕ) → Who
 
 -- what an actor is told of a batch
-pub record SubMessage : Type 0 where
+pub record SubBatch : Type 0 where
   pub bid : ℕ
   pub actor : ℕ
   pub epoch : ℕ
@@ -102,7 +102,7 @@ pub record ControlMessage (C : Type 0) : Type 0 where
   pub control : C
 
 pub record Post (C : Type 0) : Type 0 where
-  pub subs : List SubMessage
+  pub subs : List SubBatch
   pub controls : List (ControlMessage C)
 
 -- ---- Desk: the batches
@@ -153,14 +153,14 @@ pub record Slot : Type 0 where
   pub done : Bool
 
 -- a batch on one actor
-pub record SubBatch : Type 0 where
+pub record PlacedBatch : Type 0 where
   pub bid : ℕ
   -- ascending by tid
   pub slots : List Slot
   pub complete : Bool
 
 pub data Entry : Type 0 where
-  BatchEntry : SubBatch → Entry
+  BatchEntry : PlacedBatch → Entry
   ActEntry : Lock → Entry
 
 -- the actor's state when somebody first ran there

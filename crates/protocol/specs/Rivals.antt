@@ -6,6 +6,10 @@ use Rattle.std.specs.Prelude.{ℕ, Bool, true}
 pub record Lock : Type 0 where
   pub tid : ℕ
 
+-- the lock of the ACT with this tid
+abbrev pub lock_of : ℕ → Lock
+lock_of t = record { tid = t }
+
 -- Two ACTs can't have the actor together. So it is of every two.
 abbrev pub rivals : Lock → Lock → Bool
 rivals x y = true

@@ -17,19 +17,19 @@ abbrev pub opening_ring : {C : Type 0} → Fixed C → Ring
 opening_ring w = record {
   holder = 0;
   next_tx = 0;
-  next_tid = w.opening.next_tid;
-  next_bid = w.opening.next_bid;
+  next_tid = w.text.opening.next_tid;
+  next_bid = w.text.opening.next_bid;
   epoch = 0;
-  lasts = replicate (length w.opening.states) 0;
-  pacts = replicate w.coordinators [];
-  acts = replicate w.coordinators [];
+  lasts = replicate (length w.text.opening.states) 0;
+  pacts = replicate w.text.coordinators [];
+  acts = replicate w.text.coordinators [];
 }
 
 abbrev pub opening_book : {C : Type 0} → Fixed C → Book
-opening_book w = record { next_c = w.opening.next_c; cascades = []; acts = []; pairs = [] }
+opening_book w = record { next_c = w.text.opening.next_c; cascades = []; acts = []; pairs = [] }
 
 abbrev pub opening_desk : {C : Type 0} → Fixed C → Desk
-opening_desk w = record { batches = []; settled = base w; replied = replicate (length w.txs) false }
+opening_desk w = record { batches = []; settled = base w.text; replied = replicate (length w.text.txs) false }
 
 abbrev pub opening : {C : Type 0} → Fixed C → Machine C
 opening w = record {
@@ -37,8 +37,8 @@ opening w = record {
   book = opening_book w;
   post = record { subs = []; controls = [] };
   desk = opening_desk w;
-  logs = replicate w.logs no_log;
-  cells = map (new_cell (base w)) w.opening.states;
+  logs = replicate w.text.logs no_log;
+  cells = map (new_cell (base w.text)) w.text.opening.states;
 }
 
 -- ---- runs

@@ -19,9 +19,9 @@ pub record BatchesSettleInOrder {C : Type 0} (w : Fixed C) (s : Machine C) : Typ
   pub marked : AllByRecursion (λ b. b.aborted ≡ is_aborted b.bid s.book.cascades) s.desk.batches
   pub aborted_is_formed : AllByRecursion (λ b. b.aborted ≡ true → is_formed b.stage ≡ true) s.desk.batches
   -- the greatest settled number, or base
-  pub settled_is : s.desk.settled ≡ max (base w) (greatest (map (λ b. b.bid) (filter (λ b. is_settled b.stage) s.desk.batches)))
+  pub settled_is : s.desk.settled ≡ max (base w.text) (greatest (map (λ b. b.bid) (filter (λ b. is_settled b.stage) s.desk.batches)))
   -- all is over up to the last settled one, below one that commits, and below a cascade
   pub below_settled : AllOverBelow (s.desk.settled + 1) s.desk.batches
   pub below_committing : AllByRecursion (λ b. is_committing b.stage ≡ true → AllOverBelow b.bid s.desk.batches) s.desk.batches
   pub below_cascades : AllByRecursion (λ c. AllOverBelow c.first s.desk.batches) s.book.cascades
-  pub cascades_ascend : CascadesAscend w.opening.next_bid s.book.cascades
+  pub cascades_ascend : CascadesAscend w.text.opening.next_bid s.book.cascades

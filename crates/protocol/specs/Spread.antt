@@ -2,7 +2,7 @@
 use Rattle.std.specs.Prelude.{ℕ, ◌==◌, nat_le, max, Bool, false, not, ◌&&◌, if◌then◌else◌, Option, Some, None, unwrap_or, List, [], ◌∷◌, map, filter}
 use Rattle.std.specs.List.{list_any}
 use Rattle.protocol.specs.Parts.{Act, Doomed, Pair}
-use Rattle.protocol.specs.Words.{greatest, is_doomed, is_live_act}
+use Rattle.protocol.specs.Words.{greatest, is_doomed, is_live_status, is_ordered}
 use Rattle.protocol.specs.Verdicts.{out_of_order}
 
 -- ---- rise: who stands behind an ACT that is not doomed has a before number at least as great
@@ -12,7 +12,7 @@ stands_behind pairs t u = list_any (λ p. (p.behind == t) && (p.ahead == u)) pai
 
 -- the ACT carries its number to the one that stands behind it
 abbrev pub carries_to : List Pair → Act → Act → Bool
-carries_to pairs x u = not (is_doomed u.status) && stands_behind pairs x.tid u.tid
+carries_to pairs x u = not (is_ordered x.status) && (not (is_doomed u.status) && stands_behind pairs x.tid u.tid)
 
 abbrev pub carried : List Pair → Act → List Act → ℕ
 carried pairs x others = greatest (map (λ u. u.m) (filter (carries_to pairs x) others))
@@ -34,7 +34,7 @@ reaches m (Some n) = nat_le n m
 
 -- it has not left all its actors, is not doomed, and its numbers cross
 abbrev pub is_crossed : Act → Bool
-is_crossed x = is_live_act x && (not (is_doomed x.status) && reaches x.m x.n)
+is_crossed x = is_live_status x.status && reaches x.m x.n
 
 abbrev pub crossed_out : ℕ → Act → Act
 crossed_out a x = record x { status = if is_crossed x then Doomed (out_of_order x.m (unwrap_or x.n 0) a) else x.status }

@@ -1,12 +1,12 @@
 -- Words computed from a state. Each looks at some contents of some parts, and at nothing else.
 use Rattle.std.specs.Prelude.{ℕ, zero, suc, ◌==◌, nat_lt, nat_le, min, max, Bool, true, false, not, ◌&&◌, ◌||◌, if◌then◌else◌, Option, Some, None, List, [], ◌∷◌, ◌++◌, length, filter, find, take}
-use Rattle.std.specs.List.{list_any, list_all, take_while}
+use Rattle.std.specs.List.{list_any, list_all}
 use Rattle.snap_base.specs.declared.transactions.TxResult.{TxResult}
 use Rattle.snap_base.specs.declared.transactions.TxResult.TheVariants.{Value, Fail}
 use Rattle.protocol.specs.Fixed.{Next, Go, Ended}
 use Rattle.protocol.specs.Records.{LogRecord}
 use Rattle.protocol.specs.Rivals.{Lock, rivals}
-use Rattle.protocol.specs.Parts.{Joined, Status, Live, Doomed, Decided, Sealed, Act, Cascade, Who, OfBatch, OfAct, SubMessage, ControlMessage, Declared, Pact, Stage, Formed, Committing, Settled, Batch, Log, SubBatch, Entry, BatchEntry, ActEntry, Image, Waiting, Outcome}
+use Rattle.protocol.specs.Parts.{Joined, Status, Live, Doomed, Decided, Sealed, Act, Cascade, Who, OfBatch, OfAct, SubBatch, ControlMessage, Declared, Pact, Stage, Formed, Committing, Settled, Batch, Log, PlacedBatch, Entry, BatchEntry, ActEntry, Image, Waiting, Outcome}
 
 -- ---- lists
 
@@ -84,6 +84,10 @@ is_sealed (Doomed v) = false
 is_sealed (Decided c) = false
 is_sealed (Sealed c) = true
 
+-- it has its place in the serial order
+abbrev pub is_ordered : Status → Bool
+is_ordered st = is_decided st || is_sealed st
+
 abbrev pub act_of : ℕ → List Act → Option Act
 act_of t acts = find (λ x. x.tid == t) acts
 
@@ -102,7 +106,7 @@ is_vouched_everywhere x = list_all (λ p. p.vouched) x.places
 
 -- ---- messages
 
-abbrev pub sub_of : ℕ → ℕ → List SubMessage → Option SubMessage
+abbrev pub sub_of : ℕ → ℕ → List SubBatch → Option SubBatch
 sub_of k a subs = find (λ m. (m.bid == k) && (m.actor == a)) subs
 
 abbrev pub control_of : {C : Type 0} → ℕ → List (ControlMessage C) → Option (ControlMessage C)
@@ -111,7 +115,7 @@ control_of t controls = find (λ m. m.tid == t) controls
 abbrev pub has_control_to : {C : Type 0} → ℕ → ℕ → List (ControlMessage C) → Bool
 has_control_to t a controls = holds (λ m. m.to == a) (control_of t controls)
 
-abbrev pub without_sub : ℕ → ℕ → List SubMessage → List SubMessage
+abbrev pub without_sub : ℕ → ℕ → List SubBatch → List SubBatch
 without_sub k a subs = filter (λ m. not ((m.bid == k) && (m.actor == a))) subs
 
 abbrev pub without_control : {C : Type 0} → ℕ → List (ControlMessage C) → List (ControlMessage C)
@@ -192,7 +196,7 @@ abbrev pub is_act_entry : ℕ → Entry → Bool
 is_act_entry t (BatchEntry b) = false
 is_act_entry t (ActEntry x) = x.tid == t
 
-abbrev pub names_slot : ℕ → SubBatch → Bool
+abbrev pub names_slot : ℕ → PlacedBatch → Bool
 names_slot t b = list_any (λ s. s.tid == t) b.slots
 
 -- the entry that a transaction has on the actor: its own, or that of its batch
@@ -221,7 +225,8 @@ is_act_who (OfAct t) = true
 
 -- what stands ahead of the first entry that is meant
 abbrev pub ahead : (Entry → Bool) → List Entry → List Entry
-ahead meant entries = take_while (λ e. not (meant e)) entries
+ahead meant [] = []
+ahead meant (e ∷ es) = if meant e then [] else e ∷ ahead meant es
 
 abbrev pub is_complete_batch : Entry → Bool
 is_complete_batch (BatchEntry b) = b.complete

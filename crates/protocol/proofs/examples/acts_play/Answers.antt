@@ -1,5 +1,0 @@
-use Rattle.protocol.proofs.WorkedRuns.{acts_play}
-use Rattle.protocol.proofs.examples.acts_play.Goals as goal
-
-pub returns : goal.returns
-returns c = acts_play

@@ -1,5 +1,0 @@
-use Rattle.protocol.proofs.WorkedRuns.{batches_play}
-use Rattle.protocol.proofs.examples.batches_play.Goals as goal
-
-pub returns : goal.returns
-returns c = batches_play

@@ -1,5 +1,0 @@
-use Rattle.protocol.proofs.WorkedRuns.{cascades_play}
-use Rattle.protocol.proofs.examples.cascades_play.Goals as goal
-
-pub returns : goal.returns
-returns c = cascades_play

@@ -1,5 +1,0 @@
-use Rattle.protocol.proofs.ExampleFacts.{example_facts}
-use Rattle.protocol.proofs.examples.example_code_has_the_facts.Goals as goal
-
-pub returns : goal.returns
-returns c = example_facts

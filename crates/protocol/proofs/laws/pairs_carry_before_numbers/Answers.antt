@@ -1,5 +1,0 @@
-use Rattle.protocol.proofs.PairsFound.{pairs_stand}
-use Rattle.protocol.proofs.laws.pairs_carry_before_numbers.Goals as goal
-
-pub returns : goal.returns
-returns g c = pairs_stand

@@ -1,6 +1,0 @@
-use Rattle.protocol.specs.Runs.{opening}
-use Rattle.protocol.proofs.Drawn.{tids_consecutive}
-use Rattle.protocol.proofs.laws.tids_are_consecutive.Goals as goal
-
-pub returns : goal.returns
-returns g c = λ w es run. tids_consecutive w es (opening w) run

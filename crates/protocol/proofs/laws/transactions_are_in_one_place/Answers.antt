@@ -1,5 +1,0 @@
-use Rattle.protocol.proofs.OnePlace.{transactions_in_one_place}
-use Rattle.protocol.proofs.laws.transactions_are_in_one_place.Goals as goal
-
-pub returns : goal.returns
-returns g c = transactions_in_one_place

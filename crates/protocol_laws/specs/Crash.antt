@@ -1,0 +1,141 @@
+-- What logs that a crash left recover to, over the records of one run, and what every moment owes.
+use Rattle.std.specs.Prelude.{◌≡◌, ℕ, ℤ, ◌<◌, ◌%◌, ◌==◌, Bool, true, false, ◌&&◌, Some, List, [], ◌∷◌, ◌++◌, length, filter}
+use Rattle.std.specs.List.{AllByRecursion, list_any, flat_map}
+use Rattle.snap_base.specs.declared.transactions.State.{State}
+use Rattle.snap_base.specs.declared.transactions.TxResult.TheVariants.{Value}
+use Rattle.snap_base.specs.declared.verdicts.Place.{Place}
+use Rattle.snap_base.specs.declared.verdicts.Verdict.TheVariants as verdicts
+use Rattle.protocol.specs.Fixed.{Fixed, IsText}
+use Rattle.protocol.specs.Facts.{Alone, state_in}
+use Rattle.protocol.specs.Records.{LogRecord, BatchInfo, BatchComplete, BatchCommit, ActPrepare, ActCommit, is_complete, is_commit, is_prepare, is_act_commit}
+use Rattle.protocol.specs.Parts.{Who, OfBatch, OfAct, Machine}
+use Rattle.protocol.specs.Events.{Event}
+use Rattle.protocol.specs.Words.{is_value}
+use Rattle.protocol.specs.Verdicts.{verdict}
+use Rattle.protocol.specs.Runs.{IsRun, reached}
+use Rattle.protocol.specs.History.{Done, History, history}
+use Rattle.protocol.specs.Chains.{IsClosed, IsSerial, serial_run}
+use Rattle.protocol_laws.specs.Commits.{is_kept}
+use Rattle.protocol_laws.specs.Linked.{visitors}
+use Rattle.protocol_laws.specs.Order.{IsAmongDone}
+use Rattle.protocol.specs.Moments.{Moment, IsLeft, left_in}
+use Rattle.protocol.specs.Rests.{HasFacts}
+
+-- ---- recovery over what the logs hold; there are so many logs, and log l holds `logs l`
+
+-- its commit record is there
+abbrev pub is_in : ℕ → (ℕ → List LogRecord) → Who → Bool
+is_in many logs (OfBatch k) = list_any (is_commit k) (logs (k % many))
+is_in many logs (OfAct t) = list_any (is_act_commit t) (logs (t % many))
+
+-- a record that tells a state of the actor, of one that is in
+abbrev pub counts : ℕ → (ℕ → List LogRecord) → ℕ → LogRecord → Bool
+counts many logs a (BatchInfo bid actors tids) = false
+counts many logs a (BatchComplete bid actor state) = (actor == a) && is_in many logs (OfBatch bid)
+counts many logs a (BatchCommit bid) = false
+counts many logs a (ActPrepare tid actor state) = (actor == a) && is_in many logs (OfAct tid)
+counts many logs a (ActCommit tid m c actors) = false
+
+abbrev pub state_told : State → LogRecord → State
+state_told s (BatchInfo bid actors tids) = s
+state_told s (BatchComplete bid actor state) = state
+state_told s (BatchCommit bid) = s
+state_told s (ActPrepare tid actor state) = state
+state_told s (ActCommit tid m c actors) = s
+
+abbrev pub last_told : State → List LogRecord → State
+last_told s [] = s
+last_told s (r ∷ rs) = last_told (state_told s r) rs
+
+-- the state of an actor: that of the last record that counts, or the first one
+abbrev pub recovered_state : ℕ → (ℕ → List LogRecord) → ℕ → State → State
+recovered_state many logs a first = last_told first (filter (counts many logs a) (logs (a % many)))
+
+-- what commit records rest on is there
+pub record BatchIsWhole (many : ℕ) (logs : ℕ → List LogRecord) (k : ℕ) : Type 0 where
+  pub actors : List ℕ
+  pub tids : List ℕ
+  pub front : List LogRecord
+  pub rest : List LogRecord
+  pub info : logs (k % many) ≡ front ++ BatchInfo k actors tids ∷ rest
+  pub completes : AllByRecursion (λ a. list_any (is_complete k a) (logs (a % many)) ≡ true) actors
+
+pub record ActIsWhole (many : ℕ) (logs : ℕ → List LogRecord) (t : ℕ) : Type 0 where
+  pub m : ℕ
+  pub c : ℕ
+  pub actors : List ℕ
+  pub front : List LogRecord
+  pub rest : List LogRecord
+  pub commit : logs (t % many) ≡ front ++ ActCommit t m c actors ∷ rest
+  pub prepares : AllByRecursion (λ a. list_any (is_prepare t a) (logs (a % many)) ≡ true) actors
+
+-- the numbers that a record names
+abbrev pub bids_in : LogRecord → List ℕ
+bids_in (BatchInfo bid actors tids) = bid ∷ []
+bids_in (BatchComplete bid actor state) = bid ∷ []
+bids_in (BatchCommit bid) = bid ∷ []
+bids_in (ActPrepare tid actor state) = []
+bids_in (ActCommit tid m c actors) = m ∷ []
+
+abbrev pub tids_in : LogRecord → List ℕ
+tids_in (BatchInfo bid actors tids) = tids
+tids_in (BatchComplete bid actor state) = []
+tids_in (BatchCommit bid) = []
+tids_in (ActPrepare tid actor state) = tid ∷ []
+tids_in (ActCommit tid m c actors) = tid ∷ []
+
+abbrev pub cs_in : LogRecord → List ℕ
+cs_in (ActCommit tid m c actors) = c ∷ []
+cs_in _ = []
+
+-- no number of a kind in any log reaches this one
+abbrev pub IsAboveAll : (LogRecord → List ℕ) → (ℕ → List LogRecord) → ℕ → Type 0
+IsAboveAll numbers logs next = (l : ℕ) → AllByRecursion (λ n. n < next) (flat_map numbers (logs l))
+
+-- ---- what every moment owes
+
+-- the transactions that are recovered
+abbrev pub members : ℕ → (ℕ → List LogRecord) → History → List Done
+members many logs h = filter (λ d. is_in many logs d.who && is_value d.result) h.committed
+
+pub record HasMember (t : ℕ) (ds : List Done) : Type 0 where
+  pub done : Done
+  pub front : List Done
+  pub rest : List Done
+  pub splits : ds ≡ front ++ done ∷ rest
+  pub is_it : done.tid ≡ t
+
+-- what holds of the transactions that are recovered
+pub record CrashStands {C : Type 0} (w : Fixed C) (finish : C → List State → Alone) (es : List Event) (s : Machine C) (h : History) (logs : ℕ → List LogRecord) : Type 0 where
+  -- who is in had committed with a value by then
+  pub all_done : (who : Who) → is_in w.text.logs logs who ≡ true → is_kept who h.kept ≡ true
+  -- with each member all that the whole run places before it, and that committed with a value
+  pub closed : IsClosed (λ t. HasMember t (members w.text.logs logs h)) (history w es)
+  -- who was told that it committed is a member
+  pub acknowledged : (n : ℕ) (p : Place) (v : ℤ) → verdict n s.book s.desk ≡ Some (verdicts.Committed p v) → IsAmongDone n p (Value v) (members w.text.logs logs h)
+  -- one after the other in the order of places the members give their results
+  pub serial : IsSerial w finish (members w.text.logs logs h)
+
+pub record CrashHolds {C : Type 0} (w : Fixed C) (finish : C → List State → Alone) (es : List Event) (s : Machine C) (h : History) (logs : ℕ → List LogRecord) : Type 0 where
+  pub stands : CrashStands w finish es s h logs
+  -- recovery lacks nothing
+  pub whole_batches : (k : ℕ) → is_in w.text.logs logs (OfBatch k) ≡ true → BatchIsWhole w.text.logs logs k
+  pub whole_acts : (t : ℕ) → is_in w.text.logs logs (OfAct t) ≡ true → ActIsWhole w.text.logs logs t
+  -- the states are those that the members leave
+  pub states : (a : ℕ) → a < length w.text.opening.states → recovered_state w.text.logs logs a (state_in w.text.opening.states a) ≡ state_in (serial_run w finish (members w.text.logs logs h)).world a
+
+-- At every moment of every run, whatever the logs are left with.
+abbrev pub AtEveryMoment : {C : Type 0} → (Fixed C → (C → List State → Alone) → List Event → Machine C → History → (ℕ → List LogRecord) → Type 0) → Type 0
+AtEveryMoment {C} P =
+    (w : Fixed C) (finish : C → List State → Alone) (es : List Event) (m : Moment w es) (kept : ℕ → ℕ)
+    → HasFacts w finish → IsText w.text → IsRun w es → IsLeft w es m kept
+    → P w finish es (reached w m.events) (history w m.events) (left_in (reached w m.events) kept)
+
+-- ---- what implies the serial half, at one actor each
+
+-- the members that came to an actor are a front of those that committed there with a value
+abbrev pub valued : ℕ → List Done → List Done
+valued a ds = filter (λ d. is_value d.result) (visitors a ds)
+
+abbrev pub IsFrontOn : ℕ → List Done → List Done → Type 0
+IsFrontOn a ms ds = (rest : List Done) × (valued a ds ≡ valued a ms ++ rest)

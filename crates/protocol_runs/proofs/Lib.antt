@@ -1,0 +1,2 @@
+pub mod ExampleFacts
+pub mod WorkedRuns
