@@ -1,0 +1,4 @@
+pub mod Naming
+pub mod Askings
+pub mod MachineFacts
+pub mod Executions

@@ -1,0 +1,11 @@
+use Rattle.aml_check.specs.Checked.{methods_of}
+use Rattle.machine_code.proofs.MachineFacts.{machine_facts}
+use Rattle.machine_code.proofs.laws.code_has_the_facts.Goals as goal
+
+pub returns : goal.returns
+returns c count =
+    machine_facts (methods_of c.args.program.now) count (record {
+      begins = c.transactions_begin.ensures count;
+      hands_on = c.each_slice.ensures.handed_on count;
+      keeps = c.slices_finish.ensures.keeps count;
+    })

@@ -1,0 +1,83 @@
+-- The serial run of the machine's words is that of the language, over the text's transactions.
+use Rattle.std.specs.Prelude.{◌≡◌, refl, ℕ, ◌<◌, Bool, true, false, if◌then◌else◌, Some, List, [], ◌∷◌, ◌++◌, length, map, filter}
+use Rattle.std.specs.List.{AllByRecursion}
+use Rattle.std.proofs.Common.{subst, ◌∙◌, ap}
+use Rattle.snap_base.specs.declared.transactions.State.{State}
+use Rattle.snap_base.specs.declared.transactions.Tx.{Tx}
+use Rattle.aml_tree.specs.Tree.{CheckedMethod}
+use Rattle.aml_check.specs.Meaning as meaning
+use Rattle.aml_check.specs.Transactions.{IsTransaction}
+use Rattle.aml_slice.specs.Controls.{Rest}
+use Rattle.protocol.specs.Fixed.{Text, Fixed, no_tx}
+use Rattle.protocol.specs.Facts.{Serial, serial, state_in}
+use Rattle.protocol.specs.Parts.{Machine}
+use Rattle.protocol.specs.Events.{Event}
+use Rattle.protocol.specs.Runs.{EachAllowed}
+use Rattle.protocol.specs.Effects.{after}
+use Rattle.protocol.specs.Records.{LogRecord}
+use Rattle.protocol.specs.History.{Done, History}
+use Rattle.protocol.specs.Chains.{is_place_below, put_by_place, by_place, txs_of, serial_run}
+use Rattle.protocol_laws.specs.Order.{OrderHolds}
+use Rattle.protocol_laws.specs.Crash.{CrashHolds, members}
+use Rattle.machine_code.specs.MethodCode.{as_serial, finish, method_code}
+use Rattle.machine_laws.specs.Programs.{IsTextOf, with_code, finish_of}
+use Rattle.machine_laws.specs.Meant.{meant_run, CommittedAsMeant, RecoveredAsMeant}
+use Rattle.machine_laws.proofs.Instances.{each_at}
+
+-- these are transactions of the text
+abbrev pub AreThere : Text → List Done → Type 0
+AreThere w ds = AllByRecursion (λ d. d.tx < length w.txs) ds
+
+all_put : (P : Done → Type 0) (d : Done) (ds : List Done) → P d → AllByRecursion P ds → AllByRecursion P (put_by_place d ds)
+all_put P d [] h k = (h, tt)
+all_put P d (x ∷ xs) h k = by (is_place_below d.place x.place) (all_put P d xs h k.1)
+  where
+    by : (b : Bool) → AllByRecursion P (put_by_place d xs) → AllByRecursion P (if b then d ∷ x ∷ xs else x ∷ put_by_place d xs)
+    by true behind = (h, k)
+    by false behind = (k.0, behind)
+
+all_by_place : (P : Done → Type 0) (ds : List Done) → AllByRecursion P ds → AllByRecursion P (by_place ds)
+all_by_place P [] h = tt
+all_by_place P (d ∷ ds) h = all_put P d (by_place ds) h.0 (all_by_place P ds h.1)
+
+all_filter : (P : Done → Type 0) (test : Done → Bool) (ds : List Done) → AllByRecursion P ds → AllByRecursion P (filter test ds)
+all_filter P test [] h = tt
+all_filter P test (d ∷ ds) h = by (test d) (all_filter P test ds h.1)
+  where
+    by : (b : Bool) → AllByRecursion P (filter test ds) → AllByRecursion P (if b then d ∷ filter test ds else filter test ds)
+    by true rest = (h.0, rest)
+    by false rest = rest
+
+-- the events so far of a run are a run
+pub first_allowed : {C : Type 0} (w : Fixed C) (es later : List Event) (s : Machine C) → EachAllowed w (es ++ later) s → EachAllowed w es s
+first_allowed w [] later s run = tt
+first_allowed w (e ∷ es) later s run = (run.0, first_allowed w es later (after w e s) run.1)
+
+-- ---- the serial run
+
+-- what is said of the machine's serial runs
+abbrev pub SerialMeant : List CheckedMethod → Type 0
+SerialMeant p = (count : ℕ) (w : List State) (txs : List Tx) → length w ≡ count → AllByRecursion (IsTransaction p count) txs → serial (method_code p count) (finish p count) w txs ≡ as_serial (meaning.serial p w txs)
+
+asked : (p : List CheckedMethod) (w : Text) (ds : List Done) → IsTextOf p w → AreThere w ds → AllByRecursion (IsTransaction p (length w.opening.states)) (txs_of (with_code p w) ds)
+asked p w [] is h = tt
+asked p w (d ∷ ds) is h = (each_at (IsTransaction p (length w.opening.states)) w.txs d.tx no_tx h.0 is.asks, asked p w ds is h.1)
+
+run_meant : (p : List CheckedMethod) (w : Text) (ds : List Done) → SerialMeant p → IsTextOf p w → AreThere w ds → serial_run (with_code p w) (finish_of p w) ds ≡ as_serial (meant_run p (with_code p w) ds)
+run_meant p w ds meant is h = meant (length w.opening.states) w.opening.states (txs_of (with_code p w) (by_place ds)) refl (asked p w (by_place ds) is (all_by_place (λ d. d.tx < length w.txs) ds h))
+
+pub committed_meant : (p : List CheckedMethod) (w : Text) (s : Machine Rest) (h : History) → SerialMeant p → IsTextOf p w → AreThere w h.committed → OrderHolds (with_code p w) (finish_of p w) s h → CommittedAsMeant p (with_code p w) (finish_of p w) s h
+committed_meant p w s h meant is there order =
+    let same = run_meant p w h.committed meant is there in
+    record {
+      results = subst (λ (x : Serial). map Some x.results ≡ map (λ d. d.result) (by_place h.committed)) same order.stands.serial;
+      states = λ quiet. order.last_states quiet ∙ ap (λ (x : Serial). x.world) same;
+    }
+
+pub recovered_meant : (p : List CheckedMethod) (w : Text) (es : List Event) (s : Machine Rest) (h : History) (logs : ℕ → List LogRecord) → SerialMeant p → IsTextOf p w → AreThere w h.committed → CrashHolds (with_code p w) (finish_of p w) es s h logs → RecoveredAsMeant p (with_code p w) (finish_of p w) es s h logs
+recovered_meant p w es s h logs meant is there crash =
+    let same = run_meant p w (members w.logs logs h) meant is (all_filter (λ d. d.tx < length w.txs) _ h.committed there) in
+    record {
+      results = subst (λ (x : Serial). map Some x.results ≡ map (λ d. d.result) (by_place (members w.logs logs h))) same crash.stands.serial;
+      states = λ a below. crash.states a below ∙ ap (λ (x : Serial). state_in x.world a) same;
+    }

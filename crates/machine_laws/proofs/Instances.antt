@@ -1,0 +1,29 @@
+-- The facts of a program's code over a text's own transactions.
+use Rattle.std.proofs.Common.{ℕ, zero, suc, ◌<◌, List, [], ◌∷◌, length, subst, arith}
+use Rattle.std.specs.Prelude.{slice_index_or}
+use Rattle.std.specs.List.{AllByRecursion}
+use Rattle.snap_base.specs.declared.transactions.Tx.{Tx}
+use Rattle.aml_tree.specs.Tree.{CheckedMethod}
+use Rattle.aml_check.specs.Transactions.{IsTransaction}
+use Rattle.protocol.specs.Fixed.{Text, no_tx}
+use Rattle.protocol.specs.Facts.{Facts}
+use Rattle.protocol.specs.Rests.{HasFacts, IsTxIn, facts_of_rests}
+use Rattle.machine_code.specs.MethodCode.{method_code, finish, IsRestOf}
+use Rattle.machine_laws.specs.Programs.{IsTextOf, with_code, finish_of}
+
+-- what holds of each holds of the one at a number below the length
+pub each_at : {X : Type 0} (P : X → Type 0) (xs : List X) (i : ℕ) (d : X) → i < length xs → AllByRecursion P xs → P (slice_index_or xs i d)
+each_at P [] i d below all = absurd (omega arith)
+each_at P (x ∷ xs) zero d below all = all.0
+each_at P (x ∷ xs) (suc i) d below all = each_at P xs i d (omega arith) all.1
+
+-- code with the facts
+abbrev pub HaveFacts : List CheckedMethod → Type 0
+HaveFacts p = (count : ℕ) → Facts count (method_code p count) (IsTransaction p count) (IsRestOf p count) (finish p count)
+
+-- each transaction of the text may be asked of the program
+may_be_asked : (p : List CheckedMethod) (w : Text) → IsTextOf p w → (tx : Tx) → IsTxIn w tx → IsTransaction p (length w.opening.states) tx
+may_be_asked p w is tx there = subst (IsTransaction p (length w.opening.states)) there.is_it (each_at (IsTransaction p (length w.opening.states)) w.txs there.number no_tx there.there is.asks)
+
+pub facts_of_text : (p : List CheckedMethod) (w : Text) → HaveFacts p → IsTextOf p w → HasFacts (with_code p w) (finish_of p w)
+facts_of_text p w facts is = let count = length w.opening.states in facts_of_rests count (method_code p count) (IsTransaction p count) (IsTxIn w) (IsRestOf p count) (finish p count) (may_be_asked p w is) (facts count)

@@ -1,0 +1,4 @@
+pub mod AsMeant
+pub mod Instances
+pub mod TextTxs
+pub mod ToldMeant

@@ -1,0 +1,134 @@
+//! The great laws of the protocol, of every program: over every run of every text whose transactions may be asked of
+//! it. No premise on code is left.
+
+ghost use Rattle.aml_check.specs.Checked.{methods_of};
+ghost use Rattle.protocol.specs.Rows.{RowsAgree};
+ghost use Rattle.protocol_laws.specs.Crash.{CrashHolds};
+ghost use Rattle.protocol_laws.specs.Evidence.{VerdictsStand};
+ghost use Rattle.protocol_laws.specs.EvidenceSerial.{VerdictsTell};
+ghost use Rattle.protocol_laws.specs.Left.{RunsEnd};
+ghost use Rattle.protocol_laws.specs.OneWay.{PlacesStay};
+ghost use Rattle.protocol_laws.specs.Order.{OrderHolds};
+ghost use Rattle.protocol_laws.specs.Quiet.{AnsweredWhenQuiet};
+ghost use Rattle.protocol_laws.specs.Sets.{NumbersStand};
+ghost use Rattle.machine_laws.specs.Meant.{CommittedAsMeant, RecoveredAsMeant, VerdictsAsMeant};
+ghost use Rattle.machine_laws.specs.Programs.{AfterEveryRunOf, AtEveryMomentOf, OfEveryRunOf};
+
+use aml_check::Checked;
+use aml_slice::Control;
+use machine_code::{code_has_the_facts, serial_as_meant};
+
+/// Run one after the other in the order of their places, the transactions that committed give the results that they
+/// had; no two places are equal; on each actor places rise and states link in the order of placing; and who is told
+/// a place is one of them, there, with that result. Where no event is allowed each of them is told so, and the actors
+/// have the states that the serial run leaves.
+pub fn committed_transactions_are_in_order(program: &Checked)
+    ensures { AfterEveryRunOf (methods_of program.now) OrderHolds }
+{
+    code_has_the_facts(program);
+    protocol_laws::committed_transactions_are_in_order::<Control>();
+}
+
+/// At every moment, whatever the logs are left with, the transactions whose commit records are there had committed;
+/// run one after the other in the order of their places they give the results that they had; with each of them is all
+/// that the run places before it; and who was told that it committed is one of them.
+pub fn recovered_transactions_are_in_order(program: &Checked)
+    ensures { AtEveryMomentOf (methods_of program.now) CrashHolds }
+{
+    code_has_the_facts(program);
+    protocol_laws::recovered_transactions_are_in_order::<Control>();
+}
+
+/// A verdict is there exactly where an event of the run gave it, with its cause at that event, and it stays.
+pub fn verdicts_have_evidence(program: &Checked)
+    ensures { OfEveryRunOf (methods_of program.now) VerdictsStand }
+{
+    code_has_the_facts(program);
+    protocol_laws::verdicts_have_evidence::<Control>();
+}
+
+/// Who is told a place gives what it is told there in the serial run of what committed; who failed with its batch
+/// does so, behind the settled batches below it and the ACTs with a value below the number that it is told; and who
+/// was taken along is told who failed.
+pub fn verdicts_tell_of_serial_runs(program: &Checked)
+    ensures { OfEveryRunOf (methods_of program.now) VerdictsTell }
+{
+    code_has_the_facts(program);
+    protocol_laws::verdicts_tell_of_serial_runs::<Control>();
+}
+
+/// Where a run cannot go on, all is answered: every transaction is submitted and replied to, and no message, control,
+/// entry or outcome is left.
+pub fn runs_that_cannot_go_on_have_answered(program: &Checked)
+    ensures { AfterEveryRunOf (methods_of program.now) AnsweredWhenQuiet }
+{
+    code_has_the_facts(program);
+    protocol_laws::runs_that_cannot_go_on_have_answered::<Control>();
+}
+
+/// A number computed from the state, at most so many times the transactions at the opening, falls at every event.
+pub fn every_run_ends(program: &Checked)
+    ensures { OfEveryRunOf (methods_of program.now) RunsEnd }
+{
+    code_has_the_facts(program);
+    protocol_laws::every_run_ends::<Control>();
+}
+
+/// Before and after numbers are the greatest and the least of the batches that stand before and behind an ACT, and
+/// do not cross; who has its place stands behind nobody that is not doomed; a floor is the greatest before number of
+/// those that left; and on each actor places rise in the order of commits.
+pub fn numbers_are_the_ends_of_sets(program: &Checked)
+    ensures { AfterEveryRunOf (methods_of program.now) NumbersStand }
+{
+    code_has_the_facts(program);
+    protocol_laws::numbers_are_the_ends_of_sets::<Control>();
+}
+
+/// Whoever has its place in the serial order keeps it, with its before number.
+pub fn places_stay(program: &Checked)
+    ensures { AfterEveryRunOf (methods_of program.now) PlacesStay }
+{
+    code_has_the_facts(program);
+    protocol_laws::places_stay::<Control>();
+}
+
+/// The table, whose words are shorter at four rows, gives what the rows give as they were agreed.
+pub fn rows_are_as_agreed(program: &Checked)
+    ensures { AfterEveryRunOf (methods_of program.now) RowsAgree }
+{
+    code_has_the_facts(program);
+    protocol_laws::rows_are_as_agreed::<Control>();
+}
+
+/// The transactions that committed, run one after the other in the order of their places as the language means each of
+/// them, give the results that they had; and where no event is allowed the actors have the states that this leaves.
+pub fn committed_transactions_are_as_meant(program: &Checked)
+    ensures { AfterEveryRunOf (methods_of program.now) (CommittedAsMeant (methods_of program.now)) }
+{
+    serial_as_meant(program);
+    committed_transactions_are_in_order(program);
+    verdicts_tell_of_serial_runs(program);
+    protocol_laws::transactions_are_in_one_place::<Control>();
+}
+
+/// At every moment, whatever the logs are left with, the transactions whose commit records are there, run one after the
+/// other in the order of their places as the language means each of them, give the results that they had; and the states
+/// that are recovered are those that this leaves.
+pub fn recovered_transactions_are_as_meant(program: &Checked)
+    ensures { AtEveryMomentOf (methods_of program.now) (RecoveredAsMeant (methods_of program.now)) }
+{
+    serial_as_meant(program);
+    recovered_transactions_are_in_order(program);
+    verdicts_tell_of_serial_runs(program);
+    protocol_laws::transactions_are_in_one_place::<Control>();
+}
+
+/// Who is told a place, with a value or with a code of its own, gives that alone, as the language means it, behind those
+/// that committed with a place below its own, each run as the language means it.
+pub fn verdicts_are_as_meant(program: &Checked)
+    ensures { OfEveryRunOf (methods_of program.now) (VerdictsAsMeant (methods_of program.now)) }
+{
+    committed_transactions_are_in_order(program);
+    committed_transactions_are_as_meant(program);
+    verdicts_tell_of_serial_runs(program);
+}
