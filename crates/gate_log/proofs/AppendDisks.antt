@@ -1,15 +1,15 @@
 -- What a crash leaves before, between and after the four operations of an append, over plain lists.
-use Rattle.std.proofs.Common.{◌≡◌, ◌≢◌, ℕ, ◌+◌, ◌<◌, ◌≤◌, inl, inr, List, [], ◌∷◌, ◌++◌, length, get_or, take, drop, sym, ◌∙◌, ap, subst, arith, zero, suc, append_assoc, length-append, take-append-drop}
+use Rattle.std.proofs.Common.{◌≡◌, ◌≢◌, ℕ, ◌+◌, ◌<◌, ◌≤◌, inl, inr, List, [], ◌∷◌, ◌++◌, length, get_or, take, drop, sym, ◌∙◌, ap, subst, arith, append_assoc, length-append, take-append-drop}
 use Rattle.std.proofs.lemmas.List.{take_at, drop_at, length-take, get_or-take, get_or_append_left, get_or-append_right, get_or_at}
 use Rattle.std.proofs.lemmas.Grind.{same_number_lists}
 use Rattle.std.proofs.lemmas.Bool.{cases_eq, cases_lt}
 use Rattle.snap_outside.specs.declared.devices.DevOp.{DevOp}
 use Rattle.snap_outside.specs.declared.devices.DevOp.TheVariants.{Write, Sync}
 use Rattle.snap_outside.specs.Disk.{Disk, settled, written, op_done, disk_after, IsImage, EachMoment}
-use Rattle.gate_log.specs.Appends.{append_ops}
+use Rattle.gate_log.specs.Appends.{block_ops}
 
 -- a settled disk leaves its bytes
-settled_image : (bytes image : List ℕ) → IsImage (settled bytes) image → image ≡ bytes
+pub settled_image : (bytes image : List ℕ) → IsImage (settled bytes) image → image ≡ bytes
 settled_image bytes image left =
     same_number_lists image bytes (omega (arith, left.no_shorter, left.no_longer)) (λ k h. left.fixed k (omega (arith, left.no_longer)) tt)
 
@@ -93,7 +93,7 @@ module _ (front : List ℕ) (gate end : ℕ) (at : length front ≡ end) where
       ])
 
   -- what there is when all four are done
-  pub append_end : (piece rest : List ℕ) → disk_after (append_ops end piece) (settled (front ++ gate ∷ rest))
+  pub append_end : (piece rest : List ℕ) → disk_after (block_ops end piece) (settled (front ++ gate ∷ rest))
       ≡ settled (front ++ 1 ∷ (piece ++ drop (end + 1 + length piece) (front ++ gate ∷ rest)))
   append_end piece rest =
       ap (λ (bytes : List ℕ). settled (written bytes end (1 ∷ []))) (written_behind piece rest)
@@ -125,7 +125,7 @@ module _ (front : List ℕ) (gate end : ℕ) (at : length front ≡ end) where
         )
 
     -- each moment of the four operations
-    pub append_moments : EachMoment (settled (front ++ gate ∷ rest)) (append_ops end piece) P
+    pub append_moments : EachMoment (settled (front ++ gate ∷ rest)) (block_ops end piece) P
     append_moments = (
       (λ image left. subst P (sym (settled_image _ image left)) (old gate rest closed)),
       (
@@ -135,8 +135,7 @@ module _ (front : List ℕ) (gate end : ℕ) (at : length front ≡ end) where
     )
 
 -- what holds at each moment of some operations holds at each of the first of them
-pub moments_before : (n : ℕ) (d : Disk) (ops : List DevOp) (P : List ℕ → Type 0) → EachMoment d ops P → EachMoment d (take n ops) P
-moments_before zero d [] P all = all
-moments_before zero d (op ∷ ops) P all = all.0
-moments_before (suc n) d [] P all = all
-moments_before (suc n) d (op ∷ ops) P all = (all.0, moments_before n (op_done op d) ops P all.1)
+pub moments_front : (d : Disk) (made left : List DevOp) (P : List ℕ → Type 0) → EachMoment d (made ++ left) P → EachMoment d made P
+moments_front d [] [] P all = all
+moments_front d [] (op ∷ left) P all = all.0
+moments_front d (op ∷ made) left P all = (all.0, moments_front (op_done op d) made left P all.1)

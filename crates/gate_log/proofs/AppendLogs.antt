@@ -1,16 +1,12 @@
 -- The four operations of an append on a log.
-use Rattle.std.proofs.Common.{◌≡◌, ◌≢◌, ℕ, ◌+◌, ◌⊎◌, inl, inr, List, [], ◌∷◌, ◌++◌, length, drop, refl, sym, subst, arith}
+use Rattle.std.proofs.Common.{◌≡◌, ◌≢◌, ℕ, ◌+◌, ◌⊎◌, inl, inr, List, ◌∷◌, ◌++◌, length, drop, refl, sym, subst, arith}
 use Rattle.std.specs.List.{AllByRecursion}
 use Rattle.snap_outside.specs.Disk.{settled, disk_after, EachMoment}
-use Rattle.gate_log.specs.Appends.{append_ops}
-use Rattle.gate_log.specs.Bytes.{header, group_bytes, blocks, items_of, IsGroup, IsLog, IsLogAt}
+use Rattle.gate_log.specs.Appends.{group_block, block_ops}
+use Rattle.gate_log.specs.Bytes.{header, blocks, items_of, IsGroup, IsLog, IsLogAt}
 use Rattle.gate_log.specs.Device.{MayAppend}
 use Rattle.gate_log.proofs.AppendBytes.{log_of, closed_log, grown_log}
 use Rattle.gate_log.proofs.AppendDisks.{append_moments, append_end}
-
--- what is written behind the gate
-abbrev pub piece_of : List (List ℕ) → List ℕ
-piece_of added = group_bytes added ++ 0 ∷ []
 
 -- the log as it was, or with what is added
 abbrev pub IsEither : List (List ℕ) → List (List ℕ) → List ℕ → Type 0
@@ -24,37 +20,37 @@ module _ (groups : List (List (List ℕ))) (gate : ℕ) (rest : List ℕ) (added
   abbrev front : List ℕ
   front = header ++ blocks groups
 
-  moments : EachMoment (settled (front ++ gate ∷ rest)) (append_ops (length front) (piece_of added)) (IsEither (items_of groups) added)
+  moments : EachMoment (settled (front ++ gate ∷ rest)) (block_ops (length front) (group_block added)) (IsEither (items_of groups) added)
   moments =
-      append_moments front gate (length front) refl (piece_of added) rest (IsEither (items_of groups) added) closed
+      append_moments front gate (length front) refl (group_block added) rest (IsEither (items_of groups) added) closed
       (λ x tail not. inl (log_of (front ++ x ∷ tail) (length front) (items_of groups) (closed_log groups all x tail not)))
-      (λ tail. inr (log_of (front ++ 1 ∷ (piece_of added ++ tail)) (length front + length (piece_of added)) (items_of groups ++ added)
+      (λ tail. inr (log_of (front ++ 1 ∷ (group_block added ++ tail)) (length front + length (group_block added)) (items_of groups ++ added)
       (grown_log groups all added group tail)))
 
-  grown : (bytes : List ℕ) × (disk_after (append_ops (length front) (piece_of added)) (settled (front ++ gate ∷ rest)) ≡ settled bytes)
-      × IsLogAt bytes (length front + length (piece_of added)) (items_of groups ++ added)
+  grown : (bytes : List ℕ) × (disk_after (block_ops (length front) (group_block added)) (settled (front ++ gate ∷ rest)) ≡ settled bytes)
+      × IsLogAt bytes (length front + length (group_block added)) (items_of groups ++ added)
   grown =
-      let tail = drop (length front + 1 + length (piece_of added)) (front ++ gate ∷ rest) in
-      (front ++ 1 ∷ (piece_of added ++ tail), append_end front gate (length front) refl (piece_of added) rest, grown_log groups all added group tail)
+      let tail = drop (length front + 1 + length (group_block added)) (front ++ gate ∷ rest) in
+      (front ++ 1 ∷ (group_block added ++ tail), append_end front gate (length front) refl (group_block added) rest, grown_log groups all added group tail)
 
 module _ (bytes : List ℕ) (end : ℕ) (items added : List (List ℕ)) (log : IsLogAt bytes end items) (may : MayAppend end added) where
   -- a crash at any moment of them leaves the log as it was or with what is added
-  pub log_moments : EachMoment (settled bytes) (append_ops end (piece_of added)) (IsEither items added)
+  pub log_moments : EachMoment (settled bytes) (block_ops end (group_block added)) (IsEither items added)
   log_moments =
       let p = log.parts in
-      subst (λ (b : List ℕ). EachMoment (settled b) (append_ops end (piece_of added)) (IsEither items added)) (sym p.5)
-      (subst (λ (e : ℕ). EachMoment (settled ((header ++ blocks p.0) ++ p.1 ∷ p.2)) (append_ops e (piece_of added)) (IsEither items added)) (sym p.6)
-      (subst (λ (us : List (List ℕ)). EachMoment (settled ((header ++ blocks p.0) ++ p.1 ∷ p.2)) (append_ops (length (header ++ blocks p.0)) (piece_of added)) (IsEither us added)) (sym p.7)
+      subst (λ (b : List ℕ). EachMoment (settled b) (block_ops end (group_block added)) (IsEither items added)) (sym p.5)
+      (subst (λ (e : ℕ). EachMoment (settled ((header ++ blocks p.0) ++ p.1 ∷ p.2)) (block_ops e (group_block added)) (IsEither items added)) (sym p.6)
+      (subst (λ (us : List (List ℕ)). EachMoment (settled ((header ++ blocks p.0) ++ p.1 ∷ p.2)) (block_ops (length (header ++ blocks p.0)) (group_block added)) (IsEither us added)) (sym p.7)
       (moments p.0 p.1 p.2 added p.3 p.4 (group_of end added may))))
 
   abbrev IsGrown : List ℕ → ℕ → List (List ℕ) → Type 0
   IsGrown b e us =
-      (new : List ℕ) × (disk_after (append_ops e (piece_of added)) (settled b) ≡ settled new)
-      × IsLogAt new (e + length (piece_of added)) (us ++ added)
+      (new : List ℕ) × (disk_after (block_ops e (group_block added)) (settled b) ≡ settled new)
+      × IsLogAt new (e + length (group_block added)) (us ++ added)
 
   -- and in the end there is the log with what is added
-  pub log_grown : (new : List ℕ) × (disk_after (append_ops end (piece_of added)) (settled bytes) ≡ settled new)
-      × IsLogAt new (end + length (piece_of added)) (items ++ added)
+  pub log_grown : (new : List ℕ) × (disk_after (block_ops end (group_block added)) (settled bytes) ≡ settled new)
+      × IsLogAt new (end + length (group_block added)) (items ++ added)
   log_grown =
       let p = log.parts in
       subst (λ (b : List ℕ). IsGrown b end items) (sym p.5)

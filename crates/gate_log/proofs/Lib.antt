@@ -6,6 +6,7 @@ pub mod AppendLogs
 pub mod OneReading
 pub mod OpenCrashes
 pub mod OpenDisks
+pub mod Openings
 pub mod ReadingCounted
 pub mod ReadingGroups
 pub mod ReadingHeader

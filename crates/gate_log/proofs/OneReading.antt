@@ -25,7 +25,7 @@ one_items [] [] us_are vs_are same = refl
 one_items [] (v ∷ vs) us_are vs_are same = absurd (cc)
 one_items (u ∷ us) [] us_are vs_are same = absurd (cc)
 one_items (u ∷ us) (v ∷ vs) us_are vs_are same =
-    let first = one_item u v (items_bytes us) (items_bytes vs) us_are.0.short vs_are.0.short same in
+    let first = one_item u v (items_bytes us) (items_bytes vs) (omega (arith, us_are.0.short)) (omega (arith, vs_are.0.short)) same in
     let rest = one_items us vs us_are.1 vs_are.1 first.1 in
     ap (λ (l : List ℕ). l ∷ us) first.0 ∙ ap (λ (l : List (List ℕ)). v ∷ l) rest
 

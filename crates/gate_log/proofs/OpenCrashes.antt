@@ -1,9 +1,9 @@
 -- A crash while a new log is made leaves a device that is made a new log again.
-use Rattle.std.proofs.Common.{◌≡◌, ℕ, ◌≤◌, List, [], ◌∷◌, length, Option, Some, None, refl, sym, ap, ◌∙◌, inl, inr, arith}
-use Rattle.std.proofs.lemmas.List.{append-nil}
+use Rattle.std.proofs.Common.{◌≡◌, ℕ, ◌≤◌, List, [], ◌∷◌, length, Option, Some, None, refl, ap, inl, inr, arith}
 use Rattle.snap_outside.specs.declared.devices.DevOp.{DevOp}
 use Rattle.snap_outside.specs.declared.devices.DevOp.TheVariants.{Write, Sync}
 use Rattle.snap_outside.specs.Disk.{History, Disk, disk, content, written, op_done, IsImage, EachMoment, AddsAll}
+use Rattle.snap_outside.specs.Moments.{adds_nothing}
 use Rattle.gate_log.specs.declared.logs.LogItem.{LogItem}
 use Rattle.gate_log.specs.declared.opens.OpenNo.{OpenNo}
 use Rattle.gate_log.specs.declared.opens.OpenNo.TheVariants.{NotALog, Damage, Device, Memory}
@@ -20,7 +20,7 @@ short_written old short = omega (arith, ap length (written_over old new_log shor
 write_moments : (d : Disk) → length d.now ≤ 9 → EachMoment d (Write 0 new_log ∷ []) (λ image. IsLog image [])
 write_moments d short = ((λ image left. short_image d image short left), (λ image left. short_image (op_done (Write 0 new_log) d) image (short_written d.now short) left))
 
-make_moments : (d : Disk) → length d.now ≤ 9 → EachMoment d (Write 0 new_log ∷ Sync ∷ []) (λ image. IsLog image [])
+pub make_moments : (d : Disk) → length d.now ≤ 9 → EachMoment d (Write 0 new_log ∷ Sync ∷ []) (λ image. IsLog image [])
 make_moments d short = (
   (λ image left. short_image d image short left),
   (
@@ -29,11 +29,8 @@ make_moments d short = (
   ),
 )
 
-nothing_added : (h : History) (new : Option History) → new ≡ Some h → AddsAll (Some h) new []
-nothing_added h new e = e ∙ ap (λ (ops : List DevOp). Some (record { first = h.first; ops = ops })) (sym (append-nil h.ops))
-
 untouched : (h : History) (new : Option History) → new ≡ Some h → length (content h) ≤ 9 → (ops : List DevOp) × AddsAll (Some h) new ops × EachMoment (disk h) ops (λ image. IsLog image [])
-untouched h new e short = ([], nothing_added h new e, (λ image left. short_image (disk h) image short left))
+untouched h new e short = ([], adds_nothing (Some h) new e, (λ image left. short_image (disk h) image short left))
 
 pub opened_safely : (old new : Option History) (end : ℕ) (found : List LogItem) → Opened old new end found → MadeSafely old new
 opened_safely None new end found opened = tt

@@ -5,7 +5,8 @@ use Rattle.std.specs.Option.{ForSome}
 use Rattle.std.proofs.lemmas.List.{append-nil, nil_from_length, length-take, drop_all, map-append}
 use Rattle.snap_outside.specs.declared.devices.DevOp.{DevOp}
 use Rattle.snap_outside.specs.declared.devices.DevOp.TheVariants.{Write, Sync}
-use Rattle.snap_outside.specs.Disk.{History, Disk, disk, disk_after, content, settled, written, op_done, Adds, MayAdd, AddsAll}
+use Rattle.snap_outside.specs.Disk.{History, Disk, disk, content, settled, written, Adds, MayAdd, AddsAll}
+use Rattle.snap_outside.specs.Moments.{disk_join}
 use Rattle.gate_log.specs.declared.logs.LogItem.{LogItem}
 use Rattle.gate_log.specs.Bytes.{items_bytes, items_of, placed_items, placed, IsLogAt, IsPlacedLogAt}
 use Rattle.gate_log.specs.Device.{DeviceLog, IsReady}
@@ -22,13 +23,9 @@ write_then_sync write (Some h) t1 t2 (Ok x) first second =
     subst (λ (t : Option History). Adds t t2 Sync) first second ∙ ap (λ (ops : List DevOp). Some (record { first = h.first; ops = ops })) (append_assoc h.ops (write ∷ []) (Sync ∷ []))
 write_then_sync write (Some h) t1 t2 (Err x) first second = inr (second ∙ first)
 
-disk_after-append : (ops more : List DevOp) (d : Disk) → disk_after (ops ++ more) d ≡ disk_after more (disk_after ops d)
-disk_after-append [] more d = refl
-disk_after-append (op ∷ ops) more d = disk_after-append ops more (op_done op d)
-
 -- ---- the log on the device
 
-settled_log : (h : History) (bytes : List ℕ) (end : ℕ) (items : List (List ℕ)) → disk h ≡ settled bytes → IsLogAt bytes end items → DeviceLog h end items
+pub settled_log : (h : History) (bytes : List ℕ) (end : ℕ) (items : List (List ℕ)) → disk h ≡ settled bytes → IsLogAt bytes end items → DeviceLog h end items
 settled_log h bytes end items e l = record {
   log = subst (λ (x : List ℕ). IsLogAt x end items) (sym (ap (λ (d : Disk). d.now) e)) l;
   quiet = e ∙ ap (λ (d : Disk). settled d.now) (sym e);
@@ -41,14 +38,14 @@ written_over old piece le =
     let behind : drop (0 + length piece) old ≡ [] = drop_all (0 + length piece) old (omega arith) in
     ap (λ (x : List ℕ). x ++ (piece ++ drop (0 + length piece) old)) front ∙ ap (λ (x : List ℕ). piece ++ x) behind ∙ append-nil piece
 
-disk_written_over : (h : History) (piece : List ℕ) → length (content h) ≤ length piece
+pub disk_written_over : (h : History) (piece : List ℕ) → length (content h) ≤ length piece
     → disk (record { first = h.first; ops = h.ops ++ Write 0 piece ∷ Sync ∷ [] }) ≡ settled piece
-disk_written_over h piece le = disk_after-append h.ops (Write 0 piece ∷ Sync ∷ []) (settled h.first) ∙ ap settled (written_over (content h) piece le)
+disk_written_over h piece le = disk_join h.ops (Write 0 piece ∷ Sync ∷ []) (settled h.first) ∙ ap settled (written_over (content h) piece le)
 
 pub new_is_placed : IsPlacedLogAt new_log 8 []
 new_is_placed = record { parts = ([], 0, [], tt, (λ e. omega arith), refl, refl, refl) }
 
-new_is_log : IsLogAt new_log 8 []
+pub new_is_log : IsLogAt new_log 8 []
 new_is_log = record { parts = ([], 0, [], tt, (λ e. omega arith), refl, refl, refl) }
 
 -- a log made on a device whose length, at most nine, is that of its content
@@ -76,8 +73,8 @@ placed_log bytes end found p =
     let s = p.parts in
     record { parts = (s.0, s.1, s.2, s.3, s.4, s.5, s.6, ap bytes_of s.7 ∙ bytes_of-placed 8 s.0) }
 
-synced_log : (h : History) (end : ℕ) (found : List LogItem) → IsPlacedLogAt (content h) end found → DeviceLog (record { first = h.first; ops = h.ops ++ Sync ∷ [] }) end (bytes_of found)
-synced_log h end found p = settled_log _ (content h) end (bytes_of found) (disk_after-append h.ops (Sync ∷ []) (settled h.first)) (placed_log (content h) end found p)
+pub synced_log : (h : History) (end : ℕ) (found : List LogItem) → IsPlacedLogAt (content h) end found → DeviceLog (record { first = h.first; ops = h.ops ++ Sync ∷ [] }) end (bytes_of found)
+synced_log h end found p = settled_log _ (content h) end (bytes_of found) (disk_join h.ops (Sync ∷ []) (settled h.first)) (placed_log (content h) end found p)
 
 found_on : (old new : Option History) (end : ℕ) (found : List LogItem) → IfSome old (λ h. IsPlacedLogAt (content h) end found) → AddsAll old new (Sync ∷ []) → IfSome new (λ g. DeviceLog g end (bytes_of found))
 found_on None new end found p adds = subst (λ (t : Option History). IfSome t (λ g. DeviceLog g end (bytes_of found))) (sym adds) tt

@@ -12,7 +12,7 @@ use Rattle.gate_log.proofs.ReadingCounted.{IsWide, wide16, counted_same}
 -- ---- items
 
 item_same : (a x b y : List ℕ) → IsItem a → IsItem b → item_bytes a ++ x ≡ item_bytes b ++ y → (a ≡ b) × (x ≡ y)
-item_same a x b y p q e = counted_same w16 (2 ^ 16) wide16 a x b y p.short q.short e
+item_same a x b y p q e = counted_same w16 (2 ^ 16) wide16 a x b y (omega (arith, p.short)) (omega (arith, q.short)) e
 
 item_bytes-some : (w : Width) (limit : ℕ) → IsWide w limit → (item rest : List ℕ) → 0 < length item → 0 < length (counted w item ++ rest)
 item_bytes-some w limit wide item rest some = omega (arith, length-append (to_be_bytes w (length item) ++ item) rest, length-append (to_be_bytes w (length item)) item)

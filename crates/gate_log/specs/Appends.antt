@@ -1,13 +1,32 @@
--- The four operations of an append, and what they leave where some of them fail.
-use Rattle.std.specs.Prelude.{ℕ, ◌+◌, List, [], ◌∷◌, take, Option}
+-- The operations of an append, and those that one which is refused has made.
+use Rattle.std.specs.Prelude.{◌≡◌, ℕ, ◌+◌, List, [], ◌∷◌, ◌++◌, length, Option}
 use Rattle.snap_outside.specs.declared.devices.DevOp.{DevOp}
 use Rattle.snap_outside.specs.declared.devices.DevOp.TheVariants.{Write, Sync}
-use Rattle.snap_outside.specs.Disk.{History, AddsAll}
+use Rattle.snap_outside.specs.Disk.{History, AddsUpToFault}
+use Rattle.gate_log.specs.Bytes.{items_bytes, group_bytes}
+use Rattle.gate_log.specs.declared.logs.AppendNo.{AppendNo}
+use Rattle.gate_log.specs.declared.logs.AppendNo.TheVariants.{Device, Shut, Memory}
 
--- a piece is made durable behind the gate before the gate is opened
-abbrev pub append_ops : ℕ → List ℕ → List DevOp
-append_ops gate piece = Write (gate + 1) piece ∷ Sync ∷ Write gate (1 ∷ []) ∷ Sync ∷ []
+-- what an append writes behind the closed gate: the group of its items, and the next closed gate
+abbrev pub group_block : List (List ℕ) → List ℕ
+group_block items = group_bytes items ++ 0 ∷ []
 
--- the first of these operations are added, however many
-abbrev pub AddsFirst : Option History → Option History → List DevOp → Type 0
-AddsFirst old new ops = (n : ℕ) × AddsAll old new (take n ops)
+-- a block is made durable behind the gate before the gate is opened, which is then made durable too
+abbrev pub block_ops : ℕ → List ℕ → List DevOp
+block_ops gate block = Write (gate + 1) block ∷ Sync ∷ Write gate (1 ∷ []) ∷ Sync ∷ []
+
+-- the operations of an append at the closed gate, of which there are none for no item
+abbrev pub append_ops : ℕ → List (List ℕ) → List DevOp
+append_ops end [] = []
+append_ops end (item ∷ items) = block_ops end (group_block (item ∷ items))
+
+-- where the closed gate stands behind an append
+abbrev pub end_behind : ℕ → List (List ℕ) → ℕ
+end_behind end [] = end
+end_behind end (item ∷ items) = end + 5 + length (items_bytes (item ∷ items))
+
+-- What an append of these operations that is refused did to the device.
+abbrev pub AddsRefused : Option History → Option History → List DevOp → AppendNo → Type 0
+AddsRefused old new ops Device = AddsUpToFault old new ops
+AddsRefused old new ops Shut = new ≡ old
+AddsRefused old new ops Memory = new ≡ old

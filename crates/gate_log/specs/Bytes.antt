@@ -3,6 +3,7 @@ use Rattle.std.specs.Prelude.{◌≡◌, ◌≢◌, ℕ, ◌+◌, ◌<◌, ◌�
 use Rattle.std.specs.List.{AllByRecursion, flat_map}
 use Rattle.gate_log.specs.declared.logs.LogItem.{LogItem}
 use Rattle.std.specs.Int.{to_be_bytes, w16, w32}
+use Rattle.gate_log.specs.declared.limits.TheConstants.{LONGEST_ITEM, NEW_LOG_SIZE}
 
 abbrev pub header : List ℕ
 header = codes "SNAPLOG1"
@@ -28,7 +29,7 @@ items_of groups = flat_map (λ (group : List (List ℕ)). group) groups
 
 pub record IsItem (item : List ℕ) : Type 0 where
   pub some : 1 ≤ length item
-  pub short : length item < 2 ^ 16
+  pub short : length item ≤ LONGEST_ITEM
 
 pub record IsGroup (group : List (List ℕ)) : Type 0 where
   pub items : AllByRecursion IsItem group
@@ -43,9 +44,9 @@ pub record IsLogAt (bytes : List ℕ) (end : ℕ) (items : List (List ℕ)) : Ty
       × (end ≡ length (header ++ blocks groups))
       × (items ≡ items_of groups)
 
--- a file of at most nine bytes holds no block, and stands for no item
+-- a file that is no longer than a new log holds no block, and stands for no item
 abbrev pub IsLog : List ℕ → List (List ℕ) → Type 0
-IsLog bytes items = ((length bytes ≤ 9) × (items ≡ [])) ⊎ ((9 < length bytes) × ((end : ℕ) × IsLogAt bytes end items))
+IsLog bytes items = ((length bytes ≤ NEW_LOG_SIZE) × (items ≡ [])) ⊎ ((NEW_LOG_SIZE < length bytes) × ((end : ℕ) × IsLogAt bytes end items))
 
 -- ---- what is no log
 

@@ -4,6 +4,7 @@ use Rattle.std.specs.Option.{ForSome}
 use Rattle.std.specs.List.{AllByRecursion}
 use Rattle.snap_outside.specs.declared.devices.DevOp.{DevOp}
 use Rattle.snap_outside.specs.Disk.{History, disk, content, settled, EachMoment, AddsAll}
+use Rattle.gate_log.specs.declared.limits.TheConstants.{LARGEST_GROUP}
 use Rattle.gate_log.specs.Bytes.{IsItem, IsLog, IsLogAt, items_bytes}
 
 -- The device holds a log of these items whose closed gate stands at `end`, and nothing of it is loose.
@@ -14,7 +15,7 @@ pub record DeviceLog (h : History) (end : ℕ) (items : List (List ℕ)) : Type 
 -- what may be appended at `end`
 pub record MayAppend (end : ℕ) (added : List (List ℕ)) : Type 0 where
   pub items : AllByRecursion IsItem added
-  pub short : length (items_bytes added) ≤ 2 ^ 31
+  pub short : length (items_bytes added) ≤ LARGEST_GROUP
   pub fits : end + length (items_bytes added) < 2 ^ 64 - 8
 
 -- The device held a log; now it holds the same with the items added.

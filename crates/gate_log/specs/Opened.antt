@@ -1,9 +1,10 @@
 -- What opening finds on a device, and what it does to it.
-use Rattle.std.specs.Prelude.{◌≡◌, ℕ, ◌<◌, ◌≤◌, ◌⊎◌, List, [], ◌∷◌, ◌++◌, length, map, Option, None, Some, IfSome}
+use Rattle.std.specs.Prelude.{◌≡◌, ℕ, ◌<◌, ◌≤◌, nat_le, if◌then◌else◌, ◌⊎◌, List, [], ◌∷◌, ◌++◌, length, map, Option, None, Some, IfSome}
 use Rattle.snap_outside.specs.declared.devices.DevOp.{DevOp}
 use Rattle.snap_outside.specs.declared.devices.DevOp.TheVariants.{Write, Sync}
 use Rattle.snap_outside.specs.Disk.{History, disk, content, with_op, EachMoment, AddsAll}
 use Rattle.snap_outside.specs.Causes.{Rose}
+use Rattle.gate_log.specs.declared.limits.TheConstants.{NEW_LOG_SIZE}
 use Rattle.gate_log.specs.declared.logs.LogItem.{LogItem}
 use Rattle.gate_log.specs.declared.opens.OpenNo.{OpenNo}
 use Rattle.gate_log.specs.declared.opens.OpenNo.TheVariants.{NotALog, Damage, Device, Memory}
@@ -17,34 +18,38 @@ bytes_of items = map (λ (i : LogItem). i.bytes) items
 abbrev pub new_log : List ℕ
 new_log = header ++ 0 ∷ []
 
--- A device of at most nine bytes is made a new log, and made durable. A longer one is read, and made durable.
+-- what opening does to a device with these bytes: a new log is made, or one is read; then the device is durable
+abbrev pub opening_ops : List ℕ → List DevOp
+opening_ops bytes = if nat_le (length bytes) NEW_LOG_SIZE then Write 0 new_log ∷ Sync ∷ [] else Sync ∷ []
+
+-- A device that is no longer than a new log is made one, and made durable. A longer one is read, and made durable.
 pub record OpenedOn (h : History) (new : Option History) (end : ℕ) (found : List LogItem) : Type 0 where
-  pub made : length (content h) ≤ 9 → (end ≡ 8) × (found ≡ []) × AddsAll (Some h) new (Write 0 new_log ∷ Sync ∷ [])
-  pub read : 9 < length (content h) → IsPlacedLogAt (content h) end found × AddsAll (Some h) new (Sync ∷ [])
+  pub made : length (content h) ≤ NEW_LOG_SIZE → (end ≡ 8) × (found ≡ []) × AddsAll (Some h) new (Write 0 new_log ∷ Sync ∷ [])
+  pub read : NEW_LOG_SIZE < length (content h) → IsPlacedLogAt (content h) end found × AddsAll (Some h) new (Sync ∷ [])
 
 -- from what the device told before, what it tells now, the end and the found items
 abbrev pub Opened : Option History → Option History → ℕ → List LogItem → Type 0
 Opened None new end found = new ≡ None
 Opened (Some h) new end found = OpenedOn h new end found
 
--- a device that failed may have been made a new log, where it had at most nine bytes
+-- a device that failed may have been made a new log, where it was no longer than one
 abbrev pub MayBeMade : Option History → Option History → Type 0
 MayBeMade None new = new ≡ None
-MayBeMade (Some h) new = (new ≡ Some h) ⊎ ((length (content h) ≤ 9) × (new ≡ Some (with_op h (Write 0 new_log))))
+MayBeMade (Some h) new = (new ≡ Some h) ⊎ ((length (content h) ≤ NEW_LOG_SIZE) × (new ≡ Some (with_op h (Write 0 new_log))))
 
 -- Why a log was not opened, and what it did to the device.
 abbrev pub Refused : Option History → Option History → OpenNo → Type 0
-Refused old new (NotALog offset) = (new ≡ old) × IfSome old (λ h. (9 < length (content h)) × DiffersAt (content h) offset)
-Refused old new (Damage offset) = (new ≡ old) × IfSome old (λ h. (9 < length (content h)) × IsDamagedAt (content h) offset)
+Refused old new (NotALog offset) = (new ≡ old) × IfSome old (λ h. (NEW_LOG_SIZE < length (content h)) × DiffersAt (content h) offset)
+Refused old new (Damage offset) = (new ≡ old) × IfSome old (λ h. (NEW_LOG_SIZE < length (content h)) × IsDamagedAt (content h) offset)
 Refused old new Device = MayBeMade old new
 Refused old new Memory = new ≡ old
 
--- Whatever a crash leaves at any moment of the call of a device of at most nine bytes holds no item.
+-- Whatever a crash leaves at any moment of the call of a device that is no longer than a new log holds no item.
 abbrev pub MadeSafely : Option History → Option History → Type 0
 MadeSafely old new =
-    IfSome old (λ h. length (content h) ≤ 9 → (ops : List DevOp) × AddsAll old new ops × EachMoment (disk h) ops (λ image. IsLog image []))
+    IfSome old (λ h. length (content h) ≤ NEW_LOG_SIZE → (ops : List DevOp) × AddsAll old new ops × EachMoment (disk h) ops (λ image. IsLog image []))
 
--- the same of a device of more than nine bytes
+-- the same of a device that is longer than a new log
 abbrev pub RefusedLong : Option History → Option History → OpenNo → Type 0
 RefusedLong old new (NotALog offset) = (new ≡ old) × IfSome old (λ h. DiffersAt (content h) offset)
 RefusedLong old new (Damage offset) = (new ≡ old) × IfSome old (λ h. IsDamagedAt (content h) offset)

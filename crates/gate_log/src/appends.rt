@@ -1,26 +1,26 @@
-ghost use Rattle.std.specs.Prelude.{◌≡◌, ◌+◌, ◌-◌, ◌<◌, ◌^◌, length, IsSome, OnOk};
+ghost use Rattle.std.specs.Prelude.{◌≡◌, ◌+◌, ◌-◌, ◌<◌, ◌^◌, length, IsSome, OnOk, OnErr};
 ghost use Rattle.std.specs.Option.{ForSome};
 ghost use Rattle.snap_outside.specs.Causes.{HasCause};
-ghost use Rattle.snap_outside.specs.Disk.{AddsAll};
-ghost use Rattle.gate_log.specs.Appends.{append_ops, AddsFirst};
+ghost use Rattle.snap_outside.specs.Disk.{AddsAll, AddsUpToFault};
+ghost use Rattle.gate_log.specs.Appends.{block_ops};
 
 use snap_outside::{Failed, LogDev};
 
 const OPEN: u8 = 1;
 
-/// Makes a piece durable behind the closed gate and then opens the gate. Where a call fails, the calls before it
+/// Makes a block durable behind the closed gate and then opens the gate. Where a call fails, the calls before it
 /// have been made, and its own perhaps.
-pub(crate) fn append_group<D: LogDev>(dev: &mut D, gate: u64, piece: &[u8]) -> Result<(), Failed>
+pub(crate) fn append_group<D: LogDev>(dev: &mut D, gate: u64, block: &[u8]) -> Result<(), Failed>
     requires known { IsSome (D.told_length dev.old) }
     requires within { ForSome (D.told_length dev.old) (λ len. gate < len) }
-    requires fits { gate + length piece.now < 2 ^ 64 - 1 }
-    ensures adds { OnOk result (AddsAll (D.told dev.old) (D.told dev.new) (append_ops gate piece.now)) }
-    ensures first { AddsFirst (D.told dev.old) (D.told dev.new) (append_ops gate piece.now) }
+    requires fits { gate + length block.now < 2 ^ 64 - 1 }
+    ensures done { OnOk result (AddsAll (D.told dev.old) (D.told dev.new) (block_ops gate block.now)) }
+    ensures fault { OnErr result (AddsUpToFault (D.told dev.old) (D.told dev.new) (block_ops gate block.now)) }
     ensures known { OnOk result (IsSome (D.told_length dev.new)) }
-    ensures within { OnOk result (ForSome (D.told_length dev.new) (λ len. gate + length piece.now < len)) }
+    ensures within { OnOk result (ForSome (D.told_length dev.new) (λ len. gate + length block.now < len)) }
     ensures cause { HasCause (D.faults dev.old) (D.faults dev.new) result }
 {
-    dev.write_at(gate + 1, piece)?;
+    dev.write_at(gate + 1, block)?;
     dev.sync()?;
     dev.write_at(gate, &[OPEN])?;
     dev.sync()

@@ -2,6 +2,7 @@ ghost use Rattle.std.specs.Prelude.{◌≡◌, ◌+◌, ◌<◌, ◌≤◌, ◌^
 ghost use Rattle.std.specs.List.{AllByRecursion};
 ghost use Rattle.gate_log.specs.Bytes.{IsItem, item_bytes, items_bytes, group_bytes};
 
+use crate::limits::{LARGEST_GROUP, LONGEST_ITEM};
 use snap_base::{Memory, Sequence};
 use std::alloc::Global;
 
@@ -10,7 +11,7 @@ const CLOSED: u8 = 0;
 /// The bytes of a group and the closed gate behind it, in a buffer that has its whole room at first.
 pub(crate) fn block_of(alloc: Global, items: &[Sequence<u8>]) -> Result<Vec<u8>, Memory>
     requires items { AllByRecursion IsItem items.now }
-    requires short { length (items_bytes items.now) ≤ 2 ^ 31 }
+    requires short { length (items_bytes items.now) ≤ LARGEST_GROUP }
     ensures { IfOk result (λ block. block.items ≡ group_bytes items.now ++ 0 ∷ []) }
 {
     let size = size_of_items(items);
@@ -25,7 +26,7 @@ pub(crate) fn block_of(alloc: Global, items: &[Sequence<u8>]) -> Result<Vec<u8>,
 
 /// How many bytes the items take, each with its length.
 fn size_of_items(items: &[Sequence<u8>]) -> usize
-    requires short { length (items_bytes items.now) ≤ 2 ^ 31 }
+    requires short { length (items_bytes items.now) ≤ LARGEST_GROUP }
     ensures { result ≡ length (items_bytes items.now) }
 {
     let mut size: usize = 0;
@@ -37,7 +38,7 @@ fn size_of_items(items: &[Sequence<u8>]) -> usize
 
 /// Adds an item's length and its bytes.
 fn put_item(block: &mut Vec<u8>, item: &[u8]) -> Result<(), Memory>
-    requires { length item.now < 2 ^ 16 }
+    requires { length item.now ≤ LONGEST_ITEM }
     ensures { OnOk result (block.new.items ≡ block.old.items ++ item_bytes item.now) }
 {
     block.extend_from_slice(&(item.len() as u16).to_be_bytes())?;

@@ -1,12 +1,49 @@
-ghost use Rattle.std.specs.Prelude.{◌≡◌, ℕ, List};
-ghost use Rattle.gate_log.specs.Bytes.{IsLog, IsLogAt};
+ghost use Rattle.gate_log.specs.LogLaws.{OneReading, OneList, LogAtIsLog, PlacedIsLogAt, DamageIsNoLog, OneDamage, DifferenceIsNoLog, DifferenceIsNoDamage, OneDifference, OpeningAdds, RefusalAdds, OpeningGives, OpeningKeeps, AppendGives, AppendKeeps};
 
 /// Bytes are a log in one way at most: with one closed gate and one list of items.
 pub fn one_reading()
-    ensures { (bytes : List ℕ) (e f : ℕ) (xs ys : List (List ℕ)) → IsLogAt bytes e xs → IsLogAt bytes f ys → (e ≡ f) × (xs ≡ ys) }
+    ensures { OneReading }
 {}
 
 /// Bytes stand for one list of items at most, also where they are too few to hold an item.
 pub fn one_list()
-    ensures { (bytes : List ℕ) (xs ys : List (List ℕ)) → IsLog bytes xs → IsLog bytes ys → xs ≡ ys }
+    ensures { OneList }
+{}
+
+/// A log stands for its items, whether its closed gate is known or the places of the items too.
+pub fn logs_are_lists()
+    ensures at { LogAtIsLog }
+    ensures placed { PlacedIsLogAt }
+{}
+
+/// Damaged bytes are no log.
+pub fn damage_is_no_log()
+    ensures { DamageIsNoLog }
+{}
+
+/// Bytes are damaged at one gate alone.
+pub fn one_damage()
+    ensures { OneDamage }
+{}
+
+/// Bytes that do not begin with the header are no log and are not damaged, and one byte is the first that
+/// differs.
+pub fn one_difference()
+    ensures no_log { DifferenceIsNoLog }
+    ensures no_damage { DifferenceIsNoDamage }
+    ensures once { OneDifference }
+{}
+
+/// What opening does to a device: these operations, or a front of them where it is refused. It loses no item.
+pub fn opening_is_safe()
+    ensures adds { OpeningAdds }
+    ensures refused { RefusalAdds }
+    ensures gives { OpeningGives }
+    ensures keeps { OpeningKeeps }
+{}
+
+/// The operations of an append add its items all at once.
+pub fn append_is_whole()
+    ensures gives { AppendGives }
+    ensures keeps { AppendKeeps }
 {}

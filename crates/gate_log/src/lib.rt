@@ -6,11 +6,16 @@
 mod appends;
 mod blocks;
 mod laws;
+mod limits;
 mod logs;
 mod opens;
 mod reads;
 mod sizes;
 
-pub use laws::{one_list, one_reading};
+pub use laws::{
+    append_is_whole, damage_is_no_log, logs_are_lists, one_damage, one_difference, one_list,
+    one_reading, opening_is_safe,
+};
+pub use limits::{FARTHEST_END, LARGEST_GROUP, LONGEST_ITEM, NEW_LOG_SIZE};
 pub use logs::{AppendNo, Log, LogItem};
-pub use opens::{OpenNo, damage_is_no_log, one_damage, one_difference};
+pub use opens::OpenNo;

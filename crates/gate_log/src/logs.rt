@@ -1,6 +1,7 @@
-ghost use Rattle.std.specs.Prelude.{◌≡◌, ◌≢◌, ◌↔◌, ◌+◌, ◌≤◌, [], length, true, false, IsOk, IsErr, IsTrue, OnOk, IsErrOf};
+ghost use Rattle.std.specs.Prelude.{◌≡◌, ◌↔◌, ◌≤◌, [], true, false, IsOk, IsErr, IsTrue, OnOk, IsErrOf, MatchResult};
 ghost use Rattle.snap_outside.specs.Causes.{Rose};
-ghost use Rattle.gate_log.specs.Bytes.{items_bytes};
+ghost use Rattle.snap_outside.specs.Disk.{AddsAll};
+ghost use Rattle.gate_log.specs.Appends.{append_ops, end_behind, AddsRefused};
 ghost use Rattle.gate_log.specs.Device.{MayAppend, Appended, Crashes};
 
 use crate::appends::append_group;
@@ -53,8 +54,8 @@ impl<D: LogDev> Model for Log<D> {
 impl<D: LogDev> Log<D> {
     ghost use Rattle.gate_log.specs.State.{IsUntouched};
 
-    /// Whether the items may be appended: each has 1 to 65,535 bytes, all of them together with two more bytes
-    /// each have at most 2^31, and offsets behind them fit a `u64`.
+    /// Whether the items may be appended: each has 1 to `LONGEST_ITEM` bytes, all of them together with two more
+    /// bytes each have at most `LARGEST_GROUP`, and offsets behind them fit a `u64`.
     pub fn may_append(&self, items: &[Sequence<u8>]) -> bool
         ensures { IsTrue result ↔ MayAppend self.now.end items.now }
     {
@@ -76,7 +77,12 @@ impl<D: LogDev> Log<D> {
         // A crash at any moment of the call leaves the list from before it, or that list with all that is added.
         ensures crashes { Crashes self.old.told self.new.told self.old.end items.now }
 
-        ensures grown { items.now ≢ [] → OnOk result (self.new.end ≡ self.old.end + 5 + length (items_bytes items.now)) }
+        // The device's history grew by the operations of the append, in order, up to the fault that ended them.
+        ensures ops { MatchResult result
+            (λ _. AddsAll self.old.told self.new.told (append_ops self.old.end items.now))
+            (AddsRefused self.old.told self.new.told (append_ops self.old.end items.now)) }
+
+        ensures grown { OnOk result (self.new.end ≡ end_behind self.old.end items.now) }
         ensures empty { items.now ≡ [] → IsUntouched self.old self.new × (self.old.shut ≡ false → IsOk result) }
         ensures end_kept { IsErr result → self.new.end ≡ self.old.end }
         ensures open { OnOk result (self.new.shut ≡ false) }

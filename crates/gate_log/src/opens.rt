@@ -7,6 +7,7 @@ ghost use Rattle.gate_log.specs.Bytes.{DiffersAt, IsLogAt, IsDamagedAt, IsPlaced
 ghost use Rattle.gate_log.specs.Device.{DeviceLog, IsReady};
 ghost use Rattle.gate_log.specs.Opened.{bytes_of, new_log, Opened, Refused, MadeSafely, RefusedLong, IsNoRead};
 
+use crate::limits::{FARTHEST_END, NEW_LOG_SIZE};
 use crate::reads::read_log;
 use crate::{Log, LogItem};
 use snap_base::{Memory, Sequence};
@@ -14,12 +15,12 @@ use snap_outside::{Failed, LogDev};
 use std::alloc::{AllocError, Global};
 use std::mem;
 
-const NEW_LOG: [u8; 9] = *b"SNAPLOG1\0";
+const NEW_LOG: [u8; NEW_LOG_SIZE as usize] = *b"SNAPLOG1\0";
 
 /// Why a log was not opened. No error but `Device` comes after a write or a sync.
 #[derive(Clone, Copy, Debug, PartialEq, Eq)]
 pub enum OpenNo {
-    /// The device holds more than nine bytes that do not begin with the header: the first byte that differs.
+    /// The device holds more bytes than a new log, and they do not begin with the header: the first byte that differs.
     NotALog { offset: u64 },
     /// Behind the open gate at the offset there is no whole group with a gate behind it.
     Damage { offset: u64 },
@@ -63,7 +64,7 @@ impl From<AllocError> for OpenNo {
 }
 
 impl<D: LogDev> Log<D> {
-    /// The log on a device. A device of at most nine bytes is made a new log, in which no item is found; a
+    /// The log on a device. A device that is no longer than a new log is made one, in which no item is found; a
     /// longer one is read, and its items are found with their places. Then the device is durable.
     pub fn open(alloc: Global, dev: D) -> Result<Log<D>, (D, OpenNo)>
         ensures opened { IfOk result (λ log. Opened (D.told dev) log.told log.end log.found) }
@@ -72,7 +73,7 @@ impl<D: LogDev> Log<D> {
         ensures placed { IfOk result (λ log. (bytes : List ℕ) × IsPlacedLogAt bytes log.end log.found) }
         ensures open { IfOk result (λ log. log.shut ≡ false) }
         ensures crashes { MatchResult result (λ log. MadeSafely (D.told dev) log.told) (λ no. MadeSafely (D.told dev) (D.told no.0)) }
-        ensures end { IfOk result (λ log. log.end ≤ 2 ^ 63) }
+        ensures end { IfOk result (λ log. log.end ≤ FARTHEST_END) }
         ensures refused { IfErr result (λ no. Refused (D.told dev) (D.told no.0) no.1) }
         ensures device { IfErr result (λ no. no.1 ≡ OpenNo.Device → Rose (D.faults dev) (D.faults no.0)) }
         ensures later { MatchResult result (λ log. D.faults dev ≤ log.faults) (λ no. D.faults dev ≤ D.faults no.0) }
@@ -105,13 +106,13 @@ fn find_log<D: LogDev>(alloc: Global, dev: &mut D) -> Result<(u64, Sequence<LogI
     ensures log { IfOk result (λ log. IfSome (D.told dev.new) (λ h. DeviceLog h log.0 (bytes_of log.1))) }
     ensures placed { IfOk result (λ log. (bytes : List ℕ) × IsPlacedLogAt bytes log.0 log.1) }
     ensures ready { IfOk result (λ log. IsReady (D.told dev.new) (D.told_length dev.new) log.0) }
-    ensures end { IfOk result (λ log. log.0 ≤ 2 ^ 63) }
+    ensures end { IfOk result (λ log. log.0 ≤ FARTHEST_END) }
     ensures refused { IfErr result (Refused (D.told dev.old) (D.told dev.new)) }
     ensures device { IfErr result (λ no. no ≡ OpenNo.Device → Rose (D.faults dev.old) (D.faults dev.new)) }
     ensures later { D.faults dev.old ≤ D.faults dev.new }
 {
     let len = dev.len()?;
-    if len <= 9 {
+    if len <= NEW_LOG_SIZE {
         make_log(dev)?;
         return Ok((8, Sequence::new(alloc)));
     }
@@ -139,10 +140,10 @@ fn read_device<D: LogDev>(
     len: u64,
 ) -> Result<(u64, Sequence<LogItem>), OpenNo>
     requires known { D.told_length dev.old ≡ Some len }
-    requires long { 9 < len }
+    requires long { NEW_LOG_SIZE < len }
     ensures read { IfOk result (λ log. IfSome (D.told dev.old) (λ h. IsPlacedLogAt (content h) log.0 log.1)) }
     ensures placed { IfOk result (λ log. (bytes : List ℕ) × IsPlacedLogAt bytes log.0 log.1) }
-    ensures within { IfOk result (λ log. (log.0 < len) × (log.0 < 2 ^ 63)) }
+    ensures within { IfOk result (λ log. (log.0 < len) × (log.0 < FARTHEST_END)) }
     ensures synced { OnOk result (AddsAll (D.told dev.old) (D.told dev.new) (operation.Sync ∷ [])) }
     ensures refused { IfErr result (RefusedLong (D.told dev.old) (D.told dev.new)) }
     ensures same { D.told_length dev.new ≡ D.told_length dev.old }
@@ -169,21 +170,3 @@ fn read_all<D: LogDev>(alloc: Global, dev: &mut D, len: u64) -> Result<Vec<u8>, 
     dev.read_at(0, &mut bytes)?;
     Ok(bytes)
 }
-
-/// Damaged bytes are no log.
-pub fn damage_is_no_log()
-    ensures { (bytes : List ℕ) (offset end : ℕ) (items : List (List ℕ)) → IsDamagedAt bytes offset → IsLogAt bytes end items → ⊥ }
-{}
-
-/// Bytes are damaged at one gate alone.
-pub fn one_damage()
-    ensures { (bytes : List ℕ) (offset other : ℕ) → IsDamagedAt bytes offset → IsDamagedAt bytes other → offset ≡ other }
-{}
-
-/// Bytes that do not begin with the header are no log and are not damaged, and one byte is the first that
-/// differs.
-pub fn one_difference()
-    ensures no_log { (bytes : List ℕ) (offset end : ℕ) (items : List (List ℕ)) → DiffersAt bytes offset → IsLogAt bytes end items → ⊥ }
-    ensures no_damage { (bytes : List ℕ) (offset gate : ℕ) → DiffersAt bytes offset → IsDamagedAt bytes gate → ⊥ }
-    ensures once { (bytes : List ℕ) (offset other : ℕ) → DiffersAt bytes offset → DiffersAt bytes other → offset ≡ other }
-{}

@@ -2,6 +2,7 @@ ghost use Rattle.std.specs.Prelude.{◌≡◌, ℕ, ◌+◌, ◌<◌, ◌≤◌,
 ghost use Rattle.gate_log.specs.Bytes.{header, DiffersAt, IsPlacedLogAt};
 ghost use Rattle.gate_log.specs.Reading.{BeginsItem, BeginsNoItem, AreItems, BeginsPiece, BeginsNoPiece, BeginsGroup, IsNoGroup, IsNoLog};
 
+use crate::limits::FARTHEST_END;
 use crate::{LogItem, OpenNo};
 use snap_base::{Memory, Sequence};
 use std::alloc::Global;
@@ -116,7 +117,7 @@ fn read_groups(alloc: Global, bytes: &[u8]) -> Result<(u64, Sequence<LogItem>), 
     requires long { 8 < length bytes.now }
     requires begins { take 8 bytes.now ≡ header }
     ensures read { MatchResult result (λ read. IsPlacedLogAt bytes.now read.0 read.1) (IsNoLog bytes.now) }
-    ensures within { IfOk result (λ read. (read.0 < length bytes.now) × (read.0 < 2 ^ 63)) }
+    ensures within { IfOk result (λ read. (read.0 < length bytes.now) × (read.0 < FARTHEST_END)) }
 {
     let mut found = Sequence::new(alloc);
     let mut at = 8u64;
@@ -133,7 +134,7 @@ fn read_groups(alloc: Global, bytes: &[u8]) -> Result<(u64, Sequence<LogItem>), 
 pub(crate) fn read_log(alloc: Global, bytes: &[u8]) -> Result<(u64, Sequence<LogItem>), OpenNo>
     requires { 8 < length bytes.now }
     ensures read { MatchResult result (λ read. IsPlacedLogAt bytes.now read.0 read.1) (IsNoLog bytes.now) }
-    ensures within { IfOk result (λ read. (read.0 < length bytes.now) × (read.0 < 2 ^ 63)) }
+    ensures within { IfOk result (λ read. (read.0 < length bytes.now) × (read.0 < FARTHEST_END)) }
 {
     if let Some(offset) = differs_at(bytes) {
         return Err(OpenNo::NotALog {

@@ -1,96 +1,35 @@
 -- How many bytes items of records take.
-use Rattle.std.proofs.Common.{◌≡◌, ℕ, ℤ, ◌+◌, ◌*◌, ◌^◌, ◌≤◌, List, [], ◌∷◌, ◌++◌, length, refl, ◌∙◌, ap, arith}
+use Rattle.std.proofs.Common.{◌≡◌, ℕ, ◌+◌, ◌*◌, ◌≤◌, List, [], ◌∷◌, length, arith}
 use Rattle.std.proofs.lemmas.List.{length-append}
-use Rattle.std.specs.Int.{to_be_bytes, w16}
-use Rattle.std.specs.List.{AllByRecursion, flat_map}
-use Rattle.snap_base.specs.declared.ids.ActorId.{ActorId}
-use Rattle.snap_base.specs.declared.ids.Bid.{Bid}
-use Rattle.snap_base.specs.declared.ids.Tid.{Tid}
-use Rattle.snap_base.specs.declared.transactions.State.{State}
+use Rattle.std.specs.List.{AllByRecursion}
+use Rattle.gate_log.specs.declared.limits.TheConstants.{LARGEST_GROUP}
 use Rattle.gate_log.specs.Bytes.{IsItem, item_bytes, items_bytes}
 use Rattle.gate_log.specs.Device.{MayAppend}
+use Rattle.txn_records.specs.declared.limits.TheConstants.{LONGEST_RECORD}
 use Rattle.txn_records.specs.declared.records.Record.{Record}
-use Rattle.txn_records.specs.declared.records.Record.TheVariants.{Genesis, BatchInfo, BatchComplete, BatchCommit}
-use Rattle.txn_records.specs.Records.{field_bytes, state_bytes, states_bytes, actors_bytes, tids_bytes, genesis_bytes, info_bytes, complete_bytes, record_bytes, IsState, IsGenesis, IsInfo, IsRecord}
+use Rattle.txn_records.specs.RecordLaws.{RecordsAreShort}
+use Rattle.txn_records.specs.Records.{record_bytes, IsRecord}
+use Rattle.record_log.specs.declared.limits.TheConstants.{MOST_RECORDS, FARTHEST_APPEND}
 use Rattle.record_log.specs.Records.{spelled}
 
--- ---- lists of things that take so many bytes each
+module _ (law : RecordsAreShort) where
+  spelled_are_items : (rs : List Record) → AllByRecursion IsRecord rs → AllByRecursion IsItem (spelled rs)
+  spelled_are_items [] are = tt
+  spelled_are_items (r ∷ rs) are =
+      let size = law r are.0 in
+      (record { some = size.0; short = omega (arith, size.1) }, spelled_are_items rs are.1)
 
-field_size : (z : ℤ) → length (field_bytes z) ≡ 8
-unfolding field_bytes
-field_size z = refl
+  items_size : (rs : List Record) → AllByRecursion IsRecord rs → length (items_bytes (spelled rs)) ≤ (LONGEST_RECORD + 2) * length rs
+  items_size [] are = omega arith
+  items_size (r ∷ rs) are =
+      let size = law r are.0 in
+      let first : length (item_bytes (record_bytes r)) ≡ 2 + length (record_bytes r) = omega arith in
+      omega (arith, length-append (item_bytes (record_bytes r)) (items_bytes (spelled rs)), first, size.1, items_size rs are.1)
 
-fields_size : (zs : List ℤ) → length (flat_map field_bytes zs) ≡ 8 * length zs
-fields_size [] = refl
-fields_size (z ∷ zs) = omega (arith, length-append (field_bytes z) (flat_map field_bytes zs), field_size z, fields_size zs)
+  pub few_take_little : (rs : List Record) → AllByRecursion IsRecord rs → length rs ≤ MOST_RECORDS → length (items_bytes (spelled rs)) ≤ LARGEST_GROUP
+  few_take_little rs are few = omega (arith, items_size rs are, few)
 
-state_size : (s : State) → IsState s → length (state_bytes s) ≡ 128
-unfolding state_bytes
-state_size s is = fields_size s.0 ∙ ap (λ (n : ℕ). 8 * n) is.len
-
-states_size : (ss : List State) → AllByRecursion IsState ss → length (states_bytes ss) ≡ 128 * length ss
-states_size [] are = refl
-states_size (s ∷ ss) are = omega (arith, length-append (state_bytes s) (states_bytes ss), state_size s are.0, states_size ss are.1)
-
-actors_size : (actors : List ActorId) → length (actors_bytes actors) ≡ 2 * length actors
-actors_size [] = refl
-actors_size (a ∷ actors) = omega (arith, actors_size actors)
-
-tids_size : (ts : List Tid) → length (tids_bytes ts) ≡ 8 * length ts
-tids_size [] = refl
-tids_size (t ∷ ts) = omega (arith, tids_size ts)
-
--- ---- one record
-
--- the longest is a genesis of 256 states
-abbrev pub IsSize : ℕ → Type 0
-IsSize n = (1 ≤ n) × (n ≤ 32772)
-
-genesis_size : (logs : ℕ) (states : List State) → IsGenesis logs states → IsSize (length (genesis_bytes logs states))
-genesis_size logs states is =
-    let all : length (genesis_bytes logs states) ≡ 4 + length (states_bytes states) = omega arith in
-    let each = states_size states is.each in
-    (omega (arith, all), omega (arith, all, each, is.few))
-
-info_size : (bid : Bid) (actors : List ActorId) (tids : List Tid) → IsInfo bid actors tids → IsSize (length (info_bytes bid actors tids))
-info_size bid actors tids is =
-    let behind : List ℕ = to_be_bytes w16 (length tids) ++ tids_bytes tids in
-    let all : length (info_bytes bid actors tids) ≡ 11 + length (actors_bytes actors ++ behind) = omega arith in
-    let two : length behind ≡ 2 + length (tids_bytes tids) = omega arith in
-    let sum = length-append (actors_bytes actors) behind in
-    (omega (arith, all), omega (arith, all, sum, two, actors_size actors, tids_size tids, is.few_actors, is.few_tids))
-
-complete_size : (bid : Bid) (actor : ActorId) (state : State) → IsState state → IsSize (length (complete_bytes bid actor state))
-complete_size bid actor state is =
-    let all : length (complete_bytes bid actor state) ≡ 11 + length (state_bytes state) = omega arith in
-    let one = state_size state is in
-    (omega (arith, all), omega (arith, all, one))
-
-record_size : (r : Record) → IsRecord r → IsSize (length (record_bytes r))
-record_size (Genesis logs states) is = genesis_size logs states is
-record_size (BatchInfo bid actors tids) is = info_size bid actors tids is
-record_size (BatchComplete bid actor state) is = complete_size bid actor state is.is_state
-record_size (BatchCommit bid) is = (omega arith, omega arith)
-
--- ---- the items of records
-
-pub spelled_are_items : (rs : List Record) → AllByRecursion IsRecord rs → AllByRecursion IsItem (spelled rs)
-spelled_are_items [] are = tt
-spelled_are_items (r ∷ rs) are =
-    let size = record_size r are.0 in
-    (record { some = size.0; short = omega (arith, size.1) }, spelled_are_items rs are.1)
-
-items_size : (rs : List Record) → AllByRecursion IsRecord rs → length (items_bytes (spelled rs)) ≤ 32774 * length rs
-items_size [] are = omega arith
-items_size (r ∷ rs) are =
-    let size = record_size r are.0 in
-    let first : length (item_bytes (record_bytes r)) ≡ 2 + length (record_bytes r) = omega arith in
-    omega (arith, length-append (item_bytes (record_bytes r)) (items_bytes (spelled rs)), first, size.1, items_size rs are.1)
-
-pub few_take_little : (rs : List Record) → AllByRecursion IsRecord rs → length rs ≤ 2 ^ 14 → length (items_bytes (spelled rs)) ≤ 2 ^ 31
-few_take_little rs are few = omega (arith, items_size rs are, few)
-
-pub few_may : (end : ℕ) (rs : List Record) → AllByRecursion IsRecord rs → length rs ≤ 2 ^ 14 → end ≤ 2 ^ 63 + 2 ^ 62 → MayAppend end (spelled rs)
-few_may end rs are few low =
-    let little = few_take_little rs are few in
-    record { items = spelled_are_items rs are; short = little; fits = omega (arith, little, low) }
+  pub few_may : (end : ℕ) (rs : List Record) → AllByRecursion IsRecord rs → length rs ≤ MOST_RECORDS → end ≤ FARTHEST_APPEND → MayAppend end (spelled rs)
+  few_may end rs are few low =
+      let little = few_take_little rs are few in
+      record { items = spelled_are_items rs are; short = little; fits = omega (arith, little, low) }

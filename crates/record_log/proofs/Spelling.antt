@@ -8,18 +8,18 @@ use Rattle.gate_log.specs.Opened.{bytes_of}
 use Rattle.txn_records.specs.declared.records.Record.{Record}
 use Rattle.txn_records.specs.Records.{record_bytes, IsRecord}
 use Rattle.txn_records.specs.Faults.{IsFirstBad}
-use Rattle.txn_records.proofs.OneRecord.{one_record}
+use Rattle.txn_records.specs.RecordLaws.{OneRecord}
 use Rattle.record_log.specs.Records.{spelled, AreItemsOf, IsFirstBadIn}
 
 -- records with the same items are the same
-pub one_spelling : (rs xs : List Record) → AllByRecursion IsRecord rs → AllByRecursion IsRecord xs → spelled rs ≡ spelled xs → rs ≡ xs
-one_spelling [] [] rs_are xs_are same = refl
-one_spelling [] (x ∷ xs) rs_are xs_are same = absurd (cc)
-one_spelling (r ∷ rs) [] rs_are xs_are same = absurd (cc)
-one_spelling (r ∷ rs) (x ∷ xs) rs_are xs_are same =
+pub one_spelling : (law : OneRecord) (rs xs : List Record) → AllByRecursion IsRecord rs → AllByRecursion IsRecord xs → spelled rs ≡ spelled xs → rs ≡ xs
+one_spelling law [] [] rs_are xs_are same = refl
+one_spelling law [] (x ∷ xs) rs_are xs_are same = absurd (cc)
+one_spelling law (r ∷ rs) [] rs_are xs_are same = absurd (cc)
+one_spelling law (r ∷ rs) (x ∷ xs) rs_are xs_are same =
     let first : record_bytes r ≡ record_bytes x = cc in
     let others : spelled rs ≡ spelled xs = cc in
-    ap (λ (y : Record). y ∷ rs) (one_record r x rs_are.0 xs_are.0 first) ∙ ap (λ (ys : List Record). x ∷ ys) (one_spelling rs xs rs_are.1 xs_are.1 others)
+    ap (λ (y : Record). y ∷ rs) (law r x rs_are.0 xs_are.0 first) ∙ ap (λ (ys : List Record). x ∷ ys) (one_spelling law rs xs rs_are.1 xs_are.1 others)
 
 pub all_more : (rs xs : List Record) → AllByRecursion IsRecord rs → AllByRecursion IsRecord xs → AllByRecursion IsRecord (rs ++ xs)
 all_more [] xs rs_are xs_are = xs_are

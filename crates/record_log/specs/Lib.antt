@@ -1,2 +1,5 @@
+pub mod Growth
+pub mod GrowthLaws
 pub mod Reading
+pub mod RecordLogLaws
 pub mod Records

@@ -1,5 +1,6 @@
 -- What reading one item finds.
-use Rattle.std.specs.Prelude.{◌≡◌, ℕ, ◌+◌, ◌<◌, ◌≤◌, ◌^◌, length}
+use Rattle.std.specs.Prelude.{◌≡◌, ℕ, ◌+◌, ◌≤◌, length}
+use Rattle.gate_log.specs.declared.limits.TheConstants.{LONGEST_ITEM, FARTHEST_END}
 use Rattle.gate_log.specs.declared.logs.LogItem.{LogItem}
 use Rattle.txn_records.specs.Faults.{IsFirstBad}
 use Rattle.record_log.specs.declared.items.ItemsNo.{ItemsNo}
@@ -7,8 +8,8 @@ use Rattle.record_log.specs.declared.items.ItemsNo.TheVariants.{BadRecord, Memor
 
 -- an item whose bytes, and the end behind them, lie in a file that offsets can name
 pub record IsNear (item : LogItem) : Type 0 where
-  pub short : length item.bytes < 2 ^ 16
-  pub low : item.at + length item.bytes ≤ 2 ^ 63
+  pub short : length item.bytes ≤ LONGEST_ITEM
+  pub low : item.at + length item.bytes ≤ FARTHEST_END
 
 -- why the item is no record
 abbrev pub IsNoItem : LogItem → ItemsNo → Type 0

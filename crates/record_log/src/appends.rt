@@ -1,20 +1,22 @@
-ghost use Rattle.std.specs.Prelude.{◌≡◌, ◌≢◌, ◌↔◌, ◌+◌, ◌≤◌, ◌⊎◌, [], length, true, false, IsOk, IsErr, OnOk, IsErrOf, IfOk};
+ghost use Rattle.std.specs.Prelude.{◌≡◌, ◌≢◌, ◌+◌, ◌≤◌, ◌⊎◌, [], length, true, false, IsOk, IsErr, OnOk, IsErrOf, IfOk, MatchResult};
 ghost use Rattle.std.specs.List.{AllByRecursion};
 ghost use Rattle.snap_outside.specs.Causes.{Rose};
+ghost use Rattle.snap_outside.specs.Disk.{AddsAll};
+ghost use Rattle.gate_log.specs.Appends.{append_ops, end_behind, AddsRefused};
 ghost use Rattle.gate_log.specs.Bytes.{items_bytes};
 ghost use Rattle.gate_log.specs.Device.{MayAppend};
 ghost use Rattle.gate_log.specs.State.{IsUntouched};
 ghost use Rattle.txn_records.specs.Records.{IsRecord};
 ghost use Rattle.record_log.specs.Records.{spelled, AppendsRecords, CrashesRecords};
 
-use gate_log::{AppendNo, Log};
+use gate_log::{AppendNo, Log, logs_are_lists};
 use snap_base::{Memory, Sequence};
-use snap_outside::LogDev;
+use snap_outside::{LogDev, images_of_settled};
 use std::alloc::Global;
 use txn_records::{Record, encode};
 
 /// Appends the records as one group. Nothing is written for an empty list.
-#[tactic(auto, using(crate::proofs::Appending::no_crash_of_records, crate::proofs::Appending::appends_at, crate::proofs::Appending::crashes_at))]
+#[tactic(auto, using(crate::proofs::Appending::appends_at, crate::proofs::Appending::crashes_at))]
 pub fn append_records<D: LogDev>(
     alloc: Global,
     log: &mut Log<D>,
@@ -26,6 +28,12 @@ pub fn append_records<D: LogDev>(
     ensures appended { OnOk result (AppendsRecords log.old.told log.new.told log.old.end log.new.end records.now) }
     ensures crashes { CrashesRecords log.old.told log.new.told log.old.end records.now }
 
+    // The device's history grew by the operations of the append, in order, up to the fault that ended them.
+    ensures ops { MatchResult result
+        (λ _. AddsAll log.old.told log.new.told (append_ops log.old.end (spelled records.now)))
+        (AddsRefused log.old.told log.new.told (append_ops log.old.end (spelled records.now))) }
+
+    ensures end { OnOk result (log.new.end ≡ end_behind log.old.end (spelled records.now)) }
     ensures grown { records.now ≢ [] → OnOk result (log.new.end ≡ log.old.end + 5 + length (items_bytes (spelled records.now))) }
     ensures empty { records.now ≡ [] → IsUntouched log.old log.new × (log.old.shut ≡ false → IsOk result) }
     ensures end_kept { IsErr result → log.new.end ≡ log.old.end }
@@ -41,6 +49,8 @@ pub fn append_records<D: LogDev>(
     ensures faults { log.old.faults ≤ log.new.faults }
     ensures found { log.new.found ≡ log.old.found }
 {
+    logs_are_lists();
+    images_of_settled();
     let Ok(items) = items_of(alloc, records) else {
         return Err(AppendNo::Memory);
     };
@@ -48,7 +58,7 @@ pub fn append_records<D: LogDev>(
 }
 
 /// The items that records are, in order. An empty list takes no memory.
-pub(crate) fn items_of(alloc: Global, records: &[Record]) -> Result<Sequence<Sequence<u8>>, Memory>
+fn items_of(alloc: Global, records: &[Record]) -> Result<Sequence<Sequence<u8>>, Memory>
     requires { AllByRecursion IsRecord records.now }
     ensures items { IfOk result (λ items. items ≡ spelled records.now) }
     ensures some { IsErr result → records.now ≢ [] }

@@ -1,9 +1,9 @@
-ghost use Rattle.std.specs.Prelude.{ℕ, ◌≤◌, ◌^◌, List, IfOk, IfErr, MatchResult};
+ghost use Rattle.std.specs.Prelude.{ℕ, ◌≤◌, List, IfOk, IfErr, MatchResult};
 ghost use Rattle.gate_log.specs.Bytes.{IsPlacedLogAt};
 ghost use Rattle.record_log.specs.Reading.{IsNear, IsNoItem};
 ghost use Rattle.record_log.specs.Records.{IsItemOf, AreItemsOf, AreNoRecords};
 
-use gate_log::LogItem;
+use gate_log::{FARTHEST_END, LogItem};
 use snap_base::{Memory, Sequence};
 use std::alloc::Global;
 use txn_records::{DecodeNo, Record, decode};
@@ -32,7 +32,7 @@ impl From<Memory> for ItemsNo {
 #[tactic(auto, using(crate::proofs::Reading::records_more, crate::proofs::Reading::stops_at))]
 pub fn records_of(alloc: Global, items: &[LogItem]) -> Result<Sequence<Record>, ItemsNo>
     // The items are ones that a log was found to have.
-    requires { (bytes : List ℕ) × (end : ℕ) × IsPlacedLogAt bytes end items.now × (end ≤ 2 ^ 63) }
+    requires { (bytes : List ℕ) × (end : ℕ) × IsPlacedLogAt bytes end items.now × (end ≤ FARTHEST_END) }
     ensures found { IfOk result (λ rs. AreItemsOf items.now rs) }
     ensures refused { IfErr result (λ no. AreNoRecords items.now no) }
 {

@@ -3,15 +3,16 @@
 #![tactic(auto)]
 
 mod appends;
+mod growth;
 mod items;
 mod laws;
+mod limits;
 
 pub use appends::append_records;
+pub use growth::{groups_are_whole, history_grows};
 pub use items::{ItemsNo, records_of};
 pub use laws::{
-    few_may_be_appended, images_of_settled, no_more_records, one_list_of_records, opened_holds,
-    opening_keeps, refused_keeps,
+    few_may_be_appended, no_more_records, one_list_of_records, opened_holds, opening_keeps,
+    records_are_held, refused_keeps,
 };
-
-#[cfg(test)]
-mod tests;
+pub use limits::{FARTHEST_APPEND, MOST_RECORDS};

@@ -11,6 +11,3 @@ mod streams;
 pub use logs::FileLog;
 pub use sinks::FileSink;
 pub use streams::{StdinSource, StdoutSink};
-
-#[cfg(test)]
-mod tests;

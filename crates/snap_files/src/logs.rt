@@ -15,7 +15,7 @@ use std::rt::Files;
 pub struct FileLog<'a, R: Files> {
     file: LateFile<'a, R>,
     length: Option<u64>,
-    pub(crate) faults: u64,
+    faults: u64,
 }
 
 impl<'a, R: Files> FileLog<'a, R> {
@@ -32,6 +32,13 @@ impl<'a, R: Files> FileLog<'a, R> {
             length: None,
             faults: 0,
         }
+    }
+
+    /// How many calls have failed. The count stops at 2^64 - 1.
+    pub fn faults(&self) -> u64
+        ensures { result ≡ self.now.faults }
+    {
+        self.faults
     }
 }
 

@@ -13,7 +13,7 @@ use std::rt::Files;
 #[derive(Drop)]
 pub struct FileSink<'a, R: Files> {
     file: LateFile<'a, R>,
-    pub(crate) faults: u64,
+    faults: u64,
 }
 
 impl<'a, R: Files> FileSink<'a, R> {
@@ -28,6 +28,13 @@ impl<'a, R: Files> FileSink<'a, R> {
             file: LateFile::new(rt, path, how),
             faults: 0,
         }
+    }
+
+    /// How many calls have failed. The count stops at 2^64 - 1.
+    pub fn faults(&self) -> u64
+        ensures { result ≡ self.now.faults }
+    {
+        self.faults
     }
 }
 

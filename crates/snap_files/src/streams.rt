@@ -8,7 +8,7 @@ use std::io::{BufRead, Printer};
 #[derive(Drop)]
 pub struct StdinSource<R> {
     reader: R,
-    pub(crate) faults: u64,
+    faults: u64,
 }
 
 impl<R: BufRead> StdinSource<R> {
@@ -21,6 +21,13 @@ impl<R: BufRead> StdinSource<R> {
             reader: rt.reader(),
             faults: 0,
         }
+    }
+
+    /// How many calls have failed. The count stops at 2^64 - 1.
+    pub fn faults(&self) -> u64
+        ensures { result ≡ self.now.faults }
+    {
+        self.faults
     }
 }
 
@@ -40,7 +47,7 @@ impl<R: BufRead> Source for StdinSource<R> {
 #[derive(Drop)]
 pub struct StdoutSink<'a, P> {
     writer: Printer<'a, P>,
-    pub(crate) faults: u64,
+    faults: u64,
 }
 
 impl<'a, P: Print> StdoutSink<'a, P> {
@@ -53,6 +60,13 @@ impl<'a, P: Print> StdoutSink<'a, P> {
             writer: io::writer(rt),
             faults: 0,
         }
+    }
+
+    /// How many calls have failed. The count stops at 2^64 - 1.
+    pub fn faults(&self) -> u64
+        ensures { result ≡ self.now.faults }
+    {
+        self.faults
     }
 }
 

@@ -1,6 +1,7 @@
 -- What a crash may leave of a disk that operations made.
 use Rattle.std.proofs.Common.{◌≡◌, ℕ, ◌+◌, ◌-◌, ◌<◌, ◌≤◌, ◌⊎◌, inl, inr, min, List, [], ◌∷◌, ◌++◌, length, get_or, take, drop, replicate, refl, ap, ◌∙◌, arith}
 use Rattle.std.proofs.lemmas.List.{length-append, length-take, length-drop, length-replicate, get_or_append_left, get_or-append_right, get_or-take, get_or-drop}
+use Rattle.std.proofs.lemmas.Grind.{same_number_lists}
 use Rattle.snap_outside.specs.Disk.{Disk, settled, written, op_done, disk_after, IsFixed, IsImage}
 use Rattle.snap_outside.specs.Images.{filled, all_filled, filled_image}
 use Rattle.snap_outside.specs.declared.devices.DevOp.{DevOp}
@@ -46,6 +47,12 @@ read_kept (op ∷ ops) d kept = read_kept ops (op_done op d) (op_kept op d kept)
 
 pub read_image : (ops : List DevOp) (first : List ℕ) → IsImage (disk_after ops (settled first)) (disk_after ops (settled first)).now
 read_image ops first = read_kept ops (settled first) (record { no_shorter = omega arith; no_longer = omega arith; fixed = λ i within fixed. refl })
+
+-- a settled disk has no other image
+pub image_is : (bytes image : List ℕ) → IsImage (settled bytes) image → image ≡ bytes
+image_is bytes image left =
+    let size : length image ≡ length bytes = omega (arith, left.no_shorter, left.no_longer) in
+    same_number_lists image bytes size (λ k lt. left.fixed k (omega (arith, lt, size)) tt)
 
 -- ---- and so are what the sync fixed and what is filled
 

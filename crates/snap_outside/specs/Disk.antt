@@ -1,5 +1,5 @@
 -- A device as its history shows it: what a read gives, and what a crash may leave.
-use Rattle.std.specs.Prelude.{◌≡◌, ℕ, ◌+◌, ◌<◌, ◌≤◌, ◌⊎◌, List, [], ◌∷◌, ◌++◌, length, take, drop, slice_index, Option, None, Some, ⊤}
+use Rattle.std.specs.Prelude.{◌≡◌, ◌≢◌, ℕ, ◌+◌, ◌<◌, ◌≤◌, ◌⊎◌, List, [], ◌∷◌, ◌++◌, length, take, drop, slice_index, Option, None, Some, ⊤}
 use Rattle.snap_outside.specs.declared.devices.DevOp.{DevOp}
 use Rattle.snap_outside.specs.declared.devices.DevOp.TheVariants.{Write, Sync}
 
@@ -67,6 +67,9 @@ EachMoment d (op ∷ ops) P = EachImage d P × EachMoment (op_done op d) ops P
 abbrev pub with_op : History → DevOp → History
 with_op h op = record { first = h.first; ops = h.ops ++ op ∷ [] }
 
+abbrev pub with_ops : History → List DevOp → History
+with_ops h ops = record { first = h.first; ops = h.ops ++ ops }
+
 -- the operation is added
 abbrev pub Adds : Option History → Option History → DevOp → Type 0
 Adds None new op = new ≡ None
@@ -80,4 +83,14 @@ MayAdd (Some h) new op = (new ≡ Some h) ⊎ (new ≡ Some (with_op h op))
 -- these operations are added
 abbrev pub AddsAll : Option History → Option History → List DevOp → Type 0
 AddsAll None new ops = new ≡ None
-AddsAll (Some h) new ops = new ≡ Some (record { first = h.first; ops = h.ops ++ ops })
+AddsAll (Some h) new ops = new ≡ Some (with_ops h ops)
+
+-- these operations are made from the first on, and not all of them
+pub record IsCutShort (made ops : List DevOp) : Type 0 where
+  pub left : List DevOp
+  pub some : left ≢ []
+  pub whole : ops ≡ made ++ left
+
+-- the operations are added up to a fault, which left at least one of them out
+abbrev pub AddsUpToFault : Option History → Option History → List DevOp → Type 0
+AddsUpToFault old new ops = (made : List DevOp) × IsCutShort made ops × AddsAll old new made

@@ -3,3 +3,4 @@ pub mod Disk
 pub mod Fakes
 pub mod Images
 pub mod MemoryLog
+pub mod Moments

@@ -7,6 +7,7 @@
 mod devices;
 mod disks;
 mod gates;
+mod laws;
 mod memory;
 mod schedules;
 mod sinks;
@@ -14,10 +15,8 @@ mod sources;
 
 pub use devices::{DevOp, LogDev};
 pub use gates::{FreeGate, Gate};
+pub use laws::images_of_settled;
 pub use memory::MemLog;
 pub use schedules::Failed;
 pub use sinks::{MemSink, NullSink, Sink};
 pub use sources::{MemSource, Source};
-
-#[cfg(test)]
-mod tests;

@@ -122,7 +122,7 @@ fn write_kept(
 }
 
 impl LogDev for MemLog {
-    ghost use Rattle.std.specs.Prelude.{◌≡◌, ◌+◌, ◌-◌, ◌≤◌, ◌⊎◌, ◌↔◌, min, max, length, take, drop, vec_len, Some, IfOk, IsErr, OnOk, OnErr, MatchResult};
+    ghost use Rattle.std.specs.Prelude.{◌≡◌, ◌+◌, ◌-◌, ◌≤◌, ◌⊎◌, ◌↔◌, min, max, length, take, drop, vec_len, Some, IfOk, IsErr, OnOk, MatchResult};
     ghost use Rattle.std.specs.Option.{ForSome};
     ghost use Rattle.snap_outside.specs.Causes.{Rose, HasCause};
     ghost use Rattle.snap_outside.specs.Disk.{with_op};
@@ -140,6 +140,7 @@ impl LogDev for MemLog {
         ensures history { history_of self.new ≡ history_of self.old }
         ensures cause { HasCause self.old.schedule.faults self.new.schedule.faults result }
         ensures counted { OneCall self.old.schedule self.new.schedule }
+        ensures quiet { OnOk result (self.new.schedule.faults ≡ self.old.schedule.faults) }
         ensures fails { IsErr result ↔ LogFailsNext self.old }
         ensures wanted { self.new.wanted ≡ self.old.wanted }
     {
@@ -154,6 +155,7 @@ impl LogDev for MemLog {
         ensures same { vec_len self.new.bytes ≡ vec_len self.old.bytes }
         ensures cause { HasCause self.old.schedule.faults self.new.schedule.faults result }
         ensures counted { OneCall self.old.schedule self.new.schedule }
+        ensures quiet { OnOk result (self.new.schedule.faults ≡ self.old.schedule.faults) }
         ensures fails { IsErr result ↔ LogFailsNext self.old }
         ensures wanted { self.new.wanted ≡ self.old.wanted }
     {
@@ -170,8 +172,11 @@ impl LogDev for MemLog {
             (λ _. history_of self.new ≡ history_of self.old) }
         ensures cause { HasCause self.old.schedule.faults self.new.schedule.faults result }
         ensures counted { OneCall self.old.schedule self.new.schedule }
+        ensures quiet { OnOk result (self.new.schedule.faults ≡ self.old.schedule.faults) }
         ensures fails { LogFailsNext self.old → IsErr result × (self.new.wanted ≡ self.old.wanted) }
-        ensures wanted { OnErr result (LogFailsNext self.old ⊎ Rose self.old.wanted self.new.wanted) }
+        ensures wanted { MatchResult result
+            (λ _. self.new.wanted ≡ self.old.wanted)
+            (λ _. LogFailsNext self.old ⊎ Rose self.old.wanted self.new.wanted) }
     {
         self.schedule.call()?;
         if write_kept(self.alloc, &mut self.bytes, &mut self.ops, at, bytes).is_err() {
@@ -187,8 +192,11 @@ impl LogDev for MemLog {
             (λ _. history_of self.new ≡ history_of self.old) }
         ensures cause { HasCause self.old.schedule.faults self.new.schedule.faults result }
         ensures counted { OneCall self.old.schedule self.new.schedule }
+        ensures quiet { OnOk result (self.new.schedule.faults ≡ self.old.schedule.faults) }
         ensures fails { LogFailsNext self.old → IsErr result × (self.new.wanted ≡ self.old.wanted) }
-        ensures wanted { OnErr result (LogFailsNext self.old ⊎ Rose self.old.wanted self.new.wanted) }
+        ensures wanted { MatchResult result
+            (λ _. self.new.wanted ≡ self.old.wanted)
+            (λ _. LogFailsNext self.old ⊎ Rose self.old.wanted self.new.wanted) }
     {
         self.schedule.call()?;
         if self.ops.push(DevOp::Sync).is_err() {

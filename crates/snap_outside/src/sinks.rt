@@ -66,10 +66,10 @@ impl MemSink {
 const FIRST_ROOM: usize = 64;
 
 impl Sink for MemSink {
-    ghost use Rattle.std.specs.Prelude.{◌≡◌, ◌<◌, ◌≤◌, ◌⊎◌, length, Some, IfOk, IsErr, OnErr};
+    ghost use Rattle.std.specs.Prelude.{◌≡◌, ◌<◌, ◌≤◌, ◌⊎◌, length, Some, IfOk, IsErr, OnOk, MatchResult};
     ghost use Rattle.std.specs.Io.KnownBytes.{WriteAppends};
     ghost use Rattle.snap_outside.specs.Causes.{HasCause, Rose};
-    ghost use Rattle.snap_outside.specs.Fakes.{SinkFailsNext};
+    ghost use Rattle.snap_outside.specs.Fakes.{OneCall, SinkFailsNext};
 
     ghost taken = { λ s. Some s.bytes.items };
 
@@ -81,7 +81,11 @@ impl Sink for MemSink {
         ensures moved { WriteAppends (Some self.old.bytes.items) (Some self.new.bytes.items) result piece.now }
         ensures cause { HasCause self.old.schedule.faults self.new.schedule.faults result }
         ensures fails { SinkFailsNext self.old → IsErr result × (self.new.wanted ≡ self.old.wanted) }
-        ensures wanted { OnErr result (SinkFailsNext self.old ⊎ Rose self.old.wanted self.new.wanted) }
+        ensures wanted { MatchResult result
+            (λ _. self.new.wanted ≡ self.old.wanted)
+            (λ _. SinkFailsNext self.old ⊎ Rose self.old.wanted self.new.wanted) }
+        ensures counted { OneCall self.old.schedule self.new.schedule }
+        ensures quiet { OnOk result (self.new.schedule.faults ≡ self.old.schedule.faults) }
     {
         self.schedule.call()?;
         if self.bytes.extend_from_slice(piece).is_err() {

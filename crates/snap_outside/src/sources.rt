@@ -53,10 +53,10 @@ impl MemSource {
 }
 
 impl Source for MemSource {
-    ghost use Rattle.std.specs.Prelude.{◌≤◌, ◌↔◌, length, Some, IfOk, IsErr};
+    ghost use Rattle.std.specs.Prelude.{◌≡◌, ◌≤◌, ◌↔◌, length, Some, IfOk, IsErr, OnOk};
     ghost use Rattle.std.specs.Io.KnownBytes.{ReadConsumes};
     ghost use Rattle.snap_outside.specs.Causes.{HasCause};
-    ghost use Rattle.snap_outside.specs.Fakes.{source_left, SourceFailsNext};
+    ghost use Rattle.snap_outside.specs.Fakes.{source_left, OneCall, SourceFailsNext};
 
     ghost left = { λ s. Some (source_left s) };
 
@@ -67,6 +67,8 @@ impl Source for MemSource {
         ensures moved { ReadConsumes (Some (source_left self.old)) (Some (source_left self.new)) result buf.new }
         ensures cause { HasCause self.old.schedule.faults self.new.schedule.faults result }
         ensures fails { IsErr result ↔ SourceFailsNext self.old }
+        ensures counted { OneCall self.old.schedule self.new.schedule }
+        ensures quiet { OnOk result (self.new.schedule.faults ≡ self.old.schedule.faults) }
     {
         self.schedule.call()?;
         let count = copied(self.left(), buf);

@@ -4,6 +4,7 @@ pub mod FirstBad
 pub mod Lists
 pub mod OneRecord
 pub mod Parts
+pub mod RecordSizes
 pub mod SoFar
 pub mod Stopping
 pub mod Tags

@@ -1,4 +1,4 @@
-ghost use Rattle.std.specs.Prelude.{◌≡◌, ◌<◌, ◌^◌, length, IfOk, IfErr, MatchResult};
+ghost use Rattle.std.specs.Prelude.{◌≡◌, IfOk, IfErr, MatchResult};
 ghost use Rattle.txn_records.specs.Records.{record_bytes, IsRecord};
 ghost use Rattle.txn_records.specs.Faults.{IsNoRecord};
 ghost use Rattle.txn_records.specs.declared.records.Record.{Record};
@@ -11,7 +11,7 @@ use std::alloc::Global;
 /// Why no record was read.
 #[derive(Clone, Copy, Debug, PartialEq, Eq)]
 pub enum DecodeNo {
-    /// The bytes are no record's: the first offset at which no record goes on.
+    /// The bytes are no record's: the first offset at which no record goes on, at most `LONGEST_RECORD`.
     Bad { offset: u32 },
     /// There was no memory.
     Memory,
@@ -19,7 +19,6 @@ pub enum DecodeNo {
 
 /// The record that the bytes are, all of the bytes.
 pub fn decode(alloc: Global, bytes: &[u8]) -> Result<Record, DecodeNo>
-    requires { length bytes.now < 2 ^ 32 }
     // What is read is spelled so.
     ensures found { IfOk result (λ r. IsRecord r × (bytes.now ≡ record_bytes r)) }
     // What is refused goes on as some record does up to the offset, and as none behind it.

@@ -1,8 +1,11 @@
-ghost use Rattle.std.specs.Prelude.{◌≡◌};
-ghost use Rattle.txn_records.specs.Records.{record_bytes, IsRecord};
-ghost use Rattle.txn_records.specs.declared.records.Record.{Record};
+ghost use Rattle.txn_records.specs.RecordLaws.{OneRecord, RecordsAreShort};
 
 /// Bytes are those of one record at most.
 pub fn one_record()
-    ensures { (a b : Record) → IsRecord a → IsRecord b → record_bytes a ≡ record_bytes b → a ≡ b }
+    ensures { OneRecord }
+{}
+
+/// A record has some bytes, and at most `LONGEST_RECORD`.
+pub fn records_are_short()
+    ensures { RecordsAreShort }
 {}

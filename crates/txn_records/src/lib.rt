@@ -7,6 +7,7 @@ mod decoding;
 mod encoding;
 mod keys;
 mod laws;
+mod limits;
 mod numbers;
 mod reading;
 mod records;
@@ -14,8 +15,6 @@ mod records;
 pub use decoding::{DecodeNo, decode};
 pub use encoding::encode;
 pub use keys::{Key, key_of};
-pub use laws::one_record;
+pub use laws::{one_record, records_are_short};
+pub use limits::LONGEST_RECORD;
 pub use records::Record;
-
-#[cfg(test)]
-mod tests;

@@ -3,16 +3,16 @@ use Rattle.gate_log.proofs.OpenDisks.{new_is_placed, made_log, found_log, is_rea
 use Rattle.gate_log.specs.Opened.{new_log}
 use Rattle.gate_log.proofs.opens.find_log.Goals as goal
 
-pub returns-then-len-le9-clause-log : goal.returns-then-len-le9-clause-log
-returns-then-len-le9-clause-log g c =
-    rw c.new.ensures (made_log _ _ _ c.in_ok-len.len (g.met.D.LogDev.content_length _) c.in_ok-len.ensures.told c.if-len-le9.true c.in_ok-make_log.ensures.told)
+pub returns-then-len-le-NEW_LOG_SIZE-clause-log : goal.returns-then-len-le-NEW_LOG_SIZE-clause-log
+returns-then-len-le-NEW_LOG_SIZE-clause-log g c =
+    rw c.new.ensures (made_log _ _ _ c.in_ok-len.len (g.met.D.LogDev.content_length _) c.in_ok-len.ensures.told c.if-len-le-NEW_LOG_SIZE.true c.in_ok-make_log.ensures.told)
 
-pub returns-then-len-le9-clause-placed : goal.returns-then-len-le9-clause-placed
-returns-then-len-le9-clause-placed g c = (new_log, rw c.new.ensures new_is_placed)
+pub returns-then-len-le-NEW_LOG_SIZE-clause-placed : goal.returns-then-len-le-NEW_LOG_SIZE-clause-placed
+returns-then-len-le-NEW_LOG_SIZE-clause-placed g c = (new_log, rw c.new.ensures new_is_placed)
 
-pub returns-then-len-le9-clause-ready : goal.returns-then-len-le9-clause-ready
-returns-then-len-le9-clause-ready g c =
-    is_ready _ _ 8 _ (made_log _ _ _ c.in_ok-len.len (g.met.D.LogDev.content_length _) c.in_ok-len.ensures.told c.if-len-le9.true c.in_ok-make_log.ensures.told)
+pub returns-then-len-le-NEW_LOG_SIZE-clause-ready : goal.returns-then-len-le-NEW_LOG_SIZE-clause-ready
+returns-then-len-le-NEW_LOG_SIZE-clause-ready g c =
+    is_ready _ _ 8 _ (made_log _ _ _ c.in_ok-len.len (g.met.D.LogDev.content_length _) c.in_ok-len.ensures.told c.if-len-le-NEW_LOG_SIZE.true c.in_ok-make_log.ensures.told)
     c.in_ok-make_log.ensures.known c.in_ok-make_log.ensures.within
 
 pub returns-clause-log : goal.returns-clause-log

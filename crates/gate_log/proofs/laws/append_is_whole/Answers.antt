@@ -1,0 +1,5 @@
+use Rattle.gate_log.proofs.AppendExits.{append_gives, append_keeps}
+use Rattle.gate_log.proofs.laws.append_is_whole.Goals as goal
+
+pub returns : goal.returns
+returns c = record { gives = append_gives; keeps = append_keeps }

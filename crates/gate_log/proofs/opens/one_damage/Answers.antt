@@ -1,5 +1,0 @@
-use Rattle.gate_log.proofs.ReadingGroups.{damaged_once}
-use Rattle.gate_log.proofs.opens.one_damage.Goals as goal
-
-pub returns : goal.returns
-returns c = damaged_once

@@ -1,0 +1,77 @@
+-- What holds of every log. A law of `src/laws.rt` says each of these, and a proof that rests on one takes it as a
+-- premise.
+use Rattle.std.specs.Prelude.{◌≡◌, ℕ, ◌⊎◌, List, ◌++◌, Option, Some}
+use Rattle.snap_outside.specs.Disk.{History, disk, content, settled, with_ops, AddsAll, AddsUpToFault, EachMoment}
+use Rattle.gate_log.specs.declared.logs.LogItem.{LogItem}
+use Rattle.gate_log.specs.declared.opens.OpenNo.{OpenNo}
+use Rattle.gate_log.specs.Appends.{append_ops, end_behind}
+use Rattle.gate_log.specs.Bytes.{IsLog, IsLogAt, IsPlacedLogAt, DiffersAt, IsDamagedAt}
+use Rattle.gate_log.specs.Device.{DeviceLog, MayAppend}
+use Rattle.gate_log.specs.Opened.{bytes_of, opening_ops, Opened, Refused}
+
+-- ---- bytes
+
+-- a log has one closed gate and one list of items
+abbrev pub OneReading : Type 0
+OneReading = (bytes : List ℕ) (e f : ℕ) (xs ys : List (List ℕ)) → IsLogAt bytes e xs → IsLogAt bytes f ys → (e ≡ f) × (xs ≡ ys)
+
+-- bytes stand for one list of items at most, also where they are too few to hold one
+abbrev pub OneList : Type 0
+OneList = (bytes : List ℕ) (xs ys : List (List ℕ)) → IsLog bytes xs → IsLog bytes ys → xs ≡ ys
+
+-- a log whose closed gate is known stands for its items
+abbrev pub LogAtIsLog : Type 0
+LogAtIsLog = (bytes : List ℕ) (end : ℕ) (items : List (List ℕ)) → IsLogAt bytes end items → IsLog bytes items
+
+-- so does one in which the places of the items are known
+abbrev pub PlacedIsLogAt : Type 0
+PlacedIsLogAt = (bytes : List ℕ) (end : ℕ) (found : List LogItem) → IsPlacedLogAt bytes end found → IsLogAt bytes end (bytes_of found)
+
+abbrev pub DamageIsNoLog : Type 0
+DamageIsNoLog = (bytes : List ℕ) (offset end : ℕ) (items : List (List ℕ)) → IsDamagedAt bytes offset → IsLogAt bytes end items → ⊥
+
+abbrev pub OneDamage : Type 0
+OneDamage = (bytes : List ℕ) (offset other : ℕ) → IsDamagedAt bytes offset → IsDamagedAt bytes other → offset ≡ other
+
+abbrev pub DifferenceIsNoLog : Type 0
+DifferenceIsNoLog = (bytes : List ℕ) (offset end : ℕ) (items : List (List ℕ)) → DiffersAt bytes offset → IsLogAt bytes end items → ⊥
+
+abbrev pub DifferenceIsNoDamage : Type 0
+DifferenceIsNoDamage = (bytes : List ℕ) (offset gate : ℕ) → DiffersAt bytes offset → IsDamagedAt bytes gate → ⊥
+
+abbrev pub OneDifference : Type 0
+OneDifference = (bytes : List ℕ) (offset other : ℕ) → DiffersAt bytes offset → DiffersAt bytes other → offset ≡ other
+
+-- ---- opening
+
+abbrev pub OpeningAdds : Type 0
+OpeningAdds = (h : History) (new : Option History) (end : ℕ) (found : List LogItem) → Opened (Some h) new end found → AddsAll (Some h) new (opening_ops (content h))
+
+abbrev pub RefusalAdds : Type 0
+RefusalAdds = (h : History) (new : Option History) (why : OpenNo) → Refused (Some h) new why → AddsUpToFault (Some h) new (opening_ops (content h))
+
+-- behind opening's operations the device holds the log that was found, or made
+abbrev pub OpeningGives : Type 0
+OpeningGives =
+    (h : History) (new : Option History) (end : ℕ) (found : List LogItem) → Opened (Some h) new end found
+    → DeviceLog (with_ops h (opening_ops (content h))) end (bytes_of found)
+
+-- whatever a crash leaves while they are made has the items that were there
+abbrev pub OpeningKeeps : Type 0
+OpeningKeeps =
+    (h : History) (items : List (List ℕ)) → disk h ≡ settled (content h) → IsLog (content h) items
+    → EachMoment (disk h) (opening_ops (content h)) (λ image. IsLog image items)
+
+-- ---- an append
+
+-- behind an append's operations the device holds the log with the items added
+abbrev pub AppendGives : Type 0
+AppendGives =
+    (h : History) (end : ℕ) (items added : List (List ℕ)) → MayAppend end added → DeviceLog h end items
+    → DeviceLog (with_ops h (append_ops end added)) (end_behind end added) (items ++ added)
+
+-- whatever a crash leaves while they are made has the items from before, or these and all that are added
+abbrev pub AppendKeeps : Type 0
+AppendKeeps =
+    (h : History) (end : ℕ) (items added : List (List ℕ)) → MayAppend end added → DeviceLog h end items
+    → EachMoment (disk h) (append_ops end added) (λ image. IsLog image items ⊎ IsLog image (items ++ added))

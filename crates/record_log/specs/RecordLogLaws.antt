@@ -1,0 +1,59 @@
+-- What holds of every log of records. A law of `src/laws.rt` says each of these, and a proof that rests on one takes it
+-- as a premise.
+use Rattle.std.specs.Prelude.{◌≡◌, ℕ, ◌<◌, ◌≤◌, List, length, Option, Some}
+use Rattle.std.specs.List.{AllByRecursion}
+use Rattle.snap_outside.specs.Disk.{History, content}
+use Rattle.gate_log.specs.declared.limits.TheConstants.{LARGEST_GROUP, NEW_LOG_SIZE}
+use Rattle.gate_log.specs.declared.logs.LogItem.{LogItem}
+use Rattle.gate_log.specs.declared.opens.OpenNo.{OpenNo}
+use Rattle.gate_log.specs.Bytes.{items_bytes, DiffersAt, IsDamagedAt}
+use Rattle.gate_log.specs.Device.{DeviceLog, MayAppend}
+use Rattle.gate_log.specs.Opened.{bytes_of, Opened, Refused, MadeSafely}
+use Rattle.txn_records.specs.declared.records.Record.{Record}
+use Rattle.txn_records.specs.Records.{IsRecord}
+use Rattle.record_log.specs.declared.limits.TheConstants.{MOST_RECORDS, FARTHEST_APPEND}
+use Rattle.record_log.specs.Records.{spelled, HoldsRecords, RecordLog, AreItemsOf, IsFirstBadIn, KeepsRecords}
+
+-- ---- bytes
+
+abbrev pub OneListOfRecords : Type 0
+OneListOfRecords = (bytes : List ℕ) (rs xs : List Record) → HoldsRecords bytes rs → HoldsRecords bytes xs → rs ≡ xs
+
+abbrev pub RecordsAreNotForeign : Type 0
+RecordsAreNotForeign = (bytes : List ℕ) (rs : List Record) (offset : ℕ) → NEW_LOG_SIZE < length bytes → HoldsRecords bytes rs → ¬ DiffersAt bytes offset
+
+abbrev pub RecordsAreNotDamaged : Type 0
+RecordsAreNotDamaged = (bytes : List ℕ) (rs : List Record) (offset : ℕ) → NEW_LOG_SIZE < length bytes → HoldsRecords bytes rs → ¬ IsDamagedAt bytes offset
+
+abbrev pub NoRecordIsBad : Type 0
+NoRecordIsBad =
+    (h : History) (new : Option History) (end offset : ℕ) (items : List LogItem) (rs : List Record)
+    → Opened (Some h) new end items → HoldsRecords (content h) rs → ¬ IsFirstBadIn items offset
+
+-- ---- a device
+
+abbrev pub OpenedHeld : Type 0
+OpenedHeld = (h : History) (new : Option History) (end : ℕ) (items : List LogItem) (rs : List Record) → Opened (Some h) new end items → AreItemsOf items rs → HoldsRecords (content h) rs
+
+abbrev pub OpenedHolds : Type 0
+OpenedHolds = (g : History) (end : ℕ) (items : List LogItem) (rs : List Record) → DeviceLog g end (bytes_of items) → AreItemsOf items rs → RecordLog g end rs
+
+abbrev pub ItemsAreRecords : Type 0
+ItemsAreRecords = (items : List LogItem) (rs : List Record) → AreItemsOf items rs → AllByRecursion IsRecord rs
+
+abbrev pub RecordLogHolds : Type 0
+RecordLogHolds = (h : History) (end : ℕ) (rs : List Record) → RecordLog h end rs → HoldsRecords (content h) rs
+
+abbrev pub OpeningKeepsRecords : Type 0
+OpeningKeepsRecords = (old new : Option History) (end : ℕ) (items : List LogItem) → Opened old new end items → MadeSafely old new → KeepsRecords old new
+
+abbrev pub RefusalKeepsRecords : Type 0
+RefusalKeepsRecords = (old new : Option History) (no : OpenNo) → Refused old new no → MadeSafely old new → KeepsRecords old new
+
+-- ---- sizes
+
+abbrev pub FewMayBeAppended : Type 0
+FewMayBeAppended = (end : ℕ) (rs : List Record) → AllByRecursion IsRecord rs → length rs ≤ MOST_RECORDS → end ≤ FARTHEST_APPEND → MayAppend end (spelled rs)
+
+abbrev pub FewTakeLittle : Type 0
+FewTakeLittle = (rs : List Record) → AllByRecursion IsRecord rs → length rs ≤ MOST_RECORDS → length (items_bytes (spelled rs)) ≤ LARGEST_GROUP

@@ -1,0 +1,29 @@
+ghost use Rattle.record_log.specs.GrowthLaws.{OpeningGrows, GroupGrows, FaultGrows, EndGrows, GrowthGives, MomentKeeps, GrowthKeeps};
+
+use gate_log::{append_is_whole, logs_are_lists, one_list, opening_is_safe};
+use snap_outside::images_of_settled;
+
+/// A history grows by opening's operations, by those of one append after the other, and at last by a front of those of
+/// one that met a fault.
+pub fn history_grows()
+    ensures opening { OpeningGrows }
+    ensures group { GroupGrows }
+    ensures fault { FaultGrows }
+    ensures end { EndGrows }
+{
+    opening_is_safe();
+}
+
+/// A log whose history grew so holds the earlier records and those of the groups; and at each moment of it a crash
+/// leaves whole groups.
+pub fn groups_are_whole()
+    ensures gives { GrowthGives }
+    ensures moment { MomentKeeps }
+    ensures keeps { GrowthKeeps }
+{
+    opening_is_safe();
+    append_is_whole();
+    logs_are_lists();
+    one_list();
+    images_of_settled();
+}

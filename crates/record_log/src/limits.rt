@@ -1,0 +1,5 @@
+/// So many records are short enough for one append, whatever they are.
+pub const MOST_RECORDS: usize = 1 << 14;
+
+/// Up to this offset a closed gate leaves room for an append, whatever its records are.
+pub const FARTHEST_APPEND: u64 = (1 << 63) + (1 << 62);
