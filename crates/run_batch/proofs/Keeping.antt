@@ -5,7 +5,7 @@ use Rattle.std.specs.List.{AllByRecursion}
 use Rattle.std.proofs.lemmas.Bool.{ltb-true}
 use Rattle.aml_tree.specs.Tree.{Expr, Code, End, Let, Call, Set, SetField, If, IfElse, While, Fail, Return, CheckedMethod}
 use Rattle.aml_check.specs.Names.{method_at, no_method}
-use Rattle.aml_check.specs.Meaning.{◌>>=◌, Progress, value_of, values_of, state_at, with_field, begun, actor_of, admitted, Exit, Goes, Gives, behind, Caller, turns, block, given, called, holds, statements, no_actor}
+use Rattle.aml_check.specs.Meaning.{◌>>=◌, Progress, value_of, values_of, state_at, with_field, begun, actor_of, admitted, Exit, Goes, Gives, behind, Caller, turns, block, given, called, holds, too_many_statements, no_actor}
 
 -- where there is a value, it has P
 abbrev pub Has : {A : Type 0} → (A → Type 0) → Result A ℕ → Type 0
@@ -83,7 +83,7 @@ abbrev Runs : (Progress → Type 0) → (ℤ → Type 0) → (List ℤ → Progr
 Runs I V next = (vs : List ℤ) (r : Progress) → AllByRecursion V vs → I r → Has (Left I V) (next vs r)
 
 counted : (I : Progress → Type 0) (V : ℤ → Type 0) (E : Expr ℕ → Type 0) (May : ℕ → Type 0) → Kept I V E May → (r : Progress) → I r → Has I (begun r)
-counted I V E May kept r h = either (Has I) (nat_lt r.statements 10000) (Ok (record r { statements = r.statements + 1 })) (Err statements) (kept.counts r (r.statements + 1) h) tt
+counted I V E May kept r h = either (Has I) (nat_lt r.statements 10000) (Ok (record r { statements = r.statements + 1 })) (Err too_many_statements) (kept.counts r (r.statements + 1) h) tt
 
 left_behind : (I : Progress → Type 0) (V : ℤ → Type 0) (vs : List ℤ) (x : Result (Exit × Progress) ℕ) (next : List ℤ → Progress → Result (Exit × Progress) ℕ) → Has (Left I V) x → Runs I V next → Has (Left I V) (behind vs x next)
 left_behind I V vs (Ok (Goes inner, r)) next h runs = runs (take (length vs) inner) r (all_take V (length vs) inner h.0) h.1

@@ -16,7 +16,7 @@ use Rattle.aml_tree.specs.declared.trees.Operator.{Operator}
 use Rattle.aml_tree.specs.declared.trees.Operator.TheVariants as operator
 use Rattle.aml_tree.specs.Tree.{Expr, Number, Variable, Field, Own, Group, Negative, Binary, Code, End, Let, Call, Set, SetField, If, IfElse, While, Fail, Return, CheckedMethod}
 use Rattle.aml_check.specs.Closed.{IsClosedExpression, IsClosedBlock, IsClosedMethod, IsClosedProgram}
-use Rattle.aml_check.specs.Meaning.{◌>>=◌, overflow, zero_divisor, calls, actors, Progress, value_of, in_range, truth, holds, divided, joined, decided, unless_decided, zero_state, state_at, with_field, one_call, with_actor, before, one_less, used, with_left, by_declaration, declared, admitted, ended, declaration, beginning, alone}
+use Rattle.aml_check.specs.Meaning.{◌>>=◌, overflow, zero_divisor, too_many_calls, too_many_actors, Progress, value_of, in_range, truth, holds, divided, joined, decided, unless_decided, zero_state, state_at, with_field, one_call, with_actor, before, one_less, used, with_left, by_declaration, declared, admitted, ended, declaration, beginning, alone}
 use Rattle.aml_check.specs.Transactions.{IsTransaction}
 use Rattle.txn_records.specs.Records.{IsState}
 use Rattle.run_batch.specs.Batch.{declares}
@@ -37,10 +37,10 @@ ended_has P world (Err code) same h = same
 admitted_has : (I J : Progress → Type 0) → ((r : Progress) (n : ℕ) → I r → I (record r { calls = n })) → ((r : Progress) (cs : List ℕ) → I r → I (record r { actors = cs })) → (a : ℕ)
     → ((r : Progress) → I r → Has J (declared a r)) → (r : Progress) → I r → Has J (admitted a r)
 admitted_has I J counts joins a last r h =
-    has_bind I J (one_call r) _ (either (Has I) (nat_lt r.calls 64) (Ok (record r { calls = r.calls + 1 })) (Err calls) (counts r (r.calls + 1) h) tt) (λ q i.
+    has_bind I J (one_call r) _ (either (Has I) (nat_lt r.calls 64) (Ok (record r { calls = r.calls + 1 })) (Err too_many_calls) (counts r (r.calls + 1) h) tt) (λ q i.
     has_bind I J (with_actor a q) _
-    (either (Has I) (list_any (λ b. b == a) q.actors) (Ok q) (cond (nat_lt (length q.actors) 16) (Ok (record q { actors = q.actors ++ a ∷ [] })) (Err actors)) i
-    (either (Has I) (nat_lt (length q.actors) 16) (Ok (record q { actors = q.actors ++ a ∷ [] })) (Err actors) (joins q (q.actors ++ a ∷ []) i) tt))
+    (either (Has I) (list_any (λ b. b == a) q.actors) (Ok q) (cond (nat_lt (length q.actors) 16) (Ok (record q { actors = q.actors ++ a ∷ [] })) (Err too_many_actors)) i
+    (either (Has I) (nat_lt (length q.actors) 16) (Ok (record q { actors = q.actors ++ a ∷ [] })) (Err too_many_actors) (joins q (q.actors ++ a ∷ []) i) tt))
     (λ s j. last s j))
 
 with_left_has : (J : Progress → Type 0) (r : Progress) (m : Option (List (ActorId × ℕ))) → IfSome m (λ us. J (record r { left = Some us })) → Has J (with_left r m)

@@ -9,7 +9,7 @@ use Rattle.snap_recover.specs.declared.openings.Opening.{Opening}
 use Rattle.snap_recover.specs.Opening.{IsRecovered}
 use Rattle.run_batch.specs.Report.{serial_from, IsExecutable}
 use Rattle.run_batch.specs.Batch.{batch_part, commit_part, run_records, AppendsRun, IsDurableFirst, RecoversTo, CrashesRun}
-use Rattle.run_opening.proofs.Moments.{moments_join, moments_weaker, disk_join}
+use Rattle.snap_outside.specs.Moments.{moments_join, moments_weaker, disk_join}
 
 -- what the law run_is_recovered says
 abbrev pub BatchAlone : Type 0

@@ -14,6 +14,3 @@ pub use appends::append_run;
 pub use executed::{ExecuteNo, Executed};
 pub use executions::{actors_report, execute};
 pub use laws::run_is_recovered;
-
-#[cfg(test)]
-mod tests;

@@ -1,12 +1,8 @@
--- The first place at which lists differ, and the first Genesis of records.
-use Rattle.std.proofs.Common.{◌≡◌, ◌≢◌, ℕ, ℤ, ◌+◌, ◌<◌, List, [], ◌∷◌, ◌++◌, length, get_or, take, drop, filter, sym, ◌∙◌, ap, subst, arith}
-use Rattle.std.proofs.lemmas.List.{take-append-drop, drop_more, length-take-le, append-nil}
-use Rattle.std.proofs.lemmas.List.Elements.{filter-append}
+-- The first place at which lists differ.
+use Rattle.std.proofs.Common.{◌≡◌, ◌≢◌, ℕ, ℤ, ◌+◌, ◌<◌, List, ◌∷◌, ◌++◌, length, get_or, take, drop, sym, ◌∙◌, ap, subst, arith}
+use Rattle.std.proofs.lemmas.List.{take-append-drop, drop_more, length-take-le}
 use Rattle.snap_base.specs.declared.transactions.State.{State}
-use Rattle.txn_records.specs.declared.records.Record.{Record}
-use Rattle.txn_records.specs.declared.records.Record.TheVariants.{Genesis}
-use Rattle.snap_recover.specs.Logs.{is_genesis, geneses}
-use Rattle.snap_report.specs.declared.causes.What.TheVariants.{Field}
+use Rattle.snap_recover.specs.declared.causes.What.TheVariants.{Field}
 use Rattle.run_opening.specs.Begins.{IsFieldDifference, IsDifference}
 
 parts_at : {X : Type 0} (xs : List X) (i : ℕ) (d : X) → i < length xs → xs ≡ take i xs ++ get_or xs i d ∷ drop (i + 1) xs
@@ -41,18 +37,3 @@ state_differs kept text i field d k t k' t' sizes in_kept same differs k_is t_is
         (subst (λ (z : ℤ). IsFieldDifference (get_or kept i d).0 (get_or text i d).0 field k z) (sym t_is) differs),
   ),
 )
-
--- ---- Genesis
-
-genesis_at : (rs : List Record) (i logs : ℕ) (d : Record) (states : List State) → i < length rs → get_or rs i d ≡ Genesis logs states → filter is_genesis (take i rs) ≡ []
-    → geneses (rs ∷ []) ≡ Genesis logs states ∷ filter is_genesis (drop (i + 1) rs)
-genesis_at rs i logs d states lt is none =
-    ap (λ (l : List Record). filter is_genesis l) (append-nil rs ∙ parts_at rs i d lt ∙ ap (λ (r : Record). take i rs ++ r ∷ drop (i + 1) rs) is)
-    ∙ filter-append is_genesis (take i rs) (Genesis logs states ∷ drop (i + 1) rs)
-    ∙ ap (λ (l : List Record). l ++ Genesis logs states ∷ filter is_genesis (drop (i + 1) rs)) none
-
-pub first_genesis : (rs : List Record) (i logs : ℕ) (d : Record) (states : List State) → i < length rs → get_or rs i d ≡ Genesis logs states → filter is_genesis (take i rs) ≡ []
-    → (count : ℕ) (first : List State) → geneses (rs ∷ []) ≡ Genesis count first ∷ [] → states ≡ first
-first_genesis rs i logs d states lt is none = λ count first one.
-    let there : Genesis logs states ∷ filter is_genesis (drop (i + 1) rs) ≡ Genesis count first ∷ [] = sym (genesis_at rs i logs d states lt is none) ∙ one in
-    cc

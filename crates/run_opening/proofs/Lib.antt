@@ -1,4 +1,3 @@
 pub mod Beginning
 pub mod Differing
-pub mod Moments
 pub mod Starting

@@ -1,126 +1,171 @@
--- What a run begins with, by the records that were found.
-use Rattle.std.proofs.Common.{◌≡◌, ◌≢◌, ℕ, ◌+◌, ◌≤◌, ◌^◌, inl, inr, List, [], ◌∷◌, ◌++◌, length, refl, sym, ◌∙◌, ap, subst, arith}
+-- What a run begins with, by the records of its logs.
+use Rattle.std.proofs.Common.{◌≡◌, ◌≢◌, ℕ, ◌+◌, ◌≤◌, inl, inr, List, [], ◌∷◌, ◌++◌, length, refl, sym, ◌∙◌, ap, subst, arith, Result, Ok, Err}
 use Rattle.std.proofs.lemmas.List.{append-nil}
+use Rattle.std.specs.Prelude.{MatchResult}
 use Rattle.std.specs.List.{AllByRecursion, AllZip, enumerate_from}
 use Rattle.snap_base.specs.declared.transactions.State.{State}
 use Rattle.txn_records.specs.declared.records.Record.{Record}
-use Rattle.txn_records.specs.declared.records.Record.TheVariants.{Genesis, BatchComplete}
+use Rattle.txn_records.specs.declared.records.Record.TheVariants.{Genesis}
 use Rattle.txn_records.specs.Records.{record_bytes, IsState, IsRecord}
 use Rattle.gate_log.specs.Bytes.{item_bytes, items_bytes}
+use Rattle.gate_log.specs.Device.{MayAppend}
 use Rattle.gate_log.specs.declared.logs.LogItem.{LogItem}
 use Rattle.record_log.specs.Records.{spelled, AreItemsOf}
-use Rattle.record_log.proofs.Sizes.{few_may}
-use Rattle.record_log.proofs.Spelling.{items_each}
+use Rattle.record_log.specs.RecordLogLaws.{ItemsAreRecords}
 use Rattle.snap_recover.specs.declared.openings.Opening.{Opening}
-use Rattle.snap_recover.specs.Opening.{IsStateOf, IsRecovered}
-use Rattle.snap_recover.proofs.Begun.{log_one}
-use Rattle.snap_recover.proofs.Lists.{all_middle}
-use Rattle.snap_report.specs.declared.causes.LogCause.TheVariants as cause
-use Rattle.run_opening.specs.declared.beginnings.BeginNo.{BeginNo}
-use Rattle.run_opening.specs.declared.beginnings.BeginNo.TheVariants.{Logs, Device, Memory}
-use Rattle.run_opening.specs.Begins.{IsUnspent, BeganWith, Begins, begun}
-use Rattle.run_opening.specs.Starts.{lacking, IsStart, IsNoStart, IsNoGoing, IsNoRecovery}
+use Rattle.snap_recover.specs.Logs.{geneses}
+use Rattle.snap_recover.specs.Opening.{IsRecovered}
+use Rattle.snap_recover.specs.declared.causes.LogCause.TheVariants as cause
+use Rattle.log_opening.specs.declared.refusals.LogsNo.{LogsNo}
+use Rattle.log_opening.specs.declared.refusals.LogsNo.TheVariants as ending
+use Rattle.log_opening.specs.Found.{IsNoReading, IsNoRecovery}
+use Rattle.run_opening.specs.declared.openings.TheConstants.{LARGEST_START}
+use Rattle.run_opening.specs.Begins.{AreEmpty, IsUnspent, BeganWith, Begins, begun}
+use Rattle.run_opening.specs.Starts.{IsStart, IsStartOf, IsNoStart, IsNoStartOf}
 
--- ---- what is to be written
+-- ---- one log
 
-pub begun_is : (rs : List Record) (states : List State) → rs ++ lacking rs states ≡ begun rs states
-begun_is [] states = refl
-begun_is (r ∷ rs) states = append-nil (r ∷ rs)
+pub begins_of : (rs added : List Record) (states : List State) (o : Opening) → IsStart (rs ∷ []) states o added → Begins (rs ∷ []) states o
+begins_of rs added states o (inl new) = inl (new.0, new.1)
+begins_of rs added states o (inr on) = inr on.0
 
-pub lacking_are : (rs : List Record) (states : List State) → 1 ≤ length states → length states ≤ 256 → AllByRecursion IsState states → AllByRecursion IsRecord (lacking rs states)
-lacking_are [] states some few are = (record { some_logs = omega arith; few_logs = omega arith; some = some; few = few; each = are }, tt)
-lacking_are (r ∷ rs) states some few are = tt
+-- what the log holds when what is lacking is written
+pub begun_is : (rs added : List Record) (states : List State) (o : Opening) → IsStart (rs ∷ []) states o added → rs ++ added ≡ begun rs states
+begun_is [] added states o (inl new) = new.2
+begun_is (r ∷ rs) added states o (inl new) = absurd (let bad : r ∷ rs ≡ [] = new.0.0 in cc)
+begun_is [] added states o (inr on) = absurd (on.0.some (refl, tt))
+begun_is (r ∷ rs) added states o (inr on) = ap (λ (l : List Record). (r ∷ rs) ++ l) on.1 ∙ append-nil (r ∷ rs)
 
-pub lacking_one : (rs : List Record) (states : List State) → length (lacking rs states) ≤ 1
-lacking_one [] states = omega arith
-lacking_one (r ∷ rs) states = omega arith
+-- what is to be written are records, one at most
+pub added_are : (rs added : List Record) (states : List State) (o : Opening) → 1 ≤ length states → length states ≤ 256 → AllByRecursion IsState states
+    → IsStart (rs ∷ []) states o added → AllByRecursion IsRecord added × (length added ≤ 1)
+added_are rs added states o some few are (inl new) = (
+  subst (λ (l : List Record). AllByRecursion IsRecord l) (sym new.2) (record { some_logs = omega arith; few_logs = omega arith; some = some; few = few; each = are }, tt),
+  omega (arith, ap (λ (l : List Record). length l) new.2),
+)
+added_are rs added states o some few are (inr on) = (
+  subst (λ (l : List Record). AllByRecursion IsRecord l) (sym on.1) tt,
+  omega (arith, ap (λ (l : List Record). length l) on.1),
+)
 
 -- one record takes a little of the log
-pub grown_little : (added : List Record) (before after : ℕ) → AllByRecursion IsRecord added → length added ≤ 1 → ([] ≡ added → after ≡ before)
-    → (added ≢ [] → after ≡ before + 5 + length (items_bytes (spelled added))) → after ≤ before + 2 ^ 20
-grown_little [] before after are one empty grown = omega (arith, empty refl)
-grown_little (r ∷ []) before after are one empty grown =
-    let short = (few_may 0 (r ∷ []) are (omega arith) (omega arith)).items.0.short in
+pub grown_little : (added : List Record) (before after : ℕ) → MayAppend before (spelled added) → length added ≤ 1 → ([] ≡ added → after ≡ before)
+    → (added ≢ [] → after ≡ before + 5 + length (items_bytes (spelled added))) → after ≤ before + LARGEST_START
+grown_little [] before after may one empty grown = omega (arith, empty refl)
+grown_little (r ∷ []) before after may one empty grown =
     let size : length (items_bytes (spelled (r ∷ []))) ≡ 2 + length (record_bytes r) = ap length (append-nil (item_bytes (record_bytes r))) ∙ omega arith in
-    omega (arith, grown (λ e. absurd (cc)), short, size)
-grown_little (r ∷ s ∷ rs) before after are one empty grown = absurd (omega (arith, one))
+    omega (arith, grown (λ e. absurd (cc)), may.items.0.short, size)
+grown_little (r ∷ s ∷ rs) before after may one empty grown = absurd (omega (arith, one))
 
 -- ---- the states that it begins with
 
-state_kept : (rs : List Record) (a : ℕ) (first s : State) → AllByRecursion IsRecord rs → IsState first → IsStateOf (rs ∷ []) a first s → IsState s
-state_kept rs a first s are is of = elim of [
-  | inl last ↦ (all_middle IsRecord last.2.0 (BatchComplete last.0 last.1 s) last.2.1
-      (subst (λ (l : List Record). AllByRecursion IsRecord l) (sym (log_one rs a) ∙ last.2.2) are)).is_state
-  | inr same ↦ subst IsState (sym same.1) is
-]
+enumerated : (n : ℕ) (states : List State) → length (enumerate_from n states) ≡ length states
+enumerated n [] = refl
+enumerated n (s ∷ ss) = omega (arith, enumerated (n + 1) ss)
 
-states_kept : (rs : List Record) (n : ℕ) (first states : List State) → AllByRecursion IsRecord rs → AllByRecursion IsState first
-    → AllZip (λ (x : ℕ × State) s. IsStateOf (rs ∷ []) x.0 x.1 s) (enumerate_from n first) states → (length states ≡ length first) × AllByRecursion IsState states
-states_kept rs n [] [] are is all = (refl, tt)
-states_kept rs n [] (s ∷ states) are is all = absurd all
-states_kept rs n (f ∷ first) [] are is all = absurd all
-states_kept rs n (f ∷ first) (s ∷ states) are is all =
-    let more = states_kept rs (n + 1) first states are is.1 all.1 in
-    (omega (arith, more.0), (state_kept rs n f s are is.0 all.0, more.1))
+zip_long : {A B : Type 0} (R : A → B → Type 0) (xs : List A) (ys : List B) → AllZip R xs ys → length xs ≡ length ys
+zip_long R [] [] all = refl
+zip_long R [] (y ∷ ys) all = absurd all
+zip_long R (x ∷ xs) [] all = absurd all
+zip_long R (x ∷ xs) (y ∷ ys) all = omega (arith, zip_long R xs ys all.1)
 
-began_one : (rs : List Record) (states : List State) (o : Opening) → IsRecovered (rs ∷ []) o → BeganWith rs states
-    → AllZip (λ (x : ℕ × State) s. IsStateOf (rs ∷ []) x.0 x.1 s) (enumerate_from 0 states) o.states
-began_one rs states o recovered began =
-    let same : Genesis 1 recovered.begun.0 ∷ [] ≡ Genesis 1 states ∷ [] = sym recovered.begun.1.one ∙ began in
+-- as many as the text gives
+began_long : (logs : List (List Record)) (states : List State) (o : Opening) → IsRecovered logs o → BeganWith logs states → length o.states ≡ length states
+began_long logs states o recovered began =
+    let same : Genesis (length logs) recovered.begun.0 ∷ [] ≡ Genesis (length logs) states ∷ [] = sym recovered.begun.1.one ∙ began in
     let first : recovered.begun.0 ≡ states = cc in
-    subst (λ (l : List State). AllZip (λ (x : ℕ × State) s. IsStateOf (rs ∷ []) x.0 x.1 s) (enumerate_from 0 l) o.states) first recovered.begun.2
+    let long = zip_long _ (enumerate_from 0 recovered.begun.0) o.states recovered.begun.2 in
+    omega (arith, long, enumerated 0 recovered.begun.0, ap (λ (l : List State). length l) first)
 
-pub begins_states : (rs : List Record) (states : List State) (o : Opening) → AllByRecursion IsRecord rs → AllByRecursion IsState states → Begins rs states o
-    → (length o.states ≡ length states) × AllByRecursion IsState o.states
-begins_states rs states o are is begins = elim begins [
-  | inl new ↦ (ap (λ (p : Opening). length p.states) new.1, subst (λ (p : Opening). AllByRecursion IsState p.states) (sym new.1) is)
-  | inr on ↦ states_kept rs 0 states o.states are is (began_one rs states o on.recovered on.same)
-]
+pub begins_states : (rs : List Record) (states : List State) (o : Opening)
+    → ((logs : List (List Record)) (p : Opening) → AllByRecursion (AllByRecursion IsRecord) logs → IsRecovered logs p → AllByRecursion IsState p.states)
+    → AllByRecursion IsRecord rs → AllByRecursion IsState states → Begins (rs ∷ []) states o → (length o.states ≡ length states) × AllByRecursion IsState o.states
+begins_states rs states o recovered are is (inl new) =
+    (ap (λ (p : Opening). length p.states) new.1, subst (λ (p : Opening). AllByRecursion IsState p.states) (sym new.1) is)
+begins_states rs states o recovered are is (inr on) = (began_long (rs ∷ []) states o on.recovered on.same, recovered (rs ∷ []) o (are, tt) on.recovered)
 
-pub begins_unspent : (rs : List Record) (states : List State) (o : Opening) → Begins rs states o → IsUnspent o
-begins_unspent rs states o begins = elim begins [
-  | inl new ↦ subst IsUnspent (sym new.1) (record { tid = omega arith; bid = omega arith; c = omega arith })
-  | inr on ↦ on.unspent
-]
+pub begins_unspent : (logs : List (List Record)) (states : List State) (o : Opening) → Begins logs states o → IsUnspent o
+begins_unspent logs states o (inl new) = subst IsUnspent (sym new.1) (record { tid = omega arith; bid = omega arith; c = omega arith })
+begins_unspent logs states o (inr on) = on.unspent
 
-pub start_states : (items : List LogItem) (states : List State) (o : Opening) (added : List Record) → AllByRecursion IsState states → IsStart items states o added
-    → (length o.states ≡ length states) × AllByRecursion IsState o.states
-start_states items states o added is start = begins_states start.0 states o (items_each items start.0 start.1) is start.2
+pub start_unspent : (items : List LogItem) (states : List State) (o : Opening) (added : List Record) → IsStartOf items states o added → IsUnspent o
+start_unspent items states o added start = begins_unspent (start.0 ∷ []) states o (begins_of start.0 added states o start.2)
 
--- what is to be written are records, one at most
+pub start_states : ItemsAreRecords → (items : List LogItem) (states : List State) (o : Opening) (added : List Record)
+    → ((logs : List (List Record)) (p : Opening) → AllByRecursion (AllByRecursion IsRecord) logs → IsRecovered logs p → AllByRecursion IsState p.states)
+    → AllByRecursion IsState states → IsStartOf items states o added → (length o.states ≡ length states) × AllByRecursion IsState o.states
+start_states each items states o added recovered is start =
+    begins_states start.0 states o recovered (each items start.0 start.1) is (begins_of start.0 added states o start.2)
+
 pub start_added : (items : List LogItem) (states : List State) (o : Opening) (added : List Record) → 1 ≤ length states → length states ≤ 256 → AllByRecursion IsState states
-    → IsStart items states o added → AllByRecursion IsRecord added × (length added ≤ 1)
-start_added items states o added some few is start = (
-  subst (λ (l : List Record). AllByRecursion IsRecord l) (sym start.3) (lacking_are start.0 states some few is),
-  subst (λ (l : List Record). length l ≤ 1) (sym start.3) (lacking_one start.0 states),
-)
+    → IsStartOf items states o added → AllByRecursion IsRecord added × (length added ≤ 1)
+start_added items states o added some few is start = added_are start.0 added states o some few is start.2
 
 -- ---- why there is none
 
-pub no_recovery : (rs : List Record) (states : List State) (no : BeginNo) → IsNoRecovery (rs ∷ []) no → IsNoGoing rs states no
-no_recovery rs states (Logs log offset cause.NotALog) why = absurd why.1
-no_recovery rs states (Logs log offset cause.Damage) why = absurd why.1
-no_recovery rs states (Logs log offset cause.BadRecord) why = absurd why.1
-no_recovery rs states (Logs log offset cause.NoGenesis) why = why
-no_recovery rs states (Logs log offset cause.TwoGenesis) why = why
-no_recovery rs states (Logs log offset (cause.LogCount k f)) why = why
-no_recovery rs states (Logs log offset (cause.Range k)) why = why
-no_recovery rs states (Logs log offset (cause.Missing k)) why = why
-no_recovery rs states (Logs log offset (cause.Spent n)) why = absurd why.1
-no_recovery rs states (Logs log offset (cause.Differs w k t)) why = absurd why.1
-no_recovery rs states Device why = absurd why
-no_recovery rs states Memory why = tt
+pub no_recovery : (logs : List (List Record)) (states : List State) (no : LogsNo) → ¬ AreEmpty logs → IsNoRecovery logs no → IsNoStart logs states no
+no_recovery logs states (ending.Refused log offset cause.NotALog) some why = absurd why.1
+no_recovery logs states (ending.Refused log offset cause.Damage) some why = absurd why.1
+no_recovery logs states (ending.Refused log offset cause.BadRecord) some why = absurd why.1
+no_recovery logs states (ending.Refused log offset cause.NoGenesis) some why = (why.0, some, why.1)
+no_recovery logs states (ending.Refused log offset cause.TwoGenesis) some why = (why.0, some, why.1)
+no_recovery logs states (ending.Refused log offset (cause.LogCount k f)) some why = (why.0, some, why.1)
+no_recovery logs states (ending.Refused log offset (cause.Range k)) some why = (why.0, some, why.1)
+no_recovery logs states (ending.Refused log offset (cause.Missing k)) some why = (why.0, some, why.1)
+no_recovery logs states (ending.Refused log offset (cause.Spent n)) some why = absurd why.1
+no_recovery logs states (ending.Refused log offset (cause.Differs w k t)) some why = absurd why.1
+no_recovery logs states (ending.Device log) some why = absurd why
+no_recovery logs states ending.Memory some why = tt
 
-pub no_going : (items : List LogItem) (rs : List Record) (states : List State) (no : BeginNo) → AreItemsOf items rs → rs ≢ [] → IsNoGoing rs states no → IsNoStart items states no
-no_going items rs states (Logs log offset cause.NotALog) are some why = absurd why.1
-no_going items rs states (Logs log offset cause.Damage) are some why = absurd why.1
-no_going items rs states (Logs log offset cause.BadRecord) are some why = absurd why.1
-no_going items rs states (Logs log offset cause.NoGenesis) are some why = (why.0, (rs, are, some, why.1))
-no_going items rs states (Logs log offset cause.TwoGenesis) are some why = (why.0, (rs, are, some, why.1))
-no_going items rs states (Logs log offset (cause.LogCount k f)) are some why = (why.0, (rs, are, some, why.1))
-no_going items rs states (Logs log offset (cause.Range k)) are some why = (why.0, (rs, are, some, why.1))
-no_going items rs states (Logs log offset (cause.Missing k)) are some why = (why.0, (rs, are, some, why.1))
-no_going items rs states (Logs log offset (cause.Spent n)) are some why = (why.0, (rs, are, some, why.1))
-no_going items rs states (Logs log offset (cause.Differs w k t)) are some why = (why.0, (rs, are, some, why.1))
-no_going items rs states Device are some why = absurd why
-no_going items rs states Memory are some why = tt
+pub no_reading : (items : List LogItem) (states : List State) (no : LogsNo) → IsNoReading items 0 no → IsNoStartOf items states no
+no_reading items states (ending.Refused log offset cause.NotALog) why = absurd why
+no_reading items states (ending.Refused log offset cause.Damage) why = absurd why
+no_reading items states (ending.Refused log offset cause.BadRecord) why = why
+no_reading items states (ending.Refused log offset cause.NoGenesis) why = absurd why
+no_reading items states (ending.Refused log offset cause.TwoGenesis) why = absurd why
+no_reading items states (ending.Refused log offset (cause.LogCount k f)) why = absurd why
+no_reading items states (ending.Refused log offset (cause.Range k)) why = absurd why
+no_reading items states (ending.Refused log offset (cause.Missing k)) why = absurd why
+no_reading items states (ending.Refused log offset (cause.Spent n)) why = absurd why
+no_reading items states (ending.Refused log offset (cause.Differs w k t)) why = absurd why
+no_reading items states (ending.Device log) why = absurd why
+no_reading items states ending.Memory why = tt
+
+one_some : (rs : List Record) → ¬ AreEmpty (rs ∷ []) → rs ≢ []
+one_some rs some e = some (e, tt)
+
+no_start_of : (items : List LogItem) (rs : List Record) (states : List State) (no : LogsNo) → AreItemsOf items rs → IsNoStart (rs ∷ []) states no → IsNoStartOf items states no
+no_start_of items rs states (ending.Refused log offset cause.NotALog) are why = absurd why.2
+no_start_of items rs states (ending.Refused log offset cause.Damage) are why = absurd why.2
+no_start_of items rs states (ending.Refused log offset cause.BadRecord) are why = absurd why.2
+no_start_of items rs states (ending.Refused log offset cause.NoGenesis) are why = (why.0, (rs, are, one_some rs why.1, why.2))
+no_start_of items rs states (ending.Refused log offset cause.TwoGenesis) are why = (why.0, (rs, are, one_some rs why.1, why.2))
+no_start_of items rs states (ending.Refused log offset (cause.LogCount k f)) are why = (why.0, (rs, are, one_some rs why.1, why.2))
+no_start_of items rs states (ending.Refused log offset (cause.Range k)) are why = (why.0, (rs, are, one_some rs why.1, why.2))
+no_start_of items rs states (ending.Refused log offset (cause.Missing k)) are why = (why.0, (rs, are, one_some rs why.1, why.2))
+no_start_of items rs states (ending.Refused log offset (cause.Spent n)) are why = (why.0, (rs, are, one_some rs why.1, why.2))
+no_start_of items rs states (ending.Refused log offset (cause.Differs w k t)) are why = (why.0, (rs, are, one_some rs why.1, why.2))
+no_start_of items rs states (ending.Device log) are why = absurd why
+no_start_of items rs states ending.Memory are why = tt
+
+pub one_log : (items : List LogItem) (rs : List Record) (states : List State) (S : Type 0) (opening : S → Opening) (added : S → List Record) (r : Result S LogsNo) → AreItemsOf items rs
+    → MatchResult r (λ s. IsStart (rs ∷ []) states (opening s) (added s)) (λ no. IsNoStart (rs ∷ []) states no)
+    → MatchResult r (λ s. IsStartOf items states (opening s) (added s)) (λ no. IsNoStartOf items states no)
+one_log items rs states S opening added (Ok s) are start = (rs, are, start)
+one_log items rs states S opening added (Err answer) are why = no_start_of items rs states answer are why
+
+-- ---- the first Genesis
+
+pub began_same : (logs : List (List Record)) (o : Opening) (count : ℕ) (first states : List State) (rest : List Record) → IsRecovered logs o
+    → geneses logs ≡ Genesis count first ∷ rest → first ≡ states → BeganWith logs states
+began_same logs o count first states rest recovered found same =
+    let one : Genesis count first ∷ rest ≡ Genesis (length logs) recovered.begun.0 ∷ [] = sym found ∙ recovered.begun.1.one in
+    let here : recovered.begun.0 ≡ first = cc in
+    recovered.begun.1.one ∙ ap (λ (l : List State). Genesis (length logs) l ∷ []) (here ∙ same)
+
+pub began_first : (logs : List (List Record)) (o : Opening) (count : ℕ) (first : List State) (rest : List Record) → IsRecovered logs o
+    → geneses logs ≡ Genesis count first ∷ rest → BeganWith logs first
+began_first logs o count first rest recovered found = began_same logs o count first first rest recovered found refl
+
+pub began_some : (logs : List (List Record)) (o : Opening) → IsRecovered logs o → geneses logs ≢ []
+began_some logs o recovered none = let bad : [] ≡ Genesis (length logs) recovered.begun.0 ∷ [] = sym none ∙ recovered.begun.1.one in cc

@@ -1,55 +1,44 @@
--- What the parts of a beginning answer.
-use Rattle.std.specs.Prelude.{◌≡◌, ◌≢◌, List, [], ◌∷◌}
+-- What is written before a run, and why there is none.
+use Rattle.std.specs.Prelude.{◌≡◌, ◌≢◌, ◌⊎◌, ℕ, List, [], ◌∷◌, length}
 use Rattle.snap_base.specs.declared.transactions.State.{State}
 use Rattle.gate_log.specs.declared.logs.LogItem.{LogItem}
-use Rattle.gate_log.specs.declared.opens.OpenNo.{OpenNo}
-use Rattle.gate_log.specs.declared.opens.OpenNo.TheVariants as refusal
 use Rattle.txn_records.specs.declared.records.Record.{Record}
 use Rattle.txn_records.specs.declared.records.Record.TheVariants.{Genesis}
 use Rattle.record_log.specs.Records.{AreItemsOf, IsFirstBadIn}
 use Rattle.snap_recover.specs.declared.openings.Opening.{Opening}
-use Rattle.snap_report.specs.declared.causes.LogCause.TheVariants as cause
-use Rattle.run_opening.specs.declared.beginnings.BeginNo.{BeginNo}
-use Rattle.run_opening.specs.declared.beginnings.BeginNo.TheVariants.{Logs, Device, Memory}
-use Rattle.run_opening.specs.Begins.{Begins, IsRecoveryCause, IsCause}
+use Rattle.snap_recover.specs.declared.causes.LogCause.TheVariants as cause
+use Rattle.log_opening.specs.declared.refusals.LogsNo.{LogsNo}
+use Rattle.log_opening.specs.declared.refusals.LogsNo.TheVariants as ending
+use Rattle.run_opening.specs.Begins.{AreEmpty, GoesOn, IsCause, fresh_opening}
 
--- what is to be written before a run: Genesis where there is no record
-abbrev pub lacking : List Record → List State → List Record
-lacking [] states = Genesis 1 states ∷ []
-lacking (r ∷ rs) states = []
+-- the first record of the logs of a run
+abbrev pub first_record : ℕ → List State → Record
+first_record logs states = Genesis logs states
 
--- The items are records with which the run begins with the opening, and these are to be written before it.
-abbrev pub IsStart : List LogItem → List State → Opening → List Record → Type 0
-IsStart items states o added = (rs : List Record) × AreItemsOf items rs × Begins rs states o × (added ≡ lacking rs states)
+-- The run begins with the opening, and these are to be written to log 0 before it: Genesis where no log has a record.
+abbrev pub IsStart : List (List Record) → List State → Opening → List Record → Type 0
+IsStart logs states o added =
+    (AreEmpty logs × (o ≡ fresh_opening states) × (added ≡ first_record (length logs) states ∷ [])) ⊎ (GoesOn logs states o × (added ≡ []))
 
--- why the items give no run a beginning
-abbrev pub IsNoStart : List LogItem → List State → BeginNo → Type 0
-IsNoStart items states (Logs log offset cause.BadRecord) = (log ≡ 0) × IsFirstBadIn items offset
-IsNoStart items states (Logs log offset c) = (offset ≡ 0) × ((rs : List Record) × AreItemsOf items rs × (rs ≢ []) × IsCause rs states log c)
-IsNoStart items states Device = ⊥
-IsNoStart items states Memory = Unit {0}
+-- why a run does not go on from the records of these logs
+abbrev pub IsNoStart : List (List Record) → List State → LogsNo → Type 0
+IsNoStart logs states (ending.Refused log offset c) = (offset ≡ 0) × (¬ AreEmpty logs) × IsCause logs states log c
+IsNoStart logs states (ending.Device log) = ⊥
+IsNoStart logs states ending.Memory = Unit {0}
 
--- why a run does not go on from the records
-abbrev pub IsNoGoing : List Record → List State → BeginNo → Type 0
-IsNoGoing rs states (Logs log offset c) = (offset ≡ 0) × IsCause rs states log c
-IsNoGoing rs states Device = ⊥
-IsNoGoing rs states Memory = Unit {0}
+-- ---- one log, by the items that were found in it
 
--- why the records of all logs recover to nothing
-abbrev pub IsNoRecovery : List (List Record) → BeginNo → Type 0
-IsNoRecovery logs (Logs log offset c) = (offset ≡ 0) × IsRecoveryCause logs log c
-IsNoRecovery logs Device = ⊥
-IsNoRecovery logs Memory = Unit {0}
+abbrev pub IsStartOf : List LogItem → List State → Opening → List Record → Type 0
+IsStartOf items states o added = (rs : List Record) × AreItemsOf items rs × IsStart (rs ∷ []) states o added
 
--- the same refusal of a log's opening, in the words of a run
-abbrev pub no_of_opening : OpenNo → BeginNo
-no_of_opening (refusal.NotALog offset) = Logs 0 offset cause.NotALog
-no_of_opening (refusal.Damage offset) = Logs 0 offset cause.Damage
-no_of_opening refusal.Device = Device
-no_of_opening refusal.Memory = Memory
+abbrev pub IsNoStartOf : List LogItem → List State → LogsNo → Type 0
+IsNoStartOf items states (ending.Refused log offset cause.BadRecord) = (log ≡ 0) × IsFirstBadIn items offset
+IsNoStartOf items states (ending.Refused log offset c) = (offset ≡ 0) × ((rs : List Record) × AreItemsOf items rs × (rs ≢ []) × IsCause (rs ∷ []) states log c)
+IsNoStartOf items states (ending.Device log) = ⊥
+IsNoStartOf items states ending.Memory = Unit {0}
 
 -- nothing was found in the log that refuses the run
-abbrev pub IsFailure : BeginNo → Type 0
-IsFailure (Logs log offset c) = ⊥
-IsFailure Device = Unit {0}
-IsFailure Memory = Unit {0}
+abbrev pub IsFailure : LogsNo → Type 0
+IsFailure (ending.Refused log offset c) = ⊥
+IsFailure (ending.Device log) = log ≡ 0
+IsFailure ending.Memory = Unit {0}

@@ -1,16 +1,11 @@
-ghost use Rattle.std.specs.Prelude.{◌≡◌, ℕ, ◌-◌, ◌≤◌, ◌^◌, List, [], ◌∷◌, length, MatchOption};
-ghost use Rattle.snap_base.specs.declared.transactions.State.{State};
-ghost use Rattle.txn_records.specs.declared.records.Record.TheVariants.{Genesis};
-ghost use Rattle.snap_recover.specs.Logs.{geneses};
+ghost use Rattle.std.specs.Prelude.{◌≡◌, ◌≤◌, length, MatchOption};
 ghost use Rattle.run_opening.specs.Begins.{IsUnspent, IsFirstSpent, IsDifference, IsFieldDifference};
 
 use snap_base::{ActorId, State};
-use snap_recover::Opening;
-use snap_report::What;
-use txn_records::Record;
+use snap_recover::{GREATEST_NUMBER, Opening, What};
 
 /// The greatest number with which a run begins.
-const MOST: u64 = (1 << 62) - (1 << 20);
+pub const GREATEST_TO_BEGIN: u64 = GREATEST_NUMBER - (1 << 20);
 
 /// What two texts differ in, and its values.
 #[derive(Clone, Copy, Debug, PartialEq, Eq)]
@@ -32,28 +27,16 @@ struct FieldDifference {
 pub(crate) fn spent(opening: &Opening) -> Option<u64>
     ensures { MatchOption result (IsUnspent opening.now) (IsFirstSpent opening.now) }
 {
-    if opening.next_tid.0 > MOST {
+    if opening.next_tid.0 > GREATEST_TO_BEGIN {
         return Some(opening.next_tid.0);
     }
-    if opening.next_bid.0 > MOST {
+    if opening.next_bid.0 > GREATEST_TO_BEGIN {
         return Some(opening.next_bid.0);
     }
-    if opening.next_c > MOST {
+    if opening.next_c > GREATEST_TO_BEGIN {
         return Some(opening.next_c);
     }
     None
-}
-
-/// The states that the first Genesis of the records tells; none where there is no Genesis.
-pub(crate) fn first_states(records: &[Record]) -> &[State]
-    ensures { (logs : ℕ) (first : List State) → geneses (records.now ∷ []) ≡ Genesis logs first ∷ [] → result.now ≡ first }
-{
-    for record in records {
-        if let Record::Genesis { logs: _, states } = record {
-            return states.as_slice();
-        }
-    }
-    &[]
 }
 
 /// What differs first between the states that a log began with and the text's.

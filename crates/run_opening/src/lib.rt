@@ -1,15 +1,12 @@
-//! What a run begins with: its log is opened, the records are decoded and recovered, what they began with is
-//! compared with the work text, and Genesis is written where there is no record yet.
+//! What a run begins with: the records of its logs are recovered, what they began with is compared with the work
+//! text, and Genesis is written where no log has a record yet. That is said of lists of records (`start_from`); of
+//! devices it is said for runs of one log, and the same serves more.
 #![tactic(auto)]
 
-mod beginnings;
-mod causes;
 mod comparisons;
 mod openings;
 mod starts;
 
-pub use beginnings::BeginNo;
-pub use openings::open_for_run;
-
-#[cfg(test)]
-mod tests;
+pub use comparisons::GREATEST_TO_BEGIN;
+pub use openings::{LARGEST_START, open_for_run};
+pub use starts::{Start, start_from};

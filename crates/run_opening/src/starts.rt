@@ -1,49 +1,57 @@
-ghost use Rattle.std.specs.Prelude.{◌≡◌, ◌≢◌, ℕ, ◌≤◌, ◌^◌, List, [], ◌∷◌, length, IfOk, IfErr, MatchOption};
+ghost use Rattle.std.specs.Prelude.{◌≡◌, ◌≤◌, ℕ, ◌^◌, [], ◌∷◌, length, IsTrue, ◌↔◌, IfOk, IfErr, MatchOption, MatchResult};
 ghost use Rattle.std.specs.List.{AllByRecursion};
-ghost use Rattle.gate_log.specs.Bytes.{IsPlacedLogAt};
-ghost use Rattle.txn_records.specs.Records.{IsRecord};
+ghost use Rattle.log_opening.specs.Found.{ArePlaced};
 ghost use Rattle.snap_recover.specs.Opening.{IsRecovered};
-ghost use Rattle.run_opening.specs.Begins.{IsUnspent, BeganWith, GoesOn, IsCause};
-ghost use Rattle.run_opening.specs.Starts.{IsStart, IsNoStart, IsNoGoing, lacking};
-ghost use Rattle.run_opening.specs.Begins.{fresh_opening};
+ghost use Rattle.run_opening.specs.Begins.{AreEmpty, IsUnspent, BeganWith, GoesOn, IsCause, fresh_opening};
+ghost use Rattle.run_opening.specs.Starts.{IsStart, IsStartOf, IsNoStart, IsNoStartOf, first_record};
 
-use crate::BeginNo;
-use crate::causes::{of_items, of_recovery};
-use crate::comparisons::{compare_states, first_states, spent};
+use crate::comparisons::{compare_states, spent};
 use gate_log::LogItem;
-use record_log::records_of;
+use log_opening::{LogsNo, read_log, recover_records};
 use snap_base::{Memory, Sequence, State};
-use snap_recover::{Opening, fresh, recover};
-use snap_report::LogCause;
+use snap_recover::{LogCause, Opening, first_genesis, fresh};
 use std::alloc::Global;
 use std::slice;
 use txn_records::Record;
 
-/// What a run begins with, and the records that are to be written before it.
+/// What a run begins with, and the records that are to be written to log 0 before it.
 #[derive(Drop)]
-pub(crate) struct Start {
+pub struct Start {
+    /// What the run begins with.
     pub opening: Opening,
+    /// Genesis where no log has a record, and else nothing.
     pub added: Sequence<Record>,
 }
 
 /// What a run of a text with these states begins with, on a log in which these items were found.
-pub(crate) fn start_of(alloc: Global, items: &[LogItem], states: &[State]) -> Result<Start, BeginNo>
-    requires items { (bytes : List ℕ) × (end : ℕ) × IsPlacedLogAt bytes end items.now × (end ≤ 2 ^ 63) }
+pub(crate) fn start_of(alloc: Global, items: &[LogItem], states: &[State]) -> Result<Start, LogsNo>
+    requires items { ArePlaced items.now }
     requires few { length states.now ≤ 256 }
-    ensures start { IfOk result (λ s. IsStart items.now states.now s.opening s.added) }
-    ensures refused { IfErr result (λ no. IsNoStart items.now states.now no) }
+    ensures { MatchResult result (λ s. IsStartOf items.now states.now s.opening s.added) (λ no. IsNoStartOf items.now states.now no) }
 {
-    let records = match records_of(alloc, items) {
-        Ok(records) => records,
-        Err(no) => return Err(of_items(no)),
-    };
-    if records.as_slice().is_empty() {
-        return match first_start(alloc, states) {
+    match read_log(alloc, items, 0) {
+        Ok(records) => start_from(alloc, slice::from_ref(&records), states),
+        Err(no) => Err(no),
+    }
+}
+
+/// What a run of a text with these states begins with, on logs of these records.
+pub fn start_from(
+    alloc: Global,
+    logs: &[Sequence<Record>],
+    states: &[State],
+) -> Result<Start, LogsNo>
+    requires logs { length logs.now ≤ 4 }
+    requires few { length states.now ≤ 256 }
+    ensures { MatchResult result (λ s. IsStart logs.now states.now s.opening s.added) (λ no. IsNoStart logs.now states.now no) }
+{
+    if all_empty(logs) {
+        return match first_start(alloc, logs.len() as u8, states) {
             Ok(start) => Ok(start),
-            Err(Memory) => Err(BeginNo::Memory),
+            Err(Memory) => Err(LogsNo::Memory),
         };
     }
-    match go_on(alloc, &records, states) {
+    match go_on(alloc, logs, states) {
         Ok(opening) => Ok(Start {
             opening,
             added: Sequence::new(alloc),
@@ -52,34 +60,44 @@ pub(crate) fn start_of(alloc: Global, items: &[LogItem], states: &[State]) -> Re
     }
 }
 
-/// What the first run begins with, and its Genesis.
-fn first_start(alloc: Global, states: &[State]) -> Result<Start, Memory>
+/// Whether no log has a record.
+fn all_empty(logs: &[Sequence<Record>]) -> bool
+    ensures { IsTrue result ↔ AreEmpty logs.now }
+{
+    for records in logs {
+        if !records.as_slice().is_empty() {
+            return false;
+        }
+    }
+    true
+}
+
+/// What the first run on so many logs begins with, and its Genesis.
+fn first_start(alloc: Global, logs: u8, states: &[State]) -> Result<Start, Memory>
     ensures opening { IfOk result (λ s. s.opening ≡ fresh_opening states.now) }
-    ensures added { IfOk result (λ s. s.added ≡ lacking [] states.now) }
+    ensures added { IfOk result (λ s. s.added ≡ first_record logs states.now ∷ []) }
 {
     let opening = fresh(alloc, states)?;
     let mut added = Sequence::new(alloc);
     added.push(Record::Genesis {
-        logs: 1,
+        logs,
         states: Sequence::from_vec(Vec::from_slice(alloc, states)?),
     })?;
     Ok(Start { opening, added })
 }
 
-/// What a run of a text with these states goes on with from the records of a log.
-fn go_on(alloc: Global, records: &Sequence<Record>, states: &[State]) -> Result<Opening, BeginNo>
-    requires records { AllByRecursion IsRecord records.now }
-    requires some { records.now ≢ [] }
+/// What a run of a text with these states goes on with from the records of the logs.
+fn go_on(alloc: Global, logs: &[Sequence<Record>], states: &[State]) -> Result<Opening, LogsNo>
+    requires some { ¬ AreEmpty logs.now }
     requires few { length states.now ≤ 256 }
-    ensures goes_on { IfOk result (λ o. GoesOn records.now states.now o) }
-    ensures refused { IfErr result (λ no. IsNoGoing records.now states.now no) }
+    ensures { MatchResult result (λ o. GoesOn logs.now states.now o) (λ no. IsNoStart logs.now states.now no) }
 {
-    let opening = match recover(alloc, slice::from_ref(records)) {
+    let opening = match recover_records(alloc, logs) {
         Ok(opening) => opening,
-        Err(no) => return Err(of_recovery(no)),
+        Err(no) => return Err(no),
     };
-    match objection(&opening, records.as_slice(), states) {
-        Some(cause) => Err(BeginNo::Logs {
+    match objection(&opening, logs, states) {
+        Some(cause) => Err(LogsNo::Refused {
             log: 0,
             offset: 0,
             cause,
@@ -88,16 +106,17 @@ fn go_on(alloc: Global, records: &Sequence<Record>, states: &[State]) -> Result<
     }
 }
 
-/// Why a run of a text with these states does not go on from what the records of its log recover to.
-fn objection(opening: &Opening, records: &[Record], states: &[State]) -> Option<LogCause>
-    requires recovered { IsRecovered (records.now ∷ []) opening.now }
+/// Why a run of a text with these states does not go on from what the records of its logs recover to.
+fn objection(opening: &Opening, logs: &[Sequence<Record>], states: &[State]) -> Option<LogCause>
+    requires recovered { IsRecovered logs.now opening.now }
     requires few { length states.now ≤ 256 }
-    ensures { MatchOption result (BeganWith records.now states.now × IsUnspent opening.now) (IsCause records.now states.now 0) }
+    ensures { MatchOption result (BeganWith logs.now states.now × IsUnspent opening.now) (IsCause logs.now states.now 0) }
 {
     if let Some(number) = spent(opening) {
         return Some(LogCause::Spent { number });
     }
-    let d = compare_states(first_states(records), states)?;
+    let (_, first) = first_genesis(logs)?;
+    let d = compare_states(first.as_slice(), states)?;
     Some(LogCause::Differs {
         what: d.what,
         kept: d.kept,

@@ -1,6 +1,6 @@
 -- What stays as it was when the records of the next batch are added to the one log.
-use Rattle.std.proofs.Common.{◌≡◌, ◌≢◌, ℕ, ◌+◌, ◌<◌, ◌≤◌, ◌⊎◌, inl, inr, Bool, false, cond, List, [], ◌∷◌, ◌++◌, max, refl, sym, ap, subst, ◌∙◌, arith, append_assoc}
-use Rattle.std.proofs.lemmas.List.{append-nil}
+use Rattle.std.proofs.Common.{◌≡◌, ◌≢◌, ℕ, ◌+◌, ◌<◌, ◌≤◌, ◌⊎◌, inl, inr, Bool, false, cond, List, [], ◌∷◌, ◌++◌, max, refl, sym, ap, subst, ◌∙◌, arith, append_assoc, map, Contains}
+use Rattle.std.proofs.lemmas.List.{map-append, append-nil}
 use Rattle.std.proofs.lemmas.List.Elements.{filter-append}
 use Rattle.std.specs.List.{AllByRecursion, enumerate_from, flat_map, filter}
 use Rattle.snap_base.specs.declared.ids.ActorId.{ActorId}
@@ -17,7 +17,7 @@ use Rattle.snap_recover.specs.declared.openings.Kept.{Kept}
 use Rattle.snap_recover.specs.declared.openings.Kept.TheVariants as kept
 use Rattle.snap_recover.specs.Logs.{Has, IsLastOf, bids_in, is_genesis, geneses}
 use Rattle.snap_recover.specs.Opening.{IsIn, IsInfoOf, HasCompleted, IsWhole, Counts, IsStateOf, AreStates, IsKept, greatest, next_of, IsRecovered}
-use Rattle.snap_recover.proofs.Lists.{all_append, all_weaker, all_contains, contains_left, contains_append, contains_map, contains_unmap, zip_weaker}
+use Rattle.snap_recover.proofs.Lists.{all_append, all_weaker, all_contains, contains_left, contains_right, contains_append, contains_map, contains_unmap, zip_weaker}
 use Rattle.snap_recover.proofs.Begun.{log_one}
 use Rattle.snap_recover.proofs.Greatest.{each_below, greatest_append, greatest_of}
 use Rattle.snap_recover.proofs.StatesOver.{Agree, StatesOver, over_alike}
@@ -29,6 +29,10 @@ pub has_left : (rs more : List Record) (k : Key) → Has rs k → Has (rs ++ mor
 has_left rs more k h =
     let r = contains_unmap key rs k h in
     subst (λ (z : Key). Has (rs ++ more) z) r.2 (contains_map key (rs ++ more) r.0 (contains_left rs more r.0 r.1))
+
+pub has_right : (rs more : List Record) (k : Key) → Has more k → Has (rs ++ more) k
+has_right rs more k h =
+    subst (λ (z : List Key). Contains z k) (sym (map-append key rs more)) (contains_right (map key rs) (map key more) k h)
 
 pub has_cases : (rs more : List Record) (k : Key) → Has (rs ++ more) k → Has rs k ⊎ Has more k
 has_cases rs more k h =

@@ -16,7 +16,7 @@ use Rattle.txn_records.specs.Records.{key}
 use Rattle.snap_recover.specs.Logs.{Has, log_of}
 use Rattle.snap_recover.specs.Passes.{Adds, In, InPair, pair_cmp, commit_key, complete_key, bid_at, actor_at}
 use Rattle.snap_recover.proofs.Lists.{contains_here, contains_none, contains_cases, contains_right}
-use Rattle.snap_recover.proofs.Growing.{has_left, has_cases}
+use Rattle.snap_recover.proofs.Growing.{has_left, has_right, has_cases}
 use Rattle.snap_recover.proofs.Steps.{taken}
 
 -- ---- a record more
@@ -41,39 +41,46 @@ Inserts {X} x Old New = (y : X) → New y ↔ (Old y ⊎ (x ≡ y))
 pub adds_none : {X : Type 0} (AtHome : X → Type 0) (key_at : X → Key) (Old : X → Type 0) → Adds AtHome key_at [] Old Old
 adds_none AtHome key_at Old x = (λ i. inl i, λ h. elim h [ inl i ↦ i | inr p ↦ absurd (contains_none (key_at x) p.1) ])
 
-adds_quiet : {X : Type 0} (AtHome : X → Type 0) (key_at : X → Key) (rs : List Record) (r : Record) (Old New : X → Type 0)
-    → ((x : X) → AtHome x → key r ≢ key_at x) → Adds AtHome key_at rs Old New → Adds AtHome key_at (rs ++ r ∷ []) Old New
-adds_quiet AtHome key_at rs r Old New quiet h x = (
-  λ i. elim ((h x).0 i) [ inl o ↦ inl o | inr p ↦ inr (p.0, has_left rs (r ∷ []) (key_at x) p.1) ],
+-- a record of no key
+pub adds_quiet : {X : Type 0} (AtHome : X → Type 0) (key_at : X → Key) (r : Record) (Old : X → Type 0)
+    → ((x : X) → AtHome x → key r ≢ key_at x) → Adds AtHome key_at (r ∷ []) Old Old
+adds_quiet AtHome key_at r Old quiet x = (
+  λ i. inl i,
+  λ i. elim i [ inl o ↦ o | inr p ↦ absurd (elim (has_more [] r (key_at x) p.1) [ inl n ↦ contains_none (key_at x) n | inr e ↦ quiet x p.0 e ]) ],
+)
+
+-- a record of the key of x
+pub adds_one : {X : Type 0} (AtHome : X → Type 0) (key_at : X → Key) (apart : (x y : X) → key_at x ≡ key_at y → x ≡ y) (r : Record) (Old New : X → Type 0) (x : X)
+    → AtHome x → key r ≡ key_at x → Inserts x Old New → Adds AtHome key_at (r ∷ []) Old New
+adds_one AtHome key_at apart r Old New x home e ins y = (
+  λ i. elim ((ins y).0 i) [
+    | inl o ↦ inl o
+    | inr s ↦ inr (subst AtHome s home, has_last [] r (key_at y) (e ∙ ap key_at s))
+  ],
   λ i. elim i [
-    | inl o ↦ (h x).1 (inl o)
-    | inr p ↦ elim (has_more rs r (key_at x) p.1) [ inl q ↦ (h x).1 (inr (p.0, q)) | inr e ↦ absurd (quiet x p.0 e) ]
+    | inl o ↦ (ins y).1 (inl o)
+    | inr p ↦ elim (has_more [] r (key_at y) p.1) [ inl n ↦ absurd (contains_none (key_at y) n) | inr f ↦ (ins y).1 (inr (apart x y (sym e ∙ f))) ]
   ],
 )
 
-adds_one : {X : Type 0} (AtHome : X → Type 0) (key_at : X → Key) (apart : (x y : X) → key_at x ≡ key_at y → x ≡ y) (rs : List Record) (r : Record) (Old Mid New : X → Type 0) (x : X)
-    → AtHome x → key r ≡ key_at x → Inserts x Mid New → Adds AtHome key_at rs Old Mid → Adds AtHome key_at (rs ++ r ∷ []) Old New
-adds_one AtHome key_at apart rs r Old Mid New x home e ins h y = (
-  λ i. elim ((ins y).0 i) [
-    | inl m ↦ elim ((h y).0 m) [ inl o ↦ inl o | inr p ↦ inr (p.0, has_left rs (r ∷ []) (key_at y) p.1) ]
-    | inr s ↦ inr (subst AtHome s home, has_last rs r (key_at y) (e ∙ ap key_at s))
+adds_append : {X : Type 0} (AtHome : X → Type 0) (key_at : X → Key) (rs xs : List Record) (Old Mid New : X → Type 0)
+    → Adds AtHome key_at rs Old Mid → Adds AtHome key_at xs Mid New → Adds AtHome key_at (rs ++ xs) Old New
+adds_append AtHome key_at rs xs Old Mid New h g x = (
+  λ i. elim ((g x).0 i) [
+    | inl m ↦ elim ((h x).0 m) [ inl o ↦ inl o | inr p ↦ inr (p.0, has_left rs xs (key_at x) p.1) ]
+    | inr p ↦ inr (p.0, has_right rs xs (key_at x) p.1)
   ],
   λ i. elim i [
-    | inl o ↦ (ins y).1 (inl ((h y).1 (inl o)))
-    | inr p ↦ elim (has_more rs r (key_at y) p.1) [ inl q ↦ (ins y).1 (inl ((h y).1 (inr (p.0, q)))) | inr f ↦ (ins y).1 (inr (apart x y (sym e ∙ f))) ]
+    | inl o ↦ (g x).1 (inl ((h x).1 (inl o)))
+    | inr p ↦ elim (has_cases rs xs (key_at x) p.1) [ inl q ↦ (g x).1 (inl ((h x).1 (inr (p.0, q)))) | inr q ↦ (g x).1 (inr (p.0, q)) ]
   ],
 )
 
 -- the same at the index of a loop
-pub adds_step_quiet : {X : Type 0} (AtHome : X → Type 0) (key_at : X → Key) (rs : List Record) (i : ℕ) (r : Record) (Old New : X → Type 0)
-    → i < length rs → r ≡ get_or rs i r → ((x : X) → AtHome x → key r ≢ key_at x) → Adds AtHome key_at (take i rs) Old New → Adds AtHome key_at (take (i + 1) rs) Old New
-adds_step_quiet AtHome key_at rs i r Old New l at quiet h =
-    subst (λ (z : List Record). Adds AtHome key_at z Old New) (sym (taken rs i r l at)) (adds_quiet AtHome key_at (take i rs) r Old New quiet h)
-
-pub adds_step : {X : Type 0} (AtHome : X → Type 0) (key_at : X → Key) (apart : (x y : X) → key_at x ≡ key_at y → x ≡ y) (rs : List Record) (i : ℕ) (r : Record) (Old Mid New : X → Type 0) (x : X)
-    → i < length rs → r ≡ get_or rs i r → AtHome x → key r ≡ key_at x → Inserts x Mid New → Adds AtHome key_at (take i rs) Old Mid → Adds AtHome key_at (take (i + 1) rs) Old New
-adds_step AtHome key_at apart rs i r Old Mid New x l at home e ins h =
-    subst (λ (z : List Record). Adds AtHome key_at z Old New) (sym (taken rs i r l at)) (adds_one AtHome key_at apart (take i rs) r Old Mid New x home e ins h)
+pub adds_step : {X : Type 0} (AtHome : X → Type 0) (key_at : X → Key) (rs : List Record) (i : ℕ) (r : Record) (Old Mid New : X → Type 0)
+    → i < length rs → r ≡ get_or rs i r → Adds AtHome key_at (take i rs) Old Mid → Adds AtHome key_at (r ∷ []) Mid New → Adds AtHome key_at (take (i + 1) rs) Old New
+adds_step AtHome key_at rs i r Old Mid New l at h g =
+    subst (λ (z : List Record). Adds AtHome key_at z Old New) (sym (taken rs i r l at)) (adds_append AtHome key_at (take i rs) (r ∷ []) Old Mid New h g)
 
 -- ---- a pass for each log
 

@@ -13,3 +13,4 @@ pub mod Placing
 pub mod Replaying
 pub mod Keeping
 pub mod Whole
+pub mod Recovered

@@ -1,5 +1,5 @@
 -- The next batch's records on the one log, without and with its commit.
-use Rattle.std.proofs.Common.{◌≡◌, ◌≢◌, ℕ, zero, suc, ◌+◌, ◌<◌, ◌≤◌, ◌^◌, inl, inr, List, [], ◌∷◌, ◌++◌, length, map, refl, sym, ap, subst, ◌∙◌, arith}
+use Rattle.std.proofs.Common.{◌≡◌, ◌≢◌, ℕ, zero, suc, ◌+◌, ◌<◌, ◌≤◌, inl, inr, List, [], ◌∷◌, ◌++◌, length, map, refl, sym, ap, subst, ◌∙◌, arith}
 use Rattle.std.proofs.lemmas.List.{append-nil}
 use Rattle.std.proofs.lemmas.List.FromFn.{length-enumerate_from}
 use Rattle.std.specs.List.{AllByRecursion, enumerate_from, flat_map}
@@ -13,6 +13,7 @@ use Rattle.txn_records.specs.declared.keys.Key.{Key}
 use Rattle.txn_records.specs.declared.keys.Key.TheVariants as keys
 use Rattle.txn_records.specs.Records.{key, tid_numbers, actor_numbers}
 use Rattle.snap_recover.specs.declared.openings.Opening.{Opening}
+use Rattle.snap_recover.specs.declared.ranges.TheConstants.{GREATEST_NUMBER}
 use Rattle.snap_recover.specs.Logs.{Has, tids_in}
 use Rattle.snap_recover.specs.Opening.{IsIn, Counts, IsStateOf, greatest, next_of, IsInRange, IsBegun, IsRecovered}
 use Rattle.snap_recover.specs.Batches.{Completion, tids_from, batch_records, with_numbers_drawn, MayRun}
@@ -48,7 +49,7 @@ pub no_tids : (bid : Bid) (cs : List Completion) → flat_map tids_in (completes
 no_tids bid [] = refl
 no_tids bid (c ∷ cs) = no_tids bid cs
 
-completes_in_range : (n : ℕ) (bid : Bid) (cs : List Completion) → bid.0 ≤ 2 ^ 62 → AllByRecursion (λ (c : Completion). c.0.0 < n) cs → AllByRecursion (IsInRange n) (completes bid cs)
+completes_in_range : (n : ℕ) (bid : Bid) (cs : List Completion) → bid.0 ≤ GREATEST_NUMBER → AllByRecursion (λ (c : Completion). c.0.0 < n) cs → AllByRecursion (IsInRange n) (completes bid cs)
 completes_in_range n bid [] fits h = tt
 completes_in_range n bid (c ∷ cs) fits h = (record { actors_below = (h.0, tt); numbers_below = (fits, tt) }, completes_in_range n bid cs fits h.1)
 
@@ -58,7 +59,7 @@ actors_of n (c ∷ cs) h = (h.0, actors_of n cs h.1)
 
 pub batch_in_range : (o : Opening) (count : ℕ) (cs : List Completion) → MayRun o count cs → AllByRecursion (IsInRange (length o.states)) (batch_records o.next_bid (tids_from o.next_tid count) cs)
 batch_in_range o count cs may = (
-  record { actors_below = actors_of (length o.states) cs may.actors; numbers_below = (may.bid_fits, tids_within o.next_tid.0 count (2 ^ 62) may.tids_fit) },
+  record { actors_below = actors_of (length o.states) cs may.actors; numbers_below = (may.bid_fits, tids_within o.next_tid.0 count GREATEST_NUMBER may.tids_fit) },
   completes_in_range (length o.states) o.next_bid cs may.bid_fits may.actors,
 )
 

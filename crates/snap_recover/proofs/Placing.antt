@@ -13,7 +13,7 @@ use Rattle.txn_records.specs.declared.records.Record.{Record}
 use Rattle.txn_records.specs.declared.keys.Key.TheVariants as keys
 use Rattle.txn_records.specs.Records.{key}
 use Rattle.snap_recover.specs.Logs.{log_of}
-use Rattle.snap_recover.specs.Passes.{IsPlaced, AddsInfos, HasInfos, bid_at}
+use Rattle.snap_recover.specs.Passes.{IsPlaced, IsPlacedBy, AddsInfo, AddsInfos, HasInfos, bid_at}
 use Rattle.snap_recover.proofs.Lists.{all_append}
 use Rattle.snap_recover.proofs.Homes.{at_log, below_cases, at_same}
 use Rattle.snap_recover.proofs.Steps.{taken}
@@ -47,37 +47,39 @@ at_other k q h = grind (arith, nat_tests)
 pub infos_none : (log logs : ℕ) (places : BTreeMap ℕ ℕ) → AddsInfos log logs [] places places
 infos_none log logs places n = (λ e. inr (tt, refl), λ e. refl)
 
-pub infos_quiet : (log logs : ℕ) (rs : List Record) (i : ℕ) (r : Record) (old new : BTreeMap ℕ ℕ) → i < length rs → r ≡ get_or rs i r
-    → ((n : ℕ) → n % logs ≡ log → key r ≢ keys.Info (bid_at n)) → AddsInfos log logs (take i rs) old new → AddsInfos log logs (take (i + 1) rs) old new
-infos_quiet log logs rs i r old new l at quiet h =
-    subst (λ (z : List Record). AddsInfos log logs z old new) (sym (taken rs i r l at))
-    (λ n. (λ e. placed_quiet n (take i rs) r (tree.get nat_cmp old n) (tree.get nat_cmp new n) (quiet n e) ((h n).0 e), (h n).1))
-
-got_here : (k n v : ℕ) (mid new : BTreeMap ℕ ℕ) → tree.Updates nat_cmp mid new k (Some v) → k ≡ n → tree.get nat_cmp new n ≡ Some v
-got_here k n v mid new u e =
+got_here : (k n v : ℕ) (old new : BTreeMap ℕ ℕ) → tree.Updates nat_cmp old new k (Some v) → k ≡ n → tree.get nat_cmp new n ≡ Some v
+got_here k n v old new u e =
     let test : is_at (nat_cmp k) n ≡ true = subst (λ (z : ℕ). is_at (nat_cmp k) z ≡ true) e (at_same k) in
-    u.0 n ∙ ap (λ (b : Bool). cond b (Some v) (tree.get nat_cmp mid n)) test
+    u.0 n ∙ ap (λ (b : Bool). cond b (Some v) (tree.get nat_cmp old n)) test
 
-got_other : (k n v : ℕ) (mid new : BTreeMap ℕ ℕ) → tree.Updates nat_cmp mid new k (Some v) → k ≢ n → tree.get nat_cmp new n ≡ tree.get nat_cmp mid n
-got_other k n v mid new u ne = u.2 n (at_other k n ne)
+got_other : (k n v : ℕ) (old new : BTreeMap ℕ ℕ) → tree.Updates nat_cmp old new k (Some v) → k ≢ n → tree.get nat_cmp new n ≡ tree.get nat_cmp old n
+got_other k n v old new u ne = u.2 n (at_other k n ne)
 
-one_info : (log logs i k n : ℕ) (rs : List Record) (r : Record) (old mid new : BTreeMap ℕ ℕ) → length rs ≡ i → k % logs ≡ log → key r ≡ keys.Info (bid_at k)
-    → tree.Updates nat_cmp mid new k (Some i) → AddsInfos log logs rs old mid → n % logs ≡ log → IsPlaced n (rs ++ r ∷ []) (tree.get nat_cmp old n) (tree.get nat_cmp new n)
-one_info log logs i k n rs r old mid new len home is u h here =
-    elim (cases_eq k n) [
-      | inl e ↦ subst (λ (z : Option ℕ). IsPlaced n (rs ++ r ∷ []) (tree.get nat_cmp old n) z) (sym (got_here k n i mid new u e))
-          (placed_here n i rs r (tree.get nat_cmp old n) (is ∙ ap (λ (z : ℕ). keys.Info (bid_at z)) e) (sym len))
-      | inr ne ↦ subst (λ (z : Option ℕ). IsPlaced n (rs ++ r ∷ []) (tree.get nat_cmp old n) z) (sym (got_other k n i mid new u ne))
-          (placed_quiet n rs r (tree.get nat_cmp old n) (tree.get nat_cmp mid n) (λ e. ne (infos_apart k n (sym is ∙ e))) ((h n).0 here))
-    ]
+-- one record
+pub info_quiet : (log logs at : ℕ) (r : Record) (places : BTreeMap ℕ ℕ) → ((n : ℕ) → n % logs ≡ log → key r ≢ keys.Info (bid_at n)) → AddsInfo log logs at r places places
+info_quiet log logs at r places quiet n = (λ e. inr (quiet n e, refl), λ e. refl)
 
-pub infos_step : (log logs : ℕ) (rs : List Record) (i k : ℕ) (r : Record) (old mid new : BTreeMap ℕ ℕ) → i < length rs → r ≡ get_or rs i r → k % logs ≡ log → key r ≡ keys.Info (bid_at k)
-    → tree.Updates nat_cmp mid new k (Some i) → AddsInfos log logs (take i rs) old mid → AddsInfos log logs (take (i + 1) rs) old new
-infos_step log logs rs i k r old mid new l at home is u h =
+pub info_here : (log logs at k : ℕ) (r : Record) (old new : BTreeMap ℕ ℕ) → k % logs ≡ log → key r ≡ keys.Info (bid_at k) → tree.Updates nat_cmp old new k (Some at) → AddsInfo log logs at r old new
+info_here log logs at k r old new home is u n = (
+  λ here. elim (cases_eq k n) [
+    | inl e ↦ inl (is ∙ ap (λ (z : ℕ). keys.Info (bid_at z)) e, got_here k n at old new u e)
+    | inr ne ↦ inr (λ e. ne (infos_apart k n (sym is ∙ e)), got_other k n at old new u ne)
+  ],
+  λ away. got_other k n at old new u (λ e. away (ap (λ (z : ℕ). z % logs) (sym e) ∙ home)),
+)
+
+-- a record more
+placed_more : (n at : ℕ) (rs : List Record) (r : Record) (old mid new : Option ℕ) → at ≡ length rs → IsPlaced n rs old mid → IsPlacedBy n at r mid new → IsPlaced n (rs ++ r ∷ []) old new
+placed_more n at rs r old mid new len h (inl (is, e)) = subst (λ (z : Option ℕ). IsPlaced n (rs ++ r ∷ []) old z) (sym e) (placed_here n at rs r old is len)
+placed_more n at rs r old mid new len h (inr (other, e)) = subst (λ (z : Option ℕ). IsPlaced n (rs ++ r ∷ []) old z) (sym e) (placed_quiet n rs r old mid other h)
+
+pub infos_step : (log logs : ℕ) (rs : List Record) (i : ℕ) (r : Record) (old mid new : BTreeMap ℕ ℕ) → i < length rs → r ≡ get_or rs i r
+    → AddsInfos log logs (take i rs) old mid → AddsInfo log logs i r mid new → AddsInfos log logs (take (i + 1) rs) old new
+infos_step log logs rs i r old mid new l at h g =
     subst (λ (z : List Record). AddsInfos log logs z old new) (sym (taken rs i r l at))
     (λ n. (
-      one_info log logs i k n (take i rs) r old mid new (length-take-le i rs (omega arith)) home is u h,
-      λ away. got_other k n i mid new u (λ e. away (ap (λ (z : ℕ). z % logs) (sym e) ∙ home)) ∙ (h n).1 away,
+      λ here. placed_more n i (take i rs) r (tree.get nat_cmp old n) (tree.get nat_cmp mid n) (tree.get nat_cmp new n) (sym (length-take-le i rs (omega arith))) ((h n).0 here) ((g n).0 here),
+      λ away. (g n).1 away ∙ (h n).1 away,
     ))
 
 -- ---- over the logs

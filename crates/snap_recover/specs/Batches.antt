@@ -1,5 +1,5 @@
 -- The records that a batch leaves in one log, and what they make of an opening.
-use Rattle.std.specs.Prelude.{ℕ, ◌+◌, ◌<◌, ◌≤◌, ◌^◌, List, [], ◌∷◌, ◌++◌, length, map, slice_set}
+use Rattle.std.specs.Prelude.{ℕ, ◌+◌, ◌<◌, ◌≤◌, List, [], ◌∷◌, ◌++◌, length, map, slice_set}
 use Rattle.std.specs.List.{AllByRecursion, AllPairs, range_with_len}
 use Rattle.snap_base.specs.declared.ids.ActorId.{ActorId}
 use Rattle.snap_base.specs.declared.ids.Bid.{Bid}
@@ -8,6 +8,7 @@ use Rattle.snap_base.specs.declared.transactions.State.{State}
 use Rattle.txn_records.specs.declared.records.Record.{Record}
 use Rattle.txn_records.specs.declared.records.Record.TheVariants.{BatchInfo, BatchComplete}
 use Rattle.snap_recover.specs.declared.openings.Opening.{Opening}
+use Rattle.snap_recover.specs.declared.ranges.TheConstants.{GREATEST_NUMBER}
 use Rattle.snap_recover.specs.declared.openings.Kept.TheVariants as kept
 
 -- an actor, and its state after a batch
@@ -50,7 +51,7 @@ with_batch o count completions = record o {
 -- the next batch of an opening may have so many transactions and these completions
 pub record MayRun (o : Opening) (count : ℕ) (completions : List Completion) : Type 0 where
   pub some : 1 ≤ count
-  pub bid_fits : o.next_bid.0 ≤ 2 ^ 62
-  pub tids_fit : o.next_tid.0 + count ≤ 2 ^ 62
+  pub bid_fits : o.next_bid.0 ≤ GREATEST_NUMBER
+  pub tids_fit : o.next_tid.0 + count ≤ GREATEST_NUMBER
   pub actors : AllByRecursion (λ (c : Completion). c.0.0 < length o.states) completions
   pub ascend : AllPairs (λ (c d : Completion). c.0.0 < d.0.0) completions

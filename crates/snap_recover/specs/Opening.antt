@@ -1,5 +1,5 @@
 -- What logs recover to: which batches are in, the state of each actor, and the next numbers.
-use Rattle.std.specs.Prelude.{◌≡◌, ℕ, ◌+◌, ◌<◌, ◌≤◌, ◌^◌, ◌⊎◌, max, List, [], ◌∷◌, ◌++◌, length, map, Contains}
+use Rattle.std.specs.Prelude.{◌≡◌, ℕ, ◌+◌, ◌<◌, ◌≤◌, ◌⊎◌, max, List, [], ◌∷◌, ◌++◌, length, map, Contains}
 use Rattle.std.specs.List.{AllByRecursion, AllZip, AllPairs, flat_map, enumerate_from}
 use Rattle.snap_base.specs.declared.ids.ActorId.{ActorId}
 use Rattle.snap_base.specs.declared.ids.Bid.{Bid}
@@ -10,6 +10,7 @@ use Rattle.txn_records.specs.declared.records.Record.TheVariants.{Genesis, Batch
 use Rattle.txn_records.specs.declared.keys.Key.TheVariants as keys
 use Rattle.txn_records.specs.Records.{key}
 use Rattle.snap_recover.specs.declared.openings.Opening.{Opening}
+use Rattle.snap_recover.specs.declared.ranges.TheConstants.{GREATEST_NUMBER}
 use Rattle.snap_recover.specs.declared.openings.Kept.{Kept}
 use Rattle.snap_recover.specs.declared.openings.Kept.TheVariants as kept
 use Rattle.snap_recover.specs.Logs.{all_of, log_of, Has, IsLastOf, actors_in, tids_in, bids_in, geneses}
@@ -80,7 +81,7 @@ next_of numbers logs = greatest (flat_map numbers (all_of logs)) + 1
 -- the actors are among so many, and no number is too large
 pub record IsInRange (actors : ℕ) (r : Record) : Type 0 where
   pub actors_below : AllByRecursion (λ a. a < actors) (actors_in r)
-  pub numbers_below : AllByRecursion (λ n. n ≤ 2 ^ 62) (bids_in r ++ tids_in r)
+  pub numbers_below : AllByRecursion (λ n. n ≤ GREATEST_NUMBER) (bids_in r ++ tids_in r)
 
 -- The logs have one Genesis, which tells their number and the first states, and their records are in range.
 pub record IsBegun (logs : List (List Record)) (first : List State) : Type 0 where

@@ -1,4 +1,5 @@
--- What one pass over one log gives. The log is number `log` of `logs`.
+-- Only private contracts cite this; the rule is specs/Opening.antt.
+-- What a pass over one log gives. The log is number `log` of `logs`.
 use Rattle.std.specs.Prelude.{◌≡◌, ◌≢◌, ℕ, ◌%◌, ◌<◌, ◌⊎◌, Option, Some, None, List, ◌∷◌, ◌++◌, length, slice_index_or, IsTrue, ◌↔◌}
 use Rattle.std.specs.List.{AllByRecursion}
 use Rattle.std.specs.declared.cmp.Ordering.{Ordering}
@@ -66,6 +67,15 @@ abbrev pub IsPlaced : ℕ → List Record → Option ℕ → Option ℕ → Type
 IsPlaced n rs old new =
     ((place : ℕ) × (new ≡ Some place) × IsLastPlace (keys.Info (bid_at n)) rs place)
     ⊎ (AllByRecursion (λ r. key r ≢ keys.Info (bid_at n)) rs × (new ≡ old))
+
+-- the batch has the place of the record, where that is its info
+abbrev pub IsPlacedBy : ℕ → ℕ → Record → Option ℕ → Option ℕ → Type 0
+IsPlacedBy n at r old new = ((key r ≡ keys.Info (bid_at n)) × (new ≡ Some at)) ⊎ ((key r ≢ keys.Info (bid_at n)) × (new ≡ old))
+
+-- the place of the record is added, where it is an info that stands in its batch's log
+abbrev pub AddsInfo : ℕ → ℕ → ℕ → Record → BTreeMap ℕ ℕ → BTreeMap ℕ ℕ → Type 0
+AddsInfo log logs at r old new = (n : ℕ) →
+    ((n % logs ≡ log → IsPlacedBy n at r (tree.get nat_cmp old n) (tree.get nat_cmp new n)) × (n % logs ≢ log → tree.get nat_cmp new n ≡ tree.get nat_cmp old n))
 
 -- the places of the infos that stand in their batch's log are added
 abbrev pub AddsInfos : ℕ → ℕ → List Record → BTreeMap ℕ ℕ → BTreeMap ℕ ℕ → Type 0

@@ -7,7 +7,7 @@ use snap_base::{Sequence, State};
 use txn_records::Record;
 
 /// The number of logs and the states of the first Genesis.
-pub(crate) fn first_genesis(logs: &[Sequence<Record>]) -> Option<(u8, &Sequence<State>)>
+pub fn first_genesis(logs: &[Sequence<Record>]) -> Option<(u8, &Sequence<State>)>
     ensures { MatchOption result (geneses logs.now ≡ []) (λ g. (rest : List Record) × (geneses logs.now ≡ Genesis g.0 g.1.now ∷ rest)) }
 {
     for rs in logs {

@@ -1,7 +1,9 @@
 ghost use Rattle.std.specs.Prelude.{◌≡◌, ◌≢◌, ℕ, ◌≤◌, List, [], ◌∷◌, ◌++◌, length};
+ghost use Rattle.std.specs.List.{AllByRecursion};
 ghost use Rattle.snap_base.specs.declared.transactions.State.{State};
 ghost use Rattle.txn_records.specs.declared.records.Record.{Record};
 ghost use Rattle.txn_records.specs.declared.records.Record.TheVariants.{Genesis, BatchCommit};
+ghost use Rattle.txn_records.specs.Records.{IsState, IsRecord};
 ghost use Rattle.snap_recover.specs.declared.openings.Opening.{Opening};
 ghost use Rattle.snap_recover.specs.declared.refusals.RecoverNo.{RecoverNo};
 ghost use Rattle.snap_recover.specs.declared.refusals.RecoverNo.TheVariants.{Memory};
@@ -22,6 +24,12 @@ pub fn one_refusal()
 /// No logs are refused that recover to an opening.
 pub fn refused_is_not_recovered()
     ensures { (logs : List (List Record)) (no : RecoverNo) (o : Opening) → no ≢ Memory → IsRefused logs no → ¬ IsRecovered logs o }
+{}
+
+/// What logs of records recover to are states, one for each actor, and no more than Genesis may tell.
+pub fn recovered_states()
+    ensures states { (logs : List (List Record)) (o : Opening) → AllByRecursion (AllByRecursion IsRecord) logs → IsRecovered logs o → AllByRecursion IsState o.states }
+    ensures few { (logs : List (List Record)) (o : Opening) → AllByRecursion (AllByRecursion IsRecord) logs → IsRecovered logs o → length o.states ≤ 256 }
 {}
 
 /// Genesis alone recovers to what the first run begins with.

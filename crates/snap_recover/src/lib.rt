@@ -3,10 +3,9 @@
 //! stands in `specs/Opening.antt`, and why logs are refused in `specs/Refusals.antt`.
 #![tactic(auto)]
 
-mod commits;
-mod completes;
+mod causes;
 mod genesis;
-mod infos;
+mod index;
 mod laws;
 mod numbers;
 mod openings;
@@ -16,13 +15,13 @@ mod refusals;
 mod states;
 mod wholes;
 
+pub use causes::{LogCause, What};
+pub use genesis::first_genesis;
 pub use laws::{
     batch_with_its_commit, batch_without_its_commit, begun_is_recovered, one_opening, one_refusal,
-    refused_is_not_recovered,
+    recovered_states, refused_is_not_recovered,
 };
 pub use openings::{Kept, Opening, fresh};
+pub use ranges::GREATEST_NUMBER;
 pub use recovery::recover;
 pub use refusals::RecoverNo;
-
-#[cfg(test)]
-mod tests;

@@ -1,15 +1,16 @@
-ghost use Rattle.std.specs.Prelude.{◌≡◌, ◌+◌, ◌≤◌, ◌^◌, max, length};
+ghost use Rattle.std.specs.Prelude.{◌≡◌, ◌+◌, ◌≤◌, max, length};
 ghost use Rattle.std.specs.List.{AllByRecursion, flat_map};
 ghost use Rattle.txn_records.specs.Records.{tid_numbers};
 ghost use Rattle.snap_recover.specs.Logs.{all_of, bids_in, tids_in};
 ghost use Rattle.snap_recover.specs.Opening.{IsInRange, greatest, next_of};
 
+use crate::ranges::GREATEST_NUMBER;
 use snap_base::{Bid, Sequence, Tid};
 use txn_records::Record;
 
 /// One above the numbers of all batches, and at least 1.
 pub(crate) fn next_bid(logs: &[Sequence<Record>]) -> Bid
-    requires small { greatest (flat_map bids_in (all_of logs.now)) ≤ 2 ^ 62 }
+    requires small { greatest (flat_map bids_in (all_of logs.now)) ≤ GREATEST_NUMBER }
     ensures { result.0 ≡ next_of bids_in logs.now }
 {
     let mut most = 0;
@@ -44,7 +45,7 @@ fn bid_number(r: &Record) -> u64
 
 /// One above the identifiers of all transactions, and at least 1.
 pub(crate) fn next_tid(logs: &[Sequence<Record>]) -> Tid
-    requires small { greatest (flat_map tids_in (all_of logs.now)) ≤ 2 ^ 62 }
+    requires small { greatest (flat_map tids_in (all_of logs.now)) ≤ GREATEST_NUMBER }
     ensures { result.0 ≡ next_of tids_in logs.now }
 {
     let mut most = 0;

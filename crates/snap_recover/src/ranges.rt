@@ -1,4 +1,4 @@
-ghost use Rattle.std.specs.Prelude.{◌≡◌, ℕ, ◌+◌, ◌<◌, ◌≤◌, ◌^◌, List, ◌∷◌, ◌++◌, length, IsTrue, ◌↔◌, MatchOption, MatchResult};
+ghost use Rattle.std.specs.Prelude.{◌≡◌, ℕ, ◌+◌, ◌<◌, ◌≤◌, List, ◌∷◌, ◌++◌, length, IsTrue, ◌↔◌, MatchOption, MatchResult};
 ghost use Rattle.std.specs.List.{AllByRecursion};
 ghost use Rattle.txn_records.specs.declared.keys.Key.{Key};
 ghost use Rattle.txn_records.specs.declared.records.Record.{Record};
@@ -13,7 +13,7 @@ use snap_base::{ActorId, Sequence, Tid};
 use txn_records::{Record, key_of};
 
 /// The greatest number that a batch or a transaction may have.
-const GREATEST: u64 = 1 << 62;
+pub const GREATEST_NUMBER: u64 = 1 << 62;
 
 /// That the records name no actors but so many, and no number above the greatest.
 pub(crate) fn check_range(logs: &[Sequence<Record>], actors: usize) -> Result<(), RecoverNo>
@@ -53,14 +53,14 @@ fn in_range(r: &Record, actors: usize) -> bool
             actors: named,
             tids,
         } => {
-            bid.0 <= GREATEST
+            bid.0 <= GREATEST_NUMBER
                 && all_actors_below(named.as_slice(), actors)
                 && all_tids_within(tids.as_slice())
         }
         Record::BatchComplete { bid, actor, .. } => {
-            bid.0 <= GREATEST && (actor.0 as usize) < actors
+            bid.0 <= GREATEST_NUMBER && (actor.0 as usize) < actors
         }
-        Record::BatchCommit { bid } => bid.0 <= GREATEST,
+        Record::BatchCommit { bid } => bid.0 <= GREATEST_NUMBER,
     }
 }
 
@@ -76,10 +76,10 @@ fn all_actors_below(named: &[ActorId], actors: usize) -> bool
 }
 
 fn all_tids_within(tids: &[Tid]) -> bool
-    ensures { IsTrue result ↔ AllByRecursion (λ n. n ≤ 2 ^ 62) (tid_numbers tids.now) }
+    ensures { IsTrue result ↔ AllByRecursion (λ n. n ≤ GREATEST_NUMBER) (tid_numbers tids.now) }
 {
     for t in tids {
-        if t.0 > GREATEST {
+        if t.0 > GREATEST_NUMBER {
             return false;
         }
     }

@@ -3,10 +3,8 @@ ghost use Rattle.snap_recover.specs.Opening.{IsBegun, IsRecovered};
 ghost use Rattle.snap_recover.specs.Refusals.{IsRefused};
 ghost use Rattle.snap_recover.specs.Passes.{IsFirstLackOf};
 
-use crate::commits::committed;
-use crate::completes::completed;
 use crate::genesis::{count_geneses, first_genesis};
-use crate::infos::infos;
+use crate::index::index_of;
 use crate::numbers::{next_bid, next_tid};
 use crate::ranges::check_range;
 use crate::states::states_after;
@@ -44,11 +42,15 @@ fn opening(alloc: Global, logs: &[Sequence<Record>], first: &[State]) -> Result<
     requires begun { IsBegun logs.now first.now }
     ensures { MatchResult result (λ o. IsRecovered logs.now o) (λ no. IsFirstLackOf logs.now no) }
 {
-    let set = committed(alloc, logs)?;
-    let completed = completed(alloc, logs)?;
-    let infos = infos(alloc, logs)?;
-    let kept = keep_all(alloc, logs, &set, &completed, &infos)?;
-    let states = states_after(alloc, logs, first, &set)?;
+    let index = index_of(alloc, logs)?;
+    let kept = keep_all(
+        alloc,
+        logs,
+        &index.committed,
+        &index.completed,
+        &index.infos,
+    )?;
+    let states = states_after(alloc, logs, first, &index.committed)?;
     Ok(Opening {
         states: Sequence::from_vec(states),
         committed: kept,

@@ -14,8 +14,8 @@ use Rattle.work_text.specs.declared.faults.ProgramCause.TheVariants as program
 use Rattle.work_text.specs.declared.faults.WorkCause.{WorkCause}
 use Rattle.work_text.specs.declared.faults.WorkCause.TheVariants as work
 use Rattle.snap_recover.specs.declared.openings.Opening.{Opening}
-use Rattle.snap_report.specs.declared.causes.LogCause.{LogCause}
-use Rattle.snap_report.specs.declared.causes.LogCause.TheVariants as cause
+use Rattle.snap_recover.specs.declared.causes.LogCause.{LogCause}
+use Rattle.snap_recover.specs.declared.causes.LogCause.TheVariants as cause
 use Rattle.snap_report.specs.declared.statuses.Status.{Status}
 use Rattle.snap_report.specs.declared.statuses.Status.TheVariants as status
 

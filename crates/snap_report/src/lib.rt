@@ -2,10 +2,8 @@
 //! a call ends with. What a line is stands in `specs/Lines.antt`.
 #![tactic(auto)]
 
-mod causes;
 mod lines;
 mod statuses;
 
-pub use causes::{LogCause, What};
 pub use lines::{actor_line, end_line, recovered_line, reply_line};
 pub use statuses::{Status, status_line};

@@ -1,10 +1,10 @@
 ghost use Rattle.std.specs.Prelude.{◌≡◌, IfOk, string_bytes};
 ghost use Rattle.snap_report.specs.Lines.{text_cause_text, check_cause_text, program_cause_text, cause_text, log_cause_text, status_text};
 
-use crate::LogCause;
 use aml_check::CheckCause;
 use aml_tokens::TextCause;
 use snap_base::Memory;
+use snap_recover::LogCause;
 use std::alloc::Global;
 use work_text::{ProgramCause, WorkCause};
 

@@ -1,9 +1,12 @@
 -- From what was read to what the whole input stands for.
-use Rattle.std.proofs.Common.{◌≡◌, ℕ, ◌<◌, ◌≤◌, List, ◌++◌, length, Option, None, Some, IfSome, Result, Ok, Err, refl, sym, ap, ◌∙◌, subst, inl, inr, arith, length-append, append-nil}
+use Rattle.std.proofs.Common.{◌≡◌, ℕ, ◌<◌, ◌≤◌, List, [], ◌∷◌, ◌++◌, length, Option, None, Some, IfSome, Result, Ok, Err, refl, sym, ap, ◌∙◌, subst, inl, inr, arith, length-append, append-nil}
 use Rattle.std.specs.Io.KnownBytes.{Consumes, IsAtEnd}
 use Rattle.std.proofs.KnownBytes.{Consumes-whole}
 use Rattle.std.proofs.lemmas.Bool.{cases_lt}
-use Rattle.run_batch.proofs.TextWorks.{are_states, few_transactions}
+use Rattle.std.specs.List.{AllByRecursion}
+use Rattle.snap_base.specs.declared.transactions.State.{State}
+use Rattle.txn_records.specs.Records.{IsState}
+use Rattle.work_text.specs.Kept as kept
 use Rattle.work_text.specs.declared.faults.Limit.TheVariants as limit
 use Rattle.work_text.specs.declared.faults.WorkCause.TheVariants as cause
 use Rattle.work_text.specs.declared.faults.WorkFault.{WorkFault}
@@ -15,15 +18,20 @@ use Rattle.snap_run.specs.Uses.{Reading}
 use Rattle.snap_run.specs.Runs.{IsRunnable}
 use Rattle.snap_run.specs.Answers.{ReadsEnough, OfText}
 
+-- what a text gives as a state is one that records have
+are_states : (states : List State) → AllByRecursion kept.IsState states → AllByRecursion IsState states
+are_states [] h = tt
+are_states (s ∷ states) h = (record { len = h.0.fields; fields = h.0.values }, are_states states h.1)
+
 -- a work that a text stands for can be run
 pub runnable : (w : Work) → IsKept w → IsOneBatch w → IsRunnable w
-runnable w kept one = record {
-  transactions = kept.transactions;
+runnable w is one = record {
+  transactions = is.transactions;
   pacts = one.kinds;
-  few_transactions = few_transactions w kept one;
-  some_states = kept.some_actors;
-  few_states = kept.few_actors;
-  states = are_states w.states kept.states;
+  few_transactions = omega (arith, one.few, is.batch.1);
+  some_states = is.some_actors;
+  few_states = is.few_actors;
+  states = are_states w.states is.states;
 }
 
 -- ---- the input

@@ -7,3 +7,4 @@ pub mod Pieces
 pub mod Recovering
 pub mod UnsureLaws
 pub mod Usage
+pub mod RecoverComplete

@@ -8,14 +8,14 @@ use Rattle.snap_report.specs.declared.statuses.Status.TheVariants as status
 use Rattle.work_text.specs.Works.{Work}
 use Rattle.work_text.specs.Built.{IsBuilt}
 use Rattle.record_log.specs.Records.{KeepsRecords}
-use Rattle.kept_logs.specs.Devices.{Device, devices_of, device_at, IsOpenedAtMost}
+use Rattle.log_opening.specs.Devices.{Device, devices_of, device_at, IsOpenedAtMost}
 use Rattle.snap_run.specs.Words.{IsRun, IsRecover, IsUsageFault}
 use Rattle.snap_run.specs.Uses.{Reading, Use, WritesNothing}
 use Rattle.snap_run.specs.Runs.{IsWorkAnswer, IsCrashSafe, IsDurable}
 use Rattle.snap_run.specs.Recoveries.{IsRecoverAnswer}
 use Rattle.snap_run.specs.Answers.{OfText, ReadsNothing, IsInputAnswer, IsRunAnswer}
 use Rattle.snap_run.specs.Outcomes.{OfLog, IsOutcome}
-use Rattle.snap_run.proofs.Crashes.{BegunIsRecovered, no_call_is_safe}
+use Rattle.snap_run.proofs.Crashes.{Laws, BegunIsRecovered, no_call_is_safe}
 
 -- the two commands have two names
 pub not_both : (words : List (List ℕ)) → IsRun words → IsRecover words → ⊥
@@ -46,10 +46,10 @@ input_ends r s a (inl done) = subst (λ t. IsInputAnswer r t) done a
 input_ends r s a (inr fault) = subst (λ t. IsInputAnswer r t) fault a
 
 -- the run ended before its log got a call
-pub input_outcome : (law : BegunIsRecovered) (u : Use) (s : Status) → IsRun u.words → u.devices_after ≡ u.devices_before → WritesNothing u.writing → IsInputAnswer u.reading s → IsOutcome u s
-input_outcome law u s run same nothing a = record {
+pub input_outcome : (laws : Laws) (law : BegunIsRecovered) (u : Use) (s : Status) → IsRun u.words → u.devices_after ≡ u.devices_before → WritesNothing u.writing → IsInputAnswer u.reading s → IsOutcome u s
+input_outcome laws law u s run same nothing a = record {
   answer = inl (run, input_answer u s nothing a);
-  crashes = of_log_still u (λ before after w. IsCrashSafe before.told after.told w) same (λ d w. no_call_is_safe law d.told w);
+  crashes = of_log_still u (λ before after w. IsCrashSafe before.told after.told w) same (λ d w. no_call_is_safe laws law d.told w);
   durable = λ is. absurd (input_ends u.reading s a is);
   opened = λ recover. absurd (not_both u.words run recover);
   kept = λ recover. absurd (not_both u.words run recover);

@@ -1,5 +1,5 @@
 -- Why the top call answers what it answers: one table by cases on the status, for each form of the words.
-use Rattle.std.specs.Prelude.{◌≡◌, ◌⊎◌, ℕ, List, length, Some, IfSome}
+use Rattle.std.specs.Prelude.{◌≡◌, ◌+◌, ◌⊎◌, ℕ, List, [], ◌∷◌, length, Some, IfSome}
 use Rattle.std.specs.Io.KnownBytes.{Keeps, Consumes, IsAtEnd}
 use Rattle.snap_outside.specs.Causes.{Rose}
 use Rattle.snap_outside.specs.Disk.{History, content}
@@ -13,14 +13,15 @@ use Rattle.work_text.specs.Built.{IsBuilt, IsFirstFault}
 use Rattle.run_opening.specs.Begins.{Begins}
 use Rattle.run_batch.specs.Report.{Fails}
 use Rattle.snap_run.specs.Words.{IsRun, IsRecover, IsUsageFault}
-use Rattle.kept_logs.specs.Devices.{device_at}
+use Rattle.log_opening.specs.Devices.{device_at}
 use Rattle.snap_run.specs.Uses.{Reading, Use, WritesNothing}
 use Rattle.snap_run.specs.Runs.{IsWorkAnswer}
 use Rattle.snap_run.specs.Recoveries.{IsRecoverAnswer}
+use Rattle.work_text.specs.declared.limits.TheConstants.{LONGEST_WORK}
 
 -- The input was read to its end, or one byte more of it than an input may have.
 abbrev pub ReadsEnough : Reading → Type 0
-ReadsEnough r = (bytes : List ℕ) × Consumes r.left_before r.left_after bytes × (IsAtEnd r.left_after ⊎ (length bytes ≡ 8388609))
+ReadsEnough r = (bytes : List ℕ) × Consumes r.left_before r.left_after bytes × (IsAtEnd r.left_after ⊎ (length bytes ≡ LONGEST_WORK + 1))
 
 -- The input was read to its end and stands for a work of which this holds.
 abbrev pub OfText : Reading → (Work → Type 0) → Type 0
@@ -87,8 +88,8 @@ pub record IsUntroubled (u : Use) (input : List ℕ) (h : History) : Type 0 wher
   pub known : u.reading.left_before ≡ Some input
   pub told : (device_at u.devices_before 0).told ≡ Some h
   pub some : (w : Work) × IsBuilt input w
-  pub begins : (w : Work) → IsBuilt input w → (rs : List Record) × (o : Opening) × HoldsRecords (content h) rs × Begins rs w.states o
-  pub passes : (w : Work) (rs : List Record) (o : Opening) → IsBuilt input w → HoldsRecords (content h) rs → Begins rs w.states o → ¬ Fails o w
+  pub begins : (w : Work) → IsBuilt input w → (rs : List Record) × (o : Opening) × HoldsRecords (content h) rs × Begins (rs ∷ []) w.states o
+  pub passes : (w : Work) (rs : List Record) (o : Opening) → IsBuilt input w → HoldsRecords (content h) rs → Begins (rs ∷ []) w.states o → ¬ Fails o w
   pub source : ¬ Rose u.reading.faults_before u.reading.faults_after
   pub device : ¬ Rose (device_at u.devices_before 0).faults (device_at u.devices_after 0).faults
   pub sink : ¬ Rose u.writing.faults_before u.writing.faults_after

@@ -6,7 +6,7 @@ use Rattle.snap_report.specs.declared.statuses.Status.TheVariants as status
 use Rattle.work_text.specs.Works.{Work}
 use Rattle.work_text.specs.Built.{IsBuilt}
 use Rattle.record_log.specs.Records.{KeepsRecords}
-use Rattle.kept_logs.specs.Devices.{Device, device_at, IsOpenedAtMost}
+use Rattle.log_opening.specs.Devices.{Device, device_at, IsOpenedAtMost}
 use Rattle.snap_run.specs.Words.{IsRun, IsRecover}
 use Rattle.snap_run.specs.Uses.{Use}
 use Rattle.snap_run.specs.Runs.{IsCrashSafe, IsDurable}

@@ -1,5 +1,5 @@
 -- Why a run of an accepted text answers what it answers, and what a crash leaves of its log.
-use Rattle.std.specs.Prelude.{◌≡◌, ℕ, ◌≤◌, ◌⊎◌, List, [], ◌++◌, length, Option, IfSome}
+use Rattle.std.specs.Prelude.{◌≡◌, ℕ, ◌≤◌, ◌⊎◌, List, [], ◌∷◌, ◌++◌, length, Option, IfSome}
 use Rattle.std.specs.List.{AllByRecursion}
 use Rattle.snap_base.specs.declared.transactions.Kind.TheVariants.{Pact}
 use Rattle.snap_base.specs.declared.transactions.Tx.{Tx}
@@ -17,7 +17,7 @@ use Rattle.work_text.specs.Works.{Work}
 use Rattle.run_opening.specs.Begins.{Begins, begun, IsRefusedLog}
 use Rattle.run_batch.specs.Report.{serial_from, IsReport, Fails, unsures_text}
 use Rattle.run_batch.specs.Batch.{run_records, AppendsRun, RecoversTo}
-use Rattle.kept_logs.specs.Devices.{Device}
+use Rattle.log_opening.specs.Devices.{Device}
 use Rattle.snap_run.specs.Uses.{Writing, WritesNothing, Writes, WritesFront}
 
 -- what running needs of a work: it is one that a text stands for, and that is built
@@ -31,16 +31,16 @@ pub record IsRunnable (w : Work) : Type 0 where
 
 -- the records that the device held, where it tells them, make a run of the text begin with the opening
 abbrev pub Starts : Option History → Work → Opening → Type 0
-Starts old w o = IfSome old (λ h. (rs : List Record) × HoldsRecords (content h) rs × Begins rs w.states o)
+Starts old w o = IfSome old (λ h. (rs : List Record) × HoldsRecords (content h) rs × Begins (rs ∷ []) w.states o)
 
 -- The log has Genesis now.
 abbrev pub HasBegun : Option History → Option History → Work → Opening → Type 0
-HasBegun old new w o = IfSome old (λ h. IfSome new (λ g. (rs : List Record) → HoldsRecords (content h) rs → Begins rs w.states o
+HasBegun old new w o = IfSome old (λ h. IfSome new (λ g. (rs : List Record) → HoldsRecords (content h) rs → Begins (rs ∷ []) w.states o
     → HoldsRecords (content g) (begun rs w.states)))
 
 -- The log has the run's records behind those that it began with.
 abbrev pub HasRun : Option History → Option History → Work → Opening → Type 0
-HasRun old new w o = IfSome old (λ h. IfSome new (λ g. (rs : List Record) → HoldsRecords (content h) rs → Begins rs w.states o
+HasRun old new w o = IfSome old (λ h. IfSome new (λ g. (rs : List Record) → HoldsRecords (content h) rs → Begins (rs ∷ []) w.states o
     → HoldsRecords (content g) (begun rs w.states ++ run_records o w)))
 
 -- the answers of a run of this text, whose log lies on this device
@@ -60,6 +60,8 @@ IsWorkAnswer w before after out status.OutFault =
     × Rose out.faults_before out.faults_after
 IsWorkAnswer w before after out (status.Halted unanswered) =
     (o : Opening) × Starts before.told w o × Fails o w × (unanswered ≡ length w.txs) × WritesNothing out × HasBegun before.told after.told w o
+
+-- ---- what parts of a run answer: only private contracts cite the next two; the rule is IsWorkAnswer
 
 -- the same where nothing is said yet of transactions that nothing is known of
 abbrev pub IsDeviceAnswer : Work → Device → Device → Writing → Status → Type 0
@@ -97,12 +99,12 @@ IsAroundBatch o w image = RecoversTo o.states image ⊎ RecoversTo (serial_from 
 abbrev pub IsCrashSafe : Option History → Option History → Work → Type 0
 IsCrashSafe old new w =
     IfSome old (λ h. (first later : List DevOp) × AddsAll old new (first ++ later)
-    × (disk h ≡ settled (content h) → (rs : List Record) (o : Opening) → HoldsRecords (content h) rs → Begins rs w.states o
+    × (disk h ≡ settled (content h) → (rs : List Record) (o : Opening) → HoldsRecords (content h) rs → Begins (rs ∷ []) w.states o
     → EachMoment (disk h) first (IsBeforeBatch rs o)
     × ((later ≡ []) ⊎ EachMoment (disk_after first (disk h)) later (IsAroundBatch o w))))
 
 -- Whatever a crash leaves now recovers to the states after the batch.
 abbrev pub IsDurable : Option History → Option History → Work → Type 0
 IsDurable old new w =
-    IfSome old (λ h. IfSome new (λ g. (rs : List Record) (o : Opening) → HoldsRecords (content h) rs → Begins rs w.states o
+    IfSome old (λ h. IfSome new (λ g. (rs : List Record) (o : Opening) → HoldsRecords (content h) rs → Begins (rs ∷ []) w.states o
     → EachImage (disk g) (RecoversTo (serial_from o w).world)))

@@ -1,7 +1,7 @@
 -- What a call was given and what it left, as contracts see it.
 use Rattle.std.specs.Prelude.{◌≡◌, ℕ, List, ◌++◌, Option}
 use Rattle.std.specs.Io.KnownBytes.{Keeps, Appends}
-use Rattle.kept_logs.specs.Devices.{Device}
+use Rattle.log_opening.specs.Devices.{Device}
 
 -- the source: the bytes that were left, where it tells them, and its faults
 pub record Reading : Type 0 where
@@ -23,6 +23,18 @@ pub record Use : Type 0 where
   pub writing : Writing
   pub devices_before : List Device
   pub devices_after : List Device
+
+-- a source before and after a call, by what it has left and its faults
+abbrev pub reading_of : {I : Type 0} → (I → Option (List ℕ)) → (I → ℕ) → I → I → Reading
+reading_of left faults before after = record { left_before = left before; left_after = left after; faults_before = faults before; faults_after = faults after }
+
+-- a sink before and after a call, by what it has taken and its faults
+abbrev pub writing_of : {O : Type 0} → (O → Option (List ℕ)) → (O → ℕ) → O → O → Writing
+writing_of taken faults before after = record { taken_before = taken before; taken_after = taken after; faults_before = faults before; faults_after = faults after }
+
+-- all of it
+abbrev pub use_of : List (List ℕ) → Reading → Writing → List Device → List Device → Use
+use_of words reading writing before after = record { words = words; reading = reading; writing = writing; devices_before = before; devices_after = after }
 
 -- nothing was written
 abbrev pub WritesNothing : Writing → Type 0

@@ -5,6 +5,7 @@ mod commands;
 mod reads;
 mod recoveries;
 mod runs;
+mod statuses;
 mod top;
 mod unsures;
 mod words;

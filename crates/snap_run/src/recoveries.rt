@@ -1,14 +1,14 @@
 ghost use Rattle.std.specs.Prelude.{◌≡◌, ◌≤◌, ◌++◌, length, vec_len, IfOk, MatchResult, string_bytes};
 ghost use Rattle.std.specs.List.{AllZip};
 ghost use Rattle.record_log.specs.Records.{KeepsRecords};
-ghost use Rattle.kept_logs.specs.Devices.{Device, devices_of, IsOpenedAtMost};
+ghost use Rattle.log_opening.specs.Devices.{Device, devices_of, IsOpenedAtMost};
 ghost use Rattle.snap_report.specs.declared.statuses.Status.TheVariants as status;
-ghost use Rattle.snap_run.specs.Statuses.{kept_status};
-ghost use Rattle.snap_run.specs.Uses.{Writing};
+ghost use Rattle.snap_run.specs.Uses.{Writing, writing_of};
 ghost use Rattle.snap_run.specs.Recoveries.{recovered_report, IsRecoverAnswer};
 
+use crate::statuses::status_of;
 use crate::writes::write_all;
-use kept_logs::{KeptNo, recover_kept};
+use log_opening::recover_kept;
 use run_batch::actors_report;
 use snap_base::Memory;
 use snap_outside::{LogDev, Sink};
@@ -23,12 +23,7 @@ pub(crate) fn print_recovered<D: LogDev, O: Sink>(
     out: &mut O,
 ) -> Result<(), Status>
     requires { vec_len devices.old ≡ 4 }
-    ensures answer { let writing : Writing = record {
-      taken_before = O.taken out.old;
-      taken_after = O.taken out.new;
-      faults_before = O.faults out.old;
-      faults_after = O.faults out.new;
-    } in MatchResult result
+    ensures answer { let writing : Writing = writing_of O.taken O.faults out.old out.new in MatchResult result
         (λ _. IsRecoverAnswer (devices_of D.told D.faults devices.old.items) (devices_of D.told D.faults devices.new.items) writing status.Done)
         (λ s. IsRecoverAnswer (devices_of D.told D.faults devices.old.items) (devices_of D.told D.faults devices.new.items) writing s) }
     ensures four { vec_len devices.new ≡ 4 }
@@ -46,16 +41,6 @@ pub(crate) fn print_recovered<D: LogDev, O: Sink>(
         return Err(Status::OutFault);
     }
     Ok(())
-}
-
-fn status_of(no: KeptNo) -> Status
-    ensures { result ≡ kept_status no }
-{
-    match no {
-        KeptNo::Logs { log, offset, cause } => Status::Logs { log, offset, cause },
-        KeptNo::Device { log } => Status::LogFault { log },
-        KeptNo::Memory => Status::Memory,
-    }
 }
 
 /// The lines of the actors, and what is recovered.

@@ -1,19 +1,20 @@
-ghost use Rattle.std.specs.Prelude.{◌≡◌, ◌⊎◌, ◌+◌, ◌≤◌, ◌^◌, MatchResult, false};
+ghost use Rattle.std.specs.Prelude.{◌≡◌, ◌⊎◌, ◌+◌, ◌≤◌, MatchResult, false};
 ghost use Rattle.snap_report.specs.declared.statuses.Status.TheVariants as status;
 ghost use Rattle.work_text.specs.Works.{work_of};
 ghost use Rattle.run_batch.specs.Report.{IsExecutable};
 ghost use Rattle.run_batch.specs.Batch.{CrashesRun};
-ghost use Rattle.kept_logs.specs.Devices.{Device};
-ghost use Rattle.snap_run.specs.Statuses.{begin_status};
-ghost use Rattle.snap_run.specs.Uses.{Writing};
+ghost use Rattle.log_opening.specs.Devices.{Device};
+ghost use Rattle.snap_run.specs.Uses.{Writing, writing_of};
 ghost use Rattle.snap_run.specs.Runs.{IsWorkAnswer, IsDeviceAnswer, IsBatchAnswer, IsCrashSafe, IsDurable, IsRunnable};
 
+use crate::statuses::status_of;
 use crate::unsures::write_unsures;
 use crate::writes::write_all;
-use gate_log::{AppendNo, Log};
+use gate_log::{AppendNo, FARTHEST_END, Log};
+use record_log::{one_list_of_records, records_are_held};
 use run_batch::{ExecuteNo, append_run, execute, run_is_recovered};
-use run_opening::{BeginNo, open_for_run};
-use snap_outside::{LogDev, Sink};
+use run_opening::{LARGEST_START, open_for_run};
+use snap_outside::{LogDev, Sink, images_of_settled};
 use snap_recover::{Opening, begun_is_recovered, one_opening};
 use snap_report::Status;
 use std::alloc::Global;
@@ -32,12 +33,7 @@ pub(crate) fn run_work<D: LogDev, O: Sink>(
     requires { IsRunnable (work_of work.now) }
     ensures answer { let before : Device = record { told = D.told dev; faults = D.faults dev } in
         let after : Device = record { told = D.told result.0; faults = D.faults result.0 } in
-        let writing : Writing = record {
-          taken_before = O.taken out.old;
-          taken_after = O.taken out.new;
-          faults_before = O.faults out.old;
-          faults_after = O.faults out.new;
-        } in MatchResult result.1 (λ _. IsWorkAnswer (work_of work.now) before after writing status.Done) (λ s. IsWorkAnswer (work_of work.now) before after writing s) }
+        let writing : Writing = writing_of O.taken O.faults out.old out.new in MatchResult result.1 (λ _. IsWorkAnswer (work_of work.now) before after writing status.Done) (λ s. IsWorkAnswer (work_of work.now) before after writing s) }
     ensures crashes { IsCrashSafe (D.told dev) (D.told result.0) (work_of work.now) }
     ensures durable { MatchResult result.1 (λ _. IsDurable (D.told dev) (D.told result.0) (work_of work.now)) (λ s. (s ≡ status.Done) ⊎ (s ≡ status.OutFault) → IsDurable (D.told dev) (D.told result.0) (work_of work.now)) }
 {
@@ -59,12 +55,7 @@ fn run_on_device<D: LogDev, O: Sink>(
     requires { IsRunnable (work_of work.now) }
     ensures answer { let before : Device = record { told = D.told dev; faults = D.faults dev } in
         let after : Device = record { told = D.told result.0; faults = D.faults result.0 } in
-        let writing : Writing = record {
-          taken_before = O.taken out.old;
-          taken_after = O.taken out.new;
-          faults_before = O.faults out.old;
-          faults_after = O.faults out.new;
-        } in MatchResult result.1 (λ _. IsDeviceAnswer (work_of work.now) before after writing status.Done) (λ s. IsDeviceAnswer (work_of work.now) before after writing s) }
+        let writing : Writing = writing_of O.taken O.faults out.old out.new in MatchResult result.1 (λ _. IsDeviceAnswer (work_of work.now) before after writing status.Done) (λ s. IsDeviceAnswer (work_of work.now) before after writing s) }
     ensures crashes { IsCrashSafe (D.told dev) (D.told result.0) (work_of work.now) }
     ensures durable { MatchResult result.1 (λ _. IsDurable (D.told dev) (D.told result.0) (work_of work.now)) (λ s. (s ≡ status.Done) ⊎ (s ≡ status.OutFault) → IsDurable (D.told dev) (D.told result.0) (work_of work.now)) }
     ensures later { O.faults out.old ≤ O.faults out.new }
@@ -72,22 +63,15 @@ fn run_on_device<D: LogDev, O: Sink>(
     begun_is_recovered();
     one_opening();
     run_is_recovered();
+    one_list_of_records();
+    records_are_held();
+    images_of_settled();
     let (mut log, opening) = match open_for_run(alloc, dev, work.states.as_slice()) {
         Ok(begun) => begun,
         Err((dev, no)) => return (dev, Err(status_of(no))),
     };
     let answer = run_on_log(alloc, work, &opening, &mut log, out);
     (log.into_dev(), answer)
-}
-
-fn status_of(no: BeginNo) -> Status
-    ensures { result ≡ begin_status no }
-{
-    match no {
-        BeginNo::Logs { log, offset, cause } => Status::Logs { log, offset, cause },
-        BeginNo::Device => Status::LogFault { log: LOG },
-        BeginNo::Memory => Status::Memory,
-    }
 }
 
 /// Executes the work, writes its records, and then its report.
@@ -99,20 +83,18 @@ fn run_on_log<D: LogDev, O: Sink>(
     out: &mut O,
 ) -> Result<(), Status>
     requires executable { IsExecutable opening.now (work_of work.now) }
-    requires end { log.old.end ≤ 2 ^ 63 + 2 ^ 20 }
+    requires end { log.old.end ≤ FARTHEST_END + LARGEST_START }
     requires open { log.old.shut ≡ false }
     ensures answer { let before : Device = record { told = log.old.told; faults = log.old.faults } in
         let after : Device = record { told = log.new.told; faults = log.new.faults } in
-        let writing : Writing = record {
-          taken_before = O.taken out.old;
-          taken_after = O.taken out.new;
-          faults_before = O.faults out.old;
-          faults_after = O.faults out.new;
-        } in MatchResult result (λ _. IsBatchAnswer opening.now (work_of work.now) before after log.old.end writing status.Done) (λ s. IsBatchAnswer opening.now (work_of work.now) before after log.old.end writing s) }
+        let writing : Writing = writing_of O.taken O.faults out.old out.new in MatchResult result (λ _. IsBatchAnswer opening.now (work_of work.now) before after log.old.end writing status.Done) (λ s. IsBatchAnswer opening.now (work_of work.now) before after log.old.end writing s) }
     ensures crashes { CrashesRun log.old.told log.new.told log.old.end opening.now (work_of work.now) }
     ensures later { O.faults out.old ≤ O.faults out.new }
     ensures faults { log.old.faults ≤ log.new.faults }
 {
+    one_list_of_records();
+    records_are_held();
+    images_of_settled();
     let executed = match execute(alloc, work, opening) {
         Ok(executed) => executed,
         Err(ExecuteNo::Failed) => {

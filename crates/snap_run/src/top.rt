@@ -1,18 +1,21 @@
 ghost use Rattle.std.specs.Prelude.{◌≡◌, ◌⊎◌, ◌<◌, ℕ, List, [], ◌∷◌, map, drop, codes, string_bytes, vec_len, vec_capacity, IfErr, MatchResult};
 ghost use Rattle.snap_outside.specs.Disk.{History};
 ghost use Rattle.snap_report.specs.declared.statuses.Status.TheVariants as status;
-ghost use Rattle.kept_logs.specs.Devices.{devices_of};
+ghost use Rattle.log_opening.specs.Devices.{devices_of};
 ghost use Rattle.snap_run.specs.Words.{IsRun};
-ghost use Rattle.snap_run.specs.Uses.{Use};
+ghost use Rattle.snap_run.specs.Uses.{Use, reading_of, writing_of, use_of};
 ghost use Rattle.snap_run.specs.Answers.{IsUntroubled, GetsNoCall};
+ghost use Rattle.txn_records.specs.declared.records.Record.{Record};
 ghost use Rattle.snap_run.specs.Outcomes.{IsOutcome};
+ghost use Rattle.snap_run.specs.Recoveries.{IsRecoverable};
 
 use crate::commands::Command;
 use crate::recoveries::print_recovered;
 use crate::runs::run_work;
 use crate::words::read_words;
 use crate::works::read_work;
-use snap_outside::{LogDev, Sink, Source};
+use record_log::{no_more_records, one_list_of_records, records_are_held};
+use snap_outside::{LogDev, Sink, Source, images_of_settled};
 use snap_recover::{begun_is_recovered, one_opening, refused_is_not_recovered};
 use snap_report::Status;
 use std::alloc::Global;
@@ -40,21 +43,12 @@ pub fn run<I: Source, D: LogDev, O: Sink, T: Sink>(
 ) -> Outcome<D, O, T>
     requires { vec_len logs ≡ 4 }
     // Each answer has its cause, and a crash at any moment is recovered from.
-    ensures outcome { let u : Use = record {
-      words = map string_bytes words.now;
-      reading = record { left_before = I.left input.old; left_after = I.left input.new; faults_before = I.faults input.old; faults_after = I.faults input.new };
-      writing = record { taken_before = O.taken out; taken_after = O.taken result.out; faults_before = O.faults out; faults_after = O.faults result.out };
-      devices_before = devices_of D.told D.faults logs.items;
-      devices_after = devices_of D.told D.faults result.logs.items;
-    } in IsOutcome u result.status }
+    ensures outcome { let u : Use = use_of (map string_bytes words.now) (reading_of I.left I.faults input.old input.new) (writing_of O.taken O.faults out result.out) (devices_of D.told D.faults logs.items) (devices_of D.told D.faults result.logs.items) in IsOutcome u result.status }
     // Where nothing stands in the way, the work is done, or there is no memory.
-    ensures complete { let u : Use = record {
-      words = map string_bytes words.now;
-      reading = record { left_before = I.left input.old; left_after = I.left input.new; faults_before = I.faults input.old; faults_after = I.faults input.new };
-      writing = record { taken_before = O.taken out; taken_after = O.taken result.out; faults_before = O.faults out; faults_after = O.faults result.out };
-      devices_before = devices_of D.told D.faults logs.items;
-      devices_after = devices_of D.told D.faults result.logs.items;
-    } in (text : List ℕ) (h : History) → IsUntroubled u text h → (result.status ≡ status.Done) ⊎ (result.status ≡ status.Memory) }
+    ensures complete { let u : Use = use_of (map string_bytes words.now) (reading_of I.left I.faults input.old input.new) (writing_of O.taken O.faults out result.out) (devices_of D.told D.faults logs.items) (devices_of D.told D.faults result.logs.items) in (text : List ℕ) (h : History) → IsUntroubled u text h → (result.status ≡ status.Done) ⊎ (result.status ≡ status.Memory) }
+    // Where nothing stands in the way of the other command, it prints what the logs recover to, or there is no memory.
+    ensures complete_recover { let u : Use = use_of (map string_bytes words.now) (reading_of I.left I.faults input.old input.new) (writing_of O.taken O.faults out result.out) (devices_of D.told D.faults logs.items) (devices_of D.told D.faults result.logs.items) in
+        (kept : List (List Record)) → IsRecoverable u kept → (result.status ≡ status.Done) ⊎ (result.status ≡ status.Memory) }
     // A run leaves the other logs as they are.
     ensures others { IsRun (map string_bytes words.now) → drop 1 result.logs.items ≡ drop 1 logs.items }
     // Before the text is accepted, no log gets a call.
@@ -65,6 +59,8 @@ pub fn run<I: Source, D: LogDev, O: Sink, T: Sink>(
     one_opening();
     refused_is_not_recovered();
     fault_or_work();
+    one_list_of_records();
+    no_more_records();
     let mut logs = logs;
     let mut out = out;
     let status = match answer(alloc, words, input, &mut logs, &mut out) {
@@ -88,13 +84,7 @@ fn answer<I: Source, D: LogDev, O: Sink>(
     out: &mut O,
 ) -> Result<(), Status>
     requires { vec_len logs.old ≡ 4 }
-    ensures outcome { let u : Use = record {
-      words = map string_bytes words.now;
-      reading = record { left_before = I.left input.old; left_after = I.left input.new; faults_before = I.faults input.old; faults_after = I.faults input.new };
-      writing = record { taken_before = O.taken out.old; taken_after = O.taken out.new; faults_before = O.faults out.old; faults_after = O.faults out.new };
-      devices_before = devices_of D.told D.faults logs.old.items;
-      devices_after = devices_of D.told D.faults logs.new.items;
-    } in MatchResult result (λ _. IsOutcome u status.Done) (λ s. IsOutcome u s) }
+    ensures outcome { let u : Use = use_of (map string_bytes words.now) (reading_of I.left I.faults input.old input.new) (writing_of O.taken O.faults out.old out.new) (devices_of D.told D.faults logs.old.items) (devices_of D.told D.faults logs.new.items) in MatchResult result (λ _. IsOutcome u status.Done) (λ s. IsOutcome u s) }
     ensures others { IsRun (map string_bytes words.now) → drop 1 logs.new.items ≡ drop 1 logs.old.items }
     ensures untouched { IfErr result (λ s. GetsNoCall s → logs.new ≡ logs.old) }
 {
@@ -113,17 +103,14 @@ fn run_input<I: Source, D: LogDev, O: Sink>(
     out: &mut O,
 ) -> Result<(), Status>
     requires { vec_len logs.old ≡ 4 }
-    ensures outcome { let u : Use = record {
-      words = codes "run" ∷ [];
-      reading = record { left_before = I.left input.old; left_after = I.left input.new; faults_before = I.faults input.old; faults_after = I.faults input.new };
-      writing = record { taken_before = O.taken out.old; taken_after = O.taken out.new; faults_before = O.faults out.old; faults_after = O.faults out.new };
-      devices_before = devices_of D.told D.faults logs.old.items;
-      devices_after = devices_of D.told D.faults logs.new.items;
-    } in MatchResult result (λ _. IsOutcome u status.Done) (λ s. IsOutcome u s) }
+    ensures outcome { let u : Use = use_of (codes "run" ∷ []) (reading_of I.left I.faults input.old input.new) (writing_of O.taken O.faults out.old out.new) (devices_of D.told D.faults logs.old.items) (devices_of D.told D.faults logs.new.items) in MatchResult result (λ _. IsOutcome u status.Done) (λ s. IsOutcome u s) }
     ensures others { drop 1 logs.new.items ≡ drop 1 logs.old.items }
     ensures untouched { IfErr result (λ s. GetsNoCall s → logs.new ≡ logs.old) }
 {
     begun_is_recovered();
+    one_list_of_records();
+    records_are_held();
+    images_of_settled();
     one_work();
     let work = match read_work(alloc, input) {
         Ok(work) => work,

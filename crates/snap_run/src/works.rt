@@ -1,6 +1,6 @@
 ghost use Rattle.std.specs.Prelude.{◌≡◌, IfOk, MatchResult};
 ghost use Rattle.work_text.specs.Works.{work_of};
-ghost use Rattle.snap_run.specs.Uses.{Reading};
+ghost use Rattle.snap_run.specs.Uses.{Reading, reading_of};
 ghost use Rattle.snap_run.specs.Runs.{IsRunnable};
 ghost use Rattle.snap_run.specs.Answers.{OfText, IsInputAnswer};
 
@@ -14,12 +14,7 @@ use work_text::{
 
 /// The work that the input stands for.
 pub(crate) fn read_work<I: Source>(alloc: Global, input: &mut I) -> Result<Work, Status>
-    ensures answer { let r : Reading = record {
-      left_before = I.left input.old;
-      left_after = I.left input.new;
-      faults_before = I.faults input.old;
-      faults_after = I.faults input.new;
-    } in MatchResult result (λ w. OfText r (λ v. v ≡ work_of w)) (λ s. IsInputAnswer r s) }
+    ensures answer { let r : Reading = reading_of I.left I.faults input.old input.new in MatchResult result (λ w. OfText r (λ v. v ≡ work_of w)) (λ s. IsInputAnswer r s) }
     ensures runnable { IfOk result (λ w. IsRunnable (work_of w)) }
 {
     built_works();

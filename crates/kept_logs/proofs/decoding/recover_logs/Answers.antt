@@ -1,4 +1,0 @@
-use Rattle.kept_logs.proofs.decoding.recover_logs.Goals as goal
-
-pub returns-in-Err : goal.returns-in-Err
-returns-in-Err c = c.of_recovery.ensures c.args.logs.now c.in-Err.ensures.refused

@@ -1,0 +1,94 @@
+-- What the steps of the flow leave.
+use Rattle.std.proofs.Common.{◌≡◌, ℕ, ◌≤◌, inr, List, [], ◌∷◌, length, get_or, take, sym, ◌∙◌, ap, subst, arith, Result, Ok, Err}
+use Rattle.std.proofs.lemmas.List.{take_all}
+use Rattle.std.proofs.lemmas.Slice.Zip.{AllZip-long}
+use Rattle.std.specs.Prelude.{IfOk, IfErr, MatchResult}
+use Rattle.std.specs.List.{AllZip, AllByRecursion}
+use Rattle.gate_log.specs.declared.logs.LogItem.{LogItem}
+use Rattle.txn_records.specs.declared.records.Record.{Record}
+use Rattle.txn_records.specs.Records.{IsRecord}
+use Rattle.record_log.specs.Records.{AreItemsOf}
+use Rattle.record_log.specs.RecordLogLaws.{OpenedHeld, ItemsAreRecords}
+use Rattle.snap_recover.specs.declared.openings.Opening.{Opening}
+use Rattle.snap_recover.specs.Opening.{IsRecovered}
+use Rattle.log_opening.specs.declared.refusals.LogsNo.{LogsNo}
+use Rattle.log_opening.specs.declared.refusals.LogsNo.TheVariants as ending
+use Rattle.log_opening.specs.Devices.{Device, AreOpened}
+use Rattle.log_opening.specs.Found.{AreFound, IsHalted, IsNoReading, IsNoDecoding, IsNoRecovery}
+use Rattle.log_opening.specs.Kept.{logs_said, Holds, IsLogsNo}
+use Rattle.log_opening.specs.Reads.{IsEnded, IsFirstRead, AreRead}
+use Rattle.log_opening.proofs.Opening.{found_opened, found_touched, all_untouched}
+use Rattle.log_opening.proofs.Reading.{said_range, zip_holds, zip_first, each_record, given}
+use Rattle.log_opening.proofs.Refusing.{halted_no, asked_first, reading_no, decoding_no, recovery_no}
+
+-- ---- log 0
+
+one_zip : (found : List (List LogItem)) (rs : List Record) → length found ≡ 1 → AreItemsOf (get_or found 0 []) rs → AllZip AreItemsOf found (rs ∷ [])
+one_zip [] rs one are = absurd (omega (arith, one))
+one_zip (f ∷ []) rs one are = (are, tt)
+one_zip (f ∷ g ∷ fs) rs one are = absurd (omega (arith, one))
+
+pub first_read : (before after : List Device) (found : List (List LogItem)) (r : Result (List Record) LogsNo) → AreFound before after found → length found ≡ 1
+    → MatchResult r (λ rs. AreItemsOf (get_or found 0 []) rs) (λ a. IsNoReading (get_or found 0 []) 0 a)
+    → MatchResult r (λ rs. IsFirstRead before after found rs) (λ a. IsEnded before after a)
+first_read before after found (Ok rs) are one said = record { are_found = are; one = one; records = one_zip found rs one said }
+first_read before after found (Err a) are one said = record { cause = reading_no before after found a one are said; touched = found_touched before after found are }
+
+pub first_ended : (before after : List Device) (a : LogsNo) → IsHalted 1 before after a → IsEnded before after a
+first_ended before after a halted = record { cause = halted_no 1 before after a (asked_first before) halted; touched = halted.touched }
+
+pub first_said : ItemsAreRecords → (before mid : List Device) (found : List (List LogItem)) (first : List Record) → IsFirstRead before mid found first → (1 ≤ logs_said first) × (logs_said first ≤ 4)
+first_said each before mid found first read = said_range first (each_record each found (first ∷ []) read.records).0
+
+pub first_here : (before mid : List Device) (found all : List (List LogItem)) (first : List Record) → IsFirstRead before mid found first → take (length found) all ≡ found
+    → AllZip AreItemsOf (take 1 all) (first ∷ [])
+first_here before mid found all first read kept =
+    subst (λ (l : List (List LogItem)). AllZip AreItemsOf l (first ∷ [])) (sym kept ∙ ap (λ (n : ℕ). take n all) read.one) read.records
+
+-- ---- the others
+
+pub others_ended : OpenedHeld → (before mid after : List Device) (found : List (List LogItem)) (first : List Record) (a : LogsNo) → IsFirstRead before mid found first
+    → IsHalted (logs_said first) before after a → IsEnded before after a
+others_ended law before mid after found first a read halted =
+    let held : AllZip Holds (take (length found) before) (first ∷ []) = zip_holds law (length found) before mid found (first ∷ []) (omega arith) read.are_found
+    (subst (λ (l : List (List LogItem)). AllZip AreItemsOf l (first ∷ [])) (sym (take_all (length found) found (omega arith))) read.records) in
+    record {
+      cause = halted_no (logs_said first) before after a (λ log lt. inr (first, zip_first (length found) before first [] held, lt)) halted;
+      touched = halted.touched;
+    }
+
+pub others_read : OpenedHeld → ItemsAreRecords → (before after : List Device) (all : List (List LogItem)) (first : List Record) (r : Result (List (List Record)) LogsNo) → AreFound before after all
+    → length all ≡ logs_said first
+    → MatchResult r (λ logs. AllZip AreItemsOf all logs × ((others : List (List Record)) × (logs ≡ first ∷ others))) (λ a. IsNoDecoding all first a)
+    → MatchResult r (λ logs. AreRead before after logs) (λ a. IsEnded before after a)
+others_read law each before after all first (Ok logs) are count said = record {
+  given = given law each before after all first said.1.0 logs are said.0 said.1.1 count;
+  opened = subst (λ (n : ℕ). AreOpened n before after) (sym (AllZip-long AreItemsOf all logs said.0)) (found_opened before after all are);
+  touched = found_touched before after all are;
+}
+others_read law each before after all first (Err a) are count said = record { cause = decoding_no law before after all first a count are said; touched = found_touched before after all are }
+
+-- ---- all of them
+
+pub ended_for_memory : (devices : List Device) → IsEnded devices devices ending.Memory
+ended_for_memory devices = record { cause = tt; touched = all_untouched devices }
+
+-- the devices come back from the open logs
+pub read_back : (before after mid before_mid : List Device) (r : Result (List (List Record)) LogsNo) → before_mid ≡ before → after ≡ mid
+    → MatchResult r (λ logs. AreRead before_mid mid logs) (λ a. IsEnded before_mid mid a) → MatchResult r (λ logs. AreRead before after logs) (λ a. IsEnded before after a)
+read_back before after mid before_mid r first last read =
+    subst (λ (l : List Device). MatchResult r (λ logs. AreRead before l logs) (λ a. IsEnded before l a)) (sym last)
+    (subst (λ (l : List Device). MatchResult r (λ logs. AreRead l mid logs) (λ a. IsEnded l mid a)) first read)
+
+-- ---- recovered
+
+pub read_refused : (before after : List Device) (logs : List (List Record)) (r : Result Opening LogsNo) → AreRead before after logs
+    → MatchResult r (λ o. IsRecovered logs o) (λ a. IsNoRecovery logs a) → IfErr r (λ a. IsLogsNo before after a)
+read_refused before after logs (Ok o) read said = tt
+read_refused before after logs (Err a) read said = recovery_no before after logs a read.given read.opened said
+
+pub read_few : (before after : List Device) (logs : List (List Record)) (r : Result Opening LogsNo)
+    → ((all : List (List Record)) (o : Opening) → AllByRecursion (AllByRecursion IsRecord) all → IsRecovered all o → length o.states ≤ 256) → AreRead before after logs
+    → MatchResult r (λ o. IsRecovered logs o) (λ a. IsNoRecovery logs a) → IfOk r (λ o. length o.states ≤ 256)
+read_few before after logs (Ok o) few read said = few logs o read.given.4 said
+read_few before after logs (Err a) few read said = tt

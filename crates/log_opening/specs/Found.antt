@@ -1,0 +1,119 @@
+-- What opening devices one after the other finds, and what decoding finds then.
+use Rattle.std.specs.Prelude.{◌≡◌, false, IfSome, ℕ, ◌+◌, ◌<◌, ◌≤◌, ◌⊎◌, List, [], ◌∷◌, length, take, slice_index_or, slice_set}
+use Rattle.std.specs.List.{AllZip}
+use Rattle.snap_outside.specs.Causes.{Rose}
+use Rattle.gate_log.specs.declared.limits.TheConstants.{FARTHEST_END}
+use Rattle.gate_log.specs.declared.logs.LogItem.{LogItem}
+use Rattle.gate_log.specs.declared.opens.OpenNo.{OpenNo}
+use Rattle.gate_log.specs.declared.opens.OpenNo.TheVariants as refusal
+use Rattle.gate_log.specs.Bytes.{IsPlacedLogAt}
+use Rattle.gate_log.specs.Device.{DeviceLog}
+use Rattle.gate_log.specs.State.{LogState}
+use Rattle.gate_log.specs.Opened.{Opened, Refused, bytes_of}
+use Rattle.txn_records.specs.declared.records.Record.{Record}
+use Rattle.record_log.specs.Records.{AreItemsOf, IsFirstBadIn, KeepsRecords}
+use Rattle.snap_recover.specs.declared.causes.LogCause.{LogCause}
+use Rattle.snap_recover.specs.declared.causes.LogCause.TheVariants as cause
+use Rattle.snap_recover.specs.declared.refusals.RecoverNo.TheVariants as recover
+use Rattle.snap_recover.specs.Refusals.{IsRefused}
+use Rattle.log_opening.specs.declared.refusals.LogsNo.{LogsNo}
+use Rattle.log_opening.specs.declared.refusals.LogsNo.TheVariants as ending
+use Rattle.log_opening.specs.Devices as devices
+
+-- ---- one device
+
+-- the items stand so in the bytes of some log
+abbrev pub ArePlaced : List LogItem → Type 0
+ArePlaced items = (bytes : List ℕ) × (end : ℕ) × IsPlacedLogAt bytes end items × (end ≤ FARTHEST_END)
+
+-- no record is lost, and no fault is forgotten
+pub record IsKeptSafe (before after : devices.Device) : Type 0 where
+  pub records : KeepsRecords before.told after.told
+  pub later : before.faults ≤ after.faults
+
+-- the device is opened, and these items were found on it
+pub record IsFoundOn (before after : devices.Device) (items : List LogItem) : Type 0 where
+  pub opened : (end : ℕ) × Opened before.told after.told end items
+  pub placed : ArePlaced items
+  pub safe : IsKeptSafe before after
+
+-- the open log holds these items, is not shut, and may grow
+pub record IsReadyLog (log : LogState) (items : List LogItem) : Type 0 where
+  pub holds : IfSome log.told (λ h. DeviceLog h log.end (bytes_of items))
+  pub low : log.end ≤ FARTHEST_END
+  pub ready : log.shut ≡ false
+
+-- why the device was not opened
+pub record IsClosed (before after : devices.Device) (no : OpenNo) : Type 0 where
+  pub refused : Refused before.told after.told no
+  pub failed : no ≡ refusal.Device → Rose before.faults after.faults
+  pub safe : IsKeptSafe before after
+
+-- opened at most, with all that it held
+pub record IsTouched (before after : devices.Device) : Type 0 where
+  pub opened : devices.IsOpenedAtMost before after
+  pub safe : IsKeptSafe before after
+
+-- ---- all devices
+
+-- These items were found on the first devices, a list on each. The others got no call.
+abbrev pub AreFound : List devices.Device → List devices.Device → List (List LogItem) → Type 0
+AreFound before after [] = after ≡ before
+AreFound [] after (items ∷ found) = ⊥
+AreFound (b ∷ before) [] (items ∷ found) = ⊥
+AreFound (b ∷ before) (a ∷ after) (items ∷ found) = IsFoundOn b a items × AreFound before after found
+
+-- The devices below this one were opened, and this one was not, for this cause.
+pub record IsStoppedAt (log : ℕ) (before after : List devices.Device) (no : OpenNo) : Type 0 where
+  pub parts : (mid : List devices.Device) × (found : List (List LogItem)) × (new : devices.Device)
+      × AreFound before mid found × (log ≡ length found) × (log < length mid) × (after ≡ slice_set mid log new)
+      × IsClosed (devices.device_at mid log) new no
+
+-- the same refusal of a log's opening, in the words of this crate
+abbrev pub no_of_opening : ℕ → OpenNo → LogsNo
+no_of_opening log (refusal.NotALog offset) = ending.Refused log offset cause.NotALog
+no_of_opening log (refusal.Damage offset) = ending.Refused log offset cause.Damage
+no_of_opening log refusal.Device = ending.Device log
+no_of_opening log refusal.Memory = ending.Memory
+
+-- Not so many devices were opened, and why.
+pub record IsHalted (count : ℕ) (before after : List devices.Device) (no : LogsNo) : Type 0 where
+  pub touched : AllZip IsTouched before after
+  pub why : (no ≡ ending.Memory) ⊎ ((log : ℕ) × (why : OpenNo) × (log < count) × IsStoppedAt log before after why × (no ≡ no_of_opening log why))
+
+-- ---- records
+
+-- why the items of this log are no records
+abbrev pub IsNoReading : List LogItem → ℕ → LogsNo → Type 0
+IsNoReading items log (ending.Refused l offset cause.BadRecord) = (l ≡ log) × IsFirstBadIn items offset
+IsNoReading items log (ending.Refused l offset c) = ⊥
+IsNoReading items log (ending.Device l) = ⊥
+IsNoReading items log ending.Memory = Unit {0}
+
+-- why the items of the logs behind log 0, which has these records, are no records
+abbrev pub IsNoDecoding : List (List LogItem) → List Record → LogsNo → Type 0
+IsNoDecoding found first (ending.Refused log offset cause.BadRecord) =
+    (others : List (List Record)) × (log ≡ length others + 1) × (log < length found) × AllZip AreItemsOf (take log found) (first ∷ others)
+    × IsFirstBadIn (slice_index_or found log []) offset
+IsNoDecoding found first (ending.Refused log offset c) = ⊥
+IsNoDecoding found first (ending.Device log) = ⊥
+IsNoDecoding found first ending.Memory = Unit {0}
+
+-- why the records of all logs recover to nothing, and the log that is named
+abbrev pub IsRecoveryCause : List (List Record) → ℕ → LogCause → Type 0
+IsRecoveryCause logs log cause.NotALog = ⊥
+IsRecoveryCause logs log cause.Damage = ⊥
+IsRecoveryCause logs log cause.BadRecord = ⊥
+IsRecoveryCause logs log cause.NoGenesis = (log ≡ 0) × IsRefused logs recover.NoGenesis
+IsRecoveryCause logs log cause.TwoGenesis = (log ≡ 0) × IsRefused logs recover.TwoGenesis
+IsRecoveryCause logs log (cause.LogCount kept found) = (log ≡ 0) × IsRefused logs (recover.LogCount kept found)
+IsRecoveryCause logs log (cause.Range k) = IsRefused logs (recover.Range k log)
+IsRecoveryCause logs log (cause.Missing k) = IsRefused logs (recover.Missing k log)
+IsRecoveryCause logs log (cause.Spent number) = ⊥
+IsRecoveryCause logs log (cause.Differs what kept text) = ⊥
+
+-- the same, in the words of this crate
+abbrev pub IsNoRecovery : List (List Record) → LogsNo → Type 0
+IsNoRecovery logs (ending.Refused log offset c) = (offset ≡ 0) × IsRecoveryCause logs log c
+IsNoRecovery logs (ending.Device log) = ⊥
+IsNoRecovery logs ending.Memory = Unit {0}

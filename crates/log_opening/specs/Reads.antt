@@ -1,0 +1,27 @@
+-- What the steps of the flow leave, on the devices before and after.
+use Rattle.std.specs.Prelude.{◌≡◌, List, [], ◌∷◌, length}
+use Rattle.std.specs.List.{AllZip}
+use Rattle.gate_log.specs.declared.logs.LogItem.{LogItem}
+use Rattle.txn_records.specs.declared.records.Record.{Record}
+use Rattle.record_log.specs.Records.{AreItemsOf}
+use Rattle.log_opening.specs.declared.refusals.LogsNo.{LogsNo}
+use Rattle.log_opening.specs.Devices.{Device, AreOpened}
+use Rattle.log_opening.specs.Found.{IsTouched, AreFound}
+use Rattle.log_opening.specs.Kept.{AreGiven, IsLogsNo}
+
+-- nothing is recovered, for this cause
+pub record IsEnded (before after : List Device) (why : LogsNo) : Type 0 where
+  pub cause : IsLogsNo before after why
+  pub touched : AllZip IsTouched before after
+
+-- log 0 is open and has these records
+pub record IsFirstRead (before after : List Device) (found : List (List LogItem)) (first : List Record) : Type 0 where
+  pub are_found : AreFound before after found
+  pub one : length found ≡ 1
+  pub records : AllZip AreItemsOf found (first ∷ [])
+
+-- all logs are open and have these records
+pub record AreRead (before after : List Device) (logs : List (List Record)) : Type 0 where
+  pub given : AreGiven before logs
+  pub opened : AreOpened (length logs) before after
+  pub touched : AllZip IsTouched before after

@@ -1,0 +1,72 @@
+ghost use Rattle.std.specs.Prelude.{◌≡◌, ◌≤◌, ℕ, List, [], ◌∷◌, length, take, MatchResult};
+ghost use Rattle.std.specs.List.{AllByRecursion, AllZip};
+ghost use Rattle.txn_records.specs.declared.records.Record.{Record};
+ghost use Rattle.record_log.specs.Records.{AreItemsOf};
+ghost use Rattle.snap_recover.specs.Opening.{IsRecovered};
+ghost use Rattle.log_opening.specs.Found.{ArePlaced, IsNoReading, IsNoDecoding, IsNoRecovery};
+
+use crate::LogsNo;
+use crate::refusals::of_recovery;
+use gate_log::LogItem;
+use record_log::{ItemsNo, records_of};
+use snap_base::Sequence;
+use snap_recover::{LogCause, Opening, recover};
+use std::alloc::Global;
+use txn_records::Record;
+
+/// The records that the items of this log are.
+pub fn read_log(alloc: Global, items: &[LogItem], log: u8) -> Result<Sequence<Record>, LogsNo>
+    requires { ArePlaced items.now }
+    ensures { MatchResult result (λ rs. AreItemsOf items.now rs) (λ no. IsNoReading items.now log no) }
+{
+    match records_of(alloc, items) {
+        Ok(records) => Ok(records),
+        Err(ItemsNo::BadRecord { offset }) => Err(LogsNo::Refused {
+            log,
+            offset,
+            cause: LogCause::BadRecord,
+        }),
+        Err(ItemsNo::Memory) => Err(LogsNo::Memory),
+    }
+}
+
+/// The records of all logs, of which those of log 0 are these.
+pub(crate) fn read_others(
+    alloc: Global,
+    found: &[Sequence<LogItem>],
+    first: Sequence<Record>,
+) -> Result<Sequence<Sequence<Record>>, LogsNo>
+    requires placed { AllByRecursion ArePlaced found.now }
+    requires some { 1 ≤ length found.now }
+    requires few { length found.now ≤ 4 }
+    requires first { AllZip AreItemsOf (take 1 found.now) (first ∷ []) }
+    ensures { MatchResult result
+        (λ logs. AllZip AreItemsOf found.now logs × ((others : List (List Record)) × (logs ≡ first ∷ others)))
+        (λ no. IsNoDecoding found.now first no) }
+{
+    let mut logs = Sequence::new(alloc);
+    if logs.push(first).is_err() {
+        return Err(LogsNo::Memory);
+    }
+    for log in 1..found.len() {
+        match read_log(alloc, found[log].as_slice(), log as u8) {
+            Ok(records) => {
+                if logs.push(records).is_err() {
+                    return Err(LogsNo::Memory);
+                }
+            }
+            Err(no) => return Err(no),
+        }
+    }
+    Ok(logs)
+}
+
+/// What the records of the logs recover to.
+pub fn recover_records(alloc: Global, logs: &[Sequence<Record>]) -> Result<Opening, LogsNo>
+    ensures { MatchResult result (λ o. IsRecovered logs.now o) (λ no. IsNoRecovery logs.now no) }
+{
+    match recover(alloc, logs) {
+        Ok(opening) => Ok(opening),
+        Err(no) => Err(of_recovery(no)),
+    }
+}

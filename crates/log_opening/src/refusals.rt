@@ -1,0 +1,65 @@
+ghost use Rattle.std.specs.Prelude.{◌≡◌, List};
+ghost use Rattle.txn_records.specs.declared.records.Record.{Record};
+ghost use Rattle.snap_recover.specs.Refusals.{IsRefused};
+ghost use Rattle.log_opening.specs.Found.{IsNoRecovery, no_of_opening};
+
+use gate_log::OpenNo;
+use snap_recover::{LogCause, RecoverNo};
+
+/// Why logs are not opened, or give no opening. `Refused` says what a log holds that is refused, and no other call was
+/// made of its device but those of opening; `offset` is the place in the file, where the file or one of its records
+/// is the cause, and else 0.
+#[derive(Clone, Copy, Debug, PartialEq, Eq)]
+pub enum LogsNo {
+    /// What the logs hold is refused.
+    Refused {
+        log: u8,
+        offset: u64,
+        cause: LogCause,
+    },
+    /// The device that holds this log failed.
+    Device {
+        log: u8,
+    },
+    /// There was no memory.
+    Memory,
+}
+
+/// The opening of this log is refused.
+pub fn of_opening(no: OpenNo, log: u8) -> LogsNo
+    ensures { result ≡ no_of_opening log no }
+{
+    match no {
+        OpenNo::NotALog { offset } => LogsNo::Refused {
+            log,
+            offset,
+            cause: LogCause::NotALog,
+        },
+        OpenNo::Damage { offset } => LogsNo::Refused {
+            log,
+            offset,
+            cause: LogCause::Damage,
+        },
+        OpenNo::Device => LogsNo::Device { log },
+        OpenNo::Memory => LogsNo::Memory,
+    }
+}
+
+/// The records of the logs recover to nothing.
+pub(crate) fn of_recovery(no: RecoverNo) -> LogsNo
+    ensures { (logs : List (List Record)) → IsRefused logs no → IsNoRecovery logs result }
+{
+    let (log, cause) = match no {
+        RecoverNo::NoGenesis => (0, LogCause::NoGenesis),
+        RecoverNo::TwoGenesis => (0, LogCause::TwoGenesis),
+        RecoverNo::LogCount { kept, found } => (0, LogCause::LogCount { kept, found }),
+        RecoverNo::Range { key, log } => (log, LogCause::Range { key }),
+        RecoverNo::Missing { key, log } => (log, LogCause::Missing { key }),
+        RecoverNo::Memory => return LogsNo::Memory,
+    };
+    LogsNo::Refused {
+        log,
+        offset: 0,
+        cause,
+    }
+}

@@ -1,0 +1,116 @@
+-- Where nothing stands in the way of the command that prints what the logs recover to, only two answers are left.
+use Rattle.std.proofs.Common.{◌≡◌, ◌⊎◌, inl, inr, ℕ, ◌<◌, zero, suc, List, [], ◌∷◌, length, take, get_or, refl, sym, ◌∙◌, ap, subst, arith}
+use Rattle.std.specs.Prelude.{IfSome}
+use Rattle.std.specs.List.{AllZip}
+use Rattle.snap_outside.specs.Disk.{content}
+use Rattle.gate_log.specs.declared.opens.OpenNo.TheVariants as refusal
+use Rattle.gate_log.specs.Opened.{Opened, Refused}
+use Rattle.txn_records.specs.declared.records.Record.{Record}
+use Rattle.record_log.specs.Records.{HoldsRecords}
+use Rattle.record_log.specs.RecordLogLaws.{OneListOfRecords}
+use Rattle.snap_recover.specs.declared.causes.LogCause.{LogCause}
+use Rattle.snap_recover.specs.declared.causes.LogCause.TheVariants as cause
+use Rattle.snap_report.specs.declared.statuses.Status.{Status}
+use Rattle.snap_report.specs.declared.statuses.Status.TheVariants as status
+use Rattle.log_opening.specs.Devices.{Device, device_at}
+use Rattle.log_opening.specs.Found.{IsRecoveryCause}
+use Rattle.log_opening.specs.Kept.{logs_said, Holds, AreGiven, IsAsked, AreRefused}
+use Rattle.snap_run.specs.Uses.{Use}
+use Rattle.snap_run.specs.Answers.{IsAnswer}
+use Rattle.snap_run.specs.Recoveries.{Tells, IsRecoverable, IsRecoverAnswer}
+use Rattle.snap_run.proofs.Complete.{RecordLaws, NeverBoth, recovers_not_refused}
+use Rattle.snap_run.proofs.Outcomes.{not_both}
+
+-- ---- what the devices hold
+
+told_at : (n : ℕ) (before : List Device) (logs : List (List Record)) (log : ℕ) → AllZip Tells (take n before) logs → log < length logs → Tells (device_at before log) (get_or logs log [])
+told_at n before [] log all lt = absurd (omega (arith, lt))
+told_at zero before (l ∷ ls) log all lt = absurd all
+told_at (suc n) [] (l ∷ ls) log all lt = absurd all
+told_at (suc n) (b ∷ bs) (l ∷ ls) zero all lt = all.0
+told_at (suc n) (b ∷ bs) (l ∷ ls) (suc log) all lt = told_at n bs ls log all.1 (omega (arith, lt))
+
+same_records : OneListOfRecords → (d : Device) (rs xs : List Record) → Tells d rs → Holds d xs → xs ≡ rs
+same_records one d rs xs tells holds = one (content tells.0) xs rs (subst (λ o. IfSome o (λ h. HoldsRecords (content h) xs)) tells.1 holds) tells.2
+
+same_logs : OneListOfRecords → (ds : List Device) (xs logs : List (List Record)) → AllZip Holds ds xs → AllZip Tells ds logs → xs ≡ logs
+same_logs one [] [] [] holds tells = refl
+same_logs one [] (x ∷ xs) logs holds tells = absurd holds
+same_logs one [] [] (l ∷ logs) holds tells = absurd tells
+same_logs one (d ∷ ds) [] logs holds tells = absurd holds
+same_logs one (d ∷ ds) (x ∷ xs) [] holds tells = absurd tells
+same_logs one (d ∷ ds) (x ∷ xs) (l ∷ logs) holds tells =
+    let first : x ≡ l = same_records one d l x tells.0 holds.0 in
+    let others : xs ≡ logs = same_logs one ds xs logs holds.1 tells.1 in
+    cc
+
+holds_first : (n : ℕ) (before : List Device) (xs others : List (List Record)) (first : List Record) → xs ≡ first ∷ others → AllZip Holds (take n before) xs → Holds (device_at before 0) first
+holds_first n before [] others first is all = absurd (cc)
+holds_first zero before (x ∷ xs) others first is all = absurd all
+holds_first (suc n) [] (x ∷ xs) others first is all = absurd all
+holds_first (suc n) (b ∷ bs) (x ∷ xs) others first is all = let same : x ≡ first = cc in subst (λ (rs : List Record). Holds b rs) same all.0
+
+-- ---- as many logs as log 0 says
+
+module _ (laws : RecordLaws) (never : NeverBoth) (u : Use) (logs : List (List Record)) (may : IsRecoverable u logs) where
+  some : 0 < length logs
+  some = omega (arith, ap (λ (l : List (List Record)). length l) may.said.2)
+
+  -- what log 0 holds says how many there are
+  said : (first : List Record) → Holds (device_at u.devices_before 0) first → logs_said first ≡ length logs
+  said first holds =
+      let here = same_records laws.one_list (device_at u.devices_before 0) (get_or logs 0 []) first (told_at (length logs) u.devices_before logs 0 may.told some) holds in
+      let same : first ≡ may.said.0 = here ∙ ap (λ (l : List (List Record)). get_or l 0 []) may.said.2 in
+      ap (λ (rs : List Record). logs_said rs) same ∙ sym may.said.3
+
+  asked_below : (log : ℕ) → IsAsked u.devices_before log → log < length logs
+  asked_below log (inl zero_is) = omega (arith, some, zero_is)
+  asked_below log (inr named) = omega (arith, named.2, said named.0 named.1)
+
+  given_same : (xs : List (List Record)) → AreGiven u.devices_before xs → xs ≡ logs
+  given_same xs given =
+      let many : length xs ≡ length logs = given.3 ∙ said given.0 (holds_first (length xs) u.devices_before xs given.1 given.0 given.2 given.5) in
+      same_logs laws.one_list (take (length logs) u.devices_before) xs logs (subst (λ (n : ℕ). AllZip Holds (take n u.devices_before) xs) many given.5) may.told
+
+  given_not_refused : (xs : List (List Record)) (log : ℕ) (c : LogCause) → AreGiven u.devices_before xs → IsRecoveryCause xs log c → ⊥
+  given_not_refused xs log c given why =
+      recovers_not_refused never logs may.recovers.0 log c may.recovers.1 (subst (λ (l : List (List Record)). IsRecoveryCause l log c) (given_same xs given) why)
+
+  none_refused : (after : List Device) (log offset : ℕ) (c : LogCause) → AreRefused u.devices_before after log offset c → ⊥
+  none_refused after log offset cause.NotALog x =
+      let tells = told_at (length logs) u.devices_before logs log may.told (asked_below log x.0) in
+      let why = subst (λ o. Refused o (device_at after log).told (refusal.NotALog offset)) tells.1 x.1 in
+      laws.foreign (content tells.0) (get_or logs log []) offset why.1.0 tells.2 why.1.1
+  none_refused after log offset cause.Damage x =
+      let tells = told_at (length logs) u.devices_before logs log may.told (asked_below log x.0) in
+      let why = subst (λ o. Refused o (device_at after log).told (refusal.Damage offset)) tells.1 x.1 in
+      laws.damaged (content tells.0) (get_or logs log []) offset why.1.0 tells.2 why.1.1
+  none_refused after log offset cause.BadRecord x =
+      let tells = told_at (length logs) u.devices_before logs log may.told (asked_below log x.0) in
+      let opened = subst (λ o. Opened o (device_at after log).told x.1.0 x.1.1) tells.1 x.1.2 in
+      laws.bad tells.0 (device_at after log).told x.1.0 offset x.1.1 (get_or logs log []) opened tells.2 x.1.3
+  none_refused after log offset cause.NoGenesis x = given_not_refused x.1.0 log cause.NoGenesis x.1.1 x.1.2
+  none_refused after log offset cause.TwoGenesis x = given_not_refused x.1.0 log cause.TwoGenesis x.1.1 x.1.2
+  none_refused after log offset (cause.LogCount k f) x = given_not_refused x.1.0 log (cause.LogCount k f) x.1.1 x.1.2
+  none_refused after log offset (cause.Range k) x = given_not_refused x.1.0 log (cause.Range k) x.1.1 x.1.2
+  none_refused after log offset (cause.Missing k) x = given_not_refused x.1.0 log (cause.Missing k) x.1.1 x.1.2
+  none_refused after log offset (cause.Spent n) x = given_not_refused x.1.0 log (cause.Spent n) x.1.1 x.1.2
+  none_refused after log offset (cause.Differs w k t) x = given_not_refused x.1.0 log (cause.Differs w k t) x.1.1 x.1.2
+
+  -- ---- the answers that are left
+
+  recover_completed : (s : Status) → IsRecoverAnswer u.devices_before u.devices_after u.writing s → (s ≡ status.Done) ⊎ (s ≡ status.Memory)
+  recover_completed status.Done a = inl refl
+  recover_completed status.Memory a = inr refl
+  recover_completed (status.Usage place) a = absurd a
+  recover_completed (status.Input line c) a = absurd a
+  recover_completed (status.Logs log offset c) a = absurd (none_refused u.devices_after log offset c a.0)
+  recover_completed status.ReadFault a = absurd a
+  recover_completed (status.LogFault log) a = absurd (may.devices log a.0.0 a.0.1)
+  recover_completed status.OutFault a = absurd (may.sink a.6)
+  recover_completed (status.Halted n) a = absurd a
+
+  pub completed_recover : (s : Status) → IsAnswer u s → (s ≡ status.Done) ⊎ (s ≡ status.Memory)
+  completed_recover s (inl x) = absurd (not_both u.words x.0 may.recover)
+  completed_recover s (inr (inl x)) = recover_completed s x.2
+  completed_recover s (inr (inr x)) = absurd (x.0.2.no_form (inr may.recover))
