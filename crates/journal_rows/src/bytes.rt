@@ -1,6 +1,8 @@
 use crate::logs::{ITEM, WITH_ITEM, append, has_items, is_refused, open_bytes};
 use gate_log::{Log, OpenNo};
+use snap_base::Memory;
 use snap_outside::MemLog;
+use std::alloc::Global;
 use std::test::Fail;
 
 #[test]
@@ -26,44 +28,66 @@ fn a_new_log_and_its_first_group_are_these_bytes(rt: HostRuntime) -> Result<(), 
     Ok(())
 }
 
+/// Bytes, and the refusal that opening them gives; or, where there is none, the items that it finds.
+const OPENED: [(&[u8], Option<OpenNo>, &[&[u8]]); 10] = [
+    (&WITH_ITEM, None, &[&ITEM]),
+    // cut off, empty, as long as a new log, and a foreign file
+    (
+        b"SNAPLOG1\x01\0\0\0\x0b\0\x09\x04\0\0\0\0",
+        Some(OpenNo::Damage { offset: 8 }),
+        &[],
+    ),
+    (b"", None, &[]),
+    (b"anything!", None, &[]),
+    (b"SNAPLOG2\0\0", Some(OpenNo::NotALog { offset: 7 }), &[]),
+    // one byte changed: the first, the block's length, the item's length, and the gate behind the block
+    (
+        b"TNAPLOG1\x01\0\0\0\x0b\0\x09\x04\0\0\0\0\0\0\0\x01\0",
+        Some(OpenNo::NotALog { offset: 0 }),
+        &[],
+    ),
+    (
+        b"SNAPLOG1\x01\0\0\0\x0c\0\x09\x04\0\0\0\0\0\0\0\x01\0",
+        Some(OpenNo::Damage { offset: 8 }),
+        &[],
+    ),
+    (
+        b"SNAPLOG1\x01\0\0\0\x0b\0\x08\x04\0\0\0\0\0\0\0\x01\0",
+        Some(OpenNo::Damage { offset: 8 }),
+        &[],
+    ),
+    (
+        b"SNAPLOG1\x01\0\0\0\x0b\0\x09\x04\0\0\0\0\0\0\0\x01\x01",
+        Some(OpenNo::Damage { offset: 24 }),
+        &[],
+    ),
+    // a closed gate ends the log before the block
+    (
+        b"SNAPLOG1\0\0\0\0\x0b\0\x09\x04\0\0\0\0\0\0\0\x01\0",
+        None,
+        &[],
+    ),
+];
+
+fn opens_so(
+    alloc: Global,
+    bytes: &[u8],
+    no: Option<OpenNo>,
+    items: &[&[u8]],
+) -> Result<bool, Memory> {
+    let opened = open_bytes(alloc, bytes.to_vec(alloc)?)?;
+    Ok(match no {
+        Some(no) => is_refused(&opened, no),
+        None => has_items(&opened, items),
+    })
+}
+
 #[test]
 fn opening_answers_what_the_bytes_are(rt: HostRuntime) -> Result<(), Fail> {
     let alloc = rt.alloc();
-    let whole = open_bytes(alloc, WITH_ITEM.to_vec(alloc)?)?;
-    assert!(rt; has_items(&whole, &[&ITEM]));
-    let cut = open_bytes(alloc, WITH_ITEM[..20].to_vec(alloc)?)?;
-    assert!(rt; is_refused(&cut, OpenNo::Damage { offset: 8 }));
-    let empty = open_bytes(alloc, Vec::new(alloc))?;
-    assert!(rt; has_items(&empty, &[]));
-    let nine = open_bytes(alloc, b"anything!".to_vec(alloc)?)?;
-    assert!(rt; has_items(&nine, &[]));
-    let foreign = open_bytes(alloc, b"SNAPLOG2\0\0".to_vec(alloc)?)?;
-    assert!(rt; is_refused(&foreign, OpenNo::NotALog { offset: 7 }));
-    Ok(())
-}
-
-/// One byte of the log is changed.
-#[test]
-fn a_changed_byte_is_named_at_its_header_or_gate(rt: HostRuntime) -> Result<(), Fail> {
-    let alloc = rt.alloc();
-    let changes = [
-        // the first byte, the block's length, the item's length, and the gate behind the block
-        (0, b'T', OpenNo::NotALog { offset: 0 }),
-        (12, 12, OpenNo::Damage { offset: 8 }),
-        (14, 8, OpenNo::Damage { offset: 8 }),
-        (24, 1, OpenNo::Damage { offset: 24 }),
-    ];
-    for (place, byte, no) in changes {
-        let mut bytes = WITH_ITEM;
-        bytes[place] = byte;
-        let answer = open_bytes(alloc, bytes.to_vec(alloc)?)?;
-        assert!(rt; is_refused(&answer, no), "at {place}");
+    for (bytes, no, items) in OPENED {
+        assert!(rt; opens_so(alloc, bytes, no, items)?, "{bytes:?}");
     }
-    // A closed gate ends the log before the block.
-    let mut bytes = WITH_ITEM;
-    bytes[8] = 0;
-    let answer = open_bytes(alloc, bytes.to_vec(alloc)?)?;
-    assert!(rt; has_items(&answer, &[]));
     Ok(())
 }
 

@@ -132,26 +132,21 @@ pub fn recover_bytes(alloc: Global, bytes: &[u8]) -> Result<Ran, Memory> {
     run_on_log(alloc, &["recover"], "", first)
 }
 
-/// The bytes of log 0 after a run of the text on a log with these.
-pub fn bytes_after(alloc: Global, text: &str, bytes: &[u8]) -> Result<Vec<u8>, Memory> {
-    let first = log_of(alloc, bytes)?;
-    let ran = run_on_log(alloc, &["run"], text, first)?;
-    match ran.logs.get(0) {
-        Some(log) => Ok(log.bytes().to_vec(alloc)?),
-        None => Err(Memory),
-    }
-}
-
 impl Ran {
     /// Whether the call ended so and printed this.
     pub fn gives(&self, status: Status, output: &str) -> bool {
         self.status == status && self.output.as_slice() == output.as_bytes()
     }
 
-    /// Whether log 0 has these bytes, and no operation changed it.
-    pub fn leaves(&self, bytes: &[u8]) -> bool {
+    /// Whether this was printed, in which `/` stands for a line feed.
+    pub fn prints(&self, alloc: Global, lines: &str) -> Result<bool, Memory> {
+        Ok(self.output.as_slice() == lines.replace(alloc, "/", "\n")?.as_bytes())
+    }
+
+    /// Whether log 0 has these bytes.
+    pub fn holds(&self, bytes: &[u8]) -> bool {
         match self.logs.get(0) {
-            Some(log) => log.bytes() == bytes && log.ops().len() < 2,
+            Some(log) => log.bytes() == bytes,
             None => false,
         }
     }

@@ -1,7 +1,16 @@
-use crate::calls::{Ran, bytes_after, log_of, recover_bytes, run_on_log};
-use crate::texts::{DEPOSIT, refused};
-use snap_report::{LogCause, Status};
+use crate::calls::{Ran, log_of, recover_bytes, run_on_log};
+use crate::journals::log_bytes;
+use crate::texts::DEPOSIT;
+use snap_recover::LogCause;
+use snap_report::Status;
 use std::test::Fail;
+
+/// The answer to logs without a Genesis.
+pub const NO_GENESIS: Status = Status::Logs {
+    log: 0,
+    offset: 0,
+    cause: LogCause::NoGenesis,
+};
 
 /// What `recover` prints of a log without a record: nothing, as it is refused.
 const NONE: &str = "";
@@ -24,7 +33,7 @@ const AFTER_AGAIN: &str = "actor 0 110\nrecovered batches 2 acts 0 next 3 3 1\n"
 /// Whether this is printed; where it is nothing, as there is no Genesis.
 fn tells(ran: &Ran, lines: &str) -> bool {
     if lines.is_empty() {
-        return ran.gives(refused(0, LogCause::NoGenesis), NONE);
+        return ran.gives(NO_GENESIS, NONE);
     }
     ran.gives(Status::Done, lines)
 }
@@ -54,42 +63,33 @@ fn left_of_a_second_run(ops: usize) -> (&'static str, &'static str) {
     }
 }
 
-#[test]
-fn a_crash_of_a_first_run_is_recovered_to_before_or_after(rt: HostRuntime) -> Result<(), Fail> {
-    let alloc = rt.alloc();
-    let ran = run_on_log(alloc, &["run"], DEPOSIT, log_of(alloc, b"")?)?;
-    let log = ran.logs.get(0).ok_or("a log")?;
-    assert_eq!(rt; log.ops().len(), 14);
-    for ops in 0..log.ops().len() + 1 {
-        let (least, most) = left_of_a_first_run(ops);
-        for choice in [0, 2, 0x01, 0x7F] {
-            assert!(rt; ops <= log.ops().len());
-            let left = recover_bytes(alloc, &log.image(alloc, ops, choice)?)?;
-            assert!(rt;
-                tells(&left, least) || tells(&left, most),
-                "after {ops} at {choice}"
-            );
-        }
+/// What is recovered after so many operations of a run: the first one, on an empty log, or the one behind it.
+fn left_after(second: bool, ops: usize) -> (&'static str, &'static str) {
+    if second {
+        left_of_a_second_run(ops)
+    } else {
+        left_of_a_first_run(ops)
     }
-    Ok(())
 }
 
 #[test]
-fn a_crash_of_a_second_run_is_recovered_to_before_or_after(rt: HostRuntime) -> Result<(), Fail> {
+fn a_crash_of_a_run_is_recovered_to_before_or_after(rt: HostRuntime) -> Result<(), Fail> {
     let alloc = rt.alloc();
-    let kept = bytes_after(alloc, DEPOSIT, b"")?;
-    let ran = run_on_log(alloc, &["run"], DEPOSIT, log_of(alloc, &kept)?)?;
-    let log = ran.logs.get(0).ok_or("a log")?;
-    assert_eq!(rt; log.ops().len(), 9);
-    for ops in 0..log.ops().len() + 1 {
-        let (least, most) = left_of_a_second_run(ops);
-        for choice in [0, 2, 0x01, 0x7F] {
-            assert!(rt; ops <= log.ops().len());
-            let left = recover_bytes(alloc, &log.image(alloc, ops, choice)?)?;
-            assert!(rt;
-                tells(&left, least) || tells(&left, most),
-                "after {ops} at {choice}"
-            );
+    for (second, before, count) in [(false, "", 14), (true, "G1:100;I1:0:1,C1:0:105;K1", 9)] {
+        let kept = log_bytes(alloc, before)?;
+        let ran = run_on_log(alloc, &["run"], DEPOSIT, log_of(alloc, &kept)?)?;
+        let log = ran.logs.get(0).ok_or("a log")?;
+        assert_eq!(rt; log.ops().len(), count);
+        for ops in 0..log.ops().len() + 1 {
+            let (least, most) = left_after(second, ops);
+            for choice in [0, 2, 0x01, 0x7F] {
+                assert!(rt; ops <= log.ops().len());
+                let left = recover_bytes(alloc, &log.image(alloc, ops, choice)?)?;
+                assert!(rt;
+                    tells(&left, least) || tells(&left, most),
+                    "after {ops} at {choice}"
+                );
+            }
         }
     }
     Ok(())

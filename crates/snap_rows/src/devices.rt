@@ -1,9 +1,9 @@
-use crate::calls::{
-    Ran, bytes_after, failing_log, four_logs, log_of, recover_bytes, run_on_log, run_on_logs,
-};
-use crate::texts::{DEPOSIT, DEPOSIT_OUTPUT, TWO_DEPOSITS, refused};
+use crate::calls::{Ran, failing_log, four_logs, log_of, recover_bytes, run_on_log, run_on_logs};
+use crate::crashes::NO_GENESIS;
+use crate::journals::log_bytes;
+use crate::texts::{DEPOSIT, DEPOSIT_OUTPUT, TWO_DEPOSITS};
 use snap_base::Memory;
-use snap_report::{LogCause, Status};
+use snap_report::Status;
 use std::alloc::Global;
 use std::test::Fail;
 use work_text::WorkCause;
@@ -13,9 +13,6 @@ const UNSURE: &str = "tx 0 unsure 0\ntx 1 unsure 0\n";
 /// The device calls of a run of a text with transactions on an empty log: one of the length, two of making the
 /// log, four each of appending Genesis, the batch and its commit.
 const CALLS: u64 = 15;
-
-/// Genesis of one actor of 100, which says that there are two logs. Behind these bytes the other fields follow.
-const OF_TWO_LOGS: [u8; 26] = *b"SNAPLOG1\x01\0\0\0\x86\0\x84\x01\x02\0\x01\0\0\0\0\0\0\0";
 
 /// A run of two transactions on an empty log whose device call with this number fails.
 fn run_to_a_failing_call(alloc: Global, call: u64, failing_write: u64) -> Result<Ran, Memory> {
@@ -28,7 +25,7 @@ fn run_to_a_failing_call(alloc: Global, call: u64, failing_write: u64) -> Result
 /// The answer of `recover` after that run. The third of an append's four calls opens the gate.
 fn left_after_failing(call: u64) -> (Status, &'static str) {
     match call {
-        1..=6 => (refused(0, LogCause::NoGenesis), ""),
+        1..=6 => (NO_GENESIS, ""),
         7..=10 => (
             Status::Done,
             "actor 0 100\nrecovered batches 0 acts 0 next 1 1 1\n",
@@ -111,7 +108,7 @@ fn what_ends_before_the_text_is_accepted_calls_no_device(rt: HostRuntime) -> Res
 #[test]
 fn recovering_reads_no_input_and_tells_faults_without_a_line(rt: HostRuntime) -> Result<(), Fail> {
     let alloc = rt.alloc();
-    let kept = bytes_after(alloc, DEPOSIT, b"")?;
+    let kept = log_bytes(alloc, "G1:100;I1:0:1,C1:0:105;K1")?;
     let lines = "actor 0 105\nrecovered batches 1 acts 0 next 2 2 1\n";
     let logs = four_logs(alloc, log_of(alloc, &kept)?, log_of(alloc, b"")?)?;
     let ran = run_on_logs(alloc, &["recover"], DEPOSIT, logs, 1, 0)?;
@@ -131,46 +128,29 @@ fn recovering_reads_no_input_and_tells_faults_without_a_line(rt: HostRuntime) ->
     Ok(())
 }
 
-/// A log with Genesis that says there are two.
-fn first_of_two(alloc: Global) -> Result<Vec<u8>, Memory> {
-    let mut bytes = OF_TWO_LOGS.to_vec(alloc)?;
-    bytes.push(100)?;
-    for _ in 0..121 {
-        bytes.push(0)?;
-    }
-    Ok(bytes)
-}
-
+/// Log 0 takes three calls: its length, a read and a sync. Log 1 is empty, and takes its length, a write and a sync.
 #[test]
-fn a_second_log_is_opened_where_the_first_says_so(rt: HostRuntime) -> Result<(), Fail> {
+fn recovering_tells_a_failing_call_with_its_log(rt: HostRuntime) -> Result<(), Fail> {
     let alloc = rt.alloc();
-    let kept = first_of_two(alloc)?;
-    let logs = four_logs(alloc, log_of(alloc, &kept)?, log_of(alloc, b"")?)?;
-    let both = run_on_logs(alloc, &["recover"], "", logs, 0, 0)?;
-    assert!(rt;
-        both.gives(
-            Status::Done,
-            "actor 0 100\nrecovered batches 0 acts 0 next 1 1 1\n"
-        )
-    );
-    let logs = four_logs(alloc, log_of(alloc, &kept)?, failing_log(alloc, b"", 1)?)?;
-    let fault = run_on_logs(alloc, &["recover"], "", logs, 0, 0)?;
-    assert!(rt; fault.gives(Status::LogFault { log: 1 }, ""));
-    let logs = four_logs(
-        alloc,
-        log_of(alloc, &kept)?,
-        log_of(alloc, b"SNAPLOG2\0\0")?,
-    )?;
-    let foreign = run_on_logs(alloc, &["recover"], "", logs, 0, 0)?;
-    let no = Status::Logs {
-        log: 1,
-        offset: 7,
-        cause: LogCause::NotALog,
-    };
-    assert!(rt; foreign.gives(no, ""));
-    let run = run_on_log(alloc, &["run"], DEPOSIT, log_of(alloc, &kept)?)?;
-    let count = LogCause::LogCount { kept: 2, found: 1 };
-    assert!(rt; run.gives(refused(0, count), ""));
-    assert!(rt; run.leaves(&kept));
+    let kept = log_bytes(alloc, "G2:100")?;
+    for log in 0..2 {
+        for call in 1..4 {
+            let fails = [
+                if log == 0 { call } else { 0 },
+                if log == 1 { call } else { 0 },
+            ];
+            let first = failing_log(alloc, &kept, fails[0])?;
+            let logs = four_logs(alloc, first, failing_log(alloc, b"", fails[1])?)?;
+            let ran = run_on_logs(alloc, &["recover"], "", logs, 0, 0)?;
+            assert!(rt;
+                ran.gives(Status::LogFault { log }, ""),
+                "at call {call} of log {log}"
+            );
+            assert!(rt; ran.holds(&kept), "at call {call} of log {log}");
+            let made = if log == 1 && call == 3 { 1 } else { 0 };
+            let second = ran.logs.get(1).ok_or("a log")?;
+            assert_eq!(rt; second.ops().len(), made, "at call {call} of log {log}");
+        }
+    }
     Ok(())
 }

@@ -10,14 +10,16 @@ pub struct Group<'a> {
     pub rows: &'a str,
 }
 
-// Moving money.
-const BANK: Group<'static> = Group {
-    program: "\
+const BANK_METHODS: &str = "\
     method put(n) { f0 = f0 + n; return f0; }\n\
     method move(to, n) { if f0 < n { fail 7; } f0 = f0 - n; let r = call to put(n); return r; }\n\
     method twice(to) { let a = call to put(1); let b = call to put(1); return b; }\n\
     method bad() { f0 = f0 + 1; fail 9; }\n\
-    method via(to) { f0 = 1; let r = call to bad(); return r; }",
+    method via(to) { f0 = 1; let r = call to bad(); return r; }";
+
+// Moving money.
+const BANK: Group<'static> = Group {
+    program: BANK_METHODS,
     actors: "actors 2\nactor 0 100\nactor 1 50",
     rows: "\
     pact 0 move 1 30 uses 0:1 1:1|Value(80)|0|70 0@\
@@ -44,12 +46,7 @@ const BANK: Group<'static> = Group {
 
 // The same where the other actor is full.
 const BANK_FULL: Group<'static> = Group {
-    program: "\
-    method put(n) { f0 = f0 + n; return f0; }\n\
-    method move(to, n) { if f0 < n { fail 7; } f0 = f0 - n; let r = call to put(n); return r; }\n\
-    method twice(to) { let a = call to put(1); let b = call to put(1); return b; }\n\
-    method bad() { f0 = f0 + 1; fail 9; }\n\
-    method via(to) { f0 = 1; let r = call to bad(); return r; }",
+    program: BANK_METHODS,
     actors: "actors 2\nactor 0 100\nactor 1 9223372036854775807",
     rows: "\
     pact 0 move 1 1 uses 0:1 1:1|Fail(1002)|0|100 0",
@@ -311,7 +308,40 @@ const SPIN: Group<'static> = Group {
     pact 0 o 4998 uses 0:1 1:1|Fail(1008)|0|100 0",
 };
 
-pub const GROUPS: [Group<'static>; 24] = [
+// A failure behind two calls that came back to the same actor.
+const BACK_TWICE: Group<'static> = Group {
+    program: "\
+    method m() { f0 = 1; let a = call 1 w(); f0 = 2; let b = call 1 w(); f1 = 3; fail 4; }\n\
+    method w() { f0 = f0 + 1; return f0; }",
+    actors: "actors 2\nactor 0 100\nactor 1 50",
+    rows: "\
+    pact 0 m uses 0:1 1:2|Fail(4)|0|100 0@\
+    pact 0 m uses 0:1 1:2|Fail(4)|1|50 0",
+};
+
+// A call in a loop in a choice, asked for twice with two blocks open.
+const IN_TWO_BLOCKS: Group<'static> = Group {
+    program: "\
+    method a() { let x = 4; if 1 { while f0 < 3 { let y = call self b(f0 + 10, x); f0 = f0 + y; } } return f0 * 100 + x; }\n\
+    method b(n, m) { return (n == 10) + 1; }",
+    actors: "actors 1",
+    rows: "\
+    pact 0 a uses 0:3|Value(304)|0|3 0@\
+    pact 0 a uses 0:2|Fail(1001)|0|0 0",
+};
+
+// A call behind `else`, and the statement behind the choice.
+const BEHIND_ELSE: Group<'static> = Group {
+    program: "\
+    method a() { if f0 { return 1; } else { let y = call 7 b(); f1 = y; } fail 9; }\n\
+    method b() { return 5; }",
+    actors: "actors 8\nactor 2 8",
+    rows: "\
+    pact 1 a uses 1:1 7:1|Fail(9)|1|0 0@\
+    pact 2 a uses 2:1 7:1|Value(1)|2|8 0",
+};
+
+pub const GROUPS: [Group<'static>; 27] = [
     BANK,
     BANK_FULL,
     HURT,
@@ -336,4 +366,25 @@ pub const GROUPS: [Group<'static>; 24] = [
     DOWN_TO_A_DIVISION,
     CALLS_AND_DOWN,
     SPIN,
+    BACK_TWICE,
+    IN_TWO_BLOCKS,
+    BEHIND_ELSE,
+];
+
+/// Lists of transactions that are run one after the other. A row is their lines, what they give, each behind a blank, and
+/// the first field of each actor then, the same.
+pub const LISTS: [Group<'static>; 2] = [
+    Group {
+        program: BANK_METHODS,
+        actors: "actors 2\nactor 0 100\nactor 1 50",
+        rows: "\
+        || 100 50@\
+        pact 0 move 1 30 uses 0:1 1:1\npact 0 via 1 uses 0:1 1:1\npact 1 move 0 80 uses 0:1 1:1| Value(80) Fail(9) Value(150)| 150 0",
+    },
+    Group {
+        program: "method a(b) { f0 = f0 + b; if f0 < 3 { let c = call self a(1); } return f0; }",
+        actors: "actors 1\nactor 0 1",
+        rows: "\
+        pact 0 a 1 uses 0:1\npact 0 a 1 uses 0:2| Fail(1001) Value(3)| 3",
+    },
 ];

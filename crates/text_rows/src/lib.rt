@@ -1,5 +1,5 @@
-//! Tables of texts: what refuses each text, and where; and what transactions give, each alone. Expected values are
-//! worked out by hand from the rules.
+//! Tables of texts: what refuses each text, and where; what transactions give, alone and one after the other; and what
+//! the lower crates answer to words and programs. Expected values are worked out by hand from the rules.
 #![tactic(auto)]
 
 #[cfg(test)]
@@ -11,10 +11,16 @@ mod lines;
 #[cfg(test)]
 mod long_texts;
 #[cfg(test)]
+mod numbers;
+#[cfg(test)]
 mod programs;
 #[cfg(test)]
 mod readings;
 #[cfg(test)]
 mod runs;
+#[cfg(test)]
+mod tokens;
+#[cfg(test)]
+mod trees;
 #[cfg(test)]
 mod values;

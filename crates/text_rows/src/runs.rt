@@ -1,23 +1,21 @@
 //! Transactions give what their rows say, each alone.
 
-use crate::calls::GROUPS;
+use crate::calls::{GROUPS, LISTS};
 use crate::values::{BODIES, EXPRESSIONS};
-use aml_serial::run_alone;
-use aml_slice::run_in_slices;
-use snap_base::Memory;
+use aml_serial::{run_alone, run_list};
+use snap_base::{Memory, State, TxResult};
 use std::alloc::{AllocError, Global};
 use std::test::Fail;
 use work_text::{WorkNo, built_works, parse_work, transactions_may_run};
 
-/// A text of a program, of actors, and of one transaction.
-fn text_of(alloc: Global, program: &str, actors: &str, tx: &str) -> Result<String, AllocError> {
+/// A text of a program, of actors, and of lines that ask for transactions.
+fn text_of(alloc: Global, program: &str, actors: &str, txs: &str) -> Result<String, AllocError> {
     format!(in alloc;
-        "snapper 1\ncoordinators 1\nlogs 1\nbatch 1\nbatches 1\nacts 1\nprogram\n{program}\nend\n{actors}\n{tx}\n"
+        "snapper 1\ncoordinators 1\nlogs 1\nbatch 16\nbatches 1\nacts 1\nprogram\n{program}\nend\n{actors}\n{txs}\n"
     )
 }
 
 /// What the one transaction of a text gives alone, and the first two fields of an actor then; or why there is none.
-/// In slices it has to give the same, and leave the same states.
 fn gives(alloc: Global, text: &str, actor: usize) -> Result<String, Memory> {
     let work = match parse_work(alloc, text.as_bytes()) {
         Ok(work) => work,
@@ -28,15 +26,10 @@ fn gives(alloc: Global, text: &str, actor: usize) -> Result<String, Memory> {
         return Ok(String::from_str(alloc, "not one transaction")?);
     };
     let mut world = Vec::from_slice(alloc, work.states.as_slice())?;
-    let mut other = Vec::from_slice(alloc, work.states.as_slice())?;
     // The text stands for the work, so its transactions may be run on its states.
     built_works();
     transactions_may_run();
     let result = run_alone(alloc, &work.program, &mut world, tx)?;
-    let in_slices = run_in_slices(alloc, &work.program, &mut other, tx)?;
-    if in_slices != result || other.as_slice() != world.as_slice() {
-        return Ok(format!(in alloc; "{result:?}, but {in_slices:?} in slices")?);
-    }
     let Some(state) = world.get(actor) else {
         return Ok(String::from_str(alloc, "no such actor")?);
     };
@@ -87,6 +80,56 @@ fn calls_are_made(rt: HostRuntime) -> Result<(), Fail> {
             let actor = actor.parse().unwrap_or(usize::MAX);
             assert_eq!(rt;
                 gives(alloc, &text, actor)?.as_str(),
+                wanted.as_str(),
+                "{row}"
+            );
+        }
+    }
+    Ok(())
+}
+
+/// Results, each behind a blank, and behind `|` the first field of each actor, the same.
+fn told(alloc: Global, results: &[TxResult], world: &[State]) -> Result<String, AllocError> {
+    let mut text = String::new(alloc);
+    for result in results {
+        text.push_str(&format!(in alloc; " {result:?}")?)?;
+    }
+    text.push_str("|")?;
+    for state in world {
+        let first = state.0[0];
+        text.push_str(&format!(in alloc; " {first}")?)?;
+    }
+    Ok(text)
+}
+
+/// What the transactions of a text give, one after the other; or why there are none.
+fn list_gives(alloc: Global, text: &str) -> Result<String, Memory> {
+    let work = match parse_work(alloc, text.as_bytes()) {
+        Ok(work) => work,
+        Err(WorkNo::Memory) => return Err(Memory),
+        Err(WorkNo::Fault(fault)) => return Ok(format!(in alloc; "{fault:?}")?),
+    };
+    let mut world = Vec::from_slice(alloc, work.states.as_slice())?;
+    // The text stands for the work, so its transactions may be run on its states.
+    built_works();
+    transactions_may_run();
+    let results = run_list(alloc, &work.program, &mut world, work.txs.as_slice())?;
+    Ok(told(alloc, results.as_slice(), world.as_slice())?)
+}
+
+#[test]
+fn lists_are_run(rt: HostRuntime) -> Result<(), Fail> {
+    let alloc = rt.alloc();
+    for group in LISTS {
+        for row in group.rows.split('@') {
+            let parts: Vec<&str> = row.split('|').collect(alloc)?;
+            let [txs, results, fields] = parts.as_slice() else {
+                return Err(Fail::from("the parts of a row"));
+            };
+            let text = text_of(alloc, group.program, group.actors, txs)?;
+            let wanted = format!(in alloc; "{results}|{fields}")?;
+            assert_eq!(rt;
+                list_gives(alloc, &text)?.as_str(),
                 wanted.as_str(),
                 "{row}"
             );

@@ -1,0 +1,57 @@
+//! Records as bytes: those that are read and written as they stand, and the first bad byte of the others.
+use snap_base::Memory;
+use std::alloc::Global;
+use std::test::Fail;
+use txn_records::{DecodeNo, decode, encode};
+
+/// A front, a byte that follows it so many times, and the offset of the first byte at which no record goes on; none
+/// where the bytes are a record.
+const ROWS: [(&[u8], u8, usize, Option<u32>); 10] = [
+    // a Genesis with one state, and what an actor completed
+    (b"\x01\x02\0\x01", 0xFF, 128, None),
+    (b"\x03", 0x80, 138, None),
+    (
+        b"\x02\0\0\0\0\0\0\0\x07\0\x02\0\x01\x02\0\0\x01\0\0\0\0\0\0\0\x09",
+        0,
+        0,
+        None,
+    ),
+    (b"\x04\0\0\0\0\0\0\x01\0", 0, 0, None),
+    (b"", 0, 0, Some(0)),
+    (b"\x09", 0, 0, Some(0)),
+    (b"\x04", 0, 7, Some(8)),
+    (b"\x04", 0, 9, Some(9)),
+    // actors that fall, and one that leaves no room for the next
+    (b"\x02\0\0\0\0\0\0\0\x07\0\x02\0\x01\0\0", 0, 0, Some(14)),
+    (b"\x02\0\0\0\0\0\0\0\x07\0\x02\xFF\xFF\0\0", 0, 0, Some(12)),
+];
+
+fn bytes_of(alloc: Global, front: &[u8], byte: u8, count: usize) -> Result<Vec<u8>, Memory> {
+    let mut bytes = front.to_vec(alloc)?;
+    for _ in 0..count {
+        bytes.push(byte)?;
+    }
+    Ok(bytes)
+}
+
+/// Whether the bytes are read as a record that is written as they stand, or are bad at this offset.
+fn is_read(alloc: Global, bytes: &[u8], bad: Option<u32>) -> Result<bool, Memory> {
+    match decode(alloc, bytes) {
+        Ok(record) => Ok(bad.is_none() && encode(alloc, &record)?.as_slice() == bytes),
+        Err(DecodeNo::Bad { offset }) => Ok(bad == Some(offset)),
+        Err(DecodeNo::Memory) => Err(Memory),
+    }
+}
+
+#[test]
+fn records_are_written_as_they_were_read(rt: HostRuntime) -> Result<(), Fail> {
+    let alloc = rt.alloc();
+    for (front, byte, count, bad) in ROWS {
+        let bytes = bytes_of(alloc, front, byte, count)?;
+        assert!(rt;
+            is_read(alloc, &bytes, bad)?,
+            "{front:?} and {count} times {byte}"
+        );
+    }
+    Ok(())
+}
