@@ -1,0 +1,12 @@
+mod ByPlace
+mod Sums
+mod Histories
+mod Changes
+mod TakeStep
+mod TurnSteps
+mod RecordStep
+mod Seats
+mod Ends
+mod Gathering
+mod Calls
+mod Placing

@@ -1,0 +1,15 @@
+use std::collections::LinkedList;
+
+/// What a pass knows. No value of it is made.
+pub struct View<P, E> {
+    /// By part, its value where the turn is held.
+    pub held: LinkedList<Option<P>>,
+    /// The events that it recorded, each with its number.
+    pub entries: LinkedList<(u64, E)>,
+    pub weight: u64,
+    pub splits: u64,
+    /// 0, or 1 more than the part whose slot is out.
+    pub hand: u64,
+    /// How many tries found the turn held.
+    pub refusals: u64,
+}
