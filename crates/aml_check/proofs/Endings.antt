@@ -6,7 +6,7 @@ use Rattle.aml_tree.specs.declared.trees.Statement.{Statement}
 use Rattle.aml_tree.specs.declared.trees.Statement.TheOpen.{Statement-F}
 use Rattle.aml_tree.specs.Tree.{Code, End, Onto, statement_step, statement_tree, statements_tree}
 use Rattle.aml_check.specs.Faults.{if_last, ends, last_line}
-use Rattle.aml_check.proofs.Layers.{layer}
+use Rattle.aml_tree.specs.TreeRules.{layer}
 use Rattle.aml_check.proofs.StatementSteps.{split_at}
 
 -- the rest of a block that has a statement

@@ -7,7 +7,7 @@ use Rattle.aml_tree.specs.Tree.{Expr, Number, Variable, Field, Own, Group, Negat
 use Rattle.aml_check.specs.declared.faults.CheckCause.TheVariants.{UnknownName, Duplicate, ArgCount, NoReturn}
 use Rattle.aml_check.specs.declared.faults.CheckFault.{CheckFault}
 use Rattle.aml_check.specs.Names.{names_of, method_names, place_of, method_at}
-use Rattle.aml_check.specs.Faults.{at, is_among, unknown, duplicate, faults, call_faults_at, call_faults, block_faults, repeated, ends, last_line, end_faults, method_faults, faults_behind, IsFirstFault}
+use Rattle.aml_check.specs.Faults.{at, is_among, unknown, duplicate, faults, call_faults_at, call_faults, block_faults, repeated, ends, last_line, end_faults, method_faults, faults_behind, IsFirstCheckFault}
 
 abbrev FaultsUpTo : ℕ → List CheckFault → Type 0
 FaultsUpTo most fs = AllByRecursion (λ (f : CheckFault). f.line ≤ most) fs
@@ -125,5 +125,5 @@ behind_up_to most p names [] h = tt
 behind_up_to most p names (m ∷ ms) h =
     both_up_to most (method_faults p names m) _ (method_up_to most p names m h.0) (behind_up_to most p (names ++ m.name.name ∷ []) ms h.1)
 
-pub first_stands : (most : ℕ) (p : List TextMethod) (f : CheckFault) → LinesUpTo most p → IsFirstFault p f → f.line ≤ most
+pub first_stands : (most : ℕ) (p : List TextMethod) (f : CheckFault) → LinesUpTo most p → IsFirstCheckFault p f → f.line ≤ most
 first_stands most p f lines first = (subst (FaultsUpTo most) first.1 (behind_up_to most p [] p lines)).0

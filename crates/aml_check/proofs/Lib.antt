@@ -1,9 +1,6 @@
 pub mod MethodsByPlace
 pub mod Lookup
 pub mod Chains
-pub mod TreeOfChain
-pub mod Layers
-pub mod TreeOfStatement
 pub mod StatementSteps
 pub mod Endings
 pub mod FaultLines

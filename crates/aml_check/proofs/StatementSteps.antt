@@ -12,7 +12,7 @@ use Rattle.aml_check.specs.declared.faults.CheckFault.{CheckFault}
 use Rattle.aml_check.specs.Names.{method_names, placed, checked_expression, checked_block}
 use Rattle.aml_check.specs.Faults.{faults, unknown, duplicate, call_faults, block_faults}
 use Rattle.aml_check.specs.Resolving.{Continues, Refuses}
-use Rattle.aml_check.proofs.Layers.{put_last, lets_onto}
+use Rattle.aml_tree.specs.TreeRules.{put_last, lets_onto}
 
 -- ---- lists of faults
 

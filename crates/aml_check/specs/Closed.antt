@@ -1,6 +1,7 @@
 -- What every checked program keeps.
 use Rattle.std.specs.Prelude.{◌≡◌, ℕ, ◌+◌, ◌<◌, ◌≤◌, ◌^◌, max, IsTrue, List, [], length, slice_index_or}
 use Rattle.std.specs.List.{AllByRecursion}
+use Rattle.snap_base.specs.declared.transactions.TheConstants.{FIELDS}
 use Rattle.aml_tree.specs.Tree.{Expr, Number, Variable, Field, Own, Group, Negative, Binary, Code, End, Let, Call, Set, SetField, If, IfElse, While, Fail, Return, CheckedMethod}
 use Rattle.aml_tree.specs.declared.limits.TheConstants.{GREATEST_CODE, MOST_LEVELS, MOST_METHODS, MOST_NAMES, MOST_PARAMETERS}
 use Rattle.aml_tree.specs.Limits.{lets}
@@ -11,7 +12,7 @@ use Rattle.aml_check.specs.Faults.{ends}
 abbrev pub IsClosedExpression : ℕ → Expr ℕ → Type 0
 IsClosedExpression n (Number z) = z < 2 ^ 63
 IsClosedExpression n (Variable place) = place < n
-IsClosedExpression n (Field k) = k < 16
+IsClosedExpression n (Field k) = k < FIELDS
 IsClosedExpression n Own = Unit {0}
 IsClosedExpression n (Group e) = IsClosedExpression n e
 IsClosedExpression n (Negative e) = IsClosedExpression n e
@@ -28,7 +29,7 @@ IsClosedBlock p n (Let v value rest) = (v ≡ n) × IsClosedExpression n value �
 IsClosedBlock p n (Call v target m arguments rest) =
     (v ≡ n) × IsClosedExpression n target × IsClosedCall p m (length arguments) × AllByRecursion (IsClosedExpression n) arguments × IsClosedBlock p (n + 1) rest
 IsClosedBlock p n (Set v value rest) = (v < n) × IsClosedExpression n value × IsClosedBlock p n rest
-IsClosedBlock p n (SetField k value rest) = (k < 16) × IsClosedExpression n value × IsClosedBlock p n rest
+IsClosedBlock p n (SetField k value rest) = (k < FIELDS) × IsClosedExpression n value × IsClosedBlock p n rest
 IsClosedBlock p n (If condition first rest) = IsClosedExpression n condition × IsClosedBlock p n first × IsClosedBlock p n rest
 IsClosedBlock p n (IfElse condition first other rest) = IsClosedExpression n condition × IsClosedBlock p n first × IsClosedBlock p n other × IsClosedBlock p n rest
 IsClosedBlock p n (While condition body rest) = IsClosedExpression n condition × IsClosedBlock p n body × IsClosedBlock p n rest

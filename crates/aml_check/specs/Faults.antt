@@ -119,8 +119,8 @@ faults_behind p names (m ∷ ms) = method_faults p names m ++ faults_behind p (n
 abbrev pub program_faults : List TextMethod → List CheckFault
 program_faults p = faults_behind p [] p
 
-abbrev pub IsFirstFault : List TextMethod → CheckFault → Type 0
-IsFirstFault p fault = (more : List CheckFault) × (program_faults p ≡ fault ∷ more)
+abbrev pub IsFirstCheckFault : List TextMethod → CheckFault → Type 0
+IsFirstCheckFault p fault = (more : List CheckFault) × (program_faults p ≡ fault ∷ more)
 
 -- c is the program p, which has no fault, with its names resolved
 pub record IsCheckedProgram (p : List TextMethod) (c : List CheckedMethod) : Type 0 where

@@ -1,7 +1,7 @@
 ghost use Rattle.std.specs.Prelude.{◌≡◌, [], ◌∷◌, ◌++◌, map, IfOk, IsErrOf};
 ghost use Rattle.aml_tree.specs.Tree.{method_tree, program_tree};
 ghost use Rattle.aml_tree.specs.Programs.{IsProgram};
-ghost use Rattle.aml_check.specs.Faults.{IsCheckedProgram, IsFirstFault};
+ghost use Rattle.aml_check.specs.Faults.{IsCheckedProgram, IsFirstCheckFault};
 ghost use Rattle.aml_check.specs.Checked.{methods_of};
 
 use crate::methods::method;
@@ -19,7 +19,7 @@ pub fn check(alloc: Global, program: Program<Word, Word>) -> Result<Checked, Che
     // What is checked is the program with its names resolved.
     ensures found { IfOk result (λ c. IsCheckedProgram (program_tree program) (methods_of c)) }
     // A fault is the first one of the program.
-    ensures fault { (fault : CheckFault) → IsErrOf result (CheckNo.Fault fault) → IsFirstFault (program_tree program) fault }
+    ensures fault { (fault : CheckFault) → IsErrOf result (CheckNo.Fault fault) → IsFirstCheckFault (program_tree program) fault }
 {
     let mut names = Vec::new(alloc);
     let mut checked = Sequence::new(alloc);

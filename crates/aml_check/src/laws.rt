@@ -6,13 +6,13 @@ ghost use Rattle.aml_tree.specs.Lines.{LinesUpTo};
 ghost use Rattle.aml_tree.specs.Programs.{IsProgram};
 ghost use Rattle.aml_tree.specs.Tree.{CheckedMethod, TextMethod};
 ghost use Rattle.aml_check.specs.Closed.{IsClosedProgram};
-ghost use Rattle.aml_check.specs.Faults.{IsCheckedProgram, IsFirstFault};
+ghost use Rattle.aml_check.specs.Faults.{IsCheckedProgram, IsFirstCheckFault};
 
 use crate::CheckFault;
 
 /// A program's first fault stands in a line of one of its words, or in that of a closing brace.
 pub fn faults_stand_in_the_program(_most: usize)
-    ensures { (p : List TextMethod) (f : CheckFault) → LinesUpTo _most p → IsFirstFault p f → f.line ≤ _most }
+    ensures { (p : List TextMethod) (f : CheckFault) → LinesUpTo _most p → IsFirstCheckFault p f → f.line ≤ _most }
 {}
 
 /// A checked program is closed: its places, fields and codes are in range, and its methods end.

@@ -4,7 +4,7 @@ use Rattle.aml_tree.specs.declared.trees.Statement.{Statement}
 use Rattle.aml_tree.specs.declared.trees.Statement.TheOpen.{Statement-F}
 use Rattle.aml_tree.specs.Tree.{CheckedMethod, Code, End, Let, Call, Set, SetField, If, IfElse, While, Fail, Return, Onto, statement_step, statement_tree, statements_tree}
 use Rattle.aml_check.specs.Closed.{nesting}
-use Rattle.aml_check.proofs.Layers.{layer}
+use Rattle.aml_tree.specs.TreeRules.{layer}
 use Rattle.aml_resume.proofs.BlockLaws.{Step, from_here}
 use Rattle.aml_resume.specs.declared.places.Spot.{Spot}
 use Rattle.aml_resume.specs.Places.{behind_some, HasInner, IsPlace, IsRunnable, after_inner, inner_of, kept}

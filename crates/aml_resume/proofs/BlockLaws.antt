@@ -5,7 +5,7 @@ use Rattle.aml_tree.specs.declared.trees.Statement.{Statement}
 use Rattle.aml_tree.specs.declared.trees.Statement.TheOpen.{Statement-F}
 use Rattle.aml_tree.specs.Tree.{Code, End, Let, Call, Set, SetField, If, IfElse, While, Fail, Return, Onto, CheckedMethod, statement_step, statement_tree, statements_tree}
 use Rattle.aml_check.specs.Closed.{IsClosedBlock, nesting}
-use Rattle.aml_check.proofs.Layers.{layer}
+use Rattle.aml_tree.specs.TreeRules.{layer}
 use Rattle.aml_resume.specs.Ways.{declares}
 
 abbrev pub Step : Type 0

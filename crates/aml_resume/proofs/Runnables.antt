@@ -5,7 +5,7 @@ use Rattle.aml_tree.specs.declared.trees.Statement.TheOpen.{Statement-F}
 use Rattle.aml_tree.specs.Limits.{lets}
 use Rattle.aml_tree.specs.Tree.{Code, End, Onto, CheckedMethod, statement_step, statement_tree, statements_tree}
 use Rattle.aml_check.specs.Closed.{nesting}
-use Rattle.aml_check.proofs.Layers.{layer, lets_onto}
+use Rattle.aml_tree.specs.TreeRules.{layer, lets_onto}
 use Rattle.aml_resume.specs.Ways.{declares}
 use Rattle.aml_resume.proofs.BlockLaws.{Step, from_here, deep_step, closed_here, closed_next}
 use Rattle.aml_resume.specs.Places.{behind_some, IsRunnable}

@@ -5,7 +5,7 @@ use Rattle.aml_tree.specs.declared.trees.Block.{Block}
 use Rattle.aml_tree.specs.declared.trees.Statement.{Statement}
 use Rattle.aml_tree.specs.declared.trees.Statement as variant
 use Rattle.aml_tree.specs.Tree.{Expr, Code, End, Let, Call, Set, SetField, If, IfElse, While, Fail, Return, Onto, expression_tree, statement_tree, statements_tree, block_tree}
-use Rattle.aml_check.proofs.TreeOfStatement.{tree_of_let, tree_of_call, tree_of_set, tree_of_field, tree_of_if, tree_of_if_else, tree_of_while, tree_of_fail, tree_of_return}
+use Rattle.aml_tree.specs.TreeRules.{tree_of_let, tree_of_call, tree_of_set, tree_of_field, tree_of_if, tree_of_if_else, tree_of_while, tree_of_fail, tree_of_return}
 use Rattle.aml_resume.specs.Places.{behind_some, HasInner, inner_of, after_inner, place_behind}
 use Rattle.aml_resume.proofs.Behinds.{behind_more, block_here}
 

@@ -11,7 +11,7 @@ use crate::ways::Way;
 use aml_check::MOST_STATEMENTS;
 use aml_tree::Expression;
 use aml_values::{Code, TOO_MANY_STATEMENTS, value};
-use snap_base::State;
+use snap_base::{FIELDS, State};
 
 // In each function `own` is the actor on which the method runs, `variables` are the values of the
 // method's variables, `state` is the actor's state, and `statements` counts the statements that were
@@ -116,7 +116,7 @@ pub(crate) fn set_field(
 ) -> Result<Way, Code>
     requires small { own < 2 ^ 63 }
     requires count { statements.old ≤ MOST_STATEMENTS }
-    requires field { field < 16 }
+    requires field { field < FIELDS }
     requires closed { IsClosedExpression (length variables.now) (expression_tree e.now) }
     ensures runs { RunsPlainly own (SetField field (expression_tree e.now)) variables.now state.old statements.old variables.now state.new statements.new result }
     ensures asks { IfAsks result ⊥ }

@@ -2,7 +2,7 @@
 use Rattle.std.proofs.Common.{◌≡◌, ℕ, Some, None, inr, List, [], ◌∷◌, codes, refl, slice_get}
 use Rattle.std.proofs.Common.{arith}
 use Rattle.aml_tree.specs.Grammar.{IsGrammatical}
-use Rattle.aml_tree.specs.Faults.{IsFirstFault}
+use Rattle.aml_tree.specs.Faults.{IsFirstTextFault}
 use Rattle.aml_tokens.specs.declared.tokens.TextCause.TheVariants as cause
 use Rattle.aml_tokens.specs.Lexing.{tokens, places, column_at}
 use Rattle.aml_tree.specs.declared.trees.Operator.TheVariants as operator
@@ -54,7 +54,7 @@ least_program : IsGrammatical (record { name = record { name = codes "f"; line =
 least_program = search arith
 
 -- the empty text ends too early, in line 1 at column 1
-empty_text : IsFirstFault [] (record { line = 1; column = 1; cause = cause.Unexpected })
+empty_text : IsFirstTextFault [] (record { line = 1; column = 1; cause = cause.Unexpected })
 empty_text = record {
   wrong = (
     0,

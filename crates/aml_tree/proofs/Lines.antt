@@ -17,7 +17,7 @@ use Rattle.aml_tree.specs.declared.faults.TextFault.{TextFault}
 use Rattle.aml_tree.specs.Tree.{Expr, Number, Variable, Field, Own, Group, Negative, Binary, Code, End, Let, Call, Set, SetField, If, IfElse, While, Fail, Return, TextMethod}
 use Rattle.aml_tree.specs.Grammar.{spelling, listed, block_spelling, name_spelling, method_spelling, program_spelling}
 use Rattle.aml_tree.specs.Programs.{IsProgramText}
-use Rattle.aml_tree.specs.Faults.{IsFirstFault}
+use Rattle.aml_tree.specs.Faults.{IsFirstTextFault}
 use Rattle.aml_tree.specs.Lines.{WordUpTo, ExpressionUpTo, BlockUpTo, MethodUpTo, LinesUpTo}
 
 -- ---- tokens
@@ -175,6 +175,6 @@ program_up_to most (m ∷ ms) h =
 pub lines_stand : (text : List ℕ) (p : List TextMethod) → IsProgramText text p → LinesUpTo (1 + length text) p
 lines_stand text p h = program_up_to (1 + length text) p (subst (TokensUpTo (1 + length text)) h.spelled (pieces_up_to text (pieces text)))
 
-pub fault_stands : (text : List ℕ) (f : TextFault) → IsFirstFault text f → f.line ≤ 1 + length text
+pub fault_stands : (text : List ℕ) (f : TextFault) → IsFirstTextFault text f → f.line ≤ 1 + length text
 fault_stands text f h =
     let w = h.wrong in subst (λ (n : ℕ). n ≤ 1 + length text) (sym w.4) (line_within text w.1)

@@ -10,7 +10,7 @@ use Rattle.aml_tree.specs.declared.faults.TextFault.{TextFault}
 use Rattle.aml_tree.specs.Tree.{TextMethod}
 use Rattle.aml_tree.specs.Limits.{Mark, program_marks}
 use Rattle.aml_tree.specs.Programs.{IsUnmarked, IsProgramText}
-use Rattle.aml_tree.specs.Faults.{IsClear, IsWrong, IsWrongEnd, IsFirstFault}
+use Rattle.aml_tree.specs.Faults.{IsClear, IsWrong, IsWrongEnd, IsFirstTextFault}
 use Rattle.aml_tree.specs.Reading.{Fault, program}
 use Rattle.aml_tree.proofs.ReadLaws.{halt, ok_same, err_same}
 use Rattle.aml_tree.proofs.Firsts.{program_sound, whole_read, clear_there, wrong_there, end_unexpected, none_whole}
@@ -33,11 +33,11 @@ one_spelled text p q h k = ok_same p q (sym (text_read text p h) ∙ text_read t
 -- ---- where reading stops
 
 pub at_token : (text : List ℕ) (k at : ℕ) (c : TextCause) (fault : TextFault) → program (tokens text) ≡ Err (k, c) → k < length (tokens text) → slice_get (places text) k ≡ Some at
-    → fault ≡ record { line = line_at text at; column = column_at text at; cause = c } → IsFirstFault text fault
+    → fault ≡ record { line = line_at text at; column = column_at text at; cause = c } → IsFirstTextFault text fault
 at_token text k at c fault e lt place is =
     let clear = clear_there (tokens text) (k, c) (tokens_good text) e in
     let wrong = wrong_there (tokens text) k c (tokens_good text) e lt in
-    subst (λ (f : TextFault). IsFirstFault text f) (sym is) (record { wrong = (k, at, clear.1, inl (place, wrong), refl, refl) })
+    subst (λ (f : TextFault). IsFirstTextFault text f) (sym is) (record { wrong = (k, at, clear.1, inl (place, wrong), refl, refl) })
 
 take_unmarked : (k : ℕ) (ms : List Mark) → AllByRecursion IsUnmarked ms → AllByRecursion IsUnmarked (take k ms)
 take_unmarked zero ms h = tt
@@ -60,18 +60,18 @@ clear_end text (inr stop) =
     let end = end_unexpected (tokens text) stop.0 stop.1 (tokens_good text) stop.2 stop.3 in
     subst (λ (k : ℕ). IsClear (tokens text) k) end.0 clear.1
 
-pub at_piece : (text : List ℕ) (at : ℕ) (c : TextCause) (fault : TextFault) → ReachesEnd text → stop text ≡ Some (at, c) → fault ≡ record { line = line_at text at; column = column_at text at; cause = c } → IsFirstFault text fault
+pub at_piece : (text : List ℕ) (at : ℕ) (c : TextCause) (fault : TextFault) → ReachesEnd text → stop text ≡ Some (at, c) → fault ≡ record { line = line_at text at; column = column_at text at; cause = c } → IsFirstTextFault text fault
 at_piece text at c fault reaches piece is =
     let wrong : IsWrongEnd text (tokens text) (stop text) at c = subst (λ (o : Option (ℕ × TextCause)). IsWrongEnd text (tokens text) o at c) (sym piece) (refl, refl) in
-    subst (λ (f : TextFault). IsFirstFault text f) (sym is) (record { wrong = (length (tokens text), at, clear_end text reaches, inr (refl, wrong), refl, refl) })
+    subst (λ (f : TextFault). IsFirstTextFault text f) (sym is) (record { wrong = (length (tokens text), at, clear_end text reaches, inr (refl, wrong), refl, refl) })
 
 pub at_end : (text : List ℕ) (k : ℕ) (c : TextCause) (fault : TextFault) → program (tokens text) ≡ Err (k, c) → length (tokens text) ≤ k → stop text ≡ None
-    → fault ≡ record { line = line_at text (length text); column = column_at text (length text); cause = c } → IsFirstFault text fault
+    → fault ≡ record { line = line_at text (length text); column = column_at text (length text); cause = c } → IsFirstTextFault text fault
 at_end text k c fault e le whole is =
     let end = end_unexpected (tokens text) k c (tokens_good text) e le in
     let none = none_whole (tokens text) k (e ∙ ap (λ (d : TextCause). halt (List TextMethod) (k, d)) end.1) in
     let wrong : IsWrongEnd text (tokens text) (stop text) (length text) c = subst (λ (o : Option (ℕ × TextCause)). IsWrongEnd text (tokens text) o (length text) c) (sym whole) (refl, end.1, none) in
-    subst (λ (f : TextFault). IsFirstFault text f) (sym is) (record { wrong = (length (tokens text), length text, clear_end text (inr (k, c, e, le)), inr (refl, wrong), refl, refl) })
+    subst (λ (f : TextFault). IsFirstTextFault text f) (sym is) (record { wrong = (length (tokens text), length text, clear_end text (inr (k, c, e, le)), inr (refl, wrong), refl, refl) })
 
 -- ---- a first fault tells where reading stops
 
@@ -115,7 +115,7 @@ fault_is text f at a b =
     the : ℕ → ℕ → TextFault
     the line column = record { line = line; column = column; cause = f.cause }
 
-pub one_first : (text : List ℕ) (f g : TextFault) → IsFirstFault text f → IsFirstFault text g → f ≡ g
+pub one_first : (text : List ℕ) (f g : TextFault) → IsFirstTextFault text f → IsFirstTextFault text g → f ≡ g
 one_first text f g h k =
     let w = h.wrong in
     let v = k.wrong in
@@ -127,7 +127,7 @@ one_first text f g h k =
     made : ℕ → TextCause → TextFault
     made at c = record { line = line_at text at; column = column_at text at; cause = c }
 
-pub no_program : (text : List ℕ) (f : TextFault) (p : List TextMethod) → IsFirstFault text f → ¬ IsProgramText text p
+pub no_program : (text : List ℕ) (f : TextFault) (p : List TextMethod) → IsFirstTextFault text f → ¬ IsProgramText text p
 no_program text f p h read =
     let w = h.wrong in
     by w.0 w.1 (stopped text w.0 w.1 f.cause w.2 w.3)

@@ -47,6 +47,6 @@ IsWrong text k at cause =
     ⊎ ((k ≡ length (tokens text)) × IsWrongEnd text (tokens text) (stop text) at cause)
 
 -- The fault is the first one: nothing is wrong before its place.
-pub record IsFirstFault (text : List ℕ) (fault : TextFault) : Type 0 where
+pub record IsFirstTextFault (text : List ℕ) (fault : TextFault) : Type 0 where
   pub wrong : (k at : ℕ) × IsClear (tokens text) k × IsWrong text k at fault.cause
       × (fault.line ≡ line_at text at) × (fault.column ≡ column_at text at)

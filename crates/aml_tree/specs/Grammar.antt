@@ -2,6 +2,7 @@
 -- trees a program may be. Groups are part of a tree, so a program has one spelling.
 use Rattle.std.specs.Prelude.{◌≡◌, ℕ, ◌-◌, ◌<◌, ◌≤◌, ◌^◌, ◌==◌, if◌then◌else◌, List, [], ◌∷◌, ◌++◌, length, map}
 use Rattle.std.specs.List.{AllByRecursion, flat_map}
+use Rattle.snap_base.specs.declared.transactions.TheConstants.{FIELDS}
 use Rattle.aml_tokens.specs.declared.tokens.Word.{Word}
 use Rattle.aml_tokens.specs.declared.tokens.Symbol.{Symbol}
 use Rattle.aml_tokens.specs.declared.tokens.Symbol.TheVariants as symbol
@@ -105,7 +106,7 @@ lean k = if k == 3 then 2 else k
 abbrev pub IsAt : ℕ → Expr Word → Type 0
 IsAt k (Number n) = n < 2 ^ 63
 IsAt k (Variable w) = IsWord w
-IsAt k (Field f) = f < 16
+IsAt k (Field f) = f < FIELDS
 IsAt k Own = Unit {0}
 IsAt k (Group e) = IsAt 5 e
 IsAt k (Negative e) = IsAt 0 e
@@ -118,7 +119,7 @@ IsExpression e = IsAt 5 e
 abbrev pub IsPrimary : Expr Word → Type 0
 IsPrimary (Number n) = n < 2 ^ 63
 IsPrimary (Variable w) = IsWord w
-IsPrimary (Field f) = f < 16
+IsPrimary (Field f) = f < FIELDS
 IsPrimary Own = Unit {0}
 IsPrimary (Group e) = IsAt 5 e
 IsPrimary (Negative e) = ⊥
@@ -129,7 +130,7 @@ IsBlock (End line) = Unit {0}
 IsBlock (Let v value rest) = IsWord v × IsExpression value × IsBlock rest
 IsBlock (Call v target m arguments rest) = IsWord v × IsPrimary target × IsWord m × AllByRecursion IsExpression arguments × IsBlock rest
 IsBlock (Set v value rest) = IsWord v × IsExpression value × IsBlock rest
-IsBlock (SetField k value rest) = (k < 16) × IsExpression value × IsBlock rest
+IsBlock (SetField k value rest) = (k < FIELDS) × IsExpression value × IsBlock rest
 IsBlock (If condition first rest) = IsExpression condition × IsBlock first × IsBlock rest
 IsBlock (IfElse condition first other rest) = IsExpression condition × IsBlock first × IsBlock other × IsBlock rest
 IsBlock (While condition body rest) = IsExpression condition × IsBlock body × IsBlock rest

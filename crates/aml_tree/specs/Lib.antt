@@ -6,3 +6,4 @@ pub mod Faults
 pub mod Items
 pub mod Reading
 pub mod Lines
+pub mod TreeRules

@@ -4,7 +4,7 @@
 ghost use Rattle.std.specs.Prelude.{◌≡◌, ℕ, ◌+◌, ◌≤◌, List, length};
 ghost use Rattle.aml_tree.specs.Tree.{TextMethod};
 ghost use Rattle.aml_tree.specs.Programs.{IsProgramText};
-ghost use Rattle.aml_tree.specs.Faults.{IsFirstFault};
+ghost use Rattle.aml_tree.specs.Faults.{IsFirstTextFault};
 ghost use Rattle.aml_tree.specs.Lines.{LinesUpTo};
 
 use crate::TextFault;
@@ -16,17 +16,17 @@ pub fn one_program()
 
 /// A text has one first fault.
 pub fn one_fault()
-    ensures { (text : List ℕ) (f g : TextFault) → IsFirstFault text f → IsFirstFault text g → f ≡ g }
+    ensures { (text : List ℕ) (f g : TextFault) → IsFirstTextFault text f → IsFirstTextFault text g → f ≡ g }
 {}
 
 /// A text with a first fault spells no program.
 pub fn faulty()
-    ensures { (text : List ℕ) (f : TextFault) (p : List TextMethod) → IsFirstFault text f → ¬ IsProgramText text p }
+    ensures { (text : List ℕ) (f : TextFault) (p : List TextMethod) → IsFirstTextFault text f → ¬ IsProgramText text p }
 {}
 
 /// A text's first fault stands in one of its lines, of which there are no more than bytes and one.
 pub fn faults_stand_in_the_text(_text: &[u8])
-    ensures { (f : TextFault) → IsFirstFault _text.now f → f.line ≤ 1 + length _text.now }
+    ensures { (f : TextFault) → IsFirstTextFault _text.now f → f.line ≤ 1 + length _text.now }
 {}
 
 /// So does each word and each closing brace of the program that a text spells.

@@ -1,7 +1,7 @@
 ghost use Rattle.std.specs.Prelude.{◌≡◌, Ok, Err, map, IfOk, IsErrOf, slice_get};
 ghost use Rattle.aml_tokens.specs.Lexing.{tokens, places, stop, line_at, column_at};
 ghost use Rattle.aml_tree.specs.Tree.{method_tree, program_tree};
-ghost use Rattle.aml_tree.specs.Faults.{IsFirstFault};
+ghost use Rattle.aml_tree.specs.Faults.{IsFirstTextFault};
 ghost use Rattle.aml_tree.specs.Programs.{IsProgramText};
 ghost use Rattle.aml_tree.specs.Reading.{program};
 
@@ -17,7 +17,7 @@ pub fn parse_program(alloc: Global, text: &str) -> Result<Program<Word, Word>, T
     // What is read is the program that the text spells.
     ensures found { IfOk result (λ p. IsProgramText text.now (program_tree p)) }
     // A fault is the first one of the text.
-    ensures fault { (fault : TextFault) → IsErrOf result (TextNo.Fault fault) → IsFirstFault text.now fault }
+    ensures fault { (fault : TextFault) → IsErrOf result (TextNo.Fault fault) → IsFirstTextFault text.now fault }
 {
     parse_program_bytes(alloc, text.as_bytes())
 }
@@ -25,7 +25,7 @@ pub fn parse_program(alloc: Global, text: &str) -> Result<Program<Word, Word>, T
 /// The same of a text that is given by its bytes.
 pub fn parse_program_bytes(alloc: Global, text: &[u8]) -> Result<Program<Word, Word>, TextNo>
     ensures found { IfOk result (λ p. IsProgramText text.now (program_tree p)) }
-    ensures fault { (fault : TextFault) → IsErrOf result (TextNo.Fault fault) → IsFirstFault text.now fault }
+    ensures fault { (fault : TextFault) → IsErrOf result (TextNo.Fault fault) → IsFirstTextFault text.now fault }
 {
     let Ok(lexed) = lex(alloc, text) else {
         return Err(TextNo::Memory);
@@ -52,7 +52,7 @@ fn whole(
     requires piece { piece ≡ stop text.now }
     requires read { program (tokens text.now) ≡ Ok (map method_tree methods.items) }
     ensures found { IfOk result (λ p. IsProgramText text.now (program_tree p)) }
-    ensures fault { (fault : TextFault) → IsErrOf result (TextNo.Fault fault) → IsFirstFault text.now fault }
+    ensures fault { (fault : TextFault) → IsErrOf result (TextNo.Fault fault) → IsFirstTextFault text.now fault }
 {
     match piece {
         Some((at, cause)) => Err(TextNo::Fault(fault_of(text, at, cause))),
@@ -73,7 +73,7 @@ fn fault_at(
     requires starts { starts.now ≡ places text.now }
     requires piece { piece ≡ stop text.now }
     requires stops { program (tokens text.now) ≡ Err (place, cause) }
-    ensures { IsFirstFault text.now result }
+    ensures { IsFirstTextFault text.now result }
 {
     if let Some(at) = start_of(starts, place) {
         return fault_of(text, at, cause);

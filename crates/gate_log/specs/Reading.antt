@@ -1,3 +1,4 @@
+-- Only private contracts cite this; the rule is Bytes.antt.
 -- What each step of reading a log's bytes finds.
 use Rattle.std.specs.Prelude.{◌≡◌, ◌≢◌, ℕ, ◌+◌, ◌<◌, ◌^◌, Bool, true, false, List, ◌∷◌, ◌++◌, length}
 use Rattle.std.specs.List.{AllByRecursion}

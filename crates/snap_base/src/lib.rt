@@ -12,5 +12,5 @@ mod verdicts;
 pub use ids::{ActorId, Bid, Tid, TxNo};
 pub use memory::Memory;
 pub use sequences::Sequence;
-pub use transactions::{Kind, State, SubBatch, Tx, TxResult, Who};
+pub use transactions::{FIELDS, Kind, State, SubBatch, Tx, TxResult, Who};
 pub use verdicts::{Place, Verdict};

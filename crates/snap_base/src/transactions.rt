@@ -1,8 +1,11 @@
 use crate::{ActorId, Bid, Sequence, Tid};
 
+/// How many fields an actor has.
+pub const FIELDS: usize = 16;
+
 /// An actor's state: its fields `f0` to `f15`.
 #[derive(Clone, Copy, Debug, PartialEq, Eq)]
-pub struct State(pub [i64; 16]);
+pub struct State(pub [i64; FIELDS]);
 
 /// Whether a transaction declares its actors.
 #[derive(Clone, Copy, Debug, PartialEq, Eq, Hash)]

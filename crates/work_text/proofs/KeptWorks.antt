@@ -5,6 +5,7 @@ use Rattle.std.specs.Int.{w64}
 use Rattle.std.specs.List.{AllByRecursion}
 use Rattle.std.proofs.lemmas.List.{length-map, length-replicate}
 use Rattle.std.proofs.lemmas.Bool.{ltb-true, leb-true}
+use Rattle.snap_base.specs.declared.transactions.TheConstants.{FIELDS}
 use Rattle.snap_base.specs.declared.ids.ActorId.{ActorId}
 use Rattle.snap_base.specs.declared.transactions.Kind.{Kind}
 use Rattle.snap_base.specs.declared.transactions.Kind.TheVariants.{Pact, Act}
@@ -14,7 +15,7 @@ use Rattle.aml_tree.specs.Tree.{CheckedMethod}
 use Rattle.aml_check.specs.declared.limits.TheConstants.{MOST_CALLED_ACTORS}
 use Rattle.aml_check.specs.Closed.{IsClosedProgram}
 use Rattle.aml_check.specs.Transactions.{Declares, IsTransaction}
-use Rattle.work_text.specs.declared.limits.TheConstants.{MOST_ACTORS, MOST_ACTS, MOST_BATCHES, MOST_COORDINATORS, MOST_IN_A_BATCH, MOST_LOGS, MOST_TRANSACTIONS, MOST_VALUES}
+use Rattle.work_text.specs.declared.limits.TheConstants.{MOST_ACTORS, MOST_ACTS, MOST_BATCHES, MOST_COORDINATORS, MOST_IN_A_BATCH, MOST_LOGS, MOST_TRANSACTIONS}
 use Rattle.work_text.specs.Lines.{Line, lines, words, numbered, said, up_to_end}
 use Rattle.work_text.specs.Readings.{Reading, gives, ◌>>=◌}
 use Rattle.work_text.specs.Settings as setting
@@ -23,7 +24,7 @@ use Rattle.work_text.specs.Transactions.{AreUses, DeclaresRoot, transaction}
 use Rattle.work_text.specs.Works.{Work}
 use Rattle.work_text.specs.Reads.{line, set, exactly, program_lines, first_is_actor, transactions, tail, Setup, Laid, laid, reads_lines, Reads, IsWork}
 use Rattle.work_text.specs.Built.{above_one, unbuilt_kind, unbuilt_transactions, IsBuilt}
-use Rattle.work_text.specs.Kept.{IsState, IsKept, IsOneBatch}
+use Rattle.work_text.specs.Kept.{IsState, KeepsLimits, IsOneBatch}
 use Rattle.work_text.proofs.OneOf.{ok_parts, ok_same}
 use Rattle.work_text.proofs.OneText.{AreClosed, in_range, closed_lines}
 use Rattle.work_text.proofs.StateLines.{length-states_in}
@@ -65,7 +66,7 @@ few_left p count before (l ∷ ls) xs fits h =
 -- ---- actors
 
 pub record IsNamed (n : Named) : Type 0 where
-  pub few : length n.values ≤ MOST_VALUES
+  pub few : length n.values ≤ FIELDS
   pub fit : AllByRecursion (FitsSigned w64) n.values
 
 pub record IsTail (p : List CheckedMethod) (count : ℕ) (x : List Named × List (Tx × ℕ)) : Type 0 where
@@ -98,10 +99,10 @@ fits_append : (xs ys : List ℤ) → AllByRecursion (FitsSigned w64) xs → AllB
 fits_append [] ys h g = g
 fits_append (x ∷ xs) ys h g = (h.0, fits_append xs ys h.1 g)
 
-named_state : (values : List ℤ) → length values ≤ MOST_VALUES → AllByRecursion (FitsSigned w64) values → IsState (state_with values)
+named_state : (values : List ℤ) → length values ≤ FIELDS → AllByRecursion (FitsSigned w64) values → IsState (state_with values)
 named_state values few fits = record {
-  fields = omega (arith, few, length-append values (replicate (MOST_VALUES - length values) (pos 0)), length-replicate (MOST_VALUES - length values) (pos 0));
-  values = fits_append values _ fits (noughts_fit (MOST_VALUES - length values));
+  fields = omega (arith, few, length-append values (replicate (FIELDS - length values) (pos 0)), length-replicate (FIELDS - length values) (pos 0));
+  values = fits_append values _ fits (noughts_fit (FIELDS - length values));
 }
 
 either_state : (b : Bool) (x y : State) → IsState x → IsState y → IsState (if b then x else y)
@@ -119,7 +120,7 @@ all_states named a (suc count) all = (one_state named a all, all_states named (a
 -- ---- the whole
 
 pub record IsLaid (t : Laid) : Type 0 where
-  pub kept : IsKept t.work
+  pub kept : KeepsLimits t.work
   pub each : length t.transaction_lines ≡ length t.work.txs
 
 abbrev IsIn : ℕ → ℕ → Type 0
@@ -221,7 +222,7 @@ kept_text closed text t (inl h) = cc
 kept_text closed text t (inr (inl h)) = absurd h.1
 kept_text closed text t (inr (inr h)) = kept_lines closed (1 + length (lines text)) (numbered 1 (lines text)) t h.2
 
-pub kept_work : AreClosed → (text : List ℕ) (w : Work) → IsWork text w → IsKept w
+pub kept_work : AreClosed → (text : List ℕ) (w : Work) → IsWork text w → KeepsLimits w
 kept_work closed text w (t, reads, same) = rw same (kept_text closed text t reads).kept
 
 -- ---- one batch

@@ -36,14 +36,14 @@ AreClosed = (p : List TextMethod) (c : List CheckedMethod) → IsProgram p → I
 -- a text spells one program, has one first fault, and not both; and a checked program is closed
 pub record TextLaws : Type 0 where
   pub program : (bytes : List ℕ) (p q : List TextMethod) → IsProgramText bytes p → IsProgramText bytes q → p ≡ q
-  pub first : (bytes : List ℕ) (f g : TextFault) → text.IsFirstFault bytes f → text.IsFirstFault bytes g → f ≡ g
-  pub either : (bytes : List ℕ) (f : TextFault) (p : List TextMethod) → text.IsFirstFault bytes f → ¬ IsProgramText bytes p
+  pub first : (bytes : List ℕ) (f g : TextFault) → text.IsFirstTextFault bytes f → text.IsFirstTextFault bytes g → f ≡ g
+  pub either : (bytes : List ℕ) (f : TextFault) (p : List TextMethod) → text.IsFirstTextFault bytes f → ¬ IsProgramText bytes p
   pub closed : AreClosed
 
 abbrev IsNoProgram : ℕ → List ℕ → ℕ → WorkCause → Type 0
 IsNoProgram before bytes line why =
-    ((f : TextFault) × text.IsFirstFault bytes f × (line ≡ before + f.line) × (why ≡ cause.Program (program_cause.Text f.cause f.column)))
-    ⊎ ((p : List TextMethod) × IsProgramText bytes p × (f : CheckFault) × check.IsFirstFault p f × (line ≡ before + f.line) × (why ≡ cause.Program (program_cause.Check f.cause)))
+    ((f : TextFault) × text.IsFirstTextFault bytes f × (line ≡ before + f.line) × (why ≡ cause.Program (program_cause.Text f.cause f.column)))
+    ⊎ ((p : List TextMethod) × IsProgramText bytes p × (f : CheckFault) × check.IsFirstCheckFault p f × (line ≡ before + f.line) × (why ≡ cause.Program (program_cause.Check f.cause)))
 
 no_program : (before : ℕ) (bytes : List ℕ) (line : ℕ) (why : WorkCause) → IsProgramFault before bytes line why → IsNoProgram before bytes line why
 no_program before bytes line (cause.Program (program_cause.Text c column)) h = inl (h.0, h.1, h.2, ap (λ x. cause.Program (program_cause.Text x column)) h.3 ∙ ap (λ n. cause.Program (program_cause.Text h.0.cause n)) h.4)

@@ -20,11 +20,11 @@ use Rattle.aml_tree.specs.declared.faults.TextNo.TheVariants as text_no
 use Rattle.aml_tree.specs.declared.trees.Program.{Program}
 use Rattle.aml_tokens.specs.declared.tokens.Word.{Word}
 
-pub text_fails : (before : ℕ) (bytes : List ℕ) (f : TextFault) (r : WorkNo) → text.IsFirstFault bytes f → IsFaultBehind before f.line (cause.Program (program_cause.Text f.cause f.column)) r → IsNo (program_text before bytes) r
+pub text_fails : (before : ℕ) (bytes : List ℕ) (f : TextFault) (r : WorkNo) → text.IsFirstTextFault bytes f → IsFaultBehind before f.line (cause.Program (program_cause.Text f.cause f.column)) r → IsNo (program_text before bytes) r
 text_fails before bytes f (no.Fault g) h b = rw b.1 (f, h, b.0, refl, refl)
 text_fails before bytes f no.Memory h b = absurd b
 
-pub check_fails : (before : ℕ) (bytes : List ℕ) (p : List TextMethod) (f : CheckFault) (r : WorkNo) → IsProgramText bytes p → check.IsFirstFault p f → IsFaultBehind before f.line (cause.Program (program_cause.Check f.cause)) r → IsNo (program_text before bytes) r
+pub check_fails : (before : ℕ) (bytes : List ℕ) (p : List TextMethod) (f : CheckFault) (r : WorkNo) → IsProgramText bytes p → check.IsFirstCheckFault p f → IsFaultBehind before f.line (cause.Program (program_cause.Check f.cause)) r → IsNo (program_text before bytes) r
 check_fails before bytes p f (no.Fault g) t h b = rw b.1 (p, t, f, h, b.0, refl)
 check_fails before bytes p f no.Memory t h b = absurd b
 
@@ -37,6 +37,6 @@ pub program_fails : (last before : ℕ) (bytes : List ℕ) (up : Option (List (L
 program_fails last before bytes up front ls (no.Fault f) e b h = rw e (Err f, (rw b at h), refl)
 program_fails last before bytes up front ls no.Memory e b h = tt
 
-pub text_wrong : (before : ℕ) (bytes : List ℕ) (why : TextNo) (r : WorkNo) → ((f : TextFault) → ◌≡◌ {A = Result (Program Word Word) TextNo} (Err why) (Err (text_no.Fault f)) → text.IsFirstFault bytes f) → IsTextNo before why r → IsNo (program_text before bytes) r
+pub text_wrong : (before : ℕ) (bytes : List ℕ) (why : TextNo) (r : WorkNo) → ((f : TextFault) → ◌≡◌ {A = Result (Program Word Word) TextNo} (Err why) (Err (text_no.Fault f)) → text.IsFirstTextFault bytes f) → IsTextNo before why r → IsNo (program_text before bytes) r
 text_wrong before bytes (text_no.Fault f) r fault b = text_fails before bytes f r (fault f refl) b
 text_wrong before bytes text_no.Memory r fault b = rw b tt

@@ -3,7 +3,7 @@ use Rattle.std.proofs.Common.{◌≡◌, ℕ, ◌+◌, ◌≤◌, List, map, len
 use Rattle.std.specs.Str.{IsUtf8, IsValidUpTo}
 use Rattle.std.specs.List.{count_by}
 use Rattle.work_text.specs.declared.faults.WorkCause.TheVariants.{NotUtf8}
-use Rattle.work_text.specs.Built.{IsFirstFault}
+use Rattle.work_text.specs.Built.{IsFirstWorkFault}
 use Rattle.std.specs.Prelude.{◌==◌, take, Option, None, Ok, Err, Result}
 use Rattle.snap_base.specs.declared.transactions.State.{State}
 use Rattle.snap_base.specs.declared.transactions.Tx.{Tx}
@@ -62,7 +62,7 @@ text_reads view text (Ok x) short utf8 h = inr (inr (short, utf8, h))
 text_reads view text (Err (no.Fault f)) short utf8 h = inr (inr (short, utf8, h))
 text_reads view text (Err no.Memory) short utf8 h = tt
 
-pub first_fault : (text : List ℕ) (why : WorkNo) (f : WorkFault) → IsNo (Reads text) why → why ≡ no.Fault f → IsFirstFault text f
+pub first_fault : (text : List ℕ) (why : WorkNo) (f : WorkFault) → IsNo (Reads text) why → why ≡ no.Fault f → IsFirstWorkFault text f
 first_fault text (no.Fault g) f h e = let same : g ≡ f = cc in inl (rw same at h)
 first_fault text no.Memory f h e = cc
 

@@ -3,11 +3,11 @@ use Rattle.std.specs.Prelude.{◌≡◌, ℕ, zero, suc, ◌+◌, ◌-◌, ◌<�
 use Rattle.std.specs.List.{AllByRecursion}
 use Rattle.std.specs.Int.{w64}
 use Rattle.std.specs.Fmt.{decimal, signed_decimal}
+use Rattle.snap_base.specs.declared.transactions.TheConstants.{FIELDS}
 use Rattle.snap_base.specs.declared.transactions.State.{State}
 use Rattle.work_text.specs.declared.faults.Limit.TheVariants as limit
 use Rattle.work_text.specs.declared.faults.WorkCause.{WorkCause}
 use Rattle.work_text.specs.declared.faults.WorkCause.TheVariants as cause
-use Rattle.work_text.specs.declared.limits.TheConstants.{MOST_VALUES}
 use Rattle.work_text.specs.Lines.{Line, words}
 use Rattle.work_text.specs.Readings.{Reading}
 
@@ -26,7 +26,7 @@ pub record Names (actors : ℕ) (last : Option ℕ) (line : List ℕ) (n : Named
 
 abbrev pub ActorFault : ℕ → Option ℕ → List ℕ → WorkCause → Type 0
 ActorFault actors last line cause.BadActor = (n : Named) → ¬ Names actors last line n
-ActorFault actors last line (cause.Limit which found) = (which ≡ limit.Fields) × (n : Named) × Names actors last line n × (found ≡ length n.values) × (MOST_VALUES < found)
+ActorFault actors last line (cause.Limit which found) = (which ≡ limit.Fields) × (n : Named) × Names actors last line n × (found ≡ length n.values) × (FIELDS < found)
 ActorFault actors last line cause.NotUtf8 = ⊥
 ActorFault actors last line cause.BadHeader = ⊥
 ActorFault actors last line (cause.Program p) = ⊥
@@ -35,14 +35,14 @@ ActorFault actors last line cause.RootNotDeclared = ⊥
 ActorFault actors last line cause.Unbuilt = ⊥
 
 abbrev pub actor : ℕ → Option ℕ → Line → Reading Named
-actor actors last line (Ok n) = Names actors last line.bytes n × (length n.values ≤ MOST_VALUES)
+actor actors last line (Ok n) = Names actors last line.bytes n × (length n.values ≤ FIELDS)
 actor actors last line (Err f) = (f.line ≡ line.number) × ActorFault actors last line.bytes f.cause
 
 -- ---- states
 
 -- the fields that are given, and 0 in the others
 abbrev pub state_with : List ℤ → State
-state_with values = record { 0 = values ++ replicate (MOST_VALUES - length values) (pos 0) }
+state_with values = record { 0 = values ++ replicate (FIELDS - length values) (pos 0) }
 
 -- the state of an actor by the lines that name actors
 abbrev pub state_in : List Named → ℕ → State

@@ -32,6 +32,6 @@ abbrev pub IsBuilt : List ℕ → Work → Type 0
 IsBuilt text w = (t : Laid) × Reads text (Ok t) × (w ≡ t.work) × (unbuilt t ≡ [])
 
 -- The first fault of the text, or, where it stands for a work, the first line that is not built.
-abbrev pub IsFirstFault : List ℕ → WorkFault → Type 0
-IsFirstFault text f =
+abbrev pub IsFirstWorkFault : List ℕ → WorkFault → Type 0
+IsFirstWorkFault text f =
     Reads text (Err f) ⊎ ((t : Laid) × Reads text (Ok t) × (more : List ℕ) × (unbuilt t ≡ f.line ∷ more) × (f.cause ≡ Unbuilt))

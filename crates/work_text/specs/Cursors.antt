@@ -1,6 +1,7 @@
 -- Only private contracts cite this; the rule is Reads.antt.
 -- The lines that lie ahead of a place in a text.
 use Rattle.std.specs.Prelude.{ℕ, ◌+◌, ◌≤◌, List, length}
+use Rattle.work_text.specs.declared.limits.TheConstants.{LONGEST_WORK}
 use Rattle.work_text.specs.Lines.{Line, lines, numbered}
 use Rattle.work_text.specs.declared.texts.Line as code_line
 use Rattle.work_text.specs.declared.texts.Cursor.{Cursor}
@@ -18,4 +19,4 @@ end_of c = c.line + length (lines c.rest.now)
 
 -- the numbers of all lines fit
 abbrev pub IsShort : Cursor → Type 0
-IsShort c = c.line + length c.rest.now ≤ 8388609
+IsShort c = c.line + length c.rest.now ≤ LONGEST_WORK + 1

@@ -2,21 +2,22 @@
 use Rattle.std.specs.Prelude.{◌≡◌, ◌≤◌, length, FitsSigned}
 use Rattle.std.specs.List.{AllByRecursion}
 use Rattle.std.specs.Int.{w64}
+use Rattle.snap_base.specs.declared.transactions.TheConstants.{FIELDS}
 use Rattle.snap_base.specs.declared.transactions.Kind.TheVariants.{Pact}
 use Rattle.snap_base.specs.declared.transactions.State.{State}
 use Rattle.snap_base.specs.declared.transactions.Tx.{Tx}
 use Rattle.aml_check.specs.Closed.{IsClosedProgram}
 use Rattle.aml_check.specs.Transactions.{IsTransaction}
-use Rattle.work_text.specs.declared.limits.TheConstants.{MOST_ACTORS, MOST_ACTS, MOST_BATCHES, MOST_COORDINATORS, MOST_IN_A_BATCH, MOST_LOGS, MOST_TRANSACTIONS, MOST_VALUES}
+use Rattle.work_text.specs.declared.limits.TheConstants.{MOST_ACTORS, MOST_ACTS, MOST_BATCHES, MOST_COORDINATORS, MOST_IN_A_BATCH, MOST_LOGS, MOST_TRANSACTIONS}
 use Rattle.work_text.specs.Works.{Work}
 
 -- a value of signed 64 bits for each field
 pub record IsState (s : State) : Type 0 where
-  pub fields : length s.0 ≡ MOST_VALUES
+  pub fields : length s.0 ≡ FIELDS
   pub values : AllByRecursion (FitsSigned w64) s.0
 
 -- The program is closed, the transactions may be asked of the states, and each number is within its limits.
-pub record IsKept (w : Work) : Type 0 where
+pub record KeepsLimits (w : Work) : Type 0 where
   pub program : IsClosedProgram w.program
   pub some_actors : 1 ≤ length w.states
   pub few_actors : length w.states ≤ MOST_ACTORS

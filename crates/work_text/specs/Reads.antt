@@ -46,9 +46,9 @@ set s l = setting s l >>= λ n. gives (n, l.number)
 -- that of the whole text, in which the program begins behind line `before`.
 abbrev pub ProgramFault : ℕ → List ℕ → ℕ → ProgramCause → Type 0
 ProgramFault before bytes line (program_cause.Text cause column) =
-    (f : TextFault) × text.IsFirstFault bytes f × (line ≡ before + f.line) × (cause ≡ f.cause) × (column ≡ f.column)
+    (f : TextFault) × text.IsFirstTextFault bytes f × (line ≡ before + f.line) × (cause ≡ f.cause) × (column ≡ f.column)
 ProgramFault before bytes line (program_cause.Check cause) =
-    (p : List TextMethod) × IsProgramText bytes p × (f : CheckFault) × check.IsFirstFault p f × (line ≡ before + f.line) × (cause ≡ f.cause)
+    (p : List TextMethod) × IsProgramText bytes p × (f : CheckFault) × check.IsFirstCheckFault p f × (line ≡ before + f.line) × (cause ≡ f.cause)
 
 abbrev pub IsProgramFault : ℕ → List ℕ → ℕ → WorkCause → Type 0
 IsProgramFault before bytes line (cause.Program p) = ProgramFault before bytes line p

@@ -9,7 +9,8 @@ ghost use Rattle.work_text.specs.Cursors.{line_of};
 use crate::faults::at_line;
 use crate::numbers::{actor_of, numbers, words_of};
 use crate::texts::Line;
-use crate::{Limit, MOST_VALUES, WorkCause, WorkNo};
+use crate::{Limit, WorkCause, WorkNo};
+use snap_base::FIELDS;
 use std::alloc::{AllocError, Global};
 
 // Whether an actor is above the one that was named before it, if any.
@@ -55,7 +56,7 @@ fn named(
     Ok(Some((actor, values)))
 }
 
-/// The actor that a line names, and its values, at most `MOST_VALUES`; the actor that was named last, if any.
+/// The actor that a line names, and its values, at most `FIELDS`; the actor that was named last, if any.
 pub(crate) fn actor(
     alloc: Global,
     actors: u16,
@@ -63,12 +64,12 @@ pub(crate) fn actor(
     line: Line<'_>,
 ) -> Result<(u16, Vec<i64>), WorkNo>
     ensures reads { Is (λ x. record { actor = x.0; values = x.1.items }) result (spec.actor actors last (line_of line.entry)) }
-    ensures within { IfOk result (λ x. length x.1.items ≤ MOST_VALUES) }
+    ensures within { IfOk result (λ x. length x.1.items ≤ FIELDS) }
 {
     let Some((actor, values)) = named(alloc, actors, last, line.bytes)? else {
         return Err(at_line(line.number, WorkCause::BadActor));
     };
-    if values.len() > MOST_VALUES {
+    if values.len() > FIELDS {
         let cause = WorkCause::Limit {
             which: Limit::Fields,
             found: values.len() as u64,

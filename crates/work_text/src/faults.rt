@@ -23,7 +23,7 @@ pub enum Limit {
     Acts,
     /// Actors, 1 to `MOST_ACTORS`.
     Actors,
-    /// Values in an actor's line, at most `MOST_VALUES`.
+    /// Values in an actor's line, at most `snap_base::FIELDS`.
     Fields,
     /// Actors that a PACT declares, at most `aml_check::MOST_CALLED_ACTORS`.
     Uses,

@@ -4,8 +4,8 @@ ghost use Rattle.std.specs.Prelude.{◌≡◌, ℕ, ◌≤◌, List, length, Res
 ghost use Rattle.work_text.specs.declared.faults.WorkFault.{WorkFault};
 ghost use Rattle.work_text.specs.Works.{Work};
 ghost use Rattle.work_text.specs.Reads.{Laid, Reads, IsWork};
-ghost use Rattle.work_text.specs.Built.{IsBuilt, IsFirstFault};
-ghost use Rattle.work_text.specs.Kept.{IsKept, IsOneBatch};
+ghost use Rattle.work_text.specs.Built.{IsBuilt, IsFirstWorkFault};
+ghost use Rattle.work_text.specs.Kept.{KeepsLimits, IsOneBatch};
 
 use crate::LONGEST_WORK;
 use aml_check::checked_programs_are_closed;
@@ -14,7 +14,7 @@ use aml_tree::{faulty, one_fault, one_program};
 /// What a work keeps that a text stands for: its transactions may be asked of its states, and its numbers
 /// are within their limits.
 pub fn transactions_may_run()
-    ensures { (text : List ℕ) (w : Work) → IsWork text w → IsKept w }
+    ensures { (text : List ℕ) (w : Work) → IsWork text w → KeepsLimits w }
 {
     checked_programs_are_closed();
 }
@@ -55,14 +55,14 @@ pub fn one_work()
 
 /// A text has one first fault at most.
 pub fn one_first_fault()
-    ensures { (text : List ℕ) (f g : WorkFault) → IsFirstFault text f → IsFirstFault text g → f ≡ g }
+    ensures { (text : List ℕ) (f g : WorkFault) → IsFirstWorkFault text f → IsFirstWorkFault text g → f ≡ g }
 {
     one_reading();
 }
 
 /// A text with a first fault stands for no work that is built.
 pub fn fault_or_work()
-    ensures { (text : List ℕ) (f : WorkFault) (w : Work) → IsFirstFault text f → ¬ IsBuilt text w }
+    ensures { (text : List ℕ) (f : WorkFault) (w : Work) → IsFirstWorkFault text f → ¬ IsBuilt text w }
 {
     one_reading();
 }

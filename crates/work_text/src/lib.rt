@@ -27,7 +27,7 @@ pub use laws::{
 };
 pub use limits::{
     LONGEST_WORK, MOST_ACTORS, MOST_ACTS, MOST_BATCHES, MOST_COORDINATORS, MOST_IN_A_BATCH,
-    MOST_LOGS, MOST_TRANSACTIONS, MOST_VALUES,
+    MOST_LOGS, MOST_TRANSACTIONS,
 };
 pub use parse::parse_work;
 pub use works::Work;

@@ -21,8 +21,5 @@ pub const MOST_ACTS: u64 = 32;
 /// The most actors.
 pub const MOST_ACTORS: u64 = 256;
 
-/// The most values in an actor's line: one for each field.
-pub const MOST_VALUES: usize = 16;
-
 /// The most transactions.
 pub const MOST_TRANSACTIONS: usize = 20_000;

@@ -1,6 +1,6 @@
 ghost use Rattle.std.specs.Prelude.{◌≡◌, ℕ, ◌≤◌, ◌+◌, ◌==◌, [], ◌∷◌, if◌then◌else◌, length, take, IfOk, IsErrOf};
 ghost use Rattle.std.specs.List.{count_by};
-ghost use Rattle.work_text.specs.Built.{IsBuilt, IsFirstFault};
+ghost use Rattle.work_text.specs.Built.{IsBuilt, IsFirstWorkFault};
 ghost use Rattle.work_text.specs.Built as built;
 ghost use Rattle.work_text.specs.Parts.{IsHead};
 ghost use Rattle.work_text.specs.Works.{work_of};
@@ -19,7 +19,7 @@ pub fn parse_work(alloc: Global, bytes: &[u8]) -> Result<Work, WorkNo>
     // What is read is what the text stands for.
     ensures found { IfOk result (λ w. IsBuilt bytes.now (work_of w)) }
     // A fault is the first one of the text.
-    ensures fault { (fault : WorkFault) → IsErrOf result (WorkNo.Fault fault) → IsFirstFault bytes.now fault }
+    ensures fault { (fault : WorkFault) → IsErrOf result (WorkNo.Fault fault) → IsFirstWorkFault bytes.now fault }
 {
     let laid = read_text(alloc, bytes)?;
     match unbuilt(&laid) {

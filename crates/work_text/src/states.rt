@@ -8,12 +8,12 @@ ghost use Rattle.work_text.specs.Reads.{first_is_actor};
 ghost use Rattle.work_text.specs.Endings as spec;
 ghost use Rattle.work_text.specs.Cursors.{ahead, IsShort};
 
+use crate::WorkNo;
 use crate::actors::actor;
 use crate::lines::next_said;
 use crate::numbers::words_of;
 use crate::texts::Cursor;
-use crate::{MOST_VALUES, WorkNo};
-use snap_base::State;
+use snap_base::{FIELDS, State};
 use std::alloc::{AllocError, Global};
 
 // As many states of zeros.
@@ -22,17 +22,17 @@ fn zero_states(alloc: Global, actors: u16) -> Result<Vec<State>, AllocError>
 {
     let mut states = Vec::new(alloc);
     while states.len() < actors as usize {
-        states.push(State([0; MOST_VALUES]))?;
+        states.push(State([0; FIELDS]))?;
     }
     Ok(states)
 }
 
 // The fields that are given, and 0 in the others.
 fn state_of(values: &[i64]) -> State
-    requires { length values.now ≤ MOST_VALUES }
+    requires { length values.now ≤ FIELDS }
     ensures { result ≡ state_with values.now }
 {
-    let mut fields = [0; MOST_VALUES];
+    let mut fields = [0; FIELDS];
     fields[..values.len()].copy_from_slice(values);
     State(fields)
 }
@@ -40,7 +40,7 @@ fn state_of(values: &[i64]) -> State
 // Gives an actor its state.
 fn put_state(states: &mut Vec<State>, actor: u16, values: &[i64])
     requires within { actor < length states.old.items }
-    requires few { length values.now ≤ MOST_VALUES }
+    requires few { length values.now ≤ FIELDS }
     ensures { states.new.items ≡ slice_set states.old.items actor (state_with values.now) }
 {
     states[actor as usize] = state_of(values);

@@ -6,7 +6,7 @@ use Rattle.aml_check.specs.Faults.{faults, block_faults}
 use Rattle.aml_check.specs.Resolving.{Steps}
 use Rattle.aml_check.proofs.Chains.{refuses_more}
 use Rattle.aml_check.proofs.StatementSteps.{none_before, none_yet, block_goes, block_refuses, room_first, room_next, if_goes, if_else_goes, while_goes, fail_goes}
-use Rattle.aml_check.proofs.TreeOfStatement.{tree_of_let, tree_of_call, tree_of_set, tree_of_field, tree_of_if, tree_of_if_else, tree_of_while, tree_of_fail, tree_of_return}
+use Rattle.aml_tree.specs.TreeRules.{tree_of_let, tree_of_call, tree_of_set, tree_of_field, tree_of_if, tree_of_if_else, tree_of_while, tree_of_fail, tree_of_return}
 use Rattle.aml_check.proofs.bodies.+bodies.Goals as goal
 
 pub block-returns-in_err-next-clause-resolved : goal.block-returns-in_err-next-clause-resolved

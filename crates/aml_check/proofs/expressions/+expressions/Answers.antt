@@ -1,4 +1,4 @@
-use Rattle.aml_check.proofs.TreeOfChain.{tree_of_chain}
+use Rattle.aml_tree.specs.TreeRules.{tree_of_chain}
 use Rattle.std.proofs.Common.{◌≡◌}
 use Rattle.std.proofs.lemmas.Result.{err_from_is_err_and}
 use Rattle.aml_tree.specs.Tree.{expression_tree, link_trees, chain_tree}

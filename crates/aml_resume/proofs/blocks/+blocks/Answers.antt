@@ -4,7 +4,7 @@ use Rattle.std.proofs.lemmas.Result.{err_from_is_err_and}
 use Rattle.aml_tree.specs.Tree.{End, Onto, expression_tree, block_tree}
 use Rattle.aml_check.specs.Checked.{methods_of}
 use Rattle.aml_check.specs.Meaning.{holds}
-use Rattle.aml_check.proofs.TreeOfStatement.{tree_of_let, tree_of_call, tree_of_if, tree_of_if_else, tree_of_fail, tree_of_return}
+use Rattle.aml_tree.specs.TreeRules.{tree_of_let, tree_of_call, tree_of_if, tree_of_if_else, tree_of_fail, tree_of_return}
 use Rattle.aml_resume.specs.declared.ways.Way.TheVariants as way
 use Rattle.aml_resume.specs.Places.{behind_some}
 use Rattle.aml_resume.specs.Pausing.{block_pause}

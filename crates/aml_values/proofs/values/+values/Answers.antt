@@ -2,7 +2,7 @@ use Rattle.std.proofs.Common.{◌≡◌, ℤ, Result, Ok, Err, ℕ, sym, ap, ◌
 use Rattle.std.proofs.lemmas.Int.{to_z-of_z}
 use Rattle.std.proofs.lemmas.Result.{err_from_is_err_and}
 use Rattle.aml_tree.specs.Tree.{expression_tree, chain_tree, link_trees}
-use Rattle.aml_check.proofs.TreeOfChain.{tree_of_chain}
+use Rattle.aml_tree.specs.TreeRules.{tree_of_chain}
 use Rattle.aml_check.specs.Meaning.{value_of}
 use Rattle.aml_values.specs.Chains.{along}
 use Rattle.aml_values.proofs.ChainValues.{chain_value, along_fails, chain_next, chain_stops}
