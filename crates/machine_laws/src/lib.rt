@@ -4,11 +4,22 @@
 //! premise on code is left. No code stands here; each law is called to cite it.
 #![tactic(auto)]
 
+mod actors;
+mod cases;
 mod laws;
+mod records;
 
+pub use actors::{actors_lie_in_order, limits_hold};
+pub use cases::{
+    cases_of_order, halves_go_on, schedules_are_in_order, undo_gives_the_state_before,
+};
 pub use laws::{
     committed_transactions_are_as_meant, committed_transactions_are_in_order, every_run_ends,
     numbers_are_the_ends_of_sets, places_stay, recovered_transactions_are_as_meant,
     recovered_transactions_are_in_order, rows_are_as_agreed, runs_that_cannot_go_on_have_answered,
     verdicts_are_as_meant, verdicts_have_evidence, verdicts_tell_of_serial_runs,
+};
+pub use records::{
+    marks_are_durable, next_numbers_are_above_all, records_are_added_once, records_are_few,
+    records_tell_what_is,
 };

@@ -77,9 +77,9 @@ after w (Arrive k a) s = record s {
   cells = puts s a (cell.batch_placed k (sub_of k a s.post.subs) (cell_at s a));
 }
 after w (Ask t a) s = record s {
-  book = book.act_asked (book.in_the_way t (cell_at s a)) (book.met t (cell_at s a)) t a (max (cell_at s a).last (cell_at s a).floor) s.book;
+  book = book.act_asked (book.in_the_way t (cell_at s a).entries) (book.met t (cell_at s a).entries) t a (max (cell_at s a).last (cell_at s a).floor) s.book;
   post = post.control_taken t s.post;
-  cells = puts s a (cell.act_placed t (book.in_the_way t (cell_at s a)) (control_of t s.post.controls) (cell_at s a));
+  cells = puts s a (cell.act_placed t (book.in_the_way t (cell_at s a).entries) (control_of t s.post.controls) (cell_at s a));
 }
 after w (Take t a) s = record s {
   post = post.control_taken t s.post;

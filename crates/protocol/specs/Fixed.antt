@@ -2,6 +2,7 @@
 -- Actors, coordinators, logs, transactions, tids and batches are numbers. C is the type of controls.
 use Rattle.std.specs.Prelude.{◌≡◌, ℕ, ◌-◌, ◌^◌, ◌<◌, ◌≤◌, ◌==◌, Bool, true, false, pos, List, [], map, length, replicate, slice_index_or}
 use Rattle.std.specs.List.{AllByRecursion, list_any}
+use Rattle.snap_base.specs.declared.transactions.TheConstants.{FIELDS}
 use Rattle.snap_base.specs.declared.ids.ActorId.{ActorId}
 use Rattle.snap_base.specs.declared.transactions.Kind.{Kind}
 use Rattle.snap_base.specs.declared.transactions.Kind.TheVariants as kinds
@@ -63,7 +64,7 @@ abbrev pub base : Text → ℕ
 base w = w.opening.next_bid - 1
 
 abbrev pub no_state : State
-no_state = record { 0 = replicate 16 (pos 0) }
+no_state = record { 0 = replicate FIELDS (pos 0) }
 
 abbrev pub no_tx : Tx
 no_tx = record { kind = kinds.Act; actor = record { 0 = 0 }; method = 0; args = []; uses = [] }

@@ -196,7 +196,7 @@ sets_of before xs = flat_map (λ x. before x.tid) xs
 abbrev pub asked_set : {C : Type 0} → ℕ → ℕ → Machine C → History → List ℕ
 asked_set t a s h =
     batches_in (h.long a) ++ (sets_of h.before (filter (rivals (lock_of t)) (h.left_sealed a))
-    ++ sets_of h.before (filter (λ x. not (is_doomed_act s.book.acts x)) (met t (cell_at s a))))
+    ++ sets_of h.before (filter (λ x. not (is_doomed_act s.book.acts x)) (met t (cell_at s a).entries)))
 
 abbrev pub gained : List Pair → ℕ → (ℕ → List ℕ) → List ℕ
 gained pairs t before = flat_map (λ p. before p.ahead) (filter (λ p. p.behind == t) pairs)
@@ -210,7 +210,7 @@ spread_sets pairs [] before = before
 spread_sets pairs (x ∷ xs) before = gains_over pairs x.tid (spread_sets pairs xs before)
 
 abbrev pub asked_gains : {C : Type 0} → ℕ → ℕ → Machine C → History → List Pair
-asked_gains t a s h = h.gains ++ new_pairs t a (met t (cell_at s a)) s.book.acts
+asked_gains t a s h = h.gains ++ new_pairs t a (met t (cell_at s a).entries) s.book.acts
 
 abbrev pub asked_before : {C : Type 0} → Bool → ℕ → ℕ → Machine C → History → ℕ → List ℕ
 asked_before true t a s h = spread_sets (asked_gains t a s h) s.book.acts (with_at t (h.before t ++ asked_set t a s h) h.before)
@@ -259,10 +259,10 @@ grown w (Arrive k a) s h = record h {
   gains = carrying (after w (Arrive k a) s).book.acts h.gains;
 }
 grown w (Ask t a) s h = record h {
-  placed = with_placed a (asks t (in_the_way t (cell_at s a))) h;
-  long = with_long a (asks t (in_the_way t (cell_at s a))) h;
-  before = asked_before (is_none (in_the_way t (cell_at s a))) t a s h;
-  gains = carrying (after w (Ask t a) s).book.acts (gains_after_ask (is_none (in_the_way t (cell_at s a))) t a s h);
+  placed = with_placed a (asks t (in_the_way t (cell_at s a).entries)) h;
+  long = with_long a (asks t (in_the_way t (cell_at s a).entries)) h;
+  before = asked_before (is_none (in_the_way t (cell_at s a).entries)) t a s h;
+  gains = carrying (after w (Ask t a) s).book.acts (gains_after_ask (is_none (in_the_way t (cell_at s a).entries)) t a s h);
 }
 grown w (Run t a) s h = record h {
   long = with_at a (map (ran_in (who_on t (cell_at s a).entries) (record { tid = t; found = (cell_at s a).state; left = (slice_run w.code t a (cell_at s a)).state })) (h.long a)) h.long;

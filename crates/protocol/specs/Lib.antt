@@ -1,3 +1,4 @@
+pub mod BookParts
 pub mod Candidates
 pub mod CellParts
 pub mod Chains

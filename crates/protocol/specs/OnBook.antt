@@ -3,7 +3,7 @@ use Rattle.std.specs.Prelude.{ℕ, ◌+◌, ◌==◌, nat_le, max, Bool, true, f
 use Rattle.snap_base.specs.declared.transactions.TxResult.{TxResult}
 use Rattle.protocol.specs.Fixed.{Next, Go, Ended}
 use Rattle.protocol.specs.Rivals.{Lock, lock_of}
-use Rattle.protocol.specs.Parts.{Book, Joined, Status, Live, Doomed, Decided, Sealed, Act, Pair, Outcome, Cell, Batch, Desk, Entry}
+use Rattle.protocol.specs.Parts.{Book, Joined, Status, Live, Doomed, Decided, Sealed, Act, Pair, Outcome, Batch, Desk, Entry}
 use Rattle.protocol.specs.Words.{is_doomed, is_live_status, is_value, is_among, act_of, holds, least_of, acts_on, rivals_in_tail, least_older, batch_of, first_failed, Failure}
 use Rattle.snap_base.specs.declared.verdicts.Verdict.{Verdict}
 use Rattle.protocol.specs.Verdicts.{died, taken_along}
@@ -77,12 +77,12 @@ asked_pairs (Some older) group t a b = b.pairs
 asked_pairs None group t a b = b.pairs ++ new_pairs t a group b.acts
 
 -- the rivals of the tail group, as the ACT meets them
-abbrev pub met : {C : Type 0} → ℕ → Cell C → List Lock
-met t c = rivals_in_tail (lock_of t) c.entries
+abbrev pub met : ℕ → List Entry → List Lock
+met t entries = rivals_in_tail (lock_of t) entries
 
 -- the oldest of them that is older than the ACT
-abbrev pub in_the_way : {C : Type 0} → ℕ → Cell C → Option ℕ
-in_the_way t c = least_older t (met t c)
+abbrev pub in_the_way : ℕ → List Entry → Option ℕ
+in_the_way t entries = least_older t (met t entries)
 
 abbrev pub act_asked : Option ℕ → List Lock → ℕ → ℕ → ℕ → Book → Book
 act_asked older group t a m b = record b { acts = asked_acts older group t a m b; pairs = asked_pairs older group t a b }

@@ -88,8 +88,8 @@ as_agreed w (Arrive k a) s = record (after w (Arrive k a) s) {
 }
 as_agreed w (Ask t a) s = record (after w (Ask t a) s) {
   book = record s.book {
-    acts = asks (in_the_way t (cell_at s a)) (met t (cell_at s a)) t a (max (cell_at s a).last (cell_at s a).floor) s.book;
-    pairs = asked_pairs (in_the_way t (cell_at s a)) (met t (cell_at s a)) t a s.book;
+    acts = asks (in_the_way t (cell_at s a).entries) (met t (cell_at s a).entries) t a (max (cell_at s a).last (cell_at s a).floor) s.book;
+    pairs = asked_pairs (in_the_way t (cell_at s a).entries) (met t (cell_at s a).entries) t a s.book;
   };
 }
 as_agreed w (Rollback a) s = record s { cells = puts s a (rolls_back s.book.cascades (cell_at s a)) }

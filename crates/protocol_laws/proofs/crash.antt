@@ -1,8 +1,6 @@
 -- What the logs tell at every moment, whatever a crash leaves of them.
 pub mod Acknowledged
-pub mod AcknowledgedPacts
 pub mod ActPlaces
-pub mod ActsChanged
 pub mod ActsSure
 pub mod BatchesSure
 pub mod CrashClosed

@@ -1,5 +1,4 @@
 -- The first laws: frames, footprints, numbers, epochs, settling, pairs, candidates. Nothing here is of method code.
-pub mod AllOf
 pub mod Along
 pub mod Candidates
 pub mod CellEpochs
@@ -32,4 +31,5 @@ pub mod RangesNamed
 pub mod SettlingEvents
 pub mod SettlingKept
 pub mod SettlingKeys
+pub mod Statuses
 pub mod Times

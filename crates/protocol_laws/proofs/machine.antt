@@ -21,7 +21,6 @@ pub mod Good
 pub mod GroupsKept
 pub mod HighLists
 pub mod Higher
-pub mod KeptDone
 pub mod MarksKept
 pub mod OversKept
 pub mod PactsTold
@@ -43,3 +42,5 @@ pub mod TracksKept
 pub mod TrailsKept
 pub mod TurnLists
 pub mod TurnsKept
+pub mod UndoGives
+pub mod VerdictsSay

@@ -4,6 +4,7 @@ pub mod BatchesKnown
 pub mod BoxedKept
 pub mod ControlsHeld
 pub mod EnteredKept
+pub mod FindRoom
 pub mod HasOneKept
 pub mod HomeKept
 pub mod InLine
@@ -13,6 +14,10 @@ pub mod LeftFalls
 pub mod LeftLists
 pub mod LeftParts
 pub mod LeftRing
+pub mod LieInOrder
+pub mod LimitsHold
+pub mod LimitsKept
+pub mod LimitsOnActors
 pub mod NoControls
 pub mod NumbersLow
 pub mod NumbersUntaken
@@ -27,6 +32,8 @@ pub mod QuietOwed
 pub mod QuietRuns
 pub mod RowsKept
 pub mod RunsEnd
+pub mod SchedulesHold
+pub mod SizesHold
 pub mod StandInLine
 pub mod SubPlaces
 pub mod SubsArrive

@@ -46,7 +46,7 @@ pub record Dies {C : Type 0} (n a older own : ℕ) (e : Event) (s : Machine C) :
 
 -- a batch was placed on the actor, or an ACT with nobody older in its way
 abbrev pub PlacesOn : {C : Type 0} → ℕ → Event → Machine C → Type 0
-PlacesOn a e s = ((k : ℕ) × (e ≡ Arrive k a)) ⊎ ((t : ℕ) × ((e ≡ Ask t a) × (in_the_way t (cell_at s a) ≡ None)))
+PlacesOn a e s = ((k : ℕ) × (e ≡ Arrive k a)) ⊎ ((t : ℕ) × ((e ≡ Ask t a) × (in_the_way t (cell_at s a).entries ≡ None)))
 
 -- It was live, and behind the event its after number is not above its before number.
 pub record Crosses {C : Type 0} (w : Fixed C) (n m k a : ℕ) (e : Event) (s : Machine C) : Type 0 where

@@ -1,4 +1,4 @@
--- Only proofs cite this; the rule is `OrderHolds` (Order).
+-- Proofs cite this, and `OnActors` its `Ascends`; the rule is `OrderHolds` (Order).
 -- Batches along an actor's long schedule.
 use Rattle.std.specs.Prelude.{◌≡◌, ℕ, ◌<◌, ◌≤◌, Bool, true, false, ◌||◌, List, [], ◌∷◌, length}
 use Rattle.std.specs.List.{AllByRecursion}

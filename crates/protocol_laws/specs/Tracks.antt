@@ -1,4 +1,4 @@
--- Only proofs cite this; the rule is `OrderHolds` (Order).
+-- Proofs cite this, and `Undo` its `slices_in`; the rule is `OrderHolds` (Order).
 -- The long schedule of an actor: its schedule as if nothing that stays had ever left it.
 use Rattle.std.specs.Prelude.{◌≡◌, Bool, true, false, ◌||◌, List, [], ◌∷◌, ◌++◌}
 use Rattle.snap_base.specs.declared.transactions.State.{State}

@@ -4,10 +4,9 @@ use Rattle.std.specs.List.{AllByRecursion, list_any}
 use Rattle.std.proofs.Common.{sym, ap, subst, inl, inr, ◌∙◌}
 use Rattle.std.proofs.lemmas.List.{append-nil}
 use Rattle.std.proofs.lemmas.Bool.{true≢false, or_cases, or_left, or_right, and_parts, eqb-true, eq-eqb, cases_Bool, false_from_ne_true}
-use Rattle.snap_base.specs.declared.transactions.TxResult.{TxResult}
 use Rattle.protocol.specs.Fixed.{Fixed}
 use Rattle.protocol.specs.Records.{is_prepare}
-use Rattle.protocol.specs.Parts.{Act, Joined, Cascade, Status, Live, Doomed, Decided, Sealed, Who, OfBatch, OfAct, Machine}
+use Rattle.protocol.specs.Parts.{Act, Joined, Cascade, Who, OfBatch, OfAct, Machine}
 use Rattle.protocol.specs.Events.{Event, Form, Admit, Arrive, Ask, Run, End, Complete, Sync, Commit, Rollback, Prepare, Vouch, Decide, Seal, Finish, Trim}
 use Rattle.protocol.specs.Words.{holds, is_who, is_value, is_failure, is_doomed, is_live_act, is_ended, is_aborted, outcome_of, joined_of, act_of}
 use Rattle.protocol.specs.Conditions.{IsAllowed, conditions}
@@ -24,10 +23,8 @@ use Rattle.protocol_laws.proofs.machine.ActsOwed.{none_bad}
 use Rattle.protocol_laws.proofs.machine.TracksKept.{held}
 use Rattle.protocol_laws.proofs.machine.TurnsKept.{one_is}
 use Rattle.protocol_laws.proofs.machine.ControlWalk.{AllControls}
-use Rattle.protocol_laws.proofs.machine.ActsFound as found
-use Rattle.protocol_laws.proofs.machine.ActsFound.{EachAct}
-use Rattle.protocol_laws.proofs.crash.ActsChanged as acts
-use Rattle.protocol_laws.proofs.crash.ActsChanged.{Holds}
+use Rattle.protocol_laws.proofs.machine.ActsFound as acts
+use Rattle.protocol_laws.proofs.machine.ActsFound.{EachAct, HoldsAnyway}
 use Rattle.protocol_laws.proofs.machine.ActResults as results
 use Rattle.protocol_laws.proofs.machine.ActResults.{NoneActed, NoActResult}
 use Rattle.protocol_laws.proofs.machine.BehindKept.{Behind, AllBehind}
@@ -35,7 +32,8 @@ use Rattle.protocol_laws.proofs.machine.QueuedKept.{in_book}
 use Rattle.protocol_laws.proofs.crash.OnLong.{on_at, on_more, on_map, ran_same, completed_same, left_same, on_without}
 use Rattle.protocol_laws.proofs.crash.TellLists.{on_less_without, on_less_staying}
 use Rattle.protocol_laws.proofs.crash.Durable.{any_back, logged_added, synced_same}
-use Rattle.protocol_laws.proofs.first.Lists.{all_join, all_mapped, all_weaker, any_front, some_of}
+use Rattle.protocol_laws.proofs.first.Lists.{all_join, all_map, any_front, some_held, some_of, weaker}
+use Rattle.protocol_laws.proofs.first.Statuses.{decided_doomed, sealed_doomed, value_some}
 
 -- ---- a place that was joined stays
 
@@ -47,13 +45,13 @@ any_actor a b f (p ∷ ps) i = rw (any_actor a b f ps i, by (p.actor == b)) refl
     by true = i p
     by false = refl
 
-holds_place : (t a : ℕ) → Holds (λ u x. u ≡ t → has_place a x ≡ true)
+holds_place : (t a : ℕ) → HoldsAnyway (λ u x. u ≡ t → has_place a x ≡ true)
 holds_place t a = record { numbered = λ u x n p. p; doomed = λ u x v l p. p; rises = λ u k x l p. p }
 
-ready_place : {C : Type 0} (w : Fixed C) (e : Event) (s : Machine C) (t a : ℕ) → is_some (act_of t s.book.acts) ≡ true → acts.Ready w e s (λ u x. u ≡ t → has_place a x ≡ true)
-unfolding acts.Ready
+ready_place : {C : Type 0} (w : Fixed C) (e : Event) (s : Machine C) (t a : ℕ) → is_some (act_of t s.book.acts) ≡ true → acts.ReadyAll w e s (λ u x. u ≡ t → has_place a x ≡ true)
+unfolding acts.ReadyAll
 ready_place w (Admit u) s t a q = λ e f. absurd (true≢false (sym q ∙ ap is_some (ap (λ z. act_of z s.book.acts) (sym f) ∙ e)))
-ready_place w (Ask u b) s t a q = λ x e p f. any_front (λ p. p.actor == a) x.places _ (p f)
+ready_place w (Ask u b) s t a q = λ o x e p f. any_front (λ p. p.actor == a) x.places _ (p f)
 ready_place w (End u b) s t a q = λ x r e p f. p f
 ready_place w (Decide u) s t a q = λ x e p f. p f
 ready_place w (Prepare u b) s t a q = λ x e p f. any_actor a b book.is_prepared x.places (λ p. refl) ∙ p f
@@ -61,10 +59,6 @@ ready_place w (Vouch u b) s t a q = λ x e p f. any_actor a b book.is_vouched x.
 ready_place w (Seal u) s t a q = λ x e p f. p f
 ready_place w (Finish u b) s t a q = λ x e p f. any_actor a b book.has_left x.places (λ p. refl) ∙ p f
 ready_place w e s t a q = tt
-
-some_held : {X : Type 0} (p : X → Bool) (o : Option X) → holds p o ≡ true → is_some o ≡ true
-some_held p None h = absurd (true≢false (sym h))
-some_held p (Some x) h = refl
 
 there_is : {X : Type 0} (o : Option X) → is_some o ≡ true → holds (λ x. true) o ≡ true
 there_is None q = absurd (true≢false (sym q))
@@ -74,9 +68,9 @@ holds_from : {X : Type 0} (q : X → Bool) (o : Option X) (x : X) → o ≡ Some
 holds_from q o x e h = subst (λ z. holds q z ≡ true) (sym e) h
 
 -- a fact of one ACT that is there
-pub fact_stays : {C : Type 0} (w : Fixed C) (e : Event) (s : Machine C) (t : ℕ) (q : Act → Bool) → Holds (λ u x. u ≡ t → q x ≡ true) → acts.Ready w e s (λ u x. u ≡ t → q x ≡ true) → holds q (act_of t s.book.acts) ≡ true → holds q (act_of t (after w e s).book.acts) ≡ true
+pub fact_stays : {C : Type 0} (w : Fixed C) (e : Event) (s : Machine C) (t : ℕ) (q : Act → Bool) → HoldsAnyway (λ u x. u ≡ t → q x ≡ true) → acts.ReadyAll w e s (λ u x. u ≡ t → q x ≡ true) → holds q (act_of t s.book.acts) ≡ true → holds q (act_of t (after w e s).book.acts) ≡ true
 fact_stays w e s t q k r h =
-    let each : EachAct (λ u x. u ≡ t → q x ≡ true) (after w e s).book.acts = acts.acts_keep w e s (λ u x. u ≡ t → q x ≡ true) k r (λ u x f i. some_of q (act_of t s.book.acts) x (ap (λ z. act_of z s.book.acts) (sym i) ∙ f) h) in
+    let each : EachAct (λ u x. u ≡ t → q x ≡ true) (after w e s).book.acts = acts.acts_change w e s (λ u x. u ≡ t → q x ≡ true) k r (λ u x f i. some_of q (act_of t s.book.acts) x (ap (λ z. act_of z s.book.acts) (sym i) ∙ f) h) in
     let y = one_is (λ x. true) (act_of t (after w e s).book.acts) (there_is (act_of t (after w e s).book.acts) (in_book w e s t (some_held q (act_of t s.book.acts) h))) in
     holds_from q (act_of t (after w e s).book.acts) y.0 y.1 (each t y.0 y.1 refl)
 
@@ -92,26 +86,26 @@ was_at y b a new long k = by (a == b) refl
     by true f h = subst (λ z. is_on y (long z) ≡ true) (sym (eqb-true a b f)) (k h)
     by false f h = h
 
-asked_place : {C : Type 0} (w : Fixed C) (t a : ℕ) (s : Machine C) → is_some (act_of t s.book.acts) ≡ true → book.in_the_way t (cell_at s a) ≡ None → holds (has_place a) (act_of t (after w (Ask t a) s).book.acts) ≡ true
+asked_place : {C : Type 0} (w : Fixed C) (t a : ℕ) (s : Machine C) → is_some (act_of t s.book.acts) ≡ true → book.in_the_way t (cell_at s a).entries ≡ None → holds (has_place a) (act_of t (after w (Ask t a) s).book.acts) ≡ true
 unfolding after
 asked_place w t a s q n =
-    let each : EachAct (λ u x. u ≡ t → has_place a x ≡ true) (book.asked_acts (book.in_the_way t (cell_at s a)) (book.met t (cell_at s a)) t a (max (cell_at s a).last (cell_at s a).floor) s.book) = subst (λ o. EachAct (λ u x. u ≡ t → has_place a x ≡ true) (book.asked_acts o (book.met t (cell_at s a)) t a (max (cell_at s a).last (cell_at s a).floor) s.book)) (sym n) start in
+    let each : EachAct (λ u x. u ≡ t → has_place a x ≡ true) (book.asked_acts (book.in_the_way t (cell_at s a).entries) (book.met t (cell_at s a).entries) t a (max (cell_at s a).last (cell_at s a).floor) s.book) = subst (λ o. EachAct (λ u x. u ≡ t → has_place a x ≡ true) (book.asked_acts o (book.met t (cell_at s a).entries) t a (max (cell_at s a).last (cell_at s a).floor) s.book)) (sym n) start in
     let y = one_is (λ x. true) (act_of t (after w (Ask t a) s).book.acts) (there_is (act_of t (after w (Ask t a) s).book.acts) (in_book w (Ask t a) s t q)) in
     holds_from (has_place a) (act_of t (after w (Ask t a) s).book.acts) y.0 y.1 (each t y.0 y.1 refl)
   where
     -- it has the place, or is another one
-    start : EachAct (λ u x. u ≡ t → has_place a x ≡ true) (book.asked_acts None (book.met t (cell_at s a)) t a (max (cell_at s a).last (cell_at s a).floor) s.book)
-    start = acts.none_in_way (λ u x. u ≡ t → has_place a x ≡ true) t a (cell_at s a) s.book (holds_place t a) (found.each_changed (λ u x. Unit {0}) (λ u x. u ≡ t → has_place a x ≡ true) t (book.joins a (max (cell_at s a).last (cell_at s a).floor)) s.book.acts (λ x. refl) (λ u x d e p i. absurd (d i)) (λ x e p i. any_back (λ p. p.actor == a) x.places _ (or_left (a == a) false (eq-eqb a a refl))) (λ u x e. tt))
+    start : EachAct (λ u x. u ≡ t → has_place a x ≡ true) (book.asked_acts None (book.met t (cell_at s a).entries) t a (max (cell_at s a).last (cell_at s a).floor) s.book)
+    start = acts.none_in_way (λ u x. u ≡ t → has_place a x ≡ true) t a (cell_at s a) s.book (holds_place t a) (acts.each_changed (λ u x. Unit {0}) (λ u x. u ≡ t → has_place a x ≡ true) t (book.joins a (max (cell_at s a).last (cell_at s a).floor)) s.book.acts (λ x. refl) (λ u x d e p i. absurd (d i)) (λ x e p i. any_back (λ p. p.actor == a) x.places _ (or_left (a == a) false (eq-eqb a a refl))) (λ u x e. tt))
 
 pub on_joined : {C : Type 0} (w : Fixed C) (e : Event) (s : Machine C) (h : History) → IsAllowed w e s → OnJoined s h → OnJoined (after w e s) (grown w e s h)
 unfolding OnJoined conditions grown
 on_joined w (Arrive k b) s h ok g = λ t a o. place_stays w (Arrive k b) s t a (g t a (was_at (OfAct t) b a _ h.long (λ q. sym (on_more (OfAct t) (OfBatch k) (h.long b) refl) ∙ q) o))
-on_joined w (Ask u b) s h ok g = λ t a o. by (book.in_the_way u (cell_at s b)) refl t a o
+on_joined w (Ask u b) s h ok g = λ t a o. by (book.in_the_way u (cell_at s b).entries) refl t a o
   where
     old : (t a : ℕ) → is_on (OfAct t) (h.long a) ≡ true → holds (has_place a) (act_of t (after w (Ask u b) s).book.acts) ≡ true
     old t a o = place_stays w (Ask u b) s t a (g t a o)
 
-    by : (o : Option ℕ) → book.in_the_way u (cell_at s b) ≡ o → (t a : ℕ) → is_on (OfAct t) (with_at b (h.long b ++ map not_run (asks u o)) h.long a) ≡ true → holds (has_place a) (act_of t (after w (Ask u b) s).book.acts) ≡ true
+    by : (o : Option ℕ) → book.in_the_way u (cell_at s b).entries ≡ o → (t a : ℕ) → is_on (OfAct t) (with_at b (h.long b ++ map not_run (asks u o)) h.long a) ≡ true → holds (has_place a) (act_of t (after w (Ask u b) s).book.acts) ≡ true
     by (Some older) e t a o = old t a (was_at (OfAct t) b a _ h.long (λ q. sym (ap (is_on (OfAct t)) (append-nil (h.long b))) ∙ q) o)
     by None e t a o = elim (cases_Bool (a == b)) [
       | inr f ↦ old t a (subst (λ v. is_on (OfAct t) (if v then h.long b ++ not_run (OfAct u) ∷ [] else h.long a) ≡ true) f o)
@@ -134,21 +128,17 @@ on_joined w e s h ok g = λ t a o. place_stays w e s t a (g t a o)
 
 -- ---- who has a record
 
-holds_value : (t a : ℕ) → Holds (λ u x. u ≡ t → (is_value x.result && has_place a x) ≡ true)
+holds_value : (t a : ℕ) → HoldsAnyway (λ u x. u ≡ t → (is_value x.result && has_place a x) ≡ true)
 holds_value t a = record { numbered = λ u x n p. p; doomed = λ u x v l p. p; rises = λ u k x l p. p }
-
-value_some : (r : Option TxResult) → is_value r ≡ true → is_some r ≡ true
-value_some None e = e
-value_some (Some r) e = refl
 
 both : (x y : Bool) → x ≡ true → y ≡ true → (x && y) ≡ true
 both true y e f = f
 both false y e f = absurd (true≢false (sym e))
 
-ready_value : {C : Type 0} (w : Fixed C) (e : Event) (s : Machine C) (t a : ℕ) → IsAllowed w e s → AllControls (NoneActed s) s → holds (λ x. is_value x.result && has_place a x) (act_of t s.book.acts) ≡ true → acts.Ready w e s (λ u x. u ≡ t → (is_value x.result && has_place a x) ≡ true)
-unfolding acts.Ready conditions
+ready_value : {C : Type 0} (w : Fixed C) (e : Event) (s : Machine C) (t a : ℕ) → IsAllowed w e s → AllControls (NoneActed s) s → holds (λ x. is_value x.result && has_place a x) (act_of t s.book.acts) ≡ true → acts.ReadyAll w e s (λ u x. u ≡ t → (is_value x.result && has_place a x) ≡ true)
+unfolding acts.ReadyAll conditions
 ready_value w (Admit u) s t a ok n q = λ e f. absurd (true≢false (sym (some_held (λ x. is_value x.result && has_place a x) (act_of t s.book.acts) q) ∙ ap is_some (ap (λ z. act_of z s.book.acts) (sym f) ∙ e)))
-ready_value w (Ask u b) s t a ok n q = λ x e p f. let v = and_parts (is_value x.result) (has_place a x) (p f) in both (is_value x.result) _ v.0 (any_front (λ p. p.actor == a) x.places _ v.1)
+ready_value w (Ask u b) s t a ok n q = λ o x e p f. let v = and_parts (is_value x.result) (has_place a x) (p f) in both (is_value x.result) _ v.0 (any_front (λ p. p.actor == a) x.places _ v.1)
 ready_value w (End u b) s t a ok n q = λ x r e p f. absurd (true≢false (sym (value_some x.result (and_parts (is_value x.result) (has_place a x) (p f)).0) ∙ ap is_some (results.outcome_none (λ x. is_ended x.next) u b s (held (λ c. holds (λ x. is_ended x.next) (outcome_of u c.outbox)) s.cells b no_cell ok.0) n u x e refl)))
 ready_value w (Decide u) s t a ok n q = λ x e p f. p f
 ready_value w (Prepare u b) s t a ok n q = λ x e p f. let v = and_parts (is_value x.result) (has_place a x) (p f) in both (is_value x.result) _ v.0 (any_actor a b book.is_prepared x.places (λ p. refl) ∙ v.1)
@@ -202,12 +192,12 @@ prepared_kept w e s ok n g = λ t a q. value_stays w e s t a ok n (g t a q)
 -- ---- where an ACT is not undone, it is on all its actors
 
 all_on : (t : ℕ) (long long' : ℕ → List Ran) (ps : List Joined) → ((a : ℕ) → is_on (OfAct t) (long a) ≡ true → is_on (OfAct t) (long' a) ≡ true) → AllByRecursion (λ p. is_on (OfAct t) (long p.actor) ≡ true) ps → AllByRecursion (λ p. is_on (OfAct t) (long' p.actor) ≡ true) ps
-all_on t long long' ps k h = all_weaker _ _ ps (λ p q. k p.actor q) h
+all_on t long long' ps k h = weaker _ _ ps (λ p q. k p.actor q) h
 
 stands_on : (long long' : ℕ → List Ran) (xs : List Act) → ((t : ℕ) (x : Act) → act_of t xs ≡ Some x → is_doomed x.status ≡ false → is_failure x.result ≡ false → (a : ℕ) → is_on (OfAct t) (long a) ≡ true → is_on (OfAct t) (long' a) ≡ true) → EachAct (ActStands long) xs → EachAct (ActStands long') xs
 stands_on long long' xs k h = λ t x e. let p = h t x e in record { first = p.first; on = λ d f. all_on t long long' x.places (k t x e d f) (p.on d f) }
 
-holds_stands : (long : ℕ → List Ran) → Holds (ActStands long)
+holds_stands : (long : ℕ → List Ran) → HoldsAnyway (ActStands long)
 holds_stands long = record {
   numbered = λ t x n p. record { first = p.first; on = p.on };
   doomed = λ t x v l p. record { first = p.first; on = λ d. absurd (true≢false d) };
@@ -215,24 +205,11 @@ holds_stands long = record {
 }
 
 mark_on : (t a : ℕ) (f : Joined → Joined) (long : ℕ → List Ran) (ps : List Joined) → ((p : Joined) → (f p).actor ≡ p.actor) → AllByRecursion (λ p. is_on (OfAct t) (long p.actor) ≡ true) ps → AllByRecursion (λ p. is_on (OfAct t) (long p.actor) ≡ true) (map (λ p. book.mark_if (p.actor == a) f p) ps)
-mark_on t a f long ps i h = all_mapped _ _ _ ps (λ p q. by p (p.actor == a) q) h
+mark_on t a f long ps i h = all_map _ _ _ ps (λ p q. by p (p.actor == a) q) h
   where
     by : (p : Joined) (v : Bool) → is_on (OfAct t) (long p.actor) ≡ true → is_on (OfAct t) (long (book.mark_if v f p).actor) ≡ true
     by p true q = subst (λ z. is_on (OfAct t) (long z) ≡ true) (sym (i p)) q
     by p false q = q
-
-decided_doom : (c : ℕ) (b : Bool) (st : Status) → is_doomed (book.decided_status c b st) ≡ is_doomed st
-decided_doom c true Live = refl
-decided_doom c false Live = refl
-decided_doom c b (Doomed v) = refl
-decided_doom c b (Decided d) = refl
-decided_doom c b (Sealed d) = refl
-
-sealed_doom : (st : Status) → is_doomed (book.sealed_status st) ≡ is_doomed st
-sealed_doom Live = refl
-sealed_doom (Doomed v) = refl
-sealed_doom (Decided c) = refl
-sealed_doom (Sealed c) = refl
 
 -- the place of an actor that is found, with marks
 marked_found : (a b : ℕ) (f : Joined → Joined) (ps : List Joined) (q : Joined) → ((p : Joined) → (f p).actor ≡ p.actor) → find (λ p. p.actor == a) (map (λ p. book.mark_if (p.actor == b) f p) ps) ≡ Some q → (p : Joined) × (find (λ p. p.actor == a) ps ≡ Some p) × (book.mark_if (p.actor == b) f p ≡ q)
@@ -299,10 +276,10 @@ stays_behind acts cs bad t x (Stands (OfBatch k) c ss ∷ rs) e d n h o = by (is
     by true f r = inl (none_bad acts cs (bad || is_aborted k cs) t x rs e d h (none_gone_key (OfAct t) rs (n.0 f) o) (or_right bad _ f))
 
 pub stands_kept : {C : Type 0} (w : Fixed C) (e : Event) (s : Machine C) (h : History) → IsAllowed w e s → AllControls (NoneActed s) s → Placed w s h → AllBehind s h → ActsStand s h → ActsStand (after w e s) (grown w e s h)
-unfolding ActsStand AllBehind Placed acts.Ready conditions after grown
-stands_kept w (Admit t) s h ok na pl b g = acts.acts_keep w (Admit t) s (ActStands h.long) (holds_stands h.long) (λ e. record { first = λ a p q. absurd (cc q); on = λ d f. tt }) g
-stands_kept w (Arrive k a) s h ok na pl b g = acts.acts_keep w (Arrive k a) s (ActStands _) (holds_stands _) tt (stands_on h.long _ s.book.acts (λ t x e d f c o. on_at (OfAct t) a c _ h.long (on_more (OfAct t) (OfBatch k) (h.long a) refl) ∙ o) g)
-stands_kept {C} w (Ask u a) s h ok na pl b g = by (book.in_the_way u (cell_at s a)) refl
+unfolding ActsStand AllBehind Placed acts.ReadyAll conditions after grown
+stands_kept w (Admit t) s h ok na pl b g = acts.acts_change w (Admit t) s (ActStands h.long) (holds_stands h.long) (λ e. record { first = λ a p q. absurd (cc q); on = λ d f. tt }) g
+stands_kept w (Arrive k a) s h ok na pl b g = acts.acts_change w (Arrive k a) s (ActStands _) (holds_stands _) tt (stands_on h.long _ s.book.acts (λ t x e d f c o. on_at (OfAct t) a c _ h.long (on_more (OfAct t) (OfBatch k) (h.long a) refl) ∙ o) g)
+stands_kept {C} w (Ask u a) s h ok na pl b g = by (book.in_the_way u (cell_at s a).entries) refl
   where
     grows : (t : ℕ) (rs : List Ran) → is_on (OfAct t) rs ≡ true → is_on (OfAct t) (rs ++ not_run (OfAct u) ∷ []) ≡ true
     grows t rs o = any_front (is_ran_of (OfAct t)) rs _ o
@@ -322,7 +299,7 @@ stands_kept {C} w (Ask u a) s h ok na pl b g = by (book.in_the_way u (cell_at s 
       on = λ d f. all_join _ x.places _ (p.on d f) (there, tt);
     }
 
-    by : (o : Option ℕ) → book.in_the_way u (cell_at s a) ≡ o → EachAct (ActStands (with_at a (h.long a ++ map not_run (asks u o)) h.long)) (book.asked_acts o (book.met u (cell_at s a)) u a (max (cell_at s a).last (cell_at s a).floor) s.book)
+    by : (o : Option ℕ) → book.in_the_way u (cell_at s a).entries ≡ o → EachAct (ActStands (with_at a (h.long a ++ map not_run (asks u o)) h.long)) (book.asked_acts o (book.met u (cell_at s a).entries) u a (max (cell_at s a).last (cell_at s a).floor) s.book)
     by (Some older) e = acts.asked (ActStands _) u a (Some older) (cell_at s a) s.book (holds_stands _) (λ q. absurd (cc q)) (stands_on h.long _ s.book.acts (λ t x e d f c o. on_at (OfAct t) a c _ h.long (ap (is_on (OfAct t)) (append-nil (h.long a))) ∙ o) g)
     by None e = acts.asked (ActStands _) u a None (cell_at s a) s.book (holds_stands _) (λ q x f p. joins x p) (stands_on h.long _ s.book.acts (λ t x e d f c o. at_more t c o) g)
 stands_kept w (Run u a) s h ok na pl b g = stands_on h.long _ s.book.acts (λ t x e d f c o. on_at (OfAct t) a c _ h.long (on_map (OfAct t) _ (h.long a) (λ r. ran_same (OfAct t) _ _ r)) ∙ o) g
@@ -335,12 +312,12 @@ stands_kept w (Rollback a) s h ok na pl b g = stands_on h.long _ s.book.acts (λ
       | inl f ↦ rw f (elim (stays_behind s.book.acts s.book.cascades false t x (h.long a) e d (PlaceLists.cut_is_end s.desk.settled s.book.cascades (h.long a) (pl a).firm) (b a) (subst (λ z. is_on (OfAct t) (h.long z) ≡ true) (eqb-true c a f) o)) [ inl v ↦ absurd v | inr v ↦ v ])
       | inr f ↦ rw f o
     ]
-stands_kept w (End u a) s h ok na pl b g = acts.acts_keep w (End u a) s (ActStands h.long) (holds_stands h.long) (λ x r e p. record { first = p.first; on = λ d f. p.on d (ap is_failure (results.outcome_none (λ x. is_ended x.next) u a s (held (λ c. holds (λ x. is_ended x.next) (outcome_of u c.outbox)) s.cells a no_cell ok.0) na u x e refl)) }) g
-stands_kept w (Prepare u a) s h ok na pl b g = acts.acts_keep w (Prepare u a) s (ActStands h.long) (holds_stands h.long) (λ x e p. record {
+stands_kept w (End u a) s h ok na pl b g = acts.acts_change w (End u a) s (ActStands h.long) (holds_stands h.long) (λ x r e p. record { first = p.first; on = λ d f. p.on d (ap is_failure (results.outcome_none (λ x. is_ended x.next) u a s (held (λ c. holds (λ x. is_ended x.next) (outcome_of u c.outbox)) s.cells a no_cell ok.0) na u x e refl)) }) g
+stands_kept w (Prepare u a) s h ok na pl b g = acts.acts_change w (Prepare u a) s (ActStands h.long) (holds_stands h.long) (λ x e p. record {
   first = λ c q f v. let m = marked_found c a book.is_prepared x.places q (λ p. refl) f in subst (λ z. z.prepared ≡ true) m.2 (prepare_first (m.0.actor == a) m.0 (p.first c m.0 m.1) (subst (λ z. z.vouched ≡ true) (sym m.2) v));
   on = λ d f. mark_on u a book.is_prepared h.long x.places (λ p. refl) (p.on d f);
 }) g
-stands_kept w (Vouch u a) s h ok na pl b g = acts.acts_keep w (Vouch u a) s (ActStands h.long) (holds_stands h.long) (λ x e p. record {
+stands_kept w (Vouch u a) s h ok na pl b g = acts.acts_change w (Vouch u a) s (ActStands h.long) (holds_stands h.long) (λ x e p. record {
   first = λ c q f v. let m = marked_found c a book.is_vouched x.places q (λ p. refl) f in subst (λ z. z.prepared ≡ true) m.2 (vouch_first (m.0.actor == a) m.0 (λ i. own x e c m.0 m.1 i) (p.first c m.0 m.1) (subst (λ z. z.vouched ≡ true) (sym m.2) v));
   on = λ d f. mark_on u a book.is_vouched h.long x.places (λ p. refl) (p.on d f);
 }) g
@@ -351,9 +328,9 @@ stands_kept w (Vouch u a) s h ok na pl b g = acts.acts_keep w (Vouch u a) s (Act
         let z = and_parts (is_live_act x) (not (is_doomed x.status) && holds (λ p. p.prepared && not p.vouched) (joined_of a x)) (some_of (λ x. is_live_act x && (not (is_doomed x.status) && holds (λ p. p.prepared && not p.vouched) (joined_of a x))) (act_of u s.book.acts) x e ok.0) in
         let y = and_parts (not (is_doomed x.status)) (holds (λ p. p.prepared && not p.vouched) (joined_of a x)) z.1 in
         (and_parts m.prepared (not m.vouched) (some_of (λ p. p.prepared && not p.vouched) (joined_of a x) m (subst (λ n. find (λ p. p.actor == n) x.places ≡ Some m) j f) y.1)).0
-stands_kept w (Decide u) s h ok na pl b g = acts.acts_keep w (Decide u) s (ActStands h.long) (holds_stands h.long) (λ x e p. record { first = p.first; on = λ d f. p.on (sym (decided_doom s.book.next_c (is_value x.result) x.status) ∙ d) f }) g
-stands_kept w (Seal u) s h ok na pl b g = acts.acts_keep w (Seal u) s (ActStands h.long) (holds_stands h.long) (λ x e p. record { first = p.first; on = λ d f. p.on (sym (sealed_doom x.status) ∙ d) f }) g
-stands_kept w (Finish u a) s h ok na pl b g = acts.acts_keep w (Finish u a) s (ActStands _) (holds_stands _) (λ x e p. record {
+stands_kept w (Decide u) s h ok na pl b g = acts.acts_change w (Decide u) s (ActStands h.long) (holds_stands h.long) (λ x e p. record { first = p.first; on = λ d f. p.on (sym (decided_doomed s.book.next_c (is_value x.result) x.status) ∙ d) f }) g
+stands_kept w (Seal u) s h ok na pl b g = acts.acts_change w (Seal u) s (ActStands h.long) (holds_stands h.long) (λ x e p. record { first = p.first; on = λ d f. p.on (sym (sealed_doomed x.status) ∙ d) f }) g
+stands_kept w (Finish u a) s h ok na pl b g = acts.acts_change w (Finish u a) s (ActStands _) (holds_stands _) (λ x e p. record {
   first = λ c q f v. let m = marked_found c a book.has_left x.places q (λ p. refl) f in subst (λ z. z.prepared ≡ true) m.2 (leave_first (m.0.actor == a) m.0 (p.first c m.0 m.1) (subst (λ z. z.vouched ≡ true) (sym m.2) v));
   on = λ d f. mark_on u a book.has_left (grown w (Finish u a) s h).long x.places (λ p. refl) (p.on d f);
 }) (stands_on h.long _ s.book.acts (λ t x e d f c o. at_left t x e d f c o) g)
@@ -368,4 +345,4 @@ stands_kept w (Finish u a) s h ok na pl b g = acts.acts_keep w (Finish u a) s (A
             or_no : (x y : Bool) → x ≡ false → y ≡ false → (x || y) ≡ false
             or_no true y d f = absurd (true≢false d)
             or_no false y d f = f
-stands_kept w e s h ok na pl b g = acts.acts_keep w e s (ActStands h.long) (holds_stands h.long) tt g
+stands_kept w e s h ok na pl b g = acts.acts_change w e s (ActStands h.long) (holds_stands h.long) tt g

@@ -16,10 +16,9 @@ use Rattle.protocol.specs.OnDesk as desk
 use Rattle.protocol_laws.specs.Logged.{durable_at, BatchSure, EachBatch, BatchesSure, actors_of, InfoIs, Infos}
 use Rattle.protocol_laws.proofs.machine.MarksKept as marks
 use Rattle.protocol_laws.proofs.first.EpochsKept as epochs
-use Rattle.protocol_laws.proofs.first.SettlingKept as settling
-use Rattle.protocol_laws.proofs.first.SettlingKeys as keys
 use Rattle.protocol_laws.proofs.crash.Durable.{durable_stays, durable_is, all_added, synced_same}
-use Rattle.protocol_laws.proofs.first.Lists.{all_mapped, all_weaker, some_of}
+use Rattle.protocol_laws.proofs.first.Lists.{all_map, some_of, weaker}
+use Rattle.protocol_laws.proofs.first.Statuses.{if_bid}
 
 -- ---- any fact
 
@@ -39,7 +38,7 @@ each_map : (P : ℕ → Batch → Type 0) (f : Batch → Batch) (bs : List Batch
 each_map P f bs i k h = λ j c e. let g = marks.found_mapped f i j c bs e in subst (P j) g.2 (k j g.0 g.1 (h j g.0 g.1))
 
 each_changed : (P : ℕ → Batch → Type 0) (k : ℕ) (f : Batch → Batch) (bs : List Batch) → ((b : Batch) → (f b).bid ≡ b.bid) → ((b : Batch) → batch_of k bs ≡ Some b → P k b → P k (f b)) → EachBatch P bs → EachBatch P (desk.changed_batch k f bs)
-each_changed P k f bs i own h = each_map P (λ b. desk.change_if (b.bid == k) f b) bs (λ b. marks.if_bid (b.bid == k) f b (i b)) (λ j b e p. by j b e p (b.bid == k) refl) h
+each_changed P k f bs i own h = each_map P (λ b. desk.change_if (b.bid == k) f b) bs (λ b. if_bid (b.bid == k) f b (i b)) (λ j b e p. by j b e p (b.bid == k) refl) h
   where
     by : (j : ℕ) (b : Batch) → batch_of j bs ≡ Some b → P j b → (v : Bool) → (b.bid == k) ≡ v → P j (desk.change_if v f b)
     by j b e p true q =
@@ -91,12 +90,12 @@ kept_sure : (many : ℕ) (logs : List Log) → KeptBatch (BatchSure many logs)
 kept_sure many logs = record {
   pacts = λ k t r b p. record { noted = p.noted; info = p.info; settled = p.settled };
   aborted = λ k b v p. record { noted = p.noted; info = p.info; settled = p.settled };
-  trimmed = λ k a b p. record { noted = all_mapped (NotedSure many logs k) (NotedSure many logs k) _ b.places (λ x h. trim_one many logs k (x.actor == a) x h) p.noted; info = p.info; settled = p.settled };
+  trimmed = λ k a b p. record { noted = all_map (NotedSure many logs k) (NotedSure many logs k) _ b.places (λ x h. trim_one many logs k (x.actor == a) x h) p.noted; info = p.info; settled = p.settled };
 }
 
 grows : {C : Type 0} (w : Fixed C) (e : Event) (s : Machine C) → EachBatch (BatchSure w.text.logs s.logs) s.desk.batches → EachBatch (BatchSure w.text.logs (after w e s).logs) s.desk.batches
 grows w e s h = λ k b q. let p = h k b q in record {
-  noted = all_weaker (NotedSure w.text.logs s.logs k) (NotedSure w.text.logs (after w e s).logs k) b.places (λ x g v. durable_stays w e s _ _ (g v)) p.noted;
+  noted = weaker (NotedSure w.text.logs s.logs k) (NotedSure w.text.logs (after w e s).logs k) b.places (λ x g v. durable_stays w e s _ _ (g v)) p.noted;
   info = λ v. durable_stays w e s _ _ (p.info v);
   settled = λ v. durable_stays w e s _ _ (p.settled v);
 }
@@ -114,7 +113,7 @@ pub sure_kept : {C : Type 0} (w : Fixed C) (e : Event) (s : Machine C) → IsAll
 unfolding BatchesSure ReadyBatch conditions after
 sure_kept w (Form k) s ok g = batches_keep w (Form k) s (BatchSure w.text.logs (after w (Form k) s).logs) (kept_sure w.text.logs _) (record { noted = new_noted w.text.logs _ k (ring.next_actors w.text s.ring); info = λ q. absurd (true≢false q); settled = λ q. absurd (true≢false (sym q)) }) (grows w (Form k) s g)
 sure_kept w (Note k a) s ok g = batches_keep w (Note k a) s (BatchSure w.text.logs s.logs) (kept_sure w.text.logs _)
-    (λ b e p. record { noted = all_mapped (NotedSure w.text.logs s.logs k) (NotedSure w.text.logs s.logs k) _ b.places (λ x h. note_one w.text.logs s.logs k a (x.actor == a) x refl (durable_is (is_complete k a) s.logs (a % w.text.logs) ok.1.0) h) p.noted; info = p.info; settled = p.settled }) g
+    (λ b e p. record { noted = all_map (NotedSure w.text.logs s.logs k) (NotedSure w.text.logs s.logs k) _ b.places (λ x h. note_one w.text.logs s.logs k a (x.actor == a) x refl (durable_is (is_complete k a) s.logs (a % w.text.logs) ok.1.0) h) p.noted; info = p.info; settled = p.settled }) g
 sure_kept w (Commit k) s ok g = batches_keep w (Commit k) s (BatchSure w.text.logs (after w (Commit k) s).logs) (kept_sure w.text.logs _)
     (λ b e p. record { noted = p.noted; info = λ q. durable_stays w (Commit k) s (is_info k) (k % w.text.logs) (durable_is (is_info k) s.logs (k % w.text.logs) ok.1.1.1.0); settled = λ q. absurd (true≢false (sym q)) }) (grows w (Commit k) s g)
 sure_kept w (Settle k) s ok g = batches_keep w (Settle k) s (BatchSure w.text.logs s.logs) (kept_sure w.text.logs _)
@@ -143,7 +142,7 @@ if_actors true f b h = h
 if_actors false f b h = refl
 
 changed_actors : (k j : ℕ) (f : Batch → Batch) (bs : List Batch) → ((b : Batch) → (f b).bid ≡ b.bid) → ((b : Batch) → map (λ p. p.actor) (f b).places ≡ map (λ p. p.actor) b.places) → actors_of (batch_of j (desk.changed_batch k f bs)) ≡ actors_of (batch_of j bs)
-changed_actors k j f bs i e = same_actors (λ b. desk.change_if (b.bid == k) f b) bs (λ b. marks.if_bid (b.bid == k) f b (i b)) (λ b. if_actors (b.bid == k) f b (e b)) j
+changed_actors k j f bs i e = same_actors (λ b. desk.change_if (b.bid == k) f b) bs (λ b. if_bid (b.bid == k) f b (i b)) (λ b. if_actors (b.bid == k) f b (e b)) j
 
 more_actors : (k : ℕ) (n : Batch) (bs : List Batch) (xs : List ℕ) → actors_of (batch_of k bs) ≡ Some xs → actors_of (batch_of k (bs ++ n ∷ [])) ≡ Some xs
 more_actors k n [] xs h = absurd (cc h)
@@ -176,7 +175,7 @@ actors_stay w e s j xs h = h
 -- ---- each record of a batch that was formed has its actors
 
 infos_stay : {C : Type 0} (w : Fixed C) (e : Event) (s : Machine C) (rs : List LogRecord) → AllByRecursion (InfoIs s.desk.batches) rs → AllByRecursion (InfoIs (after w e s).desk.batches) rs
-infos_stay w e s rs h = all_weaker (InfoIs s.desk.batches) (InfoIs (after w e s).desk.batches) rs (λ r p. one r p) h
+infos_stay w e s rs h = weaker (InfoIs s.desk.batches) (InfoIs (after w e s).desk.batches) rs (λ r p. one r p) h
   where
     one : (r : LogRecord) → InfoIs s.desk.batches r → InfoIs (after w e s).desk.batches r
     one (BatchInfo k actors tids) p = actors_stay w e s k actors p
@@ -252,11 +251,3 @@ filled_kept w (Settle k) s t ok g = batches_keep w (Settle k) s _ holds_filled (
 filled_kept w e s t ok g = batches_keep w e s _ holds_filled tt g
 
 -- ---- of each batch that is found, so of each
-
-pub each_all : (P : ℕ → Batch → Type 0) (low high : ℕ) (bs : List Batch) → keys.Rises low high (map settling.key_of bs) → EachBatch P bs → AllByRecursion (λ b. P b.bid b) bs
-unfolding keys.Rises
-each_all P low high [] r h = tt
-each_all P low high (b ∷ bs) r h = (h b.bid b (rw (Rattle.std.proofs.lemmas.Bool.eq-eqb b.bid b.bid refl) refl), each_all P (b.bid + 1) high bs r.1 (λ k c e. h k c (rw (Rattle.std.proofs.lemmas.Bool.ne_eqb b.bid k (λ q. omega (arith, q, above k c (b.bid + 1) bs r.1 e))) e)))
-  where
-    above : (k : ℕ) (c : Batch) (j : ℕ) (bs : List Batch) → keys.Rises j high (map settling.key_of bs) → batch_of k bs ≡ Some c → j ≤ k
-    above k c j bs r e = let i = settling.in_keys c (λ x. x.bid == k) bs e in let g = keys.rises_within j high (settling.key_of c) (map settling.key_of bs) r i.0 in omega (arith, g.0, eqb-true c.bid k i.1)

@@ -33,10 +33,9 @@ use Rattle.protocol_laws.proofs.crash.KeptSure.{kept_sure}
 use Rattle.protocol_laws.proofs.crash.DonesSure.{there_kept, done_sure, in_front}
 use Rattle.protocol_laws.proofs.crash.ActPlaces.{on_joined, prepared_kept, stands_kept}
 use Rattle.protocol_laws.proofs.crash.TellsKept.{telling_kept, told_join}
-use Rattle.protocol_laws.proofs.crash.RecoverLists.{filter_join}
 use Rattle.protocol_laws.proofs.crash.RecoversKept.{recovers_kept}
 use Rattle.protocol_laws.proofs.crash.CrashImplied.{Members, members_serial}
-use Rattle.protocol_laws.proofs.first.Lists.{any_take}
+use Rattle.protocol_laws.proofs.first.Lists.{any_take, filter_join}
 
 -- ---- all of it, along a run
 

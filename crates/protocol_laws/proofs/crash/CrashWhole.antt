@@ -1,5 +1,5 @@
 -- A commit record that is in a cut rests on records that are in it.
-use Rattle.std.specs.Prelude.{◌≡◌, refl, ℕ, ◌%◌, ◌==◌, nat_le, not, Bool, true, false, ◌&&◌, ◌||◌, ◌⊎◌, if◌then◌else◌, Option, Some, None, is_some, List, [], ◌∷◌, ◌++◌, map, take, slice_index_or}
+use Rattle.std.specs.Prelude.{◌≡◌, refl, ℕ, ◌%◌, ◌==◌, nat_le, Bool, true, false, ◌||◌, if◌then◌else◌, Some, List, [], ◌∷◌, ◌++◌, map}
 use Rattle.std.specs.List.{AllByRecursion, list_any, list_all}
 use Rattle.std.proofs.Common.{sym, ap, subst, ◌∙◌}
 use Rattle.std.proofs.lemmas.Bool.{true≢false, and_parts, eqb-true, not-true}
@@ -21,7 +21,7 @@ use Rattle.protocol_laws.proofs.machine.AllGood.{AllGood}
 use Rattle.protocol_laws.proofs.machine.ActsKept.{Acts}
 use Rattle.protocol_laws.proofs.crash.KeptSure.{there_is}
 use Rattle.protocol_laws.proofs.crash.CrashParts.{Logs, durable_in, in_kept}
-use Rattle.protocol_laws.proofs.first.Lists.{all_mid}
+use Rattle.protocol_laws.proofs.first.Lists.{all_mid, all_take}
 
 -- where a record stands
 record InfoAt (k : ℕ) (rs : List LogRecord) : Type 0 where
@@ -62,11 +62,6 @@ commit_at t (BatchInfo j actors tids ∷ rs) h = let g = commit_at t rs h in rec
 commit_at t (BatchComplete j a st ∷ rs) h = let g = commit_at t rs h in record { m = g.m; c = g.c; actors = g.actors; front = BatchComplete j a st ∷ g.front; rest = g.rest; splits = ap (λ l. BatchComplete j a st ∷ l) g.splits }
 commit_at t (BatchCommit j ∷ rs) h = let g = commit_at t rs h in record { m = g.m; c = g.c; actors = g.actors; front = BatchCommit j ∷ g.front; rest = g.rest; splits = ap (λ l. BatchCommit j ∷ l) g.splits }
 commit_at t (ActPrepare u a st ∷ rs) h = let g = commit_at t rs h in record { m = g.m; c = g.c; actors = g.actors; front = ActPrepare u a st ∷ g.front; rest = g.rest; splits = ap (λ l. ActPrepare u a st ∷ l) g.splits }
-
-all_take : {X : Type 0} (P : X → Type 0) (n : ℕ) (xs : List X) → AllByRecursion P xs → AllByRecursion P (take n xs)
-all_take P Rattle.std.specs.Prelude.zero xs h = tt
-all_take P (Rattle.std.specs.Prelude.suc n) [] h = tt
-all_take P (Rattle.std.specs.Prelude.suc n) (x ∷ xs) h = (h.0, all_take P n xs h.1)
 
 pub some_is : {X : Type 0} (x y : X) → Some x ≡ Some y → x ≡ y
 some_is x y e = cc e

@@ -24,7 +24,7 @@ use Rattle.protocol_laws.proofs.machine.AllGood as all
 use Rattle.protocol_laws.proofs.crash.OnLong.{on_stays}
 use Rattle.protocol_laws.proofs.crash.KeptSure.{commit_sure, decide_sure, at_decide}
 use Rattle.protocol_laws.proofs.crash.Durable.{any_back, sure_stays}
-use Rattle.protocol_laws.proofs.first.Lists.{all_join, all_weaker, any_front, any_join}
+use Rattle.protocol_laws.proofs.first.Lists.{all_join, any_front, any_join, weaker}
 
 -- ---- who committed is there
 
@@ -56,11 +56,11 @@ act_there c h (Some x) = (record { known = known (is_value x.result); there = λ
 
 pub there_kept : {C : Type 0} (w : Fixed C) (Of : Tx → C → Type 0) (finish : C → List State → Alone) (e : Event) (s : Machine C) (h : History) → Given w Of finish → IsAllowed w e s → AllGood w Of finish s h → AllThere h → AllThere (grown w e s h)
 unfolding AllThere grown
-there_kept w Of finish (Commit k) s h v ok g q = all_join _ h.committed _ (all_weaker (IsThere h.kept h.long) (IsThere (h.kept ++ OfBatch k ∷ []) h.long) h.committed (λ d p. record { known = λ u. any_front (λ z. is_who z d.who) h.kept _ (p.known u); there = p.there }) q)
+there_kept w Of finish (Commit k) s h v ok g q = all_join _ h.committed _ (weaker (IsThere h.kept h.long) (IsThere (h.kept ++ OfBatch k ∷ []) h.long) h.committed (λ d p. record { known = λ u. any_front (λ z. is_who z d.who) h.kept _ (p.known u); there = p.there }) q)
     (none_or k h _ (batch_of k s.desk.batches) (any_back (λ z. is_who z (OfBatch k)) h.kept (OfBatch k ∷ []) (or_left (k == k) false (Rattle.std.proofs.lemmas.Bool.eq-eqb k k refl))))
-there_kept w Of finish (Decide t) s h v ok g q = all_join _ h.committed _ (all_weaker (IsThere h.kept h.long) (IsThere (h.kept ++ kept_act (act_of t s.book.acts)) h.long) h.committed (λ d p. record { known = λ u. any_front (λ z. is_who z d.who) h.kept _ (p.known u); there = p.there }) q)
+there_kept w Of finish (Decide t) s h v ok g q = all_join _ h.committed _ (weaker (IsThere h.kept h.long) (IsThere (h.kept ++ kept_act (act_of t s.book.acts)) h.long) h.committed (λ d p. record { known = λ u. any_front (λ z. is_who z d.who) h.kept _ (p.known u); there = p.there }) q)
     (act_there s.book.next_c h (act_of t s.book.acts))
-there_kept w Of finish e s h v ok g q = all_weaker (IsThere h.kept h.long) (IsThere h.kept (grown w e s h).long) h.committed
+there_kept w Of finish e s h v ok g q = weaker (IsThere h.kept h.long) (IsThere h.kept (grown w e s h).long) h.committed
     (λ d p. record { known = p.known; there = λ a o u. on_stays w e s h a d.who (whole.for_chain w Of finish e s h v ok (all.owes w Of finish e s h ok g) g.good) g.good.committed (p.known u) ∙ p.there a o u }) q
 
 -- ---- in the order of commits
@@ -82,7 +82,7 @@ any_came a y (d ∷ ds) h = elim (or_cases (came_valued a d && not (is_who y d.w
 
 own_done : (sure : Who → Bool) (a : ℕ) (y : Who) (es : List Done) → AllByRecursion (λ e. e.who ≡ y) es → DoneSure sure a es
 own_done sure a y [] h = tt
-own_done sure a y (d ∷ ds) h = ((λ e q. absurd (none_other a d.who ds (all_weaker (λ e. e.who ≡ y) (λ e. e.who ≡ d.who) ds (λ e i. i ∙ sym h.0) h.1) q)), own_done sure a y ds h.1)
+own_done sure a y (d ∷ ds) h = ((λ e q. absurd (none_other a d.who ds (weaker (λ e. e.who ≡ y) (λ e. e.who ≡ d.who) ds (λ e i. i ∙ sym h.0) h.1) q)), own_done sure a y ds h.1)
 
 more_done : (sure : Who → Bool) (a : ℕ) (y : Who) (ds es : List Done) → AllByRecursion (λ e. e.who ≡ y) es → (list_any (came_valued a) es ≡ true → AllByRecursion (λ d. came_valued a d ≡ true → sure d.who ≡ true) ds) → DoneSure sure a ds → DoneSure sure a (ds ++ es)
 more_done sure a y [] es i k h = own_done sure a y es i
@@ -118,7 +118,7 @@ came_act c t a h o x e f q = subst (λ u. is_on (OfAct u) (h.long a) ≡ true) f
 ])
 
 came_sure : (sure : Who → Bool) (kept : List Who) (long : ℕ → List Ran) (a : ℕ) (ds : List Done) → ((z : Who) → is_kept z kept ≡ true → is_on z (long a) ≡ true → sure z ≡ true) → AllByRecursion (IsThere kept long) ds → AllByRecursion (λ d. came_valued a d ≡ true → sure d.who ≡ true) ds
-came_sure sure kept long a ds k h = all_weaker (IsThere kept long) (λ d. came_valued a d ≡ true → sure d.who ≡ true) ds (λ d p q. let v = and_parts (is_some (d.views a)) (is_value d.result) q in k d.who (p.known v.1) (p.there a v.0 v.1)) h
+came_sure sure kept long a ds k h = weaker (IsThere kept long) (λ d. came_valued a d ≡ true → sure d.who ≡ true) ds (λ d p q. let v = and_parts (is_some (d.views a)) (is_value d.result) q in k d.who (p.known v.1) (p.there a v.0 v.1)) h
 
 pub done_sure : {C : Type 0} (w : Fixed C) (Of : Tx → C → Type 0) (finish : C → List State → Alone) (e : Event) (s : Machine C) (h : History) → IsAllowed w e s → AllGood w Of finish s h → BatchesSure w s → AllGoneSure w s h → AllThere h → AllDoneSure w s h → AllDoneSure w (after w e s) (grown w e s h)
 unfolding AllDoneSure AllThere grown

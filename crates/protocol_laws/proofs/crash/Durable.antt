@@ -1,8 +1,8 @@
 -- What is durable stays so, and what is added is in one log.
-use Rattle.std.specs.Prelude.{◌≡◌, refl, ℕ, zero, suc, ◌%◌, ◌==◌, Bool, true, false, ◌⊎◌, if◌then◌else◌, Option, Some, None, List, [], ◌∷◌, ◌++◌, length, map, take, slice_get, slice_index_or, slice_set}
+use Rattle.std.specs.Prelude.{◌≡◌, refl, ℕ, zero, suc, ◌%◌, Bool, true, false, ◌⊎◌, if◌then◌else◌, Option, Some, None, List, [], ◌∷◌, ◌++◌, length, map, take, slice_get, slice_index_or, slice_set}
 use Rattle.std.specs.List.{AllByRecursion, list_any}
 use Rattle.std.proofs.Common.{sym, ap, inl, inr, ◌∙◌}
-use Rattle.std.proofs.lemmas.Bool.{true≢false, or_cases, or_left, or_right, eqb-true}
+use Rattle.std.proofs.lemmas.Bool.{true≢false, or_cases, or_left, or_right}
 use Rattle.protocol.specs.Fixed.{Fixed}
 use Rattle.protocol.specs.Records.{LogRecord, is_info, is_complete, is_commit, is_prepare, is_act_commit}
 use Rattle.protocol.specs.Parts.{Act, Who, OfBatch, OfAct, Log, Machine}
@@ -94,12 +94,6 @@ durable_is p (x ∷ xs) zero h = h
 durable_is p (x ∷ xs) (suc l) h = durable_is p xs l h
 
 -- ---- who has a commit record committed
-
-kept_self : (y : Who) (kept : List Who) → is_who y y ≡ true → is_kept y (kept ++ y ∷ []) ≡ true
-kept_self y kept e = any_back (λ z. is_who z y) kept (y ∷ []) (or_left (is_who y y) false e)
-
-same_n : (n : ℕ) → (n == n) ≡ true
-same_n n = Rattle.std.proofs.lemmas.Bool.eq-eqb n n refl
 
 act_written : (t c : ℕ) (kept : List Who) (o : Option Act) → list_any (is_act_commit t) (act_commit c o) ≡ true → is_kept (OfAct t) (kept ++ kept_act o) ≡ true
 act_written t c kept None h = absurd (true≢false (sym h))

@@ -11,7 +11,7 @@ use Rattle.protocol.specs.Fixed.{Fixed, Next, Go, Ended}
 use Rattle.protocol.specs.Records.{LogRecord, is_commit, is_act_commit}
 use Rattle.protocol.specs.Parts.{Act, Batch, Cascade, Who, OfBatch, OfAct, Pair, Status, Live, Doomed, Decided, Sealed, Stage, Formed, Committing, Settled, Log, Outcome, Cell, Machine}
 use Rattle.protocol.specs.Events.{Event, Form, Admit, Arrive, Ask, Run, End, Complete, Sync, Note, Commit, Settle, Abort, Rollback, Prepare, Vouch, Decide, Seal, Finish, Trim}
-use Rattle.protocol.specs.Words.{holds, is_who, is_failure, is_value, is_durable, is_formed, is_settled, is_sealed, is_doomed, is_live_status, batch_of, act_of, has_act, outcome_of, is_ended, is_ordered}
+use Rattle.protocol.specs.Words.{holds, is_who, is_failure, is_value, is_durable, is_settled, is_sealed, is_doomed, is_live_status, batch_of, act_of, has_act, outcome_of, is_ended, is_ordered}
 use Rattle.protocol.specs.Spread.{raised, carried, crossed_out, is_crossed, doomed_by_order}
 use Rattle.protocol.specs.Conditions.{IsAllowed, conditions}
 use Rattle.protocol.specs.Effects.{after, cell_at, log_at, no_log, no_cell, added}
@@ -28,7 +28,8 @@ use Rattle.protocol_laws.proofs.machine.ControlWalk.{AllControls}
 use Rattle.protocol_laws.proofs.machine.ActResults as results
 use Rattle.protocol_laws.proofs.machine.ActResults.{NoneActed}
 use Rattle.protocol_laws.proofs.machine.ActsKept.{Acts}
-use Rattle.protocol_laws.proofs.order.RunsBefore.{batch_back, batch_more, if_bid, if_open, if_tid}
+use Rattle.protocol_laws.proofs.order.RunsBefore.{batch_back, batch_more, if_open}
+use Rattle.protocol_laws.proofs.first.Statuses.{if_bid, if_tid}
 
 -- ---- logs only grow, and so does what is durable in them
 
@@ -73,11 +74,6 @@ durable_stays w (Decide t) s p i = log_set p s.logs _ i _ (adds_grow p _ (log_at
 durable_stays w e s p i = λ q. q
 
 -- ---- who settled
-
-settled_not : (st : Stage) → is_formed st ≡ true → is_settled st ≡ true → ⊥
-settled_not Formed e q = true≢false (sym q)
-settled_not Committing e q = true≢false (sym q)
-settled_not Settled e q = true≢false (sym e)
 
 abbrev pub is_settled_batch : Batch → Bool
 is_settled_batch b = is_settled b.stage
@@ -169,7 +165,7 @@ raised_back t ps (x ∷ xs) h = by (x.tid == t) h (raised_back t ps xs)
     by true h r = h
     by false h r = r h
 
-asked_back : {C : Type 0} (u t a : ℕ) (o : Option ℕ) (c : Cell C) (b : Rattle.protocol.specs.Parts.Book) → holds is_sealed_act (act_of u (book.asked_acts o (book.met t c) t a (max c.last c.floor) b)) ≡ true → holds is_sealed_act (act_of u b.acts) ≡ true
+asked_back : {C : Type 0} (u t a : ℕ) (o : Option ℕ) (c : Cell C) (b : Rattle.protocol.specs.Parts.Book) → holds is_sealed_act (act_of u (book.asked_acts o (book.met t c.entries) t a (max c.last c.floor) b)) ≡ true → holds is_sealed_act (act_of u b.acts) ≡ true
 asked_back u t a (Some older) c b h = changed u t (book.doomed_by (Rattle.protocol.specs.Verdicts.died a older t)) b.acts (λ x. refl) (λ x q. doom_sealed (is_live_status x.status) _ x.status x.result q) h
 asked_back u t a None c b h = changed u t (book.joins a (max c.last c.floor)) b.acts (λ x. refl) (λ x q. q) (raised_back u _ _ (by_order u a _ h))
 
@@ -234,7 +230,7 @@ sealed_was : {C : Type 0} (w : Fixed C) (e : Event) (s : Machine C) (h : History
 unfolding conditions after
 sealed_was w (Admit u) s h t ok i n q = inl (act_more t _ s.book.acts refl q)
 sealed_was w (Arrive k a) s h t ok i n q = inl (act_back (book.lowered k (book.tids_on (cell_at s a).entries)) (λ x. refl) (λ x q. q) t s.book.acts (by_order t a _ q))
-sealed_was w (Ask u a) s h t ok i n q = inl (asked_back t u a (book.in_the_way u (cell_at s a)) (cell_at s a) s.book q)
+sealed_was w (Ask u a) s h t ok i n q = inl (asked_back t u a (book.in_the_way u (cell_at s a).entries) (cell_at s a) s.book q)
 sealed_was {C} w (End u a) s h t ok i n q = inl (by (has_act u (cell_at s a).entries) (outcome_of u (cell_at s a).outbox) q)
   where
     next : (x : Next C) → holds is_sealed_act (act_of t (book.noted_for u x s.book.acts)) ≡ true → holds is_sealed_act (act_of t s.book.acts) ≡ true
@@ -364,7 +360,7 @@ trims_settled k bs q h = by (batch_of k bs) h
 gone_before : {C : Type 0} (w : Fixed C) (e : Event) (s : Machine C) (h : History) → IsAllowed w e s → Acts s h → Durable w s h → (a : ℕ) → AllGone (λ y. has_record w s y ≡ true) ((grown w e s h).long a)
 unfolding conditions grown
 gone_before w (Arrive k a) s h ok i g = beside_carried (λ b rs. AllGone (λ y. has_record w s y ≡ true) rs) a _ h.long (λ x. gone_more _ (OfBatch k) (h.long a) x) g.gone
-gone_before w (Ask t a) s h ok i g = beside_carried (λ b rs. AllGone (λ y. has_record w s y ≡ true) rs) a _ h.long (λ x. gone_asks _ t (book.in_the_way t (cell_at s a)) (h.long a) x) g.gone
+gone_before w (Ask t a) s h ok i g = beside_carried (λ b rs. AllGone (λ y. has_record w s y ≡ true) rs) a _ h.long (λ x. gone_asks _ t (book.in_the_way t (cell_at s a).entries) (h.long a) x) g.gone
 gone_before w (Run t a) s h ok i g = beside_carried (λ b rs. AllGone (λ y. has_record w s y ≡ true) rs) a _ h.long (λ x. gone_ran _ _ _ (h.long a) x) g.gone
 gone_before w (Complete k a) s h ok i g = beside_carried (λ b rs. AllGone (λ y. has_record w s y ≡ true) rs) a _ h.long (λ x. gone_completed _ k (h.long a) x) g.gone
 gone_before w (Rollback a) s h ok i g = beside_carried (λ b rs. AllGone (λ y. has_record w s y ≡ true) rs) a _ h.long (λ x. gone_staying _ s.book.cascades (h.long a) x) g.gone

@@ -270,7 +270,7 @@ there_more kept more a ds new rs n h = subst (AllByRecursion (λ d. (is_kept d.w
 pub there_kept : {C : Type 0} (w : Fixed C) (e : Event) (s : Machine C) (h : History) → IsAllowed w e s → chain.Assumed e s h → Committed w h → ((a : ℕ) → ThereAt h.kept h.committed a (h.long a)) → (a : ℕ) → ThereAt (grown w e s h).kept (grown w e s h).committed a ((grown w e s h).long a)
 unfolding chain.Assumed Committed grown
 there_kept w (Arrive k a) s h ok m c g = beside_carried (ThereAt h.kept h.committed) a _ h.long (λ x. there_change h.kept h.committed a (h.long a) _ (λ y k2 e. long_more y (OfBatch k) (h.long a) e) x) g
-there_kept w (Ask t a) s h ok m c g = beside_carried (ThereAt h.kept h.committed) a _ h.long (λ x. there_asks h.kept h.committed a t (book.in_the_way t (cell_at s a)) (h.long a) x) g
+there_kept w (Ask t a) s h ok m c g = beside_carried (ThereAt h.kept h.committed) a _ h.long (λ x. there_asks h.kept h.committed a t (book.in_the_way t (cell_at s a).entries) (h.long a) x) g
 there_kept w (Run t a) s h ok m c g = beside_carried (ThereAt h.kept h.committed) a _ h.long (λ x. there_change h.kept h.committed a (h.long a) _ (λ y k e. long_ran y _ _ (h.long a) ∙ e) x) g
 there_kept w (Complete k a) s h ok m c g = beside_carried (ThereAt h.kept h.committed) a _ h.long (λ x. there_change h.kept h.committed a (h.long a) _ (λ y k2 e. long_completed y k (h.long a) ∙ e) x) g
 there_kept w (Rollback a) s h ok m c g = beside_carried (ThereAt h.kept h.committed) a _ h.long (λ x. there_change h.kept h.committed a (h.long a) _ (λ y k e. long_staying_kept h.kept y s.book.cascades (h.long a) k m (c a).front e) x) g

@@ -17,7 +17,7 @@ use Rattle.protocol.specs.Chains.{chain, Precedes, IsClosed}
 use Rattle.protocol_laws.specs.Linked.{came_to, visitors}
 use Rattle.protocol.specs.Moments.{Moment, IsLeft, left_in}
 use Rattle.protocol_laws.specs.Crash.{HasMember, members, valued, CrashStands, AtEveryMoment}
-use Rattle.protocol_laws.proofs.first.Lists.{all_filter, filter_join, join_assoc}
+use Rattle.protocol_laws.proofs.first.Lists.{all_back, all_filter, all_mid, filter_join, join_assoc}
 use Rattle.protocol_laws.proofs.machine.Good.{Given, for_chain}
 use Rattle.protocol_laws.proofs.machine.AllGood.{owes, along_good, none_allowed}
 use Rattle.protocol_laws.proofs.machine.CommitsKept as committing
@@ -32,7 +32,7 @@ use Rattle.protocol_laws.proofs.crash.FrontsKept.{valued_join}
 use Rattle.protocol_laws.proofs.crash.CrashImplied.{moment_is_cut, front_runs, members_valued}
 use Rattle.protocol_laws.proofs.crash.CrashSerial.{recovers, front_at, members_recover}
 use Rattle.protocol_laws.proofs.crash.CrashClosed.{goes_on}
-use Rattle.protocol_laws.proofs.crash.Acknowledged.{at_split, acknowledged}
+use Rattle.protocol_laws.proofs.crash.Acknowledged.{acknowledged}
 use Rattle.protocol_laws.proofs.machine.AlongHistory
 use Rattle.protocol_laws.proofs.crash.RecordsKept.{RecordsAreKept, in_is_kept}
 use Rattle.protocol_laws.proofs.crash.RecordsKept as records
@@ -172,21 +172,17 @@ members_closed {C} w finish es m left f text run l some t u mine before value =
     in_chain P g = subst (AllByRecursion P) (sym along ∙ p.splits) (all_filter P (came_to a) h.committed g)
 
     of_first : (P : Done → Type 0) → AllByRecursion P h.committed → P p.first
-    of_first P g = at_split P p.front p.first (p.between ++ p.second ∷ p.rest) (in_chain P g)
-
-    back : (P : Done → Type 0) (xs ys : List Done) → AllByRecursion P (xs ++ ys) → AllByRecursion P ys
-    back P [] ys g = g
-    back P (x ∷ xs) ys g = back P xs ys g.1
+    of_first P g = all_mid P p.first p.front (p.between ++ p.second ∷ p.rest) (in_chain P g)
 
     of_second : (P : Done → Type 0) → AllByRecursion P h.committed → P p.second
-    of_second P g = at_split P p.between p.second p.rest ((back P p.front (p.first ∷ (p.between ++ p.second ∷ p.rest)) (in_chain P g)).1)
+    of_second P g = all_mid P p.second p.between p.rest ((all_back P p.front (p.first ∷ (p.between ++ p.second ∷ p.rest)) (in_chain P g)).1)
 
     unique : AllByRecursion (λ d. AllByRecursion (λ e. e.tid ≡ d.tid → e ≡ d) h.committed) h.committed
     unique = pairs h.committed end.owned.differ
 
     first_value : is_value p.first.result ≡ true
     first_value =
-        let one = at_split (λ e. e.tid ≡ p.first.tid → e ≡ p.first) value.front value.done value.rest (subst (AllByRecursion (λ e. e.tid ≡ p.first.tid → e ≡ p.first)) value.splits (of_first (λ d. AllByRecursion (λ e. e.tid ≡ d.tid → e ≡ d) h.committed) unique)) in
+        let one = all_mid (λ e. e.tid ≡ p.first.tid → e ≡ p.first) value.done value.front value.rest (subst (AllByRecursion (λ e. e.tid ≡ p.first.tid → e ≡ p.first)) value.splits (of_first (λ d. AllByRecursion (λ e. e.tid ≡ d.tid → e ≡ d) h.committed) unique)) in
         ap (λ z. is_value z.result) (sym (one (value.is_it ∙ sym p.is_first))) ∙ value.value
 
     front_all : (P : Done → Type 0) (xs ys : List Done) → AllByRecursion P (xs ++ ys) → AllByRecursion P xs
@@ -198,14 +194,14 @@ members_closed {C} w finish es m left f text run l some t u mine before value =
     same =
         let all = of_second (λ d. AllByRecursion (λ e. e.tid ≡ d.tid → e ≡ d) h.committed) unique in
         let early_ones = front_all (λ e. e.tid ≡ p.second.tid → e ≡ p.second) (history w m.events).committed more.0 (subst (AllByRecursion (λ e. e.tid ≡ p.second.tid → e ≡ p.second)) more.1 all) in
-        let one = at_split (λ e. e.tid ≡ p.second.tid → e ≡ p.second) mine.front mine.done mine.rest (subst (AllByRecursion (λ e. e.tid ≡ p.second.tid → e ≡ p.second)) mine.splits (all_filter (λ e. e.tid ≡ p.second.tid → e ≡ p.second) _ (history w m.events).committed early_ones)) in
+        let one = all_mid (λ e. e.tid ≡ p.second.tid → e ≡ p.second) mine.done mine.front mine.rest (subst (AllByRecursion (λ e. e.tid ≡ p.second.tid → e ≡ p.second)) mine.splits (all_filter (λ e. e.tid ≡ p.second.tid → e ≡ p.second) _ (history w m.events).committed early_ones)) in
         one (mine.is_it ∙ sym p.is_second)
 
     second_value : is_value p.second.result ≡ true
-    second_value = ap (λ z. is_value z.result) (sym same) ∙ at_split (λ d. is_value d.result ≡ true) mine.front mine.done mine.rest (subst (AllByRecursion (λ d. is_value d.result ≡ true)) mine.splits (members_valued w.text.logs (left_in (reached w m.events) left) (history w m.events).committed))
+    second_value = ap (λ z. is_value z.result) (sym same) ∙ all_mid (λ d. is_value d.result ≡ true) mine.done mine.front mine.rest (subst (AllByRecursion (λ d. is_value d.result ≡ true)) mine.splits (members_valued w.text.logs (left_in (reached w m.events) left) (history w m.events).committed))
 
     second_came : came_to a p.second ≡ true
-    second_came = at_split (λ d. came_to a d ≡ true) p.between p.second p.rest ((back (λ d. came_to a d ≡ true) p.front (p.first ∷ (p.between ++ p.second ∷ p.rest)) (subst (AllByRecursion (λ d. came_to a d ≡ true)) (sym along ∙ p.splits) (all_tested (came_to a) h.committed))).1)
+    second_came = all_mid (λ d. came_to a d ≡ true) p.second p.between p.rest ((all_back (λ d. came_to a d ≡ true) p.front (p.first ∷ (p.between ++ p.second ∷ p.rest)) (subst (AllByRecursion (λ d. came_to a d ≡ true)) (sym along ∙ p.splits) (all_tested (came_to a) h.committed))).1)
 
     parted : vals p.front ++ p.first ∷ (vals p.between ++ p.second ∷ vals p.rest) ≡ valued a ms ++ rest
     parted =

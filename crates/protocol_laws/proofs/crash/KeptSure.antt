@@ -8,9 +8,9 @@ use Rattle.snap_base.specs.declared.transactions.Tx.{Tx}
 use Rattle.snap_base.specs.declared.transactions.State.{State}
 use Rattle.protocol.specs.Facts.{Alone}
 use Rattle.protocol.specs.Fixed.{Fixed, base}
-use Rattle.protocol.specs.Parts.{Act, Batch, Declared, Stage, Formed, Committing, Settled, Cascade, Status, Who, OfBatch, OfAct, Waiting, Cell, Machine}
+use Rattle.protocol.specs.Parts.{Act, Batch, Stage, Formed, Committing, Settled, Cascade, Who, OfBatch, OfAct, Waiting, Machine}
 use Rattle.protocol.specs.Events.{Event, Commit, Decide}
-use Rattle.protocol.specs.Words.{holds, is_who, is_value, is_doomed, is_live_status, is_settled, is_committing, is_formed, is_open, is_next_to_commit, is_aborted, act_of, batch_of, declared_of, waiting_of, is_ordered}
+use Rattle.protocol.specs.Words.{holds, is_who, is_value, is_doomed, is_live_status, is_settled, is_committing, is_formed, is_open, is_next_to_commit, is_aborted, act_of, batch_of, declared_of, waiting_of}
 use Rattle.protocol.specs.Conditions.{IsAllowed, conditions}
 use Rattle.protocol.specs.Effects.{after, cell_at}
 use Rattle.protocol.specs.History.{History, Ran, Stands, Gone, grown, kept_act}
@@ -23,7 +23,6 @@ use Rattle.protocol_laws.specs.Logged.{is_sure, is_on, GoneSure, AllGoneSure, Ke
 use Rattle.protocol_laws.proofs.machine.TrackLists
 use Rattle.protocol_laws.proofs.machine.TracksKept.{Tracked}
 use Rattle.protocol_laws.proofs.machine.TurnsKept.{one_is}
-use Rattle.protocol_laws.proofs.machine.ControlWalk.{all_found}
 use Rattle.protocol_laws.proofs.first.SettlingKept as settling
 use Rattle.protocol_laws.proofs.first.SettlingKeys as keys
 use Rattle.protocol_laws.proofs.machine.BatchesCommit.{KeyOrder, GoodKey, OfDesk, key_order}
@@ -32,14 +31,15 @@ use Rattle.protocol_laws.proofs.machine.BeforesKept.{Numbers}
 use Rattle.protocol_laws.proofs.machine.BehindKept.{Behind, AllBehind}
 use Rattle.protocol_laws.proofs.machine.StartsKept.{Starts, Started, ran_there}
 use Rattle.protocol_laws.proofs.machine.ActResults as results
-use Rattle.protocol_laws.proofs.machine.ActsOwed.{top_at, sound_at, good_keys, live_not_doomed}
+use Rattle.protocol_laws.proofs.machine.ActsOwed.{top_at, sound_at, good_keys}
 use Rattle.protocol_laws.proofs.machine.Good as whole
 use Rattle.protocol_laws.proofs.machine.Good.{Given, Good}
 use Rattle.protocol_laws.proofs.machine.AllGood.{AllGood}
 use Rattle.protocol_laws.proofs.machine.AllGood as all
 use Rattle.protocol_laws.proofs.crash.OnLong.{on_kept, on_key, on_stays}
 use Rattle.protocol_laws.proofs.crash.Durable.{sure_stays}
-use Rattle.protocol_laws.proofs.first.Lists.{any_join, some_of}
+use Rattle.protocol_laws.proofs.first.Lists.{all_found, any_join, some_of}
+use Rattle.protocol_laws.proofs.first.Statuses.{live_not_doomed, live_unordered}
 
 -- ---- along one long schedule
 
@@ -216,7 +216,7 @@ commit_sure w Of finish k a s h ok g b gs on z kz oz =
     let good : AllByRecursion (GoodKey a s.desk.batches) (keys_in (h.long a)) = subst (AllByRecursion (GoodKey a s.desk.batches)) (g.good.tracked a).stands (good_keys a s.desk.batches (cell_at s a).entries (g.good.from_desk.entries a)) in
     let d : is_declared k a s.desk.batches ≡ true = declared_at a k s.desk.batches (keys_in (h.long a)) (on_key h.kept (OfBatch k) (h.long a) fresh front on) good in
     let p = one_is (λ x. true) (declared_of a c.batch) (there_is (declared_of a c.batch) (some_of (λ b. is_some (declared_of a b)) (batch_of k s.desk.batches) c.batch c.found d)) in
-    let over = all_found (λ p. p.noted ≡ true → IsOver k s.book.cascades (h.long p.actor)) (λ p. p.actor == a) p.0 c.batch.places p.1 (g.good.marked k c.batch c.found).noted in
+    let over = all_found (λ p. p.noted ≡ true → IsOver k s.book.cascades (h.long p.actor)) (λ p. p.actor == a) c.batch.places p.0 (g.good.marked k c.batch c.found).noted p.1 in
     elim (subst (λ v. IsOver k s.book.cascades (h.long v)) (eqb-true p.0.actor a over.1) (over.0 (list_all_at (λ p. p.actor == a) (λ p. p.noted) p.0 c.batch.places p.1 c.noted))) [
       | inl q ↦ absurd (true≢false (sym q ∙ c.sound))
       | inr q ↦ ahead_of_batch (is_sure w.text.logs s.logs) h.kept k a s.desk.batches (h.long a) z fresh (λ j e. kept_settled w k j s h ok g.good.settling g.good.known g.good.marked b e) (gs a) front q (subst KeyOrder (g.good.tracked a).stands (key_order (cell_at s a).entries (g.good.from_desk.in_order a))) good kz oz
@@ -243,12 +243,6 @@ pub record AtDecide {C : Type 0} (s : Machine C) (h : History) (t : ℕ) : Type 
   pub fresh : is_kept (OfAct t) h.kept ≡ false
   pub away : (a : ℕ) → is_some (waiting_of t (cell_at s a).inbox) ≡ false
 
-live_not_placed : (st : Status) → is_live_status st ≡ true → is_ordered st ≡ false
-live_not_placed Rattle.protocol.specs.Parts.Live e = refl
-live_not_placed (Rattle.protocol.specs.Parts.Doomed v) e = absurd (true≢false (sym e))
-live_not_placed (Rattle.protocol.specs.Parts.Decided c) e = absurd (true≢false (sym e))
-live_not_placed (Rattle.protocol.specs.Parts.Sealed c) e = absurd (true≢false (sym e))
-
 pub at_decide : {C : Type 0} (w : Fixed C) (Of : Tx → C → Type 0) (finish : C → List State → Alone) (t : ℕ) (s : Machine C) (h : History) → IsAllowed w (Decide t) s → AllGood w Of finish s h → AtDecide s h t
 unfolding conditions Rattle.protocol_laws.proofs.machine.ActsKept.Acts
 at_decide {C} w Of finish t s h ok g =
@@ -262,7 +256,7 @@ at_decide {C} w Of finish t s h ok g =
       has_result = v.0;
       live = v.1;
       low = omega (arith, l, g.sizes.based);
-      fresh = (g.acts t x.0 x.1).known ∙ ap (λ q. q && is_value x.0.result) (live_not_placed x.0.status v.1);
+      fresh = (g.acts t x.0 x.1).known ∙ ap (λ q. q && is_value x.0.result) (live_unordered x.0.status v.1);
       away = λ a. false_from_ne_true (is_some (waiting_of t (cell_at s a).inbox)) (λ q. true≢false (sym v.0 ∙ ap is_some (results.waiting_none t a s q g.none t x.0 x.1 refl)));
     }
 

@@ -14,7 +14,7 @@ use Rattle.protocol.specs.Words.{holds, is_among, is_formed, is_value, is_comple
 use Rattle.protocol.specs.Conditions.{IsAllowed, conditions}
 use Rattle.protocol.specs.Effects.{after, cell_at, no_cell, log_at}
 use Rattle.protocol.specs.Runs.{opening, IsRun, reached}
-use Rattle.protocol.specs.History.{History, no_history, history}
+use Rattle.protocol.specs.History.{History, no_history, history, grown}
 use Rattle.protocol_laws.specs.Tracks.{key_of}
 use Rattle.protocol_laws.specs.Marks.{Known, Marked}
 use Rattle.protocol.specs.Moments.{IsCut, left_in}
@@ -114,9 +114,9 @@ pub record Both {C : Type 0} (w : Fixed C) (s : Machine C) (h : History) : Type 
   pub logs : Logs w s h
   pub once : Once w s
 
-opened : {C : Type 0} (w : Fixed C) → Both w (opening w) no_history
+pub both_opened : {C : Type 0} (w : Fixed C) → Both w (opening w) no_history
 unfolding AllOnce Declares Rattle.protocol_laws.proofs.crash.OnceKept.MarkedPrepared
-opened w = record {
+both_opened w = record {
   logs = Rattle.protocol_laws.proofs.crash.CrashParts.logs_opened w;
   once = record {
     once = λ a. subst (λ rs. OnceTold (told a rs)) (sym (Rattle.protocol_laws.proofs.crash.CrashParts.no_records w.text.logs (a % w.text.logs))) tt;
@@ -125,8 +125,11 @@ opened w = record {
   };
 }
 
-pub both_hold : {C : Type 0} (w : Fixed C) (Of : Tx → C → Type 0) (finish : C → List State → Alone) (es : List Event) → Given w Of finish → IsRun w es → Both w (reached w es) (history w es)
-both_hold w Of finish es v run = along_good w Of finish (Both w) v (λ e s h ok g b. record {
+pub both_kept : {C : Type 0} (w : Fixed C) (Of : Tx → C → Type 0) (finish : C → List State → Alone) (e : Event) (s : Machine C) (h : History) → Given w Of finish → IsAllowed w e s → AllGood w Of finish s h → Both w s h → Both w (after w e s) (grown w e s h)
+both_kept w Of finish e s h v ok g b = record {
   logs = Rattle.protocol_laws.proofs.crash.CrashParts.logs_kept w Of finish e s h v ok g b.logs;
   once = record { once = once_step w Of finish e s h ok g b.logs.telling b.once.marked b.once.once; marked = marked_step w e s ok b.once.marked; declares = declares_step w Of finish e s h ok g b.once.declares };
-}) (opened w) es run
+}
+
+pub both_hold : {C : Type 0} (w : Fixed C) (Of : Tx → C → Type 0) (finish : C → List State → Alone) (es : List Event) → Given w Of finish → IsRun w es → Both w (reached w es) (history w es)
+both_hold w Of finish es v run = along_good w Of finish (Both w) v (λ e s h ok g b. both_kept w Of finish e s h v ok g b) (both_opened w) es run

@@ -100,7 +100,7 @@ on_at y b a new long k = by (a == b) refl
 pub on_stays : {C : Type 0} (w : Fixed C) (e : Event) (s : Machine C) (h : History) (a : ℕ) (y : Who) → chain.Assumed e s h → Committed w h → is_kept y h.kept ≡ true → is_on y ((grown w e s h).long a) ≡ is_on y (h.long a)
 unfolding chain.Assumed Committed grown
 on_stays w (Arrive k b) s h a y am c q = on_at y b a _ h.long (on_more y (OfBatch k) (h.long b) (differs y (OfBatch k) h.kept q am))
-on_stays w (Ask t b) s h a y am c q = on_at y b a _ h.long (asked (book.in_the_way t (cell_at s b)))
+on_stays w (Ask t b) s h a y am c q = on_at y b a _ h.long (asked (book.in_the_way t (cell_at s b).entries))
   where
     asked : (o : Option ℕ) → is_on y (h.long b ++ map not_run (asks t o)) ≡ is_on y (h.long b)
     asked None = on_more y (OfAct t) (h.long b) (differs y (OfAct t) h.kept q am)
@@ -173,7 +173,7 @@ value_of (Some (Rattle.snap_base.specs.declared.transactions.TxResult.TheVariant
 pub gone_kept : {C : Type 0} (w : Fixed C) (e : Event) (s : Machine C) (h : History) → IsAllowed w e s → Acts s h → BatchesSure w s → ActsSure w s → AllGoneSure w s h → AllGoneSure w (after w e s) (grown w e s h)
 unfolding AllGoneSure BatchesSure ActsSure Acts conditions after grown
 gone_kept w (Arrive k a) s h ok i b x g = beside_carried (λ c long. GoneSure (is_sure w.text.logs s.logs) long) a _ h.long (gone_more _ (OfBatch k) (h.long a)) g
-gone_kept w (Ask t a) s h ok i b x g = beside_carried (λ c long. GoneSure (is_sure w.text.logs s.logs) long) a _ h.long (asked (book.in_the_way t (cell_at s a))) g
+gone_kept w (Ask t a) s h ok i b x g = beside_carried (λ c long. GoneSure (is_sure w.text.logs s.logs) long) a _ h.long (asked (book.in_the_way t (cell_at s a).entries)) g
   where
     asked : (o : Option ℕ) → GoneSure (is_sure w.text.logs s.logs) (h.long a) → GoneSure (is_sure w.text.logs s.logs) (h.long a ++ map not_run (asks t o))
     asked None z = gone_more _ (OfAct t) (h.long a) z

@@ -18,16 +18,17 @@ use Rattle.protocol.specs.OnBook as book
 use Rattle.protocol.specs.History.{History, grown}
 use Rattle.protocol_laws.specs.Logged.{logged_at, actors_of, ActsSure, ActsStand}
 use Rattle.protocol_laws.specs.Telling.{One, told, names, Telling}
+use Rattle.protocol_laws.proofs.machine.ActsFound as acts
+use Rattle.protocol_laws.proofs.machine.ActsFound.{HoldsAnyway}
 use Rattle.protocol_laws.proofs.machine.TracksKept.{held, Tracked}
 use Rattle.protocol_laws.proofs.machine.TurnsKept.{one_is}
 use Rattle.protocol_laws.proofs.machine.CommitsKept.{Committed}
-use Rattle.protocol_laws.proofs.crash.ActsChanged as acts
-use Rattle.protocol_laws.proofs.crash.ActsChanged.{Holds}
 use Rattle.protocol_laws.proofs.crash.ActPlaces.{fact_stays}
 use Rattle.protocol_laws.proofs.machine.AllGood.{AllGood}
 use Rattle.protocol_laws.proofs.crash.Durable.{logged_added, synced_same}
 use Rattle.protocol_laws.proofs.crash.TellsKept.{told_same, told_added, told_commit, told_all, completes_fresh, batch_unmarked, keys_at, differ_at}
 use Rattle.protocol_laws.proofs.crash.ToldOnce.{OnceTold, once_more, told_marked}
+use Rattle.protocol_laws.proofs.first.Lists.{some_held}
 
 -- the ACT is prepared at the place that is found
 abbrev pub is_prepared_at : ℕ → Act → Bool
@@ -36,7 +37,7 @@ is_prepared_at a x = holds (λ p. p.prepared) (joined_of a x)
 unfoldable pub MarkedPrepared : {C : Type 0} → Fixed C → Machine C → Type 0
 MarkedPrepared w s = (t a : ℕ) → logged_at (is_prepare t a) s.logs (a % w.text.logs) ≡ true → holds (is_prepared_at a) (act_of t s.book.acts) ≡ true
 
-holds_marked : (t a : ℕ) → Holds (λ u x. u ≡ t → is_prepared_at a x ≡ true)
+holds_marked : (t a : ℕ) → HoldsAnyway (λ u x. u ≡ t → is_prepared_at a x ≡ true)
 holds_marked t a = record { numbered = λ u x n p. p; doomed = λ u x v l p. p; rises = λ u k x l p. p }
 
 mark_found : (a b : ℕ) (f : Joined → Joined) (ps : List Joined) → ((p : Joined) → (f p).actor ≡ p.actor) → ((p : Joined) → p.prepared ≡ true → (f p).prepared ≡ true) → holds (λ p. p.prepared) (find (λ p. p.actor == a) ps) ≡ true → holds (λ p. p.prepared) (find (λ p. p.actor == a) (map (λ p. book.mark_if (p.actor == b) f p) ps)) ≡ true
@@ -63,14 +64,10 @@ more_found a n (p ∷ ps) h = by (p.actor == a) h (more_found a n ps)
     by true h r = h
     by false h r = r h
 
-some_held : {X : Type 0} (p : X → Bool) (o : Option X) → holds p o ≡ true → is_some o ≡ true
-some_held p None h = absurd (true≢false (sym h))
-some_held p (Some x) h = refl
-
-ready_marked : {C : Type 0} (w : Fixed C) (e : Event) (s : Machine C) (t a : ℕ) → holds (is_prepared_at a) (act_of t s.book.acts) ≡ true → acts.Ready w e s (λ u x. u ≡ t → is_prepared_at a x ≡ true)
-unfolding acts.Ready
+ready_marked : {C : Type 0} (w : Fixed C) (e : Event) (s : Machine C) (t a : ℕ) → holds (is_prepared_at a) (act_of t s.book.acts) ≡ true → acts.ReadyAll w e s (λ u x. u ≡ t → is_prepared_at a x ≡ true)
+unfolding acts.ReadyAll
 ready_marked w (Admit u) s t a q = λ e f. absurd (true≢false (sym (some_held (is_prepared_at a) (act_of t s.book.acts) q) ∙ ap is_some (ap (λ z. act_of z s.book.acts) (sym f) ∙ e)))
-ready_marked w (Ask u b) s t a q = λ x e p f. more_found a (record { actor = b; prepared = false; vouched = false; finished = false }) x.places (p f)
+ready_marked w (Ask u b) s t a q = λ o x e p f. more_found a (record { actor = b; prepared = false; vouched = false; finished = false }) x.places (p f)
 ready_marked w (End u b) s t a q = λ x r e p f. p f
 ready_marked w (Decide u) s t a q = λ x e p f. p f
 ready_marked w (Prepare u b) s t a q = λ x e p f. mark_found a b book.is_prepared x.places (λ p. refl) (λ p i. refl) (p f)
@@ -87,7 +84,7 @@ unfoldable pub AllOnce : {C : Type 0} → Fixed C → Machine C → Type 0
 AllOnce w s = (a : ℕ) → OnceTold (told a (log_at s (a % w.text.logs)).records)
 
 -- a batch that becomes complete was not told there
-batch_new : {C : Type 0} (w : Fixed C) (Of : Tx → C → Type 0) (finish : C → List State → Alone) (k a : ℕ) (s : Machine C) (h : History) → IsAllowed w (Complete k a) s → AllGood w Of finish s h → Telling w s h → names (OfBatch k) (told a (log_at s (a % w.text.logs)).records) ≡ false
+pub batch_new : {C : Type 0} (w : Fixed C) (Of : Tx → C → Type 0) (finish : C → List State → Alone) (k a : ℕ) (s : Machine C) (h : History) → IsAllowed w (Complete k a) s → AllGood w Of finish s h → Telling w s h → names (OfBatch k) (told a (log_at s (a % w.text.logs)).records) ≡ false
 unfolding conditions Telling Tracked Committed
 batch_new w Of finish k a s h ok g te =
     let u = batch_unmarked k (cell_at s a).entries (held (λ c. holds (λ e. not (is_complete_batch e)) (find (is_batch_entry k) c.entries)) s.cells a no_cell ok.0) (differ_at w s h a g.good.tracked) in
@@ -100,7 +97,7 @@ batch_new w Of finish k a s h ok g te =
     key_on y (Rattle.protocol.specs.History.Gone z ss ∷ rs) e = or_right (Rattle.protocol.specs.Words.is_who z y) _ (key_on y rs e)
 
 -- nor an ACT whose record is added
-act_new : {C : Type 0} (w : Fixed C) (t a : ℕ) (s : Machine C) → IsAllowed w (Prepare t a) s → MarkedPrepared w s → names (OfAct t) (told a (log_at s (a % w.text.logs)).records) ≡ false
+pub act_new : {C : Type 0} (w : Fixed C) (t a : ℕ) (s : Machine C) → IsAllowed w (Prepare t a) s → MarkedPrepared w s → names (OfAct t) (told a (log_at s (a % w.text.logs)).records) ≡ false
 unfolding conditions MarkedPrepared
 act_new w t a s ok m = all (told a (log_at s (a % w.text.logs)).records) (told_all (λ y. Rattle.protocol.specs.Words.is_who (OfAct t) y ≡ false) a (log_at s (a % w.text.logs)).records (λ k q. refl) (λ u q. false_from_ne_true (t == u) (λ i. none (subst (λ z. holds (is_prepared_at a) (act_of z s.book.acts) ≡ true) (sym (eqb-true t u i)) (m u a q)))))
   where

@@ -1,5 +1,5 @@
 -- Who has a commit record in a log has committed with a value.
-use Rattle.std.specs.Prelude.{◌≡◌, refl, ℕ, zero, suc, ◌%◌, ◌⊎◌, Bool, true, false, if◌then◌else◌, Option, Some, None, List, [], ◌∷◌, ◌++◌, take, map, replicate, slice_index_or, slice_set}
+use Rattle.std.specs.Prelude.{◌≡◌, refl, ℕ, zero, suc, ◌%◌, ◌⊎◌, Bool, true, false, if◌then◌else◌, Option, Some, None, List, [], ◌∷◌, ◌++◌, map, replicate, slice_index_or, slice_set}
 use Rattle.std.specs.List.{list_any}
 use Rattle.std.proofs.Common.{sym, subst, inl, inr, ◌∙◌}
 use Rattle.std.proofs.lemmas.Bool.{or_cases, or_left, or_right, true≢false}
@@ -14,6 +14,7 @@ use Rattle.protocol.specs.History.{History, no_history, grown, kept_act}
 use Rattle.protocol_laws.specs.Commits.{is_kept}
 use Rattle.protocol.specs.Moments.{left_in}
 use Rattle.protocol_laws.specs.Crash.{is_in}
+use Rattle.protocol_laws.proofs.first.Lists.{any_join, any_take}
 
 abbrev pub is_record_of : Who → LogRecord → Bool
 is_record_of (OfBatch k) r = is_commit k r
@@ -21,10 +22,6 @@ is_record_of (OfAct t) r = is_act_commit t r
 
 unfoldable pub RecordsAreKept : {C : Type 0} → Machine C → History → Type 0
 RecordsAreKept s h = (y : Who) (l : ℕ) → list_any (is_record_of y) (log_at s l).records ≡ true → is_kept y h.kept ≡ true
-
-any_join : {X : Type 0} (p : X → Bool) (xs ys : List X) → list_any p (xs ++ ys) ≡ true → (list_any p xs ≡ true) ⊎ (list_any p ys ≡ true)
-any_join p [] ys h = inr h
-any_join p (x ∷ xs) ys h = elim (or_cases (p x) (list_any p (xs ++ ys)) h) [ inl q ↦ inl (or_left (p x) (list_any p xs) q) | inr q ↦ elim (any_join p xs ys q) [ inl r ↦ inl (or_right (p x) (list_any p xs) r) | inr r ↦ inr r ] ]
 
 added_to : (p : LogRecord → Bool) (rs : List LogRecord) (logs : List Log) (l i : ℕ) (g : Log) → g ≡ slice_index_or logs l no_log → list_any p (slice_index_or (slice_set logs l (added rs g)) i no_log).records ≡ true
     → (list_any p (slice_index_or logs i no_log).records ≡ true) ⊎ (list_any p rs ≡ true)
@@ -98,12 +95,7 @@ opened w y l q = absurd (none w.text.logs l q)
     none (suc n) (suc l) q = none n l q
 
 -- who is in by what is left has committed by then
-any_taken : {X : Type 0} (p : X → Bool) (n : ℕ) (xs : List X) → list_any p (take n xs) ≡ true → list_any p xs ≡ true
-any_taken p zero xs e = absurd (true≢false (sym e))
-any_taken p (suc n) [] e = e
-any_taken p (suc n) (x ∷ xs) e = elim (or_cases (p x) (list_any p (take n xs)) e) [ inl q ↦ or_left (p x) _ q | inr q ↦ or_right (p x) _ (any_taken p n xs q) ]
-
 pub in_is_kept : {C : Type 0} (w : Fixed C) (s : Machine C) (h : History) (left : ℕ → ℕ) (y : Who) → RecordsAreKept s h → is_in w.text.logs (left_in s left) y ≡ true → is_kept y h.kept ≡ true
 unfolding RecordsAreKept
-in_is_kept w s h left (OfBatch k) g e = g (OfBatch k) (k % w.text.logs) (any_taken (is_commit k) (left (k % w.text.logs)) (log_at s (k % w.text.logs)).records e)
-in_is_kept w s h left (OfAct t) g e = g (OfAct t) (t % w.text.logs) (any_taken (is_act_commit t) (left (t % w.text.logs)) (log_at s (t % w.text.logs)).records e)
+in_is_kept w s h left (OfBatch k) g e = g (OfBatch k) (k % w.text.logs) (any_take (is_commit k) (left (k % w.text.logs)) (log_at s (k % w.text.logs)).records e)
+in_is_kept w s h left (OfAct t) g e = g (OfAct t) (t % w.text.logs) (any_take (is_act_commit t) (left (t % w.text.logs)) (log_at s (t % w.text.logs)).records e)

@@ -16,7 +16,7 @@ use Rattle.protocol_laws.proofs.machine.CommitLists.{slices_commit, last_more}
 use Rattle.protocol_laws.proofs.crash.OnLong.{on_key}
 use Rattle.protocol_laws.proofs.crash.TellLists.{linked_end, none_later, not_gone}
 use Rattle.protocol_laws.proofs.crash.Durable.{any_back}
-use Rattle.protocol_laws.proofs.first.Lists.{all_join, all_weaker, any_front, any_join, join_assoc}
+use Rattle.protocol_laws.proofs.first.Lists.{all_join, any_front, any_join, filter_join, join_assoc, weaker}
 
 -- ---- the state that is told when it commits
 
@@ -49,10 +49,6 @@ told_is s y st os kept (Gone x ss ∷ rs) o n f a h =
 
 -- ---- filters
 
-both_false : (x y : Bool) → (x && y) ≡ false → (x ≡ false) ⊎ (y ≡ false)
-both_false true y e = inr e
-both_false false y e = inl refl
-
 -- who came nowhere leaves nothing
 leaves_none : (a : ℕ) (p : Done → Bool) (s : State) (ds : List Done) → AllByRecursion (λ d. p d ≡ true → is_some (d.views a) ≡ false) ds → last_state a s (filter p ds) ≡ s
 leaves_none a p s [] h = refl
@@ -80,14 +76,6 @@ all_in a p s (d ∷ ds) h = by (p d) refl (λ z. all_in a p z ds h.1)
     by : (b : Bool) → p d ≡ b → ((z : State) → last_state a z (filter p ds) ≡ last_state a z ds) → last_state a s (if b then d ∷ filter p ds else filter p ds) ≡ last_state a (left_of a d s) ds
     by true e k = k (left_of a d s)
     by false e k = k s ∙ ap (λ z. last_state a z ds) (sym (none (d.views a) (is_value d.result) h.0 e))
-
-pub filter_join : {X : Type 0} (p : X → Bool) (xs ys : List X) → filter p (xs ++ ys) ≡ filter p xs ++ filter p ys
-filter_join p [] ys = refl
-filter_join p (x ∷ xs) ys = by (p x) (filter_join p xs ys)
-  where
-    by : (b : Bool) → filter p (xs ++ ys) ≡ filter p xs ++ filter p ys → (if b then x ∷ filter p (xs ++ ys) else filter p (xs ++ ys)) ≡ (if b then x ∷ filter p xs else filter p xs) ++ filter p ys
-    by true e = ap (λ l. x ∷ l) e
-    by false e = e
 
 filter_same : {X : Type 0} (p q : X → Bool) (xs : List X) → AllByRecursion (λ x. p x ≡ q x) xs → filter p xs ≡ filter q xs
 filter_same p q [] h = refl
@@ -181,15 +169,15 @@ recovers_commit a first kept committed ds y long os c r P f = elim (cases_Bool (
     whole py oy =
         lands first y (last_state a first (committed ++ ds)) kept (λ o. P o.who && is_kept o.who (kept ++ y ∷ [])) long os first c.fresh c.front oy
         (λ st later t. told_is first y st later kept long oy c.fresh c.front c.ahead t ∙ (ap (end_of first) (sym (slices_commit kept y long c.fresh c.differ c.ahead c.front)) ∙ sym (linked_end first (last_state a first (committed ++ ds)) (kept_slices (kept ++ y ∷ []) long) c.ends)))
-        (all_weaker (λ o. is_kept o.who (kept ++ y ∷ []) ≡ true → is_on o.who long ≡ true) (λ o. (P o.who && is_kept o.who (kept ++ y ∷ [])) ≡ true → (is_kept o.who kept ≡ true) × (is_on o.who long ≡ true) ⊎ (is_who y o.who ≡ true)) os
+        (weaker (λ o. is_kept o.who (kept ++ y ∷ []) ≡ true → is_on o.who long ≡ true) (λ o. (P o.who && is_kept o.who (kept ++ y ∷ [])) ≡ true → (is_kept o.who kept ≡ true) × (is_on o.who long ≡ true) ⊎ (is_who y o.who ≡ true)) os
         (λ o k v. let u = and_parts (P o.who) (is_kept o.who (kept ++ y ∷ [])) v in elim (kept_end y o.who kept u.1) [ inl i ↦ inl (i, k u.1) | inr i ↦ inr i ]) c.recorded)
         (λ o e. let j = TrackLists.is_who_true y o.who e in both (P o.who) _ (subst (λ z. P z ≡ true) j py) (subst (λ z. is_kept z (kept ++ y ∷ []) ≡ true) j self_kept))
         (c.has_record oy) c.tells
-        ∙ sym (all_in a (λ d. P d.who && is_value d.result) first (committed ++ ds) (all_join (λ d. is_some (d.views a) ≡ true → is_value d.result ≡ true → (P d.who && is_value d.result) ≡ true) committed ds (all_weaker _ _ committed (λ d k v u. let i = k v u in both (P d.who) (is_value d.result) (front_all P (λ z. is_on z long) kept y d.who f oy py i.0 i.1) u) c.there) (all_weaker (λ d. d.who ≡ y) (λ d. is_some (d.views a) ≡ true → is_value d.result ≡ true → (P d.who && is_value d.result) ≡ true) ds (λ d i v u. both (P d.who) (is_value d.result) (subst (λ z. P z ≡ true) (sym i) py) u) c.own)))
+        ∙ sym (all_in a (λ d. P d.who && is_value d.result) first (committed ++ ds) (all_join (λ d. is_some (d.views a) ≡ true → is_value d.result ≡ true → (P d.who && is_value d.result) ≡ true) committed ds (weaker _ _ committed (λ d k v u. let i = k v u in both (P d.who) (is_value d.result) (front_all P (λ z. is_on z long) kept y d.who f oy py i.0 i.1) u) c.there) (weaker (λ d. d.who ≡ y) (λ d. is_some (d.views a) ≡ true → is_value d.result ≡ true → (P d.who && is_value d.result) ≡ true) ds (λ d i v u. both (P d.who) (is_value d.result) (subst (λ z. P z ≡ true) (sym i) py) u) c.own)))
 
     same : (P y && is_on y long) ≡ false → last_one first (filter (λ o. P o.who && is_kept o.who (kept ++ y ∷ [])) os) ≡ last_state a first (filter (λ d. P d.who && is_value d.result) (committed ++ ds))
     same e =
-        ap (last_one first) (filter_same (λ o. P o.who && is_kept o.who (kept ++ y ∷ [])) (λ o. P o.who && is_kept o.who kept) os (all_weaker (λ o. is_kept o.who (kept ++ y ∷ []) ≡ true → is_on o.who long ≡ true) (λ o. (P o.who && is_kept o.who (kept ++ y ∷ [])) ≡ (P o.who && is_kept o.who kept)) os (λ o k. one o.who k) c.recorded))
+        ap (last_one first) (filter_same (λ o. P o.who && is_kept o.who (kept ++ y ∷ [])) (λ o. P o.who && is_kept o.who kept) os (weaker (λ o. is_kept o.who (kept ++ y ∷ []) ≡ true → is_on o.who long ≡ true) (λ o. (P o.who && is_kept o.who (kept ++ y ∷ [])) ≡ (P o.who && is_kept o.who kept)) os (λ o k. one o.who k) c.recorded))
         ∙ (r P (front_part P (λ z. is_on z long) kept y f)
         ∙ sym (ap (last_state a first) (filter_join (λ d. P d.who && is_value d.result) committed ds) ∙ (last_more a first (filter (λ d. P d.who && is_value d.result) committed) (filter (λ d. P d.who && is_value d.result) ds)
         ∙ leaves_none a (λ d. P d.who && is_value d.result) _ ds (away ds c.own c.came))))

@@ -23,7 +23,6 @@ use Rattle.protocol_laws.specs.Telling.{One, told, names, Telling, FrontIn, last
 use Rattle.protocol_laws.proofs.machine.TrackLists
 use Rattle.protocol_laws.proofs.machine.TracksKept.{Tracked}
 use Rattle.protocol_laws.proofs.machine.TurnsKept.{one_is}
-use Rattle.protocol_laws.proofs.machine.ControlWalk.{all_found}
 use Rattle.protocol_laws.proofs.machine.CommitsKept.{Committed, MayCommit, MayDecide}
 use Rattle.protocol_laws.proofs.machine.CommitsKept as chain
 use Rattle.protocol_laws.proofs.machine.BatchesCommit as commits
@@ -35,11 +34,12 @@ use Rattle.protocol_laws.proofs.machine.AllGood as all
 use Rattle.protocol_laws.proofs.crash.OnLong.{on_stays, on_key}
 use Rattle.protocol_laws.proofs.crash.Durable.{synced_same}
 use Rattle.protocol_laws.proofs.crash.KeptSure.{declared_at, list_all_at, at_commit, at_decide}
-use Rattle.protocol_laws.proofs.machine.ActsOwed.{good_keys, live_not_doomed}
+use Rattle.protocol_laws.proofs.machine.ActsOwed.{good_keys}
 use Rattle.protocol_laws.proofs.crash.DonesSure.{view_on, own_batch, own_act}
 use Rattle.protocol_laws.proofs.crash.TellsKept.{told_same, told_added, told_commit, told_all, completes_fresh, prepares_fresh}
-use Rattle.protocol_laws.proofs.crash.RecoverLists.{Commits1, recovers_commit, filter_join, both, kept_end}
-use Rattle.protocol_laws.proofs.first.Lists.{all_weaker, any_take}
+use Rattle.protocol_laws.proofs.crash.RecoverLists.{Commits1, recovers_commit, both, kept_end}
+use Rattle.protocol_laws.proofs.first.Lists.{all_found, any_take, filter_join, weaker}
+use Rattle.protocol_laws.proofs.first.Statuses.{live_not_doomed}
 
 -- ---- nothing commits
 
@@ -123,12 +123,6 @@ act_record_on w s h t a st pr q d =
     let v = and_parts (is_value x.0.result) (has_place a x.0) x.2 in
     place_on t a h.long x.0.places v.1 ((st t x.0 x.1).on (d x.0 x.1) (value_fails x.0.result v.0))
 
-pub record_on : {C : Type 0} (w : Fixed C) (Of : Tx → C → Type 0) (finish : C → List State → Alone) (s : Machine C) (h : History) (a : ℕ) → AllGood w Of finish s h → ActsStand s h → Prepared w s → AllByRecursion (λ o. is_kept o.who h.kept ≡ true → is_on o.who (h.long a) ≡ true) (told a (log_at s (a % w.text.logs)).records)
-unfolding Recorded Acts
-record_on w Of finish s h a g st pr = told_all (λ y. is_kept y h.kept ≡ true → is_on y (h.long a) ≡ true) a (log_at s (a % w.text.logs)).records
-    (λ k q kk. elim (g.good.recorded k a q) [ inl v ↦ absurd (true≢false (sym kk ∙ commits.cuts_fresh w s h g.good.settling g.good.known g.good.marked (OfBatch k) v)) | inr v ↦ done_on k (h.long a) v ])
-    (λ t q kk. act_record_on w s h t a st pr q (λ x e. placed_sound x.status (and_parts (is_ordered x.status) (is_value x.result) (sym (g.acts t x e).known ∙ kk)).0))
-
 -- who has a record is named
 pub named_batch : (k a : ℕ) (rs : List LogRecord) → list_any (is_complete k a) rs ≡ true → names (OfBatch k) (told a rs) ≡ true
 named_batch k a [] h = h
@@ -169,7 +163,7 @@ named_act t a (Rattle.protocol.specs.Records.ActCommit j m c actors ∷ rs) h = 
 -- ---- a batch or an ACT commits
 
 there_at : (kept : List Who) (long : ℕ → List Ran) (a : ℕ) (ds : List Done) → AllByRecursion (IsThere kept long) ds → AllByRecursion (λ d. is_some (d.views a) ≡ true → is_value d.result ≡ true → (is_kept d.who kept ≡ true) × (is_on d.who (long a) ≡ true)) ds
-there_at kept long a ds h = all_weaker (IsThere kept long) _ ds (λ d p v u. (p.known u, p.there a v u)) h
+there_at kept long a ds h = weaker (IsThere kept long) _ ds (λ d p v u. (p.known u, p.there a v u)) h
 
 came_batch : (k a : ℕ) (h : History) (ps : List Pact) → AllByRecursion (λ d. is_some (d.views a) ≡ true → is_on (OfBatch k) (h.long a) ≡ true) (map (done_pact k h) ps)
 came_batch k a h [] = tt
@@ -188,7 +182,7 @@ batch_record w Of finish k a s h ok g b on =
     let good = subst (AllByRecursion (commits.GoodKey a s.desk.batches)) (g.good.tracked a).stands (good_keys a s.desk.batches (cell_at s a).entries (g.good.from_desk.entries a)) in
     let d = declared_at a k s.desk.batches (keys_in (h.long a)) (on_key h.kept (OfBatch k) (h.long a) fresh (g.good.committed a).front on) good in
     let p = one_is (λ x. true) (declared_of a c.batch) (Rattle.protocol_laws.proofs.crash.KeptSure.there_is (declared_of a c.batch) (Rattle.protocol_laws.proofs.first.Lists.some_of (λ b. is_some (declared_of a b)) (batch_of k s.desk.batches) c.batch c.found d)) in
-    let n = all_found (λ p. p.noted ≡ true → durable_at (is_complete k p.actor) s.logs (p.actor % w.text.logs) ≡ true) (λ p. p.actor == a) p.0 c.batch.places p.1 (b k c.batch c.found).noted in
+    let n = all_found (λ p. p.noted ≡ true → durable_at (is_complete k p.actor) s.logs (p.actor % w.text.logs) ≡ true) (λ p. p.actor == a) c.batch.places p.0 (b k c.batch c.found).noted p.1 in
     let q = subst (λ z. durable_at (is_complete k z) s.logs (z % w.text.logs) ≡ true) (eqb-true p.0.actor a n.1) (n.0 (list_all_at (λ p. p.actor == a) (λ p. p.noted) p.0 c.batch.places p.1 c.noted)) in
     named_batch k a (log_at s (a % w.text.logs)).records (any_take (is_complete k a) (log_at s (a % w.text.logs)).synced (log_at s (a % w.text.logs)).records q)
 

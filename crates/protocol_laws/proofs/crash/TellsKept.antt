@@ -284,7 +284,7 @@ telling_kept w Of finish (Sync l) s h v ok g su st pr q = λ c. subst (λ rs. Al
 telling_kept w Of finish (Arrive k a) s h v ok g su st pr q = moved w s h a _
     (λ z. lists.all_tells (λ y. is_who (OfBatch k) y ≡ false) _ _ (h.long a) _ (λ y i later n x. lists.more _ y i later (OfBatch k) (h.long a) n x)
     (told_all (λ y. is_who (OfBatch k) y ≡ false) a (slice_index_or s.logs (a % w.text.logs) no_log).records (λ j r. none_arrives w Of finish k a s h ok g j r) (λ j r. refl)) z) q
-telling_kept w Of finish (Ask t a) s h v ok g su st pr q = moved w s h a _ (by (book.in_the_way t (cell_at s a))) q
+telling_kept w Of finish (Ask t a) s h v ok g su st pr q = moved w s h a _ (by (book.in_the_way t (cell_at s a).entries)) q
   where
     by : (o : Option ℕ) → TellsAt w s a (h.long a) → TellsAt w s a (h.long a ++ map not_run (asks t o))
     by (Some older) z = subst (TellsAt w s a) (sym (append-nil (h.long a))) z

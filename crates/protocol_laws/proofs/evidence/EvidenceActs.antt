@@ -22,11 +22,12 @@ use Rattle.protocol_laws.specs.Evidence.{PlacesOn}
 use Rattle.protocol_laws.proofs.machine.ControlWalk.{AllControls}
 use Rattle.protocol_laws.proofs.machine.TracksKept.{held}
 use Rattle.protocol_laws.proofs.machine.ActsFound as acts
-use Rattle.protocol_laws.proofs.machine.ActsFound.{EachAct, Holds, MappedFrom, RaisedFrom, found_map, found_raised, found_tid, if_tid}
+use Rattle.protocol_laws.proofs.machine.ActsFound.{EachAct, Holds, MappedFrom, RaisedFrom, found_map, found_raised, found_tid}
 use Rattle.protocol_laws.proofs.machine.ActResults as results
 use Rattle.protocol_laws.proofs.machine.ActResults.{NoneActed, NoActResult}
 use Rattle.protocol_laws.proofs.machine.ActsKept.{Acts, not_placed}
 use Rattle.protocol_laws.proofs.first.Lists.{some_of}
+use Rattle.protocol_laws.proofs.first.Statuses.{if_tid, ordered_not_live, sealed_not_decided}
 
 -- ---- who is decided has a value
 
@@ -35,12 +36,6 @@ HasValue t x = is_decided x.status ≡ true → is_value x.result ≡ true
 
 unfoldable pub DecidedHaveValues : {C : Type 0} → Machine C → Type 0
 DecidedHaveValues s = EachAct HasValue s.book.acts
-
-decided_sealed : (st : Status) → is_decided (book.sealed_status st) ≡ false
-decided_sealed Live = refl
-decided_sealed (Doomed v) = refl
-decided_sealed (Decided c) = refl
-decided_sealed (Sealed c) = refl
 
 decided_placed : (st : Status) → is_decided st ≡ true → is_ordered st ≡ true
 decided_placed Live e = e
@@ -59,7 +54,7 @@ value_holds : Holds HasValue
 value_holds = record {
   numbered = λ t x n p. p;
   marked = λ t a x f i p. p;
-  sealed = λ t x p e. absurd (true≢false (sym e ∙ decided_sealed x.status));
+  sealed = λ t x p e. absurd (true≢false (sym e ∙ sealed_not_decided x.status));
   doomed = λ t x v l p e. absurd (true≢false (sym e));
   rises = λ t k x l p. p;
 }
@@ -88,7 +83,7 @@ Cause t x y e s (verdicts.Committed p v) = (c : ℕ) × ((e ≡ Seal t) × ((x.s
 Cause t x y e s (verdicts.Code p c) = (e ≡ Decide t) × ((is_live_status x.status ≡ true) × ((x.result ≡ Some (Fail c)) × (act_place x.m s.book.next_c ≡ p)))
 Cause t x y e s (verdicts.BatchCode k c code) = ⊥
 Cause t x y e s (verdicts.Cascade k by) = (e ≡ Abort k.0) × ((is_live_status x.status ≡ true) × ((k.0 ≤ x.m) × (failed_tx (why k.0 s.desk) ≡ by.0)))
-Cause t x y e s (verdicts.Died a older own) = (e ≡ Ask own.0 a.0) × ((own.0 ≡ t) × ((is_live_status x.status ≡ true) × (in_the_way own.0 (cell_at s a.0) ≡ Some older.0)))
+Cause t x y e s (verdicts.Died a older own) = (e ≡ Ask own.0 a.0) × ((own.0 ≡ t) × ((is_live_status x.status ≡ true) × (in_the_way own.0 (cell_at s a.0).entries ≡ Some older.0)))
 Cause t x y e s (verdicts.Order m k a) = PlacesOn a.0 e s × ((is_live_status x.status ≡ true) × ((y.m ≡ m.0) × ((y.n ≡ Some k.0) × (k.0 ≤ m.0))))
 Cause t x y e s (verdicts.Unsure l) = ⊥
 
@@ -167,12 +162,6 @@ crossing e s t a x z p i j k l = by (is_crossed z) refl
 
 -- ---- an ACT asks
 
-ordered_not_live : (st : Status) → is_ordered st ≡ true → is_live_status st ≡ false
-ordered_not_live Live e = absurd (true≢false (sym e))
-ordered_not_live (Doomed v) e = refl
-ordered_not_live (Decided c) e = refl
-ordered_not_live (Sealed c) e = refl
-
 joined_if : (b : Bool) (a m : ℕ) (x : Act) → (b ≡ true → is_live_status x.status ≡ true) → (is_ordered x.status ≡ true → (book.change_if b (book.joins a m) x).m ≡ x.m)
 joined_if true a m x h l = absurd (true≢false (sym (h refl) ∙ ordered_not_live x.status l))
 joined_if false a m x h l = refl
@@ -189,16 +178,16 @@ joined_result : (b : Bool) (a m : ℕ) (x : Act) → (book.change_if b (book.joi
 joined_result true a m x = refl
 joined_result false a m x = refl
 
-asked : {C : Type 0} (s : Machine C) (u a : ℕ) → holds (λ x. is_live_status x.status) (act_of u s.book.acts) ≡ true → (o : Option ℕ) → in_the_way u (cell_at s a) ≡ o
-    → EachAct (MovedFrom (Ask u a) s) (book.asked_acts o (book.met u (cell_at s a)) u a (max (cell_at s a).last (cell_at s a).floor) s.book)
+asked : {C : Type 0} (s : Machine C) (u a : ℕ) → holds (λ x. is_live_status x.status) (act_of u s.book.acts) ≡ true → (o : Option ℕ) → in_the_way u (cell_at s a).entries ≡ o
+    → EachAct (MovedFrom (Ask u a) s) (book.asked_acts o (book.met u (cell_at s a).entries) u a (max (cell_at s a).last (cell_at s a).floor) s.book)
 asked s u a l (Some older) q = changed (Ask u a) s u (book.doomed_by (died a older u)) (λ x. refl) (λ x f. by x (some_of (λ x. is_live_status x.status) (act_of u s.book.acts) x f l))
   where
     by : (x : Act) → is_live_status x.status ≡ true → Moves (Ask u a) s u x (book.doomed_by (died a older u) x)
     by x g = doomed_now (Ask u a) s u x (book.doomed_by (died a older u) x) (died a older u) refl g (rw g refl) (refl, (refl, (g, q)))
 asked s u a l None q = λ t y f.
     let own = book.changed_act u (book.joins a (max (cell_at s a).last (cell_at s a).floor)) s.book.acts in
-    let g = found_map (crossed_out a) (λ x. refl) t y (raised (s.book.pairs ++ book.new_pairs u a (book.met u (cell_at s a)) s.book.acts) own) f in
-    let r = found_raised (s.book.pairs ++ book.new_pairs u a (book.met u (cell_at s a)) s.book.acts) t g.from own g.found in
+    let g = found_map (crossed_out a) (λ x. refl) t y (raised (s.book.pairs ++ book.new_pairs u a (book.met u (cell_at s a).entries) s.book.acts) own) f in
+    let r = found_raised (s.book.pairs ++ book.new_pairs u a (book.met u (cell_at s a).entries) s.book.acts) t g.from own g.found in
     let b = found_map (λ x. book.change_if (x.tid == u) (book.joins a (max (cell_at s a).last (cell_at s a).floor)) x) (λ x. if_tid (x.tid == u) (book.joins a (max (cell_at s a).last (cell_at s a).floor)) x refl) t r.from s.book.acts r.found in
     from (Ask u a) s t b.from y b.found (subst (Moves (Ask u a) s t b.from) g.is_it (subst (λ z. Moves (Ask u a) s t b.from (crossed_out a z)) r.is_it (subst (λ z. Moves (Ask u a) s t b.from (crossed_out a (record z { m = max z.m r.k }))) b.is_it (own_moves t b.from r.k b.found (λ d. r.placed (ap is_ordered (sym (ap (λ z. z.status) b.is_it) ∙ joined_status (b.from.tid == u) a _ b.from) ∙ d))))))
   where
@@ -291,7 +280,7 @@ became w (Arrive k a) s h ok l n i d = old (Arrive k a) s _ (λ t y f.
     let b = found_map (book.lowered k (book.tids_on (cell_at s a).entries)) (λ x. refl) t g.from s.book.acts g.found in
     from (Arrive k a) s t b.from y b.found (subst (Moves (Arrive k a) s t b.from) g.is_it (subst (λ z. Moves (Arrive k a) s t b.from (crossed_out a z)) b.is_it
     (crossing (Arrive k a) s t a b.from (book.lowered k (book.tids_on (cell_at s a).entries) b.from) (inl (k, refl)) refl refl refl (λ q. refl)))))
-became w (Ask u a) s h ok l n i d = old (Ask u a) s _ (asked s u a (l u a refl) (in_the_way u (cell_at s a)) refl)
+became w (Ask u a) s h ok l n i d = old (Ask u a) s _ (asked s u a (l u a refl) (in_the_way u (cell_at s a).entries) refl)
 became {C} w (End u a) s h ok l n i d = old (End u a) s _ (by (has_act u (cell_at s a).entries) (outcome_of u (cell_at s a).outbox))
   where
     next : (x : Next C) → EachAct (MovedFrom (End u a) s) (book.noted_for u x s.book.acts)

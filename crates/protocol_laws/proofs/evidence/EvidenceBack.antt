@@ -27,14 +27,15 @@ use Rattle.protocol_laws.specs.Evidence.{PlacesOn, Crosses, Fails, Gives}
 use Rattle.protocol_laws.proofs.first.SettlingKept as settling
 use Rattle.protocol_laws.proofs.first.SettlingKeys as keys
 use Rattle.protocol_laws.proofs.first.SettlingKeys.{OverBelow, IsIn}
-use Rattle.protocol_laws.proofs.machine.ActsFound.{found_map, found_raised, found_tid, if_tid}
+use Rattle.protocol_laws.proofs.machine.ActsFound.{found_map, found_raised, found_tid}
 use Rattle.protocol_laws.proofs.machine.Higher.{asks_live}
 use Rattle.protocol_laws.proofs.evidence.EvidenceActs as acts
 use Rattle.protocol_laws.proofs.evidence.EvidenceActs.{joined_status}
 use Rattle.protocol_laws.proofs.evidence.EvidencePacts.{named, tells, find_more, uncovered, found_bid}
 use Rattle.protocol_laws.proofs.evidence.EvidenceSaid.{IsOnce, by_act, by_pact}
 use Rattle.protocol_laws.proofs.evidence.EvidenceGiven.{Informed, in_way_back, why_is, same_some}
-use Rattle.protocol_laws.proofs.first.Lists.{some_of}
+use Rattle.protocol_laws.proofs.first.Lists.{some_is, some_of}
+use Rattle.protocol_laws.proofs.first.Statuses.{if_tid}
 
 abbrev pub Says : {C : Type 0} → Fixed C → ℕ → Verdict → Event → Machine C → Type 0
 Says w n v e s = verdict n (after w e s).book (after w e s).desk ≡ Some v
@@ -75,11 +76,11 @@ batch_changed f i k b bs e = batch_map (λ y. desk.change_if (y.bid == k) f y) (
 
 -- ---- an older holder
 
-dies_says : {C : Type 0} (w : Fixed C) (n a u t : ℕ) (x : Act) (s : Machine C) → holds (λ x. is_live_status x.status) (act_of t s.book.acts) ≡ true → IsOnce n (after w (Ask t a) s) → act_of t s.book.acts ≡ Some x → x.tx ≡ n → in_the_way t (cell_at s a) ≡ Some u → Says w n (died a u t) (Ask t a) s
+dies_says : {C : Type 0} (w : Fixed C) (n a u t : ℕ) (x : Act) (s : Machine C) → holds (λ x. is_live_status x.status) (act_of t s.book.acts) ≡ true → IsOnce n (after w (Ask t a) s) → act_of t s.book.acts ≡ Some x → x.tx ≡ n → in_the_way t (cell_at s a).entries ≡ Some u → Says w n (died a u t) (Ask t a) s
 unfolding after
 dies_says w n a u t x s l o f i q =
     by_act (after w (Ask t a) s) n t (book.doomed_by (died a u t) x) o
-    (subst (λ z. act_of t (book.asked_acts z (book.met t (cell_at s a)) t a (max (cell_at s a).last (cell_at s a).floor) s.book) ≡ Some (book.doomed_by (died a u t) x)) (sym q) (act_changed (book.doomed_by (died a u t)) (λ x. refl) t x s.book.acts f)) i
+    (subst (λ z. act_of t (book.asked_acts z (book.met t (cell_at s a).entries) t a (max (cell_at s a).last (cell_at s a).floor) s.book) ≡ Some (book.doomed_by (died a u t) x)) (sym q) (act_changed (book.doomed_by (died a u t)) (λ x. refl) t x s.book.acts f)) i
     ∙ said (is_live_status x.status) (some_of (λ x. is_live_status x.status) (act_of t s.book.acts) x f l)
   where
     said : (b : Bool) → b ≡ true → act_verdict (if b then Doomed (died a u t) else x.status) x.m x.result ≡ Some (died a u t)
@@ -115,12 +116,12 @@ crosses_says {C} w n m k a e s o r = by_act (after w e s) n r.tid r.next o r.fou
         let q = same_some (act_of r.tid s.book.acts) b.from r.act b.found r.is_act.found in
         (g.from, (g.is_it, (ap (λ z. z.status) (sym b.is_it) ∙ ap (λ z. z.status) q, ap (λ z. z.tx) (sym b.is_it) ∙ ap (λ z. z.tx) q)))
 
-    asked : (u : ℕ) → in_the_way u (cell_at s a) ≡ None → act_of r.tid (after w (Ask u a) s).book.acts ≡ Some r.next → (z : Act) × ((crossed_out a z ≡ r.next) × ((z.status ≡ r.act.status) × (z.tx ≡ r.act.tx)))
+    asked : (u : ℕ) → in_the_way u (cell_at s a).entries ≡ None → act_of r.tid (after w (Ask u a) s).book.acts ≡ Some r.next → (z : Act) × ((crossed_out a z ≡ r.next) × ((z.status ≡ r.act.status) × (z.tx ≡ r.act.tx)))
     asked u i f =
-        let h = subst (λ z. act_of r.tid (book.asked_acts z (book.met u (cell_at s a)) u a (max (cell_at s a).last (cell_at s a).floor) s.book) ≡ Some r.next) i f in
+        let h = subst (λ z. act_of r.tid (book.asked_acts z (book.met u (cell_at s a).entries) u a (max (cell_at s a).last (cell_at s a).floor) s.book) ≡ Some r.next) i f in
         let own = book.changed_act u (book.joins a (max (cell_at s a).last (cell_at s a).floor)) s.book.acts in
-        let g = found_map (crossed_out a) (λ x. refl) r.tid r.next (raised (s.book.pairs ++ book.new_pairs u a (book.met u (cell_at s a)) s.book.acts) own) h in
-        let p = found_raised (s.book.pairs ++ book.new_pairs u a (book.met u (cell_at s a)) s.book.acts) r.tid g.from own g.found in
+        let g = found_map (crossed_out a) (λ x. refl) r.tid r.next (raised (s.book.pairs ++ book.new_pairs u a (book.met u (cell_at s a).entries) s.book.acts) own) h in
+        let p = found_raised (s.book.pairs ++ book.new_pairs u a (book.met u (cell_at s a).entries) s.book.acts) r.tid g.from own g.found in
         let b = found_map (λ x. book.change_if (x.tid == u) (book.joins a (max (cell_at s a).last (cell_at s a).floor)) x) (λ x. if_tid (x.tid == u) (book.joins a (max (cell_at s a).last (cell_at s a).floor)) x refl) r.tid p.from s.book.acts p.found in
         let q = same_some (act_of r.tid s.book.acts) b.from r.act b.found r.is_act.found in (
           g.from,
@@ -226,10 +227,6 @@ named_in n p (q ∷ front) rest e = by (q.tx == n) (named_in n p front rest e)
     by : (b : Bool) → is_some (named n (front ++ p ∷ rest)) ≡ true → is_some (if b then Some q else named n (front ++ p ∷ rest)) ≡ true
     by true h = refl
     by false h = h
-
-some_is : {X : Type 0} (o : Option X) → is_some o ≡ true → (x : X) × (o ≡ Some x)
-some_is None e = absurd (true≢false (sym e))
-some_is (Some x) e = (x, refl)
 
 fails_says : {C : Type 0} (w : Fixed C) (n k c code : ℕ) (s : Machine C) → IsAllowed w (Abort k) s → settling.Settling w s → IsOnce n (after w (Abort k) s) → Fails n k c code (Abort k) s → Says w n (verdicts.BatchCode (record { 0 = k }) c code) (Abort k) s
 unfolding new_cascade

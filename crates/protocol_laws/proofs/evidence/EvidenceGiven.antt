@@ -22,7 +22,7 @@ use Rattle.protocol.specs.OnBook as book
 use Rattle.protocol.specs.OnBook.{in_the_way, why, failed_tx, failed_code}
 use Rattle.protocol.specs.History.{History}
 use Rattle.protocol_laws.specs.Evidence.{IsLeast, Fails, Gives}
-use Rattle.protocol_laws.proofs.first.Lists.{weaker}
+use Rattle.protocol_laws.proofs.first.Lists.{some_is, weaker}
 use Rattle.protocol_laws.proofs.machine.TurnsKept.{one_is}
 use Rattle.protocol_laws.proofs.first.SettlingKept as settling
 use Rattle.protocol_laws.proofs.first.PairsFound.{TidsAscend}
@@ -80,13 +80,13 @@ all_rivals : (t : Lock) (xs : List Lock) → filter (rivals t) xs ≡ xs
 all_rivals t [] = refl
 all_rivals t (x ∷ xs) = ap (λ l. x ∷ l) (all_rivals t xs)
 
-way_is : {C : Type 0} (s : Machine C) (t a : ℕ) → in_the_way t (cell_at s a) ≡ least_older t (tail_group (cell_at s a).entries)
+way_is : {C : Type 0} (s : Machine C) (t a : ℕ) → in_the_way t (cell_at s a).entries ≡ least_older t (tail_group (cell_at s a).entries)
 way_is s t a = ap (least_older t) (all_rivals (record { tid = t }) (tail_group (cell_at s a).entries))
 
-in_way : {C : Type 0} (s : Machine C) (t a u : ℕ) → in_the_way t (cell_at s a) ≡ Some u → IsLeast u (map (λ x. x.tid) (tail_group (cell_at s a).entries)) × (u < t)
+in_way : {C : Type 0} (s : Machine C) (t a u : ℕ) → in_the_way t (cell_at s a).entries ≡ Some u → IsLeast u (map (λ x. x.tid) (tail_group (cell_at s a).entries)) × (u < t)
 in_way s t a u e = subst (Spec t (map (λ x. x.tid) (tail_group (cell_at s a).entries))) (sym (way_is s t a) ∙ e) (least_is t (tail_group (cell_at s a).entries))
 
-pub in_way_back : {C : Type 0} (s : Machine C) (t a u : ℕ) → IsLeast u (map (λ x. x.tid) (tail_group (cell_at s a).entries)) → u < t → in_the_way t (cell_at s a) ≡ Some u
+pub in_way_back : {C : Type 0} (s : Machine C) (t a u : ℕ) → IsLeast u (map (λ x. x.tid) (tail_group (cell_at s a).entries)) → u < t → in_the_way t (cell_at s a).entries ≡ Some u
 in_way_back s t a u h l = way_is s t a ∙ one_least t u _ (least_older t (tail_group (cell_at s a).entries)) (least_is t (tail_group (cell_at s a).entries)) h l
 
 -- ---- the first that failed
@@ -187,10 +187,6 @@ same_some o x y e f = cc (sym e ∙ f)
 
 pub none_some : {X : Type 0} (o : Option X) (x : X) → o ≡ None → o ≡ Some x → ⊥
 none_some o x e f = cc (sym e ∙ f)
-
-some_is : {X : Type 0} (o : Option X) → is_some o ≡ true → (x : X) × (o ≡ Some x)
-some_is None e = absurd (true≢false (sym e))
-some_is (Some x) e = (x, refl)
 
 in_desk : {C : Type 0} (w : Fixed C) (e : Event) (s : Machine C) (k : ℕ) (b : Batch) → batch_of k s.desk.batches ≡ Some b → (c : Batch) × (batch_of k (after w e s).desk.batches ≡ Some c)
 in_desk w e s k b f = let g = one_is (λ b. true) (batch_of k (after w e s).desk.batches) (desk_stays w e s (λ b. true) (record { places = λ b a f i h. refl; pacts = λ b t r h. refl; stage = λ b st h. refl; aborted = λ b v h. refl }) k (subst (λ o. holds (λ b. true) o ≡ true) (sym f) refl)) in (g.0, g.1)

@@ -21,6 +21,7 @@ use Rattle.protocol_laws.proofs.first.SettlingKept as settling
 use Rattle.protocol_laws.proofs.first.SettlingKeys as keys
 use Rattle.protocol_laws.proofs.machine.ControlWalk.{AllControls}
 use Rattle.protocol_laws.proofs.machine.Resting.{NoResult, NoneNoted}
+use Rattle.protocol_laws.proofs.first.Statuses.{if_bid}
 
 -- ---- a batch that is no longer only formed has values
 
@@ -78,14 +79,6 @@ found_map f i k c (x ∷ xs) e = by (x.bid == k) refl (subst (λ z. (if z == k t
     by : (b : Bool) → (x.bid == k) ≡ b → (if b then Some (f x) else batch_of k (map f xs)) ≡ Some c → (batch_of k (map f xs) ≡ Some c → MappedFrom f k xs c) → MappedFrom f k (x ∷ xs) c
     by true q e r = record { from = x; found = rw q refl; is_it = cc e }
     by false q e r = let g = r e in record { from = g.from; found = rw q g.found; is_it = g.is_it }
-
-if_bid : (v : Bool) (f : Batch → Batch) (b : Batch) → (f b).bid ≡ b.bid → (desk.change_if v f b).bid ≡ b.bid
-if_bid true f b h = h
-if_bid false f b h = refl
-
--- numbers rise, so who has the number is the one that is found
-at_found : (low high k : ℕ) (bs : List Batch) (b y : Batch) → keys.Rises low high (map settling.key_of bs) → batch_of k bs ≡ Some y → b.bid ≡ k → keys.IsIn (settling.key_of b) (map settling.key_of bs) → settling.key_of b ≡ settling.key_of y
-at_found low high k bs b y r e i m = let g = settling.in_keys y (λ z. z.bid == k) bs e in keys.one_key low high (settling.key_of b) (settling.key_of y) (map settling.key_of bs) r m g.0 (i ∙ sym (eqb-true y.bid k g.1))
 
 -- ---- values stay
 

@@ -10,7 +10,7 @@ use Rattle.snap_base.specs.declared.transactions.TxResult.TheVariants.{Fail}
 use Rattle.snap_base.specs.declared.verdicts.Place.{Place}
 use Rattle.protocol.specs.Fixed.{Fixed, no_state, tx_at}
 use Rattle.protocol.specs.Facts.{Alone, Facts, alone, serial, state_in}
-use Rattle.protocol.specs.Parts.{Pact, Batch, Stage, Formed, Committing, Settled, OfBatch, Machine}
+use Rattle.protocol.specs.Parts.{Pact, Batch, OfBatch, Machine}
 use Rattle.protocol.specs.Words.{holds, is_among, is_value, is_aborted, is_formed, is_settled, is_open, is_next_to_commit, batch_of, names_pact}
 use Rattle.protocol.specs.Effects.{cell_at}
 use Rattle.protocol.specs.History.{History, Done, Slice, slices_of, view_in, done_pact}
@@ -23,7 +23,7 @@ use Rattle.protocol.specs.Chains.{by_place, put_by_place, is_place_below, txs_of
 use Rattle.protocol_laws.specs.Linked.{IsExplained, came_to, visitors}
 use Rattle.protocol_laws.specs.Order.{IsAmongDone, OrderStands}
 use Rattle.protocol_laws.specs.EvidenceSerial.{HasResultThere, counts, counted, world_before, ByTid}
-use Rattle.protocol_laws.proofs.first.Lists.{all_filter, all_found, both_all}
+use Rattle.protocol_laws.proofs.first.Lists.{all_filter, all_found, both_all, some_held}
 use Rattle.protocol_laws.proofs.machine.MarksKept as marks
 use Rattle.protocol_laws.proofs.first.SettlingKept as settling
 use Rattle.protocol_laws.proofs.machine.TracksKept.{Tracked}
@@ -44,6 +44,7 @@ use Rattle.protocol_laws.proofs.machine.Good.{Good}
 use Rattle.protocol_laws.proofs.order.OrderLaw.{Ordered}
 use Rattle.protocol_laws.proofs.evidence.EvidenceAhead.{ahead_ran, pacts_link}
 use Rattle.protocol.specs.Rests.{IsTxIn}
+use Rattle.protocol_laws.proofs.first.Statuses.{settled_not_formed, value_some}
 
 -- ---- one of the serial run
 
@@ -150,10 +151,6 @@ with_result_of : (o : Option TxResult) → is_some o ≡ true → (r : TxResult)
 with_result_of None e = absurd (true≢false (sym e))
 with_result_of (Some r) e = (r, refl)
 
-value_some : (o : Option TxResult) → is_value o ≡ true → is_some o ≡ true
-value_some None e = absurd (true≢false (sym e))
-value_some (Some r) e = refl
-
 have_results : (front : List Pact) (p : Pact) (code : ℕ) → AllByRecursion (λ p. is_value p.result ≡ true) front → p.result ≡ Some (Fail code) → AllByRecursion (λ p. is_some p.result ≡ true) (front ++ p ∷ [])
 have_results [] p code v e = (ap is_some e, tt)
 have_results (q ∷ front) p code v e = (value_some q.result v.0, have_results front p code v.1 e)
@@ -195,11 +192,6 @@ none_link k a h last (p ∷ ps) e =
     let stays : left_of a (done_pact k h p) last ≡ last = ap (λ o. left_as (is_value p.result) o last) none ∙ left_none (is_value p.result) last in
     (subst (λ o. Finds o last) (sym none) tt, subst (λ z. StatesLink a z (map (done_pact k h) ps)) (sym stays) (none_link k a h last ps e))
 
-settled_not_formed : (st : Stage) → is_settled st ≡ true → is_formed st ≡ false
-settled_not_formed Formed e = absurd (true≢false (sym e))
-settled_not_formed Committing e = refl
-settled_not_formed Settled e = refl
-
 list_all_at : (p q : Batch → Bool) (b : Batch) (bs : List Batch) → find p bs ≡ Some b → list_all q bs ≡ true → q b ≡ true
 list_all_at p q b [] e h = absurd (cc e)
 list_all_at p q b (x ∷ xs) e h = by (p x) e (list_all_at p q b xs)
@@ -227,10 +219,6 @@ unfolding Marked
 next_kept w k j s h g m v l e None f q = absurd (true≢false (sym q))
 next_kept w k j s h g m v l e (Some c) f q = (m j c f).known ∙ ap not (settled_not_formed c.stage (next_settled w k j s c g v l e f))
 
-some_holds : {X : Type 0} (q : X → Bool) (o : Option X) → holds q o ≡ true → is_some o ≡ true
-some_holds q None h = absurd (true≢false (sym h))
-some_holds q (Some x) h = refl
-
 pacts_linked : {C : Type 0} (w : Fixed C) (Of : Tx → C → Type 0) (finish : C → List State → Alone) (k a : ℕ) (s : Machine C) (h : History) (b : Batch) (front rest : List Pact) (p : Pact) → Good w Of finish s h → is_open b ≡ true → is_next_to_commit k s.desk.batches ≡ true → batch_of k s.desk.batches ≡ Some b → b.pacts ≡ front ++ p ∷ rest
     → AllByRecursion (λ p. is_value p.result ≡ true) front → StatesLink a (last_state a (slice_index_or w.text.opening.states a no_state) h.committed) (map (done_pact k h) (front ++ p ∷ []))
 unfolding Marked Placed Tracked Turned Numbered Committed
@@ -252,7 +240,7 @@ pacts_linked w Of finish k a s h b front rest p g opened next is_it splits value
     ahead n =
         let good : AllByRecursion (GoodKey a s.desk.batches) (keys_in (h.long a)) = subst (AllByRecursion (GoodKey a s.desk.batches)) (g.tracked a).stands (good_keys a s.desk.batches (cell_at s a).entries (g.from_desk.entries a)) in
         ahead_ran h.kept k a s.ring.next_bid (cell_at s a).epoch (cell_at s a).tail s.book.cascades s.desk.batches (h.long a) sound
-        (λ j x l z. next_kept w k j s h g.settling g.marked next l z (batch_of j s.desk.batches) refl (some_holds _ (batch_of j s.desk.batches) x)) n (g.tracked a).in_order good (g.placed a).fit (g.placed a).ascends
+        (λ j x l z. next_kept w k j s h g.settling g.marked next l z (batch_of j s.desk.batches) refl (some_held _ (batch_of j s.desk.batches) x)) n (g.tracked a).in_order good (g.placed a).fit (g.placed a).ascends
 
     ran : (slices_of (OfBatch k) (h.long a) ≡ [] → ⊥) → StatesLink a (last_state a first h.committed) (map (done_pact k h) (front ++ p ∷ []))
     ran n =
@@ -316,12 +304,11 @@ before w finish k c ds cs ex rise links =
       states = λ a l. serial_states w finish (counted k c ds) w.text.opening.states refl explained (λ a l. sorted_links a (state_in w.text.opening.states a) own (rises a) (same a).links) a l ∙ (sorted_last a (state_in w.text.opening.states a) own (rises a) ∙ (same a).last);
     }
 
-pub pacts_serial : {C : Type 0} (w : Fixed C) (Of : Tx → C → Type 0) (finish : C → List State → Alone) (k c code : ℕ) (s : Machine C) (h : History) (b : Batch) (front rest : List Pact) (p : Pact) → Facts (length w.text.opening.states) w.code (IsTxIn w.text) Of finish → Ordered w Of finish s h → PlacesStand w s h → s.book.next_c ≡ c → is_open b ≡ true → is_next_to_commit k s.desk.batches ≡ true → batch_of k s.desk.batches ≡ Some b → b.pacts ≡ front ++ p ∷ rest
+pub pacts_serial : {C : Type 0} (w : Fixed C) (Of : Tx → C → Type 0) (finish : C → List State → Alone) (k c code : ℕ) (s : Machine C) (h : History) (b : Batch) (front rest : List Pact) (p : Pact) → Facts (length w.text.opening.states) w.code (IsTxIn w.text) Of finish → Good w Of finish s h → Ordered w Of finish s h → PlacesStand w s h → s.book.next_c ≡ c → is_open b ≡ true → is_next_to_commit k s.desk.batches ≡ true → batch_of k s.desk.batches ≡ Some b → b.pacts ≡ front ++ p ∷ rest
     → AllByRecursion (λ p. is_value p.result ≡ true) front → p.result ≡ Some (Fail code)
     → map Some (serial w.code finish (world_before w finish k c h.committed) (map (λ p. tx_at w.text p.tx) (front ++ p ∷ []))).results ≡ map (λ p. p.result) (front ++ p ∷ [])
 unfolding LinkedFrom AllExplained Committed Turned
-pacts_serial w Of finish k c code s h b front rest p facts o i nc opened next is_it splits values fails =
-    let g = o.good in
+pacts_serial w Of finish k c code s h b front rest p facts g o i nc opened next is_it splits values fails =
     let cs = both_all _ _ (λ d. counts k c d ≡ is_value d.result) h.committed (λ d x y. side_counts k c d (below_open d.place.batch.0 k s.desk.batches b is_it opened x.1) (subst (λ z. IsSided z d.place) nc y)) i.low i.sided in
     let bf = before w finish k c h.committed cs o.explained i.rise (λ a. (g.committed a).links) in
     let rising = λ (a : ℕ). (batch_slices k a s.desk.batches (h.long a) (cell_at s a).entries (g.turned a) (g.from_desk.entries a)).0 in

@@ -26,7 +26,7 @@ use Rattle.protocol_laws.specs.Evidence.{Gives, IsGiven, Fails, VerdictsStand}
 use Rattle.protocol_laws.specs.EvidenceSerial.{counts, FailsInSerial, FailedAt, VerdictsTell, IsCommittedPact, IsCommittedAct}
 use Rattle.protocol_laws.proofs.evidence.EvidenceCommitted.{committed_is}
 use Rattle.protocol.specs.Chains.{by_place, txs_of}
-use Rattle.protocol_laws.proofs.first.Lists.{all_join, all_filter, both_all, filter_join, join_nil, weaker}
+use Rattle.protocol_laws.proofs.first.Lists.{all_filter, all_join, both_all, filter_join, join_nil, weaker}
 use Rattle.protocol_laws.proofs.first.SettlingKept as settling
 use Rattle.protocol_laws.proofs.first.SettlingKeys as keys
 use Rattle.protocol_laws.proofs.machine.PlacesRise.{below_open}
@@ -36,11 +36,13 @@ use Rattle.protocol_laws.proofs.machine.BatchesCommit.{Numbered}
 use Rattle.protocol_laws.proofs.machine.AllGood.{AllGood, all_good, along_good, none_allowed}
 use Rattle.protocol_laws.proofs.machine.Higher.{higher}
 use Rattle.protocol_laws.proofs.machine.ActsTold.{ActsTold, is_at}
-use Rattle.protocol_laws.proofs.order.ToldKept.{PactsTold, BatchTold}
+use Rattle.protocol_laws.proofs.machine.PactsTold.{PactsTold, PactTold, among}
+use Rattle.protocol_laws.proofs.machine.MarksKept.{found_bid}
 use Rattle.protocol_laws.proofs.order.LastLaw.{whole, order_of_runs}
 use Rattle.protocol_laws.proofs.evidence.EvidenceSerial.{result_there, pacts_serial, next_settled, by_tid_of}
 use Rattle.protocol_laws.proofs.evidence.EvidenceRuns.{verdicts_stand}
 use Rattle.protocol.specs.Rests.{IsRest, IsTxIn}
+use Rattle.protocol_laws.proofs.first.Statuses.{settled_not_formed}
 
 -- ---- a committed PACT's batch is kept
 
@@ -218,7 +220,7 @@ fails_there w Of finish n k c code front ds v run ok same r =
     let g = all_good w Of finish front v run in
     let i = (higher w Of finish front v run).places in
     let a = and_parts (is_open r.batch) (is_next_to_commit k s.desk.batches) (subst (λ o. holds (λ b. is_open b && is_next_to_commit k s.desk.batches) o ≡ true) r.found ok.0) in
-    let p = pacts_serial w Of finish k c code s (history w front) r.batch r.front r.rest r.pact v.facts (whole w Of finish front v run).ordered i r.next_c a.0 a.1 r.found r.splits r.values r.fails in
+    let p = pacts_serial w Of finish k c code s (history w front) r.batch r.front r.rest r.pact v.facts g.good (whole w Of finish front v run).ordered i r.next_c a.0 a.1 r.found r.splits r.values r.fails in
     record {
       batch = r.batch;
       pact = r.pact;
@@ -258,11 +260,6 @@ cascade_of w es n k by st g = at g.gives
     at (inl r) = ((reached w g.front).book.next_c, (r.code, give r.code r.failing))
     at (inr r) = ((reached w g.front).book.next_c, (r.code, give r.code r.failing))
 
-settled_past : (st : Stage) → is_settled st ≡ true → is_formed st ≡ false
-settled_past Formed e = absurd (true≢false (sym e))
-settled_past Committing e = refl
-settled_past Settled e = refl
-
 all_committed : {C : Type 0} (w : Fixed C) (Of : Tx → C → Type 0) (finish : C → List State → Alone) (es : List Event) → Given w Of finish → IsRun w es → AllByRecursion (λ d. IsCommittedPact (reached w es) d ⊎ IsCommittedAct (reached w es) d) (history w es).committed
 unfolding PactsKept
 all_committed w Of finish es v run = committed_is w Of finish es v run (pacts_are_kept w Of finish es v run)
@@ -270,14 +267,20 @@ all_committed w Of finish es v run = committed_is w Of finish es v run (pacts_ar
 batches_told : {C : Type 0} (w : Fixed C) (Of : Tx → C → Type 0) (finish : C → List State → Alone) (es : List Event) → Given w Of finish → IsRun w es → (k : ℕ) (b : Batch) → batch_of k (reached w es).desk.batches ≡ Some b → is_settled b.stage ≡ true
     → AllByRecursion (λ p. (r : TxResult) × ((p.result ≡ Some r) × IsAmongDone p.tx (pact_place b.bid p.tid) r (history w es).committed)) b.pacts
 unfolding PactsTold
-batches_told w Of finish es v run k b e q = (Rattle.protocol_laws.proofs.first.Lists.all_found (BatchTold (history w es).committed) (λ b. b.bid == k) (reached w es).desk.batches b (whole w Of finish es v run).pacts e).0 (settled_past b.stage q)
+batches_told w Of finish es v run k b e q = weaker _ _ b.pacts (λ p i. one p (subst (λ j. PactTold (history w es).committed j p) (sym (eqb-true b.bid k (found_bid k b (reached w es).desk.batches e))) i)) ((all_good w Of finish es v run).pacts_told k b e (settled_not_formed b.stage q))
+  where
+    one : (p : Pact) → PactTold (history w es).committed b.bid p → (r : TxResult) × ((p.result ≡ Some r) × IsAmongDone p.tx (pact_place b.bid p.tid) r (history w es).committed)
+    one p i = let r = some_there p.result i.1 in (r.0, (r.1, among (OfBatch b.bid) p.tid p.tx p.tx (pact_place b.bid p.tid) p.result r.0 (history w es).committed i.0 refl r.1))
+      where
+        some_there : (o : Option TxResult) → is_some o ≡ true → (r : TxResult) × (o ≡ Some r)
+        some_there None e = absurd (Rattle.std.proofs.lemmas.Bool.true≢false (sym e))
+        some_there (Some r) e = (r, refl)
 
 acts_told : {C : Type 0} (w : Fixed C) (Of : Tx → C → Type 0) (finish : C → List State → Alone) (es : List Event) → Given w Of finish → IsRun w es → (t c : ℕ) (x : Act) (r : TxResult) → act_of t (reached w es).book.acts ≡ Some x → (x.status ≡ Decided c) ⊎ (x.status ≡ Sealed c) → x.result ≡ Some r
     → IsAmongDone x.tx (act_place x.m c) r (history w es).committed
 unfolding ActsTold
 acts_told w Of finish es v run t c x r e q i =
-    let g = (whole w Of finish es v run).acts t x e c (at q) in
-    record { done = g.done; front = g.front; rest = g.rest; splits = g.splits; tx = g.tx; place = g.place; result = g.result ∙ i }
+    among (OfAct t) t x.tx x.tx (act_place x.m c) x.result r (history w es).committed ((all_good w Of finish es v run).told t x e c (at q)) refl i
   where
     at : (x.status ≡ Decided c) ⊎ (x.status ≡ Sealed c) → is_at c x.status ≡ true
     at (inl f) = ap (is_at c) f ∙ Rattle.std.proofs.lemmas.Bool.eq-eqb c c refl

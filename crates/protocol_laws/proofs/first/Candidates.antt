@@ -14,11 +14,11 @@ use Rattle.protocol.specs.Runs.{IsRun, IsQuiet, reached}
 use Rattle.protocol.specs.Candidates.{each_two, tids_drawn, bids_drawn, offers, candidates, first_allowed}
 use Rattle.protocol_laws.specs.Ranges.{IsWithin, SubInRange, CellInRange, BatchInRange, ActInRange, NumbersInRange}
 use Rattle.protocol.specs.Footprints.{HasLogs}
-use Rattle.protocol_laws.proofs.first.AllOf.{all_found}
 use Rattle.protocol_laws.proofs.first.FirstFalse.{allowed_or_refused}
 use Rattle.protocol_laws.proofs.first.Leaves.{has_logs}
 use Rattle.protocol_laws.proofs.first.Ranges.{numbers_in_range}
 use Rattle.protocol_laws.proofs.first.Times
+use Rattle.protocol_laws.proofs.first.Lists.{all_found}
 
 -- ---- what lists contain
 
@@ -84,12 +84,12 @@ cell_in P p (x ∷ xs) (suc a) g h = cell_in P p xs a g.1 h
 
 -- found by its key, and so the key is in range
 keyed : {X : Type 0} (key : X → ℕ) (P : X → Type 0) (Q : ℕ → Type 0) (xs : List X) (n : ℕ) (x : X) → ((x : X) → P x → Q (key x)) → find (λ x. key x == n) xs ≡ Some x → AllByRecursion P xs → Q n
-keyed key P Q xs n x k e h = let f = all_found P (λ x. key x == n) xs x e h in subst Q (eqb-true (key x) n f.1) (k x f.0)
+keyed key P Q xs n x k e h = let f = all_found P (λ x. key x == n) xs x h e in subst Q (eqb-true (key x) n f.1) (k x f.0)
 
 sub_in : {C : Type 0} (w : Fixed C) (s : Machine C) (k a : ℕ) → AllByRecursion (SubInRange w s) s.post.subs → is_some (sub_of k a s.post.subs) ≡ true → IsWithin w.text.opening.next_bid s.ring.next_bid k × (a < length w.text.opening.states)
 sub_in w s k a h q =
     let m = some (sub_of k a s.post.subs) q in
-    let f = all_found (SubInRange w s) (λ m. (m.bid == k) && (m.actor == a)) s.post.subs m.it m.is h in
+    let f = all_found (SubInRange w s) (λ m. (m.bid == k) && (m.actor == a)) s.post.subs m.it h m.is in
     let p = and_parts (m.it.bid == k) (m.it.actor == a) f.1 in
     (subst (IsWithin w.text.opening.next_bid s.ring.next_bid) (eqb-true m.it.bid k p.0) f.0.bid, subst (λ n. n < length w.text.opening.states) (eqb-true m.it.actor a p.1) f.0.actor)
 
@@ -106,7 +106,7 @@ act_in w s t p h q =
 place_in : {C : Type 0} (w : Fixed C) (s : Machine C) (t a : ℕ) (p : Act → Bool) (r : Joined → Bool) → NumbersInRange w s → holds p (act_of t s.book.acts) ≡ true → ((x : Act) → p x ≡ true → holds r (joined_of a x) ≡ true) → a < length w.text.opening.states
 place_in w s t a p r h q i =
     let x = held p (act_of t s.book.acts) q in
-    let g = all_found (ActInRange w s) (λ x. x.tid == t) s.book.acts x.it x.is h.acts in
+    let g = all_found (ActInRange w s) (λ x. x.tid == t) s.book.acts x.it h.acts x.is in
     let j = held r (joined_of a x.it) (i x.it x.does) in
     keyed (λ p. p.actor) _ (λ n. n < length w.text.opening.states) x.it.places a j.it (λ p l. l) j.is g.0.actors
 
@@ -118,7 +118,7 @@ batch_in w s k p h q =
 declared_in : {C : Type 0} (w : Fixed C) (s : Machine C) (k a : ℕ) (p : Batch → Bool) (r : Declared → Bool) → NumbersInRange w s → holds p (batch_of k s.desk.batches) ≡ true → ((b : Batch) → p b ≡ true → holds r (declared_of a b) ≡ true) → a < length w.text.opening.states
 declared_in w s k a p r h c i =
     let b = held p (batch_of k s.desk.batches) c in
-    let g = all_found (BatchInRange w s) (λ b. b.bid == k) s.desk.batches b.it b.is h.batches in
+    let g = all_found (BatchInRange w s) (λ b. b.bid == k) s.desk.batches b.it h.batches b.is in
     let j = held r (declared_of a b.it) (i b.it b.does) in
     keyed (λ p. p.actor) _ (λ n. n < length w.text.opening.states) b.it.places a j.it (λ p l. l) j.is g.0.actors
 

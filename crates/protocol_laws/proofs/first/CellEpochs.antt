@@ -1,5 +1,5 @@
 -- Batches on a cell and the cell's epoch.
-use Rattle.std.specs.Prelude.{◌≡◌, refl, ℕ, zero, suc, ◌+◌, ◌-◌, ◌<◌, ◌≤◌, ◌==◌, nat_le, nat_lt, not, Bool, true, false, ◌&&◌, ◌||◌, if◌then◌else◌, Option, Some, None, List, [], ◌∷◌, ◌++◌, length, map, filter, find, slice_get, slice_index_or, slice_set}
+use Rattle.std.specs.Prelude.{◌≡◌, refl, ℕ, zero, suc, ◌+◌, ◌-◌, ◌<◌, ◌≤◌, ◌==◌, nat_le, nat_lt, not, Bool, true, false, ◌&&◌, ◌||◌, if◌then◌else◌, Option, Some, None, List, [], ◌∷◌, ◌++◌, length, map, filter, slice_get, slice_index_or, slice_set}
 use Rattle.std.specs.List.{AllByRecursion}
 use Rattle.std.proofs.Common.{arith, sym, ap, subst, inl, inr, ◌∙◌}
 use Rattle.std.proofs.lemmas.List.{append-nil}
@@ -20,17 +20,9 @@ use Rattle.protocol_laws.proofs.first.Times
 use Rattle.protocol_laws.proofs.first.EpochsKept as epochs
 use Rattle.protocol_laws.proofs.first.SettlingKeys as keys
 use Rattle.protocol_laws.proofs.first.SettlingKept as settling
-use Rattle.protocol_laws.proofs.first.Lists.{all_each, all_get, all_set}
+use Rattle.protocol_laws.proofs.first.Lists.{all_found, all_get, all_set, both_all, weaker}
 
 -- ---- lists
-
-pub all_found : {X : Type 0} (P : X → Type 0) (p : X → Bool) (y : X) (xs : List X) → find p xs ≡ Some y → AllByRecursion P xs → P y × (p y ≡ true)
-all_found P p y [] e h = absurd (cc e)
-all_found P p y (x ∷ xs) e h = by (p x) refl e (all_found P p y xs)
-  where
-    by : (b : Bool) → p x ≡ b → (if b then Some x else find p xs) ≡ Some y → (find p xs ≡ Some y → AllByRecursion P xs → P y × (p y ≡ true)) → P y × (p y ≡ true)
-    by true f e k = let q : x ≡ y = cc e in subst (λ z. P z × (p z ≡ true)) q (h.0, f)
-    by false f e k = k e h.1
 
 pub held : {X : Type 0} (p : X → Bool) (xs : List X) (i : ℕ) (d : X) → holds p (slice_get xs i) ≡ true → p (slice_index_or xs i d) ≡ true
 held p [] i d h = absurd (true≢false (sym h))
@@ -142,7 +134,7 @@ arrive_fits cs next k (Some m) c f h = record {
 
 -- an unaborted batch from the failing one on is of the present epoch
 present_from : (f k : ℕ) (cs : List Cascade) → AllByRecursion (λ d. d.first ≤ f) cs → f ≤ k → is_aborted k cs ≡ false → epoch_of k cs ≡ length cs
-present_from f k cs firsts l e = epochs.epoch_all k cs (keys.both_all (λ d. d.first ≤ f) (λ d. covers k d ≡ false) (λ d. d.upto < k) cs (λ d p q. past d p q) firsts (keys.not_covered k cs e))
+present_from f k cs firsts l e = epochs.epoch_all k cs (both_all (λ d. d.first ≤ f) (λ d. covers k d ≡ false) (λ d. d.upto < k) cs (λ d p q. past d p q) firsts (keys.not_covered k cs e))
   where
     past : (d : Cascade) → d.first ≤ f → covers k d ≡ false → d.upto < k
     past d p q = elim (cases_lt d.upto k) [ inl u ↦ u | inr v ↦ absurd (true≢false (sym (and_from (nat_le d.first k) (nat_le k d.upto) (le-leb d.first k (omega (arith, p, l))) (le-leb k d.upto v)) ∙ q)) ]
@@ -150,7 +142,7 @@ present_from f k cs firsts l e = epochs.epoch_all k cs (keys.both_all (λ d. d.f
 cascade_fits : (cs : List Cascade) (c : Cascade) (next ep : ℕ) (ks : List ℕ) → c.upto ≡ next - 1 → AllByRecursion (λ d. d.first ≤ c.first) cs → CellFits cs next ep ks → CellFits (cs ++ c ∷ []) next ep ks
 cascade_fits cs c next ep ks u firsts h = record {
   behind = omega (arith, h.behind, Times.length_join cs (c ∷ []));
-  each = all_each (Fits cs next ep) (Fits (cs ++ c ∷ []) next ep) ks (λ k f. one k f) h.each;
+  each = weaker (Fits cs next ep) (Fits (cs ++ c ∷ []) next ep) ks (λ k f. one k f) h.each;
 }
   where
     one : (k : ℕ) → Fits cs next ep k → Fits (cs ++ c ∷ []) next ep k
@@ -179,13 +171,13 @@ pub record Together {C : Type 0} (w : Fixed C) (s : Machine C) : Type 0 where
   pub fits : AllByRecursion (FitsIn s.book.cascades s.ring.next_bid) s.cells
 
 higher_fits : {C : Type 0} (cs : List Cascade) (next : ℕ) (xs : List (Cell C)) → AllByRecursion (FitsIn cs next) xs → AllByRecursion (FitsIn cs (next + 1)) xs
-higher_fits cs next xs h = all_each (FitsIn cs next) (FitsIn cs (next + 1)) xs (λ c g. record { behind = g.behind; each = all_each (Fits cs next c.epoch) (Fits cs (next + 1) c.epoch) (batches_on c.entries) (λ k f. record { formed = omega (arith, f.formed); placed = f.placed; aborted = f.aborted }) g.each }) h
+higher_fits cs next xs h = weaker (FitsIn cs next) (FitsIn cs (next + 1)) xs (λ c g. record { behind = g.behind; each = weaker (Fits cs next c.epoch) (Fits cs (next + 1) c.epoch) (batches_on c.entries) (λ k f. record { formed = omega (arith, f.formed); placed = f.placed; aborted = f.aborted }) g.each }) h
 
 -- what a message that arrives says of its batch
 pub arrives : {C : Type 0} (w : Fixed C) (k a : ℕ) (s : Machine C) (m : SubBatch) → IsAllowed w (Arrive k a) s → sub_of k a s.post.subs ≡ Some m → epochs.Agreeing s → Fits s.book.cascades s.ring.next_bid (cell_at s a).epoch k
 unfolding conditions
 arrives w k a s m ok e h =
-    let f = all_found (epochs.NamesIn s) (λ x. (x.bid == k) && (x.actor == a)) m s.post.subs e (epochs.names_in s h) in
+    let f = all_found (epochs.NamesIn s) (λ x. (x.bid == k) && (x.actor == a)) s.post.subs m (epochs.names_in s h) e in
     let n = epochs.named s m f.0 in
     let q = (and_parts (m.bid == k) (m.actor == a) f.1).0 in
     let t : ((m.epoch == epoch s.book) && holds (λ c. c.epoch == epoch s.book) (slice_get s.cells a)) ≡ true = subst (λ o. holds (λ x. (x.epoch == epoch s.book) && holds (λ c. c.epoch == epoch s.book) (slice_get s.cells a)) o ≡ true) e ok.1.1.0 in
@@ -202,14 +194,14 @@ cells_kept : {C : Type 0} (w : Fixed C) (e : Event) (s : Machine C) → IsAllowe
 unfolding conditions after
 cells_kept w (Form k) s ok h = higher_fits s.book.cascades s.ring.next_bid s.cells h.fits
 cells_kept w (Arrive k a) s ok h = one_cell _ _ s a _ (arrive_fits s.book.cascades s.ring.next_bid k (sub_of k a s.post.subs) (cell_at s a) (λ m e. arrives w k a s m ok e h.agreeing)) h.fits
-cells_kept w (Ask t a) s ok h = one_cell _ _ s a _ (ask_fits s.book.cascades s.ring.next_bid (cell_at s a).epoch t (book.in_the_way t (cell_at s a)) (cell_at s a).entries) h.fits
+cells_kept w (Ask t a) s ok h = one_cell _ _ s a _ (ask_fits s.book.cascades s.ring.next_bid (cell_at s a).epoch t (book.in_the_way t (cell_at s a).entries) (cell_at s a).entries) h.fits
 cells_kept w (Take t a) s ok h = one_cell _ _ s a _ (λ g. g) h.fits
 cells_kept w (Run t a) s ok h = one_cell _ _ s a _ (run_fits s.book.cascades s.ring.next_bid w.code t a (cell_at s a)) h.fits
 cells_kept w (Send t a) s ok h = one_cell _ _ s a _ (λ g. g) h.fits
 cells_kept w (End t a) s ok h = one_cell _ _ s a _ (λ g. g) h.fits
 cells_kept w (Close t a) s ok h = one_cell _ _ s a _ (λ g. same_batches _ _ _ _ _ (on_done t (cell_at s a).entries) g) h.fits
 cells_kept w (Complete k a) s ok h = one_cell _ _ s a _ (λ g. same_batches _ _ _ _ _ (on_complete k (cell_at s a).entries) g) h.fits
-cells_kept w (Abort k) s ok h = all_each (FitsIn s.book.cascades s.ring.next_bid) _ s.cells (λ c g. cascade_fits s.book.cascades _ s.ring.next_bid c.epoch (batches_on c.entries) refl (settling.firsts_at_most w s k ok h.settling) g) h.fits
+cells_kept w (Abort k) s ok h = weaker (FitsIn s.book.cascades s.ring.next_bid) _ s.cells (λ c g. cascade_fits s.book.cascades _ s.ring.next_bid c.epoch (batches_on c.entries) refl (settling.firsts_at_most w s k ok h.settling) g) h.fits
 cells_kept w (Rollback a) s ok h = one_cell _ _ s a _ (rollback_fits s.ring.next_bid s.book (cell_at s a)) h.fits
 cells_kept w (Finish t a) s ok h = one_cell _ _ s a _ (fewer_fits _ _ _ (λ e. not (is_act_entry t e)) (cell_at s a).entries) h.fits
 cells_kept w (Trim k a) s ok h = one_cell _ _ s a _ (fewer_fits _ _ _ (λ e. not (is_batch_entry k e)) (cell_at s a).entries) h.fits
@@ -225,7 +217,7 @@ new_fit C next low (st ∷ states) = (record { behind = omega arith; each = tt }
 -- ---- the law
 
 present_clean : (cs : List Cascade) (next ep : ℕ) (ks : List ℕ) → ep ≡ length cs → AllByRecursion (Fits cs next ep) ks → AllByRecursion (λ k. is_aborted k cs ≡ false) ks
-present_clean cs next ep ks e h = all_each (Fits cs next ep) (λ k. is_aborted k cs ≡ false) ks (λ k f. one k f) h
+present_clean cs next ep ks e h = weaker (Fits cs next ep) (λ k. is_aborted k cs ≡ false) ks (λ k f. one k f) h
   where
     covered_is_less : (k : ℕ) (ds : List Cascade) → is_aborted k ds ≡ true → epoch_of k ds < length ds
     covered_is_less k [] q = absurd (true≢false (sym q))
@@ -245,9 +237,9 @@ pub cells_agree : {C : Type 0} (w : Fixed C) (es : List Event) → IsText w.text
 cells_agree {C} w es text run =
     let s = reached w es in
     let h : Together w s = along w (Together w) (kept w) es (opening w) run (record { agreeing = epochs.opened w text; settling = settling.opened w text; fits = new_fit C w.text.opening.next_bid (base w.text) w.text.opening.states }) in
-    all_each (FitsIn s.book.cascades s.ring.next_bid) (CellAgrees s) s.cells (λ c g. record {
+    weaker (FitsIn s.book.cascades s.ring.next_bid) (CellAgrees s) s.cells (λ c g. record {
       behind = g.behind;
-      placed = all_each (Fits s.book.cascades s.ring.next_bid c.epoch) _ (batches_on c.entries) (λ k f. f.placed) g.each;
-      aborted = all_each (Fits s.book.cascades s.ring.next_bid c.epoch) _ (batches_on c.entries) (λ k f. f.aborted) g.each;
+      placed = weaker (Fits s.book.cascades s.ring.next_bid c.epoch) _ (batches_on c.entries) (λ k f. f.placed) g.each;
+      aborted = weaker (Fits s.book.cascades s.ring.next_bid c.epoch) _ (batches_on c.entries) (λ k f. f.aborted) g.each;
       present = λ e. present_clean s.book.cascades s.ring.next_bid c.epoch (batches_on c.entries) e g.each;
     }) h.fits

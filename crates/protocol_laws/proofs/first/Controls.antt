@@ -157,7 +157,7 @@ kept w (Form k) s ok h = λ u.
     rw (length_numbered s.ring.next_tid _)
     (posted u s.ring.next_tid _ s.post.controls _ (map (λ c. c.inbox) s.cells) (map (λ c. c.outbox) s.cells) (first_tids w (OfBatch k) (next_pacts w.text s.ring) ∙ numbered_tids s.ring.next_tid _) (h u))
 kept w (Admit t) s ok h = λ u. posted u s.ring.next_tid 1 s.post.controls _ (map (λ c. c.inbox) s.cells) (map (λ c. c.outbox) s.cells) (ap (λ n. n ∷ []) (eqb-true t s.ring.next_tid ok.0)) (h u)
-kept w (Ask t a) s ok h = λ u. below _ _ _ (put_le u s a _ _ (ask_local u t (book.in_the_way t (cell_at s a)) s.post.controls (cell_at s a))) (h u)
+kept w (Ask t a) s ok h = λ u. below _ _ _ (put_le u s a _ _ (ask_local u t (book.in_the_way t (cell_at s a).entries) s.post.controls (cell_at s a))) (h u)
 kept w (Take t a) s ok h = λ u. below _ _ _ (put_le u s a _ _ (take_local u t s.post.controls (cell_at s a))) (h u)
 kept w (Run t a) s ok h = λ u. below _ _ _ (put_le u s a _ _ (run_local w.code u t a s.post.controls (cell_at s a))) (h u)
 kept w (Send t a) s ok h = λ u. below _ _ _ (put_le u s a _ _ (send_local u t s.post (cell_at s a))) (h u)

@@ -18,7 +18,7 @@ use Rattle.protocol.specs.Epochs.{is_of, NamesItsPlace, EpochsAgree}
 use Rattle.protocol_laws.proofs.first.Along.{along}
 use Rattle.protocol_laws.proofs.first.Frames.{frame}
 use Rattle.protocol_laws.proofs.first.Times
-use Rattle.protocol_laws.proofs.first.Lists.{all_filter, all_join, all_weaker}
+use Rattle.protocol_laws.proofs.first.Lists.{all_filter, all_join, weaker}
 
 -- ---- the batches of an epoch, over two lists
 
@@ -168,7 +168,7 @@ cut nb e cs c ls bs xss ms u h = record {
   ended = all_join (λ c. c.upto < nb) cs (c ∷ []) h.ended (omega (arith, u, h.some), tt);
   formed = h.formed;
   last_is = λ a q. none_last (length ls) a ∙ sym (ap greatest (cascade_more nb nb (e + 1) a cs c bs xss h.formed (omega (arith, u)) ∙ none_later nb (e + 1) a cs bs xss (omega (arith, h.counted))));
-  names = all_weaker (Names nb cs bs xss) (Names nb (cs ++ c ∷ []) bs xss) ms (λ m g. record {
+  names = weaker (Names nb cs bs xss) (Names nb (cs ++ c ∷ []) bs xss) ms (λ m g. record {
     some = g.some;
     formed = g.formed;
     epoch = g.epoch ∙ sym (epoch_more m.bid cs c (omega (arith, g.formed, u)));
@@ -239,17 +239,17 @@ form nb e cs ls bs x ds ms news eb ea new h =
     record {
       some = omega arith;
       counted = h.counted;
-      ended = all_weaker (λ c. c.upto < nb) (λ c. c.upto < nb + 1) cs (λ c l. omega (arith, l)) h.ended;
+      ended = weaker (λ c. c.upto < nb) (λ c. c.upto < nb + 1) cs (λ c l. omega (arith, l)) h.ended;
       formed = all_bids nb bs x eb h.formed;
       last_is = λ a q. last_of a (omega (arith, q, length_lasts nb ds ls)) own;
       names = all_join (Names (nb + 1) cs (bids_of (bs ++ x ∷ [])) (actors_of (bs ++ x ∷ []))) ms news
-          (all_weaker (Names nb cs (bids_of bs) (actors_of bs)) _ ms (λ m g. record {
+          (weaker (Names nb cs (bids_of bs) (actors_of bs)) _ ms (λ m g. record {
             some = g.some;
             formed = omega (arith, g.formed);
             epoch = g.epoch;
             prev = g.prev ∙ ap greatest (as_before m.bid nb m.epoch m.actor cs bs x (omega (arith, g.formed)) eb);
           }) h.names)
-          (all_weaker (IsNew nb e ls) _ news (λ m g. record {
+          (weaker (IsNew nb e ls) _ news (λ m g. record {
             some = omega (arith, g.bid, h.some);
             formed = omega (arith, g.bid);
             epoch = g.epoch ∙ (sym own ∙ ap (λ z. epoch_of z cs) (sym g.bid));
@@ -273,7 +273,7 @@ Agreeing s = Agree s.ring.next_bid s.ring.epoch s.book.cascades s.ring.lasts (ma
 
 below_all : (n : ℕ) → AllByRecursion (λ a. a < n) (below n)
 below_all zero = tt
-below_all (suc n) = all_join (λ a. a < suc n) (below n) (n ∷ []) (all_weaker (λ a. a < n) (λ a. a < suc n) (below n) (λ a h. omega (arith, h)) (below_all n)) (omega arith, tt)
+below_all (suc n) = all_join (λ a. a < suc n) (below n) (n ∷ []) (weaker (λ a. a < n) (λ a. a < suc n) (below n) (λ a h. omega (arith, h)) (below_all n)) (omega arith, tt)
 
 new_subs : {C : Type 0} (w : Fixed C) (k : ℕ) (r : Ring) (some : List ℕ) → k ≡ r.next_bid → AllByRecursion (λ a. a < length r.lasts) some → AllByRecursion (IsNew r.next_bid r.epoch r.lasts) (map (first_sub w.text k r) some)
 new_subs w k r [] e h = tt
@@ -306,7 +306,7 @@ epochs_agree w es text run =
       counted = h.counted;
       ended = h.ended;
       lasts = λ a q. h.last_is a q ∙ ap greatest (sym (two_lists s.ring.next_bid s.ring.epoch a s.book.cascades s.desk.batches));
-      subs = all_weaker _ (NamesItsPlace s) s.post.subs (λ m g. record {
+      subs = weaker _ (NamesItsPlace s) s.post.subs (λ m g. record {
         formed = g.formed;
         epoch = g.epoch;
         prev = g.prev ∙ ap greatest (sym (two_lists m.bid m.epoch m.actor s.book.cascades s.desk.batches));

@@ -1,5 +1,5 @@
 -- What a change of one element, or of each, leaves of a list.
-use Rattle.std.specs.Prelude.{◌≡◌, refl, ℕ, suc, zero, Bool, true, false, if◌then◌else◌, List, [], ◌∷◌, map, slice_index_or, slice_set}
+use Rattle.std.specs.Prelude.{◌≡◌, refl, ℕ, suc, zero, Bool, true, false, List, [], ◌∷◌, map, slice_index_or, slice_set}
 use Rattle.protocol.specs.Parts.{Joined, Act, Pair, Declared, Batch, Log, Entry, Cell, Machine}
 use Rattle.protocol.specs.Effects.{cell_at, log_at, puts, no_cell, no_log}
 use Rattle.protocol.specs.Spread.{raised}
@@ -17,10 +17,6 @@ pub map_set_kept : {X Y : Type 0} (g : X → Y) (xs : List X) (i : ℕ) (d y : X
 map_set_kept g [] i d y h = refl
 map_set_kept g (x ∷ xs) zero d y h = rw h refl
 map_set_kept g (x ∷ xs) (suc i) d y h = rw (map_set_kept g xs i d y h) refl
-
-pub if_kept : {X Y : Type 0} (g : X → Y) (b : Bool) (x y : X) → g x ≡ g y → g (if b then x else y) ≡ g y
-if_kept g true x y h = h
-if_kept g false x y h = refl
 
 -- ---- cells and logs
 

@@ -1,7 +1,7 @@
 -- Lists: what holds of each, and of one.
-use Rattle.std.specs.Prelude.{◌≡◌, refl, ℕ, zero, suc, ◌≤◌, Bool, true, false, ◌||◌, ◌⊎◌, if◌then◌else◌, Option, Some, List, [], ◌∷◌, ◌++◌, length, map, filter, find, take, slice_index_or, slice_set}
-use Rattle.std.specs.List.{AllByRecursion, list_any, list_all}
-use Rattle.std.proofs.Common.{arith, sym, ap, subst, inl, inr}
+use Rattle.std.specs.Prelude.{Bool, List, None, Option, Some, [], drop, false, filter, find, if◌then◌else◌, is_some, length, map, refl, slice_index_or, slice_set, suc, take, true, zero, ℕ, ◌++◌, ◌||◌, ◌∷◌, ◌≡◌, ◌≤◌, ◌⊎◌}
+use Rattle.std.specs.List.{AllByRecursion, list_all, list_any}
+use Rattle.std.proofs.Common.{ap, arith, inl, inr, subst, sym}
 use Rattle.std.proofs.lemmas.Bool.{and_parts, or_cases, or_left, or_right, true≢false}
 use Rattle.protocol.specs.Words.{holds}
 
@@ -20,6 +20,10 @@ all_filter P p (x ∷ xs) h = by (p x) (all_filter P p xs h.1)
 pub all_map : {X Y : Type 0} (P : X → Type 0) (Q : Y → Type 0) (f : X → Y) (xs : List X) → ((x : X) → P x → Q (f x)) → AllByRecursion P xs → AllByRecursion Q (map f xs)
 all_map P Q f [] k h = tt
 all_map P Q f (x ∷ xs) k h = (k x h.0, all_map P Q f xs k h.1)
+
+pub all_unmapped : {X Y : Type 0} (P : X → Type 0) (Q : Y → Type 0) (f : X → Y) (xs : List X) → ((x : X) → Q (f x) → P x) → AllByRecursion Q (map f xs) → AllByRecursion P xs
+all_unmapped P Q f [] k h = tt
+all_unmapped P Q f (x ∷ xs) k h = (k x h.0, all_unmapped P Q f xs k h.1)
 
 pub weaker : {X : Type 0} (P Q : X → Type 0) (xs : List X) → ((x : X) → P x → Q x) → AllByRecursion P xs → AllByRecursion Q xs
 weaker P Q [] k h = tt
@@ -76,10 +80,6 @@ filter_join p (x ∷ xs) ys = by (p x) (filter_join p xs ys)
     by true h = ap (λ l. x ∷ l) h
     by false h = h
 
-pub all_weaker : {X : Type 0} (P Q : X → Type 0) (xs : List X) → ((x : X) → P x → Q x) → AllByRecursion P xs → AllByRecursion Q xs
-all_weaker P Q [] k h = tt
-all_weaker P Q (x ∷ xs) k h = (k x h.0, all_weaker P Q xs k h.1)
-
 pub all_get : {X : Type 0} (P : X → Type 0) (xs : List X) (i : ℕ) (d : X) → P d → AllByRecursion P xs → P (slice_index_or xs i d)
 all_get P [] i d p h = p
 all_get P (x ∷ xs) zero d p h = h.0
@@ -89,10 +89,6 @@ pub all_set : {X : Type 0} (P : X → Type 0) (xs : List X) (i : ℕ) (y : X) �
 all_set P [] i y p h = tt
 all_set P (x ∷ xs) zero y p h = (p, h.1)
 all_set P (x ∷ xs) (suc i) y p h = (h.0, all_set P xs i y p h.1)
-
-pub all_mapped : {X : Type 0} (P Q : X → Type 0) (f : X → X) (xs : List X) → ((x : X) → P x → Q (f x)) → AllByRecursion P xs → AllByRecursion Q (map f xs)
-all_mapped P Q f [] k h = tt
-all_mapped P Q f (x ∷ xs) k h = (k x h.0, all_mapped P Q f xs k h.1)
 
 pub all_back : {X : Type 0} (P : X → Type 0) (xs ys : List X) → AllByRecursion P (xs ++ ys) → AllByRecursion P ys
 all_back P [] ys h = h
@@ -118,14 +114,6 @@ pub any_front : {X : Type 0} (p : X → Bool) (xs ys : List X) → list_any p xs
 any_front p [] ys h = absurd (true≢false (sym h))
 any_front p (x ∷ xs) ys h = elim (or_cases (p x) (list_any p xs) h) [ inl e ↦ or_left (p x) (list_any p (xs ++ ys)) e | inr e ↦ or_right (p x) (list_any p (xs ++ ys)) (any_front p xs ys e) ]
 
-pub all_both : {X : Type 0} (P Q R : X → Type 0) (xs : List X) → ((x : X) → P x → Q x → R x) → AllByRecursion P xs → AllByRecursion Q xs → AllByRecursion R xs
-all_both P Q R [] k h g = tt
-all_both P Q R (x ∷ xs) k h g = (k x h.0 g.0, all_both P Q R xs k h.1 g.1)
-
-pub all_each : {X : Type 0} (P Q : X → Type 0) (xs : List X) → ((x : X) → P x → Q x) → AllByRecursion P xs → AllByRecursion Q xs
-all_each P Q [] k h = tt
-all_each P Q (x ∷ xs) k h = (k x h.0, all_each P Q xs k h.1)
-
 pub some_of : {X : Type 0} (q : X → Bool) (o : Option X) (x : X) → o ≡ Some x → holds q o ≡ true → q x ≡ true
 some_of q o x e h = subst (λ z. holds q z ≡ true) e h
 
@@ -146,3 +134,25 @@ take_all (suc n) (x ∷ xs) l = ap (λ z. x ∷ z) (take_all n xs (omega (arith,
 pub or_true : (b : Bool) → (b || true) ≡ true
 or_true true = refl
 or_true false = refl
+
+pub all_take : {X : Type 0} (P : X → Type 0) (k : ℕ) (xs : List X) → AllByRecursion P xs → AllByRecursion P (take k xs)
+all_take P zero xs h = tt
+all_take P (suc k) [] h = tt
+all_take P (suc k) (x ∷ xs) h = (h.0, all_take P k xs h.1)
+
+pub all_drop : {X : Type 0} (P : X → Type 0) (k : ℕ) (xs : List X) → AllByRecursion P xs → AllByRecursion P (drop k xs)
+all_drop P zero xs h = h
+all_drop P (suc k) [] h = tt
+all_drop P (suc k) (x ∷ xs) h = all_drop P k xs h.1
+
+pub all_of : {X : Type 0} (P : X → Type 0) (xs : List X) → ((x : X) → P x) → AllByRecursion P xs
+all_of P [] h = tt
+all_of P (x ∷ xs) h = (h x, all_of P xs h)
+
+pub some_held : {X : Type 0} (p : X → Bool) (o : Option X) → holds p o ≡ true → is_some o ≡ true
+some_held p None h = absurd (true≢false (sym h))
+some_held p (Some x) h = refl
+
+pub some_is : {X : Type 0} (o : Option X) → is_some o ≡ true → (x : X) × (o ≡ Some x)
+some_is None e = absurd (true≢false (sym e))
+some_is (Some x) e = (x, refl)

@@ -6,7 +6,7 @@ use Rattle.std.proofs.lemmas.List.{append-nil}
 use Rattle.std.proofs.lemmas.Bool.{eqb-true, ltb-true, and_parts, or_cases, or_left, or_right, not-true, true≢false, cases_lt}
 use Rattle.protocol.specs.Fixed.{Fixed, IsText}
 use Rattle.protocol.specs.Records.{LogRecord}
-use Rattle.protocol.specs.Parts.{Cascade, Stage, Formed, Committing, Settled, Batch, Log, Cell, Machine}
+use Rattle.protocol.specs.Parts.{Cascade, Batch, Log, Cell, Machine}
 use Rattle.protocol.specs.Events.{Event, Submit, Form, Admit, Arrive, Ask, Take, Run, Send, End, Close, Complete, Sync, Commit, Settle, Abort, Rollback, Prepare, Decide, Finish, Trim}
 use Rattle.protocol.specs.Words.{covers, holds, batch_of, act_of, is_committing, is_settled}
 use Rattle.protocol.specs.Conditions.{IsAllowed, conditions, epoch}
@@ -17,10 +17,11 @@ use Rattle.protocol.specs.History.{History, grown}
 use Rattle.protocol.specs.Settling.{AllOverBelow, BatchesSettleInOrder}
 use Rattle.protocol_laws.specs.OneWay.{IsFront, EachBecame, LogGrew, ActWent, CellWent, WentOn}
 use Rattle.protocol_laws.proofs.first.Frames.{frame}
-use Rattle.protocol_laws.proofs.first.AllOf.{all_found}
 use Rattle.protocol_laws.proofs.first.SettlingKept.{batches_settle_in_order}
 use Rattle.protocol_laws.proofs.first.OneWayActs.{whole, front_same, front_further, each_same, each_set, each_further, same_act, act_further, acts_went}
 use Rattle.protocol_laws.proofs.machine.ShowsKept.{floor_rises}
+use Rattle.protocol_laws.proofs.first.Lists.{all_found}
+use Rattle.protocol_laws.proofs.first.Statuses.{committing_not_settled}
 
 -- ---- logs
 
@@ -125,18 +126,18 @@ unfolding after
 tx_went w (Submit n) s = omega arith
 tx_went w e s = no_less _ _ (frame w e s NextTx refl)
 
-tid_went : {C : Type 0} (w : Fixed C) (e : Event) (s : Machine C) → s.ring.next_tid ≤ (after w e s).ring.next_tid
+pub tid_went : {C : Type 0} (w : Fixed C) (e : Event) (s : Machine C) → s.ring.next_tid ≤ (after w e s).ring.next_tid
 unfolding after
 tid_went w (Form k) s = omega arith
 tid_went w (Admit t) s = omega arith
 tid_went w e s = no_less _ _ (frame w e s NextTid refl)
 
-bid_went : {C : Type 0} (w : Fixed C) (e : Event) (s : Machine C) → s.ring.next_bid ≤ (after w e s).ring.next_bid
+pub bid_went : {C : Type 0} (w : Fixed C) (e : Event) (s : Machine C) → s.ring.next_bid ≤ (after w e s).ring.next_bid
 unfolding after
 bid_went w (Form k) s = omega arith
 bid_went w e s = no_less _ _ (frame w e s NextBid refl)
 
-c_went : {C : Type 0} (w : Fixed C) (e : Event) (s : Machine C) → s.book.next_c ≤ (after w e s).book.next_c
+pub c_went : {C : Type 0} (w : Fixed C) (e : Event) (s : Machine C) → s.book.next_c ≤ (after w e s).book.next_c
 unfolding after
 c_went w (Decide t) s = omega arith
 c_went w e s = no_less _ _ (frame w e s NextC refl)
@@ -198,24 +199,19 @@ committed_went w _ s h = whole h.committed
 
 -- ---- the settled number
 
-not_settled : (st : Stage) → is_committing st ≡ true → is_settled st ≡ false
-not_settled Formed e = refl
-not_settled Committing e = refl
-not_settled Settled e = absurd (true≢false (sym e))
-
 -- where all is over up to a number, a batch that commits is above it
 above : (n k : ℕ) (bs : List Batch) → AllOverBelow (n + 1) bs → holds (λ b. is_committing b.stage && not b.aborted) (batch_of k bs) ≡ true → n ≤ k
 above n k bs h ok = by (batch_of k bs) refl ok
   where
     one : (b : Batch) → (b.bid < n + 1 → (b.aborted || is_settled b.stage) ≡ true) × ((b.bid == k) ≡ true) → (is_committing b.stage ≡ true) × (not b.aborted ≡ true) → n ≤ k
     one b o c = elim (cases_lt b.bid (n + 1)) [
-      | inl l ↦ absurd (true≢false (sym (o.0 l) ∙ rw (not-true b.aborted c.1, not_settled b.stage c.0) refl))
+      | inl l ↦ absurd (true≢false (sym (o.0 l) ∙ rw (not-true b.aborted c.1, committing_not_settled b.stage c.0) refl))
       | inr g ↦ omega (arith, g, eqb-true b.bid k o.1)
     ]
 
     by : (o : Option Batch) → batch_of k bs ≡ o → holds (λ b. is_committing b.stage && not b.aborted) o ≡ true → n ≤ k
     by None e q = absurd (true≢false (sym q))
-    by (Some b) e q = one b (all_found (λ x. x.bid < n + 1 → (x.aborted || is_settled x.stage) ≡ true) (λ x. x.bid == k) bs b e h) (and_parts (is_committing b.stage) (not b.aborted) q)
+    by (Some b) e q = one b (all_found (λ x. x.bid < n + 1 → (x.aborted || is_settled x.stage) ≡ true) (λ x. x.bid == k) bs b h e) (and_parts (is_committing b.stage) (not b.aborted) q)
 
 pub settled_went : {C : Type 0} (w : Fixed C) (e : Event) (s : Machine C) → IsAllowed w e s → BatchesSettleInOrder w s → s.desk.settled ≤ (after w e s).desk.settled
 unfolding conditions after

@@ -191,7 +191,7 @@ pub acts_went : {C : Type 0} (w : Fixed C) (e : Event) (s : Machine C) → EachB
 unfolding after
 acts_went w (Admit t) s = each_more ActWent same_act s.book.acts _
 acts_went w (Arrive k a) s = arriving k a (book.tids_on (cell_at s a).entries) s.book
-acts_went w (Ask t a) s = asking (book.in_the_way t (cell_at s a)) (book.met t (cell_at s a)) t a (max (cell_at s a).last (cell_at s a).floor) s.book
+acts_went w (Ask t a) s = asking (book.in_the_way t (cell_at s a).entries) (book.met t (cell_at s a).entries) t a (max (cell_at s a).last (cell_at s a).floor) s.book
 acts_went w (End t a) s = act_ends t (has_act t (cell_at s a).entries) (outcome_of t (cell_at s a).outbox) s.book
 acts_went w (Abort k) s = each_map ActWent _ (cascading k _) s.book.acts
 acts_went w (Prepare t a) s = changed t _ s.book.acts (marking a book.is_prepared (λ p. refl))

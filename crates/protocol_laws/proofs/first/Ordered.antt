@@ -13,10 +13,9 @@ use Rattle.protocol.specs.Conditions.{refusal}
 use Rattle.protocol.specs.Runs.{IsRun, reached}
 use Rattle.protocol.specs.Candidates.{each, each_two, tids_drawn, bids_drawn, offers, candidates, allowed_candidates}
 use Rattle.protocol.specs.Schedule.{Rank, ranked, rank, is_rank_below, IsBelowEach, Ascends, IsEnabled}
-use Rattle.protocol_laws.proofs.first.AllOf.{all_more, all_filter}
 use Rattle.protocol_laws.proofs.first.FirstFalse.{allowed_or_refused}
 use Rattle.protocol_laws.proofs.first.Candidates.{allowed_is_candidate}
-use Rattle.protocol_laws.proofs.first.Lists.{all_each, all_map}
+use Rattle.protocol_laws.proofs.first.Lists.{all_filter, all_join, all_map, weaker}
 
 -- ---- ranks
 
@@ -45,11 +44,11 @@ from_rises low (suc k) = (from_above low (low + 1) k (omega arith), from_rises (
 
 rises_end : (ns : List ℕ) (n : ℕ) → AllByRecursion (λ m. m < n) ns → Rises ns → Rises (ns ++ n ∷ [])
 rises_end [] n h g = (tt, tt)
-rises_end (m ∷ ns) n h g = (all_more _ ns (n ∷ []) g.0 (h.0, tt), rises_end ns n h.1 g.1)
+rises_end (m ∷ ns) n h g = (all_join _ ns (n ∷ []) g.0 (h.0, tt), rises_end ns n h.1 g.1)
 
 below_under : (n m : ℕ) → n ≤ m → AllByRecursion (λ i. i < m) (below n)
 below_under zero m h = tt
-below_under (suc n) m h = all_more _ (below n) (n ∷ []) (below_under n m (omega (arith, h))) (omega (arith, h), tt)
+below_under (suc n) m h = all_join _ (below n) (n ∷ []) (below_under n m (omega (arith, h))) (omega (arith, h), tt)
 
 below_rises : (n : ℕ) → Rises (below n)
 below_rises zero = tt
@@ -67,7 +66,7 @@ below_all r (e ∷ es) h = (h.0, below_all r es h.1)
 
 joined : (es fs : List Event) → Ascends es → Ascends fs → AllByRecursion (λ e. IsBelowEach (rank e) fs) es → Ascends (es ++ fs)
 joined [] fs h g i = g
-joined (e ∷ es) fs h g i = (each_below (rank e) (es ++ fs) (all_more _ es fs (below_all (rank e) es h.0) (below_all (rank e) fs i.0)), joined es fs h.1 g i.1)
+joined (e ∷ es) fs h g i = (each_below (rank e) (es ++ fs) (all_join _ es fs (below_all (rank e) es h.0) (below_all (rank e) fs i.0)), joined es fs h.1 g i.1)
 
 filtered : (p : Event → Bool) (es : List Event) → Ascends es → Ascends (filter p es)
 filtered p [] h = tt
@@ -99,7 +98,7 @@ one_number j kind ns r h = record { ascends = ascend ns h; kinds = all_kinds ns 
 
 all_two : (P : Event → Type 0) (Q : ℕ → Type 0) (kind : ℕ → ℕ → Event) (xs ys : List ℕ) → ((x y : ℕ) → Q x → P (kind x y)) → AllByRecursion Q xs → AllByRecursion P (each_two kind xs ys)
 all_two P Q kind [] ys k h = tt
-all_two P Q kind (x ∷ xs) ys k h = all_more P (map (kind x) ys) (each_two kind xs ys) (inner ys) (all_two P Q kind xs ys k h.1)
+all_two P Q kind (x ∷ xs) ys k h = all_join P (map (kind x) ys) (each_two kind xs ys) (inner ys) (all_two P Q kind xs ys k h.1)
   where
     inner : (ys : List ℕ) → AllByRecursion P (map (kind x) ys)
     inner [] = tt
@@ -138,14 +137,14 @@ Graded n (es ∷ ess) = IsGroup n es × Graded (n + 1) ess
 
 from_kind : (n : ℕ) (ess : List (List Event)) → Graded n ess → AllByRecursion (λ e. n ≤ (rank e).kind) (flat_map (λ es. es) ess)
 from_kind n [] h = tt
-from_kind n (es ∷ ess) h = all_more _ es (flat_map (λ es. es) ess)
-    (all_each _ _ es (λ e q. omega (arith, q)) h.0.kinds)
-    (all_each _ _ (flat_map (λ es. es) ess) (λ e q. omega (arith, q)) (from_kind (n + 1) ess h.1))
+from_kind n (es ∷ ess) h = all_join _ es (flat_map (λ es. es) ess)
+    (weaker _ _ es (λ e q. omega (arith, q)) h.0.kinds)
+    (weaker _ _ (flat_map (λ es. es) ess) (λ e q. omega (arith, q)) (from_kind (n + 1) ess h.1))
 
 graded : (n : ℕ) (ess : List (List Event)) → Graded n ess → Ascends (flat_map (λ es. es) ess)
 graded n [] h = tt
 graded n (es ∷ ess) h = joined es (flat_map (λ es. es) ess) h.0.ascends (graded (n + 1) ess h.1)
-    (all_each _ _ es (λ e q. each_below (rank e) (flat_map (λ es. es) ess) (all_each _ _ (flat_map (λ es. es) ess) (λ f l. kind_below (rank e) (rank f) (omega (arith, q, l))) (from_kind (n + 1) ess h.1))) h.0.kinds)
+    (weaker _ _ es (λ e q. each_below (rank e) (flat_map (λ es. es) ess) (weaker _ _ (flat_map (λ es. es) ess) (λ f l. kind_below (rank e) (rank f) (omega (arith, q, l))) (from_kind (n + 1) ess h.1))) h.0.kinds)
 
 pub candidates_ascend : {C : Type 0} (w : Fixed C) (s : Machine C) → Ascends (candidates w s)
 candidates_ascend w s =

@@ -10,6 +10,7 @@ use Rattle.protocol.specs.Words.{greatest, is_doomed, is_live_status, is_value, 
 use Rattle.protocol.specs.Spread.{stands_behind, carries_to, carried, raised, crossed_out, is_crossed, reaches}
 use Rattle.protocol.specs.OnBook as book
 use Rattle.protocol_laws.proofs.first.Lists.{weaker}
+use Rattle.protocol_laws.proofs.first.Statuses.{doomed_decided, doomed_sealed, ordered_decided}
 
 -- ---- what is kept of the ACTs, walked from the oldest
 
@@ -20,12 +21,6 @@ Over pairs x xs = AllByRecursion (λ y. carries_to pairs x y ≡ true → y.m �
 pub CarriedOn : List Pair → List Act → Type 0
 CarriedOn pairs [] = Unit {0}
 CarriedOn pairs (x ∷ xs) = Over pairs x xs × CarriedOn pairs xs
-
-pub live_unordered : (st : Status) → is_live_status st ≡ true → is_ordered st ≡ false
-live_unordered Live e = refl
-live_unordered (Doomed v) e = refl
-live_unordered (Decided c) e = absurd (true≢false (sym e))
-live_unordered (Sealed c) e = absurd (true≢false (sym e))
 
 -- ---- changes of one ACT each, that leave its tid and number and undoom nobody
 
@@ -169,26 +164,8 @@ result_keeps r x = record { tid = refl; m = refl; doomed = λ e. e; placed = λ 
 pub marked_keeps : (a : ℕ) (f : Joined → Joined) (x : Act) → Keeps x (book.marked a f x)
 marked_keeps a f x = record { tid = refl; m = refl; doomed = λ e. e; placed = λ e. e }
 
-decided_doomed : (c : ℕ) (b : Bool) (st : Status) → is_doomed st ≡ true → is_doomed (book.decided_status c b st) ≡ true
-decided_doomed c b Live h = absurd (true≢false (sym h))
-decided_doomed c b (Doomed v) h = refl
-decided_doomed c b (Decided d) h = absurd (true≢false (sym h))
-decided_doomed c b (Sealed d) h = absurd (true≢false (sym h))
-
-decided_placed : (c : ℕ) (b : Bool) (st : Status) → is_ordered st ≡ true → is_ordered (book.decided_status c b st) ≡ true
-decided_placed c b Live h = absurd (true≢false (sym h))
-decided_placed c b (Doomed v) h = h
-decided_placed c b (Decided d) h = h
-decided_placed c b (Sealed d) h = h
-
 pub decided_keeps : (c : ℕ) (x : Act) → Keeps x (book.decided_as c x)
-decided_keeps c x = record { tid = refl; m = refl; doomed = decided_doomed c (is_value x.result) x.status; placed = decided_placed c (is_value x.result) x.status }
-
-sealed_doomed : (st : Status) → is_doomed st ≡ true → is_doomed (book.sealed_status st) ≡ true
-sealed_doomed Live h = h
-sealed_doomed (Doomed v) h = refl
-sealed_doomed (Decided d) h = absurd (true≢false (sym h))
-sealed_doomed (Sealed d) h = h
+decided_keeps c x = record { tid = refl; m = refl; doomed = doomed_decided c (is_value x.result) x.status; placed = ordered_decided c (is_value x.result) x.status }
 
 sealed_placed : (st : Status) → is_ordered st ≡ true → is_ordered (book.sealed_status st) ≡ true
 sealed_placed Live h = h
@@ -197,7 +174,7 @@ sealed_placed (Decided d) h = refl
 sealed_placed (Sealed d) h = h
 
 pub sealed_keeps : (x : Act) → Keeps x (book.sealed x)
-sealed_keeps x = record { tid = refl; m = refl; doomed = sealed_doomed x.status; placed = sealed_placed x.status }
+sealed_keeps x = record { tid = refl; m = refl; doomed = doomed_sealed x.status; placed = sealed_placed x.status }
 
 pub cascaded_keeps : (k by : ℕ) (x : Act) → Keeps x (book.cascaded k by x)
 cascaded_keeps k by x = record { tid = refl; m = refl; doomed = doomed_or _ _ x.status; placed = placed_or _ _ x.status }

@@ -43,8 +43,8 @@ both t (x ∷ xs) h k = (strictly x.tid h.0 k.0, both t xs h.1 k.1)
     strictly : (u : ℕ) → t ≤ u → u ≢ t → t < u
     strictly u p q = elim (cases_lt t u) [ inl a ↦ a | inr b ↦ absurd (q (omega (arith, p, b))) ]
 
-younger : {C : Type 0} (t : ℕ) (c : Cell C) → has_act t c.entries ≡ false → book.in_the_way t c ≡ None → AllByRecursion (λ x. t < x.tid) (book.met t c)
-younger t c h e = both t (book.met t c) (none_older t (book.met t c) e) (all_filter (λ x. x.tid ≢ t) (rivals (record { tid = t })) (tail_group c.entries) (not_there t [] c.entries h tt))
+younger : {C : Type 0} (t : ℕ) (c : Cell C) → has_act t c.entries ≡ false → book.in_the_way t c.entries ≡ None → AllByRecursion (λ x. t < x.tid) (book.met t c.entries)
+younger t c h e = both t (book.met t c.entries) (none_older t (book.met t c.entries) e) (all_filter (λ x. x.tid ≢ t) (rivals (record { tid = t })) (tail_group c.entries) (not_there t [] c.entries h tt))
 
 new_older : (t a : ℕ) (group : List Lock) (acts : List Act) → AllByRecursion (λ x. t < x.tid) group → AllByRecursion IsOlder (book.new_pairs t a group acts)
 new_older t a group acts h = all_map (λ x. t < x.tid) IsOlder (λ x. record { behind = t; ahead = x.tid; actor = a }) (filter (λ x. not (book.is_doomed_act acts x)) group) (λ x k. k) (all_filter (λ x. t < x.tid) (λ x. not (book.is_doomed_act acts x)) group h)
@@ -105,7 +105,7 @@ kept w (Admit t) s ok h = record {
   based = pairs.based_more (base w.text) s.book.acts _ (omega arith) h.based;
 }
 kept w (Arrive k a) s ok h = mapped _ (crossed_out a) _ _ (pairs.crossed_keeps a) (mapped _ (book.lowered k (book.tids_on (cell_at s a).entries)) _ _ (pairs.lowered_keeps k _) h)
-kept w (Ask t a) s ok h = asked (base w.text) (book.in_the_way t (cell_at s a)) (book.met t (cell_at s a)) t a (cell_at s a) s.book (younger t (cell_at s a) (no_entry t s.cells a ok.1.1.0)) h
+kept w (Ask t a) s ok h = asked (base w.text) (book.in_the_way t (cell_at s a).entries) (book.met t (cell_at s a).entries) t a (cell_at s a) s.book (younger t (cell_at s a) (no_entry t s.cells a ok.1.1.0)) h
 kept w (End t a) s ok h = ended (base w.text) t (has_act t (cell_at s a).entries) (outcome_of t (cell_at s a).outbox) s.book.acts s.book.pairs h
 kept w (Abort k) s ok h = mapped _ _ _ _ (pairs.cascaded_keeps k _) h
 kept w (Prepare t a) s ok h = mapped _ _ _ _ (pairs.changed_keeps t _ (pairs.marked_keeps a book.is_prepared)) h

@@ -10,13 +10,12 @@ use Rattle.protocol.specs.Effects.{after}
 use Rattle.protocol.specs.Runs.{opening, new_cell, IsRun, reached}
 use Rattle.protocol_laws.specs.Ranges.{IsWithin, SubInRange, CellInRange, BatchInRange, ActInRange, NumbersInRange}
 use Rattle.protocol_laws.proofs.first.Along.{along}
-use Rattle.protocol_laws.proofs.first.AllOf.{all_mapped}
 use Rattle.protocol_laws.proofs.first.RangesNamed as named
 use Rattle.protocol_laws.proofs.first.RangesNamed.{Named, cells_stay}
 use Rattle.protocol_laws.proofs.first.RangesLying as lying
 use Rattle.protocol_laws.proofs.first.RangesLying.{Lying}
 use Rattle.protocol_laws.proofs.first.Times
-use Rattle.protocol_laws.proofs.first.Lists.{all_each}
+use Rattle.protocol_laws.proofs.first.Lists.{all_unmapped, weaker}
 
 record InRange {C : Type 0} (w : Fixed C) (s : Machine C) : Type 0 where
   actors : length s.cells ≡ length w.text.opening.states
@@ -37,8 +36,8 @@ all_batches w s [] f g h = tt
 all_batches w s (b ∷ bs) f g h = (
   record {
     bid = f.0;
-    actors = all_mapped _ _ (λ p. p.actor) b.places (λ p l. l) h.0;
-    tids = all_mapped _ _ (λ p. p.tid) b.pacts (λ p l. l) g.0;
+    actors = all_unmapped _ _ (λ p. p.actor) b.places (λ p l. l) h.0;
+    tids = all_unmapped _ _ (λ p. p.tid) b.pacts (λ p l. l) g.0;
   },
   all_batches w s bs f.1 g.1 h.1,
 )
@@ -46,7 +45,7 @@ all_batches w s (b ∷ bs) f g h = (
 all_acts : {C : Type 0} (w : Fixed C) (s : Machine C) (xs : List Act) → AllByRecursion (IsWithin w.text.opening.next_tid s.ring.next_tid) (map (λ x. x.tid) xs)
     → AllByRecursion (AllByRecursion (λ a. a < length w.text.opening.states)) (map (λ x. map (λ p. p.actor) x.places) xs) → AllByRecursion (ActInRange w s) xs
 all_acts w s [] f h = tt
-all_acts w s (x ∷ xs) f h = (record { tid = f.0; actors = all_mapped _ _ (λ p. p.actor) x.places (λ p l. l) h.0 }, all_acts w s xs f.1 h.1)
+all_acts w s (x ∷ xs) f h = (record { tid = f.0; actors = all_unmapped _ _ (λ p. p.actor) x.places (λ p l. l) h.0 }, all_acts w s xs f.1 h.1)
 
 pub numbers_in_range : {C : Type 0} (w : Fixed C) (es : List Event) → IsText w.text → IsRun w es → NumbersInRange w (reached w es)
 numbers_in_range w es text run =
@@ -57,9 +56,9 @@ numbers_in_range w es text run =
     record {
       actors = h.actors;
       replied = n.replied_are;
-      subs = all_each _ (SubInRange w s) s.post.subs (λ m g. record { bid = g.bid_in; actor = g.actor_in }) l.subs_lie;
+      subs = weaker _ (SubInRange w s) s.post.subs (λ m g. record { bid = g.bid_in; actor = g.actor_in }) l.subs_lie;
       controls = l.controls_lie;
-      cells = all_each _ (CellInRange w s) s.cells (λ c g. record { inbox = g.inbox; outbox = g.outbox; batches = g.batches }) l.cells_lie;
+      cells = weaker _ (CellInRange w s) s.cells (λ c g. record { inbox = g.inbox; outbox = g.outbox; batches = g.batches }) l.cells_lie;
       batches = all_batches w s s.desk.batches n.batches_in n.pacts_in n.places_in;
       acts = all_acts w s s.book.acts n.acts_in n.joined_in;
     }

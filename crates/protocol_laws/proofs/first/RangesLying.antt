@@ -16,10 +16,9 @@ use Rattle.protocol.specs.OnPost as post
 use Rattle.protocol.specs.OnBook as book
 use Rattle.protocol.specs.OnCell as cell
 use Rattle.protocol_laws.specs.Ranges.{IsWithin}
-use Rattle.protocol_laws.proofs.first.AllOf.{all_more, all_filter, all_at, all_found}
 use Rattle.protocol_laws.proofs.first.RangesNamed.{Named, higher, next_exist, tids_are, bids_are}
 use Rattle.protocol_laws.proofs.first.Drawn.{length_numbered}
-use Rattle.protocol_laws.proofs.first.Lists.{all_each, all_map, all_set}
+use Rattle.protocol_laws.proofs.first.Lists.{all_filter, all_found, all_get, all_join, all_map, all_set, weaker}
 
 -- ---- what lies where
 
@@ -80,7 +79,7 @@ on_staying P cs (ActEntry x ∷ es) h = on_staying P cs es h
 
 named_sub : (bid bids actors k a : ℕ) (subs : List SubBatch) (m : SubBatch) → AllByRecursion (SubLies bid bids actors) subs → sub_of k a subs ≡ Some m → IsWithin bid bids k
 named_sub bid bids actors k a subs m h e =
-    let f = all_found (SubLies bid bids actors) (λ m. (m.bid == k) && (m.actor == a)) subs m e h in
+    let f = all_found (SubLies bid bids actors) (λ m. (m.bid == k) && (m.actor == a)) subs m h e in
     subst (IsWithin bid bids) (eqb-true m.bid k (and_parts (m.bid == k) (m.actor == a) f.1).0) f.0.bid_in
 
 batch_placed : (bid bids actors k a : ℕ) (subs : List SubBatch) (o : Option SubBatch) → AllByRecursion (SubLies bid bids actors) subs → sub_of k a subs ≡ o → AllByRecursion (IsWithin bid bids) (batches_on (cell.batch_entries k o))
@@ -89,7 +88,7 @@ batch_placed bid bids actors k a subs (Some m) h e = (named_sub bid bids actors 
 
 came : {C : Type 0} (tid tids t : ℕ) (controls : List (ControlMessage C)) (o : Option (ControlMessage C)) → AllByRecursion (λ m. IsWithin tid tids m.tid) controls → control_of t controls ≡ o → AllByRecursion (λ x. IsWithin tid tids x.tid) (cell.arrived o)
 came tid tids t controls None h e = tt
-came tid tids t controls (Some m) h e = ((all_found (λ m. IsWithin tid tids m.tid) (λ m. m.tid == t) controls m e h).0, tt)
+came tid tids t controls (Some m) h e = ((all_found (λ m. IsWithin tid tids m.tid) (λ m. m.tid == t) controls m h e).0, tt)
 
 came_or_not : {C : Type 0} (tid tids t : ℕ) (older : Option ℕ) (controls : List (ControlMessage C)) → AllByRecursion (λ m. IsWithin tid tids m.tid) controls → AllByRecursion (λ x. IsWithin tid tids x.tid) (cell.where_placed older (control_of t controls))
 came_or_not tid tids t None controls h = came tid tids t controls (control_of t controls) h refl
@@ -98,7 +97,7 @@ came_or_not tid tids t (Some u) controls h = tt
 ran : {C : Type 0} (tid tids t : ℕ) (code : Code C) (s : State) (inbox : List (Waiting C)) (o : Option (Waiting C)) → AllByRecursion (λ x. IsWithin tid tids x.tid) inbox → waiting_of t inbox ≡ o → AllByRecursion (λ x. IsWithin tid tids x.tid) (cell.outcomes t (cell.sliced code s o))
 ran tid tids t code s inbox None h e = tt
 ran tid tids t code s inbox (Some x) h e =
-    let f = all_found (λ x. IsWithin tid tids x.tid) (λ x. x.tid == t) inbox x e h in
+    let f = all_found (λ x. IsWithin tid tids x.tid) (λ x. x.tid == t) inbox x h e in
     (subst (IsWithin tid tids) (eqb-true x.tid t f.1) f.0, tt)
 
 goes : {C : Type 0} (tid tids t : ℕ) (who : Who) (n : Next C) → IsWithin tid tids t → AllByRecursion (λ m. IsWithin tid tids m.tid) (post.going_on who t n)
@@ -107,7 +106,7 @@ goes tid tids t who (Ended r) h = tt
 
 went : {C : Type 0} (tid tids t : ℕ) (who : Who) (outbox : List (Outcome C)) (o : Option (Outcome C)) → AllByRecursion (λ x. IsWithin tid tids x.tid) outbox → outcome_of t outbox ≡ o → AllByRecursion (λ m. IsWithin tid tids m.tid) (post.going who o)
 went tid tids t who outbox None h e = tt
-went tid tids t who outbox (Some x) h e = goes tid tids x.tid who x.next (all_found (λ x. IsWithin tid tids x.tid) (λ x. x.tid == t) outbox x e h).0
+went tid tids t who outbox (Some x) h e = goes tid tids x.tid who x.next (all_found (λ x. IsWithin tid tids x.tid) (λ x. x.tid == t) outbox x h e).0
 
 -- ---- cells
 
@@ -131,8 +130,8 @@ run_on bid bids t a code c h = by (cell.is_done_after code a (cell.slice_of code
 
 higher_cell : {C : Type 0} (tid tids few bid bids more : ℕ) (c : Cell C) → CellLies tid tids bid bids c → CellLies tid (tids + few) bid (bids + more) c
 higher_cell tid tids few bid bids more c h = record {
-  inbox = all_each _ _ c.inbox (λ x g. record { reached = g.reached; below = omega (arith, g.below) }) h.inbox;
-  outbox = all_each _ _ c.outbox (λ x g. record { reached = g.reached; below = omega (arith, g.below) }) h.outbox;
+  inbox = weaker _ _ c.inbox (λ x g. record { reached = g.reached; below = omega (arith, g.below) }) h.inbox;
+  outbox = weaker _ _ c.outbox (λ x g. record { reached = g.reached; below = omega (arith, g.below) }) h.outbox;
   batches = higher bid bids more (batches_on c.entries) h.batches;
 }
 
@@ -152,7 +151,7 @@ at_actor : {C : Type 0} (w : Fixed C) (s : Machine C) (a : ℕ) (subs : List Sub
 at_actor {C} w s a subs controls c f g k h = record {
   subs_lie = f;
   controls_lie = g;
-  cells_lie = all_set _ s.cells a c (k (all_at _ s.cells a no_cell (no_cell_lies C _ _ _ _) h)) h;
+  cells_lie = all_set _ s.cells a c (k (all_get _ s.cells a no_cell (no_cell_lies C _ _ _ _) h)) h;
 }
 
 all_numbered : (low high t : ℕ) (ns : List ℕ) → low ≤ t → t + length ns ≤ high → AllByRecursion (λ p. IsWithin low high p.tid) (numbered t ns)
@@ -164,13 +163,13 @@ formed : {C : Type 0} (w : Fixed C) (s : Machine C) (k few : ℕ) (ps : List Pac
     (s.post.subs ++ map (Rattle.protocol.specs.OnRing.first_sub w.text k s.ring) (next_actors w.text s.ring)) (s.post.controls ++ map (λ q. post.first_control w (OfBatch k) q.tid q.tx) ps) s.cells
 unfolding Lying
 formed w s k few ps e n new h = record {
-  subs_lie = all_more _ s.post.subs _
-      (all_each _ _ s.post.subs (λ m g. record { bid_in = record { reached = g.bid_in.reached; below = omega (arith, g.bid_in.below) }; actor_in = g.actor_in }) h.subs_lie)
+  subs_lie = all_join _ s.post.subs _
+      (weaker _ _ s.post.subs (λ m g. record { bid_in = record { reached = g.bid_in.reached; below = omega (arith, g.bid_in.below) }; actor_in = g.actor_in }) h.subs_lie)
       (all_map _ _ (Rattle.protocol.specs.OnRing.first_sub w.text k s.ring) (next_actors w.text s.ring) (λ a g. record { bid_in = record { reached = omega (arith, e, bids_are w s n); below = omega (arith, e) }; actor_in = g }) (next_exist w s n));
-  controls_lie = all_more _ s.post.controls _
-      (all_each _ _ s.post.controls (λ m g. record { reached = g.reached; below = omega (arith, g.below) }) h.controls_lie)
+  controls_lie = all_join _ s.post.controls _
+      (weaker _ _ s.post.controls (λ m g. record { reached = g.reached; below = omega (arith, g.below) }) h.controls_lie)
       (all_map _ _ _ ps (λ p g. g) new);
-  cells_lie = all_each _ _ s.cells (λ c g. higher_cell _ _ few _ _ 1 c g) h.cells_lie;
+  cells_lie = weaker _ _ s.cells (λ c g. higher_cell _ _ few _ _ 1 c g) h.cells_lie;
 }
 
 pub kept : {C : Type 0} (w : Fixed C) (e : Event) (s : Machine C) → IsAllowed w e s → Named w s → Lying w s → Lying w (after w e s)
@@ -180,36 +179,36 @@ kept w (Form k) s ok n h =
     (all_numbered w.text.opening.next_tid (s.ring.next_tid + length (next_pacts w.text s.ring)) s.ring.next_tid (take w.text.batch (queue s.ring.pacts s.ring.holder)) (tids_are w s n) (omega (arith, length_numbered s.ring.next_tid (take w.text.batch (queue s.ring.pacts s.ring.holder))))) h
 kept {C} w (Admit t) s ok n h = record {
   subs_lie = h.subs_lie;
-  controls_lie = all_more _ s.post.controls _
-      (all_each _ _ s.post.controls (λ m g. record { reached = g.reached; below = omega (arith, g.below) }) h.controls_lie)
+  controls_lie = all_join _ s.post.controls _
+      (weaker _ _ s.post.controls (λ m g. record { reached = g.reached; below = omega (arith, g.below) }) h.controls_lie)
       (record { reached = omega (arith, eqb-true t s.ring.next_tid ok.0, tids_are w s n); below = omega (arith, eqb-true t s.ring.next_tid ok.0) }, tt);
-  cells_lie = all_each _ _ s.cells (λ c g. admitted c g) h.cells_lie;
+  cells_lie = weaker _ _ s.cells (λ c g. admitted c g) h.cells_lie;
 }
   where
     admitted : (c : Cell C) → CellLies w.text.opening.next_tid s.ring.next_tid w.text.opening.next_bid s.ring.next_bid c → CellLies w.text.opening.next_tid (s.ring.next_tid + 1) w.text.opening.next_bid s.ring.next_bid c
     admitted c g = record {
-      inbox = all_each _ _ c.inbox (λ x i. record { reached = i.reached; below = omega (arith, i.below) }) g.inbox;
-      outbox = all_each _ _ c.outbox (λ x i. record { reached = i.reached; below = omega (arith, i.below) }) g.outbox;
+      inbox = weaker _ _ c.inbox (λ x i. record { reached = i.reached; below = omega (arith, i.below) }) g.inbox;
+      outbox = weaker _ _ c.outbox (λ x i. record { reached = i.reached; below = omega (arith, i.below) }) g.outbox;
       batches = g.batches;
     }
 kept w (Arrive k a) s ok n h = at_actor w s a _ _ _ (all_filter _ _ s.post.subs h.subs_lie) h.controls_lie
     (λ g. record { inbox = g.inbox; outbox = g.outbox; batches = on_more _ (cell_at s a).entries _ g.batches (batch_placed _ _ _ k a s.post.subs (sub_of k a s.post.subs) h.subs_lie refl) }) h.cells_lie
 kept w (Ask t a) s ok n h = at_actor w s a _ _ _ h.subs_lie (all_filter _ _ s.post.controls h.controls_lie)
     (λ g. record {
-      inbox = all_more _ (cell_at s a).inbox _ g.inbox (came_or_not _ _ t (book.in_the_way t (cell_at s a)) s.post.controls h.controls_lie);
+      inbox = all_join _ (cell_at s a).inbox _ g.inbox (came_or_not _ _ t (book.in_the_way t (cell_at s a).entries) s.post.controls h.controls_lie);
       outbox = g.outbox;
-      batches = asked_on _ _ t (book.in_the_way t (cell_at s a)) (cell_at s a).entries g.batches;
+      batches = asked_on _ _ t (book.in_the_way t (cell_at s a).entries) (cell_at s a).entries g.batches;
     }) h.cells_lie
 kept w (Take t a) s ok n h = at_actor w s a _ _ _ h.subs_lie (all_filter _ _ s.post.controls h.controls_lie)
-    (λ g. record { inbox = all_more _ (cell_at s a).inbox _ g.inbox (came _ _ t s.post.controls (control_of t s.post.controls) h.controls_lie refl); outbox = g.outbox; batches = g.batches }) h.cells_lie
+    (λ g. record { inbox = all_join _ (cell_at s a).inbox _ g.inbox (came _ _ t s.post.controls (control_of t s.post.controls) h.controls_lie refl); outbox = g.outbox; batches = g.batches }) h.cells_lie
 kept w (Run t a) s ok n h = at_actor w s a _ _ _ h.subs_lie h.controls_lie
     (λ g. record {
       inbox = all_filter _ _ (cell_at s a).inbox g.inbox;
-      outbox = all_more _ (cell_at s a).outbox _ g.outbox (ran _ _ t w.code (cell_at s a).state (cell_at s a).inbox (waiting_of t (cell_at s a).inbox) g.inbox refl);
+      outbox = all_join _ (cell_at s a).outbox _ g.outbox (ran _ _ t w.code (cell_at s a).state (cell_at s a).inbox (waiting_of t (cell_at s a).inbox) g.inbox refl);
       batches = run_on _ _ t a w.code (cell_at s a) g.batches;
     }) h.cells_lie
 kept {C} w (Send t a) s ok n h = at_actor w s a _ _ _ h.subs_lie
-    (all_more _ s.post.controls _ h.controls_lie (went _ _ t (who_on t (cell_at s a).entries) (cell_at s a).outbox (outcome_of t (cell_at s a).outbox) (all_at (CellLies w.text.opening.next_tid s.ring.next_tid w.text.opening.next_bid s.ring.next_bid) s.cells a no_cell (no_cell_lies C w.text.opening.next_tid s.ring.next_tid w.text.opening.next_bid s.ring.next_bid) h.cells_lie).outbox refl))
+    (all_join _ s.post.controls _ h.controls_lie (went _ _ t (who_on t (cell_at s a).entries) (cell_at s a).outbox (outcome_of t (cell_at s a).outbox) (all_get (CellLies w.text.opening.next_tid s.ring.next_tid w.text.opening.next_bid s.ring.next_bid) s.cells a no_cell (no_cell_lies C w.text.opening.next_tid s.ring.next_tid w.text.opening.next_bid s.ring.next_bid) h.cells_lie).outbox refl))
     (λ g. record { inbox = g.inbox; outbox = all_filter _ _ (cell_at s a).outbox g.outbox; batches = g.batches }) h.cells_lie
 kept w (End t a) s ok n h = at_actor w s a _ _ _ h.subs_lie h.controls_lie (λ g. record { inbox = g.inbox; outbox = all_filter _ _ (cell_at s a).outbox g.outbox; batches = g.batches }) h.cells_lie
 kept w (Close t a) s ok n h = at_actor w s a _ _ _ h.subs_lie h.controls_lie (λ g. record { inbox = g.inbox; outbox = g.outbox; batches = on_done _ t (cell_at s a).entries g.batches }) h.cells_lie

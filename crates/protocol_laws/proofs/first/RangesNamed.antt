@@ -19,11 +19,10 @@ use Rattle.protocol.specs.OnRing.{next_actors, with_lasts}
 use Rattle.protocol.specs.OnBook as book
 use Rattle.protocol.specs.OnDesk as desk
 use Rattle.protocol_laws.specs.Ranges.{IsWithin}
-use Rattle.protocol_laws.proofs.first.AllOf.{all_more, all_mapped, all_filter}
 use Rattle.protocol_laws.proofs.first.Drawn.{numbered_tids, length_numbered}
 use Rattle.protocol_laws.proofs.first.Frames.{frame}
 use Rattle.protocol_laws.proofs.first.Times
-use Rattle.protocol_laws.proofs.first.Lists.{all_each, all_map}
+use Rattle.protocol_laws.proofs.first.Lists.{all_filter, all_join, all_map, all_unmapped, weaker}
 
 abbrev pub actors_of : List Joined → List ℕ
 actors_of places = map (λ p. p.actor) places
@@ -65,10 +64,10 @@ same a b c d e f g i j h = rw (a, b, c, d, e, f, g, i, j) h
 
 -- the upper end rises
 pub higher : (low high more : ℕ) (ns : List ℕ) → AllByRecursion (IsWithin low high) ns → AllByRecursion (IsWithin low (high + more)) ns
-higher low high more ns h = all_each _ _ ns (λ n g. record { reached = g.reached; below = omega (arith, g.below) }) h
+higher low high more ns h = weaker _ _ ns (λ n g. record { reached = g.reached; below = omega (arith, g.below) }) h
 
 higher_each : (low high more : ℕ) (nss : List (List ℕ)) → AllByRecursion (AllByRecursion (IsWithin low high)) nss → AllByRecursion (AllByRecursion (IsWithin low (high + more))) nss
-higher_each low high more nss h = all_each _ _ nss (λ ns g. higher low high more ns g) h
+higher_each low high more nss h = weaker _ _ nss (λ ns g. higher low high more ns g) h
 
 all_from : (low high n k : ℕ) → low ≤ n → n + k ≤ high → AllByRecursion (IsWithin low high) (from n k)
 all_from low high n zero l u = tt
@@ -76,7 +75,7 @@ all_from low high n (suc k) l u = (record { reached = l; below = omega (arith, u
 
 pub all_below : (n m : ℕ) → n ≤ m → AllByRecursion (λ a. a < m) (below n)
 all_below zero m l = tt
-all_below (suc n) m l = all_more _ (below n) (n ∷ []) (all_below n m (omega (arith, l))) (omega (arith, l), tt)
+all_below (suc n) m l = all_join _ (below n) (n ∷ []) (all_below n m (omega (arith, l))) (omega (arith, l), tt)
 
 new_actors : (ks : List ℕ) (actors : ℕ) → AllByRecursion (λ a. a < actors) ks → AllByRecursion (λ a. a < actors) (map (λ p. p.actor) (map desk.new_declared ks))
 new_actors [] actors h = tt
@@ -93,9 +92,9 @@ form tid nt few bid nb actors l l' txs r bs as' ps qs js new e g h = record {
   bids_rose = omega (arith, h.bids_rose);
   lasts_are = e ∙ h.lasts_are;
   replied_are = h.replied_are;
-  batches_in = all_more _ bs (nb ∷ []) (higher bid nb 1 bs h.batches_in) (record { reached = h.bids_rose; below = omega arith }, tt);
-  pacts_in = all_more _ ps (from nt few ∷ []) (higher_each tid nt few ps h.pacts_in) (all_from tid (nt + few) nt few h.tids_rose (omega arith), tt);
-  places_in = all_more _ qs (new ∷ []) h.places_in (g, tt);
+  batches_in = all_join _ bs (nb ∷ []) (higher bid nb 1 bs h.batches_in) (record { reached = h.bids_rose; below = omega arith }, tt);
+  pacts_in = all_join _ ps (from nt few ∷ []) (higher_each tid nt few ps h.pacts_in) (all_from tid (nt + few) nt few h.tids_rose (omega arith), tt);
+  places_in = all_join _ qs (new ∷ []) h.places_in (g, tt);
   acts_in = higher tid nt few as' h.acts_in;
   joined_in = h.joined_in;
 }
@@ -110,8 +109,8 @@ admit tid nt bid nb actors l txs r bs as' ps qs js h = record {
   batches_in = h.batches_in;
   pacts_in = higher_each tid nt 1 ps h.pacts_in;
   places_in = h.places_in;
-  acts_in = all_more _ as' (nt ∷ []) (higher tid nt 1 as' h.acts_in) (record { reached = h.tids_rose; below = omega arith }, tt);
-  joined_in = all_more _ js ([] ∷ []) h.joined_in (tt, tt);
+  acts_in = all_join _ as' (nt ∷ []) (higher tid nt 1 as' h.acts_in) (record { reached = h.tids_rose; below = omega arith }, tt);
+  joined_in = all_join _ js ([] ∷ []) h.joined_in (tt, tt);
 }
 
 -- ---- an ACT joins an actor
@@ -120,7 +119,7 @@ abbrev pub JoinedIn : ℕ → Act → Type 0
 JoinedIn actors x = AllByRecursion (λ a. a < actors) (actors_of x.places)
 
 joins : (a m actors : ℕ) (b : Bool) (x : Act) → a < actors → JoinedIn actors x → JoinedIn actors (book.change_if b (book.joins a m) x)
-joins a m actors true x l h = subst (AllByRecursion (λ a. a < actors)) (sym (Times.map_join (λ p. p.actor) x.places _)) (all_more _ (actors_of x.places) (a ∷ []) h (l, tt))
+joins a m actors true x l h = subst (AllByRecursion (λ a. a < actors)) (sym (Times.map_join (λ p. p.actor) x.places _)) (all_join _ (actors_of x.places) (a ∷ []) h (l, tt))
 joins a m actors false x l h = h
 
 all_raised : (actors : ℕ) (pairs : List Pair) (xs : List Act) → AllByRecursion (JoinedIn actors) xs → AllByRecursion (JoinedIn actors) (raised pairs xs)
@@ -158,10 +157,10 @@ asked : {C : Type 0} (w : Fixed C) (t a : ℕ) (s : Machine C) → IsAllowed w (
 unfolding Named conditions after
 asked w t a s ok n h =
     let actors = length w.text.opening.states in
-    let joined : AllByRecursion (JoinedIn actors) s.book.acts = all_mapped (JoinedIn actors) _ (λ x. actors_of x.places) s.book.acts (λ x g. g) h.joined_in in
+    let joined : AllByRecursion (JoinedIn actors) s.book.acts = all_unmapped (JoinedIn actors) _ (λ x. actors_of x.places) s.book.acts (λ x g. g) h.joined_in in
     let within : a < actors = omega (arith, n, exists _ s.cells a ok.1.1.0) in
     all_map (JoinedIn actors) _ (λ x. actors_of x.places) _ (λ x g. g)
-    (all_asked actors (book.in_the_way t (cell_at s a)) (book.met t (cell_at s a)) t a (max (cell_at s a).last (cell_at s a).floor) s.book within joined)
+    (all_asked actors (book.in_the_way t (cell_at s a).entries) (book.met t (cell_at s a).entries) t a (max (cell_at s a).last (cell_at s a).floor) s.book within joined)
 
 pub kept : {C : Type 0} (w : Fixed C) (e : Event) (s : Machine C) → IsAllowed w e s → length s.cells ≡ length w.text.opening.states → Named w s → Named w (after w e s)
 unfolding Named conditions after

@@ -5,7 +5,8 @@ use Rattle.std.proofs.Common.{arith, sym, ap, subst, inl, inr, ◌∙◌}
 use Rattle.std.proofs.lemmas.Bool.{eqb-true, eqb-false, leb-true, le-leb, and_from, or_left, or_right, or_cases, true≢false, cases_lt}
 use Rattle.protocol.specs.Parts.{Stage, Formed, Committing, Settled, Cascade}
 use Rattle.protocol.specs.Words.{covers, is_aborted, is_formed, is_committing, is_settled}
-use Rattle.protocol_laws.proofs.first.SettlingKeys.{Key, IsIn, Rises, rises_more, rises_top, rises_within, one_key, is_over, OverBelow, Settle, in_more, in_front, in_map, mapped_in, rises_map, over_map, weaker, ascend_higher, none_covers, firsts, both_all, aborted_more, not_covered, ascend_more, over_at, over_from, over_more}
+use Rattle.protocol_laws.proofs.first.SettlingKeys.{Key, IsIn, Rises, rises_more, rises_top, rises_within, one_key, is_over, OverBelow, Settle, in_more, in_front, in_map, mapped_in, rises_map, over_map, ascend_higher, none_covers, firsts, aborted_more, not_covered, ascend_more, over_at, over_from, over_more}
+use Rattle.protocol_laws.proofs.first.Lists.{both_all, weaker}
 
 -- ---- a batch is formed
 

@@ -19,6 +19,7 @@ use Rattle.protocol_laws.proofs.first.Times
 use Rattle.protocol_laws.proofs.first.SettlingKeys as keys
 use Rattle.protocol_laws.proofs.first.SettlingKeys.{Key, IsIn, is_over, OverBelow}
 use Rattle.protocol_laws.proofs.first.SettlingEvents as events
+use Rattle.protocol_laws.proofs.first.Statuses.{committing_not_settled}
 
 -- ---- the keys of a desk
 
@@ -212,11 +213,6 @@ aborts_above w s k ok h =
     let p = and_parts (is_open f.batch) (is_next_to_commit k s.desk.batches) f.holds in
     let q = and_parts (is_formed f.batch.stage) (not f.batch.aborted) p.0 in
     above s.desk.settled k f.batch s.desk.batches f.bid f.is_in (rw (not-true f.batch.aborted q.1, events.not_settled (key_of f.batch) q.0) refl) h.below_settled
-
-committing_not_settled : (st : Stage) → is_committing st ≡ true → is_settled st ≡ false
-committing_not_settled Committing e = refl
-committing_not_settled Settled e = absurd (true≢false (sym e))
-committing_not_settled _ e = refl
 
 pub settles_above : {C : Type 0} (w : Fixed C) (s : Machine C) (k : ℕ) → IsAllowed w (Settle k) s → Settling w s → s.desk.settled < k
 unfolding Settling conditions

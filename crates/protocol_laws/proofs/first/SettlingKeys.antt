@@ -17,17 +17,6 @@ pub IsIn : Key → List Key → Type 0
 IsIn y [] = ⊥
 IsIn y (x ∷ xs) = (x ≡ y) ⊎ IsIn y xs
 
-pub all_at : (P : Key → Type 0) (y : Key) (xs : List Key) → AllByRecursion P xs → IsIn y xs → P y
-unfolding IsIn
-all_at P y [] h i = absurd i
-all_at P y (x ∷ xs) h (inl e) = subst P e h.0
-all_at P y (x ∷ xs) h (inr i) = all_at P y xs h.1 i
-
-pub all_of : (P : Key → Type 0) (xs : List Key) → ((y : Key) → IsIn y xs → P y) → AllByRecursion P xs
-unfolding IsIn
-all_of P [] h = tt
-all_of P (x ∷ xs) h = (h x (inl refl), all_of P xs (λ y i. h y (inr i)))
-
 -- numbers ascend strictly, from one on and below another
 unfoldable pub Rises : ℕ → ℕ → List Key → Type 0
 Rises low high [] = low ≤ high
@@ -122,10 +111,6 @@ pub over_map : (f : Key → Key) (j : ℕ) (xs : List Key) → ((x : Key) → (f
 unfolding OverBelow
 over_map f j xs kb ko h = λ y i l. let g = in_map f y xs i in subst (λ z. is_over z ≡ true) g.2 (ko g.0 g.1 (h g.0 g.1 (omega (arith, l, kb g.0, ap (λ z. z.bid) g.2))))
 
-pub weaker : (P Q : Cascade → Type 0) (cs : List Cascade) → ((c : Cascade) → P c → Q c) → AllByRecursion P cs → AllByRecursion Q cs
-weaker P Q [] k h = tt
-weaker P Q (c ∷ cs) k h = (k c h.0, weaker P Q cs k h.1)
-
 -- ---- cascades
 
 pub ascend_top : (low high : ℕ) (cs : List Cascade) → Ascend low high cs → low ≤ high
@@ -147,10 +132,6 @@ pub firsts : (low high : ℕ) (cs : List Cascade) → Ascend low high cs → All
 unfolding Ascend
 firsts low high [] h = tt
 firsts low high (c ∷ cs) h = (omega (arith, h.1, ascend_top (c.upto + 1) high cs h.2), firsts (c.upto + 1) high cs h.2)
-
-pub both_all : (P Q R : Cascade → Type 0) (cs : List Cascade) → ((c : Cascade) → P c → Q c → R c) → AllByRecursion P cs → AllByRecursion Q cs → AllByRecursion R cs
-both_all P Q R [] k h g = tt
-both_all P Q R (c ∷ cs) k h g = (k c h.0 g.0, both_all P Q R cs k h.1 g.1)
 
 pub aborted_more : (k : ℕ) (cs : List Cascade) (c : Cascade) → is_aborted k (cs ++ c ∷ []) ≡ (is_aborted k cs || covers k c)
 aborted_more k [] c = by (covers k c)

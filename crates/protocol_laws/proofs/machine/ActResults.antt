@@ -12,11 +12,12 @@ use Rattle.protocol.specs.Effects.{after, cell_at}
 use Rattle.protocol.specs.OnRing as ring
 use Rattle.protocol_laws.proofs.first.Controls as controls
 use Rattle.protocol_laws.proofs.machine.ControlWalk
-use Rattle.protocol_laws.proofs.machine.ControlWalk.{AllControls, all_found}
+use Rattle.protocol_laws.proofs.machine.ControlWalk.{AllControls}
 use Rattle.protocol_laws.proofs.machine.TurnsKept.{one_is}
 use Rattle.protocol_laws.proofs.machine.Resting.{ended_alone}
 use Rattle.protocol_laws.proofs.machine.ActsFound as acts
 use Rattle.protocol_laws.proofs.machine.ActsFound.{EachAct, Holds}
+use Rattle.protocol_laws.proofs.first.Lists.{all_found}
 
 -- the ACT with this tid has no result
 abbrev pub NoActResult : ℕ → List Act → Type 0
@@ -51,7 +52,7 @@ results_kept w (Admit t) s ok one d g =
     (ControlWalk.both (NoneActed s) (λ u n. Unit {0}) (NoneActed (after w (Admit t) s)) s (λ v n p q. acts.acts_keep w (Admit t) s (λ u x. u ≡ v → x.result ≡ None) (unresulted v) (λ m i. refl) p) g (ControlWalk.trivial s))
 results_kept w (Ask t a) s ok one d g = ControlWalk.both (NoneActed s) (λ u n. Unit {0}) (NoneActed (after w (Ask t a) s)) (after w (Ask t a) s) (λ v n p q. acts.acts_keep w (Ask t a) s (λ u x. u ≡ v → x.result ≡ None) (unresulted v) (λ x f k. k) p)
     (ControlWalk.moves w (Ask t a) s (NoneActed s) ok tt g) (ControlWalk.trivial (after w (Ask t a) s))
-results_kept {C} w (Run t a) s ok one d g = ControlWalk.moves w (Run t a) s (NoneActed s) ok (λ x e. let own = all_found (λ x. NoneActed s x.tid (Go a x.control)) (λ x. x.tid == t) x (cell_at s a).inbox e (g.inboxes a) in subst (λ z. NoActResult z s.book.acts) (eqb-true x.tid t own.1) own.0) g
+results_kept {C} w (Run t a) s ok one d g = ControlWalk.moves w (Run t a) s (NoneActed s) ok (λ x e. let own = all_found (λ x. NoneActed s x.tid (Go a x.control)) (λ x. x.tid == t) (cell_at s a).inbox x (g.inboxes a) e in subst (λ z. NoActResult z s.book.acts) (eqb-true x.tid t own.1) own.0) g
 results_kept w (End t a) s ok one d g = ControlWalk.both (NoneActed s) (λ u n. u ≡ t → ⊥) (NoneActed (after w (End t a) s)) (after w (End t a) s) (λ v n p q. acts.acts_keep w (End t a) s (λ u x. u ≡ v → x.result ≡ None) (unresulted v) (λ x r f k i. absurd (q (sym i))) p)
     (ControlWalk.moves w (End t a) s (NoneActed s) ok tt g) (ended_alone w t a s ok one)
 results_kept w (Decide t) s ok one d g = ControlWalk.both (NoneActed s) (λ u n. Unit {0}) (NoneActed (after w (Decide t) s)) (after w (Decide t) s) (λ v n p q. acts.acts_keep w (Decide t) s (λ u x. u ≡ v → x.result ≡ None) (unresulted v) (λ x f k. k) p)
@@ -64,7 +65,7 @@ results_kept w e s ok one d g = ControlWalk.both (NoneActed s) (λ u n. Unit {0}
 pub posted_none : {C : Type 0} (t a : ℕ) (s : Machine C) → has_control_to t a s.post.controls ≡ true → AllControls (NoneActed s) s → NoActResult t s.book.acts
 posted_none {C} t a s e g =
     let m = one_is (λ m. m.to == a) (control_of t s.post.controls) e in
-    let f = all_found (λ m. NoneActed s m.tid (Go m.to m.control)) (λ m. m.tid == t) m.0 s.post.controls m.1 g.posted in
+    let f = all_found (λ m. NoneActed s m.tid (Go m.to m.control)) (λ m. m.tid == t) s.post.controls m.0 g.posted m.1 in
     subst (λ z. NoActResult z s.book.acts) (eqb-true m.0.tid t f.1) f.0
 
 pub waiting_none : {C : Type 0} (t a : ℕ) (s : Machine C) → is_some (waiting_of t (cell_at s a).inbox) ≡ true → AllControls (NoneActed s) s → NoActResult t s.book.acts
@@ -72,10 +73,10 @@ waiting_none {C} t a s e g = by (waiting_of t (cell_at s a).inbox) refl e
   where
     by : (o : Option (Waiting C)) → waiting_of t (cell_at s a).inbox ≡ o → is_some o ≡ true → NoActResult t s.book.acts
     by None f q = absurd (true≢false (sym q))
-    by (Some x) f q = let h = all_found (λ x. NoneActed s x.tid (Go a x.control)) (λ x. x.tid == t) x (cell_at s a).inbox f (g.inboxes a) in subst (λ z. NoActResult z s.book.acts) (eqb-true x.tid t h.1) h.0
+    by (Some x) f q = let h = all_found (λ x. NoneActed s x.tid (Go a x.control)) (λ x. x.tid == t) (cell_at s a).inbox x (g.inboxes a) f in subst (λ z. NoActResult z s.book.acts) (eqb-true x.tid t h.1) h.0
 
 pub outcome_none : {C : Type 0} (p : Outcome C → Bool) (t a : ℕ) (s : Machine C) → holds p (outcome_of t (cell_at s a).outbox) ≡ true → AllControls (NoneActed s) s → NoActResult t s.book.acts
 outcome_none p t a s e g =
     let m = one_is p (outcome_of t (cell_at s a).outbox) e in
-    let f = all_found (λ x. NoneActed s x.tid x.next) (λ x. x.tid == t) m.0 (cell_at s a).outbox m.1 (g.outboxes a) in
+    let f = all_found (λ x. NoneActed s x.tid x.next) (λ x. x.tid == t) (cell_at s a).outbox m.0 (g.outboxes a) m.1 in
     subst (λ z. NoActResult z s.book.acts) (eqb-true m.0.tid t f.1) f.0

@@ -11,6 +11,7 @@ use Rattle.protocol.specs.Words.{holds, is_doomed, is_live_status, is_sealed, ac
 use Rattle.protocol.specs.Spread.{raised, crossed_out, is_crossed, reaches}
 use Rattle.protocol.specs.Effects.{after, cell_at}
 use Rattle.protocol.specs.OnBook as book
+use Rattle.protocol_laws.proofs.first.Statuses.{live_if}
 
 pub record Later (x y : Act) : Type 0 where
   pub tid : y.tid ≡ x.tid
@@ -70,10 +71,6 @@ changed_grows t f xs h = grows_map _ xs (λ x. if_later (x.tid == t) f x (h x))
 doomed_if : (b : Bool) (v : Verdict) (st : Status) → is_doomed st ≡ true → is_doomed (if b then Doomed v else st) ≡ true
 doomed_if true v st e = refl
 doomed_if false v st e = e
-
-live_if : (b : Bool) (v : Verdict) (st : Status) → is_live_status (if b then Doomed v else st) ≡ true → is_live_status st ≡ true
-live_if true v st e = absurd (true≢false (sym e))
-live_if false v st e = e
 
 sealed_if : (st : Status) (r : Bool) (v : Verdict) → is_sealed st ≡ true → is_sealed (if is_live_status st && r then Doomed v else st) ≡ true
 sealed_if Live r v e = absurd (true≢false (sym e))
@@ -159,7 +156,7 @@ pub acts_grow : {C : Type 0} (w : Fixed C) (e : Event) (s : Machine C) → Grows
 unfolding after
 acts_grow w (Admit u) s = grows_more s.book.acts _
 acts_grow w (Arrive k a) s = let low = map (book.lowered k (book.tids_on (cell_at s a).entries)) s.book.acts in grows_trans s.book.acts low _ (grows_map _ s.book.acts (plain _ (λ x. (refl, refl, refl)))) (grows_map (crossed_out a) low (crossed_later a))
-acts_grow w (Ask u a) s = asked_grows (book.in_the_way u (cell_at s a)) (book.met u (cell_at s a)) u a (cell_at s a) s.book
+acts_grow w (Ask u a) s = asked_grows (book.in_the_way u (cell_at s a).entries) (book.met u (cell_at s a).entries) u a (cell_at s a) s.book
 acts_grow w (End u a) s = ended_grows u (has_act u (cell_at s a).entries) (outcome_of u (cell_at s a).outbox) s.book.acts
 acts_grow w (Abort k) s = grows_map _ s.book.acts (λ x. record { tid = refl; rises = omega arith; doomed = doomed_if _ _ x.status; live = live_if _ _ x.status; sealed = sealed_if x.status (nat_le k x.m) _ })
 acts_grow w (Prepare u a) s = changed_grows u _ s.book.acts (plain _ (λ x. (refl, refl, refl)))
@@ -183,21 +180,3 @@ grown_holds q (x ∷ xs) (y ∷ ys) t k g h = by (x.tid == t) (y.tid == t) (ap (
     by true false i h r = absurd (true≢false (sym i))
     by false true i h r = absurd (true≢false i)
     by false false i h r = r h
-
--- one that was there is there
-pub record Became (t : ℕ) (x : Act) (ys : List Act) : Type 0 where
-  pub now : Act
-  pub is_it : act_of t ys ≡ Some now
-  pub later : Later x now
-
-pub grown_found : (xs ys : List Act) (t : ℕ) (x : Act) → Grows xs ys → act_of t xs ≡ Some x → Became t x ys
-unfolding Grows
-grown_found [] ys t x g e = absurd (cc e)
-grown_found (z ∷ zs) [] t x g e = absurd g
-grown_found (z ∷ zs) (y ∷ ys) t x g e = by (z.tid == t) (y.tid == t) refl refl (ap (λ n. n == t) g.0.tid) e (grown_found zs ys t x g.1)
-  where
-    by : (v w : Bool) → (z.tid == t) ≡ v → (y.tid == t) ≡ w → w ≡ v → (if v then Some z else act_of t zs) ≡ Some x → (act_of t zs ≡ Some x → Became t x ys) → Became t x (y ∷ ys)
-    by true true p q i e r = let f : z ≡ x = cc e in record { now = y; is_it = rw q refl; later = subst (λ v. Later v y) f g.0 }
-    by true false p q i e r = absurd (true≢false (sym i))
-    by false true p q i e r = absurd (true≢false i)
-    by false false p q i e r = let f = r e in record { now = f.now; is_it = rw q f.is_it; later = f.later }

@@ -27,6 +27,7 @@ use Rattle.protocol_laws.proofs.machine.ActsFound.{EachAct, Holds}
 use Rattle.protocol_laws.proofs.machine.ActResults as results
 use Rattle.protocol_laws.proofs.machine.ActResults.{NoneActed, NoActResult}
 use Rattle.protocol_laws.proofs.first.Lists.{some_of}
+use Rattle.protocol_laws.proofs.first.Statuses.{live_unordered, ordered_sealed}
 
 pub record ActIs (next actors settled : ℕ) (bs : List Batch) (kept : List Who) (t : ℕ) (x : Act) : Type 0 where
   pub drawn : t < next
@@ -47,18 +48,6 @@ KnownActs s h = (t : ℕ) → is_kept (OfAct t) h.kept ≡ true → is_some (act
 
 -- ---- what any ACT may undergo
 
-placed_live : (st : Status) → is_live_status st ≡ true → is_ordered st ≡ false
-placed_live Live e = refl
-placed_live (Doomed v) e = refl
-placed_live (Decided c) e = absurd (true≢false (sym e))
-placed_live (Sealed c) e = absurd (true≢false (sym e))
-
-placed_sealed : (st : Status) → is_ordered (book.sealed_status st) ≡ is_ordered st
-placed_sealed Live = refl
-placed_sealed (Doomed v) = refl
-placed_sealed (Decided c) = refl
-placed_sealed (Sealed c) = refl
-
 marked_exist : (n a : ℕ) (f : Joined → Joined) (ps : List Joined) → ((p : Joined) → (f p).actor ≡ p.actor) → AllByRecursion (λ p. p.actor < n) ps → AllByRecursion (λ p. p.actor < n) (map (λ p. book.mark_if (p.actor == a) f p) ps)
 marked_exist n a f [] i h = tt
 marked_exist n a f (p ∷ ps) i h = (by (p.actor == a), marked_exist n a f ps i h.1)
@@ -75,11 +64,11 @@ holds_is next actors settled bs kept = record {
     drawn = p.drawn;
     apart = p.apart;
     exist = p.exist;
-    ended = λ e. p.ended (sym (placed_sealed x.status) ∙ e);
-    settles = λ e. p.settles (sym (placed_sealed x.status) ∙ e);
-    known = p.known ∙ ap (λ z. z && is_value x.result) (sym (placed_sealed x.status));
+    ended = λ e. p.ended (sym (ordered_sealed x.status) ∙ e);
+    settles = λ e. p.settles (sym (ordered_sealed x.status) ∙ e);
+    known = p.known ∙ ap (λ z. z && is_value x.result) (sym (ordered_sealed x.status));
   };
-  doomed = λ t x v l p. record { drawn = p.drawn; apart = p.apart; exist = p.exist; ended = λ e. absurd (true≢false (sym e)); settles = λ e. absurd (true≢false (sym e)); known = p.known ∙ ap (λ z. z && is_value x.result) (placed_live x.status l) };
+  doomed = λ t x v l p. record { drawn = p.drawn; apart = p.apart; exist = p.exist; ended = λ e. absurd (true≢false (sym e)); settles = λ e. absurd (true≢false (sym e)); known = p.known ∙ ap (λ z. z && is_value x.result) (live_unordered x.status l) };
   rises = λ t k x l p. record { drawn = p.drawn; apart = p.apart; exist = p.exist; ended = p.ended; settles = λ e. absurd (true≢false (sym e ∙ l)); known = p.known };
 }
 
@@ -229,6 +218,6 @@ acts_kept w (Decide t) s h ok g b d n k i = decided (one_is (λ x. is_some x.res
           exist = p.exist;
           ended = λ q. v.0;
           settles = λ q. omega (arith, b, leb-true x.m (max s.desk.settled (base w.text)) (some_of (λ x. nat_le x.m (max s.desk.settled (base w.text))) (act_of t s.book.acts) x f ok.1.1.0));
-          known = ap (λ z. is_kept (OfAct t) (h.kept ++ kept_act z)) f ∙ kept_now t s.book.next_c x h.kept (acts.found_tid t x s.book.acts f) v.1 (p.known ∙ ap (λ z. z && is_value x.result) (placed_live x.status v.1));
+          known = ap (λ z. is_kept (OfAct t) (h.kept ++ kept_act z)) f ∙ kept_now t s.book.next_c x h.kept (acts.found_tid t x s.book.acts f) v.1 (p.known ∙ ap (λ z. z && is_value x.result) (live_unordered x.status v.1));
         }) i
 acts_kept w e s h ok g b d n k i = acts.acts_keep w e s _ (holds_is _ _ _ _ _) tt (around w e s h tt ok g i)

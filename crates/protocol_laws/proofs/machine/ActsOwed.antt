@@ -8,7 +8,7 @@ use Rattle.snap_base.specs.declared.transactions.TxResult.{TxResult}
 use Rattle.snap_base.specs.declared.transactions.TxResult.TheVariants.{Value, Fail}
 use Rattle.protocol.specs.Facts.{Alone}
 use Rattle.protocol.specs.Fixed.{Fixed, Go, base, tx_at, is_pact}
-use Rattle.protocol.specs.Parts.{Act, Batch, Pact, Stage, Formed, Committing, Settled, Cascade, Status, Live, Doomed, Decided, Sealed, Who, OfBatch, OfAct, Entry, BatchEntry, ActEntry, Waiting, Machine}
+use Rattle.protocol.specs.Parts.{Act, Batch, Pact, Cascade, Status, Live, Doomed, Decided, Sealed, Who, OfBatch, OfAct, Entry, BatchEntry, ActEntry, Waiting, Machine}
 use Rattle.protocol.specs.Events.{Decide, Finish, Trim}
 use Rattle.protocol.specs.Words.{holds, is_doomed, is_sealed, is_live_status, is_value, is_failure, is_aborted, is_formed, is_settled, is_who, is_act_who, who_of, who_on, is_entry_of, act_of, joined_of, batch_of, declared_of, waiting_of, is_ordered}
 use Rattle.protocol.specs.Conditions.{IsAllowed, conditions}
@@ -23,7 +23,7 @@ use Rattle.protocol_laws.specs.Commits.{is_kept, KeptAhead}
 use Rattle.protocol_laws.specs.Marks.{Marked}
 use Rattle.protocol_laws.specs.FromDesk.{is_declared, EntryOf, FromDesk}
 use Rattle.protocol_laws.proofs.first.SettlingKept as settling
-use Rattle.protocol_laws.proofs.machine.ControlWalk.{AllControls, all_found}
+use Rattle.protocol_laws.proofs.machine.ControlWalk.{AllControls}
 use Rattle.protocol_laws.proofs.machine.TracksKept.{Tracked}
 use Rattle.protocol_laws.proofs.machine.TurnsKept.{one_is, Turned}
 use Rattle.protocol_laws.proofs.machine.BeforesKept.{Numbers}
@@ -40,7 +40,8 @@ use Rattle.protocol_laws.proofs.machine.ActsKept.{Acts, KnownActs}
 use Rattle.protocol_laws.proofs.machine.QueuedKept.{OfPacts, Sizes}
 use Rattle.protocol_laws.proofs.machine.BehindKept.{is_out, Behind, AllBehind}
 use Rattle.protocol_laws.proofs.machine.StartsKept.{Starts, Started, NoPact, no_slot, ran_there}
-use Rattle.protocol_laws.proofs.first.Lists.{some_of}
+use Rattle.protocol_laws.proofs.first.Lists.{all_found, some_of}
+use Rattle.protocol_laws.proofs.first.Statuses.{live_not_doomed, live_unordered, settled_not_formed}
 
 -- ---- who has no result is not kept
 
@@ -72,10 +73,10 @@ act_runs {C} w Of finish t a s h o e g p own = (undone, owes.entry_not_kept s h 
   where
     by : (x : Option (Waiting C)) → waiting_of t (cell_at s a).inbox ≡ x → is_some x ≡ true → NoResult t s.desk.batches
     by None f q = absurd (true≢false (sym q))
-    by (Some x) f q = let n = all_found (λ x. NoneNoted s x.tid (Go a x.control)) (λ x. x.tid == t) x (cell_at s a).inbox f (g.none.inboxes a) in subst (λ z. NoResult z s.desk.batches) (eqb-true x.tid t n.1) n.0
+    by (Some x) f q = let n = all_found (λ x. NoneNoted s x.tid (Go a x.control)) (λ x. x.tid == t) (cell_at s a).inbox x (g.none.inboxes a) f in subst (λ z. NoResult z s.desk.batches) (eqb-true x.tid t n.1) n.0
 
     undone : (y : Entry) → find (is_entry_of t) (cell_at s a).entries ≡ Some y → NotDone t y
-    undone (BatchEntry b) f = let n = all_found (EntryOf a s.desk.batches) (is_entry_of t) (BatchEntry b) (cell_at s a).entries f (g.from_desk.entries a) in absurd (true≢false (sym n.1 ∙ no_slot t b.bid s.desk.batches b.slots (no_pact_tid w s h t e p) n.0.1))
+    undone (BatchEntry b) f = let n = all_found (EntryOf a s.desk.batches) (is_entry_of t) (cell_at s a).entries (BatchEntry b) (g.from_desk.entries a) f in absurd (true≢false (sym n.1 ∙ no_slot t b.bid s.desk.batches b.slots (no_pact_tid w s h t e p) n.0.1))
     undone (ActEntry x) f = tt
 
 -- ---- along a long schedule up to an ACT that stands there and is not given up
@@ -141,11 +142,6 @@ act_slices t (Stands y c ss ∷ rs) (ActEntry x ∷ es) h = subst (λ z. AllByRe
     by false e g = g
 
 -- a batch that is at most the last settled one, and not aborted, committed
-settled_not_formed : (st : Stage) → is_settled st ≡ true → is_formed st ≡ false
-settled_not_formed Formed e = absurd (true≢false (sym e))
-settled_not_formed Committing e = refl
-settled_not_formed Settled e = refl
-
 settled_kept : {C : Type 0} (w : Fixed C) (s : Machine C) (h : History) (k a : ℕ) → settling.Settling w s → Marked s h → is_declared k a s.desk.batches ≡ true → k ≤ s.desk.settled → is_aborted k s.book.cascades ≡ false → is_kept (OfBatch k) h.kept ≡ true
 unfolding Marked
 settled_kept w s h k a g m e l n =
@@ -156,18 +152,6 @@ settled_kept w s h k a g m e l n =
     ]
 
 -- ---- an ACT may get its place
-
-pub live_not_doomed : (st : Status) → is_live_status st ≡ true → is_doomed st ≡ false
-live_not_doomed Live e = refl
-live_not_doomed (Doomed v) e = absurd (true≢false (sym e))
-live_not_doomed (Decided c) e = refl
-live_not_doomed (Sealed c) e = refl
-
-live_not_placed : (st : Status) → is_live_status st ≡ true → is_ordered st ≡ false
-live_not_placed Live e = refl
-live_not_placed (Doomed v) e = refl
-live_not_placed (Decided c) e = absurd (true≢false (sym e))
-live_not_placed (Sealed c) e = absurd (true≢false (sym e))
 
 pub may_decide : {C : Type 0} (w : Fixed C) (t : ℕ) (s : Machine C) (h : History) → IsAllowed w (Decide t) s → settling.Settling w s → Marked s h → Tracked w s h → Turned s h → FromDesk s → Numbers s h
     → AllControls (NoneActed s) s → Acts s h → Sizes w s → AllBehind s h → Started s h → (x : Act) × MayDecide s h t x
@@ -180,7 +164,7 @@ may_decide {C} w t s h ok g m tr tu d nu none i z be st =
       record {
         is_it = x.1;
         tid = acts.found_tid t x.0 s.book.acts x.1;
-        fresh = (i t x.0 x.1).known ∙ ap (λ q. q && is_value x.0.result) (live_not_placed x.0.status v.1);
+        fresh = (i t x.0 x.1).known ∙ ap (λ q. q && is_value x.0.result) (live_unordered x.0.status v.1);
         ahead = λ a. kept_ahead s.book.acts s.book.cascades s.desk.batches h.kept a 0 false t x.0 (cell_at s a).inbox (h.long a) x.1 (live_not_doomed x.0.status v.1) (away x.0 a x.1 v.0)
             (λ k e q n. settled_kept w s h k a g m e (omega (arith, q, l, z.based)) n) (nu a) (be a) (tr a).in_order
             (subst (AllByRecursion (GoodKey a s.desk.batches)) (tr a).stands (good_keys a s.desk.batches (cell_at s a).entries (d.entries a))) (st a);
@@ -198,7 +182,7 @@ unfolding conditions Acts
 finish_exists w t a s h ok i =
     let x = one_is (λ x. holds (λ p. not p.finished) (joined_of a x)) (act_of t s.book.acts) ok.1.0 in
     let p = one_is (λ p. not p.finished) (joined_of a x.0) x.2 in
-    let f = all_found (λ p. p.actor < length s.cells) (λ p. p.actor == a) p.0 x.0.places p.1 (i t x.0 x.1).exist in
+    let f = all_found (λ p. p.actor < length s.cells) (λ p. p.actor == a) x.0.places p.0 (i t x.0 x.1).exist p.1 in
     omega (arith, f.0, eqb-true p.0.actor a f.1)
 
 pub finish_kept : {C : Type 0} (w : Fixed C) (t a : ℕ) (s : Machine C) (h : History) → IsAllowed w (Finish t a) s → Acts s h → is_kept (OfAct t) h.kept ≡ not (cell.is_undone_act (act_of t s.book.acts))
@@ -233,6 +217,6 @@ trim_exists w k a s ok z =
     let v = and_parts (is_settled b.0.stage) (not b.0.aborted && holds (λ p. not p.trimmed) (declared_of a b.0)) b.2 in
     let q = and_parts (not b.0.aborted) (holds (λ p. not p.trimmed) (declared_of a b.0)) v.1 in
     let p = one_is (λ p. not p.trimmed) (declared_of a b.0) q.1 in
-    let f = all_found (λ b. AllByRecursion (λ p. p.actor < length s.cells) b.places) (λ b. b.bid == k) b.0 s.desk.batches b.1 z.places in
-    let n = all_found (λ p. p.actor < length s.cells) (λ p. p.actor == a) p.0 b.0.places p.1 f.0 in
+    let f = all_found (λ b. AllByRecursion (λ p. p.actor < length s.cells) b.places) (λ b. b.bid == k) s.desk.batches b.0 z.places b.1 in
+    let n = all_found (λ p. p.actor < length s.cells) (λ p. p.actor == a) b.0.places p.0 f.0 p.1 in
     omega (arith, n.0, eqb-true p.0.actor a n.1)

@@ -52,19 +52,19 @@ is_at c (Doomed v) = false
 is_at c (Decided d) = d == c
 is_at c (Sealed d) = d == c
 
-at_placed : (c : ℕ) (st : Status) → is_at c st ≡ true → is_ordered st ≡ true
+pub at_placed : (c : ℕ) (st : Status) → is_at c st ≡ true → is_ordered st ≡ true
 at_placed c Live e = e
 at_placed c (Doomed v) e = e
 at_placed c (Decided d) e = refl
 at_placed c (Sealed d) e = refl
 
-at_live : (c : ℕ) (st : Status) → is_live_status st ≡ true → is_at c st ≡ true → ⊥
+pub at_live : (c : ℕ) (st : Status) → is_live_status st ≡ true → is_at c st ≡ true → ⊥
 at_live c Live l e = true≢false (sym e)
 at_live c (Doomed v) l e = true≢false (sym e)
 at_live c (Decided d) l e = true≢false (sym l)
 at_live c (Sealed d) l e = true≢false (sym l)
 
-at_sealed : (c : ℕ) (st : Status) → is_at c (book.sealed_status st) ≡ is_at c st
+pub at_sealed : (c : ℕ) (st : Status) → is_at c (book.sealed_status st) ≡ is_at c st
 at_sealed c Live = refl
 at_sealed c (Doomed v) = refl
 at_sealed c (Decided d) = refl
@@ -76,7 +76,7 @@ at_decided c d b (Doomed v) e = e
 at_decided c d b (Decided f) e = e
 at_decided c d b (Sealed f) e = e
 
-at_now : (c d : ℕ) (b : Bool) (st : Status) → is_live_status st ≡ true → is_at c (book.decided_status d b st) ≡ true → d ≡ c
+pub at_now : (c d : ℕ) (b : Bool) (st : Status) → is_live_status st ≡ true → is_at c (book.decided_status d b st) ≡ true → d ≡ c
 at_now c d true Live l e = eqb-true d c e
 at_now c d false Live l e = eqb-true d c e
 at_now c d b (Doomed v) l e = absurd (true≢false (sym l))
@@ -91,7 +91,7 @@ now_at d b (Decided f) l = absurd (true≢false (sym l))
 now_at d b (Sealed f) l = absurd (true≢false (sym l))
 
 -- who has a control has no place
-unplaced : {C : Type 0} (s : Machine C) (h : History) (t c : ℕ) (x : Act) → Acts s h → NoActResult t s.book.acts → act_of t s.book.acts ≡ Some x → is_at c x.status ≡ true → ⊥
+pub unplaced : {C : Type 0} (s : Machine C) (h : History) (t c : ℕ) (x : Act) → Acts s h → NoActResult t s.book.acts → act_of t s.book.acts ≡ Some x → is_at c x.status ≡ true → ⊥
 unfolding Acts
 unplaced s h t c x i n e a = true≢false (sym ((i t x e).ended (at_placed c x.status a)) ∙ ap is_some (n t x e refl))
 

@@ -1,12 +1,12 @@
 -- All of it over every run, with nothing owed.
-use Rattle.std.specs.Prelude.{◌≡◌, refl, ℕ, zero, suc, ◌<◌, ◌==◌, nat_lt, not, Bool, true, false, ◌&&◌, Some, is_some, List, [], ◌∷◌, length, map, replicate, slice_get, slice_index_or}
+use Rattle.std.specs.Prelude.{◌≡◌, refl, ℕ, zero, suc, ◌<◌, ◌==◌, nat_lt, not, Bool, true, false, ◌&&◌, Some, is_some, List, [], ◌∷◌, length, map, replicate, slice_get}
 use Rattle.std.specs.List.{AllByRecursion, list_all}
 use Rattle.std.proofs.Common.{arith, sym, ap, subst, ◌∙◌}
 use Rattle.std.proofs.lemmas.Bool.{true≢false, and_parts, ltb-true}
 use Rattle.snap_base.specs.declared.transactions.State.{State}
 use Rattle.snap_base.specs.declared.transactions.Tx.{Tx}
-use Rattle.protocol.specs.Facts.{Alone, Facts}
-use Rattle.protocol.specs.Fixed.{Fixed, IsText, IsTxOf, no_state, base}
+use Rattle.protocol.specs.Facts.{Alone}
+use Rattle.protocol.specs.Fixed.{Fixed, IsText, IsTxOf, base}
 use Rattle.protocol.specs.Parts.{Cell, Machine}
 use Rattle.protocol.specs.Events.{Event, Submit, Pass, Form, Admit, Ask, Run, Send, End, Complete, Sync, Rollback, Decide, Finish, Reply, Trim}
 use Rattle.protocol.specs.Words.{is_empty, holds, act_of, waiting_of, is_ordered}
@@ -14,12 +14,10 @@ use Rattle.protocol.specs.Conditions.{IsAllowed, conditions, queue}
 use Rattle.protocol.specs.Effects.{after, cell_at, no_cell, no_log}
 use Rattle.protocol.specs.Runs.{opening, new_cell, state_after, EachAllowed, IsRun, IsQuiet, reached}
 use Rattle.protocol.specs.History.{History, no_history, history, history_after, grown}
-use Rattle.protocol_laws.specs.Commits.{StatesLink}
 use Rattle.protocol_laws.proofs.machine.TracksKept.{held}
 use Rattle.protocol_laws.proofs.machine.TurnsKept.{one_is}
 use Rattle.protocol_laws.proofs.machine.DecidedStays.{is_fixed, Spared, stays_decided}
-use Rattle.protocol_laws.proofs.machine.ControlWalk.{AllControls}
-use Rattle.protocol_laws.proofs.machine.CommitsKept.{Committed}
+use Rattle.protocol_laws.proofs.machine.ControlWalk.{AllControls, nowhere}
 use Rattle.protocol_laws.proofs.machine.Good as whole
 use Rattle.protocol_laws.proofs.machine.Good.{Given, Good}
 use Rattle.protocol_laws.proofs.machine.ActResults as results
@@ -40,7 +38,9 @@ use Rattle.protocol_laws.specs.Tracks.{key_of}
 use Rattle.protocol_laws.proofs.first.PairsFound as found
 use Rattle.protocol_laws.proofs.first.PairsFound.{TidsAscend}
 use Rattle.protocol_laws.proofs.machine.PactsTold as pacts
-use Rattle.protocol_laws.proofs.machine.PactsTold.{PactsTold, NoPlaces, Says}
+use Rattle.protocol_laws.proofs.machine.PactsTold.{PactsTold, NoPlaces}
+use Rattle.protocol_laws.proofs.machine.VerdictsSay.{Says}
+use Rattle.protocol_laws.specs.Order.{IsAmongDone}
 use Rattle.snap_base.specs.declared.verdicts.Verdict.{Verdict}
 use Rattle.protocol.specs.Verdicts.{verdict}
 use Rattle.protocol_laws.proofs.first.Leaves as leaves
@@ -53,7 +53,6 @@ use Rattle.protocol.specs.Footprints.{HasLogs}
 use Rattle.protocol.specs.Verdicts.{ended_at}
 use Rattle.std.proofs.lemmas.List.{length-replicate}
 use Rattle.protocol_laws.proofs.machine.ActsOwed as owed
-use Rattle.protocol.specs.Rests.{IsTxIn}
 
 -- Everything that is kept.
 pub record AllGood {C : Type 0} (w : Fixed C) (Of : Tx → C → Type 0) (finish : C → List State → Alone) (s : Machine C) (h : History) : Type 0 where
@@ -132,7 +131,7 @@ pub opened : {C : Type 0} (w : Fixed C) (Of : Tx → C → Type 0) (finish : C �
 unfolding Acts KnownActs OfPacts AllBehind Started ActsTold AllFrom Left Opened Standing PactsTold NoPlaces PactsFrom ActsRecorded BatchesRecorded
 opened {C} w Of finish v = record {
   good = whole.opened w Of finish v;
-  none = record { posted = tt; inboxes = λ a. empty _ (cell_at (opening w) a).inbox (no_inbox w.text.opening.states a); outboxes = λ a. empty _ (cell_at (opening w) a).outbox (no_outbox w.text.opening.states a) };
+  none = nowhere w (NoneActed (opening w));
   acts = λ t x e. absurd (cc e);
   known = λ t e. absurd (true≢false (sym e));
   waits = queued.waits_opened w;
@@ -153,19 +152,6 @@ opened {C} w Of finish v = record {
   acts_recorded = λ t x e. absurd (cc e);
   batches_recorded = λ k b e. absurd (cc e);
 }
-  where
-    empty : {X : Type 0} (P : X → Type 0) (xs : List X) → xs ≡ [] → AllByRecursion P xs
-    empty P xs e = subst (AllByRecursion P) (sym e) tt
-
-    no_inbox : (states : List State) (a : ℕ) → (slice_index_or (map (new_cell {C = C} (base w.text)) states) a no_cell).inbox ≡ []
-    no_inbox [] a = refl
-    no_inbox (x ∷ xs) zero = refl
-    no_inbox (x ∷ xs) (suc a) = no_inbox xs a
-
-    no_outbox : (states : List State) (a : ℕ) → (slice_index_or (map (new_cell {C = C} (base w.text)) states) a no_cell).outbox ≡ []
-    no_outbox [] a = refl
-    no_outbox (x ∷ xs) zero = refl
-    no_outbox (x ∷ xs) (suc a) = no_outbox xs a
 
 -- ---- over every run
 
@@ -176,13 +162,8 @@ all_along w Of finish (e ∷ es) s h v run g = all_along w Of finish es (after w
 pub all_good : {C : Type 0} (w : Fixed C) (Of : Tx → C → Type 0) (finish : C → List State → Alone) (es : List Event) → Given w Of finish → IsRun w es → AllGood w Of finish (reached w es) (history w es)
 all_good w Of finish es v run = all_along w Of finish es (opening w) no_history v run (opened w Of finish v)
 
--- Over every run, on each actor each committed transaction found what the last one with a value before it left.
-pub states_link : {C : Type 0} (w : Fixed C) (Of : Tx → C → Type 0) (finish : C → List State → Alone) (es : List Event) → Given w Of finish → IsRun w es → (a : ℕ) → StatesLink a (slice_index_or w.text.opening.states a no_state) (history w es).committed
-unfolding Committed
-states_link w Of finish es v run a = ((all_good w Of finish es v run).good.committed a).links
-
 -- Over every run, a verdict that names a place is of one that committed there, with that result.
-pub verdicts_say : {C : Type 0} (w : Fixed C) (Of : Tx → C → Type 0) (finish : C → List State → Alone) (es : List Event) → Given w Of finish → IsRun w es → (n : ℕ) (v : Verdict) → verdict n (reached w es).book (reached w es).desk ≡ Some v → Says n v (history w es).committed
+pub verdicts_say : {C : Type 0} (w : Fixed C) (Of : Tx → C → Type 0) (finish : C → List State → Alone) (es : List Event) → Given w Of finish → IsRun w es → (n : ℕ) (v : Verdict) → verdict n (reached w es).book (reached w es).desk ≡ Some v → Says (λ p r. IsAmongDone n p r (history w es).committed) v
 verdicts_say w Of finish es v run n u e = let g = all_good w Of finish es v run in pacts.verdict_says w n (reached w es) (history w es) u g.good.settling g.ascend g.pacts_told g.told g.no_places e
 
 -- Over every run, in a quiet state each transaction that committed is told so, at its place, with its result.
@@ -259,13 +240,3 @@ none_allowed w (Sync i) t l ok = no_records w.text.logs i ok.0
 none_allowed w (Rollback a) t l ok = no_cells (base w.text) w.text.opening.states _ a l ok.0
 none_allowed w (Reply n) t l ok = true≢false (sym ok.1.0)
 none_allowed w e t l ok = true≢false (sym ok.0)
-
--- Over every run of an accepted text, with method code that has the facts, on each actor each committed transaction found
--- what the last one with a value before it left.
-pub all_states_link : {C : Type 0} (w : Fixed C) (Of : Tx → C → Type 0) (finish : C → List State → Alone) (es : List Event) → Facts (length w.text.opening.states) w.code (IsTxIn w.text) Of finish → IsText w.text → IsRun w es → (a : ℕ) → StatesLink a (slice_index_or w.text.opening.states a no_state) (history w es).committed
-all_states_link w Of finish es f t run a = by es run (length w.text.opening.states) refl
-  where
-    by : (es : List Event) → IsRun w es → (n : ℕ) → length w.text.opening.states ≡ n → StatesLink a (slice_index_or w.text.opening.states a no_state) (history w es).committed
-    by es run (suc n) l = states_link w Of finish es (record { text = t; actors = omega (arith, l); facts = f }) run a
-    by [] run zero l = tt
-    by (e ∷ es) run zero l = absurd (none_allowed w e t l run.0)

@@ -21,7 +21,6 @@ use Rattle.protocol_laws.specs.Commits.{is_kept, KeptAhead}
 use Rattle.protocol_laws.specs.Marks.{is_done, IsOver, Marked, Known}
 use Rattle.protocol_laws.specs.FromDesk.{is_declared, is_pact_of, MessageOf, EntryOf, CompleteInOrder, FromDesk}
 use Rattle.protocol_laws.proofs.first.EpochsKept as epochs
-use Rattle.protocol_laws.proofs.first.CellEpochs as cells
 use Rattle.protocol_laws.proofs.first.SettlingKept as settling
 use Rattle.protocol_laws.proofs.machine.TrackLists
 use Rattle.protocol_laws.proofs.machine.TracksKept.{Tracked}
@@ -31,7 +30,8 @@ use Rattle.protocol_laws.proofs.machine.PlacesKept.{Placed, message}
 use Rattle.protocol_laws.proofs.machine.MarksKept as marks
 use Rattle.protocol_laws.proofs.machine.CommitLists.{PactsAscend}
 use Rattle.protocol_laws.proofs.machine.CommitsKept.{MayCommit}
-use Rattle.protocol_laws.proofs.first.Lists.{all_back}
+use Rattle.protocol_laws.proofs.first.Lists.{all_back, all_found}
+use Rattle.protocol_laws.proofs.first.Statuses.{if_bid}
 
 -- ---- PACTs of a batch ascend
 
@@ -63,22 +63,22 @@ numbered_kept {C} w (End t a) s h j b e = by (has_act t (cell_at s a).entries) (
     by true o e = h j b e
     by false None e = h j b e
     by false (Some x) e = next x.next e
-numbered_kept w (Note k a) s h j b e = let g = marks.found_mapped _ (λ b. marks.if_bid (b.bid == k) (desk.marked a desk.is_noted) b refl) j b s.desk.batches e in subst (λ z. PactsAscend 0 z.pacts) g.2 (same (g.0.bid == k) (desk.marked a desk.is_noted) g.0 (h j g.0 g.1) refl)
+numbered_kept w (Note k a) s h j b e = let g = marks.found_mapped _ (λ b. if_bid (b.bid == k) (desk.marked a desk.is_noted) b refl) j b s.desk.batches e in subst (λ z. PactsAscend 0 z.pacts) g.2 (same (g.0.bid == k) (desk.marked a desk.is_noted) g.0 (h j g.0 g.1) refl)
   where
     same : (v : Bool) (f : Batch → Batch) (c : Batch) → PactsAscend 0 c.pacts → (f c).pacts ≡ c.pacts → PactsAscend 0 (desk.change_if v f c).pacts
     same true f c g q = rw q g
     same false f c g q = g
-numbered_kept w (Trim k a) s h j b e = let g = marks.found_mapped _ (λ b. marks.if_bid (b.bid == k) (desk.marked a desk.is_trimmed) b refl) j b s.desk.batches e in subst (λ z. PactsAscend 0 z.pacts) g.2 (same (g.0.bid == k) (desk.marked a desk.is_trimmed) g.0 (h j g.0 g.1) refl)
+numbered_kept w (Trim k a) s h j b e = let g = marks.found_mapped _ (λ b. if_bid (b.bid == k) (desk.marked a desk.is_trimmed) b refl) j b s.desk.batches e in subst (λ z. PactsAscend 0 z.pacts) g.2 (same (g.0.bid == k) (desk.marked a desk.is_trimmed) g.0 (h j g.0 g.1) refl)
   where
     same : (v : Bool) (f : Batch → Batch) (c : Batch) → PactsAscend 0 c.pacts → (f c).pacts ≡ c.pacts → PactsAscend 0 (desk.change_if v f c).pacts
     same true f c g q = rw q g
     same false f c g q = g
-numbered_kept w (Commit k) s h j b e = let g = marks.found_mapped _ (λ b. marks.if_bid (b.bid == k) (desk.with_stage Committing) b refl) j b s.desk.batches e in subst (λ z. PactsAscend 0 z.pacts) g.2 (same (g.0.bid == k) (desk.with_stage Committing) g.0 (h j g.0 g.1) refl)
+numbered_kept w (Commit k) s h j b e = let g = marks.found_mapped _ (λ b. if_bid (b.bid == k) (desk.with_stage Committing) b refl) j b s.desk.batches e in subst (λ z. PactsAscend 0 z.pacts) g.2 (same (g.0.bid == k) (desk.with_stage Committing) g.0 (h j g.0 g.1) refl)
   where
     same : (v : Bool) (f : Batch → Batch) (c : Batch) → PactsAscend 0 c.pacts → (f c).pacts ≡ c.pacts → PactsAscend 0 (desk.change_if v f c).pacts
     same true f c g q = rw q g
     same false f c g q = g
-numbered_kept w (Settle k) s h j b e = let g = marks.found_mapped _ (λ b. marks.if_bid (b.bid == k) (desk.with_stage Settled) b refl) j b s.desk.batches e in subst (λ z. PactsAscend 0 z.pacts) g.2 (same (g.0.bid == k) (desk.with_stage Settled) g.0 (h j g.0 g.1) refl)
+numbered_kept w (Settle k) s h j b e = let g = marks.found_mapped _ (λ b. if_bid (b.bid == k) (desk.with_stage Settled) b refl) j b s.desk.batches e in subst (λ z. PactsAscend 0 z.pacts) g.2 (same (g.0.bid == k) (desk.with_stage Settled) g.0 (h j g.0 g.1) refl)
   where
     same : (v : Bool) (f : Batch → Batch) (c : Batch) → PactsAscend 0 c.pacts → (f c).pacts ≡ c.pacts → PactsAscend 0 (desk.change_if v f c).pacts
     same true f c g q = rw q g
@@ -116,7 +116,7 @@ kept_over s h k a n m q d =
       where
         by : (x : Option Declared) → declared_of a b ≡ x → is_some x ≡ true → IsOver k cs (long a)
         by None e d = absurd (true≢false (sym d))
-        by (Some p) e d = let f = cells.all_found _ (λ p. p.actor == a) p b.places e o in subst (λ z. IsOver k cs (long z)) (eqb-true p.actor a f.1) (f.0 (list_all_at (λ p. p.actor == a) (λ p. p.noted) p b.places e n))
+        by (Some p) e d = let f = all_found _ (λ p. p.actor == a) b.places p o e in subst (λ z. IsOver k cs (long z)) (eqb-true p.actor a f.1) (f.0 (list_all_at (λ p. p.actor == a) (λ p. p.noted) p b.places e n))
 
 pub arrives_fresh : {C : Type 0} (w : Fixed C) (k a : ℕ) (s : Machine C) (h : History) → IsAllowed w (Arrive k a) s → epochs.Agreeing s → Known s h → Marked s h → Placed w s h → FromDesk s → is_kept (OfBatch k) h.kept ≡ false
 unfolding conditions Placed
@@ -125,7 +125,7 @@ arrives_fresh w k a s h ok ag n m p d = false_from_ne_true (is_kept (OfBatch k) 
     declared : (o : Option SubBatch) → sub_of k a s.post.subs ≡ o → is_some o ≡ true → is_declared k a s.desk.batches ≡ true
     declared None e q = absurd (true≢false (sym q))
     declared (Some x) e q =
-        let f = cells.all_found (MessageOf s.desk.batches) (λ y. (y.bid == k) && (y.actor == a)) x s.post.subs e d.subs in
+        let f = all_found (MessageOf s.desk.batches) (λ y. (y.bid == k) && (y.actor == a)) s.post.subs x d.subs e in
         let v = and_parts (x.bid == k) (x.actor == a) f.1 in
         subst (λ z. is_declared z a s.desk.batches ≡ true) (eqb-true x.bid k v.0) (subst (λ z. is_declared x.bid z s.desk.batches ≡ true) (eqb-true x.actor a v.1) f.0.declared)
 
@@ -313,7 +313,7 @@ may_commit w k s h ok g n m p t u d nu =
       where
         by : (x : Option Declared) → declared_of a b ≡ x → is_some x ≡ true → IsOver k s.book.cascades (h.long a)
         by None e d = absurd (true≢false (sym d))
-        by (Some p) e d = let f = cells.all_found _ (λ p. p.actor == a) p b.places e o in subst (λ z. IsOver k s.book.cascades (h.long z)) (eqb-true p.actor a f.1) (f.0 (list_all_at (λ p. p.actor == a) (λ p. p.noted) p b.places e n))
+        by (Some p) e d = let f = all_found _ (λ p. p.actor == a) b.places p o e in subst (λ z. IsOver k s.book.cascades (h.long z)) (eqb-true p.actor a f.1) (f.0 (list_all_at (λ p. p.actor == a) (λ p. p.noted) p b.places e n))
 
     declared : (a : ℕ) (ks : List Key) → is_key_among (OfBatch k) ks ≡ true → AllByRecursion (GoodKey a s.desk.batches) ks → is_declared k a s.desk.batches ≡ true
     declared a [] e f = absurd (true≢false (sym e))

@@ -24,7 +24,8 @@ use Rattle.protocol_laws.proofs.machine.TurnLists
 use Rattle.protocol_laws.proofs.machine.TurnsKept.{Turned}
 use Rattle.protocol_laws.proofs.machine.PlaceLists
 use Rattle.protocol_laws.proofs.machine.PlacesKept.{Placed, message}
-use Rattle.protocol_laws.proofs.first.Lists.{all_back, all_front, all_join, all_weaker}
+use Rattle.protocol_laws.proofs.first.Lists.{all_back, all_front, all_join, weaker}
+use Rattle.protocol_laws.proofs.first.Statuses.{doomed_decided, doomed_sealed, if_tid}
 
 -- ---- a fact of an ACT that no event takes back: that it is doomed, or has a before number so great
 
@@ -52,10 +53,6 @@ change_above : (top : ℕ) (v : Bool) (f : Act → Act) (x : Act) → (is_above 
 change_above top true f x g h = g h
 change_above top false f x g h = h
 
-if_tid : (v : Bool) (f : Act → Act) (x : Act) → (f x).tid ≡ x.tid → (book.change_if v f x).tid ≡ x.tid
-if_tid true f x h = h
-if_tid false f x h = refl
-
 changed : (top t u : ℕ) (f : Act → Act) (xs : List Act) → ((x : Act) → (f x).tid ≡ x.tid) → ((x : Act) → is_above top x ≡ true → is_above top (f x) ≡ true) → holds (is_above top) (act_of t xs) ≡ true → holds (is_above top) (act_of t (book.changed_act u f xs)) ≡ true
 changed top t u f xs i g h = holds_map top (λ x. book.change_if (x.tid == u) f x) (λ x. if_tid (x.tid == u) f x (i x)) (λ x. change_above top (x.tid == u) f x (g x)) t xs h
 
@@ -78,18 +75,6 @@ crossed_above top a x h = above_more top x (crossed_out a x) (omega arith) (λ q
 by_order : (top t a : ℕ) (xs : List Act) → holds (is_above top) (act_of t xs) ≡ true → holds (is_above top) (act_of t (doomed_by_order a xs)) ≡ true
 by_order top t a xs h = holds_map top (crossed_out a) (λ x. refl) (crossed_above top a) t xs h
 
-decided_doomed : (c : ℕ) (v : Bool) (s : Status) → is_doomed s ≡ true → is_doomed (book.decided_status c v s) ≡ true
-decided_doomed c v (Doomed x) h = h
-decided_doomed c v Live h = absurd (true≢false (sym h))
-decided_doomed c v (Decided d) h = h
-decided_doomed c v (Sealed d) h = h
-
-sealed_doomed : (s : Status) → is_doomed s ≡ true → is_doomed (book.sealed_status s) ≡ true
-sealed_doomed Live h = h
-sealed_doomed (Doomed v) h = h
-sealed_doomed (Decided c) h = h
-sealed_doomed (Sealed c) h = h
-
 doomed_still : (s d : Status) → is_doomed s ≡ true → is_doomed (if is_live_status s then d else s) ≡ true
 doomed_still Live d e = absurd (true≢false (sym e))
 doomed_still (Doomed v) d e = refl
@@ -100,7 +85,7 @@ cascade_doomed : (v : Bool) (s d : Status) → is_doomed s ≡ true → is_doome
 cascade_doomed true s d h e = e
 cascade_doomed false s d h e = h
 
-asked_above : {C : Type 0} (top u t a : ℕ) (o : Option ℕ) (c : Cell C) (b : Book) → holds (is_above top) (act_of u b.acts) ≡ true → holds (is_above top) (act_of u (book.asked_acts o (book.met t c) t a (max c.last c.floor) b)) ≡ true
+asked_above : {C : Type 0} (top u t a : ℕ) (o : Option ℕ) (c : Cell C) (b : Book) → holds (is_above top) (act_of u b.acts) ≡ true → holds (is_above top) (act_of u (book.asked_acts o (book.met t c.entries) t a (max c.last c.floor) b)) ≡ true
 asked_above top u t a (Some older) c b h = changed top u t _ b.acts (λ x. refl) (λ x q. above_more top x (book.doomed_by (Rattle.protocol.specs.Verdicts.died a older t) x) (omega arith) (λ p. doomed_still x.status _ p) q) h
 asked_above top u t a None c b h = by_order top u a _ (raised_above top u _ _ (changed top u t _ b.acts (λ x. refl) (λ x q. above_more top x (book.joins a (max c.last c.floor) x) (omega arith) (λ p. p) q) h))
 
@@ -108,7 +93,7 @@ pub book_stays : {C : Type 0} (w : Fixed C) (e : Event) (s : Machine C) (top t :
 unfolding after
 book_stays w (Admit u) s top t h = holds_more top t _ s.book.acts h
 book_stays w (Arrive k a) s top t h = by_order top t a _ (holds_map top (book.lowered k (book.tids_on (cell_at s a).entries)) (λ x. refl) (λ x q. q) t s.book.acts h)
-book_stays w (Ask u a) s top t h = asked_above top t u a (book.in_the_way u (cell_at s a)) (cell_at s a) s.book h
+book_stays w (Ask u a) s top t h = asked_above top t u a (book.in_the_way u (cell_at s a).entries) (cell_at s a) s.book h
 book_stays {C} w (End u a) s top t h = by (has_act u (cell_at s a).entries) (outcome_of u (cell_at s a).outbox)
   where
     next : (n : Next C) → holds (is_above top) (act_of t (book.noted_for u n s.book.acts)) ≡ true
@@ -122,8 +107,8 @@ book_stays {C} w (End u a) s top t h = by (has_act u (cell_at s a).entries) (out
 book_stays w (Abort k) s top t h = holds_map top _ (λ x. refl) (λ x q. above_more top x (book.cascaded k (book.failed_tx (book.why k s.desk)) x) (omega arith) (λ p. cascade_doomed (is_live_status x.status && nat_le k x.m) x.status _ p refl) q) t s.book.acts h
 book_stays w (Prepare u a) s top t h = changed top t u _ s.book.acts (λ x. refl) (λ x q. q) h
 book_stays w (Vouch u a) s top t h = changed top t u _ s.book.acts (λ x. refl) (λ x q. q) h
-book_stays w (Decide u) s top t h = changed top t u _ s.book.acts (λ x. refl) (λ x q. above_more top x (book.decided_as s.book.next_c x) (omega arith) (decided_doomed s.book.next_c (is_value x.result) x.status) q) h
-book_stays w (Seal u) s top t h = changed top t u _ s.book.acts (λ x. refl) (λ x q. above_more top x (book.sealed x) (omega arith) (sealed_doomed x.status) q) h
+book_stays w (Decide u) s top t h = changed top t u _ s.book.acts (λ x. refl) (λ x q. above_more top x (book.decided_as s.book.next_c x) (omega arith) (doomed_decided s.book.next_c (is_value x.result) x.status) q) h
+book_stays w (Seal u) s top t h = changed top t u _ s.book.acts (λ x. refl) (λ x q. above_more top x (book.sealed x) (omega arith) (doomed_sealed x.status) q) h
 book_stays w (Finish u a) s top t h = changed top t u _ s.book.acts (λ x. refl) (λ x q. q) h
 book_stays w e s top t h = h
 
@@ -209,7 +194,7 @@ roll_back acts top cs (Gone (OfBatch k) ss ∷ rs) h = roll_back acts (max top k
 roll_back acts top cs (Gone (OfAct t) ss ∷ rs) h = roll_back acts top cs rs h
 
 -- an ACT that is placed has a number at least as great as the last batch
-asked_own : {C : Type 0} (t a : ℕ) (c : Cell C) (b : Book) → holds (λ x. true) (act_of t b.acts) ≡ true → holds (is_above c.last) (act_of t (book.asked_acts None (book.met t c) t a (max c.last c.floor) b)) ≡ true
+asked_own : {C : Type 0} (t a : ℕ) (c : Cell C) (b : Book) → holds (λ x. true) (act_of t b.acts) ≡ true → holds (is_above c.last) (act_of t (book.asked_acts None (book.met t c.entries) t a (max c.last c.floor) b)) ≡ true
 asked_own t a c b h = by_order c.last t a _ (raised_above c.last t _ _ (joined t b.acts h))
   where
     joined : (t : ℕ) (xs : List Act) → holds (λ x. true) (act_of t xs) ≡ true → holds (is_above c.last) (act_of t (book.changed_act t (book.joins a (max c.last c.floor)) xs)) ≡ true
@@ -270,10 +255,10 @@ gone_staying P cs (Gone y ss ∷ rs) h = all_join P (batch_in y) _ (all_front P 
 standing_at_most : (n : ℕ) (rs : List Ran) (es : List Entry) → Turns rs es → AllByRecursion (λ k. k ≤ n) (gone_in rs) → AllByRecursion (λ k. k ≤ max n (greatest (batches_on es))) (batches_in rs)
 standing_at_most n [] [] t h = tt
 standing_at_most n [] (e ∷ es) t h = absurd t
-standing_at_most n (Gone y ss ∷ rs) es t h = all_join _ (batch_in y) _ (all_weaker _ _ (batch_in y) (λ k l. omega (arith, l)) (all_front _ (batch_in y) (gone_in rs) h)) (standing_at_most n rs es t (all_back _ (batch_in y) (gone_in rs) h))
+standing_at_most n (Gone y ss ∷ rs) es t h = all_join _ (batch_in y) _ (weaker _ _ (batch_in y) (λ k l. omega (arith, l)) (all_front _ (batch_in y) (gone_in rs) h)) (standing_at_most n rs es t (all_back _ (batch_in y) (gone_in rs) h))
 standing_at_most n (Stands y c ss ∷ rs) [] t h = absurd t
 standing_at_most n (Stands y c ss ∷ rs) (BatchEntry b ∷ es) t h = subst (λ z. AllByRecursion (λ k. k ≤ max n (max b.bid (greatest (batches_on es)))) (batch_in z ++ batches_in rs)) t.0
-    (omega arith, all_weaker _ _ (batches_in rs) (λ k l. omega (arith, l)) (standing_at_most n rs es t.2 h))
+    (omega arith, weaker _ _ (batches_in rs) (λ k l. omega (arith, l)) (standing_at_most n rs es t.2 h))
 standing_at_most n (Stands y c ss ∷ rs) (ActEntry x ∷ es) t h = subst (λ z. AllByRecursion (λ k. k ≤ max n (greatest (batches_on es))) (batch_in z ++ batches_in rs)) t.0 (standing_at_most n rs es t.2 h)
 
 same : (last n : ℕ) (rs rs' : List Ran) → batches_in rs' ≡ batches_in rs → gone_in rs' ≡ gone_in rs → LastIs last n rs → LastIs last n rs'
@@ -309,13 +294,13 @@ lasts_kept w (Arrive k a) s h ok x ag p t g =
     let m = message w k a s ok ag in
     beside AtLast s.cells a _ _ h.long (arrives (epoch s.book) a (λ c. c.epoch == epoch s.book) s.cells (sub_of k a s.post.subs) ok.1.1.0)
     (λ y. record {
-      placed = rw (PlaceLists.batches_join (h.long a) (not_run (OfBatch k) ∷ [])) (all_join _ (batches_in (h.long a)) (k ∷ []) (all_weaker _ _ (batches_in (h.long a)) (λ j f. less j k s.book.cascades (cell_at s a).epoch (cell_at s a).tail s.ring.next_bid m.own m.behind f) (p a).fit) (omega arith, tt));
+      placed = rw (PlaceLists.batches_join (h.long a) (not_run (OfBatch k) ∷ [])) (all_join _ (batches_in (h.long a)) (k ∷ []) (weaker _ _ (batches_in (h.long a)) (λ j f. less j k s.book.cascades (cell_at s a).epoch (cell_at s a).tail s.ring.next_bid m.own m.behind f) (p a).fit) (omega arith, tt));
       gone = rw (gone_more (OfBatch k) (h.long a)) y.gone;
     }) g
   where
     less : (j k : ℕ) (cs : List Cascade) (ep tail next : ℕ) → epoch_of k cs ≡ ep → tail < k → Fits next cs ep tail j → j ≤ k
     less j k cs ep tail next e m f = elim (cases_lt j k) [ inl l ↦ omega (arith, l) | inr l ↦ absurd (omega (arith, l, m, f.is_last (omega (arith, f.placed, e, PlaceLists.epoch_mono k j cs l)))) ]
-lasts_kept w (Ask u a) s h ok x ag p t g = beside AtLast s.cells a _ _ h.long (in_range _ s.cells a ok.1.1.0) (ask_last (cell_at s a).last (cell_at s a).last_trimmed u (book.in_the_way u (cell_at s a)) (h.long a)) g
+lasts_kept w (Ask u a) s h ok x ag p t g = beside AtLast s.cells a _ _ h.long (in_range _ s.cells a ok.1.1.0) (ask_last (cell_at s a).last (cell_at s a).last_trimmed u (book.in_the_way u (cell_at s a).entries) (h.long a)) g
 lasts_kept w (Take u a) s h ok x ag p t g = beside_same AtLast s.cells a _ h.long (in_range _ s.cells a ok.1.0) (λ y. y) g
 lasts_kept w (Run u a) s h ok x ag p t g = beside AtLast s.cells a _ _ h.long (in_range _ s.cells a ok.0) (λ y. same (cell_at s a).last (cell_at s a).last_trimmed (h.long a) _ (PlaceLists.batches_ran _ _ (h.long a)) (gone_ran _ _ (h.long a)) y) g
 lasts_kept w (Send u a) s h ok x ag p t g = beside_same AtLast s.cells a _ h.long (in_range _ s.cells a ok.0) (λ y. y) g
@@ -329,7 +314,7 @@ lasts_kept w (Rollback a) s h ok x ag p t g = beside AtLast s.cells a _ _ h.long
 lasts_kept w (Finish u a) s h ok x ag p t g = beside AtLast s.cells a _ _ h.long x (finish_last (cell_at s a).last (cell_at s a).last_trimmed u (cell.is_undone_act (act_of u s.book.acts)) (h.long a)) g
 lasts_kept w (Trim k a) s h ok x ag p t g = beside AtLast s.cells a _ _ h.long x (λ y. record {
   placed = rw (PlaceLists.batches_left (OfBatch k) (h.long a)) y.placed;
-  gone = gone_left (max (cell_at s a).last_trimmed k) (OfBatch k) (h.long a) (omega arith, tt) (all_weaker _ _ (gone_in (h.long a)) (λ j l. omega (arith, l)) y.gone);
+  gone = gone_left (max (cell_at s a).last_trimmed k) (OfBatch k) (h.long a) (omega arith, tt) (weaker _ _ (gone_in (h.long a)) (λ j l. omega (arith, l)) y.gone);
 }) g
 lasts_kept w e s h ok x ag p t g = g
 
@@ -344,9 +329,9 @@ held_act : (p : Act → Bool) (o : Option Act) → holds p o ≡ true → holds 
 held_act p None h = h
 held_act p (Some x) h = refl
 
-ask_number : {C : Type 0} (t a : ℕ) (o : Option ℕ) (c : Cell C) (b : Book) (rs : List Ran) → holds (λ x. true) (act_of t b.acts) ≡ true → AllByRecursion (λ k. k ≤ c.last) (batches_in rs) → Befores (book.asked_acts o (book.met t c) t a (max c.last c.floor) b) 0 rs
-    → Befores (book.asked_acts o (book.met t c) t a (max c.last c.floor) b) 0 (rs ++ map not_run (asks t o))
-ask_number t a None c b rs e l h = more_act (book.asked_acts None (book.met t c) t a (max c.last c.floor) b) 0 c.last t rs (omega arith) l (asked_own t a c b e) h
+ask_number : {C : Type 0} (t a : ℕ) (o : Option ℕ) (c : Cell C) (b : Book) (rs : List Ran) → holds (λ x. true) (act_of t b.acts) ≡ true → AllByRecursion (λ k. k ≤ c.last) (batches_in rs) → Befores (book.asked_acts o (book.met t c.entries) t a (max c.last c.floor) b) 0 rs
+    → Befores (book.asked_acts o (book.met t c.entries) t a (max c.last c.floor) b) 0 (rs ++ map not_run (asks t o))
+ask_number t a None c b rs e l h = more_act (book.asked_acts None (book.met t c.entries) t a (max c.last c.floor) b) 0 c.last t rs (omega arith) l (asked_own t a c b e) h
 ask_number t a (Some x) c b rs e l h = rw (append-nil rs) h
 
 finish_number : (acts : List Act) (t : ℕ) (q : Bool) (rs : List Ran) → Befores acts 0 rs → Befores acts 0 (if q then without_standing (OfAct t) rs else map (left_for_good (OfAct t)) rs)
@@ -356,7 +341,7 @@ finish_number acts t false rs h = leave acts 0 (OfAct t) rs h
 numbers_kept : {C : Type 0} (w : Fixed C) (e : Event) (s : Machine C) (h : History) → IsAllowed w e s → Lasts s h → ((a : ℕ) → Befores (after w e s).book.acts 0 (h.long a)) → Numbers (after w e s) (grown w e s h)
 unfolding Numbers Lasts conditions after grown
 numbers_kept w (Arrive k a) s h ok l g = beside_carried (λ b rs. Befores (after w (Arrive k a) s).book.acts 0 rs) a _ h.long (more_batch _ 0 k (h.long a)) g
-numbers_kept w (Ask t a) s h ok l g = beside_carried (λ b rs. Befores (after w (Ask t a) s).book.acts 0 rs) a _ h.long (ask_number t a (book.in_the_way t (cell_at s a)) (cell_at s a) s.book (h.long a) (held_act _ (act_of t s.book.acts) ok.1.0) (l a).placed) g
+numbers_kept w (Ask t a) s h ok l g = beside_carried (λ b rs. Befores (after w (Ask t a) s).book.acts 0 rs) a _ h.long (ask_number t a (book.in_the_way t (cell_at s a).entries) (cell_at s a) s.book (h.long a) (held_act _ (act_of t s.book.acts) ok.1.0) (l a).placed) g
 numbers_kept w (Run t a) s h ok l g = beside_carried (λ b rs. Befores s.book.acts 0 rs) a _ h.long (ran s.book.acts 0 _ _ (h.long a)) g
 numbers_kept w (Complete k a) s h ok l g = beside_carried (λ b rs. Befores s.book.acts 0 rs) a _ h.long (complete s.book.acts 0 k (h.long a)) g
 numbers_kept w (Rollback a) s h ok l g = beside_carried (λ b rs. Befores s.book.acts 0 rs) a _ h.long (roll_back s.book.acts 0 s.book.cascades (h.long a)) g

@@ -27,6 +27,7 @@ use Rattle.protocol_laws.proofs.machine.ActsFound as acts
 use Rattle.protocol_laws.proofs.machine.ActsFound.{EachAct, Holds}
 use Rattle.protocol_laws.proofs.machine.ActsKept.{Acts}
 use Rattle.protocol_laws.proofs.machine.QueuedKept.{in_book}
+use Rattle.protocol_laws.proofs.first.Statuses.{doomed_decided, doomed_sealed}
 
 abbrev pub is_out : Act → Bool
 is_out x = is_doomed x.status
@@ -58,27 +59,15 @@ holds_some : (q : Act → Bool) (o : Option Act) → holds q o ≡ true → is_s
 holds_some q None e = absurd (true≢false (sym e))
 holds_some q (Some x) e = refl
 
-sealed_out : (st : Status) → is_doomed st ≡ true → is_doomed (book.sealed_status st) ≡ true
-sealed_out Live e = e
-sealed_out (Doomed v) e = refl
-sealed_out (Decided c) e = e
-sealed_out (Sealed c) e = e
-
-decided_out : (c : ℕ) (b : Bool) (st : Status) → is_doomed st ≡ true → is_doomed (book.decided_status c b st) ≡ true
-decided_out c b Live e = absurd (true≢false (sym e))
-decided_out c b (Doomed v) e = refl
-decided_out c b (Decided d) e = e
-decided_out c b (Sealed d) e = e
-
 out_holds : (t : ℕ) → Holds (λ u x. u ≡ t → is_out x ≡ true)
-out_holds t = record { numbered = λ u x n p. p; marked = λ u a x f i p. p; sealed = λ u x p i. sealed_out x.status (p i); doomed = λ u x v l p i. refl; rises = λ u k x l p. p }
+out_holds t = record { numbered = λ u x n p. p; marked = λ u a x f i p. p; sealed = λ u x p i. doomed_sealed x.status (p i); doomed = λ u x v l p i. refl; rises = λ u k x l p. p }
 
 ready_out : {C : Type 0} (w : Fixed C) (e : Event) (s : Machine C) (t : ℕ) → holds is_out (act_of t s.book.acts) ≡ true → acts.Ready w e s (λ u x. u ≡ t → is_out x ≡ true)
 unfolding acts.Ready
 ready_out w (Admit u) s t h = λ n i. absurd (true≢false (sym h ∙ ap (holds is_out) (ap (λ z. act_of z s.book.acts) (sym i) ∙ n)))
 ready_out w (Ask u a) s t h = λ x e p. p
 ready_out w (End u a) s t h = λ x r e p. p
-ready_out w (Decide u) s t h = λ x e p i. decided_out s.book.next_c (is_value x.result) x.status (p i)
+ready_out w (Decide u) s t h = λ x e p i. doomed_decided s.book.next_c (is_value x.result) x.status (p i)
 ready_out w e s t h = tt
 
 pub out_stays : {C : Type 0} (w : Fixed C) (e : Event) (s : Machine C) (t : ℕ) → holds is_out (act_of t s.book.acts) ≡ true → holds is_out (act_of t (after w e s).book.acts) ≡ true
@@ -230,7 +219,7 @@ unfolding AllBehind Placed Numbers Acts conditions after grown
 behind_moves w (Arrive k a) s h ok z p n i g f = beside_carried (λ b rs. Behind (after w (Arrive k a) s).book.acts s.book.cascades false rs) a _ h.long (more_batch _ s.book.cascades false k (h.long a)) f
 behind_moves w (Ask t a) s h ok z p n i g f =
     let e : (cell_at s a).epoch ≡ length s.book.cascades = eqb-true (cell_at s a).epoch (epoch s.book) (held (λ c. c.epoch == epoch s.book) s.cells a no_cell ok.1.1.1.0) in
-    beside_carried (λ b rs. Behind (after w (Ask t a) s).book.acts s.book.cascades false rs) a _ h.long (ask _ s.book.cascades t (book.in_the_way t (cell_at s a)) (h.long a) (clean s.ring.next_bid s.book.cascades (cell_at s a).epoch (cell_at s a).tail (batches_in (h.long a)) e (p a).fit)) f
+    beside_carried (λ b rs. Behind (after w (Ask t a) s).book.acts s.book.cascades false rs) a _ h.long (ask _ s.book.cascades t (book.in_the_way t (cell_at s a).entries) (h.long a) (clean s.ring.next_bid s.book.cascades (cell_at s a).epoch (cell_at s a).tail (batches_in (h.long a)) e (p a).fit)) f
 behind_moves w (Run t a) s h ok z p n i g f = beside_carried (λ b rs. Behind s.book.acts s.book.cascades false rs) a _ h.long (ran s.book.acts s.book.cascades false _ _ (h.long a)) f
 behind_moves w (Complete k a) s h ok z p n i g f = beside_carried (λ b rs. Behind s.book.acts s.book.cascades false rs) a _ h.long (complete s.book.acts s.book.cascades false k (h.long a)) f
 behind_moves w (Abort k) s h ok z p n i g f = λ a. cascade s.book.acts (after w (Abort k) s).book.acts s.book.cascades (record { first = k; upto = s.ring.next_bid - 1; by = book.failed_tx (book.why k s.desk); at = s.book.next_c; code = book.failed_code (book.why k s.desk) }) 0 false false (h.long a)

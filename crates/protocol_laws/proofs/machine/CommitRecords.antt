@@ -6,7 +6,7 @@ use Rattle.std.proofs.lemmas.Bool.{true≢false, eqb-true, eq-eqb, and_parts, or
 use Rattle.snap_base.specs.declared.transactions.TxResult.{TxResult}
 use Rattle.protocol.specs.Fixed.{Fixed, IsText, Next, Go, Ended}
 use Rattle.protocol.specs.Records.{LogRecord, BatchCommit, is_commit, is_act_commit}
-use Rattle.protocol.specs.Parts.{Act, Batch, Declared, Stage, Formed, Committing, Settled, Status, Live, Doomed, Decided, Sealed, Log, Outcome, Machine}
+use Rattle.protocol.specs.Parts.{Act, Batch, Declared, Committing, Settled, Status, Live, Doomed, Decided, Sealed, Log, Outcome, Machine}
 use Rattle.protocol.specs.Events.{Event, Form, Admit, Ask, End, Complete, Sync, Note, Commit, Settle, Abort, Prepare, Decide, Trim}
 use Rattle.protocol.specs.Words.{holds, is_value, is_decided, is_ended, is_formed, is_committing, is_durable, act_of, batch_of, has_act, outcome_of, is_ordered}
 use Rattle.protocol.specs.Conditions.{IsAllowed, conditions}
@@ -26,6 +26,7 @@ use Rattle.protocol_laws.proofs.machine.ActResults.{NoneActed, NoActResult}
 use Rattle.protocol_laws.proofs.machine.ActsKept.{Acts}
 use Rattle.protocol_laws.proofs.machine.PactsTold.{EachBatch}
 use Rattle.protocol_laws.proofs.first.Lists.{some_of, take_all}
+use Rattle.protocol_laws.proofs.first.Statuses.{committing_not_formed, if_bid, ordered_sealed, sealed_not_decided}
 
 -- ---- records stay
 
@@ -85,23 +86,11 @@ DecidedValue t x = is_decided x.status ≡ true → is_value x.result ≡ true
 unfoldable pub ActsRecorded : {C : Type 0} → Fixed C → Machine C → Type 0
 ActsRecorded w s = EachAct (λ t x. ActRecorded w s t x × DecidedValue t x) s.book.acts
 
-placed_sealed : (st : Status) → is_ordered (book.sealed_status st) ≡ is_ordered st
-placed_sealed Live = refl
-placed_sealed (Doomed v) = refl
-placed_sealed (Decided c) = refl
-placed_sealed (Sealed c) = refl
-
-sealed_decided : (st : Status) → is_decided (book.sealed_status st) ≡ false
-sealed_decided Live = refl
-sealed_decided (Doomed v) = refl
-sealed_decided (Decided c) = refl
-sealed_decided (Sealed c) = refl
-
 recorded_holds : {C : Type 0} (w : Fixed C) (s : Machine C) → Holds (λ t x. ActRecorded w s t x × DecidedValue t x)
 recorded_holds w s = record {
   numbered = λ t x n p. p;
   marked = λ t a x f i p. p;
-  sealed = λ t x p. ((λ e v. p.0 (sym (placed_sealed x.status) ∙ e) v), (λ e. absurd (true≢false (sym e ∙ sealed_decided x.status))));
+  sealed = λ t x p. ((λ e v. p.0 (sym (ordered_sealed x.status) ∙ e) v), (λ e. absurd (true≢false (sym e ∙ sealed_not_decided x.status))));
   doomed = λ t x v l p. ((λ e. absurd (true≢false (sym e))), (λ e. absurd (true≢false (sym e))));
   rises = λ t k x l p. p;
 }
@@ -155,10 +144,6 @@ BatchReady w _ s P = Unit {0}
 pub batch_map : (P Q : ℕ → Batch → Type 0) (f : Batch → Batch) (bs : List Batch) → ((b : Batch) → (f b).bid ≡ b.bid) → ((k : ℕ) (b : Batch) → batch_of k bs ≡ Some b → P k b → Q k (f b)) → EachBatch P bs → EachBatch Q (map f bs)
 batch_map P Q f bs i k h = λ j c e. let g = marks.found_mapped f i j c bs e in subst (Q j) g.2 (k j g.0 g.1 (h j g.0 g.1))
 
-if_bid : (v : Bool) (f : Batch → Batch) (b : Batch) → (f b).bid ≡ b.bid → (desk.change_if v f b).bid ≡ b.bid
-if_bid true f b h = h
-if_bid false f b h = refl
-
 one_changed : (P : ℕ → Batch → Type 0) (j : ℕ) (f : Batch → Batch) (bs : List Batch) → ((b : Batch) → (f b).bid ≡ b.bid) → ((b : Batch) → batch_of j bs ≡ Some b → P j b → P j (f b)) → EachBatch P bs → EachBatch P (desk.changed_batch j f bs)
 one_changed P j f bs i own h = batch_map P P (λ b. desk.change_if (b.bid == j) f b) bs (λ b. if_bid (b.bid == j) f b (i b)) (λ k b e p. by k b e p (b.bid == j) refl) h
   where
@@ -194,11 +179,6 @@ BatchesRecorded w s = EachBatch (BatchRecorded w s) s.desk.batches
 
 batch_recorded_holds : {C : Type 0} (w : Fixed C) (s : Machine C) → BatchHolds (BatchRecorded w s)
 batch_recorded_holds w s = record { placed = λ k b ps p. p; taken = λ k b v p. p }
-
-committing_not_formed : (st : Stage) → is_committing st ≡ true → is_formed st ≡ false
-committing_not_formed Formed e = absurd (true≢false (sym e))
-committing_not_formed Committing e = refl
-committing_not_formed Settled e = refl
 
 stay_batches : {C : Type 0} (w : Fixed C) (e : Event) (s : Machine C) → EachBatch (BatchRecorded w s) s.desk.batches → EachBatch (BatchRecorded w (after w e s)) s.desk.batches
 stay_batches w e s g = λ k b f n. record_stays w e s (is_commit k) (k % w.text.logs) (g k b f n)

@@ -98,7 +98,7 @@ decide w s h n t a o x c e m r g = rw (e, m.tid) (by (is_value x.result) refl)
 pub kept : {C : Type 0} (w : Fixed C) (e : Event) (s : Machine C) (h : History) → IsAllowed w e s → Assumed e s h → Tracked w s h → Committed w h → Committed w (grown w e s h)
 unfolding Committed Tracked Assumed conditions after grown
 kept w (Arrive k a) s h ok more d g = beside_carried (At w h.kept h.committed) a _ h.long (λ x. CommitLists.more a _ _ _ (h.long a) (OfBatch k) more x) g
-kept w (Ask t a) s h ok more d g = beside_carried (At w h.kept h.committed) a _ h.long (ask w h.kept h.committed t a (book.in_the_way t (cell_at s a)) (h.long a) more) g
+kept w (Ask t a) s h ok more d g = beside_carried (At w h.kept h.committed) a _ h.long (ask w h.kept h.committed t a (book.in_the_way t (cell_at s a).entries) (h.long a) more) g
 kept w (Run t a) s h ok more d g = beside_carried (At w h.kept h.committed) a _ h.long (λ x. CommitLists.ran a _ _ _ (h.long a) _ _ more x) g
 kept w (Complete k a) s h ok more d g = beside_carried (At w h.kept h.committed) a _ h.long (λ x. CommitLists.complete a _ _ _ (h.long a) k x) g
 kept w (Commit k) s h ok more d g = λ a. commit w s h k a (batch_of k s.desk.batches) more.0 (cell_at s a) more.1.is_it more.1 (d a) (g a)

@@ -1,15 +1,17 @@
 -- What holds of each control, wherever it lies, as controls move.
-use Rattle.std.specs.Prelude.{◌≡◌, refl, ℕ, zero, suc, ◌≤◌, ◌==◌, not, Bool, true, false, if◌then◌else◌, Option, Some, None, List, [], ◌∷◌, length, map, filter, find, slice_index_or, slice_set}
+use Rattle.std.specs.Prelude.{◌≡◌, refl, ℕ, zero, suc, ◌≤◌, ◌==◌, not, Bool, true, false, if◌then◌else◌, Option, Some, None, List, [], ◌∷◌, length, map, filter, slice_index_or, slice_set}
 use Rattle.std.specs.List.{AllByRecursion}
 use Rattle.std.proofs.Common.{arith, sym, subst, ◌∙◌}
 use Rattle.std.proofs.lemmas.Bool.{eqb-true, eq-eqb, true≢false}
-use Rattle.protocol.specs.Fixed.{Fixed, Next, Go, Ended, Code, tx_at, root}
+use Rattle.snap_base.specs.declared.transactions.State.{State}
+use Rattle.protocol.specs.Fixed.{Fixed, Next, Go, Ended, Code, tx_at, root, base}
 use Rattle.protocol.specs.Parts.{Pact, ControlMessage, Waiting, Outcome, Who, OfBatch, Cell, Machine}
 use Rattle.protocol.specs.Events.{Event, Form, Admit, Arrive, Ask, Take, Run, Send, End, Close, Complete, Rollback, DropControl, Finish, Trim}
 use Rattle.protocol.specs.Words.{holds, control_of, waiting_of, without_waiting, outcome_of, who_on}
 use Rattle.protocol.specs.Conditions.{IsAllowed, conditions}
 use Rattle.protocol.specs.Effects.{after, cell_at, puts, no_cell}
 use Rattle.protocol.specs.Numbers.{flat, times, waiting_tids, controls_in}
+use Rattle.protocol.specs.Runs.{opening, new_cell}
 use Rattle.protocol.specs.OnPost as post
 use Rattle.protocol.specs.OnBook as book
 use Rattle.protocol.specs.OnCell as cell
@@ -17,7 +19,7 @@ use Rattle.protocol.specs.OnRing.{next_pacts}
 use Rattle.protocol_laws.proofs.first.Times
 use Rattle.protocol_laws.proofs.first.Controls as controls
 use Rattle.protocol_laws.proofs.machine.FromDeskKept.{one_cell}
-use Rattle.protocol_laws.proofs.first.Lists.{all_both, all_filter, all_join}
+use Rattle.protocol_laws.proofs.first.Lists.{all_filter, all_found, all_join, both_all}
 
 -- A control on its way, or at an actor, is one that goes there.
 pub record AllControls {C : Type 0} (P : ℕ → Next C → Type 0) (s : Machine C) : Type 0 where
@@ -25,19 +27,11 @@ pub record AllControls {C : Type 0} (P : ℕ → Next C → Type 0) (s : Machine
   pub inboxes : (a : ℕ) → AllByRecursion (λ x. P x.tid (Go a x.control)) (cell_at s a).inbox
   pub outboxes : (a : ℕ) → AllByRecursion (λ x. P x.tid x.next) (cell_at s a).outbox
 
-pub all_found : {X : Type 0} (P : X → Type 0) (p : X → Bool) (y : X) (xs : List X) → find p xs ≡ Some y → AllByRecursion P xs → P y × (p y ≡ true)
-all_found P p y [] e h = absurd (cc e)
-all_found P p y (x ∷ xs) e h = by (p x) refl e (all_found P p y xs)
-  where
-    by : (b : Bool) → p x ≡ b → (if b then Some x else find p xs) ≡ Some y → (find p xs ≡ Some y → AllByRecursion P xs → P y × (p y ≡ true)) → P y × (p y ≡ true)
-    by true f e k = let q : x ≡ y = cc e in subst (λ z. P z × (p z ≡ true)) q (h.0, f)
-    by false f e k = k e h.1
-
 pub both : {C : Type 0} (P Q R : ℕ → Next C → Type 0) (s : Machine C) → ((t : ℕ) (n : Next C) → P t n → Q t n → R t n) → AllControls P s → AllControls Q s → AllControls R s
 both P Q R s k h g = record {
-  posted = all_both _ _ _ s.post.controls (λ m p q. k m.tid (Go m.to m.control) p q) h.posted g.posted;
-  inboxes = λ a. all_both _ _ _ (cell_at s a).inbox (λ x p q. k x.tid (Go a x.control) p q) (h.inboxes a) (g.inboxes a);
-  outboxes = λ a. all_both _ _ _ (cell_at s a).outbox (λ x p q. k x.tid x.next p q) (h.outboxes a) (g.outboxes a);
+  posted = both_all _ _ _ s.post.controls (λ m p q. k m.tid (Go m.to m.control) p q) h.posted g.posted;
+  inboxes = λ a. both_all _ _ _ (cell_at s a).inbox (λ x p q. k x.tid (Go a x.control) p q) (h.inboxes a) (g.inboxes a);
+  outboxes = λ a. both_all _ _ _ (cell_at s a).outbox (λ x p q. k x.tid x.next p q) (h.outboxes a) (g.outboxes a);
 }
 
 all_trivial : {X : Type 0} (xs : List X) → AllByRecursion (λ x. Unit {0}) xs
@@ -63,7 +57,7 @@ first w k P (p ∷ ps) h = (h.0, first w k P ps h.1)
 came : {C : Type 0} (P : ℕ → Next C → Type 0) (t a : ℕ) (cs : List (ControlMessage C)) (o : Option (ControlMessage C)) → control_of t cs ≡ o → holds (λ m. m.to == a) o ≡ true → AllByRecursion (λ m. P m.tid (Go m.to m.control)) cs
     → AllByRecursion (λ x. P x.tid (Go a x.control)) (cell.arrived o)
 came P t a cs None e h g = tt
-came P t a cs (Some m) e h g = (subst (λ z. P m.tid (Go z m.control)) (eqb-true m.to a h) (all_found (λ m. P m.tid (Go m.to m.control)) (λ m. m.tid == t) m cs e g).0, tt)
+came P t a cs (Some m) e h g = (subst (λ z. P m.tid (Go z m.control)) (eqb-true m.to a h) (all_found (λ m. P m.tid (Go m.to m.control)) (λ m. m.tid == t) cs m g e).0, tt)
 
 asked : {C : Type 0} (P : ℕ → Next C → Type 0) (a : ℕ) (older : Option ℕ) (o : Option (ControlMessage C)) → AllByRecursion (λ x. P x.tid (Go a x.control)) (cell.arrived o) → AllByRecursion (λ x. P x.tid (Go a x.control)) (cell.where_placed older o)
 asked P a None o h = h
@@ -75,7 +69,7 @@ goes P who t (Ended r) h = tt
 
 sent : {C : Type 0} (P : ℕ → Next C → Type 0) (t : ℕ) (who : Who) (xs : List (Outcome C)) (o : Option (Outcome C)) → outcome_of t xs ≡ o → AllByRecursion (λ x. P x.tid x.next) xs → AllByRecursion (λ m. P m.tid (Go m.to m.control)) (post.going who o)
 sent P t who xs None e h = tt
-sent P t who xs (Some x) e h = goes P who x.tid x.next (all_found (λ x. P x.tid x.next) (λ x. x.tid == t) x xs e h).0
+sent P t who xs (Some x) e h = goes P who x.tid x.next (all_found (λ x. P x.tid x.next) (λ x. x.tid == t) xs x h e).0
 
 ran : {C : Type 0} (P : ℕ → Next C → Type 0) (code : Code C) (t : ℕ) (c : Cell C) (o : Option (Waiting C)) → waiting_of t c.inbox ≡ o → ((x : Waiting C) → waiting_of t c.inbox ≡ Some x → P t (code.slice x.control c.state).next) → AllByRecursion (λ x. P x.tid x.next) (cell.outcomes t (cell.sliced code c.state o))
 ran P code t c None e h = tt
@@ -100,7 +94,7 @@ moves w (Admit t) s P ok r h = record { posted = all_join _ s.post.controls _ h.
 moves w (Arrive k a) s P ok r h = record { posted = h.posted; inboxes = in_same P s a _ refl h; outboxes = out_same P s a _ refl h }
 moves w (Ask t a) s P ok r h = record {
   posted = all_filter _ _ s.post.controls h.posted;
-  inboxes = one_cell (In P) s.cells a _ (λ g. all_join _ (cell_at s a).inbox _ g (asked P a (book.in_the_way t (cell_at s a)) (control_of t s.post.controls) (came P t a s.post.controls (control_of t s.post.controls) refl ok.0 h.posted))) h.inboxes;
+  inboxes = one_cell (In P) s.cells a _ (λ g. all_join _ (cell_at s a).inbox _ g (asked P a (book.in_the_way t (cell_at s a).entries) (control_of t s.post.controls) (came P t a s.post.controls (control_of t s.post.controls) refl ok.0 h.posted))) h.inboxes;
   outboxes = out_same P s a _ refl h;
 }
 moves w (Take t a) s P ok r h = record {
@@ -214,3 +208,23 @@ run_moves {C} w t a s x P Q one e k q h =
   where
     same : (z : Waiting C) → waiting_of t (cell_at s a).inbox ≡ Some z → Q t (w.code.slice z.control (cell_at s a).state).next
     same z f = let i : x ≡ z = cc (sym e ∙ f) in subst (λ v. Q t (w.code.slice v.control (cell_at s a).state).next) i q
+
+-- ---- the opening
+
+no_inbox : (C : Type 0) (low : ℕ) (states : List State) (a : ℕ) → (slice_index_or (map (new_cell {C = C} low) states) a no_cell).inbox ≡ []
+no_inbox C low [] a = refl
+no_inbox C low (x ∷ xs) zero = refl
+no_inbox C low (x ∷ xs) (suc a) = no_inbox C low xs a
+
+no_outbox : (C : Type 0) (low : ℕ) (states : List State) (a : ℕ) → (slice_index_or (map (new_cell {C = C} low) states) a no_cell).outbox ≡ []
+no_outbox C low [] a = refl
+no_outbox C low (x ∷ xs) zero = refl
+no_outbox C low (x ∷ xs) (suc a) = no_outbox C low xs a
+
+-- there is no control yet
+pub nowhere : {C : Type 0} (w : Fixed C) (P : ℕ → Next C → Type 0) → AllControls P (opening w)
+nowhere {C} w P = record {
+  posted = tt;
+  inboxes = λ a. subst (AllByRecursion (λ x. P x.tid (Go a x.control))) (sym (no_inbox C (base w.text) w.text.opening.states a)) tt;
+  outboxes = λ a. subst (AllByRecursion (λ x. P x.tid x.next)) (sym (no_outbox C (base w.text) w.text.opening.states a)) tt;
+}

@@ -9,6 +9,7 @@ use Rattle.protocol.specs.Words.{holds, is_live_status, is_decided, is_sealed, i
 use Rattle.protocol.specs.Spread.{raised, carried, crossed_out, doomed_by_order}
 use Rattle.protocol.specs.Effects.{after, cell_at}
 use Rattle.protocol.specs.OnBook as book
+use Rattle.protocol_laws.proofs.first.Statuses.{if_tid}
 
 -- decided, with this before number
 abbrev pub is_fixed : ℕ → Act → Bool
@@ -44,10 +45,6 @@ change_fixed : (n : ℕ) (v : Bool) (f : Act → Act) (x : Act) → (is_fixed n 
 change_fixed n true f x g h = g h
 change_fixed n false f x g h = h
 
-if_tid : (v : Bool) (f : Act → Act) (x : Act) → (f x).tid ≡ x.tid → (book.change_if v f x).tid ≡ x.tid
-if_tid true f x h = h
-if_tid false f x h = refl
-
 changed : (n t u : ℕ) (f : Act → Act) (xs : List Act) → ((x : Act) → (f x).tid ≡ x.tid) → ((x : Act) → is_fixed n x ≡ true → is_fixed n (f x) ≡ true) → holds (is_fixed n) (act_of t xs) ≡ true → holds (is_fixed n) (act_of t (book.changed_act u f xs)) ≡ true
 changed n t u f xs i g h = holds_map (is_fixed n) (λ x. book.change_if (x.tid == u) f x) (λ x. if_tid (x.tid == u) f x (i x)) (λ x. change_fixed n (x.tid == u) f x (g x)) t xs h
 
@@ -75,7 +72,7 @@ by_order : (n t a : ℕ) (xs : List Act) → holds (is_fixed n) (act_of t xs) �
 by_order n t a xs h = holds_map (is_fixed n) (crossed_out a) (λ x. refl) (crossed_fixed n a) t xs h
 
 -- an ACT that has a control is live
-asked_fixed : {C : Type 0} (n u t a : ℕ) (o : Option ℕ) (c : Cell C) (b : Book) → (u ≡ t → ⊥) → holds (is_fixed n) (act_of u b.acts) ≡ true → holds (is_fixed n) (act_of u (book.asked_acts o (book.met t c) t a (max c.last c.floor) b)) ≡ true
+asked_fixed : {C : Type 0} (n u t a : ℕ) (o : Option ℕ) (c : Cell C) (b : Book) → (u ≡ t → ⊥) → holds (is_fixed n) (act_of u b.acts) ≡ true → holds (is_fixed n) (act_of u (book.asked_acts o (book.met t c.entries) t a (max c.last c.floor) b)) ≡ true
 asked_fixed n u t a (Some older) c b d h = changed n u t (book.doomed_by (Rattle.protocol.specs.Verdicts.died a older t)) b.acts (λ x. refl) (λ x q. live_only n x (book.doomed_by (Rattle.protocol.specs.Verdicts.died a older t) x) (λ e. rw e refl) q) h
 asked_fixed n u t a None c b d h = by_order n u a _ (raised_fixed n u _ _ (others u b.acts d h))
   where
@@ -117,7 +114,7 @@ pub stays_decided : {C : Type 0} (w : Fixed C) (e : Event) (s : Machine C) (n t 
 unfolding after
 stays_decided w (Admit u) s n t d h = holds_more (is_fixed n) t _ s.book.acts h
 stays_decided w (Arrive k a) s n t d h = by_order n t a _ (holds_map (is_fixed n) (book.lowered k (book.tids_on (cell_at s a).entries)) (λ x. refl) (λ x q. q) t s.book.acts h)
-stays_decided w (Ask u a) s n t d h = asked_fixed n t u a (book.in_the_way u (cell_at s a)) (cell_at s a) s.book d h
+stays_decided w (Ask u a) s n t d h = asked_fixed n t u a (book.in_the_way u (cell_at s a).entries) (cell_at s a) s.book d h
 stays_decided {C} w (End u a) s n t d h = by (has_act u (cell_at s a).entries) (outcome_of u (cell_at s a).outbox)
   where
     next : (x : Next C) → holds (is_fixed n) (act_of t (book.noted_for u x s.book.acts)) ≡ true

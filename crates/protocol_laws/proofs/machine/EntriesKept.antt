@@ -27,7 +27,8 @@ use Rattle.protocol_laws.proofs.machine.ActsKept.{Acts}
 use Rattle.protocol_laws.proofs.machine.QueuedKept.{in_book}
 use Rattle.protocol_laws.proofs.machine.BehindKept.{Behind, AllBehind, each_to_holds, holds_to_each}
 use Rattle.protocol_laws.proofs.machine.ActsOwed.{none_bad}
-use Rattle.protocol_laws.proofs.first.Lists.{all_join, all_weaker}
+use Rattle.protocol_laws.proofs.first.Lists.{all_join, weaker}
+use Rattle.protocol_laws.proofs.first.Statuses.{not_doomed_decided, sealed_doomed}
 
 -- ---- which actors it has not left
 
@@ -138,7 +139,7 @@ left_holds : HoldsOpen LeftThrough
 left_holds = record {
   numbered = λ t x n p. p;
   noted = λ t a x f i j p. marked_through (is_through x.status) a f x.places j p;
-  sealed = λ t x p. all_weaker _ _ x.places (λ q k e. through_sealed x.status (k e)) p;
+  sealed = λ t x p. weaker _ _ x.places (λ q k e. through_sealed x.status (k e)) p;
   doomed = λ t x v l p. all_given true x.places refl;
   rises = λ t k x l p. p;
 }
@@ -148,7 +149,7 @@ unfolding Left acts.ReadyToo conditions
 left_kept w (Admit t) s ok g = acts.acts_move w (Admit t) s LeftThrough left_holds (λ e. tt) g
 left_kept w (Ask t a) s ok g = acts.acts_move w (Ask t a) s LeftThrough left_holds (λ n x e p. all_join _ x.places _ p ((λ q. absurd (true≢false (sym q))), tt)) g
 left_kept w (End t a) s ok g = acts.acts_move w (End t a) s LeftThrough left_holds (λ x r e p. p) g
-left_kept w (Decide t) s ok g = acts.acts_move w (Decide t) s LeftThrough left_holds (λ x e p. all_weaker _ _ x.places (λ q k f. through_decided s.book.next_c (is_value x.result) x.status (k f)) p) g
+left_kept w (Decide t) s ok g = acts.acts_move w (Decide t) s LeftThrough left_holds (λ x e p. weaker _ _ x.places (λ q k f. through_decided s.book.next_c (is_value x.result) x.status (k f)) p) g
 left_kept w (Finish t a) s ok g = acts.acts_move w (Finish t a) s LeftThrough left_holds (λ x e p. all_given (is_through x.status) (book.marked a book.has_left x).places (subst (λ z. holds (λ x. is_doomed x.status || is_sealed x.status) z ≡ true) e ok.0)) g
 left_kept w e s ok g = acts.acts_move w e s LeftThrough left_holds tt g
 
@@ -230,7 +231,7 @@ keys_more b xs es new h g = subst (KeysOpen b xs) (sym (TrackLists.entries_join 
 -- an ACT that asks has left no actor
 pub none_left : {C : Type 0} (w : Fixed C) (s : Machine C) (h : History) (t a : ℕ) (x : Act) → IsAllowed w (Ask t a) s → AllControls (NoneActed s) s → Acts s h → Left s → act_of t s.book.acts ≡ Some x → AllByRecursion (λ p. p.finished ≡ false) x.places
 unfolding conditions Acts Left
-none_left w s h t a x ok n i l e = all_weaker _ _ x.places (λ p k. false_from_ne_true p.finished (λ q. not_through x.status (subst (λ z. holds (λ x. not (is_doomed x.status)) z ≡ true) e ok.1.0) (λ v. true≢false (sym ((i t x e).ended v) ∙ ap is_some (results.posted_none t a s ok.0 n t x e refl))) (k q))) (l t x e)
+none_left w s h t a x ok n i l e = weaker _ _ x.places (λ p k. false_from_ne_true p.finished (λ q. not_through x.status (subst (λ z. holds (λ x. not (is_doomed x.status)) z ≡ true) e ok.1.0) (λ v. true≢false (sym ((i t x e).ended v) ∙ ap is_some (results.posted_none t a s ok.0 n t x e refl))) (k q))) (l t x e)
   where
     not_through : (st : Status) → not (is_doomed st) ≡ true → (is_ordered st ≡ true → ⊥) → is_through st ≡ true → ⊥
     not_through Live d p q = true≢false (sym q)
@@ -238,13 +239,13 @@ none_left w s h t a x ok n i l e = all_weaker _ _ x.places (λ p k. false_from_n
     not_through (Decided c) d p q = true≢false (sym q)
     not_through (Sealed c) d p q = p refl
 
-joined_open : {C : Type 0} (w : Fixed C) (s : Machine C) (h : History) (t a : ℕ) → IsAllowed w (Ask t a) s → AllControls (NoneActed s) s → Acts s h → Left s → (o : Option ℕ) → o ≡ None → is_some (act_of t s.book.acts) ≡ true → is_some (act_of t (book.asked_acts o (book.met t (cell_at s a)) t a (max (cell_at s a).last (cell_at s a).floor) s.book)) ≡ true
-    → holds (open_at a) (act_of t (book.asked_acts o (book.met t (cell_at s a)) t a (max (cell_at s a).last (cell_at s a).floor) s.book)) ≡ true
+joined_open : {C : Type 0} (w : Fixed C) (s : Machine C) (h : History) (t a : ℕ) → IsAllowed w (Ask t a) s → AllControls (NoneActed s) s → Acts s h → Left s → (o : Option ℕ) → o ≡ None → is_some (act_of t s.book.acts) ≡ true → is_some (act_of t (book.asked_acts o (book.met t (cell_at s a).entries) t a (max (cell_at s a).last (cell_at s a).floor) s.book)) ≡ true
+    → holds (open_at a) (act_of t (book.asked_acts o (book.met t (cell_at s a).entries) t a (max (cell_at s a).last (cell_at s a).floor) s.book)) ≡ true
 joined_open w s h t a ok n i l (Some y) q e f = absurd (cc q)
 joined_open w s h t a ok n i l None q e f = each_to_holds (open_at a) t _ f
-    (acts.each_by_order (λ u x. u ≡ t → open_at a x ≡ true) a _ (open_holds t a) (acts.each_raised (λ u x. u ≡ t → open_at a x ≡ true) _ _ (open_holds t a)
+    (acts.none_in_way (λ u x. u ≡ t → open_at a x ≡ true) t a (cell_at s a) s.book (acts.anyway _ (open_holds t a))
     (acts.each_changed (λ u x. Unit {0}) (λ u x. u ≡ t → open_at a x ≡ true) t (book.joins a (max (cell_at s a).last (cell_at s a).floor)) s.book.acts (λ x. refl) (λ u x d k p j. absurd (d j))
-    (λ x k p j. open_new a _ x.places refl refl (none_left w s h t a x ok n i l k)) (λ u x k. tt))))
+    (λ x k p j. open_new a _ x.places refl refl (none_left w s h t a x ok n i l k)) (λ u x k. tt)))
 
 ask_keys : (a t : ℕ) (xs : List Act) (o : Option ℕ) (es : List Entry) → (o ≡ None → holds (open_at a) (act_of t xs) ≡ true) → KeysOpen a xs (map key_of es) → KeysOpen a xs (map key_of (es ++ cell.act_entries t o))
 ask_keys a t xs None es k h = keys_more a xs es _ h (k refl, tt)
@@ -291,7 +292,7 @@ unfolding Opened conditions after
 opened_kept w (Arrive k a) s h ok r n i l g = one_cell (Here (after w (Arrive k a) s).book.acts) s.cells a _ (λ z. keys_more a _ (cell_at s a).entries _ z (keys_batch a _ k (sub_of k a s.post.subs))) (before_keys w (Arrive k a) s (λ t b. tt) g)
 opened_kept w (Ask t a) s h ok r n i l g =
     let e = found_some _ (act_of t s.book.acts) ok.1.0 in
-    one_cell (Here (after w (Ask t a) s).book.acts) s.cells a _ (λ z. ask_keys a t _ (book.in_the_way t (cell_at s a)) (cell_at s a).entries (λ q. joined_open w s h t a ok n i l (book.in_the_way t (cell_at s a)) q e (in_book w (Ask t a) s t e)) z) (before_keys w (Ask t a) s (λ t b. tt) g)
+    one_cell (Here (after w (Ask t a) s).book.acts) s.cells a _ (λ z. ask_keys a t _ (book.in_the_way t (cell_at s a).entries) (cell_at s a).entries (λ q. joined_open w s h t a ok n i l (book.in_the_way t (cell_at s a).entries) q e (in_book w (Ask t a) s t e)) z) (before_keys w (Ask t a) s (λ t b. tt) g)
 opened_kept w (Take t a) s h ok r n i l g = one_cell (Here s.book.acts) s.cells a _ (λ z. z) g
 opened_kept w (Run t a) s h ok r n i l g = one_cell (Here s.book.acts) s.cells a _ (λ z. run_keys a s.book.acts (cell.is_done_after w.code a (cell.slice_of w.code t (cell_at s a))) t (cell_at s a).entries z) g
 opened_kept w (Send t a) s h ok r n i l g = one_cell (Here s.book.acts) s.cells a _ (λ z. z) g
@@ -377,18 +378,6 @@ has_stays w (Finish u a) s h t b x n f d tr be g = at_cell (Has t) s.cells a _ b
 has_stays w (Trim k a) s h t b x n f d tr be g = at_cell (Has t) s.cells a _ b (λ j q. ap (is_key_among (OfAct t)) (TrackLists.entries_without_batch k (cell_at s a).entries) ∙ among_without (OfAct t) (OfBatch k) (map key_of (cell_at s a).entries) refl (subst (λ z. Has t (cell_at s z)) j q)) g
 has_stays w e s h t b x n f d tr be g = g
 
-sealed_doomed : (st : Status) → is_doomed (book.sealed_status st) ≡ is_doomed st
-sealed_doomed Live = refl
-sealed_doomed (Doomed v) = refl
-sealed_doomed (Decided c) = refl
-sealed_doomed (Sealed c) = refl
-
-decided_doomed : (c : ℕ) (b : Bool) (st : Status) → is_doomed (book.decided_status c b st) ≡ false → is_doomed st ≡ false
-decided_doomed c b Live e = refl
-decided_doomed c b (Doomed v) e = e
-decided_doomed c b (Decided d) e = refl
-decided_doomed c b (Sealed d) e = refl
-
 stand_holds : {C : Type 0} (s : Machine C) → HoldsOpen (Stand s)
 stand_holds s = record {
   numbered = λ t x n p. p;
@@ -402,9 +391,9 @@ stand_holds s = record {
 stand_around : {C : Type 0} (w : Fixed C) (e : Event) (s : Machine C) (h : History) → ((t b : ℕ) → NotLeaving e t b) → Tracked w s h → AllBehind s h → EachAct (Stand s) s.book.acts → EachAct (Stand (after w e s)) s.book.acts
 stand_around w e s h n tr be g = λ t x f d b o. has_stays w e s h t b x (n t b) f d tr be (g t x f d b o)
 
-asks_has : {C : Type 0} (w : Fixed C) (t a : ℕ) (s : Machine C) → a < length s.cells → book.in_the_way t (cell_at s a) ≡ None → Has t (cell_at (after w (Ask t a) s) a)
+asks_has : {C : Type 0} (w : Fixed C) (t a : ℕ) (s : Machine C) → a < length s.cells → book.in_the_way t (cell_at s a).entries ≡ None → Has t (cell_at (after w (Ask t a) s) a)
 unfolding after
-asks_has w t a s r n = rw (get_or-set_same s.cells a (cell.act_placed t (book.in_the_way t (cell_at s a)) (Rattle.protocol.specs.Words.control_of t s.post.controls) (cell_at s a)) no_cell r, n)
+asks_has w t a s r n = rw (get_or-set_same s.cells a (cell.act_placed t (book.in_the_way t (cell_at s a).entries) (Rattle.protocol.specs.Words.control_of t s.post.controls) (cell_at s a)) no_cell r, n)
     (ap (is_key_among (OfAct t)) (TrackLists.entries_join (cell_at s a).entries _) ∙ (TrackLists.among_join (OfAct t) (map key_of (cell_at s a).entries) _ ∙ or_right (is_key_among (OfAct t) (map key_of (cell_at s a).entries)) _ (or_left (t == t) _ (eq-eqb t t refl))))
 
 finish_standing : {C : Type 0} (w : Fixed C) (t a : ℕ) (s : Machine C) (h : History) → Tracked w s h → AllBehind s h → EachAct (Stand s) s.book.acts → EachAct (Stand (after w (Finish t a) s)) (after w (Finish t a) s).book.acts
@@ -422,6 +411,6 @@ standing_kept w (Admit t) s h ok tr be g = acts.acts_move w (Admit t) s (Stand (
 standing_kept w (Ask t a) s h ok tr be g = acts.acts_move w (Ask t a) s (Stand (after w (Ask t a) s)) (stand_holds (after w (Ask t a) s)) (λ n x e p d b o. elim (open_back b _ x.places o) [ inl q ↦ p d b q | inr q ↦ subst (λ z. Has t (cell_at (after w (Ask t a) s) z)) q (asks_has w t a s (in_range _ s.cells a ok.1.1.0) n) ])
     (stand_around w (Ask t a) s h (λ u b. tt) tr be g)
 standing_kept w (End t a) s h ok tr be g = acts.acts_move w (End t a) s (Stand (after w (End t a) s)) (stand_holds (after w (End t a) s)) (λ x r e p. p) (stand_around w (End t a) s h (λ u b. tt) tr be g)
-standing_kept w (Decide t) s h ok tr be g = acts.acts_move w (Decide t) s (Stand (after w (Decide t) s)) (stand_holds (after w (Decide t) s)) (λ x e p d. p (decided_doomed s.book.next_c (is_value x.result) x.status d)) (stand_around w (Decide t) s h (λ u b. tt) tr be g)
+standing_kept w (Decide t) s h ok tr be g = acts.acts_move w (Decide t) s (Stand (after w (Decide t) s)) (stand_holds (after w (Decide t) s)) (λ x e p d. p (not_doomed_decided s.book.next_c (is_value x.result) x.status d)) (stand_around w (Decide t) s h (λ u b. tt) tr be g)
 standing_kept w (Finish t a) s h ok tr be g = finish_standing w t a s h tr be g
 standing_kept w e s h ok tr be g = acts.acts_move w e s (Stand (after w e s)) (stand_holds (after w e s)) tt (stand_around w e s h (λ u b. tt) tr be g)

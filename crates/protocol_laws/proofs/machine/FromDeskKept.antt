@@ -19,10 +19,10 @@ use Rattle.protocol.specs.OnCell as cell
 use Rattle.protocol.specs.OnCell.{is_cut}
 use Rattle.protocol_laws.specs.Tracks.{key_of, is_key_among, Differ}
 use Rattle.protocol_laws.specs.FromDesk.{is_declared, is_pact_of, MessageOf, EntryOf, CompleteInOrder, FromDesk}
-use Rattle.protocol_laws.proofs.first.CellEpochs as cells
 use Rattle.protocol_laws.proofs.machine.TrackLists
 use Rattle.protocol_laws.proofs.machine.TracksKept.{held}
-use Rattle.protocol_laws.proofs.first.Lists.{all_filter, all_join, all_weaker}
+use Rattle.protocol_laws.proofs.first.Lists.{all_filter, all_found, all_join, all_map, weaker}
+use Rattle.protocol_laws.proofs.first.Statuses.{if_bid}
 
 -- ---- a fact of a batch that no event takes back
 
@@ -52,10 +52,6 @@ pub record Fixedly (q : Batch → Bool) : Type 0 where
 if_keeps : (q : Batch → Bool) (v : Bool) (f : Batch → Batch) (b : Batch) → (q b ≡ true → q (f b) ≡ true) → q b ≡ true → q (desk.change_if v f b) ≡ true
 if_keeps q true f b g h = g h
 if_keeps q false f b g h = h
-
-if_bid : (b : Bool) (f : Batch → Batch) (x : Batch) → (f x).bid ≡ x.bid → (desk.change_if b f x).bid ≡ x.bid
-if_bid true f x h = h
-if_bid false f x h = refl
 
 pub desk_stays : {C : Type 0} (w : Fixed C) (e : Event) (s : Machine C) (q : Batch → Bool) → Fixedly q → (k : ℕ) → holds q (batch_of k s.desk.batches) ≡ true → holds q (batch_of k (after w e s).desk.batches) ≡ true
 unfolding after
@@ -106,10 +102,6 @@ pact_fixed u = record { places = λ b a f i h. h; pacts = λ b t r h. by b.abort
 
 -- ---- lists
 
-all_map : {X : Type 0} (P : X → Type 0) (f : X → X) (xs : List X) → ((x : X) → P x → P (f x)) → AllByRecursion P xs → AllByRecursion P (map f xs)
-all_map P f [] k h = tt
-all_map P f (x ∷ xs) k h = (k x h.0, all_map P f xs k h.1)
-
 all_staying : (P : Entry → Type 0) (cs : List Cascade) (es : List Entry) → AllByRecursion P es → AllByRecursion P (cell.staying cs es)
 all_staying P cs [] h = tt
 all_staying P cs (e ∷ es) h = by (is_cut cs (who_of e)) (all_staying P cs es h.1)
@@ -121,7 +113,7 @@ all_staying P cs (e ∷ es) h = by (is_cut cs (who_of e)) (all_staying P cs es h
 -- ---- entries
 
 entry_done : (a t : ℕ) (bs : List Batch) (e : Entry) → EntryOf a bs e → EntryOf a bs (cell.done_in t e)
-entry_done a t bs (BatchEntry b) h = (h.0, all_map _ (cell.done_if t) b.slots (λ s g. g) h.1)
+entry_done a t bs (BatchEntry b) h = (h.0, all_map _ _ (cell.done_if t) b.slots (λ s g. g) h.1)
 entry_done a t bs (ActEntry x) h = h
 
 entry_complete : (a k : ℕ) (bs : List Batch) (e : Entry) → EntryOf a bs e → EntryOf a bs (cell.complete_in k e)
@@ -129,11 +121,11 @@ entry_complete a k bs (BatchEntry b) h = h
 entry_complete a k bs (ActEntry x) h = h
 
 entry_stays : {C : Type 0} (w : Fixed C) (ev : Event) (s : Machine C) (a : ℕ) (e : Entry) → EntryOf a s.desk.batches e → EntryOf a (after w ev s).desk.batches e
-entry_stays w ev s a (BatchEntry b) h = (desk_stays w ev s _ (declared_fixed a) b.bid h.0, all_weaker _ _ b.slots (λ x g. desk_stays w ev s _ (pact_fixed x.tid) b.bid g) h.1)
+entry_stays w ev s a (BatchEntry b) h = (desk_stays w ev s _ (declared_fixed a) b.bid h.0, weaker _ _ b.slots (λ x g. desk_stays w ev s _ (pact_fixed x.tid) b.bid g) h.1)
 entry_stays w ev s a (ActEntry x) h = tt
 
 message_stays : {C : Type 0} (w : Fixed C) (ev : Event) (s : Machine C) (m : SubBatch) → MessageOf s.desk.batches m → MessageOf (after w ev s).desk.batches m
-message_stays w ev s m h = record { declared = desk_stays w ev s _ (declared_fixed m.actor) m.bid h.declared; pacts = all_weaker _ _ m.tids (λ t g. desk_stays w ev s _ (pact_fixed t) m.bid g) h.pacts }
+message_stays w ev s m h = record { declared = desk_stays w ev s _ (declared_fixed m.actor) m.bid h.declared; pacts = weaker _ _ m.tids (λ t g. desk_stays w ev s _ (pact_fixed t) m.bid g) h.pacts }
 
 -- at one cell
 pub one_cell : {C : Type 0} (P : ℕ → Cell C → Type 0) (xs : List (Cell C)) (a : ℕ) (c : Cell C) → (P a (slice_index_or xs a no_cell) → P a c) → ((b : ℕ) → P b (slice_index_or xs b no_cell)) → (b : ℕ) → P b (slice_index_or (slice_set xs a c) b no_cell)
@@ -272,7 +264,7 @@ new_messages w k r bs (a ∷ xs) f g =
     let own = g a (or_left (a == a) (is_among a xs) (eq-eqb a a refl)) in (
       record {
         declared = found_new (λ b. is_some (declared_of a b)) k _ bs f refl (declared_new a (ring.next_actors w.text r) own);
-        pacts = all_weaker _ _ (ring.next_tids_on w.text r a) (λ t q. found_new (names_pact t) k _ bs f refl q) (tids_new (ring.declares w.text a) (ring.next_pacts w.text r) (ring.next_pacts w.text r) (λ t q. q));
+        pacts = weaker _ _ (ring.next_tids_on w.text r a) (λ t q. found_new (names_pact t) k _ bs f refl q) (tids_new (ring.declares w.text a) (ring.next_pacts w.text r) (ring.next_pacts w.text r) (λ t q. q));
       },
       new_messages w k r bs xs f (λ c q. g c (or_right (a == c) (is_among c xs) q)),
     )
@@ -289,7 +281,7 @@ arrive {C} k a bs subs c m h = by (sub_of k a subs) refl
     by : (o : Option SubBatch) → sub_of k a subs ≡ o → AllByRecursion (EntryOf a bs) (c.entries ++ cell.batch_entries k o)
     by None e = rw (append-nil c.entries) h
     by (Some x) e =
-        let f = cells.all_found (MessageOf bs) (λ y. (y.bid == k) && (y.actor == a)) x subs e m in
+        let f = all_found (MessageOf bs) (λ y. (y.bid == k) && (y.actor == a)) subs x m e in
         let p = and_parts (x.bid == k) (x.actor == a) f.1 in
         let i : x.bid ≡ k = eqb-true x.bid k p.0 in
         let j : x.actor ≡ a = eqb-true x.actor a p.1 in
@@ -302,7 +294,7 @@ abbrev pub Ord : {C : Type 0} → ℕ → Cell C → Type 0
 Ord a c = CompleteInOrder c.entries
 
 run_of : (a t : ℕ) (bs : List Batch) (b : Bool) (es : List Entry) → AllByRecursion (EntryOf a bs) es → AllByRecursion (EntryOf a bs) (if b then map (cell.done_in t) es else es)
-run_of a t bs true es h = all_map (EntryOf a bs) (cell.done_in t) es (entry_done a t bs) h
+run_of a t bs true es h = all_map (EntryOf a bs) (EntryOf a bs) (cell.done_in t) es (entry_done a t bs) h
 run_of a t bs false es h = h
 
 run_order : (t : ℕ) (b : Bool) (es : List Entry) → CompleteInOrder es → CompleteInOrder (if b then map (cell.done_in t) es else es)
@@ -324,13 +316,13 @@ arrive_order k (Some m) es h = order_more _ es refl h
 entries_kept : {C : Type 0} (w : Fixed C) (e : Event) (s : Machine C) → FromDesk s → (a : ℕ) → AllByRecursion (EntryOf a s.desk.batches) (cell_at (after w e s) a).entries
 unfolding after
 entries_kept w (Arrive k a) s h = one_cell (Of s) s.cells a _ (arrive k a s.desk.batches s.post.subs (cell_at s a) h.subs) h.entries
-entries_kept w (Ask t a) s h = one_cell (Of s) s.cells a _ (ask_of a t s.desk.batches (book.in_the_way t (cell_at s a)) (cell_at s a).entries) h.entries
+entries_kept w (Ask t a) s h = one_cell (Of s) s.cells a _ (ask_of a t s.desk.batches (book.in_the_way t (cell_at s a).entries) (cell_at s a).entries) h.entries
 entries_kept w (Take t a) s h = one_cell (Of s) s.cells a _ (λ x. x) h.entries
 entries_kept w (Run t a) s h = one_cell (Of s) s.cells a _ (run_of a t s.desk.batches (cell.is_done_after w.code a (cell.slice_of w.code t (cell_at s a))) (cell_at s a).entries) h.entries
 entries_kept w (Send t a) s h = one_cell (Of s) s.cells a _ (λ x. x) h.entries
 entries_kept w (End t a) s h = one_cell (Of s) s.cells a _ (λ x. x) h.entries
-entries_kept w (Close t a) s h = one_cell (Of s) s.cells a _ (all_map (EntryOf a s.desk.batches) (cell.done_in t) (cell_at s a).entries (entry_done a t s.desk.batches)) h.entries
-entries_kept w (Complete k a) s h = one_cell (Of s) s.cells a _ (all_map (EntryOf a s.desk.batches) (cell.complete_in k) (cell_at s a).entries (entry_complete a k s.desk.batches)) h.entries
+entries_kept w (Close t a) s h = one_cell (Of s) s.cells a _ (all_map (EntryOf a s.desk.batches) (EntryOf a s.desk.batches) (cell.done_in t) (cell_at s a).entries (entry_done a t s.desk.batches)) h.entries
+entries_kept w (Complete k a) s h = one_cell (Of s) s.cells a _ (all_map (EntryOf a s.desk.batches) (EntryOf a s.desk.batches) (cell.complete_in k) (cell_at s a).entries (entry_complete a k s.desk.batches)) h.entries
 entries_kept w (Rollback a) s h = one_cell (Of s) s.cells a _ (all_staying (EntryOf a s.desk.batches) s.book.cascades (cell_at s a).entries) h.entries
 entries_kept w (Finish t a) s h = one_cell (Of s) s.cells a _ (all_filter (EntryOf a s.desk.batches) _ (cell_at s a).entries) h.entries
 entries_kept w (Trim k a) s h = one_cell (Of s) s.cells a _ (all_filter (EntryOf a s.desk.batches) _ (cell_at s a).entries) h.entries
@@ -339,7 +331,7 @@ entries_kept w e s h = h.entries
 order_kept : {C : Type 0} (w : Fixed C) (e : Event) (s : Machine C) → IsAllowed w e s → ((a : ℕ) → Differ (map key_of (cell_at s a).entries)) → FromDesk s → (a : ℕ) → CompleteInOrder (cell_at (after w e s) a).entries
 unfolding conditions after
 order_kept w (Arrive k a) s ok d h = one_cell Ord s.cells a _ (arrive_order k (sub_of k a s.post.subs) (cell_at s a).entries) h.in_order
-order_kept w (Ask t a) s ok d h = one_cell Ord s.cells a _ (ask_order t (book.in_the_way t (cell_at s a)) (cell_at s a).entries) h.in_order
+order_kept w (Ask t a) s ok d h = one_cell Ord s.cells a _ (ask_order t (book.in_the_way t (cell_at s a).entries) (cell_at s a).entries) h.in_order
 order_kept w (Take t a) s ok d h = one_cell Ord s.cells a _ (λ x. x) h.in_order
 order_kept w (Run t a) s ok d h = one_cell Ord s.cells a _ (run_order t (cell.is_done_after w.code a (cell.slice_of w.code t (cell_at s a))) (cell_at s a).entries) h.in_order
 order_kept w (Send t a) s ok d h = one_cell Ord s.cells a _ (λ x. x) h.in_order
@@ -355,15 +347,15 @@ subs_kept : {C : Type 0} (w : Fixed C) (e : Event) (s : Machine C) → AllByRecu
 unfolding conditions after
 subs_kept w (Form k) s f ok h =
     let i : k ≡ s.ring.next_bid = eqb-true k s.ring.next_bid ok.0 in
-    all_join _ s.post.subs _ (all_weaker _ _ s.post.subs (message_stays w (Form k) s) h.subs)
+    all_join _ s.post.subs _ (weaker _ _ s.post.subs (message_stays w (Form k) s) h.subs)
     (new_messages w k s.ring s.desk.batches (ring.next_actors w.text s.ring) (subst (λ z. AllByRecursion (λ b. b < z) (map (λ b. b.bid) s.desk.batches)) (sym i) f) (λ a q. q))
 subs_kept w (Arrive k a) s f ok h = all_filter _ _ s.post.subs h.subs
 subs_kept w (DropSub k a) s f ok h = all_filter _ _ s.post.subs h.subs
-subs_kept w e s f ok h = all_weaker _ _ s.post.subs (message_stays w e s) h.subs
+subs_kept w e s f ok h = weaker _ _ s.post.subs (message_stays w e s) h.subs
 
 pub kept : {C : Type 0} (w : Fixed C) (e : Event) (s : Machine C) → AllByRecursion (λ b. b < s.ring.next_bid) (map (λ b. b.bid) s.desk.batches) → ((a : ℕ) → Differ (map key_of (cell_at s a).entries)) → IsAllowed w e s → FromDesk s → FromDesk (after w e s)
 kept w e s f d ok h = record {
   subs = subs_kept w e s f ok h;
-  entries = λ a. all_weaker _ _ (cell_at (after w e s) a).entries (entry_stays w e s a) (entries_kept w e s h a);
+  entries = λ a. weaker _ _ (cell_at (after w e s) a).entries (entry_stays w e s a) (entries_kept w e s h a);
   in_order = order_kept w e s ok d h;
 }

@@ -2,19 +2,19 @@
 use Rattle.std.specs.Prelude.{◌≡◌, refl, ℕ, zero, suc, ◌<◌, ◌≤◌, ◌%◌, replicate, not, true, false, Option, Some, None, is_some, List, [], ◌∷◌, length, map, find, slice_index_or}
 use Rattle.std.proofs.Common.{sym, ap, subst, inl, inr, ◌∙◌}
 use Rattle.snap_base.specs.declared.transactions.State.{State}
-use Rattle.protocol.specs.Fixed.{Fixed, Next, IsText, no_state, base, tx_at, is_pact}
+use Rattle.protocol.specs.Fixed.{Fixed, IsText, no_state, base, tx_at, is_pact}
 use Rattle.protocol.specs.Parts.{Act, OfAct, Entry, Waiting, Machine}
 use Rattle.protocol.specs.Events.{Event, Arrive, Ask, Run, Commit, Decide, Rollback, Finish, Trim}
 use Rattle.protocol.specs.Words.{who_on, is_entry_of, act_of, waiting_of}
 use Rattle.protocol.specs.Conditions.{IsAllowed, conditions}
 use Rattle.protocol.specs.Effects.{after, cell_at, no_cell}
-use Rattle.protocol.specs.Runs.{opening, new_cell, state_after, EachAllowed, IsRun, reached}
+use Rattle.protocol.specs.Runs.{opening, new_cell}
 use Rattle.protocol.specs.OnCell as cell
-use Rattle.protocol.specs.History.{History, no_history, history, history_after, grown}
+use Rattle.protocol.specs.History.{History, no_history, grown}
 use Rattle.protocol_laws.specs.Tracks.{key_of, Differ}
 use Rattle.protocol_laws.specs.Turns.{NotDone}
 use Rattle.protocol_laws.specs.Places.{FirmUpTo}
-use Rattle.protocol_laws.specs.Commits.{is_kept, StatesLink}
+use Rattle.protocol_laws.specs.Commits.{is_kept}
 use Rattle.protocol_laws.specs.Marks.{Recorded, Marked, Known}
 use Rattle.protocol_laws.specs.FromDesk.{FromDesk}
 use Rattle.protocol_laws.proofs.first.EpochsKept as epochs
@@ -29,7 +29,7 @@ use Rattle.protocol_laws.proofs.machine.BatchesCommit as commits
 use Rattle.protocol_laws.proofs.machine.CommitsKept as chain
 use Rattle.protocol_laws.proofs.machine.BeforesKept as befores
 use Rattle.protocol_laws.proofs.first.Controls as controls
-use Rattle.protocol_laws.proofs.machine.ControlWalk.{AllControls}
+use Rattle.protocol_laws.proofs.machine.ControlWalk.{AllControls, nowhere}
 use Rattle.protocol_laws.proofs.machine.TrailsKept as trails
 use Rattle.protocol_laws.proofs.machine.Resting as resting
 use Rattle.protocol_laws.proofs.machine.RestsKept as rests
@@ -178,9 +178,9 @@ opened {C} w Of finish v = let text = v.text in record {
   queued = queued_opened w;
   held = controls.opened w;
   drawn = tt;
-  none = nowhere (resting.NoneNoted (opening w));
-  told = nowhere (trails.Told w Of finish no_history);
-  rests = nowhere (rests.Rests w (opening w) no_history);
+  none = nowhere w (resting.NoneNoted (opening w));
+  told = nowhere w (trails.Told w Of finish no_history);
+  rests = nowhere w (rests.Rests w (opening w) no_history);
   valued = λ k b e. absurd (cc e);
   agreeing = epochs.opened w text;
   settling = settling.opened w text;
@@ -197,22 +197,6 @@ opened {C} w Of finish v = let text = v.text in record {
   numbers = λ a. tt;
 }
   where
-    empty : {X : Type 0} (P : X → Type 0) (xs : List X) → xs ≡ [] → AllByRecursion P xs
-    empty P xs e = subst (AllByRecursion P) (sym e) tt
-
-    no_inbox : (states : List State) (a : ℕ) → (slice_index_or (map (new_cell {C = C} (base w.text)) states) a no_cell).inbox ≡ []
-    no_inbox [] a = refl
-    no_inbox (x ∷ xs) zero = refl
-    no_inbox (x ∷ xs) (suc a) = no_inbox xs a
-
-    no_outbox : (states : List State) (a : ℕ) → (slice_index_or (map (new_cell {C = C} (base w.text)) states) a no_cell).outbox ≡ []
-    no_outbox [] a = refl
-    no_outbox (x ∷ xs) zero = refl
-    no_outbox (x ∷ xs) (suc a) = no_outbox xs a
-
-    nowhere : (P : ℕ → Next C → Type 0) → AllControls P (opening w)
-    nowhere P = record { posted = tt; inboxes = λ a. empty _ (cell_at (opening w) a).inbox (no_inbox w.text.opening.states a); outboxes = λ a. empty _ (cell_at (opening w) a).outbox (no_outbox w.text.opening.states a) }
-
     epoch_least : (a : ℕ) (states : List State) → (slice_index_or (map (new_cell {C = C} (base w.text)) states) a no_cell).epoch ≤ 0
     epoch_least a [] = omega Rattle.std.proofs.Common.arith
     epoch_least zero (x ∷ xs) = omega Rattle.std.proofs.Common.arith
@@ -222,21 +206,3 @@ opened {C} w Of finish v = let text = v.text in record {
     no_record zero l k a q = Rattle.std.proofs.lemmas.Bool.true≢false (sym q)
     no_record (suc n) zero k a q = Rattle.std.proofs.lemmas.Bool.true≢false (sym q)
     no_record (suc n) (suc l) k a q = no_record n l k a q
-
--- What is owed holds at each step of some events.
-pub EachOwed : {C : Type 0} → Fixed C → List Event → Machine C → History → Type 0
-EachOwed w [] s h = Unit {0}
-EachOwed w (e ∷ es) s h = Owed w e s h × EachOwed w es (after w e s) (grown w e s h)
-
-good_along : {C : Type 0} (w : Fixed C) (Of : Tx → C → Type 0) (finish : C → List State → Alone) (es : List Event) (s : Machine C) (h : History) → Given w Of finish → EachAllowed w es s → EachOwed w es s h → Good w Of finish s h → Good w Of finish (state_after w es s) (history_after w es s h)
-unfolding EachOwed
-good_along w Of finish [] s h v run o g = g
-good_along w Of finish (e ∷ es) s h v run o g = good_along w Of finish es (after w e s) (grown w e s h) v run.1 o.1 (kept w Of finish e s h v run.0 o.0 g)
-
--- Where what is owed holds along a run, all of it holds after it: so the states of what committed link.
-pub good : {C : Type 0} (w : Fixed C) (Of : Tx → C → Type 0) (finish : C → List State → Alone) (es : List Event) → Given w Of finish → IsRun w es → EachOwed w es (opening w) no_history → Good w Of finish (reached w es) (history w es)
-good w Of finish es v run o = good_along w Of finish es (opening w) no_history v run o (opened w Of finish v)
-
-pub states_link : {C : Type 0} (w : Fixed C) (Of : Tx → C → Type 0) (finish : C → List State → Alone) (es : List Event) → Given w Of finish → IsRun w es → EachOwed w es (opening w) no_history → (a : ℕ) → StatesLink a (slice_index_or w.text.opening.states a no_state) (history w es).committed
-unfolding Committed
-states_link w Of finish es v run o a = ((good w Of finish es v run o).committed a).links

@@ -28,10 +28,10 @@ Groups s h = (a : ℕ) → Grouped a s.book.pairs s.book.acts (h.long a)
 -- ---- an Ask
 
 -- the ACTs of the tail group are paired with the one that is placed
-pub asked_pairs : {C : Type 0} (t a u : ℕ) (c : Cell C) (b : Book) (acts' : List Act) → Grows b.acts acts' → HighLists.is_lock_among u (tail_group c.entries) ≡ true → is_paired a (book.asked_pairs None (book.met t c) t a b) acts' u t ≡ true
+pub asked_pairs : {C : Type 0} (t a u : ℕ) (c : Cell C) (b : Book) (acts' : List Act) → Grows b.acts acts' → HighLists.is_lock_among u (tail_group c.entries) ≡ true → is_paired a (book.asked_pairs None (book.met t c.entries) t a b) acts' u t ≡ true
 asked_pairs t a u c b acts' g i = elim (cases_Bool (doomed_at b.acts u)) [
   | inl d ↦ or_left (doomed_at acts' u) _ (grown_holds (λ x. is_doomed x.status) b.acts acts' u (λ x y k q. k.doomed q) g d)
-  | inr d ↦ or_right (doomed_at acts' u) _ (or_right (doomed_at acts' t) _ (HighLists.pair_last a t u b.pairs (book.new_pairs t a (book.met t c) b.acts) (HighLists.new_pair t a u (book.met t c) b.acts (HighLists.all_rivals t u (tail_group c.entries) i) d)))
+  | inr d ↦ or_right (doomed_at acts' u) _ (or_right (doomed_at acts' t) _ (HighLists.pair_last a t u b.pairs (book.new_pairs t a (book.met t c.entries) b.acts) (HighLists.new_pair t a u (book.met t c.entries) b.acts (HighLists.all_rivals t u (tail_group c.entries) i) d)))
 ]
 
 more_pairs : (o : Option ℕ) (group : List Lock) (t a b u v : ℕ) (k : Book) → has_pair b v u k.pairs ≡ true → has_pair b v u (book.asked_pairs o group t a k) ≡ true
@@ -39,8 +39,8 @@ more_pairs None group t a b u v k h = HighLists.pair_more b v u k.pairs _ h
 more_pairs (Some x) group t a b u v k h = h
 
 ask : {C : Type 0} (t a : ℕ) (o : Option ℕ) (c : Cell C) (b : Book) (acts' : List Act) (long : List Ran) → Grows b.acts acts' → Turns long c.entries
-    → Grouped a (book.asked_pairs o (book.met t c) t a b) acts' long → Grouped a (book.asked_pairs o (book.met t c) t a b) acts' (long ++ map not_run (asks t o))
-ask t a None c b acts' long g r h = HighLists.grouped_act a (book.asked_pairs None (book.met t c) t a b) acts' t (tail_group c.entries) [] long c.entries r refl (λ u i. asked_pairs t a u c b acts' g i) h
+    → Grouped a (book.asked_pairs o (book.met t c.entries) t a b) acts' long → Grouped a (book.asked_pairs o (book.met t c.entries) t a b) acts' (long ++ map not_run (asks t o))
+ask t a None c b acts' long g r h = HighLists.grouped_act a (book.asked_pairs None (book.met t c.entries) t a b) acts' t (tail_group c.entries) [] long c.entries r refl (λ u i. asked_pairs t a u c b acts' g i) h
 ask t a (Some x) c b acts' long g r h = rw (append-nil long) h
 
 finish : (t a : ℕ) (q : Bool) (ps : List Pair) (acts : List Act) (long : List Ran) → Grouped a ps acts long → Grouped a (HighLists.pairs_left t a ps) acts (if q then without_standing (OfAct t) long else map (left_for_good (OfAct t)) long)
@@ -57,8 +57,8 @@ unfolding Groups Turned after grown
 kept w (Arrive k a) s h ok t g = beside_carried (λ b rs. Grouped b s.book.pairs (after w (Arrive k a) s).book.acts rs) a _ h.long (HighLists.grouped_batch a s.book.pairs (after w (Arrive k a) s).book.acts k (h.long a)) (booked w (Arrive k a) s h (λ b u v i. i) g)
 kept w (Ask t a) s h ok r g =
     beside_carried (λ b rs. Grouped b (after w (Ask t a) s).book.pairs (after w (Ask t a) s).book.acts rs) a _ h.long
-    (ask t a (book.in_the_way t (cell_at s a)) (cell_at s a) s.book (after w (Ask t a) s).book.acts (h.long a) (acts_grow w (Ask t a) s) (r a))
-    (booked w (Ask t a) s h (λ b u v i. more_pairs (book.in_the_way t (cell_at s a)) (book.met t (cell_at s a)) t a b u v s.book i) g)
+    (ask t a (book.in_the_way t (cell_at s a).entries) (cell_at s a) s.book (after w (Ask t a) s).book.acts (h.long a) (acts_grow w (Ask t a) s) (r a))
+    (booked w (Ask t a) s h (λ b u v i. more_pairs (book.in_the_way t (cell_at s a).entries) (book.met t (cell_at s a).entries) t a b u v s.book i) g)
 kept w (Run t a) s h ok r g = beside_carried (λ b rs. Grouped b s.book.pairs s.book.acts rs) a _ h.long (HighLists.grouped_ran a s.book.pairs s.book.acts _ _ (h.long a)) g
 kept w (Complete k a) s h ok r g = beside_carried (λ b rs. Grouped b s.book.pairs s.book.acts rs) a _ h.long (HighLists.grouped_completed a s.book.pairs s.book.acts k (h.long a)) g
 kept w (Rollback a) s h ok r g = beside_carried (λ b rs. Grouped b s.book.pairs s.book.acts rs) a _ h.long (HighLists.grouped_staying a s.book.pairs s.book.acts s.book.cascades (h.long a)) g

@@ -5,7 +5,7 @@ use Rattle.std.proofs.Common.{arith, sym, ap, subst, inl, inr, ◌∙◌}
 use Rattle.std.proofs.lemmas.Bool.{eqb-true, eqb-false, and_parts, or_cases, or_parts, or_left, or_right, true≢false, cases_Bool, false_from_ne_true}
 use Rattle.protocol.specs.Fixed.{Fixed, Next, Go, Ended}
 use Rattle.protocol.specs.Records.{LogRecord, is_complete}
-use Rattle.protocol.specs.Parts.{Act, Desk, Cascade, Who, OfBatch, OfAct, Batch, Declared, Committing, Settled, Stage, Entry, BatchEntry, ActEntry, Outcome, Log, Cell, Machine}
+use Rattle.protocol.specs.Parts.{Act, Desk, Cascade, Who, OfBatch, OfAct, Batch, Declared, Committing, Settled, Entry, BatchEntry, ActEntry, Outcome, Log, Cell, Machine}
 use Rattle.protocol.specs.Events.{Event, Form, Arrive, Ask, Run, Complete, End, Sync, Note, Commit, Settle, Abort, Rollback, Prepare, Decide, Finish, Trim}
 use Rattle.protocol.specs.Words.{holds, who_on, is_who, is_value, is_aborted, is_formed, is_committing, is_durable, batch_of, is_batch_entry, is_complete_batch, has_act, outcome_of, act_of}
 use Rattle.protocol.specs.Conditions.{IsAllowed, conditions}
@@ -25,7 +25,8 @@ use Rattle.protocol_laws.proofs.machine.TrackLists
 use Rattle.protocol_laws.proofs.machine.TracksKept.{held, Tracked}
 use Rattle.protocol_laws.proofs.machine.PlaceLists
 use Rattle.protocol_laws.proofs.machine.PlacesKept.{Placed}
-use Rattle.protocol_laws.proofs.first.Lists.{all_back, all_mapped, all_weaker, any_front, any_join, any_take, list_all_mapped}
+use Rattle.protocol_laws.proofs.first.Lists.{all_back, all_map, any_front, any_join, any_take, list_all_mapped, weaker}
+use Rattle.protocol_laws.proofs.first.Statuses.{committing_not_formed, if_bid}
 
 -- ---- lists
 
@@ -134,7 +135,7 @@ over_finish k cs t false rs h = over_map k cs (left_for_good (OfAct t)) rs (done
 pub over_stays : {C : Type 0} (w : Fixed C) (e : Event) (s : Machine C) (h : History) → Placed w s h → (k a : ℕ) → IsOver k s.book.cascades (h.long a) → IsOver k (after w e s).book.cascades ((grown w e s h).long a)
 unfolding Placed after grown
 over_stays w (Arrive j b) s h p k a o = at_one (λ c long. IsOver k s.book.cascades long) b a _ h.long (over_more k s.book.cascades (h.long b) (map not_run (OfBatch j ∷ []))) o
-over_stays w (Ask t b) s h p k a o = at_one (λ c long. IsOver k s.book.cascades long) b a _ h.long (over_more k s.book.cascades (h.long b) (map not_run (asks t (book.in_the_way t (cell_at s b))))) o
+over_stays w (Ask t b) s h p k a o = at_one (λ c long. IsOver k s.book.cascades long) b a _ h.long (over_more k s.book.cascades (h.long b) (map not_run (asks t (book.in_the_way t (cell_at s b).entries)))) o
 over_stays w (Run t b) s h p k a o = at_one (λ c long. IsOver k s.book.cascades long) b a _ h.long (over_run k s.book.cascades (who_on t (cell_at s b).entries) (record { tid = t; found = (cell_at s b).state; left = (cell.slice_run w.code t b (cell_at s b)).state }) (h.long b)) o
 over_stays w (Complete j b) s h p k a o = at_one (λ c long. IsOver k s.book.cascades long) b a _ h.long (over_map k s.book.cascades (completed j) (h.long b) (done_completed k j)) o
 over_stays w (Abort j) s h p k a (inl q) = inl (keys.aborted_more k s.book.cascades _ ∙ or_left (is_aborted k s.book.cascades) _ q)
@@ -259,15 +260,11 @@ some_more k n (x ∷ bs) h = by (x.bid == k) h (some_more k n bs)
     by true h r = refl
     by false h r = r h
 
-pub if_bid : (b : Bool) (f : Batch → Batch) (x : Batch) → (f x).bid ≡ x.bid → (desk.change_if b f x).bid ≡ x.bid
-if_bid true f x h = h
-if_bid false f x h = refl
-
 -- ---- marks
 
 -- another state of the long schedules and of who is kept
 pub carried : (cs ds : List Cascade) (long long' : ℕ → List Ran) (kept kept' : List Who) (k : ℕ) (b : Batch) → ((a : ℕ) → IsOver k cs (long a) → IsOver k ds (long' a)) → is_kept (OfBatch k) kept' ≡ is_kept (OfBatch k) kept → Marks cs long kept k b → Marks ds long' kept' k b
-carried cs ds long long' kept kept' k b f e h = record { noted = all_weaker _ _ b.places (λ p g n. f p.actor (g n)) h.noted; all_noted = h.all_noted; known = e ∙ h.known }
+carried cs ds long long' kept kept' k b f e h = record { noted = weaker _ _ b.places (λ p g n. f p.actor (g n)) h.noted; all_noted = h.all_noted; known = e ∙ h.known }
 
 -- a batch with the same places and stage
 same_batch : (cs : List Cascade) (long : ℕ → List Ran) (kept : List Who) (k : ℕ) (b c : Batch) → c.places ≡ b.places → c.stage ≡ b.stage → Marks cs long kept k b → Marks cs long kept k c
@@ -312,7 +309,7 @@ noted_more false p h = h
 
 noting : (cs : List Cascade) (long : ℕ → List Ran) (kept : List Who) (j k a : ℕ) (b : Batch) (q : Bool) → (k == j) ≡ q → (k ≡ j → IsOver j cs (long a)) → Marks cs long kept j b → Marks cs long kept j (desk.change_if q (desk.marked a desk.is_noted) b)
 noting cs long kept j k a b true e o h = record {
-  noted = all_mapped _ _ _ b.places (λ p g. note_one cs long j a (p.actor == a) p refl (o (eqb-true k j e)) g) h.noted;
+  noted = all_map _ _ _ b.places (λ p g. note_one cs long j a (p.actor == a) p refl (o (eqb-true k j e)) g) h.noted;
   all_noted = λ q. list_all_mapped (λ p. p.noted) _ b.places (λ p g. noted_more (p.actor == a) p g) (h.all_noted q);
   known = h.known;
 }
@@ -328,7 +325,7 @@ trim_noted false p h = h
 
 trimming : (cs : List Cascade) (long : ℕ → List Ran) (kept : List Who) (j a : ℕ) (b : Batch) (q : Bool) → Marks cs long kept j b → Marks cs long kept j (desk.change_if q (desk.marked a desk.is_trimmed) b)
 trimming cs long kept j a b true h = record {
-  noted = all_mapped _ _ _ b.places (λ p g. trim_one cs long j (p.actor == a) p g) h.noted;
+  noted = all_map _ _ _ b.places (λ p g. trim_one cs long j (p.actor == a) p g) h.noted;
   all_noted = λ q. list_all_mapped (λ p. p.noted) _ b.places (λ p g. trim_noted (p.actor == a) p g) (h.all_noted q);
   known = h.known;
 }
@@ -359,11 +356,6 @@ turn j k = TrackLists.is_who_sym (OfBatch k) (OfBatch j)
 -- what the conditions say of the batch that is found
 held_of : (p : Batch → Bool) (k j : ℕ) (b : Batch) (bs : List Batch) → batch_of j bs ≡ Some b → holds p (batch_of k bs) ≡ true → k ≡ j → p b ≡ true
 held_of p k j b bs e h q = subst (λ o. holds p o ≡ true) (ap (λ z. batch_of z bs) q ∙ e) h
-
-committing_only : (st : Stage) → is_committing st ≡ true → is_formed st ≡ false
-committing_only Committing e = refl
-committing_only Settled e = refl
-committing_only _ e = absurd (true≢false (sym e))
 
 durable : (p : LogRecord → Bool) (logs : List Log) (l : ℕ) → holds (is_durable p) (slice_get logs l) ≡ true → list_any p (slice_index_or logs l no_log).records ≡ true
 durable p logs l h = let g = held (is_durable p) logs l no_log h in any_take p (slice_index_or logs l no_log).synced (slice_index_or logs l no_log).records g
@@ -401,7 +393,7 @@ marked_kept w (Settle k) s h ok p r n m j b e =
     let g = found_mapped (λ b. desk.change_if (b.bid == k) (desk.with_stage Settled) b) (λ b. if_bid (b.bid == k) (desk.with_stage Settled) b refl) j b s.desk.batches e in
     let i : g.0.bid ≡ j = eqb-true g.0.bid j (found_bid j g.0 s.desk.batches g.1) in
     subst (λ z. Marks s.book.cascades h.long h.kept j z) (ap (λ z. desk.change_if (z == k) (desk.with_stage Settled) g.0) (sym i) ∙ g.2)
-    (settling s.book.cascades h.long h.kept j k g.0 (j == k) (turn j k) (λ q. committing_only g.0.stage (and_parts (is_committing g.0.stage) (not g.0.aborted) (held_of (λ b. is_committing b.stage && not b.aborted) k j g.0 s.desk.batches g.1 ok.0 q)).0) (m j g.0 g.1))
+    (settling s.book.cascades h.long h.kept j k g.0 (j == k) (turn j k) (λ q. committing_not_formed g.0.stage (and_parts (is_committing g.0.stage) (not g.0.aborted) (held_of (λ b. is_committing b.stage && not b.aborted) k j g.0 s.desk.batches g.1 ok.0 q)).0) (m j g.0 g.1))
 marked_kept w (Abort k) s h ok p r n m j b e =
     let g = found_mapped (desk.taken k) (λ b. refl) j b s.desk.batches e in
     carried s.book.cascades _ h.long h.long h.kept h.kept j b (λ a o. over_stays w (Abort k) s h p j a o) refl (same_batch s.book.cascades h.long h.kept j g.0 b (ap (λ z. z.places) (sym g.2)) (ap (λ z. z.stage) (sym g.2)) (m j g.0 g.1))

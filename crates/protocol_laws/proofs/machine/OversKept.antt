@@ -22,7 +22,6 @@ use Rattle.protocol_laws.specs.Commits.{is_kept, KeptAhead}
 use Rattle.protocol_laws.specs.Befores.{Befores}
 use Rattle.protocol_laws.specs.Rising.{visits, visitors, number_of, highest, OpenAbove}
 use Rattle.protocol_laws.specs.Highs.{is_over, AllOver, doomed_at, has_pair, is_paired, is_above_or_aborted, StandsBelow, Shows}
-use Rattle.protocol_laws.proofs.first.Pairs.{live_unordered}
 use Rattle.protocol_laws.proofs.machine.ActsGrow.{Later, Grows, acts_grow, grown_holds}
 use Rattle.protocol_laws.proofs.machine.DecidedStays.{is_fixed}
 use Rattle.protocol_laws.proofs.first.CellEpochs as cells
@@ -37,6 +36,7 @@ use Rattle.protocol_laws.proofs.machine.GroupsKept.{Groups}
 use Rattle.protocol_laws.proofs.machine.ShowsKept as shows
 use Rattle.protocol_laws.proofs.machine.ShowsKept.{Showing, Beside}
 use Rattle.protocol_laws.proofs.first.Lists.{all_filter, both_all, weaker, filter_join}
+use Rattle.protocol_laws.proofs.first.Statuses.{live_unordered}
 
 -- ---- the greatest
 
@@ -183,9 +183,9 @@ below_or_tail cs n u last seen (Stands (OfAct v) c ss ∷ rs) (ActEntry x ∷ es
     by (k ∷ ks) e q p f l = elim (or_cases (is_aborted k cs) (nat_le n k) p.0) [ inl a ↦ absurd (true≢false (sym a ∙ f.0)) | inr a ↦ inl (omega (arith, leb-true n k a, l.0)) ]
 
 -- who is placed has a number at least the last batch and the floor
-asked_high : {C : Type 0} (t a : ℕ) (c : Cell C) (b : Book) → holds (λ x. true) (act_of t b.acts) ≡ true → holds (λ x. nat_le (max c.last c.floor) x.m) (act_of t (book.asked_acts None (book.met t c) t a (max c.last c.floor) b)) ≡ true
+asked_high : {C : Type 0} (t a : ℕ) (c : Cell C) (b : Book) → holds (λ x. true) (act_of t b.acts) ≡ true → holds (λ x. nat_le (max c.last c.floor) x.m) (act_of t (book.asked_acts None (book.met t c.entries) t a (max c.last c.floor) b)) ≡ true
 asked_high t a c b h =
-    grown_holds (λ x. nat_le (max c.last c.floor) x.m) joined _ t (λ x y k q. le-leb (max c.last c.floor) y.m (omega (arith, leb-true (max c.last c.floor) x.m q, k.rises))) (Rattle.protocol_laws.proofs.machine.ActsGrow.spread_grows a (b.pairs ++ book.new_pairs t a (book.met t c) b.acts) joined) (own t b.acts h)
+    grown_holds (λ x. nat_le (max c.last c.floor) x.m) joined _ t (λ x y k q. le-leb (max c.last c.floor) y.m (omega (arith, leb-true (max c.last c.floor) x.m q, k.rises))) (Rattle.protocol_laws.proofs.machine.ActsGrow.spread_grows a (b.pairs ++ book.new_pairs t a (book.met t c.entries) b.acts) joined) (own t b.acts h)
   where
     joined : List Act
     joined = book.changed_act t (book.joins a (max c.last c.floor)) b.acts
@@ -286,22 +286,22 @@ pub record With {C : Type 0} (w : Fixed C) (s : Machine C) (h : History) : Type 
   pub none_live : NoneLive s h
 
 ask : {C : Type 0} (w : Fixed C) (t a : ℕ) (s : Machine C) (h : History) → IsAllowed w (Ask t a) s → shows.Owed (Ask t a) s h → With w s h → AllByRecursion (CarriesNumber (after w (Ask t a) s).book) (after w (Ask t a) s).book.pairs
-    → AllOver (after w (Ask t a) s).book.acts (highest a h.committed) (h.long a) → AllOver (after w (Ask t a) s).book.acts (highest a h.committed) (h.long a ++ map not_run (asks t (book.in_the_way t (cell_at s a))))
+    → AllOver (after w (Ask t a) s).book.acts (highest a h.committed) (h.long a) → AllOver (after w (Ask t a) s).book.acts (highest a h.committed) (h.long a ++ map not_run (asks t (book.in_the_way t (cell_at s a).entries)))
 unfolding conditions after Lasts Placed Turned Showing shows.AllTold
-ask {C} w t a s h ok o g k v = by (book.in_the_way t (cell_at s a)) refl
+ask {C} w t a s h ok o g k v = by (book.in_the_way t (cell_at s a).entries) refl
   where
     c : Cell C
     c = cell_at s a
 
-    asked : book.in_the_way t c ≡ None → Asked s.book.acts (after w (Ask t a) s).book t a c.last c.floor (tail_group c.entries)
+    asked : book.in_the_way t c.entries ≡ None → Asked s.book.acts (after w (Ask t a) s).book t a c.last c.floor (tail_group c.entries)
     asked e = record {
-      high = subst (λ o. holds (λ x. nat_le (max c.last c.floor) x.m) (act_of t (book.asked_acts o (book.met t c) t a (max c.last c.floor) s.book)) ≡ true) (sym e) (asked_high t a c s.book (some_act _ (act_of t s.book.acts) ok.1.0));
-      pairs = λ u i. subst (λ o. is_paired a (book.asked_pairs o (book.met t c) t a s.book) (after w (Ask t a) s).book.acts u t ≡ true) (sym e) (groups.asked_pairs t a u c s.book (after w (Ask t a) s).book.acts (acts_grow w (Ask t a) s) i);
+      high = subst (λ o. holds (λ x. nat_le (max c.last c.floor) x.m) (act_of t (book.asked_acts o (book.met t c.entries) t a (max c.last c.floor) s.book)) ≡ true) (sym e) (asked_high t a c s.book (some_act _ (act_of t s.book.acts) ok.1.0));
+      pairs = λ u i. subst (λ o. is_paired a (book.asked_pairs o (book.met t c.entries) t a s.book) (after w (Ask t a) s).book.acts u t ≡ true) (sym e) (groups.asked_pairs t a u c s.book (after w (Ask t a) s).book.acts (acts_grow w (Ask t a) s) i);
       carried = k;
       fixed = λ u n f. shows.fixed_stays w (Ask t a) s h n u o f;
     }
 
-    by : (q : Option ℕ) → book.in_the_way t c ≡ q → AllOver (after w (Ask t a) s).book.acts (highest a h.committed) (h.long a ++ map not_run (asks t q))
+    by : (q : Option ℕ) → book.in_the_way t c.entries ≡ q → AllOver (after w (Ask t a) s).book.acts (highest a h.committed) (h.long a ++ map not_run (asks t q))
     by (Some x) e = rw (append-nil (h.long a)) v
     by None e = HighLists.over_act (after w (Ask t a) s).book.acts (highest a h.committed) t (h.long a)
         (asked_all h.kept s.book.acts (after w (Ask t a) s).book s.book.cascades t a c (h.long a) h.committed (asked e) (g.beside.turned a)

@@ -1,20 +1,18 @@
 -- The PACTs of a batch that committed are among those that committed, with the batch's places and their results; so a verdict
 -- that names a place is of one that has it, with that result.
-use Rattle.std.specs.Prelude.{◌≡◌, refl, ℕ, ◌==◌, not, Bool, true, false, ◌&&◌, if◌then◌else◌, Option, Some, None, is_some, List, [], ◌∷◌, ◌++◌, map, find, max}
+use Rattle.std.specs.Prelude.{◌≡◌, refl, ℕ, ◌==◌, not, Bool, true, false, ◌&&◌, if◌then◌else◌, Option, Some, None, is_some, List, [], ◌∷◌, ◌++◌, map, max}
 use Rattle.std.specs.List.{AllByRecursion, list_all}
 use Rattle.std.proofs.Common.{sym, ap, subst, inl, inr, ◌∙◌}
 use Rattle.std.proofs.lemmas.Bool.{true≢false, eqb-true, eq-eqb, and_parts}
 use Rattle.snap_base.specs.declared.transactions.TxResult.{TxResult}
-use Rattle.snap_base.specs.declared.transactions.TxResult.TheVariants.{Value, Fail}
 use Rattle.snap_base.specs.declared.verdicts.Place.{Place}
 use Rattle.snap_base.specs.declared.verdicts.Verdict.{Verdict}
-use Rattle.snap_base.specs.declared.verdicts.Verdict.TheVariants as verdicts
 use Rattle.protocol.specs.Fixed.{Fixed, Next, Go, Ended}
 use Rattle.protocol.specs.Rivals.{Lock}
-use Rattle.protocol.specs.Parts.{Act, Batch, Book, Cascade, Pact, Stage, Formed, Committing, Settled, Status, Live, Doomed, Decided, Sealed, Who, OfBatch, OfAct, Outcome, Pair, Cell, Machine}
+use Rattle.protocol.specs.Parts.{Act, Batch, Book, Pact, Committing, Settled, Status, Live, Doomed, Decided, Sealed, Who, OfBatch, OfAct, Outcome, Pair, Cell, Machine}
 use Rattle.protocol.specs.Events.{Event, Form, Admit, Arrive, Ask, End, Note, Commit, Settle, Abort, Prepare, Vouch, Decide, Seal, Finish, Trim}
-use Rattle.protocol.specs.Words.{is_value, is_live_status, is_formed, is_committing, batch_of, has_act, outcome_of, covers}
-use Rattle.protocol.specs.Verdicts.{verdict, verdict_of_pact, verdict_of_act, verdict_in_batch, pact_verdict, settled_verdict, act_verdict, ended_at, aborted_by, or_else, pact_place, act_place, died}
+use Rattle.protocol.specs.Words.{is_value, is_live_status, is_formed, is_committing, batch_of, has_act, outcome_of}
+use Rattle.protocol.specs.Verdicts.{verdict, pact_place, act_place, died}
 use Rattle.protocol.specs.Conditions.{IsAllowed, conditions}
 use Rattle.protocol.specs.Effects.{after, cell_at}
 use Rattle.protocol.specs.OnDesk as desk
@@ -24,10 +22,14 @@ use Rattle.protocol.specs.History.{History, Done, grown, done_pact, done_batch}
 use Rattle.protocol_laws.proofs.first.SettlingKept as settling
 use Rattle.protocol_laws.proofs.machine.MarksKept as marks
 use Rattle.protocol_laws.proofs.first.PairsFound.{TidsAscend, each_act}
-use Rattle.protocol_laws.proofs.machine.ControlWalk.{AllControls, all_found}
+use Rattle.protocol_laws.proofs.machine.ControlWalk.{AllControls}
 use Rattle.protocol_laws.proofs.machine.Resting.{NoResult, NoneNoted}
 use Rattle.protocol_laws.proofs.machine.ActsTold.{AmongDone, among_more, among_behind, ActTold, ActsTold, is_at}
-use Rattle.protocol_laws.proofs.first.Lists.{all_weaker, some_of}
+use Rattle.protocol_laws.proofs.first.Lists.{all_found, some_of, weaker}
+use Rattle.protocol_laws.proofs.machine.VerdictsSay as verdicts
+use Rattle.protocol_laws.proofs.machine.VerdictsSay.{Says, IsNoPlace, DoomedWell}
+use Rattle.protocol_laws.specs.Order.{IsAmongDone}
+use Rattle.protocol_laws.proofs.first.Statuses.{committing_not_formed, if_bid}
 
 -- ---- PACTs
 
@@ -44,14 +46,10 @@ unfoldable pub PactsTold : {C : Type 0} → Machine C → History → Type 0
 PactsTold s h = EachBatch (BatchTold h.committed) s.desk.batches
 
 more_told : (ds new : List Done) (k : ℕ) (b : Batch) → BatchTold ds k b → BatchTold (ds ++ new) k b
-more_told ds new k b h = λ e. all_weaker _ _ b.pacts (λ p i. (among_more (OfBatch k) p.tid p.tx (pact_place k p.tid) p.result ds new i.0, i.1)) (h e)
+more_told ds new k b h = λ e. weaker _ _ b.pacts (λ p i. (among_more (OfBatch k) p.tid p.tx (pact_place k p.tid) p.result ds new i.0, i.1)) (h e)
 
 each_map : (P Q : ℕ → Batch → Type 0) (f : Batch → Batch) (bs : List Batch) → ((b : Batch) → (f b).bid ≡ b.bid) → ((k : ℕ) (b : Batch) → batch_of k bs ≡ Some b → P k b → Q k (f b)) → EachBatch P bs → EachBatch Q (map f bs)
 each_map P Q f bs i k h = λ j c e. let g = marks.found_mapped f i j c bs e in subst (Q j) g.2 (k j g.0 g.1 (h j g.0 g.1))
-
-if_bid : (v : Bool) (f : Batch → Batch) (b : Batch) → (f b).bid ≡ b.bid → (desk.change_if v f b).bid ≡ b.bid
-if_bid true f b h = h
-if_bid false f b h = refl
 
 each_changed : (P Q : ℕ → Batch → Type 0) (j : ℕ) (f : Batch → Batch) (bs : List Batch) → ((b : Batch) → (f b).bid ≡ b.bid) → ((k : ℕ) (b : Batch) → P k b → Q k b) → ((b : Batch) → batch_of j bs ≡ Some b → P j b → Q j (f b)) → EachBatch P bs → EachBatch Q (desk.changed_batch j f bs)
 each_changed P Q j f bs i other own h = each_map P Q (λ b. desk.change_if (b.bid == j) f b) bs (λ b. if_bid (b.bid == j) f b (i b)) (λ k b e p. by k b e p (b.bid == j) refl) h
@@ -66,7 +64,7 @@ new_pacts k h [] v = tt
 new_pacts k h (p ∷ ps) v =
     let q = and_parts (is_value p.result) (list_all (λ p. is_value p.result) ps) v in (
       (record { done = done_pact k h p; front = []; rest = map (done_pact k h) ps; splits = refl; who = refl; tid = refl; tx = refl; place = refl; result = refl }, value_some p.result q.0),
-      all_weaker _ _ ps (λ x i. (among_behind (OfBatch k) x.tid x.tx (pact_place k x.tid) x.result (done_pact k h p ∷ []) (map (done_pact k h) ps) i.0, i.1)) (new_pacts k h ps q.1),
+      weaker _ _ ps (λ x i. (among_behind (OfBatch k) x.tid x.tx (pact_place k x.tid) x.result (done_pact k h p ∷ []) (map (done_pact k h) ps) i.0, i.1)) (new_pacts k h ps q.1),
     )
   where
     value_some : (r : Option TxResult) → is_value r ≡ true → is_some r ≡ true
@@ -82,13 +80,8 @@ noted_told t k r ds (p ∷ ps) n h = (by (p.tid == t) refl, noted_told t k r ds 
     by true e = absurd (true≢false (sym h.0.1 ∙ ap is_some (n.0 (eqb-true p.tid t e))))
     by false e = h.0
 
-committing_not_formed : (st : Stage) → is_committing st ≡ true → is_formed st ≡ false
-committing_not_formed Formed e = absurd (true≢false (sym e))
-committing_not_formed Committing e = refl
-committing_not_formed Settled e = refl
-
 found_all : (P : Batch → Type 0) (k : ℕ) (b : Batch) (bs : List Batch) → batch_of k bs ≡ Some b → AllByRecursion P bs → P b
-found_all P k b bs e h = (all_found P (λ b. b.bid == k) b bs e h).0
+found_all P k b bs e h = (all_found P (λ b. b.bid == k) bs b h e).0
 
 pub pacts_kept : {C : Type 0} (w : Fixed C) (e : Event) (s : Machine C) (h : History) → IsAllowed w e s → AllControls (NoneNoted s) s → PactsTold s h → PactsTold (after w e s) (grown w e s h)
 unfolding PactsTold conditions after grown
@@ -96,7 +89,7 @@ pacts_kept w (Form k) s h ok n g = λ j b e. elim (marks.found_more j b _ s.desk
 pacts_kept {C} w (End t a) s h ok n g = by (has_act t (cell_at s a).entries) (outcome_of t (cell_at s a).outbox) refl
   where
     none : (x : Outcome C) → outcome_of t (cell_at s a).outbox ≡ Some x → NoResult t s.desk.batches
-    none x e = let f = all_found (λ x. NoneNoted s x.tid x.next) (λ x. x.tid == t) x (cell_at s a).outbox e (n.outboxes a) in subst (λ z. NoResult z s.desk.batches) (eqb-true x.tid t f.1) f.0
+    none x e = let f = all_found (λ x. NoneNoted s x.tid x.next) (λ x. x.tid == t) (cell_at s a).outbox x (n.outboxes a) e in subst (λ z. NoResult z s.desk.batches) (eqb-true x.tid t f.1) f.0
 
     result : (r : TxResult) (k : ℕ) (b : Batch) → AllByRecursion (λ p. p.tid ≡ t → p.result ≡ None) b.pacts → BatchTold h.committed k b → (v : Bool) → is_formed b.stage ≡ false → AllByRecursion (PactTold h.committed k) (if v then b.pacts else map (desk.with_result t r) b.pacts)
     result r k b q i true f = i f
@@ -113,7 +106,7 @@ pacts_kept {C} w (End t a) s h ok n g = by (has_act t (cell_at s a).entries) (ou
 pacts_kept w (Note k a) s h ok n g = each_changed (BatchTold h.committed) (BatchTold h.committed) k (desk.marked a desk.is_noted) s.desk.batches (λ b. refl) (λ j b i. i) (λ b e i. i) g
 pacts_kept w (Commit k) s h ok n g = each_changed (BatchTold h.committed) (BatchTold (h.committed ++ done_batch k h (batch_of k s.desk.batches))) k (desk.with_stage Committing) s.desk.batches (λ b. refl)
     (λ j b i. more_told h.committed _ j b i)
-    (λ b e i f. all_weaker _ _ b.pacts (λ p j. (among_behind (OfBatch k) p.tid p.tx (pact_place k p.tid) p.result h.committed _ (subst (λ z. AmongDone (OfBatch k) p.tid p.tx (pact_place k p.tid) p.result (done_batch k h z)) (sym e) j.0), j.1)) (new_pacts k h b.pacts (some_of (λ b. list_all (λ p. is_value p.result) b.pacts) (batch_of k s.desk.batches) b e ok.1.0))) g
+    (λ b e i f. weaker _ _ b.pacts (λ p j. (among_behind (OfBatch k) p.tid p.tx (pact_place k p.tid) p.result h.committed _ (subst (λ z. AmongDone (OfBatch k) p.tid p.tx (pact_place k p.tid) p.result (done_batch k h z)) (sym e) j.0), j.1)) (new_pacts k h b.pacts (some_of (λ b. list_all (λ p. is_value p.result) b.pacts) (batch_of k s.desk.batches) b e ok.1.0))) g
 pacts_kept w (Settle k) s h ok n g = each_changed (BatchTold h.committed) (BatchTold h.committed) k (desk.with_stage Settled) s.desk.batches (λ b. refl) (λ j b i. i)
     (λ b e i f. i (committing_not_formed b.stage (and_parts (is_committing b.stage) (not b.aborted) (some_of (λ b. is_committing b.stage && not b.aborted) (batch_of k s.desk.batches) b e ok.0)).0)) g
 pacts_kept w (Abort k) s h ok n g = each_map (BatchTold h.committed) (BatchTold h.committed) (desk.taken k) s.desk.batches (λ b. refl) (λ j b e i. i) g
@@ -121,71 +114,7 @@ pacts_kept w (Decide t) s h ok n g = λ j b e. more_told h.committed _ j b (g j 
 pacts_kept w (Trim k a) s h ok n g = each_changed (BatchTold h.committed) (BatchTold h.committed) k (desk.marked a desk.is_trimmed) s.desk.batches (λ b. refl) (λ j b i. i) (λ b e i. i) g
 pacts_kept w e s h ok n g = g
 
--- ---- what a verdict says
-
--- among these is transaction n, at this place, with this result
-pub record IsAmongDone (n : ℕ) (p : Place) (r : TxResult) (ds : List Done) : Type 0 where
-  pub done : Done
-  pub front : List Done
-  pub rest : List Done
-  pub splits : ds ≡ front ++ done ∷ rest
-  pub tx : done.tx ≡ n
-  pub place : done.place ≡ p
-  pub result : done.result ≡ Some r
-
-abbrev pub Says : ℕ → Verdict → List Done → Type 0
-Says n (verdicts.Committed p v) ds = IsAmongDone n p (Value v) ds
-Says n (verdicts.Code p c) ds = IsAmongDone n p (Fail c) ds
-Says n (verdicts.BatchCode b a c) ds = Unit {0}
-Says n (verdicts.Cascade b x) ds = Unit {0}
-Says n (verdicts.Died a x y) ds = Unit {0}
-Says n (verdicts.Order x y a) ds = Unit {0}
-Says n (verdicts.Unsure l) ds = Unit {0}
-
-ended_says : (y : Who) (t m n : ℕ) (p : Place) (r : Option TxResult) (ds : List Done) (v : Verdict) → m ≡ n → AmongDone y t m p r ds → ended_at p r ≡ Some v → Says n v ds
-ended_says y t m n p None ds v i h e = absurd (cc e)
-ended_says y t m n p (Some (Value x)) ds v i h e = let j : verdicts.Committed p x ≡ v = cc e in subst (λ z. Says n z ds) j (record { done = h.done; front = h.front; rest = h.rest; splits = h.splits; tx = h.tx ∙ i; place = h.place; result = h.result })
-ended_says y t m n p (Some (Fail c)) ds v i h e = let j : verdicts.Code p c ≡ v = cc e in subst (λ z. Says n z ds) j (record { done = h.done; front = h.front; rest = h.rest; splits = h.splits; tx = h.tx ∙ i; place = h.place; result = h.result })
-
-aborted_says : (n m : ℕ) (c : Cascade) (ds : List Done) → Says n (aborted_by c m) ds
-aborted_says n m c ds = by (c.by == m)
-  where
-    by : (b : Bool) → Says n (if b then verdicts.BatchCode (record { 0 = c.first }) c.at c.code else verdicts.Cascade (record { 0 = c.first }) (record { 0 = c.by })) ds
-    by true = tt
-    by false = tt
-
-pact_says : (n : ℕ) (ds : List Done) (b : Batch) (p : Pact) (v : Verdict) → p.tx ≡ n → (is_formed b.stage ≡ false → PactTold ds b.bid p) → (o : Option Cascade) → pact_verdict o b p ≡ Some v → Says n v ds
-pact_says n ds b p v t h (Some c) e = let i : aborted_by c p.tx ≡ v = cc e in subst (λ z. Says n z ds) i (aborted_says n p.tx c ds)
-pact_says n ds b p v t h None e = by b.stage refl e
-  where
-    by : (st : Stage) → b.stage ≡ st → settled_verdict st (pact_place b.bid p.tid) p.result ≡ Some v → Says n v ds
-    by Formed s e = absurd (cc e)
-    by Committing s e = absurd (cc e)
-    by Settled s e = ended_says (OfBatch b.bid) p.tid p.tx n (pact_place b.bid p.tid) p.result ds v t (h (ap is_formed s)).0 e
-
-batch_says : (cascades : List Cascade) (n : ℕ) (ds : List Done) (b : Batch) (v : Verdict) (ps : List Pact) → (is_formed b.stage ≡ false → AllByRecursion (PactTold ds b.bid) ps) → verdict_in_batch cascades n b ps ≡ Some v → Says n v ds
-batch_says cascades n ds b v [] h e = absurd (cc e)
-batch_says cascades n ds b v (p ∷ ps) h e = by (p.tx == n) refl e (λ f. batch_says cascades n ds b v ps (λ i. (h i).1) f)
-  where
-    by : (q : Bool) → (p.tx == n) ≡ q → (if q then pact_verdict (find (covers b.bid) cascades) b p else verdict_in_batch cascades n b ps) ≡ Some v → (verdict_in_batch cascades n b ps ≡ Some v → Says n v ds) → Says n v ds
-    by true f e k = pact_says n ds b p v (eqb-true p.tx n f) (λ i. (h i).0) (find (covers b.bid) cascades) e
-    by false f e k = k e
-
-either_says : (n : ℕ) (ds : List Done) (v : Verdict) (x y : Option Verdict) → (x ≡ Some v → Says n v ds) → (y ≡ Some v → Says n v ds) → or_else x y ≡ Some v → Says n v ds
-either_says n ds v None y h k e = k e
-either_says n ds v (Some u) y h k e = h e
-
-batches_say : (cascades : List Cascade) (n : ℕ) (ds : List Done) (v : Verdict) (bs : List Batch) → AllByRecursion (λ b. BatchTold ds b.bid b) bs → verdict_of_pact cascades n bs ≡ Some v → Says n v ds
-batches_say cascades n ds v [] h e = absurd (cc e)
-batches_say cascades n ds v (b ∷ bs) h e = either_says n ds v (verdict_in_batch cascades n b b.pacts) (verdict_of_pact cascades n bs) (batch_says cascades n ds b v b.pacts h.0) (batches_say cascades n ds v bs h.1) e
-
 -- ---- an ACT that is given up was told no place
-
-pub IsNoPlace : Verdict → Type 0
-IsNoPlace v = (n : ℕ) (ds : List Done) → Says n v ds
-
-abbrev pub DoomedWell : Act → Type 0
-DoomedWell x = (u : Verdict) → x.status ≡ Doomed u → IsNoPlace u
 
 unfoldable pub NoPlaces : {C : Type 0} → Machine C → Type 0
 NoPlaces s = AllByRecursion DoomedWell s.book.acts
@@ -203,16 +132,13 @@ doom_well true v st n h u e = let i : v ≡ u = cc e in subst IsNoPlace i n
 doom_well false v st n h u e = h u e
 
 crossed_well : (a : ℕ) (x : Act) → DoomedWell x → DoomedWell (crossed_out a x)
-unfolding IsNoPlace
-crossed_well a x h = doom_well (is_crossed x) _ x.status (λ n ds. tt) h
+crossed_well a x h = doom_well (is_crossed x) _ x.status (tt) h
 
 died_well : (a older own : ℕ) (x : Act) → DoomedWell x → DoomedWell (book.doomed_by (died a older own) x)
-unfolding IsNoPlace
-died_well a older own x h = doom_well (is_live_status x.status) _ x.status (λ n ds. tt) h
+died_well a older own x h = doom_well (is_live_status x.status) _ x.status (tt) h
 
 cascaded_well : (k by : ℕ) (x : Act) → DoomedWell x → DoomedWell (book.cascaded k by x)
-unfolding IsNoPlace
-cascaded_well k n x h = doom_well _ _ x.status (λ n ds. tt) h
+cascaded_well k n x h = doom_well _ _ x.status (tt) h
 
 decided_well : (c : ℕ) (x : Act) → DoomedWell x → DoomedWell (book.decided_as c x)
 decided_well c x h = λ u e. by (is_value x.result) x.status h u e
@@ -258,7 +184,7 @@ pub no_places : {C : Type 0} (w : Fixed C) (e : Event) (s : Machine C) → NoPla
 unfolding NoPlaces after
 no_places w (Admit t) s i = new_well _ s.book.acts (λ u e. absurd (cc e)) i
 no_places w (Arrive k b) s i = all_well (crossed_out b) _ (crossed_well b) (all_well _ s.book.acts (λ x j. j) i)
-no_places w (Ask t b) s i = asked_well (book.in_the_way t (cell_at s b)) (book.met t (cell_at s b)) t b (cell_at s b) s.book i
+no_places w (Ask t b) s i = asked_well (book.in_the_way t (cell_at s b).entries) (book.met t (cell_at s b).entries) t b (cell_at s b) s.book i
 no_places w (End t b) s i = ended_well t (has_act t (cell_at s b).entries) (outcome_of t (cell_at s b).outbox) s.book.acts i
 no_places w (Abort k) s i = all_well _ s.book.acts (cascaded_well k _) i
 no_places w (Prepare t b) s i = all_well _ s.book.acts (λ x j. if_well (x.tid == t) (book.marked b book.is_prepared) x (λ l. l) j) i
@@ -268,23 +194,14 @@ no_places w (Seal t) s i = all_well _ s.book.acts (λ x j. if_well (x.tid == t) 
 no_places w (Finish t b) s i = all_well _ s.book.acts (λ x j. if_well (x.tid == t) (book.marked b book.has_left) x (λ l. l) j) i
 no_places w e s i = i
 
-act_says : (n : ℕ) (ds : List Done) (v : Verdict) (x : Act) → x.tx ≡ n → ActTold ds x.tid x → DoomedWell x → (st : Status) → x.status ≡ st → act_verdict st x.m x.result ≡ Some v → Says n v ds
-unfolding IsNoPlace
-act_says n ds v x t h d Live i e = absurd (cc e)
-act_says n ds v x t h d (Doomed u) i e = let j : u ≡ v = cc e in subst (λ z. Says n z ds) j (d u i n ds)
-act_says n ds v x t h d (Decided c) i e = absurd (cc e)
-act_says n ds v x t h d (Sealed c) i e = ended_says (OfAct x.tid) x.tid x.tx n (act_place x.m c) x.result ds v t (h c (ap (is_at c) i ∙ eq-eqb c c refl)) e
+-- ---- what a verdict says
 
-acts_say : (n : ℕ) (ds : List Done) (v : Verdict) (xs : List Act) → AllByRecursion (λ x. ActTold ds x.tid x) xs → AllByRecursion DoomedWell xs → verdict_of_act n xs ≡ Some v → Says n v ds
-acts_say n ds v [] h d e = absurd (cc e)
-acts_say n ds v (x ∷ xs) h d e = by (x.tx == n) refl e (λ f. acts_say n ds v xs h.1 d.1 f)
-  where
-    by : (q : Bool) → (x.tx == n) ≡ q → (if q then act_verdict x.status x.m x.result else verdict_of_act n xs) ≡ Some v → (verdict_of_act n xs ≡ Some v → Says n v ds) → Says n v ds
-    by true f e k = act_says n ds v x (eqb-true x.tx n f) h.0 d.0 x.status refl e
-    by false f e k = k e
+pub among : (y : Who) (t m n : ℕ) (p : Place) (o : Option TxResult) (r : TxResult) (ds : List Done) → AmongDone y t m p o ds → m ≡ n → o ≡ Some r → IsAmongDone n p r ds
+among y t m n p o r ds a i j = record { done = a.done; front = a.front; rest = a.rest; splits = a.splits; tx = a.tx ∙ i; place = a.place; result = a.result ∙ j }
 
 -- A verdict that names a place is of one that committed there, with that result.
-pub verdict_says : {C : Type 0} (w : Fixed C) (n : ℕ) (s : Machine C) (h : History) (v : Verdict) → settling.Settling w s → TidsAscend s → PactsTold s h → ActsTold s h → NoPlaces s → verdict n s.book s.desk ≡ Some v → Says n v h.committed
+pub verdict_says : {C : Type 0} (w : Fixed C) (n : ℕ) (s : Machine C) (h : History) (v : Verdict) → settling.Settling w s → TidsAscend s → PactsTold s h → ActsTold s h → NoPlaces s → verdict n s.book s.desk ≡ Some v → Says (λ p r. IsAmongDone n p r h.committed) v
 unfolding PactsTold ActsTold NoPlaces
-verdict_says w n s h v g a p i d e = either_says n h.committed v (verdict_of_pact s.book.cascades n s.desk.batches) (verdict_of_act n s.book.acts)
-    (batches_say s.book.cascades n h.committed v s.desk.batches (settling.each_batch w s (BatchTold h.committed) g p)) (acts_say n h.committed v s.book.acts (each_act s (ActTold h.committed) a i) d) e
+verdict_says w n s h v g a p i d e = verdicts.verdict_says n (λ p r. IsAmongDone n p r h.committed) s v
+    (weaker _ _ s.desk.batches (λ b k f. weaker _ _ b.pacts (λ p j q r o. among (OfBatch b.bid) p.tid p.tx n (pact_place b.bid p.tid) p.result r h.committed j.0 q o) (k (ap is_formed f))) (settling.each_batch w s (BatchTold h.committed) g p))
+    (weaker _ _ s.book.acts (λ x k q c f r o. among (OfAct x.tid) x.tid x.tx n (act_place x.m c) x.result r h.committed (k c (ap (is_at c) f ∙ eq-eqb c c refl)) q o) (each_act s (ActTold h.committed) a i)) d e

@@ -14,7 +14,7 @@ use Rattle.protocol_laws.proofs.first.EpochsKept as epochs
 use Rattle.protocol_laws.proofs.first.SettlingKeys as keys
 use Rattle.protocol_laws.proofs.first.Times
 use Rattle.protocol_laws.proofs.machine.TrackLists
-use Rattle.protocol_laws.proofs.first.Lists.{all_back, all_each, all_front, all_join}
+use Rattle.protocol_laws.proofs.first.Lists.{all_back, all_front, all_join, both_all, weaker}
 
 -- ---- epochs
 
@@ -281,7 +281,7 @@ place_act next n cs ep tail t rs h = same_batches next n cs ep tail rs _ (batche
 -- a batch of the cell's epoch, behind the tail
 pub place_batch : (next n : ℕ) (cs : List Cascade) (ep tail k : ℕ) (rs : List Ran) → k < next → epoch_of k cs ≡ ep → tail < k → Places next n cs ep tail rs → Places next n cs ep k (rs ++ not_run (OfBatch k) ∷ [])
 place_batch next n cs ep tail k rs l e m h =
-    let below : AllByRecursion (λ j. j < k) (batches_in rs) = all_each (Fits next cs ep tail) (λ j. j < k) (batches_in rs) (λ j f. less j f) h.fit in
+    let below : AllByRecursion (λ j. j < k) (batches_in rs) = weaker (Fits next cs ep tail) (λ j. j < k) (batches_in rs) (λ j f. less j f) h.fit in
     record {
       behind = h.behind;
       fit = rw (batches_join rs (not_run (OfBatch k) ∷ [])) (all_join (Fits next cs ep k) (batches_in rs) (k ∷ []) (keys_all (batches_in rs) h.fit) (record { formed = l; placed = omega (arith, e); aborted = λ q. e; is_last = λ q. omega arith }, tt));
@@ -293,7 +293,7 @@ place_batch next n cs ep tail k rs l e m h =
     less j f = elim (cases_lt j k) [ inl a ↦ a | inr b ↦ absurd (omega (arith, b, m, f.is_last (omega (arith, f.placed, e, epoch_mono k j cs b)))) ]
 
     keys_all : (ks : List ℕ) → AllByRecursion (Fits next cs ep tail) ks → AllByRecursion (Fits next cs ep k) ks
-    keys_all ks g = all_each (Fits next cs ep tail) (Fits next cs ep k) ks (λ j f. record { formed = f.formed; placed = f.placed; aborted = f.aborted; is_last = λ q. omega (arith, m, f.is_last q) }) g
+    keys_all ks g = weaker (Fits next cs ep tail) (Fits next cs ep k) ks (λ j f. record { formed = f.formed; placed = f.placed; aborted = f.aborted; is_last = λ q. omega (arith, m, f.is_last q) }) g
 
 -- where no aborted one stays
 stay_fits : (next n : ℕ) (cs : List Cascade) (ep tail : ℕ) (rs : List Ran) → ep < length cs → AllByRecursion (Fits next cs ep tail) (batches_in rs) → FirmUpToGone n cs rs → AllByRecursion (Fits next cs (length cs) 0) (batches_in (long_staying cs rs))
@@ -324,7 +324,7 @@ leave_batch next n cs ep tail k rs l a h =
 pub cascade : (next n : ℕ) (cs : List Cascade) (c : Cascade) (ep tail : ℕ) (rs : List Ran) → c.upto ≡ next - 1 → n < c.first → AllByRecursion (λ d. d.first ≤ c.first) cs → Places next n cs ep tail rs → Places next n (cs ++ c ∷ []) ep tail rs
 cascade next n cs c ep tail rs u l firsts h = record {
   behind = omega (arith, h.behind, Times.length_join cs (c ∷ []));
-  fit = all_each (Fits next cs ep tail) (Fits next (cs ++ c ∷ []) ep tail) (batches_in rs) (λ k f. one k f) h.fit;
+  fit = weaker (Fits next cs ep tail) (Fits next (cs ++ c ∷ []) ep tail) (batches_in rs) (λ k f. one k f) h.fit;
   ascends = h.ascends;
   firm = firm_each n n cs (cs ++ c ∷ []) rs (λ k f. (f.0, keys.aborted_more k cs c ∙ or_from (is_aborted k cs) (covers k c) f.1 (and_left (nat_le c.first k) (nat_le k c.upto) (lt-leb c.first k (omega (arith, f.0, l)))))) h.firm;
 }
@@ -339,7 +339,7 @@ cascade next n cs c ep tail rs u l firsts h = record {
             | inl a ↦ f.aborted a
             | inr b ↦ elim (or_cases (is_aborted k cs) (covers k c) (sym (keys.aborted_more k cs c) ∙ q)) [
               | inl a ↦ f.aborted a
-              | inr v ↦ full (epochs.epoch_all k cs (keys.both_all (λ d. d.first ≤ c.first) (λ d. covers k d ≡ false) (λ d. d.upto < k) cs (λ d p q. past d p q (leb-true c.first k (and_parts (nat_le c.first k) (nat_le k c.upto) v).0)) firsts (keys.not_covered k cs b)))
+              | inr v ↦ full (epochs.epoch_all k cs (both_all (λ d. d.first ≤ c.first) (λ d. covers k d ≡ false) (λ d. d.upto < k) cs (λ d p q. past d p q (leb-true c.first k (and_parts (nat_le c.first k) (nat_le k c.upto) v).0)) firsts (keys.not_covered k cs b)))
             ]
           ];
           is_last = λ q. f.is_last (sym e ∙ q);
@@ -357,7 +357,7 @@ settle next n m cs ep tail rs l h = record { behind = h.behind; fit = h.fit; asc
 pub form : (next n : ℕ) (cs : List Cascade) (ep tail : ℕ) (rs : List Ran) → Places next n cs ep tail rs → Places (next + 1) n cs ep tail rs
 form next n cs ep tail rs h = record {
   behind = h.behind;
-  fit = all_each (Fits next cs ep tail) (Fits (next + 1) cs ep tail) (batches_in rs) (λ k f. record { formed = omega (arith, f.formed); placed = f.placed; aborted = f.aborted; is_last = f.is_last }) h.fit;
+  fit = weaker (Fits next cs ep tail) (Fits (next + 1) cs ep tail) (batches_in rs) (λ k f. record { formed = omega (arith, f.formed); placed = f.placed; aborted = f.aborted; is_last = f.is_last }) h.fit;
   ascends = h.ascends;
   firm = h.firm;
 }

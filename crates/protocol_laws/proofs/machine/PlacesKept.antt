@@ -21,6 +21,7 @@ use Rattle.protocol_laws.proofs.first.SettlingKept as settling
 use Rattle.protocol_laws.proofs.machine.TracksKept as tracks
 use Rattle.protocol_laws.proofs.machine.TracksKept.{beside, beside_same, in_range, arrives}
 use Rattle.protocol_laws.proofs.machine.PlaceLists
+use Rattle.protocol_laws.proofs.first.Lists.{all_found}
 
 -- What is taken from invariants of controls and of ACTs.
 unfoldable pub Owed : {C : Type 0} → Fixed C → Event → Machine C → History → Type 0
@@ -52,7 +53,7 @@ message {C} w k a s ok h = by (sub_of k a s.post.subs) refl ok.0 ok.1.1.0 ok.1.1
         → holds (λ m. holds (λ c. m.prev == c.tail) (slice_get s.cells a)) o ≡ true → Arrives s k a
     by None e p q r = absurd (true≢false (sym p))
     by (Some m) e p q r =
-        let f = cells.all_found (epochs.NamesIn s) (λ x. (x.bid == k) && (x.actor == a)) m s.post.subs e (epochs.names_in s h) in
+        let f = all_found (epochs.NamesIn s) (λ x. (x.bid == k) && (x.actor == a)) s.post.subs m (epochs.names_in s h) e in
         let n = epochs.named s m f.0 in
         let i : m.bid ≡ k = eqb-true m.bid k (and_parts (m.bid == k) (m.actor == a) f.1).0 in
         let v = and_parts (m.epoch == epoch s.book) (holds (λ c. c.epoch == epoch s.book) (slice_get s.cells a)) q in
@@ -82,7 +83,7 @@ placed_kept w (Form k) s h ok more n g = λ a. PlaceLists.form _ _ _ _ _ (h.long
 placed_kept w (Arrive k a) s h ok more n g =
     let m = message w k a s ok n.agreeing in
     beside (At s) s.cells a _ _ h.long (arrives (epoch s.book) a (λ c. c.epoch == epoch s.book) s.cells (sub_of k a s.post.subs) ok.1.1.0) (λ x. PlaceLists.place_batch _ _ _ _ _ k (h.long a) m.formed m.own m.behind x) g
-placed_kept w (Ask t a) s h ok more n g = beside (At s) s.cells a _ _ h.long (in_range _ s.cells a ok.1.1.0) (ask s t a (book.in_the_way t (cell_at s a)) (cell_at s a) (h.long a)) g
+placed_kept w (Ask t a) s h ok more n g = beside (At s) s.cells a _ _ h.long (in_range _ s.cells a ok.1.1.0) (ask s t a (book.in_the_way t (cell_at s a).entries) (cell_at s a) (h.long a)) g
 placed_kept w (Take t a) s h ok more n g = beside_same (At s) s.cells a _ h.long (in_range _ s.cells a ok.1.0) (λ x. x) g
 placed_kept w (Run t a) s h ok more n g =
     beside (At s) s.cells a _ _ h.long (in_range _ s.cells a ok.0) (λ x. PlaceLists.same_batches _ _ _ _ _ (h.long a) _ (PlaceLists.batches_ran _ _ (h.long a)) (PlaceLists.firm_ran _ _ _ _ (h.long a) x.firm) x) g

@@ -1,5 +1,5 @@
 -- PACTs of the desk are PACTs of the text, and the actors of batches exist.
-use Rattle.std.specs.Prelude.{◌≡◌, refl, ℕ, zero, suc, ◌+◌, ◌%◌, ◌≤◌, ◌<◌, ◌==◌, Bool, true, false, ◌⊎◌, if◌then◌else◌, Option, Some, None, is_some, List, [], ◌∷◌, ◌++◌, length, map, take, drop, replicate, slice_set}
+use Rattle.std.specs.Prelude.{◌≡◌, refl, ℕ, zero, suc, ◌+◌, ◌%◌, ◌≤◌, ◌<◌, ◌==◌, Bool, true, false, ◌⊎◌, if◌then◌else◌, Option, Some, None, is_some, List, [], ◌∷◌, ◌++◌, length, map, take, replicate, slice_set}
 use Rattle.std.specs.List.{AllByRecursion}
 use Rattle.std.proofs.Common.{arith, sym, ap, subst, inl, inr, ◌∙◌}
 use Rattle.std.proofs.lemmas.Bool.{true≢false, eqb-true, eq-eqb, ne_eqb, or_cases, le-leb, cases_Bool}
@@ -26,24 +26,9 @@ use Rattle.protocol_laws.proofs.machine.Resting as resting
 use Rattle.protocol_laws.proofs.machine.Resting.{EachPact}
 use Rattle.protocol_laws.proofs.machine.ActsFound
 use Rattle.protocol_laws.proofs.machine.ActsKept.{KnownActs, cells_stay, settled_rises}
-use Rattle.protocol_laws.proofs.first.Lists.{all_both, all_filter, all_get, all_join, all_map, all_weaker}
+use Rattle.protocol_laws.proofs.first.Lists.{all_drop, all_filter, all_get, all_join, all_map, all_set, all_take, both_all, weaker}
 
 -- ---- lists
-
-all_set : {X : Type 0} (P : X → Type 0) (xs : List X) (i : ℕ) (y : X) → P y → AllByRecursion P xs → AllByRecursion P (slice_set xs i y)
-all_set P [] i y k h = tt
-all_set P (x ∷ xs) zero y k h = (k, h.1)
-all_set P (x ∷ xs) (suc i) y k h = (h.0, all_set P xs i y k h.1)
-
-all_take : {X : Type 0} (P : X → Type 0) (k : ℕ) (xs : List X) → AllByRecursion P xs → AllByRecursion P (take k xs)
-all_take P zero xs h = tt
-all_take P (suc k) [] h = tt
-all_take P (suc k) (x ∷ xs) h = (h.0, all_take P k xs h.1)
-
-all_drop : {X : Type 0} (P : X → Type 0) (k : ℕ) (xs : List X) → AllByRecursion P xs → AllByRecursion P (drop k xs)
-all_drop P zero xs h = h
-all_drop P (suc k) [] h = tt
-all_drop P (suc k) (x ∷ xs) h = all_drop P k xs h.1
 
 -- ---- what waits at the coordinators as PACTs are PACTs
 
@@ -84,7 +69,7 @@ new_are w low [] f g a e h = tt
 new_are w low (p ∷ ps) f g a e h = (let own : (begun (p ∷ ps) f p.tid).tx ≡ p.tx = rw (eq-eqb p.tid p.tid refl) refl in subst (IsPact w) (sym (ap (λ z. z.tx) (e p.tid a.0) ∙ own)) h.0, new_are w (p.tid + 1) ps f g a.1 (λ u l. e u (omega (arith, l, a.0)) ∙ rw (ne_eqb u p.tid (λ q. omega (arith, q, l))) refl) h.1)
 
 old_are : {C : Type 0} (w : Fixed C) (next : ℕ) (f g : ℕ → Trail) (bs : List Batch) → ((u : ℕ) → u < next → (g u).tx ≡ (f u).tx) → EachPact (λ t r. t < next) bs → EachPact (IsOfPact w f) bs → EachPact (IsOfPact w g) bs
-old_are w next f g bs e d h = all_both _ _ _ bs (λ b x y. all_both _ _ _ b.pacts (λ p i j. subst (IsPact w) (sym (e p.tid i)) j) x y) d h
+old_are w next f g bs e d h = both_all _ _ _ bs (λ b x y. both_all _ _ _ b.pacts (λ p i j. subst (IsPact w) (sym (e p.tid i)) j) x y) d h
 
 pub of_pacts_kept : {C : Type 0} (w : Fixed C) (e : Event) (s : Machine C) (h : History) → IsAllowed w e s → resting.Drawn s → Waits w s → OfPacts w s h → OfPacts w (after w e s) (grown w e s h)
 unfolding OfPacts resting.Drawn conditions grown
@@ -117,7 +102,7 @@ pub record Sizes {C : Type 0} (w : Fixed C) (s : Machine C) : Type 0 where
 
 below_all : (n : ℕ) → AllByRecursion (λ a. a < n) (below n)
 below_all zero = tt
-below_all (suc n) = all_join _ (below n) (n ∷ []) (all_weaker (λ a. a < n) (λ a. a < suc n) (below n) (λ a l. omega (arith, l)) (below_all n)) (omega arith, tt)
+below_all (suc n) = all_join _ (below n) (n ∷ []) (weaker (λ a. a < n) (λ a. a < suc n) (below n) (λ a l. omega (arith, l)) (below_all n)) (omega arith, tt)
 
 marked_places : (n a : ℕ) (f : Declared → Declared) (ps : List Declared) → ((p : Declared) → (f p).actor ≡ p.actor) → AllByRecursion (λ p. p.actor < n) ps → AllByRecursion (λ p. p.actor < n) (map (λ p. desk.mark_if (p.actor == a) f p) ps)
 marked_places n a f [] i h = tt
@@ -133,7 +118,7 @@ if_places n false f b k h = h
 
 places_stay : {C : Type 0} (w : Fixed C) (e : Event) (s : Machine C) (n : ℕ) → length s.ring.lasts ≡ n → EachPlace n s.desk.batches → EachPlace n (after w e s).desk.batches
 unfolding after
-places_stay w (Form k) s n l h = all_join _ s.desk.batches _ h (all_map _ _ desk.new_declared _ (λ a i. i) (all_filter _ _ (below (length s.ring.lasts)) (all_weaker (λ a. a < length s.ring.lasts) (λ a. a < n) (below (length s.ring.lasts)) (λ a i. omega (arith, i, l)) (below_all (length s.ring.lasts)))), tt)
+places_stay w (Form k) s n l h = all_join _ s.desk.batches _ h (all_map _ _ desk.new_declared _ (λ a i. i) (all_filter _ _ (below (length s.ring.lasts)) (weaker (λ a. a < length s.ring.lasts) (λ a. a < n) (below (length s.ring.lasts)) (λ a i. omega (arith, i, l)) (below_all (length s.ring.lasts)))), tt)
 places_stay {C} w (End t a) s n l h = by (has_act t (cell_at s a).entries) (outcome_of t (cell_at s a).outbox)
   where
     next : (x : Next C) → EachPlace n (desk.noted_for t x s.desk.batches)

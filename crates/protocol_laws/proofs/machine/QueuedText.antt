@@ -1,5 +1,5 @@
 -- What waits at the coordinators are transactions of the text.
-use Rattle.std.specs.Prelude.{◌≡◌, refl, ℕ, zero, suc, ◌+◌, ◌<◌, ◌==◌, nat_lt, Bool, true, false, not, if◌then◌else◌, List, [], ◌∷◌, ◌++◌, length, replicate, take, drop, slice_set, slice_index_or}
+use Rattle.std.specs.Prelude.{◌≡◌, refl, ℕ, zero, suc, ◌+◌, ◌<◌, ◌==◌, nat_lt, Bool, true, false, not, if◌then◌else◌, List, [], ◌∷◌, ◌++◌, length, replicate, slice_index_or}
 use Rattle.std.specs.List.{AllByRecursion}
 use Rattle.std.proofs.Common.{sym}
 use Rattle.std.proofs.lemmas.Bool.{and_parts, ltb-true, true≢false}
@@ -13,6 +13,7 @@ use Rattle.protocol.specs.Effects.{after}
 use Rattle.protocol.specs.Runs.{opening}
 use Rattle.protocol.specs.OnRing as ring
 use Rattle.protocol.specs.OnPost as post
+use Rattle.protocol_laws.proofs.first.Lists.{all_drop, all_get, all_set, all_take}
 
 -- the text has so many
 abbrev pub IsThere : Text → ℕ → Type 0
@@ -29,34 +30,14 @@ join : {X : Type 0} (P : X → Type 0) (xs ys : List X) → AllByRecursion P xs 
 join P [] ys h k = k
 join P (x ∷ xs) ys h k = (h.0, join P xs ys h.1 k)
 
-set : {X : Type 0} (P : X → Type 0) (xs : List X) (i : ℕ) (y : X) → P y → AllByRecursion P xs → AllByRecursion P (slice_set xs i y)
-set P [] i y k h = tt
-set P (x ∷ xs) zero y k h = (k, h.1)
-set P (x ∷ xs) (suc i) y k h = (h.0, set P xs i y k h.1)
-
-get : {X : Type 0} (P : X → Type 0) (xs : List X) (i : ℕ) (d : X) → P d → AllByRecursion P xs → P (slice_index_or xs i d)
-get P [] i d p h = p
-get P (x ∷ xs) zero d p h = h.0
-get P (x ∷ xs) (suc i) d p h = get P xs i d p h.1
-
-first : {X : Type 0} (P : X → Type 0) (k : ℕ) (xs : List X) → AllByRecursion P xs → AllByRecursion P (take k xs)
-first P zero xs h = tt
-first P (suc k) [] h = tt
-first P (suc k) (x ∷ xs) h = (h.0, first P k xs h.1)
-
-rest : {X : Type 0} (P : X → Type 0) (k : ℕ) (xs : List X) → AllByRecursion P xs → AllByRecursion P (drop k xs)
-rest P zero xs h = h
-rest P (suc k) [] h = tt
-rest P (suc k) (x ∷ xs) h = rest P k xs h.1
-
 in_queue : (w : Text) (queues : List (List ℕ)) (c : ℕ) → AreThere w queues → AllByRecursion (IsThere w) (queue queues c)
-in_queue w queues c h = get (λ q. AllByRecursion (IsThere w) q) queues c [] tt h
+in_queue w queues c h = all_get (λ q. AllByRecursion (IsThere w) q) queues c [] tt h
 
 joined : (w : Text) (queues : List (List ℕ)) (c n : ℕ) → IsThere w n → AreThere w queues → AreThere w (ring.joined_at c n queues)
-joined w queues c n l h = set (λ q. AllByRecursion (IsThere w) q) queues c _ (join (IsThere w) (queue queues c) (n ∷ []) (in_queue w queues c h) (l, tt)) h
+joined w queues c n l h = all_set (λ q. AllByRecursion (IsThere w) q) queues c _ (join (IsThere w) (queue queues c) (n ∷ []) (in_queue w queues c h) (l, tt)) h
 
 left : (w : Text) (queues : List (List ℕ)) (c few : ℕ) → AreThere w queues → AreThere w (ring.left_at c few queues)
-left w queues c few h = set (λ q. AllByRecursion (IsThere w) q) queues c _ (rest (IsThere w) few (queue queues c) (in_queue w queues c h)) h
+left w queues c few h = all_set (λ q. AllByRecursion (IsThere w) q) queues c _ (all_drop (IsThere w) few (queue queues c) (in_queue w queues c h)) h
 
 joined_if : (b : Bool) (w : Text) (queues : List (List ℕ)) (c n : ℕ) → IsThere w n → AreThere w queues → AreThere w (if b then ring.joined_at c n queues else queues)
 joined_if true w queues c n l h = joined w queues c n l h
@@ -93,7 +74,7 @@ numbered w t (n ∷ ns) h = (h.0, numbered w (t + 1) ns h.1)
 
 -- the PACTs that are formed next
 pub next_there : {C : Type 0} (w : Fixed C) (s : Machine C) → Queued w s → AllByRecursion (λ (p : Pact). IsThere w.text p.tx) (ring.next_pacts w.text s.ring)
-next_there w s h = numbered w.text s.ring.next_tid _ (first (IsThere w.text) w.text.batch (queue s.ring.pacts s.ring.holder) (in_queue w.text s.ring.pacts s.ring.holder h.pacts))
+next_there w s h = numbered w.text s.ring.next_tid _ (all_take (IsThere w.text) w.text.batch (queue s.ring.pacts s.ring.holder) (in_queue w.text s.ring.pacts s.ring.holder h.pacts))
 
 -- the ACT that is admitted next
 pub act_there : {C : Type 0} (w : Fixed C) (t : ℕ) (s : Machine C) → IsAllowed w (Admit t) s → Queued w s → IsThere w.text (post.next_act s.ring)

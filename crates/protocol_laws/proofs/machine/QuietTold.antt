@@ -23,7 +23,7 @@ use Rattle.protocol_laws.specs.Marks.{Marked, Known}
 use Rattle.protocol_laws.proofs.first.Times
 use Rattle.protocol_laws.proofs.first.SettlingKept as settling
 use Rattle.protocol_laws.proofs.machine.MarksKept as marks
-use Rattle.protocol_laws.proofs.machine.ControlWalk.{AllControls, all_found}
+use Rattle.protocol_laws.proofs.machine.ControlWalk.{AllControls}
 use Rattle.protocol_laws.proofs.machine.TracksKept.{held}
 use Rattle.protocol_laws.proofs.machine.TurnsKept.{one_is}
 use Rattle.protocol_laws.proofs.machine.Resting.{NoResult, NoneNoted}
@@ -31,7 +31,8 @@ use Rattle.protocol_laws.proofs.machine.ActsTold.{is_at, AllFrom}
 use Rattle.protocol_laws.proofs.machine.PactsTold.{EachBatch}
 use Rattle.protocol_laws.proofs.machine.CommitRecords as records
 use Rattle.protocol_laws.proofs.machine.CommitRecords.{BatchHolds, ActsRecorded, BatchesRecorded, batches_keep}
-use Rattle.protocol_laws.proofs.first.Lists.{all_join}
+use Rattle.protocol_laws.proofs.first.Lists.{all_found, all_join, some_is}
+use Rattle.protocol_laws.proofs.first.Statuses.{value_some}
 
 -- ---- what committed of a batch is among its PACTs
 
@@ -74,9 +75,9 @@ unfolding records.BatchReady conditions
 stays_ready w (Form i) s h k d ok n e = λ j f q. absurd (true≢false (sym e ∙ ap is_some (ap (λ z. batch_of z s.desk.batches) (sym q) ∙ f)))
 stays_ready w (End t a) s h k d ok n e = λ j b r f p q.
     let o = one_is (λ x. is_ended x.next) (outcome_of t (cell_at s a).outbox) (held (λ c. holds (λ x. is_ended x.next) (outcome_of t c.outbox)) s.cells a no_cell ok.0) in
-    let g = all_found (λ x. NoneNoted s x.tid x.next) (λ x. x.tid == t) o.0 (cell_at s a).outbox o.1 (n.outboxes a) in
+    let g = all_found (λ x. NoneNoted s x.tid x.next) (λ x. x.tid == t) (cell_at s a).outbox o.0 (n.outboxes a) o.1 in
     let none : NoResult t s.desk.batches = subst (λ z. NoResult z s.desk.batches) (eqb-true o.0.tid t g.1) g.0 in
-    by t k r d b (all_found (λ b. AllByRecursion (λ p. p.tid ≡ t → p.result ≡ None) b.pacts) (λ b. b.bid == j) b s.desk.batches f none).0 (p q) b.aborted
+    by t k r d b (all_found (λ b. AllByRecursion (λ p. p.tid ≡ t → p.result ≡ None) b.pacts) (λ b. b.bid == j) s.desk.batches b none f).0 (p q) b.aborted
   where
     by : (t k : ℕ) (r : TxResult) (d : Done) (b : Batch) → AllByRecursion (λ p. p.tid ≡ t → p.result ≡ None) b.pacts → AnyPact (IsDonePact k d) b.pacts → (v : Bool) → AnyPact (IsDonePact k d) (if v then b.pacts else map (desk.with_result t r) b.pacts)
     by t k r d b n p true = p
@@ -103,10 +104,6 @@ stays_from : {C : Type 0} (w : Fixed C) (e : Event) (s : Machine C) (h : History
 unfolding Known
 stays_from w e s h [] ok n kn g = tt
 stays_from w e s h (d ∷ ds) ok n kn g = ((λ k q. let f = g.0 k q in record { kept = kept_grows w e s h (OfBatch k) f.kept; is_it = batches_keep w e s (λ j b. j ≡ k → AnyPact (IsDonePact k d) b.pacts) (any_holds k d) (stays_ready w e s h k d ok n (kn k f.kept)) f.is_it }), stays_from w e s h ds ok n kn g.1)
-
-value_some : (r : Option TxResult) → is_value r ≡ true → is_some r ≡ true
-value_some None e = absurd (true≢false (sym e))
-value_some (Some x) e = refl
 
 bid_of : (j k : ℕ) → OfBatch j ≡ OfBatch k → j ≡ k
 bid_of j k e = cc e
@@ -344,18 +341,14 @@ pact_told w s h k d b q o g m r e f =
     e (f.is_it k b e refl) (omega (arith, sum_of w d.tx s o)))
     ∙ sym v.1
 
-some_found : {X : Type 0} (o : Option X) → is_some o ≡ true → (x : X) × (o ≡ Some x)
-some_found None e = absurd (true≢false (sym e))
-some_found (Some x) e = (x, refl)
-
 -- In a quiet state all that committed is told.
 pub all_told : {C : Type 0} (w : Fixed C) (s : Machine C) (h : History) → IsQuiet w s → TransactionsInOnePlace w s → settling.Settling w s → Marked s h → Known s h → ActsRecorded w s → BatchesRecorded w s → AllFrom s h → PactsFrom s h → AllByRecursion (λ d. IsTold s d) h.committed
 unfolding AllFrom PactsFrom Known
 all_told w s h q o g m kn ra rb fa fp = each h.committed fa fp
   where
     one : (d : Done) → ((t : ℕ) → d.who ≡ OfAct t → Rattle.protocol_laws.proofs.machine.ActsTold.DoneFrom s.book.acts t d) → ((k : ℕ) → d.who ≡ OfBatch k → PactFrom s.desk.batches h.kept k d) → (y : Who) → d.who ≡ y → IsTold s d
-    one d a b (OfBatch k) e = let f = b k e in let c = some_found (batch_of k s.desk.batches) (kn k f.kept) in pact_told w s h k d c.0 q o g m rb c.1 f
-    one d a b (OfAct t) e = let f = a t e in let x = some_found (act_of t s.book.acts) f.there in act_told w s t d x.0 q o ra x.1 (f.is_it t x.0 x.1 refl)
+    one d a b (OfBatch k) e = let f = b k e in let c = some_is (batch_of k s.desk.batches) (kn k f.kept) in pact_told w s h k d c.0 q o g m rb c.1 f
+    one d a b (OfAct t) e = let f = a t e in let x = some_is (act_of t s.book.acts) f.there in act_told w s t d x.0 q o ra x.1 (f.is_it t x.0 x.1 refl)
 
     each : (ds : List Done) → AllByRecursion (λ d. (t : ℕ) → d.who ≡ OfAct t → Rattle.protocol_laws.proofs.machine.ActsTold.DoneFrom s.book.acts t d) ds → FromBatches s.desk.batches h.kept ds → AllByRecursion (λ d. IsTold s d) ds
     each [] a b = tt

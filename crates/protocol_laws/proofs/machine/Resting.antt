@@ -7,7 +7,7 @@ use Rattle.std.proofs.lemmas.Bool.{eqb-true, eq-eqb, ne_eqb, and_parts, or_cases
 use Rattle.snap_base.specs.declared.transactions.State.{State}
 use Rattle.snap_base.specs.declared.transactions.Tx.{Tx}
 use Rattle.snap_base.specs.declared.transactions.TxResult.{TxResult}
-use Rattle.protocol.specs.Fixed.{Fixed, Next, Go, Ended, tx_at, is_pact}
+use Rattle.protocol.specs.Fixed.{Fixed, Next, Go, Ended, is_pact}
 use Rattle.protocol.specs.Parts.{Pact, Batch, Entry, BatchEntry, ActEntry, Waiting, Outcome, SubBatch, Committing, Settled, Cascade, Cell, Machine}
 use Rattle.protocol.specs.Events.{Event, Form, Admit, Arrive, Ask, Take, Run, Send, End, Close, Complete, Note, Commit, Settle, Abort, Rollback, Finish, Trim}
 use Rattle.protocol.specs.Words.{holds, names_pact, pact_result, result_among, waiting_of, outcome_of, without_outcome, has_act, is_ended, who_of, sub_of}
@@ -23,15 +23,11 @@ use Rattle.protocol.specs.OnCell.{is_cut}
 use Rattle.protocol_laws.specs.Turns.{NotDone}
 use Rattle.protocol_laws.proofs.first.Controls as controls
 use Rattle.protocol_laws.proofs.machine.ControlWalk
-use Rattle.protocol_laws.proofs.machine.ControlWalk.{AllControls, Ready, all_found}
+use Rattle.protocol_laws.proofs.machine.ControlWalk.{AllControls, Ready}
 use Rattle.protocol_laws.proofs.machine.TracksKept.{held}
 use Rattle.protocol_laws.proofs.machine.TrailsKept.{at_most_one}
 use Rattle.protocol.specs.Rests.{IsTxIn}
-use Rattle.protocol_laws.proofs.first.Lists.{all_join, all_weaker}
-
-all_map : {X : Type 0} (P Q : X → Type 0) (f : X → X) (xs : List X) → ((x : X) → P x → Q (f x)) → AllByRecursion P xs → AllByRecursion Q (map f xs)
-all_map P Q f [] k h = tt
-all_map P Q f (x ∷ xs) k h = (k x h.0, all_map P Q f xs k h.1)
+use Rattle.protocol_laws.proofs.first.Lists.{all_found, all_join, all_map, weaker}
 
 -- ---- facts of all PACTs of the desk
 
@@ -44,12 +40,6 @@ each_same P f bs e h = all_map _ _ f bs (λ b g. rw (e b) g) h
 if_pacts : (v : Bool) (f : Batch → Batch) (b : Batch) → (f b).pacts ≡ b.pacts → (desk.change_if v f b).pacts ≡ b.pacts
 if_pacts true f b h = h
 if_pacts false f b h = refl
-
--- a result that is noted is one more fact
-abbrev pub Noting : {C : Type 0} → Event → Machine C → (ℕ → Option TxResult → Type 0) → Type 0
-Noting (Form k) s P = Unit {0}
-Noting (End t a) s P = (r : TxResult) → P t (Some r)
-Noting _ s P = Unit {0}
 
 pub with_result : (P : ℕ → Option TxResult → Type 0) (t : ℕ) (r : TxResult) (bs : List Batch) → ((u : ℕ) (o : Option TxResult) → u ≡ t → P u o → P u (Some r)) → EachPact P bs → EachPact P (map (desk.with_results t r) bs)
 with_result P t r bs n h = all_map _ _ (desk.with_results t r) bs (λ b g. one b.aborted b.pacts g) h
@@ -88,13 +78,13 @@ each_stays w e s P f n h = h
 
 numbered_below : (t : ℕ) (ns : List ℕ) → AllByRecursion (λ p. p.tid < t + length (ring.numbered t ns)) (ring.numbered t ns)
 numbered_below t [] = tt
-numbered_below t (n ∷ ns) = (omega arith, all_weaker _ _ (ring.numbered (t + 1) ns) (λ p l. omega (arith, l)) (numbered_below (t + 1) ns))
+numbered_below t (n ∷ ns) = (omega arith, weaker _ _ (ring.numbered (t + 1) ns) (λ p l. omega (arith, l)) (numbered_below (t + 1) ns))
 
 unfoldable pub Drawn : {C : Type 0} → Machine C → Type 0
 Drawn s = EachPact (λ t r. t < s.ring.next_tid) s.desk.batches
 
 drawn_more : (n m : ℕ) (bs : List Batch) → n ≤ m → EachPact (λ t r. t < n) bs → EachPact (λ t r. t < m) bs
-drawn_more n m bs l h = all_weaker _ _ bs (λ b g. all_weaker _ _ b.pacts (λ p q. omega (arith, q, l)) g) h
+drawn_more n m bs l h = weaker _ _ bs (λ b g. weaker _ _ b.pacts (λ p q. omega (arith, q, l)) g) h
 
 pub drawn_kept : {C : Type 0} (w : Fixed C) (e : Event) (s : Machine C) → Drawn s → Drawn (after w e s)
 unfolding Drawn after
@@ -164,7 +154,7 @@ abbrev pub NoneNoted : {C : Type 0} → Machine C → ℕ → Next C → Type 0
 NoneNoted s t n = NoResult t s.desk.batches
 
 not_this : (n : ℕ) (t : ℕ) (bs : List Batch) → n ≤ t → EachPact (λ u r. u < n) bs → NoResult t bs
-not_this n t bs l h = all_weaker _ _ bs (λ b g. all_weaker _ _ b.pacts (λ p q e. absurd (omega (arith, q, e, l))) g) h
+not_this n t bs l h = weaker _ _ bs (λ b g. weaker _ _ b.pacts (λ p q e. absurd (omega (arith, q, e, l))) g) h
 
 new_ready : {C : Type 0} (w : Fixed C) (s : Machine C) (bs : List Batch) (low : ℕ) (ps : List Pact) → AllByRecursion (λ p. low ≤ p.tid) ps → ((t : ℕ) → low ≤ t → NoResult t bs) → AllByRecursion (λ q. NoResult q.tid bs) ps
 new_ready w s bs low [] l h = tt
@@ -182,7 +172,7 @@ results_kept w (Form k) s ok one d g =
     (new_ready w s (after w (Form k) s).desk.batches s.ring.next_tid (ring.next_pacts w.text s.ring) (numbered_from s.ring.next_tid s.ring.next_tid _ (omega arith))
     (λ t l. each_stays w (Form k) s _ (λ i q. new_results t s.ring.next_tid _) (λ u a f. absurd (cc f)) (not_this s.ring.next_tid t s.desk.batches l d))) old
 results_kept w (Admit t) s ok one d g = ControlWalk.moves w (Admit t) s (NoneNoted s) ok (not_this s.ring.next_tid t s.desk.batches (omega (arith, eqb-true t s.ring.next_tid ok.0)) d) g
-results_kept {C} w (Run t a) s ok one d g = ControlWalk.moves w (Run t a) s (NoneNoted s) ok (λ x e. let own = all_found (λ x. NoneNoted s x.tid (Go a x.control)) (λ x. x.tid == t) x (cell_at s a).inbox e (g.inboxes a) in subst (λ z. NoResult z s.desk.batches) (eqb-true x.tid t own.1) own.0) g
+results_kept {C} w (Run t a) s ok one d g = ControlWalk.moves w (Run t a) s (NoneNoted s) ok (λ x e. let own = all_found (λ x. NoneNoted s x.tid (Go a x.control)) (λ x. x.tid == t) (cell_at s a).inbox x (g.inboxes a) e in subst (λ z. NoResult z s.desk.batches) (eqb-true x.tid t own.1) own.0) g
 results_kept w (End t a) s ok one d g =
     ControlWalk.both (NoneNoted s) (λ u n. u ≡ t → ⊥) (NoneNoted (after w (End t a) s)) (after w (End t a) s)
     (λ u n p q. each_stays w (End t a) s _ (λ i q. new_results u s.ring.next_tid _) (λ v b f x o r i k j. absurd (q (sym j ∙ (i ∙ same v b f)))) p)
@@ -194,10 +184,6 @@ results_kept w e s ok one d g = ControlWalk.both (NoneNoted s) (λ u n. Unit {0}
     (ControlWalk.moves w e s (NoneNoted s) ok tt g) (ControlWalk.trivial (after w e s))
 
 -- ---- a PACT is not done where its control rests
-
-abbrev pub RestsUndone : {C : Type 0} → Fixed C → Machine C → (ℕ → ℕ) → ℕ → Next C → Type 0
-RestsUndone w s txs t (Go b c) = is_pact (tx_at w.text (txs t)) ≡ true → (a : ℕ) → w.code.rests_on c a ≡ true → AllByRecursion (NotDone t) (cell_at s a).entries
-RestsUndone w s txs t (Ended r) = Unit {0}
 
 -- what one event leaves of it
 pub others_undone : (t u : ℕ) (es : List Entry) → (u ≡ t → ⊥) → AllByRecursion (NotDone u) es → AllByRecursion (NotDone u) (map (cell.done_in t) es)
@@ -217,9 +203,6 @@ one_at u (x ∷ xs) zero c k zero h = k h
 one_at u (x ∷ xs) zero c k (suc i) h = h
 one_at u (x ∷ xs) (suc a) c k zero h = h
 one_at u (x ∷ xs) (suc a) c k (suc i) h = one_at u xs a c k i h
-
-abbrev pub Undone : {C : Type 0} → ℕ → ℕ → Cell C → Type 0
-Undone u i c = AllByRecursion (NotDone u) c.entries
 
 -- the events that mark a PACT done
 abbrev pub Spares : Event → ℕ → Type 0
@@ -267,7 +250,7 @@ stay_undone u cs (e ∷ es) h = by (is_cut cs (who_of e)) (stay_undone u cs es h
 pub undone_stays : {C : Type 0} (w : Fixed C) (e : Event) (s : Machine C) (u : ℕ) → Spares e u → (i : ℕ) → (AllByRecursion (NotDone u) (cell_at s i).entries → AllByRecursion (NotDone u) (cell_at (after w e s) i).entries)
 unfolding after
 undone_stays w (Arrive k a) s u d i = one_at u s.cells a _ (arrive_undone u k (sub_of k a s.post.subs) (cell_at s a).entries) i
-undone_stays w (Ask t a) s u d i = one_at u s.cells a _ (ask_undone u t (book.in_the_way t (cell_at s a)) (cell_at s a).entries) i
+undone_stays w (Ask t a) s u d i = one_at u s.cells a _ (ask_undone u t (book.in_the_way t (cell_at s a).entries) (cell_at s a).entries) i
 undone_stays w (Take t a) s u d i = one_at u s.cells a _ (λ g. g) i
 undone_stays w (Run t a) s u d i = one_at u s.cells a _ (run_undone u t (cell.is_done_after w.code a (cell.slice_of w.code t (cell_at s a))) (cell_at s a).entries d) i
 undone_stays w (Send t a) s u d i = one_at u s.cells a _ (λ g. g) i

@@ -18,11 +18,12 @@ use Rattle.protocol_laws.specs.Turns.{NotDone}
 use Rattle.protocol_laws.specs.FromDesk.{is_pact_of, EntryOf, FromDesk}
 use Rattle.protocol_laws.proofs.first.Controls as controls
 use Rattle.protocol_laws.proofs.machine.ControlWalk
-use Rattle.protocol_laws.proofs.machine.ControlWalk.{AllControls, Ready, all_found}
+use Rattle.protocol_laws.proofs.machine.ControlWalk.{AllControls, Ready}
 use Rattle.protocol_laws.proofs.machine.TracksKept.{held}
 use Rattle.protocol_laws.proofs.machine.TrailsKept.{Told, at_most_one, drawn, begun_below, new_tids}
 use Rattle.protocol_laws.proofs.machine.Resting.{EachPact, Drawn, NoneNoted, no_result, undone_stays, goes_on_undone}
 use Rattle.protocol.specs.Rests.{IsTxIn}
+use Rattle.protocol_laws.proofs.first.Lists.{all_found}
 
 -- of transaction x, which has this tid
 abbrev pub RestsAt : {C : Type 0} → Fixed C → Machine C → ℕ → ℕ → Next C → Type 0
@@ -87,8 +88,8 @@ kept {C} w Of finish (Run t a) s h f ok one d fd n told g = by (waiting_of t (ce
     by : (o : Option (Waiting C)) → waiting_of t (cell_at s a).inbox ≡ o → is_some o ≡ true → AllControls (Rests w (after w (Run t a) s) (grown w (Run t a) s h)) (after w (Run t a) s)
     by None e q = absurd (true≢false (sym q))
     by (Some x) e q =
-        let own = all_found (λ x. Rests w s h x.tid (Go a x.control)) (λ x. x.tid == t) x (cell_at s a).inbox e (g.inboxes a) in
-        let of_it = all_found (λ x. Told w Of finish h x.tid (Go a x.control)) (λ x. x.tid == t) x (cell_at s a).inbox e (told.inboxes a) in
+        let own = all_found (λ x. Rests w s h x.tid (Go a x.control)) (λ x. x.tid == t) (cell_at s a).inbox x (g.inboxes a) e in
+        let of_it = all_found (λ x. Told w Of finish h x.tid (Go a x.control)) (λ x. x.tid == t) (cell_at s a).inbox x (told.inboxes a) e in
         let i : x.tid ≡ t = eqb-true x.tid t own.1 in
         ControlWalk.run_moves w t a s x (Rests w s h) (Rests w (after w (Run t a) s) (grown w (Run t a) s h)) (at_most_one t s one) e
         (λ u m v p. weaker w s (after w (Run t a) s) (h.trails u).tx _ u m (rw (ne_eqb u t v) refl) (undone_stays w (Run t a) s u v) p)
@@ -110,8 +111,8 @@ kept w Of finish e s h f ok one d fd n told g = ControlWalk.moves w e s (Rests w
 pub runs_undone : {C : Type 0} (w : Fixed C) (Of : Tx → C → Type 0) (finish : C → List State → Alone) (t a : ℕ) (s : Machine C) (h : History) (x : Waiting C) → Facts (length w.text.opening.states) w.code (IsTxIn w.text) Of finish → waiting_of t (cell_at s a).inbox ≡ Some x → is_pact (tx_at w.text (h.trails t).tx) ≡ true
     → AllControls (Told w Of finish h) s → AllControls (Rests w s h) s → AllByRecursion (NotDone t) (cell_at s a).entries
 runs_undone w Of finish t a s h x f e p told g =
-    let own = all_found (λ x. Rests w s h x.tid (Go a x.control)) (λ x. x.tid == t) x (cell_at s a).inbox e (g.inboxes a) in
-    let of_it = all_found (λ x. Told w Of finish h x.tid (Go a x.control)) (λ x. x.tid == t) x (cell_at s a).inbox e (told.inboxes a) in
+    let own = all_found (λ x. Rests w s h x.tid (Go a x.control)) (λ x. x.tid == t) (cell_at s a).inbox x (g.inboxes a) e in
+    let of_it = all_found (λ x. Told w Of finish h x.tid (Go a x.control)) (λ x. x.tid == t) (cell_at s a).inbox x (told.inboxes a) e in
     let i : x.tid ≡ t = eqb-true x.tid t own.1 in
     let o : Of (tx_at w.text (h.trails t).tx) x.control = subst (λ z. Of (tx_at w.text (h.trails z).tx) x.control) i of_it.0.of_it.0 in
     (subst (λ z. RestsAt w s (h.trails z).tx z (Go a x.control)) i own.0) p a (ap (w.code.rests_on x.control) (sym of_it.0.of_it.1) ∙ f.rests_where_it_stands (tx_at w.text (h.trails t).tx) x.control p o)

@@ -7,7 +7,7 @@ use Rattle.snap_base.specs.declared.transactions.State.{State}
 use Rattle.snap_base.specs.declared.transactions.Tx.{Tx}
 use Rattle.snap_base.specs.declared.transactions.TxResult.{TxResult}
 use Rattle.protocol.specs.Fixed.{Fixed, Next, Go, Ended, tx_at, is_pact}
-use Rattle.protocol.specs.Parts.{Pact, Batch, Slot, Stage, Committing, Settled, OfBatch, OfAct, Entry, BatchEntry, ActEntry, Waiting, Outcome, Machine}
+use Rattle.protocol.specs.Parts.{Pact, Batch, Slot, Committing, Settled, OfBatch, OfAct, Entry, BatchEntry, ActEntry, Waiting, Outcome, Machine}
 use Rattle.protocol.specs.Events.{Event, Form, End, Note, Commit, Settle, Abort, Trim}
 use Rattle.protocol.specs.Words.{holds, is_value, is_formed, is_committing, names_pact, batch_of, waiting_of, outcome_of, has_act, is_entry_of, who_on}
 use Rattle.protocol.specs.Conditions.{IsAllowed, conditions}
@@ -21,11 +21,13 @@ use Rattle.protocol_laws.specs.Commits.{is_kept}
 use Rattle.protocol_laws.specs.Marks.{Marked, Known}
 use Rattle.protocol_laws.proofs.machine.MarksKept as marks
 use Rattle.protocol_laws.proofs.machine.TurnsKept.{one_is}
-use Rattle.protocol_laws.proofs.machine.ControlWalk.{AllControls, all_found}
+use Rattle.protocol_laws.proofs.machine.ControlWalk.{AllControls}
 use Rattle.protocol_laws.proofs.machine.TrailsKept.{Told}
 use Rattle.protocol_laws.proofs.machine.Resting.{NoResult, NoneNoted}
 use Rattle.protocol_laws.proofs.machine.RestsKept.{Rests, runs_undone}
 use Rattle.protocol.specs.Rests.{IsTxIn}
+use Rattle.protocol_laws.proofs.first.Lists.{all_found}
+use Rattle.protocol_laws.proofs.first.Statuses.{committing_not_formed, if_bid}
 
 abbrev pub has_results : List Pact → Bool
 has_results ps = list_all (λ p. is_some p.result) ps
@@ -59,11 +61,6 @@ same v f c b p q e h n = by v e
 held_of : (p : Batch → Bool) (k j : ℕ) (b : Batch) (bs : List Batch) → batch_of j bs ≡ Some b → holds p (batch_of k bs) ≡ true → k ≡ j → p b ≡ true
 held_of p k j b bs e h q = subst (λ o. holds p o ≡ true) (ap (λ z. batch_of z bs) q ∙ e) h
 
-committing_only : (st : Stage) → is_committing st ≡ true → is_formed st ≡ false
-committing_only Committing e = refl
-committing_only Settled e = refl
-committing_only _ e = absurd (true≢false (sym e))
-
 pub valued_kept : {C : Type 0} (w : Fixed C) (e : Event) (s : Machine C) → IsAllowed w e s → Valued s → Valued (after w e s)
 unfolding Valued conditions after
 valued_kept w (Form k) s ok h j b e n = elim (marks.found_more j b _ s.desk.batches e) [ inl q ↦ h j b q n | inr q ↦ absurd (true≢false (ap (λ z. is_formed z.stage) q.1 ∙ n)) ]
@@ -81,11 +78,11 @@ valued_kept {C} w (End t a) s ok h j b e n = by (has_act t (cell_at s a).entries
     by true o e = h j b e n
     by false None e = h j b e n
     by false (Some x) e = next x.next e
-valued_kept w (Note k a) s ok h j b e n = let g = marks.found_mapped _ (λ b. marks.if_bid (b.bid == k) (desk.marked a desk.is_noted) b refl) j b s.desk.batches e in same (g.0.bid == k) (desk.marked a desk.is_noted) g.0 b refl refl g.2 (h j g.0 g.1) n
-valued_kept w (Trim k a) s ok h j b e n = let g = marks.found_mapped _ (λ b. marks.if_bid (b.bid == k) (desk.marked a desk.is_trimmed) b refl) j b s.desk.batches e in same (g.0.bid == k) (desk.marked a desk.is_trimmed) g.0 b refl refl g.2 (h j g.0 g.1) n
+valued_kept w (Note k a) s ok h j b e n = let g = marks.found_mapped _ (λ b. if_bid (b.bid == k) (desk.marked a desk.is_noted) b refl) j b s.desk.batches e in same (g.0.bid == k) (desk.marked a desk.is_noted) g.0 b refl refl g.2 (h j g.0 g.1) n
+valued_kept w (Trim k a) s ok h j b e n = let g = marks.found_mapped _ (λ b. if_bid (b.bid == k) (desk.marked a desk.is_trimmed) b refl) j b s.desk.batches e in same (g.0.bid == k) (desk.marked a desk.is_trimmed) g.0 b refl refl g.2 (h j g.0 g.1) n
 valued_kept w (Abort k) s ok h j b e n = let g = marks.found_mapped (desk.taken k) (λ b. refl) j b s.desk.batches e in subst (λ z. has_results z.pacts ≡ true) g.2 (h j g.0 g.1 (ap (λ z. is_formed z.stage) g.2 ∙ n))
 valued_kept w (Commit k) s ok h j b e n =
-    let g = marks.found_mapped _ (λ b. marks.if_bid (b.bid == k) (desk.with_stage Committing) b refl) j b s.desk.batches e in
+    let g = marks.found_mapped _ (λ b. if_bid (b.bid == k) (desk.with_stage Committing) b refl) j b s.desk.batches e in
     let i = eqb-true g.0.bid j (marks.found_bid j g.0 s.desk.batches g.1) in
     by (g.0.bid == k) g.0 refl g.1 g.2 i
   where
@@ -93,12 +90,12 @@ valued_kept w (Commit k) s ok h j b e n =
     by true c q f x i = subst (λ z. has_results z.pacts ≡ true) x (values c.pacts (held_of (λ b. list_all (λ p. is_value p.result) b.pacts) k j c s.desk.batches f ok.1.0 (sym (eqb-true c.bid k q) ∙ i)))
     by false c q f x i = subst (λ z. has_results z.pacts ≡ true) x (h j c f (ap (λ z. is_formed z.stage) x ∙ n))
 valued_kept w (Settle k) s ok h j b e n =
-    let g = marks.found_mapped _ (λ b. marks.if_bid (b.bid == k) (desk.with_stage Settled) b refl) j b s.desk.batches e in
+    let g = marks.found_mapped _ (λ b. if_bid (b.bid == k) (desk.with_stage Settled) b refl) j b s.desk.batches e in
     let i = eqb-true g.0.bid j (marks.found_bid j g.0 s.desk.batches g.1) in
     by (g.0.bid == k) g.0 refl g.1 g.2 i
   where
     by : (v : Bool) (c : Batch) → (c.bid == k) ≡ v → batch_of j s.desk.batches ≡ Some c → desk.change_if v (desk.with_stage Settled) c ≡ b → c.bid ≡ j → has_results b.pacts ≡ true
-    by true c q f x i = subst (λ z. has_results z.pacts ≡ true) x (h j c f (committing_only c.stage (and_parts (is_committing c.stage) (not c.aborted) (held_of (λ b. is_committing b.stage && not b.aborted) k j c s.desk.batches f ok.0 (sym (eqb-true c.bid k q) ∙ i))).0))
+    by true c q f x i = subst (λ z. has_results z.pacts ≡ true) x (h j c f (committing_not_formed c.stage (and_parts (is_committing c.stage) (not c.aborted) (held_of (λ b. is_committing b.stage && not b.aborted) k j c s.desk.batches f ok.0 (sym (eqb-true c.bid k q) ∙ i))).0))
     by false c q f x i = subst (λ z. has_results z.pacts ≡ true) x (h j c f (ap (λ z. is_formed z.stage) x ∙ n))
 valued_kept w e s ok h j b q n = h j b q n
 
@@ -111,7 +108,7 @@ has_one t (p ∷ ps) e h g =
     elim (or_cases (p.tid == t) (list_any (λ p. p.tid == t) ps) e) [ inl v ↦ true≢false (sym q.0 ∙ ap is_some (g.0 (eqb-true p.tid t v))) | inr v ↦ has_one t ps v q.1 g.1 ]
 
 found_all : (P : Batch → Type 0) (k : ℕ) (b : Batch) (bs : List Batch) → batch_of k bs ≡ Some b → AllByRecursion P bs → P b
-found_all P k b bs e h = (all_found P (λ b. b.bid == k) b bs e h).0
+found_all P k b bs e h = (all_found P (λ b. b.bid == k) bs b h e).0
 
 -- its batch did not commit
 pub batch_not_kept : {C : Type 0} (s : Machine C) (h : History) (t k : ℕ) → Known s h → Marked s h → Valued s → NoResult t s.desk.batches → is_pact_of t k s.desk.batches ≡ true → is_kept (OfBatch k) h.kept ≡ false
@@ -144,5 +141,5 @@ pub pact_runs : {C : Type 0} (w : Fixed C) (Of : Tx → C → Type 0) (finish : 
     → ((e : Entry) → find (is_entry_of t) (cell_at s a).entries ≡ Some e → NotDone t e) × (is_kept (who_on t (cell_at s a).entries) h.kept ≡ false)
 pact_runs w Of finish t a s h x f e p told rests none n m v d own =
     let u = runs_undone w Of finish t a s h x f e p told rests in
-    let q = all_found (λ x. NoneNoted s x.tid (Go a x.control)) (λ x. x.tid == t) x (cell_at s a).inbox e (none.inboxes a) in
-    (λ y g. (all_found (NotDone t) (is_entry_of t) y (cell_at s a).entries g u).0, entry_not_kept s h t a (cell_at s a).entries n m v (subst (λ z. NoResult z s.desk.batches) (eqb-true x.tid t q.1) q.0) (d.entries a) own)
+    let q = all_found (λ x. NoneNoted s x.tid (Go a x.control)) (λ x. x.tid == t) (cell_at s a).inbox x (none.inboxes a) e in
+    (λ y g. (all_found (NotDone t) (is_entry_of t) (cell_at s a).entries y u g).0, entry_not_kept s h t a (cell_at s a).entries n m v (subst (λ z. NoResult z s.desk.batches) (eqb-true x.tid t q.1) q.0) (d.entries a) own)

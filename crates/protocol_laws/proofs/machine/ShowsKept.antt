@@ -22,14 +22,13 @@ use Rattle.protocol_laws.specs.FromDesk.{is_declared, MessageOf, FromDesk}
 use Rattle.protocol_laws.specs.Rising.{visits, visitors, number_of, OpenAbove}
 use Rattle.protocol_laws.specs.Highs.{TakenAlong, is_above_or_aborted, StandsBelow, Shows}
 use Rattle.protocol_laws.proofs.machine.DecidedStays.{is_fixed, Spared, stays_decided}
-use Rattle.protocol_laws.proofs.first.CellEpochs as cells
 use Rattle.protocol_laws.proofs.first.SettlingKept as settling
 use Rattle.protocol_laws.proofs.machine.TracksKept.{beside, beside_same, in_range, arrives}
 use Rattle.protocol_laws.proofs.machine.TurnsKept.{one_is, Turned}
 use Rattle.protocol_laws.proofs.machine.CommitsKept.{MayDecide, Committed}
 use Rattle.protocol_laws.proofs.machine.PlaceLists
 use Rattle.protocol_laws.proofs.machine.ShowLists
-use Rattle.protocol_laws.proofs.first.Lists.{all_join, all_filter, both_all, weaker, filter_join}
+use Rattle.protocol_laws.proofs.first.Lists.{all_filter, all_found, all_join, both_all, filter_join, weaker}
 
 -- ---- what committed is told
 
@@ -298,7 +297,7 @@ open_or w s h n k test st m o d f =
       | inr a ↦
           let unaborted : b.0.aborted ≡ false = st.marked (settling.key_of b.0) i.0 ∙ subst (λ z. is_aborted z s.book.cascades ≡ false) (sym e) a in
           let opened : is_open b.0 ≡ true = and_from (is_formed b.0.stage) (not b.0.aborted) formed (rw unaborted refl) in
-          or_right (is_aborted k s.book.cascades) (nat_le n k) (le-leb n k (omega (arith, e, (cells.all_found (λ b. is_open b ≡ true → n < b.bid) (λ b. b.bid == k) b.0 s.desk.batches b.1 o).0 opened)))
+          or_right (is_aborted k s.book.cascades) (nat_le n k) (le-leb n k (omega (arith, e, (all_found (λ b. is_open b ≡ true → n < b.bid) (λ b. b.bid == k) s.desk.batches b.0 o b.1).0 opened)))
     ]
   where
     not_not : (b : Bool) → not b ≡ false → b ≡ true
@@ -311,7 +310,7 @@ arrives_declared {C} k a s d v = by (sub_of k a s.post.subs) refl v
     by : (o : Option SubBatch) → sub_of k a s.post.subs ≡ o → is_some o ≡ true → is_declared k a s.desk.batches ≡ true
     by None e q = absurd (true≢false (sym q))
     by (Some x) e q =
-        let f = cells.all_found (MessageOf s.desk.batches) (λ y. (y.bid == k) && (y.actor == a)) x s.post.subs e d.subs in
+        let f = all_found (MessageOf s.desk.batches) (λ y. (y.bid == k) && (y.actor == a)) s.post.subs x d.subs e in
         let v = and_parts (x.bid == k) (x.actor == a) f.1 in
         subst (λ z. is_declared z a s.desk.batches ≡ true) (eqb-true x.bid k v.0) (subst (λ z. is_declared x.bid z s.desk.batches ≡ true) (eqb-true x.actor a v.1) f.0.declared)
 
@@ -348,7 +347,7 @@ shows_kept w (Arrive k a) s h ok o n b m p g =
     (λ d q x. show_batch s.book.cascades (cell_at s a).floor (number_of d) k d.who (h.long a) (open_or w s h (number_of d) k (λ b. is_some (declared_of a b)) b.settles b.marked q.1.1 (arrives_declared k a s b.from_desk ok.0) n) x)) g
 shows_kept w (Ask t a) s h ok o n b m p g =
     beside (ShowsOn s.book.cascades h.committed) s.cells a _ _ h.long (in_range _ s.cells a ok.1.1.0)
-    (weaker (λ d. Shows s.book.cascades (cell_at s a).floor (number_of d) d.who (h.long a)) _ (visitors a h.committed) (λ d x. show_act s.book.cascades (cell_at s a).floor (number_of d) t (book.in_the_way t (cell_at s a)) d.who (h.long a) x)) g
+    (weaker (λ d. Shows s.book.cascades (cell_at s a).floor (number_of d) d.who (h.long a)) _ (visitors a h.committed) (λ d x. show_act s.book.cascades (cell_at s a).floor (number_of d) t (book.in_the_way t (cell_at s a).entries) d.who (h.long a) x)) g
 shows_kept w (Take t a) s h ok o n b m p g = beside_same (ShowsOn s.book.cascades h.committed) s.cells a _ h.long (in_range _ s.cells a ok.1.0) (λ x. x) g
 shows_kept w (Run t a) s h ok o n b m p g =
     beside (ShowsOn s.book.cascades h.committed) s.cells a _ _ h.long (in_range _ s.cells a ok.0)

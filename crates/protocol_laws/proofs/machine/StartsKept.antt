@@ -263,7 +263,7 @@ ask t a (Some older) m xs rs h k g = rw (append-nil xs, append-nil rs) g
 pub kept : {C : Type 0} (w : Fixed C) (e : Event) (s : Machine C) (h : History) → IsAllowed w e s → ((t a : ℕ) → e ≡ Finish t a → a < length s.cells) → ((k a : ℕ) → e ≡ Trim k a → a < length s.cells) → Acts s h → Numbers s h → Tracked w s h → FromDesk s → Started s h → Started (after w e s) (grown w e s h)
 unfolding Started Tracked conditions after grown
 kept w (Arrive k a) s h ok x y i n t d g = beside At s.cells a _ _ h.long (arrives (epoch s.book) a _ s.cells (Rattle.protocol.specs.Words.sub_of k a s.post.subs) ok.1.1.0) (more_batch (cell_at s a).inbox k (h.long a)) g
-kept w (Ask u a) s h ok x y i n t d g = beside At s.cells a _ _ h.long (in_range _ s.cells a ok.1.1.0) (λ z. ask u a (book.in_the_way u (cell_at s a)) (control_of u s.post.controls) (cell_at s a).inbox (h.long a) ok.0 (λ m e. control_tid u m s.post.controls e) z) g
+kept w (Ask u a) s h ok x y i n t d g = beside At s.cells a _ _ h.long (in_range _ s.cells a ok.1.1.0) (λ z. ask u a (book.in_the_way u (cell_at s a).entries) (control_of u s.post.controls) (cell_at s a).inbox (h.long a) ok.0 (λ m e. control_tid u m s.post.controls e) z) g
 kept w (Take u a) s h ok x y i n t d g = beside_same At s.cells a _ h.long (in_range _ s.cells a ok.1.0) (more_in (cell_at s a).inbox _ (h.long a)) g
 kept w (Run u a) s h ok x y i n t d g = beside At s.cells a _ _ h.long (in_range _ s.cells a ok.0) (λ z. ran (cell_at s a).inbox u _ _ (h.long a) (λ e. who_is_act u a s.desk.batches (cell_at s a).entries (no_pact s h u a i n e) (d.entries a)) z) g
 kept w (Send u a) s h ok x y i n t d g = beside_same At s.cells a _ h.long (in_range _ s.cells a ok.0) (λ z. z) g

@@ -12,6 +12,7 @@ use Rattle.protocol.specs.OnCell as cell
 use Rattle.protocol.specs.OnCell.{is_cut, with_image, is_entry_among, state_from}
 use Rattle.protocol.specs.History.{Slice, Ran, Stands, Gone, not_run, ran_in, completed, left_for_good, without_standing, long_staying}
 use Rattle.protocol_laws.specs.Tracks.{Key, key_of, keys_in, is_key_among, Differ, slices_in, first_image, images_in, Linked, InOrder, Tracks, NoneGone, CutIsEnd}
+use Rattle.protocol_laws.proofs.first.Lists.{filter_join}
 
 -- ---- who
 
@@ -278,14 +279,6 @@ slices_left who (Stands y c ss ∷ rs) = by (is_who y who) (slices_left who rs)
     by false h = rw h refl
 slices_left who (Gone y ss ∷ rs) = rw (slices_left who rs) refl
 
-filter_join : {X : Type 0} (p : X → Bool) (xs ys : List X) → filter p (xs ++ ys) ≡ filter p xs ++ filter p ys
-filter_join p [] ys = refl
-filter_join p (x ∷ xs) ys = by (p x) (filter_join p xs ys)
-  where
-    by : (b : Bool) → filter p (xs ++ ys) ≡ filter p xs ++ filter p ys → (if b then x ∷ filter p (xs ++ ys) else filter p (xs ++ ys)) ≡ (if b then x ∷ filter p xs else filter p xs) ++ filter p ys
-    by true h = rw h refl
-    by false h = h
-
 -- the image of one who leaves goes, any other stays
 own_image : (who y : Who) (b : Bool) (ss : List Slice) → is_who y who ≡ b → images_without who (first_image y ss) ≡ (if b then [] else first_image y ss)
 own_image who y true [] e = refl
@@ -348,7 +341,7 @@ top_among who (k ∷ ks) (inr h) = rw (top_among who ks h.1) (by (is_who k.who w
     by true = refl
     by false = refl
 
-no_slices_no_images : (rs : List Ran) → slices_in rs ≡ [] → images_in rs ≡ []
+pub no_slices_no_images : (rs : List Ran) → slices_in rs ≡ [] → images_in rs ≡ []
 no_slices_no_images [] h = refl
 no_slices_no_images (Stands y c [] ∷ rs) h = no_slices_no_images rs h
 no_slices_no_images (Stands y c (x ∷ xs) ∷ rs) h = absurd (cc h)
@@ -440,7 +433,7 @@ acts_not_complete t [] = tt
 acts_not_complete t (BatchEntry b ∷ es) = (λ q. absurd (true≢false (sym q)), acts_not_complete t es)
 acts_not_complete t (ActEntry x ∷ es) = (λ q. refl, acts_not_complete t es)
 
-without_nothing : (who : Who) (rs : List Ran) → slices_in rs ≡ [] → slices_in (without_standing who rs) ≡ []
+pub without_nothing : (who : Who) (rs : List Ran) → slices_in rs ≡ [] → slices_in (without_standing who rs) ≡ []
 without_nothing who [] h = refl
 without_nothing who (Stands y c [] ∷ rs) h = by (is_who y who) (without_nothing who rs h)
   where
@@ -470,7 +463,7 @@ order_undone who (Stands y c ss ∷ rs) h = by (is_who y who) (order_undone who 
     by false g = (λ e. without_nothing who rs (h.0 e), g)
 order_undone who (Gone y ss ∷ rs) h = order_undone who rs h
 
-image_past : (who y : Who) (ss : List Slice) (is : List Image) → is_who y who ≡ false → image_of who (first_image y ss ++ is) ≡ image_of who is
+pub image_past : (who y : Who) (ss : List Slice) (is : List Image) → is_who y who ≡ false → image_of who (first_image y ss ++ is) ≡ image_of who is
 image_past who y [] is e = refl
 image_past who y (x ∷ xs) is e = rw (is_who_sym who y, e) refl
 

@@ -146,7 +146,7 @@ unfolding Tracked Assumed conditions after grown
 kept w (Arrive k a) s h ok more g =
     beside (At w) s.cells a _ _ h.long (arrives (epoch s.book) a (λ c. c.epoch == epoch s.book) s.cells (sub_of k a s.post.subs) ok.1.1.0) (arrive w k a (sub_of k a s.post.subs) (cell_at s a) (h.long a) ok.0 more) g
 kept w (Ask t a) s h ok more g =
-    beside (At w) s.cells a _ _ h.long (in_range _ s.cells a ok.1.1.0) (ask w t a (book.in_the_way t (cell_at s a)) (control_of t s.post.controls) (cell_at s a) (h.long a) (held (λ c. not (has_act t c.entries)) s.cells a no_cell ok.1.1.0)) g
+    beside (At w) s.cells a _ _ h.long (in_range _ s.cells a ok.1.1.0) (ask w t a (book.in_the_way t (cell_at s a).entries) (control_of t s.post.controls) (cell_at s a) (h.long a) (held (λ c. not (has_act t c.entries)) s.cells a no_cell ok.1.1.0)) g
 kept w (Take t a) s h ok more g = beside_same (At w) s.cells a _ h.long (in_range _ s.cells a ok.1.0) (λ x. x) g
 kept w (Run t a) s h ok more g =
     beside (At w) s.cells a _ _ h.long (in_range _ s.cells a ok.0) (run w t a (cell_at s a) (h.long a) (held (λ c. is_clear t c.entries) s.cells a no_cell ok.1.0) more) g

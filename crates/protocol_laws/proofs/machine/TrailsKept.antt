@@ -27,7 +27,7 @@ use Rattle.protocol_laws.proofs.machine.CommitLists.{PactsAscend}
 use Rattle.protocol_laws.proofs.machine.TracksKept.{held}
 use Rattle.protocol.specs.Rests.{IsTxIn}
 use Rattle.protocol_laws.proofs.machine.QueuedText.{IsThere, Queued, is_in, next_there, act_there}
-use Rattle.protocol_laws.proofs.first.Lists.{all_get}
+use Rattle.protocol_laws.proofs.first.Lists.{all_found, all_get}
 
 -- ---- walks
 
@@ -140,7 +140,7 @@ kept {C} w Of finish (Run t a) s h text l f ok queued one g = by (waiting_of t (
     by : (o : Option (Waiting C)) → waiting_of t (cell_at s a).inbox ≡ o → is_some o ≡ true → AllControls (Told w Of finish (grown w (Run t a) s h)) (after w (Run t a) s)
     by None e q = absurd (true≢false (sym q))
     by (Some x) e q =
-        let own = ControlWalk.all_found (λ x. Told w Of finish h x.tid (Go a x.control)) (λ x. x.tid == t) x (cell_at s a).inbox e (g.inboxes a) in
+        let own = all_found (λ x. Told w Of finish h x.tid (Go a x.control)) (λ x. x.tid == t) (cell_at s a).inbox x (g.inboxes a) e in
         let i : x.tid ≡ t = eqb-true x.tid t own.1 in
         ControlWalk.run_moves w t a s x (Told w Of finish h) (Told w Of finish (grown w (Run t a) s h)) (at_most_one t s one) e
         (λ u n d p. subst (λ z. Explained w Of finish z u n) (sym (rw (ne_eqb u t d) refl)) p)

@@ -13,14 +13,7 @@ use Rattle.protocol_laws.specs.Tracks.{key_of, keys_in, is_key_among, Differ}
 use Rattle.protocol_laws.specs.Turns.{Rising, TurnOf, Turns, NotDone}
 use Rattle.protocol_laws.proofs.machine.TrackLists
 use Rattle.protocol_laws.proofs.machine.TrackLists.{is_who_true, is_who_refl, is_who_sym}
-
-all_two : {X : Type 0} (P Q : X → Type 0) (xs : List X) → ((x : X) → P x → Q x) → AllByRecursion P xs → AllByRecursion Q xs
-all_two P Q [] k h = tt
-all_two P Q (x ∷ xs) k h = (k x h.0, all_two P Q xs k h.1)
-
-all_map : {X : Type 0} (P : X → Type 0) (f : X → X) (xs : List X) → ((x : X) → P x → P (f x)) → AllByRecursion P xs → AllByRecursion P (map f xs)
-all_map P f [] k h = tt
-all_map P f (x ∷ xs) k h = (k x h.0, all_map P f xs k h.1)
+use Rattle.protocol_laws.proofs.first.Lists.{all_map, weaker}
 
 all_end : {X : Type 0} (P : X → Type 0) (xs : List X) (y : X) → AllByRecursion P xs → P y → AllByRecursion P (xs ++ y ∷ [])
 all_end P [] y h k = (k, tt)
@@ -46,7 +39,7 @@ names_done t u [] = refl
 names_done t u (s ∷ ss) = ap (λ z. (s.tid == u) || z) (names_done t u ss)
 
 turn_done : (t : ℕ) (e : Entry) (ss : List Slice) → TurnOf e ss → TurnOf (cell.done_in t e) ss
-turn_done t (BatchEntry b) ss h = (h.0, all_two _ _ ss (λ x p. (names_done t x.tid b.slots ∙ p.0, all_map _ (cell.done_if t) b.slots (λ s q l. rw (q l) refl) p.1)) h.1, λ q. all_map _ (cell.done_if t) b.slots (λ s d. rw d refl) (h.2 q))
+turn_done t (BatchEntry b) ss h = (h.0, weaker _ _ ss (λ x p. (names_done t x.tid b.slots ∙ p.0, all_map _ _ (cell.done_if t) b.slots (λ s q l. rw (q l) refl) p.1)) h.1, λ q. all_map _ _ (cell.done_if t) b.slots (λ s d. rw d refl) (h.2 q))
 turn_done t (ActEntry x) ss h = h
 
 pub done : (t : ℕ) (rs : List Ran) (es : List Entry) → Turns rs es → Turns rs (map (cell.done_in t) es)
@@ -172,7 +165,7 @@ turns_past t (s ∷ ss) h =
 
 turn_runs : (t : ℕ) (e : Entry) (ss : List Slice) (x : Slice) → x.tid ≡ t → is_entry_of t e ≡ true → is_turn_of t e ≡ true → NotDone t e → TurnOf e ss → TurnOf e (ss ++ x ∷ [])
 turn_runs t (BatchEntry b) ss x i o c n h =
-    (rising_end 0 ss x (omega arith) (all_two _ _ ss (λ z p. omega (arith, i, not_past t z.tid b.slots o n p.1)) h.1) h.0, all_end _ ss x h.1 (rw i (o, turns_past t b.slots c)), h.2)
+    (rising_end 0 ss x (omega arith) (weaker _ _ ss (λ z p. omega (arith, i, not_past t z.tid b.slots o n p.1)) h.1) h.0, all_end _ ss x h.1 (rw i (o, turns_past t b.slots c)), h.2)
 turn_runs t (ActEntry y) ss x i o c n h = all_end _ ss x h (i ∙ sym (eqb-true y.tid t o))
 
 among_turns : (who : Who) (rs : List Ran) (es : List Entry) → Turns rs es → is_key_among who (keys_in rs) ≡ is_key_among who (map key_of es)

@@ -71,7 +71,7 @@ finish t false es long h = TurnLists.leave (OfAct t) (is_act_entry t) long es (i
 pub kept : {C : Type 0} (w : Fixed C) (e : Event) (s : Machine C) (h : History) → IsAllowed w e s → Assumed e s → ((a : ℕ) → Differ (map key_of (cell_at s a).entries)) → Turned s h → Turned (after w e s) (grown w e s h)
 unfolding Turned Assumed conditions after grown
 kept w (Arrive k a) s h ok more d g = beside At s.cells a _ _ h.long (arrives (epoch s.book) a (λ c. c.epoch == epoch s.book) s.cells (sub_of k a s.post.subs) ok.1.1.0) (arrive k a (sub_of k a s.post.subs) (cell_at s a) (h.long a) ok.0) g
-kept w (Ask t a) s h ok more d g = beside At s.cells a _ _ h.long (in_range _ s.cells a ok.1.1.0) (ask t (book.in_the_way t (cell_at s a)) (cell_at s a).entries (h.long a)) g
+kept w (Ask t a) s h ok more d g = beside At s.cells a _ _ h.long (in_range _ s.cells a ok.1.1.0) (ask t (book.in_the_way t (cell_at s a).entries) (cell_at s a).entries (h.long a)) g
 kept w (Take t a) s h ok more d g = beside_same At s.cells a _ h.long (in_range _ s.cells a ok.1.0) (λ x. x) g
 kept w (Run t a) s h ok more d g =
     beside At s.cells a _ _ h.long (in_range _ s.cells a ok.0) (run w t a (cell_at s a) (h.long a) (record { tid = t; found = (cell_at s a).state; left = (cell.slice_run w.code t a (cell_at s a)).state }) refl (held (λ c. holds (is_turn_of t) (find (is_entry_of t) c.entries)) s.cells a no_cell ok.1.1.0) more (d a)) g

@@ -52,7 +52,7 @@ kept w (Arrive k a) s h ok n p g =
     beside (At s) s.cells a _ _ h.placed (arrives (epoch s.book) a (λ c. c.epoch == epoch s.book) s.cells (sub_of k a s.post.subs) ok.1.1.0)
     (λ x. all_join _ (h.placed a) _ (weaker _ _ (h.placed a) (λ y i. changes _ _ s.book.cascades s.book.cascades _ _ _ k y (λ j q. record { formed = q.formed; earlier = q.earlier; is_last = λ e. omega (arith, q.is_last e, m.behind) }) i) x)
     (record { formed = m.formed; earlier = omega (arith, m.own); is_last = λ e. omega arith }, tt)) g
-kept w (Ask t a) s h ok n p g = beside (At s) s.cells a _ _ h.placed (in_range _ s.cells a ok.1.1.0) (ask s t a (book.in_the_way t (cell_at s a)) (cell_at s a) (h.placed a)) g
+kept w (Ask t a) s h ok n p g = beside (At s) s.cells a _ _ h.placed (in_range _ s.cells a ok.1.1.0) (ask s t a (book.in_the_way t (cell_at s a).entries) (cell_at s a) (h.placed a)) g
 kept w (Take t a) s h ok n p g = one_cell (λ b c. At s b c (h.placed b)) s.cells a _ (λ x. x) g
 kept w (Run t a) s h ok n p g = one_cell (λ b c. At s b c (h.placed b)) s.cells a _ (λ x. x) g
 kept w (Send t a) s h ok n p g = one_cell (λ b c. At s b c (h.placed b)) s.cells a _ (λ x. x) g

@@ -13,20 +13,9 @@ use Rattle.protocol_laws.specs.Commits.{is_kept}
 use Rattle.protocol_laws.specs.Linked.{came_to, visitors}
 use Rattle.protocol_laws.specs.Placed.{is_placed, PlacedOnce, InOrderOf, has_done, is_done_at, DoneFront, walk, ChainIs}
 use Rattle.protocol_laws.proofs.machine.TrackLists.{is_who_true, is_who_sym, keys_without, keys_staying, key_completed}
-use Rattle.protocol_laws.proofs.first.Lists.{filter_join, join_assoc, join_nil}
+use Rattle.protocol_laws.proofs.first.Lists.{any_front, any_join, filter_join, join_assoc, join_nil}
 
 -- ---- tests over lists
-
-any_join : {X : Type 0} (p : X → Bool) (xs ys : List X) → list_any p (xs ++ ys) ≡ true → (list_any p xs ≡ true) ⊎ (list_any p ys ≡ true)
-any_join p [] ys h = inr h
-any_join p (x ∷ xs) ys h = elim (or_cases (p x) (list_any p (xs ++ ys)) h) [
-  | inl q ↦ inl (or_left (p x) (list_any p xs) q)
-  | inr q ↦ elim (any_join p xs ys q) [ inl r ↦ inl (or_right (p x) (list_any p xs) r) | inr r ↦ inr r ]
-]
-
-any_front : {X : Type 0} (p : X → Bool) (xs ys : List X) → list_any p xs ≡ true → list_any p (xs ++ ys) ≡ true
-any_front p [] ys h = absurd (true≢false (sym h))
-any_front p (x ∷ xs) ys h = elim (or_cases (p x) (list_any p xs) h) [ inl q ↦ or_left (p x) _ q | inr q ↦ or_right (p x) _ (any_front p xs ys q) ]
 
 none_filtered : {X : Type 0} (p : X → Bool) (xs : List X) → list_any p xs ≡ false → filter p xs ≡ []
 none_filtered p [] h = refl
@@ -66,10 +55,6 @@ one_more k (y ∷ ys) [] h = inr (one_more k ys [] (nothing ys))
     nothing (y ∷ ys) = tt
 one_more k (y ∷ ys) (x ∷ xs) (inl h) = inl (h.0, one_more k ys xs h.1)
 one_more k (y ∷ ys) (x ∷ xs) (inr h) = inr (one_more k ys (x ∷ xs) h)
-
-no_keys : (ys : List Who) → InOrderOf ys []
-no_keys [] = tt
-no_keys (y ∷ ys) = tt
 
 fewer_without : (v : Who) (ys : List Who) (ks : List Key) → InOrderOf ys ks → InOrderOf ys (keys_without v ks)
 fewer_without v [] [] h = h

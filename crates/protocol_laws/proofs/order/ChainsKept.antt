@@ -249,9 +249,9 @@ kept w (Arrive k a) s h ok o l am st p tr n g = record {
 }
 kept w (Ask u a) s h ok o l am st p tr n g = record {
   over = all_over w (Ask u a) s _ h.kept h.committed ok (omega arith) g.over;
-  drawn = beside_carried (λ b ys. AllByRecursion (IsDrawn s.ring.next_tid) ys) a _ h.placed (drawn (book.in_the_way u (cell_at s a))) g.drawn;
-  stands = λ t b q i. beside_two (λ b ys rs. StandsAt s.book.acts b ys rs) a _ _ h.placed h.long (stands (book.in_the_way u (cell_at s a))) (λ b t v j. g.stands t b v j) b t (elim (act_was w (Ask u a) s t q) [ inl v ↦ v | inr v ↦ absurd v ]) i;
-  chains = beside_two (λ b ys rs. ChainIs b h.kept h.committed ys (keys_in rs)) a _ _ h.placed h.long (chains (book.in_the_way u (cell_at s a))) g.chains;
+  drawn = beside_carried (λ b ys. AllByRecursion (IsDrawn s.ring.next_tid) ys) a _ h.placed (drawn (book.in_the_way u (cell_at s a).entries)) g.drawn;
+  stands = λ t b q i. beside_two (λ b ys rs. StandsAt s.book.acts b ys rs) a _ _ h.placed h.long (stands (book.in_the_way u (cell_at s a).entries)) (λ b t v j. g.stands t b v j) b t (elim (act_was w (Ask u a) s t q) [ inl v ↦ v | inr v ↦ absurd v ]) i;
+  chains = beside_two (λ b ys rs. ChainIs b h.kept h.committed ys (keys_in rs)) a _ _ h.placed h.long (chains (book.in_the_way u (cell_at s a).entries)) g.chains;
 }
   where
     low : u < s.ring.next_tid

@@ -13,15 +13,12 @@ use Rattle.protocol.specs.Effects.{after}
 use Rattle.protocol.specs.Runs.{opening, new_cell, IsRun, reached}
 use Rattle.protocol.specs.History.{History, no_history, history, grown}
 use Rattle.protocol_laws.specs.Order.{OrderFacts, QuietFacts, OrderStands, OrderHolds}
-use Rattle.protocol_laws.proofs.first.PairsFound.{Ascend, TidsAscend, tids_kept}
 use Rattle.protocol_laws.proofs.machine.Good.{Given}
-use Rattle.protocol_laws.proofs.machine.AllGood.{AllGood, all_good, along_good, none_allowed}
+use Rattle.protocol_laws.proofs.machine.AllGood.{AllGood, all_good, along_good, none_allowed, verdicts_say}
 use Rattle.protocol_laws.proofs.machine.Higher.{places_rise, places_differ}
-use Rattle.protocol_laws.proofs.machine.ActsTold.{ActsTold, told_kept}
 use Rattle.protocol_laws.proofs.order.ArrivesOnce.{AllPlaced}
 use Rattle.protocol_laws.proofs.order.ArrivesOnce as once
-use Rattle.protocol_laws.proofs.order.ToldKept.{PactsTold, NoPlaces, pacts_told, no_places, verdict_says}
-use Rattle.protocol_laws.proofs.order.OwedHolds.{all_acts, owed}
+use Rattle.protocol_laws.proofs.order.OwedHolds.{owed}
 use Rattle.protocol_laws.proofs.order.OrderLaw.{Ordered, Told, PlacesHold, WhenQuiet, facts, quiet_state}
 use Rattle.protocol_laws.proofs.order.OrderLaw as order
 use Rattle.protocol_laws.proofs.order.OrderImplied.{order_stands, order_holds, map_length}
@@ -31,47 +28,36 @@ use Rattle.protocol.specs.Laws.{AfterEveryRunWithHistory}
 -- ---- all of it, along a run
 
 pub record Whole {C : Type 0} (w : Fixed C) (Of : Tx → C → Type 0) (finish : C → List State → Alone) (s : Machine C) (h : History) : Type 0 where
-  pub tids : TidsAscend s
   pub once : AllPlaced s h
   pub ordered : Ordered w Of finish s h
-  pub acts : ActsTold s h
-  pub pacts : PactsTold s h
-  pub dooms : NoPlaces s
 
 pub kept : {C : Type 0} (w : Fixed C) (Of : Tx → C → Type 0) (finish : C → List State → Alone) (e : Event) (s : Machine C) (h : History) → Given w Of finish → IsAllowed w e s → AllGood w Of finish s h → Whole w Of finish s h → Whole w Of finish (after w e s) (grown w e s h)
 kept w Of finish e s h v ok g i = record {
-  tids = tids_kept w e s ok i.tids;
   once = once.kept w e s h ok g.good.agreeing g.good.placed i.once;
-  ordered = order.kept w Of finish e s h v ok (owed w Of finish e s h ok i.tids i.once g) i.ordered;
-  acts = told_kept w e s h ok g.none g.acts i.acts;
-  pacts = pacts_told w e s h ok g.good.settling g.good.none i.pacts;
-  dooms = no_places w e s ok i.dooms;
+  ordered = order.kept w Of finish e s h v ok (owed w Of finish e s h ok i.once g) g.good i.ordered;
 }
 
 pub opened : {C : Type 0} (w : Fixed C) (Of : Tx → C → Type 0) (finish : C → List State → Alone) → Given w Of finish → Whole w Of finish (opening w) no_history
-unfolding TidsAscend Ascend AllPlaced ActsTold PactsTold NoPlaces
-opened w Of finish v = record { tids = omega arith; once = λ a. tt; ordered = order.opened w Of finish v; acts = λ t x e. absurd (cc e); pacts = tt; dooms = tt }
+unfolding AllPlaced
+opened w Of finish v = record { once = λ a. tt; ordered = order.opened w Of finish v }
 
 pub whole : {C : Type 0} (w : Fixed C) (Of : Tx → C → Type 0) (finish : C → List State → Alone) (es : List Event) → Given w Of finish → IsRun w es → Whole w Of finish (reached w es) (history w es)
 whole w Of finish es v run = along_good w Of finish (Whole w Of finish) v (λ e s h ok g i. kept w Of finish e s h v ok g i) (opened w Of finish v) es run
 
 -- ---- verdicts
 
-told : {C : Type 0} (w : Fixed C) (Of : Tx → C → Type 0) (finish : C → List State → Alone) (s : Machine C) (h : History) → Whole w Of finish s h → Told s h
-unfolding TidsAscend ActsTold NoPlaces
-told w Of finish s h i =
-    let a = all_acts _ 0 s.ring.next_tid s.book.acts i.tids i.acts in
-    record {
-      told_value = λ n p v e. verdict_says n s h (verdicts.Committed p v) i.pacts a i.dooms e;
-      told_code = λ n p c e. verdict_says n s h (verdicts.Code p c) i.pacts a i.dooms e;
-    }
+told : {C : Type 0} (w : Fixed C) (Of : Tx → C → Type 0) (finish : C → List State → Alone) (es : List Event) → Given w Of finish → IsRun w es → Told (reached w es) (history w es)
+told w Of finish es v run = record {
+  told_value = λ n p x e. verdicts_say w Of finish es v run n (verdicts.Committed p x) e;
+  told_code = λ n p c e. verdicts_say w Of finish es v run n (verdicts.Code p c) e;
+}
 
 -- ---- the facts over every run
 
 pub facts_hold : {C : Type 0} (w : Fixed C) (Of : Tx → C → Type 0) (finish : C → List State → Alone) (es : List Event) → Given w Of finish → IsRun w es → OrderFacts w finish (reached w es) (history w es)
 facts_hold w Of finish es v run =
     let i = whole w Of finish es v run in
-    facts w Of finish (reached w es) (history w es) i.ordered (record { rise = λ a k. places_rise w Of finish es v run a; differ = places_differ w Of finish es v run }) (told w Of finish (reached w es) (history w es) i)
+    facts w Of finish (reached w es) (history w es) (all_good w Of finish es v run).good i.ordered (record { rise = λ a k. places_rise w Of finish es v run a; differ = places_differ w Of finish es v run }) (told w Of finish es v run)
 
 -- where there is no actor there is no event
 at_opening : {C : Type 0} (w : Fixed C) (finish : C → List State → Alone) → OrderFacts w finish (opening w) no_history

@@ -18,7 +18,7 @@ use Rattle.protocol.specs.OnPost.{next_act}
 use Rattle.protocol.specs.OnCell as cell
 use Rattle.protocol.specs.OnCell.{is_cut}
 use Rattle.protocol.specs.History.{History, Trail, Slice, Ran, Stands, Gone, grown, with_at, begun, owned_by, not_run, ran_in, completed, left_for_good, without_standing, long_staying, asks}
-use Rattle.protocol_laws.specs.Tracks.{Key, key_of, keys_in}
+use Rattle.protocol_laws.specs.Tracks.{key_of, keys_in}
 use Rattle.protocol_laws.specs.FromDesk.{is_pact_of, EntryOf}
 use Rattle.protocol_laws.proofs.first.Frames.{frame}
 use Rattle.protocol_laws.proofs.first.Lists.{all_join, weaker, all_alike, all_alike3, all_found}
@@ -219,7 +219,7 @@ kept w (Arrive k a) s h ok g = record {
 kept w (Ask t a) s h ok g = record {
   pacts = g.pacts;
   acts = same_acts s.ring.next_tid h.owners h.trails s.book.acts _ (frame w (Ask t a) s ActTids refl) (frame w (Ask t a) s ActTxs refl) g.acts;
-  standing = beside_carried (λ b rs. AllStanding (OwnsIt s.ring.next_tid h.owners) rs) a _ h.long (λ x. standing_asks _ t (book.in_the_way t (cell_at s a)) (h.long a) (act_owns s.ring.next_tid t h.owners h.trails _ s.book.acts ok.1.0 g.acts) x) g.standing;
+  standing = beside_carried (λ b rs. AllStanding (OwnsIt s.ring.next_tid h.owners) rs) a _ h.long (λ x. standing_asks _ t (book.in_the_way t (cell_at s a).entries) (h.long a) (act_owns s.ring.next_tid t h.owners h.trails _ s.book.acts ok.1.0 g.acts) x) g.standing;
 }
 kept w (Run t a) s h ok g =
     let v = leaves_run s.ring.next_tid t h.owners h.trails (Rattle.protocol.specs.History.gone_on (record { actor = a; found = (cell_at s a).state; left = (cell.slice_run w.code t a (cell_at s a)).state }) (h.trails t)) refl in
@@ -265,9 +265,6 @@ batch_owns next k t owners trails bs g h =
     among : {who : Who} (ps : List Pact) → list_any (λ p. p.tid == t) ps ≡ true → AllNamed next owners trails who (map (λ p. p.tid) ps) (map (λ p. p.tx) ps) → owners t ≡ who
     among [] q n = absurd (true≢false (sym q))
     among {who} (p ∷ ps) q n = elim (or_cases (p.tid == t) (list_any (λ p. p.tid == t) ps) q) [ inl i ↦ subst (λ z. owners z ≡ who) (eqb-true p.tid t i) n.0.owner | inr i ↦ among ps i n.1 ]
-
-abbrev pub OwnsKey : ℕ → (ℕ → Who) → Key → Type 0
-OwnsKey next owners k = OwnsIt next owners k.who
 
 pub standing_keys : (P : Who → Type 0) (rs : List Ran) → AllStanding P rs → AllByRecursion (λ k. P k.who) (keys_in rs)
 standing_keys P [] h = tt

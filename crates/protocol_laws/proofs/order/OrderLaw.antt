@@ -1,5 +1,5 @@
 -- The order of committed transactions, of every run, from what is owed at each event and at its end.
-use Rattle.std.specs.Prelude.{◌≡◌, refl, ℕ, ◌<◌, ◌≤◌, ℤ, Some, List, [], ◌∷◌, ◌++◌, length, slice_index_or}
+use Rattle.std.specs.Prelude.{◌≡◌, refl, ℕ, ◌<◌, ℤ, Some, List, [], ◌∷◌, ◌++◌, length, slice_index_or}
 use Rattle.std.specs.List.{AllByRecursion}
 use Rattle.std.proofs.Common.{sym, ap, subst, ◌∙◌}
 use Rattle.snap_base.specs.declared.transactions.State.{State}
@@ -7,24 +7,23 @@ use Rattle.snap_base.specs.declared.transactions.Tx.{Tx}
 use Rattle.snap_base.specs.declared.transactions.TxResult.TheVariants.{Value, Fail}
 use Rattle.snap_base.specs.declared.verdicts.Place.{Place}
 use Rattle.snap_base.specs.declared.verdicts.Verdict.TheVariants as verdicts
-use Rattle.protocol.specs.Fixed.{Fixed, IsText, no_state}
+use Rattle.protocol.specs.Fixed.{Fixed, no_state}
 use Rattle.protocol.specs.Facts.{Alone, state_in}
 use Rattle.protocol.specs.Parts.{Machine}
 use Rattle.protocol.specs.Events.{Event}
 use Rattle.protocol.specs.Verdicts.{verdict, ended_at}
 use Rattle.protocol.specs.Conditions.{IsAllowed}
 use Rattle.protocol.specs.Effects.{after, cell_at}
-use Rattle.protocol.specs.Runs.{opening, new_cell, state_after, EachAllowed, IsRun, IsQuiet, reached}
-use Rattle.protocol.specs.History.{Done, History, no_history, history, history_after, grown, done_batch, done_act}
+use Rattle.protocol.specs.Runs.{opening, new_cell, IsQuiet}
+use Rattle.protocol.specs.History.{Done, History, no_history, history_after, grown, done_batch, done_act}
 use Rattle.protocol.specs.Chains.{PlacesRise}
 use Rattle.protocol_laws.specs.Commits.{last_state, kept_slices}
 use Rattle.protocol_laws.specs.Tracks.{slices_in, Linked}
 use Rattle.protocol.specs.Words.{batch_of, act_of}
 use Rattle.protocol.specs.Events.{Commit, Decide}
 use Rattle.protocol_laws.specs.Linked.{visitors, PlacesDiffer}
-use Rattle.protocol_laws.specs.Order.{IsAmongDone, OrderFacts, OrderHolds}
+use Rattle.protocol_laws.specs.Order.{IsAmongDone, OrderFacts}
 use Rattle.protocol_laws.proofs.machine.Good.{Good, Given, Owed, for_chain}
-use Rattle.protocol_laws.proofs.machine.Good as good
 use Rattle.protocol_laws.proofs.machine.CommitLists.{rest_slices, in_two, linked_one}
 use Rattle.protocol_laws.proofs.machine.CommitsKept.{Committed}
 use Rattle.protocol_laws.proofs.machine.TracksKept.{Tracked}
@@ -36,9 +35,8 @@ use Rattle.protocol_laws.proofs.order.ExplainedKept.{Results, NoActResult, AllEx
 use Rattle.protocol_laws.proofs.order.ExplainedKept as explained
 use Rattle.protocol_laws.proofs.order.ChainsKept.{Chained, Owes}
 use Rattle.protocol_laws.proofs.order.ChainsKept as chains
-use Rattle.protocol_laws.proofs.order.OrderImplied.{order_holds, map_length}
+use Rattle.protocol_laws.proofs.order.OrderImplied.{map_length}
 use Rattle.protocol_laws.proofs.first.Lists.{join_nil, join_assoc}
-use Rattle.protocol.specs.Rests.{IsRest, IsTxIn, HasFacts}
 
 -- ---- what is owed at each event
 
@@ -52,50 +50,35 @@ pub record OwedAt {C : Type 0} (w : Fixed C) (e : Event) (s : Machine C) (h : Hi
   -- a batch arrives once on an actor; an ACT that asks lives; one that is decided ran wherever it stands
   pub placing : Owes e s h
 
-unfoldable pub OwedAlong : {C : Type 0} → Fixed C → List Event → Machine C → History → Type 0
-OwedAlong w [] s h = Unit {0}
-OwedAlong w (e ∷ es) s h = OwedAt w e s h × OwedAlong w es (after w e s) (grown w e s h)
-
 -- ---- all of it, along a run
 
 pub record Ordered {C : Type 0} (w : Fixed C) (Of : Tx → C → Type 0) (finish : C → List State → Alone) (s : Machine C) (h : History) : Type 0 where
-  pub good : Good w Of finish s h
   pub named : Named s h
   pub matched : Matched s h
   pub results : Results w Of finish s h
   pub explained : AllExplained w finish h
   pub chained : Chained s h
 
-pub kept : {C : Type 0} (w : Fixed C) (Of : Tx → C → Type 0) (finish : C → List State → Alone) (e : Event) (s : Machine C) (h : History) → Given w Of finish → IsAllowed w e s → OwedAt w e s h → Ordered w Of finish s h → Ordered w Of finish (after w e s) (grown w e s h)
-kept w Of finish e s h v ok o g =
-    let am = for_chain w Of finish e s h v ok o.schedules g.good in
+pub kept : {C : Type 0} (w : Fixed C) (Of : Tx → C → Type 0) (finish : C → List State → Alone) (e : Event) (s : Machine C) (h : History) → Given w Of finish → IsAllowed w e s → OwedAt w e s h → Good w Of finish s h → Ordered w Of finish s h → Ordered w Of finish (after w e s) (grown w e s h)
+kept w Of finish e s h v ok o g i =
+    let am = for_chain w Of finish e s h v ok o.schedules g in
     record {
-      good = good.kept w Of finish e s h v ok o.schedules g.good;
-      named = names.kept w e s h ok g.named;
-      matched = slices.kept w e s h ok o.live_stay g.good.settling g.good.placed g.good.tracked g.good.from_desk g.named g.matched;
-      results = explained.kept w Of finish e s h ok o.no_result g.named g.good.drawn g.good.none g.good.told g.results;
-      explained = explained.explained_kept w Of finish e s h v.facts ok am g.good.tracked g.named g.matched g.results g.explained;
-      chained = chains.kept w e s h ok o.placing o.live_stay am g.good.settling g.good.placed g.good.tracked g.named g.chained;
+      named = names.kept w e s h ok i.named;
+      matched = slices.kept w e s h ok o.live_stay g.settling g.placed g.tracked g.from_desk i.named i.matched;
+      results = explained.kept w Of finish e s h ok o.no_result i.named g.drawn g.none g.told i.results;
+      explained = explained.explained_kept w Of finish e s h v.facts ok am g.tracked i.named i.matched i.results i.explained;
+      chained = chains.kept w e s h ok o.placing o.live_stay am g.settling g.placed g.tracked i.named i.chained;
     }
 
 pub opened : {C : Type 0} (w : Fixed C) (Of : Tx → C → Type 0) (finish : C → List State → Alone) → Given w Of finish → Ordered w Of finish (opening w) no_history
 unfolding Matched AllExplained
 opened {C} w Of finish v = record {
-  good = good.opened w Of finish v;
   named = record { pacts = tt; acts = tt; standing = λ a. tt };
   matched = λ who t r a. refl;
   results = record { cells = map_length (new_cell _) w.text.opening.states; within = λ t. tt; pacts = tt; acts = tt };
   explained = tt;
   chained = record { over = tt; drawn = λ a. tt; stands = λ t a l p. absurd (Rattle.std.proofs.lemmas.Bool.true≢false (sym l)); chains = λ a. record { once = tt; in_order = tt; front = tt; chain = refl } };
 }
-
-along : {C : Type 0} (w : Fixed C) (Of : Tx → C → Type 0) (finish : C → List State → Alone) (es : List Event) (s : Machine C) (h : History) → Given w Of finish → EachAllowed w es s → OwedAlong w es s h → Ordered w Of finish s h → Ordered w Of finish (state_after w es s) (history_after w es s h)
-unfolding OwedAlong
-along w Of finish [] s h v run o g = g
-along w Of finish (e ∷ es) s h v run o g = along w Of finish es (after w e s) (grown w e s h) v run.1 o.1 (kept w Of finish e s h v run.0 o.0 g)
-
-pub ordered : {C : Type 0} (w : Fixed C) (Of : Tx → C → Type 0) (finish : C → List State → Alone) (es : List Event) → Given w Of finish → IsRun w es → OwedAlong w es (opening w) no_history → Ordered w Of finish (reached w es) (history w es)
-ordered w Of finish es v run o = along w Of finish es (opening w) no_history v run o (opened w Of finish v)
 
 -- ---- what is owed at the end
 
@@ -124,36 +107,17 @@ quiet_state w s h a t c e =
     linked_one first (cell_at s a).state (last_state a first h.committed) own (subst (λ ss. Linked first ss (cell_at s a).state) same (t a).links) (c a).ends
 
 -- The facts that imply the order.
-pub facts : {C : Type 0} (w : Fixed C) (Of : Tx → C → Type 0) (finish : C → List State → Alone) (s : Machine C) (h : History) → Ordered w Of finish s h → PlacesHold w h → Told s h → OrderFacts w finish s h
+pub facts : {C : Type 0} (w : Fixed C) (Of : Tx → C → Type 0) (finish : C → List State → Alone) (s : Machine C) (h : History) → Good w Of finish s h → Ordered w Of finish s h → PlacesHold w h → Told s h → OrderFacts w finish s h
 unfolding Committed AllExplained
-facts w Of finish s h g p t = record {
+facts w Of finish s h k g p t = record {
   explained = g.explained;
-  linked = λ a k. (g.good.committed a).links;
+  linked = λ a l. (k.committed a).links;
   rise = p.rise;
   differ = p.differ;
   chains = λ a k. (g.chained.chains a).chain;
   told_value = t.told_value;
   told_code = t.told_code;
 }
-
--- The order, from what is owed.
-pub order_after : {C : Type 0} (w : Fixed C) (Of : Tx → C → Type 0) (finish : C → List State → Alone) (es : List Event) → Given w Of finish → IsRun w es → OwedAlong w es (opening w) no_history
-    → PlacesHold w (history w es) → Told (reached w es) (history w es) → WhenQuiet w (reached w es) (history w es) → OrderHolds w finish (reached w es) (history w es)
-order_after w Of finish es v run o p t q =
-    let g = ordered w Of finish es v run o in
-    order_holds w finish (reached w es) (history w es) (facts w Of finish (reached w es) (history w es) g p t) (record {
-      cells = g.results.cells;
-      all_told = q.all_told;
-      quiet_states = λ i a k. quiet_state w (reached w es) (history w es) a g.good.tracked g.good.committed (q.all_kept i a k);
-    })
-
--- The law over every run: over code with the facts, where along each run what is owed of ACTs holds, and at its end
--- what is owed of places, verdicts and quiet states.
-pub order_of_every_run : {C : Type 0} (w : Fixed C) (finish : C → List State → Alone) (es : List Event)
-    → HasFacts w finish → IsText w.text → 1 ≤ length w.text.opening.states → IsRun w es
-    → OwedAlong w es (opening w) no_history → PlacesHold w (history w es) → Told (reached w es) (history w es) → WhenQuiet w (reached w es) (history w es)
-    → OrderHolds w finish (reached w es) (history w es)
-order_of_every_run w finish es meaning text some run o p t q = order_after w (IsRest w.code (IsTxIn w.text)) finish es (record { text = text; actors = some; facts = meaning }) run o p t q
 
 -- ---- what committed only grows, at its end
 

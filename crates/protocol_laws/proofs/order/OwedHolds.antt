@@ -1,8 +1,8 @@
 -- All that an event owes for the order holds, in every state that runs reach.
-use Rattle.std.specs.Prelude.{◌≡◌, refl, ℕ, ◌+◌, ◌==◌, Bool, true, false, ◌&&◌, ◌||◌, if◌then◌else◌, Option, Some, None, is_some, List, [], ◌∷◌, map}
+use Rattle.std.specs.Prelude.{◌≡◌, refl, ℕ, ◌==◌, Bool, true, false, ◌&&◌, ◌||◌, if◌then◌else◌, Option, Some, None, is_some, List, [], ◌∷◌}
 use Rattle.std.specs.List.{AllByRecursion}
-use Rattle.std.proofs.Common.{arith, sym, ap, subst, inl, inr, ◌∙◌}
-use Rattle.std.proofs.lemmas.Bool.{eqb-true, eq-eqb, ne_eqb, and_parts, or_cases, true≢false, false_from_ne_true}
+use Rattle.std.proofs.Common.{sym, ap, subst, inl, inr, ◌∙◌}
+use Rattle.std.proofs.lemmas.Bool.{eqb-true, eq-eqb, and_parts, or_cases, true≢false, false_from_ne_true}
 use Rattle.snap_base.specs.declared.transactions.State.{State}
 use Rattle.snap_base.specs.declared.transactions.Tx.{Tx}
 use Rattle.protocol.specs.Fixed.{Fixed}
@@ -16,8 +16,7 @@ use Rattle.protocol.specs.History.{History, Slice, Ran, Stands, Gone, slices_of,
 use Rattle.protocol_laws.specs.Tracks.{keys_in, is_key_among}
 use Rattle.protocol_laws.proofs.machine.TrackLists.{keys_going, among_going}
 use Rattle.protocol_laws.proofs.machine.TracksKept.{Tracked, held}
-use Rattle.protocol_laws.proofs.first.PairsFound.{Ascend, TidsAscend, further}
-use Rattle.protocol_laws.proofs.machine.ActsFound.{EachAct}
+use Rattle.protocol_laws.proofs.first.PairsFound.{each_act}
 use Rattle.protocol_laws.proofs.machine.ActResults as results
 use Rattle.protocol_laws.proofs.machine.BehindKept.{is_out, Behind, AllBehind}
 use Rattle.protocol_laws.proofs.machine.StartsKept.{Starts, Started}
@@ -32,19 +31,6 @@ use Rattle.protocol_laws.proofs.order.SlicesKept.{LiveStay}
 use Rattle.protocol_laws.proofs.order.RunsBefore.{lives}
 use Rattle.protocol_laws.proofs.order.ChainsKept.{Owes}
 use Rattle.protocol_laws.proofs.order.OrderLaw.{OwedAt}
-
--- ---- a fact of each ACT that is found is one of each ACT, as tids ascend
-
-pub all_acts : (P : ℕ → Act → Type 0) (low high : ℕ) (xs : List Act) → Ascend low high (map (λ x. x.tid) xs) → EachAct P xs → AllByRecursion (λ x. P x.tid x) xs
-unfolding Ascend
-all_acts P low high [] a h = tt
-all_acts P low high (x ∷ xs) a h = (h x.tid x (first (eq-eqb x.tid x.tid refl)), all_acts P (x.tid + 1) high xs a.1 (λ t y e. h t y (later t y e (ne_eqb x.tid t (λ q. omega (arith, q, further (x.tid + 1) high t xs y a.1 e))))))
-  where
-    first : (x.tid == x.tid) ≡ true → act_of x.tid (x ∷ xs) ≡ Some x
-    first e = rw e refl
-
-    later : (t : ℕ) (y : Act) → act_of t xs ≡ Some y → (x.tid == t) ≡ false → act_of t (x ∷ xs) ≡ Some y
-    later t y e q = rw q e
 
 -- ---- behind an aborted batch nobody lives
 
@@ -100,10 +86,10 @@ view_there t (x ∷ xs) a e = rw (eq-eqb x.tid t a.0) refl
 
 -- ---- all that is owed
 
-no_result : {C : Type 0} (w : Fixed C) (Of : Tx → C → Type 0) (finish : C → List State → Alone) (e : Event) (s : Machine C) (h : History) → IsAllowed w e s → TidsAscend s → AllGood w Of finish s h → NoActResult e s
-unfolding NoActResult TidsAscend conditions
-no_result w Of finish (Run t a) s h ok asc g = all_acts (λ u x. u ≡ t → x.result ≡ None) 0 s.ring.next_tid s.book.acts asc (results.waiting_none t a s (held (λ c. is_some (waiting_of t c.inbox)) s.cells a no_cell ok.0) g.none)
-no_result w Of finish e s h ok asc g = tt
+no_result : {C : Type 0} (w : Fixed C) (Of : Tx → C → Type 0) (finish : C → List State → Alone) (e : Event) (s : Machine C) (h : History) → IsAllowed w e s → AllGood w Of finish s h → NoActResult e s
+unfolding NoActResult conditions
+no_result w Of finish (Run t a) s h ok g = each_act s (λ u x. u ≡ t → x.result ≡ None) g.ascend (results.waiting_none t a s (held (λ c. is_some (waiting_of t c.inbox)) s.cells a no_cell ok.0) g.none)
+no_result w Of finish e s h ok g = tt
 
 pub live_stay : {C : Type 0} (w : Fixed C) (Of : Tx → C → Type 0) (finish : C → List State → Alone) (e : Event) (s : Machine C) (h : History) → AllGood w Of finish s h → LiveStay e s
 unfolding LiveStay Tracked AllBehind
@@ -126,12 +112,12 @@ placing w Of finish (Ask t a) s h ok once g o = asks_live w Of finish t a s h ok
 placing w Of finish (Decide t) s h ok once g o = λ a e. decide_ran w Of finish t a s h o.0 o.1 (and_parts (is_some o.0.result) (is_live_status o.0.status) (subst (λ z. holds (λ x. is_some x.result && is_live_status x.status) z ≡ true) o.1.is_it ok.0)).0 g e
 placing w Of finish e s h ok once g o = tt
 
-pub owed : {C : Type 0} (w : Fixed C) (Of : Tx → C → Type 0) (finish : C → List State → Alone) (e : Event) (s : Machine C) (h : History) → IsAllowed w e s → TidsAscend s → AllPlaced s h → AllGood w Of finish s h → OwedAt w e s h
-owed w Of finish e s h ok asc once g =
+pub owed : {C : Type 0} (w : Fixed C) (Of : Tx → C → Type 0) (finish : C → List State → Alone) (e : Event) (s : Machine C) (h : History) → IsAllowed w e s → AllPlaced s h → AllGood w Of finish s h → OwedAt w e s h
+owed w Of finish e s h ok once g =
     let o = all.owes w Of finish e s h ok g in
     record {
       schedules = o;
-      no_result = no_result w Of finish e s h ok asc g;
+      no_result = no_result w Of finish e s h ok g;
       live_stay = live_stay w Of finish e s h g;
       placing = placing w Of finish e s h ok once g o;
     }

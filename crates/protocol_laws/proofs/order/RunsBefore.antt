@@ -4,7 +4,6 @@ use Rattle.std.specs.List.{list_any}
 use Rattle.std.proofs.Common.{sym, ap, subst, inl, inr, ◌∙◌}
 use Rattle.std.proofs.lemmas.Bool.{true≢false, and_parts, and_from, eqb-true}
 use Rattle.snap_base.specs.declared.transactions.TxResult.{TxResult}
-use Rattle.snap_base.specs.declared.verdicts.Verdict.{Verdict}
 use Rattle.protocol.specs.Fixed.{Fixed, Next, Go, Ended}
 use Rattle.protocol.specs.Parts.{Act, Pact, Batch, Who, OfBatch, OfAct, Pair, Status, Live, Doomed, Decided, Sealed, Stage, Formed, Committing, Settled, Outcome, Cell, Machine}
 use Rattle.protocol.specs.Events.{Event, Form, Admit, Arrive, Ask, End, Note, Commit, Settle, Abort, Prepare, Vouch, Decide, Seal, Finish, Trim}
@@ -14,6 +13,7 @@ use Rattle.protocol.specs.Effects.{after, cell_at}
 use Rattle.protocol.specs.OnRing as ring
 use Rattle.protocol.specs.OnDesk as desk
 use Rattle.protocol.specs.OnBook as book
+use Rattle.protocol_laws.proofs.first.Statuses.{if_bid, if_tid, live_decided, live_if, live_sealed}
 
 -- ---- batches
 
@@ -40,10 +40,6 @@ batch_more q k n (b ∷ bs) h = by (b.bid == k) h (batch_more q k n bs)
         → (holds q (if v then Some b else batch_of k bs) ≡ true) ⊎ ((n.bid ≡ k) × (q n ≡ true))
     by true h r = inl h
     by false h r = r h
-
-pub if_bid : (v : Bool) (f : Batch → Batch) (b : Batch) → (f b).bid ≡ b.bid → (desk.change_if v f b).bid ≡ b.bid
-if_bid true f b h = h
-if_bid false f b h = refl
 
 pub if_open : (q : Batch → Bool) (v : Bool) (f : Batch → Batch) (b : Batch) → (q (f b) ≡ true → q b ≡ true) → q (desk.change_if v f b) ≡ true → q b ≡ true
 if_open q true f b g h = g h
@@ -123,10 +119,6 @@ act_more t n (x ∷ xs) h = by (x.tid == t) h (act_more t n xs)
     by true h r = inl h
     by false h r = r h
 
-pub if_tid : (v : Bool) (f : Act → Act) (x : Act) → (f x).tid ≡ x.tid → (book.change_if v f x).tid ≡ x.tid
-if_tid true f x h = h
-if_tid false f x h = refl
-
 if_lives : (v : Bool) (f : Act → Act) (x : Act) → (lives (f x) ≡ true → lives x ≡ true) → lives (book.change_if v f x) ≡ true → lives x ≡ true
 if_lives true f x g h = g h
 if_lives false f x g h = h
@@ -135,12 +127,8 @@ changed : (t u : ℕ) (f : Act → Act) (xs : List Act) → ((x : Act) → (f x)
 changed t u f xs i g h = act_back (λ x. book.change_if (x.tid == u) f x) (λ x. if_tid (x.tid == u) f x (i x)) (λ x. if_lives (x.tid == u) f x (g x)) t xs h
 
 -- who is not given up lives where it did
-not_given_up : (b : Bool) (v : Verdict) (s : Status) → is_live_status (if b then Doomed v else s) ≡ true → is_live_status s ≡ true
-not_given_up true v s h = absurd (true≢false (sym h))
-not_given_up false v s h = h
-
 by_order : (t a : ℕ) (xs : List Act) → holds lives (act_of t (doomed_by_order a xs)) ≡ true → holds lives (act_of t xs) ≡ true
-by_order t a xs h = act_back (crossed_out a) (λ x. refl) (λ x q. not_given_up (is_crossed x) _ x.status q) t xs h
+by_order t a xs h = act_back (crossed_out a) (λ x. refl) (λ x q. live_if (is_crossed x) _ x.status q) t xs h
 
 raised_back : (t : ℕ) (ps : List Pair) (xs : List Act) → holds lives (act_of t (raised ps xs)) ≡ true → holds lives (act_of t xs) ≡ true
 raised_back t ps [] h = h
@@ -150,22 +138,9 @@ raised_back t ps (x ∷ xs) h = by (x.tid == t) h (raised_back t ps xs)
     by true h r = h
     by false h r = r h
 
-asked_back : {C : Type 0} (u t a : ℕ) (o : Option ℕ) (c : Cell C) (b : Rattle.protocol.specs.Parts.Book) → holds lives (act_of u (book.asked_acts o (book.met t c) t a (max c.last c.floor) b)) ≡ true → holds lives (act_of u b.acts) ≡ true
-asked_back u t a (Some older) c b h = changed u t (book.doomed_by (Rattle.protocol.specs.Verdicts.died a older t)) b.acts (λ x. refl) (λ x q. not_given_up (is_live_status x.status) _ x.status q) h
+asked_back : {C : Type 0} (u t a : ℕ) (o : Option ℕ) (c : Cell C) (b : Rattle.protocol.specs.Parts.Book) → holds lives (act_of u (book.asked_acts o (book.met t c.entries) t a (max c.last c.floor) b)) ≡ true → holds lives (act_of u b.acts) ≡ true
+asked_back u t a (Some older) c b h = changed u t (book.doomed_by (Rattle.protocol.specs.Verdicts.died a older t)) b.acts (λ x. refl) (λ x q. live_if (is_live_status x.status) _ x.status q) h
 asked_back u t a None c b h = changed u t (book.joins a (max c.last c.floor)) b.acts (λ x. refl) (λ x q. q) (raised_back u _ _ (by_order u a _ h))
-
-decided_lives : (c : ℕ) (b : Bool) (s : Status) → is_live_status (book.decided_status c b s) ≡ true → is_live_status s ≡ true
-decided_lives c true Live h = refl
-decided_lives c false Live h = refl
-decided_lives c b (Doomed v) h = h
-decided_lives c b (Decided d) h = h
-decided_lives c b (Sealed d) h = h
-
-sealed_lives : (s : Status) → is_live_status (book.sealed_status s) ≡ true → is_live_status s ≡ true
-sealed_lives Live h = h
-sealed_lives (Doomed v) h = h
-sealed_lives (Decided d) h = absurd (true≢false (sym h))
-sealed_lives (Sealed d) h = h
 
 abbrev pub JustAdmitted : Event → ℕ → Type 0
 JustAdmitted (Admit u) t = u ≡ t
@@ -175,7 +150,7 @@ pub act_was : {C : Type 0} (w : Fixed C) (e : Event) (s : Machine C) (t : ℕ) �
 unfolding after
 act_was w (Admit u) s t h = act_more t _ s.book.acts h
 act_was w (Arrive k a) s t h = inl (act_back (book.lowered k (book.tids_on (cell_at s a).entries)) (λ x. refl) (λ x q. q) t s.book.acts (by_order t a _ h))
-act_was w (Ask u a) s t h = inl (asked_back t u a (book.in_the_way u (cell_at s a)) (cell_at s a) s.book h)
+act_was w (Ask u a) s t h = inl (asked_back t u a (book.in_the_way u (cell_at s a).entries) (cell_at s a) s.book h)
 act_was {C} w (End u a) s t h = inl (by (has_act u (cell_at s a).entries) (outcome_of u (cell_at s a).outbox) h)
   where
     next : (x : Next C) → holds lives (act_of t (book.noted_for u x s.book.acts)) ≡ true → holds lives (act_of t s.book.acts) ≡ true
@@ -186,10 +161,10 @@ act_was {C} w (End u a) s t h = inl (by (has_act u (cell_at s a).entries) (outco
     by false o h = h
     by true None h = h
     by true (Some x) h = next x.next h
-act_was w (Abort k) s t h = inl (act_back _ (λ x. refl) (λ x q. not_given_up (is_live_status x.status && nat_le k x.m) _ x.status q) t s.book.acts h)
+act_was w (Abort k) s t h = inl (act_back _ (λ x. refl) (λ x q. live_if (is_live_status x.status && nat_le k x.m) _ x.status q) t s.book.acts h)
 act_was w (Prepare u a) s t h = inl (changed t u _ s.book.acts (λ x. refl) (λ x q. q) h)
 act_was w (Vouch u a) s t h = inl (changed t u _ s.book.acts (λ x. refl) (λ x q. q) h)
-act_was w (Decide u) s t h = inl (changed t u _ s.book.acts (λ x. refl) (λ x q. decided_lives s.book.next_c (is_value x.result) x.status q) h)
-act_was w (Seal u) s t h = inl (changed t u _ s.book.acts (λ x. refl) (λ x q. sealed_lives x.status q) h)
+act_was w (Decide u) s t h = inl (changed t u _ s.book.acts (λ x. refl) (λ x q. live_decided s.book.next_c (is_value x.result) x.status q) h)
+act_was w (Seal u) s t h = inl (changed t u _ s.book.acts (λ x. refl) (λ x q. live_sealed x.status q) h)
 act_was w (Finish u a) s t h = inl (changed t u _ s.book.acts (λ x. refl) (λ x q. q) h)
 act_was w e s t h = inl h

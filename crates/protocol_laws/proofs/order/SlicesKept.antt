@@ -354,7 +354,7 @@ kept w (Arrive k a) s h ok l st p tr d n g = λ who t r. elim (runs_was w (Arriv
     none : (who : Who) (t : ℕ) → IsNew w (Arrive k a) s who t → ⊥
     none (OfBatch j) t q = q
     none (OfAct j) t q = q.1
-kept w (Ask u a) s h ok l st p tr d n g = λ who t r. elim (runs_was w (Ask u a) s who t r) [ inl o ↦ carried who t a h.trails h.long _ (asks_slices who u (book.in_the_way u (cell_at s a)) (h.long a)) (g who t o) | inr q ↦ absurd (none who t q) ]
+kept w (Ask u a) s h ok l st p tr d n g = λ who t r. elim (runs_was w (Ask u a) s who t r) [ inl o ↦ carried who t a h.trails h.long _ (asks_slices who u (book.in_the_way u (cell_at s a).entries) (h.long a)) (g who t o) | inr q ↦ absurd (none who t q) ]
   where
     none : (who : Who) (t : ℕ) → IsNew w (Ask u a) s who t → ⊥
     none (OfBatch j) t q = q

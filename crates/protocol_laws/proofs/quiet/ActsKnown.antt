@@ -19,7 +19,9 @@ use Rattle.protocol.specs.OnPost.{next_act}
 use Rattle.protocol.specs.OnBook as book
 use Rattle.protocol.specs.Verdicts.{died}
 use Rattle.protocol_laws.proofs.quiet.QuietEasy.{passed}
-use Rattle.protocol_laws.proofs.first.Lists.{all_each, all_join, any_front}
+use Rattle.protocol_laws.proofs.first.Lists.{all_join, any_front, weaker}
+use Rattle.protocol_laws.proofs.first.Statuses.{if_tid}
+use Rattle.protocol_laws.proofs.machine.ActsFound.{found_tid}
 
 -- ---- each ACT that is found
 
@@ -54,21 +56,9 @@ act_more t c n (x ∷ xs) e = by (x.tid == t) e (act_more t c n xs)
     by true g k = inl g
     by false g k = k g
 
-found_tid : (t : ℕ) (x : Act) (xs : List Act) → act_of t xs ≡ Some x → x.tid ≡ t
-found_tid t x [] e = absurd (cc e)
-found_tid t x (y ∷ ys) e = by (y.tid == t) refl e (found_tid t x ys)
-  where
-    by : (b : Bool) → (y.tid == t) ≡ b → (if b then Some y else act_of t ys) ≡ Some x → (act_of t ys ≡ Some x → x.tid ≡ t) → x.tid ≡ t
-    by true i g k = let z : y ≡ x = cc g in subst (λ v. v.tid ≡ t) z (eqb-true y.tid t i)
-    by false i g k = k g
-
 pub each_map : (P Q : ℕ → Act → Type 0) (f : Act → Act) (xs : List Act) → ((x : Act) → (f x).tid ≡ x.tid) → ((t : ℕ) (x : Act) → act_of t xs ≡ Some x → P t x → Q t (f x)) → EachAct P xs → EachAct Q (map f xs)
 unfolding EachAct
 each_map P Q f xs i k h t c e = let g = act_mapped f i t c xs e in subst (Q t) g.2 (k t g.0 g.1 (h t g.0 g.1))
-
-if_tid : (v : Bool) (f : Act → Act) (x : Act) → (f x).tid ≡ x.tid → (book.change_if v f x).tid ≡ x.tid
-if_tid true f x h = h
-if_tid false f x h = refl
 
 pub each_changed : (P Q : ℕ → Act → Type 0) (u : ℕ) (f : Act → Act) (xs : List Act) → ((x : Act) → (f x).tid ≡ x.tid) → ((t : ℕ) (x : Act) → P t x → Q t x) → ((x : Act) → act_of u xs ≡ Some x → P u x → Q u (f x)) → EachAct P xs → EachAct Q (book.changed_act u f xs)
 each_changed P Q u f xs i w k h = each_map P Q (λ x. book.change_if (x.tid == u) f x) xs (λ x. if_tid (x.tid == u) f x (i x)) (λ t x e p. by t x e p (x.tid == u) refl) h
@@ -147,12 +137,12 @@ grows : {C : Type 0} (w : Fixed C) (e : Event) (s : Machine C) (t : ℕ) (x : Ac
 grows w e s t x h = record {
   ended = h.ended;
   left = h.left;
-  prepared = all_each _ _ x.places (λ p k i. stays w e s (is_prepare t p.actor) (p.actor % w.text.logs) (k i)) h.prepared;
+  prepared = weaker _ _ x.places (λ p k i. stays w e s (is_prepare t p.actor) (p.actor % w.text.logs) (k i)) h.prepared;
   committed = λ d. stays w e s (is_act_commit t) (t % w.text.logs) (h.committed d);
 }
 
 doom : {C : Type 0} (w : Fixed C) (s : Machine C) (t : ℕ) (x : Act) (n : Option ℕ) (b : Bool) (v : Verdict) → Fit w s t x → Fit w s t (record x { n = n; status = if b then Doomed v else x.status })
-doom w s t x n true v h = record { ended = λ e. absurd (true≢false (sym e)); left = all_each _ _ x.places (λ p k e. refl) h.left; prepared = h.prepared; committed = λ e. absurd (true≢false (sym e)) }
+doom w s t x n true v h = record { ended = λ e. absurd (true≢false (sym e)); left = weaker _ _ x.places (λ p k e. refl) h.left; prepared = h.prepared; committed = λ e. absurd (true≢false (sym e)) }
 doom w s t x n false v h = record { ended = h.ended; left = h.left; prepared = h.prepared; committed = h.committed }
 
 lowered_fit : {C : Type 0} (w : Fixed C) (s : Machine C) (t : ℕ) (x : Act) (m : ℕ) (n : Option ℕ) → Fit w s t x → Fit w s t (record x { m = m; n = n })
@@ -182,8 +172,8 @@ decided : {C : Type 0} (w : Fixed C) (s : Machine C) (t c : ℕ) (x : Act) → i
 decided w s t c x r l i h = by (is_value x.result) refl x.status l h.left
   where
     by : (v : Bool) → is_value x.result ≡ v → (st : Status) → is_live_status st ≡ true → AllByRecursion (λ p. p.finished ≡ true → (is_doomed st || is_sealed st) ≡ true) x.places → Fit w s t (record x { status = book.decided_status c v st })
-    by true e Live l k = record { ended = λ d. r; left = all_each _ _ x.places (λ p f g. absurd (true≢false (sym (f g)))) k; prepared = h.prepared; committed = λ d. i e }
-    by false e Live l k = record { ended = λ d. r; left = all_each _ _ x.places (λ p f g. refl) k; prepared = h.prepared; committed = λ d. absurd (true≢false (sym d)) }
+    by true e Live l k = record { ended = λ d. r; left = weaker _ _ x.places (λ p f g. absurd (true≢false (sym (f g)))) k; prepared = h.prepared; committed = λ d. i e }
+    by false e Live l k = record { ended = λ d. r; left = weaker _ _ x.places (λ p f g. refl) k; prepared = h.prepared; committed = λ d. absurd (true≢false (sym d)) }
     by v e (Doomed y) l k = absurd (true≢false (sym l))
     by v e (Decided y) l k = absurd (true≢false (sym l))
     by v e (Sealed y) l k = absurd (true≢false (sym l))
@@ -194,7 +184,7 @@ sealed w s t x h = by x.status h.ended h.left
     by : (st : Status) → ((is_decided st || is_sealed st) ≡ true → is_some x.result ≡ true) → AllByRecursion (λ p. p.finished ≡ true → (is_doomed st || is_sealed st) ≡ true) x.places → Fit w s t (record x { status = book.sealed_status st })
     by Live e k = record { ended = e; left = k; prepared = h.prepared; committed = λ d. absurd (true≢false (sym d)) }
     by (Doomed v) e k = record { ended = e; left = k; prepared = h.prepared; committed = λ d. absurd (true≢false (sym d)) }
-    by (Decided c) e k = record { ended = e; left = all_each _ _ x.places (λ p f g. refl) k; prepared = h.prepared; committed = λ d. absurd (true≢false (sym d)) }
+    by (Decided c) e k = record { ended = e; left = weaker _ _ x.places (λ p f g. refl) k; prepared = h.prepared; committed = λ d. absurd (true≢false (sym d)) }
     by (Sealed c) e k = record { ended = e; left = k; prepared = h.prepared; committed = λ d. absurd (true≢false (sym d)) }
 
 pub AllFit : {C : Type 0} → Fixed C → Machine C → Type 0
@@ -209,7 +199,7 @@ kept w (Admit t) s l g ok h = each_more (Fit w (after w (Admit t) s)) s.book.act
 kept w (Arrive k a) s l g ok h =
     each_map (Fit w (after w (Arrive k a) s)) (Fit w (after w (Arrive k a) s)) (crossed_out a) _ (λ x. refl) (λ u x e p. doom w (after w (Arrive k a) s) u x x.n (is_crossed x) (Rattle.protocol.specs.Verdicts.out_of_order x.m (Rattle.std.specs.Prelude.unwrap_or x.n 0) a) p)
     (each_map (Fit w (after w (Arrive k a) s)) (Fit w (after w (Arrive k a) s)) (book.lowered k (book.tids_on (cell_at s a).entries)) s.book.acts (λ x. refl) (λ u x e p. lowered_fit w (after w (Arrive k a) s) u x x.m _ p) h)
-kept w (Ask t a) s l g ok h = asked w (after w (Ask t a) s) (book.in_the_way t (cell_at s a)) (book.met t (cell_at s a)) t a (cell_at s a) s.book h
+kept w (Ask t a) s l g ok h = asked w (after w (Ask t a) s) (book.in_the_way t (cell_at s a).entries) (book.met t (cell_at s a).entries) t a (cell_at s a) s.book h
 kept w (End t a) s l g ok h = ended_acts w (after w (End t a) s) (has_act t (cell_at s a).entries) t (outcome_of t (cell_at s a).outbox) s.book.acts h
 kept w (Abort k) s l g ok h = each_map (Fit w (after w (Abort k) s)) (Fit w (after w (Abort k) s)) (book.cascaded k (book.failed_tx (book.why k s.desk))) s.book.acts (λ x. refl) (λ u x e p. doom w (after w (Abort k) s) u x None _ (Rattle.protocol.specs.Verdicts.taken_along k (book.failed_tx (book.why k s.desk))) p) h
 kept w (Prepare t a) s l g ok h = each_changed (Fit w (after w (Prepare t a) s)) (Fit w (after w (Prepare t a) s)) t (book.marked a book.is_prepared) s.book.acts (λ x. refl) (λ u x p. p) (λ x e p. record {

@@ -23,7 +23,8 @@ use Rattle.protocol_laws.proofs.first.Times
 use Rattle.protocol_laws.proofs.machine.MarksKept.{found_bid, found_mapped, found_more}
 use Rattle.protocol_laws.proofs.machine.TracksKept.{held}
 use Rattle.protocol_laws.proofs.quiet.ActsKnown.{IsIn, stays, there_now, one_of}
-use Rattle.protocol_laws.proofs.first.Lists.{all_each, all_get, all_join, all_map, any_take}
+use Rattle.protocol_laws.proofs.first.Lists.{all_drop, all_filter, all_get, all_join, all_map, any_take, weaker}
+use Rattle.protocol_laws.proofs.first.Statuses.{committing_not_formed, if_bid}
 
 -- ---- each batch that is found
 
@@ -33,10 +34,6 @@ EachBatch P xs = (k : ℕ) (b : Batch) → batch_of k xs ≡ Some b → P k b
 each_map : (P : ℕ → Batch → Type 0) (f : Batch → Batch) (xs : List Batch) → ((b : Batch) → (f b).bid ≡ b.bid) → ((k : ℕ) (b : Batch) → batch_of k xs ≡ Some b → P k b → P k (f b)) → EachBatch P xs → EachBatch P (map f xs)
 unfolding EachBatch
 each_map P f xs i k h j c e = let g = found_mapped f i j c xs e in subst (P j) g.2 (k j g.0 g.1 (h j g.0 g.1))
-
-if_bid : (v : Bool) (f : Batch → Batch) (b : Batch) → (f b).bid ≡ b.bid → (desk.change_if v f b).bid ≡ b.bid
-if_bid true f b h = h
-if_bid false f b h = refl
 
 each_changed : (P : ℕ → Batch → Type 0) (k : ℕ) (f : Batch → Batch) (xs : List Batch) → ((b : Batch) → (f b).bid ≡ b.bid) → ((b : Batch) → batch_of k xs ≡ Some b → P k b → P k (f b)) → EachBatch P xs → EachBatch P (desk.changed_batch k f xs)
 each_changed P k f xs i g h = each_map P (λ b. desk.change_if (b.bid == k) f b) xs (λ b. if_bid (b.bid == k) f b (i b)) (λ j b e p. by j b e p (b.bid == k) refl) h
@@ -67,7 +64,7 @@ grows w e s k b h = record {
   distinct = h.distinct;
   range = h.range;
   somewhere = h.somewhere;
-  noted = all_each _ _ b.places (λ p q d. stays w e s (is_complete k p.actor) (p.actor % w.text.logs) (q d)) h.noted;
+  noted = weaker _ _ b.places (λ p q d. stays w e s (is_complete k p.actor) (p.actor % w.text.logs) (q d)) h.noted;
   all_noted = h.all_noted;
 }
 
@@ -126,11 +123,6 @@ lasts_length : (k : ℕ) (xs lasts : List ℕ) → length (ring.with_lasts k xs 
 lasts_length k [] lasts = refl
 lasts_length k (a ∷ xs) lasts = lasts_length k xs (slice_set lasts a k) ∙ Times.length_set lasts a k
 
-all_drop : {X : Type 0} (P : X → Type 0) (n : ℕ) (xs : List X) → AllByRecursion P xs → AllByRecursion P (drop n xs)
-all_drop P zero xs h = h
-all_drop P (suc n) [] h = h
-all_drop P (suc n) (x ∷ xs) h = all_drop P n xs h.1
-
 pub waits_kept : {C : Type 0} (w : Fixed C) (e : Event) (s : Machine C) → Waits w s → Waits w (after w e s)
 unfolding after
 waits_kept w (Submit n) s h = record { lasts = h.lasts; pacts = by (is_pact (tx_at w.text n)) refl }
@@ -165,7 +157,7 @@ times_filter a p (x ∷ xs) = by (p x) (times_filter a p xs)
 
 below_less : (n : ℕ) → AllByRecursion (λ a. a < n) (below n)
 below_less zero = tt
-below_less (suc n) = all_join (λ a. a < suc n) (below n) (n ∷ []) (all_each (λ a. a < n) (λ a. a < suc n) (below n) (λ a l. omega (arith, l)) (below_less n)) (omega arith, tt)
+below_less (suc n) = all_join (λ a. a < suc n) (below n) (n ∷ []) (weaker (λ a. a < n) (λ a. a < suc n) (below n) (λ a l. omega (arith, l)) (below_less n)) (omega arith, tt)
 
 none_there : (a : ℕ) (xs : List ℕ) → AllByRecursion (λ x. x < a) xs → times a xs ≡ 0
 none_there a [] h = refl
@@ -177,14 +169,6 @@ one_below (suc n) a = elim (cases_Bool (n == a)) [
   | inl e ↦ let q : n ≡ a = eqb-true n a e in omega (arith, Times.times_append a (below n) (n ∷ []), Times.times_cons a n [], ap one_if e, none_there a (below n) (subst (λ z. AllByRecursion (λ x. x < z) (below n)) q (below_less n)))
   | inr e ↦ omega (arith, Times.times_append a (below n) (n ∷ []), Times.times_cons a n [], ap one_if e, one_below n a)
 ]
-
-all_filter : {X : Type 0} (P : X → Type 0) (p : X → Bool) (xs : List X) → AllByRecursion P xs → AllByRecursion P (filter p xs)
-all_filter P p [] h = tt
-all_filter P p (x ∷ xs) h = by (p x) (all_filter P p xs h.1)
-  where
-    by : (v : Bool) → AllByRecursion P (filter p xs) → AllByRecursion P (if v then x ∷ filter p xs else filter p xs)
-    by true k = (h.0, k)
-    by false k = k
 
 pub actors_of : (xs : List ℕ) → map (λ p. p.actor) (map desk.new_declared xs) ≡ xs
 actors_of [] = refl
@@ -215,7 +199,7 @@ there_below r (suc n) l = elim (cases_Bool (n == r)) [
   | inr e ↦ omega (arith, Times.times_append r (below n) (n ∷ []), there_below r n (omega (arith, l, Rattle.std.proofs.lemmas.Bool.eqb-false n r e)))
 ]
 
-somewhere_new : {C : Type 0} (w : Fixed C) (s : Machine C) → IsText w.text → 1 ≤ length w.text.opening.states → Waits w s → not (is_empty (queue s.ring.pacts s.ring.holder)) ≡ true → is_empty (map desk.new_declared (ring.next_actors w.text s.ring)) ≡ false
+pub somewhere_new : {C : Type 0} (w : Fixed C) (s : Machine C) → IsText w.text → 1 ≤ length w.text.opening.states → Waits w s → not (is_empty (queue s.ring.pacts s.ring.holder)) ≡ true → is_empty (map desk.new_declared (ring.next_actors w.text s.ring)) ≡ false
 somewhere_new w s v l h e = by w.text.batch v.some_batch (queue s.ring.pacts s.ring.holder) refl e (h.pacts s.ring.holder)
   where
     by : (few : ℕ) → 1 ≤ few → (q : List ℕ) → queue s.ring.pacts s.ring.holder ≡ q → not (is_empty q) ≡ true → AllByRecursion (λ n. is_pact (tx_at w.text n) ≡ true) q → is_empty (map desk.new_declared (filter (λ a. list_any (ring.declares w.text a) (ring.numbered s.ring.next_tid (take w.text.batch (queue s.ring.pacts s.ring.holder)))) (below (length s.ring.lasts)))) ≡ false
@@ -239,11 +223,6 @@ AllFit w s = EachBatch (Fit w s) s.desk.batches
 
 in_logs : {C : Type 0} (w : Fixed C) (s : Machine C) (n : ℕ) → 1 ≤ w.text.logs → length s.logs ≡ w.text.logs → n % w.text.logs < length s.logs
 in_logs w s n l e = subst (λ z. n % w.text.logs < z) (sym e) (Rattle.std.proofs.Math.Nat.mod-lt n l)
-
-not_formed : (st : Stage) → is_committing st ≡ true → is_formed st ≡ false
-not_formed Formed h = absurd (true≢false (sym h))
-not_formed Committing h = refl
-not_formed Settled h = refl
 
 not_settled : (st : Stage) → is_formed st ≡ true → is_settled st ≡ true → ⊥
 not_settled Formed f g = true≢false (sym g)
@@ -276,7 +255,7 @@ kept w (Commit k) s v l g m ok h = each_changed (Fit w (after w (Commit k) s)) k
     record {
       info = p.info;
       commit = λ d. there_now s (is_commit k) (k % w.text.logs) (BatchCommit k ∷ []) (in_logs w s k v.some_logs g) (rw (eq-eqb k k refl) refl);
-      trimmed = all_each _ _ b.places (λ x y d. absurd (not_settled b.stage f (y d))) p.trimmed;
+      trimmed = weaker _ _ b.places (λ x y d. absurd (not_settled b.stage f (y d))) p.trimmed;
       distinct = p.distinct;
       range = p.range;
       somewhere = p.somewhere;
@@ -287,12 +266,12 @@ kept w (Settle k) s v l g m ok h = each_changed (Fit w (after w (Settle k) s)) k
     let q = subst (λ z. holds (λ b. is_committing b.stage && not b.aborted) z ≡ true) e ok.0 in record {
       info = p.info;
       commit = λ d. absurd (true≢false (sym d));
-      trimmed = all_each _ _ b.places (λ x y d. refl) p.trimmed;
+      trimmed = weaker _ _ b.places (λ x y d. refl) p.trimmed;
       distinct = p.distinct;
       range = p.range;
       somewhere = p.somewhere;
       noted = p.noted;
-      all_noted = λ d. p.all_noted (not_formed b.stage (and_parts (is_committing b.stage) (not b.aborted) q).0);
+      all_noted = λ d. p.all_noted (committing_not_formed b.stage (and_parts (is_committing b.stage) (not b.aborted) q).0);
     }) h
 kept w (Abort k) s v l g m ok h = each_map (Fit w (after w (Abort k) s)) (desk.taken k) s.desk.batches (λ b. refl) (λ j b e p. record { info = p.info; commit = p.commit; trimmed = p.trimmed; distinct = p.distinct; range = p.range; somewhere = p.somewhere; noted = p.noted; all_noted = p.all_noted }) h
 kept w (Trim k a) s v l g m ok h = each_changed (Fit w (after w (Trim k a) s)) k (desk.marked a desk.is_trimmed) s.desk.batches (λ b. refl) (λ b e p.
@@ -356,7 +335,7 @@ ran_written w s a t false es h = h
 cells_written : {C : Type 0} (w : Fixed C) (e : Event) (s : Machine C) → 1 ≤ w.text.logs → length s.logs ≡ w.text.logs → ((a : ℕ) → AllByRecursion (Written w (after w e s) a) (cell_at s a).entries) → AllWritten w (after w e s)
 unfolding AllWritten after
 cells_written w (Arrive k a) s l g h = one_of (λ b c. AllByRecursion (Written w (after w (Arrive k a) s) b) c.entries) no_cell s.cells a (cell.batch_placed k (sub_of k a s.post.subs) (cell_at s a)) (λ q. all_join _ (cell_at s a).entries _ q (new_written w (after w (Arrive k a) s) a k (sub_of k a s.post.subs))) h
-cells_written w (Ask t a) s l g h = one_of (λ b c. AllByRecursion (Written w (after w (Ask t a) s) b) c.entries) no_cell s.cells a _ (λ q. all_join _ (cell_at s a).entries _ q (act_written w (after w (Ask t a) s) a t (book.in_the_way t (cell_at s a)))) h
+cells_written w (Ask t a) s l g h = one_of (λ b c. AllByRecursion (Written w (after w (Ask t a) s) b) c.entries) no_cell s.cells a _ (λ q. all_join _ (cell_at s a).entries _ q (act_written w (after w (Ask t a) s) a t (book.in_the_way t (cell_at s a).entries))) h
 cells_written w (Take t a) s l g h = one_of (λ b c. AllByRecursion (Written w (after w (Take t a) s) b) c.entries) no_cell s.cells a _ (λ q. q) h
 cells_written w (Run t a) s l g h = one_of (λ b c. AllByRecursion (Written w (after w (Run t a) s) b) c.entries) no_cell s.cells a (cell.slice_run w.code t a (cell_at s a)) (λ q. ran_written w (after w (Run t a) s) a t (cell.is_done_after w.code a (cell.slice_of w.code t (cell_at s a))) (cell_at s a).entries q) h
 cells_written w (Send t a) s l g h = one_of (λ b c. AllByRecursion (Written w (after w (Send t a) s) b) c.entries) no_cell s.cells a _ (λ q. q) h
@@ -370,7 +349,7 @@ cells_written w e s l g h = h
 
 pub written_kept : {C : Type 0} (w : Fixed C) (e : Event) (s : Machine C) → 1 ≤ w.text.logs → length s.logs ≡ w.text.logs → AllWritten w s → AllWritten w (after w e s)
 unfolding AllWritten
-written_kept w e s l g h = cells_written w e s l g (λ a. all_each (Written w s a) (Written w (after w e s) a) (cell_at s a).entries (written_grows w e s a) (h a))
+written_kept w e s l g h = cells_written w e s l g (λ a. weaker (Written w s a) (Written w (after w e s) a) (cell_at s a).entries (written_grows w e s a) (h a))
 
 pub written_opened : {C : Type 0} (w : Fixed C) → AllWritten w (opening w)
 unfolding AllWritten

@@ -19,7 +19,7 @@ use Rattle.protocol_laws.proofs.machine.RunOwed.{Valued, has_results}
 use Rattle.protocol_laws.proofs.machine.TracksKept.{held}
 use Rattle.protocol_laws.proofs.machine.TurnsKept.{one_is}
 use Rattle.protocol_laws.proofs.machine.FromDeskKept.{one_cell}
-use Rattle.protocol_laws.proofs.first.Lists.{all_join, all_filter, both_all, weaker}
+use Rattle.protocol_laws.proofs.first.Lists.{all_filter, all_found, all_join, both_all, weaker}
 
 abbrev pub In : {X : Type 0} → List Entry → (X → ℕ) → List X → Type 0
 In es f ys = AllByRecursion (λ y. has_entry (f y) es ≡ true) ys
@@ -96,7 +96,7 @@ trimmed a k u bs (BatchEntry b ∷ es) n f h = by (b.bid == k) refl (trimmed a k
     by false e r = elim (or_cases (names_slot u b) (has_entry u es) h) [ inl q ↦ or_left (names_slot u b) _ q | inr q ↦ or_right (names_slot u b) _ (r q) ]
 
 pub with_results : (u k : ℕ) (b : Batch) (bs : List Batch) → batch_of k bs ≡ Some b → has_results b.pacts ≡ true → NoResult u bs → is_pact_of u k bs ≡ true → ⊥
-with_results u k b bs e h n p = among b.pacts (subst (λ o. holds (names_pact u) o ≡ true) e p) h (Rattle.protocol_laws.proofs.machine.ControlWalk.all_found (λ b. AllByRecursion (λ p. p.tid ≡ u → p.result ≡ None) b.pacts) (λ b. b.bid == k) b bs e n).0
+with_results u k b bs e h n p = among b.pacts (subst (λ o. holds (names_pact u) o ≡ true) e p) h (all_found (λ b. AllByRecursion (λ p. p.tid ≡ u → p.result ≡ None) b.pacts) (λ b. b.bid == k) bs b n e).0
   where
     among : (ps : List Pact) → list_any (λ p. p.tid == u) ps ≡ true → has_results ps ≡ true → AllByRecursion (λ p. p.tid ≡ u → p.result ≡ None) ps → ⊥
     among [] q h n = true≢false (sym q)
@@ -150,7 +150,7 @@ trims w s k a u ok v n p =
 pub boxed_kept : {C : Type 0} (w : Fixed C) (e : Event) (s : Machine C) → IsAllowed w e s → AllControls (NoneNoted s) s → Valued s → FromDesk s → Boxed s → Boxed (after w e s)
 unfolding Boxed after conditions
 boxed_kept w (Arrive k a) s ok n v d g = let new = (cell_at s a).entries ++ cell.batch_entries k (sub_of k a s.post.subs) in one_cell BoxedAt s.cells a _ (λ z. (in_more (cell_at s a).entries new (λ x. x.tid) (cell_at s a).inbox (λ u q. join u (cell_at s a).entries (cell.batch_entries k (sub_of k a s.post.subs)) q) z.0, in_more (cell_at s a).entries new (λ x. x.tid) (cell_at s a).outbox (λ u q. join u (cell_at s a).entries (cell.batch_entries k (sub_of k a s.post.subs)) q) z.1)) g
-boxed_kept w (Ask t a) s ok n v d g = one_cell BoxedAt s.cells a _ (λ z. (ask t (book.in_the_way t (cell_at s a)) (cell_at s a).entries s.post.controls (cell_at s a).inbox z.0, in_more (cell_at s a).entries ((cell_at s a).entries ++ cell.act_entries t (book.in_the_way t (cell_at s a))) (λ x. x.tid) (cell_at s a).outbox (λ u q. join u (cell_at s a).entries (cell.act_entries t (book.in_the_way t (cell_at s a))) q) z.1)) g
+boxed_kept w (Ask t a) s ok n v d g = one_cell BoxedAt s.cells a _ (λ z. (ask t (book.in_the_way t (cell_at s a).entries) (cell_at s a).entries s.post.controls (cell_at s a).inbox z.0, in_more (cell_at s a).entries ((cell_at s a).entries ++ cell.act_entries t (book.in_the_way t (cell_at s a).entries)) (λ x. x.tid) (cell_at s a).outbox (λ u q. join u (cell_at s a).entries (cell.act_entries t (book.in_the_way t (cell_at s a).entries)) q) z.1)) g
 boxed_kept w (Take t a) s ok n v d g = one_cell BoxedAt s.cells a _ (λ z. (all_join (λ x. has_entry x.tid (cell_at s a).entries ≡ true) (cell_at s a).inbox _ z.0 (came (cell_at s a).entries t s.post.controls (control_of t s.post.controls) refl (held (λ c. has_entry t c.entries) s.cells a no_cell ok.1.0)), z.1)) g
 boxed_kept w (Run t a) s ok n v d g =
     let q = cell.is_done_after w.code a (cell.slice_of w.code t (cell_at s a)) in

@@ -148,7 +148,7 @@ at_most_flat u (xs ∷ xss) (suc i) = omega (arith, Times.times_append u xs (fla
 inbox_in : {C : Type 0} (u : ℕ) (s : Machine C) (a : ℕ) → times u (waiting_tids (cell_at s a).inbox) ≤ times u (flat (map waiting_tids (map (λ c. c.inbox) s.cells)))
 inbox_in u s a = rw (sym (Times.map_at (λ c. c.inbox) s.cells a no_cell), sym (Times.map_at waiting_tids (map (λ c. c.inbox) s.cells) a [])) (at_most_flat u (map waiting_tids (map (λ c. c.inbox) s.cells)) a)
 
-outbox_in : {C : Type 0} (u : ℕ) (s : Machine C) (a : ℕ) → times u (outcome_tids (cell_at s a).outbox) ≤ times u (flat (map outcome_tids (map (λ c. c.outbox) s.cells)))
+pub outbox_in : {C : Type 0} (u : ℕ) (s : Machine C) (a : ℕ) → times u (outcome_tids (cell_at s a).outbox) ≤ times u (flat (map outcome_tids (map (λ c. c.outbox) s.cells)))
 outbox_in u s a = rw (sym (Times.map_at (λ c. c.outbox) s.cells a no_cell), sym (Times.map_at outcome_tids (map (λ c. c.outbox) s.cells) a [])) (at_most_flat u (map outcome_tids (map (λ c. c.outbox) s.cells)) a)
 
 -- what lies in the post and in one cell

@@ -190,8 +190,8 @@ entered_kept w (Arrive k a) s h ok one i d g = one_cell (EnteredAt (after w (Arr
   box_entries (after w (Arrive k a) s).book.acts (cell_at s a).entries ((cell_at s a).entries ++ cell.batch_entries k (sub_of k a s.post.subs)) (λ x. x.tid) (cell_at s a).outbox (λ u q. has_join u (cell_at s a).entries (cell.batch_entries k (sub_of k a s.post.subs)) q) z.1,
 )) (booked w (Arrive k a) s ok one g)
 entered_kept w (Ask t a) s h ok one i d g = one_cell (EnteredAt (after w (Ask t a) s).book.acts) s.cells a _ (λ z. (
-  ask (after w (Ask t a) s).book.acts t (book.in_the_way t (cell_at s a)) (cell_at s a).entries s.post.controls (cell_at s a).inbox z.0,
-  box_entries (after w (Ask t a) s).book.acts (cell_at s a).entries ((cell_at s a).entries ++ cell.act_entries t (book.in_the_way t (cell_at s a))) (λ x. x.tid) (cell_at s a).outbox (λ u q. has_join u (cell_at s a).entries (cell.act_entries t (book.in_the_way t (cell_at s a))) q) z.1,
+  ask (after w (Ask t a) s).book.acts t (book.in_the_way t (cell_at s a).entries) (cell_at s a).entries s.post.controls (cell_at s a).inbox z.0,
+  box_entries (after w (Ask t a) s).book.acts (cell_at s a).entries ((cell_at s a).entries ++ cell.act_entries t (book.in_the_way t (cell_at s a).entries)) (λ x. x.tid) (cell_at s a).outbox (λ u q. has_join u (cell_at s a).entries (cell.act_entries t (book.in_the_way t (cell_at s a).entries)) q) z.1,
 )) (booked w (Ask t a) s ok one g)
 entered_kept w (Take t a) s h ok one i d g = one_cell (EnteredAt s.book.acts) s.cells a _ (λ z.
     (all_join _ (cell_at s a).inbox _ z.0 (came s.book.acts (cell_at s a).entries t s.post.controls (control_of t s.post.controls) refl (placed s.book.acts a t s.desk.batches (cell_at s a).entries (λ k q. pact_no_act s h t k i q) (d.entries a) (held (λ c. has_entry t c.entries) s.cells a no_cell ok.1.0))), z.1)) g

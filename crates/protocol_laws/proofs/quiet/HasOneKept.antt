@@ -41,6 +41,7 @@ use Rattle.protocol_laws.proofs.quiet.EnteredKept as entering
 use Rattle.protocol_laws.proofs.quiet.EnteredKept.{Entered}
 use Rattle.protocol_laws.proofs.quiet.ControlsHeld as counts
 use Rattle.protocol_laws.proofs.quiet.ControlsHeld.{Whose, IsWhose, Resulted}
+use Rattle.protocol_laws.proofs.first.Lists.{all_found}
 
 unfoldable pub HasOne : {C : Type 0} → Machine C → Type 0
 HasOne s = (who : Who) (t : ℕ) → runs s who t ≡ true → (1 ≤ times t (controls_in s)) ⊎ Resulted s who t
@@ -109,7 +110,7 @@ not_dropped : {C : Type 0} (w : Fixed C) (Of : Tx → C → Type 0) (finish : C 
 unfolding Whose
 not_dropped {C} w Of finish s h who t g n i r q =
     let m = one_is (λ m. is_given_up m.who s.book) (control_of t s.post.controls) q in
-    let f = Rattle.protocol_laws.proofs.machine.ControlWalk.all_found (IsWhose h.owners) (λ m. m.tid == t) m.0 s.post.controls m.1 i in
+    let f = all_found (IsWhose h.owners) (λ m. m.tid == t) s.post.controls m.0 i m.1 in
     by m.0.who m.2 (subst (λ z. (m.0.who ≡ OfAct z) ⊎ (m.0.who ≡ h.owners z)) (eqb-true m.0.tid t f.1) f.0)
   where
     live_doomed : (o : Option Act) → holds lives o ≡ true → holds (λ x. is_doomed x.status) o ≡ true → ⊥
@@ -143,7 +144,7 @@ not_dropped {C} w Of finish s h who t g n i r q =
 -- ---- one event
 
 asks : {C : Type 0} (w : Fixed C) (Of : Tx → C → Type 0) (finish : C → List State → Alone) (s : Machine C) (h : History) (who : Who) (u t a : ℕ) (o : Option ℕ) → IsAllowed w (Ask t a) s → AllGood w Of finish s h → Named s h → runs s who u ≡ true
-    → (u ≡ t → holds lives (act_of t (book.asked_acts o (book.met t (cell_at s a)) t a (max (cell_at s a).last (cell_at s a).floor) s.book)) ≡ true) → 1 ≤ times u (controls_in s)
+    → (u ≡ t → holds lives (act_of t (book.asked_acts o (book.met t (cell_at s a).entries) t a (max (cell_at s a).last (cell_at s a).floor) s.book)) ≡ true) → 1 ≤ times u (controls_in s)
     → 1 ≤ times u (tids_in (Rattle.protocol.specs.Words.without_control t s.post.controls) (map (λ c. c.inbox) (Rattle.protocol.specs.Effects.puts s a (cell.act_placed t o (control_of t s.post.controls) (cell_at s a)))) (map (λ c. c.outbox) (Rattle.protocol.specs.Effects.puts s a (cell.act_placed t o (control_of t s.post.controls) (cell_at s a)))))
 unfolding conditions
 asks w Of finish s h who u t a None ok g n r l c = counts.comes u t (λ m. m.to == a) s a (cell.act_placed t None (control_of t s.post.controls) (cell_at s a)) (in_range _ s.cells a ok.1.1.0) ok.0 refl refl c
@@ -168,7 +169,7 @@ pub still_one : {C : Type 0} (w : Fixed C) (Of : Tx → C → Type 0) (finish : 
 unfolding conditions after
 still_one w Of finish (Form k) s h who u ok g n i j r l c = inl (counts.moved_post u s.post.controls _ (map (λ c. c.inbox) s.cells) (map (λ c. c.outbox) s.cells) c)
 still_one w Of finish (Admit t) s h who u ok g n i j r l c = inl (counts.moved_post u s.post.controls _ (map (λ c. c.inbox) s.cells) (map (λ c. c.outbox) s.cells) c)
-still_one w Of finish (Ask t a) s h who u ok g n i j r l c = inl (asks w Of finish s h who u t a (book.in_the_way t (cell_at s a)) ok g n r (λ e. live_after (after w (Ask t a) s) who u t (act_owner s h (λ x. not (is_doomed x.status)) who t u n r ok.1.0 e) l) c)
+still_one w Of finish (Ask t a) s h who u ok g n i j r l c = inl (asks w Of finish s h who u t a (book.in_the_way t (cell_at s a).entries) ok g n r (λ e. live_after (after w (Ask t a) s) who u t (act_owner s h (λ x. not (is_doomed x.status)) who t u n r ok.1.0 e) l) c)
 still_one w Of finish (Take t a) s h who u ok g n i j r l c = inl (counts.comes u t (λ m. m.to == a) s a (cell.control_came (control_of t s.post.controls) (cell_at s a)) (in_range _ s.cells a ok.1.0) ok.0 refl refl c)
 still_one w Of finish (Run t a) s h who u ok g n i j r l c = inl (counts.runs_on w u t a s (in_range _ s.cells a ok.0) (held (λ c. is_some (waiting_of t c.inbox)) s.cells a no_cell ok.0) c)
 still_one w Of finish (Send t a) s h who u ok g n i j r l c = inl (counts.sends_on u t a s (in_range _ s.cells a ok.0) (held (λ c. holds (λ x. Rattle.protocol.specs.Words.is_going x.next) (outcome_of t c.outbox)) s.cells a no_cell ok.0) c)

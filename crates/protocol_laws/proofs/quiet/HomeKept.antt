@@ -1,5 +1,5 @@
 -- A PACT's control lies at an actor that it declares, and the sub-batch there names it.
-use Rattle.std.specs.Prelude.{◌≡◌, refl, ℕ, zero, suc, ◌+◌, ◌<◌, ◌≤◌, ◌==◌, Bool, true, false, ◌||◌, ◌&&◌, ◌⊎◌, if◌then◌else◌, Option, Some, None, is_some, List, [], ◌∷◌, ◌++◌, length, map, filter, take, slice_index_or}
+use Rattle.std.specs.Prelude.{◌≡◌, refl, ℕ, zero, suc, ◌+◌, ◌<◌, ◌≤◌, ◌==◌, Bool, true, false, ◌||◌, ◌&&◌, ◌⊎◌, if◌then◌else◌, Option, Some, None, is_some, List, [], ◌∷◌, ◌++◌, length, map, filter, take}
 use Rattle.std.specs.List.{AllByRecursion, list_any}
 use Rattle.std.proofs.Common.{arith, sym, ap, subst, inl, inr, ◌∙◌}
 use Rattle.std.proofs.lemmas.Bool.{true≢false, eqb-true, eq-eqb, ne_eqb, or_cases, or_left, or_right, and_parts, cases_Bool, cases_lt}
@@ -12,7 +12,7 @@ use Rattle.protocol.specs.Events.{Event, Form, Admit, Arrive, Ask, Take, Run, Se
 use Rattle.protocol.specs.Words.{holds, is_among, below, names_pact, names_slot, who_of, batch_of, declared_of, sub_of, control_of, waiting_of}
 use Rattle.protocol.specs.Conditions.{IsAllowed, conditions, queue}
 use Rattle.protocol.specs.Effects.{after, cell_at, no_cell}
-use Rattle.protocol.specs.Runs.{opening, new_cell, IsRun, reached}
+use Rattle.protocol.specs.Runs.{opening, IsRun, reached}
 use Rattle.protocol.specs.OnRing as ring
 use Rattle.protocol.specs.OnPost as post
 use Rattle.protocol.specs.OnBook as book
@@ -23,7 +23,7 @@ use Rattle.protocol_laws.specs.FromDesk.{is_declared, is_pact_of, MessageOf, Ent
 use Rattle.protocol_laws.specs.Quiet.{IsAt}
 use Rattle.protocol_laws.proofs.first.Controls as controls
 use Rattle.protocol_laws.proofs.machine.ControlWalk
-use Rattle.protocol_laws.proofs.machine.ControlWalk.{AllControls, Ready, all_found}
+use Rattle.protocol_laws.proofs.machine.ControlWalk.{AllControls, Ready, nowhere}
 use Rattle.protocol_laws.proofs.machine.CommitLists.{PactsAscend}
 use Rattle.protocol_laws.proofs.first.EpochsKept as epochs
 use Rattle.protocol_laws.proofs.machine.FromDeskKept as desks
@@ -41,7 +41,7 @@ use Rattle.protocol_laws.proofs.machine.AllGood.{AllGood}
 use Rattle.protocol_laws.proofs.quiet.InLine.{among_filter, among_front, among_last}
 use Rattle.protocol_laws.proofs.quiet.QuietOwed as owed
 use Rattle.protocol_laws.proofs.quiet.QuietOwed.{Held, PactsAtHome}
-use Rattle.protocol_laws.proofs.first.Lists.{all_join, all_filter, all_map, both_all}
+use Rattle.protocol_laws.proofs.first.Lists.{all_filter, all_found, all_join, all_map, both_all}
 use Rattle.protocol.specs.Rests.{IsTxIn}
 use Rattle.protocol_laws.proofs.machine.QueuedText.{IsThere, Queued, is_in, next_there, act_there}
 
@@ -88,8 +88,8 @@ declares_kept {C} w Of finish (Run t a) s h f ok queued one told g = by (waiting
     by : (o : Option (Waiting C)) → waiting_of t (cell_at s a).inbox ≡ o → is_some o ≡ true → AllControls (Declares w (grown w (Run t a) s h)) (after w (Run t a) s)
     by None e q = absurd (true≢false (sym q))
     by (Some x) e q =
-        let own = all_found (λ x. Declares w h x.tid (Go a x.control)) (λ x. x.tid == t) x (cell_at s a).inbox e (g.inboxes a) in
-        let of_it = all_found (λ x. Told w Of finish h x.tid (Go a x.control)) (λ x. x.tid == t) x (cell_at s a).inbox e (told.inboxes a) in
+        let own = all_found (λ x. Declares w h x.tid (Go a x.control)) (λ x. x.tid == t) (cell_at s a).inbox x (g.inboxes a) e in
+        let of_it = all_found (λ x. Told w Of finish h x.tid (Go a x.control)) (λ x. x.tid == t) (cell_at s a).inbox x (told.inboxes a) e in
         let i : x.tid ≡ t = eqb-true x.tid t own.1 in
         let same : ((grown w (Run t a) s h).trails t).tx ≡ (h.trails t).tx = rw (eq-eqb t t refl) refl in
         ControlWalk.run_moves w t a s x (Declares w h) (Declares w (grown w (Run t a) s h)) (at_most_one t s one) e
@@ -282,7 +282,7 @@ arrive_full : {C : Type 0} (w : Fixed C) (next : ℕ) (owners : ℕ → Who) (tr
 unfolding FullSub FullEntry Asks
 arrive_full w next owners tr k a subs None e h = tt
 arrive_full w next owners tr k a subs (Some m) e h =
-    let f = all_found (FullSub w next owners tr) (λ y. (y.bid == k) && (y.actor == a)) m subs e h in
+    let f = all_found (FullSub w next owners tr) (λ y. (y.bid == k) && (y.actor == a)) subs m h e in
     let p = and_parts (m.bid == k) (m.actor == a) f.1 in
     ((λ t l o d. names_new t m.tids ∙ f.0 t l (subst (λ z. owners t ≡ OfBatch z) (sym (eqb-true m.bid k p.0)) o) (subst (λ z. is_among z (declared (tx_at w.text (tr t).tx)) ≡ true) (sym (eqb-true m.actor a p.1)) d)), tt)
 
@@ -325,7 +325,7 @@ cells_kept : {C : Type 0} (w : Fixed C) (e : Event) (s : Machine C) (h : History
     → (a : ℕ) → AllByRecursion (FullEntry w (after w e s).ring.next_tid (grown w e s h).owners (grown w e s h).trails a) (cell_at (after w e s) a).entries
 unfolding after grown
 cells_kept w (Arrive k a) s h m g = one_cell (At w s.ring.next_tid h.owners h.trails) s.cells a _ (λ z. all_join (FullEntry w s.ring.next_tid h.owners h.trails a) (cell_at s a).entries _ z (arrive_full w s.ring.next_tid h.owners h.trails k a s.post.subs (sub_of k a s.post.subs) refl m)) g
-cells_kept w (Ask t a) s h m g = one_cell (At w s.ring.next_tid h.owners h.trails) s.cells a _ (λ z. all_join (FullEntry w s.ring.next_tid h.owners h.trails a) (cell_at s a).entries _ z (full_asked w s.ring.next_tid h.owners h.trails a t (book.in_the_way t (cell_at s a)))) g
+cells_kept w (Ask t a) s h m g = one_cell (At w s.ring.next_tid h.owners h.trails) s.cells a _ (λ z. all_join (FullEntry w s.ring.next_tid h.owners h.trails a) (cell_at s a).entries _ z (full_asked w s.ring.next_tid h.owners h.trails a t (book.in_the_way t (cell_at s a).entries))) g
 cells_kept w (Take t a) s h m g = one_cell (At w s.ring.next_tid h.owners h.trails) s.cells a _ (λ z. z) g
 cells_kept w (Run t a) s h m g = one_cell (At w s.ring.next_tid h.owners (grown w (Run t a) s h).trails) s.cells a (cell.slice_run w.code t a (cell_at s a)) (λ z. full_run w s.ring.next_tid h.owners (grown w (Run t a) s h).trails a t (cell.is_done_after w.code a (cell.slice_of w.code t (cell_at s a))) (cell_at s a).entries z) g
 cells_kept w (Send t a) s h m g = one_cell (At w s.ring.next_tid h.owners h.trails) s.cells a _ (λ z. z) g
@@ -370,25 +370,10 @@ home_opened : {C : Type 0} (w : Fixed C) (Of : Tx → C → Type 0) (finish : C 
 unfolding Covered
 home_opened {C} w Of finish v = record {
   held = owed.held_opened w Of finish v;
-  declares = record { posted = tt; inboxes = λ a. ins w.text.opening.states a; outboxes = λ a. outs w.text.opening.states a };
+  declares = nowhere w (Declares w no_history);
   covered = λ t k l o. absurd (cc o);
   named = record { subs = tt; entries = λ a. subst (AllByRecursion _) (sym (no_entries C (base w.text) w.text.opening.states a)) tt };
 }
-  where
-    ins : (ss : List State) (a : ℕ) → AllByRecursion (λ x. Declares w no_history x.tid (Go a x.control)) (slice_index_or (map (new_cell {C = C} (base w.text)) ss) a no_cell).inbox
-    ins [] a = tt
-    ins (x ∷ xs) zero = tt
-    ins (x ∷ xs) (suc a) = subst (AllByRecursion (λ x. Declares w no_history x.tid (Go (suc a) x.control))) (sym (none xs a)) tt
-      where
-        none : (ss : List State) (a : ℕ) → (slice_index_or (map (new_cell {C = C} (base w.text)) ss) a no_cell).inbox ≡ []
-        none [] a = refl
-        none (x ∷ xs) zero = refl
-        none (x ∷ xs) (suc a) = none xs a
-
-    outs : (ss : List State) (a : ℕ) → AllByRecursion (λ x. Declares w no_history x.tid x.next) (slice_index_or (map (new_cell {C = C} (base w.text)) ss) a no_cell).outbox
-    outs [] a = tt
-    outs (x ∷ xs) zero = tt
-    outs (x ∷ xs) (suc a) = outs xs a
 
 pub all_home : {C : Type 0} (w : Fixed C) (Of : Tx → C → Type 0) (finish : C → List State → Alone) (es : List Event) → Given w Of finish → IsRun w es → Home w Of finish (reached w es) (history w es)
 all_home w Of finish es v run = all.along_good w Of finish (Home w Of finish) v (λ e s h ok g i. home_kept w Of finish e s h v ok g i) (home_opened w Of finish v) es run
@@ -419,9 +404,9 @@ record There {C : Type 0} (w : Fixed C) (Of : Tx → C → Type 0) (s : Machine 
 there : {C : Type 0} (w : Fixed C) (Of : Tx → C → Type 0) (finish : C → List State → Alone) (s : Machine C) (h : History) (t a : ℕ) → AllGood w Of finish s h → AllControls (Declares w h) s → IsAt t a s → There w Of s h t a
 there {C} w Of finish s h t a g d (inl q) =
     let m = one_is (λ m. m.to == a) (control_of t s.post.controls) q in
-    let f = all_found (λ m. Told w Of finish h m.tid (Go m.to m.control)) (λ m. m.tid == t) m.0 s.post.controls m.1 g.good.told.posted in
-    let c = all_found (λ m. Declares w h m.tid (Go m.to m.control)) (λ m. m.tid == t) m.0 s.post.controls m.1 d.posted in
-    let l = all_found (λ m. m.tid < s.ring.next_tid) (λ m. m.tid == t) m.0 s.post.controls m.1 (trails.drawn s g.good.held).posted in
+    let f = all_found (λ m. Told w Of finish h m.tid (Go m.to m.control)) (λ m. m.tid == t) s.post.controls m.0 g.good.told.posted m.1 in
+    let c = all_found (λ m. Declares w h m.tid (Go m.to m.control)) (λ m. m.tid == t) s.post.controls m.0 d.posted m.1 in
+    let l = all_found (λ m. m.tid < s.ring.next_tid) (λ m. m.tid == t) s.post.controls m.0 (trails.drawn s g.good.held).posted m.1 in
     let i : m.0.tid ≡ t = eqb-true m.0.tid t f.1 in
     let j : m.0.to ≡ a = eqb-true m.0.to a m.2 in
     record { control = m.0.control; of_it = subst (λ z. Of (tx_at w.text (h.trails z).tx) m.0.control) i f.0.of_it.0; stands = f.0.of_it.1 ∙ j; exists = omega (arith, f.0.of_it.2, j); declares = subst (λ z. DeclaredBy w (h.trails z).tx (Go a m.0.control)) i c.0; low = omega (arith, l.0, i) }
@@ -430,9 +415,9 @@ there {C} w Of finish s h t a g d (inr q) = by (waiting_of t (cell_at s a).inbox
     by : (o : Option (Waiting C)) → waiting_of t (cell_at s a).inbox ≡ o → is_some o ≡ true → There w Of s h t a
     by None e q = absurd (true≢false (sym q))
     by (Some x) e q =
-        let f = all_found (λ x. Told w Of finish h x.tid (Go a x.control)) (λ x. x.tid == t) x (cell_at s a).inbox e (g.good.told.inboxes a) in
-        let c = all_found (λ x. Declares w h x.tid (Go a x.control)) (λ x. x.tid == t) x (cell_at s a).inbox e (d.inboxes a) in
-        let l = all_found (λ x. x.tid < s.ring.next_tid) (λ x. x.tid == t) x (cell_at s a).inbox e ((trails.drawn s g.good.held).inboxes a) in
+        let f = all_found (λ x. Told w Of finish h x.tid (Go a x.control)) (λ x. x.tid == t) (cell_at s a).inbox x (g.good.told.inboxes a) e in
+        let c = all_found (λ x. Declares w h x.tid (Go a x.control)) (λ x. x.tid == t) (cell_at s a).inbox x (d.inboxes a) e in
+        let l = all_found (λ x. x.tid < s.ring.next_tid) (λ x. x.tid == t) (cell_at s a).inbox x ((trails.drawn s g.good.held).inboxes a) e in
         let i : x.tid ≡ t = eqb-true x.tid t f.1 in
         record { control = x.control; of_it = subst (λ z. Of (tx_at w.text (h.trails z).tx) x.control) i f.0.of_it.0; stands = f.0.of_it.1; exists = f.0.of_it.2; declares = subst (λ z. DeclaredBy w (h.trails z).tx (Go a x.control)) i c.0; low = omega (arith, l.0, i) }
 

@@ -182,7 +182,7 @@ trims_none w Of finish s h k a ok g =
 pub free_kept : {C : Type 0} (w : Fixed C) (Of : Rattle.snap_base.specs.declared.transactions.Tx.Tx → C → Type 0) (finish : C → List Rattle.snap_base.specs.declared.transactions.State.State → Rattle.protocol.specs.Facts.Alone) (e : Event) (s : Machine C) (h : History) → IsAllowed w e s → AllGood w Of finish s h → AllFree s h → AllFree (after w e s) (grown w e s h)
 unfolding AllFree grown
 free_kept w Of finish (Arrive k a) s h ok g i = beside_carried (λ b rs. FreeActs rs) a _ h.long (free_more (OfBatch k) (h.long a)) i
-free_kept w Of finish (Ask t a) s h ok g i = beside_carried (λ b rs. FreeActs rs) a _ h.long (free_ask t (book.in_the_way t (cell_at s a)) (h.long a)) i
+free_kept w Of finish (Ask t a) s h ok g i = beside_carried (λ b rs. FreeActs rs) a _ h.long (free_ask t (book.in_the_way t (cell_at s a).entries) (h.long a)) i
 free_kept w Of finish (Run t a) s h ok g i = beside_carried (λ b rs. FreeActs rs) a _ h.long (free_ran _ _ (h.long a)) i
 free_kept w Of finish (Complete k a) s h ok g i = beside_carried (λ b rs. FreeActs rs) a _ h.long (free_completed k (h.long a)) i
 free_kept w Of finish (Rollback a) s h ok g i = beside_carried (λ b rs. FreeActs rs) a _ h.long (free_staying s.book.cascades (h.long a)) i
@@ -367,7 +367,7 @@ full_kept w (Arrive k a) s h ok o i g =
     one_cell (At (behind_too k (book.tids_on (cell_at s a).entries) h.behind) s.book.cascades) s.cells a _
     (λ z. full_arrive (behind_too k (book.tids_on (cell_at s a).entries) h.behind) s.book.cascades k (cell_at s a).entries (sub_of k a s.post.subs) (λ x q. added_too k (book.tids_on (cell_at s a).entries) h.behind x q) z)
     (λ b. full_sets h.behind (behind_too k (book.tids_on (cell_at s a).entries) h.behind) s.book.cascades s.book.cascades (cell_at s b).entries (λ x j q n. (n, grows_too k (book.tids_on (cell_at s a).entries) h.behind x j)) (g b))
-full_kept w (Ask t a) s h ok o i g = one_cell (At h.behind s.book.cascades) s.cells a _ (λ z. full_ask h.behind s.book.cascades t (book.in_the_way t (cell_at s a)) (cell_at s a).entries z) g
+full_kept w (Ask t a) s h ok o i g = one_cell (At h.behind s.book.cascades) s.cells a _ (λ z. full_ask h.behind s.book.cascades t (book.in_the_way t (cell_at s a).entries) (cell_at s a).entries z) g
 full_kept w (Take t a) s h ok o i g = one_cell (At h.behind s.book.cascades) s.cells a _ (λ z. z) g
 full_kept w (Run t a) s h ok o i g = one_cell (At h.behind s.book.cascades) s.cells a _ (λ z. full_run h.behind s.book.cascades (cell.is_done_after w.code a (cell.slice_of w.code t (cell_at s a))) t (cell_at s a).entries z) g
 full_kept w (Send t a) s h ok o i g = one_cell (At h.behind s.book.cascades) s.cells a _ (λ z. z) g

@@ -48,7 +48,7 @@ mark_actor : (v : Bool) (f : Joined → Joined) (p : Joined) → ((q : Joined) �
 mark_actor true f p i = i p
 mark_actor false f p i = refl
 
-actors_marked : (a : ℕ) (f : Joined → Joined) (ps : List Joined) → ((p : Joined) → (f p).actor ≡ p.actor) → map (λ p. p.actor) (map (λ p. book.mark_if (p.actor == a) f p) ps) ≡ map (λ p. p.actor) ps
+pub actors_marked : (a : ℕ) (f : Joined → Joined) (ps : List Joined) → ((p : Joined) → (f p).actor ≡ p.actor) → map (λ p. p.actor) (map (λ p. book.mark_if (p.actor == a) f p) ps) ≡ map (λ p. p.actor) ps
 actors_marked a f [] i = refl
 actors_marked a f (p ∷ ps) i = rw (mark_actor (p.actor == a) f p i, actors_marked a f ps i) refl
 
@@ -73,7 +73,7 @@ most_one : (b : Bool) → one_if b ≤ 1
 most_one true = omega arith
 most_one false = omega arith
 
-apart_more : (a : ℕ) (q : Joined) (ps : List Joined) → q.actor ≡ a → times a (map (λ p. p.actor) ps) ≡ 0 → ((n : ℕ) → times n (map (λ p. p.actor) ps) ≤ 1) → (n : ℕ) → times n (map (λ p. p.actor) (ps ++ q ∷ [])) ≤ 1
+pub apart_more : (a : ℕ) (q : Joined) (ps : List Joined) → q.actor ≡ a → times a (map (λ p. p.actor) ps) ≡ 0 → ((n : ℕ) → times n (map (λ p. p.actor) ps) ≤ 1) → (n : ℕ) → times n (map (λ p. p.actor) (ps ++ q ∷ [])) ≤ 1
 apart_more a q ps e z h n =
     rw (Times.map_join (λ p. p.actor) ps (q ∷ []))
     (by (q.actor == n) refl)
@@ -82,12 +82,17 @@ apart_more a q ps e z h n =
     by true f = let i : a ≡ n = sym e ∙ eqb-true q.actor n f in omega (arith, Times.times_append n (map (λ p. p.actor) ps) (q.actor ∷ []), Times.times_cons n q.actor [], most_one (q.actor == n), subst (λ z. times z (map (λ p. p.actor) ps) ≡ 0) i z)
     by false f = omega (arith, Times.times_append n (map (λ p. p.actor) ps) (q.actor ∷ []), Times.times_cons n q.actor [], ap one_if f, h n)
 
+-- an actor that an ACT asks for, it has not joined
+pub asks_new : {C : Type 0} (w : Fixed C) (t a : ℕ) (s : Machine C) (h : History) → IsAllowed w (Ask t a) s → AllControls (NoneActed s) s → Acts s h → Left s → Standing s → (x : Act) → act_of t s.book.acts ≡ Some x → times a (map (λ p. p.actor) x.places) ≡ 0
+unfolding conditions Standing
+asks_new w t a s h ok n i l d x e =
+    not_there a x.places (none_left w s h t a x ok n i l e)
+    (λ o. true≢false (sym (sym (act_key t (cell_at s a).entries) ∙ d t x e (not-true (is_doomed x.status) (subst (λ z. holds (λ x. not (is_doomed x.status)) z ≡ true) e ok.1.0)) a o) ∙ not-true (has_act t (cell_at s a).entries) (held (λ c. not (has_act t c.entries)) s.cells a no_cell ok.1.1.0)))
+
 pub joins_kept : {C : Type 0} (w : Fixed C) (e : Event) (s : Machine C) (h : History) → IsAllowed w e s → AllControls (NoneActed s) s → Acts s h → Left s → Standing s → Joins s → Joins (after w e s)
-unfolding Joins conditions acts.ReadyToo Standing
+unfolding Joins acts.ReadyToo
 joins_kept w (Admit t) s h ok n i l d g = acts.acts_move w (Admit t) s Apart apart_holds (λ e n. omega arith) g
-joins_kept w (Ask t a) s h ok n i l d g = acts.acts_move w (Ask t a) s Apart apart_holds (λ q x e p. apart_more a _ x.places refl
-    (not_there a x.places (none_left w s h t a x ok n i l e)
-    (λ o. true≢false (sym (sym (act_key t (cell_at s a).entries) ∙ d t x e (not-true (is_doomed x.status) (subst (λ z. holds (λ x. not (is_doomed x.status)) z ≡ true) e ok.1.0)) a o) ∙ not-true (has_act t (cell_at s a).entries) (held (λ c. not (has_act t c.entries)) s.cells a no_cell ok.1.1.0)))) p) g
+joins_kept w (Ask t a) s h ok n i l d g = acts.acts_move w (Ask t a) s Apart apart_holds (λ q x e p. apart_more a _ x.places refl (asks_new w t a s h ok n i l d x e) p) g
 joins_kept w (End t a) s h ok n i l d g = acts.acts_move w (End t a) s Apart apart_holds (λ x r e p. p) g
 joins_kept w (Decide t) s h ok n i l d g = acts.acts_move w (Decide t) s Apart apart_holds (λ x e p. p) g
 joins_kept w (Finish t a) s h ok n i l d g = acts.acts_move w (Finish t a) s Apart apart_holds (λ x e p n. subst (λ z. times n z ≤ 1) (sym (actors_marked a book.has_left x.places (λ q. refl))) (p n)) g

@@ -1,11 +1,11 @@
 -- Every event of a run lowers what is left, at the opening it is at most 1,024 for each transaction: so runs are short.
-use Rattle.std.specs.Prelude.{◌≡◌, refl, ℕ, zero, suc, ◌+◌, ◌*◌, ◌<◌, ◌≤◌, ◌==◌, true, false, ◌||◌, List, [], ◌∷◌, ◌++◌, length, map, replicate, slice_index_or}
+use Rattle.std.specs.Prelude.{◌≡◌, refl, ℕ, zero, suc, ◌+◌, ◌*◌, ◌<◌, ◌≤◌, ◌==◌, true, false, ◌||◌, List, [], ◌∷◌, ◌++◌, length, map, replicate}
 use Rattle.std.specs.List.{AllByRecursion, list_all}
 use Rattle.std.proofs.Common.{arith, sym, ap, subst, ◌∙◌}
 use Rattle.std.proofs.lemmas.Bool.{eqb-true, ne_eqb}
 use Rattle.snap_base.specs.declared.transactions.State.{State}
 use Rattle.snap_base.specs.declared.transactions.Tx.{Tx}
-use Rattle.protocol.specs.Fixed.{Fixed, Go, base, tx_at}
+use Rattle.protocol.specs.Fixed.{Fixed, base, tx_at}
 use Rattle.protocol.specs.Facts.{Alone}
 use Rattle.protocol.specs.Parts.{OfAct, Machine}
 use Rattle.protocol.specs.Events.{Event, Admit, Arrive, Ask, Take, Run, Send, End, Close, Complete, Rollback, Finish, Trim}
@@ -22,7 +22,7 @@ use Rattle.protocol_laws.proofs.first.Frames.{frame}
 use Rattle.protocol_laws.proofs.first.Times
 use Rattle.protocol_laws.proofs.first.Drawn as drawn
 use Rattle.protocol_laws.proofs.first.Controls as controls
-use Rattle.protocol_laws.proofs.machine.ControlWalk.{AllControls, both}
+use Rattle.protocol_laws.proofs.machine.ControlWalk.{AllControls, both, nowhere}
 use Rattle.protocol_laws.proofs.machine.TrailsKept as trails
 use Rattle.protocol_laws.proofs.machine.Good.{Given}
 use Rattle.protocol_laws.proofs.quiet.LeftLists.{total_join, total_at}
@@ -127,21 +127,8 @@ counts_opened {C} w Of finish v = record {
   numbers = drawn.opened w;
   held = controls.opened w;
   queued = queued_opened w;
-  told = record { posted = tt; inboxes = λ a. empty (λ x. trails.Told w Of finish no_history x.tid (Go a x.control)) (cell_at (opening w) a).inbox (empty_in w.text.opening.states a); outboxes = λ a. empty (λ x. trails.Told w Of finish no_history x.tid x.next) (cell_at (opening w) a).outbox (empty_out w.text.opening.states a) };
+  told = nowhere w (trails.Told w Of finish no_history);
 }
-  where
-    empty : {X : Type 0} (P : X → Type 0) (xs : List X) → xs ≡ [] → AllByRecursion P xs
-    empty P xs e = subst (AllByRecursion P) (sym e) tt
-
-    empty_in : (ss : List State) (a : ℕ) → (slice_index_or (map (new_cell {C = C} (base w.text)) ss) a no_cell).inbox ≡ []
-    empty_in [] a = refl
-    empty_in (x ∷ xs) zero = refl
-    empty_in (x ∷ xs) (suc a) = empty_in xs a
-
-    empty_out : (ss : List State) (a : ℕ) → (slice_index_or (map (new_cell {C = C} (base w.text)) ss) a no_cell).outbox ≡ []
-    empty_out [] a = refl
-    empty_out (x ∷ xs) zero = refl
-    empty_out (x ∷ xs) (suc a) = empty_out xs a
 
 -- ---- runs
 

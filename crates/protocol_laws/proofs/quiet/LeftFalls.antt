@@ -22,7 +22,7 @@ use Rattle.protocol_laws.specs.Left.{IsSmall, total, unless, visit, rest, ring_l
 use Rattle.protocol_laws.proofs.first.Times
 use Rattle.protocol_laws.proofs.first.Drawn as drawn
 use Rattle.protocol_laws.proofs.first.Controls as controls
-use Rattle.protocol_laws.proofs.machine.ControlWalk.{AllControls, all_found}
+use Rattle.protocol_laws.proofs.machine.ControlWalk.{AllControls}
 use Rattle.protocol_laws.proofs.machine.TracksKept.{held, in_range}
 use Rattle.protocol_laws.proofs.machine.Good.{Given}
 use Rattle.protocol_laws.proofs.quiet.LeftLists
@@ -30,6 +30,7 @@ use Rattle.protocol_laws.proofs.quiet.LeftLists.{total_join, total_filter, total
 use Rattle.protocol_laws.proofs.quiet.LeftParts
 use Rattle.protocol_laws.proofs.quiet.LeftParts.{RestOf}
 use Rattle.protocol_laws.proofs.quiet.LeftRing as token
+use Rattle.protocol_laws.proofs.first.Lists.{all_found}
 
 -- what is known of a state after a run
 pub record Counted {C : Type 0} (w : Fixed C) (Of : Tx → C → Type 0) (s : Machine C) : Type 0 where
@@ -174,11 +175,11 @@ falls w Of finish (Ask t a) s v small g ok =
     let m = control_of t s.post.controls in
     omega (
       arith,
-      LeftParts.ask_costs w.code (act_tids s) t a (λ m. m.to == a) s.post.controls m (book.in_the_way t c) (book.met t c) c s.book refl ok.0 (LeftLists.found_among (λ x. x.tid) (λ x. not (is_doomed x.status)) t s.book.acts ok.1.0) (act_once w s g.numbers t),
-      one_cell w (act_tids s) (epoch s.book) s a (cell.act_placed t (book.in_the_way t c) m c) (in_range (λ c. c.epoch == epoch s.book) s.cells a ok.1.1.1.0),
-      total_join entry_left c.entries (cell.act_entries t (book.in_the_way t c)),
-      LeftParts.no_entries t (book.in_the_way t c),
-      total_join (waiting_left w.code (act_tids s)) c.inbox (cell.where_placed (book.in_the_way t c) m),
+      LeftParts.ask_costs w.code (act_tids s) t a (λ m. m.to == a) s.post.controls m (book.in_the_way t c.entries) (book.met t c.entries) c s.book refl ok.0 (LeftLists.found_among (λ x. x.tid) (λ x. not (is_doomed x.status)) t s.book.acts ok.1.0) (act_once w s g.numbers t),
+      one_cell w (act_tids s) (epoch s.book) s a (cell.act_placed t (book.in_the_way t c.entries) m c) (in_range (λ c. c.epoch == epoch s.book) s.cells a ok.1.1.1.0),
+      total_join entry_left c.entries (cell.act_entries t (book.in_the_way t c.entries)),
+      LeftParts.no_entries t (book.in_the_way t c.entries),
+      total_join (waiting_left w.code (act_tids s)) c.inbox (cell.where_placed (book.in_the_way t c.entries) m),
     )
 falls w Of finish (Take t a) s v small g ok =
     let c = cell_at s a in
@@ -193,7 +194,7 @@ falls w Of finish (Run t a) s v small g ok =
     let c = cell_at s a in
     omega (
       arith,
-      LeftParts.slice_costs w Of finish (act_tids s) t a c.state c.inbox (waiting_of t c.inbox) v.facts refl (held (λ c. is_some (waiting_of t c.inbox)) s.cells a no_cell ok.0) (λ x e. all_found (λ x. RestOf w Of (Go a x.control)) (λ x. x.tid == t) x c.inbox e (g.rests.inboxes a)),
+      LeftParts.slice_costs w Of finish (act_tids s) t a c.state c.inbox (waiting_of t c.inbox) v.facts refl (held (λ c. is_some (waiting_of t c.inbox)) s.cells a no_cell ok.0) (λ x e. all_found (λ x. RestOf w Of (Go a x.control)) (λ x. x.tid == t) c.inbox x (g.rests.inboxes a) e),
       one_cell w (act_tids s) (epoch s.book) s a (cell.slice_run w.code t a c) (in_range (λ c. is_some (waiting_of t c.inbox)) s.cells a ok.0),
       run_entries (cell.is_done_after w.code a (cell.slice_of w.code t c)) t c.entries,
       LeftParts.outbox_join w.code (act_tids s) c.outbox (cell.outcomes t (cell.slice_of w.code t c)),

@@ -126,10 +126,6 @@ new_slots (t ∷ ts) = omega (arith, new_slots ts)
 
 -- ---- what a control costs
 
-pub visit_most : (b : Bool) → visit b ≤ 7
-visit_most true = omega arith
-visit_most false = omega arith
-
 pub taken_falls : (b : Bool) (r : ℕ) → visit b * r + 2 + 1 ≤ visit b * (r + 1)
 taken_falls true r = omega arith
 taken_falls false r = omega arith

@@ -324,7 +324,7 @@ outbox_join code tids xs ys = total_join (outcome_left code tids) xs ys
 
 -- ---- a new batch
 
-count_some : {X : Type 0} (g : X → ℕ) (p : X → Bool) (xs : List X) → list_any p xs ≡ true → 1 ≤ length (map g (filter p xs))
+pub count_some : {X : Type 0} (g : X → ℕ) (p : X → Bool) (xs : List X) → list_any p xs ≡ true → 1 ≤ length (map g (filter p xs))
 count_some g p [] e = absurd (true≢false (sym e))
 count_some g p (x ∷ xs) e = by (p x) e (count_some g p xs)
   where
@@ -366,10 +366,10 @@ among_below n (d ∷ ds) = omega (arith, total_plus (λ a. one_if (is_among a (d
     either true y = omega arith
     either false y = omega arith
 
-few_uses : {C : Type 0} (w : Fixed C) (n : ℕ) → AllByRecursion (λ tx. length (declared tx) ≤ 16) w.text.txs → length (declared (tx_at w.text n)) ≤ 16
+pub few_uses : {C : Type 0} (w : Fixed C) (n : ℕ) → AllByRecursion (λ tx. length (declared tx) ≤ 16) w.text.txs → length (declared (tx_at w.text n)) ≤ 16
 few_uses w n h = all_get (λ tx. length (declared tx) ≤ 16) w.text.txs n no_tx (omega arith) h
 
-declarers : {C : Type 0} (w : Fixed C) (n : ℕ) (ps : List Pact) → AllByRecursion (λ tx. length (declared tx) ≤ 16) w.text.txs → total (λ a. length (map (λ p. p.tid) (filter (ring.declares w.text a) ps))) (below n) ≤ 16 * length ps
+pub declarers : {C : Type 0} (w : Fixed C) (n : ℕ) (ps : List Pact) → AllByRecursion (λ tx. length (declared tx) ≤ 16) w.text.txs → total (λ a. length (map (λ p. p.tid) (filter (ring.declares w.text a) ps))) (below n) ≤ 16 * length ps
 declarers w n [] h = omega (arith, total_zero (below n))
 declarers w n (p ∷ ps) h = omega (arith, total_plus (λ a. length (map (λ p. p.tid) (filter (ring.declares w.text a) (p ∷ ps)))) (λ a. one_if (ring.declares w.text a p)) (λ a. length (map (λ p. p.tid) (filter (ring.declares w.text a) ps))) (below n) (λ a. le (count_cons (λ p. p.tid) (ring.declares w.text a) p ps)), among_below n (declared (tx_at w.text p.tx)), few_uses w p.tx h, declarers w n ps h)
   where

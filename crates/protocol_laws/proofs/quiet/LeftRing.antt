@@ -110,7 +110,7 @@ pass_falls c to r v e i n =
 
 -- ---- queues
 
-joined_most : (c n : ℕ) (qs : List (List ℕ)) → total length (ring.joined_at c n qs) ≤ total length qs + 1
+pub joined_most : (c n : ℕ) (qs : List (List ℕ)) → total length (ring.joined_at c n qs) ≤ total length qs + 1
 joined_most c n qs = total_set_most length qs c [] (queue qs c ++ n ∷ []) 1 (omega (arith, Times.length_join (queue qs c) (n ∷ [])))
 
 split : {X : Type 0} (n : ℕ) (xs : List X) → length (take n xs) + length (drop n xs) ≡ length xs

@@ -7,9 +7,9 @@ use Rattle.snap_base.specs.declared.transactions.State.{State}
 use Rattle.snap_base.specs.declared.transactions.Tx.{Tx}
 use Rattle.protocol.specs.Facts.{Alone}
 use Rattle.protocol.specs.Fixed.{Fixed, Next, Go, Ended, base}
-use Rattle.protocol.specs.Parts.{Act, Batch, Pact, Stage, Formed, Committing, Settled, Who, OfBatch, OfAct, ControlMessage, Waiting, Outcome, Entry, Machine}
+use Rattle.protocol.specs.Parts.{Act, Batch, Pact, Who, OfBatch, OfAct, ControlMessage, Waiting, Outcome, Entry, Machine}
 use Rattle.protocol.specs.Events.{Event, Form, Admit, Ask, Take, Run, Send, DropControl}
-use Rattle.protocol.specs.Words.{holds, names_pact, is_doomed, is_sealed, is_decided, is_formed, is_settled, act_of, batch_of, has_entry, who_on, control_of, outcome_of}
+use Rattle.protocol.specs.Words.{holds, names_pact, is_doomed, is_sealed, is_decided, is_settled, act_of, batch_of, has_entry, who_on, control_of, outcome_of}
 use Rattle.protocol.specs.Conditions.{IsAllowed, conditions, queue, is_given_up}
 use Rattle.protocol.specs.Effects.{after, cell_at, no_cell}
 use Rattle.protocol.specs.Runs.{opening, new_cell, IsRun, IsQuiet, reached}
@@ -21,7 +21,7 @@ use Rattle.protocol_laws.specs.FromDesk.{is_pact_of, FromDesk}
 use Rattle.protocol_laws.specs.Quiet.{AllAnswered, is_over_batch, is_over_act}
 use Rattle.protocol_laws.proofs.first.Controls as controls
 use Rattle.protocol_laws.proofs.machine.ControlWalk
-use Rattle.protocol_laws.proofs.machine.ControlWalk.{AllControls, Ready, all_found}
+use Rattle.protocol_laws.proofs.machine.ControlWalk.{AllControls, Ready, nowhere}
 use Rattle.protocol_laws.proofs.machine.TracksKept.{Tracked}
 use Rattle.protocol_laws.proofs.machine.TurnsKept.{one_is}
 use Rattle.protocol_laws.proofs.machine.TrailsKept as trails
@@ -43,7 +43,8 @@ use Rattle.protocol_laws.proofs.quiet.BoxedKept.{Boxed, BoxedAt, In}
 use Rattle.protocol_laws.proofs.quiet.QuietOwed as owed
 use Rattle.protocol_laws.proofs.quiet.QuietOwed.{Held}
 use Rattle.protocol_laws.proofs.quiet.HomeKept.{pacts_at_home}
-use Rattle.protocol_laws.proofs.first.Lists.{all_join, all_filter, both_all}
+use Rattle.protocol_laws.proofs.first.Lists.{all_filter, all_found, all_join, both_all}
+use Rattle.protocol_laws.proofs.first.Statuses.{settled_not_formed}
 
 -- ---- each control is a PACT's of the desk, or an ACT's
 
@@ -78,7 +79,7 @@ in_kept w (Form k) s ok ag g = ControlWalk.moves w (Form k) s (InBook (after w (
     (ControlWalk.both (InBook s) (λ u n. Unit {0}) (InBook (after w (Form k) s)) s (λ u n p q. stays w (Form k) s u n p) g (ControlWalk.trivial s))
 in_kept w (Admit t) s ok ag g = ControlWalk.moves w (Admit t) s (InBook (after w (Admit t) s)) ok (inr (some_last t _ s.book.acts refl))
     (ControlWalk.both (InBook s) (λ u n. Unit {0}) (InBook (after w (Admit t) s)) s (λ u n p q. stays w (Admit t) s u n p) g (ControlWalk.trivial s))
-in_kept w (Run t a) s ok ag g = ControlWalk.moves w (Run t a) s (InBook s) ok (λ x e. let own = all_found (λ x. InBook s x.tid (Go a x.control)) (λ x. x.tid == t) x (cell_at s a).inbox e (g.inboxes a) in subst (λ z. ((k : ℕ) × (is_pact_of z k s.desk.batches ≡ true)) ⊎ (is_some (act_of z s.book.acts) ≡ true)) (eqb-true x.tid t own.1) own.0) g
+in_kept w (Run t a) s ok ag g = ControlWalk.moves w (Run t a) s (InBook s) ok (λ x e. let own = all_found (λ x. InBook s x.tid (Go a x.control)) (λ x. x.tid == t) (cell_at s a).inbox x (g.inboxes a) e in subst (λ z. ((k : ℕ) × (is_pact_of z k s.desk.batches ≡ true)) ⊎ (is_some (act_of z s.book.acts) ≡ true)) (eqb-true x.tid t own.1) own.0) g
 in_kept w e s ok ag g = ControlWalk.moves w e s (InBook (after w e s)) ok tt (ControlWalk.both (InBook s) (λ u n. Unit {0}) (InBook (after w e s)) s (λ u n p q. stays w e s u n p) g (ControlWalk.trivial s))
 
 -- ---- the post knows whose a control is
@@ -95,7 +96,7 @@ sends owners es t who xs None e h k = tt
 sends {C} owners es t who xs (Some x) e h k = by x.next
   where
     f : (has_entry x.tid es ≡ true) × ((x.tid == t) ≡ true)
-    f = all_found (λ x. has_entry x.tid es ≡ true) (λ x. x.tid == t) x xs e h
+    f = all_found (λ x. has_entry x.tid es ≡ true) (λ x. x.tid == t) xs x h e
 
     i : x.tid ≡ t
     i = eqb-true x.tid t f.1
@@ -145,22 +146,12 @@ known_kept w Of finish e s h v ok g i = record {
 
 known_opened : {C : Type 0} (w : Fixed C) (Of : Tx → C → Type 0) (finish : C → List State → Alone) → Given w Of finish → Known w Of finish (opening w) no_history
 unfolding Boxed Own
-known_opened {C} w Of finish v = record { held = owed.held_opened w Of finish v; boxed = λ a. nothing w.text.opening.states a; own = tt; in_desk = record { posted = tt; inboxes = λ a. subst (AllByRecursion _) (sym (ins w.text.opening.states a)) tt; outboxes = λ a. subst (AllByRecursion _) (sym (outs w.text.opening.states a)) tt } }
+known_opened {C} w Of finish v = record { held = owed.held_opened w Of finish v; boxed = λ a. nothing w.text.opening.states a; own = tt; in_desk = nowhere w (InBook (opening w)) }
   where
     nothing : (ss : List State) (a : ℕ) → BoxedAt a (slice_index_or (map (new_cell {C = C} (base w.text)) ss) a no_cell)
     nothing [] a = (tt, tt)
     nothing (x ∷ xs) zero = (tt, tt)
     nothing (x ∷ xs) (suc a) = nothing xs a
-
-    ins : (ss : List State) (a : ℕ) → (slice_index_or (map (new_cell {C = C} (base w.text)) ss) a no_cell).inbox ≡ []
-    ins [] a = refl
-    ins (x ∷ xs) zero = refl
-    ins (x ∷ xs) (suc a) = ins xs a
-
-    outs : (ss : List State) (a : ℕ) → (slice_index_or (map (new_cell {C = C} (base w.text)) ss) a no_cell).outbox ≡ []
-    outs [] a = refl
-    outs (x ∷ xs) zero = refl
-    outs (x ∷ xs) (suc a) = outs xs a
 
 pub all_known : {C : Type 0} (w : Fixed C) (Of : Tx → C → Type 0) (finish : C → List State → Alone) (es : List Event) → Given w Of finish → IsRun w es → Known w Of finish (reached w es) (history w es)
 all_known w Of finish es v run = all.along_good w Of finish (Known w Of finish) v (λ e s h ok g i. known_kept w Of finish e s h v ok g i) (known_opened w Of finish v) es run
@@ -175,11 +166,6 @@ pub no_waiting : {C : Type 0} (w : Fixed C) (Of : Tx → C → Type 0) (finish :
 unfolding Boxed
 no_waiting w Of finish es v run q a l = no_box (cell_at (reached w es) a).entries (cell_at (reached w es) a).inbox ((owed.answered w Of finish es v run (pacts_at_home w Of finish es v run) q).entries a l) ((all_known w Of finish es v run).boxed a).0
 
-settled_formed : (st : Stage) → is_settled st ≡ true → is_formed st ≡ false
-settled_formed Formed t = absurd (true≢false (sym t))
-settled_formed Committing t = refl
-settled_formed Settled t = refl
-
 given_up : {C : Type 0} (w : Fixed C) (Of : Tx → C → Type 0) (finish : C → List State → Alone) (s : Machine C) (h : History) (m : ControlMessage C) → AllGood w Of finish s h → Named s h → AllAnswered w s → m.who ≡ h.owners m.tid → InBook s m.tid (Go m.to m.control)
     → Rattle.protocol_laws.proofs.machine.Resting.NoResult m.tid s.desk.batches → Rattle.protocol_laws.proofs.machine.ActResults.NoActResult m.tid s.book.acts → is_given_up m.who s.book ≡ true
 unfolding Valued Acts
@@ -188,7 +174,7 @@ given_up w Of finish s h m g n a o (inl p) r c =
     let b = one_is (names_pact m.tid) (batch_of p.0 s.desk.batches) p.1 in
     elim (or_cases b.0.aborted (is_settled b.0.stage && list_all (λ p. p.trimmed) b.0.places) (list_all_at (λ b. b.bid == p.0) is_over_batch b.0 s.desk.batches b.1 a.batches)) [
       | inl q ↦ subst (λ z. is_given_up z s.book ≡ true) (sym i) (sym (settling.mark_is w s p.0 b.0 b.1 g.good.settling) ∙ q)
-      | inr q ↦ absurd (boxing.with_results m.tid p.0 b.0 s.desk.batches b.1 (g.good.valued p.0 b.0 b.1 (settled_formed b.0.stage (and_parts (is_settled b.0.stage) (list_all (λ p. p.trimmed) b.0.places) q).0)) r p.1)
+      | inr q ↦ absurd (boxing.with_results m.tid p.0 b.0 s.desk.batches b.1 (g.good.valued p.0 b.0 b.1 (settled_not_formed b.0.stage (and_parts (is_settled b.0.stage) (list_all (λ p. p.trimmed) b.0.places) q).0)) r p.1)
     ]
 given_up {C} w Of finish s h m g n a o (inr p) r c = by (act_of m.tid s.book.acts) refl p
   where

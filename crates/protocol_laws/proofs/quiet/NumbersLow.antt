@@ -130,7 +130,7 @@ unfolding after
 acts_low w (Form k) s b g = weaker (λ x. x.m < s.ring.next_bid) (λ x. x.m < s.ring.next_bid + 1) s.book.acts (λ x i. omega (arith, i)) g.acts
 acts_low w (Admit t) s b g = all_join (λ x. x.m < s.ring.next_bid) s.book.acts _ g.acts (b, tt)
 acts_low w (Arrive k a) s b g = low_map s.ring.next_bid (crossed_out a) _ (λ x i. i) (low_map s.ring.next_bid (book.lowered k (book.tids_on (cell_at s a).entries)) s.book.acts (λ x i. i) g.acts)
-acts_low w (Ask t a) s b g = low_asked s.ring.next_bid t a (book.in_the_way t (cell_at s a)) (book.met t (cell_at s a)) (cell_at s a) s.book g.some (g.cells a).last (g.cells a).floor g.acts
+acts_low w (Ask t a) s b g = low_asked s.ring.next_bid t a (book.in_the_way t (cell_at s a).entries) (book.met t (cell_at s a).entries) (cell_at s a) s.book g.some (g.cells a).last (g.cells a).floor g.acts
 acts_low w (End t a) s b g = low_ended s.ring.next_bid t (has_act t (cell_at s a).entries) (outcome_of t (cell_at s a).outbox) s.book.acts g.acts
 acts_low w (Abort k) s b g = low_map s.ring.next_bid _ s.book.acts (λ x i. i) g.acts
 acts_low w (Prepare t a) s b g = low_changed s.ring.next_bid t _ s.book.acts (λ x i. i) g.acts

@@ -38,6 +38,7 @@ use Rattle.protocol_laws.proofs.machine.Good.{Given}
 use Rattle.protocol_laws.proofs.machine.AllGood as all
 use Rattle.protocol_laws.proofs.machine.AllGood.{AllGood}
 use Rattle.protocol_laws.proofs.first.Lists.{all_join, all_map, both_all, all_found}
+use Rattle.protocol_laws.proofs.first.Statuses.{not_doomed_decided}
 
 -- ---- numbers
 
@@ -172,7 +173,7 @@ unfolding Untaken settling.Settling Placed Lasts Tights Floors TidsAscend Acts c
 untaken_kept w (Admit t) s h ok st p l tg f asc i g = all_join (IsUntaken s.book.cascades) s.book.acts _ g ((λ d. out_low w.text.opening.next_bid s.ring.next_bid (base w.text) s.book.cascades st.ascend (omega (arith, st.some))), tt)
 untaken_kept w (Arrive k a) s h ok st p l tg f asc i g = untaken_map s.book.cascades (crossed_out a) (map (book.lowered k (book.tids_on (cell_at s a).entries)) s.book.acts) (λ x. record { tid = refl; m = refl; doomed = dooms (is_crossed x) _ x.status }) (untaken_map s.book.cascades (book.lowered k (book.tids_on (cell_at s a).entries)) s.book.acts (λ x. record { tid = refl; m = refl; doomed = λ d. d }) g)
 untaken_kept w (Ask t a) s h ok st p l tg f asc i g =
-    untaken_asked s.book.cascades t a (book.in_the_way t (cell_at s a)) (book.met t (cell_at s a)) (cell_at s a) s.book (out_low w.text.opening.next_bid s.ring.next_bid 0 s.book.cascades st.ascend (omega (arith, st.some)))
+    untaken_asked s.book.cascades t a (book.in_the_way t (cell_at s a).entries) (book.met t (cell_at s a).entries) (cell_at s a) s.book (out_low w.text.opening.next_bid s.ring.next_bid 0 s.book.cascades st.ascend (omega (arith, st.some)))
     (asked_out w a s h (base w.text) (λ k q. out_low w.text.opening.next_bid s.ring.next_bid k s.book.cascades st.ascend (omega (arith, q, st.some)))
     (behind.clean s.ring.next_bid s.book.cascades (cell_at s a).epoch (cell_at s a).tail (batches_in (h.long a)) (eqb-true (cell_at s a).epoch (epoch s.book) (cells.held (λ c. c.epoch == epoch s.book) s.cells a no_cell ok.1.1.1.0)) (p a).fit) (tg a) (l a) (f a) g) g
 untaken_kept w (End t a) s h ok st p l tg f asc i g = untaken_ended s.book.cascades t (has_act t (cell_at s a).entries) (outcome_of t (cell_at s a).outbox) s.book.acts g
@@ -182,7 +183,7 @@ untaken_kept w (Abort k) s h ok st p l tg f asc i g =
     (both_all (λ x. act_of x.tid s.book.acts ≡ Some x) (IsUntaken s.book.cascades) (λ x. (act_of x.tid s.book.acts ≡ Some x) × IsUntaken s.book.cascades x) s.book.acts (λ x e u. (e, u)) (sets.find_self 0 s.ring.next_tid s.book.acts asc (λ x. act_of x.tid s.book.acts ≡ Some x) (λ x e. e)) g)
 untaken_kept w (Prepare t a) s h ok st p l tg f asc i g = untaken_changed s.book.cascades t _ s.book.acts (λ x. record { tid = refl; m = refl; doomed = λ d. d }) g
 untaken_kept w (Vouch t a) s h ok st p l tg f asc i g = untaken_changed s.book.cascades t _ s.book.acts (λ x. record { tid = refl; m = refl; doomed = λ d. d }) g
-untaken_kept w (Decide t) s h ok st p l tg f asc i g = untaken_changed s.book.cascades t _ s.book.acts (λ x. record { tid = refl; m = refl; doomed = sets.undecided s.book.next_c (is_value x.result) x.status }) g
+untaken_kept w (Decide t) s h ok st p l tg f asc i g = untaken_changed s.book.cascades t _ s.book.acts (λ x. record { tid = refl; m = refl; doomed = not_doomed_decided s.book.next_c (is_value x.result) x.status }) g
 untaken_kept w (Seal t) s h ok st p l tg f asc i g = untaken_changed s.book.cascades t _ s.book.acts (λ x. record { tid = refl; m = refl; doomed = sets.unsealed x.status }) g
 untaken_kept w (Finish t a) s h ok st p l tg f asc i g = untaken_changed s.book.cascades t _ s.book.acts (λ x. record { tid = refl; m = refl; doomed = λ d. d }) g
 untaken_kept w e s h ok st p l tg f asc i g = g

@@ -22,18 +22,16 @@ use Rattle.protocol_laws.proofs.machine.RunOwed as owes
 use Rattle.protocol_laws.proofs.first.EpochsKept as epochs
 use Rattle.protocol_laws.proofs.quiet.QuietEasy.{passed, all_at, any_at, found_at}
 use Rattle.protocol_laws.proofs.quiet.QuietEnd.{each_at}
+use Rattle.protocol_laws.proofs.machine.ActsFound.{found_tid}
 
 -- ---- who has a number of its own is found by it
 
-le : {x y z : ℕ} → x ≡ y → x ≤ z → y ≤ z
-le e l = omega (arith, e, l)
-
-some_times : {X : Type 0} (g : X → ℕ) (xs : List X) (i : ℕ) (x : X) → slice_get xs i ≡ Some x → 1 ≤ times (g x) (map g xs)
+pub some_times : {X : Type 0} (g : X → ℕ) (xs : List X) (i : ℕ) (x : X) → slice_get xs i ≡ Some x → 1 ≤ times (g x) (map g xs)
 some_times g [] i x e = absurd (cc e)
 some_times g (y ∷ xs) zero x e = let q : y ≡ x = cc e in omega (arith, Times.times_cons (g x) (g y) (map g xs), ap one_if (eq-eqb (g y) (g x) (ap g q)))
 some_times g (y ∷ xs) (suc i) x e = omega (arith, Times.times_cons (g x) (g y) (map g xs), some_times g xs i x e)
 
-not_one : (b : Bool) → one_if b ≤ 0 → b ≡ false
+pub not_one : (b : Bool) → one_if b ≤ 0 → b ≡ false
 not_one true l = absurd (omega (arith, l))
 not_one false l = refl
 
@@ -89,14 +87,6 @@ pub record Numbered {C : Type 0} (s : Machine C) : Type 0 where
   pub results : (k : ℕ) (b : Batch) → batch_of k s.desk.batches ≡ Some b → AllByRecursion (λ p. (pact_result p.tid s.desk.batches ≡ p.result) × (names_pact p.tid b ≡ true)) b.pacts
   pub tids : (t : ℕ) (x : Act) → act_of t s.book.acts ≡ Some x → t < s.ring.next_tid
 
-act_tid : (t : ℕ) (x : Act) (xs : List Act) → act_of t xs ≡ Some x → x.tid ≡ t
-act_tid t x [] e = absurd (cc e)
-act_tid t x (y ∷ ys) e = by (y.tid == t) refl e (act_tid t x ys)
-  where
-    by : (b : Bool) → (y.tid == t) ≡ b → (if b then Some y else act_of t ys) ≡ Some x → (act_of t ys ≡ Some x → x.tid ≡ t) → x.tid ≡ t
-    by true i g k = let z : y ≡ x = cc g in subst (λ v. v.tid ≡ t) z (eqb-true y.tid t i)
-    by false i g k = k g
-
 pub numbered : {C : Type 0} (w : Fixed C) (s : Machine C) → NumbersDrawnOnce w s → Numbered s
 numbered w s d = record {
   batches = each_at (λ b. batch_of b.bid s.desk.batches ≡ Some b) s.desk.batches (found_once (λ b. b.bid) s.desk.batches (λ n. bids n));
@@ -120,7 +110,7 @@ numbered w s d = record {
     tids : (t : ℕ) (x : Act) → act_of t s.book.acts ≡ Some x → t < s.ring.next_tid
     tids t x e =
         let i = found_at (λ x. x.tid == t) s.book.acts x e in
-        let q = act_tid t x s.book.acts e in
+        let q = found_tid t x s.book.acts e in
         let o : 1 ≤ times t (map (λ x. x.tid) s.book.acts) = subst (λ z. 1 ≤ times z (map (λ x. x.tid) s.book.acts)) q (some_times (λ x. x.tid) s.book.acts i.0 x i.1) in
         elim (cases_lt t s.ring.next_tid) [
           | inl l ↦ l
@@ -129,7 +119,7 @@ numbered w s d = record {
 
 -- ---- epochs and settling
 
-bid_is : {C : Type 0} (s : Machine C) (k : ℕ) (b : Batch) → batch_of k s.desk.batches ≡ Some b → b.bid ≡ k
+pub bid_is : {C : Type 0} (s : Machine C) (k : ℕ) (b : Batch) → batch_of k s.desk.batches ≡ Some b → b.bid ≡ k
 bid_is s k b e = eqb-true b.bid k (found_bid k b s.desk.batches e)
 
 pub mark : {C : Type 0} (w : Fixed C) (s : Machine C) → BatchesSettleInOrder w s → (k : ℕ) (b : Batch) → batch_of k s.desk.batches ≡ Some b → b.aborted ≡ is_aborted k s.book.cascades
@@ -152,7 +142,7 @@ settled_among (x ∷ bs) (suc i) b e t = by (is_settled x.stage) (settled_among 
 pub settled_most : {C : Type 0} (w : Fixed C) (s : Machine C) → BatchesSettleInOrder w s → (k : ℕ) (b : Batch) → batch_of k s.desk.batches ≡ Some b → is_settled b.stage ≡ true → k ≤ s.desk.settled
 settled_most w s g k b e t = let i = found_at (λ b. b.bid == k) s.desk.batches b e in omega (arith, g.settled_is, settled_among s.desk.batches i.0 b i.1 t, bid_is s k b e)
 
-upto_below : (k : ℕ) (cs : List Cascade) → AllByRecursion (λ c. c.first ≤ k) cs → is_aborted k cs ≡ false → AllByRecursion (λ c. c.upto < k) cs
+pub upto_below : (k : ℕ) (cs : List Cascade) → AllByRecursion (λ c. c.first ≤ k) cs → is_aborted k cs ≡ false → AllByRecursion (λ c. c.upto < k) cs
 upto_below k [] h n = tt
 upto_below k (c ∷ cs) h n = elim (cases_lt c.upto k) [
   | inl l ↦ (l, upto_below k cs h.1 (rest (covers k c) n))
@@ -166,7 +156,7 @@ upto_below k (c ∷ cs) h n = elim (cases_lt c.upto k) [
     front : covers k c ≡ true → (covers k c || is_aborted k cs) ≡ true
     front e = rw e refl
 
-first_most : (k : ℕ) (bs : List Batch) (i : ℕ) (b : Batch) (cs : List Cascade) → slice_get bs i ≡ Some b → b.bid ≡ k → (b.aborted || is_settled b.stage) ≡ false → AllByRecursion (λ c. AllOverBelow c.first bs) cs → AllByRecursion (λ c. c.first ≤ k) cs
+pub first_most : (k : ℕ) (bs : List Batch) (i : ℕ) (b : Batch) (cs : List Cascade) → slice_get bs i ≡ Some b → b.bid ≡ k → (b.aborted || is_settled b.stage) ≡ false → AllByRecursion (λ c. AllOverBelow c.first bs) cs → AllByRecursion (λ c. c.first ≤ k) cs
 first_most k bs i b [] e q n h = tt
 first_most k bs i b (c ∷ cs) e q n h = (
   elim (cases_lt k c.first) [
@@ -203,7 +193,7 @@ present_epoch w s g h k a m e f =
 
 -- ---- cells
 
-cell_agrees : {C : Type 0} (s : Machine C) (cs : List (Cell C)) (a : ℕ) → AllByRecursion (CellAgrees s) cs → CellAgrees s (slice_index_or cs a no_cell)
+pub cell_agrees : {C : Type 0} (s : Machine C) (cs : List (Cell C)) (a : ℕ) → AllByRecursion (CellAgrees s) cs → CellAgrees s (slice_index_or cs a no_cell)
 cell_agrees s [] a h = record { behind = omega arith; placed = tt; aborted = tt; present = λ e. tt }
 cell_agrees s (c ∷ cs) zero h = h.0
 cell_agrees s (c ∷ cs) (suc a) h = cell_agrees s cs a h.1

@@ -1,5 +1,5 @@
 -- What is owed of quiet states holds after every run.
-use Rattle.std.specs.Prelude.{◌≡◌, refl, ℕ, zero, suc, ◌+◌, ◌<◌, ◌≤◌, ◌==◌, not, Bool, true, false, ◌||◌, ◌&&◌, ◌⊎◌, if◌then◌else◌, Option, Some, None, is_some, List, [], ◌∷◌, length, map, find, slice_index_or}
+use Rattle.std.specs.Prelude.{◌≡◌, refl, ℕ, zero, suc, ◌+◌, ◌<◌, ◌≤◌, ◌==◌, not, Bool, true, false, ◌||◌, ◌&&◌, ◌⊎◌, if◌then◌else◌, Some, None, is_some, List, [], ◌∷◌, length, map, find, slice_index_or}
 use Rattle.std.specs.List.{AllByRecursion, list_any, list_all}
 use Rattle.std.proofs.Common.{arith, sym, ap, subst, inl, inr, ◌∙◌}
 use Rattle.std.proofs.lemmas.Bool.{true≢false, eqb-true, eq-eqb, or_cases, or_right, and_parts, cases_Bool, cases_lt}
@@ -46,7 +46,7 @@ use Rattle.protocol_laws.proofs.quiet.ControlsHeld as counts
 use Rattle.protocol_laws.proofs.quiet.ControlsHeld.{Whose, Resulted, is_resulted}
 use Rattle.protocol_laws.proofs.quiet.HasOneKept as ones
 use Rattle.protocol_laws.proofs.quiet.HasOneKept.{HasOne}
-use Rattle.protocol_laws.proofs.machine.ControlWalk.{all_found}
+use Rattle.protocol_laws.proofs.first.Lists.{all_found, some_is}
 
 -- ---- along a run
 
@@ -99,17 +99,13 @@ in_cell t f g (c ∷ cs) l = elim (cases_lt 0 (times t (map f (g c)))) [
       (suc r.0, omega (arith, r.1), r.2)
 ]
 
-is_it : {X : Type 0} (o : Option X) → is_some o ≡ true → (x : X) × (o ≡ Some x)
-is_it None e = absurd (true≢false (sym e))
-is_it (Some x) e = (x, refl)
-
 has_control : {C : Type 0} (w : Fixed C) (Of : Tx → C → Type 0) (finish : C → List State → Alone) (s : Machine C) (h : History) (t : ℕ) → AllGood w Of finish s h → length s.cells ≡ length w.text.opening.states → 1 ≤ times t (controls_in s) → HasControl t s
 has_control {C} w Of finish s h t g n l = by (cases_lt 0 (times t (map (λ m. m.tid) s.post.controls))) (cases_lt 0 (times t (flat (map waiting_tids (map (λ c. c.inbox) s.cells)))))
   where
     by : (0 < times t (map (λ m. m.tid) s.post.controls)) ⊎ (times t (map (λ m. m.tid) s.post.controls) ≤ 0) → (0 < times t (flat (map waiting_tids (map (λ c. c.inbox) s.cells)))) ⊎ (times t (flat (map waiting_tids (map (λ c. c.inbox) s.cells))) ≤ 0) → HasControl t s
     by (inl p) q =
-        let m = is_it (control_of t s.post.controls) (some_in t (λ m. m.tid) s.post.controls (omega (arith, p))) in
-        let f = all_found (λ m. Told w Of finish h m.tid (Go m.to m.control)) (λ m. m.tid == t) m.0 s.post.controls m.1 g.good.told.posted in
+        let m = some_is (control_of t s.post.controls) (some_in t (λ m. m.tid) s.post.controls (omega (arith, p))) in
+        let f = all_found (λ m. Told w Of finish h m.tid (Go m.to m.control)) (λ m. m.tid == t) s.post.controls m.0 g.good.told.posted m.1 in
         (m.0.to, omega (arith, f.0.of_it.2, n), inl (inl (subst (λ o. holds (λ x. x.to == m.0.to) o ≡ true) (sym m.1) (eq-eqb m.0.to m.0.to refl))))
     by (inr p) (inl q) = let r = in_cell t (λ x. x.tid) (λ c. c.inbox) s.cells (omega (arith, q)) in (r.0, r.1, inl (inr (some_in t (λ x. x.tid) (cell_at s r.0).inbox r.2)))
     by (inr p) (inr q) =

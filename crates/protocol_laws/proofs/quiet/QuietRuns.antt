@@ -31,22 +31,22 @@ use Rattle.protocol_laws.proofs.quiet.LeftAlong.{cells_stay}
 
 -- ---- what is known along a run
 
-record Known {C : Type 0} (w : Fixed C) (s : Machine C) : Type 0 where
-  cells : length s.cells ≡ length w.text.opening.states
-  logs : length s.logs ≡ w.text.logs
-  waits : of_batches.Waits w s
-  acts : of_acts.AllFit w s
-  batches : of_batches.AllFit w s
-  written : of_batches.AllWritten w s
-  agreeing : epochs.Agreeing s
-  settling : settling.Settling w s
-  rows : of_rows.Rows s
-  from_desk : FromDesk s
-  placed : subs.Placed w s
-  numbers : drawn.Drawn w s
-  tails : of_tails.Tails s
+pub record Known {C : Type 0} (w : Fixed C) (s : Machine C) : Type 0 where
+  pub cells : length s.cells ≡ length w.text.opening.states
+  pub logs : length s.logs ≡ w.text.logs
+  pub waits : of_batches.Waits w s
+  pub acts : of_acts.AllFit w s
+  pub batches : of_batches.AllFit w s
+  pub written : of_batches.AllWritten w s
+  pub agreeing : epochs.Agreeing s
+  pub settling : settling.Settling w s
+  pub rows : of_rows.Rows s
+  pub from_desk : FromDesk s
+  pub placed : subs.Placed w s
+  pub numbers : drawn.Drawn w s
+  pub tails : of_tails.Tails s
 
-known_kept : {C : Type 0} (w : Fixed C) → IsText w.text → 1 ≤ length w.text.opening.states → (e : Event) (s : Machine C) → IsAllowed w e s → Known w s → Known w (after w e s)
+pub known_kept : {C : Type 0} (w : Fixed C) → IsText w.text → 1 ≤ length w.text.opening.states → (e : Event) (s : Machine C) → IsAllowed w e s → Known w s → Known w (after w e s)
 known_kept w v l e s ok h = record {
   cells = cells_stay w e s ∙ h.cells;
   logs = logs_stay w e s h.logs;
@@ -63,7 +63,7 @@ known_kept w v l e s ok h = record {
   tails = of_tails.tails_kept w e s ok h.agreeing h.settling h.rows h.batches h.placed (known.found_at_each w s h.numbers) h.from_desk h.tails;
 }
 
-known_after : {C : Type 0} (w : Fixed C) (es : List Event) → IsText w.text → 1 ≤ length w.text.opening.states → IsRun w es → Known w (reached w es)
+pub known_after : {C : Type 0} (w : Fixed C) (es : List Event) → IsText w.text → 1 ≤ length w.text.opening.states → IsRun w es → Known w (reached w es)
 known_after w es v l run = along w (Known w) (known_kept w v l) es (opening w) run (record {
   cells = Times.length_map (new_cell (base w.text)) w.text.opening.states;
   logs = length-replicate w.text.logs no_log;

@@ -157,7 +157,7 @@ pub rows_kept : {C : Type 0} (w : Fixed C) (e : Event) (s : Machine C) → IsAll
 unfolding Rows conditions after
 rows_kept w (Form k) s ok g t h = λ a. record { places = PlaceLists.form _ _ _ _ _ _ (h a).places; differ = (h a).differ }
 rows_kept w (Arrive k a) s ok g t h = let m = message w k a s ok g in one_of (λ b c. At s b c) no_cell s.cells a _ (λ x. arrive _ _ _ _ _ k (cell_at s a).entries (sub_of k a s.post.subs) ok.0 m.formed m.own m.behind x) h
-rows_kept w (Ask t a) s ok g u h = one_of (λ b c. At s b c) no_cell s.cells a _ (λ x. ask _ _ _ _ _ t (cell_at s a).entries (book.in_the_way t (cell_at s a)) (not-true (has_act t (cell_at s a).entries) (held (λ c. not (has_act t c.entries)) s.cells a no_cell ok.1.1.0)) x) h
+rows_kept w (Ask t a) s ok g u h = one_of (λ b c. At s b c) no_cell s.cells a _ (λ x. ask _ _ _ _ _ t (cell_at s a).entries (book.in_the_way t (cell_at s a).entries) (not-true (has_act t (cell_at s a).entries) (held (λ c. not (has_act t c.entries)) s.cells a no_cell ok.1.1.0)) x) h
 rows_kept w (Take t a) s ok g u h = one_of (λ b c. At s b c) no_cell s.cells a _ (λ x. x) h
 rows_kept w (Run t a) s ok g u h = one_of (λ b c. At s b c) no_cell s.cells a (cell.slice_run w.code t a (cell_at s a)) (λ x. ran _ _ _ _ _ t (cell.is_done_after w.code a (cell.slice_of w.code t (cell_at s a))) (cell_at s a).entries x) h
 rows_kept w (Send t a) s ok g u h = one_of (λ b c. At s b c) no_cell s.cells a _ (λ x. x) h

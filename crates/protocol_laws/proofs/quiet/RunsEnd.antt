@@ -18,7 +18,7 @@ few_declared : (txs : List Tx) → AllByRecursion HasFewUses txs → AllByRecurs
 few_declared [] h = tt
 few_declared (tx ∷ txs) h = (omega (arith, Times.length_map (λ u. u.0.0) tx.uses, h.0.few), few_declared txs h.1)
 
-small : {C : Type 0} (w : Fixed C) → IsText w.text → IsSmall w
+pub small : {C : Type 0} (w : Fixed C) → IsText w.text → IsSmall w
 small w t = record { actors = t.few_actors; coordinators = t.few_coordinators; uses = few_declared w.text.txs t.uses }
 
 pub runs_end : {C : Type 0} → OfEveryRun (RunsEnd {C = C})

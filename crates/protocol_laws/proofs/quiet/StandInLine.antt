@@ -32,7 +32,7 @@ use Rattle.protocol_laws.proofs.machine.TurnsKept.{one_is, Turned}
 use Rattle.protocol_laws.proofs.machine.BeforesKept.{Numbers}
 use Rattle.protocol_laws.proofs.machine.Good.{Given, Good}
 use Rattle.protocol_laws.proofs.machine.ActsKept.{Acts}
-use Rattle.protocol_laws.proofs.machine.ActsFound.{EachAct}
+use Rattle.protocol_laws.proofs.machine.ActsFound.{EachAct, found_tid}
 use Rattle.protocol_laws.proofs.machine.EntriesKept.{open_at}
 use Rattle.protocol_laws.proofs.machine.AllGood as all
 use Rattle.protocol_laws.proofs.machine.AllGood.{AllGood}
@@ -268,9 +268,6 @@ pair_found P a t u (p ∷ ps) h g = elim (or_cases (is_pair a t u p) (has_pair a
 
 not_doomed : (acts : List Act) (t : ℕ) (x : Act) → act_of t acts ≡ Some x → is_doomed x.status ≡ false → doomed_at acts t ≡ true → ⊥
 not_doomed acts t x e d q = true≢false (sym (subst (λ o. holds (λ x. is_doomed x.status) o ≡ true) e q) ∙ d)
-
-found_tid : (t : ℕ) (x : Act) (acts : List Act) → act_of t acts ≡ Some x → x.tid ≡ t
-found_tid t x acts e = Rattle.protocol_laws.proofs.machine.ActsFound.found_tid t x acts e
 
 order_one : (a : ℕ) (ps : List Pair) (acts : List Act) (z : ℕ) (es : List Entry) → AllByRecursion (IsInLine acts) ps → PairedOn a ps acts z es → ((k : ℕ) → is_among k (batches_on es) ≡ true → holds (λ y. is_doomed y.status || nat_lt y.m k) (act_of z acts) ≡ true) → BehindBatches acts es
     → (t : ℕ) (x y : Act) → has_act t es ≡ true → act_of z acts ≡ Some x → act_of t acts ≡ Some y → is_doomed x.status ≡ false → is_doomed y.status ≡ false → IsAheadOf x y

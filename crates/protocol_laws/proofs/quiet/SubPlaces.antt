@@ -25,6 +25,7 @@ use Rattle.protocol_laws.proofs.machine.TracksKept.{arrives}
 use Rattle.protocol_laws.proofs.quiet.RowsKept as rows
 use Rattle.protocol_laws.proofs.quiet.ActsKnown.{one_of}
 use Rattle.protocol_laws.proofs.quiet.BatchesKnown as known
+use Rattle.protocol_laws.proofs.first.Statuses.{if_bid}
 
 -- ---- words
 
@@ -157,10 +158,6 @@ waits_map k a f (x ∷ bs) i h = subst (λ z. holds (λ b. holds (λ p. not p.tr
     by : (v : Bool) → (x.bid == k) ≡ v → waits_at k a (map f bs) ≡ waits_at k a bs → holds (λ b. holds (λ p. not p.trimmed) (declared_of a b)) (if v then Some (f x) else batch_of k (map f bs)) ≡ holds (λ b. holds (λ p. not p.trimmed) (declared_of a b)) (if v then Some x else batch_of k bs)
     by true e g = h x e
     by false e g = g
-
-pub if_bid : (v : Bool) (f : Batch → Batch) (b : Batch) → (f b).bid ≡ b.bid → (desk.change_if v f b).bid ≡ b.bid
-if_bid true f b h = h
-if_bid false f b h = refl
 
 pub if_waits : (v : Bool) (a : ℕ) (f : Batch → Batch) (b : Batch) → holds (λ p. not p.trimmed) (declared_of a (f b)) ≡ holds (λ p. not p.trimmed) (declared_of a b) → holds (λ p. not p.trimmed) (declared_of a (desk.change_if v f b)) ≡ holds (λ p. not p.trimmed) (declared_of a b)
 if_waits true a f b h = h
@@ -368,7 +365,7 @@ one_place_kept w (Arrive k a) s ok more g r h = λ b. elim (cases_Bool (b == a))
       (subst (λ c. OneAt (without_sub k a s.post.subs) s.desk.batches s.book.cascades a c.entries) (sym (get_or-set_same s.cells a (cell.batch_placed k (sub_of k a s.post.subs) (cell_at s a)) no_cell (arrives (epoch s.book) a (λ c. c.epoch == epoch s.book) s.cells (sub_of k a s.post.subs) ok.1.1.0))) (arrive_one s.post.subs s.desk.batches s.book.cascades k a (cell_at s a).entries ok.0 (h a)))
   | inr e ↦ subst (λ c. OneAt (without_sub k a s.post.subs) s.desk.batches s.book.cascades b c.entries) (sym (get_or-set_other s.cells a b (cell.batch_placed k (sub_of k a s.post.subs) (cell_at s a)) no_cell (eqb-false b a e))) (away s.post.subs s.desk.batches s.book.cascades k a b (cell_at s b).entries e (h b))
 ]
-one_place_kept w (Ask t a) s ok more g r h = one_of (λ b c. OneAt s.post.subs s.desk.batches s.book.cascades b c.entries) no_cell s.cells a _ (λ x. same_row s.post.subs s.desk.batches s.book.cascades a (cell_at s a).entries ((cell_at s a).entries ++ cell.act_entries t (book.in_the_way t (cell_at s a))) (acts_only t (book.in_the_way t (cell_at s a)) (cell_at s a).entries) x) h
+one_place_kept w (Ask t a) s ok more g r h = one_of (λ b c. OneAt s.post.subs s.desk.batches s.book.cascades b c.entries) no_cell s.cells a _ (λ x. same_row s.post.subs s.desk.batches s.book.cascades a (cell_at s a).entries ((cell_at s a).entries ++ cell.act_entries t (book.in_the_way t (cell_at s a).entries)) (acts_only t (book.in_the_way t (cell_at s a).entries) (cell_at s a).entries) x) h
 one_place_kept w (Take t a) s ok more g r h = one_of (λ b c. OneAt s.post.subs s.desk.batches s.book.cascades b c.entries) no_cell s.cells a _ (λ x. x) h
 one_place_kept w (Run t a) s ok more g r h = one_of (λ b c. OneAt s.post.subs s.desk.batches s.book.cascades b c.entries) no_cell s.cells a (cell.slice_run w.code t a (cell_at s a)) (λ x. ran s.post.subs s.desk.batches s.book.cascades a t (cell.is_done_after w.code a (cell.slice_of w.code t (cell_at s a))) (cell_at s a).entries x) h
 one_place_kept w (Send t a) s ok more g r h = one_of (λ b c. OneAt s.post.subs s.desk.batches s.book.cascades b c.entries) no_cell s.cells a _ (λ x. x) h

@@ -3,7 +3,7 @@
 use Rattle.std.specs.Prelude.{◌≡◌, refl, ℕ, zero, suc, ◌+◌, ◌<◌, ◌≤◌, ◌%◌, ◌==◌, not, Bool, true, false, ◌&&◌, ◌||◌, if◌then◌else◌, ◌⊎◌, Option, Some, None, is_some, List, [], ◌∷◌, ◌++◌, map, filter, find, slice_index_or, slice_set, replicate}
 use Rattle.std.specs.List.{AllByRecursion, list_any}
 use Rattle.std.proofs.Common.{arith, sym, ap, subst, inl, inr, ◌∙◌}
-use Rattle.std.proofs.lemmas.Bool.{eqb-true, eqb-false, eq-eqb, ne_eqb, and_parts, or_cases, true≢false, not-true, cases_Bool, cases_lt}
+use Rattle.std.proofs.lemmas.Bool.{eqb-true, eq-eqb, ne_eqb, and_parts, or_cases, true≢false, not-true, cases_lt}
 use Rattle.protocol.specs.Fixed.{Fixed}
 use Rattle.protocol.specs.Records.{LogRecord, ActCommit, is_complete}
 use Rattle.protocol.specs.Parts.{Act, SubBatch, Declared, Committing, Settled, Stage, Formed, Entry, BatchEntry, ActEntry, Machine}
@@ -26,19 +26,14 @@ use Rattle.protocol_laws.proofs.quiet.QuietEasy.{passed, found_at, all_at, all_i
 use Rattle.protocol_laws.proofs.quiet.ActsKnown.{IsIn, one_of}
 use Rattle.protocol_laws.proofs.quiet.BatchesKnown as known
 use Rattle.protocol_laws.proofs.quiet.SubPlaces
+use Rattle.protocol_laws.proofs.first.Lists.{any_join}
+use Rattle.protocol_laws.proofs.first.Statuses.{if_bid}
 
 -- ---- records come by Complete alone
 
 abbrev pub IsCompleting : Event → ℕ → ℕ → Type 0
 IsCompleting (Complete j b) k a = ((j == k) && (b == a)) ≡ true
 IsCompleting _ k a = ⊥
-
-any_join : {X : Type 0} (p : X → Bool) (xs ys : List X) → list_any p (xs ++ ys) ≡ true → (list_any p xs ≡ true) ⊎ (list_any p ys ≡ true)
-any_join p [] ys h = inr h
-any_join p (x ∷ xs) ys h = elim (or_cases (p x) (list_any p (xs ++ ys)) h) [
-  | inl e ↦ inl (Rattle.std.proofs.lemmas.Bool.or_left (p x) (list_any p xs) e)
-  | inr e ↦ elim (any_join p xs ys e) [ inl f ↦ inl (Rattle.std.proofs.lemmas.Bool.or_right (p x) (list_any p xs) f) | inr f ↦ inr f ]
-]
 
 more : {C : Type 0} (s : Machine C) (test : LogRecord → Bool) (j : ℕ) (rs : List LogRecord) (l : ℕ) → list_any test (slice_index_or (slice_set s.logs j (added rs (log_at s j))) l no_log).records ≡ true → (IsIn test l s) ⊎ (list_any test rs ≡ true)
 more s test j rs l = one_of (λ b g. list_any test g.records ≡ true → (list_any test (log_at s b).records ≡ true) ⊎ (list_any test rs ≡ true)) no_log s.logs j (added rs (log_at s j)) (λ k i. any_join test (log_at s j).records rs i) (λ b i. inl i) l
@@ -84,7 +79,7 @@ arrived j k es o i = omega (arith, SubPlaces.times_arrived j k es o i)
 stands : {C : Type 0} (w : Fixed C) (e : Event) (s : Machine C) (k a : ℕ) → IsAllowed w e s → is_aborted k s.book.cascades ≡ false → rows.Rows s → NotTrim k a e → times k (batches_on (cell_at s a).entries) ≤ times k (batches_on (cell_at (after w e s) a).entries)
 unfolding rows.Rows conditions after
 stands w (Arrive j b) s k a ok n r m = one_of (λ i c. times k (batches_on (cell_at s i).entries) ≤ times k (batches_on c.entries)) no_cell s.cells b (cell.batch_placed j (sub_of j b s.post.subs) (cell_at s b)) (λ x. arrived k j (cell_at s b).entries (sub_of j b s.post.subs) ok.0) (λ i. omega arith) a
-stands w (Ask t b) s k a ok n r m = one_of (λ i c. times k (batches_on (cell_at s i).entries) ≤ times k (batches_on c.entries)) no_cell s.cells b _ (λ x. same (ap (times k) (SubPlaces.acts_only t (book.in_the_way t (cell_at s b)) (cell_at s b).entries))) (λ i. omega arith) a
+stands w (Ask t b) s k a ok n r m = one_of (λ i c. times k (batches_on (cell_at s i).entries) ≤ times k (batches_on c.entries)) no_cell s.cells b _ (λ x. same (ap (times k) (SubPlaces.acts_only t (book.in_the_way t (cell_at s b).entries) (cell_at s b).entries))) (λ i. omega arith) a
 stands w (Take t b) s k a ok n r m = one_of (λ i c. times k (batches_on (cell_at s i).entries) ≤ times k (batches_on c.entries)) no_cell s.cells b _ (λ x. x) (λ i. omega arith) a
 stands w (Run t b) s k a ok n r m = one_of (λ i c. times k (batches_on (cell_at s i).entries) ≤ times k (batches_on c.entries)) no_cell s.cells b (cell.slice_run w.code t b (cell_at s b)) (λ x. ran k t (cell.is_done_after w.code b (cell.slice_of w.code t (cell_at s b))) (cell_at s b).entries) (λ i. omega arith) a
 stands w (Send t b) s k a ok n r m = one_of (λ i c. times k (batches_on (cell_at s i).entries) ≤ times k (batches_on c.entries)) no_cell s.cells b _ (λ x. x) (λ i. omega arith) a
@@ -109,13 +104,13 @@ waited : {C : Type 0} (w : Fixed C) (e : Event) (s : Machine C) (k a : ℕ) → 
 unfolding conditions after
 waited w (Form j) s k a ok l h = (sym (ap (λ z. holds (λ b. holds (λ p. not p.trimmed) (declared_of a b)) z) (SubPlaces.other_batch k _ s.desk.batches (ne_eqb j k (λ q. omega (arith, q, l, eqb-true j s.ring.next_bid ok.0))))) ∙ h, tt)
 waited w (End t b) s k a ok l h = (sym (SubPlaces.ended_waits k a (has_act t (cell_at s b).entries) t (outcome_of t (cell_at s b).outbox) s.desk.batches) ∙ h, tt)
-waited w (Note j b) s k a ok l h = (sym (SubPlaces.waits_map k a (λ x. desk.change_if (x.bid == j) (desk.marked b desk.is_noted) x) s.desk.batches (λ x. SubPlaces.if_bid (x.bid == j) (desk.marked b desk.is_noted) x refl) (λ x e. SubPlaces.if_waits (x.bid == j) a (desk.marked b desk.is_noted) x (SubPlaces.marked_waits a b desk.is_noted x.places (λ p. refl) (λ p q. if_trim (p.actor == b) p)))) ∙ h, tt)
+waited w (Note j b) s k a ok l h = (sym (SubPlaces.waits_map k a (λ x. desk.change_if (x.bid == j) (desk.marked b desk.is_noted) x) s.desk.batches (λ x. if_bid (x.bid == j) (desk.marked b desk.is_noted) x refl) (λ x e. SubPlaces.if_waits (x.bid == j) a (desk.marked b desk.is_noted) x (SubPlaces.marked_waits a b desk.is_noted x.places (λ p. refl) (λ p q. if_trim (p.actor == b) p)))) ∙ h, tt)
   where
     if_trim : (v : Bool) (p : Declared) → (desk.mark_if v desk.is_noted p).trimmed ≡ p.trimmed
     if_trim true p = refl
     if_trim false p = refl
-waited w (Commit j) s k a ok l h = (sym (SubPlaces.waits_map k a (λ x. desk.change_if (x.bid == j) (desk.with_stage Committing) x) s.desk.batches (λ x. SubPlaces.if_bid (x.bid == j) (desk.with_stage Committing) x refl) (λ x e. SubPlaces.if_waits (x.bid == j) a (desk.with_stage Committing) x refl)) ∙ h, tt)
-waited w (Settle j) s k a ok l h = (sym (SubPlaces.waits_map k a (λ x. desk.change_if (x.bid == j) (desk.with_stage Settled) x) s.desk.batches (λ x. SubPlaces.if_bid (x.bid == j) (desk.with_stage Settled) x refl) (λ x e. SubPlaces.if_waits (x.bid == j) a (desk.with_stage Settled) x refl)) ∙ h, tt)
+waited w (Commit j) s k a ok l h = (sym (SubPlaces.waits_map k a (λ x. desk.change_if (x.bid == j) (desk.with_stage Committing) x) s.desk.batches (λ x. if_bid (x.bid == j) (desk.with_stage Committing) x refl) (λ x e. SubPlaces.if_waits (x.bid == j) a (desk.with_stage Committing) x refl)) ∙ h, tt)
+waited w (Settle j) s k a ok l h = (sym (SubPlaces.waits_map k a (λ x. desk.change_if (x.bid == j) (desk.with_stage Settled) x) s.desk.batches (λ x. if_bid (x.bid == j) (desk.with_stage Settled) x refl) (λ x e. SubPlaces.if_waits (x.bid == j) a (desk.with_stage Settled) x refl)) ∙ h, tt)
 waited w (Abort j) s k a ok l h = (sym (SubPlaces.waits_map k a (desk.taken j) s.desk.batches (λ x. refl) (λ x e. refl)) ∙ h, tt)
 waited w (Trim j b) s k a ok l h = by ((j == k) && (b == a)) refl
   where

@@ -21,7 +21,6 @@ use Rattle.protocol.specs.OnDesk as desk
 use Rattle.protocol.specs.OnCell as cell
 use Rattle.protocol_laws.specs.Places.{Fits}
 use Rattle.protocol_laws.proofs.first.EpochsKept as epochs
-use Rattle.protocol_laws.proofs.first.CellEpochs as cells
 use Rattle.protocol_laws.proofs.first.SettlingKept as settling
 use Rattle.protocol_laws.proofs.machine.TracksKept.{arrives, held}
 use Rattle.protocol_laws.proofs.quiet.RowsKept as rows
@@ -29,6 +28,8 @@ use Rattle.protocol_laws.proofs.quiet.SubPlaces
 use Rattle.protocol_laws.proofs.quiet.SubsArrive as subs
 use Rattle.protocol_laws.proofs.quiet.BatchesKnown as known
 use Rattle.protocol_laws.proofs.quiet.ActsKnown.{one_of}
+use Rattle.protocol_laws.proofs.first.Lists.{all_found}
+use Rattle.protocol_laws.proofs.first.Statuses.{if_bid}
 
 -- ---- the desk's batches and their actors
 
@@ -70,10 +71,10 @@ declared_same : {C : Type 0} (w : Fixed C) (e : Event) (s : Machine C) (k a : �
 unfolding conditions after
 declared_same w (Form j) s k a ok l = ap (λ z. holds (λ b. is_some (declared_of a b)) z) (SubPlaces.other_batch k (desk.new_batch j (ring.next_actors w.text s.ring) (ring.next_pacts w.text s.ring)) s.desk.batches (ne_eqb j k (λ q. omega (arith, q, l, eqb-true j s.ring.next_bid ok.0))))
 declared_same w (End t b) s k a ok l = ended_declared k a (has_act t (cell_at s b).entries) t (outcome_of t (cell_at s b).outbox) s.desk.batches
-declared_same w (Note j b) s k a ok l = looks (λ x. is_some (declared_of a x)) k (λ x. desk.change_if (x.bid == j) (desk.marked b desk.is_noted) x) s.desk.batches (λ x. SubPlaces.if_bid (x.bid == j) (desk.marked b desk.is_noted) x refl) (λ x. if_looks (λ x. is_some (declared_of a x)) (x.bid == j) (desk.marked b desk.is_noted) x (marked_declared a b desk.is_noted x.places (λ p. refl)))
-declared_same w (Trim j b) s k a ok l = looks (λ x. is_some (declared_of a x)) k (λ x. desk.change_if (x.bid == j) (desk.marked b desk.is_trimmed) x) s.desk.batches (λ x. SubPlaces.if_bid (x.bid == j) (desk.marked b desk.is_trimmed) x refl) (λ x. if_looks (λ x. is_some (declared_of a x)) (x.bid == j) (desk.marked b desk.is_trimmed) x (marked_declared a b desk.is_trimmed x.places (λ p. refl)))
-declared_same w (Commit j) s k a ok l = looks (λ x. is_some (declared_of a x)) k (λ x. desk.change_if (x.bid == j) (desk.with_stage Committing) x) s.desk.batches (λ x. SubPlaces.if_bid (x.bid == j) (desk.with_stage Committing) x refl) (λ x. if_looks (λ x. is_some (declared_of a x)) (x.bid == j) (desk.with_stage Committing) x refl)
-declared_same w (Settle j) s k a ok l = looks (λ x. is_some (declared_of a x)) k (λ x. desk.change_if (x.bid == j) (desk.with_stage Settled) x) s.desk.batches (λ x. SubPlaces.if_bid (x.bid == j) (desk.with_stage Settled) x refl) (λ x. if_looks (λ x. is_some (declared_of a x)) (x.bid == j) (desk.with_stage Settled) x refl)
+declared_same w (Note j b) s k a ok l = looks (λ x. is_some (declared_of a x)) k (λ x. desk.change_if (x.bid == j) (desk.marked b desk.is_noted) x) s.desk.batches (λ x. if_bid (x.bid == j) (desk.marked b desk.is_noted) x refl) (λ x. if_looks (λ x. is_some (declared_of a x)) (x.bid == j) (desk.marked b desk.is_noted) x (marked_declared a b desk.is_noted x.places (λ p. refl)))
+declared_same w (Trim j b) s k a ok l = looks (λ x. is_some (declared_of a x)) k (λ x. desk.change_if (x.bid == j) (desk.marked b desk.is_trimmed) x) s.desk.batches (λ x. if_bid (x.bid == j) (desk.marked b desk.is_trimmed) x refl) (λ x. if_looks (λ x. is_some (declared_of a x)) (x.bid == j) (desk.marked b desk.is_trimmed) x (marked_declared a b desk.is_trimmed x.places (λ p. refl)))
+declared_same w (Commit j) s k a ok l = looks (λ x. is_some (declared_of a x)) k (λ x. desk.change_if (x.bid == j) (desk.with_stage Committing) x) s.desk.batches (λ x. if_bid (x.bid == j) (desk.with_stage Committing) x refl) (λ x. if_looks (λ x. is_some (declared_of a x)) (x.bid == j) (desk.with_stage Committing) x refl)
+declared_same w (Settle j) s k a ok l = looks (λ x. is_some (declared_of a x)) k (λ x. desk.change_if (x.bid == j) (desk.with_stage Settled) x) s.desk.batches (λ x. if_bid (x.bid == j) (desk.with_stage Settled) x refl) (λ x. if_looks (λ x. is_some (declared_of a x)) (x.bid == j) (desk.with_stage Settled) x refl)
 declared_same w (Abort j) s k a ok l = looks (λ x. is_some (declared_of a x)) k (desk.taken j) s.desk.batches (λ x. refl) (λ x. refl)
 declared_same w e s k a ok l = refl
 
@@ -185,13 +186,13 @@ waits_same : {C : Type 0} (w : Fixed C) (e : Event) (s : Machine C) (k a : ℕ) 
 unfolding conditions after
 waits_same w (Form j) s k a ok l m = ap (λ z. holds (λ b. holds (λ p. not p.trimmed) (declared_of a b)) z) (SubPlaces.other_batch k (desk.new_batch j (ring.next_actors w.text s.ring) (ring.next_pacts w.text s.ring)) s.desk.batches (ne_eqb j k (λ q. omega (arith, q, l, eqb-true j s.ring.next_bid ok.0))))
 waits_same w (End t b) s k a ok l m = SubPlaces.ended_waits k a (has_act t (cell_at s b).entries) t (outcome_of t (cell_at s b).outbox) s.desk.batches
-waits_same w (Note j b) s k a ok l m = SubPlaces.waits_map k a (λ x. desk.change_if (x.bid == j) (desk.marked b desk.is_noted) x) s.desk.batches (λ x. SubPlaces.if_bid (x.bid == j) (desk.marked b desk.is_noted) x refl) (λ x e. SubPlaces.if_waits (x.bid == j) a (desk.marked b desk.is_noted) x (SubPlaces.marked_waits a b desk.is_noted x.places (λ p. refl) (λ p q. if_trim (p.actor == b) p)))
+waits_same w (Note j b) s k a ok l m = SubPlaces.waits_map k a (λ x. desk.change_if (x.bid == j) (desk.marked b desk.is_noted) x) s.desk.batches (λ x. if_bid (x.bid == j) (desk.marked b desk.is_noted) x refl) (λ x e. SubPlaces.if_waits (x.bid == j) a (desk.marked b desk.is_noted) x (SubPlaces.marked_waits a b desk.is_noted x.places (λ p. refl) (λ p q. if_trim (p.actor == b) p)))
   where
     if_trim : (v : Bool) (p : Declared) → (desk.mark_if v desk.is_noted p).trimmed ≡ p.trimmed
     if_trim true p = refl
     if_trim false p = refl
-waits_same w (Commit j) s k a ok l m = SubPlaces.waits_map k a (λ x. desk.change_if (x.bid == j) (desk.with_stage Committing) x) s.desk.batches (λ x. SubPlaces.if_bid (x.bid == j) (desk.with_stage Committing) x refl) (λ x e. SubPlaces.if_waits (x.bid == j) a (desk.with_stage Committing) x refl)
-waits_same w (Settle j) s k a ok l m = SubPlaces.waits_map k a (λ x. desk.change_if (x.bid == j) (desk.with_stage Settled) x) s.desk.batches (λ x. SubPlaces.if_bid (x.bid == j) (desk.with_stage Settled) x refl) (λ x e. SubPlaces.if_waits (x.bid == j) a (desk.with_stage Settled) x refl)
+waits_same w (Commit j) s k a ok l m = SubPlaces.waits_map k a (λ x. desk.change_if (x.bid == j) (desk.with_stage Committing) x) s.desk.batches (λ x. if_bid (x.bid == j) (desk.with_stage Committing) x refl) (λ x e. SubPlaces.if_waits (x.bid == j) a (desk.with_stage Committing) x refl)
+waits_same w (Settle j) s k a ok l m = SubPlaces.waits_map k a (λ x. desk.change_if (x.bid == j) (desk.with_stage Settled) x) s.desk.batches (λ x. if_bid (x.bid == j) (desk.with_stage Settled) x refl) (λ x e. SubPlaces.if_waits (x.bid == j) a (desk.with_stage Settled) x refl)
 waits_same w (Abort j) s k a ok l m = SubPlaces.waits_map k a (desk.taken j) s.desk.batches (λ x. refl) (λ x e. refl)
 waits_same w (Trim j b) s k a ok l m = SubPlaces.trim_desk j b a k s.desk.batches m
 waits_same w e s k a ok l m = refl
@@ -305,8 +306,8 @@ arrive_tail {C} w k a s ok g f d h = by (sub_of k a s.post.subs) refl ok.0 ok.1.
         → holds (λ m. holds (λ c. m.prev == c.tail) (slice_get s.cells a)) o ≡ true → TailsAt (after w (Arrive k a) s) a (cell_at s a).epoch k
     by None e p q r = absurd (true≢false (sym p))
     by (Some m) e p q r =
-        let n = cells.all_found (epochs.Names s.ring.next_bid s.book.cascades (map (λ b. b.bid) s.desk.batches) (map (λ b. map (λ p. p.actor) b.places) s.desk.batches)) (λ x. (x.bid == k) && (x.actor == a)) m s.post.subs e g.names in
-        let x = cells.all_found (MessageOf s.desk.batches) (λ x. (x.bid == k) && (x.actor == a)) m s.post.subs e d.subs in
+        let n = all_found (epochs.Names s.ring.next_bid s.book.cascades (map (λ b. b.bid) s.desk.batches) (map (λ b. map (λ p. p.actor) b.places) s.desk.batches)) (λ x. (x.bid == k) && (x.actor == a)) s.post.subs m g.names e in
+        let x = all_found (MessageOf s.desk.batches) (λ x. (x.bid == k) && (x.actor == a)) s.post.subs m d.subs e in
         let ids = and_parts (m.bid == k) (m.actor == a) n.1 in
         let i : m.bid ≡ k = eqb-true m.bid k ids.0 in
         let j : m.actor ≡ a = eqb-true m.actor a ids.1 in
@@ -422,7 +423,7 @@ roll_tail w a s l g r p h = record {
         by : (o : Option SubBatch) → sub_of j a s.post.subs ≡ o → is_some o ≡ true → 0 < j
         by None e q = absurd (true≢false (sym q))
         by (Some m) e q =
-            let n = cells.all_found (epochs.Names s.ring.next_bid s.book.cascades (map (λ b. b.bid) s.desk.batches) (map (λ b. map (λ p. p.actor) b.places) s.desk.batches)) (λ x. (x.bid == j) && (x.actor == a)) m s.post.subs e g.names in
+            let n = all_found (epochs.Names s.ring.next_bid s.book.cascades (map (λ b. b.bid) s.desk.batches) (map (λ b. map (λ p. p.actor) b.places) s.desk.batches)) (λ x. (x.bid == j) && (x.actor == a)) s.post.subs m g.names e in
             omega (arith, n.0.some, eqb-true m.bid j (and_parts (m.bid == j) (m.actor == a) n.1).0)
 
     none : (j : ℕ) → is_declared j a s.desk.batches ≡ true → epoch_of j s.book.cascades ≡ length s.book.cascades → is_some (sub_of j a s.post.subs) ≡ false → ⊥
@@ -505,8 +506,8 @@ tails_opened {C} w v = λ a. empty_tail (opening w) a (cell_at (opening w) a).ep
 pub next_there : {C : Type 0} (s : Machine C) → epochs.Agreeing s → Found s.desk.batches → FromDesk s → Tails s → (k a : ℕ) (m : SubBatch) → sub_of k a s.post.subs ≡ Some m → is_aborted k s.book.cascades ≡ false → m.epoch ≡ epoch s.book → (cell_at s a).epoch ≡ epoch s.book → ((j : ℕ) → j < k → is_some (sub_of j a s.post.subs) ≡ true → is_aborted j s.book.cascades ≡ true) → m.prev ≡ (cell_at s a).tail
 unfolding epochs.Agreeing Tails
 next_there s g f d h k a m e fresh now here smaller =
-    let n = cells.all_found (epochs.Names s.ring.next_bid s.book.cascades (map (λ b. b.bid) s.desk.batches) (map (λ b. map (λ p. p.actor) b.places) s.desk.batches)) (λ x. (x.bid == k) && (x.actor == a)) m s.post.subs e g.names in
-    let x = cells.all_found (MessageOf s.desk.batches) (λ x. (x.bid == k) && (x.actor == a)) m s.post.subs e d.subs in
+    let n = all_found (epochs.Names s.ring.next_bid s.book.cascades (map (λ b. b.bid) s.desk.batches) (map (λ b. map (λ p. p.actor) b.places) s.desk.batches)) (λ x. (x.bid == k) && (x.actor == a)) s.post.subs m g.names e in
+    let x = all_found (MessageOf s.desk.batches) (λ x. (x.bid == k) && (x.actor == a)) s.post.subs m d.subs e in
     let ids = and_parts (m.bid == k) (m.actor == a) n.1 in
     let i : m.bid ≡ k = eqb-true m.bid k ids.0 in
     let j : m.actor ≡ a = eqb-true m.actor a ids.1 in

@@ -4,7 +4,6 @@ use Rattle.std.specs.List.{AllByRecursion}
 use Rattle.std.proofs.Common.{arith, sym, ap, subst, inl, inr, ◌∙◌}
 use Rattle.std.proofs.lemmas.List.{append-nil}
 use Rattle.std.proofs.lemmas.Bool.{eqb-true, eqb-false, eq-eqb, leb-true, ltb-true, le-leb, lt-ltb, and_parts, and_from, or_cases, or_left, or_right, or_parts, not-true, true≢false, false_from_ne_true, cases_Bool}
-use Rattle.snap_base.specs.declared.verdicts.Verdict.{Verdict}
 use Rattle.protocol.specs.Fixed.{Fixed, Next, Go, Ended}
 use Rattle.protocol.specs.Rivals.{Lock}
 use Rattle.protocol.specs.Parts.{Act, Pair, Book, Batch, Cascade, Status, Live, Doomed, Decided, Sealed, Outcome, Who, OfBatch, OfAct, Entry, BatchEntry, ActEntry, Cell, Machine}
@@ -36,6 +35,7 @@ use Rattle.protocol_laws.proofs.first.Lists.{all_join, all_map, weaker, both_all
 use Rattle.protocol_laws.proofs.sets.BeforeSets.{find_self}
 use Rattle.protocol_laws.proofs.machine.OversKept as overs
 use Rattle.protocol_laws.proofs.machine.CommitsKept.{beside_carried, Committed}
+use Rattle.protocol_laws.proofs.first.Statuses.{live_decided, live_if, live_sealed}
 
 -- ---- m below n
 
@@ -70,22 +70,6 @@ same_if false f x k h = h
 uncrossed_changed : (t : ℕ) (f : Act → Act) (xs : List Act) → ((x : Act) → IsUncrossed x → IsUncrossed (f x)) → AllByRecursion IsUncrossed xs → AllByRecursion IsUncrossed (book.changed_act t f xs)
 uncrossed_changed t f xs k h = all_map IsUncrossed IsUncrossed _ xs (λ x i. same_if (x.tid == t) f x (k x) i) h
 
-live_if : (c : Bool) (v : Verdict) (st : Status) → is_live_status (if c then Doomed v else st) ≡ true → is_live_status st ≡ true
-live_if true v st e = absurd (true≢false (sym e))
-live_if false v st e = e
-
-live_decided : (c : ℕ) (v : Bool) (st : Status) → is_live_status (book.decided_status c v st) ≡ true → is_live_status st ≡ true
-live_decided c v Live e = refl
-live_decided c v (Doomed d) e = e
-live_decided c v (Decided d) e = e
-live_decided c v (Sealed d) e = e
-
-live_sealed : (st : Status) → is_live_status (book.sealed_status st) ≡ true → is_live_status st ≡ true
-live_sealed Live e = e
-live_sealed (Doomed d) e = e
-live_sealed (Decided d) e = e
-live_sealed (Sealed d) e = e
-
 uncrossed_ended : {C : Type 0} (t : ℕ) (b : Bool) (o : Option (Outcome C)) (xs : List Act) → AllByRecursion IsUncrossed xs → AllByRecursion IsUncrossed (if b then book.noted_from t o xs else xs)
 uncrossed_ended t false o xs h = h
 uncrossed_ended t true None xs h = h
@@ -110,7 +94,7 @@ pub uncrossed_kept : {C : Type 0} (w : Fixed C) (e : Event) (s : Machine C) → 
 unfolding Uncrossed after
 uncrossed_kept w (Admit t) s h = all_join IsUncrossed s.book.acts _ h (refl, tt)
 uncrossed_kept w (Arrive k a) s h = all_crossed_gone a _
-uncrossed_kept w (Ask t a) s h = uncrossed_asked t a (book.in_the_way t (cell_at s a)) (book.met t (cell_at s a)) (cell_at s a) s.book h
+uncrossed_kept w (Ask t a) s h = uncrossed_asked t a (book.in_the_way t (cell_at s a).entries) (book.met t (cell_at s a).entries) (cell_at s a) s.book h
 uncrossed_kept w (End t a) s h = uncrossed_ended t (has_act t (cell_at s a).entries) (outcome_of t (cell_at s a).outbox) s.book.acts h
 uncrossed_kept w (Abort k) s h = all_map IsUncrossed IsUncrossed _ s.book.acts (λ x i. no_number (is_live_status (book.cascaded k (book.failed_tx (book.why k s.desk)) x).status)) h
 uncrossed_kept w (Prepare t a) s h = uncrossed_changed t _ s.book.acts (λ x i. i) h
@@ -471,9 +455,9 @@ after_kept w (Arrive k a) s h ok q g =
     (least_arrives s.book.cascades long' h.behind k tids s.book.acts (not-true (is_aborted k s.book.cascades) ok.1.0) (λ t i. (a, rw (eq-eqb a a refl) (ahead_placed t k (h.long a) (cell_at s a).entries (q.beside.turned a) i)))
     (least_long s.book.cascades h.long long' h.behind 0 s.ring.next_tid s.book.acts q.tids (λ x e l j n b i. stays_at x.tid j a (h.long a ++ not_run (OfBatch k) ∷ []) h.long (ahead_join x.tid j (h.long a) (not_run (OfBatch k) ∷ [])) b i) g))
 after_kept w (Ask t a) s h ok q g =
-    let new = h.long a ++ map not_run (asks t (book.in_the_way t (cell_at s a))) in
-    least_asked s.book.cascades (with_at a new h.long) h.behind t a (book.in_the_way t (cell_at s a)) (book.met t (cell_at s a)) (cell_at s a) s.book
-    (least_long s.book.cascades h.long (with_at a new h.long) h.behind 0 s.ring.next_tid s.book.acts q.tids (λ x e l j n b i. stays_at x.tid j a new h.long (ask_ahead x.tid j t (book.in_the_way t (cell_at s a)) (h.long a)) b i) g)
+    let new = h.long a ++ map not_run (asks t (book.in_the_way t (cell_at s a).entries)) in
+    least_asked s.book.cascades (with_at a new h.long) h.behind t a (book.in_the_way t (cell_at s a).entries) (book.met t (cell_at s a).entries) (cell_at s a) s.book
+    (least_long s.book.cascades h.long (with_at a new h.long) h.behind 0 s.ring.next_tid s.book.acts q.tids (λ x e l j n b i. stays_at x.tid j a new h.long (ask_ahead x.tid j t (book.in_the_way t (cell_at s a).entries) (h.long a)) b i) g)
 after_kept w (Run t a) s h ok q g =
     let who = who_on t (cell_at s a).entries in
     let z : Slice = record { tid = t; found = (cell_at s a).state; left = (cell.slice_run w.code t a (cell_at s a)).state } in

@@ -32,6 +32,7 @@ use Rattle.protocol_laws.proofs.sets.LastsTight.{Tights, Tight}
 use Rattle.protocol_laws.proofs.sets.FloorsKept.{Floors}
 use Rattle.protocol_laws.proofs.sets.PairsAhead as ahead
 use Rattle.protocol_laws.proofs.first.Lists.{all_join, all_map, weaker, all_found}
+use Rattle.protocol_laws.proofs.first.Statuses.{live_not_doomed, not_doomed_decided}
 
 abbrev pub AllGreatest : (ℕ → List ℕ) → List Act → Type 0
 AllGreatest b acts = AllByRecursion (IsGreatest b) acts
@@ -62,12 +63,6 @@ changed b t f xs k h = mapped b _ xs (λ x. if_less (x.tid == t) f x (k x)) h
 dooms : (c : Bool) (v : Rattle.snap_base.specs.declared.verdicts.Verdict.Verdict) (st : Status) → is_doomed (if c then Doomed v else st) ≡ false → is_doomed st ≡ false
 dooms true v st e = absurd (true≢false e)
 dooms false v st e = e
-
-pub undecided : (c : ℕ) (v : Bool) (st : Status) → is_doomed (book.decided_status c v st) ≡ false → is_doomed st ≡ false
-undecided c v Live e = refl
-undecided c v (Doomed d) e = absurd (true≢false e)
-undecided c v (Decided d) e = refl
-undecided c v (Sealed d) e = refl
 
 pub unsealed : (st : Status) → is_doomed (book.sealed_status st) ≡ false → is_doomed st ≡ false
 unsealed Live e = refl
@@ -283,15 +278,9 @@ pub record AskedOn (first : ℕ) (acts : List Act) (last trimmed floor : ℕ) (l
   pub lasts : LastIs last trimmed long
   pub floors : FloorIs first acts floor left
 
-undoomed : (st : Status) → is_live_status st ≡ true → is_doomed st ≡ false
-undoomed Live e = refl
-undoomed (Doomed v) e = absurd (true≢false (sym e))
-undoomed (Decided c) e = refl
-undoomed (Sealed c) e = refl
-
 asked : {C : Type 0} (first t a : ℕ) (s : Machine C) (h : History) → holds (λ x. is_live_status x.status) (act_of t s.book.acts) ≡ true → AskedOn first s.book.acts (cell_at s a).last (cell_at s a).last_trimmed (cell_at s a).floor (h.long a) (h.left_sealed a)
-    → AllByRecursion (λ x. first ≤ x.m) s.book.acts → TidsAscend s → AllByRecursion IsOlder (s.book.pairs ++ book.new_pairs t a (book.met t (cell_at s a)) s.book.acts) → AllIn s.book.acts (s.book.pairs ++ book.new_pairs t a (book.met t (cell_at s a)) s.book.acts)
-    → AllByRecursion (NoneAhead s.book.acts) s.book.pairs → h.gains ≡ carrying s.book.acts s.book.pairs → AllGreatest h.before s.book.acts → AllGreatest (asked_before true t a s h) (book.asked_acts None (book.met t (cell_at s a)) t a (max (cell_at s a).last (cell_at s a).floor) s.book)
+    → AllByRecursion (λ x. first ≤ x.m) s.book.acts → TidsAscend s → AllByRecursion IsOlder (s.book.pairs ++ book.new_pairs t a (book.met t (cell_at s a).entries) s.book.acts) → AllIn s.book.acts (s.book.pairs ++ book.new_pairs t a (book.met t (cell_at s a).entries) s.book.acts)
+    → AllByRecursion (NoneAhead s.book.acts) s.book.pairs → h.gains ≡ carrying s.book.acts s.book.pairs → AllGreatest h.before s.book.acts → AllGreatest (asked_before true t a s h) (book.asked_acts None (book.met t (cell_at s a).entries) t a (max (cell_at s a).last (cell_at s a).floor) s.book)
 unfolding TidsAscend
 asked {C} first t a s h live on based asc older ins none gs sets =
     mapped (asked_before true t a s h) (crossed_out a) (raised ps joined) (λ x. record { tid = refl; m = refl; doomed = dooms (is_crossed x) _ x.status })
@@ -300,7 +289,7 @@ asked {C} first t a s h live on based asc older ins none gs sets =
     (SpreadSets.spread_raised ps (carrying joined ps) 0 s.ring.next_tid b joined asc'
     (gain_each ps joined ps (self_pairs ps ps (λ t u q. q)) older (weaker (λ p. IsIn acts p.ahead) (λ p. IsIn joined p.ahead) ps (λ p q. gains.in_grows acts joined p.ahead (Rattle.protocol_laws.proofs.machine.ActsGrow.changed_grows t (book.joins a m) acts (λ x. record { tid = refl; rises = omega arith; doomed = λ d. d; live = λ d. d; sealed = λ d. d })) q) ins))
     (gains_each 0 s.ring.next_tid ps joined asc')
-    (no_gain 0 s.ring.next_tid joined ps asc' (weaker (NoneAhead acts) (NoneAhead joined) ps (λ p q. none_joined t a m acts p q) (all_join (NoneAhead acts) s.book.pairs new none (new_none t a (book.met t c) acts live))))
+    (no_gain 0 s.ring.next_tid joined ps asc' (weaker (NoneAhead acts) (NoneAhead joined) ps (λ p q. none_joined t a m acts p q) (all_join (NoneAhead acts) s.book.pairs new none (new_none t a (book.met t c.entries) acts live))))
     (befores_joined (carrying joined ps) t a m v h.before acts (λ x i e. subst (λ o. holds (λ x. is_live_status x.status) o ≡ true) e live) 0 s.ring.next_tid asc between sets))))
   where
     acts : List Act
@@ -313,10 +302,10 @@ asked {C} first t a s h live on based asc older ins none gs sets =
     m = max (cell_at s a).last (cell_at s a).floor
 
     new : List Pair
-    new = book.new_pairs t a (book.met t (cell_at s a)) s.book.acts
+    new = book.new_pairs t a (book.met t (cell_at s a).entries) s.book.acts
 
     ps : List Pair
-    ps = s.book.pairs ++ book.new_pairs t a (book.met t (cell_at s a)) s.book.acts
+    ps = s.book.pairs ++ book.new_pairs t a (book.met t (cell_at s a).entries) s.book.acts
 
     joined : List Act
     joined = book.changed_act t (book.joins a (max (cell_at s a).last (cell_at s a).floor)) s.book.acts
@@ -330,11 +319,11 @@ asked {C} first t a s h live on based asc older ins none gs sets =
     asc' : Ascend 0 s.ring.next_tid (map (λ x. x.tid) (book.changed_act t (book.joins a (max (cell_at s a).last (cell_at s a).floor)) s.book.acts))
     asc' = subst (Ascend 0 s.ring.next_tid) (sym (joined_tids t a (max (cell_at s a).last (cell_at s a).floor) s.book.acts)) asc
 
-    same : carrying (book.changed_act t (book.joins a (max (cell_at s a).last (cell_at s a).floor)) s.book.acts) (s.book.pairs ++ book.new_pairs t a (book.met t (cell_at s a)) s.book.acts) ≡ asked_gains t a s h
+    same : carrying (book.changed_act t (book.joins a (max (cell_at s a).last (cell_at s a).floor)) s.book.acts) (s.book.pairs ++ book.new_pairs t a (book.met t (cell_at s a).entries) s.book.acts) ≡ asked_gains t a s h
     same =
-        gains.same_out s.book.acts (book.changed_act t (book.joins a (max (cell_at s a).last (cell_at s a).floor)) s.book.acts) (s.book.pairs ++ book.new_pairs t a (book.met t (cell_at s a)) s.book.acts) (λ p. gains.out_changed t (book.joins a (max (cell_at s a).last (cell_at s a).floor)) s.book.acts p (λ x. refl) (λ x. refl))
-        ∙ (gains.carrying_join s.book.acts s.book.pairs (book.new_pairs t a (book.met t (cell_at s a)) s.book.acts)
-        ∙ (ap (λ z. z ++ carrying s.book.acts (book.new_pairs t a (book.met t (cell_at s a)) s.book.acts)) (sym gs) ∙ ap (λ z. h.gains ++ z) (new_carried s.book.acts t a (book.met t (cell_at s a)))))
+        gains.same_out s.book.acts (book.changed_act t (book.joins a (max (cell_at s a).last (cell_at s a).floor)) s.book.acts) (s.book.pairs ++ book.new_pairs t a (book.met t (cell_at s a).entries) s.book.acts) (λ p. gains.out_changed t (book.joins a (max (cell_at s a).last (cell_at s a).floor)) s.book.acts p (λ x. refl) (λ x. refl))
+        ∙ (gains.carrying_join s.book.acts s.book.pairs (book.new_pairs t a (book.met t (cell_at s a).entries) s.book.acts)
+        ∙ (ap (λ z. z ++ carrying s.book.acts (book.new_pairs t a (book.met t (cell_at s a).entries) s.book.acts)) (sym gs) ∙ ap (λ z. h.gains ++ z) (new_carried s.book.acts t a (book.met t (cell_at s a).entries))))
 
     -- its own set reaches down to base
     low : first ≤ greatest (h.before t)
@@ -342,24 +331,24 @@ asked {C} first t a s h live on based asc older ins none gs sets =
         let x = one_is (λ x. is_live_status x.status) (act_of t s.book.acts) live in
         let f = all_found (λ x. first ≤ x.m) (λ x. x.tid == t) s.book.acts x.0 based x.1 in
         let g = all_found (IsGreatest h.before) (λ x. x.tid == t) s.book.acts x.0 sets x.1 in
-        omega (arith, f.0, g.0 (undoomed x.0.status x.2), ap (λ z. greatest (h.before z)) (eqb-true x.0.tid t f.1))
+        omega (arith, f.0, g.0 (live_not_doomed x.0.status x.2), ap (λ z. greatest (h.before z)) (eqb-true x.0.tid t f.1))
 
     met : List Lock
-    met = filter (λ x. not (book.is_doomed_act s.book.acts x)) (book.met t (cell_at s a))
+    met = filter (λ x. not (book.is_doomed_act s.book.acts x)) (book.met t (cell_at s a).entries)
 
-    in_set : greatest (h.before t ++ asked_set t a s h) ≡ max (greatest (h.before t)) (max (greatest (batches_in (h.long a))) (max (greatest (sets_of h.before (h.left_sealed a))) (greatest (sets_of h.before (filter (λ x. not (book.is_doomed_act s.book.acts x)) (book.met t (cell_at s a)))))))
-    in_set = omega (arith, greatest_join (h.before t) (asked_set t a s h), greatest_join (batches_in (h.long a)) (sets_of h.before (filter (rivals (record { tid = t })) (h.left_sealed a)) ++ sets_of h.before (filter (λ x. not (book.is_doomed_act s.book.acts x)) (book.met t (cell_at s a)))), greatest_join (sets_of h.before (filter (rivals (record { tid = t })) (h.left_sealed a))) (sets_of h.before (filter (λ x. not (book.is_doomed_act s.book.acts x)) (book.met t (cell_at s a)))), ap (λ z. greatest (sets_of h.before z)) (all_rivals t (h.left_sealed a)))
+    in_set : greatest (h.before t ++ asked_set t a s h) ≡ max (greatest (h.before t)) (max (greatest (batches_in (h.long a))) (max (greatest (sets_of h.before (h.left_sealed a))) (greatest (sets_of h.before (filter (λ x. not (book.is_doomed_act s.book.acts x)) (book.met t (cell_at s a).entries))))))
+    in_set = omega (arith, greatest_join (h.before t) (asked_set t a s h), greatest_join (batches_in (h.long a)) (sets_of h.before (filter (rivals (record { tid = t })) (h.left_sealed a)) ++ sets_of h.before (filter (λ x. not (book.is_doomed_act s.book.acts x)) (book.met t (cell_at s a).entries))), greatest_join (sets_of h.before (filter (rivals (record { tid = t })) (h.left_sealed a))) (sets_of h.before (filter (λ x. not (book.is_doomed_act s.book.acts x)) (book.met t (cell_at s a).entries))), ap (λ z. greatest (sets_of h.before z)) (all_rivals t (h.left_sealed a)))
 
     back : (xs ys : List Pair) → AllByRecursion IsOlder (xs ++ ys) → AllByRecursion IsOlder ys
     back [] ys o = o
     back (x ∷ xs) ys o = back xs ys o.1
 
-    gained_met : greatest (sets_of h.before (filter (λ x. not (book.is_doomed_act s.book.acts x)) (book.met t (cell_at s a)))) ≤ greatest (gained (asked_gains t a s h) t (with_at t (h.before t ++ asked_set t a s h) h.before))
-    gained_met = sets_most h.before (greatest (gained (asked_gains t a s h) t (with_at t (h.before t ++ asked_set t a s h) h.before))) (filter (λ x. not (book.is_doomed_act s.book.acts x)) (book.met t (cell_at s a)))
-        (group_gained (asked_gains t a s h) t a h.before (with_at t (h.before t ++ asked_set t a s h) h.before) (filter (λ x. not (book.is_doomed_act s.book.acts x)) (book.met t (cell_at s a))) (λ u n. at_other t u (h.before t ++ asked_set t a s h) h.before n) (λ v u q. behind_last h.gains (book.new_pairs t a (book.met t (cell_at s a)) s.book.acts) v u q) (back s.book.pairs (book.new_pairs t a (book.met t (cell_at s a)) s.book.acts) older))
+    gained_met : greatest (sets_of h.before (filter (λ x. not (book.is_doomed_act s.book.acts x)) (book.met t (cell_at s a).entries))) ≤ greatest (gained (asked_gains t a s h) t (with_at t (h.before t ++ asked_set t a s h) h.before))
+    gained_met = sets_most h.before (greatest (gained (asked_gains t a s h) t (with_at t (h.before t ++ asked_set t a s h) h.before))) (filter (λ x. not (book.is_doomed_act s.book.acts x)) (book.met t (cell_at s a).entries))
+        (group_gained (asked_gains t a s h) t a h.before (with_at t (h.before t ++ asked_set t a s h) h.before) (filter (λ x. not (book.is_doomed_act s.book.acts x)) (book.met t (cell_at s a).entries)) (λ u n. at_other t u (h.before t ++ asked_set t a s h) h.before n) (λ v u q. behind_last h.gains (book.new_pairs t a (book.met t (cell_at s a).entries) s.book.acts) v u q) (back s.book.pairs (book.new_pairs t a (book.met t (cell_at s a).entries) s.book.acts) older))
 
     between : (x : Act) → x.tid ≡ t → x.m ≡ greatest (h.before t) → (max x.m (max (cell_at s a).last (cell_at s a).floor) ≤ greatest (h.before t ++ asked_set t a s h))
-        × (greatest (h.before t ++ asked_set t a s h) ≤ max (max x.m (max (cell_at s a).last (cell_at s a).floor)) (greatest (gained (carrying (book.changed_act t (book.joins a (max (cell_at s a).last (cell_at s a).floor)) s.book.acts) (s.book.pairs ++ book.new_pairs t a (book.met t (cell_at s a)) s.book.acts)) t (with_at t (h.before t ++ asked_set t a s h) h.before))))
+        × (greatest (h.before t ++ asked_set t a s h) ≤ max (max x.m (max (cell_at s a).last (cell_at s a).floor)) (greatest (gained (carrying (book.changed_act t (book.joins a (max (cell_at s a).last (cell_at s a).floor)) s.book.acts) (s.book.pairs ++ book.new_pairs t a (book.met t (cell_at s a).entries) s.book.acts)) t (with_at t (h.before t ++ asked_set t a s h) h.before))))
     between x i e =
         let gb = greatest_most (cell_at s a).last (batches_in (h.long a)) on.lasts.placed in
         let gl = left_sets h.before s.book.acts (h.left_sealed a) sets on.floors.sealed in (
@@ -378,17 +367,17 @@ pub record SetsWith {C : Type 0} (w : Fixed C) (e : Event) (s : Machine C) (h : 
   pub gains : GainsAre s h
   pub pairs_in : PairsIn s
   pub none_ahead : AllByRecursion (NoneAhead s.book.acts) s.book.pairs
-  pub new_in : (t a : ℕ) → AllIn s.book.acts (book.new_pairs t a (book.met t (cell_at s a)) s.book.acts)
+  pub new_in : (t a : ℕ) → AllIn s.book.acts (book.new_pairs t a (book.met t (cell_at s a).entries) s.book.acts)
   pub tights : Tights w s h
   pub lasts : Lasts s h
   pub floors : Floors w s h
 
-asks : {C : Type 0} (w : Fixed C) (t a : ℕ) (s : Machine C) (h : History) → holds (λ x. is_live_status x.status) (act_of t s.book.acts) ≡ true → SetsWith w (Ask t a) s h → AllGreatest h.before s.book.acts → (o : Option ℕ) → book.in_the_way t (cell_at s a) ≡ o
-    → AllGreatest (asked_before (is_none o) t a s h) (book.asked_acts o (book.met t (cell_at s a)) t a (max (cell_at s a).last (cell_at s a).floor) s.book)
+asks : {C : Type 0} (w : Fixed C) (t a : ℕ) (s : Machine C) (h : History) → holds (λ x. is_live_status x.status) (act_of t s.book.acts) ≡ true → SetsWith w (Ask t a) s h → AllGreatest h.before s.book.acts → (o : Option ℕ) → book.in_the_way t (cell_at s a).entries ≡ o
+    → AllGreatest (asked_before (is_none o) t a s h) (book.asked_acts o (book.met t (cell_at s a).entries) t a (max (cell_at s a).last (cell_at s a).floor) s.book)
 unfolding GainsAre PairsIn Tights Lasts Floors after
 asks w t a s h live k g (Some x) e = changed h.before t (book.doomed_by (Rattle.protocol.specs.Verdicts.died a x t)) s.book.acts (λ x. record { tid = refl; m = refl; doomed = dooms (is_live_status x.status) _ x.status }) g
 asks w t a s h live k g None e = asked (base w.text) t a s h live (record { tight = k.tights a; lasts = k.lasts a; floors = k.floors a }) (found.stand w s k.tids k.pairs_stand).based k.tids
-    (subst (λ o. AllByRecursion IsOlder (book.asked_pairs o (book.met t (cell_at s a)) t a s.book)) e (found.stand w (after w (Ask t a) s) k.tids_then k.pairs_then).older)
+    (subst (λ o. AllByRecursion IsOlder (book.asked_pairs o (book.met t (cell_at s a).entries) t a s.book)) e (found.stand w (after w (Ask t a) s) k.tids_then k.pairs_then).older)
     (all_join (λ p. IsIn s.book.acts p.ahead) s.book.pairs _ k.pairs_in (k.new_in t a)) k.none_ahead k.gains g
 
 pub sets_kept : {C : Type 0} (w : Fixed C) (e : Event) (s : Machine C) (h : History) → IsAllowed w e s → shows.Owed e s h → SetsWith w e s h → Sets s h → Sets (after w e s) (grown w e s h)
@@ -397,12 +386,12 @@ sets_kept w (Admit t) s h ok o k g =
     let i : t ≡ s.ring.next_tid = eqb-true t s.ring.next_tid ok.0 in
     all_join (IsGreatest (with_at t (base w.text ∷ []) h.before)) s.book.acts _ (others 0 t (base w.text ∷ []) h.before s.book.acts (subst (λ z. Ascend 0 z (map (λ x. x.tid) s.book.acts)) (sym i) k.tids) g) ((λ d. omega (arith, ap greatest (at_it t (base w.text ∷ []) h.before))), tt)
 sets_kept w (Arrive k a) s h ok o q g = mapped h.before (crossed_out a) (map (book.lowered k (book.tids_on (cell_at s a).entries)) s.book.acts) (λ x. record { tid = refl; m = refl; doomed = dooms (is_crossed x) _ x.status }) (mapped h.before (book.lowered k (book.tids_on (cell_at s a).entries)) s.book.acts (λ x. record { tid = refl; m = refl; doomed = λ d. d }) g)
-sets_kept w (Ask t a) s h ok o k g = asks w t a s h o k g (book.in_the_way t (cell_at s a)) refl
+sets_kept w (Ask t a) s h ok o k g = asks w t a s h o k g (book.in_the_way t (cell_at s a).entries) refl
 sets_kept w (End t a) s h ok o k g = ended h.before t (has_act t (cell_at s a).entries) (outcome_of t (cell_at s a).outbox) s.book.acts g
 sets_kept w (Abort j) s h ok o k g = mapped h.before _ s.book.acts (λ x. record { tid = refl; m = refl; doomed = dooms _ _ x.status }) g
 sets_kept w (Prepare t a) s h ok o k g = changed h.before t _ s.book.acts (λ x. record { tid = refl; m = refl; doomed = λ d. d }) g
 sets_kept w (Vouch t a) s h ok o k g = changed h.before t _ s.book.acts (λ x. record { tid = refl; m = refl; doomed = λ d. d }) g
-sets_kept w (Decide t) s h ok o k g = changed h.before t _ s.book.acts (λ x. record { tid = refl; m = refl; doomed = undecided s.book.next_c (is_value x.result) x.status }) g
+sets_kept w (Decide t) s h ok o k g = changed h.before t _ s.book.acts (λ x. record { tid = refl; m = refl; doomed = not_doomed_decided s.book.next_c (is_value x.result) x.status }) g
 sets_kept w (Seal t) s h ok o k g = changed h.before t _ s.book.acts (λ x. record { tid = refl; m = refl; doomed = unsealed x.status }) g
 sets_kept w (Finish t a) s h ok o k g = changed h.before t _ s.book.acts (λ x. record { tid = refl; m = refl; doomed = λ d. d }) g
 sets_kept w e s h ok o k g = g

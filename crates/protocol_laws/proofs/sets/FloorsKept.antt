@@ -5,27 +5,21 @@ use Rattle.std.proofs.Common.{arith, sym, ap, subst, ◌∙◌}
 use Rattle.std.proofs.lemmas.List.{append-nil}
 use Rattle.std.proofs.lemmas.Bool.{eqb-true, eq-eqb, and_parts, and_from, or_right}
 use Rattle.snap_base.specs.declared.transactions.State.{State}
-use Rattle.snap_base.specs.declared.transactions.Tx.{Tx}
 use Rattle.protocol.specs.Fixed.{Fixed, base}
-use Rattle.protocol.specs.Facts.{Alone}
 use Rattle.protocol.specs.Rivals.{Lock}
 use Rattle.protocol.specs.Parts.{Act, Cell, Machine}
 use Rattle.protocol.specs.Events.{Event, Arrive, Ask, Take, Run, Send, End, Close, Complete, Rollback, Finish, Trim}
 use Rattle.protocol.specs.Words.{holds, greatest, is_decided, is_sealed, act_of, sub_of}
 use Rattle.protocol.specs.Conditions.{IsAllowed, conditions, epoch}
 use Rattle.protocol.specs.Effects.{after, cell_at, no_cell}
-use Rattle.protocol.specs.Runs.{opening, new_cell, IsRun, reached}
+use Rattle.protocol.specs.Runs.{opening, new_cell}
 use Rattle.protocol.specs.OnCell as cell
-use Rattle.protocol.specs.History.{History, no_history, history, grown, seals}
+use Rattle.protocol.specs.History.{History, no_history, grown, seals}
 use Rattle.protocol_laws.specs.Floors.{number_or_0, number_in, FloorIs}
 use Rattle.protocol_laws.proofs.machine.DecidedStays.{is_fixed}
 use Rattle.protocol_laws.proofs.machine.TracksKept.{beside, beside_same, in_range, arrives}
 use Rattle.protocol_laws.proofs.machine.TurnsKept.{one_is}
 use Rattle.protocol_laws.proofs.machine.ShowsKept as shows
-use Rattle.protocol_laws.proofs.machine.Good.{Given}
-use Rattle.protocol_laws.proofs.machine.AllGood as all
-use Rattle.protocol_laws.proofs.machine.AllGood.{AllGood}
-use Rattle.protocol_laws.proofs.machine.Higher as higher
 use Rattle.protocol_laws.proofs.first.Lists.{all_join, weaker}
 
 -- ---- one that is sealed stays so, with its number
@@ -39,10 +33,6 @@ sealed_fixed n x h = let p = and_parts (is_sealed x.status) (x.m == n) h in and_
 -- no event unseals
 abbrev pub is_sealed_act : Act → Bool
 is_sealed_act x = is_sealed x.status
-
-holds_to : (p q : Act → Bool) (o : Option Act) → ((x : Act) → p x ≡ true → q x ≡ true) → holds p o ≡ true → holds q o ≡ true
-holds_to p q None k h = h
-holds_to p q (Some x) k h = k x h
 
 -- a status that is sealed before is not live or doomed, and stays
 sealed_later : {C : Type 0} (w : Fixed C) (e : Event) (s : Machine C) (t : ℕ) → holds is_sealed_act (act_of t s.book.acts) ≡ true → holds is_sealed_act (act_of t (after w e s).book.acts) ≡ true
@@ -160,10 +150,6 @@ opened {C} w = record { floors = λ a. record { sealed = tt; floor_is = low w.te
     high [] a l = absurd (omega (arith, l))
     high (x ∷ xs) zero l = omega arith
     high (x ∷ xs) (suc a) l = high xs a (omega (arith, l))
-
--- Over every run each floor is the greatest before number of the ACTs that left there sealed, and base
-pub floors_stand : {C : Type 0} (w : Fixed C) (Of : Tx → C → Type 0) (finish : C → List State → Alone) (es : List Event) → Given w Of finish → IsRun w es → FloorsStand w (reached w es) (history w es)
-floors_stand w Of finish es v run = all.along_good w Of finish (FloorsStand w) v (λ e s h ok g i. let o = higher.owed w Of finish e s h ok g in record { floors = floors_kept w e s h ok o i.floors; based = based_kept w e s h ok o i.based }) (opened w) es run
 
 pub floor_is : {C : Type 0} (w : Fixed C) (s : Machine C) (h : History) → FloorsStand w s h → (a : ℕ) → a < length w.text.opening.states → (cell_at s a).floor ≡ max (base w.text) (greatest (map (number_in s.book.acts) (h.left_sealed a)))
 unfolding Floors Based

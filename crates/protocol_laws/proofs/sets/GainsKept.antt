@@ -5,7 +5,7 @@ use Rattle.std.proofs.Common.{sym, ap, subst, ◌∙◌}
 use Rattle.std.proofs.lemmas.Bool.{true≢false}
 use Rattle.protocol.specs.Fixed.{Fixed, Next, Go, Ended}
 use Rattle.protocol.specs.Rivals.{Lock, rivals}
-use Rattle.protocol.specs.Parts.{Act, Pair, Book, Status, Live, Doomed, Decided, Sealed, Outcome, OfBatch, OfAct, Entry, BatchEntry, ActEntry, Cell, Machine}
+use Rattle.protocol.specs.Parts.{Act, Pair, Book, Outcome, OfBatch, OfAct, Entry, BatchEntry, ActEntry, Cell, Machine}
 use Rattle.protocol.specs.Events.{Event, Admit, Arrive, Ask, End, Abort, Prepare, Vouch, Decide, Seal, Finish}
 use Rattle.protocol.specs.Words.{holds, is_doomed, is_value, act_of, has_act, outcome_of, group_behind, tail_group}
 use Rattle.protocol.specs.Effects.{after, cell_at}
@@ -17,6 +17,7 @@ use Rattle.protocol_laws.proofs.machine.ActsGrow.{Grows, acts_grow, grown_holds}
 use Rattle.protocol_laws.proofs.machine.BeforesKept.{Numbers}
 use Rattle.protocol_laws.proofs.machine.TurnsKept.{Turned}
 use Rattle.protocol_laws.proofs.first.Lists.{all_join, all_map, all_filter, weaker}
+use Rattle.protocol_laws.proofs.first.Statuses.{decided_doomed, if_tid, sealed_doomed}
 
 abbrev pub out : List Act → Pair → Bool
 out acts p = book.is_doomed_act acts (record { tid = p.ahead })
@@ -71,29 +72,12 @@ out_more n (x ∷ xs) p e = by (x.tid == p.ahead) (out_more n xs p e)
     by true r = refl
     by false r = r
 
-if_tid : (v : Bool) (f : Act → Act) (x : Act) → (f x).tid ≡ x.tid → (book.change_if v f x).tid ≡ x.tid
-if_tid true f x h = h
-if_tid false f x h = refl
-
 if_out : (v : Bool) (f : Act → Act) (x : Act) → is_doomed (f x).status ≡ is_doomed x.status → is_doomed (book.change_if v f x).status ≡ is_doomed x.status
 if_out true f x h = h
 if_out false f x h = refl
 
 pub out_changed : (t : ℕ) (f : Act → Act) (xs : List Act) (p : Pair) → ((x : Act) → (f x).tid ≡ x.tid) → ((x : Act) → is_doomed (f x).status ≡ is_doomed x.status) → out (book.changed_act t f xs) p ≡ out xs p
 out_changed t f xs p i k = out_map (λ x. book.change_if (x.tid == t) f x) xs p (λ x. if_tid (x.tid == t) f x (i x)) (λ x. if_out (x.tid == t) f x (k x))
-
-decided_out : (c : ℕ) (b : Bool) (st : Status) → is_doomed (book.decided_status c b st) ≡ is_doomed st
-decided_out c true Live = refl
-decided_out c false Live = refl
-decided_out c b (Doomed v) = refl
-decided_out c b (Decided d) = refl
-decided_out c b (Sealed d) = refl
-
-sealed_out : (st : Status) → is_doomed (book.sealed_status st) ≡ is_doomed st
-sealed_out Live = refl
-sealed_out (Doomed v) = refl
-sealed_out (Decided d) = refl
-sealed_out (Sealed d) = refl
 
 ended_out : {C : Type 0} (t : ℕ) (b : Bool) (o : Option (Outcome C)) (xs : List Act) (p : Pair) → out (if b then book.noted_from t o xs else xs) p ≡ out xs p
 ended_out t false o xs p = refl
@@ -121,23 +105,23 @@ swap q acts (p ∷ ps) = by (q p) refl (out acts p) refl (swap q acts ps)
     by false e false f r = rw e r
 
 asked : {C : Type 0} (t a : ℕ) (o : Option ℕ) (s : Machine C) (h : History) (acts' : List Act) → Grows s.book.acts acts' → h.gains ≡ carrying s.book.acts s.book.pairs
-    → carrying acts' (gains_after_ask (is_none o) t a s h) ≡ carrying acts' (book.asked_pairs o (book.met t (cell_at s a)) t a s.book)
+    → carrying acts' (gains_after_ask (is_none o) t a s h) ≡ carrying acts' (book.asked_pairs o (book.met t (cell_at s a).entries) t a s.book)
 asked t a (Some x) s h acts' g e = ap (carrying acts') e ∙ twice s.book.acts acts' s.book.pairs (λ p q. out_grows s.book.acts acts' p g q)
 asked t a None s h acts' g e =
-    let new = book.new_pairs t a (book.met t (cell_at s a)) s.book.acts in
+    let new = book.new_pairs t a (book.met t (cell_at s a).entries) s.book.acts in
     carrying_join acts' h.gains new ∙ (ap (λ z. z ++ carrying acts' new) (ap (carrying acts') e ∙ twice s.book.acts acts' s.book.pairs (λ p q. out_grows s.book.acts acts' p g q)) ∙ sym (carrying_join acts' s.book.pairs new))
 
 pub gains_kept : {C : Type 0} (w : Fixed C) (e : Event) (s : Machine C) (h : History) → GainsAre s h → GainsAre (after w e s) (grown w e s h)
 unfolding GainsAre after grown
 gains_kept w (Admit t) s h g = g ∙ sym (same_out s.book.acts _ s.book.pairs (λ p. out_more _ s.book.acts p refl))
 gains_kept w (Arrive k a) s h g = ap (carrying (after w (Arrive k a) s).book.acts) g ∙ twice s.book.acts (after w (Arrive k a) s).book.acts s.book.pairs (λ p q. out_grows s.book.acts (after w (Arrive k a) s).book.acts p (acts_grow w (Arrive k a) s) q)
-gains_kept w (Ask t a) s h g = asked t a (book.in_the_way t (cell_at s a)) s h (after w (Ask t a) s).book.acts (acts_grow w (Ask t a) s) g
+gains_kept w (Ask t a) s h g = asked t a (book.in_the_way t (cell_at s a).entries) s h (after w (Ask t a) s).book.acts (acts_grow w (Ask t a) s) g
 gains_kept w (End t a) s h g = g ∙ sym (same_out s.book.acts _ s.book.pairs (λ p. ended_out t (has_act t (cell_at s a).entries) (outcome_of t (cell_at s a).outbox) s.book.acts p))
 gains_kept w (Abort k) s h g = ap (carrying (after w (Abort k) s).book.acts) g ∙ twice s.book.acts (after w (Abort k) s).book.acts s.book.pairs (λ p q. out_grows s.book.acts (after w (Abort k) s).book.acts p (acts_grow w (Abort k) s) q)
 gains_kept w (Prepare t a) s h g = g ∙ sym (same_out s.book.acts _ s.book.pairs (λ p. out_changed t _ s.book.acts p (λ x. refl) (λ x. refl)))
 gains_kept w (Vouch t a) s h g = g ∙ sym (same_out s.book.acts _ s.book.pairs (λ p. out_changed t _ s.book.acts p (λ x. refl) (λ x. refl)))
-gains_kept w (Decide t) s h g = g ∙ sym (same_out s.book.acts _ s.book.pairs (λ p. out_changed t _ s.book.acts p (λ x. refl) (λ x. decided_out s.book.next_c (is_value x.result) x.status)))
-gains_kept w (Seal t) s h g = g ∙ sym (same_out s.book.acts _ s.book.pairs (λ p. out_changed t _ s.book.acts p (λ x. refl) (λ x. sealed_out x.status)))
+gains_kept w (Decide t) s h g = g ∙ sym (same_out s.book.acts _ s.book.pairs (λ p. out_changed t _ s.book.acts p (λ x. refl) (λ x. decided_doomed s.book.next_c (is_value x.result) x.status)))
+gains_kept w (Seal t) s h g = g ∙ sym (same_out s.book.acts _ s.book.pairs (λ p. out_changed t _ s.book.acts p (λ x. refl) (λ x. sealed_doomed x.status)))
 gains_kept w (Finish t a) s h g = ap (filter (λ p. not ((p.ahead == t) && (p.actor == a)))) g ∙ (swap (λ p. not ((p.ahead == t) && (p.actor == a))) s.book.acts s.book.pairs ∙ sym (same_out s.book.acts _ (filter (λ p. not ((p.ahead == t) && (p.actor == a))) s.book.pairs) (λ p. out_changed t _ s.book.acts p (λ x. refl) (λ x. refl))))
 gains_kept w e s h g = g
 
@@ -179,16 +163,16 @@ group_in acts top seen (Stands (OfAct u) c ss ∷ rs) (BatchEntry k ∷ es) t b 
 group_in acts top seen (Stands (OfAct u) c ss ∷ rs) (ActEntry x ∷ es) t b h = let i : x.tid ≡ u = cc t.0 in group_in acts top (seen ++ x ∷ []) rs es t.2 b.1 (all_join (λ x. IsIn acts x.tid) seen (x ∷ []) h (subst (IsIn acts) (sym i) (holds_in (is_above top) (act_of u acts) b.0), tt))
 
 -- so are those that an Ask pairs with
-pub new_in : {C : Type 0} (t a : ℕ) (c : Cell C) (acts : List Act) (rs : List Ran) → Turns rs c.entries → Befores acts 0 rs → AllIn acts (book.new_pairs t a (book.met t c) acts)
-new_in t a c acts rs r b = all_map (λ x. IsIn acts x.tid) (λ p. IsIn acts p.ahead) (λ x. record { behind = t; ahead = x.tid; actor = a }) (filter (λ x. not (book.is_doomed_act acts x)) (book.met t c)) (λ x h. h)
-    (all_filter (λ x. IsIn acts x.tid) (λ x. not (book.is_doomed_act acts x)) (book.met t c) (all_filter (λ x. IsIn acts x.tid) (rivals (record { tid = t })) (tail_group c.entries) (group_in acts 0 [] rs c.entries r b tt)))
+pub new_in : {C : Type 0} (t a : ℕ) (c : Cell C) (acts : List Act) (rs : List Ran) → Turns rs c.entries → Befores acts 0 rs → AllIn acts (book.new_pairs t a (book.met t c.entries) acts)
+new_in t a c acts rs r b = all_map (λ x. IsIn acts x.tid) (λ p. IsIn acts p.ahead) (λ x. record { behind = t; ahead = x.tid; actor = a }) (filter (λ x. not (book.is_doomed_act acts x)) (book.met t c.entries)) (λ x h. h)
+    (all_filter (λ x. IsIn acts x.tid) (λ x. not (book.is_doomed_act acts x)) (book.met t c.entries) (all_filter (λ x. IsIn acts x.tid) (rivals (record { tid = t })) (tail_group c.entries) (group_in acts 0 [] rs c.entries r b tt)))
 
-asked_in : {C : Type 0} (t a : ℕ) (o : Option ℕ) (c : Cell C) (b : Book) (rs : List Ran) → Turns rs c.entries → Befores b.acts 0 rs → AllIn b.acts b.pairs → AllIn b.acts (book.asked_pairs o (book.met t c) t a b)
+asked_in : {C : Type 0} (t a : ℕ) (o : Option ℕ) (c : Cell C) (b : Book) (rs : List Ran) → Turns rs c.entries → Befores b.acts 0 rs → AllIn b.acts b.pairs → AllIn b.acts (book.asked_pairs o (book.met t c.entries) t a b)
 asked_in t a (Some x) c b rs r n h = h
 asked_in t a None c b rs r n h = all_join (λ p. IsIn b.acts p.ahead) b.pairs _ h (new_in t a c b.acts rs r n)
 
 pub in_kept : {C : Type 0} (w : Fixed C) (e : Event) (s : Machine C) (h : History) → Turned s h → Numbers s h → PairsIn s → PairsIn (after w e s)
 unfolding PairsIn Turned Numbers after
-in_kept w (Ask t a) s h r n g = weaker (λ p. IsIn s.book.acts p.ahead) (λ p. IsIn (after w (Ask t a) s).book.acts p.ahead) _ (λ p q. in_grows s.book.acts (after w (Ask t a) s).book.acts p.ahead (acts_grow w (Ask t a) s) q) (asked_in t a (book.in_the_way t (cell_at s a)) (cell_at s a) s.book (h.long a) (r a) (n a) g)
+in_kept w (Ask t a) s h r n g = weaker (λ p. IsIn s.book.acts p.ahead) (λ p. IsIn (after w (Ask t a) s).book.acts p.ahead) _ (λ p q. in_grows s.book.acts (after w (Ask t a) s).book.acts p.ahead (acts_grow w (Ask t a) s) q) (asked_in t a (book.in_the_way t (cell_at s a).entries) (cell_at s a) s.book (h.long a) (r a) (n a) g)
 in_kept w (Finish t a) s h r n g = weaker (λ p. IsIn s.book.acts p.ahead) (λ p. IsIn (after w (Finish t a) s).book.acts p.ahead) _ (λ p q. in_grows s.book.acts (after w (Finish t a) s).book.acts p.ahead (acts_grow w (Finish t a) s) q) (all_filter (λ p. IsIn s.book.acts p.ahead) (λ p. not ((p.ahead == t) && (p.actor == a))) s.book.pairs g)
 in_kept w e s h r n g = weaker (λ p. IsIn s.book.acts p.ahead) (λ p. IsIn (after w e s).book.acts p.ahead) s.book.pairs (λ p q. in_grows s.book.acts (after w e s).book.acts p.ahead (acts_grow w e s) q) g

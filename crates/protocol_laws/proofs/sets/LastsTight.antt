@@ -124,7 +124,7 @@ tights_kept w (Arrive k a) s h ok o d p t g = beside (At (base w.text)) s.cells 
       placed = omega (arith, ap greatest (PlaceLists.batches_join (h.long a) (not_run (OfBatch k) ∷ [])), greatest_join (batches_in (h.long a)) (k ∷ []));
       gone = omega (arith, ap greatest (befores.gone_more (OfBatch k) (h.long a)), y.gone);
     }) g
-tights_kept w (Ask u a) s h ok o d p t g = beside (At (base w.text)) s.cells a _ _ h.long (in_range _ s.cells a ok.1.1.0) (ask (base w.text) (cell_at s a).last (cell_at s a).last_trimmed u (book.in_the_way u (cell_at s a)) (h.long a)) g
+tights_kept w (Ask u a) s h ok o d p t g = beside (At (base w.text)) s.cells a _ _ h.long (in_range _ s.cells a ok.1.1.0) (ask (base w.text) (cell_at s a).last (cell_at s a).last_trimmed u (book.in_the_way u (cell_at s a).entries) (h.long a)) g
 tights_kept w (Take u a) s h ok o d p t g = beside_same (At (base w.text)) s.cells a _ h.long (in_range _ s.cells a ok.1.0) (λ y. y) g
 tights_kept w (Run u a) s h ok o d p t g = beside (At (base w.text)) s.cells a _ _ h.long (in_range _ s.cells a ok.0) (ran (base w.text) (cell_at s a).last (cell_at s a).last_trimmed _ _ (h.long a)) g
 tights_kept w (Send u a) s h ok o d p t g = beside_same (At (base w.text)) s.cells a _ h.long (in_range _ s.cells a ok.0) (λ y. y) g

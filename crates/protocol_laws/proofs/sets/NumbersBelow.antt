@@ -37,6 +37,7 @@ use Rattle.protocol_laws.proofs.machine.AllGood.{AllGood}
 use Rattle.protocol_laws.proofs.machine.Higher as higher
 use Rattle.protocol_laws.proofs.machine.BatchesCommit as commits
 use Rattle.protocol_laws.proofs.first.Lists.{all_join, all_map, both_all, all_found}
+use Rattle.protocol_laws.proofs.first.Statuses.{ordered_not_live}
 
 -- one that has its place has a before number below its after number
 abbrev pub IsBelow : Act → Type 0
@@ -48,12 +49,6 @@ same_below x y e f k h = λ p. rw (e, f) (h (k p))
 placed_if : (c : Bool) (v : Verdict) (st : Status) → is_ordered (if c then Doomed v else st) ≡ true → is_ordered st ≡ true
 placed_if true v st e = absurd (true≢false (sym e))
 placed_if false v st e = e
-
-placed_not_live : (st : Status) → is_ordered st ≡ true → is_live_status st ≡ false
-placed_not_live Live e = absurd (true≢false (sym e))
-placed_not_live (Doomed v) e = refl
-placed_not_live (Decided c) e = refl
-placed_not_live (Sealed c) e = refl
 
 below_if : (v : Bool) (f : Act → Act) (x : Act) → (IsBelow x → IsBelow (f x)) → IsBelow x → IsBelow (book.change_if v f x)
 below_if true f x k h = k h
@@ -94,7 +89,7 @@ below_joined t a m [] l h = tt
 below_joined t a m (x ∷ xs) l h = (by (x.tid == t) refl, below_joined t a m xs l.1 h.1)
   where
     by : (c : Bool) → (x.tid == t) ≡ c → IsBelow (book.change_if c (book.joins a m) x)
-    by true e = λ p. absurd (true≢false (sym (l.0 e) ∙ placed_not_live x.status p))
+    by true e = λ p. absurd (true≢false (sym (l.0 e) ∙ ordered_not_live x.status p))
     by false e = h.0
 
 below_asked : {C : Type 0} (t a : ℕ) (o : Option ℕ) (group : List Lock) (c : Cell C) (b : Book) → AllByRecursion (λ x. (x.tid == t) ≡ true → is_live_status x.status ≡ true) b.acts → AllByRecursion IsBelow b.acts → AllByRecursion IsBelow (book.asked_acts o group t a (max c.last c.floor) b)
@@ -160,7 +155,7 @@ pub below_kept : {C : Type 0} (w : Fixed C) (Of : Tx → C → Type 0) (finish :
 unfolding AllBelow afters.Uncrossed after
 below_kept w Of finish (Admit t) s h ok g i b = all_join IsBelow s.book.acts _ b ((λ p. refl), tt)
 below_kept w Of finish (Arrive k a) s h ok g i b = below_crossed a (map (book.lowered k (book.tids_on (cell_at s a).entries)) s.book.acts) (below_lowered k (book.tids_on (cell_at s a).entries) s.book.acts (arrives_above w Of finish k a s h ok g i.high.tids) b)
-below_kept w Of finish (Ask t a) s h ok g i b = below_asked t a (book.in_the_way t (cell_at s a)) (book.met t (cell_at s a)) (cell_at s a) s.book (asks_live t s (higher.asks_live w Of finish t a s h ok g) i.high.tids) b
+below_kept w Of finish (Ask t a) s h ok g i b = below_asked t a (book.in_the_way t (cell_at s a).entries) (book.met t (cell_at s a).entries) (cell_at s a) s.book (asks_live t s (higher.asks_live w Of finish t a s h ok g) i.high.tids) b
 below_kept w Of finish (End t a) s h ok g i b = below_ended t (has_act t (cell_at s a).entries) (outcome_of t (cell_at s a).outbox) s.book.acts b
 below_kept w Of finish (Abort k) s h ok g i b = all_map IsBelow IsBelow _ s.book.acts (λ x q p. refl) b
 below_kept w Of finish (Prepare t a) s h ok g i b = below_changed t _ s.book.acts (λ x q. q) b

@@ -312,13 +312,13 @@ pub record AheadWith {C : Type 0} (w : Fixed C) (s : Machine C) (h : History) : 
   pub away : (t a : ℕ) (x : Act) → act_of t s.book.acts ≡ Some x → is_some x.result ≡ true → is_some (waiting_of t (cell_at s a).inbox) ≡ false
 
 asked_new : {C : Type 0} (t a : ℕ) (c : Cell C) (ac acts' : List Act) (long : ℕ → List Ran) → Turns (long a) c.entries → holds is_unplaced (act_of t acts') ≡ true
-    → AllByRecursion (PairStands acts' (with_at a (long a ++ not_run (OfAct t) ∷ []) long)) (book.new_pairs t a (book.met t c) ac)
-asked_new t a c ac acts' long r un = all_map (λ x. stands_in x.tid (long a) ≡ true) (PairStands acts' (with_at a (long a ++ not_run (OfAct t) ∷ []) long)) (λ x. record { behind = t; ahead = x.tid; actor = a }) (filter (λ x. not (book.is_doomed_act ac x)) (book.met t c))
+    → AllByRecursion (PairStands acts' (with_at a (long a ++ not_run (OfAct t) ∷ []) long)) (book.new_pairs t a (book.met t c.entries) ac)
+asked_new t a c ac acts' long r un = all_map (λ x. stands_in x.tid (long a) ≡ true) (PairStands acts' (with_at a (long a ++ not_run (OfAct t) ∷ []) long)) (λ x. record { behind = t; ahead = x.tid; actor = a }) (filter (λ x. not (book.is_doomed_act ac x)) (book.met t c.entries))
     (λ x h. inr (un, inr (rw (eq-eqb a a refl) (ahead_last x.tid t (long a) h))))
-    (all_filter (λ x. stands_in x.tid (long a) ≡ true) (λ x. not (book.is_doomed_act ac x)) (book.met t c) (all_filter (λ x. stands_in x.tid (long a) ≡ true) (rivals (record { tid = t })) (tail_group c.entries) (group_stands (long a) [] (long a) c.entries (λ v q. q) r tt)))
+    (all_filter (λ x. stands_in x.tid (long a) ≡ true) (λ x. not (book.is_doomed_act ac x)) (book.met t c.entries) (all_filter (λ x. stands_in x.tid (long a) ≡ true) (rivals (record { tid = t })) (tail_group c.entries) (group_stands (long a) [] (long a) c.entries (λ v q. q) r tt)))
 
 asked_all : {C : Type 0} (t a : ℕ) (o : Option ℕ) (c : Cell C) (b : Book) (acts' : List Act) (long : ℕ → List Ran) → Turns (long a) c.entries → holds is_unplaced (act_of t acts') ≡ true
-    → AllByRecursion (PairStands acts' (with_at a (long a ++ map not_run (asks t o)) long)) b.pairs → AllByRecursion (PairStands acts' (with_at a (long a ++ map not_run (asks t o)) long)) (book.asked_pairs o (book.met t c) t a b)
+    → AllByRecursion (PairStands acts' (with_at a (long a ++ map not_run (asks t o)) long)) b.pairs → AllByRecursion (PairStands acts' (with_at a (long a ++ map not_run (asks t o)) long)) (book.asked_pairs o (book.met t c.entries) t a b)
 asked_all t a (Some x) c b acts' long r un h = h
 asked_all t a None c b acts' long r un h = all_join (PairStands acts' (with_at a (long a ++ not_run (OfAct t) ∷ []) long)) b.pairs _ h (asked_new t a c b.acts acts' long r un)
 
@@ -376,8 +376,8 @@ pub ahead_kept : {C : Type 0} (w : Fixed C) (e : Event) (s : Machine C) (h : His
 unfolding PairsAhead shows.Owed Turned Tracked Started conditions after grown
 ahead_kept w (Arrive k a) s h ok o q g = moved w (Arrive k a) s h.long a (h.long a ++ not_run (OfBatch k) ∷ []) tt (λ u t d i. ahead_join u t (h.long a) (not_run (OfBatch k) ∷ []) i) g
 ahead_kept w (Ask t a) s h ok o q g =
-    asked_all t a (book.in_the_way t (cell_at s a)) (cell_at s a) s.book (after w (Ask t a) s).book.acts h.long (q.turned a) (unplaced_stays w (Ask t a) s t (no_decide (Ask t a) t tt) (live_unplaced (act_of t s.book.acts) o))
-    (moved w (Ask t a) s h.long a (h.long a ++ map not_run (asks t (book.in_the_way t (cell_at s a)))) tt (λ u v d i. ask_ahead u v t (book.in_the_way t (cell_at s a)) (h.long a) i) g)
+    asked_all t a (book.in_the_way t (cell_at s a).entries) (cell_at s a) s.book (after w (Ask t a) s).book.acts h.long (q.turned a) (unplaced_stays w (Ask t a) s t (no_decide (Ask t a) t tt) (live_unplaced (act_of t s.book.acts) o))
+    (moved w (Ask t a) s h.long a (h.long a ++ map not_run (asks t (book.in_the_way t (cell_at s a).entries))) tt (λ u v d i. ask_ahead u v t (book.in_the_way t (cell_at s a).entries) (h.long a) i) g)
 ahead_kept w (Run t a) s h ok o q g =
     let who = who_on t (cell_at s a).entries in
     let z : Slice = record { tid = t; found = (cell_at s a).state; left = (cell.slice_run w.code t a (cell_at s a)).state } in

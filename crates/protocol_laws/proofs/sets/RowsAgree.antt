@@ -25,7 +25,7 @@ use Rattle.protocol.specs.History.{Ran, Stands, Gone, Slice, History, no_history
 use Rattle.protocol_laws.specs.Tracks.{key_of, keys_in, is_key_among, first_image, images_in}
 use Rattle.protocol_laws.specs.Highs.{doomed_at}
 use Rattle.protocol_laws.specs.Places.{Ascends, Fits}
-use Rattle.protocol_laws.proofs.first.Lists.{all_join, weaker}
+use Rattle.protocol_laws.proofs.first.Lists.{all_join, all_of, weaker}
 use Rattle.protocol_laws.proofs.machine.Good.{Given}
 use Rattle.protocol_laws.proofs.machine.AllGood as all
 use Rattle.protocol_laws.proofs.machine.AllGood.{AllGood}
@@ -42,10 +42,6 @@ use Rattle.protocol_laws.proofs.quiet.RowsKept.{Rows, rows_kept, rows_opened, ro
 
 -- ---- lists
 
-map_same : {X Y : Type 0} (f g : X → Y) (xs : List X) → AllByRecursion (λ x. f x ≡ g x) xs → map f xs ≡ map g xs
-map_same f g [] h = refl
-map_same f g (x ∷ xs) h = rw (h.0, map_same f g xs h.1) refl
-
 filter_same : {X : Type 0} (p q : X → Bool) (xs : List X) → AllByRecursion (λ x. p x ≡ q x) xs → filter p xs ≡ filter q xs
 filter_same p q [] h = refl
 filter_same p q (x ∷ xs) h = rw (h.0, filter_same p q xs h.1) refl
@@ -53,10 +49,6 @@ filter_same p q (x ∷ xs) h = rw (h.0, filter_same p q xs h.1) refl
 find_same : {X : Type 0} (p q : X → Bool) (xs : List X) → AllByRecursion (λ x. p x ≡ q x) xs → find p xs ≡ find q xs
 find_same p q [] h = refl
 find_same p q (x ∷ xs) h = rw (h.0, find_same p q xs h.1) refl
-
-each : {X : Type 0} (P : X → Type 0) (xs : List X) → ((x : X) → P x) → AllByRecursion P xs
-each P [] k = tt
-each P (x ∷ xs) k = (k x, each P xs k)
 
 and_false : (b : Bool) → (b && false) ≡ false
 and_false true = refl
@@ -156,7 +148,7 @@ carried_same placed dead ps x ys k i h = by (is_ordered x.status) refl
   where
     by : (b : Bool) → is_ordered x.status ≡ b → filter (carries_to ps x) ys ≡ filter (rows.carries ps x) ys
     by true e = carries_none ps x ys e ∙ sym (none_carried placed dead ps x ys k (i.0 e) h)
-    by false e = filter_same (carries_to ps x) (rows.carries ps x) ys (each _ ys (λ u. rw e refl))
+    by false e = filter_same (carries_to ps x) (rows.carries ps x) ys (all_of _ ys (λ u. rw e refl))
 
 told_raised : (placed dead : ℕ → Bool) (ps : List Pair) (xs : List Act) → AllByRecursion (Told placed dead) xs → AllByRecursion (Told placed dead) (raised ps xs)
 told_raised placed dead ps [] h = tt
@@ -436,8 +428,8 @@ agree_at w Of finish (Arrive k a) s h ok g i =
 agree_at w Of finish (Ask t a) s h ok g i =
     let c = cell_at s a in
     let live = higher.asks_live w Of finish t a s h ok g in
-    ap (λ acts. record (after w (Ask t a) s) { book = record s.book { acts = acts; pairs = book.asked_pairs (book.in_the_way t c) (book.met t c) t a s.book } })
-    (asks_same t a (max c.last c.floor) (book.in_the_way t c) (book.met t c) s.book h.long 0 s.ring.next_tid g.ascend live (asks_live t s live g.ascend) (going_all s g.ascend g.left) i.before.pairs_ahead (below_kept w Of finish (Ask t a) s h ok g i.below.after_stand i.below.below))
+    ap (λ acts. record (after w (Ask t a) s) { book = record s.book { acts = acts; pairs = book.asked_pairs (book.in_the_way t c.entries) (book.met t c.entries) t a s.book } })
+    (asks_same t a (max c.last c.floor) (book.in_the_way t c.entries) (book.met t c.entries) s.book h.long 0 s.ring.next_tid g.ascend live (asks_live t s live g.ascend) (going_all s g.ascend g.left) i.before.pairs_ahead (below_kept w Of finish (Ask t a) s h ok g i.below.after_stand i.below.below))
 agree_at w Of finish (Rollback a) s h ok g i =
     let c = cell_at s a in
     let r = i.rows a in

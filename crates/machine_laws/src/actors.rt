@@ -1,0 +1,28 @@
+//! Of every program: what lies on an actor, and how much there may be.
+
+ghost use Rattle.aml_check.specs.Checked.{methods_of};
+ghost use Rattle.protocol_laws.specs.OnActors.{AllLieInOrder, LimitsHold};
+ghost use Rattle.machine_laws.specs.Programs.{AfterEveryRunOf};
+
+use aml_check::Checked;
+use aml_slice::Control;
+use machine_code::code_has_the_facts;
+
+/// On every actor batches ascend, each image is of an entry, and nothing has run behind an entry that is no complete batch. A
+/// cell that has not seen all cascades holds aborted batches exactly from the first one of the next cascade on, and the ACTs
+/// behind one are doomed; a cell that has seen all of them holds none.
+pub fn actors_lie_in_order(program: &Checked)
+    ensures { AfterEveryRunOf (methods_of program.now) AllLieInOrder }
+{
+    code_has_the_facts(program);
+    protocol_laws::actors_lie_in_order::<Control>();
+}
+
+/// No more batches and ACTs are live than the text allows; no more batches, ACTs and images lie on an actor; and a slice that
+/// begins a new image finds room for it.
+pub fn limits_hold(program: &Checked)
+    ensures { AfterEveryRunOf (methods_of program.now) LimitsHold }
+{
+    code_has_the_facts(program);
+    protocol_laws::limits_hold::<Control>();
+}
