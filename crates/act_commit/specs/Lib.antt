@@ -1,0 +1,4 @@
+pub mod Changes
+pub mod Index
+pub mod Stages
+pub mod Words

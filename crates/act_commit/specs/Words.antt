@@ -1,0 +1,37 @@
+-- What is asked of the votes.
+use Rattle.std.specs.Prelude.{ℕ, nat_le, Bool, ◌&&◌, ◌||◌, is_some, Option, Some, None, List, [], map}
+use Rattle.snap_base.specs.declared.ids.ActorId.{ActorId}
+use Rattle.protocol.specs.Parts.{Status, Live, Doomed, Decided, Sealed, Act, Book}
+use Rattle.protocol.specs.Words.{is_failure, is_live_status, is_vouched_everywhere, act_of, holds}
+use Rattle.protocol.specs.Effects.{ascending}
+
+abbrev pub actor_numbers : List ActorId → List ℕ
+actor_numbers actors = map (λ (a : ActorId). a.0) actors
+
+-- the number of an ACT's commit, once it has one
+abbrev pub number_of : Status → Option ℕ
+number_of Live = None
+number_of (Doomed why) = None
+number_of (Decided c) = Some c
+number_of (Sealed c) = Some c
+
+abbrev pub number_by : Option Act → Option ℕ
+number_by None = None
+number_by (Some x) = number_of x.status
+
+-- the actors that it joined, as its commit record has them
+abbrev pub actors_by : Option Act → List ℕ
+actors_by None = []
+actors_by (Some x) = ascending (map (λ p. p.actor) x.places)
+
+-- it ended, and is neither decided nor sealed
+abbrev pub is_undecided : Act → Bool
+is_undecided x = is_some x.result && is_live_status x.status
+
+-- it failed, or is vouched on all its actors
+abbrev pub is_ready : Act → Bool
+is_ready x = is_failure x.result || is_vouched_everywhere x
+
+-- the conditions of a decision that the votes know, and that its batches up to m are settled
+abbrev pub may_decide : ℕ → ℕ → ℕ → Book → Bool
+may_decide t m settled b = holds is_undecided (act_of t b.acts) && (holds is_ready (act_of t b.acts) && nat_le m settled)

@@ -1,0 +1,79 @@
+ghost use Rattle.std.specs.Prelude.{◌≡◌};
+ghost use Rattle.protocol.specs.OnBook.{decided_status, sealed_status};
+ghost use Rattle.protocol.specs.Words.{is_live_status, is_decided, is_sealed};
+ghost use Rattle.act_commit.specs.Stages.{status_of};
+ghost use Rattle.act_commit.specs.Words.{number_of};
+
+/// How far the commit of an ACT that ended has come.
+#[derive(Clone, Copy)]
+pub(crate) enum Stage {
+    Open,
+    /// It commits, as this number of the commits.
+    Decided(u64),
+    /// Its commit is durable, or it failed and has none.
+    Sealed(u64),
+}
+
+impl Stage {
+    /// What a decision makes of it: one with a value is still to be sealed.
+    pub fn decided(self, number: u64, has_value: bool) -> Stage
+        ensures { status_of result ≡ decided_status number has_value (status_of self) }
+    {
+        match self {
+            Stage::Open => {
+                if has_value {
+                    Stage::Decided(number)
+                } else {
+                    Stage::Sealed(number)
+                }
+            }
+            other => other,
+        }
+    }
+
+    pub fn sealed(self) -> Stage
+        ensures { status_of result ≡ sealed_status (status_of self) }
+    {
+        match self {
+            Stage::Decided(number) => Stage::Sealed(number),
+            other => other,
+        }
+    }
+
+    pub fn is_open(self) -> bool
+        ensures { result ≡ is_live_status (status_of self) }
+    {
+        match self {
+            Stage::Open => true,
+            Stage::Decided(_) | Stage::Sealed(_) => false,
+        }
+    }
+
+    pub fn is_decided(self) -> bool
+        ensures { result ≡ is_decided (status_of self) }
+    {
+        match self {
+            Stage::Decided(_) => true,
+            Stage::Open | Stage::Sealed(_) => false,
+        }
+    }
+
+    pub fn is_sealed(self) -> bool
+        ensures { result ≡ is_sealed (status_of self) }
+    {
+        match self {
+            Stage::Sealed(_) => true,
+            Stage::Open | Stage::Decided(_) => false,
+        }
+    }
+
+    /// The number of the commit, once it has one.
+    pub fn number(self) -> Option<u64>
+        ensures { result ≡ number_of (status_of self) }
+    {
+        match self {
+            Stage::Open => None,
+            Stage::Decided(number) | Stage::Sealed(number) => Some(number),
+        }
+    }
+}

@@ -1,0 +1,4 @@
+pub mod Calls
+pub mod Cut
+pub mod Keeping
+pub mod Lending

@@ -1,0 +1,9 @@
+pub mod Asking
+pub mod BySpot
+pub mod ByNumber
+pub mod ByTid
+pub mod EndedPacts
+pub mod FrontOver
+pub mod Keeping
+pub mod LiveCount
+pub mod Planning

@@ -1,0 +1,11 @@
+use Rattle.std.proofs.Common.{ap, sym, ◌∙◌}
+use Rattle.std.specs.Prelude.{slice_set}
+use Rattle.protocol.specs.Parts.{Batch}
+use Rattle.protocol.specs.OnDesk as desk
+use Rattle.batch_table.specs.Stages.{stage_meant}
+use Rattle.batch_table.proofs.table.set_stage.Goals as goal
+
+pub returns-in-Some : goal.returns-in-Some
+returns-in-Some c =
+    ap (λ (x : Batch). slice_set c.args.batches.now c.in-Some.place x) c.set_stage.ensures
+    ∙ sym (c.in-Some.ensures.0.changed (desk.with_stage (stage_meant c.args.stage)) c.index-batches-place.result)

@@ -1,0 +1,128 @@
+ghost use Rattle.std.specs.Prelude.{◌≡◌, ◌==◌, not, map, find, option_copied};
+ghost use Rattle.std.specs.List.{list_all};
+ghost use Rattle.protocol.specs.Words.{holds};
+ghost use Rattle.protocol.specs.OnDesk as desk;
+
+use snap_base::ActorId;
+use std::marker::Model;
+
+/// An actor that a batch declares, with the batch's marks on it.
+#[derive(Drop)]
+pub(crate) struct ActorEntry {
+    actor: ActorId,
+    noted: bool,
+    trimmed: bool,
+}
+
+impl Model for ActorEntry {
+    ghost use Rattle.protocol.specs.Parts.{Declared};
+
+    ghost Value = { Declared };
+
+    ghost view = { λ p. record { actor = p.actor.0; noted = p.noted; trimmed = p.trimmed } };
+}
+
+impl ActorEntry {
+    /// The actor with no mark.
+    pub fn new(actor: ActorId) -> Self
+        ensures { result ≡ desk.new_declared actor.0 }
+    {
+        ActorEntry {
+            actor,
+            noted: false,
+            trimmed: false,
+        }
+    }
+
+    fn is_of(&self, actor: ActorId) -> bool
+        ensures { result ≡ (self.now.actor == actor.0) }
+    {
+        self.actor.0 == actor.0
+    }
+
+    fn is_noted(&self) -> bool
+        ensures { result ≡ self.now.noted }
+    {
+        self.noted
+    }
+
+    fn is_trimmed(&self) -> bool
+        ensures { result ≡ self.now.trimmed }
+    {
+        self.trimmed
+    }
+
+    /// Sets the mark that the batch is complete there, if this is the actor.
+    fn note_if(&mut self, actor: ActorId)
+        ensures { self.new ≡ desk.mark_if (self.old.actor == actor.0) desk.is_noted self.old }
+    {
+        if self.actor.0 == actor.0 {
+            self.noted = true;
+        }
+    }
+
+    /// Sets the mark that the batch has left, if this is the actor.
+    fn trim_if(&mut self, actor: ActorId)
+        ensures { self.new ≡ desk.mark_if (self.old.actor == actor.0) desk.is_trimmed self.old }
+    {
+        if self.actor.0 == actor.0 {
+            self.trimmed = true;
+        }
+    }
+}
+
+/// Marks the actor as noted.
+pub(crate) fn note(actors: &mut [ActorEntry], actor: ActorId)
+    ensures { actors.new ≡ map (λ p. desk.mark_if (p.actor == actor.0) desk.is_noted p) actors.old }
+{
+    for entry in actors.iter_mut() {
+        entry.note_if(actor);
+    }
+}
+
+/// Marks the actor as trimmed.
+pub(crate) fn trim(actors: &mut [ActorEntry], actor: ActorId)
+    ensures { actors.new ≡ map (λ p. desk.mark_if (p.actor == actor.0) desk.is_trimmed p) actors.old }
+{
+    for entry in actors.iter_mut() {
+        entry.trim_if(actor);
+    }
+}
+
+pub(crate) fn are_all_noted(actors: &[ActorEntry]) -> bool
+    ensures { result ≡ list_all (λ p. p.noted) actors.now }
+{
+    actors.iter().all(|entry| entry.is_noted())
+}
+
+pub(crate) fn are_all_trimmed(actors: &[ActorEntry]) -> bool
+    ensures { result ≡ list_all (λ p. p.trimmed) actors.now }
+{
+    actors.iter().all(|entry| entry.is_trimmed())
+}
+
+fn entry_of(actors: &[ActorEntry], actor: ActorId) -> Option<&ActorEntry>
+    ensures { option_copied result ≡ find (λ p. p.actor == actor.0) actors.now }
+{
+    actors.iter().find(|entry| entry.is_of(actor))
+}
+
+/// Whether the actor is there, and not noted.
+pub(crate) fn lacks_note(actors: &[ActorEntry], actor: ActorId) -> bool
+    ensures { result ≡ holds (λ p. not p.noted) (find (λ p. p.actor == actor.0) actors.now) }
+{
+    match entry_of(actors, actor) {
+        Some(entry) => !entry.is_noted(),
+        None => false,
+    }
+}
+
+/// Whether the actor is there, and not trimmed.
+pub(crate) fn lacks_trim(actors: &[ActorEntry], actor: ActorId) -> bool
+    ensures { result ≡ holds (λ p. not p.trimmed) (find (λ p. p.actor == actor.0) actors.now) }
+{
+    match entry_of(actors, actor) {
+        Some(entry) => !entry.is_trimmed(),
+        None => false,
+    }
+}

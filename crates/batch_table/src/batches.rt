@@ -1,0 +1,209 @@
+ghost use Rattle.std.specs.Prelude.{◌≡◌, not, ◌&&◌, true, map, option_map, IfOk, slice_get};
+ghost use Rattle.std.specs.List.{list_all};
+ghost use Rattle.protocol.specs.Words as words;
+ghost use Rattle.protocol.specs.OnDesk as desk;
+ghost use Rattle.machine_words.specs.Meant.{batch_pact, subs_actor};
+ghost use Rattle.batch_table.specs.Askings.{failure_shown};
+ghost use Rattle.batch_table.specs.Found.{found_at, found_if};
+ghost use Rattle.batch_table.specs.Joining as joining;
+ghost use Rattle.batch_table.specs.Stages.{stage_meant};
+
+use crate::actors::{self, ActorEntry};
+use crate::pacts::{self, PactEntry};
+use crate::{FoundPact, Stage};
+use machine_words::Formed;
+use snap_base::{ActorId, Bid, Memory, SubBatch, Tid, TxNo, TxResult};
+use std::alloc::Global;
+use std::marker::Model;
+
+/// A batch at the desk.
+#[derive(Drop)]
+pub(crate) struct BatchEntry {
+    bid: Bid,
+    actors: Vec<ActorEntry>,
+    pacts: Vec<PactEntry>,
+    stage: Stage,
+    aborted: bool,
+}
+
+impl Model for BatchEntry {
+    ghost use Rattle.protocol.specs.Parts.{Batch};
+
+    ghost Value = { Batch };
+
+    ghost use Rattle.batch_table.specs.Stages.{stage_meant};
+
+    ghost view = { λ b. record { bid = b.bid.0; places = b.actors.items; pacts = b.pacts.items; stage = stage_meant b.stage; aborted = b.aborted } };
+}
+
+impl BatchEntry {
+    /// A batch as it is formed.
+    pub fn new(alloc: Global, f: &Formed) -> Result<Self, Memory>
+        ensures { IfOk result (λ b. b ≡ desk.new_batch f.now.bid f.now.actors f.now.pacts) }
+    {
+        let pacts = new_pacts(alloc, f.txs.as_slice())?;
+        let actors = new_actors(alloc, f.subs.as_slice())?;
+        Ok(BatchEntry {
+            bid: f.bid,
+            actors,
+            pacts,
+            stage: Stage::Formed,
+            aborted: false,
+        })
+    }
+
+    pub fn pacts(&self) -> &[PactEntry]
+        ensures { result.now ≡ self.now.pacts }
+    {
+        self.pacts.as_slice()
+    }
+
+    pub fn first_tid(&self) -> u64
+        ensures { result ≡ joining.first_of (joining.tids_in self.now.pacts) }
+    {
+        pacts::first_tid(self.pacts.as_slice())
+    }
+
+    pub fn is_open(&self) -> bool
+        ensures { result ≡ words.is_open self.now }
+    {
+        self.stage.is_formed() && !self.aborted
+    }
+
+    pub fn is_live(&self) -> bool
+        ensures { result ≡ words.is_live_batch self.now }
+    {
+        !self.aborted && !actors::are_all_trimmed(self.actors.as_slice())
+    }
+
+    pub fn has_ended_well(&self) -> bool
+        ensures { result ≡ list_all (λ p. words.is_value p.result) self.now.pacts }
+    {
+        pacts::have_values(self.pacts.as_slice())
+    }
+
+    pub fn is_noted(&self) -> bool
+        ensures { result ≡ list_all (λ p. p.noted) self.now.places }
+    {
+        actors::are_all_noted(self.actors.as_slice())
+    }
+
+    pub fn awaits_note(&self, actor: ActorId) -> bool
+        ensures { result ≡ (words.is_open self.now && words.holds (λ p. not p.noted) (words.declared_of actor.0 self.now)) }
+    {
+        self.is_open() && actors::lacks_note(self.actors.as_slice(), actor)
+    }
+
+    pub fn awaits_settling(&self) -> bool
+        ensures { result ≡ (words.is_committing self.now.stage && not self.now.aborted) }
+    {
+        self.stage.is_committing() && !self.aborted
+    }
+
+    pub fn awaits_trim(&self, actor: ActorId) -> bool
+        ensures { result ≡ (words.is_settled self.now.stage && (not self.now.aborted && words.holds (λ p. not p.trimmed) (words.declared_of actor.0 self.now))) }
+    {
+        self.stage.is_settled()
+            && !self.aborted
+            && actors::lacks_trim(self.actors.as_slice(), actor)
+    }
+
+    pub fn first_failed(&self) -> Option<(TxNo, u16)>
+        ensures { result ≡ option_map failure_shown (words.first_failed self.now.pacts) }
+    {
+        pacts::first_failed(self.pacts.as_slice())
+    }
+
+    pub fn result_of(&self, tid: Tid) -> Option<TxResult>
+        requires { joining.AreConsecutive (joining.tids_in self.now.pacts) }
+        ensures { result ≡ words.result_among tid.0 self.now.pacts }
+    {
+        pacts::result_of(self.pacts.as_slice(), tid)
+    }
+
+    /// What is found where this PACT of the batch is.
+    fn found(&self, pact: &PactEntry) -> FoundPact
+        ensures { result ≡ found_at self.now pact.now }
+    {
+        FoundPact {
+            bid: self.bid,
+            tid: pact.tid(),
+            stage: self.stage,
+            result: pact.result(),
+        }
+    }
+
+    /// What is found at this place of the batch, if its transaction is the one.
+    pub fn found_if(&self, place: usize, tx: TxNo) -> Option<FoundPact>
+        ensures { result ≡ found_if tx.0 self.now (slice_get self.now.pacts place) }
+    {
+        match self.pacts.get(place) {
+            Some(pact) => {
+                if pact.tx().0 == tx.0 {
+                    Some(self.found(pact))
+                } else {
+                    None
+                }
+            }
+            None => None,
+        }
+    }
+
+    /// Marks the actor as noted.
+    pub fn note(&mut self, actor: ActorId)
+        ensures { self.new ≡ desk.marked actor.0 desk.is_noted self.old }
+    {
+        actors::note(self.actors.as_mut_slice(), actor);
+    }
+
+    /// Marks the actor as trimmed.
+    pub fn trim(&mut self, actor: ActorId)
+        ensures { self.new ≡ desk.marked actor.0 desk.is_trimmed self.old }
+    {
+        actors::trim(self.actors.as_mut_slice(), actor);
+    }
+
+    pub fn set_stage(&mut self, stage: Stage)
+        ensures { self.new ≡ desk.with_stage (stage_meant stage) self.old }
+    {
+        self.stage = stage;
+    }
+
+    pub fn abort(&mut self)
+        ensures { self.new ≡ record self.old { aborted = true } }
+    {
+        self.aborted = true;
+    }
+
+    /// Notes how the PACT with this tid ended, if it is one of the batch, and the batch is not aborted.
+    pub fn note_end(&mut self, tid: Tid, r: TxResult)
+        requires { joining.AreConsecutive (joining.tids_in self.old.pacts) }
+        ensures { self.new ≡ desk.with_results tid.0 r self.old }
+    {
+        if !self.aborted {
+            pacts::note_end(self.pacts.as_mut_slice(), tid, r);
+        }
+    }
+}
+
+/// PACTs that have not ended, with these tids and transactions.
+fn new_pacts(alloc: Global, txs: &[(Tid, TxNo)]) -> Result<Vec<PactEntry>, Memory>
+    ensures { IfOk result (λ v. v.items ≡ map batch_pact txs.now) }
+{
+    let mut pacts = Vec::with_capacity(alloc, txs.len())?;
+    for pair in txs {
+        pacts.push(PactEntry::new(pair.0, pair.1))?;
+    }
+    Ok(pacts)
+}
+
+/// The actors that are told of the batch, with no mark.
+fn new_actors(alloc: Global, subs: &[SubBatch]) -> Result<Vec<ActorEntry>, Memory>
+    ensures { IfOk result (λ v. v.items ≡ map desk.new_declared (map subs_actor subs.now)) }
+{
+    let mut actors = Vec::with_capacity(alloc, subs.len())?;
+    for sub in subs {
+        actors.push(ActorEntry::new(sub.actor))?;
+    }
+    Ok(actors)
+}

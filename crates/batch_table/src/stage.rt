@@ -1,0 +1,46 @@
+ghost use Rattle.std.specs.Prelude.{◌≡◌};
+ghost use Rattle.protocol.specs.Words as words;
+ghost use Rattle.batch_table.specs.Stages.{stage_meant};
+
+/// How far a batch is.
+#[derive(Clone, Copy, Debug, PartialEq, Eq)]
+pub enum Stage {
+    /// It was formed, and has not begun to commit.
+    Formed,
+    /// Its commit record is written, and not known to be durable.
+    Committing,
+    /// It is committed, durably.
+    Settled,
+}
+
+impl Stage {
+    pub fn is_formed(self) -> bool
+        ensures { result ≡ words.is_formed (stage_meant self) }
+    {
+        match self {
+            Stage::Formed => true,
+            Stage::Committing => false,
+            Stage::Settled => false,
+        }
+    }
+
+    pub fn is_committing(self) -> bool
+        ensures { result ≡ words.is_committing (stage_meant self) }
+    {
+        match self {
+            Stage::Formed => false,
+            Stage::Committing => true,
+            Stage::Settled => false,
+        }
+    }
+
+    pub fn is_settled(self) -> bool
+        ensures { result ≡ words.is_settled (stage_meant self) }
+    {
+        match self {
+            Stage::Formed => false,
+            Stage::Committing => false,
+            Stage::Settled => true,
+        }
+    }
+}

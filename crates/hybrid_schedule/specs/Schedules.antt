@@ -1,0 +1,44 @@
+-- What a schedule begins with, and what it is asked for beyond the machine's own words.
+use Rattle.std.specs.Prelude.{ℕ, ◌&&◌, Bool, true, false, not, List, [], map, find}
+use Rattle.std.specs.List.{list_all}
+use Rattle.protocol.specs.Parts.{Entry, BatchEntry, ActEntry}
+use Rattle.protocol.specs.Words.{is_empty, holds, is_batch_entry, is_entry_of, is_clear, is_turn_of, is_complete_batch, is_all_done, ahead, tail_group, acts_on}
+use Rattle.protocol.specs.CellParts.{HybridSchedule}
+
+-- nothing was placed since this batch
+abbrev pub opened : ℕ → HybridSchedule
+opened base = record { entries = []; epoch = 0; last = base; last_trimmed = base; tail = 0 }
+
+-- the ACTs behind the last batch
+abbrev pub tail_tids : List Entry → List ℕ
+tail_tids entries = map (λ x. x.tid) (tail_group entries)
+
+-- in its sub-batch it is the transaction's turn
+abbrev pub has_turn : ℕ → List Entry → Bool
+has_turn t entries = holds (is_turn_of t) (find (is_entry_of t) entries)
+
+abbrev pub can_run : ℕ → List Entry → Bool
+can_run t entries = is_clear t entries && has_turn t entries
+
+-- the batch stands here and is not complete
+abbrev pub is_incomplete : ℕ → List Entry → Bool
+is_incomplete k entries = holds (λ e. not (is_complete_batch e)) (find (is_batch_entry k) entries)
+
+-- all that stands ahead of the batch is complete
+abbrev pub is_next : ℕ → List Entry → Bool
+is_next k entries = list_all is_complete_batch (ahead (is_batch_entry k) entries)
+
+-- the batch stands here, and all its PACTs are done
+abbrev pub is_done : ℕ → List Entry → Bool
+is_done k entries = holds is_all_done (find (is_batch_entry k) entries)
+
+abbrev pub can_complete : ℕ → List Entry → Bool
+can_complete k entries = is_incomplete k entries && (is_next k entries && is_done k entries)
+
+-- no ACT stands ahead of the batch
+abbrev pub is_behind_no_act : ℕ → List Entry → Bool
+is_behind_no_act k entries = is_empty (acts_on (ahead (is_batch_entry k) entries))
+
+abbrev pub is_act : Entry → Bool
+is_act (BatchEntry b) = false
+is_act (ActEntry x) = true

@@ -1,0 +1,186 @@
+//! What a list of entries is asked. Each walks it once.
+ghost use Rattle.std.specs.Prelude.{◌≡◌, ℕ, max, not, find, take_while, length, option_copied};
+ghost use Rattle.std.specs.List.{list_any, list_all};
+ghost use Rattle.protocol.specs.Words.{is_batch_entry, is_act_entry, is_entry_of, is_clear, is_turn_of, has_undone, has_act, has_entry, who_on, is_complete_batch, is_all_done, ahead, batches_on, acts_on, greatest, tail_group};
+ghost use Rattle.machine_words.specs.Meant.{who_meant};
+ghost use Rattle.hybrid_schedule.specs.Schedules.{has_turn, is_incomplete, is_next, is_done, is_behind_no_act};
+ghost use Rattle.hybrid_schedule.specs.Cuts.{staying_below, is_cut_off};
+
+use crate::entries::Entry;
+use snap_base::{Bid, Tid, Who};
+
+/// The entry by which the transaction runs.
+fn entry_of(entries: &[Entry], t: Tid) -> Option<&Entry>
+    ensures { option_copied result ≡ find (is_entry_of t.0) entries.now }
+{
+    entries.iter().find(|e| e.is_entry_of(t))
+}
+
+/// The entry of the batch.
+fn batch_of(entries: &[Entry], k: Bid) -> Option<&Entry>
+    ensures { option_copied result ≡ find (is_batch_entry k.0) entries.now }
+{
+    entries.iter().find(|e| e.is_batch(k))
+}
+
+pub fn has_entry(entries: &[Entry], t: Tid) -> bool
+    ensures { result ≡ has_entry t.0 entries.now }
+{
+    entries.iter().any(|e| e.is_entry_of(t))
+}
+
+pub fn has_act(entries: &[Entry], t: Tid) -> bool
+    ensures { result ≡ has_act t.0 entries.now }
+{
+    entries.iter().any(|e| e.is_act_of(t))
+}
+
+pub fn has_undone(entries: &[Entry], t: Tid) -> bool
+    ensures { result ≡ has_undone t.0 entries.now }
+{
+    entries.iter().any(|e| e.is_undone(t))
+}
+
+#[tactic(auto, using(crate::proofs::Reaching::who_is_found))]
+pub fn who_on(entries: &[Entry], t: Tid) -> Who
+    ensures { who_meant result ≡ who_on t.0 entries.now }
+{
+    match entry_of(entries, t) {
+        Some(own) => own.owner(),
+        None => Who::Act(t),
+    }
+}
+
+/// Whether the transaction has an entry, and all ahead of it is complete.
+pub fn is_clear(entries: &[Entry], t: Tid) -> bool
+    ensures { result ≡ is_clear t.0 entries.now }
+{
+    for place in entries {
+        if place.is_entry_of(t) {
+            return true;
+        }
+        if !place.is_complete() {
+            return false;
+        }
+    }
+    false
+}
+
+pub fn has_turn(entries: &[Entry], t: Tid) -> bool
+    ensures { result ≡ has_turn t.0 entries.now }
+{
+    match entry_of(entries, t) {
+        Some(own) => own.is_turn_of(t),
+        None => false,
+    }
+}
+
+pub fn is_incomplete(entries: &[Entry], k: Bid) -> bool
+    ensures { result ≡ is_incomplete k.0 entries.now }
+{
+    match batch_of(entries, k) {
+        Some(own) => !own.is_complete(),
+        None => false,
+    }
+}
+
+/// Whether all that stands ahead of the batch is complete.
+pub fn is_next(entries: &[Entry], k: Bid) -> bool
+    ensures { result ≡ is_next k.0 entries.now }
+{
+    for e in entries {
+        if e.is_batch(k) {
+            return true;
+        }
+        if !e.is_complete() {
+            return false;
+        }
+    }
+    true
+}
+
+pub fn is_done(entries: &[Entry], k: Bid) -> bool
+    ensures { result ≡ is_done k.0 entries.now }
+{
+    match batch_of(entries, k) {
+        Some(own) => own.is_all_done(),
+        None => false,
+    }
+}
+
+/// Whether no ACT stands ahead of the batch.
+pub fn is_behind_no_act(entries: &[Entry], k: Bid) -> bool
+    ensures { result ≡ is_behind_no_act k.0 entries.now }
+{
+    for e in entries {
+        if e.is_batch(k) {
+            return true;
+        }
+        if e.is_act() {
+            return false;
+        }
+    }
+    true
+}
+
+/// How many ACTs stand behind the last batch.
+#[tactic(auto, using(crate::proofs::Counting::tail_counted))]
+pub fn tail_length(entries: &[Entry]) -> usize
+    ensures { result ≡ length (tail_group entries.now) }
+{
+    let mut count = 0;
+    for e in entries {
+        if e.is_act() {
+            count += 1;
+        } else {
+            count = 0;
+        }
+    }
+    count
+}
+
+#[tactic(auto, using(crate::proofs::Counting::acts_counted))]
+pub fn count_acts(entries: &[Entry]) -> usize
+    ensures { result ≡ length (acts_on entries.now) }
+{
+    let mut count = 0;
+    for e in entries {
+        if e.is_act() {
+            count += 1;
+        }
+    }
+    count
+}
+
+/// How many entries stand ahead of the first batch that is not below this one.
+pub fn count_below(entries: &[Entry], k: Bid) -> usize
+    ensures { result ≡ length (staying_below k.0 entries.now) }
+{
+    for (at, e) in entries.iter().enumerate() {
+        if e.is_from(k) {
+            return at;
+        }
+    }
+    entries.len()
+}
+
+/// Whether the transaction's entry stands at or behind the first batch that is not below this one.
+#[tactic(auto, using(crate::proofs::Cutting::staying_fits))]
+pub fn is_cut_off(entries: &[Entry], t: Tid, k: Bid) -> bool
+    ensures { result ≡ is_cut_off t.0 k.0 entries.now }
+{
+    let staying = count_below(entries, k);
+    has_entry(&entries[staying..], t)
+}
+
+/// The greatest batch, or this number where it is greater.
+#[tactic(auto, using(crate::proofs::Counting::greatest_more))]
+pub fn greatest_batch(entries: &[Entry], number: u64) -> u64
+    ensures { result ≡ max number (greatest (batches_on entries.now)) }
+{
+    let mut greatest = number;
+    for e in entries {
+        greatest = e.batch_or(greatest);
+    }
+    greatest
+}

@@ -1,0 +1,172 @@
+ghost use Rattle.std.specs.Prelude.{◌≡◌, ℕ, nat_lt, max, Bool, false, ◌∷◌, [], not};
+ghost use Rattle.protocol.specs.Rivals.{lock_of};
+ghost use Rattle.protocol.specs.Parts.{BatchEntry, ActEntry};
+ghost use Rattle.protocol.specs.Words.{is_batch_entry, is_act_entry, is_entry_of, who_of, is_complete_batch, is_turn_of, is_undone, is_all_done, batches_on, greatest};
+ghost use Rattle.protocol.specs.OnCell.{done_in, complete_in};
+ghost use Rattle.machine_words.specs.Meant.{who_meant};
+ghost use Rattle.hybrid_schedule.specs.Schedules.{is_act};
+ghost use Rattle.hybrid_schedule.specs.Cuts.{is_from};
+
+use crate::slots::Slots;
+use snap_base::{Bid, Tid, Who};
+use std::alloc::Global;
+use std::marker::Model;
+
+/// What stands on a schedule: a sub-batch, with a slot for each of its PACTs, or an ACT, which has none.
+/// Contracts see the machine's `Entry`.
+#[derive(Drop)]
+pub struct Entry {
+    owner: Who,
+    slots: Slots,
+    complete: bool,
+}
+
+impl Model for Entry {
+    ghost use Rattle.protocol.specs.Parts as protocol;
+    ghost use Rattle.hybrid_schedule.specs.Placing.{placed};
+
+    ghost Value = { protocol.Entry };
+
+    ghost view = { λ e. placed e.owner e.slots e.complete };
+}
+
+impl Entry {
+    /// A batch that is not complete.
+    pub fn batch(bid: Bid, slots: Slots) -> Self
+        ensures { result ≡ BatchEntry (record { bid = bid.0; slots = slots; complete = false }) }
+    {
+        Entry {
+            owner: Who::Batch(bid),
+            slots,
+            complete: false,
+        }
+    }
+
+    pub fn act(alloc: Global, t: Tid) -> Self
+        ensures { result ≡ ActEntry (lock_of t.0) }
+    {
+        Entry {
+            owner: Who::Act(t),
+            slots: Slots::none(alloc),
+            complete: false,
+        }
+    }
+
+    pub fn owner(&self) -> Who
+        ensures { who_meant result ≡ who_of self.now }
+    {
+        self.owner
+    }
+
+    pub fn is_batch(&self, k: Bid) -> bool
+        ensures { result ≡ is_batch_entry k.0 self.now }
+    {
+        match self.owner {
+            Who::Batch(bid) => bid.0 == k.0,
+            Who::Act(_) => false,
+        }
+    }
+
+    /// Whether it is a batch from this one on.
+    pub fn is_from(&self, k: Bid) -> bool
+        ensures { result ≡ is_from k.0 self.now }
+    {
+        match self.owner {
+            Who::Batch(bid) => k.0 <= bid.0,
+            Who::Act(_) => false,
+        }
+    }
+
+    /// The greater of a number and the batch's.
+    pub fn batch_or(&self, number: u64) -> u64
+        ensures { result ≡ max number (greatest (batches_on (self.now ∷ []))) }
+    {
+        match self.owner {
+            Who::Batch(bid) => number.max(bid.0),
+            Who::Act(_) => number,
+        }
+    }
+
+    /// Whether it is this ACT's.
+    pub fn is_act_of(&self, t: Tid) -> bool
+        ensures { result ≡ is_act_entry t.0 self.now }
+    {
+        match self.owner {
+            Who::Batch(_) => false,
+            Who::Act(tid) => tid.0 == t.0,
+        }
+    }
+
+    pub fn is_act(&self) -> bool
+        ensures { result ≡ is_act self.now }
+    {
+        match self.owner {
+            Who::Batch(_) => false,
+            Who::Act(_) => true,
+        }
+    }
+
+    /// Whether the transaction runs by it.
+    pub fn is_entry_of(&self, t: Tid) -> bool
+        ensures { result ≡ is_entry_of t.0 self.now }
+    {
+        match self.owner {
+            Who::Batch(_) => self.slots.name(t),
+            Who::Act(tid) => tid.0 == t.0,
+        }
+    }
+
+    pub fn is_complete(&self) -> bool
+        ensures { result ≡ is_complete_batch self.now }
+    {
+        match self.owner {
+            Who::Batch(_) => self.complete,
+            Who::Act(_) => false,
+        }
+    }
+
+    /// Whether none of its PACTs has to run before this transaction.
+    pub fn is_turn_of(&self, t: Tid) -> bool
+        ensures { result ≡ is_turn_of t.0 self.now }
+    {
+        match self.owner {
+            Who::Batch(_) => self.slots.let_run(t),
+            Who::Act(_) => true,
+        }
+    }
+
+    /// Whether it names the PACT, which is not done.
+    pub fn is_undone(&self, t: Tid) -> bool
+        ensures { result ≡ is_undone t.0 self.now }
+    {
+        match self.owner {
+            Who::Batch(_) => self.slots.have_undone(t),
+            Who::Act(_) => false,
+        }
+    }
+
+    pub fn is_all_done(&self) -> bool
+        ensures { result ≡ is_all_done self.now }
+    {
+        match self.owner {
+            Who::Batch(_) => self.slots.are_done(),
+            Who::Act(_) => false,
+        }
+    }
+
+    /// The PACT is done, where the entry names it.
+    pub fn mark_done(&mut self, t: Tid)
+        ensures { self.new ≡ done_in t.0 self.old }
+    {
+        self.slots.mark_done(t);
+    }
+
+    /// It is complete, where it is this batch.
+    pub fn mark_complete(&mut self, k: Bid)
+        ensures { self.new ≡ complete_in k.0 self.old }
+    {
+        if self.is_batch(k) {
+            self.complete = true;
+        }
+    }
+}

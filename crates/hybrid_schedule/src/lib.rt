@@ -1,0 +1,17 @@
+//! The hybrid schedule of one actor: sub-batches and ACTs in the order in which they stand there. It says
+//! whose turn it is, and which batch is complete. Contracts see the machine's `HybridSchedule`, and beside it
+//! for how much more there is room. The core asks it at every event of the actor, and nothing walks more than
+//! what stands there: the entries, and the slots of the one sub-batch that is meant.
+#![tactic(auto)]
+
+mod arrivals;
+mod askings;
+mod changes;
+mod entries;
+mod laws;
+mod schedule;
+mod slots;
+
+pub use arrivals::ArriveNo;
+pub use laws::{cut_is_at_first_aborted, gone_is_from_first_aborted};
+pub use schedule::Schedule;

@@ -1,0 +1,319 @@
+ghost use Rattle.std.specs.Prelude.{◌≡◌, ℕ, ◌≤◌, ◌<◌, nat_lt, Bool, Some, None, map, length, MatchResult, IfOk, OnOk, OnErr, IfErr, IsOk};
+ghost use Rattle.protocol.specs.Words.{has_act, has_entry, has_undone, is_clear, who_on};
+ghost use Rattle.protocol.specs.OnBook.{tids_on};
+ghost use Rattle.protocol.specs.CellParts.{with_batch, with_act, with_done, with_complete, without_act, without_batch};
+ghost use Rattle.machine_words.specs.Meant.{tid_number, sub_batch, who_meant};
+ghost use Rattle.hybrid_schedule.specs.Room.{KeepsRoom};
+ghost use Rattle.hybrid_schedule.specs.Schedules.{opened, tail_tids, has_turn, can_run, is_incomplete, is_next, is_done, can_complete, is_behind_no_act};
+ghost use Rattle.hybrid_schedule.specs.Cuts.{cut_from, is_cut_off};
+ghost use Rattle.hybrid_schedule.specs.Arrivals.{refusal, MatchRefusal};
+
+use crate::arrivals::ArriveNo;
+use crate::entries::Entry;
+use crate::slots::{Slot, Slots};
+use crate::{askings, changes};
+use snap_base::{Bid, Memory, SubBatch, Tid, Who};
+use std::alloc::Global;
+use std::marker::Model;
+
+/// For how many entries a new schedule has room.
+const FIRST_ENTRIES: usize = 4;
+
+/// An actor's schedule: sub-batches and ACTs in the order in which they stand, and how far its batches are.
+/// Contracts see the machine's `HybridSchedule`, and for how much more there is room.
+#[derive(Drop)]
+pub struct Schedule {
+    entries: Vec<Entry>,
+    /// The ACTs among them, in order. The last ones are the tail group, which is lent to whoever asks.
+    acts: Vec<Tid>,
+    /// Empty: memory for the slots of the next sub-batch.
+    ready: Vec<Slot>,
+    epoch: u64,
+    last: Bid,
+    last_trimmed: Bid,
+    tail: Bid,
+}
+
+impl Model for Schedule {
+    ghost use Rattle.std.specs.Prelude.{◌≡◌, ◌-◌, min, map, [], vec_len, vec_capacity};
+    ghost use Rattle.protocol.specs.OnBook.{tids_on};
+    ghost use Rattle.machine_words.specs.Meant.{tid_number};
+    ghost use Rattle.hybrid_schedule.specs.Room.{Roomed};
+
+    ghost Value = { Roomed };
+
+    ghost view = { λ s. record {
+      schedule = record { entries = s.entries.items; epoch = s.epoch; last = s.last.0; last_trimmed = s.last_trimmed.0; tail = s.tail.0 };
+      spare_entries = min (vec_capacity s.entries - vec_len s.entries) (vec_capacity s.acts - vec_len s.acts);
+      spare_tids = vec_capacity s.ready;
+    } };
+
+    ghost invariant = { λ s. (map tid_number s.acts.items ≡ tids_on s.entries.items) × (s.ready.items ≡ []) };
+}
+
+impl Schedule {
+    /// Nothing stands there, and no batch was placed since this one. It has its first room.
+    pub fn new(alloc: Global, base: Bid) -> Result<Self, Memory>
+        ensures { IfOk result (λ s. s.schedule ≡ opened base.0) }
+    {
+        let entries = Vec::with_capacity(alloc, FIRST_ENTRIES)?;
+        let acts = Vec::with_capacity(alloc, FIRST_ENTRIES)?;
+        Ok(Schedule {
+            entries,
+            acts,
+            ready: Vec::new(alloc),
+            epoch: 0,
+            last: base,
+            last_trimmed: base,
+            tail: Bid(0),
+        })
+    }
+
+    /// Makes room for one more entry with so many tids, and changes nothing else. After `Memory` it may have made
+    /// some of it.
+    pub fn room(&mut self, alloc: Global, tids: u32) -> Result<(), Memory>
+        ensures ok { OnOk result ((1 ≤ self.new.spare_entries) × (tids ≤ self.new.spare_tids)) }
+        ensures unchanged { self.new.schedule ≡ self.old.schedule }
+        ensures no_less { KeepsRoom self.old self.new }
+    {
+        self.entries.reserve(1)?;
+        self.acts.reserve(1)?;
+        if self.ready.capacity() < tids as usize {
+            self.ready = Vec::with_capacity(alloc, tids as usize)?;
+        }
+        Ok(())
+    }
+
+    /// Places a sub-batch at the end. A refused one is handed back, and the schedule is as before.
+    pub fn arrive(&mut self, alloc: Global, s: SubBatch) -> Result<(), (SubBatch, ArriveNo)>
+        ensures ok { OnOk result (self.new.schedule ≡ with_batch s.bid.0 (Some (sub_batch s)) self.old.schedule) }
+
+        // It is refused exactly where it must be, for that reason; else there was no memory.
+        ensures accepted { OnOk result (refusal s self.old.schedule ≡ None) }
+        ensures refused { IfErr result (λ no. MatchRefusal (refusal s self.old.schedule) no.1) }
+        ensures handed_back { IfErr result (λ no. no.0 ≡ s) }
+        ensures err { OnErr result (self.new ≡ self.old) }
+
+        // Where room was made before, there is memory.
+        ensures has_room { 1 ≤ self.old.spare_entries → length s.tids ≤ self.old.spare_tids
+            → refusal s self.old.schedule ≡ None → IsOk result }
+    {
+        if s.epoch != self.epoch {
+            return Err((s, ArriveNo::Epoch { own: self.epoch }));
+        }
+        if s.prev.0 != self.tail.0 {
+            return Err((s, ArriveNo::Before { have: self.tail }));
+        }
+        match changes::take_room(&mut self.entries, &mut self.ready, alloc, s.tids.len()) {
+            Ok(memory) => {
+                let slots = Slots::of(s.tids.as_slice(), memory);
+                changes::push_in_room(&mut self.entries, Entry::batch(s.bid, slots));
+                self.last = s.bid;
+                self.tail = s.bid;
+                Ok(())
+            }
+            Err(_) => Err((s, ArriveNo::Memory)),
+        }
+    }
+
+    /// Places an ACT at the end.
+    pub fn place_act(&mut self, alloc: Global, t: Tid) -> Result<(), Memory>
+        ensures ok { OnOk result (self.new.schedule ≡ with_act t.0 None self.old.schedule) }
+        ensures err { OnErr result (self.new ≡ self.old) }
+        ensures has_room { 1 ≤ self.old.spare_entries → IsOk result }
+    {
+        self.entries.reserve(1)?;
+        self.acts.reserve(1)?;
+        changes::push_in_room(&mut self.entries, Entry::act(alloc, t));
+        changes::push_in_room(&mut self.acts, t);
+        Ok(())
+    }
+
+    /// The ACTs behind the last sub-batch, in order.
+    #[tactic(auto, using(crate::proofs::OfActs::tail_fits))]
+    pub fn tail(&self) -> &[Tid]
+        ensures { map tid_number result.now ≡ tail_tids self.now.schedule.entries }
+    {
+        let length = askings::tail_length(&self.entries);
+        let acts = self.acts.as_slice();
+        &acts[acts.len() - length..]
+    }
+
+    /// All ACTs, in order.
+    pub fn acts(&self, alloc: Global) -> Result<Vec<Tid>, Memory>
+        ensures { IfOk result (λ acts. map tid_number acts.items ≡ tids_on self.now.schedule.entries) }
+    {
+        Ok(Vec::from_slice(alloc, &self.acts)?)
+    }
+
+    /// The greatest batch that was placed and not rolled back, or the one that it began with.
+    pub fn last(&self) -> Bid
+        ensures { result.0 ≡ self.now.schedule.last }
+    {
+        self.last
+    }
+
+    /// The last batch that was placed in this epoch, or 0.
+    pub fn last_in_epoch(&self) -> Bid
+        ensures { result.0 ≡ self.now.schedule.tail }
+    {
+        self.tail
+    }
+
+    /// How many cascades it has seen.
+    pub fn epoch(&self) -> u64
+        ensures { result ≡ self.now.schedule.epoch }
+    {
+        self.epoch
+    }
+
+    /// Whether it has seen fewer cascades than these.
+    pub fn is_behind(&self, epoch: u64) -> bool
+        ensures { result ≡ nat_lt self.now.schedule.epoch epoch }
+    {
+        self.epoch < epoch
+    }
+
+    /// Whether the ACT stands here.
+    pub fn has_act(&self, t: Tid) -> bool
+        ensures { result ≡ has_act t.0 self.now.schedule.entries }
+    {
+        askings::has_act(&self.entries, t)
+    }
+
+    /// Whether the transaction runs here: it is an ACT, or a PACT of a sub-batch.
+    pub fn has_entry(&self, t: Tid) -> bool
+        ensures { result ≡ has_entry t.0 self.now.schedule.entries }
+    {
+        askings::has_entry(&self.entries, t)
+    }
+
+    /// Whether a sub-batch names the PACT, which is not done there.
+    pub fn has_undone(&self, t: Tid) -> bool
+        ensures { result ≡ has_undone t.0 self.now.schedule.entries }
+    {
+        askings::has_undone(&self.entries, t)
+    }
+
+    /// Whose the transaction is: of the batch whose sub-batch names it, else an ACT.
+    pub fn who_on(&self, t: Tid) -> Who
+        ensures { who_meant result ≡ who_on t.0 self.now.schedule.entries }
+    {
+        askings::who_on(&self.entries, t)
+    }
+
+    /// Whether the transaction has its place, and all ahead of it is complete.
+    pub fn is_clear(&self, t: Tid) -> bool
+        ensures { result ≡ is_clear t.0 self.now.schedule.entries }
+    {
+        askings::is_clear(&self.entries, t)
+    }
+
+    /// Whether the transaction has its place, and in its sub-batch all smaller tids are done.
+    pub fn has_turn(&self, t: Tid) -> bool
+        ensures { result ≡ has_turn t.0 self.now.schedule.entries }
+    {
+        askings::has_turn(&self.entries, t)
+    }
+
+    /// Whether the transaction may run: its place is clear, and it is its turn.
+    pub fn may_run(&self, t: Tid) -> bool
+        ensures { result ≡ can_run t.0 self.now.schedule.entries }
+    {
+        askings::is_clear(&self.entries, t) && askings::has_turn(&self.entries, t)
+    }
+
+    /// The PACT is done here.
+    pub fn mark_done(&mut self, t: Tid)
+        ensures done { self.new.schedule ≡ with_done t.0 self.old.schedule }
+        ensures room { KeepsRoom self.old self.new }
+    {
+        changes::mark_done(&mut self.entries, t);
+    }
+
+    /// Whether the batch stands here and is not complete.
+    pub fn is_incomplete(&self, bid: Bid) -> bool
+        ensures { result ≡ is_incomplete bid.0 self.now.schedule.entries }
+    {
+        askings::is_incomplete(&self.entries, bid)
+    }
+
+    /// Whether all that stands ahead of the batch is complete.
+    pub fn is_next(&self, bid: Bid) -> bool
+        ensures { result ≡ is_next bid.0 self.now.schedule.entries }
+    {
+        askings::is_next(&self.entries, bid)
+    }
+
+    /// Whether the batch stands here, and all its PACTs are done.
+    pub fn is_done(&self, bid: Bid) -> bool
+        ensures { result ≡ is_done bid.0 self.now.schedule.entries }
+    {
+        askings::is_done(&self.entries, bid)
+    }
+
+    /// Whether the batch may complete: it has not, all ahead of it has, and its PACTs are done.
+    pub fn may_complete(&self, bid: Bid) -> bool
+        ensures { result ≡ can_complete bid.0 self.now.schedule.entries }
+    {
+        askings::is_incomplete(&self.entries, bid)
+            && askings::is_next(&self.entries, bid)
+            && askings::is_done(&self.entries, bid)
+    }
+
+    /// The batch is complete here.
+    pub fn complete(&mut self, bid: Bid)
+        ensures complete { self.new.schedule ≡ with_complete bid.0 self.old.schedule }
+        ensures room { KeepsRoom self.old self.new }
+    {
+        changes::mark_complete(&mut self.entries, bid);
+    }
+
+    /// The ACT leaves.
+    pub fn remove_act(&mut self, t: Tid)
+        ensures gone { self.new.schedule ≡ without_act t.0 self.old.schedule }
+        ensures room { KeepsRoom self.old self.new }
+    {
+        changes::remove_act(&mut self.entries, t);
+        changes::remove_tid(&mut self.acts, t);
+    }
+
+    /// Whether no ACT stands ahead of the sub-batch.
+    pub fn clear_ahead(&self, bid: Bid) -> bool
+        ensures { result ≡ is_behind_no_act bid.0 self.now.schedule.entries }
+    {
+        askings::is_behind_no_act(&self.entries, bid)
+    }
+
+    /// Whether a cut at this batch takes the entry by which the transaction runs.
+    pub fn is_cut_off(&self, t: Tid, bid: Bid) -> bool
+        ensures { result ≡ is_cut_off t.0 bid.0 self.now.schedule.entries }
+    {
+        askings::is_cut_off(&self.entries, t, bid)
+    }
+
+    /// A rollback: the schedule is cut at its first batch that is not below this one, with all ACTs behind it, and
+    /// is of this epoch from now on.
+    #[tactic(auto, using(crate::proofs::OfActs::acts_of_front, crate::proofs::Cutting::staying_is_front))]
+    pub fn drop_aborted(&mut self, bid: Bid, epoch: u64)
+        ensures cut { self.new.schedule ≡ cut_from bid.0 epoch self.old.schedule }
+        ensures room { KeepsRoom self.old self.new }
+    {
+        let staying = askings::count_below(&self.entries, bid);
+        self.entries.truncate(staying);
+        let acts = askings::count_acts(&self.entries);
+        self.acts.truncate(acts);
+        self.epoch = epoch;
+        self.last = Bid(askings::greatest_batch(&self.entries, self.last_trimmed.0));
+        self.tail = Bid(0);
+    }
+
+    /// A settled batch leaves.
+    pub fn trim(&mut self, bid: Bid)
+        ensures gone { self.new.schedule ≡ without_batch bid.0 self.old.schedule }
+        ensures room { KeepsRoom self.old self.new }
+    {
+        changes::remove_batch(&mut self.entries, bid);
+        self.last_trimmed = Bid(self.last_trimmed.0.max(bid.0));
+    }
+}

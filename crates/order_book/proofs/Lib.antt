@@ -1,0 +1,9 @@
+pub mod Oldest
+pub mod Rows
+pub mod Finding
+pub mod Counting
+pub mod Carrying
+pub mod Registering
+pub mod Walked
+pub mod Lowering
+pub mod Booked

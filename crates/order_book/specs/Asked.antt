@@ -1,0 +1,60 @@
+-- What the book is asked.
+use Rattle.std.specs.Prelude.{ℕ, Option, Some, None, List, [], ◌∷◌, map}
+use Rattle.snap_base.specs.declared.ids.Tid.{Tid}
+use Rattle.snap_base.specs.declared.verdicts.Verdict.{Verdict}
+use Rattle.machine_words.specs.Meant.{tid_number}
+use Rattle.protocol.specs.Rivals.{Lock, lock_of}
+use Rattle.protocol.specs.Parts.{Joined, Status, Live, Doomed, Decided, Sealed, Act}
+use Rattle.order_book.specs.declared.answer.Answer.{Answer}
+use Rattle.order_book.specs.declared.answer.Answer.TheVariants.{Free, Die, Wait}
+
+-- ---- wait-die
+
+-- the locks of the ACTs with these tids
+abbrev pub locks_of : List Tid → List Lock
+locks_of tids = map lock_of (map tid_number tids)
+
+abbrev pub free_or_wait : List Tid → Answer
+free_or_wait [] = Free
+free_or_wait (t ∷ ts) = Wait
+
+-- who meets an older one gives way to the oldest
+abbrev pub answered : Option ℕ → List Tid → Answer
+answered (Some older) tail = Die (record { 0 = older })
+answered None tail = free_or_wait tail
+
+-- ---- an ACT, where there is one
+
+abbrev pub doom_in : Status → Option Verdict
+doom_in Live = None
+doom_in (Doomed why) = Some why
+doom_in (Decided c) = None
+doom_in (Sealed c) = None
+
+-- why it is given up
+abbrev pub doom_of : Option Act → Option Verdict
+doom_of None = None
+doom_of (Some x) = doom_in x.status
+
+-- its before number; 0 where there is no such ACT
+abbrev pub before_of : Option Act → ℕ
+before_of None = 0
+before_of (Some x) = x.m
+
+-- its after number
+abbrev pub after_of : Option Act → Option ℕ
+after_of None = None
+after_of (Some x) = x.n
+
+abbrev pub tid_of : Option Act → Option ℕ
+tid_of None = None
+tid_of (Some x) = Some x.tid
+
+abbrev pub tx_of : Option Act → Option ℕ
+tx_of None = None
+tx_of (Some x) = Some x.tx
+
+-- the actors that it joined, in that order
+abbrev pub joined_in : Option Act → List Joined
+joined_in None = []
+joined_in (Some x) = x.places

@@ -1,0 +1,23 @@
+-- How the book keeps an ACT: its after number with the number of cascades there were when it was set, so that a cascade
+-- forgets the after numbers of all ACTs at once.
+use Rattle.std.specs.Prelude.{ℕ, ◌==◌, ◌≤◌, if◌then◌else◌, None}
+use Rattle.protocol.specs.Parts.{Act}
+
+pub record Kept : Type 0 where
+  pub act : Act
+  -- how many cascades there were when its after number was set
+  pub under : ℕ
+
+-- the ACT, after so many cascades
+abbrev pub seen : ℕ → Kept → Act
+seen epoch x = record x.act { n = if x.under == epoch then x.act.n else None }
+
+abbrev pub IsUnder : ℕ → Kept → Type 0
+IsUnder epoch x = x.under ≤ epoch
+
+abbrev pub forgotten : Act → Act
+forgotten x = record x { n = None }
+
+-- with no after number, whatever the number of cascades
+abbrev pub cut : Kept → Kept
+cut x = record { act = forgotten x.act; under = 0 }

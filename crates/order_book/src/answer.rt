@@ -1,0 +1,54 @@
+ghost use Rattle.std.specs.Prelude.{◌≡◌, nat_lt, if◌then◌else◌};
+ghost use Rattle.std.specs.Option.{option_map};
+ghost use Rattle.machine_words.specs.Meant.{tid_number};
+ghost use Rattle.protocol.specs.Words.{least_of, least_older};
+ghost use Rattle.order_book.specs.Asked.{locks_of, answered};
+
+use snap_base::Tid;
+
+/// What an ACT is told that asks for an actor.
+#[derive(Clone, Copy, Debug, PartialEq, Eq)]
+pub enum Answer {
+    /// Nobody holds the actor or waits for it: it has it at once.
+    Free,
+    /// It gives way to the oldest of those that are older than itself.
+    Die(Tid),
+    /// All that hold the actor or wait for it are younger: it waits behind them.
+    Wait,
+}
+
+/// The answer of wait-die to `me`, where `tail` has the ACTs that hold the actor or wait for it behind its last batch.
+pub fn ask(tail: &[Tid], me: Tid) -> Answer
+    ensures { result ≡ answered (least_older me.0 (locks_of tail.now)) tail.now }
+{
+    match oldest_before(tail, me) {
+        Some(older) => Answer::Die(older),
+        None if tail.is_empty() => Answer::Free,
+        None => Answer::Wait,
+    }
+}
+
+/// The least tid of the tail that is below this one.
+fn oldest_before(tail: &[Tid], me: Tid) -> Option<Tid>
+    ensures { option_map tid_number result ≡ least_older me.0 (locks_of tail.now) }
+{
+    let mut least: Option<Tid> = None;
+    for t in tail {
+        least = older_of(least, *t, me);
+    }
+    least
+}
+
+/// The less of the least one so far and this one, if it is below `me`.
+fn older_of(least: Option<Tid>, t: Tid, me: Tid) -> Option<Tid>
+    ensures { option_map tid_number result ≡ (if nat_lt t.0 me.0 then Some (least_of t.0 (option_map tid_number least)) else option_map tid_number least) }
+{
+    if t.0 < me.0 {
+        match least {
+            Some(first) if first.0 <= t.0 => Some(first),
+            _ => Some(t),
+        }
+    } else {
+        least
+    }
+}

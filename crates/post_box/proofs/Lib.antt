@@ -1,0 +1,4 @@
+pub mod InOrder
+pub mod SwapRemove
+pub mod ByKey
+pub mod Machine

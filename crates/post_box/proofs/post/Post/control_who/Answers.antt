@@ -1,0 +1,21 @@
+use Rattle.std.proofs.Common.{ap, sym, ◌∙◌}
+use Rattle.std.specs.Option.{option_map}
+use Rattle.machine_words.specs.Meant.{who_meant}
+use Rattle.protocol.specs.Words.{control_of}
+use Rattle.post_box.specs.Posting.{message_who}
+use Rattle.post_box.specs.declared.kept.Control.{Control}
+use Rattle.post_box.proofs.Machine.{asks_control, control_of-shown, option_map-twice}
+use Rattle.post_box.proofs.post.Post.control_who.Goals as goal
+
+pub returns-in_err-kept : goal.returns-in_err-kept
+returns-in_err-kept g c =
+    ap (option_map who_meant) c.from_residual.ensures
+    ∙ ap (option_map (λ (k : Control g.row.C.Denot). who_meant k.who)) c.in_err-kept.ensures
+    ∙ sym (option_map-twice message_who _ _) ∙ ap (option_map message_who) (sym (control_of-shown _ c.args.tid.0 (asks_control c.args.tid) c.self.inside.controls.entries))
+    ∙ ap (λ v. option_map message_who (control_of c.args.tid.0 v.messages.controls)) c.self.view_is
+
+pub returns : goal.returns
+returns g c =
+    ap (option_map (λ (k : Control g.row.C.Denot). who_meant k.who)) c.in_ok-kept.ensures
+    ∙ sym (option_map-twice message_who _ _) ∙ ap (option_map message_who) (sym (control_of-shown _ c.args.tid.0 (asks_control c.args.tid) c.self.inside.controls.entries))
+    ∙ ap (λ v. option_map message_who (control_of c.args.tid.0 v.messages.controls)) c.self.view_is

@@ -1,0 +1,6 @@
+pub mod Order
+pub mod Messages
+pub mod Kept
+pub mod PostBox
+pub mod Shown
+pub mod Posting
