@@ -6,7 +6,7 @@ use txn_records::{DecodeNo, decode, encode};
 
 /// A front, a byte that follows it so many times, and the offset of the first byte at which no record goes on; none
 /// where the bytes are a record.
-const ROWS: [(&[u8], u8, usize, Option<u32>); 10] = [
+const ROWS: [(&[u8], u8, usize, Option<u32>); 14] = [
     // a Genesis with one state, and what an actor completed
     (b"\x01\x02\0\x01", 0xFF, 128, None),
     (b"\x03", 0x80, 138, None),
@@ -24,6 +24,27 @@ const ROWS: [(&[u8], u8, usize, Option<u32>); 10] = [
     // actors that fall, and one that leaves no room for the next
     (b"\x02\0\0\0\0\0\0\0\x07\0\x02\0\x01\0\0", 0, 0, Some(14)),
     (b"\x02\0\0\0\0\0\0\0\x07\0\x02\xFF\xFF\0\0", 0, 0, Some(12)),
+    // what an undeclared transaction left an actor, its commit on two actors, with these in the wrong order, and on
+    // too many
+    (b"\x05", 0x80, 138, None),
+    (
+        b"\x06\0\0\0\0\0\0\0\x01\0\0\0\0\0\0\0\0\0\0\0\0\0\0\0\x01\0\x02\0\0\0\x01",
+        0,
+        0,
+        None,
+    ),
+    (
+        b"\x06\0\0\0\0\0\0\0\x01\0\0\0\0\0\0\0\0\0\0\0\0\0\0\0\x01\0\x02\0\x01\0\0",
+        0,
+        0,
+        Some(30),
+    ),
+    (
+        b"\x06\0\0\0\0\0\0\0\x01\0\0\0\0\0\0\0\0\0\0\0\0\0\0\0\x01\0\x11",
+        0,
+        34,
+        Some(26),
+    ),
 ];
 
 fn bytes_of(alloc: Global, front: &[u8], byte: u8, count: usize) -> Result<Vec<u8>, Memory> {

@@ -9,7 +9,7 @@ use Rattle.snap_outside.specs.Disk.{History, content}
 use Rattle.gate_log.specs.declared.logs.LogItem.{LogItem}
 use Rattle.gate_log.specs.Opened.{Opened}
 use Rattle.txn_records.specs.declared.records.Record.{Record}
-use Rattle.txn_records.specs.declared.records.Record.TheVariants.{Genesis, BatchInfo, BatchComplete, BatchCommit}
+use Rattle.txn_records.specs.declared.records.Record.TheVariants.{Genesis, BatchInfo, BatchComplete, BatchCommit, ActPrepare, ActCommit}
 use Rattle.txn_records.specs.Records.{IsRecord}
 use Rattle.record_log.specs.Records.{HoldsRecords, AreItemsOf, IsFirstBadIn}
 use Rattle.record_log.specs.RecordLogLaws.{OpenedHeld, ItemsAreRecords}
@@ -29,6 +29,8 @@ said_first (Genesis n ss ∷ rs) more logs states is = cc
 said_first (BatchInfo b a t ∷ rs) more logs states is = said_first rs more logs states is
 said_first (BatchComplete b a s ∷ rs) more logs states is = said_first rs more logs states is
 said_first (BatchCommit b ∷ rs) more logs states is = said_first rs more logs states is
+said_first (ActPrepare t a s ∷ rs) more logs states is = said_first rs more logs states is
+said_first (ActCommit t m c a ∷ rs) more logs states is = said_first rs more logs states is
 
 pub said_one : (rs : List Record) → filter is_genesis rs ≡ [] → logs_said rs ≡ 1
 said_one [] none = refl
@@ -36,6 +38,8 @@ said_one (Genesis n ss ∷ rs) none = absurd (cc)
 said_one (BatchInfo b a t ∷ rs) none = said_one rs none
 said_one (BatchComplete b a s ∷ rs) none = said_one rs none
 said_one (BatchCommit b ∷ rs) none = said_one rs none
+said_one (ActPrepare t a s ∷ rs) none = said_one rs none
+said_one (ActCommit t m c a ∷ rs) none = said_one rs none
 
 -- the Geneses of one log
 pub geneses_one : (logs : List (List Record)) (rs : List Record) → logs ≡ rs ∷ [] → geneses logs ≡ filter is_genesis rs
@@ -47,6 +51,8 @@ said_range (Genesis n ss ∷ rs) are = (are.0.some_logs, are.0.few_logs)
 said_range (BatchInfo b a t ∷ rs) are = said_range rs are.1
 said_range (BatchComplete b a s ∷ rs) are = said_range rs are.1
 said_range (BatchCommit b ∷ rs) are = said_range rs are.1
+said_range (ActPrepare t a s ∷ rs) are = said_range rs are.1
+said_range (ActCommit t m c a ∷ rs) are = said_range rs are.1
 
 -- ---- what the devices hold
 

@@ -1,3 +1,4 @@
+-- Only private contracts cite this; the rules are Kept.antt and Found.antt.
 -- What the steps of the flow leave, on the devices before and after.
 use Rattle.std.specs.Prelude.{◌≡◌, List, [], ◌∷◌, length}
 use Rattle.std.specs.List.{AllZip}

@@ -1,5 +1,6 @@
 ghost use Rattle.std.specs.Prelude.{◌≡◌, ◌+◌, ◌≤◌, ℕ, List, [], length, vec_len, vec_capacity, IfOk, IfErr, OnOk, MatchResult};
 ghost use Rattle.std.specs.List.{AllZip};
+ghost use Rattle.txn_records.specs.declared.limits.TheConstants.{MOST_LISTED};
 ghost use Rattle.txn_records.specs.declared.records.Record.{Record};
 ghost use Rattle.record_log.specs.Records.{KeepsRecords};
 ghost use Rattle.snap_recover.specs.Opening.{IsRecovered};
@@ -27,7 +28,7 @@ pub fn recover_kept<D: LogDev>(alloc: Global, devices: &mut Vec<D>) -> Result<Op
     ensures recovered { IfOk result (λ o. (logs : List (List Record)) × AreGiven (devices_of D.told D.faults devices.old.items) logs × IsRecovered logs o
         × AreOpened (length logs) (devices_of D.told D.faults devices.old.items) (devices_of D.told D.faults devices.new.items)) }
     ensures refused { IfErr result (λ no. IsLogsNo (devices_of D.told D.faults devices.old.items) (devices_of D.told D.faults devices.new.items) no) }
-    ensures actors { IfOk result (λ o. length o.states ≤ 256) }
+    ensures actors { IfOk result (λ o. length o.states ≤ MOST_LISTED) }
     ensures four { vec_len devices.new ≡ 4 }
     // Each device got no call but those of opening, and a crash at any moment loses no record.
     ensures opened { AllZip IsOpenedAtMost (devices_of D.told D.faults devices.old.items) (devices_of D.told D.faults devices.new.items) }

@@ -5,7 +5,7 @@ use Rattle.snap_base.specs.declared.transactions.State.{State}
 use Rattle.aml_check.specs.Transactions.{IsTransaction}
 use Rattle.txn_records.specs.Records.{IsState}
 use Rattle.work_text.specs.Works.{Work}
-use Rattle.work_text.specs.Kept.{IsKept, IsOneBatch}
+use Rattle.work_text.specs.Kept.{KeepsLimits, IsOneBatch}
 use Rattle.work_text.specs.Kept as kept
 use Rattle.snap_recover.specs.declared.openings.Opening.{Opening}
 use Rattle.run_opening.specs.Begins.{IsUnspent}
@@ -16,10 +16,10 @@ pub are_states : (states : List State) → AllByRecursion kept.IsState states �
 are_states [] h = tt
 are_states (s ∷ states) h = (record { len = h.0.fields; fields = h.0.values }, are_states states h.1)
 
-pub few_transactions : (w : Work) → IsKept w → IsOneBatch w → length w.txs ≤ 256
+pub few_transactions : (w : Work) → KeepsLimits w → IsOneBatch w → length w.txs ≤ 256
 few_transactions w kept one = omega (arith, one.few, kept.batch.1)
 
-pub executable_from : (w : Work) (o : Opening) → IsKept w → IsOneBatch w → o.states ≡ w.states → IsUnspent o → IsExecutable o w
+pub executable_from : (w : Work) (o : Opening) → KeepsLimits w → IsOneBatch w → o.states ≡ w.states → IsUnspent o → IsExecutable o w
 executable_from w o kept one same unspent =
     let count : length o.states ≡ length w.states = ap length same in record {
       transactions = subst (λ n. AllByRecursion (IsTransaction w.program n) w.txs) (sym count) kept.transactions;

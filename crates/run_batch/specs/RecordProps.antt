@@ -3,7 +3,7 @@ use Rattle.std.proofs.Common.{ℕ, ◌+◌, ◌<◌, ◌≤◌, List, [], ◌∷
 use Rattle.std.proofs.Props.{props}
 use mathlib.Core.HLevel.{Unit-prop}
 use Rattle.txn_records.specs.declared.records.Record.{Record}
-use Rattle.txn_records.specs.declared.records.Record.TheVariants.{Genesis, BatchInfo, BatchComplete, BatchCommit}
+use Rattle.txn_records.specs.declared.records.Record.TheVariants.{Genesis, BatchInfo, BatchComplete, BatchCommit, ActPrepare, ActCommit}
 use Rattle.snap_base.specs.declared.transactions.State.{State}
 use Rattle.txn_records.specs.Records.{Ascend, IsState, IsRecord}
 
@@ -23,3 +23,5 @@ IsRecord-prop (Genesis logs states) = hlevel (props, IsState-prop)
 IsRecord-prop (BatchInfo bid actors tids) = hlevel (props, Ascend-prop)
 IsRecord-prop (BatchComplete bid actor state) = hlevel (props, IsState-prop)
 IsRecord-prop (BatchCommit bid) = hlevel props
+IsRecord-prop (ActPrepare tid actor state) = hlevel (props, IsState-prop)
+IsRecord-prop (ActCommit tid m c actors) = hlevel (props, Ascend-prop)

@@ -1,7 +1,8 @@
 ghost use Rattle.std.specs.Prelude.{◌≡◌, ◌≤◌, length, MatchOption};
+ghost use Rattle.txn_records.specs.declared.limits.TheConstants.{MOST_LISTED};
 ghost use Rattle.run_opening.specs.Begins.{IsUnspent, IsFirstSpent, IsDifference, IsFieldDifference};
 
-use snap_base::{ActorId, State};
+use snap_base::{ActorId, FIELDS, State};
 use snap_recover::{GREATEST_NUMBER, Opening, What};
 
 /// The greatest number with which a run begins.
@@ -41,7 +42,7 @@ pub(crate) fn spent(opening: &Opening) -> Option<u64>
 
 /// What differs first between the states that a log began with and the text's.
 pub(crate) fn compare_states(kept: &[State], text: &[State]) -> Option<Difference>
-    requires { length text.now ≤ 256 }
+    requires { length text.now ≤ MOST_LISTED }
     ensures { MatchOption result (kept.now ≡ text.now) (λ d. IsDifference kept.now text.now d.what d.kept d.text) }
 {
     if kept.len() != text.len() {
@@ -67,10 +68,10 @@ pub(crate) fn compare_states(kept: &[State], text: &[State]) -> Option<Differenc
 }
 
 /// The first field that differs.
-fn compare_fields(kept: &[i64; 16], text: &[i64; 16]) -> Option<FieldDifference>
+fn compare_fields(kept: &[i64; FIELDS], text: &[i64; FIELDS]) -> Option<FieldDifference>
     ensures { MatchOption result (kept.now ≡ text.now) (λ d. IsFieldDifference kept.now text.now d.field d.kept d.text) }
 {
-    for field in 0..16 {
+    for field in 0..FIELDS {
         if kept[field] != text[field] {
             return Some(FieldDifference {
                 field: field as u8,

@@ -1,5 +1,6 @@
 ghost use Rattle.std.specs.Prelude.{◌≡◌, ◌+◌, ◌≤◌, length, false, IfOk, IfErr, MatchResult};
 ghost use Rattle.std.specs.List.{AllByRecursion};
+ghost use Rattle.txn_records.specs.declared.limits.TheConstants.{MOST_LISTED};
 ghost use Rattle.snap_outside.specs.Causes.{Rose};
 ghost use Rattle.txn_records.specs.Records.{IsState, IsRecord};
 ghost use Rattle.record_log.specs.Records.{AppendsRecords, CrashesRecords};
@@ -32,7 +33,7 @@ pub fn open_for_run<D: LogDev>(
     states: &[State],
 ) -> Result<(Log<D>, Opening), (D, LogsNo)>
     requires some { 1 ≤ length states.now }
-    requires few { length states.now ≤ 256 }
+    requires few { length states.now ≤ MOST_LISTED }
     requires states { AllByRecursion IsState states.now }
     // The run begins with what the records of the log recover to, or with the text's states.
     ensures begun { IfOk result (λ x. IsBegunOn (D.told dev) x.0.told x.0.end states.now x.1) }

@@ -1,5 +1,6 @@
 ghost use Rattle.std.specs.Prelude.{◌≡◌, ◌≤◌, ℕ, ◌^◌, [], ◌∷◌, length, IsTrue, ◌↔◌, IfOk, IfErr, MatchOption, MatchResult};
 ghost use Rattle.std.specs.List.{AllByRecursion};
+ghost use Rattle.txn_records.specs.declared.limits.TheConstants.{MOST_LISTED};
 ghost use Rattle.log_opening.specs.Found.{ArePlaced};
 ghost use Rattle.snap_recover.specs.Opening.{IsRecovered};
 ghost use Rattle.run_opening.specs.Begins.{AreEmpty, IsUnspent, BeganWith, GoesOn, IsCause, fresh_opening};
@@ -26,7 +27,7 @@ pub struct Start {
 /// What a run of a text with these states begins with, on a log in which these items were found.
 pub(crate) fn start_of(alloc: Global, items: &[LogItem], states: &[State]) -> Result<Start, LogsNo>
     requires items { ArePlaced items.now }
-    requires few { length states.now ≤ 256 }
+    requires few { length states.now ≤ MOST_LISTED }
     ensures { MatchResult result (λ s. IsStartOf items.now states.now s.opening s.added) (λ no. IsNoStartOf items.now states.now no) }
 {
     match read_log(alloc, items, 0) {
@@ -42,7 +43,7 @@ pub fn start_from(
     states: &[State],
 ) -> Result<Start, LogsNo>
     requires logs { length logs.now ≤ 4 }
-    requires few { length states.now ≤ 256 }
+    requires few { length states.now ≤ MOST_LISTED }
     ensures { MatchResult result (λ s. IsStart logs.now states.now s.opening s.added) (λ no. IsNoStart logs.now states.now no) }
 {
     if all_empty(logs) {
@@ -89,7 +90,7 @@ fn first_start(alloc: Global, logs: u8, states: &[State]) -> Result<Start, Memor
 /// What a run of a text with these states goes on with from the records of the logs.
 fn go_on(alloc: Global, logs: &[Sequence<Record>], states: &[State]) -> Result<Opening, LogsNo>
     requires some { ¬ AreEmpty logs.now }
-    requires few { length states.now ≤ 256 }
+    requires few { length states.now ≤ MOST_LISTED }
     ensures { MatchResult result (λ o. GoesOn logs.now states.now o) (λ no. IsNoStart logs.now states.now no) }
 {
     let opening = match recover_records(alloc, logs) {
@@ -109,7 +110,7 @@ fn go_on(alloc: Global, logs: &[Sequence<Record>], states: &[State]) -> Result<O
 /// Why a run of a text with these states does not go on from what the records of its logs recover to.
 fn objection(opening: &Opening, logs: &[Sequence<Record>], states: &[State]) -> Option<LogCause>
     requires recovered { IsRecovered logs.now opening.now }
-    requires few { length states.now ≤ 256 }
+    requires few { length states.now ≤ MOST_LISTED }
     ensures { MatchOption result (BeganWith logs.now states.now × IsUnspent opening.now) (IsCause logs.now states.now 0) }
 {
     if let Some(number) = spent(opening) {

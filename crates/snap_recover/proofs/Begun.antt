@@ -3,12 +3,13 @@ use Rattle.std.proofs.Common.{◌≡◌, ℕ, ◌+◌, inl, inr, List, [], ◌�
 use Rattle.std.specs.List.{AllByRecursion, AllZip, enumerate_from}
 use Rattle.std.proofs.Math.Nat.{mod-one}
 use Rattle.snap_base.specs.declared.ids.Bid.{Bid}
+use Rattle.snap_base.specs.declared.ids.Tid.{Tid}
 use Rattle.snap_base.specs.declared.transactions.State.{State}
 use Rattle.txn_records.specs.declared.records.Record.{Record}
 use Rattle.txn_records.specs.declared.records.Record.TheVariants.{Genesis}
 use Rattle.txn_records.specs.declared.keys.Key.TheVariants as keys
 use Rattle.snap_recover.specs.Logs.{log_of, Has}
-use Rattle.snap_recover.specs.Opening.{IsIn, Counts, IsStateOf, IsRecovered}
+use Rattle.snap_recover.specs.Opening.{IsIn, IsActIn, Counts, IsStateOf, IsRecovered}
 use Rattle.snap_recover.proofs.Lists.{contains_cases, contains_none}
 
 -- with one log, each number writes to it
@@ -19,6 +20,11 @@ genesis_commits : (states : List State) (b : Bid) → ¬ IsIn ((Genesis 1 states
 genesis_commits states b h =
     let here : Has (Genesis 1 states ∷ []) (keys.Commit b) = subst (λ (z : List Record). Has z (keys.Commit b)) (log_one (Genesis 1 states ∷ []) b.0) h in
     elim (contains_cases keys.Genesis (keys.Commit b) [] here) [ inl e ↦ absurd (cc) | inr g ↦ contains_none (keys.Commit b) g ]
+
+genesis_acts : (states : List State) (t : Tid) → ¬ IsActIn ((Genesis 1 states ∷ []) ∷ []) t
+genesis_acts states t h =
+    let here : Has (Genesis 1 states ∷ []) (keys.Act t) = subst (λ (z : List Record). Has z (keys.Act t)) (log_one (Genesis 1 states ∷ []) t.0) h in
+    elim (contains_cases keys.Genesis (keys.Act t) [] here) [ inl e ↦ absurd (cc) | inr g ↦ contains_none (keys.Act t) g ]
 
 begun_states : (states all : List State) (n : ℕ) → AllZip (λ (x : ℕ × State) s. IsStateOf ((Genesis 1 all ∷ []) ∷ []) x.0 x.1 s) (enumerate_from n states) states
 begun_states [] all n = tt
@@ -32,7 +38,8 @@ pub begun_is_recovered : (states : List State) → IsRecovered ((Genesis 1 state
 begun_is_recovered states = record {
   begun = (states, record { one = refl; range = (record { actors_below = tt; numbers_below = tt }, tt) }, begun_states states states 0);
   whole = λ b h. absurd (genesis_commits states b h);
-  committed = record { ascend = λ i j d l m. absurd (omega arith); each = tt; all = λ b h. absurd (genesis_commits states b h) };
+  acts_whole = λ t h. absurd (genesis_acts states t h);
+  committed = record { ascend = λ i j d l m. absurd (omega arith); each = tt; all_batches = λ b h. absurd (genesis_commits states b h); all_acts = λ t h. absurd (genesis_acts states t h) };
   next_tid = refl;
   next_bid = refl;
   next_c = refl;

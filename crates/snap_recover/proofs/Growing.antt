@@ -8,16 +8,16 @@ use Rattle.snap_base.specs.declared.ids.Bid.{Bid}
 use Rattle.snap_base.specs.declared.ids.Tid.{Tid}
 use Rattle.snap_base.specs.declared.transactions.State.{State}
 use Rattle.txn_records.specs.declared.records.Record.{Record}
-use Rattle.txn_records.specs.declared.records.Record.TheVariants.{Genesis, BatchInfo, BatchComplete, BatchCommit}
+use Rattle.txn_records.specs.declared.records.Record.TheVariants.{Genesis, BatchInfo, BatchComplete, BatchCommit, ActPrepare, ActCommit}
 use Rattle.txn_records.specs.declared.keys.Key.{Key}
 use Rattle.txn_records.specs.declared.keys.Key.TheVariants as keys
 use Rattle.txn_records.specs.Records.{key}
 use Rattle.snap_recover.specs.declared.openings.Opening.{Opening}
 use Rattle.snap_recover.specs.declared.openings.Kept.{Kept}
 use Rattle.snap_recover.specs.declared.openings.Kept.TheVariants as kept
-use Rattle.snap_recover.specs.Logs.{Has, IsLastOf, bids_in, is_genesis, geneses}
-use Rattle.snap_recover.specs.Opening.{IsIn, IsInfoOf, HasCompleted, IsWhole, Counts, IsStateOf, AreStates, IsKept, greatest, next_of, IsRecovered}
-use Rattle.snap_recover.proofs.Lists.{all_append, all_weaker, all_contains, contains_left, contains_right, contains_append, contains_map, contains_unmap, zip_weaker}
+use Rattle.snap_recover.specs.Logs.{Has, IsLastOf, bids_in, commits_in, is_genesis, geneses}
+use Rattle.snap_recover.specs.Opening.{IsIn, IsInfoOf, HasCompleted, IsWhole, IsActIn, IsActOf, HasPrepared, IsActWhole, Counts, IsStateOf, AreStates, IsKept, greatest, next_of, IsRecovered}
+use Rattle.snap_recover.proofs.Lists.{all_append, all_weaker, all_middle, all_contains, contains_left, contains_right, contains_append, contains_map, contains_unmap, zip_weaker}
 use Rattle.snap_recover.proofs.Begun.{log_one}
 use Rattle.snap_recover.proofs.Greatest.{each_below, greatest_append, greatest_of}
 use Rattle.snap_recover.proofs.StatesOver.{Agree, StatesOver, over_alike}
@@ -47,12 +47,16 @@ commit_of (Genesis l s) b e = absurd (cc)
 commit_of (BatchInfo k a t) b e = absurd (cc)
 commit_of (BatchComplete k a s) b e = absurd (cc)
 commit_of (BatchCommit k) b e = let same : k ≡ b = cc in ap (λ (z : Bid). z.0 ∷ []) same
+commit_of (ActPrepare t a s) b e = absurd (cc)
+commit_of (ActCommit t m c a) b e = absurd (cc)
 
 info_of : (r : Record) (b : Bid) → key r ≡ keys.Info b → bids_in r ≡ b.0 ∷ []
 info_of (Genesis l s) b e = absurd (cc)
 info_of (BatchInfo k a t) b e = let same : k ≡ b = cc in ap (λ (z : Bid). z.0 ∷ []) same
 info_of (BatchComplete k a s) b e = absurd (cc)
 info_of (BatchCommit k) b e = absurd (cc)
+info_of (ActPrepare t a s) b e = absurd (cc)
+info_of (ActCommit t m c a) b e = absurd (cc)
 
 -- ---- one log
 
@@ -68,7 +72,36 @@ BidsBelow n rs = AllByRecursion (λ r. AllByRecursion (λ x. x < n) (bids_in r))
 
 -- a record of this batch, and of no other
 abbrev pub OfBatch : Bid → Record → Type 0
-OfBatch bid r = bids_in r ≡ bid.0 ∷ []
+OfBatch bid (Genesis l s) = ⊥
+OfBatch bid (BatchInfo k a t) = k.0 ≡ bid.0
+OfBatch bid (BatchComplete k a s) = k.0 ≡ bid.0
+OfBatch bid (BatchCommit k) = k.0 ≡ bid.0
+OfBatch bid (ActPrepare t a s) = ⊥
+OfBatch bid (ActCommit t m c a) = ⊥
+
+of_number : (bid : Bid) (r : Record) → OfBatch bid r → bids_in r ≡ bid.0 ∷ []
+of_number bid (Genesis l s) h = absurd h
+of_number bid (BatchInfo k a t) h = ap (λ (z : ℕ). z ∷ []) h
+of_number bid (BatchComplete k a s) h = ap (λ (z : ℕ). z ∷ []) h
+of_number bid (BatchCommit k) h = ap (λ (z : ℕ). z ∷ []) h
+of_number bid (ActPrepare t a s) h = absurd h
+of_number bid (ActCommit t m c a) h = absurd h
+
+of_no_act : (bid : Bid) (t : Tid) (r : Record) → OfBatch bid r → ¬ (key r ≡ keys.Act t)
+of_no_act bid t (Genesis l s) h e = absurd (cc)
+of_no_act bid t (BatchInfo k a u) h e = absurd (cc)
+of_no_act bid t (BatchComplete k a s) h e = absurd (cc)
+of_no_act bid t (BatchCommit k) h e = absurd (cc)
+of_no_act bid t (ActPrepare u a s) h e = h
+of_no_act bid t (ActCommit u m c a) h e = h
+
+of_no_commit_number : (bid : Bid) (r : Record) → OfBatch bid r → commits_in r ≡ []
+of_no_commit_number bid (Genesis l s) h = refl
+of_no_commit_number bid (BatchInfo k a t) h = refl
+of_no_commit_number bid (BatchComplete k a s) h = refl
+of_no_commit_number bid (BatchCommit k) h = refl
+of_no_commit_number bid (ActPrepare t a s) h = refl
+of_no_commit_number bid (ActCommit t m c a) h = absurd h
 
 pub bids_below : (rs : List Record) (o : Opening) → IsRecovered (rs ∷ []) o → BidsBelow o.next_bid.0 rs
 bids_below rs o h =
@@ -87,7 +120,7 @@ in_below rs o b h i = commit_below o.next_bid.0 rs b (bids_below rs o h) (in_one
 commit_of_batch : (bid b : Bid) (more : List Record) → AllByRecursion (OfBatch bid) more → Has more (keys.Commit b) → b.0 ≡ bid.0
 commit_of_batch bid b more all h =
     let r = contains_unmap key more (keys.Commit b) h in
-    let e : bid.0 ∷ [] ≡ b.0 ∷ [] = sym (all_contains (OfBatch bid) more r.0 all r.1) ∙ commit_of r.0 b r.2 in
+    let e : bid.0 ∷ [] ≡ b.0 ∷ [] = sym (of_number bid r.0 (all_contains (OfBatch bid) more r.0 all r.1)) ∙ commit_of r.0 b r.2 in
     cc
 
 -- ---- what stays
@@ -102,7 +135,7 @@ in_cases rs more bid b all h =
 
 no_infos : (bid b : Bid) (more : List Record) → b.0 ≢ bid.0 → AllByRecursion (OfBatch bid) more → AllByRecursion (λ r. ¬ (key r ≡ keys.Info b)) more
 no_infos bid b more apart all =
-    all_weaker (OfBatch bid) (λ r. ¬ (key r ≡ keys.Info b)) more (λ r h e. let same : bid.0 ∷ [] ≡ b.0 ∷ [] = sym h ∙ info_of r b e in let n : bid.0 ≡ b.0 = cc in apart (sym n)) all
+    all_weaker (OfBatch bid) (λ r. ¬ (key r ≡ keys.Info b)) more (λ r h e. let same : bid.0 ∷ [] ≡ b.0 ∷ [] = sym (of_number bid r h) ∙ info_of r b e in let n : bid.0 ≡ b.0 = cc in apart (sym n)) all
 
 pub info_stays : (rs more : List Record) (bid b : Bid) (actors : List ActorId) (tids : List Tid) → AllByRecursion (OfBatch bid) more → b.0 ≢ bid.0
     → IsInfoOf (rs ∷ []) b actors tids → IsInfoOf ((rs ++ more) ∷ []) b actors tids
@@ -132,9 +165,66 @@ whole_stays rs more bid b all apart w = (
   all_weaker (HasCompleted (rs ∷ []) b) (HasCompleted ((rs ++ more) ∷ []) b) w.0 (λ a h. completed_stays rs more b a h) w.3,
 )
 
+-- ---- ACTs stay
+
+pub act_in_one : (rs : List Record) (t : Tid) → IsActIn (rs ∷ []) t → Has rs (keys.Act t)
+act_in_one rs t h = subst (λ (z : List Record). Has z (keys.Act t)) (log_one rs t.0) h
+
+pub one_act_in : (rs : List Record) (t : Tid) → Has rs (keys.Act t) → IsActIn (rs ∷ []) t
+one_act_in rs t h = subst (λ (z : List Record). Has z (keys.Act t)) (sym (log_one rs t.0)) h
+
+pub act_in_stays : (rs more : List Record) (t : Tid) → IsActIn (rs ∷ []) t → IsActIn ((rs ++ more) ∷ []) t
+act_in_stays rs more t h = one_act_in (rs ++ more) t (has_left rs more (keys.Act t) (act_in_one rs t h))
+
+no_acts : (bid : Bid) (t : Tid) (more : List Record) → AllByRecursion (OfBatch bid) more → AllByRecursion (λ r. ¬ (key r ≡ keys.Act t)) more
+no_acts bid t more all = all_weaker (OfBatch bid) (λ r. ¬ (key r ≡ keys.Act t)) more (λ r h. of_no_act bid t r h) all
+
+-- the new records bring in no ACT
+pub act_in_was : (rs more : List Record) (bid : Bid) (t : Tid) → AllByRecursion (OfBatch bid) more → IsActIn ((rs ++ more) ∷ []) t → IsActIn (rs ∷ []) t
+act_in_was rs more bid t all h =
+    elim (has_cases rs more (keys.Act t) (act_in_one (rs ++ more) t h)) [
+      | inl m ↦ one_act_in rs t m
+      | inr m ↦ absurd (let r = contains_unmap key more (keys.Act t) m in all_contains (λ r. ¬ (key r ≡ keys.Act t)) more r.0 (no_acts bid t more all) r.1 r.2)
+    ]
+
+pub act_stays : (rs more : List Record) (bid : Bid) (t : Tid) (m : Bid) (c : ℕ) (actors : List ActorId) → AllByRecursion (OfBatch bid) more
+    → IsActOf (rs ∷ []) t m c actors → IsActOf ((rs ++ more) ∷ []) t m c actors
+act_stays rs more bid t m c actors all h =
+    let old : IsLastOf (λ r. key r ≡ keys.Act t) rs (ActCommit t m c actors) = subst (λ (z : List Record). IsLastOf (λ r. key r ≡ keys.Act t) z (ActCommit t m c actors)) (log_one rs t.0) h in
+    let new : IsLastOf (λ r. key r ≡ keys.Act t) (rs ++ more) (ActCommit t m c actors) = (
+      old.0,
+      old.1 ++ more,
+      ap (λ (z : List Record). z ++ more) old.2 ∙ append_assoc old.0 (ActCommit t m c actors ∷ old.1) more,
+      refl,
+      all_append (λ r. ¬ (key r ≡ keys.Act t)) old.1 more old.4 (no_acts bid t more all),
+    ) in
+    subst (λ (z : List Record). IsLastOf (λ r. key r ≡ keys.Act t) z (ActCommit t m c actors)) (sym (log_one (rs ++ more) t.0)) new
+
+prepared_stays : (rs more : List Record) (t : Tid) (a : ActorId) → HasPrepared (rs ∷ []) t a → HasPrepared ((rs ++ more) ∷ []) t a
+prepared_stays rs more t a h =
+    let old : Has rs (keys.Prepare t a) = subst (λ (z : List Record). Has z (keys.Prepare t a)) (log_one rs a.0) h in
+    subst (λ (z : List Record). Has z (keys.Prepare t a)) (sym (log_one (rs ++ more) a.0)) (has_left rs more (keys.Prepare t a) old)
+
+pub act_whole_stays : (rs more : List Record) (bid : Bid) (t : Tid) → AllByRecursion (OfBatch bid) more → IsActWhole (rs ∷ []) t → IsActWhole ((rs ++ more) ∷ []) t
+act_whole_stays rs more bid t all w = (
+  w.0,
+  w.1,
+  w.2,
+  act_stays rs more bid t w.0 w.1 w.2 all w.3,
+  all_weaker (HasPrepared (rs ∷ []) t) (HasPrepared ((rs ++ more) ∷ []) t) w.2 (λ a h. prepared_stays rs more t a h) w.4,
+)
+
+-- the batch behind which an ACT comes is one of those before
+pub act_below : (rs : List Record) (o : Opening) (t : Tid) (m : Bid) (c : ℕ) (actors : List ActorId) → IsRecovered (rs ∷ []) o → IsActOf (rs ∷ []) t m c actors → m.0 < o.next_bid.0
+act_below rs o t m c actors h p =
+    let old : IsLastOf (λ r. key r ≡ keys.Act t) rs (ActCommit t m c actors) = subst (λ (z : List Record). IsLastOf (λ r. key r ≡ keys.Act t) z (ActCommit t m c actors)) (log_one rs t.0) p in
+    let there : BidsBelow o.next_bid.0 (old.0 ++ ActCommit t m c actors ∷ old.1) = subst (BidsBelow o.next_bid.0) old.2 (bids_below rs o h) in
+    (all_middle (λ r. AllByRecursion (λ x. x < o.next_bid.0) (bids_in r)) old.0 (ActCommit t m c actors) old.1 there).0
+
 kept_stays : (rs more : List Record) (o : Opening) (k : Kept) → AllByRecursion (OfBatch o.next_bid) more → IsRecovered (rs ∷ []) o → IsKept (rs ∷ []) k → IsKept ((rs ++ more) ∷ []) k
 kept_stays rs more o (kept.Batch b t) all h (i, (a, info)) =
     (in_stays rs more b i, (a, info_stays rs more o.next_bid b a t all (let low : b.0 < o.next_bid.0 = in_below rs o b h i in omega arith) info))
+kept_stays rs more o (kept.Act t m c) all h (a, act) = (a, act_stays rs more o.next_bid t m c a all act)
 
 pub all_kept_stay : (rs more : List Record) (o : Opening) → AllByRecursion (OfBatch o.next_bid) more → IsRecovered (rs ∷ []) o → AllByRecursion (IsKept ((rs ++ more) ∷ [])) o.committed
 all_kept_stay rs more o all h = all_weaker (IsKept (rs ∷ [])) (IsKept ((rs ++ more) ∷ [])) o.committed (λ k p. kept_stays rs more o k all h p) h.committed.each
@@ -142,10 +232,12 @@ all_kept_stay rs more o all h = all_weaker (IsKept (rs ∷ [])) (IsKept ((rs ++ 
 -- ---- the one Genesis
 
 genesis_apart : (r : Record) (bid : Bid) → OfBatch bid r → is_genesis r ≡ false
-genesis_apart (Genesis l s) bid e = let bad : [] ≡ bid.0 ∷ [] = e in absurd (cc)
+genesis_apart (Genesis l s) bid e = absurd e
 genesis_apart (BatchInfo k a t) bid e = refl
 genesis_apart (BatchComplete k a s) bid e = refl
 genesis_apart (BatchCommit k) bid e = refl
+genesis_apart (ActPrepare t a s) bid e = refl
+genesis_apart (ActCommit t m c a) bid e = refl
 
 no_genesis : (bid : Bid) (more : List Record) → AllByRecursion (OfBatch bid) more → filter is_genesis more ≡ []
 no_genesis bid [] h = refl
@@ -167,6 +259,8 @@ counts_alike rs more bid a (BatchComplete k b s) all below = (
   λ c. (c.0, elim (in_cases rs more bid k all c.1) [ inl i ↦ i | inr e ↦ absurd (omega (arith, e, below.0)) ]),
 )
 counts_alike rs more bid a (BatchCommit k) all below = (λ c. c, λ c. c)
+counts_alike rs more bid a (ActPrepare t b s) all below = (λ c. (c.0, act_in_stays rs more t c.1), λ c. (c.0, act_in_was rs more bid t all c.1))
+counts_alike rs more bid a (ActCommit t m n b) all below = (λ c. c, λ c. c)
 
 pub states_stay : (rs more : List Record) (o : Opening) (first : List State) → AllByRecursion (OfBatch o.next_bid) more → IsRecovered (rs ∷ []) o → AreStates (rs ∷ []) first o.states
     → StatesOver ((rs ++ more) ∷ []) rs 0 first o.states
@@ -191,13 +285,25 @@ greatest_bid : (bid : Bid) (more : List Record) → AllByRecursion (OfBatch bid)
 greatest_bid bid [] h = omega arith
 greatest_bid bid (r ∷ more) h =
     let e : greatest (flat_map bids_in (r ∷ more)) ≡ max (greatest (bids_in r)) (greatest (flat_map bids_in more)) = greatest_append (bids_in r) (flat_map bids_in more) in
-    let one : greatest (bids_in r) ≡ max bid.0 0 = ap greatest h.0 in
+    let one : greatest (bids_in r) ≡ max bid.0 0 = ap greatest (of_number bid r h.0) in
     omega (arith, e, one, greatest_bid bid more h.1)
 
 pub next_bid_grows : (rs more : List Record) (r : Record) (o : Opening) → IsRecovered (rs ∷ []) o → AllByRecursion (OfBatch o.next_bid) (r ∷ more) → o.next_bid.0 + 1 ≡ next_of bids_in ((rs ++ r ∷ more) ∷ [])
 next_bid_grows rs more r o h all =
     let next : o.next_bid.0 ≡ greatest (flat_map bids_in rs) + 1 = h.next_bid ∙ ap (λ (z : List Record). greatest (flat_map bids_in z) + 1) (append-nil rs) in
     let e : greatest (flat_map bids_in (r ∷ more)) ≡ max (greatest (bids_in r)) (greatest (flat_map bids_in more)) = greatest_append (bids_in r) (flat_map bids_in more) in
-    let one : greatest (bids_in r) ≡ max o.next_bid.0 0 = ap greatest all.0 in
+    let one : greatest (bids_in r) ≡ max o.next_bid.0 0 = ap greatest (of_number o.next_bid r all.0) in
     let whole : greatest (flat_map bids_in (rs ++ r ∷ more)) ≡ o.next_bid.0 = omega (arith, greatest_of bids_in rs (r ∷ more), e, one, greatest_bid o.next_bid more all.1, next) in
     sym (ap (λ (z : List Record). greatest (flat_map bids_in z) + 1) (append-nil (rs ++ r ∷ more)) ∙ ap (λ (n : ℕ). n + 1) whole)
+
+no_commit_numbers : (bid : Bid) (more : List Record) → AllByRecursion (OfBatch bid) more → flat_map commits_in more ≡ []
+no_commit_numbers bid [] h = refl
+no_commit_numbers bid (r ∷ more) h = ap (λ (z : List ℕ). z ++ flat_map commits_in more) (of_no_commit_number bid r h.0) ∙ no_commit_numbers bid more h.1
+
+-- a batch draws no commit number
+pub next_c_stays : (rs more : List Record) (o : Opening) → IsRecovered (rs ∷ []) o → AllByRecursion (OfBatch o.next_bid) more → o.next_c ≡ next_of commits_in ((rs ++ more) ∷ [])
+next_c_stays rs more o h all =
+    let next : o.next_c ≡ greatest (flat_map commits_in rs) + 1 = h.next_c ∙ ap (λ (z : List Record). greatest (flat_map commits_in z) + 1) (append-nil rs) in
+    let none : greatest (flat_map commits_in more) ≡ 0 = ap greatest (no_commit_numbers o.next_bid more all) in
+    let whole : greatest (flat_map commits_in (rs ++ more)) + 1 ≡ o.next_c = omega (arith, greatest_of commits_in rs more, none, next) in
+    sym (ap (λ (z : List Record). greatest (flat_map commits_in z) + 1) (append-nil (rs ++ more)) ∙ whole)

@@ -10,11 +10,14 @@ use Rattle.std.specs.BTreeSet as bag
 use Rattle.std.specs.BTreeSet.{BTreeSet}
 use Rattle.std.specs.BTreeMap.{is_at}
 use Rattle.snap_base.specs.declared.ids.Bid.{Bid}
+use Rattle.snap_base.specs.declared.ids.Tid.{Tid}
 use Rattle.txn_records.specs.declared.records.Record.{Record}
 use Rattle.txn_records.specs.declared.keys.Key.{Key}
 use Rattle.txn_records.specs.Records.{key}
+use Rattle.snap_recover.specs.declared.kinds.Kind.{Kind}
+use Rattle.snap_recover.specs.declared.kinds.Kind.TheVariants as kinds
 use Rattle.snap_recover.specs.Logs.{Has, log_of}
-use Rattle.snap_recover.specs.Passes.{Adds, In, InPair, pair_cmp, commit_key, complete_key, bid_at, actor_at}
+use Rattle.snap_recover.specs.Passes.{Adds, In, InPair, pair_cmp, commit_key, part_key, bid_at, actor_at, tid_at}
 use Rattle.snap_recover.proofs.Lists.{contains_here, contains_none, contains_cases, contains_right}
 use Rattle.snap_recover.proofs.Growing.{has_left, has_right, has_cases}
 use Rattle.snap_recover.proofs.Steps.{taken}
@@ -147,14 +150,19 @@ inserts_pair k old new u y =
 
 -- ---- keys tell what they are of
 
-pub commits_apart : (n m : ℕ) → commit_key n ≡ commit_key m → n ≡ m
-commits_apart n m e = let same : bid_at n ≡ bid_at m = cc in ap (λ (b : Bid). b.0) same
+pub commits_apart : (kind : Kind) (n m : ℕ) → commit_key kind n ≡ commit_key kind m → n ≡ m
+commits_apart kinds.Batch n m e = let same : bid_at n ≡ bid_at m = cc in ap (λ (b : Bid). b.0) same
+commits_apart kinds.Act n m e = let same : tid_at n ≡ tid_at m = cc in ap (λ (t : Tid). t.0) same
 
-pub completes_apart : (x y : ℕ × ℕ) → complete_key x ≡ complete_key y → x ≡ y
-completes_apart x y e =
+pub parts_apart : (kind : Kind) (x y : ℕ × ℕ) → part_key kind x ≡ part_key kind y → x ≡ y
+parts_apart kinds.Batch x y e =
     let bids : bid_at x.0 ≡ bid_at y.0 = cc in
     let actors : actor_at x.1 ≡ actor_at y.1 = cc in
     λ i. ((bids i).0, (actors i).0)
+parts_apart kinds.Act x y e =
+    let tids : tid_at x.0 ≡ tid_at y.0 = cc in
+    let actors : actor_at x.1 ≡ actor_at y.1 = cc in
+    λ i. ((tids i).0, (actors i).0)
 
 pub empty_set : (set : BTreeSet ℕ) → set.keys ≡ [] → (n : ℕ) → ¬ In set n
 empty_set set e n h =

@@ -11,6 +11,7 @@ pub mod Steps
 pub mod Homes
 pub mod Placing
 pub mod Replaying
-pub mod Keeping
+pub mod Checking
 pub mod Whole
 pub mod Recovered
+pub mod Spots

@@ -20,7 +20,7 @@ use Rattle.snap_recover.specs.Batches.{Completion, tids_from, batch_records, wit
 use Rattle.snap_recover.proofs.Lists.{all_append, all_left, all_contains, zip_length, contains_append, contains_map, contains_unmap}
 use Rattle.snap_recover.proofs.Greatest.{greatest_of, greatest_tid, tids_within}
 use Rattle.snap_recover.proofs.StatesOver.{StatesOver, states_quiet, completes}
-use Rattle.snap_recover.proofs.Growing.{OfBatch, in_one, one_in, in_below, whole_stays, all_kept_stay, genesis_stays, states_stay, states_back, next_bid_grows}
+use Rattle.snap_recover.proofs.Growing.{OfBatch, in_one, one_in, in_below, whole_stays, act_in_was, act_whole_stays, all_kept_stay, genesis_stays, states_stay, states_back, next_bid_grows, next_c_stays}
 
 -- ---- what the records are
 
@@ -126,12 +126,14 @@ batch_without_its_commit rs o count cs h may =
         states_back (rs ++ more) h.begun.0 o.states (states_quiet logs rs more 0 h.begun.0 o.states (λ a. (λ e. e, completes_quiet logs o.next_bid cs a out)) states),
       );
       whole = λ b i. let was : IsIn (rs ∷ []) b = in_without rs o tids cs b i in whole_stays rs more o.next_bid b all (apart b was) (h.whole b was);
+      acts_whole = λ t i. act_whole_stays rs more o.next_bid t all (h.acts_whole t (act_in_was rs more o.next_bid t all i));
       committed = record {
         ascend = h.committed.ascend;
         each = all_kept_stay rs more o all h;
-        all = λ b i. h.committed.all b (in_without rs o tids cs b i);
+        all_batches = λ b i. h.committed.all_batches b (in_without rs o tids cs b i);
+        all_acts = λ t i. h.committed.all_acts t (act_in_was rs more o.next_bid t all i);
       };
       next_tid = new_tids rs o count actors (completes o.next_bid cs) may.some (no_tids o.next_bid cs) h;
       next_bid = next_bid_grows rs (completes o.next_bid cs) (BatchInfo o.next_bid actors tids) o h all;
-      next_c = h.next_c;
+      next_c = next_c_stays rs more o h all;
     }

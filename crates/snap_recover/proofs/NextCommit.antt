@@ -11,19 +11,20 @@ use Rattle.snap_base.specs.declared.ids.Tid.{Tid}
 use Rattle.snap_base.specs.declared.transactions.State.{State}
 use Rattle.txn_records.specs.declared.records.Record.{Record}
 use Rattle.txn_records.specs.declared.records.Record.TheVariants.{BatchInfo, BatchComplete, BatchCommit}
+use Rattle.txn_records.specs.declared.keys.Key.{Key}
 use Rattle.txn_records.specs.declared.keys.Key.TheVariants as keys
 use Rattle.txn_records.specs.Records.{key}
 use Rattle.snap_recover.specs.declared.openings.Opening.{Opening}
 use Rattle.snap_recover.specs.declared.openings.Kept.{Kept}
 use Rattle.snap_recover.specs.declared.openings.Kept.TheVariants as kept
 use Rattle.snap_recover.specs.Logs.{IsLastOf, tids_in}
-use Rattle.snap_recover.specs.Opening.{IsIn, IsInfoOf, HasCompleted, IsWhole, bid_of, IsKept, IsCommitted, IsInRange, IsRecovered}
+use Rattle.snap_recover.specs.Opening.{IsIn, IsInfoOf, HasCompleted, IsWhole, commit_of, IsKept, ComesBefore, IsCommitted, IsInRange, IsRecovered}
 use Rattle.snap_recover.specs.Batches.{Completion, tids_from, batch_records, with_completions, with_batch, MayRun}
 use Rattle.snap_recover.proofs.Lists.{all_append, all_weaker, all_map, contains_left, contains_right, contains_here, contains_there, contains_map}
-use Rattle.snap_recover.proofs.OneOpening.{same_bid, Below}
+use Rattle.snap_recover.proofs.OneOpening.{same_bid}
 use Rattle.snap_recover.proofs.Begun.{log_one}
 use Rattle.snap_recover.proofs.StatesOver.{StatesOver, states_quiet, states_completed, completes}
-use Rattle.snap_recover.proofs.Growing.{OfBatch, one_in, in_below, in_cases, whole_stays, all_kept_stay, states_stay, states_back, next_bid_grows}
+use Rattle.snap_recover.proofs.Growing.{OfBatch, one_in, in_below, in_cases, whole_stays, act_in_was, act_whole_stays, act_below, all_kept_stay, states_stay, states_back, next_bid_grows, next_c_stays}
 use Rattle.snap_recover.proofs.NextBatch.{completes_of, infos_not, no_tids, batch_in_range, new_genesis, new_tids}
 
 -- what stands behind the info
@@ -87,13 +88,15 @@ new_whole rs bid tids cs = (
 
 -- ---- what is committed
 
-kept_below : (rs : List Record) (o : Opening) (k : Kept) → IsRecovered (rs ∷ []) o → IsKept (rs ∷ []) k → (bid_of k).0 < o.next_bid.0
-kept_below rs o (kept.Batch b t) h p = in_below rs o b h p.0
+kept_before : (rs : List Record) (o : Opening) (k : Kept) (tids : List Tid) → IsRecovered (rs ∷ []) o → IsKept (rs ∷ []) k → ComesBefore k (kept.Batch o.next_bid tids)
+kept_before rs o (kept.Batch b t) tids h p = in_below rs o b h p.0
+kept_before rs o (kept.Act t m c) tids h p = act_below rs o t m c p.0 h p.1
 
-new_ascends : (rs : List Record) (o : Opening) (tids : List Tid) → IsRecovered (rs ∷ []) o → AllPairs Below (o.committed ++ kept.Batch o.next_bid tids ∷ [])
+new_ascends : (rs : List Record) (o : Opening) (tids : List Tid) → IsRecovered (rs ∷ []) o → AllPairs ComesBefore (o.committed ++ kept.Batch o.next_bid tids ∷ [])
 new_ascends rs o tids h =
-    let low : AllByRecursion (λ k. (bid_of k).0 < o.next_bid.0) o.committed = all_weaker (IsKept (rs ∷ [])) (λ k. (bid_of k).0 < o.next_bid.0) o.committed (λ k p. kept_below rs o k h p) h.committed.each in
-    all_pairs_push Below o.committed (kept.Batch o.next_bid tids) h.committed.ascend (All-from_recursion (λ k. (bid_of k).0 < o.next_bid.0) o.committed low)
+    let low : AllByRecursion (λ k. ComesBefore k (kept.Batch o.next_bid tids)) o.committed =
+    all_weaker (IsKept (rs ∷ [])) (λ k. ComesBefore k (kept.Batch o.next_bid tids)) o.committed (λ k p. kept_before rs o k tids h p) h.committed.each in
+    all_pairs_push ComesBefore o.committed (kept.Batch o.next_bid tids) h.committed.ascend (All-from_recursion (λ k. ComesBefore k (kept.Batch o.next_bid tids)) o.committed low)
 
 new_committed : (rs : List Record) (o : Opening) (tids : List Tid) (cs : List Completion) → IsRecovered (rs ∷ []) o
     → IsCommitted (log_with rs o.next_bid tids cs ∷ []) (o.committed ++ kept.Batch o.next_bid tids ∷ [])
@@ -101,17 +104,21 @@ new_committed rs o tids cs h =
     let all = whole_of o.next_bid tids cs in
     let last : List Kept = kept.Batch o.next_bid tids ∷ [] in
     let logs : List (List Record) = log_with rs o.next_bid tids cs ∷ [] in
+    let keyed : List Key = keys.Commit o.next_bid ∷ [] in
     record {
       ascend = new_ascends rs o tids h;
       each =
           all_append (IsKept logs) o.committed last (all_kept_stay rs (whole_batch o.next_bid tids cs) o all h)
           ((new_in rs o.next_bid tids cs, (map (λ (c : Completion). c.0) cs, new_info rs o.next_bid tids cs)), tt);
-      all = λ b i.
-          subst (λ (z : List Bid). Contains z b) (sym (map-append bid_of o.committed last))
+      all_batches = λ b i.
+          subst (λ (z : List Key). Contains z (keys.Commit b)) (sym (map-append commit_of o.committed last))
           (elim (in_cases rs (whole_batch o.next_bid tids cs) o.next_bid b all i) [
-            | inl was ↦ contains_left (map bid_of o.committed) (o.next_bid ∷ []) b (h.committed.all b was)
-            | inr e ↦ contains_right (map bid_of o.committed) (o.next_bid ∷ []) b (subst (λ (z : Bid). Contains (o.next_bid ∷ []) z) (same_bid o.next_bid b (sym e)) (contains_here o.next_bid []))
+            | inl was ↦ contains_left (map commit_of o.committed) keyed (keys.Commit b) (h.committed.all_batches b was)
+            | inr e ↦ contains_right (map commit_of o.committed) keyed (keys.Commit b) (subst (λ (z : Bid). Contains keyed (keys.Commit z)) (same_bid o.next_bid b (sym e)) (contains_here (keys.Commit o.next_bid) []))
           ]);
+      all_acts = λ t i.
+          subst (λ (z : List Key). Contains z (keys.Act t)) (sym (map-append commit_of o.committed last))
+          (contains_left (map commit_of o.committed) keyed (keys.Act t) (h.committed.all_acts t (act_in_was rs (whole_batch o.next_bid tids cs) o.next_bid t all i)));
     }
 
 -- ---- the law
@@ -151,10 +158,11 @@ with_whole_batch rs o count cs h may =
             | inl was ↦ whole_stays rs more o.next_bid b all (apart b was) (h.whole b was)
             | inr e ↦ subst (IsWhole (log_with rs o.next_bid tids cs ∷ [])) (same_bid o.next_bid b (sym e)) (new_whole rs o.next_bid tids cs)
           ];
+      acts_whole = λ t i. act_whole_stays rs more o.next_bid t all (h.acts_whole t (act_in_was rs more o.next_bid t all i));
       committed = new_committed rs o tids cs h;
       next_tid = new_tids rs o count actors (rest_of o.next_bid cs) may.some (rest_tids o.next_bid cs) h;
       next_bid = next_bid_grows rs (rest_of o.next_bid cs) (BatchInfo o.next_bid actors tids) o h all;
-      next_c = h.next_c;
+      next_c = next_c_stays rs more o h all;
     }
 
 pub batch_with_its_commit : (rs : List Record) (o : Opening) (count : ℕ) (cs : List Completion) → IsRecovered (rs ∷ []) o → MayRun o count cs

@@ -16,10 +16,10 @@ use Rattle.snap_recover.specs.declared.openings.Opening.{Opening}
 use Rattle.snap_recover.specs.declared.refusals.RecoverNo.{RecoverNo}
 use Rattle.snap_recover.specs.declared.refusals.RecoverNo.TheVariants.{NoGenesis, TwoGenesis, LogCount, Range, Missing, Memory}
 use Rattle.snap_recover.specs.Logs.{all_of, log_of, Has, geneses}
-use Rattle.snap_recover.specs.Opening.{IsInfoOf, HasCompleted, IsWhole, IsInRange, IsBegun, IsRecovered}
-use Rattle.snap_recover.specs.Refusals.{IsFirstOutOfRange, LacksInfo, LacksComplete, IsFirstLacking, IsRefused}
+use Rattle.snap_recover.specs.Opening.{IsInfoOf, HasCompleted, IsWhole, HasPrepared, IsActWhole, IsInRange, IsBegun, IsRecovered}
+use Rattle.snap_recover.specs.Refusals.{IsFirstOutOfRange, LacksInfo, LacksComplete, LacksPrepare, IsFirstBatchLacking, IsFirstActLacking, IsFirstLacking, IsRefused}
 use Rattle.snap_recover.proofs.Lists.{one_first, all_left, all_right, all_middle, contains_map, contains_middle}
-use Rattle.snap_recover.proofs.OneOpening.{one_info, same_bid, one_first_states}
+use Rattle.snap_recover.proofs.OneOpening.{one_info, one_act, same_bid, same_tid, one_first_states}
 
 -- ---- the record that is not in range
 
@@ -80,14 +80,45 @@ lacks_is_not_whole logs bid k l (inr (f, b, a, t, i, c, e, el, out)) w =
     let infos = one_info logs bid w.0 (f ++ a ∷ b) w.1 t w.2 i in
     out (all_middle (HasCompleted logs bid) f a b (subst (λ (z : List ActorId). AllByRecursion (HasCompleted logs bid) z) infos.0 w.3))
 
-one_first_lacking : (logs : List (List Record)) (k j : Key) (l m : ℕ) → IsFirstLacking logs k l → IsFirstLacking logs j m → (k ≡ j) × (l ≡ m)
-one_first_lacking logs k j l m (b, in1, low1, p) (d, in2, low2, q) =
+one_first_batch : (logs : List (List Record)) (k j : Key) (l m : ℕ) → IsFirstBatchLacking logs k l → IsFirstBatchLacking logs j m → (k ≡ j) × (l ≡ m)
+one_first_batch logs k j l m (b, in1, low1, p) (d, in2, low2, q) =
     let same : b.0 ≡ d.0 =
     elim (cases_lt b.0 d.0) [
       | inl h ↦ absurd (lacks_is_not_whole logs b k l p (low2 b h in1))
       | inr h ↦ elim (cases_lt d.0 b.0) [ inl g ↦ absurd (lacks_is_not_whole logs d j m q (low1 d g in2)) | inr g ↦ omega arith ]
     ] in
     one_lacking logs d k j l m (subst (λ (z : Bid). Lacks logs z k l) (same_bid b d same) p) q
+
+one_prepare : (logs : List (List Record)) (tid : Tid) (k j : Key) (l m : ℕ) → LacksPrepare logs tid k l → LacksPrepare logs tid j m → (k ≡ j) × (l ≡ m)
+one_prepare logs tid k j l m (f, b, a, n, c, i, w, e, el, out) (f', b', a', n', c', i', w', e', el', out') =
+    let acts = one_act logs tid n n' c c' (f ++ a ∷ b) (f' ++ a' ∷ b') i i' in
+    let same : a ≡ a' = (one_first (HasPrepared logs tid) f b f' b' a a' acts.2 w w' out out').1 in
+    (e ∙ ap (λ (z : ActorId). keys.Prepare tid z) same ∙ sym e', el ∙ ap (λ (z : ActorId). z.0 % length logs) same ∙ sym el')
+
+pub act_lacks_is_not_whole : (logs : List (List Record)) (tid : Tid) (k : Key) (l : ℕ) → LacksPrepare logs tid k l → ¬ IsActWhole logs tid
+act_lacks_is_not_whole logs tid k l (f, b, a, n, c, i, p, e, el, out) w =
+    let acts = one_act logs tid w.0 n w.1 c w.2 (f ++ a ∷ b) w.3 i in
+    out (all_middle (HasPrepared logs tid) f a b (subst (λ (z : List ActorId). AllByRecursion (HasPrepared logs tid) z) acts.2 w.4))
+
+one_first_act : (logs : List (List Record)) (k j : Key) (l m : ℕ) → IsFirstActLacking logs k l → IsFirstActLacking logs j m → (k ≡ j) × (l ≡ m)
+one_first_act logs k j l m (b, in1, low1, p) (d, in2, low2, q) =
+    let same : b.0 ≡ d.0 =
+    elim (cases_lt b.0 d.0) [
+      | inl h ↦ absurd (act_lacks_is_not_whole logs b k l p (low2 b h in1))
+      | inr h ↦ elim (cases_lt d.0 b.0) [ inl g ↦ absurd (act_lacks_is_not_whole logs d j m q (low1 d g in2)) | inr g ↦ omega arith ]
+    ] in
+    one_prepare logs d k j l m (subst (λ (z : Tid). LacksPrepare logs z k l) (same_tid b d same) p) q
+
+one_first_lacking : (logs : List (List Record)) (k j : Key) (l m : ℕ) → IsFirstLacking logs k l → IsFirstLacking logs j m → (k ≡ j) × (l ≡ m)
+one_first_lacking logs k j l m (inl p) (inl q) = one_first_batch logs k j l m p q
+one_first_lacking logs k j l m (inl p) (inr q) = absurd (lacks_is_not_whole logs p.0 k l p.3 (q.0 p.0 p.1))
+one_first_lacking logs k j l m (inr p) (inl q) = absurd (lacks_is_not_whole logs q.0 j m q.3 (p.0 q.0 q.1))
+one_first_lacking logs k j l m (inr p) (inr q) = one_first_act logs k j l m p.1 q.1
+
+-- what lacks a key is not recovered
+lacking_is_not_recovered : (logs : List (List Record)) (k : Key) (l : ℕ) (o : Opening) → IsFirstLacking logs k l → ¬ IsRecovered logs o
+lacking_is_not_recovered logs k l o (inl p) h = lacks_is_not_whole logs p.0 k l p.3 (h.whole p.0 p.1)
+lacking_is_not_recovered logs k l o (inr p) h = act_lacks_is_not_whole logs p.1.0 k l p.1.3 (h.acts_whole p.1.0 p.1.1)
 
 -- ---- answers
 
@@ -159,5 +190,5 @@ refused_is_not_recovered logs NoGenesis o a p h = none_is_one logs (length logs)
 refused_is_not_recovered logs TwoGenesis o a p h = two_is_one logs (length logs) h.begun.0 p h.begun.1.one
 refused_is_not_recovered logs (LogCount c f) o a p h = p.3 (one_genesis logs c (length logs) p.0 h.begun.0 p.1 h.begun.1.one ∙ sym p.2)
 refused_is_not_recovered logs (Range k l) o a p h = range_is_not_begun logs k l h.begun.0 p h.begun.1
-refused_is_not_recovered logs (Missing k l) o a p h = lacks_is_not_whole logs p.2.0 k l p.2.3 (h.whole p.2.0 p.2.1)
+refused_is_not_recovered logs (Missing k l) o a p h = lacking_is_not_recovered logs k l o p.2 h
 refused_is_not_recovered logs Memory o a p h = absurd (a refl)

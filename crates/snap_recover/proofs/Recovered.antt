@@ -4,10 +4,10 @@ use Rattle.std.proofs.lemmas.List.Elements.{recursion_from_All, All-from_recursi
 use Rattle.std.specs.List.{AllByRecursion, AllZip, enumerate_from}
 use Rattle.snap_base.specs.declared.transactions.State.{State}
 use Rattle.txn_records.specs.declared.records.Record.{Record}
-use Rattle.txn_records.specs.declared.records.Record.TheVariants.{BatchComplete}
+use Rattle.txn_records.specs.declared.records.Record.TheVariants.{Genesis, BatchInfo, BatchComplete, BatchCommit, ActPrepare, ActCommit}
 use Rattle.txn_records.specs.Records.{IsState, IsRecord, IsGenesis}
 use Rattle.snap_recover.specs.declared.openings.Opening.{Opening}
-use Rattle.snap_recover.specs.Logs.{all_of, is_genesis}
+use Rattle.snap_recover.specs.Logs.{all_of, is_genesis, states_in}
 use Rattle.snap_recover.specs.Opening.{IsStateOf, IsRecovered}
 use Rattle.snap_recover.proofs.Lists.{all_append, all_middle}
 
@@ -25,10 +25,20 @@ genesis_is logs o recovered are =
     (subst (λ (l : List Record). AllByRecursion IsRecord l) recovered.begun.1.one
     (recursion_from_All IsRecord (filter is_genesis (all_of logs)) (All-filter is_genesis IsRecord (all_of logs) (All-from_recursion IsRecord (all_of logs) (all_records logs are))))).0
 
+told_is : (r : Record) (s : State) → IsRecord r → states_in r ≡ s ∷ [] → IsState s
+told_is (Genesis l t) s is e = absurd (cc)
+told_is (BatchInfo b a t) s is e = absurd (cc)
+told_is (BatchComplete b a t) s is e = let same : t ≡ s = cc in subst IsState same is.is_state
+told_is (BatchCommit b) s is e = absurd (cc)
+told_is (ActPrepare u a t) s is e = let same : t ≡ s = cc in subst IsState same is.is_state
+told_is (ActCommit u m c a) s is e = absurd (cc)
+
 state_is : (logs : List (List Record)) (a : ℕ) (first s : State) → AllByRecursion (AllByRecursion IsRecord) logs → IsState first → IsStateOf logs a first s → IsState s
-state_is logs a first s are is (inl last) =
-    (all_middle IsRecord last.2.0 (BatchComplete last.0 last.1 s) last.2.1
-    (subst (λ (l : List Record). AllByRecursion IsRecord l) last.2.2 (each_or (AllByRecursion IsRecord) logs (a % length logs) [] are tt))).is_state
+state_is logs a first s are is (inl (r, told, last)) =
+    told_is r s
+    (all_middle IsRecord last.0 r last.1
+    (subst (λ (l : List Record). AllByRecursion IsRecord l) last.2 (each_or (AllByRecursion IsRecord) logs (a % length logs) [] are tt)))
+    told
 state_is logs a first s are is (inr same) = subst IsState (sym same.1) is
 
 states_are : (logs : List (List Record)) (n : ℕ) (first states : List State) → AllByRecursion (AllByRecursion IsRecord) logs → AllByRecursion IsState first

@@ -9,8 +9,9 @@ use Rattle.snap_base.specs.declared.ids.ActorId.{ActorId}
 use Rattle.snap_base.specs.declared.ids.Bid.{Bid}
 use Rattle.snap_base.specs.declared.transactions.State.{State}
 use Rattle.txn_records.specs.declared.records.Record.{Record}
-use Rattle.txn_records.specs.declared.records.Record.TheVariants.{Genesis, BatchInfo, BatchComplete, BatchCommit}
-use Rattle.snap_recover.specs.Logs.{all_of}
+use Rattle.txn_records.specs.declared.records.Record.TheVariants.{Genesis, BatchInfo, BatchComplete, BatchCommit, ActPrepare, ActCommit}
+use Rattle.snap_recover.specs.declared.kinds.Kind.TheVariants as kinds
+use Rattle.snap_recover.specs.Logs.{all_of, states_in}
 use Rattle.snap_recover.specs.Opening.{IsInRange, Counts, IsStateOf, AreStates}
 use Rattle.snap_recover.specs.Passes.{In, HasCommitted, Tells, StateOver, Replays}
 use Rattle.snap_recover.proofs.Lists.{all_left, all_right, all_of_each, all_middle}
@@ -20,46 +21,60 @@ use Rattle.snap_recover.proofs.StatesOver.{Agree, over_alike, over_quiet, over_c
 
 -- ---- one pass
 
-pub replays_none : (log logs : ℕ) (Is : ℕ → Type 0) (states : List State) → Replays log logs Is [] states states
-replays_none log logs Is states = record { long = refl; here = λ a d l e. inr (tt, refl); elsewhere = λ a d l e. refl }
+pub replays_none : (log logs : ℕ) (Bs As : ℕ → Type 0) (states : List State) → Replays log logs Bs As [] states states
+replays_none log logs Bs As states = record { long = refl; here = λ a d l e. inr (tt, refl); elsewhere = λ a d l e. refl }
 
-pub replays_quiet : (log logs : ℕ) (Is : ℕ → Type 0) (rs : List Record) (i : ℕ) (r : Record) (old new : List State) → i < length rs → r ≡ get_or rs i r
-    → ((a : ℕ) → a % logs ≡ log → ¬ Tells Is a r) → Replays log logs Is (take i rs) old new → Replays log logs Is (take (i + 1) rs) old new
-replays_quiet log logs Is rs i r old new l at quiet h =
-    subst (λ (z : List Record). Replays log logs Is z old new) (sym (taken rs i r l at))
-    (record { long = h.long; here = λ a d b e. over_quiet (Tells Is a) (take i rs) (r ∷ []) (get_or old a d) (get_or new a d) (quiet a e, tt) (h.here a d b e); elsewhere = h.elsewhere })
+pub replays_quiet : (log logs : ℕ) (Bs As : ℕ → Type 0) (rs : List Record) (i : ℕ) (r : Record) (old new : List State) → i < length rs → r ≡ get_or rs i r
+    → ((a : ℕ) → a % logs ≡ log → ¬ Tells Bs As a r) → Replays log logs Bs As (take i rs) old new → Replays log logs Bs As (take (i + 1) rs) old new
+replays_quiet log logs Bs As rs i r old new l at quiet h =
+    subst (λ (z : List Record). Replays log logs Bs As z old new) (sym (taken rs i r l at))
+    (record { long = h.long; here = λ a d b e. over_quiet (Tells Bs As a) (take i rs) (r ∷ []) (get_or old a d) (get_or new a d) (quiet a e, tt) (h.here a d b e); elsewhere = h.elsewhere })
 
-one_told : (log logs : ℕ) (Is : ℕ → Type 0) (rs : List Record) (bid : Bid) (actor : ActorId) (k : ℕ) (s : State) (old mid : List State) → actor.0 ≡ k → k % logs ≡ log → Is bid.0 → k < length old
-    → Replays log logs Is rs old mid → Replays log logs Is (rs ++ BatchComplete bid actor s ∷ []) old (set mid k s)
-one_told log logs Is rs bid actor k s old mid is home in' low h = record {
+-- a record tells of one actor
+tells_one : (Bs As : ℕ → Type 0) (a b : ℕ) (r : Record) → Tells Bs As a r → Tells Bs As b r → a ≡ b
+tells_one Bs As a b (Genesis c s) t u = absurd t
+tells_one Bs As a b (BatchInfo k x n) t u = absurd t
+tells_one Bs As a b (BatchComplete k x s) t u = sym t.0 ∙ u.0
+tells_one Bs As a b (BatchCommit k) t u = absurd t
+tells_one Bs As a b (ActPrepare n x s) t u = sym t.0 ∙ u.0
+tells_one Bs As a b (ActCommit n m c x) t u = absurd t
+
+one_told : (log logs : ℕ) (Bs As : ℕ → Type 0) (rs : List Record) (r : Record) (k : ℕ) (s : State) (old mid : List State) → states_in r ≡ s ∷ [] → Tells Bs As k r → k % logs ≡ log → k < length old
+    → Replays log logs Bs As rs old mid → Replays log logs Bs As (rs ++ r ∷ []) old (set mid k s)
+one_told log logs Bs As rs r k s old mid told tells home low h = record {
   long = length-set mid k s ∙ h.long;
   here = λ a d b e.
       elim (cases_eq a k) [
         | inl same ↦
             let now : get_or (set mid k s) a d ≡ s = ap (λ (z : ℕ). get_or (set mid k s) z d) same ∙ get_or-set_same mid k s d (omega (arith, h.long)) in
-            subst (λ (z : State). StateOver (Tells Is a) (rs ++ BatchComplete bid actor s ∷ []) (get_or old a d) z) (sym now)
-            (over_counts (Tells Is a) rs bid actor (get_or old a d) s (is ∙ sym same, in'))
+            subst (λ (z : State). StateOver (Tells Bs As a) (rs ++ r ∷ []) (get_or old a d) z) (sym now)
+            (over_counts (Tells Bs As a) rs r (get_or old a d) s told (subst (λ (z : ℕ). Tells Bs As z r) (sym same) tells))
         | inr apart ↦
-            subst (λ (z : State). StateOver (Tells Is a) (rs ++ BatchComplete bid actor s ∷ []) (get_or old a d) z) (sym (get_or-set_other mid k a s d apart))
-            (over_quiet (Tells Is a) rs (BatchComplete bid actor s ∷ []) (get_or old a d) (get_or mid a d) (λ t. apart (sym t.0 ∙ is), tt) (h.here a d b e))
+            subst (λ (z : State). StateOver (Tells Bs As a) (rs ++ r ∷ []) (get_or old a d) z) (sym (get_or-set_other mid k a s d apart))
+            (over_quiet (Tells Bs As a) rs (r ∷ []) (get_or old a d) (get_or mid a d) (λ t. apart (tells_one Bs As a k r t tells), tt) (h.here a d b e))
       ];
   elsewhere = λ a d b away. get_or-set_other mid k a s d (λ e. away (ap (λ (z : ℕ). z % logs) e ∙ home)) ∙ h.elsewhere a d b away;
 }
 
-pub replays_step : (log logs : ℕ) (Is : ℕ → Type 0) (rs : List Record) (i : ℕ) (r : Record) (bid : Bid) (actor : ActorId) (k : ℕ) (s : State) (old mid : List State) → i < length rs → r ≡ get_or rs i r
-    → r ≡ BatchComplete bid actor s → actor.0 ≡ k → k % logs ≡ log → Is bid.0 → k < length old → Replays log logs Is (take i rs) old mid → Replays log logs Is (take (i + 1) rs) old (set mid k s)
-replays_step log logs Is rs i r bid actor k s old mid l at told is home in' low h =
-    subst (λ (z : List Record). Replays log logs Is z old (set mid k s)) (sym (taken rs i r l at ∙ ap (λ (z : Record). take i rs ++ z ∷ []) told))
-    (one_told log logs Is (take i rs) bid actor k s old mid is home in' low h)
+pub replays_step : (log logs : ℕ) (Bs As : ℕ → Type 0) (rs : List Record) (i : ℕ) (r : Record) (k : ℕ) (s : State) (old mid : List State) → i < length rs → r ≡ get_or rs i r
+    → states_in r ≡ s ∷ [] → Tells Bs As k r → k % logs ≡ log → k < length old → Replays log logs Bs As (take i rs) old mid → Replays log logs Bs As (take (i + 1) rs) old (set mid k s)
+replays_step log logs Bs As rs i r k s old mid l at told tells home low h =
+    subst (λ (z : List Record). Replays log logs Bs As z old (set mid k s)) (sym (taken rs i r l at))
+    (one_told log logs Bs As (take i rs) r k s old mid told tells home low h)
 
 -- the record's actor is one
-pub told_below : (n : ℕ) (rs : List Record) (i : ℕ) (r : Record) (bid : Bid) (actor : ActorId) (k : ℕ) (s : State) → i < length rs → r ≡ get_or rs i r → r ≡ BatchComplete bid actor s → actor.0 ≡ k
+tells_below : (n : ℕ) (Bs As : ℕ → Type 0) (k : ℕ) (r : Record) → Tells Bs As k r → IsInRange n r → k < n
+tells_below n Bs As k (Genesis c s) t h = absurd t
+tells_below n Bs As k (BatchInfo b x u) t h = absurd t
+tells_below n Bs As k (BatchComplete b x s) t h = let low : x.0 < n = h.actors_below.0 in omega (arith, low, t.0)
+tells_below n Bs As k (BatchCommit b) t h = absurd t
+tells_below n Bs As k (ActPrepare u x s) t h = let low : x.0 < n = h.actors_below.0 in omega (arith, low, t.0)
+tells_below n Bs As k (ActCommit u m c x) t h = absurd t
+
+pub told_below : (n : ℕ) (Bs As : ℕ → Type 0) (rs : List Record) (i : ℕ) (r : Record) (k : ℕ) → i < length rs → r ≡ get_or rs i r → Tells Bs As k r
     → AllByRecursion (IsInRange n) rs → k < n
-told_below n rs i r bid actor k s l at told is range =
-    let one : IsInRange n r = all_middle (IsInRange n) (take i rs) r (drop (i + 1) rs) (subst (AllByRecursion (IsInRange n)) (split_at rs i r l at) range) in
-    let this : IsInRange n (BatchComplete bid actor s) = subst (IsInRange n) told one in
-    let low : actor.0 < n = this.actors_below.0 in
-    omega arith
+told_below n Bs As rs i r k l at tells range =
+    tells_below n Bs As k r tells (all_middle (IsInRange n) (take i rs) r (drop (i + 1) rs) (subst (AllByRecursion (IsInRange n)) (split_at rs i r l at) range))
 
 -- ---- over the logs
 
@@ -71,24 +86,27 @@ pub record StatesThrough (logs : List (List Record)) (i : ℕ) (first states : L
 pub states_begin : (logs : List (List Record)) (first : List State) → StatesThrough logs 0 first first
 states_begin logs first = record { long = refl; done = λ a d l h. absurd (omega arith); left = λ a d l h. refl }
 
-tells_counts : (logs : List (List Record)) (set : BTreeSet ℕ) (a : ℕ) (r : Record) → HasCommitted logs set → Agree (Tells (In set) a) (Counts logs a) r
-tells_counts logs set a (Genesis c s) h = (λ t. t, λ t. t)
-tells_counts logs set a (BatchInfo b x t) h = (λ t. t, λ t. t)
-tells_counts logs set a (BatchComplete b x s) h = (λ t. (t.0, (h b.0).0 t.1), λ t. (t.0, (h b.0).1 t.1))
-tells_counts logs set a (BatchCommit b) h = (λ t. t, λ t. t)
+tells_counts : (logs : List (List Record)) (batches acts : BTreeSet ℕ) (a : ℕ) (r : Record) → HasCommitted kinds.Batch logs batches → HasCommitted kinds.Act logs acts
+    → Agree (Tells (In batches) (In acts) a) (Counts logs a) r
+tells_counts logs batches acts a (Genesis c s) h g = (λ t. t, λ t. t)
+tells_counts logs batches acts a (BatchInfo b x t) h g = (λ t. t, λ t. t)
+tells_counts logs batches acts a (BatchComplete b x s) h g = (λ t. (t.0, (h b.0).0 t.1), λ t. (t.0, (h b.0).1 t.1))
+tells_counts logs batches acts a (BatchCommit b) h g = (λ t. t, λ t. t)
+tells_counts logs batches acts a (ActPrepare u x s) h g = (λ t. (t.0, (g u.0).0 t.1), λ t. (t.0, (g u.0).1 t.1))
+tells_counts logs batches acts a (ActCommit u m c x) h g = (λ t. t, λ t. t)
 
-pub states_through : (logs : List (List Record)) (i : ℕ) (rs : List Record) (set : BTreeSet ℕ) (first old new : List State) → i < length logs → rs ≡ get_or logs i rs → HasCommitted logs set
-    → Replays i (length logs) (In set) rs old new → StatesThrough logs i first old → StatesThrough logs (i + 1) first new
-states_through logs i rs set first old new l at has p h = record {
+pub states_through : (logs : List (List Record)) (i : ℕ) (rs : List Record) (batches acts : BTreeSet ℕ) (first old new : List State) → i < length logs → rs ≡ get_or logs i rs → HasCommitted kinds.Batch logs batches → HasCommitted kinds.Act logs acts
+    → Replays i (length logs) (In batches) (In acts) rs old new → StatesThrough logs i first old → StatesThrough logs (i + 1) first new
+states_through logs i rs batches acts first old new l at has_b has_a p h = record {
   long = p.long ∙ h.long;
   done = λ a d b low.
       elim (below_cases (a % length logs) i low) [
         | inl less ↦ subst (λ (z : State). IsStateOf logs a (get_or first a d) z) (sym (p.elsewhere a d (omega (arith, h.long)) (omega arith))) (h.done a d b less)
         | inr e ↦
-            let told : StateOver (Tells (In set) a) rs (get_or first a d) (get_or new a d) =
-            subst (λ (z : State). StateOver (Tells (In set) a) rs z (get_or new a d)) (h.left a d b (omega arith)) (p.here a d (omega (arith, h.long)) e) in
+            let told : StateOver (Tells (In batches) (In acts) a) rs (get_or first a d) (get_or new a d) =
+            subst (λ (z : State). StateOver (Tells (In batches) (In acts) a) rs z (get_or new a d)) (h.left a d b (omega arith)) (p.here a d (omega (arith, h.long)) e) in
             let counted : StateOver (Counts logs a) rs (get_or first a d) (get_or new a d) =
-            over_alike (Tells (In set) a) (Counts logs a) rs (get_or first a d) (get_or new a d) (all_of_each (Agree (Tells (In set) a) (Counts logs a)) rs (λ r. tells_counts logs set a r has)) told in
+            over_alike (Tells (In batches) (In acts) a) (Counts logs a) rs (get_or first a d) (get_or new a d) (all_of_each (Agree (Tells (In batches) (In acts) a) (Counts logs a)) rs (λ r. tells_counts logs batches acts a r has_b has_a)) told in
             subst (λ (z : List Record). StateOver (Counts logs a) z (get_or first a d) (get_or new a d)) (sym (at_log logs a i rs l at e)) counted
       ];
   left = λ a d b high. p.elsewhere a d (omega (arith, h.long)) (omega arith) ∙ h.left a d b (omega arith);

@@ -7,6 +7,7 @@ use Rattle.snap_base.specs.declared.ids.Bid.{Bid}
 use Rattle.snap_base.specs.declared.transactions.State.{State}
 use Rattle.txn_records.specs.declared.records.Record.{Record}
 use Rattle.txn_records.specs.declared.records.Record.TheVariants.{BatchComplete}
+use Rattle.snap_recover.specs.Logs.{states_in}
 use Rattle.snap_recover.specs.Opening.{IsIn, Counts}
 use Rattle.snap_recover.specs.Passes.{StateOver}
 use Rattle.snap_recover.specs.Batches.{Completion, with_completions}
@@ -16,19 +17,19 @@ abbrev pub Agree : (Record → Type 0) → (Record → Type 0) → Record → Ty
 Agree P Q r = (P r → Q r) × (Q r → P r)
 
 pub over_alike : (P Q : Record → Type 0) (rs : List Record) (first s : State) → AllByRecursion (Agree P Q) rs → StateOver P rs first s → StateOver Q rs first s
-over_alike P Q rs first s h (inl (bid, actor, (front, behind, e, p, quiet))) =
-    let there : AllByRecursion (Agree P Q) (front ++ BatchComplete bid actor s ∷ behind) = subst (AllByRecursion (Agree P Q)) e h in
-    let rest = all_right (Agree P Q) front (BatchComplete bid actor s ∷ behind) there in
-    inl (bid, actor, (front, behind, e, rest.0.0 p, all_both (Agree P Q) (λ r. ¬ P r) (λ r. ¬ Q r) behind (λ r a n q. n (a.1 q)) rest.1 quiet))
+over_alike P Q rs first s h (inl (r, told, (front, behind, e, p, quiet))) =
+    let there : AllByRecursion (Agree P Q) (front ++ r ∷ behind) = subst (AllByRecursion (Agree P Q)) e h in
+    let rest = all_right (Agree P Q) front (r ∷ behind) there in
+    inl (r, told, (front, behind, e, rest.0.0 p, all_both (Agree P Q) (λ r. ¬ P r) (λ r. ¬ Q r) behind (λ r a n q. n (a.1 q)) rest.1 quiet))
 over_alike P Q rs first s h (inr (quiet, e)) = inr (all_both (Agree P Q) (λ r. ¬ P r) (λ r. ¬ Q r) rs (λ r a n q. n (a.1 q)) h quiet, e)
 
 pub over_quiet : (P : Record → Type 0) (rs more : List Record) (first s : State) → AllByRecursion (λ r. ¬ P r) more → StateOver P rs first s → StateOver P (rs ++ more) first s
-over_quiet P rs more first s h (inl (bid, actor, (front, behind, e, p, quiet))) =
-    inl (bid, actor, (front, behind ++ more, ap (λ (z : List Record). z ++ more) e ∙ append_assoc front (BatchComplete bid actor s ∷ behind) more, p, all_append (λ r. ¬ P r) behind more quiet h))
+over_quiet P rs more first s h (inl (r, told, (front, behind, e, p, quiet))) =
+    inl (r, told, (front, behind ++ more, ap (λ (z : List Record). z ++ more) e ∙ append_assoc front (r ∷ behind) more, p, all_append (λ r. ¬ P r) behind more quiet h))
 over_quiet P rs more first s h (inr (quiet, e)) = inr (all_append (λ r. ¬ P r) rs more quiet h, e)
 
-pub over_counts : (P : Record → Type 0) (rs : List Record) (bid : Bid) (actor : ActorId) (first s : State) → P (BatchComplete bid actor s) → StateOver P (rs ++ BatchComplete bid actor s ∷ []) first s
-over_counts P rs bid actor first s p = inl (bid, actor, (rs, [], refl, p, tt))
+pub over_counts : (P : Record → Type 0) (rs : List Record) (r : Record) (first s : State) → states_in r ≡ s ∷ [] → P r → StateOver P (rs ++ r ∷ []) first s
+over_counts P rs r first s told p = inl (r, told, (rs, [], refl, p, tt))
 
 -- ---- of all actors, from actor n on
 
@@ -61,7 +62,7 @@ states_set logs rs bid actor s n k [] [] e i z = tt
 states_set logs rs bid actor s n k [] (t ∷ states) e i z = elim z [ ]
 states_set logs rs bid actor s n k (f ∷ first) [] e i z = elim z [ ]
 states_set logs rs bid actor s n zero (f ∷ first) (t ∷ states) e i z = (
-  over_counts (Counts logs n) rs bid actor f s (omega arith, i),
+  over_counts (Counts logs n) rs (BatchComplete bid actor s) f s refl (omega arith, i),
   states_above logs rs bid actor s (n + 1) first states (omega arith) z.1,
 )
 states_set logs rs bid actor s n (suc k) (f ∷ first) (t ∷ states) e i z = (

@@ -1,4 +1,5 @@
--- What logs recover to: which batches are in, the state of each actor, and the next numbers.
+-- What logs recover to: which batches and undeclared transactions are in, the state of each actor, and the next
+-- numbers. An undeclared transaction is called an ACT.
 use Rattle.std.specs.Prelude.{◌≡◌, ℕ, ◌+◌, ◌<◌, ◌≤◌, ◌⊎◌, max, List, [], ◌∷◌, ◌++◌, length, map, Contains}
 use Rattle.std.specs.List.{AllByRecursion, AllZip, AllPairs, flat_map, enumerate_from}
 use Rattle.snap_base.specs.declared.ids.ActorId.{ActorId}
@@ -6,14 +7,15 @@ use Rattle.snap_base.specs.declared.ids.Bid.{Bid}
 use Rattle.snap_base.specs.declared.ids.Tid.{Tid}
 use Rattle.snap_base.specs.declared.transactions.State.{State}
 use Rattle.txn_records.specs.declared.records.Record.{Record}
-use Rattle.txn_records.specs.declared.records.Record.TheVariants.{Genesis, BatchInfo, BatchComplete, BatchCommit}
+use Rattle.txn_records.specs.declared.records.Record.TheVariants.{Genesis, BatchInfo, BatchComplete, BatchCommit, ActPrepare, ActCommit}
+use Rattle.txn_records.specs.declared.keys.Key.{Key}
 use Rattle.txn_records.specs.declared.keys.Key.TheVariants as keys
 use Rattle.txn_records.specs.Records.{key}
 use Rattle.snap_recover.specs.declared.openings.Opening.{Opening}
 use Rattle.snap_recover.specs.declared.ranges.TheConstants.{GREATEST_NUMBER}
 use Rattle.snap_recover.specs.declared.openings.Kept.{Kept}
 use Rattle.snap_recover.specs.declared.openings.Kept.TheVariants as kept
-use Rattle.snap_recover.specs.Logs.{all_of, log_of, Has, IsLastOf, actors_in, tids_in, bids_in, geneses}
+use Rattle.snap_recover.specs.Logs.{all_of, log_of, Has, IsLastOf, actors_in, tids_in, bids_in, commits_in, states_in, geneses}
 
 -- ---- batches
 
@@ -33,19 +35,39 @@ HasCompleted logs bid actor = Has (log_of logs actor.0) (keys.Complete bid actor
 abbrev pub IsWhole : List (List Record) → Bid → Type 0
 IsWhole logs bid = (actors : List ActorId) × (tids : List Tid) × IsInfoOf logs bid actors tids × AllByRecursion (HasCompleted logs bid) actors
 
+-- ---- ACTs
+
+-- An ACT is in where its log has its commit.
+abbrev pub IsActIn : List (List Record) → Tid → Type 0
+IsActIn logs tid = Has (log_of logs tid.0) (keys.Act tid)
+
+-- what its commit says of an ACT: the batch behind which it comes, its number, and its actors; of two the last counts
+abbrev pub IsActOf : List (List Record) → Tid → Bid → ℕ → List ActorId → Type 0
+IsActOf logs tid m c actors = IsLastOf (λ r. key r ≡ keys.Act tid) (log_of logs tid.0) (ActCommit tid m c actors)
+
+-- the actor's log has the state that the ACT gave it
+abbrev pub HasPrepared : List (List Record) → Tid → ActorId → Type 0
+HasPrepared logs tid actor = Has (log_of logs actor.0) (keys.Prepare tid actor)
+
+-- nothing is lacking of an ACT
+abbrev pub IsActWhole : List (List Record) → Tid → Type 0
+IsActWhole logs tid = (m : Bid) × (c : ℕ) × (actors : List ActorId) × IsActOf logs tid m c actors × AllByRecursion (HasPrepared logs tid) actors
+
 -- ---- states
 
--- a record that tells a state of the actor, of a batch that is in
+-- a record that tells a state of the actor, of a batch or an ACT that is in
 abbrev pub Counts : List (List Record) → ℕ → Record → Type 0
 Counts logs a (Genesis count states) = ⊥
 Counts logs a (BatchInfo bid actors tids) = ⊥
 Counts logs a (BatchComplete bid actor state) = (actor.0 ≡ a) × IsIn logs bid
 Counts logs a (BatchCommit bid) = ⊥
+Counts logs a (ActPrepare tid actor state) = (actor.0 ≡ a) × IsActIn logs tid
+Counts logs a (ActCommit tid m c actors) = ⊥
 
 -- The state of actor a is that of the last record of its log that counts, and where none does it is the first one.
 abbrev pub IsStateOf : List (List Record) → ℕ → State → State → Type 0
 IsStateOf logs a first s =
-    ((bid : Bid) × (actor : ActorId) × IsLastOf (Counts logs a) (log_of logs a) (BatchComplete bid actor s))
+    ((r : Record) × (states_in r ≡ s ∷ []) × IsLastOf (Counts logs a) (log_of logs a) r)
     ⊎ (AllByRecursion (λ r. ¬ Counts logs a r) (log_of logs a) × (s ≡ first))
 
 -- the states of the actors, which began with these
@@ -54,17 +76,29 @@ AreStates logs first states = AllZip (λ (x : ℕ × State) s. IsStateOf logs x.
 
 -- ---- what is committed
 
-abbrev pub bid_of : Kept → Bid
-bid_of (kept.Batch bid tids) = bid
+-- the key of the record by which it is in
+abbrev pub commit_of : Kept → Key
+commit_of (kept.Batch bid tids) = keys.Commit bid
+commit_of (kept.Act tid m c) = keys.Act tid
 
 abbrev pub IsKept : List (List Record) → Kept → Type 0
 IsKept logs (kept.Batch bid tids) = IsIn logs bid × ((actors : List ActorId) × IsInfoOf logs bid actors tids)
+IsKept logs (kept.Act tid m c) = (actors : List ActorId) × IsActOf logs tid m c actors
 
--- the batches that are in, in the order of their numbers
+-- The order of the places: batches by their numbers, and ACTs behind the batch of their m and before all later
+-- ones, by their commit numbers and then by their tids.
+abbrev pub ComesBefore : Kept → Kept → Type 0
+ComesBefore (kept.Batch bid tids) (kept.Batch bid' tids') = bid.0 < bid'.0
+ComesBefore (kept.Batch bid tids) (kept.Act tid m c) = bid.0 ≤ m.0
+ComesBefore (kept.Act tid m c) (kept.Batch bid tids) = m.0 < bid.0
+ComesBefore (kept.Act tid m c) (kept.Act tid' m' c') = (m.0 < m'.0) ⊎ ((m.0 ≡ m'.0) × ((c < c') ⊎ ((c ≡ c') × (tid.0 < tid'.0))))
+
+-- the batches and the ACTs that are in, in the order of their places
 pub record IsCommitted (logs : List (List Record)) (committed : List Kept) : Type 0 where
-  pub ascend : AllPairs (λ a b. (bid_of a).0 < (bid_of b).0) committed
+  pub ascend : AllPairs ComesBefore committed
   pub each : AllByRecursion (IsKept logs) committed
-  pub all : (bid : Bid) → IsIn logs bid → Contains (map bid_of committed) bid
+  pub all_batches : (bid : Bid) → IsIn logs bid → Contains (map commit_of committed) (keys.Commit bid)
+  pub all_acts : (tid : Tid) → IsActIn logs tid → Contains (map commit_of committed) (keys.Act tid)
 
 -- ---- next numbers
 
@@ -81,7 +115,7 @@ next_of numbers logs = greatest (flat_map numbers (all_of logs)) + 1
 -- the actors are among so many, and no number is too large
 pub record IsInRange (actors : ℕ) (r : Record) : Type 0 where
   pub actors_below : AllByRecursion (λ a. a < actors) (actors_in r)
-  pub numbers_below : AllByRecursion (λ n. n ≤ GREATEST_NUMBER) (bids_in r ++ tids_in r)
+  pub numbers_below : AllByRecursion (λ n. n ≤ GREATEST_NUMBER) (bids_in r ++ (commits_in r ++ tids_in r))
 
 -- The logs have one Genesis, which tells their number and the first states, and their records are in range.
 pub record IsBegun (logs : List (List Record)) (first : List State) : Type 0 where
@@ -91,8 +125,8 @@ pub record IsBegun (logs : List (List Record)) (first : List State) : Type 0 whe
 pub record IsRecovered (logs : List (List Record)) (o : Opening) : Type 0 where
   pub begun : (first : List State) × IsBegun logs first × AreStates logs first o.states
   pub whole : (bid : Bid) → IsIn logs bid → IsWhole logs bid
+  pub acts_whole : (tid : Tid) → IsActIn logs tid → IsActWhole logs tid
   pub committed : IsCommitted logs o.committed
   pub next_tid : o.next_tid.0 ≡ next_of tids_in logs
   pub next_bid : o.next_bid.0 ≡ next_of bids_in logs
-  -- nothing draws a commit number yet
-  pub next_c : o.next_c ≡ 1
+  pub next_c : o.next_c ≡ next_of commits_in logs

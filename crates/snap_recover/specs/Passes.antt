@@ -1,6 +1,6 @@
 -- Only private contracts cite this; the rule is specs/Opening.antt.
 -- What a pass over one log gives. The log is number `log` of `logs`.
-use Rattle.std.specs.Prelude.{◌≡◌, ◌≢◌, ℕ, ◌%◌, ◌<◌, ◌⊎◌, Option, Some, None, List, ◌∷◌, ◌++◌, length, slice_index_or, IsTrue, ◌↔◌}
+use Rattle.std.specs.Prelude.{◌≡◌, ◌≢◌, ℕ, ◌%◌, ◌<◌, ◌⊎◌, Option, Some, None, List, [], ◌∷◌, ◌++◌, length, slice_index_or, Contains, IsTrue, ◌↔◌}
 use Rattle.std.specs.List.{AllByRecursion}
 use Rattle.std.specs.declared.cmp.Ordering.{Ordering}
 use Rattle.std.specs.Ordering.{nat_cmp, ordering_then}
@@ -10,24 +10,31 @@ use Rattle.std.specs.BTreeMap as tree
 use Rattle.std.specs.BTreeMap.{BTreeMap}
 use Rattle.snap_base.specs.declared.ids.ActorId.{ActorId}
 use Rattle.snap_base.specs.declared.ids.Bid.{Bid}
+use Rattle.snap_base.specs.declared.ids.Tid.{Tid}
 use Rattle.snap_base.specs.declared.transactions.State.{State}
 use Rattle.txn_records.specs.declared.records.Record.{Record}
-use Rattle.txn_records.specs.declared.records.Record.TheVariants.{Genesis, BatchInfo, BatchComplete, BatchCommit}
+use Rattle.txn_records.specs.declared.records.Record.TheVariants.{Genesis, BatchInfo, BatchComplete, BatchCommit, ActPrepare, ActCommit}
 use Rattle.txn_records.specs.declared.keys.Key.{Key}
 use Rattle.txn_records.specs.declared.keys.Key.TheVariants as keys
 use Rattle.txn_records.specs.Records.{key}
-use Rattle.snap_recover.specs.Logs.{Has, IsLastOf, log_of}
+use Rattle.snap_recover.specs.Logs.{Has, IsLastOf, log_of, states_in}
+use Rattle.snap_recover.specs.declared.kinds.Kind.{Kind}
+use Rattle.snap_recover.specs.declared.kinds.Kind.TheVariants as kinds
 use Rattle.snap_recover.specs.declared.openings.Kept.{Kept}
+use Rattle.snap_recover.specs.declared.openings.Kept.TheVariants as kept
 use Rattle.snap_recover.specs.declared.refusals.RecoverNo.{RecoverNo}
 use Rattle.snap_recover.specs.declared.refusals.RecoverNo.TheVariants.{NoGenesis, TwoGenesis, LogCount, Range, Missing, Memory}
-use Rattle.snap_recover.specs.Opening.{HasCompleted, IsIn, IsWhole, IsKept, IsCommitted, bid_of}
-use Rattle.snap_recover.specs.Refusals.{LacksInfo, LacksComplete, IsFirstLacking}
+use Rattle.snap_recover.specs.Opening.{IsWhole, IsIn, IsActIn, IsActWhole, IsActOf, IsKept}
+use Rattle.snap_recover.specs.Refusals.{LacksInfo, LacksComplete, LacksPrepare, IsFirstBatchLacking, IsFirstActLacking, IsFirstLacking}
 
 abbrev pub bid_at : ℕ → Bid
 bid_at n = record { 0 = n }
 
 abbrev pub actor_at : ℕ → ActorId
 actor_at n = record { 0 = n }
+
+abbrev pub tid_at : ℕ → Tid
+tid_at n = record { 0 = n }
 
 -- the set has the number
 abbrev pub In : BTreeSet ℕ → ℕ → Type 0
@@ -36,94 +43,133 @@ In set n = IsTrue (bag.contains nat_cmp set n)
 abbrev pub pair_cmp : ℕ × ℕ → ℕ × ℕ → Ordering
 pair_cmp x y = ordering_then (nat_cmp x.0 y.0) (nat_cmp x.1 y.1)
 
--- the set has the batch with the actor
+-- the set has the batch, or the ACT, with the actor
 abbrev pub InPair : BTreeSet (ℕ × ℕ) → ℕ × ℕ → Type 0
 InPair set x = IsTrue (bag.contains pair_cmp set x)
+
+-- ---- keys by numbers
+
+-- the key by which the batch, or the ACT, of this number is in
+abbrev pub commit_key : Kind → ℕ → Key
+commit_key kinds.Batch n = keys.Commit (bid_at n)
+commit_key kinds.Act n = keys.Act (tid_at n)
+
+-- the key of an actor's part of it
+abbrev pub part_key : Kind → ℕ × ℕ → Key
+part_key kinds.Batch x = keys.Complete (bid_at x.0) (actor_at x.1)
+part_key kinds.Act x = keys.Prepare (tid_at x.0) (actor_at x.1)
+
+-- the key of what tells its actors
+abbrev pub info_key : Kind → ℕ → Key
+info_key kinds.Batch n = keys.Info (bid_at n)
+info_key kinds.Act n = keys.Act (tid_at n)
 
 -- what the records have the key of, where it is at home in this log, is added
 abbrev pub Adds : {X : Type 0} → (X → Type 0) → (X → Key) → List Record → (X → Type 0) → (X → Type 0) → Type 0
 Adds {X} AtHome key_at rs Old New = (x : X) → New x ↔ (Old x ⊎ (AtHome x × Has rs (key_at x)))
 
-abbrev pub commit_key : ℕ → Key
-commit_key n = keys.Commit (bid_at n)
+-- the numbers of the batches, or the ACTs, whose commits stand in their log are added
+abbrev pub AddsCommits : Kind → ℕ → ℕ → List Record → BTreeSet ℕ → BTreeSet ℕ → Type 0
+AddsCommits kind log logs rs old new = Adds (λ n. n % logs ≡ log) (commit_key kind) rs (In old) (In new)
 
-abbrev pub complete_key : ℕ × ℕ → Key
-complete_key x = keys.Complete (bid_at x.0) (actor_at x.1)
-
--- the numbers of the batches whose commits stand in their log are added
-abbrev pub AddsCommits : ℕ → ℕ → List Record → BTreeSet ℕ → BTreeSet ℕ → Type 0
-AddsCommits log logs rs old new = Adds (λ n. n % logs ≡ log) commit_key rs (In old) (In new)
-
--- the completions that stand in their actor's log are added
-abbrev pub AddsCompletes : ℕ → ℕ → List Record → BTreeSet (ℕ × ℕ) → BTreeSet (ℕ × ℕ) → Type 0
-AddsCompletes log logs rs old new = Adds (λ (x : ℕ × ℕ). x.1 % logs ≡ log) complete_key rs (InPair old) (InPair new)
+-- the parts that stand in their actor's log are added
+abbrev pub AddsParts : Kind → ℕ → ℕ → List Record → BTreeSet (ℕ × ℕ) → BTreeSet (ℕ × ℕ) → Type 0
+AddsParts kind log logs rs old new = Adds (λ (x : ℕ × ℕ). x.1 % logs ≡ log) (part_key kind) rs (InPair old) (InPair new)
 
 -- the place of the last record with the key
 abbrev pub IsLastPlace : Key → List Record → ℕ → Type 0
 IsLastPlace k rs place = (front behind : List Record) × (r : Record) × (rs ≡ front ++ r ∷ behind) × (place ≡ length front) × (key r ≡ k) × AllByRecursion (λ x. key x ≢ k) behind
 
--- the batch has the place of its last info in these records, and where it has none it is as it was
-abbrev pub IsPlaced : ℕ → List Record → Option ℕ → Option ℕ → Type 0
-IsPlaced n rs old new =
-    ((place : ℕ) × (new ≡ Some place) × IsLastPlace (keys.Info (bid_at n)) rs place)
-    ⊎ (AllByRecursion (λ r. key r ≢ keys.Info (bid_at n)) rs × (new ≡ old))
+-- it has the place of the last record with its key among these, and where there is none it is as it was
+abbrev pub IsPlaced : Key → List Record → Option ℕ → Option ℕ → Type 0
+IsPlaced k rs old new =
+    ((place : ℕ) × (new ≡ Some place) × IsLastPlace k rs place)
+    ⊎ (AllByRecursion (λ r. key r ≢ k) rs × (new ≡ old))
 
--- the batch has the place of the record, where that is its info
-abbrev pub IsPlacedBy : ℕ → ℕ → Record → Option ℕ → Option ℕ → Type 0
-IsPlacedBy n at r old new = ((key r ≡ keys.Info (bid_at n)) × (new ≡ Some at)) ⊎ ((key r ≢ keys.Info (bid_at n)) × (new ≡ old))
+-- it has the place of the record, where that has its key
+abbrev pub IsPlacedBy : Key → ℕ → Record → Option ℕ → Option ℕ → Type 0
+IsPlacedBy k at r old new = ((key r ≡ k) × (new ≡ Some at)) ⊎ ((key r ≢ k) × (new ≡ old))
 
--- the place of the record is added, where it is an info that stands in its batch's log
-abbrev pub AddsInfo : ℕ → ℕ → ℕ → Record → BTreeMap ℕ ℕ → BTreeMap ℕ ℕ → Type 0
-AddsInfo log logs at r old new = (n : ℕ) →
-    ((n % logs ≡ log → IsPlacedBy n at r (tree.get nat_cmp old n) (tree.get nat_cmp new n)) × (n % logs ≢ log → tree.get nat_cmp new n ≡ tree.get nat_cmp old n))
+-- the place of the record is added, where it tells actors and stands in its log
+abbrev pub AddsInfo : Kind → ℕ → ℕ → ℕ → Record → BTreeMap ℕ ℕ → BTreeMap ℕ ℕ → Type 0
+AddsInfo kind log logs at r old new = (n : ℕ) →
+    ((n % logs ≡ log → IsPlacedBy (info_key kind n) at r (tree.get nat_cmp old n) (tree.get nat_cmp new n)) × (n % logs ≢ log → tree.get nat_cmp new n ≡ tree.get nat_cmp old n))
 
--- the places of the infos that stand in their batch's log are added
-abbrev pub AddsInfos : ℕ → ℕ → List Record → BTreeMap ℕ ℕ → BTreeMap ℕ ℕ → Type 0
-AddsInfos log logs rs old new = (n : ℕ) →
-    ((n % logs ≡ log → IsPlaced n rs (tree.get nat_cmp old n) (tree.get nat_cmp new n)) × (n % logs ≢ log → tree.get nat_cmp new n ≡ tree.get nat_cmp old n))
+-- the places of the records that tell actors and stand in their log are added
+abbrev pub AddsInfos : Kind → ℕ → ℕ → List Record → BTreeMap ℕ ℕ → BTreeMap ℕ ℕ → Type 0
+AddsInfos kind log logs rs old new = (n : ℕ) →
+    ((n % logs ≡ log → IsPlaced (info_key kind n) rs (tree.get nat_cmp old n) (tree.get nat_cmp new n)) × (n % logs ≢ log → tree.get nat_cmp new n ≡ tree.get nat_cmp old n))
 
 -- ---- over all logs
 
-abbrev pub HasCommitted : List (List Record) → BTreeSet ℕ → Type 0
-HasCommitted logs set = (n : ℕ) → In set n ↔ IsIn logs (bid_at n)
+abbrev pub HasCommitted : Kind → List (List Record) → BTreeSet ℕ → Type 0
+HasCommitted kind logs set = (n : ℕ) → In set n ↔ Has (log_of logs n) (commit_key kind n)
 
-abbrev pub HasAllCompleted : List (List Record) → BTreeSet (ℕ × ℕ) → Type 0
-HasAllCompleted logs set = (x : ℕ × ℕ) → InPair set x ↔ HasCompleted logs (bid_at x.0) (actor_at x.1)
+abbrev pub HasAllParts : Kind → List (List Record) → BTreeSet (ℕ × ℕ) → Type 0
+HasAllParts kind logs set = (x : ℕ × ℕ) → InPair set x ↔ Has (log_of logs x.1) (part_key kind x)
 
-abbrev pub HasInfos : List (List Record) → BTreeMap ℕ ℕ → Type 0
-HasInfos logs places = (n : ℕ) → IsPlaced n (log_of logs n) None (tree.get nat_cmp places n)
+abbrev pub HasInfos : Kind → List (List Record) → BTreeMap ℕ ℕ → Type 0
+HasInfos kind logs places = (n : ℕ) → IsPlaced (info_key kind n) (log_of logs n) None (tree.get nat_cmp places n)
 
 -- ---- states
 
--- a record that tells a state of the actor, of one of these batches
-abbrev pub Tells : (ℕ → Type 0) → ℕ → Record → Type 0
-Tells Is a (Genesis count states) = ⊥
-Tells Is a (BatchInfo bid actors tids) = ⊥
-Tells Is a (BatchComplete bid actor state) = (actor.0 ≡ a) × Is bid.0
-Tells Is a (BatchCommit bid) = ⊥
+-- a record that tells a state of the actor, of one of these batches or of these ACTs
+abbrev pub Tells : (ℕ → Type 0) → (ℕ → Type 0) → ℕ → Record → Type 0
+Tells Batches Acts a (Genesis count states) = ⊥
+Tells Batches Acts a (BatchInfo bid actors tids) = ⊥
+Tells Batches Acts a (BatchComplete bid actor state) = (actor.0 ≡ a) × Batches bid.0
+Tells Batches Acts a (BatchCommit bid) = ⊥
+Tells Batches Acts a (ActPrepare tid actor state) = (actor.0 ≡ a) × Acts tid.0
+Tells Batches Acts a (ActCommit tid m c actors) = ⊥
 
 -- the state of the last record that has P, and where none has it the first one
 abbrev pub StateOver : (Record → Type 0) → List Record → State → State → Type 0
 StateOver P rs first s =
-    ((bid : Bid) × (actor : ActorId) × IsLastOf P rs (BatchComplete bid actor s))
+    ((r : Record) × (states_in r ≡ s ∷ []) × IsLastOf P rs r)
     ⊎ (AllByRecursion (λ r. ¬ P r) rs × (s ≡ first))
 
 -- the states of the actors whose log this is are those that it tells, and the others are as they were
-pub record Replays (log logs : ℕ) (Is : ℕ → Type 0) (rs : List Record) (old new : List State) : Type 0 where
+pub record Replays (log logs : ℕ) (Batches Acts : ℕ → Type 0) (rs : List Record) (old new : List State) : Type 0 where
   pub long : length new ≡ length old
-  pub here : (a : ℕ) (d : State) → a < length old → a % logs ≡ log → StateOver (Tells Is a) rs (slice_index_or old a d) (slice_index_or new a d)
+  pub here : (a : ℕ) (d : State) → a < length old → a % logs ≡ log → StateOver (Tells Batches Acts a) rs (slice_index_or old a d) (slice_index_or new a d)
   pub elsewhere : (a : ℕ) (d : State) → a < length old → a % logs ≢ log → slice_index_or new a d ≡ slice_index_or old a d
 
--- ---- batches
+-- ---- what is whole
 
--- the answer tells what the batch lacks
-abbrev pub IsLackOf : List (List Record) → Bid → RecoverNo → Type 0
-IsLackOf logs bid NoGenesis = ⊥
-IsLackOf logs bid TwoGenesis = ⊥
-IsLackOf logs bid (LogCount count found) = ⊥
-IsLackOf logs bid (Range k log) = ⊥
-IsLackOf logs bid (Missing k log) = LacksInfo logs bid k log ⊎ LacksComplete logs bid k log
-IsLackOf logs bid Memory = Unit {0}
+abbrev pub MemberWhole : Kind → List (List Record) → ℕ → Type 0
+MemberWhole kinds.Batch logs n = IsWhole logs (bid_at n)
+MemberWhole kinds.Act logs n = IsActWhole logs (tid_at n)
+
+abbrev pub MemberLacks : Kind → List (List Record) → ℕ → Key → ℕ → Type 0
+MemberLacks kinds.Batch logs n k log = LacksInfo logs (bid_at n) k log ⊎ LacksComplete logs (bid_at n) k log
+MemberLacks kinds.Act logs n k log = LacksPrepare logs (tid_at n) k log
+
+-- its actors, as the last record with its key tells them
+abbrev pub TellsActors : Kind → ℕ → List Record → List ActorId → Type 0
+TellsActors kinds.Batch n rs actors = (tids : List Tid) × IsLastOf (λ r. key r ≡ keys.Info (bid_at n)) rs (BatchInfo (bid_at n) actors tids)
+TellsActors kinds.Act n rs actors = (m : Bid) × (c : ℕ) × IsLastOf (λ r. key r ≡ keys.Act (tid_at n)) rs (ActCommit (tid_at n) m c actors)
+
+-- the answer tells what it lacks
+abbrev pub IsLackOf : Kind → List (List Record) → ℕ → RecoverNo → Type 0
+IsLackOf kind logs n NoGenesis = ⊥
+IsLackOf kind logs n TwoGenesis = ⊥
+IsLackOf kind logs n (LogCount count found) = ⊥
+IsLackOf kind logs n (Range k log) = ⊥
+IsLackOf kind logs n (Missing k log) = MemberLacks kind logs n k log
+IsLackOf kind logs n Memory = Unit {0}
+
+abbrev pub IsFirstLackingOf : Kind → List (List Record) → Key → ℕ → Type 0
+IsFirstLackingOf kinds.Batch logs k log = IsFirstBatchLacking logs k log
+IsFirstLackingOf kinds.Act logs k log = IsFirstActLacking logs k log
+
+-- the answer tells the first key that is lacking of this kind
+abbrev pub IsFirstLackOfKind : Kind → List (List Record) → RecoverNo → Type 0
+IsFirstLackOfKind kind logs NoGenesis = ⊥
+IsFirstLackOfKind kind logs TwoGenesis = ⊥
+IsFirstLackOfKind kind logs (LogCount count found) = ⊥
+IsFirstLackOfKind kind logs (Range k log) = ⊥
+IsFirstLackOfKind kind logs (Missing k log) = IsFirstLackingOf kind logs k log
+IsFirstLackOfKind kind logs Memory = Unit {0}
 
 -- the answer tells the first key that is lacking
 abbrev pub IsFirstLackOf : List (List Record) → RecoverNo → Type 0
@@ -134,13 +180,56 @@ IsFirstLackOf logs (Range k log) = ⊥
 IsFirstLackOf logs (Missing k log) = IsFirstLacking logs k log
 IsFirstLackOf logs Memory = Unit {0}
 
--- what is kept of the batch, from which nothing is lacking
-pub record IsKeptWhole (logs : List (List Record)) (bid : Bid) (k : Kept) : Type 0 where
-  pub of : bid_of k ≡ bid
-  pub is_kept : IsKept logs k
-  pub whole : IsWhole logs bid
+-- nothing is lacking of this kind
+abbrev pub AllWhole : Kind → List (List Record) → Type 0
+AllWhole kind logs = (n : ℕ) → Has (log_of logs n) (commit_key kind n) → MemberWhole kind logs n
 
--- all batches that are in are whole, and these
-pub record IsAllKept (logs : List (List Record)) (committed : List Kept) : Type 0 where
-  pub are : IsCommitted logs committed
-  pub whole : (bid : Bid) → IsIn logs bid → IsWhole logs bid
+-- nothing is lacking
+pub record IsAllWhole (logs : List (List Record)) : Type 0 where
+  pub batches : (bid : Bid) → IsIn logs bid → IsWhole logs bid
+  pub acts : (tid : Tid) → IsActIn logs tid → IsActWhole logs tid
+
+-- ---- the order of what is kept
+
+-- a batch number, 0 for a batch and 1 for an ACT behind it, the commit number, and the tid
+abbrev pub Spot : Type 0
+Spot = ℕ × ℕ × ℕ × ℕ
+
+abbrev pub spot_cmp : Spot → Spot → Ordering
+spot_cmp x y = ordering_then (ordering_then (ordering_then (nat_cmp x.0 y.0) (nat_cmp x.1 y.1)) (nat_cmp x.2 y.2)) (nat_cmp x.3 y.3)
+
+-- all of the numbers are in
+abbrev pub HasIn : Kind → List (List Record) → List ℕ → Type 0
+HasIn kind logs numbers = AllByRecursion (λ n. Has (log_of logs n) (commit_key kind n)) numbers
+
+abbrev pub InSpots : BTreeSet Spot → Spot → Type 0
+InSpots set x = IsTrue (bag.contains spot_cmp set x)
+
+abbrev pub spot_of : Kept → Spot
+spot_of (kept.Batch bid tids) = (bid.0, 0, 0, 0)
+spot_of (kept.Act tid m c) = (m.0, 1, c, tid.0)
+
+abbrev pub IsBatchSpot : ℕ → Spot → Type 0
+IsBatchSpot n x = x ≡ (n, 0, 0, 0)
+
+-- the spot of this ACT, as its commit tells it
+abbrev pub IsActSpot : List (List Record) → ℕ → Spot → Type 0
+IsActSpot logs n x = (m : Bid) × (c : ℕ) × (actors : List ActorId) × IsActOf logs (tid_at n) m c actors × (x ≡ (m.0, 1, c, n))
+
+-- the spots of these numbers are added
+abbrev pub AddsSpots : (ℕ → Spot → Type 0) → List ℕ → BTreeSet Spot → BTreeSet Spot → Type 0
+AddsSpots IsSpot numbers old new = (x : Spot) → InSpots new x ↔ (InSpots old x ⊎ ((n : ℕ) × Contains numbers n × IsSpot n x))
+
+-- the spot of a batch or an ACT that is in
+abbrev pub IsSpotIn : List (List Record) → Spot → Type 0
+IsSpotIn logs x =
+    ((n : ℕ) × IsIn logs (bid_at n) × IsBatchSpot n x)
+    ⊎ ((n : ℕ) × IsActIn logs (tid_at n) × IsActSpot logs n x)
+
+abbrev pub HasSpots : List (List Record) → BTreeSet Spot → Type 0
+HasSpots logs set = (x : Spot) → InSpots set x ↔ IsSpotIn logs x
+
+-- what is kept at the spot
+pub record IsKeptAt (logs : List (List Record)) (x : Spot) (k : Kept) : Type 0 where
+  pub at : spot_of k ≡ x
+  pub is_kept : IsKept logs k

@@ -13,7 +13,7 @@ use Rattle.txn_records.specs.Records.{key}
 use Rattle.snap_recover.specs.declared.refusals.RecoverNo.{RecoverNo}
 use Rattle.snap_recover.specs.declared.refusals.RecoverNo.TheVariants.{NoGenesis, TwoGenesis, LogCount, Range, Missing, Memory}
 use Rattle.snap_recover.specs.Logs.{all_of, log_of, Has, geneses}
-use Rattle.snap_recover.specs.Opening.{IsIn, IsInfoOf, HasCompleted, IsWhole, IsInRange, IsBegun}
+use Rattle.snap_recover.specs.Opening.{IsIn, IsInfoOf, HasCompleted, IsWhole, IsActIn, IsActOf, HasPrepared, IsActWhole, IsInRange, IsBegun}
 
 -- the first record, log by log, that is not in range, and the log in which it stands
 abbrev pub IsFirstOutOfRange : ℕ → List (List Record) → Record → ℕ → Type 0
@@ -33,11 +33,30 @@ LacksComplete logs bid k log =
     × IsInfoOf logs bid (front ++ actor ∷ behind) tids × AllByRecursion (HasCompleted logs bid) front
     × (k ≡ keys.Complete bid actor) × (log ≡ actor.0 % length logs) × ¬ HasCompleted logs bid actor
 
--- the first key that is lacking, batches by number first, and the log in which it should be
-abbrev pub IsFirstLacking : List (List Record) → Key → ℕ → Type 0
-IsFirstLacking logs k log =
+-- an actor of the ACT has not prepared it, and all before it have
+abbrev pub LacksPrepare : List (List Record) → Tid → Key → ℕ → Type 0
+LacksPrepare logs tid k log =
+    (front behind : List ActorId) × (actor : ActorId) × (m : Bid) × (c : ℕ)
+    × IsActOf logs tid m c (front ++ actor ∷ behind) × AllByRecursion (HasPrepared logs tid) front
+    × (k ≡ keys.Prepare tid actor) × (log ≡ actor.0 % length logs) × ¬ HasPrepared logs tid actor
+
+-- the first key that is lacking of batches, by their numbers, and the log in which it should be
+abbrev pub IsFirstBatchLacking : List (List Record) → Key → ℕ → Type 0
+IsFirstBatchLacking logs k log =
     (bid : Bid) × IsIn logs bid × ((b : Bid) → b.0 < bid.0 → IsIn logs b → IsWhole logs b)
     × (LacksInfo logs bid k log ⊎ LacksComplete logs bid k log)
+
+-- the same of ACTs, by their tids
+abbrev pub IsFirstActLacking : List (List Record) → Key → ℕ → Type 0
+IsFirstActLacking logs k log =
+    (tid : Tid) × IsActIn logs tid × ((t : Tid) → t.0 < tid.0 → IsActIn logs t → IsActWhole logs t)
+    × LacksPrepare logs tid k log
+
+-- the first key that is lacking: that of an ACT only where nothing is lacking of the batches
+abbrev pub IsFirstLacking : List (List Record) → Key → ℕ → Type 0
+IsFirstLacking logs k log =
+    IsFirstBatchLacking logs k log
+    ⊎ (((bid : Bid) → IsIn logs bid → IsWhole logs bid) × IsFirstActLacking logs k log)
 
 abbrev pub IsRefused : List (List Record) → RecoverNo → Type 0
 IsRefused logs NoGenesis = geneses logs ≡ []

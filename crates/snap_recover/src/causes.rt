@@ -18,7 +18,7 @@ pub enum LogCause {
     LogCount { kept: u64, found: u64 },
     /// The record with the key names an actor that there is not, or a number above 2^62.
     Range { key: Key },
-    /// A batch is committed, and the record with the key, which it rests on, is not in its log.
+    /// What rests on the record with the key is committed, and that is not in its log.
     Missing { key: Key },
     /// The next number of transactions, batches or commits is above 2^62 - 2^20.
     Spent { number: u64 },

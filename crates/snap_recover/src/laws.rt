@@ -1,5 +1,6 @@
 ghost use Rattle.std.specs.Prelude.{◌≡◌, ◌≢◌, ℕ, ◌≤◌, List, [], ◌∷◌, ◌++◌, length};
 ghost use Rattle.std.specs.List.{AllByRecursion};
+ghost use Rattle.txn_records.specs.declared.limits.TheConstants.{MOST_LISTED};
 ghost use Rattle.snap_base.specs.declared.transactions.State.{State};
 ghost use Rattle.txn_records.specs.declared.records.Record.{Record};
 ghost use Rattle.txn_records.specs.declared.records.Record.TheVariants.{Genesis, BatchCommit};
@@ -29,7 +30,7 @@ pub fn refused_is_not_recovered()
 /// What logs of records recover to are states, one for each actor, and no more than Genesis may tell.
 pub fn recovered_states()
     ensures states { (logs : List (List Record)) (o : Opening) → AllByRecursion (AllByRecursion IsRecord) logs → IsRecovered logs o → AllByRecursion IsState o.states }
-    ensures few { (logs : List (List Record)) (o : Opening) → AllByRecursion (AllByRecursion IsRecord) logs → IsRecovered logs o → length o.states ≤ 256 }
+    ensures few { (logs : List (List Record)) (o : Opening) → AllByRecursion (AllByRecursion IsRecord) logs → IsRecovered logs o → length o.states ≤ MOST_LISTED }
 {}
 
 /// Genesis alone recovers to what the first run begins with.

@@ -1,11 +1,14 @@
 //! What the logs of earlier runs give a new one: the actors' states, what is committed, and the next numbers.
-//! A batch is in where its commit is, and a record of a batch that is not in changes no state. What that is
-//! stands in `specs/Opening.antt`, and why logs are refused in `specs/Refusals.antt`.
+//! A batch or an undeclared transaction is in where its commit is, and a record of one that is not in changes no
+//! state. What that is stands in `specs/Opening.antt`, and why logs are refused in `specs/Refusals.antt`.
 #![tactic(auto)]
 
 mod causes;
 mod genesis;
 mod index;
+mod infos;
+mod keeping;
+mod kinds;
 mod laws;
 mod numbers;
 mod openings;

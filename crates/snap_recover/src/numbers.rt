@@ -1,7 +1,7 @@
 ghost use Rattle.std.specs.Prelude.{◌≡◌, ◌+◌, ◌≤◌, max, length};
 ghost use Rattle.std.specs.List.{AllByRecursion, flat_map};
 ghost use Rattle.txn_records.specs.Records.{tid_numbers};
-ghost use Rattle.snap_recover.specs.Logs.{all_of, bids_in, tids_in};
+ghost use Rattle.snap_recover.specs.Logs.{all_of, bids_in, tids_in, commits_in};
 ghost use Rattle.snap_recover.specs.Opening.{IsInRange, greatest, next_of};
 
 use crate::ranges::GREATEST_NUMBER;
@@ -31,7 +31,7 @@ fn greatest_bid(so_far: u64, rs: &[Record]) -> u64
     most
 }
 
-/// The number of the record's batch, and 0 where it has none.
+/// The number of the batch that the record names, and 0 where it names none.
 fn bid_number(r: &Record) -> u64
     ensures { result ≡ greatest (bids_in r.now) }
 {
@@ -40,6 +40,8 @@ fn bid_number(r: &Record) -> u64
         Record::BatchInfo { bid, .. } => bid.0,
         Record::BatchComplete { bid, .. } => bid.0,
         Record::BatchCommit { bid } => bid.0,
+        Record::ActPrepare { .. } => 0,
+        Record::ActCommit { m, .. } => m.0,
     }
 }
 
@@ -72,6 +74,8 @@ fn tid_number(r: &Record) -> u64
 {
     match r {
         Record::BatchInfo { tids, .. } => greatest_of(tids.as_slice()),
+        Record::ActPrepare { tid, .. } => tid.0,
+        Record::ActCommit { tid, .. } => tid.0,
         _ => 0,
     }
 }
@@ -84,4 +88,37 @@ fn greatest_of(tids: &[Tid]) -> u64
         most = most.max(tid.0);
     }
     most
+}
+
+/// One above all commit numbers, and at least 1.
+pub(crate) fn next_commit(logs: &[Sequence<Record>]) -> u64
+    requires small { greatest (flat_map commits_in (all_of logs.now)) ≤ GREATEST_NUMBER }
+    ensures { result ≡ next_of commits_in logs.now }
+{
+    let mut most = 0;
+    for rs in logs {
+        most = greatest_commit(most, rs.as_slice());
+    }
+    most + 1
+}
+
+/// The greatest of the number and the commit numbers in one log.
+fn greatest_commit(so_far: u64, rs: &[Record]) -> u64
+    ensures { result ≡ max so_far (greatest (flat_map commits_in rs.now)) }
+{
+    let mut most = so_far;
+    for r in rs {
+        most = most.max(commit_number(r));
+    }
+    most
+}
+
+/// The commit number in the record, and 0 where it has none.
+fn commit_number(r: &Record) -> u64
+    ensures { result ≡ greatest (commits_in r.now) }
+{
+    match r {
+        Record::ActCommit { c, .. } => *c,
+        _ => 0,
+    }
 }

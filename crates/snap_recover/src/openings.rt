@@ -3,11 +3,13 @@ ghost use Rattle.std.specs.Prelude.{◌≡◌, [], IfOk};
 use snap_base::{Bid, Memory, Sequence, State, Tid};
 use std::alloc::Global;
 
-/// Transactions that are committed.
+/// What is committed.
 #[derive(Drop)]
 pub enum Kept {
     /// A batch and its transactions, ascending.
     Batch { bid: Bid, tids: Sequence<Tid> },
+    /// An undeclared transaction, the batch behind which it comes, and the number of its commit.
+    Act { tid: Tid, m: Bid, c: u64 },
 }
 
 /// What a run begins with.
@@ -15,7 +17,8 @@ pub enum Kept {
 pub struct Opening {
     /// The state of each actor, in the order of their numbers.
     pub states: Sequence<State>,
-    /// What earlier runs committed, in the order of the places.
+    /// What earlier runs committed, in the order of the places; undeclared transactions with one `m` and one `c`
+    /// by their tids.
     pub committed: Sequence<Kept>,
     /// The next transaction's identifier, at least 1.
     pub next_tid: Tid,

@@ -12,7 +12,7 @@ use crate::RecoverNo;
 use snap_base::{ActorId, Sequence, Tid};
 use txn_records::{Record, key_of};
 
-/// The greatest number that a batch or a transaction may have.
+/// The greatest number that a batch, a transaction or a commit may have.
 pub const GREATEST_NUMBER: u64 = 1 << 62;
 
 /// That the records name no actors but so many, and no number above the greatest.
@@ -61,6 +61,20 @@ fn in_range(r: &Record, actors: usize) -> bool
             bid.0 <= GREATEST_NUMBER && (actor.0 as usize) < actors
         }
         Record::BatchCommit { bid } => bid.0 <= GREATEST_NUMBER,
+        Record::ActPrepare { tid, actor, .. } => {
+            tid.0 <= GREATEST_NUMBER && (actor.0 as usize) < actors
+        }
+        Record::ActCommit {
+            tid,
+            m,
+            c,
+            actors: named,
+        } => {
+            m.0 <= GREATEST_NUMBER
+                && *c <= GREATEST_NUMBER
+                && tid.0 <= GREATEST_NUMBER
+                && all_actors_below(named.as_slice(), actors)
+        }
     }
 }
 

@@ -5,10 +5,12 @@ ghost use Rattle.snap_recover.specs.Passes.{IsFirstLackOf};
 
 use crate::genesis::{count_geneses, first_genesis};
 use crate::index::index_of;
-use crate::numbers::{next_bid, next_tid};
+use crate::keeping::keep_all;
+use crate::kinds::Kind;
+use crate::numbers::{next_bid, next_commit, next_tid};
 use crate::ranges::check_range;
 use crate::states::states_after;
-use crate::wholes::keep_all;
+use crate::wholes::check_all;
 use crate::{Opening, RecoverNo};
 use snap_base::{Sequence, State};
 use std::alloc::Global;
@@ -42,20 +44,16 @@ fn opening(alloc: Global, logs: &[Sequence<Record>], first: &[State]) -> Result<
     requires begun { IsBegun logs.now first.now }
     ensures { MatchResult result (λ o. IsRecovered logs.now o) (λ no. IsFirstLackOf logs.now no) }
 {
-    let index = index_of(alloc, logs)?;
-    let kept = keep_all(
-        alloc,
-        logs,
-        &index.committed,
-        &index.completed,
-        &index.infos,
-    )?;
-    let states = states_after(alloc, logs, first, &index.committed)?;
+    let batches = index_of(alloc, Kind::Batch, logs)?;
+    let acts = index_of(alloc, Kind::Act, logs)?;
+    check_all(alloc, logs, &batches, &acts)?;
+    let kept = keep_all(alloc, logs, &batches, &acts)?;
+    let states = states_after(alloc, logs, first, &batches.committed, &acts.committed)?;
     Ok(Opening {
         states: Sequence::from_vec(states),
         committed: kept,
         next_tid: next_tid(logs),
         next_bid: next_bid(logs),
-        next_c: 1,
+        next_c: next_commit(logs),
     })
 }

@@ -13,7 +13,7 @@ pub enum RecoverNo {
     LogCount { kept: u64, found: u64 },
     /// The record with the key, in this log, names an actor that there is not, or a number above 2^62.
     Range { key: Key, log: u8 },
-    /// A batch is committed, and the record with the key, which it rests on, is not in this log.
+    /// What rests on the record with the key is committed, and that is not in this log.
     Missing { key: Key, log: u8 },
     /// There was no memory.
     Memory,

@@ -1,9 +1,7 @@
-ghost use Rattle.std.specs.Prelude.{◌≡◌, ℕ, ◌%◌, ◌<◌, length, MatchOption, IfOk};
+ghost use Rattle.std.specs.Prelude.{◌≡◌, ℕ, ◌%◌, ◌<◌, [], ◌∷◌, length, MatchOption, IfOk};
 ghost use Rattle.std.specs.List.{AllByRecursion};
-ghost use Rattle.snap_base.specs.declared.ids.ActorId.{ActorId};
-ghost use Rattle.snap_base.specs.declared.ids.Bid.{Bid};
-ghost use Rattle.txn_records.specs.declared.records.Record.TheVariants.{BatchComplete};
-ghost use Rattle.snap_recover.specs.Logs.{all_of};
+ghost use Rattle.snap_recover.specs.declared.kinds.Kind.TheVariants as kinds;
+ghost use Rattle.snap_recover.specs.Logs.{all_of, states_in};
 ghost use Rattle.snap_recover.specs.Opening.{IsInRange, AreStates};
 ghost use Rattle.snap_recover.specs.Passes.{In, HasCommitted, Tells, Replays};
 
@@ -12,47 +10,79 @@ use std::alloc::Global;
 use std::collections::BTreeSet;
 use txn_records::Record;
 
-/// The states of the actors, which began with these. The set has the batches that are in.
+/// The states of the actors, which began with these. The sets have the batches and the undeclared transactions that
+/// are in.
 pub(crate) fn states_after(
     alloc: Global,
     logs: &[Sequence<Record>],
     first: &[State],
-    set: &BTreeSet<u64>,
+    batches: &BTreeSet<u64>,
+    acts: &BTreeSet<u64>,
 ) -> Result<Vec<State>, Memory>
     requires some { 0 < length logs.now }
     requires range { AllByRecursion (IsInRange (length first.now)) (all_of logs.now) }
-    requires committed { HasCommitted logs.now set.now }
+    requires batches { HasCommitted kinds.Batch logs.now batches.now }
+    requires acts { HasCommitted kinds.Act logs.now acts.now }
     ensures { IfOk result (λ states. AreStates logs.now first.now states.items) }
 {
     let mut states = Vec::from_slice(alloc, first)?;
     let count = logs.len() as u64;
     for i in 0..logs.len() {
-        replay(&mut states, logs[i].as_slice(), i as u64, count, set);
+        replay(
+            &mut states,
+            logs[i].as_slice(),
+            i as u64,
+            count,
+            batches,
+            acts,
+        );
     }
     Ok(states)
 }
 
-/// Gives the actors whose log this is, number `log` of `logs`, the states that it tells of these batches.
-fn replay(states: &mut Vec<State>, rs: &[Record], log: u64, logs: u64, set: &BTreeSet<u64>)
+/// Gives the actors whose log this is, number `log` of `logs`, the states that it tells of these batches and of these
+/// undeclared transactions.
+fn replay(
+    states: &mut Vec<State>,
+    rs: &[Record],
+    log: u64,
+    logs: u64,
+    batches: &BTreeSet<u64>,
+    acts: &BTreeSet<u64>,
+)
     requires some { 0 < logs }
     requires range { AllByRecursion (IsInRange (length states.old.items)) rs.now }
-    ensures { Replays log logs (In set.now) rs.now states.old.items states.new.items }
+    ensures { Replays log logs (In batches.now) (In acts.now) rs.now states.old.items states.new.items }
 {
     for r in rs {
-        if let Some((actor, state)) = state_here(r, log, logs, set) {
+        if let Some((actor, state)) = state_here(r, log, logs, batches, acts) {
             states[actor] = state;
         }
     }
 }
 
-/// The actor and the state that the record tells, of one of these batches, where the log is that actor's.
-fn state_here(r: &Record, log: u64, logs: u64, set: &BTreeSet<u64>) -> Option<(usize, State)>
+/// The actor and the state that the record tells, of one of these batches or of these undeclared transactions, where
+/// the log is that actor's.
+fn state_here(
+    r: &Record,
+    log: u64,
+    logs: u64,
+    batches: &BTreeSet<u64>,
+    acts: &BTreeSet<u64>,
+) -> Option<(usize, State)>
     requires some { 0 < logs }
-    ensures { MatchOption result ((a : ℕ) → a % logs ≡ log → ¬ Tells (In set.now) a r.now) (λ x. (x.0 % logs ≡ log) × ((bid : Bid) × (actor : ActorId) × (r.now ≡ BatchComplete bid actor x.1) × (actor.0 ≡ x.0) × In set.now bid.0)) }
+    ensures { MatchOption result ((a : ℕ) → a % logs ≡ log → ¬ Tells (In batches.now) (In acts.now) a r.now) (λ x. (x.0 % logs ≡ log) × (states_in r.now ≡ x.1 ∷ []) × Tells (In batches.now) (In acts.now) x.0 r.now) }
 {
     match r {
         Record::BatchComplete { bid, actor, state } => {
-            if actor.0 as u64 % logs == log && set.contains(&bid.0) {
+            if actor.0 as u64 % logs == log && batches.contains(&bid.0) {
+                Some((actor.0 as usize, *state))
+            } else {
+                None
+            }
+        }
+        Record::ActPrepare { tid, actor, state } => {
+            if actor.0 as u64 % logs == log && acts.contains(&tid.0) {
                 Some((actor.0 as usize, *state))
             } else {
                 None

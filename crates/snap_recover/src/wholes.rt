@@ -1,48 +1,82 @@
-ghost use Rattle.std.specs.Prelude.{◌≡◌, ℕ, ◌<◌, List, ◌∷◌, ◌++◌, length, MatchOption, MatchResult, IfOk};
+ghost use Rattle.std.specs.Prelude.{◌≡◌, ℕ, ◌%◌, ◌<◌, List, ◌∷◌, ◌++◌, length, MatchOption, MatchResult, IfOk};
 ghost use Rattle.std.specs.List.{AllByRecursion};
 ghost use Rattle.std.specs.List.Sorted.{IsStrictlySortedBy};
 ghost use Rattle.std.specs.Ordering.{nat_cmp};
 ghost use Rattle.snap_base.specs.declared.ids.ActorId.{ActorId};
-ghost use Rattle.txn_records.specs.Records.{key};
 ghost use Rattle.txn_records.specs.declared.records.Record.{Record};
-ghost use Rattle.txn_records.specs.declared.records.Record.TheVariants.{BatchInfo};
-ghost use Rattle.txn_records.specs.declared.keys.Key.TheVariants as keys;
-ghost use Rattle.snap_recover.specs.Logs.{IsLastOf};
-ghost use Rattle.snap_recover.specs.Opening.{IsIn};
-ghost use Rattle.snap_recover.specs.Passes.{bid_at, InPair, HasCommitted, HasAllCompleted, HasInfos, IsLastPlace, IsLackOf, IsFirstLackOf, IsKeptWhole, IsAllKept};
+ghost use Rattle.snap_recover.specs.declared.kinds.Kind.TheVariants as kinds;
+ghost use Rattle.snap_recover.specs.Logs.{Has, log_of};
+ghost use Rattle.snap_recover.specs.Passes.{info_key, part_key, commit_key, InPair, HasCommitted, HasAllParts, HasInfos, IsLastPlace, TellsActors, MemberWhole, IsLackOf, IsFirstLackOfKind, IsFirstLackOf, AllWhole, IsAllWhole};
 
-use crate::{Kept, RecoverNo};
+use crate::RecoverNo;
+use crate::index::Index;
+use crate::infos::actors_at;
+use crate::kinds::Kind;
 use snap_base::{ActorId, Bid, Memory, Sequence, Tid};
 use std::alloc::Global;
 use std::collections::{BTreeMap, BTreeSet};
 use txn_records::{Key, Record};
 
-/// What is kept of all batches that are in, in the order of their numbers, where nothing of them is lacking.
-pub(crate) fn keep_all(
+/// That nothing is lacking of what is in: of the batches, then of the undeclared transactions.
+pub(crate) fn check_all(
     alloc: Global,
     logs: &[Sequence<Record>],
-    committed: &BTreeSet<u64>,
-    completed: &BTreeSet<(u64, u16)>,
-    infos: &BTreeMap<u64, usize>,
-) -> Result<Sequence<Kept>, RecoverNo>
+    batches: &Index,
+    acts: &Index,
+) -> Result<(), RecoverNo>
     requires some { 0 < length logs.now }
     requires few { length logs.now < 256 }
-    requires committed { HasCommitted logs.now committed.now }
-    requires completed { HasAllCompleted logs.now completed.now }
-    requires infos { HasInfos logs.now infos.now }
-    ensures { MatchResult result (λ ks. IsAllKept logs.now ks) (λ no. IsFirstLackOf logs.now no) }
+    requires batches_committed { HasCommitted kinds.Batch logs.now batches.now.committed }
+    requires batches_parts { HasAllParts kinds.Batch logs.now batches.now.parts }
+    requires batches_infos { HasInfos kinds.Batch logs.now batches.now.infos }
+    requires acts_committed { HasCommitted kinds.Act logs.now acts.now.committed }
+    requires acts_parts { HasAllParts kinds.Act logs.now acts.now.parts }
+    requires acts_infos { HasInfos kinds.Act logs.now acts.now.infos }
+    ensures { MatchResult result (λ t. IsAllWhole logs.now) (λ no. IsFirstLackOf logs.now no) }
+{
+    check_kind(
+        alloc,
+        Kind::Batch,
+        logs,
+        &batches.committed,
+        &batches.parts,
+        &batches.infos,
+    )?;
+    check_kind(
+        alloc,
+        Kind::Act,
+        logs,
+        &acts.committed,
+        &acts.parts,
+        &acts.infos,
+    )
+}
+
+/// That nothing is lacking of what is in of one kind, by the numbers.
+fn check_kind(
+    alloc: Global,
+    kind: Kind,
+    logs: &[Sequence<Record>],
+    committed: &BTreeSet<u64>,
+    parts: &BTreeSet<(u64, u16)>,
+    infos: &BTreeMap<u64, usize>,
+) -> Result<(), RecoverNo>
+    requires some { 0 < length logs.now }
+    requires few { length logs.now < 256 }
+    requires committed { HasCommitted kind logs.now committed.now }
+    requires parts { HasAllParts kind logs.now parts.now }
+    requires infos { HasInfos kind logs.now infos.now }
+    ensures { MatchResult result (λ t. AllWhole kind logs.now) (λ no. IsFirstLackOfKind kind logs.now no) }
 {
     let numbers = ascending(alloc, committed)?;
-    let mut kept = Sequence::new(alloc);
     for i in 0..numbers.len() {
-        let batch = keep(alloc, logs, numbers[i], completed, infos)?;
-        kept.push(batch)?;
+        check(kind, logs, numbers[i], parts, infos)?;
     }
-    Ok(kept)
+    Ok(())
 }
 
 /// The numbers in a set, ascending.
-fn ascending(alloc: Global, set: &BTreeSet<u64>) -> Result<Vec<u64>, Memory>
+pub(crate) fn ascending(alloc: Global, set: &BTreeSet<u64>) -> Result<Vec<u64>, Memory>
     ensures all { IfOk result (λ numbers. numbers.items ≡ set.now.keys) }
     ensures ascend { IfOk result (λ numbers. IsStrictlySortedBy nat_cmp set.now.keys) }
 {
@@ -50,60 +84,63 @@ fn ascending(alloc: Global, set: &BTreeSet<u64>) -> Result<Vec<u64>, Memory>
     Ok(numbers)
 }
 
-/// What is kept of a batch, where nothing of it is lacking.
-fn keep(
-    alloc: Global,
+/// That nothing is lacking of one that is in.
+fn check(
+    kind: Kind,
     logs: &[Sequence<Record>],
-    bid: u64,
-    completed: &BTreeSet<(u64, u16)>,
+    number: u64,
+    parts: &BTreeSet<(u64, u16)>,
     infos: &BTreeMap<u64, usize>,
-) -> Result<Kept, RecoverNo>
+) -> Result<(), RecoverNo>
     requires some { 0 < length logs.now }
     requires few { length logs.now < 256 }
-    requires is_in { IsIn logs.now (bid_at bid) }
-    requires completed { HasAllCompleted logs.now completed.now }
-    requires infos { HasInfos logs.now infos.now }
-    ensures { MatchResult result (λ k. IsKeptWhole logs.now (bid_at bid) k) (λ no. IsLackOf logs.now (bid_at bid) no) }
+    requires is_in { Has (log_of logs.now number) (commit_key kind number) }
+    requires parts { HasAllParts kind logs.now parts.now }
+    requires infos { HasInfos kind logs.now infos.now }
+    ensures { MatchResult result (λ t. MemberWhole kind logs.now number) (λ no. IsLackOf kind logs.now number no) }
 {
     let count = logs.len() as u64;
-    let log = bid % count;
-    let Some(place) = infos.get(&bid) else {
+    let log = number % count;
+    let Some(place) = infos.get(&number) else {
         return Err(RecoverNo::Missing {
-            key: Key::Info(Bid(bid)),
+            key: key_of_info(kind, number),
             log: log as u8,
         });
     };
-    let (actors, tids) = info_at(logs[log as usize].as_slice(), *place, bid);
-    if let Some(actor) = first_lacking(actors.as_slice(), bid, completed) {
+    let actors = actors_at(kind, logs[log as usize].as_slice(), *place, number);
+    if let Some(actor) = first_lacking(actors.as_slice(), number, parts) {
         return Err(RecoverNo::Missing {
-            key: Key::Complete(Bid(bid), actor),
+            key: key_of_part(kind, number, actor),
             log: (actor.0 as u64 % count) as u8,
         });
     }
-    let tids = Sequence::from_vec(Vec::from_slice(alloc, tids.as_slice())?);
-    Ok(Kept::Batch {
-        bid: Bid(bid),
-        tids,
-    })
+    Ok(())
 }
 
-/// The actors and the transactions of the batch's last info, which stands at the place.
-fn info_at(rs: &[Record], place: usize, bid: u64) -> (&Sequence<ActorId>, &Sequence<Tid>)
-    requires place { IsLastPlace (keys.Info (bid_at bid)) rs.now place }
-    ensures { IsLastOf (λ r. key r ≡ keys.Info (bid_at bid)) rs.now (BatchInfo (bid_at bid) result.0.now result.1.now) }
+fn key_of_info(kind: Kind, number: u64) -> Key
+    ensures { result ≡ info_key kind number }
 {
-    match &rs[place] {
-        Record::BatchInfo { actors, tids, .. } => (actors, tids),
-        _ => unreachable!(),
+    match kind {
+        Kind::Batch => Key::Info(Bid(number)),
+        Kind::Act => Key::Act(Tid(number)),
     }
 }
 
-/// The first of the actors that has not completed the batch.
-fn first_lacking(actors: &[ActorId], bid: u64, completed: &BTreeSet<(u64, u16)>) -> Option<ActorId>
-    ensures { MatchOption result (AllByRecursion (λ a. InPair completed.now (bid, a.0)) actors.now) (λ a. (front behind : List ActorId) × (actors.now ≡ front ++ a ∷ behind) × AllByRecursion (λ b. InPair completed.now (bid, b.0)) front × ¬ InPair completed.now (bid, a.0)) }
+fn key_of_part(kind: Kind, number: u64, actor: ActorId) -> Key
+    ensures { result ≡ part_key kind (number, actor.0) }
+{
+    match kind {
+        Kind::Batch => Key::Complete(Bid(number), actor),
+        Kind::Act => Key::Prepare(Tid(number), actor),
+    }
+}
+
+/// The first of the actors that has not done its part.
+fn first_lacking(actors: &[ActorId], number: u64, parts: &BTreeSet<(u64, u16)>) -> Option<ActorId>
+    ensures { MatchOption result (AllByRecursion (λ a. InPair parts.now (number, a.0)) actors.now) (λ a. (front behind : List ActorId) × (actors.now ≡ front ++ a ∷ behind) × AllByRecursion (λ b. InPair parts.now (number, b.0)) front × ¬ InPair parts.now (number, a.0)) }
 {
     for actor in actors {
-        if !completed.contains(&(bid, actor.0)) {
+        if !parts.contains(&(number, actor.0)) {
             return Some(*actor);
         }
     }

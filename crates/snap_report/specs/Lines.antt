@@ -1,5 +1,5 @@
 -- The lines of the output, byte for byte. A line ends with a line feed.
-use Rattle.std.specs.Prelude.{ℕ, zero, suc, ℤ, pos, negsuc, Bool, true, false, if◌then◌else◌, List, [], ◌∷◌, ◌++◌, length, codes}
+use Rattle.std.specs.Prelude.{ℕ, zero, suc, ℤ, pos, negsuc, Bool, true, false, if◌then◌else◌, List, [], ◌∷◌, ◌++◌, codes, count_by}
 use Rattle.std.specs.List.{flat_map}
 use Rattle.std.specs.Fmt.{decimal, signed_decimal}
 use Rattle.snap_base.specs.declared.verdicts.Verdict.{Verdict}
@@ -14,6 +14,8 @@ use Rattle.work_text.specs.declared.faults.ProgramCause.TheVariants as program
 use Rattle.work_text.specs.declared.faults.WorkCause.{WorkCause}
 use Rattle.work_text.specs.declared.faults.WorkCause.TheVariants as work
 use Rattle.snap_recover.specs.declared.openings.Opening.{Opening}
+use Rattle.snap_recover.specs.declared.openings.Kept.{Kept}
+use Rattle.snap_recover.specs.declared.openings.Kept.TheVariants as kept
 use Rattle.snap_recover.specs.declared.causes.LogCause.{LogCause}
 use Rattle.snap_recover.specs.declared.causes.LogCause.TheVariants as cause
 use Rattle.snap_report.specs.declared.statuses.Status.{Status}
@@ -58,11 +60,19 @@ abbrev pub end_text : ℕ → ℕ → ℕ → List ℕ
 end_text committed aborted batches =
     codes "end committed " ++ (decimal committed ++ (codes " aborted " ++ (decimal aborted ++ (codes " batches " ++ (decimal batches ++ line_end)))))
 
--- what logs recover to; nothing commits outside of batches yet
+abbrev pub is_batch : Kept → Bool
+is_batch (kept.Batch bid tids) = true
+is_batch (kept.Act tid m c) = false
+
+abbrev pub is_act : Kept → Bool
+is_act (kept.Batch bid tids) = false
+is_act (kept.Act tid m c) = true
+
+-- what logs recover to
 abbrev pub recovered_text : Opening → List ℕ
 recovered_text o =
-    codes "recovered batches " ++ (decimal (length o.committed) ++ (codes " acts 0 next " ++ (decimal o.next_tid.0
-    ++ (codes " " ++ (decimal o.next_bid.0 ++ (codes " " ++ (decimal o.next_c ++ line_end)))))))
+    codes "recovered batches " ++ (decimal (count_by is_batch o.committed) ++ (codes " acts " ++ (decimal (count_by is_act o.committed)
+    ++ (codes " next " ++ (decimal o.next_tid.0 ++ (codes " " ++ (decimal o.next_bid.0 ++ (codes " " ++ (decimal o.next_c ++ line_end)))))))))
 
 -- ---- the status
 

@@ -1,8 +1,8 @@
-ghost use Rattle.std.specs.Prelude.{◌≡◌, ◌<◌, ◌≤◌, IfOk, string_bytes, length, take};
-ghost use Rattle.snap_report.specs.Lines.{reply_text, actor_text, end_text, recovered_text, shown_fields};
+ghost use Rattle.std.specs.Prelude.{◌≡◌, ◌<◌, ◌≤◌, IfOk, string_bytes, length, take, count_by};
+ghost use Rattle.snap_report.specs.Lines.{reply_text, actor_text, end_text, recovered_text, shown_fields, is_batch, is_act};
 
 use snap_base::{ActorId, Memory, State, TxNo, Verdict};
-use snap_recover::Opening;
+use snap_recover::{Kept, Opening};
 use std::alloc::Global;
 use std::fmt::Write;
 
@@ -55,7 +55,38 @@ pub fn end_line(alloc: Global, committed: u32, aborted: u32, batches: u32) -> Re
 pub fn recovered_line(alloc: Global, opening: &Opening) -> Result<String, Memory>
     ensures { IfOk result (λ s. string_bytes s ≡ recovered_text opening.now) }
 {
-    let batches = opening.committed.len();
+    let committed = opening.committed.as_slice();
+    let (batches, acts) = (count_batches(committed), count_acts(committed));
     let (tid, bid, c) = (opening.next_tid, opening.next_bid, opening.next_c);
-    Ok(format!(in alloc; "recovered batches {batches} acts 0 next {tid} {bid} {c}\n")?)
+    Ok(format!(in alloc; "recovered batches {batches} acts {acts} next {tid} {bid} {c}\n")?)
+}
+
+fn count_batches(committed: &[Kept]) -> usize
+    ensures { result ≡ count_by is_batch committed.now }
+{
+    committed.iter().filter(|kept| is_batch(kept)).count()
+}
+
+fn count_acts(committed: &[Kept]) -> usize
+    ensures { result ≡ count_by is_act committed.now }
+{
+    committed.iter().filter(|kept| is_act(kept)).count()
+}
+
+fn is_batch(kept: &Kept) -> bool
+    ensures { result ≡ is_batch kept.now }
+{
+    match kept {
+        Kept::Batch { .. } => true,
+        Kept::Act { .. } => false,
+    }
+}
+
+fn is_act(kept: &Kept) -> bool
+    ensures { result ≡ is_act kept.now }
+{
+    match kept {
+        Kept::Batch { .. } => false,
+        Kept::Act { .. } => true,
+    }
 }

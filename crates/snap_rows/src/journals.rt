@@ -1,8 +1,9 @@
 //! Logs as rows spell them. An empty word is an empty file, and `=` with hexadecimal digits a file of these bytes. Else
 //! groups stand apart by `;` and their records by `,`; `-` and a number at the end cuts so many bytes off. A record is
 //! `G2:7.8_9` (Genesis of two logs, actors with first fields 7, and 8 and 9), `I4:0.1:5` (batch 4 of actors 0 and 1 with
-//! transaction 5), `C4:1:9` (actor 1 completes it with first field 9), `K4` (its commit), or `x` with hexadecimal
-//! digits, which is an item of these bytes.
+//! transaction 5), `C4:1:9` (actor 1 completes it with first field 9), `K4` (its commit), `P7:1:9` (undeclared
+//! transaction 7 leaves actor 1 with first field 9), `A7:4:2:0.1` (its commit, behind batch 4, with number 2, on actors
+//! 0 and 1), or `x` with hexadecimal digits, which is an item of these bytes.
 
 ghost use Rattle.std.specs.Prelude.{◌<◌};
 
@@ -71,7 +72,24 @@ fn push_record(item: &mut Vec<u8>, record: &str) -> Result<(), Memory> {
     if let Some(info) = record.strip_prefix("I") {
         return push_info(item, info);
     }
-    push_complete(item, record.strip_prefix("C").unwrap_or(""))
+    if let Some(act) = record.strip_prefix("A") {
+        return push_act(item, act);
+    }
+    if let Some(prepare) = record.strip_prefix("P") {
+        return push_part(item, 5, prepare);
+    }
+    push_part(item, 3, record.strip_prefix("C").unwrap_or(""))
+}
+
+fn push_act(item: &mut Vec<u8>, act: &str) -> Result<(), Memory> {
+    let (tid, rest) = act.split_once(':').unwrap_or(("", ""));
+    let (m, rest) = rest.split_once(':').unwrap_or(("", ""));
+    let (c, actors) = rest.split_once(':').unwrap_or(("", ""));
+    item.push(6)?;
+    push_long(item, tid)?;
+    push_long(item, m)?;
+    push_long(item, c)?;
+    push_actors(item, actors)
 }
 
 fn push_info(item: &mut Vec<u8>, info: &str) -> Result<(), Memory> {
@@ -79,10 +97,7 @@ fn push_info(item: &mut Vec<u8>, info: &str) -> Result<(), Memory> {
     let (actors, tids) = rest.split_once(':').unwrap_or(("", ""));
     item.push(2)?;
     push_long(item, bid)?;
-    push_count(item, actors)?;
-    for actor in actors.split('.') {
-        push_short(item, actor)?;
-    }
+    push_actors(item, actors)?;
     push_count(item, tids)?;
     for tid in tids.split('.') {
         push_long(item, tid)?;
@@ -90,11 +105,20 @@ fn push_info(item: &mut Vec<u8>, info: &str) -> Result<(), Memory> {
     Ok(())
 }
 
-fn push_complete(item: &mut Vec<u8>, complete: &str) -> Result<(), Memory> {
-    let (bid, rest) = complete.split_once(':').unwrap_or(("", ""));
+fn push_actors(item: &mut Vec<u8>, actors: &str) -> Result<(), Memory> {
+    push_count(item, actors)?;
+    for actor in actors.split('.') {
+        push_short(item, actor)?;
+    }
+    Ok(())
+}
+
+/// What an actor did for a batch or an undeclared transaction.
+fn push_part(item: &mut Vec<u8>, tag: u8, part: &str) -> Result<(), Memory> {
+    let (number, rest) = part.split_once(':').unwrap_or(("", ""));
     let (actor, state) = rest.split_once(':').unwrap_or(("", ""));
-    item.push(3)?;
-    push_long(item, bid)?;
+    item.push(tag)?;
+    push_long(item, number)?;
     push_short(item, actor)?;
     push_state(item, state)
 }

@@ -26,6 +26,16 @@ const RECOVERIES: &str = "\
     G1:1;C4611686018427387905:0:0||||Logs { log: 0, offset: 0, cause: Range { key: Complete(Bid(4611686018427387905), ActorId(0)) } }||1.0.0.0@\
     G1:1.2;K1||||Logs { log: 0, offset: 0, cause: Missing { key: Info(Bid(1)) } }||1.0.0.0@\
     G1:1.2;K1;C1:5:0||||Logs { log: 0, offset: 0, cause: Range { key: Complete(Bid(1), ActorId(5)) } }||1.0.0.0@\
+    G1:100;P1:0:105||||Done|actor 0 100/recovered batches 0 acts 0 next 2 1 1/|1.0.0.0@\
+    G1:100;P1:0:105;A1:0:1:0||||Done|actor 0 105/recovered batches 0 acts 1 next 2 1 2/|1.0.0.0@\
+    G1:1;I1:0:1,C1:0:5;K1;P2:0:6;A2:1:1:0;I2:0:3,C2:0:9;K2||||Done|actor 0 9/recovered batches 2 acts 1 next 4 3 2/|1.0.0.0@\
+    G1:1;I1:0:1,C1:0:5;K1;P2:0:6;A2:4:7:0;I2:0:3,C2:0:9||||Done|actor 0 6/recovered batches 1 acts 1 next 4 5 8/|1.0.0.0@\
+    G1:1.2;P3:0:7;A3:2:5:0.1||||Logs { log: 0, offset: 0, cause: Missing { key: Prepare(Tid(3), ActorId(1)) } }||1.0.0.0@\
+    G1:1.2;A1:0:1:0;K2||||Logs { log: 0, offset: 0, cause: Missing { key: Info(Bid(2)) } }||1.0.0.0@\
+    G1:1;A1:0:4611686018427387905:0||||Logs { log: 0, offset: 0, cause: Range { key: Act(Tid(1)) } }||1.0.0.0@\
+    G1:1;P1:3:0||||Logs { log: 0, offset: 0, cause: Range { key: Prepare(Tid(1), ActorId(3)) } }||1.0.0.0@\
+    G2:1.2;P1:0:5|A1:0:1:0.1;P1:1:6|||Done|actor 0 5/actor 1 6/recovered batches 0 acts 1 next 2 1 2/|1.1.0.0@\
+    G2:1.2;P1:0:5;P1:1:6|A1:0:1:0.1|||Logs { log: 1, offset: 0, cause: Missing { key: Prepare(Tid(1), ActorId(1)) } }||1.1.0.0@\
     G2:100||||Done|actor 0 100/recovered batches 0 acts 0 next 1 1 1/|1.2.0.0@\
     G2:1.2;C1:0:5;K3|I1:0.1:1;C1:1:6;K1|||Done|actor 0 5/actor 1 6/recovered batches 1 acts 0 next 2 4 1/|1.1.0.0@\
     G2:1.2;C1:0:5;I2:1:2;K2|I1:0:1;K1;C2:1:6|=666f726569676e2066696c65||Done|actor 0 5/actor 1 6/recovered batches 2 acts 0 next 3 3 1/|1.1.0.0@\

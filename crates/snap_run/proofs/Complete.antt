@@ -20,7 +20,7 @@ use Rattle.snap_report.specs.declared.statuses.Status.{Status}
 use Rattle.snap_report.specs.declared.statuses.Status.TheVariants as status
 use Rattle.work_text.specs.Works.{Work}
 use Rattle.work_text.specs.declared.faults.WorkFault.{WorkFault}
-use Rattle.work_text.specs.Built.{IsBuilt, IsFirstFault}
+use Rattle.work_text.specs.Built.{IsBuilt, IsFirstWorkFault}
 use Rattle.log_opening.specs.Found.{IsRecoveryCause}
 use Rattle.run_opening.specs.Begins.{IsUnspent, IsFirstSpent, GoesOn, Begins, IsFieldDifference, IsDifference, IsCause, IsRefusedLog}
 use Rattle.log_opening.specs.Devices.{device_at}
@@ -36,7 +36,7 @@ NeverBoth = (logs : List (List Record)) (no : RecoverNo) (o : Opening) → no �
 
 -- what the law fault_or_work of work_text says
 abbrev pub FaultOrWork : Type 0
-FaultOrWork = (text : List ℕ) (f : WorkFault) (w : Work) → IsFirstFault text f → ¬ IsBuilt text w
+FaultOrWork = (text : List ℕ) (f : WorkFault) (w : Work) → IsFirstWorkFault text f → ¬ IsBuilt text w
 
 -- ---- nothing differs from itself
 
@@ -128,7 +128,7 @@ run_completed laws one never apart u input h status.OutFault t a = absurd (t.sin
 run_completed laws one never apart u input h (status.LogFault log) t a = absurd (t.device a.2)
 run_completed laws one never apart u input h (status.Usage place) t a = absurd a
 run_completed laws one never apart u input h (status.Input line e) t a =
-    let x = subst (λ o. IfSome o (λ text. IsFirstFault text (record { line = line; cause = e }))) t.known a.0.1 in absurd (apart input (record { line = line; cause = e }) t.some.0 x t.some.1)
+    let x = subst (λ o. IfSome o (λ text. IsFirstWorkFault text (record { line = line; cause = e }))) t.known a.0.1 in absurd (apart input (record { line = line; cause = e }) t.some.0 x t.some.1)
 run_completed laws one never apart u input h (status.Logs log offset c) t a =
     let x = subst (λ o. IfSome o (λ text. (w : Work) × IsBuilt text w × IsWorkAnswer w (device_at u.devices_before 0) (device_at u.devices_after 0) u.writing (status.Logs log offset c))) t.known a.0.1 in
     let b = t.begins x.0 x.1 in

@@ -11,9 +11,9 @@ use Rattle.work_text.specs.declared.faults.Limit.TheVariants as limit
 use Rattle.work_text.specs.declared.faults.WorkCause.TheVariants as cause
 use Rattle.work_text.specs.declared.faults.WorkFault.{WorkFault}
 use Rattle.work_text.specs.Works.{Work}
-use Rattle.work_text.specs.Kept.{IsKept, IsOneBatch}
+use Rattle.work_text.specs.Kept.{KeepsLimits, IsOneBatch}
 use Rattle.work_text.specs.Reads.{Laid, Reads}
-use Rattle.work_text.specs.Built.{IsBuilt, IsFirstFault}
+use Rattle.work_text.specs.Built.{IsBuilt, IsFirstWorkFault}
 use Rattle.snap_run.specs.Uses.{Reading}
 use Rattle.snap_run.specs.Runs.{IsRunnable}
 use Rattle.snap_run.specs.Answers.{ReadsEnough, OfText}
@@ -24,7 +24,7 @@ are_states [] h = tt
 are_states (s ∷ states) h = (record { len = h.0.fields; fields = h.0.values }, are_states states h.1)
 
 -- a work that a text stands for can be run
-pub runnable : (w : Work) → IsKept w → IsOneBatch w → IsRunnable w
+pub runnable : (w : Work) → KeepsLimits w → IsOneBatch w → IsRunnable w
 runnable w is one = record {
   transactions = is.transactions;
   pacts = one.kinds;
@@ -43,17 +43,17 @@ too_long text r long (inr (inl h)) = absurd (omega (arith, h.0, long))
 too_long text r long (inr (inr h)) = absurd (omega (arith, h.0, long))
 
 -- two texts that are too long have the same first fault
-long_fault : (text other : List ℕ) (f : WorkFault) → 8388608 < length text → 8388608 < length other → IsFirstFault text f → IsFirstFault other f
+long_fault : (text other : List ℕ) (f : WorkFault) → 8388608 < length text → 8388608 < length other → IsFirstWorkFault text f → IsFirstWorkFault other f
 long_fault text other f long longer (inl h) = inl (inl (longer, too_long text (Err f) long h))
 long_fault text other f long longer (inr h) = let wrong = too_long text (Ok h.0) long h.1 in cc
 
 -- what was read has this first fault, and so has the input, of which it is all, or too much
 pub fault_of_input : (old new : Option (List ℕ)) (bytes : List ℕ) (f : WorkFault) → Consumes old new bytes → (length bytes ≤ 8388608 → IsAtEnd new)
-    → IsFirstFault bytes f → IfSome old (λ input. IsFirstFault input f)
+    → IsFirstWorkFault bytes f → IfSome old (λ input. IsFirstWorkFault input f)
 fault_of_input None new bytes f moved whole h = tt
 fault_of_input (Some xs) None bytes f moved whole h = absurd moved
 fault_of_input (Some xs) (Some ys) bytes f moved whole h = elim (cases_lt 8388608 (length bytes)) [
-  | inr short ↦ subst (λ t. IsFirstFault t f) (sym (moved ∙ ap (λ l. bytes ++ l) (whole short) ∙ append-nil bytes)) h
+  | inr short ↦ subst (λ t. IsFirstWorkFault t f) (sym (moved ∙ ap (λ l. bytes ++ l) (whole short) ∙ append-nil bytes)) h
   | inl long ↦ long_fault bytes xs f long (omega (arith, ap length moved, length-append bytes ys)) h
 ]
 

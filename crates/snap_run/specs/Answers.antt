@@ -9,7 +9,7 @@ use Rattle.snap_recover.specs.declared.openings.Opening.{Opening}
 use Rattle.snap_report.specs.declared.statuses.Status.{Status}
 use Rattle.snap_report.specs.declared.statuses.Status.TheVariants as status
 use Rattle.work_text.specs.Works.{Work}
-use Rattle.work_text.specs.Built.{IsBuilt, IsFirstFault}
+use Rattle.work_text.specs.Built.{IsBuilt, IsFirstWorkFault}
 use Rattle.run_opening.specs.Begins.{Begins}
 use Rattle.run_batch.specs.Report.{Fails}
 use Rattle.snap_run.specs.Words.{IsRun, IsRecover, IsUsageFault}
@@ -32,7 +32,7 @@ OfWork u s = OfText u.reading (λ w. IsWorkAnswer w (device_at u.devices_before 
 
 -- what reading and parsing may answer in place of a work; a text that is refused is told with its first fault
 abbrev pub IsInputAnswer : Reading → Status → Type 0
-IsInputAnswer r (status.Input line cause) = ReadsEnough r × IfSome r.left_before (λ input. IsFirstFault input (record { line = line; cause = cause }))
+IsInputAnswer r (status.Input line cause) = ReadsEnough r × IfSome r.left_before (λ input. IsFirstWorkFault input (record { line = line; cause = cause }))
 IsInputAnswer r status.Memory = Unit {0}
 IsInputAnswer r status.ReadFault = Rose r.faults_before r.faults_after
 IsInputAnswer r status.Done = ⊥

@@ -8,7 +8,7 @@ use Rattle.txn_records.specs.declared.numbers.Stop.{Stop}
 use Rattle.txn_records.specs.Records.{IsState, state_bytes, states_bytes, actors_bytes, tids_bytes}
 use Rattle.txn_records.specs.Stops.{Fails, Any, Nil, Seq}
 use Rattle.txn_records.specs.Numbers.{Between}
-use Rattle.txn_records.specs.Texts.{one_byte, AreStates, AreActors, AreTids, Count, Number, Actor, GenesisTexts, InfoTexts, CompleteTexts, CommitTexts}
+use Rattle.txn_records.specs.Texts.{one_byte, AreStates, AreActors, AreTids, Count, FewCount, Number, Actor, GenesisTexts, InfoTexts, CompleteTexts, CommitTexts, ActTexts}
 use Rattle.txn_records.proofs.OneRecord.{SpelledApart, apart_through, apart16, apart64, Below, lists_apart, actors_apart, tids_apart, states_apart, actor_bytes, tid_bytes, IsActor, IsTid, are_actors, are_tids}
 use Rattle.txn_records.proofs.Digits.{bytes_apart}
 use Rattle.txn_records.proofs.Lists.{copies, are_copies, row, row_rises, fails_first, fails_after}
@@ -23,6 +23,9 @@ actor_apart = apart_through (Between 0 65535) (Below (2 ^ 16)) (λ (n : ℕ). n)
 
 count_apart : SpelledApart (Between 1 256) (to_be_bytes w16)
 count_apart = apart_through (Between 1 256) (Below (2 ^ 16)) (λ (n : ℕ). n) (to_be_bytes w16) (λ a p. omega (arith, p)) (λ a b p q e. e) apart16
+
+few_apart : SpelledApart (Between 1 16) (to_be_bytes w16)
+few_apart = apart_through (Between 1 16) (Below (2 ^ 16)) (λ (n : ℕ). n) (to_be_bytes w16) (λ a p. omega (arith, p)) (λ a b p q e. e) apart16
 
 so_many_states : (n : ℕ) → SpelledApart (AreStates n) states_bytes
 so_many_states n = record { apart = λ a b x y p q e. lists_apart IsState state_bytes states_apart a b x y p.1 q.1 (p.0 ∙ sym q.0) e }
@@ -55,6 +58,18 @@ GenesisStates n = Seq (AreStates n) states_bytes (λ xs. Nil)
 
 abbrev pub CompleteState : ℕ → List ℕ → Type 0
 CompleteState n = Seq IsState state_bytes (λ s. Nil)
+
+abbrev pub ActActors : ℕ → List ℕ → Type 0
+ActActors n = Seq (AreActors n) actors_bytes (λ xs. Nil)
+
+abbrev pub ActCount : List ℕ → Type 0
+ActCount = FewCount ActActors
+
+abbrev pub ActNumber : List ℕ → Type 0
+ActNumber = Number (λ c. ActCount)
+
+abbrev pub ActBatch : List ℕ → Type 0
+ActBatch = Number (λ m. ActNumber)
 
 some_state : (s : State) × IsState s
 some_state =
@@ -89,6 +104,23 @@ state_some n = seq_some IsState state_bytes (λ s. Nil) some_state.0 some_state.
 
 actor_some : Some (Actor CompleteState)
 actor_some = seq_some (Between 0 65535) (to_be_bytes w16) CompleteState 0 (omega arith, omega arith) (state_some 0)
+
+act_actors_some : (n : ℕ) → Between 1 16 n → Some (ActActors n)
+act_actors_some n p =
+    let make : ℕ → ActorId = λ m. let t : ActorId = record { 0 = m } in t in
+    seq_some (AreActors n) actors_bytes (λ xs. Nil) (row make 0 n) (row_rises (λ (t : ActorId). t.0) make (λ m. refl) 0 (2 ^ 16) n (omega (arith, p))) nil_some
+
+act_count_some : Some ActCount
+act_count_some = seq_some (Between 1 16) (to_be_bytes w16) ActActors 1 (omega arith, omega arith) (act_actors_some 1 (omega arith, omega arith))
+
+number_some : (F : List ℕ → Type 0) → Some F → Some (Number (λ n. F))
+number_some F s = seq_some (Between 0 18446744073709551615) (to_be_bytes w64) (λ n. F) 0 (omega arith, omega arith) s
+
+act_number_some : Some ActNumber
+act_number_some = number_some ActCount act_count_some
+
+act_batch_some : Some ActBatch
+act_batch_some = number_some ActNumber act_number_some
 
 -- ---- BatchCommit
 
@@ -149,6 +181,44 @@ info_tids n bytes stop s = fails_first (AreTids n) tids_bytes (λ xs. Nil) bytes
 
 pub info_end : (n : ℕ) (xs : List Tid) (bytes rest : List ℕ) (stop : Stop) → AreTids n xs × (bytes ≡ tids_bytes xs ++ rest) → Fails Nil rest stop → Fails (InfoTids n) bytes stop
 info_end n xs bytes rest stop p s = fails_after (AreTids n) tids_bytes (λ xs. Nil) (so_many_tids n) xs bytes rest stop p.0 p.1 s
+
+-- ---- ActCommit
+
+number_fails : (F : List ℕ → Type 0) → Some F → (bytes : List ℕ) (stop : Stop) → Fails (Number (λ n. Any)) bytes stop → Fails (Number (λ n. F)) bytes stop
+number_fails F some bytes stop s = fails_first (Between 0 18446744073709551615) (to_be_bytes w64) (λ n. F) bytes stop (λ n p. some) s
+
+behind_number : (F : List ℕ → Type 0) (n : ℕ) (bytes rest : List ℕ) (stop : Stop) → Between 0 18446744073709551615 n × (bytes ≡ to_be_bytes w64 n ++ rest) → Fails F rest stop → Fails (Number (λ n. F)) bytes stop
+behind_number F n bytes rest stop p s = fails_after (Between 0 18446744073709551615) (to_be_bytes w64) (λ n. F) number_apart n bytes rest stop p.0 p.1 s
+
+pub act_tid : (bytes : List ℕ) (stop : Stop) → Fails (Number (λ n. Any)) bytes stop → Fails ActTexts bytes stop
+act_tid bytes stop s = number_fails ActBatch act_batch_some bytes stop s
+
+pub behind_act_tid : (n : ℕ) (bytes rest : List ℕ) (stop : Stop) → Between 0 18446744073709551615 n × (bytes ≡ to_be_bytes w64 n ++ rest) → Fails ActBatch rest stop → Fails ActTexts bytes stop
+behind_act_tid n bytes rest stop p s = behind_number ActBatch n bytes rest stop p s
+
+pub act_batch : (bytes : List ℕ) (stop : Stop) → Fails (Number (λ n. Any)) bytes stop → Fails ActBatch bytes stop
+act_batch bytes stop s = number_fails ActNumber act_number_some bytes stop s
+
+pub behind_act_batch : (n : ℕ) (bytes rest : List ℕ) (stop : Stop) → Between 0 18446744073709551615 n × (bytes ≡ to_be_bytes w64 n ++ rest) → Fails ActNumber rest stop → Fails ActBatch bytes stop
+behind_act_batch n bytes rest stop p s = behind_number ActNumber n bytes rest stop p s
+
+pub act_number : (bytes : List ℕ) (stop : Stop) → Fails (Number (λ n. Any)) bytes stop → Fails ActNumber bytes stop
+act_number bytes stop s = number_fails ActCount act_count_some bytes stop s
+
+pub behind_act_number : (n : ℕ) (bytes rest : List ℕ) (stop : Stop) → Between 0 18446744073709551615 n × (bytes ≡ to_be_bytes w64 n ++ rest) → Fails ActCount rest stop → Fails ActNumber bytes stop
+behind_act_number n bytes rest stop p s = behind_number ActCount n bytes rest stop p s
+
+pub act_count : (bytes : List ℕ) (stop : Stop) → Fails (FewCount (λ n. Any)) bytes stop → Fails ActCount bytes stop
+act_count bytes stop s = fails_first (Between 1 16) (to_be_bytes w16) ActActors bytes stop act_actors_some s
+
+pub behind_act_count : (n : ℕ) (bytes rest : List ℕ) (stop : Stop) → Between 1 16 n × (bytes ≡ to_be_bytes w16 n ++ rest) → Fails (ActActors n) rest stop → Fails ActCount bytes stop
+behind_act_count n bytes rest stop p s = fails_after (Between 1 16) (to_be_bytes w16) ActActors few_apart n bytes rest stop p.0 p.1 s
+
+pub act_actors : (n : ℕ) (bytes : List ℕ) (stop : Stop) → Fails (Seq (AreActors n) actors_bytes (λ xs. Any)) bytes stop → Fails (ActActors n) bytes stop
+act_actors n bytes stop s = fails_first (AreActors n) actors_bytes (λ xs. Nil) bytes stop (λ xs p. nil_some) s
+
+pub act_end : (n : ℕ) (xs : List ActorId) (bytes rest : List ℕ) (stop : Stop) → AreActors n xs × (bytes ≡ actors_bytes xs ++ rest) → Fails Nil rest stop → Fails (ActActors n) bytes stop
+act_end n xs bytes rest stop p s = fails_after (AreActors n) actors_bytes (λ xs. Nil) (so_many_actors n) xs bytes rest stop p.0 p.1 s
 
 -- ---- Genesis
 

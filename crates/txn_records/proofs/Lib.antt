@@ -1,6 +1,7 @@
 pub mod Chains
 pub mod Digits
 pub mod FirstBad
+pub mod Joins
 pub mod Lists
 pub mod OneRecord
 pub mod Parts

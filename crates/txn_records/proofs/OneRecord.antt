@@ -11,8 +11,8 @@ use Rattle.snap_base.specs.declared.ids.Bid.{Bid}
 use Rattle.snap_base.specs.declared.ids.Tid.{Tid}
 use Rattle.snap_base.specs.declared.transactions.State.{State}
 use Rattle.txn_records.specs.declared.records.Record.{Record}
-use Rattle.txn_records.specs.declared.records.Record.TheVariants.{Genesis, BatchInfo, BatchComplete, BatchCommit}
-use Rattle.txn_records.specs.Records.{record_bytes, IsRecord, field_bytes, state_bytes, states_bytes, actors_bytes, tids_bytes, actor_numbers, tid_numbers, IsState, IsGenesis, IsInfo, IsComplete, IsCommit, Ascend}
+use Rattle.txn_records.specs.declared.records.Record.TheVariants.{Genesis, BatchInfo, BatchComplete, BatchCommit, ActPrepare, ActCommit}
+use Rattle.txn_records.specs.Records.{record_bytes, IsRecord, field_bytes, state_bytes, states_bytes, actors_bytes, tids_bytes, actor_numbers, tid_numbers, IsState, IsGenesis, IsInfo, IsComplete, IsCommit, IsPrepare, IsAct, Ascend}
 
 -- two fronts of one length in the same bytes are one
 pub same_front : (a x b y : List ℕ) → length a ≡ length b → a ++ x ≡ b ++ y → (a ≡ b) × (x ≡ y)
@@ -173,6 +173,26 @@ one_commit a b p q e =
     let s = same_front (4 ∷ []) (bid_bytes a) (4 ∷ []) (bid_bytes b) refl e in
     ap (λ (z : Bid). BatchCommit z) (one_of IsBid bid_bytes bids_apart a b p.bid_fits q.bid_fits s.1)
 
+one_prepare : (a b : Tid) (m n : ActorId) (x y : State) → IsPrepare a m x → IsPrepare b n y → record_bytes (ActPrepare a m x) ≡ record_bytes (ActPrepare b n y) → ActPrepare a m x ≡ ActPrepare b n y
+one_prepare a b m n x y p q e =
+    let s = same_front (5 ∷ []) (tid_bytes a ++ (actor_bytes m ++ state_bytes x)) (5 ∷ []) (tid_bytes b ++ (actor_bytes n ++ state_bytes y)) refl e in
+    let t = tids_apart.apart a b (actor_bytes m ++ state_bytes x) (actor_bytes n ++ state_bytes y) p.tid_fits q.tid_fits s.1 in
+    let u = actors_apart.apart m n (state_bytes x) (state_bytes y) p.actor_fits q.actor_fits t.1 in
+    let v = one_of IsState state_bytes states_apart x y p.is_state q.is_state u.1 in
+    ap (λ (z : Tid). ActPrepare z m x) t.0 ∙ ap (λ (z : ActorId). ActPrepare b z x) u.0 ∙ ap (λ (z : State). ActPrepare b n z) v
+
+one_act : (a b : Tid) (m n : Bid) (c d : ℕ) (xs ys : List ActorId) → IsAct a m c xs → IsAct b n d ys → record_bytes (ActCommit a m c xs) ≡ record_bytes (ActCommit b n d ys) → ActCommit a m c xs ≡ ActCommit b n d ys
+one_act a b m n c d xs ys p q e =
+    let xa : List ℕ = to_be_bytes w16 (length xs) ++ actors_bytes xs in
+    let ya : List ℕ = to_be_bytes w16 (length ys) ++ actors_bytes ys in
+    let s = same_front (6 ∷ []) (tid_bytes a ++ (bid_bytes m ++ (to_be_bytes w64 c ++ xa))) (6 ∷ []) (tid_bytes b ++ (bid_bytes n ++ (to_be_bytes w64 d ++ ya))) refl e in
+    let t = tids_apart.apart a b (bid_bytes m ++ (to_be_bytes w64 c ++ xa)) (bid_bytes n ++ (to_be_bytes w64 d ++ ya)) p.tid_fits q.tid_fits s.1 in
+    let u = bids_apart.apart m n (to_be_bytes w64 c ++ xa) (to_be_bytes w64 d ++ ya) p.m_fits q.m_fits t.1 in
+    let v = apart64.apart c d xa ya p.c_fits q.c_fits u.1 in
+    let w = apart16.apart (length xs) (length ys) (actors_bytes xs) (actors_bytes ys) (omega (arith, p.few)) (omega (arith, q.few)) v.1 in
+    let x = one_list IsActor actor_bytes actors_apart xs ys (are_actors 0 xs p.ascend) (are_actors 0 ys q.ascend) w.0 w.1 in
+    ap (λ (z : Tid). ActCommit z m c xs) t.0 ∙ ap (λ (z : Bid). ActCommit b z c xs) u.0 ∙ ap (λ (z : ℕ). ActCommit b n z xs) v.0 ∙ ap (λ (zs : List ActorId). ActCommit b n d zs) x
+
 -- the first byte
 pub other_tag : {P : Type 0} (a b : ℕ) (x y : List ℕ) → a < b → a ∷ x ≡ b ∷ y → P
 other_tag a b x y lt e = absurd (omega (arith, ap (λ (z : List ℕ). get_or z 0 0) e))
@@ -181,19 +201,39 @@ pub other_tag_down : {P : Type 0} (a b : ℕ) (x y : List ℕ) → b < a → a �
 other_tag_down a b x y lt e = absurd (omega (arith, ap (λ (z : List ℕ). get_or z 0 0) e))
 
 pub one_record : (a b : Record) → IsRecord a → IsRecord b → record_bytes a ≡ record_bytes b → a ≡ b
-one_record (Genesis l xs) (Genesis m ys) p q e = one_genesis l m xs ys p q e
+one_record (Genesis l xs) (Genesis k ys) p q e = one_genesis l k xs ys p q e
 one_record (BatchInfo a xs ts) (BatchInfo b ys us) p q e = one_info a b xs ys ts us p q e
 one_record (BatchComplete a m x) (BatchComplete b n y) p q e = one_complete a b m n x y p q e
 one_record (BatchCommit a) (BatchCommit b) p q e = one_commit a b p q e
+one_record (ActPrepare a m x) (ActPrepare b n y) p q e = one_prepare a b m n x y p q e
+one_record (ActCommit a m c xs) (ActCommit b n d ys) p q e = one_act a b m n c d xs ys p q e
 one_record (Genesis l xs) (BatchInfo b ys us) p q e = other_tag 1 2 _ _ (omega arith) e
 one_record (Genesis l xs) (BatchComplete b n y) p q e = other_tag 1 3 _ _ (omega arith) e
 one_record (Genesis l xs) (BatchCommit b) p q e = other_tag 1 4 _ _ (omega arith) e
+one_record (Genesis l xs) (ActPrepare b n y) p q e = other_tag 1 5 _ _ (omega arith) e
+one_record (Genesis l xs) (ActCommit b n d ys) p q e = other_tag 1 6 _ _ (omega arith) e
 one_record (BatchInfo a xs ts) (Genesis k ys) p q e = other_tag_down 2 1 _ _ (omega arith) e
 one_record (BatchInfo a xs ts) (BatchComplete b n y) p q e = other_tag 2 3 _ _ (omega arith) e
 one_record (BatchInfo a xs ts) (BatchCommit b) p q e = other_tag 2 4 _ _ (omega arith) e
+one_record (BatchInfo a xs ts) (ActPrepare b n y) p q e = other_tag 2 5 _ _ (omega arith) e
+one_record (BatchInfo a xs ts) (ActCommit b n d ys) p q e = other_tag 2 6 _ _ (omega arith) e
 one_record (BatchComplete a m x) (Genesis k ys) p q e = other_tag_down 3 1 _ _ (omega arith) e
 one_record (BatchComplete a m x) (BatchInfo b ys us) p q e = other_tag_down 3 2 _ _ (omega arith) e
 one_record (BatchComplete a m x) (BatchCommit b) p q e = other_tag 3 4 _ _ (omega arith) e
+one_record (BatchComplete a m x) (ActPrepare b n y) p q e = other_tag 3 5 _ _ (omega arith) e
+one_record (BatchComplete a m x) (ActCommit b n d ys) p q e = other_tag 3 6 _ _ (omega arith) e
 one_record (BatchCommit a) (Genesis k ys) p q e = other_tag_down 4 1 _ _ (omega arith) e
 one_record (BatchCommit a) (BatchInfo b ys us) p q e = other_tag_down 4 2 _ _ (omega arith) e
 one_record (BatchCommit a) (BatchComplete b n y) p q e = other_tag_down 4 3 _ _ (omega arith) e
+one_record (BatchCommit a) (ActPrepare b n y) p q e = other_tag 4 5 _ _ (omega arith) e
+one_record (BatchCommit a) (ActCommit b n d ys) p q e = other_tag 4 6 _ _ (omega arith) e
+one_record (ActPrepare a m x) (Genesis k ys) p q e = other_tag_down 5 1 _ _ (omega arith) e
+one_record (ActPrepare a m x) (BatchInfo b ys us) p q e = other_tag_down 5 2 _ _ (omega arith) e
+one_record (ActPrepare a m x) (BatchComplete b n y) p q e = other_tag_down 5 3 _ _ (omega arith) e
+one_record (ActPrepare a m x) (BatchCommit b) p q e = other_tag_down 5 4 _ _ (omega arith) e
+one_record (ActPrepare a m x) (ActCommit b n d ys) p q e = other_tag 5 6 _ _ (omega arith) e
+one_record (ActCommit a m c xs) (Genesis k ys) p q e = other_tag_down 6 1 _ _ (omega arith) e
+one_record (ActCommit a m c xs) (BatchInfo b ys us) p q e = other_tag_down 6 2 _ _ (omega arith) e
+one_record (ActCommit a m c xs) (BatchComplete b n y) p q e = other_tag_down 6 3 _ _ (omega arith) e
+one_record (ActCommit a m c xs) (BatchCommit b) p q e = other_tag_down 6 4 _ _ (omega arith) e
+one_record (ActCommit a m c xs) (ActPrepare b n y) p q e = other_tag_down 6 5 _ _ (omega arith) e

@@ -9,8 +9,8 @@ use Rattle.snap_base.specs.declared.ids.Tid.{Tid}
 use Rattle.snap_base.specs.declared.transactions.State.{State}
 use Rattle.txn_records.specs.declared.limits.TheConstants.{LONGEST_RECORD}
 use Rattle.txn_records.specs.declared.records.Record.{Record}
-use Rattle.txn_records.specs.declared.records.Record.TheVariants.{Genesis, BatchInfo, BatchComplete, BatchCommit}
-use Rattle.txn_records.specs.Records.{field_bytes, state_bytes, states_bytes, actors_bytes, tids_bytes, genesis_bytes, info_bytes, complete_bytes, record_bytes, IsState, IsGenesis, IsInfo, IsRecord}
+use Rattle.txn_records.specs.declared.records.Record.TheVariants.{Genesis, BatchInfo, BatchComplete, BatchCommit, ActPrepare, ActCommit}
+use Rattle.txn_records.specs.Records.{field_bytes, state_bytes, states_bytes, actors_bytes, tids_bytes, genesis_bytes, info_bytes, complete_bytes, prepare_bytes, act_bytes, record_bytes, IsState, IsGenesis, IsInfo, IsAct, IsRecord}
 use Rattle.txn_records.specs.Stops.{Stops}
 use Rattle.txn_records.specs.Texts.{RecordTexts}
 
@@ -65,11 +65,24 @@ complete_size bid actor state is =
     let one = state_size state is in
     (omega (arith, all), omega (arith, all, one))
 
+prepare_size : (tid : Tid) (actor : ActorId) (state : State) → IsState state → IsSize (length (prepare_bytes tid actor state))
+prepare_size tid actor state is =
+    let all : length (prepare_bytes tid actor state) ≡ 11 + length (state_bytes state) = omega arith in
+    let one = state_size state is in
+    (omega (arith, all), omega (arith, all, one))
+
+act_size : (tid : Tid) (m : Bid) (c : ℕ) (actors : List ActorId) → IsAct tid m c actors → IsSize (length (act_bytes tid m c actors))
+act_size tid m c actors is =
+    let all : length (act_bytes tid m c actors) ≡ 27 + length (actors_bytes actors) = omega arith in
+    (omega (arith, all), omega (arith, all, actors_size actors, is.few))
+
 pub record_size : (r : Record) → IsRecord r → IsSize (length (record_bytes r))
 record_size (Genesis logs states) is = genesis_size logs states is
 record_size (BatchInfo bid actors tids) is = info_size bid actors tids is
 record_size (BatchComplete bid actor state) is = complete_size bid actor state is.is_state
 record_size (BatchCommit bid) is = (omega arith, omega arith)
+record_size (ActPrepare tid actor state) is = prepare_size tid actor state is.is_state
+record_size (ActCommit tid m c actors) is = act_size tid m c actors is
 
 -- ---- what goes on as a record does is no longer than one
 

@@ -4,16 +4,17 @@ use Rattle.std.specs.Int.{w16, w64, to_be_bytes}
 use Rattle.std.proofs.lemmas.List.{append-nil}
 use Rattle.snap_base.specs.declared.ids.ActorId.{ActorId}
 use Rattle.snap_base.specs.declared.ids.Bid.{Bid}
+use Rattle.snap_base.specs.declared.ids.Tid.{Tid}
 use Rattle.txn_records.specs.declared.records.Record.{Record}
-use Rattle.txn_records.specs.declared.records.Record.TheVariants.{Genesis, BatchInfo, BatchComplete, BatchCommit}
+use Rattle.txn_records.specs.declared.records.Record.TheVariants.{Genesis, BatchInfo, BatchComplete, BatchCommit, ActPrepare, ActCommit}
 use Rattle.txn_records.specs.declared.numbers.Stop.{Stop}
 use Rattle.txn_records.specs.declared.numbers.Stop.TheVariants.{Left, Memory}
 use Rattle.txn_records.specs.Records.{IsRecord, record_bytes, states_bytes, actors_bytes, tids_bytes, state_bytes}
-use Rattle.txn_records.specs.Stops.{Stops, Fails}
-use Rattle.txn_records.specs.Texts.{GenesisTexts, InfoTexts, CompleteTexts, CommitTexts, RecordTexts}
+use Rattle.txn_records.specs.Stops.{Stops, Fails, Nil, Seq}
+use Rattle.txn_records.specs.Texts.{AreActors, Number, GenesisTexts, InfoTexts, CompleteTexts, CommitTexts, PrepareTexts, ActTexts, RecordTexts}
 use Rattle.txn_records.proofs.OneRecord.{other_tag, other_tag_down}
 use Rattle.txn_records.proofs.Stopping.{stops_here}
-use Rattle.txn_records.proofs.Chains.{Some}
+use Rattle.txn_records.proofs.Chains.{Some, ActCount}
 
 tag_stops : (T : List ℕ → Type 0) (t : ℕ) (rest : List ℕ) (left : ℕ) → ((f : List ℕ) → T f → RecordTexts (t ∷ f)) → ((f : List ℕ) → RecordTexts (t ∷ f) → T f) → Stops T rest left → Stops RecordTexts (t ∷ rest) left
 tag_stops T t rest left there back s = record {
@@ -60,6 +61,8 @@ genesis_out f (Genesis l xs, p, e) =
 genesis_out f (BatchInfo a xs ts, p, e) = other_tag 1 2 _ _ (omega arith) e
 genesis_out f (BatchComplete a m x, p, e) = other_tag 1 3 _ _ (omega arith) e
 genesis_out f (BatchCommit a, p, e) = other_tag 1 4 _ _ (omega arith) e
+genesis_out f (ActPrepare a m x, p, e) = other_tag 1 5 _ _ (omega arith) e
+genesis_out f (ActCommit a m c xs, p, e) = other_tag 1 6 _ _ (omega arith) e
 
 pub info_in : (f : List ℕ) → InfoTexts f → RecordTexts (2 ∷ f)
 info_in f (b, g, p, (n, h, q, (xs, k, r, (m, i, v, (ts, j, w, nil, e5), e4), e3), e2), e1) =
@@ -94,6 +97,8 @@ info_out f (BatchInfo b xs ts, p, e) =
     )
 info_out f (BatchComplete a m x, p, e) = other_tag 2 3 _ _ (omega arith) e
 info_out f (BatchCommit a, p, e) = other_tag 2 4 _ _ (omega arith) e
+info_out f (ActPrepare a m x, p, e) = other_tag 2 5 _ _ (omega arith) e
+info_out f (ActCommit a m c xs, p, e) = other_tag 2 6 _ _ (omega arith) e
 
 pub complete_in : (f : List ℕ) → CompleteTexts f → RecordTexts (3 ∷ f)
 complete_in f (b, g, p, (a, h, q, (s, k, r, nil, e3), e2), e1) =
@@ -116,6 +121,8 @@ complete_out f (BatchComplete b a s, p, e) = (
   tail_of 3 f (to_be_bytes w64 b.0 ++ (to_be_bytes w16 a.0 ++ state_bytes s)) e,
 )
 complete_out f (BatchCommit a, p, e) = other_tag 3 4 _ _ (omega arith) e
+complete_out f (ActPrepare a m x, p, e) = other_tag 3 5 _ _ (omega arith) e
+complete_out f (ActCommit a m c xs, p, e) = other_tag 3 6 _ _ (omega arith) e
 
 pub commit_in : (f : List ℕ) → CommitTexts f → RecordTexts (4 ∷ f)
 commit_in f (b, g, p, nil, e) =
@@ -127,6 +134,60 @@ commit_out f (Genesis l xs, p, e) = other_tag_down 4 1 _ _ (omega arith) e
 commit_out f (BatchInfo a xs ts, p, e) = other_tag_down 4 2 _ _ (omega arith) e
 commit_out f (BatchComplete a m x, p, e) = other_tag_down 4 3 _ _ (omega arith) e
 commit_out f (BatchCommit b, p, e) = (b.0, [], (omega arith, omega (arith, p.bid_fits)), refl, tail_of 4 f (to_be_bytes w64 b.0) e ∙ sym (append-nil (to_be_bytes w64 b.0)))
+commit_out f (ActPrepare a m x, p, e) = other_tag 4 5 _ _ (omega arith) e
+commit_out f (ActCommit a m c xs, p, e) = other_tag 4 6 _ _ (omega arith) e
+
+pub prepare_in : (f : List ℕ) → PrepareTexts f → RecordTexts (5 ∷ f)
+prepare_in f (b, g, p, (a, h, q, (s, k, r, nil, e3), e2), e1) =
+    let tid : Tid = record { 0 = b } in
+    let actor : ActorId = record { 0 = a } in
+    let state : h ≡ state_bytes s = e3 ∙ ap (λ (z : List ℕ). state_bytes s ++ z) nil ∙ append-nil (state_bytes s) in (
+      ActPrepare tid actor s,
+      record { tid_fits = omega (arith, p); actor_fits = omega (arith, q); is_state = r },
+      ap (λ (z : List ℕ). 5 ∷ z) (e1 ∙ ap (λ (z : List ℕ). to_be_bytes w64 b ++ z) (e2 ∙ ap (λ (z : List ℕ). to_be_bytes w16 a ++ z) state)),
+    )
+
+pub prepare_out : (f : List ℕ) → RecordTexts (5 ∷ f) → PrepareTexts f
+prepare_out f (Genesis l xs, p, e) = other_tag_down 5 1 _ _ (omega arith) e
+prepare_out f (BatchInfo a xs ts, p, e) = other_tag_down 5 2 _ _ (omega arith) e
+prepare_out f (BatchComplete a m x, p, e) = other_tag_down 5 3 _ _ (omega arith) e
+prepare_out f (BatchCommit a, p, e) = other_tag_down 5 4 _ _ (omega arith) e
+prepare_out f (ActPrepare t a s, p, e) = (
+  t.0,
+  to_be_bytes w16 a.0 ++ state_bytes s,
+  (omega arith, omega (arith, p.tid_fits)),
+  (a.0, state_bytes s, (omega arith, omega (arith, p.actor_fits)), (s, [], p.is_state, refl, sym (append-nil (state_bytes s))), refl),
+  tail_of 5 f (to_be_bytes w64 t.0 ++ (to_be_bytes w16 a.0 ++ state_bytes s)) e,
+)
+prepare_out f (ActCommit a m c xs, p, e) = other_tag 5 6 _ _ (omega arith) e
+
+pub act_in : (f : List ℕ) → ActTexts f → RecordTexts (6 ∷ f)
+act_in f (t, g, p, (b, h, q, (c, i, r, (n, j, v, (xs, k, w, nil, e5), e4), e3), e2), e1) =
+    let tid : Tid = record { 0 = t } in
+    let bid : Bid = record { 0 = b } in
+    let actors : j ≡ actors_bytes xs = e5 ∙ ap (λ (z : List ℕ). actors_bytes xs ++ z) nil ∙ append-nil (actors_bytes xs) in
+    let counted : i ≡ to_be_bytes w16 (length xs) ++ actors_bytes xs = e4 ∙ ap (λ (z : List ℕ). to_be_bytes w16 n ++ z) actors ∙ ap (λ (z : ℕ). to_be_bytes w16 z ++ actors_bytes xs) (sym w.0) in
+    let numbered : g ≡ to_be_bytes w64 b ++ (to_be_bytes w64 c ++ (to_be_bytes w16 (length xs) ++ actors_bytes xs)) =
+    e2 ∙ ap (λ (z : List ℕ). to_be_bytes w64 b ++ z) (e3 ∙ ap (λ (z : List ℕ). to_be_bytes w64 c ++ z) counted) in (
+      ActCommit tid bid c xs,
+      record { tid_fits = omega (arith, p); m_fits = omega (arith, q); c_fits = omega (arith, r); some = omega (arith, v, w.0); few = omega (arith, v, w.0); ascend = w.1 },
+      ap (λ (z : List ℕ). 6 ∷ z) (e1 ∙ ap (λ (z : List ℕ). to_be_bytes w64 t ++ z) numbered),
+    )
+
+pub act_out : (f : List ℕ) → RecordTexts (6 ∷ f) → ActTexts f
+act_out f (Genesis l xs, p, e) = other_tag_down 6 1 _ _ (omega arith) e
+act_out f (BatchInfo a xs ts, p, e) = other_tag_down 6 2 _ _ (omega arith) e
+act_out f (BatchComplete a m x, p, e) = other_tag_down 6 3 _ _ (omega arith) e
+act_out f (BatchCommit a, p, e) = other_tag_down 6 4 _ _ (omega arith) e
+act_out f (ActPrepare a m x, p, e) = other_tag_down 6 5 _ _ (omega arith) e
+act_out f (ActCommit t m c xs, p, e) =
+    let xa : List ℕ = to_be_bytes w16 (length xs) ++ actors_bytes xs in
+    let xc : List ℕ = to_be_bytes w64 c ++ xa in
+    let xm : List ℕ = to_be_bytes w64 m.0 ++ xc in
+    let tail : f ≡ to_be_bytes w64 t.0 ++ xm = tail_of 6 f (to_be_bytes w64 t.0 ++ xm) e in
+    let listed : Seq (AreActors (length xs)) actors_bytes (λ ys. Nil) (actors_bytes xs) = (xs, [], (refl, p.ascend), refl, sym (append-nil (actors_bytes xs))) in
+    let numbered : Number (λ n. ActCount) xc = (c, xa, (omega arith, omega (arith, p.c_fits)), (length xs, actors_bytes xs, (p.some, p.few), listed, refl), refl) in
+    (t.0, xm, (omega arith, omega (arith, p.tid_fits)), (m.0, xc, (omega arith, omega (arith, p.m_fits)), numbered, refl), tail)
 
 -- ---- no tag
 
@@ -134,25 +195,29 @@ some_record : Some RecordTexts
 some_record = let b : Bid = record { 0 = 0 } in (record_bytes (BatchCommit b), (BatchCommit b, record { bid_fits = omega arith }, refl))
 
 abbrev IsTag : ℕ → Type 0
-IsTag t = (1 ≤ t) × (t ≤ 4)
+IsTag t = (1 ≤ t) × (t ≤ 6)
 
 tag_of : (r : Record) (c : ℕ) (y : List ℕ) → record_bytes r ≡ c ∷ y → IsTag c
 tag_of (Genesis l xs) c y e = let h = ap (λ (z : List ℕ). get_or z 0 0) e in (omega (arith, h), omega (arith, h))
 tag_of (BatchInfo a xs ts) c y e = let h = ap (λ (z : List ℕ). get_or z 0 0) e in (omega (arith, h), omega (arith, h))
 tag_of (BatchComplete a m x) c y e = let h = ap (λ (z : List ℕ). get_or z 0 0) e in (omega (arith, h), omega (arith, h))
 tag_of (BatchCommit a) c y e = let h = ap (λ (z : List ℕ). get_or z 0 0) e in (omega (arith, h), omega (arith, h))
+tag_of (ActPrepare a m x) c y e = let h = ap (λ (z : List ℕ). get_or z 0 0) e in (omega (arith, h), omega (arith, h))
+tag_of (ActCommit a m n xs) c y e = let h = ap (λ (z : List ℕ). get_or z 0 0) e in (omega (arith, h), omega (arith, h))
 
 not_empty : (r : Record) → record_bytes r ≢ []
 not_empty (Genesis l xs) e = cc
 not_empty (BatchInfo a xs ts) e = cc
 not_empty (BatchComplete a m x) e = cc
 not_empty (BatchCommit a) e = cc
+not_empty (ActPrepare a m x) e = cc
+not_empty (ActCommit a m c xs) e = cc
 
 pub nothing_stops : (bytes : List ℕ) → length bytes ≡ 0 → Stops RecordTexts bytes 0
 nothing_stops [] e = stops_here RecordTexts [] some_record (λ f y p h. (refl, λ z. not_empty p.0 (sym p.2 ∙ h ∙ z)))
 nothing_stops (b ∷ x) e = absurd (omega (arith, e))
 
-pub no_tag_stops : (b : ℕ) (bytes rest : List ℕ) → bytes ≡ b ∷ rest → b ≢ 1 → b ≢ 2 → b ≢ 3 → b ≢ 4 → Stops RecordTexts bytes (length bytes)
-no_tag_stops b bytes rest e n1 n2 n3 n4 =
-    let here : Stops RecordTexts (b ∷ rest) (length (b ∷ rest)) = stops_here RecordTexts (b ∷ rest) some_record (λ f y p h. let t = tag_of p.0 b y (sym p.2 ∙ h) in absurd (omega (arith, t, n1, n2, n3, n4))) in
+pub no_tag_stops : (b : ℕ) (bytes rest : List ℕ) → bytes ≡ b ∷ rest → b ≢ 1 → b ≢ 2 → b ≢ 3 → b ≢ 4 → b ≢ 5 → b ≢ 6 → Stops RecordTexts bytes (length bytes)
+no_tag_stops b bytes rest e n1 n2 n3 n4 n5 n6 =
+    let here : Stops RecordTexts (b ∷ rest) (length (b ∷ rest)) = stops_here RecordTexts (b ∷ rest) some_record (λ f y p h. let t = tag_of p.0 b y (sym p.2 ∙ h) in absurd (omega (arith, t, n1, n2, n3, n4, n5, n6))) in
     subst (λ (z : List ℕ). Stops RecordTexts z (length z)) (sym e) here

@@ -2,12 +2,14 @@
 use Rattle.std.specs.Prelude.{◌≡◌, ℕ, ℤ, ◌+◌, ◌<◌, ◌≤◌, ◌^◌, List, [], ◌∷◌, ◌++◌, length, map, FitsSigned}
 use Rattle.std.specs.List.{AllByRecursion, flat_map}
 use Rattle.std.specs.Int.{to_be_bytes, cast_unsigned, w16, w64}
+use Rattle.txn_records.specs.declared.limits.TheConstants.{MOST_ACT_ACTORS, MOST_LISTED, MOST_LOGS}
+use Rattle.snap_base.specs.declared.transactions.TheConstants.{FIELDS}
 use Rattle.snap_base.specs.declared.ids.ActorId.{ActorId}
 use Rattle.snap_base.specs.declared.ids.Bid.{Bid}
 use Rattle.snap_base.specs.declared.ids.Tid.{Tid}
 use Rattle.snap_base.specs.declared.transactions.State.{State}
 use Rattle.txn_records.specs.declared.records.Record.{Record}
-use Rattle.txn_records.specs.declared.records.Record.TheVariants.{Genesis, BatchInfo, BatchComplete, BatchCommit}
+use Rattle.txn_records.specs.declared.records.Record.TheVariants.{Genesis, BatchInfo, BatchComplete, BatchCommit, ActPrepare, ActCommit}
 use Rattle.txn_records.specs.declared.keys.Key.{Key}
 use Rattle.txn_records.specs.declared.keys.Key.TheVariants as keys
 
@@ -42,20 +44,29 @@ complete_bytes bid actor state = (3 ∷ []) ++ (to_be_bytes w64 bid.0 ++ (to_be_
 abbrev pub commit_bytes : Bid → List ℕ
 commit_bytes bid = (4 ∷ []) ++ to_be_bytes w64 bid.0
 
+abbrev pub prepare_bytes : Tid → ActorId → State → List ℕ
+prepare_bytes tid actor state = (5 ∷ []) ++ (to_be_bytes w64 tid.0 ++ (to_be_bytes w16 actor.0 ++ state_bytes state))
+
+abbrev pub act_bytes : Tid → Bid → ℕ → List ActorId → List ℕ
+act_bytes tid m c actors =
+    (6 ∷ []) ++ (to_be_bytes w64 tid.0 ++ (to_be_bytes w64 m.0 ++ (to_be_bytes w64 c ++ (to_be_bytes w16 (length actors) ++ actors_bytes actors))))
+
 abbrev pub record_bytes : Record → List ℕ
 record_bytes (Genesis logs states) = genesis_bytes logs states
 record_bytes (BatchInfo bid actors tids) = info_bytes bid actors tids
 record_bytes (BatchComplete bid actor state) = complete_bytes bid actor state
 record_bytes (BatchCommit bid) = commit_bytes bid
+record_bytes (ActPrepare tid actor state) = prepare_bytes tid actor state
+record_bytes (ActCommit tid m c actors) = act_bytes tid m c actors
 
 -- ---- what has a spelling
 
 abbrev pub IsCount : ℕ → Type 0
-IsCount n = (1 ≤ n) × (n ≤ 256)
+IsCount n = (1 ≤ n) × (n ≤ MOST_LISTED)
 
 -- sixteen numbers of 64 bits with a sign
 pub record IsState (s : State) : Type 0 where
-  pub len : length s.0 ≡ 16
+  pub len : length s.0 ≡ FIELDS
   pub fields : AllByRecursion (FitsSigned w64) s.0
 
 -- the numbers ascend strictly, from `low` on, and stay below `limit`
@@ -71,18 +82,18 @@ tid_numbers tids = map (λ (t : Tid). t.0) tids
 
 pub record IsGenesis (logs : ℕ) (states : List State) : Type 0 where
   pub some_logs : 1 ≤ logs
-  pub few_logs : logs ≤ 4
+  pub few_logs : logs ≤ MOST_LOGS
   pub some : 1 ≤ length states
-  pub few : length states ≤ 256
+  pub few : length states ≤ MOST_LISTED
   pub each : AllByRecursion IsState states
 
 pub record IsInfo (bid : Bid) (actors : List ActorId) (tids : List Tid) : Type 0 where
   pub bid_fits : bid.0 < 2 ^ 64
   pub some_actors : 1 ≤ length actors
-  pub few_actors : length actors ≤ 256
+  pub few_actors : length actors ≤ MOST_LISTED
   pub actors_ascend : Ascend 0 (2 ^ 16) (actor_numbers actors)
   pub some_tids : 1 ≤ length tids
-  pub few_tids : length tids ≤ 256
+  pub few_tids : length tids ≤ MOST_LISTED
   pub tids_ascend : Ascend 0 (2 ^ 64) (tid_numbers tids)
 
 pub record IsComplete (bid : Bid) (actor : ActorId) (state : State) : Type 0 where
@@ -93,11 +104,26 @@ pub record IsComplete (bid : Bid) (actor : ActorId) (state : State) : Type 0 whe
 pub record IsCommit (bid : Bid) : Type 0 where
   pub bid_fits : bid.0 < 2 ^ 64
 
+pub record IsPrepare (tid : Tid) (actor : ActorId) (state : State) : Type 0 where
+  pub tid_fits : tid.0 < 2 ^ 64
+  pub actor_fits : actor.0 < 2 ^ 16
+  pub is_state : IsState state
+
+pub record IsAct (tid : Tid) (m : Bid) (c : ℕ) (actors : List ActorId) : Type 0 where
+  pub tid_fits : tid.0 < 2 ^ 64
+  pub m_fits : m.0 < 2 ^ 64
+  pub c_fits : c < 2 ^ 64
+  pub some : 1 ≤ length actors
+  pub few : length actors ≤ MOST_ACT_ACTORS
+  pub ascend : Ascend 0 (2 ^ 16) (actor_numbers actors)
+
 abbrev pub IsRecord : Record → Type 0
 IsRecord (Genesis logs states) = IsGenesis logs states
 IsRecord (BatchInfo bid actors tids) = IsInfo bid actors tids
 IsRecord (BatchComplete bid actor state) = IsComplete bid actor state
 IsRecord (BatchCommit bid) = IsCommit bid
+IsRecord (ActPrepare tid actor state) = IsPrepare tid actor state
+IsRecord (ActCommit tid m c actors) = IsAct tid m c actors
 
 -- ---- what a record is about
 
@@ -106,3 +132,5 @@ key (Genesis logs states) = keys.Genesis
 key (BatchInfo bid actors tids) = keys.Info bid
 key (BatchComplete bid actor state) = keys.Complete bid actor
 key (BatchCommit bid) = keys.Commit bid
+key (ActPrepare tid actor state) = keys.Prepare tid actor
+key (ActCommit tid m c actors) = keys.Act tid

@@ -2,6 +2,7 @@
 use Rattle.std.specs.Prelude.{◌≡◌, ℕ, ◌^◌, List, [], ◌∷◌, length}
 use Rattle.std.specs.List.{AllByRecursion}
 use Rattle.std.specs.Int.{to_be_bytes, w16, w64}
+use Rattle.txn_records.specs.declared.limits.TheConstants.{MOST_ACT_ACTORS, MOST_LISTED, MOST_LOGS}
 use Rattle.snap_base.specs.declared.ids.ActorId.{ActorId}
 use Rattle.snap_base.specs.declared.ids.Tid.{Tid}
 use Rattle.snap_base.specs.declared.transactions.State.{State}
@@ -23,7 +24,10 @@ abbrev pub one_byte : ℕ → List ℕ
 one_byte b = b ∷ []
 
 abbrev pub Count : (ℕ → List ℕ → Type 0) → List ℕ → Type 0
-Count G = Seq (Between 1 256) (to_be_bytes w16) G
+Count G = Seq (Between 1 MOST_LISTED) (to_be_bytes w16) G
+
+abbrev pub FewCount : (ℕ → List ℕ → Type 0) → List ℕ → Type 0
+FewCount G = Seq (Between 1 MOST_ACT_ACTORS) (to_be_bytes w16) G
 
 abbrev pub Number : (ℕ → List ℕ → Type 0) → List ℕ → Type 0
 Number G = Seq (Between 0 18446744073709551615) (to_be_bytes w64) G
@@ -32,7 +36,7 @@ abbrev pub Actor : (ℕ → List ℕ → Type 0) → List ℕ → Type 0
 Actor G = Seq (Between 0 65535) (to_be_bytes w16) G
 
 abbrev pub GenesisTexts : List ℕ → Type 0
-GenesisTexts = Seq (Between 1 4) one_byte (λ l. Count (λ n. Seq (AreStates n) states_bytes (λ xs. Nil)))
+GenesisTexts = Seq (Between 1 MOST_LOGS) one_byte (λ l. Count (λ n. Seq (AreStates n) states_bytes (λ xs. Nil)))
 
 abbrev pub InfoTexts : List ℕ → Type 0
 InfoTexts = Number (λ b. Count (λ n. Seq (AreActors n) actors_bytes (λ xs. Count (λ m. Seq (AreTids m) tids_bytes (λ ys. Nil)))))
@@ -42,6 +46,12 @@ CompleteTexts = Number (λ b. Actor (λ a. Seq IsState state_bytes (λ s. Nil)))
 
 abbrev pub CommitTexts : List ℕ → Type 0
 CommitTexts = Number (λ b. Nil)
+
+abbrev pub PrepareTexts : List ℕ → Type 0
+PrepareTexts = Number (λ t. Actor (λ a. Seq IsState state_bytes (λ s. Nil)))
+
+abbrev pub ActTexts : List ℕ → Type 0
+ActTexts = Number (λ t. Number (λ m. Number (λ c. FewCount (λ n. Seq (AreActors n) actors_bytes (λ xs. Nil)))))
 
 -- the bytes of records
 abbrev pub RecordTexts : List ℕ → Type 0

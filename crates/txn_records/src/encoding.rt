@@ -1,7 +1,8 @@
 ghost use Rattle.std.specs.Prelude.{◌≡◌, ◌<◌, ◌≤◌, ◌^◌, ◌++◌, length, map, IfOk, OnOk};
 ghost use Rattle.std.specs.Int.{to_be_bytes, w16, w64};
 ghost use Rattle.std.specs.List.{flat_map};
-ghost use Rattle.txn_records.specs.Records.{record_bytes, field_bytes, state_bytes, states_bytes, actors_bytes, tids_bytes, genesis_bytes, info_bytes, complete_bytes, commit_bytes, IsRecord};
+ghost use Rattle.txn_records.specs.declared.limits.TheConstants.{MOST_LISTED};
+ghost use Rattle.txn_records.specs.Records.{record_bytes, field_bytes, state_bytes, states_bytes, actors_bytes, tids_bytes, genesis_bytes, info_bytes, complete_bytes, commit_bytes, prepare_bytes, act_bytes, IsRecord};
 
 use crate::Record;
 use snap_base::{ActorId, Bid, Memory, Sequence, State, Tid};
@@ -14,6 +15,10 @@ const BATCH_INFO: u8 = 2;
 const BATCH_COMPLETE: u8 = 3;
 
 const BATCH_COMMIT: u8 = 4;
+
+const ACT_PREPARE: u8 = 5;
+
+const ACT_COMMIT: u8 = 6;
 
 /// The one spelling of a record.
 pub fn encode(alloc: Global, r: &Record) -> Result<Vec<u8>, Memory>
@@ -30,12 +35,16 @@ pub fn encode(alloc: Global, r: &Record) -> Result<Vec<u8>, Memory>
             put_complete(&mut out, *bid, *actor, state)?
         }
         Record::BatchCommit { bid } => put_commit(&mut out, *bid)?,
+        Record::ActPrepare { tid, actor, state } => put_prepare(&mut out, *tid, *actor, state)?,
+        Record::ActCommit { tid, m, c, actors } => {
+            put_act(&mut out, *tid, *m, *c, actors.as_slice())?
+        }
     }
     Ok(out)
 }
 
 fn put_genesis(out: &mut Vec<u8>, logs: u8, states: &[State]) -> Result<(), Memory>
-    requires { length states.now ≤ 256 }
+    requires { length states.now ≤ MOST_LISTED }
     ensures { OnOk result (out.new.items ≡ out.old.items ++ genesis_bytes logs states.now) }
 {
     out.extend_from_slice(&[GENESIS, logs])?;
@@ -44,8 +53,8 @@ fn put_genesis(out: &mut Vec<u8>, logs: u8, states: &[State]) -> Result<(), Memo
 }
 
 fn put_info(out: &mut Vec<u8>, bid: Bid, actors: &[ActorId], tids: &[Tid]) -> Result<(), Memory>
-    requires actors { length actors.now ≤ 256 }
-    requires tids { length tids.now ≤ 256 }
+    requires actors { length actors.now ≤ MOST_LISTED }
+    requires tids { length tids.now ≤ MOST_LISTED }
     ensures { OnOk result (out.new.items ≡ out.old.items ++ info_bytes bid actors.now tids.now) }
 {
     out.push(BATCH_INFO)?;
@@ -78,6 +87,33 @@ fn put_commit(out: &mut Vec<u8>, bid: Bid) -> Result<(), Memory>
     put_u64(out, bid.0)
 }
 
+fn put_prepare(out: &mut Vec<u8>, tid: Tid, actor: ActorId, state: &State) -> Result<(), Memory>
+    ensures { OnOk result (out.new.items ≡ out.old.items ++ prepare_bytes tid actor state.now) }
+{
+    out.push(ACT_PREPARE)?;
+    put_u64(out, tid.0)?;
+    put_actor_state(out, actor, state)
+}
+
+fn put_act(out: &mut Vec<u8>, tid: Tid, m: Bid, c: u64, actors: &[ActorId]) -> Result<(), Memory>
+    requires { length actors.now ≤ MOST_LISTED }
+    ensures { OnOk result (out.new.items ≡ out.old.items ++ act_bytes tid m c actors.now) }
+{
+    out.push(ACT_COMMIT)?;
+    put_u64(out, tid.0)?;
+    put_decision(out, m, c, actors)
+}
+
+fn put_decision(out: &mut Vec<u8>, m: Bid, c: u64, actors: &[ActorId]) -> Result<(), Memory>
+    requires { length actors.now ≤ MOST_LISTED }
+    ensures { OnOk result (out.new.items ≡ out.old.items ++ (to_be_bytes w64 m.0 ++ (to_be_bytes w64 c ++ (to_be_bytes w16 (length actors.now) ++ actors_bytes actors.now)))) }
+{
+    put_u64(out, m.0)?;
+    put_u64(out, c)?;
+    put_count(out, actors.len())?;
+    put_actors(out, actors)
+}
+
 fn put_u16(out: &mut Vec<u8>, n: u16) -> Result<(), Memory>
     ensures { OnOk result (out.new.items ≡ out.old.items ++ to_be_bytes w16 n) }
 {
@@ -93,7 +129,7 @@ fn put_u64(out: &mut Vec<u8>, n: u64) -> Result<(), Memory>
 }
 
 fn put_count(out: &mut Vec<u8>, count: usize) -> Result<(), Memory>
-    requires { count ≤ 256 }
+    requires { count ≤ MOST_LISTED }
     ensures { OnOk result (out.new.items ≡ out.old.items ++ to_be_bytes w16 count) }
 {
     put_u16(out, count as u16)

@@ -2,7 +2,7 @@ ghost use Rattle.std.specs.Prelude.{◌≡◌};
 ghost use Rattle.txn_records.specs.Records.{key};
 
 use crate::Record;
-use snap_base::{ActorId, Bid};
+use snap_base::{ActorId, Bid, Tid};
 
 /// What a record is about. Of two records with one key, one is written in vain.
 #[derive(Clone, Copy, Debug, PartialEq, Eq)]
@@ -11,6 +11,8 @@ pub enum Key {
     Info(Bid),
     Complete(Bid, ActorId),
     Commit(Bid),
+    Prepare(Tid, ActorId),
+    Act(Tid),
 }
 
 /// What a record is about.
@@ -22,5 +24,7 @@ pub fn key_of(r: &Record) -> Key
         Record::BatchInfo { bid, .. } => Key::Info(*bid),
         Record::BatchComplete { bid, actor, .. } => Key::Complete(*bid, *actor),
         Record::BatchCommit { bid } => Key::Commit(*bid),
+        Record::ActPrepare { tid, actor, .. } => Key::Prepare(*tid, *actor),
+        Record::ActCommit { tid, .. } => Key::Act(*tid),
     }
 }

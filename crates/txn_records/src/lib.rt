@@ -16,5 +16,5 @@ pub use decoding::{DecodeNo, decode};
 pub use encoding::encode;
 pub use keys::{Key, key_of};
 pub use laws::{one_record, records_are_short};
-pub use limits::LONGEST_RECORD;
+pub use limits::{LONGEST_RECORD, MOST_ACT_ACTORS, MOST_LISTED, MOST_LOGS};
 pub use records::Record;

@@ -3,20 +3,20 @@ ghost use Rattle.std.specs.Int.{to_be_bytes, w16, w64};
 ghost use Rattle.txn_records.specs.Stops.{Fails, Any, Nil, Seq};
 ghost use Rattle.txn_records.specs.Numbers.{Between};
 ghost use Rattle.txn_records.specs.Records.{IsState, IsRecord, state_bytes, states_bytes, actors_bytes, tids_bytes, record_bytes};
-ghost use Rattle.txn_records.specs.Texts.{AreStates, AreActors, AreTids, GenesisTexts, InfoTexts, CompleteTexts, CommitTexts, RecordTexts};
+ghost use Rattle.txn_records.specs.Texts.{AreStates, AreActors, AreTids, GenesisTexts, InfoTexts, CompleteTexts, CommitTexts, PrepareTexts, ActTexts, RecordTexts};
 
-use crate::Record;
 use crate::numbers::{Stop, u8_between, u16_between, u64_between};
-use snap_base::{ActorId, Bid, Sequence, State, Tid};
+use crate::{MOST_ACT_ACTORS, MOST_LISTED, MOST_LOGS, Record};
+use snap_base::{ActorId, Bid, FIELDS, Sequence, State, Tid};
 use std::alloc::Global;
 
 /// The state that stands first, and what is behind it.
 fn state_of(bytes: &[u8]) -> Result<(State, &[u8]), Stop>
     ensures { MatchResult result (λ x. IsState x.0 × (bytes.now ≡ state_bytes x.0 ++ x.1.now)) (Fails (Seq IsState state_bytes (λ s. Any)) bytes.now) }
 {
-    let mut fields = [0i64; 16];
+    let mut fields = [0i64; FIELDS];
     let mut rest = bytes;
-    for i in 0..16 {
+    for i in 0..FIELDS {
         let (bits, behind) = u64_between(rest, 0, u64::MAX)?;
         fields[i] = bits.cast_signed();
         rest = behind;
@@ -40,7 +40,7 @@ fn states_of(alloc: Global, bytes: &[u8], count: usize) -> Result<(Sequence<Stat
 
 /// So many actors, which ascend, and what is behind them.
 fn actors_of(alloc: Global, bytes: &[u8], count: usize) -> Result<(Sequence<ActorId>, &[u8]), Stop>
-    requires { count ≤ 256 }
+    requires { count ≤ MOST_LISTED }
     ensures { MatchResult result (λ x. AreActors count x.0 × (bytes.now ≡ actors_bytes x.0 ++ x.1.now)) (Fails (Seq (AreActors count) actors_bytes (λ xs. Any)) bytes.now) }
 {
     let mut actors = Sequence::new(alloc);
@@ -58,7 +58,7 @@ fn actors_of(alloc: Global, bytes: &[u8], count: usize) -> Result<(Sequence<Acto
 
 /// So many tids, which ascend, and what is behind them.
 fn tids_of(alloc: Global, bytes: &[u8], count: usize) -> Result<(Sequence<Tid>, &[u8]), Stop>
-    requires { count ≤ 256 }
+    requires { count ≤ MOST_LISTED }
     ensures { MatchResult result (λ x. AreTids count x.0 × (bytes.now ≡ tids_bytes x.0 ++ x.1.now)) (Fails (Seq (AreTids count) tids_bytes (λ xs. Any)) bytes.now) }
 {
     let mut tids = Sequence::new(alloc);
@@ -74,11 +74,11 @@ fn tids_of(alloc: Global, bytes: &[u8], count: usize) -> Result<(Sequence<Tid>, 
     Ok((tids, rest))
 }
 
-/// A count from 1 to 256, and what is behind it.
+/// A count from 1 to `MOST_LISTED`, and what is behind it.
 fn count_of(bytes: &[u8]) -> Result<(usize, &[u8]), Stop>
-    ensures { MatchResult result (λ x. Between 1 256 x.0 × (bytes.now ≡ to_be_bytes w16 x.0 ++ x.1.now)) (Fails (Seq (Between 1 256) (to_be_bytes w16) (λ n. Any)) bytes.now) }
+    ensures { MatchResult result (λ x. Between 1 MOST_LISTED x.0 × (bytes.now ≡ to_be_bytes w16 x.0 ++ x.1.now)) (Fails (Seq (Between 1 MOST_LISTED) (to_be_bytes w16) (λ n. Any)) bytes.now) }
 {
-    let (count, rest) = u16_between(bytes, 1, 256)?;
+    let (count, rest) = u16_between(bytes, 1, MOST_LISTED as u16)?;
     Ok((count as usize, rest))
 }
 
@@ -134,11 +134,42 @@ fn info_of(alloc: Global, bytes: &[u8]) -> Result<Record, Stop>
 fn genesis_of(alloc: Global, bytes: &[u8]) -> Result<Record, Stop>
     ensures { MatchResult result (λ r. IsRecord r × (1 ∷ bytes.now ≡ record_bytes r)) (Fails GenesisTexts bytes.now) }
 {
-    let (logs, rest) = u8_between(bytes, 1, 4)?;
+    let (logs, rest) = u8_between(bytes, 1, MOST_LOGS)?;
     let (count, rest) = count_of(rest)?;
     let (states, rest) = states_of(alloc, rest, count)?;
     end_of(rest)?;
     Ok(Record::Genesis { logs, states })
+}
+
+fn prepare_of(bytes: &[u8]) -> Result<Record, Stop>
+    ensures { MatchResult result (λ r. IsRecord r × (5 ∷ bytes.now ≡ record_bytes r)) (Fails PrepareTexts bytes.now) }
+{
+    let (tid, rest) = u64_between(bytes, 0, u64::MAX)?;
+    let (actor, rest) = u16_between(rest, 0, u16::MAX)?;
+    let (state, rest) = state_of(rest)?;
+    end_of(rest)?;
+    Ok(Record::ActPrepare {
+        tid: Tid(tid),
+        actor: ActorId(actor),
+        state,
+    })
+}
+
+fn act_of(alloc: Global, bytes: &[u8]) -> Result<Record, Stop>
+    ensures { MatchResult result (λ r. IsRecord r × (6 ∷ bytes.now ≡ record_bytes r)) (Fails ActTexts bytes.now) }
+{
+    let (tid, rest) = u64_between(bytes, 0, u64::MAX)?;
+    let (m, rest) = u64_between(rest, 0, u64::MAX)?;
+    let (c, rest) = u64_between(rest, 0, u64::MAX)?;
+    let (count, rest) = u16_between(rest, 1, MOST_ACT_ACTORS as u16)?;
+    let (actors, rest) = actors_of(alloc, rest, count as usize)?;
+    end_of(rest)?;
+    Ok(Record::ActCommit {
+        tid: Tid(tid),
+        m: Bid(m),
+        c,
+        actors,
+    })
 }
 
 /// The record that the bytes are.
@@ -153,6 +184,8 @@ pub(crate) fn read(alloc: Global, bytes: &[u8]) -> Result<Record, Stop>
         2 => info_of(alloc, rest),
         3 => complete_of(rest),
         4 => commit_of(rest),
+        5 => prepare_of(rest),
+        6 => act_of(alloc, rest),
         _ => Err(Stop::Left(bytes.len())),
     }
 }

@@ -25,4 +25,18 @@ pub enum Record {
     BatchCommit {
         bid: Bid,
     },
+    /// An undeclared transaction ended with a value, and this is the state of an actor on which it ran.
+    ActPrepare {
+        tid: Tid,
+        actor: ActorId,
+        state: State,
+    },
+    /// An undeclared transaction is committed: the batch behind which it comes, the number of its commit, and
+    /// the actors on which it ran, ascending.
+    ActCommit {
+        tid: Tid,
+        m: Bid,
+        c: u64,
+        actors: Sequence<ActorId>,
+    },
 }

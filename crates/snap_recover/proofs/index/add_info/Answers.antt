@@ -3,5 +3,5 @@ use Rattle.snap_recover.proofs.index.add_info.Goals as goal
 
 pub returns-in_ok-insert : goal.returns-in_ok-insert
 returns-in_ok-insert c =
-    info_here c.args.log c.args.logs c.args.at c.in-Some.bid c.args.r.now c.args.places.now c.insert.new.self
+    info_here c.args.kind c.args.log c.args.logs c.args.at c.in-Some.number c.args.r.now c.args.places.now c.insert.new.self
     c.in-Some.ensures.0 c.in-Some.ensures.1 c.in_ok-insert.ensures.updates

@@ -1,5 +1,5 @@
 use Rattle.std.proofs.Common.{ℕ}
-use Rattle.snap_recover.specs.Passes.{In, InPair, commit_key, complete_key}
+use Rattle.snap_recover.specs.Passes.{In, InPair, commit_key, part_key}
 use Rattle.snap_recover.proofs.Steps.{same_at}
 use Rattle.snap_recover.proofs.Homes.{through_step, through_end}
 use Rattle.snap_recover.proofs.Placing.{infos_through}
@@ -9,13 +9,13 @@ pub loop-i-preserved : goal.loop-i-preserved
 loop-i-preserved c =
     let here = same_at c.args.logs.now c.loop-i.i c.index-logs-i.result c.as_slice.result.now c.as_slice.ensures c.index-logs-i.is in
     record {
-      committed = through_step (λ (n : ℕ). n) commit_key c.args.logs.now c.loop-i.i c.as_slice.result.now (In c.loop-i.index.committed) (In c.add_log.new.index.committed)
+      committed = through_step (λ (n : ℕ). n) (commit_key c.args.kind) c.args.logs.now c.loop-i.i c.as_slice.result.now (In c.loop-i.index.committed) (In c.add_log.new.index.committed)
           c.loop-i-test.true here c.in_ok-add_log.ensures.committed c.loop-i.invariant.committed;
-      completed = through_step (λ (x : ℕ × ℕ). x.1) complete_key c.args.logs.now c.loop-i.i c.as_slice.result.now (InPair c.loop-i.index.completed) (InPair c.add_log.new.index.completed)
-          c.loop-i-test.true here c.in_ok-add_log.ensures.completed c.loop-i.invariant.completed;
-      infos = infos_through c.args.logs.now c.loop-i.i c.as_slice.result.now c.loop-i.index.infos c.add_log.new.index.infos
+      parts = through_step (λ (x : ℕ × ℕ). x.1) (part_key c.args.kind) c.args.logs.now c.loop-i.i c.as_slice.result.now (InPair c.loop-i.index.parts) (InPair c.add_log.new.index.parts)
+          c.loop-i-test.true here c.in_ok-add_log.ensures.parts c.loop-i.invariant.parts;
+      infos = infos_through c.args.kind c.args.logs.now c.loop-i.i c.as_slice.result.now c.loop-i.index.infos c.add_log.new.index.infos
           c.loop-i-test.true here c.in_ok-add_log.ensures.infos c.loop-i.invariant.infos;
     }
 
 pub returns-clause-committed : goal.returns-clause-committed
-returns-clause-committed c = through_end (λ (n : ℕ). n) commit_key c.args.logs.now c.loop-i.i (In c.loop-i.index.committed) c.requires.some c.loop-i-test.false c.loop-i.invariant.committed
+returns-clause-committed c = through_end (λ (n : ℕ). n) (commit_key c.args.kind) c.args.logs.now c.loop-i.i (In c.loop-i.index.committed) c.requires.some c.loop-i-test.false c.loop-i.invariant.committed

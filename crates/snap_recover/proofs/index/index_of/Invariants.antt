@@ -1,12 +1,12 @@
 use Rattle.std.proofs.Common.{ℕ}
-use Rattle.snap_recover.specs.Passes.{In, InPair, commit_key, complete_key}
+use Rattle.snap_recover.specs.Passes.{In, InPair, commit_key, part_key}
 use Rattle.snap_recover.proofs.Homes.{Through}
 use Rattle.snap_recover.proofs.Placing.{InfosThrough}
 use Rattle.snap_recover.proofs.index.index_of.Given as goal
 
 abbrev pub invariant-loop-i : goal.invariant-loop-i
 invariant-loop-i l = record {
-  committed : Through (λ (n : ℕ). n) commit_key l.logs l.i (In l.index.committed);
-  completed : Through (λ (x : ℕ × ℕ). x.1) complete_key l.logs l.i (InPair l.index.completed);
-  infos : InfosThrough l.logs l.i l.index.infos;
+  committed : Through (λ (n : ℕ). n) (commit_key l.kind) l.logs l.i (In l.index.committed);
+  parts : Through (λ (x : ℕ × ℕ). x.1) (part_key l.kind) l.logs l.i (InPair l.index.parts);
+  infos : InfosThrough l.kind l.logs l.i l.index.infos;
 }

@@ -26,7 +26,7 @@ loop-i-preserved c =
     let i = c.loop-i.i in
     let rs = c.as_slice.result.now in
     let at = same_at logs i c.index-logs-i.result rs c.as_slice.ensures c.index-logs-i.is in
-    states_through logs i rs c.args.set.now c.args.first.now c.loop-i.states.items c.replay.new.states.items c.loop-i-test.true at c.requires.committed c.replay.ensures c.loop-i.invariant
+    states_through logs i rs c.args.batches.now c.args.acts.now c.args.first.now c.loop-i.states.items c.replay.new.states.items c.loop-i-test.true at c.requires.batches c.requires.acts c.replay.ensures c.loop-i.invariant
 
 pub returns : goal.returns
 returns c = states_end c.args.logs.now c.loop-i.i c.args.first.now c.loop-i.states.items c.requires.some c.loop-i-test.false c.loop-i.invariant

@@ -20,5 +20,5 @@ pub loop-actor-preserved : goal.loop-actor-preserved
 loop-actor-preserved c =
     let i = c.loop-actor.actor-index in
     let a : ActorId = get_or c.args.actors.now i (record { 0 = 0 }) in
-    all_step (λ (b : ActorId). InPair c.args.completed.now (c.args.bid, b.0)) c.args.actors.now i a c.loop-actor-test.true (get_or_default c.args.actors.now i (record { 0 = 0 }) a c.loop-actor-test.true)
+    all_step (λ (b : ActorId). InPair c.args.parts.now (c.args.number, b.0)) c.args.actors.now i a c.loop-actor-test.true (get_or_default c.args.actors.now i (record { 0 = 0 }) a c.loop-actor-test.true)
     c.loop-actor.invariant (sym c.contains.ensures ∙ c.if-not-contains.false)

@@ -1,6 +1,6 @@
 use Rattle.std.proofs.Common.{arith}
-use Rattle.txn_records.specs.Texts.{GenesisTexts, InfoTexts, CompleteTexts, CommitTexts}
-use Rattle.txn_records.proofs.Tags.{tagged, genesis_in, genesis_out, info_in, info_out, complete_in, complete_out, commit_in, commit_out, nothing_stops, no_tag_stops}
+use Rattle.txn_records.specs.Texts.{GenesisTexts, InfoTexts, CompleteTexts, CommitTexts, PrepareTexts, ActTexts}
+use Rattle.txn_records.proofs.Tags.{tagged, genesis_in, genesis_out, info_in, info_out, complete_in, complete_out, commit_in, commit_out, prepare_in, prepare_out, act_in, act_out, nothing_stops, no_tag_stops}
 use Rattle.txn_records.proofs.reading.read.Goals as goal
 
 pub returns-in_default : goal.returns-in_default
@@ -18,5 +18,11 @@ returns-in-3 c = tagged CompleteTexts 3 _ _ _ _ complete_in complete_out c.in-So
 pub returns-in-4 : goal.returns-in-4
 returns-in-4 c = tagged CommitTexts 4 _ _ _ _ commit_in commit_out c.in-Some.ensures.cases.0 c.in-4.is c.commit_of.ensures
 
+pub returns-in-5 : goal.returns-in-5
+returns-in-5 c = tagged PrepareTexts 5 _ _ _ _ prepare_in prepare_out c.in-Some.ensures.cases.0 c.in-5.is c.prepare_of.ensures
+
+pub returns-in-6 : goal.returns-in-6
+returns-in-6 c = tagged ActTexts 6 _ _ _ _ act_in act_out c.in-Some.ensures.cases.0 c.in-6.is c.act_of.ensures
+
 pub returns-in_default-tag : goal.returns-in_default-tag
-returns-in_default-tag c = no_tag_stops _ _ _ c.in-Some.ensures.cases.0 (λ e. omega arith) (λ e. omega arith) (λ e. omega arith) (λ e. omega arith)
+returns-in_default-tag c = no_tag_stops _ _ _ c.in-Some.ensures.cases.0 (λ e. omega arith) (λ e. omega arith) (λ e. omega arith) (λ e. omega arith) (λ e. omega arith) (λ e. omega arith)

@@ -1,0 +1,189 @@
+-- That nothing is lacking, asked of one batch or ACT after the other in the order of their numbers.
+use Rattle.std.proofs.Common.{◌≡◌, ◌≢◌, ℕ, zero, suc, ◌+◌, ◌%◌, ◌<◌, ◌≤◌, ◌⊎◌, inl, inr, Bool, true, false, ◌||◌, Option, Some, None, Result, Ok, Err, MatchResult, List, [], ◌∷◌, ◌++◌, length, take, get_or, refl, sym, ap, subst, ◌∙◌, arith}
+use Rattle.std.proofs.lemmas.Bool.{cases_lt}
+use Rattle.std.proofs.lemmas.List.{get_or-take, length-take, get_or_default}
+use Rattle.std.proofs.lemmas.Map.Keys.{below_from_sorted}
+use Rattle.std.specs.List.{AllByRecursion, Contains, list_any}
+use Rattle.std.specs.List.Sorted.{IsStrictlySortedBy}
+use Rattle.std.specs.declared.cmp.Ordering.{Ordering}
+use Rattle.std.specs.Ordering.{nat_cmp}
+use Rattle.std.specs.BTreeSet.{BTreeSet}
+use Rattle.std.specs.BTreeMap.{is_at}
+use Rattle.snap_base.specs.declared.ids.ActorId.{ActorId}
+use Rattle.snap_base.specs.declared.ids.Bid.{Bid}
+use Rattle.snap_base.specs.declared.ids.Tid.{Tid}
+use Rattle.txn_records.specs.declared.records.Record.{Record}
+use Rattle.txn_records.specs.declared.keys.Key.TheVariants as keys
+use Rattle.txn_records.specs.Records.{key}
+use Rattle.snap_recover.specs.declared.kinds.Kind.{Kind}
+use Rattle.snap_recover.specs.declared.kinds.Kind.TheVariants as kinds
+use Rattle.snap_recover.specs.declared.refusals.RecoverNo.{RecoverNo}
+use Rattle.snap_recover.specs.declared.refusals.RecoverNo.TheVariants.{NoGenesis, TwoGenesis, LogCount, Range, Missing, Memory}
+use Rattle.snap_recover.specs.Logs.{Has, log_of}
+use Rattle.snap_recover.specs.Opening.{IsInfoOf, HasCompleted, IsActOf, HasPrepared}
+use Rattle.snap_recover.specs.Passes.{bid_at, tid_at, InPair, commit_key, part_key, info_key, HasCommitted, HasAllParts, IsPlaced, TellsActors, MemberWhole, MemberLacks, IsLackOf, IsFirstLackOfKind, IsFirstLackOf, AllWhole, IsAllWhole, HasIn}
+use Rattle.snap_recover.proofs.Lists.{all_weaker, all_contains, contains_here, contains_there, contains_unmap}
+use Rattle.snap_recover.proofs.Homes.{at_log, at_true, at_same}
+use Rattle.snap_recover.proofs.Placing.{placed_some}
+use Rattle.snap_recover.proofs.Steps.{all_step, all_end}
+
+-- ---- one of them
+
+pub lacks_info : (kind : Kind) (logs : List (List Record)) (n : ℕ) (now : Option ℕ) → now ≡ None → IsPlaced (info_key kind n) (log_of logs n) None now → Has (log_of logs n) (commit_key kind n)
+    → MemberLacks kind logs n (info_key kind n) (n % length logs)
+lacks_info kinds.Batch logs n now e p i = inl (refl, refl, λ h. placed_some (keys.Info (bid_at n)) (log_of logs n) now e p h)
+lacks_info kinds.Act logs n now e p i = absurd (placed_some (keys.Act (tid_at n)) (log_of logs n) now e p i)
+
+pub told_in_log : (kind : Kind) (logs : List (List Record)) (n i : ℕ) (rs : List Record) (actors : List ActorId) → i < length logs → rs ≡ get_or logs i rs → n % length logs ≡ i
+    → TellsActors kind n rs actors → TellsActors kind n (log_of logs n) actors
+told_in_log kind logs n i rs actors l at e h = subst (λ (z : List Record). TellsActors kind n z actors) (sym (at_log logs n i rs l at e)) h
+
+abbrev pub FirstLacking : BTreeSet (ℕ × ℕ) → ℕ → List ActorId → ActorId → Type 0
+FirstLacking set n actors a =
+    (front behind : List ActorId) × (actors ≡ front ++ a ∷ behind) × AllByRecursion (λ (b : ActorId). InPair set (n, b.0)) front × ¬ InPair set (n, a.0)
+
+pub lacks_part : (kind : Kind) (logs : List (List Record)) (n : ℕ) (actors : List ActorId) (set : BTreeSet (ℕ × ℕ)) (a : ActorId) → TellsActors kind n (log_of logs n) actors → HasAllParts kind logs set
+    → FirstLacking set n actors a → MemberLacks kind logs n (part_key kind (n, a.0)) (a.0 % length logs)
+lacks_part kinds.Batch logs n actors set a (tids, info) has (front, behind, is, all, out) =
+    inr (
+      front,
+      behind,
+      a,
+      tids,
+      subst (λ (z : List ActorId). IsInfoOf logs (bid_at n) z tids) is info,
+      all_weaker (λ (b : ActorId). InPair set (n, b.0)) (HasCompleted logs (bid_at n)) front (λ b h. (has (n, b.0)).0 h) all,
+      refl,
+      refl,
+      λ h. out ((has (n, a.0)).1 h),
+    )
+lacks_part kinds.Act logs n actors set a (m, c, act) has (front, behind, is, all, out) = (
+  front,
+  behind,
+  a,
+  m,
+  c,
+  subst (λ (z : List ActorId). IsActOf logs (tid_at n) m c z) is act,
+  all_weaker (λ (b : ActorId). InPair set (n, b.0)) (HasPrepared logs (tid_at n)) front (λ b h. (has (n, b.0)).0 h) all,
+  refl,
+  refl,
+  λ h. out ((has (n, a.0)).1 h),
+)
+
+pub member_whole : (kind : Kind) (logs : List (List Record)) (n : ℕ) (actors : List ActorId) (set : BTreeSet (ℕ × ℕ)) → TellsActors kind n (log_of logs n) actors → HasAllParts kind logs set
+    → AllByRecursion (λ (b : ActorId). InPair set (n, b.0)) actors → MemberWhole kind logs n
+member_whole kinds.Batch logs n actors set (tids, info) has all =
+    (actors, tids, info, all_weaker (λ (b : ActorId). InPair set (n, b.0)) (HasCompleted logs (bid_at n)) actors (λ b h. (has (n, b.0)).0 h) all)
+member_whole kinds.Act logs n actors set (m, c, act) has all =
+    (m, c, actors, act, all_weaker (λ (b : ActorId). InPair set (n, b.0)) (HasPrepared logs (tid_at n)) actors (λ b h. (has (n, b.0)).0 h) all)
+
+-- ---- the keys of a set
+
+or_right : (a b : Bool) → b ≡ true → (a || b) ≡ true
+or_right true b e = refl
+or_right false b e = e
+
+or_cases : (a b : Bool) → (a || b) ≡ true → (a ≡ true) ⊎ (b ≡ true)
+or_cases true b e = inl refl
+or_cases false b e = inr e
+
+pub in_keys : {K : Type 0} (cmp : K → K → Ordering) → ((k : K) → is_at (cmp k) k ≡ true) → (xs : List K) (x : K) → Contains xs x → list_any (is_at (cmp x)) xs ≡ true
+in_keys cmp same [] x (k, l, e) = absurd (omega arith)
+in_keys cmp same (y ∷ ys) x (zero, l, e) = ap (λ (b : Bool). b || list_any (is_at (cmp x)) ys) (subst (λ (z : _). is_at (cmp x) z ≡ true) (sym e) (same x))
+in_keys cmp same (y ∷ ys) x (suc k, l, e) = or_right (is_at (cmp x) y) (list_any (is_at (cmp x)) ys) (in_keys cmp same ys x (k, omega arith, e))
+
+pub keys_in : {K : Type 0} (cmp : K → K → Ordering) → ((k q : K) → is_at (cmp k) q ≡ true → k ≡ q) → (xs : List K) (x : K) → list_any (is_at (cmp x)) xs ≡ true → Contains xs x
+keys_in cmp one [] x h = absurd (cc)
+keys_in cmp one (y ∷ ys) x h = elim (or_cases (is_at (cmp x) y) (list_any (is_at (cmp x)) ys) h) [
+  | inl e ↦ subst (λ (z : _). Contains (y ∷ ys) z) (sym (one x y e)) (contains_here y ys)
+  | inr e ↦ contains_there y x ys (keys_in cmp one ys x e)
+]
+
+-- the numbers are those of all that are in, ascending
+pub record AreNumbers (kind : Kind) (logs : List (List Record)) (numbers : List ℕ) : Type 0 where
+  pub ascend : IsStrictlySortedBy nat_cmp numbers
+  pub are_in : (n : ℕ) → Contains numbers n → Has (log_of logs n) (commit_key kind n)
+  pub all : (n : ℕ) → Has (log_of logs n) (commit_key kind n) → Contains numbers n
+
+pub are_numbers : (kind : Kind) (logs : List (List Record)) (set : BTreeSet ℕ) (numbers : List ℕ) → numbers ≡ set.keys → IsStrictlySortedBy nat_cmp set.keys → HasCommitted kind logs set → AreNumbers kind logs numbers
+are_numbers kind logs set numbers e sorted has = record {
+  ascend = subst (IsStrictlySortedBy nat_cmp) (sym e) sorted;
+  are_in = λ n h. (has n).0 (in_keys nat_cmp at_same set.keys n (subst (λ (z : List ℕ). Contains z n) e h));
+  all = λ n h. subst (λ (z : List ℕ). Contains z n) (sym e) (keys_in nat_cmp at_true set.keys n ((has n).1 h));
+}
+
+all_of_contained : {X : Type 0} (P : X → Type 0) (xs : List X) → ((x : X) → Contains xs x → P x) → AllByRecursion P xs
+all_of_contained P [] f = tt
+all_of_contained P (x ∷ xs) f = (f x (contains_here x xs), all_of_contained P xs (λ y m. f y (contains_there x y xs m)))
+
+pub numbers_in : (kind : Kind) (logs : List (List Record)) (numbers : List ℕ) → AreNumbers kind logs numbers → HasIn kind logs numbers
+numbers_in kind logs numbers are = all_of_contained (λ n. Has (log_of logs n) (commit_key kind n)) numbers are.are_in
+
+-- ---- so many of them
+
+abbrev pub WholeThrough : Kind → List (List Record) → List ℕ → ℕ → Type 0
+WholeThrough kind logs numbers i = AllByRecursion (MemberWhole kind logs) (take i numbers)
+
+-- all that are in with a smaller number are whole
+below_whole : (kind : Kind) (logs : List (List Record)) (numbers : List ℕ) (i n : ℕ) → i < length numbers → n ≡ get_or numbers i n → AreNumbers kind logs numbers → WholeThrough kind logs numbers i
+    → (b : ℕ) → b < n → Has (log_of logs b) (commit_key kind b) → MemberWhole kind logs b
+below_whole kind logs numbers i n l at are h b low is_in =
+    let p = are.all b is_in in
+    let j : ℕ = p.0 in
+    let here : get_or numbers j b ≡ b = p.2 in
+    elim (cases_lt j i) [
+      | inl less ↦
+          let there : get_or (take i numbers) j b ≡ b = get_or-take i numbers j b less ∙ here in
+          all_contains (MemberWhole kind logs) (take i numbers) b h (j, omega (arith, length-take i numbers, p.1, less), there)
+      | inr high ↦
+          let at0 : get_or numbers i b ≡ n = get_or_default numbers i b n l ∙ sym at in
+          elim (cases_lt i j) [
+            | inl later ↦ absurd (let up = below_from_sorted numbers i j b are.ascend later p.1 in omega (arith, up, at0, here, low))
+            | inr same ↦ absurd (let e : j ≡ i = omega arith in let e2 = ap (λ (z : ℕ). get_or numbers z b) e in omega (arith, e2, at0, here, low))
+          ]
+    ]
+
+first_lack : (kind : Kind) (logs : List (List Record)) (n : ℕ) (no : RecoverNo) → Has (log_of logs n) (commit_key kind n) → ((b : ℕ) → b < n → Has (log_of logs b) (commit_key kind b) → MemberWhole kind logs b)
+    → IsLackOf kind logs n no → IsFirstLackOfKind kind logs no
+first_lack kind logs n NoGenesis i low h = h
+first_lack kind logs n TwoGenesis i low h = h
+first_lack kind logs n (LogCount c f) i low h = h
+first_lack kind logs n (Range k l) i low h = h
+first_lack kinds.Batch logs n (Missing k l) i low h = (bid_at n, i, λ b. low b.0, h)
+first_lack kinds.Act logs n (Missing k l) i low h = (tid_at n, i, λ t. low t.0, h)
+first_lack kind logs n Memory i low h = tt
+
+pub check_refused : (kind : Kind) (logs : List (List Record)) (numbers : List ℕ) (i n : ℕ) (answer : RecoverNo) → i < length numbers → n ≡ get_or numbers i n → AreNumbers kind logs numbers → WholeThrough kind logs numbers i
+    → IsLackOf kind logs n answer → IsFirstLackOfKind kind logs answer
+check_refused kind logs numbers i n answer l at are h lack = first_lack kind logs n answer (are.are_in n (i, l, sym at)) (below_whole kind logs numbers i n l at are h) lack
+
+pub number_in : (kind : Kind) (logs : List (List Record)) (numbers : List ℕ) (i n : ℕ) → i < length numbers → n ≡ get_or numbers i n → AreNumbers kind logs numbers → Has (log_of logs n) (commit_key kind n)
+number_in kind logs numbers i n l at are = are.are_in n (i, l, sym at)
+
+pub check_step : (kind : Kind) (logs : List (List Record)) (numbers : List ℕ) (i n : ℕ) → i < length numbers → n ≡ get_or numbers i n → MemberWhole kind logs n → WholeThrough kind logs numbers i → WholeThrough kind logs numbers (i + 1)
+check_step kind logs numbers i n l at w h = all_step (MemberWhole kind logs) numbers i n l at h w
+
+pub check_end : (kind : Kind) (logs : List (List Record)) (numbers : List ℕ) (i : ℕ) → length numbers ≤ i → AreNumbers kind logs numbers → WholeThrough kind logs numbers i → AllWhole kind logs
+check_end kind logs numbers i l are h n p = all_contains (MemberWhole kind logs) numbers n (all_end (MemberWhole kind logs) numbers i l h) (are.all n p)
+
+-- ---- both kinds
+
+pub batch_lack : (logs : List (List Record)) (no : RecoverNo) → IsFirstLackOfKind kinds.Batch logs no → IsFirstLackOf logs no
+batch_lack logs NoGenesis h = h
+batch_lack logs TwoGenesis h = h
+batch_lack logs (LogCount c f) h = h
+batch_lack logs (Range k l) h = h
+batch_lack logs (Missing k l) h = inl h
+batch_lack logs Memory h = tt
+
+act_lack : (logs : List (List Record)) (no : RecoverNo) → AllWhole kinds.Batch logs → IsFirstLackOfKind kinds.Act logs no → IsFirstLackOf logs no
+act_lack logs NoGenesis w h = h
+act_lack logs TwoGenesis w h = h
+act_lack logs (LogCount c f) w h = h
+act_lack logs (Range k l) w h = h
+act_lack logs (Missing k l) w h = inr (λ (b : Bid) i. w b.0 i, h)
+act_lack logs Memory w h = tt
+
+pub all_whole_or_lack : (logs : List (List Record)) (r : Result (Unit {0}) RecoverNo) → AllWhole kinds.Batch logs → MatchResult r (λ t. AllWhole kinds.Act logs) (λ no. IsFirstLackOfKind kinds.Act logs no)
+    → MatchResult r (λ t. IsAllWhole logs) (λ no. IsFirstLackOf logs no)
+all_whole_or_lack logs (Ok t) w h = record { batches = λ b i. w b.0 i; acts = λ t i. h t.0 i }
+all_whole_or_lack logs (Err answer) w h = act_lack logs answer w h

@@ -1,0 +1,13 @@
+use Rattle.std.proofs.Common.{List, ap, arith}
+use Rattle.txn_records.specs.declared.records.Record.{Record}
+use Rattle.std.specs.List.{flat_map}
+use Rattle.snap_recover.specs.Logs.{commits_in}
+use Rattle.snap_recover.specs.Opening.{greatest}
+use Rattle.snap_recover.proofs.Steps.{greatest_logs_step}
+use Rattle.snap_recover.proofs.numbers.next_commit.Goals as goal
+
+pub loop-rs-preserved : goal.loop-rs-preserved
+loop-rs-preserved c =
+    let step = greatest_logs_step commits_in c.args.logs.now c.loop-rs.rs-index c.rs-item.result c.loop-rs-test.true c.rs-item.is in
+    let same = ap (λ (z : List Record). greatest (flat_map commits_in z)) c.as_slice.ensures in
+    omega (arith, step, same)

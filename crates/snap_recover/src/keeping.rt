@@ -1,0 +1,173 @@
+ghost use Rattle.std.specs.Prelude.{◌≡◌, ℕ, ◌<◌, length, IfOk, OnOk};
+ghost use Rattle.std.specs.List.Sorted.{IsStrictlySortedBy};
+ghost use Rattle.snap_recover.specs.declared.kinds.Kind.TheVariants as kinds;
+ghost use Rattle.snap_recover.specs.Opening.{IsIn, IsWhole, IsActIn, IsCommitted};
+ghost use Rattle.snap_recover.specs.Passes.{Spot, spot_cmp, HasCommitted, HasInfos, IsAllWhole, IsBatchSpot, IsActSpot, IsSpotIn, AddsSpots, HasSpots, IsKeptAt, HasIn, bid_at, tid_at};
+
+use crate::Kept;
+use crate::index::Index;
+use crate::infos::{act_at, info_at};
+use crate::wholes::ascending;
+use snap_base::{Bid, Memory, Sequence, Tid};
+use std::alloc::Global;
+use std::collections::{BTreeMap, BTreeSet};
+use txn_records::Record;
+
+/// Where something stands among what is kept: a batch number, 0 for the batch and 1 for an undeclared transaction
+/// behind it, the number of its commit, and its tid. Of a batch the last two are 0.
+type Spot = (u64, u8, u64, u64);
+
+/// What is kept of all that is in, in the order of the places, where nothing of it is lacking.
+pub(crate) fn keep_all(
+    alloc: Global,
+    logs: &[Sequence<Record>],
+    batches: &Index,
+    acts: &Index,
+) -> Result<Sequence<Kept>, Memory>
+    requires some { 0 < length logs.now }
+    requires whole { IsAllWhole logs.now }
+    requires batches_committed { HasCommitted kinds.Batch logs.now batches.now.committed }
+    requires batches_infos { HasInfos kinds.Batch logs.now batches.now.infos }
+    requires acts_committed { HasCommitted kinds.Act logs.now acts.now.committed }
+    requires acts_infos { HasInfos kinds.Act logs.now acts.now.infos }
+    ensures { IfOk result (λ ks. IsCommitted logs.now ks) }
+{
+    let spots = spots_of(
+        alloc,
+        logs,
+        &batches.committed,
+        &acts.committed,
+        &acts.infos,
+    )?;
+    let order = in_order(alloc, &spots)?;
+    let mut kept = Sequence::new(alloc);
+    for i in 0..order.len() {
+        let next = keep(alloc, logs, order[i], &batches.infos)?;
+        kept.push(next)?;
+    }
+    Ok(kept)
+}
+
+/// The spots in a set, in their order.
+fn in_order(alloc: Global, set: &BTreeSet<Spot>) -> Result<Vec<Spot>, Memory>
+    ensures all { IfOk result (λ spots. spots.items ≡ set.now.keys) }
+    ensures ascend { IfOk result (λ spots. IsStrictlySortedBy spot_cmp set.now.keys) }
+{
+    let spots = set.iter().copied().collect(alloc)?;
+    Ok(spots)
+}
+
+/// The spots of all that is in.
+fn spots_of(
+    alloc: Global,
+    logs: &[Sequence<Record>],
+    batches: &BTreeSet<u64>,
+    acts: &BTreeSet<u64>,
+    infos: &BTreeMap<u64, usize>,
+) -> Result<BTreeSet<Spot>, Memory>
+    requires some { 0 < length logs.now }
+    requires batches { HasCommitted kinds.Batch logs.now batches.now }
+    requires acts { HasCommitted kinds.Act logs.now acts.now }
+    requires infos { HasInfos kinds.Act logs.now infos.now }
+    ensures { IfOk result (λ spots. HasSpots logs.now spots) }
+{
+    let mut spots = BTreeSet::new(alloc);
+    let bids = ascending(alloc, batches)?;
+    add_batches(&mut spots, bids.as_slice())?;
+    let tids = ascending(alloc, acts)?;
+    add_acts(&mut spots, logs, tids.as_slice(), infos)?;
+    Ok(spots)
+}
+
+/// Adds the spots of these batches.
+fn add_batches(spots: &mut BTreeSet<Spot>, bids: &[u64]) -> Result<(), Memory>
+    ensures { OnOk result (AddsSpots IsBatchSpot bids.now spots.old spots.new) }
+{
+    for i in 0..bids.len() {
+        spots.insert((bids[i], 0, 0, 0))?;
+    }
+    Ok(())
+}
+
+/// Adds the spots of these undeclared transactions, which are in.
+fn add_acts(
+    spots: &mut BTreeSet<Spot>,
+    logs: &[Sequence<Record>],
+    tids: &[u64],
+    infos: &BTreeMap<u64, usize>,
+) -> Result<(), Memory>
+    requires some { 0 < length logs.now }
+    requires are_in { HasIn kinds.Act logs.now tids.now }
+    requires infos { HasInfos kinds.Act logs.now infos.now }
+    ensures { OnOk result (AddsSpots (IsActSpot logs.now) tids.now spots.old spots.new) }
+{
+    for i in 0..tids.len() {
+        let spot = spot_of_act(logs, tids[i], infos);
+        spots.insert(spot)?;
+    }
+    Ok(())
+}
+
+/// The spot of an undeclared transaction that is in.
+fn spot_of_act(logs: &[Sequence<Record>], tid: u64, infos: &BTreeMap<u64, usize>) -> Spot
+    requires some { 0 < length logs.now }
+    requires is_in { IsActIn logs.now (tid_at tid) }
+    requires infos { HasInfos kinds.Act logs.now infos.now }
+    ensures { IsActSpot logs.now tid result }
+{
+    let Some(place) = infos.get(&tid) else {
+        unreachable!()
+    };
+    let log = tid % logs.len() as u64;
+    let (m, c, _) = act_at(logs[log as usize].as_slice(), *place, tid);
+    (m.0, 1, c, tid)
+}
+
+/// What is kept at the spot.
+fn keep(
+    alloc: Global,
+    logs: &[Sequence<Record>],
+    spot: Spot,
+    infos: &BTreeMap<u64, usize>,
+) -> Result<Kept, Memory>
+    requires some { 0 < length logs.now }
+    requires whole { IsAllWhole logs.now }
+    requires is_in { IsSpotIn logs.now spot }
+    requires infos { HasInfos kinds.Batch logs.now infos.now }
+    ensures { IfOk result (λ k. IsKeptAt logs.now spot k) }
+{
+    let (bid, side, c, tid) = spot;
+    if side == 0 {
+        return keep_batch(alloc, logs, bid, infos);
+    }
+    Ok(Kept::Act {
+        tid: Tid(tid),
+        m: Bid(bid),
+        c,
+    })
+}
+
+/// What is kept of a batch that is in.
+fn keep_batch(
+    alloc: Global,
+    logs: &[Sequence<Record>],
+    bid: u64,
+    infos: &BTreeMap<u64, usize>,
+) -> Result<Kept, Memory>
+    requires some { 0 < length logs.now }
+    requires whole { IsWhole logs.now (bid_at bid) }
+    requires is_in { IsIn logs.now (bid_at bid) }
+    requires infos { HasInfos kinds.Batch logs.now infos.now }
+    ensures { IfOk result (λ k. IsKeptAt logs.now (bid, 0, 0, 0) k) }
+{
+    let Some(place) = infos.get(&bid) else {
+        unreachable!()
+    };
+    let log = bid % logs.len() as u64;
+    let (_, tids) = info_at(logs[log as usize].as_slice(), *place, bid);
+    let tids = Sequence::from_vec(Vec::from_slice(alloc, tids.as_slice())?);
+    Ok(Kept::Batch {
+        bid: Bid(bid),
+        tids,
+    })
+}
