@@ -1,0 +1,4 @@
+pub mod Taking
+pub mod Owning
+pub mod Parts
+pub mod Numbers

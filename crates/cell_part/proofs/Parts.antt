@@ -1,0 +1,50 @@
+-- A cell from its parts.
+use Rattle.std.proofs.Common.{◌≡◌, ℕ, ◌==◌, nat_le, Bool, false, List, [], ◌∷◌, length, map, filter, refl, ap, ◌∙◌, arith}
+use Rattle.std.proofs.lemmas.Bool.{cond-false, cond_both}
+use Rattle.hybrid_schedule.specs.Cuts.{staying_below, going_from, cut_from}
+use Rattle.hybrid_schedule.specs.Schedules.{is_behind_no_act, tail_tids}
+use Rattle.actor_cell.specs.Calls.{undone_from}
+use Rattle.protocol.specs.CellParts.{Store, HybridSchedule, Boxes, cell_of, cleared, cut_at, with_undone}
+use Rattle.protocol.specs.OnBook.{met}
+use Rattle.protocol.specs.OnCell.{going, staying, rolled_back}
+use Rattle.protocol.specs.Parts.{Cascade, Entry, BatchEntry, ActEntry, Waiting, Outcome}
+use Rattle.protocol.specs.Rivals.{Lock, lock_of, rivals}
+use Rattle.protocol.specs.Words.{ahead, acts_on, is_batch_entry, is_empty, tail_group}
+
+pub boxes_of : {C : Type 0} {ws vs : List (Waiting C)} {xs ys : List (Outcome C)} → ws ≡ vs → xs ≡ ys
+    → ◌≡◌ {A = Boxes C} (record { inbox = ws; outbox = xs }) (record { inbox = vs; outbox = ys })
+boxes_of e f = rw (e, f) refl
+
+other : (k n : ℕ) → nat_le k n ≡ false → (n == k) ≡ false
+other k n e = grind (arith, e)
+
+-- of what stays below a batch, all is ahead of it
+pub all_ahead : (k : ℕ) (es : List Entry) → ahead (is_batch_entry k) (staying_below k es) ≡ staying_below k es
+all_ahead k [] = refl
+all_ahead k (ActEntry x ∷ es) = ap (λ rest. ActEntry x ∷ rest) (all_ahead k es)
+all_ahead k (BatchEntry b ∷ es) =
+    let rest = all_ahead k es in
+    cond_both (nat_le k b.bid) [] (BatchEntry b ∷ staying_below k es) (λ o. ahead (is_batch_entry k) o ≡ o) (λ e. refl)
+    (λ e. cond-false (b.bid == k) [] (BatchEntry b ∷ ahead (is_batch_entry k) (staying_below k es)) (other k b.bid e) ∙ ap (λ es. BatchEntry b ∷ es) rest)
+
+pub cell_back : {C : Type 0} (cascades : List Cascade) (k epoch : ℕ) (acts : Bool) (s s' : Store) (h h' : HybridSchedule) (b b' : Boxes C)
+    → epoch ≡ length cascades → cut_from k (length cascades) h ≡ cut_at cascades h → going_from k h.entries ≡ going cascades h.entries
+    → (undone_from k (is_empty (acts_on (staying cascades h.entries))) s ≡ with_undone (going cascades h.entries) s)
+    → b' ≡ cleared (going_from k h.entries) b → h' ≡ cut_from k epoch h → acts ≡ is_behind_no_act k h'.entries → s' ≡ undone_from k acts s
+    → cell_of s' h' b' ≡ rolled_back cascades (cell_of s h b)
+cell_back cascades k epoch acts s s' h h' b b' seen cut gone undone boxes schedule told store =
+    let same : h' ≡ cut_at cascades h = schedule ∙ ap (λ n. cut_from k n h) seen ∙ cut in
+    let stays : staying_below k h.entries ≡ staying cascades h.entries = ap (λ x. x.entries) cut in
+    let all : acts ≡ is_empty (acts_on (staying cascades h.entries)) =
+    told ∙ ap (λ x. is_behind_no_act k x.entries) schedule ∙ ap (λ es. is_empty (acts_on es)) (all_ahead k h.entries ∙ stays) in
+    let back : s' ≡ with_undone (going cascades h.entries) s = store ∙ ap (λ o. undone_from k o s) all ∙ undone in
+    let empty : b' ≡ cleared (going cascades h.entries) b = boxes ∙ ap (λ es. cleared es b) gone in
+    rw (back, same, empty) refl
+
+locks_of_tids : (l : Lock) (xs : List Lock) → map lock_of (map (λ (x : Lock). x.tid) xs) ≡ filter (rivals l) xs
+locks_of_tids l [] = refl
+locks_of_tids l (x ∷ xs) = ap (λ ys. x ∷ ys) (locks_of_tids l xs)
+
+-- who are in the tail group, are met with their locks
+pub locks_met : (t : ℕ) (entries : List Entry) (tids : List ℕ) → tids ≡ tail_tids entries → map lock_of tids ≡ met t entries
+locks_met t entries tids e = ap (λ ns. map lock_of ns) e ∙ locks_of_tids (lock_of t) (tail_group entries)

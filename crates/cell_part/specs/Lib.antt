@@ -1,0 +1,4 @@
+pub mod Contents
+pub mod Room
+pub mod Running
+pub mod Lending

@@ -1,0 +1,5 @@
+pub mod Cutting
+pub mod Listed
+pub mod Planned
+pub mod Sorted
+pub mod Taken

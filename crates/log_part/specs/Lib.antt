@@ -1,0 +1,4 @@
+pub mod Items
+pub mod Laws
+pub mod Shown
+pub mod Told

@@ -1,0 +1,11 @@
+ghost use Rattle.log_part.specs.Laws.{KeysOfKinds, ToldOnce};
+
+/// A record is looked up by the key of its kind, and by no other.
+pub fn records_have_the_keys_of_their_kinds()
+    ensures { KeysOfKinds }
+{}
+
+/// Two records of the machine are not told as one.
+pub fn records_are_told_once()
+    ensures { ToldOnce }
+{}
