@@ -1,0 +1,4 @@
+pub mod EventNames
+pub mod Cuts
+pub mod Events
+pub mod Traces

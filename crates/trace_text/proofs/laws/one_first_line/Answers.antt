@@ -1,0 +1,5 @@
+use Rattle.trace_text.proofs.Traces.{first_one}
+use Rattle.trace_text.proofs.laws.one_first_line.Goals as goal
+
+pub returns : goal.returns
+returns c = first_one
