@@ -1,0 +1,46 @@
+ghost use Rattle.std.specs.Prelude.{◌≡◌};
+
+use turn_table::Piece;
+
+/// A part that counts, modulo 2^64.
+#[derive(Clone, Copy, Debug, PartialEq, Eq)]
+pub struct Counter {
+    pub value: u64,
+}
+
+/// Adds to one counter, or moves from one to another.
+#[derive(Clone, Copy, Debug, PartialEq, Eq)]
+pub enum Change {
+    Add { part: u64, amount: u64 },
+    Move { from: u64, to: u64, amount: u64 },
+}
+
+impl Piece for Counter {
+    type Tables = u64;
+
+    type Event = Change;
+
+    ghost use Rattle.turn_rows.specs.Changes.{touched, changed};
+
+    ghost footprint = { λ tables change. touched change };
+
+    ghost allowed = { λ tables change counters. Unit {0} };
+
+    ghost effect = { λ tables change counters. changed change counters };
+}
+
+impl Counter {
+    ghost use Rattle.turn_rows.specs.Changes.{more, less};
+
+    pub fn add(&mut self, amount: u64)
+        ensures { self.new ≡ more self.old amount }
+    {
+        self.value = self.value.wrapping_add(amount);
+    }
+
+    pub fn take_off(&mut self, amount: u64)
+        ensures { self.new ≡ less self.old amount }
+    {
+        self.value = self.value.wrapping_sub(amount);
+    }
+}
