@@ -1,0 +1,220 @@
+-- What is committed in logs that a run grew, in the order of places.
+use Rattle.std.specs.Prelude.{◌≡◌, ◌≢◌, refl, ℕ, ◌+◌, ◌<◌, ◌≤◌, ◌%◌, ◌==◌, not, Bool, true, false, if◌then◌else◌, Option, Some, None, option_map, List, [], ◌∷◌, ◌++◌, length, map, Contains}
+use Rattle.std.specs.List.{AllByRecursion, list_any}
+use Rattle.std.proofs.Common.{arith, sym, ap, subst, inl, inr, ◌∙◌}
+use Rattle.std.proofs.lemmas.Bool.{true≢false, or_cases, eqb-true, eq-eqb, ne_eqb}
+use Rattle.std.proofs.lemmas.List.{map-append}
+use Rattle.snap_base.specs.declared.ids.ActorId.{ActorId}
+use Rattle.snap_base.specs.declared.ids.Bid.{Bid}
+use Rattle.snap_base.specs.declared.ids.Tid.{Tid}
+use Rattle.protocol.specs.Fixed.{Fixed, base}
+use Rattle.protocol.specs.Numbers.{from}
+use Rattle.protocol.specs.Records as machine
+use Rattle.protocol.specs.Records.{LogRecord, is_info, is_complete, is_commit, is_prepare, is_act_commit}
+use Rattle.protocol.specs.Parts.{Act, Status, Batch, OfBatch, OfAct, Machine}
+use Rattle.protocol.specs.Words.{holds, is_formed, act_of, batch_of}
+use Rattle.protocol_laws.specs.Crash.{is_in}
+use Rattle.protocol_laws.specs.RecordLaws.{batch_tids, is_number, ActCommitted, TellsOf}
+use Rattle.txn_records.specs.declared.records.Record.{Record}
+use Rattle.txn_records.specs.declared.records.Record.TheVariants.{ActCommit}
+use Rattle.txn_records.specs.declared.keys.Key.TheVariants as keys
+use Rattle.snap_recover.specs.declared.openings.Kept.{Kept}
+use Rattle.snap_recover.specs.declared.openings.Kept.TheVariants as kept
+use Rattle.snap_recover.specs.declared.openings.Opening.{Opening}
+use Rattle.snap_recover.specs.Logs.{all_of, tids_in, bids_in, commits_in}
+use Rattle.snap_recover.specs.Opening.{IsInfoOf, IsActOf, commit_of, IsKept, ComesBefore, IsCommitted}
+use Rattle.snap_recover.proofs.Lists.{all_append, all_weaker, all_both, contains_here, contains_there, contains_left, contains_right}
+use Rattle.snap_recover.proofs.Greatest.{each_below}
+use Rattle.protocol_laws.proofs.machine.ActsFound.{found_tid}
+use Rattle.protocol_laws.proofs.machine.MarksKept.{found_bid}
+use Rattle.recovery_laws.specs.Grown.{bid_of, tid_of, tids_of, actors_of, grown, kept_batch, number_of, kept_act, batches_in, all_in}
+use Rattle.recovery_laws.proofs.KnownLogs.{Apart, Known, all_at, old_low, in_old, in_cases, in_stays, in_new, old_acts_low, act_cases}
+use Rattle.recovery_laws.proofs.WholesGrown.{info_stays, info_new, commit_stays, commit_new}
+use Rattle.recovery_laws.proofs.InOrder.{Rises, rises_from, rises_to, IsOther, acts_all, acts_rise, acts_keep, acts_have, IsOld, IsNew, rises_join}
+
+-- ---- what is committed
+
+mapped_is : {X Y : Type 0} (f : X → Y) (o : Option X) (x : X) (y : Y) → o ≡ Some x → option_map f o ≡ Some y → f x ≡ y
+mapped_is f None x y e h = absurd (cc e)
+mapped_is f (Some z) x y e h = let i : z ≡ x = cc e in subst (λ q. f q ≡ y) i (cc h)
+
+-- each batch is found under its number
+pub found_at : (n : ℕ) (bs : List Batch) → map (λ b. b.bid) bs ≡ from n (length bs) → AllByRecursion (λ b. (n ≤ b.bid) × (batch_of b.bid bs ≡ Some b)) bs
+found_at n [] e = tt
+found_at n (x ∷ xs) e =
+    let i : x.bid ≡ n = cc e in
+    ((omega (arith, i), rw (eq-eqb x.bid x.bid refl) refl), all_weaker (λ b. (n + 1 ≤ b.bid) × (batch_of b.bid xs ≡ Some b)) (λ b. (n ≤ b.bid) × (batch_of b.bid (x ∷ xs) ≡ Some b)) xs (λ b h. (omega (arith, h.0), rw (ne_eqb x.bid b.bid (λ q. omega (arith, q, i, h.0))) h.1)) (found_at (n + 1) xs (cc e)))
+
+-- each ACT is found under its tid
+pub found_acts : (xs : List Act) → Apart xs → AllByRecursion (λ x. act_of x.tid xs ≡ Some x) xs
+found_acts [] a = tt
+found_acts (x ∷ xs) a = (rw (eq-eqb x.tid x.tid refl) refl, all_both (λ y. y.tid ≢ x.tid) (λ y. act_of y.tid xs ≡ Some y) (λ y. act_of y.tid (x ∷ xs) ≡ Some y) xs (λ y n e. rw (ne_eqb x.tid y.tid (λ q. n (sym q))) e) a.0 (found_acts xs a.1))
+
+batches_rise : (many : ℕ) (logs : ℕ → List LogRecord) (n c : ℕ) (bs : List Batch) → map (λ b. b.bid) bs ≡ from n (length bs) → AllByRecursion (IsNew n c) (batches_in many logs bs) × Rises (batches_in many logs bs)
+batches_rise many logs n c [] e = (tt, tt)
+batches_rise many logs n c (x ∷ xs) e = by (is_in many logs (OfBatch x.bid)) (batches_rise many logs (n + 1) c xs (cc e))
+  where
+    i : x.bid ≡ n
+    i = cc e
+
+    lower : (y : Kept) → IsNew (n + 1) c y → IsNew n c y
+    lower (kept.Batch b tids) q = omega (arith, q)
+    lower (kept.Act t m d) q = (omega (arith, q.0), q.1)
+
+    before : (bs : List Batch) → AllByRecursion (IsNew (n + 1) c) (batches_in many logs bs) → AllByRecursion (ComesBefore (kept_batch x)) (batches_in many logs bs)
+    before bs h = all_weaker (IsNew (n + 1) c) (ComesBefore (kept_batch x)) (batches_in many logs bs) one h
+      where
+        one : (y : Kept) → IsNew (n + 1) c y → ComesBefore (kept_batch x) y
+        one (kept.Batch b tids) q = omega (arith, q, i)
+        one (kept.Act t m d) q = omega (arith, q.0, i)
+
+    by : (v : Bool) → AllByRecursion (IsNew (n + 1) c) (batches_in many logs xs) × Rises (batches_in many logs xs)
+        → AllByRecursion (IsNew n c) (if v then kept_batch x ∷ batches_in many logs xs else batches_in many logs xs) × Rises (if v then kept_batch x ∷ batches_in many logs xs else batches_in many logs xs)
+    by true h = ((omega (arith, i), all_weaker (IsNew (n + 1) c) (IsNew n c) (batches_in many logs xs) lower h.0), (before xs h.0, h.1))
+    by false h = (all_weaker (IsNew (n + 1) c) (IsNew n c) (batches_in many logs xs) lower h.0, h.1)
+
+-- a batch is no ACT
+batches_other : (many : ℕ) (logs : ℕ → List LogRecord) (n : ℕ) (bs : List Batch) → AllByRecursion (IsOther n) (batches_in many logs bs)
+batches_other many logs n [] = tt
+batches_other many logs n (x ∷ xs) = by (is_in many logs (OfBatch x.bid)) (batches_other many logs n xs)
+  where
+    by : (v : Bool) → AllByRecursion (IsOther n) (batches_in many logs xs) → AllByRecursion (IsOther n) (if v then kept_batch x ∷ batches_in many logs xs else batches_in many logs xs)
+    by true h = (tt, h)
+    by false h = h
+
+middle : {X : Type 0} (P : X → Type 0) (x : X) (front rest : List X) → AllByRecursion P (front ++ x ∷ rest) → P x
+middle P x [] rest h = h.0
+middle P x (y ∷ ys) rest h = middle P x ys rest h.1
+
+new_kept : {C : Type 0} (w : Fixed C) (earlier : List (List Record)) (o : Opening) (s : Machine C) (logs : ℕ → List LogRecord) (bs : List Batch) → Known w earlier o s logs → AllByRecursion (λ b. batch_of b.bid s.desk.batches ≡ Some b) bs → AllByRecursion (IsKept (grown earlier logs)) (batches_in w.text.logs logs bs)
+new_kept w earlier o s logs [] g h = tt
+new_kept {C} w earlier o s logs (b ∷ bs) g h = by (is_in w.text.logs logs (OfBatch b.bid)) refl (new_kept w earlier o s logs bs g h.1)
+  where
+    by : (v : Bool) → is_in w.text.logs logs (OfBatch b.bid) ≡ v → AllByRecursion (IsKept (grown earlier logs)) (batches_in w.text.logs logs bs) → AllByRecursion (IsKept (grown earlier logs)) (if v then kept_batch b ∷ batches_in w.text.logs logs bs else batches_in w.text.logs logs bs)
+    by true e r =
+        let x = g.whole b.bid e in
+        let t = middle (TellsOf s.desk.batches s.book.acts) (machine.BatchInfo b.bid x.actors x.tids) x.front x.rest (subst (AllByRecursion (TellsOf s.desk.batches s.book.acts)) x.info (g.tells (b.bid % w.text.logs))) in
+        let same : batch_tids b ≡ x.tids = mapped_is batch_tids (batch_of b.bid s.desk.batches) b x.tids h.0 t.1 in
+        ((in_new w earlier o s logs b.bid g e, (actors_of x.actors, subst (λ z. IsInfoOf (grown earlier logs) (bid_of b.bid) (actors_of x.actors) (tids_of z)) (sym same) (info_new w earlier o s logs b.bid x.actors x.tids x.front x.rest g x.info))), r)
+    by false e r = r
+
+number_is : (c : ℕ) (st : Status) → is_number c st ≡ true → number_of st ≡ c
+number_is c Rattle.protocol.specs.Parts.Live e = absurd (true≢false (sym e))
+number_is c (Rattle.protocol.specs.Parts.Doomed v) e = absurd (true≢false (sym e))
+number_is c (Rattle.protocol.specs.Parts.Decided d) e = eqb-true d c e
+number_is c (Rattle.protocol.specs.Parts.Sealed d) e = eqb-true d c e
+
+-- its commit record tells an ACT as it is
+pub act_told : {C : Type 0} (w : Fixed C) (earlier : List (List Record)) (o : Opening) (s : Machine C) (logs : ℕ → List LogRecord) (t : ℕ) (g : Known w earlier o s logs) (e : is_in w.text.logs logs (OfAct t) ≡ true) → (let y = g.whole_acts t e in ActCommitted s.book.acts t y.m y.c y.actors)
+act_told w earlier o s logs t g e =
+    let y = g.whole_acts t e in
+    middle (TellsOf s.desk.batches s.book.acts) (machine.ActCommit t y.m y.c y.actors) y.front y.rest (subst (AllByRecursion (TellsOf s.desk.batches s.book.acts)) y.commit (g.tells (t % w.text.logs)))
+
+act_kept : {C : Type 0} (w : Fixed C) (earlier : List (List Record)) (o : Opening) (s : Machine C) (logs : ℕ → List LogRecord) (x : Act) → Known w earlier o s logs → act_of x.tid s.book.acts ≡ Some x → base w.text ≤ x.m → is_in w.text.logs logs (OfAct x.tid) ≡ true
+    → IsKept (grown earlier logs) (kept_act x) × IsNew w.text.opening.next_bid w.text.opening.next_c (kept_act x)
+act_kept w earlier o s logs x g f l e =
+    let y = g.whole_acts x.tid e in
+    let t = act_told w earlier o s logs x.tid g e in
+    let same : t.act ≡ x = (let q : Some t.act ≡ Some x = sym t.found ∙ f in cc q) in
+    let m : x.m ≡ y.m = ap (λ z. z.m) (sym same) ∙ t.m_is in
+    let n : is_number y.c x.status ≡ true = subst (λ z. is_number y.c z.status ≡ true) same t.c_is in
+    let c : number_of x.status ≡ y.c = number_is y.c x.status n in
+    let told : IsActOf (grown earlier logs) (tid_of x.tid) (bid_of y.m) y.c (actors_of y.actors) = commit_new w earlier o s logs x.tid y.m y.c y.actors y.front y.rest g y.commit in (
+      (actors_of y.actors, subst (λ z. IsActOf (grown earlier logs) (tid_of x.tid) (bid_of z) (number_of x.status) (actors_of y.actors)) (sym m) (subst (λ z. IsActOf (grown earlier logs) (tid_of x.tid) (bid_of y.m) z (actors_of y.actors)) (sym c) told)),
+      (l, omega (arith, c, g.numbered x.tid x f y.c n)),
+    )
+
+-- the commits of ACTs of earlier runs have lower numbers
+commit_of_act : {C : Type 0} (w : Fixed C) (earlier : List (List Record)) (o : Opening) (s : Machine C) (logs : ℕ → List LogRecord) (t : Tid) (m : Bid) (c : ℕ) (actors : List ActorId) → Known w earlier o s logs → IsActOf earlier t m c actors → (t.0 < w.text.opening.next_tid) × (m.0 < w.text.opening.next_bid) × (c < w.text.opening.next_c)
+commit_of_act w earlier o s logs t m c actors g (front, behind, e, p, quiet) = (
+  (middle (λ r. AllByRecursion (λ x. x < w.text.opening.next_tid) (tids_in r)) (ActCommit t m c actors) front behind (subst (AllByRecursion (λ r. AllByRecursion (λ x. x < w.text.opening.next_tid) (tids_in r))) e (old_acts_low w earlier o s logs t.0 g))).0,
+  (middle (λ r. AllByRecursion (λ x. x < w.text.opening.next_bid) (bids_in r)) (ActCommit t m c actors) front behind (subst (AllByRecursion (λ r. AllByRecursion (λ x. x < w.text.opening.next_bid) (bids_in r))) e (old_low w earlier o s logs t.0 g))).0,
+  (middle (λ r. AllByRecursion (λ x. x < w.text.opening.next_c) (commits_in r)) (ActCommit t m c actors) front behind (subst (AllByRecursion (λ r. AllByRecursion (λ x. x < w.text.opening.next_c) (commits_in r))) e
+      (all_at (λ r. AllByRecursion (λ x. x < w.text.opening.next_c) (commits_in r)) earlier (t.0 % length earlier) (each_below commits_in (all_of earlier) w.text.opening.next_c (omega (arith, g.before.next_c, g.begins.next_c)))))).0,
+)
+
+old_kept : {C : Type 0} (w : Fixed C) (earlier : List (List Record)) (o : Opening) (s : Machine C) (logs : ℕ → List LogRecord) (ks : List Kept) → Known w earlier o s logs → AllByRecursion (IsKept earlier) ks → AllByRecursion (IsKept (grown earlier logs)) ks × AllByRecursion (IsOld w.text.opening.next_bid w.text.opening.next_c) ks
+old_kept w earlier o s logs [] g h = (tt, tt)
+old_kept w earlier o s logs (kept.Batch b tids ∷ ks) g h =
+    let r = old_kept w earlier o s logs ks g h.1 in
+    let l = in_old w earlier o s logs b g h.0.0 in
+    (((in_stays w earlier o s logs b g h.0.0, (h.0.1.0, info_stays w earlier o s logs b h.0.1.0 tids g l h.0.1.1)), r.0), (l, r.1))
+old_kept w earlier o s logs (kept.Act t m c ∷ ks) g h =
+    let r = old_kept w earlier o s logs ks g h.1 in
+    let l = commit_of_act w earlier o s logs t m c h.0.0 g h.0.1 in
+    (((h.0.0, commit_stays w earlier o s logs t m c h.0.0 g l.0 h.0.1), r.0), ((l.1, l.2), r.1))
+
+pub has_batch : {Y : Type 0} (f : Kept → Y) (many : ℕ) (logs : ℕ → List LogRecord) (k : ℕ) (b : Batch) (bs : List Batch) → batch_of k bs ≡ Some b → is_in many logs (OfBatch k) ≡ true → Contains (map f (batches_in many logs bs)) (f (kept_batch b))
+has_batch f many logs k b [] e h = absurd (cc e)
+has_batch f many logs k b (x ∷ xs) e h = by (x.bid == k) refl e (has_batch f many logs k b xs)
+  where
+    skip : (v : Bool) → Contains (map f (batches_in many logs xs)) (f (kept_batch b)) → Contains (map f (if v then kept_batch x ∷ batches_in many logs xs else batches_in many logs xs)) (f (kept_batch b))
+    skip true r = contains_there (f (kept_batch x)) (f (kept_batch b)) (map f (batches_in many logs xs)) r
+    skip false r = r
+
+    here : (v : Bool) → x ≡ b → v ≡ true → Contains (map f (if v then kept_batch x ∷ batches_in many logs xs else batches_in many logs xs)) (f (kept_batch b))
+    here true i q = subst (λ z. Contains (f (kept_batch x) ∷ map f (batches_in many logs xs)) (f (kept_batch z))) i (contains_here (f (kept_batch x)) (map f (batches_in many logs xs)))
+    here false i q = absurd (true≢false (sym q))
+
+    by : (v : Bool) → (x.bid == k) ≡ v → (if v then Some x else batch_of k xs) ≡ Some b → (batch_of k xs ≡ Some b → is_in many logs (OfBatch k) ≡ true → Contains (map f (batches_in many logs xs)) (f (kept_batch b))) → Contains (map f (batches_in many logs (x ∷ xs))) (f (kept_batch b))
+    by true q e r = let i : x ≡ b = cc e in here (is_in many logs (OfBatch x.bid)) i (subst (λ z. is_in many logs (OfBatch z) ≡ true) (sym (eqb-true x.bid k q)) h)
+    by false q e r = skip (is_in many logs (OfBatch x.bid)) (r e h)
+
+pub one_is : {X : Type 0} (p : X → Bool) (o : Option X) → holds p o ≡ true → (x : X) × (o ≡ Some x)
+one_is p None e = absurd (true≢false (sym e))
+one_is p (Some x) e = (x, refl)
+
+pub known_commit : (bs : List Batch) (xs : List Act) (k : ℕ) (rs : List LogRecord) → AllByRecursion (TellsOf bs xs) rs → list_any (is_commit k) rs ≡ true → holds (λ b. not (is_formed b.stage)) (batch_of k bs) ≡ true
+known_commit bs xs k [] h e = absurd (true≢false (sym e))
+known_commit bs xs k (machine.BatchInfo j actors tids ∷ rs) h e = known_commit bs xs k rs h.1 e
+known_commit bs xs k (machine.BatchComplete j a st ∷ rs) h e = known_commit bs xs k rs h.1 e
+known_commit bs xs k (machine.BatchCommit j ∷ rs) h e = elim (or_cases (j == k) _ e) [ inl q ↦ subst (λ z. holds (λ b. not (is_formed b.stage)) (batch_of z bs) ≡ true) (eqb-true j k q) h.0 | inr q ↦ known_commit bs xs k rs h.1 q ]
+known_commit bs xs k (machine.ActPrepare t a st ∷ rs) h e = known_commit bs xs k rs h.1 e
+known_commit bs xs k (machine.ActCommit t m c actors ∷ rs) h e = known_commit bs xs k rs h.1 e
+
+-- what is in: each is kept, is of this run, and they rise
+pub new_kept_all : {C : Type 0} (w : Fixed C) (earlier : List (List Record)) (o : Opening) (s : Machine C) (logs : ℕ → List LogRecord) → Known w earlier o s logs → AllByRecursion (IsKept (grown earlier logs)) (all_in w.text.logs logs s) × AllByRecursion (IsNew w.text.opening.next_bid w.text.opening.next_c) (all_in w.text.logs logs s) × Rises (all_in w.text.logs logs s)
+new_kept_all {C} w earlier o s logs g = (
+  acts_all (IsKept (grown earlier logs)) w.text.logs logs s.book.acts (batches_in w.text.logs logs s.desk.batches) (all_weaker Both (λ x. is_in w.text.logs logs (OfAct x.tid) ≡ true → IsKept (grown earlier logs) (kept_act x)) s.book.acts (λ x p e. (p e).0) each)
+      (new_kept w earlier o s logs s.desk.batches g (all_weaker (λ b. (w.text.opening.next_bid ≤ b.bid) × (batch_of b.bid s.desk.batches ≡ Some b)) (λ b. batch_of b.bid s.desk.batches ≡ Some b) s.desk.batches (λ b h. h.1) (found_at w.text.opening.next_bid s.desk.batches g.bids))),
+  acts_all (IsNew w.text.opening.next_bid w.text.opening.next_c) w.text.logs logs s.book.acts (batches_in w.text.logs logs s.desk.batches) (all_weaker Both (λ x. is_in w.text.logs logs (OfAct x.tid) ≡ true → IsNew w.text.opening.next_bid w.text.opening.next_c (kept_act x)) s.book.acts (λ x p e. (p e).1) each) rise.0,
+  acts_rise w.text.logs logs s.book.acts (batches_in w.text.logs logs s.desk.batches) g.apart (λ n. batches_other w.text.logs logs n s.desk.batches) rise.1,
+)
+  where
+    Both : Act → Type 0
+    Both x = is_in w.text.logs logs (OfAct x.tid) ≡ true → IsKept (grown earlier logs) (kept_act x) × IsNew w.text.opening.next_bid w.text.opening.next_c (kept_act x)
+
+    rise : AllByRecursion (IsNew w.text.opening.next_bid w.text.opening.next_c) (batches_in w.text.logs logs s.desk.batches) × Rises (batches_in w.text.logs logs s.desk.batches)
+    rise = batches_rise w.text.logs logs w.text.opening.next_bid w.text.opening.next_c s.desk.batches g.bids
+
+    each : AllByRecursion Both s.book.acts
+    each = all_both (λ x. act_of x.tid s.book.acts ≡ Some x) (λ x. base w.text ≤ x.m) Both s.book.acts (λ x f l e. act_kept w earlier o s logs x g f l e) (found_acts s.book.acts g.apart) g.based
+
+pub committed_grown : {C : Type 0} (w : Fixed C) (earlier : List (List Record)) (o : Opening) (s : Machine C) (logs : ℕ → List LogRecord) → Known w earlier o s logs → IsCommitted (grown earlier logs) (o.committed ++ all_in w.text.logs logs s)
+committed_grown {C} w earlier o s logs g =
+    let old = old_kept w earlier o s logs o.committed g g.before.committed.each in
+    let new = new_kept_all w earlier o s logs g in
+    let many = w.text.logs in
+    record {
+      ascend = rises_from (o.committed ++ all_in w.text.logs logs s) (rises_join w.text.opening.next_bid w.text.opening.next_c o.committed (all_in w.text.logs logs s) g.some_bid (rises_to o.committed g.before.committed.ascend) old.1 new.1 new.2);
+      each = all_append (IsKept (grown earlier logs)) o.committed (all_in w.text.logs logs s) old.0 new.0;
+      all_batches = λ b h. subst (λ z. Contains z (keys.Commit b)) (sym (map-append commit_of o.committed (all_in w.text.logs logs s))) (elim (in_cases w earlier o s logs b g h) [
+        | inl q ↦ contains_left (map commit_of o.committed) (map commit_of (all_in w.text.logs logs s)) (keys.Commit b) (g.before.committed.all_batches b q)
+        | inr q ↦ contains_right (map commit_of o.committed) (map commit_of (all_in w.text.logs logs s)) (keys.Commit b) (batch_there b q)
+      ]);
+      all_acts = λ t h. subst (λ z. Contains z (keys.Act t)) (sym (map-append commit_of o.committed (all_in w.text.logs logs s))) (elim (act_cases w earlier o s logs t g h) [
+        | inl q ↦ contains_left (map commit_of o.committed) (map commit_of (all_in w.text.logs logs s)) (keys.Act t) (g.before.committed.all_acts t q)
+        | inr q ↦ contains_right (map commit_of o.committed) (map commit_of (all_in w.text.logs logs s)) (keys.Act t) (act_there t q)
+      ]);
+    }
+  where
+    batch_there : (b : Bid) → is_in w.text.logs logs (OfBatch b.0) ≡ true → Contains (map commit_of (all_in w.text.logs logs s)) (keys.Commit b)
+    batch_there b q =
+        let x = one_is (λ b. not (is_formed b.stage)) (batch_of b.0 s.desk.batches) (known_commit s.desk.batches s.book.acts b.0 (logs (b.0 % w.text.logs)) (g.tells (b.0 % w.text.logs)) q) in
+        let there = acts_keep commit_of w.text.logs logs s.book.acts (batches_in w.text.logs logs s.desk.batches) (keys.Commit (bid_of x.0.bid)) (has_batch commit_of w.text.logs logs b.0 x.0 s.desk.batches x.1 q) in
+        subst (λ z. Contains (map commit_of (all_in w.text.logs logs s)) (keys.Commit (bid_of z))) (eqb-true x.0.bid b.0 (found_bid b.0 x.0 s.desk.batches x.1)) there
+
+    act_there : (t : Tid) → is_in w.text.logs logs (OfAct t.0) ≡ true → Contains (map commit_of (all_in w.text.logs logs s)) (keys.Act t)
+    act_there t q =
+        let x = act_told w earlier o s logs t.0 g q in
+        subst (λ z. Contains (map commit_of (all_in w.text.logs logs s)) (keys.Act (tid_of z))) (found_tid t.0 x.act s.book.acts x.found) (acts_have commit_of w.text.logs logs t.0 x.act s.book.acts (batches_in w.text.logs logs s.desk.batches) x.found q)

@@ -1,0 +1,13 @@
+pub mod ActsDrawn
+pub mod CommittedGrown
+pub mod InOrder
+pub mod KnownLogs
+pub mod LogsGrown
+pub mod MembersOrdered
+pub mod MembersTold
+pub mod MomentsJoined
+pub mod RunsAgain
+pub mod SpotsOrdered
+pub mod StatesGrown
+pub mod WholesGrown
+pub mod WrittenLists

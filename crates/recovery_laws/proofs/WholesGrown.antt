@@ -1,0 +1,119 @@
+-- What is in is whole in logs that a run grew.
+use Rattle.std.specs.Prelude.{◌≡◌, refl, ℕ, ◌+◌, ◌<◌, ◌≤◌, ◌%◌, Bool, true, false, ◌||◌, if◌then◌else◌, List, [], ◌∷◌, ◌++◌, length, filter}
+use Rattle.std.specs.List.{AllByRecursion, list_any}
+use Rattle.std.proofs.Common.{arith, sym, ap, subst, inl, inr, ◌∙◌, append_assoc}
+use Rattle.std.proofs.lemmas.Bool.{true≢false, eq-eqb, false_from_ne_true}
+use Rattle.snap_base.specs.declared.ids.ActorId.{ActorId}
+use Rattle.snap_base.specs.declared.ids.Bid.{Bid}
+use Rattle.snap_base.specs.declared.ids.Tid.{Tid}
+use Rattle.protocol.specs.Fixed.{Fixed}
+use Rattle.protocol.specs.Records as machine
+use Rattle.protocol.specs.Records.{LogRecord, is_info, is_complete, is_commit, is_prepare, is_act_commit}
+use Rattle.protocol.specs.Parts.{Machine}
+use Rattle.protocol.specs.Words.{count}
+use Rattle.protocol_laws.specs.RecordLaws.{OfInfo, OfActCommit}
+use Rattle.txn_records.specs.declared.records.Record.{Record}
+use Rattle.txn_records.specs.declared.records.Record.TheVariants.{BatchInfo, ActCommit}
+use Rattle.txn_records.specs.declared.keys.Key.TheVariants as keys
+use Rattle.txn_records.specs.Records.{key}
+use Rattle.snap_recover.specs.declared.openings.Opening.{Opening}
+use Rattle.snap_recover.specs.Logs.{Has, log_of}
+use Rattle.snap_recover.specs.Opening.{IsIn, IsInfoOf, HasCompleted, IsWhole, IsActIn, IsActOf, HasPrepared, IsActWhole}
+use Rattle.snap_recover.proofs.Lists.{all_append, all_weaker}
+use Rattle.snap_recover.proofs.Growing.{has_left, has_right}
+use Rattle.recovery_laws.specs.Grown.{bid_of, tid_of, actor_of, tids_of, actors_of, all_written, grown}
+use Rattle.recovery_laws.proofs.WrittenLists.{written_join, complete_has, prepare_has, no_act, no_info, info_above}
+use Rattle.recovery_laws.proofs.KnownLogs.{Known, log_grown, in_old, in_cases, act_old, act_cases, new_act_low}
+
+-- ---- what was there stays
+
+pub completed_stays : {C : Type 0} (w : Fixed C) (earlier : List (List Record)) (o : Opening) (s : Machine C) (logs : ℕ → List LogRecord) (b : Bid) (a : ActorId) → Known w earlier o s logs → HasCompleted earlier b a → HasCompleted (grown earlier logs) b a
+completed_stays w earlier o s logs b a g h = subst (λ z. Has z (keys.Complete b a)) (sym (log_grown w earlier o s logs a.0 g)) (has_left (log_of earlier a.0) (all_written (logs (a.0 % w.text.logs))) (keys.Complete b a) h)
+
+pub info_stays : {C : Type 0} (w : Fixed C) (earlier : List (List Record)) (o : Opening) (s : Machine C) (logs : ℕ → List LogRecord) (b : Bid) (actors : List ActorId) (tids : List Tid) → Known w earlier o s logs → b.0 < w.text.opening.next_bid → IsInfoOf earlier b actors tids → IsInfoOf (grown earlier logs) b actors tids
+info_stays w earlier o s logs b actors tids g l (front, behind, e, p, quiet) =
+    let more = all_written (logs (b.0 % w.text.logs)) in
+    let n = no_info (logs (b.0 % w.text.logs)) b (info_above (logs (b.0 % w.text.logs)) w.text.opening.next_bid b.0 l (g.low (b.0 % w.text.logs))) in
+    (front, behind ++ more, log_grown w earlier o s logs b.0 g ∙ (ap (λ z. z ++ more) e ∙ append_assoc front (BatchInfo b actors tids ∷ behind) more), p, all_append (λ r. ¬ (key r ≡ keys.Info b)) behind more quiet n)
+
+-- ---- the infos and the commits of the run
+
+pub count_cons : {X : Type 0} (p : X → Bool) (x : X) (xs : List X) → p x ≡ true → count p (x ∷ xs) ≡ 1 + count p xs
+count_cons p x xs e = by (p x) e
+  where
+    by : (b : Bool) → b ≡ true → length (if b then x ∷ filter p xs else filter p xs) ≡ 1 + length (filter p xs)
+    by true f = omega arith
+    by false f = absurd (true≢false (sym f))
+
+count_any : {X : Type 0} (p : X → Bool) (xs : List X) → list_any p xs ≡ true → 1 ≤ count p xs
+count_any p [] e = absurd (true≢false (sym e))
+count_any p (x ∷ xs) e = by (p x) refl e (count_any p xs)
+  where
+    by : (b : Bool) → p x ≡ b → (b || list_any p xs) ≡ true → (list_any p xs ≡ true → 1 ≤ count p xs) → 1 ≤ length (if b then x ∷ filter p xs else filter p xs)
+    by true f e k = omega arith
+    by false f e k = k e
+
+pub count_behind : {X : Type 0} (p : X → Bool) (front behind : List X) → count p behind ≤ count p (front ++ behind)
+count_behind p [] behind = omega arith
+count_behind p (x ∷ xs) behind = by (p x) (count_behind p xs behind)
+  where
+    by : (b : Bool) → count p behind ≤ length (filter p (xs ++ behind)) → count p behind ≤ length (if b then x ∷ filter p (xs ++ behind) else filter p (xs ++ behind))
+    by true k = omega (arith, k)
+    by false k = k
+
+pub info_new : {C : Type 0} (w : Fixed C) (earlier : List (List Record)) (o : Opening) (s : Machine C) (logs : ℕ → List LogRecord) (k : ℕ) (actors tids : List ℕ) (front rest : List LogRecord) → Known w earlier o s logs → logs (k % w.text.logs) ≡ front ++ machine.BatchInfo k actors tids ∷ rest
+    → IsInfoOf (grown earlier logs) (bid_of k) (actors_of actors) (tids_of tids)
+info_new w earlier o s logs k actors tids front rest g e =
+    let r = machine.BatchInfo k actors tids in
+    let one : count (is_info k) (front ++ machine.BatchInfo k actors tids ∷ rest) ≤ 1 = subst (λ z. count (is_info k) z ≤ 1) e (g.once (OfInfo k) (k % w.text.logs)) in
+    let none : list_any (is_info k) rest ≡ false = false_from_ne_true (list_any (is_info k) rest) (λ q. omega (arith, one, count_behind (is_info k) front (r ∷ rest), count_cons (is_info k) r rest (eq-eqb k k refl), count_any (is_info k) rest q)) in
+    (log_of earlier k ++ all_written front, all_written rest, log_grown w earlier o s logs k g ∙ (ap (λ z. log_of earlier k ++ all_written z) e ∙ (ap (λ z. log_of earlier k ++ z) (written_join front (r ∷ rest)) ∙ sym (append_assoc (log_of earlier k) (all_written front) (BatchInfo (bid_of k) (actors_of actors) (tids_of tids) ∷ all_written rest)))), refl, no_info rest (bid_of k) none)
+
+completed_new : {C : Type 0} (w : Fixed C) (earlier : List (List Record)) (o : Opening) (s : Machine C) (logs : ℕ → List LogRecord) (k : ℕ) (as' : List ℕ) → Known w earlier o s logs → AllByRecursion (λ a. list_any (is_complete k a) (logs (a % w.text.logs)) ≡ true) as' → AllByRecursion (HasCompleted (grown earlier logs) (bid_of k)) (actors_of as')
+completed_new w earlier o s logs k [] g h = tt
+completed_new w earlier o s logs k (a ∷ as') g h = (
+  subst (λ z. Has z (keys.Complete (bid_of k) (record { 0 = a }))) (sym (log_grown w earlier o s logs a g)) (has_right (log_of earlier a) (all_written (logs (a % w.text.logs))) (keys.Complete (bid_of k) (record { 0 = a })) (complete_has (logs (a % w.text.logs)) k a h.0)),
+  completed_new w earlier o s logs k as' g h.1,
+)
+
+same_bid : (b : Bid) → bid_of b.0 ≡ b
+same_bid b = refl
+
+pub whole_grown : {C : Type 0} (w : Fixed C) (earlier : List (List Record)) (o : Opening) (s : Machine C) (logs : ℕ → List LogRecord) (b : Bid) → Known w earlier o s logs → IsIn (grown earlier logs) b → IsWhole (grown earlier logs) b
+whole_grown w earlier o s logs b g h = elim (in_cases w earlier o s logs b g h) [
+  | inl q ↦ let x = g.before.whole b q in (x.0, x.1, info_stays w earlier o s logs b x.0 x.1 g (in_old w earlier o s logs b g q) x.2, all_weaker (HasCompleted earlier b) (HasCompleted (grown earlier logs) b) x.0 (λ a k. completed_stays w earlier o s logs b a g k) x.3)
+  | inr q ↦ let x = g.whole b.0 q in (actors_of x.actors, tids_of x.tids, info_new w earlier o s logs b.0 x.actors x.tids x.front x.rest g x.info, completed_new w earlier o s logs b.0 x.actors g x.completes)
+]
+
+-- ---- ACTs
+
+prepared_stays : {C : Type 0} (w : Fixed C) (earlier : List (List Record)) (o : Opening) (s : Machine C) (logs : ℕ → List LogRecord) (t : Tid) (a : ActorId) → Known w earlier o s logs → HasPrepared earlier t a → HasPrepared (grown earlier logs) t a
+prepared_stays w earlier o s logs t a g h = subst (λ z. Has z (keys.Prepare t a)) (sym (log_grown w earlier o s logs a.0 g)) (has_left (log_of earlier a.0) (all_written (logs (a.0 % w.text.logs))) (keys.Prepare t a) h)
+
+pub commit_stays : {C : Type 0} (w : Fixed C) (earlier : List (List Record)) (o : Opening) (s : Machine C) (logs : ℕ → List LogRecord) (t : Tid) (m : Bid) (c : ℕ) (actors : List ActorId) → Known w earlier o s logs → t.0 < w.text.opening.next_tid → IsActOf earlier t m c actors → IsActOf (grown earlier logs) t m c actors
+commit_stays w earlier o s logs t m c actors g l (front, behind, e, p, quiet) =
+    let more = all_written (logs (t.0 % w.text.logs)) in
+    let none : list_any (is_act_commit t.0) (logs (t.0 % w.text.logs)) ≡ false = false_from_ne_true (list_any (is_act_commit t.0) (logs (t.0 % w.text.logs))) (λ q. omega (arith, l, new_act_low w earlier o s logs t.0 g q)) in
+    let n = no_act (logs (t.0 % w.text.logs)) t none in
+    (front, behind ++ more, log_grown w earlier o s logs t.0 g ∙ (ap (λ z. z ++ more) e ∙ append_assoc front (ActCommit t m c actors ∷ behind) more), p, all_append (λ r. ¬ (key r ≡ keys.Act t)) behind more quiet n)
+
+pub commit_new : {C : Type 0} (w : Fixed C) (earlier : List (List Record)) (o : Opening) (s : Machine C) (logs : ℕ → List LogRecord) (t m c : ℕ) (actors : List ℕ) (front rest : List LogRecord) → Known w earlier o s logs → logs (t % w.text.logs) ≡ front ++ machine.ActCommit t m c actors ∷ rest
+    → IsActOf (grown earlier logs) (tid_of t) (bid_of m) c (actors_of actors)
+commit_new w earlier o s logs t m c actors front rest g e =
+    let r = machine.ActCommit t m c actors in
+    let one : count (is_act_commit t) (front ++ machine.ActCommit t m c actors ∷ rest) ≤ 1 = subst (λ z. count (is_act_commit t) z ≤ 1) e (g.once (OfActCommit t) (t % w.text.logs)) in
+    let none : list_any (is_act_commit t) rest ≡ false = false_from_ne_true (list_any (is_act_commit t) rest) (λ q. omega (arith, one, count_behind (is_act_commit t) front (r ∷ rest), count_cons (is_act_commit t) r rest (eq-eqb t t refl), count_any (is_act_commit t) rest q)) in
+    (log_of earlier t ++ all_written front, all_written rest, log_grown w earlier o s logs t g ∙ (ap (λ z. log_of earlier t ++ all_written z) e ∙ (ap (λ z. log_of earlier t ++ z) (written_join front (r ∷ rest)) ∙ sym (append_assoc (log_of earlier t) (all_written front) (ActCommit (tid_of t) (bid_of m) c (actors_of actors) ∷ all_written rest)))), refl, no_act rest (tid_of t) none)
+
+prepared_new : {C : Type 0} (w : Fixed C) (earlier : List (List Record)) (o : Opening) (s : Machine C) (logs : ℕ → List LogRecord) (t : ℕ) (as' : List ℕ) → Known w earlier o s logs → AllByRecursion (λ a. list_any (is_prepare t a) (logs (a % w.text.logs)) ≡ true) as' → AllByRecursion (HasPrepared (grown earlier logs) (tid_of t)) (actors_of as')
+prepared_new w earlier o s logs t [] g h = tt
+prepared_new w earlier o s logs t (a ∷ as') g h = (
+  subst (λ z. Has z (keys.Prepare (tid_of t) (actor_of a))) (sym (log_grown w earlier o s logs a g)) (has_right (log_of earlier a) (all_written (logs (a % w.text.logs))) (keys.Prepare (tid_of t) (actor_of a)) (prepare_has (logs (a % w.text.logs)) t a h.0)),
+  prepared_new w earlier o s logs t as' g h.1,
+)
+
+pub act_whole_grown : {C : Type 0} (w : Fixed C) (earlier : List (List Record)) (o : Opening) (s : Machine C) (logs : ℕ → List LogRecord) (t : Tid) → Known w earlier o s logs → IsActIn (grown earlier logs) t → IsActWhole (grown earlier logs) t
+act_whole_grown w earlier o s logs t g h = elim (act_cases w earlier o s logs t g h) [
+  | inl q ↦ let x = g.before.acts_whole t q in (x.0, x.1, x.2, commit_stays w earlier o s logs t x.0 x.1 x.2 g (act_old w earlier o s logs t g q) x.3, all_weaker (HasPrepared earlier t) (HasPrepared (grown earlier logs) t) x.2 (λ a k. prepared_stays w earlier o s logs t a g k) x.4)
+  | inr q ↦ let x = g.whole_acts t.0 q in (bid_of x.m, x.c, actors_of x.actors, commit_new w earlier o s logs t.0 x.m x.c x.actors x.front x.rest g x.commit, prepared_new w earlier o s logs t.0 x.actors g x.prepares)
+]

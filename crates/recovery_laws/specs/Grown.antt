@@ -1,0 +1,126 @@
+-- The records of a run as they are written, behind those of earlier runs, and the opening to which they recover.
+use Rattle.std.specs.Prelude.{◌≡◌, ℕ, ◌+◌, ◌≤◌, ◌==◌, nat_lt, nat_le, Bool, ◌&&◌, ◌||◌, if◌then◌else◌, List, [], ◌∷◌, ◌++◌, length, map}
+use Rattle.snap_base.specs.declared.ids.ActorId.{ActorId}
+use Rattle.snap_base.specs.declared.ids.Bid.{Bid}
+use Rattle.snap_base.specs.declared.ids.Tid.{Tid}
+use Rattle.snap_base.specs.declared.verdicts.Place.{Place}
+use Rattle.protocol.specs.Fixed.{Text, Fixed}
+use Rattle.protocol.specs.Records as machine
+use Rattle.protocol.specs.Records.{LogRecord}
+use Rattle.protocol.specs.Parts.{Act, Status, Live, Doomed, Decided, Sealed, OfBatch, OfAct, Batch, Machine}
+use Rattle.protocol.specs.Verdicts.{pact_place, act_place}
+use Rattle.protocol_laws.specs.Crash.{is_in}
+use Rattle.protocol_laws.specs.NextNumbers.{next_tid_of, next_bid_of, next_c_of}
+use Rattle.protocol_laws.specs.SeveralRuns.{recovered_from}
+use Rattle.txn_records.specs.declared.records.Record.{Record}
+use Rattle.txn_records.specs.declared.records.Record.TheVariants.{BatchInfo, BatchComplete, BatchCommit, ActPrepare, ActCommit}
+use Rattle.snap_recover.specs.declared.openings.Kept.{Kept}
+use Rattle.snap_recover.specs.declared.openings.Kept.TheVariants as kept
+use Rattle.snap_recover.specs.declared.openings.Opening.{Opening}
+use Rattle.snap_recover.specs.declared.ranges.TheConstants.{GREATEST_NUMBER}
+
+-- ---- as records are written
+
+abbrev pub bid_of : ℕ → Bid
+bid_of k = record { 0 = k }
+
+abbrev pub tid_of : ℕ → Tid
+tid_of t = record { 0 = t }
+
+abbrev pub actor_of : ℕ → ActorId
+actor_of a = record { 0 = a }
+
+abbrev pub tids_of : List ℕ → List Tid
+tids_of ts = map tid_of ts
+
+abbrev pub actors_of : List ℕ → List ActorId
+actors_of as' = map actor_of as'
+
+abbrev pub written : LogRecord → Record
+written (machine.BatchInfo k actors tids) = BatchInfo (bid_of k) (actors_of actors) (tids_of tids)
+written (machine.BatchComplete k a state) = BatchComplete (bid_of k) (actor_of a) state
+written (machine.BatchCommit k) = BatchCommit (bid_of k)
+written (machine.ActPrepare t a state) = ActPrepare (tid_of t) (actor_of a) state
+written (machine.ActCommit t m c actors) = ActCommit (tid_of t) (bid_of m) c (actors_of actors)
+
+abbrev pub all_written : List LogRecord → List Record
+all_written rs = map written rs
+
+-- each log from this number on has behind its records those of the run
+abbrev pub grown_from : ℕ → List (List Record) → (ℕ → List LogRecord) → List (List Record)
+grown_from n [] logs = []
+grown_from n (rs ∷ rss) logs = (rs ++ all_written (logs n)) ∷ grown_from (n + 1) rss logs
+
+abbrev pub grown : List (List Record) → (ℕ → List LogRecord) → List (List Record)
+grown earlier logs = grown_from 0 earlier logs
+
+-- ---- what is in, in the order of its places
+
+-- A batch stands before all later ones, and an ACT behind its batch m, by its commit number and then by its tid.
+abbrev pub comes_before : Kept → Kept → Bool
+comes_before (kept.Batch b tids) (kept.Batch b' tids') = nat_lt b.0 b'.0
+comes_before (kept.Batch b tids) (kept.Act t m c) = nat_le b.0 m.0
+comes_before (kept.Act t m c) (kept.Batch b tids) = nat_lt m.0 b.0
+comes_before (kept.Act t m c) (kept.Act t' m' c') = nat_lt m.0 m'.0 || ((m.0 == m'.0) && (nat_lt c c' || ((c == c') && nat_lt t.0 t'.0)))
+
+-- before the first one that it comes before
+abbrev pub put_in : Kept → List Kept → List Kept
+put_in k [] = k ∷ []
+put_in k (x ∷ xs) = if comes_before k x then k ∷ x ∷ xs else x ∷ put_in k xs
+
+abbrev pub kept_batch : Batch → Kept
+kept_batch b = kept.Batch (bid_of b.bid) (tids_of (map (λ p. p.tid) b.pacts))
+
+-- the commit number of an ACT that has one
+abbrev pub number_of : Status → ℕ
+number_of Live = 0
+number_of (Doomed v) = 0
+number_of (Decided c) = c
+number_of (Sealed c) = c
+
+abbrev pub kept_act : Act → Kept
+kept_act x = kept.Act (tid_of x.tid) (bid_of x.m) (number_of x.status)
+
+-- the batches that are in
+abbrev pub batches_in : ℕ → (ℕ → List LogRecord) → List Batch → List Kept
+batches_in many logs [] = []
+batches_in many logs (b ∷ bs) = if is_in many logs (OfBatch b.bid) then kept_batch b ∷ batches_in many logs bs else batches_in many logs bs
+
+-- the ACTs that are in, each put in its place among these
+abbrev pub with_acts : ℕ → (ℕ → List LogRecord) → List Act → List Kept → List Kept
+with_acts many logs [] ks = ks
+with_acts many logs (x ∷ xs) ks = if is_in many logs (OfAct x.tid) then put_in (kept_act x) (with_acts many logs xs ks) else with_acts many logs xs ks
+
+abbrev pub all_in : {C : Type 0} → ℕ → (ℕ → List LogRecord) → Machine C → List Kept
+all_in many logs s = with_acts many logs s.book.acts (batches_in many logs s.desk.batches)
+
+-- the places of its transactions, each with its tid
+abbrev pub places_of : Kept → List (Place × ℕ)
+places_of (kept.Batch b tids) = map (λ t. (pact_place b.0 t.0, t.0)) tids
+places_of (kept.Act t m c) = (act_place m.0 c, t.0) ∷ []
+
+-- ---- what they recover to
+
+-- the run begins with what its logs recovered to
+pub record BeginsWith (w : Text) (o : Opening) : Type 0 where
+  pub states : o.states ≡ w.opening.states
+  pub next_tid : o.next_tid.0 ≡ w.opening.next_tid
+  pub next_bid : o.next_bid.0 ≡ w.opening.next_bid
+  pub next_c : o.next_c ≡ w.opening.next_c
+
+-- The opening to which the logs recover: the states are those of the members, what is in stands behind what earlier runs
+-- committed, and the next numbers are above all.
+abbrev pub opening_after : {C : Type 0} → Fixed C → Opening → Machine C → (ℕ → List LogRecord) → Opening
+opening_after w o s logs = record {
+  states = recovered_from w.text.logs logs 0 w.text.opening.states;
+  committed = o.committed ++ all_in w.text.logs logs s;
+  next_tid = tid_of (next_tid_of w logs);
+  next_bid = bid_of (next_bid_of w logs);
+  next_c = next_c_of w logs;
+}
+
+-- a run of the text draws no number above the greatest that a record may have
+pub record NumbersFit (w : Text) : Type 0 where
+  pub tids : w.opening.next_tid + length w.txs ≤ GREATEST_NUMBER + 1
+  pub bids : w.opening.next_bid + length w.txs ≤ GREATEST_NUMBER + 1
+  pub cs : w.opening.next_c + length w.txs ≤ GREATEST_NUMBER + 1

@@ -1,0 +1,42 @@
+//! The laws. `C` is the type of controls.
+
+ghost use Rattle.std.specs.Prelude.{List};
+ghost use Rattle.txn_records.specs.declared.records.Record.{Record};
+ghost use Rattle.snap_recover.specs.declared.openings.Opening.{Opening};
+ghost use Rattle.snap_recover.specs.Opening.{IsRecovered};
+ghost use Rattle.protocol_laws.specs.SeveralRuns.{CutRun};
+ghost use Rattle.recovery_laws.specs.Joined.{AtEveryMomentOnLogs, GoOnLogs, RecoverAgain, RecoversToMembers};
+
+use protocol_laws::{
+    next_numbers_are_above_all, numbers_are_drawn_once, numbers_are_in_range,
+    pairs_carry_before_numbers, records_are_added_once, records_tell_what_is,
+    recovered_transactions_are_in_order, sizes_hold,
+};
+use snap_recover::refused_is_not_recovered;
+
+/// At every moment of every run on logs that recover to the run's opening, whatever each log is left with, recovery refuses
+/// nothing. Of the opening that it gives the states are those that the members leave, the batches and the undeclared
+/// transactions are those of earlier runs and behind them the members, in the order of their places, and the next numbers
+/// are above all.
+pub fn logs_recover_to_the_members<C>()
+    ensures { AtEveryMomentOnLogs (RecoversToMembers {C = C}) }
+{
+    recovered_transactions_are_in_order::<C>();
+    records_are_added_once::<C>();
+    records_tell_what_is::<C>();
+    numbers_are_in_range::<C>();
+    numbers_are_drawn_once::<C>();
+    pairs_carry_before_numbers::<C>();
+    sizes_hold::<C>();
+    next_numbers_are_above_all::<C>();
+    refused_is_not_recovered();
+}
+
+/// Of runs one after the other, each cut off at any moment, whatever its logs are left with, and each beginning with
+/// what its logs recover to: behind each of them the logs recover again, to the states that its members leave behind those of
+/// the runs before.
+pub fn logs_recover_behind_each_run<C>()
+    ensures { (earlier : List (List Record)) (o : Opening) (xs : List (CutRun C)) → IsRecovered earlier o → GoOnLogs earlier o xs → RecoverAgain earlier o xs }
+{
+    logs_recover_to_the_members::<C>();
+}
