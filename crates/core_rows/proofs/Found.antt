@@ -1,0 +1,45 @@
+-- What a condition that holds has found.
+use Rattle.std.proofs.Common.{◌≡◌, Bool, true, false, ◌&&◌, Option, Some, None, is_some, refl, ap, ◌∙◌}
+use Rattle.std.specs.Option.{option_map}
+use Rattle.protocol.specs.Words.{holds}
+
+-- something is there
+pub held : {X : Type 0} (test : X → Bool) (o : Option X) → holds test o ≡ true → (x : X) × (o ≡ Some x)
+held test None h = absurd (cc h)
+held test (Some x) h = (x, refl)
+
+-- what stands for it is there
+pub told_some : {X Y Z : Type 0} (f : X → Z) (h : Y → Z) (r : Option X) (o : Option Y) (y : Y) → option_map f r ≡ option_map h o → o ≡ Some y → is_some r ≡ true
+told_some f h None o y same is = let e : None ≡ Some (h y) = same ∙ ap (option_map h) is in absurd (cc e)
+told_some f h (Some x) o y same is = refl
+
+pub is_there : {X Y : Type 0} (h : Y → X) (r : Option X) (o : Option Y) (y : Y) → r ≡ option_map h o → o ≡ Some y → r ≡ Some (h y)
+is_there h r o y same is = same ∙ ap (option_map h) is
+
+-- one is there where the other is
+pub same_some : {X Y Z : Type 0} (f : X → Z) (h : Y → Z) (r : Option X) (o : Option Y) → option_map f r ≡ option_map h o → is_some o ≡ is_some r
+same_some f h None None same = refl
+same_some f h None (Some y) same = let e : None ≡ Some (h y) = same in absurd (cc e)
+same_some f h (Some x) None same = let e : Some (f x) ≡ None = same in absurd (cc e)
+same_some f h (Some x) (Some y) same = refl
+
+-- a test of what was told
+pub test_of_told : {X Y : Type 0} (test : X → Bool) (h : Y → X) (o : Option Y) (x : X) → Some x ≡ option_map h o → test x ≡ holds (λ y. test (h y)) o
+test_of_told test h None x same = absurd (cc same)
+test_of_told test h (Some y) x same = let e : x ≡ h y = cc same in ap test e
+
+pub nothing_told : {X Y : Type 0} (test : X → Bool) (h : Y → X) (o : Option Y) → None ≡ option_map h o → false ≡ holds (λ y. test (h y)) o
+nothing_told test h None same = refl
+nothing_told test h (Some y) same = let e : None ≡ Some (h y) = same in absurd (cc e)
+
+pub mapped_some : {X Y : Type 0} (f : X → Y) (o : Option X) (y : Y) → option_map f o ≡ Some y → (x : X) × ((o ≡ Some x) × (f x ≡ y))
+mapped_some f None y same = absurd (cc same)
+mapped_some f (Some x) y same = (x, (refl, cc same))
+
+pub both : (a b : Bool) → a ≡ true → b ≡ true → (a && b) ≡ true
+both true b p q = q
+both false b p q = absurd (cc p)
+
+pub second : (a b : Bool) → (a && b) ≡ true → b ≡ true
+second true b p = p
+second false b p = absurd (cc p)

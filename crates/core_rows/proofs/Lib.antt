@@ -1,0 +1,6 @@
+pub mod RunsOn
+pub mod Rules
+pub mod Placing
+pub mod Found
+pub mod Failing
+pub mod Older

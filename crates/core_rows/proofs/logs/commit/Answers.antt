@@ -1,0 +1,32 @@
+use Rattle.std.proofs.Common.{◌%◌, [], ◌∷◌, IsTrue, refl, ap, sym, subst, ◌∙◌}
+use Rattle.protocol.specs.Events.{Commit}
+use Rattle.protocol.specs.Conditions.{conditions}
+use Rattle.protocol.specs.Effects.{after, added}
+use Rattle.protocol.specs.OnDesk.{batch_committing}
+use Rattle.protocol.specs.Records.{BatchCommit}
+use Rattle.batch_table.specs.Askings.{may_commit}
+use Rattle.core_rows.proofs.Rules.{allowed_where}
+use Rattle.core_rows.proofs.Placing.{log_there}
+use Rattle.core_rows.proofs.Found.{both}
+use Rattle.core_rows.proofs.logs.commit.Goals as goal
+
+pub add-requires : goal.add-requires
+add-requires g c =
+    let ok = allowed_where c.requires.text (Commit c.args.k.0) c.requires.state (c.commit_refusal-rule.ensures c.requires.text c.requires.state c.requires.run c.requires.shows ∙ c.if-rule-ne0.false) in
+    (c.rows_may.ensures c.requires.text c.requires.state c.requires.run).tells_commit c.args.k.0 ok c.args.k refl
+
+pub commit-requires : goal.commit-requires
+unfolding conditions
+commit-requires g c =
+    let ok = allowed_where c.requires.text (Commit c.args.k.0) c.requires.state (c.commit_refusal-rule.ensures c.requires.text c.requires.state c.requires.run c.requires.shows ∙ c.if-rule-ne0.false) in
+    subst (λ d. IsTrue (may_commit c.args.k.0 d.batches)) c.requires.shows.0 (both _ _ ok.0 (both _ _ ok.1.0 ok.1.1.0))
+
+pub returns-clause-ok : goal.returns-clause-ok
+unfolding after
+returns-clause-ok g c w s r shows = (
+  allowed_where w _ s (c.commit_refusal-rule.ensures w s r shows ∙ c.if-rule-ne0.false),
+  (
+    ap (batch_committing c.args.k.0) shows.0 ∙ sym c.commit.ensures,
+    (added (BatchCommit c.args.k.0 ∷ []) shows.1.0, (log_there s (c.args.k.0 % w.text.logs) shows.1.0 (added (BatchCommit c.args.k.0 ∷ [])) shows.1.1.0, c.in_ok-add.ensures.shows shows.1.0 (BatchCommit c.args.k.0) refl shows.1.1.1)),
+  ),
+)

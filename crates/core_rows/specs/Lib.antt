@@ -1,0 +1,3 @@
+pub mod OnRuns
+pub mod Showing
+pub mod Taken
