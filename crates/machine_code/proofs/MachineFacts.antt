@@ -1,5 +1,5 @@
 -- The facts that the machine uses, from what the sliced executor promises of beginnings and slices.
-use Rattle.std.proofs.Common.{◌≡◌, ℕ, ◌<◌, inl, true, Some, unwrap_or, List, set, refl, ap, ◌∙◌, subst, arith}
+use Rattle.std.proofs.Common.{◌≡◌, ℕ, ◌<◌, inl, true, Some, unwrap_or, List, set, refl, ◌∙◌, subst, arith}
 use Rattle.snap_base.specs.declared.ids.ActorId.{ActorId}
 use Rattle.snap_base.specs.declared.ids.Tid.{Tid}
 use Rattle.snap_base.specs.declared.transactions.Kind.{Kind}
@@ -18,7 +18,7 @@ use Rattle.aml_slice.specs.Moments.{HandsOn, IsHandedOn}
 use Rattle.aml_slice.specs.Finishing.{goes_on, after_slice, finished}
 use Rattle.protocol.specs.Fixed.{Go, is_pact_kind, declared}
 use Rattle.protocol.specs.Facts.{Facts, rest_of}
-use Rattle.machine_code.specs.MethodCode.{tid_of, as_next, as_alone, method_code, IsRestOf, finish}
+use Rattle.machine_code.specs.MethodCode.{tid_of, as_next, method_code, IsRestOf, finish}
 use Rattle.machine_code.proofs.Askings.{rests_told, rests_tells, among_told, among_tells}
 use Rattle.machine_code.proofs.Naming.{only_named}
 
@@ -51,7 +51,7 @@ handed : (p : List CheckedMethod) (count : ℕ) (tx : Tx) (c d : Rest) (s : Stat
 handed p count tx c d s b promises is e = handed_by p count c b d (slice_end p count c s).next (promises.hands_on c s is.rest) e
 
 -- what becomes of a transaction behind a slice
-finish_behind : (p : List CheckedMethod) (count : ℕ) (w : List State) (next : slices.Next) → as_alone (goes_on (finished p count) w next) ≡ rest_of (finish p count) (as_next next) w
+finish_behind : (p : List CheckedMethod) (count : ℕ) (w : List State) (next : slices.Next) → goes_on (finished p count) w next ≡ rest_of (finish p count) (as_next next) w
 finish_behind p count w (slice.Go b d) = refl
 finish_behind p count w (slice.Ended r) = refl
 
@@ -77,8 +77,8 @@ machine_facts p count promises = record {
   few_visits = λ t tx. omega arith;
   one_visit = λ tx c is. omega arith;
   visits_fall = λ tx c d s b is e. (let on = handed p count tx c d s b promises is e in omega (arith, on.fewer));
-  only_named_by_tid = λ t u tx w. ap as_alone (only_named (tid_of t) p count (started (tid_of u) tx) w);
+  only_named_by_tid = λ t u tx w. only_named (tid_of t) p count (started (tid_of u) tx) w;
   slices_keep_the_meaning = λ tx c w is here.
-      ap as_alone (promises.keeps c w is.rest)
+      promises.keeps c w is.rest
       ∙ finish_behind p count (set w c.top.actor (slice_end p count c (state_at w c.top.actor)).state) (slice_end p count c (state_at w c.top.actor)).next;
 }

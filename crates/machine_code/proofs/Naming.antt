@@ -5,7 +5,8 @@ use Rattle.snap_base.specs.declared.transactions.State.{State}
 use Rattle.snap_base.specs.declared.transactions.TxResult.TheVariants as result
 use Rattle.aml_tree.specs.Tree.{CheckedMethod}
 use Rattle.aml_check.specs.Names.{method_at}
-use Rattle.aml_check.specs.Meaning.{Progress, After, state_at, actor_of, admitted, too_deep}
+use Rattle.serial_words.specs.Outcomes.{Alone}
+use Rattle.aml_check.specs.Meaning.{Progress, state_at, actor_of, admitted, too_deep}
 use Rattle.aml_resume.specs.Places.{Standing}
 use Rattle.aml_resume.specs.Pausing.{Pause, Through, Returned, Calling, Failed, method_pause}
 use Rattle.aml_slice.specs.declared.slices.Next.{Next}
@@ -67,7 +68,7 @@ ended_in_as t zero p count own c s = refl
 ended_in_as t (suc f) p count own c s =
     ap (after_move own (slice_end_in f p count own)) (moved_by_as t count c (method_pause c.top.actor (method_at p c.top.method).body c.top.standing s c.statements)) ∙ after_as t own (slice_end_in f p count own) (λ d u. ended_in_as t f p count own d u) (move p count c s)
 
-on_named : (t : Tid) (more : Rest → List State → After) (w : List State) → ((d : Rest) (v : List State) → more (named t d) v ≡ more d v) → (x : Next) → goes_on more w (on_as t x) ≡ goes_on more w x
+on_named : (t : Tid) (more : Rest → List State → Alone) (w : List State) → ((d : Rest) (v : List State) → more (named t d) v ≡ more d v) → (x : Next) → goes_on more w (on_as t x) ≡ goes_on more w x
 on_named t more w h (Go b d) = h d w
 on_named t more w h (Ended r) = refl
 

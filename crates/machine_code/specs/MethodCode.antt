@@ -7,14 +7,13 @@ use Rattle.snap_base.specs.declared.ids.Tid.{Tid}
 use Rattle.snap_base.specs.declared.transactions.State.{State}
 use Rattle.snap_base.specs.declared.transactions.Tx.{Tx}
 use Rattle.aml_tree.specs.Tree.{CheckedMethod}
-use Rattle.aml_check.specs.Meaning.{After, SerialRun}
 use Rattle.aml_slice.specs.declared.slices.Next as slices
 use Rattle.aml_slice.specs.declared.slices.Next.TheVariants as slice
 use Rattle.aml_slice.specs.Controls.{Frame, Rest, IsRest, moves_left}
 use Rattle.aml_slice.specs.Slicing.{SliceEnd, slice_end, started}
 use Rattle.aml_slice.specs.Finishing.{finished}
 use Rattle.protocol.specs.Fixed.{Next, Go, Ended, Sliced, Code, is_pact}
-use Rattle.protocol.specs.Facts.{Alone, Serial}
+use Rattle.protocol.specs.Facts.{Alone}
 
 -- ---- what the machine asks of a control
 
@@ -59,13 +58,6 @@ pub record IsRestOf (p : List CheckedMethod) (count : ℕ) (tx : Tx) (c : Rest) 
   pub rest : IsRest p count c
   pub declares : is_pact tx ≡ true → (uses : List (ActorId × ℕ)) × (c.left ≡ Some uses)
 
--- what the meaning says became of a transaction, and of a list of them, in the machine's words
-abbrev pub as_alone : After → Alone
-as_alone x = record { result = x.result; world = x.world }
-
-abbrev pub as_serial : SerialRun → Serial
-as_serial x = record { results = x.results; world = x.world }
-
 -- what becomes of a control where nobody else changes the world
 abbrev pub finish : List CheckedMethod → ℕ → Rest → List State → Alone
-finish p count c w = as_alone (finished p count c w)
+finish p count c w = finished p count c w

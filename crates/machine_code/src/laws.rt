@@ -8,7 +8,7 @@ ghost use Rattle.aml_check.specs.Transactions.{IsTransaction};
 ghost use Rattle.aml_slice.specs.Controls.{Rest, RestsOn};
 ghost use Rattle.protocol.specs.Facts.{Facts, alone, serial};
 ghost use Rattle.protocol.specs.Words.{is_among};
-ghost use Rattle.machine_code.specs.MethodCode.{as_alone, as_serial, finish, IsRestOf, method_code, rests_on};
+ghost use Rattle.machine_code.specs.MethodCode.{finish, IsRestOf, method_code, rests_on};
 
 use aml_check::Checked;
 use aml_slice::{each_slice, slices_finish, transactions_begin};
@@ -25,7 +25,7 @@ pub fn code_has_the_facts(program: &Checked)
 
 /// A transaction alone, as the machine has it, is what the language says.
 pub fn alone_as_meant(program: &Checked)
-    ensures { (count : ℕ) (w : List State) (tx : Tx) → length w ≡ count → IsTransaction (methods_of program.now) count tx → alone (method_code (methods_of program.now) count) (finish (methods_of program.now) count) w tx ≡ as_alone (meaning.alone (methods_of program.now) w tx) }
+    ensures { (count : ℕ) (w : List State) (tx : Tx) → length w ≡ count → IsTransaction (methods_of program.now) count tx → alone (method_code (methods_of program.now) count) (finish (methods_of program.now) count) w tx ≡ meaning.alone (methods_of program.now) w tx }
 {
     slices_finish(program);
 }
@@ -33,7 +33,7 @@ pub fn alone_as_meant(program: &Checked)
 /// Transactions one after the other, as the machine has them, are the serial execution that the language
 /// means.
 pub fn serial_as_meant(program: &Checked)
-    ensures { (count : ℕ) (w : List State) (txs : List Tx) → length w ≡ count → AllByRecursion (IsTransaction (methods_of program.now) count) txs → serial (method_code (methods_of program.now) count) (finish (methods_of program.now) count) w txs ≡ as_serial (meaning.serial (methods_of program.now) w txs) }
+    ensures { (count : ℕ) (w : List State) (txs : List Tx) → length w ≡ count → AllByRecursion (IsTransaction (methods_of program.now) count) txs → serial (method_code (methods_of program.now) count) (finish (methods_of program.now) count) w txs ≡ meaning.serial (methods_of program.now) w txs }
 {
     slices_finish(program);
 }

@@ -18,8 +18,8 @@ use Rattle.protocol.specs.Records.{LogRecord}
 use Rattle.protocol.specs.History.{Done, History}
 use Rattle.protocol.specs.Chains.{is_place_below, put_by_place, by_place, txs_of, serial_run}
 use Rattle.protocol_laws.specs.Order.{OrderHolds}
-use Rattle.protocol_laws.specs.Crash.{CrashHolds, members}
-use Rattle.machine_code.specs.MethodCode.{as_serial, finish, method_code}
+use Rattle.protocol_records.specs.Crash.{CrashHolds, members}
+use Rattle.machine_code.specs.MethodCode.{finish, method_code}
 use Rattle.machine_laws.specs.Programs.{IsTextOf, with_code, finish_of}
 use Rattle.machine_laws.specs.Meant.{meant_run, CommittedAsMeant, RecoveredAsMeant}
 use Rattle.machine_laws.proofs.Instances.{each_at}
@@ -57,13 +57,13 @@ first_allowed w (e ∷ es) later s run = (run.0, first_allowed w es later (after
 
 -- what is said of the machine's serial runs
 abbrev pub SerialMeant : List CheckedMethod → Type 0
-SerialMeant p = (count : ℕ) (w : List State) (txs : List Tx) → length w ≡ count → AllByRecursion (IsTransaction p count) txs → serial (method_code p count) (finish p count) w txs ≡ as_serial (meaning.serial p w txs)
+SerialMeant p = (count : ℕ) (w : List State) (txs : List Tx) → length w ≡ count → AllByRecursion (IsTransaction p count) txs → serial (method_code p count) (finish p count) w txs ≡ meaning.serial p w txs
 
 asked : (p : List CheckedMethod) (w : Text) (ds : List Done) → IsTextOf p w → AreThere w ds → AllByRecursion (IsTransaction p (length w.opening.states)) (txs_of (with_code p w) ds)
 asked p w [] is h = tt
 asked p w (d ∷ ds) is h = (each_at (IsTransaction p (length w.opening.states)) w.txs d.tx no_tx h.0 is.asks, asked p w ds is h.1)
 
-run_meant : (p : List CheckedMethod) (w : Text) (ds : List Done) → SerialMeant p → IsTextOf p w → AreThere w ds → serial_run (with_code p w) (finish_of p w) ds ≡ as_serial (meant_run p (with_code p w) ds)
+run_meant : (p : List CheckedMethod) (w : Text) (ds : List Done) → SerialMeant p → IsTextOf p w → AreThere w ds → serial_run (with_code p w) (finish_of p w) ds ≡ meant_run p (with_code p w) ds
 run_meant p w ds meant is h = meant (length w.opening.states) w.opening.states (txs_of (with_code p w) (by_place ds)) refl (asked p w (by_place ds) is (all_by_place (λ d. d.tx < length w.txs) ds h))
 
 pub committed_meant : (p : List CheckedMethod) (w : Text) (s : Machine Rest) (h : History) → SerialMeant p → IsTextOf p w → AreThere w h.committed → OrderHolds (with_code p w) (finish_of p w) s h → CommittedAsMeant p (with_code p w) (finish_of p w) s h

@@ -22,7 +22,7 @@ abbrev pub HaveFacts : List CheckedMethod → Type 0
 HaveFacts p = (count : ℕ) → Facts count (method_code p count) (IsTransaction p count) (IsRestOf p count) (finish p count)
 
 -- each transaction of the text may be asked of the program
-may_be_asked : (p : List CheckedMethod) (w : Text) → IsTextOf p w → (tx : Tx) → IsTxIn w tx → IsTransaction p (length w.opening.states) tx
+pub may_be_asked : (p : List CheckedMethod) (w : Text) → IsTextOf p w → (tx : Tx) → IsTxIn w tx → IsTransaction p (length w.opening.states) tx
 may_be_asked p w is tx there = subst (IsTransaction p (length w.opening.states)) there.is_it (each_at (IsTransaction p (length w.opening.states)) w.txs there.number no_tx there.there is.asks)
 
 pub facts_of_text : (p : List CheckedMethod) (w : Text) → HaveFacts p → IsTextOf p w → HasFacts (with_code p w) (finish_of p w)

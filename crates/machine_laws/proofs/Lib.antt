@@ -1,4 +1,5 @@
 pub mod AsMeant
 pub mod Instances
+pub mod RestsMeant
 pub mod TextTxs
 pub mod ToldMeant

@@ -11,7 +11,7 @@ use Rattle.protocol.specs.Effects.{after}
 use Rattle.protocol.specs.Runs.{EachAllowed, IsRun, opening, reached, state_after}
 use Rattle.protocol.specs.Numbers.{flat, times, one_if, once_in, TransactionsInOnePlace}
 use Rattle.protocol.specs.History.{Done, history}
-use Rattle.protocol_laws.specs.EvidenceSerial.{IsCommittedPact, IsCommittedAct}
+use Rattle.protocol_verdicts.specs.EvidenceSerial.{IsCommittedPact, IsCommittedAct}
 
 -- ---- no more are submitted than the text has
 

@@ -12,7 +12,7 @@ use Rattle.protocol.specs.Facts.{Alone, alone, serial}
 use Rattle.protocol.specs.Events.{Event}
 use Rattle.protocol.specs.History.{Done, history}
 use Rattle.protocol.specs.Chains.{txs_of, IsSerial}
-use Rattle.protocol_laws.specs.EvidenceSerial.{HasResultThere, VerdictsTell}
+use Rattle.protocol_verdicts.specs.EvidenceSerial.{HasResultThere, VerdictsTell}
 use Rattle.machine_laws.specs.Meant.{IsAsMeant, HasMeantResult, VerdictsAsMeant}
 
 -- ---- one of a list that gives its results gives its own, behind those before it

@@ -18,10 +18,11 @@ use Rattle.protocol.specs.Runs.{IsQuiet, reached}
 use Rattle.protocol.specs.History.{Done, History, history}
 use Rattle.protocol.specs.Verdicts.{verdict}
 use Rattle.protocol.specs.Chains.{by_place, txs_of}
-use Rattle.protocol_laws.specs.Crash.{members, recovered_state}
+use Rattle.protocol_records.specs.Crash.{members, recovered_state}
+use Rattle.serial_words.specs.Outcomes.{Serial}
 
 -- These, one after the other in the order of their places, from the opening's states.
-abbrev pub meant_run : List CheckedMethod → Fixed Rest → List Done → meaning.SerialRun
+abbrev pub meant_run : List CheckedMethod → Fixed Rest → List Done → Serial
 meant_run p w ds = meaning.serial p w.text.opening.states (txs_of w (by_place ds))
 
 -- it gives each the result that it had

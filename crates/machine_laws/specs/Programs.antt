@@ -8,6 +8,7 @@ use Rattle.aml_check.specs.Transactions.{IsTransaction}
 use Rattle.aml_slice.specs.Controls.{Rest}
 use Rattle.protocol.specs.Fixed.{Text, Fixed, IsText}
 use Rattle.protocol.specs.Facts.{Alone}
+use Rattle.protocol.specs.Rests.{HasFacts}
 use Rattle.protocol.specs.Parts.{Machine}
 use Rattle.protocol.specs.Events.{Event}
 use Rattle.protocol.specs.Runs.{IsRun, reached}
@@ -29,6 +30,10 @@ with_code p w = record { text = w; code = method_code p (length w.opening.states
 -- what becomes of a control where nobody else changes the world
 abbrev pub finish_of : List CheckedMethod → Text → Rest → List State → Alone
 finish_of p w = finish p (length w.opening.states)
+
+-- The code of each of its texts has the facts that the machine uses.
+abbrev pub TextsHaveFacts : List CheckedMethod → Type 0
+TextsHaveFacts p = (w : Text) → IsTextOf p w → HasFacts (with_code p w) (finish_of p w)
 
 -- ---- the shapes of laws
 

@@ -1,7 +1,8 @@
-//! Of every program: what lies on an actor, and how much there may be.
+//! Of every program: what lies on an actor, how much there may be, and what the controls under way are.
 
 ghost use Rattle.aml_check.specs.Checked.{methods_of};
 ghost use Rattle.protocol_laws.specs.OnActors.{AllLieInOrder, LimitsHold};
+ghost use Rattle.machine_laws.specs.Controls.{ControlsMayRun};
 ghost use Rattle.machine_laws.specs.Programs.{AfterEveryRunOf};
 
 use aml_check::Checked;
@@ -25,4 +26,13 @@ pub fn limits_hold(program: &Checked)
 {
     code_has_the_facts(program);
     protocol_laws::limits_hold::<Control>();
+}
+
+/// Each control in the post, in an inbox and in an outbox is what is left of a transaction of the program, and stands on the
+/// actor to which it goes or where it lies: so a slice of it may run there.
+pub fn controls_may_run(program: &Checked)
+    ensures { AfterEveryRunOf (methods_of program.now) (ControlsMayRun (methods_of program.now)) }
+{
+    code_has_the_facts(program);
+    protocol_laws::controls_are_rests::<Control>();
 }

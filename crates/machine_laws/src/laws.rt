@@ -3,9 +3,9 @@
 
 ghost use Rattle.aml_check.specs.Checked.{methods_of};
 ghost use Rattle.protocol.specs.Rows.{RowsAgree};
-ghost use Rattle.protocol_laws.specs.Crash.{CrashHolds};
-ghost use Rattle.protocol_laws.specs.Evidence.{VerdictsStand};
-ghost use Rattle.protocol_laws.specs.EvidenceSerial.{VerdictsTell};
+ghost use Rattle.protocol_records.specs.Crash.{CrashHolds};
+ghost use Rattle.protocol_verdicts.specs.Evidence.{VerdictsStand};
+ghost use Rattle.protocol_verdicts.specs.EvidenceSerial.{VerdictsTell};
 ghost use Rattle.protocol_laws.specs.Left.{RunsEnd};
 ghost use Rattle.protocol_laws.specs.OneWay.{PlacesStay};
 ghost use Rattle.protocol_laws.specs.Order.{OrderHolds};
@@ -36,7 +36,7 @@ pub fn recovered_transactions_are_in_order(program: &Checked)
     ensures { AtEveryMomentOf (methods_of program.now) CrashHolds }
 {
     code_has_the_facts(program);
-    protocol_laws::recovered_transactions_are_in_order::<Control>();
+    protocol_records::recovered_transactions_are_in_order::<Control>();
 }
 
 /// A verdict is there exactly where an event of the run gave it, with its cause at that event, and it stays.
@@ -44,7 +44,7 @@ pub fn verdicts_have_evidence(program: &Checked)
     ensures { OfEveryRunOf (methods_of program.now) VerdictsStand }
 {
     code_has_the_facts(program);
-    protocol_laws::verdicts_have_evidence::<Control>();
+    protocol_verdicts::verdicts_have_evidence::<Control>();
 }
 
 /// Who is told a place gives what it is told there in the serial run of what committed; who failed with its batch
@@ -54,7 +54,7 @@ pub fn verdicts_tell_of_serial_runs(program: &Checked)
     ensures { OfEveryRunOf (methods_of program.now) VerdictsTell }
 {
     code_has_the_facts(program);
-    protocol_laws::verdicts_tell_of_serial_runs::<Control>();
+    protocol_verdicts::verdicts_tell_of_serial_runs::<Control>();
 }
 
 /// Where a run cannot go on, all is answered: every transaction is submitted and replied to, and no message, control,

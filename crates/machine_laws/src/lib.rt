@@ -8,8 +8,9 @@ mod actors;
 mod cases;
 mod laws;
 mod records;
+mod texts;
 
-pub use actors::{actors_lie_in_order, limits_hold};
+pub use actors::{actors_lie_in_order, controls_may_run, limits_hold};
 pub use cases::{
     cases_of_order, halves_go_on, schedules_are_in_order, undo_gives_the_state_before,
 };
@@ -23,3 +24,4 @@ pub use records::{
     marks_are_durable, next_numbers_are_above_all, records_are_added_once, records_are_few,
     records_tell_what_is,
 };
+pub use texts::texts_have_the_facts;

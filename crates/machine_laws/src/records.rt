@@ -2,8 +2,8 @@
 //! asked of it.
 
 ghost use Rattle.aml_check.specs.Checked.{methods_of};
-ghost use Rattle.protocol_laws.specs.NextNumbers.{NextNumbersStand};
-ghost use Rattle.protocol_laws.specs.RecordLaws.{MarksAreDurable, RecordsAddedOnce, RecordsAreFew, RecordsTell};
+ghost use Rattle.protocol_records.specs.NextNumbers.{NextNumbersStand};
+ghost use Rattle.protocol_records.specs.RecordLaws.{MarksAreDurable, RecordsAddedOnce, RecordsAreFew, RecordsTell};
 ghost use Rattle.machine_laws.specs.Programs.{AfterEveryRunOf, AtEveryMomentOf};
 
 use aml_check::Checked;
@@ -15,7 +15,7 @@ pub fn records_are_added_once(program: &Checked)
     ensures { AfterEveryRunOf (methods_of program.now) RecordsAddedOnce }
 {
     code_has_the_facts(program);
-    protocol_laws::records_are_added_once::<Control>();
+    protocol_records::records_are_added_once::<Control>();
 }
 
 /// What a record tells is so: an info the actors and the tids of its batch; a completion an actor of its batch; a commit
@@ -25,7 +25,7 @@ pub fn records_tell_what_is(program: &Checked)
     ensures { AfterEveryRunOf (methods_of program.now) RecordsTell }
 {
     code_has_the_facts(program);
-    protocol_laws::records_tell_what_is::<Control>();
+    protocol_records::records_tell_what_is::<Control>();
 }
 
 /// What is noted, vouched for, settled and sealed with a value is durable, and so is what a commit rests on.
@@ -33,7 +33,7 @@ pub fn marks_are_durable(program: &Checked)
     ensures { AfterEveryRunOf (methods_of program.now) MarksAreDurable }
 {
     code_has_the_facts(program);
-    protocol_laws::marks_are_durable::<Control>();
+    protocol_records::marks_are_durable::<Control>();
 }
 
 /// A batch adds at most two records and one for each of its actors, an ACT at most one and one for each of its actors: at
@@ -42,7 +42,7 @@ pub fn records_are_few(program: &Checked)
     ensures { AfterEveryRunOf (methods_of program.now) RecordsAreFew }
 {
     code_has_the_facts(program);
-    protocol_laws::records_are_few::<Control>();
+    protocol_records::records_are_few::<Control>();
 }
 
 /// At every moment, whatever the logs are left with, the next tid, batch number and commit number that are recovered are
@@ -52,5 +52,5 @@ pub fn next_numbers_are_above_all(program: &Checked)
     ensures { AtEveryMomentOf (methods_of program.now) NextNumbersStand }
 {
     code_has_the_facts(program);
-    protocol_laws::next_numbers_are_above_all::<Control>();
+    protocol_records::next_numbers_are_above_all::<Control>();
 }

@@ -5,15 +5,11 @@ use Rattle.snap_base.specs.declared.transactions.State.{State}
 use Rattle.snap_base.specs.declared.transactions.Tx.{Tx}
 use Rattle.snap_base.specs.declared.transactions.TxResult.{TxResult}
 use Rattle.snap_base.specs.declared.transactions.TxResult.TheVariants.{Value, Fail}
+pub use Rattle.serial_words.specs.Outcomes.{Alone, Serial}
 use Rattle.protocol.specs.Fixed.{Next, Go, Ended, Code, no_state, is_pact, root, declared}
 use Rattle.protocol.specs.Words.{is_among}
 
 -- ---- transactions alone
-
--- a result, and the states of all actors
-pub record Alone : Type 0 where
-  pub result : TxResult
-  pub world : List State
 
 -- a failure leaves the world as it was
 abbrev pub undone : List State → TxResult → List State → Alone
@@ -28,10 +24,6 @@ abbrev pub alone : {C : Type 0} → Code C → (C → List State → Alone) → 
 alone code finish world tx = or_undone world (finish (code.start 0 tx) world)
 
 -- one after the other
-pub record Serial : Type 0 where
-  pub results : List TxResult
-  pub world : List State
-
 abbrev pub serial : {C : Type 0} → Code C → (C → List State → Alone) → List State → List Tx → Serial
 serial code finish world [] = record { results = []; world = world }
 serial code finish world (tx ∷ txs) =

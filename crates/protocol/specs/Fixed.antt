@@ -127,9 +127,14 @@ most_uses = 16
 abbrev pub most_calls : ℕ
 most_calls = 64
 
--- a number that a run begins with
+-- a number that a batch, a transaction or a commit may have
+abbrev pub greatest_number : ℕ
+greatest_number = 2 ^ 62
+
+-- A number that a run begins with. A run draws no more numbers than it has transactions, so it stays below the greatest
+-- one, and the logs that it leaves are taken again.
 abbrev pub greatest_first : ℕ
-greatest_first = 2 ^ 62
+greatest_first = greatest_number - 2 ^ 20
 
 abbrev pub IsUse : ActorId × ℕ → Type 0
 IsUse u = (1 ≤ u.1) × (u.1 ≤ most_calls)

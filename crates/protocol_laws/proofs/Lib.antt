@@ -1,10 +1,8 @@
+pub mod Lemmas
 pub mod bounds
-pub mod crash
-pub mod evidence
 pub mod first
 pub mod halves
 pub mod machine
 pub mod order
 pub mod quiet
-pub mod recording
 pub mod sets

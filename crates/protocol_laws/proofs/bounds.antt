@@ -2,3 +2,4 @@
 pub mod Boxes
 pub mod FewPlaces
 pub mod Fewer
+pub mod RestsInBoxes

@@ -13,6 +13,7 @@ pub mod BehindKept
 pub mod CommitLists
 pub mod CommitRecords
 pub mod CommitsKept
+pub mod CommittedTold
 pub mod ControlWalk
 pub mod DecidedStays
 pub mod EntriesKept

@@ -6,19 +6,18 @@ mod actors;
 mod books;
 mod cases;
 mod cells;
+mod committed;
 mod laws;
-mod numbers;
 mod offers;
 mod one_way;
 mod parts;
-mod records;
-mod runs;
 mod theorems;
 
 pub use actors::{actors_lie_in_order, limits_hold, sizes_hold, what_is_new_is_not_there};
 pub use books::{books_are_asked_by_parts, books_are_of_parts, halves_go_on, halves_stay_fit};
 pub use cases::{cases_of_order, schedules_are_in_order, undo_gives_the_state_before};
 pub use cells::cells_are_of_parts;
+pub use committed::committed_are_those_with_places;
 pub use laws::{
     allowed_or_refused, batches_settle_in_order, bids_are_consecutive,
     cells_agree_with_the_cascades, controls_are_in_one_place, events_leave_other_parts,
@@ -26,7 +25,6 @@ pub use laws::{
     pairs_carry_before_numbers, sub_batches_name_the_one_before, tids_are_consecutive,
     transactions_are_in_one_place,
 };
-pub use numbers::next_numbers_are_above_all;
 pub use offers::{
     allowed_candidates_are_enabled, allowed_events_are_candidates, numbers_are_in_range,
     quiet_where_no_candidate_is_allowed,
@@ -35,13 +33,8 @@ pub use one_way::{
     committed_grows_at_its_end, events_go_one_way, places_stay, runs_go_one_way,
     settled_never_falls,
 };
-pub use parts::{batches_have_actors, boxes_are_few, places_are_few};
-pub use records::{
-    marks_are_durable, records_are_added_once, records_are_few, records_tell_what_is,
-};
-pub use runs::several_runs_stand;
+pub use parts::{batches_have_actors, boxes_are_few, controls_are_rests, places_are_few};
 pub use theorems::{
     committed_transactions_are_in_order, every_run_ends, numbers_are_the_ends_of_sets,
-    recovered_transactions_are_in_order, rows_are_as_agreed, runs_that_cannot_go_on_have_answered,
-    verdicts_have_evidence, verdicts_tell_of_serial_runs,
+    rows_are_as_agreed, runs_that_cannot_go_on_have_answered,
 };

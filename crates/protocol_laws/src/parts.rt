@@ -2,6 +2,7 @@
 
 ghost use Rattle.protocol.specs.Laws.{AfterEveryRun, AfterEveryRunWithHistory};
 ghost use Rattle.protocol_laws.specs.Bounds.{BatchesHaveActors, BoxesAreFew, PlacesAreFew};
+ghost use Rattle.protocol_laws.specs.Controls.{ControlsAreRests};
 
 /// A batch that is formed has an actor.
 pub fn batches_have_actors<C>()
@@ -17,4 +18,10 @@ pub fn boxes_are_few<C>()
 /// batch.
 pub fn places_are_few<C>()
     ensures { AfterEveryRunWithHistory (PlacesAreFew {C = C}) }
+{}
+
+/// Each control in the post, in an inbox and in an outbox is a rest of a transaction of the text, and stands on the actor to
+/// which it goes or where it lies.
+pub fn controls_are_rests<C>()
+    ensures { AfterEveryRunWithHistory (ControlsAreRests {C = C}) }
 {}

@@ -3,9 +3,6 @@
 
 ghost use Rattle.protocol.specs.Laws.{AfterEveryRunWithHistory, OfEveryRun};
 ghost use Rattle.protocol.specs.Rows.{RowsAgree};
-ghost use Rattle.protocol_laws.specs.Crash.{AtEveryMoment, CrashHolds};
-ghost use Rattle.protocol_laws.specs.Evidence.{VerdictsStand};
-ghost use Rattle.protocol_laws.specs.EvidenceSerial.{VerdictsTell};
 ghost use Rattle.protocol_laws.specs.Left.{RunsEnd};
 ghost use Rattle.protocol_laws.specs.Order.{OrderHolds};
 ghost use Rattle.protocol_laws.specs.Quiet.{AnsweredWhenQuiet};
@@ -17,25 +14,6 @@ ghost use Rattle.protocol_laws.specs.Sets.{NumbersStand};
 /// have the states that the serial run leaves.
 pub fn committed_transactions_are_in_order<C>()
     ensures { AfterEveryRunWithHistory (OrderHolds {C = C}) }
-{}
-
-/// At every moment of every run, whatever the logs are left with, the transactions whose commit records are there had
-/// committed; run one after the other in the order of their places they give the results that they had; with each of
-/// them is all that the run places before it; and who was told that it committed is one of them.
-pub fn recovered_transactions_are_in_order<C>()
-    ensures { AtEveryMoment (CrashHolds {C = C}) }
-{}
-
-/// A verdict is there exactly where an event of the run gave it, with its cause at that event, and it stays.
-pub fn verdicts_have_evidence<C>()
-    ensures { OfEveryRun (VerdictsStand {C = C}) }
-{}
-
-/// Who is told a place gives what it is told there in the serial run of what committed; who failed with its batch
-/// does so, behind the settled batches below it and the ACTs with a value below the number that it is told; and who
-/// was taken along is told who failed.
-pub fn verdicts_tell_of_serial_runs<C>()
-    ensures { OfEveryRun (VerdictsTell {C = C}) }
 {}
 
 /// Where a run cannot go on, all is answered: every transaction is submitted and replied to, no queue has one, each

@@ -13,8 +13,9 @@ use Rattle.protocol.specs.Records as machine
 use Rattle.protocol.specs.Records.{LogRecord, is_info, is_complete, is_commit, is_prepare, is_act_commit}
 use Rattle.protocol.specs.Parts.{Act, Status, Batch, OfBatch, OfAct, Machine}
 use Rattle.protocol.specs.Words.{holds, is_formed, act_of, batch_of}
-use Rattle.protocol_laws.specs.Crash.{is_in}
-use Rattle.protocol_laws.specs.RecordLaws.{batch_tids, is_number, ActCommitted, TellsOf}
+use Rattle.protocol_laws.specs.Told.{is_at}
+use Rattle.protocol_records.specs.Crash.{is_in}
+use Rattle.protocol_records.specs.RecordLaws.{batch_tids, ActCommitted, TellsOf}
 use Rattle.txn_records.specs.declared.records.Record.{Record}
 use Rattle.txn_records.specs.declared.records.Record.TheVariants.{ActCommit}
 use Rattle.txn_records.specs.declared.keys.Key.TheVariants as keys
@@ -25,9 +26,9 @@ use Rattle.snap_recover.specs.Logs.{all_of, tids_in, bids_in, commits_in}
 use Rattle.snap_recover.specs.Opening.{IsInfoOf, IsActOf, commit_of, IsKept, ComesBefore, IsCommitted}
 use Rattle.snap_recover.proofs.Lists.{all_append, all_weaker, all_both, contains_here, contains_there, contains_left, contains_right}
 use Rattle.snap_recover.proofs.Greatest.{each_below}
-use Rattle.protocol_laws.proofs.machine.ActsFound.{found_tid}
-use Rattle.protocol_laws.proofs.machine.MarksKept.{found_bid}
-use Rattle.recovery_laws.specs.Grown.{bid_of, tid_of, tids_of, actors_of, grown, kept_batch, number_of, kept_act, batches_in, all_in}
+use Rattle.protocol_laws.proofs.Lemmas.{found_bid, found_tid}
+use Rattle.record_words.specs.Told.{bid_of, tid_of, tids_of, actors_of}
+use Rattle.recovery_laws.specs.Grown.{grown, kept_batch, number_of, kept_act, batches_in, all_in}
 use Rattle.recovery_laws.proofs.KnownLogs.{Apart, Known, all_at, old_low, in_old, in_cases, in_stays, in_new, old_acts_low, act_cases}
 use Rattle.recovery_laws.proofs.WholesGrown.{info_stays, info_new, commit_stays, commit_new}
 use Rattle.recovery_laws.proofs.InOrder.{Rises, rises_from, rises_to, IsOther, acts_all, acts_rise, acts_keep, acts_have, IsOld, IsNew, rises_join}
@@ -98,7 +99,7 @@ new_kept {C} w earlier o s logs (b ∷ bs) g h = by (is_in w.text.logs logs (OfB
         ((in_new w earlier o s logs b.bid g e, (actors_of x.actors, subst (λ z. IsInfoOf (grown earlier logs) (bid_of b.bid) (actors_of x.actors) (tids_of z)) (sym same) (info_new w earlier o s logs b.bid x.actors x.tids x.front x.rest g x.info))), r)
     by false e r = r
 
-number_is : (c : ℕ) (st : Status) → is_number c st ≡ true → number_of st ≡ c
+pub number_is : (c : ℕ) (st : Status) → is_at c st ≡ true → number_of st ≡ c
 number_is c Rattle.protocol.specs.Parts.Live e = absurd (true≢false (sym e))
 number_is c (Rattle.protocol.specs.Parts.Doomed v) e = absurd (true≢false (sym e))
 number_is c (Rattle.protocol.specs.Parts.Decided d) e = eqb-true d c e
@@ -117,10 +118,10 @@ act_kept w earlier o s logs x g f l e =
     let t = act_told w earlier o s logs x.tid g e in
     let same : t.act ≡ x = (let q : Some t.act ≡ Some x = sym t.found ∙ f in cc q) in
     let m : x.m ≡ y.m = ap (λ z. z.m) (sym same) ∙ t.m_is in
-    let n : is_number y.c x.status ≡ true = subst (λ z. is_number y.c z.status ≡ true) same t.c_is in
+    let n : is_at y.c x.status ≡ true = subst (λ z. is_at y.c z.status ≡ true) same t.c_is in
     let c : number_of x.status ≡ y.c = number_is y.c x.status n in
-    let told : IsActOf (grown earlier logs) (tid_of x.tid) (bid_of y.m) y.c (actors_of y.actors) = commit_new w earlier o s logs x.tid y.m y.c y.actors y.front y.rest g y.commit in (
-      (actors_of y.actors, subst (λ z. IsActOf (grown earlier logs) (tid_of x.tid) (bid_of z) (number_of x.status) (actors_of y.actors)) (sym m) (subst (λ z. IsActOf (grown earlier logs) (tid_of x.tid) (bid_of y.m) z (actors_of y.actors)) (sym c) told)),
+    let commits : IsActOf (grown earlier logs) (tid_of x.tid) (bid_of y.m) y.c (actors_of y.actors) = commit_new w earlier o s logs x.tid y.m y.c y.actors y.front y.rest g y.commit in (
+      (actors_of y.actors, subst (λ z. IsActOf (grown earlier logs) (tid_of x.tid) (bid_of z) (number_of x.status) (actors_of y.actors)) (sym m) (subst (λ z. IsActOf (grown earlier logs) (tid_of x.tid) (bid_of y.m) z (actors_of y.actors)) (sym c) commits)),
       (l, omega (arith, c, g.numbered x.tid x f y.c n)),
     )
 

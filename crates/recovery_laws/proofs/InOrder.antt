@@ -8,12 +8,13 @@ use Rattle.snap_base.specs.declared.ids.Tid.{Tid}
 use Rattle.protocol.specs.Records.{LogRecord}
 use Rattle.protocol.specs.Parts.{Act, OfAct}
 use Rattle.protocol.specs.Words.{act_of}
-use Rattle.protocol_laws.specs.Crash.{is_in}
+use Rattle.protocol_records.specs.Crash.{is_in}
 use Rattle.snap_recover.specs.declared.openings.Kept.{Kept}
 use Rattle.snap_recover.specs.declared.openings.Kept.TheVariants as kept
 use Rattle.snap_recover.specs.Opening.{ComesBefore}
 use Rattle.snap_recover.proofs.Lists.{all_append, all_weaker, contains_cases, contains_here, contains_there}
-use Rattle.recovery_laws.specs.Grown.{bid_of, tid_of, comes_before, put_in, number_of, kept_act, with_acts}
+use Rattle.record_words.specs.Told.{bid_of, tid_of}
+use Rattle.recovery_laws.specs.Grown.{comes_before, put_in, number_of, kept_act, with_acts}
 use Rattle.recovery_laws.proofs.KnownLogs.{Apart}
 
 -- ---- lists that rise

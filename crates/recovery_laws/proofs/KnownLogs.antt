@@ -9,8 +9,9 @@ use Rattle.protocol.specs.Numbers.{from}
 use Rattle.protocol.specs.Records.{LogRecord}
 use Rattle.protocol.specs.Parts.{Act, OfBatch, OfAct, Machine}
 use Rattle.protocol.specs.Words.{count, act_of}
-use Rattle.protocol_laws.specs.Crash.{is_in, BatchIsWhole, ActIsWhole}
-use Rattle.protocol_laws.specs.RecordLaws.{RecordKey, has_key, is_number, TellsOf}
+use Rattle.protocol_laws.specs.Told.{is_at}
+use Rattle.protocol_records.specs.Crash.{is_in, BatchIsWhole, ActIsWhole}
+use Rattle.protocol_records.specs.RecordLaws.{RecordKey, has_key, TellsOf}
 use Rattle.txn_records.specs.declared.records.Record.{Record}
 use Rattle.txn_records.specs.declared.records.Record.TheVariants.{Genesis, BatchInfo, BatchComplete, BatchCommit, ActPrepare, ActCommit}
 use Rattle.txn_records.specs.declared.keys.Key.TheVariants as keys
@@ -21,7 +22,8 @@ use Rattle.snap_recover.specs.Opening.{IsIn, IsActIn, IsInRange, IsRecovered}
 use Rattle.snap_recover.proofs.Lists.{all_left, all_right, all_contains, contains_unmap}
 use Rattle.snap_recover.proofs.Growing.{has_left, has_right, has_cases}
 use Rattle.snap_recover.proofs.Greatest.{each_below}
-use Rattle.recovery_laws.specs.Grown.{bid_of, tid_of, all_written, grown, BeginsWith}
+use Rattle.record_words.specs.Told.{bid_of, tid_of, all_told}
+use Rattle.recovery_laws.specs.Grown.{grown, BeginsWith}
 use Rattle.recovery_laws.proofs.WrittenLists.{has_commit, commit_has, has_act, act_has, act_tids, act_from, batch_bids, commit_from, grown_length, grown_at}
 
 -- no two of them have one tid
@@ -42,20 +44,20 @@ pub record Known {C : Type 0} (w : Fixed C) (earlier : List (List Record)) (o : 
   pub once : (k : RecordKey) (l : ℕ) → count (has_key k) (logs l) ≤ 1
   pub low : (l : ℕ) → AllByRecursion (λ r. AllByRecursion (λ n. w.text.opening.next_bid ≤ n) (batch_bids r)) (logs l)
   pub low_acts : (l : ℕ) → AllByRecursion (λ r. AllByRecursion (λ n. w.text.opening.next_tid ≤ n) (act_tids r)) (logs l)
-  pub range : (l : ℕ) → AllByRecursion (IsInRange (length w.text.opening.states)) (all_written (logs l))
+  pub range : (l : ℕ) → AllByRecursion (IsInRange (length w.text.opening.states)) (all_told (logs l))
   pub bids : map (λ b. b.bid) s.desk.batches ≡ from w.text.opening.next_bid (length s.desk.batches)
   -- no two ACTs have one tid, none has its place before earlier runs, and its commit number is of this run
   pub apart : Apart s.book.acts
   pub based : AllByRecursion (λ x. base w.text ≤ x.m) s.book.acts
-  pub numbered : (t : ℕ) (x : Act) → act_of t s.book.acts ≡ Some x → (c : ℕ) → is_number c x.status ≡ true → w.text.opening.next_c ≤ c
+  pub numbered : (t : ℕ) (x : Act) → act_of t s.book.acts ≡ Some x → (c : ℕ) → is_at c x.status ≡ true → w.text.opening.next_c ≤ c
 
 -- ---- where records stand
 
-pub log_grown : {C : Type 0} (w : Fixed C) (earlier : List (List Record)) (o : Opening) (s : Machine C) (logs : ℕ → List LogRecord) (n : ℕ) → Known w earlier o s logs → log_of (grown earlier logs) n ≡ log_of earlier n ++ all_written (logs (n % w.text.logs))
+pub log_grown : {C : Type 0} (w : Fixed C) (earlier : List (List Record)) (o : Opening) (s : Machine C) (logs : ℕ → List LogRecord) (n : ℕ) → Known w earlier o s logs → log_of (grown earlier logs) n ≡ log_of earlier n ++ all_told (logs (n % w.text.logs))
 log_grown w earlier o s logs n g =
     let e : 0 + n % length earlier ≡ n % w.text.logs = (let z : 0 + n % length earlier ≡ n % length earlier = omega arith in z) ∙ ap (λ z. n % z) g.many in
     ap (λ z. slice_index_or (grown earlier logs) (n % z) []) (grown_length 0 earlier logs)
-    ∙ (grown_at 0 (n % length earlier) earlier logs (mod-lt n (subst (λ z. 1 ≤ z) (sym g.many) g.some)) ∙ ap (λ z. slice_index_or earlier (n % length earlier) [] ++ all_written (logs z)) e)
+    ∙ (grown_at 0 (n % length earlier) earlier logs (mod-lt n (subst (λ z. 1 ≤ z) (sym g.many) g.some)) ∙ ap (λ z. slice_index_or earlier (n % length earlier) [] ++ all_told (logs z)) e)
 
 pub all_at : (P : Record → Type 0) (logs : List (List Record)) (i : ℕ) → AllByRecursion P (all_of logs) → AllByRecursion P (slice_index_or logs i [])
 all_at P [] i h = tt
@@ -78,16 +80,16 @@ pub in_old : {C : Type 0} (w : Fixed C) (earlier : List (List Record)) (o : Open
 in_old w earlier o s logs b g h = let r = contains_unmap key (log_of earlier b.0) (keys.Commit b) h in commit_low r.0 b w.text.opening.next_bid r.2 (all_contains (λ r. AllByRecursion (λ x. x < w.text.opening.next_bid) (bids_in r)) (log_of earlier b.0) r.0 (old_low w earlier o s logs b.0 g) r.1)
 
 pub in_cases : {C : Type 0} (w : Fixed C) (earlier : List (List Record)) (o : Opening) (s : Machine C) (logs : ℕ → List LogRecord) (b : Bid) → Known w earlier o s logs → IsIn (grown earlier logs) b → IsIn earlier b ⊎ (is_in w.text.logs logs (OfBatch b.0) ≡ true)
-in_cases w earlier o s logs b g h = elim (has_cases (log_of earlier b.0) (all_written (logs (b.0 % w.text.logs))) (keys.Commit b) (subst (λ z. Has z (keys.Commit b)) (log_grown w earlier o s logs b.0 g) h)) [
+in_cases w earlier o s logs b g h = elim (has_cases (log_of earlier b.0) (all_told (logs (b.0 % w.text.logs))) (keys.Commit b) (subst (λ z. Has z (keys.Commit b)) (log_grown w earlier o s logs b.0 g) h)) [
   | inl q ↦ inl q
   | inr q ↦ inr (has_commit (logs (b.0 % w.text.logs)) b q)
 ]
 
 pub in_stays : {C : Type 0} (w : Fixed C) (earlier : List (List Record)) (o : Opening) (s : Machine C) (logs : ℕ → List LogRecord) (b : Bid) → Known w earlier o s logs → IsIn earlier b → IsIn (grown earlier logs) b
-in_stays w earlier o s logs b g h = subst (λ z. Has z (keys.Commit b)) (sym (log_grown w earlier o s logs b.0 g)) (has_left (log_of earlier b.0) (all_written (logs (b.0 % w.text.logs))) (keys.Commit b) h)
+in_stays w earlier o s logs b g h = subst (λ z. Has z (keys.Commit b)) (sym (log_grown w earlier o s logs b.0 g)) (has_left (log_of earlier b.0) (all_told (logs (b.0 % w.text.logs))) (keys.Commit b) h)
 
 pub in_new : {C : Type 0} (w : Fixed C) (earlier : List (List Record)) (o : Opening) (s : Machine C) (logs : ℕ → List LogRecord) (k : ℕ) → Known w earlier o s logs → is_in w.text.logs logs (OfBatch k) ≡ true → IsIn (grown earlier logs) (bid_of k)
-in_new w earlier o s logs k g h = subst (λ z. Has z (keys.Commit (bid_of k))) (sym (log_grown w earlier o s logs k g)) (has_right (log_of earlier k) (all_written (logs (k % w.text.logs))) (keys.Commit (bid_of k)) (commit_has (logs (k % w.text.logs)) k h))
+in_new w earlier o s logs k g h = subst (λ z. Has z (keys.Commit (bid_of k))) (sym (log_grown w earlier o s logs k g)) (has_right (log_of earlier k) (all_told (logs (k % w.text.logs))) (keys.Commit (bid_of k)) (commit_has (logs (k % w.text.logs)) k h))
 
 pub new_low : {C : Type 0} (w : Fixed C) (earlier : List (List Record)) (o : Opening) (s : Machine C) (logs : ℕ → List LogRecord) (k : ℕ) → Known w earlier o s logs → is_in w.text.logs logs (OfBatch k) ≡ true → w.text.opening.next_bid ≤ k
 new_low w earlier o s logs k g h = commit_from (logs (k % w.text.logs)) w.text.opening.next_bid k (g.low (k % w.text.logs)) h
@@ -110,16 +112,16 @@ pub act_old : {C : Type 0} (w : Fixed C) (earlier : List (List Record)) (o : Ope
 act_old w earlier o s logs t g h = let r = contains_unmap key (log_of earlier t.0) (keys.Act t) h in act_low r.0 t w.text.opening.next_tid r.2 (all_contains (λ r. AllByRecursion (λ x. x < w.text.opening.next_tid) (tids_in r)) (log_of earlier t.0) r.0 (old_acts_low w earlier o s logs t.0 g) r.1)
 
 pub act_cases : {C : Type 0} (w : Fixed C) (earlier : List (List Record)) (o : Opening) (s : Machine C) (logs : ℕ → List LogRecord) (t : Tid) → Known w earlier o s logs → IsActIn (grown earlier logs) t → IsActIn earlier t ⊎ (is_in w.text.logs logs (OfAct t.0) ≡ true)
-act_cases w earlier o s logs t g h = elim (has_cases (log_of earlier t.0) (all_written (logs (t.0 % w.text.logs))) (keys.Act t) (subst (λ z. Has z (keys.Act t)) (log_grown w earlier o s logs t.0 g) h)) [
+act_cases w earlier o s logs t g h = elim (has_cases (log_of earlier t.0) (all_told (logs (t.0 % w.text.logs))) (keys.Act t) (subst (λ z. Has z (keys.Act t)) (log_grown w earlier o s logs t.0 g) h)) [
   | inl q ↦ inl q
   | inr q ↦ inr (has_act (logs (t.0 % w.text.logs)) t q)
 ]
 
 pub act_stays : {C : Type 0} (w : Fixed C) (earlier : List (List Record)) (o : Opening) (s : Machine C) (logs : ℕ → List LogRecord) (t : Tid) → Known w earlier o s logs → IsActIn earlier t → IsActIn (grown earlier logs) t
-act_stays w earlier o s logs t g h = subst (λ z. Has z (keys.Act t)) (sym (log_grown w earlier o s logs t.0 g)) (has_left (log_of earlier t.0) (all_written (logs (t.0 % w.text.logs))) (keys.Act t) h)
+act_stays w earlier o s logs t g h = subst (λ z. Has z (keys.Act t)) (sym (log_grown w earlier o s logs t.0 g)) (has_left (log_of earlier t.0) (all_told (logs (t.0 % w.text.logs))) (keys.Act t) h)
 
 pub act_new : {C : Type 0} (w : Fixed C) (earlier : List (List Record)) (o : Opening) (s : Machine C) (logs : ℕ → List LogRecord) (t : ℕ) → Known w earlier o s logs → is_in w.text.logs logs (OfAct t) ≡ true → IsActIn (grown earlier logs) (tid_of t)
-act_new w earlier o s logs t g h = subst (λ z. Has z (keys.Act (tid_of t))) (sym (log_grown w earlier o s logs t g)) (has_right (log_of earlier t) (all_written (logs (t % w.text.logs))) (keys.Act (tid_of t)) (act_has (logs (t % w.text.logs)) t h))
+act_new w earlier o s logs t g h = subst (λ z. Has z (keys.Act (tid_of t))) (sym (log_grown w earlier o s logs t g)) (has_right (log_of earlier t) (all_told (logs (t % w.text.logs))) (keys.Act (tid_of t)) (act_has (logs (t % w.text.logs)) t h))
 
 pub new_act_low : {C : Type 0} (w : Fixed C) (earlier : List (List Record)) (o : Opening) (s : Machine C) (logs : ℕ → List LogRecord) (t : ℕ) → Known w earlier o s logs → is_in w.text.logs logs (OfAct t) ≡ true → w.text.opening.next_tid ≤ t
 new_act_low w earlier o s logs t g h = act_from (logs (t % w.text.logs)) w.text.opening.next_tid t (g.low_acts (t % w.text.logs)) h

@@ -1,10 +1,9 @@
-pub mod ActsDrawn
+pub mod ActsApart
 pub mod CommittedGrown
 pub mod InOrder
 pub mod KnownLogs
 pub mod LogsGrown
 pub mod MembersOrdered
-pub mod MembersTold
 pub mod MomentsJoined
 pub mod RunsAgain
 pub mod SpotsOrdered

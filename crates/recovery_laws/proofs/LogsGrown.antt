@@ -6,15 +6,16 @@ use Rattle.snap_base.specs.declared.transactions.State.{State}
 use Rattle.protocol.specs.Fixed.{Fixed}
 use Rattle.protocol.specs.Records.{LogRecord}
 use Rattle.protocol.specs.Parts.{Machine}
-use Rattle.protocol_laws.specs.Crash as crash
-use Rattle.protocol_laws.specs.Crash.{is_in, recovered_state, BatchIsWhole, ActIsWhole}
+use Rattle.protocol_records.specs.Crash as crash
+use Rattle.protocol_records.specs.Crash.{is_in, recovered_state, BatchIsWhole, ActIsWhole}
 use Rattle.txn_records.specs.declared.records.Record.{Record}
 use Rattle.txn_records.specs.declared.records.Record.TheVariants.{Genesis}
 use Rattle.snap_recover.specs.declared.openings.Opening.{Opening}
 use Rattle.snap_recover.specs.Logs.{tids_in, bids_in, commits_in}
 use Rattle.snap_recover.specs.Opening.{IsStateOf, greatest, IsInRange, IsRecovered}
 use Rattle.snap_recover.proofs.Lists.{zip_length}
-use Rattle.recovery_laws.specs.Grown.{all_written, grown, opening_after}
+use Rattle.record_words.specs.Told.{all_told}
+use Rattle.recovery_laws.specs.Grown.{grown, opening_after}
 use Rattle.recovery_laws.proofs.WrittenLists.{tids_written, bids_written, cs_written, grown_length, grown_genesis, grown_all, all_from, grown_greatest, greatest_written}
 use Rattle.recovery_laws.proofs.KnownLogs.{Known}
 use Rattle.recovery_laws.proofs.WholesGrown.{whole_grown, act_whole_grown}
@@ -34,7 +35,7 @@ recovers {C} w earlier o s logs g =
         b.0,
         record {
           one = grown_genesis 0 earlier logs ∙ (b.1.one ∙ ap (λ n. Genesis n b.0 ∷ []) (sym (grown_length 0 earlier logs)));
-          range = grown_all (IsInRange (length b.0)) 0 earlier logs b.1.range (λ l. subst (λ n. AllByRecursion (IsInRange n) (all_written (logs l))) (sym long) (g.range l));
+          range = grown_all (IsInRange (length b.0)) 0 earlier logs b.1.range (λ l. subst (λ n. AllByRecursion (IsInRange n) (all_told (logs l))) (sym long) (g.range l));
         },
         states_grown w earlier o s logs 0 b.0 w.text.opening.states g (subst (λ z. AllZip (λ (x : ℕ × State) t. IsStateOf earlier x.0 x.1 t) (enumerate_from 0 b.0) z) g.begins.states b.2),
       );

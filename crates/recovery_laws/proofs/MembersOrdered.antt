@@ -12,24 +12,19 @@ use Rattle.protocol.specs.Words.{is_formed, is_value, act_of, batch_of}
 use Rattle.protocol.specs.Verdicts.{pact_place, act_place}
 use Rattle.protocol.specs.History.{Done, History}
 use Rattle.protocol.specs.Chains.{is_place_below, put_by_place, by_place}
-use Rattle.protocol_laws.specs.Crash.{is_in, members}
+use Rattle.protocol_records.specs.Crash.{is_in, members}
+use Rattle.protocol_laws.specs.Told.{AmongDone, is_at, PactTold, DoneFrom, IsDonePact, AnyPact, PactFrom, Valued, CommittedTold}
 use Rattle.protocol_laws.specs.Linked.{PlacesDiffer}
-use Rattle.protocol_laws.specs.RecordLaws.{is_number}
-use Rattle.protocol_laws.proofs.first.Lists.{all_filter}
-use Rattle.protocol_laws.proofs.machine.ActsTold.{AmongDone, DoneFrom, is_at}
-use Rattle.protocol_laws.proofs.machine.MarksKept.{found_bid}
-use Rattle.protocol_laws.proofs.machine.PactsTold.{PactTold}
-use Rattle.protocol_laws.proofs.machine.QuietTold.{AnyPact, IsDonePact, PactFrom}
-use Rattle.protocol_laws.proofs.order.ByPlace.{all_sorted, rises_sorted}
+use Rattle.protocol_laws.proofs.Lemmas.{all_filter, all_sorted, found_bid, rises_sorted}
 use Rattle.txn_records.specs.declared.records.Record.{Record}
 use Rattle.snap_recover.specs.declared.openings.Kept.{Kept}
 use Rattle.snap_recover.specs.declared.openings.Opening.{Opening}
 use Rattle.snap_recover.proofs.Lists.{all_both, all_weaker, all_map, all_contains, contains_cases, contains_here, contains_there, contains_none, contains_map, contains_middle}
-use Rattle.recovery_laws.specs.Grown.{tids_of, number_of, kept_batch, kept_act, batches_in, all_in, places_of}
+use Rattle.record_words.specs.Told.{tids_of}
+use Rattle.recovery_laws.specs.Grown.{number_of, kept_batch, kept_act, batches_in, all_in, places_of}
 use Rattle.recovery_laws.proofs.InOrder.{acts_all, acts_keep, acts_have}
 use Rattle.recovery_laws.proofs.KnownLogs.{Known}
-use Rattle.recovery_laws.proofs.CommittedGrown.{found_at, found_acts, one_is, known_commit, act_told, has_batch, new_kept_all}
-use Rattle.recovery_laws.proofs.MembersTold.{Told, Valued}
+use Rattle.recovery_laws.proofs.CommittedGrown.{number_is, found_at, found_acts, one_is, known_commit, act_told, has_batch, new_kept_all}
 use Rattle.recovery_laws.proofs.SpotsOrdered.{Spot, SpotsRise, same_spots, spots_all, spot_there, spots_rise, pacts_rise, dones_rise}
 
 abbrev pub spot_of : Done → Spot
@@ -123,19 +118,13 @@ pacts_spots many logs h k (p ∷ ps) v i t =
     let there : Contains h.committed a.done = subst (λ z. Contains z a.done) (sym a.splits) (contains_middle a.front a.done a.rest) in
     (member_spot many logs h (OfBatch k) p.tid p.tx (pact_place k p.tid) p.result a i (value_of k h.committed a.done v there a.who), pacts_spots many logs h k ps v i t.1)
 
-number_at : (c : ℕ) (st : Status) → is_number c st ≡ true → (is_at (number_of st) st ≡ true)
+number_at : (c : ℕ) (st : Status) → is_at c st ≡ true → (is_at (number_of st) st ≡ true)
 number_at c Live e = absurd (true≢false (sym e))
 number_at c (Doomed v) e = absurd (true≢false (sym e))
 number_at c (Decided d) e = Rattle.std.proofs.lemmas.Bool.eq-eqb d d refl
 number_at c (Sealed d) e = Rattle.std.proofs.lemmas.Bool.eq-eqb d d refl
 
-at_number : (c : ℕ) (st : Status) → is_at c st ≡ true → number_of st ≡ c
-at_number c Live e = absurd (true≢false (sym e))
-at_number c (Doomed v) e = absurd (true≢false (sym e))
-at_number c (Decided d) e = eqb-true d c e
-at_number c (Sealed d) e = eqb-true d c e
-
-batch_of_members : {C : Type 0} (w : Fixed C) (earlier : List (List Record)) (o : Opening) (s : Machine C) (h : History) (logs : ℕ → List LogRecord) (b : Batch) → Known w earlier o s logs → Told s h → batch_of b.bid s.desk.batches ≡ Some b → is_in w.text.logs logs (OfBatch b.bid) ≡ true → IsOfMembers w.text.logs logs h (kept_batch b)
+batch_of_members : {C : Type 0} (w : Fixed C) (earlier : List (List Record)) (o : Opening) (s : Machine C) (h : History) (logs : ℕ → List LogRecord) (b : Batch) → Known w earlier o s logs → CommittedTold s h → batch_of b.bid s.desk.batches ≡ Some b → is_in w.text.logs logs (OfBatch b.bid) ≡ true → IsOfMembers w.text.logs logs h (kept_batch b)
 batch_of_members w earlier o s h logs b g t f e =
     let c = known_commit s.desk.batches s.book.acts b.bid (logs (b.bid % w.text.logs)) (g.tells (b.bid % w.text.logs)) e in
     let n : not (is_formed b.stage) ≡ true = subst (λ z. Rattle.protocol.specs.Words.holds (λ b. not (is_formed b.stage)) z ≡ true) f c in
@@ -151,7 +140,7 @@ batch_of_members w earlier o s h logs b g t f e =
 valued_too : (p q : Option TxResult) → p ≡ q → is_value q ≡ true → is_value p ≡ true
 valued_too p q e v = ap is_value e ∙ v
 
-act_of_members : {C : Type 0} (w : Fixed C) (earlier : List (List Record)) (o : Opening) (s : Machine C) (h : History) (logs : ℕ → List LogRecord) (x : Act) → Known w earlier o s logs → Told s h → act_of x.tid s.book.acts ≡ Some x → is_in w.text.logs logs (OfAct x.tid) ≡ true → IsOfMembers w.text.logs logs h (kept_act x)
+act_of_members : {C : Type 0} (w : Fixed C) (earlier : List (List Record)) (o : Opening) (s : Machine C) (h : History) (logs : ℕ → List LogRecord) (x : Act) → Known w earlier o s logs → CommittedTold s h → act_of x.tid s.book.acts ≡ Some x → is_in w.text.logs logs (OfAct x.tid) ≡ true → IsOfMembers w.text.logs logs h (kept_act x)
 act_of_members w earlier o s h logs x g t f e =
     let y = act_told w earlier o s logs x.tid g e in
     let same : y.act ≡ x = (let q : Some y.act ≡ Some x = sym y.found ∙ f in cc q) in
@@ -160,7 +149,7 @@ act_of_members w earlier o s h logs x g t f e =
     let v : is_value a.done.result ≡ true = valued_too a.done.result x.result a.result (subst (λ z. is_value z.result ≡ true) same y.valued) in
     ((tt, tt), (member_spot w.text.logs logs h (OfAct x.tid) x.tid x.tx (act_place x.m (number_of x.status)) x.result a e v, tt))
 
-of_members : {C : Type 0} (w : Fixed C) (earlier : List (List Record)) (o : Opening) (s : Machine C) (h : History) (logs : ℕ → List LogRecord) → Known w earlier o s logs → Told s h → AllByRecursion (IsOfMembers w.text.logs logs h) (all_in w.text.logs logs s)
+of_members : {C : Type 0} (w : Fixed C) (earlier : List (List Record)) (o : Opening) (s : Machine C) (h : History) (logs : ℕ → List LogRecord) → Known w earlier o s logs → CommittedTold s h → AllByRecursion (IsOfMembers w.text.logs logs h) (all_in w.text.logs logs s)
 of_members w earlier o s h logs g t = acts_all (IsOfMembers w.text.logs logs h) w.text.logs logs s.book.acts (batches_in w.text.logs logs s.desk.batches)
     (all_weaker (λ x. act_of x.tid s.book.acts ≡ Some x) (λ x. is_in w.text.logs logs (OfAct x.tid) ≡ true → IsOfMembers w.text.logs logs h (kept_act x)) s.book.acts (λ x f e. act_of_members w earlier o s h logs x g t f e) (found_acts s.book.acts g.apart))
     (batches_all (IsOfMembers w.text.logs logs h) w.text.logs logs s.desk.batches
@@ -194,16 +183,16 @@ done_there w earlier o s h logs d (OfBatch k) g p q i e =
 done_there w earlier o s h logs d (OfAct t) g p q i e =
     let x = act_told w earlier o s logs t g e in
     let k = (q t i).is_it t x.act x.found refl in
-    spot_there (all_in w.text.logs logs s) (places_of (kept_act x.act)) (spot_of d) (acts_have places_of w.text.logs logs t x.act s.book.acts (batches_in w.text.logs logs s.desk.batches) x.found e) (act_spot d x.act k.c k.place k.tid (at_number k.c x.act.status k.at))
+    spot_there (all_in w.text.logs logs s) (places_of (kept_act x.act)) (spot_of d) (acts_have places_of w.text.logs logs t x.act s.book.acts (batches_in w.text.logs logs s.desk.batches) x.found e) (act_spot d x.act k.c k.place k.tid (number_is k.c x.act.status k.at))
 
-members_there : {C : Type 0} (w : Fixed C) (earlier : List (List Record)) (o : Opening) (s : Machine C) (h : History) (logs : ℕ → List LogRecord) → Known w earlier o s logs → Told s h → AllByRecursion (λ d. Contains (flat_map places_of (all_in w.text.logs logs s)) (spot_of d)) (members w.text.logs logs h)
+members_there : {C : Type 0} (w : Fixed C) (earlier : List (List Record)) (o : Opening) (s : Machine C) (h : History) (logs : ℕ → List LogRecord) → Known w earlier o s logs → CommittedTold s h → AllByRecursion (λ d. Contains (flat_map places_of (all_in w.text.logs logs s)) (spot_of d)) (members w.text.logs logs h)
 members_there w earlier o s h logs g t = all_filtered (λ d. Contains (flat_map places_of (all_in w.text.logs logs s)) (spot_of d)) (λ d. is_in w.text.logs logs d.who && is_value d.result) h.committed
     (all_both (λ d. (k : ℕ) → d.who ≡ OfBatch k → PactFrom s.desk.batches h.kept k d) (λ d. (t : ℕ) → d.who ≡ OfAct t → DoneFrom s.book.acts t d) (λ d. (is_in w.text.logs logs d.who && is_value d.result) ≡ true → Contains (flat_map places_of (all_in w.text.logs logs s)) (spot_of d)) h.committed
     (λ d p q e. done_there w earlier o s h logs d d.who g p q refl (and_parts (is_in w.text.logs logs d.who) (is_value d.result) e).0) t.pacts_from t.acts_from)
 
 -- ---- the same
 
-pub members_ordered : {C : Type 0} (w : Fixed C) (earlier : List (List Record)) (o : Opening) (s : Machine C) (h : History) (logs : ℕ → List LogRecord) → Known w earlier o s logs → Told s h
+pub members_ordered : {C : Type 0} (w : Fixed C) (earlier : List (List Record)) (o : Opening) (s : Machine C) (h : History) (logs : ℕ → List LogRecord) → Known w earlier o s logs → CommittedTold s h
     → flat_map places_of (all_in w.text.logs logs s) ≡ map (λ d. (d.place, d.tid)) (by_place (members w.text.logs logs h))
 members_ordered w earlier o s h logs g t =
     let k = of_members w earlier o s h logs g t in

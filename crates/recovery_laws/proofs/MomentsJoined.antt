@@ -17,20 +17,22 @@ use Rattle.protocol.specs.Effects.{after, log_at, no_log, put_in, ascending}
 use Rattle.protocol.specs.Runs.{EachAllowed, IsRun, opening}
 use Rattle.protocol.specs.Moments.{Moment, left_in}
 use Rattle.protocol.specs.History.{History}
-use Rattle.protocol_laws.specs.Crash.{recovered_state, CrashHolds}
+use Rattle.protocol_records.specs.Crash.{recovered_state, CrashHolds}
 use Rattle.protocol_laws.specs.Ranges.{IsWithin, BatchInRange, ActInRange, NumbersInRange}
-use Rattle.protocol_laws.specs.RecordLaws.{has_key, all_records, batch_actors, batch_tids, act_actors, TellsOf, RecordsTell, RecordsAddedOnce}
+use Rattle.protocol_records.specs.RecordLaws.{has_key, all_records, batch_actors, batch_tids, act_actors, TellsOf, RecordsTell, RecordsAddedOnce}
 use Rattle.txn_records.specs.declared.records.Record.{Record}
 use Rattle.snap_recover.specs.declared.openings.Opening.{Opening}
 use Rattle.snap_recover.specs.declared.ranges.TheConstants.{GREATEST_NUMBER}
 use Rattle.snap_recover.specs.Opening.{IsInRange, IsRecovered}
 use Rattle.snap_recover.proofs.Lists.{all_weaker}
-use Rattle.recovery_laws.specs.Grown.{written, all_written, BeginsWith, NumbersFit}
-use Rattle.protocol_laws.specs.SeveralRuns.{recovered_from}
+use Rattle.record_words.specs.Told.{told, all_told}
+use Rattle.recovery_laws.specs.Grown.{BeginsWith}
+use Rattle.protocol_records.specs.SeveralRuns.{recovered_from}
 use Rattle.protocol_laws.specs.Sizes.{SizesHold}
 use Rattle.recovery_laws.proofs.WrittenLists.{same_tids, same_actors, batch_bids, act_tids}
 use Rattle.recovery_laws.proofs.KnownLogs.{Known}
-use Rattle.recovery_laws.proofs.ActsDrawn.{ActsDrawn, acts_apart}
+use Rattle.protocol_records.specs.NextNumbers.{ActsDrawn}
+use Rattle.recovery_laws.proofs.ActsApart.{acts_apart}
 
 -- ---- runs
 
@@ -155,7 +157,7 @@ act_record_low w s (machine.ActCommit u m c actors) n t = let g = act_found (Act
 bid_fits : (low high k : ℕ) (b : Batch) → high ≤ GREATEST_NUMBER + 1 → IsWithin low high b.bid → b.bid ≡ k → k ≤ GREATEST_NUMBER
 bid_fits low high k b l h e = omega (arith, h.below, l, e)
 
-record_range : {C : Type 0} (w : Fixed C) (s : Machine C) (r : LogRecord) → NumbersInRange w s → ActsDrawn w s → HaveRoom s → TellsOf s.desk.batches s.book.acts r → IsInRange (length w.text.opening.states) (written r)
+record_range : {C : Type 0} (w : Fixed C) (s : Machine C) (r : LogRecord) → NumbersInRange w s → ActsDrawn w s → HaveRoom s → TellsOf s.desk.batches s.book.acts r → IsInRange (length w.text.opening.states) (told r)
 record_range w s (machine.BatchInfo k actors tids) n d f t =
     let b = mapped_some batch_actors (batch_of k s.desk.batches) actors t.0 in
     let c = mapped_some batch_tids (batch_of k s.desk.batches) tids t.1 in
@@ -187,16 +189,16 @@ record_range w s (machine.ActCommit u m c actors) n d f t =
       numbers_below = (omega (arith, k.behind, t.m_is, f.bids), (omega (arith, k.below, f.cs), (omega (arith, g.0.tid.below, g.1, f.tids), tt)));
     }
 
-all_range : {C : Type 0} (w : Fixed C) (s : Machine C) (rs : List LogRecord) → NumbersInRange w s → ActsDrawn w s → HaveRoom s → AllByRecursion (TellsOf s.desk.batches s.book.acts) rs → AllByRecursion (IsInRange (length w.text.opening.states)) (all_written rs)
+all_range : {C : Type 0} (w : Fixed C) (s : Machine C) (rs : List LogRecord) → NumbersInRange w s → ActsDrawn w s → HaveRoom s → AllByRecursion (TellsOf s.desk.batches s.book.acts) rs → AllByRecursion (IsInRange (length w.text.opening.states)) (all_told rs)
 all_range w s [] n d f t = tt
 all_range w s (r ∷ rs) n d f t = (record_range w s r n d f t.0, all_range w s rs n d f t.1)
 
 -- ---- all of it
 
-pub known : {C : Type 0} (w : Fixed C) (finish : C → List State → Alone) (es : List Event) (earlier : List (List Record)) (o : Opening) (s : Machine C) (h : History) (kept : ℕ → ℕ) → IsText w.text → length earlier ≡ w.text.logs → IsRecovered earlier o → BeginsWith w.text o → NumbersFit w.text
+pub known : {C : Type 0} (w : Fixed C) (finish : C → List State → Alone) (es : List Event) (earlier : List (List Record)) (o : Opening) (s : Machine C) (h : History) (kept : ℕ → ℕ) → IsText w.text → length earlier ≡ w.text.logs → IsRecovered earlier o → BeginsWith w.text o
     → CrashHolds w finish es s h (left_in s kept) → RecordsAddedOnce w finish s h → RecordsTell w finish s h → NumbersInRange w s → NumbersDrawnOnce w s → PairsStand w s → SizesHold w s → ActsDrawn w s → Known w earlier o s (left_in s kept)
-known w finish es earlier o s h kept t many before begins fit c once tells range drawn pairs sizes acts =
-    let room : HaveRoom s = record { tids = omega (arith, fit.tids, sizes.next_tid, sizes.next_tx); bids = omega (arith, fit.bids, sizes.next_bid, sizes.next_tx); cs = omega (arith, fit.cs, sizes.next_c, sizes.next_tx) } in
+known w finish es earlier o s h kept t many before begins c once tells range drawn pairs sizes acts =
+    let room : HaveRoom s = record { tids = omega (arith, t.tids_fit, t.few_txs, sizes.next_tid, sizes.next_tx); bids = omega (arith, t.bids_fit, t.few_txs, sizes.next_bid, sizes.next_tx); cs = omega (arith, t.cs_fit, t.few_txs, sizes.next_c, sizes.next_tx) } in
     let left : (l : ℕ) → AllByRecursion (TellsOf s.desk.batches s.book.acts) (left_in s kept l) = λ l. all_take (TellsOf s.desk.batches s.book.acts) (kept l) (log_at s l).records (tells l) in
     record {
       many = many;

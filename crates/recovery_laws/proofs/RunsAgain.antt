@@ -1,7 +1,7 @@
 -- Run by run.
 use Rattle.std.specs.Prelude.{List, [], ◌∷◌}
 use Rattle.protocol.specs.Runs.{reached}
-use Rattle.protocol_laws.specs.SeveralRuns.{CutRun, logs_left}
+use Rattle.protocol_records.specs.SeveralRuns.{CutRun, logs_left}
 use Rattle.txn_records.specs.declared.records.Record.{Record}
 use Rattle.snap_recover.specs.declared.openings.Opening.{Opening}
 use Rattle.snap_recover.specs.Opening.{IsRecovered}
@@ -12,5 +12,5 @@ pub again : {C : Type 0} → AtEveryMomentOnLogs (RecoversToMembers {C = C}) →
 again law earlier o [] h g = h
 again law earlier o (x ∷ xs) h g =
     let v = g.0.0 in
-    let r = law x.fixed x.finish x.events x.moment x.kept earlier o v.facts v.text v.run v.left g.0.1 h g.0.2 g.0.3 in
+    let r = law x.fixed x.finish x.events x.moment x.kept earlier o v.facts v.text v.run v.left g.0.1 h g.0.2 in
     (r, again law (grown earlier (logs_left x)) (opening_after x.fixed o (reached x.fixed x.moment.events) (logs_left x)) xs r.recovered g.1)

@@ -9,13 +9,14 @@ use Rattle.protocol.specs.Parts.{Pact}
 use Rattle.protocol.specs.Verdicts.{pact_place, act_place}
 use Rattle.protocol.specs.History.{Done}
 use Rattle.protocol.specs.Chains.{is_place_below, IsBelowAll, PlacesRise}
-use Rattle.protocol_laws.proofs.machine.CommitLists.{PactsAscend}
-use Rattle.protocol_laws.proofs.order.ByPlace.{before_trans}
+use Rattle.protocol_laws.specs.Told.{PactsAscend}
+use Rattle.protocol_laws.proofs.Lemmas.{before_trans}
 use Rattle.snap_recover.specs.declared.openings.Kept.{Kept}
 use Rattle.snap_recover.specs.declared.openings.Kept.TheVariants as kept
 use Rattle.snap_recover.specs.Opening.{ComesBefore}
 use Rattle.snap_recover.proofs.Lists.{all_append, all_both, all_of_each, all_contains, contains_cases, contains_here, contains_there, contains_none, contains_left, contains_right}
-use Rattle.recovery_laws.specs.Grown.{tids_of, places_of}
+use Rattle.record_words.specs.Told.{tids_of}
+use Rattle.recovery_laws.specs.Grown.{places_of}
 use Rattle.recovery_laws.proofs.InOrder.{Rises}
 
 abbrev pub Spot : Type 0

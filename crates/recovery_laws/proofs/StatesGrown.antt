@@ -8,8 +8,8 @@ use Rattle.protocol.specs.Fixed.{Fixed}
 use Rattle.protocol.specs.Records as machine
 use Rattle.protocol.specs.Records.{LogRecord, is_info, is_complete, is_commit, is_prepare, is_act_commit}
 use Rattle.protocol.specs.Parts.{OfBatch, OfAct, Machine}
-use Rattle.protocol_laws.specs.Crash.{is_in, recovered_state}
-use Rattle.protocol_laws.specs.SeveralRuns.{recovered_from}
+use Rattle.protocol_records.specs.Crash.{is_in, recovered_state}
+use Rattle.protocol_records.specs.SeveralRuns.{recovered_from}
 use Rattle.txn_records.specs.declared.records.Record.{Record}
 use Rattle.txn_records.specs.declared.records.Record.TheVariants.{Genesis, BatchInfo, BatchComplete, BatchCommit, ActPrepare, ActCommit}
 use Rattle.snap_recover.specs.declared.openings.Opening.{Opening}
@@ -17,7 +17,8 @@ use Rattle.snap_recover.specs.Logs.{log_of, tids_in, bids_in}
 use Rattle.snap_recover.specs.Opening.{Counts, IsStateOf}
 use Rattle.snap_recover.specs.Passes.{StateOver}
 use Rattle.snap_recover.proofs.StatesOver.{Agree, over_alike}
-use Rattle.recovery_laws.specs.Grown.{bid_of, tid_of, grown}
+use Rattle.record_words.specs.Told.{bid_of, tid_of}
+use Rattle.recovery_laws.specs.Grown.{grown}
 use Rattle.recovery_laws.proofs.WrittenLists.{act_tids, batch_bids, Counted, over_written}
 use Rattle.recovery_laws.proofs.KnownLogs.{Known, log_grown, old_low, in_old, in_cases, in_stays, in_new, new_low, old_acts_low, act_old, act_cases, act_stays, act_new, new_act_low}
 

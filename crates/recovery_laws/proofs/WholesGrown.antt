@@ -11,7 +11,7 @@ use Rattle.protocol.specs.Records as machine
 use Rattle.protocol.specs.Records.{LogRecord, is_info, is_complete, is_commit, is_prepare, is_act_commit}
 use Rattle.protocol.specs.Parts.{Machine}
 use Rattle.protocol.specs.Words.{count}
-use Rattle.protocol_laws.specs.RecordLaws.{OfInfo, OfActCommit}
+use Rattle.protocol_records.specs.RecordLaws.{OfInfo, OfActCommit}
 use Rattle.txn_records.specs.declared.records.Record.{Record}
 use Rattle.txn_records.specs.declared.records.Record.TheVariants.{BatchInfo, ActCommit}
 use Rattle.txn_records.specs.declared.keys.Key.TheVariants as keys
@@ -21,18 +21,19 @@ use Rattle.snap_recover.specs.Logs.{Has, log_of}
 use Rattle.snap_recover.specs.Opening.{IsIn, IsInfoOf, HasCompleted, IsWhole, IsActIn, IsActOf, HasPrepared, IsActWhole}
 use Rattle.snap_recover.proofs.Lists.{all_append, all_weaker}
 use Rattle.snap_recover.proofs.Growing.{has_left, has_right}
-use Rattle.recovery_laws.specs.Grown.{bid_of, tid_of, actor_of, tids_of, actors_of, all_written, grown}
+use Rattle.record_words.specs.Told.{bid_of, tid_of, actor_of, tids_of, actors_of, all_told}
+use Rattle.recovery_laws.specs.Grown.{grown}
 use Rattle.recovery_laws.proofs.WrittenLists.{written_join, complete_has, prepare_has, no_act, no_info, info_above}
 use Rattle.recovery_laws.proofs.KnownLogs.{Known, log_grown, in_old, in_cases, act_old, act_cases, new_act_low}
 
 -- ---- what was there stays
 
 pub completed_stays : {C : Type 0} (w : Fixed C) (earlier : List (List Record)) (o : Opening) (s : Machine C) (logs : ℕ → List LogRecord) (b : Bid) (a : ActorId) → Known w earlier o s logs → HasCompleted earlier b a → HasCompleted (grown earlier logs) b a
-completed_stays w earlier o s logs b a g h = subst (λ z. Has z (keys.Complete b a)) (sym (log_grown w earlier o s logs a.0 g)) (has_left (log_of earlier a.0) (all_written (logs (a.0 % w.text.logs))) (keys.Complete b a) h)
+completed_stays w earlier o s logs b a g h = subst (λ z. Has z (keys.Complete b a)) (sym (log_grown w earlier o s logs a.0 g)) (has_left (log_of earlier a.0) (all_told (logs (a.0 % w.text.logs))) (keys.Complete b a) h)
 
 pub info_stays : {C : Type 0} (w : Fixed C) (earlier : List (List Record)) (o : Opening) (s : Machine C) (logs : ℕ → List LogRecord) (b : Bid) (actors : List ActorId) (tids : List Tid) → Known w earlier o s logs → b.0 < w.text.opening.next_bid → IsInfoOf earlier b actors tids → IsInfoOf (grown earlier logs) b actors tids
 info_stays w earlier o s logs b actors tids g l (front, behind, e, p, quiet) =
-    let more = all_written (logs (b.0 % w.text.logs)) in
+    let more = all_told (logs (b.0 % w.text.logs)) in
     let n = no_info (logs (b.0 % w.text.logs)) b (info_above (logs (b.0 % w.text.logs)) w.text.opening.next_bid b.0 l (g.low (b.0 % w.text.logs))) in
     (front, behind ++ more, log_grown w earlier o s logs b.0 g ∙ (ap (λ z. z ++ more) e ∙ append_assoc front (BatchInfo b actors tids ∷ behind) more), p, all_append (λ r. ¬ (key r ≡ keys.Info b)) behind more quiet n)
 
@@ -67,12 +68,12 @@ info_new w earlier o s logs k actors tids front rest g e =
     let r = machine.BatchInfo k actors tids in
     let one : count (is_info k) (front ++ machine.BatchInfo k actors tids ∷ rest) ≤ 1 = subst (λ z. count (is_info k) z ≤ 1) e (g.once (OfInfo k) (k % w.text.logs)) in
     let none : list_any (is_info k) rest ≡ false = false_from_ne_true (list_any (is_info k) rest) (λ q. omega (arith, one, count_behind (is_info k) front (r ∷ rest), count_cons (is_info k) r rest (eq-eqb k k refl), count_any (is_info k) rest q)) in
-    (log_of earlier k ++ all_written front, all_written rest, log_grown w earlier o s logs k g ∙ (ap (λ z. log_of earlier k ++ all_written z) e ∙ (ap (λ z. log_of earlier k ++ z) (written_join front (r ∷ rest)) ∙ sym (append_assoc (log_of earlier k) (all_written front) (BatchInfo (bid_of k) (actors_of actors) (tids_of tids) ∷ all_written rest)))), refl, no_info rest (bid_of k) none)
+    (log_of earlier k ++ all_told front, all_told rest, log_grown w earlier o s logs k g ∙ (ap (λ z. log_of earlier k ++ all_told z) e ∙ (ap (λ z. log_of earlier k ++ z) (written_join front (r ∷ rest)) ∙ sym (append_assoc (log_of earlier k) (all_told front) (BatchInfo (bid_of k) (actors_of actors) (tids_of tids) ∷ all_told rest)))), refl, no_info rest (bid_of k) none)
 
 completed_new : {C : Type 0} (w : Fixed C) (earlier : List (List Record)) (o : Opening) (s : Machine C) (logs : ℕ → List LogRecord) (k : ℕ) (as' : List ℕ) → Known w earlier o s logs → AllByRecursion (λ a. list_any (is_complete k a) (logs (a % w.text.logs)) ≡ true) as' → AllByRecursion (HasCompleted (grown earlier logs) (bid_of k)) (actors_of as')
 completed_new w earlier o s logs k [] g h = tt
 completed_new w earlier o s logs k (a ∷ as') g h = (
-  subst (λ z. Has z (keys.Complete (bid_of k) (record { 0 = a }))) (sym (log_grown w earlier o s logs a g)) (has_right (log_of earlier a) (all_written (logs (a % w.text.logs))) (keys.Complete (bid_of k) (record { 0 = a })) (complete_has (logs (a % w.text.logs)) k a h.0)),
+  subst (λ z. Has z (keys.Complete (bid_of k) (record { 0 = a }))) (sym (log_grown w earlier o s logs a g)) (has_right (log_of earlier a) (all_told (logs (a % w.text.logs))) (keys.Complete (bid_of k) (record { 0 = a })) (complete_has (logs (a % w.text.logs)) k a h.0)),
   completed_new w earlier o s logs k as' g h.1,
 )
 
@@ -88,11 +89,11 @@ whole_grown w earlier o s logs b g h = elim (in_cases w earlier o s logs b g h) 
 -- ---- ACTs
 
 prepared_stays : {C : Type 0} (w : Fixed C) (earlier : List (List Record)) (o : Opening) (s : Machine C) (logs : ℕ → List LogRecord) (t : Tid) (a : ActorId) → Known w earlier o s logs → HasPrepared earlier t a → HasPrepared (grown earlier logs) t a
-prepared_stays w earlier o s logs t a g h = subst (λ z. Has z (keys.Prepare t a)) (sym (log_grown w earlier o s logs a.0 g)) (has_left (log_of earlier a.0) (all_written (logs (a.0 % w.text.logs))) (keys.Prepare t a) h)
+prepared_stays w earlier o s logs t a g h = subst (λ z. Has z (keys.Prepare t a)) (sym (log_grown w earlier o s logs a.0 g)) (has_left (log_of earlier a.0) (all_told (logs (a.0 % w.text.logs))) (keys.Prepare t a) h)
 
 pub commit_stays : {C : Type 0} (w : Fixed C) (earlier : List (List Record)) (o : Opening) (s : Machine C) (logs : ℕ → List LogRecord) (t : Tid) (m : Bid) (c : ℕ) (actors : List ActorId) → Known w earlier o s logs → t.0 < w.text.opening.next_tid → IsActOf earlier t m c actors → IsActOf (grown earlier logs) t m c actors
 commit_stays w earlier o s logs t m c actors g l (front, behind, e, p, quiet) =
-    let more = all_written (logs (t.0 % w.text.logs)) in
+    let more = all_told (logs (t.0 % w.text.logs)) in
     let none : list_any (is_act_commit t.0) (logs (t.0 % w.text.logs)) ≡ false = false_from_ne_true (list_any (is_act_commit t.0) (logs (t.0 % w.text.logs))) (λ q. omega (arith, l, new_act_low w earlier o s logs t.0 g q)) in
     let n = no_act (logs (t.0 % w.text.logs)) t none in
     (front, behind ++ more, log_grown w earlier o s logs t.0 g ∙ (ap (λ z. z ++ more) e ∙ append_assoc front (ActCommit t m c actors ∷ behind) more), p, all_append (λ r. ¬ (key r ≡ keys.Act t)) behind more quiet n)
@@ -103,12 +104,12 @@ commit_new w earlier o s logs t m c actors front rest g e =
     let r = machine.ActCommit t m c actors in
     let one : count (is_act_commit t) (front ++ machine.ActCommit t m c actors ∷ rest) ≤ 1 = subst (λ z. count (is_act_commit t) z ≤ 1) e (g.once (OfActCommit t) (t % w.text.logs)) in
     let none : list_any (is_act_commit t) rest ≡ false = false_from_ne_true (list_any (is_act_commit t) rest) (λ q. omega (arith, one, count_behind (is_act_commit t) front (r ∷ rest), count_cons (is_act_commit t) r rest (eq-eqb t t refl), count_any (is_act_commit t) rest q)) in
-    (log_of earlier t ++ all_written front, all_written rest, log_grown w earlier o s logs t g ∙ (ap (λ z. log_of earlier t ++ all_written z) e ∙ (ap (λ z. log_of earlier t ++ z) (written_join front (r ∷ rest)) ∙ sym (append_assoc (log_of earlier t) (all_written front) (ActCommit (tid_of t) (bid_of m) c (actors_of actors) ∷ all_written rest)))), refl, no_act rest (tid_of t) none)
+    (log_of earlier t ++ all_told front, all_told rest, log_grown w earlier o s logs t g ∙ (ap (λ z. log_of earlier t ++ all_told z) e ∙ (ap (λ z. log_of earlier t ++ z) (written_join front (r ∷ rest)) ∙ sym (append_assoc (log_of earlier t) (all_told front) (ActCommit (tid_of t) (bid_of m) c (actors_of actors) ∷ all_told rest)))), refl, no_act rest (tid_of t) none)
 
 prepared_new : {C : Type 0} (w : Fixed C) (earlier : List (List Record)) (o : Opening) (s : Machine C) (logs : ℕ → List LogRecord) (t : ℕ) (as' : List ℕ) → Known w earlier o s logs → AllByRecursion (λ a. list_any (is_prepare t a) (logs (a % w.text.logs)) ≡ true) as' → AllByRecursion (HasPrepared (grown earlier logs) (tid_of t)) (actors_of as')
 prepared_new w earlier o s logs t [] g h = tt
 prepared_new w earlier o s logs t (a ∷ as') g h = (
-  subst (λ z. Has z (keys.Prepare (tid_of t) (actor_of a))) (sym (log_grown w earlier o s logs a g)) (has_right (log_of earlier a) (all_written (logs (a % w.text.logs))) (keys.Prepare (tid_of t) (actor_of a)) (prepare_has (logs (a % w.text.logs)) t a h.0)),
+  subst (λ z. Has z (keys.Prepare (tid_of t) (actor_of a))) (sym (log_grown w earlier o s logs a g)) (has_right (log_of earlier a) (all_told (logs (a % w.text.logs))) (keys.Prepare (tid_of t) (actor_of a)) (prepare_has (logs (a % w.text.logs)) t a h.0)),
   prepared_new w earlier o s logs t as' g h.1,
 )
 

@@ -11,7 +11,7 @@ use Rattle.snap_base.specs.declared.transactions.State.{State}
 use Rattle.protocol.specs.Records as machine
 use Rattle.protocol.specs.Records.{LogRecord, is_info, is_complete, is_commit, is_prepare, is_act_commit}
 use Rattle.protocol.specs.Words as words
-use Rattle.protocol_laws.specs.Crash as crash
+use Rattle.protocol_records.specs.Crash as crash
 use Rattle.txn_records.specs.declared.records.Record.{Record}
 use Rattle.txn_records.specs.declared.records.Record.TheVariants.{BatchInfo, BatchComplete, BatchCommit, ActPrepare, ActCommit}
 use Rattle.txn_records.specs.declared.keys.Key.TheVariants as keys
@@ -22,89 +22,90 @@ use Rattle.snap_recover.specs.Passes.{StateOver}
 use Rattle.snap_recover.proofs.Lists.{contains_here, contains_there, contains_cases, contains_none, all_append}
 use Rattle.snap_recover.proofs.Greatest.{greatest_of}
 use Rattle.snap_recover.proofs.StatesOver.{over_quiet, over_counts}
-use Rattle.recovery_laws.specs.Grown.{bid_of, tid_of, actor_of, tids_of, actors_of, written, all_written, grown_from}
+use Rattle.record_words.specs.Told.{bid_of, tid_of, actor_of, tids_of, actors_of, told, all_told}
+use Rattle.recovery_laws.specs.Grown.{grown_from}
 
 -- ---- joins
 
-pub written_join : (xs ys : List LogRecord) → all_written (xs ++ ys) ≡ all_written xs ++ all_written ys
+pub written_join : (xs ys : List LogRecord) → all_told (xs ++ ys) ≡ all_told xs ++ all_told ys
 written_join [] ys = refl
-written_join (x ∷ xs) ys = ap (λ z. written x ∷ z) (written_join xs ys)
+written_join (x ∷ xs) ys = ap (λ z. told x ∷ z) (written_join xs ys)
 
 -- ---- commits and completions
 
 commit_bid : (k : ℕ) (b : Bid) → keys.Commit (bid_of k) ≡ keys.Commit b → k ≡ b.0
 commit_bid k b e = let s : bid_of k ≡ b = cc e in ap (λ z. z.0) s
 
-pub has_commit : (rs : List LogRecord) (b : Bid) → Has (all_written rs) (keys.Commit b) → list_any (is_commit b.0) rs ≡ true
+pub has_commit : (rs : List LogRecord) (b : Bid) → Has (all_told rs) (keys.Commit b) → list_any (is_commit b.0) rs ≡ true
 has_commit [] b h = absurd (contains_none (keys.Commit b) h)
-has_commit (machine.BatchInfo k actors tids ∷ rs) b h = elim (contains_cases (keys.Info (bid_of k)) (keys.Commit b) (map key (all_written rs)) h) [ inl e ↦ absurd (cc e) | inr g ↦ has_commit rs b g ]
-has_commit (machine.BatchComplete k a st ∷ rs) b h = elim (contains_cases (keys.Complete (bid_of k) (record { 0 = a })) (keys.Commit b) (map key (all_written rs)) h) [ inl e ↦ absurd (cc e) | inr g ↦ has_commit rs b g ]
-has_commit (machine.BatchCommit k ∷ rs) b h = elim (contains_cases (keys.Commit (bid_of k)) (keys.Commit b) (map key (all_written rs)) h) [ inl e ↦ or_left (k == b.0) _ (eq-eqb k b.0 (commit_bid k b e)) | inr g ↦ or_right (k == b.0) _ (has_commit rs b g) ]
-has_commit (machine.ActPrepare t a st ∷ rs) b h = elim (contains_cases (keys.Prepare (tid_of t) (actor_of a)) (keys.Commit b) (map key (all_written rs)) h) [ inl e ↦ absurd (cc e) | inr g ↦ has_commit rs b g ]
-has_commit (machine.ActCommit t m c actors ∷ rs) b h = elim (contains_cases (keys.Act (tid_of t)) (keys.Commit b) (map key (all_written rs)) h) [ inl e ↦ absurd (cc e) | inr g ↦ has_commit rs b g ]
+has_commit (machine.BatchInfo k actors tids ∷ rs) b h = elim (contains_cases (keys.Info (bid_of k)) (keys.Commit b) (map key (all_told rs)) h) [ inl e ↦ absurd (cc e) | inr g ↦ has_commit rs b g ]
+has_commit (machine.BatchComplete k a st ∷ rs) b h = elim (contains_cases (keys.Complete (bid_of k) (record { 0 = a })) (keys.Commit b) (map key (all_told rs)) h) [ inl e ↦ absurd (cc e) | inr g ↦ has_commit rs b g ]
+has_commit (machine.BatchCommit k ∷ rs) b h = elim (contains_cases (keys.Commit (bid_of k)) (keys.Commit b) (map key (all_told rs)) h) [ inl e ↦ or_left (k == b.0) _ (eq-eqb k b.0 (commit_bid k b e)) | inr g ↦ or_right (k == b.0) _ (has_commit rs b g) ]
+has_commit (machine.ActPrepare t a st ∷ rs) b h = elim (contains_cases (keys.Prepare (tid_of t) (actor_of a)) (keys.Commit b) (map key (all_told rs)) h) [ inl e ↦ absurd (cc e) | inr g ↦ has_commit rs b g ]
+has_commit (machine.ActCommit t m c actors ∷ rs) b h = elim (contains_cases (keys.Act (tid_of t)) (keys.Commit b) (map key (all_told rs)) h) [ inl e ↦ absurd (cc e) | inr g ↦ has_commit rs b g ]
 
-pub commit_has : (rs : List LogRecord) (k : ℕ) → list_any (is_commit k) rs ≡ true → Has (all_written rs) (keys.Commit (bid_of k))
+pub commit_has : (rs : List LogRecord) (k : ℕ) → list_any (is_commit k) rs ≡ true → Has (all_told rs) (keys.Commit (bid_of k))
 commit_has [] k h = absurd (true≢false (sym h))
-commit_has (machine.BatchInfo j actors tids ∷ rs) k h = contains_there (keys.Info (bid_of j)) (keys.Commit (bid_of k)) (map key (all_written rs)) (commit_has rs k h)
-commit_has (machine.BatchComplete j a st ∷ rs) k h = contains_there (keys.Complete (bid_of j) (record { 0 = a })) (keys.Commit (bid_of k)) (map key (all_written rs)) (commit_has rs k h)
+commit_has (machine.BatchInfo j actors tids ∷ rs) k h = contains_there (keys.Info (bid_of j)) (keys.Commit (bid_of k)) (map key (all_told rs)) (commit_has rs k h)
+commit_has (machine.BatchComplete j a st ∷ rs) k h = contains_there (keys.Complete (bid_of j) (record { 0 = a })) (keys.Commit (bid_of k)) (map key (all_told rs)) (commit_has rs k h)
 commit_has (machine.BatchCommit j ∷ rs) k h = elim (or_cases (j == k) _ h) [
-  | inl e ↦ subst (λ z. Contains (keys.Commit (bid_of j) ∷ map key (all_written rs)) (keys.Commit (bid_of z))) (eqb-true j k e) (contains_here (keys.Commit (bid_of j)) (map key (all_written rs)))
-  | inr g ↦ contains_there (keys.Commit (bid_of j)) (keys.Commit (bid_of k)) (map key (all_written rs)) (commit_has rs k g)
+  | inl e ↦ subst (λ z. Contains (keys.Commit (bid_of j) ∷ map key (all_told rs)) (keys.Commit (bid_of z))) (eqb-true j k e) (contains_here (keys.Commit (bid_of j)) (map key (all_told rs)))
+  | inr g ↦ contains_there (keys.Commit (bid_of j)) (keys.Commit (bid_of k)) (map key (all_told rs)) (commit_has rs k g)
 ]
-commit_has (machine.ActPrepare t a st ∷ rs) k h = contains_there (keys.Prepare (tid_of t) (actor_of a)) (keys.Commit (bid_of k)) (map key (all_written rs)) (commit_has rs k h)
-commit_has (machine.ActCommit t m c actors ∷ rs) k h = contains_there (keys.Act (tid_of t)) (keys.Commit (bid_of k)) (map key (all_written rs)) (commit_has rs k h)
+commit_has (machine.ActPrepare t a st ∷ rs) k h = contains_there (keys.Prepare (tid_of t) (actor_of a)) (keys.Commit (bid_of k)) (map key (all_told rs)) (commit_has rs k h)
+commit_has (machine.ActCommit t m c actors ∷ rs) k h = contains_there (keys.Act (tid_of t)) (keys.Commit (bid_of k)) (map key (all_told rs)) (commit_has rs k h)
 
-pub complete_has : (rs : List LogRecord) (k c : ℕ) → list_any (is_complete k c) rs ≡ true → Has (all_written rs) (keys.Complete (bid_of k) (record { 0 = c }))
+pub complete_has : (rs : List LogRecord) (k c : ℕ) → list_any (is_complete k c) rs ≡ true → Has (all_told rs) (keys.Complete (bid_of k) (record { 0 = c }))
 complete_has [] k c h = absurd (true≢false (sym h))
-complete_has (machine.BatchInfo j actors tids ∷ rs) k c h = contains_there (keys.Info (bid_of j)) (keys.Complete (bid_of k) (record { 0 = c })) (map key (all_written rs)) (complete_has rs k c h)
+complete_has (machine.BatchInfo j actors tids ∷ rs) k c h = contains_there (keys.Info (bid_of j)) (keys.Complete (bid_of k) (record { 0 = c })) (map key (all_told rs)) (complete_has rs k c h)
 complete_has (machine.BatchComplete j a st ∷ rs) k c h = elim (or_cases ((j == k) && (a == c)) _ h) [
   | inl e ↦ let v = and_parts (j == k) (a == c) e in
-      subst (λ z. Contains (keys.Complete (bid_of j) (record { 0 = a }) ∷ map key (all_written rs)) (keys.Complete (bid_of z) (record { 0 = c }))) (eqb-true j k v.0)
-      (subst (λ z. Contains (keys.Complete (bid_of j) (record { 0 = a }) ∷ map key (all_written rs)) (keys.Complete (bid_of j) (record { 0 = z }))) (eqb-true a c v.1) (contains_here (keys.Complete (bid_of j) (record { 0 = a })) (map key (all_written rs))))
-  | inr g ↦ contains_there (keys.Complete (bid_of j) (record { 0 = a })) (keys.Complete (bid_of k) (record { 0 = c })) (map key (all_written rs)) (complete_has rs k c g)
+      subst (λ z. Contains (keys.Complete (bid_of j) (record { 0 = a }) ∷ map key (all_told rs)) (keys.Complete (bid_of z) (record { 0 = c }))) (eqb-true j k v.0)
+      (subst (λ z. Contains (keys.Complete (bid_of j) (record { 0 = a }) ∷ map key (all_told rs)) (keys.Complete (bid_of j) (record { 0 = z }))) (eqb-true a c v.1) (contains_here (keys.Complete (bid_of j) (record { 0 = a })) (map key (all_told rs))))
+  | inr g ↦ contains_there (keys.Complete (bid_of j) (record { 0 = a })) (keys.Complete (bid_of k) (record { 0 = c })) (map key (all_told rs)) (complete_has rs k c g)
 ]
-complete_has (machine.BatchCommit j ∷ rs) k c h = contains_there (keys.Commit (bid_of j)) (keys.Complete (bid_of k) (record { 0 = c })) (map key (all_written rs)) (complete_has rs k c h)
-complete_has (machine.ActPrepare t a st ∷ rs) k c h = contains_there (keys.Prepare (tid_of t) (actor_of a)) (keys.Complete (bid_of k) (actor_of c)) (map key (all_written rs)) (complete_has rs k c h)
-complete_has (machine.ActCommit t m d actors ∷ rs) k c h = contains_there (keys.Act (tid_of t)) (keys.Complete (bid_of k) (actor_of c)) (map key (all_written rs)) (complete_has rs k c h)
+complete_has (machine.BatchCommit j ∷ rs) k c h = contains_there (keys.Commit (bid_of j)) (keys.Complete (bid_of k) (record { 0 = c })) (map key (all_told rs)) (complete_has rs k c h)
+complete_has (machine.ActPrepare t a st ∷ rs) k c h = contains_there (keys.Prepare (tid_of t) (actor_of a)) (keys.Complete (bid_of k) (actor_of c)) (map key (all_told rs)) (complete_has rs k c h)
+complete_has (machine.ActCommit t m d actors ∷ rs) k c h = contains_there (keys.Act (tid_of t)) (keys.Complete (bid_of k) (actor_of c)) (map key (all_told rs)) (complete_has rs k c h)
 
 -- ---- ACTs
 
 act_tid : (t : ℕ) (u : Tid) → keys.Act (tid_of t) ≡ keys.Act u → t ≡ u.0
 act_tid t u e = let s : tid_of t ≡ u = cc e in ap (λ z. z.0) s
 
-pub has_act : (rs : List LogRecord) (u : Tid) → Has (all_written rs) (keys.Act u) → list_any (is_act_commit u.0) rs ≡ true
+pub has_act : (rs : List LogRecord) (u : Tid) → Has (all_told rs) (keys.Act u) → list_any (is_act_commit u.0) rs ≡ true
 has_act [] u h = absurd (contains_none (keys.Act u) h)
-has_act (machine.BatchInfo k actors tids ∷ rs) u h = elim (contains_cases (keys.Info (bid_of k)) (keys.Act u) (map key (all_written rs)) h) [ inl e ↦ absurd (cc e) | inr g ↦ has_act rs u g ]
-has_act (machine.BatchComplete k a st ∷ rs) u h = elim (contains_cases (keys.Complete (bid_of k) (actor_of a)) (keys.Act u) (map key (all_written rs)) h) [ inl e ↦ absurd (cc e) | inr g ↦ has_act rs u g ]
-has_act (machine.BatchCommit k ∷ rs) u h = elim (contains_cases (keys.Commit (bid_of k)) (keys.Act u) (map key (all_written rs)) h) [ inl e ↦ absurd (cc e) | inr g ↦ has_act rs u g ]
-has_act (machine.ActPrepare t a st ∷ rs) u h = elim (contains_cases (keys.Prepare (tid_of t) (actor_of a)) (keys.Act u) (map key (all_written rs)) h) [ inl e ↦ absurd (cc e) | inr g ↦ has_act rs u g ]
-has_act (machine.ActCommit t m c actors ∷ rs) u h = elim (contains_cases (keys.Act (tid_of t)) (keys.Act u) (map key (all_written rs)) h) [ inl e ↦ or_left (t == u.0) _ (eq-eqb t u.0 (act_tid t u e)) | inr g ↦ or_right (t == u.0) _ (has_act rs u g) ]
+has_act (machine.BatchInfo k actors tids ∷ rs) u h = elim (contains_cases (keys.Info (bid_of k)) (keys.Act u) (map key (all_told rs)) h) [ inl e ↦ absurd (cc e) | inr g ↦ has_act rs u g ]
+has_act (machine.BatchComplete k a st ∷ rs) u h = elim (contains_cases (keys.Complete (bid_of k) (actor_of a)) (keys.Act u) (map key (all_told rs)) h) [ inl e ↦ absurd (cc e) | inr g ↦ has_act rs u g ]
+has_act (machine.BatchCommit k ∷ rs) u h = elim (contains_cases (keys.Commit (bid_of k)) (keys.Act u) (map key (all_told rs)) h) [ inl e ↦ absurd (cc e) | inr g ↦ has_act rs u g ]
+has_act (machine.ActPrepare t a st ∷ rs) u h = elim (contains_cases (keys.Prepare (tid_of t) (actor_of a)) (keys.Act u) (map key (all_told rs)) h) [ inl e ↦ absurd (cc e) | inr g ↦ has_act rs u g ]
+has_act (machine.ActCommit t m c actors ∷ rs) u h = elim (contains_cases (keys.Act (tid_of t)) (keys.Act u) (map key (all_told rs)) h) [ inl e ↦ or_left (t == u.0) _ (eq-eqb t u.0 (act_tid t u e)) | inr g ↦ or_right (t == u.0) _ (has_act rs u g) ]
 
-pub act_has : (rs : List LogRecord) (u : ℕ) → list_any (is_act_commit u) rs ≡ true → Has (all_written rs) (keys.Act (tid_of u))
+pub act_has : (rs : List LogRecord) (u : ℕ) → list_any (is_act_commit u) rs ≡ true → Has (all_told rs) (keys.Act (tid_of u))
 act_has [] u h = absurd (true≢false (sym h))
-act_has (machine.BatchInfo j actors tids ∷ rs) u h = contains_there (keys.Info (bid_of j)) (keys.Act (tid_of u)) (map key (all_written rs)) (act_has rs u h)
-act_has (machine.BatchComplete j a st ∷ rs) u h = contains_there (keys.Complete (bid_of j) (actor_of a)) (keys.Act (tid_of u)) (map key (all_written rs)) (act_has rs u h)
-act_has (machine.BatchCommit j ∷ rs) u h = contains_there (keys.Commit (bid_of j)) (keys.Act (tid_of u)) (map key (all_written rs)) (act_has rs u h)
-act_has (machine.ActPrepare t a st ∷ rs) u h = contains_there (keys.Prepare (tid_of t) (actor_of a)) (keys.Act (tid_of u)) (map key (all_written rs)) (act_has rs u h)
+act_has (machine.BatchInfo j actors tids ∷ rs) u h = contains_there (keys.Info (bid_of j)) (keys.Act (tid_of u)) (map key (all_told rs)) (act_has rs u h)
+act_has (machine.BatchComplete j a st ∷ rs) u h = contains_there (keys.Complete (bid_of j) (actor_of a)) (keys.Act (tid_of u)) (map key (all_told rs)) (act_has rs u h)
+act_has (machine.BatchCommit j ∷ rs) u h = contains_there (keys.Commit (bid_of j)) (keys.Act (tid_of u)) (map key (all_told rs)) (act_has rs u h)
+act_has (machine.ActPrepare t a st ∷ rs) u h = contains_there (keys.Prepare (tid_of t) (actor_of a)) (keys.Act (tid_of u)) (map key (all_told rs)) (act_has rs u h)
 act_has (machine.ActCommit t m c actors ∷ rs) u h = elim (or_cases (t == u) _ h) [
-  | inl e ↦ subst (λ z. Contains (keys.Act (tid_of t) ∷ map key (all_written rs)) (keys.Act (tid_of z))) (eqb-true t u e) (contains_here (keys.Act (tid_of t)) (map key (all_written rs)))
-  | inr g ↦ contains_there (keys.Act (tid_of t)) (keys.Act (tid_of u)) (map key (all_written rs)) (act_has rs u g)
+  | inl e ↦ subst (λ z. Contains (keys.Act (tid_of t) ∷ map key (all_told rs)) (keys.Act (tid_of z))) (eqb-true t u e) (contains_here (keys.Act (tid_of t)) (map key (all_told rs)))
+  | inr g ↦ contains_there (keys.Act (tid_of t)) (keys.Act (tid_of u)) (map key (all_told rs)) (act_has rs u g)
 ]
 
-pub prepare_has : (rs : List LogRecord) (u c : ℕ) → list_any (is_prepare u c) rs ≡ true → Has (all_written rs) (keys.Prepare (tid_of u) (actor_of c))
+pub prepare_has : (rs : List LogRecord) (u c : ℕ) → list_any (is_prepare u c) rs ≡ true → Has (all_told rs) (keys.Prepare (tid_of u) (actor_of c))
 prepare_has [] u c h = absurd (true≢false (sym h))
-prepare_has (machine.BatchInfo j actors tids ∷ rs) u c h = contains_there (keys.Info (bid_of j)) (keys.Prepare (tid_of u) (actor_of c)) (map key (all_written rs)) (prepare_has rs u c h)
-prepare_has (machine.BatchComplete j a st ∷ rs) u c h = contains_there (keys.Complete (bid_of j) (actor_of a)) (keys.Prepare (tid_of u) (actor_of c)) (map key (all_written rs)) (prepare_has rs u c h)
-prepare_has (machine.BatchCommit j ∷ rs) u c h = contains_there (keys.Commit (bid_of j)) (keys.Prepare (tid_of u) (actor_of c)) (map key (all_written rs)) (prepare_has rs u c h)
+prepare_has (machine.BatchInfo j actors tids ∷ rs) u c h = contains_there (keys.Info (bid_of j)) (keys.Prepare (tid_of u) (actor_of c)) (map key (all_told rs)) (prepare_has rs u c h)
+prepare_has (machine.BatchComplete j a st ∷ rs) u c h = contains_there (keys.Complete (bid_of j) (actor_of a)) (keys.Prepare (tid_of u) (actor_of c)) (map key (all_told rs)) (prepare_has rs u c h)
+prepare_has (machine.BatchCommit j ∷ rs) u c h = contains_there (keys.Commit (bid_of j)) (keys.Prepare (tid_of u) (actor_of c)) (map key (all_told rs)) (prepare_has rs u c h)
 prepare_has (machine.ActPrepare t a st ∷ rs) u c h = elim (or_cases ((t == u) && (a == c)) _ h) [
   | inl e ↦ let v = and_parts (t == u) (a == c) e in
-      subst (λ z. Contains (keys.Prepare (tid_of t) (actor_of a) ∷ map key (all_written rs)) (keys.Prepare (tid_of z) (actor_of c))) (eqb-true t u v.0)
-      (subst (λ z. Contains (keys.Prepare (tid_of t) (actor_of a) ∷ map key (all_written rs)) (keys.Prepare (tid_of t) (actor_of z))) (eqb-true a c v.1) (contains_here (keys.Prepare (tid_of t) (actor_of a)) (map key (all_written rs))))
-  | inr g ↦ contains_there (keys.Prepare (tid_of t) (actor_of a)) (keys.Prepare (tid_of u) (actor_of c)) (map key (all_written rs)) (prepare_has rs u c g)
+      subst (λ z. Contains (keys.Prepare (tid_of t) (actor_of a) ∷ map key (all_told rs)) (keys.Prepare (tid_of z) (actor_of c))) (eqb-true t u v.0)
+      (subst (λ z. Contains (keys.Prepare (tid_of t) (actor_of a) ∷ map key (all_told rs)) (keys.Prepare (tid_of t) (actor_of z))) (eqb-true a c v.1) (contains_here (keys.Prepare (tid_of t) (actor_of a)) (map key (all_told rs))))
+  | inr g ↦ contains_there (keys.Prepare (tid_of t) (actor_of a)) (keys.Prepare (tid_of u) (actor_of c)) (map key (all_told rs)) (prepare_has rs u c g)
 ]
-prepare_has (machine.ActCommit t m d actors ∷ rs) u c h = contains_there (keys.Act (tid_of t)) (keys.Prepare (tid_of u) (actor_of c)) (map key (all_written rs)) (prepare_has rs u c h)
+prepare_has (machine.ActCommit t m d actors ∷ rs) u c h = contains_there (keys.Act (tid_of t)) (keys.Prepare (tid_of u) (actor_of c)) (map key (all_told rs)) (prepare_has rs u c h)
 
-pub no_act : (rs : List LogRecord) (u : Tid) → list_any (is_act_commit u.0) rs ≡ false → AllByRecursion (λ r. ¬ (key r ≡ keys.Act u)) (all_written rs)
+pub no_act : (rs : List LogRecord) (u : Tid) → list_any (is_act_commit u.0) rs ≡ false → AllByRecursion (λ r. ¬ (key r ≡ keys.Act u)) (all_told rs)
 no_act [] u h = tt
 no_act (machine.BatchInfo k actors tids ∷ rs) u h = ((λ e. absurd (cc e)), no_act rs u h)
 no_act (machine.BatchComplete k a st ∷ rs) u h = ((λ e. absurd (cc e)), no_act rs u h)
@@ -130,7 +131,7 @@ act_from (machine.ActCommit t m c actors ∷ rs) low u h e = elim (or_cases (t =
 
 -- ---- infos
 
-pub no_info : (rs : List LogRecord) (b : Bid) → list_any (is_info b.0) rs ≡ false → AllByRecursion (λ r. ¬ (key r ≡ keys.Info b)) (all_written rs)
+pub no_info : (rs : List LogRecord) (b : Bid) → list_any (is_info b.0) rs ≡ false → AllByRecursion (λ r. ¬ (key r ≡ keys.Info b)) (all_told rs)
 no_info [] b h = tt
 no_info (machine.BatchInfo k actors tids ∷ rs) b h = let v = or_parts (k == b.0) (list_any (is_info b.0) rs) h in ((λ e. let s : bid_of k ≡ b = cc e in true≢false (sym (eq-eqb k b.0 (ap (λ z. z.0) s)) ∙ v.0)), no_info rs b v.1)
 no_info (machine.BatchComplete k a st ∷ rs) b h = ((λ e. absurd (cc e)), no_info rs b h)
@@ -180,35 +181,35 @@ pub record IsOfStates (P : Record → Type 0) : Type 0 where
   pub acts : (t : Tid) (m : Bid) (c : ℕ) (actors : List ActorId) → ¬ P (ActCommit t m c actors)
 
 -- a record that tells a state, where it counts and where it does not
-told : (P : Record → Type 0) (many a : ℕ) (logs : ℕ → List LogRecord) (first : State) (m : LogRecord) (rs : List LogRecord) (r : Record) (st : State) (front : List Record) (s : State) → states_in r ≡ st ∷ [] → ((x : State) → crash.state_told x m ≡ st)
+over_told : (P : Record → Type 0) (many a : ℕ) (logs : ℕ → List LogRecord) (first : State) (m : LogRecord) (rs : List LogRecord) (r : Record) (st : State) (front : List Record) (s : State) → states_in r ≡ st ∷ [] → ((x : State) → crash.state_told x m ≡ st)
     → (crash.counts many logs a m ≡ true → P r) → (crash.counts many logs a m ≡ false → ¬ P r)
-    → ((f : List Record) (t : State) → StateOver P f first t → StateOver P (f ++ all_written rs) first (crash.last_told t (filter (crash.counts many logs a) rs)))
-    → StateOver P front first s → StateOver P (front ++ r ∷ all_written rs) first (crash.last_told s (filter (crash.counts many logs a) (m ∷ rs)))
-told P many a logs first m rs r st front s tells leaves counted not_counted go o = by (crash.counts many logs a m) refl
+    → ((f : List Record) (t : State) → StateOver P f first t → StateOver P (f ++ all_told rs) first (crash.last_told t (filter (crash.counts many logs a) rs)))
+    → StateOver P front first s → StateOver P (front ++ r ∷ all_told rs) first (crash.last_told s (filter (crash.counts many logs a) (m ∷ rs)))
+over_told P many a logs first m rs r st front s tells leaves counted not_counted go o = by (crash.counts many logs a m) refl
   where
-    by : (v : Bool) → crash.counts many logs a m ≡ v → StateOver P (front ++ r ∷ all_written rs) first (crash.last_told s (if v then m ∷ filter (crash.counts many logs a) rs else filter (crash.counts many logs a) rs))
-    by true e = subst (λ z. StateOver P z first (crash.last_told (crash.state_told s m) (filter (crash.counts many logs a) rs))) (append_assoc front (r ∷ []) (all_written rs))
+    by : (v : Bool) → crash.counts many logs a m ≡ v → StateOver P (front ++ r ∷ all_told rs) first (crash.last_told s (if v then m ∷ filter (crash.counts many logs a) rs else filter (crash.counts many logs a) rs))
+    by true e = subst (λ z. StateOver P z first (crash.last_told (crash.state_told s m) (filter (crash.counts many logs a) rs))) (append_assoc front (r ∷ []) (all_told rs))
         (go (front ++ r ∷ []) (crash.state_told s m) (subst (λ z. StateOver P (front ++ r ∷ []) first z) (sym (leaves s)) (over_counts P front r first st tells (counted e))))
-    by false e = subst (λ z. StateOver P z first (crash.last_told s (filter (crash.counts many logs a) rs))) (append_assoc front (r ∷ []) (all_written rs))
+    by false e = subst (λ z. StateOver P z first (crash.last_told s (filter (crash.counts many logs a) rs))) (append_assoc front (r ∷ []) (all_told rs))
         (go (front ++ r ∷ []) s (over_quiet P front (r ∷ []) first s (not_counted e, tt) o))
 
 pub over_written : (P : Record → Type 0) (many a : ℕ) (logs : ℕ → List LogRecord) (first : State) (rs : List LogRecord) (front : List Record) (s : State) → IsOfStates P → AllByRecursion (Counted P many logs a) rs → StateOver P front first s
-    → StateOver P (front ++ all_written rs) first (crash.last_told s (filter (crash.counts many logs a) rs))
+    → StateOver P (front ++ all_told rs) first (crash.last_told s (filter (crash.counts many logs a) rs))
 over_written P many a logs first [] front s i h o = subst (λ z. StateOver P z first s) (sym (append-nil front)) o
 over_written P many a logs first (machine.BatchInfo k actors tids ∷ rs) front s i h o =
     let r = BatchInfo (bid_of k) (actors_of actors) (tids_of tids) in
-    subst (λ z. StateOver P z first (crash.last_told s (filter (crash.counts many logs a) rs))) (append_assoc front (r ∷ []) (all_written rs))
+    subst (λ z. StateOver P z first (crash.last_told s (filter (crash.counts many logs a) rs))) (append_assoc front (r ∷ []) (all_told rs))
     (over_written P many a logs first rs (front ++ r ∷ []) s i h.1 (over_quiet P front (r ∷ []) first s (i.infos (bid_of k) (actors_of actors) (tids_of tids), tt) o))
 over_written P many a logs first (machine.BatchCommit k ∷ rs) front s i h o =
     let r = BatchCommit (bid_of k) in
-    subst (λ z. StateOver P z first (crash.last_told s (filter (crash.counts many logs a) rs))) (append_assoc front (r ∷ []) (all_written rs))
+    subst (λ z. StateOver P z first (crash.last_told s (filter (crash.counts many logs a) rs))) (append_assoc front (r ∷ []) (all_told rs))
     (over_written P many a logs first rs (front ++ r ∷ []) s i h.1 (over_quiet P front (r ∷ []) first s (i.commits (bid_of k), tt) o))
 over_written P many a logs first (machine.ActCommit t m c actors ∷ rs) front s i h o =
     let r = ActCommit (tid_of t) (bid_of m) c (actors_of actors) in
-    subst (λ z. StateOver P z first (crash.last_told s (filter (crash.counts many logs a) rs))) (append_assoc front (r ∷ []) (all_written rs))
+    subst (λ z. StateOver P z first (crash.last_told s (filter (crash.counts many logs a) rs))) (append_assoc front (r ∷ []) (all_told rs))
     (over_written P many a logs first rs (front ++ r ∷ []) s i h.1 (over_quiet P front (r ∷ []) first s (i.acts (tid_of t) (bid_of m) c (actors_of actors), tt) o))
-over_written P many a logs first (machine.BatchComplete k c st ∷ rs) front s i h o = told P many a logs first (machine.BatchComplete k c st) rs (BatchComplete (bid_of k) (actor_of c) st) st front s refl (λ x. refl) h.0.0 h.0.1 (λ f t x. over_written P many a logs first rs f t i h.1 x) o
-over_written P many a logs first (machine.ActPrepare t c st ∷ rs) front s i h o = told P many a logs first (machine.ActPrepare t c st) rs (ActPrepare (tid_of t) (actor_of c) st) st front s refl (λ x. refl) h.0.0 h.0.1 (λ f t x. over_written P many a logs first rs f t i h.1 x) o
+over_written P many a logs first (machine.BatchComplete k c st ∷ rs) front s i h o = over_told P many a logs first (machine.BatchComplete k c st) rs (BatchComplete (bid_of k) (actor_of c) st) st front s refl (λ x. refl) h.0.0 h.0.1 (λ f t x. over_written P many a logs first rs f t i h.1 x) o
+over_written P many a logs first (machine.ActPrepare t c st ∷ rs) front s i h o = over_told P many a logs first (machine.ActPrepare t c st) rs (ActPrepare (tid_of t) (actor_of c) st) st front s refl (λ x. refl) h.0.0 h.0.1 (λ f t x. over_written P many a logs first rs f t i h.1 x) o
 
 -- ---- numbers
 
@@ -220,15 +221,15 @@ pub same_actors : (as' : List ℕ) → actor_numbers (actors_of as') ≡ as'
 same_actors [] = refl
 same_actors (a ∷ as') = ap (λ z. a ∷ z) (same_actors as')
 
-pub tids_written : (rs : List LogRecord) → flat_map tids_in (all_written rs) ≡ flat_map crash.tids_in rs
+pub tids_written : (rs : List LogRecord) → flat_map tids_in (all_told rs) ≡ flat_map crash.tids_in rs
 tids_written [] = refl
-tids_written (machine.BatchInfo k actors tids ∷ rs) = ap (λ z. z ++ flat_map tids_in (all_written rs)) (same_tids tids) ∙ ap (λ z. tids ++ z) (tids_written rs)
+tids_written (machine.BatchInfo k actors tids ∷ rs) = ap (λ z. z ++ flat_map tids_in (all_told rs)) (same_tids tids) ∙ ap (λ z. tids ++ z) (tids_written rs)
 tids_written (machine.BatchComplete k a st ∷ rs) = tids_written rs
 tids_written (machine.BatchCommit k ∷ rs) = tids_written rs
 tids_written (machine.ActPrepare t a st ∷ rs) = ap (λ z. t ∷ z) (tids_written rs)
 tids_written (machine.ActCommit t m c actors ∷ rs) = ap (λ z. t ∷ z) (tids_written rs)
 
-pub bids_written : (rs : List LogRecord) → flat_map bids_in (all_written rs) ≡ flat_map crash.bids_in rs
+pub bids_written : (rs : List LogRecord) → flat_map bids_in (all_told rs) ≡ flat_map crash.bids_in rs
 bids_written [] = refl
 bids_written (machine.BatchInfo k actors tids ∷ rs) = ap (λ z. k ∷ z) (bids_written rs)
 bids_written (machine.BatchComplete k a st ∷ rs) = ap (λ z. k ∷ z) (bids_written rs)
@@ -236,7 +237,7 @@ bids_written (machine.BatchCommit k ∷ rs) = ap (λ z. k ∷ z) (bids_written r
 bids_written (machine.ActPrepare t a st ∷ rs) = bids_written rs
 bids_written (machine.ActCommit t m c actors ∷ rs) = ap (λ z. m ∷ z) (bids_written rs)
 
-pub cs_written : (rs : List LogRecord) → flat_map commits_in (all_written rs) ≡ flat_map crash.cs_in rs
+pub cs_written : (rs : List LogRecord) → flat_map commits_in (all_told rs) ≡ flat_map crash.cs_in rs
 cs_written [] = refl
 cs_written (machine.BatchInfo k actors tids ∷ rs) = cs_written rs
 cs_written (machine.BatchComplete k a st ∷ rs) = cs_written rs
@@ -244,7 +245,7 @@ cs_written (machine.BatchCommit k ∷ rs) = cs_written rs
 cs_written (machine.ActPrepare t a st ∷ rs) = cs_written rs
 cs_written (machine.ActCommit t m c actors ∷ rs) = ap (λ z. c ∷ z) (cs_written rs)
 
-pub no_genesis : (rs : List LogRecord) → filter is_genesis (all_written rs) ≡ []
+pub no_genesis : (rs : List LogRecord) → filter is_genesis (all_told rs) ≡ []
 no_genesis [] = refl
 no_genesis (machine.BatchInfo k actors tids ∷ rs) = no_genesis rs
 no_genesis (machine.BatchComplete k a st ∷ rs) = no_genesis rs
@@ -258,16 +259,16 @@ pub grown_length : (n : ℕ) (earlier : List (List Record)) (logs : ℕ → List
 grown_length n [] logs = refl
 grown_length n (rs ∷ rss) logs = ap suc (grown_length (n + 1) rss logs)
 
-pub grown_at : (n i : ℕ) (earlier : List (List Record)) (logs : ℕ → List LogRecord) → i < length earlier → slice_index_or (grown_from n earlier logs) i [] ≡ slice_index_or earlier i [] ++ all_written (logs (n + i))
+pub grown_at : (n i : ℕ) (earlier : List (List Record)) (logs : ℕ → List LogRecord) → i < length earlier → slice_index_or (grown_from n earlier logs) i [] ≡ slice_index_or earlier i [] ++ all_told (logs (n + i))
 grown_at n i [] logs l = absurd (omega (arith, l))
-grown_at n zero (rs ∷ rss) logs l = let e : n ≡ n + 0 = omega arith in ap (λ z. rs ++ all_written (logs z)) e
-grown_at n (suc i) (rs ∷ rss) logs l = let e : n + 1 + i ≡ n + suc i = omega arith in grown_at (n + 1) i rss logs (omega (arith, l)) ∙ ap (λ z. slice_index_or rss i [] ++ all_written (logs z)) e
+grown_at n zero (rs ∷ rss) logs l = let e : n ≡ n + 0 = omega arith in ap (λ z. rs ++ all_told (logs z)) e
+grown_at n (suc i) (rs ∷ rss) logs l = let e : n + 1 + i ≡ n + suc i = omega arith in grown_at (n + 1) i rss logs (omega (arith, l)) ∙ ap (λ z. slice_index_or rss i [] ++ all_told (logs z)) e
 
 pub grown_genesis : (n : ℕ) (earlier : List (List Record)) (logs : ℕ → List LogRecord) → geneses (grown_from n earlier logs) ≡ geneses earlier
 grown_genesis n [] logs = refl
 grown_genesis n (rs ∷ rss) logs =
-    filter_join (rs ++ all_written (logs n)) (all_of (grown_from (n + 1) rss logs))
-    ∙ (ap (λ z. z ++ geneses (grown_from (n + 1) rss logs)) (filter_join rs (all_written (logs n)) ∙ (ap (λ z. filter is_genesis rs ++ z) (no_genesis (logs n)) ∙ append-nil (filter is_genesis rs)))
+    filter_join (rs ++ all_told (logs n)) (all_of (grown_from (n + 1) rss logs))
+    ∙ (ap (λ z. z ++ geneses (grown_from (n + 1) rss logs)) (filter_join rs (all_told (logs n)) ∙ (ap (λ z. filter is_genesis rs ++ z) (no_genesis (logs n)) ∙ append-nil (filter is_genesis rs)))
     ∙ (ap (λ z. filter is_genesis rs ++ z) (grown_genesis (n + 1) rss logs) ∙ sym (filter_join rs (all_of rss))))
   where
     filter_join : (xs ys : List Record) → filter is_genesis (xs ++ ys) ≡ filter is_genesis xs ++ filter is_genesis ys
@@ -278,23 +279,23 @@ grown_genesis n (rs ∷ rss) logs =
         by true e = ap (λ z. x ∷ z) e
         by false e = e
 
-pub grown_all : (P : Record → Type 0) (n : ℕ) (earlier : List (List Record)) (logs : ℕ → List LogRecord) → AllByRecursion P (all_of earlier) → ((l : ℕ) → AllByRecursion P (all_written (logs l))) → AllByRecursion P (all_of (grown_from n earlier logs))
+pub grown_all : (P : Record → Type 0) (n : ℕ) (earlier : List (List Record)) (logs : ℕ → List LogRecord) → AllByRecursion P (all_of earlier) → ((l : ℕ) → AllByRecursion P (all_told (logs l))) → AllByRecursion P (all_of (grown_from n earlier logs))
 grown_all P n [] logs h k = tt
-grown_all P n (rs ∷ rss) logs h k = all_append P (rs ++ all_written (logs n)) (all_of (grown_from (n + 1) rss logs)) (all_append P rs (all_written (logs n)) (Rattle.snap_recover.proofs.Lists.all_left P rs (all_of rss) h) (k n)) (grown_all P (n + 1) rss logs (Rattle.snap_recover.proofs.Lists.all_right P rs (all_of rss) h) k)
+grown_all P n (rs ∷ rss) logs h k = all_append P (rs ++ all_told (logs n)) (all_of (grown_from (n + 1) rss logs)) (all_append P rs (all_told (logs n)) (Rattle.snap_recover.proofs.Lists.all_left P rs (all_of rss) h) (k n)) (grown_all P (n + 1) rss logs (Rattle.snap_recover.proofs.Lists.all_right P rs (all_of rss) h) k)
 
 -- so many numbers from this one on, and the logs there
 pub all_from : (LogRecord → List ℕ) → (ℕ → List LogRecord) → ℕ → ℕ → List ℕ
 all_from numbers logs n zero = []
 all_from numbers logs n (suc k) = flat_map numbers (logs n) ++ all_from numbers logs (n + 1) k
 
-pub grown_greatest : (f : Record → List ℕ) (g : LogRecord → List ℕ) (n : ℕ) (earlier : List (List Record)) (logs : ℕ → List LogRecord) → ((l : ℕ) → flat_map f (all_written (logs l)) ≡ flat_map g (logs l))
+pub grown_greatest : (f : Record → List ℕ) (g : LogRecord → List ℕ) (n : ℕ) (earlier : List (List Record)) (logs : ℕ → List LogRecord) → ((l : ℕ) → flat_map f (all_told (logs l)) ≡ flat_map g (logs l))
     → greatest (flat_map f (all_of (grown_from n earlier logs))) ≡ max (greatest (flat_map f (all_of earlier))) (greatest (all_from g logs n (length earlier)))
 unfolding all_from
 grown_greatest f g n [] logs k = refl
 grown_greatest f g n (rs ∷ rss) logs k = omega (
   arith,
-  greatest_of f (rs ++ all_written (logs n)) (all_of (grown_from (n + 1) rss logs)),
-  greatest_of f rs (all_written (logs n)),
+  greatest_of f (rs ++ all_told (logs n)) (all_of (grown_from (n + 1) rss logs)),
+  greatest_of f rs (all_told (logs n)),
   ap greatest (k n),
   grown_greatest f g (n + 1) rss logs k,
   greatest_of f rs (all_of rss),

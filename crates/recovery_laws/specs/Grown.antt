@@ -1,55 +1,23 @@
 -- The records of a run as they are written, behind those of earlier runs, and the opening to which they recover.
-use Rattle.std.specs.Prelude.{◌≡◌, ℕ, ◌+◌, ◌≤◌, ◌==◌, nat_lt, nat_le, Bool, ◌&&◌, ◌||◌, if◌then◌else◌, List, [], ◌∷◌, ◌++◌, length, map}
-use Rattle.snap_base.specs.declared.ids.ActorId.{ActorId}
-use Rattle.snap_base.specs.declared.ids.Bid.{Bid}
-use Rattle.snap_base.specs.declared.ids.Tid.{Tid}
+use Rattle.std.specs.Prelude.{◌≡◌, ℕ, ◌+◌, ◌==◌, nat_lt, nat_le, Bool, ◌&&◌, ◌||◌, if◌then◌else◌, List, [], ◌∷◌, ◌++◌, map}
 use Rattle.snap_base.specs.declared.verdicts.Place.{Place}
 use Rattle.protocol.specs.Fixed.{Text, Fixed}
-use Rattle.protocol.specs.Records as machine
 use Rattle.protocol.specs.Records.{LogRecord}
 use Rattle.protocol.specs.Parts.{Act, Status, Live, Doomed, Decided, Sealed, OfBatch, OfAct, Batch, Machine}
 use Rattle.protocol.specs.Verdicts.{pact_place, act_place}
-use Rattle.protocol_laws.specs.Crash.{is_in}
-use Rattle.protocol_laws.specs.NextNumbers.{next_tid_of, next_bid_of, next_c_of}
-use Rattle.protocol_laws.specs.SeveralRuns.{recovered_from}
+use Rattle.protocol_records.specs.Crash.{is_in}
+use Rattle.protocol_records.specs.NextNumbers.{next_tid_of, next_bid_of, next_c_of}
+use Rattle.protocol_records.specs.SeveralRuns.{recovered_from}
+use Rattle.record_words.specs.Told.{bid_of, tid_of, tids_of, all_told}
 use Rattle.txn_records.specs.declared.records.Record.{Record}
-use Rattle.txn_records.specs.declared.records.Record.TheVariants.{BatchInfo, BatchComplete, BatchCommit, ActPrepare, ActCommit}
 use Rattle.snap_recover.specs.declared.openings.Kept.{Kept}
 use Rattle.snap_recover.specs.declared.openings.Kept.TheVariants as kept
 use Rattle.snap_recover.specs.declared.openings.Opening.{Opening}
-use Rattle.snap_recover.specs.declared.ranges.TheConstants.{GREATEST_NUMBER}
-
--- ---- as records are written
-
-abbrev pub bid_of : ℕ → Bid
-bid_of k = record { 0 = k }
-
-abbrev pub tid_of : ℕ → Tid
-tid_of t = record { 0 = t }
-
-abbrev pub actor_of : ℕ → ActorId
-actor_of a = record { 0 = a }
-
-abbrev pub tids_of : List ℕ → List Tid
-tids_of ts = map tid_of ts
-
-abbrev pub actors_of : List ℕ → List ActorId
-actors_of as' = map actor_of as'
-
-abbrev pub written : LogRecord → Record
-written (machine.BatchInfo k actors tids) = BatchInfo (bid_of k) (actors_of actors) (tids_of tids)
-written (machine.BatchComplete k a state) = BatchComplete (bid_of k) (actor_of a) state
-written (machine.BatchCommit k) = BatchCommit (bid_of k)
-written (machine.ActPrepare t a state) = ActPrepare (tid_of t) (actor_of a) state
-written (machine.ActCommit t m c actors) = ActCommit (tid_of t) (bid_of m) c (actors_of actors)
-
-abbrev pub all_written : List LogRecord → List Record
-all_written rs = map written rs
 
 -- each log from this number on has behind its records those of the run
 abbrev pub grown_from : ℕ → List (List Record) → (ℕ → List LogRecord) → List (List Record)
 grown_from n [] logs = []
-grown_from n (rs ∷ rss) logs = (rs ++ all_written (logs n)) ∷ grown_from (n + 1) rss logs
+grown_from n (rs ∷ rss) logs = (rs ++ all_told (logs n)) ∷ grown_from (n + 1) rss logs
 
 abbrev pub grown : List (List Record) → (ℕ → List LogRecord) → List (List Record)
 grown earlier logs = grown_from 0 earlier logs
@@ -118,9 +86,3 @@ opening_after w o s logs = record {
   next_bid = bid_of (next_bid_of w logs);
   next_c = next_c_of w logs;
 }
-
--- a run of the text draws no number above the greatest that a record may have
-pub record NumbersFit (w : Text) : Type 0 where
-  pub tids : w.opening.next_tid + length w.txs ≤ GREATEST_NUMBER + 1
-  pub bids : w.opening.next_bid + length w.txs ≤ GREATEST_NUMBER + 1
-  pub cs : w.opening.next_c + length w.txs ≤ GREATEST_NUMBER + 1

@@ -12,16 +12,16 @@ use Rattle.protocol.specs.Runs.{IsRun, reached}
 use Rattle.protocol.specs.Moments.{Moment, IsLeft, left_in}
 use Rattle.protocol.specs.History.{History, history}
 use Rattle.protocol.specs.Chains.{by_place, serial_run}
-use Rattle.protocol_laws.specs.Crash.{members}
-use Rattle.protocol_laws.specs.NextNumbers.{IsNumberedWithin}
-use Rattle.protocol_laws.specs.SeveralRuns.{CutRun, MayBe, logs_left}
+use Rattle.protocol_records.specs.Crash.{members}
+use Rattle.protocol_records.specs.NextNumbers.{IsNumberedWithin}
+use Rattle.protocol_records.specs.SeveralRuns.{CutRun, MayBe, logs_left}
 use Rattle.txn_records.specs.declared.records.Record.{Record}
 use Rattle.snap_recover.specs.declared.openings.Opening.{Opening}
 use Rattle.snap_recover.specs.declared.refusals.RecoverNo.{RecoverNo}
 use Rattle.snap_recover.specs.declared.refusals.RecoverNo.TheVariants.{Memory}
 use Rattle.snap_recover.specs.Opening.{IsRecovered}
 use Rattle.snap_recover.specs.Refusals.{IsRefused}
-use Rattle.recovery_laws.specs.Grown.{grown, places_of, all_in, BeginsWith, NumbersFit, opening_after}
+use Rattle.recovery_laws.specs.Grown.{grown, places_of, all_in, BeginsWith, opening_after}
 
 -- Behind the records of earlier runs, what the logs hold of this run recovers to the members.
 pub record RecoversToMembers {C : Type 0} (w : Fixed C) (finish : C → List State → Alone) (earlier : List (List Record)) (o : Opening) (s : Machine C) (h : History) (logs : ℕ → List LogRecord) : Type 0 where
@@ -35,21 +35,21 @@ pub record RecoversToMembers {C : Type 0} (w : Fixed C) (finish : C → List Sta
   -- the states are those that the members leave, one after the other in the order of places from the opening's states
   pub states : (a : ℕ) → a < length w.text.opening.states → state_in (opening_after w o s logs).states a ≡ state_in (serial_run w finish (members w.text.logs logs h)).world a
 
--- At every moment of every run on logs that recover to its opening, where the text's numbers fit.
+-- At every moment of every run on logs that recover to its opening.
 abbrev pub AtEveryMomentOnLogs : {C : Type 0} → (Fixed C → (C → List State → Alone) → List (List Record) → Opening → Machine C → History → (ℕ → List LogRecord) → Type 0) → Type 0
 AtEveryMomentOnLogs {C} P =
     (w : Fixed C) (finish : C → List State → Alone) (es : List Event) (m : Moment w es) (kept : ℕ → ℕ) (earlier : List (List Record)) (o : Opening)
     → HasFacts w finish → IsText w.text → IsRun w es → IsLeft w es m kept
-    → length earlier ≡ w.text.logs → IsRecovered earlier o → BeginsWith w.text o → NumbersFit w.text
+    → length earlier ≡ w.text.logs → IsRecovered earlier o → BeginsWith w.text o
     → P w finish earlier o (reached w m.events) (history w m.events) (left_in (reached w m.events) kept)
 
 -- ---- several runs
 
--- Each run goes on with what its logs recover to, on as many logs, and its numbers fit.
+-- Each run goes on with what its logs recover to, on as many logs.
 abbrev pub GoOnLogs : {C : Type 0} → List (List Record) → Opening → List (CutRun C) → Type 0
 GoOnLogs earlier o [] = Unit {0}
 GoOnLogs earlier o (x ∷ xs) =
-    (MayBe x × (length earlier ≡ x.fixed.text.logs) × BeginsWith x.fixed.text o × NumbersFit x.fixed.text)
+    (MayBe x × (length earlier ≡ x.fixed.text.logs) × BeginsWith x.fixed.text o)
     × GoOnLogs (grown earlier (logs_left x)) (opening_after x.fixed o (reached x.fixed x.moment.events) (logs_left x)) xs
 
 -- Behind all of them the logs recover again, to what the last one leaves.

@@ -4,13 +4,16 @@ ghost use Rattle.std.specs.Prelude.{List};
 ghost use Rattle.txn_records.specs.declared.records.Record.{Record};
 ghost use Rattle.snap_recover.specs.declared.openings.Opening.{Opening};
 ghost use Rattle.snap_recover.specs.Opening.{IsRecovered};
-ghost use Rattle.protocol_laws.specs.SeveralRuns.{CutRun};
+ghost use Rattle.protocol_records.specs.SeveralRuns.{CutRun};
 ghost use Rattle.recovery_laws.specs.Joined.{AtEveryMomentOnLogs, GoOnLogs, RecoverAgain, RecoversToMembers};
 
 use protocol_laws::{
-    next_numbers_are_above_all, numbers_are_drawn_once, numbers_are_in_range,
-    pairs_carry_before_numbers, records_are_added_once, records_tell_what_is,
-    recovered_transactions_are_in_order, sizes_hold,
+    committed_are_those_with_places, numbers_are_drawn_once, numbers_are_in_range,
+    pairs_carry_before_numbers, sizes_hold,
+};
+use protocol_records::{
+    next_numbers_are_above_all, places_are_drawn, records_are_added_once, records_tell_what_is,
+    recovered_transactions_are_in_order,
 };
 use snap_recover::refused_is_not_recovered;
 
@@ -29,6 +32,8 @@ pub fn logs_recover_to_the_members<C>()
     pairs_carry_before_numbers::<C>();
     sizes_hold::<C>();
     next_numbers_are_above_all::<C>();
+    committed_are_those_with_places::<C>();
+    places_are_drawn::<C>();
     refused_is_not_recovered();
 }
 

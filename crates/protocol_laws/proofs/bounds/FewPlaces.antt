@@ -20,25 +20,26 @@ use Rattle.protocol.specs.Laws.{AfterEveryRunWithHistory}
 use Rattle.protocol.specs.OnRing as ring
 use Rattle.protocol.specs.OnPost.{next_act}
 use Rattle.protocol.specs.OnBook as book
+use Rattle.protocol_laws.specs.Told.{EachAct}
 use Rattle.protocol_laws.specs.Bounds.{FewPlaces, PlacesAreFew}
 use Rattle.protocol_laws.proofs.first.Times
 use Rattle.protocol_laws.proofs.first.Controls as controls
 use Rattle.protocol_laws.proofs.first.Lists.{all_found, all_join, all_map, both_all, weaker}
 use Rattle.protocol_laws.proofs.machine.ActsFound as acts
-use Rattle.protocol_laws.proofs.machine.ActsFound.{EachAct, HoldsOpen}
-use Rattle.protocol_laws.proofs.machine.ActResults.{ActsDrawn, numbered_from}
-use Rattle.protocol_laws.proofs.machine.ActsKept.{Acts}
+use Rattle.protocol_laws.proofs.machine.ActsFound.{HoldsOpen}
+use Rattle.protocol_laws.proofs.machine.ActResults.{ActsDrawn}
 use Rattle.protocol_laws.proofs.machine.ControlWalk as walk
 use Rattle.protocol_laws.proofs.machine.ControlWalk.{AllControls}
 use Rattle.protocol_laws.proofs.machine.TrailsKept.{Told, at_most_one}
 use Rattle.protocol_laws.proofs.machine.TurnsKept.{one_is}
 use Rattle.protocol_laws.proofs.machine.Good.{Given}
 use Rattle.protocol_laws.proofs.machine.AllGood as all
-use Rattle.protocol_laws.proofs.machine.AllGood.{AllGood, none_allowed}
+use Rattle.protocol_laws.proofs.machine.AllGood.{AllGood, none_allowed, drawn}
 use Rattle.protocol_laws.proofs.quiet.JoinsKept as joins
 use Rattle.protocol_laws.proofs.quiet.JoinsKept.{Joins, Arrived}
 use Rattle.protocol_laws.proofs.quiet.NumbersLow.{numbers_low}
 use Rattle.protocol_laws.proofs.bounds.Fewer.{fewer_of}
+use Rattle.protocol_laws.proofs.machine.Resting.{numbered_from}
 
 -- ---- places that a list of actors has
 
@@ -163,10 +164,6 @@ new_seen : {C : Type 0} (w : Fixed C) (xs : List Act) (next : ℕ) (ps : List Pa
 new_seen w xs next [] d l = tt
 new_seen w xs next (p ∷ ps) d l = (undrawn w xs next p.tid (root (tx_at w.text p.tx)) (w.code.start p.tid (tx_at w.text p.tx)) l.0 d, new_seen w xs next ps d l.1)
 
-acts_drawn : {C : Type 0} (s : Machine C) (h : History) → Acts s h → ActsDrawn s.ring.next_tid s.book.acts
-unfolding Acts
-acts_drawn s h i = λ t x e. (i t x e).drawn
-
 in_further : (old new : List ℕ) (ps : List Joined) → ((a : ℕ) → is_among a old ≡ true → is_among a new ≡ true) → In old ps → In new ps
 in_further old new ps k h = weaker (λ p. is_among p.actor old ≡ true) (λ p. is_among p.actor new ≡ true) ps (λ p q. k p.actor q) h
 
@@ -189,12 +186,12 @@ run_own w Of finish t a s h v g i x e =
 
 pub seen_kept : {C : Type 0} (w : Fixed C) (Of : Tx → C → Type 0) (finish : C → List State → Alone) (e : Event) (s : Machine C) (h : History) → Given w Of finish → IsAllowed w e s → AllGood w Of finish s h → AllControls (Seen w s.book.acts) s → AllControls (Seen w (after w e s).book.acts) (after w e s)
 unfolding conditions walk.Ready acts.ReadyToo after
-seen_kept w Of finish (Form k) s h v ok g i = walk.moves w (Form k) s (Seen w (after w (Form k) s).book.acts) ok (new_seen w s.book.acts s.ring.next_tid (ring.next_pacts w.text s.ring) (acts_drawn s h g.acts) (numbered_from s.ring.next_tid s.ring.next_tid _ (omega arith))) (all_still w (Form k) s (λ visited u. tt) i)
+seen_kept w Of finish (Form k) s h v ok g i = walk.moves w (Form k) s (Seen w (after w (Form k) s).book.acts) ok (new_seen w s.book.acts s.ring.next_tid (ring.next_pacts w.text s.ring) (drawn s h g.acts) (numbered_from s.ring.next_tid s.ring.next_tid _ (omega arith))) (all_still w (Form k) s (λ visited u. tt) i)
 seen_kept w Of finish (Admit t) s h v ok g i =
     let l : s.ring.next_tid ≤ t = omega (arith, eqb-true t s.ring.next_tid ok.0) in
     let start = w.code.start t (tx_at w.text (next_act s.ring)) in
     walk.moves w (Admit t) s (Seen w (after w (Admit t) s).book.acts) ok
-    (acts.acts_move w (Admit t) s (Visits (w.code.visited start) t) (visits_hold (w.code.visited start) t) (λ n q. tt) (undrawn w s.book.acts s.ring.next_tid t 0 start l (acts_drawn s h g.acts)))
+    (acts.acts_move w (Admit t) s (Visits (w.code.visited start) t) (visits_hold (w.code.visited start) t) (λ n q. tt) (undrawn w s.book.acts s.ring.next_tid t 0 start l (drawn s h g.acts)))
     (all_still w (Admit t) s (λ visited u n q. tt) i)
 seen_kept w Of finish (Ask t a) s h v ok g i = walk.moves w (Ask t a) s (Seen w (after w (Ask t a) s).book.acts) ok tt (ask_all w Of finish t a s h v ok g i)
 seen_kept w Of finish (Run t a) s h v ok g i = walk.moves w (Run t a) s (Seen w (after w (Run t a) s).book.acts) ok (run_own w Of finish t a s h v g i) (all_still w (Run t a) s (λ visited u. tt) i)

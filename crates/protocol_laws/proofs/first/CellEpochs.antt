@@ -21,6 +21,7 @@ use Rattle.protocol_laws.proofs.first.EpochsKept as epochs
 use Rattle.protocol_laws.proofs.first.SettlingKeys as keys
 use Rattle.protocol_laws.proofs.first.SettlingKept as settling
 use Rattle.protocol_laws.proofs.first.Lists.{all_found, all_get, all_set, both_all, weaker}
+use Rattle.protocol_laws.proofs.first.RangesLying.{on_filter}
 
 -- ---- lists
 
@@ -59,19 +60,6 @@ on_complete : (k : ℕ) (es : List Entry) → batches_on (map (cell.complete_in 
 on_complete k [] = refl
 on_complete k (BatchEntry b ∷ es) = rw (on_complete k es) refl
 on_complete k (ActEntry x ∷ es) = on_complete k es
-
-on_filter : (P : ℕ → Type 0) (p : Entry → Bool) (es : List Entry) → AllByRecursion P (batches_on es) → AllByRecursion P (batches_on (filter p es))
-on_filter P p [] h = tt
-on_filter P p (BatchEntry b ∷ es) h = by (p (BatchEntry b)) (on_filter P p es h.1)
-  where
-    by : (q : Bool) → AllByRecursion P (batches_on (filter p es)) → AllByRecursion P (batches_on (if q then BatchEntry b ∷ filter p es else filter p es))
-    by true g = (h.0, g)
-    by false g = g
-on_filter P p (ActEntry x ∷ es) h = by (p (ActEntry x)) (on_filter P p es h)
-  where
-    by : (q : Bool) → AllByRecursion P (batches_on (filter p es)) → AllByRecursion P (batches_on (if q then ActEntry x ∷ filter p es else filter p es))
-    by true g = g
-    by false g = g
 
 -- what a rollback leaves is not aborted
 on_staying : (P Q : ℕ → Type 0) (cs : List Cascade) → ((k : ℕ) → P k → is_aborted k cs ≡ false → Q k) → (es : List Entry) → AllByRecursion P (batches_on es) → AllByRecursion Q (batches_on (cell.staying cs es))

@@ -181,7 +181,7 @@ opened {C} w = λ u. omega (
   no_boxes {C = C} u (base w.text) outcome_tids (λ c. c.outbox) w.text.opening.states (λ st. refl),
 )
 
-at_most_one : (b : Bool) → one_if b ≤ 1
+pub at_most_one : (b : Bool) → one_if b ≤ 1
 at_most_one true = omega arith
 at_most_one false = omega arith
 

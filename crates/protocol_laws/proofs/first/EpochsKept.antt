@@ -126,7 +126,7 @@ set_lasts k (d ∷ ds) lasts a h =
     by false true e = let f : d ≡ a = eqb-true d a e in subst (λ z. slice_index_or (slice_set lasts z k) a 0 ≡ k) (sym f) (get_or-set_same lasts a k 0 h)
     by false false e = get_or-set_other lasts d a k 0 (λ f. eqb-false d a e (sym f))
 
-length_lasts : (k : ℕ) (ds lasts : List ℕ) → length (with_lasts k ds lasts) ≡ length lasts
+pub length_lasts : (k : ℕ) (ds lasts : List ℕ) → length (with_lasts k ds lasts) ≡ length lasts
 length_lasts k [] lasts = refl
 length_lasts k (d ∷ ds) lasts = length_lasts k ds (slice_set lasts d k) ∙ Times.length_set lasts d k
 
@@ -271,7 +271,7 @@ form nb e cs ls bs x ds ms news eb ea new h =
 unfoldable pub Agreeing : {C : Type 0} → Machine C → Type 0
 Agreeing s = Agree s.ring.next_bid s.ring.epoch s.book.cascades s.ring.lasts (map (λ b. b.bid) s.desk.batches) (map (λ b. map (λ p. p.actor) b.places) s.desk.batches) s.post.subs
 
-below_all : (n : ℕ) → AllByRecursion (λ a. a < n) (below n)
+pub below_all : (n : ℕ) → AllByRecursion (λ a. a < n) (below n)
 below_all zero = tt
 below_all (suc n) = all_join (λ a. a < suc n) (below n) (n ∷ []) (weaker (λ a. a < n) (λ a. a < suc n) (below n) (λ a h. omega (arith, h)) (below_all n)) (omega arith, tt)
 
@@ -326,7 +326,7 @@ pub named : {C : Type 0} (s : Machine C) (m : SubBatch) → NamesIn s m → (m.b
 unfolding NamesIn
 named s m h = (h.formed, h.epoch)
 
-greatest_less : (high : ℕ) (ns : List ℕ) → 1 ≤ high → AllByRecursion (λ n. n < high) ns → greatest ns < high
+pub greatest_less : (high : ℕ) (ns : List ℕ) → 1 ≤ high → AllByRecursion (λ n. n < high) ns → greatest ns < high
 greatest_less high [] l h = omega (arith, l)
 greatest_less high (n ∷ ns) l h = omega (arith, h.0, greatest_less high ns l h.1)
 

@@ -55,7 +55,7 @@ first_of : (q : List ℕ) → not (is_empty q) ≡ true → take 1 q ≡ slice_i
 first_of [] h = absurd (true≢false (sym h))
 first_of (x ∷ q) h = refl
 
-remainder : (n c : ℕ) → 1 ≤ c → n % c < c
+pub remainder : (n c : ℕ) → 1 ≤ c → n % c < c
 remainder n c h = mod-lt n h
 
 submit_pact : (c k next : ℕ) (ps qs bs : List (List ℕ)) (xs : List ℕ) → k < c → ArePlaced c next ps qs bs xs → ArePlaced c (next + 1) (joined_at k next ps) qs bs xs

@@ -132,7 +132,7 @@ keeps_if false f x h = record { tid = refl; m = refl; doomed = λ e. e; placed =
 pub changed_keeps : (t : ℕ) (f : Act → Act) → ((x : Act) → Keeps x (f x)) → (x : Act) → Keeps x (book.change_if (x.tid == t) f x)
 changed_keeps t f h x = keeps_if (x.tid == t) f x (h x)
 
-doomed_or : (b : Bool) (v : Verdict) (st : Status) → is_doomed st ≡ true → is_doomed (if b then Doomed v else st) ≡ true
+pub doomed_or : (b : Bool) (v : Verdict) (st : Status) → is_doomed st ≡ true → is_doomed (if b then Doomed v else st) ≡ true
 doomed_or true v st h = refl
 doomed_or false v st h = h
 

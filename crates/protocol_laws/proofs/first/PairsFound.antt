@@ -80,7 +80,7 @@ carried_found ps low high t u (z ∷ zs) x y a h lt e f c = by (z.tid == t) (z.t
 
 -- ---- the law
 
-same_pair : (p : Pair) → ((p.behind == p.behind) && (p.ahead == p.ahead)) ≡ true
+pub same_pair : (p : Pair) → ((p.behind == p.behind) && (p.ahead == p.ahead)) ≡ true
 same_pair p = rw (eq-eqb p.behind p.behind refl, eq-eqb p.ahead p.ahead refl) refl
 
 all_carry : {C : Type 0} (s : Machine C) (ps : List Pair) → TidsAscend s → CarriedOn s.book.pairs s.book.acts → AllByRecursion IsOlder ps

@@ -53,7 +53,7 @@ on_complete P k [] h = tt
 on_complete P k (BatchEntry b ∷ es) h = (h.0, on_complete P k es h.1)
 on_complete P k (ActEntry x ∷ es) h = on_complete P k es h
 
-on_filter : (P : ℕ → Type 0) (p : Entry → Bool) (es : List Entry) → AllByRecursion P (batches_on es) → AllByRecursion P (batches_on (filter p es))
+pub on_filter : (P : ℕ → Type 0) (p : Entry → Bool) (es : List Entry) → AllByRecursion P (batches_on es) → AllByRecursion P (batches_on (filter p es))
 on_filter P p [] h = tt
 on_filter P p (BatchEntry b ∷ es) h = by (p (BatchEntry b)) (on_filter P p es h.1)
   where

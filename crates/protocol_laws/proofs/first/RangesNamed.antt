@@ -1,5 +1,5 @@
 -- The numbers in the ring, the desk and the book are in range.
-use Rattle.std.specs.Prelude.{◌≡◌, refl, ℕ, zero, suc, ◌+◌, ◌<◌, ◌≤◌, Bool, true, false, Option, Some, None, List, [], ◌∷◌, ◌++◌, length, map, slice_get, slice_set, max}
+use Rattle.std.specs.Prelude.{◌≡◌, refl, ℕ, zero, suc, ◌+◌, ◌<◌, ◌≤◌, Bool, true, false, Option, Some, None, List, [], ◌∷◌, ◌++◌, length, map, slice_get, max}
 use Rattle.std.specs.List.{AllByRecursion}
 use Rattle.std.proofs.Common.{arith, sym, ap, subst, ◌∙◌}
 use Rattle.std.proofs.lemmas.List.{length-replicate}
@@ -15,7 +15,7 @@ use Rattle.protocol.specs.Conditions.{IsAllowed, conditions}
 use Rattle.protocol.specs.Effects.{after, cell_at}
 use Rattle.protocol.specs.Runs.{opening}
 use Rattle.protocol.specs.Contents.{NextTid, NextBid, Lasts, Replied, Bids, BatchTids, BatchActors, ActTids, ActActors}
-use Rattle.protocol.specs.OnRing.{next_actors, with_lasts}
+use Rattle.protocol.specs.OnRing.{next_actors}
 use Rattle.protocol.specs.OnBook as book
 use Rattle.protocol.specs.OnDesk as desk
 use Rattle.protocol_laws.specs.Ranges.{IsWithin}
@@ -23,6 +23,7 @@ use Rattle.protocol_laws.proofs.first.Drawn.{numbered_tids, length_numbered}
 use Rattle.protocol_laws.proofs.first.Frames.{frame}
 use Rattle.protocol_laws.proofs.first.Times
 use Rattle.protocol_laws.proofs.first.Lists.{all_filter, all_join, all_map, all_unmapped, weaker}
+use Rattle.protocol_laws.proofs.first.EpochsKept.{length_lasts}
 
 abbrev pub actors_of : List Joined → List ℕ
 actors_of places = map (λ p. p.actor) places
@@ -80,10 +81,6 @@ all_below (suc n) m l = all_join _ (below n) (n ∷ []) (all_below n m (omega (a
 new_actors : (ks : List ℕ) (actors : ℕ) → AllByRecursion (λ a. a < actors) ks → AllByRecursion (λ a. a < actors) (map (λ p. p.actor) (map desk.new_declared ks))
 new_actors [] actors h = tt
 new_actors (a ∷ ks) actors h = (h.0, new_actors ks actors h.1)
-
-length_lasts : (k : ℕ) (ds lasts : List ℕ) → length (with_lasts k ds lasts) ≡ length lasts
-length_lasts k [] lasts = refl
-length_lasts k (d ∷ ds) lasts = length_lasts k ds (slice_set lasts d k) ∙ Times.length_set lasts d k
 
 form : (tid nt few bid nb actors l l' txs r : ℕ) (bs as' : List ℕ) (ps qs js : List (List ℕ)) (new : List ℕ) → l' ≡ l → AllByRecursion (λ a. a < actors) new
     → AreNamed tid nt bid nb actors l txs r bs ps qs as' js → AreNamed tid (nt + few) bid (nb + 1) actors l' txs r (bs ++ nb ∷ []) (ps ++ from nt few ∷ []) (qs ++ new ∷ []) as' js

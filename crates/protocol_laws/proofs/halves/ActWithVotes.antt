@@ -11,6 +11,7 @@ use Rattle.protocol.specs.Spread.{carries_to, carried, raised, raised_over, stan
 use Rattle.protocol.specs.OnBook as book
 use Rattle.protocol.specs.BookParts.{act_by, place_by, joined_by, status_by, ordered_by, with_votes}
 use Rattle.protocol_laws.proofs.first.Lists.{all_of}
+use Rattle.protocol_laws.proofs.machine.TracksKept.{filter_same}
 
 pub cons_eq : {X : Type 0} (x y : X) (xs ys : List X) → x ≡ y → xs ≡ ys → (x ∷ xs) ≡ (y ∷ ys)
 cons_eq x y xs ys h k = ap (λ z. z ∷ xs) h ∙ ap (λ zs. y ∷ zs) k
@@ -118,10 +119,6 @@ pub holds_by : (p : Act → Bool) → ((v : Option Act) (x : Act) → p (act_by 
 holds_by p h vs n xs = ap (holds p) (found_by vs n xs) ∙ holds_map p (act_by (act_of n vs)) (act_of n xs) (h (act_of n vs))
 
 -- ---- pairs, and before numbers along them
-
-pub filter_same : {X : Type 0} (p q : X → Bool) (xs : List X) → ((x : X) → p x ≡ q x) → filter p xs ≡ filter q xs
-filter_same p q [] h = refl
-filter_same p q (x ∷ xs) h = ap (λ b. if b then x ∷ filter p xs else filter p xs) (h x) ∙ ap (λ z. if q x then x ∷ z else z) (filter_same p q xs h)
 
 pub new_pairs_by : (vs : List Act) (t a : ℕ) (group : List Lock) (xs : List Act) → book.new_pairs t a group (with_votes vs xs) ≡ book.new_pairs t a group xs
 new_pairs_by vs t a group xs = ap (map (λ x. record { behind = t; ahead = x.tid; actor = a })) (filter_same (λ x. not (book.is_doomed_act (with_votes vs xs) x)) (λ x. not (book.is_doomed_act xs x)) group (λ x. ap not (holds_by (λ y. is_doomed y.status) (λ v y. doomed_by v y.status) vs x.tid xs)))

@@ -1,5 +1,5 @@
 -- An ACT that has a result has no control.
-use Rattle.std.specs.Prelude.{◌≡◌, refl, ℕ, ◌+◌, ◌≤◌, ◌<◌, ◌==◌, Bool, true, Option, Some, None, is_some, List, [], ◌∷◌}
+use Rattle.std.specs.Prelude.{◌≡◌, refl, ℕ, ◌≤◌, ◌<◌, ◌==◌, Bool, true, Option, Some, None, is_some, List, [], ◌∷◌}
 use Rattle.std.specs.List.{AllByRecursion}
 use Rattle.std.proofs.Common.{arith, sym, subst}
 use Rattle.std.proofs.lemmas.Bool.{true≢false, eqb-true}
@@ -10,13 +10,14 @@ use Rattle.protocol.specs.Words.{holds, waiting_of, outcome_of, control_of, has_
 use Rattle.protocol.specs.Conditions.{IsAllowed, conditions}
 use Rattle.protocol.specs.Effects.{after, cell_at}
 use Rattle.protocol.specs.OnRing as ring
+use Rattle.protocol_laws.specs.Told.{EachAct}
 use Rattle.protocol_laws.proofs.first.Controls as controls
 use Rattle.protocol_laws.proofs.machine.ControlWalk
 use Rattle.protocol_laws.proofs.machine.ControlWalk.{AllControls}
 use Rattle.protocol_laws.proofs.machine.TurnsKept.{one_is}
-use Rattle.protocol_laws.proofs.machine.Resting.{ended_alone}
+use Rattle.protocol_laws.proofs.machine.Resting.{ended_alone, numbered_from}
 use Rattle.protocol_laws.proofs.machine.ActsFound as acts
-use Rattle.protocol_laws.proofs.machine.ActsFound.{EachAct, Holds}
+use Rattle.protocol_laws.proofs.machine.ActsFound.{Holds}
 use Rattle.protocol_laws.proofs.first.Lists.{all_found}
 
 -- the ACT with this tid has no result
@@ -34,10 +35,6 @@ unresulted t = record { numbered = λ u x n p. p; marked = λ u a x f i p. p; se
 
 undrawn : (next t : ℕ) (xs : List Act) → next ≤ t → ActsDrawn next xs → NoActResult t xs
 undrawn next t xs l d = λ u x e i. absurd (omega (arith, d u x e, i, l))
-
-pub numbered_from : (t u : ℕ) (ns : List ℕ) → t ≤ u → AllByRecursion (λ p. t ≤ p.tid) (ring.numbered u ns)
-numbered_from t u [] l = tt
-numbered_from t u (n ∷ ns) l = (l, numbered_from t (u + 1) ns (omega (arith, l)))
 
 new_ready : (next : ℕ) (xs : List Act) (ps : List Pact) → ActsDrawn next xs → AllByRecursion (λ p. next ≤ p.tid) ps → AllByRecursion (λ q. NoActResult q.tid xs) ps
 new_ready next xs [] d l = tt

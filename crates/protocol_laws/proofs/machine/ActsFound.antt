@@ -12,11 +12,9 @@ use Rattle.protocol.specs.Spread.{raised, carried, crossed_out, is_crossed, doom
 use Rattle.protocol.specs.Effects.{after, cell_at}
 use Rattle.protocol.specs.OnPost.{next_act}
 use Rattle.protocol.specs.OnBook as book
+use Rattle.protocol_laws.specs.Told.{EachAct}
 use Rattle.protocol_laws.proofs.first.Statuses.{if_tid}
-
--- a fact of each ACT that is found under its tid
-abbrev pub EachAct : (ℕ → Act → Type 0) → List Act → Type 0
-EachAct P acts = (t : ℕ) (x : Act) → act_of t acts ≡ Some x → P t x
+use Rattle.protocol_laws.proofs.machine.DecidedStays.{carries_none}
 
 -- Changes that events make of any ACT leave the fact.
 pub record HoldsAnyway (P : ℕ → Act → Type 0) : Type 0 where
@@ -90,10 +88,6 @@ pub record RaisedFrom (t : ℕ) (xs : List Act) (y : Act) : Type 0 where
   pub found : act_of t xs ≡ Some from
   pub is_it : record from { m = max from.m k } ≡ y
   pub placed : is_ordered from.status ≡ true → k ≡ 0
-
-carries_none : (ps : List Pair) (x : Act) (xs : List Act) → is_ordered x.status ≡ true → carried ps x xs ≡ 0
-carries_none ps x [] e = refl
-carries_none ps x (y ∷ ys) e = rw e (carries_none ps x ys e)
 
 pub found_raised : (ps : List Pair) (t : ℕ) (y : Act) (xs : List Act) → act_of t (raised ps xs) ≡ Some y → RaisedFrom t xs y
 found_raised ps t y [] e = absurd (cc e)

@@ -12,6 +12,7 @@ use Rattle.protocol.specs.Spread.{raised, crossed_out, is_crossed, reaches}
 use Rattle.protocol.specs.Effects.{after, cell_at}
 use Rattle.protocol.specs.OnBook as book
 use Rattle.protocol_laws.proofs.first.Statuses.{live_if}
+use Rattle.protocol_laws.proofs.first.Pairs.{doomed_or}
 
 pub record Later (x y : Act) : Type 0 where
   pub tid : y.tid ≡ x.tid
@@ -68,10 +69,6 @@ if_later false f x h = same_later x
 pub changed_grows : (t : ℕ) (f : Act → Act) (xs : List Act) → ((x : Act) → Later x (f x)) → Grows xs (book.changed_act t f xs)
 changed_grows t f xs h = grows_map _ xs (λ x. if_later (x.tid == t) f x (h x))
 
-doomed_if : (b : Bool) (v : Verdict) (st : Status) → is_doomed st ≡ true → is_doomed (if b then Doomed v else st) ≡ true
-doomed_if true v st e = refl
-doomed_if false v st e = e
-
 sealed_if : (st : Status) (r : Bool) (v : Verdict) → is_sealed st ≡ true → is_sealed (if is_live_status st && r then Doomed v else st) ≡ true
 sealed_if Live r v e = absurd (true≢false (sym e))
 sealed_if (Doomed d) r v e = e
@@ -85,7 +82,7 @@ sealed_only (Decided c) v e = e
 sealed_only (Sealed c) v e = e
 
 crossed_later : (a : ℕ) (x : Act) → Later x (crossed_out a x)
-crossed_later a x = record { tid = refl; rises = omega arith; doomed = doomed_if (is_crossed x) _ x.status; live = live_if (is_crossed x) _ x.status; sealed = sealed_if x.status (reaches x.m x.n) _ }
+crossed_later a x = record { tid = refl; rises = omega arith; doomed = doomed_or (is_crossed x) _ x.status; live = live_if (is_crossed x) _ x.status; sealed = sealed_if x.status (reaches x.m x.n) _ }
 
 decided_later : (c : ℕ) (x : Act) → Later x (book.decided_as c x)
 decided_later c x = record { tid = refl; rises = omega arith; doomed = d x.status; live = l x.status (is_value x.result); sealed = z x.status }
@@ -143,7 +140,7 @@ pub spread_grows : (a : ℕ) (ps : List Pair) (xs : List Act) → Grows xs (map 
 spread_grows a ps xs = grows_trans xs (raised ps xs) _ (grows_raised ps xs) (grows_map (crossed_out a) (raised ps xs) (crossed_later a))
 
 asked_grows : {C : Type 0} (o : Option ℕ) (group : List Lock) (t a : ℕ) (c : Cell C) (b : Book) → Grows b.acts (book.asked_acts o group t a (max c.last c.floor) b)
-asked_grows (Some older) group t a c b = changed_grows t _ b.acts (λ x. record { tid = refl; rises = omega arith; doomed = doomed_if (is_live_status x.status) _ x.status; live = live_if (is_live_status x.status) _ x.status; sealed = sealed_only x.status _ })
+asked_grows (Some older) group t a c b = changed_grows t _ b.acts (λ x. record { tid = refl; rises = omega arith; doomed = doomed_or (is_live_status x.status) _ x.status; live = live_if (is_live_status x.status) _ x.status; sealed = sealed_only x.status _ })
 asked_grows None group t a c b =
     let joined = book.changed_act t (book.joins a (max c.last c.floor)) b.acts in
     let ps = b.pairs ++ book.new_pairs t a group b.acts in
@@ -158,7 +155,7 @@ acts_grow w (Admit u) s = grows_more s.book.acts _
 acts_grow w (Arrive k a) s = let low = map (book.lowered k (book.tids_on (cell_at s a).entries)) s.book.acts in grows_trans s.book.acts low _ (grows_map _ s.book.acts (plain _ (λ x. (refl, refl, refl)))) (grows_map (crossed_out a) low (crossed_later a))
 acts_grow w (Ask u a) s = asked_grows (book.in_the_way u (cell_at s a).entries) (book.met u (cell_at s a).entries) u a (cell_at s a) s.book
 acts_grow w (End u a) s = ended_grows u (has_act u (cell_at s a).entries) (outcome_of u (cell_at s a).outbox) s.book.acts
-acts_grow w (Abort k) s = grows_map _ s.book.acts (λ x. record { tid = refl; rises = omega arith; doomed = doomed_if _ _ x.status; live = live_if _ _ x.status; sealed = sealed_if x.status (nat_le k x.m) _ })
+acts_grow w (Abort k) s = grows_map _ s.book.acts (λ x. record { tid = refl; rises = omega arith; doomed = doomed_or _ _ x.status; live = live_if _ _ x.status; sealed = sealed_if x.status (nat_le k x.m) _ })
 acts_grow w (Prepare u a) s = changed_grows u _ s.book.acts (plain _ (λ x. (refl, refl, refl)))
 acts_grow w (Vouch u a) s = changed_grows u _ s.book.acts (plain _ (λ x. (refl, refl, refl)))
 acts_grow w (Decide u) s = changed_grows u _ s.book.acts (decided_later s.book.next_c)

@@ -6,7 +6,7 @@ use Rattle.std.proofs.lemmas.List.{append-nil}
 use Rattle.std.proofs.lemmas.Bool.{true≢false, eqb-true, leb-true, eq-eqb, ne_eqb, and_parts, or_cases, false_from_ne_true}
 use Rattle.protocol.specs.Fixed.{Fixed, base}
 use Rattle.protocol.specs.Parts.{Act, Joined, Batch, Pact, Who, OfBatch, OfAct, Status, Live, Doomed, Decided, Sealed, Machine}
-use Rattle.protocol.specs.Events.{Event, Form, Admit, Arrive, Ask, Take, Run, Send, End, Close, Complete, Commit, Settle, Rollback, Decide, Finish, Trim}
+use Rattle.protocol.specs.Events.{Event, Admit, Ask, End, Commit, Settle, Decide}
 use Rattle.protocol.specs.Words.{holds, is_who, is_value, is_live_status, is_decided, is_sealed, act_of, is_ended, is_ordered}
 use Rattle.protocol.specs.Conditions.{IsAllowed, conditions}
 use Rattle.protocol.specs.Effects.{after, no_cell}
@@ -14,8 +14,8 @@ use Rattle.protocol.specs.OnRing as ring
 use Rattle.protocol.specs.OnPost as post
 use Rattle.protocol.specs.OnBook as book
 use Rattle.protocol.specs.History.{History, grown, kept_act}
+use Rattle.protocol_laws.specs.Told.{EachAct}
 use Rattle.protocol_laws.specs.Commits.{is_kept}
-use Rattle.protocol_laws.proofs.first.Times
 use Rattle.protocol_laws.proofs.first.SettlingKept as settling
 use Rattle.protocol_laws.proofs.machine.ControlWalk.{AllControls}
 use Rattle.protocol_laws.proofs.machine.TracksKept.{in_range, held}
@@ -23,11 +23,13 @@ use Rattle.protocol_laws.proofs.machine.TurnsKept.{one_is}
 use Rattle.protocol_laws.proofs.machine.Resting as resting
 use Rattle.protocol_laws.proofs.machine.Resting.{EachPact}
 use Rattle.protocol_laws.proofs.machine.ActsFound as acts
-use Rattle.protocol_laws.proofs.machine.ActsFound.{EachAct, Holds}
+use Rattle.protocol_laws.proofs.machine.ActsFound.{Holds}
 use Rattle.protocol_laws.proofs.machine.ActResults as results
 use Rattle.protocol_laws.proofs.machine.ActResults.{NoneActed, NoActResult}
 use Rattle.protocol_laws.proofs.first.Lists.{some_of}
 use Rattle.protocol_laws.proofs.first.Statuses.{live_unordered, ordered_sealed}
+use Rattle.protocol_laws.proofs.first.OneWay.{tid_went}
+use Rattle.protocol_laws.proofs.first.RangesNamed.{cells_stay}
 
 pub record ActIs (next actors settled : ℕ) (bs : List Batch) (kept : List Who) (t : ℕ) (x : Act) : Type 0 where
   pub drawn : t < next
@@ -74,27 +76,6 @@ holds_is next actors settled bs kept = record {
 
 -- ---- what the state around it becomes
 
-pub cells_stay : {C : Type 0} (w : Fixed C) (e : Event) (s : Machine C) → length (after w e s).cells ≡ length s.cells
-unfolding after
-cells_stay w (Arrive k a) s = Times.length_set s.cells a _
-cells_stay w (Ask t a) s = Times.length_set s.cells a _
-cells_stay w (Take t a) s = Times.length_set s.cells a _
-cells_stay w (Run t a) s = Times.length_set s.cells a _
-cells_stay w (Send t a) s = Times.length_set s.cells a _
-cells_stay w (End t a) s = Times.length_set s.cells a _
-cells_stay w (Close t a) s = Times.length_set s.cells a _
-cells_stay w (Complete k a) s = Times.length_set s.cells a _
-cells_stay w (Rollback a) s = Times.length_set s.cells a _
-cells_stay w (Finish t a) s = Times.length_set s.cells a _
-cells_stay w (Trim k a) s = Times.length_set s.cells a _
-cells_stay w e s = refl
-
-tids_rise : {C : Type 0} (w : Fixed C) (e : Event) (s : Machine C) → s.ring.next_tid ≤ (after w e s).ring.next_tid
-unfolding after
-tids_rise w (Form k) s = omega arith
-tids_rise w (Admit t) s = omega arith
-tids_rise w e s = omega arith
-
 pub settled_rises : {C : Type 0} (w : Fixed C) (e : Event) (s : Machine C) → IsAllowed w e s → settling.Settling w s → s.desk.settled ≤ (after w e s).desk.settled
 unfolding after
 settled_rises w (Settle k) s ok g = omega (arith, settling.settles_above w s k ok g)
@@ -129,7 +110,7 @@ stays_apart w e s t l h = resting.each_stays w e s (λ u r. u ≡ t → ⊥) (λ
 around : {C : Type 0} (w : Fixed C) (e : Event) (s : Machine C) (h : History) → IsNoDecide e → IsAllowed w e s → settling.Settling w s → EachAct (ActIs s.ring.next_tid (length s.cells) s.desk.settled s.desk.batches h.kept) s.book.acts
     → EachAct (ActIs (after w e s).ring.next_tid (length (after w e s).cells) (after w e s).desk.settled (after w e s).desk.batches (grown w e s h).kept) s.book.acts
 around w e s h n ok g i = λ t x f. let p = i t x f in record {
-  drawn = omega (arith, p.drawn, tids_rise w e s);
+  drawn = omega (arith, p.drawn, tid_went w e s);
   apart = stays_apart w e s t p.drawn p.apart;
   exist = subst (λ z. AllByRecursion (λ q. q.actor < z) x.places) (sym (cells_stay w e s)) p.exist;
   ended = p.ended;

@@ -1,5 +1,5 @@
 -- An ACT has its place exactly where it is among those that committed, with that place and its result.
-use Rattle.std.specs.Prelude.{◌≡◌, refl, ℕ, ◌==◌, Bool, true, false, ◌&&◌, Option, Some, None, is_some, List, [], ◌∷◌, ◌++◌, map}
+use Rattle.std.specs.Prelude.{◌≡◌, refl, ℕ, Bool, true, false, ◌&&◌, Option, Some, None, is_some, List, [], ◌∷◌, ◌++◌, map}
 use Rattle.std.specs.List.{AllByRecursion}
 use Rattle.std.proofs.Common.{sym, ap, subst, ◌∙◌}
 use Rattle.std.proofs.lemmas.Bool.{true≢false, eqb-true, eq-eqb, and_parts}
@@ -14,10 +14,11 @@ use Rattle.protocol.specs.Conditions.{IsAllowed, conditions}
 use Rattle.protocol.specs.Effects.{after, no_cell}
 use Rattle.protocol.specs.OnBook as book
 use Rattle.protocol.specs.History.{History, Done, grown, done_pact, done_batch, done_act}
+use Rattle.protocol_laws.specs.Told.{EachAct, AmongDone, is_at, ActTold, IsDone, DoneFrom}
 use Rattle.protocol_laws.proofs.machine.ControlWalk.{AllControls}
 use Rattle.protocol_laws.proofs.machine.TracksKept.{held}
 use Rattle.protocol_laws.proofs.machine.ActsFound as acts
-use Rattle.protocol_laws.proofs.machine.ActsFound.{EachAct, Holds}
+use Rattle.protocol_laws.proofs.machine.ActsFound.{Holds}
 use Rattle.protocol_laws.proofs.machine.ActResults as results
 use Rattle.protocol_laws.proofs.machine.ActResults.{NoneActed, NoActResult}
 use Rattle.protocol_laws.proofs.machine.ActsKept.{Acts}
@@ -26,17 +27,6 @@ use Rattle.protocol_laws.proofs.first.Lists.{all_join, join_assoc, some_of}
 
 -- ---- among those that committed
 
-pub record AmongDone (y : Who) (t n : ℕ) (p : Place) (r : Option TxResult) (ds : List Done) : Type 0 where
-  pub done : Done
-  pub front : List Done
-  pub rest : List Done
-  pub splits : ds ≡ front ++ done ∷ rest
-  pub who : done.who ≡ y
-  pub tid : done.tid ≡ t
-  pub tx : done.tx ≡ n
-  pub place : done.place ≡ p
-  pub result : done.result ≡ r
-
 pub among_more : (y : Who) (t n : ℕ) (p : Place) (r : Option TxResult) (ds new : List Done) → AmongDone y t n p r ds → AmongDone y t n p r (ds ++ new)
 among_more y t n p r ds new h = record { done = h.done; front = h.front; rest = h.rest ++ new; splits = ap (λ l. l ++ new) h.splits ∙ join_assoc h.front (h.done ∷ h.rest) new; who = h.who; tid = h.tid; tx = h.tx; place = h.place; result = h.result }
 
@@ -44,13 +34,6 @@ pub among_behind : (y : Who) (t n : ℕ) (p : Place) (r : Option TxResult) (us d
 among_behind y t n p r us ds h = record { done = h.done; front = us ++ h.front; rest = h.rest; splits = ap (λ l. us ++ l) h.splits ∙ sym (join_assoc us h.front (h.done ∷ h.rest)); who = h.who; tid = h.tid; tx = h.tx; place = h.place; result = h.result }
 
 -- ---- statuses
-
--- it is decided or sealed, as this number of the commits of ACTs
-abbrev pub is_at : ℕ → Status → Bool
-is_at c Live = false
-is_at c (Doomed v) = false
-is_at c (Decided d) = d == c
-is_at c (Sealed d) = d == c
 
 pub at_placed : (c : ℕ) (st : Status) → is_at c st ≡ true → is_ordered st ≡ true
 at_placed c Live e = e
@@ -70,7 +53,7 @@ at_sealed c (Doomed v) = refl
 at_sealed c (Decided d) = refl
 at_sealed c (Sealed d) = refl
 
-at_decided : (c d : ℕ) (b : Bool) (st : Status) → is_at c st ≡ true → is_at c (book.decided_status d b st) ≡ true
+pub at_decided : (c d : ℕ) (b : Bool) (st : Status) → is_at c st ≡ true → is_at c (book.decided_status d b st) ≡ true
 at_decided c d b Live e = absurd (true≢false (sym e))
 at_decided c d b (Doomed v) e = e
 at_decided c d b (Decided f) e = e
@@ -83,7 +66,7 @@ at_now c d b (Doomed v) l e = absurd (true≢false (sym l))
 at_now c d b (Decided f) l e = absurd (true≢false (sym l))
 at_now c d b (Sealed f) l e = absurd (true≢false (sym l))
 
-now_at : (d : ℕ) (b : Bool) (st : Status) → is_live_status st ≡ true → is_at d (book.decided_status d b st) ≡ true
+pub now_at : (d : ℕ) (b : Bool) (st : Status) → is_live_status st ≡ true → is_at d (book.decided_status d b st) ≡ true
 now_at d true Live l = eq-eqb d d refl
 now_at d false Live l = eq-eqb d d refl
 now_at d b (Doomed v) l = absurd (true≢false (sym l))
@@ -96,9 +79,6 @@ unfolding Acts
 unplaced s h t c x i n e a = true≢false (sym ((i t x e).ended (at_placed c x.status a)) ∙ ap is_some (n t x e refl))
 
 -- ---- who has a place is among those that committed
-
-abbrev pub ActTold : List Done → ℕ → Act → Type 0
-ActTold ds t x = (c : ℕ) → is_at c x.status ≡ true → AmongDone (OfAct t) t x.tx (act_place x.m c) x.result ds
 
 unfoldable pub ActsTold : {C : Type 0} → Machine C → History → Type 0
 ActsTold s h = EachAct (ActTold h.committed) s.book.acts
@@ -131,18 +111,6 @@ told_kept w (Decide t) s h ok n i g = acts.each_changed (ActTold h.committed) (A
 told_kept w e s h ok n i g = acts.acts_keep w e s (ActTold h.committed) (told_holds h.committed) tt g
 
 -- ---- and the other way round
-
-pub record IsDone (d : Done) (x : Act) : Type 0 where
-  pub c : ℕ
-  pub at : is_at c x.status ≡ true
-  pub tid : d.tid ≡ x.tid
-  pub tx : d.tx ≡ x.tx
-  pub place : d.place ≡ act_place x.m c
-  pub result : d.result ≡ x.result
-
-pub record DoneFrom (acts : List Act) (t : ℕ) (d : Done) : Type 0 where
-  pub there : is_some (act_of t acts) ≡ true
-  pub is_it : EachAct (λ u x. u ≡ t → IsDone d x) acts
 
 unfoldable pub AllFrom : {C : Type 0} → Machine C → History → Type 0
 AllFrom s h = AllByRecursion (λ d. (t : ℕ) → d.who ≡ OfAct t → DoneFrom s.book.acts t d) h.committed

@@ -83,7 +83,7 @@ pub record AllGood {C : Type 0} (w : Fixed C) (Of : Tx → C → Type 0) (finish
   pub acts_recorded : ActsRecorded w s
   pub batches_recorded : BatchesRecorded w s
 
-drawn : {C : Type 0} (s : Machine C) (h : History) → Acts s h → ActsDrawn s.ring.next_tid s.book.acts
+pub drawn : {C : Type 0} (s : Machine C) (h : History) → Acts s h → ActsDrawn s.ring.next_tid s.book.acts
 unfolding Acts
 drawn s h i = λ t x e. (i t x e).drawn
 

@@ -1,5 +1,5 @@
 -- A batch that may commit has only committed ones ahead of it.
-use Rattle.std.specs.Prelude.{◌≡◌, refl, ℕ, ◌+◌, ◌<◌, ◌≤◌, ◌==◌, nat_le, not, Bool, true, false, ◌&&◌, ◌||◌, if◌then◌else◌, Option, Some, None, is_some, List, [], ◌∷◌, ◌++◌, map, find}
+use Rattle.std.specs.Prelude.{◌≡◌, refl, ℕ, ◌+◌, ◌<◌, ◌==◌, nat_le, not, Bool, true, false, ◌&&◌, ◌||◌, if◌then◌else◌, Option, Some, None, is_some, List, [], ◌∷◌, ◌++◌, map, find}
 use Rattle.std.specs.List.{AllByRecursion, list_any, list_all}
 use Rattle.std.proofs.Common.{arith, sym, ap, subst, inl, inr, ◌∙◌}
 use Rattle.std.proofs.lemmas.Bool.{eqb-true, leb-true, and_parts, or_cases, or_parts, or_left, or_right, true≢false, cases_Bool, false_from_ne_true, not-true}
@@ -10,10 +10,10 @@ use Rattle.protocol.specs.Words.{holds, is_among, is_value, is_aborted, is_forme
 use Rattle.protocol.specs.Contents.{complete_mark}
 use Rattle.protocol.specs.Conditions.{IsAllowed, conditions}
 use Rattle.protocol.specs.Effects.{after, cell_at}
-use Rattle.protocol.specs.OnRing as ring
 use Rattle.protocol.specs.OnDesk as desk
 use Rattle.protocol.specs.OnCell.{is_cut}
 use Rattle.protocol.specs.History.{History, Slice, Ran, Stands, Gone, slices_of, batches_in, batch_in}
+use Rattle.protocol_laws.specs.Told.{PactsAscend}
 use Rattle.protocol_laws.specs.Tracks.{Key, key_of, keys_in, is_key_among}
 use Rattle.protocol_laws.specs.Turns.{Rising, IsPast, Turns}
 use Rattle.protocol_laws.specs.Places.{Ascends, Fits}
@@ -28,10 +28,10 @@ use Rattle.protocol_laws.proofs.machine.TurnsKept.{one_is, Turned}
 use Rattle.protocol_laws.proofs.machine.PlaceLists
 use Rattle.protocol_laws.proofs.machine.PlacesKept.{Placed, message}
 use Rattle.protocol_laws.proofs.machine.MarksKept as marks
-use Rattle.protocol_laws.proofs.machine.CommitLists.{PactsAscend}
 use Rattle.protocol_laws.proofs.machine.CommitsKept.{MayCommit}
 use Rattle.protocol_laws.proofs.first.Lists.{all_back, all_found}
 use Rattle.protocol_laws.proofs.first.Statuses.{if_bid}
+use Rattle.protocol_laws.proofs.machine.TrailsKept.{new_tids}
 
 -- ---- PACTs of a batch ascend
 
@@ -41,10 +41,6 @@ Numbered s = (k : ℕ) (b : Batch) → batch_of k s.desk.batches ≡ Some b → 
 same_tids : (f : Pact → Pact) → ((p : Pact) → (f p).tid ≡ p.tid) → (low : ℕ) (ps : List Pact) → PactsAscend low ps → PactsAscend low (map f ps)
 same_tids f i low [] h = tt
 same_tids f i low (p ∷ ps) h = (omega (arith, h.0, i p), subst (λ n. PactsAscend (n + 1) (map f ps)) (sym (i p)) (same_tids f i (p.tid + 1) ps h.1))
-
-new_tids : (low t : ℕ) (ns : List ℕ) → low ≤ t → PactsAscend low (ring.numbered t ns)
-new_tids low t [] l = tt
-new_tids low t (n ∷ ns) l = (l, new_tids (t + 1) (t + 1) ns (omega arith))
 
 pub numbered_kept : {C : Type 0} (w : Fixed C) (e : Event) (s : Machine C) → Numbered s → Numbered (after w e s)
 unfolding Numbered after

@@ -325,7 +325,7 @@ beside_carried P a new long k h b = elim (Rattle.std.proofs.lemmas.Bool.cases_Bo
   | inr e ↦ rw e (h b)
 ]
 
-held_act : (p : Act → Bool) (o : Option Act) → holds p o ≡ true → holds (λ x. true) o ≡ true
+pub held_act : (p : Act → Bool) (o : Option Act) → holds p o ≡ true → holds (λ x. true) o ≡ true
 held_act p None h = h
 held_act p (Some x) h = refl
 

@@ -14,6 +14,7 @@ use Rattle.protocol.specs.OnBook as book
 use Rattle.protocol.specs.OnCell as cell
 use Rattle.protocol.specs.OnCell.{is_cut}
 use Rattle.protocol.specs.History.{History, Slice, Ran, Stands, Gone, grown, not_run, ran_in, completed, left_for_good, without_standing, long_staying, asks, batches_in}
+use Rattle.protocol_laws.specs.Told.{EachAct}
 use Rattle.protocol_laws.specs.Places.{Fits}
 use Rattle.protocol_laws.specs.Befores.{is_above, Befores}
 use Rattle.protocol_laws.proofs.first.EpochsKept as epochs
@@ -24,7 +25,7 @@ use Rattle.protocol_laws.proofs.machine.PlacesKept.{Placed}
 use Rattle.protocol_laws.proofs.machine.BeforesKept.{Numbers}
 use Rattle.protocol_laws.proofs.machine.CommitsKept.{beside_carried}
 use Rattle.protocol_laws.proofs.machine.ActsFound as acts
-use Rattle.protocol_laws.proofs.machine.ActsFound.{EachAct, Holds}
+use Rattle.protocol_laws.proofs.machine.ActsFound.{Holds}
 use Rattle.protocol_laws.proofs.machine.ActsKept.{Acts}
 use Rattle.protocol_laws.proofs.machine.QueuedKept.{in_book}
 use Rattle.protocol_laws.proofs.first.Statuses.{doomed_decided, doomed_sealed}
@@ -55,7 +56,7 @@ each_to_holds q t xs e h = by (act_of t xs) refl e
 pub holds_to_each : (q : Act → Bool) (t : ℕ) (xs : List Act) → holds q (act_of t xs) ≡ true → EachAct (λ u x. u ≡ t → q x ≡ true) xs
 holds_to_each q t xs h = λ u x e i. subst (λ z. holds q z ≡ true) (ap (λ z. act_of z xs) (sym i) ∙ e) h
 
-holds_some : (q : Act → Bool) (o : Option Act) → holds q o ≡ true → is_some o ≡ true
+pub holds_some : (q : Act → Bool) (o : Option Act) → holds q o ≡ true → is_some o ≡ true
 holds_some q None e = absurd (true≢false (sym e))
 holds_some q (Some x) e = refl
 

@@ -9,6 +9,7 @@ use Rattle.protocol.specs.Parts.{Cascade, Who, OfBatch, Pact}
 use Rattle.protocol.specs.Words.{is_among, is_who, is_value}
 use Rattle.protocol.specs.OnCell.{is_cut}
 use Rattle.protocol.specs.History.{Done, History, done_pact, Slice, Ran, Stands, Gone, not_run, ran_in, completed, left_for_good, without_standing, long_staying, slices_of, view_in, last_left}
+use Rattle.protocol_laws.specs.Told.{PactsAscend}
 use Rattle.protocol_laws.specs.Tracks.{keys_in, is_key_among, Differ, slices_in, Linked}
 use Rattle.protocol_laws.specs.Commits.{Finds, left_by, left_of, StatesLink, last_state, is_kept, has_kept, KeptFront, kept_slices, KeptAhead, Commits}
 use Rattle.protocol_laws.specs.Turns.{Rising}
@@ -16,7 +17,7 @@ use Rattle.protocol_laws.proofs.machine.TrackLists
 use Rattle.protocol_laws.proofs.machine.TrackLists.{linked_parts, linked_join, is_who_true, is_who_refl}
 use Rattle.protocol_laws.proofs.first.Lists.{or_true}
 
-or_false : (b : Bool) → (b || false) ≡ b
+pub or_false : (b : Bool) → (b || false) ≡ b
 or_false true = refl
 or_false false = refl
 
@@ -173,7 +174,7 @@ undo a first kept committed long who e h = same a first kept committed long _ (f
 
 -- ---- a rollback, where no aborted batch committed
 
-none_kept : (kept : List Who) (rs : List Ran) → has_kept kept rs ≡ false → kept_slices kept rs ≡ []
+pub none_kept : (kept : List Who) (rs : List Ran) → has_kept kept rs ≡ false → kept_slices kept rs ≡ []
 none_kept kept [] e = refl
 none_kept kept (Stands y c ss ∷ rs) e = let p = or_parts (is_kept y kept) (has_kept kept rs) e in rw p.0 (none_kept kept rs p.1)
 none_kept kept (Gone y ss ∷ rs) e = absurd (true≢false e)
@@ -393,10 +394,6 @@ span P t last to (x ∷ xs) r p l = elim (cases_eq x.tid t) [
         each = p;
       }
 ]
-
-abbrev pub PactsAscend : ℕ → List Pact → Type 0
-PactsAscend low [] = Unit {0}
-PactsAscend low (p ∷ ps) = (low ≤ p.tid) × PactsAscend (p.tid + 1) ps
 
 among_from : (low t : ℕ) (ps : List Pact) → PactsAscend low ps → is_among t (map (λ p. p.tid) ps) ≡ true → low ≤ t
 among_from low t [] h e = absurd (true≢false (sym e))

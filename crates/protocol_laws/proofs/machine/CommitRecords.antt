@@ -1,7 +1,7 @@
 -- Who committed has its commit record in its log; a fact of each batch that is found by its number, as events change batches.
-use Rattle.std.specs.Prelude.{◌≡◌, refl, ℕ, zero, suc, ◌%◌, ◌≤◌, ◌<◌, ◌==◌, nat_lt, not, Bool, true, false, ◌&&◌, if◌then◌else◌, Option, Some, None, is_some, List, [], ◌∷◌, ◌++◌, length, map, slice_get, slice_index_or, slice_set}
+use Rattle.std.specs.Prelude.{◌≡◌, refl, ℕ, zero, suc, ◌%◌, ◌<◌, ◌==◌, nat_lt, not, Bool, true, false, ◌&&◌, if◌then◌else◌, Option, Some, None, is_some, List, [], ◌∷◌, ◌++◌, length, map, slice_get, slice_index_or, slice_set}
 use Rattle.std.specs.List.{list_any}
-use Rattle.std.proofs.Common.{arith, sym, ap, subst, inl, inr, ◌∙◌, mod-lt}
+use Rattle.std.proofs.Common.{arith, sym, ap, subst, inl, inr, ◌∙◌}
 use Rattle.std.proofs.lemmas.Bool.{true≢false, eqb-true, eq-eqb, and_parts, or_cases, or_left, or_right, lt-ltb, cases_lt}
 use Rattle.snap_base.specs.declared.transactions.TxResult.{TxResult}
 use Rattle.protocol.specs.Fixed.{Fixed, IsText, Next, Go, Ended}
@@ -16,17 +16,18 @@ use Rattle.protocol.specs.OnDesk as desk
 use Rattle.protocol.specs.OnBook as book
 use Rattle.protocol.specs.Runs.{IsQuiet}
 use Rattle.protocol.specs.History.{History}
+use Rattle.protocol_laws.specs.Told.{EachAct, EachBatch}
 use Rattle.protocol_laws.proofs.machine.MarksKept as marks
 use Rattle.protocol_laws.proofs.machine.ControlWalk.{AllControls}
 use Rattle.protocol_laws.proofs.machine.TracksKept.{held}
 use Rattle.protocol_laws.proofs.machine.ActsFound as acts
-use Rattle.protocol_laws.proofs.machine.ActsFound.{EachAct, Holds}
+use Rattle.protocol_laws.proofs.machine.ActsFound.{Holds}
 use Rattle.protocol_laws.proofs.machine.ActResults as results
 use Rattle.protocol_laws.proofs.machine.ActResults.{NoneActed, NoActResult}
 use Rattle.protocol_laws.proofs.machine.ActsKept.{Acts}
-use Rattle.protocol_laws.proofs.machine.PactsTold.{EachBatch}
 use Rattle.protocol_laws.proofs.first.Lists.{some_of, take_all}
 use Rattle.protocol_laws.proofs.first.Statuses.{committing_not_formed, if_bid, ordered_sealed, sealed_not_decided}
+use Rattle.protocol_laws.proofs.first.OnePlace.{remainder}
 
 -- ---- records stay
 
@@ -67,12 +68,9 @@ record_stays w (Prepare t a) s p l h = adds_stay p _ s.logs (a % w.text.logs) l 
 record_stays w (Decide t) s p l h = adds_stay p _ s.logs (t % w.text.logs) l h
 record_stays w e s p l h = h
 
-below : (n c : ℕ) → 1 ≤ c → n % c < c
-below n c h = mod-lt n h
-
 -- where there is a log
 pub has_log : {C : Type 0} (w : Fixed C) (s : Machine C) (n : ℕ) → IsText w.text → length s.logs ≡ w.text.logs → n % w.text.logs < length s.logs
-has_log w s n t e = omega (arith, below n w.text.logs t.some_logs, e)
+has_log w s n t e = omega (arith, remainder n w.text.logs t.some_logs, e)
 
 -- ---- who has its place with a value has its record
 
@@ -95,11 +93,11 @@ recorded_holds w s = record {
   rises = λ t k x l p. p;
 }
 
-not_placed : {C : Type 0} (s : Machine C) (h : History) (t : ℕ) (x : Act) → Acts s h → NoActResult t s.book.acts → act_of t s.book.acts ≡ Some x → is_ordered x.status ≡ true → ⊥
+pub not_placed : {C : Type 0} (s : Machine C) (h : History) (t : ℕ) (x : Act) → Acts s h → NoActResult t s.book.acts → act_of t s.book.acts ≡ Some x → is_ordered x.status ≡ true → ⊥
 unfolding Acts
 not_placed s h t x i n e a = true≢false (sym ((i t x e).ended a) ∙ ap is_some (n t x e refl))
 
-decided_placed : (st : Status) → is_decided st ≡ true → is_ordered st ≡ true
+pub decided_placed : (st : Status) → is_decided st ≡ true → is_ordered st ≡ true
 decided_placed st e = or_left (is_decided st) _ e
 
 stay_recorded : {C : Type 0} (w : Fixed C) (e : Event) (s : Machine C) → EachAct (λ t x. ActRecorded w s t x × DecidedValue t x) s.book.acts → EachAct (λ t x. ActRecorded w (after w e s) t x × DecidedValue t x) s.book.acts
@@ -108,7 +106,7 @@ stay_recorded w e s g = λ t x f. ((λ p v. record_stays w e s (is_act_commit t)
 commits_new : (t c : ℕ) (x : Act) → x.tid ≡ t → is_value x.result ≡ true → list_any (is_act_commit t) (act_commit c (Some x)) ≡ true
 commits_new t c x e v = rw (v, eq-eqb x.tid t e) refl
 
-decided_value : (c : ℕ) (b : Bool) (st : Status) → (is_decided st ≡ true → b ≡ true) → is_decided (book.decided_status c b st) ≡ true → b ≡ true
+pub decided_value : (c : ℕ) (b : Bool) (st : Status) → (is_decided st ≡ true → b ≡ true) → is_decided (book.decided_status c b st) ≡ true → b ≡ true
 decided_value c true st k e = refl
 decided_value c false Live k e = absurd (true≢false (sym e))
 decided_value c false (Doomed v) k e = absurd (true≢false (sym e))

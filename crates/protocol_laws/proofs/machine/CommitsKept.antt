@@ -14,12 +14,12 @@ use Rattle.protocol.specs.OnBook as book
 use Rattle.protocol.specs.OnCell as cell
 use Rattle.protocol.specs.OnCell.{is_cut}
 use Rattle.protocol.specs.History.{with_at, History, Done, Ran, grown, not_run, left_for_good, without_standing, asks, slices_of, view_in, done_pact, done_act, done_batch, kept_act}
+use Rattle.protocol_laws.specs.Told.{PactsAscend}
 use Rattle.protocol_laws.specs.Tracks.{key_of, Differ, Tracks}
 use Rattle.protocol_laws.specs.Turns.{Rising}
 use Rattle.protocol_laws.specs.Commits.{is_kept, KeptAhead, Commits}
 use Rattle.protocol_laws.proofs.machine.TracksKept.{Tracked}
 use Rattle.protocol_laws.proofs.machine.CommitLists
-use Rattle.protocol_laws.proofs.machine.CommitLists.{PactsAscend}
 
 -- what is carried of one actor changes
 pub beside_carried : {X : Type 0} (P : ℕ → X → Type 0) (a : ℕ) (new : X) (long : ℕ → X) → (P a (long a) → P a new) → ((b : ℕ) → P b (long b)) → (b : ℕ) → P b (with_at a new long b)
@@ -63,7 +63,7 @@ Assumed (Finish t a) s h = is_kept (OfAct t) h.kept ≡ not (cell.is_undone_act 
 Assumed (Trim k a) s h = is_kept (OfBatch k) h.kept ≡ true
 Assumed _ s h = Unit {0}
 
-all_views : (k a : ℕ) (h : History) (ps : List Pact) → AllByRecursion (λ p. view_in p.tid (slices_of (OfBatch k) (h.long a)) ≡ view_in p.tid (slices_of (OfBatch k) (h.long a))) ps
+pub all_views : (k a : ℕ) (h : History) (ps : List Pact) → AllByRecursion (λ p. view_in p.tid (slices_of (OfBatch k) (h.long a)) ≡ view_in p.tid (slices_of (OfBatch k) (h.long a))) ps
 all_views k a h [] = tt
 all_views k a h (p ∷ ps) = (refl, all_views k a h ps)
 

@@ -49,7 +49,7 @@ changed : (n t u : ℕ) (f : Act → Act) (xs : List Act) → ((x : Act) → (f 
 changed n t u f xs i g h = holds_map (is_fixed n) (λ x. book.change_if (x.tid == u) f x) (λ x. if_tid (x.tid == u) f x (i x)) (λ x. change_fixed n (x.tid == u) f x (g x)) t xs h
 
 -- nothing is carried to one that has its place
-carries_none : (ps : List Pair) (x : Act) (xs : List Act) → is_ordered x.status ≡ true → carried ps x xs ≡ 0
+pub carries_none : (ps : List Pair) (x : Act) (xs : List Act) → is_ordered x.status ≡ true → carried ps x xs ≡ 0
 carries_none ps x [] e = refl
 carries_none ps x (y ∷ ys) e = rw e (carries_none ps x ys e)
 

@@ -14,18 +14,19 @@ use Rattle.protocol.specs.OnBook as book
 use Rattle.protocol.specs.OnCell as cell
 use Rattle.protocol.specs.OnCell.{is_cut}
 use Rattle.protocol.specs.History.{History, Ran, Stands, Gone, long_staying}
+use Rattle.protocol_laws.specs.Told.{EachAct}
 use Rattle.protocol_laws.specs.Tracks.{Key, key_of, keys_in, is_key_among}
 use Rattle.protocol_laws.proofs.machine.TrackLists
 use Rattle.protocol_laws.proofs.machine.TracksKept.{Tracked, in_range}
 use Rattle.protocol_laws.proofs.machine.FromDeskKept.{one_cell}
 use Rattle.protocol_laws.proofs.machine.ControlWalk.{AllControls}
 use Rattle.protocol_laws.proofs.machine.ActsFound as acts
-use Rattle.protocol_laws.proofs.machine.ActsFound.{EachAct, HoldsOpen}
+use Rattle.protocol_laws.proofs.machine.ActsFound.{HoldsOpen}
 use Rattle.protocol_laws.proofs.machine.ActResults as results
 use Rattle.protocol_laws.proofs.machine.ActResults.{NoneActed, NoActResult}
 use Rattle.protocol_laws.proofs.machine.ActsKept.{Acts}
-use Rattle.protocol_laws.proofs.machine.QueuedKept.{in_book}
-use Rattle.protocol_laws.proofs.machine.BehindKept.{Behind, AllBehind, each_to_holds, holds_to_each}
+use Rattle.protocol_laws.proofs.machine.QueuedKept.{in_book, found_some}
+use Rattle.protocol_laws.proofs.machine.BehindKept.{Behind, AllBehind, each_to_holds, holds_to_each, holds_some}
 use Rattle.protocol_laws.proofs.machine.ActsOwed.{none_bad}
 use Rattle.protocol_laws.proofs.first.Lists.{all_join, weaker}
 use Rattle.protocol_laws.proofs.first.Statuses.{not_doomed_decided, sealed_doomed}
@@ -71,7 +72,7 @@ open_back b q (p ∷ ps) h = by (p.actor == b) h (open_back b q ps)
     by true h k = inl h
     by false h k = k h
 
-mark_actor : (v : Bool) (f : Joined → Joined) (p : Joined) → ((q : Joined) → (f q).actor ≡ q.actor) → (book.mark_if v f p).actor ≡ p.actor
+pub mark_actor : (v : Bool) (f : Joined → Joined) (p : Joined) → ((q : Joined) → (f q).actor ≡ q.actor) → (book.mark_if v f p).actor ≡ p.actor
 mark_actor true f p i = i p
 mark_actor false f p i = refl
 
@@ -181,10 +182,6 @@ open_ready w (Decide u) s t b n e = λ x f p. p
 open_ready w (Finish u a) s t b n e = λ x f p j. left_other a b x (λ q. n (sym j) q) ∙ p j
 open_ready w e s t b n q = tt
 
-holds_some : (q : Act → Bool) (o : Option Act) → holds q o ≡ true → is_some o ≡ true
-holds_some q None e = absurd (true≢false (sym e))
-holds_some q (Some x) e = refl
-
 open_stays : {C : Type 0} (w : Fixed C) (e : Event) (s : Machine C) (t b : ℕ) → NotLeaving e t b → holds (open_at b) (act_of t s.book.acts) ≡ true → holds (open_at b) (act_of t (after w e s).book.acts) ≡ true
 open_stays w e s t b n h =
     let i = holds_some (open_at b) (act_of t s.book.acts) h in
@@ -250,10 +247,6 @@ joined_open w s h t a ok n i l None q e f = each_to_holds (open_at a) t _ f
 ask_keys : (a t : ℕ) (xs : List Act) (o : Option ℕ) (es : List Entry) → (o ≡ None → holds (open_at a) (act_of t xs) ≡ true) → KeysOpen a xs (map key_of es) → KeysOpen a xs (map key_of (es ++ cell.act_entries t o))
 ask_keys a t xs None es k h = keys_more a xs es _ h (k refl, tt)
 ask_keys a t xs (Some y) es k h = keys_more a xs es [] h tt
-
-found_some : (p : Act → Bool) (o : Option Act) → holds p o ≡ true → is_some o ≡ true
-found_some p None e = absurd (true≢false (sym e))
-found_some p (Some x) e = refl
 
 run_keys : (b : ℕ) (xs : List Act) (v : Bool) (t : ℕ) (es : List Entry) → KeysOpen b xs (map key_of es) → KeysOpen b xs (map key_of (if v then map (cell.done_in t) es else es))
 run_keys b xs true t es h = keys_done b xs t es h

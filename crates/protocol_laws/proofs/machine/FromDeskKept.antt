@@ -23,6 +23,8 @@ use Rattle.protocol_laws.proofs.machine.TrackLists
 use Rattle.protocol_laws.proofs.machine.TracksKept.{held}
 use Rattle.protocol_laws.proofs.first.Lists.{all_filter, all_found, all_join, all_map, weaker}
 use Rattle.protocol_laws.proofs.first.Statuses.{if_bid}
+use Rattle.protocol_laws.proofs.first.KeptByEvents.{complete_done}
+use Rattle.protocol_laws.proofs.machine.TurnLists.{is_batch}
 
 -- ---- a fact of a batch that no event takes back
 
@@ -102,7 +104,7 @@ pact_fixed u = record { places = λ b a f i h. h; pacts = λ b t r h. by b.abort
 
 -- ---- lists
 
-all_staying : (P : Entry → Type 0) (cs : List Cascade) (es : List Entry) → AllByRecursion P es → AllByRecursion P (cell.staying cs es)
+pub all_staying : (P : Entry → Type 0) (cs : List Cascade) (es : List Entry) → AllByRecursion P es → AllByRecursion P (cell.staying cs es)
 all_staying P cs [] h = tt
 all_staying P cs (e ∷ es) h = by (is_cut cs (who_of e)) (all_staying P cs es h.1)
   where
@@ -145,17 +147,13 @@ order_more : (e : Entry) (es : List Entry) → complete_mark e ≡ false → Com
 order_more e [] c h = (λ q. absurd (true≢false (sym q)), tt)
 order_more e (x ∷ es) c h = (λ q. h.0 (sym (any_more complete_mark e es c) ∙ q), order_more e es c h.1)
 
-mark_done : (t : ℕ) (e : Entry) → complete_mark (cell.done_in t e) ≡ complete_mark e
-mark_done t (BatchEntry b) = refl
-mark_done t (ActEntry x) = refl
-
 any_done : (t : ℕ) (es : List Entry) → list_any complete_mark (map (cell.done_in t) es) ≡ list_any complete_mark es
 any_done t [] = refl
-any_done t (e ∷ es) = rw (mark_done t e, any_done t es) refl
+any_done t (e ∷ es) = rw (complete_done t e, any_done t es) refl
 
 order_done : (t : ℕ) (es : List Entry) → CompleteInOrder es → CompleteInOrder (map (cell.done_in t) es)
 order_done t [] h = tt
-order_done t (e ∷ es) h = (λ q. mark_done t e ∙ h.0 (sym (any_done t es) ∙ q), order_done t es h.1)
+order_done t (e ∷ es) h = (λ q. complete_done t e ∙ h.0 (sym (any_done t es) ∙ q), order_done t es h.1)
 
 any_filter : (p q : Entry → Bool) (es : List Entry) → list_any p (filter q es) ≡ true → list_any p es ≡ true
 any_filter p q [] h = h
@@ -212,10 +210,6 @@ any_same k (e ∷ es) h = let p = or_parts (is_who (who_of e) (OfBatch k)) (is_k
 order_same : (k : ℕ) (es : List Entry) → is_key_among (OfBatch k) (map key_of es) ≡ false → CompleteInOrder es → CompleteInOrder (map (cell.complete_in k) es)
 order_same k [] e h = tt
 order_same k (x ∷ es) e h = let p = or_parts (is_who (who_of x) (OfBatch k)) (is_key_among (OfBatch k) (map key_of es)) e in (λ q. mark_same k x p.0 ∙ h.0 (sym (any_same k es p.1) ∙ q), order_same k es p.1 h.1)
-
-is_batch : (k : ℕ) (e : Entry) → is_batch_entry k e ≡ is_who (who_of e) (OfBatch k)
-is_batch k (BatchEntry b) = refl
-is_batch k (ActEntry x) = refl
 
 complete_is : (e : Entry) → is_complete_batch e ≡ complete_mark e
 complete_is (BatchEntry b) = refl

@@ -27,6 +27,8 @@ use Rattle.protocol_laws.proofs.machine.PlaceLists
 use Rattle.protocol_laws.proofs.machine.PlacesKept.{Placed}
 use Rattle.protocol_laws.proofs.first.Lists.{all_back, all_map, any_front, any_join, any_take, list_all_mapped, weaker}
 use Rattle.protocol_laws.proofs.first.Statuses.{committing_not_formed, if_bid}
+use Rattle.protocol_laws.proofs.machine.CommitLists.{or_false}
+use Rattle.protocol_laws.proofs.machine.PlaceLists.{ascends_back}
 
 -- ---- lists
 
@@ -86,10 +88,6 @@ at_done P k (Gone y ss ∷ rs) e h = elim (or_cases (is_who y (OfBatch k)) (is_d
   | inl q ↦ of_who P k y (batches_in rs) q h
   | inr q ↦ at_done P k rs q (all_back P (batch_in y) (batches_in rs) h)
 ]
-
-ascends_back : (xs ys : List ℕ) → Ascends (xs ++ ys) → Ascends ys
-ascends_back [] ys h = h
-ascends_back (x ∷ xs) ys h = ascends_back xs ys h.1
 
 done_staying : (next ep tail k : ℕ) (cs : List Cascade) (rs : List Ran) → is_done k rs ≡ true → AllByRecursion (Fits next cs ep tail) (batches_in rs) → Ascends (batches_in rs) → IsOver k cs (long_staying cs rs)
 done_staying next ep tail k cs [] e f a = inr e
@@ -159,7 +157,7 @@ log_added p rs (x ∷ xs) zero (suc m) h = inl h
 log_added p rs (x ∷ xs) (suc l) zero h = inl h
 log_added p rs (x ∷ xs) (suc l) (suc m) h = log_added p rs xs l m h
 
-log_synced : (logs : List Log) (l m : ℕ) → (slice_index_or (slice_set logs l (synced (slice_index_or logs l no_log))) m no_log).records ≡ (slice_index_or logs m no_log).records
+pub log_synced : (logs : List Log) (l m : ℕ) → (slice_index_or (slice_set logs l (synced (slice_index_or logs l no_log))) m no_log).records ≡ (slice_index_or logs m no_log).records
 log_synced [] l m = refl
 log_synced (x ∷ xs) zero zero = refl
 log_synced (x ∷ xs) zero (suc m) = refl
@@ -275,25 +273,17 @@ new_places cs long k [] = tt
 new_places cs long k (x ∷ xs) = (λ q. absurd (true≢false (sym q)), new_places cs long k xs)
 
 kept_end : (k : ℕ) (who : Who) (kept : List Who) → is_kept (OfBatch k) (kept ++ who ∷ []) ≡ (is_kept (OfBatch k) kept || is_who who (OfBatch k))
-kept_end k who [] = or_no (is_who who (OfBatch k))
-  where
-    or_no : (b : Bool) → (b || false) ≡ b
-    or_no true = refl
-    or_no false = refl
+kept_end k who [] = or_false (is_who who (OfBatch k))
 kept_end k who (x ∷ xs) = rw (kept_end k who xs) (by (is_who x (OfBatch k)))
   where
     by : (b : Bool) → (b || (is_kept (OfBatch k) xs || is_who who (OfBatch k))) ≡ ((b || is_kept (OfBatch k) xs) || is_who who (OfBatch k))
     by true = refl
     by false = refl
 
-or_no : (b : Bool) → (b || false) ≡ b
-or_no true = refl
-or_no false = refl
-
 -- a batch is committing
 committing : (cs : List Cascade) (long : ℕ → List Ran) (kept : List Who) (j k : ℕ) (b : Batch) (q : Bool) → (k == j) ≡ q → (k ≡ j → list_all (λ p. p.noted) b.places ≡ true) → Marks cs long kept j b → Marks cs long (kept ++ OfBatch k ∷ []) j (desk.change_if q (desk.with_stage Committing) b)
 committing cs long kept j k b true e n h = record { noted = h.noted; all_noted = λ q. n (eqb-true k j e); known = kept_end j (OfBatch k) kept ∙ or_right (is_kept (OfBatch j) kept) (k == j) e }
-committing cs long kept j k b false e n h = record { noted = h.noted; all_noted = h.all_noted; known = kept_end j (OfBatch k) kept ∙ (rw (e, or_no (is_kept (OfBatch j) kept)) h.known) }
+committing cs long kept j k b false e n h = record { noted = h.noted; all_noted = h.all_noted; known = kept_end j (OfBatch k) kept ∙ (rw (e, or_false (is_kept (OfBatch j) kept)) h.known) }
 
 settling : (cs : List Cascade) (long : ℕ → List Ran) (kept : List Who) (j k : ℕ) (b : Batch) (q : Bool) → (k == j) ≡ q → (k ≡ j → is_formed b.stage ≡ false) → Marks cs long kept j b → Marks cs long kept j (desk.change_if q (desk.with_stage Settled) b)
 settling cs long kept j k b true e n h = let f = n (eqb-true k j e) in record { noted = h.noted; all_noted = λ q. h.all_noted f; known = h.known ∙ ap not f }
@@ -354,7 +344,7 @@ turn : (j k : ℕ) → (k == j) ≡ (j == k)
 turn j k = TrackLists.is_who_sym (OfBatch k) (OfBatch j)
 
 -- what the conditions say of the batch that is found
-held_of : (p : Batch → Bool) (k j : ℕ) (b : Batch) (bs : List Batch) → batch_of j bs ≡ Some b → holds p (batch_of k bs) ≡ true → k ≡ j → p b ≡ true
+pub held_of : (p : Batch → Bool) (k j : ℕ) (b : Batch) (bs : List Batch) → batch_of j bs ≡ Some b → holds p (batch_of k bs) ≡ true → k ≡ j → p b ≡ true
 held_of p k j b bs e h q = subst (λ o. holds p o ≡ true) (ap (λ z. batch_of z bs) q ∙ e) h
 
 durable : (p : LogRecord → Bool) (logs : List Log) (l : ℕ) → holds (is_durable p) (slice_get logs l) ≡ true → list_any p (slice_index_or logs l no_log).records ≡ true
@@ -365,7 +355,7 @@ decided_same k kept None = ap (is_kept (OfBatch k)) (Rattle.std.proofs.lemmas.Li
 decided_same k kept (Some x) = by (is_value x.result)
   where
     by : (q : Bool) → is_kept (OfBatch k) (kept ++ (if q then OfAct x.tid ∷ [] else [])) ≡ is_kept (OfBatch k) kept
-    by true = kept_end k (OfAct x.tid) kept ∙ or_no (is_kept (OfBatch k) kept)
+    by true = kept_end k (OfAct x.tid) kept ∙ or_false (is_kept (OfBatch k) kept)
     by false = ap (is_kept (OfBatch k)) (Rattle.std.proofs.lemmas.List.append-nil kept)
 
 pub marked_kept : {C : Type 0} (w : Fixed C) (e : Event) (s : Machine C) (h : History) → IsAllowed w e s → Placed w s h → Recorded w s h → Known s h → Marked s h → Marked (after w e s) (grown w e s h)

@@ -28,7 +28,7 @@ use Rattle.protocol_laws.proofs.first.CellEpochs as cells
 use Rattle.protocol_laws.proofs.machine.TurnsKept.{one_is, Turned}
 use Rattle.protocol_laws.proofs.machine.PlacesKept.{Placed}
 use Rattle.protocol_laws.proofs.machine.CommitsKept.{beside_carried, MayDecide, Committed}
-use Rattle.protocol_laws.proofs.machine.BeforesKept.{Lasts, Numbers}
+use Rattle.protocol_laws.proofs.machine.BeforesKept.{Lasts, Numbers, held_act}
 use Rattle.protocol_laws.proofs.machine.HighLists
 use Rattle.protocol_laws.proofs.machine.HighLists.{NotLive}
 use Rattle.protocol_laws.proofs.machine.GroupsKept as groups
@@ -40,7 +40,7 @@ use Rattle.protocol_laws.proofs.first.Statuses.{live_unordered}
 
 -- ---- the greatest
 
-greatest_join : (xs ys : List ℕ) → greatest (xs ++ ys) ≡ max (greatest xs) (greatest ys)
+pub greatest_join : (xs ys : List ℕ) → greatest (xs ++ ys) ≡ max (greatest xs) (greatest ys)
 greatest_join [] ys = omega arith
 greatest_join (x ∷ xs) ys = omega (arith, greatest_join xs ys)
 
@@ -199,10 +199,6 @@ asked_high t a c b h =
         by true e h r = rw e (le-leb (max c.last c.floor) (max x.m (max c.last c.floor)) (omega arith))
         by false e h r = rw e (r h)
 
-some_act : (p : Act → Bool) (o : Option Act) → holds p o ≡ true → holds (λ x. true) o ≡ true
-some_act p None h = h
-some_act p (Some x) h = refl
-
 -- its number is over that of one that committed there
 pub record Asked (acts : List Act) (b' : Book) (t a last floor : ℕ) (group : List Lock) : Type 0 where
   pub high : holds (λ x. nat_le (max last floor) x.m) (act_of t b'.acts) ≡ true
@@ -254,7 +250,7 @@ asked_one kept acts b' cs t a c long n (OfAct u) q r f l told h = elim h [
   | inl i ↦ over_low b' t (max c.last c.floor) n (omega (arith, i)) q.high
   | inr i ↦ elim (below_or_tail cs n u c.last [] long c.entries r f l i) [
     | inl j ↦ over_low b' t (max c.last c.floor) n (omega (arith, j)) q.high
-    | inr j ↦ over_paired b' t a u n q.carried (some_act (λ x. nat_le (max c.last c.floor) x.m) (act_of t b'.acts) q.high) (q.fixed u n told) (q.pairs u j)
+    | inr j ↦ over_paired b' t a u n q.carried (held_act (λ x. nat_le (max c.last c.floor) x.m) (act_of t b'.acts) q.high) (q.fixed u n told) (q.pairs u j)
   ]
 ]
 
@@ -262,7 +258,7 @@ asked_all : {C : Type 0} (kept : List Who) (acts : List Act) (b' : Book) (cs : L
     → Turns long c.entries → AllByRecursion (λ k. is_aborted k cs ≡ false) (batches_in long) → AllByRecursion (λ k. k ≤ c.last) (batches_in long)
     → AllByRecursion (shows.ToldOf kept acts) ds → AllByRecursion (λ d. Shows cs c.floor (number_of d) d.who long) (visitors a ds) → holds (is_over (highest a ds)) (act_of t b'.acts) ≡ true
 asked_all kept acts b' cs t a c long ds q r f l told h =
-    over_each (act_of t b'.acts) (visitors a ds) (some_act (λ x. nat_le (max c.last c.floor) x.m) (act_of t b'.acts) q.high)
+    over_each (act_of t b'.acts) (visitors a ds) (held_act (λ x. nat_le (max c.last c.floor) x.m) (act_of t b'.acts) q.high)
     (both_all (shows.ToldOf kept acts) (λ d. Shows cs c.floor (number_of d) d.who long) (λ d. holds (is_over (number_of d)) (act_of t b'.acts) ≡ true) (visitors a ds) (λ d i j. asked_one kept acts b' cs t a c long (number_of d) d.who q r f l i j) (all_filter (shows.ToldOf kept acts) (visits a) ds told) h)
 
 -- ---- event by event
@@ -295,7 +291,7 @@ ask {C} w t a s h ok o g k v = by (book.in_the_way t (cell_at s a).entries) refl
 
     asked : book.in_the_way t c.entries ≡ None → Asked s.book.acts (after w (Ask t a) s).book t a c.last c.floor (tail_group c.entries)
     asked e = record {
-      high = subst (λ o. holds (λ x. nat_le (max c.last c.floor) x.m) (act_of t (book.asked_acts o (book.met t c.entries) t a (max c.last c.floor) s.book)) ≡ true) (sym e) (asked_high t a c s.book (some_act _ (act_of t s.book.acts) ok.1.0));
+      high = subst (λ o. holds (λ x. nat_le (max c.last c.floor) x.m) (act_of t (book.asked_acts o (book.met t c.entries) t a (max c.last c.floor) s.book)) ≡ true) (sym e) (asked_high t a c s.book (held_act _ (act_of t s.book.acts) ok.1.0));
       pairs = λ u i. subst (λ o. is_paired a (book.asked_pairs o (book.met t c.entries) t a s.book) (after w (Ask t a) s).book.acts u t ≡ true) (sym e) (groups.asked_pairs t a u c s.book (after w (Ask t a) s).book.acts (acts_grow w (Ask t a) s) i);
       carried = k;
       fixed = λ u n f. shows.fixed_stays w (Ask t a) s h n u o f;

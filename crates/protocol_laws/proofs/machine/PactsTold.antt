@@ -19,28 +19,22 @@ use Rattle.protocol.specs.OnDesk as desk
 use Rattle.protocol.specs.OnBook as book
 use Rattle.protocol.specs.Spread.{raised, crossed_out, is_crossed}
 use Rattle.protocol.specs.History.{History, Done, grown, done_pact, done_batch}
+use Rattle.protocol_laws.specs.Told.{EachBatch, AmongDone, is_at, ActTold, PactTold, BatchTold}
 use Rattle.protocol_laws.proofs.first.SettlingKept as settling
 use Rattle.protocol_laws.proofs.machine.MarksKept as marks
 use Rattle.protocol_laws.proofs.first.PairsFound.{TidsAscend, each_act}
 use Rattle.protocol_laws.proofs.machine.ControlWalk.{AllControls}
 use Rattle.protocol_laws.proofs.machine.Resting.{NoResult, NoneNoted}
-use Rattle.protocol_laws.proofs.machine.ActsTold.{AmongDone, among_more, among_behind, ActTold, ActsTold, is_at}
+use Rattle.protocol_laws.proofs.machine.ActsTold.{among_more, among_behind, ActsTold}
 use Rattle.protocol_laws.proofs.first.Lists.{all_found, some_of, weaker}
 use Rattle.protocol_laws.proofs.machine.VerdictsSay as verdicts
 use Rattle.protocol_laws.proofs.machine.VerdictsSay.{Says, IsNoPlace, DoomedWell}
 use Rattle.protocol_laws.specs.Order.{IsAmongDone}
 use Rattle.protocol_laws.proofs.first.Statuses.{committing_not_formed, if_bid}
+use Rattle.protocol_laws.proofs.machine.CommitRecords.{batch_map}
+use Rattle.protocol_laws.proofs.machine.RunOwed.{found_all}
 
 -- ---- PACTs
-
-abbrev pub PactTold : List Done → ℕ → Pact → Type 0
-PactTold ds k p = AmongDone (OfBatch k) p.tid p.tx (pact_place k p.tid) p.result ds × (is_some p.result ≡ true)
-
-abbrev pub BatchTold : List Done → ℕ → Batch → Type 0
-BatchTold ds k b = is_formed b.stage ≡ false → AllByRecursion (PactTold ds k) b.pacts
-
-abbrev pub EachBatch : (ℕ → Batch → Type 0) → List Batch → Type 0
-EachBatch P bs = (k : ℕ) (b : Batch) → batch_of k bs ≡ Some b → P k b
 
 unfoldable pub PactsTold : {C : Type 0} → Machine C → History → Type 0
 PactsTold s h = EachBatch (BatchTold h.committed) s.desk.batches
@@ -48,11 +42,8 @@ PactsTold s h = EachBatch (BatchTold h.committed) s.desk.batches
 more_told : (ds new : List Done) (k : ℕ) (b : Batch) → BatchTold ds k b → BatchTold (ds ++ new) k b
 more_told ds new k b h = λ e. weaker _ _ b.pacts (λ p i. (among_more (OfBatch k) p.tid p.tx (pact_place k p.tid) p.result ds new i.0, i.1)) (h e)
 
-each_map : (P Q : ℕ → Batch → Type 0) (f : Batch → Batch) (bs : List Batch) → ((b : Batch) → (f b).bid ≡ b.bid) → ((k : ℕ) (b : Batch) → batch_of k bs ≡ Some b → P k b → Q k (f b)) → EachBatch P bs → EachBatch Q (map f bs)
-each_map P Q f bs i k h = λ j c e. let g = marks.found_mapped f i j c bs e in subst (Q j) g.2 (k j g.0 g.1 (h j g.0 g.1))
-
 each_changed : (P Q : ℕ → Batch → Type 0) (j : ℕ) (f : Batch → Batch) (bs : List Batch) → ((b : Batch) → (f b).bid ≡ b.bid) → ((k : ℕ) (b : Batch) → P k b → Q k b) → ((b : Batch) → batch_of j bs ≡ Some b → P j b → Q j (f b)) → EachBatch P bs → EachBatch Q (desk.changed_batch j f bs)
-each_changed P Q j f bs i other own h = each_map P Q (λ b. desk.change_if (b.bid == j) f b) bs (λ b. if_bid (b.bid == j) f b (i b)) (λ k b e p. by k b e p (b.bid == j) refl) h
+each_changed P Q j f bs i other own h = batch_map P Q (λ b. desk.change_if (b.bid == j) f b) bs (λ b. if_bid (b.bid == j) f b (i b)) (λ k b e p. by k b e p (b.bid == j) refl) h
   where
     by : (k : ℕ) (b : Batch) → batch_of k bs ≡ Some b → P k b → (v : Bool) → (b.bid == j) ≡ v → Q k (desk.change_if v f b)
     by k b e p true q = let n : k ≡ j = sym (eqb-true b.bid k (marks.found_bid k b bs e)) ∙ eqb-true b.bid j q in subst (λ z. Q z (f b)) (sym n) (own b (subst (λ z. batch_of z bs ≡ Some b) n e) (subst (λ z. P z b) n p))
@@ -80,9 +71,6 @@ noted_told t k r ds (p ∷ ps) n h = (by (p.tid == t) refl, noted_told t k r ds 
     by true e = absurd (true≢false (sym h.0.1 ∙ ap is_some (n.0 (eqb-true p.tid t e))))
     by false e = h.0
 
-found_all : (P : Batch → Type 0) (k : ℕ) (b : Batch) (bs : List Batch) → batch_of k bs ≡ Some b → AllByRecursion P bs → P b
-found_all P k b bs e h = (all_found P (λ b. b.bid == k) bs b h e).0
-
 pub pacts_kept : {C : Type 0} (w : Fixed C) (e : Event) (s : Machine C) (h : History) → IsAllowed w e s → AllControls (NoneNoted s) s → PactsTold s h → PactsTold (after w e s) (grown w e s h)
 unfolding PactsTold conditions after grown
 pacts_kept w (Form k) s h ok n g = λ j b e. elim (marks.found_more j b _ s.desk.batches e) [ inl q ↦ g j b q | inr q ↦ subst (BatchTold h.committed j) q.1 (λ f. absurd (true≢false f)) ]
@@ -97,7 +85,7 @@ pacts_kept {C} w (End t a) s h ok n g = by (has_act t (cell_at s a).entries) (ou
 
     next : (m : Next C) → NoResult t s.desk.batches → EachBatch (BatchTold h.committed) (desk.noted_for t m s.desk.batches)
     next (Go b x) q = g
-    next (Ended r) q = each_map (BatchTold h.committed) (BatchTold h.committed) (desk.with_results t r) s.desk.batches (λ b. refl) (λ k b e i f. result r k b (found_all (λ b. AllByRecursion (λ p. p.tid ≡ t → p.result ≡ None) b.pacts) k b s.desk.batches e q) i b.aborted f) g
+    next (Ended r) q = batch_map (BatchTold h.committed) (BatchTold h.committed) (desk.with_results t r) s.desk.batches (λ b. refl) (λ k b e i f. result r k b (found_all (λ b. AllByRecursion (λ p. p.tid ≡ t → p.result ≡ None) b.pacts) k b s.desk.batches e q) i b.aborted f) g
 
     by : (v : Bool) (o : Option (Outcome C)) → outcome_of t (cell_at s a).outbox ≡ o → EachBatch (BatchTold h.committed) (if v then s.desk.batches else desk.noted_from t o s.desk.batches)
     by true o e = g
@@ -109,7 +97,7 @@ pacts_kept w (Commit k) s h ok n g = each_changed (BatchTold h.committed) (Batch
     (λ b e i f. weaker _ _ b.pacts (λ p j. (among_behind (OfBatch k) p.tid p.tx (pact_place k p.tid) p.result h.committed _ (subst (λ z. AmongDone (OfBatch k) p.tid p.tx (pact_place k p.tid) p.result (done_batch k h z)) (sym e) j.0), j.1)) (new_pacts k h b.pacts (some_of (λ b. list_all (λ p. is_value p.result) b.pacts) (batch_of k s.desk.batches) b e ok.1.0))) g
 pacts_kept w (Settle k) s h ok n g = each_changed (BatchTold h.committed) (BatchTold h.committed) k (desk.with_stage Settled) s.desk.batches (λ b. refl) (λ j b i. i)
     (λ b e i f. i (committing_not_formed b.stage (and_parts (is_committing b.stage) (not b.aborted) (some_of (λ b. is_committing b.stage && not b.aborted) (batch_of k s.desk.batches) b e ok.0)).0)) g
-pacts_kept w (Abort k) s h ok n g = each_map (BatchTold h.committed) (BatchTold h.committed) (desk.taken k) s.desk.batches (λ b. refl) (λ j b e i. i) g
+pacts_kept w (Abort k) s h ok n g = batch_map (BatchTold h.committed) (BatchTold h.committed) (desk.taken k) s.desk.batches (λ b. refl) (λ j b e i. i) g
 pacts_kept w (Decide t) s h ok n g = λ j b e. more_told h.committed _ j b (g j b e)
 pacts_kept w (Trim k a) s h ok n g = each_changed (BatchTold h.committed) (BatchTold h.committed) k (desk.marked a desk.is_trimmed) s.desk.batches (λ b. refl) (λ j b i. i) (λ b e i. i) g
 pacts_kept w e s h ok n g = g

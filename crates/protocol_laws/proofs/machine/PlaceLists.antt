@@ -102,7 +102,7 @@ ascends_more : (k : ℕ) (ks : List ℕ) → AllByRecursion (λ j. j < k) ks →
 ascends_more k [] a h = (tt, tt)
 ascends_more k (j ∷ js) a h = (all_join (λ i. j < i) js (k ∷ []) h.0 (a.0, tt), ascends_more k js a.1 h.1)
 
-ascends_back : (xs ys : List ℕ) → Ascends (xs ++ ys) → Ascends ys
+pub ascends_back : (xs ys : List ℕ) → Ascends (xs ++ ys) → Ascends ys
 ascends_back [] ys h = h
 ascends_back (x ∷ xs) ys h = ascends_back xs ys h.1
 

@@ -25,7 +25,7 @@ use Rattle.protocol_laws.proofs.first.SettlingKeys as keys
 
 -- ---- places
 
-by_batch : (p q : Place) → p.batch.0 < q.batch.0 → is_place_below p q ≡ true
+pub by_batch : (p q : Place) → p.batch.0 < q.batch.0 → is_place_below p q ≡ true
 by_batch p q l = or_left (nat_lt p.batch.0 q.batch.0) _ (lt-ltb p.batch.0 q.batch.0 l)
 
 by_side : (p q : Place) → p.batch.0 ≡ q.batch.0 → p.side < q.side → is_place_below p q ≡ true

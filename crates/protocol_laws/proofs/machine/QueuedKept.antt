@@ -15,18 +15,20 @@ use Rattle.protocol.specs.OnRing as ring
 use Rattle.protocol.specs.OnRing.{joined_at, left_at}
 use Rattle.protocol.specs.OnDesk as desk
 use Rattle.protocol.specs.History.{History, Trail, grown, begun, kept_act, with_at}
+use Rattle.protocol_laws.specs.Told.{PactsAscend}
 use Rattle.protocol_laws.specs.Commits.{is_kept}
 use Rattle.protocol_laws.specs.Befores.{is_above}
 use Rattle.protocol_laws.proofs.first.Times
 use Rattle.protocol_laws.proofs.first.SettlingKept as settling
 use Rattle.protocol_laws.proofs.machine.BeforesKept as befores
-use Rattle.protocol_laws.proofs.machine.CommitLists.{PactsAscend}
 use Rattle.protocol_laws.proofs.machine.TrailsKept.{begun_below, new_tids}
 use Rattle.protocol_laws.proofs.machine.Resting as resting
 use Rattle.protocol_laws.proofs.machine.Resting.{EachPact}
 use Rattle.protocol_laws.proofs.machine.ActsFound
-use Rattle.protocol_laws.proofs.machine.ActsKept.{KnownActs, cells_stay, settled_rises}
+use Rattle.protocol_laws.proofs.machine.ActsKept.{KnownActs, settled_rises}
 use Rattle.protocol_laws.proofs.first.Lists.{all_drop, all_filter, all_get, all_join, all_map, all_set, all_take, both_all, weaker}
+use Rattle.protocol_laws.proofs.first.EpochsKept.{below_all}
+use Rattle.protocol_laws.proofs.first.RangesNamed.{cells_stay}
 
 -- ---- lists
 
@@ -100,10 +102,6 @@ pub record Sizes {C : Type 0} (w : Fixed C) (s : Machine C) : Type 0 where
   pub places : EachPlace (length s.cells) s.desk.batches
   pub based : base w.text ≤ s.desk.settled
 
-below_all : (n : ℕ) → AllByRecursion (λ a. a < n) (below n)
-below_all zero = tt
-below_all (suc n) = all_join _ (below n) (n ∷ []) (weaker (λ a. a < n) (λ a. a < suc n) (below n) (λ a l. omega (arith, l)) (below_all n)) (omega arith, tt)
-
 marked_places : (n a : ℕ) (f : Declared → Declared) (ps : List Declared) → ((p : Declared) → (f p).actor ≡ p.actor) → AllByRecursion (λ p. p.actor < n) ps → AllByRecursion (λ p. p.actor < n) (map (λ p. desk.mark_if (p.actor == a) f p) ps)
 marked_places n a f [] i h = tt
 marked_places n a f (p ∷ ps) i h = (by (p.actor == a), marked_places n a f ps i h.1)
@@ -136,11 +134,11 @@ places_stay w (Abort k) s n l h = all_map _ _ (desk.taken k) s.desk.batches (λ 
 places_stay w (Trim k a) s n l h = all_map _ _ _ s.desk.batches (λ b i. if_places n (b.bid == k) (desk.marked a desk.is_trimmed) b (λ j. marked_places n a desk.is_trimmed b.places (λ p. refl) j) i) h
 places_stay w e s n l h = h
 
-lasts_length : (k : ℕ) (actors lasts : List ℕ) → length (ring.with_lasts k actors lasts) ≡ length lasts
+pub lasts_length : (k : ℕ) (actors lasts : List ℕ) → length (ring.with_lasts k actors lasts) ≡ length lasts
 lasts_length k [] lasts = refl
 lasts_length k (a ∷ actors) lasts = lasts_length k actors (slice_set lasts a k) ∙ Times.length_set lasts a k
 
-replicated : {X : Type 0} (n : ℕ) (x : X) → length (replicate n x) ≡ n
+pub replicated : {X : Type 0} (n : ℕ) (x : X) → length (replicate n x) ≡ n
 replicated zero x = refl
 replicated (suc n) x = ap suc (replicated n x)
 
@@ -170,7 +168,7 @@ some_above (Some x) e = Rattle.std.proofs.lemmas.Bool.or_right (Rattle.protocol.
 pub in_book : {C : Type 0} (w : Fixed C) (e : Event) (s : Machine C) (t : ℕ) → is_some (act_of t s.book.acts) ≡ true → is_some (act_of t (after w e s).book.acts) ≡ true
 in_book w e s t h = above_some _ (befores.book_stays w e s 0 t (some_above (act_of t s.book.acts) h))
 
-found_some : (p : Act → Bool) (o : Option Act) → holds p o ≡ true → is_some o ≡ true
+pub found_some : (p : Act → Bool) (o : Option Act) → holds p o ≡ true → is_some o ≡ true
 found_some p None e = absurd (true≢false (sym e))
 found_some p (Some x) e = refl
 

@@ -1,5 +1,5 @@
 -- What waits at the coordinators are transactions of the text.
-use Rattle.std.specs.Prelude.{◌≡◌, refl, ℕ, zero, suc, ◌+◌, ◌<◌, ◌==◌, nat_lt, Bool, true, false, not, if◌then◌else◌, List, [], ◌∷◌, ◌++◌, length, replicate, slice_index_or}
+use Rattle.std.specs.Prelude.{◌≡◌, refl, ℕ, zero, suc, ◌+◌, ◌<◌, ◌==◌, nat_lt, Bool, true, false, not, if◌then◌else◌, List, [], ◌∷◌, length, replicate, slice_index_or}
 use Rattle.std.specs.List.{AllByRecursion}
 use Rattle.std.proofs.Common.{sym}
 use Rattle.std.proofs.lemmas.Bool.{and_parts, ltb-true, true≢false}
@@ -13,7 +13,7 @@ use Rattle.protocol.specs.Effects.{after}
 use Rattle.protocol.specs.Runs.{opening}
 use Rattle.protocol.specs.OnRing as ring
 use Rattle.protocol.specs.OnPost as post
-use Rattle.protocol_laws.proofs.first.Lists.{all_drop, all_get, all_set, all_take}
+use Rattle.protocol_laws.proofs.first.Lists.{all_drop, all_get, all_set, all_take, all_join}
 
 -- the text has so many
 abbrev pub IsThere : Text → ℕ → Type 0
@@ -26,15 +26,11 @@ pub record Queued {C : Type 0} (w : Fixed C) (s : Machine C) : Type 0 where
   pub pacts : AreThere w.text s.ring.pacts
   pub acts : AreThere w.text s.ring.acts
 
-join : {X : Type 0} (P : X → Type 0) (xs ys : List X) → AllByRecursion P xs → AllByRecursion P ys → AllByRecursion P (xs ++ ys)
-join P [] ys h k = k
-join P (x ∷ xs) ys h k = (h.0, join P xs ys h.1 k)
-
 in_queue : (w : Text) (queues : List (List ℕ)) (c : ℕ) → AreThere w queues → AllByRecursion (IsThere w) (queue queues c)
 in_queue w queues c h = all_get (λ q. AllByRecursion (IsThere w) q) queues c [] tt h
 
 joined : (w : Text) (queues : List (List ℕ)) (c n : ℕ) → IsThere w n → AreThere w queues → AreThere w (ring.joined_at c n queues)
-joined w queues c n l h = all_set (λ q. AllByRecursion (IsThere w) q) queues c _ (join (IsThere w) (queue queues c) (n ∷ []) (in_queue w queues c h) (l, tt)) h
+joined w queues c n l h = all_set (λ q. AllByRecursion (IsThere w) q) queues c _ (all_join (IsThere w) (queue queues c) (n ∷ []) (in_queue w queues c h) (l, tt)) h
 
 left : (w : Text) (queues : List (List ℕ)) (c few : ℕ) → AreThere w queues → AreThere w (ring.left_at c few queues)
 left w queues c few h = all_set (λ q. AllByRecursion (IsThere w) q) queues c _ (all_drop (IsThere w) few (queue queues c) (in_queue w queues c h)) h

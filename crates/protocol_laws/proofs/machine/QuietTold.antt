@@ -10,7 +10,7 @@ use Rattle.protocol.specs.Fixed.{Fixed}
 use Rattle.protocol.specs.Records.{is_commit, is_act_commit}
 use Rattle.protocol.specs.Parts.{Act, Batch, Cascade, Pact, Stage, Formed, Committing, Settled, Status, Live, Doomed, Decided, Sealed, Who, OfBatch, OfAct, Machine}
 use Rattle.protocol.specs.Events.{Event, Form, End, Commit, Settle, Decide, Seal}
-use Rattle.protocol.specs.Words.{holds, is_value, is_decided, is_formed, is_committing, is_settled, is_aborted, is_durable, is_who, is_ended, covers, act_of, batch_of, outcome_of, is_ordered}
+use Rattle.protocol.specs.Words.{holds, is_value, is_decided, is_formed, is_committing, is_settled, is_aborted, is_durable, is_who, is_ended, covers, act_of, batch_of, outcome_of}
 use Rattle.protocol.specs.Verdicts.{verdict, verdict_of_pact, verdict_of_act, verdict_in_batch, pact_verdict, settled_verdict, act_verdict, ended_at, or_else, pact_place, act_place}
 use Rattle.protocol.specs.Conditions.{IsAllowed, conditions}
 use Rattle.protocol.specs.Numbers.{flat, times, one_if, once_in, TransactionsInOnePlace}
@@ -18,6 +18,7 @@ use Rattle.protocol.specs.Effects.{after, cell_at, no_cell}
 use Rattle.protocol.specs.OnDesk as desk
 use Rattle.protocol.specs.Runs.{IsQuiet}
 use Rattle.protocol.specs.History.{History, Done, grown, done_pact, done_batch, done_act}
+use Rattle.protocol_laws.specs.Told.{EachBatch, is_at, IsDonePact, AnyPact, PactFrom, FromBatches}
 use Rattle.protocol_laws.specs.Commits.{is_kept}
 use Rattle.protocol_laws.specs.Marks.{Marked, Known}
 use Rattle.protocol_laws.proofs.first.Times
@@ -27,32 +28,13 @@ use Rattle.protocol_laws.proofs.machine.ControlWalk.{AllControls}
 use Rattle.protocol_laws.proofs.machine.TracksKept.{held}
 use Rattle.protocol_laws.proofs.machine.TurnsKept.{one_is}
 use Rattle.protocol_laws.proofs.machine.Resting.{NoResult, NoneNoted}
-use Rattle.protocol_laws.proofs.machine.ActsTold.{is_at, AllFrom}
-use Rattle.protocol_laws.proofs.machine.PactsTold.{EachBatch}
+use Rattle.protocol_laws.proofs.machine.ActsTold.{AllFrom, at_placed}
 use Rattle.protocol_laws.proofs.machine.CommitRecords as records
 use Rattle.protocol_laws.proofs.machine.CommitRecords.{BatchHolds, ActsRecorded, BatchesRecorded, batches_keep}
 use Rattle.protocol_laws.proofs.first.Lists.{all_found, all_join, some_is}
 use Rattle.protocol_laws.proofs.first.Statuses.{value_some}
 
 -- ---- what committed of a batch is among its PACTs
-
-pub record IsDonePact (k : ℕ) (d : Done) (p : Pact) : Type 0 where
-  pub tid : d.tid ≡ p.tid
-  pub tx : d.tx ≡ p.tx
-  pub place : d.place ≡ pact_place k p.tid
-  pub result : d.result ≡ p.result
-  pub ended : is_some p.result ≡ true
-
-abbrev pub AnyPact : (Pact → Type 0) → List Pact → Type 0
-AnyPact P [] = ⊥
-AnyPact P (p ∷ ps) = P p ⊎ AnyPact P ps
-
-pub record PactFrom (bs : List Batch) (keep : List Who) (k : ℕ) (d : Done) : Type 0 where
-  pub kept : is_kept (OfBatch k) keep ≡ true
-  pub is_it : EachBatch (λ j b. j ≡ k → AnyPact (IsDonePact k d) b.pacts) bs
-
-abbrev pub FromBatches : List Batch → List Who → List Done → Type 0
-FromBatches bs kept ds = AllByRecursion (λ d. (k : ℕ) → d.who ≡ OfBatch k → PactFrom bs kept k d) ds
 
 unfoldable pub PactsFrom : {C : Type 0} → Machine C → History → Type 0
 PactsFrom s h = FromBatches s.desk.batches h.kept h.committed
@@ -258,7 +240,7 @@ pact_is_told n k v P cs b (c ∷ bs) t u e a l = by (c.bid == k) e (pact_is_told
 -- ---- the quiet state
 
 -- no cascade covers it
-no_cascade : (k : ℕ) (cs : List Cascade) → is_aborted k cs ≡ false → find (covers k) cs ≡ None
+pub no_cascade : (k : ℕ) (cs : List Cascade) → is_aborted k cs ≡ false → find (covers k) cs ≡ None
 no_cascade k [] e = refl
 no_cascade k (c ∷ cs) e = let p = or_parts (covers k c) (is_aborted k cs) e in rw p.0 (no_cascade k cs p.1)
 
@@ -286,12 +268,6 @@ settle_allowed : {C : Type 0} (w : Fixed C) (k : ℕ) (s : Machine C) (b : Batch
 unfolding conditions
 settle_allowed w k s b e c n r = (ap (holds (λ b. is_committing b.stage && not b.aborted)) e ∙ and_from (is_committing b.stage) (not b.aborted) c (ap not n), (r, tt))
 
-at_placed : (c : ℕ) (st : Status) → is_at c st ≡ true → is_ordered st ≡ true
-at_placed c Live e = e
-at_placed c (Doomed v) e = e
-at_placed c (Decided d) e = refl
-at_placed c (Sealed d) e = refl
-
 sum_of : {C : Type 0} (w : Fixed C) (n : ℕ) (s : Machine C) → TransactionsInOnePlace w s → times n (flat (txs_of s.desk.batches)) + times n (map (λ x. x.tx) s.book.acts) ≤ 1
 sum_of w n s t = omega (arith, t n, bound (once_in 0 s.ring.next_tx n) (one _), Times.times_append n (flat s.ring.pacts ++ flat s.ring.acts) (flat (txs_of s.desk.batches) ++ map (λ x. x.tx) s.book.acts), Times.times_append n (flat (txs_of s.desk.batches)) (map (λ x. x.tx) s.book.acts))
   where
@@ -306,7 +282,7 @@ abbrev pub IsTold : {C : Type 0} → Machine C → Done → Type 0
 IsTold s d = verdict d.tx s.book s.desk ≡ ended_at d.place d.result
 
 -- an ACT
-act_told : {C : Type 0} (w : Fixed C) (s : Machine C) (t : ℕ) (d : Done) (x : Act) → IsQuiet w s → TransactionsInOnePlace w s → ActsRecorded w s → act_of t s.book.acts ≡ Some x → Rattle.protocol_laws.proofs.machine.ActsTold.IsDone d x → IsTold s d
+act_told : {C : Type 0} (w : Fixed C) (s : Machine C) (t : ℕ) (d : Done) (x : Act) → IsQuiet w s → TransactionsInOnePlace w s → ActsRecorded w s → act_of t s.book.acts ≡ Some x → Rattle.protocol_laws.specs.Told.IsDone d x → IsTold s d
 unfolding ActsRecorded
 act_told w s t d x q o r e i =
     let sealed : is_decided x.status ≡ false = false_from_ne_true (is_decided x.status) (λ f. q (Seal t) (seal_allowed w t s x e f (records.quiet_durable w s (is_act_commit t) (t % w.text.logs) q ((r t x e).0 (at_placed i.c x.status i.at) ((r t x e).1 f))))) in
@@ -346,10 +322,10 @@ pub all_told : {C : Type 0} (w : Fixed C) (s : Machine C) (h : History) → IsQu
 unfolding AllFrom PactsFrom Known
 all_told w s h q o g m kn ra rb fa fp = each h.committed fa fp
   where
-    one : (d : Done) → ((t : ℕ) → d.who ≡ OfAct t → Rattle.protocol_laws.proofs.machine.ActsTold.DoneFrom s.book.acts t d) → ((k : ℕ) → d.who ≡ OfBatch k → PactFrom s.desk.batches h.kept k d) → (y : Who) → d.who ≡ y → IsTold s d
+    one : (d : Done) → ((t : ℕ) → d.who ≡ OfAct t → Rattle.protocol_laws.specs.Told.DoneFrom s.book.acts t d) → ((k : ℕ) → d.who ≡ OfBatch k → PactFrom s.desk.batches h.kept k d) → (y : Who) → d.who ≡ y → IsTold s d
     one d a b (OfBatch k) e = let f = b k e in let c = some_is (batch_of k s.desk.batches) (kn k f.kept) in pact_told w s h k d c.0 q o g m rb c.1 f
     one d a b (OfAct t) e = let f = a t e in let x = some_is (act_of t s.book.acts) f.there in act_told w s t d x.0 q o ra x.1 (f.is_it t x.0 x.1 refl)
 
-    each : (ds : List Done) → AllByRecursion (λ d. (t : ℕ) → d.who ≡ OfAct t → Rattle.protocol_laws.proofs.machine.ActsTold.DoneFrom s.book.acts t d) ds → FromBatches s.desk.batches h.kept ds → AllByRecursion (λ d. IsTold s d) ds
+    each : (ds : List Done) → AllByRecursion (λ d. (t : ℕ) → d.who ≡ OfAct t → Rattle.protocol_laws.specs.Told.DoneFrom s.book.acts t d) ds → FromBatches s.desk.batches h.kept ds → AllByRecursion (λ d. IsTold s d) ds
     each [] a b = tt
     each (d ∷ ds) a b = (one d a.0 b.0 d.who refl, each ds a.1 b.1)

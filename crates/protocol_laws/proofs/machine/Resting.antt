@@ -160,7 +160,7 @@ new_ready : {C : Type 0} (w : Fixed C) (s : Machine C) (bs : List Batch) (low : 
 new_ready w s bs low [] l h = tt
 new_ready w s bs low (p ∷ ps) l h = (h p.tid l.0, new_ready w s bs low ps l.1 h)
 
-numbered_from : (t u : ℕ) (ns : List ℕ) → t ≤ u → AllByRecursion (λ p. t ≤ p.tid) (ring.numbered u ns)
+pub numbered_from : (t u : ℕ) (ns : List ℕ) → t ≤ u → AllByRecursion (λ p. t ≤ p.tid) (ring.numbered u ns)
 numbered_from t u [] l = tt
 numbered_from t u (n ∷ ns) l = (l, numbered_from t (u + 1) ns (omega (arith, l)))
 

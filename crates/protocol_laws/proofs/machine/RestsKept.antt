@@ -1,5 +1,5 @@
 -- A PACT is not done where its control rests, event by event; so a slice runs only of a PACT that is not done there.
-use Rattle.std.specs.Prelude.{◌≡◌, refl, ℕ, ◌+◌, ◌≤◌, ◌<◌, ◌==◌, Bool, true, false, if◌then◌else◌, Option, Some, None, is_some, List, [], ◌∷◌, length, take}
+use Rattle.std.specs.Prelude.{◌≡◌, refl, ℕ, ◌≤◌, ◌<◌, ◌==◌, Bool, true, false, if◌then◌else◌, Option, Some, None, is_some, List, [], ◌∷◌, length, take}
 use Rattle.std.specs.List.{AllByRecursion, list_any}
 use Rattle.std.proofs.Common.{arith, sym, ap, subst, inl, inr, ◌∙◌}
 use Rattle.std.proofs.lemmas.Bool.{eqb-true, eq-eqb, ne_eqb, or_cases, true≢false}
@@ -21,7 +21,7 @@ use Rattle.protocol_laws.proofs.machine.ControlWalk
 use Rattle.protocol_laws.proofs.machine.ControlWalk.{AllControls, Ready}
 use Rattle.protocol_laws.proofs.machine.TracksKept.{held}
 use Rattle.protocol_laws.proofs.machine.TrailsKept.{Told, at_most_one, drawn, begun_below, new_tids}
-use Rattle.protocol_laws.proofs.machine.Resting.{EachPact, Drawn, NoneNoted, no_result, undone_stays, goes_on_undone}
+use Rattle.protocol_laws.proofs.machine.Resting.{EachPact, Drawn, NoneNoted, no_result, undone_stays, goes_on_undone, numbered_from}
 use Rattle.protocol.specs.Rests.{IsTxIn}
 use Rattle.protocol_laws.proofs.first.Lists.{all_found}
 
@@ -64,10 +64,6 @@ first_rests : {C : Type 0} (w : Fixed C) (s : Machine C) (txs : ℕ → ℕ) (lo
     → AllByRecursion (λ q. RestsAt w s (txs q.tid) q.tid (Go (root (tx_at w.text q.tx)) (w.code.start q.tid (tx_at w.text q.tx)))) ps
 first_rests w s txs low [] l f = tt
 first_rests w s txs low (p ∷ ps) l f = (λ q i r. f p.tid l.0 i, first_rests w s txs low ps l.1 f)
-
-numbered_from : (t u : ℕ) (ns : List ℕ) → t ≤ u → AllByRecursion (λ p. t ≤ p.tid) (ring.numbered u ns)
-numbered_from t u [] l = tt
-numbered_from t u (n ∷ ns) l = (l, numbered_from t (u + 1) ns (omega (arith, l)))
 
 -- no event but these marks PACTs, and none but these begins or goes on with trails
 pub kept : {C : Type 0} (w : Fixed C) (Of : Tx → C → Type 0) (finish : C → List State → Alone) (e : Event) (s : Machine C) (h : History) → Facts (length w.text.opening.states) w.code (IsTxIn w.text) Of finish → IsAllowed w e s → controls.HeldIn s → Drawn s → FromDesk s

@@ -9,7 +9,7 @@ use Rattle.snap_base.specs.declared.transactions.TxResult.{TxResult}
 use Rattle.protocol.specs.Fixed.{Fixed, Next, Go, Ended, tx_at, is_pact}
 use Rattle.protocol.specs.Parts.{Pact, Batch, Slot, Committing, Settled, OfBatch, OfAct, Entry, BatchEntry, ActEntry, Waiting, Outcome, Machine}
 use Rattle.protocol.specs.Events.{Event, Form, End, Note, Commit, Settle, Abort, Trim}
-use Rattle.protocol.specs.Words.{holds, is_value, is_formed, is_committing, names_pact, batch_of, waiting_of, outcome_of, has_act, is_entry_of, who_on}
+use Rattle.protocol.specs.Words.{is_value, is_formed, is_committing, names_pact, batch_of, waiting_of, outcome_of, has_act, is_entry_of, who_on}
 use Rattle.protocol.specs.Conditions.{IsAllowed, conditions}
 use Rattle.protocol.specs.Effects.{after, cell_at}
 use Rattle.protocol.specs.Facts.{Alone, Facts}
@@ -28,6 +28,7 @@ use Rattle.protocol_laws.proofs.machine.RestsKept.{Rests, runs_undone}
 use Rattle.protocol.specs.Rests.{IsTxIn}
 use Rattle.protocol_laws.proofs.first.Lists.{all_found}
 use Rattle.protocol_laws.proofs.first.Statuses.{committing_not_formed, if_bid}
+use Rattle.protocol_laws.proofs.machine.MarksKept.{held_of}
 
 abbrev pub has_results : List Pact → Bool
 has_results ps = list_all (λ p. is_some p.result) ps
@@ -57,9 +58,6 @@ same v f c b p q e h n = by v e
     by : (v : Bool) → desk.change_if v f c ≡ b → has_results b.pacts ≡ true
     by true e = subst (λ z. has_results z.pacts ≡ true) e (rw p (h (ap is_formed (sym q) ∙ (ap (λ z. is_formed z.stage) e ∙ n))))
     by false e = subst (λ z. has_results z.pacts ≡ true) e (h (ap (λ z. is_formed z.stage) e ∙ n))
-
-held_of : (p : Batch → Bool) (k j : ℕ) (b : Batch) (bs : List Batch) → batch_of j bs ≡ Some b → holds p (batch_of k bs) ≡ true → k ≡ j → p b ≡ true
-held_of p k j b bs e h q = subst (λ o. holds p o ≡ true) (ap (λ z. batch_of z bs) q ∙ e) h
 
 pub valued_kept : {C : Type 0} (w : Fixed C) (e : Event) (s : Machine C) → IsAllowed w e s → Valued s → Valued (after w e s)
 unfolding Valued conditions after
@@ -107,7 +105,7 @@ has_one t (p ∷ ps) e h g =
     let q = and_parts (is_some p.result) (has_results ps) h in
     elim (or_cases (p.tid == t) (list_any (λ p. p.tid == t) ps) e) [ inl v ↦ true≢false (sym q.0 ∙ ap is_some (g.0 (eqb-true p.tid t v))) | inr v ↦ has_one t ps v q.1 g.1 ]
 
-found_all : (P : Batch → Type 0) (k : ℕ) (b : Batch) (bs : List Batch) → batch_of k bs ≡ Some b → AllByRecursion P bs → P b
+pub found_all : (P : Batch → Type 0) (k : ℕ) (b : Batch) (bs : List Batch) → batch_of k bs ≡ Some b → AllByRecursion P bs → P b
 found_all P k b bs e h = (all_found P (λ b. b.bid == k) bs b h e).0
 
 -- its batch did not commit

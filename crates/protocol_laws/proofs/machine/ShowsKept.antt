@@ -83,7 +83,7 @@ spared e s h n u o f = tt
 pub fixed_stays : {C : Type 0} (w : Fixed C) (e : Event) (s : Machine C) (h : History) (n u : ℕ) → Owed e s h → holds (is_fixed n) (act_of u s.book.acts) ≡ true → holds (is_fixed n) (act_of u (after w e s).book.acts) ≡ true
 fixed_stays w e s h n u o f = stays_decided w e s n u (spared e s h n u o f) f
 
-kept_join : (y : Who) (kept more : List Who) → is_kept y kept ≡ true → is_kept y (kept ++ more) ≡ true
+pub kept_join : (y : Who) (kept more : List Who) → is_kept y kept ≡ true → is_kept y (kept ++ more) ≡ true
 kept_join y [] more h = absurd (true≢false (sym h))
 kept_join y (x ∷ xs) more h = elim (or_cases (is_who x y) (is_kept y xs) h) [ inl e ↦ or_left (is_who x y) _ e | inr e ↦ or_right (is_who x y) _ (kept_join y xs more e) ]
 

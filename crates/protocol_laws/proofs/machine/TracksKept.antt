@@ -112,7 +112,7 @@ run w t a c long q n h =
     by true = TrackLists.entries_done t c.entries
     by false = refl
 
-filter_same : {X : Type 0} (p q : X → Bool) (xs : List X) → ((x : X) → p x ≡ q x) → filter p xs ≡ filter q xs
+pub filter_same : {X : Type 0} (p q : X → Bool) (xs : List X) → ((x : X) → p x ≡ q x) → filter p xs ≡ filter q xs
 filter_same p q [] h = refl
 filter_same p q (x ∷ xs) h = rw (h x, filter_same p q xs h) refl
 

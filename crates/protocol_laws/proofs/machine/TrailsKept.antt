@@ -17,13 +17,13 @@ use Rattle.protocol.specs.Numbers.{times, once_in, controls_in}
 use Rattle.protocol.specs.OnRing as ring
 use Rattle.protocol.specs.OnPost as post
 use Rattle.protocol.specs.History.{History, Step, Trail, grown, begun, gone_on}
+use Rattle.protocol_laws.specs.Told.{PactsAscend}
 use Rattle.protocol_laws.specs.Tracks.{Linked}
 use Rattle.protocol_laws.specs.Trails.{Walks, walked, IsOf, Explained, on_actor}
 use Rattle.protocol_laws.proofs.first.Times
 use Rattle.protocol_laws.proofs.first.Controls as controls
 use Rattle.protocol_laws.proofs.machine.ControlWalk
 use Rattle.protocol_laws.proofs.machine.ControlWalk.{AllControls, Ready}
-use Rattle.protocol_laws.proofs.machine.CommitLists.{PactsAscend}
 use Rattle.protocol_laws.proofs.machine.TracksKept.{held}
 use Rattle.protocol.specs.Rests.{IsTxIn}
 use Rattle.protocol_laws.proofs.machine.QueuedText.{IsThere, Queued, is_in, next_there, act_there}
@@ -39,7 +39,7 @@ walked_more : (xs : List Step) (x : Step) (world : List State) → walked (xs ++
 walked_more [] x world = refl
 walked_more (y ∷ ys) x world = walked_more ys x (slice_set world y.actor y.left)
 
-walked_length : (xs : List Step) (world : List State) → length (walked xs world) ≡ length world
+pub walked_length : (xs : List Step) (world : List State) → length (walked xs world) ≡ length world
 walked_length [] world = refl
 walked_length (x ∷ xs) world = walked_length xs (slice_set world x.actor x.left) ∙ Times.length_set world x.actor x.left
 

@@ -84,7 +84,7 @@ same_turns k (Gone y ss ∷ rs) es h = same_turns k rs es h
 same_turns k (Stands y c ss ∷ rs) [] h = absurd h
 same_turns k (Stands y c ss ∷ rs) (e ∷ es) h = (h.0, h.1, same_turns k rs es h.2)
 
-is_batch : (k : ℕ) (e : Entry) → is_batch_entry k e ≡ is_who (who_of e) (OfBatch k)
+pub is_batch : (k : ℕ) (e : Entry) → is_batch_entry k e ≡ is_who (who_of e) (OfBatch k)
 is_batch k (BatchEntry b) = refl
 is_batch k (ActEntry x) = refl
 

@@ -18,11 +18,12 @@ use Rattle.protocol.specs.Runs.{IsRun, reached}
 use Rattle.protocol.specs.Verdicts.{pact_place, act_place}
 use Rattle.protocol.specs.History.{Done, History, history, grown, done_pact, done_batch, done_act}
 use Rattle.protocol.specs.Chains.{chain, is_place_below, IsBelowAll, PlacesRise}
+use Rattle.protocol_laws.specs.Told.{is_at, DoneFrom}
 use Rattle.protocol_laws.specs.Rising.{number_of, visitors, visits}
 use Rattle.protocol_laws.specs.OrderCases.{has_number, OwnPlace, EachBehind, BatchBehindAct, ActBehindBatch, ActBehindAct, BatchBehindBatch, CasesHold}
 use Rattle.protocol_laws.proofs.first.Lists.{all_join, all_filter, weaker, both_all}
 use Rattle.protocol_laws.proofs.machine.ActsFound as acts
-use Rattle.protocol_laws.proofs.machine.ActsTold.{is_at, DoneFrom, AllFrom}
+use Rattle.protocol_laws.proofs.machine.ActsTold.{AllFrom}
 use Rattle.protocol_laws.proofs.machine.Good.{Given}
 use Rattle.protocol_laws.proofs.machine.AllGood.{all_good, along_good, none_allowed}
 use Rattle.protocol_laws.proofs.machine.Higher.{places_rise}

@@ -166,7 +166,7 @@ batch_none : (k a : ℕ) (h : History) (ps : List Pact) → is_key_among (OfBatc
 batch_none k a h [] e = refl
 batch_none k a h (p ∷ ps) e = rw (view_none p.tid (OfBatch k) (h.long a) e) (batch_none k a h ps e)
 
-batch_of_it : (k : ℕ) (h : History) (ps : List Pact) → OfIt (OfBatch k) (map (done_pact k h) ps)
+pub batch_of_it : (k : ℕ) (h : History) (ps : List Pact) → OfIt (OfBatch k) (map (done_pact k h) ps)
 batch_of_it k h [] = tt
 batch_of_it k h (p ∷ ps) = (refl, batch_of_it k h ps)
 

@@ -9,7 +9,7 @@ use Rattle.snap_base.specs.declared.transactions.TxResult.{TxResult}
 use Rattle.protocol.specs.Fixed.{Fixed, Next, Go, Ended, no_state}
 use Rattle.protocol.specs.Facts.{Alone, Facts}
 use Rattle.protocol.specs.Parts.{Act, Pact, Batch, Who, OfBatch, OfAct, Waiting, Outcome, Machine}
-use Rattle.protocol.specs.Events.{Event, Form, Admit, Arrive, Ask, Take, Run, Send, End, Close, Complete, Commit, Rollback, Decide, Finish, Trim}
+use Rattle.protocol.specs.Events.{Event, Form, Admit, Run, End, Commit, Decide}
 use Rattle.protocol.specs.Words.{holds, is_value, is_open, is_next_to_commit, is_live_status, names_pact, has_act, waiting_of, outcome_of}
 use Rattle.protocol.specs.Contents.{ActTids, ActResults}
 use Rattle.protocol.specs.Conditions.{IsAllowed, conditions, queue}
@@ -23,7 +23,6 @@ use Rattle.protocol.specs.History.{History, Trail, Step, Slice, grown, with_at, 
 use Rattle.protocol_laws.specs.Turns.{Rising}
 use Rattle.protocol_laws.specs.Trails.{Explained, on_actor}
 use Rattle.protocol_laws.specs.Linked.{IsExplained}
-use Rattle.protocol_laws.proofs.first.Times
 use Rattle.protocol_laws.proofs.first.Frames.{frame}
 use Rattle.protocol_laws.proofs.first.Lists.{all_join, all_alike, all_found, weaker, both_all}
 use Rattle.protocol_laws.proofs.machine.TracksKept.{Tracked, held, in_range}
@@ -38,6 +37,7 @@ use Rattle.protocol_laws.proofs.order.RunsBefore.{is_open_with}
 use Rattle.protocol_laws.proofs.order.SlicesKept.{runs, Matched}
 use Rattle.protocol_laws.proofs.order.ViewsExplain.{Tied, own_slices, own_linked, views_explain}
 use Rattle.protocol.specs.Rests.{IsTxIn}
+use Rattle.protocol_laws.proofs.first.RangesNamed.{cells_stay}
 
 -- ---- results
 
@@ -85,21 +85,6 @@ begun_within n t (p ∷ ps) f h = by (t == p.tid) (begun_within n t ps f h)
 new_ends : {C : Type 0} (w : Fixed C) (Of : Tx → C → Type 0) (finish : C → List State → Alone) (trails : ℕ → Trail) (t : ℕ) (ns : List ℕ) → AllByRecursion (λ p. EndsAs w Of finish trails p.tid p.result) (ring.numbered t ns)
 new_ends w Of finish trails t [] = tt
 new_ends w Of finish trails t (n ∷ ns) = (λ r q. absurd (cc q), new_ends w Of finish trails (t + 1) ns)
-
-cells_stay : {C : Type 0} (w : Fixed C) (e : Event) (s : Machine C) → length (after w e s).cells ≡ length s.cells
-unfolding after
-cells_stay w (Arrive k a) s = Times.length_set s.cells a _
-cells_stay w (Ask t a) s = Times.length_set s.cells a _
-cells_stay w (Take t a) s = Times.length_set s.cells a _
-cells_stay w (Run t a) s = Times.length_set s.cells a _
-cells_stay w (Send t a) s = Times.length_set s.cells a _
-cells_stay w (End t a) s = Times.length_set s.cells a _
-cells_stay w (Close t a) s = Times.length_set s.cells a _
-cells_stay w (Complete k a) s = Times.length_set s.cells a _
-cells_stay w (Rollback a) s = Times.length_set s.cells a _
-cells_stay w (Finish t a) s = Times.length_set s.cells a _
-cells_stay w (Trim k a) s = Times.length_set s.cells a _
-cells_stay w e s = refl
 
 same_acts : {C : Type 0} (w : Fixed C) (Of : Tx → C → Type 0) (finish : C → List State → Alone) (trails : ℕ → Trail) (xs ys : List Act) → map (λ x. x.tid) ys ≡ map (λ x. x.tid) xs → map (λ x. x.result) ys ≡ map (λ x. x.result) xs
     → AllByRecursion (λ x. EndsAs w Of finish trails x.tid x.result) xs → AllByRecursion (λ x. EndsAs w Of finish trails x.tid x.result) ys
@@ -202,7 +187,7 @@ with_value : (o : Option TxResult) → is_value o ≡ true → (r : TxResult) ×
 with_value None e = absurd (true≢false (sym e))
 with_value (Some r) e = (r, refl)
 
-with_result_of : (o : Option TxResult) → is_some o ≡ true → (r : TxResult) × (o ≡ Some r)
+pub with_result_of : (o : Option TxResult) → is_some o ≡ true → (r : TxResult) × (o ≡ Some r)
 with_result_of None e = absurd (true≢false (sym e))
 with_result_of (Some r) e = (r, refl)
 

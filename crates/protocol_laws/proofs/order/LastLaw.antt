@@ -21,9 +21,10 @@ use Rattle.protocol_laws.proofs.order.ArrivesOnce as once
 use Rattle.protocol_laws.proofs.order.OwedHolds.{owed}
 use Rattle.protocol_laws.proofs.order.OrderLaw.{Ordered, Told, PlacesHold, WhenQuiet, facts, quiet_state}
 use Rattle.protocol_laws.proofs.order.OrderLaw as order
-use Rattle.protocol_laws.proofs.order.OrderImplied.{order_stands, order_holds, map_length}
+use Rattle.protocol_laws.proofs.order.OrderImplied.{order_stands, order_holds}
 use Rattle.protocol.specs.Rests.{IsRest, IsTxIn, HasFacts}
 use Rattle.protocol.specs.Laws.{AfterEveryRunWithHistory}
+use Rattle.protocol_laws.proofs.first.Times.{length_map}
 
 -- ---- all of it, along a run
 
@@ -98,7 +99,7 @@ quiet_facts {C} w Of finish es f t run q = by es run q (length w.text.opening.st
           all_told = q.all_told;
           quiet_states = λ i a k. quiet_state w (reached w es) (history w es) a g.good.tracked g.good.committed (q.all_kept i a k);
         }
-    by [] run q zero l = record { cells = map_length (new_cell _) w.text.opening.states; all_told = λ i. tt; quiet_states = λ i a k. absurd (omega (arith, k, l)) }
+    by [] run q zero l = record { cells = length_map (new_cell _) w.text.opening.states; all_told = λ i. tt; quiet_states = λ i a k. absurd (omega (arith, k, l)) }
     by (e ∷ es) run q zero l = absurd (none_allowed w e t l run.0)
 
 pub whole_order_of_runs : {C : Type 0} (w : Fixed C) (finish : C → List State → Alone) (es : List Event) → HasFacts w finish → IsText w.text → IsRun w es → WhenQuiet w (reached w es) (history w es) → OrderHolds w finish (reached w es) (history w es)

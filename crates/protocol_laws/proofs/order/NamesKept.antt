@@ -18,12 +18,12 @@ use Rattle.protocol.specs.OnPost.{next_act}
 use Rattle.protocol.specs.OnCell as cell
 use Rattle.protocol.specs.OnCell.{is_cut}
 use Rattle.protocol.specs.History.{History, Trail, Slice, Ran, Stands, Gone, grown, with_at, begun, owned_by, not_run, ran_in, completed, left_for_good, without_standing, long_staying, asks}
+use Rattle.protocol_laws.specs.Told.{PactsAscend}
 use Rattle.protocol_laws.specs.Tracks.{key_of, keys_in}
 use Rattle.protocol_laws.specs.FromDesk.{is_pact_of, EntryOf}
 use Rattle.protocol_laws.proofs.first.Frames.{frame}
 use Rattle.protocol_laws.proofs.first.Lists.{all_join, weaker, all_alike, all_alike3, all_found}
 use Rattle.protocol_laws.proofs.machine.CommitsKept.{beside_carried}
-use Rattle.protocol_laws.proofs.machine.CommitLists.{PactsAscend}
 use Rattle.protocol_laws.proofs.machine.TrailsKept.{begun_below, new_tids}
 use Rattle.protocol_laws.proofs.machine.TurnsKept.{one_is}
 

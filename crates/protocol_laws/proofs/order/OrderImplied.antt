@@ -16,6 +16,7 @@ use Rattle.protocol_laws.specs.Linked.{came_to, visitors, Agrees, IsExplained}
 use Rattle.protocol_laws.specs.Order.{OrderFacts, QuietFacts, OrderStands, OrderHolds}
 use Rattle.protocol_laws.proofs.order.Worlds.{same_world}
 use Rattle.protocol_laws.proofs.order.ByPlace.{filter_sorted, all_sorted, rises_sorted}
+use Rattle.protocol_laws.proofs.first.Times.{length_map}
 
 -- ---- linked transactions are serial in this order
 
@@ -65,7 +66,7 @@ pub no_view : (o : Option View) → is_some o ≡ false → o ≡ None
 no_view None e = refl
 no_view (Some v) e = absurd (true≢false e)
 
-left_none : (b : Bool) (s : State) → left_as b None s ≡ s
+pub left_none : (b : Bool) (s : State) → left_as b None s ≡ s
 left_none true s = refl
 left_none false s = refl
 
@@ -105,10 +106,6 @@ sorted_last a s ds r = sym (last_visitors a s (by_place ds)) ∙ (ap (last_state
 
 -- ---- all together
 
-pub map_length : {X Y : Type 0} (f : X → Y) (xs : List X) → length (map f xs) ≡ length xs
-map_length f [] = refl
-map_length f (x ∷ xs) = rw (map_length f xs) refl
-
 state_of : {C : Type 0} (cs : List (Cell C)) (a : ℕ) → state_in (map (λ c. c.state) cs) a ≡ (slice_index_or cs a no_cell).state
 state_of [] a = refl
 state_of (c ∷ cs) zero = refl
@@ -135,11 +132,11 @@ order_stands w finish s h f = record {
 pub last_states : {C : Type 0} (w : Fixed C) (finish : C → List State → Alone) (s : Machine C) (h : History) → OrderFacts w finish s h → length s.cells ≡ length w.text.opening.states
     → ((a : ℕ) → a < length w.text.opening.states → (slice_index_or s.cells a no_cell).state ≡ last_state a (state_in w.text.opening.states a) h.committed) → map (λ c. c.state) s.cells ≡ (serial_run w finish h.committed).world
 last_states {C} w finish s h f cells q = same_world (map (λ c. c.state) s.cells) (serial_run w finish h.committed).world
-    (map_length (λ c. c.state) s.cells ∙ (cells ∙ sym (serial_length w finish (by_place h.committed) w.text.opening.states refl (explained_sorted w finish s h f) (linked_sorted w finish s h f)))) at_each
+    (length_map (λ c. c.state) s.cells ∙ (cells ∙ sym (serial_length w finish (by_place h.committed) w.text.opening.states refl (explained_sorted w finish s h f) (linked_sorted w finish s h f)))) at_each
   where
     at_each : (a : ℕ) → a < length (map (λ c. c.state) s.cells) → state_in (map (λ c. c.state) s.cells) a ≡ state_in (serial_run w finish h.committed).world a
     at_each a l =
-        let k : a < length w.text.opening.states = omega (arith, l, map_length (λ c. c.state) s.cells, cells) in
+        let k : a < length w.text.opening.states = omega (arith, l, length_map (λ c. c.state) s.cells, cells) in
         state_of s.cells a ∙ (q a k ∙ (sym (sorted_last a (state_in w.text.opening.states a) h.committed (f.rise a k)) ∙ sym (serial_states w finish (by_place h.committed) w.text.opening.states refl (explained_sorted w finish s h f) (linked_sorted w finish s h f) a k)))
 
 pub order_holds : {C : Type 0} (w : Fixed C) (finish : C → List State → Alone) (s : Machine C) (h : History) → OrderFacts w finish s h → QuietFacts w s h → OrderHolds w finish s h

@@ -35,8 +35,8 @@ use Rattle.protocol_laws.proofs.order.ExplainedKept.{Results, NoActResult, AllEx
 use Rattle.protocol_laws.proofs.order.ExplainedKept as explained
 use Rattle.protocol_laws.proofs.order.ChainsKept.{Chained, Owes}
 use Rattle.protocol_laws.proofs.order.ChainsKept as chains
-use Rattle.protocol_laws.proofs.order.OrderImplied.{map_length}
 use Rattle.protocol_laws.proofs.first.Lists.{join_nil, join_assoc}
+use Rattle.protocol_laws.proofs.first.Times.{length_map}
 
 -- ---- what is owed at each event
 
@@ -75,7 +75,7 @@ unfolding Matched AllExplained
 opened {C} w Of finish v = record {
   named = record { pacts = tt; acts = tt; standing = λ a. tt };
   matched = λ who t r a. refl;
-  results = record { cells = map_length (new_cell _) w.text.opening.states; within = λ t. tt; pacts = tt; acts = tt };
+  results = record { cells = length_map (new_cell _) w.text.opening.states; within = λ t. tt; pacts = tt; acts = tt };
   explained = tt;
   chained = record { over = tt; drawn = λ a. tt; stands = λ t a l p. absurd (Rattle.std.proofs.lemmas.Bool.true≢false (sym l)); chains = λ a. record { once = tt; in_order = tt; front = tt; chain = refl } };
 }

@@ -1,5 +1,5 @@
 -- What a transaction's slices explain, its views explain.
-use Rattle.std.specs.Prelude.{◌≡◌, refl, ℕ, ◌<◌, ◌≤◌, ◌==◌, Bool, true, false, if◌then◌else◌, Option, Some, None, List, [], ◌∷◌, length, filter, slice_set}
+use Rattle.std.specs.Prelude.{◌≡◌, refl, ℕ, ◌<◌, ◌≤◌, ◌==◌, Bool, true, false, if◌then◌else◌, Option, Some, None, List, [], ◌∷◌, length, filter}
 use Rattle.std.specs.List.{AllByRecursion}
 use Rattle.std.proofs.Common.{arith, sym, ap, subst, inl, inr, ◌∙◌}
 use Rattle.std.proofs.lemmas.Bool.{eqb-true, eqb-false, ne_eqb, cases_lt}
@@ -17,9 +17,8 @@ use Rattle.protocol_laws.specs.Turns.{Rising}
 use Rattle.protocol_laws.specs.Trails.{walked, Explained, on_actor}
 use Rattle.protocol_laws.specs.Commits.{Finds, left_by, left_as}
 use Rattle.protocol_laws.specs.Linked.{Agrees, IsExplained}
-use Rattle.protocol_laws.proofs.first.Times
 use Rattle.protocol_laws.proofs.machine.TrackLists.{linked_parts}
-use Rattle.protocol_laws.proofs.machine.TrailsKept.{walks_from}
+use Rattle.protocol_laws.proofs.machine.TrailsKept.{walks_from, walked_length}
 use Rattle.protocol.specs.Rests.{IsTxIn}
 
 -- ---- the slices of one, among those of a batch in the order of tids
@@ -83,10 +82,6 @@ own_linked who first last (Stands y c ss ∷ rs) l = let p = linked_parts first 
 none_outside : (a t n : ℕ) (xs : List Step) → n ≤ a → AllByRecursion (λ x. x.actor < n) xs → on_actor a t xs ≡ []
 none_outside a t n [] l h = refl
 none_outside a t n (x ∷ xs) l h = rw (ne_eqb x.actor a (λ q. omega (arith, q, l, h.0))) (none_outside a t n xs l h.1)
-
-walked_length : (xs : List Step) (world : List State) → length (walked xs world) ≡ length world
-walked_length [] world = refl
-walked_length (x ∷ xs) world = walked_length xs (slice_set world x.actor x.left) ∙ Times.length_set world x.actor x.left
 
 -- ---- a transaction at its end
 

@@ -190,7 +190,7 @@ sealed w s t x h = by x.status h.ended h.left
 pub AllFit : {C : Type 0} → Fixed C → Machine C → Type 0
 AllFit w s = EachAct (Fit w s) s.book.acts
 
-in_logs : {C : Type 0} (w : Fixed C) (s : Machine C) (n : ℕ) → 1 ≤ w.text.logs → length s.logs ≡ w.text.logs → n % w.text.logs < length s.logs
+pub in_logs : {C : Type 0} (w : Fixed C) (s : Machine C) (n : ℕ) → 1 ≤ w.text.logs → length s.logs ≡ w.text.logs → n % w.text.logs < length s.logs
 in_logs w s n l e = subst (λ z. n % w.text.logs < z) (sym e) (Rattle.std.proofs.Math.Nat.mod-lt n l)
 
 kept : {C : Type 0} (w : Fixed C) (e : Event) (s : Machine C) → 1 ≤ w.text.logs → length s.logs ≡ w.text.logs → IsAllowed w e s → EachAct (Fit w (after w e s)) s.book.acts → AllFit w (after w e s)

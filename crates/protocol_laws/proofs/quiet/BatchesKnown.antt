@@ -22,9 +22,10 @@ use Rattle.protocol_laws.proofs.first.Kept.{batch_marked_kept}
 use Rattle.protocol_laws.proofs.first.Times
 use Rattle.protocol_laws.proofs.machine.MarksKept.{found_bid, found_mapped, found_more}
 use Rattle.protocol_laws.proofs.machine.TracksKept.{held}
-use Rattle.protocol_laws.proofs.quiet.ActsKnown.{IsIn, stays, there_now, one_of}
+use Rattle.protocol_laws.proofs.quiet.ActsKnown.{IsIn, stays, there_now, one_of, in_logs}
 use Rattle.protocol_laws.proofs.first.Lists.{all_drop, all_filter, all_get, all_join, all_map, any_take, weaker}
 use Rattle.protocol_laws.proofs.first.Statuses.{committing_not_formed, if_bid}
+use Rattle.protocol_laws.proofs.first.EpochsKept.{below_all}
 
 -- ---- each batch that is found
 
@@ -155,10 +156,6 @@ times_filter a p (x ∷ xs) = by (p x) (times_filter a p xs)
     by true l = omega (arith, l, Times.times_cons a x xs, Times.times_cons a x (filter p xs))
     by false l = omega (arith, l, Times.times_cons a x xs)
 
-below_less : (n : ℕ) → AllByRecursion (λ a. a < n) (below n)
-below_less zero = tt
-below_less (suc n) = all_join (λ a. a < suc n) (below n) (n ∷ []) (weaker (λ a. a < n) (λ a. a < suc n) (below n) (λ a l. omega (arith, l)) (below_less n)) (omega arith, tt)
-
 none_there : (a : ℕ) (xs : List ℕ) → AllByRecursion (λ x. x < a) xs → times a xs ≡ 0
 none_there a [] h = refl
 none_there a (x ∷ xs) h = omega (arith, Times.times_cons a x xs, none_there a xs h.1, ap one_if (Rattle.std.proofs.lemmas.Bool.ne_eqb x a (λ q. omega (arith, q, h.0))))
@@ -166,7 +163,7 @@ none_there a (x ∷ xs) h = omega (arith, Times.times_cons a x xs, none_there a 
 pub one_below : (n a : ℕ) → times a (below n) ≤ 1
 one_below zero a = omega arith
 one_below (suc n) a = elim (cases_Bool (n == a)) [
-  | inl e ↦ let q : n ≡ a = eqb-true n a e in omega (arith, Times.times_append a (below n) (n ∷ []), Times.times_cons a n [], ap one_if e, none_there a (below n) (subst (λ z. AllByRecursion (λ x. x < z) (below n)) q (below_less n)))
+  | inl e ↦ let q : n ≡ a = eqb-true n a e in omega (arith, Times.times_append a (below n) (n ∷ []), Times.times_cons a n [], ap one_if e, none_there a (below n) (subst (λ z. AllByRecursion (λ x. x < z) (below n)) q (below_all n)))
   | inr e ↦ omega (arith, Times.times_append a (below n) (n ∷ []), Times.times_cons a n [], ap one_if e, one_below n a)
 ]
 
@@ -221,9 +218,6 @@ somewhere_new w s v l h e = by w.text.batch v.some_batch (queue s.ring.pacts s.r
 pub AllFit : {C : Type 0} → Fixed C → Machine C → Type 0
 AllFit w s = EachBatch (Fit w s) s.desk.batches
 
-in_logs : {C : Type 0} (w : Fixed C) (s : Machine C) (n : ℕ) → 1 ≤ w.text.logs → length s.logs ≡ w.text.logs → n % w.text.logs < length s.logs
-in_logs w s n l e = subst (λ z. n % w.text.logs < z) (sym e) (Rattle.std.proofs.Math.Nat.mod-lt n l)
-
 not_settled : (st : Stage) → is_formed st ≡ true → is_settled st ≡ true → ⊥
 not_settled Formed f g = true≢false (sym g)
 not_settled Committing f g = true≢false (sym g)
@@ -242,7 +236,7 @@ kept w (Form k) s v l g m ok h = λ j c e. elim (found_more j c (desk.new_batch 
       commit = λ d. absurd (true≢false (sym d));
       trimmed = none_trimmed _ (ring.next_actors w.text s.ring);
       distinct = λ a. subst (λ z. times a z ≤ 1) (sym (actors_of (ring.next_actors w.text s.ring))) (omega (arith, times_filter a (λ a. list_any (ring.declares w.text a) (ring.next_pacts w.text s.ring)) (below (length s.ring.lasts)), one_below (length s.ring.lasts) a));
-      range = subst (AllByRecursion (λ a. a < length w.text.opening.states)) (sym (actors_of (ring.next_actors w.text s.ring))) (all_filter (λ a. a < length w.text.opening.states) (λ a. list_any (ring.declares w.text a) (ring.next_pacts w.text s.ring)) (below (length s.ring.lasts)) (subst (λ z. AllByRecursion (λ a. a < z) (below (length s.ring.lasts))) m.lasts (below_less (length s.ring.lasts))));
+      range = subst (AllByRecursion (λ a. a < length w.text.opening.states)) (sym (actors_of (ring.next_actors w.text s.ring))) (all_filter (λ a. a < length w.text.opening.states) (λ a. list_any (ring.declares w.text a) (ring.next_pacts w.text s.ring)) (below (length s.ring.lasts)) (subst (λ z. AllByRecursion (λ a. a < z) (below (length s.ring.lasts))) m.lasts (below_all (length s.ring.lasts))));
       somewhere = somewhere_new w s v l m ok.1.0;
       noted = none_noted _ (ring.next_actors w.text s.ring);
       all_noted = λ d. absurd (true≢false d);

@@ -20,6 +20,7 @@ use Rattle.protocol.specs.OnBook as book
 use Rattle.protocol.specs.OnDesk as desk
 use Rattle.protocol.specs.OnCell as cell
 use Rattle.protocol.specs.History.{History, grown, with_at, owned_by}
+use Rattle.protocol_laws.specs.Told.{EachAct}
 use Rattle.protocol_laws.specs.FromDesk.{is_pact_of, EntryOf, FromDesk}
 use Rattle.protocol_laws.proofs.first.Times
 use Rattle.protocol_laws.proofs.first.Controls as controls
@@ -28,7 +29,7 @@ use Rattle.protocol_laws.proofs.machine.TracksKept.{held}
 use Rattle.protocol_laws.proofs.machine.TurnsKept.{one_is}
 use Rattle.protocol_laws.proofs.machine.FromDeskKept as desks
 use Rattle.protocol_laws.proofs.machine.ActsFound as acts
-use Rattle.protocol_laws.proofs.machine.ActsFound.{EachAct, Holds}
+use Rattle.protocol_laws.proofs.machine.ActsFound.{Holds}
 use Rattle.protocol_laws.proofs.order.NamesKept as names
 use Rattle.protocol_laws.proofs.order.NamesKept.{Named, OwnsIt}
 use Rattle.protocol_laws.proofs.order.RunsBefore.{lives, is_open_with}

@@ -28,7 +28,6 @@ use Rattle.protocol_laws.proofs.machine.TracksKept.{Tracked, held, in_range}
 use Rattle.protocol_laws.proofs.machine.TurnsKept.{one_is}
 use Rattle.protocol_laws.proofs.first.SettlingKept as settling
 use Rattle.protocol_laws.proofs.machine.ActsFound as acts
-use Rattle.protocol_laws.proofs.machine.ActsFound.{EachAct}
 use Rattle.protocol_laws.proofs.order.NamesKept as names
 use Rattle.protocol_laws.proofs.order.NamesKept.{Named, OwnsIt}
 use Rattle.protocol_laws.proofs.order.RunsBefore.{lives, is_open_with}

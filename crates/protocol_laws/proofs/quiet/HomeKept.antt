@@ -7,9 +7,9 @@ use Rattle.snap_base.specs.declared.transactions.State.{State}
 use Rattle.snap_base.specs.declared.transactions.Tx.{Tx}
 use Rattle.protocol.specs.Facts.{Alone, Facts}
 use Rattle.protocol.specs.Fixed.{Fixed, Next, Go, Ended, base, tx_at, root, is_pact, declared}
-use Rattle.protocol.specs.Parts.{Batch, Pact, SubBatch, Slot, Cascade, Who, OfBatch, OfAct, Waiting, Entry, BatchEntry, ActEntry, Cell, Machine}
+use Rattle.protocol.specs.Parts.{Batch, Pact, SubBatch, Slot, Who, OfBatch, OfAct, Waiting, Entry, BatchEntry, ActEntry, Cell, Machine}
 use Rattle.protocol.specs.Events.{Event, Form, Admit, Arrive, Ask, Take, Run, Send, End, Close, Complete, Rollback, DropSub, Finish, Trim}
-use Rattle.protocol.specs.Words.{holds, is_among, below, names_pact, names_slot, who_of, batch_of, declared_of, sub_of, control_of, waiting_of}
+use Rattle.protocol.specs.Words.{holds, is_among, below, names_pact, names_slot, batch_of, declared_of, sub_of, control_of, waiting_of}
 use Rattle.protocol.specs.Conditions.{IsAllowed, conditions, queue}
 use Rattle.protocol.specs.Effects.{after, cell_at, no_cell}
 use Rattle.protocol.specs.Runs.{opening, IsRun, reached}
@@ -19,15 +19,15 @@ use Rattle.protocol.specs.OnBook as book
 use Rattle.protocol.specs.OnDesk as desk
 use Rattle.protocol.specs.OnCell as cell
 use Rattle.protocol.specs.History.{History, Trail, Step, no_history, history, grown, with_at, begun, owned_by, gone_on}
+use Rattle.protocol_laws.specs.Told.{PactsAscend}
 use Rattle.protocol_laws.specs.FromDesk.{is_declared, is_pact_of, MessageOf, EntryOf, FromDesk}
 use Rattle.protocol_laws.specs.Quiet.{IsAt}
 use Rattle.protocol_laws.proofs.first.Controls as controls
 use Rattle.protocol_laws.proofs.machine.ControlWalk
 use Rattle.protocol_laws.proofs.machine.ControlWalk.{AllControls, Ready, nowhere}
-use Rattle.protocol_laws.proofs.machine.CommitLists.{PactsAscend}
 use Rattle.protocol_laws.proofs.first.EpochsKept as epochs
 use Rattle.protocol_laws.proofs.machine.FromDeskKept as desks
-use Rattle.protocol_laws.proofs.machine.FromDeskKept.{one_cell}
+use Rattle.protocol_laws.proofs.machine.FromDeskKept.{one_cell, all_staying}
 use Rattle.protocol_laws.proofs.machine.TracksKept.{held}
 use Rattle.protocol_laws.proofs.machine.TurnsKept.{one_is}
 use Rattle.protocol_laws.proofs.machine.TrailsKept as trails
@@ -44,6 +44,7 @@ use Rattle.protocol_laws.proofs.quiet.QuietOwed.{Held, PactsAtHome}
 use Rattle.protocol_laws.proofs.first.Lists.{all_filter, all_found, all_join, all_map, both_all}
 use Rattle.protocol.specs.Rests.{IsTxIn}
 use Rattle.protocol_laws.proofs.machine.QueuedText.{IsThere, Queued, is_in, next_there, act_there}
+use Rattle.protocol_laws.proofs.first.OneWay.{bid_went}
 
 -- ---- what a PACT's control rests on, it declares
 
@@ -193,11 +194,6 @@ was w e s h t k ok l o = inl (record { low = l; owner = o; tx = refl })
 unfoldable pub Covered : {C : Type 0} → Fixed C → Machine C → History → Type 0
 Covered w s h = (t k : ℕ) → t < s.ring.next_tid → h.owners t ≡ OfBatch k → (k < s.ring.next_bid) × ((a : ℕ) → a < length w.text.opening.states → Asks w h.trails t a → is_declared k a s.desk.batches ≡ true)
 
-more_bids : {C : Type 0} (w : Fixed C) (e : Event) (s : Machine C) → s.ring.next_bid ≤ (after w e s).ring.next_bid
-unfolding after
-more_bids w (Form k) s = omega arith
-more_bids w e s = omega arith
-
 first_covered : {C : Type 0} (w : Fixed C) (e : Event) (s : Machine C) (h : History) (t k : ℕ) → length s.ring.lasts ≡ length w.text.opening.states → AllByRecursion (λ b. b < s.ring.next_bid) (map (λ b. b.bid) s.desk.batches) → IsFirst w e s h t k
     → (k < (after w e s).ring.next_bid) × ((a : ℕ) → a < length w.text.opening.states → Asks w (grown w e s h).trails t a → is_declared k a (after w e s).desk.batches ≡ true)
 unfolding IsFirst after Asks
@@ -213,7 +209,7 @@ first_covered w e s h t k n b i = absurd i
 covered_kept : {C : Type 0} (w : Fixed C) (e : Event) (s : Machine C) (h : History) → IsAllowed w e s → length s.ring.lasts ≡ length w.text.opening.states → epochs.Agreeing s → Covered w s h → Covered w (after w e s) (grown w e s h)
 unfolding Covered Asks
 covered_kept w e s h ok n ag g t k l o = elim (was w e s h t k ok l o) [
-  | inl c ↦ let r = g t k c.low c.owner in (omega (arith, r.0, more_bids w e s), λ a m d. desks.desk_stays w e s _ (desks.declared_fixed a) k (r.1 a m (subst (λ z. is_among a (declared (tx_at w.text z)) ≡ true) c.tx d)))
+  | inl c ↦ let r = g t k c.low c.owner in (omega (arith, r.0, bid_went w e s), λ a m d. desks.desk_stays w e s _ (desks.declared_fixed a) k (r.1 a m (subst (λ z. is_among a (declared (tx_at w.text z)) ≡ true) c.tx d)))
   | inr i ↦ first_covered w e s h t k n (epochs.bids_below s ag) i
 ]
 
@@ -308,14 +304,6 @@ full_asked w next owners tr a t (Some x) = tt
 full_run : {C : Type 0} (w : Fixed C) (next : ℕ) (owners : ℕ → Who) (tr : ℕ → Trail) (a t : ℕ) (v : Bool) (es : List Entry) → AllByRecursion (FullEntry w next owners tr a) es → AllByRecursion (FullEntry w next owners tr a) (if v then map (cell.done_in t) es else es)
 full_run w next owners tr a t true es h = all_map (FullEntry w next owners tr a) (FullEntry w next owners tr a) (cell.done_in t) es (λ e p. full_done w next owners tr a t e p) h
 full_run w next owners tr a t false es h = h
-
-all_staying : (P : Entry → Type 0) (cs : List Cascade) (es : List Entry) → AllByRecursion P es → AllByRecursion P (cell.staying cs es)
-all_staying P cs [] h = tt
-all_staying P cs (e ∷ es) h = by (cell.is_cut cs (who_of e)) (all_staying P cs es h.1)
-  where
-    by : (v : Bool) → AllByRecursion P (cell.staying cs es) → AllByRecursion P (if v then [] else e ∷ cell.staying cs es)
-    by true g = tt
-    by false g = (h.0, g)
 
 abbrev pub At : {C : Type 0} → Fixed C → ℕ → (ℕ → Who) → (ℕ → Trail) → ℕ → Cell C → Type 0
 At w next owners tr a c = AllByRecursion (FullEntry w next owners tr a) c.entries

@@ -33,6 +33,7 @@ use Rattle.protocol_laws.proofs.machine.ActsKept.{Acts}
 use Rattle.protocol_laws.proofs.machine.EntriesKept.{Opened, open_at}
 use Rattle.protocol_laws.proofs.quiet.JoinsKept as joins
 use Rattle.protocol_laws.proofs.machine.AllGood.{AllGood}
+use Rattle.protocol_laws.proofs.quiet.SubPlaces.{batches_join}
 
 -- ---- no ACT is ahead of the batch
 
@@ -220,11 +221,6 @@ among_front k (x ∷ xs) ys h = elim (or_cases (x == k) (is_among k xs) h) [ inl
 pub among_last : (k : ℕ) (xs : List ℕ) → is_among k (xs ++ k ∷ []) ≡ true
 among_last k [] = or_left (k == k) _ (eq-eqb k k refl)
 among_last k (x ∷ xs) = or_right (x == k) _ (among_last k xs)
-
-batches_join : (es fs : List Entry) → batches_on (es ++ fs) ≡ batches_on es ++ batches_on fs
-batches_join [] fs = refl
-batches_join (BatchEntry b ∷ es) fs = ap (λ z. b.bid ∷ z) (batches_join es fs)
-batches_join (ActEntry x ∷ es) fs = batches_join es fs
 
 -- a batch is placed: it is added to the sets of all that stand there
 full_arrive : (f : ℕ → List ℕ) (cs : List Cascade) (k : ℕ) (es : List Entry) (o : Option SubBatch) → ((x : ℕ) → is_among x (book.tids_on es) ≡ true → is_among k (f x) ≡ true) → Full f cs es → Full f cs (es ++ cell.batch_entries k o)

@@ -12,19 +12,21 @@ use Rattle.protocol.specs.Effects.{after, cell_at, no_cell}
 use Rattle.protocol.specs.OnBook as book
 use Rattle.protocol.specs.Numbers.{times, one_if}
 use Rattle.protocol.specs.History.{History}
+use Rattle.protocol_laws.specs.Told.{EachAct}
 use Rattle.protocol_laws.specs.Tracks.{Key, key_of, is_key_among}
 use Rattle.protocol_laws.proofs.first.Times
 use Rattle.protocol_laws.proofs.machine.TrackLists
 use Rattle.protocol_laws.proofs.machine.TracksKept.{held}
 use Rattle.protocol_laws.proofs.machine.ControlWalk.{AllControls}
 use Rattle.protocol_laws.proofs.machine.ActsFound as acts
-use Rattle.protocol_laws.proofs.machine.ActsFound.{EachAct, HoldsOpen}
+use Rattle.protocol_laws.proofs.machine.ActsFound.{HoldsOpen}
 use Rattle.protocol_laws.proofs.machine.ActResults.{NoneActed}
 use Rattle.protocol_laws.proofs.machine.ActsKept.{Acts}
-use Rattle.protocol_laws.proofs.machine.EntriesKept.{open_in, open_at, KeyOpen, KeysOpen, Left, Opened, Standing, none_left}
+use Rattle.protocol_laws.proofs.machine.EntriesKept.{open_in, open_at, KeyOpen, KeysOpen, Left, Opened, Standing, none_left, mark_actor}
 use Rattle.protocol_laws.proofs.quiet.RowsKept.{act_key}
 use Rattle.protocol_laws.proofs.quiet.QuietKnown.{found_once}
 use Rattle.protocol_laws.proofs.quiet.QuietEnd.{each_at}
+use Rattle.protocol_laws.proofs.first.Controls.{at_most_one}
 
 -- ---- who has an entry has not left
 
@@ -43,10 +45,6 @@ Apart t x = (n : ℕ) → times n (map (λ p. p.actor) x.places) ≤ 1
 
 unfoldable pub Joins : {C : Type 0} → Machine C → Type 0
 Joins s = EachAct Apart s.book.acts
-
-mark_actor : (v : Bool) (f : Joined → Joined) (p : Joined) → ((q : Joined) → (f q).actor ≡ q.actor) → (book.mark_if v f p).actor ≡ p.actor
-mark_actor true f p i = i p
-mark_actor false f p i = refl
 
 pub actors_marked : (a : ℕ) (f : Joined → Joined) (ps : List Joined) → ((p : Joined) → (f p).actor ≡ p.actor) → map (λ p. p.actor) (map (λ p. book.mark_if (p.actor == a) f p) ps) ≡ map (λ p. p.actor) ps
 actors_marked a f [] i = refl
@@ -69,17 +67,13 @@ not_there a (p ∷ ps) h k = by (p.actor == a) refl h.0 k (not_there a ps h.1)
     by true e f k r = absurd (k (rw f refl))
     by false e f k r = omega (arith, Times.times_cons a p.actor (map (λ p. p.actor) ps), ap one_if e, r k)
 
-most_one : (b : Bool) → one_if b ≤ 1
-most_one true = omega arith
-most_one false = omega arith
-
 pub apart_more : (a : ℕ) (q : Joined) (ps : List Joined) → q.actor ≡ a → times a (map (λ p. p.actor) ps) ≡ 0 → ((n : ℕ) → times n (map (λ p. p.actor) ps) ≤ 1) → (n : ℕ) → times n (map (λ p. p.actor) (ps ++ q ∷ [])) ≤ 1
 apart_more a q ps e z h n =
     rw (Times.map_join (λ p. p.actor) ps (q ∷ []))
     (by (q.actor == n) refl)
   where
     by : (v : Bool) → (q.actor == n) ≡ v → times n (map (λ p. p.actor) ps ++ q.actor ∷ []) ≤ 1
-    by true f = let i : a ≡ n = sym e ∙ eqb-true q.actor n f in omega (arith, Times.times_append n (map (λ p. p.actor) ps) (q.actor ∷ []), Times.times_cons n q.actor [], most_one (q.actor == n), subst (λ z. times z (map (λ p. p.actor) ps) ≡ 0) i z)
+    by true f = let i : a ≡ n = sym e ∙ eqb-true q.actor n f in omega (arith, Times.times_append n (map (λ p. p.actor) ps) (q.actor ∷ []), Times.times_cons n q.actor [], at_most_one (q.actor == n), subst (λ z. times z (map (λ p. p.actor) ps) ≡ 0) i z)
     by false f = omega (arith, Times.times_append n (map (λ p. p.actor) ps) (q.actor ∷ []), Times.times_cons n q.actor [], ap one_if f, h n)
 
 -- an actor that an ACT asks for, it has not joined

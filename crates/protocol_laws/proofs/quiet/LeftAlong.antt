@@ -8,7 +8,7 @@ use Rattle.snap_base.specs.declared.transactions.Tx.{Tx}
 use Rattle.protocol.specs.Fixed.{Fixed, base, tx_at}
 use Rattle.protocol.specs.Facts.{Alone}
 use Rattle.protocol.specs.Parts.{OfAct, Machine}
-use Rattle.protocol.specs.Events.{Event, Admit, Arrive, Ask, Take, Run, Send, End, Close, Complete, Rollback, Finish, Trim}
+use Rattle.protocol.specs.Events.{Event, Admit}
 use Rattle.protocol.specs.Words.{is_empty, is_among}
 use Rattle.protocol.specs.Conditions.{IsAllowed, conditions, epoch}
 use Rattle.protocol.specs.Contents.{ActTids}
@@ -31,6 +31,7 @@ use Rattle.protocol_laws.proofs.quiet.LeftParts.{RestOf}
 use Rattle.protocol_laws.proofs.quiet.LeftRing as token
 use Rattle.protocol_laws.proofs.quiet.LeftFalls.{Counted, falls}
 use Rattle.protocol_laws.proofs.machine.QueuedText.{Queued, queued_kept, queued_opened}
+use Rattle.protocol_laws.proofs.first.RangesNamed.{cells_stay}
 
 -- ---- an ACT is admitted: no control has its tid
 
@@ -77,21 +78,6 @@ lowers w Of finish e s v small g ok = by (act_tids (after w e s)) (frame w e s A
     by tids i h = subst (λ z. left_as w z (after w e s) < left_as w (act_tids s) s) (sym i) (omega (arith, h))
 
 -- ---- what is known along a run
-
-pub cells_stay : {C : Type 0} (w : Fixed C) (e : Event) (s : Machine C) → length (after w e s).cells ≡ length s.cells
-unfolding after
-cells_stay w (Arrive k a) s = Times.length_set s.cells a _
-cells_stay w (Ask t a) s = Times.length_set s.cells a _
-cells_stay w (Take t a) s = Times.length_set s.cells a _
-cells_stay w (Run t a) s = Times.length_set s.cells a _
-cells_stay w (Send t a) s = Times.length_set s.cells a _
-cells_stay w (End t a) s = Times.length_set s.cells a _
-cells_stay w (Close t a) s = Times.length_set s.cells a _
-cells_stay w (Complete k a) s = Times.length_set s.cells a _
-cells_stay w (Rollback a) s = Times.length_set s.cells a _
-cells_stay w (Finish t a) s = Times.length_set s.cells a _
-cells_stay w (Trim k a) s = Times.length_set s.cells a _
-cells_stay w e s = refl
 
 pub record Counts {C : Type 0} (w : Fixed C) (Of : Tx → C → Type 0) (finish : C → List State → Alone) (s : Machine C) (h : History) : Type 0 where
   pub round : token.IsRound w s

@@ -42,7 +42,7 @@ pub record Counted {C : Type 0} (w : Fixed C) (Of : Tx → C → Type 0) (s : Ma
 
 -- ---- numbers
 
-once_most : (low high n : ℕ) → once_in low high n ≤ 1
+pub once_most : (low high n : ℕ) → once_in low high n ≤ 1
 once_most low high n = by (Rattle.std.specs.Prelude.nat_le low n && nat_lt n high)
   where
     by : (b : Bool) → one_if b ≤ 1

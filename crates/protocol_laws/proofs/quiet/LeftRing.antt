@@ -1,5 +1,5 @@
 -- The ring's share: transactions that wait, and the way of the token.
-use Rattle.std.specs.Prelude.{◌≡◌, refl, ℕ, zero, suc, ◌+◌, ◌-◌, ◌*◌, ◌%◌, ◌<◌, ◌≤◌, ◌==◌, not, Bool, true, false, ◌||◌, ◌&&◌, if◌then◌else◌, ◌⊎◌, List, [], ◌∷◌, ◌++◌, length, take, drop, replicate}
+use Rattle.std.specs.Prelude.{◌≡◌, refl, ℕ, zero, suc, ◌+◌, ◌-◌, ◌*◌, ◌%◌, ◌<◌, ◌≤◌, ◌==◌, not, Bool, true, false, ◌||◌, ◌&&◌, if◌then◌else◌, ◌⊎◌, List, [], ◌∷◌, ◌++◌, length, take, drop}
 use Rattle.std.specs.List.{list_all}
 use Rattle.std.proofs.Common.{arith, sym, ap, subst, inl, inr, ◌∙◌}
 use Rattle.std.proofs.Math.Nat.{mod-eq_of_lt, mod_self}
@@ -15,6 +15,8 @@ use Rattle.protocol.specs.OnRing as ring
 use Rattle.protocol_laws.specs.Left.{total, unless, busy_from, way, ring_left}
 use Rattle.protocol_laws.proofs.quiet.LeftLists.{total_set, total_set_most}
 use Rattle.protocol_laws.proofs.first.Times
+use Rattle.protocol_laws.proofs.first.OnePlace.{remainder}
+use Rattle.protocol_laws.proofs.machine.QueuedKept.{replicated}
 
 -- ---- the ring has its coordinators
 
@@ -30,10 +32,6 @@ pub round_is : {C : Type 0} (w : Fixed C) (s : Machine C) → IsRound w s → Ro
 unfolding IsRound
 round_is w s h = h
 
-mod_below : (n c : ℕ) → 1 ≤ c → n % c < c
-mod_below n zero h = absurd (omega (arith, h))
-mod_below n (suc c) h = Rattle.std.proofs.Math.Nat.mod-lt n h
-
 if_length : {X : Type 0} (b : Bool) (xs ys : List X) (n : ℕ) → length xs ≡ n → length ys ≡ n → length (if b then xs else ys) ≡ n
 if_length true xs ys n h k = h
 if_length false xs ys n h k = k
@@ -41,18 +39,14 @@ if_length false xs ys n h k = k
 pub round_kept : {C : Type 0} (w : Fixed C) (e : Event) (s : Machine C) → IsText w.text → IsAllowed w e s → IsRound w s → IsRound w (after w e s)
 unfolding IsRound conditions after
 round_kept w (Submit n) s v ok h = record { holds = h.holds; pacts = if_length (is_pact (tx_at w.text n)) _ _ _ (Times.length_set s.ring.pacts _ _ ∙ h.pacts) h.pacts; acts = if_length (is_pact (tx_at w.text n)) _ _ _ h.acts (Times.length_set s.ring.acts _ _ ∙ h.acts) }
-round_kept w (Pass c) s v ok h = record { holds = subst (λ z. z < w.text.coordinators) (sym (eqb-true c ((s.ring.holder + 1) % w.text.coordinators) ok.0)) (mod_below (s.ring.holder + 1) w.text.coordinators v.some_coordinators); pacts = h.pacts; acts = h.acts }
+round_kept w (Pass c) s v ok h = record { holds = subst (λ z. z < w.text.coordinators) (sym (eqb-true c ((s.ring.holder + 1) % w.text.coordinators) ok.0)) (remainder (s.ring.holder + 1) w.text.coordinators v.some_coordinators); pacts = h.pacts; acts = h.acts }
 round_kept w (Form k) s v ok h = record { holds = h.holds; pacts = Times.length_set s.ring.pacts _ _ ∙ h.pacts; acts = h.acts }
 round_kept w (Admit t) s v ok h = record { holds = h.holds; pacts = h.pacts; acts = Times.length_set s.ring.acts _ _ ∙ h.acts }
 round_kept w e s v ok h = h
 
-length_replicate : {X : Type 0} (n : ℕ) (x : X) → length (replicate n x) ≡ n
-length_replicate zero x = refl
-length_replicate (suc n) x = omega (arith, length_replicate n x)
-
 pub round_opened : {C : Type 0} (w : Fixed C) → IsText w.text → IsRound w (opening w)
 unfolding IsRound
-round_opened w v = record { holds = v.some_coordinators; pacts = length_replicate w.text.coordinators []; acts = length_replicate w.text.coordinators [] }
+round_opened w v = record { holds = v.some_coordinators; pacts = replicated w.text.coordinators []; acts = replicated w.text.coordinators [] }
 
 -- ---- the token's way
 

@@ -40,6 +40,7 @@ use Rattle.protocol_laws.proofs.quiet.LieInOrder.{no_cell_at}
 use Rattle.protocol_laws.proofs.quiet.LimitsHold.{most, acts_differ, batches_differ, two_kinds, stands_live, waits_live}
 use Rattle.protocol_laws.proofs.quiet.LimitsKept.{live_few}
 use Rattle.protocol_laws.proofs.first.Lists.{some_held}
+use Rattle.protocol_laws.proofs.first.Times.{length_join}
 
 -- ---- a law of all runs, used at each step
 
@@ -194,12 +195,9 @@ image_one : (y : Who) (ss : List Slice) → length (first_image y ss) ≤ 1
 image_one y [] = omega arith
 image_one y (x ∷ xs) = omega arith
 
-join_length : {X : Type 0} (xs ys : List X) → length (xs ++ ys) ≡ length xs + length ys
-join_length xs ys = Times.length_join xs ys
-
 few_images : (rs : List Ran) → length (images_in rs) ≤ length (keys_in rs)
 few_images [] = omega arith
-few_images (Stands y c ss ∷ rs) = omega (arith, few_images rs, image_one y ss, join_length (first_image y ss) (images_in rs))
+few_images (Stands y c ss ∷ rs) = omega (arith, few_images rs, image_one y ss, length_join (first_image y ss) (images_in rs))
 few_images (Gone y ss ∷ rs) = few_images rs
 
 -- one that stands there without an image leaves room
@@ -214,7 +212,7 @@ fewer_images who (Stands y c ss ∷ rs) h n = by (is_who y who) refl h n (fewer_
 
     by : (b : Bool) → is_who y who ≡ b → (b || is_key_among who (keys_in rs)) ≡ true → is_some (image_of who (first_image y ss ++ images_in rs)) ≡ false → (is_key_among who (keys_in rs) ≡ true → is_some (image_of who (images_in rs)) ≡ false → length (images_in rs) < length (keys_in rs)) → length (first_image y ss ++ images_in rs) < suc (length (keys_in rs))
     by true e k m r = own ss e m
-    by false e k m r = omega (arith, r k (sym (ap is_some (image_past who y ss (images_in rs) e)) ∙ m), image_one y ss, join_length (first_image y ss) (images_in rs))
+    by false e k m r = omega (arith, r k (sym (ap is_some (image_past who y ss (images_in rs) e)) ∙ m), image_one y ss, length_join (first_image y ss) (images_in rs))
 
 -- who runs has an entry
 runs_on : (t : ℕ) (es : List Entry) → is_some (find (is_entry_of t) es) ≡ true → cell.is_entry_among (who_on t es) es ≡ true

@@ -1,5 +1,5 @@
 -- Before numbers, last batches and floors are below the next batch, event by event.
-use Rattle.std.specs.Prelude.{◌≡◌, refl, ℕ, zero, suc, ◌+◌, ◌<◌, ◌≤◌, ◌==◌, max, not, Bool, true, false, ◌&&◌, if◌then◌else◌, Option, Some, None, List, [], ◌∷◌, ◌++◌, map, filter, slice_index_or}
+use Rattle.std.specs.Prelude.{◌≡◌, refl, ℕ, zero, suc, ◌+◌, ◌<◌, ◌==◌, max, not, Bool, true, false, ◌&&◌, if◌then◌else◌, Option, Some, None, List, [], ◌∷◌, ◌++◌, map, filter, slice_index_or}
 use Rattle.std.specs.List.{AllByRecursion}
 use Rattle.std.proofs.Common.{arith, sym, subst}
 use Rattle.snap_base.specs.declared.transactions.State.{State}
@@ -33,6 +33,7 @@ use Rattle.protocol_laws.proofs.machine.AllGood as all
 use Rattle.protocol_laws.proofs.machine.AllGood.{AllGood}
 use Rattle.protocol_laws.proofs.machine.Higher as higher
 use Rattle.protocol_laws.proofs.first.Lists.{all_join, all_map, weaker, all_found}
+use Rattle.protocol_laws.proofs.first.OneWay.{bid_went}
 
 -- ---- ACTs
 
@@ -156,18 +157,13 @@ cells_low w (Finish u a) s h ok o ag st p t g = beside_same (At s.ring.next_bid)
 cells_low w (Trim k a) s h ok o ag st p t g = beside_same (At s.ring.next_bid) s.cells a _ (λ b. tt) o (λ x. record { last = x.last; trimmed = omega (arith, x.trimmed, trims_low w k a s ok st); floor = x.floor }) g.cells
 cells_low w e s h ok o ag st p t g = g.cells
 
-next_rises : {C : Type 0} (w : Fixed C) (e : Event) (s : Machine C) → s.ring.next_bid ≤ (after w e s).ring.next_bid
-unfolding after
-next_rises w (Form k) s = omega arith
-next_rises w e s = omega arith
-
 above_base : {C : Type 0} (w : Fixed C) (s : Machine C) → settling.Settling w s → base w.text < s.ring.next_bid
 unfolding settling.Settling
 above_base w s g = omega (arith, g.some, keys.rises_top w.text.opening.next_bid s.ring.next_bid _ g.rises)
 
 pub kept : {C : Type 0} (w : Fixed C) (Of : Tx → C → Type 0) (finish : C → List State → Alone) (e : Event) (s : Machine C) (h : History) → IsAllowed w e s → AllGood w Of finish s h → Lows w s → Lows w (after w e s)
 kept w Of finish e s h ok g i = record {
-  some = omega (arith, i.some, next_rises w e s);
+  some = omega (arith, i.some, bid_went w e s);
   acts = acts_low w e s (above_base w s g.good.settling) i;
   cells = cells_low w e s h ok (higher.owed w Of finish e s h ok g) g.good.agreeing g.good.settling g.good.placed g.good.turned i;
 }

@@ -31,7 +31,7 @@ use Rattle.protocol_laws.proofs.machine.BehindKept as behind
 use Rattle.protocol_laws.proofs.sets.LastsTight.{Tights, Tight}
 use Rattle.protocol_laws.proofs.sets.FloorsKept.{Floors}
 use Rattle.protocol_laws.proofs.sets.BeforeSets as sets
-use Rattle.protocol_laws.proofs.sets.BeforeSets.{Less}
+use Rattle.protocol_laws.proofs.sets.BeforeSets.{Less, if_less, dooms}
 use Rattle.protocol_laws.proofs.sets.BeforeStand as before
 use Rattle.protocol_laws.proofs.sets.BeforeStand.{BeforeStand}
 use Rattle.protocol_laws.proofs.machine.Good.{Given}
@@ -80,10 +80,6 @@ untaken_less cs x y k h = λ d. subst (IsOut cs) (sym k.m) (h (k.doomed d))
 untaken_map : (cs : List Cascade) (f : Act → Act) (xs : List Act) → ((x : Act) → Less x (f x)) → AllByRecursion (IsUntaken cs) xs → AllByRecursion (IsUntaken cs) (map f xs)
 untaken_map cs f xs k h = all_map (IsUntaken cs) (IsUntaken cs) f xs (λ x i. untaken_less cs x (f x) (k x) i) h
 
-if_less : (v : Bool) (f : Act → Act) (x : Act) → Less x (f x) → Less x (book.change_if v f x)
-if_less true f x h = h
-if_less false f x h = record { tid = refl; m = refl; doomed = λ d. d }
-
 untaken_changed : (cs : List Cascade) (t : ℕ) (f : Act → Act) (xs : List Act) → ((x : Act) → Less x (f x)) → AllByRecursion (IsUntaken cs) xs → AllByRecursion (IsUntaken cs) (book.changed_act t f xs)
 untaken_changed cs t f xs k h = untaken_map cs _ xs (λ x. if_less (x.tid == t) f x (k x)) h
 
@@ -105,10 +101,6 @@ untaken_joined cs t a m xs o h = all_map (IsUntaken cs) (IsUntaken cs) (λ x. bo
     by : (c : Bool) (x : Act) → IsUntaken cs x → IsUntaken cs (book.change_if c (book.joins a m) x)
     by true x i = λ d. out_max cs x.m m (i d) o
     by false x i = i
-
-dooms : (c : Bool) (v : Rattle.snap_base.specs.declared.verdicts.Verdict.Verdict) (st : Status) → is_doomed (if c then Doomed v else st) ≡ false → is_doomed st ≡ false
-dooms true v st e = absurd (true≢false e)
-dooms false v st e = e
 
 untaken_asked : {C : Type 0} (cs : List Cascade) (t a : ℕ) (o : Option ℕ) (group : List Lock) (c : Cell C) (b : Book) → IsOut cs 0 → IsOut cs (max c.last c.floor) → AllByRecursion (IsUntaken cs) b.acts → AllByRecursion (IsUntaken cs) (book.asked_acts o group t a (max c.last c.floor) b)
 untaken_asked cs t a (Some x) group c b z m h = untaken_changed cs t _ b.acts (λ y. record { tid = refl; m = refl; doomed = dooms (is_live_status y.status) _ y.status }) h

@@ -1,16 +1,16 @@
 -- What of the hypotheses on quiet states is known after every run.
-use Rattle.std.specs.Prelude.{◌≡◌, refl, ℕ, zero, suc, ◌+◌, ◌<◌, ◌≤◌, ◌==◌, nat_lt, nat_le, not, Bool, true, false, ◌&&◌, ◌||◌, if◌then◌else◌, Some, is_some, List, [], ◌∷◌, length, map, filter, find, slice_get, slice_index_or}
+use Rattle.std.specs.Prelude.{◌≡◌, refl, ℕ, zero, suc, ◌+◌, ◌<◌, ◌≤◌, ◌==◌, nat_lt, not, Bool, true, false, ◌&&◌, ◌||◌, if◌then◌else◌, Some, is_some, List, [], ◌∷◌, length, map, filter, find, slice_get, slice_index_or}
 use Rattle.std.specs.List.{AllByRecursion, list_any}
 use Rattle.std.proofs.Common.{arith, sym, ap, subst, inl, inr, ◌∙◌}
 use Rattle.std.proofs.lemmas.List.{length-replicate}
-use Rattle.std.proofs.lemmas.Bool.{and_parts, or_cases, true≢false, eqb-true, eq-eqb, ltb-true, le-leb, cases_lt, not-true}
+use Rattle.std.proofs.lemmas.Bool.{and_parts, true≢false, eqb-true, eq-eqb, ltb-true, le-leb, cases_lt, not-true}
 use Rattle.protocol.specs.Fixed.{Fixed}
 use Rattle.protocol.specs.Parts.{Act, Batch, Cascade, Pact, Stage, Formed, Committing, Settled, SubBatch, Cell, Machine}
 use Rattle.protocol.specs.Events.{Event, Submit, Reply}
 use Rattle.protocol.specs.Words.{holds, is_among, covers, is_aborted, epoch_of, greatest, is_formed, is_settled, act_of, batch_of, sub_of, names_pact, result_among, pact_result, batches_on}
 use Rattle.protocol.specs.Conditions.{IsAllowed, conditions, epoch}
 use Rattle.protocol.specs.Effects.{after, cell_at, no_cell}
-use Rattle.protocol.specs.Numbers.{flat, times, one_if, once_in, NumbersDrawnOnce}
+use Rattle.protocol.specs.Numbers.{flat, times, one_if, NumbersDrawnOnce}
 use Rattle.protocol.specs.Epochs.{EpochsAgree, NamesItsPlace, CellAgrees, CellsAgree}
 use Rattle.protocol.specs.Settling.{AllOverBelow, BatchesSettleInOrder}
 use Rattle.protocol.specs.Runs.{opening, IsRun, reached}
@@ -23,6 +23,8 @@ use Rattle.protocol_laws.proofs.first.EpochsKept as epochs
 use Rattle.protocol_laws.proofs.quiet.QuietEasy.{passed, all_at, any_at, found_at}
 use Rattle.protocol_laws.proofs.quiet.QuietEnd.{each_at}
 use Rattle.protocol_laws.proofs.machine.ActsFound.{found_tid}
+use Rattle.protocol_laws.proofs.sets.AfterSets.{among_all}
+use Rattle.protocol_laws.proofs.quiet.LeftFalls.{once_most}
 
 -- ---- who has a number of its own is found by it
 
@@ -72,13 +74,6 @@ result_is (x ∷ bs) (suc j) i b p h e f =
     (result_is bs j i b p (λ n. omega (arith, h n, Times.times_append n (map (λ p. p.tid) x.pacts) (flat (map (λ b. map (λ p. p.tid) b.pacts) bs)))) e f)
 
 -- ---- numbers
-
-once_most : (low high n : ℕ) → once_in low high n ≤ 1
-once_most low high n = by (nat_le low n && nat_lt n high)
-  where
-    by : (b : Bool) → one_if b ≤ 1
-    by true = omega arith
-    by false = omega arith
 
 -- each is found by its number
 pub record Numbered {C : Type 0} (s : Machine C) : Type 0 where
@@ -197,10 +192,6 @@ pub cell_agrees : {C : Type 0} (s : Machine C) (cs : List (Cell C)) (a : ℕ) �
 cell_agrees s [] a h = record { behind = omega arith; placed = tt; aborted = tt; present = λ e. tt }
 cell_agrees s (c ∷ cs) zero h = h.0
 cell_agrees s (c ∷ cs) (suc a) h = cell_agrees s cs a h.1
-
-among_all : (P : ℕ → Type 0) (k : ℕ) (ks : List ℕ) → is_among k ks ≡ true → AllByRecursion P ks → P k
-among_all P k [] h g = absurd (true≢false (sym h))
-among_all P k (x ∷ ks) h g = elim (or_cases (x == k) (is_among k ks) h) [ inl e ↦ subst P (eqb-true x k e) g.0 | inr e ↦ among_all P k ks e g.1 ]
 
 pub cell_behind : {C : Type 0} (w : Fixed C) (s : Machine C) → CellsAgree w s → (a : ℕ) → (cell_at s a).epoch ≤ epoch s.book
 cell_behind w s h a = (cell_agrees s s.cells a h).behind

@@ -1,8 +1,8 @@
 -- In a quiet state nothing is left that still has to do something: by induction on batch numbers, and at each
 -- number from the youngest ACT on.
-use Rattle.std.specs.Prelude.{◌≡◌, refl, ℕ, zero, suc, ◌+◌, ◌≤◌, ◌==◌, Bool, true, false, if◌then◌else◌, Some, List, [], ◌∷◌}
+use Rattle.std.specs.Prelude.{◌≡◌, ℕ, zero, suc, ◌+◌, ◌≤◌, true, Some}
 use Rattle.std.proofs.Common.{arith, subst, inl, inr}
-use Rattle.std.proofs.lemmas.Bool.{eqb-true, cases_lt}
+use Rattle.std.proofs.lemmas.Bool.{cases_lt}
 use Rattle.protocol.specs.Fixed.{Fixed}
 use Rattle.protocol.specs.Parts.{Act, Machine}
 use Rattle.protocol.specs.Words.{act_of}
@@ -10,18 +10,11 @@ use Rattle.protocol.specs.Runs.{IsQuiet}
 use Rattle.protocol_laws.specs.Quiet.{Orderly, IsLiveBatch, is_waiting_act, IsAheadOf}
 use Rattle.protocol_laws.proofs.quiet.QuietBatch.{Below, no_batch}
 use Rattle.protocol_laws.proofs.quiet.QuietAct.{no_act}
-
-pub tid_is : (t : ℕ) (xs : List Act) (x : Act) → act_of t xs ≡ Some x → x.tid ≡ t
-tid_is t [] x e = absurd (cc e)
-tid_is t (y ∷ ys) x e = by (y.tid == t) refl e (tid_is t ys x)
-  where
-    by : (b : Bool) → (y.tid == t) ≡ b → (if b then Some y else act_of t ys) ≡ Some x → (act_of t ys ≡ Some x → x.tid ≡ t) → x.tid ≡ t
-    by true i g k = let z : y ≡ x = cc g in subst (λ v. v.tid ≡ t) z (eqb-true y.tid t i)
-    by false i g k = k g
+use Rattle.protocol_laws.proofs.first.PairsFound.{found_tid}
 
 -- of one number, the youngest first
 at_number : {C : Type 0} (w : Fixed C) (s : Machine C) (n : ℕ) → IsQuiet w s → Orderly w s → Below s n → (IsLiveBatch s n → ⊥) → (d u : ℕ) (x : Act) → act_of u s.book.acts ≡ Some x → is_waiting_act x ≡ true → x.m ≡ n → s.ring.next_tid ≤ x.tid + d → ⊥
-at_number w s n q o l b zero u x e h m y = omega (arith, o.found.tids u x e, tid_is u s.book.acts x e, y)
+at_number w s n q o l b zero u x e h m y = omega (arith, o.found.tids u x e, found_tid u s.book.acts x e, y)
 at_number w s n q o l b (suc d) u x e h m y =
     no_act w s u x q o (record { batches = batches; acts = acts (at_number w s n q o l b d) }) e h
   where

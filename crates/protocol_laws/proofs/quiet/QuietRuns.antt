@@ -27,7 +27,7 @@ use Rattle.protocol_laws.proofs.quiet.SubsArrive as subs
 use Rattle.protocol_laws.proofs.quiet.TailsKept as of_tails
 use Rattle.protocol_laws.proofs.quiet.QuietKnown as known
 use Rattle.protocol_laws.proofs.quiet.QuietEnd.{each_at, quiet_is_answered}
-use Rattle.protocol_laws.proofs.quiet.LeftAlong.{cells_stay}
+use Rattle.protocol_laws.proofs.first.RangesNamed.{cells_stay}
 
 -- ---- what is known along a run
 

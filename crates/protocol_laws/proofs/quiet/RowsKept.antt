@@ -1,14 +1,14 @@
 -- Batches along an actor's schedule: they ascend, fit, and nobody stands there twice. Of states alone.
 use Rattle.std.specs.Prelude.{◌≡◌, refl, ℕ, zero, suc, ◌<◌, ◌≤◌, ◌==◌, nat_lt, not, Bool, true, false, ◌||◌, if◌then◌else◌, Option, Some, None, is_some, List, [], ◌∷◌, ◌++◌, length, map, filter, slice_index_or}
 use Rattle.std.specs.List.{AllByRecursion}
-use Rattle.std.proofs.Common.{arith, sym, ap, subst, inl, inr, ◌∙◌}
+use Rattle.std.proofs.Common.{arith, sym, ap, subst, ◌∙◌}
 use Rattle.std.proofs.lemmas.List.{append-nil}
-use Rattle.std.proofs.lemmas.Bool.{eqb-true, ltb-true, or_cases, true≢false, not-true}
+use Rattle.std.proofs.lemmas.Bool.{ltb-true, true≢false, not-true}
 use Rattle.snap_base.specs.declared.transactions.State.{State}
 use Rattle.protocol.specs.Fixed.{Fixed, base}
 use Rattle.protocol.specs.Parts.{SubBatch, Cascade, OfBatch, OfAct, Entry, BatchEntry, ActEntry, Cell, Machine}
 use Rattle.protocol.specs.Events.{Event, Form, Arrive, Ask, Take, Run, Send, End, Close, Complete, Settle, Abort, Rollback, Finish, Trim}
-use Rattle.protocol.specs.Words.{is_among, epoch_of, sub_of, who_of, is_batch_entry, is_act_entry, has_act, batches_on}
+use Rattle.protocol.specs.Words.{epoch_of, sub_of, who_of, is_batch_entry, is_act_entry, has_act, batches_on}
 use Rattle.protocol.specs.Contents.{complete_mark}
 use Rattle.protocol.specs.Conditions.{IsAllowed, conditions, epoch}
 use Rattle.protocol.specs.Effects.{after, cell_at, no_cell}
@@ -28,6 +28,8 @@ use Rattle.protocol_laws.proofs.machine.PlaceLists
 use Rattle.protocol_laws.proofs.machine.PlacesKept.{message}
 use Rattle.protocol_laws.proofs.machine.FromDeskKept as desk
 use Rattle.protocol_laws.proofs.quiet.ActsKnown.{one_of}
+use Rattle.protocol_laws.proofs.machine.TrackLists.{entries_done}
+use Rattle.protocol_laws.proofs.sets.AfterSets.{among_all}
 
 -- ---- a schedule as a long schedule that nobody has left
 
@@ -138,11 +140,8 @@ ask next n cs ep tail t es None e h = record {
     keys_join [] fs = refl
     keys_join (e ∷ es) fs = ap (λ z. key_of e ∷ z) (keys_join es fs)
 
-done_keys : (t : ℕ) (es : List Entry) → map key_of (map (cell.done_in t) es) ≡ map key_of es
-done_keys t es = TrackLists.entries_done t es
-
 ran : (next n : ℕ) (cs : List Cascade) (ep tail t : ℕ) (v : Bool) (es : List Entry) → RowAt next n cs ep tail es → RowAt next n cs ep tail (if v then map (cell.done_in t) es else es)
-ran next n cs ep tail t true es h = same_row next n cs ep tail es _ (batches_done t es) (subst Differ (sym (done_keys t es)) h.differ) h
+ran next n cs ep tail t true es h = same_row next n cs ep tail es _ (batches_done t es) (subst Differ (sym (entries_done t es)) h.differ) h
 ran next n cs ep tail t false es h = h
 
 -- ---- every event
@@ -200,10 +199,6 @@ rows_opened {C} w = λ a. empty_row _ _ _ _ _ (cell_at (opening w) a).entries (n
     least (x ∷ xs) (suc a) = least xs a
 
 -- ---- for quiet states
-
-among_all : (P : ℕ → Type 0) (k : ℕ) (ks : List ℕ) → is_among k ks ≡ true → AllByRecursion P ks → P k
-among_all P k [] h g = absurd (true≢false (sym h))
-among_all P k (x ∷ ks) h g = elim (or_cases (x == k) (is_among k ks) h) [ inl e ↦ subst P (eqb-true x k e) g.0 | inr e ↦ among_all P k ks e g.1 ]
 
 rises_of : (ks : List ℕ) → Ascends ks → Rises ks
 rises_of [] h = tt

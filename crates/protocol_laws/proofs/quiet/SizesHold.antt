@@ -1,5 +1,5 @@
 -- How many of each there are, and how far numbers are.
-use Rattle.std.specs.Prelude.{◌≡◌, refl, ℕ, zero, suc, ◌+◌, ◌%◌, ◌<◌, ◌≤◌, ◌==◌, Bool, true, false, not, ◌&&◌, if◌then◌else◌, Some, is_some, List, [], ◌∷◌, ◌++◌, length, take, slice_set, replicate}
+use Rattle.std.specs.Prelude.{◌≡◌, refl, ℕ, zero, suc, ◌+◌, ◌%◌, ◌<◌, ◌≤◌, ◌==◌, Bool, true, false, not, ◌&&◌, if◌then◌else◌, Some, is_some, List, [], ◌∷◌, ◌++◌, length, take, replicate}
 use Rattle.std.specs.List.{AllByRecursion}
 use Rattle.std.proofs.Common.{arith, sym, ap, subst, inl, inr, ◌∙◌}
 use Rattle.std.proofs.lemmas.Bool.{true≢false, and_parts, eqb-true}
@@ -31,9 +31,10 @@ use Rattle.protocol_laws.proofs.first.OneWayActs.{acts_went}
 use Rattle.protocol_laws.proofs.first.Times
 use Rattle.protocol_laws.proofs.machine.TurnsKept.{one_is}
 use Rattle.protocol_laws.proofs.quiet.LeftRing.{joined_most, left_falls}
-use Rattle.protocol_laws.proofs.quiet.LeftAlong.{cells_stay}
 use Rattle.protocol_laws.proofs.quiet.QuietKnown as known
 use Rattle.protocol_laws.proofs.quiet.LimitsHold.{count_cons}
+use Rattle.protocol_laws.proofs.machine.QueuedKept.{lasts_length}
+use Rattle.protocol_laws.proofs.first.RangesNamed.{cells_stay}
 
 -- ---- the ring
 
@@ -55,11 +56,7 @@ length_if : (b : Bool) (c n : ℕ) (qs : List (List ℕ)) → (length (if b then
 length_if true c n qs = (Times.length_set qs c (queue qs c ++ n ∷ []), refl)
 length_if false c n qs = (refl, Times.length_set qs c (queue qs c ++ n ∷ []))
 
-lasts_length : (k : ℕ) (actors lasts : List ℕ) → length (ring.with_lasts k actors lasts) ≡ length lasts
-lasts_length k [] lasts = refl
-lasts_length k (a ∷ actors) lasts = lasts_length k actors (slice_set lasts a k) ∙ Times.length_set lasts a k
-
-some_taken : (n : ℕ) (xs : List ℕ) → 1 ≤ n → not (is_empty xs) ≡ true → 1 ≤ length (take n xs)
+pub some_taken : (n : ℕ) (xs : List ℕ) → 1 ≤ n → not (is_empty xs) ≡ true → 1 ≤ length (take n xs)
 some_taken n [] l e = absurd (true≢false (sym e))
 some_taken zero (x ∷ xs) l e = absurd (omega (arith, l))
 some_taken (suc n) (x ∷ xs) l e = omega arith

@@ -32,7 +32,7 @@ use Rattle.protocol_laws.proofs.machine.TurnsKept.{one_is, Turned}
 use Rattle.protocol_laws.proofs.machine.BeforesKept.{Numbers}
 use Rattle.protocol_laws.proofs.machine.Good.{Given, Good}
 use Rattle.protocol_laws.proofs.machine.ActsKept.{Acts}
-use Rattle.protocol_laws.proofs.machine.ActsFound.{EachAct, found_tid}
+use Rattle.protocol_laws.proofs.machine.ActsFound.{found_tid}
 use Rattle.protocol_laws.proofs.machine.EntriesKept.{open_at}
 use Rattle.protocol_laws.proofs.machine.AllGood as all
 use Rattle.protocol_laws.proofs.machine.AllGood.{AllGood}

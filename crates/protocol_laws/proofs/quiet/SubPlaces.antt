@@ -26,6 +26,7 @@ use Rattle.protocol_laws.proofs.quiet.RowsKept as rows
 use Rattle.protocol_laws.proofs.quiet.ActsKnown.{one_of}
 use Rattle.protocol_laws.proofs.quiet.BatchesKnown as known
 use Rattle.protocol_laws.proofs.first.Statuses.{if_bid}
+use Rattle.protocol_laws.proofs.quiet.LimitsHold.{count_cons}
 
 -- ---- words
 
@@ -46,13 +47,6 @@ unfoldable pub InOnePlace : {C : Type 0} → Machine C → Type 0
 InOnePlace s = (a : ℕ) → OneAt s.post.subs s.desk.batches s.book.cascades a (cell_at s a).entries
 
 -- ---- counts
-
-count_cons : {X : Type 0} (p : X → Bool) (x : X) (xs : List X) → count p (x ∷ xs) ≡ one_if (p x) + count p xs
-count_cons p x xs = by (p x)
-  where
-    by : (b : Bool) → length (if b then x ∷ filter p xs else filter p xs) ≡ one_if b + length (filter p xs)
-    by true = omega arith
-    by false = omega arith
 
 pub count_join : {X : Type 0} (p : X → Bool) (xs ys : List X) → count p (xs ++ ys) ≡ count p xs + count p ys
 count_join p [] ys = omega arith
@@ -163,7 +157,7 @@ pub if_waits : (v : Bool) (a : ℕ) (f : Batch → Batch) (b : Batch) → holds 
 if_waits true a f b h = h
 if_waits false a f b h = refl
 
-if_actor : (v : Bool) (f : Declared → Declared) (p : Declared) → (f p).actor ≡ p.actor → (desk.mark_if v f p).actor ≡ p.actor
+pub if_actor : (v : Bool) (f : Declared → Declared) (p : Declared) → (f p).actor ≡ p.actor → (desk.mark_if v f p).actor ≡ p.actor
 if_actor true f p h = h
 if_actor false f p h = refl
 

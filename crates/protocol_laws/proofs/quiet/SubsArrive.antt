@@ -28,6 +28,7 @@ use Rattle.protocol_laws.proofs.quiet.BatchesKnown as known
 use Rattle.protocol_laws.proofs.quiet.SubPlaces
 use Rattle.protocol_laws.proofs.first.Lists.{any_join}
 use Rattle.protocol_laws.proofs.first.Statuses.{if_bid}
+use Rattle.protocol_laws.proofs.first.OneWay.{bid_went}
 
 -- ---- records come by Complete alone
 
@@ -127,11 +128,6 @@ waited w e s k a ok l h = (h, tt)
 pub Stand : {C : Type 0} → Fixed C → Machine C → Type 0
 Stand w s = (k a : ℕ) → IsIn (is_complete k a) (a % w.text.logs) s → (k < s.ring.next_bid) × (is_aborted k s.book.cascades ≡ false → SubPlaces.waits_at k a s.desk.batches ≡ true → 1 ≤ times k (batches_on (cell_at s a).entries))
 
-more_bids : {C : Type 0} (w : Fixed C) (e : Event) (s : Machine C) → s.ring.next_bid ≤ (after w e s).ring.next_bid
-unfolding after
-more_bids w (Form k) s = omega arith
-more_bids w e s = omega arith
-
 less_aborted : {C : Type 0} (w : Fixed C) (e : Event) (s : Machine C) (k : ℕ) → is_aborted k (after w e s).book.cascades ≡ false → is_aborted k s.book.cascades ≡ false
 unfolding after
 less_aborted w (Abort j) s k h = SubPlaces.fewer_aborted k s.book.cascades _ h
@@ -173,7 +169,7 @@ stand_kept w e s ok r h k a i = elim (came w e s k a (a % w.text.logs) i) [
 ]
   where
     by : k < s.ring.next_bid → (is_aborted k s.book.cascades ≡ false → SubPlaces.waits_at k a s.desk.batches ≡ true → 1 ≤ times k (batches_on (cell_at s a).entries)) → (k < (after w e s).ring.next_bid) × (is_aborted k (after w e s).book.cascades ≡ false → SubPlaces.waits_at k a (after w e s).desk.batches ≡ true → 1 ≤ times k (batches_on (cell_at (after w e s) a).entries))
-    by l f = (omega (arith, l, more_bids w e s), λ n v. let n' = less_aborted w e s k n in let v' = waited w e s k a ok l v in omega (arith, f n' v'.0, stands w e s k a ok n' r v'.1))
+    by l f = (omega (arith, l, bid_went w e s), λ n v. let n' = less_aborted w e s k n in let v' = waited w e s k a ok l v in omega (arith, f n' v'.0, stands w e s k a ok n' r v'.1))
 
 stand_opened : {C : Type 0} (w : Fixed C) → Stand w (opening w)
 unfolding Stand

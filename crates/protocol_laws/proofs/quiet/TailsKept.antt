@@ -1,7 +1,7 @@
 -- The tail of a cell of the present epoch is the last batch of that epoch that has arrived: those not above it have, those
 -- above it are on their way. So the first one on its way names the tail. Of states alone.
-use Rattle.std.specs.Prelude.{◌≡◌, refl, ℕ, zero, suc, ◌+◌, ◌-◌, ◌<◌, ◌≤◌, ◌==◌, nat_lt, max, not, Bool, true, false, ◌&&◌, ◌||◌, if◌then◌else◌, ◌⊎◌, Option, Some, None, is_some, List, [], ◌∷◌, ◌++◌, length, map, filter, find, slice_get, slice_index_or, slice_set}
-use Rattle.std.specs.List.{AllByRecursion, list_any}
+use Rattle.std.specs.Prelude.{◌≡◌, refl, ℕ, zero, suc, ◌+◌, ◌-◌, ◌<◌, ◌≤◌, ◌==◌, nat_lt, not, Bool, true, false, ◌&&◌, ◌||◌, if◌then◌else◌, ◌⊎◌, Option, Some, None, is_some, List, [], ◌∷◌, ◌++◌, length, map, filter, find, slice_get, slice_index_or, slice_set}
+use Rattle.std.specs.List.{AllByRecursion}
 use Rattle.std.proofs.Common.{arith, sym, ap, subst, inl, inr, ◌∙◌}
 use Rattle.std.proofs.lemmas.List.{get_or-set_same, get_or-set_other}
 use Rattle.std.proofs.lemmas.Bool.{eqb-true, eqb-false, eq-eqb, ne_eqb, ltb-true, lt-ltb, and_parts, or_cases, true≢false, not-true, cases_Bool, cases_lt}
@@ -30,6 +30,8 @@ use Rattle.protocol_laws.proofs.quiet.BatchesKnown as known
 use Rattle.protocol_laws.proofs.quiet.ActsKnown.{one_of}
 use Rattle.protocol_laws.proofs.first.Lists.{all_found}
 use Rattle.protocol_laws.proofs.first.Statuses.{if_bid}
+use Rattle.protocol_laws.proofs.machine.OversKept.{aborted_low}
+use Rattle.protocol_laws.proofs.quiet.SubPlaces.{if_actor}
 
 -- ---- the desk's batches and their actors
 
@@ -44,10 +46,6 @@ looks q k f (x ∷ bs) i h = subst (λ z. holds q (if z == k then Some (f x) els
 if_looks : (q : Batch → Bool) (v : Bool) (f : Batch → Batch) (b : Batch) → q (f b) ≡ q b → q (desk.change_if v f b) ≡ q b
 if_looks q true f b h = h
 if_looks q false f b h = refl
-
-if_actor : (v : Bool) (f : Declared → Declared) (p : Declared) → (f p).actor ≡ p.actor → (desk.mark_if v f p).actor ≡ p.actor
-if_actor true f p h = h
-if_actor false f p h = refl
 
 marked_declared : (a c : ℕ) (f : Declared → Declared) (ps : List Declared) → ((p : Declared) → (f p).actor ≡ p.actor) → is_some (find (λ p. p.actor == a) (map (λ p. desk.mark_if (p.actor == c) f p) ps)) ≡ is_some (find (λ p. p.actor == a) ps)
 marked_declared a c f [] i = refl
@@ -278,16 +276,6 @@ form_tail {C} w k s a ep tail q g h = record {
     posted : (j : ℕ) → (k == j) ≡ true → is_declared j a (s.desk.batches ++ fresh ∷ []) ≡ true → is_some (sub_of j a (s.post.subs ++ map (ring.first_sub w.text k s.ring) (ring.next_actors w.text s.ring))) ≡ true
     posted j e d = SubPlaces.found_count (SubPlaces.is_to j a) (s.post.subs ++ map (ring.first_sub w.text k s.ring) (ring.next_actors w.text s.ring)) (let z = joined j in omega (arith, z, ap (λ v. if v then times a (ring.next_actors w.text s.ring) else 0) e, some (ring.next_actors w.text s.ring) (among j e d)))
 
--- an aborted batch is of an earlier epoch
-aborted_early : (k : ℕ) (cs : List Cascade) → is_aborted k cs ≡ true → epoch_of k cs < length cs
-aborted_early k [] h = absurd (true≢false (sym h))
-aborted_early k (c ∷ cs) h = by (nat_lt c.upto k) refl (or_cases (covers k c) (is_aborted k cs) h) (aborted_early k cs)
-  where
-    by : (v : Bool) → nat_lt c.upto k ≡ v → (covers k c ≡ true) ⊎ (is_aborted k cs ≡ true) → (is_aborted k cs ≡ true → epoch_of k cs < length cs) → length (if v then c ∷ filter (λ c. nat_lt c.upto k) cs else filter (λ c. nat_lt c.upto k) cs) < suc (length cs)
-    by true e (inl q) r = absurd (omega (arith, ltb-true c.upto k e, Rattle.std.proofs.lemmas.Bool.leb-true k c.upto (and_parts (Rattle.std.specs.Prelude.nat_le c.first k) (Rattle.std.specs.Prelude.nat_le k c.upto) q).1))
-    by true e (inr q) r = omega (arith, r q)
-    by false e q r = omega (arith, epochs.epoch_most k cs)
-
 no_and : (x v : Bool) → x ≡ false → (v && x) ≡ false
 no_and x true q = q
 no_and x false q = refl
@@ -430,7 +418,7 @@ roll_tail w a s l g r p h = record {
     none j d f m = elim (cases_Bool (SubPlaces.waits_at j a s.desk.batches)) [
       | inr v ↦ omega (arith, h.early j d v, f, l)
       | inl v ↦
-          let fresh : is_aborted j s.book.cascades ≡ false = elim (cases_Bool (is_aborted j s.book.cascades)) [ inl y ↦ absurd (omega (arith, aborted_early j s.book.cascades y, f)) | inr y ↦ y ] in
+          let fresh : is_aborted j s.book.cascades ≡ false = elim (cases_Bool (is_aborted j s.book.cascades)) [ inl y ↦ absurd (omega (arith, aborted_low j s.book.cascades y, f)) | inr y ↦ y ] in
           let o : 1 ≤ times j (batches_on (cell_at s a).entries) = omega (arith, p.one a j fresh, ap one_if v, zero_post) in
           let x = subs.fits_all (Fits s.ring.next_bid s.book.cascades (cell_at s a).epoch (cell_at s a).tail) j (batches_on (cell_at s a).entries) o (subst (AllByRecursion (Fits s.ring.next_bid s.book.cascades (cell_at s a).epoch (cell_at s a).tail)) (rows.row_batches (cell_at s a).entries) (r a).places.fit) in
           omega (arith, x.placed, f, l)
@@ -461,7 +449,7 @@ tails_kept w (DropSub k b) s ok g u r f p n d h = λ a. carry s (after w (DropSu
   next = omega arith;
   cs = refl;
   declared = λ j l. refl;
-  ms = λ j q. taken k b j a s.post.subs (rw (ne_eqb k j (λ i. omega (arith, aborted_early k s.book.cascades ok.1.0, q, ap (λ z. epoch_of z s.book.cascades) i))) refl);
+  ms = λ j q. taken k b j a s.post.subs (rw (ne_eqb k j (λ i. omega (arith, aborted_low k s.book.cascades ok.1.0, q, ap (λ z. epoch_of z s.book.cascades) i))) refl);
 }) (h a).early (h a)
 tails_kept w (Abort k) s ok g u r f p n d h = λ a. record {
   early = λ j e v.
@@ -518,4 +506,4 @@ next_there s g f d h k a m e fresh now here smaller =
     n.0.prev ∙ (ap greatest (sym (epochs.two_lists m.bid m.epoch m.actor s.book.cascades s.desk.batches)) ∙ ((ap (λ z. greatest (map (λ b. b.bid) (filter (is_of z m.epoch m.actor s.book.cascades) s.desk.batches))) i) ∙ ((ap (λ z. greatest (map (λ b. b.bid) (filter (is_of k z m.actor s.book.cascades) s.desk.batches))) now) ∙ (ap (λ z. greatest (map (λ b. b.bid) (filter (is_of k (length s.book.cascades) z s.book.cascades) s.desk.batches))) j ∙ last_is_tail k a (cell_at s a).tail s.ring.next_bid s.book.cascades s.desk.batches s.post.subs f t l none))))
   where
     none : (y : ℕ) → y < k → is_declared y a s.desk.batches ≡ true → epoch_of y s.book.cascades ≡ length s.book.cascades → is_some (sub_of y a s.post.subs) ≡ false
-    none y l dy ey = elim (cases_Bool (is_some (sub_of y a s.post.subs))) [ inl p ↦ absurd (omega (arith, aborted_early y s.book.cascades (smaller y l p), ey)) | inr p ↦ p ]
+    none y l dy ey = elim (cases_Bool (is_some (sub_of y a s.post.subs))) [ inl p ↦ absurd (omega (arith, aborted_low y s.book.cascades (smaller y l p), ey)) | inr p ↦ p ]

@@ -226,7 +226,7 @@ ahead_staying next cs ep tail acts t k (Gone (OfAct u) ss ∷ rs) n d x f a h = 
 
 -- ---- at an Abort: batches behind a live ACT have not committed
 
-among_all : (P : ℕ → Type 0) (k : ℕ) (ks : List ℕ) → is_among k ks ≡ true → AllByRecursion P ks → P k
+pub among_all : (P : ℕ → Type 0) (k : ℕ) (ks : List ℕ) → is_among k ks ≡ true → AllByRecursion P ks → P k
 among_all P k [] h a = absurd (true≢false (sym h))
 among_all P k (j ∷ js) h a = elim (or_cases (j == k) (is_among k js) h) [ inl e ↦ subst P (eqb-true j k e) a.0 | inr e ↦ among_all P k js e a.1 ]
 

@@ -21,11 +21,11 @@ use Rattle.protocol_laws.proofs.machine.ActsGrow.{Later}
 use Rattle.protocol_laws.proofs.machine.BeforesKept.{Lasts}
 use Rattle.protocol_laws.proofs.first.PairsKept as pairs
 use Rattle.protocol_laws.proofs.first.PairsFound as found
-use Rattle.protocol_laws.proofs.first.PairsFound.{Ascend, TidsAscend}
+use Rattle.protocol_laws.proofs.first.PairsFound.{Ascend, TidsAscend, same_pair}
 use Rattle.protocol_laws.proofs.machine.TurnsKept.{one_is}
 use Rattle.protocol_laws.proofs.machine.ShowsKept as shows
 use Rattle.protocol_laws.proofs.sets.SpreadSets
-use Rattle.protocol_laws.proofs.sets.SpreadSets.{Gain, Gains, NoGain, IsBefore, Before, if_live, at_it, at_other, greatest_join}
+use Rattle.protocol_laws.proofs.sets.SpreadSets.{Gain, Gains, NoGain, IsBefore, Before, if_live, at_it, at_other}
 use Rattle.protocol_laws.proofs.sets.GainsKept as gains
 use Rattle.protocol_laws.proofs.sets.GainsKept.{GainsAre, PairsIn, AllIn, IsIn}
 use Rattle.protocol_laws.proofs.sets.LastsTight.{Tights, Tight}
@@ -33,6 +33,7 @@ use Rattle.protocol_laws.proofs.sets.FloorsKept.{Floors}
 use Rattle.protocol_laws.proofs.sets.PairsAhead as ahead
 use Rattle.protocol_laws.proofs.first.Lists.{all_join, all_map, weaker, all_found}
 use Rattle.protocol_laws.proofs.first.Statuses.{live_not_doomed, not_doomed_decided}
+use Rattle.protocol_laws.proofs.machine.OversKept.{greatest_join}
 
 abbrev pub AllGreatest : (ℕ → List ℕ) → List Act → Type 0
 AllGreatest b acts = AllByRecursion (IsGreatest b) acts
@@ -53,14 +54,14 @@ less_is b x y k h = λ d. k.m ∙ (h (k.doomed d) ∙ ap (λ z. greatest (b z)) 
 mapped : (b : ℕ → List ℕ) (f : Act → Act) (xs : List Act) → ((x : Act) → Less x (f x)) → AllGreatest b xs → AllGreatest b (map f xs)
 mapped b f xs k h = all_map (IsGreatest b) (IsGreatest b) f xs (λ x i. less_is b x (f x) (k x) i) h
 
-if_less : (v : Bool) (f : Act → Act) (x : Act) → Less x (f x) → Less x (book.change_if v f x)
+pub if_less : (v : Bool) (f : Act → Act) (x : Act) → Less x (f x) → Less x (book.change_if v f x)
 if_less true f x h = h
 if_less false f x h = record { tid = refl; m = refl; doomed = λ d. d }
 
 changed : (b : ℕ → List ℕ) (t : ℕ) (f : Act → Act) (xs : List Act) → ((x : Act) → Less x (f x)) → AllGreatest b xs → AllGreatest b (book.changed_act t f xs)
 changed b t f xs k h = mapped b _ xs (λ x. if_less (x.tid == t) f x (k x)) h
 
-dooms : (c : Bool) (v : Rattle.snap_base.specs.declared.verdicts.Verdict.Verdict) (st : Status) → is_doomed (if c then Doomed v else st) ≡ false → is_doomed st ≡ false
+pub dooms : (c : Bool) (v : Rattle.snap_base.specs.declared.verdicts.Verdict.Verdict) (st : Status) → is_doomed (if c then Doomed v else st) ≡ false → is_doomed st ≡ false
 dooms true v st e = absurd (true≢false e)
 dooms false v st e = e
 
@@ -100,9 +101,6 @@ find_self low high (x ∷ xs) a Q k = (k x (rw (eq-eqb x.tid x.tid refl) refl), 
   where
     after_all : (low high : ℕ) (xs : List Act) → Ascend low high (map (λ x. x.tid) xs) → (y : Act) → act_of y.tid xs ≡ Some y → low ≤ y.tid
     after_all low high xs a y e = found.further low high y.tid xs y a e
-
-same_pair : (p : Pair) → ((p.behind == p.behind) && (p.ahead == p.ahead)) ≡ true
-same_pair p = rw (eq-eqb p.behind p.behind refl, eq-eqb p.ahead p.ahead refl) refl
 
 -- each pair is one of them
 self_pairs : (ps qs : List Pair) → ((t u : ℕ) → stands_behind qs t u ≡ true → stands_behind ps t u ≡ true) → AllByRecursion (λ p. stands_behind ps p.behind p.ahead ≡ true) qs

@@ -21,6 +21,7 @@ use Rattle.protocol_laws.proofs.machine.TracksKept.{beside, beside_same, in_rang
 use Rattle.protocol_laws.proofs.machine.TurnsKept.{one_is}
 use Rattle.protocol_laws.proofs.machine.ShowsKept as shows
 use Rattle.protocol_laws.proofs.first.Lists.{all_join, weaker}
+use Rattle.protocol_laws.proofs.first.EpochsKept.{greatest_more}
 
 -- ---- one that is sealed stays so, with its number
 
@@ -58,10 +59,6 @@ floor_stays w e s h first floor xs o g = record {
 
 -- ---- an ACT leaves
 
-greatest_last : (ns : List ℕ) (n : ℕ) → greatest (ns ++ n ∷ []) ≡ max (greatest ns) n
-greatest_last [] n = omega arith
-greatest_last (m ∷ ms) n = omega (arith, greatest_last ms n)
-
 map_last : (acts : List Act) (xs : List Lock) (x : Lock) → map (number_in acts) (xs ++ x ∷ []) ≡ map (number_in acts) xs ++ number_in acts x ∷ []
 map_last acts [] x = refl
 map_last acts (y ∷ ys) x = rw (map_last acts ys x) refl
@@ -79,7 +76,7 @@ leaves first acts acts' floor t xs (Some x) e k n g = by (is_sealed x.status) re
         let num : number_or_0 (act_of t acts') ≡ x.m = n here ∙ ap number_or_0 e in
         record {
           sealed = all_join _ xs (record { tid = t } ∷ []) g.sealed (k here, tt);
-          floor_is = rw (map_last acts' xs (record { tid = t }), greatest_last (map (number_in acts') xs) (number_in acts' (record { tid = t }))) (omega (arith, g.floor_is, num));
+          floor_is = rw (map_last acts' xs (record { tid = t }), greatest_more (map (number_in acts') xs) (number_in acts' (record { tid = t }))) (omega (arith, g.floor_is, num));
         }
 
 -- ---- all events

@@ -18,6 +18,7 @@ use Rattle.protocol_laws.proofs.machine.BeforesKept.{Numbers}
 use Rattle.protocol_laws.proofs.machine.TurnsKept.{Turned}
 use Rattle.protocol_laws.proofs.first.Lists.{all_join, all_map, all_filter, weaker}
 use Rattle.protocol_laws.proofs.first.Statuses.{decided_doomed, if_tid, sealed_doomed}
+use Rattle.protocol_laws.proofs.machine.QueuedKept.{found_some}
 
 abbrev pub out : List Act → Pair → Bool
 out acts p = book.is_doomed_act acts (record { tid = p.ahead })
@@ -147,10 +148,6 @@ AllIn acts ps = AllByRecursion (λ p. IsIn acts p.ahead) ps
 unfoldable pub PairsIn : {C : Type 0} → Machine C → Type 0
 PairsIn s = AllIn s.book.acts s.book.pairs
 
-holds_in : (p : Act → Bool) (o : Option Act) → holds p o ≡ true → is_some o ≡ true
-holds_in p None h = h
-holds_in p (Some x) h = refl
-
 group_in : (acts : List Act) (top : ℕ) (seen : List Lock) (rs : List Ran) (es : List Entry) → Turns rs es → Befores acts top rs → AllByRecursion (λ x. IsIn acts x.tid) seen → AllByRecursion (λ x. IsIn acts x.tid) (group_behind seen es)
 group_in acts top seen [] [] t b h = h
 group_in acts top seen [] (e ∷ es) t b h = absurd t
@@ -160,7 +157,7 @@ group_in acts top seen (Stands y c ss ∷ rs) [] t b h = absurd t
 group_in acts top seen (Stands (OfBatch j) c ss ∷ rs) (ActEntry x ∷ es) t b h = absurd (cc t.0)
 group_in acts top seen (Stands (OfBatch j) c ss ∷ rs) (BatchEntry k ∷ es) t b h = group_in acts (max top j) [] rs es t.2 b tt
 group_in acts top seen (Stands (OfAct u) c ss ∷ rs) (BatchEntry k ∷ es) t b h = absurd (cc t.0)
-group_in acts top seen (Stands (OfAct u) c ss ∷ rs) (ActEntry x ∷ es) t b h = let i : x.tid ≡ u = cc t.0 in group_in acts top (seen ++ x ∷ []) rs es t.2 b.1 (all_join (λ x. IsIn acts x.tid) seen (x ∷ []) h (subst (IsIn acts) (sym i) (holds_in (is_above top) (act_of u acts) b.0), tt))
+group_in acts top seen (Stands (OfAct u) c ss ∷ rs) (ActEntry x ∷ es) t b h = let i : x.tid ≡ u = cc t.0 in group_in acts top (seen ++ x ∷ []) rs es t.2 b.1 (all_join (λ x. IsIn acts x.tid) seen (x ∷ []) h (subst (IsIn acts) (sym i) (found_some (is_above top) (act_of u acts) b.0), tt))
 
 -- so are those that an Ask pairs with
 pub new_in : {C : Type 0} (t a : ℕ) (c : Cell C) (acts : List Act) (rs : List Ran) → Turns rs c.entries → Befores acts 0 rs → AllIn acts (book.new_pairs t a (book.met t c.entries) acts)

@@ -26,7 +26,7 @@ use Rattle.protocol_laws.proofs.machine.PlaceLists
 use Rattle.protocol_laws.proofs.machine.PlacesKept.{Placed}
 use Rattle.protocol_laws.proofs.machine.BeforesKept as befores
 use Rattle.protocol_laws.proofs.machine.ShowsKept as shows
-use Rattle.protocol_laws.proofs.sets.SpreadSets.{greatest_join}
+use Rattle.protocol_laws.proofs.machine.OversKept.{greatest_join}
 
 -- ---- lists
 

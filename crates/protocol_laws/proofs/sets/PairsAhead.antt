@@ -23,7 +23,7 @@ use Rattle.protocol_laws.specs.Turns.{Turns}
 use Rattle.protocol_laws.specs.Highs.{AllDoomed, TakenAlong, doomed_at}
 use Rattle.protocol_laws.proofs.machine.ActsGrow.{acts_grow, grown_holds}
 use Rattle.protocol_laws.proofs.machine.ActsFound as acts
-use Rattle.protocol_laws.proofs.machine.ActsFound.{EachAct, Holds}
+use Rattle.protocol_laws.proofs.machine.ActsFound.{Holds}
 use Rattle.protocol_laws.proofs.machine.ActsKept.{Acts}
 use Rattle.protocol_laws.proofs.machine.ActResults as results
 use Rattle.protocol_laws.proofs.machine.BehindKept as behind
@@ -37,6 +37,7 @@ use Rattle.protocol_laws.proofs.machine.AllGood as all
 use Rattle.protocol_laws.proofs.machine.AllGood.{AllGood}
 use Rattle.protocol_laws.proofs.machine.Higher as higher
 use Rattle.protocol_laws.proofs.first.Lists.{all_join, all_map, all_filter, weaker}
+use Rattle.protocol_laws.proofs.machine.BehindKept.{holds_some}
 
 -- ---- one ACT ahead of another on a long schedule
 
@@ -265,12 +266,8 @@ ready_unplaced w (End u a) s t n = λ x r e p. p
 ready_unplaced w (Decide u) s t n = λ x e p i. absurd (n (ap Decide i))
 ready_unplaced w e s t n = tt
 
-some_of : (q : Act → Bool) (o : Option Act) → holds q o ≡ true → is_some o ≡ true
-some_of q None e = e
-some_of q (Some x) e = refl
-
 unplaced_stays : {C : Type 0} (w : Fixed C) (e : Event) (s : Machine C) (t : ℕ) → (e ≡ Decide t → ⊥) → holds is_unplaced (act_of t s.book.acts) ≡ true → holds is_unplaced (act_of t (after w e s).book.acts) ≡ true
-unplaced_stays w e s t n h = behind.each_to_holds is_unplaced t (after w e s).book.acts (in_book w e s t (some_of is_unplaced (act_of t s.book.acts) h)) (acts.acts_keep w e s (λ u x. u ≡ t → is_unplaced x ≡ true) (holds_unplaced t) (ready_unplaced w e s t n) (behind.holds_to_each is_unplaced t s.book.acts h))
+unplaced_stays w e s t n h = behind.each_to_holds is_unplaced t (after w e s).book.acts (in_book w e s t (holds_some is_unplaced (act_of t s.book.acts) h)) (acts.acts_keep w e s (λ u x. u ≡ t → is_unplaced x ≡ true) (holds_unplaced t) (ready_unplaced w e s t n) (behind.holds_to_each is_unplaced t s.book.acts h))
 
 doomed_stays : {C : Type 0} (w : Fixed C) (e : Event) (s : Machine C) (t : ℕ) → doomed_at s.book.acts t ≡ true → doomed_at (after w e s).book.acts t ≡ true
 doomed_stays w e s t h = grown_holds (λ x. is_doomed x.status) s.book.acts (after w e s).book.acts t (λ x y k q. k.doomed q) (acts_grow w e s) h

@@ -12,12 +12,10 @@ use Rattle.protocol_laws.proofs.first.Pairs as pairs
 use Rattle.protocol_laws.proofs.first.PairsFound.{Ascend}
 use Rattle.protocol_laws.proofs.machine.TurnsKept.{one_is}
 use Rattle.protocol_laws.proofs.first.Lists.{weaker, all_found}
+use Rattle.protocol_laws.proofs.machine.DecidedStays.{carries_none}
+use Rattle.protocol_laws.proofs.machine.OversKept.{greatest_join}
 
 -- ---- lists
-
-pub greatest_join : (xs ys : List ℕ) → greatest (xs ++ ys) ≡ max (greatest xs) (greatest ys)
-greatest_join [] ys = omega arith
-greatest_join (x ∷ xs) ys = omega (arith, greatest_join xs ys)
 
 pub at_it : (t : ℕ) (x : List ℕ) (f : ℕ → List ℕ) → with_at t x f t ≡ x
 at_it t x f = rw (eq-eqb t t refl) refl
@@ -152,10 +150,6 @@ raised_tids : (ps : List Pair) (xs : List Act) → map (λ x. x.tid) (raised ps 
 raised_tids ps [] = refl
 raised_tids ps (x ∷ xs) = rw (raised_tids ps xs) refl
 
-none_carried : (ps : List Pair) (x : Act) (xs : List Act) → is_ordered x.status ≡ true → carried ps x xs ≡ 0
-none_carried ps x [] e = refl
-none_carried ps x (y ∷ ys) e = rw e (none_carried ps x ys e)
-
 live_unordered : (st : Status) → is_live_status st ≡ true → not (is_ordered st) ≡ true
 live_unordered Live e = refl
 live_unordered (Doomed v) e = refl
@@ -196,7 +190,7 @@ spread_raised ps gs low high b (x ∷ xs) a g k n h =
         | inr dead ↦
             (λ d. let q = h.0 d in
             let top : greatest (b x.tid) ≤ max x.m 0 = subst (λ c. greatest (b x.tid) ≤ max x.m (if_live c (greatest (gained gs x.tid b)))) dead q.most in
-            omega (arith, e, nothing gs x f (n.0 dead d), none_carried ps x (raised ps xs) (dead_ordered x.status dead d), q.less, top))
+            omega (arith, e, nothing gs x f (n.0 dead d), carries_none ps x (raised ps xs) (dead_ordered x.status dead d), q.less, top))
       ],
       others_stay x.tid (x.tid + 1) high (f x.tid ++ gained gs x.tid f) f (raised ps xs) (subst (Ascend (x.tid + 1) high) (sym (raised_tids ps xs)) a.1) (omega arith) r,
     )

@@ -1,0 +1,12 @@
+use Rattle.std.proofs.Common.{sym, ◌∙◌}
+use Rattle.machine_recovery.proofs.laws.logs_recover_as_meant.Goals as goal
+
+pub returns : goal.returns
+returns c w es m kept earlier o is run left many before begins =
+    let recovers = c.logs_recover_to_the_members.ensures w es m kept earlier o is run left many before begins in
+    let crash = c.recovered_transactions_are_in_order.ensures w es m kept is run left in
+    let meant = c.recovered_transactions_are_as_meant.ensures w es m kept is run left in
+    record {
+      results = meant.results;
+      states = λ a below. recovers.states a below ∙ (sym (crash.states a below) ∙ meant.states a below);
+    }

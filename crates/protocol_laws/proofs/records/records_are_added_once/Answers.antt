@@ -1,5 +1,0 @@
-use Rattle.protocol_laws.proofs.recording.RecordsHold.{added_once}
-use Rattle.protocol_laws.proofs.records.records_are_added_once.Goals as goal
-
-pub returns : goal.returns
-returns g c = added_once

@@ -1,5 +1,0 @@
-use Rattle.protocol_laws.proofs.recording.SeveralRunsStand.{runs_stand}
-use Rattle.protocol_laws.proofs.runs.several_runs_stand.Goals as goal
-
-pub returns : goal.returns
-returns g c = runs_stand

@@ -1,0 +1,123 @@
+-- What logs that a crash left recover is serial, at every moment of every run.
+use Rattle.std.specs.Prelude.{◌≡◌, refl, ℕ, zero, suc, ◌<◌, ◌≤◌, ◌%◌, Bool, true, false, ◌&&◌, if◌then◌else◌, List, [], ◌∷◌, ◌++◌, length, filter, replicate, map, slice_index_or}
+use Rattle.std.specs.List.{AllByRecursion, list_any}
+use Rattle.std.proofs.Common.{arith, sym, ap, subst, inl, inr, ◌∙◌}
+use Rattle.std.proofs.lemmas.Bool.{true≢false, cases_Bool}
+use Rattle.snap_base.specs.declared.transactions.State.{State}
+use Rattle.snap_base.specs.declared.transactions.Tx.{Tx}
+use Rattle.protocol.specs.Fixed.{Fixed, IsText}
+use Rattle.protocol.specs.Facts.{Alone}
+use Rattle.protocol.specs.Records.{LogRecord, is_commit, is_act_commit}
+use Rattle.protocol.specs.Parts.{Who, OfBatch, OfAct, Machine}
+use Rattle.protocol.specs.Events.{Event}
+use Rattle.protocol.specs.Words.{is_value}
+use Rattle.protocol.specs.Conditions.{IsAllowed}
+use Rattle.protocol.specs.Effects.{after, log_at}
+use Rattle.protocol.specs.Runs.{opening, IsRun, reached}
+use Rattle.protocol.specs.History.{Done, History, no_history, history, grown}
+use Rattle.protocol_laws.specs.Linked.{came_to, visitors}
+use Rattle.protocol.specs.Moments.{Moment, IsCut, IsLeft, left_in}
+use Rattle.protocol_records.specs.Crash.{is_in, members, valued, IsFrontOn}
+use Rattle.protocol_laws.proofs.first.Lists.{filter_join, join_nil}
+use Rattle.protocol_laws.proofs.order.ChainLists.{OfIt}
+use Rattle.protocol_laws.proofs.machine.Good.{Given, for_chain}
+use Rattle.protocol_laws.proofs.machine.AllGood.{AllGood, owes, along_good}
+use Rattle.protocol_records.proofs.crash.DurableKept.{Durable, has_record, any_take}
+use Rattle.protocol_records.proofs.crash.DurableKept as durable
+use Rattle.protocol_records.proofs.crash.FrontsKept.{Fronts, Split}
+use Rattle.protocol_records.proofs.crash.FrontsKept as fronts
+use Rattle.protocol_records.proofs.crash.CrashImplied.{Members, members_serial, moment_is_cut, front_runs}
+use Rattle.protocol_laws.proofs.order.LastLaw.{all_facts}
+use Rattle.protocol.specs.Rests.{IsRest, IsTxIn, HasFacts}
+
+-- ---- along a run
+
+pub record Recovers {C : Type 0} (w : Fixed C) (s : Machine C) (h : History) : Type 0 where
+  pub durable : Durable w s h
+  pub fronts : Fronts w s h
+
+kept : {C : Type 0} (w : Fixed C) (Of : Tx → C → Type 0) (finish : C → List State → Alone) (e : Event) (s : Machine C) (h : History) → Given w Of finish → IsAllowed w e s → AllGood w Of finish s h → Recovers w s h → Recovers w (after w e s) (grown w e s h)
+kept w Of finish e s h v ok g i = record {
+  durable = durable.kept w e s h ok g.acts g.none i.durable;
+  fronts = fronts.kept w Of finish e s h ok (for_chain w Of finish e s h v ok (owes w Of finish e s h ok g) g.good) g i.durable i.fronts;
+}
+
+opened : {C : Type 0} (w : Fixed C) → Recovers w (opening w) no_history
+opened w = record {
+  durable = record { settled = λ k q. absurd (true≢false (sym q)); sealed = λ t q. absurd (true≢false (sym q)); gone = λ a. tt };
+  fronts = record { there = λ a. tt; split = λ a. record { front = []; last = []; who = OfAct 0; splits = refl; durable = tt; of_it = tt } };
+}
+
+pub recovers : {C : Type 0} (w : Fixed C) (Of : Tx → C → Type 0) (finish : C → List State → Alone) (es : List Event) → Given w Of finish → IsRun w es → Recovers w (reached w es) (history w es)
+recovers w Of finish es v run = along_good w Of finish (Recovers w) v (λ e s h ok g i. kept w Of finish e s h v ok g i) (opened w) es run
+
+-- ---- at a cut
+
+-- what is durable is left
+pub is_left : {C : Type 0} (w : Fixed C) (s : Machine C) (left : ℕ → ℕ) (y : Who) → IsCut s left → has_record w s y ≡ true → is_in w.text.logs (left_in s left) y ≡ true
+is_left w s left (OfBatch k) c e = any_take (is_commit k) (log_at s (k % w.text.logs)).synced (left (k % w.text.logs)) (log_at s (k % w.text.logs)).records (c.all_synced (k % w.text.logs)) e
+is_left w s left (OfAct t) c e = any_take (is_act_commit t) (log_at s (t % w.text.logs)).synced (left (t % w.text.logs)) (log_at s (t % w.text.logs)).records (c.all_synced (t % w.text.logs)) e
+
+-- members that came are those that came, as far as their records are left
+members_came : (many : ℕ) (logs : ℕ → List LogRecord) (a : ℕ) (ds : List Done) → valued a (filter (λ d. is_in many logs d.who && is_value d.result) ds) ≡ filter (λ d. is_in many logs d.who) (valued a ds)
+members_came many logs a [] = refl
+members_came many logs a (d ∷ ds) = by (is_in many logs d.who) refl (is_value d.result) refl (came_to a d) refl (members_came many logs a ds)
+  where
+    rest : List Done
+    rest = filter (λ d. is_in many logs d.who && is_value d.result) ds
+
+    by : (i : Bool) → is_in many logs d.who ≡ i → (v : Bool) → is_value d.result ≡ v → (c : Bool) → came_to a d ≡ c → valued a rest ≡ filter (λ d. is_in many logs d.who) (valued a ds)
+        → valued a (if i && v then d ∷ rest else rest) ≡ filter (λ d. is_in many logs d.who) (filter (λ d. is_value d.result) (if c then d ∷ visitors a ds else visitors a ds))
+    by true p true q true r h = rw (r, q, p) (ap (λ l. d ∷ l) h)
+    by true p true q false r h = rw r h
+    by true p false q true r h = rw q h
+    by true p false q false r h = h
+    by false p true q true r h = rw (q, p) h
+    by false p true q false r h = h
+    by false p false q true r h = rw q h
+    by false p false q false r h = h
+
+all_in : (many : ℕ) (logs : ℕ → List LogRecord) (ds : List Done) → AllByRecursion (λ d. is_in many logs d.who ≡ true) ds → filter (λ d. is_in many logs d.who) ds ≡ ds
+all_in many logs [] h = refl
+all_in many logs (d ∷ ds) h = rw h.0 (ap (λ l. d ∷ l) (all_in many logs ds h.1))
+
+none_in : (many : ℕ) (logs : ℕ → List LogRecord) (who : Who) (ds : List Done) → is_in many logs who ≡ false → OfIt who ds → filter (λ d. is_in many logs d.who) ds ≡ []
+none_in many logs who [] e h = refl
+none_in many logs who (d ∷ ds) e h = rw (h.0, e) (none_in many logs who ds e h.1)
+
+some_in : (many : ℕ) (logs : ℕ → List LogRecord) (who : Who) (ds : List Done) → is_in many logs who ≡ true → OfIt who ds → AllByRecursion (λ d. is_in many logs d.who ≡ true) ds
+some_in many logs who [] e h = tt
+some_in many logs who (d ∷ ds) e h = (rw h.0 e, some_in many logs who ds e h.1)
+
+-- On each actor the members are a front of those that committed there with a value.
+pub front_at : {C : Type 0} (w : Fixed C) (s : Machine C) (h : History) (left : ℕ → ℕ) (a : ℕ) → IsCut s left → Split (λ y. has_record w s y ≡ true) (valued a h.committed) → IsFrontOn a (members w.text.logs (left_in s left) h) h.committed
+front_at w s h left a c x = by (cases_Bool (is_in w.text.logs logs x.who))
+  where
+    logs : ℕ → List LogRecord
+    logs = left_in s left
+
+    durable_in : (ds : List Done) → AllByRecursion (λ d. has_record w s d.who ≡ true) ds → AllByRecursion (λ d. is_in w.text.logs logs d.who ≡ true) ds
+    durable_in [] q = tt
+    durable_in (d ∷ ds) q = (is_left w s left d.who c q.0, durable_in ds q.1)
+
+    front : filter (λ d. is_in w.text.logs logs d.who) x.front ≡ x.front
+    front = all_in w.text.logs logs x.front (durable_in x.front x.durable)
+
+    own : valued a (members w.text.logs logs h) ≡ x.front ++ filter (λ d. is_in w.text.logs logs d.who) x.last
+    own = members_came w.text.logs logs a h.committed ∙ (ap (filter (λ d. is_in w.text.logs logs d.who)) x.splits ∙ (filter_join (λ d. is_in w.text.logs logs d.who) x.front x.last ∙ ap (λ l. l ++ filter (λ d. is_in w.text.logs logs d.who) x.last) front))
+
+    by : Rattle.std.specs.Prelude.◌⊎◌ (is_in w.text.logs logs x.who ≡ true) (is_in w.text.logs logs x.who ≡ false) → IsFrontOn a (members w.text.logs logs h) h.committed
+    by (inl e) = ([], x.splits ∙ (ap (λ l. x.front ++ l) (sym (all_in w.text.logs logs x.last (some_in w.text.logs logs x.who x.last e x.of_it))) ∙ (sym own ∙ sym (join_nil (valued a (members w.text.logs logs h))))))
+    by (inr e) = (x.last, x.splits ∙ ap (λ l. l ++ x.last) (sym (own ∙ (ap (λ l. x.front ++ l) (none_in w.text.logs logs x.who x.last e x.of_it) ∙ join_nil x.front))))
+
+-- ---- at every moment
+
+-- At every moment of every run of an accepted text, over code with the facts: the members, one after the other in the
+-- order of places, give the results that they had, and leave on each actor what the last of them left there.
+pub members_recover : {C : Type 0} (w : Fixed C) (finish : C → List State → Alone) (es : List Event) (m : Moment w es) (left : ℕ → ℕ) → HasFacts w finish → IsText w.text → IsRun w es → IsLeft w es m left
+    → Members w finish (members w.text.logs (left_in (reached w m.events) left) (history w m.events))
+members_recover w finish es m left f t run l =
+    let early : IsRun w m.events = front_runs w m.events m.later (subst (λ xs. IsRun w xs) m.splits run) in
+    members_serial w finish (reached w m.events) (history w m.events) (left_in (reached w m.events) left) (all_facts w (IsRest w.code (IsTxIn w.text)) finish m.events f t early)
+    (λ a k. front_at w (reached w m.events) (history w m.events) left a (moment_is_cut w es m left run l)
+    ((recovers w (IsRest w.code (IsTxIn w.text)) finish m.events (record { text = t; actors = omega (arith, k); facts = f }) early).fronts.split a))

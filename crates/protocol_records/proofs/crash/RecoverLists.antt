@@ -1,0 +1,189 @@
+-- What the records of those that committed recover, when one more commits.
+use Rattle.std.specs.Prelude.{◌≡◌, refl, ℕ, Bool, true, false, ◌&&◌, ◌⊎◌, if◌then◌else◌, Option, Some, None, is_some, List, [], ◌∷◌, ◌++◌, filter}
+use Rattle.std.specs.List.{AllByRecursion}
+use Rattle.std.proofs.Common.{sym, ap, subst, inl, inr, ◌∙◌}
+use Rattle.std.proofs.lemmas.Bool.{true≢false, or_cases, or_left, or_parts, and_parts, cases_Bool, false_from_ne_true}
+use Rattle.snap_base.specs.declared.transactions.State.{State}
+use Rattle.protocol.specs.Parts.{Who}
+use Rattle.protocol.specs.Words.{is_who, is_value}
+use Rattle.protocol.specs.History.{View, Done, Slice, Ran, Stands, Gone, slices_of}
+use Rattle.protocol_laws.specs.Tracks.{keys_in, Linked, Differ}
+use Rattle.protocol_laws.specs.Commits.{left_as, left_of, last_state, is_kept, has_kept, KeptFront, KeptAhead, kept_slices}
+use Rattle.protocol_records.specs.Logged.{is_on}
+use Rattle.protocol_records.specs.Telling.{One, names, end_of, Tells, AllTells, FrontIn, last_one, RecoversAt}
+use Rattle.protocol_laws.proofs.machine.TrackLists
+use Rattle.protocol_laws.proofs.machine.CommitLists.{slices_commit, last_more, none_kept}
+use Rattle.protocol_records.proofs.crash.OnLong.{on_key}
+use Rattle.protocol_records.proofs.crash.TellLists.{linked_end, none_later, not_gone}
+use Rattle.protocol_records.proofs.crash.Durable.{any_back}
+use Rattle.protocol_laws.proofs.first.Lists.{all_join, any_front, any_join, filter_join, join_assoc, weaker}
+use Rattle.protocol_laws.proofs.sets.RowsAgree.{filter_same}
+use Rattle.protocol_records.proofs.crash.ActPlaces.{both}
+
+-- ---- the state that is told when it commits
+
+pub end_join : (s : State) (xs ys : List Slice) → end_of s (xs ++ ys) ≡ end_of (end_of s xs) ys
+end_join s [] ys = refl
+end_join s (x ∷ xs) ys = end_join x.left xs ys
+
+pub told_is : (s : State) (y : Who) (st : State) (os : List One) (kept : List Who) (rs : List Ran) → is_on y rs ≡ true → is_kept y kept ≡ false → KeptFront kept rs → KeptAhead kept y rs → Tells s y st os rs → st ≡ end_of s (kept_slices kept rs ++ slices_of y rs)
+told_is s y st os kept [] o n f a h = absurd (true≢false (sym o))
+told_is s y st os kept (Stands x c ss ∷ rs) o n f a h = by (is_who x y) refl (λ e i. told_is (end_of s ss) y st os kept rs i n f.1 a.1 (h.3 e))
+  where
+    by : (b : Bool) → is_who x y ≡ b → (is_who x y ≡ false → is_on y rs ≡ true → st ≡ end_of (end_of s ss) (kept_slices kept rs ++ slices_of y rs)) → st ≡ end_of s ((if is_kept x kept then ss ++ kept_slices kept rs else kept_slices kept rs) ++ (if b then ss else slices_of y rs))
+    by true e r =
+        let u : is_kept x kept ≡ false = ap (λ z. is_kept z kept) (TrackLists.is_who_true x y e) ∙ n in
+        let g : has_kept kept rs ≡ false = false_from_ne_true (has_kept kept rs) (λ q. true≢false (sym (f.0 q) ∙ u)) in
+        rw (u, none_kept kept rs g) (h.0 e)
+    by false e r =
+        let i : is_on y rs ≡ true = elim (or_cases (is_who x y) (is_on y rs) o) [ inl q ↦ absurd (true≢false (sym q ∙ e)) | inr q ↦ q ] in
+        let u : is_kept x kept ≡ true = a.0 (on_key kept y rs n f.1 i) in
+        rw u (r e i ∙ (sym (end_join s ss (kept_slices kept rs ++ slices_of y rs)) ∙ ap (end_of s) (sym (join_assoc ss (kept_slices kept rs) (slices_of y rs)))))
+told_is s y st os kept (Gone x ss ∷ rs) o n f a h =
+    let e : is_who x y ≡ false = not_gone kept x y f.0 n in
+    let i : is_on y rs ≡ true = elim (or_cases (is_who x y) (is_on y rs) o) [ inl q ↦ absurd (true≢false (sym q ∙ e)) | inr q ↦ q ] in
+    told_is (end_of s ss) y st os kept rs i n f.1 a (h.2 e) ∙ (sym (end_join s ss (kept_slices kept rs ++ slices_of y rs)) ∙ ap (end_of s) (sym (join_assoc ss (kept_slices kept rs) (slices_of y rs))))
+
+-- ---- filters
+
+-- who came nowhere leaves nothing
+leaves_none : (a : ℕ) (p : Done → Bool) (s : State) (ds : List Done) → AllByRecursion (λ d. p d ≡ true → is_some (d.views a) ≡ false) ds → last_state a s (filter p ds) ≡ s
+leaves_none a p s [] h = refl
+leaves_none a p s (d ∷ ds) h = by (p d) refl (leaves_none a p s ds h.1)
+  where
+    none : (o : Option View) → is_some o ≡ false → (b : Bool) → left_as b o s ≡ s
+    none None e true = refl
+    none None e false = refl
+    none (Some v) e b = absurd (true≢false e)
+
+    by : (b : Bool) → p d ≡ b → last_state a s (filter p ds) ≡ s → last_state a s (if b then d ∷ filter p ds else filter p ds) ≡ s
+    by true e k = ap (λ z. last_state a z (filter p ds)) (none (d.views a) (h.0 e) (is_value d.result)) ∙ k
+    by false e k = k
+
+-- who is left out leaves nothing
+all_in : (a : ℕ) (p : Done → Bool) (s : State) (ds : List Done) → AllByRecursion (λ d. is_some (d.views a) ≡ true → is_value d.result ≡ true → p d ≡ true) ds → last_state a s (filter p ds) ≡ last_state a s ds
+all_in a p s [] h = refl
+all_in a p s (d ∷ ds) h = by (p d) refl (λ z. all_in a p z ds h.1)
+  where
+    none : (o : Option View) (b : Bool) → (is_some o ≡ true → b ≡ true → p d ≡ true) → p d ≡ false → left_as b o s ≡ s
+    none o false k e = refl
+    none None true k e = refl
+    none (Some v) true k e = absurd (true≢false (sym (k refl refl) ∙ e))
+
+    by : (b : Bool) → p d ≡ b → ((z : State) → last_state a z (filter p ds) ≡ last_state a z ds) → last_state a s (if b then d ∷ filter p ds else filter p ds) ≡ last_state a (left_of a d s) ds
+    by true e k = k (left_of a d s)
+    by false e k = k s ∙ ap (λ z. last_state a z ds) (sym (none (d.views a) (is_value d.result) h.0 e))
+
+pub filter_none : {X : Type 0} (p : X → Bool) (xs : List X) → AllByRecursion (λ x. p x ≡ false) xs → filter p xs ≡ []
+filter_none p [] h = refl
+filter_none p (x ∷ xs) h = rw h.0 (filter_none p xs h.1)
+
+-- ---- fronts
+
+pub front_part : (P on : Who → Bool) (xs : List Who) (y : Who) → FrontIn P on (xs ++ y ∷ []) → FrontIn P on xs
+front_part P on [] y h = tt
+front_part P on (x ∷ xs) y h = ((λ e q. h.0 e (any_front (λ z. on z && P z) xs (y ∷ []) q)), front_part P on xs y h.1)
+
+pub front_all : (P on : Who → Bool) (xs : List Who) (y z : Who) → FrontIn P on (xs ++ y ∷ []) → on y ≡ true → P y ≡ true → is_kept z xs ≡ true → on z ≡ true → P z ≡ true
+front_all P on [] y z h o p k oz = absurd (true≢false (sym k))
+front_all P on (x ∷ xs) y z h o p k oz = elim (or_cases (is_who x z) (is_kept z xs) k) [
+  | inl q ↦ let j = TrackLists.is_who_true x z q in subst (λ v. P v ≡ true) j (h.0 (subst (λ v. on v ≡ true) (sym j) oz) (any_back (λ z. on z && P z) xs (y ∷ []) (or_left (on y && P y) false (both (on y) (P y) o p))))
+  | inr q ↦ front_all P on xs y z h.1 o p q oz
+]
+
+pub kept_end : (y z : Who) (kept : List Who) → is_kept z (kept ++ y ∷ []) ≡ true → (is_kept z kept ≡ true) ⊎ (is_who y z ≡ true)
+kept_end y z kept h = elim (any_join (λ v. is_who v z) kept (y ∷ []) h) [ inl q ↦ inl q | inr q ↦ elim (or_cases (is_who y z) false q) [ inl v ↦ inr v | inr v ↦ absurd (true≢false (sym v)) ] ]
+
+-- ---- the last record of a front that ends with this one
+
+lands : (first : State) (y : Who) (X : State) (kept : List Who) (q : One → Bool) (long : List Ran) (os : List One) (s : State) → is_kept y kept ≡ false → KeptFront kept long → is_on y long ≡ true
+    → ((st : State) (later : List One) → Tells first y st later long → st ≡ X) → AllByRecursion (λ o. q o ≡ true → (is_kept o.who kept ≡ true) × (is_on o.who long ≡ true) ⊎ (is_who y o.who ≡ true)) os → ((o : One) → is_who y o.who ≡ true → q o ≡ true)
+    → names y os ≡ true → AllTells first os long → last_one s (filter q os) ≡ X
+lands first y X kept q long [] s n f o k al own h t = absurd (true≢false (sym h))
+lands first y X kept q long (x ∷ os) s n f o k al own h t = by (names y os) refl (is_who y x.who) refl (λ s g. lands first y X kept q long os s n f o k al.1 own g t.1)
+  where
+    start : (b : Bool) → ((s : State) → last_one s (filter q os) ≡ X) → last_one s (if b then x ∷ filter q os else filter q os) ≡ X
+    start true r = r x.state
+    start false r = r s
+
+    -- behind the last of its records there is none of a kept one
+    none : is_who y x.who ≡ true → names y os ≡ false → AllByRecursion (λ o. q o ≡ false) os
+    none e g = all os (λ z kz oz. none_later first y x.state os z kept long n f o kz oz (subst (λ v. Tells first v x.state os long) (sym (TrackLists.is_who_true y x.who e)) t.0)) g al.1
+      where
+        all : (zs : List One) → ((z : Who) → is_kept z kept ≡ true → is_on z long ≡ true → names z zs ≡ false) → names y zs ≡ false → AllByRecursion (λ o. q o ≡ true → (is_kept o.who kept ≡ true) × (is_on o.who long ≡ true) ⊎ (is_who y o.who ≡ true)) zs → AllByRecursion (λ o. q o ≡ false) zs
+        all [] r g a = tt
+        all (z ∷ zs) r g a =
+            let p = or_parts (is_who y z.who) (names y zs) g in (
+              false_from_ne_true (q z) (λ v. elim (a.0 v) [
+                | inl i ↦ true≢false (sym (or_left (is_who z.who z.who) (names z.who zs) (TrackLists.is_who_refl z.who)) ∙ r z.who i.0 i.1)
+                | inr i ↦ true≢false (sym i ∙ p.0)
+              ]),
+              all zs (λ v kv ov. (or_parts (is_who v z.who) (names v zs) (r v kv ov)).1) p.1 a.1,
+            )
+
+    by : (b : Bool) → names y os ≡ b → (c : Bool) → is_who y x.who ≡ c → ((s : State) → names y os ≡ true → last_one s (filter q os) ≡ X) → last_one s (filter q (x ∷ os)) ≡ X
+    by true g c e r = start (q x) (λ s. r s g)
+    by false g true e r = rw (own x e, filter_none q os (none e g)) (k x.state os (subst (λ v. Tells first v x.state os long) (sym (TrackLists.is_who_true y x.who e)) t.0))
+    by false g false e r = absurd (true≢false (sym h ∙ rw (e, g) refl))
+
+-- ---- one commits with a value
+
+pub record Commits1 (a : ℕ) (first : State) (kept : List Who) (committed ds : List Done) (y : Who) (long : List Ran) (os : List One) : Type 0 where
+  pub fresh : is_kept y kept ≡ false
+  pub front : KeptFront kept long
+  pub ahead : KeptAhead kept y long
+  pub differ : Differ (keys_in long)
+  pub ends : Linked first (kept_slices (kept ++ y ∷ []) long) (last_state a first (committed ++ ds))
+  pub there : AllByRecursion (λ d. is_some (d.views a) ≡ true → is_value d.result ≡ true → (is_kept d.who kept ≡ true) × (is_on d.who long ≡ true)) committed
+  pub own : AllByRecursion (λ d. d.who ≡ y) ds
+  pub came : AllByRecursion (λ d. is_some (d.views a) ≡ true → is_on y long ≡ true) ds
+  pub values : AllByRecursion (λ d. is_value d.result ≡ true) ds
+  pub tells : AllTells first os long
+  pub recorded : AllByRecursion (λ o. is_kept o.who (kept ++ y ∷ []) ≡ true → is_on o.who long ≡ true) os
+  pub has_record : is_on y long ≡ true → names y os ≡ true
+
+pub recovers_commit : (a : ℕ) (first : State) (kept : List Who) (committed ds : List Done) (y : Who) (long : List Ran) (os : List One) → Commits1 a first kept committed ds y long os → RecoversAt a first kept committed long os → RecoversAt a first (kept ++ y ∷ []) (committed ++ ds) long os
+recovers_commit a first kept committed ds y long os c r P f = elim (cases_Bool (P y && is_on y long)) [ inl e ↦ let v = and_parts (P y) (is_on y long) e in whole v.0 v.1 | inr e ↦ same e ]
+  where
+    p : Done → Bool
+    p d = P d.who && is_value d.result
+
+    q : One → Bool
+    q o = P o.who && is_kept o.who (kept ++ y ∷ [])
+
+    self_kept : is_kept y (kept ++ y ∷ []) ≡ true
+    self_kept = any_back (λ z. is_who z y) kept (y ∷ []) (or_left (is_who y y) false (TrackLists.is_who_refl y))
+
+    whole : P y ≡ true → is_on y long ≡ true → last_one first (filter (λ o. P o.who && is_kept o.who (kept ++ y ∷ [])) os) ≡ last_state a first (filter (λ d. P d.who && is_value d.result) (committed ++ ds))
+    whole py oy =
+        lands first y (last_state a first (committed ++ ds)) kept (λ o. P o.who && is_kept o.who (kept ++ y ∷ [])) long os first c.fresh c.front oy
+        (λ st later t. told_is first y st later kept long oy c.fresh c.front c.ahead t ∙ (ap (end_of first) (sym (slices_commit kept y long c.fresh c.differ c.ahead c.front)) ∙ sym (linked_end first (last_state a first (committed ++ ds)) (kept_slices (kept ++ y ∷ []) long) c.ends)))
+        (weaker (λ o. is_kept o.who (kept ++ y ∷ []) ≡ true → is_on o.who long ≡ true) (λ o. (P o.who && is_kept o.who (kept ++ y ∷ [])) ≡ true → (is_kept o.who kept ≡ true) × (is_on o.who long ≡ true) ⊎ (is_who y o.who ≡ true)) os
+        (λ o k v. let u = and_parts (P o.who) (is_kept o.who (kept ++ y ∷ [])) v in elim (kept_end y o.who kept u.1) [ inl i ↦ inl (i, k u.1) | inr i ↦ inr i ]) c.recorded)
+        (λ o e. let j = TrackLists.is_who_true y o.who e in both (P o.who) _ (subst (λ z. P z ≡ true) j py) (subst (λ z. is_kept z (kept ++ y ∷ []) ≡ true) j self_kept))
+        (c.has_record oy) c.tells
+        ∙ sym (all_in a (λ d. P d.who && is_value d.result) first (committed ++ ds) (all_join (λ d. is_some (d.views a) ≡ true → is_value d.result ≡ true → (P d.who && is_value d.result) ≡ true) committed ds (weaker _ _ committed (λ d k v u. let i = k v u in both (P d.who) (is_value d.result) (front_all P (λ z. is_on z long) kept y d.who f oy py i.0 i.1) u) c.there) (weaker (λ d. d.who ≡ y) (λ d. is_some (d.views a) ≡ true → is_value d.result ≡ true → (P d.who && is_value d.result) ≡ true) ds (λ d i v u. both (P d.who) (is_value d.result) (subst (λ z. P z ≡ true) (sym i) py) u) c.own)))
+
+    same : (P y && is_on y long) ≡ false → last_one first (filter (λ o. P o.who && is_kept o.who (kept ++ y ∷ [])) os) ≡ last_state a first (filter (λ d. P d.who && is_value d.result) (committed ++ ds))
+    same e =
+        ap (last_one first) (filter_same (λ o. P o.who && is_kept o.who (kept ++ y ∷ [])) (λ o. P o.who && is_kept o.who kept) os (weaker (λ o. is_kept o.who (kept ++ y ∷ []) ≡ true → is_on o.who long ≡ true) (λ o. (P o.who && is_kept o.who (kept ++ y ∷ [])) ≡ (P o.who && is_kept o.who kept)) os (λ o k. one o.who k) c.recorded))
+        ∙ (r P (front_part P (λ z. is_on z long) kept y f)
+        ∙ sym (ap (last_state a first) (filter_join (λ d. P d.who && is_value d.result) committed ds) ∙ (last_more a first (filter (λ d. P d.who && is_value d.result) committed) (filter (λ d. P d.who && is_value d.result) ds)
+        ∙ leaves_none a (λ d. P d.who && is_value d.result) _ ds (away ds c.own c.came))))
+      where
+        one : (z : Who) → (is_kept z (kept ++ y ∷ []) ≡ true → is_on z long ≡ true) → (P z && is_kept z (kept ++ y ∷ [])) ≡ (P z && is_kept z kept)
+        one z k = by (P z) (is_kept z (kept ++ y ∷ [])) (is_kept z kept) refl refl refl
+          where
+            by : (u v t : Bool) → P z ≡ u → is_kept z (kept ++ y ∷ []) ≡ v → is_kept z kept ≡ t → (u && v) ≡ (u && t)
+            by false v t a b d = refl
+            by true true true a b d = refl
+            by true false false a b d = refl
+            by true false true a b d = absurd (true≢false (sym (any_front (λ v. is_who v z) kept (y ∷ []) d) ∙ b))
+            by true true false a b d = elim (kept_end y z kept b) [
+              | inl i ↦ absurd (true≢false (sym i ∙ d))
+              | inr i ↦ let j = TrackLists.is_who_true y z i in absurd (true≢false (sym (both (P y) (is_on y long) (subst (λ v. P v ≡ true) (sym j) a) (subst (λ v. is_on v long ≡ true) (sym j) (k b))) ∙ e))
+            ]
+
+        away : (zs : List Done) → AllByRecursion (λ d. d.who ≡ y) zs → AllByRecursion (λ d. is_some (d.views a) ≡ true → is_on y long ≡ true) zs → AllByRecursion (λ d. (P d.who && is_value d.result) ≡ true → is_some (d.views a) ≡ false) zs
+        away [] i j = tt
+        away (d ∷ zs) i j = ((λ v. false_from_ne_true (is_some (d.views a)) (λ u. true≢false (sym (both (P y) (is_on y long) (subst (λ z. P z ≡ true) i.0 (and_parts (P d.who) (is_value d.result) v).0) (j.0 u)) ∙ e))), away zs i.1 j.1)

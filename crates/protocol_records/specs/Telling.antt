@@ -1,0 +1,74 @@
+-- Only proofs cite this; the rule is `CrashHolds` (Crash).
+-- What the records of an actor tell of its state, beside its long schedule.
+use Rattle.std.specs.Prelude.{◌≡◌, ℕ, ◌%◌, ◌==◌, Bool, true, false, ◌&&◌, if◌then◌else◌, List, [], ◌∷◌, filter, slice_index_or}
+use Rattle.std.specs.List.{list_any}
+use Rattle.snap_base.specs.declared.transactions.State.{State}
+use Rattle.protocol.specs.Fixed.{Fixed, no_state}
+use Rattle.protocol.specs.Records.{LogRecord, BatchInfo, BatchComplete, BatchCommit, ActPrepare, ActCommit}
+use Rattle.protocol.specs.Parts.{Who, OfBatch, OfAct, Machine}
+use Rattle.protocol.specs.Words.{is_who, is_act_who, is_value}
+use Rattle.protocol.specs.Effects.{log_at}
+use Rattle.protocol.specs.History.{Done, History, Slice, Ran, Stands, Gone}
+use Rattle.protocol_laws.specs.Commits.{is_kept, last_state}
+use Rattle.protocol_records.specs.Logged.{is_on}
+
+pub record One : Type 0 where
+  pub who : Who
+  pub state : State
+
+-- the records of an actor's states, in order
+abbrev pub told : ℕ → List LogRecord → List One
+told a [] = []
+told a (BatchInfo k actors tids ∷ rs) = told a rs
+told a (BatchComplete k b st ∷ rs) = if b == a then record { who = OfBatch k; state = st } ∷ told a rs else told a rs
+told a (BatchCommit k ∷ rs) = told a rs
+told a (ActPrepare t b st ∷ rs) = if b == a then record { who = OfAct t; state = st } ∷ told a rs else told a rs
+told a (ActCommit t m c actors ∷ rs) = told a rs
+
+abbrev pub names : Who → List One → Bool
+names y os = list_any (λ o. is_who y o.who) os
+
+-- the state that these slices lead to
+abbrev pub end_of : State → List Slice → State
+end_of s [] = s
+end_of s (x ∷ xs) = end_of x.left xs
+
+-- Where this one is on the long schedule, the state told is the one after it, all that stand ahead of it are complete
+-- batches, and nobody ahead of it is told later.
+abbrev pub Tells : State → Who → State → List One → List Ran → Type 0
+Tells s y st later [] = Unit {0}
+Tells s y st later (Stands z c ss ∷ rs) =
+    (is_who z y ≡ true → st ≡ end_of s ss)
+    × (is_who z y ≡ true → is_act_who z ≡ false → c ≡ true)
+    × (is_who z y ≡ false → is_on y rs ≡ true → (c ≡ true) × (names z later ≡ false))
+    × (is_who z y ≡ false → Tells (end_of s ss) y st later rs)
+Tells s y st later (Gone z ss ∷ rs) =
+    (is_who z y ≡ true → st ≡ end_of s ss)
+    × (is_who z y ≡ false → is_on y rs ≡ true → names z later ≡ false)
+    × (is_who z y ≡ false → Tells (end_of s ss) y st later rs)
+
+abbrev pub AllTells : State → List One → List Ran → Type 0
+AllTells s [] long = Unit {0}
+AllTells s (o ∷ os) long = Tells s o.who o.state os long × AllTells s os long
+
+unfoldable pub Telling : {C : Type 0} → Fixed C → Machine C → History → Type 0
+Telling w s h = (a : ℕ) → AllTells (slice_index_or w.text.opening.states a no_state) (told a (log_at s (a % w.text.logs)).records) (h.long a)
+
+-- ---- what a set of those that committed recovers
+
+-- who is on the actor, ahead of one on it that is in the set, is in it
+abbrev pub FrontIn : (Who → Bool) → (Who → Bool) → List Who → Type 0
+FrontIn P on [] = Unit {0}
+FrontIn P on (y ∷ ys) = (on y ≡ true → list_any (λ z. on z && P z) ys ≡ true → P y ≡ true) × FrontIn P on ys
+
+abbrev pub last_one : State → List One → State
+last_one s [] = s
+last_one s (o ∷ os) = last_one o.state os
+
+-- For each set that is a front on the actor, the last of its records tells the state that its last one left.
+abbrev pub RecoversAt : ℕ → State → List Who → List Done → List Ran → List One → Type 0
+RecoversAt a first kept committed long os =
+    (P : Who → Bool) → FrontIn P (λ y. is_on y long) kept → last_one first (filter (λ o. P o.who && is_kept o.who kept) os) ≡ last_state a first (filter (λ d. P d.who && is_value d.result) committed)
+
+unfoldable pub Recovers : {C : Type 0} → Fixed C → Machine C → History → Type 0
+Recovers w s h = (a : ℕ) → RecoversAt a (slice_index_or w.text.opening.states a no_state) h.kept h.committed (h.long a) (told a (log_at s (a % w.text.logs)).records)
