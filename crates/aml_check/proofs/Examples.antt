@@ -1,33 +1,10 @@
--- Short programs: their faults and what they mean, evaluated.
+-- What expressions and transactions mean, evaluated.
 use Rattle.std.proofs.Common.{◌≡◌, pos, negsuc, Ok, Err, [], ◌∷◌, codes, refl}
 use Rattle.snap_base.specs.declared.transactions.Kind.TheVariants.{Pact, Act}
 use Rattle.snap_base.specs.declared.transactions.TxResult.TheVariants as result
 use Rattle.aml_tree.specs.declared.trees.Operator.TheVariants as operator
-use Rattle.aml_tree.specs.Tree.{Number, Variable, Field, Own, Group, Negative, Binary, End, Let, Call, Set, SetField, If, While, Fail, Return}
-use Rattle.aml_check.specs.declared.faults.CheckCause.TheVariants as cause
-use Rattle.aml_check.specs.Names.{checked_program}
-use Rattle.aml_check.specs.Faults.{program_faults}
+use Rattle.aml_tree.specs.Tree.{Number, Variable, Field, Own, Group, Negative, Binary, End, Call, SetField, While, Return}
 use Rattle.aml_check.specs.Meaning.{alone, value_of, zero_state}
-
--- ---- names
-
--- `method f() { return g; }`
-unknown_name : program_faults (record { name = record { name = codes "f"; line = 1 }; parameters = []; body = Return (Variable (record { name = codes "g"; line = 1 })) (End 2) } ∷ []) ≡ record { line = 1; cause = cause.UnknownName } ∷ []
-unknown_name = refl
-
--- `if 1 { let a = 1; } a = 2;`: a name is gone behind its block, and the method does not end
-gone_behind_its_block : program_faults (record { name = record { name = codes "f"; line = 1 }; parameters = []; body = If (Number 1) (Let (record { name = codes "a"; line = 2 }) (Number 1) (End 2)) (Set (record { name = codes "a"; line = 3 }) (Number 2) (End 4)) } ∷ []) ≡ record { line = 3; cause = cause.UnknownName } ∷ record { line = 4; cause = cause.NoReturn } ∷ []
-gone_behind_its_block = refl
-
--- a second method of the name, and a call with an argument too many
-duplicate_and_count : program_faults (record { name = record { name = codes "f"; line = 1 }; parameters = []; body = Call (record { name = codes "a"; line = 2 }) Own (record { name = codes "f"; line = 2 }) (Number 1 ∷ []) (Return (Number 0) (End 3)) } ∷ record { name = record { name = codes "f"; line = 4 }; parameters = []; body = Fail 7 (End 4) } ∷ [])
-    ≡ record { line = 2; cause = cause.ArgCount } ∷ record { line = 4; cause = cause.Duplicate } ∷ []
-duplicate_and_count = refl
-
--- a variable becomes its place, and a method its own
-places_for_names : checked_program (record { name = record { name = codes "f"; line = 1 }; parameters = record { name = codes "n"; line = 1 } ∷ []; body = Let (record { name = codes "a"; line = 1 }) (Variable (record { name = codes "n"; line = 1 })) (Return (Variable (record { name = codes "a"; line = 1 })) (End 1)) } ∷ [])
-    ≡ record { name = record { name = codes "f"; line = 1 }; parameters = 0 ∷ []; body = Let 1 (Variable 0) (Return (Variable 1) (End 1)) } ∷ []
-places_for_names = refl
 
 -- ---- values
 

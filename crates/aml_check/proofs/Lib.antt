@@ -1,9 +1,2 @@
 pub mod MethodsByPlace
-pub mod Lookup
-pub mod Chains
-pub mod StatementSteps
-pub mod Endings
-pub mod FaultLines
-pub mod ClosedParts
-pub mod ClosedPrograms
 pub mod Examples

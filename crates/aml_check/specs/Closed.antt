@@ -1,12 +1,11 @@
 -- What every checked program keeps.
-use Rattle.std.specs.Prelude.{◌≡◌, ℕ, ◌+◌, ◌<◌, ◌≤◌, ◌^◌, max, IsTrue, List, [], length, slice_index_or}
+use Rattle.std.specs.Prelude.{◌≡◌, ℕ, ◌+◌, ◌<◌, ◌≤◌, ◌^◌, max, ◌&&◌, Bool, true, false, IsTrue, List, [], length, slice_index_or}
 use Rattle.std.specs.List.{AllByRecursion}
 use Rattle.snap_base.specs.declared.transactions.TheConstants.{FIELDS}
 use Rattle.aml_tree.specs.Tree.{Expr, Number, Variable, Field, Own, Group, Negative, Binary, Code, End, Let, Call, Set, SetField, If, IfElse, While, Fail, Return, CheckedMethod}
 use Rattle.aml_tree.specs.declared.limits.TheConstants.{GREATEST_CODE, MOST_LEVELS, MOST_METHODS, MOST_NAMES, MOST_PARAMETERS}
 use Rattle.aml_tree.specs.Limits.{lets}
 use Rattle.aml_check.specs.Names.{method_at, method_names, counted_from}
-use Rattle.aml_check.specs.Faults.{ends}
 
 -- each variable is one of the first n, each number is of signed 64 bits, and each field is an actor's
 abbrev pub IsClosedExpression : ℕ → Expr ℕ → Type 0
@@ -48,6 +47,36 @@ nesting (IfElse condition first other rest) = max (max (1 + nesting first) (1 + 
 nesting (While condition body rest) = max (1 + nesting body) (nesting rest)
 nesting (Fail code rest) = nesting rest
 nesting (Return value rest) = nesting rest
+
+-- ---- how a block ends
+
+-- what holds of a last statement, and else of the rest
+abbrev pub if_last : {V M : Type 0} → Code V M → Bool → Bool → Bool
+if_last (End line) here behind = here
+if_last (Let v value rest) here behind = behind
+if_last (Call v target m arguments rest) here behind = behind
+if_last (Set v value rest) here behind = behind
+if_last (SetField k value rest) here behind = behind
+if_last (If condition first rest) here behind = behind
+if_last (IfElse condition first other rest) here behind = behind
+if_last (While condition body rest) here behind = behind
+if_last (Fail code rest) here behind = behind
+if_last (Return value rest) here behind = behind
+
+-- The last statement is a return, a fail, or a choice of two blocks that end so.
+abbrev pub ends : {V M : Type 0} → Code V M → Bool
+ends (End line) = false
+ends (Let v value rest) = ends rest
+ends (Call v target m arguments rest) = ends rest
+ends (Set v value rest) = ends rest
+ends (SetField k value rest) = ends rest
+ends (If condition first rest) = ends rest
+ends (IfElse condition first other rest) = if_last rest (ends first && ends other) (ends rest)
+ends (While condition body rest) = ends rest
+ends (Fail code rest) = if_last rest true (ends rest)
+ends (Return value rest) = if_last rest true (ends rest)
+
+-- ---- methods and programs
 
 pub record IsClosedMethod (p : List CheckedMethod) (m : CheckedMethod) : Type 0 where
   pub places : m.parameters ≡ counted_from 0 m.parameters

@@ -8,13 +8,13 @@ use Rattle.snap_base.specs.declared.transactions.State.{State}
 use Rattle.snap_base.specs.declared.transactions.Kind.{Kind}
 use Rattle.snap_base.specs.declared.transactions.Kind.TheVariants.{Pact, Act}
 use Rattle.snap_base.specs.declared.transactions.Tx.{Tx}
-use Rattle.snap_base.specs.declared.transactions.TxResult.{TxResult}
 use Rattle.snap_base.specs.declared.transactions.TxResult.TheVariants as result
 use Rattle.aml_tree.specs.declared.trees.Operator.{Operator}
 use Rattle.aml_tree.specs.declared.trees.Operator.TheVariants as operator
 use Rattle.aml_tree.specs.Tree.{Expr, Number, Variable, Field, Own, Group, Negative, Binary, Code, End, Let, Call, Set, SetField, If, IfElse, While, Fail, Return, CheckedMethod}
 use Rattle.aml_check.specs.declared.limits.TheConstants.{MOST_CALLED_ACTORS, MOST_CALLS, MOST_OPEN_CALLS, MOST_STATEMENTS}
 use Rattle.aml_check.specs.Names.{method_at}
+use Rattle.serial_words.specs.Outcomes.{Alone, Serial}
 
 -- ---- the codes of failures
 
@@ -266,12 +266,7 @@ called p (suc more) target m arguments r =
 
 -- ---- transactions
 
--- what became of a transaction: its result and the world that it leaves
-pub record After : Type 0 where
-  pub result : TxResult
-  pub world : List State
-
-abbrev pub ended : List State → Result (ℤ × Progress) ℕ → After
+abbrev pub ended : List State → Result (ℤ × Progress) ℕ → Alone
 ended world (Ok (v, r)) = record { result = result.Value v; world = r.world }
 ended world (Err code) = record { result = result.Fail code; world = world }
 
@@ -285,16 +280,11 @@ beginning world tx = record { world = world; statements = 0; calls = 0; actors =
 
 -- A transaction alone: a value and the new world, or a failure and the world as it was. Its root is the
 -- first of the calls that are open at a time.
-abbrev pub alone : List CheckedMethod → List State → Tx → After
+abbrev pub alone : List CheckedMethod → List State → Tx → Alone
 alone p world tx = ended world (called p MOST_OPEN_CALLS (pos tx.actor.0) tx.method tx.args (beginning world tx))
 
--- what became of a list of transactions
-pub record SerialRun : Type 0 where
-  pub results : List TxResult
-  pub world : List State
-
 -- A serial execution: one transaction alone after the other.
-abbrev pub serial : List CheckedMethod → List State → List Tx → SerialRun
+abbrev pub serial : List CheckedMethod → List State → List Tx → Serial
 serial p world [] = record { results = []; world = world }
 serial p world (tx ∷ txs) =
     let first = alone p world tx in

@@ -34,8 +34,8 @@ impl Checked {
     ghost use Rattle.aml_check.specs.Names.{method_at};
     ghost use Rattle.aml_check.specs.Checked.{methods_of};
 
-    /// A program that keeps what every checked program keeps.
-    pub(crate) fn of(program: Program<u8, u16>) -> Self
+    /// A program with its names resolved, where it keeps what every checked program keeps.
+    pub fn of(program: Program<u8, u16>) -> Self
         requires { IsClosedProgram (program_tree program) }
         ensures { result ≡ program }
     {

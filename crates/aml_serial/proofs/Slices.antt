@@ -7,7 +7,8 @@ use Rattle.snap_base.specs.declared.transactions.State.{State}
 use Rattle.snap_base.specs.declared.transactions.TxResult.{TxResult}
 use Rattle.snap_base.specs.declared.transactions.TxResult.TheVariants as result
 use Rattle.aml_tree.specs.Tree.{CheckedMethod}
-use Rattle.aml_check.specs.Meaning.{After, state_at, zero_state}
+use Rattle.serial_words.specs.Outcomes.{Alone}
+use Rattle.aml_check.specs.Meaning.{state_at, zero_state}
 use Rattle.aml_slice.specs.Controls.{Rest}
 use Rattle.aml_slice.specs.declared.slices.Next.{Next}
 use Rattle.aml_slice.specs.declared.slices.Next.TheVariants.{Go}
@@ -37,18 +38,18 @@ pub finishes : (p : List CheckedMethod) (count : ℕ) (c : Rest) (w : List State
 finishes p count c w s t next keeps here slice =
     keeps ∙ ap (λ (u : State). after_slice (finished p count) c w (slice_end p count c u)) here ∙ ap (after_slice (finished p count) c w) (sym slice)
 
-abbrev after : TxResult → List State → After
+abbrev after : TxResult → List State → Alone
 after r w = record { result = r; world = w }
 
-abbrev ended : List CheckedMethod → ℕ → List State → Rest → After
+abbrev ended : List CheckedMethod → ℕ → List State → Rest → Alone
 ended p count w c = after (finished p count c w).result (world_after (finished p count c w).result w (finished p count c w).world)
 
 -- What is returned of a transaction: of a value the states that its slices left, of a failure those that were there before.
-pub returned : (p : List CheckedMethod) (count : ℕ) (w v u : List State) (c d : Rest) (whole : After) (o : Result TxResult Memory) (b : Bool)
+pub returned : (p : List CheckedMethod) (count : ℕ) (w v u : List State) (c d : Rest) (whole : Alone) (o : Result TxResult Memory) (b : Bool)
     → whole ≡ ended p count w d → c ≡ d → b ≡ has_value o → (b ≡ true → u ≡ v) → (b ≡ false → u ≡ w)
     → IfOk o (λ r. finished p count c w ≡ record { result = r; world = v }) → IfOk o (λ r. whole ≡ record { result = r; world = u })
 returned p count w v u c d whole (Ok (result.Value x)) b alone same test stays goes ends =
-    alone ∙ ap (ended p count w) (sym same) ∙ ap (λ (a : After). after a.result (world_after a.result w a.world)) ends ∙ ap (after (result.Value x)) (sym (stays test))
+    alone ∙ ap (ended p count w) (sym same) ∙ ap (λ (a : Alone). after a.result (world_after a.result w a.world)) ends ∙ ap (after (result.Value x)) (sym (stays test))
 returned p count w v u c d whole (Ok (result.Fail code)) b alone same test stays goes ends =
-    alone ∙ ap (ended p count w) (sym same) ∙ ap (λ (a : After). after a.result (world_after a.result w a.world)) ends ∙ ap (after (result.Fail code)) (sym (goes test))
+    alone ∙ ap (ended p count w) (sym same) ∙ ap (λ (a : Alone). after a.result (world_after a.result w a.world)) ends ∙ ap (after (result.Fail code)) (sym (goes test))
 returned p count w v u c d whole (Err memory) b alone same test stays goes ends = tt

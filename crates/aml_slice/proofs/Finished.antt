@@ -8,7 +8,8 @@ use Rattle.snap_base.specs.declared.transactions.TxResult.{TxResult}
 use Rattle.snap_base.specs.declared.transactions.TxResult.TheVariants as result
 use Rattle.aml_tree.specs.Tree.{CheckedMethod}
 use Rattle.aml_check.specs.Closed.{IsClosedProgram}
-use Rattle.aml_check.specs.Meaning.{Progress, After, alone, ended, state_at, admitted, beginning, declaration}
+use Rattle.serial_words.specs.Outcomes.{Alone}
+use Rattle.aml_check.specs.Meaning.{Progress, alone, ended, state_at, admitted, beginning, declaration}
 use Rattle.aml_check.specs.Transactions.{IsTransaction}
 use Rattle.aml_slice.specs.declared.slices.Next.{Next}
 use Rattle.aml_slice.specs.declared.slices.Next.TheVariants.{Go, Ended}
@@ -23,7 +24,7 @@ use Rattle.aml_slice.proofs.ExactStarts.{declared_so}
 
 -- ---- fuel
 
-same_on : (p : List CheckedMethod) (count : ℕ) (c : Rest) (s t : State) (w : List State) (x : Next) (more other : Rest → List State → After) → SlicesOn p count c s t x
+same_on : (p : List CheckedMethod) (count : ℕ) (c : Rest) (s t : State) (w : List State) (x : Next) (more other : Rest → List State → Alone) → SlicesOn p count c s t x
     → ((d : Rest) (v : List State) → IsRest p count d → moves_left d + 1 ≤ moves_left c → more d v ≡ other d v) → goes_on more w x ≡ goes_on other w x
 same_on p count c s t w (Go b d) more other well h = h d w well.handed_on.rest well.handed_on.fewer
 same_on p count c s t w (Ended r) more other well h = refl
@@ -61,7 +62,7 @@ ends_mean : (p : List CheckedMethod) (count : ℕ) (c : Rest) (w : List State) (
 ends_mean p count c w s t (result.Value v) h ends = ends w h
 ends_mean p count c w s t (result.Fail code) h ends = ends w h
 
-on_means : (p : List CheckedMethod) (count : ℕ) (c : Rest) (w : List State) (s t : State) (x : Next) (more : Rest → List State → After) → Holds count c.top.actor s w → SlicesOn p count c s t x
+on_means : (p : List CheckedMethod) (count : ℕ) (c : Rest) (w : List State) (s t : State) (x : Next) (more : Rest → List State → Alone) → Holds count c.top.actor s w → SlicesOn p count c s t x
     → ((d : Rest) → IsRest p count d → moves_left d + 1 ≤ moves_left c → Means (rest_gives p d (set w c.top.actor t)) (more d (set w c.top.actor t)).result (more d (set w c.top.actor t)).world)
     → Means (rest_gives p c w) (goes_on more (set w c.top.actor t) x).result (goes_on more (set w c.top.actor t) x).world
 on_means p count c w s t (Go b d) more h well rest =
@@ -77,7 +78,7 @@ finishes laws (suc f) p count c w closed is size few =
     (λ d rest fewer. finishes laws f p count d (set w c.top.actor x.state) closed rest (length-set w c.top.actor x.state ∙ size) (omega (arith, few, fewer)))
 
 so_ended : (w : List State) (o : Result (ℤ × Progress) ℕ) (r : TxResult) (after : List State) → Means o r after → ended w o ≡ record { result = r; world = world_after r w after }
-so_ended w o (result.Value v) after h = ap (ended w) h.1 ∙ ap (λ (z : List State). let a : After = record { result = result.Value v; world = z } in a) h.2
+so_ended w o (result.Value v) after h = ap (ended w) h.1 ∙ ap (λ (z : List State). let a : Alone = record { result = result.Value v; world = z } in a) h.2
 so_ended w o (result.Fail code) after h = ap (ended w) h
 
 -- ---- a transaction

@@ -7,7 +7,8 @@ use Rattle.snap_base.specs.declared.transactions.Tx.{Tx}
 use Rattle.snap_base.specs.declared.transactions.TxResult.{TxResult}
 use Rattle.snap_base.specs.declared.transactions.TxResult.TheVariants as result
 use Rattle.aml_tree.specs.Tree.{CheckedMethod}
-use Rattle.aml_check.specs.Meaning.{Progress, After, alone, ended}
+use Rattle.serial_words.specs.Outcomes.{Alone}
+use Rattle.aml_check.specs.Meaning.{Progress, alone, ended}
 use Rattle.aml_slice.specs.Controls.{Rest}
 use Rattle.aml_slice.specs.Wholes.{rest_gives, Holds, Begins, Cut, RunsInSlices, world_after}
 
@@ -34,7 +35,7 @@ sliced_gives p count c w (cut ∷ cuts) r after size h =
     (sliced_gives p count cut.rest (set w c.top.actor cut.left) cuts r after (length-set w c.top.actor cut.left ∙ size) h.2)
 
 ends_so : (w : List State) (o : Result (ℤ × Progress) ℕ) (r : TxResult) (after : List State) → Gives o r after → ended w o ≡ record { result = r; world = world_after r w after }
-ends_so w o (result.Value v) after h = ap (ended w) h.1 ∙ ap (λ (z : List State). let a : After = record { result = result.Value v; world = z } in a) h.2
+ends_so w o (result.Value v) after h = ap (ended w) h.1 ∙ ap (λ (z : List State). let a : Alone = record { result = result.Value v; world = z } in a) h.2
 ends_so w o (result.Fail code) after h = ap (ended w) h
 
 pub add_up : (p : List CheckedMethod) (count : ℕ) (tid : Tid) (tx : Tx) (c : Rest) (w : List State) (cuts : List Cut) (r : TxResult) (after : List State)

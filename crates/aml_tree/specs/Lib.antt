@@ -2,8 +2,5 @@ pub mod Tree
 pub mod Grammar
 pub mod Limits
 pub mod Programs
-pub mod Faults
-pub mod Items
-pub mod Reading
 pub mod Lines
 pub mod TreeRules

@@ -17,7 +17,7 @@ use Rattle.aml_check.specs.Transactions.{IsDeclaration, Declares, IsTransaction}
 use Rattle.txn_records.specs.declared.records.Record.{Record}
 use Rattle.txn_records.specs.declared.records.Record.TheVariants.{BatchComplete, BatchCommit}
 use Rattle.txn_records.specs.Records.{Ascend, IsState, IsRecord, IsInfo, tid_numbers}
-use Rattle.work_text.specs.Works.{Work}
+use Rattle.snap_work.specs.Works.{Work}
 use Rattle.snap_recover.specs.declared.openings.Opening.{Opening}
 use Rattle.snap_recover.specs.Batches.{Completion, tids_from, batch_records}
 use Rattle.run_batch.specs.Report.{serial_from, IsExecutable}

@@ -4,7 +4,7 @@ use Rattle.snap_base.specs.declared.transactions.Tx.{Tx}
 use Rattle.aml_check.specs.Meaning.{zero_state, serial}
 use Rattle.txn_records.specs.declared.records.Record.{Record}
 use Rattle.txn_records.specs.declared.records.Record.TheVariants.{BatchCommit}
-use Rattle.work_text.specs.Works.{Work}
+use Rattle.snap_work.specs.Works.{Work}
 use Rattle.snap_recover.specs.declared.openings.Opening.{Opening}
 use Rattle.snap_recover.specs.Opening.{IsRecovered}
 use Rattle.snap_recover.specs.Batches.{Completion, tids_from, batch_records, with_completions, with_numbers_drawn, with_batch, MayRun}

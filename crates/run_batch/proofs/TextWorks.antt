@@ -4,9 +4,9 @@ use Rattle.std.specs.List.{AllByRecursion}
 use Rattle.snap_base.specs.declared.transactions.State.{State}
 use Rattle.aml_check.specs.Transactions.{IsTransaction}
 use Rattle.txn_records.specs.Records.{IsState}
-use Rattle.work_text.specs.Works.{Work}
-use Rattle.work_text.specs.Kept.{KeepsLimits, IsOneBatch}
-use Rattle.work_text.specs.Kept as kept
+use Rattle.snap_work.specs.Works.{Work}
+use Rattle.snap_work.specs.Kept.{KeepsLimits, IsOneBatch}
+use Rattle.snap_work.specs.Kept as kept
 use Rattle.snap_recover.specs.declared.openings.Opening.{Opening}
 use Rattle.run_opening.specs.Begins.{IsUnspent}
 use Rattle.run_batch.specs.Report.{IsExecutable}

@@ -4,7 +4,7 @@ use Rattle.snap_outside.specs.declared.devices.DevOp.{DevOp}
 use Rattle.snap_outside.specs.Disk.{History, disk, settled, disk_after, EachMoment}
 use Rattle.txn_records.specs.declared.records.Record.{Record}
 use Rattle.record_log.specs.Records.{HoldsRecords, RecordLog, AppendsRecords, CrashesRecords}
-use Rattle.work_text.specs.Works.{Work}
+use Rattle.snap_work.specs.Works.{Work}
 use Rattle.snap_recover.specs.declared.openings.Opening.{Opening}
 use Rattle.snap_recover.specs.Opening.{IsRecovered}
 use Rattle.run_batch.specs.Report.{serial_from, IsExecutable}

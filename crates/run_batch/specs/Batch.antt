@@ -9,7 +9,7 @@ use Rattle.snap_outside.specs.Disk.{History, disk, EachMoment, AddsAll}
 use Rattle.txn_records.specs.declared.records.Record.{Record}
 use Rattle.txn_records.specs.declared.records.Record.TheVariants.{BatchCommit}
 use Rattle.record_log.specs.Records.{HoldsRecords, RecordLog}
-use Rattle.work_text.specs.Works.{Work}
+use Rattle.snap_work.specs.Works.{Work}
 use Rattle.snap_recover.specs.declared.openings.Opening.{Opening}
 use Rattle.snap_recover.specs.Opening.{IsRecovered}
 use Rattle.snap_recover.specs.Batches.{Completion, tids_from, batch_records}

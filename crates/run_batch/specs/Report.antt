@@ -8,16 +8,17 @@ use Rattle.snap_base.specs.declared.transactions.Tx.{Tx}
 use Rattle.snap_base.specs.declared.transactions.TxResult.TheVariants.{Value}
 use Rattle.snap_base.specs.declared.verdicts.Verdict.{Verdict}
 use Rattle.snap_base.specs.declared.verdicts.Verdict.TheVariants.{Committed, Unsure}
-use Rattle.aml_check.specs.Meaning.{serial, SerialRun}
+use Rattle.serial_words.specs.Outcomes.{Serial}
+use Rattle.aml_check.specs.Meaning.{serial}
 use Rattle.aml_check.specs.Transactions.{IsTransaction}
 use Rattle.txn_records.specs.Records.{IsState}
-use Rattle.work_text.specs.Works.{Work}
+use Rattle.snap_work.specs.Works.{Work}
 use Rattle.snap_recover.specs.declared.openings.Opening.{Opening}
 use Rattle.snap_report.specs.Lines.{reply_text, actor_text, end_text}
 use Rattle.run_opening.specs.Begins.{IsUnspent}
 
 -- the serial execution of a work from the states of an opening
-abbrev pub serial_from : Opening → Work → SerialRun
+abbrev pub serial_from : Opening → Work → Serial
 serial_from o w = serial w.program o.states w.txs
 
 -- the transactions take the next numbers, in order

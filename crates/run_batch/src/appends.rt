@@ -2,7 +2,7 @@ ghost use Rattle.std.specs.Prelude.{◌≡◌, ◌+◌, ◌≤◌, ◌^◌, [], 
 ghost use Rattle.snap_outside.specs.Causes.{Rose};
 ghost use Rattle.gate_log.specs.State.{IsUntouched};
 ghost use Rattle.snap_recover.specs.declared.openings.Opening.{Opening};
-ghost use Rattle.work_text.specs.Works.{Work};
+ghost use Rattle.snap_work.specs.Works.{Work};
 ghost use Rattle.run_batch.specs.Report.{IsExecutable};
 ghost use Rattle.run_batch.specs.Batch.{batch_part, commit_part, AppendsRun, IsDurableFirst, CrashesRun};
 

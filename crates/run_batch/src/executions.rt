@@ -1,6 +1,6 @@
 ghost use Rattle.std.specs.Prelude.{◌≡◌, ◌≢◌, ◌+◌, ◌≤◌, ◌^◌, [], ◌∷◌, length, IfOk, IsErrOf, string_bytes};
 ghost use Rattle.std.specs.List.{filter};
-ghost use Rattle.work_text.specs.Works.{work_of};
+ghost use Rattle.snap_work.specs.Works.{work_of};
 ghost use Rattle.txn_records.specs.declared.records.Record.TheVariants.{BatchCommit};
 ghost use Rattle.snap_recover.specs.Batches.{Completion, tids_from, batch_records};
 ghost use Rattle.run_batch.specs.Report.{actors_text, IsReport, Fails, IsExecutable};
@@ -12,9 +12,9 @@ use crate::{ExecuteNo, Executed};
 use aml_serial::run_list;
 use snap_base::{Memory, Sequence, State, Tx};
 use snap_recover::Opening;
+use snap_work::Work;
 use std::alloc::Global;
 use txn_records::Record;
-use work_text::Work;
 
 /// Executes the text's transactions, one after the other, from the opening's states.
 pub fn execute(alloc: Global, work: &Work, opening: &Opening) -> Result<Executed, ExecuteNo>

@@ -2,7 +2,7 @@ ghost use Rattle.std.specs.Prelude.{◌≡◌, ℕ, List, [], ◌∷◌, ◌++�
 ghost use Rattle.txn_records.specs.declared.records.Record.{Record};
 ghost use Rattle.snap_recover.specs.declared.openings.Opening.{Opening};
 ghost use Rattle.snap_recover.specs.Opening.{IsRecovered};
-ghost use Rattle.work_text.specs.Works.{Work};
+ghost use Rattle.snap_work.specs.Works.{Work};
 ghost use Rattle.run_batch.specs.Report.{serial_from, IsExecutable};
 ghost use Rattle.run_batch.specs.Batch.{batch_part, run_records};
 

@@ -7,12 +7,12 @@ use Rattle.snap_base.specs.Text.{verdict_text}
 use Rattle.snap_base.specs.declared.transactions.State.{State}
 use Rattle.aml_tokens.specs.declared.tokens.TextCause.{TextCause}
 use Rattle.aml_tokens.specs.declared.tokens.TextCause.TheVariants as text
-use Rattle.aml_check.specs.declared.faults.CheckCause.{CheckCause}
-use Rattle.aml_check.specs.declared.faults.CheckCause.TheVariants as check
-use Rattle.work_text.specs.declared.faults.ProgramCause.{ProgramCause}
-use Rattle.work_text.specs.declared.faults.ProgramCause.TheVariants as program
-use Rattle.work_text.specs.declared.faults.WorkCause.{WorkCause}
-use Rattle.work_text.specs.declared.faults.WorkCause.TheVariants as work
+use Rattle.aml_resolver.specs.declared.faults.CheckCause.{CheckCause}
+use Rattle.aml_resolver.specs.declared.faults.CheckCause.TheVariants as check
+use Rattle.snap_work.specs.declared.faults.ProgramCause.{ProgramCause}
+use Rattle.snap_work.specs.declared.faults.ProgramCause.TheVariants as program
+use Rattle.snap_work.specs.declared.faults.WorkCause.{WorkCause}
+use Rattle.snap_work.specs.declared.faults.WorkCause.TheVariants as work
 use Rattle.snap_recover.specs.declared.openings.Opening.{Opening}
 use Rattle.snap_recover.specs.declared.openings.Kept.{Kept}
 use Rattle.snap_recover.specs.declared.openings.Kept.TheVariants as kept

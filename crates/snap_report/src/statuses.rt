@@ -1,12 +1,12 @@
 ghost use Rattle.std.specs.Prelude.{◌≡◌, IfOk, string_bytes};
 ghost use Rattle.snap_report.specs.Lines.{text_cause_text, check_cause_text, program_cause_text, cause_text, log_cause_text, status_text};
 
-use aml_check::CheckCause;
+use aml_resolver::CheckCause;
 use aml_tokens::TextCause;
 use snap_base::Memory;
 use snap_recover::LogCause;
+use snap_work::{ProgramCause, WorkCause};
 use std::alloc::Global;
-use work_text::{ProgramCause, WorkCause};
 
 /// How the top call ended. The number behind each is the program's exit status.
 #[derive(Clone, Copy, Debug, PartialEq, Eq)]

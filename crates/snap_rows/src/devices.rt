@@ -4,9 +4,9 @@ use crate::journals::log_bytes;
 use crate::texts::{DEPOSIT, DEPOSIT_OUTPUT, TWO_DEPOSITS};
 use snap_base::Memory;
 use snap_report::Status;
+use snap_work::WorkCause;
 use std::alloc::Global;
 use std::test::Fail;
-use work_text::WorkCause;
 
 const UNSURE: &str = "tx 0 unsure 0\ntx 1 unsure 0\n";
 

@@ -18,8 +18,8 @@ use Rattle.snap_recover.specs.declared.causes.What.{What}
 use Rattle.snap_recover.specs.declared.causes.What.TheVariants.{Actors, Field}
 use Rattle.snap_report.specs.declared.statuses.Status.{Status}
 use Rattle.snap_report.specs.declared.statuses.Status.TheVariants as status
-use Rattle.work_text.specs.Works.{Work}
-use Rattle.work_text.specs.declared.faults.WorkFault.{WorkFault}
+use Rattle.snap_work.specs.Works.{Work}
+use Rattle.snap_work.specs.declared.faults.WorkFault.{WorkFault}
 use Rattle.work_text.specs.Built.{IsBuilt, IsFirstWorkFault}
 use Rattle.log_opening.specs.Found.{IsRecoveryCause}
 use Rattle.run_opening.specs.Begins.{IsUnspent, IsFirstSpent, GoesOn, Begins, IsFieldDifference, IsDifference, IsCause, IsRefusedLog}

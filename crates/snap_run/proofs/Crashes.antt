@@ -9,7 +9,7 @@ use Rattle.record_log.specs.Records.{spelled, HoldsRecords, RecordLog}
 use Rattle.record_log.specs.RecordLogLaws.{OneListOfRecords, RecordLogHolds}
 use Rattle.snap_recover.specs.declared.openings.Opening.{Opening}
 use Rattle.snap_recover.specs.Opening.{IsRecovered}
-use Rattle.work_text.specs.Works.{Work}
+use Rattle.snap_work.specs.Works.{Work}
 use Rattle.run_opening.specs.Begins.{Begins, begun, fresh_opening, IsBegunOn, BeginsSafely}
 use Rattle.snap_outside.specs.Moments.{moments_weaker, disk_join, adds_join}
 use Rattle.run_batch.specs.Report.{serial_from, IsExecutable}

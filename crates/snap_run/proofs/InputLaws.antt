@@ -6,12 +6,12 @@ use Rattle.std.proofs.lemmas.Bool.{cases_lt}
 use Rattle.std.specs.List.{AllByRecursion}
 use Rattle.snap_base.specs.declared.transactions.State.{State}
 use Rattle.txn_records.specs.Records.{IsState}
-use Rattle.work_text.specs.Kept as kept
-use Rattle.work_text.specs.declared.faults.Limit.TheVariants as limit
-use Rattle.work_text.specs.declared.faults.WorkCause.TheVariants as cause
-use Rattle.work_text.specs.declared.faults.WorkFault.{WorkFault}
-use Rattle.work_text.specs.Works.{Work}
-use Rattle.work_text.specs.Kept.{KeepsLimits, IsOneBatch}
+use Rattle.snap_work.specs.Kept as kept
+use Rattle.snap_work.specs.declared.faults.Limit.TheVariants as limit
+use Rattle.snap_work.specs.declared.faults.WorkCause.TheVariants as cause
+use Rattle.snap_work.specs.declared.faults.WorkFault.{WorkFault}
+use Rattle.snap_work.specs.Works.{Work}
+use Rattle.snap_work.specs.Kept.{KeepsLimits, IsOneBatch}
 use Rattle.work_text.specs.Reads.{Laid, Reads}
 use Rattle.work_text.specs.Built.{IsBuilt, IsFirstWorkFault}
 use Rattle.snap_run.specs.Uses.{Reading}

@@ -8,7 +8,7 @@ use Rattle.record_log.specs.Records.{HoldsRecords}
 use Rattle.snap_recover.specs.declared.openings.Opening.{Opening}
 use Rattle.snap_report.specs.declared.statuses.Status.{Status}
 use Rattle.snap_report.specs.declared.statuses.Status.TheVariants as status
-use Rattle.work_text.specs.Works.{Work}
+use Rattle.snap_work.specs.Works.{Work}
 use Rattle.work_text.specs.Built.{IsBuilt, IsFirstWorkFault}
 use Rattle.run_opening.specs.Begins.{Begins}
 use Rattle.run_batch.specs.Report.{Fails}
@@ -17,7 +17,7 @@ use Rattle.log_opening.specs.Devices.{device_at}
 use Rattle.snap_run.specs.Uses.{Reading, Use, WritesNothing}
 use Rattle.snap_run.specs.Runs.{IsWorkAnswer}
 use Rattle.snap_run.specs.Recoveries.{IsRecoverAnswer}
-use Rattle.work_text.specs.declared.limits.TheConstants.{LONGEST_WORK}
+use Rattle.snap_work.specs.declared.limits.TheConstants.{LONGEST_WORK}
 
 -- The input was read to its end, or one byte more of it than an input may have.
 abbrev pub ReadsEnough : Reading → Type 0

@@ -3,7 +3,7 @@ use Rattle.std.specs.Prelude.{◌≡◌, ◌⊎◌, IfSome}
 use Rattle.std.specs.List.{AllZip}
 use Rattle.snap_report.specs.declared.statuses.Status.{Status}
 use Rattle.snap_report.specs.declared.statuses.Status.TheVariants as status
-use Rattle.work_text.specs.Works.{Work}
+use Rattle.snap_work.specs.Works.{Work}
 use Rattle.work_text.specs.Built.{IsBuilt}
 use Rattle.record_log.specs.Records.{KeepsRecords}
 use Rattle.log_opening.specs.Devices.{Device, device_at, IsOpenedAtMost}

@@ -13,7 +13,7 @@ use Rattle.record_log.specs.Records.{HoldsRecords}
 use Rattle.snap_recover.specs.declared.openings.Opening.{Opening}
 use Rattle.snap_report.specs.declared.statuses.Status.{Status}
 use Rattle.snap_report.specs.declared.statuses.Status.TheVariants as status
-use Rattle.work_text.specs.Works.{Work}
+use Rattle.snap_work.specs.Works.{Work}
 use Rattle.run_opening.specs.Begins.{Begins, begun, IsRefusedLog}
 use Rattle.run_batch.specs.Report.{serial_from, IsReport, Fails, unsures_text}
 use Rattle.run_batch.specs.Batch.{run_records, AppendsRun, RecoversTo}

@@ -1,12 +1,12 @@
 ghost use Rattle.std.specs.Prelude.{◌≡◌, ◌+◌, ◌<◌, ◌≤◌, length, IfOk, IsErrOf, OnErr};
 ghost use Rattle.std.specs.Io.KnownBytes.{Consumes, IsAtEnd};
 ghost use Rattle.snap_outside.specs.Causes.{Rose};
-ghost use Rattle.work_text.specs.declared.limits.TheConstants.{LONGEST_WORK};
+ghost use Rattle.snap_work.specs.declared.limits.TheConstants.{LONGEST_WORK};
 
 use snap_base::Memory;
 use snap_outside::{Failed, Source};
+use snap_work::LONGEST_WORK;
 use std::alloc::Global;
-use work_text::LONGEST_WORK;
 
 /// Why there is no input.
 pub(crate) enum ReadNo {

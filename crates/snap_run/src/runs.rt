@@ -1,6 +1,6 @@
 ghost use Rattle.std.specs.Prelude.{◌≡◌, ◌⊎◌, ◌+◌, ◌≤◌, MatchResult, false};
 ghost use Rattle.snap_report.specs.declared.statuses.Status.TheVariants as status;
-ghost use Rattle.work_text.specs.Works.{work_of};
+ghost use Rattle.snap_work.specs.Works.{work_of};
 ghost use Rattle.run_batch.specs.Report.{IsExecutable};
 ghost use Rattle.run_batch.specs.Batch.{CrashesRun};
 ghost use Rattle.log_opening.specs.Devices.{Device};
@@ -17,8 +17,8 @@ use run_opening::{LARGEST_START, open_for_run};
 use snap_outside::{LogDev, Sink, images_of_settled};
 use snap_recover::{Opening, begun_is_recovered, one_opening};
 use snap_report::Status;
+use snap_work::Work;
 use std::alloc::Global;
-use work_text::Work;
 
 /// The number of the one log.
 const LOG: u8 = 0;

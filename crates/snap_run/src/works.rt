@@ -1,5 +1,5 @@
 ghost use Rattle.std.specs.Prelude.{◌≡◌, IfOk, MatchResult};
-ghost use Rattle.work_text.specs.Works.{work_of};
+ghost use Rattle.snap_work.specs.Works.{work_of};
 ghost use Rattle.snap_run.specs.Uses.{Reading, reading_of};
 ghost use Rattle.snap_run.specs.Runs.{IsRunnable};
 ghost use Rattle.snap_run.specs.Answers.{OfText, IsInputAnswer};
@@ -7,10 +7,9 @@ ghost use Rattle.snap_run.specs.Answers.{OfText, IsInputAnswer};
 use crate::reads::{ReadNo, read_input};
 use snap_outside::Source;
 use snap_report::Status;
+use snap_work::{Work, WorkNo};
 use std::alloc::Global;
-use work_text::{
-    Work, WorkNo, a_work_is_short, built_works, one_batch, parse_work, transactions_may_run,
-};
+use work_text::{a_work_is_short, built_works, one_batch, parse_work, transactions_may_run};
 
 /// The work that the input stands for.
 pub(crate) fn read_work<I: Source>(alloc: Global, input: &mut I) -> Result<Work, Status>

@@ -1,8 +1,9 @@
 //! Texts with a part replaced, and what is wrong with them first.
 
 use snap_base::Memory;
+use snap_work::{ProgramCause, WorkCause, WorkNo};
 use std::alloc::{AllocError, Global};
-use work_text::{ProgramCause, WorkCause, WorkNo, parse_work};
+use work_text::parse_work;
 
 /// The lines of a text that stands for a work.
 const BASE: [&str; 12] = [

@@ -4,9 +4,10 @@ use crate::calls::{GROUPS, LISTS};
 use crate::values::{BODIES, EXPRESSIONS};
 use aml_serial::{run_alone, run_list};
 use snap_base::{Memory, State, TxResult};
+use snap_work::WorkNo;
 use std::alloc::{AllocError, Global};
 use std::test::Fail;
-use work_text::{WorkNo, built_works, parse_work, transactions_may_run};
+use work_text::{built_works, parse_work, transactions_may_run};
 
 /// A text of a program, of actors, and of lines that ask for transactions.
 fn text_of(alloc: Global, program: &str, actors: &str, txs: &str) -> Result<String, AllocError> {

@@ -1,8 +1,8 @@
 //! Texts of programs: what is wrong with them first, and what they are printed as. Rows end with `@`, their parts with
 //! `|`.
 
+use aml_parser::{TextNo, parse_program};
 use aml_print::print_program;
-use aml_tree::{TextNo, parse_program};
 use snap_base::Memory;
 use std::alloc::Global;
 use std::test::Fail;

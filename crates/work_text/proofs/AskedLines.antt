@@ -3,9 +3,9 @@ use Rattle.std.proofs.Common.{◌≡◌, ℕ, ◌+◌, List, [], ◌∷◌, ◌+
 use Rattle.std.proofs.lemmas.List.{map-append}
 use Rattle.snap_base.specs.declared.transactions.Tx.{Tx}
 use Rattle.aml_tree.specs.Tree.{CheckedMethod}
-use Rattle.work_text.specs.declared.faults.WorkFault.{WorkFault}
-use Rattle.work_text.specs.declared.faults.WorkNo.{WorkNo}
-use Rattle.work_text.specs.declared.faults.WorkNo.TheVariants as no
+use Rattle.snap_work.specs.declared.faults.WorkFault.{WorkFault}
+use Rattle.snap_work.specs.declared.faults.WorkNo.{WorkNo}
+use Rattle.snap_work.specs.declared.faults.WorkNo.TheVariants as no
 use Rattle.work_text.specs.Lines.{Line}
 use Rattle.work_text.specs.Readings.{IsNo}
 use Rattle.work_text.specs.Transactions.{transaction}

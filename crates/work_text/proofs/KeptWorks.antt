@@ -15,16 +15,16 @@ use Rattle.aml_tree.specs.Tree.{CheckedMethod}
 use Rattle.aml_check.specs.declared.limits.TheConstants.{MOST_CALLED_ACTORS}
 use Rattle.aml_check.specs.Closed.{IsClosedProgram}
 use Rattle.aml_check.specs.Transactions.{Declares, IsTransaction}
-use Rattle.work_text.specs.declared.limits.TheConstants.{MOST_ACTORS, MOST_ACTS, MOST_BATCHES, MOST_COORDINATORS, MOST_IN_A_BATCH, MOST_LOGS, MOST_TRANSACTIONS}
+use Rattle.snap_work.specs.declared.limits.TheConstants.{MOST_ACTORS, MOST_ACTS, MOST_BATCHES, MOST_COORDINATORS, MOST_IN_A_BATCH, MOST_LOGS, MOST_TRANSACTIONS}
 use Rattle.work_text.specs.Lines.{Line, lines, words, numbered, said, up_to_end}
 use Rattle.work_text.specs.Readings.{Reading, gives, ◌>>=◌}
 use Rattle.work_text.specs.Settings as setting
 use Rattle.work_text.specs.Actors.{Named, actor, state_with, state_in, states_in}
 use Rattle.work_text.specs.Transactions.{AreUses, DeclaresRoot, transaction}
-use Rattle.work_text.specs.Works.{Work}
+use Rattle.snap_work.specs.Works.{Work}
 use Rattle.work_text.specs.Reads.{line, set, exactly, program_lines, first_is_actor, transactions, tail, Setup, Laid, laid, reads_lines, Reads, IsWork}
 use Rattle.work_text.specs.Built.{above_one, unbuilt_kind, unbuilt_transactions, IsBuilt}
-use Rattle.work_text.specs.Kept.{IsState, KeepsLimits, IsOneBatch}
+use Rattle.snap_work.specs.Kept.{IsState, KeepsLimits, IsOneBatch}
 use Rattle.work_text.proofs.OneOf.{ok_parts, ok_same}
 use Rattle.work_text.proofs.OneText.{AreClosed, in_range, closed_lines}
 use Rattle.work_text.proofs.StateLines.{length-states_in}

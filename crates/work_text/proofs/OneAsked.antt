@@ -14,11 +14,11 @@ use Rattle.aml_tree.specs.Tree.{CheckedMethod}
 use Rattle.aml_check.specs.Names.{method_at, method_names}
 use Rattle.aml_check.specs.Closed.{AreDistinct}
 use Rattle.aml_check.specs.Transactions.{IsUse}
-use Rattle.work_text.specs.declared.faults.WorkFault.{WorkFault}
-use Rattle.work_text.specs.declared.faults.WorkCause.{WorkCause}
-use Rattle.work_text.specs.declared.faults.WorkCause.TheVariants as cause
-use Rattle.work_text.specs.declared.faults.Limit.{Limit}
-use Rattle.work_text.specs.declared.faults.Limit.TheVariants as limit
+use Rattle.snap_work.specs.declared.faults.WorkFault.{WorkFault}
+use Rattle.snap_work.specs.declared.faults.WorkCause.{WorkCause}
+use Rattle.snap_work.specs.declared.faults.WorkCause.TheVariants as cause
+use Rattle.snap_work.specs.declared.faults.Limit.{Limit}
+use Rattle.snap_work.specs.declared.faults.Limit.TheVariants as limit
 use Rattle.work_text.specs.Lines.{Line}
 use Rattle.work_text.specs.Transactions.{use_word, kind_word, uses_words, transaction_words, AreUses, Asks, DeclaresRoot, LimitFault, TransactionFault, transaction}
 use Rattle.work_text.proofs.OneOf.{IsOne, same_fault}

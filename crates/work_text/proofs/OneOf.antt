@@ -1,9 +1,9 @@
 -- Parts of a text that are read as one thing.
 use Rattle.std.proofs.Common.{◌≡◌, ℕ, Bool, true, false, List, sym, ap, ◌∙◌}
 use Rattle.std.specs.Prelude.{Option, Some, None, Ok, Err, Result}
-use Rattle.work_text.specs.declared.faults.WorkFault.{WorkFault}
-use Rattle.work_text.specs.declared.faults.WorkCause.{WorkCause}
-use Rattle.work_text.specs.declared.faults.WorkCause.TheVariants.{BadHeader}
+use Rattle.snap_work.specs.declared.faults.WorkFault.{WorkFault}
+use Rattle.snap_work.specs.declared.faults.WorkCause.{WorkCause}
+use Rattle.snap_work.specs.declared.faults.WorkCause.TheVariants.{BadHeader}
 use Rattle.work_text.specs.Lines.{Line, next}
 use Rattle.work_text.specs.Readings.{Reading, fault, gives, fails, Goes, ◌>>=◌, only, whether}
 use Rattle.work_text.specs.Reads.{by_next, line}

@@ -5,19 +5,19 @@ use Rattle.std.specs.List.{count_by}
 use Rattle.std.specs.Str.{IsUtf8}
 use Rattle.std.proofs.lemmas.Bool.{cases_order}
 use Rattle.std.proofs.Math.Seq.{take-length}
-use Rattle.aml_tree.specs.declared.faults.TextFault.{TextFault}
+use Rattle.aml_parser.specs.declared.faults.TextFault.{TextFault}
 use Rattle.aml_tree.specs.Tree.{TextMethod, CheckedMethod}
 use Rattle.aml_tree.specs.Programs.{IsProgram, IsProgramText}
-use Rattle.aml_tree.specs.Faults as text
-use Rattle.aml_check.specs.declared.faults.CheckFault.{CheckFault}
-use Rattle.aml_check.specs.Faults as check
-use Rattle.aml_check.specs.Faults.{IsCheckedProgram}
-use Rattle.aml_check.specs.Names.{checked_program}
+use Rattle.aml_parser.specs.Faults as text
+use Rattle.aml_resolver.specs.declared.faults.CheckFault.{CheckFault}
+use Rattle.aml_resolver.specs.Faults as check
+use Rattle.aml_resolver.specs.Faults.{IsCheckedProgram}
+use Rattle.aml_resolver.specs.Names.{checked_program}
 use Rattle.aml_check.specs.Closed.{IsClosedProgram}
-use Rattle.work_text.specs.declared.faults.ProgramCause.TheVariants as program_cause
-use Rattle.work_text.specs.declared.faults.WorkFault.{WorkFault}
-use Rattle.work_text.specs.declared.faults.WorkCause.{WorkCause}
-use Rattle.work_text.specs.declared.faults.WorkCause.TheVariants as cause
+use Rattle.snap_work.specs.declared.faults.ProgramCause.TheVariants as program_cause
+use Rattle.snap_work.specs.declared.faults.WorkFault.{WorkFault}
+use Rattle.snap_work.specs.declared.faults.WorkCause.{WorkCause}
+use Rattle.snap_work.specs.declared.faults.WorkCause.TheVariants as cause
 use Rattle.work_text.specs.Lines.{Line, lines, words, text_of, numbered, said, up_to_end}
 use Rattle.work_text.specs.Readings.{fault, gives, ◌>>=◌}
 use Rattle.work_text.specs.Settings as setting

@@ -1,8 +1,8 @@
 -- A text stands for one work, or has one first fault.
 use Rattle.std.proofs.Common.{◌≡◌, ℕ, List, [], ◌∷◌, sym, ap, ◌∙◌, inl, inr}
 use Rattle.std.specs.Prelude.{Ok, Err, Result}
-use Rattle.work_text.specs.declared.faults.WorkFault.{WorkFault}
-use Rattle.work_text.specs.Works.{Work}
+use Rattle.snap_work.specs.declared.faults.WorkFault.{WorkFault}
+use Rattle.snap_work.specs.Works.{Work}
 use Rattle.work_text.specs.Reads.{Laid, Reads}
 use Rattle.work_text.specs.Built.{unbuilt, IsBuilt, IsFirstWorkFault}
 use Rattle.work_text.proofs.OneOf.{ok_same, same_fault}

@@ -1,22 +1,22 @@
 -- What is wrong with a program's text.
 use Rattle.std.proofs.Common.{◌≡◌, ℕ, List, refl}
-use Rattle.aml_tree.specs.declared.faults.TextFault.{TextFault}
+use Rattle.aml_parser.specs.declared.faults.TextFault.{TextFault}
 use Rattle.aml_tree.specs.Tree.{TextMethod, CheckedMethod}
 use Rattle.std.specs.Prelude.{Option, Some, Ok, Err, Result}
 use Rattle.aml_tree.specs.Programs.{IsProgramText}
-use Rattle.aml_tree.specs.Faults as text
-use Rattle.aml_check.specs.declared.faults.CheckFault.{CheckFault}
-use Rattle.aml_check.specs.Faults as check
-use Rattle.work_text.specs.declared.faults.ProgramCause.TheVariants as program_cause
-use Rattle.work_text.specs.declared.faults.WorkCause.TheVariants as cause
-use Rattle.work_text.specs.declared.faults.WorkNo.{WorkNo}
-use Rattle.work_text.specs.declared.faults.WorkNo.TheVariants as no
+use Rattle.aml_parser.specs.Faults as text
+use Rattle.aml_resolver.specs.declared.faults.CheckFault.{CheckFault}
+use Rattle.aml_resolver.specs.Faults as check
+use Rattle.snap_work.specs.declared.faults.ProgramCause.TheVariants as program_cause
+use Rattle.snap_work.specs.declared.faults.WorkCause.TheVariants as cause
+use Rattle.snap_work.specs.declared.faults.WorkNo.{WorkNo}
+use Rattle.snap_work.specs.declared.faults.WorkNo.TheVariants as no
 use Rattle.work_text.specs.Readings.{IsNo}
 use Rattle.work_text.specs.Reads.{program_text, program_lines}
 use Rattle.work_text.specs.Lines.{Line, text_of}
 use Rattle.work_text.specs.Parts.{IsFaultBehind, IsTextNo}
-use Rattle.aml_tree.specs.declared.faults.TextNo.{TextNo}
-use Rattle.aml_tree.specs.declared.faults.TextNo.TheVariants as text_no
+use Rattle.aml_parser.specs.declared.faults.TextNo.{TextNo}
+use Rattle.aml_parser.specs.declared.faults.TextNo.TheVariants as text_no
 use Rattle.aml_tree.specs.declared.trees.Program.{Program}
 use Rattle.aml_tokens.specs.declared.tokens.Word.{Word}
 

@@ -4,9 +4,9 @@ use Rattle.std.specs.Prelude.{IfSome}
 use Rattle.std.specs.List.{AllByRecursion}
 use Rattle.std.proofs.lemmas.Bool.{ne_eqb, eq-eqb, eqb-true}
 use Rattle.snap_base.specs.declared.transactions.State.{State}
-use Rattle.work_text.specs.declared.faults.WorkFault.{WorkFault}
-use Rattle.work_text.specs.declared.faults.WorkNo.{WorkNo}
-use Rattle.work_text.specs.declared.faults.WorkNo.TheVariants as no
+use Rattle.snap_work.specs.declared.faults.WorkFault.{WorkFault}
+use Rattle.snap_work.specs.declared.faults.WorkNo.{WorkNo}
+use Rattle.snap_work.specs.declared.faults.WorkNo.TheVariants as no
 use Rattle.work_text.specs.Lines.{Line, words}
 use Rattle.work_text.specs.Readings.{IsNo}
 use Rattle.work_text.specs.Actors.{Named, actor, state_with, state_in, states_in}

@@ -4,9 +4,9 @@ use Rattle.std.specs.Prelude.{Some, None, Ok, Err}
 use Rattle.work_text.specs.Lines.{Line, next}
 use Rattle.work_text.specs.Readings.{Reading, IsNo, fault, ◌>>=◌}
 use Rattle.work_text.specs.Reads.{line}
-use Rattle.work_text.specs.declared.faults.WorkCause.TheVariants.{BadHeader}
-use Rattle.work_text.specs.declared.faults.WorkNo.{WorkNo}
-use Rattle.work_text.specs.declared.faults.WorkNo.TheVariants as no
+use Rattle.snap_work.specs.declared.faults.WorkCause.TheVariants.{BadHeader}
+use Rattle.snap_work.specs.declared.faults.WorkNo.{WorkNo}
+use Rattle.snap_work.specs.declared.faults.WorkNo.TheVariants as no
 
 -- a fault of the first part is one of the whole
 pub stops : {A B : Type 0} (first : Reading A) (next : A → Reading B) (e : WorkNo) → IsNo first e → IsNo (first >>= next) e

@@ -2,7 +2,7 @@
 use Rattle.std.proofs.Common.{◌≡◌, ℕ, ◌+◌, ◌≤◌, List, map, length, refl, ap, inl, inr}
 use Rattle.std.specs.Str.{IsUtf8, IsValidUpTo}
 use Rattle.std.specs.List.{count_by}
-use Rattle.work_text.specs.declared.faults.WorkCause.TheVariants.{NotUtf8}
+use Rattle.snap_work.specs.declared.faults.WorkCause.TheVariants.{NotUtf8}
 use Rattle.work_text.specs.Built.{IsFirstWorkFault}
 use Rattle.std.specs.Prelude.{◌==◌, take, Option, None, Ok, Err, Result}
 use Rattle.snap_base.specs.declared.transactions.State.{State}
@@ -11,12 +11,12 @@ use Rattle.aml_tree.specs.Tree.{CheckedMethod}
 use Rattle.work_text.specs.Lines.{Line, lines, numbered}
 use Rattle.work_text.specs.Readings.{IsNo, Is, Reading, gives, ◌>>=◌}
 use Rattle.work_text.specs.Reads.{Laid, laid, tail, line, program_lines, reads_lines, Reads}
-use Rattle.work_text.specs.declared.faults.WorkFault.{WorkFault}
+use Rattle.snap_work.specs.declared.faults.WorkFault.{WorkFault}
 use Rattle.work_text.specs.Actors.{states_in}
-use Rattle.work_text.specs.Works.{Work}
+use Rattle.snap_work.specs.Works.{Work}
 use Rattle.work_text.specs.Endings.{ending}
-use Rattle.work_text.specs.declared.faults.WorkNo.{WorkNo}
-use Rattle.work_text.specs.declared.faults.WorkNo.TheVariants as no
+use Rattle.snap_work.specs.declared.faults.WorkNo.{WorkNo}
+use Rattle.snap_work.specs.declared.faults.WorkNo.TheVariants as no
 
 abbrev pub whole : ℕ × ℕ → ℕ × ℕ → ℕ → ℕ → ℕ → List CheckedMethod → ℕ → List Line → Reading Laid
 whole c l b s a p n ls = tail p n None ls >>= λ t. gives (laid (record { coordinators = c; logs = l; batch = b; batches = s; acts = a; program = p; actors = n }) t.0 t.1)

@@ -5,9 +5,9 @@ use Rattle.std.specs.Int.{w64}
 use Rattle.std.specs.Fmt.{decimal, signed_decimal}
 use Rattle.snap_base.specs.declared.transactions.TheConstants.{FIELDS}
 use Rattle.snap_base.specs.declared.transactions.State.{State}
-use Rattle.work_text.specs.declared.faults.Limit.TheVariants as limit
-use Rattle.work_text.specs.declared.faults.WorkCause.{WorkCause}
-use Rattle.work_text.specs.declared.faults.WorkCause.TheVariants as cause
+use Rattle.snap_work.specs.declared.faults.Limit.TheVariants as limit
+use Rattle.snap_work.specs.declared.faults.WorkCause.{WorkCause}
+use Rattle.snap_work.specs.declared.faults.WorkCause.TheVariants as cause
 use Rattle.work_text.specs.Lines.{Line, words}
 use Rattle.work_text.specs.Readings.{Reading}
 

@@ -3,9 +3,9 @@ use Rattle.std.specs.Prelude.{◌≡◌, ◌⊎◌, ℕ, ◌+◌, nat_lt, nat_le
 use Rattle.snap_base.specs.declared.transactions.Kind.{Kind}
 use Rattle.snap_base.specs.declared.transactions.Kind.TheVariants.{Pact, Act}
 use Rattle.snap_base.specs.declared.transactions.Tx.{Tx}
-use Rattle.work_text.specs.declared.faults.WorkCause.TheVariants.{Unbuilt}
-use Rattle.work_text.specs.declared.faults.WorkFault.{WorkFault}
-use Rattle.work_text.specs.Works.{Work}
+use Rattle.snap_work.specs.declared.faults.WorkCause.TheVariants.{Unbuilt}
+use Rattle.snap_work.specs.declared.faults.WorkFault.{WorkFault}
+use Rattle.snap_work.specs.Works.{Work}
 use Rattle.work_text.specs.Reads.{Laid, Reads}
 
 -- for the time being there is one coordinator, one log, and one batch of PACTs

@@ -1,6 +1,5 @@
 pub mod Lines
 pub mod Cursors
-pub mod Works
 pub mod Readings
 pub mod Settings
 pub mod Actors
@@ -9,4 +8,3 @@ pub mod Parts
 pub mod Reads
 pub mod Endings
 pub mod Built
-pub mod Kept

@@ -9,14 +9,14 @@ use Rattle.snap_base.specs.declared.transactions.Kind.{Kind}
 use Rattle.aml_tree.specs.Tree.{CheckedMethod}
 use Rattle.aml_check.specs.Names.{method_at}
 use Rattle.aml_check.specs.Transactions.{AreAscending, IsUse}
-use Rattle.work_text.specs.declared.faults.WorkCause.{WorkCause}
-use Rattle.work_text.specs.declared.faults.WorkNo.{WorkNo}
-use Rattle.work_text.specs.declared.faults.WorkNo.TheVariants as no
-use Rattle.work_text.specs.declared.faults.WorkCause.TheVariants as cause
-use Rattle.work_text.specs.declared.faults.ProgramCause.TheVariants as program_cause
-use Rattle.aml_tree.specs.declared.faults.TextNo.{TextNo}
-use Rattle.aml_tree.specs.declared.faults.TextNo.TheVariants as text_no
-use Rattle.work_text.specs.declared.limits.TheConstants.{LONGEST_WORK}
+use Rattle.snap_work.specs.declared.faults.WorkCause.{WorkCause}
+use Rattle.snap_work.specs.declared.faults.WorkNo.{WorkNo}
+use Rattle.snap_work.specs.declared.faults.WorkNo.TheVariants as no
+use Rattle.snap_work.specs.declared.faults.WorkCause.TheVariants as cause
+use Rattle.snap_work.specs.declared.faults.ProgramCause.TheVariants as program_cause
+use Rattle.aml_parser.specs.declared.faults.TextNo.{TextNo}
+use Rattle.aml_parser.specs.declared.faults.TextNo.TheVariants as text_no
+use Rattle.snap_work.specs.declared.limits.TheConstants.{LONGEST_WORK}
 use Rattle.work_text.specs.Transactions.{kind_word, use_word}
 
 -- the words spell the values

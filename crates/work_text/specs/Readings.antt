@@ -1,10 +1,10 @@
 -- What a part of a text is read as: a value, or the first fault. A reading is the relation that holds of
 -- what the part is read as. Readings follow one another: the first fault ends them.
 use Rattle.std.specs.Prelude.{◌≡◌, ℕ, Bool, true, false, Result, Ok, Err}
-use Rattle.work_text.specs.declared.faults.WorkCause.{WorkCause}
-use Rattle.work_text.specs.declared.faults.WorkFault.{WorkFault}
-use Rattle.work_text.specs.declared.faults.WorkNo.{WorkNo}
-use Rattle.work_text.specs.declared.faults.WorkNo.TheVariants as no
+use Rattle.snap_work.specs.declared.faults.WorkCause.{WorkCause}
+use Rattle.snap_work.specs.declared.faults.WorkFault.{WorkFault}
+use Rattle.snap_work.specs.declared.faults.WorkNo.{WorkNo}
+use Rattle.snap_work.specs.declared.faults.WorkNo.TheVariants as no
 
 abbrev pub Reading : Type 0 → Type 1
 Reading A = Result A WorkFault → Type 0

@@ -3,20 +3,20 @@ use Rattle.std.specs.Prelude.{◌≡◌, ℕ, ◌+◌, ◌<◌, ◌≤◌, ◌�
 use Rattle.std.specs.List.{count_by}
 use Rattle.std.specs.Str.{IsUtf8, bytes_eq}
 use Rattle.snap_base.specs.declared.transactions.Tx.{Tx}
-use Rattle.aml_tree.specs.declared.faults.TextFault.{TextFault}
+use Rattle.aml_parser.specs.declared.faults.TextFault.{TextFault}
 use Rattle.aml_tree.specs.Tree.{TextMethod, CheckedMethod}
 use Rattle.aml_tree.specs.Programs.{IsProgramText}
-use Rattle.aml_tree.specs.Faults as text
-use Rattle.aml_check.specs.declared.faults.CheckFault.{CheckFault}
-use Rattle.aml_check.specs.Faults as check
-use Rattle.work_text.specs.declared.faults.Limit.TheVariants as limit
-use Rattle.work_text.specs.declared.faults.ProgramCause.{ProgramCause}
-use Rattle.work_text.specs.declared.faults.ProgramCause.TheVariants as program_cause
-use Rattle.work_text.specs.declared.faults.WorkCause.{WorkCause}
-use Rattle.work_text.specs.declared.faults.WorkCause.TheVariants as cause
-use Rattle.work_text.specs.declared.limits.TheConstants.{LONGEST_WORK}
+use Rattle.aml_parser.specs.Faults as text
+use Rattle.aml_resolver.specs.declared.faults.CheckFault.{CheckFault}
+use Rattle.aml_resolver.specs.Faults as check
+use Rattle.snap_work.specs.declared.faults.Limit.TheVariants as limit
+use Rattle.snap_work.specs.declared.faults.ProgramCause.{ProgramCause}
+use Rattle.snap_work.specs.declared.faults.ProgramCause.TheVariants as program_cause
+use Rattle.snap_work.specs.declared.faults.WorkCause.{WorkCause}
+use Rattle.snap_work.specs.declared.faults.WorkCause.TheVariants as cause
+use Rattle.snap_work.specs.declared.limits.TheConstants.{LONGEST_WORK}
 use Rattle.work_text.specs.Lines.{Line, lines, text_of, words, numbered, said, next, up_to_end}
-use Rattle.work_text.specs.Works.{Work}
+use Rattle.snap_work.specs.Works.{Work}
 use Rattle.work_text.specs.Readings.{Reading, gives, fails, ◌>>=◌, only, whether}
 use Rattle.work_text.specs.Settings.{Setting, setting, coordinators, logs, batch, batches, acts, actors}
 use Rattle.work_text.specs.Actors.{Named, actor, states_in}

@@ -1,11 +1,11 @@
 -- Lines that set a number.
 use Rattle.std.specs.Prelude.{◌≡◌, ℕ, ◌<◌, ◌≤◌, ◌^◌, ◌⊎◌, List, ◌++◌, codes, Ok, Err}
 use Rattle.std.specs.Fmt.{decimal}
-use Rattle.work_text.specs.declared.faults.Limit.{Limit}
-use Rattle.work_text.specs.declared.faults.Limit.TheVariants as limit
-use Rattle.work_text.specs.declared.faults.WorkCause.{WorkCause}
-use Rattle.work_text.specs.declared.faults.WorkCause.TheVariants as cause
-use Rattle.work_text.specs.declared.limits.TheConstants.{MOST_ACTORS, MOST_ACTS, MOST_BATCHES, MOST_COORDINATORS, MOST_IN_A_BATCH, MOST_LOGS}
+use Rattle.snap_work.specs.declared.faults.Limit.{Limit}
+use Rattle.snap_work.specs.declared.faults.Limit.TheVariants as limit
+use Rattle.snap_work.specs.declared.faults.WorkCause.{WorkCause}
+use Rattle.snap_work.specs.declared.faults.WorkCause.TheVariants as cause
+use Rattle.snap_work.specs.declared.limits.TheConstants.{MOST_ACTORS, MOST_ACTS, MOST_BATCHES, MOST_COORDINATORS, MOST_IN_A_BATCH, MOST_LOGS}
 use Rattle.work_text.specs.Lines.{Line}
 use Rattle.work_text.specs.Readings.{Reading}
 

@@ -11,11 +11,11 @@ use Rattle.aml_tree.specs.Tree.{CheckedMethod}
 use Rattle.aml_check.specs.declared.limits.TheConstants.{MOST_CALLED_ACTORS}
 use Rattle.aml_check.specs.Names.{method_at}
 use Rattle.aml_check.specs.Transactions.{AreAscending, IsUse}
-use Rattle.work_text.specs.declared.faults.Limit.{Limit}
-use Rattle.work_text.specs.declared.faults.Limit.TheVariants as limit
-use Rattle.work_text.specs.declared.faults.WorkCause.{WorkCause}
-use Rattle.work_text.specs.declared.faults.WorkCause.TheVariants as cause
-use Rattle.work_text.specs.declared.limits.TheConstants.{MOST_TRANSACTIONS}
+use Rattle.snap_work.specs.declared.faults.Limit.{Limit}
+use Rattle.snap_work.specs.declared.faults.Limit.TheVariants as limit
+use Rattle.snap_work.specs.declared.faults.WorkCause.{WorkCause}
+use Rattle.snap_work.specs.declared.faults.WorkCause.TheVariants as cause
+use Rattle.snap_work.specs.declared.limits.TheConstants.{MOST_TRANSACTIONS}
 use Rattle.work_text.specs.Lines.{Line, words}
 use Rattle.work_text.specs.Readings.{Reading}
 

@@ -9,8 +9,8 @@ ghost use Rattle.work_text.specs.Cursors.{line_of};
 use crate::faults::at_line;
 use crate::numbers::{actor_of, numbers, words_of};
 use crate::texts::Line;
-use crate::{Limit, WorkCause, WorkNo};
 use snap_base::FIELDS;
+use snap_work::{Limit, WorkCause, WorkNo};
 use std::alloc::{AllocError, Global};
 
 // Whether an actor is above the one that was named before it, if any.

@@ -1,15 +1,15 @@
 //! What follows for a caller: a text is read as one thing, and what a work keeps. Each is called to cite it.
 
 ghost use Rattle.std.specs.Prelude.{◌≡◌, ℕ, ◌≤◌, List, length, Result};
-ghost use Rattle.work_text.specs.declared.faults.WorkFault.{WorkFault};
-ghost use Rattle.work_text.specs.Works.{Work};
+ghost use Rattle.snap_work.specs.declared.faults.WorkFault.{WorkFault};
+ghost use Rattle.snap_work.specs.Works.{Work};
 ghost use Rattle.work_text.specs.Reads.{Laid, Reads, IsWork};
 ghost use Rattle.work_text.specs.Built.{IsBuilt, IsFirstWorkFault};
-ghost use Rattle.work_text.specs.Kept.{KeepsLimits, IsOneBatch};
+ghost use Rattle.snap_work.specs.Kept.{KeepsLimits, IsOneBatch};
 
-use crate::LONGEST_WORK;
-use aml_check::checked_programs_are_closed;
-use aml_tree::{faulty, one_fault, one_program};
+use aml_parser::{faulty, one_fault, one_program};
+use aml_resolver::checked_programs_are_closed;
+use snap_work::LONGEST_WORK;
 
 /// What a work keeps that a text stands for: its transactions may be asked of its states, and its numbers
 /// are within their limits.

@@ -1,13 +1,13 @@
 //! The work text: the settings, the program, the actors with their states, and the transactions that a
-//! run is asked for. `parse_work` reads it. What a text stands for, and the first fault of one that
-//! stands for nothing, are one relation, `specs/Reads.antt`, by the parts of a text in their order.
+//! run is asked for, as text. `parse_work` reads it as a `snap_work::Work`. What a text stands for, and the
+//! first fault of one that stands for nothing, are one relation, `specs/Reads.antt`, by the parts of a text
+//! in their order.
 #![tactic(auto)]
 
 mod actors;
 mod calls;
 mod faults;
 mod laws;
-mod limits;
 mod lines;
 mod numbers;
 mod parse;
@@ -18,16 +18,9 @@ mod states;
 mod texts;
 mod transactions;
 mod uses;
-mod works;
 
-pub use faults::{Limit, ProgramCause, WorkCause, WorkFault, WorkNo};
 pub use laws::{
     a_work_is_short, built_works, fault_or_work, one_batch, one_first_fault, one_reading, one_work,
     transactions_may_run,
 };
-pub use limits::{
-    LONGEST_WORK, MOST_ACTORS, MOST_ACTS, MOST_BATCHES, MOST_COORDINATORS, MOST_IN_A_BATCH,
-    MOST_LOGS, MOST_TRANSACTIONS,
-};
 pub use parse::parse_work;
-pub use works::Work;

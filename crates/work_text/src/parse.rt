@@ -3,15 +3,15 @@ ghost use Rattle.std.specs.List.{count_by};
 ghost use Rattle.work_text.specs.Built.{IsBuilt, IsFirstWorkFault};
 ghost use Rattle.work_text.specs.Built as built;
 ghost use Rattle.work_text.specs.Parts.{IsHead};
-ghost use Rattle.work_text.specs.Works.{work_of};
+ghost use Rattle.snap_work.specs.Works.{work_of};
 ghost use Rattle.work_text.specs.Readings.{Is};
 ghost use Rattle.work_text.specs.Reads as reads;
 
 use crate::faults::at_line;
 use crate::reading::{Laid, read_lines};
 use crate::texts::Cursor;
-use crate::{LONGEST_WORK, Limit, Work, WorkCause, WorkFault, WorkNo};
 use snap_base::{Kind, Tx};
+use snap_work::{LONGEST_WORK, Limit, Work, WorkCause, WorkFault, WorkNo};
 use std::alloc::Global;
 
 /// Reads a work text.

@@ -11,9 +11,10 @@ ghost use Rattle.work_text.specs.Cursors.{ahead, end_of, IsShort};
 use crate::faults::at_line;
 use crate::lines::next_line;
 use crate::texts::Cursor;
-use crate::{LONGEST_WORK, ProgramCause, WorkCause, WorkNo};
-use aml_check::{CheckNo, Checked, check, faults_stand_in_the_program};
-use aml_tree::{TextNo, faults_stand_in_the_text, lines_stand_in_the_text, parse_program_bytes};
+use aml_check::Checked;
+use aml_parser::{TextNo, faults_stand_in_the_text, lines_stand_in_the_text, parse_program_bytes};
+use aml_resolver::{CheckNo, check, faults_stand_in_the_program};
+use snap_work::{LONGEST_WORK, ProgramCause, WorkCause, WorkNo};
 use std::alloc::Global;
 
 // A fault of a line behind another one.

@@ -6,7 +6,7 @@ ghost use Rattle.work_text.specs.Lines.{said};
 ghost use Rattle.work_text.specs.Readings.{Is};
 ghost use Rattle.work_text.specs.Reads as reads;
 ghost use Rattle.work_text.specs.Endings as endings;
-ghost use Rattle.work_text.specs.Works.{work_of};
+ghost use Rattle.snap_work.specs.Works.{work_of};
 ghost use Rattle.work_text.specs.Cursors.{ahead, end_of, IsShort};
 
 use crate::lines::next_said;
@@ -15,12 +15,12 @@ use crate::settings::{exactly, set};
 use crate::states::states;
 use crate::texts::Cursor;
 use crate::transactions::transaction;
-use crate::{
+use aml_check::Checked;
+use snap_base::{Sequence, State, Tx};
+use snap_work::{
     Limit, MOST_ACTORS, MOST_ACTS, MOST_BATCHES, MOST_COORDINATORS, MOST_IN_A_BATCH, MOST_LOGS,
     Work, WorkNo,
 };
-use aml_check::Checked;
-use snap_base::{Sequence, State, Tx};
 use std::alloc::Global;
 
 // The transactions that lines ask for, and the numbers of these lines.

@@ -6,13 +6,13 @@ ghost use Rattle.work_text.specs.Readings.{Is};
 ghost use Rattle.work_text.specs.Settings as spec;
 ghost use Rattle.work_text.specs.Reads as reads;
 ghost use Rattle.work_text.specs.Cursors.{line_of, ahead, end_of, IsShort};
-ghost use Rattle.work_text.specs.declared.faults.WorkNo.TheVariants as no;
+ghost use Rattle.snap_work.specs.declared.faults.WorkNo.TheVariants as no;
 
 use crate::faults::at_line;
 use crate::lines::next_said;
 use crate::texts::{Cursor, Line};
-use crate::{Limit, WorkCause, WorkNo};
 use decimal_words::natural;
+use snap_work::{Limit, WorkCause, WorkNo};
 
 // The number behind a word.
 fn number_behind(line: &[u8], word: &[u8]) -> Option<u64>

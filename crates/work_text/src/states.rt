@@ -8,12 +8,12 @@ ghost use Rattle.work_text.specs.Reads.{first_is_actor};
 ghost use Rattle.work_text.specs.Endings as spec;
 ghost use Rattle.work_text.specs.Cursors.{ahead, IsShort};
 
-use crate::WorkNo;
 use crate::actors::actor;
 use crate::lines::next_said;
 use crate::numbers::words_of;
 use crate::texts::Cursor;
 use snap_base::{FIELDS, State};
+use snap_work::WorkNo;
 use std::alloc::{AllocError, Global};
 
 // As many states of zeros.

@@ -12,9 +12,9 @@ use crate::faults::at_line;
 use crate::numbers::{numbers, words_of};
 use crate::texts::Line;
 use crate::uses::{declaration, declares_root};
-use crate::{Limit, MOST_TRANSACTIONS, WorkCause, WorkNo};
 use aml_check::{Checked, MOST_CALLED_ACTORS};
 use snap_base::{ActorId, Sequence, Tx};
+use snap_work::{Limit, MOST_TRANSACTIONS, WorkCause, WorkNo};
 use std::alloc::{AllocError, Global};
 
 // The transaction that a line asks for, however many actors it declares and whether or not its own one

@@ -2,7 +2,7 @@ use Rattle.std.proofs.Common.{◌≡◌, sym, ap, ◌∙◌, subst, rules, arith
 use Rattle.std.proofs.lemmas.List.{length-set}
 use Rattle.snap_base.specs.declared.transactions.State.{State}
 use Rattle.aml_check.specs.Checked.{methods_of}
-use Rattle.aml_check.specs.Meaning.{After}
+use Rattle.serial_words.specs.Outcomes.{Alone}
 use Rattle.aml_slice.specs.declared.slices.Next.TheVariants.{Go, Ended}
 use Rattle.aml_slice.specs.Moments.{HandsOn}
 use Rattle.aml_slice.specs.Finishing.{finished}
@@ -46,4 +46,4 @@ returns-in-Ended-clause-finished c =
     let here = found_at w c.at-actor.result.0 control.top.actor c.args.actors c.index_mut.result.now c.index_mut.ensures.value c.at-actor.ensures before.rest.top.known before.size in
     before.finishes
     ∙ finishes p c.args.actors control w c.index_mut.result.now c.slice.new.state (Ended c.in-Ended.result) (c.slices_finish.ensures.keeps c.args.actors control w before.rest) here c.in-Ended.ensures.exactly
-    ∙ ap (λ i. let a : After = record { result = c.in-Ended.result; world = set w i c.slice.new.state } in a) (sym c.at-actor.ensures)
+    ∙ ap (λ i. let a : Alone = record { result = c.in-Ended.result; world = set w i c.slice.new.state } in a) (sym c.at-actor.ensures)

@@ -1,4 +1,4 @@
-use Rattle.aml_tree.proofs.Blocks.{put_last}
+use Rattle.aml_tree.specs.TreeRules.{put_last}
 use Rattle.aml_tree.proofs.makers.put_statement.Goals as goal
 
 pub returns : goal.returns

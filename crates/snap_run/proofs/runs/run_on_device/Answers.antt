@@ -5,7 +5,7 @@ use Rattle.snap_report.specs.declared.statuses.Status.TheVariants as status
 use Rattle.log_opening.specs.Devices.{Device}
 use Rattle.run_opening.specs.Begins.{IsBegunOn, BeginsSafely}
 use Rattle.run_batch.specs.Batch.{CrashesRun}
-use Rattle.work_text.specs.Works.{work_of}
+use Rattle.snap_work.specs.Works.{work_of}
 use Rattle.snap_run.specs.Uses.{Writing, writing_of}
 use Rattle.snap_run.specs.Runs.{IsDeviceAnswer, IsBatchAnswer, IsDurable}
 use Rattle.snap_run.proofs.Crashes.{Laws, beginning_is_safe, run_is_safe}

@@ -1,6 +1,6 @@
 use Rattle.std.proofs.Common.{sym, ◌∙◌, subst}
 use Rattle.std.specs.Prelude.{string_bytes}
-use Rattle.work_text.specs.Works.{work_of}
+use Rattle.snap_work.specs.Works.{work_of}
 use Rattle.snap_run.specs.Uses.{Writing, Writes, WritesFront, writing_of}
 use Rattle.snap_run.proofs.Crashes.{no_batch_is_safe}
 use Rattle.snap_run.proofs.Pieces.{of_err, of_ok}

@@ -2,7 +2,7 @@ use Rattle.std.proofs.Common.{arith, [], ◌∷◌, refl, ap}
 use Rattle.std.specs.Prelude.{codes}
 use Rattle.std.proofs.KnownBytes.{Keeps-refl}
 use Rattle.log_opening.specs.Devices.{Device, devices_of, device_at}
-use Rattle.work_text.specs.Works.{work_of}
+use Rattle.snap_work.specs.Works.{work_of}
 use Rattle.snap_run.specs.Uses.{Use, reading_of, writing_of, use_of}
 use Rattle.snap_run.specs.Runs.{IsWorkAnswer, IsDurable}
 use Rattle.snap_run.specs.Outcomes.{IsOutcome}

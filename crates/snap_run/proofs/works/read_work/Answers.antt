@@ -1,6 +1,6 @@
 use Rattle.std.proofs.Common.{◌≤◌, ap, sym, length, subst, Err}
 use Rattle.std.specs.Io.KnownBytes.{Consumes, IsAtEnd}
-use Rattle.work_text.specs.Works.{work_of}
+use Rattle.snap_work.specs.Works.{work_of}
 use Rattle.snap_run.specs.Uses.{Reading, reading_of}
 use Rattle.snap_run.proofs.InputLaws.{runnable, reads_enough, fault_of_input, of_text}
 use Rattle.snap_run.proofs.works.read_work.Goals as goal

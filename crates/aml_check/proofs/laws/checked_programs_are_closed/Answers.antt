@@ -1,5 +1,0 @@
-use Rattle.aml_check.proofs.ClosedPrograms.{closed_checked}
-use Rattle.aml_check.proofs.laws.checked_programs_are_closed.Goals as goal
-
-pub returns : goal.returns
-returns c = closed_checked

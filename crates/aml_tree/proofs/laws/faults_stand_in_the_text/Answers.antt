@@ -1,5 +1,0 @@
-use Rattle.aml_tree.proofs.Lines.{fault_stands}
-use Rattle.aml_tree.proofs.laws.faults_stand_in_the_text.Goals as goal
-
-pub returns : goal.returns
-returns c = fault_stands c.args._text.now
