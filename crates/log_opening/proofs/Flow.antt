@@ -59,7 +59,7 @@ others_ended law before mid after found first a read halted =
 
 pub others_read : OpenedHeld → ItemsAreRecords → (before after : List Device) (all : List (List LogItem)) (first : List Record) (r : Result (List (List Record)) LogsNo) → AreFound before after all
     → length all ≡ logs_said first
-    → MatchResult r (λ logs. AllZip AreItemsOf all logs × ((others : List (List Record)) × (logs ≡ first ∷ others))) (λ a. IsNoDecoding all first a)
+    → MatchResult r (λ logs. AllZip AreItemsOf all logs × ((others : List (List Record)) × (logs ≡ first ∷ others))) (λ a. IsNoDecoding all (first ∷ []) a)
     → MatchResult r (λ logs. AreRead before after logs) (λ a. IsEnded before after a)
 others_read law each before after all first (Ok logs) are count said = record {
   given = given law each before after all first said.1.0 logs are said.0 said.1.1 count;

@@ -1,3 +1,4 @@
+pub mod Counting
 pub mod Flow
 pub mod Opening
 pub mod Places

@@ -57,6 +57,14 @@ found_length [] after (i ∷ is) are = absurd are
 found_length (b ∷ bs) [] (i ∷ is) are = absurd are
 found_length (b ∷ bs) (a ∷ more) (i ∷ is) are = ap (λ (n : ℕ). suc n) (found_length bs more is are.1)
 
+-- nothing was found yet
+pub none_found : (before : List Device) (found : List (List LogItem)) → found ≡ [] → AreFound before before found
+none_found before found none = subst (λ (l : List (List LogItem)). AreFound before before l) (sym none) refl
+
+pub none_ready : (logs : List LogState) (found : List (List LogItem)) → length logs ≡ 0 → found ≡ [] → AllZip IsReadyLog logs found
+none_ready [] found none none_found = subst (λ (l : List (List LogItem)). AllZip IsReadyLog [] l) (sym none_found) tt
+none_ready (l ∷ logs) found none none_found = absurd (omega (arith, none))
+
 -- the next device got no call yet
 pub found_next : (before after : List Device) (found : List (List LogItem)) → AreFound before after found → device_at after (length found) ≡ device_at before (length found)
 found_next before after [] are = ap (λ (l : List Device). device_at l 0) are

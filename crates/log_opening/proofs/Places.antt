@@ -1,7 +1,7 @@
 -- The devices of open logs and of the others, as one list.
-use Rattle.std.proofs.Common.{◌≡◌, ℕ, ◌<◌, List, [], ◌∷◌, ◌++◌, length, get_or, set, map, append_assoc, refl, sym, ◌∙◌, ap, subst, arith, Option}
+use Rattle.std.proofs.Common.{◌≡◌, ℕ, ◌+◌, ◌-◌, ◌<◌, ◌≤◌, List, [], ◌∷◌, ◌++◌, suc, length, get_or, set, map, drop, append_assoc, refl, sym, ◌∙◌, ap, subst, arith, Option}
 use Rattle.std.specs.List.{insert, remove, AllByRecursion, AllZip}
-use Rattle.std.proofs.lemmas.List.{map-append}
+use Rattle.std.proofs.lemmas.List.{map-append, drop-drop}
 use Rattle.snap_outside.specs.Disk.{History}
 use Rattle.gate_log.specs.State.{LogState}
 use Rattle.log_opening.specs.Devices.{Device, devices_of, devices_now, device_at, as_device}
@@ -75,3 +75,19 @@ zip_weaker R S (x ∷ xs) (y ∷ ys) then all = (then x y all.0, zip_weaker R S 
 pub all_append : {X : Type 0} (P : X → Type 0) (xs ys : List X) → AllByRecursion P xs → AllByRecursion P ys → AllByRecursion P (xs ++ ys)
 all_append P [] ys first others = others
 all_append P (x ∷ xs) ys first others = (first.0, all_append P xs ys first.1 others)
+
+-- ---- the devices behind those of the open logs
+
+-- one more was to be opened
+pub rest_more : {D : Type 0} (count old new : ℕ) (xs ys : List D) → old < count → new ≤ old + 1 → drop (old + 1 - new) ys ≡ drop 1 xs → drop (count - new) ys ≡ drop (count - old) xs
+rest_more count old new xs ys lt le same =
+    let parts : count - new ≡ (old + 1 - new) + (count - (old + 1)) = omega arith in
+    let whole : 1 + (count - (old + 1)) ≡ count - old = omega arith in
+    ap (λ (n : ℕ). drop n ys) parts ∙ sym (drop-drop (count - (old + 1)) (old + 1 - new) ys) ∙ ap (λ (l : List _). drop (count - (old + 1)) l) same
+    ∙ drop-drop (count - (old + 1)) 1 xs ∙ ap (λ (n : ℕ). drop n xs) whole
+
+-- one of them came back
+pub rest_back : {D : Type 0} (all left : ℕ) (d : D) (xs ys zs : List D) → left < all → ys ≡ d ∷ xs → drop (all - (left + 1)) xs ≡ zs → drop (all - left) ys ≡ zs
+rest_back all left d xs ys zs lt put same =
+    let parts : all - left ≡ suc (all - (left + 1)) = omega arith in
+    ap (λ (n : ℕ). drop n ys) parts ∙ ap (λ (l : List _). drop (suc (all - (left + 1))) l) put ∙ same

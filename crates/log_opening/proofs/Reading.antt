@@ -1,5 +1,5 @@
 -- What the items of logs are, and what their records say.
-use Rattle.std.proofs.Common.{◌≡◌, ℕ, ◌+◌, ◌<◌, ◌≤◌, List, [], ◌∷◌, zero, suc, length, get_or, take, filter, refl, sym, ◌∙◌, ap, subst, arith, Option, Some, None}
+use Rattle.std.proofs.Common.{◌≡◌, ℕ, ◌+◌, ◌<◌, ◌≤◌, List, [], ◌∷◌, ◌++◌, zero, suc, length, get_or, take, filter, refl, sym, ◌∙◌, ap, subst, arith, Option, Some, None}
 use Rattle.std.proofs.lemmas.List.{append-nil, take_all, length-take-le}
 use Rattle.std.proofs.lemmas.Slice.Zip.{AllZip-long}
 use Rattle.std.specs.Prelude.{IfSome}
@@ -113,27 +113,43 @@ given law each before after found first others logs are all same said =
     (subst (λ (l : List (List LogItem)). AllZip AreItemsOf l logs) (sym (take_all (length found) found (omega arith))) all) in
     (first, others, same, len ∙ said, each_record each found logs all, subst (λ (n : ℕ). AllZip Holds (take n before) logs) (sym len) held)
 
+-- the items of one more log are records
+zip_next : (found : List (List LogItem)) (logs : List (List Record)) (log : ℕ) (rs : List Record) → log < length found → AllZip AreItemsOf (take log found) logs
+    → AreItemsOf (get_or found log []) rs → AllZip AreItemsOf (take (suc log) found) (logs ++ rs ∷ [])
+zip_next [] logs log rs lt all are = absurd (omega (arith, lt))
+zip_next (f ∷ found) [] zero rs lt all are = (are, tt)
+zip_next (f ∷ found) (l ∷ logs) zero rs lt all are = absurd all
+zip_next (f ∷ found) [] (suc log) rs lt all are = absurd all
+zip_next (f ∷ found) (l ∷ logs) (suc log) rs lt all are = (all.0, zip_next found logs log rs (omega (arith, lt)) all.1 are)
+
+pub zip_more : (found : List (List LogItem)) (logs pushed : List (List Record)) (log : ℕ) (rs : List Record) → log < length found → pushed ≡ logs ++ rs ∷ []
+    → AllZip AreItemsOf (take log found) logs → AreItemsOf (get_or found log []) rs → AllZip AreItemsOf (take (log + 1) found) pushed
+zip_more found logs pushed log rs lt push all are =
+    let next : suc log ≡ log + 1 = omega arith in
+    subst (λ (n : ℕ). AllZip AreItemsOf (take n found) pushed) next
+    (subst (λ (ls : List (List Record)). AllZip AreItemsOf (take (suc log) found) ls) (sym push) (zip_next found logs log rs lt all are))
+
 -- ---- an item that is no record
 
-pub bad_among : (found : List (List LogItem)) (first : List Record) (log : ℕ) (logs others : List (List Record)) (answer : LogsNo) → log < length found
-    → AllZip AreItemsOf (take log found) logs → logs ≡ first ∷ others → IsNoReading (get_or found log []) log answer → IsNoDecoding found first answer
-bad_among found first log logs others (ending.Refused l offset cause.BadRecord) lt all same why =
+pub bad_among : (found : List (List LogItem)) (known : List (List Record)) (log : ℕ) (logs more : List (List Record)) (answer : LogsNo) → log < length found
+    → AllZip AreItemsOf (take log found) logs → logs ≡ known ++ more → IsNoReading (get_or found log []) log answer → IsNoDecoding found known answer
+bad_among found known log logs more (ending.Refused l offset cause.BadRecord) lt all same why =
     let len : length logs ≡ length (take log found) = AllZip-long AreItemsOf (take log found) logs all in
-    let count : log ≡ length others + 1 = omega (arith, len, length-take-le log found (omega (arith, lt)), ap length same) in (
-      others,
+    let count : log ≡ length (known ++ more) = sym (length-take-le log found (omega (arith, lt))) ∙ sym len ∙ ap length same in (
+      more,
       why.0 ∙ count,
       omega (arith, why.0, lt),
-      subst (λ (n : ℕ). AllZip AreItemsOf (take n found) (first ∷ others)) (sym why.0) (subst (λ (ls : List (List Record)). AllZip AreItemsOf (take log found) ls) same all),
+      subst (λ (n : ℕ). AllZip AreItemsOf (take n found) (known ++ more)) (sym why.0) (subst (λ (ls : List (List Record)). AllZip AreItemsOf (take log found) ls) same all),
       subst (λ (n : ℕ). IsFirstBadIn (get_or found n []) offset) (sym why.0) why.1,
     )
-bad_among found first log logs others (ending.Refused l offset cause.NotALog) lt all same why = absurd why
-bad_among found first log logs others (ending.Refused l offset cause.Damage) lt all same why = absurd why
-bad_among found first log logs others (ending.Refused l offset cause.NoGenesis) lt all same why = absurd why
-bad_among found first log logs others (ending.Refused l offset cause.TwoGenesis) lt all same why = absurd why
-bad_among found first log logs others (ending.Refused l offset (cause.LogCount k f)) lt all same why = absurd why
-bad_among found first log logs others (ending.Refused l offset (cause.Range k)) lt all same why = absurd why
-bad_among found first log logs others (ending.Refused l offset (cause.Missing k)) lt all same why = absurd why
-bad_among found first log logs others (ending.Refused l offset (cause.Spent n)) lt all same why = absurd why
-bad_among found first log logs others (ending.Refused l offset (cause.Differs w k t)) lt all same why = absurd why
-bad_among found first log logs others (ending.Device l) lt all same why = absurd why
-bad_among found first log logs others ending.Memory lt all same why = tt
+bad_among found known log logs more (ending.Refused l offset cause.NotALog) lt all same why = absurd why
+bad_among found known log logs more (ending.Refused l offset cause.Damage) lt all same why = absurd why
+bad_among found known log logs more (ending.Refused l offset cause.NoGenesis) lt all same why = absurd why
+bad_among found known log logs more (ending.Refused l offset cause.TwoGenesis) lt all same why = absurd why
+bad_among found known log logs more (ending.Refused l offset (cause.LogCount k f)) lt all same why = absurd why
+bad_among found known log logs more (ending.Refused l offset (cause.Range k)) lt all same why = absurd why
+bad_among found known log logs more (ending.Refused l offset (cause.Missing k)) lt all same why = absurd why
+bad_among found known log logs more (ending.Refused l offset (cause.Spent n)) lt all same why = absurd why
+bad_among found known log logs more (ending.Refused l offset (cause.Differs w k t)) lt all same why = absurd why
+bad_among found known log logs more (ending.Device l) lt all same why = absurd why
+bad_among found known log logs more ending.Memory lt all same why = tt

@@ -22,11 +22,11 @@ use Rattle.log_opening.proofs.Reading.{zip_holds, zip_first, found_opened_at}
 -- ---- opening
 
 -- what is said of a device that was not opened
-record Stop (log : ℕ) (before after : List devices.Device) (why : OpenNo) : Type 0 where
-  below : log < length before
-  refused : Refused (device_at before log).told (device_at after log).told why
-  rose : why ≡ refusal.Device → Rose (device_at before log).faults (device_at after log).faults
-  reached : IsReached log before after
+pub record Stop (log : ℕ) (before after : List devices.Device) (why : OpenNo) : Type 0 where
+  pub below : log < length before
+  pub refused : Refused (device_at before log).told (device_at after log).told why
+  pub rose : why ≡ refusal.Device → Rose (device_at before log).faults (device_at after log).faults
+  pub reached : IsReached log before after
 
 stop_of : (before mid : List devices.Device) (found : List (List LogItem)) (new : devices.Device) (why : OpenNo) → AreFound before mid found → length found < length mid
     → IsClosed (device_at mid (length found)) new why → Stop (length found) before (set mid (length found) new) why
@@ -42,7 +42,7 @@ stop_of before mid found new why are lt closed =
       reached = found_reached before mid found new are;
     }
 
-stopped : (log : ℕ) (before after : List devices.Device) (why : OpenNo) → IsStoppedAt log before after why → Stop log before after why
+pub stopped : (log : ℕ) (before after : List devices.Device) (why : OpenNo) → IsStoppedAt log before after why → Stop log before after why
 stopped log before after why at =
     let p = at.parts in
     let lt : length p.1 < length p.0 = omega (arith, p.4, p.5) in
@@ -87,7 +87,7 @@ reading_no before after found (ending.Device log) one are why = absurd why
 reading_no before after found ending.Memory one are why = tt
 
 pub decoding_no : OpenedHeld → (before after : List devices.Device) (found : List (List LogItem)) (first : List Record) (answer : LogsNo) → length found ≡ logs_said first → AreFound before after found
-    → IsNoDecoding found first answer → IsLogsNo before after answer
+    → IsNoDecoding found (first ∷ []) answer → IsLogsNo before after answer
 decoding_no law before after found first (ending.Refused log offset cause.NotALog) said are why = absurd why
 decoding_no law before after found first (ending.Refused log offset cause.Damage) said are why = absurd why
 decoding_no law before after found first (ending.Refused log offset cause.BadRecord) said are why =
@@ -95,7 +95,7 @@ decoding_no law before after found first (ending.Refused log offset cause.BadRec
     let held : AllZip Holds (take log before) (first ∷ why.0) = zip_holds law log before after found (first ∷ why.0) (omega (arith, why.2)) are why.3 in
     let lt : log < logs_said first = omega (arith, why.2, said) in
     let opened : AreOpened (logs_said first) before after = subst (λ (n : ℕ). AreOpened n before after) said (found_opened before after found are) in
-    (inr (first, zip_first log before first why.0 held, lt), (at.0, get_or found log [], at.1, why.4), inr (first, why.0, why.1, held, lt, opened))
+    (inr (first, zip_first log before first why.0 held, lt), (at.0, get_or found log [], at.1, why.4), inr (first, why.0, omega (arith, why.1), held, lt, opened))
 decoding_no law before after found first (ending.Refused log offset cause.NoGenesis) said are why = absurd why
 decoding_no law before after found first (ending.Refused log offset cause.TwoGenesis) said are why = absurd why
 decoding_no law before after found first (ending.Refused log offset (cause.LogCount k f)) said are why = absurd why

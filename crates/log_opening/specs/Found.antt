@@ -1,5 +1,5 @@
 -- What opening devices one after the other finds, and what decoding finds then.
-use Rattle.std.specs.Prelude.{◌≡◌, false, IfSome, ℕ, ◌+◌, ◌<◌, ◌≤◌, ◌⊎◌, List, [], ◌∷◌, length, take, slice_index_or, slice_set}
+use Rattle.std.specs.Prelude.{◌≡◌, false, IfSome, ℕ, ◌<◌, ◌≤◌, ◌⊎◌, List, [], ◌∷◌, ◌++◌, length, take, slice_index_or, slice_set}
 use Rattle.std.specs.List.{AllZip}
 use Rattle.snap_outside.specs.Causes.{Rose}
 use Rattle.gate_log.specs.declared.limits.TheConstants.{FARTHEST_END}
@@ -90,14 +90,14 @@ IsNoReading items log (ending.Refused l offset c) = ⊥
 IsNoReading items log (ending.Device l) = ⊥
 IsNoReading items log ending.Memory = Unit {0}
 
--- why the items of the logs behind log 0, which has these records, are no records
-abbrev pub IsNoDecoding : List (List LogItem) → List Record → LogsNo → Type 0
-IsNoDecoding found first (ending.Refused log offset cause.BadRecord) =
-    (others : List (List Record)) × (log ≡ length others + 1) × (log < length found) × AllZip AreItemsOf (take log found) (first ∷ others)
+-- why the items of the logs behind the first ones, which have these records, are no records
+abbrev pub IsNoDecoding : List (List LogItem) → List (List Record) → LogsNo → Type 0
+IsNoDecoding found known (ending.Refused log offset cause.BadRecord) =
+    (more : List (List Record)) × (log ≡ length (known ++ more)) × (log < length found) × AllZip AreItemsOf (take log found) (known ++ more)
     × IsFirstBadIn (slice_index_or found log []) offset
-IsNoDecoding found first (ending.Refused log offset c) = ⊥
-IsNoDecoding found first (ending.Device log) = ⊥
-IsNoDecoding found first ending.Memory = Unit {0}
+IsNoDecoding found known (ending.Refused log offset c) = ⊥
+IsNoDecoding found known (ending.Device log) = ⊥
+IsNoDecoding found known ending.Memory = Unit {0}
 
 -- why the records of all logs recover to nothing, and the log that is named
 abbrev pub IsRecoveryCause : List (List Record) → ℕ → LogCause → Type 0

@@ -1,3 +1,4 @@
+pub mod Counted
 pub mod Devices
 pub mod Found
 pub mod Kept

@@ -1,4 +1,4 @@
-ghost use Rattle.std.specs.Prelude.{◌≡◌, ◌≤◌, ℕ, List, [], ◌∷◌, length, take, MatchResult};
+ghost use Rattle.std.specs.Prelude.{◌≡◌, ◌≤◌, ℕ, List, [], ◌∷◌, ◌++◌, length, take, MatchResult};
 ghost use Rattle.std.specs.List.{AllByRecursion, AllZip};
 ghost use Rattle.txn_records.specs.declared.records.Record.{Record};
 ghost use Rattle.record_log.specs.Records.{AreItemsOf};
@@ -42,13 +42,31 @@ pub(crate) fn read_others(
     requires first { AllZip AreItemsOf (take 1 found.now) (first ∷ []) }
     ensures { MatchResult result
         (λ logs. AllZip AreItemsOf found.now logs × ((others : List (List Record)) × (logs ≡ first ∷ others)))
-        (λ no. IsNoDecoding found.now first no) }
+        (λ no. IsNoDecoding found.now (first ∷ []) no) }
 {
-    let mut logs = Sequence::new(alloc);
-    if logs.push(first).is_err() {
+    let mut known = Sequence::new(alloc);
+    if known.push(first).is_err() {
         return Err(LogsNo::Memory);
     }
-    for log in 1..found.len() {
+    read_logs(alloc, found, known)
+}
+
+/// The records of all logs, of which those of the first ones are these. The logs are decoded in their order.
+pub(crate) fn read_logs(
+    alloc: Global,
+    found: &[Sequence<LogItem>],
+    known: Sequence<Sequence<Record>>,
+) -> Result<Sequence<Sequence<Record>>, LogsNo>
+    requires placed { AllByRecursion ArePlaced found.now }
+    requires few { length found.now ≤ 4 }
+    requires fewer { length known ≤ length found.now }
+    requires known { AllZip AreItemsOf (take (length known) found.now) known }
+    ensures { MatchResult result
+        (λ logs. AllZip AreItemsOf found.now logs × ((more : List (List Record)) × (logs ≡ known ++ more)))
+        (λ no. IsNoDecoding found.now known no) }
+{
+    let mut logs = known;
+    for log in logs.len()..found.len() {
         match read_log(alloc, found[log].as_slice(), log as u8) {
             Ok(records) => {
                 if logs.push(records).is_err() {

@@ -3,13 +3,17 @@
 //! opening makes of an empty file, and a log that is not named gets no call.
 #![tactic(auto)]
 
+mod counted;
 mod counts;
 mod decoding;
+mod laws;
 mod openings;
 mod recovery;
 mod refusals;
 
+pub use counted::open_and_decode;
 pub use decoding::{read_log, recover_records};
+pub use laws::no_call_is_safe;
 pub use openings::{OpenLogs, close, no_logs, open_logs};
 pub use recovery::recover_kept;
 pub use refusals::{LogsNo, of_opening};

@@ -1,4 +1,4 @@
-ghost use Rattle.std.specs.Prelude.{◌≡◌, ◌+◌, ◌<◌, ◌≤◌, List, [], ◌∷◌, ◌++◌, length, take, vec_len, vec_capacity, IfOk, OnOk, IfErr, MatchResult};
+ghost use Rattle.std.specs.Prelude.{◌≡◌, ◌+◌, ◌-◌, ◌<◌, ◌≤◌, List, [], ◌∷◌, ◌++◌, length, take, drop, vec_len, vec_capacity, IfOk, OnOk, IfErr, MatchResult};
 ghost use Rattle.std.specs.List.{insert, AllZip};
 ghost use Rattle.gate_log.specs.declared.logs.LogItem.{LogItem};
 ghost use Rattle.log_opening.specs.Devices.{Device, devices_of, devices_now, as_device};
@@ -49,6 +49,9 @@ pub fn open_logs<D: LogDev>(
     ensures len { vec_len opened.new.logs + vec_len devices.new ≡ vec_len opened.old.logs + vec_len devices.old }
     ensures room { vec_capacity opened.new.logs ≡ vec_capacity opened.old.logs }
     ensures room_back { vec_capacity devices.new ≡ vec_capacity devices.old }
+    // Of the devices behind the logs that were to be opened, each is as it was.
+    ensures rest { drop (count - vec_len opened.new.logs) devices.new.items ≡ drop (count - vec_len opened.old.logs) devices.old.items }
+    ensures at_most { vec_len opened.new.logs ≤ count }
     ensures count { OnOk result ((length opened.new.found ≡ count) × (vec_len opened.new.logs ≡ count)) }
     ensures kept { OnOk result (take (length opened.old.found) opened.new.found ≡ opened.old.found) }
     ensures found { OnOk result ((before : List Device) → AreFound before (devices_now D.told D.faults opened.old.logs.items devices.old.items) opened.old.found
@@ -77,7 +80,9 @@ fn open_next<D: LogDev>(
     ensures len { vec_len opened.new.logs + vec_len devices.new ≡ vec_len opened.old.logs + vec_len devices.old }
     ensures room { vec_capacity opened.new.logs ≡ vec_capacity opened.old.logs }
     ensures room_back { vec_capacity devices.new ≡ vec_capacity devices.old }
+    ensures rest { drop (vec_len opened.old.logs + 1 - vec_len opened.new.logs) devices.new.items ≡ drop 1 devices.old.items }
     ensures one { OnOk result (vec_len opened.new.logs ≡ vec_len opened.old.logs + 1) }
+    ensures at_most { vec_len opened.new.logs ≤ vec_len opened.old.logs + 1 }
     ensures more { OnOk result ((items : List LogItem) × (opened.new.found ≡ opened.old.found ++ items ∷ [])) }
     ensures found { OnOk result ((before : List Device) → AreFound before (devices_now D.told D.faults opened.old.logs.items devices.old.items) opened.old.found
         → AreFound before (devices_now D.told D.faults opened.new.logs.items devices.new.items) opened.new.found) }
@@ -121,12 +126,12 @@ fn open_device<D: LogDev>(alloc: Global, dev: D) -> Result<(Log<D>, Sequence<Log
 }
 
 /// Puts the devices of open logs before these, for which there is room.
-pub fn close<D: LogDev>(opened: OpenLogs<D>, devices: &mut Vec<D>)
-    requires { vec_len opened.logs + vec_len devices.old ≤ vec_capacity devices.old }
-    ensures len { vec_len devices.new ≡ vec_len opened.logs + vec_len devices.old }
-    ensures devices { devices_of D.told D.faults devices.new.items ≡ devices_now D.told D.faults opened.logs.items devices.old.items }
+pub fn close<D: LogDev>(logs: Vec<Log<D>>, devices: &mut Vec<D>)
+    requires { vec_len logs + vec_len devices.old ≤ vec_capacity devices.old }
+    ensures len { vec_len devices.new ≡ vec_len logs + vec_len devices.old }
+    ensures devices { devices_of D.told D.faults devices.new.items ≡ devices_now D.told D.faults logs.items devices.old.items }
+    ensures rest { drop (vec_len logs) devices.new.items ≡ devices.old.items }
 {
-    let OpenLogs { logs, found: _ } = opened;
     let mut logs = logs;
     while let Some(log) = logs.pop() {
         put(devices, 0, log.into_dev());

@@ -57,7 +57,8 @@ fn all_records<D: LogDev>(
         return Err(LogsNo::Memory);
     };
     let answer = open_and_read(alloc, devices, &mut opened);
-    close(opened, devices);
+    let OpenLogs { logs, found: _ } = opened;
+    close(logs, devices);
     answer
 }
 

@@ -1,3 +1,7 @@
 pub mod Beginning
+pub mod Completing
 pub mod Differing
+pub mod RunLogs
+pub mod RunOpening
 pub mod Starting
+pub mod Writing

@@ -37,13 +37,13 @@ begun_is [] added states o (inr on) = absurd (on.0.some (refl, tt))
 begun_is (r ∷ rs) added states o (inr on) = ap (λ (l : List Record). (r ∷ rs) ++ l) on.1 ∙ append-nil (r ∷ rs)
 
 -- what is to be written are records, one at most
-pub added_are : (rs added : List Record) (states : List State) (o : Opening) → 1 ≤ length states → length states ≤ 256 → AllByRecursion IsState states
-    → IsStart (rs ∷ []) states o added → AllByRecursion IsRecord added × (length added ≤ 1)
-added_are rs added states o some few are (inl new) = (
-  subst (λ (l : List Record). AllByRecursion IsRecord l) (sym new.2) (record { some_logs = omega arith; few_logs = omega arith; some = some; few = few; each = are }, tt),
+pub added_are : (logs : List (List Record)) (added : List Record) (states : List State) (o : Opening) → 1 ≤ length logs → length logs ≤ 4 → 1 ≤ length states → length states ≤ 256
+    → AllByRecursion IsState states → IsStart logs states o added → AllByRecursion IsRecord added × (length added ≤ 1)
+added_are logs added states o some_logs few_logs some few are (inl new) = (
+  subst (λ (l : List Record). AllByRecursion IsRecord l) (sym new.2) (record { some_logs = some_logs; few_logs = few_logs; some = some; few = few; each = are }, tt),
   omega (arith, ap (λ (l : List Record). length l) new.2),
 )
-added_are rs added states o some few are (inr on) = (
+added_are logs added states o some_logs few_logs some few are (inr on) = (
   subst (λ (l : List Record). AllByRecursion IsRecord l) (sym on.1) tt,
   omega (arith, ap (λ (l : List Record). length l) on.1),
 )
@@ -77,12 +77,15 @@ began_long logs states o recovered began =
     let long = zip_long _ (enumerate_from 0 recovered.begun.0) o.states recovered.begun.2 in
     omega (arith, long, enumerated 0 recovered.begun.0, ap (λ (l : List State). length l) first)
 
-pub begins_states : (rs : List Record) (states : List State) (o : Opening)
-    → ((logs : List (List Record)) (p : Opening) → AllByRecursion (AllByRecursion IsRecord) logs → IsRecovered logs p → AllByRecursion IsState p.states)
-    → AllByRecursion IsRecord rs → AllByRecursion IsState states → Begins (rs ∷ []) states o → (length o.states ≡ length states) × AllByRecursion IsState o.states
-begins_states rs states o recovered are is (inl new) =
+-- what the law recovered_states of snap_recover says
+abbrev pub StatesRecovered : Type 0
+StatesRecovered = (logs : List (List Record)) (p : Opening) → AllByRecursion (AllByRecursion IsRecord) logs → IsRecovered logs p → AllByRecursion IsState p.states
+
+pub starts_with_states : StatesRecovered → (logs : List (List Record)) (states : List State) (o : Opening) (added : List Record) → AllByRecursion (AllByRecursion IsRecord) logs
+    → AllByRecursion IsState states → IsStart logs states o added → (length o.states ≡ length states) × AllByRecursion IsState o.states
+starts_with_states recovered logs states o added are is (inl new) =
     (ap (λ (p : Opening). length p.states) new.1, subst (λ (p : Opening). AllByRecursion IsState p.states) (sym new.1) is)
-begins_states rs states o recovered are is (inr on) = (began_long (rs ∷ []) states o on.recovered on.same, recovered (rs ∷ []) o (are, tt) on.recovered)
+starts_with_states recovered logs states o added are is (inr on) = (began_long logs states o on.0.recovered on.0.same, recovered logs o are on.0.recovered)
 
 pub begins_unspent : (logs : List (List Record)) (states : List State) (o : Opening) → Begins logs states o → IsUnspent o
 begins_unspent logs states o (inl new) = subst IsUnspent (sym new.1) (record { tid = omega arith; bid = omega arith; c = omega arith })
@@ -91,15 +94,14 @@ begins_unspent logs states o (inr on) = on.unspent
 pub start_unspent : (items : List LogItem) (states : List State) (o : Opening) (added : List Record) → IsStartOf items states o added → IsUnspent o
 start_unspent items states o added start = begins_unspent (start.0 ∷ []) states o (begins_of start.0 added states o start.2)
 
-pub start_states : ItemsAreRecords → (items : List LogItem) (states : List State) (o : Opening) (added : List Record)
-    → ((logs : List (List Record)) (p : Opening) → AllByRecursion (AllByRecursion IsRecord) logs → IsRecovered logs p → AllByRecursion IsState p.states)
+pub start_states : ItemsAreRecords → (items : List LogItem) (states : List State) (o : Opening) (added : List Record) → StatesRecovered
     → AllByRecursion IsState states → IsStartOf items states o added → (length o.states ≡ length states) × AllByRecursion IsState o.states
 start_states each items states o added recovered is start =
-    begins_states start.0 states o recovered (each items start.0 start.1) is (begins_of start.0 added states o start.2)
+    starts_with_states recovered (start.0 ∷ []) states o added (each items start.0 start.1, tt) is start.2
 
 pub start_added : (items : List LogItem) (states : List State) (o : Opening) (added : List Record) → 1 ≤ length states → length states ≤ 256 → AllByRecursion IsState states
     → IsStartOf items states o added → AllByRecursion IsRecord added × (length added ≤ 1)
-start_added items states o added some few is start = added_are start.0 added states o some few is start.2
+start_added items states o added some few is start = added_are (start.0 ∷ []) added states o (omega arith) (omega arith) some few is start.2
 
 -- ---- why there is none
 

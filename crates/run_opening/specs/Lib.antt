@@ -1,2 +1,4 @@
 pub mod Begins
+pub mod Opens
 pub mod Starts
+pub mod Writes

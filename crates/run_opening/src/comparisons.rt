@@ -5,8 +5,11 @@ ghost use Rattle.run_opening.specs.Begins.{IsUnspent, IsFirstSpent, IsDifference
 use snap_base::{ActorId, FIELDS, State};
 use snap_recover::{GREATEST_NUMBER, Opening, What};
 
+/// So many transactions, batches or commits may be numbered by a run, whatever the next number is that it begins with.
+pub const ROOM_TO_BEGIN: u64 = 1 << 20;
+
 /// The greatest number with which a run begins.
-pub const GREATEST_TO_BEGIN: u64 = GREATEST_NUMBER - (1 << 20);
+pub const GREATEST_TO_BEGIN: u64 = GREATEST_NUMBER - ROOM_TO_BEGIN;
 
 /// What two texts differ in, and its values.
 #[derive(Clone, Copy, Debug, PartialEq, Eq)]

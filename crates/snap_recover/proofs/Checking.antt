@@ -1,5 +1,5 @@
 -- That nothing is lacking, asked of one batch or ACT after the other in the order of their numbers.
-use Rattle.std.proofs.Common.{◌≡◌, ◌≢◌, ℕ, zero, suc, ◌+◌, ◌%◌, ◌<◌, ◌≤◌, ◌⊎◌, inl, inr, Bool, true, false, ◌||◌, Option, Some, None, Result, Ok, Err, MatchResult, List, [], ◌∷◌, ◌++◌, length, take, get_or, refl, sym, ap, subst, ◌∙◌, arith}
+use Rattle.std.proofs.Common.{◌≡◌, ℕ, zero, suc, ◌+◌, ◌%◌, ◌<◌, ◌≤◌, ◌⊎◌, inl, inr, Bool, true, false, ◌||◌, Option, None, Result, Ok, Err, MatchResult, List, [], ◌∷◌, ◌++◌, length, take, get_or, refl, sym, ap, subst, ◌∙◌, arith}
 use Rattle.std.proofs.lemmas.Bool.{cases_lt}
 use Rattle.std.proofs.lemmas.List.{get_or-take, length-take, get_or_default}
 use Rattle.std.proofs.lemmas.Map.Keys.{below_from_sorted}
@@ -11,10 +11,8 @@ use Rattle.std.specs.BTreeSet.{BTreeSet}
 use Rattle.std.specs.BTreeMap.{is_at}
 use Rattle.snap_base.specs.declared.ids.ActorId.{ActorId}
 use Rattle.snap_base.specs.declared.ids.Bid.{Bid}
-use Rattle.snap_base.specs.declared.ids.Tid.{Tid}
 use Rattle.txn_records.specs.declared.records.Record.{Record}
 use Rattle.txn_records.specs.declared.keys.Key.TheVariants as keys
-use Rattle.txn_records.specs.Records.{key}
 use Rattle.snap_recover.specs.declared.kinds.Kind.{Kind}
 use Rattle.snap_recover.specs.declared.kinds.Kind.TheVariants as kinds
 use Rattle.snap_recover.specs.declared.refusals.RecoverNo.{RecoverNo}
@@ -22,7 +20,7 @@ use Rattle.snap_recover.specs.declared.refusals.RecoverNo.TheVariants.{NoGenesis
 use Rattle.snap_recover.specs.Logs.{Has, log_of}
 use Rattle.snap_recover.specs.Opening.{IsInfoOf, HasCompleted, IsActOf, HasPrepared}
 use Rattle.snap_recover.specs.Passes.{bid_at, tid_at, InPair, commit_key, part_key, info_key, HasCommitted, HasAllParts, IsPlaced, TellsActors, MemberWhole, MemberLacks, IsLackOf, IsFirstLackOfKind, IsFirstLackOf, AllWhole, IsAllWhole, HasIn}
-use Rattle.snap_recover.proofs.Lists.{all_weaker, all_contains, contains_here, contains_there, contains_unmap}
+use Rattle.snap_recover.proofs.Lists.{all_weaker, all_contains, contains_here, contains_there}
 use Rattle.snap_recover.proofs.Homes.{at_log, at_true, at_same}
 use Rattle.snap_recover.proofs.Placing.{placed_some}
 use Rattle.snap_recover.proofs.Steps.{all_step, all_end}

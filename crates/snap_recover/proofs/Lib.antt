@@ -2,6 +2,7 @@ pub mod Lists
 pub mod OneOpening
 pub mod OneRefusal
 pub mod Begun
+pub mod BegunLogs
 pub mod Greatest
 pub mod StatesOver
 pub mod Growing

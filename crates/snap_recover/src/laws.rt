@@ -1,4 +1,4 @@
-ghost use Rattle.std.specs.Prelude.{◌≡◌, ◌≢◌, ℕ, ◌≤◌, List, [], ◌∷◌, ◌++◌, length};
+ghost use Rattle.std.specs.Prelude.{◌≡◌, ◌≢◌, ℕ, ◌+◌, ◌≤◌, List, [], ◌∷◌, ◌++◌, length};
 ghost use Rattle.std.specs.List.{AllByRecursion};
 ghost use Rattle.txn_records.specs.declared.limits.TheConstants.{MOST_LISTED};
 ghost use Rattle.snap_base.specs.declared.transactions.State.{State};
@@ -37,6 +37,12 @@ pub fn recovered_states()
 pub fn begun_is_recovered()
     ensures { (states : List State) → IsRecovered ((Genesis 1 states ∷ []) ∷ [])
         (record { states = states; committed = []; next_tid = record { 0 = 1 }; next_bid = record { 0 = 1 }; next_c = 1 }) }
+{}
+
+/// So does Genesis in log 0 of several logs, where the others have no record.
+pub fn begun_logs_are_recovered()
+    ensures { (count : ℕ) (others : List (List Record)) (states : List State) → count ≡ length others + 1 → AllByRecursion (λ (rs : List Record). rs ≡ []) others
+        → IsRecovered ((Genesis count states ∷ []) ∷ others) (record { states = states; committed = []; next_tid = record { 0 = 1 }; next_bid = record { 0 = 1 }; next_c = 1 }) }
 {}
 
 /// The next batch's records change no state before its commit is there, and only draw its numbers.

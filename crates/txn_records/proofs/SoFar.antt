@@ -1,7 +1,7 @@
 -- What the loops over lists keep: what was read, and that a stop of the rest is one of the whole.
-use Rattle.std.proofs.Common.{◌≡◌, ℕ, ◌+◌, ◌-◌, ◌<◌, ◌≤◌, List, [], ◌∷◌, ◌++◌, length, map, refl, sym, ap, subst, ◌∙◌, append_assoc, arith}
+use Rattle.std.proofs.Common.{◌≡◌, ℕ, ◌+◌, ◌-◌, ◌<◌, ◌≤◌, List, [], ◌∷◌, ◌++◌, length, get_or, take, map, refl, sym, ap, subst, ◌∙◌, append_assoc, arith}
 use Rattle.std.specs.List.{AllByRecursion, flat_map}
-use Rattle.std.proofs.lemmas.List.{append-nil, length-append, flat_map_more}
+use Rattle.std.proofs.lemmas.List.{append-nil, length-append, flat_map_more, take_all, take_more}
 use Rattle.txn_records.specs.declared.numbers.Stop.{Stop}
 use Rattle.txn_records.specs.Records.{Ascend}
 use Rattle.txn_records.specs.Stops.{Stops, Fails, Any, Seq}
@@ -11,6 +11,12 @@ use Rattle.txn_records.proofs.Lists.{Lists, lists_behind, lists_stop, Roomy, Ris
 AllByRecursion-push : {A : Type 0} (P : A → Type 0) (xs : List A) (x : A) → AllByRecursion P xs → P x → AllByRecursion P (xs ++ x ∷ [])
 AllByRecursion-push P [] x p q = (q, tt)
 AllByRecursion-push P (y ∷ ys) x p q = (p.0, AllByRecursion-push P ys x p.1 q)
+
+pub each_more : {A : Type 0} (P : A → Type 0) (xs : List A) (i : ℕ) (d : A) → i < length xs → AllByRecursion P (take i xs) → P (get_or xs i d) → AllByRecursion P (take (i + 1) xs)
+each_more P xs i d lt h p = subst (AllByRecursion P) (sym (take_more xs i d lt)) (AllByRecursion-push P (take i xs) (get_or xs i d) h p)
+
+pub each_there : {A : Type 0} (P : A → Type 0) (xs : List A) (n : ℕ) → length xs ≤ n → AllByRecursion P (take n xs) → AllByRecursion P xs
+each_there P xs n all h = subst (AllByRecursion P) (take_all n xs all) h
 
 spelled_more : {X : Type 0} (spell : X → List ℕ) (bytes rest after : List ℕ) (xs : List X) (x : X) → bytes ≡ flat_map spell xs ++ rest → rest ≡ spell x ++ after → bytes ≡ flat_map spell (xs ++ x ∷ []) ++ after
 spelled_more spell bytes rest after xs x e h =

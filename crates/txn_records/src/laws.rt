@@ -1,4 +1,7 @@
 ghost use Rattle.txn_records.specs.RecordLaws.{OneRecord, RecordsAreShort};
+ghost use Rattle.txn_records.specs.Records.{IsState};
+
+use snap_base::State;
 
 /// Bytes are those of one record at most.
 pub fn one_record()
@@ -9,3 +12,12 @@ pub fn one_record()
 pub fn records_are_short()
     ensures { RecordsAreShort }
 {}
+
+/// Every state may stand in a record. What bounds its numbers is their type, so the body reads them.
+pub fn states_fit(state: &State)
+    ensures { IsState state.now }
+{
+    for field in &state.0 {
+        let _field = *field;
+    }
+}

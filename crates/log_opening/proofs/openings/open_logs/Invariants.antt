@@ -1,4 +1,4 @@
-use Rattle.std.proofs.Common.{◌≡◌, ◌≤◌, ◌+◌, ◌-◌, List, length, take, vec_len, vec_capacity}
+use Rattle.std.proofs.Common.{◌≡◌, ◌≤◌, ◌+◌, ◌-◌, List, length, take, drop, vec_len, vec_capacity}
 use Rattle.std.specs.List.{AllZip}
 use Rattle.log_opening.specs.Devices.{Device, devices_now}
 use Rattle.log_opening.specs.Found.{AreFound, IsReadyLog}
@@ -12,6 +12,7 @@ invariant-loop-alloc g l = record {
   same : length l.opened.found ≡ vec_len l.opened.logs;
   from : length l.fn.opened.found ≤ length l.opened.found;
   more : vec_len l.opened.logs ≤ l.count;
+  rest : drop (l.count - vec_len l.opened.logs) l.devices.items ≡ drop (l.count - vec_len l.fn.opened.logs) l.fn.devices.items;
   kept : take (length l.fn.opened.found) l.opened.found ≡ l.fn.opened.found;
   found : (before : List Device) → AreFound before (devices_now g.D.LogDev.told g.D.LogDev.faults l.fn.opened.logs.items l.fn.devices.items) l.fn.opened.found
       → AreFound before (devices_now g.D.LogDev.told g.D.LogDev.faults l.opened.logs.items l.devices.items) l.opened.found;

@@ -1,17 +1,14 @@
-use Rattle.std.proofs.Common.{◌≡◌, ◌<◌, List, [], length, get_or, refl, sym, ◌∙◌, ap, subst, arith}
+use Rattle.std.proofs.Common.{◌≡◌, ◌<◌, List, [], length, get_or, sym, ◌∙◌, ap, subst, arith}
 use Rattle.std.proofs.lemmas.List.{get_or_read}
 use Rattle.std.specs.Prelude.{MatchResult}
 use Rattle.gate_log.specs.declared.logs.LogItem.{LogItem}
 use Rattle.record_log.specs.Records.{AreItemsOf}
-use Rattle.log_opening.specs.Devices.{Device, devices_now}
+use Rattle.log_opening.specs.Devices.{devices_now}
 use Rattle.log_opening.specs.Found.{AreFound, ArePlaced, IsNoReading}
+use Rattle.log_opening.proofs.Opening.{none_found}
 use Rattle.log_opening.proofs.Reading.{found_placed, placed_at}
 use Rattle.log_opening.proofs.Flow.{first_read, first_ended}
 use Rattle.log_opening.proofs.recovery.first_records.Goals as goal
-
--- nothing was found yet
-none_found : (before : List Device) (found : List (List LogItem)) → found ≡ [] → AreFound before before found
-none_found before found none = subst (λ (l : List (List LogItem)). AreFound before before l) (sym none) refl
 
 -- the items of log 0
 first_items : (slice found : List (List LogItem)) (item read : List LogItem) → length found ≡ 1 → slice ≡ found → item ≡ get_or slice 0 item → read ≡ item → read ≡ get_or found 0 []

@@ -1,4 +1,4 @@
-use Rattle.std.proofs.Common.{◌≡◌, ℕ, List, ◌∷◌, length, sym, ◌∙◌, ap, subst, arith}
+use Rattle.std.proofs.Common.{◌≡◌, ℕ, List, [], ◌∷◌, length, sym, ◌∙◌, ap, subst, arith}
 use Rattle.std.specs.Prelude.{MatchResult}
 use Rattle.std.specs.List.{AllZip, AllByRecursion}
 use Rattle.gate_log.specs.declared.logs.LogItem.{LogItem}
@@ -44,7 +44,7 @@ returns-in-Ok-open_logs-clause-read g c =
     others_read c.opened_holds.ensures.before c.records_are_held.ensures.items before after c.open_logs.new.opened.found c.in-Ok.first c.read_others.result (c.in-Ok-open_logs.ensures.found before c.in-Ok.ensures.read.are_found)
     (c.in-Ok-open_logs.ensures.count.0 ∙ said)
     (subst (λ (l : List (List LogItem)). MatchResult c.read_others.result
-    (λ logs. AllZip AreItemsOf l logs × ((others : List (List Record)) × (logs ≡ c.in-Ok.first ∷ others))) (λ a. IsNoDecoding l c.in-Ok.first a))
+    (λ logs. AllZip AreItemsOf l logs × ((others : List (List Record)) × (logs ≡ c.in-Ok.first ∷ others))) (λ a. IsNoDecoding l (c.in-Ok.first ∷ []) a))
     c.as_slice.ensures c.read_others.ensures)
 
 pub returns-in-Err-open_logs-clause-read : goal.returns-in-Err-open_logs-clause-read

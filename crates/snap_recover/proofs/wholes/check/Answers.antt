@@ -1,4 +1,4 @@
-use Rattle.std.proofs.Common.{ℕ, ◌≡◌, ◌%◌, List, length, subst, sym, refl}
+use Rattle.std.proofs.Common.{◌%◌, List, length, subst, sym, refl}
 use Rattle.std.proofs.Math.Nat.{mod-lt}
 use Rattle.std.specs.Ordering.{nat_cmp}
 use Rattle.std.specs.BTreeMap as tree

@@ -1,0 +1,52 @@
+-- Logs whose number is known: what is found when all of them are opened and then decoded, and why they are not.
+use Rattle.std.specs.Prelude.{◌≡◌, ℕ, ◌<◌, List, length, take}
+use Rattle.std.specs.List.{AllByRecursion, AllZip}
+use Rattle.snap_outside.specs.Causes.{Rose}
+use Rattle.gate_log.specs.declared.logs.LogItem.{LogItem}
+use Rattle.gate_log.specs.declared.opens.OpenNo.{OpenNo}
+use Rattle.gate_log.specs.declared.opens.OpenNo.TheVariants as refusal
+use Rattle.gate_log.specs.Opened.{Opened, Refused}
+use Rattle.gate_log.specs.State.{LogState}
+use Rattle.txn_records.specs.declared.records.Record.{Record}
+use Rattle.txn_records.specs.Records.{IsRecord}
+use Rattle.record_log.specs.Records.{AreItemsOf, IsFirstBadIn}
+use Rattle.snap_recover.specs.declared.causes.LogCause.TheVariants as cause
+use Rattle.log_opening.specs.declared.refusals.LogsNo.{LogsNo}
+use Rattle.log_opening.specs.declared.refusals.LogsNo.TheVariants as ending
+use Rattle.log_opening.specs.Devices as devices
+use Rattle.log_opening.specs.Found.{IsReadyLog, IsTouched, AreFound}
+use Rattle.log_opening.specs.Kept.{Holds}
+
+-- These logs are open, from the first device on, and these items were found on each. The items are these records, which the
+-- devices held. The other devices got no call.
+pub record AreOpenWith (before after : List devices.Device) (logs : List LogState) (found : List (List LogItem)) (records : List (List Record)) : Type 0 where
+  pub are_found : AreFound before after found
+  pub ready : AllZip IsReadyLog logs found
+  pub items : AllZip AreItemsOf found records
+  pub each : AllByRecursion (AllByRecursion IsRecord) records
+  pub held : AllZip Holds (take (length found) before) records
+  pub opened : devices.AreOpened (length found) before after
+  pub touched : AllZip IsTouched before after
+
+-- This log was not opened, for this cause. Those below it were, and those above it got no call.
+pub record IsNotOpened (count : ℕ) (before after : List devices.Device) (log : ℕ) (why : OpenNo) : Type 0 where
+  pub asked : log < count
+  pub refused : Refused (devices.device_at before log).told (devices.device_at after log).told why
+  pub reached : devices.IsReached log before after
+
+-- All are opened. The first byte at which no record goes on is here; the logs below hold records.
+pub record HasBadRecord (count : ℕ) (before after : List devices.Device) (log offset : ℕ) : Type 0 where
+  pub asked : log < count
+  pub bad : (end : ℕ) × (found : List LogItem) × Opened (devices.device_at before log).told (devices.device_at after log).told end found × IsFirstBadIn found offset
+  pub below : (records : List (List Record)) × (log ≡ length records) × AllZip Holds (take log before) records
+  pub opened : devices.AreOpened count before after
+
+-- why so many logs are not opened and decoded, from the devices before and after
+abbrev pub AreNotRead : ℕ → List devices.Device → List devices.Device → LogsNo → Type 0
+AreNotRead count before after (ending.Refused log offset cause.NotALog) = IsNotOpened count before after log (refusal.NotALog offset)
+AreNotRead count before after (ending.Refused log offset cause.Damage) = IsNotOpened count before after log (refusal.Damage offset)
+AreNotRead count before after (ending.Refused log offset cause.BadRecord) = HasBadRecord count before after log offset
+AreNotRead count before after (ending.Refused log offset c) = ⊥
+AreNotRead count before after (ending.Device log) =
+    IsNotOpened count before after log refusal.Device × Rose (devices.device_at before log).faults (devices.device_at after log).faults
+AreNotRead count before after ending.Memory = Unit {0}

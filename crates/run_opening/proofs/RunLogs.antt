@@ -1,0 +1,161 @@
+-- The logs of a run that are opened and written to, log by log.
+use Rattle.std.proofs.Common.{◌≡◌, ℕ, ◌<◌, inl, inr, List, [], ◌∷◌, ◌++◌, zero, suc, length, map, append_assoc, append-nil, refl, sym, ◌∙◌, ap, subst, arith, Option, Some, None}
+use Rattle.std.specs.Prelude.{IfSome, ◌⊎◌}
+use Rattle.std.specs.List.{AllZip}
+use Rattle.snap_outside.specs.declared.devices.DevOp.{DevOp}
+use Rattle.snap_outside.specs.Disk.{History, Disk, disk, content, settled, EachMoment, AddsAll, with_ops}
+use Rattle.snap_outside.specs.Moments.{moments_join, moments_weaker, disk_join}
+use Rattle.gate_log.specs.declared.logs.LogItem.{LogItem}
+use Rattle.gate_log.specs.Appends.{append_ops, end_behind}
+use Rattle.gate_log.specs.Device.{DeviceLog}
+use Rattle.gate_log.specs.LogLaws.{OneReading, OpeningAdds, OpeningGives}
+use Rattle.gate_log.specs.Opened.{bytes_of, opening_ops, Opened}
+use Rattle.gate_log.specs.State.{LogState, IsUntouched}
+use Rattle.txn_records.specs.declared.records.Record.{Record}
+use Rattle.record_log.specs.Growth.{all_records, MayAppendGroup, GrewBy}
+use Rattle.record_log.specs.GrowthLaws.{OpeningGrows, GroupGrows, FaultGrows}
+use Rattle.record_log.specs.Records.{spelled, HoldsRecords, RecordLog, AreItemsOf, KeepsRecords, AppendsRecords, CrashesRecords}
+use Rattle.record_log.specs.RecordLogLaws.{OneListOfRecords, OpenedHeld, OpenedHolds}
+use Rattle.log_opening.specs.Devices.{Device, device_at, as_device}
+use Rattle.log_opening.specs.Found.{IsFoundOn, IsReadyLog, AreFound}
+use Rattle.run_opening.specs.Opens.{IsRunLog, log_at, records_at, as_groups, KeepsOrAdds}
+use Rattle.run_opening.specs.Writes.{IsWritten}
+
+-- what the logs promise
+pub record LogLaws : Type 0 where
+  pub one_reading : OneReading
+  pub adds : OpeningAdds
+  pub gives : OpeningGives
+  pub before : OpenedHeld
+  pub after : OpenedHolds
+  pub one_list : OneListOfRecords
+  pub grows : OpeningGrows
+  pub group : GroupGrows
+  pub fault : FaultGrows
+
+-- ---- opened
+
+if_some : (m : Option History) (P Q : History → Type 0) → ((g : History) → P g → Q g) → IfSome m P → IfSome m Q
+if_some None P Q then given = tt
+if_some (Some g) P Q then given = then g given
+
+-- the closed gate of the log that was found is where the open log has it
+opened_at : LogLaws → (told new : Option History) (e end : ℕ) (items : List LogItem) → Opened told new e items → IfSome new (λ g. DeviceLog g end (bytes_of items)) → Opened told new end items
+opened_at laws None new e end items opened log = opened
+opened_at laws (Some h) new e end items opened log =
+    let adds : new ≡ Some (with_ops h (opening_ops (content h))) = laws.adds h new e items opened in
+    let there : DeviceLog (with_ops h (opening_ops (content h))) end (bytes_of items) = subst (λ (m : Option History). IfSome m (λ g. DeviceLog g end (bytes_of items))) adds log in
+    let here = laws.gives h new e items opened in
+    subst (λ (n : ℕ). Opened (Some h) new n items) (laws.one_reading (content (with_ops h (opening_ops (content h)))) e end (bytes_of items) (bytes_of items) here.log there.log).0 opened
+
+held_of : LogLaws → (told new : Option History) (e : ℕ) (items : List LogItem) (rs : List Record) → Opened told new e items → AreItemsOf items rs → IfSome told (λ h. HoldsRecords (content h) rs)
+held_of laws None new e items rs opened are = tt
+held_of laws (Some h) new e items rs opened are = laws.before h new e items rs opened are
+
+one_log : LogLaws → (b : Device) (l : LogState) (items : List LogItem) (rs : List Record) → IsFoundOn b (as_device l) items → IsReadyLog l items → AreItemsOf items rs → IsRunLog b l l.end rs []
+one_log laws b l items rs on ready are =
+    let opened : Opened b.told l.told l.end items = opened_at laws b.told l.told on.opened.0 l.end items on.opened.1 ready.holds in
+    record {
+      opened = (l.told, items, opened);
+      low = ready.low;
+      held = held_of laws b.told l.told l.end items rs opened are;
+      grew = laws.grows b.told l.told l.end items opened;
+      gate = refl;
+      holds = if_some l.told (λ g. DeviceLog g l.end (bytes_of items)) (λ g. RecordLog g l.end (rs ++ all_records []))
+          (λ g log. subst (λ (x : List Record). RecordLog g l.end x) (sym (append-nil rs)) (laws.after g l.end items rs log are)) ready.holds;
+      ready = ready.ready;
+      later = on.safe.later;
+    }
+
+pub run_logs : LogLaws → (before others : List Device) (logs : List LogState) (found : List (List LogItem)) (records : List (List Record)) → AreFound before (map as_device logs ++ others) found
+    → AllZip IsReadyLog logs found → AllZip AreItemsOf found records → (n : ℕ) → n < length records
+    → IsRunLog (device_at before n) (log_at logs n) (log_at logs n).end (records_at records n) []
+run_logs laws before others logs found [] are ready items n lt = absurd (omega (arith, lt))
+run_logs laws before others logs [] (rs ∷ records) are ready items n lt = absurd items
+run_logs laws before others [] (f ∷ found) (rs ∷ records) are ready items n lt = absurd ready
+run_logs laws [] others (l ∷ logs) (f ∷ found) (rs ∷ records) are ready items n lt = absurd are
+run_logs laws (b ∷ before) others (l ∷ logs) (f ∷ found) (rs ∷ records) are ready items zero lt = one_log laws b l f rs are.0 ready.0 items.0
+run_logs laws (b ∷ before) others (l ∷ logs) (f ∷ found) (rs ∷ records) are ready items (suc n) lt = run_logs laws before others logs found records are.1 ready.1 items.1 n (omega (arith, lt))
+
+-- ---- written to
+
+holds_more : (old new : Option History) (first last : ℕ) (rs added : List Record) (ops : List DevOp) → AddsAll old new ops → IfSome old (λ g. RecordLog g first (rs ++ all_records []))
+    → AppendsRecords old new first last added → IfSome new (λ g. RecordLog g last (rs ++ all_records (added ∷ [])))
+holds_more None new first last rs added ops adds holds appends = subst (λ (m : Option History). IfSome m (λ g. RecordLog g last (rs ++ all_records (added ∷ [])))) (sym adds) tt
+holds_more (Some h) None first last rs added ops adds holds appends = tt
+holds_more (Some h) (Some g) first last rs added ops adds holds appends =
+    subst (λ (x : List Record). RecordLog g last (rs ++ x)) (sym (append-nil added)) (appends rs (subst (λ (x : List Record). RecordLog h first x) (append-nil rs) holds))
+
+pub written_log : LogLaws → (b : Device) (l k : LogState) (end : ℕ) (rs added : List Record) → IsRunLog b l end rs [] → IsWritten l k added → IsRunLog b k end rs (as_groups added)
+written_log laws b l k end rs [] is w =
+    let same : IsUntouched l k = w.nothing refl in
+    record {
+      opened = is.opened;
+      low = is.low;
+      held = is.held;
+      grew = subst (λ (m : Option History). GrewBy b.told m end [] None) (sym same.told) is.grew;
+      gate = same.end ∙ is.gate;
+      holds = subst (λ (m : Option History). IfSome m (λ g. RecordLog g k.end (rs ++ all_records []))) (sym same.told)
+          (subst (λ (n : ℕ). IfSome l.told (λ g. RecordLog g n (rs ++ all_records []))) (sym same.end) is.holds);
+      ready = w.ready;
+      later = omega (arith, is.later, w.later);
+    }
+written_log laws b l k end rs (r ∷ added) is w =
+    let group : List Record = r ∷ added in
+    let may : MayAppendGroup end group = subst (λ (n : ℕ). MayAppendGroup n group) is.gate w.may in
+    let adds : AddsAll l.told k.told (append_ops end (spelled group)) = subst (λ (n : ℕ). AddsAll l.told k.told (append_ops n (spelled group))) is.gate w.adds in
+    record {
+      opened = is.opened;
+      low = is.low;
+      held = is.held;
+      grew = laws.group b.told l.told k.told end [] group is.grew may adds;
+      gate = w.gate ∙ ap (λ (n : ℕ). end_behind n (spelled group)) is.gate;
+      holds = holds_more l.told k.told l.end k.end rs group (append_ops l.end (spelled group)) w.adds is.holds w.appended;
+      ready = w.ready;
+      later = omega (arith, is.later, w.later);
+    }
+
+-- ---- what a crash leaves
+
+module _ (one_list : OneListOfRecords) (h : History) (mid : Option History) (rs added : List Record) (keeps : KeepsRecords (Some h) mid) (held : HoldsRecords (content h) rs) where
+  abbrev between : History
+  between = record { first = h.first; ops = h.ops ++ keeps.0 }
+
+  abbrev Either : List Record → List ℕ → Type 0
+  Either xs image = HoldsRecords image xs ⊎ HoldsRecords image (xs ++ added)
+
+  all_moments : (ops : List DevOp) → disk h ≡ settled (content h) → EachMoment (disk between) ops (Either rs) → EachMoment (disk h) (keeps.0 ++ ops) (Either rs)
+  all_moments ops quiet later =
+      let first = moments_weaker (λ image. HoldsRecords image rs) (Either rs) (λ image there. inl there) (disk h) keeps.0 (keeps.2 quiet rs held) in
+      moments_join (disk h) keeps.0 ops (Either rs) first (subst (λ (d : Disk). EachMoment d ops (Either rs)) (disk_join h.ops keeps.0 (settled h.first)) later)
+
+  pub keeps_or_adds : (new : Option History) (end : ℕ) → IfSome mid (λ g. RecordLog g end (rs ++ all_records [])) → CrashesRecords mid new end added → KeepsOrAdds (Some h) new added
+  keeps_or_adds new end log crashes =
+      let there : RecordLog between end (rs ++ all_records []) = subst (λ (m : Option History). IfSome m (λ g. RecordLog g end (rs ++ all_records []))) keeps.1 log in
+      let crash = subst (λ (m : Option History). CrashesRecords m new end added) keeps.1 crashes in (
+        keeps.0 ++ crash.0,
+        crash.1 ∙ ap (λ (l : List DevOp). Some (record { first = h.first; ops = l })) (append_assoc h.ops keeps.0 crash.0),
+        (λ quiet xs kept.
+            subst (λ (l : List Record). EachMoment (disk h) (keeps.0 ++ crash.0) (Either l)) (one_list (content h) rs xs held kept)
+            (all_moments crash.0 quiet (crash.2 rs (subst (λ (x : List Record). RecordLog between end x) (append-nil rs) there)))),
+      )
+
+safely : LogLaws → (told mid new : Option History) (end : ℕ) (rs added : List Record) → IfSome told (λ h. HoldsRecords (content h) rs) → KeepsRecords told mid
+    → IfSome mid (λ g. RecordLog g end (rs ++ all_records [])) → CrashesRecords mid new end added → KeepsOrAdds told new added
+safely laws None mid new end rs added held keeps log crashes = tt
+safely laws (Some h) mid new end rs added held keeps log crashes = keeps_or_adds laws.one_list h mid rs added keeps held new end log crashes
+
+-- opened, and then written to or not
+pub written_safely : LogLaws → (b : Device) (l : LogState) (end : ℕ) (rs added : List Record) (new : Option History) → IsRunLog b l end rs [] → KeepsRecords b.told l.told
+    → CrashesRecords l.told new l.end added → KeepsOrAdds b.told new added
+written_safely laws b l end rs added new is keeps crashes = safely laws b.told l.told new l.end rs added is.held keeps is.holds crashes
+
+pub nothing_added : (old new : Option History) → KeepsOrAdds old new [] → KeepsRecords old new
+nothing_added None new keeps = tt
+nothing_added (Some h) new keeps = (
+  keeps.0,
+  keeps.1,
+  (λ quiet rs held. moments_weaker (λ image. HoldsRecords image rs ⊎ HoldsRecords image (rs ++ [])) (λ image. HoldsRecords image rs)
+      (λ image there. elim there [ inl one ↦ one | inr more ↦ subst (λ (x : List Record). HoldsRecords image x) (append-nil rs) more ])
+      (disk h) keeps.0 (keeps.2 quiet rs held)),
+)

@@ -1,0 +1,64 @@
+-- Only private contracts cite this; the rules are Opens.antt.
+-- What writing to an open log before a run leaves of it.
+use Rattle.std.specs.Prelude.{◌≡◌, ◌≢◌, ℕ, ◌+◌, ◌<◌, ◌≤◌, ◌⊎◌, List, [], length, false}
+use Rattle.std.specs.List.{AllByRecursion, AllZip}
+use Rattle.snap_base.specs.declared.transactions.State.{State}
+use Rattle.snap_outside.specs.Causes.{Rose}
+use Rattle.snap_outside.specs.Disk.{AddsAll, AddsUpToFault}
+use Rattle.gate_log.specs.declared.logs.AppendNo.{AppendNo}
+use Rattle.gate_log.specs.declared.logs.AppendNo.TheVariants as append
+use Rattle.gate_log.specs.Appends.{append_ops, end_behind}
+use Rattle.gate_log.specs.declared.limits.TheConstants.{FARTHEST_END}
+use Rattle.gate_log.specs.State.{LogState, IsUntouched}
+use Rattle.txn_records.specs.declared.records.Record.{Record}
+use Rattle.txn_records.specs.Records.{IsState}
+use Rattle.record_log.specs.Growth.{MayAppendGroup}
+use Rattle.record_log.specs.Records.{spelled, AppendsRecords, CrashesRecords}
+use Rattle.snap_recover.specs.declared.openings.Opening.{Opening}
+use Rattle.log_opening.specs.Devices.{Device}
+use Rattle.log_opening.specs.declared.refusals.LogsNo.{LogsNo}
+use Rattle.log_opening.specs.declared.refusals.LogsNo.TheVariants as ending
+use Rattle.run_opening.specs.declared.openings.TheConstants.{LARGEST_START}
+use Rattle.run_opening.specs.Opens.{HasRoom, OpensRun, IsNoRun, AreSafe, log_at}
+
+-- the records are written, as one group
+pub record IsWritten (before after : LogState) (added : List Record) : Type 0 where
+  pub may : MayAppendGroup before.end added
+  pub appended : AppendsRecords before.told after.told before.end after.end added
+  pub crashes : CrashesRecords before.told after.told before.end added
+  pub adds : AddsAll before.told after.told (append_ops before.end (spelled added))
+  pub gate : after.end ≡ end_behind before.end (spelled added)
+  pub little : after.end ≤ before.end + LARGEST_START
+  pub nothing : added ≡ [] → IsUntouched before after
+  pub ready : after.shut ≡ false
+  pub later : before.faults ≤ after.faults
+
+-- an append to log 0 that is refused, in the words of opening
+abbrev pub no_of_append : AppendNo → LogsNo
+no_of_append append.Device = ending.Device 0
+no_of_append append.Shut = ending.Device 0
+no_of_append append.Memory = ending.Memory
+
+-- there was no memory, and nothing was done; or the device failed while something was written
+pub record IsNotWritten (before after : LogState) (added : List Record) (no : LogsNo) : Type 0 where
+  pub may : MayAppendGroup before.end added
+  pub why : ((no ≡ ending.Memory) × IsUntouched before after)
+      ⊎ ((no ≡ ending.Device 0) × (added ≢ []) × Rose before.faults after.faults × AddsUpToFault before.told after.told (append_ops before.end (spelled added)))
+  pub crashes : CrashesRecords before.told after.told before.end added
+  pub later : before.faults ≤ after.faults
+
+-- The run begins on these open logs.
+pub record HasBegun (count : ℕ) (states : List State) (before after : List Device) (logs : List LogState) (o : Opening) : Type 0 where
+  pub opens : (records : List (List Record)) × (added : List Record) × (length records ≡ count) × OpensRun before logs states o records added
+  pub room : HasRoom o
+  pub actors : length o.states ≡ length states
+  pub kept : AllByRecursion IsState o.states
+  pub ends : (n : ℕ) → n < count → (log_at logs n).end ≤ FARTHEST_END + LARGEST_START
+  pub safe : AreSafe count states before after
+  pub later : AllZip (λ (b a : Device). b.faults ≤ a.faults) before after
+
+-- No run begins.
+pub record HasNotBegun (count : ℕ) (states : List State) (before after : List Device) (no : LogsNo) : Type 0 where
+  pub why : IsNoRun count states before after no
+  pub safe : AreSafe count states before after
+  pub later : AllZip (λ (b a : Device). b.faults ≤ a.faults) before after
