@@ -1,0 +1,14 @@
+pub mod AllListed
+pub mod Cited
+pub mod Listing
+pub mod Offered
+pub mod Ordered
+pub mod PartsTold
+pub mod Revised
+pub mod Sound
+pub mod TouchedActs
+pub mod TouchedBatches
+pub mod TouchedEvents
+pub mod TouchedListed
+pub mod TouchedParts
+pub mod TouchedVerdicts

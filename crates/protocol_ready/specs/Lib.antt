@@ -1,0 +1,4 @@
+pub mod Lying
+pub mod Ready
+pub mod Telling
+pub mod Touched

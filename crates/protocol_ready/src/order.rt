@@ -1,0 +1,20 @@
+//! The order of events, and what putting in and taking out leave. Each is called to cite it.
+
+ghost use Rattle.std.specs.Prelude.{◌≡◌, true, false, List};
+ghost use Rattle.protocol.specs.Events.{Event};
+ghost use Rattle.protocol.specs.Schedule.{Ascends, Rank, is_rank_below};
+ghost use Rattle.protocol_ready.specs.Ready.{put, without};
+
+/// No rank is below itself; what is below one that is below a third is below the third; and of two ranks one is below the
+/// other, or they are the same.
+pub fn ranks_are_in_order()
+    ensures apart { (x : Rank) → is_rank_below x x ≡ false }
+    ensures through { (x y z : Rank) → is_rank_below x y ≡ true → is_rank_below y z ≡ true → is_rank_below x z ≡ true }
+    ensures same { (x y : Rank) → is_rank_below x y ≡ false → is_rank_below y x ≡ false → x ≡ y }
+{}
+
+/// Ascending events ascend with an event put in, and without one.
+pub fn events_stay_in_order()
+    ensures put { (e : Event) (es : List Event) → Ascends es → Ascends (put e es) }
+    ensures without { (e : Event) (es : List Event) → Ascends es → Ascends (without e es) }
+{}

@@ -1,0 +1,149 @@
+ghost use Rattle.std.specs.Prelude.{◌≡◌, ◌+◌, ◌<◌, ◌≤◌, [], length, slice_get, OnErr, OnOk, vec_len, vec_capacity};
+ghost use Rattle.std.specs.List.{insert};
+ghost use Rattle.std.specs.Option.{option_map};
+ghost use Rattle.core_events.specs.Meant.{event_meant};
+ghost use Rattle.protocol_ready.specs.Ready.{put, put_or_take, without};
+ghost use Rattle.ready_list.specs.Order.{IsGap, is_there};
+
+use crate::places::is_before;
+use core_events::Event;
+use protocol_ready::{events_stay_in_order, ranks_are_in_order};
+use snap_base::Memory;
+use std::alloc::Global;
+use std::marker::Model;
+
+/// Events in order, each once. Contracts see them as the machine's, and for how many more there is room.
+#[derive(Drop)]
+pub struct ReadyList {
+    events: Vec<Event>,
+}
+
+impl Model for ReadyList {
+    ghost use Rattle.std.specs.Prelude.{◌-◌, map, vec_len, vec_capacity};
+    ghost use Rattle.core_events.specs.Meant.{event_meant};
+    ghost use Rattle.protocol.specs.Schedule.{Ascends};
+    ghost use Rattle.ready_list.specs.Order.{Roomed};
+
+    ghost Value = { Roomed };
+
+    ghost view = { λ l. record { events = map event_meant l.events.items; spare = vec_capacity l.events - vec_len l.events } };
+
+    ghost invariant = { λ l. Ascends (map event_meant l.events.items) };
+}
+
+impl ReadyList {
+    /// No events, and no room.
+    pub fn new(alloc: Global) -> ReadyList
+        ensures { result.events ≡ [] }
+    {
+        ReadyList {
+            events: Vec::new(alloc),
+        }
+    }
+
+    /// How many events there are.
+    pub fn count(&self) -> usize
+        ensures { result ≡ length self.now.events }
+    {
+        self.events.len()
+    }
+
+    /// The n-th of them, from 0 on. `None` exactly where there are not so many.
+    pub fn nth(&self, n: usize) -> Option<Event>
+        ensures { option_map event_meant result ≡ slice_get self.now.events n }
+    {
+        self.events.get(n).copied()
+    }
+
+    /// Makes room for so many more, and changes nothing else. `Memory` only where there was less room; then there is as much
+    /// as before.
+    pub fn room(&mut self, more: usize) -> Result<(), Memory>
+        ensures ok { OnOk result (more ≤ self.new.spare) }
+        ensures needed { OnErr result (self.old.spare < more) }
+        ensures unchanged { self.new.events ≡ self.old.events }
+        ensures no_less { self.old.spare ≤ self.new.spare }
+    {
+        self.events.reserve(more)?;
+        Ok(())
+    }
+
+    // Where the event is, or would go.
+    fn gap(&self, e: Event) -> usize
+        ensures { IsGap self.now.events (event_meant e) result }
+    {
+        ranks_are_in_order();
+        let mut low = 0;
+        let mut high = self.events.len();
+        while low < high {
+            let middle = low + (high - low) / 2;
+            if is_before(self.events[middle], e) {
+                low = middle + 1;
+            } else {
+                high = middle;
+            }
+        }
+        low
+    }
+
+    // Whether the event is at its gap.
+    fn is_at(&self, at: usize, e: Event) -> bool
+        requires { IsGap self.now.events (event_meant e) at }
+        ensures { result ≡ is_there self.now.events (event_meant e) at }
+    {
+        at < self.events.len() && !is_before(e, self.events[at])
+    }
+
+    /// Puts an event in, where it is not in.
+    pub fn put(&mut self, e: Event)
+        requires { 1 ≤ self.old.spare }
+        ensures events { self.new.events ≡ put (event_meant e) self.old.events }
+        ensures room { self.old.spare ≤ self.new.spare + 1 }
+    {
+        events_stay_in_order();
+        ranks_are_in_order();
+        let at = self.gap(e);
+        if !self.is_at(at, e) {
+            put_at(&mut self.events, at, e);
+        }
+    }
+
+    /// Takes an event out, where it is in.
+    pub fn take(&mut self, e: Event)
+        ensures events { self.new.events ≡ without (event_meant e) self.old.events }
+        ensures no_less { self.old.spare ≤ self.new.spare }
+    {
+        events_stay_in_order();
+        ranks_are_in_order();
+        let at = self.gap(e);
+        if self.is_at(at, e) {
+            self.events.remove(at);
+        }
+    }
+
+    /// The event was looked at: it is put in where it is allowed, and else taken out.
+    pub fn look(&mut self, e: Event, allowed: bool)
+        requires { 1 ≤ self.old.spare }
+        ensures events { self.new.events ≡ put_or_take allowed (event_meant e) self.old.events }
+        ensures room { self.old.spare ≤ self.new.spare + 1 }
+    {
+        if allowed {
+            self.put(e);
+        } else {
+            self.take(e);
+        }
+    }
+}
+
+// There is room, so it can't fail.
+fn put_at(events: &mut Vec<Event>, at: usize, e: Event)
+    requires within { at ≤ length events.old.items }
+    requires room { vec_len events.old < vec_capacity events.old }
+    ensures items { events.new.items ≡ insert events.old.items at e }
+    ensures len { vec_len events.new ≡ vec_len events.old + 1 }
+    ensures capacity { vec_capacity events.old ≤ vec_capacity events.new }
+{
+    match events.insert(at, e) {
+        Ok(()) => {}
+        Err(_) => {}
+    }
+}
