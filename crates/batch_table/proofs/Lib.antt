@@ -7,3 +7,4 @@ pub mod FrontOver
 pub mod Keeping
 pub mod LiveCount
 pub mod Planning
+pub mod Unfinished

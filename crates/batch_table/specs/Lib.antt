@@ -6,3 +6,4 @@ pub mod Places
 pub mod Sound
 pub mod Spots
 pub mod Stages
+pub mod Listed

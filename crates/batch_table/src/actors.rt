@@ -1,9 +1,11 @@
-ghost use Rattle.std.specs.Prelude.{◌≡◌, ◌==◌, not, map, find, option_copied};
+ghost use Rattle.std.specs.Prelude.{◌≡◌, ◌==◌, not, map, find, option_copied, IfOk};
 ghost use Rattle.std.specs.List.{list_all};
+ghost use Rattle.machine_words.specs.Meant.{actor_number};
 ghost use Rattle.protocol.specs.Words.{holds};
 ghost use Rattle.protocol.specs.OnDesk as desk;
 
-use snap_base::ActorId;
+use snap_base::{ActorId, Memory};
+use std::alloc::Global;
 use std::marker::Model;
 
 /// An actor that a batch declares, with the batch's marks on it.
@@ -32,6 +34,12 @@ impl ActorEntry {
             noted: false,
             trimmed: false,
         }
+    }
+
+    fn actor(&self) -> ActorId
+        ensures { result.0 ≡ self.now.actor }
+    {
+        self.actor
     }
 
     fn is_of(&self, actor: ActorId) -> bool
@@ -125,4 +133,15 @@ pub(crate) fn lacks_trim(actors: &[ActorEntry], actor: ActorId) -> bool
         Some(entry) => !entry.is_trimmed(),
         None => false,
     }
+}
+
+/// The actors, in order.
+pub(crate) fn ids(alloc: Global, actors: &[ActorEntry]) -> Result<Vec<ActorId>, Memory>
+    ensures { IfOk result (λ ids. map actor_number ids.items ≡ map (λ p. p.actor) actors.now) }
+{
+    let mut ids = Vec::with_capacity(alloc, actors.len())?;
+    for entry in actors {
+        ids.push(entry.actor())?;
+    }
+    Ok(ids)
 }

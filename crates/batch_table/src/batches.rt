@@ -2,10 +2,11 @@ ghost use Rattle.std.specs.Prelude.{◌≡◌, not, ◌&&◌, true, map, option_
 ghost use Rattle.std.specs.List.{list_all};
 ghost use Rattle.protocol.specs.Words as words;
 ghost use Rattle.protocol.specs.OnDesk as desk;
-ghost use Rattle.machine_words.specs.Meant.{batch_pact, subs_actor};
+ghost use Rattle.machine_words.specs.Meant.{actor_number, batch_pact, subs_actor};
 ghost use Rattle.batch_table.specs.Askings.{failure_shown};
 ghost use Rattle.batch_table.specs.Found.{found_at, found_if};
 ghost use Rattle.batch_table.specs.Joining as joining;
+ghost use Rattle.batch_table.specs.Listed.{is_going};
 ghost use Rattle.batch_table.specs.Stages.{stage_meant};
 
 use crate::actors::{self, ActorEntry};
@@ -74,6 +75,27 @@ impl BatchEntry {
         ensures { result ≡ words.is_live_batch self.now }
     {
         !self.aborted && !actors::are_all_trimmed(self.actors.as_slice())
+    }
+
+    /// Whether it is neither aborted, nor settled and trimmed on all its actors.
+    pub fn is_going(&self) -> bool
+        ensures { result ≡ is_going self.now }
+    {
+        !(self.aborted
+            || self.stage.is_settled() && actors::are_all_trimmed(self.actors.as_slice()))
+    }
+
+    pub fn bid(&self) -> Bid
+        ensures { result.0 ≡ self.now.bid }
+    {
+        self.bid
+    }
+
+    /// The actors that it declares.
+    pub fn actors(&self, alloc: Global) -> Result<Vec<ActorId>, Memory>
+        ensures { IfOk result (λ actors. map actor_number actors.items ≡ map (λ p. p.actor) self.now.places) }
+    {
+        actors::ids(alloc, self.actors.as_slice())
     }
 
     pub fn has_ended_well(&self) -> bool

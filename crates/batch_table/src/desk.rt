@@ -8,6 +8,7 @@ ghost use Rattle.batch_table.specs.Found.{pact_with_tx, verdict_found};
 ghost use Rattle.batch_table.specs.Joining.{MayJoin};
 
 use crate::batches::BatchEntry;
+use crate::replies::Replies;
 use crate::spots::{Spot, write_spots};
 use crate::{FoundPact, Stage, table};
 use machine_words::Formed;
@@ -21,15 +22,15 @@ use std::marker::Model;
 pub struct Desk {
     /// The number before that of the first batch.
     base: u64,
-    batches: Vec<BatchEntry>,
+    pub(crate) batches: Vec<BatchEntry>,
     settled: u64,
-    replied: Vec<bool>,
+    pub(crate) replied: Replies,
     /// For each transaction of the text where its PACT is, if it has one; who looks there has to compare.
     spots: Vec<Spot>,
     /// How many batches are live.
-    live: u32,
+    pub(crate) live: u32,
     /// How many batches are settled or aborted: those from the first one on.
-    front: usize,
+    pub(crate) front: usize,
 }
 
 impl Model for Desk {
@@ -39,9 +40,9 @@ impl Model for Desk {
 
     ghost use Rattle.batch_table.specs.Sound.{IsSound};
 
-    ghost view = { λ d. record { batches = d.batches.items; settled = d.settled; replied = d.replied.items } };
+    ghost view = { λ d. record { batches = d.batches.items; settled = d.settled; replied = d.replied } };
 
-    ghost invariant = { λ d. IsSound d.base d.batches.items d.settled d.replied.items d.spots.items d.live d.front };
+    ghost invariant = { λ d. IsSound d.base d.batches.items d.settled d.replied d.spots.items d.live d.front };
 }
 
 impl Desk {
@@ -50,7 +51,7 @@ impl Desk {
     pub fn new(alloc: Global, txs: u32, base: Bid) -> Result<Desk, Memory>
         ensures { IfOk result (λ d. d ≡ record { batches = []; settled = base.0; replied = replicate txs false }) }
     {
-        let replied = vec![in alloc; false; txs as usize]?;
+        let replied = Replies::new(alloc, txs)?;
         let spots = vec![in alloc; Spot { batch: 0, place: 0 }; txs as usize]?;
         Ok(Desk {
             base: base.0,
@@ -102,7 +103,7 @@ impl Desk {
         table::result_of(self.batches.as_slice(), tid)
     }
 
-    fn batch(&self, bid: Bid) -> Option<&BatchEntry>
+    pub(crate) fn batch(&self, bid: Bid) -> Option<&BatchEntry>
         ensures { option_copied result ≡ words.batch_of bid.0 self.now.batches }
     {
         table::batch_of(self.batches.as_slice(), self.base, bid)
@@ -264,10 +265,7 @@ impl Desk {
     pub fn is_waiting_for_reply(&self, tx: TxNo) -> bool
         ensures { result ≡ askings.awaits_reply tx.0 self.now }
     {
-        match self.replied.get(tx.0 as usize) {
-            Some(replied) => !*replied,
-            None => false,
-        }
+        self.replied.is_awaited(tx)
     }
 
     /// The transaction was replied to.
@@ -275,6 +273,6 @@ impl Desk {
         requires { IsTrue (askings.awaits_reply tx.0 self.old) }
         ensures { self.new ≡ desk.replied_to tx.0 self.old }
     {
-        self.replied[tx.0 as usize] = true;
+        self.replied.mark(tx);
     }
 }

@@ -8,9 +8,7 @@ use Rattle.protocol.specs.Words.{act_of, holds, is_empty, joined_of, is_live_act
 use Rattle.protocol.specs.OnCell.{is_undone_act}
 use Rattle.protocol.specs.BookParts.{act_by, place_by, result_by}
 use Rattle.protocol_laws.specs.BookFits.{IsOrder, IsVotedBy}
-use Rattle.protocol_laws.proofs.first.Lists.{all_found}
-use Rattle.protocol_laws.proofs.halves.ActWithVotes.{live_by, doomed_by, holds_map}
-use Rattle.protocol_laws.proofs.halves.HalvesAsked.{live_act_by, decided_by, sealed_by, joined_found, left_mark, vote_mark, vouched_by}
+use Rattle.protocol_laws.proofs.Lemmas.{all_found, decided_by, doomed_by, holds_map, joined_found, left_mark, live_act_by, live_by, sealed_by, vote_mark, vouched_by}
 use Rattle.order_book.specs.Asked.{before_of, joined_in}
 use Rattle.act_commit.specs.Words.{is_ready}
 use Rattle.book_part.specs.Halves.{Halves, Shows}

@@ -5,3 +5,4 @@ pub mod Told
 pub mod Going
 pub mod Numbered
 mod Mapped
+pub mod Live

@@ -9,7 +9,7 @@ use Rattle.protocol.specs.Parts.{Act, Book, Machine}
 use Rattle.protocol.specs.Numbers.{times, one_if, flat, NumbersDrawnOnce}
 use Rattle.protocol.specs.BookParts.{act_by}
 use Rattle.protocol.specs.Words.{act_of}
-use Rattle.protocol_laws.proofs.first.Times.{once_from, times_append, times_cons}
+use Rattle.protocol_laws.proofs.Lemmas.{once_from, times_append, times_cons}
 use Rattle.book_part.proofs.Mapped.{map_each}
 use Rattle.book_part.specs.Halves.{Halves, Shows}
 use Rattle.book_part.proofs.Shown.{is_book}

@@ -7,8 +7,7 @@ use Rattle.protocol.specs.Parts.{Act, Book}
 use Rattle.protocol.specs.Words.{act_of}
 use Rattle.protocol.specs.BookParts.{act_by, book_of}
 use Rattle.protocol_laws.specs.BookFits.{BookFits, IsOrder, IsVotedBy}
-use Rattle.protocol_laws.proofs.first.Lists.{all_found}
-use Rattle.protocol_laws.proofs.halves.ActWithVotes.{found_by}
+use Rattle.protocol_laws.proofs.Lemmas.{all_found, found_by}
 use Rattle.book_part.specs.Halves.{Halves, Shows}
 
 pub is_book : (h : Halves) (b : Book) → Shows h b → b ≡ book_of h.orders h.votes h.cascades

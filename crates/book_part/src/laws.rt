@@ -1,5 +1,5 @@
-//! What the halves of a book are through the events, and what its conditions say of them: public functions with empty
-//! bodies, whose contracts are the laws.
+//! What the halves of a book are through the events, and what its conditions say of them: public functions whose contracts
+//! are the laws. A body calls a law of the machine to cite it.
 ghost use Rattle.std.specs.Prelude.{◌≡◌, ℕ, not, ◌&&◌, ◌||◌, ◌<◌, [], true, is_some, IsTrue};
 ghost use Rattle.std.specs.List.{All};
 ghost use Rattle.protocol.specs.BookParts.{no_orders, no_votes};
@@ -15,12 +15,16 @@ ghost use Rattle.act_commit.specs.Words.{is_ready};
 ghost use Rattle.book_part.specs.After.{halves_after};
 ghost use Rattle.book_part.specs.Halves.{Halves, Shows};
 
+use protocol_laws::halves_stay_fit;
+
 /// Halves with nothing in them are those of the book that a run begins with. Halves that meet what an event asks of them,
 /// as they do on every run where the event is allowed, are after it the halves of the book after it.
 pub fn halves_stay_of_their_book<C>()
     ensures begins { (w : Fixed C) (most : ℕ) → Shows (record { orders = no_orders; votes = no_votes w.text.opening.next_c; cascades = []; most = most }) (opening_book w) }
     ensures stays { (w : Fixed C) (e : Event) (s : Machine C) (h : Halves) → Shows h s.book → HalvesMeet e s h.orders h.votes → Shows (halves_after w e s h) (after w e s).book }
-{}
+{
+    halves_stay_fit::<C>();
+}
 
 /// Where numbers are drawn once, as they are on every run, the next tid is above all ACTs of the orders.
 pub fn next_tid_is_above_orders<C>()

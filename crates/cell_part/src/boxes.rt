@@ -1,9 +1,9 @@
 ghost use Rattle.std.specs.Prelude.{◌≡◌, ◌≤◌, not, is_some, true, filter, [], ◌∷◌, ◌++◌, OnOk, IfOk};
-ghost use Rattle.std.specs.Option.{option_map};
+ghost use Rattle.std.specs.Option.{option_map, option_and_then};
 ghost use Rattle.hybrid_schedule.specs.Cuts.{is_cut_off};
 ghost use Rattle.protocol.specs.CellParts.{taken_from};
 ghost use Rattle.protocol.specs.Words.{holds, is_going, is_ended, waiting_of, without_waiting, outcome_of, without_outcome};
-ghost use Rattle.cell_part.specs.Contents.{next_meant, waiting_control, outcome_next};
+ghost use Rattle.cell_part.specs.Contents.{next_meant, waiting_control, outcome_next, outcome_result};
 ghost use Rattle.cell_part.specs.Room.{KeepsBoxes};
 
 use crate::kept::{drop_each, first_of, take_first};
@@ -11,7 +11,7 @@ use crate::next::Next;
 use crate::outcome::Outcome;
 use crate::waiting::Waiting;
 use hybrid_schedule::Schedule;
-use snap_base::{Bid, Memory, Tid};
+use snap_base::{Bid, Memory, Tid, TxResult};
 use std::alloc::Global;
 use std::marker::Model;
 
@@ -20,8 +20,8 @@ use std::marker::Model;
 /// comes only where there is room for it, and for the outcome that it leaves.
 #[derive(Drop)]
 pub(crate) struct Boxes<C> {
-    inbox: Vec<Waiting<C>>,
-    outbox: Vec<Outcome<C>>,
+    pub(crate) inbox: Vec<Waiting<C>>,
+    pub(crate) outbox: Vec<Outcome<C>>,
 }
 
 impl<C> Model for Boxes<C> {
@@ -148,6 +148,15 @@ impl<C: Drop> Boxes<C> {
         match first_of(&self.outbox, t) {
             Some(outcome) => outcome.is_ended(),
             None => false,
+        }
+    }
+
+    pub(crate) fn ended_with(&self, t: Tid) -> Option<TxResult>
+        ensures { result ≡ option_and_then outcome_result (outcome_of t.0 self.now.boxes.outbox) }
+    {
+        match first_of(&self.outbox, t) {
+            Some(outcome) => outcome.result(),
+            None => None,
         }
     }
 }

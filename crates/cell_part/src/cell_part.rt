@@ -1,6 +1,6 @@
 ghost use Rattle.std.specs.Prelude.{◌≡◌, ℕ, ◌<◌, ◌≤◌, nat_lt, max, true, false, not, is_some, filter, find, map, length, List, Some, None, OnOk, IfOk};
 ghost use Rattle.std.specs.List.{list_all};
-ghost use Rattle.std.specs.Option.{option_map};
+ghost use Rattle.std.specs.Option.{option_map, option_and_then};
 ghost use Rattle.actor_cell.specs.Cut.{IsCutFrom};
 ghost use Rattle.hybrid_schedule.specs.Schedules.{tail_tids, has_turn, is_incomplete, is_next, is_done};
 ghost use Rattle.machine_words.specs.Meant.{sub_batch, tid_number, who_meant};
@@ -10,7 +10,7 @@ ghost use Rattle.protocol.specs.Parts.{Act, Cascade, ControlMessage};
 ghost use Rattle.protocol.specs.Rivals.{lock_of};
 ghost use Rattle.protocol.specs.Runs.{new_cell};
 ghost use Rattle.protocol.specs.Words.{acts_on, has_act, has_entry, has_undone, holds, image_of, is_clear, is_empty, is_ended, is_going, is_sealed, outcome_of, waiting_of, who_on};
-ghost use Rattle.cell_part.specs.Contents.{next_meant, outcome_next, waiting_control};
+ghost use Rattle.cell_part.specs.Contents.{next_meant, outcome_next, outcome_result, waiting_control};
 ghost use Rattle.cell_part.specs.Room.{KeepsRoom};
 ghost use Rattle.cell_part.specs.Running.{begun, ended};
 
@@ -19,7 +19,7 @@ use crate::leaving::{leave_boxes, leave_store};
 use crate::next::Next;
 use actor_cell::{Cell, MOST_IMAGES, undoing_is_rollback};
 use hybrid_schedule::{Schedule, cut_is_at_first_aborted, gone_is_from_first_aborted};
-use snap_base::{Bid, Memory, State, SubBatch, Tid, Who};
+use snap_base::{Bid, Memory, State, SubBatch, Tid, TxResult, Who};
 use std::alloc::Global;
 use std::marker::Model;
 
@@ -28,8 +28,8 @@ use std::marker::Model;
 #[derive(Drop)]
 pub struct CellPart<C> {
     store: Cell,
-    schedule: Schedule,
-    boxes: Boxes<C>,
+    pub(crate) schedule: Schedule,
+    pub(crate) boxes: Boxes<C>,
 }
 
 impl<C> Model for CellPart<C> {
@@ -69,7 +69,7 @@ impl<C: Drop> CellPart<C> {
 
     /// Makes room for one more entry with so many tids, and for one more control with the outcome that it leaves. The
     /// cell stays as it is, and there is never less room than before. After `Memory` a part of the room may be there.
-    pub fn room(&mut self, alloc: Global, tids: u32) -> Result<(), Memory>
+    pub fn room(&mut self, alloc: Global, tids: usize) -> Result<(), Memory>
         ensures entries { OnOk result (1 ≤ self.new.spare_entries) }
         ensures tids { OnOk result (tids ≤ self.new.spare_tids) }
         ensures controls { OnOk result (1 ≤ self.new.spare_controls) }
@@ -323,6 +323,13 @@ impl<C: Drop> CellPart<C> {
         ensures { result ≡ holds (λ x. is_ended x.next) (outcome_of t.0 self.now.cell.outbox) }
     {
         self.boxes.has_ended(t)
+    }
+
+    /// The result that the transaction's slice ended it with. `None` exactly where no slice ended it.
+    pub fn ended_with(&self, t: Tid) -> Option<TxResult>
+        ensures { result ≡ option_and_then outcome_result (outcome_of t.0 self.now.cell.outbox) }
+    {
+        self.boxes.ended_with(t)
     }
 
     /// Whether a sub-batch names the PACT, which is not done there.

@@ -6,6 +6,10 @@ use snap_base::Tid;
 pub(crate) trait Kept {
     ghost number: { Self → ℕ };
 
+    /// The transaction that it is of.
+    fn tid(&self) -> Tid
+        ensures { result.0 ≡ number self.now };
+
     fn is_of(&self, t: Tid) -> bool
         ensures { result ≡ (number self.now == t.0) };
 }

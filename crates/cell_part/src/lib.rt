@@ -10,6 +10,7 @@ mod cell_part;
 mod kept;
 mod laws;
 mod leaving;
+mod listing;
 mod next;
 mod outcome;
 mod waiting;

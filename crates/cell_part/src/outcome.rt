@@ -1,9 +1,10 @@
 ghost use Rattle.std.specs.Prelude.{◌≡◌, ◌==◌};
 ghost use Rattle.protocol.specs.Words.{is_going, is_ended};
+ghost use Rattle.cell_part.specs.Contents.{outcome_result};
 
 use crate::kept::Kept;
 use crate::next::Next;
-use snap_base::Tid;
+use snap_base::{Tid, TxResult};
 use std::marker::Model;
 
 /// What a slice of this transaction ended with. Contracts see the machine's `Outcome`.
@@ -26,6 +27,10 @@ impl<C> Model for Outcome<C> {
 impl<C> Kept for Outcome<C> {
     ghost number = { λ o. o.tid };
 
+    fn tid(&self) -> Tid {
+        self.tid
+    }
+
     fn is_of(&self, t: Tid) -> bool {
         self.tid.0 == t.0
     }
@@ -45,5 +50,15 @@ impl<C> Outcome<C> {
         ensures { result ≡ is_ended self.now.next }
     {
         !self.is_going()
+    }
+
+    /// The result that it ended with. `None` exactly where it goes on.
+    pub(crate) fn result(&self) -> Option<TxResult>
+        ensures { result ≡ outcome_result self.now }
+    {
+        match &self.next {
+            Next::Go(_, _) => None,
+            Next::Ended(ended) => Some(*ended),
+        }
     }
 }

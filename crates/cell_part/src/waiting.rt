@@ -22,6 +22,10 @@ impl<C> Model for Waiting<C> {
 impl<C> Kept for Waiting<C> {
     ghost number = { λ w. w.tid };
 
+    fn tid(&self) -> Tid {
+        self.tid
+    }
+
     fn is_of(&self, t: Tid) -> bool {
         self.tid.0 == t.0
     }

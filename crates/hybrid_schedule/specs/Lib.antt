@@ -4,3 +4,4 @@ pub mod Slots
 pub mod Schedules
 pub mod Cuts
 pub mod Arrivals
+pub mod Listed

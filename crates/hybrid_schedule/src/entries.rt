@@ -1,14 +1,15 @@
-ghost use Rattle.std.specs.Prelude.{◌≡◌, ℕ, nat_lt, max, Bool, false, ◌∷◌, [], not};
+ghost use Rattle.std.specs.Prelude.{◌≡◌, ℕ, nat_lt, max, Bool, false, ◌∷◌, ◌++◌, [], not, map, OnOk};
 ghost use Rattle.protocol.specs.Rivals.{lock_of};
 ghost use Rattle.protocol.specs.Parts.{BatchEntry, ActEntry};
 ghost use Rattle.protocol.specs.Words.{is_batch_entry, is_act_entry, is_entry_of, who_of, is_complete_batch, is_turn_of, is_undone, is_all_done, batches_on, greatest};
 ghost use Rattle.protocol.specs.OnCell.{done_in, complete_in};
-ghost use Rattle.machine_words.specs.Meant.{who_meant};
+ghost use Rattle.machine_words.specs.Meant.{tid_number, who_meant};
 ghost use Rattle.hybrid_schedule.specs.Schedules.{is_act};
 ghost use Rattle.hybrid_schedule.specs.Cuts.{is_from};
+ghost use Rattle.hybrid_schedule.specs.Listed.{incomplete_of, undone_of};
 
 use crate::slots::Slots;
-use snap_base::{Bid, Tid, Who};
+use snap_base::{Bid, Memory, Tid, Who};
 use std::alloc::Global;
 use std::marker::Model;
 
@@ -167,6 +168,31 @@ impl Entry {
     {
         if self.is_batch(k) {
             self.complete = true;
+        }
+    }
+
+    /// Adds the batch, where it is one that is not complete.
+    pub fn list_incomplete(&self, bids: &mut Vec<Bid>) -> Result<(), Memory>
+        ensures { OnOk result (map (λ k. k.0) bids.new.items ≡ map (λ k. k.0) bids.old.items ++ incomplete_of self.now) }
+    {
+        match self.owner {
+            Who::Batch(bid) => {
+                if !self.complete {
+                    bids.push(bid)?;
+                }
+                Ok(())
+            }
+            Who::Act(_) => Ok(()),
+        }
+    }
+
+    /// Adds the PACTs that are not done.
+    pub fn list_undone(&self, tids: &mut Vec<Tid>) -> Result<(), Memory>
+        ensures { OnOk result (map tid_number tids.new.items ≡ map tid_number tids.old.items ++ undone_of self.now) }
+    {
+        match self.owner {
+            Who::Batch(_) => self.slots.list_undone(tids),
+            Who::Act(_) => Ok(()),
         }
     }
 }

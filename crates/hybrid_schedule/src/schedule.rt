@@ -23,7 +23,7 @@ const FIRST_ENTRIES: usize = 4;
 /// Contracts see the machine's `HybridSchedule`, and for how much more there is room.
 #[derive(Drop)]
 pub struct Schedule {
-    entries: Vec<Entry>,
+    pub(crate) entries: Vec<Entry>,
     /// The ACTs among them, in order. The last ones are the tail group, which is lent to whoever asks.
     acts: Vec<Tid>,
     /// Empty: memory for the slots of the next sub-batch.
@@ -71,15 +71,15 @@ impl Schedule {
 
     /// Makes room for one more entry with so many tids, and changes nothing else. After `Memory` it may have made
     /// some of it.
-    pub fn room(&mut self, alloc: Global, tids: u32) -> Result<(), Memory>
+    pub fn room(&mut self, alloc: Global, tids: usize) -> Result<(), Memory>
         ensures ok { OnOk result ((1 ≤ self.new.spare_entries) × (tids ≤ self.new.spare_tids)) }
         ensures unchanged { self.new.schedule ≡ self.old.schedule }
         ensures no_less { KeepsRoom self.old self.new }
     {
         self.entries.reserve(1)?;
         self.acts.reserve(1)?;
-        if self.ready.capacity() < tids as usize {
-            self.ready = Vec::with_capacity(alloc, tids as usize)?;
+        if self.ready.capacity() < tids {
+            self.ready = Vec::with_capacity(alloc, tids)?;
         }
         Ok(())
     }

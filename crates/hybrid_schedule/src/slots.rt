@@ -1,11 +1,12 @@
-ghost use Rattle.std.specs.Prelude.{◌≡◌, ℕ, ◌≤◌, ◌==◌, Bool, true, false, [], map, length, vec_capacity};
+ghost use Rattle.std.specs.Prelude.{◌≡◌, ℕ, ◌≤◌, ◌==◌, Bool, true, false, not, [], ◌++◌, filter, map, length, vec_capacity, OnOk};
 ghost use Rattle.std.specs.List.{list_any, list_all};
 ghost use Rattle.protocol.specs.OnCell.{not_done, done_if};
 ghost use Rattle.machine_words.specs.Meant.{tid_number};
+ghost use Rattle.hybrid_schedule.specs.Listed.{undone_in};
 ghost use Rattle.hybrid_schedule.specs.Slots.{is_of, lets_run, is_undone_of, is_within};
 
 use crate::changes::push_in_room;
-use snap_base::Tid;
+use snap_base::{Memory, Tid};
 use std::alloc::Global;
 use std::marker::Model;
 
@@ -35,6 +36,12 @@ impl Slot {
         ensures { result ≡ is_of t.0 self.now }
     {
         self.tid.0 == t.0
+    }
+
+    pub fn tid(&self) -> Tid
+        ensures { result.0 ≡ self.now.tid }
+    {
+        self.tid
     }
 
     pub fn is_done(&self) -> bool
@@ -76,6 +83,7 @@ pub struct Slots {
 impl Model for Slots {
     ghost use Rattle.std.specs.Prelude.{◌≡◌, true, List};
     ghost use Rattle.protocol.specs.Parts as protocol;
+    ghost use Rattle.hybrid_schedule.specs.Listed.{undone_in};
     ghost use Rattle.hybrid_schedule.specs.Slots.{are_within};
 
     ghost Value = { List protocol.Slot };
@@ -146,6 +154,13 @@ impl Slots {
         are_all_done(self.items.as_slice())
     }
 
+    /// Adds the PACTs that are not done.
+    pub fn list_undone(&self, tids: &mut Vec<Tid>) -> Result<(), Memory>
+        ensures { OnOk result (map tid_number tids.new.items ≡ map tid_number tids.old.items ++ undone_in self.now) }
+    {
+        add_undone(self.items.as_slice(), tids)
+    }
+
     /// The PACT is done.
     #[tactic(auto, using(crate::proofs::Bounds::none_marked, crate::proofs::Bounds::within_when_marked))]
     pub fn mark_done(&mut self, t: Tid)
@@ -201,4 +216,15 @@ fn mark_each(slots: &mut [Slot], t: Tid)
     for s in slots.iter_mut() {
         s.mark_done(t);
     }
+}
+
+fn add_undone(slots: &[Slot], tids: &mut Vec<Tid>) -> Result<(), Memory>
+    ensures { OnOk result (map tid_number tids.new.items ≡ map tid_number tids.old.items ++ undone_in slots.now) }
+{
+    for slot in slots {
+        if !slot.is_done() {
+            tids.push(slot.tid())?;
+        }
+    }
+    Ok(())
 }

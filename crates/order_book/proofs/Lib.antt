@@ -7,3 +7,4 @@ pub mod Registering
 pub mod Walked
 pub mod Lowering
 pub mod Booked
+pub mod Living

@@ -1,7 +1,8 @@
 -- How the book keeps an ACT: its after number with the number of cascades there were when it was set, so that a cascade
 -- forgets the after numbers of all ACTs at once.
-use Rattle.std.specs.Prelude.{ℕ, ◌==◌, ◌≤◌, if◌then◌else◌, None}
+use Rattle.std.specs.Prelude.{ℕ, ◌==◌, ◌≤◌, Bool, if◌then◌else◌, None}
 use Rattle.protocol.specs.Parts.{Act}
+use Rattle.protocol.specs.Words.{is_live_act}
 
 pub record Kept : Type 0 where
   pub act : Act
@@ -21,3 +22,9 @@ forgotten x = record x { n = None }
 -- with no after number, whatever the number of cascades
 abbrev pub cut : Kept → Kept
 cut x = record { act = forgotten x.act; under = 0 }
+
+abbrev pub is_live_kept : Kept → Bool
+is_live_kept x = is_live_act x.act
+
+abbrev pub tid_kept : Kept → ℕ
+tid_kept x = x.act.tid

@@ -20,7 +20,7 @@ use std::marker::Model;
 /// set, so a cascade forgets all of them in one step.
 #[derive(Drop)]
 pub(crate) struct Acts {
-    rows: Vec<Act>,
+    pub(crate) rows: Vec<Act>,
     epoch: u64,
 }
 

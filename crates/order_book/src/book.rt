@@ -23,7 +23,7 @@ use std::marker::Model;
 /// its place in the serial order shows as sealed with number 0.
 #[derive(Drop)]
 pub struct Book {
-    register: Register,
+    pub(crate) register: Register,
     pairs: Vec<Pair>,
     /// The places of those that an event may change though it does not name them, ascending. Who is over is none of
     /// them, unless it still stands behind one that is not.

@@ -11,6 +11,7 @@ mod answer;
 mod book;
 mod change;
 mod fate;
+mod listing;
 mod mark;
 mod pair;
 mod placing;

@@ -11,7 +11,7 @@ enum Step {
     /// A batch comes, of this epoch and behind this one, with these PACTs.
     Arrive(u64, u64, u64, &'static [u64]),
     /// Room for an entry with so many PACTs.
-    Room(u32),
+    Room(usize),
     Place(u64),
     MayRun(u64),
     Done(u64),

@@ -160,12 +160,12 @@ module _ {X : Type 0} (number : X → ℕ) where
 
   -- ---- how many
 
-  number_below_first : (n : ℕ) (x : X) (xs : List X) → IsNumbered number n (x ∷ xs) → number x < n
+  pub number_below_first : (n : ℕ) (x : X) (xs : List X) → IsNumbered number n (x ∷ xs) → number x < n
   number_below_first n x xs h =
       let i = number x in
       below_from_one i n (omega (arith, h i, length-cond (eqb (number x) i) x (numbered number i xs), ap length (numbered_here x i refl)))
 
-  IsNumbered-tail : (n : ℕ) (x : X) (xs : List X) → IsNumbered number n (x ∷ xs) → IsNumbered number n xs
+  pub IsNumbered-tail : (n : ℕ) (x : X) (xs : List X) → IsNumbered number n (x ∷ xs) → IsNumbered number n xs
   IsNumbered-tail n x xs h i = omega (arith, h i, length-filter_tail (λ y. eqb (number y) i) x xs)
 
   length-in_order_cons : (n : ℕ) (x : X) (xs : List X) → length (in_order number n (x ∷ xs)) ≡ length (in_order number n (x ∷ [])) + length (in_order number n xs)

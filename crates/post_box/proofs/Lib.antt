@@ -2,3 +2,4 @@ pub mod InOrder
 pub mod SwapRemove
 pub mod ByKey
 pub mod Machine
+pub mod Sorted

@@ -79,3 +79,8 @@ module _ {C : Type 0} where
 pub option_map-twice : {X Y Z : Type 0} (f : Y → Z) (g : X → Y) (o : Option X) → option_map f (option_map g o) ≡ option_map (λ x. f (g x)) o
 option_map-twice f g None = refl
 option_map-twice f g (Some x) = refl
+
+-- what a sub-batch tells, from what is kept of it
+pub told_of_sub : {X : Type 0} (f : SubBatch → X) (t : SubKey → Bool) (k a : ℕ) (asks : (x : SubKey) → t x ≡ (eqb x.bid.0 k && eqb x.actor.0 a)) (es : List (SubKey × SubRest))
+    → option_map (λ r. f (sub_whole k a r)) (lookup t es) ≡ option_map f (sub_of k a (map sub_shown es))
+told_of_sub f t k a asks es = sym (option_map-twice f (sub_whole k a) (lookup t es)) ∙ ap (option_map f) (sym (sub_of-shown t k a asks es))

@@ -4,3 +4,4 @@ pub mod Kept
 pub mod PostBox
 pub mod Shown
 pub mod Posting
+pub mod Listed

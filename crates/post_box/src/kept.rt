@@ -1,5 +1,6 @@
-ghost use Rattle.std.specs.Prelude.{◌≡◌};
+ghost use Rattle.std.specs.Prelude.{◌≡◌, length};
 
+use crate::head::SubHead;
 use crate::keys::SubKey;
 use snap_base::{ActorId, Bid, Sequence, SubBatch, Tid, Who};
 
@@ -9,6 +10,19 @@ pub struct SubRest {
     pub epoch: u64,
     pub prev: Bid,
     pub tids: Sequence<Tid>,
+}
+
+impl SubRest {
+    /// What it says before it is taken.
+    pub(crate) fn head(&self) -> SubHead
+        ensures { result ≡ record { epoch = self.now.epoch; prev = self.now.prev; tids = length self.now.tids } }
+    {
+        SubHead {
+            epoch: self.epoch,
+            prev: self.prev,
+            tids: self.tids.len(),
+        }
+    }
 }
 
 /// A control under way: whose it is, the actor that it goes to, and the control itself.

@@ -4,10 +4,13 @@
 //! in time that does not grow with how many there are. The core posts, takes and drops; nothing here is delivered.
 #![tactic(auto)]
 
+mod head;
 mod kept;
 mod keys;
+mod listing;
 mod numbered;
 mod post;
 mod posted;
 
+pub use head::SubHead;
 pub use post::Post;

@@ -5,6 +5,7 @@ ghost use Rattle.protocol.specs.Words.{sub_of, control_of};
 ghost use Rattle.machine_words.specs.Meant.{actor_number, sub_batch, who_meant};
 ghost use Rattle.post_box.specs.Posting.{sub_posted, control_posted, control_message, message_control, message_to, message_who};
 
+use crate::head::SubHead;
 use crate::kept::{Control, SubRest, parted, whole};
 use crate::keys::SubKey;
 use crate::posted::Posted;
@@ -16,8 +17,8 @@ use std::marker::Model;
 /// posting, and for how many more of each kind there is room. The post keeps the allocator that it was made with.
 #[derive(Drop)]
 pub struct Post<C> {
-    subs: Posted<SubKey, SubRest>,
-    controls: Posted<Tid, Control<C>>,
+    pub(crate) subs: Posted<SubKey, SubRest>,
+    pub(crate) controls: Posted<Tid, Control<C>>,
 }
 
 impl<C> Model for Post<C> {
@@ -108,6 +109,17 @@ impl<C: Drop> Post<C> {
     {
         let key = SubKey { bid, actor: a };
         self.subs.contains(&key)
+    }
+
+    /// What a batch's sub-batch for an actor says before it is taken. `None` exactly where it is not under way.
+    pub fn sub_head(&self, bid: Bid, a: ActorId) -> Option<SubHead>
+        ensures epoch { option_map (λ h. h.epoch) result ≡ option_map (λ m. m.epoch) (sub_of bid.0 a.0 self.now.messages.subs) }
+        ensures prev { option_map (λ h. h.prev.0) result ≡ option_map (λ m. m.prev) (sub_of bid.0 a.0 self.now.messages.subs) }
+        ensures tids { option_map (λ h. h.tids) result ≡ option_map (λ m. length m.tids) (sub_of bid.0 a.0 self.now.messages.subs) }
+    {
+        let key = SubKey { bid, actor: a };
+        let rest = self.subs.get(&key)?;
+        Some(rest.head())
     }
 
     /// Takes a batch's sub-batch for an actor out. `None` exactly where it is not under way; nothing changes then.

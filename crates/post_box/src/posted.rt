@@ -18,7 +18,7 @@ const FIRST_ROOM: usize = 64;
 /// order is that of the numbers which the messages got when they were posted.
 #[derive(Drop)]
 pub struct Posted<K: Eq + Hash, M> {
-    messages: IndexMap<K, Numbered<M>>,
+    pub(crate) messages: IndexMap<K, Numbered<M>>,
     /// The number of the next message.
     next: u64,
 }

@@ -5,4 +5,4 @@ pub returns-clause-begins : goal.returns-clause-begins
 returns-clause-begins g f = begins
 
 pub returns-clause-stays : goal.returns-clause-stays
-returns-clause-stays g f = stays
+returns-clause-stays g f = stays f.halves_stay_fit.ensures

@@ -33,8 +33,8 @@ invariant_of-self c =
     let ws = c.abort_from.new.batches in
     let long : length ws ≡ length i.batches.items = omega (arith, c.abort_from.auto.batches, ap length same) in
     let may : is_next c.args.bid.0 i.batches.items ≡ true = subst (λ (d : Desk). is_next c.args.bid.0 d.batches ≡ true) (sym c.self.view_is) c.requires.next in
-    sound_in i.batches ws i.base i.settled i.replied.items i.spots.items (i.live - c.abort_from.result) c.len-self-inside.result long
-    (aborted_sound c.args.bid.0 i.base i.batches.items ws i.settled i.replied.items i.spots.items i.live (i.live - c.abort_from.result) i.front c.len-self-inside.result c.self.invariant may
+    sound_in i.batches ws i.base i.settled i.replied i.spots.items (i.live - c.abort_from.result) c.len-self-inside.result long
+    (aborted_sound c.args.bid.0 i.base i.batches.items ws i.settled i.replied i.spots.items i.live (i.live - c.abort_from.result) i.front c.len-self-inside.result c.self.invariant may
     (c.abort_from.ensures.aborted ∙ ap (λ (bs : List Batch). take i.front bs ++ map gone (drop i.front bs)) same)
     (omega (arith, c.abort_from.ensures.live, live_split i.front i.batches.items, c.self.invariant.counted, ap (λ (bs : List Batch). count is_live_batch (drop i.front bs)) same))
     (omega (arith, c.len-self-inside.ensures, i.batches.ok.0)))
@@ -46,7 +46,7 @@ returns c =
     let ws = c.abort_from.new.batches in
     let long : length ws ≡ length i.batches.items = omega (arith, c.abort_from.auto.batches, ap length same) in
     let may : is_next c.args.bid.0 i.batches.items ≡ true = subst (λ (d : Desk). is_next c.args.bid.0 d.batches ≡ true) (sym c.self.view_is) c.requires.next in
-    ap (λ (bs : List Batch). record { batches = bs; settled = i.settled; replied = i.replied.items })
+    ap (λ (bs : List Batch). record { batches = bs; settled = i.settled; replied = i.replied })
     (same_items i.batches ws long
     ∙ taken_from_front c.args.bid.0 i.base i.front i.batches.items ws c.self.invariant.numbered c.self.invariant.parted may
     (c.abort_from.ensures.aborted ∙ ap (λ (bs : List Batch). take i.front bs ++ map gone (drop i.front bs)) same))

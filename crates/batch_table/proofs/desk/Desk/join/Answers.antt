@@ -21,11 +21,11 @@ invariant_of-self c =
     ∙ (ap (λ (ps : List Pact). with_spots (length bs) 0 (txs_in ps) c.as_mut_slice.result.now) c.pacts.ensures
     ∙ ap (λ (sp : List Spot). with_spots (length bs) 0 (txs_in b.pacts) sp) c.as_mut_slice.ensures.value)) in
     let long : length ws ≡ length i.spots.items = omega (arith, c.write_spots.auto.spots, ap length c.as_mut_slice.ensures.value) in
-    let in_text : AllTxsBelow (length i.replied.items) b.pacts = subst (λ (d : Desk). AllTxsBelow (length d.replied) b.pacts) (sym c.self.view_is) c.requires.may.in_text in
+    let in_text : AllTxsBelow (length i.replied) b.pacts = subst (λ (d : Desk). AllTxsBelow (length d.replied) b.pacts) (sym c.self.view_is) c.requires.may.in_text in
     let once : EachTxOnce bs b.pacts = subst (λ (d : Desk). EachTxOnce d.batches b.pacts) (sym c.self.view_is) c.requires.may.once in
-    subst (λ (z : List Batch). IsSound i.base z i.settled i.replied.items (take i.spots.len (ws ++ drop (length ws) i.spots.items)) i.live i.front) (sym c.in_err-push.ensures.items)
-    (subst (λ (sp : List Spot). IsSound i.base bs i.settled i.replied.items sp i.live i.front) (sym (same_items i.spots ws long ∙ written))
-    (spots_sound i.base b.pacts bs i.settled i.replied.items i.spots.items i.live i.front c.self.invariant in_text once))
+    subst (λ (z : List Batch). IsSound i.base z i.settled i.replied (take i.spots.len (ws ++ drop (length ws) i.spots.items)) i.live i.front) (sym c.in_err-push.ensures.items)
+    (subst (λ (sp : List Spot). IsSound i.base bs i.settled i.replied sp i.live i.front) (sym (same_items i.spots ws long ∙ written))
+    (spots_sound i.base b.pacts bs i.settled i.replied i.spots.items i.live i.front c.self.invariant in_text once))
 
 pub invariant_of-self-2 : goal.invariant_of-self-2
 invariant_of-self-2 c =
@@ -40,11 +40,11 @@ invariant_of-self-2 c =
     ∙ (ap (λ (ps : List Pact). with_spots (length bs) 0 (txs_in ps) c.as_mut_slice.result.now) c.pacts.ensures
     ∙ ap (λ (sp : List Spot). with_spots (length bs) 0 (txs_in b.pacts) sp) c.as_mut_slice.ensures.value)) in
     let long : length ws ≡ length i.spots.items = omega (arith, c.write_spots.auto.spots, ap length c.as_mut_slice.ensures.value) in
-    let in_text : AllTxsBelow (length i.replied.items) b.pacts = subst (λ (d : Desk). AllTxsBelow (length d.replied) b.pacts) (sym c.self.view_is) c.requires.may.in_text in
+    let in_text : AllTxsBelow (length i.replied) b.pacts = subst (λ (d : Desk). AllTxsBelow (length d.replied) b.pacts) (sym c.self.view_is) c.requires.may.in_text in
     let once : EachTxOnce bs b.pacts = subst (λ (d : Desk). EachTxOnce d.batches b.pacts) (sym c.self.view_is) c.requires.may.once in
     let above : AllTidsBelow (first_of (tids_in b.pacts)) bs = subst (λ (d : Desk). AllTidsBelow (first_of (tids_in b.pacts)) d.batches) (sym c.self.view_is) c.requires.may.above in
     let next : b.bid ≡ first_number i.settled bs + length bs = subst (λ (d : Desk). b.bid ≡ next_number d) (sym c.self.view_is) c.requires.may.numbered in
-    subst (λ (z : List Batch). IsSound i.base z i.settled i.replied.items (take i.spots.len (ws ++ drop (length ws) i.spots.items)) (i.live + c.from-live.result) i.front) (sym c.in_ok-push.ensures.items)
-    (subst (λ (sp : List Spot). IsSound i.base (bs ++ b ∷ []) i.settled i.replied.items sp (i.live + c.from-live.result) i.front) (sym (same_items i.spots ws long ∙ written))
-    (joined_sound i.base b bs i.settled i.replied.items i.spots.items i.live (i.live + c.from-live.result) i.front c.self.invariant
+    subst (λ (z : List Batch). IsSound i.base z i.settled i.replied (take i.spots.len (ws ++ drop (length ws) i.spots.items)) (i.live + c.from-live.result) i.front) (sym c.in_ok-push.ensures.items)
+    (subst (λ (sp : List Spot). IsSound i.base (bs ++ b ∷ []) i.settled i.replied sp (i.live + c.from-live.result) i.front) (sym (same_items i.spots ws long ∙ written))
+    (joined_sound i.base b bs i.settled i.replied i.spots.items i.live (i.live + c.from-live.result) i.front c.self.invariant
     next c.requires.may.some c.requires.may.consecutive above in_text once c.requires.fresh (omega (arith, c.from-live.ensures, ap one_if c.is_live.ensures))))

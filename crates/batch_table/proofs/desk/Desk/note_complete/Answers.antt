@@ -8,6 +8,6 @@ pub invariant_of-self : goal.invariant_of-self
 invariant_of-self c =
     let i = c.self.inside in
     let same = c.as_mut_slice.ensures.value in
-    sound_in i.batches c.note.new.batches i.base i.settled i.replied.items i.spots.items i.live i.front (omega (arith, c.note.auto.batches, ap length same))
-    (noted_sound c.args.bid.0 c.args.actor.0 i.base i.batches.items c.note.new.batches i.settled i.replied.items i.spots.items i.live i.front c.self.invariant
+    sound_in i.batches c.note.new.batches i.base i.settled i.replied i.spots.items i.live i.front (omega (arith, c.note.auto.batches, ap length same))
+    (noted_sound c.args.bid.0 c.args.actor.0 i.base i.batches.items c.note.new.batches i.settled i.replied i.spots.items i.live i.front c.self.invariant
     (c.note.ensures ∙ ap (λ (bs : List Batch). changed_batch c.args.bid.0 (marked c.args.actor.0 is_noted) bs) same))

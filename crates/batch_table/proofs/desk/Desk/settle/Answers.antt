@@ -19,6 +19,6 @@ invariant_of-self c =
     let i = c.self.inside in
     let same = c.as_mut_slice.ensures.value in
     let may : awaits_settling c.args.bid.0 i.batches.items ≡ true = subst (λ (d : Desk). awaits_settling c.args.bid.0 d.batches ≡ true) (sym c.self.view_is) c.requires in
-    sound_in i.batches c.set_stage.new.batches i.base c.args.bid.0 i.replied.items i.spots.items i.live (i.front + 1) (omega (arith, c.set_stage.auto.batches, ap length same))
-    (settled_sound c.args.bid.0 i.base i.batches.items c.set_stage.new.batches i.settled i.replied.items i.spots.items i.live i.front c.self.invariant may
+    sound_in i.batches c.set_stage.new.batches i.base c.args.bid.0 i.replied i.spots.items i.live (i.front + 1) (omega (arith, c.set_stage.auto.batches, ap length same))
+    (settled_sound c.args.bid.0 i.base i.batches.items c.set_stage.new.batches i.settled i.replied i.spots.items i.live i.front c.self.invariant may
     (c.set_stage.ensures ∙ ap (λ (bs : List Batch). changed_batch c.args.bid.0 (with_stage stages.Settled) bs) same))

@@ -21,8 +21,8 @@ invariant_of-self c =
     let same = c.as_mut_slice.ensures.value in
     let may : awaits_trim c.args.bid.0 c.args.actor.0 i.batches.items ≡ true = subst (λ (d : Desk). awaits_trim c.args.bid.0 c.args.actor.0 d.batches ≡ true) (sym c.self.view_is) c.requires in
     let live_is = c.trim.ensures.live ∙ ap (λ (bs : List Batch). is_live_with_trim c.args.bid.0 c.args.actor.0 bs) same in
-    sound_in i.batches c.trim.new.batches i.base i.settled i.replied.items i.spots.items (i.live - 1) i.front (omega (arith, c.trim.auto.batches, ap length same))
-    (trimmed_sound c.args.bid.0 c.args.actor.0 i.base i.batches.items c.trim.new.batches i.settled i.replied.items i.spots.items i.live (i.live - 1) i.front c.self.invariant may
+    sound_in i.batches c.trim.new.batches i.base i.settled i.replied i.spots.items (i.live - 1) i.front (omega (arith, c.trim.auto.batches, ap length same))
+    (trimmed_sound c.args.bid.0 c.args.actor.0 i.base i.batches.items c.trim.new.batches i.settled i.replied i.spots.items i.live (i.live - 1) i.front c.self.invariant may
     (c.trim.ensures.trimmed ∙ ap (λ (bs : List Batch). changed_batch c.args.bid.0 (marked c.args.actor.0 is_trimmed) bs) same)
     (omega (arith, trim_counted c.args.bid.0 c.args.actor.0 i.base i.batches.items c.self.invariant.numbered may, c.self.invariant.counted, ap one_if (sym live_is ∙ c.if-not-trim.true))))
 
@@ -32,7 +32,7 @@ invariant_of-self-else-not-trim c =
     let same = c.as_mut_slice.ensures.value in
     let may : awaits_trim c.args.bid.0 c.args.actor.0 i.batches.items ≡ true = subst (λ (d : Desk). awaits_trim c.args.bid.0 c.args.actor.0 d.batches ≡ true) (sym c.self.view_is) c.requires in
     let live_is = c.trim.ensures.live ∙ ap (λ (bs : List Batch). is_live_with_trim c.args.bid.0 c.args.actor.0 bs) same in
-    sound_in i.batches c.trim.new.batches i.base i.settled i.replied.items i.spots.items i.live i.front (omega (arith, c.trim.auto.batches, ap length same))
-    (trimmed_sound c.args.bid.0 c.args.actor.0 i.base i.batches.items c.trim.new.batches i.settled i.replied.items i.spots.items i.live i.live i.front c.self.invariant may
+    sound_in i.batches c.trim.new.batches i.base i.settled i.replied i.spots.items i.live i.front (omega (arith, c.trim.auto.batches, ap length same))
+    (trimmed_sound c.args.bid.0 c.args.actor.0 i.base i.batches.items c.trim.new.batches i.settled i.replied i.spots.items i.live i.live i.front c.self.invariant may
     (c.trim.ensures.trimmed ∙ ap (λ (bs : List Batch). changed_batch c.args.bid.0 (marked c.args.actor.0 is_trimmed) bs) same)
     (omega (arith, ap one_if (sym live_is ∙ c.if-not-trim.false))))

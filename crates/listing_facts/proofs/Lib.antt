@@ -1,0 +1,2 @@
+pub mod PartsEnough
+pub mod RunsEnough
