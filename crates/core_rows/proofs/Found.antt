@@ -43,3 +43,17 @@ both false b p q = absurd (cc p)
 pub second : (a b : Bool) → (a && b) ≡ true → b ≡ true
 second true b p = p
 second false b p = absurd (cc p)
+
+-- a test that nothing meets
+pub never : {X : Type 0} (test : X → Bool) (o : Option X) → ((x : X) → test x ≡ false) → holds test o ≡ false
+never test None h = refl
+never test (Some x) h = h x
+
+pub not_both : (a b : Bool) → b ≡ false → (a && b) ≡ false
+not_both true b h = h
+not_both false b h = refl
+
+-- it is there where what stands for it is
+pub is_some_where_told : {X Y : Type 0} (f : X → Y) (r : Option X) (o : Option Y) → option_map f r ≡ o → is_some o ≡ true → is_some r ≡ true
+is_some_where_told f None o same there = ap is_some same ∙ there
+is_some_where_told f (Some x) o same there = refl

@@ -31,3 +31,8 @@ three p q r = cc
 
 pub four : {a b c d x y z u : Bool} → a ≡ x → b ≡ y → c ≡ z → d ≡ u → (a ∷ b ∷ c ∷ d ∷ []) ≡ (x ∷ y ∷ z ∷ u ∷ [])
 four p q r t = cc
+
+-- the first condition refuses
+pub first_rule : {C : Type 0} (w : Fixed C) (e : Event) (s : Machine C) (b : Bool) (bs : List Bool) → conditions w e s ≡ b ∷ bs → b ≡ false → refusal w e s ≡ 1
+unfolding refusal
+first_rule w e s b bs is h = ap (first_false 1) (is ∙ ap (λ x. x ∷ bs) h)

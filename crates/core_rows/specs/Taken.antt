@@ -30,3 +30,8 @@ module _ {C : Type 0} where
   abbrev pub IsNo : Event → (Fixed C → Machine C → Type 0) → StepNo → Type 0
   IsNo e Old (NotNow rule) = (1 ≤ rule) × IsRefusal e Old rule
   IsNo e Old Memory = Unit {0}
+
+-- the number of a condition, and not want of memory
+abbrev pub IsRule : StepNo → Type 0
+IsRule (NotNow rule) = Unit {0}
+IsRule Memory = ⊥

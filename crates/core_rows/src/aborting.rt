@@ -2,7 +2,7 @@
 ghost use Rattle.std.specs.Prelude.{◌≡◌, OnOk, OnErr, IfErr};
 ghost use Rattle.protocol.specs.Events.{Abort};
 ghost use Rattle.core_rows.specs.Showing.{HasRoomForCascades, ShowsBook, ShowsDesk, ShowsRing};
-ghost use Rattle.core_rows.specs.Taken.{IsOfRun, IsTaken, IsRefusal, IsNo};
+ghost use Rattle.core_rows.specs.Taken.{IsOfRun, IsTaken, IsRefusal, IsNo, IsRule};
 
 use crate::StepNo;
 use crate::asking::first_no;
@@ -28,6 +28,7 @@ pub fn abort<C>(ring: &mut Ring, book: &mut BookPart, desk: &mut Desk, k: Bid) -
     ensures ok { OnOk result (IsTaken {C = C} (Abort k.0) (λ w s. ShowsRing ring.old s × ShowsBook book.old s × ShowsDesk desk.old s) (λ w s. ShowsRing ring.new s × ShowsBook book.new s × ShowsDesk desk.new s)) }
     ensures room { book.new.most ≡ book.old.most }
     ensures no { IfErr result (IsNo {C = C} (Abort k.0) (λ w s. ShowsRing ring.old s × ShowsBook book.old s × ShowsDesk desk.old s)) }
+    ensures rule { IfErr result IsRule }
     ensures ring { OnErr result (ring.new ≡ ring.old) }
     ensures book { OnErr result (book.new ≡ book.old) }
     ensures desk { OnErr result (desk.new ≡ desk.old) }

@@ -2,7 +2,7 @@
 ghost use Rattle.std.specs.Prelude.{◌≡◌, OnOk, OnErr, IfErr};
 ghost use Rattle.protocol.specs.Events.{Close, Trim};
 ghost use Rattle.core_rows.specs.Showing.{ShowsCell, ShowsDesk};
-ghost use Rattle.core_rows.specs.Taken.{IsOfRun, IsTaken, IsRefusal, IsNo};
+ghost use Rattle.core_rows.specs.Taken.{IsOfRun, IsTaken, IsRefusal, IsNo, IsRule};
 
 use crate::StepNo;
 use crate::asking::first_no;
@@ -23,6 +23,7 @@ pub fn close_refusal<C: Drop>(desk: &Desk, cell: &CellPart<C>, t: Tid, a: ActorI
 pub fn close<C: Drop>(desk: &Desk, cell: &mut CellPart<C>, t: Tid, a: ActorId) -> Result<(), StepNo>
     ensures ok { OnOk result (IsTaken {C = C} (Close t.0 a.0) (λ w s. ShowsDesk desk.now s × ShowsCell a.0 cell.old s) (λ w s. ShowsDesk desk.now s × ShowsCell a.0 cell.new s)) }
     ensures no { IfErr result (IsNo {C = C} (Close t.0 a.0) (λ w s. ShowsDesk desk.now s × ShowsCell a.0 cell.old s)) }
+    ensures rule { IfErr result IsRule }
     ensures unchanged { OnErr result (cell.new ≡ cell.old) }
 {
     let rule = close_refusal(desk, cell, t, a);
@@ -51,6 +52,7 @@ pub fn trim<C: Drop>(
     requires { IsOfRun {C = C} (λ w s. ShowsDesk desk.old s × ShowsCell a.0 cell.old s) }
     ensures ok { OnOk result (IsTaken {C = C} (Trim k.0 a.0) (λ w s. ShowsDesk desk.old s × ShowsCell a.0 cell.old s) (λ w s. ShowsDesk desk.new s × ShowsCell a.0 cell.new s)) }
     ensures no { IfErr result (IsNo {C = C} (Trim k.0 a.0) (λ w s. ShowsDesk desk.old s × ShowsCell a.0 cell.old s)) }
+    ensures rule { IfErr result IsRule }
     ensures desk { OnErr result (desk.new ≡ desk.old) }
     ensures cell { OnErr result (cell.new ≡ cell.old) }
 {

@@ -2,7 +2,7 @@
 ghost use Rattle.std.specs.Prelude.{◌≡◌, OnOk, OnErr, IfErr};
 ghost use Rattle.protocol.specs.Events.{Finish};
 ghost use Rattle.core_rows.specs.Showing.{ShowsBook, ShowsCell};
-ghost use Rattle.core_rows.specs.Taken.{IsTaken, IsRefusal, IsNo};
+ghost use Rattle.core_rows.specs.Taken.{IsTaken, IsRefusal, IsNo, IsRule};
 
 use crate::StepNo;
 use crate::asking::first_no;
@@ -28,7 +28,9 @@ pub fn finish<C: Drop>(
     a: ActorId,
 ) -> Result<(), StepNo>
     ensures ok { OnOk result (IsTaken {C = C} (Finish t.0 a.0) (λ w s. ShowsBook book.old s × ShowsCell a.0 cell.old s) (λ w s. ShowsBook book.new s × ShowsCell a.0 cell.new s)) }
+    ensures room { book.new.most ≡ book.old.most }
     ensures no { IfErr result (IsNo {C = C} (Finish t.0 a.0) (λ w s. ShowsBook book.old s × ShowsCell a.0 cell.old s)) }
+    ensures rule { IfErr result IsRule }
     ensures book { OnErr result (book.new ≡ book.old) }
     ensures cell { OnErr result (cell.new ≡ cell.old) }
 {

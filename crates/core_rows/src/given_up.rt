@@ -6,7 +6,7 @@ ghost use Rattle.protocol.specs.Parts.{Book};
 ghost use Rattle.protocol.specs.Words.{control_of, holds};
 ghost use Rattle.book_part.specs.Halves.{Shows};
 ghost use Rattle.core_rows.specs.Showing.{ShowsBook, ShowsPost};
-ghost use Rattle.core_rows.specs.Taken.{IsTaken, IsRefusal, IsNo};
+ghost use Rattle.core_rows.specs.Taken.{IsTaken, IsRefusal, IsNo, IsRule};
 
 use crate::StepNo;
 use crate::asking::first_no;
@@ -37,6 +37,7 @@ fn is_of_given_up<C: Drop>(book: &BookPart, post: &Post<C>, t: Tid) -> bool
 pub fn drop_control<C: Drop>(book: &BookPart, post: &mut Post<C>, t: Tid) -> Result<(), StepNo>
     ensures ok { OnOk result (IsTaken {C = C} (DropControl t.0) (λ w s. ShowsBook book.now s × ShowsPost post.old s) (λ w s. ShowsBook book.now s × ShowsPost post.new s)) }
     ensures no { IfErr result (IsNo {C = C} (DropControl t.0) (λ w s. ShowsBook book.now s × ShowsPost post.old s)) }
+    ensures rule { IfErr result IsRule }
     ensures unchanged { OnErr result (post.new ≡ post.old) }
 {
     let rule = drop_control_refusal(book, post, t);

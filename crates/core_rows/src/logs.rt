@@ -2,7 +2,7 @@
 ghost use Rattle.std.specs.Prelude.{◌≡◌, ◌%◌, OnOk, OnErr, IfErr};
 ghost use Rattle.protocol.specs.Events.{Commit, Sync};
 ghost use Rattle.core_rows.specs.Showing.{ShowsDesk, ShowsLogAt};
-ghost use Rattle.core_rows.specs.Taken.{IsOfRun, IsTaken, IsRefusal, IsNo};
+ghost use Rattle.core_rows.specs.Taken.{IsOfRun, IsTaken, IsRefusal, IsNo, IsRule};
 
 use crate::StepNo;
 use crate::asking::first_no;
@@ -25,6 +25,7 @@ pub fn sync_refusal<C>(log: &LogPart, l: u8) -> u8
 pub fn sync<C>(log: &mut LogPart, l: u8) -> Result<(), StepNo>
     ensures ok { OnOk result (IsTaken {C = C} (Sync l) (λ w s. ShowsLogAt l log.old s) (λ w s. ShowsLogAt l log.new s)) }
     ensures no { IfErr result (IsNo {C = C} (Sync l) (λ w s. ShowsLogAt l log.old s)) }
+    ensures rule { IfErr result IsRule }
     ensures unchanged { OnErr result (log.new ≡ log.old) }
 {
     let rule = sync_refusal::<C>(log, l);

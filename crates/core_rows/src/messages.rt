@@ -3,7 +3,7 @@ ghost use Rattle.std.specs.Prelude.{◌≡◌, OnOk, OnErr, IfErr};
 ghost use Rattle.protocol.specs.Events.{DropSub, Take};
 ghost use Rattle.protocol.specs.Words.{has_control_to};
 ghost use Rattle.core_rows.specs.Showing.{ShowsBook, ShowsCell, ShowsPost};
-ghost use Rattle.core_rows.specs.Taken.{IsOfRun, IsTaken, IsRefusal, IsNo};
+ghost use Rattle.core_rows.specs.Taken.{IsOfRun, IsTaken, IsRefusal, IsNo, IsRule};
 
 use crate::StepNo;
 use crate::asking::first_no;
@@ -31,6 +31,7 @@ pub fn drop_sub<C: Drop>(
 ) -> Result<(), StepNo>
     ensures ok { OnOk result (IsTaken {C = C} (DropSub k.0 a.0) (λ w s. ShowsBook book.now s × ShowsPost post.old s) (λ w s. ShowsBook book.now s × ShowsPost post.new s)) }
     ensures no { IfErr result (IsNo {C = C} (DropSub k.0 a.0) (λ w s. ShowsBook book.now s × ShowsPost post.old s)) }
+    ensures rule { IfErr result IsRule }
     ensures unchanged { OnErr result (post.new ≡ post.old) }
 {
     let rule = drop_sub_refusal(book, post, k, a);

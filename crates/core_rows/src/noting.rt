@@ -2,7 +2,7 @@
 ghost use Rattle.std.specs.Prelude.{◌≡◌, ◌%◌, OnOk, OnErr, IfErr};
 ghost use Rattle.protocol.specs.Events.{Note, Settle};
 ghost use Rattle.core_rows.specs.Showing.{ShowsDesk, ShowsLogAt};
-ghost use Rattle.core_rows.specs.Taken.{IsOfRun, IsTaken, IsRefusal, IsNo};
+ghost use Rattle.core_rows.specs.Taken.{IsOfRun, IsTaken, IsRefusal, IsNo, IsRule};
 
 use crate::StepNo;
 use crate::asking::first_no;
@@ -24,6 +24,7 @@ pub fn note<C>(desk: &mut Desk, log: &LogPart, k: Bid, a: ActorId) -> Result<(),
     requires { IsOfRun {C = C} (λ w s. ShowsDesk desk.old s × ShowsLogAt (a.0 % w.text.logs) log.now s) }
     ensures ok { OnOk result (IsTaken {C = C} (Note k.0 a.0) (λ w s. ShowsDesk desk.old s × ShowsLogAt (a.0 % w.text.logs) log.now s) (λ w s. ShowsDesk desk.new s × ShowsLogAt (a.0 % w.text.logs) log.now s)) }
     ensures no { IfErr result (IsNo {C = C} (Note k.0 a.0) (λ w s. ShowsDesk desk.old s × ShowsLogAt (a.0 % w.text.logs) log.now s)) }
+    ensures rule { IfErr result IsRule }
     ensures unchanged { OnErr result (desk.new ≡ desk.old) }
 {
     let rule = note_refusal::<C>(desk, log, k, a);
@@ -48,6 +49,7 @@ pub fn settle<C>(desk: &mut Desk, log: &LogPart, k: Bid) -> Result<(), StepNo>
     requires { IsOfRun {C = C} (λ w s. ShowsDesk desk.old s × ShowsLogAt (k.0 % w.text.logs) log.now s) }
     ensures ok { OnOk result (IsTaken {C = C} (Settle k.0) (λ w s. ShowsDesk desk.old s × ShowsLogAt (k.0 % w.text.logs) log.now s) (λ w s. ShowsDesk desk.new s × ShowsLogAt (k.0 % w.text.logs) log.now s)) }
     ensures no { IfErr result (IsNo {C = C} (Settle k.0) (λ w s. ShowsDesk desk.old s × ShowsLogAt (k.0 % w.text.logs) log.now s)) }
+    ensures rule { IfErr result IsRule }
     ensures unchanged { OnErr result (desk.new ≡ desk.old) }
 {
     let rule = settle_refusal::<C>(desk, log, k);

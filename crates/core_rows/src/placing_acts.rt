@@ -43,6 +43,7 @@ pub fn ask<C: Drop>(
 ) -> Result<(), StepNo>
     requires { IsOfRun {C = C} (λ w s. ShowsBook book.old s × ShowsPost post.old s × ShowsCell a.0 cell.old s) }
     ensures ok { OnOk result (IsTaken {C = C} (Ask t.0 a.0) (λ w s. ShowsBook book.old s × ShowsPost post.old s × ShowsCell a.0 cell.old s) (λ w s. ShowsBook book.new s × ShowsPost post.new s × ShowsCell a.0 cell.new s)) }
+    ensures room { book.new.most ≡ book.old.most }
     ensures no { IfErr result (IsNo {C = C} (Ask t.0 a.0) (λ w s. ShowsBook book.old s × ShowsPost post.old s × ShowsCell a.0 cell.old s)) }
     ensures book { OnErr result (book.new ≡ book.old) }
     ensures post { OnErr result (post.new ≡ post.old) }

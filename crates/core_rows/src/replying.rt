@@ -2,7 +2,7 @@
 ghost use Rattle.std.specs.Prelude.{◌≡◌, OnOk, OnErr, IfErr};
 ghost use Rattle.protocol.specs.Events.{Reply};
 ghost use Rattle.core_rows.specs.Showing.{ShowsBook, ShowsDesk};
-ghost use Rattle.core_rows.specs.Taken.{IsOfRun, IsTaken, IsRefusal, IsNo};
+ghost use Rattle.core_rows.specs.Taken.{IsOfRun, IsTaken, IsRefusal, IsNo, IsRule};
 
 use crate::StepNo;
 use crate::asking::first_no;
@@ -25,6 +25,7 @@ pub fn reply<C>(book: &BookPart, desk: &mut Desk, n: TxNo) -> Result<(), StepNo>
     requires { IsOfRun {C = C} (λ w s. ShowsBook book.now s × ShowsDesk desk.old s) }
     ensures ok { OnOk result (IsTaken {C = C} (Reply n.0) (λ w s. ShowsBook book.now s × ShowsDesk desk.old s) (λ w s. ShowsBook book.now s × ShowsDesk desk.new s)) }
     ensures no { IfErr result (IsNo {C = C} (Reply n.0) (λ w s. ShowsBook book.now s × ShowsDesk desk.old s)) }
+    ensures rule { IfErr result IsRule }
     ensures unchanged { OnErr result (desk.new ≡ desk.old) }
 {
     let rule = reply_refusal::<C>(book, desk, n);

@@ -2,7 +2,7 @@
 ghost use Rattle.std.specs.Prelude.{◌≡◌, OnOk, OnErr, IfErr};
 ghost use Rattle.protocol.specs.Events.{Pass};
 ghost use Rattle.core_rows.specs.Showing.{ShowsRing};
-ghost use Rattle.core_rows.specs.Taken.{IsOfRun, IsTaken, IsRefusal, IsNo};
+ghost use Rattle.core_rows.specs.Taken.{IsOfRun, IsTaken, IsRefusal, IsNo, IsRule};
 
 use crate::StepNo;
 use crate::asking::first_no;
@@ -26,6 +26,7 @@ pub fn pass<C>(ring: &mut Ring, c: u8) -> Result<(), StepNo>
     requires { IsOfRun {C = C} (λ w s. ShowsRing ring.old s) }
     ensures ok { OnOk result (IsTaken {C = C} (Pass c) (λ w s. ShowsRing ring.old s) (λ w s. ShowsRing ring.new s)) }
     ensures no { IfErr result (IsNo {C = C} (Pass c) (λ w s. ShowsRing ring.old s)) }
+    ensures rule { IfErr result IsRule }
     ensures unchanged { OnErr result (ring.new ≡ ring.old) }
 {
     rows_may::<C>();

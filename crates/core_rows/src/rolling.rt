@@ -2,7 +2,7 @@
 ghost use Rattle.std.specs.Prelude.{◌≡◌, OnOk, OnErr, IfErr};
 ghost use Rattle.protocol.specs.Events.{Rollback};
 ghost use Rattle.core_rows.specs.Showing.{ShowsBook, ShowsCell};
-ghost use Rattle.core_rows.specs.Taken.{IsOfRun, IsTaken, IsRefusal, IsNo};
+ghost use Rattle.core_rows.specs.Taken.{IsOfRun, IsTaken, IsRefusal, IsNo, IsRule};
 
 use crate::StepNo;
 use crate::asking::first_no;
@@ -25,6 +25,7 @@ pub fn rollback<C: Drop>(book: &BookPart, cell: &mut CellPart<C>, a: ActorId) ->
     requires { IsOfRun {C = C} (λ w s. ShowsBook book.now s × ShowsCell a.0 cell.old s) }
     ensures ok { OnOk result (IsTaken {C = C} (Rollback a.0) (λ w s. ShowsBook book.now s × ShowsCell a.0 cell.old s) (λ w s. ShowsBook book.now s × ShowsCell a.0 cell.new s)) }
     ensures no { IfErr result (IsNo {C = C} (Rollback a.0) (λ w s. ShowsBook book.now s × ShowsCell a.0 cell.old s)) }
+    ensures rule { IfErr result IsRule }
     ensures unchanged { OnErr result (cell.new ≡ cell.old) }
 {
     rows_may::<C>();

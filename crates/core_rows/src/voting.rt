@@ -2,7 +2,7 @@
 ghost use Rattle.std.specs.Prelude.{◌≡◌, ◌%◌, OnOk, OnErr, IfErr};
 ghost use Rattle.protocol.specs.Events.{Seal, Vouch};
 ghost use Rattle.core_rows.specs.Showing.{ShowsBook, ShowsLogAt};
-ghost use Rattle.core_rows.specs.Taken.{IsTaken, IsRefusal, IsNo};
+ghost use Rattle.core_rows.specs.Taken.{IsTaken, IsRefusal, IsNo, IsRule};
 
 use crate::StepNo;
 use crate::asking::first_no;
@@ -23,7 +23,9 @@ pub fn vouch_refusal<C>(book: &BookPart, log: &LogPart, t: Tid, a: ActorId) -> u
 /// Vouch: the state that the ACT left on the actor is durable.
 pub fn vouch<C>(book: &mut BookPart, log: &LogPart, t: Tid, a: ActorId) -> Result<(), StepNo>
     ensures ok { OnOk result (IsTaken {C = C} (Vouch t.0 a.0) (λ w s. ShowsBook book.old s × ShowsLogAt (a.0 % w.text.logs) log.now s) (λ w s. ShowsBook book.new s × ShowsLogAt (a.0 % w.text.logs) log.now s)) }
+    ensures room { book.new.most ≡ book.old.most }
     ensures no { IfErr result (IsNo {C = C} (Vouch t.0 a.0) (λ w s. ShowsBook book.old s × ShowsLogAt (a.0 % w.text.logs) log.now s)) }
+    ensures rule { IfErr result IsRule }
     ensures unchanged { OnErr result (book.new ≡ book.old) }
 {
     books_go_on::<C>();
@@ -47,7 +49,9 @@ pub fn seal_refusal<C>(book: &BookPart, log: &LogPart, t: Tid) -> u8
 /// Seal: the commit of the ACT is durable.
 pub fn seal<C>(book: &mut BookPart, log: &LogPart, t: Tid) -> Result<(), StepNo>
     ensures ok { OnOk result (IsTaken {C = C} (Seal t.0) (λ w s. ShowsBook book.old s × ShowsLogAt (t.0 % w.text.logs) log.now s) (λ w s. ShowsBook book.new s × ShowsLogAt (t.0 % w.text.logs) log.now s)) }
+    ensures room { book.new.most ≡ book.old.most }
     ensures no { IfErr result (IsNo {C = C} (Seal t.0) (λ w s. ShowsBook book.old s × ShowsLogAt (t.0 % w.text.logs) log.now s)) }
+    ensures rule { IfErr result IsRule }
     ensures unchanged { OnErr result (book.new ≡ book.old) }
 {
     books_go_on::<C>();

@@ -5,7 +5,7 @@ use Rattle.snap_base.specs.declared.ids.Tid.{Tid}
 use Rattle.txn_records.specs.declared.records.Record.{Record}
 use Rattle.txn_records.specs.declared.records.Record.TheVariants as records
 use Rattle.protocol.specs.Records.{LogRecord, BatchInfo, BatchComplete, BatchCommit, ActPrepare, ActCommit}
-use Rattle.log_part.specs.Told.{told, actor_of, tid_of}
+use Rattle.record_words.specs.Told.{told, actor_of, tid_of}
 use Rattle.log_part.specs.Laws.{ToldOnce}
 
 abbrev actors_back : List ActorId → List ℕ

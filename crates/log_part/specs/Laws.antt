@@ -6,7 +6,7 @@ use Rattle.snap_base.specs.declared.ids.Tid.{Tid}
 use Rattle.txn_records.specs.declared.keys.Key.TheVariants.{Info, Complete, Commit, Prepare, Act}
 use Rattle.log_set.specs.Keys.{is_key}
 use Rattle.protocol.specs.Records.{LogRecord, is_info, is_complete, is_commit, is_prepare, is_act_commit}
-use Rattle.log_part.specs.Told.{told}
+use Rattle.record_words.specs.Told.{told}
 use Rattle.log_part.specs.Shown.{told_key}
 
 -- it has the key exactly where it is of that kind, and about the same

@@ -5,7 +5,7 @@ use Rattle.txn_records.specs.Records.{key, record_bytes}
 use Rattle.log_set.specs.Logs.{LogList}
 use Rattle.protocol.specs.Parts.{Log}
 use Rattle.protocol.specs.Records.{LogRecord}
-use Rattle.log_part.specs.Told.{told}
+use Rattle.record_words.specs.Told.{told}
 
 abbrev pub told_key : LogRecord → Key
 told_key r = key (told r)

@@ -6,7 +6,7 @@ ghost use Rattle.protocol.specs.Parts.{Log};
 ghost use Rattle.protocol.specs.Records.{LogRecord};
 ghost use Rattle.log_part.specs.Items.{item_of};
 ghost use Rattle.log_part.specs.Shown.{ShowsLog, told_bytes};
-ghost use Rattle.log_part.specs.Told.{told};
+ghost use Rattle.record_words.specs.Told.{told};
 
 use crate::Item;
 use log_set::Pending;

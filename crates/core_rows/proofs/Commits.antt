@@ -1,0 +1,68 @@
+-- The commit record of an ACT that is decided: it can be spelled, and it is the machine's.
+use Rattle.std.proofs.Common.{◌≡◌, ◌==◌, ℕ, ◌<◌, ◌≤◌, ◌^◌, Bool, true, false, if◌then◌else◌, Option, Some, None, List, [], ◌∷◌, ◌++◌, length, map, refl, ap, sym, subst, ◌∙◌, arith}
+use Rattle.std.proofs.lemmas.Bool.{eqb-true}
+use Rattle.std.proofs.lemmas.List.{append-nil, length-map}
+use Rattle.snap_base.specs.declared.ids.ActorId.{ActorId}
+use Rattle.protocol.specs.Effects.{act_commit, added, ascending}
+use Rattle.protocol.specs.Parts.{Act, Log}
+use Rattle.protocol.specs.Records.{ActCommit}
+use Rattle.protocol.specs.Words.{act_of, is_value}
+use Rattle.book_part.specs.Commits.{records_of}
+use Rattle.book_part.specs.declared.commit.Commit.{Commit}
+use Rattle.core_facts.specs.RowsMay.{IsActRecord}
+use Rattle.record_words.specs.Told.{actor_of, told}
+use Rattle.txn_records.specs.Records.{Ascend, actor_numbers, IsAct}
+use Rattle.txn_records.specs.declared.records.Record.TheVariants as records
+use Rattle.core_rows.specs.Commits.{HasSpelling}
+
+-- ---- it can be spelled
+
+-- an ACT is found by its number
+pub act_number : (t : ℕ) (acts : List Act) (x : Act) → act_of t acts ≡ Some x → x.tid ≡ t
+act_number t [] x e = absurd (cc e)
+act_number t (y ∷ ys) x e = by (y.tid == t) refl e (act_number t ys x)
+  where
+    by : (b : Bool) → (y.tid == t) ≡ b → (if b then Some y else act_of t ys) ≡ Some x → (act_of t ys ≡ Some x → x.tid ≡ t) → x.tid ≡ t
+    by true q e k = let same : y ≡ x = cc e in subst (λ z. z.tid ≡ t) same (eqb-true y.tid t q)
+    by false q e k = k e
+
+-- the numbers of the record are those of the ACT
+is_act : (c : Commit) (t m n : ℕ) (actors : List ℕ) → c.tid.0 ≡ t → c.before.0 ≡ m → c.number ≡ n → actor_numbers c.actors ≡ actors → IsActRecord t m n actors → IsAct c.tid c.before c.number c.actors
+is_act c t m n actors tid before number same r =
+    let len : length c.actors ≡ length actors = sym (length-map c.actors (λ (a : ActorId). a.0)) ∙ ap length same in
+    record {
+      tid_fits = omega (arith, tid, r.tid_fits);
+      m_fits = omega (arith, before, r.m_fits);
+      c_fits = omega (arith, number, r.c_fits);
+      some = omega (arith, len, r.some);
+      few = omega (arith, len, r.few);
+      ascend = subst (Ascend 0 (2 ^ 16)) (sym same) r.ascend;
+    }
+
+pub spelled : (c : Option Commit) (n t : ℕ) (o : Option Act) → records_of c ≡ act_commit n o → ((x : Act) → o ≡ Some x → (x.tid ≡ t) × IsActRecord t x.m n (ascending (map (λ p. p.actor) x.places))) → HasSpelling c
+spelled None n t o same facts = tt
+spelled (Some c) n t None same facts = absurd (cc same)
+spelled (Some c) n t (Some x) same facts = by (is_value x.result) same
+  where
+    by : (b : Bool) → (ActCommit c.tid.0 c.before.0 c.number (actor_numbers c.actors) ∷ []) ≡ (if b then ActCommit x.tid x.m n (ascending (map (λ p. p.actor) x.places)) ∷ [] else []) → HasSpelling (Some c)
+    by false same = absurd (cc same)
+    by true same =
+        let f = facts x refl in
+        let tid : c.tid.0 ≡ x.tid = cc same in
+        let before : c.before.0 ≡ x.m = cc same in
+        let number : c.number ≡ n = cc same in
+        let actors : actor_numbers c.actors ≡ ascending (map (λ p. p.actor) x.places) = cc same in
+        is_act c t x.m n (ascending (map (λ p. p.actor) x.places)) (tid ∙ f.0) before number actors f.1
+
+-- ---- it is the machine's
+
+same_actors : (actors : List ActorId) → map actor_of (actor_numbers actors) ≡ actors
+same_actors [] = refl
+same_actors (a ∷ others) = ap (λ xs. a ∷ xs) (same_actors others)
+
+pub told_commit : (c : Commit) → records.ActCommit c.tid c.before c.number c.actors ≡ told (ActCommit c.tid.0 c.before.0 c.number (actor_numbers c.actors))
+told_commit c = ap (λ xs. records.ActCommit c.tid c.before c.number xs) (sym (same_actors c.actors))
+
+-- where there is no record the log stays
+pub nothing_added : (l : Log) → added [] l ≡ l
+nothing_added l = ap (λ xs. record l { records = xs }) (append-nil l.records)
