@@ -1,0 +1,36 @@
+//! What a core tells: what became of a transaction, an actor's state, and the records that wait for a sync.
+ghost use Rattle.std.specs.Prelude.{◌≡◌, ◌<◌, List, length, map, drop, IfOk};
+ghost use Rattle.log_part.specs.Shown.{told_bytes};
+ghost use Rattle.protocol.specs.Effects.{cell_at, log_at};
+ghost use Rattle.protocol.specs.Events as machine;
+ghost use Rattle.protocol.specs.Verdicts.{verdict};
+ghost use Rattle.snap_core.specs.Cores.{IsAt, state_at};
+
+use crate::Core;
+use snap_base::{ActorId, Memory, Sequence, State, TxNo, Verdict};
+use std::alloc::Global;
+
+impl Core {
+    /// What became of transaction `n` of the text; `None` where it is not known yet.
+    pub fn verdict(&self, n: TxNo) -> Option<Verdict>
+        ensures { (es : List machine.Event) → IsAt self.now es → result ≡ verdict n.0 (state_at self.now es).book (state_at self.now es).desk }
+    {
+        core_rows::verdict(self.hand.book(), self.hand.desk(), n)
+    }
+
+    /// The state of actor `a`, which exists.
+    pub fn state(&self, a: ActorId) -> State
+        requires { a.0 < length self.now.tables.opening.states }
+        ensures { (es : List machine.Event) → IsAt self.now es → result ≡ (cell_at (state_at self.now es) a.0).state }
+    {
+        self.hand.cell(a).state()
+    }
+
+    /// The records of log `l`, which exists, that wait for a sync: the bytes of each, in the order in which they were added.
+    pub fn group(&self, alloc: Global, l: u8) -> Result<Sequence<Sequence<u8>>, Memory>
+        requires { l < self.now.tables.work.logs }
+        ensures { IfOk result (λ pieces. (es : List machine.Event) → IsAt self.now es → pieces ≡ map told_bytes (drop (log_at (state_at self.now es) l).synced (log_at (state_at self.now es) l).records)) }
+    {
+        self.hand.log(l as usize).group(alloc)
+    }
+}
