@@ -1,5 +1,5 @@
 //! The tokens of the method language: what its words, numbers and signs are, where each stands in a
-//! text, and the first piece of a text that is no token. `aml_tree` reads programs of them.
+//! text, and the first piece of a text that is no token. `aml_parser` reads programs of them.
 //!
 //! How bytes make tokens is `specs/Lexing.antt`. Reading never fails but for want of memory: a piece
 //! that is no token is told with its place and what is wrong with it.
