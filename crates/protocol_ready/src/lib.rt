@@ -10,4 +10,4 @@ pub use laws::{
     allowed_lies_there, enabled_is_found, enabled_is_kept, enabled_is_renewed, parts_tell_all,
     states_are_sound, unlooked_stay, untouched_stay,
 };
-pub use order::{events_stay_in_order, ranks_are_in_order};
+pub use order::{events_stay_in_order, one_is_put, ranks_are_in_order};

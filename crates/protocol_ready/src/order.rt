@@ -1,6 +1,6 @@
 //! The order of events, and what putting in and taking out leave. Each is called to cite it.
 
-ghost use Rattle.std.specs.Prelude.{◌≡◌, true, false, List};
+ghost use Rattle.std.specs.Prelude.{◌≡◌, ◌↔◌, ◌⊎◌, true, false, Contains, List};
 ghost use Rattle.protocol.specs.Events.{Event};
 ghost use Rattle.protocol.specs.Schedule.{Ascends, Rank, is_rank_below};
 ghost use Rattle.protocol_ready.specs.Ready.{put, without};
@@ -17,4 +17,9 @@ pub fn ranks_are_in_order()
 pub fn events_stay_in_order()
     ensures put { (e : Event) (es : List Event) → Ascends es → Ascends (put e es) }
     ensures without { (e : Event) (es : List Event) → Ascends es → Ascends (without e es) }
+{}
+
+/// With an event put in there is just that one more.
+pub fn one_is_put()
+    ensures { (e : Event) (es : List Event) (f : Event) → Contains (put e es) f ↔ ((f ≡ e) ⊎ Contains es f) }
 {}

@@ -1,24 +1,25 @@
 -- A core whose hand takes an event, and the run that it has come from.
-use Rattle.std.proofs.Common.{◌≡◌, ℕ, Some, Result, Ok, Err, OnOk, OnErr, IfOk, IfErr, map, drop, List, [], ◌∷◌, ◌++◌, slice_get, refl, sym, ap, subst, ◌∙◌}
+use Rattle.std.proofs.Common.{◌≡◌, ℕ, Result, Ok, Err, OnOk, OnErr, IfOk, IfErr, map, drop, List, [], ◌∷◌, ◌++◌, slice_get, refl, sym, ap, subst, ◌∙◌}
 use Rattle.std.specs.List.{AllByRecursion}
 use Rattle.aml_slice.specs.Controls.{Rest}
 use Rattle.core_rows.specs.OnRuns.{HasRun}
 use Rattle.core_rows.specs.declared.step_no.StepNo.{StepNo}
 use Rattle.core_rows.specs.declared.step_no.StepNo.TheVariants.{NotNow, Memory}
 use Rattle.protocol.specs.Conditions.{IsAllowed}
-use Rattle.log_part.specs.Shown.{ShowsLog, told_bytes}
-use Rattle.log_set.specs.Logs.{LogList}
-use Rattle.std.proofs.lemmas.Option.{get_or_from_slice_get}
-use Rattle.protocol.specs.Effects.{after, no_log, log_at}
+use Rattle.log_part.specs.Shown.{told_bytes}
+use Rattle.protocol.specs.Effects.{after, log_at}
 use Rattle.protocol.specs.Events.{Event, footprint}
 use Rattle.protocol.specs.Fixed.{Fixed}
-use Rattle.protocol.specs.Parts.{Log, Machine}
+use Rattle.protocol.specs.Parts.{Machine}
+use Rattle.protocol.specs.Schedule.{IsEnabled}
+use Rattle.hand_offers.specs.Offers.{AreOffers}
+use Rattle.ready_list.specs.Order.{Roomed}
 use Rattle.protocol.specs.Runs.{EachAllowed, IsRun, state_after, reached, opening}
-use Rattle.snap_core.specs.Cores.{CoreState, IsCore, IsAt, IsTakenBy, IsRefusalBy, IsNoBy}
-use Rattle.snap_core.specs.Hands.{Parts, Fits, Has, IsWhole}
-use Rattle.snap_core.specs.Steps.{MayBeAsked, IsRefusalOn, IsStep}
-use Rattle.snap_core.specs.Tables.{fixed_of}
-use Rattle.snap_core.specs.declared.tables.Tables.{Tables}
+use Rattle.snap_core.specs.Cores.{CoreState, IsCore, IsAt, state_at, IsTakenBy, IsRefusalBy, IsNoBy}
+use Rattle.snap_hand.specs.Hands.{Parts, Fits, Has, IsWhole}
+use Rattle.snap_hand.specs.Steps.{MayBeAsked, IsRefusalOn, IsStep}
+use Rattle.snap_hand.specs.Tables.{fixed_of}
+use Rattle.snap_hand.specs.declared.tables.Tables.{Tables}
 
 abbrev pub core_of : Tables → Parts → CoreState
 core_of t h = record { tables = t; hand = h }
@@ -77,14 +78,31 @@ still_core t e old new (Ok _) on step c =
     }
 still_core t e old new (Err n) on step c = subst (IsCore t) (sym step.1) c
 
--- ---- what waits for a sync, in each state that the core shows
+-- ---- what waits for a sync
 
-pub group_told : {At : List Event → Type 0} {E : Type 0} (r : Result (List (List ℕ)) E) (list : LogList)
-    → ((x : Log) → ShowsLog list x → IfOk r (λ pieces. pieces ≡ map told_bytes (drop x.synced x.records)))
-    → (s : (es : List Event) → At es → Machine Rest) (l : ℕ)
-    → ((es : List Event) (at : At es) → (x : Log) × ((slice_get (s es at).logs l ≡ Some x) × ShowsLog list x))
-    → IfOk r (λ pieces. (es : List Event) (at : At es) → pieces ≡ map told_bytes (drop (log_at (s es at) l).synced (log_at (s es at) l).records))
-group_told (Err e) list shows s l there = tt
-group_told (Ok pieces) list shows s l there = λ es at.
-    let x = there es at in
-    shows x.0 x.1.1 ∙ ap (λ y. map told_bytes (drop y.synced y.records)) (sym (get_or_from_slice_get (s es at).logs l x.0 no_log x.1.0))
+pub group_at : {E : Type 0} (core : CoreState) (t : Tables) (h : Parts) → core_of t h ≡ core → (r : Result (List (List ℕ)) E) (l : ℕ)
+    → IfOk r (λ pieces. (s : Machine Rest) → Fits h s → pieces ≡ map told_bytes (drop (log_at s l).synced (log_at s l).records))
+    → IfOk r (λ pieces. (es : List Event) → IsAt core es → pieces ≡ map told_bytes (drop (log_at (state_at core es) l).synced (log_at (state_at core es) l).records))
+group_at core t h view (Err e) l told = tt
+group_at core t h view (Ok pieces) l told = λ es at. told (state_at core es) (subst (λ z. Fits z.hand (state_at core es)) (sym view) at.fits)
+
+-- ---- with all parts at hand all allowed events are offered
+
+enabled_in : {E : Type 0} (t : Tables) (h : Parts) → IsCore t h → ((es : List Event) → IsRun (fixed_of t) es → HasRun (fixed_of t) (reached (fixed_of t) es))
+    → (r : Result Roomed E) → IfOk r (λ l. AreOffers (fixed_of t) h l.events)
+    → IfOk r (λ l. (es : List Event) → IsAt (core_of t h) es → IsEnabled (fixed_of t) (state_at (core_of t h) es) l.events)
+enabled_in t h is lead (Err e) offers = tt
+enabled_in t h is lead (Ok l) offers = λ es at.
+    let w = fixed_of t in
+    let s = reached w es in
+    record {
+      all = λ e.
+          let told = offers.all s (lead es at.run) at.fits e in
+          ((λ within. (told.0 within).0), (λ allowed. told.1 (allowed, all_here h is.whole (footprint w.text.logs e))));
+      ascends = offers.ascends;
+    }
+
+pub enabled_at : {E : Type 0} (core : CoreState) (t : Tables) (h : Parts) → core_of t h ≡ core → IsCore t h → ((es : List Event) → IsRun (fixed_of t) es → HasRun (fixed_of t) (reached (fixed_of t) es))
+    → (r : Result Roomed E) → IfOk r (λ l. AreOffers (fixed_of t) h l.events)
+    → IfOk r (λ l. (es : List Event) → IsAt core es → IsEnabled (fixed_of core.tables) (state_at core es) l.events)
+enabled_at core t h view is lead r offers = subst (λ z. IfOk r (λ l. (es : List Event) → IsAt z es → IsEnabled (fixed_of z.tables) (state_at z es) l.events)) view (enabled_in t h is lead r offers)

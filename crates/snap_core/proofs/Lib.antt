@@ -1,11 +1,3 @@
-pub mod InLists
-pub mod Held
-pub mod Refits
-pub mod SlicesHere
-pub mod Stepping
-pub mod AtActors
-pub mod Nowhere
-pub mod LogSteps
-pub mod Begins
-pub mod Opens
 pub mod CoreRuns
+pub mod Together
+pub mod InOrder

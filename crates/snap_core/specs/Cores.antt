@@ -7,10 +7,10 @@ use Rattle.protocol.specs.Conditions.{IsAllowed, refusal}
 use Rattle.protocol.specs.Events.{Event}
 use Rattle.protocol.specs.Parts.{Machine}
 use Rattle.protocol.specs.Runs.{IsRun, reached}
-use Rattle.snap_core.specs.Hands.{Parts, Fits, IsHandOf, IsWhole}
-use Rattle.snap_core.specs.Steps.{OnSomeRun, may_want}
-use Rattle.snap_core.specs.Tables.{AreTables, fixed_of}
-use Rattle.snap_core.specs.declared.tables.Tables.{Tables}
+use Rattle.snap_hand.specs.Hands.{Parts, Fits, IsHandOf, IsWhole}
+use Rattle.snap_hand.specs.Steps.{OnSomeRun, may_want}
+use Rattle.snap_hand.specs.Tables.{AreTables, fixed_of}
+use Rattle.snap_hand.specs.declared.tables.Tables.{Tables}
 
 pub record CoreState : Type 0 where
   pub tables : Tables

@@ -1,4 +1,3 @@
-pub mod Tables
-pub mod Hands
-pub mod Steps
 pub mod Cores
+pub mod Apart
+pub mod AllVerdicts

@@ -1,21 +1,31 @@
-//! What a core tells: what became of a transaction, an actor's state, and the records that wait for a sync.
+//! What a core tells: its text, what became of a transaction, an actor's state, and the records that wait for a sync.
 ghost use Rattle.std.specs.Prelude.{◌≡◌, ◌<◌, List, length, map, drop, IfOk};
 ghost use Rattle.log_part.specs.Shown.{told_bytes};
 ghost use Rattle.protocol.specs.Effects.{cell_at, log_at};
 ghost use Rattle.protocol.specs.Events as machine;
 ghost use Rattle.protocol.specs.Verdicts.{verdict};
 ghost use Rattle.snap_core.specs.Cores.{IsAt, state_at};
+ghost use Rattle.snap_hand.specs.Tables.{AreTables};
 
 use crate::Core;
 use snap_base::{ActorId, Memory, Sequence, State, TxNo, Verdict};
+use snap_hand::Tables;
 use std::alloc::Global;
 
 impl Core {
+    /// The text that it runs, which is accepted, and what its logs recovered to.
+    pub fn tables(&self) -> &Tables
+        ensures same { result.now ≡ self.now.tables }
+        ensures accepted { AreTables result.now }
+    {
+        &self.tables
+    }
+
     /// What became of transaction `n` of the text; `None` where it is not known yet.
     pub fn verdict(&self, n: TxNo) -> Option<Verdict>
         ensures { (es : List machine.Event) → IsAt self.now es → result ≡ verdict n.0 (state_at self.now es).book (state_at self.now es).desk }
     {
-        core_rows::verdict(self.hand.book(), self.hand.desk(), n)
+        self.hand.verdict(n)
     }
 
     /// The state of actor `a`, which exists.
@@ -23,7 +33,7 @@ impl Core {
         requires { a.0 < length self.now.tables.opening.states }
         ensures { (es : List machine.Event) → IsAt self.now es → result ≡ (cell_at (state_at self.now es) a.0).state }
     {
-        self.hand.cell(a).state()
+        self.hand.state(a)
     }
 
     /// The records of log `l`, which exists, that wait for a sync: the bytes of each, in the order in which they were added.
@@ -31,6 +41,6 @@ impl Core {
         requires { l < self.now.tables.work.logs }
         ensures { IfOk result (λ pieces. (es : List machine.Event) → IsAt self.now es → pieces ≡ map told_bytes (drop (log_at (state_at self.now es) l).synced (log_at (state_at self.now es) l).records)) }
     {
-        self.hand.log(l as usize).group(alloc)
+        self.hand.group(alloc, l)
     }
 }

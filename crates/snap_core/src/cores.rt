@@ -4,14 +4,14 @@ ghost use Rattle.protocol.specs.Events as machine;
 ghost use Rattle.protocol.specs.Runs.{IsRun, reached};
 ghost use Rattle.core_events.specs.Meant.{event_meant};
 ghost use Rattle.snap_core.specs.Cores.{IsAt, IsTakenBy, IsRefusalBy, IsNoBy};
-ghost use Rattle.snap_core.specs.Tables.{AreTables, fixed_of};
+ghost use Rattle.snap_hand.specs.Tables.{AreTables, fixed_of};
 
-use crate::{Hand, Tables, apply, refusal};
 use aml_slice::Control;
 use core_events::Event;
-use core_rows::{StepNo, runs_go_on};
+use core_rows::runs_go_on;
 use machine_laws::texts_have_the_facts;
 use snap_base::Memory;
+use snap_hand::{Hand, StepNo, Tables, apply, refusal};
 use std::alloc::Global;
 use std::marker::Model;
 
@@ -73,7 +73,7 @@ impl Core {
 }
 
 /// A state to which a run of the tables' text leads is one of which the rows speak.
-fn runs_lead(tables: &Tables)
+pub(crate) fn runs_lead(tables: &Tables)
     requires { AreTables tables.now }
     ensures { (es : List machine.Event) → IsRun (fixed_of tables.now) es → HasRun (fixed_of tables.now) (reached (fixed_of tables.now) es) }
 {

@@ -1,6 +1,6 @@
 use Rattle.std.proofs.Common.{[]}
 use Rattle.protocol.specs.Runs.{opening}
-use Rattle.snap_core.specs.Tables.{fixed_of}
+use Rattle.snap_hand.specs.Tables.{fixed_of}
 use Rattle.snap_core.proofs.cores.Core.open.Goals as goal
 
 pub invariant_of-result : goal.invariant_of-result

@@ -1,0 +1,13 @@
+use Rattle.std.proofs.Common.{arith}
+use Rattle.snap_hand.specs.Tables.{fixed_of}
+use Rattle.hand_offers.proofs.Lists.{read_same}
+use Rattle.hand_offers.proofs.Picking.{chosen_more}
+use Rattle.hand_offers.proofs.choosing.chosen.Goals as goal
+
+pub loop-e-preserved : goal.loop-e-preserved
+loop-e-preserved c = record {
+  room = omega (arith, c.look.ensures.room, c.loop-e.invariant.room);
+  chosen =
+      chosen_more (fixed_of c.args.tables.now) c.args.hand.now c.args.events.now c.loop-e.e-index _ c.loop-e.list.events c.look.new.list.events
+      c.loop-e-test.true (read_same c.args.events.now c.loop-e.e-index _ _ c.loop-e-test.true) c.loop-e.invariant.chosen c.look.ensures.looked;
+}

@@ -1,0 +1,35 @@
+//! Events behind others.
+ghost use Rattle.std.specs.Prelude.{[], ◌∷◌, OnOk};
+ghost use Rattle.core_events.specs.Meant.{event_meant};
+ghost use Rattle.hand_offers.specs.Listed.{Adds};
+
+use core_events::Event;
+use snap_base::Memory;
+
+pub(crate) fn push_one(events: &mut Vec<Event>, e: Event) -> Result<(), Memory>
+    ensures { OnOk result (Adds events.old.items events.new.items (event_meant e ∷ [])) }
+{
+    events.push(e)?;
+    Ok(())
+}
+
+pub(crate) fn push_two(events: &mut Vec<Event>, e: Event, f: Event) -> Result<(), Memory>
+    ensures { OnOk result (Adds events.old.items events.new.items (event_meant e ∷ event_meant f ∷ [])) }
+{
+    push_one(events, e)?;
+    push_one(events, f)?;
+    Ok(())
+}
+
+pub(crate) fn push_three(
+    events: &mut Vec<Event>,
+    e: Event,
+    f: Event,
+    g: Event,
+) -> Result<(), Memory>
+    ensures { OnOk result (Adds events.old.items events.new.items (event_meant e ∷ event_meant f ∷ event_meant g ∷ [])) }
+{
+    push_two(events, e, f)?;
+    push_one(events, g)?;
+    Ok(())
+}

@@ -1,6 +1,0 @@
-use Rattle.std.proofs.Common.{◌≡◌, Some, map, option_map, replicate}
-use Rattle.log_set.specs.Logs.{no_records}
-use Rattle.snap_core.proofs.opening.new_logs.Given as goal
-
-abbrev pub invariant-loop-made : goal.invariant-loop-made
-invariant-loop-made l = map (option_map (λ x. x.log)) l.logs.items ≡ replicate l._made (Some no_records)

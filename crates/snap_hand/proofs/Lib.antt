@@ -1,0 +1,15 @@
+pub mod InLists
+pub mod Held
+pub mod Refits
+pub mod SlicesHere
+pub mod Stepping
+pub mod AtActors
+pub mod Nowhere
+pub mod LogSteps
+pub mod Begins
+pub mod Opens
+pub mod Waiting
+pub mod TablesHold
+pub mod Numbered
+pub mod PartsFit
+pub mod OneHand

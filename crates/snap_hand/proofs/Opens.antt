@@ -1,0 +1,118 @@
+-- The hand that a run begins with.
+use Rattle.std.proofs.Common.{◌≡◌, ℕ, zero, suc, ◌≤◌, Bool, true, false, Option, Some, is_some, List, [], ◌∷◌, ◌++◌, length, map, replicate, slice_get, refl, sym, ap, subst, ◌∙◌, arith}
+use Rattle.std.proofs.lemmas.List.{length-map, length-replicate}
+use Rattle.snap_base.specs.declared.transactions.State.{State}
+use Rattle.aml_slice.specs.Controls.{Rest}
+use Rattle.book_part.specs.Halves.{Halves, Shows}
+use Rattle.log_part.specs.Shown.{ShowsLog}
+use Rattle.log_set.specs.Logs.{LogList, no_records}
+use Rattle.protocol.specs.BookParts.{no_orders, no_votes}
+use Rattle.protocol.specs.Effects.{no_log}
+use Rattle.protocol.specs.Fixed.{Fixed, base}
+use Rattle.protocol.specs.Parts.{Ring, Post, Desk, Cell}
+use Rattle.protocol.specs.Runs.{new_cell, opening, opening_book}
+use Rattle.snap_hand.specs.Hands.{Parts, Fits, IsHandOf, IsWhole, are_there}
+
+some_is : {X : Type 0} {x y : X} → Some x ≡ Some y → x ≡ y
+some_is h = cc h
+
+-- ---- all are there
+
+data AllTrue : List Bool → Type 0 where
+  none : AllTrue []
+  more : (bs : List Bool) → AllTrue bs → AllTrue (true ∷ bs)
+
+true_at : (bs : List Bool) → AllTrue bs → (i : ℕ) → slice_get bs i ≡ Some false → ⊥
+true_at [] none i e = absurd (cc e)
+true_at (false ∷ bs) t i e = elim t [ ]
+true_at (true ∷ bs) (more _ t) zero e = cc e
+true_at (true ∷ bs) (more _ t) (suc i) e = true_at bs t i e
+
+-- ---- lists of parts
+
+made_at : {X : Type 0} (n : ℕ) (x y : X) (i : ℕ) → slice_get (replicate n x) i ≡ Some y → x ≡ y
+made_at zero x y i e = absurd (cc e)
+made_at (suc n) x y zero e = cc e
+made_at (suc n) x y (suc i) e = made_at n x y i e
+
+same_at : {X Y : Type 0} (n : ℕ) (x : X) (y z : Y) (i : ℕ) → slice_get (replicate n y) i ≡ Some z → slice_get (replicate n x) i ≡ Some x
+same_at zero x y z i e = absurd (cc e)
+same_at (suc n) x y z zero e = refl
+same_at (suc n) x y z (suc i) e = same_at n x y z i e
+
+mapped_at : {X Y : Type 0} (f : X → Y) (xs : List X) (i : ℕ) (y : Y) → slice_get (map (λ x. Some (f x)) xs) i ≡ Some (Some y) → slice_get (map f xs) i ≡ Some y
+mapped_at f [] i y e = absurd (cc e)
+mapped_at f (x ∷ xs) zero y e = cc e
+mapped_at f (x ∷ xs) (suc i) y e = mapped_at f xs i y e
+
+some_made : {X : Type 0} (n : ℕ) (x : X) → map is_some (replicate n (Some x)) ≡ replicate n true
+some_made zero x = refl
+some_made (suc n) x = ap (λ bs. true ∷ bs) (some_made n x)
+
+all_made : (n : ℕ) (bs : List Bool) → AllTrue bs → AllTrue (replicate n true ++ bs)
+all_made zero bs t = t
+all_made (suc n) bs t = more _ (all_made n bs t)
+
+all_mapped : {X Y : Type 0} (f : X → Y) (xs : List X) → AllTrue (map is_some (map (λ x. Some (f x)) xs))
+all_mapped f [] = none
+all_mapped f (x ∷ xs) = more _ (all_mapped f xs)
+
+-- ---- the opening
+
+abbrev pub opening_halves : Fixed Rest → Halves
+opening_halves w = record { orders = no_orders; votes = no_votes w.text.opening.next_c; cascades = []; most = length w.text.txs }
+
+abbrev pub opening_parts : Fixed Rest → Parts
+opening_parts w = record {
+  ring = Some (opening w).ring;
+  book = Some (opening_halves w);
+  post = Some (opening w).post;
+  desk = Some (opening w).desk;
+  logs = replicate w.text.logs (Some no_records);
+  cells = map (λ s. Some (new_cell (base w.text) s)) w.text.opening.states;
+}
+
+no_log_shown : ShowsLog no_records no_log
+no_log_shown = record { keys = refl; synced = refl; within = omega arith; waiting = refl }
+
+pub opening_fits : (w : Fixed Rest) → Shows (opening_halves w) (opening_book w) → Fits (opening_parts w) (opening w)
+opening_fits w shows = record {
+  ring = λ x e. some_is e;
+  book = λ x e. subst (λ h. Shows h (opening_book w)) (some_is e) shows;
+  post = λ x e. some_is e;
+  desk = λ x e. some_is e;
+  logs = λ l x e. (no_log, (same_at w.text.logs no_log (Some no_records) (Some x) l e, subst (λ z. ShowsLog z no_log) (some_is (made_at w.text.logs (Some no_records) (Some x) l e)) no_log_shown));
+  cells = λ a x e. mapped_at (new_cell (base w.text)) w.text.opening.states a x e;
+}
+
+pub opening_places : (w : Fixed Rest) → IsHandOf w (opening_parts w)
+opening_places w = record {
+  logs = length-replicate w.text.logs (Some no_records);
+  cells = length-map w.text.opening.states (λ s. Some (new_cell {C = Rest} (base w.text) s));
+  room = λ x e. subst (λ (h : Halves). length w.text.txs ≤ h.most) (some_is e) (omega arith);
+}
+
+pub opening_whole : (w : Fixed Rest) → IsWhole (opening_parts w)
+opening_whole w i e =
+    true_at (are_there (opening_parts w))
+    (more _ (more _ (more _ (more _ (subst (λ bs. AllTrue (bs ++ map is_some (opening_parts w).cells)) (sym (some_made w.text.logs no_records)) (all_made w.text.logs _ (all_mapped (new_cell {C = Rest} (base w.text)) w.text.opening.states)))))))
+    i e
+
+abbrev pub parts_of : Ring → Halves → Post Rest → Desk → List (Option LogList) → List (Option (Cell Rest)) → Parts
+parts_of r b p d ls cs = record { ring = Some r; book = Some b; post = Some p; desk = Some d; logs = ls; cells = cs }
+
+pub opening_is : (w : Fixed Rest) (r : Ring) (b : Halves) (p : Post Rest) (d : Desk) (ls : List (Option LogList)) (cs : List (Option (Cell Rest)))
+    → r ≡ (opening w).ring → b ≡ opening_halves w → p ≡ (opening w).post → d ≡ (opening w).desk
+    → ls ≡ (opening_parts w).logs → cs ≡ (opening_parts w).cells → parts_of r b p d ls cs ≡ opening_parts w
+opening_is w r b p d ls cs er eb ep ed el ec =
+    ap (λ z. parts_of z b p d ls cs) er
+    ∙ (ap (λ z. parts_of (opening w).ring z p d ls cs) eb
+    ∙ (ap (λ z. parts_of (opening w).ring (opening_halves w) z d ls cs) ep
+    ∙ (ap (λ z. parts_of (opening w).ring (opening_halves w) (opening w).post z ls cs) ed
+    ∙ (ap (λ z. parts_of (opening w).ring (opening_halves w) (opening w).post (opening w).desk z cs) el
+    ∙ ap (λ z. parts_of (opening w).ring (opening_halves w) (opening w).post (opening w).desk (opening_parts w).logs z) ec))))
+
+pub cells_are : (w : Fixed Rest) (first : ℕ) (states : List State) (cs : List (Option (Cell Rest)))
+    → cs ≡ map (λ s. Some (new_cell first s)) states → base w.text ≡ first → states ≡ w.text.opening.states → cs ≡ (opening_parts w).cells
+cells_are w first states cs made from all =
+    made ∙ (ap (λ n. map (λ s. Some (new_cell n s)) states) (sym from) ∙ ap (map (λ s. Some (new_cell (base w.text) s))) all)

@@ -1,0 +1,38 @@
+use Rattle.std.proofs.Common.{slice_get, refl, ap, ◌∙◌}
+use Rattle.protocol.specs.Effects.{after}
+use Rattle.protocol.specs.Events.{Arrive}
+use Rattle.snap_hand.specs.Tables.{fixed_of}
+use Rattle.snap_hand.proofs.AtActors.{book_post_and_cell_shown, cell_held, err_same, never_arrives, on_book_post_and_cell, place_kept, refused_nowhere}
+use Rattle.snap_hand.proofs.Held.{book_there, post_there}
+use Rattle.snap_hand.proofs.on_actors.arrive.Goals as goal
+
+pub returns-then-not-has_actor : goal.returns-then-not-has_actor
+returns-then-not-has_actor c =
+    refused_nowhere (fixed_of c.args.tables.now) (Arrive c.args.k.0 c.args.a.0) c.args.hand.now c.args.a.0 _ _ c.requires.asked (never_arrives (fixed_of c.args.tables.now) c.args.k.0 c.args.a.0) c.rows_may.ensures c.allowed_or_refused.ensures c.has_actor.ensures c.if-not-has_actor.true c.arrive_refusal-rule.ensures
+
+pub take_book-book-requires : goal.take_book-book-requires
+take_book-book-requires c = book_there c.args.hand.now c.requires.asked.parts.0
+
+pub take_post-post-requires : goal.take_post-post-requires
+take_post-post-requires c = let x = post_there c.args.hand.now c.requires.asked.parts.1.0 in (x.0, ap (λ z. z.post) c.take_book-book.ensures.taken ∙ x.1)
+
+pub take_cell-cell-requires : goal.take_cell-cell-requires
+take_cell-cell-requires c =
+    let x = cell_held (fixed_of c.args.tables.now) c.args.hand.now c.args.a.0 _ c.requires.asked.places c.requires.asked.parts.1.1.0 c.has_actor.ensures c.if-not-has_actor.false in
+    (x.0, ap (λ z. slice_get z.cells c.args.a.0) c.take_post-post.ensures.taken ∙ (ap (λ z. slice_get z.cells c.args.a.0) c.take_book-book.ensures.taken ∙ x.1))
+
+pub arrive-step-requires : goal.arrive-step-requires
+arrive-step-requires c = book_post_and_cell_shown (fixed_of c.args.tables.now) c.args.hand.now c.take_book-book.new.self c.take_post-post.new.self c.args.a.0 c.take_book-book.result c.take_post-post.result c.take_cell-cell.result c.requires.asked.some c.take_book-book.ensures.there c.take_book-book.ensures.taken c.take_post-post.ensures.there c.take_post-post.ensures.taken c.take_cell-cell.ensures.there
+
+pub put_cell-requires : goal.put_cell-requires
+put_cell-requires c = place_kept c.take_post-post.new.self c.take_cell-cell.new.self c.put_post.new.self c.args.a.0 _ c.take_cell-cell.ensures.there c.take_cell-cell.ensures.taken (ap (λ z. z.cells) c.put_post.ensures ∙ ap (λ z. z.cells) c.put_book.ensures)
+
+pub returns : goal.returns
+unfolding after
+returns c =
+    on_book_post_and_cell (fixed_of c.args.tables.now) (Arrive c.args.k.0 c.args.a.0) c.args.hand.now c.take_book-book.new.self c.take_post-post.new.self c.take_cell-cell.new.self c.put_book.new.self c.put_post.new.self c.put_cell.new.self c.args.a.0
+    c.take_book-book.result c.arrive-step.new.book c.take_post-post.result c.arrive-step.new.post c.take_cell-cell.result c.arrive-step.new.cell _ c.arrive-step.result
+    (λ s. refl) c.requires.asked.places refl
+    c.take_book-book.ensures.there c.take_book-book.ensures.taken c.take_post-post.ensures.there c.take_post-post.ensures.taken c.take_cell-cell.ensures.there c.take_cell-cell.ensures.taken
+    c.put_book.ensures c.put_post.ensures c.put_cell.ensures
+    c.arrive-step.ensures.ok c.arrive-step.ensures.room c.arrive-step.ensures.no c.arrive-step.ensures.book (err_same (λ z. z.messages) _ _ _ c.arrive-step.ensures.post) c.arrive-step.ensures.cell

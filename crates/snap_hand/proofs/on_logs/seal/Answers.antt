@@ -1,0 +1,18 @@
+use Rattle.std.proofs.Common.{◌≡◌, Some, slice_get, refl, sym, subst}
+use Rattle.log_set.specs.Logs.{LogList}
+use Rattle.protocol.specs.Effects.{after}
+use Rattle.protocol.specs.Events.{Seal}
+use Rattle.snap_hand.specs.Tables.{fixed_of}
+use Rattle.snap_hand.proofs.Held.{book_there}
+use Rattle.snap_hand.proofs.LogSteps.{log_held, on_book}
+use Rattle.snap_hand.proofs.on_logs.seal.Goals as goal
+
+pub take_book-book-requires : goal.take_book-book-requires
+take_book-book-requires c = book_there c.args.hand.now c.requires.asked.parts.0
+
+pub log-requires : goal.log-requires
+log-requires c = subst (λ z. (x : LogList) × (slice_get z.logs c.log_of-place.result ≡ Some (Some x))) (sym c.take_book-book.ensures.taken) (log_held (fixed_of c.args.tables.now) c.args.hand.now c.args.t.0 c.log_of-place.result c.requires.tables.accepted c.requires.asked.places c.log_of-place.ensures c.requires.asked.parts.1.0)
+
+pub returns : goal.returns
+unfolding after
+returns c = on_book (fixed_of c.args.tables.now) (Seal c.args.t.0) c.args.hand.now c.take_book-book.new.self c.put_book.new.self c.args.t.0 c.log_of-place.result c.take_book-book.result c.seal-step.new.book c.log.result.now c.seal-step.result (λ s. refl) c.requires.asked.places c.log_of-place.ensures c.take_book-book.ensures.there c.take_book-book.ensures.taken c.log.ensures c.put_book.ensures c.seal-step.ensures.ok c.seal-step.ensures.room c.seal-step.ensures.no c.seal-step.ensures.rule c.seal-step.ensures.unchanged

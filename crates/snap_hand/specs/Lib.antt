@@ -1,0 +1,4 @@
+pub mod Tables
+pub mod Hands
+pub mod Steps
+pub mod Shown

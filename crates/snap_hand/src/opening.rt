@@ -1,0 +1,112 @@
+//! The hand that a run begins with.
+ghost use Rattle.std.specs.Prelude.{◌≡◌, ◌≤◌, ◌<◌, ◌^◌, None, Some, IfOk, [], length, map, option_map, replicate};
+ghost use Rattle.book_part.specs.Halves.{Halves};
+ghost use Rattle.log_set.specs.Logs.{no_records};
+ghost use Rattle.protocol.specs.BookParts.{no_orders, no_votes};
+ghost use Rattle.protocol.specs.Fixed as fixed;
+ghost use Rattle.protocol.specs.Runs.{new_cell, opening, opening_ring};
+ghost use Rattle.snap_hand.specs.Hands.{Fits, IsHandOf, IsWhole};
+ghost use Rattle.snap_hand.specs.Tables.{AreTables, fixed_of, text_of};
+
+use crate::tables::base;
+use crate::{Hand, Tables};
+use aml_slice::Control;
+use batch_table::Desk;
+use book_part::{BookPart, halves_stay_of_their_book};
+use cell_part::CellPart;
+use log_part::LogPart;
+use post_box::Post;
+use snap_base::{Bid, Memory, State};
+use std::alloc::Global;
+use token_ring::Ring;
+
+/// How many transactions the text has.
+fn tx_count(tables: &Tables) -> u32
+    requires { AreTables tables.now }
+    ensures { result ≡ length (text_of tables.now).txs }
+{
+    tables.work.txs.len() as u32
+}
+
+/// The ring before any event.
+fn new_ring(alloc: Global, tables: &Tables) -> Result<Ring, Memory>
+    requires { AreTables tables.now }
+    ensures { IfOk result (λ r. r ≡ opening_ring (fixed_of tables.now)) }
+{
+    let actors = tables.opening.states.len() as u16;
+    Ring::new(
+        alloc,
+        tables.work.coordinators,
+        actors,
+        tables.opening.next_tid,
+        tables.opening.next_bid,
+    )
+}
+
+/// The book before any event, with room for a cascade of each transaction.
+fn new_book(alloc: Global, tables: &Tables) -> Result<BookPart, Memory>
+    requires { AreTables tables.now }
+    ensures { IfOk result (λ b. b ≡ record { orders = no_orders; votes = no_votes (text_of tables.now).opening.next_c; cascades = []; most = length (text_of tables.now).txs }) }
+{
+    BookPart::new(alloc, tables.opening.next_c, tx_count(tables))
+}
+
+/// The desk before any event.
+fn new_desk(alloc: Global, tables: &Tables) -> Result<Desk, Memory>
+    requires { AreTables tables.now }
+    ensures { IfOk result (λ d. d ≡ (opening (fixed_of tables.now)).desk) }
+{
+    Desk::new(alloc, tx_count(tables), base(tables))
+}
+
+/// So many logs with no records.
+fn new_logs(alloc: Global, count: u8) -> Result<Vec<Option<LogPart>>, Memory>
+    ensures { IfOk result (λ v. map (option_map (λ l. l.log)) v.items ≡ replicate count (Some no_records)) }
+{
+    let mut logs = Vec::new(alloc);
+    for _made in 0..count {
+        logs.push(Some(LogPart::new(alloc)?))?;
+    }
+    Ok(logs)
+}
+
+/// A cell for each actor, in its state, where nothing has run since batch `first`.
+fn new_cells(
+    alloc: Global,
+    states: &[State],
+    first: Bid,
+) -> Result<Vec<Option<CellPart<Control>>>, Memory>
+    ensures { IfOk result (λ v. map (option_map (λ c. c.cell)) v.items ≡ map (λ s. Some (new_cell first.0 s)) states.now) }
+{
+    let mut cells = Vec::new(alloc);
+    for state in states {
+        cells.push(Some(CellPart::new(alloc, *state, first)?))?;
+    }
+    Ok(cells)
+}
+
+impl Hand {
+    /// All parts, as a run of the text begins with them.
+    pub fn open(alloc: Global, tables: &Tables) -> Result<Hand, Memory>
+        requires { AreTables tables.now }
+        ensures fits { IfOk result (λ h. Fits h (opening (fixed_of tables.now))) }
+        ensures places { IfOk result (λ h. IsHandOf (fixed_of tables.now) h) }
+        ensures whole { IfOk result IsWhole }
+    {
+        halves_stay_of_their_book::<Control>();
+        let ring = new_ring(alloc, tables)?;
+        let book = new_book(alloc, tables)?;
+        let post = Post::new(alloc)?;
+        let desk = new_desk(alloc, tables)?;
+        let logs = new_logs(alloc, tables.work.logs)?;
+        let cells = new_cells(alloc, tables.opening.states.as_slice(), base(tables))?;
+        Ok(Hand {
+            ring: Some(ring),
+            book: Some(book),
+            post: Some(post),
+            desk: Some(desk),
+            logs,
+            cells,
+        })
+    }
+}

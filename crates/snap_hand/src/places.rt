@@ -1,0 +1,227 @@
+//! Taking single parts out of a hand, and putting them back.
+ghost use Rattle.std.specs.Prelude.{◌≡◌, ◌<◌, ◌++◌, nat_lt, None, Some, is_some, length, map, slice_get, slice_set};
+ghost use Rattle.log_set.specs.Logs.{LogList};
+ghost use Rattle.book_part.specs.Halves.{Halves};
+ghost use Rattle.protocol.specs.Parts as parts;
+ghost use Rattle.protocol.specs.Parts.{Cell};
+ghost use Rattle.aml_slice.specs.Controls.{Rest};
+ghost use Rattle.snap_hand.specs.Hands.{is_at_hand, is_not_out};
+
+use crate::Hand;
+use aml_slice::Control;
+use batch_table::Desk;
+use book_part::BookPart;
+use cell_part::CellPart;
+use log_part::LogPart;
+use post_box::Post;
+use snap_base::ActorId;
+use token_ring::Ring;
+
+impl Hand {
+    /// Whether there is such an actor.
+    pub fn has_actor(&self, a: ActorId) -> bool
+        ensures { result ≡ nat_lt a.0 (length self.now.cells) }
+    {
+        (a.0 as usize) < self.cells.len()
+    }
+
+    /// Whether there is such a log.
+    pub fn has_log(&self, l: u8) -> bool
+        ensures { result ≡ nat_lt l (length self.now.logs) }
+    {
+        (l as usize) < self.logs.len()
+    }
+
+    /// Whether the part of this number is at hand; also where there is no such part.
+    pub fn has(&self, part: usize) -> bool
+        ensures { result ≡ is_at_hand self.now part }
+    {
+        match part {
+            0 => self.ring.is_some(),
+            1 => self.book.is_some(),
+            2 => self.post.is_some(),
+            3 => self.desk.is_some(),
+            _ => self.has_behind(part - 4),
+        }
+    }
+
+    // The same of the logs and the cells, which stand behind the four others.
+    fn has_behind(&self, i: usize) -> bool
+        ensures { result ≡ is_not_out (slice_get (map is_some self.now.logs ++ map is_some self.now.cells) i) }
+    {
+        if i < self.logs.len() {
+            self.has_log_at(i)
+        } else {
+            self.has_cell_at(i - self.logs.len())
+        }
+    }
+
+    fn has_log_at(&self, l: usize) -> bool
+        requires { l < length self.now.logs }
+        ensures { slice_get (map is_some self.now.logs) l ≡ Some result }
+    {
+        self.logs[l].is_some()
+    }
+
+    /// Whether the cell of the actor is at hand; also where there is no such actor.
+    pub fn has_cell(&self, a: ActorId) -> bool
+        ensures { result ≡ is_not_out (slice_get (map is_some self.now.cells) a.0) }
+    {
+        self.has_cell_at(a.0 as usize)
+    }
+
+    fn has_cell_at(&self, a: usize) -> bool
+        ensures { result ≡ is_not_out (slice_get (map is_some self.now.cells) a) }
+    {
+        match self.cells.get(a) {
+            Some(cell) => cell.is_some(),
+            None => true,
+        }
+    }
+
+    /// Takes out the cell of the actor, which is there.
+    pub(crate) fn take_cell(&mut self, a: ActorId) -> CellPart<Control>
+        requires { (x : Cell Rest) × (slice_get self.old.cells a.0 ≡ Some (Some x)) }
+        ensures there { slice_get self.old.cells a.0 ≡ Some (Some result.cell) }
+        ensures taken { self.new ≡ record self.old { cells = slice_set self.old.cells a.0 None } }
+    {
+        self.cells[a.0 as usize].take().unwrap()
+    }
+
+    /// Puts the cell of the actor in its place.
+    pub(crate) fn put_cell(&mut self, a: ActorId, cell: CellPart<Control>)
+        requires { a.0 < length self.old.cells }
+        ensures { self.new ≡ record self.old { cells = slice_set self.old.cells a.0 (Some cell.cell) } }
+    {
+        self.cells[a.0 as usize] = Some(cell);
+    }
+
+    /// Takes out the ring, which is there.
+    pub(crate) fn take_ring(&mut self) -> Ring
+        requires { (x : parts.Ring) × (self.old.ring ≡ Some x) }
+        ensures there { self.old.ring ≡ Some result }
+        ensures taken { self.new ≡ record self.old { ring = None } }
+    {
+        self.ring.take().unwrap()
+    }
+
+    /// Puts the ring in its place.
+    pub(crate) fn put_ring(&mut self, ring: Ring)
+        ensures { self.new ≡ record self.old { ring = Some ring } }
+    {
+        self.ring = Some(ring);
+    }
+
+    /// Takes out the book, which is there.
+    pub(crate) fn take_book(&mut self) -> BookPart
+        requires { (x : Halves) × (self.old.book ≡ Some x) }
+        ensures there { self.old.book ≡ Some result }
+        ensures taken { self.new ≡ record self.old { book = None } }
+    {
+        self.book.take().unwrap()
+    }
+
+    /// Puts the book in its place.
+    pub(crate) fn put_book(&mut self, book: BookPart)
+        ensures { self.new ≡ record self.old { book = Some book } }
+    {
+        self.book = Some(book);
+    }
+
+    /// Takes out the post, which is there.
+    pub(crate) fn take_post(&mut self) -> Post<Control>
+        requires { (x : parts.Post Rest) × (self.old.post ≡ Some x) }
+        ensures there { self.old.post ≡ Some result.messages }
+        ensures taken { self.new ≡ record self.old { post = None } }
+    {
+        self.post.take().unwrap()
+    }
+
+    /// Puts the post in its place.
+    pub(crate) fn put_post(&mut self, post: Post<Control>)
+        ensures { self.new ≡ record self.old { post = Some post.messages } }
+    {
+        self.post = Some(post);
+    }
+
+    /// Takes out the desk, which is there.
+    pub(crate) fn take_desk(&mut self) -> Desk
+        requires { (x : parts.Desk) × (self.old.desk ≡ Some x) }
+        ensures there { self.old.desk ≡ Some result }
+        ensures taken { self.new ≡ record self.old { desk = None } }
+    {
+        self.desk.take().unwrap()
+    }
+
+    /// Puts the desk in its place.
+    pub(crate) fn put_desk(&mut self, desk: Desk)
+        ensures { self.new ≡ record self.old { desk = Some desk } }
+    {
+        self.desk = Some(desk);
+    }
+
+    /// Takes out the log of this number, which is there.
+    pub(crate) fn take_log(&mut self, l: usize) -> LogPart
+        requires { (x : LogList) × (slice_get self.old.logs l ≡ Some (Some x)) }
+        ensures there { slice_get self.old.logs l ≡ Some (Some result.log) }
+        ensures taken { self.new ≡ record self.old { logs = slice_set self.old.logs l None } }
+    {
+        self.logs[l].take().unwrap()
+    }
+
+    /// Puts the log of this number in its place.
+    pub(crate) fn put_log(&mut self, l: usize, log: LogPart)
+        requires { l < length self.old.logs }
+        ensures { self.new ≡ record self.old { logs = slice_set self.old.logs l (Some log.log) } }
+    {
+        self.logs[l] = Some(log);
+    }
+
+    /// The ring, which is there.
+    pub fn ring(&self) -> &Ring
+        requires { (x : parts.Ring) × (self.now.ring ≡ Some x) }
+        ensures { self.now.ring ≡ Some result.now }
+    {
+        self.ring.as_ref().unwrap()
+    }
+
+    /// The book, which is there.
+    pub fn book(&self) -> &BookPart
+        requires { (x : Halves) × (self.now.book ≡ Some x) }
+        ensures { self.now.book ≡ Some result.now }
+    {
+        self.book.as_ref().unwrap()
+    }
+
+    /// The post, which is there.
+    pub fn post(&self) -> &Post<Control>
+        requires { (x : parts.Post Rest) × (self.now.post ≡ Some x) }
+        ensures { self.now.post ≡ Some result.now.messages }
+    {
+        self.post.as_ref().unwrap()
+    }
+
+    /// The desk, which is there.
+    pub fn desk(&self) -> &Desk
+        requires { (x : parts.Desk) × (self.now.desk ≡ Some x) }
+        ensures { self.now.desk ≡ Some result.now }
+    {
+        self.desk.as_ref().unwrap()
+    }
+
+    /// The log of this number, which is there.
+    pub fn log(&self, l: usize) -> &LogPart
+        requires { (x : LogList) × (slice_get self.now.logs l ≡ Some (Some x)) }
+        ensures { slice_get self.now.logs l ≡ Some (Some result.now.log) }
+    {
+        self.logs[l].as_ref().unwrap()
+    }
+
+    /// The cell of the actor, which is there.
+    pub fn cell(&self, a: ActorId) -> &CellPart<Control>
+        requires { (x : Cell Rest) × (slice_get self.now.cells a.0 ≡ Some (Some x)) }
+        ensures { slice_get self.now.cells a.0 ≡ Some (Some result.now.cell) }
+    {
+        self.cells[a.0 as usize].as_ref().unwrap()
+    }
+}
