@@ -1,4 +1,3 @@
-pub mod Beginning
 pub mod Completing
 pub mod Differing
 pub mod RunLogs

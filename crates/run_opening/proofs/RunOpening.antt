@@ -24,7 +24,7 @@ use Rattle.log_opening.specs.Devices.{Device, device_at, devices_of, as_device, 
 use Rattle.log_opening.specs.Found.{IsReadyLog, IsTouched}
 use Rattle.log_opening.specs.Kept.{Holds}
 use Rattle.log_opening.specs.Counted.{AreOpenWith, AreNotRead}
-use Rattle.run_opening.specs.declared.openings.TheConstants.{LARGEST_START}
+use Rattle.run_opening.specs.declared.limits.TheConstants.{LARGEST_START}
 use Rattle.run_opening.specs.Begins.{AreEmpty, fresh_opening, IsUnspent, Begins}
 use Rattle.run_opening.specs.Starts.{first_record, IsStart, IsNoStart}
 use Rattle.run_opening.specs.Opens.{HasRoom, IsRunLog, FailsFirst, IsNoRun, KeepsOrAdds, AreSafe, with_first, first_groups, log_at, records_at}

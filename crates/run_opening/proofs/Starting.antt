@@ -1,7 +1,6 @@
 -- What a run begins with, by the records of its logs.
-use Rattle.std.proofs.Common.{◌≡◌, ◌≢◌, ℕ, ◌+◌, ◌≤◌, inl, inr, List, [], ◌∷◌, ◌++◌, length, refl, sym, ◌∙◌, ap, subst, arith, Result, Ok, Err}
+use Rattle.std.proofs.Common.{◌≡◌, ◌≢◌, ℕ, ◌+◌, ◌≤◌, inl, inr, List, [], ◌∷◌, length, refl, sym, ◌∙◌, ap, subst, arith}
 use Rattle.std.proofs.lemmas.List.{append-nil}
-use Rattle.std.specs.Prelude.{MatchResult}
 use Rattle.std.specs.List.{AllByRecursion, AllZip, enumerate_from}
 use Rattle.snap_base.specs.declared.transactions.State.{State}
 use Rattle.txn_records.specs.declared.records.Record.{Record}
@@ -9,32 +8,19 @@ use Rattle.txn_records.specs.declared.records.Record.TheVariants.{Genesis}
 use Rattle.txn_records.specs.Records.{record_bytes, IsState, IsRecord}
 use Rattle.gate_log.specs.Bytes.{item_bytes, items_bytes}
 use Rattle.gate_log.specs.Device.{MayAppend}
-use Rattle.gate_log.specs.declared.logs.LogItem.{LogItem}
-use Rattle.record_log.specs.Records.{spelled, AreItemsOf}
-use Rattle.record_log.specs.RecordLogLaws.{ItemsAreRecords}
+use Rattle.record_log.specs.Records.{spelled}
 use Rattle.snap_recover.specs.declared.openings.Opening.{Opening}
 use Rattle.snap_recover.specs.Logs.{geneses}
 use Rattle.snap_recover.specs.Opening.{IsRecovered}
 use Rattle.snap_recover.specs.declared.causes.LogCause.TheVariants as cause
 use Rattle.log_opening.specs.declared.refusals.LogsNo.{LogsNo}
 use Rattle.log_opening.specs.declared.refusals.LogsNo.TheVariants as ending
-use Rattle.log_opening.specs.Found.{IsNoReading, IsNoRecovery}
-use Rattle.run_opening.specs.declared.openings.TheConstants.{LARGEST_START}
-use Rattle.run_opening.specs.Begins.{AreEmpty, IsUnspent, BeganWith, Begins, begun}
-use Rattle.run_opening.specs.Starts.{IsStart, IsStartOf, IsNoStart, IsNoStartOf}
+use Rattle.log_opening.specs.Found.{IsNoRecovery}
+use Rattle.run_opening.specs.declared.limits.TheConstants.{LARGEST_START}
+use Rattle.run_opening.specs.Begins.{AreEmpty, IsUnspent, BeganWith, Begins}
+use Rattle.run_opening.specs.Starts.{IsStart, IsNoStart}
 
--- ---- one log
-
-pub begins_of : (rs added : List Record) (states : List State) (o : Opening) → IsStart (rs ∷ []) states o added → Begins (rs ∷ []) states o
-begins_of rs added states o (inl new) = inl (new.0, new.1)
-begins_of rs added states o (inr on) = inr on.0
-
--- what the log holds when what is lacking is written
-pub begun_is : (rs added : List Record) (states : List State) (o : Opening) → IsStart (rs ∷ []) states o added → rs ++ added ≡ begun rs states
-begun_is [] added states o (inl new) = new.2
-begun_is (r ∷ rs) added states o (inl new) = absurd (let bad : r ∷ rs ≡ [] = new.0.0 in cc)
-begun_is [] added states o (inr on) = absurd (on.0.some (refl, tt))
-begun_is (r ∷ rs) added states o (inr on) = ap (λ (l : List Record). (r ∷ rs) ++ l) on.1 ∙ append-nil (r ∷ rs)
+-- ---- what is written
 
 -- what is to be written are records, one at most
 pub added_are : (logs : List (List Record)) (added : List Record) (states : List State) (o : Opening) → 1 ≤ length logs → length logs ≤ 4 → 1 ≤ length states → length states ≤ 256
@@ -91,18 +77,6 @@ pub begins_unspent : (logs : List (List Record)) (states : List State) (o : Open
 begins_unspent logs states o (inl new) = subst IsUnspent (sym new.1) (record { tid = omega arith; bid = omega arith; c = omega arith })
 begins_unspent logs states o (inr on) = on.unspent
 
-pub start_unspent : (items : List LogItem) (states : List State) (o : Opening) (added : List Record) → IsStartOf items states o added → IsUnspent o
-start_unspent items states o added start = begins_unspent (start.0 ∷ []) states o (begins_of start.0 added states o start.2)
-
-pub start_states : ItemsAreRecords → (items : List LogItem) (states : List State) (o : Opening) (added : List Record) → StatesRecovered
-    → AllByRecursion IsState states → IsStartOf items states o added → (length o.states ≡ length states) × AllByRecursion IsState o.states
-start_states each items states o added recovered is start =
-    starts_with_states recovered (start.0 ∷ []) states o added (each items start.0 start.1, tt) is start.2
-
-pub start_added : (items : List LogItem) (states : List State) (o : Opening) (added : List Record) → 1 ≤ length states → length states ≤ 256 → AllByRecursion IsState states
-    → IsStartOf items states o added → AllByRecursion IsRecord added × (length added ≤ 1)
-start_added items states o added some few is start = added_are (start.0 ∷ []) added states o (omega arith) (omega arith) some few is start.2
-
 -- ---- why there is none
 
 pub no_recovery : (logs : List (List Record)) (states : List State) (no : LogsNo) → ¬ AreEmpty logs → IsNoRecovery logs no → IsNoStart logs states no
@@ -118,43 +92,6 @@ no_recovery logs states (ending.Refused log offset (cause.Spent n)) some why = a
 no_recovery logs states (ending.Refused log offset (cause.Differs w k t)) some why = absurd why.1
 no_recovery logs states (ending.Device log) some why = absurd why
 no_recovery logs states ending.Memory some why = tt
-
-pub no_reading : (items : List LogItem) (states : List State) (no : LogsNo) → IsNoReading items 0 no → IsNoStartOf items states no
-no_reading items states (ending.Refused log offset cause.NotALog) why = absurd why
-no_reading items states (ending.Refused log offset cause.Damage) why = absurd why
-no_reading items states (ending.Refused log offset cause.BadRecord) why = why
-no_reading items states (ending.Refused log offset cause.NoGenesis) why = absurd why
-no_reading items states (ending.Refused log offset cause.TwoGenesis) why = absurd why
-no_reading items states (ending.Refused log offset (cause.LogCount k f)) why = absurd why
-no_reading items states (ending.Refused log offset (cause.Range k)) why = absurd why
-no_reading items states (ending.Refused log offset (cause.Missing k)) why = absurd why
-no_reading items states (ending.Refused log offset (cause.Spent n)) why = absurd why
-no_reading items states (ending.Refused log offset (cause.Differs w k t)) why = absurd why
-no_reading items states (ending.Device log) why = absurd why
-no_reading items states ending.Memory why = tt
-
-one_some : (rs : List Record) → ¬ AreEmpty (rs ∷ []) → rs ≢ []
-one_some rs some e = some (e, tt)
-
-no_start_of : (items : List LogItem) (rs : List Record) (states : List State) (no : LogsNo) → AreItemsOf items rs → IsNoStart (rs ∷ []) states no → IsNoStartOf items states no
-no_start_of items rs states (ending.Refused log offset cause.NotALog) are why = absurd why.2
-no_start_of items rs states (ending.Refused log offset cause.Damage) are why = absurd why.2
-no_start_of items rs states (ending.Refused log offset cause.BadRecord) are why = absurd why.2
-no_start_of items rs states (ending.Refused log offset cause.NoGenesis) are why = (why.0, (rs, are, one_some rs why.1, why.2))
-no_start_of items rs states (ending.Refused log offset cause.TwoGenesis) are why = (why.0, (rs, are, one_some rs why.1, why.2))
-no_start_of items rs states (ending.Refused log offset (cause.LogCount k f)) are why = (why.0, (rs, are, one_some rs why.1, why.2))
-no_start_of items rs states (ending.Refused log offset (cause.Range k)) are why = (why.0, (rs, are, one_some rs why.1, why.2))
-no_start_of items rs states (ending.Refused log offset (cause.Missing k)) are why = (why.0, (rs, are, one_some rs why.1, why.2))
-no_start_of items rs states (ending.Refused log offset (cause.Spent n)) are why = (why.0, (rs, are, one_some rs why.1, why.2))
-no_start_of items rs states (ending.Refused log offset (cause.Differs w k t)) are why = (why.0, (rs, are, one_some rs why.1, why.2))
-no_start_of items rs states (ending.Device log) are why = absurd why
-no_start_of items rs states ending.Memory are why = tt
-
-pub one_log : (items : List LogItem) (rs : List Record) (states : List State) (S : Type 0) (opening : S → Opening) (added : S → List Record) (r : Result S LogsNo) → AreItemsOf items rs
-    → MatchResult r (λ s. IsStart (rs ∷ []) states (opening s) (added s)) (λ no. IsNoStart (rs ∷ []) states no)
-    → MatchResult r (λ s. IsStartOf items states (opening s) (added s)) (λ no. IsNoStartOf items states no)
-one_log items rs states S opening added (Ok s) are start = (rs, are, start)
-one_log items rs states S opening added (Err answer) are why = no_start_of items rs states answer are why
 
 -- ---- the first Genesis
 

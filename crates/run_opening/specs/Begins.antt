@@ -1,15 +1,9 @@
 -- What a run begins with, by what its log holds.
-use Rattle.std.specs.Prelude.{◌≡◌, ◌≢◌, ℕ, ◌<◌, ◌≤◌, ◌⊎◌, ℤ, pos, List, [], ◌∷◌, ◌++◌, length, Option, IfSome}
+use Rattle.std.specs.Prelude.{◌≡◌, ◌≢◌, ℕ, ◌<◌, ◌≤◌, ◌⊎◌, ℤ, pos, List, [], ◌∷◌, ◌++◌, length}
 use Rattle.std.specs.List.{AllByRecursion}
 use Rattle.snap_base.specs.declared.transactions.State.{State}
-use Rattle.snap_outside.specs.declared.devices.DevOp.{DevOp}
-use Rattle.snap_outside.specs.Disk.{History, disk, content, settled, EachMoment, AddsAll}
-use Rattle.gate_log.specs.declared.logs.LogItem.{LogItem}
-use Rattle.gate_log.specs.declared.opens.OpenNo.TheVariants as refusal
-use Rattle.gate_log.specs.Opened.{Opened, Refused}
 use Rattle.txn_records.specs.declared.records.Record.{Record}
 use Rattle.txn_records.specs.declared.records.Record.TheVariants.{Genesis}
-use Rattle.record_log.specs.Records.{HoldsRecords, RecordLog, IsFirstBadIn}
 use Rattle.snap_recover.specs.declared.openings.Opening.{Opening}
 use Rattle.snap_recover.specs.Logs.{geneses}
 use Rattle.snap_recover.specs.Opening.{IsRecovered}
@@ -17,9 +11,6 @@ use Rattle.snap_recover.specs.declared.causes.LogCause.{LogCause}
 use Rattle.snap_recover.specs.declared.causes.LogCause.TheVariants as cause
 use Rattle.snap_recover.specs.declared.causes.What.{What}
 use Rattle.snap_recover.specs.declared.causes.What.TheVariants.{Actors, Field}
-use Rattle.log_opening.specs.declared.refusals.LogsNo.{LogsNo}
-use Rattle.log_opening.specs.declared.refusals.LogsNo.TheVariants as ending
-use Rattle.log_opening.specs.Devices.{OnlyOpened}
 use Rattle.log_opening.specs.Found.{IsRecoveryCause}
 use Rattle.run_opening.specs.declared.comparisons.TheConstants.{GREATEST_TO_BEGIN}
 
@@ -52,11 +43,6 @@ pub record GoesOn (logs : List (List Record)) (states : List State) (o : Opening
 -- A run of a text with these states, on logs of these records, begins with the opening.
 abbrev pub Begins : List (List Record) → List State → Opening → Type 0
 Begins logs states o = (AreEmpty logs × (o ≡ fresh_opening states)) ⊎ GoesOn logs states o
-
--- where the one log of a run has no record, Genesis is written
-abbrev pub begun : List Record → List State → List Record
-begun [] states = Genesis 1 states ∷ []
-begun (r ∷ rs) states = r ∷ rs
 
 -- ---- why a run does not begin
 
@@ -93,31 +79,3 @@ IsCause logs states log cause.TwoGenesis = IsRecoveryCause logs log cause.TwoGen
 IsCause logs states log (cause.LogCount kept found) = IsRecoveryCause logs log (cause.LogCount kept found)
 IsCause logs states log (cause.Range k) = IsRecoveryCause logs log (cause.Range k)
 IsCause logs states log (cause.Missing k) = IsRecoveryCause logs log (cause.Missing k)
-
--- ---- on a device, by what it told before and tells now
-
--- the text's one log is refused
-abbrev pub IsRefusedLog : Option History → Option History → List State → ℕ → ℕ → LogCause → Type 0
-IsRefusedLog old new states log offset cause.NotALog = (log ≡ 0) × Refused old new (refusal.NotALog offset)
-IsRefusedLog old new states log offset cause.Damage = (log ≡ 0) × Refused old new (refusal.Damage offset)
-IsRefusedLog old new states log offset cause.BadRecord =
-    (log ≡ 0) × ((end : ℕ) × (found : List LogItem) × Opened old new end found × IsFirstBadIn found offset)
-IsRefusedLog old new states log offset c =
-    (offset ≡ 0) × OnlyOpened old new × IfSome old (λ h. (rs : List Record) × HoldsRecords (content h) rs × (rs ≢ []) × IsCause (rs ∷ []) states log c)
-
-abbrev pub IsNoBeginning : Option History → Option History → List State → LogsNo → Type 0
-IsNoBeginning old new states (ending.Refused log offset c) = IsRefusedLog old new states log offset c
-IsNoBeginning old new states (ending.Device log) = log ≡ 0
-IsNoBeginning old new states ending.Memory = Unit {0}
-
--- The device held the records that the run begins with; now it holds them, or Genesis where there were none.
-abbrev pub IsBegunOn : Option History → Option History → ℕ → List State → Opening → Type 0
-IsBegunOn old new end states o =
-    IfSome old (λ h. IfSome new (λ g. (rs : List Record) × HoldsRecords (content h) rs × Begins (rs ∷ []) states o × RecordLog g end (begun rs states)))
-
--- Whatever a crash leaves at any moment of the call holds the records that the device held, or Genesis where there were none.
-abbrev pub BeginsSafely : Option History → Option History → List State → Type 0
-BeginsSafely old new states =
-    IfSome old (λ h. (ops : List DevOp) × AddsAll old new ops
-    × (disk h ≡ settled (content h) → (rs : List Record) → HoldsRecords (content h) rs
-    → EachMoment (disk h) ops (λ image. HoldsRecords image rs ⊎ HoldsRecords image (begun rs states))))

@@ -1,12 +1,9 @@
 -- What is written before a run, and why there is none.
-use Rattle.std.specs.Prelude.{◌≡◌, ◌≢◌, ◌⊎◌, ℕ, List, [], ◌∷◌, length}
+use Rattle.std.specs.Prelude.{◌≡◌, ◌⊎◌, ℕ, List, [], ◌∷◌, length}
 use Rattle.snap_base.specs.declared.transactions.State.{State}
-use Rattle.gate_log.specs.declared.logs.LogItem.{LogItem}
 use Rattle.txn_records.specs.declared.records.Record.{Record}
 use Rattle.txn_records.specs.declared.records.Record.TheVariants.{Genesis}
-use Rattle.record_log.specs.Records.{AreItemsOf, IsFirstBadIn}
 use Rattle.snap_recover.specs.declared.openings.Opening.{Opening}
-use Rattle.snap_recover.specs.declared.causes.LogCause.TheVariants as cause
 use Rattle.log_opening.specs.declared.refusals.LogsNo.{LogsNo}
 use Rattle.log_opening.specs.declared.refusals.LogsNo.TheVariants as ending
 use Rattle.run_opening.specs.Begins.{AreEmpty, GoesOn, IsCause, fresh_opening}
@@ -25,20 +22,3 @@ abbrev pub IsNoStart : List (List Record) → List State → LogsNo → Type 0
 IsNoStart logs states (ending.Refused log offset c) = (offset ≡ 0) × (¬ AreEmpty logs) × IsCause logs states log c
 IsNoStart logs states (ending.Device log) = ⊥
 IsNoStart logs states ending.Memory = Unit {0}
-
--- ---- one log, by the items that were found in it
-
-abbrev pub IsStartOf : List LogItem → List State → Opening → List Record → Type 0
-IsStartOf items states o added = (rs : List Record) × AreItemsOf items rs × IsStart (rs ∷ []) states o added
-
-abbrev pub IsNoStartOf : List LogItem → List State → LogsNo → Type 0
-IsNoStartOf items states (ending.Refused log offset cause.BadRecord) = (log ≡ 0) × IsFirstBadIn items offset
-IsNoStartOf items states (ending.Refused log offset c) = (offset ≡ 0) × ((rs : List Record) × AreItemsOf items rs × (rs ≢ []) × IsCause (rs ∷ []) states log c)
-IsNoStartOf items states (ending.Device log) = ⊥
-IsNoStartOf items states ending.Memory = Unit {0}
-
--- nothing was found in the log that refuses the run
-abbrev pub IsFailure : LogsNo → Type 0
-IsFailure (ending.Refused log offset c) = ⊥
-IsFailure (ending.Device log) = log ≡ 0
-IsFailure ending.Memory = Unit {0}

@@ -18,7 +18,7 @@ use Rattle.snap_recover.specs.declared.openings.Opening.{Opening}
 use Rattle.log_opening.specs.Devices.{Device}
 use Rattle.log_opening.specs.declared.refusals.LogsNo.{LogsNo}
 use Rattle.log_opening.specs.declared.refusals.LogsNo.TheVariants as ending
-use Rattle.run_opening.specs.declared.openings.TheConstants.{LARGEST_START}
+use Rattle.run_opening.specs.declared.limits.TheConstants.{LARGEST_START}
 use Rattle.run_opening.specs.Opens.{HasRoom, OpensRun, IsNoRun, AreSafe, log_at}
 
 -- the records are written, as one group

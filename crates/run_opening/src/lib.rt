@@ -1,17 +1,16 @@
 //! What a run begins with: its logs are opened, decoded and recovered, what they began with is compared with the work
 //! text, and Genesis is written where no log has a record yet. `open_run` does it on devices, for one to four logs, and
 //! `start_from` on lists of records; what is said of devices is said by the records that they hold, before and after.
-//! `open_for_run` does it on the device of the one log of a run.
 #![tactic(auto)]
 
 mod comparisons;
 mod laws;
-mod openings;
+mod limits;
 mod opens;
 mod starts;
 
 pub use comparisons::{GREATEST_TO_BEGIN, ROOM_TO_BEGIN};
 pub use laws::begins_again;
-pub use openings::{LARGEST_START, open_for_run};
+pub use limits::LARGEST_START;
 pub use opens::open_run;
 pub use starts::{Start, start_from};

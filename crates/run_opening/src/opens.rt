@@ -8,7 +8,7 @@ ghost use Rattle.log_opening.specs.Devices.{Device, devices_of, devices_now};
 ghost use Rattle.run_opening.specs.Opens.{HasRoom, OpensRun, IsNoRun, AreSafe, MayOpen, log_at};
 ghost use Rattle.run_opening.specs.Writes.{IsWritten, IsNotWritten, HasBegun, HasNotBegun, no_of_append};
 
-use crate::openings::LARGEST_START;
+use crate::limits::LARGEST_START;
 use crate::starts::{Start, start_from};
 use gate_log::{AppendNo, FARTHEST_END, Log, one_reading, opening_is_safe};
 use log_opening::{LogsNo, OpenLogs, close, no_call_is_safe, no_logs, open_and_decode};

@@ -1,18 +1,14 @@
-ghost use Rattle.std.specs.Prelude.{◌≡◌, ◌≤◌, ℕ, ◌^◌, [], ◌∷◌, length, IsTrue, ◌↔◌, IfOk, IfErr, MatchOption, MatchResult};
-ghost use Rattle.std.specs.List.{AllByRecursion};
+ghost use Rattle.std.specs.Prelude.{◌≡◌, ◌≤◌, [], ◌∷◌, length, IsTrue, ◌↔◌, IfOk, MatchOption, MatchResult};
 ghost use Rattle.txn_records.specs.declared.limits.TheConstants.{MOST_LISTED};
-ghost use Rattle.log_opening.specs.Found.{ArePlaced};
 ghost use Rattle.snap_recover.specs.Opening.{IsRecovered};
 ghost use Rattle.run_opening.specs.Begins.{AreEmpty, IsUnspent, BeganWith, GoesOn, IsCause, fresh_opening};
-ghost use Rattle.run_opening.specs.Starts.{IsStart, IsStartOf, IsNoStart, IsNoStartOf, first_record};
+ghost use Rattle.run_opening.specs.Starts.{IsStart, IsNoStart, first_record};
 
 use crate::comparisons::{compare_states, spent};
-use gate_log::LogItem;
-use log_opening::{LogsNo, read_log, recover_records};
+use log_opening::{LogsNo, recover_records};
 use snap_base::{Memory, Sequence, State};
 use snap_recover::{LogCause, Opening, first_genesis, fresh};
 use std::alloc::Global;
-use std::slice;
 use txn_records::Record;
 
 /// What a run begins with, and the records that are to be written to log 0 before it.
@@ -22,18 +18,6 @@ pub struct Start {
     pub opening: Opening,
     /// Genesis where no log has a record, and else nothing.
     pub added: Sequence<Record>,
-}
-
-/// What a run of a text with these states begins with, on a log in which these items were found.
-pub(crate) fn start_of(alloc: Global, items: &[LogItem], states: &[State]) -> Result<Start, LogsNo>
-    requires items { ArePlaced items.now }
-    requires few { length states.now ≤ MOST_LISTED }
-    ensures { MatchResult result (λ s. IsStartOf items.now states.now s.opening s.added) (λ no. IsNoStartOf items.now states.now no) }
-{
-    match read_log(alloc, items, 0) {
-        Ok(records) => start_from(alloc, slice::from_ref(&records), states),
-        Err(no) => Err(no),
-    }
 }
 
 /// What a run of a text with these states begins with, on logs of these records.

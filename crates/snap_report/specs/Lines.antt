@@ -1,5 +1,5 @@
 -- The lines of the output, byte for byte. A line ends with a line feed.
-use Rattle.std.specs.Prelude.{ℕ, zero, suc, ℤ, pos, negsuc, Bool, true, false, if◌then◌else◌, List, [], ◌∷◌, ◌++◌, codes, count_by}
+use Rattle.std.specs.Prelude.{ℕ, zero, suc, ◌+◌, ℤ, pos, negsuc, Bool, true, false, if◌then◌else◌, List, [], ◌∷◌, ◌++◌, codes, count_by}
 use Rattle.std.specs.List.{flat_map}
 use Rattle.std.specs.Fmt.{decimal, signed_decimal}
 use Rattle.snap_base.specs.declared.verdicts.Verdict.{Verdict}
@@ -54,6 +54,11 @@ shown_fields (z ∷ zs) = z ∷ without_last_zeros zs
 abbrev pub actor_text : ℕ → State → List ℕ
 actor_text actor s = codes "actor " ++ (decimal actor ++ (flat_map (λ z. codes " " ++ signed_decimal z) (shown_fields s.0) ++ line_end))
 
+-- the actors' lines, from this number on
+abbrev pub actors_text : ℕ → List State → List ℕ
+actors_text actor [] = []
+actors_text actor (s ∷ states) = actor_text actor s ++ actors_text (actor + 1) states
+
 -- ---- the end
 
 abbrev pub end_text : ℕ → ℕ → ℕ → List ℕ
@@ -86,7 +91,7 @@ status_number status.Memory = 4
 status_number status.ReadFault = 5
 status_number (status.LogFault log) = 6
 status_number status.OutFault = 7
-status_number (status.Halted unanswered) = 9
+status_number status.TraceFault = 8
 
 abbrev pub text_cause_text : TextCause → List ℕ
 text_cause_text text.BadByte = codes "BadByte"
@@ -115,7 +120,6 @@ cause_text work.BadActor = codes "BadActor"
 cause_text work.BadTx = codes "BadTx"
 cause_text (work.Limit which found) = codes "Limit"
 cause_text work.RootNotDeclared = codes "RootNotDeclared"
-cause_text work.Unbuilt = codes "Unbuilt"
 
 abbrev pub log_cause_text : LogCause → List ℕ
 log_cause_text cause.NotALog = codes "NotALog"
@@ -139,4 +143,4 @@ status_text status.Memory = codes "snapper: out of memory" ++ line_end
 status_text status.ReadFault = codes "snapper: read fault" ++ line_end
 status_text (status.LogFault log) = codes "snapper: log fault " ++ (decimal log ++ line_end)
 status_text status.OutFault = codes "snapper: output fault" ++ line_end
-status_text (status.Halted unanswered) = codes "snapper: halted " ++ (decimal unanswered ++ line_end)
+status_text status.TraceFault = codes "snapper: trace fault" ++ line_end

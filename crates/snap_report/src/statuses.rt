@@ -18,7 +18,7 @@ pub enum Status {
     Usage {
         word: u32,
     },
-    /// 2: the text stands for no work, or for one that is not built yet: its first fault.
+    /// 2: the text stands for no work: its first fault.
     Input {
         line: u32,
         cause: WorkCause,
@@ -40,11 +40,8 @@ pub enum Status {
     },
     /// 7: the sink failed.
     OutFault,
-    /// 9: a transaction failed, which this stage cannot answer yet. `unanswered` is the number of
-    /// transactions without a reply.
-    Halted {
-        unanswered: u32,
-    },
+    /// 8: every transaction has a reply and all was written but the trace, whose sink failed.
+    TraceFault,
 }
 
 impl Status {
@@ -64,7 +61,7 @@ impl Status {
             Status::ReadFault => 5,
             Status::LogFault { .. } => 6,
             Status::OutFault => 7,
-            Status::Halted { .. } => 9,
+            Status::TraceFault => 8,
         }
     }
 }
@@ -88,7 +85,7 @@ pub fn status_line(alloc: Global, status: &Status) -> Result<String, Memory>
         Status::ReadFault => Ok(String::from_str(alloc, "snapper: read fault\n")?),
         Status::LogFault { log } => Ok(format!(in alloc; "snapper: log fault {log}\n")?),
         Status::OutFault => Ok(String::from_str(alloc, "snapper: output fault\n")?),
-        Status::Halted { unanswered } => Ok(format!(in alloc; "snapper: halted {unanswered}\n")?),
+        Status::TraceFault => Ok(String::from_str(alloc, "snapper: trace fault\n")?),
     }
 }
 
@@ -104,7 +101,6 @@ fn cause_name(cause: WorkCause) -> &'static str
         WorkCause::BadTx => "BadTx",
         WorkCause::Limit { .. } => "Limit",
         WorkCause::RootNotDeclared => "RootNotDeclared",
-        WorkCause::Unbuilt => "Unbuilt",
     }
 }
 

@@ -3,9 +3,7 @@ use Rattle.std.specs.Prelude.{◌≡◌, ◌≤◌, length, FitsSigned}
 use Rattle.std.specs.List.{AllByRecursion}
 use Rattle.std.specs.Int.{w64}
 use Rattle.snap_base.specs.declared.transactions.TheConstants.{FIELDS}
-use Rattle.snap_base.specs.declared.transactions.Kind.TheVariants.{Pact}
 use Rattle.snap_base.specs.declared.transactions.State.{State}
-use Rattle.snap_base.specs.declared.transactions.Tx.{Tx}
 use Rattle.aml_check.specs.Closed.{IsClosedProgram}
 use Rattle.aml_check.specs.Transactions.{IsTransaction}
 use Rattle.snap_work.specs.declared.limits.TheConstants.{MOST_ACTORS, MOST_ACTS, MOST_BATCHES, MOST_COORDINATORS, MOST_IN_A_BATCH, MOST_LOGS, MOST_TRANSACTIONS}
@@ -29,10 +27,3 @@ pub record KeepsLimits (w : Work) : Type 0 where
   pub acts : (1 ≤ w.acts) × (w.acts ≤ MOST_ACTS)
   pub coordinators : (1 ≤ w.coordinators) × (w.coordinators ≤ MOST_COORDINATORS)
   pub logs : (1 ≤ w.logs) × (w.logs ≤ MOST_LOGS)
-
--- what is built so far: one coordinator, one log, and one batch of PACTs
-pub record IsOneBatch (w : Work) : Type 0 where
-  pub coordinators : w.coordinators ≡ 1
-  pub logs : w.logs ≡ 1
-  pub few : length w.txs ≤ w.batch
-  pub kinds : AllByRecursion (λ (tx : Tx). tx.kind ≡ Pact) w.txs

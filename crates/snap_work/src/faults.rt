@@ -54,8 +54,6 @@ pub enum WorkCause {
     Limit { which: Limit, found: u64 },
     /// A PACT does not declare its own actor.
     RootNotDeclared,
-    /// The text stands for a work, but for one that is not built yet.
-    Unbuilt,
 }
 
 /// What is wrong with a text: its first fault.

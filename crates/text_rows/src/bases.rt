@@ -97,3 +97,21 @@ pub fn answer(alloc: Global, text: &[u8]) -> Result<String, Memory> {
     };
     Ok(text)
 }
+
+/// The work that a text stands for: its coordinators, logs, transactions of a batch, live batches and live ACTs, and the
+/// kinds of its transactions; or its fault.
+pub fn work_shown(alloc: Global, text: &[u8]) -> Result<String, Memory> {
+    let work = match parse_work(alloc, text) {
+        Ok(work) => work,
+        Err(WorkNo::Memory) => return Err(Memory),
+        Err(WorkNo::Fault(fault)) => return Ok(format!(in alloc; "{fault:?}")?),
+    };
+    let (coordinators, logs, batch) = (work.coordinators, work.logs, work.batch);
+    let (batches, acts) = (work.batches, work.acts);
+    let mut shown = format!(in alloc; "{coordinators} {logs} {batch} {batches} {acts}")?;
+    for tx in work.txs.as_slice() {
+        let kind = tx.kind;
+        shown.push_str(&format!(in alloc; " {kind:?}")?)?;
+    }
+    Ok(shown)
+}

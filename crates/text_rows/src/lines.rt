@@ -143,14 +143,7 @@ pub const BAD_LINES: &str = "\
     12|pact 0 put 1 uses 1:1|12 RootNotDeclared@\
     12|pact 5 put 1 uses 4:1 6:1|12 RootNotDeclared@\
     12|pact 19 put 1 uses 0:1|12 RootNotDeclared@\
-    12|pact 0 put 1 uses 1:1 2:1 3:1 4:1 5:1 6:1 7:1 8:1 9:1 10:1 11:1 12:1 13:1 14:1 15:1 16:1|12 RootNotDeclared@\
-    2|coordinators 2|2 Unbuilt@\
-    2|coordinators 8|2 Unbuilt@\
-    3|logs 2|3 Unbuilt@\
-    3|\nlogs 4|4 Unbuilt@\
-    12|act 0 put 5|12 Unbuilt@\
-    12|# x\n\nact 0 put 5|14 Unbuilt@\
-    12|pact 0 put 5 uses 0:1\nact 0 put 5\nact 0 put 5|13 Unbuilt";
+    12|pact 0 put 1 uses 1:1 2:1 3:1 4:1 5:1 6:1 7:1 8:1 9:1 10:1 11:1 12:1 13:1 14:1 15:1 16:1|12 RootNotDeclared";
 
 /// The same where the fault is a limit: which one, and what is found.
 pub const LINE_LIMITS: &str = "\
@@ -204,18 +197,33 @@ pub const GOOD_LINES: &str = "\
     12|pact 19 put 5 uses 0:1 19:1|good@\
     12|pact 0 put 5 uses 0:1\n\n# é\npact 1 put 5 uses 1:2 3:4\n|good";
 
+/// The number of a line that is replaced, what stands in its place, once or twice, and the work that the text stands
+/// for: its coordinators, logs, transactions of a batch, live batches and live ACTs, and the kinds of its transactions.
+pub const WORKS: &str = "\
+    1|snapper 1|1 1 16 8 8 Pact@\
+    2|coordinators 2|2 1 16 8 8 Pact@\
+    2|coordinators 8|8 1 16 8 8 Pact@\
+    3|logs 2|1 2 16 8 8 Pact@\
+    3|\nlogs 4|1 4 16 8 8 Pact@\
+    4|batch 256|1 1 256 8 8 Pact@\
+    5|batches 32|1 1 16 32 8 Pact@\
+    6|acts 32|1 1 16 8 32 Pact@\
+    12|act 0 put 5|1 1 16 8 8 Act@\
+    12|# x\n\nact 0 put 5|1 1 16 8 8 Act@\
+    12|pact 0 put 5 uses 0:1\nact 0 put 5\nact 0 put 5|1 1 16 8 8 Pact Act Act@\
+    2|coordinators 2|3|logs 2|2 2 16 8 8 Pact@\
+    2|coordinators 2|12|act 0 put 5|2 1 16 8 8 Act@\
+    3|logs 4|12|act 0 put 5|1 4 16 8 8 Act@\
+    4|batch 1|12|pact 0 put 5 uses 0:1\n#\npact 0 put 5 uses 0:1|1 1 1 8 8 Pact Pact@\
+    4|batch 1|12|pact 0 put 5 uses 0:1\nact 0 put 5|1 1 1 8 8 Pact Act@\
+    4|batch 1|12|pact 0 put 5 uses 0:1\npact 0 put 5 uses 0:1\nact 0 put 5|1 1 1 8 8 Pact Pact Act@\
+    4|batch 2|12|act 0 put 5\npact 0 put 5 uses 0:1\npact 0 put 5 uses 0:1\npact 0 put 5 uses 0:1|1 1 2 8 8 Act Pact Pact Pact";
+
 /// Two lines are replaced.
 pub const PAIRS: &str = "\
     1|x|2|coordinators 9|1 BadHeader@\
-    2|coordinators 2|3|logs 2|2 Unbuilt@\
-    2|coordinators 2|12|act 0 put 5|2 Unbuilt@\
-    3|logs 4|12|act 0 put 5|3 Unbuilt@\
     2|coordinators 2|12|act 0 fly 1|12 BadTx@\
     3|logs 2|12|pact 0 put 5 uses 1:1|12 RootNotDeclared@\
-    4|batch 1|12|pact 0 put 5 uses 0:1\n#\npact 0 put 5 uses 0:1|14 Unbuilt@\
-    4|batch 1|12|pact 0 put 5 uses 0:1\nact 0 put 5|13 Unbuilt@\
-    4|batch 1|12|pact 0 put 5 uses 0:1\npact 0 put 5 uses 0:1\nact 0 put 5|13 Unbuilt@\
-    4|batch 2|12|pact 0 put 5 uses 0:1\npact 0 put 5 uses 0:1\nact 0 put 5|14 Unbuilt@\
     8|method f() { }|9|end |13 BadHeader@\
     8|$|9|END|13 BadHeader@\
     10|actors 1|12|pact 0 put 5 uses 0:1 1:1|12 BadTx@\

@@ -13,12 +13,11 @@ const NO_ROOT: &str = "pact 0 put 5 uses 1:1";
 const MANY_USES: &str =
     "pact 0 put 5 uses 1:1 2:1 3:1 4:1 5:1 6:1 7:1 8:1 9:1 10:1 11:1 12:1 13:1 14:1 15:1 16:1 17:1";
 
-/// So many transactions, of which the first stands in line 12, then another line, and what is wrong first. A batch
-/// takes 256.
+/// So many transactions, of which the first stands in line 12, then another line, and what is wrong first.
 const TRANSACTIONS: [(usize, &str, &str); 9] = [
     (255, GOOD, "good"),
-    (256, GOOD, "268 Unbuilt"),
-    (19_999, GOOD, "268 Unbuilt"),
+    (256, GOOD, "good"),
+    (19_999, GOOD, "good"),
     (19_999, NO_ROOT, "20011 RootNotDeclared"),
     (20_000, GOOD, "20012 Transactions 20001"),
     (20_000, NO_ROOT, "20012 Transactions 20001"),

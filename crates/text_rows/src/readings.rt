@@ -1,7 +1,9 @@
-//! Texts with a part replaced have the fault that their row says.
+//! Texts with a part replaced have the fault that their row says, or stand for its work.
 
-use crate::bases::{answer, first_lines, repeated, with_line, with_lines, with_program};
-use crate::lines::{BAD_LINES, GOOD_LINES, LINE_LIMITS, NOT_UTF8, PAIRS, UTF8};
+use crate::bases::{
+    answer, first_lines, repeated, with_line, with_lines, with_program, work_shown,
+};
+use crate::lines::{BAD_LINES, GOOD_LINES, LINE_LIMITS, NOT_UTF8, PAIRS, UTF8, WORKS};
 use crate::programs::{LIMITS, NAME_FAULTS, PROGRAMS, TEXT_FAULTS};
 use std::alloc::{AllocError, Global};
 use std::test::Fail;
@@ -11,7 +13,7 @@ fn number(word: &str) -> usize {
     word.parse().unwrap_or(0)
 }
 
-/// The text that a row stands for, and what is wrong with it.
+/// The text that a row stands for, and its last part: what is wrong with it, or its work.
 fn read_row<'a>(alloc: Global, row: &[&'a str]) -> Result<Option<(Vec<u8>, &'a str)>, AllocError> {
     match row {
         [program, fault] => Ok(Some((with_program(alloc, program)?, *fault))),
@@ -52,6 +54,17 @@ fn texts_have_their_faults(rt: HostRuntime) -> Result<(), Fail> {
             let (text, fault) = read_row(alloc, &parts)?.ok_or("the parts of a row")?;
             assert_eq!(rt; answer(alloc, &text)?.as_str(), fault, "{row}");
         }
+    }
+    Ok(())
+}
+
+#[test]
+fn texts_stand_for_their_works(rt: HostRuntime) -> Result<(), Fail> {
+    let alloc = rt.alloc();
+    for row in WORKS.split('@') {
+        let parts: Vec<&str> = row.split('|').collect(alloc)?;
+        let (text, work) = read_row(alloc, &parts)?.ok_or("the parts of a row")?;
+        assert_eq!(rt; work_shown(alloc, &text)?.as_str(), work, "{row}");
     }
     Ok(())
 }

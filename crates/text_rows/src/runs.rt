@@ -7,7 +7,7 @@ use snap_base::{Memory, State, TxResult};
 use snap_work::WorkNo;
 use std::alloc::{AllocError, Global};
 use std::test::Fail;
-use work_text::{built_works, parse_work, transactions_may_run};
+use work_text::{parse_work, transactions_may_run};
 
 /// A text of a program, of actors, and of lines that ask for transactions.
 fn text_of(alloc: Global, program: &str, actors: &str, txs: &str) -> Result<String, AllocError> {
@@ -28,7 +28,6 @@ fn gives(alloc: Global, text: &str, actor: usize) -> Result<String, Memory> {
     };
     let mut world = Vec::from_slice(alloc, work.states.as_slice())?;
     // The text stands for the work, so its transactions may be run on its states.
-    built_works();
     transactions_may_run();
     let result = run_alone(alloc, &work.program, &mut world, tx)?;
     let Some(state) = world.get(actor) else {
@@ -112,7 +111,6 @@ fn list_gives(alloc: Global, text: &str) -> Result<String, Memory> {
     };
     let mut world = Vec::from_slice(alloc, work.states.as_slice())?;
     // The text stands for the work, so its transactions may be run on its states.
-    built_works();
     transactions_may_run();
     let results = run_list(alloc, &work.program, &mut world, work.txs.as_slice())?;
     Ok(told(alloc, results.as_slice(), world.as_slice())?)

@@ -1,5 +1,5 @@
 -- The end of a text, by its two parts.
-use Rattle.std.proofs.Common.{◌≡◌, ℕ, Bool, true, false, List, [], ◌∷◌, map, refl, ap, Option, Some, None, Ok, Err, Result}
+use Rattle.std.proofs.Common.{◌≡◌, ℕ, Bool, true, false, List, [], ◌∷◌, refl, ap, Option, Some, None, Ok, Err, Result}
 use Rattle.snap_base.specs.declared.transactions.State.{State}
 use Rattle.snap_base.specs.declared.transactions.Tx.{Tx}
 use Rattle.aml_tree.specs.Tree.{CheckedMethod}
@@ -10,7 +10,7 @@ use Rattle.work_text.specs.Lines.{Line, words, says, said, next}
 use Rattle.work_text.specs.Readings.{Reading, IsNo, Goes, gives, ◌>>=◌}
 use Rattle.work_text.specs.Actors.{Named, actor, states_in}
 use Rattle.work_text.specs.Reads.{first_is_actor, tail, transactions}
-use Rattle.work_text.specs.Endings.{named_lines, states, asked, ending}
+use Rattle.work_text.specs.Endings.{named_lines, states, ending}
 
 -- ---- the lines that say something
 
@@ -32,24 +32,24 @@ said_none (l ∷ ls) e = none_by (says l.bytes) l ls refl e (said_none ls)
 
 -- ---- first the actors, then the transactions
 
-abbrev after : List CheckedMethod → ℕ → List Named × List Line → Reading (List Named × List (Tx × ℕ))
+abbrev after : List CheckedMethod → ℕ → List Named × List Line → Reading (List Named × List Tx)
 after p count a = transactions p count 0 a.1 >>= λ t. gives (a.0, t)
 
 abbrev first_named : ℕ → Option ℕ → Line → List Line → Reading (List Named × List Line)
 first_named count last l ls = actor count last l >>= λ n. named_lines count (Some n.actor) ls >>= λ more. gives (n ∷ more.0, more.1)
 
-abbrev named_first : List CheckedMethod → ℕ → Option ℕ → Line → List Line → Reading (List Named × List (Tx × ℕ))
+abbrev named_first : List CheckedMethod → ℕ → Option ℕ → Line → List Line → Reading (List Named × List Tx)
 named_first p count last l ls = actor count last l >>= λ n. tail p count (Some n.actor) ls >>= λ more. gives (n ∷ more.0, more.1)
 
 abbrev Joins : List CheckedMethod → ℕ → Option ℕ → List Line → Type 0
-Joins p count last ls = (x : Result (List Named × List Line) WorkFault) (r : Result (List Named × List (Tx × ℕ)) WorkFault) → named_lines count last ls x → Goes (after p count) x r → tail p count last ls r
+Joins p count last ls = (x : Result (List Named × List Line) WorkFault) (r : Result (List Named × List Tx) WorkFault) → named_lines count last ls x → Goes (after p count) x r → tail p count last ls r
 
-join_txs : (p : List CheckedMethod) (count : ℕ) (last : Option ℕ) (l : Line) (ls : List Line) (rec : (n : Named) → Joins p count (Some n.actor) ls) (r : Result (List Named × List (Tx × ℕ)) WorkFault) (n : Named)
+join_txs : (p : List CheckedMethod) (count : ℕ) (last : Option ℕ) (l : Line) (ls : List Line) (rec : (n : Named) → Joins p count (Some n.actor) ls) (r : Result (List Named × List Tx) WorkFault) (n : Named)
     → actor count last l (Ok n) → (m : List Named × List Line) → named_lines count (Some n.actor) ls (Ok m) → after p count (n ∷ m.0, m.1) r → named_first p count last l ls r
 join_txs p count last l ls rec r n h m k (Err f, t, e) = (Ok n, h, (Err f, rec n (Ok m) (Err f) k (Err f, t, refl), e))
 join_txs p count last l ls rec r n h m k (Ok ts, t, e) = (Ok n, h, (Ok (m.0, ts), rec n (Ok m) (Ok (m.0, ts)) k (Ok ts, t, refl), e))
 
-join_named : (p : List CheckedMethod) (count : ℕ) (last : Option ℕ) (l : Line) (ls : List Line) (rec : (n : Named) → Joins p count (Some n.actor) ls) (x : Result (List Named × List Line) WorkFault) (r : Result (List Named × List (Tx × ℕ)) WorkFault)
+join_named : (p : List CheckedMethod) (count : ℕ) (last : Option ℕ) (l : Line) (ls : List Line) (rec : (n : Named) → Joins p count (Some n.actor) ls) (x : Result (List Named × List Line) WorkFault) (r : Result (List Named × List Tx) WorkFault)
     → first_named count last l ls x → Goes (after p count) x r → named_first p count last l ls r
 join_named p count last l ls rec x r (Err f, h, e) g = (Err f, h, (rw e at g))
 join_named p count last l ls rec x r (Ok n, h, (Err f, k, e)) g = (Ok n, h, (Err f, rec n (Err f) (Err f) k refl, (rw e at g)))
@@ -59,7 +59,7 @@ join_by : (t : Bool) (p : List CheckedMethod) (count : ℕ) (last : Option ℕ) 
 join_by true p count last l ls rec is x r h g = rw is (join_named p count last l ls rec x r (rw is at h) g)
 join_by false p count last l ls rec is x r h g = let e : x ≡ Ok ([], l ∷ ls) = rw is at h in rw is (rw e at g)
 
-no_lines : (p : List CheckedMethod) (count : ℕ) (r : Result (List Named × List (Tx × ℕ)) WorkFault) → after p count ([], []) r → r ≡ Ok ([], [])
+no_lines : (p : List CheckedMethod) (count : ℕ) (r : Result (List Named × List Tx) WorkFault) → after p count ([], []) r → r ≡ Ok ([], [])
 no_lines p count r (x, h, g) = rw h at g
 
 joins : (p : List CheckedMethod) (count : ℕ) (last : Option ℕ) (ls : List Line) → Joins p count last ls
@@ -68,29 +68,23 @@ joins p count last (l ∷ ls) x r h g = join_by (first_is_actor (words l.bytes))
 
 -- ---- the end
 
-pub end_found : (p : List CheckedMethod) (count : ℕ) (ls behind : List Line) (given : List State) (txs : List Tx) (lines : List ℕ) → states count ls (Ok (given, behind)) → asked p count behind (Ok (txs, lines)) → ending p count ls (Ok (given, txs, lines))
-end_found p count ls behind given txs lines (Err f, h, e) a = cc
-end_found p count ls behind given txs lines (Ok s, h, e) (Err f, k, d) = cc
-end_found p count ls behind given txs lines (Ok s, h, e) (Ok t, k, d) =
+pub end_found : (p : List CheckedMethod) (count : ℕ) (ls behind : List Line) (given : List State) (txs : List Tx) → states count ls (Ok (given, behind)) → transactions p count 0 behind (Ok txs) → ending p count ls (Ok (given, txs))
+end_found p count ls behind given txs (Err f, h, e) a = cc
+end_found p count ls behind given txs (Ok s, h, e) a =
     let first : ◌≡◌ {A = List State × List Line} (given, behind) (states_in s.0 0 count, s.1) = cc in
-    let other : ◌≡◌ {A = List Tx × List ℕ} (txs, lines) (map (λ (x : Tx × ℕ). x.0) t, map (λ (x : Tx × ℕ). x.1) t) = cc in
     let same : behind ≡ s.1 = ap (λ (x : List State × List Line). x.1) first in
     let all : given ≡ states_in s.0 0 count = ap (λ (x : List State × List Line). x.0) first in
-    let ts : txs ≡ map (λ (x : Tx × ℕ). x.0) t = ap (λ (x : List Tx × List ℕ). x.0) other in
-    let ns : lines ≡ map (λ (x : Tx × ℕ). x.1) t = ap (λ (x : List Tx × List ℕ). x.1) other in
-    (Ok (s.0, t), joins p count None ls (Ok s) (Ok (s.0, t)) h (Ok t, (rw same at k), refl), rw (all, ts, ns) refl)
+    (Ok (s.0, txs), joins p count None ls (Ok s) (Ok (s.0, txs)) h (Ok txs, (rw same at a), refl), rw all refl)
 
 pub end_stops : (p : List CheckedMethod) (count : ℕ) (ls : List Line) (why : WorkNo) → IsNo (states count ls) why → IsNo (ending p count ls) why
 end_stops p count ls (no.Fault f) (Ok s, h, e) = cc
 end_stops p count ls (no.Fault f) (Err g, h, e) = let same : f ≡ g = cc in (Err g, joins p count None ls (Err g) (Err g) h refl, ap (λ (y : WorkFault). Err y) same)
 end_stops p count ls no.Memory h = tt
 
-pub end_fails : (p : List CheckedMethod) (count : ℕ) (ls behind : List Line) (given : List State) (why : WorkNo) → states count ls (Ok (given, behind)) → IsNo (asked p count behind) why → IsNo (ending p count ls) why
+pub end_fails : (p : List CheckedMethod) (count : ℕ) (ls behind : List Line) (given : List State) (why : WorkNo) → states count ls (Ok (given, behind)) → IsNo (transactions p count 0 behind) why → IsNo (ending p count ls) why
 end_fails p count ls behind given no.Memory s a = tt
 end_fails p count ls behind given (no.Fault f) (Err g, h, e) a = cc
-end_fails p count ls behind given (no.Fault f) (Ok s, h, e) (Ok t, k, d) = cc
-end_fails p count ls behind given (no.Fault f) (Ok s, h, e) (Err g, k, d) =
+end_fails p count ls behind given (no.Fault f) (Ok s, h, e) a =
     let first : ◌≡◌ {A = List State × List Line} (given, behind) (states_in s.0 0 count, s.1) = cc in
-    let behind_s : behind ≡ s.1 = ap (λ (x : List State × List Line). x.1) first in
-    let same : f ≡ g = cc in
-    (Err g, joins p count None ls (Ok s) (Err g) h (Err g, (rw behind_s at k), refl), ap (λ (y : WorkFault). Err y) same)
+    let same : behind ≡ s.1 = ap (λ (x : List State × List Line). x.1) first in
+    (Err f, joins p count None ls (Ok s) (Err f) h (Err f, (rw same at a), refl), refl)

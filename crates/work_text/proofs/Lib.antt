@@ -12,7 +12,6 @@ pub mod TransactionLines
 pub mod StateLines
 pub mod AskedLines
 pub mod EndLines
-pub mod Unbuilts
 pub mod OneOf
 pub mod OneLine
 pub mod OneAsked

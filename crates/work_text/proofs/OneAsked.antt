@@ -130,7 +130,6 @@ asks_none p actors before line cause.NotUtf8 h = absurd h
 asks_none p actors before line cause.BadHeader h = absurd h
 asks_none p actors before line (cause.Program q) h = absurd h
 asks_none p actors before line cause.BadActor h = absurd h
-asks_none p actors before line cause.Unbuilt h = absurd h
 
 -- a program whose methods are told apart, and not too many actors
 pub record AreToldApart (p : List CheckedMethod) (actors : ℕ) : Type 0 where

@@ -16,8 +16,8 @@ use Rattle.work_text.specs.Lines.{Line}
 use Rattle.work_text.specs.Readings.{gives}
 use Rattle.work_text.specs.Settings.{Setting, Sets, SettingFault, setting}
 use Rattle.work_text.specs.Actors.{Named, Names, ActorFault, actor}
-use Rattle.work_text.specs.Reads.{exactly, set}
-use Rattle.work_text.proofs.OneOf.{IsOne, one_gives, one_only, one_then, same_fault}
+use Rattle.work_text.specs.Reads.{exactly}
+use Rattle.work_text.proofs.OneOf.{IsOne, one_gives, one_only, same_fault}
 
 -- ---- numbers
 
@@ -36,7 +36,6 @@ sets_none s line (cause.Program p) h = absurd h
 sets_none s line cause.BadActor h = absurd h
 sets_none s line cause.BadTx h = absurd h
 sets_none s line cause.RootNotDeclared h = absurd h
-sets_none s line cause.Unbuilt h = absurd h
 
 out_of_range : (m n most : ℕ) → m ≡ n → 1 ≤ m → m ≤ most → (n < 1) ⊎ (most < n) → ⊥
 out_of_range m n most e low high (inl lt) = omega (arith, e, low, lt)
@@ -59,8 +58,8 @@ setting_same s l (Err f) (Ok n) h k = absurd (set_or_not s l.bytes n f.cause k.0
 setting_same s l (Err f) (Err g) h k =
     ap (λ (x : WorkFault). Err x) (same_fault f g (h.0 ∙ sym k.0) (one_cause s l.bytes f.cause g.cause (sets_none s l.bytes f.cause h.1) (sets_none s l.bytes g.cause k.1)))
 
-pub one_set : (s : Setting) (l : Line) → IsOne (set s l)
-one_set s l = one_then (setting s l) (λ n. gives (n, l.number)) (record { same = setting_same s l }) (λ n h. one_gives (n, l.number))
+pub one_setting : (s : Setting) (l : Line) → IsOne (setting s l)
+one_setting s l = record { same = setting_same s l }
 
 pub one_exactly : (bytes : List ℕ) (l : Line) → IsOne (exactly bytes l)
 one_exactly bytes l = one_only (bytes_eq l.bytes bytes) l.number cause.BadHeader (gives l.number) (one_gives l.number)
@@ -104,7 +103,6 @@ names_none actors last line cause.BadHeader h = absurd h
 names_none actors last line (cause.Program p) h = absurd h
 names_none actors last line cause.BadTx h = absurd h
 names_none actors last line cause.RootNotDeclared h = absurd h
-names_none actors last line cause.Unbuilt h = absurd h
 
 named_or_not : (actors : ℕ) (last : Option ℕ) (line : List ℕ) (m : Named) (why : WorkCause) → actors ≤ 256 → Names actors last line m → length m.values ≤ 16 → NamesNone actors last line why → ⊥
 named_or_not actors last line m why few h le (inl f) = f.1 m h

@@ -21,11 +21,12 @@ use Rattle.snap_work.specs.declared.faults.WorkCause.TheVariants as cause
 use Rattle.work_text.specs.Lines.{Line, lines, words, text_of, numbered, said, up_to_end}
 use Rattle.work_text.specs.Readings.{fault, gives, ◌>>=◌}
 use Rattle.work_text.specs.Settings as setting
+use Rattle.snap_work.specs.Works.{Work}
 use Rattle.work_text.specs.Actors.{actor}
 use Rattle.work_text.specs.Transactions.{transaction}
-use Rattle.work_text.specs.Reads.{set, exactly, line, IsProgramFault, program_text, program_lines, first_is_actor, transactions, tail, Laid, laid, reads_lines, EndsUtf8, not_utf8, Reads}
+use Rattle.work_text.specs.Reads.{exactly, line, IsProgramFault, program_text, program_lines, first_is_actor, transactions, tail, work_with, reads_lines, EndsUtf8, not_utf8, Reads}
 use Rattle.work_text.proofs.OneOf.{IsOne, one_gives, one_fails, one_whether, one_then, one_line, ok_parts, ok_same, line_ok, same_fault}
-use Rattle.work_text.proofs.OneLine.{one_set, one_exactly, one_actor}
+use Rattle.work_text.proofs.OneLine.{one_setting, one_exactly, one_actor}
 use Rattle.work_text.proofs.OneAsked.{AreToldApart, one_transaction}
 
 -- ---- the program
@@ -54,7 +55,6 @@ no_program before bytes line cause.BadActor h = absurd h
 no_program before bytes line cause.BadTx h = absurd h
 no_program before bytes line (cause.Limit which found) h = absurd h
 no_program before bytes line cause.RootNotDeclared h = absurd h
-no_program before bytes line cause.Unbuilt h = absurd h
 
 program_or_not : (laws : TextLaws) (before : ℕ) (bytes : List ℕ) (p : List TextMethod) (line : ℕ) (why : WorkCause) → IsProgramText bytes p → check.program_faults p ≡ [] → IsNoProgram before bytes line why → ⊥
 program_or_not laws before bytes p line why h none (inl f) = laws.either bytes f.0 p f.1 h
@@ -101,8 +101,8 @@ closed_lines closed last before (Some cut) p h =
 one_transactions : (p : List CheckedMethod) (count : ℕ) → AreToldApart p count → (before : ℕ) (ls : List Line) → IsOne (transactions p count before ls)
 one_transactions p count apart before [] = one_gives []
 one_transactions p count apart before (l ∷ ls) =
-    one_then (transaction p count before l) (λ tx. transactions p count (before + 1) ls >>= λ more. gives ((tx, l.number) ∷ more)) (one_transaction p count before l apart)
-    (λ tx h. one_then (transactions p count (before + 1) ls) (λ more. gives ((tx, l.number) ∷ more)) (one_transactions p count apart (before + 1) ls) (λ more k. one_gives ((tx, l.number) ∷ more)))
+    one_then (transaction p count before l) (λ tx. transactions p count (before + 1) ls >>= λ more. gives (tx ∷ more)) (one_transaction p count before l apart)
+    (λ tx h. one_then (transactions p count (before + 1) ls) (λ more. gives (tx ∷ more)) (one_transactions p count apart (before + 1) ls) (λ more k. one_gives (tx ∷ more)))
 
 one_tail : (p : List CheckedMethod) (count : ℕ) → AreToldApart p count → (last : Option ℕ) (ls : List Line) → IsOne (tail p count last ls)
 one_tail p count apart last [] = one_gives ([], [])
@@ -114,26 +114,22 @@ one_tail p count apart last (l ∷ ls) =
 
 -- ---- the lines
 
-pub in_range : (s : setting.Setting) (last : ℕ) (ls : List Line) (n : (ℕ × ℕ) × List Line) → line last ls (set s) (Ok n) → (1 ≤ n.0.0) × (n.0.0 ≤ s.most)
-in_range s last ls n h =
-    let found = line_ok last ls (set s) n h in
-    let x = ok_parts (setting.setting s found.0) (λ m. gives (m, found.0.number)) n.0 found.1 in
-    let same : n.0.0 ≡ x.0 = ap (λ (z : ℕ × ℕ). z.0) (ok_same n.0 (x.0, found.0.number) x.2) in
-    (omega (arith, same, x.1.1), omega (arith, same, x.1.2))
+pub in_range : (s : setting.Setting) (last : ℕ) (ls : List Line) (n : ℕ × List Line) → line last ls (setting.setting s) (Ok n) → (1 ≤ n.0) × (n.0 ≤ s.most)
+in_range s last ls n h = let found = line_ok last ls (setting.setting s) n h in (found.1.1, found.1.2)
 
 one_lines : (laws : TextLaws) (last : ℕ) (ls : List Line) → IsOne (reads_lines last ls)
 one_lines laws last ls =
     one_then _ _ (one_line last ls (exactly (codes "snapper 1")) (one_exactly (codes "snapper 1"))) (λ header h0.
-    one_then _ _ (one_line last header.1 (set setting.coordinators) (one_set setting.coordinators)) (λ c h1.
-    one_then _ _ (one_line last c.1 (set setting.logs) (one_set setting.logs)) (λ l h2.
-    one_then _ _ (one_line last l.1 (set setting.batch) (one_set setting.batch)) (λ b h3.
-    one_then _ _ (one_line last b.1 (set setting.batches) (one_set setting.batches)) (λ s h4.
-    one_then _ _ (one_line last s.1 (set setting.acts) (one_set setting.acts)) (λ a h5.
+    one_then _ _ (one_line last header.1 (setting.setting setting.coordinators) (one_setting setting.coordinators)) (λ c h1.
+    one_then _ _ (one_line last c.1 (setting.setting setting.logs) (one_setting setting.logs)) (λ l h2.
+    one_then _ _ (one_line last l.1 (setting.setting setting.batch) (one_setting setting.batch)) (λ b h3.
+    one_then _ _ (one_line last b.1 (setting.setting setting.batches) (one_setting setting.batches)) (λ s h4.
+    one_then _ _ (one_line last s.1 (setting.setting setting.acts) (one_setting setting.acts)) (λ a h5.
     one_then _ _ (one_line last a.1 (exactly (codes "program")) (one_exactly (codes "program"))) (λ begin h6.
     one_then _ _ (one_program laws last begin.0 (up_to_end begin.1)) (λ p h7.
-    one_then _ _ (one_line last p.1 (set setting.actors) (one_set setting.actors)) (λ n h8.
-    one_then _ _ (one_tail p.0 n.0.0 (record { distinct = (closed_lines laws.closed last begin.0 (up_to_end begin.1) p h7).distinct; few = (in_range setting.actors last p.1 n h8).1 }) None (said n.1)) (λ t h9.
-    one_gives (laid (record { coordinators = c.0; logs = l.0; batch = b.0.0; batches = s.0.0; acts = a.0.0; program = p.0; actors = n.0.0 }) t.0 t.1)))))))))))
+    one_then _ _ (one_line last p.1 (setting.setting setting.actors) (one_setting setting.actors)) (λ n h8.
+    one_then _ _ (one_tail p.0 n.0 (record { distinct = (closed_lines laws.closed last begin.0 (up_to_end begin.1) p h7).distinct; few = (in_range setting.actors last p.1 n h8).1 }) None (said n.1)) (λ t h9.
+    one_gives (work_with (record { coordinators = c.0; logs = l.0; batch = b.0; batches = s.0; acts = a.0; program = p.0; actors = n.0 }) t.0 t.1)))))))))))
 
 -- ---- the text
 
@@ -142,18 +138,18 @@ one_end bytes a b h k (inl e) = e
 one_end bytes a b h k (inr (inl lt)) = absurd (h.longest b lt (omega (arith, k.within)) k.front)
 one_end bytes a b h k (inr (inr gt)) = absurd (k.longest a gt (omega (arith, h.within)) h.front)
 
-utf8_same : (bytes : List ℕ) (r s : Result Laid WorkFault) → not_utf8 bytes r → not_utf8 bytes s → r ≡ s
+utf8_same : (bytes : List ℕ) (r s : Result Work WorkFault) → not_utf8 bytes r → not_utf8 bytes s → r ≡ s
 utf8_same bytes (Ok x) s h k = absurd h
 utf8_same bytes (Err f) (Ok y) h k = absurd k
 utf8_same bytes (Err f) (Err g) h k =
     let same : h.0 ≡ k.0 = one_end bytes h.0 k.0 h.1 k.1 (cases_order h.0 k.0) in
     ap (λ (x : WorkFault). Err x) (h.2 ∙ ap (λ at. fault (1 + count_by (λ b. b == 10) (take at bytes)) cause.NotUtf8) same ∙ sym k.2)
 
-utf8_or_not : (bytes : List ℕ) (r : Result Laid WorkFault) → IsUtf8 bytes → not_utf8 bytes r → ⊥
+utf8_or_not : (bytes : List ℕ) (r : Result Work WorkFault) → IsUtf8 bytes → not_utf8 bytes r → ⊥
 utf8_or_not bytes (Ok x) utf8 h = h
 utf8_or_not bytes (Err f) utf8 h = h.1.longest (length bytes) h.1.within (omega arith) (rw (take-length bytes) utf8)
 
-pub reads_one : (laws : TextLaws) (bytes : List ℕ) (r s : Result Laid WorkFault) → Reads bytes r → Reads bytes s → r ≡ s
+pub reads_one : (laws : TextLaws) (bytes : List ℕ) (r s : Result Work WorkFault) → Reads bytes r → Reads bytes s → r ≡ s
 reads_one laws bytes r s (inl h) (inl k) = h.1 ∙ sym k.1
 reads_one laws bytes r s (inl h) (inr (inl k)) = absurd (omega (arith, h.0, k.0))
 reads_one laws bytes r s (inl h) (inr (inr k)) = absurd (omega (arith, h.0, k.0))

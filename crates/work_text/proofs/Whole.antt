@@ -1,16 +1,15 @@
 -- The end of a text within the whole.
-use Rattle.std.proofs.Common.{◌≡◌, ℕ, ◌+◌, ◌≤◌, List, map, length, refl, ap, inl, inr}
+use Rattle.std.proofs.Common.{◌≡◌, ℕ, ◌+◌, ◌≤◌, List, length, refl, ap, inl, inr}
 use Rattle.std.specs.Str.{IsUtf8, IsValidUpTo}
 use Rattle.std.specs.List.{count_by}
 use Rattle.snap_work.specs.declared.faults.WorkCause.TheVariants.{NotUtf8}
-use Rattle.work_text.specs.Built.{IsFirstWorkFault}
 use Rattle.std.specs.Prelude.{◌==◌, take, Option, None, Ok, Err, Result}
 use Rattle.snap_base.specs.declared.transactions.State.{State}
 use Rattle.snap_base.specs.declared.transactions.Tx.{Tx}
 use Rattle.aml_tree.specs.Tree.{CheckedMethod}
 use Rattle.work_text.specs.Lines.{Line, lines, numbered}
 use Rattle.work_text.specs.Readings.{IsNo, Is, Reading, gives, ◌>>=◌}
-use Rattle.work_text.specs.Reads.{Laid, laid, tail, line, program_lines, reads_lines, Reads}
+use Rattle.work_text.specs.Reads.{work_with, tail, line, program_lines, reads_lines, Reads, IsFirstWorkFault}
 use Rattle.snap_work.specs.declared.faults.WorkFault.{WorkFault}
 use Rattle.work_text.specs.Actors.{states_in}
 use Rattle.snap_work.specs.Works.{Work}
@@ -18,27 +17,25 @@ use Rattle.work_text.specs.Endings.{ending}
 use Rattle.snap_work.specs.declared.faults.WorkNo.{WorkNo}
 use Rattle.snap_work.specs.declared.faults.WorkNo.TheVariants as no
 
-abbrev pub whole : ℕ × ℕ → ℕ × ℕ → ℕ → ℕ → ℕ → List CheckedMethod → ℕ → List Line → Reading Laid
-whole c l b s a p n ls = tail p n None ls >>= λ t. gives (laid (record { coordinators = c; logs = l; batch = b; batches = s; acts = a; program = p; actors = n }) t.0 t.1)
+abbrev pub whole : ℕ → ℕ → ℕ → ℕ → ℕ → List CheckedMethod → ℕ → List Line → Reading Work
+whole c l b s a p n ls = tail p n None ls >>= λ t. gives (work_with (record { coordinators = c; logs = l; batch = b; batches = s; acts = a; program = p; actors = n }) t.0 t.1)
 
-abbrev pub put : ℕ × ℕ → ℕ × ℕ → ℕ → ℕ → ℕ → List CheckedMethod → List State × List Tx × List ℕ → Laid
-put c l b s a p x = record {
-  work = record { coordinators = c.0; logs = l.0; batch = b; batches = s; acts = a; program = p; states = x.0; txs = x.1 };
-  coordinators_line = c.1;
-  logs_line = l.1;
-  transaction_lines = x.2;
-}
+abbrev pub put : ℕ → ℕ → ℕ → ℕ → ℕ → List CheckedMethod → List State × List Tx → Work
+put c l b s a p x = record { coordinators = c; logs = l; batch = b; batches = s; acts = a; program = p; states = x.0; txs = x.1 }
 
-pub whole_found : (c l : ℕ × ℕ) (b s a : ℕ) (p : List CheckedMethod) (n : ℕ) (ls : List Line) (x : List State × List Tx × List ℕ) → ending p n ls (Ok x) → whole c l b s a p n ls (Ok (put c l b s a p x))
+pub whole_found : (c l b s a : ℕ) (p : List CheckedMethod) (n : ℕ) (ls : List Line) (x : List State × List Tx) → ending p n ls (Ok x) → whole c l b s a p n ls (Ok (put c l b s a p x))
 whole_found c l b s a p n ls x (Ok t, h, e) =
-    let same : x ≡ (states_in t.0 0 n, map (λ (x : Tx × ℕ). x.0) t.1, map (λ (x : Tx × ℕ). x.1) t.1) = cc in
+    let same : x ≡ (states_in t.0 0 n, t.1) = cc in
     (Ok t, h, ap (λ y. Ok (put c l b s a p y)) same)
 whole_found c l b s a p n ls x (Err f, h, e) = cc
 
-pub whole_fails : (c l : ℕ × ℕ) (b s a : ℕ) (p : List CheckedMethod) (n : ℕ) (ls : List Line) (e : WorkNo) → IsNo (ending p n ls) e → IsNo (whole c l b s a p n ls) e
+pub whole_fails : (c l b s a : ℕ) (p : List CheckedMethod) (n : ℕ) (ls : List Line) (e : WorkNo) → IsNo (ending p n ls) e → IsNo (whole c l b s a p n ls) e
 whole_fails c l b s a p n ls (no.Fault f) (Ok t, h, e) = cc
 whole_fails c l b s a p n ls (no.Fault f) (Err g, h, e) = (Err g, h, let same : f ≡ g = cc in ap (λ y. Err y) same)
 whole_fails c l b s a p n ls no.Memory h = tt
+
+pub whole_put : (c l b s a : ℕ) (p : List CheckedMethod) (n : ℕ) (ls : List Line) (x : List State × List Tx) (w : Work) → w ≡ put c l b s a p x → ending p n ls (Ok x) → whole c l b s a p n ls (Ok w)
+whole_put c l b s a p n ls x w e h = rw e (whole_found c l b s a p n ls x h)
 
 -- the number behind the last line is one
 pub at_last : {A : Type 0} (m n : ℕ) (ls : List Line) (reading : Line → Reading A) (x : Result (A × List Line) WorkFault) → m ≡ n → line m ls reading x → line n ls reading x
@@ -57,18 +54,14 @@ no_at_program m n before up no.Memory e h = tt
 
 -- ---- the text
 
-pub text_reads : {A : Type 0} (view : A → Laid) (text : List ℕ) (r : Result A WorkNo) → length text ≤ 8388608 → IsUtf8 text → Is view r (reads_lines (1 + length (lines text)) (numbered 1 (lines text))) → Is view r (Reads text)
+pub text_reads : {A : Type 0} (view : A → Work) (text : List ℕ) (r : Result A WorkNo) → length text ≤ 8388608 → IsUtf8 text → Is view r (reads_lines (1 + length (lines text)) (numbered 1 (lines text))) → Is view r (Reads text)
 text_reads view text (Ok x) short utf8 h = inr (inr (short, utf8, h))
 text_reads view text (Err (no.Fault f)) short utf8 h = inr (inr (short, utf8, h))
 text_reads view text (Err no.Memory) short utf8 h = tt
 
 pub first_fault : (text : List ℕ) (why : WorkNo) (f : WorkFault) → IsNo (Reads text) why → why ≡ no.Fault f → IsFirstWorkFault text f
-first_fault text (no.Fault g) f h e = let same : g ≡ f = cc in inl (rw same at h)
+first_fault text (no.Fault g) f h e = let same : g ≡ f = cc in rw same at h
 first_fault text no.Memory f h e = cc
-
-pub whole_put : (c l : ℕ × ℕ) (b s a : ℕ) (p : List CheckedMethod) (n : ℕ) (ls : List Line) (x : List State × List Tx × List ℕ) (w : Work) → w ≡ (put c l b s a p x).work → ending p n ls (Ok x)
-    → whole c l b s a p n ls (Ok (record { work = w; coordinators_line = c.1; logs_line = l.1; transaction_lines = x.2 }))
-whole_put c l b s a p n ls x w e h = rw e (whole_found c l b s a p n ls x h)
 
 pub no_utf8 : (text : List ℕ) (n m line : ℕ) (why : WorkNo) → length text ≤ 8388608 → IsValidUpTo text n → m ≡ n → line ≡ 1 + count_by (λ b. b == 10) (take m text) → why ≡ no.Fault (record { line = line; cause = NotUtf8 }) → IsNo (Reads text) why
 no_utf8 text n m line why short v e l w = rw (w, l, e) (inr (inl (short, (n, record { within = v.short; front = v.front; longest = λ k lt le. v.longest k lt }, refl))))

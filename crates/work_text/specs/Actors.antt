@@ -32,7 +32,6 @@ ActorFault actors last line cause.BadHeader = ⊥
 ActorFault actors last line (cause.Program p) = ⊥
 ActorFault actors last line cause.BadTx = ⊥
 ActorFault actors last line cause.RootNotDeclared = ⊥
-ActorFault actors last line cause.Unbuilt = ⊥
 
 abbrev pub actor : ℕ → Option ℕ → Line → Reading Named
 actor actors last line (Ok n) = Names actors last line.bytes n × (length n.values ≤ FIELDS)

@@ -1,13 +1,13 @@
 -- Only private contracts cite this; the rule is Reads.antt.
 -- The end of a text as the reader takes it.
-use Rattle.std.specs.Prelude.{ℕ, List, [], ◌∷◌, map, Option, None, Some}
+use Rattle.std.specs.Prelude.{ℕ, List, [], ◌∷◌, Option, None, Some}
 use Rattle.snap_base.specs.declared.transactions.State.{State}
 use Rattle.snap_base.specs.declared.transactions.Tx.{Tx}
 use Rattle.aml_tree.specs.Tree.{CheckedMethod}
 use Rattle.work_text.specs.Lines.{Line, words}
 use Rattle.work_text.specs.Readings.{Reading, gives, ◌>>=◌, whether}
 use Rattle.work_text.specs.Actors.{Named, actor, states_in}
-use Rattle.work_text.specs.Reads.{first_is_actor, transactions, tail}
+use Rattle.work_text.specs.Reads.{first_is_actor, tail}
 
 -- the actors that the first lines name, and the lines behind these; the actor named last, if any
 abbrev pub named_lines : ℕ → Option ℕ → List Line → Reading (List Named × List Line)
@@ -21,10 +21,6 @@ named_lines count last (l ∷ ls) =
 abbrev pub states : ℕ → List Line → Reading (List State × List Line)
 states count ls = named_lines count None ls >>= λ x. gives (states_in x.0 0 count, x.1)
 
--- the transactions that lines ask for, and the lines' numbers
-abbrev pub asked : List CheckedMethod → ℕ → List Line → Reading (List Tx × List ℕ)
-asked p count ls = transactions p count 0 ls >>= λ t. gives (map (λ (x : Tx × ℕ). x.0) t, map (λ (x : Tx × ℕ). x.1) t)
-
--- all states, the transactions, and the lines of these
-abbrev pub ending : List CheckedMethod → ℕ → List Line → Reading (List State × List Tx × List ℕ)
-ending p actors ls = tail p actors None ls >>= λ t. gives (states_in t.0 0 actors, map (λ (x : Tx × ℕ). x.0) t.1, map (λ (x : Tx × ℕ). x.1) t.1)
+-- all states, and the transactions
+abbrev pub ending : List CheckedMethod → ℕ → List Line → Reading (List State × List Tx)
+ending p actors ls = tail p actors None ls >>= λ t. gives (states_in t.0 0 actors, t.1)

@@ -7,4 +7,3 @@ pub mod Transactions
 pub mod Parts
 pub mod Reads
 pub mod Endings
-pub mod Built

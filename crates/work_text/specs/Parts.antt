@@ -1,6 +1,6 @@
 -- Only private contracts cite this; the rules are Reads.antt, Actors.antt and Transactions.antt.
 -- The parts of a line, each as the reader takes it from the others.
-use Rattle.std.specs.Prelude.{◌≡◌, ℕ, ℤ, ◌+◌, ◌<◌, ◌≤◌, ◌==◌, false, List, length, map, codes, slice_index_or, [], ◌∷◌, Option, None, Some, IfSome, FitsSigned}
+use Rattle.std.specs.Prelude.{◌≡◌, ℕ, ℤ, ◌+◌, ◌<◌, ◌≤◌, ◌==◌, false, List, length, map, codes, slice_index_or, [], Option, IfSome, FitsSigned}
 use Rattle.std.specs.List.{AllByRecursion}
 use Rattle.std.specs.Int.{w64}
 use Rattle.std.specs.Fmt.{decimal, signed_decimal}
@@ -64,8 +64,3 @@ IsNear before text_no.Memory = Unit {0}
 abbrev pub IsTextNo : ℕ → TextNo → WorkNo → Type 0
 IsTextNo before (text_no.Fault f) why = IsFaultBehind before f.line (cause.Program (program_cause.Text f.cause f.column)) why
 IsTextNo before text_no.Memory why = why ≡ no.Memory
-
--- the first number of a list, if it has one
-abbrev pub IsHead : Option ℕ → List ℕ → Type 0
-IsHead None ns = ns ≡ []
-IsHead (Some n) ns = (more : List ℕ) × (ns ≡ n ∷ more)

@@ -1,5 +1,5 @@
 -- What a work text stands for, or its first fault: the parts of a text in their order.
-use Rattle.std.specs.Prelude.{◌≡◌, ℕ, ◌+◌, ◌<◌, ◌≤◌, ◌⊎◌, ◌==◌, Bool, false, List, [], ◌∷◌, length, take, map, codes, Option, Some, None, Ok, Err}
+use Rattle.std.specs.Prelude.{◌≡◌, ℕ, ◌+◌, ◌<◌, ◌≤◌, ◌⊎◌, ◌==◌, Bool, false, List, [], ◌∷◌, length, take, codes, Option, Some, None, Ok, Err}
 use Rattle.std.specs.List.{count_by}
 use Rattle.std.specs.Str.{IsUtf8, bytes_eq}
 use Rattle.snap_base.specs.declared.transactions.Tx.{Tx}
@@ -14,11 +14,12 @@ use Rattle.snap_work.specs.declared.faults.ProgramCause.{ProgramCause}
 use Rattle.snap_work.specs.declared.faults.ProgramCause.TheVariants as program_cause
 use Rattle.snap_work.specs.declared.faults.WorkCause.{WorkCause}
 use Rattle.snap_work.specs.declared.faults.WorkCause.TheVariants as cause
+use Rattle.snap_work.specs.declared.faults.WorkFault.{WorkFault}
 use Rattle.snap_work.specs.declared.limits.TheConstants.{LONGEST_WORK}
 use Rattle.work_text.specs.Lines.{Line, lines, text_of, words, numbered, said, next, up_to_end}
 use Rattle.snap_work.specs.Works.{Work}
 use Rattle.work_text.specs.Readings.{Reading, gives, fails, ◌>>=◌, only, whether}
-use Rattle.work_text.specs.Settings.{Setting, setting, coordinators, logs, batch, batches, acts, actors}
+use Rattle.work_text.specs.Settings.{setting, coordinators, logs, batch, batches, acts, actors}
 use Rattle.work_text.specs.Actors.{Named, actor, states_in}
 use Rattle.work_text.specs.Transactions.{transaction}
 
@@ -35,10 +36,6 @@ line last ls reading = by_next last (next ls) reading
 -- a line that is just this, and its number
 abbrev pub exactly : List ℕ → Line → Reading ℕ
 exactly bytes l = only (bytes_eq l.bytes bytes) l.number cause.BadHeader (gives l.number)
-
--- a number that a line sets, with the line's number
-abbrev pub set : Setting → Line → Reading (ℕ × ℕ)
-set s l = setting s l >>= λ n. gives (n, l.number)
 
 -- ---- the program
 
@@ -58,7 +55,6 @@ IsProgramFault before bytes line cause.BadActor = ⊥
 IsProgramFault before bytes line cause.BadTx = ⊥
 IsProgramFault before bytes line (cause.Limit which found) = ⊥
 IsProgramFault before bytes line cause.RootNotDeclared = ⊥
-IsProgramFault before bytes line cause.Unbuilt = ⊥
 
 abbrev pub program_text : ℕ → List ℕ → Reading (List CheckedMethod)
 program_text before bytes (Ok c) = (p : List TextMethod) × IsProgramText bytes p × check.IsCheckedProgram p c
@@ -76,14 +72,14 @@ abbrev pub first_is_actor : List (List ℕ) → Bool
 first_is_actor [] = false
 first_is_actor (word ∷ more) = bytes_eq word (codes "actor")
 
--- the transactions that lines ask for, with their lines' numbers, behind so many
-abbrev pub transactions : List CheckedMethod → ℕ → ℕ → List Line → Reading (List (Tx × ℕ))
+-- the transactions that lines ask for, behind so many
+abbrev pub transactions : List CheckedMethod → ℕ → ℕ → List Line → Reading (List Tx)
 transactions p count before [] = gives []
 transactions p count before (l ∷ ls) =
-    transaction p count before l >>= λ tx. transactions p count (before + 1) ls >>= λ more. gives ((tx, l.number) ∷ more)
+    transaction p count before l >>= λ tx. transactions p count (before + 1) ls >>= λ more. gives (tx ∷ more)
 
 -- the actors that lines name, and the transactions behind them; the actor named last, if any
-abbrev pub tail : List CheckedMethod → ℕ → Option ℕ → List Line → Reading (List Named × List (Tx × ℕ))
+abbrev pub tail : List CheckedMethod → ℕ → Option ℕ → List Line → Reading (List Named × List Tx)
 tail p count before [] = gives ([], [])
 tail p count before (l ∷ ls) =
     whether (first_is_actor (words l.bytes))
@@ -92,54 +88,42 @@ tail p count before (l ∷ ls) =
 
 -- ---- the text
 
--- a work, with the lines of what may be more than is built
-pub record Laid : Type 0 where
-  pub work : Work
-  pub coordinators_line : ℕ
-  pub logs_line : ℕ
-  pub transaction_lines : List ℕ
-
--- what stands before the actors' states: numbers, two of them with their lines' numbers, and the program
+-- what stands before the actors' states: numbers, and the program
 pub record Setup : Type 0 where
-  pub coordinators : ℕ × ℕ
-  pub logs : ℕ × ℕ
+  pub coordinators : ℕ
+  pub logs : ℕ
   pub batch : ℕ
   pub batches : ℕ
   pub acts : ℕ
   pub program : List CheckedMethod
   pub actors : ℕ
 
-abbrev pub laid : Setup → List Named → List (Tx × ℕ) → Laid
-laid setup named txs = record {
-  work = record {
-    coordinators = setup.coordinators.0;
-    logs = setup.logs.0;
-    batch = setup.batch;
-    batches = setup.batches;
-    acts = setup.acts;
-    program = setup.program;
-    states = states_in named 0 setup.actors;
-    txs = map (λ (t : Tx × ℕ). t.0) txs;
-  };
-  coordinators_line = setup.coordinators.1;
-  logs_line = setup.logs.1;
-  transaction_lines = map (λ (t : Tx × ℕ). t.1) txs;
+abbrev pub work_with : Setup → List Named → List Tx → Work
+work_with setup named txs = record {
+  coordinators = setup.coordinators;
+  logs = setup.logs;
+  batch = setup.batch;
+  batches = setup.batches;
+  acts = setup.acts;
+  program = setup.program;
+  states = states_in named 0 setup.actors;
+  txs = txs;
 }
 
 -- the lines in their order
-abbrev pub reads_lines : ℕ → List Line → Reading Laid
+abbrev pub reads_lines : ℕ → List Line → Reading Work
 reads_lines last ls = do
   header ← line last ls (exactly (codes "snapper 1"))
-  c ← line last header.1 (set coordinators)
-  l ← line last c.1 (set logs)
-  b ← line last l.1 (set batch)
-  s ← line last b.1 (set batches)
-  a ← line last s.1 (set acts)
+  c ← line last header.1 (setting coordinators)
+  l ← line last c.1 (setting logs)
+  b ← line last l.1 (setting batch)
+  s ← line last b.1 (setting batches)
+  a ← line last s.1 (setting acts)
   begin ← line last a.1 (exactly (codes "program"))
   p ← program_lines last begin.0 (up_to_end begin.1)
-  n ← line last p.1 (set actors)
-  t ← tail p.0 n.0.0 None (said n.1)
-  gives (laid (record { coordinators = c.0; logs = l.0; batch = b.0.0; batches = s.0.0; acts = a.0.0; program = p.0; actors = n.0.0 }) t.0 t.1)
+  n ← line last p.1 (setting actors)
+  t ← tail p.0 n.0 None (said n.1)
+  gives (work_with (record { coordinators = c.0; logs = l.0; batch = b.0; batches = s.0; acts = a.0; program = p.0; actors = n.0 }) t.0 t.1)
 
 -- the longest front of the text that is UTF-8 ends at a place before its end
 pub record EndsUtf8 (text : List ℕ) (at : ℕ) : Type 0 where
@@ -148,12 +132,12 @@ pub record EndsUtf8 (text : List ℕ) (at : ℕ) : Type 0 where
   pub longest : (n : ℕ) → at < n → n ≤ length text → ¬ IsUtf8 (take n text)
 
 -- a text that is not UTF-8 has its fault in the line where its longest front ends that is
-abbrev pub not_utf8 : List ℕ → Reading Laid
+abbrev pub not_utf8 : List ℕ → Reading Work
 not_utf8 text (Ok x) = ⊥
 not_utf8 text (Err f) = (at : ℕ) × EndsUtf8 text at × (f ≡ record { line = 1 + count_by (λ b. b == 10) (take at text); cause = cause.NotUtf8 })
 
 -- What the text is read as: its size is asked first, then UTF-8, then line by line.
-abbrev pub Reads : List ℕ → Reading Laid
+abbrev pub Reads : List ℕ → Reading Work
 Reads text read =
     ((LONGEST_WORK < length text) × (read ≡ Err (record { line = 0; cause = cause.Limit limit.Input (1 + LONGEST_WORK) })))
     ⊎ ((length text ≤ LONGEST_WORK) × not_utf8 text read)
@@ -161,4 +145,8 @@ Reads text read =
 
 -- the text stands for the work
 abbrev pub IsWork : List ℕ → Work → Type 0
-IsWork text w = (t : Laid) × Reads text (Ok t) × (w ≡ t.work)
+IsWork text w = Reads text (Ok w)
+
+-- the first fault of a text that stands for none
+abbrev pub IsFirstWorkFault : List ℕ → WorkFault → Type 0
+IsFirstWorkFault text f = Reads text (Err f)

@@ -45,7 +45,6 @@ SettingFault s line (cause.Program p) = ⊥
 SettingFault s line cause.BadActor = ⊥
 SettingFault s line cause.BadTx = ⊥
 SettingFault s line cause.RootNotDeclared = ⊥
-SettingFault s line cause.Unbuilt = ⊥
 
 -- the number that a line sets, from 1 on
 abbrev pub setting : Setting → Line → Reading ℕ

@@ -81,7 +81,6 @@ TransactionFault p actors before line cause.NotUtf8 = ⊥
 TransactionFault p actors before line cause.BadHeader = ⊥
 TransactionFault p actors before line (cause.Program q) = ⊥
 TransactionFault p actors before line cause.BadActor = ⊥
-TransactionFault p actors before line cause.Unbuilt = ⊥
 
 abbrev pub transaction : List CheckedMethod → ℕ → ℕ → Line → Reading Tx
 transaction p actors before line (Ok tx) = Asks p actors line.bytes tx × (length tx.uses ≤ MOST_CALLED_ACTORS) × (before < MOST_TRANSACTIONS) × DeclaresRoot tx.kind tx.actor.0 tx.uses

@@ -3,9 +3,8 @@
 ghost use Rattle.std.specs.Prelude.{◌≡◌, ℕ, ◌≤◌, List, length, Result};
 ghost use Rattle.snap_work.specs.declared.faults.WorkFault.{WorkFault};
 ghost use Rattle.snap_work.specs.Works.{Work};
-ghost use Rattle.work_text.specs.Reads.{Laid, Reads, IsWork};
-ghost use Rattle.work_text.specs.Built.{IsBuilt, IsFirstWorkFault};
-ghost use Rattle.snap_work.specs.Kept.{KeepsLimits, IsOneBatch};
+ghost use Rattle.work_text.specs.Reads.{Reads, IsWork, IsFirstWorkFault};
+ghost use Rattle.snap_work.specs.Kept.{KeepsLimits};
 
 use aml_parser::{faulty, one_fault, one_program};
 use aml_resolver::checked_programs_are_closed;
@@ -19,26 +18,14 @@ pub fn transactions_may_run()
     checked_programs_are_closed();
 }
 
-/// A work that is built is one batch of PACTs.
-pub fn one_batch()
-    ensures { (text : List ℕ) (w : Work) → IsBuilt text w → IsOneBatch w }
-{
-    checked_programs_are_closed();
-}
-
 /// A text that stands for a work is not too long.
 pub fn a_work_is_short()
     ensures { (text : List ℕ) (w : Work) → IsWork text w → length text ≤ LONGEST_WORK }
 {}
 
-/// A text that stands for a work that is built stands for it.
-pub fn built_works()
-    ensures { (text : List ℕ) (w : Work) → IsBuilt text w → IsWork text w }
-{}
-
 /// A text is read as one thing.
 pub fn one_reading()
-    ensures { (text : List ℕ) (r s : Result Laid WorkFault) → Reads text r → Reads text s → r ≡ s }
+    ensures { (text : List ℕ) (r s : Result Work WorkFault) → Reads text r → Reads text s → r ≡ s }
 {
     one_program();
     one_fault();
@@ -48,7 +35,7 @@ pub fn one_reading()
 
 /// A text stands for one work at most.
 pub fn one_work()
-    ensures { (text : List ℕ) (v w : Work) → IsBuilt text v → IsBuilt text w → v ≡ w }
+    ensures { (text : List ℕ) (v w : Work) → IsWork text v → IsWork text w → v ≡ w }
 {
     one_reading();
 }
@@ -60,9 +47,9 @@ pub fn one_first_fault()
     one_reading();
 }
 
-/// A text with a first fault stands for no work that is built.
+/// A text with a first fault stands for no work.
 pub fn fault_or_work()
-    ensures { (text : List ℕ) (f : WorkFault) (w : Work) → IsFirstWorkFault text f → ¬ IsBuilt text w }
+    ensures { (text : List ℕ) (f : WorkFault) (w : Work) → IsFirstWorkFault text f → ¬ IsWork text w }
 {
     one_reading();
 }

@@ -20,7 +20,6 @@ mod transactions;
 mod uses;
 
 pub use laws::{
-    a_work_is_short, built_works, fault_or_work, one_batch, one_first_fault, one_reading, one_work,
-    transactions_may_run,
+    a_work_is_short, fault_or_work, one_first_fault, one_reading, one_work, transactions_may_run,
 };
 pub use parse::parse_work;

@@ -23,52 +23,41 @@ use snap_work::{
 };
 use std::alloc::Global;
 
-// The transactions that lines ask for, and the numbers of these lines.
+// The transactions that lines ask for.
 fn asked(
     alloc: Global,
     program: &Checked,
     actors: u16,
     cursor: Cursor<'_>,
-) -> Result<(Sequence<Tx>, Sequence<u32>), WorkNo>
+) -> Result<Sequence<Tx>, WorkNo>
     requires { IsShort cursor }
-    ensures { Is (λ x. (x.0, x.1)) result (endings.asked (methods_of program.now) actors (said (ahead cursor.entry))) }
+    ensures { Is (λ x. x) result (reads.transactions (methods_of program.now) actors 0 (said (ahead cursor.entry))) }
 {
     let mut txs = Vec::new(alloc);
-    let mut lines = Vec::new(alloc);
     let mut at = cursor;
     while let Ok((line, behind)) = next_said(at) {
         let tx = transaction(alloc, program, actors, txs.len(), line)?;
         txs.push(tx)?;
-        lines.push(line.number)?;
         at = behind;
     }
-    Ok((Sequence::from_vec(txs), Sequence::from_vec(lines)))
+    Ok(Sequence::from_vec(txs))
 }
 
-// The states, the transactions, and the numbers of the lines that ask for these.
+// The states and the transactions.
 fn tail(
     alloc: Global,
     program: &Checked,
     actors: u64,
     cursor: Cursor<'_>,
-) -> Result<(Sequence<State>, Sequence<Tx>, Sequence<u32>), WorkNo>
+) -> Result<(Sequence<State>, Sequence<Tx>), WorkNo>
     requires short { IsShort cursor }
     requires few { actors ≤ MOST_ACTORS }
-    ensures { Is (λ x. (x.0, x.1, x.2)) result (endings.ending (methods_of program.now) actors (said (ahead cursor.entry))) }
+    ensures { Is (λ x. (x.0, x.1)) result (endings.ending (methods_of program.now) actors (said (ahead cursor.entry))) }
 {
     let count = actors as u16;
     let (states, behind) = states(alloc, count, cursor)?;
-    let (txs, lines) = asked(alloc, program, count, behind)?;
-    Ok((Sequence::from_vec(states), txs, lines))
-}
-
-/// A work, with the lines of what may be more than is built.
-#[derive(Drop)]
-pub(crate) struct Laid {
-    pub(crate) work: Work,
-    pub(crate) coordinators: u32,
-    pub(crate) logs: u32,
-    pub(crate) transactions: Sequence<u32>,
+    let txs = asked(alloc, program, count, behind)?;
+    Ok((Sequence::from_vec(states), txs))
 }
 
 // A work of its parts.
@@ -96,9 +85,9 @@ fn put_together(
 }
 
 /// The work that lines stand for.
-pub(crate) fn read_lines(alloc: Global, cursor: Cursor<'_>) -> Result<Laid, WorkNo>
+pub(crate) fn read_lines(alloc: Global, cursor: Cursor<'_>) -> Result<Work, WorkNo>
     requires { IsShort cursor }
-    ensures { Is (λ x. record { work = work_of x.work; coordinators_line = x.coordinators; logs_line = x.logs; transaction_lines = x.transactions }) result (reads.reads_lines (end_of cursor.entry) (ahead cursor.entry)) }
+    ensures { Is work_of result (reads.reads_lines (end_of cursor.entry) (ahead cursor.entry)) }
 {
     let header = exactly(cursor, b"snapper 1")?;
     let coordinators = set(
@@ -114,18 +103,12 @@ pub(crate) fn read_lines(alloc: Global, cursor: Cursor<'_>) -> Result<Laid, Work
     let begin = exactly(acts.1, b"program")?;
     let (program, behind) = program(alloc, begin.0, begin.1)?;
     let actors = set(behind, b"actors ", MOST_ACTORS, Limit::Actors)?;
-    let (states, txs, lines) = tail(alloc, &program, actors.0.0, actors.1)?;
-    let work = put_together(
-        (coordinators.0.0, logs.0.0),
-        (batch.0.0, batches.0.0, acts.0.0),
+    let (states, txs) = tail(alloc, &program, actors.0, actors.1)?;
+    Ok(put_together(
+        (coordinators.0, logs.0),
+        (batch.0, batches.0, acts.0),
         program,
         states,
         txs,
-    );
-    Ok(Laid {
-        work,
-        coordinators: coordinators.0.1,
-        logs: logs.0.1,
-        transactions: lines,
-    })
+    ))
 }

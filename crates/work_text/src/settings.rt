@@ -37,29 +37,20 @@ fn setting(line: Line<'_>, word: &[u8], most: u64, which: Limit) -> Result<u64, 
     Ok(found)
 }
 
-// The same with the line's number.
-fn set_by(line: Line<'_>, word: &[u8], most: u64, which: Limit) -> Result<(u64, u32), WorkNo>
-    ensures reads { Is (λ x. x) result (reads.set (record { word = word.now; most = most; which = which }) (line_of line.entry)) }
-    ensures within { IfOk result (λ x. x.0 ≤ most) }
-{
-    let number = setting(line, word, most, which)?;
-    Ok((number, line.number))
-}
-
-/// The number that the next line sets, the line's number, and what lies behind it.
+/// The number that the next line sets, and what lies behind it.
 pub(crate) fn set<'a>(
     cursor: Cursor<'a>,
     word: &[u8],
     most: u64,
     which: Limit,
-) -> Result<((u64, u32), Cursor<'a>), WorkNo>
+) -> Result<(u64, Cursor<'a>), WorkNo>
     requires { IsShort cursor }
-    ensures reads { Is (λ x. (x.0, ahead x.1)) result (reads.line (end_of cursor.entry) (ahead cursor.entry) (reads.set (record { word = word.now; most = most; which = which }))) }
-    ensures within { IfOk result (λ x. x.0.0 ≤ most) }
+    ensures reads { Is (λ x. (x.0, ahead x.1)) result (reads.line (end_of cursor.entry) (ahead cursor.entry) (spec.setting (record { word = word.now; most = most; which = which }))) }
+    ensures within { IfOk result (λ x. x.0 ≤ most) }
     ensures kept { IfOk result (λ x. (end_of x.1 ≡ end_of cursor.entry) × IsShort x.1) }
 {
     match next_said(cursor) {
-        Ok((line, behind)) => Ok((set_by(line, word, most, which)?, behind)),
+        Ok((line, behind)) => Ok((setting(line, word, most, which)?, behind)),
         Err(last) => Err(at_line(last, WorkCause::BadHeader)),
     }
 }

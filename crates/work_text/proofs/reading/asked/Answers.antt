@@ -10,16 +10,16 @@ use Rattle.work_text.proofs.reading.asked.Goals as goal
 pub returns-in_err-tx : goal.returns-in_err-tx
 returns-in_err-tx c =
     let p = err_from_is_err_and c.from_residual.result c.from_residual.ensures.1 in
-    rw (p.1, p.2) (none_more (methods_of c.args.program.now) c.args.actors (said (ahead c.args.cursor)) (said (ahead c.loop-line.at)) c.loop-line.txs.items c.loop-line.lines.items (line_of c.in-Ok.line) (said (ahead c.in-Ok.behind)) c.in_err-tx.field-0.0 c.len.result
+    rw (p.1, p.2) (none_more (methods_of c.args.program.now) c.args.actors (said (ahead c.args.cursor)) (said (ahead c.loop-line.at)) c.loop-line.txs.items (line_of c.in-Ok.line) (said (ahead c.in-Ok.behind)) c.in_err-tx.field-0.0 c.len.result
     c.loop-line.invariant.are (said_found (ahead c.loop-line.at) (line_of c.in-Ok.line, ahead c.in-Ok.behind) c.in-Ok.ensures.found) (omega arith) c.in_err-tx.ensures)
 
 pub loop-line-preserved : goal.loop-line-preserved
 loop-line-preserved c =
-    let one = one_asked (methods_of c.args.program.now) c.args.actors (said (ahead c.args.cursor)) (said (ahead c.loop-line.at)) c.loop-line.txs.items c.loop-line.lines.items (line_of c.in-Ok.line) (said (ahead c.in-Ok.behind)) c.in_ok-tx.tx c.len.result
+    let one = one_asked (methods_of c.args.program.now) c.args.actors (said (ahead c.args.cursor)) (said (ahead c.loop-line.at)) c.loop-line.txs.items (line_of c.in-Ok.line) (said (ahead c.in-Ok.behind)) c.in_ok-tx.tx c.len.result
     c.loop-line.invariant.are (said_found (ahead c.loop-line.at) (line_of c.in-Ok.line, ahead c.in-Ok.behind) c.in-Ok.ensures.found) (omega arith) c.in_ok-tx.ensures in
-    rw (c.in_ok-push.ensures.items, c.in_ok-push-2.ensures.items) (record { are = one; short = c.in-Ok.ensures.onward.1; few = rw length-append (omega (arith, c.in_ok-tx.ensures.2)) })
+    rw c.in_ok-push.ensures.items (record { are = one; short = c.in-Ok.ensures.onward.1; few = rw length-append (omega (arith, c.in_ok-tx.ensures.2)) })
 
 pub returns : goal.returns
 returns c =
-    rw (c.from_vec.ensures, c.from_vec-2.ensures) (all_asked (methods_of c.args.program.now) c.args.actors (said (ahead c.args.cursor)) (said (ahead c.loop-line.at)) c.loop-line.txs.items c.loop-line.lines.items
+    rw c.from_vec.ensures (all_asked (methods_of c.args.program.now) c.args.actors (said (ahead c.args.cursor)) (said (ahead c.loop-line.at)) c.loop-line.txs.items
     c.loop-line.invariant.are (said_none (ahead c.loop-line.at) c.in_default.ensures.found))

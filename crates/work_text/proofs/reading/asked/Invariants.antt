@@ -7,7 +7,7 @@ use Rattle.work_text.proofs.reading.asked.Given as goal
 
 abbrev pub invariant-loop-line : goal.invariant-loop-line
 invariant-loop-line l = record {
-  are : AreAsked (methods_of l.program) l.actors (said (ahead l.cursor)) (said (ahead l.at)) l.txs.items l.lines.items;
+  are : AreAsked (methods_of l.program) l.actors (said (ahead l.cursor)) (said (ahead l.at)) l.txs.items;
   short : IsShort l.at;
   few : length l.txs.items ≤ 20000;
 }

@@ -16,4 +16,4 @@ returns-in_err-txs c =
     rw (p.1, p.2) (end_fails (methods_of c.args.program.now) c.args.actors (said (ahead c.args.cursor)) (said (ahead c.in_ok-states.behind)) c.in_ok-states.states.items c.in_err-txs.field-0.0 c.in_ok-states.ensures.reads c.in_err-txs.ensures)
 
 pub returns : goal.returns
-returns c = rw c.from_vec.ensures (end_found (methods_of c.args.program.now) c.args.actors (said (ahead c.args.cursor)) (said (ahead c.in_ok-states.behind)) c.in_ok-states.states.items c.in_ok-txs.txs c.in_ok-txs.lines c.in_ok-states.ensures.reads c.in_ok-txs.ensures)
+returns c = rw c.from_vec.ensures (end_found (methods_of c.args.program.now) c.args.actors (said (ahead c.args.cursor)) (said (ahead c.in_ok-states.behind)) c.in_ok-states.states.items c.in_ok-txs.txs c.in_ok-states.ensures.reads c.in_ok-txs.ensures)

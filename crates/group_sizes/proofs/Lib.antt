@@ -1,0 +1,4 @@
+mod ToldSizes
+mod GroupSizes
+mod GroupsWaited
+mod RecordCounts

@@ -1,9 +1,0 @@
-pub mod Completions
-pub mod Keeping
-pub mod OneTransaction
-pub mod ReportLaws
-pub mod RunRecords
-pub mod Runs
-pub mod SerialFacts
-pub mod TextWorks
-pub mod TwoGroups

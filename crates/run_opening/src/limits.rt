@@ -1,0 +1,2 @@
+/// More bytes than what is written before a run takes in a log.
+pub const LARGEST_START: u64 = 1 << 20;

@@ -1,0 +1,11 @@
+pub mod BatchesSettled
+pub mod GroupsGrown
+pub mod PausesFit
+pub mod Pieces
+pub mod ProgramsLeave
+pub mod RecordsKept
+pub mod RepliesGrown
+pub mod RunsLonger
+pub mod SlicesFit
+pub mod StatesKept
+pub mod ValuesFit

@@ -1,0 +1,5 @@
+pub mod Groups
+pub mod Lines
+pub mod Laws
+pub mod Recorded
+pub mod Replies

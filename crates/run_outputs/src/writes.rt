@@ -1,0 +1,18 @@
+ghost use Rattle.std.specs.Prelude.{ℕ, List, ◌≡◌, ◌≤◌, ◌++◌, OnOk, OnErr};
+ghost use Rattle.std.specs.Io.KnownBytes.{Appends};
+ghost use Rattle.snap_outside.specs.Causes.{HasCause};
+
+use snap_outside::{Failed, Sink};
+
+/// Writes all bytes. Where the sink fails it has taken a front of them.
+pub fn write_all<O: Sink>(out: &mut O, bytes: &[u8]) -> Result<(), Failed>
+    ensures whole { OnOk result (Appends (O.taken out.old) (O.taken out.new) bytes.now) }
+    ensures front { OnErr result ((front rest : List ℕ) × (bytes.now ≡ front ++ rest) × Appends (O.taken out.old) (O.taken out.new) front) }
+    ensures cause { HasCause (O.faults out.old) (O.faults out.new) result }
+{
+    let mut at = 0;
+    while at < bytes.len() {
+        at += out.write(&bytes[at..])?;
+    }
+    Ok(())
+}

@@ -1,0 +1,176 @@
+-- What a crash leaves of each log while a run begins.
+use Rattle.std.specs.Prelude.{◌≡◌, refl, ℕ, zero, suc, ◌<◌, ◌≤◌, ◌⊎◌, Option, Some, None, List, [], ◌∷◌, ◌++◌, length, IfSome}
+use Rattle.std.proofs.Common.{inl, inr, arith, sym, ap, subst, ◌∙◌}
+use Rattle.std.proofs.lemmas.List.{append-nil}
+use Rattle.std.proofs.lemmas.List.Concat.{flat_map-cons}
+use Rattle.snap_base.specs.declared.transactions.State.{State}
+use Rattle.gate_log.specs.Opened.{Opened, opening_ops}
+use Rattle.log_opening.specs.Devices.{Device, device_at}
+use Rattle.protocol.specs.Events as machine
+use Rattle.record_log.specs.Growth.{GrewBy, HoldsWhole, IsGrowth, Leaves, LeavesGroups, MayAppendGroups, all_records, groups_ops}
+use Rattle.record_log.specs.GrowthLaws.{GrowthKeeps}
+use Rattle.record_log.specs.Records.{HoldsRecords, spelled}
+use Rattle.gate_log.specs.Appends.{end_behind}
+use Rattle.run_opening.specs.Begins.{AreEmpty, Begins}
+use Rattle.run_opening.specs.Opens.{first_groups, records_at, with_first}
+use Rattle.run_opening.specs.Starts.{IsStart, first_record}
+use Rattle.run_outputs.specs.Groups.{group_behind, groups_of}
+use Rattle.snap_outside.specs.declared.devices.DevOp.{DevOp}
+use Rattle.snap_outside.specs.Disk.{History, IsImage, content, disk, disk_after, settled}
+use Rattle.snap_recover.specs.declared.openings.Opening.{Opening}
+use Rattle.snap_work.specs.Kept.{KeepsLimits}
+use Rattle.snap_work.specs.Works.{Work}
+use Rattle.txn_records.specs.declared.records.Record.{Record}
+use Rattle.run_recovery.specs.Beginnings.{BeginsAgain, CrashBefore, IsFront}
+use Rattle.run_recovery.specs.Runs.{AreRunDevices, IsRunDevice, machine_of, tried_on}
+
+-- ---- the first groups alone
+
+may_front : (end : ℕ) (xs ys : List (List Record)) → MayAppendGroups end (xs ++ ys) → MayAppendGroups end xs
+may_front end [] ys may = tt
+may_front end (x ∷ xs) ys may = (may.0, may_front (end_behind end (spelled x)) xs ys may.1)
+
+grew_first : (h : History) (new : Option History) (end : ℕ) (xs ys : List (List Record)) (tried : Option (List Record)) → GrewBy (Some h) new end (xs ++ ys) tried → MayAppendGroups end xs
+grew_first h new end xs ys tried grew = may_front end xs ys grew.1.may
+
+first_growth : (bytes : List ℕ) (end : ℕ) (groups : List (List Record)) → MayAppendGroups end groups → IsGrowth bytes end groups None (opening_ops bytes ++ groups_ops end groups)
+first_growth bytes end groups may = record { may = may; begun = []; last = refl; parts = ap (λ ops. opening_ops bytes ++ ops) (sym (append-nil (groups_ops end groups))) }
+
+-- ---- what they leave
+
+none_left : (rs : List Record) (whole later : List (List Record)) (begun : List DevOp) (image : List ℕ) → [] ≡ whole ++ later → HoldsWhole (rs ++ all_records whole) later begun image → HoldsRecords image rs
+none_left rs [] [] begun image e (inl held) = subst (HoldsRecords image) (append-nil rs) held
+none_left rs [] [] begun image e (inr more) = absurd more.1
+none_left rs [] (x ∷ later) begun image e holds = absurd (cc e)
+none_left rs (x ∷ whole) later begun image e holds = absurd (cc e)
+
+one_left : (rs group : List Record) (whole later : List (List Record)) (begun : List DevOp) (image : List ℕ) → group ∷ [] ≡ whole ++ later → HoldsWhole (rs ++ all_records whole) later begun image
+    → HoldsRecords image rs ⊎ HoldsRecords image (rs ++ group)
+one_left rs group [] later begun image e (inl held) = inl (subst (HoldsRecords image) (append-nil rs) held)
+one_left rs group [] [] begun image e (inr more) = absurd more.1
+one_left rs group [] (x ∷ later) begun image e (inr more) =
+    let is : group ≡ x = cc e in
+    inr (subst (HoldsRecords image) (ap (λ xs. xs ++ x) (append-nil rs) ∙ ap (λ y. rs ++ y) (sym is)) more.1)
+one_left rs group (x ∷ []) [] begun image e (inl held) =
+    let is : group ≡ x = cc e in
+    inr (subst (HoldsRecords image) (ap (λ xs. rs ++ xs) (flat_map-cons (λ (g : List Record). g) x [] ∙ (append-nil x ∙ sym is))) held)
+one_left rs group (x ∷ []) [] begun image e (inr more) = absurd more.1
+one_left rs group (x ∷ []) (y ∷ later) begun image e holds = absurd (cc e)
+one_left rs group (x ∷ y ∷ whole) later begun image e holds = absurd (cc e)
+
+-- the records of before, or, on log 0, these with what is written first
+abbrev Left : ℕ → List Record → List Record → List ℕ → Type 0
+Left l rs added image = HoldsRecords image rs ⊎ ((l ≡ 0) × HoldsRecords image (rs ++ added))
+
+on_first : (rs added : List Record) (image : List ℕ) → HoldsRecords image rs ⊎ HoldsRecords image (rs ++ added) → Left 0 rs added image
+on_first rs added image (inl held) = inl held
+on_first rs added image (inr held) = inr (refl, held)
+
+groups_left : (end l : ℕ) (rs added : List Record) (more : List DevOp) (image : List ℕ) → LeavesGroups end rs (first_groups l added) more image → Left l rs added image
+groups_left end zero rs [] more image x = inl (none_left rs x.whole x.later x.begun image x.splits x.holds)
+groups_left end zero rs (r ∷ added) more image x = on_first rs (r ∷ added) image (one_left rs (r ∷ added) x.whole x.later x.begun image x.splits x.holds)
+groups_left end (suc l) rs added more image x = inl (none_left rs x.whole x.later x.begun image x.splits x.holds)
+
+log_left : (bytes : List ℕ) (end l : ℕ) (rs added : List Record) (made : List DevOp) (image : List ℕ) → Leaves bytes end rs (first_groups l added) made image → Left l rs added image
+log_left bytes end l rs added made image (inl cut) = inl cut.1
+log_left bytes end l rs added made image (inr x) = groups_left end l rs added x.0 image x.2
+
+each_left : GrowthKeeps → {w : Work} {o : Opening} {es : List machine.Event} {failed : Option ℕ} {before after : List Device} (devices : AreRunDevices w o es failed before after) (images : ℕ → List ℕ)
+    → CrashBefore devices images → (l : ℕ) → l < w.logs → Left l (records_at devices.records l) devices.added (images l)
+each_left keeps {w} {o} {es} {failed} {before} {after} devices images crash l lt =
+    log_left (content h) here.end l rs devices.added (crash.made l) (images l)
+    (keeps h here.opened.0 here.end here.opened.1 rs first None (opening_ops (content h) ++ groups_ops here.end first) opened c.2 held (first_growth (content h) here.end first may) (crash.made l) c.3.0 c.3.1 (images l) c.4)
+  where
+    first : List (List Record)
+    first = first_groups l devices.added
+
+    rs : List Record
+    rs = records_at devices.records l
+
+    groups : List (List Record)
+    groups = groups_of (machine_of w o) l es
+
+    tried : Option (List Record)
+    tried = tried_on failed l (group_behind (machine_of w o) l es)
+
+    here : IsRunDevice (device_at before l) (device_at after l) rs (first ++ groups) tried
+    here = devices.each l lt
+
+    c : (h : History) × ((device_at before l).told ≡ Some h) × (disk h ≡ settled (content h)) × IsFront (crash.made l) (opening_ops (content h) ++ groups_ops here.end first) × IsImage (disk_after (crash.made l) (disk h)) (images l)
+    c = crash.each l lt
+
+    h : History
+    h = c.0
+
+    opened : Opened (Some h) here.opened.0 here.end here.opened.1
+    opened = subst (λ t. Opened t here.opened.0 here.end here.opened.1) c.1 here.opened.2
+
+    held : HoldsRecords (content h) rs
+    held = subst (λ t. IfSome t (λ h. HoldsRecords (content h) rs)) c.1 here.held
+
+    may : MayAppendGroups here.end first
+    may = grew_first h (device_at after l).told here.end first groups tried (subst (λ t. GrewBy t (device_at after l).told here.end (first ++ groups) tried) c.1 here.grew)
+
+-- ---- all logs
+
+-- what begins_again of run_opening says
+abbrev pub Unwritten : Type 0
+Unwritten = (logs : List (List Record)) (states : List State) (o : Opening) (added : List Record) → IsStart logs states o added → Begins logs states o
+
+abbrev pub Written : Type 0
+Written = (logs : List (List Record)) (states : List State) (o : Opening) (added : List Record) → 1 ≤ length logs → IsStart logs states o added → Begins (with_first logs added) states o
+
+-- which records all logs are left with
+record AllLeft (count : ℕ) (records : List (List Record)) (states : List State) (o : Opening) (images : ℕ → List ℕ) : Type 0 where
+  kept : List (List Record)
+  which : (kept ≡ records) ⊎ (AreEmpty records × (kept ≡ with_first records (first_record (length records) states ∷ [])))
+  holds : (l : ℕ) → l < count → HoldsRecords (images l) (records_at kept l)
+  begins : Begins kept states o
+
+-- on the logs behind log 0
+others_left : (l : ℕ) (rs added : List Record) (image : List ℕ) → Left (suc l) rs added image → HoldsRecords image rs
+others_left l rs added image (inl held) = held
+others_left l rs added image (inr more) = absurd (omega (arith, more.0))
+
+nothing_left : (l : ℕ) (rs added : List Record) (image : List ℕ) → added ≡ [] → Left l rs added image → HoldsRecords image rs
+nothing_left l rs added image none (inl held) = held
+nothing_left l rs added image none (inr more) = subst (HoldsRecords image) (ap (λ xs. rs ++ xs) none ∙ append-nil rs) more.1
+
+all_left : Unwritten → Written → (count : ℕ) (records : List (List Record)) (states : List State) (o : Opening) (added : List Record) (images : ℕ → List ℕ) → 1 ≤ count → length records ≡ count → IsStart records states o added
+    → ((l : ℕ) → l < count → Left l (records_at records l) added (images l)) → AllLeft count records states o images
+all_left unwritten written count [] states o added images some many start left = absurd (omega (arith, some, many))
+all_left unwritten written count (rs ∷ rss) states o added images some many (inr on) left = record {
+  kept = rs ∷ rss;
+  which = inl refl;
+  holds = λ l lt. nothing_left l (records_at (rs ∷ rss) l) added (images l) on.1 (left l lt);
+  begins = unwritten (rs ∷ rss) states o added (inr on);
+}
+all_left unwritten written count (rs ∷ rss) states o added images some many (inl new) left = by (left 0 some)
+  where
+    by : Left 0 rs added (images 0) → AllLeft count (rs ∷ rss) states o images
+    by (inl held) = record { kept = rs ∷ rss; which = inl refl; holds = same; begins = unwritten (rs ∷ rss) states o added (inl new) }
+      where
+        same : (l : ℕ) → l < count → HoldsRecords (images l) (records_at (rs ∷ rss) l)
+        same zero lt = held
+        same (suc l) lt = others_left l (records_at rss l) added (images (suc l)) (left (suc l) lt)
+    by (inr more) = record {
+      kept = (rs ++ added) ∷ rss;
+      which = inr (new.0, ap (λ xs. (rs ++ xs) ∷ rss) new.2);
+      holds = one_more;
+      begins = written (rs ∷ rss) states o added (omega arith) (inl new);
+    }
+      where
+        one_more : (l : ℕ) → l < count → HoldsRecords (images l) (records_at ((rs ++ added) ∷ rss) l)
+        one_more zero lt = more.1
+        one_more (suc l) lt = others_left l (records_at rss l) added (images (suc l)) (left (suc l) lt)
+
+pub begins_again : GrowthKeeps → Unwritten → Written → {w : Work} {o : Opening} {es : List machine.Event} {failed : Option ℕ} {before after : List Device} → KeepsLimits w
+    → (devices : AreRunDevices w o es failed before after) (images : ℕ → List ℕ) → CrashBefore devices images → BeginsAgain devices images
+begins_again keeps unwritten written {w} {o} limits devices images crash =
+    let all = all_left unwritten written w.logs devices.records w.states o devices.added images limits.logs.0 devices.as_many devices.start (each_left keeps devices images crash) in
+    record {
+      kept = all.kept;
+      which = subst (λ n. (all.kept ≡ devices.records) ⊎ (AreEmpty devices.records × (all.kept ≡ with_first devices.records (first_record n w.states ∷ [])))) devices.as_many all.which;
+      holds = all.holds;
+      begins = all.begins;
+    }

@@ -1,0 +1,169 @@
+-- What a crash at a moment leaves of each log, and what that recovers to.
+use Rattle.std.specs.Prelude.{◌≡◌, ◌≢◌, refl, ℕ, zero, suc, ◌+◌, ◌<◌, Bool, true, false, ◌⊎◌, Option, Some, None, List, [], ◌∷◌, ◌++◌, length, take, drop, IfSome}
+use Rattle.std.proofs.Common.{inl, inr, arith, sym, ap, subst, ◌∙◌}
+use Rattle.std.proofs.lemmas.Bool.{true≢false}
+use Rattle.std.proofs.lemmas.List.{append-nil, map-append, take-append-drop}
+use Rattle.std.proofs.lemmas.List.Concat.{flat_map-cons}
+use Rattle.std.proofs.lemmas.Grind.{flat_map-append}
+use Rattle.std.proofs.Math.Seq.{take-length}
+use Rattle.aml_slice.specs.Controls.{Rest}
+use Rattle.gate_log.specs.Appends.{end_behind}
+use Rattle.gate_log.specs.Opened.{Opened}
+use Rattle.log_opening.specs.Devices.{Device, device_at}
+use Rattle.protocol.specs.Effects.{log_at}
+use Rattle.protocol.specs.Events as machine
+use Rattle.protocol.specs.Fixed.{Fixed}
+use Rattle.protocol.specs.Moments.{Moment}
+use Rattle.protocol.specs.Parts.{Log}
+use Rattle.protocol.specs.Records.{LogRecord}
+use Rattle.protocol.specs.Runs.{IsRun, reached}
+use Rattle.record_log.specs.Growth.{HoldsWhole, IsTried, MayAppendGroup, MayAppendGroups, GrewBy, all_records, begun_groups, end_behind_groups}
+use Rattle.record_log.specs.GrowthLaws.{MomentKeeps}
+use Rattle.record_log.specs.Records.{HoldsRecords, spelled}
+use Rattle.record_words.specs.Told.{all_told, told}
+use Rattle.recovery_laws.specs.Grown.{grown, grown_from}
+use Rattle.run_opening.specs.Opens.{as_groups, first_groups, records_at, with_first}
+use Rattle.run_outputs.specs.Groups.{durable, group_behind, groups_of, waiting}
+use Rattle.run_outputs.specs.Laws.{GroupsAreDurable}
+use Rattle.snap_outside.specs.declared.devices.DevOp.{DevOp}
+use Rattle.snap_outside.specs.Disk.{History, IsImage, content, disk, disk_after, settled}
+use Rattle.snap_recover.specs.declared.openings.Opening.{Opening}
+use Rattle.snap_work.specs.Works.{Work}
+use Rattle.txn_records.specs.declared.records.Record.{Record}
+use Rattle.run_recovery.specs.Crashes.{CrashOn, IsMade, begun_on, earlier}
+use Rattle.run_recovery.specs.Runs.{AreRunDevices, IsRunDevice, machine_of, tried_on}
+use Rattle.run_recovery.proofs.NextGroups.{assoc, next_waits}
+
+-- ---- lists of records
+
+grown_up : (n l : ℕ) (rss : List (List Record)) (logs : ℕ → List LogRecord) → l < length rss → records_at (grown_from n rss logs) l ≡ records_at rss l ++ all_told (logs (n + l))
+grown_up n l [] logs lt = absurd (omega (arith, lt))
+grown_up n zero (rs ∷ rss) logs lt = let e : n ≡ n + 0 = omega arith in ap (λ j. rs ++ all_told (logs j)) e
+grown_up n (suc l) (rs ∷ rss) logs lt = let e : (n + 1) + l ≡ n + suc l = omega arith in grown_up (n + 1) l rss logs (omega (arith, lt)) ∙ ap (λ j. records_at rss l ++ all_told (logs j)) e
+
+pub grown_at : (rss : List (List Record)) (logs : ℕ → List LogRecord) (l : ℕ) → l < length rss → records_at (grown rss logs) l ≡ records_at rss l ++ all_told (logs l)
+grown_at rss logs l lt = let e : 0 + l ≡ l = omega arith in grown_up 0 l rss logs lt ∙ ap (λ j. records_at rss l ++ all_told (logs j)) e
+
+as_all : (added : List Record) → all_records (as_groups added) ≡ added
+as_all [] = refl
+as_all (r ∷ rs) = flat_map-cons (λ (g : List Record). g) (r ∷ rs) [] ∙ append-nil (r ∷ rs)
+
+first_at : (rss : List (List Record)) (added : List Record) (l : ℕ) → l < length rss → records_at (with_first rss added) l ≡ records_at rss l ++ all_records (first_groups l added)
+first_at [] added l lt = absurd (omega (arith, lt))
+first_at (rs ∷ rss) added zero lt = ap (λ xs. rs ++ xs) (sym (as_all added))
+first_at (rs ∷ rss) added (suc l) lt = sym (append-nil (records_at rss l))
+
+pub first_long : (rss : List (List Record)) (added : List Record) → length (with_first rss added) ≡ length rss
+first_long [] added = refl
+first_long (rs ∷ rss) added = omega arith
+
+all_of_log : (g : Log) → all_told (take (length g.records) g.records) ≡ durable g ++ waiting g
+all_of_log g = ap all_told (take-length g.records ∙ sym (take-append-drop g.synced g.records)) ∙ map-append told (take g.synced g.records) (drop g.synced g.records)
+
+-- ---- the appends that were begun
+
+may_join : (end : ℕ) (groups : List (List Record)) (group : List Record) → MayAppendGroups end groups → MayAppendGroup (end_behind_groups end groups) group → MayAppendGroups end (groups ++ group ∷ [])
+may_join end [] group may one = (one, tt)
+may_join end (x ∷ groups) group may one = (may.0, may_join (end_behind end (spelled x)) groups group may.1 one)
+
+may_begin : (end : ℕ) (groups : List (List Record)) (tried : Option (List Record)) (made : List DevOp) → MayAppendGroups end groups → IsTried (end_behind_groups end groups) tried made → MayAppendGroups end (begun_groups groups tried)
+may_begin end groups None made may t = may
+may_begin end groups (Some group) made may t = may_join end groups group may t.0
+
+grew_may : (h : History) (new : Option History) (end : ℕ) (groups : List (List Record)) (tried : Option (List Record)) → GrewBy (Some h) new end groups tried → MayAppendGroups end (begun_groups groups tried)
+grew_may h new end groups tried grew = let g = grew.1 in may_begin end groups tried g.begun g.may g.last
+
+-- ---- one log
+
+-- so many of its records are left
+pub record IsCutTo {C : Type 0} (w : Fixed C) (es : List machine.Event) (m : Moment w es) (l k : ℕ) : Type 0 where
+  pub same : m.has_begun l ≡ false → k ≡ (log_at (reached w m.events) l).synced
+  pub whole : (k ≡ (log_at (reached w m.events) l).synced) ⊎ (k ≡ length (log_at (reached w m.events) l).records)
+
+-- the image holds these and so many of the log
+abbrev pub HoldsCut : {C : Type 0} (w : Fixed C) (es : List machine.Event) → Moment w es → ℕ → List Record → List ℕ → ℕ → Type 0
+HoldsCut w es m l before image k = HoldsRecords image (before ++ all_told (take k (log_at (reached w m.events) l).records))
+
+pub cut_synced : {C : Type 0} (w : Fixed C) (es : List machine.Event) (m : Moment w es) (l : ℕ) → IsCutTo w es m l (log_at (reached w m.events) l).synced
+cut_synced w es m l = record { same = λ none. refl; whole = inl refl }
+
+has_begun : (b : Bool) (begun : List DevOp) → begun ≢ [] → (b ≡ false → begun ≡ []) → b ≡ true
+has_begun true begun some waits = refl
+has_begun false begun some waits = absurd (some (waits refl))
+
+cut_by : {C : Type 0} (w : Fixed C) (es : List machine.Event) (m : Moment w es) (l : ℕ) (failed : Option ℕ) (before : List Record) (image : List ℕ) (begun : List DevOp) (later : List (List Record))
+    → (m.has_begun l ≡ false → begun ≡ []) → ((group : List Record) (more : List (List Record)) → later ≡ group ∷ more → m.has_begun l ≡ true → group ≡ waiting (log_at (reached w m.events) l))
+    → HoldsWhole (before ++ durable (log_at (reached w m.events) l)) later begun image
+    → (k : ℕ) × IsCutTo w es m l k × HoldsCut w es m l before image k
+cut_by w es m l failed before image begun later waits next (inl held) = ((log_at (reached w m.events) l).synced, cut_synced w es m l, held)
+cut_by w es m l failed before image begun [] waits next (inr more) = absurd more.1
+cut_by w es m l failed before image begun (group ∷ later) waits next (inr more) =
+    let g = log_at (reached w m.events) l in
+    let on : m.has_begun l ≡ true = has_begun (m.has_begun l) begun more.0 waits in
+    let is : (before ++ durable g) ++ group ≡ before ++ all_told (take (length g.records) g.records) =
+    ap (λ x. (before ++ durable g) ++ x) (next group later refl on) ∙ (assoc before (durable g) (waiting g) ∙ ap (λ x. before ++ x) (sym (all_of_log g))) in (
+      length g.records,
+      record { same = λ none. absurd (true≢false (sym on ∙ none)); whole = inr refl },
+      subst (λ x. HoldsRecords image x) is more.1,
+    )
+
+-- what a crash at a moment of a run tells of a log of it
+abbrev CrashAt : {w : Work} {o : Opening} {es : List machine.Event} {failed : Option ℕ} {before after : List Device} (devices : AreRunDevices w o es failed before after) (m : Moment (machine_of w o) es) → (ℕ → List ℕ) → (ℕ → List DevOp) → (l : ℕ) → l < w.logs → Type 0
+CrashAt {w} {o} {es} {failed} {before} {after} devices m images made l lt =
+    (h : History) × ((device_at before l).told ≡ Some h) × (disk h ≡ settled (content h))
+    × IsMade m l (content h) (devices.each l lt).end (first_groups l devices.added) (begun_on devices l) (made l)
+    × IsImage (disk_after (made l) (disk h)) (images l)
+
+pub cut_at : {w : Work} {o : Opening} {es : List machine.Event} {failed : Option ℕ} {before after : List Device} (devices : AreRunDevices w o es failed before after) (m : Moment (machine_of w o) es) (images : ℕ → List ℕ)
+    → MomentKeeps → GroupsAreDurable (machine_of w o) → IsRun (machine_of w o) m.events → CrashOn devices m images → (l : ℕ) → l < w.logs
+    → (k : ℕ) × IsCutTo (machine_of w o) es m l k × HoldsCut (machine_of w o) es m l (records_at (earlier devices) l) (images l) k
+cut_at {w} {o} {es} {failed} {before} {after} devices m images keeps synced run crash l lt =
+    cut_by v es m l failed (records_at (earlier devices) l) (images l) made.begun made.later made.waits next (subst (λ xs. HoldsWhole xs made.later made.begun (images l)) is holds)
+  where
+    v : Fixed Rest
+    v = machine_of w o
+
+    first : List (List Record)
+    first = first_groups l devices.added
+
+    groups : List (List Record)
+    groups = groups_of v l m.events
+
+    all : List (List Record)
+    all = first ++ groups_of v l es
+
+    tried : Option (List Record)
+    tried = tried_on failed l (group_behind v l es)
+
+    here : IsRunDevice (device_at before l) (device_at after l) (records_at devices.records l) all tried
+    here = devices.each l lt
+
+    c : CrashAt devices m images crash.made l lt
+    c = crash.each l lt
+
+    h : History
+    h = c.0
+
+    made : IsMade m l (content h) here.end first (begun_on devices l) (crash.made l)
+    made = c.3
+
+    opened : Opened (Some h) here.opened.0 here.end here.opened.1
+    opened = subst (λ t. Opened t here.opened.0 here.end here.opened.1) c.1 here.opened.2
+
+    held : HoldsRecords (content h) (records_at devices.records l)
+    held = subst (λ t. IfSome t (λ h. HoldsRecords (content h) (records_at devices.records l))) c.1 here.held
+
+    may : MayAppendGroups here.end (begun_on devices l)
+    may = grew_may h (device_at after l).told here.end all tried (subst (λ t. GrewBy t (device_at after l).told here.end all tried) c.1 here.grew)
+
+    holds : HoldsWhole (records_at devices.records l ++ all_records (first ++ groups)) made.later made.begun (images l)
+    holds = keeps h here.opened.0 here.end here.opened.1 (records_at devices.records l) (first ++ groups) made.later made.begun opened held (subst (MayAppendGroups here.end) made.splits may) made.next (images l) (subst (λ ops. IsImage (disk_after ops (disk h)) (images l)) made.so_far c.4)
+
+    next : (group : List Record) (more : List (List Record)) → made.later ≡ group ∷ more → m.has_begun l ≡ true → group ≡ waiting (log_at (reached v m.events) l)
+    next group more e on = next_waits v es m l failed first group more on (made.splits ∙ ap (λ xs. (first ++ groups) ++ xs) e)
+
+    is : records_at devices.records l ++ all_records (first ++ groups) ≡ records_at (earlier devices) l ++ durable (log_at (reached v m.events) l)
+    is =
+        ap (λ xs. records_at devices.records l ++ xs) (flat_map-append (λ (g : List Record). g) first groups ∙ ap (λ xs. all_records first ++ xs) (synced l m.events run))
+        ∙ (sym (assoc (records_at devices.records l) (all_records first) (durable (log_at (reached v m.events) l)))
+        ∙ ap (λ xs. xs ++ durable (log_at (reached v m.events) l)) (sym (first_at devices.records devices.added l (rw devices.as_many lt))))

@@ -1,0 +1,154 @@
+-- Of runs one behind the other, what the crash of each left is what the next one began with.
+use Rattle.std.specs.Prelude.{◌≡◌, refl, ℕ, zero, suc, ◌+◌, ◌<◌, ◌≤◌, ◌⊎◌, Option, Some, List, [], ◌∷◌, ◌++◌, length, map, take, get_or, Contains, slice_index_or, IfSome}
+use Rattle.std.specs.List.{AllByRecursion}
+use Rattle.std.proofs.Common.{inl, inr, arith, sym, ap, subst, ◌∙◌}
+use Rattle.std.proofs.lemmas.List.{append-nil, take_all, take_more}
+use Rattle.aml_tree.specs.Tree.{CheckedMethod}
+use Rattle.log_opening.specs.Devices.{Device, device_at}
+use Rattle.log_opening.specs.Kept.{Holds}
+use Rattle.protocol.specs.Events as machine
+use Rattle.protocol.specs.Moments.{Moment, left_in}
+use Rattle.protocol.specs.Runs.{reached}
+use Rattle.record_log.specs.RecordLogLaws.{OneListOfRecords}
+use Rattle.record_log.specs.Records.{HoldsRecords}
+use Rattle.recovery_laws.specs.Grown.{all_in}
+use Rattle.run_opening.specs.Begins.{AreEmpty, Begins}
+use Rattle.run_opening.specs.Opens.{records_at, with_first}
+use Rattle.run_opening.specs.Starts.{IsStart, first_record}
+use Rattle.snap_base.specs.declared.transactions.State.{State}
+use Rattle.snap_outside.specs.Disk.{History, content}
+use Rattle.snap_recover.specs.declared.openings.Opening.{Opening}
+use Rattle.snap_work.specs.Kept.{KeepsLimits}
+use Rattle.snap_work.specs.Works.{Work}
+use Rattle.txn_records.specs.declared.records.Record.{Record}
+use Rattle.run_recovery.specs.Beginnings.{BeginsAgain, CrashBefore}
+use Rattle.run_recovery.specs.Crashes.{CrashOn, Recovers}
+use Rattle.run_recovery.specs.Next.{GoesOnFrom, opening_left, records_left}
+use Rattle.run_recovery.specs.Runs.{AreRunDevices, HasRun, machine_of}
+use Rattle.run_recovery.specs.Several.{BeganOn, Crash, CutOff, EachIsBehind, Early, GoOn, IsBehind, Left, OfNext, Within}
+use Rattle.run_recovery.proofs.LogsLeft.{first_long}
+use Rattle.run_recovery.proofs.NextRuns.{OneOpening}
+
+-- ---- programs, one after the other
+
+with_last : {X : Type 0} (P : X → Type 0) (xs : List X) (x : X) → AllByRecursion P xs → P x → AllByRecursion P (xs ++ x ∷ [])
+with_last P [] x h p = (p, tt)
+with_last P (y ∷ ys) x h p = (h.0, with_last P ys x h.1 p)
+
+pub one_more : {X : Type 0} (P : X → Type 0) (xs : List X) (i : ℕ) (x : X) → i < length xs → x ≡ get_or xs i x → AllByRecursion P (take i xs) → P x → AllByRecursion P (take (i + 1) xs)
+one_more P xs i x l e h p = subst (AllByRecursion P) (sym (take_more xs i x l ∙ ap (λ z. take i xs ++ z ∷ []) (sym e))) (with_last P (take i xs) x h p)
+
+all_mapped : {X Y : Type 0} (f : X → Y) (P : Y → Type 0) (xs : List X) → AllByRecursion (λ x. P (f x)) xs → AllByRecursion P (map f xs)
+all_mapped f P [] h = tt
+all_mapped f P (x ∷ xs) h = (h.0, all_mapped f P xs h.1)
+
+pub all_of_them : {X Y : Type 0} (f : X → Y) (P : Y → Type 0) (xs : List X) (i : ℕ) → length xs ≤ i → AllByRecursion (λ x. P (f x)) (take i xs) → AllByRecursion P (map f xs)
+all_of_them f P xs i l h = all_mapped f P xs (subst (AllByRecursion (λ x. P (f x))) (take_all i xs l) h)
+
+each_at : {X : Type 0} (P : X → Type 0) (xs : List X) (i : ℕ) (d : X) → i < length xs → AllByRecursion P xs → P (slice_index_or xs i d)
+each_at P [] i d below all = absurd (omega (arith, below))
+each_at P (x ∷ xs) zero d below all = all.0
+each_at P (x ∷ xs) (suc i) d below all = each_at P xs i d (omega (arith, below)) all.1
+
+among : {X : Type 0} (P : X → Type 0) (xs : List X) (x : X) → AllByRecursion P xs → Contains xs x → P x
+among P xs x all c = subst P c.2 (each_at P xs c.0 x c.1 all)
+
+-- ---- what the laws say
+
+-- what the law runs_are_recovered says of the program
+abbrev pub AreRecovered : List CheckedMethod → Type 0
+AreRecovered p = (w : Work) (seed : ℕ) (o : Opening) (es : List machine.Event) (failed : Option ℕ) (before after : List Device) → w.program ≡ p → KeepsLimits w → (run : HasRun w seed o es failed before after)
+    → (m : Moment (machine_of w o) es) (images : ℕ → List ℕ) → CrashOn run.devices m images → Recovers p run.devices m images
+
+-- and what those say that speak of no program
+pub record NextLaws : Type 0 where
+  pub begin : (w : Work) (o : Opening) (es : List machine.Event) (failed : Option ℕ) (before after : List Device) → KeepsLimits w → (devices : AreRunDevices w o es failed before after)
+      → (images : ℕ → List ℕ) → CrashBefore devices images → BeginsAgain devices images
+  pub go_on : (p : List CheckedMethod) (w : Work) (o : Opening) (es : List machine.Event) (failed : Option ℕ) (before after : List Device) → KeepsLimits w → (devices : AreRunDevices w o es failed before after)
+      → (m : Moment (machine_of w o) es) (images : ℕ → List ℕ) → (r : Recovers p devices m images) → GoesOnFrom r
+  pub opening : OneOpening
+  pub list : OneListOfRecords
+
+-- ---- what a crash leaves
+
+one_start : OneOpening → (logs : List (List Record)) (states : List State) (o q : Opening) → Begins logs states o → Begins logs states q → q ≡ o
+one_start one logs states o q (inl x) (inl y) = y.1 ∙ sym x.1
+one_start one logs states o q (inl x) (inr y) = absurd (y.some x.0)
+one_start one logs states o q (inr x) (inl y) = absurd (x.some y.0)
+one_start one logs states o q (inr x) (inr y) = one logs q o y.recovered x.recovered
+
+kept_long : {w : Work} {o : Opening} {es : List machine.Event} {failed : Option ℕ} {before after : List Device} (devices : AreRunDevices w o es failed before after) (images : ℕ → List ℕ) (b : BeginsAgain devices images) → length b.kept ≡ w.logs
+kept_long {w} devices images b = by b.which
+  where
+    by : (b.kept ≡ devices.records) ⊎ (AreEmpty devices.records × (b.kept ≡ with_first devices.records (first_record w.logs w.states ∷ []))) → length b.kept ≡ w.logs
+    by (inl e) = ap (λ (l : List (List Record)). length l) e ∙ devices.as_many
+    by (inr new) = ap (λ (l : List (List Record)). length l) new.1 ∙ (first_long devices.records (first_record w.logs w.states ∷ []) ∙ devices.as_many)
+
+left_by : NextLaws → (x : CutOff) → AreRecovered x.work.program → (crash : Crash x.run.devices x.images) → Left x crash
+left_by laws x recovered (Early crash) =
+    let b = laws.begin x.work x.opening x.events x.failed x.before x.after x.limits x.run.devices x.images crash in
+    record {
+      records = b.kept;
+      opening = x.opening;
+      by = (b, refl, refl);
+      as_many = kept_long x.run.devices x.images b;
+      holds = b.holds;
+      alone = λ q begins. one_start laws.opening b.kept x.work.states x.opening q b.begins begins;
+      committed = ([], sym (append-nil x.opening.committed));
+    }
+left_by laws x recovered (Within m crash) =
+    let r = recovered x.work x.seed x.opening x.events x.failed x.before x.after refl x.limits x.run m x.images crash in
+    let g = laws.go_on x.work.program x.work x.opening x.events x.failed x.before x.after x.limits x.run.devices m x.images r in
+    record {
+      records = records_left r;
+      opening = opening_left r;
+      by = (r, g, refl, refl);
+      as_many = g.as_many;
+      holds = g.holds;
+      alone = λ q begins. (g.alone x.work.states q begins).0;
+      committed = (all_in x.work.logs (left_in (reached (machine_of x.work x.opening) m.events) r.kept) (reached (machine_of x.work x.opening) m.events), refl);
+    }
+
+-- ---- what the next one begins with
+
+same_lists_at : (xs ys : List (List Record)) → length xs ≡ length ys → ((l : ℕ) → l < length xs → records_at xs l ≡ records_at ys l) → xs ≡ ys
+same_lists_at [] [] e same = refl
+same_lists_at [] (y ∷ ys) e same = absurd (omega (arith, e))
+same_lists_at (x ∷ xs) [] e same = absurd (omega (arith, e))
+same_lists_at (x ∷ xs) (y ∷ ys) e same =
+    ap (λ (z : List Record). z ∷ xs) (same 0 (omega arith)) ∙ ap (λ (zs : List (List Record)). y ∷ zs) (same_lists_at xs ys (omega (arith, e)) (λ l lt. same (suc l) (omega (arith, lt))))
+
+held_there : (d : Device) (h : History) (image : List ℕ) (rs : List Record) → d.told ≡ Some h → content h ≡ image → Holds d rs → HoldsRecords image rs
+held_there d h image rs told is held = subst (λ (bytes : List ℕ). HoldsRecords bytes rs) is (subst (λ (t : Option History). IfSome t (λ h. HoldsRecords (content h) rs)) told held)
+
+start_begins : (logs : List (List Record)) (states : List State) (o : Opening) (added : List Record) → IsStart logs states o added → Begins logs states o
+start_begins logs states o added (inl new) = inl (new.0, new.1)
+start_begins logs states o added (inr on) = inr on.0
+
+began_on : NextLaws → (x y : CutOff) (crash : Crash x.run.devices x.images) (left : Left x crash) → IsBehind x y → BeganOn left y
+began_on laws x y crash left behind = record {
+  records = same;
+  opening = left.alone y.opening
+      (subst (λ (logs : List (List Record)). Begins logs x.work.states y.opening) same
+      (subst (λ (states : List State). Begins y.run.devices.records states y.opening) behind.states
+      (start_begins y.run.devices.records y.work.states y.opening y.run.devices.added y.run.devices.start)));
+}
+  where
+    at : (l : ℕ) → l < x.work.logs → records_at y.run.devices.records l ≡ records_at left.records l
+    at l lt =
+        let t = behind.told l lt in
+        laws.list (x.images l) (records_at y.run.devices.records l) (records_at left.records l)
+        (held_there (device_at y.before l) t.0 (x.images l) (records_at y.run.devices.records l) t.1 t.2 (y.run.devices.each l (rw behind.logs lt)).held) (left.holds l lt)
+
+    same : y.run.devices.records ≡ left.records
+    same = same_lists_at y.run.devices.records left.records (y.run.devices.as_many ∙ (behind.logs ∙ sym left.as_many)) (λ l lt. at l (omega (arith, lt, y.run.devices.as_many, behind.logs)))
+
+next_began : NextLaws → (x : CutOff) (crash : Crash x.run.devices x.images) (left : Left x crash) (xs : List CutOff) → OfNext (IsBehind x) xs → OfNext (BeganOn left) xs
+next_began laws x crash left [] behind = tt
+next_began laws x crash left (y ∷ ys) behind = began_on laws x y crash left behind
+
+pub go_on_behind : NextLaws → (ps : List (List CheckedMethod)) → AllByRecursion AreRecovered ps → (xs : List CutOff) → AllByRecursion (λ (x : CutOff). Contains ps x.work.program) xs → EachIsBehind xs → GoOn xs
+go_on_behind laws ps all [] of_them behind = tt
+go_on_behind laws ps all (x ∷ xs) of_them behind =
+    let left = left_by laws x (among AreRecovered ps x.work.program all of_them.0) x.crash in
+    ((left, next_began laws x x.crash left xs behind.0), go_on_behind laws ps all xs of_them.1 behind.1)

@@ -1,0 +1,18 @@
+use Rattle.std.proofs.Common.{arith, map}
+use Rattle.aml_check.specs.Checked.{methods_of}
+use Rattle.run_recovery.proofs.SeveralRuns.{AreRecovered, all_of_them, go_on_behind, one_more}
+use Rattle.run_recovery.proofs.laws.runs_go_on_behind_each_other.Goals as goal
+
+pub returns : goal.returns
+returns c xs of_them behind =
+    let ps = c.args.programs.now in
+    let all = all_of_them methods_of AreRecovered ps c.loop-program.program-index (omega (arith, c.loop-program-test.false)) c.loop-program.invariant in
+    go_on_behind (record {
+      begin = c.beginnings_are_recovered.ensures;
+      go_on = c.crashed_runs_go_on.ensures;
+      opening = c.one_opening.ensures;
+      list = c.one_list_of_records.ensures;
+    }) (map methods_of ps) all xs of_them behind
+
+pub loop-program-preserved : goal.loop-program-preserved
+loop-program-preserved c = one_more (λ p. AreRecovered (methods_of p)) c.args.programs.now c.loop-program.program-index c.program-item.result c.loop-program-test.true c.program-item.is c.loop-program.invariant c.runs_are_recovered.ensures

@@ -1,0 +1,36 @@
+-- What a crash leaves while a run begins: its logs are opened, and what is written before it is appended.
+use Rattle.std.specs.Prelude.{◌≡◌, ℕ, ◌<◌, ◌⊎◌, Option, Some, List, [], ◌∷◌, ◌++◌}
+use Rattle.gate_log.specs.Opened.{opening_ops}
+use Rattle.log_opening.specs.Devices.{Device, device_at}
+use Rattle.protocol.specs.Events as machine
+use Rattle.record_log.specs.Growth.{groups_ops}
+use Rattle.record_log.specs.Records.{HoldsRecords}
+use Rattle.run_opening.specs.Begins.{AreEmpty, Begins}
+use Rattle.run_opening.specs.Opens.{first_groups, records_at, with_first}
+use Rattle.run_opening.specs.Starts.{first_record}
+use Rattle.run_recovery.specs.Runs.{AreRunDevices}
+use Rattle.snap_outside.specs.declared.devices.DevOp.{DevOp}
+use Rattle.snap_outside.specs.Disk.{History, content, disk, disk_after, settled, IsImage}
+use Rattle.snap_recover.specs.declared.openings.Opening.{Opening}
+use Rattle.snap_work.specs.Works.{Work}
+use Rattle.txn_records.specs.declared.records.Record.{Record}
+
+-- these are made, from the first on
+abbrev pub IsFront : List DevOp → List DevOp → Type 0
+IsFront made ops = (left : List DevOp) × (ops ≡ made ++ left)
+
+-- A crash while the run begins: of the operations of opening and of the groups before the run a front is made on each log, and
+-- these bytes are left. The devices told what they held before, and it was durable.
+pub record CrashBefore {w : Work} {o : Opening} {es : List machine.Event} {failed : Option ℕ} {before after : List Device} (devices : AreRunDevices w o es failed before after) (images : ℕ → List ℕ) : Type 0 where
+  pub made : ℕ → List DevOp
+  pub each : (l : ℕ) (lt : l < w.logs) → (h : History) × ((device_at before l).told ≡ Some h) × (disk h ≡ settled (content h))
+      × IsFront (made l) (opening_ops (content h) ++ groups_ops (devices.each l lt).end (first_groups l devices.added))
+      × IsImage (disk_after (made l) (disk h)) (images l)
+
+-- Each log is left with the records of before; or, only where no log held one, log 0 with Genesis alone. A run of the same
+-- states begins on them with the same opening.
+pub record BeginsAgain {w : Work} {o : Opening} {es : List machine.Event} {failed : Option ℕ} {before after : List Device} (devices : AreRunDevices w o es failed before after) (images : ℕ → List ℕ) : Type 0 where
+  pub kept : List (List Record)
+  pub which : (kept ≡ devices.records) ⊎ (AreEmpty devices.records × (kept ≡ with_first devices.records (first_record w.logs w.states ∷ [])))
+  pub holds : (l : ℕ) → l < w.logs → HoldsRecords (images l) (records_at kept l)
+  pub begins : Begins kept w.states o

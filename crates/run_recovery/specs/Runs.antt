@@ -1,0 +1,86 @@
+-- A run of a work: what it begins with, how far it goes, and what it leaves on its logs.
+use Rattle.std.specs.Prelude.{◌≡◌, ℕ, ◌<◌, ◌≤◌, ◌==◌, if◌then◌else◌, Option, None, Some, List, [], ◌∷◌, ◌++◌, length, drop, map}
+use Rattle.aml_slice.specs.Controls.{Rest}
+use Rattle.core_events.specs.declared.events.Event.{Event}
+use Rattle.core_events.specs.Meant.{event_meant}
+use Rattle.gate_log.specs.declared.limits.TheConstants.{FARTHEST_END}
+use Rattle.gate_log.specs.declared.logs.LogItem.{LogItem}
+use Rattle.gate_log.specs.Opened.{Opened}
+use Rattle.log_opening.specs.Devices.{Device, device_at}
+use Rattle.log_opening.specs.Kept.{Holds}
+use Rattle.machine_laws.specs.Programs.{with_code}
+use Rattle.protocol.specs.Events as machine
+use Rattle.protocol.specs.Fixed.{Text, Fixed}
+use Rattle.protocol.specs.Runs.{IsQuiet, reached}
+use Rattle.protocol_schedule.specs.Draw.{IsFrontOfSeed}
+use Rattle.record_log.specs.Growth.{GrewBy}
+use Rattle.run_opening.specs.Opens.{HasRoom, first_groups, records_at}
+use Rattle.run_opening.specs.Starts.{IsStart}
+use Rattle.run_outputs.specs.Groups.{groups_of, group_behind}
+use Rattle.snap_outside.specs.Disk.{History}
+use Rattle.snap_recover.specs.declared.openings.Opening.{Opening}
+use Rattle.snap_work.specs.Works.{Work}
+use Rattle.txn_records.specs.declared.records.Record.{Record}
+
+-- ---- a work as the machine's text
+
+abbrev pub text_of : Work → Opening → Text
+text_of w o = record {
+  coordinators = w.coordinators;
+  logs = w.logs;
+  batch = w.batch;
+  batches = w.batches;
+  acts = w.acts;
+  txs = w.txs;
+  opening = record { states = o.states; next_tid = o.next_tid.0; next_bid = o.next_bid.0; next_c = o.next_c };
+}
+
+-- with the methods of its program as code
+abbrev pub machine_of : Work → Opening → Fixed Rest
+machine_of w o = with_code w.program (text_of w o)
+
+abbrev pub meant : List Event → List machine.Event
+meant es = map event_meant es
+
+-- ---- what a run leaves on its logs
+
+-- The device held these records and was opened; since then it got these groups, one append for each, and a front of the
+-- append of one more that met a fault, where one did, and nothing else.
+pub record IsRunDevice (before after : Device) (records : List Record) (groups : List (List Record)) (tried : Option (List Record)) : Type 0 where
+  pub held : Holds before records
+  pub end : ℕ
+  pub opened : (mid : Option History) × (found : List LogItem) × Opened before.told mid end found
+  pub low : end ≤ FARTHEST_END
+  pub grew : GrewBy before.told after.told end groups tried
+  pub later : before.faults ≤ after.faults
+
+-- the append that met a fault on this log, where one did
+abbrev pub tried_on : Option ℕ → ℕ → List Record → Option (List Record)
+tried_on None l group = None
+tried_on (Some k) l group = if k == l then Some group else None
+
+-- The logs, so many as the text says, lie on the first devices. They held records on which a run of the text begins with the
+-- opening. Each got what is written before a run, then a group for each of its Syncs; the one that failed got a front of one
+-- more. The others got no call.
+pub record AreRunDevices (w : Work) (o : Opening) (es : List machine.Event) (failed : Option ℕ) (before after : List Device) : Type 0 where
+  pub records : List (List Record)
+  pub added : List Record
+  pub as_many : length records ≡ w.logs
+  pub start : IsStart records w.states o added
+  pub each : (l : ℕ) → l < w.logs → IsRunDevice (device_at before l) (device_at after l) (records_at records l)
+      (first_groups l added ++ groups_of (machine_of w o) l es) (tried_on failed l (group_behind (machine_of w o) l es))
+  pub others : drop w.logs after ≡ drop w.logs before
+
+-- A run of the work began with the opening and took these events, which the seed's schedule begins with.
+pub record HasRun (w : Work) (seed : ℕ) (o : Opening) (es : List machine.Event) (failed : Option ℕ) (before after : List Device) : Type 0 where
+  pub room : HasRoom o
+  pub front : IsFrontOfSeed (machine_of w o) seed es
+  pub devices : AreRunDevices w o es failed before after
+
+-- the schedule goes on with this event
+abbrev pub IsNext : Work → ℕ → Opening → List machine.Event → machine.Event → Type 0
+IsNext w seed o es e = IsFrontOfSeed (machine_of w o) seed (es ++ e ∷ [])
+
+-- no event is allowed any more
+abbrev pub HasEnded : Work → Opening → List machine.Event → Type 0
+HasEnded w o es = IsQuiet (machine_of w o) (reached (machine_of w o) es)

@@ -1,0 +1,85 @@
+-- Runs one behind the other: each is cut off by a crash, and each begins on the bytes that the crash before it left. Any work may
+-- follow that is of as many logs and of the same states.
+use Rattle.std.specs.Prelude.{◌≡◌, ℕ, ◌<◌, Option, Some, List, [], ◌∷◌, ◌++◌, length}
+use Rattle.log_opening.specs.Devices.{Device, device_at}
+use Rattle.protocol.specs.Events as machine
+use Rattle.protocol.specs.Moments.{Moment}
+use Rattle.record_log.specs.Records.{HoldsRecords}
+use Rattle.run_opening.specs.Begins.{Begins}
+use Rattle.run_opening.specs.Opens.{records_at}
+use Rattle.run_recovery.specs.Beginnings.{BeginsAgain, CrashBefore}
+use Rattle.run_recovery.specs.Crashes.{CrashOn, Recovers}
+use Rattle.run_recovery.specs.Next.{GoesOnFrom, opening_left, records_left}
+use Rattle.run_recovery.specs.Runs.{AreRunDevices, HasRun, machine_of}
+use Rattle.snap_outside.specs.Disk.{History, content}
+use Rattle.snap_recover.specs.declared.openings.Kept.{Kept}
+use Rattle.snap_recover.specs.declared.openings.Opening.{Opening}
+use Rattle.snap_work.specs.Kept.{KeepsLimits}
+use Rattle.snap_work.specs.Works.{Work}
+use Rattle.txn_records.specs.declared.records.Record.{Record}
+
+-- ---- a run that is cut off
+
+-- a crash while the run begins, or at a moment of it
+pub data Crash {w : Work} {o : Opening} {es : List machine.Event} {failed : Option ℕ} {before after : List Device} (devices : AreRunDevices w o es failed before after) (images : ℕ → List ℕ) : Type 0 where
+  Early : (crash : CrashBefore devices images) → Crash devices images
+  Within : (m : Moment (machine_of w o) es) (crash : CrashOn devices m images) → Crash devices images
+
+-- a run of a work that keeps its limits, the crash, and the bytes that it left
+pub record CutOff : Type 0 where
+  pub work : Work
+  pub seed : ℕ
+  pub opening : Opening
+  pub events : List machine.Event
+  pub failed : Option ℕ
+  pub before : List Device
+  pub after : List Device
+  pub limits : KeepsLimits work
+  pub run : HasRun work seed opening events failed before after
+  pub images : ℕ → List ℕ
+  pub crash : Crash run.devices images
+
+-- y is of as many logs and of the same states as x, and its devices told the bytes that the crash of x left
+pub record IsBehind (x y : CutOff) : Type 0 where
+  pub logs : y.work.logs ≡ x.work.logs
+  pub states : y.work.states ≡ x.work.states
+  pub told : (l : ℕ) → l < x.work.logs → (h : History) × ((device_at y.before l).told ≡ Some h) × (content h ≡ x.images l)
+
+-- P holds of the first of them, where there is one
+abbrev pub OfNext : (CutOff → Type 0) → List CutOff → Type 0
+OfNext P [] = Unit {0}
+OfNext P (y ∷ ys) = P y
+
+-- each is behind the one before it
+abbrev pub EachIsBehind : List CutOff → Type 0
+EachIsBehind [] = Unit {0}
+EachIsBehind (x ∷ xs) = OfNext (IsBehind x) xs × EachIsBehind xs
+
+-- ---- what it left
+
+-- Where it came while the run began, no record is lost, and a run begins as this one did. At a moment of the run its members are
+-- left, and a run goes on from them.
+abbrev pub LeftBy : (x : CutOff) → Crash x.run.devices x.images → List (List Record) → Opening → Type 0
+LeftBy x (Early crash) records o = (b : BeginsAgain x.run.devices x.images) × (records ≡ b.kept) × (o ≡ x.opening)
+LeftBy x (Within m crash) records o = (r : Recovers x.work.program x.run.devices m x.images) × GoesOnFrom r × (records ≡ records_left r) × (o ≡ opening_left r)
+
+-- The records with which the logs are left, and the opening with which alone a run of the same states begins on them. What was
+-- committed before the run stands first in it.
+pub record Left (x : CutOff) (crash : Crash x.run.devices x.images) : Type 0 where
+  pub records : List (List Record)
+  pub opening : Opening
+  pub by : LeftBy x crash records opening
+  pub as_many : length records ≡ x.work.logs
+  pub holds : (l : ℕ) → l < x.work.logs → HoldsRecords (x.images l) (records_at records l)
+  pub alone : (q : Opening) → Begins records x.work.states q → q ≡ opening
+  pub committed : (more : List Kept) × (opening.committed ≡ x.opening.committed ++ more)
+
+-- the run y began on these records, with this opening
+pub record BeganOn {x : CutOff} {crash : Crash x.run.devices x.images} (left : Left x crash) (y : CutOff) : Type 0 where
+  pub records : y.run.devices.records ≡ left.records
+  pub opening : y.opening ≡ left.opening
+
+-- Each of them is recovered, and the next one began with just that.
+abbrev pub GoOn : List CutOff → Type 0
+GoOn [] = Unit {0}
+GoOn (x ∷ xs) = ((left : Left x x.crash) × OfNext (BeganOn left) xs) × GoOn xs

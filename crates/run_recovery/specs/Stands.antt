@@ -1,0 +1,34 @@
+-- What the laws of the machine say of a run of a work, in one.
+use Rattle.std.specs.Prelude.{ℕ, Option, List}
+use Rattle.log_opening.specs.Devices.{Device}
+use Rattle.machine_laws.specs.Meant.{CommittedAsMeant, VerdictsAsMeant}
+use Rattle.machine_laws.specs.Programs.{finish_of}
+use Rattle.protocol.specs.Events as machine
+use Rattle.protocol.specs.History.{history}
+use Rattle.protocol.specs.Moments.{Moment}
+use Rattle.protocol.specs.Runs.{reached}
+use Rattle.protocol_laws.specs.Quiet.{AnsweredWhenQuiet}
+use Rattle.protocol_verdicts.specs.Evidence.{VerdictsStand}
+use Rattle.run_recovery.specs.Beginnings.{BeginsAgain, CrashBefore}
+use Rattle.run_recovery.specs.Crashes.{CrashOn, Recovers}
+use Rattle.run_recovery.specs.Next.{GoesOnFrom}
+use Rattle.run_recovery.specs.Runs.{HasRun, machine_of, text_of}
+use Rattle.snap_recover.specs.declared.openings.Opening.{Opening}
+use Rattle.snap_work.specs.Works.{Work}
+
+pub record RunStands {w : Work} {seed : ℕ} {o : Opening} {es : List machine.Event} {failed : Option ℕ} {before after : List Device} (run : HasRun w seed o es failed before after) : Type 0 where
+  -- its committed transactions, one by one in the order of their places as the language means each, give the results that they
+  -- had; and where it has ended the actors' states are those that this leaves
+  pub committed : CommittedAsMeant w.program (machine_of w o) (finish_of w.program (text_of w o)) (reached (machine_of w o) es) (history (machine_of w o) es)
+  -- who is told a place is told what it means there
+  pub told : VerdictsAsMeant w.program (machine_of w o) (finish_of w.program (text_of w o)) es
+  -- each verdict has its evidence in the events of the run, and stays
+  pub evidence : VerdictsStand (machine_of w o) (finish_of w.program (text_of w o)) es
+  -- where it has ended all is answered: each transaction was submitted and replied to, and nothing is under way any more
+  pub answered : AnsweredWhenQuiet (machine_of w o) (finish_of w.program (text_of w o)) (reached (machine_of w o) es) (history (machine_of w o) es)
+  -- a crash while it begins loses no record, and a run of the same states begins on what is left
+  pub begins : (images : ℕ → List ℕ) → CrashBefore run.devices images → BeginsAgain run.devices images
+  -- whatever a crash leaves at any moment of it recovers
+  pub recovers : (m : Moment (machine_of w o) es) (images : ℕ → List ℕ) → CrashOn run.devices m images → Recovers w.program run.devices m images
+  -- and what it leaves is what the next run goes on from
+  pub goes_on : (m : Moment (machine_of w o) es) (images : ℕ → List ℕ) → (r : Recovers w.program run.devices m images) → GoesOnFrom r

@@ -1,0 +1,111 @@
+//! The laws, of every checked program.
+ghost use Rattle.std.specs.Prelude.{◌≡◌, ℕ, List, Option, map, Contains};
+ghost use Rattle.std.specs.List.{AllByRecursion};
+ghost use Rattle.aml_check.specs.Checked.{methods_of};
+ghost use Rattle.log_opening.specs.Devices.{Device};
+ghost use Rattle.machine_laws.specs.Meant.{CommittedAsMeant, VerdictsAsMeant};
+ghost use Rattle.machine_laws.specs.Programs.{finish_of};
+ghost use Rattle.protocol.specs.Events as machine;
+ghost use Rattle.protocol.specs.History.{history};
+ghost use Rattle.protocol.specs.Moments.{Moment};
+ghost use Rattle.protocol.specs.Runs.{reached};
+ghost use Rattle.protocol_laws.specs.Quiet.{AnsweredWhenQuiet};
+ghost use Rattle.protocol_verdicts.specs.Evidence.{VerdictsStand};
+ghost use Rattle.run_recovery.specs.Beginnings.{BeginsAgain, CrashBefore};
+ghost use Rattle.run_recovery.specs.Crashes.{CrashOn, Recovers};
+ghost use Rattle.run_recovery.specs.Next.{GoesOnFrom};
+ghost use Rattle.run_recovery.specs.Runs.{AreRunDevices, HasRun, machine_of, text_of};
+ghost use Rattle.run_recovery.specs.Several.{CutOff, EachIsBehind, GoOn};
+ghost use Rattle.run_recovery.specs.Stands.{RunStands};
+ghost use Rattle.aml_tree.specs.Tree.{CheckedMethod};
+ghost use Rattle.snap_recover.specs.declared.openings.Opening.{Opening};
+ghost use Rattle.snap_work.specs.Kept.{KeepsLimits};
+ghost use Rattle.snap_work.specs.Works.{Work};
+
+use aml_check::Checked;
+use machine_laws::{
+    committed_transactions_are_as_meant, recovered_transactions_are_in_order,
+    runs_that_cannot_go_on_have_answered, verdicts_are_as_meant, verdicts_have_evidence,
+};
+use machine_recovery::{logs_recover_as_meant, logs_recover_to_the_members};
+use record_log::{groups_are_whole, one_list_of_records};
+use run_opening::begins_again;
+use run_outputs::groups_grow;
+use snap_recover::{begun_logs_are_recovered, one_opening};
+
+/// What a run took are events of a run of the machine: its committed transactions, one by one in the order of their places as the
+/// language means each, give the results that they had, and where it has ended the actors' states are those that this leaves; who
+/// is told a place is told what it means there; each verdict has its evidence in the events, and stays; and where it has ended all
+/// is answered.
+pub fn runs_are_as_meant(program: &Checked)
+    ensures committed { (w : Work) (seed : ℕ) (o : Opening) (es : List machine.Event) (failed : Option ℕ) (before after : List Device) → w.program ≡ methods_of program.now → KeepsLimits w → HasRun w seed o es failed before after
+        → CommittedAsMeant (methods_of program.now) (machine_of w o) (finish_of (methods_of program.now) (text_of w o)) (reached (machine_of w o) es) (history (machine_of w o) es) }
+    ensures told { (w : Work) (seed : ℕ) (o : Opening) (es : List machine.Event) (failed : Option ℕ) (before after : List Device) → w.program ≡ methods_of program.now → KeepsLimits w → HasRun w seed o es failed before after
+        → VerdictsAsMeant (methods_of program.now) (machine_of w o) (finish_of (methods_of program.now) (text_of w o)) es }
+    ensures evidence { (w : Work) (seed : ℕ) (o : Opening) (es : List machine.Event) (failed : Option ℕ) (before after : List Device) → w.program ≡ methods_of program.now → KeepsLimits w → HasRun w seed o es failed before after
+        → VerdictsStand (machine_of w o) (finish_of (methods_of program.now) (text_of w o)) es }
+    ensures answered { (w : Work) (seed : ℕ) (o : Opening) (es : List machine.Event) (failed : Option ℕ) (before after : List Device) → w.program ≡ methods_of program.now → KeepsLimits w → HasRun w seed o es failed before after
+        → AnsweredWhenQuiet (machine_of w o) (finish_of (methods_of program.now) (text_of w o)) (reached (machine_of w o) es) (history (machine_of w o) es) }
+{
+    committed_transactions_are_as_meant(program);
+    verdicts_are_as_meant(program);
+    verdicts_have_evidence(program);
+    runs_that_cannot_go_on_have_answered(program);
+}
+
+/// Whatever a crash leaves of the logs at any moment of a run recovers.
+pub fn runs_are_recovered(program: &Checked)
+    ensures { (w : Work) (seed : ℕ) (o : Opening) (es : List machine.Event) (failed : Option ℕ) (before after : List Device) → w.program ≡ methods_of program.now → KeepsLimits w → (run : HasRun w seed o es failed before after)
+        → (m : Moment (machine_of w o) es) (images : ℕ → List ℕ) → CrashOn run.devices m images → Recovers (methods_of program.now) run.devices m images }
+{
+    logs_recover_to_the_members(program);
+    logs_recover_as_meant(program);
+    recovered_transactions_are_in_order(program);
+    groups_are_whole();
+    groups_grow::<aml_slice::Control>();
+    begun_logs_are_recovered();
+}
+
+/// A crash while a run begins loses no record: the logs hold what they held, or, where they held none, Genesis alone; and a run of
+/// the same states begins on them with the same opening.
+pub fn beginnings_are_recovered()
+    ensures { (w : Work) (o : Opening) (es : List machine.Event) (failed : Option ℕ) (before after : List Device) → KeepsLimits w → (devices : AreRunDevices w o es failed before after)
+        → (images : ℕ → List ℕ) → CrashBefore devices images → BeginsAgain devices images }
+{
+    groups_are_whole();
+    begins_again();
+}
+
+/// What a crash leaves of the logs at any moment of a run is what the next run goes on from: unless a number is spent, a run of any
+/// text of the same states, on as many logs, begins on them with the opening to which they recover; and none begins with another.
+pub fn crashed_runs_go_on()
+    ensures { (p : List CheckedMethod) (w : Work) (o : Opening) (es : List machine.Event) (failed : Option ℕ) (before after : List Device) → KeepsLimits w → (devices : AreRunDevices w o es failed before after)
+        → (m : Moment (machine_of w o) es) (images : ℕ → List ℕ) → (r : Recovers p devices m images) → GoesOnFrom r }
+{
+    begins_again();
+    one_opening();
+}
+
+/// Of runs one behind the other, each of a work of one of these programs, and each on the bytes that the crash before it left, whether
+/// that came while its run began or at a moment of it: each is recovered, and the next one began with just what was left.
+pub fn runs_go_on_behind_each_other(programs: &[Checked])
+    ensures { (xs : List CutOff) → AllByRecursion (λ (x : CutOff). Contains (map methods_of programs.now) x.work.program) xs → EachIsBehind xs → GoOn xs }
+{
+    beginnings_are_recovered();
+    crashed_runs_go_on();
+    one_opening();
+    one_list_of_records();
+    for program in programs {
+        runs_are_recovered(program);
+    }
+}
+
+/// All of it, of every run of a work that keeps its limits.
+pub fn runs_stand(program: &Checked)
+    ensures { (w : Work) (seed : ℕ) (o : Opening) (es : List machine.Event) (failed : Option ℕ) (before after : List Device) → w.program ≡ methods_of program.now → KeepsLimits w → (run : HasRun w seed o es failed before after) → RunStands run }
+{
+    runs_are_as_meant(program);
+    runs_are_recovered(program);
+    beginnings_are_recovered();
+    crashed_runs_go_on();
+}
