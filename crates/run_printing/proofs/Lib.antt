@@ -1,0 +1,5 @@
+pub mod ActorLines
+pub mod Counted
+pub mod Fronts
+pub mod Lines
+pub mod Unanswered

@@ -1,0 +1,56 @@
+ghost use Rattle.std.specs.Prelude.{◌≡◌, ◌≤◌, [], IfOk, IsErrOf, OnOk, OnErr, string_bytes};
+ghost use Rattle.std.specs.Io.KnownBytes.{Appends};
+ghost use Rattle.run_printing.specs.Printed.{AppendsFront};
+ghost use Rattle.snap_outside.specs.Causes.{Rose};
+ghost use Rattle.trace_text.specs.Traces.{trace_of};
+
+use crate::WriteNo;
+use crate::writes::write_text;
+use core_events::Event;
+use snap_base::Memory;
+use snap_outside::Sink;
+use std::alloc::Global;
+use trace_text::print_event;
+
+/// How many lines go to the sink at once.
+const LINES: usize = 512;
+
+/// Writes a line for each event. Where there is none the sink gets no call.
+pub fn write_trace<T: Sink>(alloc: Global, kept: &[Event], trace: &mut T) -> Result<(), WriteNo>
+    ensures whole { OnOk result (Appends (T.taken trace.old) (T.taken trace.new) (trace_of kept.now)) }
+    ensures front { OnErr result (AppendsFront (T.taken trace.old) (T.taken trace.new) (trace_of kept.now)) }
+    ensures fault { IsErrOf result WriteNo.Fault → Rose (T.faults trace.old) (T.faults trace.new) }
+    ensures later { T.faults trace.old ≤ T.faults trace.new }
+    ensures none { kept.now ≡ [] → trace.new ≡ trace.old }
+{
+    let mut at = 0;
+    while at < kept.len() {
+        let count = LINES.min(kept.len() - at);
+        write_lines(alloc, &kept[at..at + count], trace)?;
+        at += count;
+    }
+    Ok(())
+}
+
+/// Writes the lines of these events at once.
+fn write_lines<T: Sink>(alloc: Global, events: &[Event], trace: &mut T) -> Result<(), WriteNo>
+    ensures whole { OnOk result (Appends (T.taken trace.old) (T.taken trace.new) (trace_of events.now)) }
+    ensures front { OnErr result (AppendsFront (T.taken trace.old) (T.taken trace.new) (trace_of events.now)) }
+    ensures fault { IsErrOf result WriteNo.Fault → Rose (T.faults trace.old) (T.faults trace.new) }
+    ensures later { T.faults trace.old ≤ T.faults trace.new }
+{
+    let text = lines_of(alloc, events)?;
+    write_text(trace, text.as_str())
+}
+
+/// The lines of these events.
+fn lines_of(alloc: Global, events: &[Event]) -> Result<String, Memory>
+    ensures { IfOk result (λ s. string_bytes s ≡ trace_of events.now) }
+{
+    let mut text = String::new(alloc);
+    for event in events {
+        let line = print_event(alloc, *event)?;
+        text.push_str(line.as_str())?;
+    }
+    Ok(text)
+}

@@ -1,0 +1,41 @@
+ghost use Rattle.std.specs.Prelude.{◌≡◌, ◌≤◌, IsErrOf, OnOk, OnErr};
+ghost use Rattle.std.specs.Io.KnownBytes.{Appends};
+ghost use Rattle.run_printing.specs.Printed.{AppendsFront};
+ghost use Rattle.snap_outside.specs.Causes.{Rose};
+
+use run_outputs::write_all;
+use snap_base::Memory;
+use snap_outside::Sink;
+
+/// Why something is not written whole.
+#[derive(Clone, Copy, Debug, PartialEq, Eq)]
+pub enum WriteNo {
+    /// The sink failed.
+    Fault,
+    /// There was no memory.
+    Memory,
+}
+
+impl From<Memory> for WriteNo {
+    ghost use Rattle.std.specs.Prelude.{◌≡◌};
+    ghost use Rattle.run_printing.specs.declared.writes.WriteNo.TheVariants as writing;
+
+    ghost from_gives = { λ _ e. e ≡ writing.Memory };
+
+    fn from(_error: Memory) -> WriteNo {
+        WriteNo::Memory
+    }
+}
+
+/// Writes a text whole, or a front of it where the sink fails.
+pub(crate) fn write_text<O: Sink>(out: &mut O, text: &str) -> Result<(), WriteNo>
+    ensures whole { OnOk result (Appends (O.taken out.old) (O.taken out.new) text.now) }
+    ensures front { OnErr result (AppendsFront (O.taken out.old) (O.taken out.new) text.now) }
+    ensures fault { OnErr result (Rose (O.faults out.old) (O.faults out.new)) }
+    ensures later { O.faults out.old ≤ O.faults out.new }
+{
+    match write_all(out, text.as_bytes()) {
+        Ok(()) => Ok(()),
+        Err(_failed) => Err(WriteNo::Fault),
+    }
+}

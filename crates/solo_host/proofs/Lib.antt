@@ -1,0 +1,5 @@
+pub mod Driving
+pub mod GotGroups
+pub mod Picking
+pub mod Preparing
+pub mod Turning

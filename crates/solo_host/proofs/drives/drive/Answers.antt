@@ -1,0 +1,86 @@
+use Rattle.std.proofs.Common.{List, map, refl, sym, ap, subst, ◌∙◌}
+use Rattle.core_events.specs.declared.events.Event as code
+use Rattle.core_events.specs.Meant.{event_meant}
+use Rattle.protocol.specs.Runs.{IsRun}
+use Rattle.snap_core.specs.Cores.{IsAt}
+use Rattle.snap_hand.specs.Tables.{fixed_of}
+use Rattle.snap_hand.specs.declared.tables.Tables.{Tables}
+use Rattle.solo_host.specs.Outside.{RunsOf, outside}
+use Rattle.solo_host.proofs.Driving.{IsDriving, begins, still_open, still_low, are_open, are_near}
+use Rattle.solo_host.proofs.Turning.{stays_driving, has_driven, fewer_left}
+use Rattle.solo_host.proofs.drives.drive.Goals as goal
+
+pub turns-init : goal.turns-init
+turns-init g c =
+    let w = fixed_of c.args.core.now.tables in
+    let start = outside c.args.logs.now.items (g.O.Sink.taken c.args.out.now) (g.O.Sink.faults c.args.out.now) in
+    record {
+      at = subst (λ (ks : List code.Event). IsAt c.args.core.now (map event_meant ks)) (sym c.new-kept.ensures.items) c.requires.new;
+      tables = refl;
+      driving = subst (λ (ks : List code.Event). IsDriving w c.args.seed (map event_meant ks) start start) (sym c.new-kept.ensures.items) (begins w c.args.seed start (are_open c.args.logs.now.items c.requires.open));
+    }
+
+pub turn-requires-clause-runs : goal.turn-requires-clause-runs
+turn-requires-clause-runs g c = subst (λ (t : Tables). RunsOf (fixed_of t)) (sym c.turns.invariant.tables) c.runs_of.ensures
+
+pub turn-requires-clause-logs : goal.turn-requires-clause-logs
+turn-requires-clause-logs g c = c.turns.invariant.driving.logs.many ∙ c.requires.logs ∙ ap (λ (t : Tables). t.work.logs) (sym c.turns.invariant.tables)
+
+pub turn-requires-clause-open : goal.turn-requires-clause-open
+turn-requires-clause-open g c =
+    let w = fixed_of c.args.core.now.tables in
+    let start = outside c.args.logs.now.items (g.O.Sink.taken c.args.out.now) (g.O.Sink.faults c.args.out.now) in
+    let old = outside c.turns.logs.items (g.O.Sink.taken c.turns.out) (g.O.Sink.faults c.turns.out) in
+    still_open w c.args.seed (map event_meant c.turns.kept.items) start old c.turns.invariant.driving
+
+pub turn-requires-clause-low : goal.turn-requires-clause-low
+turn-requires-clause-low g c =
+    let w = fixed_of c.args.core.now.tables in
+    let start = outside c.args.logs.now.items (g.O.Sink.taken c.args.out.now) (g.O.Sink.faults c.args.out.now) in
+    let old = outside c.turns.logs.items (g.O.Sink.taken c.turns.out) (g.O.Sink.faults c.turns.out) in
+    let es = map event_meant c.turns.kept.items in
+    still_low w c.args.seed es start old c.runs_of.ensures (subst (λ (t : Tables). IsRun (fixed_of t) es) c.turns.invariant.tables c.turns.invariant.at.run)
+    (are_near c.args.logs.now.items c.requires.ends) c.turns.invariant.driving
+
+pub returns-in-Some-clause-why : goal.returns-in-Some-clause-why
+returns-in-Some-clause-why g c =
+    let start = outside c.args.logs.now.items (g.O.Sink.taken c.args.out.now) (g.O.Sink.faults c.args.out.now) in
+    let old = outside c.turns.logs.items (g.O.Sink.taken c.turns.out) (g.O.Sink.faults c.turns.out) in
+    let new = outside c.turn.new.logs.items (g.O.Sink.taken c.turn.new.out) (g.O.Sink.faults c.turn.new.out) in
+    (has_driven c.args.core.now.tables c.args.seed c.turns.core c.turn.new.core (map event_meant c.turns.kept.items) (map event_meant c.turn.new.kept.items) c.in-Some.stop start old new
+    c.turns.invariant.tables c.turns.invariant.driving c.in-Some.ensures.goes).why
+
+pub returns-in-Some-clause-logs : goal.returns-in-Some-clause-logs
+returns-in-Some-clause-logs g c =
+    let start = outside c.args.logs.now.items (g.O.Sink.taken c.args.out.now) (g.O.Sink.faults c.args.out.now) in
+    let old = outside c.turns.logs.items (g.O.Sink.taken c.turns.out) (g.O.Sink.faults c.turns.out) in
+    let new = outside c.turn.new.logs.items (g.O.Sink.taken c.turn.new.out) (g.O.Sink.faults c.turn.new.out) in
+    (has_driven c.args.core.now.tables c.args.seed c.turns.core c.turn.new.core (map event_meant c.turns.kept.items) (map event_meant c.turn.new.kept.items) c.in-Some.stop start old new
+    c.turns.invariant.tables c.turns.invariant.driving c.in-Some.ensures.goes).logs
+
+pub returns-in-Some-clause-printed : goal.returns-in-Some-clause-printed
+returns-in-Some-clause-printed g c =
+    let start = outside c.args.logs.now.items (g.O.Sink.taken c.args.out.now) (g.O.Sink.faults c.args.out.now) in
+    let old = outside c.turns.logs.items (g.O.Sink.taken c.turns.out) (g.O.Sink.faults c.turns.out) in
+    let new = outside c.turn.new.logs.items (g.O.Sink.taken c.turn.new.out) (g.O.Sink.faults c.turn.new.out) in
+    (has_driven c.args.core.now.tables c.args.seed c.turns.core c.turn.new.core (map event_meant c.turns.kept.items) (map event_meant c.turn.new.kept.items) c.in-Some.stop start old new
+    c.turns.invariant.tables c.turns.invariant.driving c.in-Some.ensures.goes).printed
+
+pub turns-preserved : goal.turns-preserved
+turns-preserved g c =
+    let start = outside c.args.logs.now.items (g.O.Sink.taken c.args.out.now) (g.O.Sink.faults c.args.out.now) in
+    let old = outside c.turns.logs.items (g.O.Sink.taken c.turns.out) (g.O.Sink.faults c.turns.out) in
+    let new = outside c.turn.new.logs.items (g.O.Sink.taken c.turn.new.out) (g.O.Sink.faults c.turn.new.out) in
+    record {
+      at = c.in-None.ensures.goes.at;
+      tables = c.in-None.ensures.tables ∙ c.turns.invariant.tables;
+      driving = stays_driving c.args.core.now.tables c.args.seed c.turns.core c.turn.new.core (map event_meant c.turns.kept.items) (map event_meant c.turn.new.kept.items) start old new
+          c.turns.invariant.tables c.runs_of.ensures c.turns.invariant.at c.turns.invariant.driving c.in-None.ensures.goes;
+    }
+
+pub turns-smaller : goal.turns-smaller
+turns-smaller g c =
+    let old = outside c.turns.logs.items (g.O.Sink.taken c.turns.out) (g.O.Sink.faults c.turns.out) in
+    let new = outside c.turn.new.logs.items (g.O.Sink.taken c.turn.new.out) (g.O.Sink.faults c.turn.new.out) in
+    fewer_left c.args.core.now.tables c.args.seed c.turns.core c.turn.new.core c.turns.kept.items c.turn.new.kept.items old new
+    c.turns.invariant.tables c.in-None.ensures.tables c.runs_of.ensures c.in-None.ensures.goes

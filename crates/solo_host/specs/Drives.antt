@@ -1,0 +1,66 @@
+-- What one thread makes of a core, its logs and its output.
+use Rattle.std.specs.Prelude.{◌≡◌, ℕ, ◌≤◌, ◌<◌, ◌==◌, if◌then◌else◌, true, Option, None, Some, is_some, List, [], ◌∷◌, ◌++◌, length, slice_index_or}
+use Rattle.std.specs.Io.KnownBytes.{Appends}
+use Rattle.aml_slice.specs.Controls.{Rest}
+use Rattle.gate_log.specs.State.{LogState}
+use Rattle.protocol.specs.Events.{Event, Sync, Reply}
+use Rattle.protocol.specs.Fixed.{Fixed}
+use Rattle.protocol.specs.Runs.{IsQuiet, reached}
+use Rattle.protocol_schedule.specs.Draw.{IsFrontOfSeed}
+use Rattle.record_log.specs.Growth.{end_behind_groups, GrewBy}
+use Rattle.run_outputs.specs.Groups.{groups_of, group_behind}
+use Rattle.run_outputs.specs.Lines.{line_in, replies_text}
+use Rattle.snap_outside.specs.Causes.{Rose}
+use Rattle.snap_outside.specs.Disk.{History}
+use Rattle.solo_host.specs.declared.drives.Stop.{Stop}
+use Rattle.solo_host.specs.declared.drives.Stop.TheVariants as stop
+use Rattle.txn_records.specs.declared.records.Record.{Record}
+
+-- ---- the logs
+
+abbrev pub log_at : List LogState → ℕ → LogState
+log_at logs n = slice_index_or logs n (record { told = None; end = 0; shut = true; found = []; faults = 0 })
+
+-- Whatever groups the log's device had got since it was opened, it got these behind them, and a front of the append of one
+-- that met a fault, where one did.
+abbrev pub GrewOn : LogState → LogState → List (List Record) → Option (List Record) → Type 0
+GrewOn old new groups tried = (device : Option History) (end : ℕ) (first : List (List Record))
+    → GrewBy device old.told end first None → old.end ≡ end_behind_groups end first → GrewBy device new.told end (first ++ groups) tried
+
+-- A log got these groups, one append for each, and then one that met a fault, where one did.
+pub record IsDriven (old new : LogState) (groups : List (List Record)) (tried : Option (List Record)) : Type 0 where
+  pub grew : GrewOn old new groups tried
+  pub gate : new.end ≡ end_behind_groups old.end groups
+  pub shut : new.shut ≡ is_some tried
+  pub later : old.faults ≤ new.faults
+
+-- the append that met a fault on log l
+abbrev pub tried_on : Fixed Rest → ℕ → List Event → Stop → Option (List Record)
+tried_on w l es (stop.LogFault k) = if k == l then Some (group_behind w l es) else None
+tried_on w l es _ = None
+
+-- each log got a group for each of its Syncs
+abbrev pub AreDriven : Fixed Rest → List Event → Stop → List LogState → List LogState → Type 0
+AreDriven w es why old new = (length new ≡ length old) × ((l : ℕ) → l < length old → IsDriven (log_at old l) (log_at new l) (groups_of w l es) (tried_on w l es why))
+
+-- ---- why it ended
+
+-- the schedule goes on with this event
+abbrev pub IsNext : Fixed Rest → ℕ → List Event → Event → Type 0
+IsNext w seed es e = IsFrontOfSeed w seed (es ++ e ∷ [])
+
+-- No event is allowed; or the next one is a Sync of a log whose device failed, or a reply whose line the output did not take;
+-- or there was no memory.
+abbrev pub IsWhy : Fixed Rest → ℕ → List Event → List LogState → List LogState → ℕ → ℕ → Stop → Type 0
+IsWhy w seed es old new out_before out_after stop.Quiet = IsQuiet w (reached w es)
+IsWhy w seed es old new out_before out_after (stop.LogFault l) = (l < length old) × IsNext w seed es (Sync l) × Rose (log_at old l).faults (log_at new l).faults
+IsWhy w seed es old new out_before out_after stop.OutFault = ((n : ℕ) × IsNext w seed es (Reply n)) × Rose out_before out_after
+IsWhy w seed es old new out_before out_after stop.Memory = Unit {0}
+
+-- ---- what is printed
+
+-- The replies of the events are printed; and of the line of the next one a front, where the output did not take it.
+abbrev pub IsPrinted : Fixed Rest → ℕ → List Event → Option (List ℕ) → Option (List ℕ) → Stop → Type 0
+IsPrinted w seed es old new stop.OutFault =
+    (n : ℕ) × (front rest : List ℕ) × IsNext w seed es (Reply n) × (line_in (reached w es) n ≡ front ++ rest) × Appends old new (replies_text w es ++ front)
+IsPrinted w seed es old new _ = Appends old new (replies_text w es)

@@ -1,0 +1,3 @@
+pub mod Drives
+pub mod Outside
+pub mod Turns

@@ -1,0 +1,41 @@
+//! What is done before an event.
+ghost use Rattle.std.specs.Prelude.{◌≡◌, List, length, MatchResult};
+ghost use Rattle.core_events.specs.Meant.{event_meant};
+ghost use Rattle.protocol.specs.Conditions.{IsAllowed};
+ghost use Rattle.protocol.specs.Events as machine;
+ghost use Rattle.snap_core.specs.Cores.{IsAt, state_at};
+ghost use Rattle.snap_hand.specs.Tables.{fixed_of};
+ghost use Rattle.solo_host.specs.Outside.{AreLow, AreOpen, RunsOf, outside, IsDone, IsGivenUp};
+
+use crate::Stop;
+use crate::groups::before_sync;
+use crate::replies::before_reply;
+use core_events::Event;
+use gate_log::Log;
+use snap_core::Core;
+use snap_outside::{LogDev, Sink};
+use std::alloc::Global;
+
+/// Does what stands before the event, which is allowed: the append of a Sync, the line of a reply.
+pub(crate) fn before<D: LogDev, O: Sink>(
+    alloc: Global,
+    core: &Core,
+    logs: &mut Vec<Log<D>>,
+    out: &mut O,
+    e: Event,
+) -> Result<(), Stop>
+    requires runs { RunsOf (fixed_of core.now.tables) }
+    requires allowed { (es : List machine.Event) × IsAt core.now es × IsAllowed (fixed_of core.now.tables) (event_meant e) (state_at core.now es) }
+    requires logs { length logs.old.items ≡ core.now.tables.work.logs }
+    requires open { AreOpen logs.old.items }
+    requires low { AreLow logs.old.items }
+    ensures { MatchResult result
+        (λ _. (es : List machine.Event) → IsAt core.now es → IsDone (fixed_of core.now.tables) es (event_meant e) (outside logs.old.items (O.taken out.old) (O.faults out.old)) (outside logs.new.items (O.taken out.new) (O.faults out.new)))
+        (λ stop. (es : List machine.Event) → IsAt core.now es → IsGivenUp (fixed_of core.now.tables) es (event_meant e) stop (outside logs.old.items (O.taken out.old) (O.faults out.old)) (outside logs.new.items (O.taken out.new) (O.faults out.new))) }
+{
+    match e {
+        Event::Sync(l) => before_sync(alloc, core, logs, l),
+        Event::Reply(n) => before_reply(alloc, core, out, n),
+        _ => Ok(()),
+    }
+}

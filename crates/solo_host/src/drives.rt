@@ -1,0 +1,71 @@
+ghost use Rattle.std.specs.Prelude.{◌≡◌, ◌+◌, ◌≤◌, ◌^◌, [], List, length, map, false};
+ghost use Rattle.std.specs.List.{AllByRecursion};
+ghost use Rattle.core_events.specs.Meant.{event_meant};
+ghost use Rattle.protocol_schedule.specs.Draw.{IsFrontOfSeed};
+ghost use Rattle.snap_core.specs.Cores.{IsAt};
+ghost use Rattle.snap_hand.specs.Tables.{fixed_of};
+ghost use Rattle.solo_host.specs.Drives.{AreDriven, IsPrinted, IsWhy};
+
+use crate::runs::runs_of;
+use crate::turns::turn;
+use core_events::Event;
+use gate_log::{FARTHEST_END, Log};
+use snap_core::Core;
+use snap_outside::{LogDev, Sink};
+use std::alloc::Global;
+
+/// Why a host ended.
+#[derive(Clone, Copy, Debug, PartialEq, Eq)]
+pub enum Stop {
+    /// No event is allowed any more.
+    Quiet,
+    /// The device of this log failed while a group was appended. The log is shut.
+    LogFault(u8),
+    /// The output failed while a reply was printed.
+    OutFault,
+    /// There was no memory.
+    Memory,
+}
+
+/// How a host ended, and the events that it took.
+#[derive(Drop)]
+pub struct Driven {
+    pub stop: Stop,
+    pub kept: Vec<Event>,
+}
+
+/// Takes the events of the core as the seed's schedule picks them, until none is allowed. Seed 0 takes the first allowed event
+/// at each step. Before a Sync the records that wait are appended to the log's device as one group, and before a reply its
+/// line is printed; an event is kept once that is done. The core is a new one, and the logs, as many as the text says, take
+/// appends.
+pub fn drive<D: LogDev, O: Sink>(
+    alloc: Global,
+    core: &mut Core,
+    logs: &mut Vec<Log<D>>,
+    out: &mut O,
+    seed: u64,
+) -> Driven
+    requires new { IsAt core.old [] }
+    requires logs { length logs.old.items ≡ core.old.tables.work.logs }
+    requires open { AllByRecursion (λ l. l.shut ≡ false) logs.old.items }
+    requires ends { AllByRecursion (λ l. l.end ≤ FARTHEST_END + 2 ^ 32) logs.old.items }
+    // What was kept is a front of the schedule, and a run of the machine, to which the core has come.
+    ensures front { IsFrontOfSeed (fixed_of core.old.tables) seed (map event_meant result.kept.items) }
+    ensures core { IsAt core.new (map event_meant result.kept.items) }
+    ensures tables { core.new.tables ≡ core.old.tables }
+    ensures why { IsWhy (fixed_of core.old.tables) seed (map event_meant result.kept.items) logs.old.items logs.new.items (O.faults out.old) (O.faults out.new) result.stop }
+    // The logs got the groups of its Syncs, and nothing else.
+    ensures logs { AreDriven (fixed_of core.old.tables) (map event_meant result.kept.items) result.stop logs.old.items logs.new.items }
+    // The output got the lines of its replies.
+    ensures printed { IsPrinted (fixed_of core.old.tables) seed (map event_meant result.kept.items) (O.taken out.old) (O.taken out.new) result.stop }
+    ensures later { O.faults out.old ≤ O.faults out.new }
+{
+    runs_of(core);
+    let mut kept = Vec::new(alloc);
+    'turns: loop {
+        match turn(alloc, core, logs, out, seed, &mut kept) {
+            Some(stop) => return Driven { stop, kept },
+            None => {}
+        }
+    }
+}

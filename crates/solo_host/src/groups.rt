@@ -1,0 +1,65 @@
+//! What is appended to a log's device before its Sync.
+ghost use Rattle.std.specs.Prelude.{◌≡◌, ◌<◌, ℕ, List, length, false, MatchResult};
+ghost use Rattle.gate_log.specs.Device.{MayAppend};
+ghost use Rattle.protocol.specs.Events as machine;
+ghost use Rattle.snap_core.specs.Cores.{IsAt};
+ghost use Rattle.snap_hand.specs.Tables.{fixed_of};
+ghost use Rattle.solo_host.specs.Outside.{AreLow, AreOpen, RunsOf, IsAppended, IsNotAppended, IsSynced, IsNotSynced, stop_of};
+
+use crate::Stop;
+use gate_log::{AppendNo, Log};
+use record_log::history_grows;
+use snap_base::Sequence;
+use snap_core::Core;
+use snap_outside::LogDev;
+use std::alloc::Global;
+
+/// Appends the records of log `l` that wait for its Sync to the log's device, as one group.
+pub(crate) fn before_sync<D: LogDev>(
+    alloc: Global,
+    core: &Core,
+    logs: &mut Vec<Log<D>>,
+    l: u8,
+) -> Result<(), Stop>
+    requires runs { RunsOf (fixed_of core.now.tables) }
+    requires at { (es : List machine.Event) × IsAt core.now es }
+    requires exists { l < core.now.tables.work.logs }
+    requires logs { length logs.old.items ≡ core.now.tables.work.logs }
+    requires open { AreOpen logs.old.items }
+    requires low { AreLow logs.old.items }
+    ensures { MatchResult result
+        (λ _. (es : List machine.Event) → IsAt core.now es → IsSynced (fixed_of core.now.tables) es l logs.old.items logs.new.items)
+        (λ stop. (es : List machine.Event) → IsAt core.now es → IsNotSynced (fixed_of core.now.tables) es l stop logs.old.items logs.new.items) }
+{
+    history_grows();
+    let Ok(pieces) = core.group(alloc, l) else {
+        return Err(Stop::Memory);
+    };
+    match append_group(alloc, &mut logs[l as usize], pieces.as_slice()) {
+        Ok(()) => Ok(()),
+        Err(no) => Err(stop_of(no, l)),
+    }
+}
+
+/// Why the host ends where an append to log `l` is refused. The log was open, so where it is shut it was the device.
+fn stop_of(no: AppendNo, l: u8) -> Stop
+    ensures { result ≡ stop_of no l }
+{
+    match no {
+        AppendNo::Memory => Stop::Memory,
+        AppendNo::Device | AppendNo::Shut => Stop::LogFault(l),
+    }
+}
+
+/// Appends the pieces to an open log, as one group.
+fn append_group<D: LogDev>(
+    alloc: Global,
+    log: &mut Log<D>,
+    pieces: &[Sequence<u8>],
+) -> Result<(), AppendNo>
+    requires may { MayAppend log.old.end pieces.now }
+    requires open { log.old.shut ≡ false }
+    ensures { MatchResult result (λ _. IsAppended log.old log.new pieces.now) (λ no. IsNotAppended log.old log.new pieces.now no) }
+{
+    log.append(alloc, pieces)
+}

@@ -1,0 +1,68 @@
+//! One turn: an event is picked, what stands before it is done, and it is taken.
+ghost use Rattle.std.specs.Prelude.{◌≡◌, ◌<◌, [], ◌∷◌, ◌++◌, length, map, vec_len, vec_capacity, MatchOption};
+ghost use Rattle.core_events.specs.Meant.{event_meant};
+ghost use Rattle.snap_core.specs.Cores.{IsAt};
+ghost use Rattle.snap_hand.specs.Tables.{fixed_of};
+ghost use Rattle.solo_host.specs.Outside.{AreLow, AreOpen, RunsOf, outside};
+ghost use Rattle.solo_host.specs.Turns.{HasGoneOn, HasEnded};
+
+use crate::Stop;
+use crate::befores::before;
+use crate::picks::picked;
+use crate::steps::take_step;
+use core_events::Event;
+use gate_log::Log;
+use snap_core::Core;
+use snap_outside::{LogDev, Sink};
+use std::alloc::Global;
+
+/// Takes the next event of the seed's schedule and keeps it, or tells why the host ends.
+pub(crate) fn turn<D: LogDev, O: Sink>(
+    alloc: Global,
+    core: &mut Core,
+    logs: &mut Vec<Log<D>>,
+    out: &mut O,
+    seed: u64,
+    kept: &mut Vec<Event>,
+) -> Option<Stop>
+    requires runs { RunsOf (fixed_of core.old.tables) }
+    requires at { IsAt core.old (map event_meant kept.old.items) }
+    requires logs { length logs.old.items ≡ core.old.tables.work.logs }
+    requires open { AreOpen logs.old.items }
+    requires low { AreLow logs.old.items }
+    ensures goes { MatchOption result
+        (HasGoneOn seed core.old core.new (map event_meant kept.old.items) (map event_meant kept.new.items) (outside logs.old.items (O.taken out.old) (O.faults out.old)) (outside logs.new.items (O.taken out.new) (O.faults out.new)))
+        (λ stop. HasEnded seed core.old core.new (map event_meant kept.old.items) (map event_meant kept.new.items) stop (outside logs.old.items (O.taken out.old) (O.faults out.old)) (outside logs.new.items (O.taken out.new) (O.faults out.new))) }
+    ensures tables { core.new.tables ≡ core.old.tables }
+{
+    let Ok(enabled) = core.enabled(alloc) else {
+        return Some(Stop::Memory);
+    };
+    let Some(e) = picked(seed, kept.len(), &enabled) else {
+        return Some(Stop::Quiet);
+    };
+    if kept.reserve(1).is_err() {
+        return Some(Stop::Memory);
+    }
+    match before(alloc, core, logs, out, e) {
+        Ok(()) => {}
+        Err(stop) => return Some(stop),
+    }
+    match take_step(alloc, core, e) {
+        Ok(()) => {}
+        Err(_) => return Some(Stop::Memory),
+    }
+    keep(kept, e);
+    None
+}
+
+// There is room, so it can't fail.
+fn keep(kept: &mut Vec<Event>, e: Event)
+    requires { vec_len kept.old < vec_capacity kept.old }
+    ensures { kept.new.items ≡ kept.old.items ++ e ∷ [] }
+{
+    match kept.push(e) {
+        Ok(()) => {}
+        Err(_) => {}
+    }
+}

@@ -1,0 +1,74 @@
+//! What a seed draws.
+
+ghost use Rattle.std.specs.Prelude.{◌≡◌, ℕ, ◌*◌, ◌<◌, ◌≤◌, ◌^◌};
+ghost use Rattle.work_gen.specs.Generated.{word, method_of, other_than, drawn};
+
+use rand_core::utils::NextWord;
+use rand_pcg::Pcg32;
+
+/// A method of the program.
+#[derive(Clone, Copy)]
+pub(crate) enum Method {
+    Balance,
+    Deposit,
+    Savings,
+    Amalgamate,
+    Check,
+}
+
+/// A transaction: its method, the actor that is called, another actor, an amount from 1 to 50, and whether its actors are not
+/// declared. A method takes the other actor, the amount, or nothing.
+#[derive(Clone, Copy)]
+pub(crate) struct Drawn {
+    pub(crate) method: Method,
+    pub(crate) actor: u16,
+    pub(crate) other: u16,
+    pub(crate) amount: u16,
+    pub(crate) is_act: bool,
+}
+
+/// A word of the seed.
+fn word_at(seed: u64, place: u64) -> u32
+    ensures { result ≡ word seed place }
+{
+    let mut generator = Pcg32::new(seed, 1);
+    generator.advance(place);
+    generator.next_word()
+}
+
+/// The method of a number.
+fn method_at(number: u32) -> Method
+    ensures { result ≡ method_of number }
+{
+    match number {
+        0 => Method::Balance,
+        1 => Method::Deposit,
+        2 => Method::Savings,
+        3 => Method::Amalgamate,
+        _ => Method::Check,
+    }
+}
+
+/// The actor of a number, where one is left out.
+fn other_actor(actor: u16, number: u16) -> u16
+    requires { number < 255 }
+    ensures { result ≡ other_than actor number }
+{
+    if actor <= number { number + 1 } else { number }
+}
+
+/// What the seed draws for a transaction.
+pub(crate) fn draw(seed: u64, place: u32) -> Drawn
+    ensures { result ≡ drawn seed place }
+{
+    let first = 5 * place as u64;
+    let actor = (word_at(seed, first + 1) % 256) as u16;
+    let number = (word_at(seed, first + 2) % 255) as u16;
+    Drawn {
+        method: method_at(word_at(seed, first) % 5),
+        actor,
+        other: other_actor(actor, number),
+        amount: (1 + word_at(seed, first + 3) % 50) as u16,
+        is_act: word_at(seed, first + 4) % 4 == 0,
+    }
+}

@@ -1,0 +1,11 @@
+//! Works that a seed draws, as texts: a bank's five methods, 256 actors, and as many transactions as are asked for. What the text
+//! is stands in `specs/Generated.antt`. Who measures runs makes their texts with this.
+#![tactic(auto)]
+
+mod draws;
+mod laws;
+mod lines;
+mod texts;
+
+pub use laws::generated_texts_are_works;
+pub use texts::generate;
