@@ -1,7 +1,7 @@
 ghost use Rattle.std.specs.Prelude.{◌≡◌, vec_len, IfOk};
 
 use snap_base::Memory;
-use snap_outside::{Failed, MemLog, MemSink, MemSource, NullSink, Sink, Source};
+use snap_outside::{Failed, MemLog, MemSink, MemSource, Sink, Source};
 use snap_report::Status;
 use snap_run::run;
 use std::alloc::Global;
@@ -24,7 +24,10 @@ impl Source for Trickle {
     }
 }
 
-/// A sink that takes one byte at a write.
+/// The bytes that a sink takes at most at a write.
+const AT_ONCE: usize = 8;
+
+/// A sink that takes a few bytes at a write.
 #[derive(Drop)]
 pub struct Drip(pub MemSink);
 
@@ -37,28 +40,42 @@ impl Sink for Drip {
     ghost faults = { λ s. sink_faults s.0 };
 
     fn write(&mut self, piece: &[u8]) -> Result<usize, Failed> {
-        let room = piece.len().min(1);
+        let room = piece.len().min(AT_ONCE);
         self.0.write(&piece[..room])
     }
 }
 
-/// How a call ended, what it printed, and the logs then.
+/// How a call ended, what it printed and traced, and the logs then.
 #[derive(Drop)]
 pub struct Ran {
     pub status: Status,
     pub output: Vec<u8>,
+    pub trace: Vec<u8>,
     pub logs: Vec<MemLog>,
 }
 
-/// Does what the words ask for with a text and four logs, byte by byte. The reads and writes with these numbers
-/// fail; 0 is none.
+/// The numbers of a read, a write of the output and one of the trace that fail; 0 is none.
+#[derive(Clone, Copy)]
+pub struct Failing {
+    pub read: u64,
+    pub write: u64,
+    pub trace: u64,
+}
+
+/// None fails.
+pub const NONE: Failing = Failing {
+    read: 0,
+    write: 0,
+    trace: 0,
+};
+
+/// Does what the words ask for with a text and four logs. A read gives a byte, and a write takes a few.
 pub fn run_on_logs(
     alloc: Global,
     words: &[&str],
     text: &str,
     logs: Vec<MemLog>,
-    failing_read: u64,
-    failing_write: u64,
+    failing: Failing,
 ) -> Result<Ran, Memory>
     requires { vec_len logs ≡ 4 }
 {
@@ -68,20 +85,15 @@ pub fn run_on_logs(
     }
     let mut input = Trickle(MemSource::new(
         text.as_bytes().to_vec(alloc)?,
-        vec![in alloc; failing_read]?,
+        vec![in alloc; failing.read]?,
     ));
-    let out = Drip(MemSink::new(alloc, vec![in alloc; failing_write]?)?);
-    let outcome = run(
-        alloc,
-        list.as_slice(),
-        &mut input,
-        logs,
-        out,
-        NullSink::new(),
-    );
+    let out = Drip(MemSink::new(alloc, vec![in alloc; failing.write]?)?);
+    let trace = Drip(MemSink::new(alloc, vec![in alloc; failing.trace]?)?);
+    let outcome = run(alloc, list.as_slice(), &mut input, logs, out, trace);
     Ok(Ran {
         status: outcome.status,
         output: outcome.out.0.bytes().to_vec(alloc)?,
+        trace: outcome.trace.0.bytes().to_vec(alloc)?,
         logs: outcome.logs,
     })
 }
@@ -105,25 +117,33 @@ pub fn four_logs(alloc: Global, first: MemLog, second: MemLog) -> Result<Vec<Mem
     Ok(vec![in alloc; first, second, third, fourth]?)
 }
 
-/// Does what the words ask for with a text, on this log and three empty ones. No read and no write fails.
+/// Does what the words ask for with a text, on this log and three empty ones. Nothing fails.
 pub fn run_on_log(alloc: Global, words: &[&str], text: &str, first: MemLog) -> Result<Ran, Memory> {
     let second = log_of(alloc, b"")?;
     let logs = four_logs(alloc, first, second)?;
-    run_on_logs(alloc, words, text, logs, 0, 0)
+    run_on_logs(alloc, words, text, logs, NONE)
 }
 
-/// The same on four empty logs, with a read and a write that fail.
-pub fn run_on_empty_logs(
-    alloc: Global,
-    words: &[&str],
-    text: &str,
-    failing_read: u64,
-    failing_write: u64,
-) -> Result<Ran, Memory> {
+/// Runs a text on four empty logs.
+pub fn run_on_empty_logs(alloc: Global, text: &str, failing: Failing) -> Result<Ran, Memory> {
     let first = log_of(alloc, b"")?;
     let second = log_of(alloc, b"")?;
     let logs = four_logs(alloc, first, second)?;
-    run_on_logs(alloc, words, text, logs, failing_read, failing_write)
+    run_on_logs(alloc, &["run"], text, logs, failing)
+}
+
+/// The same where a device call of log 0 and one of log 1 fail; 0 is none.
+pub fn run_on_failing_logs(
+    alloc: Global,
+    text: &str,
+    calls: [u64; 2],
+    failing: Failing,
+) -> Result<Ran, Memory> {
+    let [first, second] = calls;
+    let first = failing_log(alloc, b"", first)?;
+    let second = failing_log(alloc, b"", second)?;
+    let logs = four_logs(alloc, first, second)?;
+    run_on_logs(alloc, &["run"], text, logs, failing)
 }
 
 /// The command `recover` on a log with these bytes.
@@ -143,19 +163,23 @@ impl Ran {
         Ok(self.output.as_slice() == lines.replace(alloc, "/", "\n")?.as_bytes())
     }
 
-    /// Whether log 0 has these bytes.
-    pub fn holds(&self, bytes: &[u8]) -> bool {
-        match self.logs.get(0) {
+    /// Whether this log has these bytes.
+    pub fn holds(&self, log: usize, bytes: &[u8]) -> bool {
+        match self.logs.get(log) {
             Some(log) => log.bytes() == bytes,
             None => false,
         }
     }
 
-    /// The number of operations that log 0 got; `None` where there is no log.
-    pub fn operations(&self) -> Option<usize> {
-        match self.logs.get(0) {
-            Some(log) => Some(log.ops().len()),
-            None => None,
+    /// How many operations the four logs got, apart by `.`.
+    pub fn operations(&self, alloc: Global) -> Result<String, Memory> {
+        let mut counts = String::new(alloc);
+        for log in &self.logs {
+            if !counts.is_empty() {
+                counts.push_str(".")?;
+            }
+            counts.push_str(format!(in alloc; "{}", log.ops().len())?.as_str())?;
         }
+        Ok(counts)
     }
 }

@@ -1,129 +1,141 @@
-use crate::calls::{Ran, failing_log, four_logs, log_of, recover_bytes, run_on_log, run_on_logs};
-use crate::crashes::NO_GENESIS;
+//! Runs and recoveries whose devices fail at each call in turn, and what a crash at that moment leaves.
+
+ghost use Rattle.std.specs.Prelude.{◌≡◌, vec_len, IfOk};
+
+use crate::calls::{
+    Failing, NONE, Ran, failing_log, four_logs, log_of, run_on_failing_logs, run_on_logs,
+};
 use crate::journals::log_bytes;
-use crate::texts::{DEPOSIT, DEPOSIT_OUTPUT, TWO_DEPOSITS};
+use crate::marks::{MARKED, agree, marked_text, tells_a_commit};
 use snap_base::Memory;
+use snap_outside::MemLog;
+use snap_recover::LogCause;
 use snap_report::Status;
-use snap_work::WorkCause;
 use std::alloc::Global;
 use std::test::Fail;
 
-const UNSURE: &str = "tx 0 unsure 0\ntx 1 unsure 0\n";
+/// The answer to logs without a Genesis.
+const NO_GENESIS: Status = Status::Logs {
+    log: 0,
+    offset: 0,
+    cause: LogCause::NoGenesis,
+};
 
-/// The device calls of a run of a text with transactions on an empty log: one of the length, two of making the
-/// log, four each of appending Genesis, the batch and its commit.
-const CALLS: u64 = 15;
+/// More than the device calls of a log in any of these runs.
+const MANY: u64 = 100;
 
-/// A run of two transactions on an empty log whose device call with this number fails.
-fn run_to_a_failing_call(alloc: Global, call: u64, failing_write: u64) -> Result<Ran, Memory> {
-    let first = failing_log(alloc, b"", call)?;
-    let second = log_of(alloc, b"")?;
-    let logs = four_logs(alloc, first, second)?;
-    run_on_logs(alloc, &["run"], TWO_DEPOSITS, logs, 0, failing_write)
-}
-
-/// The answer of `recover` after that run. The third of an append's four calls opens the gate.
-fn left_after_failing(call: u64) -> (Status, &'static str) {
-    match call {
-        1..=6 => (NO_GENESIS, ""),
-        7..=10 => (
-            Status::Done,
-            "actor 0 100\nrecovered batches 0 acts 0 next 1 1 1\n",
-        ),
-        11..=14 => (
-            Status::Done,
-            "actor 0 100\nrecovered batches 0 acts 0 next 3 2 1\n",
-        ),
-        _ => (
-            Status::Done,
-            "actor 0 107\nrecovered batches 1 acts 0 next 3 2 1\n",
-        ),
+/// What a crash leaves of a log: of what is not synced nothing, all, or this byte in its place.
+fn image_of(alloc: Global, ran: &Ran, log: usize, choice: u8) -> Result<MemLog, Memory> {
+    match ran.logs.get(log) {
+        Some(log) => log_of(alloc, &log.image(alloc, log.ops().len(), choice)?),
+        None => log_of(alloc, b""),
     }
 }
 
-#[test]
-fn a_device_call_that_fails_leaves_every_transaction_unsure(rt: HostRuntime) -> Result<(), Fail> {
-    let alloc = rt.alloc();
-    for call in 1..CALLS + 2 {
-        let ran = run_to_a_failing_call(alloc, call, 0)?;
-        if call <= CALLS {
-            assert!(rt;
-                ran.gives(Status::LogFault { log: 0 }, UNSURE),
-                "at call {call}"
-            );
-        } else {
-            assert_eq!(rt; ran.status, Status::Done);
-        }
-        let log = ran.logs.get(0).ok_or("a log")?;
-        let left = recover_bytes(alloc, log.bytes())?;
-        let (status, lines) = left_after_failing(call);
-        assert!(rt; left.gives(status, lines), "at call {call}");
-    }
-    Ok(())
+fn images_of(alloc: Global, ran: &Ran, choice: u8) -> Result<Vec<MemLog>, Memory>
+    ensures { IfOk result (λ logs. vec_len logs ≡ 4) }
+{
+    Ok(vec![in alloc;
+        image_of(alloc, ran, 0, choice)?,
+        image_of(alloc, ran, 1, choice)?,
+        image_of(alloc, ran, 2, choice)?,
+        image_of(alloc, ran, 3, choice)?,
+    ]?)
 }
 
-#[test]
-fn a_write_that_fails_too_leaves_a_front_of_the_unsure_lines(rt: HostRuntime) -> Result<(), Fail> {
-    let alloc = rt.alloc();
-    for number in 1..UNSURE.len() as u64 + 1 {
-        let ran = run_to_a_failing_call(alloc, CALLS, number)?;
-        let taken = (number - 1) as usize;
-        let front = UNSURE.as_bytes().get(..taken).ok_or("a front")?;
-        assert_eq!(rt;
-            ran.status,
-            Status::LogFault { log: 0 },
-            "at write {number}"
-        );
-        assert_eq!(rt; ran.output.as_slice(), front, "at write {number}");
-    }
-    Ok(())
-}
-
-/// The device's first call would fail, and is still to come after each of these calls.
-#[test]
-fn what_ends_before_the_text_is_accepted_calls_no_device(rt: HostRuntime) -> Result<(), Fail> {
-    let alloc = rt.alloc();
-    let logs = four_logs(alloc, failing_log(alloc, b"", 1)?, log_of(alloc, b"")?)?;
-    let fault = run_on_logs(alloc, &["run"], DEPOSIT, logs, 1, 0)?;
-    assert!(rt; fault.gives(Status::ReadFault, ""));
-    assert_eq!(rt; fault.logs.len(), 4);
-    let words = run_on_logs(alloc, &["recover", "x"], "", fault.logs, 0, 0)?;
-    assert!(rt; words.gives(Status::Usage { word: 1 }, ""));
-    assert_eq!(rt; words.logs.len(), 4);
-    let text = run_on_logs(alloc, &["run"], "snapper 1\n", words.logs, 0, 0)?;
-    let too_short = Status::Input {
-        line: 2,
-        cause: WorkCause::BadHeader,
+/// Whether this image is recovered as the run told it, and is what a further run goes on from. Where there is no Genesis yet,
+/// nothing was told to be committed.
+fn is_kept(alloc: Global, text: &str, ran: &Ran, choice: u8) -> Result<bool, Memory> {
+    let printed = str::from_utf8(&ran.output).unwrap_or("");
+    let left = run_on_logs(
+        alloc,
+        &["recover"],
+        "",
+        images_of(alloc, ran, choice)?,
+        NONE,
+    )?;
+    let recovered = str::from_utf8(&left.output).unwrap_or("");
+    let is_true = if left.status == NO_GENESIS {
+        !tells_a_commit(printed)
+    } else {
+        left.status == Status::Done && agree(printed, recovered)
     };
-    assert!(rt; text.gives(too_short, ""));
-    assert_eq!(rt; text.logs.len(), 4);
-    let ran = run_on_logs(alloc, &["run"], DEPOSIT, text.logs, 0, 0)?;
-    assert!(rt; ran.gives(Status::LogFault { log: 0 }, "tx 0 unsure 0\n"));
-    assert_eq!(rt; ran.logs.len(), 4);
-    let again = run_on_logs(alloc, &["run"], DEPOSIT, ran.logs, 0, 0)?;
-    assert!(rt; again.gives(Status::Done, DEPOSIT_OUTPUT));
+    let again = run_on_logs(alloc, &["run"], text, images_of(alloc, ran, choice)?, NONE)?;
+    Ok(is_true && again.status == Status::Done)
+}
+
+/// Whether that is so of what any crash leaves.
+fn is_recovered(alloc: Global, text: &str, ran: &Ran) -> Result<bool, Memory> {
+    for choice in [0, 1, 2, 0x7F] {
+        if !is_kept(alloc, text, ran, choice)? {
+            return Ok(false);
+        }
+    }
+    Ok(true)
+}
+
+/// Each call of the devices of logs 0 and 1 fails in turn, until there is none more and the run ends.
+#[test]
+fn a_crash_at_any_moment_is_recovered_as_it_was_told(rt: HostRuntime) -> Result<(), Fail> {
+    let alloc = rt.alloc();
+    for row in MARKED.split('@') {
+        let parts: Vec<&str> = row.split('|').collect(alloc)?;
+        let [head, lines, output] = parts.as_slice() else {
+            return Err("the parts of a row".into());
+        };
+        let text = marked_text(alloc, head, lines)?;
+        for log in 0..2u8 {
+            let mut has_ended = false;
+            for call in 1..MANY {
+                let calls = if log == 0 { [call, 0] } else { [0, call] };
+                let ran = run_on_failing_logs(alloc, text.as_str(), calls, NONE)?;
+                has_ended = ran.status == Status::Done && ran.prints(alloc, output)?;
+                let is_cut = ran.status == Status::LogFault { log };
+                assert!(rt; is_cut || has_ended, "at call {call} of log {log} of {row}");
+                let is_so = is_recovered(alloc, text.as_str(), &ran)?;
+                assert!(rt; is_so, "at call {call} of log {log} of {row}");
+                if has_ended {
+                    break;
+                }
+            }
+            assert!(rt; has_ended, "{row}");
+        }
+    }
     Ok(())
 }
 
+/// Lines of the head and of the text, the device calls of logs 0 and 1 and the write that fail, the log that is told, what is
+/// printed, and what `recover` prints then.
+const CUT: &str = "\
+    logs 1/batch 1/batches 1|actors 1/actor 0 100/pact 0 put 1 0 uses 0:1/pact 0 put 2 0 uses 0:1/|21|0|0|0|tx 0 committed 1.0.1 101/tx 1 unsure 0/|actor 0 101/recovered batches 1 acts 0 next 3 3 1/@\
+    logs 1/batch 1/batches 1|actors 1/actor 0 100/pact 0 put 1 0 uses 0:1/pact 0 put 2 0 uses 0:1/|1|0|0|0|tx 0 unsure 0/tx 1 unsure 0/|@\
+    logs 1/batch 1/batches 1|actors 1/actor 0 100/pact 0 put 1 0 uses 0:1/pact 0 put 2 0 uses 0:1/|1|0|4|0|tx 0 unsure 0/tx 1 uns|@\
+    logs 2/batch 1/batches 1|actors 1/actor 0 100/pact 0 put 1 0 uses 0:1/|0|1|0|1|tx 0 unsure 1/|@\
+    logs 2/batch 1/batches 1|actors 2/pact 0 put 1 0 uses 0:1/act 1 put 2 0/|0|8|0|1|tx 0 unsure 1/tx 1 unsure 1/|actor 0 0/actor 1 0/recovered batches 0 acts 0 next 2 2 1/";
+
 #[test]
-fn recovering_reads_no_input_and_tells_faults_without_a_line(rt: HostRuntime) -> Result<(), Fail> {
+fn a_run_that_is_cut_off_tells_what_is_unsure(rt: HostRuntime) -> Result<(), Fail> {
     let alloc = rt.alloc();
-    let kept = log_bytes(alloc, "G1:100;I1:0:1,C1:0:105;K1")?;
-    let lines = "actor 0 105\nrecovered batches 1 acts 0 next 2 2 1\n";
-    let logs = four_logs(alloc, log_of(alloc, &kept)?, log_of(alloc, b"")?)?;
-    let ran = run_on_logs(alloc, &["recover"], DEPOSIT, logs, 1, 0)?;
-    assert!(rt; ran.gives(Status::Done, lines));
-    let first = run_on_log(alloc, &["recover"], "", failing_log(alloc, &kept, 1)?)?;
-    assert!(rt; first.gives(Status::LogFault { log: 0 }, ""));
-    for number in 1..lines.len() as u64 + 1 {
-        let logs = four_logs(alloc, log_of(alloc, &kept)?, log_of(alloc, b"")?)?;
-        let ran = run_on_logs(alloc, &["recover"], "", logs, 0, number)?;
-        let front = lines
-            .as_bytes()
-            .get(..(number - 1) as usize)
-            .ok_or("a front")?;
-        assert_eq!(rt; ran.status, Status::OutFault, "at write {number}");
-        assert_eq!(rt; ran.output.as_slice(), front, "at write {number}");
+    for row in CUT.split('@') {
+        let parts: Vec<&str> = row.split('|').collect(alloc)?;
+        let [head, lines, first, second, write, log, output, recovered] = parts.as_slice() else {
+            return Err("the parts of a row".into());
+        };
+        let text = marked_text(alloc, head, lines)?;
+        let calls = [first.parse().unwrap_or(0), second.parse().unwrap_or(0)];
+        let failing = Failing {
+            read: 0,
+            write: write.parse().unwrap_or(0),
+            trace: 0,
+        };
+        let ran = run_on_failing_logs(alloc, text.as_str(), calls, failing)?;
+        let told = Status::LogFault {
+            log: log.parse().unwrap_or(4),
+        };
+        assert_eq!(rt; ran.status, told, "{row}");
+        assert!(rt; ran.prints(alloc, output)?, "{row}");
+        let left = run_on_logs(alloc, &["recover"], "", images_of(alloc, &ran, 2)?, NONE)?;
+        assert!(rt; left.prints(alloc, recovered)?, "{row}");
     }
     Ok(())
 }
@@ -133,23 +145,24 @@ fn recovering_reads_no_input_and_tells_faults_without_a_line(rt: HostRuntime) ->
 fn recovering_tells_a_failing_call_with_its_log(rt: HostRuntime) -> Result<(), Fail> {
     let alloc = rt.alloc();
     let kept = log_bytes(alloc, "G2:100")?;
-    for log in 0..2 {
+    for log in 0..2u8 {
         for call in 1..4 {
-            let fails = [
-                if log == 0 { call } else { 0 },
-                if log == 1 { call } else { 0 },
-            ];
-            let first = failing_log(alloc, &kept, fails[0])?;
-            let logs = four_logs(alloc, first, failing_log(alloc, b"", fails[1])?)?;
-            let ran = run_on_logs(alloc, &["recover"], "", logs, 0, 0)?;
+            let calls = if log == 0 { [call, 0] } else { [0, call] };
+            let [first, second] = calls;
+            let first = failing_log(alloc, &kept, first)?;
+            let logs = four_logs(alloc, first, failing_log(alloc, b"", second)?)?;
+            // no input is read, and nothing is printed
+            let failing = Failing {
+                read: 1,
+                write: 1,
+                trace: 1,
+            };
+            let ran = run_on_logs(alloc, &["recover"], "", logs, failing)?;
             assert!(rt;
                 ran.gives(Status::LogFault { log }, ""),
                 "at call {call} of log {log}"
             );
-            assert!(rt; ran.holds(&kept), "at call {call} of log {log}");
-            let made = if log == 1 && call == 3 { 1 } else { 0 };
-            let second = ran.logs.get(1).ok_or("a log")?;
-            assert_eq!(rt; second.ops().len(), made, "at call {call} of log {log}");
+            assert!(rt; ran.holds(0, &kept), "at call {call} of log {log}");
         }
     }
     Ok(())

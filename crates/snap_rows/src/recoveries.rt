@@ -2,7 +2,7 @@
 
 ghost use Rattle.std.specs.Prelude.{◌≡◌, vec_len, IfOk};
 
-use crate::calls::{four_logs, log_of, run_on_logs};
+use crate::calls::{NONE, log_of, run_on_logs};
 use crate::journals::log_bytes;
 use snap_base::Memory;
 use snap_outside::MemLog;
@@ -72,19 +72,11 @@ fn logs_recover_to_what_their_rows_say(rt: HostRuntime) -> Result<(), Fail> {
             return Err("the parts of a row".into());
         };
         let logs = logs_of(alloc, [first, second, third, fourth])?;
-        let ran = run_on_logs(alloc, &["recover"], "", logs, 0, 0)?;
+        let ran = run_on_logs(alloc, &["recover"], "", logs, NONE)?;
         let told = format!(in alloc; "{:?}", ran.status)?;
         assert_eq!(rt; told.as_str(), *status, "{row}");
         assert!(rt; ran.prints(alloc, output)?, "{row}");
-        let mut counts = String::new(alloc);
-        for log in &ran.logs {
-            counts.push_str(format!(in alloc; ".{}", log.ops().len())?.as_str())?;
-        }
-        assert_eq!(rt;
-            counts.as_str().strip_prefix("."),
-            Some(*operations),
-            "{row}"
-        );
+        assert_eq!(rt; ran.operations(alloc)?.as_str(), *operations, "{row}");
     }
     Ok(())
 }

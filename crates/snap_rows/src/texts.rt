@@ -1,13 +1,11 @@
+//! Texts by the names that rows have for them.
+
 /// A text with one actor of 100 that is given 5.
 pub const DEPOSIT: &str =
     "snapper 1\ncoordinators 1\nlogs 1\nbatch 16\nbatches 8\nacts 8\nprogram\nmethod put(n) { f0 = f0 + n; return f0; }\nend\nactors 1\nactor 0 100\npact 0 put 5 uses 0:1\n";
 
-/// What a run of it prints.
-pub const DEPOSIT_OUTPUT: &str =
-    "tx 0 committed 1.0.1 105\nactor 0 105\nend committed 1 aborted 0 batches 1\n";
-
 /// The same actor is given 5 and then 2.
-pub const TWO_DEPOSITS: &str =
+const TWO_DEPOSITS: &str =
     "snapper 1\ncoordinators 1\nlogs 1\nbatch 16\nbatches 8\nacts 8\nprogram\nmethod put(n) { f0 = f0 + n; return f0; }\nend\nactors 1\nactor 0 100\npact 0 put 5 uses 0:1\npact 0 put 2 uses 0:1\n";
 
 /// Three actors and no transaction.
@@ -38,9 +36,25 @@ const TWO_OF_THREE: &str =
 const ANOTHER_IS_CALLED: &str =
     "snapper 1\ncoordinators 1\nlogs 1\nbatch 16\nbatches 8\nacts 8\nprogram\nmethod put(n) { f0 = f0 + n; return f0; }\nmethod give(to, n) { f0 = f0 - n; let r = call to put(n); return r; }\nend\nactors 3\nactor 0 10\nactor 1 20\nactor 2 30\npact 2 give 0 5 uses 0:1 1:3 2:1\n";
 
-/// What is not built yet.
-const TWO_COORDINATORS: &str =
-    "snapper 1\ncoordinators 2\nlogs 1\nbatch 16\nbatches 8\nacts 8\nprogram\nmethod put(n) { f0 = f0 + n; return f0; }\nend\nactors 1\nactor 0 100\npact 0 put 5 uses 0:1\n";
+/// An undeclared transaction gives from actor 0 to actor 1.
+const LOCKED: &str =
+    "snapper 1\ncoordinators 1\nlogs 1\nbatch 16\nbatches 8\nacts 8\nprogram\nmethod put(n) { f0 = f0 + n; return f0; }\nmethod give(to, n) { if f0 < n { fail 7; } f0 = f0 - n; let r = call to put(n); return r; }\nend\nactors 2\nactor 0 100\nactor 1 50\nact 0 give 1 30\n";
+
+/// The same with two logs.
+const LOCKED_ON_TWO_LOGS: &str =
+    "snapper 1\ncoordinators 1\nlogs 2\nbatch 16\nbatches 8\nacts 8\nprogram\nmethod put(n) { f0 = f0 + n; return f0; }\nmethod give(to, n) { if f0 < n { fail 7; } f0 = f0 - n; let r = call to put(n); return r; }\nend\nactors 2\nactor 0 100\nactor 1 50\nact 0 give 1 30\n";
+
+/// It asks for more than there is.
+const TOO_MUCH: &str =
+    "snapper 1\ncoordinators 1\nlogs 1\nbatch 16\nbatches 8\nacts 8\nprogram\nmethod put(n) { f0 = f0 + n; return f0; }\nmethod give(to, n) { if f0 < n { fail 7; } f0 = f0 - n; let r = call to put(n); return r; }\nend\nactors 2\nactor 0 100\nactor 1 50\nact 0 give 1 300\n";
+
+/// A declared one gives, on two logs.
+const TWO_LOGS: &str =
+    "snapper 1\ncoordinators 1\nlogs 2\nbatch 16\nbatches 8\nacts 8\nprogram\nmethod put(n) { f0 = f0 + n; return f0; }\nmethod give(to, n) { if f0 < n { fail 7; } f0 = f0 - n; let r = call to put(n); return r; }\nend\nactors 2\nactor 0 100\nactor 1 50\npact 0 give 1 30 uses 0:1 1:1\n";
+
+/// One of each kind on two logs.
+const BOTH_KINDS_ON_TWO_LOGS: &str =
+    "snapper 1\ncoordinators 1\nlogs 2\nbatch 16\nbatches 8\nacts 8\nprogram\nmethod put(n) { f0 = f0 + n; return f0; }\nmethod give(to, n) { if f0 < n { fail 7; } f0 = f0 - n; let r = call to put(n); return r; }\nend\nactors 2\nactor 0 100\nactor 1 50\nact 0 give 1 30\npact 1 put 5 uses 1:1\n";
 
 /// The text that a row names; the empty text where it names none.
 pub fn text_of(name: &str) -> &'static str {
@@ -54,7 +68,11 @@ pub fn text_of(name: &str) -> &'static str {
         "both signs" => BOTH_SIGNS,
         "two of three" => TWO_OF_THREE,
         "another is called" => ANOTHER_IS_CALLED,
-        "two coordinators" => TWO_COORDINATORS,
+        "locked" => LOCKED,
+        "locked on two logs" => LOCKED_ON_TWO_LOGS,
+        "too much" => TOO_MUCH,
+        "two logs" => TWO_LOGS,
+        "both kinds on two logs" => BOTH_KINDS_ON_TWO_LOGS,
         _ => "",
     }
 }

@@ -1,51 +1,27 @@
 -- From what was read to what the whole input stands for.
-use Rattle.std.proofs.Common.{◌≡◌, ℕ, ◌<◌, ◌≤◌, List, [], ◌∷◌, ◌++◌, length, Option, None, Some, IfSome, Result, Ok, Err, refl, sym, ap, ◌∙◌, subst, inl, inr, arith, length-append, append-nil}
+use Rattle.std.proofs.Common.{◌≡◌, ℕ, ◌<◌, ◌≤◌, List, ◌++◌, length, Option, None, Some, IfSome, Result, Err, refl, sym, ap, ◌∙◌, subst, inl, inr, arith, length-append, append-nil}
 use Rattle.std.specs.Io.KnownBytes.{Consumes, IsAtEnd}
 use Rattle.std.proofs.KnownBytes.{Consumes-whole}
 use Rattle.std.proofs.lemmas.Bool.{cases_lt}
-use Rattle.std.specs.List.{AllByRecursion}
-use Rattle.snap_base.specs.declared.transactions.State.{State}
-use Rattle.txn_records.specs.Records.{IsState}
-use Rattle.snap_work.specs.Kept as kept
 use Rattle.snap_work.specs.declared.faults.Limit.TheVariants as limit
 use Rattle.snap_work.specs.declared.faults.WorkCause.TheVariants as cause
 use Rattle.snap_work.specs.declared.faults.WorkFault.{WorkFault}
 use Rattle.snap_work.specs.Works.{Work}
-use Rattle.snap_work.specs.Kept.{KeepsLimits, IsOneBatch}
-use Rattle.work_text.specs.Reads.{Laid, Reads}
-use Rattle.work_text.specs.Built.{IsBuilt, IsFirstWorkFault}
+use Rattle.work_text.specs.Reads.{Reads, IsWork, IsFirstWorkFault}
 use Rattle.snap_run.specs.Uses.{Reading}
-use Rattle.snap_run.specs.Runs.{IsRunnable}
 use Rattle.snap_run.specs.Answers.{ReadsEnough, OfText}
-
--- what a text gives as a state is one that records have
-are_states : (states : List State) → AllByRecursion kept.IsState states → AllByRecursion IsState states
-are_states [] h = tt
-are_states (s ∷ states) h = (record { len = h.0.fields; fields = h.0.values }, are_states states h.1)
-
--- a work that a text stands for can be run
-pub runnable : (w : Work) → KeepsLimits w → IsOneBatch w → IsRunnable w
-runnable w is one = record {
-  transactions = is.transactions;
-  pacts = one.kinds;
-  few_transactions = omega (arith, one.few, is.batch.1);
-  some_states = is.some_actors;
-  few_states = is.few_actors;
-  states = are_states w.states is.states;
-}
 
 -- ---- the input
 
 -- the one thing that a text is read as which is too long
-too_long : (text : List ℕ) (r : Result Laid WorkFault) → 8388608 < length text → Reads text r → r ≡ Err (record { line = 0; cause = cause.Limit limit.Input 8388609 })
+too_long : (text : List ℕ) (r : Result Work WorkFault) → 8388608 < length text → Reads text r → r ≡ Err (record { line = 0; cause = cause.Limit limit.Input 8388609 })
 too_long text r long (inl h) = h.1
 too_long text r long (inr (inl h)) = absurd (omega (arith, h.0, long))
 too_long text r long (inr (inr h)) = absurd (omega (arith, h.0, long))
 
 -- two texts that are too long have the same first fault
 long_fault : (text other : List ℕ) (f : WorkFault) → 8388608 < length text → 8388608 < length other → IsFirstWorkFault text f → IsFirstWorkFault other f
-long_fault text other f long longer (inl h) = inl (inl (longer, too_long text (Err f) long h))
-long_fault text other f long longer (inr h) = let wrong = too_long text (Ok h.0) long h.1 in cc
+long_fault text other f long longer h = inl (longer, too_long text (Err f) long h)
 
 -- what was read has this first fault, and so has the input, of which it is all, or too much
 pub fault_of_input : (old new : Option (List ℕ)) (bytes : List ℕ) (f : WorkFault) → Consumes old new bytes → (length bytes ≤ 8388608 → IsAtEnd new)
@@ -64,7 +40,7 @@ reads_enough r bytes moved whole most =
     (bytes, moved, elim (cases_lt 8388608 (length bytes)) [ inr short ↦ inl (whole short) | inl long ↦ inr (omega arith) ])
 
 -- what was read stands for a work, and so does the input, of which it is all
-pub of_text : (r : Reading) (bytes : List ℕ) (w : Work) → IsBuilt bytes w → length bytes ≤ 8388608 → Consumes r.left_before r.left_after bytes → (length bytes ≤ 8388608 → IsAtEnd r.left_after)
+pub of_text : (r : Reading) (bytes : List ℕ) (w : Work) → IsWork bytes w → length bytes ≤ 8388608 → Consumes r.left_before r.left_after bytes → (length bytes ≤ 8388608 → IsAtEnd r.left_after)
     → OfText r (λ v. v ≡ w)
 of_text r bytes w work short moved whole =
-    (whole short, Consumes-whole r.left_before r.left_after bytes (λ input. (v : Work) × IsBuilt input v × (v ≡ w)) moved (whole short) (w, work, refl))
+    (whole short, Consumes-whole r.left_before r.left_after bytes (λ input. (v : Work) × IsWork input v × (v ≡ w)) moved (whole short) (w, work, refl))

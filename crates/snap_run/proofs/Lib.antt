@@ -1,10 +1,7 @@
+pub mod ActorLines
 pub mod Complete
-pub mod Crashes
 pub mod InputLaws
-pub mod Joined
 pub mod Outcomes
-pub mod Pieces
-pub mod Recovering
-pub mod UnsureLaws
-pub mod Usage
 pub mod RecoverComplete
+pub mod Recovering
+pub mod Usage

@@ -1,5 +1,5 @@
 -- Where nothing stands in the way of the command that prints what the logs recover to, only two answers are left.
-use Rattle.std.proofs.Common.{◌≡◌, ◌⊎◌, inl, inr, ℕ, ◌<◌, zero, suc, List, [], ◌∷◌, length, take, get_or, refl, sym, ◌∙◌, ap, subst, arith}
+use Rattle.std.proofs.Common.{◌≡◌, ◌≢◌, ◌⊎◌, inl, inr, ℕ, ◌<◌, zero, suc, List, [], ◌∷◌, length, take, get_or, refl, sym, ◌∙◌, ap, subst, arith}
 use Rattle.std.specs.Prelude.{IfSome}
 use Rattle.std.specs.List.{AllZip}
 use Rattle.snap_outside.specs.Disk.{content}
@@ -7,7 +7,12 @@ use Rattle.gate_log.specs.declared.opens.OpenNo.TheVariants as refusal
 use Rattle.gate_log.specs.Opened.{Opened, Refused}
 use Rattle.txn_records.specs.declared.records.Record.{Record}
 use Rattle.record_log.specs.Records.{HoldsRecords}
-use Rattle.record_log.specs.RecordLogLaws.{OneListOfRecords}
+use Rattle.record_log.specs.RecordLogLaws.{OneListOfRecords, RecordsAreNotForeign, RecordsAreNotDamaged, NoRecordIsBad}
+use Rattle.snap_recover.specs.declared.openings.Opening.{Opening}
+use Rattle.snap_recover.specs.declared.refusals.RecoverNo.{RecoverNo}
+use Rattle.snap_recover.specs.declared.refusals.RecoverNo.TheVariants as recover
+use Rattle.snap_recover.specs.Opening.{IsRecovered}
+use Rattle.snap_recover.specs.Refusals.{IsRefused}
 use Rattle.snap_recover.specs.declared.causes.LogCause.{LogCause}
 use Rattle.snap_recover.specs.declared.causes.LogCause.TheVariants as cause
 use Rattle.snap_report.specs.declared.statuses.Status.{Status}
@@ -18,8 +23,30 @@ use Rattle.log_opening.specs.Kept.{logs_said, Holds, AreGiven, IsAsked, AreRefus
 use Rattle.snap_run.specs.Uses.{Use}
 use Rattle.snap_run.specs.Answers.{IsAnswer}
 use Rattle.snap_run.specs.Recoveries.{Tells, IsRecoverable, IsRecoverAnswer}
-use Rattle.snap_run.proofs.Complete.{RecordLaws, NeverBoth, recovers_not_refused}
 use Rattle.snap_run.proofs.Outcomes.{not_both}
+
+-- what the law refused_is_not_recovered of snap_recover says
+abbrev pub NeverBoth : Type 0
+NeverBoth = (logs : List (List Record)) (no : RecoverNo) (o : Opening) → no ≢ recover.Memory → IsRefused logs no → ¬ IsRecovered logs o
+
+-- what the laws of records say
+pub record RecordLaws : Type 0 where
+  pub one_list : OneListOfRecords
+  pub foreign : RecordsAreNotForeign
+  pub damaged : RecordsAreNotDamaged
+  pub bad : NoRecordIsBad
+
+recovers_not_refused : (never : NeverBoth) (logs : List (List Record)) (o : Opening) (log : ℕ) (c : LogCause) → IsRecovered logs o → IsRecoveryCause logs log c → ⊥
+recovers_not_refused never logs o log cause.NotALog on x = x
+recovers_not_refused never logs o log cause.Damage on x = x
+recovers_not_refused never logs o log cause.BadRecord on x = x
+recovers_not_refused never logs o log cause.NoGenesis on x = never logs recover.NoGenesis o (λ e. cc) x.1 on
+recovers_not_refused never logs o log cause.TwoGenesis on x = never logs recover.TwoGenesis o (λ e. cc) x.1 on
+recovers_not_refused never logs o log (cause.LogCount kept found) on x = never logs (recover.LogCount kept found) o (λ e. cc) x.1 on
+recovers_not_refused never logs o log (cause.Range k) on x = never logs (recover.Range k log) o (λ e. cc) x on
+recovers_not_refused never logs o log (cause.Missing k) on x = never logs (recover.Missing k log) o (λ e. cc) x on
+recovers_not_refused never logs o log (cause.Spent number) on x = x
+recovers_not_refused never logs o log (cause.Differs what kept text) on x = x
 
 -- ---- what the devices hold
 
@@ -108,9 +135,9 @@ module _ (laws : RecordLaws) (never : NeverBoth) (u : Use) (logs : List (List Re
   recover_completed status.ReadFault a = absurd a
   recover_completed (status.LogFault log) a = absurd (may.devices log a.0.0 a.0.1)
   recover_completed status.OutFault a = absurd (may.sink a.6)
-  recover_completed (status.Halted n) a = absurd a
+  recover_completed status.TraceFault a = absurd a
 
   pub completed_recover : (s : Status) → IsAnswer u s → (s ≡ status.Done) ⊎ (s ≡ status.Memory)
-  completed_recover s (inl x) = absurd (not_both u.words x.0 may.recover)
-  completed_recover s (inr (inl x)) = recover_completed s x.2
+  completed_recover s (inl x) = absurd (not_both u.words x.0 x.1 may.recover)
+  completed_recover s (inr (inl x)) = recover_completed s x.4
   completed_recover s (inr (inr x)) = absurd (x.0.2.no_form (inr may.recover))

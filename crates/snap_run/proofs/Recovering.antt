@@ -5,8 +5,8 @@ use Rattle.log_opening.specs.Kept.{IsLogsNo}
 use Rattle.log_opening.specs.declared.refusals.LogsNo.{LogsNo}
 use Rattle.log_opening.specs.declared.refusals.LogsNo.TheVariants as ending
 use Rattle.snap_report.specs.declared.statuses.Status.{Status}
-use Rattle.snap_run.specs.Statuses.{logs_status}
-use Rattle.snap_run.specs.Uses.{Writing, WritesNothing}
+use Rattle.run_work.specs.Statuses.{logs_status}
+use Rattle.run_work.specs.Writings.{Writing, WritesNothing}
 use Rattle.snap_run.specs.Recoveries.{IsRecoverAnswer}
 
 pub recovery_refused : (before after : List Device) (out : Writing) (no : LogsNo) (s : Status) → s ≡ logs_status no → IsLogsNo before after no → WritesNothing out → IsRecoverAnswer before after out s

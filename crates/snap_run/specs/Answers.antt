@@ -1,21 +1,18 @@
 -- Why the top call answers what it answers: one table by cases on the status, for each form of the words.
-use Rattle.std.specs.Prelude.{◌≡◌, ◌+◌, ◌⊎◌, ℕ, List, [], ◌∷◌, length, Some, IfSome}
+use Rattle.std.specs.Prelude.{◌≡◌, ◌+◌, ◌⊎◌, ℕ, List, [], length, Some, IfSome}
 use Rattle.std.specs.Io.KnownBytes.{Keeps, Consumes, IsAtEnd}
 use Rattle.snap_outside.specs.Causes.{Rose}
-use Rattle.snap_outside.specs.Disk.{History, content}
 use Rattle.txn_records.specs.declared.records.Record.{Record}
-use Rattle.record_log.specs.Records.{HoldsRecords}
 use Rattle.snap_recover.specs.declared.openings.Opening.{Opening}
 use Rattle.snap_report.specs.declared.statuses.Status.{Status}
 use Rattle.snap_report.specs.declared.statuses.Status.TheVariants as status
 use Rattle.snap_work.specs.Works.{Work}
-use Rattle.work_text.specs.Built.{IsBuilt, IsFirstWorkFault}
-use Rattle.run_opening.specs.Begins.{Begins}
-use Rattle.run_batch.specs.Report.{Fails}
+use Rattle.work_text.specs.Reads.{IsWork, IsFirstWorkFault}
+use Rattle.run_opening.specs.Opens.{MayOpen}
 use Rattle.snap_run.specs.Words.{IsRun, IsRecover, IsUsageFault}
-use Rattle.log_opening.specs.Devices.{device_at}
-use Rattle.snap_run.specs.Uses.{Reading, Use, WritesNothing}
-use Rattle.snap_run.specs.Runs.{IsWorkAnswer}
+use Rattle.snap_run.specs.Uses.{Reading, Use}
+use Rattle.run_work.specs.Writings.{WritesNothing}
+use Rattle.run_work.specs.Runs.{Ran, IsWorkAnswer}
 use Rattle.snap_run.specs.Recoveries.{IsRecoverAnswer}
 use Rattle.snap_work.specs.declared.limits.TheConstants.{LONGEST_WORK}
 
@@ -25,10 +22,14 @@ ReadsEnough r = (bytes : List ℕ) × Consumes r.left_before r.left_after bytes 
 
 -- The input was read to its end and stands for a work of which this holds.
 abbrev pub OfText : Reading → (Work → Type 0) → Type 0
-OfText r P = IsAtEnd r.left_after × IfSome r.left_before (λ input. (w : Work) × IsBuilt input w × P w)
+OfText r P = IsAtEnd r.left_after × IfSome r.left_before (λ input. (w : Work) × IsWork input w × P w)
 
-abbrev pub OfWork : Use → Status → Type 0
-OfWork u s = OfText u.reading (λ w. IsWorkAnswer w (device_at u.devices_before 0) (device_at u.devices_after 0) u.writing s)
+-- a run of this work, by what the call was given and left
+abbrev pub ran_of : Use → Work → ℕ → Ran
+ran_of u w seed = record { work = w; seed = seed; kept = u.kept; devices_before = u.devices_before; devices_after = u.devices_after; out = u.writing; trace = u.tracing }
+
+abbrev pub OfWork : Use → ℕ → Status → Type 0
+OfWork u seed s = OfText u.reading (λ w. IsWorkAnswer (ran_of u w seed) s)
 
 -- what reading and parsing may answer in place of a work; a text that is refused is told with its first fault
 abbrev pub IsInputAnswer : Reading → Status → Type 0
@@ -40,34 +41,33 @@ IsInputAnswer r (status.Usage place) = ⊥
 IsInputAnswer r (status.Logs log offset cause) = ⊥
 IsInputAnswer r (status.LogFault log) = ⊥
 IsInputAnswer r status.OutFault = ⊥
-IsInputAnswer r (status.Halted unanswered) = ⊥
+IsInputAnswer r status.TraceFault = ⊥
 
--- the answers of the command that runs the input
-abbrev pub IsRunAnswer : Use → Status → Type 0
-IsRunAnswer u status.Done = OfWork u status.Done
-IsRunAnswer u (status.Usage place) = ⊥
-IsRunAnswer u (status.Input line cause) = IsInputAnswer u.reading (status.Input line cause) × WritesNothing u.writing
-IsRunAnswer u (status.Logs log offset cause) = OfWork u (status.Logs log offset cause) × WritesNothing u.writing
-IsRunAnswer u status.Memory = WritesNothing u.writing
-IsRunAnswer u status.ReadFault = IsInputAnswer u.reading status.ReadFault × WritesNothing u.writing
-IsRunAnswer u (status.LogFault log) =
-    OfWork u (status.LogFault log) × (log ≡ 0) × Rose (device_at u.devices_before 0).faults (device_at u.devices_after 0).faults
-IsRunAnswer u status.OutFault = OfWork u status.OutFault × Rose u.writing.faults_before u.writing.faults_after
-IsRunAnswer u (status.Halted unanswered) = OfWork u (status.Halted unanswered) × WritesNothing u.writing
+-- nothing but the input was touched: no event was taken, nothing written, and no log called
+pub record TouchesNothing (u : Use) : Type 0 where
+  pub kept : u.kept ≡ []
+  pub out : WritesNothing u.writing
+  pub trace : WritesNothing u.tracing
+  pub devices : u.devices_after ≡ u.devices_before
 
--- the words are no form
-abbrev pub IsUsageAnswer : Use → Status → Type 0
-IsUsageAnswer u s = (place : ℕ) × (s ≡ status.Usage place) × IsUsageFault u.words place
+-- The answers of the command that runs the input: there is no work, and nothing but the input was touched; or it is one of
+-- a run of the work.
+abbrev pub IsRunAnswer : Use → ℕ → Status → Type 0
+IsRunAnswer u seed s = (IsInputAnswer u.reading s × TouchesNothing u) ⊎ OfWork u seed s
 
 -- nothing was read
 abbrev pub ReadsNothing : Reading → Type 0
 ReadsNothing r = Keeps r.left_before r.left_after
 
+-- the words are no form
+abbrev pub IsUsageAnswer : Use → Status → Type 0
+IsUsageAnswer u s = (place : ℕ) × (s ≡ status.Usage place) × IsUsageFault u.words place
+
 abbrev pub IsAnswer : Use → Status → Type 0
 IsAnswer u s =
-    (IsRun u.words × IsRunAnswer u s)
-    ⊎ ((IsRecover u.words × ReadsNothing u.reading × IsRecoverAnswer u.devices_before u.devices_after u.writing s)
-    ⊎ (IsUsageAnswer u s × ReadsNothing u.reading × WritesNothing u.writing))
+    ((seed : ℕ) × IsRun u.words seed × IsRunAnswer u seed s)
+    ⊎ ((IsRecover u.words × ReadsNothing u.reading × (u.kept ≡ []) × WritesNothing u.tracing × IsRecoverAnswer u.devices_before u.devices_after u.writing s)
+    ⊎ (IsUsageAnswer u s × ReadsNothing u.reading × TouchesNothing u))
 
 -- the call ended before a log was needed
 abbrev pub GetsNoCall : Status → Type 0
@@ -79,17 +79,15 @@ GetsNoCall status.Memory = ⊥
 GetsNoCall status.ReadFault = Unit {0}
 GetsNoCall (status.LogFault log) = ⊥
 GetsNoCall status.OutFault = ⊥
-GetsNoCall (status.Halted unanswered) = ⊥
+GetsNoCall status.TraceFault = ⊥
 
--- The words run the input; it stands for a work; the log, if it holds records, goes on with them; no transaction
--- fails; and no count rises.
-pub record IsUntroubled (u : Use) (input : List ℕ) (h : History) : Type 0 where
-  pub run : IsRun u.words
+-- The words run the input; it stands for a work; its logs hold records on which a run of it begins, if any; and no count
+-- rises.
+pub record IsUntroubled (u : Use) (input : List ℕ) (w : Work) (records : List (List Record)) (o : Opening) : Type 0 where
+  pub run : (seed : ℕ) × IsRun u.words seed
   pub known : u.reading.left_before ≡ Some input
-  pub told : (device_at u.devices_before 0).told ≡ Some h
-  pub some : (w : Work) × IsBuilt input w
-  pub begins : (w : Work) → IsBuilt input w → (rs : List Record) × (o : Opening) × HoldsRecords (content h) rs × Begins (rs ∷ []) w.states o
-  pub passes : (w : Work) (rs : List Record) (o : Opening) → IsBuilt input w → HoldsRecords (content h) rs → Begins (rs ∷ []) w.states o → ¬ Fails o w
+  pub work : IsWork input w
+  pub opens : MayOpen w.logs w.states u.devices_before u.devices_after records o
   pub source : ¬ Rose u.reading.faults_before u.reading.faults_after
-  pub device : ¬ Rose (device_at u.devices_before 0).faults (device_at u.devices_after 0).faults
   pub sink : ¬ Rose u.writing.faults_before u.writing.faults_after
+  pub trace : ¬ Rose u.tracing.faults_before u.tracing.faults_after

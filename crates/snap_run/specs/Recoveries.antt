@@ -7,13 +7,13 @@ use Rattle.txn_records.specs.declared.records.Record.{Record}
 use Rattle.record_log.specs.Records.{HoldsRecords}
 use Rattle.snap_recover.specs.declared.openings.Opening.{Opening}
 use Rattle.snap_recover.specs.Opening.{IsRecovered}
-use Rattle.snap_report.specs.Lines.{recovered_text}
+use Rattle.snap_report.specs.Lines.{actors_text, recovered_text}
 use Rattle.snap_report.specs.declared.statuses.Status.{Status}
 use Rattle.snap_report.specs.declared.statuses.Status.TheVariants as status
 use Rattle.log_opening.specs.Devices.{Device, device_at, AreOpened}
 use Rattle.log_opening.specs.Kept.{logs_said, AreGiven, AreRefused, HasFailed}
-use Rattle.run_batch.specs.Report.{actors_text}
-use Rattle.snap_run.specs.Uses.{Use, Writing, WritesNothing, Writes, WritesFront}
+use Rattle.snap_run.specs.Uses.{Use}
+use Rattle.run_work.specs.Writings.{Writing, WritesNothing, Writes, WritesFront}
 use Rattle.snap_run.specs.Words.{IsRecover}
 
 abbrev pub recovered_report : Opening → List ℕ
@@ -31,7 +31,7 @@ IsRecoverAnswer before after out (status.LogFault log) = HasFailed before after 
 IsRecoverAnswer before after out status.OutFault =
     (logs : List (List Record)) × (o : Opening) × AreGiven before logs × IsRecovered logs o × AreOpened (length logs) before after × WritesFront out (recovered_report o)
     × Rose out.faults_before out.faults_after
-IsRecoverAnswer before after out (status.Halted unanswered) = ⊥
+IsRecoverAnswer before after out status.TraceFault = ⊥
 
 -- the device tells that it holds these records
 abbrev pub Tells : Device → List Record → Type 0

@@ -1,7 +1,8 @@
 -- What a call was given and what it left, as contracts see it.
-use Rattle.std.specs.Prelude.{◌≡◌, ℕ, List, ◌++◌, Option}
-use Rattle.std.specs.Io.KnownBytes.{Keeps, Appends}
+use Rattle.std.specs.Prelude.{ℕ, List, Option}
+use Rattle.core_events.specs.declared.events.Event.{Event}
 use Rattle.log_opening.specs.Devices.{Device}
+use Rattle.run_work.specs.Writings.{Writing}
 
 -- the source: the bytes that were left, where it tells them, and its faults
 pub record Reading : Type 0 where
@@ -10,17 +11,13 @@ pub record Reading : Type 0 where
   pub faults_before : ℕ
   pub faults_after : ℕ
 
--- the sink: the bytes that it has taken, where it tells them, and its faults
-pub record Writing : Type 0 where
-  pub taken_before : Option (List ℕ)
-  pub taken_after : Option (List ℕ)
-  pub faults_before : ℕ
-  pub faults_after : ℕ
-
 pub record Use : Type 0 where
   pub words : List (List ℕ)
   pub reading : Reading
   pub writing : Writing
+  pub tracing : Writing
+  -- the events that were taken
+  pub kept : List Event
   pub devices_before : List Device
   pub devices_after : List Device
 
@@ -28,21 +25,6 @@ pub record Use : Type 0 where
 abbrev pub reading_of : {I : Type 0} → (I → Option (List ℕ)) → (I → ℕ) → I → I → Reading
 reading_of left faults before after = record { left_before = left before; left_after = left after; faults_before = faults before; faults_after = faults after }
 
--- a sink before and after a call, by what it has taken and its faults
-abbrev pub writing_of : {O : Type 0} → (O → Option (List ℕ)) → (O → ℕ) → O → O → Writing
-writing_of taken faults before after = record { taken_before = taken before; taken_after = taken after; faults_before = faults before; faults_after = faults after }
-
 -- all of it
-abbrev pub use_of : List (List ℕ) → Reading → Writing → List Device → List Device → Use
-use_of words reading writing before after = record { words = words; reading = reading; writing = writing; devices_before = before; devices_after = after }
-
--- nothing was written
-abbrev pub WritesNothing : Writing → Type 0
-WritesNothing w = Keeps w.taken_before w.taken_after
-
-abbrev pub Writes : Writing → List ℕ → Type 0
-Writes w bytes = Appends w.taken_before w.taken_after bytes
-
--- only a front of the bytes was written
-abbrev pub WritesFront : Writing → List ℕ → Type 0
-WritesFront w bytes = (front rest : List ℕ) × (bytes ≡ front ++ rest) × Writes w front
+abbrev pub use_of : List (List ℕ) → Reading → Writing → Writing → List Event → List Device → List Device → Use
+use_of words reading writing tracing kept before after = record { words = words; reading = reading; writing = writing; tracing = tracing; kept = kept; devices_before = before; devices_after = after }

@@ -1,16 +1,17 @@
 -- The words of the command line: which lists of them are a form, and which word is the first wrong one.
-use Rattle.std.specs.Prelude.{◌≡◌, ℕ, ◌+◌, ◌<◌, ◌⊎◌, List, [], ◌∷◌, ◌++◌, length, take, codes}
+use Rattle.std.specs.Prelude.{◌≡◌, ℕ, ◌+◌, ◌<◌, ◌^◌, ◌⊎◌, List, [], ◌∷◌, ◌++◌, length, take, codes}
+use Rattle.std.specs.Fmt.{decimal}
 
--- runs the work text
-abbrev pub IsRun : List (List ℕ) → Type 0
-IsRun words = words ≡ codes "run" ∷ []
+-- runs the work text by the schedule of this seed, which is 0 where none is said
+abbrev pub IsRun : List (List ℕ) → ℕ → Type 0
+IsRun words seed = ((words ≡ codes "run" ∷ []) × (seed ≡ 0)) ⊎ ((words ≡ codes "run" ∷ codes "--seed" ∷ decimal seed ∷ []) × (seed < 2 ^ 64))
 
 -- prints what the logs recover to
 abbrev pub IsRecover : List (List ℕ) → Type 0
 IsRecover words = words ≡ codes "recover" ∷ []
 
 abbrev pub IsForm : List (List ℕ) → Type 0
-IsForm words = IsRun words ⊎ IsRecover words
+IsForm words = ((seed : ℕ) × IsRun words seed) ⊎ IsRecover words
 
 -- some words behind these make them a form
 abbrev pub BeginsForm : List (List ℕ) → Type 0

@@ -1,8 +1,7 @@
-/// What the words of the command line ask for.
-#[derive(Clone, Copy, Debug, PartialEq, Eq)]
+/// What the words ask for.
 pub(crate) enum Command {
-    /// To run the input.
-    Run,
-    /// To print what the logs recover to.
+    /// Runs the work text by the schedule of the seed.
+    Run { seed: u64 },
+    /// Prints what the logs recover to.
     Recover,
 }

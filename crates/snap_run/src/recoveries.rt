@@ -1,16 +1,16 @@
-ghost use Rattle.std.specs.Prelude.{◌≡◌, ◌≤◌, ◌++◌, length, vec_len, IfOk, MatchResult, string_bytes};
+ghost use Rattle.std.specs.Prelude.{◌≡◌, ◌≤◌, ◌++◌, length, vec_len, IfOk, OnOk, string_bytes};
 ghost use Rattle.std.specs.List.{AllZip};
 ghost use Rattle.record_log.specs.Records.{KeepsRecords};
 ghost use Rattle.log_opening.specs.Devices.{Device, devices_of, IsOpenedAtMost};
-ghost use Rattle.snap_report.specs.declared.statuses.Status.TheVariants as status;
-ghost use Rattle.snap_run.specs.Uses.{Writing, writing_of};
+ghost use Rattle.snap_report.specs.Lines.{actors_text};
+ghost use Rattle.run_work.specs.Writings.{Writing, writing_of};
 ghost use Rattle.snap_run.specs.Recoveries.{recovered_report, IsRecoverAnswer};
 
-use crate::statuses::status_of;
-use crate::writes::write_all;
 use log_opening::recover_kept;
-use run_batch::actors_report;
-use snap_base::Memory;
+use run_outputs::write_all;
+use run_printing::push_actor;
+use run_work::status_of;
+use snap_base::{ActorId, Memory, State};
 use snap_outside::{LogDev, Sink};
 use snap_recover::Opening;
 use snap_report::{Status, recovered_line};
@@ -21,26 +21,24 @@ pub(crate) fn print_recovered<D: LogDev, O: Sink>(
     alloc: Global,
     devices: &mut Vec<D>,
     out: &mut O,
-) -> Result<(), Status>
+) -> Status
     requires { vec_len devices.old ≡ 4 }
-    ensures answer { let writing : Writing = writing_of O.taken O.faults out.old out.new in MatchResult result
-        (λ _. IsRecoverAnswer (devices_of D.told D.faults devices.old.items) (devices_of D.told D.faults devices.new.items) writing status.Done)
-        (λ s. IsRecoverAnswer (devices_of D.told D.faults devices.old.items) (devices_of D.told D.faults devices.new.items) writing s) }
+    ensures answer { let writing : Writing = writing_of O.taken O.faults out.old out.new in IsRecoverAnswer (devices_of D.told D.faults devices.old.items) (devices_of D.told D.faults devices.new.items) writing result }
     ensures four { vec_len devices.new ≡ 4 }
     ensures opened { AllZip IsOpenedAtMost (devices_of D.told D.faults devices.old.items) (devices_of D.told D.faults devices.new.items) }
     ensures safe { AllZip (λ (a b : Device). KeepsRecords a.told b.told) (devices_of D.told D.faults devices.old.items) (devices_of D.told D.faults devices.new.items) }
 {
     let opening = match recover_kept(alloc, devices) {
         Ok(opening) => opening,
-        Err(no) => return Err(status_of(no)),
+        Err(no) => return status_of(no),
     };
     let Ok(report) = report_of(alloc, &opening) else {
-        return Err(Status::Memory);
+        return Status::Memory;
     };
     if write_all(out, report.as_bytes()).is_err() {
-        return Err(Status::OutFault);
+        return Status::OutFault;
     }
-    Ok(())
+    Status::Done
 }
 
 /// The lines of the actors, and what is recovered.
@@ -48,8 +46,20 @@ fn report_of(alloc: Global, opening: &Opening) -> Result<String, Memory>
     requires { length opening.now.states ≤ 256 }
     ensures { IfOk result (λ s. string_bytes s ≡ recovered_report opening.now) }
 {
-    let mut text = actors_report(alloc, opening.states.as_slice())?;
+    let mut text = String::new(alloc);
+    push_actors(alloc, &mut text, opening.states.as_slice())?;
     let line = recovered_line(alloc, opening)?;
     text.push_str(line.as_str())?;
     Ok(text)
+}
+
+/// Adds the lines of the actors, which have these states.
+fn push_actors(alloc: Global, text: &mut String, states: &[State]) -> Result<(), Memory>
+    requires { length states.now ≤ 256 }
+    ensures { OnOk result (string_bytes text.new ≡ string_bytes text.old ++ actors_text 0 states.now) }
+{
+    for (number, state) in states.iter().enumerate() {
+        push_actor(alloc, text, ActorId(number as u16), state)?;
+    }
+    Ok(())
 }

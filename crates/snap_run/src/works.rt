@@ -1,25 +1,23 @@
 ghost use Rattle.std.specs.Prelude.{◌≡◌, IfOk, MatchResult};
-ghost use Rattle.snap_work.specs.Works.{work_of};
-ghost use Rattle.snap_run.specs.Uses.{Reading, reading_of};
-ghost use Rattle.snap_run.specs.Runs.{IsRunnable};
 ghost use Rattle.snap_run.specs.Answers.{OfText, IsInputAnswer};
+ghost use Rattle.snap_run.specs.Uses.{Reading, reading_of};
+ghost use Rattle.snap_work.specs.Kept.{KeepsLimits};
+ghost use Rattle.snap_work.specs.Works.{work_of};
 
 use crate::reads::{ReadNo, read_input};
 use snap_outside::Source;
 use snap_report::Status;
 use snap_work::{Work, WorkNo};
 use std::alloc::Global;
-use work_text::{a_work_is_short, built_works, one_batch, parse_work, transactions_may_run};
+use work_text::{a_work_is_short, parse_work, transactions_may_run};
 
 /// The work that the input stands for.
 pub(crate) fn read_work<I: Source>(alloc: Global, input: &mut I) -> Result<Work, Status>
     ensures answer { let r : Reading = reading_of I.left I.faults input.old input.new in MatchResult result (λ w. OfText r (λ v. v ≡ work_of w)) (λ s. IsInputAnswer r s) }
-    ensures runnable { IfOk result (λ w. IsRunnable (work_of w)) }
+    ensures limits { IfOk result (λ w. KeepsLimits (work_of w)) }
 {
-    built_works();
     a_work_is_short();
     transactions_may_run();
-    one_batch();
     let bytes = match read_input(alloc, input) {
         Ok(bytes) => bytes,
         Err(ReadNo::Fault) => return Err(Status::ReadFault),

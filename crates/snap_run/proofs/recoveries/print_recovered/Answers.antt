@@ -1,6 +1,6 @@
 use Rattle.std.proofs.KnownBytes.{Keeps-refl}
 use Rattle.log_opening.specs.Devices.{devices_of}
-use Rattle.snap_run.specs.Uses.{Writing, writing_of}
+use Rattle.run_work.specs.Writings.{Writing, writing_of}
 use Rattle.snap_run.proofs.Recovering.{recovery_refused}
 use Rattle.snap_run.proofs.recoveries.print_recovered.Goals as goal
 

@@ -2,18 +2,16 @@ use Rattle.std.proofs.Common.{◌≤◌, ap, sym, length, subst, Err}
 use Rattle.std.specs.Io.KnownBytes.{Consumes, IsAtEnd}
 use Rattle.snap_work.specs.Works.{work_of}
 use Rattle.snap_run.specs.Uses.{Reading, reading_of}
-use Rattle.snap_run.proofs.InputLaws.{runnable, reads_enough, fault_of_input, of_text}
+use Rattle.snap_run.proofs.InputLaws.{reads_enough, fault_of_input, of_text}
 use Rattle.snap_run.proofs.works.read_work.Goals as goal
 
-pub returns-in-Ok-parse_work-clause-runnable : goal.returns-in-Ok-parse_work-clause-runnable
-returns-in-Ok-parse_work-clause-runnable g c =
-    runnable (work_of c.in-Ok-parse_work.work)
-    (c.transactions_may_run.ensures _ _ (c.built_works.ensures _ _ c.in-Ok-parse_work.ensures.found)) (c.one_batch.ensures _ _ c.in-Ok-parse_work.ensures.found)
+pub returns-in-Ok-parse_work-clause-limits : goal.returns-in-Ok-parse_work-clause-limits
+returns-in-Ok-parse_work-clause-limits g c = c.transactions_may_run.ensures _ _ c.in-Ok-parse_work.ensures.found
 
 pub returns-in-Ok-parse_work-clause-answer : goal.returns-in-Ok-parse_work-clause-answer
 returns-in-Ok-parse_work-clause-answer g c =
     let r : Reading = reading_of g.I.Source.left g.I.Source.faults c.args.input.now c.read_input.new.input in
-    of_text r c.as_slice.result.now (work_of c.in-Ok-parse_work.work) c.in-Ok-parse_work.ensures.found (c.a_work_is_short.ensures _ _ (c.built_works.ensures _ _ c.in-Ok-parse_work.ensures.found))
+    of_text r c.as_slice.result.now (work_of c.in-Ok-parse_work.work) c.in-Ok-parse_work.ensures.found (c.a_work_is_short.ensures _ _ c.in-Ok-parse_work.ensures.found)
     (subst (Consumes (g.I.Source.left c.args.input.now) (g.I.Source.left c.read_input.new.input)) (sym c.as_slice.ensures.value) c.in-Ok.ensures.moved)
     (subst (λ l. length l ≤ 8388608 → IsAtEnd (g.I.Source.left c.read_input.new.input)) (sym c.as_slice.ensures.value) c.in-Ok.ensures.whole)
 

@@ -1,0 +1,4 @@
+pub mod Runs
+pub mod Statuses
+pub mod Untraced
+pub mod Writings

@@ -1,0 +1,99 @@
+-- What a run of a work prints, and the answers of the command that runs one.
+use Rattle.std.specs.Prelude.{◌≡◌, ℕ, ◌⊎◌, Option, None, Some, List, [], length}
+use Rattle.core_events.specs.declared.events.Event.{Event}
+use Rattle.log_opening.specs.declared.refusals.LogsNo.{LogsNo}
+use Rattle.log_opening.specs.declared.refusals.LogsNo.TheVariants as ending
+use Rattle.log_opening.specs.Devices.{Device, device_at}
+use Rattle.protocol.specs.Events as machine
+use Rattle.protocol.specs.Runs.{reached}
+use Rattle.run_opening.specs.Opens.{AreSafe, IsNoRun}
+use Rattle.run_outputs.specs.Lines.{line_in, replies_text, ending_text, report_text}
+use Rattle.run_printing.specs.Printed.{unanswered, unsures_text}
+use Rattle.run_recovery.specs.Runs.{machine_of, meant, HasRun, IsNext, HasEnded}
+use Rattle.run_recovery.specs.Stands.{RunStands}
+use Rattle.run_work.specs.Writings.{Writing, WritesNothing, Writes, WritesBehind, WritesFront}
+use Rattle.snap_outside.specs.Causes.{Rose}
+use Rattle.snap_recover.specs.declared.openings.Opening.{Opening}
+use Rattle.snap_report.specs.declared.statuses.Status.{Status}
+use Rattle.snap_report.specs.declared.statuses.Status.TheVariants as status
+use Rattle.snap_work.specs.Works.{Work}
+use Rattle.trace_text.specs.Traces.{trace_of}
+
+-- ---- what it prints
+
+-- all of it
+abbrev pub PrintsAll : Work → Opening → List machine.Event → Writing → Type 0
+PrintsAll w o es out = Writes out (report_text (machine_of w o) es)
+
+-- the replies, and where the run has ended a front of what comes behind them
+abbrev pub PrintsFront : Work → Opening → List machine.Event → Writing → Type 0
+PrintsFront w o es out = Writes out (replies_text (machine_of w o) es) ⊎ (HasEnded w o es × WritesBehind out (replies_text (machine_of w o) es) (ending_text (machine_of w o) es))
+
+-- the replies, and a front of the next one
+abbrev pub PrintsNext : Work → ℕ → Opening → List machine.Event → Writing → Type 0
+PrintsNext w seed o es out =
+    (n : ℕ) × IsNext w seed o es (machine.Reply n) × WritesBehind out (replies_text (machine_of w o) es) (line_in (reached (machine_of w o) es) n)
+
+-- the replies, and a front of the lines of those that have none
+abbrev pub PrintsUnsure : Work → ℕ → Opening → List machine.Event → Writing → Type 0
+PrintsUnsure w log o es out = WritesBehind out (replies_text (machine_of w o) es) (unsures_text log (unanswered es (length w.txs)))
+
+-- ---- the answers
+
+-- What a call was given and what it left, of a run of this work by this seed.
+pub record Ran : Type 0 where
+  pub work : Work
+  pub seed : ℕ
+  pub kept : List Event
+  pub devices_before : List Device
+  pub devices_after : List Device
+  pub out : Writing
+  pub trace : Writing
+
+-- no run began, for this reason; nothing was traced; and a crash at any moment of the call loses no record
+abbrev pub HasNotBegun : Ran → LogsNo → Type 0
+HasNotBegun r why =
+    (r.kept ≡ []) × IsNoRun r.work.logs r.work.states r.devices_before r.devices_after why × WritesNothing r.trace
+    × AreSafe r.work.logs r.work.states r.devices_before r.devices_after
+
+-- A run began, and what the laws of the machine say of it holds: of its committed transactions, of what they are told, and of
+-- what a crash leaves at any moment of it. P holds of what it began with and of its events. Of its trace a front is written.
+abbrev pub HasBegun : Ran → Option ℕ → (Opening → List machine.Event → Type 0) → Type 0
+HasBegun r failed P =
+    (o : Opening) × (run : HasRun r.work r.seed o (meant r.kept) failed r.devices_before r.devices_after) × RunStands run
+    × P o (meant r.kept) × WritesFront r.trace (trace_of r.kept)
+
+abbrev pub LogRose : Ran → ℕ → Type 0
+LogRose r log = Rose (device_at r.devices_before log).faults (device_at r.devices_after log).faults
+
+abbrev pub IsWorkAnswer : Ran → Status → Type 0
+IsWorkAnswer r status.Done = HasBegun r None (λ o es. HasEnded r.work o es × PrintsAll r.work o es r.out) × Writes r.trace (trace_of r.kept)
+IsWorkAnswer r (status.Usage place) = ⊥
+IsWorkAnswer r (status.Input line cause) = ⊥
+IsWorkAnswer r (status.Logs log offset cause) = HasNotBegun r (ending.Refused log offset cause) × WritesNothing r.out
+IsWorkAnswer r status.Memory =
+    (HasNotBegun r ending.Memory × WritesNothing r.out) ⊎ HasBegun r None (λ o es. PrintsFront r.work o es r.out)
+IsWorkAnswer r status.ReadFault = ⊥
+IsWorkAnswer r (status.LogFault log) =
+    LogRose r log
+    × ((HasNotBegun r (ending.Device log) × WritesFront r.out (unsures_text log (unanswered [] (length r.work.txs))))
+    ⊎ HasBegun r (Some log) (λ o es. IsNext r.work r.seed o es (machine.Sync log) × PrintsUnsure r.work log o es r.out))
+IsWorkAnswer r status.OutFault =
+    Rose r.out.faults_before r.out.faults_after
+    × HasBegun r None (λ o es. PrintsNext r.work r.seed o es r.out ⊎ (HasEnded r.work o es × WritesBehind r.out (replies_text (machine_of r.work o) es) (ending_text (machine_of r.work o) es)))
+IsWorkAnswer r status.TraceFault =
+    Rose r.trace.faults_before r.trace.faults_after × HasBegun r None (λ o es. HasEnded r.work o es × PrintsAll r.work o es r.out)
+
+-- ---- what stands in the way
+
+-- a log of the run is refused, or its device failed
+abbrev pub IsOfLogs : Status → Type 0
+IsOfLogs status.Done = ⊥
+IsOfLogs (status.Usage place) = ⊥
+IsOfLogs (status.Input line cause) = ⊥
+IsOfLogs (status.Logs log offset cause) = Unit {0}
+IsOfLogs status.Memory = ⊥
+IsOfLogs status.ReadFault = ⊥
+IsOfLogs (status.LogFault log) = Unit {0}
+IsOfLogs status.OutFault = ⊥
+IsOfLogs status.TraceFault = ⊥

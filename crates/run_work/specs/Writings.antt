@@ -1,0 +1,29 @@
+-- What a call wrote to a sink, as contracts see it.
+use Rattle.std.specs.Prelude.{◌≡◌, ℕ, List, ◌++◌, Option}
+use Rattle.std.specs.Io.KnownBytes.{Keeps, Appends}
+
+-- the sink: the bytes that it has taken, where it tells them, and its faults
+pub record Writing : Type 0 where
+  pub taken_before : Option (List ℕ)
+  pub taken_after : Option (List ℕ)
+  pub faults_before : ℕ
+  pub faults_after : ℕ
+
+-- a sink before and after a call, by what it has taken and its faults
+abbrev pub writing_of : {O : Type 0} → (O → Option (List ℕ)) → (O → ℕ) → O → O → Writing
+writing_of taken faults before after = record { taken_before = taken before; taken_after = taken after; faults_before = faults before; faults_after = faults after }
+
+-- nothing was written
+abbrev pub WritesNothing : Writing → Type 0
+WritesNothing w = Keeps w.taken_before w.taken_after
+
+abbrev pub Writes : Writing → List ℕ → Type 0
+Writes w bytes = Appends w.taken_before w.taken_after bytes
+
+-- only a front of the bytes was written
+abbrev pub WritesFront : Writing → List ℕ → Type 0
+WritesFront w bytes = (front rest : List ℕ) × (bytes ≡ front ++ rest) × Writes w front
+
+-- these bytes were written, and then a front of those
+abbrev pub WritesBehind : Writing → List ℕ → List ℕ → Type 0
+WritesBehind w first then = (front rest : List ℕ) × (then ≡ front ++ rest) × Writes w (first ++ front)

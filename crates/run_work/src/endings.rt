@@ -1,0 +1,57 @@
+ghost use Rattle.std.specs.Prelude.{◌≡◌, ◌≤◌, map};
+ghost use Rattle.core_events.specs.Meant.{event_meant};
+ghost use Rattle.snap_core.specs.Cores.{IsAt};
+ghost use Rattle.snap_hand.specs.Tables.{fixed_of};
+ghost use Rattle.run_work.specs.Statuses.{logs_status};
+ghost use Rattle.run_work.specs.Untraced.{IsEnding, IsToldUnbegun};
+ghost use Rattle.run_work.specs.Writings.{writing_of};
+
+use crate::statuses::status_of;
+use core_events::Event;
+use log_opening::LogsNo;
+use run_printing::{WriteNo, write_ending, write_unsures};
+use snap_core::Core;
+use snap_outside::Sink;
+use snap_report::Status;
+use solo_host::Stop;
+use std::alloc::Global;
+
+/// Prints what comes behind the replies of a run that a host ended so, and tells how it ends. `count` is the number of its
+/// transactions.
+pub(crate) fn end_driven<O: Sink>(
+    alloc: Global,
+    core: &Core,
+    stop: Stop,
+    kept: &[Event],
+    count: u32,
+    out: &mut O,
+) -> Status
+    requires { IsAt core.now (map event_meant kept.now) }
+    ensures ending { IsEnding (fixed_of core.now.tables) (map event_meant kept.now) count stop (writing_of O.taken O.faults out.old out.new) result }
+    ensures later { O.faults out.old ≤ O.faults out.new }
+{
+    match stop {
+        Stop::Quiet => match write_ending(alloc, core, kept, out) {
+            Ok(()) => Status::Done,
+            Err(WriteNo::Fault) => Status::OutFault,
+            Err(WriteNo::Memory) => Status::Memory,
+        },
+        Stop::LogFault(log) => {
+            write_unsures(alloc, out, log, count, kept);
+            Status::LogFault { log }
+        }
+        Stop::OutFault => Status::OutFault,
+        Stop::Memory => Status::Memory,
+    }
+}
+
+/// How the call ends where no run of so many transactions begins. Where a log's device failed they are told to be unsure.
+pub(crate) fn not_begun<O: Sink>(alloc: Global, no: LogsNo, count: u32, out: &mut O) -> Status
+    ensures status { result ≡ logs_status no }
+    ensures told { IsToldUnbegun count no (writing_of O.taken O.faults out.old out.new) }
+{
+    if let LogsNo::Device { log } = no {
+        write_unsures(alloc, out, log, count, &[]);
+    }
+    status_of(no)
+}
