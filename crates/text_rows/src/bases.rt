@@ -1,7 +1,7 @@
 //! Texts with a part replaced, and what is wrong with them first.
 
 use snap_base::Memory;
-use snap_work::{ProgramCause, WorkCause, WorkNo};
+use snap_work::{ProgramCause, Work, WorkCause, WorkFault, WorkNo};
 use std::alloc::{AllocError, Global};
 use work_text::parse_work;
 
@@ -20,16 +20,6 @@ const BASE: [&str; 12] = [
     "actor 0 100",
     "pact 0 put 5 uses 0:1",
 ];
-
-/// The first lines of the base text.
-pub fn first_lines(alloc: Global, count: usize) -> Result<Vec<u8>, AllocError> {
-    let mut text = Vec::new(alloc);
-    for line in BASE.iter().take(count) {
-        text.extend_from_slice(line.as_bytes())?;
-        text.push(b'\n')?;
-    }
-    Ok(text)
-}
 
 /// The base text with two lines, counted from 1, replaced by bytes.
 pub fn with_lines(
@@ -78,14 +68,8 @@ pub fn repeated(
     Ok(text)
 }
 
-/// What is wrong with a text first: the line, the column where there is one, and the cause with the number that was
-/// found, if it has one; or `good`.
-pub fn answer(alloc: Global, text: &[u8]) -> Result<String, Memory> {
-    let fault = match parse_work(alloc, text) {
-        Ok(_) => return Ok(String::from_str(alloc, "good")?),
-        Err(WorkNo::Memory) => return Err(Memory),
-        Err(WorkNo::Fault(fault)) => fault,
-    };
+/// A fault: the line, the column where there is one, and the cause with the number that was found, if it has one.
+fn told(alloc: Global, fault: WorkFault) -> Result<String, Memory> {
     let line = fault.line;
     let text = match fault.cause {
         WorkCause::Program(ProgramCause::Text { cause, column }) => {
@@ -98,14 +82,8 @@ pub fn answer(alloc: Global, text: &[u8]) -> Result<String, Memory> {
     Ok(text)
 }
 
-/// The work that a text stands for: its coordinators, logs, transactions of a batch, live batches and live ACTs, and the
-/// kinds of its transactions; or its fault.
-pub fn work_shown(alloc: Global, text: &[u8]) -> Result<String, Memory> {
-    let work = match parse_work(alloc, text) {
-        Ok(work) => work,
-        Err(WorkNo::Memory) => return Err(Memory),
-        Err(WorkNo::Fault(fault)) => return Ok(format!(in alloc; "{fault:?}")?),
-    };
+/// A work: its coordinators, logs, transactions of a batch, live batches and live ACTs, and the kinds of its transactions.
+fn shown(alloc: Global, work: &Work) -> Result<String, Memory> {
     let (coordinators, logs, batch) = (work.coordinators, work.logs, work.batch);
     let (batches, acts) = (work.batches, work.acts);
     let mut shown = format!(in alloc; "{coordinators} {logs} {batch} {batches} {acts}")?;
@@ -114,4 +92,14 @@ pub fn work_shown(alloc: Global, text: &[u8]) -> Result<String, Memory> {
         shown.push_str(&format!(in alloc; " {kind:?}")?)?;
     }
     Ok(shown)
+}
+
+/// What is wrong with a text first; or, where nothing is, `good`, or the work that it stands for.
+pub fn answer(alloc: Global, text: &[u8], is_shown: bool) -> Result<String, Memory> {
+    match parse_work(alloc, text) {
+        Ok(work) if is_shown => shown(alloc, &work),
+        Ok(_) => Ok(String::from_str(alloc, "good")?),
+        Err(WorkNo::Memory) => Err(Memory),
+        Err(WorkNo::Fault(fault)) => told(alloc, fault),
+    }
 }

@@ -1,17 +1,16 @@
-//! Tables of texts: what refuses each text, and where; what transactions give, alone and one after the other; and what
-//! the lower crates answer to words and programs. Expected values are worked out by hand from the rules.
+//! Tables of texts, for what the program does not show of them: the column of a program's fault, which limit is passed and by
+//! what, the work that a text stands for; and what the lower crates answer to words, programs and transactions. Expected
+//! values are worked out by hand from the rules.
 #![tactic(auto)]
 
 #[cfg(test)]
 mod bases;
 #[cfg(test)]
-mod calls;
-#[cfg(test)]
 mod lines;
 #[cfg(test)]
-mod long_texts;
-#[cfg(test)]
 mod numbers;
+#[cfg(test)]
+mod pieces;
 #[cfg(test)]
 mod programs;
 #[cfg(test)]
@@ -22,5 +21,3 @@ mod runs;
 mod tokens;
 #[cfg(test)]
 mod trees;
-#[cfg(test)]
-mod values;

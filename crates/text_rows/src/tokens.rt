@@ -3,11 +3,10 @@
 use aml_tokens::{Token, lex};
 use snap_base::Memory;
 use std::alloc::Global;
-use std::test::Fail;
 
 /// A text, and its tokens, each behind the place of its first byte; a name and a closing brace tell their line. Then
 /// `end`, or the place of the first piece that is no token, and why.
-const TOKENS: &str = "\
+pub const TOKENS: &str = "\
     |end@\
     \x20\t\n# only # a comment|end@\
     (){},;=|0 Open 1 Close 2 OpenBrace 3 }:1 4 Comma 5 Semicolon 6 Assign end@\
@@ -49,7 +48,7 @@ fn told(alloc: Global, token: Token<'_>) -> Result<String, Memory> {
 }
 
 /// The tokens of a text as the rows write them.
-fn tokens_of(alloc: Global, text: &str) -> Result<String, Memory> {
+pub fn tokens_of(alloc: Global, text: &str) -> Result<String, Memory> {
     let lexed = lex(alloc, text.as_bytes())?;
     let mut all = String::new(alloc);
     for (place, token) in lexed.places.iter().zip(&lexed.tokens) {
@@ -61,17 +60,4 @@ fn tokens_of(alloc: Global, text: &str) -> Result<String, Memory> {
         None => all.push_str("end")?,
     }
     Ok(all)
-}
-
-#[test]
-fn texts_have_their_tokens(rt: HostRuntime) -> Result<(), Fail> {
-    let alloc = rt.alloc();
-    for row in TOKENS.split('@') {
-        let parts: Vec<&str> = row.split('|').collect(alloc)?;
-        let [text, tokens] = parts.as_slice() else {
-            return Err(Fail::from("the parts of a row"));
-        };
-        assert_eq!(rt; tokens_of(alloc, text)?.as_str(), *tokens, "{row}");
-    }
-    Ok(())
 }

@@ -5,10 +5,9 @@ use aml_parser::{TextNo, parse_program};
 use aml_print::print_program;
 use snap_base::Memory;
 use std::alloc::Global;
-use std::test::Fail;
 
 /// A text that is no program's, and the line, the column and the cause of its first fault.
-const FAULTS: &str = "\
+pub const FAULTS: &str = "\
     |1:1 Unexpected@\
     method m() {|1:13 Unexpected@\
     method m() { } x|1:16 Unexpected@\
@@ -32,7 +31,7 @@ const FAULTS: &str = "\
     method m() { # at the end\n \n |3:2 Unexpected";
 
 /// A text of a program, and the text that its tree is printed as; the last is five methods over accounts.
-const PRINTED: &str = "\
+pub const PRINTED: &str = "\
     method\tm ( ) { }|method m(){}@\
     # every construct\nmethod one() { }\nmethod all(to, n) {\n  let a = 1 - 2 - 3 * 4 / 5 % 6 + f0; # from the left\n  let b = call self put();\n  let c = call (to) put(-n, - -1, ((2)));\n  a = a == 1 or a != 2 and a < 3 or a <= 4 and a > 5 or a >= 6;\n  f15 = (-1) * (a or b);\n  if a { }\n  if n < 9223372036854775807 { fail 999; } else { fail 1; }\n  while (a) { n = n - 1; }\n  return self;\n}\n|\
     method one(){}method all(to,n){let a=1-2-3*4/5%6+f0;let b=call self put();let c=call(to)put(-n,--1,((2)));a=a==1 or a!=2 and a<3 or a<=4 and a>5 or a>=6;f15=(-1)*(a or b);if a{}if n<9223372036854775807{fail 999;}else{fail 1;}while(a){n=n-1;}return self;}@\
@@ -42,7 +41,7 @@ const PRINTED: &str = "\
     method balance(){return f0+f1;}method deposit(v){f0=f0+v;return f0;}method savings(v){f1=f1+v;return f1;}method amalgamate(b){let s=f0+f1;f0=0;f1=0;let r=call b deposit(s);return r;}method check(v){if f0+f1<v{f0=f0-v-1;return f0;}f0=f0-v;return f0;}";
 
 /// What a text is printed as where it is a program's; else the line, the column and the cause of its first fault.
-fn answer(alloc: Global, text: &str) -> Result<String, Memory> {
+pub fn printed(alloc: Global, text: &str) -> Result<String, Memory> {
     match parse_program(alloc, text) {
         Ok(program) => print_program(alloc, &program),
         Err(TextNo::Memory) => Err(Memory),
@@ -52,23 +51,4 @@ fn answer(alloc: Global, text: &str) -> Result<String, Memory> {
             Ok(format!(in alloc; "{line}:{column} {cause:?}")?)
         }
     }
-}
-
-/// What is printed is printed so again.
-#[test]
-fn programs_are_printed(rt: HostRuntime) -> Result<(), Fail> {
-    let alloc = rt.alloc();
-    for table in [FAULTS, PRINTED] {
-        for row in table.split('@') {
-            let parts: Vec<&str> = row.split('|').collect(alloc)?;
-            let [text, wanted] = parts.as_slice() else {
-                return Err(Fail::from("the parts of a row"));
-            };
-            assert_eq!(rt; answer(alloc, text)?.as_str(), *wanted, "{row}");
-            if wanted.starts_with("method") {
-                assert_eq!(rt; answer(alloc, wanted)?.as_str(), *wanted, "{row}");
-            }
-        }
-    }
-    Ok(())
 }
