@@ -5,7 +5,7 @@ use Rattle.protocol.specs.Parts.{Cascade, Entry, BatchEntry, ActEntry, Image}
 use Rattle.protocol.specs.Words.{batches_on, acts_on}
 use Rattle.protocol.specs.Settling.{CascadesAscend}
 use Rattle.protocol_laws.specs.Places as places
-use Rattle.protocol_laws.specs.OnActors as lying
+use Rattle.protocol_theorems.specs.OnActors as lying
 use Rattle.actor_cell.specs.Cut.{Ascends, HaveRunInOrder}
 
 pub ascends : (ks : List ℕ) → places.Ascends ks → Ascends ks

@@ -21,11 +21,11 @@ use Rattle.protocol.specs.Settling.{BatchesSettleInOrder}
 use Rattle.protocol.specs.OnRing.{next_pacts, next_actors}
 use Rattle.protocol.specs.OnCell.{is_entry_among, staying, going}
 use Rattle.protocol.specs.BookParts.{act_by}
-use Rattle.protocol_laws.specs.BookFits.{IsOfHalves, HalvesGoOn}
-use Rattle.protocol_laws.specs.Bounds.{BatchesHaveActors, BoxesAreFew, PlacesAreFew}
-use Rattle.protocol_laws.specs.OnActors.{AllLieInOrder, LimitsHold}
+use Rattle.protocol_theorems.specs.BookFits.{IsOfHalves, HalvesGoOn}
+use Rattle.protocol_theorems.specs.Bounds.{BatchesHaveActors, BoxesAreFew, PlacesAreFew}
+use Rattle.protocol_theorems.specs.OnActors.{AllLieInOrder, LimitsHold}
 use Rattle.protocol_laws.specs.Ranges.{NumbersInRange, CellInRange, IsDrawnBid}
-use Rattle.protocol_laws.specs.Sizes.{SizesHold, AllFindRoom}
+use Rattle.protocol_theorems.specs.Sizes.{SizesHold, AllFindRoom}
 use Rattle.batch_table.specs.Laws.{PlannedMayJoin}
 use Rattle.actor_cell.specs.Cut.{HaveRunInOrder}
 use Rattle.token_ring.specs.Asked.{MayPass}

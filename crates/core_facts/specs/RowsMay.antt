@@ -16,8 +16,8 @@ use Rattle.protocol.specs.History.{History}
 use Rattle.protocol.specs.OnRing.{planned, next_actors, next_pacts}
 use Rattle.protocol.specs.OnPost.{first_control}
 use Rattle.protocol.specs.OnCell.{staying}
-use Rattle.protocol_laws.specs.BookFits.{IsOfHalves, HalvesMeet}
-use Rattle.protocol_laws.specs.Bounds.{tids_here}
+use Rattle.protocol_theorems.specs.BookFits.{IsOfHalves, HalvesMeet}
+use Rattle.protocol_theorems.specs.Bounds.{tids_here}
 use Rattle.token_ring.specs.Asked.{MayPass}
 use Rattle.batch_table.specs.Joining.{MayJoin}
 use Rattle.actor_cell.specs.Cut.{IsCutFrom}

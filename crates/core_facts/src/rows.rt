@@ -7,10 +7,12 @@ ghost use Rattle.core_facts.specs.RowsMay.{RowsMayBeTaken};
 use actor_cell::nothing_behind_an_act_has_run;
 use batch_table::planned_batch_may_join;
 use protocol_laws::{
-    actors_lie_in_order, batches_have_actors, batches_settle_in_order, boxes_are_few,
-    controls_are_in_one_place, halves_go_on, limits_hold, numbers_are_drawn_once,
-    numbers_are_in_range, places_are_few, sizes_hold, sub_batches_name_the_one_before,
-    transactions_are_in_one_place, what_is_new_is_not_there,
+    batches_settle_in_order, controls_are_in_one_place, numbers_are_drawn_once,
+    numbers_are_in_range, sub_batches_name_the_one_before, transactions_are_in_one_place,
+};
+use protocol_theorems::{
+    actors_lie_in_order, batches_have_actors, boxes_are_few, halves_go_on, limits_hold,
+    places_are_few, sizes_hold, what_is_new_is_not_there,
 };
 
 /// On every run what the parts' calls ask is so wherever the event table lets a row be taken.

@@ -7,7 +7,7 @@ use Rattle.protocol.specs.Fixed.{Next, Go, Ended}
 use Rattle.protocol.specs.OnDesk.{noted_for, pact_ended, with_results}
 use Rattle.protocol.specs.Parts.{Batch, Book, Desk, Outcome}
 use Rattle.protocol.specs.Words.{act_of, holds, is_ended}
-use Rattle.protocol_laws.specs.BookFits.{actors_at, votes_ended, votes_for}
+use Rattle.protocol_theorems.specs.BookFits.{actors_at, votes_ended, votes_for}
 use Rattle.book_part.specs.Halves.{Halves}
 use Rattle.cell_part.specs.Contents.{next_result, outcome_result}
 

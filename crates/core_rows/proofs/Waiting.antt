@@ -14,7 +14,7 @@ use Rattle.protocol.specs.Conditions.{IsAllowed, conditions, queue}
 use Rattle.protocol.specs.Numbers.{flat, times, one_if, once_in, TransactionsInOnePlace}
 use Rattle.protocol.specs.OnBook.{act_admitted}
 use Rattle.protocol.specs.OnPost.{next_act}
-use Rattle.protocol_laws.specs.Sizes.{SizesHold}
+use Rattle.protocol_theorems.specs.Sizes.{SizesHold}
 use Rattle.token_ring.specs.Asked as asked
 
 times_head : (n x : ℕ) (xs : List ℕ) → times n (x ∷ xs) ≡ one_if (x == n) + times n xs

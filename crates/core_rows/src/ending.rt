@@ -4,7 +4,7 @@ ghost use Rattle.protocol.specs.BookParts.{votes_begin};
 ghost use Rattle.protocol.specs.Events.{End};
 ghost use Rattle.protocol.specs.OnDesk.{with_results};
 ghost use Rattle.protocol.specs.Words.{act_of};
-ghost use Rattle.protocol_laws.specs.BookFits.{actors_at};
+ghost use Rattle.protocol_theorems.specs.BookFits.{actors_at};
 ghost use Rattle.core_rows.specs.Showing.{ShowsBook, ShowsCell, ShowsDesk};
 ghost use Rattle.core_rows.specs.Taken.{IsOfRun, IsTaken, IsRefusal, IsNo};
 

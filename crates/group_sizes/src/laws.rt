@@ -2,8 +2,8 @@
 ghost use Rattle.protocol.specs.Laws.{AfterEveryRunWithHistory, OfEveryRun};
 ghost use Rattle.group_sizes.specs.Sizes.{AllGroupsFit, LogsAreFew, ToldAreShort, WaitingFits};
 
-use protocol_laws::every_run_ends;
 use protocol_records::records_are_few;
+use protocol_theorems::every_run_ends;
 use run_outputs::groups_grow;
 use txn_records::records_are_short;
 

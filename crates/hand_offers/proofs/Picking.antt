@@ -14,7 +14,7 @@ use Rattle.protocol.specs.Fixed.{Fixed}
 use Rattle.protocol.specs.Laws.{AfterEveryRun, AfterEveryRunWithHistory}
 use Rattle.protocol.specs.Parts.{Book, Post, Desk, Cell, Machine}
 use Rattle.protocol.specs.Schedule.{Ascends}
-use Rattle.protocol_laws.specs.Sizes.{SizesHold}
+use Rattle.protocol_theorems.specs.Sizes.{SizesHold}
 use Rattle.protocol_ready.specs.Ready.{put}
 use Rattle.protocol_ready.specs.Telling.{PartsTell, PostTells, CellTells, DeskTells, BookTells, AnswersTell}
 use Rattle.snap_hand.specs.Hands.{Parts, Fits, IsHandOf}

@@ -11,7 +11,7 @@ use Rattle.post_box.specs.Listed.{control_places, sub_places}
 use Rattle.protocol.specs.Events.{Event, Arrive, Ask, Take, Run, Send, End, Close, Complete, Note, Commit, Settle, Abort, Rollback, DropSub, DropControl, Prepare, Vouch, Decide, Seal, Finish, Reply, Trim}
 use Rattle.protocol.specs.Parts.{Book, Post, Desk, Cell}
 use Rattle.protocol.specs.Words.{act_of, batch_of}
-use Rattle.protocol_laws.specs.BookFits.{actors_at}
+use Rattle.protocol_theorems.specs.BookFits.{actors_at}
 use Rattle.hand_offers.specs.Listed.{of_sub, of_control, on_post, of_waiting, of_outcome, of_undone, of_incomplete, on_boxes, on_schedule, on_cell, of_declared, of_batch, on_desk, of_joined, of_act, on_book, of_reply, on_replies}
 use Rattle.hand_offers.proofs.Lists.{first_of_all, in_flat_map, placed}
 

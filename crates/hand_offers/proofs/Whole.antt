@@ -15,7 +15,7 @@ use Rattle.protocol.specs.Events.{Event, Submit, Pass, Form, Admit, Arrive, Ask,
 use Rattle.protocol.specs.Fixed.{Fixed}
 use Rattle.protocol.specs.Parts.{Ring, Post, Desk, Log, Cell, Machine}
 use Rattle.protocol.specs.Words.{below}
-use Rattle.protocol_laws.specs.Sizes.{SizesHold}
+use Rattle.protocol_theorems.specs.Sizes.{SizesHold}
 use Rattle.protocol_ready.specs.Telling.{PartsTell, RingTells, PostTells, CellTells, LogTells, DeskTells, BookTells, AnswersTell}
 use Rattle.snap_hand.specs.Hands.{Parts, Fits, IsHandOf, is_at_hand, is_not_out}
 use Rattle.hand_offers.specs.Chosen.{is_asked}

@@ -12,7 +12,7 @@ use Rattle.protocol.specs.Events.{Event, Submit, Pass, Form, Admit, Arrive, Ask,
 use Rattle.protocol.specs.Fixed.{Text}
 use Rattle.protocol.specs.Parts.{Ring, Book, Post, Desk, Cell}
 use Rattle.protocol.specs.Words.{act_of, batch_of, below}
-use Rattle.protocol_laws.specs.BookFits.{actors_at}
+use Rattle.protocol_theorems.specs.BookFits.{actors_at}
 use Rattle.snap_hand.specs.Hands.{Parts}
 
 -- to these events just those were added

@@ -10,7 +10,7 @@ use Rattle.protocol.specs.Events.{Event}
 use Rattle.protocol.specs.Words.{holds, is_empty, below, covers, act_of, joined_of, is_value, is_doomed, is_decided, is_sealed, is_live_status, is_live_act}
 use Rattle.protocol.specs.Numbers.{flat, times, one_if, once_in, txs_in, TransactionsInOnePlace}
 use Rattle.protocol.specs.Verdicts.{or_else, pact_verdict, act_verdict, verdict_in_batch, verdict_of_pact, verdict_of_act, verdict}
-use Rattle.protocol_laws.specs.BookFits.{actors_at}
+use Rattle.protocol_theorems.specs.BookFits.{actors_at}
 use Rattle.protocol_records.specs.Overs.{EndsWhole}
 use Rattle.protocol_ready.specs.Telling.{BookTells, AnswersTell}
 use Rattle.protocol_ready.proofs.Listing.{Has, from_has, has_left, has_right, has_map, has_filter, has_below, held, found_in}

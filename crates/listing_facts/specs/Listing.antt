@@ -7,7 +7,7 @@ use Rattle.protocol.specs.History.{History}
 use Rattle.protocol.specs.Parts.{Book, Post, Desk, Cell, Machine}
 use Rattle.protocol.specs.Events.{Event, Arrive, Ask, Take, Run, Send, End, Close, Complete, Note, Commit, Settle, Abort, Rollback, DropSub, DropControl, Prepare, Vouch, Decide, Seal, Finish, Reply, Trim}
 use Rattle.protocol.specs.Words.{act_of, batch_of}
-use Rattle.protocol_laws.specs.BookFits.{actors_at}
+use Rattle.protocol_theorems.specs.BookFits.{actors_at}
 use Rattle.protocol_ready.specs.Telling.{BookTells, AnswersTell}
 use Rattle.post_box.specs.Listed.{sub_places, control_places}
 use Rattle.hybrid_schedule.specs.Listed.{incomplete_on, undone_on}

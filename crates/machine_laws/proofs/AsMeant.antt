@@ -17,7 +17,7 @@ use Rattle.protocol.specs.Effects.{after}
 use Rattle.protocol.specs.Records.{LogRecord}
 use Rattle.protocol.specs.History.{Done, History}
 use Rattle.protocol.specs.Chains.{is_place_below, put_by_place, by_place, txs_of, serial_run}
-use Rattle.protocol_laws.specs.Order.{OrderHolds}
+use Rattle.protocol_theorems.specs.Order.{OrderHolds}
 use Rattle.protocol_records.specs.Crash.{CrashHolds, members}
 use Rattle.machine_code.specs.MethodCode.{finish, method_code}
 use Rattle.machine_laws.specs.Programs.{IsTextOf, with_code, finish_of}

@@ -12,7 +12,7 @@ use Rattle.protocol.specs.Parts.{Machine}
 use Rattle.protocol.specs.Effects.{cell_at}
 use Rattle.protocol.specs.History.{History}
 use Rattle.protocol.specs.Rests.{Leads}
-use Rattle.protocol_laws.specs.Controls.{IsRestOn, GoesOnAsRest, ControlsAreRests}
+use Rattle.protocol_theorems.specs.Controls.{IsRestOn, GoesOnAsRest, ControlsAreRests}
 use Rattle.machine_code.specs.MethodCode.{method_code, finish, IsRestOf}
 use Rattle.machine_laws.specs.Controls.{MayRunOn, MayGoOn, ControlsMayRun}
 use Rattle.machine_laws.specs.Programs.{IsTextOf, with_code}

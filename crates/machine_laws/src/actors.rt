@@ -1,7 +1,7 @@
 //! Of every program: what lies on an actor, how much there may be, and what the controls under way are.
 
 ghost use Rattle.aml_check.specs.Checked.{methods_of};
-ghost use Rattle.protocol_laws.specs.OnActors.{AllLieInOrder, LimitsHold};
+ghost use Rattle.protocol_theorems.specs.OnActors.{AllLieInOrder, LimitsHold};
 ghost use Rattle.machine_laws.specs.Controls.{ControlsMayRun};
 ghost use Rattle.machine_laws.specs.Programs.{AfterEveryRunOf};
 
@@ -16,7 +16,7 @@ pub fn actors_lie_in_order(program: &Checked)
     ensures { AfterEveryRunOf (methods_of program.now) AllLieInOrder }
 {
     code_has_the_facts(program);
-    protocol_laws::actors_lie_in_order::<Control>();
+    protocol_theorems::actors_lie_in_order::<Control>();
 }
 
 /// No more batches and ACTs are live than the text allows; no more batches, ACTs and images lie on an actor; and a slice that
@@ -25,7 +25,7 @@ pub fn limits_hold(program: &Checked)
     ensures { AfterEveryRunOf (methods_of program.now) LimitsHold }
 {
     code_has_the_facts(program);
-    protocol_laws::limits_hold::<Control>();
+    protocol_theorems::limits_hold::<Control>();
 }
 
 /// Each control in the post, in an inbox and in an outbox is what is left of a transaction of the program, and stands on the
@@ -34,5 +34,5 @@ pub fn controls_may_run(program: &Checked)
     ensures { AfterEveryRunOf (methods_of program.now) (ControlsMayRun (methods_of program.now)) }
 {
     code_has_the_facts(program);
-    protocol_laws::controls_are_rests::<Control>();
+    protocol_theorems::controls_are_rests::<Control>();
 }

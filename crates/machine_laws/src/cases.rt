@@ -1,9 +1,9 @@
 //! Of every program: how the book goes on in halves, who stands behind whom, and what an undo gives.
 
 ghost use Rattle.aml_check.specs.Checked.{methods_of};
-ghost use Rattle.protocol_laws.specs.BookFits.{HalvesGoOn};
-ghost use Rattle.protocol_laws.specs.OrderCases.{CasesHold, SchedulesInOrder};
 ghost use Rattle.protocol_laws.specs.Undo.{UndoGives};
+ghost use Rattle.protocol_theorems.specs.BookFits.{HalvesGoOn};
+ghost use Rattle.protocol_theorems.specs.OrderCases.{CasesHold, SchedulesInOrder};
 ghost use Rattle.machine_laws.specs.Programs.{AfterEveryRunOf};
 
 use aml_check::Checked;
@@ -15,7 +15,7 @@ pub fn halves_go_on(program: &Checked)
     ensures { AfterEveryRunOf (methods_of program.now) HalvesGoOn }
 {
     code_has_the_facts(program);
-    protocol_laws::halves_go_on::<Control>();
+    protocol_theorems::halves_go_on::<Control>();
 }
 
 /// Along each actor's chain a batch behind an ACT has a number above the ACT's before number; an ACT behind a batch has a before
@@ -25,7 +25,7 @@ pub fn cases_of_order(program: &Checked)
     ensures { AfterEveryRunOf (methods_of program.now) CasesHold }
 {
     code_has_the_facts(program);
-    protocol_laws::cases_of_order::<Control>();
+    protocol_theorems::cases_of_order::<Control>();
 }
 
 /// The same of all that stand on an actor of the present epoch, committed or not, ACTs that are doomed aside.
@@ -33,7 +33,7 @@ pub fn schedules_are_in_order(program: &Checked)
     ensures { AfterEveryRunOf (methods_of program.now) SchedulesInOrder }
 {
     code_has_the_facts(program);
-    protocol_laws::schedules_are_in_order::<Control>();
+    protocol_theorems::schedules_are_in_order::<Control>();
 }
 
 /// A rollback gives the state before the first run on the actor of what it takes away, and so does the leaving of an ACT that

@@ -6,11 +6,11 @@ ghost use Rattle.protocol.specs.Rows.{RowsAgree};
 ghost use Rattle.protocol_records.specs.Crash.{CrashHolds};
 ghost use Rattle.protocol_verdicts.specs.Evidence.{VerdictsStand};
 ghost use Rattle.protocol_verdicts.specs.EvidenceSerial.{VerdictsTell};
-ghost use Rattle.protocol_laws.specs.Left.{RunsEnd};
+ghost use Rattle.protocol_theorems.specs.Left.{RunsEnd};
 ghost use Rattle.protocol_laws.specs.OneWay.{PlacesStay};
-ghost use Rattle.protocol_laws.specs.Order.{OrderHolds};
-ghost use Rattle.protocol_laws.specs.Quiet.{AnsweredWhenQuiet};
-ghost use Rattle.protocol_laws.specs.Sets.{NumbersStand};
+ghost use Rattle.protocol_theorems.specs.Order.{OrderHolds};
+ghost use Rattle.protocol_theorems.specs.Quiet.{AnsweredWhenQuiet};
+ghost use Rattle.protocol_theorems.specs.Sets.{NumbersStand};
 ghost use Rattle.machine_laws.specs.Meant.{CommittedAsMeant, RecoveredAsMeant, VerdictsAsMeant};
 ghost use Rattle.machine_laws.specs.Programs.{AfterEveryRunOf, AtEveryMomentOf, OfEveryRunOf};
 
@@ -26,7 +26,7 @@ pub fn committed_transactions_are_in_order(program: &Checked)
     ensures { AfterEveryRunOf (methods_of program.now) OrderHolds }
 {
     code_has_the_facts(program);
-    protocol_laws::committed_transactions_are_in_order::<Control>();
+    protocol_theorems::committed_transactions_are_in_order::<Control>();
 }
 
 /// At every moment, whatever the logs are left with, the transactions whose commit records are there had committed;
@@ -63,7 +63,7 @@ pub fn runs_that_cannot_go_on_have_answered(program: &Checked)
     ensures { AfterEveryRunOf (methods_of program.now) AnsweredWhenQuiet }
 {
     code_has_the_facts(program);
-    protocol_laws::runs_that_cannot_go_on_have_answered::<Control>();
+    protocol_theorems::runs_that_cannot_go_on_have_answered::<Control>();
 }
 
 /// A number computed from the state, at most so many times the transactions at the opening, falls at every event.
@@ -71,7 +71,7 @@ pub fn every_run_ends(program: &Checked)
     ensures { OfEveryRunOf (methods_of program.now) RunsEnd }
 {
     code_has_the_facts(program);
-    protocol_laws::every_run_ends::<Control>();
+    protocol_theorems::every_run_ends::<Control>();
 }
 
 /// Before and after numbers are the greatest and the least of the batches that stand before and behind an ACT, and
@@ -81,7 +81,7 @@ pub fn numbers_are_the_ends_of_sets(program: &Checked)
     ensures { AfterEveryRunOf (methods_of program.now) NumbersStand }
 {
     code_has_the_facts(program);
-    protocol_laws::numbers_are_the_ends_of_sets::<Control>();
+    protocol_theorems::numbers_are_the_ends_of_sets::<Control>();
 }
 
 /// Whoever has its place in the serial order keeps it, with its before number.
@@ -97,7 +97,7 @@ pub fn rows_are_as_agreed(program: &Checked)
     ensures { AfterEveryRunOf (methods_of program.now) RowsAgree }
 {
     code_has_the_facts(program);
-    protocol_laws::rows_are_as_agreed::<Control>();
+    protocol_theorems::rows_are_as_agreed::<Control>();
 }
 
 /// The transactions that committed, run one after the other in the order of their places as the language means each of

@@ -1,7 +1,7 @@
 //! The machine with the language: the great laws of the protocol for every checked program, every accepted text whose
 //! transactions may be asked of it, and every run. `specs/Programs.antt` says what such a text is. The laws stand over
-//! any method code that has some facts (protocol_laws), and the code of a program has them (machine_code), so here no
-//! premise on code is left. No code stands here; each law is called to cite it.
+//! any method code that has some facts (protocol_laws, protocol_theorems), and the code of a program has them
+//! (machine_code), so here no premise on code is left. No code stands here; each law is called to cite it.
 #![tactic(auto)]
 
 mod actors;

@@ -1,9 +1,5 @@
--- What the proofs of other crates may cite of these: lemmas over plain lists, and over an ACT in its halves. What is about
--- runs is a public law.
+-- What the proofs of other crates may cite of these: lemmas over plain lists. What is about runs is a public law.
 pub use Rattle.protocol_laws.proofs.first.Lists.{all_filter, all_found}
 pub use Rattle.protocol_laws.proofs.first.Times.{once_from, times_append, times_cons}
 pub use Rattle.protocol_laws.proofs.machine.ActsFound.{found_tid}
 pub use Rattle.protocol_laws.proofs.machine.MarksKept.{found_bid}
-pub use Rattle.protocol_laws.proofs.order.ByPlace.{all_sorted, before_trans, rises_sorted}
-pub use Rattle.protocol_laws.proofs.halves.ActWithVotes.{doomed_by, found_by, holds_map, live_by, place_actor}
-pub use Rattle.protocol_laws.proofs.halves.HalvesAsked.{decided_by, joined_found, left_mark, live_act_by, live_count, sealed_by, verdict_of, vote_mark, vouched_by}

@@ -32,6 +32,16 @@ pub record AmongDone (y : Who) (t n : ℕ) (p : Place) (r : Option TxResult) (ds
   pub place : done.place ≡ p
   pub result : done.result ≡ r
 
+-- among these is transaction n, at this place, with this result
+pub record IsAmongDone (n : ℕ) (p : Place) (r : TxResult) (ds : List Done) : Type 0 where
+  pub done : Done
+  pub front : List Done
+  pub rest : List Done
+  pub splits : ds ≡ front ++ done ∷ rest
+  pub tx : done.tx ≡ n
+  pub place : done.place ≡ p
+  pub result : done.result ≡ Some r
+
 -- it is decided or sealed, as this number of the commits of ACTs
 abbrev pub is_at : ℕ → Status → Bool
 is_at c Live = false

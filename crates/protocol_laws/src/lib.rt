@@ -1,21 +1,15 @@
 //! The laws of the protocol, over every state, event and run: public functions with empty bodies, whose
-//! contracts are the laws. docs/proofs.md tells how they are proved and in which folder.
+//! contracts are the laws. Their proofs end in the invariants on which those of protocol_theorems, protocol_records and
+//! protocol_verdicts go on. docs/proofs.md tells how they are proved and in which folder.
 #![tactic(auto)]
 
-mod actors;
-mod books;
-mod cases;
 mod cells;
 mod committed;
 mod laws;
 mod offers;
 mod one_way;
-mod parts;
-mod theorems;
+mod undo;
 
-pub use actors::{actors_lie_in_order, limits_hold, sizes_hold, what_is_new_is_not_there};
-pub use books::{books_are_asked_by_parts, books_are_of_parts, halves_go_on, halves_stay_fit};
-pub use cases::{cases_of_order, schedules_are_in_order, undo_gives_the_state_before};
 pub use cells::cells_are_of_parts;
 pub use committed::committed_are_those_with_places;
 pub use laws::{
@@ -33,8 +27,4 @@ pub use one_way::{
     committed_grows_at_its_end, events_go_one_way, places_stay, runs_go_one_way,
     settled_never_falls,
 };
-pub use parts::{batches_have_actors, boxes_are_few, controls_are_rests, places_are_few};
-pub use theorems::{
-    committed_transactions_are_in_order, every_run_ends, numbers_are_the_ends_of_sets,
-    rows_are_as_agreed, runs_that_cannot_go_on_have_answered,
-};
+pub use undo::undo_gives_the_state_before;

@@ -17,7 +17,7 @@ use Rattle.protocol.specs.History.{Done, History, history}
 use Rattle.protocol.specs.Chains.{IsClosed, IsSerial, serial_run}
 use Rattle.protocol_laws.specs.Commits.{is_kept}
 use Rattle.protocol_laws.specs.Linked.{visitors}
-use Rattle.protocol_laws.specs.Order.{IsAmongDone}
+use Rattle.protocol_laws.specs.Told.{IsAmongDone}
 use Rattle.protocol.specs.Moments.{Moment, IsLeft, left_in}
 use Rattle.protocol.specs.Rests.{HasFacts}
 

@@ -1,6 +1,7 @@
 //! The laws of the machine's records, over every run: what they tell, that each is added once, what logs that a crash left
 //! recover to, and several runs on the same logs. Public functions with empty bodies, whose contracts are the laws. Their
-//! proofs go on from those of protocol_laws; the rows of the parts do not stand on them, so they are checked beside these.
+//! proofs go on from those of protocol_laws and protocol_theorems; the rows of the parts do not stand on them, so they are checked
+//! beside these.
 #![tactic(auto)]
 
 mod numbers;

@@ -12,7 +12,7 @@ use Rattle.protocol.specs.Parts.{Act, Decided, Sealed, Pact, Batch, Machine}
 use Rattle.protocol.specs.Words.{holds, is_value, is_formed, is_settled, act_of, batch_of}
 use Rattle.protocol.specs.Events.{Event, Abort}
 use Rattle.protocol.specs.Verdicts.{verdict, pact_place, act_place}
-use Rattle.protocol_laws.specs.Order.{IsAmongDone}
+use Rattle.protocol_laws.specs.Told.{IsAmongDone}
 use Rattle.protocol.specs.Runs.{reached}
 use Rattle.protocol.specs.History.{Done, history}
 use Rattle.protocol.specs.Chains.{by_place, txs_of}

@@ -15,7 +15,8 @@ use Rattle.protocol.specs.Chains.{is_place_below, put_by_place, by_place}
 use Rattle.protocol_records.specs.Crash.{is_in, members}
 use Rattle.protocol_laws.specs.Told.{AmongDone, is_at, PactTold, DoneFrom, IsDonePact, AnyPact, PactFrom, Valued, CommittedTold}
 use Rattle.protocol_laws.specs.Linked.{PlacesDiffer}
-use Rattle.protocol_laws.proofs.Lemmas.{all_filter, all_sorted, found_bid, rises_sorted}
+use Rattle.protocol_laws.proofs.Lemmas.{all_filter, found_bid}
+use Rattle.protocol_theorems.proofs.Lemmas.{all_sorted, rises_sorted}
 use Rattle.txn_records.specs.declared.records.Record.{Record}
 use Rattle.snap_recover.specs.declared.openings.Kept.{Kept}
 use Rattle.snap_recover.specs.declared.openings.Opening.{Opening}

@@ -28,7 +28,7 @@ use Rattle.snap_recover.proofs.Lists.{all_weaker}
 use Rattle.record_words.specs.Told.{told, all_told}
 use Rattle.recovery_laws.specs.Grown.{BeginsWith}
 use Rattle.protocol_records.specs.SeveralRuns.{recovered_from}
-use Rattle.protocol_laws.specs.Sizes.{SizesHold}
+use Rattle.protocol_theorems.specs.Sizes.{SizesHold}
 use Rattle.recovery_laws.proofs.WrittenLists.{same_tids, same_actors, batch_bids, act_tids}
 use Rattle.recovery_laws.proofs.KnownLogs.{Known}
 use Rattle.protocol_records.specs.NextNumbers.{ActsDrawn}

@@ -10,7 +10,7 @@ use Rattle.protocol.specs.Verdicts.{pact_place, act_place}
 use Rattle.protocol.specs.History.{Done}
 use Rattle.protocol.specs.Chains.{is_place_below, IsBelowAll, PlacesRise}
 use Rattle.protocol_laws.specs.Told.{PactsAscend}
-use Rattle.protocol_laws.proofs.Lemmas.{before_trans}
+use Rattle.protocol_theorems.proofs.Lemmas.{before_trans}
 use Rattle.snap_recover.specs.declared.openings.Kept.{Kept}
 use Rattle.snap_recover.specs.declared.openings.Kept.TheVariants as kept
 use Rattle.snap_recover.specs.Opening.{ComesBefore}

@@ -9,12 +9,13 @@ ghost use Rattle.recovery_laws.specs.Joined.{AtEveryMomentOnLogs, GoOnLogs, Reco
 
 use protocol_laws::{
     committed_are_those_with_places, numbers_are_drawn_once, numbers_are_in_range,
-    pairs_carry_before_numbers, sizes_hold,
+    pairs_carry_before_numbers,
 };
 use protocol_records::{
     next_numbers_are_above_all, places_are_drawn, records_are_added_once, records_tell_what_is,
     recovered_transactions_are_in_order,
 };
+use protocol_theorems::sizes_hold;
 use snap_recover::refused_is_not_recovered;
 
 /// At every moment of every run on logs that recover to the run's opening, whatever each log is left with, recovery refuses

@@ -14,7 +14,7 @@ use crate::counts::counts_of;
 use crate::writes::write_text;
 use aml_slice::Control;
 use core_events::Event;
-use protocol_laws::sizes_hold;
+use protocol_theorems::sizes_hold;
 use snap_base::{ActorId, Memory, State};
 use snap_core::Core;
 use snap_outside::Sink;

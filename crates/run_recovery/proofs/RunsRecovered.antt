@@ -15,7 +15,7 @@ use Rattle.protocol.specs.History.{history}
 use Rattle.protocol.specs.Moments.{Moment, IsLeft, left_in}
 use Rattle.protocol.specs.Parts.{Machine}
 use Rattle.protocol.specs.Runs.{EachAllowed, IsRun, opening, reached}
-use Rattle.protocol_laws.specs.Quiet.{AnsweredWhenQuiet}
+use Rattle.protocol_theorems.specs.Quiet.{AnsweredWhenQuiet}
 use Rattle.protocol_records.specs.Crash.{CrashHolds}
 use Rattle.protocol_schedule.specs.Draw.{draw_of}
 use Rattle.protocol_verdicts.specs.Evidence.{VerdictsStand}

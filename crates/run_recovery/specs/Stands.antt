@@ -7,7 +7,7 @@ use Rattle.protocol.specs.Events as machine
 use Rattle.protocol.specs.History.{history}
 use Rattle.protocol.specs.Moments.{Moment}
 use Rattle.protocol.specs.Runs.{reached}
-use Rattle.protocol_laws.specs.Quiet.{AnsweredWhenQuiet}
+use Rattle.protocol_theorems.specs.Quiet.{AnsweredWhenQuiet}
 use Rattle.protocol_verdicts.specs.Evidence.{VerdictsStand}
 use Rattle.run_recovery.specs.Beginnings.{BeginsAgain, CrashBefore}
 use Rattle.run_recovery.specs.Crashes.{CrashOn, Recovers}

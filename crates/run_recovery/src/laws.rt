@@ -9,7 +9,7 @@ ghost use Rattle.protocol.specs.Events as machine;
 ghost use Rattle.protocol.specs.History.{history};
 ghost use Rattle.protocol.specs.Moments.{Moment};
 ghost use Rattle.protocol.specs.Runs.{reached};
-ghost use Rattle.protocol_laws.specs.Quiet.{AnsweredWhenQuiet};
+ghost use Rattle.protocol_theorems.specs.Quiet.{AnsweredWhenQuiet};
 ghost use Rattle.protocol_verdicts.specs.Evidence.{VerdictsStand};
 ghost use Rattle.run_recovery.specs.Beginnings.{BeginsAgain, CrashBefore};
 ghost use Rattle.run_recovery.specs.Crashes.{CrashOn, Recovers};

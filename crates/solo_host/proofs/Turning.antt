@@ -19,7 +19,7 @@ use Rattle.run_outputs.specs.Groups.{group_by}
 use Rattle.run_outputs.specs.Laws.{line_by}
 use Rattle.snap_core.specs.Cores.{CoreState, IsAt}
 use Rattle.snap_hand.specs.Steps.{may_want}
-use Rattle.protocol_laws.specs.Left.{most_events}
+use Rattle.protocol_theorems.specs.Left.{most_events}
 use Rattle.snap_hand.specs.Tables.{fixed_of}
 use Rattle.snap_hand.specs.declared.tables.Tables.{Tables}
 use Rattle.solo_host.specs.Drives.{log_at, IsDriven, tried_on}

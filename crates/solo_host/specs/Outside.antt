@@ -12,7 +12,7 @@ use Rattle.protocol.specs.Fixed.{Fixed}
 use Rattle.protocol.specs.Parts.{Machine}
 use Rattle.protocol.specs.Runs.{IsQuiet, IsRun, reached}
 use Rattle.protocol.specs.Schedule.{IsEnabled, pick}
-use Rattle.protocol_laws.specs.Left.{most_events}
+use Rattle.protocol_theorems.specs.Left.{most_events}
 use Rattle.protocol_schedule.specs.Draw.{draw_of}
 use Rattle.group_sizes.specs.Sizes.{most_bytes}
 use Rattle.record_log.specs.Growth.{end_behind_groups, MayAppendGroup}

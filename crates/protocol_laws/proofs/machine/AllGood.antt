@@ -40,7 +40,7 @@ use Rattle.protocol_laws.proofs.first.PairsFound.{TidsAscend}
 use Rattle.protocol_laws.proofs.machine.PactsTold as pacts
 use Rattle.protocol_laws.proofs.machine.PactsTold.{PactsTold, NoPlaces}
 use Rattle.protocol_laws.proofs.machine.VerdictsSay.{Says}
-use Rattle.protocol_laws.specs.Order.{IsAmongDone}
+use Rattle.protocol_laws.specs.Told.{IsAmongDone}
 use Rattle.snap_base.specs.declared.verdicts.Verdict.{Verdict}
 use Rattle.protocol.specs.Verdicts.{verdict}
 use Rattle.protocol_laws.proofs.first.Leaves as leaves

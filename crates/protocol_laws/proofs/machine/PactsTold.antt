@@ -29,7 +29,7 @@ use Rattle.protocol_laws.proofs.machine.ActsTold.{among_more, among_behind, Acts
 use Rattle.protocol_laws.proofs.first.Lists.{all_found, some_of, weaker}
 use Rattle.protocol_laws.proofs.machine.VerdictsSay as verdicts
 use Rattle.protocol_laws.proofs.machine.VerdictsSay.{Says, IsNoPlace, DoomedWell}
-use Rattle.protocol_laws.specs.Order.{IsAmongDone}
+use Rattle.protocol_laws.specs.Told.{IsAmongDone}
 use Rattle.protocol_laws.proofs.first.Statuses.{committing_not_formed, if_bid}
 use Rattle.protocol_laws.proofs.machine.CommitRecords.{batch_map}
 use Rattle.protocol_laws.proofs.machine.RunOwed.{found_all}

@@ -19,7 +19,7 @@ use Rattle.protocol.specs.Verdicts.{verdict, pact_place, act_place}
 use Rattle.protocol.specs.Runs.{IsRun, reached}
 use Rattle.protocol.specs.History.{Done, History, history}
 use Rattle.protocol_laws.specs.Told.{AmongDone, is_at, ActTold, BatchTold}
-use Rattle.protocol_laws.specs.Order.{IsAmongDone}
+use Rattle.protocol_laws.specs.Told.{IsAmongDone}
 use Rattle.protocol.specs.Moments.{Moment, IsCut, IsLeft, left_in}
 use Rattle.protocol_records.specs.Crash.{is_in, members}
 use Rattle.protocol_laws.proofs.first.Lists.{both_all, filter_join, weaker}

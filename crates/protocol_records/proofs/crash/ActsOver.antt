@@ -23,7 +23,7 @@ use Rattle.protocol_laws.proofs.first.Along.{along}
 use Rattle.protocol_laws.proofs.first.Leaves.{logs_stay}
 use Rattle.protocol_laws.proofs.machine.Good.{Given}
 use Rattle.protocol_laws.proofs.machine.AllGood.{none_allowed}
-use Rattle.protocol_laws.proofs.quiet.ActsKnown as of_acts
+use Rattle.protocol_theorems.proofs.quiet.ActsKnown as of_acts
 use Rattle.protocol_records.proofs.crash.CrashParts.{logs_hold}
 
 record Ended {C : Type 0} (w : Fixed C) (s : Machine C) : Type 0 where

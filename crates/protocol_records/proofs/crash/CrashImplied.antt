@@ -20,11 +20,11 @@ use Rattle.protocol_laws.specs.Commits.{left_as, left_of, StatesLink, last_state
 use Rattle.protocol_laws.specs.Linked.{visitors, IsExplained}
 use Rattle.protocol_records.specs.Crash.{valued, IsFrontOn, members, is_in}
 use Rattle.protocol.specs.Moments.{Moment, IsCut, IsLeft}
-use Rattle.protocol_laws.specs.Order.{OrderFacts}
+use Rattle.protocol_theorems.specs.Order.{OrderFacts}
 use Rattle.protocol_laws.proofs.first.Along.{along}
-use Rattle.protocol_laws.proofs.order.ByPlace.{all_sorted}
+use Rattle.protocol_theorems.proofs.order.ByPlace.{all_sorted}
 use Rattle.protocol_laws.proofs.first.Lists.{all_filter}
-use Rattle.protocol_laws.proofs.order.OrderImplied.{LinkedFrom, serial_results, serial_states, sorted_links, sorted_last, links_visitors, visitors_link}
+use Rattle.protocol_theorems.proofs.order.OrderImplied.{LinkedFrom, serial_results, serial_states, sorted_links, sorted_last, links_visitors, visitors_link}
 use Rattle.protocol_laws.proofs.first.Times
 
 -- ---- who has no value leaves nothing

@@ -23,7 +23,7 @@ use Rattle.protocol_records.specs.Telling.{One, told, AllTells, Telling, FrontIn
 use Rattle.protocol_records.specs.Crash.{is_in, counts, last_told, recovered_state, members, IsFrontOn}
 use Rattle.protocol_laws.proofs.machine.Good.{Given}
 use Rattle.protocol_laws.proofs.machine.AllGood.{AllGood, along_good}
-use Rattle.protocol_laws.proofs.order.LastLaw.{facts_hold}
+use Rattle.protocol_theorems.proofs.order.LastLaw.{facts_hold}
 use Rattle.protocol_records.proofs.crash.Durable.{written_kept}
 use Rattle.protocol_records.proofs.crash.BatchesSure as batches
 use Rattle.protocol_records.proofs.crash.BatchesSure.{Filled}

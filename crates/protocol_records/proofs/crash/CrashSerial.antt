@@ -19,7 +19,7 @@ use Rattle.protocol_laws.specs.Linked.{came_to, visitors}
 use Rattle.protocol.specs.Moments.{Moment, IsCut, IsLeft, left_in}
 use Rattle.protocol_records.specs.Crash.{is_in, members, valued, IsFrontOn}
 use Rattle.protocol_laws.proofs.first.Lists.{filter_join, join_nil}
-use Rattle.protocol_laws.proofs.order.ChainLists.{OfIt}
+use Rattle.protocol_theorems.proofs.order.ChainLists.{OfIt}
 use Rattle.protocol_laws.proofs.machine.Good.{Given, for_chain}
 use Rattle.protocol_laws.proofs.machine.AllGood.{AllGood, owes, along_good}
 use Rattle.protocol_records.proofs.crash.DurableKept.{Durable, has_record, any_take}
@@ -27,7 +27,7 @@ use Rattle.protocol_records.proofs.crash.DurableKept as durable
 use Rattle.protocol_records.proofs.crash.FrontsKept.{Fronts, Split}
 use Rattle.protocol_records.proofs.crash.FrontsKept as fronts
 use Rattle.protocol_records.proofs.crash.CrashImplied.{Members, members_serial, moment_is_cut, front_runs}
-use Rattle.protocol_laws.proofs.order.LastLaw.{all_facts}
+use Rattle.protocol_theorems.proofs.order.LastLaw.{all_facts}
 use Rattle.protocol.specs.Rests.{IsRest, IsTxIn, HasFacts}
 
 -- ---- along a run

@@ -28,7 +28,7 @@ use Rattle.protocol_laws.proofs.machine.ControlWalk.{AllControls}
 use Rattle.protocol_laws.proofs.machine.ActResults as results
 use Rattle.protocol_laws.proofs.machine.ActResults.{NoneActed}
 use Rattle.protocol_laws.proofs.machine.ActsKept.{Acts}
-use Rattle.protocol_laws.proofs.order.RunsBefore.{batch_back, batch_more, if_open}
+use Rattle.protocol_theorems.proofs.order.RunsBefore.{batch_back, batch_more, if_open}
 use Rattle.protocol_laws.proofs.first.Statuses.{if_bid, if_tid}
 use Rattle.protocol_records.proofs.crash.Durable.{take_more}
 

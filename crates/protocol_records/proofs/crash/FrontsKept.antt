@@ -22,7 +22,7 @@ use Rattle.protocol_records.specs.Crash.{valued}
 use Rattle.protocol_laws.proofs.machine.TrackLists.{is_who_true, is_who_refl}
 use Rattle.protocol_laws.proofs.machine.CommitsKept.{beside_carried, Committed, MayCommit, MayDecide}
 use Rattle.protocol_laws.proofs.machine.CommitsKept as chain
-use Rattle.protocol_laws.proofs.order.ChainLists.{OfIt}
+use Rattle.protocol_theorems.proofs.order.ChainLists.{OfIt}
 use Rattle.protocol_records.proofs.crash.DurableKept.{AllGone, Durable, has_record, record_stays, is_settled_batch}
 use Rattle.snap_base.specs.declared.transactions.State.{State}
 use Rattle.snap_base.specs.declared.transactions.Tx.{Tx}
@@ -41,7 +41,7 @@ use Rattle.protocol_laws.proofs.machine.BatchesCommit.{list_all_at}
 use Rattle.protocol_laws.proofs.machine.ActsOwed.{firm_ahead}
 use Rattle.protocol_laws.proofs.machine.AllGood.{AllGood}
 use Rattle.protocol_laws.proofs.first.Lists.{all_filter, all_join, filter_join, join_nil, weaker}
-use Rattle.protocol_laws.proofs.order.ChainsKept.{batch_of_it}
+use Rattle.protocol_theorems.proofs.order.ChainsKept.{batch_of_it}
 
 -- ---- on the long schedule, standing or gone
 

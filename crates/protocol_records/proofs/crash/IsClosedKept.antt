@@ -21,13 +21,13 @@ use Rattle.protocol_laws.proofs.first.Lists.{all_back, all_filter, all_mid, filt
 use Rattle.protocol_laws.proofs.machine.Good.{Given, for_chain}
 use Rattle.protocol_laws.proofs.machine.AllGood.{owes, along_good, none_allowed}
 use Rattle.protocol_laws.proofs.machine.CommitsKept as committing
-use Rattle.protocol_laws.proofs.order.ChainsKept.{Chained, IsOver, no_done}
-use Rattle.protocol_laws.proofs.order.RunsBefore.{lives}
+use Rattle.protocol_theorems.proofs.order.ChainsKept.{Chained, IsOver, no_done}
+use Rattle.protocol_theorems.proofs.order.RunsBefore.{lives}
 use Rattle.protocol_records.proofs.crash.TidsDiffer.{TidsDiffer, Owned, NotDone, pairs}
 use Rattle.protocol_records.proofs.crash.TidsDiffer as tids
-use Rattle.protocol_laws.proofs.order.LastLaw.{Whole, whole}
-use Rattle.protocol_laws.proofs.order.LastLaw as last
-use Rattle.protocol_laws.proofs.order.OrderLaw.{committed_grows}
+use Rattle.protocol_theorems.proofs.order.LastLaw.{Whole, whole}
+use Rattle.protocol_theorems.proofs.order.LastLaw as last
+use Rattle.protocol_theorems.proofs.order.OrderLaw.{committed_grows}
 use Rattle.protocol_records.proofs.crash.FrontsKept.{valued_join}
 use Rattle.protocol_records.proofs.crash.CrashImplied.{moment_is_cut, front_runs, members_valued}
 use Rattle.protocol_records.proofs.crash.CrashSerial.{recovers, front_at, members_recover}

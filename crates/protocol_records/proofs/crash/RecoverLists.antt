@@ -17,7 +17,7 @@ use Rattle.protocol_records.proofs.crash.OnLong.{on_key}
 use Rattle.protocol_records.proofs.crash.TellLists.{linked_end, none_later, not_gone}
 use Rattle.protocol_records.proofs.crash.Durable.{any_back}
 use Rattle.protocol_laws.proofs.first.Lists.{all_join, any_front, any_join, filter_join, join_assoc, weaker}
-use Rattle.protocol_laws.proofs.sets.RowsAgree.{filter_same}
+use Rattle.protocol_theorems.proofs.sets.RowsAgree.{filter_same}
 use Rattle.protocol_records.proofs.crash.ActPlaces.{both}
 
 -- ---- the state that is told when it commits

@@ -12,11 +12,11 @@ use Rattle.protocol.specs.Effects.{after}
 use Rattle.protocol.specs.OnRing as ring
 use Rattle.protocol.specs.History.{History, Done, grown, with_at, done_pact, done_batch, done_act}
 use Rattle.protocol_laws.specs.Told.{PactsAscend}
-use Rattle.protocol_laws.specs.Placed.{has_done}
+use Rattle.protocol_theorems.specs.Placed.{has_done}
 use Rattle.protocol_laws.proofs.machine.TrackLists.{is_who_refl}
 use Rattle.protocol_laws.proofs.machine.CommitsKept as chain
 use Rattle.protocol_laws.proofs.machine.TrailsKept.{new_tids}
-use Rattle.protocol_laws.proofs.order.NamesKept.{Named, IsNamed, AllNamed, owned_below}
+use Rattle.protocol_theorems.proofs.order.NamesKept.{Named, IsNamed, AllNamed, owned_below}
 use Rattle.protocol_laws.proofs.first.Lists.{all_join, all_found, weaker, both_all}
 
 abbrev pub TidsDiffer : List Done → Type 0

@@ -26,7 +26,7 @@ use Rattle.protocol_laws.proofs.machine.AllGood.{AllGood}
 use Rattle.protocol_records.proofs.crash.RecoversKept.{named_batch, named_act}
 use Rattle.protocol_records.proofs.crash.OnceKept.{batch_new, act_new}
 use Rattle.protocol_records.proofs.crash.NoneBehind.{Both}
-use Rattle.protocol_laws.proofs.quiet.SubPlaces.{new_batch}
+use Rattle.protocol_theorems.proofs.quiet.SubPlaces.{new_batch}
 use Rattle.protocol_records.proofs.recording.RecordLists.{of_any, count_added, all_synced, none_counted}
 use Rattle.protocol_records.proofs.recording.TellsTids.{AtHome}
 

@@ -32,7 +32,7 @@ use Rattle.protocol_laws.proofs.machine.ActsFound.{HoldsOpen}
 use Rattle.protocol_laws.proofs.machine.ActResults.{ActsDrawn}
 use Rattle.protocol_laws.proofs.machine.Good.{Given}
 use Rattle.protocol_laws.proofs.machine.AllGood.{AllGood, drawn}
-use Rattle.protocol_laws.proofs.quiet.JoinsKept.{Joins, actors_marked, apart_more, asks_new}
+use Rattle.protocol_theorems.proofs.quiet.JoinsKept.{Joins, actors_marked, apart_more, asks_new}
 use Rattle.protocol_records.proofs.recording.FewLists.{no_more_than}
 use Rattle.protocol_laws.proofs.machine.Resting.{numbered_from}
 

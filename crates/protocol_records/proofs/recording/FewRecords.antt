@@ -21,7 +21,7 @@ use Rattle.protocol.specs.OnRing as ring
 use Rattle.protocol.specs.OnDesk as desk
 use Rattle.protocol.specs.Runs.{opening, IsRun, reached}
 use Rattle.protocol.specs.History.{History, no_history, history}
-use Rattle.protocol_laws.specs.Left.{total}
+use Rattle.protocol_theorems.specs.Left.{total}
 use Rattle.protocol_records.specs.RecordLaws.{RecordKey, OfInfo, OfComplete, OfCommit, OfPrepare, OfActCommit, has_key, all_records, batch_actors, act_actors, TellsOf, RecordsTell, most_of_batches, most_of_acts, RecordsAreFew}
 use Rattle.protocol_laws.proofs.first.Frames.{frame}
 use Rattle.protocol_laws.proofs.first.Lists.{all_join, all_alike, any_front, weaker}
@@ -35,17 +35,17 @@ use Rattle.protocol_laws.proofs.machine.TurnsKept.{one_is}
 use Rattle.protocol_laws.proofs.machine.Good.{Given}
 use Rattle.protocol_laws.proofs.machine.AllGood.{all_good, along_good}
 use Rattle.protocol_records.proofs.crash.Durable.{any_back}
-use Rattle.protocol_laws.proofs.quiet.JoinsKept.{Joins, joins_kept}
-use Rattle.protocol_laws.proofs.quiet.LeftParts.{count_some, declarers}
-use Rattle.protocol_laws.proofs.quiet.RunsEnd.{small}
+use Rattle.protocol_theorems.proofs.quiet.JoinsKept.{Joins, joins_kept}
+use Rattle.protocol_theorems.proofs.quiet.LeftParts.{count_some, declarers}
+use Rattle.protocol_theorems.proofs.quiet.RunsEnd.{small}
 use Rattle.protocol_records.proofs.recording.FewActors.{Visited, visited_kept, FewActs, few_acts_kept}
 use Rattle.protocol_records.proofs.recording.FewLists.{no_more_than, no_more_than_keys}
 use Rattle.protocol_records.proofs.recording.RecordLists.{in_all}
 use Rattle.protocol_records.proofs.recording.AddedOnce.{OnceKeys}
 use Rattle.protocol_records.proofs.recording.RecordsHold.{Records, records_hold, records_opened, tells_of, tells_opened, of_runs}
 use Rattle.protocol_laws.proofs.first.Controls.{at_most_one}
-use Rattle.protocol_laws.proofs.order.NamesKept.{numbered_length}
-use Rattle.protocol_laws.proofs.quiet.SizesHold.{some_taken}
+use Rattle.protocol_theorems.proofs.order.NamesKept.{numbered_length}
+use Rattle.protocol_theorems.proofs.quiet.SizesHold.{some_taken}
 
 -- ---- the keys that records may have
 

@@ -9,7 +9,7 @@ use Rattle.protocol.specs.Words.{count, batch_of}
 use Rattle.protocol.specs.Effects.{no_log, added, synced}
 use Rattle.protocol_records.specs.RecordLaws.{all_records}
 use Rattle.protocol_laws.proofs.first.Lists.{all_join, set_each}
-use Rattle.protocol_laws.proofs.quiet.SubPlaces.{count_join}
+use Rattle.protocol_theorems.proofs.quiet.SubPlaces.{count_join}
 
 -- ---- a fact of each record and its log
 

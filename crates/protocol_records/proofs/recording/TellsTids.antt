@@ -30,7 +30,7 @@ use Rattle.protocol_laws.proofs.machine.ActsFound as acts
 use Rattle.protocol_records.proofs.crash.ActPlaces.{fact_stays}
 use Rattle.protocol_records.proofs.crash.ActsSure.{found_changed}
 use Rattle.protocol_records.proofs.crash.CrashParts.{no_records}
-use Rattle.protocol_laws.proofs.quiet.SubPlaces.{new_batch}
+use Rattle.protocol_theorems.proofs.quiet.SubPlaces.{new_batch}
 use Rattle.protocol_records.proofs.recording.RecordLists.{each_added, each_synced, found_alike, found_more}
 use Rattle.protocol_laws.proofs.first.Lists.{weaker, some_held}
 use Rattle.protocol_laws.proofs.machine.ActsFound.{HoldsAnyway}

@@ -22,7 +22,8 @@ use Rattle.protocol_laws.specs.Commits.{Finds, left_as, left_of, StatesLink, las
 use Rattle.protocol_laws.specs.Marks.{Marked}
 use Rattle.protocol.specs.Chains.{by_place, put_by_place, is_place_below, txs_of, IsBelowAll, PlacesRise}
 use Rattle.protocol_laws.specs.Linked.{IsExplained, came_to, visitors}
-use Rattle.protocol_laws.specs.Order.{IsAmongDone, OrderStands}
+use Rattle.protocol_laws.specs.Told.{IsAmongDone}
+use Rattle.protocol_theorems.specs.Order.{OrderStands}
 use Rattle.protocol_verdicts.specs.EvidenceSerial.{HasResultThere, counts, counted, world_before, ByTid}
 use Rattle.protocol_laws.proofs.first.Lists.{all_filter, all_found, both_all, some_held}
 use Rattle.protocol_laws.proofs.machine.MarksKept as marks
@@ -33,16 +34,16 @@ use Rattle.protocol_laws.proofs.machine.PlacesKept.{Placed}
 use Rattle.protocol_laws.proofs.machine.CommitLists.{goes_on}
 use Rattle.protocol_laws.proofs.machine.CommitsKept.{Committed, all_views}
 use Rattle.protocol_laws.proofs.machine.BatchesCommit.{Numbered, GoodKey, good_keys, batch_slices, of_pacts}
-use Rattle.protocol_laws.proofs.order.NamesKept.{Named, AllNamed}
-use Rattle.protocol_laws.proofs.order.RunsBefore.{is_open_with}
-use Rattle.protocol_laws.proofs.order.SlicesKept.{runs, Matched}
-use Rattle.protocol_laws.proofs.order.ViewsExplain.{Tied, own_slices, own_linked, views_explain}
-use Rattle.protocol_laws.proofs.order.ExplainedKept.{EndsAs, Results, AllExplained, all_names, all_of_names, with_result_of}
+use Rattle.protocol_theorems.proofs.order.NamesKept.{Named, AllNamed}
+use Rattle.protocol_theorems.proofs.order.RunsBefore.{is_open_with}
+use Rattle.protocol_theorems.proofs.order.SlicesKept.{runs, Matched}
+use Rattle.protocol_theorems.proofs.order.ViewsExplain.{Tied, own_slices, own_linked, views_explain}
+use Rattle.protocol_theorems.proofs.order.ExplainedKept.{EndsAs, Results, AllExplained, all_names, all_of_names, with_result_of}
 use Rattle.protocol_laws.proofs.machine.PlacesRise.{IsSided, PlacesStand, below_open}
-use Rattle.protocol_laws.proofs.order.ByPlace.{all_sorted}
-use Rattle.protocol_laws.proofs.order.OrderImplied.{LinkedFrom, serial_results, serial_length, serial_states, sorted_links, sorted_last, left_none}
+use Rattle.protocol_theorems.proofs.order.ByPlace.{all_sorted}
+use Rattle.protocol_theorems.proofs.order.OrderImplied.{LinkedFrom, serial_results, serial_length, serial_states, sorted_links, sorted_last, left_none}
 use Rattle.protocol_laws.proofs.machine.Good.{Good}
-use Rattle.protocol_laws.proofs.order.OrderLaw.{Ordered}
+use Rattle.protocol_theorems.proofs.order.OrderLaw.{Ordered}
 use Rattle.protocol_verdicts.proofs.evidence.EvidenceAhead.{ahead_ran, pacts_link}
 use Rattle.protocol.specs.Rests.{IsTxIn}
 use Rattle.protocol_laws.proofs.first.Statuses.{settled_not_formed, value_some}

@@ -22,7 +22,7 @@ use Rattle.protocol.specs.History.{History, Done, no_history, history, history_a
 use Rattle.protocol_laws.specs.Told.{is_at, PactTold}
 use Rattle.protocol_laws.specs.Commits.{is_kept}
 use Rattle.protocol_laws.specs.Marks.{Marked, Known}
-use Rattle.protocol_laws.specs.Order.{IsAmongDone}
+use Rattle.protocol_laws.specs.Told.{IsAmongDone}
 use Rattle.protocol_verdicts.specs.Evidence.{Gives, IsGiven, Fails, VerdictsStand}
 use Rattle.protocol_verdicts.specs.EvidenceSerial.{counts, FailsInSerial, FailedAt, VerdictsTell, IsCommittedPact, IsCommittedAct}
 use Rattle.protocol_verdicts.proofs.evidence.EvidenceCommitted.{committed_is}
@@ -39,7 +39,7 @@ use Rattle.protocol_laws.proofs.machine.Higher.{higher}
 use Rattle.protocol_laws.proofs.machine.ActsTold.{ActsTold}
 use Rattle.protocol_laws.proofs.machine.PactsTold.{PactsTold, among}
 use Rattle.protocol_laws.proofs.machine.MarksKept.{found_bid}
-use Rattle.protocol_laws.proofs.order.LastLaw.{whole, order_of_runs}
+use Rattle.protocol_theorems.proofs.order.LastLaw.{whole, order_of_runs}
 use Rattle.protocol_verdicts.proofs.evidence.EvidenceSerial.{result_there, pacts_serial, next_settled, by_tid_of}
 use Rattle.protocol_verdicts.proofs.evidence.EvidenceRuns.{verdicts_stand}
 use Rattle.protocol.specs.Rests.{IsRest, IsTxIn}

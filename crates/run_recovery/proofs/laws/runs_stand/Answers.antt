@@ -5,7 +5,7 @@ use Rattle.machine_laws.specs.Meant.{CommittedAsMeant, VerdictsAsMeant}
 use Rattle.machine_laws.specs.Programs.{finish_of}
 use Rattle.protocol.specs.History.{history}
 use Rattle.protocol.specs.Runs.{reached}
-use Rattle.protocol_laws.specs.Quiet.{AnsweredWhenQuiet}
+use Rattle.protocol_theorems.specs.Quiet.{AnsweredWhenQuiet}
 use Rattle.protocol_verdicts.specs.Evidence.{VerdictsStand}
 use Rattle.run_recovery.specs.Crashes.{Recovers}
 use Rattle.run_recovery.specs.Runs.{machine_of, text_of}

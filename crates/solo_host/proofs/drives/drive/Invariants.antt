@@ -1,6 +1,6 @@
 use Rattle.std.proofs.Common.{◌≡◌, ◌-◌, ◌*◌, length, map}
 use Rattle.core_events.specs.Meant.{event_meant}
-use Rattle.protocol_laws.specs.Left.{most_events}
+use Rattle.protocol_theorems.specs.Left.{most_events}
 use Rattle.snap_core.specs.Cores.{IsAt}
 use Rattle.snap_hand.specs.Tables.{fixed_of}
 use Rattle.solo_host.specs.Outside.{outside}

@@ -1,5 +1,0 @@
-use Rattle.protocol_laws.proofs.quiet.SizesHold.{sizes_hold}
-use Rattle.protocol_laws.proofs.actors.sizes_hold.Goals as goal
-
-pub returns : goal.returns
-returns g c = sizes_hold

@@ -1,5 +1,0 @@
-use Rattle.protocol_laws.proofs.halves.HalvesGoOn.{halves_go_on}
-use Rattle.protocol_laws.proofs.books.halves_go_on.Goals as goal
-
-pub returns : goal.returns
-returns g c = halves_go_on

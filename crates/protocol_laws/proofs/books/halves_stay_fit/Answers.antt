@@ -1,5 +1,0 @@
-use Rattle.protocol_laws.proofs.halves.HalvesGoOn.{step}
-use Rattle.protocol_laws.proofs.books.halves_stay_fit.Goals as goal
-
-pub returns : goal.returns
-returns g c = step

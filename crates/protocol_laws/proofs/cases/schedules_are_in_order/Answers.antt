@@ -1,5 +1,0 @@
-use Rattle.protocol_laws.proofs.quiet.SchedulesHold.{schedules_hold}
-use Rattle.protocol_laws.proofs.cases.schedules_are_in_order.Goals as goal
-
-pub returns : goal.returns
-returns g c = schedules_hold

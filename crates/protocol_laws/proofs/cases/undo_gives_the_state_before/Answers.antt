@@ -1,5 +1,0 @@
-use Rattle.protocol_laws.proofs.machine.UndoGives.{undo_gives}
-use Rattle.protocol_laws.proofs.cases.undo_gives_the_state_before.Goals as goal
-
-pub returns : goal.returns
-returns g c = undo_gives

@@ -1,5 +1,0 @@
-use Rattle.protocol_laws.proofs.bounds.Boxes.{batches_have_actors}
-use Rattle.protocol_laws.proofs.parts.batches_have_actors.Goals as goal
-
-pub returns : goal.returns
-returns g c = batches_have_actors

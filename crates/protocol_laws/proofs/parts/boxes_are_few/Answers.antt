@@ -1,5 +1,0 @@
-use Rattle.protocol_laws.proofs.bounds.Boxes.{boxes_are_few}
-use Rattle.protocol_laws.proofs.parts.boxes_are_few.Goals as goal
-
-pub returns : goal.returns
-returns g c = boxes_are_few

@@ -1,5 +1,0 @@
-use Rattle.protocol_laws.proofs.bounds.RestsInBoxes.{controls_are_rests}
-use Rattle.protocol_laws.proofs.parts.controls_are_rests.Goals as goal
-
-pub returns : goal.returns
-returns g c = controls_are_rests

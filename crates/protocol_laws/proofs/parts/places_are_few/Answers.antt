@@ -1,5 +1,0 @@
-use Rattle.protocol_laws.proofs.bounds.FewPlaces.{places_are_few}
-use Rattle.protocol_laws.proofs.parts.places_are_few.Goals as goal
-
-pub returns : goal.returns
-returns g c = places_are_few

@@ -1,5 +1,0 @@
-use Rattle.protocol_laws.proofs.quiet.QuietLaw.{order_law}
-use Rattle.protocol_laws.proofs.theorems.committed_transactions_are_in_order.Goals as goal
-
-pub returns : goal.returns
-returns g c = order_law

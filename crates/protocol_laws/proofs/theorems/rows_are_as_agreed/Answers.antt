@@ -1,5 +1,0 @@
-use Rattle.protocol_laws.proofs.sets.RowsLaw.{rows_law}
-use Rattle.protocol_laws.proofs.theorems.rows_are_as_agreed.Goals as goal
-
-pub returns : goal.returns
-returns g c = rows_law

@@ -1,0 +1,12 @@
+pub mod BookFits
+pub mod Bounds
+pub mod Controls
+pub mod Floors
+pub mod Left
+pub mod OnActors
+pub mod Order
+pub mod OrderCases
+pub mod Placed
+pub mod Quiet
+pub mod Sets
+pub mod Sizes

@@ -1,0 +1,61 @@
+-- The order of committed transactions: what every run owes of it.
+use Rattle.std.specs.Prelude.{◌≡◌, ℕ, ℤ, ◌<◌, Some, List, length, map}
+use Rattle.std.specs.List.{AllByRecursion}
+use Rattle.snap_base.specs.declared.transactions.State.{State}
+use Rattle.snap_base.specs.declared.transactions.TxResult.TheVariants.{Value, Fail}
+use Rattle.snap_base.specs.declared.verdicts.Place.{Place}
+use Rattle.snap_base.specs.declared.verdicts.Verdict.TheVariants as verdicts
+use Rattle.protocol.specs.Fixed.{Fixed}
+use Rattle.protocol.specs.Facts.{Alone, state_in}
+use Rattle.protocol.specs.Parts.{Machine}
+use Rattle.protocol.specs.Verdicts.{verdict, ended_at}
+use Rattle.protocol.specs.Effects.{cell_at}
+use Rattle.protocol.specs.Runs.{IsQuiet}
+use Rattle.protocol.specs.History.{History}
+use Rattle.protocol.specs.Chains.{chain, by_place, PlacesRise, IsSerial, serial_run}
+use Rattle.protocol_laws.specs.Commits.{StatesLink, last_state}
+use Rattle.protocol_laws.specs.Linked.{IsExplained, PlacesDiffer, visitors}
+use Rattle.protocol_laws.specs.Told.{IsAmongDone}
+
+-- ---- the last law
+
+pub record OrderStands {C : Type 0} (w : Fixed C) (finish : C → List State → Alone) (s : Machine C) (h : History) : Type 0 where
+  -- run one after the other in the order of places, the committed transactions give the results that they had
+  pub serial : IsSerial w finish h.committed
+  -- no two places are equal
+  pub rise : PlacesRise (by_place h.committed)
+  -- on each actor places rise in the order in which they were placed there, and states link
+  pub chains_rise : (a : ℕ) → a < length w.text.opening.states → PlacesRise (chain a h)
+  pub chains_link : (a : ℕ) → a < length w.text.opening.states → StatesLink a (state_in w.text.opening.states a) (chain a h)
+  -- who is told that it committed, or failed by its own code, at a place, is one of them
+  pub told_value : (n : ℕ) (p : Place) (v : ℤ) → verdict n s.book s.desk ≡ Some (verdicts.Committed p v) → IsAmongDone n p (Value v) h.committed
+  pub told_code : (n : ℕ) (p : Place) (c : ℕ) → verdict n s.book s.desk ≡ Some (verdicts.Code p c) → IsAmongDone n p (Fail c) h.committed
+
+pub record OrderHolds {C : Type 0} (w : Fixed C) (finish : C → List State → Alone) (s : Machine C) (h : History) : Type 0 where
+  pub stands : OrderStands w finish s h
+  -- in a quiet state each of them is told so, and the actors have the states that the serial run leaves
+  pub all_told : IsQuiet w s → AllByRecursion (λ d. verdict d.tx s.book s.desk ≡ ended_at d.place d.result) h.committed
+  pub last_states : IsQuiet w s → map (λ c. c.state) s.cells ≡ (serial_run w finish h.committed).world
+
+-- ---- what implies it
+
+-- Facts on the history, all of them at one actor each or at one transaction.
+pub record OrderFacts {C : Type 0} (w : Fixed C) (finish : C → List State → Alone) (s : Machine C) (h : History) : Type 0 where
+  -- what each found explains its result
+  pub explained : AllByRecursion (IsExplained w finish) h.committed
+  -- in the order of commits states link on each actor, and places rise
+  pub linked : (a : ℕ) → a < length w.text.opening.states → StatesLink a (state_in w.text.opening.states a) h.committed
+  pub rise : (a : ℕ) → a < length w.text.opening.states → PlacesRise (visitors a h.committed)
+  pub differ : PlacesDiffer h.committed
+  -- the order of placing is the order of commits
+  pub chains : (a : ℕ) → a < length w.text.opening.states → chain a h ≡ visitors a h.committed
+  -- verdicts are of them
+  pub told_value : (n : ℕ) (p : Place) (v : ℤ) → verdict n s.book s.desk ≡ Some (verdicts.Committed p v) → IsAmongDone n p (Value v) h.committed
+  pub told_code : (n : ℕ) (p : Place) (c : ℕ) → verdict n s.book s.desk ≡ Some (verdicts.Code p c) → IsAmongDone n p (Fail c) h.committed
+
+-- Facts on quiet states.
+pub record QuietFacts {C : Type 0} (w : Fixed C) (s : Machine C) (h : History) : Type 0 where
+  pub cells : length s.cells ≡ length w.text.opening.states
+  pub all_told : IsQuiet w s → AllByRecursion (λ d. verdict d.tx s.book s.desk ≡ ended_at d.place d.result) h.committed
+  -- in a quiet state nothing else left its state
+  pub quiet_states : IsQuiet w s → (a : ℕ) → a < length w.text.opening.states → (cell_at s a).state ≡ last_state a (state_in w.text.opening.states a) h.committed
