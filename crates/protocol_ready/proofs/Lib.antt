@@ -4,6 +4,9 @@ pub mod Listing
 pub mod Offered
 pub mod Ordered
 pub mod PartsTold
+pub mod Reached
+pub mod Refused
+pub mod Renewed
 pub mod Revised
 pub mod Sound
 pub mod TouchedActs

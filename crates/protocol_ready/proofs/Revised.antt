@@ -10,7 +10,7 @@ use Rattle.protocol.specs.Effects.{after}
 use Rattle.protocol.specs.Schedule.{rank, is_rank_below, Ascends, IsEnabled}
 use Rattle.protocol_ready.specs.Touched.{IsSound, is_touched}
 use Rattle.protocol_ready.specs.Lying.{live}
-use Rattle.protocol_ready.specs.Ready.{put_or_take, revised, touched, looked, AreEnough, AreRenewed, AreAll}
+use Rattle.protocol_ready.specs.Ready.{put_or_take, without, revised, touched, looked, AreEnough, AreRenewed, AreAll}
 use Rattle.protocol_ready.proofs.Cited.{Framed, Ruled}
 use Rattle.protocol_ready.proofs.Listing.{Has, from_has, to_has, has_left, has_right, has_filter, from_filter}
 use Rattle.protocol_ready.proofs.TouchedParts.{control_stays}
@@ -19,18 +19,31 @@ use Rattle.protocol_ready.proofs.Ordered.{is_less, compared, one_event, put_has,
 
 -- ---- two events are the same or not
 
-are_apart : Event → Event → Bool
+pub are_apart : Event → Event → Bool
 are_apart x e = is_rank_below (rank x) (rank e) || is_rank_below (rank e) (rank x)
 
-apart : (x e : Event) → are_apart x e ≡ true → x ≡ e → ⊥
+pub apart : (x e : Event) → are_apart x e ≡ true → x ≡ e → ⊥
 unfolding are_apart
 apart x e h q = elim (or_cases _ _ (subst (λ y. (is_rank_below (rank y) (rank e) || is_rank_below (rank e) (rank y)) ≡ true) q h)) [ inl a ↦ not_itself (rank e) a | inr b ↦ not_itself (rank e) b ]
 
-same_or_apart : (x e : Event) → (x ≡ e) ⊎ (are_apart x e ≡ true)
+pub same_or_apart : (x e : Event) → (x ≡ e) ⊎ (are_apart x e ≡ true)
 unfolding are_apart
 same_or_apart x e = elim (compared (rank x) (rank e)) [
   | inl a ↦ inr (or_left _ _ (is_less (rank x) (rank e) a))
   | inr o ↦ elim o [ inl b ↦ inr (or_right (is_rank_below (rank x) (rank e)) _ (is_less (rank e) (rank x) b)) | inr q ↦ inl (one_event x e q) ]
+]
+
+pub from_without : (e : Event) (es : List Event) (f : Event) → Contains (without e es) f → Contains es f × (f ≡ e → ⊥)
+unfolding are_apart
+from_without e es f h =
+    let r = from_filter (λ x. is_rank_below (rank x) (rank e) || is_rank_below (rank e) (rank x)) es f (to_has (without e es) f h) in
+    (from_has es f r.0, apart f e r.1)
+
+pub in_without : (e : Event) (es : List Event) (f : Event) → Contains es f → Contains (without e es) f ⊎ (f ≡ e)
+unfolding are_apart
+in_without e es f h = elim (same_or_apart f e) [
+  | inl q ↦ inr q
+  | inr d ↦ inl (from_has (without e es) f (has_filter (λ x. is_rank_below (rank x) (rank e) || is_rank_below (rank e) (rank x)) es f (to_has es f h) d))
 ]
 
 has_or_not : (es : List Event) (g : Event) → Has es g ⊎ (Has es g → ⊥)

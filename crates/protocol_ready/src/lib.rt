@@ -5,9 +5,11 @@
 
 mod laws;
 mod order;
+mod refusing;
 
 pub use laws::{
     allowed_lies_there, enabled_is_found, enabled_is_kept, enabled_is_renewed, parts_tell_all,
     states_are_sound, unlooked_stay, untouched_stay,
 };
-pub use order::{events_stay_in_order, one_is_put, ranks_are_in_order};
+pub use order::{events_stay_in_order, one_is_put, one_is_taken, ranks_are_in_order};
+pub use refusing::{out_of_reach_stay, renewed_are_enabled};

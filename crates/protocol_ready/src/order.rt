@@ -23,3 +23,9 @@ pub fn events_stay_in_order()
 pub fn one_is_put()
     ensures { (e : Event) (es : List Event) (f : Event) → Contains (put e es) f ↔ ((f ≡ e) ⊎ Contains es f) }
 {}
+
+/// With an event taken out there are just the others.
+pub fn one_is_taken()
+    ensures others { (e : Event) (es : List Event) (f : Event) → Contains (without e es) f → Contains es f × (f ≡ e → ⊥) }
+    ensures kept { (e : Event) (es : List Event) (f : Event) → Contains es f → Contains (without e es) f ⊎ (f ≡ e) }
+{}

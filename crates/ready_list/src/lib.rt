@@ -5,6 +5,8 @@
 #![tactic(auto)]
 
 mod places;
+mod reach;
 mod ready;
 
+pub use reach::Reach;
 pub use ready::ReadyList;

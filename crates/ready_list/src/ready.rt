@@ -67,8 +67,8 @@ impl ReadyList {
         Ok(())
     }
 
-    // Where the event is, or would go.
-    fn gap(&self, e: Event) -> usize
+    /// Where the event is, or would go.
+    pub fn gap(&self, e: Event) -> usize
         ensures { IsGap self.now.events (event_meant e) result }
     {
         ranks_are_in_order();

@@ -1,4 +1,4 @@
-use Rattle.std.proofs.Common.{◌∷◌, sym, inl, inr}
+use Rattle.std.proofs.Common.{sym, inl, inr}
 use Rattle.protocol_ready.specs.Ready.{put}
 use Rattle.protocol_ready.proofs.Listing.{from_has, to_has}
 use Rattle.protocol_ready.proofs.Ordered.{put_from, put_has}

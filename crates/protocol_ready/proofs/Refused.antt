@@ -1,0 +1,258 @@
+-- What an event may not refuse stays allowed.
+use Rattle.std.specs.Prelude.{◌≡◌, refl, ℕ, zero, suc, ◌%◌, ◌==◌, is_some, Bool, true, false, not, ◌&&◌, ◌||◌, if◌then◌else◌, Option, Some, None, List, [], ◌∷◌, ◌++◌, length, map, filter, slice_get}
+use Rattle.std.specs.List.{list_all}
+use Rattle.std.proofs.Common.{sym, ap, subst, ◌∙◌}
+use Rattle.std.proofs.lemmas.Bool.{eqb-true, or_parts, true≢false}
+use Rattle.protocol.specs.Fixed.{Fixed}
+use Rattle.protocol.specs.Records.{LogRecord, is_info, is_complete, is_commit, is_prepare, is_act_commit}
+use Rattle.protocol.specs.Parts.{Who, OfBatch, OfAct, Status, Live, Doomed, Decided, Sealed, Act, Joined, Batch, ControlMessage, Log, Machine}
+use Rattle.protocol.specs.Events.{Event, Submit, Pass, Form, Admit, Arrive, Ask, Take, Run, Send, End, Close, Complete, Sync, Note, Commit, Settle, Abort, Rollback, DropSub, DropControl, Prepare, Vouch, Decide, Seal, Finish, Reply, Trim}
+use Rattle.protocol.specs.Words.{is_empty, holds, count, is_value, is_aborted, is_doomed, is_decided, act_of, joined_of, is_live_act, is_finished_everywhere, is_live_batch, is_next_to_commit, is_durable, control_of}
+use Rattle.protocol.specs.Verdicts.{verdict}
+use Rattle.protocol.specs.Conditions.{AllTrue, IsAllowed, conditions, is_given_up}
+use Rattle.protocol.specs.Contents.{Content, Statuses, FinishedMarks, AbortedMarks, TrimmedMarks, IsSame, is_changed}
+use Rattle.protocol.specs.Effects.{after}
+use Rattle.protocol.specs.Runs.{EachAllowed, state_after, reached, opening}
+use Rattle.protocol_verdicts.specs.Evidence.{VerdictsStay}
+use Rattle.snap_base.specs.declared.verdicts.Verdict.{Verdict}
+use Rattle.protocol_laws.specs.OneWay.{EachBecame, ActWent, LogGrew, StatusWent, WentOn}
+use Rattle.protocol_ready.specs.Touched.{IsSound, is_abort, reads_changed, changes_note, changes_trim, changes_replied}
+use Rattle.protocol_ready.specs.Refusing.{actor_of, tid_of, bid_of, is_at, is_on_ring, is_form, spreads, may_free, is_on_batches, is_settle, is_in_reach}
+use Rattle.protocol_ready.proofs.Cited.{Framed}
+use Rattle.protocol_ready.proofs.Reached as reach
+use Rattle.protocol_ready.proofs.Reached.{not_or}
+use Rattle.protocol_ready.proofs.TouchedEvents.{untouched}
+use Rattle.protocol_ready.proofs.TouchedParts.{control_stays}
+use Rattle.protocol_ready.proofs.TouchedActs.{act_test, plain, vouch_bears}
+use Rattle.protocol_ready.proofs.TouchedBatches.{open_test, note_test, trim_test, commits_test, pacts_test, noted_test, replied_stays, cascades_stay}
+use Rattle.protocol_ready.proofs.TouchedVerdicts.{next_stays}
+
+-- ---- how many are live
+
+abbrev pub are_left : List Bool → Status → Bool
+are_left marks st = if is_empty marks then is_doomed st else list_all (λ b. b) marks
+
+all_marks : {X : Type 0} (f : X → Bool) (xs : List X) → list_all f xs ≡ list_all (λ b. b) (map f xs)
+all_marks f [] = refl
+all_marks f (x ∷ xs) = rw (all_marks f xs) refl
+
+finished_as : (x : Act) → is_finished_everywhere x ≡ are_left (map (λ p. p.finished) x.places) x.status
+finished_as x = by x.places
+  where
+    by : (ps : List Joined) → (if is_empty ps then is_doomed x.status else list_all (λ p. p.finished) ps) ≡ are_left (map (λ p. p.finished) ps) x.status
+    by [] = refl
+    by (p ∷ ps) = rw (all_marks (λ p. p.finished) ps) refl
+
+act_as : (x y : Act) → map (λ p. p.finished) y.places ≡ map (λ p. p.finished) x.places → y.status ≡ x.status → is_live_act y ≡ is_live_act x
+act_as x y e f = ap not (finished_as y ∙ rw (e, f) refl ∙ sym (finished_as x))
+
+batch_as : (x y : Batch) → map (λ p. p.trimmed) y.places ≡ map (λ p. p.trimmed) x.places → y.aborted ≡ x.aborted → is_live_batch y ≡ is_live_batch x
+batch_as x y e f = rw (f, all_marks (λ p. p.trimmed) y.places, all_marks (λ p. p.trimmed) x.places, e) refl
+
+one_more : {X : Type 0} (p q : Bool) (x y : X) (xs ys : List X) → q ≡ p → length ys ≡ length xs → length (if q then y ∷ ys else ys) ≡ length (if p then x ∷ xs else xs)
+one_more true true x y xs ys e f = ap suc f
+one_more false false x y xs ys e f = f
+one_more true false x y xs ys e f = absurd (true≢false (sym e))
+one_more false true x y xs ys e f = absurd (true≢false e)
+
+live_acts : (xs ys : List Act) → map (λ x. map (λ p. p.finished) x.places) ys ≡ map (λ x. map (λ p. p.finished) x.places) xs → map (λ x. x.status) ys ≡ map (λ x. x.status) xs → count is_live_act ys ≡ count is_live_act xs
+live_acts [] [] e f = refl
+live_acts [] (y ∷ ys) e f = absurd (cc e)
+live_acts (x ∷ xs) [] e f = absurd (cc e)
+live_acts (x ∷ xs) (y ∷ ys) e f = one_more (is_live_act x) (is_live_act y) x y (filter is_live_act xs) (filter is_live_act ys) (act_as x y (cc e) (cc f)) (live_acts xs ys (cc e) (cc f))
+
+live_batches : (xs ys : List Batch) → map (λ b. map (λ p. p.trimmed) b.places) ys ≡ map (λ b. map (λ p. p.trimmed) b.places) xs → map (λ b. b.aborted) ys ≡ map (λ b. b.aborted) xs → count is_live_batch ys ≡ count is_live_batch xs
+live_batches [] [] e f = refl
+live_batches [] (y ∷ ys) e f = absurd (cc e)
+live_batches (x ∷ xs) [] e f = absurd (cc e)
+live_batches (x ∷ xs) (y ∷ ys) e f = one_more (is_live_batch x) (is_live_batch y) x y (filter is_live_batch xs) (filter is_live_batch ys) (batch_as x y (cc e) (cc f)) (live_batches xs ys (cc e) (cc f))
+
+acts_counted : {C : Type 0} (w : Fixed C) (e : Event) (s : Machine C) → ((q : Content) → is_changed q e ≡ false → IsSame q s (after w e s)) → is_abort e ≡ false → is_on_ring e ≡ false → may_free e ≡ false → count is_live_act (after w e s).book.acts ≡ count is_live_act s.book.acts
+acts_counted w (Admit t) s same z h g = absurd (true≢false h)
+acts_counted w (Arrive k a) s same z h g = absurd (true≢false g)
+acts_counted w (Ask t a) s same z h g = absurd (true≢false g)
+acts_counted w (Decide t) s same z h g = absurd (true≢false g)
+acts_counted w (Seal t) s same z h g = absurd (true≢false g)
+acts_counted w (Finish t a) s same z h g = absurd (true≢false g)
+acts_counted w (Abort k) s same z h g = absurd (true≢false z)
+acts_counted w e s same z h g = live_acts s.book.acts (after w e s).book.acts (same FinishedMarks refl) (same Statuses refl)
+
+batches_counted : {C : Type 0} (w : Fixed C) (e : Event) (s : Machine C) → ((q : Content) → is_changed q e ≡ false → IsSame q s (after w e s)) → is_abort e ≡ false → is_on_ring e ≡ false → may_free e ≡ false → count is_live_batch (after w e s).desk.batches ≡ count is_live_batch s.desk.batches
+batches_counted w (Form k) s same z h g = absurd (true≢false h)
+batches_counted w (Trim k a) s same z h g = absurd (true≢false g)
+batches_counted w (Abort k) s same z h g = absurd (true≢false z)
+batches_counted w e s same z h g = live_batches s.desk.batches (after w e s).desk.batches (same TrimmedMarks refl) (same AbortedMarks refl)
+
+-- ---- what goes one way
+
+durable_went : (test : LogRecord → Bool) (gs hs : List Log) (l : ℕ) → EachBecame LogGrew gs hs → holds (is_durable test) (slice_get gs l) ≡ true → holds (is_durable test) (slice_get hs l) ≡ true
+durable_went test [] hs l went h = absurd (true≢false (sym h))
+durable_went test (g ∷ gs) [] l went h = absurd went
+durable_went test (g ∷ gs) (k ∷ hs) zero went h = went.0.durable test h
+durable_went test (g ∷ gs) (k ∷ hs) (suc l) went h = durable_went test gs hs l went.1 h
+
+doomed_went : (st to : Status) → StatusWent st to → is_doomed st ≡ true → is_doomed to ≡ true
+doomed_went Live to went h = absurd (true≢false (sym h))
+doomed_went (Doomed v) to went h = ap is_doomed went
+doomed_went (Decided c) to went h = absurd (true≢false (sym h))
+doomed_went (Sealed c) to went h = absurd (true≢false (sym h))
+
+act_doomed_went : (t : ℕ) (xs ys : List Act) → EachBecame ActWent xs ys → holds (λ x. is_doomed x.status) (act_of t xs) ≡ true → holds (λ x. is_doomed x.status) (act_of t ys) ≡ true
+act_doomed_went t [] ys went h = absurd (true≢false (sym h))
+act_doomed_went t (x ∷ xs) [] went h = absurd went
+act_doomed_went t (x ∷ xs) (y ∷ ys) went h = rw (ap (λ n. n == t) went.0.tid) (by (x.tid == t) h (act_doomed_went t xs ys went.1))
+  where
+    by : (b : Bool) → holds (λ x. is_doomed x.status) (if b then Some x else act_of t xs) ≡ true
+        → (holds (λ x. is_doomed x.status) (act_of t xs) ≡ true → holds (λ x. is_doomed x.status) (act_of t ys) ≡ true)
+        → holds (λ x. is_doomed x.status) (if b then Some y else act_of t ys) ≡ true
+    by true i r = doomed_went x.status y.status went.0.status i
+    by false i r = r i
+
+given_up_went : {C : Type 0} (w : Fixed C) (e : Event) (s : Machine C) (o : Option (ControlMessage C)) → is_abort e ≡ false → EachBecame ActWent s.book.acts (after w e s).book.acts
+    → holds (λ m. is_given_up m.who s.book) o ≡ true → holds (λ m. is_given_up m.who (after w e s).book) o ≡ true
+given_up_went w e s None z went h = h
+given_up_went w e s (Some m) z went h = by m.who h
+  where
+    by : (who : Who) → is_given_up who s.book ≡ true → is_given_up who (after w e s).book ≡ true
+    by (OfBatch k) g = ap (is_aborted k) (cascades_stay w e s z) ∙ g
+    by (OfAct t) g = act_doomed_went t s.book.acts (after w e s).book.acts went g
+
+-- ---- the event itself is another one
+
+other_note : (e : Event) (k a : ℕ) → (Note k a ≡ e → ⊥) → changes_note e k a ≡ false
+other_note (Note j b) k a n = by (j == k) refl (b == a) refl
+  where
+    by : (x : Bool) → (j == k) ≡ x → (y : Bool) → (b == a) ≡ y → (x && y) ≡ false
+    by true p true q = absurd (n (sym (ap (λ m. Note m b) (eqb-true j k p) ∙ ap (Note k) (eqb-true b a q))))
+    by true p false q = refl
+    by false p y q = refl
+other_note _ k a n = refl
+
+other_trim : (e : Event) (k a : ℕ) → (Trim k a ≡ e → ⊥) → changes_trim e k a ≡ false
+other_trim (Trim j b) k a n = by (j == k) refl (b == a) refl
+  where
+    by : (x : Bool) → (j == k) ≡ x → (y : Bool) → (b == a) ≡ y → (x && y) ≡ false
+    by true p true q = absurd (n (sym (ap (λ m. Trim m b) (eqb-true j k p) ∙ ap (Trim k) (eqb-true b a q))))
+    by true p false q = refl
+    by false p y q = refl
+other_trim _ k a n = refl
+
+other_reply : (e : Event) (m : ℕ) → (Reply m ≡ e → ⊥) → changes_replied e m ≡ false
+other_reply (Reply j) m n = by (j == m) refl
+  where
+    by : (x : Bool) → (j == m) ≡ x → x ≡ false
+    by true p = absurd (n (ap Reply (sym (eqb-true j m p))))
+    by false p = refl
+other_reply _ m n = refl
+
+-- ---- each kind
+
+-- what reads nothing that is changed
+abbrev pub Stays : {C : Type 0} → Fixed C → Event → Machine C → Event → Type 0
+Stays w e s f = IsAllowed w f s → IsAllowed w f (after w e s)
+
+unread : {C : Type 0} (w : Fixed C) (e : Event) (s : Machine C) (f : Event) → Framed w → IsSound w s → IsAllowed w e s → is_abort e ≡ false → reads_changed w e s f ≡ false → Stays w e s f
+unread w e s f framed ok al z h = subst AllTrue (sym (untouched w s framed e f ok al (not_or (is_abort e) (reads_changed w e s f) z h)))
+
+pub keeps : {C : Type 0} (w : Fixed C) (e : Event) (s : Machine C) (f : Event) → Framed w → IsSound w s → WentOn s (after w e s)
+    → ((n : ℕ) → is_some (verdict n s.book s.desk) ≡ true → is_some (verdict n (after w e s).book (after w e s).desk) ≡ true)
+    → IsAllowed w e s → is_abort e ≡ false → is_in_reach e f ≡ false → (f ≡ e → ⊥) → Stays w e s f
+unfolding conditions
+keeps w e s (Submit n) framed ok went told al z h apart allowed = rw (reach.ring w e s z h) allowed
+keeps w e s (Pass c) framed ok went told al z h apart allowed = rw (reach.ring w e s z h) allowed
+keeps w e s (Form k) framed ok went told al z h apart allowed =
+    let o = or_parts (is_on_ring e) (may_free e) h in
+    rw (reach.ring w e s z o.0, batches_counted w e s (framed e s) z o.0 o.1) allowed
+keeps w e s (Admit t) framed ok went told al z h apart allowed =
+    let o = or_parts (is_on_ring e) (may_free e) h in
+    rw (reach.ring w e s z o.0, acts_counted w e s (framed e s) z o.0 o.1) allowed
+keeps w e s (Arrive k a) framed ok went told al z h apart allowed =
+    let o = or_parts (is_at a (actor_of e)) (is_at k (bid_of e)) h in
+    unread w e s (Arrive k a) framed ok al z (not_or _ _ (not_or _ _ (reach.subs e k o.1) (reach.sub e k a o.0)) (not_or _ _ (reach.epochs e a o.0) (reach.tails e a o.0))) allowed
+keeps w e s (Ask t a) framed ok went told al z h apart allowed =
+    let o = or_parts (is_form e || spreads e) (is_at a (actor_of e) || is_at t (tid_of e)) h in
+    let p = or_parts (is_form e) (spreads e) o.0 in
+    let q = or_parts (is_at a (actor_of e)) (is_at t (tid_of e)) o.1 in
+    unread w e s (Ask t a) framed ok al z (not_or _ _ (reach.control w e s t p.0 q.1) (not_or _ _ (reach.dooms e s t p.1 q.1) (not_or _ _ (reach.entries e a q.0) (reach.epochs e a q.0)))) allowed
+keeps w e s (Take t a) framed ok went told al z h apart allowed =
+    let o = or_parts (is_form e) (is_at a (actor_of e) || is_at t (tid_of e)) h in
+    let q = or_parts (is_at a (actor_of e)) (is_at t (tid_of e)) o.1 in
+    unread w e s (Take t a) framed ok al z (not_or _ _ (reach.control w e s t o.0 q.1) (reach.entries e a q.0)) allowed
+keeps w e s (Run t a) framed ok went told al z h apart allowed =
+    unread w e s (Run t a) framed ok al z (not_or _ _ (not_or _ _ (reach.boxes e a h) (reach.inbox e t a h)) (not_or _ _ (reach.entries e a h) (reach.marks w e s a h))) allowed
+keeps w e s (Send t a) framed ok went told al z h apart allowed = unread w e s (Send t a) framed ok al z (not_or _ _ (reach.boxes e a h) (reach.outbox e t a h)) allowed
+keeps w e s (End t a) framed ok went told al z h apart allowed = unread w e s (End t a) framed ok al z (not_or _ _ (reach.boxes e a h) (reach.outbox e t a h)) allowed
+keeps w e s (Close t a) framed ok went told al z h apart allowed =
+    let o = or_parts (is_form e) (is_at a (actor_of e) || is_at t (tid_of e)) h in
+    let q = or_parts (is_at a (actor_of e)) (is_at t (tid_of e)) o.1 in
+    unread w e s (Close t a) framed ok al z (not_or _ _ (reach.result w e s t o.0 q.1) (not_or _ _ (reach.entries e a q.0) (reach.dones w e s t a q.0))) allowed
+keeps w e s (Complete k a) framed ok went told al z h apart allowed = unread w e s (Complete k a) framed ok al z (not_or _ _ (reach.entries e a h) (reach.marks w e s a h)) allowed
+keeps w e s (Sync l) framed ok went told al z h apart allowed = unread w e s (Sync l) framed ok al z (reach.log w e l h) allowed
+keeps w e s (Note k a) framed ok went told al z h apart allowed = (
+  note_test w e s k a z (reach.stage e k h) (other_note e k a apart) ∙ allowed.0,
+  (durable_went (is_complete k a) s.logs (after w e s).logs (a % w.text.logs) went.logs allowed.1.0, tt),
+)
+keeps w e s (Commit k) framed ok went told al z h apart allowed =
+    let o = or_parts (is_on_batches e) (is_at k (bid_of e)) h in
+    let st = reach.stage e k o.1 in (
+      rw (next_stays w e s k (framed e s) ok.bids al z (reach.next e k o.0), open_test w e s k (is_next_to_commit k s.desk.batches) z st) allowed.0,
+      (
+        pacts_test w e s k (list_all (λ p. is_value p.result)) z st (reach.results e s k o.0) ∙ allowed.1.0,
+        (noted_test w e s k z st (reach.noted e k o.0) ∙ allowed.1.1.0, (durable_went (is_info k) s.logs (after w e s).logs (k % w.text.logs) went.logs allowed.1.1.1.0, tt)),
+      ),
+    )
+keeps w e s (Settle k) framed ok went told al z h apart allowed = (
+  commits_test w e s k z (reach.stage e k h) ∙ allowed.0,
+  (durable_went (is_commit k) s.logs (after w e s).logs (k % w.text.logs) went.logs allowed.1.0, tt),
+)
+keeps w e s (Abort k) framed ok went told al z h apart allowed =
+    let o = or_parts (is_on_batches e) (is_at k (bid_of e)) h in
+    unread w e s (Abort k) framed ok al z (not_or _ _ (reach.stage e k o.1) (not_or _ _ (reach.results e s k o.0) (reach.next e k o.0))) allowed
+keeps w e s (Rollback a) framed ok went told al z h apart allowed = unread w e s (Rollback a) framed ok al z (reach.epochs e a h) allowed
+keeps w e s (DropSub k a) framed ok went told al z h apart allowed =
+    let o = or_parts (is_at a (actor_of e)) (is_at k (bid_of e)) h in
+    unread w e s (DropSub k a) framed ok al z (not_or _ _ (reach.subs e k o.1) (reach.sub e k a o.0)) allowed
+keeps w e s (DropControl t) framed ok went told al z h apart allowed =
+    let o = or_parts (is_form e) (is_at t (tid_of e)) h in
+    rw (control_stays w e s t (reach.control w e s t o.0 o.1)) (allowed.0, (given_up_went w e s (control_of t s.post.controls) z went.acts allowed.1.0, tt))
+keeps w e s (Prepare t a) framed ok went told al z h apart allowed =
+    let o = or_parts (spreads e) (is_at t (tid_of e)) h in
+    unread w e s (Prepare t a) framed ok al z (not_or _ _ (reach.acts e s t o.0 o.1) (reach.prepared e t a o.1)) allowed
+keeps w e s (Vouch t a) framed ok went told al z h apart allowed =
+    let o = or_parts (spreads e) (is_at t (tid_of e)) h in (
+      act_test w e s t (λ x. is_live_act x && (not (is_doomed x.status) && holds (λ p. p.prepared && not p.vouched) (joined_of a x))) (λ x. refl) (vouch_bears e t a (not_or _ _ (reach.prepared e t a o.1) (reach.vouched e t a o.1)) (reach.left e t o.1)) z (reach.acts e s t o.0 o.1) ∙ allowed.0,
+      (durable_went (is_prepare t a) s.logs (after w e s).logs (a % w.text.logs) went.logs allowed.1.0, tt),
+    )
+keeps w e s (Decide t) framed ok went told al z h apart allowed =
+    let o = or_parts (spreads e || is_settle e) (is_at t (tid_of e)) h in
+    let p = or_parts (spreads e) (is_settle e) o.0 in
+    unread w e s (Decide t) framed ok al z (not_or _ _ (reach.acts e s t p.0 o.1) (not_or _ _ (reach.votes e t o.1) (reach.settled e p.1))) allowed
+keeps w e s (Seal t) framed ok went told al z h apart allowed =
+    let o = or_parts (spreads e) (is_at t (tid_of e)) h in (
+      act_test w e s t (λ x. is_decided x.status) (λ x. refl) (plain (λ x. is_decided x.status) e t (λ b f x. refl)) z (reach.acts e s t o.0 o.1) ∙ allowed.0,
+      (durable_went (is_act_commit t) s.logs (after w e s).logs (t % w.text.logs) went.logs allowed.1.0, tt),
+    )
+keeps w e s (Finish t a) framed ok went told al z h apart allowed =
+    let o = or_parts (spreads e) (is_at t (tid_of e)) h in
+    unread w e s (Finish t a) framed ok al z (not_or _ _ (reach.acts e s t o.0 o.1) (reach.finished e t a o.1)) allowed
+keeps w e s (Reply n) framed ok went told al z h apart allowed = rw (replied_stays w e s n (other_reply e n apart)) (allowed.0, (told n allowed.1.0, tt))
+keeps w e s (Trim k a) framed ok went told al z h apart allowed = (trim_test w e s k a z (reach.stage e k h) (other_trim e k a apart) ∙ allowed.0, tt)
+
+-- ---- a run and one event more
+
+one_after : {C : Type 0} (w : Fixed C) (es : List Event) (e : Event) (s : Machine C) → state_after w (es ++ e ∷ []) s ≡ after w e (state_after w es s)
+one_after w [] e s = refl
+one_after w (d ∷ es) e s = one_after w es e (after w d s)
+
+pub one_event_more : {C : Type 0} (w : Fixed C) (es : List Event) (e : Event) (s : Machine C) → EachAllowed w es s → IsAllowed w e (state_after w es s) → EachAllowed w (es ++ e ∷ []) s
+one_event_more w [] e s run ok = (ok, tt)
+one_event_more w (d ∷ es) e s run ok = (run.0, one_event_more w es e (after w d s) run.1 ok)
+
+-- a verdict stays
+pub verdict_stays_told : {C : Type 0} (w : Fixed C) (es : List Event) (e : Event) (n : ℕ) → VerdictsStay w (es ++ e ∷ [])
+    → is_some (verdict n (reached w es).book (reached w es).desk) ≡ true → is_some (verdict n (after w e (reached w es)).book (after w e (reached w es)).desk) ≡ true
+verdict_stays_told w es e n stay told = by (verdict n (reached w es).book (reached w es).desk) refl told
+  where
+    by : (v : Option Verdict) → verdict n (reached w es).book (reached w es).desk ≡ v → is_some v ≡ true → is_some (verdict n (after w e (reached w es)).book (after w e (reached w es)).desk) ≡ true
+    by None q t = absurd (true≢false (sym t))
+    by (Some v) q t = ap is_some (subst (λ s. verdict n s.book s.desk ≡ Some v) (one_after w es e (opening w)) (stay es (e ∷ []) refl n v q))
