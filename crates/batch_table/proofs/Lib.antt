@@ -6,5 +6,6 @@ pub mod EndedPacts
 pub mod FrontOver
 pub mod Keeping
 pub mod LiveCount
+pub mod NextBatch
 pub mod Planning
 pub mod Unfinished

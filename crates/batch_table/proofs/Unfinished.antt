@@ -1,12 +1,12 @@
 -- What is listed: batches that are going, and transactions that wait for a reply.
 use Rattle.std.proofs.Common.{◌≡◌, ℕ, zero, suc, ◌+◌, ◌-◌, ◌<◌, ◌≤◌, ◌⊎◌, Bool, true, false, cond, not, ◌&&◌, ◌||◌, List, [], ◌∷◌, ◌++◌, length, take, drop, refl, ap, sym, ◌∙◌, arith, inl, inr}
-use Rattle.std.specs.Prelude.{filter, slice_get, slice_set, slice_index_or}
+use Rattle.std.specs.Prelude.{filter, slice_set, slice_index_or}
 use Rattle.std.specs.List.{list_all}
-use Rattle.std.proofs.lemmas.Bool.{cond-false, false≢true, and_from, and_parts}
+use Rattle.std.proofs.lemmas.Bool.{cond-false, and_from, and_parts}
 use Rattle.std.proofs.lemmas.List.{take-append-drop}
 use Rattle.std.proofs.lemmas.List.Elements.{filter-append}
 use Rattle.protocol.specs.Parts.{Batch}
-use Rattle.protocol.specs.Words.{holds, below, count, is_live_batch, is_settled}
+use Rattle.protocol.specs.Words.{below, count, is_live_batch, is_settled}
 use Rattle.batch_table.specs.Listed.{is_going, is_unreplied, unreplied_below}
 use Rattle.batch_table.specs.Sound.{marks_of, IsFront}
 use Rattle.batch_table.proofs.LiveCount.{count_append, count_head, count_more}

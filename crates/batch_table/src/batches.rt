@@ -1,4 +1,4 @@
-ghost use Rattle.std.specs.Prelude.{◌≡◌, not, ◌&&◌, true, map, option_map, IfOk, slice_get};
+ghost use Rattle.std.specs.Prelude.{◌≡◌, ◌≤◌, not, ◌&&◌, ◌++◌, true, map, option_map, IfOk, OnOk, slice_get};
 ghost use Rattle.std.specs.List.{list_all};
 ghost use Rattle.protocol.specs.Words as words;
 ghost use Rattle.protocol.specs.OnDesk as desk;
@@ -6,7 +6,7 @@ ghost use Rattle.machine_words.specs.Meant.{actor_number, batch_pact, subs_actor
 ghost use Rattle.batch_table.specs.Askings.{failure_shown};
 ghost use Rattle.batch_table.specs.Found.{found_at, found_if};
 ghost use Rattle.batch_table.specs.Joining as joining;
-ghost use Rattle.batch_table.specs.Listed.{is_going};
+ghost use Rattle.batch_table.specs.Listed.{is_going, unnoted_in, unnoted_shown};
 ghost use Rattle.batch_table.specs.Stages.{stage_meant};
 
 use crate::actors::{self, ActorEntry};
@@ -71,6 +71,12 @@ impl BatchEntry {
         self.stage.is_formed() && !self.aborted
     }
 
+    pub fn is_settled(&self) -> bool
+        ensures { result ≡ words.is_settled self.now.stage }
+    {
+        self.stage.is_settled()
+    }
+
     pub fn is_live(&self) -> bool
         ensures { result ≡ words.is_live_batch self.now }
     {
@@ -96,6 +102,29 @@ impl BatchEntry {
         ensures { IfOk result (λ actors. map actor_number actors.items ≡ map (λ p. p.actor) self.now.places) }
     {
         actors::ids(alloc, self.actors.as_slice())
+    }
+
+    /// The transactions of its PACTs.
+    pub fn txs(&self, alloc: Global) -> Result<Vec<TxNo>, Memory>
+        ensures { IfOk result (λ txs. map (λ n. n.0) txs.items ≡ map (λ p. p.tx) self.now.pacts) }
+    {
+        pacts::txs(alloc, self.pacts.as_slice())
+    }
+
+    /// Where it is open, its actors that are not noted, and whose records go to this log of so many, are listed.
+    pub fn list_unnoted(
+        &self,
+        logs: u8,
+        log: u8,
+        places: &mut Vec<(Bid, ActorId)>,
+    ) -> Result<(), Memory>
+        requires { 1 ≤ logs }
+        ensures { OnOk result (map unnoted_shown places.new.items ≡ map unnoted_shown places.old.items ++ unnoted_in logs log self.now) }
+    {
+        if !self.is_open() {
+            return Ok(());
+        }
+        actors::list_unnoted(self.bid, self.actors.as_slice(), logs, log, places)
     }
 
     pub fn has_ended_well(&self) -> bool

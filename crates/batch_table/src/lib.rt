@@ -7,6 +7,7 @@
 
 mod actors;
 mod batches;
+mod counts;
 mod desk;
 mod found;
 mod laws;

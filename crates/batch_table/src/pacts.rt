@@ -1,4 +1,4 @@
-ghost use Rattle.std.specs.Prelude.{◌≡◌, ◌==◌, Some, None, map, option_map};
+ghost use Rattle.std.specs.Prelude.{◌≡◌, ◌==◌, Some, None, map, option_map, IfOk};
 ghost use Rattle.std.specs.List.{list_all};
 ghost use Rattle.protocol.specs.Words as words;
 ghost use Rattle.protocol.specs.OnDesk.{with_result};
@@ -6,7 +6,8 @@ ghost use Rattle.machine_words.specs.Meant.{batch_pact};
 ghost use Rattle.batch_table.specs.Askings.{failure_shown};
 ghost use Rattle.batch_table.specs.Joining as joining;
 
-use snap_base::{Tid, TxNo, TxResult};
+use snap_base::{Memory, Tid, TxNo, TxResult};
+use std::alloc::Global;
 use std::marker::Model;
 
 /// A PACT of a batch: its tid, its transaction, and how it ended.
@@ -80,6 +81,17 @@ pub(crate) fn first_tid(pacts: &[PactEntry]) -> u64
         Some(pact) => pact.tid().0,
         None => 0,
     }
+}
+
+/// Their transactions, in order.
+pub(crate) fn txs(alloc: Global, pacts: &[PactEntry]) -> Result<Vec<TxNo>, Memory>
+    ensures { IfOk result (λ txs. map (λ n. n.0) txs.items ≡ map (λ p. p.tx) pacts.now) }
+{
+    let mut txs = Vec::with_capacity(alloc, pacts.len())?;
+    for pact in pacts {
+        txs.push(pact.tx())?;
+    }
+    Ok(txs)
 }
 
 /// Whether all ended with a value.

@@ -2,17 +2,18 @@
 use Rattle.std.specs.Prelude.{◌≡◌, refl, ℕ, ◌==◌, nat_le, Bool, true, false, not, ◌&&◌, ◌||◌, if◌then◌else◌, Option, Some, None, is_some, option_map, List, [], ◌∷◌, length, map, find}
 use Rattle.std.specs.List.{AllByRecursion, list_all}
 use Rattle.std.proofs.Common.{arith, sym, ap, ◌∙◌}
-use Rattle.std.proofs.lemmas.Bool.{and_parts, ne_eqb, or_parts}
+use Rattle.std.proofs.lemmas.Bool.{and_parts, ne_eqb, or_parts, true≢false}
 use Rattle.protocol.specs.Parts.{Joined, Act, Book}
 use Rattle.protocol.specs.Words.{act_of, holds, is_empty, joined_of, is_live_act, is_live_status, is_doomed, is_decided, is_sealed, is_value, is_failure, is_vouched_everywhere}
 use Rattle.protocol.specs.OnCell.{is_undone_act}
 use Rattle.protocol.specs.BookParts.{act_by, place_by, result_by}
-use Rattle.protocol_laws.specs.BookFits.{IsOrder, IsVotedBy}
-use Rattle.protocol_laws.proofs.Lemmas.{all_found, decided_by, doomed_by, holds_map, joined_found, left_mark, live_act_by, live_by, sealed_by, vote_mark, vouched_by}
-use Rattle.order_book.specs.Asked.{before_of, joined_in}
+use Rattle.protocol_theorems.specs.BookFits.{IsOrder, IsVotedBy}
+use Rattle.protocol_laws.proofs.Lemmas.{all_found}
+use Rattle.protocol_theorems.proofs.Lemmas.{decided_by, doomed_by, holds_map, joined_found, left_mark, live_act_by, live_by, sealed_by, vote_mark, vouched_by}
+use Rattle.order_book.specs.Asked.{before_of, joined_in, tx_of}
 use Rattle.act_commit.specs.Words.{is_ready}
 use Rattle.book_part.specs.Halves.{Halves, Shows}
-use Rattle.book_part.proofs.Shown.{IsAt, answers}
+use Rattle.book_part.proofs.Shown.{IsAt, answers, stands}
 
 undoomed : (x y : Option Act) → IsAt x y → holds (λ z. not (is_doomed z.status)) (option_map (act_by y) x) ≡ holds (λ z. not (is_doomed z.status)) x
 undoomed x y e = holds_map (λ z. not (is_doomed z.status)) (act_by y) x (λ z. ap not (doomed_by y z.status))
@@ -117,6 +118,14 @@ undone : (x y : Option Act) → IsAt x y → is_undone_act (option_map (act_by y
 undone None y e = sym (ap (λ v. false || is_failure (result_by v)) e)
 undone (Some x) y e = ap (λ b. b || is_failure (result_by y)) (doomed_by y x.status)
 
+tx : (x y : Option Act) → IsAt x y → tx_of (option_map (act_by y) x) ≡ tx_of x
+tx None y e = refl
+tx (Some x) y e = refl
+
+begun : (x y : Option Act) → IsAt x y → holds (λ z. is_some z.result || is_doomed z.status) (option_map (act_by y) x) ≡ (is_some (result_by y) || holds (λ z. is_doomed z.status) x)
+begun None y e = sym (ap (λ v. is_some (result_by v) || false) e)
+begun (Some x) y e = ap (λ b. is_some (result_by y) || b) (doomed_by y x.status)
+
 before : (x y : Option Act) → IsAt x y → before_of (option_map (act_by y) x) ≡ before_of x
 before None y e = refl
 before (Some x) y e = refl
@@ -165,8 +174,41 @@ undone_shown = answers (λ o. is_undone_act o) (λ x y. holds (λ z. is_doomed z
 pub before_shown : (k h : Halves) → k ≡ h → (b : Book) (t : ℕ) → Shows h b → (before_of (act_of t k.orders.acts)) ≡ before_of (act_of t b.acts)
 before_shown = answers (λ o. before_of o) (λ x y. before_of x) before
 
+pub tx_shown : (k h : Halves) → k ≡ h → (b : Book) (t : ℕ) → Shows h b → (tx_of (act_of t k.orders.acts)) ≡ tx_of (act_of t b.acts)
+tx_shown = answers (λ o. tx_of o) (λ x y. tx_of x) tx
+
+pub begun_shown : (k h : Halves) → k ≡ h → (b : Book) (t : ℕ) → Shows h b → (is_some (result_by (act_of t k.votes.acts)) || holds (λ z. is_doomed z.status) (act_of t k.orders.acts)) ≡ holds (λ z. is_some z.result || is_doomed z.status) (act_of t b.acts)
+begun_shown = answers (λ o. holds (λ z. is_some z.result || is_doomed z.status) o) (λ x y. is_some (result_by y) || holds (λ z. is_doomed z.status) x) begun
+
 ready_since : (x y : Option Act) → (is_some (result_by y) && holds (λ z. is_live_status z.status) x) ≡ true → ready_by x y ≡ true → holds is_ready y ≡ true
 ready_since x y e f = ap (λ b. if b then holds is_ready y else is_some x && is_empty (joined_in x)) (sym (and_parts (is_some (result_by y)) (holds (λ z. is_live_status z.status) x) e).0) ∙ f
 
 pub ready_if_to_decide : (h : Halves) (b : Book) (t : ℕ) → Shows h b → holds (λ z. is_some z.result && is_live_status z.status) (act_of t b.acts) ≡ true → holds (λ z. is_failure z.result || is_vouched_everywhere z) (act_of t b.acts) ≡ true → holds is_ready (act_of t h.votes.acts) ≡ true
 ready_if_to_decide h b t s e f = ready_since (act_of t h.orders.acts) (act_of t h.votes.acts) (to_decide_shown h h refl b t s ∙ e) (ready_shown h h refl b t s ∙ f)
+
+-- ---- one that neither ended nor is given up
+
+no_votes : (x y : Option Act) → IsAt x y → (is_some (result_by y) || holds (λ z. is_doomed z.status) x) ≡ false → y ≡ None
+no_votes None y e h = e
+no_votes (Some x) None e h = refl
+no_votes (Some x) (Some y) e h = absurd (true≢false (sym e.1.ended ∙ (or_parts (is_some y.result) (is_doomed x.status) h).0))
+
+module _ (h : Halves) (b : Book) (t : ℕ) (s : Shows h b) (not_begun : holds (λ z. is_some z.result || is_doomed z.status) (act_of t b.acts) ≡ false) where
+  without : act_of t h.votes.acts ≡ None
+  without = no_votes (act_of t h.orders.acts) (act_of t h.votes.acts) (stands h b t s) (begun_shown h h refl b t s ∙ not_begun)
+
+  pub not_decided : holds (λ z. is_decided z.status) (act_of t b.acts) ≡ false
+  not_decided = sym (decided_shown h h refl b t s) ∙ ap (holds (λ z. is_decided z.status)) without
+
+  pub not_sealed : holds (λ z. is_sealed z.status) (act_of t b.acts) ≡ false
+  not_sealed = sym (sealed_shown h h refl b t s) ∙ ap (holds (λ z. is_sealed z.status)) without
+
+  pub not_to_vouch : (a : ℕ) → holds (λ z. is_live_act z && (not (is_doomed z.status) && holds (λ p. p.prepared && not p.vouched) (joined_of a z))) (act_of t b.acts) ≡ false
+  not_to_vouch a =
+      sym (to_vouch_shown a h h refl b t s)
+      ∙ (ap (λ y. to_vouch_by a (act_of t h.orders.acts) y) without ∙ neither (holds is_live_act (act_of t h.orders.acts)) (holds (λ z. not (is_doomed z.status)) (act_of t h.orders.acts)))
+    where
+      neither : (c d : Bool) → (c && (d && false)) ≡ false
+      neither true true = refl
+      neither true false = refl
+      neither false d = refl

@@ -8,7 +8,7 @@ use Rattle.protocol.specs.Effects.{after}
 use Rattle.protocol.specs.OnBook.{why, failed_tx, failed_code}
 use Rattle.protocol.specs.BookParts.{no_orders, no_votes}
 use Rattle.protocol.specs.Runs.{opening_book}
-use Rattle.protocol_laws.specs.BookFits.{HalvesMeet, IsOfHalves, orders_after, votes_after}
+use Rattle.protocol_theorems.specs.BookFits.{HalvesMeet, IsOfHalves, orders_after, votes_after}
 use Rattle.book_part.specs.Halves.{Halves, Shows}
 use Rattle.book_part.specs.After.{cascades_after, halves_after}
 

@@ -4,10 +4,10 @@ use Rattle.std.proofs.Common.{sym, ap, subst, ◌∙◌}
 use Rattle.protocol.specs.Parts.{Act, Book}
 use Rattle.protocol.specs.Words.{act_of, is_live_act}
 use Rattle.protocol.specs.BookParts.{act_by, place_by, with_votes}
-use Rattle.protocol_laws.specs.BookFits.{actors_at}
+use Rattle.protocol_theorems.specs.BookFits.{actors_at}
 use Rattle.protocol_laws.specs.OneWay.{actors_of}
-use Rattle.protocol_laws.proofs.halves.ActWithVotes.{place_actor}
-use Rattle.protocol_laws.proofs.halves.HalvesAsked.{live_act_by}
+use Rattle.protocol_theorems.proofs.halves.ActWithVotes.{place_actor}
+use Rattle.protocol_theorems.proofs.halves.HalvesAsked.{live_act_by}
 use Rattle.order_book.specs.Asked.{joined_in}
 use Rattle.book_part.specs.Halves.{Halves, Shows}
 use Rattle.book_part.specs.Listed.{live_tids}

@@ -6,8 +6,9 @@ use Rattle.std.proofs.lemmas.Bool.{true≢false, eqb-true}
 use Rattle.protocol.specs.Parts.{Act, Book}
 use Rattle.protocol.specs.Words.{act_of}
 use Rattle.protocol.specs.BookParts.{act_by, book_of}
-use Rattle.protocol_laws.specs.BookFits.{BookFits, IsOrder, IsVotedBy}
-use Rattle.protocol_laws.proofs.Lemmas.{all_found, found_by}
+use Rattle.protocol_theorems.specs.BookFits.{BookFits, IsOrder, IsVotedBy}
+use Rattle.protocol_laws.proofs.Lemmas.{all_found}
+use Rattle.protocol_theorems.proofs.Lemmas.{found_by}
 use Rattle.book_part.specs.Halves.{Halves, Shows}
 
 pub is_book : (h : Halves) (b : Book) → Shows h b → b ≡ book_of h.orders h.votes h.cascades

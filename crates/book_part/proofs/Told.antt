@@ -10,8 +10,8 @@ use Rattle.protocol.specs.Words.{holds, count, act_of, is_live_act, is_value, is
 use Rattle.protocol.specs.Effects.{ascending, act_commit}
 use Rattle.protocol.specs.Verdicts.{verdict_of_act, act_verdict}
 use Rattle.protocol.specs.BookParts.{act_by, place_by, result_by}
-use Rattle.protocol_laws.specs.BookFits.{IsVoted, IsVotedBy, act_with, placed_verdict, verdict_by, verdict_of_halves}
-use Rattle.protocol_laws.proofs.Lemmas.{found_by, live_count, place_actor, verdict_of}
+use Rattle.protocol_theorems.specs.BookFits.{IsVoted, IsVotedBy, act_with, placed_verdict, verdict_by, verdict_of_halves}
+use Rattle.protocol_theorems.proofs.Lemmas.{found_by, live_count, place_actor, verdict_of}
 use Rattle.book_part.proofs.Mapped.{map_each}
 use Rattle.order_book.specs.Asked.{before_of, doom_in, tid_of}
 use Rattle.act_commit.specs.Words.{actors_by, number_by, number_of}

@@ -4,7 +4,7 @@ use Rattle.protocol.specs.Fixed.{Fixed}
 use Rattle.protocol.specs.Parts.{Cascade, Machine}
 use Rattle.protocol.specs.Events.{Event, Abort}
 use Rattle.protocol.specs.OnBook.{why, failed_tx, failed_code}
-use Rattle.protocol_laws.specs.BookFits.{orders_after, votes_after}
+use Rattle.protocol_theorems.specs.BookFits.{orders_after, votes_after}
 use Rattle.book_part.specs.Halves.{Halves}
 
 -- the batches from k to this one are aborted, for this failure

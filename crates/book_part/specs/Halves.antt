@@ -1,7 +1,7 @@
 -- What contracts see of the book: its halves, and the cascades beside them.
 use Rattle.std.specs.Prelude.{◌≡◌, ℕ, List}
 use Rattle.protocol.specs.Parts.{Cascade, Book}
-use Rattle.protocol_laws.specs.BookFits.{IsOfHalves}
+use Rattle.protocol_theorems.specs.BookFits.{IsOfHalves}
 
 pub record Halves : Type 0 where
   pub orders : Book

@@ -15,5 +15,8 @@ mod results;
 mod verdicts;
 
 pub use commit::Commit;
-pub use laws::{conditions_are_met_in_halves, halves_stay_of_their_book, next_tid_is_above_orders};
+pub use laws::{
+    conditions_are_met_in_halves, halves_stay_of_their_book, next_tid_is_above_orders,
+    unbegun_acts_wait_for_nothing,
+};
 pub use part::BookPart;

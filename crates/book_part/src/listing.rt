@@ -1,17 +1,20 @@
 //! What is asked of the book when all events that ACTs may have are looked for. Each answer is about whatever book the
 //! halves show.
-ghost use Rattle.std.specs.Prelude.{◌≡◌, map, IfOk};
+ghost use Rattle.std.specs.Prelude.{◌≡◌, ◌||◌, map, is_some, IfOk};
+ghost use Rattle.std.specs.Option.{option_map};
 ghost use Rattle.machine_words.specs.Meant.{tid_number};
 ghost use Rattle.protocol.specs.Parts.{Book};
-ghost use Rattle.protocol.specs.Words.{act_of};
-ghost use Rattle.protocol_laws.specs.BookFits.{actors_at};
+ghost use Rattle.protocol.specs.Words.{act_of, holds, is_doomed};
+ghost use Rattle.protocol_theorems.specs.BookFits.{actors_at};
+ghost use Rattle.order_book.specs.Asked.{tx_of};
+ghost use Rattle.order_book.specs.Fates.{tx_number};
 ghost use Rattle.act_commit.specs.Words.{actor_numbers};
 ghost use Rattle.book_part.specs.Halves.{Shows};
 ghost use Rattle.book_part.specs.Listed.{live_tids};
 
 use crate::marks::joined_actors;
 use crate::part::BookPart;
-use snap_base::{ActorId, Memory, Tid};
+use snap_base::{ActorId, Memory, Tid, TxNo};
 use std::alloc::Global;
 
 impl BookPart {
@@ -30,5 +33,19 @@ impl BookPart {
     {
         let actors = joined_actors(alloc, self.orders.joined(t))?;
         Ok(actors)
+    }
+
+    /// Whether ACT `t` ended or is given up. Of one that did neither nothing is to be voted on, decided, sealed or left.
+    pub fn has_begun(&self, t: Tid) -> bool
+        ensures { (b : Book) → Shows self.now b → result ≡ holds (λ x. is_some x.result || is_doomed x.status) (act_of t.0 b.acts) }
+    {
+        self.votes.result(t).is_some() || self.orders.is_given_up(t)
+    }
+
+    /// The transaction of ACT `t`; `None` where there is no such ACT.
+    pub fn tx_of(&self, t: Tid) -> Option<TxNo>
+        ensures { (b : Book) → Shows self.now b → option_map tx_number result ≡ tx_of (act_of t.0 b.acts) }
+    {
+        self.orders.tx(t)
     }
 }

@@ -5,7 +5,7 @@ ghost use Rattle.machine_words.specs.Meant.{tid_number};
 ghost use Rattle.protocol.specs.BookParts.{has_place, no_orders, no_votes, orders_cascaded, votes_begin};
 ghost use Rattle.protocol.specs.OnBook.{act_admitted, act_asked, act_decided, act_finished, act_prepared, act_sealed, act_vouched, batch_arrived};
 ghost use Rattle.protocol.specs.Words.{act_of, holds, is_doomed, least_older};
-ghost use Rattle.protocol_laws.specs.BookFits.{actors_at};
+ghost use Rattle.protocol_theorems.specs.BookFits.{actors_at};
 ghost use Rattle.order_book.specs.Asked.{locks_of};
 ghost use Rattle.act_commit.specs.Words.{is_ready};
 ghost use Rattle.book_part.specs.After.{with_cascade};

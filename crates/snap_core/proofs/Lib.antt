@@ -1,3 +1,4 @@
 pub mod CoreRuns
 pub mod Together
 pub mod InOrder
+pub mod FewBatches

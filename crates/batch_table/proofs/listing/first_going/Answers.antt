@@ -1,4 +1,4 @@
-use Rattle.std.proofs.Common.{◌≡◌, ◌+◌, ◌<◌, ◌≤◌, ◌⊎◌, inl, inr, length, ap, ◌∙◌, arith}
+use Rattle.std.proofs.Common.{◌<◌, ◌≤◌, ◌⊎◌, inl, inr, ap, arith}
 use Rattle.protocol.specs.Words.{is_live_batch}
 use Rattle.protocol.specs.Numbers.{one_if}
 use Rattle.batch_table.proofs.Unfinished.{none_going, none_live_before, some_left, counted_before}
