@@ -6,12 +6,12 @@ use Rattle.aml_slice.specs.Controls.{Rest}
 use Rattle.book_part.specs.Halves.{Halves, Shows}
 use Rattle.log_part.specs.Shown.{ShowsLog}
 use Rattle.log_set.specs.Logs.{LogList, no_records}
-use Rattle.protocol.specs.BookParts.{no_orders, no_votes}
 use Rattle.protocol.specs.Effects.{no_log}
 use Rattle.protocol.specs.Fixed.{Fixed, base}
 use Rattle.protocol.specs.Parts.{Ring, Post, Desk, Cell}
 use Rattle.protocol.specs.Runs.{new_cell, opening, opening_book}
 use Rattle.snap_hand.specs.Hands.{Parts, Fits, IsHandOf, IsWhole, are_there}
+use Rattle.snap_hand.specs.Openings.{only_lists, opening_halves, opening_lists, with_opening_others, with_others}
 
 some_is : {X : Type 0} {x y : X} → Some x ≡ Some y → x ≡ y
 some_is h = cc h
@@ -59,9 +59,6 @@ all_mapped f (x ∷ xs) = more _ (all_mapped f xs)
 
 -- ---- the opening
 
-abbrev pub opening_halves : Fixed Rest → Halves
-opening_halves w = record { orders = no_orders; votes = no_votes w.text.opening.next_c; cascades = []; most = length w.text.txs }
-
 abbrev pub opening_parts : Fixed Rest → Parts
 opening_parts w = record {
   ring = Some (opening w).ring;
@@ -98,19 +95,26 @@ opening_whole w i e =
     (more _ (more _ (more _ (more _ (subst (λ bs. AllTrue (bs ++ map is_some (opening_parts w).cells)) (sym (some_made w.text.logs no_records)) (all_made w.text.logs _ (all_mapped (new_cell {C = Rest} (base w.text)) w.text.opening.states)))))))
     i e
 
-abbrev pub parts_of : Ring → Halves → Post Rest → Desk → List (Option LogList) → List (Option (Cell Rest)) → Parts
-parts_of r b p d ls cs = record { ring = Some r; book = Some b; post = Some p; desk = Some d; logs = ls; cells = cs }
+-- ---- put together
 
-pub opening_is : (w : Fixed Rest) (r : Ring) (b : Halves) (p : Post Rest) (d : Desk) (ls : List (Option LogList)) (cs : List (Option (Cell Rest)))
+pub lists_are : (w : Fixed Rest) (ls : List (Option LogList)) (cs : List (Option (Cell Rest))) → ls ≡ (opening_parts w).logs → cs ≡ (opening_parts w).cells
+    → only_lists ls cs ≡ opening_lists w
+lists_are w ls cs el ec = ap (λ z. only_lists z cs) el ∙ ap (only_lists (opening_parts w).logs) ec
+
+pub others_are : (w : Fixed Rest) (h g1 g2 g3 g4 : Parts) (r : Ring) (b : Halves) (p : Post Rest) (d : Desk)
     → r ≡ (opening w).ring → b ≡ opening_halves w → p ≡ (opening w).post → d ≡ (opening w).desk
-    → ls ≡ (opening_parts w).logs → cs ≡ (opening_parts w).cells → parts_of r b p d ls cs ≡ opening_parts w
-opening_is w r b p d ls cs er eb ep ed el ec =
-    ap (λ z. parts_of z b p d ls cs) er
-    ∙ (ap (λ z. parts_of (opening w).ring z p d ls cs) eb
-    ∙ (ap (λ z. parts_of (opening w).ring (opening_halves w) z d ls cs) ep
-    ∙ (ap (λ z. parts_of (opening w).ring (opening_halves w) (opening w).post z ls cs) ed
-    ∙ (ap (λ z. parts_of (opening w).ring (opening_halves w) (opening w).post (opening w).desk z cs) el
-    ∙ ap (λ z. parts_of (opening w).ring (opening_halves w) (opening w).post (opening w).desk (opening_parts w).logs z) ec))))
+    → g1 ≡ record h { ring = Some r } → g2 ≡ record g1 { book = Some b } → g3 ≡ record g2 { post = Some p } → g4 ≡ record g3 { desk = Some d }
+    → g4 ≡ with_opening_others w h
+others_are w h g1 g2 g3 g4 r b p d er eb ep ed e1 e2 e3 e4 =
+    e4
+    ∙ (ap (λ (g : Parts). record g { desk = Some d }) (e3 ∙ ap (λ (g : Parts). record g { post = Some p }) (e2 ∙ ap (λ (g : Parts). record g { book = Some b }) e1))
+    ∙ (ap (λ z. with_others z b p d h) er
+    ∙ (ap (λ z. with_others (opening w).ring z p d h) eb
+    ∙ (ap (λ z. with_others (opening w).ring (opening_halves w) z d h) ep
+    ∙ ap (λ z. with_others (opening w).ring (opening_halves w) (opening w).post z h) ed))))
+
+pub all_parts_are : (w : Fixed Rest) (h g : Parts) → h ≡ opening_lists w → g ≡ with_opening_others w h → g ≡ opening_parts w
+all_parts_are w h g eh eg = eg ∙ ap (with_opening_others w) eh
 
 pub cells_are : (w : Fixed Rest) (first : ℕ) (states : List State) (cs : List (Option (Cell Rest)))
     → cs ≡ map (λ s. Some (new_cell first s)) states → base w.text ≡ first → states ≡ w.text.opening.states → cs ≡ (opening_parts w).cells

@@ -2,3 +2,4 @@ pub mod Tables
 pub mod Hands
 pub mod Steps
 pub mod Shown
+pub mod Openings

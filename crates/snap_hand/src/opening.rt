@@ -1,11 +1,12 @@
 //! The hand that a run begins with.
-ghost use Rattle.std.specs.Prelude.{◌≡◌, ◌≤◌, ◌<◌, ◌^◌, None, Some, IfOk, [], length, map, option_map, replicate};
+ghost use Rattle.std.specs.Prelude.{◌≡◌, ◌≤◌, ◌<◌, ◌^◌, None, Some, IfOk, OnOk, [], length, map, option_map, replicate};
 ghost use Rattle.book_part.specs.Halves.{Halves};
 ghost use Rattle.log_set.specs.Logs.{no_records};
 ghost use Rattle.protocol.specs.BookParts.{no_orders, no_votes};
 ghost use Rattle.protocol.specs.Fixed as fixed;
 ghost use Rattle.protocol.specs.Runs.{new_cell, opening, opening_ring};
 ghost use Rattle.snap_hand.specs.Hands.{Fits, IsHandOf, IsWhole};
+ghost use Rattle.snap_hand.specs.Openings.{opening_halves, opening_lists, with_opening_others};
 ghost use Rattle.snap_hand.specs.Tables.{AreTables, fixed_of, text_of};
 
 use crate::tables::base;
@@ -85,7 +86,40 @@ fn new_cells(
     Ok(cells)
 }
 
+/// A hand with the logs and the cells, as a run of the text begins with them, and none of the four other parts.
+fn with_lists(alloc: Global, tables: &Tables) -> Result<Hand, Memory>
+    requires { AreTables tables.now }
+    ensures { IfOk result (λ h. h ≡ opening_lists (fixed_of tables.now)) }
+{
+    let logs = new_logs(alloc, tables.work.logs)?;
+    let cells = new_cells(alloc, tables.opening.states.as_slice(), base(tables))?;
+    Ok(Hand {
+        ring: None,
+        book: None,
+        post: None,
+        desk: None,
+        logs,
+        cells,
+    })
+}
+
 impl Hand {
+    // Puts in the four other parts, as a run of the text begins with them.
+    fn put_others(&mut self, alloc: Global, tables: &Tables) -> Result<(), Memory>
+        requires { AreTables tables.now }
+        ensures { OnOk result (self.new ≡ with_opening_others (fixed_of tables.now) self.old) }
+    {
+        let ring = new_ring(alloc, tables)?;
+        self.put_ring(ring);
+        let book = new_book(alloc, tables)?;
+        self.put_book(book);
+        let post = Post::new(alloc)?;
+        self.put_post(post);
+        let desk = new_desk(alloc, tables)?;
+        self.put_desk(desk);
+        Ok(())
+    }
+
     /// All parts, as a run of the text begins with them.
     pub fn open(alloc: Global, tables: &Tables) -> Result<Hand, Memory>
         requires { AreTables tables.now }
@@ -94,19 +128,8 @@ impl Hand {
         ensures whole { IfOk result IsWhole }
     {
         halves_stay_of_their_book::<Control>();
-        let ring = new_ring(alloc, tables)?;
-        let book = new_book(alloc, tables)?;
-        let post = Post::new(alloc)?;
-        let desk = new_desk(alloc, tables)?;
-        let logs = new_logs(alloc, tables.work.logs)?;
-        let cells = new_cells(alloc, tables.opening.states.as_slice(), base(tables))?;
-        Ok(Hand {
-            ring: Some(ring),
-            book: Some(book),
-            post: Some(post),
-            desk: Some(desk),
-            logs,
-            cells,
-        })
+        let mut hand = with_lists(alloc, tables)?;
+        hand.put_others(alloc, tables)?;
+        Ok(hand)
     }
 }
