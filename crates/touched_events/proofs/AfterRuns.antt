@@ -1,0 +1,147 @@
+-- What is used of the ACTs and the batches before an event, and after it, holds after every run.
+use Rattle.std.specs.Prelude.{◌≡◌, refl, ℕ, zero, suc, ◌+◌, ◌<◌, ◌≤◌, ◌==◌, not, Bool, true, false, ◌&&◌, ◌||◌, is_some, Option, Some, None, List, [], ◌∷◌, length, map, find}
+use Rattle.std.specs.List.{list_any, AllByRecursion}
+use Rattle.std.proofs.Common.{arith, sym, ap, subst, inl, inr, ◌∙◌}
+use Rattle.std.proofs.lemmas.Bool.{eqb-true, eq-eqb, and_parts, or_cases, true≢false, false≢true, or_left, or_right}
+use Rattle.aml_slice.specs.Controls.{Rest}
+use Rattle.core_rows.specs.OnRuns.{HasRun}
+use Rattle.snap_base.specs.declared.transactions.State.{State}
+use Rattle.snap_base.specs.declared.transactions.Tx.{Tx}
+use Rattle.protocol.specs.Effects.{cell_at}
+use Rattle.protocol.specs.Events.{Event}
+use Rattle.protocol.specs.Facts.{Alone}
+use Rattle.protocol.specs.Fixed.{Fixed, IsText}
+use Rattle.protocol.specs.History.{Ran, Stands, Gone, History, history, batches_in}
+use Rattle.protocol.specs.Laws.{AfterEveryRunWithHistory}
+use Rattle.protocol.specs.Numbers.{from, flat, times, NumbersDrawnOnce}
+use Rattle.protocol.specs.Parts.{Joined, Act, Cascade, Entry, BatchEntry, ActEntry, OfBatch, OfAct, Machine}
+use Rattle.protocol.specs.Rests.{HasFacts, IsRest, IsTxIn}
+use Rattle.protocol.specs.Runs.{IsRun, reached}
+use Rattle.protocol.specs.Words.{is_empty, is_among, holds, act_of, joined_of, acts_on, has_act, is_live_status, is_settled}
+use Rattle.protocol_theorems.specs.Sets.{NumbersStand, is_ahead, StandsBehind, least_in}
+use Rattle.protocol_laws.proofs.first.Drawn.{numbers_drawn_once}
+use Rattle.protocol_laws.proofs.first.Times
+use Rattle.protocol_laws.proofs.machine.ActsFound.{found_tid}
+use Rattle.protocol_laws.proofs.machine.AllGood.{AllGood, all_good, none_allowed}
+use Rattle.protocol_laws.proofs.machine.Good.{Given}
+use Rattle.protocol_theorems.proofs.quiet.JoinsKept.{stands}
+use Rattle.protocol_theorems.proofs.quiet.LeftFalls.{once_most}
+use Rattle.protocol_theorems.proofs.quiet.QuietKnown.{numbered, settled_results}
+use Rattle.protocol_theorems.proofs.sets.NumbersStand.{numbers_stand}
+use Rattle.protocol_records.specs.Logged.{is_on, has_place, OnJoined}
+use Rattle.protocol_records.proofs.crash.ActsOver.{acts_end_whole}
+use Rattle.protocol_records.proofs.crash.CrashParts.{logs_hold}
+use Rattle.touched_events.proofs.GivenUp.{Known}
+
+-- ---- who has an after number stands on an actor
+
+-- who is ahead of a batch there is on the actor
+ahead_on : (t k : ℕ) (rs : List Ran) → is_ahead t k rs ≡ true → is_on (OfAct t) rs ≡ true
+ahead_on t k [] h = absurd (false≢true h)
+ahead_on t k (Stands (OfBatch j) c ss ∷ rs) h = ahead_on t k rs h
+ahead_on t k (Stands (OfAct u) c ss ∷ rs) h =
+    elim (or_cases ((u == t) && is_among k (batches_in rs)) (is_ahead t k rs) h) [
+      | inl a ↦ or_left (u == t) (is_on (OfAct t) rs) (and_parts (u == t) (is_among k (batches_in rs)) a).0
+      | inr b ↦ or_right (u == t) (is_on (OfAct t) rs) (ahead_on t k rs b)
+    ]
+ahead_on t k (Gone y ss ∷ rs) h = or_right _ (is_on (OfAct t) rs) (ahead_on t k rs h)
+
+some_place : (test : Joined → Bool) (ps : List Joined) → list_any test ps ≡ true → is_empty ps ≡ false
+some_place test [] g = absurd (false≢true g)
+some_place test (p ∷ ps) g = refl
+
+none_some : (j : ℕ) → None ≡ Some j → ⊥
+none_some j e = cc e
+
+some_behind : (cs : List Cascade) (long : ℕ → List Ran) (t j : ℕ) (n : Option ℕ) (ks : List ℕ) → n ≡ least_in ks → AllByRecursion (StandsBehind cs long t) ks → n ≡ Some j → (a : ℕ) × (is_on (OfAct t) (long a) ≡ true)
+some_behind cs long t j n [] e h g = absurd (none_some j (sym e ∙ g))
+some_behind cs long t j n (k ∷ ks) e h g = (h.0.1.0, ahead_on t k (long h.0.1.0) h.0.1.1)
+
+placed : (a : ℕ) (o : Option Act) (x : Act) → o ≡ Some x → holds (has_place a) o ≡ true → is_empty x.places ≡ false
+placed a o x e h = some_place (λ p. p.actor == a) x.places (subst (λ z. holds (has_place a) z ≡ true) e h)
+
+module _ (w : Fixed Rest) (finish : Rest → List State → Alone) (s : Machine Rest) (h : History) (numbers : NumbersStand w finish s h) (joined : OnJoined s h) where
+  pub numbered_known : (t j : ℕ) (x : Act) → act_of t s.book.acts ≡ Some x → is_live_status x.status ≡ true → x.n ≡ Some j → (x.m < j) × (is_empty x.places ≡ false)
+  unfolding OnJoined
+  numbered_known t j x found live e =
+      let least = numbers.after_is_least t x found live in
+      let on = some_behind s.book.cascades h.long x.tid j x.n (h.behind x.tid) least.0 least.1 e in
+      let tid : x.tid ≡ t = found_tid t x s.book.acts found in
+      let place : holds (has_place on.0) (act_of t s.book.acts) ≡ true = subst (λ u. holds (has_place on.0) (act_of u s.book.acts) ≡ true) tid (joined x.tid on.0 on.1) in
+      (numbers.before_below_after t j x found live e, placed on.0 (act_of t s.book.acts) x found place)
+
+-- ---- all of it
+
+pub record Holding (w : Fixed Rest) (s : Machine Rest) : Type 0 where
+  pub known : Known s.book.acts
+  -- who is on an actor's schedule joined an actor
+  pub stand : (a t : ℕ) (x : Act) → has_act t (cell_at s a).entries ≡ true → act_of t s.book.acts ≡ Some x → is_empty x.places ≡ false
+  -- a batch that has settled has all results
+  pub results : AllByRecursion (λ b. is_settled b.stage ≡ true → AllByRecursion (λ p. is_some p.result ≡ true) b.pacts) s.desk.batches
+  pub bids : map (λ b. b.bid) s.desk.batches ≡ from w.text.opening.next_bid (length s.desk.batches)
+
+all_more : {X : Type 0} {P Q : X → Type 0} → ((x : X) → P x → Q x) → (xs : List X) → AllByRecursion P xs → AllByRecursion Q xs
+all_more f [] h = tt
+all_more f (x ∷ xs) h = (f x h.0, all_more f xs h.1)
+
+acts_once : (w : Fixed Rest) (s : Machine Rest) → NumbersDrawnOnce w s → (t : ℕ) → times t (map (λ x. x.tid) s.book.acts) ≤ 1
+acts_once w s d t = omega (arith, d.tids t, Times.times_append t (flat (map (λ b. map (λ p. p.tid) b.pacts) s.desk.batches)) (map (λ x. x.tid) s.book.acts), once_most w.text.opening.next_tid s.ring.next_tid t)
+
+joined_place : (a : ℕ) (x : Act) (ps : List Joined) → holds (λ p. not p.finished) (find (λ p. p.actor == a) ps) ≡ true → is_empty ps ≡ false
+joined_place a x [] h = absurd (false≢true h)
+joined_place a x (p ∷ ps) h = refl
+
+stood : (a : ℕ) (o : Option Act) (x : Act) → o ≡ Some x → holds (λ x. holds (λ p. not p.finished) (joined_of a x)) o ≡ true → is_empty x.places ≡ false
+stood a o x e h = joined_place a x x.places (subst (λ z. holds (λ x. holds (λ p. not p.finished) (joined_of a x)) z ≡ true) e h)
+
+known_at : (w : Fixed Rest) (finish : Rest → List State → Alone) (es : List Event) → HasFacts w finish → IsText w.text → IsRun w es → Known (reached w es).book.acts
+known_at w finish es f v run = record {
+  once = acts_once w (reached w es) (numbers_drawn_once w es v run);
+  ends = acts_end_whole w finish es f v run;
+  numbers = by es run (length w.text.opening.states) refl;
+}
+  where
+    Of : Tx → Rest → Type 0
+    Of = IsRest w.code (IsTxIn w.text)
+
+    by : (es : List Event) → IsRun w es → (n : ℕ) → length w.text.opening.states ≡ n → (t j : ℕ) (x : Act) → act_of t (reached w es).book.acts ≡ Some x → is_live_status x.status ≡ true → x.n ≡ Some j → (x.m < j) × (is_empty x.places ≡ false)
+    by es run (suc n) l =
+        let g : Given w Of finish = record { text = v; actors = omega (arith, l); facts = f } in
+        numbered_known w finish (reached w es) (history w es) (numbers_stand w finish es f v run) (logs_hold w Of finish es g run).joined
+    by [] run zero l = λ t j x e. absurd (cc e)
+    by (e ∷ es) run zero l = absurd (none_allowed w e v l run.0)
+
+stand_at : (w : Fixed Rest) (finish : Rest → List State → Alone) (es : List Event) → HasFacts w finish → IsText w.text → IsRun w es → (a t : ℕ) (x : Act) → has_act t (cell_at (reached w es) a).entries ≡ true → act_of t (reached w es).book.acts ≡ Some x → is_empty x.places ≡ false
+stand_at w finish es f v run = by es run (length w.text.opening.states) refl
+  where
+    Of : Tx → Rest → Type 0
+    Of = IsRest w.code (IsTxIn w.text)
+
+    by : (es : List Event) → IsRun w es → (n : ℕ) → length w.text.opening.states ≡ n → (a t : ℕ) (x : Act) → has_act t (cell_at (reached w es) a).entries ≡ true → act_of t (reached w es).book.acts ≡ Some x → is_empty x.places ≡ false
+    by es run (suc n) l a t x on e =
+        let g : Given w Of finish = record { text = v; actors = omega (arith, l); facts = f } in
+        stood a (act_of t (reached w es).book.acts) x e (stands (reached w es) (all_good w Of finish es g run).opened t a on)
+    by [] run zero l a t x on e = absurd (cc e)
+    by (e ∷ es) run zero l a t x on i = absurd (none_allowed w e v l run.0)
+
+holding_at : (w : Fixed Rest) (finish : Rest → List State → Alone) (es : List Event) → HasFacts w finish → IsText w.text → IsRun w es → Holding w (reached w es)
+holding_at w finish es f v run = record {
+  known = known_at w finish es f v run;
+  stand = stand_at w finish es f v run;
+  results = all_more (λ b e. settled_results w es run b.bid b e) (reached w es).desk.batches (numbered w (reached w es) (numbers_drawn_once w es v run)).batches;
+  bids = (numbers_drawn_once w es v run).bids;
+}
+
+pub holding : (w : Fixed Rest) (s : Machine Rest) → HasRun w s → Holding w s
+holding w s r = subst (Holding w) (sym r.is_reached) (holding_at w r.finish r.events r.facts r.text r.run)
+
+-- ---- who is on the schedule
+
+pub on_schedule : (t : ℕ) (es : List Entry) → is_among t (map (λ x. x.tid) (acts_on es)) ≡ true → has_act t es ≡ true
+on_schedule t [] h = h
+on_schedule t (BatchEntry b ∷ es) h = on_schedule t es h
+on_schedule t (ActEntry x ∷ es) h =
+    elim (or_cases (x.tid == t) (is_among t (map (λ x. x.tid) (acts_on es))) h) [
+      | inl a ↦ or_left (x.tid == t) (has_act t es) a
+      | inr b ↦ or_right (x.tid == t) (has_act t es) (on_schedule t es b)
+    ]

@@ -1,0 +1,15 @@
+pub mod Common
+pub mod Behind
+pub mod InDesk
+pub mod InBook
+pub mod Replies
+pub mod NewReplies
+pub mod GivenUp
+pub mod AfterRuns
+pub mod InAnswers
+pub mod InRing
+pub mod InPost
+pub mod PostTold
+pub mod Closing
+pub mod InCells
+pub mod Together

@@ -1,0 +1,7 @@
+pub mod New
+pub mod InDesk
+pub mod InBook
+pub mod InAnswers
+pub mod InRing
+pub mod InPost
+pub mod InCells

@@ -1,0 +1,27 @@
+-- What an event may have made allowed.
+use Rattle.std.specs.Prelude.{◌≡◌, ◌==◌, Bool, not, ◌&&◌, List, map, Contains}
+use Rattle.aml_slice.specs.Controls.{Rest}
+use Rattle.core_events.specs.Meant.{event_meant}
+use Rattle.core_events.specs.declared.events.Event as code
+use Rattle.core_rows.specs.OnRuns.{HasRun}
+use Rattle.protocol.specs.Conditions.{IsAllowed, epoch, refusal}
+use Rattle.protocol.specs.Effects.{after}
+use Rattle.protocol.specs.Events.{Event}
+use Rattle.protocol.specs.Fixed.{Fixed}
+use Rattle.protocol.specs.Parts.{Machine, Cell, Log}
+use Rattle.protocol_ready.specs.Touched.{is_touched}
+use Rattle.snap_hand.specs.Hands.{Parts, Fits}
+
+-- the event reads what e changed, was not allowed before it, and is allowed after it
+abbrev pub is_new : Fixed Rest → Event → Machine Rest → Event → Bool
+is_new w e s f = is_touched w e s f && (not (refusal w f s == 0) && (refusal w f (after w e s) == 0))
+
+-- The event was allowed in this state, to which some run has come, and the hand fits the state after it.
+pub record IsBehind (w : Fixed Rest) (e : Event) (s : Machine Rest) (h : Parts) : Type 0 where
+  pub run : HasRun w s
+  pub allowed : IsAllowed w e s
+  pub fits : Fits h (after w e s)
+
+-- all that was there still is
+abbrev pub Keeps : List code.Event → List code.Event → Type 0
+Keeps old new = (f : Event) → Contains (map event_meant old) f → Contains (map event_meant new) f
