@@ -1,6 +1,7 @@
 pub mod ActorLines
 pub mod Complete
 pub mod InputLaws
+pub mod Names
 pub mod Outcomes
 pub mod RecoverComplete
 pub mod Recovering

@@ -12,17 +12,30 @@ use Rattle.run_opening.specs.Opens.{MayOpen}
 use Rattle.run_work.specs.Runs.{Ran, IsWorkAnswer, IsOfLogs}
 use Rattle.run_work.specs.Writings.{Writing, WritesNothing}
 use Rattle.snap_recover.specs.declared.openings.Opening.{Opening}
-use Rattle.snap_run.specs.Words.{IsRun, IsRecover, IsUsageFault}
+use Rattle.snap_run.proofs.Names.{heads, run_recover, run_gen, recover_gen}
+use Rattle.snap_run.specs.Words.{IsRun, IsRecover, IsGen, IsUsageFault}
 use Rattle.snap_run.specs.Uses.{Reading, Use}
 use Rattle.snap_run.specs.Recoveries.{IsRecoverAnswer}
-use Rattle.snap_run.specs.Answers.{OfText, ran_of, ReadsNothing, IsInputAnswer, TouchesNothing, GetsNoCall, IsUntroubled}
+use Rattle.snap_run.specs.Answers.{OfText, ran_of, ReadsNothing, IsInputAnswer, TouchesNothing, TakesNoEvent, IsGenAnswer, GetsNoCall, IsUntroubled}
+use Rattle.work_gen.specs.Generated.{generated_text}
 use Rattle.snap_run.specs.Outcomes.{IsOutcome}
 use Rattle.txn_records.specs.declared.records.Record.{Record}
 
--- the two commands have two names
+-- the first word of a list is one word
+same_first : (words : List (List ℕ)) (x y : List ℕ) (xs ys : List (List ℕ)) → words ≡ x ∷ xs → words ≡ y ∷ ys → x ≡ y
+same_first words x y xs ys a b = heads x y xs ys (sym a ∙ b)
+
+-- the commands have different names
 pub not_both : (words : List (List ℕ)) (seed : ℕ) → IsRun words seed → IsRecover words → ⊥
-not_both words seed (inl run) recover = let e : codes "run" ∷ [] ≡ codes "recover" ∷ [] = sym run.0 ∙ recover in cc
-not_both words seed (inr run) recover = let e = sym run.0 ∙ recover in cc
+not_both words seed (inl run) recover = run_recover (same_first words _ _ _ _ run.0 recover)
+not_both words seed (inr run) recover = run_recover (same_first words _ _ _ _ run.0 recover)
+
+pub run_not_gen : (words : List (List ℕ)) (seed count last : ℕ) → IsRun words seed → IsGen words count last → ⊥
+run_not_gen words seed count last (inl run) gen = run_gen (same_first words _ _ _ _ run.0 gen.0)
+run_not_gen words seed count last (inr run) gen = run_gen (same_first words _ _ _ _ run.0 gen.0)
+
+pub recover_not_gen : (words : List (List ℕ)) (count last : ℕ) → IsRecover words → IsGen words count last → ⊥
+recover_not_gen words count last recover gen = recover_gen (same_first words _ _ _ _ recover gen.0)
 
 -- ---- the input is refused
 
@@ -113,7 +126,14 @@ recover_outcome u s recover nothing none untraced opened kept a = record {
 
 pub usage_outcome : (u : Use) (place : ℕ) → IsUsageFault u.words place → ReadsNothing u.reading → TouchesNothing u → IsOutcome u (status.Usage place)
 usage_outcome u place fault reads nothing = record {
-  answer = inr (inr ((place, refl, fault), reads, nothing));
-  opened = λ recover. absurd (fault.no_form (inr recover));
-  kept = λ recover. absurd (fault.no_form (inr recover));
+  answer = inr (inr (inr ((place, refl, fault), reads, nothing)));
+  opened = λ recover. absurd (fault.no_form (inr (inl recover)));
+  kept = λ recover. absurd (fault.no_form (inr (inl recover)));
+}
+
+pub gen_outcome : (u : Use) (count seed : ℕ) (s : Status) → IsGen u.words count seed → ReadsNothing u.reading → TakesNoEvent u → IsGenAnswer (generated_text count seed) u.writing s → IsOutcome u s
+gen_outcome u count seed s gen reads nothing a = record {
+  answer = inr (inr (inl (count, seed, gen, reads, nothing, a)));
+  opened = λ recover. absurd (recover_not_gen u.words count seed recover gen);
+  kept = λ recover. absurd (recover_not_gen u.words count seed recover gen);
 }

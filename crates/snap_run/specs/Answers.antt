@@ -9,10 +9,11 @@ use Rattle.snap_report.specs.declared.statuses.Status.TheVariants as status
 use Rattle.snap_work.specs.Works.{Work}
 use Rattle.work_text.specs.Reads.{IsWork, IsFirstWorkFault}
 use Rattle.run_opening.specs.Opens.{MayOpen}
-use Rattle.snap_run.specs.Words.{IsRun, IsRecover, IsUsageFault}
+use Rattle.snap_run.specs.Words.{IsRun, IsRecover, IsGen, IsUsageFault}
 use Rattle.snap_run.specs.Uses.{Reading, Use}
-use Rattle.run_work.specs.Writings.{WritesNothing}
+use Rattle.run_work.specs.Writings.{Writing, WritesNothing, Writes, WritesFront}
 use Rattle.run_work.specs.Runs.{Ran, IsWorkAnswer}
+use Rattle.work_gen.specs.Generated.{generated_text}
 use Rattle.snap_run.specs.Recoveries.{IsRecoverAnswer}
 use Rattle.snap_work.specs.declared.limits.TheConstants.{LONGEST_WORK}
 
@@ -59,6 +60,24 @@ IsRunAnswer u seed s = (IsInputAnswer u.reading s × TouchesNothing u) ⊎ OfWor
 abbrev pub ReadsNothing : Reading → Type 0
 ReadsNothing r = Keeps r.left_before r.left_after
 
+-- The answers of the command that prints a generated text.
+abbrev pub IsGenAnswer : List ℕ → Writing → Status → Type 0
+IsGenAnswer text out status.Done = Writes out text
+IsGenAnswer text out (status.Usage place) = ⊥
+IsGenAnswer text out (status.Input line cause) = ⊥
+IsGenAnswer text out (status.Logs log offset cause) = ⊥
+IsGenAnswer text out status.Memory = WritesFront out text
+IsGenAnswer text out status.ReadFault = ⊥
+IsGenAnswer text out (status.LogFault log) = ⊥
+IsGenAnswer text out status.OutFault = WritesFront out text × Rose out.faults_before out.faults_after
+IsGenAnswer text out status.TraceFault = ⊥
+
+-- no log was called, and no event taken
+pub record TakesNoEvent (u : Use) : Type 0 where
+  pub kept : u.kept ≡ []
+  pub trace : WritesNothing u.tracing
+  pub devices : u.devices_after ≡ u.devices_before
+
 -- the words are no form
 abbrev pub IsUsageAnswer : Use → Status → Type 0
 IsUsageAnswer u s = (place : ℕ) × (s ≡ status.Usage place) × IsUsageFault u.words place
@@ -67,7 +86,8 @@ abbrev pub IsAnswer : Use → Status → Type 0
 IsAnswer u s =
     ((seed : ℕ) × IsRun u.words seed × IsRunAnswer u seed s)
     ⊎ ((IsRecover u.words × ReadsNothing u.reading × (u.kept ≡ []) × WritesNothing u.tracing × IsRecoverAnswer u.devices_before u.devices_after u.writing s)
-    ⊎ (IsUsageAnswer u s × ReadsNothing u.reading × TouchesNothing u))
+    ⊎ (((count seed : ℕ) × IsGen u.words count seed × ReadsNothing u.reading × TakesNoEvent u × IsGenAnswer (generated_text count seed) u.writing s)
+    ⊎ (IsUsageAnswer u s × ReadsNothing u.reading × TouchesNothing u)))
 
 -- the call ended before a log was needed
 abbrev pub GetsNoCall : Status → Type 0
@@ -91,3 +111,8 @@ pub record IsUntroubled (u : Use) (input : List ℕ) (w : Work) (records : List 
   pub source : ¬ Rose u.reading.faults_before u.reading.faults_after
   pub sink : ¬ Rose u.writing.faults_before u.writing.faults_after
   pub trace : ¬ Rose u.tracing.faults_before u.tracing.faults_after
+
+-- The words print a generated text, and the output does not fail.
+pub record IsPrintable (u : Use) : Type 0 where
+  pub gen : (count seed : ℕ) × IsGen u.words count seed
+  pub sink : ¬ Rose u.writing.faults_before u.writing.faults_after

@@ -4,4 +4,6 @@ pub(crate) enum Command {
     Run { seed: u64 },
     /// Prints what the logs recover to.
     Recover,
+    /// Prints the text of so many transactions that the seed draws.
+    Gen { count: u32, seed: u64 },
 }

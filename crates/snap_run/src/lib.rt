@@ -2,6 +2,7 @@
 #![tactic(auto)]
 
 mod commands;
+mod generated;
 mod reads;
 mod recoveries;
 mod top;

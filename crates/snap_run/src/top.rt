@@ -4,7 +4,7 @@ ghost use Rattle.run_work.specs.Runs.{IsOfLogs};
 ghost use Rattle.run_work.specs.Writings.{writing_of};
 ghost use Rattle.snap_recover.specs.declared.openings.Opening.{Opening};
 ghost use Rattle.snap_report.specs.declared.statuses.Status.TheVariants as status;
-ghost use Rattle.snap_run.specs.Answers.{IsUntroubled, GetsNoCall};
+ghost use Rattle.snap_run.specs.Answers.{IsUntroubled, IsPrintable, GetsNoCall};
 ghost use Rattle.snap_run.specs.Outcomes.{IsOutcome};
 ghost use Rattle.snap_run.specs.Recoveries.{IsRecoverable};
 ghost use Rattle.snap_run.specs.Uses.{Use, reading_of, use_of};
@@ -13,6 +13,7 @@ ghost use Rattle.snap_work.specs.Works.{Work};
 ghost use Rattle.txn_records.specs.declared.records.Record.{Record};
 
 use crate::commands::Command;
+use crate::generated::print_generated;
 use crate::recoveries::print_recovered;
 use crate::words::read_words;
 use crate::works::read_work;
@@ -37,7 +38,8 @@ pub struct Outcome<D, O, T> {
 
 /// Does what the words ask for. `run` reads a work text from `input` and runs it on the machine by the schedule of the seed: it
 /// goes on from what the text's logs hold, writes the records of the run there, prints its replies and its end to `out`, and
-/// at last a line of each event to `trace`. `recover` reads no input and prints what the logs recover to.
+/// at last a line of each event to `trace`. The other commands read no input: `recover` prints what the logs recover to, and
+/// `gen` prints a generated text.
 pub fn run<I: Source, D: LogDev, O: Sink, T: Sink>(
     alloc: Global,
     words: &[String],
@@ -52,9 +54,12 @@ pub fn run<I: Source, D: LogDev, O: Sink, T: Sink>(
     // Where nothing stands in the way, the work is run to its end, or there is no memory.
     ensures complete { let u : Use = use_of (map string_bytes words.now) (reading_of I.left I.faults input.old input.new) (writing_of O.taken O.faults out result.out) (writing_of T.taken T.faults trace result.trace) result.kept.items (devices_of D.told D.faults logs.items) (devices_of D.told D.faults result.logs.items) in
         (text : List ℕ) (w : Work) (records : List (List Record)) (o : Opening) → IsUntroubled u text w records o → (result.status ≡ status.Done) ⊎ (result.status ≡ status.Memory) }
-    // Where nothing stands in the way of the other command, it prints what the logs recover to, or there is no memory.
+    // Where nothing stands in the way of recovering, what the logs recover to is printed, or there is no memory.
     ensures complete_recover { let u : Use = use_of (map string_bytes words.now) (reading_of I.left I.faults input.old input.new) (writing_of O.taken O.faults out result.out) (writing_of T.taken T.faults trace result.trace) result.kept.items (devices_of D.told D.faults logs.items) (devices_of D.told D.faults result.logs.items) in
         (kept : List (List Record)) → IsRecoverable u kept → (result.status ≡ status.Done) ⊎ (result.status ≡ status.Memory) }
+    // Where the output takes it, a generated text is printed, or there is no memory.
+    ensures complete_gen { let u : Use = use_of (map string_bytes words.now) (reading_of I.left I.faults input.old input.new) (writing_of O.taken O.faults out result.out) (writing_of T.taken T.faults trace result.trace) result.kept.items (devices_of D.told D.faults logs.items) (devices_of D.told D.faults result.logs.items) in
+        IsPrintable u → (result.status ≡ status.Done) ⊎ (result.status ≡ status.Memory) }
     // Before the text is accepted, no log gets a call.
     ensures untouched { GetsNoCall result.status → result.logs ≡ logs }
     // Where no event is kept, the trace gets none.
@@ -96,6 +101,9 @@ fn answer<I: Source, D: LogDev, O: Sink, T: Sink>(
     match read_words(words) {
         Ok(Command::Run { seed }) => run_input(alloc, input, seed, logs, out, trace),
         Ok(Command::Recover) => (Vec::new(alloc), print_recovered(alloc, logs, out)),
+        Ok(Command::Gen { count, seed }) => {
+            (Vec::new(alloc), print_generated(alloc, count, seed, out))
+        }
         Err(word) => (Vec::new(alloc), Status::Usage { word }),
     }
 }

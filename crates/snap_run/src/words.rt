@@ -1,9 +1,12 @@
-ghost use Rattle.std.specs.Prelude.{◌∷◌, map, codes, MatchResult, string_bytes};
-ghost use Rattle.snap_run.specs.Commands.{IsCommand};
-ghost use Rattle.snap_run.specs.Words.{IsUsageFault};
+ghost use Rattle.std.specs.Prelude.{◌≡◌, ℕ, ◌≤◌, List, ◌∷◌, map, codes, Some, IfSome, MatchResult, string_bytes};
+ghost use Rattle.std.specs.Fmt.{decimal};
+ghost use Rattle.snap_run.specs.Commands.{IsCommand, TakesCountAndSeed};
+ghost use Rattle.snap_run.specs.Words.{IsCountAndSeed, IsUsageFault};
+ghost use Rattle.snap_work.specs.declared.limits.TheConstants.{MOST_TRANSACTIONS};
 
 use crate::commands::Command;
 use decimal_words::natural;
+use snap_work::MOST_TRANSACTIONS;
 
 /// Reads the words of the command line. The error is the place of the wrong word.
 pub(crate) fn read_words(words: &[String]) -> Result<Command, u32>
@@ -18,6 +21,9 @@ pub(crate) fn read_words(words: &[String]) -> Result<Command, u32>
     }
     if word == "recover" {
         return read_recover(rest);
+    }
+    if word == "gen" {
+        return read_gen(rest);
     }
     Err(0)
 }
@@ -59,4 +65,54 @@ fn read_recover(words: &[String]) -> Result<Command, u32>
         return Err(1);
     }
     Ok(Command::Recover)
+}
+
+/// The words behind `gen`: a number of transactions and a seed.
+fn read_gen(words: &[String]) -> Result<Command, u32>
+    ensures { MatchResult result (IsCommand (codes "gen" ∷ map string_bytes words.now)) (IsUsageFault (codes "gen" ∷ map string_bytes words.now)) }
+{
+    let (count, seed) = read_count_and_seed(words)?;
+    Ok(Command::Gen { count, seed })
+}
+
+/// A number of transactions and a seed, behind the name of the command that takes them.
+fn read_count_and_seed(words: &[String]) -> Result<(u32, u64), u32>
+    ensures { (name : List ℕ) → TakesCountAndSeed name → MatchResult result (λ x. IsCountAndSeed name (name ∷ map string_bytes words.now) x.0 x.1) (IsUsageFault (name ∷ map string_bytes words.now)) }
+{
+    let Some((word, rest)) = words.split_first() else {
+        return Err(1);
+    };
+    let Some(count) = count_of(word.as_bytes()) else {
+        return Err(1);
+    };
+    let seed = read_last_seed(rest)?;
+    Ok((count, seed))
+}
+
+/// The seed, behind a name and a number of transactions.
+fn read_last_seed(words: &[String]) -> Result<u64, u32>
+    ensures { (name : List ℕ) (count : ℕ) → TakesCountAndSeed name → count ≤ MOST_TRANSACTIONS → MatchResult result (λ seed. IsCountAndSeed name (name ∷ decimal count ∷ map string_bytes words.now) count seed) (IsUsageFault (name ∷ decimal count ∷ map string_bytes words.now)) }
+{
+    let Some((word, rest)) = words.split_first() else {
+        return Err(2);
+    };
+    let Some(seed) = natural(word.as_bytes()) else {
+        return Err(2);
+    };
+    if !rest.is_empty() {
+        return Err(3);
+    }
+    Ok(seed)
+}
+
+/// The number of transactions that a word spells, where a text may have so many.
+fn count_of(word: &[u8]) -> Option<u32>
+    ensures found { IfSome result (λ n. (word.now ≡ decimal n) × (n ≤ MOST_TRANSACTIONS)) }
+    ensures only { (n : ℕ) → n ≤ MOST_TRANSACTIONS → word.now ≡ decimal n → result ≡ Some n }
+{
+    let number = natural(word)?;
+    if number > MOST_TRANSACTIONS as u64 {
+        return None;
+    }
+    Some(number as u32)
 }

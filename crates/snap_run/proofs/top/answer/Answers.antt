@@ -3,11 +3,13 @@ use Rattle.std.proofs.KnownBytes.{Keeps-refl}
 use Rattle.std.specs.Prelude.{string_bytes}
 use Rattle.log_opening.specs.Devices.{devices_of}
 use Rattle.run_work.specs.Writings.{writing_of}
-use Rattle.snap_run.proofs.Outcomes.{usage_outcome}
+use Rattle.snap_run.proofs.Outcomes.{usage_outcome, gen_outcome, run_not_gen}
 use Rattle.snap_run.proofs.top.answer.Goals as goal
 use Rattle.snap_run.specs.Commands.{IsCommand}
 use Rattle.snap_run.specs.Uses.{Use, reading_of, use_of}
 use Rattle.snap_run.specs.declared.commands.Command.{Command}
+
+-- ---- the input is run
 
 pub returns-in-Ok-Run-clause-outcome : goal.returns-in-Ok-Run-clause-outcome
 returns-in-Ok-Run-clause-outcome g c =
@@ -16,6 +18,26 @@ returns-in-Ok-Run-clause-outcome g c =
 
 pub returns-in-Ok-Run-clause-opens : goal.returns-in-Ok-Run-clause-opens
 returns-in-Ok-Run-clause-opens g c = c.run_input.ensures.opens (map string_bytes c.args.words.now)
+
+-- ---- a generated text is printed
+
+pub print_generated-requires : goal.print_generated-requires
+print_generated-requires g c = (subst (λ (k : Command). IsCommand (map string_bytes c.args.words.now) k) c.in-Ok-Gen.field-0-is c.in-Ok-Gen.ensures).1
+
+pub returns-in-Ok-Gen-clause-outcome : goal.returns-in-Ok-Gen-clause-outcome
+returns-in-Ok-Gen-clause-outcome g c =
+    let u : Use = use_of (map string_bytes c.args.words.now) (reading_of g.I.Source.left g.I.Source.faults c.args.input.now c.args.input.now)
+    (writing_of g.O.Sink.taken g.O.Sink.faults c.args.out.now c.print_generated.new.out) (writing_of g.T.Sink.taken g.T.Sink.faults c.args.trace.now c.args.trace.now) c.new-in-Ok-Gen.result.items
+    (devices_of g.D.LogDev.told g.D.LogDev.faults c.args.logs.now.items) (devices_of g.D.LogDev.told g.D.LogDev.faults c.args.logs.now.items) in
+    gen_outcome u c.in-Ok-Gen.count c.in-Ok-Gen.seed c.print_generated.result
+    (subst (λ (k : Command). IsCommand (map string_bytes c.args.words.now) k) c.in-Ok-Gen.field-0-is c.in-Ok-Gen.ensures) (Keeps-refl _)
+    (record { kept = c.new-in-Ok-Gen.ensures.items; trace = Keeps-refl _; devices = refl }) c.print_generated.ensures
+
+pub returns-in-Ok-Gen-clause-opens : goal.returns-in-Ok-Gen-clause-opens
+returns-in-Ok-Gen-clause-opens g c = λ text w records o t.
+    absurd (run_not_gen _ t.run.0 c.in-Ok-Gen.count c.in-Ok-Gen.seed t.run.1 (subst (λ (k : Command). IsCommand (map string_bytes c.args.words.now) k) c.in-Ok-Gen.field-0-is c.in-Ok-Gen.ensures))
+
+-- ---- the words are no form
 
 pub returns-in-Err-clause-outcome : goal.returns-in-Err-clause-outcome
 returns-in-Err-clause-outcome g c =

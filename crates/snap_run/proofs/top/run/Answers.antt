@@ -1,4 +1,4 @@
-use Rattle.snap_run.proofs.Complete.{completed}
+use Rattle.snap_run.proofs.Complete.{completed, completed_gen}
 use Rattle.snap_run.proofs.RecoverComplete.{RecordLaws, completed_recover}
 use Rattle.snap_run.proofs.top.run.Goals as goal
 
@@ -10,3 +10,6 @@ pub returns-clause-complete_recover : goal.returns-clause-complete_recover
 returns-clause-complete_recover g c = λ kept may.
     let laws : RecordLaws = record { one_list = c.one_list_of_records.ensures; foreign = c.no_more_records.ensures.foreign; damaged = c.no_more_records.ensures.damaged; bad = c.no_more_records.ensures.bad } in
     completed_recover laws c.refused_is_not_recovered.ensures _ kept may c.answer-kept.result.1 c.answer-kept.ensures.outcome.answer
+
+pub returns-clause-complete_gen : goal.returns-clause-complete_gen
+returns-clause-complete_gen g c = λ may. completed_gen _ may c.answer-kept.result.1 c.answer-kept.ensures.outcome.answer

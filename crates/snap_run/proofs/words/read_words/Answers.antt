@@ -10,4 +10,6 @@ pub returns : goal.returns
 returns c =
     let run : (c.as_str-word.result.now ≡ codes "run" → ⊥) = search rules in
     let recover : (c.as_str-word.result.now ≡ codes "recover" → ⊥) = search rules in
-    rw c.in-Some.ensures.cases.0 (first_wrong _ _ (λ e. run (c.as_str-word.ensures.value ∙ e)) (λ e. recover (c.as_str-word.ensures.value ∙ e)))
+    let gen : (c.as_str-word.result.now ≡ codes "gen" → ⊥) = search rules in
+    rw c.in-Some.ensures.cases.0
+    (first_wrong _ _ (λ e. run (c.as_str-word.ensures.value ∙ e)) (λ e. recover (c.as_str-word.ensures.value ∙ e)) (λ e. gen (c.as_str-word.ensures.value ∙ e)))
