@@ -168,6 +168,9 @@ module _ {X : Type 0} (number : X → ℕ) where
   pub IsNumbered-tail : (n : ℕ) (x : X) (xs : List X) → IsNumbered number n (x ∷ xs) → IsNumbered number n xs
   IsNumbered-tail n x xs h i = omega (arith, h i, length-filter_tail (λ y. eqb (number y) i) x xs)
 
+  pub IsNumbered-filter : (p : X → Bool) (n : ℕ) (xs : List X) → IsNumbered number n xs → IsNumbered number n (filter p xs)
+  IsNumbered-filter p n xs h i = omega (arith, h i, ap length (filter-filter (λ y. eqb (number y) i) p xs), length-filter_le p (numbered number i xs))
+
   length-in_order_cons : (n : ℕ) (x : X) (xs : List X) → length (in_order number n (x ∷ xs)) ≡ length (in_order number n (x ∷ [])) + length (in_order number n xs)
   length-in_order_cons zero x xs = refl
   length-in_order_cons (suc n) x xs =
