@@ -17,7 +17,7 @@ use Rattle.protocol_verdicts.specs.Evidence.{VerdictsStay}
 use Rattle.snap_base.specs.declared.verdicts.Verdict.{Verdict}
 use Rattle.protocol_laws.specs.OneWay.{EachBecame, ActWent, LogGrew, StatusWent, WentOn}
 use Rattle.protocol_ready.specs.Touched.{IsSound, is_abort, reads_changed, changes_note, changes_trim, changes_replied}
-use Rattle.protocol_ready.specs.Refusing.{actor_of, tid_of, bid_of, is_at, is_on_ring, is_form, spreads, may_free, is_on_batches, is_settle, is_in_reach}
+use Rattle.protocol_ready.specs.Refusing.{actor_of, tid_of, bid_of, is_at, is_on_ring, is_form, spreads, may_free, is_on_batches, is_settle, is_in_reach, is_reply}
 use Rattle.protocol_ready.proofs.Cited.{Framed}
 use Rattle.protocol_ready.proofs.Reached as reach
 use Rattle.protocol_ready.proofs.Reached.{not_or}
@@ -154,7 +154,14 @@ Stays w e s f = IsAllowed w f s → IsAllowed w f (after w e s)
 unread : {C : Type 0} (w : Fixed C) (e : Event) (s : Machine C) (f : Event) → Framed w → IsSound w s → IsAllowed w e s → is_abort e ≡ false → reads_changed w e s f ≡ false → Stays w e s f
 unread w e s f framed ok al z h = subst AllTrue (sym (untouched w s framed e f ok al (not_or (is_abort e) (reads_changed w e s f) z h)))
 
-pub keeps : {C : Type 0} (w : Fixed C) (e : Event) (s : Machine C) (f : Event) → Framed w → IsSound w s → WentOn s (after w e s)
+-- whatever the event, a transaction that has a verdict is answered
+reply_stays : {C : Type 0} (w : Fixed C) (e : Event) (s : Machine C) (n : ℕ)
+    → ((m : ℕ) → is_some (verdict m s.book s.desk) ≡ true → is_some (verdict m (after w e s).book (after w e s).desk) ≡ true)
+    → (Reply n ≡ e → ⊥) → Stays w e s (Reply n)
+unfolding conditions
+reply_stays w e s n told apart allowed = rw (replied_stays w e s n (other_reply e n apart)) (allowed.0, (told n allowed.1.0, tt))
+
+keeps : {C : Type 0} (w : Fixed C) (e : Event) (s : Machine C) (f : Event) → Framed w → IsSound w s → WentOn s (after w e s)
     → ((n : ℕ) → is_some (verdict n s.book s.desk) ≡ true → is_some (verdict n (after w e s).book (after w e s).desk) ≡ true)
     → IsAllowed w e s → is_abort e ≡ false → is_in_reach e f ≡ false → (f ≡ e → ⊥) → Stays w e s f
 unfolding conditions
@@ -235,8 +242,19 @@ keeps w e s (Seal t) framed ok went told al z h apart allowed =
 keeps w e s (Finish t a) framed ok went told al z h apart allowed =
     let o = or_parts (spreads e) (is_at t (tid_of e)) h in
     unread w e s (Finish t a) framed ok al z (not_or _ _ (reach.acts e s t o.0 o.1) (reach.finished e t a o.1)) allowed
-keeps w e s (Reply n) framed ok went told al z h apart allowed = rw (replied_stays w e s n (other_reply e n apart)) (allowed.0, (told n allowed.1.0, tt))
+keeps w e s (Reply n) framed ok went told al z h apart allowed = reply_stays w e s n told apart allowed
 keeps w e s (Trim k a) framed ok went told al z h apart allowed = (trim_test w e s k a z (reach.stage e k h) (other_trim e k a apart) ∙ allowed.0, tt)
+
+not_both : (b : Bool) → (b && true) ≡ false → b ≡ false
+not_both true h = h
+not_both false h = h
+
+-- the same of any event: a cascade may refuse all but replies
+pub keeps_all : {C : Type 0} (w : Fixed C) (e : Event) (s : Machine C) (f : Event) → Framed w → IsSound w s → WentOn s (after w e s)
+    → ((n : ℕ) → is_some (verdict n s.book s.desk) ≡ true → is_some (verdict n (after w e s).book (after w e s).desk) ≡ true)
+    → IsAllowed w e s → (is_abort e && not (is_reply f)) ≡ false → is_in_reach e f ≡ false → (f ≡ e → ⊥) → Stays w e s f
+keeps_all w e s (Reply n) framed ok went told al z h apart = reply_stays w e s n told apart
+keeps_all w e s f framed ok went told al z h apart = keeps w e s f framed ok went told al (not_both (is_abort e) z) h apart
 
 -- ---- a run and one event more
 

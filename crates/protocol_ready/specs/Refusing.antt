@@ -1,6 +1,6 @@
 -- Which events an event may refuse that were allowed before it: the two share an actor, a transaction or a batch, or their
 -- kinds are such. It is a test of the two alone, so it may hold of an event that stays allowed.
-use Rattle.std.specs.Prelude.{◌≡◌, ℕ, ◌==◌, Bool, true, false, ◌||◌, Option, Some, None, List, Contains, ◌⊎◌}
+use Rattle.std.specs.Prelude.{◌≡◌, ℕ, ◌==◌, Bool, true, false, not, ◌&&◌, ◌||◌, Option, Some, None, List, Contains, ◌⊎◌}
 use Rattle.snap_base.specs.declared.transactions.State.{State}
 use Rattle.protocol.specs.Fixed.{Fixed}
 use Rattle.protocol.specs.Facts.{Alone}
@@ -137,8 +137,13 @@ is_in_reach e (Finish t a) = spreads e || is_at t (tid_of e)
 is_in_reach e (Reply n) = false
 is_in_reach e (Trim k a) = is_at k (bid_of e)
 
+abbrev pub is_reply : Event → Bool
+is_reply (Reply n) = true
+is_reply _ = false
+
+-- a cascade may refuse all but replies: what a transaction is told stands
 abbrev pub may_refuse : Event → Event → Bool
-may_refuse e f = is_abort e || is_in_reach e f
+may_refuse e f = (is_abort e && not (is_reply f)) || is_in_reach e f
 
 -- ---- the laws
 
