@@ -8,7 +8,8 @@ use Rattle.core_events.specs.declared.events.Event as code
 use Rattle.protocol.specs.Events.{Event}
 use Rattle.protocol.specs.Schedule.{Rank, rank, is_rank_below, IsBelowEach, Ascends}
 use Rattle.protocol_ready.specs.Ready.{put, without}
-use Rattle.ready_list.specs.Order.{is_before, at, IsGap, is_there}
+use Rattle.ready_list.specs.Order.{is_before, rank_of, at, IsGap, is_there}
+use Rattle.ready_list.specs.declared.places.Place.{Place}
 
 -- what is cited of the order of ranks
 abbrev pub Through : Type 0
@@ -103,6 +104,10 @@ pub read : (items : List code.Event) (es : List Event) (i : ℕ) (x : code.Event
 read items es i x e r b v h f g k =
     let q : at es i ≡ event_meant x = subst (λ l. at l i ≡ event_meant x) v (mapped_at event_meant items i x h ∙ ap event_meant (sym f)) in
     ap (λ y. is_before y e) q ∙ (sym g ∙ k)
+
+-- an event is compared with the place of another
+pub place_compared : (q : Place) (f e : Event) (r : Bool) → rank_of q ≡ rank e → r ≡ is_rank_below (rank f) (rank_of q) → r ≡ is_before f e
+place_compared q f e r b h = subst (λ x. r ≡ is_rank_below (rank f) x) b h
 
 -- ---- putting in
 

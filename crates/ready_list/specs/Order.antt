@@ -7,6 +7,10 @@ use Rattle.ready_list.specs.declared.places.Place.{Place}
 abbrev pub rank_of : Place → Rank
 rank_of p = ranked p.kind p.first p.second
 
+-- from 1 to 27
+abbrev pub kind_of : Event → ℕ
+kind_of e = (rank e).kind
+
 abbrev pub is_before : Event → Event → Bool
 is_before e f = is_rank_below (rank e) (rank f)
 

@@ -9,4 +9,4 @@ mod reach;
 mod ready;
 
 pub use reach::Reach;
-pub use ready::ReadyList;
+pub use ready::{ReadyList, event_at};

@@ -3,7 +3,7 @@
 ghost use Rattle.std.specs.Prelude.{◌≡◌};
 ghost use Rattle.core_events.specs.Meant.{event_meant};
 ghost use Rattle.protocol.specs.Schedule.{is_rank_below, rank};
-ghost use Rattle.ready_list.specs.Order.{is_before, rank_of};
+ghost use Rattle.ready_list.specs.Order.{is_before, kind_of, rank_of};
 
 use core_events::Event;
 
@@ -16,7 +16,8 @@ pub(crate) struct Place {
 }
 
 impl Place {
-    fn is_below(&self, other: &Place) -> bool
+    /// Whether the first one stands before the other.
+    pub(crate) fn is_below(&self, other: &Place) -> bool
         ensures { result ≡ is_rank_below (rank_of self.now) (rank_of other.now) }
     {
         self.kind < other.kind
@@ -37,7 +38,7 @@ fn at(kind: u8, first: u64, second: u64) -> Place
 }
 
 /// Where the event stands.
-fn place_of(e: Event) -> Place
+pub(crate) fn place_of(e: Event) -> Place
     ensures { rank_of result ≡ rank (event_meant e) }
 {
     match e {
@@ -71,9 +72,60 @@ fn place_of(e: Event) -> Place
     }
 }
 
+/// Its kind: by that events are ordered first.
+pub(crate) fn kind_of(e: Event) -> u8
+    ensures { result ≡ kind_of (event_meant e) }
+{
+    match e {
+        Event::Submit(_) => 1,
+        Event::Pass(_) => 2,
+        Event::Form(_) => 3,
+        Event::Admit(_) => 4,
+        Event::Arrive(_, _) => 5,
+        Event::Ask(_, _) => 6,
+        Event::Take(_, _) => 7,
+        Event::Run(_, _) => 8,
+        Event::Send(_, _) => 9,
+        Event::End(_, _) => 10,
+        Event::Close(_, _) => 11,
+        Event::Complete(_, _) => 12,
+        Event::Sync(_) => 13,
+        Event::Note(_, _) => 14,
+        Event::Commit(_) => 15,
+        Event::Settle(_) => 16,
+        Event::AbortBatch(_) => 17,
+        Event::Rollback(_) => 18,
+        Event::DropSub(_, _) => 19,
+        Event::DropControl(_) => 20,
+        Event::Prepare(_, _) => 21,
+        Event::Vouch(_, _) => 22,
+        Event::Decide(_) => 23,
+        Event::Seal(_) => 24,
+        Event::Finish(_, _) => 25,
+        Event::Reply(_) => 26,
+        Event::Trim(_, _) => 27,
+    }
+}
+
+/// Whether the event stands before the place. Where their kinds differ its numbers are not read.
+pub(crate) fn stands_before(e: Event, place: &Place) -> bool
+    ensures { result ≡ is_rank_below (rank (event_meant e)) (rank_of place.now) }
+{
+    let kind = kind_of(e);
+    if kind != place.kind {
+        return kind < place.kind;
+    }
+    place_of(e).is_below(place)
+}
+
 /// Whether the first one stands before the other.
 pub(crate) fn is_before(e: Event, other: Event) -> bool
     ensures { result ≡ is_before (event_meant e) (event_meant other) }
 {
+    let kind = kind_of(e);
+    let its = kind_of(other);
+    if kind != its {
+        return kind < its;
+    }
     place_of(e).is_below(&place_of(other))
 }

@@ -2,7 +2,7 @@
 
 ghost use Rattle.std.specs.Prelude.{◌≡◌, ◌||◌, is_some};
 ghost use Rattle.core_events.specs.Meant.{event_meant};
-ghost use Rattle.protocol_ready.specs.Refusing.{actor_of, tid_of, bid_of, is_at, is_on_ring, is_form, spreads, may_free, is_on_log, is_on_batches, is_settle, may_refuse};
+ghost use Rattle.protocol_ready.specs.Refusing.{actor_of, tid_of, bid_of, is_at, is_on_ring, is_form, spreads, may_free, is_on_log, is_on_batches, is_settle, is_reply, may_refuse};
 ghost use Rattle.protocol_ready.specs.Touched.{is_abort};
 
 use core_events::Event;
@@ -84,7 +84,7 @@ impl Reach {
         }
     }
 
-    /// Whether it may refuse also events behind all others: those of settled batches, and after a cascade any.
+    /// Whether it may refuse also events that stand behind the replies: those of batches that are over.
     pub fn is_wide(&self) -> bool
         ensures { result ≡ is_abort (event_meant self.now.event) || is_some (bid_of (event_meant self.now.event)) }
     {
@@ -95,7 +95,7 @@ impl Reach {
     pub fn may_refuse(&self, f: Event) -> bool
         ensures { result ≡ may_refuse (event_meant self.now.event) (event_meant f) }
     {
-        self.abort
+        (self.abort && !is_reply(f))
             || match f {
                 Event::Submit(_) => self.ring,
                 Event::Pass(_) => self.ring,
@@ -177,6 +177,12 @@ fn aborts(e: Event) -> bool
     ensures { result ≡ is_abort (event_meant e) }
 {
     matches!(e, Event::AbortBatch(_))
+}
+
+fn is_reply(e: Event) -> bool
+    ensures { result ≡ is_reply (event_meant e) }
+{
+    matches!(e, Event::Reply(_))
 }
 
 fn is_coordinating(e: Event) -> bool

@@ -1,32 +1,36 @@
-ghost use Rattle.std.specs.Prelude.{◌≡◌, ◌+◌, ◌<◌, ◌≤◌, [], length, slice_get, OnErr, OnOk, vec_len, vec_capacity};
-ghost use Rattle.std.specs.List.{insert};
+ghost use Rattle.std.specs.Prelude.{◌≡◌, ◌+◌, ◌<◌, ◌≤◌, [], ◌++◌, length, map, slice_get, slice_index_or, OnErr, OnOk};
+ghost use Rattle.std.specs.List.{insert, remove};
 ghost use Rattle.std.specs.Option.{option_map};
+ghost use Rattle.std.specs.VecDeque.{deque_len, deque_capacity};
 ghost use Rattle.core_events.specs.Meant.{event_meant};
 ghost use Rattle.protocol_ready.specs.Ready.{put, put_or_take, without};
 ghost use Rattle.ready_list.specs.Order.{IsGap, is_there};
 
-use crate::places::is_before;
+use crate::places::{is_before, place_of, stands_before};
 use core_events::Event;
 use protocol_ready::{events_stay_in_order, ranks_are_in_order};
 use snap_base::Memory;
 use std::alloc::Global;
+use std::collections::VecDeque;
 use std::marker::Model;
 
-/// Events in order, each once. Contracts see them as the machine's, and for how many more there is room.
+/// Events in order, each once. Contracts see them as the machine's, and for how many more there is room. They stand in a ring,
+/// so that what changes near one end moves only what stands there: the replies that wait, which may be many, come last.
 #[derive(Drop)]
 pub struct ReadyList {
-    events: Vec<Event>,
+    events: VecDeque<Event>,
 }
 
 impl Model for ReadyList {
-    ghost use Rattle.std.specs.Prelude.{◌-◌, map, vec_len, vec_capacity};
+    ghost use Rattle.std.specs.Prelude.{◌-◌, map};
+    ghost use Rattle.std.specs.VecDeque.{deque_len, deque_capacity};
     ghost use Rattle.core_events.specs.Meant.{event_meant};
     ghost use Rattle.protocol.specs.Schedule.{Ascends};
     ghost use Rattle.ready_list.specs.Order.{Roomed};
 
     ghost Value = { Roomed };
 
-    ghost view = { λ l. record { events = map event_meant l.events.items; spare = vec_capacity l.events - vec_len l.events } };
+    ghost view = { λ l. record { events = map event_meant l.events.items; spare = deque_capacity l.events - deque_len l.events } };
 
     ghost invariant = { λ l. Ascends (map event_meant l.events.items) };
 }
@@ -37,7 +41,7 @@ impl ReadyList {
         ensures { result.events ≡ [] }
     {
         ReadyList {
-            events: Vec::new(alloc),
+            events: VecDeque::new(alloc),
         }
     }
 
@@ -53,6 +57,13 @@ impl ReadyList {
         ensures { option_map event_meant result ≡ slice_get self.now.events n }
     {
         self.events.get(n).copied()
+    }
+
+    /// All of them, in order, in two pieces, since they stand in a ring.
+    pub fn pieces(&self) -> (&[Event], &[Event])
+        ensures { map event_meant (result.0.now ++ result.1.now) ≡ self.now.events }
+    {
+        self.events.as_slices()
     }
 
     /// Makes room for so many more, and changes nothing else. `Memory` only where there was less room; then there is as much
@@ -72,11 +83,13 @@ impl ReadyList {
         ensures { IsGap self.now.events (event_meant e) result }
     {
         ranks_are_in_order();
+        let place = place_of(e);
+        let (head, tail) = self.events.as_slices();
         let mut low = 0;
         let mut high = self.events.len();
         while low < high {
             let middle = low + (high - low) / 2;
-            if is_before(self.events[middle], e) {
+            if stands_before(event_at(head, tail, middle), &place) {
                 low = middle + 1;
             } else {
                 high = middle;
@@ -116,7 +129,7 @@ impl ReadyList {
         ranks_are_in_order();
         let at = self.gap(e);
         if self.is_at(at, e) {
-            self.events.remove(at);
+            take_at(&mut self.events, at);
         }
     }
 
@@ -134,16 +147,40 @@ impl ReadyList {
     }
 }
 
-// There is room, so it can't fail.
-fn put_at(events: &mut Vec<Event>, at: usize, e: Event)
+/// The event at this place in two pieces, of which the second follows the first.
+pub fn event_at(head: &[Event], tail: &[Event], i: usize) -> Event
+    requires { i < length (head.now ++ tail.now) }
+    ensures { result ≡ slice_index_or (head.now ++ tail.now) i result }
+{
+    if i < head.len() {
+        head[i]
+    } else {
+        tail[i - head.len()]
+    }
+}
+
+// There is room, so it can't fail. Of what stands before the place and what stands behind it the shorter moves.
+fn put_at(events: &mut VecDeque<Event>, at: usize, e: Event)
     requires within { at ≤ length events.old.items }
-    requires room { vec_len events.old < vec_capacity events.old }
+    requires room { deque_len events.old < deque_capacity events.old }
     ensures items { events.new.items ≡ insert events.old.items at e }
-    ensures len { vec_len events.new ≡ vec_len events.old + 1 }
-    ensures capacity { vec_capacity events.old ≤ vec_capacity events.new }
+    ensures len { deque_len events.new ≡ deque_len events.old + 1 }
+    ensures capacity { deque_capacity events.old ≤ deque_capacity events.new }
 {
     match events.insert(at, e) {
         Ok(()) => {}
         Err(_) => {}
+    }
+}
+
+fn take_at(events: &mut VecDeque<Event>, at: usize)
+    requires { at < length events.old.items }
+    ensures items { events.new.items ≡ remove events.old.items at }
+    ensures len { deque_len events.new + 1 ≡ deque_len events.old }
+    ensures capacity { deque_capacity events.new ≡ deque_capacity events.old }
+{
+    match events.remove(at) {
+        Some(_) => {}
+        None => {}
     }
 }

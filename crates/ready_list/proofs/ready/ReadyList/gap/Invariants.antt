@@ -4,7 +4,7 @@ use Rattle.ready_list.proofs.Gaps.{IsBetween}
 use Rattle.ready_list.proofs.ready.ReadyList.gap.Given as goal
 
 abbrev pub invariant-loop-low : goal.invariant-loop-low
-invariant-loop-low l = IsBetween l.self.events (event_meant l.e) l.low l.high
+invariant-loop-low l = IsBetween l.self.events (event_meant l.fn.e) l.low l.high
 
 abbrev pub decreases-loop-low : goal.decreases-loop-low
 decreases-loop-low l = l.high - l.low

@@ -8,7 +8,7 @@ use Rattle.ready_list.proofs.ready.ReadyList.take.Goals as goal
 pub returns-then-is_at-clause-events : goal.returns-then-is_at-clause-events
 returns-then-is_at-clause-events c =
     let v : map event_meant c.self.inside.events.items ≡ c.args.self.now.events = ap (λ r. r.events) c.self.view_is in
-    ap (map event_meant) c.remove.ensures.items
+    ap (map event_meant) c.take_at.ensures.items
     ∙ (mapped_remove event_meant c.self.inside.events.items c.gap-at.result
     ∙ (ap (λ l. remove l c.gap-at.result) v
     ∙ take_where_there c.args.self.now.events (event_meant c.args.e) c.gap-at.result c.ranks_are_in_order.ensures.same (subst Ascends v c.self.invariant) c.gap-at.ensures (sym c.is_at.ensures ∙ c.if-is_at.true)))
