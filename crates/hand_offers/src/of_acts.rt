@@ -28,7 +28,13 @@ fn list_joined(t: Tid, actors: &[ActorId], events: &mut Vec<Event>) -> Result<()
     Ok(())
 }
 
-fn list_act(alloc: Global, book: &BookPart, t: Tid, events: &mut Vec<Event>) -> Result<(), Memory>
+/// What an ACT waits for, where it was admitted; else two events of it that nobody may take. Want of memory leaves some of it.
+pub fn list_act(
+    alloc: Global,
+    book: &BookPart,
+    t: Tid,
+    events: &mut Vec<Event>,
+) -> Result<(), Memory>
     ensures { OnOk result ((b : Book) → Shows book.now b → Adds events.old.items events.new.items (of_act b t.0)) }
 {
     push_two(events, Event::Decide(t), Event::Seal(t))?;
@@ -60,7 +66,7 @@ fn list_live(alloc: Global, book: &BookPart, events: &mut Vec<Event>) -> Result<
 }
 
 /// What ACTs wait for, where the book is at hand.
-pub(crate) fn list_book(alloc: Global, hand: &Hand, events: &mut Vec<Event>) -> Result<(), Memory>
+pub fn list_book(alloc: Global, hand: &Hand, events: &mut Vec<Event>) -> Result<(), Memory>
     ensures { OnOk result ((b : Book) → ((x : Halves) → hand.now.book ≡ Some x → Shows x b) → Adds events.old.items events.new.items (of_some (λ x. on_book b) hand.now.book)) }
 {
     if !hand.has(BOOK) {

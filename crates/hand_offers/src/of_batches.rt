@@ -21,7 +21,8 @@ fn list_declared(k: Bid, actors: &[ActorId], events: &mut Vec<Event>) -> Result<
     Ok(())
 }
 
-fn list_batch(alloc: Global, desk: &Desk, k: Bid, events: &mut Vec<Event>) -> Result<(), Memory>
+/// What a batch waits for, where it was formed; else three events of it that nobody may take. Want of memory leaves some of it.
+pub fn list_batch(alloc: Global, desk: &Desk, k: Bid, events: &mut Vec<Event>) -> Result<(), Memory>
     ensures { OnOk result (Adds events.old.items events.new.items (of_batch desk.now k.0)) }
 {
     push_three(
@@ -49,7 +50,8 @@ fn list_batches(
     Ok(())
 }
 
-fn list_going(alloc: Global, desk: &Desk, events: &mut Vec<Event>) -> Result<(), Memory>
+/// What batches wait for. Want of memory leaves some of it.
+pub fn list_going(alloc: Global, desk: &Desk, events: &mut Vec<Event>) -> Result<(), Memory>
     ensures { OnOk result (Adds events.old.items events.new.items (on_desk desk.now)) }
 {
     let bids = desk.going(alloc)?;
@@ -58,7 +60,7 @@ fn list_going(alloc: Global, desk: &Desk, events: &mut Vec<Event>) -> Result<(),
 }
 
 /// What batches wait for, where the desk is at hand.
-pub(crate) fn list_desk(alloc: Global, hand: &Hand, events: &mut Vec<Event>) -> Result<(), Memory>
+pub fn list_desk(alloc: Global, hand: &Hand, events: &mut Vec<Event>) -> Result<(), Memory>
     ensures { OnOk result (Adds events.old.items events.new.items (of_some on_desk hand.now.desk)) }
 {
     if !hand.has(DESK) {

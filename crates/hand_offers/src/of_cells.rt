@@ -51,7 +51,8 @@ fn list_incomplete(a: ActorId, bids: &[Bid], events: &mut Vec<Event>) -> Result<
     Ok(())
 }
 
-fn list_boxes(
+/// What lies in the boxes of an actor. Want of memory leaves some of it.
+pub fn list_boxes(
     alloc: Global,
     cell: &CellPart<Control>,
     a: ActorId,
@@ -66,7 +67,8 @@ fn list_boxes(
     Ok(())
 }
 
-fn list_schedule(
+/// What stands on an actor and is not done or not complete. Want of memory leaves some of it.
+pub fn list_schedule(
     alloc: Global,
     cell: &CellPart<Control>,
     a: ActorId,
@@ -81,7 +83,8 @@ fn list_schedule(
     Ok(())
 }
 
-fn list_cell(
+/// What lies at an actor, and its rollback. Want of memory leaves some of it.
+pub fn list_cell(
     alloc: Global,
     cell: &CellPart<Control>,
     a: ActorId,
@@ -95,7 +98,13 @@ fn list_cell(
     Ok(())
 }
 
-fn list_place(alloc: Global, hand: &Hand, a: ActorId, events: &mut Vec<Event>) -> Result<(), Memory>
+/// What lies at an actor, where its cell is at hand.
+pub fn list_place(
+    alloc: Global,
+    hand: &Hand,
+    a: ActorId,
+    events: &mut Vec<Event>,
+) -> Result<(), Memory>
     requires { a.0 < length hand.now.cells }
     ensures { OnOk result (Adds events.old.items events.new.items (on_place hand.now a.0)) }
 {
@@ -106,7 +115,7 @@ fn list_place(alloc: Global, hand: &Hand, a: ActorId, events: &mut Vec<Event>) -
 }
 
 /// How many actors the text has.
-fn actor_count(tables: &Tables, _hand: &Hand) -> u16
+pub fn actor_count(tables: &Tables, _hand: &Hand) -> u16
     requires tables { AreTables tables.now }
     requires places { IsHandOf (fixed_of tables.now) _hand.now }
     ensures { result ≡ length _hand.now.cells }
@@ -115,7 +124,7 @@ fn actor_count(tables: &Tables, _hand: &Hand) -> u16
 }
 
 /// What lies at the actors whose cells are at hand.
-pub(crate) fn list_cells(
+pub fn list_cells(
     alloc: Global,
     tables: &Tables,
     hand: &Hand,

@@ -22,7 +22,8 @@ fn next_holder(tables: &Tables, holder: u8) -> u8
     ((holder as u16 + 1) % coordinators) as u8
 }
 
-fn list_next(tables: &Tables, ring: &Ring, events: &mut Vec<Event>) -> Result<(), Memory>
+/// What the ring has next.
+pub fn list_next(tables: &Tables, ring: &Ring, events: &mut Vec<Event>) -> Result<(), Memory>
     requires { AreTables tables.now }
     ensures { OnOk result (Adds events.old.items events.new.items (on_ring (text_of tables.now).coordinators ring.now)) }
 {
@@ -37,7 +38,7 @@ fn list_next(tables: &Tables, ring: &Ring, events: &mut Vec<Event>) -> Result<()
 }
 
 /// What the ring has next, where it is at hand.
-pub(crate) fn list_ring(tables: &Tables, hand: &Hand, events: &mut Vec<Event>) -> Result<(), Memory>
+pub fn list_ring(tables: &Tables, hand: &Hand, events: &mut Vec<Event>) -> Result<(), Memory>
     requires { AreTables tables.now }
     ensures { OnOk result (Adds events.old.items events.new.items (of_some (on_ring (text_of tables.now).coordinators) hand.now.ring)) }
 {
@@ -48,7 +49,7 @@ pub(crate) fn list_ring(tables: &Tables, hand: &Hand, events: &mut Vec<Event>) -
 }
 
 /// Each log.
-pub(crate) fn list_logs(tables: &Tables, events: &mut Vec<Event>) -> Result<(), Memory>
+pub fn list_logs(tables: &Tables, events: &mut Vec<Event>) -> Result<(), Memory>
     ensures { OnOk result (Adds events.old.items events.new.items (flat_map of_log (below (text_of tables.now).logs))) }
 {
     let count = tables.work.logs;
@@ -69,7 +70,8 @@ fn upto(tables: &Tables, hand: &Hand) -> TxNo
     hand.ring().next_tx()
 }
 
-fn list_unreplied(txs: &[TxNo], events: &mut Vec<Event>) -> Result<(), Memory>
+/// The replies of these transactions. Want of memory leaves some of them.
+pub fn list_unreplied(txs: &[TxNo], events: &mut Vec<Event>) -> Result<(), Memory>
     ensures { OnOk result (Adds events.old.items events.new.items (flat_map of_reply (map (λ n. n.0) txs.now))) }
 {
     for n in txs {
@@ -79,7 +81,7 @@ fn list_unreplied(txs: &[TxNo], events: &mut Vec<Event>) -> Result<(), Memory>
 }
 
 /// What waits for a reply, where the desk is at hand.
-pub(crate) fn list_replies(
+pub fn list_replies(
     alloc: Global,
     tables: &Tables,
     hand: &Hand,

@@ -13,7 +13,8 @@ use snap_base::{ActorId, Bid, Memory, Tid};
 use snap_hand::Hand;
 use std::alloc::Global;
 
-fn list_subs(subs: &[(Bid, ActorId)], events: &mut Vec<Event>) -> Result<(), Memory>
+/// The events of these sub-batches. Want of memory leaves some of them.
+pub fn list_subs(subs: &[(Bid, ActorId)], events: &mut Vec<Event>) -> Result<(), Memory>
     ensures { OnOk result (Adds events.old.items events.new.items (flat_map of_sub (map sub_listed subs.now))) }
 {
     for p in subs {
@@ -22,7 +23,8 @@ fn list_subs(subs: &[(Bid, ActorId)], events: &mut Vec<Event>) -> Result<(), Mem
     Ok(())
 }
 
-fn list_controls(controls: &[(Tid, ActorId)], events: &mut Vec<Event>) -> Result<(), Memory>
+/// The events of these controls. Want of memory leaves some of them.
+pub fn list_controls(controls: &[(Tid, ActorId)], events: &mut Vec<Event>) -> Result<(), Memory>
     ensures { OnOk result (Adds events.old.items events.new.items (flat_map of_control (map control_listed controls.now))) }
 {
     for p in controls {
@@ -36,7 +38,12 @@ fn list_controls(controls: &[(Tid, ActorId)], events: &mut Vec<Event>) -> Result
     Ok(())
 }
 
-fn list_messages(alloc: Global, post: &Post<Control>, events: &mut Vec<Event>) -> Result<(), Memory>
+/// The events of all that is under way. Want of memory leaves some of them.
+pub fn list_messages(
+    alloc: Global,
+    post: &Post<Control>,
+    events: &mut Vec<Event>,
+) -> Result<(), Memory>
     ensures { OnOk result (Adds events.old.items events.new.items (on_post post.now.messages)) }
 {
     let subs = post.subs(alloc)?;
@@ -47,7 +54,7 @@ fn list_messages(alloc: Global, post: &Post<Control>, events: &mut Vec<Event>) -
 }
 
 /// What is under way, where the post is at hand.
-pub(crate) fn list_post(alloc: Global, hand: &Hand, events: &mut Vec<Event>) -> Result<(), Memory>
+pub fn list_post(alloc: Global, hand: &Hand, events: &mut Vec<Event>) -> Result<(), Memory>
     ensures { OnOk result (Adds events.old.items events.new.items (of_some on_post hand.now.post)) }
 {
     if !hand.has(POST) {

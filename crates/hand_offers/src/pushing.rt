@@ -6,14 +6,16 @@ ghost use Rattle.hand_offers.specs.Listed.{Adds};
 use core_events::Event;
 use snap_base::Memory;
 
-pub(crate) fn push_one(events: &mut Vec<Event>, e: Event) -> Result<(), Memory>
+/// Lists one event more. Want of memory leaves the list.
+pub fn push_one(events: &mut Vec<Event>, e: Event) -> Result<(), Memory>
     ensures { OnOk result (Adds events.old.items events.new.items (event_meant e ∷ [])) }
 {
     events.push(e)?;
     Ok(())
 }
 
-pub(crate) fn push_two(events: &mut Vec<Event>, e: Event, f: Event) -> Result<(), Memory>
+/// Lists two events more. Want of memory leaves none or one of them there.
+pub fn push_two(events: &mut Vec<Event>, e: Event, f: Event) -> Result<(), Memory>
     ensures { OnOk result (Adds events.old.items events.new.items (event_meant e ∷ event_meant f ∷ [])) }
 {
     push_one(events, e)?;
@@ -21,12 +23,8 @@ pub(crate) fn push_two(events: &mut Vec<Event>, e: Event, f: Event) -> Result<()
     Ok(())
 }
 
-pub(crate) fn push_three(
-    events: &mut Vec<Event>,
-    e: Event,
-    f: Event,
-    g: Event,
-) -> Result<(), Memory>
+/// Lists three events more. Want of memory leaves none, one or two of them there.
+pub fn push_three(events: &mut Vec<Event>, e: Event, f: Event, g: Event) -> Result<(), Memory>
     ensures { OnOk result (Adds events.old.items events.new.items (event_meant e ∷ event_meant f ∷ event_meant g ∷ [])) }
 {
     push_two(events, e, f)?;
