@@ -1,15 +1,15 @@
 -- Where a PACT that has ended may be closed: on actors of its batch, which its entry on one actor tells.
-use Rattle.std.specs.Prelude.{◌≡◌, refl, ℕ, ◌+◌, ◌<◌, ◌≤◌, ◌==◌, Bool, true, false, ◌&&◌, ◌||◌, if◌then◌else◌, is_some, Option, Some, None, List, [], ◌∷◌, ◌++◌, length, map, not, find}
+use Rattle.std.specs.Prelude.{◌≡◌, refl, ℕ, ◌+◌, ◌≤◌, ◌==◌, Bool, true, false, ◌&&◌, ◌||◌, if◌then◌else◌, is_some, Option, Some, None, List, [], ◌∷◌, map, not}
 use Rattle.std.specs.List.{list_any, AllByRecursion}
 use Rattle.std.proofs.Common.{arith, sym, ap, subst, inl, inr, ◌∙◌}
-use Rattle.std.proofs.lemmas.Bool.{true≢false, and_parts, eqb-true, eq-eqb}
+use Rattle.std.proofs.lemmas.Bool.{and_parts, eqb-true}
 use Rattle.batch_table.specs.Listed.{actors_in}
 use Rattle.protocol.specs.Numbers.{flat, times, one_if}
-use Rattle.protocol.specs.Parts.{Who, OfBatch, OfAct, Pact, Batch, Slot, Entry, BatchEntry, ActEntry}
-use Rattle.protocol.specs.Words.{batch_of, declared_of, has_undone, holds, is_entry_of, is_undone, names_pact, names_slot, who_of, who_on}
+use Rattle.protocol.specs.Parts.{OfBatch, Pact, Batch, Slot, Entry, BatchEntry, ActEntry}
+use Rattle.protocol.specs.Words.{batch_of, declared_of, has_undone, holds, is_entry_of, is_undone, names_pact, who_of, who_on}
 use Rattle.protocol_laws.specs.FromDesk.{EntryOf, is_declared, is_pact_of}
 use Rattle.protocol_laws.proofs.first.Times.{times_cons, times_append}
-use Rattle.protocol_ready.proofs.Listing.{Has, from_has, has_map, held, some, found_in, any_of}
+use Rattle.protocol_ready.proofs.Listing.{Has, has_map, some, found_in, any_of}
 use Rattle.protocol_ready.proofs.TouchedListed.{no}
 
 -- ---- what all have, one of them has

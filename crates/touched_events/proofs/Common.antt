@@ -1,24 +1,27 @@
 -- What the listers have in common: a list that grows tells what it told, all parts are at hand, and what is new is touched.
-use Rattle.std.specs.Prelude.{◌≡◌, ◌↔◌, refl, ℕ, zero, suc, ◌+◌, ◌<◌, ◌==◌, not, Bool, true, false, ◌&&◌, Option, Some, None, is_some, List, [], ◌∷◌, ◌++◌, length, map, slice_get, option_map, Contains}
-use Rattle.std.proofs.Common.{arith, sym, ap, subst, ◌∙◌}
-use Rattle.std.proofs.lemmas.Bool.{true≢false, and_parts, not-true, eqb-true}
-use Rattle.std.proofs.lemmas.List.Elements.{Contains-append_left, Contains-append_right}
-use Rattle.std.proofs.lemmas.Option.{slice_get_within, slice_get-map}
+use Rattle.std.specs.List.{flat_map}
+use Rattle.std.proofs.Common.{◌≡◌, ◌↔◌, refl, ℕ, zero, suc, ◌+◌, ◌-◌, ◌<◌, ◌≤◌, ◌==◌, not, Bool, true, false, ◌&&◌, Option, Some, None, is_some, List, [], ◌∷◌, ◌++◌, length, map, filter, take, get_or, slice_get, option_map, Contains, arith, sym, ap, subst, ◌∙◌, append_assoc, append-nil}
+use Rattle.std.proofs.lemmas.Bool.{and_parts, not-true, eqb-true}
+use Rattle.std.proofs.lemmas.Grind.{flat_map-append}
+use Rattle.std.proofs.lemmas.List.{map_more, take_all}
+use Rattle.std.proofs.lemmas.List.Elements.{Contains-append_left, Contains-append_right, filter-append}
+use Rattle.std.proofs.lemmas.Option.{slice_get-map}
 use Rattle.aml_slice.specs.Controls.{Rest}
 use Rattle.book_part.specs.Halves.{Halves}
 use Rattle.core_events.specs.Meant.{event_meant}
 use Rattle.core_events.specs.declared.events.Event as code
 use Rattle.hand_offers.specs.Listed.{Adds}
-use Rattle.hand_offers.proofs.Parts.{lacking, at_place, cell_shown, cell_is_out}
-use Rattle.log_set.specs.Logs.{LogList}
+use Rattle.hand_offers.proofs.Adding.{adds_both}
+use Rattle.hand_offers.proofs.Parts.{at_place, cell_shown}
 use Rattle.protocol.specs.Conditions.{IsAllowed, refusal}
 use Rattle.protocol.specs.Effects.{after}
 use Rattle.protocol.specs.Events.{Event, cell}
 use Rattle.protocol.specs.Fixed.{Fixed, Text}
+use Rattle.protocol.specs.Numbers.{from}
 use Rattle.protocol.specs.Parts.{Ring, Book, Post, Desk, Log, Cell, Machine}
 use Rattle.protocol_ready.specs.Telling.{RingTells, PostTells, CellTells, LogTells, DeskTells, BookTells, AnswersTell}
 use Rattle.protocol_ready.specs.Touched.{is_touched}
-use Rattle.snap_hand.specs.Hands.{Parts, IsHandOf, IsWhole, Fits, is_not_out, are_there}
+use Rattle.snap_hand.specs.Hands.{Parts, IsWhole, are_there}
 use Rattle.touched_events.specs.New.{is_new, Keeps}
 
 -- ---- lists that grow
@@ -35,6 +38,32 @@ keeps_added old new more h f c = subst (λ v. Contains v f) (sym h) (Contains-ap
 
 pub has_added : (old new : List code.Event) (more : List Event) → Adds old new more → (f : Event) → Contains more f → Contains (map event_meant new) f
 has_added old new more h f c = subst (λ v. Contains v f) (sym h) (Contains-append_right (map event_meant old) more f c)
+
+-- ---- loops
+
+from_last : (k m : ℕ) → from k (suc m) ≡ from k m ++ (k + m) ∷ []
+from_last k zero = ap (λ n. n ∷ []) (omega arith)
+from_last k (suc m) = ap (λ ns. k ∷ ns) (from_last (k + 1) m ∙ ap (λ n. from (k + 1) m ++ n ∷ []) (omega arith))
+
+-- over numbers from one on
+pub adds_number : (f : ℕ → List Event) (k j : ℕ) (base now next : List code.Event) → k ≤ j → Adds base now (flat_map f (from k (j - k))) → Adds now next (f j) → Adds base next (flat_map f (from k (j + 1 - k)))
+adds_number f k j base now next low so_far one =
+    let count : j + 1 - k ≡ suc (j - k) = omega (arith, low) in
+    let last : k + (j - k) ≡ j = omega (arith, low) in
+    let front = from k (j - k) in
+    adds_both base now next (flat_map f front) (f j) so_far one
+    ∙ ap (λ v. map event_meant base ++ v)
+    (sym (ap (λ m. flat_map f (from k m)) count ∙ (ap (flat_map f) (from_last k (j - k)) ∙ (flat_map-append f front ((k + (j - k)) ∷ []) ∙ ap (λ v. flat_map f front ++ v) (append-nil (f (k + (j - k))) ∙ ap f last)))))
+
+-- over a list, of which some are kept
+pub filters_more : {X A : Type 0} (p : A → Bool) (g : X → A) (xs : List X) (i : ℕ) (x : X) (base now next : List A) → i < length xs → x ≡ get_or xs i x → now ≡ base ++ filter p (map g (take i xs)) → next ≡ now ++ filter p (g x ∷ []) → next ≡ base ++ filter p (map g (take (i + 1) xs))
+filters_more p g xs i x base now next within is so_far one =
+    let front = map g (take i xs) in
+    one ∙ (ap (λ v. v ++ filter p (g x ∷ [])) so_far ∙ (append_assoc base (filter p front) (filter p (g x ∷ []))
+    ∙ ap (λ v. base ++ v) (sym (ap (filter p) (map_more g xs i x within) ∙ (filter-append p front (g (get_or xs i x) ∷ []) ∙ ap (λ y. filter p front ++ filter p (g y ∷ [])) (sym is))))))
+
+pub filters_all : {X A : Type 0} (p : A → Bool) (g : X → A) (xs : List X) (i : ℕ) (base now : List A) → length xs ≤ i → now ≡ base ++ filter p (map g (take i xs)) → now ≡ base ++ filter p (map g xs)
+filters_all p g xs i base now past so_far = so_far ∙ ap (λ v. base ++ filter p (map g v)) (take_all i xs past)
 
 -- ---- what a list tells, one with more does
 

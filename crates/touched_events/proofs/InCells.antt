@@ -1,14 +1,13 @@
 -- What is listed of the actors tells what is new there.
-use Rattle.std.specs.Prelude.{◌≡◌, ◌↔◌, nat_le, nat_lt, map, refl, ℕ, zero, suc, ◌+◌, ◌<◌, ◌≤◌, ◌==◌, not, Bool, true, false, ◌&&◌, ◌||◌, if◌then◌else◌, is_some, Option, Some, None, List, [], ◌∷◌, ◌++◌, ◌⊎◌, length, take, slice_get, slice_set, Contains}
-use Rattle.std.specs.List.{list_any, flat_map, AllByRecursion}
+use Rattle.std.specs.Prelude.{◌≡◌, ◌↔◌, nat_le, nat_lt, map, refl, ℕ, zero, suc, ◌+◌, ◌<◌, ◌≤◌, ◌==◌, Bool, true, false, ◌&&◌, ◌||◌, if◌then◌else◌, is_some, Option, Some, None, List, [], ◌∷◌, ◌++◌, length, take, slice_get, slice_set, Contains}
+use Rattle.std.specs.List.{list_any, AllByRecursion}
 use Rattle.std.proofs.Common.{arith, sym, ap, subst, inl, inr, ◌∙◌}
-use Rattle.std.proofs.lemmas.Bool.{true≢false, ltb-false, and_parts, eqb-true, cases_Bool, or_cases}
-use Rattle.std.proofs.lemmas.List.Elements.{Contains-append_left, Contains-append_right}
+use Rattle.std.proofs.lemmas.Bool.{true≢false, ltb-false, and_parts, eqb-true, cases_Bool}
 use Rattle.std.proofs.lemmas.Option.{slice_get_within}
 use Rattle.aml_slice.specs.Controls.{Rest}
 use Rattle.protocol.specs.Conditions.{IsAllowed, conditions, epoch, refusal}
 use Rattle.protocol.specs.Effects.{after, cell_at, no_cell, puts}
-use Rattle.protocol.specs.Events.{Event, Submit, Pass, Form, Admit, Arrive, Ask, Take, Run, Send, End, Close, Complete, Sync, Note, Commit, Settle, Abort, Rollback, DropSub, DropControl, Prepare, Vouch, Decide, Seal, Finish, Reply, Trim}
+use Rattle.protocol.specs.Events.{Event, Form, Arrive, Ask, Take, Run, Send, End, Close, Complete, Abort, Rollback, Finish, Trim}
 use Rattle.protocol.specs.Fixed.{Fixed}
 use Rattle.protocol.specs.Laws.{AfterEveryRun}
 use Rattle.core_rows.specs.OnRuns.{HasRun}
@@ -35,7 +34,8 @@ use Rattle.hand_offers.proofs.Lists.{first_of_all, in_flat_map, in_below}
 use Rattle.hand_offers.proofs.Told.{cell_lists}
 use Rattle.snap_hand.specs.Hands.{Parts, Fits, IsHandOf, IsWhole}
 use Rattle.touched_events.specs.New.{IsBehind, is_new}
-use Rattle.touched_events.specs.InCells.{actor_at, of_actor, of_close, closes, closes_of, ended_at, who_in, cells_listed}
+use Rattle.touched_events.specs.InBook.{only}
+use Rattle.touched_events.specs.InCells.{of_close, close_at, closes, closes_of, ended_at, owes, who_in, cells_listed}
 use Rattle.touched_events.proofs.Common.{Among, cell_is_there, desk_there}
 use Rattle.touched_events.proofs.Closing.{declared_where, who_is}
 use Rattle.touched_events.proofs.InPost.{find_gone, numbered_from, left_or}
@@ -130,12 +130,23 @@ record Desked (t : Machine Rest) (h : Parts) : Type 0 where
   pub few : (u : ℕ) → times u (flat (map (λ b. map (λ p. p.tid) b.pacts) t.desk.batches)) ≤ 1
   pub desk : h.desk ≡ Some t.desk
   pub cells : (b : ℕ) (x : Cell Rest) → slice_get h.cells b ≡ Some (Some x) → slice_get t.cells b ≡ Some x
+  pub there : (b : ℕ) → b < length h.cells → (x : Cell Rest) × (slice_get h.cells b ≡ Some (Some x))
 
 everywhere : (h : Parts) (u a : ℕ) → a < length h.cells → Contains (closes u h) (Close u a)
 everywhere h u a within = in_flat_map (of_close u) (below (length h.cells)) a (Close u a) (in_below a (length h.cells) within) (first_of_all [] (Close u a))
 
 entries_of : (t : Machine Rest) → FromDesk t → (a : ℕ) (c : Cell Rest) → slice_get t.cells a ≡ Some c → AllByRecursion (EntryOf a t.desk.batches) c.entries
 entries_of t from a c at = subst (λ z. AllByRecursion (EntryOf a t.desk.batches) z.entries) (at_found t.cells a no_cell c at) (from.entries a)
+
+same_some : {X : Type 0} (x y : X) → Some x ≡ Some y → x ≡ y
+same_some x y e = cc e
+
+owed : (t : Machine Rest) (h : Parts) → Desked t h → (u a : ℕ) (c : Cell Rest) → slice_get t.cells a ≡ Some c → has_undone u c.entries ≡ true → a < length h.cells → Contains (close_at u h a) (Close u a)
+owed t h k u a c at undone within =
+    let x = k.there a within in
+    let same : x.0 ≡ c = same_some x.0 c (sym (k.cells a x.0 x.1) ∙ at) in
+    let due : owes u (slice_get h.cells a) ≡ true = ap (owes u) x.1 ∙ (ap (λ z. has_undone u z.entries) same ∙ undone) in
+    subst (λ v. Contains (only v (Close u a)) (Close u a)) (sym due) (first_of_all [] (Close u a))
 
 ended_in : (t : Machine Rest) (h : Parts) → Desked t h → (u b a : ℕ) (c : Cell Rest) → slice_get t.cells a ≡ Some c → has_undone u c.entries ≡ true → is_some (pact_result u t.desk.batches) ≡ true → a < length h.cells
     → Contains (ended_at u (who_in u (slice_get h.cells b)) h.desk h) (Close u a)
@@ -149,7 +160,7 @@ ended_in t h k u b a c at undone result within =
     whose x is (OfBatch j) q =
         let of_j = who_is b u j t.desk.batches x.entries (entries_of t k.from b x is) q in
         let actors = actors_in (batch_of j t.desk.batches) in
-        in_flat_map (of_close u) actors a (Close u a) (from_has actors a (declared_where a u j t.desk.batches c.entries (entries_of t k.from a c at) (k.few u) of_j undone)) (first_of_all [] (Close u a))
+        in_flat_map (close_at u h) actors a (Close u a) (from_has actors a (declared_where a u j t.desk.batches c.entries (entries_of t k.from a c at) (k.few u) of_j undone)) (owed t h k u a c at undone within)
 
     by : (o : Option (Option (Cell Rest))) → slice_get h.cells b ≡ o → Contains (closes_of u (who_in u o) t.desk h) (Close u a)
     by None e = everywhere h u a within
@@ -169,9 +180,6 @@ one_few false = omega arith
 
 few_of : (w : Fixed Rest) (t : Machine Rest) → NumbersDrawnOnce w t → (u : ℕ) → times u (flat (map (λ b. map (λ p. p.tid) b.pacts) t.desk.batches)) ≤ 1
 few_of w t n u = omega (arith, n.tids u, times_append u (flat (map (λ b. map (λ p. p.tid) b.pacts) t.desk.batches)) (map (λ x. x.tid) t.book.acts), one_few (nat_le w.text.opening.next_tid u && nat_lt u t.ring.next_tid))
-
-same_some : {X : Type 0} (x y : X) → Some x ≡ Some y → x ≡ y
-same_some x y e = cc e
 
 -- the cell that was put in
 got : (xs : List (Cell Rest)) (i j : ℕ) (y c : Cell Rest) → slice_get (slice_set xs j y) i ≡ Some c → j ≡ i → c ≡ y
@@ -312,6 +320,7 @@ all_cells_told w e s h es places whole behind ruled goes drawn ranges sizes enou
       few = few_of w (after w e s) once;
       desk = desk.1 ∙ ap Some (sym (behind.fits.desk desk.0 desk.1));
       cells = behind.fits.cells;
+      there = λ b inside. cell_is_there h whole w.text.logs b places.logs inside;
     } in
     cell_told (is_new w e s) w s h es ranged.batches (λ cascades a c. enough (is_new w e s) cascades a c es) e (asks_of w e s ruled) desked (epoch (after w e s).book) a c within at
     (place_shown w h (after w e s) places whole behind.fits a c within at) more

@@ -1,5 +1,5 @@
 -- What is listed of batches tells what is new there.
-use Rattle.std.specs.Prelude.{◌≡◌, refl, ℕ, ◌%◌, ◌==◌, not, Bool, true, false, ◌&&◌, ◌||◌, if◌then◌else◌, Option, Some, None, List, [], ◌∷◌, ◌++◌, map, filter, find, slice_get, Contains}
+use Rattle.std.specs.Prelude.{◌≡◌, refl, ℕ, ◌%◌, ◌==◌, not, Bool, true, false, ◌&&◌, ◌||◌, if◌then◌else◌, Option, Some, None, List, [], ◌∷◌, ◌++◌, map, filter, slice_get, Contains}
 use Rattle.std.specs.List.{flat_map}
 use Rattle.std.proofs.Common.{sym, ap, subst, inl, inr, ◌∙◌}
 use Rattle.std.proofs.lemmas.Bool.{true≢false, and_parts, and_from, or_cases, eqb-true, eq-eqb}
@@ -13,10 +13,10 @@ use Rattle.hand_offers.proofs.Lists.{first_of_all, placed, in_flat_map}
 use Rattle.hand_offers.proofs.Told.{desk_lists}
 use Rattle.listing_facts.specs.Listing.{DeskLists}
 use Rattle.protocol.specs.Effects.{after}
-use Rattle.protocol.specs.Events.{Event, Submit, Pass, Form, Admit, Arrive, Ask, Take, Run, Send, End, Close, Complete, Sync, Note, Commit, Settle, Abort, Rollback, DropSub, DropControl, Prepare, Vouch, Decide, Seal, Finish, Reply, Trim}
+use Rattle.protocol.specs.Events.{Event, Form, End, Sync, Note, Commit, Settle, Abort, Trim}
 use Rattle.protocol.specs.Fixed.{Fixed}
 use Rattle.protocol.specs.Parts.{Declared, Batch, Desk, Machine}
-use Rattle.protocol.specs.Words.{holds, is_committing, is_settled, batch_of, declared_of, is_open, is_next_to_commit}
+use Rattle.protocol.specs.Words.{holds, is_settled, batch_of, declared_of, is_open}
 use Rattle.protocol_ready.specs.Telling.{DeskTells}
 use Rattle.protocol_ready.specs.Touched.{is_touched}
 use Rattle.protocol_ready.proofs.Listing.{Has, from_has, has_map, has_filter, has_flat_map, held, found_in}
@@ -60,6 +60,10 @@ trim_of k a d h =
     let p = held (λ p. not p.trimmed) (declared_of a b.it) rest.1 in
     on_actor d k a (Trim k a) 1 (actor_has k a d b.it p.it b.is p.is) refl
 
+-- an actor of a batch that is not noted, at its log, by what they are
+unnoted_among : (logs l k a : ℕ) (b : Batch) (p : Declared) → Has b.places p → is_unnoted logs l p ≡ true → b.bid ≡ k → p.actor ≡ a → Has (unnoted_at logs l b) (k, a)
+unnoted_among logs l k a b p has wanted number here = subst (λ x. Has (unnoted_at logs l b) x) (λ j. (number j, here j)) (has_map (λ p. (b.bid, p.actor)) (filter (is_unnoted logs l) b.places) p (has_filter (is_unnoted logs l) b.places p has wanted))
+
 -- of an open batch an actor that is not noted, at its log
 unnoted_has : (logs l k a : ℕ) (d : Desk) → IsToNote k a d → (l == a % logs) ≡ true → Contains (flat_map of_unnoted (unnoted_on logs l d)) (Note k a)
 unnoted_has logs l k a d h at =
@@ -71,8 +75,7 @@ unnoted_has logs l k a d h at =
     let f = found_in (λ b. b.bid == k) d.batches b.it b.is in
     let number : b.it.bid ≡ k = eqb-true b.it.bid k f.1 in
     let wanted : is_unnoted logs l p.it ≡ true = and_from (not p.it.noted) (p.it.actor % logs == l) p.does (eq-eqb (p.it.actor % logs) l (ap (λ n. n % logs) here ∙ sym (eqb-true l (a % logs) at))) in
-    let same : (b.it.bid, p.it.actor) ≡ (k, a) = λ j. (number j, here j) in
-    let one : Has (unnoted_at logs l b.it) (k, a) = subst (λ x. Has (unnoted_at logs l b.it) x) same (has_map (λ p. (b.it.bid, p.actor)) (filter (is_unnoted logs l) b.it.places) p.it (has_filter (is_unnoted logs l) b.it.places p.it r.0 wanted)) in
+    let one = unnoted_among logs l k a b.it p.it r.0 wanted number here in
     let of_it : Has (unnoted_in logs l b.it) (k, a) = subst (λ c. Has (if c then unnoted_at logs l b.it else []) (k, a)) (sym parts.0) one in
     in_flat_map of_unnoted (unnoted_on logs l d) (k, a) (Note k a) (from_has (unnoted_on logs l d) (k, a) (has_flat_map (unnoted_in logs l) d.batches b.it (k, a) f.0 of_it)) (first_of_all [] (Note k a))
 

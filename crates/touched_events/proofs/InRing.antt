@@ -1,14 +1,13 @@
 -- What is listed of the ring and of the logs tells what is new there.
-use Rattle.std.specs.Prelude.{◌≡◌, refl, ℕ, ◌+◌, ◌%◌, ◌<◌, ◌==◌, nat_lt, not, Bool, true, false, ◌&&◌, if◌then◌else◌, Option, Some, None, List, [], ◌∷◌, ◌++◌, length, slice_get, Contains}
-use Rattle.std.specs.List.{flat_map}
-use Rattle.std.proofs.Common.{arith, sym, ap, subst, inl, inr, ◌∙◌}
+use Rattle.std.specs.Prelude.{◌≡◌, refl, ℕ, ◌+◌, ◌%◌, ◌<◌, ◌==◌, nat_lt, true, false, if◌then◌else◌, Some, List, [], ◌∷◌, ◌++◌, length, slice_get, Contains}
+use Rattle.std.proofs.Common.{sym, ap, subst, inl, inr, ◌∙◌}
 use Rattle.std.proofs.lemmas.Bool.{true≢false, eqb-true, eq-eqb, cases_Bool}
 use Rattle.std.proofs.lemmas.List.Elements.{Contains-append_left, Contains-append_right}
 use Rattle.std.proofs.lemmas.Option.{slice_get_within}
 use Rattle.aml_slice.specs.Controls.{Rest}
-use Rattle.protocol.specs.Conditions.{IsAllowed, conditions, refusal, first_false, queue, is_idle_at, is_idle}
+use Rattle.protocol.specs.Conditions.{conditions, refusal, queue, is_idle_at, is_idle}
 use Rattle.protocol.specs.Effects.{after}
-use Rattle.protocol.specs.Events.{Event, Submit, Pass, Form, Admit, Arrive, Ask, Take, Run, Send, End, Close, Complete, Sync, Note, Commit, Settle, Abort, Rollback, DropSub, DropControl, Prepare, Vouch, Decide, Seal, Finish, Reply, Trim}
+use Rattle.protocol.specs.Events.{Event, Submit, Pass, Form, Admit, Complete, Sync, Commit, Abort, Prepare, Decide}
 use Rattle.protocol.specs.Fixed.{Fixed}
 use Rattle.protocol.specs.Footprints.{HasLogs}
 use Rattle.protocol.specs.Laws.{AfterEveryRun}
@@ -19,7 +18,7 @@ use Rattle.protocol_ready.specs.Telling.{RingTells, LogTells}
 use Rattle.protocol_ready.specs.Touched.{is_touched}
 use Rattle.hand_offers.specs.Listed.{on_ring, of_log}
 use Rattle.hand_offers.proofs.Lists.{first_of_all, placed, in_flat_map, in_below}
-use Rattle.touched_events.specs.InRing.{changes_ring, ring_listed, forms, admits, log_changed, of_changed, logs_listed}
+use Rattle.touched_events.specs.InRing.{changes_ring, ring_listed, forms, admits, logs_listed}
 use Rattle.touched_events.specs.New.{is_new}
 use Rattle.touched_events.proofs.Common.{Among, new_is_touched, new_was_refused}
 

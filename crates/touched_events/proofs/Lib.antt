@@ -4,11 +4,15 @@ pub mod InDesk
 pub mod InBook
 pub mod Replies
 pub mod NewReplies
+pub mod OffActors
+pub mod Cascading
 pub mod GivenUp
 pub mod AfterRuns
+pub mod AfterAsk
 pub mod InAnswers
 pub mod InRing
 pub mod InPost
+pub mod NewDrops
 pub mod PostTold
 pub mod Closing
 pub mod InCells

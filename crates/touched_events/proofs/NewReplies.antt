@@ -1,33 +1,28 @@
 -- What is listed of replies tells what is new there, by what holds of the state before the event.
-use Rattle.std.specs.Prelude.{◌≡◌, refl, ℕ, zero, suc, ◌+◌, ◌<◌, ◌≤◌, ◌==◌, nat_lt, nat_le, max, not, Bool, true, false, ◌&&◌, ◌||◌, if◌then◌else◌, is_some, Option, Some, None, List, [], ◌∷◌, ◌++◌, length, map, filter, find, slice_get, Contains}
-use Rattle.std.specs.List.{list_any, list_all, flat_map, AllByRecursion}
-use Rattle.std.proofs.Common.{arith, sym, ap, subst, inl, inr, ◌∙◌}
-use Rattle.std.proofs.lemmas.Bool.{eqb-true, eq-eqb, and_parts, and_from, or_cases, not-true, true≢false, false≢true, cases_Bool, leb-true}
-use Rattle.std.proofs.lemmas.List.Elements.{Contains-append_left, Contains-append_right}
+use Rattle.std.specs.Prelude.{◌≡◌, refl, ℕ, ◌≤◌, ◌==◌, not, Bool, true, false, ◌&&◌, if◌then◌else◌, is_some, Option, Some, None, List, [], ◌∷◌, ◌++◌, length, map, slice_get, Contains}
+use Rattle.std.specs.List.{list_any, AllByRecursion}
+use Rattle.std.proofs.Common.{sym, subst, ◌∙◌}
+use Rattle.std.proofs.lemmas.Bool.{true≢false}
 use Rattle.aml_slice.specs.Controls.{Rest}
-use Rattle.book_part.specs.Listed.{live_tids}
 use Rattle.hand_offers.specs.Listed.{of_reply}
 use Rattle.hand_offers.proofs.Lists.{first_of_all, in_flat_map}
-use Rattle.protocol.specs.Conditions.{conditions, refusal, first_false}
+use Rattle.protocol.specs.Conditions.{conditions, refusal}
 use Rattle.protocol.specs.Effects.{after, cell_at}
-use Rattle.protocol.specs.Events.{Event, Form, Admit, Arrive, Ask, End, Settle, Decide, Seal, Reply}
+use Rattle.protocol.specs.Events.{Event, Admit, End, Settle, Decide, Seal, Reply}
 use Rattle.protocol.specs.Fixed.{Fixed, Next, Go, Ended}
 use Rattle.protocol.specs.Numbers.{from, times}
 use Rattle.protocol.specs.OnBook as book
 use Rattle.protocol.specs.OnDesk as desk
-use Rattle.protocol.specs.Parts.{Status, Live, Doomed, Decided, Sealed, Joined, Act, Book, Cascade, Batch, Desk, Outcome, Machine}
-use Rattle.protocol.specs.Spread.{raised, raised_over, is_crossed, crossed_out, doomed_by_order}
+use Rattle.protocol.specs.Parts.{Act, Book, Cascade, Batch, Desk, Outcome, Machine}
 use Rattle.protocol.specs.Verdicts.{or_else, verdict, verdict_of_pact, verdict_of_act}
-use Rattle.protocol.specs.Words.{is_empty, is_among, holds, act_of, joined_of, batch_of, has_act, outcome_of, is_doomed, is_sealed, is_live_status, is_live_act, is_settled}
+use Rattle.protocol.specs.Words.{holds, act_of, batch_of, has_act, outcome_of, is_settled}
 use Rattle.protocol_ready.specs.Touched.{is_touched}
-use Rattle.protocol_ready.proofs.Listing.{Has, from_has, has_map, has_filter, any_of}
-use Rattle.protocol_records.specs.Overs.{EndsWhole}
 use Rattle.batch_table.specs.Listed.{txs_at}
 use Rattle.order_book.specs.Asked.{tx_of}
-use Rattle.touched_events.specs.InAnswers.{replies_of, of_tx, of_txs, of_doomed, if_doomed, of_given_up}
+use Rattle.touched_events.specs.InAnswers.{replies_of, of_tx, of_txs}
 use Rattle.touched_events.specs.New.{is_new}
 use Rattle.touched_events.proofs.Common.{new_was_refused}
-use Rattle.touched_events.proofs.Replies.{no, either_some, first_some, added_same, named_is, tx_changed, batch_has, txs_settled, pacts_same, acts_same}
+use Rattle.touched_events.proofs.Replies.{either_some, first_some, added_same, named_is, tx_changed, batch_has, txs_settled, pacts_same, acts_same}
 
 -- ---- what was refused before had no verdict
 

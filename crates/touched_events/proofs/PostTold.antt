@@ -1,33 +1,37 @@
--- By each event, what is listed of the post tells what is new there.
-use Rattle.std.specs.Prelude.{◌≡◌, ◌↔◌, refl, ℕ, zero, suc, ◌==◌, not, Bool, true, false, ◌&&◌, ◌||◌, if◌then◌else◌, is_some, Option, Some, None, List, [], ◌∷◌, ◌++◌, ◌⊎◌, map, filter, find, slice_get, slice_set, slice_index_or, Contains}
-use Rattle.std.specs.List.{list_any, flat_map}
+-- By each event, what is listed of what is under way tells what is new there.
+use Rattle.std.specs.Prelude.{◌≡◌, ◌↔◌, refl, ℕ, zero, suc, ◌≤◌, ◌==◌, max, not, Bool, true, false, ◌&&◌, ◌||◌, if◌then◌else◌, is_some, Option, Some, None, List, [], ◌∷◌, ◌++◌, map, filter, slice_get, slice_set, slice_index_or, Contains}
+use Rattle.std.specs.List.{list_any, AllByRecursion}
 use Rattle.std.proofs.Common.{sym, ap, subst, inl, inr, ◌∙◌}
 use Rattle.std.proofs.lemmas.Bool.{true≢false, and_parts, eqb-true, eq-eqb, or_cases, cases_Bool}
 use Rattle.std.proofs.lemmas.List.Elements.{Contains-append_left, Contains-append_right}
 use Rattle.aml_slice.specs.Controls.{Rest}
-use Rattle.protocol.specs.Conditions.{IsAllowed, conditions, epoch, refusal}
+use Rattle.protocol.specs.Conditions.{IsAllowed, conditions, epoch, is_given_up, refusal}
 use Rattle.protocol.specs.Effects.{after, cell_at, no_cell}
 use Rattle.protocol.specs.Events.{Event, Submit, Pass, Form, Admit, Arrive, Ask, Take, Run, Send, End, Close, Complete, Sync, Note, Commit, Settle, Abort, Rollback, DropSub, DropControl, Prepare, Vouch, Decide, Seal, Finish, Reply, Trim}
 use Rattle.protocol.specs.Fixed.{Fixed}
-use Rattle.protocol.specs.OnBook.{asked_acts, changed_act, doomed_by, has_left, joins, lowered, marked, new_pairs, tids_on, met, in_the_way}
+use Rattle.protocol.specs.OnBook.{asked_acts, batch_arrived, change_if, changed_act, doomed_by, has_left, joins, lowered, marked, new_pairs, tids_on, met, in_the_way}
 use Rattle.protocol.specs.OnCell.{act_entries, act_left, act_placed, batch_entries, batch_left, batch_placed}
-use Rattle.protocol.specs.OnRing.{next_pacts}
+use Rattle.protocol.specs.Numbers.{times}
 use Rattle.protocol.specs.Parts.{Act, Book, Doomed, Entry, BatchEntry, ActEntry, Who, OfBatch, OfAct, SubBatch, ControlMessage, Post, Cell, Machine}
 use Rattle.protocol.specs.Rivals.{Lock}
 use Rattle.protocol.specs.Spread.{raised}
 use Rattle.protocol.specs.Verdicts.{died}
+use Rattle.snap_base.specs.declared.verdicts.Verdict.{Verdict}
 use Rattle.protocol.specs.Words.{act_of, control_of, has_control_to, has_entry, holds, is_act_entry, is_batch_entry, is_entry_of, is_doomed, is_live_status, sub_of, without_control, without_sub, has_act}
 use Rattle.protocol_ready.specs.Telling.{PostTells}
 use Rattle.protocol_ready.specs.Touched.{is_touched, changes_who, changes_doom}
-use Rattle.protocol_ready.proofs.Listing.{held, some}
+use Rattle.protocol_ready.proofs.Listing.{held, found_in}
 use Rattle.protocol_ready.proofs.TouchedListed.{no}
 use Rattle.protocol_ready.proofs.TouchedParts.{find_filter}
 use Rattle.touched_events.specs.New.{is_new}
-use Rattle.touched_events.specs.InPost.{arrivals_to, comings_to, drops, on_control, post_listed}
+use Rattle.touched_events.specs.InPost.{arrivals_to, comings_to, given_up_drops, of_drops, of_post, on_control}
 use Rattle.hand_offers.specs.Listed.{on_post}
 use Rattle.hand_offers.proofs.Lists.{first_of_all}
 use Rattle.touched_events.proofs.Common.{Among, new_is_touched, new_is_allowed, new_was_refused}
-use Rattle.touched_events.proofs.InPost.{left_or, find_gone, nowhere, nothing, arrival_in, coming_in, in_control, drop_in_control, drop_in, all_subs, all_to, all_drops, holds_back, crossed_back, raised_back, changed_back}
+use Rattle.touched_events.proofs.AfterRuns.{Holding, IsOwn, on_schedule}
+use Rattle.touched_events.proofs.GivenUp.{Known, arrival_fallen, ask_fallen}
+use Rattle.touched_events.proofs.InPost.{left_or, find_gone, nowhere, nothing, arrival_in, coming_in, in_control, drop_in_control, all_subs, all_controls, all_drops, holds_back, crossed_back, raised_back, changed_back}
+use Rattle.touched_events.proofs.NewDrops.{IsGivenUp, all_are, crossed_found, fallen_dropped, joined_doom, lowered_doom}
 
 -- ---- what was taken is gone, and the rest is there
 
@@ -45,6 +49,22 @@ others_stay u t cs e = find_filter (λ m. m.tid == t) (λ m. not (m.tid == u)) c
     by : (m : ControlMessage Rest) → (m.tid == t) ≡ true → (b : Bool) → (m.tid == u) ≡ b → not b ≡ true
     by m h true g = absurd (true≢false (sym (eq-eqb u t (sym (eqb-true m.tid u g) ∙ eqb-true m.tid t h)) ∙ e))
     by m h false g = refl
+
+-- a change of one ACT gives no other up
+others_doom : (u : ℕ) (v : Verdict) (t : ℕ) (acts : List Act) → (u == t) ≡ false → IsGivenUp t (changed_act u (doomed_by v) acts) → IsGivenUp t acts
+others_doom u v t [] other h = h
+others_doom u v t (x ∷ xs) other h = by (x.tid == u) refl h (others_doom u v t xs other)
+  where
+    pick : (c : Bool) → holds (λ x. is_doomed x.status) (if c then Some x else act_of t (changed_act u (doomed_by v) xs)) ≡ true → (IsGivenUp t (changed_act u (doomed_by v) xs) → IsGivenUp t xs) → holds (λ x. is_doomed x.status) (if c then Some x else act_of t xs) ≡ true
+    pick true g rest = g
+    pick false g rest = rest g
+
+    by : (c : Bool) → (x.tid == u) ≡ c → IsGivenUp t (change_if c (doomed_by v) x ∷ changed_act u (doomed_by v) xs) → (IsGivenUp t (changed_act u (doomed_by v) xs) → IsGivenUp t xs) → IsGivenUp t (x ∷ xs)
+    by true e g rest =
+        let none : (x.tid == t) ≡ false = ap (λ n. n == t) (eqb-true x.tid u e) ∙ other in
+        let past = subst (λ c. holds (λ x. is_doomed x.status) (if c then Some (doomed_by v x) else act_of t (changed_act u (doomed_by v) xs)) ≡ true) none g in
+        subst (λ c. holds (λ x. is_doomed x.status) (if c then Some x else act_of t xs) ≡ true) (sym none) (rest past)
+    by false e g rest = pick (x.tid == t) g rest
 
 taken_back : (u t a : ℕ) (cs : List (ControlMessage Rest)) → has_control_to t a (without_control u cs) ≡ true → has_control_to t a cs ≡ true
 taken_back u t a cs h = elim (cases_Bool (u == t)) [
@@ -78,14 +98,14 @@ lowered_back : (k : ℕ) (tids : List ℕ) (t : ℕ) (acts : List Act) → Undoo
 lowered_back k tids t acts h = holds_back (λ x. not (is_doomed x.status)) (λ x. x.tid == t) (lowered k tids) (λ x. refl) (λ x g. g) acts h
 
 asked_back : (older : Option ℕ) (group : List Lock) (u b m : ℕ) (bk : Book) (t : ℕ) → Undoomed t (asked_acts older group u b m bk) → Undoomed t bk.acts
-asked_back (Some older) group u b m bk t h = changed_back u (doomed_by (died b older u)) (λ x. refl) (λ x g. by x (is_live_status x.status) g) t bk.acts h
+asked_back (Some older) group u b m bk t h = changed_back (λ x. not (is_doomed x.status)) u (doomed_by (died b older u)) (λ x. refl) (λ x g. by x (is_live_status x.status) g) t bk.acts h
   where
     by : (x : Act) (c : Bool) → not (is_doomed (if c then Doomed (died b older u) else x.status)) ≡ true → not (is_doomed x.status) ≡ true
     by x true g = no g
     by x false g = g
 asked_back None group u b m bk t h =
     let pairs = bk.pairs ++ new_pairs u b group bk.acts in
-    changed_back u (joins b m) (λ x. refl) (λ x g. g) t bk.acts (raised_back pairs t (changed_act u (joins b m) bk.acts) (crossed_back b t (raised pairs (changed_act u (joins b m) bk.acts)) h))
+    changed_back (λ x. not (is_doomed x.status)) u (joins b m) (λ x. refl) (λ x g. g) t bk.acts (raised_back (λ x. not (is_doomed x.status)) (λ x k g. g) pairs t (changed_act u (joins b m) bk.acts) (crossed_back b t (raised pairs (changed_act u (joins b m) bk.acts)) h))
 
 arrive_asks : (w : Fixed Rest) (k b : ℕ) (s : Machine Rest) (t a : ℕ) → IsAllowed w (Ask t a) (after w (Arrive k b) s) → IsAllowed w (Ask t a) s
 unfolding conditions after
@@ -158,7 +178,7 @@ trim_asks w k b s t a c = (c.0, (c.1.0, (set_back (λ c. not (has_act t c.entrie
 
 finish_asks : (w : Fixed Rest) (u b : ℕ) (s : Machine Rest) (t a : ℕ) → (u == t) ≡ false → IsAllowed w (Ask t a) (after w (Finish u b) s) → IsAllowed w (Ask t a) s
 unfolding conditions after
-finish_asks w u b s t a n c = (c.0, (changed_back u (marked b has_left) (λ x. refl) (λ x g. g) t s.book.acts c.1.0, (set_back (λ c. not (has_act t c.entries)) s.cells a b (act_left u (act_of u s.book.acts) (cell_at s b)) (none_filter (is_act_entry t) (λ e. not (is_act_entry u e)) (cell_at s b).entries (other_stays u t n)) c.1.1.0, (set_back (λ c. c.epoch == epoch s.book) s.cells a b (act_left u (act_of u s.book.acts) (cell_at s b)) (λ g. g) c.1.1.1.0, tt))))
+finish_asks w u b s t a n c = (c.0, (changed_back (λ x. not (is_doomed x.status)) u (marked b has_left) (λ x. refl) (λ x g. g) t s.book.acts c.1.0, (set_back (λ c. not (has_act t c.entries)) s.cells a b (act_left u (act_of u s.book.acts) (cell_at s b)) (none_filter (is_act_entry t) (λ e. not (is_act_entry u e)) (cell_at s b).entries (other_stays u t n)) c.1.1.0, (set_back (λ c. c.epoch == epoch s.book) s.cells a b (act_left u (act_of u s.book.acts) (cell_at s b)) (λ g. g) c.1.1.1.0, tt))))
 
 -- ---- whose control it is
 
@@ -192,57 +212,116 @@ either_way b c h f g = elim (or_cases b c h) [ inl x ↦ f x | inr y ↦ g y ]
 pub first_only : (b : Bool) → (b || false) ≡ true → b ≡ true
 first_only b h = left_or b false h no
 
-module _ (asked : Event → Bool) (w : Fixed Rest) (s : Machine Rest) (es : List Event) where
+-- ---- an ACT that is given up now, so that its control may be dropped
+
+newly_given_up : (asked : Event → Bool) (w : Fixed Rest) (s : Machine Rest) (e : Event) (t : ℕ) → AllByRecursion IsOwn s.post.controls → Asks asked w s e → asked (DropControl t) ≡ true → control_of t (after w e s).post.controls ≡ control_of t s.post.controls
+    → holds (λ m. changes_who e s m.who) (control_of t s.post.controls) ≡ true → IsGivenUp t (after w e s).book.acts × (IsGivenUp t s.book.acts → ⊥)
+unfolding conditions
+newly_given_up asked w s e t own g q same touched =
+    let m = held (λ m. changes_who e s m.who) (control_of t s.post.controls) touched in
+    let r = found_in (λ m. m.tid == t) s.post.controls m.it m.is in
+    by m.it m.is (eqb-true m.it.tid t r.1) (all_are IsOwn s.post.controls m.it own r.0) m.it.who refl m.does
+  where
+    by : (m : ControlMessage Rest) → control_of t s.post.controls ≡ Some m → m.tid ≡ t → IsOwn m → (who : Who) → m.who ≡ who → changes_who e s who ≡ true → IsGivenUp t (after w e s).book.acts × (IsGivenUp t s.book.acts → ⊥)
+    by m is tid own (OfBatch k) i d = no d
+    by m is tid own (OfAct u) i d =
+        let who : m.who ≡ OfAct t = i ∙ ap OfAct (own u i ∙ tid) in
+        let now = (g.allowed (DropControl t) q).1.0 in (
+          subst (λ z. is_given_up z (after w e s).book ≡ true) who (subst (λ o. holds (λ m. is_given_up m.who (after w e s).book) o ≡ true) (same ∙ is) now),
+          (λ d. g.refused (DropControl t) q (ap is_some is, (subst (λ o. holds (λ m. is_given_up m.who s.book) o ≡ true) (sym is) (subst (λ z. is_given_up z s.book ≡ true) (sym who) d), tt))),
+        )
+
+arrival_dropped : (asked : Event → Bool) (w : Fixed Rest) (s : Machine Rest) (j b t : ℕ) → Holding w s → Holding w (after w (Arrive j b) s) → Asks asked w s (Arrive j b) → asked (DropControl t) ≡ true → Contains (given_up_drops (after w (Arrive j b) s).book) (DropControl t)
+unfolding after
+arrival_dropped asked w s j b t before later g q =
+    let tids = tids_on (cell_at s b).entries in
+    let acts = map (lowered j tids) s.book.acts in
+    let v = newly_given_up asked w s (Arrive j b) t before.own g q refl (g.touched (DropControl t) q) in
+    let f = arrival_fallen s.book.acts before.known j b tids (batch_arrived j b tids s.book) refl later.known.once (λ x among e. before.stand b x.tid x (on_schedule x.tid (cell_at s b).entries among) e)
+    (λ x. x.tid == t) (λ y. refl) (crossed_found b t acts v.0 (λ d. v.1 (lowered_doom j tids t s.book.acts d))) in
+    fallen_dropped (after w (Arrive j b) s).book t f (later.known.once f.it.tid)
+
+-- what is admitted changes whose control is its own
+admitted_own : (s : Machine Rest) (u t : ℕ) → AllByRecursion IsOwn s.post.controls → holds (λ m. changes_who (Admit u) s m.who) (control_of t s.post.controls) ≡ true → (u == t) ≡ true
+admitted_own s u t own touched =
+    let m = held (λ m. changes_who (Admit u) s m.who) (control_of t s.post.controls) touched in
+    let r = found_in (λ m. m.tid == t) s.post.controls m.it m.is in
+    by m.it (eqb-true m.it.tid t r.1) (all_are IsOwn s.post.controls m.it own r.0) m.it.who refl m.does
+  where
+    by : (m : ControlMessage Rest) → m.tid ≡ t → IsOwn m → (who : Who) → m.who ≡ who → changes_who (Admit u) s who ≡ true → (u == t) ≡ true
+    by m tid own (OfBatch k) i d = no d
+    by m tid own (OfAct n) i d = subst (λ k. (u == k) ≡ true) (own n i ∙ tid) (first_only (u == n) d)
+
+-- who asks and dies is another one, and has no control
+asked_dropped : (o : Option ℕ) (group : List Lock) (u a m t : ℕ) (b c : Book) → Known b.acts → c.acts ≡ asked_acts o group u a m b → ((n : ℕ) → times n (map (λ y. y.tid) c.acts) ≤ 1) → (u == t) ≡ false → IsGivenUp t c.acts → (IsGivenUp t b.acts → ⊥) → Contains (given_up_drops c) (DropControl t)
+asked_dropped (Some older) group u a m t b c known e once other d n = absurd (n (others_doom u (died a older u) t b.acts other (subst (IsGivenUp t) e d)))
+asked_dropped None group u a m t b c known e once other d n =
+    let pairs = b.pairs ++ new_pairs u a group b.acts in
+    let f = ask_fallen b.acts known pairs u a m c e once (λ x. x.tid == t) (λ y. refl)
+    (crossed_found a t (raised pairs (changed_act u (joins a m) b.acts)) (subst (IsGivenUp t) e d) (λ d. n (joined_doom pairs u a m t b.acts d))) in
+    fallen_dropped c t f (once f.it.tid)
+
+ask_dropped : (asked : Event → Bool) (w : Fixed Rest) (s : Machine Rest) (u b t : ℕ) → Holding w s → Holding w (after w (Ask u b) s) → Asks asked w s (Ask u b) → asked (DropControl t) ≡ true → (u == t) ≡ false → Contains (given_up_drops (after w (Ask u b) s).book) (DropControl t)
+unfolding after
+ask_dropped asked w s u b t before later g q other =
+    let older = in_the_way u (cell_at s b).entries in
+    let group = met u (cell_at s b).entries in
+    let m = max (cell_at s b).last (cell_at s b).floor in
+    let touched = either_way (u == t) _ (g.touched (DropControl t) q) (λ e. absurd (true≢false (sym e ∙ other))) (λ x. x) in
+    let v = newly_given_up asked w s (Ask u b) t before.own g q (others_stay u t s.post.controls other) touched in
+    asked_dropped older group u b m t s.book (after w (Ask u b) s).book before.known refl later.known.once other v.0 v.1
+
+-- ---- by event
+
+module _ (asked : Event → Bool) (w : Fixed Rest) (s : Machine Rest) (before : Holding w s) (es : List Event) where
   abbrev Told : Event → Type 0
-  Told e = Asks asked w s e → Among (post_listed e (after w e s).post) es → PostTells asked (after w e s).post es
+  Told e = Holding w (after w e s) → Asks asked w s e → Among (of_post e (after w e s).post) es → Among (of_drops e (after w e s).book) es → PostTells asked (after w e s).post es
 
   all_told : (p : Post Rest) → Among (on_post p) es → PostTells asked p es
   all_told p more = record {
     arrive = λ k a q h. more (Arrive k a) (all_subs p k a (Arrive k a) h (inl refl));
     drop_sub = λ k a q h. more (DropSub k a) (all_subs p k a (DropSub k a) h (inr (inl refl)));
-    ask = λ t a q h. more (Ask t a) (all_to p t a (Ask t a) h (inl refl));
-    take = λ t a q h. more (Take t a) (all_to p t a (Take t a) h (inr (inl refl)));
+    ask = λ t a q h. more (Ask t a) (all_controls p t a (Ask t a) h (inl refl));
+    take = λ t a q h. more (Take t a) (all_controls p t a (Take t a) h (inr (inl refl)));
     drop_control = λ t q h. more (DropControl t) (all_drops p t h);
   }
 
   form_told : (j : ℕ) → Told (Form j)
-  form_told j g more = all_told (after w (Form j) s).post more
+  form_told j later g more drops = all_told (after w (Form j) s).post more
 
   of_one : (u t a : ℕ) (p : Post Rest) (f : Event) → (u == t) ≡ true → Contains (on_control t p) f → Contains (on_control u p) f
   of_one u t a p f e c = subst (λ n. Contains (on_control n p) f) (sym (eqb-true u t e)) c
 
   admit_told : (u : ℕ) → Told (Admit u)
   unfolding after
-  admit_told u g more =
+  admit_told u later g more drops =
       let p = (after w (Admit u) s).post in
-      let front : (f : Event) → Contains (on_control u p) f → Contains es f = λ f c. more f (Contains-append_left (on_control u p) (drops p) f c) in
       record {
         arrive = λ k a q h. no (g.touched (Arrive k a) q);
         drop_sub = λ k a q h. no (g.touched (DropSub k a) q);
-        ask = λ t a q h. front (Ask t a) (of_one u t a p (Ask t a) (left_or (u == t) _ (g.touched (Ask t a) q) (λ x. first_only (u == t) (first_only ((u == t) || false) x))) (in_control p t a (Ask t a) h (inl refl)));
-        take = λ t a q h. front (Take t a) (of_one u t a p (Take t a) (first_only (u == t) (g.touched (Take t a) q)) (in_control p t a (Take t a) h (inr (inl refl))));
+        ask = λ t a q h. more (Ask t a) (of_one u t a p (Ask t a) (left_or (u == t) _ (g.touched (Ask t a) q) (λ x. first_only (u == t) (first_only ((u == t) || false) x))) (in_control p t a (Ask t a) h (inl refl)));
+        take = λ t a q h. more (Take t a) (of_one u t a p (Take t a) (first_only (u == t) (g.touched (Take t a) q)) (in_control p t a (Take t a) h (inr (inl refl))));
         drop_control = λ t q h.
             either_way (u == t) _ (g.touched (DropControl t) q)
-            (λ x. front (DropControl t) (of_one u t 0 p (DropControl t) x (drop_in_control p t h)))
-            (λ x. more (DropControl t) (Contains-append_right (on_control u p) (drops p) (DropControl t) (drop_in p t h)));
+            (λ x. more (DropControl t) (of_one u t 0 p (DropControl t) x (drop_in_control p t h)))
+            (λ x. more (DropControl t) (of_one u t 0 p (DropControl t) (admitted_own s u t before.own x) (drop_in_control p t h)));
       }
 
   arrive_told : (j b : ℕ) → Told (Arrive j b)
   unfolding after
-  arrive_told j b g more =
+  arrive_told j b later g more drops =
       let p = (after w (Arrive j b) s).post in
-      let rest : (f : Event) → Contains (comings_to b p ++ drops p) f → Contains es f = λ f c. more f (Contains-append_right (arrivals_to b p) (comings_to b p ++ drops p) f c) in
       record {
-        arrive = λ k a q h. more (Arrive k a) (Contains-append_left (arrivals_to b p) (comings_to b p ++ drops p) (Arrive k a) (arrival_in p k a b h (either_way ((j == k) && (b == a)) (b == a) (g.touched (Arrive k a) q) (λ x. (and_parts (j == k) (b == a) x).1) (λ x. x))));
+        arrive = λ k a q h. more (Arrive k a) (Contains-append_left (arrivals_to b p) (comings_to b p) (Arrive k a) (arrival_in p k a b h (either_way ((j == k) && (b == a)) (b == a) (g.touched (Arrive k a) q) (λ x. (and_parts (j == k) (b == a) x).1) (λ x. x))));
         drop_sub = λ k a q h. absurd (nothing (sub_of k a p.subs) (gone_sub j b k a s.post.subs (g.touched (DropSub k a) q)) h);
         ask = λ t a q h. absurd (g.refused (Ask t a) q (arrive_asks w j b s t a (g.allowed (Ask t a) q)));
-        take = λ t a q h. rest (Take t a) (Contains-append_left (comings_to b p) (drops p) (Take t a) (coming_in p t a b (Take t a) h (g.touched (Take t a) q) (inr (inl refl))));
-        drop_control = λ t q h. rest (DropControl t) (Contains-append_right (comings_to b p) (drops p) (DropControl t) (drop_in p t h));
+        take = λ t a q h. more (Take t a) (Contains-append_right (arrivals_to b p) (comings_to b p) (Take t a) (coming_in p t a b (Take t a) h (g.touched (Take t a) q) (inr (inl refl))));
+        drop_control = λ t q h. drops (DropControl t) (arrival_dropped asked w s j b t before later g q);
       }
 
   ask_told : (u b : ℕ) → Told (Ask u b)
   unfolding after
-  ask_told u b g more =
+  ask_told u b later g more drops =
       let p = (after w (Ask u b) s).post in
       let gone : (t : ℕ) → (u == t) ≡ true → control_of t p.controls ≡ None = λ t e. gone_control u t s.post.controls e in
       record {
@@ -253,11 +332,14 @@ module _ (asked : Event → Bool) (w : Fixed Rest) (s : Machine Rest) (es : List
           | inl e ↦ absurd (nowhere (λ m. m.to == a) (control_of t p.controls) (gone t e) h)
           | inr e ↦ absurd (g.refused (Take t a) q (ask_takes w u b s t a e (g.allowed (Take t a) q)))
         ];
-        drop_control = λ t q h. more (DropControl t) (drop_in p t h);
+        drop_control = λ t q h. elim (cases_Bool (u == t)) [
+          | inl e ↦ absurd (nothing (control_of t p.controls) (gone t e) h)
+          | inr e ↦ drops (DropControl t) (ask_dropped asked w s u b t before later g q e)
+        ];
       }
 
   send_told : (u b : ℕ) → Told (Send u b)
-  send_told u b g more =
+  send_told u b later g more drops =
       let p = (after w (Send u b) s).post in
       record {
         arrive = λ k a q h. no (g.touched (Arrive k a) q);
@@ -272,7 +354,7 @@ module _ (asked : Event → Bool) (w : Fixed Rest) (s : Machine Rest) (es : List
 
   take_told : (u b : ℕ) → Told (Take u b)
   unfolding after
-  take_told u b g more =
+  take_told u b later g more drops =
       let p = (after w (Take u b) s).post in
       let gone : (t : ℕ) → (u == t) ≡ true → control_of t p.controls ≡ None = λ t e. gone_control u t s.post.controls e in
       record {
@@ -288,7 +370,7 @@ module _ (asked : Event → Bool) (w : Fixed Rest) (s : Machine Rest) (es : List
 
   dropped_told : (u : ℕ) → Told (DropControl u)
   unfolding after
-  dropped_told u g more =
+  dropped_told u later g more drops =
       let p = (after w (DropControl u) s).post in
       let gone : (t : ℕ) → (u == t) ≡ true → control_of t p.controls ≡ None = λ t e. gone_control u t s.post.controls e in
       record {
@@ -304,7 +386,7 @@ module _ (asked : Event → Bool) (w : Fixed Rest) (s : Machine Rest) (es : List
 
   left_told : (j b : ℕ) → Told (DropSub j b)
   unfolding after
-  left_told j b g more =
+  left_told j b later g more drops =
       let p = (after w (DropSub j b) s).post in
       record {
         arrive = λ k a q h. absurd (nothing (sub_of k a p.subs) (gone_sub j b k a s.post.subs (first_only ((j == k) && (b == a)) (g.touched (Arrive k a) q))) h);
@@ -315,10 +397,10 @@ module _ (asked : Event → Bool) (w : Fixed Rest) (s : Machine Rest) (es : List
       }
 
   abort_told : (j : ℕ) → Told (Abort j)
-  abort_told j g more = all_told (after w (Abort j) s).post more
+  abort_told j later g more drops = all_told (after w (Abort j) s).post more
 
   rollback_told : (b : ℕ) → Told (Rollback b)
-  rollback_told b g more =
+  rollback_told b later g more drops =
       let p = (after w (Rollback b) s).post in
       let rest : (f : Event) → Contains (comings_to b p) f → Contains es f = λ f c. more f (Contains-append_right (arrivals_to b p) (comings_to b p) f c) in
       record {
@@ -330,7 +412,7 @@ module _ (asked : Event → Bool) (w : Fixed Rest) (s : Machine Rest) (es : List
       }
 
   finish_told : (u b : ℕ) → Told (Finish u b)
-  finish_told u b g more = record {
+  finish_told u b later g more drops = record {
     arrive = λ k a q h. no (g.touched (Arrive k a) q);
     drop_sub = λ k a q h. no (g.touched (DropSub k a) q);
     ask = λ t a q h. elim (cases_Bool (u == t)) [
@@ -343,7 +425,7 @@ module _ (asked : Event → Bool) (w : Fixed Rest) (s : Machine Rest) (es : List
   }
 
   trim_told : (j b : ℕ) → Told (Trim j b)
-  trim_told j b g more = record {
+  trim_told j b later g more drops = record {
     arrive = λ k a q h. no (g.touched (Arrive k a) q);
     drop_sub = λ k a q h. no (g.touched (DropSub k a) q);
     ask = λ t a q h. absurd (g.refused (Ask t a) q (trim_asks w j b s t a (g.allowed (Ask t a) q)));
@@ -364,30 +446,30 @@ module _ (asked : Event → Bool) (w : Fixed Rest) (s : Machine Rest) (es : List
   }
 
   pub post_told : (e : Event) → Told e
-  post_told (Form j) g more = form_told j g more
-  post_told (Admit u) g more = admit_told u g more
-  post_told (Arrive j b) g more = arrive_told j b g more
-  post_told (Ask u b) g more = ask_told u b g more
-  post_told (Take u b) g more = take_told u b g more
-  post_told (Send u b) g more = send_told u b g more
-  post_told (Abort j) g more = abort_told j g more
-  post_told (Rollback b) g more = rollback_told b g more
-  post_told (DropSub j b) g more = left_told j b g more
-  post_told (DropControl u) g more = dropped_told u g more
-  post_told (Finish u b) g more = finish_told u b g more
-  post_told (Trim j b) g more = trim_told j b g more
-  post_told (Submit n) g more = quiet_told (Submit n) g.touched (λ k a. refl) (λ k a. refl) (λ t a. refl) (λ t a. refl) (λ t x. not_who (Submit n) s (control_of t s.post.controls) (λ u. refl) x)
-  post_told (Pass c) g more = quiet_told (Pass c) g.touched (λ k a. refl) (λ k a. refl) (λ t a. refl) (λ t a. refl) (λ t x. not_who (Pass c) s (control_of t s.post.controls) (λ u. refl) x)
-  post_told (Run u b) g more = quiet_told (Run u b) g.touched (λ k a. refl) (λ k a. refl) (λ t a. refl) (λ t a. refl) (λ t x. not_who (Run u b) s (control_of t s.post.controls) (λ u. refl) x)
-  post_told (End u b) g more = quiet_told (End u b) g.touched (λ k a. refl) (λ k a. refl) (λ t a. refl) (λ t a. refl) (λ t x. not_who (End u b) s (control_of t s.post.controls) (λ u. refl) x)
-  post_told (Close u b) g more = quiet_told (Close u b) g.touched (λ k a. refl) (λ k a. refl) (λ t a. refl) (λ t a. refl) (λ t x. not_who (Close u b) s (control_of t s.post.controls) (λ u. refl) x)
-  post_told (Complete j b) g more = quiet_told (Complete j b) g.touched (λ k a. refl) (λ k a. refl) (λ t a. refl) (λ t a. refl) (λ t x. not_who (Complete j b) s (control_of t s.post.controls) (λ u. refl) x)
-  post_told (Sync l) g more = quiet_told (Sync l) g.touched (λ k a. refl) (λ k a. refl) (λ t a. refl) (λ t a. refl) (λ t x. not_who (Sync l) s (control_of t s.post.controls) (λ u. refl) x)
-  post_told (Note j b) g more = quiet_told (Note j b) g.touched (λ k a. refl) (λ k a. refl) (λ t a. refl) (λ t a. refl) (λ t x. not_who (Note j b) s (control_of t s.post.controls) (λ u. refl) x)
-  post_told (Commit j) g more = quiet_told (Commit j) g.touched (λ k a. refl) (λ k a. refl) (λ t a. refl) (λ t a. refl) (λ t x. not_who (Commit j) s (control_of t s.post.controls) (λ u. refl) x)
-  post_told (Settle j) g more = quiet_told (Settle j) g.touched (λ k a. refl) (λ k a. refl) (λ t a. refl) (λ t a. refl) (λ t x. not_who (Settle j) s (control_of t s.post.controls) (λ u. refl) x)
-  post_told (Prepare u b) g more = quiet_told (Prepare u b) g.touched (λ k a. refl) (λ k a. refl) (λ t a. refl) (λ t a. refl) (λ t x. not_who (Prepare u b) s (control_of t s.post.controls) (λ u. refl) x)
-  post_told (Vouch u b) g more = quiet_told (Vouch u b) g.touched (λ k a. refl) (λ k a. refl) (λ t a. refl) (λ t a. refl) (λ t x. not_who (Vouch u b) s (control_of t s.post.controls) (λ u. refl) x)
-  post_told (Decide u) g more = quiet_told (Decide u) g.touched (λ k a. refl) (λ k a. refl) (λ t a. refl) (λ t a. refl) (λ t x. not_who (Decide u) s (control_of t s.post.controls) (λ u. refl) x)
-  post_told (Seal u) g more = quiet_told (Seal u) g.touched (λ k a. refl) (λ k a. refl) (λ t a. refl) (λ t a. refl) (λ t x. not_who (Seal u) s (control_of t s.post.controls) (λ u. refl) x)
-  post_told (Reply n) g more = quiet_told (Reply n) g.touched (λ k a. refl) (λ k a. refl) (λ t a. refl) (λ t a. refl) (λ t x. not_who (Reply n) s (control_of t s.post.controls) (λ u. refl) x)
+  post_told (Form j) later g more drops = form_told j later g more drops
+  post_told (Admit u) later g more drops = admit_told u later g more drops
+  post_told (Arrive j b) later g more drops = arrive_told j b later g more drops
+  post_told (Ask u b) later g more drops = ask_told u b later g more drops
+  post_told (Take u b) later g more drops = take_told u b later g more drops
+  post_told (Send u b) later g more drops = send_told u b later g more drops
+  post_told (Abort j) later g more drops = abort_told j later g more drops
+  post_told (Rollback b) later g more drops = rollback_told b later g more drops
+  post_told (DropSub j b) later g more drops = left_told j b later g more drops
+  post_told (DropControl u) later g more drops = dropped_told u later g more drops
+  post_told (Finish u b) later g more drops = finish_told u b later g more drops
+  post_told (Trim j b) later g more drops = trim_told j b later g more drops
+  post_told (Submit n) later g more drops = quiet_told (Submit n) g.touched (λ k a. refl) (λ k a. refl) (λ t a. refl) (λ t a. refl) (λ t x. not_who (Submit n) s (control_of t s.post.controls) (λ u. refl) x)
+  post_told (Pass c) later g more drops = quiet_told (Pass c) g.touched (λ k a. refl) (λ k a. refl) (λ t a. refl) (λ t a. refl) (λ t x. not_who (Pass c) s (control_of t s.post.controls) (λ u. refl) x)
+  post_told (Run u b) later g more drops = quiet_told (Run u b) g.touched (λ k a. refl) (λ k a. refl) (λ t a. refl) (λ t a. refl) (λ t x. not_who (Run u b) s (control_of t s.post.controls) (λ u. refl) x)
+  post_told (End u b) later g more drops = quiet_told (End u b) g.touched (λ k a. refl) (λ k a. refl) (λ t a. refl) (λ t a. refl) (λ t x. not_who (End u b) s (control_of t s.post.controls) (λ u. refl) x)
+  post_told (Close u b) later g more drops = quiet_told (Close u b) g.touched (λ k a. refl) (λ k a. refl) (λ t a. refl) (λ t a. refl) (λ t x. not_who (Close u b) s (control_of t s.post.controls) (λ u. refl) x)
+  post_told (Complete j b) later g more drops = quiet_told (Complete j b) g.touched (λ k a. refl) (λ k a. refl) (λ t a. refl) (λ t a. refl) (λ t x. not_who (Complete j b) s (control_of t s.post.controls) (λ u. refl) x)
+  post_told (Sync l) later g more drops = quiet_told (Sync l) g.touched (λ k a. refl) (λ k a. refl) (λ t a. refl) (λ t a. refl) (λ t x. not_who (Sync l) s (control_of t s.post.controls) (λ u. refl) x)
+  post_told (Note j b) later g more drops = quiet_told (Note j b) g.touched (λ k a. refl) (λ k a. refl) (λ t a. refl) (λ t a. refl) (λ t x. not_who (Note j b) s (control_of t s.post.controls) (λ u. refl) x)
+  post_told (Commit j) later g more drops = quiet_told (Commit j) g.touched (λ k a. refl) (λ k a. refl) (λ t a. refl) (λ t a. refl) (λ t x. not_who (Commit j) s (control_of t s.post.controls) (λ u. refl) x)
+  post_told (Settle j) later g more drops = quiet_told (Settle j) g.touched (λ k a. refl) (λ k a. refl) (λ t a. refl) (λ t a. refl) (λ t x. not_who (Settle j) s (control_of t s.post.controls) (λ u. refl) x)
+  post_told (Prepare u b) later g more drops = quiet_told (Prepare u b) g.touched (λ k a. refl) (λ k a. refl) (λ t a. refl) (λ t a. refl) (λ t x. not_who (Prepare u b) s (control_of t s.post.controls) (λ u. refl) x)
+  post_told (Vouch u b) later g more drops = quiet_told (Vouch u b) g.touched (λ k a. refl) (λ k a. refl) (λ t a. refl) (λ t a. refl) (λ t x. not_who (Vouch u b) s (control_of t s.post.controls) (λ u. refl) x)
+  post_told (Decide u) later g more drops = quiet_told (Decide u) g.touched (λ k a. refl) (λ k a. refl) (λ t a. refl) (λ t a. refl) (λ t x. not_who (Decide u) s (control_of t s.post.controls) (λ u. refl) x)
+  post_told (Seal u) later g more drops = quiet_told (Seal u) g.touched (λ k a. refl) (λ k a. refl) (λ t a. refl) (λ t a. refl) (λ t x. not_who (Seal u) s (control_of t s.post.controls) (λ u. refl) x)
+  post_told (Reply n) later g more drops = quiet_told (Reply n) g.touched (λ k a. refl) (λ k a. refl) (λ t a. refl) (λ t a. refl) (λ t x. not_who (Reply n) s (control_of t s.post.controls) (λ u. refl) x)

@@ -1,17 +1,17 @@
 -- Which replies an event may make due: what it changes in a verdict, by the transaction.
-use Rattle.std.specs.Prelude.{◌≡◌, refl, ℕ, zero, suc, ◌+◌, ◌<◌, ◌≤◌, ◌==◌, nat_lt, nat_le, max, not, Bool, true, false, ◌&&◌, ◌||◌, if◌then◌else◌, is_some, Option, Some, None, List, [], ◌∷◌, ◌++◌, ◌⊎◌, length, map, filter, find, slice_get, Contains}
-use Rattle.std.specs.List.{list_any, list_all, AllByRecursion}
-use Rattle.std.proofs.Common.{arith, sym, ap, subst, inl, inr, ◌∙◌}
-use Rattle.std.proofs.lemmas.Bool.{eqb-true, eq-eqb, ne_eqb, and_parts, and_from, or_cases, not-true, true≢false, false≢true, cases_Bool, ltb-true, leb-true}
+use Rattle.std.specs.Prelude.{◌≡◌, refl, ℕ, suc, ◌+◌, ◌<◌, ◌≤◌, ◌==◌, Bool, true, false, ◌&&◌, ◌||◌, if◌then◌else◌, is_some, Option, Some, None, List, [], ◌∷◌, ◌++◌, length, map, filter, find, Contains}
+use Rattle.std.specs.List.{list_any, AllByRecursion}
+use Rattle.std.proofs.Common.{arith, sym, ap, subst, inl, inr}
+use Rattle.std.proofs.lemmas.Bool.{eqb-true, and_parts, or_cases, false≢true}
 use Rattle.snap_base.specs.declared.transactions.TxResult.{TxResult}
 use Rattle.snap_base.specs.declared.transactions.TxResult.TheVariants.{Value, Fail}
 use Rattle.snap_base.specs.declared.verdicts.Place.{Place}
 use Rattle.snap_base.specs.declared.verdicts.Verdict.{Verdict}
-use Rattle.protocol.specs.Parts.{Status, Live, Doomed, Decided, Sealed, Joined, Act, Book, Cascade, Pact, Stage, Formed, Committing, Settled, Batch, Desk}
+use Rattle.protocol.specs.Parts.{Act, Cascade, Pact, Stage, Formed, Committing, Settled, Batch}
 use Rattle.protocol.specs.Numbers.{from, times}
 use Rattle.protocol.specs.OnDesk as desk
 use Rattle.protocol.specs.OnBook as book
-use Rattle.protocol.specs.Words.{holds, covers, act_of, batch_of, is_settled}
+use Rattle.protocol.specs.Words.{covers, act_of, batch_of, is_settled}
 use Rattle.protocol.specs.Verdicts.{or_else, ended_at, settled_verdict, pact_place, pact_verdict, act_verdict, verdict_in_batch, verdict_of_pact, verdict_of_act}
 use Rattle.batch_table.specs.Listed.{txs_at}
 use Rattle.order_book.specs.Asked.{tx_of}

@@ -1,13 +1,15 @@
 -- What is listed of replies after an event: of the transactions that it may have given a verdict.
-use Rattle.std.specs.Prelude.{ℕ, Bool, true, false, Option, Some, None, List, [], ◌∷◌, ◌++◌}
+use Rattle.std.specs.Prelude.{ℕ, ◌-◌, Option, Some, None, List, [], ◌∷◌, ◌++◌, filter}
 use Rattle.std.specs.List.{flat_map}
 use Rattle.batch_table.specs.Listed.{txs_at}
 use Rattle.book_part.specs.Listed.{live_tids}
-use Rattle.hand_offers.specs.Listed.{of_reply, on_replies}
+use Rattle.hand_offers.specs.Listed.{of_reply}
 use Rattle.order_book.specs.Asked.{tx_of}
-use Rattle.protocol.specs.Events.{Event, Form, Admit, Arrive, Ask, End, Settle, Abort, Decide, Seal, Reply}
-use Rattle.protocol.specs.Parts.{Book, Desk}
-use Rattle.protocol.specs.Words.{holds, act_of, batch_of, is_doomed}
+use Rattle.protocol.specs.Conditions.{is_given_up}
+use Rattle.protocol.specs.Events.{Event, Form, Arrive, Ask, End, Settle, Abort, Decide, Seal, Reply}
+use Rattle.protocol.specs.Numbers.{from}
+use Rattle.protocol.specs.Parts.{Book, Desk, OfAct}
+use Rattle.protocol.specs.Words.{act_of, batch_of}
 
 abbrev pub replies_of : Option ℕ → List Event
 replies_of None = []
@@ -20,24 +22,24 @@ of_tx b t = replies_of (tx_of (act_of t b.acts))
 abbrev pub of_txs : Desk → ℕ → List Event
 of_txs d k = flat_map of_reply (txs_at (batch_of k d.batches))
 
--- of the live ACTs that are given up
-abbrev pub if_doomed : Bool → Book → ℕ → List Event
-if_doomed true b t = of_tx b t
-if_doomed false b t = []
-
-abbrev pub of_doomed : Book → ℕ → List Event
-of_doomed b t = if_doomed (holds (λ x. is_doomed x.status) (act_of t b.acts)) b t
+-- the live ACTs that are given up, and of them
+abbrev pub given_up_tids : Book → List ℕ
+given_up_tids b = filter (λ t. is_given_up (OfAct t) b) (live_tids b)
 
 abbrev pub of_given_up : Book → List Event
-of_given_up b = flat_map (of_doomed b) (live_tids b)
+of_given_up b = flat_map (of_tx b) (given_up_tids b)
 
--- of the batches: by their marks, or below this number
+-- of the batches from number k on, where this is the next one
+abbrev pub of_later : ℕ → ℕ → Desk → List Event
+of_later k next d = flat_map (of_txs d) (from k (next - k))
+
+-- of the batches
 abbrev pub of_batches : ℕ → Desk → Event → List Event
-of_batches upto d (Reply n) = Reply n ∷ []
-of_batches upto d (Form k) = of_txs d k
-of_batches upto d (Settle k) = of_txs d k
-of_batches upto d (Abort k) = on_replies upto d
-of_batches upto d _ = []
+of_batches next d (Reply n) = Reply n ∷ []
+of_batches next d (Form k) = of_txs d k
+of_batches next d (Settle k) = of_txs d k
+of_batches next d (Abort k) = of_later k next d
+of_batches next d _ = []
 
 -- of the ACTs
 abbrev pub of_acts : Book → Event → List Event
@@ -46,7 +48,8 @@ of_acts b (Decide t) = of_tx b t
 of_acts b (Seal t) = of_tx b t
 of_acts b (Arrive k a) = of_given_up b
 of_acts b (Ask t a) = of_tx b t ++ of_given_up b
+of_acts b (Abort k) = of_given_up b
 of_acts b _ = []
 
 abbrev pub by_answers : ℕ → Book → Desk → Event → List Event
-by_answers upto b d e = of_batches upto d e ++ of_acts b e
+by_answers next b d e = of_batches next d e ++ of_acts b e

@@ -1,10 +1,10 @@
 -- What is listed of ACTs after an event: of those that it names, or of all that are live, what is no more than waiting for
--- others.
-use Rattle.std.specs.Prelude.{ℕ, Bool, true, false, not, ◌&&◌, ◌||◌, is_some, if◌then◌else◌, Option, Some, None, List, [], ◌∷◌, ◌++◌}
+-- others, and of a kind that the event may have let happen.
+use Rattle.std.specs.Prelude.{ℕ, Bool, true, false, not, ◌&&◌, ◌||◌, is_some, List, [], ◌∷◌, ◌++◌}
 use Rattle.std.specs.List.{flat_map}
 use Rattle.book_part.specs.Listed.{live_tids}
 use Rattle.protocol.specs.Events.{Event, Admit, Arrive, Ask, End, Sync, Settle, Abort, Prepare, Vouch, Decide, Seal, Finish}
-use Rattle.protocol.specs.Parts.{Act, Book}
+use Rattle.protocol.specs.Parts.{Book}
 use Rattle.protocol.specs.Words.{holds, act_of, joined_of, is_value, is_live_status, is_doomed, is_decided, is_sealed, is_live_act}
 use Rattle.protocol_theorems.specs.BookFits.{actors_at}
 
@@ -28,41 +28,84 @@ may_seal b t = holds (λ x. is_decided x.status) (act_of t b.acts)
 abbrev pub has_begun : Book → ℕ → Bool
 has_begun b t = holds (λ x. is_some x.result || is_doomed x.status) (act_of t b.acts)
 
+-- ---- which of these an event may let happen
+
+-- of ACTs nothing but that those which it gives up leave
+abbrev pub only_gives_up : Event → Bool
+only_gives_up (Arrive k a) = true
+only_gives_up (Ask t a) = true
+only_gives_up _ = false
+
+abbrev pub lets_prepare : Event → Bool
+lets_prepare (Arrive k a) = false
+lets_prepare (Ask t a) = false
+lets_prepare (Sync l) = false
+lets_prepare (Settle k) = false
+lets_prepare _ = true
+
+-- what waits for a record to be durable
+abbrev pub lets_vote : Event → Bool
+lets_vote (Arrive k a) = false
+lets_vote (Ask t a) = false
+lets_vote (Settle k) = false
+lets_vote _ = true
+
+abbrev pub lets_decide : Event → Bool
+lets_decide (Arrive k a) = false
+lets_decide (Ask t a) = false
+lets_decide (Sync l) = false
+lets_decide _ = true
+
+abbrev pub lets_finish : Event → Bool
+lets_finish (Sync l) = false
+lets_finish (Settle k) = false
+lets_finish _ = true
+
+-- Of which ACTs: of those that have begun, and after an arrival or an ask of those that are given up.
+abbrev pub meant_if : Bool → Book → ℕ → Bool
+meant_if true b t = holds (λ x. is_doomed x.status) (act_of t b.acts)
+meant_if false b t = has_begun b t
+
+abbrev pub is_meant : Event → Book → ℕ → Bool
+is_meant e b t = meant_if (only_gives_up e) b t
+
+-- ---- the lists
+
 -- an event, where this is so
 abbrev pub only : Bool → Event → List Event
 only true e = e ∷ []
 only false e = []
 
-abbrev pub due_on : Book → ℕ → ℕ → List Event
-due_on b t a = only (may_prepare b t a) (Prepare t a) ++ (only (may_vouch b t a) (Vouch t a) ++ only (may_finish b t a) (Finish t a))
+abbrev pub due_on : Event → Book → ℕ → ℕ → List Event
+due_on e b t a = only (lets_prepare e && may_prepare b t a) (Prepare t a) ++ (only (lets_vote e && may_vouch b t a) (Vouch t a) ++ only (lets_finish e && may_finish b t a) (Finish t a))
 
-abbrev pub due_of : Book → ℕ → List Event
-due_of b t = only (may_decide b t) (Decide t) ++ (only (may_seal b t) (Seal t) ++ flat_map (due_on b t) (actors_at (act_of t b.acts)))
+abbrev pub due_of : Event → Book → ℕ → List Event
+due_of e b t = only (lets_decide e && may_decide b t) (Decide t) ++ (only (lets_vote e && may_seal b t) (Seal t) ++ flat_map (due_on e b t) (actors_at (act_of t b.acts)))
 
-abbrev pub due_if : Bool → Book → ℕ → List Event
-due_if true b t = due_of b t
-due_if false b t = []
+abbrev pub due_if : Bool → Event → Book → ℕ → List Event
+due_if true e b t = due_of e b t
+due_if false e b t = []
 
--- of ACT t, where it has begun
-abbrev pub of_begun : Book → ℕ → List Event
-of_begun b t = due_if (has_begun b t) b t
+-- of ACT t, where it is meant
+abbrev pub of_meant : Event → Book → ℕ → List Event
+of_meant e b t = due_if (is_meant e b t) e b t
 
 -- of all that are live
-abbrev pub of_live : Book → List Event
-of_live b = flat_map (of_begun b) (live_tids b)
+abbrev pub of_live : Event → Book → List Event
+of_live e b = flat_map (of_meant e b) (live_tids b)
 
 -- of the ACT that the event names, or of all
 abbrev pub by_book : Book → Event → List Event
-by_book b (Admit t) = of_begun b t
-by_book b (End t a) = of_begun b t
-by_book b (Prepare t a) = of_begun b t
-by_book b (Vouch t a) = of_begun b t
-by_book b (Decide t) = of_begun b t
-by_book b (Seal t) = of_begun b t
-by_book b (Finish t a) = of_begun b t
-by_book b (Arrive k a) = of_live b
-by_book b (Ask t a) = of_live b
-by_book b (Sync l) = of_live b
-by_book b (Settle k) = of_live b
-by_book b (Abort k) = of_live b
+by_book b (Admit t) = of_meant (Admit t) b t
+by_book b (End t a) = of_meant (End t a) b t
+by_book b (Prepare t a) = of_meant (Prepare t a) b t
+by_book b (Vouch t a) = of_meant (Vouch t a) b t
+by_book b (Decide t) = of_meant (Decide t) b t
+by_book b (Seal t) = of_meant (Seal t) b t
+by_book b (Finish t a) = of_meant (Finish t a) b t
+by_book b (Arrive k a) = of_live (Arrive k a) b
+by_book b (Ask t a) = of_live (Ask t a) b
+by_book b (Sync l) = of_live (Sync l) b
+by_book b (Settle k) = of_live (Settle k) b
+by_book b (Abort k) = of_live (Abort k) b
 by_book b _ = []

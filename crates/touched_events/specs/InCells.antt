@@ -1,13 +1,14 @@
 -- What is listed of the actors after an event.
-use Rattle.std.specs.Prelude.{ℕ, if◌then◌else◌, Option, Some, None, is_some, List, [], ◌∷◌, length, slice_get}
+use Rattle.std.specs.Prelude.{ℕ, Bool, false, if◌then◌else◌, Option, Some, None, is_some, List, [], ◌∷◌, length, slice_get}
 use Rattle.std.specs.List.{flat_map}
 use Rattle.aml_slice.specs.Controls.{Rest}
 use Rattle.batch_table.specs.Listed.{actors_in}
 use Rattle.hand_offers.specs.Listed.{on_place}
 use Rattle.protocol.specs.Events.{Event, Arrive, Ask, Take, Run, End, Close, Complete, Abort, Rollback, Finish, Trim}
 use Rattle.protocol.specs.Parts.{Who, OfBatch, OfAct, Desk, Cell}
-use Rattle.protocol.specs.Words.{batch_of, below, pact_result, who_on}
+use Rattle.protocol.specs.Words.{batch_of, below, has_undone, pact_result, who_on}
 use Rattle.snap_hand.specs.Hands.{Parts}
+use Rattle.touched_events.specs.InBook.{only}
 
 -- the actor whose cell an event changes, where it is not only that something comes or goes
 abbrev pub actor_at : Event → Option ℕ
@@ -33,15 +34,24 @@ of_close t a = Close t a ∷ []
 abbrev pub closes : ℕ → Parts → List Event
 closes t h = flat_map (of_close t) (below (length h.cells))
 
+-- whether it owes an actor something still, as the actor's cell tells
+abbrev pub owes : ℕ → Option (Option (Cell Rest)) → Bool
+owes t None = false
+owes t (Some None) = false
+owes t (Some (Some c)) = has_undone t c.entries
+
+abbrev pub close_at : ℕ → Parts → ℕ → List Event
+close_at t h a = only (owes t (slice_get h.cells a)) (Close t a)
+
 -- whose a transaction is, as the cell of an actor tells
 abbrev pub who_in : ℕ → Option (Option (Cell Rest)) → Who
 who_in t None = OfAct t
 who_in t (Some None) = OfAct t
 who_in t (Some (Some c)) = who_on t c.entries
 
--- on the actors of its batch; where none is told, on all
+-- on those actors of its batch that it owes something; where no batch is told, on all
 abbrev pub closes_of : ℕ → Who → Desk → Parts → List Event
-closes_of t (OfBatch k) d h = flat_map (of_close t) (actors_in (batch_of k d.batches))
+closes_of t (OfBatch k) d h = flat_map (close_at t h) (actors_in (batch_of k d.batches))
 closes_of t (OfAct u) d h = closes t h
 
 -- where the desk has its result

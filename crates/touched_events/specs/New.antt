@@ -1,14 +1,14 @@
 -- What an event may have made allowed.
-use Rattle.std.specs.Prelude.{◌≡◌, ◌==◌, Bool, not, ◌&&◌, List, map, Contains}
+use Rattle.std.specs.Prelude.{◌==◌, Bool, not, ◌&&◌, List, map, Contains}
 use Rattle.aml_slice.specs.Controls.{Rest}
 use Rattle.core_events.specs.Meant.{event_meant}
 use Rattle.core_events.specs.declared.events.Event as code
 use Rattle.core_rows.specs.OnRuns.{HasRun}
-use Rattle.protocol.specs.Conditions.{IsAllowed, epoch, refusal}
+use Rattle.protocol.specs.Conditions.{IsAllowed, refusal}
 use Rattle.protocol.specs.Effects.{after}
 use Rattle.protocol.specs.Events.{Event}
 use Rattle.protocol.specs.Fixed.{Fixed}
-use Rattle.protocol.specs.Parts.{Machine, Cell, Log}
+use Rattle.protocol.specs.Parts.{Machine}
 use Rattle.protocol_ready.specs.Touched.{is_touched}
 use Rattle.snap_hand.specs.Hands.{Parts, Fits}
 

@@ -40,14 +40,14 @@ pub fn logs_are_told()
 {
     logs_stay::<Control>();
     runs_go_on::<Control>();
-    run_parts_list_all::<Control>();
 }
 
 /// What is new of what is under way.
 pub fn post_is_told()
-    ensures { (w : Fixed Rest) (e : Event) (s : Machine Rest) (es : List Event) → ((f : Event) → Contains (post_listed e (after w e s).post) f → Contains es f) → PostTells (is_new w e s) (after w e s).post es }
+    ensures { (w : Fixed Rest) (e : Event) (s : Machine Rest) (h : Parts) (es : List Event) → IsBehind w e s h → ((f : Event) → Contains (post_listed e (after w e s).book (after w e s).post) f → Contains es f) → PostTells (is_new w e s) (after w e s).post es }
 {
     allowed_or_refused::<Control>();
+    runs_go_on::<Control>();
 }
 
 /// What is new of what lies at actors, by a hand with all parts.
@@ -73,6 +73,7 @@ pub fn desk_is_told()
 pub fn book_is_told()
     ensures { (w : Fixed Rest) (e : Event) (s : Machine Rest) (h : Parts) (x : Halves) (es : List Event) → IsBehind w e s h → Shows x (after w e s).book → ((f : Event) → Contains (by_book (after w e s).book e) f → Contains es f) → BookTells (is_new w e s) (after w e s).book es }
 {
+    allowed_or_refused::<Control>();
     runs_go_on::<Control>();
     run_parts_list_all::<Control>();
     unbegun_acts_wait_for_nothing();
@@ -80,8 +81,7 @@ pub fn book_is_told()
 
 /// What is new of replies that are due.
 pub fn answers_are_told()
-    ensures { (w : Fixed Rest) (e : Event) (s : Machine Rest) (h : Parts) (es : List Event) → IsBehind w e s h → ((f : Event) → Contains (by_answers (after w e s).ring.next_tx (after w e s).book (after w e s).desk e) f → Contains es f) → AnswersTell (is_new w e s) (after w e s).book (after w e s).desk es }
+    ensures { (w : Fixed Rest) (e : Event) (s : Machine Rest) (h : Parts) (es : List Event) → IsBehind w e s h → ((f : Event) → Contains (by_answers (after w e s).ring.next_bid (after w e s).book (after w e s).desk e) f → Contains es f) → AnswersTell (is_new w e s) (after w e s).book (after w e s).desk es }
 {
     runs_go_on::<Control>();
-    run_parts_list_all::<Control>();
 }

@@ -1,11 +1,19 @@
 //! Which events an event may have made allowed: for each part the list of those, of what the part shows after the event, that read
-//! something that it changed. The laws say that each list tells all that is new there. A list depends on what is live where the
-//! event was, and never on what is over. No code stands here: public functions whose contracts are the laws.
+//! something that it changed. The laws say that each list tells all that is new there, and `touched` lists them. A list depends on
+//! what is live where the event was, and never on what is over.
 #![tactic(auto)]
 
+mod in_answers;
+mod in_book;
+mod in_cells;
+mod in_desk;
+mod in_post;
+mod in_ring;
 mod laws;
+mod touching;
 
 pub use laws::{
     answers_are_told, book_is_told, cells_are_told, desk_is_told, logs_are_told, post_is_told,
     ring_is_told,
 };
+pub use touching::touched;

@@ -1,0 +1,196 @@
+//! What is under way.
+ghost use Rattle.std.specs.Prelude.{◌≡◌, ◌++◌, map, OnOk};
+ghost use Rattle.std.specs.List.{flat_map};
+ghost use Rattle.aml_slice.specs.Controls.{Rest};
+ghost use Rattle.book_part.specs.Halves.{Shows};
+ghost use Rattle.core_events.specs.Meant.{event_meant};
+ghost use Rattle.hand_offers.specs.Listed.{Adds};
+ghost use Rattle.machine_words.specs.Meant.{tid_number};
+ghost use Rattle.post_box.specs.Listed.{control_listed, sub_listed};
+ghost use Rattle.protocol.specs.Effects.{after};
+ghost use Rattle.protocol.specs.Parts.{Book, Machine};
+ghost use Rattle.protocol_ready.specs.Telling.{PostTells};
+ghost use Rattle.snap_hand.specs.Hands.{IsHandOf, IsWhole};
+ghost use Rattle.snap_hand.specs.Tables.{AreTables, fixed_of};
+ghost use Rattle.touched_events.specs.InPost.{all_to, arrivals_to, comings_to, drop_if, drop_of, given_up_drops, of_arrival, of_coming, of_drops, of_post, on_control};
+ghost use Rattle.touched_events.specs.New.{IsBehind, Keeps, is_new};
+
+use crate::in_book::append;
+use aml_slice::Control;
+use book_part::BookPart;
+use core_events::Event;
+use core_rows::runs_go_on;
+use hand_offers::{list_messages, push_one, push_three, push_two};
+use post_box::Post;
+use protocol_laws::allowed_or_refused;
+use snap_base::{ActorId, Bid, Memory, Tid, Who};
+use snap_hand::{Hand, Tables};
+use std::alloc::Global;
+
+fn push_arrivals(subs: &[(Bid, ActorId)], events: &mut Vec<Event>) -> Result<(), Memory>
+    ensures { OnOk result (Adds events.old.items events.new.items (flat_map of_arrival (map sub_listed subs.now))) }
+{
+    for p in subs {
+        push_one(events, Event::Arrive(p.0, p.1))?;
+    }
+    Ok(())
+}
+
+fn push_comings(controls: &[(Tid, ActorId)], events: &mut Vec<Event>) -> Result<(), Memory>
+    ensures { OnOk result (Adds events.old.items events.new.items (flat_map of_coming (map control_listed controls.now))) }
+{
+    for p in controls {
+        push_two(events, Event::Ask(p.0, p.1), Event::Take(p.0, p.1))?;
+    }
+    Ok(())
+}
+
+/// The sub-batches on their way to the actor.
+fn list_arrivals(
+    alloc: Global,
+    post: &Post<Control>,
+    a: ActorId,
+    events: &mut Vec<Event>,
+) -> Result<(), Memory>
+    ensures { OnOk result (Adds events.old.items events.new.items (arrivals_to a.0 post.now.messages)) }
+{
+    let subs = post.subs_to(alloc, a)?;
+    push_arrivals(&subs, events)?;
+    Ok(())
+}
+
+/// The controls on their way to the actor.
+fn list_comings(
+    alloc: Global,
+    post: &Post<Control>,
+    a: ActorId,
+    events: &mut Vec<Event>,
+) -> Result<(), Memory>
+    ensures { OnOk result (Adds events.old.items events.new.items (comings_to a.0 post.now.messages)) }
+{
+    let controls = post.controls_to(alloc, a)?;
+    push_comings(&controls, events)?;
+    Ok(())
+}
+
+/// All that is on its way to the actor.
+fn list_to(
+    alloc: Global,
+    post: &Post<Control>,
+    a: ActorId,
+    events: &mut Vec<Event>,
+) -> Result<(), Memory>
+    ensures { OnOk result (Adds events.old.items events.new.items (all_to a.0 post.now.messages)) }
+{
+    list_arrivals(alloc, post, a, events)?;
+    list_comings(alloc, post, a, events)?;
+    Ok(())
+}
+
+/// The control of a transaction.
+fn list_control(post: &Post<Control>, t: Tid, events: &mut Vec<Event>) -> Result<(), Memory>
+    ensures { OnOk result (Adds events.old.items events.new.items (on_control t.0 post.now.messages)) }
+{
+    if let Some(a) = post.control_to(t) {
+        push_three(
+            events,
+            Event::Ask(t, a),
+            Event::Take(t, a),
+            Event::DropControl(t),
+        )?;
+    }
+    Ok(())
+}
+
+fn list_of_post(
+    alloc: Global,
+    post: &Post<Control>,
+    e: Event,
+    events: &mut Vec<Event>,
+) -> Result<(), Memory>
+    ensures { OnOk result (Adds events.old.items events.new.items (of_post (event_meant e) post.now.messages)) }
+{
+    match e {
+        Event::Form(_) => list_messages(alloc, post, events),
+        Event::Admit(t) => list_control(post, t, events),
+        Event::Arrive(_, a) => list_to(alloc, post, a, events),
+        Event::Send(t, _) => list_control(post, t, events),
+        Event::AbortBatch(_) => list_messages(alloc, post, events),
+        Event::Rollback(a) => list_to(alloc, post, a, events),
+        Event::Finish(t, a) => push_one(events, Event::Ask(t, a)),
+        _ => Ok(()),
+    }
+}
+
+fn push_drop(given_up: bool, t: Tid, events: &mut Vec<Event>) -> Result<(), Memory>
+    ensures { OnOk result (Adds events.old.items events.new.items (drop_if given_up t.0)) }
+{
+    if given_up {
+        push_one(events, Event::DropControl(t))?;
+    }
+    Ok(())
+}
+
+fn list_drop(book: &BookPart, t: Tid, events: &mut Vec<Event>) -> Result<(), Memory>
+    ensures { OnOk result ((b : Book) → Shows book.now b → Adds events.old.items events.new.items (drop_of b t.0)) }
+{
+    let given_up = book.is_given_up(Who::Act(t));
+    push_drop(given_up, t, events)?;
+    Ok(())
+}
+
+fn list_each_drop(book: &BookPart, tids: &[Tid], events: &mut Vec<Event>) -> Result<(), Memory>
+    ensures { OnOk result ((b : Book) → Shows book.now b → Adds events.old.items events.new.items (flat_map (drop_of b) (map tid_number tids.now))) }
+{
+    for t in tids {
+        list_drop(book, *t, events)?;
+    }
+    Ok(())
+}
+
+/// The controls of the live ACTs that are given up.
+fn list_drops(alloc: Global, book: &BookPart, events: &mut Vec<Event>) -> Result<(), Memory>
+    ensures { OnOk result ((b : Book) → Shows book.now b → Adds events.old.items events.new.items (given_up_drops b)) }
+{
+    let tids = book.going(alloc)?;
+    list_each_drop(book, &tids, events)?;
+    Ok(())
+}
+
+fn list_of_drops(
+    alloc: Global,
+    book: &BookPart,
+    e: Event,
+    events: &mut Vec<Event>,
+) -> Result<(), Memory>
+    ensures { OnOk result ((b : Book) → Shows book.now b → Adds events.old.items events.new.items (of_drops (event_meant e) b)) }
+{
+    match e {
+        Event::Arrive(_, _) => list_drops(alloc, book, events),
+        Event::Ask(_, _) => list_drops(alloc, book, events),
+        _ => Ok(()),
+    }
+}
+
+/// What may have become allowed of what is under way.
+pub(crate) fn list_post(
+    alloc: Global,
+    _tables: &Tables,
+    hand: &Hand,
+    e: Event,
+    events: &mut Vec<Event>,
+) -> Result<(), Memory>
+    requires tables { AreTables _tables.now }
+    requires places { IsHandOf (fixed_of _tables.now) hand.now }
+    requires whole { IsWhole hand.now }
+    ensures kept { OnOk result (Keeps events.old.items events.new.items) }
+    ensures told { OnOk result ((s : Machine Rest) → IsBehind (fixed_of _tables.now) (event_meant e) s hand.now → PostTells (is_new (fixed_of _tables.now) (event_meant e) s) (after (fixed_of _tables.now) (event_meant e) s).post (map event_meant events.new.items)) }
+{
+    allowed_or_refused::<Control>();
+    runs_go_on::<Control>();
+    list_of_post(alloc, hand.post(), e, events)?;
+    let mut more = Vec::new(alloc);
+    list_of_drops(alloc, hand.book(), e, &mut more)?;
+    append(events, &more)?;
+    Ok(())
+}
