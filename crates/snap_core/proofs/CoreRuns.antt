@@ -19,6 +19,7 @@ use Rattle.snap_core.specs.Cores.{CoreState, IsCore, IsAt, state_at, IsTakenBy, 
 use Rattle.snap_hand.specs.Hands.{Parts, Fits, Has, IsWhole}
 use Rattle.snap_hand.specs.Steps.{MayBeAsked, IsRefusalOn, IsStep}
 use Rattle.snap_hand.specs.Tables.{fixed_of}
+use Rattle.touched_events.specs.New.{IsBehind}
 use Rattle.snap_hand.specs.declared.tables.Tables.{Tables}
 
 abbrev pub core_of : Tables → Parts → CoreState
@@ -106,3 +107,27 @@ pub enabled_at : {E : Type 0} (core : CoreState) (t : Tables) (h : Parts) → co
     → (r : Result Roomed E) → IfOk r (λ l. AreOffers (fixed_of t) h l.events)
     → IfOk r (λ l. (es : List Event) → IsAt core es → IsEnabled (fixed_of core.tables) (state_at core es) l.events)
 enabled_at core t h view is lead r offers = subst (λ z. IfOk r (λ l. (es : List Event) → IsAt z es → IsEnabled (fixed_of z.tables) (state_at z es) l.events)) view (enabled_in t h is lead r offers)
+
+-- ---- the allowed events, kept from event to event
+
+parted : (w : Fixed Rest) (es : List Event) (e : Event) (s : Machine Rest) → EachAllowed w (es ++ e ∷ []) s → EachAllowed w es s × IsAllowed w e (state_after w es s)
+parted w [] e s run = (tt, run.0)
+parted w (d ∷ es) e s run = let r = parted w es e (after w d s) run.1 in ((run.0, r.0), r.1)
+
+abbrev pub RenewsAt : CoreState → Event → List Event → List Event → Type 0
+RenewsAt core e old new = (es : List Event) → IsAt core (es ++ e ∷ []) → IsEnabled (fixed_of core.tables) (state_at core es) old → IsEnabled (fixed_of core.tables) (state_at core (es ++ e ∷ [])) new
+
+renewed_in : {E : Type 0} (t : Tables) (h : Parts) → ((es : List Event) → IsRun (fixed_of t) es → HasRun (fixed_of t) (reached (fixed_of t) es)) → (e : Event) (old new : List Event)
+    → (r : Result (Unit {0}) E) → OnOk r ((s : Machine Rest) → IsBehind (fixed_of t) e s h → IsEnabled (fixed_of t) s old → IsEnabled (fixed_of t) (after (fixed_of t) e s) new)
+    → OnOk r (RenewsAt (core_of t h) e old new)
+renewed_in t h lead e old new (Err n) renews = tt
+renewed_in t h lead e old new (Ok _) renews = λ es at before.
+    let w = fixed_of t in
+    let p = parted w es e (opening w) at.run in
+    let q = then w es e (opening w) in
+    subst (λ s. IsEnabled w s new) (sym q) (renews (reached w es) (record { run = lead es p.0; allowed = p.1; fits = subst (Fits h) q at.fits }) before)
+
+pub renewed_at : {E : Type 0} (core : CoreState) (t : Tables) (h : Parts) → core_of t h ≡ core → ((es : List Event) → IsRun (fixed_of t) es → HasRun (fixed_of t) (reached (fixed_of t) es)) → (e : Event) (old new : List Event)
+    → (r : Result (Unit {0}) E) → OnOk r ((s : Machine Rest) → IsBehind (fixed_of t) e s h → IsEnabled (fixed_of t) s old → IsEnabled (fixed_of t) (after (fixed_of t) e s) new)
+    → OnOk r (RenewsAt core e old new)
+renewed_at core t h view lead e old new r renews = subst (λ z. OnOk r (RenewsAt z e old new)) view (renewed_in t h lead e old new r renews)

@@ -8,6 +8,7 @@ mod allowed;
 mod answers;
 mod cores;
 mod parting;
+mod renewals;
 mod settling;
 mod verdicts;
 

@@ -1,0 +1,18 @@
+use Rattle.std.proofs.Common.{arith}
+use Rattle.ready_renewal.proofs.KeptEvents.{all_out, none_out, one_out, read_same}
+use Rattle.ready_renewal.proofs.revising.take_out.Goals as goal
+
+pub loop-e-init : goal.loop-e-init
+loop-e-init c = record { room = omega arith; out = none_out c.args.list.now.events }
+
+pub loop-e-preserved : goal.loop-e-preserved
+loop-e-preserved c = record {
+  room = omega (arith, c.take.ensures.no_less, c.loop-e.invariant.room);
+  out =
+      one_out c.args.gone.now c.loop-e.e-index _ c.args.list.now.events c.loop-e.list.events c.take.new.self.events
+      c.loop-e-test.true (read_same c.args.gone.now c.loop-e.e-index _ _ c.loop-e-test.true) c.one_is_taken.ensures.others c.one_is_taken.ensures.kept c.events_stay_in_order.ensures.without
+      c.loop-e.invariant.out c.take.ensures.events;
+}
+
+pub returns-clause-without : goal.returns-clause-without
+returns-clause-without c = all_out c.args.gone.now c.loop-e.e-index c.args.list.now.events c.loop-e.list.events c.loop-e-test.false c.loop-e.invariant.out

@@ -1,0 +1,63 @@
+-- What is asked again after an event, with all parts at hand, and what becomes of the kept events.
+use Rattle.std.specs.Prelude.{◌≡◌, ℕ, ◌<◌, ◌≤◌, false, List, Contains, ◌⊎◌}
+use Rattle.aml_slice.specs.Controls.{Rest}
+use Rattle.core_rows.specs.OnRuns.{HasRun}
+use Rattle.protocol.specs.Conditions.{IsAllowed}
+use Rattle.protocol.specs.Events.{Event}
+use Rattle.protocol.specs.Fixed.{Fixed}
+use Rattle.protocol.specs.Parts.{Machine}
+use Rattle.protocol.specs.Schedule.{Ascends}
+use Rattle.protocol_ready.specs.Refusing.{may_refuse}
+use Rattle.ready_list.specs.Order.{at}
+use Rattle.snap_hand.specs.Hands.{Parts, Fits}
+
+-- in each state that the hand fits it is allowed
+abbrev pub IsAllowedOn : Fixed Rest → Parts → Event → Type 0
+IsAllowedOn w h f = (s : Machine Rest) → HasRun w s → Fits h s → IsAllowed w f s
+
+-- in none it is
+abbrev pub IsRefusedOn : Fixed Rest → Parts → Event → Type 0
+IsRefusedOn w h f = (s : Machine Rest) → HasRun w s → Fits h s → IsAllowed w f s → ⊥
+
+-- the event itself is gone where it is refused, and nothing else is
+pub record IsOwn (w : Fixed Rest) (h : Parts) (e : Event) (gone : List Event) : Type 0 where
+  pub out : (f : Event) → Contains gone f → IsRefusedOn w h f
+  pub own : Contains gone e ⊎ IsAllowedOn w h e
+
+-- One was asked for again: it is gone where e may refuse it and it is refused, and nothing else that is allowed is.
+pub record IsAsked (w : Fixed Rest) (h : Parts) (e f : Event) (old new : List Event) : Type 0 where
+  pub out : (g : Event) → Contains new g → Contains old g ⊎ IsRefusedOn w h g
+  pub kept : (g : Event) → Contains old g → Contains new g
+  pub asked : (Contains new f ⊎ IsAllowedOn w h f) ⊎ (may_refuse e f ≡ false)
+
+-- Of the kept events those from one place up to another were asked for again.
+pub record AreAsked (w : Fixed Rest) (h : Parts) (e : Event) (es : List Event) (first end : ℕ) (old new : List Event) : Type 0 where
+  pub out : (g : Event) → Contains new g → Contains old g ⊎ IsRefusedOn w h g
+  pub kept : (g : Event) → Contains old g → Contains new g
+  pub asked : (j : ℕ) → first ≤ j → j < end → (Contains new (at es j) ⊎ IsAllowedOn w h (at es j)) ⊎ (may_refuse e (at es j) ≡ false)
+
+-- Of these events, and e itself, all that are refused are gone, but for what e can't refuse.
+pub record AreRefused (w : Fixed Rest) (h : Parts) (e : Event) (es gone : List Event) : Type 0 where
+  pub out : (f : Event) → Contains gone f → IsRefusedOn w h f
+  pub own : Contains gone e ⊎ IsAllowedOn w h e
+  pub all : (f : Event) → Contains es f → (Contains gone f ⊎ IsAllowedOn w h f) ⊎ (may_refuse e f ≡ false)
+
+-- just those that are gone are taken out
+pub record IsWithout (gone old new : List Event) : Type 0 where
+  pub only : (f : Event) → Contains new f → Contains old f × (Contains gone f → ⊥)
+  pub kept : (f : Event) → Contains old f → Contains new f ⊎ Contains gone f
+  pub ascends : Ascends old → Ascends new
+
+-- one was looked at: it is in where it is allowed, and nothing else is new
+pub record IsLooked (w : Fixed Rest) (h : Parts) (e : Event) (old new : List Event) : Type 0 where
+  pub only : (f : Event) → Contains new f → Contains old f ⊎ IsAllowedOn w h f
+  pub kept : (f : Event) → Contains old f → Contains new f
+  pub due : Contains new e ⊎ IsRefusedOn w h e
+  pub ascends : Ascends old → Ascends new
+
+-- the same of some, one after the other
+pub record IsWith (w : Fixed Rest) (h : Parts) (news old new : List Event) : Type 0 where
+  pub only : (f : Event) → Contains new f → Contains old f ⊎ IsAllowedOn w h f
+  pub kept : (f : Event) → Contains old f → Contains new f
+  pub due : (f : Event) → Contains news f → Contains new f ⊎ IsRefusedOn w h f
+  pub ascends : Ascends old → Ascends new

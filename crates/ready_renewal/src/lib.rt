@@ -1,0 +1,10 @@
+//! The allowed events, kept along a run: after each event those are looked at that it has made allowed, and those of the kept
+//! ones that it may have refused. What is looked at hangs on what is live where the event was, and never on what is over.
+#![tactic(auto)]
+
+mod asking;
+mod refused;
+mod renewing;
+mod revising;
+
+pub use renewing::renew;

@@ -1,0 +1,50 @@
+ghost use Rattle.std.specs.Prelude.{OnOk};
+ghost use Rattle.aml_slice.specs.Controls.{Rest};
+ghost use Rattle.core_events.specs.Meant.{event_meant};
+ghost use Rattle.protocol.specs.Effects.{after};
+ghost use Rattle.protocol.specs.Parts.{Machine};
+ghost use Rattle.protocol.specs.Schedule.{IsEnabled};
+ghost use Rattle.snap_hand.specs.Hands.{IsHandOf, IsWhole};
+ghost use Rattle.snap_hand.specs.Steps.{OnSomeRun};
+ghost use Rattle.snap_hand.specs.Tables.{AreTables, fixed_of};
+ghost use Rattle.touched_events.specs.New.{IsBehind};
+
+use crate::refused::refused;
+use crate::revising::{put_in, take_out};
+use aml_slice::Control;
+use core_events::Event;
+use core_rows::runs_go_on;
+use protocol_laws::allowed_or_refused;
+use protocol_ready::{parts_tell_all, renewed_are_enabled};
+use ready_list::ReadyList;
+use snap_base::Memory;
+use snap_hand::{Hand, Tables};
+use std::alloc::Global;
+use touched_events::touched;
+
+/// Makes of all allowed events before the event, which was just taken, all allowed events after it. All parts are at hand, as
+/// they are after it. For want of memory the list is as it was.
+pub fn renew(
+    alloc: Global,
+    tables: &Tables,
+    hand: &Hand,
+    e: Event,
+    list: &mut ReadyList,
+) -> Result<(), Memory>
+    requires tables { AreTables tables.now }
+    requires places { IsHandOf (fixed_of tables.now) hand.now }
+    requires whole { IsWhole hand.now }
+    requires some { OnSomeRun (fixed_of tables.now) hand.now }
+    ensures { OnOk result ((s : Machine Rest) → IsBehind (fixed_of tables.now) (event_meant e) s hand.now → IsEnabled (fixed_of tables.now) s list.old.events → IsEnabled (fixed_of tables.now) (after (fixed_of tables.now) (event_meant e) s) list.new.events) }
+{
+    runs_go_on::<Control>();
+    allowed_or_refused::<Control>();
+    parts_tell_all::<Control>();
+    renewed_are_enabled::<Control>();
+    let news = touched(alloc, tables, hand, e)?;
+    let gone = refused(alloc, tables, hand, e, list)?;
+    list.room(news.len())?;
+    take_out(list, &gone);
+    put_in(tables, hand, &news, list);
+    Ok(())
+}
