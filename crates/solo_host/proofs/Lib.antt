@@ -1,5 +1,7 @@
 pub mod Driving
 pub mod GotGroups
+pub mod KeptList
 pub mod Picking
 pub mod Preparing
 pub mod Turning
+pub mod Words

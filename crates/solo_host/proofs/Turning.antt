@@ -42,14 +42,9 @@ wants_no_line w es e is = refl
 
 -- ---- the pick
 
-pub was_picked : (w : Fixed Rest) (seed : ℕ) (kept : List code.Event) (n : ℕ) (all : List Event) (e : code.Event) → n ≡ length kept
-    → IsEnabled w (reached w (map event_meant kept)) all → slice_get all (pick (draw_of seed) n (length all)) ≡ Some (event_meant e)
-    → IsPicked w seed (map event_meant kept) (event_meant e)
-was_picked w seed kept n all e many enabled place = record {
-  all = all;
-  enabled = enabled;
-  place = subst (λ k. slice_get all (pick (draw_of seed) k (length all)) ≡ Some (event_meant e)) (many ∙ sym (length-map kept event_meant)) place;
-}
+pub was_picked : (w : Fixed Rest) (seed : ℕ) (es all : List Event) (e : Event) → IsEnabled w (reached w es) all
+    → slice_get all (pick (draw_of seed) (length es) (length all)) ≡ Some e → IsPicked w seed es e
+was_picked w seed es all e enabled place = record { all = all; enabled = enabled; place = place }
 
 -- ---- the ends
 

@@ -6,10 +6,12 @@ ghost use Rattle.snap_core.specs.Cores.{IsAt};
 ghost use Rattle.snap_hand.specs.Tables.{fixed_of};
 ghost use Rattle.solo_host.specs.Drives.{AreDriven, IsPrinted, IsWhy};
 
+use crate::picks::generator_of;
 use crate::runs::runs_of;
 use crate::turns::turn;
 use core_events::Event;
 use gate_log::{FARTHEST_END, Log};
+use ready_list::ReadyList;
 use snap_core::Core;
 use snap_outside::{LogDev, Sink};
 use std::alloc::Global;
@@ -61,9 +63,20 @@ pub fn drive<D: LogDev, O: Sink>(
     ensures later { O.faults out.old ≤ O.faults out.new }
 {
     runs_of(core);
+    let mut generator = generator_of(seed);
     let mut kept = Vec::new(alloc);
+    let mut list = ReadyList::new(alloc);
     'turns: loop {
-        match turn(alloc, core, logs, out, seed, &mut kept) {
+        match turn(
+            alloc,
+            core,
+            logs,
+            out,
+            seed,
+            &mut generator,
+            &mut list,
+            &mut kept,
+        ) {
             Some(stop) => return Driven { stop, kept },
             None => {}
         }

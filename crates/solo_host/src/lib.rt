@@ -5,6 +5,7 @@
 
 mod befores;
 mod drives;
+mod freshening;
 mod groups;
 mod picks;
 mod replies;

@@ -1,44 +1,55 @@
 //! One turn: an event is picked, what stands before it is done, and it is taken.
-ghost use Rattle.std.specs.Prelude.{◌≡◌, ◌<◌, [], ◌∷◌, ◌++◌, length, map, vec_len, vec_capacity, MatchOption};
+ghost use Rattle.std.specs.Prelude.{None, ◌≡◌, ◌<◌, [], ◌∷◌, ◌++◌, length, map, vec_len, vec_capacity, MatchOption};
 ghost use Rattle.core_events.specs.Meant.{event_meant};
-ghost use Rattle.snap_core.specs.Cores.{IsAt};
+ghost use Rattle.protocol.specs.Schedule.{IsEnabled};
+ghost use Rattle.snap_core.specs.Cores.{IsAt, state_at};
 ghost use Rattle.snap_hand.specs.Tables.{fixed_of};
 ghost use Rattle.solo_host.specs.Outside.{AreLow, AreOpen, RunsOf, outside};
-ghost use Rattle.solo_host.specs.Turns.{HasGoneOn, HasEnded};
+ghost use Rattle.solo_host.specs.Turns.{HasGoneOn, HasEnded, IsBehindWords, IsOneBehind};
 
 use crate::Stop;
 use crate::befores::before;
+use crate::freshening::freshen;
 use crate::picks::picked;
 use crate::steps::take_step;
 use core_events::Event;
 use gate_log::Log;
+use rand_pcg::Pcg32;
+use ready_list::ReadyList;
 use snap_core::Core;
 use snap_outside::{LogDev, Sink};
 use std::alloc::Global;
 
-/// Takes the next event of the seed's schedule and keeps it, or tells why the host ends.
+/// Takes the next event of the seed's schedule and keeps it, or tells why the host ends. The generator and the list were kept
+/// from the turn before.
 pub(crate) fn turn<D: LogDev, O: Sink>(
     alloc: Global,
     core: &mut Core,
     logs: &mut Vec<Log<D>>,
     out: &mut O,
     seed: u64,
+    generator: &mut Pcg32,
+    list: &mut ReadyList,
     kept: &mut Vec<Event>,
 ) -> Option<Stop>
     requires runs { RunsOf (fixed_of core.old.tables) }
     requires at { IsAt core.old (map event_meant kept.old.items) }
+    requires drawn { IsBehindWords seed (length (map event_meant kept.old.items)) generator.old }
+    requires behind { IsOneBehind (fixed_of core.old.tables) (map event_meant kept.old.items) list.old.events }
     requires logs { length logs.old.items ≡ core.old.tables.work.logs }
     requires open { AreOpen logs.old.items }
     requires low { AreLow logs.old.items }
     ensures goes { MatchOption result
         (HasGoneOn seed core.old core.new (map event_meant kept.old.items) (map event_meant kept.new.items) (outside logs.old.items (O.taken out.old) (O.faults out.old)) (outside logs.new.items (O.taken out.new) (O.faults out.new)))
         (λ stop. HasEnded seed core.old core.new (map event_meant kept.old.items) (map event_meant kept.new.items) stop (outside logs.old.items (O.taken out.old) (O.faults out.old)) (outside logs.new.items (O.taken out.new) (O.faults out.new))) }
+    ensures list { result ≡ None → IsEnabled (fixed_of core.old.tables) (state_at core.old (map event_meant kept.old.items)) list.new.events }
+    ensures drawn { result ≡ None → IsBehindWords seed (length (map event_meant kept.new.items)) generator.new }
     ensures tables { core.new.tables ≡ core.old.tables }
 {
-    let Ok(enabled) = core.enabled(alloc) else {
+    let Ok(()) = freshen(alloc, core, kept, list) else {
         return Some(Stop::Memory);
     };
-    let Some(e) = picked(seed, kept.len(), &enabled) else {
+    let Some(e) = picked(seed, generator, list) else {
         return Some(Stop::Quiet);
     };
     if kept.reserve(1).is_err() {

@@ -1,4 +1,4 @@
-use Rattle.std.proofs.Common.{List, map, refl, sym, ap, subst, ◌∙◌}
+use Rattle.std.proofs.Common.{List, length, map, refl, sym, ap, subst, ◌∙◌}
 use Rattle.core_events.specs.declared.events.Event as code
 use Rattle.core_events.specs.Meant.{event_meant}
 use Rattle.protocol.specs.Runs.{IsRun}
@@ -6,6 +6,8 @@ use Rattle.snap_core.specs.Cores.{IsAt}
 use Rattle.snap_hand.specs.Tables.{fixed_of}
 use Rattle.snap_hand.specs.declared.tables.Tables.{Tables}
 use Rattle.solo_host.specs.Outside.{RunsOf, outside}
+use Rattle.solo_host.specs.Turns.{IsBehindWords, IsOneBehind}
+use Rattle.solo_host.proofs.KeptList.{first_behind, now_behind}
 use Rattle.solo_host.proofs.Driving.{IsDriving, begins, still_open, still_low, are_open, are_near}
 use Rattle.solo_host.proofs.Turning.{stays_driving, has_driven, fewer_left}
 use Rattle.solo_host.proofs.drives.drive.Goals as goal
@@ -17,6 +19,8 @@ turns-init g c =
     record {
       at = subst (λ (ks : List code.Event). IsAt c.args.core.now (map event_meant ks)) (sym c.new-kept.ensures.items) c.requires.new;
       tables = refl;
+      drawn = subst (λ (ks : List code.Event). IsBehindWords c.args.seed (length (map event_meant ks)) c.generator_of-generator.result) (sym c.new-kept.ensures.items) c.generator_of-generator.ensures;
+      behind = first_behind w c.new-kept.result.items c.new-list.result.events c.new-kept.ensures.items;
       driving = subst (λ (ks : List code.Event). IsDriving w c.args.seed (map event_meant ks) start start) (sym c.new-kept.ensures.items) (begins w c.args.seed start (are_open c.args.logs.now.items c.requires.open));
     }
 
@@ -25,6 +29,9 @@ turn-requires-clause-runs g c = subst (λ (t : Tables). RunsOf (fixed_of t)) (sy
 
 pub turn-requires-clause-logs : goal.turn-requires-clause-logs
 turn-requires-clause-logs g c = c.turns.invariant.driving.logs.many ∙ c.requires.logs ∙ ap (λ (t : Tables). t.work.logs) (sym c.turns.invariant.tables)
+
+pub turn-requires-clause-behind : goal.turn-requires-clause-behind
+turn-requires-clause-behind g c = subst (λ (t : Tables). IsOneBehind (fixed_of t) (map event_meant c.turns.kept.items) c.turns.list.events) (sym c.turns.invariant.tables) c.turns.invariant.behind
 
 pub turn-requires-clause-open : goal.turn-requires-clause-open
 turn-requires-clause-open g c =
@@ -74,6 +81,9 @@ turns-preserved g c =
     record {
       at = c.in-None.ensures.goes.at;
       tables = c.in-None.ensures.tables ∙ c.turns.invariant.tables;
+      drawn = c.in-None.ensures.drawn refl;
+      behind = now_behind c.args.core.now.tables c.args.seed c.turns.core c.turn.new.core (map event_meant c.turns.kept.items) (map event_meant c.turn.new.kept.items) c.turn.new.list.events old new
+          c.turns.invariant.tables (c.in-None.ensures.list refl) c.in-None.ensures.goes;
       driving = stays_driving c.args.core.now.tables c.args.seed c.turns.core c.turn.new.core (map event_meant c.turns.kept.items) (map event_meant c.turn.new.kept.items) start old new
           c.turns.invariant.tables c.runs_of.ensures c.turns.invariant.at c.turns.invariant.driving c.in-None.ensures.goes;
     }

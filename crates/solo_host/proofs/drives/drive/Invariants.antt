@@ -4,6 +4,7 @@ use Rattle.protocol_theorems.specs.Left.{most_events}
 use Rattle.snap_core.specs.Cores.{IsAt}
 use Rattle.snap_hand.specs.Tables.{fixed_of}
 use Rattle.solo_host.specs.Outside.{outside}
+use Rattle.solo_host.specs.Turns.{IsBehindWords, IsOneBehind}
 use Rattle.solo_host.proofs.Driving.{IsDriving}
 use Rattle.solo_host.proofs.drives.drive.Given as goal
 
@@ -12,6 +13,8 @@ abbrev pub invariant-turns : goal.invariant-turns
 invariant-turns g l = record {
   at : IsAt l.core (map event_meant l.kept.items);
   tables : l.core.tables ≡ l.fn.core.tables;
+  drawn : IsBehindWords l.seed (length (map event_meant l.kept.items)) l.generator;
+  behind : IsOneBehind (fixed_of l.fn.core.tables) (map event_meant l.kept.items) l.list.events;
   driving : IsDriving (fixed_of l.fn.core.tables) l.seed (map event_meant l.kept.items)
       (outside l.fn.logs.items (g.O.Sink.taken l.fn.out) (g.O.Sink.faults l.fn.out)) (outside l.logs.items (g.O.Sink.taken l.out) (g.O.Sink.faults l.out));
 }

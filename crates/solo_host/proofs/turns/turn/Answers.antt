@@ -1,4 +1,4 @@
-use Rattle.std.proofs.Common.{List, map, refl, sym, subst, ◌∙◌}
+use Rattle.std.proofs.Common.{List, length, map, refl, sym, subst, ◌∙◌}
 use Rattle.std.proofs.KnownBytes.{Appends-nil}
 use Rattle.core_events.specs.declared.events.Event as code
 use Rattle.core_events.specs.Meant.{event_meant}
@@ -9,6 +9,7 @@ use Rattle.solo_host.specs.Turns.{HasEnded}
 use Rattle.solo_host.specs.declared.drives.Stop.TheVariants as stop
 use Rattle.solo_host.proofs.Picking.{none_enabled, picked_allowed}
 use Rattle.solo_host.proofs.Turning.{was_picked, idle, given_up, not_stepped, kept_more, gone_on}
+use Rattle.solo_host.proofs.Words.{drawn_on}
 use Rattle.solo_host.proofs.turns.turn.Goals as goal
 
 pub returns-in_default-picked-clause-goes : goal.returns-in_default-picked-clause-goes
@@ -16,20 +17,20 @@ returns-in_default-picked-clause-goes g c =
     let w = fixed_of c.args.core.now.tables in
     let es = map event_meant c.args.kept.now.items in
     idle c.args.seed c.args.core.now es stop.Quiet (outside c.args.logs.now.items (g.O.Sink.taken c.args.out.now) (g.O.Sink.faults c.args.out.now)) c.requires.at c.requires.open (λ l. refl)
-    (none_enabled w (reached w es) c.in-Ok.enabled.events (c.in-Ok.ensures es c.requires.at) (c.in_default-picked.ensures.none refl), Appends-nil (g.O.Sink.taken c.args.out.now))
+    (none_enabled w (reached w es) c.freshen.new.list.events c.in-Ok.ensures (c.in_default-picked.ensures.none refl), Appends-nil (g.O.Sink.taken c.args.out.now))
 
 pub before-requires-clause-allowed : goal.before-requires-clause-allowed
 before-requires-clause-allowed g c =
     let w = fixed_of c.args.core.now.tables in
     let es = map event_meant c.args.kept.now.items in
-    let picked = was_picked w c.args.seed c.args.kept.now.items c.len.result c.in-Ok.enabled.events c.in-Some.e (c.len.ensures ∙ c.args.kept.now.ok.0) (c.in-Ok.ensures es c.requires.at) c.in-Some.ensures.some in
+    let picked = was_picked w c.args.seed es c.freshen.new.list.events (event_meant c.in-Some.e) c.in-Ok.ensures (c.in-Some.ensures.some (length es) c.requires.drawn) in
     (es, c.requires.at, picked_allowed w c.args.seed es (event_meant c.in-Some.e) picked)
 
 pub returns-in-Err-clause-goes : goal.returns-in-Err-clause-goes
 returns-in-Err-clause-goes g c =
     let w = fixed_of c.args.core.now.tables in
     let es = map event_meant c.args.kept.now.items in
-    let picked = was_picked w c.args.seed c.args.kept.now.items c.len.result c.in-Ok.enabled.events c.in-Some.e (c.len.ensures ∙ c.args.kept.now.ok.0) (c.in-Ok.ensures es c.requires.at) c.in-Some.ensures.some in
+    let picked = was_picked w c.args.seed es c.freshen.new.list.events (event_meant c.in-Some.e) c.in-Ok.ensures (c.in-Some.ensures.some (length es) c.requires.drawn) in
     let old = outside c.args.logs.now.items (g.O.Sink.taken c.args.out.now) (g.O.Sink.faults c.args.out.now) in
     let new = outside c.before-2.new.logs.items (g.O.Sink.taken c.before-2.new.out) (g.O.Sink.faults c.before-2.new.out) in
     subst (λ (ks : List code.Event). HasEnded c.args.seed c.args.core.now c.args.core.now es (map event_meant ks) c.in-Err.stop old new) (sym c.reserve.ensures.items)
@@ -39,7 +40,7 @@ pub take_step-requires : goal.take_step-requires
 take_step-requires g c =
     let w = fixed_of c.args.core.now.tables in
     let es = map event_meant c.args.kept.now.items in
-    let picked = was_picked w c.args.seed c.args.kept.now.items c.len.result c.in-Ok.enabled.events c.in-Some.e (c.len.ensures ∙ c.args.kept.now.ok.0) (c.in-Ok.ensures es c.requires.at) c.in-Some.ensures.some in
+    let picked = was_picked w c.args.seed es c.freshen.new.list.events (event_meant c.in-Some.e) c.in-Ok.ensures (c.in-Some.ensures.some (length es) c.requires.drawn) in
     (es, c.requires.at, picked_allowed w c.args.seed es (event_meant c.in-Some.e) picked)
 
 pub returns-in-Err-take_step-clause-goes : goal.returns-in-Err-take_step-clause-goes
@@ -55,9 +56,16 @@ pub returns-clause-goes : goal.returns-clause-goes
 returns-clause-goes g c =
     let w = fixed_of c.args.core.now.tables in
     let es = map event_meant c.args.kept.now.items in
-    let picked = was_picked w c.args.seed c.args.kept.now.items c.len.result c.in-Ok.enabled.events c.in-Some.e (c.len.ensures ∙ c.args.kept.now.ok.0) (c.in-Ok.ensures es c.requires.at) c.in-Some.ensures.some in
+    let picked = was_picked w c.args.seed es c.freshen.new.list.events (event_meant c.in-Some.e) c.in-Ok.ensures (c.in-Some.ensures.some (length es) c.requires.drawn) in
     let old = outside c.args.logs.now.items (g.O.Sink.taken c.args.out.now) (g.O.Sink.faults c.args.out.now) in
     let new = outside c.before-2.new.logs.items (g.O.Sink.taken c.before-2.new.out) (g.O.Sink.faults c.before-2.new.out) in
     gone_on c.args.seed c.args.core.now c.take_step.new.core es (map event_meant c.keep.new.kept.items) (event_meant c.in-Some.e) old new
     (kept_more c.args.kept.now.items c.reserve.new.self.items c.keep.new.kept.items c.in-Some.e c.reserve.ensures.items c.keep.ensures)
     picked (c.in-Ok-take_step.ensures.ok es c.requires.at).1 (c.in-Ok-before.ensures es c.requires.at)
+
+pub returns-clause-drawn : goal.returns-clause-drawn
+returns-clause-drawn g c _ =
+    let es = map event_meant c.args.kept.now.items in
+    drawn_on c.args.seed es (map event_meant c.keep.new.kept.items) (event_meant c.in-Some.e) c.picked.new.generator
+    (kept_more c.args.kept.now.items c.reserve.new.self.items c.keep.new.kept.items c.in-Some.e c.reserve.ensures.items c.keep.ensures)
+    (c.in-Some.ensures.drawn (length es) c.requires.drawn)
