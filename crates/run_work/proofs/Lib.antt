@@ -1,3 +1,4 @@
 pub mod Answered
-pub mod Driving
+pub mod Ending
+pub mod Hosting
 pub mod RunDevices

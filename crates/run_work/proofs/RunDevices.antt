@@ -10,7 +10,7 @@ use Rattle.run_opening.specs.Opens.{HasRoom, OpensRun, IsRunLog, first_groups, l
 use Rattle.run_opening.specs.Starts.{IsStart}
 use Rattle.run_outputs.specs.Groups.{groups_of, group_behind}
 use Rattle.run_recovery.specs.Runs.{IsRunDevice, HasRun, tried_on, machine_of}
-use Rattle.run_work.specs.Untraced.{HasDriven}
+use Rattle.run_work.specs.Hosts.{HasDriven, HasLeft}
 use Rattle.snap_base.specs.declared.transactions.State.{State}
 use Rattle.snap_outside.specs.Causes.{Rose}
 use Rattle.snap_recover.specs.declared.openings.Opening.{Opening}
@@ -78,7 +78,7 @@ module _
     device_is : (l : ℕ) → l < w.logs → device_at after l ≡ as_device (log_at new l)
     device_is l lt = ap (λ (ds : List Device). device_at ds l) same ∙ device_of_log new others l (omega (arith, lt, new_many))
 
-    pub has_run : HasRun w seed o es failed before after
+    has_run : HasRun w seed o es failed before after
     has_run = record {
       room = room;
       front = driven.front;
@@ -96,7 +96,7 @@ module _
     }
 
     -- the count of faults rose since before the log was opened
-    pub has_risen : (l : ℕ) → l < length old → Rose (log_at old l).faults (log_at new l).faults → (l < w.logs) × Rose (device_at before l).faults (device_at after l).faults
+    has_risen : (l : ℕ) → l < length old → Rose (log_at old l).faults (log_at new l).faults → (l < w.logs) × Rose (device_at before l).faults (device_at after l).faults
     has_risen l lt rose =
         let here : l < w.logs = omega (arith, lt, old_many) in
         let is = opens.log l (omega (arith, here, as_many)) in
@@ -106,6 +106,9 @@ module _
         )
 
     -- where a log failed it is one of the work's, and its device's count tells it
-    pub rose_now : IfSome failed (λ l. (l < w.logs) × Rose (device_at before l).faults (device_at after l).faults)
+    rose_now : IfSome failed (λ l. (l < w.logs) × Rose (device_at before l).faults (device_at after l).faults)
     rose_now = some_then failed (λ l. (l < length old) × Rose (log_at old l).faults (log_at new l).faults) (λ l. (l < w.logs) × Rose (device_at before l).faults (device_at after l).faults)
         (λ l x. has_risen l x.0 x.1) driven.rose
+
+    pub has_left : HasLeft w seed o es before after failed
+    has_left = record { run = has_run; rose = rose_now }

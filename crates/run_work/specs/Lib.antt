@@ -1,3 +1,4 @@
+pub mod Hosts
 pub mod Runs
 pub mod Statuses
 pub mod Untraced

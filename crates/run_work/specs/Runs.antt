@@ -1,14 +1,17 @@
--- What a run of a work prints, and the answers of the command that runs one.
-use Rattle.std.specs.Prelude.{◌≡◌, ℕ, ◌⊎◌, Option, None, Some, List, [], length}
+-- What a run of a work prints, and the answers of the commands that run one.
+use Rattle.std.specs.Prelude.{◌≡◌, ℕ, ◌⊎◌, Option, None, Some, List, [], ◌++◌, length}
+use Rattle.aml_slice.specs.Controls.{Rest}
 use Rattle.core_events.specs.declared.events.Event.{Event}
 use Rattle.log_opening.specs.declared.refusals.LogsNo.{LogsNo}
 use Rattle.log_opening.specs.declared.refusals.LogsNo.TheVariants as ending
 use Rattle.log_opening.specs.Devices.{Device, device_at}
 use Rattle.protocol.specs.Events as machine
+use Rattle.protocol.specs.Fixed.{Fixed}
 use Rattle.protocol.specs.Runs.{reached}
 use Rattle.run_opening.specs.Opens.{AreSafe, IsNoRun}
-use Rattle.run_outputs.specs.Lines.{line_in, replies_text, ending_text, report_text}
+use Rattle.run_outputs.specs.Lines.{line_in, replies_text, ending_text}
 use Rattle.run_printing.specs.Printed.{unanswered, unsures_text}
+use Rattle.run_printing.specs.Summed.{summing_text}
 use Rattle.run_recovery.specs.Runs.{machine_of, meant, HasRun, IsNext, HasEnded}
 use Rattle.run_recovery.specs.Stands.{RunStands}
 use Rattle.run_work.specs.Writings.{Writing, WritesNothing, Writes, WritesBehind, WritesFront}
@@ -21,22 +24,47 @@ use Rattle.trace_text.specs.Traces.{trace_of}
 
 -- ---- what it prints
 
+-- The replies as they come, then the actors and the end; or the summary alone.
+pub data Printing : Type 0 where
+  reporting : Printing
+  summing : Printing
+
+-- what the replies of a run print
+abbrev pub replies_by : Printing → Fixed Rest → List machine.Event → List ℕ
+replies_by reporting m es = replies_text m es
+replies_by summing m es = []
+
+-- what is printed behind them, where the run has ended
+abbrev pub ending_by : Printing → Fixed Rest → List machine.Event → List ℕ
+ending_by reporting m es = ending_text m es
+ending_by summing m es = summing_text m es
+
+-- what is printed behind them, where the device of this log failed, of so many transactions
+abbrev pub unsures_by : Printing → ℕ → List machine.Event → ℕ → List ℕ
+unsures_by reporting log es count = unsures_text log (unanswered es count)
+unsures_by summing log es count = []
+
 -- all of it
-abbrev pub PrintsAll : Work → Opening → List machine.Event → Writing → Type 0
-PrintsAll w o es out = Writes out (report_text (machine_of w o) es)
+abbrev pub PrintsAll : Printing → Work → Opening → List machine.Event → Writing → Type 0
+PrintsAll p w o es out = Writes out (replies_by p (machine_of w o) es ++ ending_by p (machine_of w o) es)
+
+-- the run has ended, and behind the replies a front of what comes behind them is printed
+abbrev pub PrintsEnding : Printing → Work → Opening → List machine.Event → Writing → Type 0
+PrintsEnding p w o es out = HasEnded w o es × WritesBehind out (replies_by p (machine_of w o) es) (ending_by p (machine_of w o) es)
 
 -- the replies, and where the run has ended a front of what comes behind them
-abbrev pub PrintsFront : Work → Opening → List machine.Event → Writing → Type 0
-PrintsFront w o es out = Writes out (replies_text (machine_of w o) es) ⊎ (HasEnded w o es × WritesBehind out (replies_text (machine_of w o) es) (ending_text (machine_of w o) es))
+abbrev pub PrintsFront : Printing → Work → Opening → List machine.Event → Writing → Type 0
+PrintsFront p w o es out = Writes out (replies_by p (machine_of w o) es) ⊎ PrintsEnding p w o es out
 
 -- the replies, and a front of the next one
-abbrev pub PrintsNext : Work → ℕ → Opening → List machine.Event → Writing → Type 0
-PrintsNext w seed o es out =
+abbrev pub PrintsNext : Printing → Work → ℕ → Opening → List machine.Event → Writing → Type 0
+PrintsNext reporting w seed o es out =
     (n : ℕ) × IsNext w seed o es (machine.Reply n) × WritesBehind out (replies_text (machine_of w o) es) (line_in (reached (machine_of w o) es) n)
+PrintsNext summing w seed o es out = ⊥
 
 -- the replies, and a front of the lines of those that have none
-abbrev pub PrintsUnsure : Work → ℕ → Opening → List machine.Event → Writing → Type 0
-PrintsUnsure w log o es out = WritesBehind out (replies_text (machine_of w o) es) (unsures_text log (unanswered es (length w.txs)))
+abbrev pub PrintsUnsure : Printing → Work → ℕ → Opening → List machine.Event → Writing → Type 0
+PrintsUnsure p w log o es out = WritesBehind out (replies_by p (machine_of w o) es) (unsures_by p log es (length w.txs))
 
 -- ---- the answers
 
@@ -66,23 +94,29 @@ HasBegun r failed P =
 abbrev pub LogRose : Ran → ℕ → Type 0
 LogRose r log = Rose (device_at r.devices_before log).faults (device_at r.devices_after log).faults
 
-abbrev pub IsWorkAnswer : Ran → Status → Type 0
-IsWorkAnswer r status.Done = HasBegun r None (λ o es. HasEnded r.work o es × PrintsAll r.work o es r.out) × Writes r.trace (trace_of r.kept)
-IsWorkAnswer r (status.Usage place) = ⊥
-IsWorkAnswer r (status.Input line cause) = ⊥
-IsWorkAnswer r (status.Logs log offset cause) = HasNotBegun r (ending.Refused log offset cause) × WritesNothing r.out
-IsWorkAnswer r status.Memory =
-    (HasNotBegun r ending.Memory × WritesNothing r.out) ⊎ HasBegun r None (λ o es. PrintsFront r.work o es r.out)
-IsWorkAnswer r status.ReadFault = ⊥
-IsWorkAnswer r (status.LogFault log) =
+abbrev pub IsAnswerOf : Printing → Ran → Status → Type 0
+IsAnswerOf p r status.Done = HasBegun r None (λ o es. HasEnded r.work o es × PrintsAll p r.work o es r.out) × Writes r.trace (trace_of r.kept)
+IsAnswerOf p r (status.Usage place) = ⊥
+IsAnswerOf p r (status.Input line cause) = ⊥
+IsAnswerOf p r (status.Logs log offset cause) = HasNotBegun r (ending.Refused log offset cause) × WritesNothing r.out
+IsAnswerOf p r status.Memory = (HasNotBegun r ending.Memory × WritesNothing r.out) ⊎ HasBegun r None (λ o es. PrintsFront p r.work o es r.out)
+IsAnswerOf p r status.ReadFault = ⊥
+IsAnswerOf p r (status.LogFault log) =
     LogRose r log
-    × ((HasNotBegun r (ending.Device log) × WritesFront r.out (unsures_text log (unanswered [] (length r.work.txs))))
-    ⊎ HasBegun r (Some log) (λ o es. IsNext r.work r.seed o es (machine.Sync log) × PrintsUnsure r.work log o es r.out))
-IsWorkAnswer r status.OutFault =
-    Rose r.out.faults_before r.out.faults_after
-    × HasBegun r None (λ o es. PrintsNext r.work r.seed o es r.out ⊎ (HasEnded r.work o es × WritesBehind r.out (replies_text (machine_of r.work o) es) (ending_text (machine_of r.work o) es)))
-IsWorkAnswer r status.TraceFault =
-    Rose r.trace.faults_before r.trace.faults_after × HasBegun r None (λ o es. HasEnded r.work o es × PrintsAll r.work o es r.out)
+    × ((HasNotBegun r (ending.Device log) × WritesFront r.out (unsures_by p log [] (length r.work.txs)))
+    ⊎ HasBegun r (Some log) (λ o es. IsNext r.work r.seed o es (machine.Sync log) × PrintsUnsure p r.work log o es r.out))
+IsAnswerOf p r status.OutFault =
+    Rose r.out.faults_before r.out.faults_after × HasBegun r None (λ o es. PrintsNext p r.work r.seed o es r.out ⊎ PrintsEnding p r.work o es r.out)
+IsAnswerOf p r status.TraceFault =
+    Rose r.trace.faults_before r.trace.faults_after × HasBegun r None (λ o es. HasEnded r.work o es × PrintsAll p r.work o es r.out)
+
+-- of the command that prints the report
+abbrev pub IsWorkAnswer : Ran → Status → Type 0
+IsWorkAnswer r s = IsAnswerOf reporting r s
+
+-- of the one that prints the summary
+abbrev pub IsBenchAnswer : Ran → Status → Type 0
+IsBenchAnswer r s = IsAnswerOf summing r s
 
 -- ---- what stands in the way
 

@@ -1,10 +1,14 @@
-ghost use Rattle.std.specs.Prelude.{◌≡◌, ◌≤◌, map};
+ghost use Rattle.std.specs.Prelude.{◌≡◌, ◌≤◌, map, IfSome};
+ghost use Rattle.aml_slice.specs.Controls.{Rest};
 ghost use Rattle.core_events.specs.Meant.{event_meant};
-ghost use Rattle.snap_core.specs.Cores.{IsAt};
-ghost use Rattle.snap_hand.specs.Tables.{fixed_of};
+ghost use Rattle.protocol.specs.Fixed.{Fixed};
+ghost use Rattle.run_work.specs.Hosts.{IsCoreOf};
+ghost use Rattle.run_work.specs.Runs.{reporting};
 ghost use Rattle.run_work.specs.Statuses.{logs_status};
 ghost use Rattle.run_work.specs.Untraced.{IsEnding, IsToldUnbegun};
 ghost use Rattle.run_work.specs.Writings.{writing_of};
+ghost use Rattle.snap_core.specs.Cores.{IsAt};
+ghost use Rattle.snap_hand.specs.Tables.{fixed_of};
 
 use crate::statuses::status_of;
 use core_events::Event;
@@ -18,7 +22,26 @@ use std::alloc::Global;
 
 /// Prints what comes behind the replies of a run that a host ended so, and tells how it ends. `count` is the number of its
 /// transactions.
-pub(crate) fn end_driven<O: Sink>(
+pub(crate) fn end_reported<O: Sink>(
+    alloc: Global,
+    core: Option<Core>,
+    stop: Stop,
+    kept: &[Event],
+    count: u32,
+    out: &mut O,
+) -> Status
+    requires { IfSome core (λ c. IsAt c (map event_meant kept.now)) }
+    ensures ending { (m : Fixed Rest) → IsCoreOf m (map event_meant kept.now) stop core → IsEnding reporting m (map event_meant kept.now) count stop (writing_of O.taken O.faults out.old out.new) result }
+    ensures later { O.faults out.old ≤ O.faults out.new }
+{
+    match core {
+        Some(core) => report(alloc, &core, stop, kept, count, out),
+        None => Status::Memory,
+    }
+}
+
+/// The same, where there is a core.
+fn report<O: Sink>(
     alloc: Global,
     core: &Core,
     stop: Stop,
@@ -27,7 +50,7 @@ pub(crate) fn end_driven<O: Sink>(
     out: &mut O,
 ) -> Status
     requires { IsAt core.now (map event_meant kept.now) }
-    ensures ending { IsEnding (fixed_of core.now.tables) (map event_meant kept.now) count stop (writing_of O.taken O.faults out.old out.new) result }
+    ensures ending { IsEnding reporting (fixed_of core.now.tables) (map event_meant kept.now) count stop (writing_of O.taken O.faults out.old out.new) result }
     ensures later { O.faults out.old ≤ O.faults out.new }
 {
     match stop {
@@ -48,7 +71,7 @@ pub(crate) fn end_driven<O: Sink>(
 /// How the call ends where no run of so many transactions begins. Where a log's device failed they are told to be unsure.
 pub(crate) fn not_begun<O: Sink>(alloc: Global, no: LogsNo, count: u32, out: &mut O) -> Status
     ensures status { result ≡ logs_status no }
-    ensures told { IsToldUnbegun count no (writing_of O.taken O.faults out.old out.new) }
+    ensures told { IsToldUnbegun reporting count no (writing_of O.taken O.faults out.old out.new) }
 {
     if let LogsNo::Device { log } = no {
         write_unsures(alloc, out, log, count, &[]);

@@ -1,0 +1,132 @@
+-- What a host promises of what it took, in the words of a run.
+use Rattle.std.proofs.Common.{◌≡◌, ℕ, zero, suc, ◌<◌, ◌≤◌, List, [], ◌∷◌, length, append-nil, refl, sym, subst, arith, Option, Some, None, false}
+use Rattle.std.proofs.KnownBytes.{Appends-nil, Appends-kept}
+use Rattle.std.specs.Prelude.{IfSome}
+use Rattle.std.specs.List.{AllByRecursion}
+use Rattle.aml_slice.specs.Controls.{Rest}
+use Rattle.gate_log.specs.State.{LogState}
+use Rattle.protocol.specs.Events as machine
+use Rattle.protocol.specs.Fixed.{Fixed}
+use Rattle.protocol_schedule.specs.Draw.{IsFrontOfSeed}
+use Rattle.record_log.specs.Growth.{GrewBy}
+use Rattle.run_outputs.specs.Groups.{groups_of, group_behind}
+use Rattle.run_recovery.specs.Runs.{machine_of, tried_on}
+use Rattle.run_work.specs.Hosts.{failed_by, HasDriven, IsStopOf, PrintsReplies, IsHostEnd, IsCoreOf}
+use Rattle.run_work.specs.Runs.{Printing, reporting, summing}
+use Rattle.run_work.specs.Writings.{Writing, WritesNothing, Writes}
+use Rattle.snap_core.specs.Cores.{CoreState, IsAt}
+use Rattle.snap_outside.specs.Causes.{Rose}
+use Rattle.snap_recover.specs.declared.openings.Opening.{Opening}
+use Rattle.snap_work.specs.Works.{Work}
+use Rattle.solo_host.specs.Drives as host
+use Rattle.solo_host.specs.declared.drives.Stop.{Stop}
+use Rattle.solo_host.specs.declared.drives.Stop.TheVariants as stop
+use Rattle.txn_records.specs.declared.records.Record.{Record}
+
+-- ---- how it ended
+
+same_tried : (w : Work) (o : Opening) (es : List machine.Event) (why : Stop) (l : ℕ)
+    → host.tried_on (machine_of w o) l es why ≡ tried_on (failed_by why) l (group_behind (machine_of w o) l es)
+same_tried w o es stop.Quiet l = refl
+same_tried w o es (stop.LogFault k) l = refl
+same_tried w o es stop.OutFault l = refl
+same_tried w o es stop.Memory l = refl
+
+rose_by : (w : Work) (seed : ℕ) (o : Opening) (es : List machine.Event) (old new : List LogState) (a b : ℕ) (why : Stop)
+    → host.IsWhy (machine_of w o) seed es old new a b why → IfSome (failed_by why) (λ l. (l < length old) × Rose (host.log_at old l).faults (host.log_at new l).faults)
+rose_by w seed o es old new a b stop.Quiet why = tt
+rose_by w seed o es old new a b (stop.LogFault k) why = (why.0, why.2)
+rose_by w seed o es old new a b stop.OutFault why = tt
+rose_by w seed o es old new a b stop.Memory why = tt
+
+driven : (w : Work) (seed : ℕ) (o : Opening) (es : List machine.Event) (old new : List LogState) (a b : ℕ) (by : Stop) → IsFrontOfSeed (machine_of w o) seed es
+    → host.IsWhy (machine_of w o) seed es old new a b by → host.AreDriven (machine_of w o) es by old new → HasDriven w seed o es old new (failed_by by)
+driven w seed o es old new a b by front why logs = record {
+  front = front;
+  as_many = logs.0;
+  each = λ l lt. subst (λ (t : Option (List Record)). host.IsDriven (host.log_at old l) (host.log_at new l) (groups_of (machine_of w o) l es) t) (same_tried w o es by l) (logs.1 l lt);
+  rose = rose_by w seed o es old new a b by why;
+}
+
+stopped : (w : Work) (seed : ℕ) (o : Opening) (es : List machine.Event) (old new : List LogState) (out : Writing) (by : Stop)
+    → host.IsWhy (machine_of w o) seed es old new out.faults_before out.faults_after by → IsStopOf w seed o es out by
+stopped w seed o es old new out stop.Quiet why = why
+stopped w seed o es old new out (stop.LogFault k) why = why.1
+stopped w seed o es old new out stop.OutFault why = why.1
+stopped w seed o es old new out stop.Memory why = tt
+
+replies_printed : (w : Work) (seed : ℕ) (o : Opening) (es : List machine.Event) (out : Writing) (by : Stop)
+    → host.IsPrinted (machine_of w o) seed es out.taken_before out.taken_after by → PrintsReplies reporting w seed o es out by
+replies_printed w seed o es out stop.Quiet is = is
+replies_printed w seed o es out (stop.LogFault k) is = is
+replies_printed w seed o es out stop.OutFault is = (is.0, is.3, (is.1, is.2, is.4, is.5))
+replies_printed w seed o es out stop.Memory is = is
+
+hosted_by : (w : Work) (seed : ℕ) (o : Opening) (es : List machine.Event) (old new : List LogState) (out : Writing) (by : Stop) → IsFrontOfSeed (machine_of w o) seed es
+    → host.IsWhy (machine_of w o) seed es old new out.faults_before out.faults_after by → host.AreDriven (machine_of w o) es by old new
+    → host.IsPrinted (machine_of w o) seed es out.taken_before out.taken_after by → out.faults_before ≤ out.faults_after
+    → IsHostEnd reporting (HasDriven w seed o es old new) w seed o es out by
+hosted_by w seed o es old new out by front why logs printed later = record {
+  left = driven w seed o es old new out.faults_before out.faults_after by front why logs;
+  why = stopped w seed o es old new out by why;
+  printed = replies_printed w seed o es out by printed;
+  later = later;
+}
+
+pub hosted : (w : Work) (seed : ℕ) (o : Opening) (es : List machine.Event) (old new : List LogState) (out : Writing) (by : Stop) (m : Fixed Rest) → m ≡ machine_of w o
+    → IsFrontOfSeed m seed es → host.IsWhy m seed es old new out.faults_before out.faults_after by → host.AreDriven m es by old new
+    → host.IsPrinted m seed es out.taken_before out.taken_after by → out.faults_before ≤ out.faults_after
+    → IsHostEnd reporting (HasDriven w seed o es old new) w seed o es out by
+hosted w seed o es old new out by m same front why logs printed later =
+    hosted_by w seed o es old new out by (subst (λ (x : Fixed Rest). IsFrontOfSeed x seed es) same front)
+    (subst (λ (x : Fixed Rest). host.IsWhy x seed es old new out.faults_before out.faults_after by) same why) (subst (λ (x : Fixed Rest). host.AreDriven x es by old new) same logs)
+    (subst (λ (x : Fixed Rest). host.IsPrinted x seed es out.taken_before out.taken_after by) same printed) later
+
+-- ---- nothing was taken
+
+nothing_grew : (l : LogState) → l.shut ≡ false → host.IsDriven l l [] None
+nothing_grew l quiet = record {
+  grew = λ device end first grew gate. subst (λ (groups : List (List Record)). GrewBy device l.told end groups None) (sym (append-nil first)) grew;
+  gate = refl;
+  shut = quiet;
+  later = omega arith;
+}
+
+pub nothing_written : (out : Writing) → WritesNothing out → Writes out []
+nothing_written out nothing = Appends-kept out.taken_before out.taken_before out.taken_after [] (Appends-nil out.taken_before) nothing
+
+shut_at : (logs : List LogState) (n : ℕ) → n < length logs → AllByRecursion (λ (l : LogState). l.shut ≡ false) logs → (host.log_at logs n).shut ≡ false
+shut_at [] n lt all = absurd (omega (arith, lt))
+shut_at (l ∷ logs) zero lt all = all.0
+shut_at (l ∷ logs) (suc n) lt all = shut_at logs n (omega (arith, lt)) all.1
+
+-- there was no memory for a core
+pub no_core : (w : Work) (seed : ℕ) (o : Opening) (logs : List LogState) (out : Writing) → AllByRecursion (λ (l : LogState). l.shut ≡ false) logs → WritesNothing out
+    → out.faults_before ≤ out.faults_after → IsHostEnd reporting (HasDriven w seed o [] logs logs) w seed o [] out stop.Memory
+no_core w seed o logs out ready nothing later = record {
+  left = record { front = tt; as_many = refl; each = λ l lt. nothing_grew (host.log_at logs l) (shut_at logs l lt ready); rose = tt };
+  why = tt;
+  printed = nothing_written out nothing;
+  later = later;
+}
+
+-- ---- the same of other logs, or of another output
+
+-- what a run left, on open logs or on all devices
+pub left_as : (p : Printing) (P Q : Option ℕ → Type 0) → ((failed : Option ℕ) → P failed → Q failed) → (w : Work) (seed : ℕ) (o : Opening) (es : List machine.Event) (out : Writing) (by : Stop)
+    → IsHostEnd p P w seed o es out by → IsHostEnd p Q w seed o es out by
+left_as p P Q then w seed o es out by h = record { left = then (failed_by by) h.left; why = h.why; printed = h.printed; later = h.later }
+
+-- the replies went where nothing fails, and nothing was printed
+pub unheard : (Left : Option ℕ → Type 0) (w : Work) (seed : ℕ) (o : Opening) (es : List machine.Event) (replies out : Writing) (by : Stop)
+    → ¬ Rose replies.faults_before replies.faults_after → Writes out [] → out.faults_before ≤ out.faults_after
+    → IsHostEnd reporting Left w seed o es replies by → IsHostEnd summing Left w seed o es out by
+unheard Left w seed o es replies out stop.Quiet quiet nothing later h = record { left = h.left; why = h.why; printed = nothing; later = later }
+unheard Left w seed o es replies out (stop.LogFault k) quiet nothing later h = record { left = h.left; why = h.why; printed = nothing; later = later }
+unheard Left w seed o es replies out stop.OutFault quiet nothing later h = absurd (quiet h.why)
+unheard Left w seed o es replies out stop.Memory quiet nothing later h = record { left = h.left; why = h.why; printed = nothing; later = later }
+
+-- a core that has come to the events is there where there is one
+pub core_at : (m : Fixed Rest) (es : List machine.Event) (by : Stop) (core : Option CoreState) → IsCoreOf m es by core → IfSome core (λ c. IsAt c es)
+core_at m es by None is = tt
+core_at m es by (Some core) is = is.1

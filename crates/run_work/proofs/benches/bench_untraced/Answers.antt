@@ -1,0 +1,48 @@
+use Rattle.std.proofs.Common.{List, length, None, sym, ap, refl, subst, inl, inr, arith}
+use Rattle.std.proofs.KnownBytes.{Appends-nil, Keeps-refl}
+use Rattle.core_events.specs.declared.events.Event.{Event}
+use Rattle.log_opening.specs.Devices.{devices_of}
+use Rattle.run_recovery.specs.Runs.{machine_of, meant}
+use Rattle.run_work.proofs.Ending.{ended_so, told_nothing}
+use Rattle.run_work.proofs.Hosting.{core_at, unheard}
+use Rattle.run_work.proofs.benches.bench_untraced.Goals as goal
+use Rattle.run_work.specs.Hosts.{HasLeft, IsCoreOf}
+use Rattle.run_work.specs.Runs.{summing}
+use Rattle.run_work.specs.Writings.{Writing, writing_of}
+use Rattle.snap_work.specs.Works.{work_of}
+
+pub end_summed-status-requires : goal.end_summed-status-requires
+end_summed-status-requires g c =
+    let is = c.in-Ok.ensures.hosted in
+    core_at (machine_of (work_of c.args.work) is.opening) (meant c.as_slice.result.now) c.in-Ok.hosted.stop c.in-Ok.hosted.core
+    (subst (λ (kept : List Event). IsCoreOf (machine_of (work_of c.args.work) is.opening) (meant kept) c.in-Ok.hosted.stop c.in-Ok.hosted.core) (sym c.as_slice.ensures.value) is.core)
+
+pub returns-in-Ok : goal.returns-in-Ok
+returns-in-Ok g c = λ trace.
+    let w = work_of c.args.work in
+    let is = c.in-Ok.ensures.hosted in
+    let h = c.in-Ok.hosted in
+    let es = meant h.kept.items in
+    let m = machine_of w is.opening in
+    let before = devices_of g.D.LogDev.told g.D.LogDev.faults c.args.devices.now.items in
+    let after = devices_of g.D.LogDev.told g.D.LogDev.faults c.host_work.new.devices.items in
+    let replies : Writing = writing_of (λ _. None) (λ _. 0) c.new-replies.result c.host_work.new.replies in
+    let a : Writing = writing_of g.O.Sink.taken g.O.Sink.faults c.args.out.now c.args.out.now in
+    let b : Writing = writing_of g.O.Sink.taken g.O.Sink.faults c.args.out.now c.end_summed-status.new.out in
+    let left = HasLeft w 0 is.opening es before after in
+    let core = subst (λ (kept : List Event). IsCoreOf m (meant kept) h.stop h.core) (sym c.as_slice.ensures.value) is.core in
+    inr (
+      is.opening,
+      ended_so summing left w 0 is.opening es a b h.stop c.end_summed-status.result m (meant c.as_slice.result.now) (length w.txs) refl (ap meant c.as_slice.ensures.value) refl (refl, refl)
+          c.end_summed-status.ensures.later
+          (unheard left w 0 is.opening es replies a h.stop (λ rose. omega (arith, rose)) (Appends-nil _) (omega arith) is.ends) (c.end_summed-status.ensures.ending m (length w.txs) core),
+    )
+
+pub returns-in-Err : goal.returns-in-Err
+returns-in-Err g c = λ trace.
+    let out : Writing = writing_of g.O.Sink.taken g.O.Sink.faults c.args.out.now c.args.out.now in
+    inl (
+      c.in-Err.no,
+      record { kept = c.new.ensures.items; none = c.in-Err.ensures.unbegun; told = told_nothing (length c.args.work.txs) c.in-Err.no out (Keeps-refl _) (Appends-nil _) },
+      c.status_of.ensures,
+    )

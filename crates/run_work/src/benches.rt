@@ -1,0 +1,66 @@
+ghost use Rattle.std.specs.Prelude.{◌≡◌, List, [], vec_len};
+ghost use Rattle.log_opening.specs.Devices.{devices_of};
+ghost use Rattle.run_opening.specs.Opens.{MayOpen};
+ghost use Rattle.run_work.specs.Runs.{summing, Ran, IsBenchAnswer, IsOfLogs};
+ghost use Rattle.run_work.specs.Untraced.{IsUntraced};
+ghost use Rattle.run_work.specs.Writings.{Writing, writing_of};
+ghost use Rattle.snap_recover.specs.declared.openings.Opening.{Opening};
+ghost use Rattle.snap_work.specs.Kept.{KeepsLimits};
+ghost use Rattle.snap_work.specs.Works.{work_of};
+ghost use Rattle.txn_records.specs.declared.records.Record.{Record};
+
+use crate::hosts::{Hosted, host_work};
+use crate::statuses::status_of;
+use crate::summed::end_summed;
+use crate::traces::traced;
+use core_events::Event;
+use run_recovery::runs_stand;
+use snap_outside::{LogDev, NullSink, Sink};
+use snap_report::Status;
+use snap_work::Work;
+use std::alloc::Global;
+
+/// Runs a work on the machine, by the schedule of seed 0, and prints its summary alone. Its logs lie on the first of these
+/// devices; the others get no call. The events that were taken come back; a line of each is written to the trace at the end.
+pub fn bench_work<D: LogDev, O: Sink, T: Sink>(
+    alloc: Global,
+    work: Work,
+    devices: &mut Vec<D>,
+    out: &mut O,
+    trace: &mut T,
+) -> (Vec<Event>, Status)
+    requires four { vec_len devices.old ≡ 4 }
+    requires limits { KeepsLimits (work_of work) }
+    ensures answer { let r : Ran = record { work = work_of work; seed = 0; kept = result.0.items; devices_before = devices_of D.told D.faults devices.old.items; devices_after = devices_of D.told D.faults devices.new.items; out = writing_of O.taken O.faults out.old out.new; trace = writing_of T.taken T.faults trace.old trace.new } in IsBenchAnswer r result.1 }
+    // Where no event is kept the trace gets no call.
+    ensures untouched { result.0.items ≡ [] → trace.new ≡ trace.old }
+    // Where the logs hold records on which a run begins, and none fails, it does not end for a log.
+    ensures opens { (records : List (List Record)) (o : Opening) → MayOpen (work_of work).logs (work_of work).states (devices_of D.told D.faults devices.old.items) (devices_of D.told D.faults devices.new.items) records o → ¬ IsOfLogs result.1 }
+{
+    runs_stand(&work.program);
+    let (kept, status) = bench_untraced(alloc, work, devices, out);
+    let status = traced(alloc, kept.as_slice(), status, trace);
+    (kept, status)
+}
+
+/// The same, but for the trace.
+fn bench_untraced<D: LogDev, O: Sink>(
+    alloc: Global,
+    work: Work,
+    devices: &mut Vec<D>,
+    out: &mut O,
+) -> (Vec<Event>, Status)
+    requires four { vec_len devices.old ≡ 4 }
+    requires limits { KeepsLimits (work_of work) }
+    ensures { (trace : Writing) → let r : Ran = record { work = work_of work; seed = 0; kept = result.0.items; devices_before = devices_of D.told D.faults devices.old.items; devices_after = devices_of D.told D.faults devices.new.items; out = writing_of O.taken O.faults out.old out.new; trace = trace } in IsUntraced summing r result.1 }
+{
+    let mut replies = NullSink::new();
+    match host_work(alloc, work, 0, devices, &mut replies) {
+        Ok(hosted) => {
+            let Hosted { core, stop, kept } = hosted;
+            let status = end_summed(alloc, core, stop, kept.as_slice(), out);
+            (kept, status)
+        }
+        Err(no) => (Vec::new(alloc), status_of(no)),
+    }
+}
