@@ -1,15 +1,16 @@
 -- Where nothing stands in the way of a run, only two answers are left.
 use Rattle.std.proofs.Common.{◌≡◌, ◌⊎◌, inl, inr, ℕ, List, Option, IfSome, refl, subst}
-use Rattle.run_work.specs.Runs.{IsWorkAnswer, IsOfLogs}
+use Rattle.run_work.specs.Runs.{Printing, reporting, summing, Ran, IsAnswerOf, IsWorkAnswer, IsOfLogs}
 use Rattle.run_work.specs.Writings.{Writing}
 use Rattle.snap_outside.specs.Causes.{Rose}
 use Rattle.snap_recover.specs.declared.openings.Opening.{Opening}
 use Rattle.snap_report.specs.declared.statuses.Status.{Status}
 use Rattle.snap_report.specs.declared.statuses.Status.TheVariants as status
-use Rattle.snap_run.proofs.Outcomes.{not_both, run_not_gen, recover_not_gen}
-use Rattle.snap_run.specs.Answers.{ran_of, IsInputAnswer, IsRunAnswer, IsGenAnswer, IsAnswer, IsUntroubled, IsPrintable}
+use Rattle.snap_run.proofs.Outcomes.{not_both, run_not_gen, recover_not_gen, run_not_bench, recover_not_bench, gen_not_bench}
+use Rattle.snap_run.specs.Answers.{ran_of, IsInputAnswer, IsRunAnswer, IsGenAnswer, IsAnswer, IsUntroubled, IsPrintable, MayBeMeasured}
 use Rattle.work_gen.specs.Generated.{generated_text}
 use Rattle.snap_run.specs.Uses.{Use}
+use Rattle.snap_run.specs.Words.{IsBench}
 use Rattle.snap_work.specs.declared.faults.WorkFault.{WorkFault}
 use Rattle.snap_work.specs.Works.{Work}
 use Rattle.txn_records.specs.declared.records.Record.{Record}
@@ -18,6 +19,19 @@ use Rattle.work_text.specs.Reads.{IsWork, IsFirstWorkFault}
 -- what the law fault_or_work of work_text says
 abbrev pub FaultOrWork : Type 0
 FaultOrWork = (text : List ℕ) (f : WorkFault) (w : Work) → IsFirstWorkFault text f → ¬ IsWork text w
+
+-- it is run to its end
+ended : (p : Printing) (r : Ran) (s : Status) → ¬ IsOfLogs s → ¬ Rose r.out.faults_before r.out.faults_after → ¬ Rose r.trace.faults_before r.trace.faults_after → IsAnswerOf p r s
+    → (s ≡ status.Done) ⊎ (s ≡ status.Memory)
+ended p r status.Done not sink trace a = inl refl
+ended p r (status.Usage place) not sink trace a = absurd a
+ended p r (status.Input line cause) not sink trace a = absurd a
+ended p r (status.Logs log offset cause) not sink trace a = absurd (not tt)
+ended p r status.Memory not sink trace a = inr refl
+ended p r status.ReadFault not sink trace a = absurd a
+ended p r (status.LogFault log) not sink trace a = absurd (not tt)
+ended p r status.OutFault not sink trace a = absurd (sink a.0)
+ended p r status.TraceFault not sink trace a = absurd (trace a.0)
 
 module _ (apart : FaultOrWork) (u : Use) (text : List ℕ) (w : Work) (records : List (List Record)) (o : Opening) (t : IsUntroubled u text w records o) where
   -- the text is accepted
@@ -34,28 +48,17 @@ module _ (apart : FaultOrWork) (u : Use) (text : List ℕ) (w : Work) (records :
   of_input status.OutFault a = absurd a
   of_input status.TraceFault a = absurd a
 
-  -- it is run to its end
-  of_work : (v : Work) (seed : ℕ) (s : Status) → ¬ IsOfLogs s → IsWorkAnswer (ran_of u v seed) s → (s ≡ status.Done) ⊎ (s ≡ status.Memory)
-  of_work v seed status.Done not a = inl refl
-  of_work v seed (status.Usage place) not a = absurd a
-  of_work v seed (status.Input line cause) not a = absurd a
-  of_work v seed (status.Logs log offset cause) not a = absurd (not tt)
-  of_work v seed status.Memory not a = inr refl
-  of_work v seed status.ReadFault not a = absurd a
-  of_work v seed (status.LogFault log) not a = absurd (not tt)
-  of_work v seed status.OutFault not a = absurd (t.sink a.0)
-  of_work v seed status.TraceFault not a = absurd (t.trace a.0)
-
   run_completed : (seed : ℕ) (s : Status) → ¬ IsOfLogs s → IsRunAnswer u seed s → (s ≡ status.Done) ⊎ (s ≡ status.Memory)
   run_completed seed s not (inl a) = of_input s a.0
   run_completed seed s not (inr a) =
-      let x = subst (λ (left : Option (List ℕ)). IfSome left (λ input. (v : Work) × IsWork input v × IsWorkAnswer (ran_of u v seed) s)) t.known a.1 in of_work x.0 seed s not x.2
+      let x = subst (λ (left : Option (List ℕ)). IfSome left (λ input. (v : Work) × IsWork input v × IsWorkAnswer (ran_of u v seed) s)) t.known a.1 in ended reporting (ran_of u x.0 seed) s not t.sink t.trace x.2
 
   pub completed : (s : Status) → ¬ IsOfLogs s → IsAnswer u s → (s ≡ status.Done) ⊎ (s ≡ status.Memory)
   completed s not (inl x) = run_completed x.0 s not x.2
   completed s not (inr (inl x)) = absurd (not_both u.words t.run.0 t.run.1 x.0)
   completed s not (inr (inr (inl x))) = absurd (run_not_gen u.words t.run.0 x.0 x.1 t.run.1 x.2)
-  completed s not (inr (inr (inr x))) = absurd (x.0.2.no_form (inl t.run))
+  completed s not (inr (inr (inr (inl x)))) = absurd (run_not_bench u.words t.run.0 x.0 x.1 t.run.1 x.2)
+  completed s not (inr (inr (inr (inr x)))) = absurd (x.0.2.no_form (inl t.run))
 
 -- ---- the command that prints a generated text
 
@@ -74,4 +77,18 @@ pub completed_gen : (u : Use) → IsPrintable u → (s : Status) → IsAnswer u 
 completed_gen u may s (inl x) = absurd (run_not_gen u.words x.0 may.gen.0 may.gen.1 x.1 may.gen.2)
 completed_gen u may s (inr (inl x)) = absurd (recover_not_gen u.words may.gen.0 may.gen.1 x.0 may.gen.2)
 completed_gen u may s (inr (inr (inl x))) = gen_completed (generated_text x.0 x.1) u.writing s may.sink x.5
-completed_gen u may s (inr (inr (inr x))) = absurd (x.0.2.no_form (inr (inr (may.gen.0, may.gen.1, may.gen.2))))
+completed_gen u may s (inr (inr (inr (inl x)))) = absurd (gen_not_bench u.words may.gen.0 may.gen.1 x.0 x.1 may.gen.2 x.2)
+completed_gen u may s (inr (inr (inr (inr x)))) = absurd (x.0.2.no_form (inr (inr (inl (may.gen.0, may.gen.1, may.gen.2)))))
+
+-- ---- the command that runs a generated text
+
+pub completed_bench : (u : Use) (count seed : ℕ) (w : Work) (records : List (List Record)) (o : Opening) → IsBench u.words count seed → MayBeMeasured u count seed w records o
+    → (s : Status) → ¬ IsOfLogs s → IsAnswer u s → (s ≡ status.Done) ⊎ (s ≡ status.Memory)
+completed_bench u count seed w records o bench may s not (inl x) = absurd (run_not_bench u.words x.0 count seed x.1 bench)
+completed_bench u count seed w records o bench may s not (inr (inl x)) = absurd (recover_not_bench u.words count seed x.0 bench)
+completed_bench u count seed w records o bench may s not (inr (inr (inl x))) = absurd (gen_not_bench u.words x.0 x.1 count seed x.2 bench)
+completed_bench u count seed w records o bench may s not (inr (inr (inr (inl x)))) = elim x.4 [
+  | inl none ↦ inr none.0
+  | inr run ↦ ended summing (ran_of u run.0 0) s not may.sink may.trace run.3
+]
+completed_bench u count seed w records o bench may s not (inr (inr (inr (inr x)))) = absurd (x.0.2.no_form (inr (inr (inr (count, seed, bench)))))

@@ -23,3 +23,12 @@ run_gen e = let h : 114 ≡ 103 = letter 0 (codes "run") (codes "gen") e in omeg
 
 pub recover_gen : codes "recover" ≡ codes "gen" → ⊥
 recover_gen e = let h : 114 ≡ 103 = letter 0 (codes "recover") (codes "gen") e in omega (arith, h)
+
+pub run_bench : codes "run" ≡ codes "bench" → ⊥
+run_bench e = let h : 114 ≡ 98 = letter 0 (codes "run") (codes "bench") e in omega (arith, h)
+
+pub recover_bench : codes "recover" ≡ codes "bench" → ⊥
+recover_bench e = let h : 114 ≡ 98 = letter 0 (codes "recover") (codes "bench") e in omega (arith, h)
+
+pub gen_bench : codes "gen" ≡ codes "bench" → ⊥
+gen_bench e = let h : 103 ≡ 98 = letter 0 (codes "gen") (codes "bench") e in omega (arith, h)

@@ -1,6 +1,8 @@
 -- What the top call promises, from what a run and the other command promise.
-use Rattle.std.proofs.Common.{◌≡◌, inl, inr, ℕ, List, [], ◌∷◌, Option, None, Some, IfSome, refl, sym, ◌∙◌, subst}
+use Rattle.std.proofs.Common.{◌≡◌, inl, inr, ℕ, List, [], ◌∷◌, Option, None, Some, IfSome, get_or, refl, sym, ap, ◌∙◌, subst, arith}
 use Rattle.std.specs.Prelude.{codes}
+use Rattle.std.specs.Fmt.{decimal}
+use Rattle.std.proofs.lemmas.Fmt.{decimal_injective}
 use Rattle.std.specs.List.{AllZip}
 use Rattle.snap_report.specs.declared.statuses.Status.{Status}
 use Rattle.snap_report.specs.declared.statuses.Status.TheVariants as status
@@ -9,14 +11,14 @@ use Rattle.work_text.specs.Reads.{IsWork}
 use Rattle.record_log.specs.Records.{KeepsRecords}
 use Rattle.log_opening.specs.Devices.{Device, IsOpenedAtMost}
 use Rattle.run_opening.specs.Opens.{MayOpen}
-use Rattle.run_work.specs.Runs.{Ran, IsWorkAnswer, IsOfLogs}
+use Rattle.run_work.specs.Runs.{Printing, Ran, IsAnswerOf, IsWorkAnswer, IsOfLogs}
 use Rattle.run_work.specs.Writings.{Writing, WritesNothing}
 use Rattle.snap_recover.specs.declared.openings.Opening.{Opening}
-use Rattle.snap_run.proofs.Names.{heads, run_recover, run_gen, recover_gen}
-use Rattle.snap_run.specs.Words.{IsRun, IsRecover, IsGen, IsUsageFault}
+use Rattle.snap_run.proofs.Names.{heads, run_recover, run_gen, recover_gen, run_bench, recover_bench, gen_bench}
+use Rattle.snap_run.specs.Words.{IsRun, IsRecover, IsGen, IsBench, IsUsageFault}
 use Rattle.snap_run.specs.Uses.{Reading, Use}
 use Rattle.snap_run.specs.Recoveries.{IsRecoverAnswer}
-use Rattle.snap_run.specs.Answers.{OfText, ran_of, ReadsNothing, IsInputAnswer, TouchesNothing, TakesNoEvent, IsGenAnswer, GetsNoCall, IsUntroubled}
+use Rattle.snap_run.specs.Answers.{OfText, ran_of, ReadsNothing, IsInputAnswer, TouchesNothing, TakesNoEvent, IsGenAnswer, IsMeasured, GetsNoCall, IsUntroubled, MayBeMeasured}
 use Rattle.work_gen.specs.Generated.{generated_text}
 use Rattle.snap_run.specs.Outcomes.{IsOutcome}
 use Rattle.txn_records.specs.declared.records.Record.{Record}
@@ -36,6 +38,16 @@ run_not_gen words seed count last (inr run) gen = run_gen (same_first words _ _ 
 
 pub recover_not_gen : (words : List (List ℕ)) (count last : ℕ) → IsRecover words → IsGen words count last → ⊥
 recover_not_gen words count last recover gen = recover_gen (same_first words _ _ _ _ recover gen.0)
+
+pub run_not_bench : (words : List (List ℕ)) (seed count last : ℕ) → IsRun words seed → IsBench words count last → ⊥
+run_not_bench words seed count last (inl run) bench = run_bench (same_first words _ _ _ _ run.0 bench.0)
+run_not_bench words seed count last (inr run) bench = run_bench (same_first words _ _ _ _ run.0 bench.0)
+
+pub recover_not_bench : (words : List (List ℕ)) (count last : ℕ) → IsRecover words → IsBench words count last → ⊥
+recover_not_bench words count last recover bench = recover_bench (same_first words _ _ _ _ recover bench.0)
+
+pub gen_not_bench : (words : List (List ℕ)) (count seed other last : ℕ) → IsGen words count seed → IsBench words other last → ⊥
+gen_not_bench words count seed other last gen bench = gen_bench (same_first words _ _ _ _ gen.0 bench.0)
 
 -- ---- the input is refused
 
@@ -91,16 +103,16 @@ run_not_of_logs one u w s opens of text v records o t =
     opens records o (subst (λ (x : Work). MayOpen x.logs x.states u.devices_before u.devices_after records o) (same_work one u.reading text v w of t.known t.work) t.opens)
 
 -- a run has called its logs
-pub run_calls : (r : Ran) (s : Status) → IsWorkAnswer r s → GetsNoCall s → ⊥
-run_calls r status.Done a none = none
-run_calls r (status.Usage place) a none = a
-run_calls r (status.Input line cause) a none = a
-run_calls r (status.Logs log offset cause) a none = none
-run_calls r status.Memory a none = none
-run_calls r status.ReadFault a none = a
-run_calls r (status.LogFault log) a none = none
-run_calls r status.OutFault a none = none
-run_calls r status.TraceFault a none = none
+pub run_calls : (p : Printing) (r : Ran) (s : Status) → IsAnswerOf p r s → GetsNoCall s → ⊥
+run_calls p r status.Done a none = none
+run_calls p r (status.Usage place) a none = a
+run_calls p r (status.Input line cause) a none = a
+run_calls p r (status.Logs log offset cause) a none = none
+run_calls p r status.Memory a none = none
+run_calls p r status.ReadFault a none = a
+run_calls p r (status.LogFault log) a none = none
+run_calls p r status.OutFault a none = none
+run_calls p r status.TraceFault a none = none
 
 -- ---- the other command, and no command
 
@@ -126,7 +138,7 @@ recover_outcome u s recover nothing none untraced opened kept a = record {
 
 pub usage_outcome : (u : Use) (place : ℕ) → IsUsageFault u.words place → ReadsNothing u.reading → TouchesNothing u → IsOutcome u (status.Usage place)
 usage_outcome u place fault reads nothing = record {
-  answer = inr (inr (inr ((place, refl, fault), reads, nothing)));
+  answer = inr (inr (inr (inr ((place, refl, fault), reads, nothing))));
   opened = λ recover. absurd (fault.no_form (inr (inl recover)));
   kept = λ recover. absurd (fault.no_form (inr (inl recover)));
 }
@@ -137,3 +149,20 @@ gen_outcome u count seed s gen reads nothing a = record {
   opened = λ recover. absurd (recover_not_gen u.words count seed recover gen);
   kept = λ recover. absurd (recover_not_gen u.words count seed recover gen);
 }
+
+pub bench_outcome : (u : Use) (count seed : ℕ) (s : Status) → IsBench u.words count seed → ReadsNothing u.reading → IsMeasured u count seed s → IsOutcome u s
+bench_outcome u count seed s bench reads a = record {
+  answer = inr (inr (inr (inl (count, seed, bench, reads, a))));
+  opened = λ recover. absurd (recover_not_bench u.words count seed recover bench);
+  kept = λ recover. absurd (recover_not_bench u.words count seed recover bench);
+}
+
+-- the words tell one count and one seed
+pub same_measure : (u : Use) (words : List (List ℕ)) (count seed own last : ℕ) (w : Work) (records : List (List Record)) (o : Opening)
+    → IsBench words count seed → IsBench words own last → MayBeMeasured u count seed w records o → MayBeMeasured u own last w records o
+same_measure u words count seed own last w records o a b may =
+    let same : codes "bench" ∷ decimal count ∷ decimal seed ∷ [] ≡ codes "bench" ∷ decimal own ∷ decimal last ∷ [] = sym a.0 ∙ b.0 in
+    let counts : decimal count ≡ decimal own = ap (λ (l : List (List ℕ)). get_or l 1 []) same in
+    let seeds : decimal seed ≡ decimal last = ap (λ (l : List (List ℕ)). get_or l 2 []) same in
+    subst (λ (n : ℕ). MayBeMeasured u n last w records o) (decimal_injective count own (omega (arith, a.1)) (omega (arith, b.1)) counts)
+    (subst (λ (n : ℕ). MayBeMeasured u count n w records o) (decimal_injective seed last (omega (arith, a.2)) (omega (arith, b.2)) seeds) may)

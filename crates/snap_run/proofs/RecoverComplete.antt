@@ -23,7 +23,7 @@ use Rattle.log_opening.specs.Kept.{logs_said, Holds, AreGiven, IsAsked, AreRefus
 use Rattle.snap_run.specs.Uses.{Use}
 use Rattle.snap_run.specs.Answers.{IsAnswer}
 use Rattle.snap_run.specs.Recoveries.{Tells, IsRecoverable, IsRecoverAnswer}
-use Rattle.snap_run.proofs.Outcomes.{not_both, recover_not_gen}
+use Rattle.snap_run.proofs.Outcomes.{not_both, recover_not_gen, recover_not_bench}
 
 -- what the law refused_is_not_recovered of snap_recover says
 abbrev pub NeverBoth : Type 0
@@ -141,4 +141,5 @@ module _ (laws : RecordLaws) (never : NeverBoth) (u : Use) (logs : List (List Re
   completed_recover s (inl x) = absurd (not_both u.words x.0 x.1 may.recover)
   completed_recover s (inr (inl x)) = recover_completed s x.4
   completed_recover s (inr (inr (inl x))) = absurd (recover_not_gen u.words x.0 x.1 may.recover x.2)
-  completed_recover s (inr (inr (inr x))) = absurd (x.0.2.no_form (inr (inl may.recover)))
+  completed_recover s (inr (inr (inr (inl x)))) = absurd (recover_not_bench u.words x.0 x.1 may.recover x.2)
+  completed_recover s (inr (inr (inr (inr x)))) = absurd (x.0.2.no_form (inr (inl may.recover)))

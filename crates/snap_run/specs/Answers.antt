@@ -9,10 +9,10 @@ use Rattle.snap_report.specs.declared.statuses.Status.TheVariants as status
 use Rattle.snap_work.specs.Works.{Work}
 use Rattle.work_text.specs.Reads.{IsWork, IsFirstWorkFault}
 use Rattle.run_opening.specs.Opens.{MayOpen}
-use Rattle.snap_run.specs.Words.{IsRun, IsRecover, IsGen, IsUsageFault}
+use Rattle.snap_run.specs.Words.{IsRun, IsRecover, IsGen, IsBench, IsUsageFault}
 use Rattle.snap_run.specs.Uses.{Reading, Use}
 use Rattle.run_work.specs.Writings.{Writing, WritesNothing, Writes, WritesFront}
-use Rattle.run_work.specs.Runs.{Ran, IsWorkAnswer}
+use Rattle.run_work.specs.Runs.{Ran, IsWorkAnswer, IsBenchAnswer}
 use Rattle.work_gen.specs.Generated.{generated_text}
 use Rattle.snap_run.specs.Recoveries.{IsRecoverAnswer}
 use Rattle.snap_work.specs.declared.limits.TheConstants.{LONGEST_WORK}
@@ -78,6 +78,15 @@ pub record TakesNoEvent (u : Use) : Type 0 where
   pub trace : WritesNothing u.tracing
   pub devices : u.devices_after ≡ u.devices_before
 
+-- the text of so many transactions that the seed draws stands for a work of as many, of which this holds
+abbrev pub OfGenerated : ℕ → ℕ → (Work → Type 0) → Type 0
+OfGenerated count seed P = (w : Work) × IsWork (generated_text count seed) w × (length w.txs ≡ count) × P w
+
+-- The answers of the command that runs a generated text, by the schedule of seed 0: there was no memory for a work, and
+-- nothing was touched; or it is one of a run of the work.
+abbrev pub IsMeasured : Use → ℕ → ℕ → Status → Type 0
+IsMeasured u count seed s = ((s ≡ status.Memory) × TouchesNothing u) ⊎ OfGenerated count seed (λ w. IsBenchAnswer (ran_of u w 0) s)
+
 -- the words are no form
 abbrev pub IsUsageAnswer : Use → Status → Type 0
 IsUsageAnswer u s = (place : ℕ) × (s ≡ status.Usage place) × IsUsageFault u.words place
@@ -87,7 +96,8 @@ IsAnswer u s =
     ((seed : ℕ) × IsRun u.words seed × IsRunAnswer u seed s)
     ⊎ ((IsRecover u.words × ReadsNothing u.reading × (u.kept ≡ []) × WritesNothing u.tracing × IsRecoverAnswer u.devices_before u.devices_after u.writing s)
     ⊎ (((count seed : ℕ) × IsGen u.words count seed × ReadsNothing u.reading × TakesNoEvent u × IsGenAnswer (generated_text count seed) u.writing s)
-    ⊎ (IsUsageAnswer u s × ReadsNothing u.reading × TouchesNothing u)))
+    ⊎ (((count seed : ℕ) × IsBench u.words count seed × ReadsNothing u.reading × IsMeasured u count seed s)
+    ⊎ (IsUsageAnswer u s × ReadsNothing u.reading × TouchesNothing u))))
 
 -- the call ended before a log was needed
 abbrev pub GetsNoCall : Status → Type 0
@@ -116,3 +126,10 @@ pub record IsUntroubled (u : Use) (input : List ℕ) (w : Work) (records : List 
 pub record IsPrintable (u : Use) : Type 0 where
   pub gen : (count seed : ℕ) × IsGen u.words count seed
   pub sink : ¬ Rose u.writing.faults_before u.writing.faults_after
+
+-- The generated text stands for a work; its logs hold records on which a run of it begins, if any; and no count rises.
+pub record MayBeMeasured (u : Use) (count seed : ℕ) (w : Work) (records : List (List Record)) (o : Opening) : Type 0 where
+  pub work : IsWork (generated_text count seed) w
+  pub opens : MayOpen w.logs w.states u.devices_before u.devices_after records o
+  pub sink : ¬ Rose u.writing.faults_before u.writing.faults_after
+  pub trace : ¬ Rose u.tracing.faults_before u.tracing.faults_after

@@ -19,8 +19,12 @@ IsCountAndSeed name words count seed = (words ≡ name ∷ decimal count ∷ dec
 abbrev pub IsGen : List (List ℕ) → ℕ → ℕ → Type 0
 IsGen words count seed = IsCountAndSeed (codes "gen") words count seed
 
+-- runs that text, and prints the summary of its run
+abbrev pub IsBench : List (List ℕ) → ℕ → ℕ → Type 0
+IsBench words count seed = IsCountAndSeed (codes "bench") words count seed
+
 abbrev pub IsForm : List (List ℕ) → Type 0
-IsForm words = ((seed : ℕ) × IsRun words seed) ⊎ (IsRecover words ⊎ ((count seed : ℕ) × IsGen words count seed))
+IsForm words = ((seed : ℕ) × IsRun words seed) ⊎ (IsRecover words ⊎ (((count seed : ℕ) × IsGen words count seed) ⊎ ((count seed : ℕ) × IsBench words count seed)))
 
 -- some words behind these make them a form
 abbrev pub BeginsForm : List (List ℕ) → Type 0

@@ -6,4 +6,6 @@ pub(crate) enum Command {
     Recover,
     /// Prints the text of so many transactions that the seed draws.
     Gen { count: u32, seed: u64 },
+    /// Runs that text, and prints its summary.
+    Bench { count: u32, seed: u64 },
 }

@@ -4,14 +4,15 @@ ghost use Rattle.run_work.specs.Runs.{IsOfLogs};
 ghost use Rattle.run_work.specs.Writings.{writing_of};
 ghost use Rattle.snap_recover.specs.declared.openings.Opening.{Opening};
 ghost use Rattle.snap_report.specs.declared.statuses.Status.TheVariants as status;
-ghost use Rattle.snap_run.specs.Answers.{IsUntroubled, IsPrintable, GetsNoCall};
+ghost use Rattle.snap_run.specs.Answers.{IsUntroubled, IsPrintable, MayBeMeasured, GetsNoCall};
 ghost use Rattle.snap_run.specs.Outcomes.{IsOutcome};
 ghost use Rattle.snap_run.specs.Recoveries.{IsRecoverable};
 ghost use Rattle.snap_run.specs.Uses.{Use, reading_of, use_of};
-ghost use Rattle.snap_run.specs.Words.{IsRun};
+ghost use Rattle.snap_run.specs.Words.{IsRun, IsBench};
 ghost use Rattle.snap_work.specs.Works.{Work};
 ghost use Rattle.txn_records.specs.declared.records.Record.{Record};
 
+use crate::benches::run_generated;
 use crate::commands::Command;
 use crate::generated::print_generated;
 use crate::recoveries::print_recovered;
@@ -38,8 +39,8 @@ pub struct Outcome<D, O, T> {
 
 /// Does what the words ask for. `run` reads a work text from `input` and runs it on the machine by the schedule of the seed: it
 /// goes on from what the text's logs hold, writes the records of the run there, prints its replies and its end to `out`, and
-/// at last a line of each event to `trace`. The other commands read no input: `recover` prints what the logs recover to, and
-/// `gen` prints a generated text.
+/// at last a line of each event to `trace`. The other commands read no input: `recover` prints what the logs recover to, `gen`
+/// prints a generated text, and `bench` runs one as `run` runs its input, but prints the summary of the run alone.
 pub fn run<I: Source, D: LogDev, O: Sink, T: Sink>(
     alloc: Global,
     words: &[String],
@@ -60,6 +61,9 @@ pub fn run<I: Source, D: LogDev, O: Sink, T: Sink>(
     // Where the output takes it, a generated text is printed, or there is no memory.
     ensures complete_gen { let u : Use = use_of (map string_bytes words.now) (reading_of I.left I.faults input.old input.new) (writing_of O.taken O.faults out result.out) (writing_of T.taken T.faults trace result.trace) result.kept.items (devices_of D.told D.faults logs.items) (devices_of D.told D.faults result.logs.items) in
         IsPrintable u → (result.status ≡ status.Done) ⊎ (result.status ≡ status.Memory) }
+    // Where nothing stands in the way of a generated text, it is run to its end, or there is no memory.
+    ensures complete_bench { let u : Use = use_of (map string_bytes words.now) (reading_of I.left I.faults input.old input.new) (writing_of O.taken O.faults out result.out) (writing_of T.taken T.faults trace result.trace) result.kept.items (devices_of D.told D.faults logs.items) (devices_of D.told D.faults result.logs.items) in
+        (count seed : ℕ) (w : Work) (records : List (List Record)) (o : Opening) → IsBench u.words count seed → MayBeMeasured u count seed w records o → (result.status ≡ status.Done) ⊎ (result.status ≡ status.Memory) }
     // Before the text is accepted, no log gets a call.
     ensures untouched { GetsNoCall result.status → result.logs ≡ logs }
     // Where no event is kept, the trace gets none.
@@ -95,6 +99,8 @@ fn answer<I: Source, D: LogDev, O: Sink, T: Sink>(
     ensures outcome { let u : Use = use_of (map string_bytes words.now) (reading_of I.left I.faults input.old input.new) (writing_of O.taken O.faults out.old out.new) (writing_of T.taken T.faults trace.old trace.new) result.0.items (devices_of D.told D.faults logs.old.items) (devices_of D.told D.faults logs.new.items) in IsOutcome u result.1 }
     ensures opens { let u : Use = use_of (map string_bytes words.now) (reading_of I.left I.faults input.old input.new) (writing_of O.taken O.faults out.old out.new) (writing_of T.taken T.faults trace.old trace.new) result.0.items (devices_of D.told D.faults logs.old.items) (devices_of D.told D.faults logs.new.items) in
         (text : List ℕ) (w : Work) (records : List (List Record)) (o : Opening) → IsUntroubled u text w records o → ¬ IsOfLogs result.1 }
+    ensures opens_bench { let u : Use = use_of (map string_bytes words.now) (reading_of I.left I.faults input.old input.new) (writing_of O.taken O.faults out.old out.new) (writing_of T.taken T.faults trace.old trace.new) result.0.items (devices_of D.told D.faults logs.old.items) (devices_of D.told D.faults logs.new.items) in
+        (count seed : ℕ) (w : Work) (records : List (List Record)) (o : Opening) → IsBench u.words count seed → MayBeMeasured u count seed w records o → ¬ IsOfLogs result.1 }
     ensures untouched { GetsNoCall result.1 → logs.new ≡ logs.old }
     ensures no_trace { result.0.items ≡ [] → trace.new ≡ trace.old }
 {
@@ -104,6 +110,7 @@ fn answer<I: Source, D: LogDev, O: Sink, T: Sink>(
         Ok(Command::Gen { count, seed }) => {
             (Vec::new(alloc), print_generated(alloc, count, seed, out))
         }
+        Ok(Command::Bench { count, seed }) => run_generated(alloc, count, seed, logs, out, trace),
         Err(word) => (Vec::new(alloc), Status::Usage { word }),
     }
 }

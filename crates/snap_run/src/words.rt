@@ -25,6 +25,9 @@ pub(crate) fn read_words(words: &[String]) -> Result<Command, u32>
     if word == "gen" {
         return read_gen(rest);
     }
+    if word == "bench" {
+        return read_bench(rest);
+    }
     Err(0)
 }
 
@@ -75,7 +78,15 @@ fn read_gen(words: &[String]) -> Result<Command, u32>
     Ok(Command::Gen { count, seed })
 }
 
-/// A number of transactions and a seed, behind the name of the command that takes them.
+/// The words behind `bench`: a number of transactions and a seed.
+fn read_bench(words: &[String]) -> Result<Command, u32>
+    ensures { MatchResult result (IsCommand (codes "bench" ∷ map string_bytes words.now)) (IsUsageFault (codes "bench" ∷ map string_bytes words.now)) }
+{
+    let (count, seed) = read_count_and_seed(words)?;
+    Ok(Command::Bench { count, seed })
+}
+
+/// A number of transactions and a seed, behind the name of a command that takes them.
 fn read_count_and_seed(words: &[String]) -> Result<(u32, u64), u32>
     ensures { (name : List ℕ) → TakesCountAndSeed name → MatchResult result (λ x. IsCountAndSeed name (name ∷ map string_bytes words.now) x.0 x.1) (IsUsageFault (name ∷ map string_bytes words.now)) }
 {

@@ -3,7 +3,7 @@ use Rattle.std.proofs.KnownBytes.{Keeps-refl}
 use Rattle.std.specs.Prelude.{string_bytes}
 use Rattle.log_opening.specs.Devices.{devices_of}
 use Rattle.run_work.specs.Writings.{writing_of}
-use Rattle.snap_run.proofs.Outcomes.{usage_outcome, gen_outcome, run_not_gen}
+use Rattle.snap_run.proofs.Outcomes.{usage_outcome, gen_outcome, bench_outcome, run_not_gen, run_not_bench, gen_not_bench, same_measure}
 use Rattle.snap_run.proofs.top.answer.Goals as goal
 use Rattle.snap_run.specs.Commands.{IsCommand}
 use Rattle.snap_run.specs.Uses.{Use, reading_of, use_of}
@@ -36,6 +36,36 @@ returns-in-Ok-Gen-clause-outcome g c =
 pub returns-in-Ok-Gen-clause-opens : goal.returns-in-Ok-Gen-clause-opens
 returns-in-Ok-Gen-clause-opens g c = λ text w records o t.
     absurd (run_not_gen _ t.run.0 c.in-Ok-Gen.count c.in-Ok-Gen.seed t.run.1 (subst (λ (k : Command). IsCommand (map string_bytes c.args.words.now) k) c.in-Ok-Gen.field-0-is c.in-Ok-Gen.ensures))
+
+pub returns-in-Ok-Gen-clause-opens_bench : goal.returns-in-Ok-Gen-clause-opens_bench
+returns-in-Ok-Gen-clause-opens_bench g c = λ count seed w records o bench may.
+    absurd (gen_not_bench _ c.in-Ok-Gen.count c.in-Ok-Gen.seed count seed (subst (λ (k : Command). IsCommand (map string_bytes c.args.words.now) k) c.in-Ok-Gen.field-0-is c.in-Ok-Gen.ensures) bench)
+
+-- ---- a generated text is run
+
+pub run_generated-requires-clause-few : goal.run_generated-requires-clause-few
+run_generated-requires-clause-few g c = (subst (λ (k : Command). IsCommand (map string_bytes c.args.words.now) k) c.in-Ok-Bench.field-0-is c.in-Ok-Bench.ensures).1
+
+pub returns-in-Ok-Bench-clause-outcome : goal.returns-in-Ok-Bench-clause-outcome
+returns-in-Ok-Bench-clause-outcome g c =
+    let words = map string_bytes c.args.words.now in
+    let reading = reading_of g.I.Source.left g.I.Source.faults c.args.input.now c.args.input.now in
+    let u : Use = use_of words reading (writing_of g.O.Sink.taken g.O.Sink.faults c.args.out.now c.run_generated.new.out)
+    (writing_of g.T.Sink.taken g.T.Sink.faults c.args.trace.now c.run_generated.new.trace) c.run_generated.result.0.items
+    (devices_of g.D.LogDev.told g.D.LogDev.faults c.args.logs.now.items) (devices_of g.D.LogDev.told g.D.LogDev.faults c.run_generated.new.logs.items) in
+    bench_outcome u c.in-Ok-Bench.count c.in-Ok-Bench.seed c.run_generated.result.1
+    (subst (λ (k : Command). IsCommand words k) c.in-Ok-Bench.field-0-is c.in-Ok-Bench.ensures) (Keeps-refl _) (c.run_generated.ensures.answer words reading)
+
+pub returns-in-Ok-Bench-clause-opens : goal.returns-in-Ok-Bench-clause-opens
+returns-in-Ok-Bench-clause-opens g c = λ text w records o t.
+    absurd (run_not_bench _ t.run.0 c.in-Ok-Bench.count c.in-Ok-Bench.seed t.run.1 (subst (λ (k : Command). IsCommand (map string_bytes c.args.words.now) k) c.in-Ok-Bench.field-0-is c.in-Ok-Bench.ensures))
+
+pub returns-in-Ok-Bench-clause-opens_bench : goal.returns-in-Ok-Bench-clause-opens_bench
+returns-in-Ok-Bench-clause-opens_bench g c = λ count seed w records o bench may.
+    let words = map string_bytes c.args.words.now in
+    let reading = reading_of g.I.Source.left g.I.Source.faults c.args.input.now c.args.input.now in
+    let own = subst (λ (k : Command). IsCommand words k) c.in-Ok-Bench.field-0-is c.in-Ok-Bench.ensures in
+    c.run_generated.ensures.opens words reading w records o (same_measure _ words count seed c.in-Ok-Bench.count c.in-Ok-Bench.seed w records o bench own may)
 
 -- ---- the words are no form
 

@@ -1,4 +1,4 @@
-use Rattle.snap_run.proofs.Complete.{completed, completed_gen}
+use Rattle.snap_run.proofs.Complete.{completed, completed_gen, completed_bench}
 use Rattle.snap_run.proofs.RecoverComplete.{RecordLaws, completed_recover}
 use Rattle.snap_run.proofs.top.run.Goals as goal
 
@@ -13,3 +13,7 @@ returns-clause-complete_recover g c = λ kept may.
 
 pub returns-clause-complete_gen : goal.returns-clause-complete_gen
 returns-clause-complete_gen g c = λ may. completed_gen _ may c.answer-kept.result.1 c.answer-kept.ensures.outcome.answer
+
+pub returns-clause-complete_bench : goal.returns-clause-complete_bench
+returns-clause-complete_bench g c = λ count seed w records o bench may.
+    completed_bench _ count seed w records o bench may c.answer-kept.result.1 (c.answer-kept.ensures.opens_bench count seed w records o bench may) c.answer-kept.ensures.outcome.answer
