@@ -1,5 +1,7 @@
 -- What a change does to counters.
-use Rattle.std.specs.Prelude.{ℕ, ◌+◌, ◌-◌, ◌%◌, ◌^◌, List, [], ◌∷◌}
+use Rattle.std.specs.Prelude.{◌≡◌, ℕ, ◌+◌, ◌-◌, ◌%◌, ◌^◌, List, [], ◌∷◌}
+use Rattle.turn_rows.specs.declared.counters.Counted.{Counted}
+use Rattle.turn_rows.specs.declared.counters.Counted.TheVariants.{One, Two}
 use Rattle.turn_rows.specs.declared.counters.Counter.{Counter}
 use Rattle.turn_rows.specs.declared.counters.Change.{Change}
 use Rattle.turn_rows.specs.declared.counters.Change.TheVariants.{Add, Move}
@@ -22,6 +24,14 @@ changed (Add part amount) (c ∷ cs) = more c amount ∷ []
 changed (Move from to amount) [] = []
 changed (Move from to amount) (c ∷ []) = []
 changed (Move from to amount) (c ∷ d ∷ cs) = less c amount ∷ more d amount ∷ []
+
+-- it makes these of those
+abbrev pub makes : Change → List Counter → List Counter → Type 0
+makes change old new = new ≡ changed change old
+
+abbrev pub counters_of : Counted → List Counter
+counters_of (One c) = c ∷ []
+counters_of (Two c d) = c ∷ d ∷ []
 
 -- a counter that nothing was added to
 abbrev pub zero_counter : Counter

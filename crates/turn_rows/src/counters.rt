@@ -1,6 +1,6 @@
 ghost use Rattle.std.specs.Prelude.{◌≡◌};
 
-use turn_table::Piece;
+use turn_table::{Makes, Piece};
 
 /// A part that counts, modulo 2^64.
 #[derive(Clone, Copy, Debug, PartialEq, Eq)]
@@ -20,13 +20,24 @@ impl Piece for Counter {
 
     type Event = Change;
 
-    ghost use Rattle.turn_rows.specs.Changes.{touched, changed};
+    ghost use Rattle.turn_rows.specs.Changes.{touched, makes};
 
     ghost footprint = { λ tables change. touched change };
 
-    ghost allowed = { λ tables change counters. Unit {0} };
+    ghost happens = { λ tables change old new. makes change old new };
+}
 
-    ghost effect = { λ tables change counters. changed change counters };
+/// The counters that a change made, in the order in which it names them.
+#[derive(Drop)]
+pub enum Counted {
+    One(Counter),
+    Two(Counter, Counter),
+}
+
+impl Makes<Counter, Change> for Counted {
+    ghost use Rattle.turn_rows.specs.Changes.{counters_of};
+
+    ghost made = { λ counted change. counters_of counted };
 }
 
 impl Counter {

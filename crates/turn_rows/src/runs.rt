@@ -3,7 +3,7 @@ ghost use Rattle.std.specs.Prelude.{◌≡◌, ◌+◌, ◌<◌, ◌≤◌, ℕ,
 ghost use Rattle.turn_table.specs.Runs.{Run};
 ghost use Rattle.turn_table.specs.Words.{opening_of, IsOf, HoldsNothing, splits_of};
 ghost use Rattle.turn_table.specs.declared.limits.TheConstants.{MOST_PARTS, PASSES};
-ghost use Rattle.turn_rows.specs.Changes.{touched, changed, zero_counter};
+ghost use Rattle.turn_rows.specs.Changes.{touched, makes, zero_counter};
 
 use crate::counters::{Change, Counter};
 use crate::workers::{add_once, count_all, is_free_while_held, move_once};
@@ -81,7 +81,7 @@ pub fn closed(
     requires own { All (λ pass. IsOf turns pass.seat) passes.items }
     requires idle { All (λ pass. HoldsNothing pass.seat) passes.items }
     requires all { vec_len passes + sum_by (λ pass. splits_of pass.seat) passes.items ≡ PASSES }
-    ensures { IfOk result (λ end. Run touched (λ change counters. Unit {0}) changed (opening_of turns) end.changes.items end.counters.items) }
+    ensures { IfOk result (λ end. Run touched makes (opening_of turns) end.changes.items end.counters.items) }
 {
     match turns.close(alloc, passes) {
         Ok((_, counters, changes)) => Ok(Ending { counters, changes }),
@@ -108,7 +108,7 @@ fn move_to_last(turns: &Turns<Counter>, pass: &mut Pass<Counter>, count: usize) 
 /// counter 0; the first adds 6 to the last, and moves 2 there from counter 0 where that is another.
 pub fn two_passes(alloc: Global, count: usize) -> Result<(Told, Ending), Memory>
     requires { (0 < count) × (count ≤ MOST_PARTS) }
-    ensures { IfOk result (λ end. Run touched (λ change counters. Unit {0}) changed (replicate count zero_counter) end.1.changes.items end.1.counters.items) }
+    ensures { IfOk result (λ end. Run touched makes (replicate count zero_counter) end.1.changes.items end.1.counters.items) }
 {
     let made = opened(alloc, count)?;
     let (turns, mut first) = made;
@@ -134,7 +134,7 @@ pub fn two_workers<R: Threads + Wait + Sync>(
     alloc: Global,
     times: u64,
 ) -> Result<Ending, Memory>
-    ensures { IfOk result (λ end. Run touched (λ change counters. Unit {0}) changed (replicate 2 zero_counter) end.changes.items end.counters.items) }
+    ensures { IfOk result (λ end. Run touched makes (replicate 2 zero_counter) end.changes.items end.counters.items) }
 {
     let made = opened(alloc, 2)?;
     let (turns, mut first) = made;

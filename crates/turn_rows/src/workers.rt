@@ -5,7 +5,7 @@ ghost use Rattle.turn_table.specs.Words.{IsOf, HoldsNothing, knows, part_of, spl
 ghost use Rattle.turn_table.specs.declared.limits.TheConstants.{MOST_ENTRIES, MOST_PARTS};
 ghost use Rattle.turn_rows.specs.declared.counters.Change.TheVariants.{Add, Move};
 
-use crate::counters::{Change, Counter};
+use crate::counters::{Change, Counted, Counter};
 use std::sync::Wait;
 use std::thread;
 use std::thread::Threads;
@@ -83,6 +83,7 @@ pub fn add_once(
             part: part as u64,
             amount,
         },
+        &Counted::One(counter),
     );
     put_and_rest::<Counter>();
     taken_and_given::<Counter>();
@@ -123,6 +124,7 @@ fn record_move(
             to: to as u64,
             amount,
         },
+        &Counted::Two(giver, taker),
     );
     put_and_rest::<Counter>();
     taken_and_given::<Counter>();

@@ -1,4 +1,4 @@
--- Lists by place: what is held, and the parts, after a value was put or an event had its effect.
+-- Lists by place: what is held, and the parts, after a value was put or an event happened.
 use Rattle.std.proofs.Common.{◌≡◌, ◌≢◌, ℕ, zero, suc, ◌<◌, List, [], ◌∷◌, set, length, Option, Some, None, IsSome, is_some, slice_get, ap, ap₂, sym, subst, refl, ◌∙◌, true≢false, length-set, arith}
 use Rattle.std.proofs.lemmas.Option.{slice_get_within}
 use mathlib.Core.Logic.{dite}

@@ -59,9 +59,9 @@ module _ {P E : Type 0} where
     live = k.live;
   }
 
-module _ {P E : Type 0} (footprint : E → List ℕ) (allowed : E → List P → Type 0) (effect : E → List P → List P) (start : List P) where
+module _ {P E : Type 0} (footprint : E → List ℕ) (happens : E → List P → List P → Type 0) (start : List P) where
   -- no two views hold one turn
-  pub apart : (s : State (Option P) (View P E)) → Kept footprint allowed effect start s → (j l : ℕ) (u v : View P E)
+  pub apart : (s : State (Option P) (View P E)) → Kept footprint happens start s → (j l : ℕ) (u v : View P E)
       → get_elem? s.views j ≡ maybe.some u → get_elem? s.views l ≡ maybe.some v → j ≢ l → (i : ℕ) (p q : P) → at v.held i ≡ Some p → at u.held i ≡ Some q → ⊥
   apart s k j l u v d e n i p q h g =
       let range : i < length start = ((k.each l v e).held i p h).0 in
@@ -73,7 +73,7 @@ module _ {P E : Type 0} (footprint : E → List ℕ) (allowed : E → List P →
       omega arith
 
   -- the word of a held turn is 1
-  pub busy : (s : State (Option P) (View P E)) → Kept footprint allowed effect start s → (j : ℕ) (v : View P E)
+  pub busy : (s : State (Option P) (View P E)) → Kept footprint happens start s → (j : ℕ) (v : View P E)
       → get_elem? s.views j ≡ maybe.some v → (i : ℕ) (p : P) → at v.held i ≡ Some p → slice_index s.words (suc i) ≡ 1
   busy s k j v e i p h =
       let range : i < length start = ((k.each j v e).held i p h).0 in
@@ -84,7 +84,7 @@ module _ {P E : Type 0} (footprint : E → List ℕ) (allowed : E → List P →
       omega arith
 
   -- nobody holds a turn whose word is 0
-  pub untaken : (s : State (Option P) (View P E)) → Kept footprint allowed effect start s → (j : ℕ) (v : View P E)
+  pub untaken : (s : State (Option P) (View P E)) → Kept footprint happens start s → (j : ℕ) (v : View P E)
       → get_elem? s.views j ≡ maybe.some v → (i : ℕ) → i < length start → slice_index s.words (suc i) ≡ 0 → one (at v.held i) ≡ 0
   untaken s k j v e i range z =
       let t = total_one (λ (w : View P E). one (at w.held i)) s.views j v e in
@@ -92,10 +92,10 @@ module _ {P E : Type 0} (footprint : E → List ℕ) (allowed : E → List P →
       omega arith
 
   -- the view v became w
-  pub change : (s : State (Option P) (View P E)) (k : Kept footprint allowed effect start s) (id : ℕ) (v w : View P E)
+  pub change : (s : State (Option P) (View P E)) (k : Kept footprint happens start s) (id : ℕ) (v w : View P E)
       → get_elem? s.views id ≡ maybe.some v
       → (words : List ℕ) (homes : List (maybe.Option (Option P))) (history : List E) (parts : List P)
-      → Run footprint allowed effect start history parts
+      → Run footprint happens start history parts
       → length words ≡ length s.words
       → length homes ≡ length s.homes
       → length parts ≡ length start
@@ -108,7 +108,7 @@ module _ {P E : Type 0} (footprint : E → List ℕ) (allowed : E → List P →
       → ((i : ℕ) → i < length start → slice_index words (suc i) ≡ 0 → (p : P) × (slice_get parts i ≡ Some p) × (get_elem? homes i ≡ maybe.some (maybe.some (Some p))))
       → Knows parts history homes (length start) w
       → ((j : ℕ) (u : View P E) → j ≢ id → get_elem? s.views j ≡ maybe.some u → Knows parts history homes (length start) u)
-      → Kept footprint allowed effect start record { words = words; homes = homes; views = set s.views id w }
+      → Kept footprint happens start record { words = words; homes = homes; views = set s.views id w }
   change s k id v w here words homes history parts run wide deep sized count numbers many weights turn binary free mine others = record {
     history = history;
     parts = parts;

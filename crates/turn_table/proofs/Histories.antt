@@ -4,7 +4,7 @@ use Rattle.std.proofs.lemmas.Option.{slice_get_within}
 use mathlib.Core.Logic.{dite}
 use native.Mathlib.Decide.{ℕ_discrete, dec_le}
 use Rattle.turn_table.specs.Places.{count_if, times, once_below, Stand, AllBefore, Ascending, numbers, replaced}
-use Rattle.turn_table.specs.Runs.{May, made, Run}
+use Rattle.turn_table.specs.Runs.{May, Run}
 
 module _ {E : Type 0} where
   pub times-append : (k : ℕ) (xs ys : List (ℕ × E)) → times k (xs ++ ys) ≡ times k xs + times k ys
@@ -58,15 +58,16 @@ once_more k n =
     (λ l. let a = past_below k (suc n) (omega arith) in let b = past_below k n l in omega arith)
     (λ l. let g = lt_of_not-le l in let a = in_below k (suc n) (omega arith) in let b = in_below k n g in omega arith))
 
-module _ {P E : Type 0} (footprint : E → List ℕ) (allowed : E → List P → Type 0) (effect : E → List P → List P) where
-  pub run_more : (xs : List P) (es : List E) (ys : List P) (e : E)
-      → Run footprint allowed effect xs es ys → May footprint allowed effect (slice_get ys) e
-      → Run footprint allowed effect xs (es ++ e ∷ []) (replaced ys (footprint e) (made footprint allowed effect (slice_get ys) e))
-  run_more xs [] ys e r m = (
-    subst (λ (zs : List P). May footprint allowed effect (slice_get zs) e) (sym r) m,
-    ap (λ (zs : List P). replaced zs (footprint e) (made footprint allowed effect (slice_get zs) e)) r,
+module _ {P E : Type 0} (footprint : E → List ℕ) (happens : E → List P → List P → Type 0) where
+  pub run_more : (xs : List P) (es : List E) (ys : List P) (e : E) (made : List P)
+      → Run footprint happens xs es ys → May footprint happens (slice_get ys) e made
+      → Run footprint happens xs (es ++ e ∷ []) (replaced ys (footprint e) made)
+  run_more xs [] ys e made r m = (
+    made,
+    subst (λ (zs : List P). May footprint happens (slice_get zs) e made) (sym r) m,
+    ap (λ (zs : List P). replaced zs (footprint e) made) r,
   )
-  run_more xs (d ∷ es) ys e r m = (r.0, run_more (replaced xs (footprint d) (made footprint allowed effect (slice_get xs) d)) es ys e r.1 m)
+  run_more xs (d ∷ es) ys e made r m = (r.0, r.1, run_more (replaced xs (footprint d) r.0) es ys e made r.2 m)
 
 module _ {E : Type 0} where
   index_front : (es ys : List (ℕ × E)) (i : ℕ) → i < length es → slice_index (numbers (es ++ ys)) i ≡ slice_index (numbers es) i

@@ -6,7 +6,7 @@ use Rattle.atomic_table.specs.Table.{State, Allows, step, stepped, Act, keeps}
 use Rattle.atomic_table.proofs.Lists.{set_here}
 use Rattle.turn_table.specs.declared.views.View.{View}
 use Rattle.turn_table.specs.Places.{at, one, total, times, once_below, count_if, Stand, AllBefore, Covers, values, replaced, held_after}
-use Rattle.turn_table.specs.Runs.{May, made, Run, Fits}
+use Rattle.turn_table.specs.Runs.{May, Run, Fits}
 use Rattle.turn_table.specs.Views.{noted}
 use Rattle.turn_table.specs.Steps.{recorded}
 use Rattle.turn_table.specs.Rule.{Kept, Knows}
@@ -22,9 +22,9 @@ is_held (Some p) h = refl
 held_before : {P : Type 0} (hs : List (Option P)) (is : List ℕ) (ps : List P) (i : ℕ) (q : P) → Covers (at hs) is → at (held_after hs is ps) i ≡ Some q → IsSome (at hs i)
 held_before hs is ps i q c e = is_held (at hs i) (sym (one_held_after hs is ps i c) ∙ some_is_one (at (held_after hs is ps) i) q e)
 
-module _ {P E : Type 0} (footprint : E → List ℕ) (allowed : E → List P → Type 0) (effect : E → List P → List P) (start : List P) where
+module _ {P E : Type 0} (footprint : E → List ℕ) (happens : E → List P → List P → Type 0) (start : List P) where
   -- the count is far from where it would wrap
-  few : (s : State (Option P) (View P E)) (k : Kept footprint allowed effect start s) → length k.history ≤ 68719476736
+  few : (s : State (Option P) (View P E)) (k : Kept footprint happens start s) → length k.history ≤ 68719476736
   few s k =
       let a = total_le (λ (v : View P E). length v.entries) (λ (v : View P E). v.weight * 4294967296) s.views (λ j v e. (k.each j v e).bound) in
       let b = total_times (λ (v : View P E). v.weight) s.views in
@@ -33,22 +33,20 @@ module _ {P E : Type 0} (footprint : E → List ℕ) (allowed : E → List P →
       let m = k.many in
       omega arith
 
-  noted_kept : (id : ℕ) (v : View P E) (e : E) → length v.entries < v.weight * 4294967296 → May footprint allowed effect (at v.held) e
-      → (s : State (Option P) (View P E)) (k : Kept footprint allowed effect start s) → get_elem? s.views id ≡ maybe.some v
-      → Kept footprint allowed effect start (stepped s 0 ((slice_index s.words 0 + 1) % 2 ^ 64) id [] (noted footprint effect v (slice_index s.words 0) e) keeps)
-  noted_kept id v e room may s k here =
+  noted_kept : (id : ℕ) (v : View P E) (e : E) (ps : List P) → length v.entries < v.weight * 4294967296 → May footprint happens (at v.held) e ps
+      → (s : State (Option P) (View P E)) (k : Kept footprint happens start s) → get_elem? s.views id ≡ maybe.some v
+      → Kept footprint happens start (stepped s 0 ((slice_index s.words 0 + 1) % 2 ^ 64) id [] (noted footprint v (slice_index s.words 0) e ps) keeps)
+  noted_kept id v e ps room may s k here =
       let n = slice_index s.words 0 in
-      let w = noted footprint effect v n e in
+      let w = noted footprint v n e ps in
       let known = k.each id v here in
       let is = footprint e in
       let agree : (i : ℕ) (p : P) → at v.held i ≡ Some p → slice_get k.parts i ≡ Some p = λ i p h. (known.held i p h).1 in
       let same = values_same (at v.held) (slice_get k.parts) is may.0 agree in
-      let allows : May footprint allowed effect (slice_get k.parts) e = (same.1, subst (λ (ps : List P). allowed e ps) (sym same.0) may.1) in
-      let ps = effect e (values (at v.held) is) in
-      let makes : made footprint allowed effect (slice_get k.parts) e ≡ ps = ap (λ (qs : List P). effect e qs) same.0 in
+      let allows : May footprint happens (slice_get k.parts) e ps = (same.1, subst (λ (qs : List P). happens e qs ps) (sym same.0) may.1) in
       let parts = replaced k.parts is ps in
       let history = k.history ++ e ∷ [] in
-      let run = subst (λ (qs : List P). Run footprint allowed effect start history (replaced k.parts is qs)) makes (run_more footprint allowed effect start k.history k.parts e k.run allows) in
+      let run = run_more footprint happens start k.history k.parts e ps k.run allows in
       let small = few s k in
       let count = k.count in
       let step_is : (n + 1) % 2 ^ 64 ≡ n + 1 = mod-eq_of_lt (plus_one n (2 ^ 64) (fits n (length k.history) count small)) in
@@ -56,7 +54,7 @@ module _ {P E : Type 0} (footprint : E → List ℕ) (allowed : E → List P →
       let wide : 0 < length s.words = (let l = k.wide in omega arith) in
       let first : slice_index (set s.words 0 ((n + 1) % 2 ^ 64)) 0 ≡ n + 1 = get_or-set_same s.words 0 ((n + 1) % 2 ^ 64) 0 wide ∙ step_is in
       let others : (i : ℕ) → slice_index (set s.words 0 ((n + 1) % 2 ^ 64)) (suc i) ≡ slice_index s.words (suc i) = λ i. get_or-set_other s.words 0 (suc i) ((n + 1) % 2 ^ 64) 0 (λ c. absurd (omega arith)) in
-      change footprint allowed effect start s k id v w here (set s.words 0 ((n + 1) % 2 ^ 64)) s.homes history parts run
+      change footprint happens start s k id v w here (set s.words 0 ((n + 1) % 2 ^ 64)) s.homes history parts run
       (length-set s.words 0 ((n + 1) % 2 ^ 64))
       refl
       (length-replaced k.parts is ps ∙ k.sized)
@@ -88,7 +86,7 @@ module _ {P E : Type 0} (footprint : E → List ℕ) (allowed : E → List P →
       record {
         held = λ i q g. (
             let o = them.held i q g in
-            let z : one (at v.held i) ≡ 0 = zero_of_none (at v.held i) (λ p h. apart footprint allowed effect start s k j id u v f here ne i p q h g) in
+            let z : one (at v.held i) ≡ 0 = zero_of_none (at v.held i) (λ p h. apart footprint happens start s k j id u v f here ne i p q h g) in
             (o.0, replaced_else v.held k.parts is ps i may.0 z ∙ o.1, o.2));
         stand = stand_longer k.history (e ∷ []) u.entries them.stand;
         bound = them.bound;
@@ -103,18 +101,18 @@ module _ {P E : Type 0} (footprint : E → List ℕ) (allowed : E → List P →
         plus_suc : (a b : ℕ) → a ≡ b + 1 → a ≡ suc b
         plus_suc a b h = omega arith
 
-  pub record_allowed : (facts : View P E → Type 0) (after : View P E → ℕ → View P E) (slots id : ℕ) (v : View P E) (l : List (ℕ × Option P)) (e : E) → l ≡ []
-      → length v.entries < v.weight * 4294967296 → May footprint allowed effect (at v.held) e
-      → ((n : ℕ) → after v n ≡ noted footprint effect v n e)
-      → ((w : View P E) → Fits footprint allowed effect start w.held w.entries → facts w)
-      → Allows (Kept footprint allowed effect start) slots id (v, l) 0 (λ n. (n + 1) % 2 ^ 64) (recorded facts after (step slots 0 1 0 maybe.none) (v, l))
-  record_allowed facts after slots id v l e none room may is told = subst
-      (λ (m : List (ℕ × Option P)). Allows (Kept footprint allowed effect start) slots id (v, m) 0 (λ n. (n + 1) % 2 ^ 64) (recorded facts after (step slots 0 1 0 maybe.none) (v, m)))
+  pub record_allowed : (facts : View P E → Type 0) (after : View P E → ℕ → View P E) (slots id : ℕ) (v : View P E) (l : List (ℕ × Option P)) (e : E) (ps : List P) → l ≡ []
+      → length v.entries < v.weight * 4294967296 → May footprint happens (at v.held) e ps
+      → ((n : ℕ) → after v n ≡ noted footprint v n e ps)
+      → ((w : View P E) → Fits footprint happens start w.held w.entries → facts w)
+      → Allows (Kept footprint happens start) slots id (v, l) 0 (λ n. (n + 1) % 2 ^ 64) (recorded facts after (step slots 0 1 0 maybe.none) (v, l))
+  record_allowed facts after slots id v l e ps none room may is told = subst
+      (λ (m : List (ℕ × Option P)). Allows (Kept footprint happens start) slots id (v, m) 0 (λ n. (n + 1) % 2 ^ 64) (recorded facts after (step slots 0 1 0 maybe.none) (v, m)))
       (sym none)
       (λ s k deep here small.
       let n = slice_index s.words 0 in
-      let w = noted footprint effect v n e in
-      let kept = noted_kept id v e room may s k here in
+      let w = noted footprint v n e ps in
+      let kept = noted_kept id v e ps room may s k here in
       let known = kept.each id w (set_here s.views id w (within s.views id v here)) in (
         w,
         keeps,

@@ -20,15 +20,15 @@ part_there [] i h = absurd (omega arith)
 part_there (x ∷ xs) zero h = (x, refl, refl)
 part_there (x ∷ xs) (suc i) h = part_there xs i (omega arith)
 
-module _ {P E : Type 0} (footprint : E → List ℕ) (allowed : E → List P → Type 0) (effect : E → List P → List P) (start : List P) where
+module _ {P E : Type 0} (footprint : E → List ℕ) (happens : E → List P → List P → Type 0) (start : List P) where
   -- only the views change, and each total stays
-  recast : (s : State (Option P) (View P E)) (k : Kept footprint allowed effect start s) (views : List (View P E))
+  recast : (s : State (Option P) (View P E)) (k : Kept footprint happens start s) (views : List (View P E))
       → ((x : ℕ) → total (λ (v : View P E). times x v.entries) views ≡ total (λ (v : View P E). times x v.entries) s.views)
       → total (λ (v : View P E). length v.entries) views ≡ total (λ (v : View P E). length v.entries) s.views
       → total (λ (v : View P E). v.weight + v.splits) views ≡ total (λ (v : View P E). v.weight + v.splits) s.views
       → ((i : ℕ) → total (λ (v : View P E). one (at v.held i)) views ≡ total (λ (v : View P E). one (at v.held i)) s.views)
       → ((j : ℕ) (v : View P E) → get_elem? views j ≡ maybe.some v → Knows k.parts k.history s.homes (length start) v)
-      → Kept footprint allowed effect start record { words = s.words; homes = s.homes; views = views }
+      → Kept footprint happens start record { words = s.words; homes = s.homes; views = views }
   recast s k views numbers many weights turn each = record {
     history = k.history;
     parts = k.parts;
@@ -55,7 +55,7 @@ module _ {P E : Type 0} (footprint : E → List ℕ) (allowed : E → List P →
     live = λ i p e. absurd (none_is_some p e);
   }
 
-  pub split_allowed : (id : ℕ) (v : View P E) → 0 < v.splits → Splits (Kept footprint allowed effect start) id v (cut v) (fresh 1 0)
+  pub split_allowed : (id : ℕ) (v : View P E) → 0 < v.splits → Splits (Kept footprint happens start) id v (cut v) (fresh 1 0)
   split_allowed id v left s k here =
       let known = k.each id v here in
       recast s k (set s.views id (cut v) ++ fresh 1 0 ∷ [])
@@ -82,7 +82,7 @@ module _ {P E : Type 0} (footprint : E → List ℕ) (allowed : E → List P →
       omega arith
 
   pub join_allowed : (id other : ℕ) (v w : View P E) → ((i : ℕ) (p : P) → at w.held i ≡ Some p → ⊥) → 0 < v.weight
-      → Joins (Kept footprint allowed effect start) id v other w (joined v w) (fresh 0 0)
+      → Joins (Kept footprint happens start) id v other w (joined v w) (fresh 0 0)
   join_allowed id other v w idle weighs s k here differ there =
       let known = k.each id v here in
       let views = set (set s.views id (joined v w)) other (fresh 0 0) in
@@ -112,8 +112,8 @@ module _ {P E : Type 0} (footprint : E → List ℕ) (allowed : E → List P →
 
   -- no turn is held, and each part is at home
   pub opens : (words : List ℕ) (slots : List (Option P)) (n : ℕ) (parts : List P) → words ≡ replicate n 0 → n ≡ length parts + 1 → slots ≡ map Some parts → parts ≡ start
-      → Kept footprint allowed effect start (opening words slots (whole {P = P} {E = E}))
-  opens words slots n parts w m h p = subst (λ (ws : List ℕ). Kept footprint allowed effect start (opening ws slots whole)) (sym (w ∙ ap (λ (k : ℕ). replicate k 0) (one_more n (length parts) (length start) m (ap (λ (xs : List P). length xs) p)))) (subst (λ (xs : List (Option P)). Kept footprint allowed effect start (opening (replicate (suc (length start)) 0) xs whole)) (sym (h ∙ ap (map Some) p)) (record {
+      → Kept footprint happens start (opening words slots (whole {P = P} {E = E}))
+  opens words slots n parts w m h p = subst (λ (ws : List ℕ). Kept footprint happens start (opening ws slots whole)) (sym (w ∙ ap (λ (k : ℕ). replicate k 0) (one_more n (length parts) (length start) m (ap (λ (xs : List P). length xs) p)))) (subst (λ (xs : List (Option P)). Kept footprint happens start (opening (replicate (suc (length start)) 0) xs whole)) (sym (h ∙ ap (map Some) p)) (record {
     history = [];
     parts = start;
     run = refl;

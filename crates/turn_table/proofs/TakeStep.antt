@@ -16,17 +16,17 @@ use Rattle.turn_table.specs.Rule.{Kept, Knows}
 use Rattle.turn_table.proofs.ByPlace.{put_here, put_else, some_is_one}
 use Rattle.turn_table.proofs.Changes.{one_out, within, word_here, word_else, word_first, word_again, rehomed, untaken, change}
 
-module _ {P E : Type 0} (footprint : E → List ℕ) (allowed : E → List P → Type 0) (effect : E → List P → List P) (start : List P) where
+module _ {P E : Type 0} (footprint : E → List ℕ) (happens : E → List P → List P → Type 0) (start : List P) where
   -- the turn was free
   taken : (id part : ℕ) (v : View P E) (p : P) → part < length start → v.hand ≡ 0 → 0 < v.weight
-      → (s : State (Option P) (View P E)) (k : Kept footprint allowed effect start s) → get_elem? s.views id ≡ maybe.some v
+      → (s : State (Option P) (View P E)) (k : Kept footprint happens start s) → get_elem? s.views id ≡ maybe.some v
       → slice_index s.words (suc part) ≡ 0 → slice_get k.parts part ≡ Some p
-      → Kept footprint allowed effect start (stepped s (suc part) 1 id [] (handed (gained v part p) (suc part)) (takes part (Some p)))
+      → Kept footprint happens start (stepped s (suc part) 1 id [] (handed (gained v part p) (suc part)) (takes part (Some p)))
   taken id part v p range rest weighs s k here z is =
       let w = handed (gained v part p) (suc part) in
       let known = k.each id v here in
       let wide : suc part < length s.words = (let l = k.wide in omega arith) in
-      change footprint allowed effect start s k id v w here (set s.words (suc part) 1) (set s.homes part maybe.none) k.history k.parts k.run
+      change footprint happens start s k id v w here (set s.words (suc part) 1) (set s.homes part maybe.none) k.history k.parts k.run
       (length-set s.words (suc part) 1)
       (length-set s.homes part maybe.none)
       k.sized
@@ -39,7 +39,7 @@ module _ {P E : Type 0} (footprint : E → List ℕ) (allowed : E → List P →
       (λ e.
       let a : one (at (put_at v.held part (Some p)) i) ≡ 1 = ap (λ (j : ℕ). one (at (put_at v.held part (Some p)) j)) e ∙ ap one (put_here v.held part (Some p)) in
       let b : slice_index s.words (suc i) ≡ 0 = ap (λ (j : ℕ). slice_index s.words (suc j)) e ∙ z in
-      let c = untaken footprint allowed effect start s k id v here i h b in
+      let c = untaken footprint happens start s k id v here i h b in
       let d = word_here s.words part i 1 e wide in
       omega arith)
       (λ ne.
@@ -77,7 +77,7 @@ module _ {P E : Type 0} (footprint : E → List ℕ) (allowed : E → List P →
       (λ d. absurd (
       let b : slice_index s.words (suc i) ≡ 0 = ap (λ (m : ℕ). slice_index s.words (suc m)) d ∙ z in
       let h : i < length start = omega arith in
-      let c = untaken footprint allowed effect start s k j u e i h b in
+      let c = untaken footprint happens start s k j u e i h b in
       let o = some_is_one (at u.held i) q g in
       omega arith))
       (λ ne. set_else s.homes part i maybe.none ne ∙ home)))
@@ -85,11 +85,11 @@ module _ {P E : Type 0} (footprint : E → List ℕ) (allowed : E → List P →
   -- the turn was held
   pub still : (id x : ℕ) (v w : View P E)
       → (w.held ≡ v.held) → (w.entries ≡ v.entries) → (w.weight ≡ v.weight) → (w.splits ≡ v.splits) → (w.hand ≡ v.hand)
-      → (s : State (Option P) (View P E)) (k : Kept footprint allowed effect start s) → get_elem? s.views id ≡ maybe.some v
-      → Kept footprint allowed effect start record { words = set s.words x (slice_index s.words x); homes = s.homes; views = set s.views id w }
+      → (s : State (Option P) (View P E)) (k : Kept footprint happens start s) → get_elem? s.views id ≡ maybe.some v
+      → Kept footprint happens start record { words = set s.words x (slice_index s.words x); homes = s.homes; views = set s.views id w }
   still id x v w held entries weight splits hand s k here =
       let known = k.each id v here in
-      change footprint allowed effect start s k id v w here (set s.words x (slice_index s.words x)) s.homes k.history k.parts k.run
+      change footprint happens start s k id v w here (set s.words x (slice_index s.words x)) s.homes k.history k.parts k.run
       (length-set s.words x (slice_index s.words x))
       refl
       k.sized
@@ -109,8 +109,8 @@ module _ {P E : Type 0} (footprint : E → List ℕ) (allowed : E → List P →
       (λ j u n e. k.each j u e)
 
   take_next : (facts : View P E → Type 0) (slots id part : ℕ) (v : View P E) → part < length start → v.hand ≡ 0 → 0 < v.weight
-      → ((w : View P E) → Fits footprint allowed effect start w.held w.entries → facts w)
-      → Allows (Kept footprint allowed effect start) slots id (v, []) (suc part) (λ n. either (eqb n 0) 1 n) (took facts (step slots (suc part) 0 1 maybe.none) (v, []))
+      → ((w : View P E) → Fits footprint happens start w.held w.entries → facts w)
+      → Allows (Kept footprint happens start) slots id (v, []) (suc part) (λ n. either (eqb n 0) 1 n) (took facts (step slots (suc part) 0 1 maybe.none) (v, []))
   take_next facts slots id part v range rest weighs told s k deep here small = dite
       (ℕ_discrete (slice_index s.words (suc part)) 0)
       (λ z.
@@ -123,7 +123,7 @@ module _ {P E : Type 0} (footprint : E → List ℕ) (allowed : E → List P →
         takes part (Some p),
         f.2,
         subst
-            (λ (b : Bool). Kept footprint allowed effect start (stepped s (suc part) (either b 1 (slice_index s.words (suc part))) id [] w (takes part (Some p))))
+            (λ (b : Bool). Kept footprint happens start (stepped s (suc part) (either b 1 (slice_index s.words (suc part))) id [] w (takes part (Some p))))
             (sym (eq-eqb (slice_index s.words (suc part)) 0 z))
             kept,
         (λ i h. (
@@ -142,20 +142,20 @@ module _ {P E : Type 0} (footprint : E → List ℕ) (allowed : E → List P →
         keeps,
         tt,
         subst
-            (λ (b : Bool). Kept footprint allowed effect start (stepped s (suc part) (either b 1 (slice_index s.words (suc part))) id [] (refused v) keeps))
+            (λ (b : Bool). Kept footprint happens start (stepped s (suc part) (either b 1 (slice_index s.words (suc part))) id [] (refused v) keeps))
             (sym (ne_eqb (slice_index s.words (suc part)) 0 ne))
             (still id (suc part) v (refused v) refl refl refl refl refl s k here),
         (λ i h. ((λ z. absurd (ne z)), (λ m. refl))),
       ))
 
   pub take_allowed : (facts : View P E → Type 0) (slots id x part : ℕ) (v : View P E) (l : List (ℕ × Option P)) → x ≡ suc part → l ≡ [] → part < length start → v.hand ≡ 0 → 0 < v.weight
-      → ((w : View P E) → Fits footprint allowed effect start w.held w.entries → facts w)
-      → Allows (Kept footprint allowed effect start) slots id (v, l) x (λ n. either (eqb n 0) 1 n) (took facts (step slots x 0 1 maybe.none) (v, l))
+      → ((w : View P E) → Fits footprint happens start w.held w.entries → facts w)
+      → Allows (Kept footprint happens start) slots id (v, l) x (λ n. either (eqb n 0) 1 n) (took facts (step slots x 0 1 maybe.none) (v, l))
   take_allowed facts slots id x part v l e none range rest weighs told =
       subst
-      (λ (y : ℕ). Allows (Kept footprint allowed effect start) slots id (v, l) y (λ n. either (eqb n 0) 1 n) (took facts (step slots y 0 1 maybe.none) (v, l)))
+      (λ (y : ℕ). Allows (Kept footprint happens start) slots id (v, l) y (λ n. either (eqb n 0) 1 n) (took facts (step slots y 0 1 maybe.none) (v, l)))
       (sym e)
       (subst
-      (λ (m : List (ℕ × Option P)). Allows (Kept footprint allowed effect start) slots id (v, m) (suc part) (λ n. either (eqb n 0) 1 n) (took facts (step slots (suc part) 0 1 maybe.none) (v, m)))
+      (λ (m : List (ℕ × Option P)). Allows (Kept footprint happens start) slots id (v, m) (suc part) (λ n. either (eqb n 0) 1 n) (took facts (step slots (suc part) 0 1 maybe.none) (v, m)))
       (sym none)
       (take_next facts slots id part v range rest weighs told))

@@ -17,17 +17,17 @@ use Rattle.turn_table.proofs.Changes.{none_out, one_out, same_part, word_here, w
 set_at : {A : Type 0} (l : List A) (i j : ℕ) (a : A) → j ≡ i → i < length l → get_elem? (set l i a) j ≡ maybe.some a
 set_at l i j a e h = ap (λ (k : ℕ). get_elem? (set l i a) k) e ∙ set_here l i a h
 
-module _ {P E : Type 0} (footprint : E → List ℕ) (allowed : E → List P → Type 0) (effect : E → List P → List P) (start : List P) where
+module _ {P E : Type 0} (footprint : E → List ℕ) (happens : E → List P → List P → Type 0) (start : List P) where
   -- a load of the turn of a held part, with which its slot goes or comes
   moved : (id part : ℕ) (v : View P E) (p : P) (hand : ℕ) (x : maybe.Option (Option P)) → at v.held part ≡ Some p
-      → (s : State (Option P) (View P E)) (k : Kept footprint allowed effect start s) → get_elem? s.views id ≡ maybe.some v
+      → (s : State (Option P) (View P E)) (k : Kept footprint happens start s) → get_elem? s.views id ≡ maybe.some v
       → ((i : ℕ) (q : P) → at v.held i ≡ Some q → hand ≢ suc i → get_elem? (set s.homes part x) i ≡ maybe.some (maybe.some None))
       → ((j : ℕ) (u : View P E) → j ≢ id → get_elem? s.views j ≡ maybe.some u → (i : ℕ) (q : P) → at u.held i ≡ Some q → get_elem? s.homes i ≡ maybe.some (maybe.some None) → get_elem? (set s.homes part x) i ≡ maybe.some (maybe.some None))
-      → Kept footprint allowed effect start record { words = set s.words (suc part) (slice_index s.words (suc part)); homes = set s.homes part x; views = set s.views id (handed v hand) }
+      → Kept footprint happens start record { words = set s.words (suc part) (slice_index s.words (suc part)); homes = set s.homes part x; views = set s.views id (handed v hand) }
   moved id part v p hand x holds s k here mine others =
       let w = handed v hand in
       let known = k.each id v here in
-      change footprint allowed effect start s k id v w here (set s.words (suc part) (slice_index s.words (suc part))) (set s.homes part x) k.history k.parts k.run
+      change footprint happens start s k id v w here (set s.words (suc part) (slice_index s.words (suc part))) (set s.homes part x) k.history k.parts k.run
       (length-set s.words (suc part) (slice_index s.words (suc part)))
       (length-set s.homes part x)
       k.sized
@@ -38,7 +38,7 @@ module _ {P E : Type 0} (footprint : E → List ℕ) (allowed : E → List P →
       (λ i h. (let d = word_again s.words (suc part) (suc i) in omega arith))
       (λ i h. (let d = word_again s.words (suc part) (suc i) in let b = k.binary i h in omega arith))
       (λ i h f.
-      let b = busy footprint allowed effect start s k id v here part p holds in
+      let b = busy footprint happens start s k id v here part p holds in
       let z : slice_index s.words (suc i) ≡ 0 = sym (word_again s.words (suc part) (suc i)) ∙ f in
       let ne : i ≢ part = λ e. (let q : slice_index s.words (suc i) ≡ slice_index s.words (suc part) = ap (λ (j : ℕ). slice_index s.words (suc j)) e in omega arith) in
       let o = k.free i h z in
@@ -52,13 +52,13 @@ module _ {P E : Type 0} (footprint : E → List ℕ) (allowed : E → List P →
       (λ j u n e. rehomed k.parts k.history s.homes (set s.homes part x) (length start) u (k.each j u e) (others j u n e))
 
   pub lay_allowed : (slots id x part : ℕ) (v : View P E) (l : List (ℕ × Option P)) (p : P) → x ≡ suc part → l ≡ (part, None) ∷ [] → at v.held part ≡ Some p → v.hand ≡ suc part
-      → Allows (Kept footprint allowed effect start) slots id (v, l) x (λ n. n) (laid_down (step slots x 0 0 maybe.none) (v, l))
+      → Allows (Kept footprint happens start) slots id (v, l) x (λ n. n) (laid_down (step slots x 0 0 maybe.none) (v, l))
   lay_allowed slots id x part v l p e out holds hand =
       subst
-      (λ (y : ℕ). Allows (Kept footprint allowed effect start) slots id (v, l) y (λ n. n) (laid_down (step slots y 0 0 maybe.none) (v, l)))
+      (λ (y : ℕ). Allows (Kept footprint happens start) slots id (v, l) y (λ n. n) (laid_down (step slots y 0 0 maybe.none) (v, l)))
       (sym e)
       (subst
-      (λ (m : List (ℕ × Option P)). Allows (Kept footprint allowed effect start) slots id (v, m) (suc part) (λ n. n) (laid_down (step slots (suc part) 0 0 maybe.none) (v, m)))
+      (λ (m : List (ℕ × Option P)). Allows (Kept footprint happens start) slots id (v, m) (suc part) (λ n. n) (laid_down (step slots (suc part) 0 0 maybe.none) (v, m)))
       (sym out)
       (λ s k deep here small.
       let known = k.each id v here in
@@ -79,13 +79,13 @@ module _ {P E : Type 0} (footprint : E → List ℕ) (allowed : E → List P →
       )))
 
   pub pick_allowed : (slots id x part : ℕ) (v : View P E) (l : List (ℕ × Option P)) (p : P) → x ≡ suc part → l ≡ [] → at v.held part ≡ Some p → v.hand ≡ 0
-      → Allows (Kept footprint allowed effect start) slots id (v, l) x (λ n. n) (picked_up (step slots x 0 0 maybe.none) (v, l))
+      → Allows (Kept footprint happens start) slots id (v, l) x (λ n. n) (picked_up (step slots x 0 0 maybe.none) (v, l))
   pick_allowed slots id x part v l p e none holds hand =
       subst
-      (λ (y : ℕ). Allows (Kept footprint allowed effect start) slots id (v, l) y (λ n. n) (picked_up (step slots y 0 0 maybe.none) (v, l)))
+      (λ (y : ℕ). Allows (Kept footprint happens start) slots id (v, l) y (λ n. n) (picked_up (step slots y 0 0 maybe.none) (v, l)))
       (sym e)
       (subst
-      (λ (m : List (ℕ × Option P)). Allows (Kept footprint allowed effect start) slots id (v, m) (suc part) (λ n. n) (picked_up (step slots (suc part) 0 0 maybe.none) (v, m)))
+      (λ (m : List (ℕ × Option P)). Allows (Kept footprint happens start) slots id (v, m) (suc part) (λ n. n) (picked_up (step slots (suc part) 0 0 maybe.none) (v, m)))
       (sym none)
       (λ s k deep here small.
       let known = k.each id v here in (
@@ -98,21 +98,21 @@ module _ {P E : Type 0} (footprint : E → List ℕ) (allowed : E → List P →
             set_else s.homes part i maybe.none other ∙ (known.held i q g).2 (λ m. absurd (omega arith)))
             (λ j u n f i q g home. dite
             (ℕ_discrete i part)
-            (λ d. absurd (apart footprint allowed effect start s k j id u v f here n part p q holds (ap (λ (m : ℕ). at u.held m) (sym d) ∙ g)))
+            (λ d. absurd (apart footprint happens start s k j id u v f here n part p q holds (ap (λ (m : ℕ). at u.held m) (sym d) ∙ g)))
             (λ other. set_else s.homes part i maybe.none other ∙ home)),
         (λ i h. ap (λ (m : ℕ). one_out (handed v (suc m)) m None) (same_part part i h)),
       )))
 
   freed : (id part : ℕ) (v : View P E) (p : P) → at v.held part ≡ Some p → v.hand ≡ suc part
-      → (s : State (Option P) (View P E)) (k : Kept footprint allowed effect start s) → get_elem? s.views id ≡ maybe.some v
-      → Kept footprint allowed effect start record { words = set s.words (suc part) 0; homes = set s.homes part (maybe.some (Some p)); views = set s.views id (handed (lost v part) 0) }
+      → (s : State (Option P) (View P E)) (k : Kept footprint happens start s) → get_elem? s.views id ≡ maybe.some v
+      → Kept footprint happens start record { words = set s.words (suc part) 0; homes = set s.homes part (maybe.some (Some p)); views = set s.views id (handed (lost v part) 0) }
   freed id part v p holds hand s k here =
       let w = handed (lost v part) 0 in
       let known = k.each id v here in
       let range : part < length start = (known.held part p holds).0 in
       let wide : suc part < length s.words = (let l = k.wide in omega arith) in
       let deep : part < length s.homes = (let d = k.deep in omega arith) in
-      change footprint allowed effect start s k id v w here (set s.words (suc part) 0) (set s.homes part (maybe.some (Some p))) k.history k.parts k.run
+      change footprint happens start s k id v w here (set s.words (suc part) 0) (set s.homes part (maybe.some (Some p))) k.history k.parts k.run
       (length-set s.words (suc part) 0)
       (length-set s.homes part (maybe.some (Some p)))
       k.sized
@@ -124,7 +124,7 @@ module _ {P E : Type 0} (footprint : E → List ℕ) (allowed : E → List P →
       (ℕ_discrete i part)
       (λ e.
       let a : one (at (put_at v.held part None) i) ≡ 0 = ap (λ (j : ℕ). one (at (put_at v.held part None) j)) e ∙ ap one (put_here v.held part None) in
-      let b : slice_index s.words (suc i) ≡ 1 = ap (λ (j : ℕ). slice_index s.words (suc j)) e ∙ busy footprint allowed effect start s k id v here part p holds in
+      let b : slice_index s.words (suc i) ≡ 1 = ap (λ (j : ℕ). slice_index s.words (suc j)) e ∙ busy footprint happens start s k id v here part p holds in
       let c : one (at v.held i) ≡ 1 = ap (λ (j : ℕ). one (at v.held j)) e ∙ some_is_one (at v.held part) p holds in
       let d = word_here s.words part i 0 e wide in
       omega arith)
@@ -155,17 +155,17 @@ module _ {P E : Type 0} (footprint : E → List ℕ) (allowed : E → List P →
       })
       (λ j u n e. rehomed k.parts k.history s.homes (set s.homes part (maybe.some (Some p))) (length start) u (k.each j u e) (λ i q g home. dite
       (ℕ_discrete i part)
-      (λ d. absurd (apart footprint allowed effect start s k j id u v e here n part p q holds (ap (λ (m : ℕ). at u.held m) (sym d) ∙ g)))
+      (λ d. absurd (apart footprint happens start s k j id u v e here n part p q holds (ap (λ (m : ℕ). at u.held m) (sym d) ∙ g)))
       (λ ne. set_else s.homes part i (maybe.some (Some p)) ne ∙ home)))
 
   pub give_allowed : (slots id x part : ℕ) (v : View P E) (l : List (ℕ × Option P)) (p : P) → x ≡ suc part → l ≡ (part, Some p) ∷ [] → at v.held part ≡ Some p → v.hand ≡ suc part
-      → Allows (Kept footprint allowed effect start) slots id (v, l) x (λ n. 0) (λ n. gave (step slots x 0 0 maybe.none) (v, l) 0)
+      → Allows (Kept footprint happens start) slots id (v, l) x (λ n. 0) (λ n. gave (step slots x 0 0 maybe.none) (v, l) 0)
   give_allowed slots id x part v l p e out holds hand =
       subst
-      (λ (y : ℕ). Allows (Kept footprint allowed effect start) slots id (v, l) y (λ n. 0) (λ n. gave (step slots y 0 0 maybe.none) (v, l) 0))
+      (λ (y : ℕ). Allows (Kept footprint happens start) slots id (v, l) y (λ n. 0) (λ n. gave (step slots y 0 0 maybe.none) (v, l) 0))
       (sym e)
       (subst
-      (λ (m : List (ℕ × Option P)). Allows (Kept footprint allowed effect start) slots id (v, m) (suc part) (λ n. 0) (λ n. gave (step slots (suc part) 0 0 maybe.none) (v, m) 0))
+      (λ (m : List (ℕ × Option P)). Allows (Kept footprint happens start) slots id (v, m) (suc part) (λ n. 0) (λ n. gave (step slots (suc part) 0 0 maybe.none) (v, m) 0))
       (sym out)
       (λ s k deep here small. (
         handed (lost v part) 0,

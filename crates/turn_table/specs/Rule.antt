@@ -20,12 +20,12 @@ pub record Knows {P E : Type 0} (parts : List P) (history : List E) (homes : Lis
   -- a view without weight holds nothing
   pub live : (i : ℕ) (p : P) → at v.held i ≡ Some p → 0 < v.weight
 
-module _ {P E : Type 0} (footprint : E → List ℕ) (allowed : E → List P → Type 0) (effect : E → List P → List P) where
+module _ {P E : Type 0} (footprint : E → List ℕ) (happens : E → List P → List P → Type 0) where
   pub record Kept (start : List P) (s : State (Option P) (View P E)) : Type 0 where
     pub history : List E
     pub parts : List P
     -- the history is a run from the opening parts
-    pub run : Run footprint allowed effect start history parts
+    pub run : Run footprint happens start history parts
     pub wide : length s.words ≡ suc (length start)
     pub deep : length s.homes ≡ length start
     pub sized : length parts ≡ length start

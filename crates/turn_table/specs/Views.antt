@@ -2,7 +2,7 @@
 use Rattle.std.specs.Prelude.{ℕ, ◌+◌, ◌-◌, List, [], ◌∷◌, ◌++◌, Option, Some, None}
 use Rattle.turn_table.specs.declared.views.View.{View}
 use Rattle.turn_table.specs.declared.limits.TheConstants.{PASSES}
-use Rattle.turn_table.specs.Places.{at, put_at, values, held_after}
+use Rattle.turn_table.specs.Places.{put_at, held_after}
 
 module _ {P E : Type 0} where
   -- a view of this weight with so many splits left, which holds nothing and has no entry
@@ -37,7 +37,7 @@ module _ {P E : Type 0} where
   abbrev pub joined : View P E → View P E → View P E
   joined v w = record { held = v.held; entries = v.entries ++ w.entries; weight = v.weight + w.weight; splits = v.splits + w.splits; hand = v.hand; refusals = v.refusals + w.refusals }
 
-module _ {P E : Type 0} (footprint : E → List ℕ) (effect : E → List P → List P) where
-  -- the event has got number n, and its effect on the parts of its footprint
-  abbrev pub noted : View P E → ℕ → E → View P E
-  noted v n e = record { held = held_after v.held (footprint e) (effect e (values (at v.held) (footprint e))); entries = v.entries ++ (n, e) ∷ []; weight = v.weight; splits = v.splits; hand = v.hand; refusals = v.refusals }
+module _ {P E : Type 0} (footprint : E → List ℕ) where
+  -- the event has got number n, and has made these values of the parts of its footprint
+  abbrev pub noted : View P E → ℕ → E → List P → View P E
+  noted v n e made = record { held = held_after v.held (footprint e) made; entries = v.entries ++ (n, e) ∷ []; weight = v.weight; splits = v.splits; hand = v.hand; refusals = v.refusals }

@@ -21,7 +21,7 @@ pub use held::{Held, Lease};
 pub use laws::{put_and_rest, taken_and_given};
 pub use limits::{MOST_ENTRIES, MOST_PARTS, PASSES};
 pub use passes::Pass;
-pub use pieces::Piece;
+pub use pieces::{Makes, Piece};
 pub use steps::RoomNo;
 pub use turns::Turns;
 pub use views::View;

@@ -10,9 +10,11 @@ pub trait Piece: Drop {
     // The numbers of the parts that an event touches.
     ghost footprint: { Self.Tables → Self.Event → List ℕ };
 
-    // Whether the event is allowed where its footprint has these values.
-    ghost allowed: { Self.Tables → Self.Event → List Self → Type 0 };
+    // Whether the event may happen where its footprint has the first values, and make the second of them.
+    ghost happens: { Self.Tables → Self.Event → List Self → List Self → Type 0 };
+}
 
-    // The values that it makes of them.
-    ghost effect: { Self.Tables → Self.Event → List Self → List Self };
+/// What tells which values an event made of the parts of its footprint, in the footprint's order.
+pub trait Makes<P, E> {
+    ghost made: { Self → E → List P };
 }

@@ -22,7 +22,7 @@ impl<P: Piece> TableRule<Option<P>, View<P, P::Event>, Start<P, P::Tables>> for 
     ghost use Rattle.turn_table.specs.Rule.{Kept};
     ghost use Rattle.turn_table.specs.Views.{whole};
 
-    ghost holds = { λ key. Kept (P.footprint key.tables.value) (P.allowed key.tables.value) (P.effect key.tables.value) key.parts.value.items };
+    ghost holds = { λ key. Kept (P.footprint key.tables.value) (P.happens key.tables.value) key.parts.value.items };
 
     ghost first = { λ key. whole };
 }

@@ -9,7 +9,7 @@ ghost use Rattle.turn_table.specs.declared.limits.TheConstants.{MOST_ENTRIES};
 use crate::held::Held;
 use crate::limits::MOST_ENTRIES;
 use crate::passes::Pass;
-use crate::pieces::Piece;
+use crate::pieces::{Makes, Piece};
 use crate::rule::{GiveBack, LayDown, PickUp, Record, Shares, Take, Told};
 use crate::turns::Turns;
 use crate::views::View;
@@ -62,7 +62,7 @@ impl<P: Piece> Turns<P> {
         ensures own { IsOf self.now pass.new.seat }
         ensures some { IfSome result (λ h. (part_of h ≡ part) × (knows pass.new.seat ≡ gained (knows pass.old.seat) part (value_of h))) }
         ensures value { IfSome result (λ h. at (knows pass.new.seat).held part ≡ Some (value_of h)) }
-        ensures fits { IfSome result (λ h. Fits (P.footprint (tables_of self.now)) (P.allowed (tables_of self.now)) (P.effect (tables_of self.now)) (opening_of self.now) (knows pass.new.seat).held pass.new.entries.items) }
+        ensures fits { IfSome result (λ h. Fits (P.footprint (tables_of self.now)) (P.happens (tables_of self.now)) (opening_of self.now) (knows pass.new.seat).held pass.new.entries.items) }
         ensures none { IfNone result (knows pass.new.seat ≡ refused (knows pass.old.seat)) }
         ensures entries { pass.new.entries ≡ pass.old.entries }
     {
@@ -78,7 +78,7 @@ impl<P: Piece> Turns<P> {
         requires own { IsOf self.now seat.old }
         requires part { part < self.now.parts }
         requires rest { (seat.old.me.1 ≡ []) × ((knows seat.old).hand ≡ 0) × (0 < (knows seat.old).weight) }
-        requires told { (w : View P P.Event) → Fits (P.footprint (tables_of self.now)) (P.allowed (tables_of self.now)) (P.effect (tables_of self.now)) (opening_of self.now) w.held w.entries → W.facts w }
+        requires told { (w : View P P.Event) → Fits (P.footprint (tables_of self.now)) (P.happens (tables_of self.now)) (opening_of self.now) w.held w.entries → W.facts w }
         ensures own { seat.new.table_id ≡ seat.old.table_id }
         ensures some { IfSome result (λ p. (seat.new.me ≡ (gained (knows seat.old) part p, [])) × W.facts (gained (knows seat.old) part p)) }
         ensures value { IfSome result (λ p. at (knows seat.new).held part ≡ Some p) }
@@ -110,39 +110,46 @@ impl<P: Piece> Turns<P> {
         Ok(())
     }
 
-    /// Records an event whose parts this pass holds, and gives its number.
-    pub fn record(&self, pass: &mut Pass<P>, event: P::Event) -> u64
+    /// Records an event whose parts this pass holds, with the values that it made of them. Gives its number.
+    pub fn record<M: Makes<P, P::Event>>(
+        &self,
+        pass: &mut Pass<P>,
+        event: P::Event,
+        values: &M,
+    ) -> u64
         requires own { IsOf self.now pass.old.seat }
         requires room { (vec_len pass.old.entries < vec_capacity pass.old.entries) × (vec_len pass.old.entries < MOST_ENTRIES) }
-        requires held { May (P.footprint (tables_of self.now)) (P.allowed (tables_of self.now)) (P.effect (tables_of self.now)) (at (knows pass.old.seat).held) event }
+        requires held { May (P.footprint (tables_of self.now)) (P.happens (tables_of self.now)) (at (knows pass.old.seat).held) event (M.made values.now event) }
         ensures own { IsOf self.now pass.new.seat }
         ensures entry { pass.new.entries.items ≡ pass.old.entries.items ++ (result, event) ∷ [] }
         ensures later { AllBefore result pass.old.entries.items }
-        ensures view { knows pass.new.seat ≡ noted (P.footprint (tables_of self.now)) (P.effect (tables_of self.now)) (knows pass.old.seat) result event }
-        ensures fits { Fits (P.footprint (tables_of self.now)) (P.allowed (tables_of self.now)) (P.effect (tables_of self.now)) (opening_of self.now) (knows pass.new.seat).held pass.new.entries.items }
+        ensures view { knows pass.new.seat ≡ noted (P.footprint (tables_of self.now)) (knows pass.old.seat) result event (M.made values.now event) }
+        ensures fits { Fits (P.footprint (tables_of self.now)) (P.happens (tables_of self.now)) (opening_of self.now) (knows pass.new.seat).held pass.new.entries.items }
     {
-        let number = self.record_told::<Brand>(&mut pass.seat, &event);
+        let number = self.record_told::<Brand, M>(&mut pass.seat, &event, values);
         pass.entries.push_reserved((number, event));
         number
     }
 
-    fn record_told<W: Told<P, P::Event>>(
+    fn record_told<W: Told<P, P::Event>, M: Makes<P, P::Event>>(
         &self,
         seat: &mut Seat<Option<P>, View<P, P::Event>>,
         event: &P::Event,
+        values: &M,
     ) -> u64
         requires own { IsOf self.now seat.old }
         requires rest { seat.old.me.1 ≡ [] }
         requires room { length (knows seat.old).entries < (knows seat.old).weight * MOST_ENTRIES }
-        requires held { May (P.footprint (tables_of self.now)) (P.allowed (tables_of self.now)) (P.effect (tables_of self.now)) (at (knows seat.old).held) event.now }
-        requires after { (n : ℕ) → W.after (knows seat.old) n ≡ noted (P.footprint (tables_of self.now)) (P.effect (tables_of self.now)) (knows seat.old) n event.now }
-        requires told { (w : View P P.Event) → Fits (P.footprint (tables_of self.now)) (P.allowed (tables_of self.now)) (P.effect (tables_of self.now)) (opening_of self.now) w.held w.entries → W.facts w }
+        requires held { May (P.footprint (tables_of self.now)) (P.happens (tables_of self.now)) (at (knows seat.old).held) event.now (M.made values.now event.now) }
+        requires after { (n : ℕ) → W.after (knows seat.old) n ≡ noted (P.footprint (tables_of self.now)) (knows seat.old) n event.now (M.made values.now event.now) }
+        requires told { (w : View P P.Event) → Fits (P.footprint (tables_of self.now)) (P.happens (tables_of self.now)) (opening_of self.now) w.held w.entries → W.facts w }
         ensures own { seat.new.table_id ≡ seat.old.table_id }
-        ensures view { seat.new.me ≡ (noted (P.footprint (tables_of self.now)) (P.effect (tables_of self.now)) (knows seat.old) result event.now, []) }
+        ensures view { seat.new.me ≡ (noted (P.footprint (tables_of self.now)) (knows seat.old) result event.now (M.made values.now event.now), []) }
         ensures later { AllBefore result (knows seat.old).entries }
-        ensures facts { W.facts (noted (P.footprint (tables_of self.now)) (P.effect (tables_of self.now)) (knows seat.old) result event.now) }
+        ensures facts { W.facts (noted (P.footprint (tables_of self.now)) (knows seat.old) result event.now (M.made values.now event.now)) }
     {
         let _ = event;
+        let _ = values;
         self.table.shared.fetch_add::<Record<W>>(seat, 0, 1)
     }
 
@@ -156,6 +163,18 @@ impl<P: Piece> Turns<P> {
         ensures entries { pass.new.entries ≡ pass.old.entries }
     {
         let Held { part, value } = held;
+        self.give_part(pass, part, value);
+    }
+
+    /// The same by the part's number.
+    pub fn give_part(&self, pass: &mut Pass<P>, part: usize, value: P)
+        requires own { IsOf self.now pass.old.seat }
+        requires part { part < self.now.parts }
+        requires held { at (knows pass.old.seat).held part ≡ Some value }
+        ensures own { IsOf self.now pass.new.seat }
+        ensures view { knows pass.new.seat ≡ lost (knows pass.old.seat) part }
+        ensures entries { pass.new.entries ≡ pass.old.entries }
+    {
         self.give_back(&mut pass.seat, part, value);
     }
 
