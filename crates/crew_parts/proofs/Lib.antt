@@ -1,0 +1,4 @@
+mod Replacing
+mod PartsStay
+mod Outsides
+mod Coming

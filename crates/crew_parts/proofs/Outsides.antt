@@ -1,0 +1,155 @@
+-- Journals and the output along a run.
+use Rattle.std.proofs.Common.{◌≡◌, ℕ, ◌+◌, ◌<◌, ◌≤◌, ◌==◌, ◌||◌, if◌then◌else◌, inl, inr, Bool, true, false, Option, None, Some, is_some, List, [], ◌∷◌, ◌++◌, refl, sym, ap, subst, ◌∙◌, arith, append_assoc, append-nil}
+use Rattle.std.specs.Io.KnownBytes.{Appends}
+use Rattle.std.proofs.KnownBytes.{Appends-nil, Appends-trans}
+use Rattle.std.proofs.lemmas.Bool.{eqb-false, or_parts, true≢false}
+use Rattle.std.proofs.lemmas.Bool.Decides.{eqb_tells}
+use Rattle.aml_slice.specs.Controls.{Rest}
+use Rattle.crew_parts.specs.Acts.{JournalGoes, OutputGoes, HasPrinted, HasBroken, Prints, behind, groups_by, tried_by, tried_at, line_at}
+use Rattle.crew_parts.specs.Crews.{JournalIs, OutputIs, BrokeOff, Printed, added}
+use Rattle.crew_parts.specs.Shares.{OutputState}
+use Rattle.gate_log.specs.State.{LogState}
+use Rattle.protocol.specs.Conditions.{IsAllowed}
+use Rattle.protocol.specs.Effects.{log_at}
+use Rattle.protocol.specs.Events.{Event, Sync, Reply, desk, log, footprint}
+use Rattle.protocol.specs.Fixed.{Fixed}
+use Rattle.protocol.specs.Parts.{Log, Machine}
+use Rattle.protocol.specs.Runs.{reached}
+use Rattle.protocol.specs.Words.{is_among}
+use Rattle.run_outputs.specs.Groups.{group_by, group_behind, groups_of, waiting}
+use Rattle.run_outputs.specs.Laws.{GroupsGrow, RepliesGrow, line_by}
+use Rattle.run_outputs.specs.Lines.{line_in, replies_text}
+use Rattle.run_journals.specs.Driven.{IsDriven}
+use Rattle.run_journals.proofs.Driving.{driven_join}
+use Rattle.snap_outside.specs.Causes.{Rose}
+use Rattle.txn_records.specs.declared.records.Record.{Record}
+
+-- ---- journals
+
+none_shut : {X : Type 0} (b : Bool) (x : X) → b ≡ false → (if b then Some x else None) ≡ None
+none_shut b x e = ap (λ z. if z then Some x else None) e
+
+-- the group that was tried is the one that waits
+tried_waits : {X : Type 0} (b : Bool) (x : X) (t : Option X) → b ≡ is_some t → ((y : X) → t ≡ Some y → y ≡ x) → (if b then Some x else None) ≡ t
+tried_waits b x None e is = ap (λ z. if z then Some x else None) e
+tried_waits b x (Some y) e is = ap (λ z. if z then Some x else None) e ∙ ap Some (sym (is y refl))
+
+picked : {X : Type 0} (b : Bool) (x y : X) → (if b then Some x else None) ≡ Some y → y ≡ x
+picked true x y e = cc e
+picked false x y e = absurd (cc e)
+
+tried_is : (w : Fixed Rest) (es : List Event) (l : ℕ) (e : Event) (g : List Record) → tried_at l e (reached w es) ≡ Some g → g ≡ group_behind w l es
+tried_is w es l (Sync k) g is = picked (k == l) (group_behind w l es) g is
+tried_is w es l e g is = absurd (cc is)
+
+-- an event that touches no log gives it no group
+pub no_group : (logs l : ℕ) (e : Event) (s : Machine Rest) → is_among (log l) (footprint logs e) ≡ false → group_by l e s ≡ []
+no_group logs l (Sync k) s h =
+    let other : (log k == log l) ≡ false = (or_parts (log k == log l) false h).0 in
+    elim (eqb_tells k l) [
+      | inl same ↦ absurd (eqb-false (log k) (log l) other (ap log same.1))
+      | inr not ↦ ap (λ b. if b then waiting (log_at s l) ∷ [] else []) not.0
+    ]
+no_group logs l e s h = refl
+
+module _ (w : Fixed Rest) (grow : GroupsGrow w) (es : List Event) (e : Event) where
+  grown_by : (done : Bool) (l : ℕ) → groups_of w l (es ++ added done e) ≡ groups_of w l es ++ groups_by l done e (reached w es)
+  grown_by true l = grow l es e
+  grown_by false l = ap (groups_of w l) (append-nil es) ∙ sym (append-nil (groups_of w l es))
+
+  -- its journal goes on
+  pub journal_goes : (done : Bool) (l : ℕ) (j0 j1 j2 : Option LogState) → JournalIs w es l j0 j1 → JournalGoes l done e (reached w es) j1 j2
+      → JournalIs w (es ++ added done e) l j0 j2
+  journal_goes done l None j1 j2 is goes = absurd is
+  journal_goes done l (Some a) None j2 is goes = absurd is
+  journal_goes done l (Some a) (Some b) None is goes = absurd goes
+  journal_goes done l (Some a) (Some b) (Some c) is goes =
+      let before : IsDriven a b (groups_of w l es) None = subst (IsDriven a b (groups_of w l es)) (none_shut b.shut (group_behind w l es) goes.0) is in
+      let joined = driven_join a b c (groups_of w l es) (groups_by l done e (reached w es)) (tried_by l done e (reached w es)) before goes.1 in
+      subst (λ gs. IsDriven a c gs (if c.shut then Some (group_behind w l (es ++ added done e)) else None)) (sym (grown_by done l))
+      (subst (IsDriven a c (groups_of w l es ++ groups_by l done e (reached w es))) (sym (tried_now done c.shut goes.1.shut)) joined) where
+        tried_now : (done : Bool) (b : Bool) → b ≡ is_some (tried_by l done e (reached w es)) → (if b then Some (group_behind w l (es ++ added done e)) else None) ≡ tried_by l done e (reached w es)
+        tried_now true b shut = none_shut b (group_behind w l (es ++ added true e)) shut
+        tried_now false b shut =
+            tried_waits b (group_behind w l (es ++ [])) (tried_at l e (reached w es)) shut (λ g is. tried_is w es l e g is ∙ ap (group_behind w l) (sym (append-nil es)))
+
+  -- it stays, where the event gives it no group, and what waits is as before
+  pub journal_stays : (done : Bool) (l : ℕ) (j0 j1 : Option LogState) → groups_by l done e (reached w es) ≡ [] → group_behind w l (es ++ added done e) ≡ group_behind w l es
+      → JournalIs w es l j0 j1 → JournalIs w (es ++ added done e) l j0 j1
+  journal_stays done l None j1 none same is = absurd is
+  journal_stays done l (Some a) None none same is = absurd is
+  journal_stays done l (Some a) (Some b) none same is =
+      subst (λ gs. IsDriven a b gs (if b.shut then Some (group_behind w l (es ++ added done e)) else None))
+      (sym (grown_by done l ∙ (ap (λ gs. groups_of w l es ++ gs) none ∙ append-nil (groups_of w l es))))
+      (subst (λ g. IsDriven a b (groups_of w l es) (if b.shut then Some g else None)) (sym same) is)
+
+-- ---- the output
+
+rose_on : (a b c : ℕ) → a ≤ b → Rose b c → Rose a c
+rose_on a b c later rose = omega (arith, later, rose)
+
+line_is : (w : Fixed Rest) (es : List Event) (e : Event) → line_at (reached w es) e ≡ line_by w es e
+line_is w es (Reply n) = refl
+line_is w es e = refl
+
+-- an event that does not touch the desk prints nothing
+pub no_line : (w : Fixed Rest) (es : List Event) (logs : ℕ) (e : Event) → is_among desk (footprint logs e) ≡ false → line_by w es e ≡ []
+no_line w es logs (Reply n) h = absurd (true≢false h)
+no_line w es logs e h = refl
+
+module _ (w : Fixed Rest) (es : List Event) (e : Event) (replies : RepliesGrow w es) (allowed : IsAllowed w e (reached w es)) where
+  printed_goes : (done : Bool) (a b c : OutputState) → a.faults ≤ b.faults → Appends a.taken b.taken (replies_text w es) → Prints done e (reached w es) b c
+      → (a.faults ≤ c.faults) × Printed c.failed w (es ++ added done e) a c
+  printed_goes true a b c later took goes = (
+    omega (arith, later, goes.later),
+    subst (λ z. Printed z w (es ++ e ∷ []) a c) (sym goes.ready)
+        (subst (Appends a.taken c.taken) (sym (replies e allowed ∙ ap (λ l. replies_text w es ++ l) (sym (line_is w es e))))
+        (Appends-trans a.taken b.taken c.taken (replies_text w es) (line_at (reached w es) e) took goes.taken)),
+  )
+  printed_goes false a b c later took goes = (
+    omega (arith, later, goes.later),
+    subst (λ z. Printed z w (es ++ []) a c) (sym goes.failed) (record {
+      first = es;
+      more = [];
+      is = refl;
+      tx = goes.tx;
+      allowed = subst (λ d. IsAllowed w d (reached w es)) goes.is allowed;
+      front = goes.front;
+      rest = goes.rest;
+      line = goes.line;
+      taken = subst (λ ds. Appends a.taken c.taken (replies_text w ds ++ goes.front)) (sym (append-nil es))
+          (Appends-trans a.taken b.taken c.taken (replies_text w es) goes.front took goes.taken);
+      rose = rose_on a.faults b.faults c.faults later goes.rose;
+    }),
+  )
+
+  pub output_goes : (done : Bool) (o0 o1 o2 : Option OutputState) → OutputIs w es o0 o1 → OutputGoes done e (reached w es) o1 o2 → OutputIs w (es ++ added done e) o0 o2
+  output_goes done None o1 o2 is goes = absurd is
+  output_goes done (Some a) None o2 is goes = absurd is
+  output_goes done (Some a) (Some b) None is goes = absurd goes
+  output_goes done (Some a) (Some b) (Some c) is goes = printed_goes done a b c is.0 (subst (λ z. Printed z w es a b) goes.0 is.1) goes.1
+
+  -- the event prints nothing
+  text_stays : (done : Bool) → line_by w es e ≡ [] → replies_text w (es ++ added done e) ≡ replies_text w es
+  text_stays true none = replies e allowed ∙ (ap (λ l. replies_text w es ++ l) none ∙ append-nil (replies_text w es))
+  text_stays false none = ap (replies_text w) (append-nil es)
+
+  printed_stays : (done failed : Bool) (a b : OutputState) → line_by w es e ≡ [] → Printed failed w es a b → Printed failed w (es ++ added done e) a b
+  printed_stays done true a b none is = record {
+    first = is.first;
+    more = is.more ++ added done e;
+    is = ap (λ ds. ds ++ added done e) is.is ∙ append_assoc is.first is.more (added done e);
+    tx = is.tx;
+    allowed = is.allowed;
+    front = is.front;
+    rest = is.rest;
+    line = is.line;
+    taken = subst (λ l. Appends a.taken b.taken (l ++ is.front)) (sym (text_stays done none)) is.taken;
+    rose = is.rose;
+  }
+  printed_stays done false a b none is = subst (Appends a.taken b.taken) (sym (text_stays done none)) is
+
+  pub output_stays : (done : Bool) (o0 o1 : Option OutputState) → line_by w es e ≡ [] → OutputIs w es o0 o1 → OutputIs w (es ++ added done e) o0 o1
+  output_stays done None o1 none is = absurd is
+  output_stays done (Some a) None none is = absurd is
+  output_stays done (Some a) (Some b) none is = (is.0, printed_stays done b.failed a b none is.1)

@@ -1,0 +1,102 @@
+-- Where a crew begins and what it comes to: a run of the machine, the groups of its Syncs on the logs' devices, and the lines of
+-- its replies in the output.
+use Rattle.std.specs.Prelude.{◌≡◌, ℕ, ◌+◌, ◌<◌, ◌≤◌, if◌then◌else◌, Bool, true, false, Option, None, Some, List, [], ◌∷◌, ◌++◌, length, slice_get}
+use Rattle.std.specs.Io.KnownBytes.{Appends}
+use Rattle.aml_slice.specs.Controls.{Rest}
+use Rattle.core_rows.specs.OnRuns.{HasRun}
+use Rattle.crew_parts.specs.Acts.{meant}
+use Rattle.crew_parts.specs.Shares.{OutputState, ShareState}
+use Rattle.crew_parts.specs.declared.acts.Act.{Act}
+use Rattle.gate_log.specs.State.{LogState}
+use Rattle.protocol.specs.Conditions.{IsAllowed}
+use Rattle.protocol.specs.Events.{Event, Reply, desk, log}
+use Rattle.protocol.specs.Fixed.{Fixed}
+use Rattle.protocol.specs.Runs.{IsRun, opening, reached}
+use Rattle.record_log.specs.declared.limits.TheConstants.{FARTHEST_APPEND}
+use Rattle.run_outputs.specs.Groups.{group_behind, groups_of}
+use Rattle.run_outputs.specs.Lines.{line_in, replies_text}
+use Rattle.snap_hand.specs.Shown.{IsPartOf}
+use Rattle.snap_outside.specs.Causes.{Rose}
+use Rattle.run_journals.specs.Driven.{IsDriven}
+use Rattle.turn_table.specs.Places.{at}
+
+-- ---- the beginning
+
+-- a journal that takes appends
+pub record IsReady (j : Option LogState) : Type 0 where
+  pub journal : LogState
+  pub is : j ≡ Some journal
+  pub ready : journal.shut ≡ false
+  pub near : journal.end ≤ FARTHEST_APPEND
+
+-- an output at which nothing failed yet
+pub record IsFresh (o : Option OutputState) : Type 0 where
+  pub output : OutputState
+  pub is : o ≡ Some output
+  pub ready : output.failed ≡ false
+
+-- These are all parts that a run of the text begins with, the logs with open journals beside them, and the desk with the output.
+pub record Begins (w : Fixed Rest) (start : List ShareState) : Type 0 where
+  pub many : length start ≡ 4 + w.text.logs + length w.text.opening.states
+  pub parts : (i : ℕ) (x : ShareState) → slice_get start i ≡ Some x → IsPartOf w (opening w) i x.part
+  pub journals : (l : ℕ) (x : ShareState) → l < w.text.logs → slice_get start (log l) ≡ Some x → IsReady x.beside.journal
+  pub output : (x : ShareState) → slice_get start desk ≡ Some x → IsFresh x.beside.output
+
+-- ---- the events
+
+abbrev pub added : Bool → Event → List Event
+added true e = e ∷ []
+added false e = []
+
+-- those that happened to the machine
+abbrev pub kept : List Act → List Event
+kept [] = []
+kept (a ∷ more) = added a.done (meant a) ++ kept more
+
+-- ---- what they came to
+
+-- A log's journal got a group for each Sync of the log; and where it is shut, a front of the append of what still waits.
+abbrev pub JournalIs : Fixed Rest → List Event → ℕ → Option LogState → Option LogState → Type 0
+JournalIs w es l None new = ⊥
+JournalIs w es l (Some old) None = ⊥
+JournalIs w es l (Some old) (Some new) = IsDriven old new (groups_of w l es) (if new.shut then Some (group_behind w l es) else None)
+
+-- It took the replies, and a front of the line of one that was allowed after a front of the events, where it failed.
+pub record BrokeOff (w : Fixed Rest) (es : List Event) (old new : OutputState) : Type 0 where
+  pub first : List Event
+  pub more : List Event
+  pub is : es ≡ first ++ more
+  pub tx : ℕ
+  pub allowed : IsAllowed w (Reply tx) (reached w first)
+  pub front : List ℕ
+  pub rest : List ℕ
+  pub line : line_in (reached w first) tx ≡ front ++ rest
+  pub taken : Appends old.taken new.taken (replies_text w es ++ front)
+  pub rose : Rose old.faults new.faults
+
+abbrev pub Printed : Bool → Fixed Rest → List Event → OutputState → OutputState → Type 0
+Printed true w es old new = BrokeOff w es old new
+Printed false w es old new = Appends old.taken new.taken (replies_text w es)
+
+abbrev pub OutputIs : Fixed Rest → List Event → Option OutputState → Option OutputState → Type 0
+OutputIs w es None new = ⊥
+OutputIs w es (Some old) None = ⊥
+OutputIs w es (Some old) (Some new) = (old.faults ≤ new.faults) × Printed new.failed w es old new
+
+-- The events are a run of the machine, of whose state these are all parts; and the journals and the output got what the events give.
+pub record HasCome (w : Fixed Rest) (start : List ShareState) (es : List Event) (now : List ShareState) : Type 0 where
+  pub run : IsRun w es
+  pub many : length now ≡ length start
+  pub parts : (i : ℕ) (x : ShareState) → slice_get now i ≡ Some x → IsPartOf w (reached w es) i x.part
+  pub journals : (l : ℕ) (x y : ShareState) → l < w.text.logs → slice_get start (log l) ≡ Some x → slice_get now (log l) ≡ Some y → JournalIs w es l x.beside.journal y.beside.journal
+  pub output : (x y : ShareState) → slice_get start desk ≡ Some x → slice_get now desk ≡ Some y → OutputIs w es x.beside.output y.beside.output
+
+-- ---- what who holds some of them knows
+
+-- Some run from the beginning has come to shares among which are these, which are held.
+pub record Stands (w : Fixed Rest) (start : List ShareState) (those : List (Option ShareState)) : Type 0 where
+  pub events : List Event
+  pub now : List ShareState
+  pub come : HasCome w start events now
+  pub lead : HasRun w (reached w events)
+  pub held : (i : ℕ) (x : ShareState) → at those i ≡ Some x → slice_get now i ≡ Some x

@@ -1,0 +1,4 @@
+pub mod Shares
+pub mod Besides
+pub mod Acts
+pub mod Crews

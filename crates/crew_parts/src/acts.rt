@@ -1,0 +1,10 @@
+use core_events::Event;
+
+/// What a worker does to the parts that it holds: an event of the machine, with what stands before it; or what stands before
+/// it alone, where that met a fault.
+#[derive(Clone, Copy, Debug, PartialEq, Eq)]
+pub struct Act {
+    pub event: Event,
+    /// Whether the event happened. Where not, a device failed at the append before a Sync, or the output at the line of a reply.
+    pub done: bool,
+}

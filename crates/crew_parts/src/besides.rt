@@ -1,0 +1,161 @@
+//! What stands beside a part of the machine.
+ghost use Rattle.std.specs.Prelude.{◌≡◌, None, Some, false, true};
+ghost use Rattle.crew_parts.specs.Besides.{HasAppended, HasWritten, IsSound, MayAppendTo, MayWriteTo, beside_log, beside_desk, beside_none, is_ready_journal, is_ready_output};
+ghost use Rattle.crew_parts.specs.Shares.{output_seen};
+
+use gate_log::{AppendNo, Log};
+use run_journals::append_group;
+use run_outputs::write_all;
+use snap_base::Sequence;
+use snap_outside::{Failed, LogDev, Sink};
+use std::alloc::Global;
+use std::marker::Model;
+
+/// The number of the desk among the parts, and that of the first log.
+const DESK: usize = 3;
+
+const FIRST_LOG: usize = 4;
+
+/// What stands beside a part: beside a log its journal on its device, beside the desk the output, and nothing beside the others.
+pub struct Beside<D: LogDev, O: Sink> {
+    journal: Option<Log<D>>,
+    output: Option<O>,
+    /// Whether the journal's device failed at an append. The journal is shut then.
+    cut: bool,
+    /// Whether the output failed at a line of this crew. Nothing is written to it then.
+    failed: bool,
+}
+
+impl<D: LogDev, O: Sink> Model for Beside<D, O> {
+    ghost use Rattle.std.specs.Prelude.{◌≡◌, false, option_map};
+    ghost use Rattle.crew_parts.specs.Besides.{IsOpenThere};
+    ghost use Rattle.crew_parts.specs.Shares.{BesideState, output_seen};
+
+    ghost Value = { BesideState };
+
+    ghost view = { λ b. record { journal = b.journal; output = option_map (output_seen O.taken O.faults b.failed) b.output } };
+
+    ghost invariant = { λ b. b.cut ≡ false → IsOpenThere b.journal };
+}
+
+impl<D: LogDev + Drop, O: Sink + Drop> Drop for Beside<D, O> {
+    fn drop(self) {
+        let (journal, _output) = self.open();
+        match journal {
+            Some(log) => {
+                let _device = log.into_dev();
+            }
+            None => {}
+        }
+    }
+}
+
+impl<D: LogDev, O: Sink> Beside<D, O> {
+    /// Beside a part that is neither a log nor the desk.
+    pub fn bare() -> Self
+        ensures { result ≡ beside_none }
+    {
+        Beside {
+            journal: None,
+            output: None,
+            cut: false,
+            failed: false,
+        }
+    }
+
+    /// Beside a log, a journal that takes appends.
+    pub fn with_journal(log: Log<D>) -> Self
+        requires { log.shut ≡ false }
+        ensures { result ≡ beside_log log }
+    {
+        Beside {
+            journal: Some(log),
+            output: None,
+            cut: false,
+            failed: false,
+        }
+    }
+
+    /// Beside the desk, the output.
+    pub fn with_output(out: O) -> Self
+        ensures { result ≡ beside_desk (output_seen O.taken O.faults false out) }
+    {
+        Beside {
+            journal: None,
+            output: Some(out),
+            cut: false,
+            failed: false,
+        }
+    }
+
+    /// The journal and the output, where they are here.
+    pub fn open(self) -> (Option<Log<D>>, Option<O>)
+        ensures journal { result.0 ≡ self.journal }
+    {
+        let Beside {
+            journal,
+            output,
+            cut: _,
+            failed: _,
+        } = self;
+        (journal, output)
+    }
+
+    /// Whether the part of this number, where there are so many logs, can go on with this beside it: a log with a journal that
+    /// takes appends, the desk with an output that has not failed.
+    pub fn is_sound(&self, part: usize, logs: u8) -> bool
+        ensures { result ≡ true → IsSound logs part self.now }
+    {
+        if part == DESK {
+            return self.has_output();
+        }
+        if part < FIRST_LOG || part - FIRST_LOG >= logs as usize {
+            return true;
+        }
+        self.has_journal()
+    }
+
+    fn has_output(&self) -> bool
+        ensures { result ≡ true → is_ready_output self.now.output ≡ true }
+    {
+        self.output.is_some() && !self.failed
+    }
+
+    fn has_journal(&self) -> bool
+        ensures { result ≡ true → is_ready_journal self.now.journal ≡ true }
+    {
+        self.journal.is_some() && !self.cut
+    }
+
+    /// Appends the pieces to the journal, as one group.
+    pub fn append(&mut self, alloc: Global, pieces: &[Sequence<u8>]) -> Result<(), AppendNo>
+        requires { MayAppendTo self.old pieces.now }
+        ensures { HasAppended self.old self.new pieces.now result }
+    {
+        let result = match &mut self.journal {
+            Some(log) => append_group(alloc, log, pieces),
+            None => unreachable!(),
+        };
+        if result == Err(AppendNo::Device) {
+            self.cut = true;
+        }
+        result
+    }
+
+    /// Writes a line to the output, which has not failed. Where it fails, it took a front of the line.
+    pub fn write(&mut self, line: &[u8]) -> Result<(), Failed>
+        requires { MayWriteTo self.old }
+        ensures { HasWritten self.old self.new line.now result }
+    {
+        match &mut self.output {
+            Some(out) => match write_all(out, line) {
+                Ok(()) => Ok(()),
+                Err(failed) => {
+                    self.failed = true;
+                    Err(failed)
+                }
+            },
+            None => unreachable!(),
+        }
+    }
+}

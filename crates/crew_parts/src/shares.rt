@@ -1,0 +1,42 @@
+//! A part of the machine, and what stands beside it under the same turn.
+ghost use Rattle.std.specs.Prelude.{◌≡◌};
+ghost use Rattle.crew_parts.specs.Shares.{share_of};
+ghost use Rattle.snap_hand.specs.Shown.{shown};
+
+use crate::Beside;
+use snap_hand::Part;
+use snap_outside::{LogDev, Sink};
+use std::marker::Model;
+
+/// A part of the machine with what stands beside it. Contracts see what the part shows.
+#[derive(Drop)]
+pub struct Share<D: LogDev, O: Sink> {
+    part: Part,
+    beside: Beside<D, O>,
+}
+
+impl<D: LogDev, O: Sink> Model for Share<D, O> {
+    ghost use Rattle.crew_parts.specs.Shares.{ShareState};
+    ghost use Rattle.snap_hand.specs.Shown.{shown};
+
+    ghost Value = { ShareState };
+
+    ghost view = { λ s. record { part = shown s.part; beside = s.beside } };
+}
+
+impl<D: LogDev, O: Sink> Share<D, O> {
+    /// The part with this beside it.
+    pub fn new(part: Part, beside: Beside<D, O>) -> Self
+        ensures { result ≡ share_of (shown part) beside }
+    {
+        Share { part, beside }
+    }
+
+    /// The part, and what stands beside it.
+    pub fn open(self) -> (Part, Beside<D, O>)
+        ensures { self ≡ share_of (shown result.0) result.1 }
+    {
+        let Share { part, beside } = self;
+        (part, beside)
+    }
+}

@@ -1,0 +1,22 @@
+ghost use Rattle.std.specs.Prelude.{◌≡◌, false, MatchResult};
+ghost use Rattle.gate_log.specs.Device.{MayAppend};
+ghost use Rattle.run_journals.specs.Appending.{IsAppended, IsNotAppended};
+
+use gate_log::{AppendNo, Log};
+use snap_base::Sequence;
+use snap_outside::LogDev;
+use std::alloc::Global;
+
+/// Appends the pieces to an open log, as one group.
+pub fn append_group<D: LogDev>(
+    alloc: Global,
+    log: &mut Log<D>,
+    pieces: &[Sequence<u8>],
+) -> Result<(), AppendNo>
+    requires may { MayAppend log.old.end pieces.now }
+    requires open { log.old.shut ≡ false }
+    ensures found { log.new.found ≡ log.old.found }
+    ensures appended { MatchResult result (λ _. IsAppended log.old log.new pieces.now) (λ no. IsNotAppended log.old log.new pieces.now no) }
+{
+    log.append(alloc, pieces)
+}
