@@ -252,7 +252,7 @@ none_behind e es wide is narrow j late =
 
 -- ---- together
 
-new_is : (w : Fixed Rest) (e : Event) (s : Machine Rest) (f : Event) → ((s : Machine Rest) → (refusal w f s ≡ 0) ↔ IsAllowed w f s) → is_touched w e s f ≡ true → (IsAllowed w f s → ⊥) → IsAllowed w f (after w e s) → is_new w e s f ≡ true
+pub new_is : (w : Fixed Rest) (e : Event) (s : Machine Rest) (f : Event) → ((s : Machine Rest) → (refusal w f s ≡ 0) ↔ IsAllowed w f s) → is_touched w e s f ≡ true → (IsAllowed w f s → ⊥) → IsAllowed w f (after w e s) → is_new w e s f ≡ true
 new_is w e s f ruled touched before now = by (refusal w f s == 0) refl
   where
     by : (b : Bool) → (refusal w f s == 0) ≡ b → is_new w e s f ≡ true

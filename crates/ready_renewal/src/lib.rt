@@ -1,10 +1,13 @@
 //! The allowed events, kept along a run: after each event those are looked at that it has made allowed, and those of the kept
-//! ones that it may have refused. What is looked at hangs on what is live where the event was, and never on what is over.
+//! ones that it may have refused. What is looked at hangs on what is live where the event was, and never on what is over. Who
+//! takes the first of them alone needs no more than a list that leaves none of them out, which costs less to keep.
 #![tactic(auto)]
 
 mod asking;
+mod firsts;
 mod refused;
 mod renewing;
 mod revising;
 
-pub use renewing::renew;
+pub use firsts::first;
+pub use renewing::{extend, renew};

@@ -1,9 +1,10 @@
-ghost use Rattle.std.specs.Prelude.{OnOk};
+ghost use Rattle.std.specs.Prelude.{◌≡◌, OnErr, OnOk};
 ghost use Rattle.aml_slice.specs.Controls.{Rest};
 ghost use Rattle.core_events.specs.Meant.{event_meant};
 ghost use Rattle.protocol.specs.Effects.{after};
 ghost use Rattle.protocol.specs.Parts.{Machine};
 ghost use Rattle.protocol.specs.Schedule.{IsEnabled};
+ghost use Rattle.ready_renewal.specs.Covering.{Covers};
 ghost use Rattle.snap_hand.specs.Hands.{IsHandOf, IsWhole};
 ghost use Rattle.snap_hand.specs.Steps.{OnSomeRun};
 ghost use Rattle.snap_hand.specs.Tables.{AreTables, fixed_of};
@@ -15,7 +16,7 @@ use aml_slice::Control;
 use core_events::Event;
 use core_rows::runs_go_on;
 use protocol_laws::allowed_or_refused;
-use protocol_ready::{parts_tell_all, renewed_are_enabled};
+use protocol_ready::{parts_tell_all, renewed_are_enabled, states_are_sound, untouched_stay};
 use ready_list::ReadyList;
 use snap_base::Memory;
 use snap_hand::{Hand, Tables};
@@ -23,28 +24,60 @@ use std::alloc::Global;
 use touched_events::touched;
 
 /// Makes of all allowed events before the event, which was just taken, all allowed events after it. All parts are at hand, as
-/// they are after it. For want of memory the list is as it was.
+/// they are after it. For want of memory the list is as it was. `news` is for lists that are made on the way: what is in it is
+/// not read, and its room is kept.
 pub fn renew(
     alloc: Global,
     tables: &Tables,
     hand: &Hand,
     e: Event,
     list: &mut ReadyList,
+    news: &mut Vec<Event>,
 ) -> Result<(), Memory>
     requires tables { AreTables tables.now }
     requires places { IsHandOf (fixed_of tables.now) hand.now }
     requires whole { IsWhole hand.now }
     requires some { OnSomeRun (fixed_of tables.now) hand.now }
-    ensures { OnOk result ((s : Machine Rest) → IsBehind (fixed_of tables.now) (event_meant e) s hand.now → IsEnabled (fixed_of tables.now) s list.old.events → IsEnabled (fixed_of tables.now) (after (fixed_of tables.now) (event_meant e) s) list.new.events) }
+    ensures renewed { OnOk result ((s : Machine Rest) → IsBehind (fixed_of tables.now) (event_meant e) s hand.now → IsEnabled (fixed_of tables.now) s list.old.events → IsEnabled (fixed_of tables.now) (after (fixed_of tables.now) (event_meant e) s) list.new.events) }
+    ensures unchanged { OnErr result (list.new.events ≡ list.old.events) }
 {
     runs_go_on::<Control>();
     allowed_or_refused::<Control>();
     parts_tell_all::<Control>();
     renewed_are_enabled::<Control>();
-    let news = touched(alloc, tables, hand, e)?;
+    touched(alloc, tables, hand, e, news)?;
     let gone = refused(alloc, tables, hand, e, list)?;
     list.room(news.len())?;
     take_out(list, &gone);
-    put_in(tables, hand, &news, list);
+    put_in(tables, hand, news.as_slice(), list);
+    Ok(())
+}
+
+/// Makes of events among which all were that were allowed before the event, which was just taken, events among which all are that
+/// are allowed after it: what the event has made allowed is put in, and nothing is taken out. All parts are at hand, as they are
+/// after it. For want of memory the list is as it was. `news` is as in `renew`.
+pub fn extend(
+    alloc: Global,
+    tables: &Tables,
+    hand: &Hand,
+    e: Event,
+    list: &mut ReadyList,
+    news: &mut Vec<Event>,
+) -> Result<(), Memory>
+    requires tables { AreTables tables.now }
+    requires places { IsHandOf (fixed_of tables.now) hand.now }
+    requires whole { IsWhole hand.now }
+    requires some { OnSomeRun (fixed_of tables.now) hand.now }
+    ensures extended { OnOk result ((s : Machine Rest) → IsBehind (fixed_of tables.now) (event_meant e) s hand.now → Covers (fixed_of tables.now) s list.old.events → Covers (fixed_of tables.now) (after (fixed_of tables.now) (event_meant e) s) list.new.events) }
+    ensures unchanged { OnErr result (list.new.events ≡ list.old.events) }
+{
+    runs_go_on::<Control>();
+    allowed_or_refused::<Control>();
+    parts_tell_all::<Control>();
+    untouched_stay::<Control>();
+    states_are_sound::<Control>();
+    touched(alloc, tables, hand, e, news)?;
+    list.room(news.len())?;
+    put_in(tables, hand, news.as_slice(), list);
     Ok(())
 }

@@ -171,14 +171,66 @@ none_both : (n m : ℕ) → replicate n None ++ replicate m None ≡ replicate {
 none_both zero m = ap (λ k. replicate k None) (omega arith)
 none_both (suc n) m = ap (λ os. None ∷ os) (none_both n m) ∙ ap (λ k. replicate k None) (let e : suc (n + m) ≡ suc n + m = omega arith in e)
 
-pub none_from : (n m : ℕ) (h : Parts) (ps : List Shown) → h ≡ no_parts n m → length ps ≡ 4 + n + m → places h ≡ all_from (length ps) ps
-none_from n m h ps is all =
-    ap places is
-    ∙ (ap (λ os. None ∷ None ∷ None ∷ None ∷ (os ++ map (option_map (λ x. TheCell x)) (replicate m None))) (none_behind (λ x. TheLog x) n)
+none_places : (n m k : ℕ) → k ≡ 4 + n + m → places (no_parts n m) ≡ replicate k None
+none_places n m k all =
+    ap (λ os. None ∷ None ∷ None ∷ None ∷ (os ++ map (option_map (λ x. TheCell x)) (replicate m None))) (none_behind (λ x. TheLog x) n)
     ∙ (ap (λ os. None ∷ None ∷ None ∷ None ∷ (replicate n None ++ os)) (none_behind (λ x. TheCell x) m)
     ∙ (ap (λ os. None ∷ None ∷ None ∷ None ∷ os) (none_both n m)
-    ∙ (ap (λ k. replicate k None) (let e : suc (suc (suc (suc (n + m)))) ≡ length ps = omega (arith, all) in e)
-    ∙ sym (from_none ps (length ps) refl)))))
+    ∙ ap (λ j. replicate j None) (let e : suc (suc (suc (suc (n + m)))) ≡ k = omega (arith, all) in e)))
+
+pub none_from : (n m : ℕ) (h : Parts) (ps : List Shown) → h ≡ no_parts n m → length ps ≡ 4 + n + m → places h ≡ all_from (length ps) ps
+none_from n m h ps is all = ap places is ∙ (none_places n m (length ps) all ∙ sym (from_none ps (length ps) refl))
+
+-- ---- a hand without parts
+
+as_many : {X : Type 0} (n : ℕ) (x : X) → length (replicate n x) ≡ n
+as_many zero x = refl
+as_many (suc n) x = ap suc (as_many n x)
+
+none_at : {X : Type 0} (n i : ℕ) (x : X) → slice_get (replicate n None) i ≡ Some (Some x) → ⊥
+none_at zero i x e = cc e
+none_at (suc n) zero x e = cc e
+none_at (suc n) (suc i) x e = none_at n i x e
+
+pub none_hand : (w : Fixed Rest) → IsHandOf w (no_parts w.text.logs (length w.text.opening.states))
+none_hand w = record { logs = as_many w.text.logs None; cells = as_many (length w.text.opening.states) None; room = λ x e. absurd (cc e) }
+
+pub none_fits : (n m : ℕ) (s : Machine Rest) → Fits (no_parts n m) s
+none_fits n m s = record {
+  ring = λ x e. absurd (cc e);
+  book = λ x e. absurd (cc e);
+  post = λ x e. absurd (cc e);
+  desk = λ x e. absurd (cc e);
+  logs = λ l x e. absurd (none_at n l x e);
+  cells = λ a x e. absurd (none_at m a x e);
+}
+
+take_none : {X : Type 0} (xs : List (Option X)) (i : ℕ) → i < length xs → take i xs ≡ replicate i None → take (suc i) (slice_set xs i None) ≡ replicate (suc i) None
+take_none [] i h e = absurd (omega (arith, h))
+take_none (x ∷ xs) zero h e = refl
+take_none (x ∷ xs) (suc i) h e =
+    let here : x ≡ None = cc e in
+    let more : take i xs ≡ replicate i None = cc e in
+    ap (λ o. o ∷ take (suc i) (slice_set xs i None)) here ∙ ap (λ os. None ∷ os) (take_none xs i (omega (arith, h)) more)
+
+-- of the parts of a hand the first so many are out
+abbrev pub AreOut : ℕ → Parts → Type 0
+AreOut i h = take i (places h) ≡ replicate i None
+
+pub next_out : (w : Fixed Rest) (h new : Parts) (i j n : ℕ) → j ≡ i + 1 → ((g : Parts) (k : ℕ) → places (without k g) ≡ slice_set (places g) k None) → new ≡ without i h
+    → IsHandOf w h → i < n → n ≡ 4 + w.text.logs + length w.text.opening.states → AreOut i h → AreOut j new
+next_out w h new i j n next set is hand within count out =
+    let j_is : suc i ≡ j = omega (arith, next) in
+    let less : i < length (places h) = omega (arith, count_of w h hand, within, count) in
+    subst (λ k. AreOut k new) j_is (ap (λ g. take (suc i) (places g)) is ∙ (ap (take (suc i)) (set h i) ∙ take_none (places h) i less out))
+
+pub all_out : ((g h : Parts) → length g.logs ≡ length h.logs → places g ≡ places h → g ≡ h)
+    → (w : Fixed Rest) (h : Parts) (i : ℕ) → IsHandOf w h → i ≡ 4 + w.text.logs + length w.text.opening.states → AreOut i h → h ≡ no_parts w.text.logs (length w.text.opening.states)
+all_out same w h i hand count out =
+    let n = w.text.logs in
+    let m = length w.text.opening.states in
+    same h (no_parts n m) (hand.logs ∙ sym (as_many n None))
+    (sym (all_taken (places h) i (count ∙ sym (count_of w h hand))) ∙ (out ∙ sym (none_places n m i count)))
 
 -- what a hand is before the k-th part from the back is put
 pub record MayGoOn (w : Fixed Rest) (all parts : List Part) (k : ℕ) (h : Parts) : Type 0 where

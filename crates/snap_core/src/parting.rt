@@ -21,13 +21,15 @@ use snap_hand::{
 use std::alloc::Global;
 
 impl Core {
-    /// The tables of the core and all its parts, in the order of their numbers. For want of memory the core is given back.
-    pub fn into_parts(self, alloc: Global) -> Result<(Tables, Vec<Part>), (Core, Memory)>
+    /// The tables of the core and all its parts, in the order of their numbers, and the hand that had them. For want of memory the
+    /// core is given back.
+    pub fn into_parts(self, alloc: Global) -> Result<(Tables, Vec<Part>, Hand), (Core, Memory)>
         ensures tables { IfOk result (λ apart. apart.0 ≡ self.tables) }
         ensures accepted { IfOk result (λ apart. AreTables apart.0) }
         ensures whole { IfOk result (λ apart. AreItsParts self (map shown apart.1.items)) }
         ensures parts { IfOk result (λ apart. (es : List machine.Event) → IsAt self es → AreAllParts (fixed_of self.tables) (state_at self es) (map shown apart.1.items)) }
         ensures some { IfOk result (λ apart. ShowSomeRun (fixed_of self.tables) (map shown apart.1.items)) }
+        ensures hand { IfOk result (λ apart. apart.2 ≡ no_parts self.tables.work.logs (length self.tables.opening.states)) }
         ensures back { IfErr result (λ kept. kept.0 ≡ self) }
     {
         places_are_set();
@@ -36,35 +38,26 @@ impl Core {
         match Vec::with_capacity(alloc, count) {
             Ok(room) => {
                 let Core { tables, hand } = self;
-                let parts = all_parts(hand, count, room);
-                Ok((tables, parts))
+                let (parts, hand) = all_parts(&tables, hand, count, room);
+                Ok((tables, parts, hand))
             }
             Err(_) => Err((self, Memory)),
         }
     }
 
-    /// The core that has these parts, all of the text and in the order of their numbers. For want of memory what was handed in
-    /// is given back.
-    pub fn from_parts(
-        alloc: Global,
-        tables: Tables,
-        parts: Vec<Part>,
-    ) -> Result<Core, (Tables, Vec<Part>, Memory)>
+    /// The core that has these parts, all of the text and in the order of their numbers, in a hand with places for them and no
+    /// part.
+    pub fn from_parts(tables: Tables, empty: Hand, parts: Vec<Part>) -> Core
         requires tables { AreTables tables }
+        requires empty { empty ≡ no_parts tables.work.logs (length tables.opening.states) }
         requires some { ShowSomeRun (fixed_of tables) (map shown parts.items) }
-        ensures tables { IfOk result (λ core. core.tables ≡ tables) }
-        ensures whole { IfOk result (λ core. AreItsParts core (map shown parts.items)) }
-        ensures parts { IfOk result (λ core. (es : List machine.Event) → IsRun (fixed_of tables) es → AreAllParts (fixed_of tables) (reached (fixed_of tables) es) (map shown parts.items) → IsAt core es) }
-        ensures back { IfErr result (λ kept. (kept.0 ≡ tables) × (kept.1 ≡ parts)) }
+        ensures tables { result.tables ≡ tables }
+        ensures whole { AreItsParts result (map shown parts.items) }
+        ensures parts { (es : List machine.Event) → IsRun (fixed_of tables) es → AreAllParts (fixed_of tables) (reached (fixed_of tables) es) (map shown parts.items) → IsAt result es }
     {
         places_are_set();
-        match Hand::new(alloc, &tables) {
-            Ok(empty) => {
-                let hand = filled(&tables, empty, parts);
-                Ok(Core { tables, hand })
-            }
-            Err(_) => Err((tables, parts, Memory)),
-        }
+        let hand = filled(&tables, empty, parts);
+        Core { tables, hand }
     }
 }
 
@@ -83,21 +76,26 @@ fn part_count(tables: &Tables) -> usize
     4 + tables.work.logs as usize + tables.opening.states.len()
 }
 
-// All parts of a whole hand, into a list with room for them.
-fn all_parts(whole: Hand, count: usize, room: Vec<Part>) -> Vec<Part>
+// All parts of a whole hand, into a list with room for them, and the hand without them.
+fn all_parts(tables: &Tables, whole: Hand, count: usize, room: Vec<Part>) -> (Vec<Part>, Hand)
     requires count { count ≡ length (places whole) }
     requires whole { IsWhole whole }
+    requires hand { IsHandOf (fixed_of tables.now) whole }
     requires empty { room.items ≡ [] }
     requires room { count ≤ vec_capacity room }
-    ensures { map Some (map shown result.items) ≡ places whole }
+    ensures parts { map Some (map shown result.0.items) ≡ places whole }
+    ensures hand { result.1 ≡ no_parts tables.now.work.logs (length tables.now.opening.states) }
 {
     places_are_set();
+    places_tell_the_hand();
+    taking_fits();
+    let _logs = tables.work.logs;
     let mut hand = whole;
     let mut parts = room;
     for i in 0..count {
         take_next(&mut hand, i, &mut parts);
     }
-    parts
+    (parts, hand)
 }
 
 // The part of this number, which is there, to the end of the list.

@@ -135,6 +135,9 @@ module _ (w : Fixed Rest) (e : Event) (s : Machine Rest) (f : Event) (h : is_new
   pub new_was_refused : (refusal w f s == 0) ≡ false
   new_was_refused = not-true (refusal w f s == 0) (and_parts (not (refusal w f s == 0)) (refusal w f (after w e s) == 0) both.1).0
 
+  pub new_is_due : (refusal w f (after w e s) == 0) ≡ true
+  new_is_due = (and_parts (not (refusal w f s == 0)) (refusal w f (after w e s) == 0) both.1).1
+
   -- by the law of the rows
   pub new_is_allowed : ((w : Fixed Rest) (e : Event) (s : Machine Rest) → (refusal w e s ≡ 0) ↔ IsAllowed w e s) → IsAllowed w f (after w e s)
   new_is_allowed ruled = (ruled w f (after w e s)).0 (eqb-true (refusal w f (after w e s)) 0 (and_parts (not (refusal w f s == 0)) (refusal w f (after w e s) == 0) both.1).1)

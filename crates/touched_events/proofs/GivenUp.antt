@@ -15,7 +15,8 @@ use Rattle.protocol.specs.Words.{is_empty, holds, act_of, is_doomed, is_sealed, 
 use Rattle.protocol_ready.proofs.Listing.{Has, from_has, to_has, has_map, has_filter, any_of}
 use Rattle.protocol_records.specs.Overs.{EndsWhole}
 use Rattle.order_book.specs.Asked.{tx_of}
-use Rattle.touched_events.specs.InAnswers.{replies_of, of_tx, given_up_tids, of_given_up}
+use Rattle.touched_events.specs.GivenUp.{given_up_tids}
+use Rattle.touched_events.specs.InAnswers.{replies_of, of_tx, of_given_up}
 use Rattle.touched_events.proofs.Cascading.{falls}
 use Rattle.touched_events.proofs.Replies.{no}
 

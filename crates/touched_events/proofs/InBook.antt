@@ -1,5 +1,5 @@
 -- What is listed of ACTs tells what is new there.
-use Rattle.std.specs.Prelude.{◌≡◌, refl, ℕ, ◌≤◌, ◌==◌, not, Bool, true, false, ◌&&◌, ◌||◌, is_some, Option, Some, None, List, [], ◌∷◌, ◌++◌, map, filter, Contains}
+use Rattle.std.specs.Prelude.{◌≡◌, refl, ℕ, ◌≤◌, ◌%◌, ◌==◌, not, Bool, true, false, ◌&&◌, ◌||◌, is_some, Option, Some, None, List, [], ◌∷◌, ◌++◌, map, filter, Contains}
 use Rattle.std.specs.List.{flat_map}
 use Rattle.std.proofs.Common.{sym, ap, subst, inl, inr, ◌∙◌}
 use Rattle.std.proofs.lemmas.Bool.{true≢false, false≢true, and_parts, and_from, or_cases, or_left, or_right, eqb-true, cases_Bool}
@@ -8,9 +8,6 @@ use Rattle.aml_slice.specs.Controls.{Rest}
 use Rattle.snap_base.specs.declared.transactions.TxResult.{TxResult}
 use Rattle.snap_base.specs.declared.transactions.TxResult.TheVariants.{Value, Fail}
 use Rattle.book_part.specs.Listed.{live_tids}
-use Rattle.core_events.specs.Meant.{event_meant}
-use Rattle.core_events.specs.declared.events.Event as code
-use Rattle.hand_offers.specs.Listed.{Adds}
 use Rattle.hand_offers.proofs.Lists.{first_of_all, in_flat_map}
 use Rattle.listing_facts.specs.Listing.{BookLists}
 use Rattle.protocol.specs.Effects.{after, cell_at}
@@ -25,22 +22,10 @@ use Rattle.protocol_theorems.specs.BookFits.{actors_at}
 use Rattle.protocol_ready.specs.Telling.{BookTells}
 use Rattle.protocol_ready.specs.Touched.{crossed_tids, changes_act, is_touched}
 use Rattle.protocol_ready.proofs.Listing.{Has, from_has, has_map, from_filter, any_of, held, found_in}
-use Rattle.touched_events.specs.InBook.{may_prepare, may_vouch, may_finish, may_decide, may_seal, has_begun, lets_prepare, lets_vote, lets_decide, lets_finish, is_meant, only, due_on, due_of, due_if, of_meant, of_live, by_book}
+use Rattle.touched_events.specs.InBook.{may_prepare, may_vouch, may_finish, may_decide, may_seal, has_begun, lets_prepare, lets_vote, lets_decide, lets_finish, is_meant, only, due_on, due_of, due_if, of_meant, of_live, sealing_of, vouching_of, synced_of, synced_if, of_begun, of_synced, by_book}
 use Rattle.touched_events.specs.New.{is_new}
 use Rattle.touched_events.proofs.Common.{Among}
 use Rattle.touched_events.proofs.GivenUp.{found_is}
-
--- ---- a list behind another one
-
-map_join : {X Y : Type 0} (f : X → Y) (xs ys : List X) → map f (xs ++ ys) ≡ map f xs ++ map f ys
-map_join f [] ys = refl
-map_join f (x ∷ xs) ys = ap (λ v. f x ∷ v) (map_join f xs ys)
-
-pub appended : (old new more : List code.Event) → new ≡ old ++ more → Adds old new (map event_meant more)
-appended old new more e = ap (map event_meant) e ∙ map_join event_meant old more
-
-pub from_none : (none listed more : List code.Event) (xs : List Event) → none ≡ [] → Adds none listed xs → more ≡ listed → map event_meant more ≡ xs
-from_none none listed more xs e a same = ap (map event_meant) same ∙ (a ∙ ap (λ v. map event_meant v ++ xs) e)
 
 -- where the list of all that are live is enough
 abbrev pub Enough : Book → Type 0
@@ -355,15 +340,6 @@ module _ (w : Fixed Rest) (s : Machine Rest) (b : Book) (u : Unbegun b) where
         finish = λ t c q h. (refl, out t (first (changes_act (Arrive k a) s t) false (touched (Finish t c) q) no));
       }
 
-  sync_asks : (l : ℕ) → NewAfter w (Sync l) s b
-  sync_asks l = record {
-    prepare = λ t a q h. absurd (no q);
-    vouch = λ t a q h. (refl, vouches_begun b u t a h);
-    decide = λ t q h. absurd (no q);
-    seal = λ t q h. (refl, seals_begun b u t h);
-    finish = λ t a q h. absurd (no q);
-  }
-
   settle_asks : (k : ℕ) → NewAfter w (Settle k) s b
   settle_asks k = record {
     prepare = λ t a q h. absurd (no q);
@@ -376,16 +352,62 @@ module _ (w : Fixed Rest) (s : Machine Rest) (b : Book) (u : Unbegun b) where
   wide_asks : (e : Event) → IsWide e → NewAfter w e s b
   wide_asks e wide = asks_wide e b (is_new w e s) wide u
 
+-- after a sync of a log nothing but what waits for a record there
+synced_has : (p : Bool) (logs l : ℕ) (b : Book) (t : ℕ) (f : Event) → p ≡ true → Contains (synced_of logs l b t) f → Contains (synced_if p logs l b t) f
+synced_has true logs l b t f h c = c
+synced_has false logs l b t f h c = absurd (false≢true h)
+
+module _ (w : Fixed Rest) (l : ℕ) (s : Machine Rest) (b : Book) (es : List Event) (u : Unbegun b) where
+  abbrev new_then : Event → Bool
+  new_then = is_new w (Sync l) s
+
+  then_touched : (f : Event) → new_then f ≡ true → is_touched w (Sync l) s f ≡ true
+  then_touched f q = (and_parts (is_touched w (Sync l) s f) _ q).0
+
+  sealing : (t : ℕ) → new_then (Seal t) ≡ true → may_seal b t ≡ true → Contains (of_begun w.text.logs l b t) (Seal t)
+  sealing t q h =
+      let here = (and_parts (l == t % w.text.logs) _ (then_touched (Seal t) q)).0 in
+      synced_has (has_begun b t) w.text.logs l b t (Seal t) (seals_begun b u t h)
+      (Contains-append_left (sealing_of w.text.logs l b t) (flat_map (vouching_of w.text.logs l b t) (actors_at (act_of t b.acts))) (Seal t)
+      (only_has ((l == t % w.text.logs) && may_seal b t) (Seal t) (and_from (l == t % w.text.logs) (may_seal b t) here h)))
+
+  vouching : (t a : ℕ) → new_then (Vouch t a) ≡ true → may_vouch b t a ≡ true → Contains (of_begun w.text.logs l b t) (Vouch t a)
+  vouching t a q h =
+      let here = (and_parts (l == a % w.text.logs) _ (then_touched (Vouch t a) q)).0 in
+      synced_has (has_begun b t) w.text.logs l b t (Vouch t a) (vouches_begun b u t a h)
+      (Contains-append_right (sealing_of w.text.logs l b t) (flat_map (vouching_of w.text.logs l b t) (actors_at (act_of t b.acts))) (Vouch t a)
+      (in_flat_map (vouching_of w.text.logs l b t) (actors_at (act_of t b.acts)) a (Vouch t a) (actor_has (λ p. p.prepared && not p.vouched) t a b (vouched_on (Sync l) b t a h))
+      (only_has ((l == a % w.text.logs) && may_vouch b t a) (Vouch t a) (and_from (l == a % w.text.logs) (may_vouch b t a) here h))))
+
+  synced_lists : Among (of_synced w.text.logs l b) es → BookLists (λ f. new_then f && lets b f) b es
+  synced_lists more =
+      let one : (t : ℕ) (f : Event) → Contains (live_tids b) t → Contains (of_begun w.text.logs l b t) f → Contains es f = λ t f i c. more f (in_flat_map (of_begun w.text.logs l b) (live_tids b) t f i c) in
+      record {
+        acts = λ t i. ((λ q. absurd (no q)), (λ q. let r = and_parts (new_then (Seal t)) (may_seal b t) q in one t (Seal t) i (sealing t r.0 r.1)));
+        actors = λ t a i j. ((λ q. absurd (no q)), (λ q. let r = and_parts (new_then (Vouch t a)) (may_vouch b t a) q in one t (Vouch t a) i (vouching t a r.0 r.1)), (λ q. absurd (no q)));
+      }
+
+  synced_told : Enough b → Among (of_synced w.text.logs l b) es → BookTells new_then b es
+  synced_told enough more =
+      let tells : BookTells (λ f. new_then f && lets b f) b es = enough (λ f. new_then f && lets b f) es (synced_lists more) in
+      record {
+        prepare = λ t a q h g. absurd (no q);
+        vouch = λ t a q h. tells.vouch t a (and_from (new_then (Vouch t a)) (may_vouch b t a) q h) h;
+        decide = λ t q h. absurd (no q);
+        seal = λ t q h. tells.seal t (and_from (new_then (Seal t)) (may_seal b t) q h) h;
+        finish = λ t a q h g. absurd (no q);
+      }
+
 -- what is used of some events besides
 abbrev pub Besides : Fixed Rest → Event → Machine Rest → Book → Type 0
 Besides w (Arrive k a) s b = AreOut k a s b
 Besides w (Ask u a) s b = NewAfter w (Ask u a) s b
 Besides w _ s b = Unit {0}
 
-pub book_told : (w : Fixed Rest) (e : Event) (s : Machine Rest) (b : Book) (es : List Event) → Unbegun b → Enough b → Besides w e s b → Among (by_book b e) es → BookTells (is_new w e s) b es
+pub book_told : (w : Fixed Rest) (e : Event) (s : Machine Rest) (b : Book) (es : List Event) → Unbegun b → Enough b → Besides w e s b → Among (by_book w.text.logs b e) es → BookTells (is_new w e s) b es
 book_told w (Arrive k a) s b es u enough out more = live_tells (Arrive k a) b (is_new w (Arrive k a) s) (arrival_asks w s b u k a out) es enough more
 book_told w (Ask t a) s b es u enough asks more = live_tells (Ask t a) b (is_new w (Ask t a) s) asks es enough more
-book_told w (Sync l) s b es u enough out more = live_tells (Sync l) b (is_new w (Sync l) s) (sync_asks w s b u l) es enough more
+book_told w (Sync l) s b es u enough out more = synced_told w l s b es u enough more
 book_told w (Settle k) s b es u enough out more = live_tells (Settle k) b (is_new w (Settle k) s) (settle_asks w s b u k) es enough more
 book_told w (Abort k) s b es u enough out more = live_tells (Abort k) b (is_new w (Abort k) s) (wide_asks w s b u (Abort k) (record { prepare = refl; vote = refl; decide = refl; finish = refl; meant = λ c t h. h })) es enough more
 book_told w (Admit v) s b es u enough out more =

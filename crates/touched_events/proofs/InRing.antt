@@ -1,5 +1,5 @@
 -- What is listed of the ring and of the logs tells what is new there.
-use Rattle.std.specs.Prelude.{◌≡◌, refl, ℕ, ◌+◌, ◌%◌, ◌<◌, ◌==◌, nat_lt, true, false, if◌then◌else◌, Some, List, [], ◌∷◌, ◌++◌, length, slice_get, Contains}
+use Rattle.std.specs.Prelude.{◌≡◌, refl, ℕ, ◌+◌, ◌%◌, ◌<◌, ◌==◌, nat_lt, Bool, true, false, if◌then◌else◌, Some, List, [], ◌∷◌, length, slice_get, Contains}
 use Rattle.std.proofs.Common.{sym, ap, subst, inl, inr, ◌∙◌}
 use Rattle.std.proofs.lemmas.Bool.{true≢false, eqb-true, eq-eqb, cases_Bool}
 use Rattle.std.proofs.lemmas.List.Elements.{Contains-append_left, Contains-append_right}
@@ -13,14 +13,15 @@ use Rattle.protocol.specs.Footprints.{HasLogs}
 use Rattle.protocol.specs.Laws.{AfterEveryRun}
 use Rattle.core_rows.specs.OnRuns.{HasRun}
 use Rattle.protocol.specs.Parts.{Ring, Log, Machine}
-use Rattle.protocol.specs.Words.{below, is_empty}
+use Rattle.protocol.specs.Words.{below, count, is_empty, is_live_act, is_live_batch}
 use Rattle.protocol_ready.specs.Telling.{RingTells, LogTells}
 use Rattle.protocol_ready.specs.Touched.{is_touched}
 use Rattle.hand_offers.specs.Listed.{on_ring, of_log}
 use Rattle.hand_offers.proofs.Lists.{first_of_all, placed, in_flat_map, in_below}
-use Rattle.touched_events.specs.InRing.{changes_ring, ring_listed, forms, admits, logs_listed}
+use Rattle.touched_events.specs.InRing.{changes_ring, ring_listed, forms, admits, forms_if, admits_if, frees_batches, frees_acts, draws, logs_listed}
 use Rattle.touched_events.specs.New.{is_new}
-use Rattle.touched_events.proofs.Common.{Among, new_is_touched, new_was_refused}
+use Rattle.touched_events.proofs.Common.{Among, new_is_due, new_is_touched, new_was_refused}
+use Rattle.touched_events.proofs.Counted.{Framed, acts_counted, batches_counted}
 
 -- ---- the ring
 
@@ -47,7 +48,15 @@ forms_where r h = rw h (first_of_all [] (Form r.next_bid))
 admits_where : (r : Ring) → is_empty (queue r.acts r.holder) ≡ false → Contains (admits r) (Admit r.next_tid)
 admits_where r h = rw h (first_of_all [] (Admit r.next_tid))
 
-module _ (w : Fixed Rest) (e : Event) (s : Machine Rest) (r : Ring) (es : List Event) (same : (after w e s).ring ≡ r) where
+form_same : (w : Fixed Rest) (s t : Machine Rest) (k : ℕ) → t.ring ≡ s.ring → count is_live_batch t.desk.batches ≡ count is_live_batch s.desk.batches → refusal w (Form k) t ≡ refusal w (Form k) s
+unfolding refusal conditions
+form_same w s t k r c = rw (r, c) refl
+
+admit_same : (w : Fixed Rest) (s t : Machine Rest) (u : ℕ) → t.ring ≡ s.ring → count is_live_act t.book.acts ≡ count is_live_act s.book.acts → refusal w (Admit u) t ≡ refusal w (Admit u) s
+unfolding refusal conditions
+admit_same w s t u r c = rw (r, c) refl
+
+module _ (w : Fixed Rest) (e : Event) (s : Machine Rest) (framed : Framed w) (r : Ring) (es : List Event) (same : (after w e s).ring ≡ r) where
   ring_next : Among (on_ring w.text.coordinators r) es → RingTells (is_new w e s) w.text (after w e s).ring es
   ring_next more =
       let all = on_ring w.text.coordinators r in
@@ -59,20 +68,38 @@ module _ (w : Fixed Rest) (e : Event) (s : Machine Rest) (r : Ring) (es : List E
         admit = λ q a. had (Admit r.next_tid) 3 refl;
       })
 
-  ring_draws : changes_ring e ≡ false → Among (forms r ++ admits r) es → RingTells (is_new w e s) w.text (after w e s).ring es
+  form_drawn : changes_ring e ≡ false → Among (draws e r) es → is_new w e s (Form r.next_bid) ≡ true → is_empty (queue r.pacts r.holder) ≡ false → Contains es (Form r.next_bid)
+  form_drawn h more q a = by (frees_batches e) refl
+    where
+      by : (b : Bool) → frees_batches e ≡ b → Contains es (Form r.next_bid)
+      by true g = more (Form r.next_bid) (Contains-append_left (forms_if (frees_batches e) r) (admits_if (frees_acts e) r) (Form r.next_bid) (subst (λ b. Contains (forms_if b r) (Form r.next_bid)) (sym g) (forms_where r a)))
+      by false g =
+          let as_before = form_same w s (after w e s) r.next_bid (ring_stays w e s h) (batches_counted w e s (framed e s) h g) in
+          absurd (true≢false (sym (new_is_due w e s (Form r.next_bid) q) ∙ (ap (λ n. n == 0) as_before ∙ new_was_refused w e s (Form r.next_bid) q)))
+
+  admit_drawn : changes_ring e ≡ false → Among (draws e r) es → is_new w e s (Admit r.next_tid) ≡ true → is_empty (queue r.acts r.holder) ≡ false → Contains es (Admit r.next_tid)
+  admit_drawn h more q a = by (frees_acts e) refl
+    where
+      by : (b : Bool) → frees_acts e ≡ b → Contains es (Admit r.next_tid)
+      by true g = more (Admit r.next_tid) (Contains-append_right (forms_if (frees_batches e) r) (admits_if (frees_acts e) r) (Admit r.next_tid) (subst (λ b. Contains (admits_if b r) (Admit r.next_tid)) (sym g) (admits_where r a)))
+      by false g =
+          let as_before = admit_same w s (after w e s) r.next_tid (ring_stays w e s h) (acts_counted w e s (framed e s) h g) in
+          absurd (true≢false (sym (new_is_due w e s (Admit r.next_tid) q) ∙ (ap (λ n. n == 0) as_before ∙ new_was_refused w e s (Admit r.next_tid) q)))
+
+  ring_draws : changes_ring e ≡ false → Among (draws e r) es → RingTells (is_new w e s) w.text (after w e s).ring es
   ring_draws h more =
       let is : r ≡ s.ring = sym same ∙ ring_stays w e s h in
       subst (λ x. RingTells (is_new w e s) w.text x es) (sym same) (record {
         submit = λ q a. absurd (true≢false (sym (submits w s r.next_tx (ap (λ x. x.next_tx) is) a) ∙ new_was_refused w e s (Submit r.next_tx) q));
         pass = λ q a b. absurd (true≢false (sym (passes w s ((r.holder + 1) % w.text.coordinators) (ap (λ x. (x.holder + 1) % w.text.coordinators) is) (ap (λ x. is_idle_at x.holder x) (sym is) ∙ a) (ap is_idle (sym is) ∙ b)) ∙ new_was_refused w e s (Pass ((r.holder + 1) % w.text.coordinators)) q));
-        form = λ q a. more (Form r.next_bid) (Contains-append_left (forms r) (admits r) (Form r.next_bid) (forms_where r a));
-        admit = λ q a. more (Admit r.next_tid) (Contains-append_right (forms r) (admits r) (Admit r.next_tid) (admits_where r a));
+        form = λ q a. form_drawn h more q a;
+        admit = λ q a. admit_drawn h more q a;
       })
 
   pub ring_told : Among (ring_listed w.text.coordinators e r) es → RingTells (is_new w e s) w.text (after w e s).ring es
   ring_told more = elim (cases_Bool (changes_ring e)) [
-    | inl h ↦ ring_next (λ f c. more f (subst (λ b. Contains (if b then on_ring w.text.coordinators r else forms r ++ admits r) f) (sym h) c))
-    | inr h ↦ ring_draws h (λ f c. more f (subst (λ b. Contains (if b then on_ring w.text.coordinators r else forms r ++ admits r) f) (sym h) c))
+    | inl h ↦ ring_next (λ f c. more f (subst (λ b. Contains (if b then on_ring w.text.coordinators r else draws e r) f) (sym h) c))
+    | inr h ↦ ring_draws h (λ f c. more f (subst (λ b. Contains (if b then on_ring w.text.coordinators r else draws e r) f) (sym h) c))
   ]
 
 -- ---- the logs

@@ -1,5 +1,6 @@
 pub mod Common
 pub mod Behind
+pub mod Fallen
 pub mod InDesk
 pub mod InBook
 pub mod Replies
@@ -10,6 +11,7 @@ pub mod GivenUp
 pub mod AfterRuns
 pub mod AfterAsk
 pub mod InAnswers
+pub mod Counted
 pub mod InRing
 pub mod InPost
 pub mod NewDrops

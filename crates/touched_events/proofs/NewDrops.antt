@@ -1,19 +1,21 @@
 -- Whose control may be dropped after an arrival or an ask is an ACT that is live and given up, where its control is listed.
 use Rattle.std.specs.Prelude.{◌≡◌, refl, ℕ, ◌≤◌, ◌==◌, Bool, true, false, ◌&&◌, if◌then◌else◌, unwrap_or, Some, List, [], ◌∷◌, map, Contains}
 use Rattle.std.specs.List.{list_any, AllByRecursion}
-use Rattle.std.proofs.Common.{sym, subst, inl, inr}
+use Rattle.std.proofs.Common.{subst, inl, inr}
 use Rattle.std.proofs.lemmas.Bool.{and_from, eqb-true, or_left, or_right}
 use Rattle.book_part.specs.Listed.{live_tids}
 use Rattle.hand_offers.proofs.Lists.{first_of_all, in_flat_map}
+use Rattle.protocol.specs.Conditions.{is_given_up}
 use Rattle.protocol.specs.Events.{DropControl}
 use Rattle.protocol.specs.OnBook.{changed_act, joins, lowered}
-use Rattle.protocol.specs.Parts.{Act, Book, Doomed, Pair}
+use Rattle.protocol.specs.Parts.{Act, Book, Doomed, OfAct, Pair}
 use Rattle.protocol.specs.Spread.{raised, crossed_out, is_crossed}
 use Rattle.protocol.specs.Verdicts.{out_of_order}
 use Rattle.protocol.specs.Numbers.{times}
 use Rattle.protocol.specs.Words.{act_of, holds, is_doomed}
-use Rattle.protocol_ready.proofs.Listing.{Has}
-use Rattle.touched_events.specs.InPost.{drop_if, drop_of, given_up_drops}
+use Rattle.protocol_ready.proofs.Listing.{Has, from_has, has_filter, to_has}
+use Rattle.touched_events.specs.GivenUp.{given_up_tids}
+use Rattle.touched_events.specs.InPost.{given_up_drops, of_drop}
 use Rattle.touched_events.proofs.GivenUp.{Fallen, fallen_found}
 use Rattle.touched_events.proofs.InPost.{changed_back, holds_back, raised_back}
 
@@ -53,8 +55,9 @@ pub fallen_dropped : (b : Book) (t : ℕ) (f : Fallen b (λ x. x.tid == t)) → 
 fallen_dropped b t f once =
     let u = f.it.tid in
     let found = fallen_found b f.it once f.has f.doomed f.lives in
+    let tid : Contains (given_up_tids b) u = from_has (given_up_tids b) u (has_filter (λ t. is_given_up (OfAct t) b) (live_tids b) u (to_has (live_tids b) u found.0) found.1) in
     subst (λ n. Contains (given_up_drops b) (DropControl n)) (eqb-true u t f.does)
-    (in_flat_map (drop_of b) (live_tids b) u (DropControl u) found.0 (subst (λ c. Contains (drop_if c u) (DropControl u)) (sym found.1) (first_of_all [] (DropControl u))))
+    (in_flat_map of_drop (given_up_tids b) u (DropControl u) tid (first_of_all [] (DropControl u)))
 
 -- what all of some list are, one of it is
 pub all_are : {X : Type 0} (P : X → Type 0) (xs : List X) (x : X) → AllByRecursion P xs → Has xs x → P x

@@ -1,15 +1,14 @@
 -- What is listed of replies after an event: of the transactions that it may have given a verdict.
-use Rattle.std.specs.Prelude.{ℕ, ◌-◌, Option, Some, None, List, [], ◌∷◌, ◌++◌, filter}
+use Rattle.std.specs.Prelude.{ℕ, ◌-◌, Option, Some, None, List, [], ◌∷◌, ◌++◌}
 use Rattle.std.specs.List.{flat_map}
 use Rattle.batch_table.specs.Listed.{txs_at}
-use Rattle.book_part.specs.Listed.{live_tids}
 use Rattle.hand_offers.specs.Listed.{of_reply}
 use Rattle.order_book.specs.Asked.{tx_of}
-use Rattle.protocol.specs.Conditions.{is_given_up}
 use Rattle.protocol.specs.Events.{Event, Form, Arrive, Ask, End, Settle, Abort, Decide, Seal, Reply}
 use Rattle.protocol.specs.Numbers.{from}
-use Rattle.protocol.specs.Parts.{Book, Desk, OfAct}
+use Rattle.protocol.specs.Parts.{Book, Desk}
 use Rattle.protocol.specs.Words.{act_of, batch_of}
+use Rattle.touched_events.specs.GivenUp.{given_up_tids}
 
 abbrev pub replies_of : Option ℕ → List Event
 replies_of None = []
@@ -22,10 +21,7 @@ of_tx b t = replies_of (tx_of (act_of t b.acts))
 abbrev pub of_txs : Desk → ℕ → List Event
 of_txs d k = flat_map of_reply (txs_at (batch_of k d.batches))
 
--- the live ACTs that are given up, and of them
-abbrev pub given_up_tids : Book → List ℕ
-given_up_tids b = filter (λ t. is_given_up (OfAct t) b) (live_tids b)
-
+-- of the live ACTs that are given up
 abbrev pub of_given_up : Book → List Event
 of_given_up b = flat_map (of_tx b) (given_up_tids b)
 
@@ -50,6 +46,13 @@ of_acts b (Arrive k a) = of_given_up b
 of_acts b (Ask t a) = of_tx b t ++ of_given_up b
 of_acts b (Abort k) = of_given_up b
 of_acts b _ = []
+
+-- the same, where these are given up
+abbrev pub of_acts_with : Book → Event → List ℕ → List Event
+of_acts_with b (Arrive k a) tids = flat_map (of_tx b) tids
+of_acts_with b (Ask t a) tids = of_tx b t ++ flat_map (of_tx b) tids
+of_acts_with b (Abort k) tids = flat_map (of_tx b) tids
+of_acts_with b e tids = of_acts b e
 
 abbrev pub by_answers : ℕ → Book → Desk → Event → List Event
 by_answers next b d e = of_batches next d e ++ of_acts b e

@@ -1,6 +1,6 @@
 -- What is listed of ACTs after an event: of those that it names, or of all that are live, what is no more than waiting for
 -- others, and of a kind that the event may have let happen.
-use Rattle.std.specs.Prelude.{ℕ, Bool, true, false, not, ◌&&◌, ◌||◌, is_some, List, [], ◌∷◌, ◌++◌}
+use Rattle.std.specs.Prelude.{ℕ, ◌%◌, ◌==◌, Bool, true, false, not, ◌&&◌, ◌||◌, is_some, List, [], ◌∷◌, ◌++◌}
 use Rattle.std.specs.List.{flat_map}
 use Rattle.book_part.specs.Listed.{live_tids}
 use Rattle.protocol.specs.Events.{Event, Admit, Arrive, Ask, End, Sync, Settle, Abort, Prepare, Vouch, Decide, Seal, Finish}
@@ -94,18 +94,44 @@ of_meant e b t = due_if (is_meant e b t) e b t
 abbrev pub of_live : Event → Book → List Event
 of_live e b = flat_map (of_meant e b) (live_tids b)
 
--- of the ACT that the event names, or of all
-abbrev pub by_book : Book → Event → List Event
-by_book b (Admit t) = of_meant (Admit t) b t
-by_book b (End t a) = of_meant (End t a) b t
-by_book b (Prepare t a) = of_meant (Prepare t a) b t
-by_book b (Vouch t a) = of_meant (Vouch t a) b t
-by_book b (Decide t) = of_meant (Decide t) b t
-by_book b (Seal t) = of_meant (Seal t) b t
-by_book b (Finish t a) = of_meant (Finish t a) b t
-by_book b (Arrive k a) = of_live (Arrive k a) b
-by_book b (Ask t a) = of_live (Ask t a) b
-by_book b (Sync l) = of_live (Sync l) b
-by_book b (Settle k) = of_live (Settle k) b
-by_book b (Abort k) = of_live (Abort k) b
-by_book b _ = []
+-- After a sync of a log, of so many, what waits for a record there: of ACT t, where it has begun, and of all that are live.
+abbrev pub sealing_of : ℕ → ℕ → Book → ℕ → List Event
+sealing_of logs l b t = only ((l == t % logs) && may_seal b t) (Seal t)
+
+abbrev pub vouching_of : ℕ → ℕ → Book → ℕ → ℕ → List Event
+vouching_of logs l b t a = only ((l == a % logs) && may_vouch b t a) (Vouch t a)
+
+abbrev pub synced_of : ℕ → ℕ → Book → ℕ → List Event
+synced_of logs l b t = sealing_of logs l b t ++ flat_map (vouching_of logs l b t) (actors_at (act_of t b.acts))
+
+abbrev pub synced_if : Bool → ℕ → ℕ → Book → ℕ → List Event
+synced_if true logs l b t = synced_of logs l b t
+synced_if false logs l b t = []
+
+abbrev pub of_begun : ℕ → ℕ → Book → ℕ → List Event
+of_begun logs l b t = synced_if (has_begun b t) logs l b t
+
+abbrev pub of_synced : ℕ → ℕ → Book → List Event
+of_synced logs l b = flat_map (of_begun logs l b) (live_tids b)
+
+-- of the ACT that the event names, or of all; there are so many logs
+abbrev pub by_book : ℕ → Book → Event → List Event
+by_book logs b (Admit t) = of_meant (Admit t) b t
+by_book logs b (End t a) = of_meant (End t a) b t
+by_book logs b (Prepare t a) = of_meant (Prepare t a) b t
+by_book logs b (Vouch t a) = of_meant (Vouch t a) b t
+by_book logs b (Decide t) = of_meant (Decide t) b t
+by_book logs b (Seal t) = of_meant (Seal t) b t
+by_book logs b (Finish t a) = of_meant (Finish t a) b t
+by_book logs b (Arrive k a) = of_live (Arrive k a) b
+by_book logs b (Ask t a) = of_live (Ask t a) b
+by_book logs b (Sync l) = of_synced logs l b
+by_book logs b (Settle k) = of_live (Settle k) b
+by_book logs b (Abort k) = of_live (Abort k) b
+by_book logs b _ = []
+
+-- the same, where these are given up
+abbrev pub by_book_with : ℕ → Book → Event → List ℕ → List Event
+by_book_with logs b (Arrive k a) tids = flat_map (due_of (Arrive k a) b) tids
+by_book_with logs b (Ask t a) tids = flat_map (due_of (Ask t a) b) tids
+by_book_with logs b e tids = by_book logs b e

@@ -1,16 +1,16 @@
 -- What is listed after an event of what is under way: by the post, and by the book, since the controls of ACTs that are given up
 -- may be dropped.
-use Rattle.std.specs.Prelude.{ℕ, Bool, true, false, Option, Some, None, List, [], ◌∷◌, ◌++◌}
+use Rattle.std.specs.Prelude.{ℕ, Option, Some, None, List, [], ◌∷◌, ◌++◌}
 use Rattle.std.specs.List.{flat_map}
 use Rattle.std.specs.Option.{option_map}
 use Rattle.aml_slice.specs.Controls.{Rest}
-use Rattle.book_part.specs.Listed.{live_tids}
 use Rattle.hand_offers.specs.Listed.{of_control, on_post}
 use Rattle.post_box.specs.Listed.{control_places, places_to, sub_places}
 use Rattle.post_box.specs.Posting.{message_to}
 use Rattle.protocol.specs.Events.{Event, Form, Admit, Arrive, Ask, Take, Send, Abort, Rollback, DropControl, Finish}
 use Rattle.protocol.specs.Parts.{Book, Post}
-use Rattle.protocol.specs.Words.{holds, act_of, control_of, is_doomed}
+use Rattle.protocol.specs.Words.{control_of}
+use Rattle.touched_events.specs.GivenUp.{given_up_tids}
 
 -- ---- the events of what is under way
 
@@ -41,15 +41,11 @@ on_control t p = of_target t (option_map message_to (control_of t p.controls))
 
 -- ---- the controls of ACTs that are given up
 
-abbrev pub drop_if : Bool → ℕ → List Event
-drop_if true t = DropControl t ∷ []
-drop_if false t = []
-
-abbrev pub drop_of : Book → ℕ → List Event
-drop_of b t = drop_if (holds (λ x. is_doomed x.status) (act_of t b.acts)) t
+abbrev pub of_drop : ℕ → List Event
+of_drop t = DropControl t ∷ []
 
 abbrev pub given_up_drops : Book → List Event
-given_up_drops b = flat_map (drop_of b) (live_tids b)
+given_up_drops b = flat_map of_drop (given_up_tids b)
 
 -- ---- by the event
 
@@ -67,6 +63,12 @@ abbrev pub of_drops : Event → Book → List Event
 of_drops (Arrive k a) b = given_up_drops b
 of_drops (Ask t a) b = given_up_drops b
 of_drops _ b = []
+
+-- the same, where these are given up
+abbrev pub of_drops_with : Event → List ℕ → List Event
+of_drops_with (Arrive k a) tids = flat_map of_drop tids
+of_drops_with (Ask t a) tids = flat_map of_drop tids
+of_drops_with _ tids = []
 
 abbrev pub post_listed : Event → Book → Post Rest → List Event
 post_listed e b p = of_post e p ++ of_drops e b

@@ -2,7 +2,7 @@
 use Rattle.std.specs.List.{flat_map}
 use Rattle.std.specs.Prelude.{ℕ, ◌%◌, Bool, true, false, if◌then◌else◌, Option, Some, None, List, [], ◌∷◌, ◌++◌}
 use Rattle.protocol.specs.Conditions.{queue}
-use Rattle.protocol.specs.Events.{Event, Submit, Pass, Form, Admit, Complete, Sync, Commit, Abort, Prepare, Decide}
+use Rattle.protocol.specs.Events.{Event, Submit, Pass, Form, Admit, Arrive, Ask, Complete, Sync, Commit, Abort, Prepare, Decide, Seal, Finish, Trim}
 use Rattle.protocol.specs.Parts.{Ring}
 use Rattle.protocol.specs.Words.{below, is_empty}
 use Rattle.hand_offers.specs.Listed.{of_log, on_ring}
@@ -23,9 +23,33 @@ forms r = if is_empty (queue r.pacts r.holder) then [] else Form r.next_bid ∷ 
 abbrev pub admits : Ring → List Event
 admits r = if is_empty (queue r.acts r.holder) then [] else Admit r.next_tid ∷ []
 
+-- fewer batches may be live after it, and fewer ACTs
+abbrev pub frees_batches : Event → Bool
+frees_batches (Trim k a) = true
+frees_batches _ = false
+
+abbrev pub frees_acts : Event → Bool
+frees_acts (Arrive k a) = true
+frees_acts (Ask t a) = true
+frees_acts (Decide t) = true
+frees_acts (Seal t) = true
+frees_acts (Finish t a) = true
+frees_acts _ = false
+
+abbrev pub forms_if : Bool → Ring → List Event
+forms_if true r = forms r
+forms_if false r = []
+
+abbrev pub admits_if : Bool → Ring → List Event
+admits_if true r = admits r
+admits_if false r = []
+
+abbrev pub draws : Event → Ring → List Event
+draws e r = forms_if (frees_batches e) r ++ admits_if (frees_acts e) r
+
 -- after an event that changes the ring all that it has next
 abbrev pub ring_listed : ℕ → Event → Ring → List Event
-ring_listed coordinators e r = if changes_ring e then on_ring coordinators r else forms r ++ admits r
+ring_listed coordinators e r = if changes_ring e then on_ring coordinators r else draws e r
 
 -- the log that an event changes, where there are so many
 abbrev pub log_changed : ℕ → Event → Option ℕ

@@ -1,6 +1,7 @@
 pub mod New
 pub mod InDesk
 pub mod InBook
+pub mod GivenUp
 pub mod InAnswers
 pub mod InRing
 pub mod InPost

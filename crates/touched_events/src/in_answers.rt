@@ -1,5 +1,5 @@
 //! The replies that are due.
-ghost use Rattle.std.specs.Prelude.{◌≡◌, ◌∷◌, ◌++◌, [], if◌then◌else◌, filter, map, IfOk, OnOk};
+ghost use Rattle.std.specs.Prelude.{◌++◌, map, OnOk};
 ghost use Rattle.std.specs.List.{flat_map};
 ghost use Rattle.std.specs.Option.{option_map};
 ghost use Rattle.aml_slice.specs.Controls.{Rest};
@@ -8,23 +8,22 @@ ghost use Rattle.core_events.specs.Meant.{event_meant};
 ghost use Rattle.hand_offers.specs.Listed.{Adds};
 ghost use Rattle.machine_words.specs.Meant.{tid_number};
 ghost use Rattle.order_book.specs.Fates.{tx_number};
-ghost use Rattle.protocol.specs.Conditions.{is_given_up};
 ghost use Rattle.protocol.specs.Effects.{after};
-ghost use Rattle.protocol.specs.Parts.{Book, Machine, OfAct};
+ghost use Rattle.protocol.specs.Parts.{Book, Machine};
 ghost use Rattle.protocol_ready.specs.Telling.{AnswersTell};
 ghost use Rattle.snap_hand.specs.Hands.{IsHandOf, IsWhole};
 ghost use Rattle.snap_hand.specs.Tables.{AreTables, fixed_of};
-ghost use Rattle.touched_events.specs.InAnswers.{given_up_tids, of_acts, of_batches, of_given_up, of_later, of_tx, of_txs, replies_of};
+ghost use Rattle.touched_events.specs.GivenUp.{AreGivenUpBy};
+ghost use Rattle.touched_events.specs.InAnswers.{of_acts_with, of_batches, of_later, of_tx, of_txs, replies_of};
 ghost use Rattle.touched_events.specs.New.{IsBehind, Keeps, is_new};
 
-use crate::in_book::append;
 use aml_slice::Control;
 use batch_table::Desk;
 use book_part::BookPart;
 use core_events::Event;
 use core_rows::runs_go_on;
 use hand_offers::{list_unreplied, push_one};
-use snap_base::{Bid, Memory, Tid, TxNo, Who};
+use snap_base::{Bid, Memory, Tid, TxNo};
 use snap_hand::{Hand, Tables};
 use std::alloc::Global;
 
@@ -71,57 +70,12 @@ fn list_later(
     Ok(())
 }
 
-fn push_tid(wanted: bool, t: Tid, tids: &mut Vec<Tid>) -> Result<(), Memory>
-    ensures { OnOk result (map tid_number tids.new.items ≡ map tid_number tids.old.items ++ (if wanted then t.0 ∷ [] else [])) }
-{
-    if wanted {
-        tids.push(t)?;
-    }
-    Ok(())
-}
-
-fn push_given_up(book: &BookPart, t: Tid, found: &mut Vec<Tid>) -> Result<(), Memory>
-    ensures { OnOk result ((b : Book) → Shows book.now b → map tid_number found.new.items ≡ map tid_number found.old.items ++ filter (λ u. is_given_up (OfAct u) b) (t.0 ∷ [])) }
-{
-    let given_up = book.is_given_up(Who::Act(t));
-    push_tid(given_up, t, found)?;
-    Ok(())
-}
-
-fn keep_given_up(book: &BookPart, tids: &[Tid], found: &mut Vec<Tid>) -> Result<(), Memory>
-    ensures { OnOk result ((b : Book) → Shows book.now b → map tid_number found.new.items ≡ map tid_number found.old.items ++ filter (λ u. is_given_up (OfAct u) b) (map tid_number tids.now)) }
-{
-    for t in tids {
-        push_given_up(book, *t, found)?;
-    }
-    Ok(())
-}
-
-/// The live ACTs that are given up.
-pub(crate) fn given_up_acts(alloc: Global, book: &BookPart) -> Result<Vec<Tid>, Memory>
-    ensures { IfOk result (λ tids. (b : Book) → Shows book.now b → map tid_number tids.items ≡ given_up_tids b) }
-{
-    let tids = book.going(alloc)?;
-    let mut found = Vec::new(alloc);
-    keep_given_up(book, &tids, &mut found)?;
-    Ok(found)
-}
-
 fn list_each_tx(book: &BookPart, tids: &[Tid], events: &mut Vec<Event>) -> Result<(), Memory>
     ensures { OnOk result ((b : Book) → Shows book.now b → Adds events.old.items events.new.items (flat_map (of_tx b) (map tid_number tids.now))) }
 {
     for t in tids {
         list_tx(book, *t, events)?;
     }
-    Ok(())
-}
-
-/// The replies of the live ACTs that are given up.
-fn list_given_up(alloc: Global, book: &BookPart, events: &mut Vec<Event>) -> Result<(), Memory>
-    ensures { OnOk result ((b : Book) → Shows book.now b → Adds events.old.items events.new.items (of_given_up b)) }
-{
-    let tids = given_up_acts(alloc, book)?;
-    list_each_tx(book, &tids, events)?;
     Ok(())
 }
 
@@ -144,52 +98,57 @@ fn list_of_batches(
 }
 
 /// The reply of an ACT that asked, and those of the ones that are given up.
-fn list_asked(alloc: Global, book: &BookPart, t: Tid, events: &mut Vec<Event>) -> Result<(), Memory>
-    ensures { OnOk result ((b : Book) → Shows book.now b → Adds events.old.items events.new.items (of_tx b t.0 ++ of_given_up b)) }
+fn list_asked(
+    book: &BookPart,
+    t: Tid,
+    fallen: &[Tid],
+    events: &mut Vec<Event>,
+) -> Result<(), Memory>
+    ensures { OnOk result ((b : Book) → Shows book.now b → Adds events.old.items events.new.items (of_tx b t.0 ++ flat_map (of_tx b) (map tid_number fallen.now))) }
 {
     list_tx(book, t, events)?;
-    list_given_up(alloc, book, events)?;
+    list_each_tx(book, fallen, events)?;
     Ok(())
 }
 
 fn list_of_acts(
-    alloc: Global,
     book: &BookPart,
     e: Event,
+    fallen: &[Tid],
     events: &mut Vec<Event>,
 ) -> Result<(), Memory>
-    ensures { OnOk result ((b : Book) → Shows book.now b → Adds events.old.items events.new.items (of_acts b (event_meant e))) }
+    ensures { OnOk result ((b : Book) → Shows book.now b → Adds events.old.items events.new.items (of_acts_with b (event_meant e) (map tid_number fallen.now))) }
 {
     match e {
         Event::End(t, _) => list_tx(book, t, events),
         Event::Decide(t) => list_tx(book, t, events),
         Event::Seal(t) => list_tx(book, t, events),
-        Event::Arrive(_, _) => list_given_up(alloc, book, events),
-        Event::Ask(t, _) => list_asked(alloc, book, t, events),
-        Event::AbortBatch(_) => list_given_up(alloc, book, events),
+        Event::Arrive(_, _) => list_each_tx(book, fallen, events),
+        Event::Ask(t, _) => list_asked(book, t, fallen, events),
+        Event::AbortBatch(_) => list_each_tx(book, fallen, events),
         _ => Ok(()),
     }
 }
 
-/// The replies that may have become due.
+/// The replies that may have become due, where these ACTs are given up.
 pub(crate) fn list_answers(
     alloc: Global,
     _tables: &Tables,
     hand: &Hand,
     e: Event,
+    fallen: &[Tid],
     events: &mut Vec<Event>,
 ) -> Result<(), Memory>
     requires tables { AreTables _tables.now }
     requires places { IsHandOf (fixed_of _tables.now) hand.now }
     requires whole { IsWhole hand.now }
-    ensures kept { OnOk result (Keeps events.old.items events.new.items) }
+    requires fallen { AreGivenUpBy (event_meant e) hand.now.book (map tid_number fallen.now) }
+    ensures kept { OnOk result ((s : Machine Rest) → IsBehind (fixed_of _tables.now) (event_meant e) s hand.now → Keeps events.old.items events.new.items) }
     ensures told { OnOk result ((s : Machine Rest) → IsBehind (fixed_of _tables.now) (event_meant e) s hand.now → AnswersTell (is_new (fixed_of _tables.now) (event_meant e) s) (after (fixed_of _tables.now) (event_meant e) s).book (after (fixed_of _tables.now) (event_meant e) s).desk (map event_meant events.new.items)) }
 {
     runs_go_on::<Control>();
     let next = hand.ring().next_bid();
     list_of_batches(alloc, hand.desk(), next, e, events)?;
-    let mut more = Vec::new(alloc);
-    list_of_acts(alloc, hand.book(), e, &mut more)?;
-    append(events, &more)?;
+    list_of_acts(hand.book(), e, fallen, events)?;
     Ok(())
 }

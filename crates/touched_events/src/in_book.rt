@@ -1,5 +1,5 @@
 //! What ACTs wait for.
-ghost use Rattle.std.specs.Prelude.{◌≡◌, ◌&&◌, ◌++◌, map, OnOk};
+ghost use Rattle.std.specs.Prelude.{◌≡◌, ◌≤◌, ◌&&◌, map, OnOk};
 ghost use Rattle.std.specs.List.{flat_map};
 ghost use Rattle.aml_slice.specs.Controls.{Rest};
 ghost use Rattle.book_part.specs.Halves.{Shows};
@@ -12,9 +12,11 @@ ghost use Rattle.protocol.specs.Parts.{Book, Machine};
 ghost use Rattle.protocol_ready.specs.Telling.{BookTells};
 ghost use Rattle.snap_hand.specs.Hands.{IsHandOf, IsWhole};
 ghost use Rattle.snap_hand.specs.Tables.{AreTables, fixed_of};
-ghost use Rattle.touched_events.specs.InBook.{by_book, due_if, due_of, due_on, is_meant, lets_decide, lets_finish, lets_prepare, lets_vote, may_decide, may_finish, may_prepare, may_seal, may_vouch, of_live, of_meant, only, only_gives_up};
+ghost use Rattle.touched_events.specs.GivenUp.{AreGivenUpBy};
+ghost use Rattle.touched_events.specs.InBook.{by_book_with, due_if, due_of, due_on, is_meant, lets_decide, lets_finish, lets_prepare, lets_vote, may_decide, may_finish, may_prepare, may_seal, may_vouch, of_live, of_meant, only, only_gives_up};
 ghost use Rattle.touched_events.specs.New.{IsBehind, Keeps, is_new};
 
+use crate::in_sync::list_synced;
 use aml_slice::Control;
 use book_part::{BookPart, unbegun_acts_wait_for_nothing};
 use core_events::Event;
@@ -296,6 +298,22 @@ fn list_each(
     Ok(())
 }
 
+/// What each of these does next.
+fn list_each_due(
+    alloc: Global,
+    book: &BookPart,
+    e: Event,
+    tids: &[Tid],
+    events: &mut Vec<Event>,
+) -> Result<(), Memory>
+    ensures { OnOk result ((b : Book) → Shows book.now b → Adds events.old.items events.new.items (flat_map (due_of (event_meant e) b) (map tid_number tids.now))) }
+{
+    for t in tids {
+        list_due(alloc, book, e, *t, events)?;
+    }
+    Ok(())
+}
+
 /// What each live ACT does next.
 fn list_live(
     alloc: Global,
@@ -310,8 +328,16 @@ fn list_live(
     Ok(())
 }
 
-fn list_by(alloc: Global, book: &BookPart, e: Event, events: &mut Vec<Event>) -> Result<(), Memory>
-    ensures { OnOk result ((b : Book) → Shows book.now b → Adds events.old.items events.new.items (by_book b (event_meant e))) }
+fn list_by(
+    alloc: Global,
+    logs: u8,
+    book: &BookPart,
+    e: Event,
+    fallen: &[Tid],
+    events: &mut Vec<Event>,
+) -> Result<(), Memory>
+    requires { 1 ≤ logs }
+    ensures { OnOk result ((b : Book) → Shows book.now b → Adds events.old.items events.new.items (by_book_with logs b (event_meant e) (map tid_number fallen.now))) }
 {
     match e {
         Event::Admit(t) => list_meant(alloc, book, e, t, events),
@@ -321,45 +347,35 @@ fn list_by(alloc: Global, book: &BookPart, e: Event, events: &mut Vec<Event>) ->
         Event::Decide(t) => list_meant(alloc, book, e, t, events),
         Event::Seal(t) => list_meant(alloc, book, e, t, events),
         Event::Finish(t, _) => list_meant(alloc, book, e, t, events),
-        Event::Arrive(_, _) => list_live(alloc, book, e, events),
-        Event::Ask(_, _) => list_live(alloc, book, e, events),
-        Event::Sync(_) => list_live(alloc, book, e, events),
+        Event::Arrive(_, _) => list_each_due(alloc, book, e, fallen, events),
+        Event::Ask(_, _) => list_each_due(alloc, book, e, fallen, events),
+        Event::Sync(l) => list_synced(alloc, book, logs, l, events),
         Event::Settle(_) => list_live(alloc, book, e, events),
         Event::AbortBatch(_) => list_live(alloc, book, e, events),
         _ => Ok(()),
     }
 }
 
-pub(crate) fn append(events: &mut Vec<Event>, more: &[Event]) -> Result<(), Memory>
-    ensures { OnOk result (events.new.items ≡ events.old.items ++ more.now) }
-{
-    for e in more {
-        events.push(*e)?;
-    }
-    Ok(())
-}
-
-/// What may have become allowed of what ACTs wait for.
+/// What may have become allowed of what ACTs wait for, where these are given up.
 pub(crate) fn list_book(
     alloc: Global,
-    _tables: &Tables,
+    tables: &Tables,
     hand: &Hand,
     e: Event,
+    fallen: &[Tid],
     events: &mut Vec<Event>,
 ) -> Result<(), Memory>
-    requires tables { AreTables _tables.now }
-    requires places { IsHandOf (fixed_of _tables.now) hand.now }
+    requires tables { AreTables tables.now }
+    requires places { IsHandOf (fixed_of tables.now) hand.now }
     requires whole { IsWhole hand.now }
-    ensures kept { OnOk result (Keeps events.old.items events.new.items) }
-    ensures told { OnOk result ((s : Machine Rest) → IsBehind (fixed_of _tables.now) (event_meant e) s hand.now → BookTells (is_new (fixed_of _tables.now) (event_meant e) s) (after (fixed_of _tables.now) (event_meant e) s).book (map event_meant events.new.items)) }
+    requires fallen { AreGivenUpBy (event_meant e) hand.now.book (map tid_number fallen.now) }
+    ensures kept { OnOk result ((s : Machine Rest) → IsBehind (fixed_of tables.now) (event_meant e) s hand.now → Keeps events.old.items events.new.items) }
+    ensures told { OnOk result ((s : Machine Rest) → IsBehind (fixed_of tables.now) (event_meant e) s hand.now → BookTells (is_new (fixed_of tables.now) (event_meant e) s) (after (fixed_of tables.now) (event_meant e) s).book (map event_meant events.new.items)) }
 {
     allowed_or_refused::<Control>();
     runs_go_on::<Control>();
     run_parts_list_all::<Control>();
     unbegun_acts_wait_for_nothing();
-    let book = hand.book();
-    let mut more = Vec::new(alloc);
-    list_by(alloc, book, e, &mut more)?;
-    append(events, &more)?;
+    list_by(alloc, tables.work.logs, hand.book(), e, fallen, events)?;
     Ok(())
 }

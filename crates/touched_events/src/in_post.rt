@@ -2,28 +2,26 @@
 ghost use Rattle.std.specs.Prelude.{◌≡◌, ◌++◌, map, OnOk};
 ghost use Rattle.std.specs.List.{flat_map};
 ghost use Rattle.aml_slice.specs.Controls.{Rest};
-ghost use Rattle.book_part.specs.Halves.{Shows};
 ghost use Rattle.core_events.specs.Meant.{event_meant};
 ghost use Rattle.hand_offers.specs.Listed.{Adds};
 ghost use Rattle.machine_words.specs.Meant.{tid_number};
 ghost use Rattle.post_box.specs.Listed.{control_listed, sub_listed};
 ghost use Rattle.protocol.specs.Effects.{after};
-ghost use Rattle.protocol.specs.Parts.{Book, Machine};
+ghost use Rattle.protocol.specs.Parts.{Machine};
 ghost use Rattle.protocol_ready.specs.Telling.{PostTells};
 ghost use Rattle.snap_hand.specs.Hands.{IsHandOf, IsWhole};
 ghost use Rattle.snap_hand.specs.Tables.{AreTables, fixed_of};
-ghost use Rattle.touched_events.specs.InPost.{all_to, arrivals_to, comings_to, drop_if, drop_of, given_up_drops, of_arrival, of_coming, of_drops, of_post, on_control};
+ghost use Rattle.touched_events.specs.GivenUp.{AreGivenUpBy};
+ghost use Rattle.touched_events.specs.InPost.{all_to, arrivals_to, comings_to, of_arrival, of_coming, of_drop, of_drops_with, of_post, on_control};
 ghost use Rattle.touched_events.specs.New.{IsBehind, Keeps, is_new};
 
-use crate::in_book::append;
 use aml_slice::Control;
-use book_part::BookPart;
 use core_events::Event;
 use core_rows::runs_go_on;
 use hand_offers::{list_messages, push_one, push_three, push_two};
 use post_box::Post;
 use protocol_laws::allowed_or_refused;
-use snap_base::{ActorId, Bid, Memory, Tid, Who};
+use snap_base::{ActorId, Bid, Memory, Tid};
 use snap_hand::{Hand, Tables};
 use std::alloc::Global;
 
@@ -122,75 +120,46 @@ fn list_of_post(
     }
 }
 
-fn push_drop(given_up: bool, t: Tid, events: &mut Vec<Event>) -> Result<(), Memory>
-    ensures { OnOk result (Adds events.old.items events.new.items (drop_if given_up t.0)) }
-{
-    if given_up {
-        push_one(events, Event::DropControl(t))?;
-    }
-    Ok(())
-}
-
-fn list_drop(book: &BookPart, t: Tid, events: &mut Vec<Event>) -> Result<(), Memory>
-    ensures { OnOk result ((b : Book) → Shows book.now b → Adds events.old.items events.new.items (drop_of b t.0)) }
-{
-    let given_up = book.is_given_up(Who::Act(t));
-    push_drop(given_up, t, events)?;
-    Ok(())
-}
-
-fn list_each_drop(book: &BookPart, tids: &[Tid], events: &mut Vec<Event>) -> Result<(), Memory>
-    ensures { OnOk result ((b : Book) → Shows book.now b → Adds events.old.items events.new.items (flat_map (drop_of b) (map tid_number tids.now))) }
+/// The controls of ACTs.
+fn push_drops(tids: &[Tid], events: &mut Vec<Event>) -> Result<(), Memory>
+    ensures { OnOk result (Adds events.old.items events.new.items (flat_map of_drop (map tid_number tids.now))) }
 {
     for t in tids {
-        list_drop(book, *t, events)?;
+        push_one(events, Event::DropControl(*t))?;
     }
     Ok(())
 }
 
-/// The controls of the live ACTs that are given up.
-fn list_drops(alloc: Global, book: &BookPart, events: &mut Vec<Event>) -> Result<(), Memory>
-    ensures { OnOk result ((b : Book) → Shows book.now b → Adds events.old.items events.new.items (given_up_drops b)) }
-{
-    let tids = book.going(alloc)?;
-    list_each_drop(book, &tids, events)?;
-    Ok(())
-}
-
-fn list_of_drops(
-    alloc: Global,
-    book: &BookPart,
-    e: Event,
-    events: &mut Vec<Event>,
-) -> Result<(), Memory>
-    ensures { OnOk result ((b : Book) → Shows book.now b → Adds events.old.items events.new.items (of_drops (event_meant e) b)) }
+/// The controls of those that are given up.
+fn list_of_drops(e: Event, fallen: &[Tid], events: &mut Vec<Event>) -> Result<(), Memory>
+    ensures { OnOk result (Adds events.old.items events.new.items (of_drops_with (event_meant e) (map tid_number fallen.now))) }
 {
     match e {
-        Event::Arrive(_, _) => list_drops(alloc, book, events),
-        Event::Ask(_, _) => list_drops(alloc, book, events),
+        Event::Arrive(_, _) => push_drops(fallen, events),
+        Event::Ask(_, _) => push_drops(fallen, events),
         _ => Ok(()),
     }
 }
 
-/// What may have become allowed of what is under way.
+/// What may have become allowed of what is under way, where these ACTs are given up.
 pub(crate) fn list_post(
     alloc: Global,
     _tables: &Tables,
     hand: &Hand,
     e: Event,
+    fallen: &[Tid],
     events: &mut Vec<Event>,
 ) -> Result<(), Memory>
     requires tables { AreTables _tables.now }
     requires places { IsHandOf (fixed_of _tables.now) hand.now }
     requires whole { IsWhole hand.now }
+    requires fallen { AreGivenUpBy (event_meant e) hand.now.book (map tid_number fallen.now) }
     ensures kept { OnOk result (Keeps events.old.items events.new.items) }
     ensures told { OnOk result ((s : Machine Rest) → IsBehind (fixed_of _tables.now) (event_meant e) s hand.now → PostTells (is_new (fixed_of _tables.now) (event_meant e) s) (after (fixed_of _tables.now) (event_meant e) s).post (map event_meant events.new.items)) }
 {
     allowed_or_refused::<Control>();
     runs_go_on::<Control>();
     list_of_post(alloc, hand.post(), e, events)?;
-    let mut more = Vec::new(alloc);
-    list_of_drops(alloc, hand.book(), e, &mut more)?;
-    append(events, &more)?;
+    list_of_drops(e, fallen, events)?;
     Ok(())
 }

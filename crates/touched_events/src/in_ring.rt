@@ -1,5 +1,5 @@
 //! What the ring has next, and the logs.
-ghost use Rattle.std.specs.Prelude.{◌≡◌, ◌%◌, ◌≤◌, ◌++◌, Some, ℕ, map, slice_get, OnOk};
+ghost use Rattle.std.specs.Prelude.{◌≡◌, ◌%◌, ◌≤◌, Some, ℕ, map, slice_get, OnOk};
 ghost use Rattle.aml_slice.specs.Controls.{Rest};
 ghost use Rattle.core_events.specs.Meant.{event_meant};
 ghost use Rattle.hand_offers.specs.Listed.{Adds};
@@ -8,14 +8,14 @@ ghost use Rattle.protocol.specs.Parts.{Log, Machine};
 ghost use Rattle.protocol_ready.specs.Telling.{LogTells, RingTells};
 ghost use Rattle.snap_hand.specs.Hands.{IsHandOf, IsWhole};
 ghost use Rattle.snap_hand.specs.Tables.{AreTables, fixed_of, text_of};
-ghost use Rattle.touched_events.specs.InRing.{admits, changes_ring, forms, log_changed, logs_listed, ring_listed};
+ghost use Rattle.touched_events.specs.InRing.{admits, admits_if, changes_ring, draws, forms, forms_if, frees_acts, frees_batches, log_changed, logs_listed, ring_listed};
 ghost use Rattle.touched_events.specs.New.{IsBehind, Keeps, is_new};
 
 use aml_slice::Control;
 use core_events::Event;
 use core_rows::runs_go_on;
 use hand_offers::{list_next, push_one};
-use protocol_laws::logs_stay;
+use protocol_laws::{frame, logs_stay};
 use snap_base::Memory;
 use snap_hand::{Hand, Tables};
 use token_ring::Ring;
@@ -52,11 +52,53 @@ fn list_admit(ring: &Ring, events: &mut Vec<Event>) -> Result<(), Memory>
     Ok(())
 }
 
-fn list_draws(ring: &Ring, events: &mut Vec<Event>) -> Result<(), Memory>
-    ensures { OnOk result (Adds events.old.items events.new.items (forms ring.now ++ admits ring.now)) }
+/// Whether fewer batches may be live after it.
+fn frees_batches(e: Event) -> bool
+    ensures { result ≡ frees_batches (event_meant e) }
 {
+    matches!(e, Event::Trim(_, _))
+}
+
+/// Whether fewer ACTs may be live after it.
+fn frees_acts(e: Event) -> bool
+    ensures { result ≡ frees_acts (event_meant e) }
+{
+    match e {
+        Event::Arrive(_, _) => true,
+        Event::Ask(_, _) => true,
+        Event::Decide(_) => true,
+        Event::Seal(_) => true,
+        Event::Finish(_, _) => true,
+        _ => false,
+    }
+}
+
+fn list_form_if(freed: bool, ring: &Ring, events: &mut Vec<Event>) -> Result<(), Memory>
+    ensures { OnOk result (Adds events.old.items events.new.items (forms_if freed ring.now)) }
+{
+    if !freed {
+        return Ok(());
+    }
     list_form(ring, events)?;
+    Ok(())
+}
+
+fn list_admit_if(freed: bool, ring: &Ring, events: &mut Vec<Event>) -> Result<(), Memory>
+    ensures { OnOk result (Adds events.old.items events.new.items (admits_if freed ring.now)) }
+{
+    if !freed {
+        return Ok(());
+    }
     list_admit(ring, events)?;
+    Ok(())
+}
+
+/// What may be drawn, where the event may have made room for it.
+fn list_draws(ring: &Ring, e: Event, events: &mut Vec<Event>) -> Result<(), Memory>
+    ensures { OnOk result (Adds events.old.items events.new.items (draws (event_meant e) ring.now)) }
+{
+    list_form_if(frees_batches(e), ring, events)?;
+    list_admit_if(frees_acts(e), ring, events)?;
     Ok(())
 }
 
@@ -72,7 +114,7 @@ fn list_by_event(
     if is_of_ring(e) {
         list_next(tables, ring, events)
     } else {
-        list_draws(ring, events)
+        list_draws(ring, e, events)
     }
 }
 
@@ -89,6 +131,7 @@ pub(crate) fn list_ring(
     ensures kept { OnOk result (Keeps events.old.items events.new.items) }
     ensures told { OnOk result ((s : Machine Rest) → IsBehind (fixed_of tables.now) (event_meant e) s hand.now → RingTells (is_new (fixed_of tables.now) (event_meant e) s) (text_of tables.now) (after (fixed_of tables.now) (event_meant e) s).ring (map event_meant events.new.items)) }
 {
+    frame::<Control>();
     list_by_event(tables, hand.ring(), e, events)?;
     Ok(())
 }

@@ -26,13 +26,17 @@ use aml_slice::Control;
 use book_part::unbegun_acts_wait_for_nothing;
 use core_rows::runs_go_on;
 use listing_facts::{parts_list_all, run_parts_list_all};
-use protocol_laws::{allowed_or_refused, logs_stay, numbers_are_drawn_once, numbers_are_in_range};
+use protocol_laws::{
+    allowed_or_refused, frame, logs_stay, numbers_are_drawn_once, numbers_are_in_range,
+};
 use protocol_theorems::sizes_hold;
 
 /// What is new of what the ring has next.
 pub fn ring_is_told()
     ensures { (w : Fixed Rest) (e : Event) (s : Machine Rest) (es : List Event) → ((f : Event) → Contains (ring_listed w.text.coordinators e (after w e s).ring) f → Contains es f) → RingTells (is_new w e s) w.text (after w e s).ring es }
-{}
+{
+    frame::<Control>();
+}
 
 /// What is new of logs that have got a record to sync.
 pub fn logs_are_told()
@@ -71,7 +75,7 @@ pub fn desk_is_told()
 
 /// What is new of what ACTs wait for; some halves show the book.
 pub fn book_is_told()
-    ensures { (w : Fixed Rest) (e : Event) (s : Machine Rest) (h : Parts) (x : Halves) (es : List Event) → IsBehind w e s h → Shows x (after w e s).book → ((f : Event) → Contains (by_book (after w e s).book e) f → Contains es f) → BookTells (is_new w e s) (after w e s).book es }
+    ensures { (w : Fixed Rest) (e : Event) (s : Machine Rest) (h : Parts) (x : Halves) (es : List Event) → IsBehind w e s h → Shows x (after w e s).book → ((f : Event) → Contains (by_book w.text.logs (after w e s).book e) f → Contains es f) → BookTells (is_new w e s) (after w e s).book es }
 {
     allowed_or_refused::<Control>();
     runs_go_on::<Control>();

@@ -3,12 +3,14 @@
 //! what is live where the event was, and never on what is over.
 #![tactic(auto)]
 
+mod given_up;
 mod in_answers;
 mod in_book;
 mod in_cells;
 mod in_desk;
 mod in_post;
 mod in_ring;
+mod in_sync;
 mod laws;
 mod touching;
 

@@ -1,4 +1,4 @@
-ghost use Rattle.std.specs.Prelude.{map, IfOk};
+ghost use Rattle.std.specs.Prelude.{map, OnOk};
 ghost use Rattle.aml_slice.specs.Controls.{Rest};
 ghost use Rattle.core_events.specs.Meant.{event_meant};
 ghost use Rattle.protocol.specs.Effects.{after};
@@ -8,6 +8,7 @@ ghost use Rattle.snap_hand.specs.Hands.{IsHandOf, IsWhole};
 ghost use Rattle.snap_hand.specs.Tables.{AreTables, fixed_of};
 ghost use Rattle.touched_events.specs.New.{IsBehind, is_new};
 
+use crate::given_up::given_up_by;
 use crate::in_answers::list_answers;
 use crate::in_book::list_book;
 use crate::in_cells::list_cells;
@@ -19,20 +20,29 @@ use snap_base::Memory;
 use snap_hand::{Hand, Tables};
 use std::alloc::Global;
 
-/// Events among which each is that the event, which was just taken, has made allowed. All parts are at hand, as they are after it.
-pub fn touched(alloc: Global, tables: &Tables, hand: &Hand, e: Event) -> Result<Vec<Event>, Memory>
+/// Puts events in place of what was in the list, among which each is that the event, which was just taken, has made allowed. All
+/// parts are at hand, as they are after it. The list's room is kept, so that one list serves event after event. Want of memory
+/// leaves some of them.
+pub fn touched(
+    alloc: Global,
+    tables: &Tables,
+    hand: &Hand,
+    e: Event,
+    events: &mut Vec<Event>,
+) -> Result<(), Memory>
     requires tables { AreTables tables.now }
     requires places { IsHandOf (fixed_of tables.now) hand.now }
     requires whole { IsWhole hand.now }
-    ensures { IfOk result (λ v. (s : Machine Rest) → IsBehind (fixed_of tables.now) (event_meant e) s hand.now → PartsTell (is_new (fixed_of tables.now) (event_meant e) s) (fixed_of tables.now) (after (fixed_of tables.now) (event_meant e) s) (map event_meant v.items)) }
+    ensures { OnOk result ((s : Machine Rest) → IsBehind (fixed_of tables.now) (event_meant e) s hand.now → PartsTell (is_new (fixed_of tables.now) (event_meant e) s) (fixed_of tables.now) (after (fixed_of tables.now) (event_meant e) s) (map event_meant events.new.items)) }
 {
-    let mut events = Vec::new(alloc);
-    list_ring(tables, hand, e, &mut events)?;
-    list_post(alloc, tables, hand, e, &mut events)?;
-    list_cells(alloc, tables, hand, e, &mut events)?;
-    list_logs(tables, hand, e, &mut events)?;
-    list_desk(alloc, tables, hand, e, &mut events)?;
-    list_book(alloc, tables, hand, e, &mut events)?;
-    list_answers(alloc, tables, hand, e, &mut events)?;
-    Ok(events)
+    events.clear();
+    list_ring(tables, hand, e, events)?;
+    let fallen = given_up_by(alloc, hand.book(), e)?;
+    list_post(alloc, tables, hand, e, &fallen, events)?;
+    list_cells(alloc, tables, hand, e, events)?;
+    list_logs(tables, hand, e, events)?;
+    list_desk(alloc, tables, hand, e, events)?;
+    list_book(alloc, tables, hand, e, &fallen, events)?;
+    list_answers(alloc, tables, hand, e, &fallen, events)?;
+    Ok(())
 }

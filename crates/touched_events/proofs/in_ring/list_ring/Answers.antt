@@ -14,5 +14,5 @@ returns-clause-kept c = keeps_added c.args.events.now.items c.list_by_event.new.
 
 pub returns-clause-told : goal.returns-clause-told
 returns-clause-told c s behind =
-    ring_told (fixed_of c.args.tables.now) (event_meant c.args.e) s c.ring.result.now (map event_meant c.list_by_event.new.events.items) (behind.fits.ring c.ring.result.now c.ring.ensures)
+    ring_told (fixed_of c.args.tables.now) (event_meant c.args.e) s (c.frame.ensures (fixed_of c.args.tables.now)) c.ring.result.now (map event_meant c.list_by_event.new.events.items) (behind.fits.ring c.ring.result.now c.ring.ensures)
     (has_added c.args.events.now.items c.list_by_event.new.events.items (ring_listed (text_of c.args.tables.now).coordinators (event_meant c.args.e) c.ring.result.now) c.in_ok-list_by_event.ensures)

@@ -4,4 +4,4 @@ use Rattle.touched_events.proofs.InRing.{ring_told}
 use Rattle.touched_events.proofs.laws.ring_is_told.Goals as goal
 
 pub returns : goal.returns
-returns c w e s es more = ring_told w e s (after w e s).ring es refl more
+returns c w e s es more = ring_told w e s (c.frame.ensures w) (after w e s).ring es refl more

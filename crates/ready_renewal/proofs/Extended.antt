@@ -1,0 +1,48 @@
+-- What is put in, and nothing taken out, leaves no allowed event out.
+use Rattle.std.proofs.Common.{◌≡◌, ◌↔◌, ◌==◌, Bool, true, false, Contains, List, refl, sym, subst, inl, inr, ◌∙◌}
+use Rattle.std.proofs.lemmas.Bool.{eqb-true, eq-eqb, true≢false}
+use Rattle.aml_slice.specs.Controls.{Rest}
+use Rattle.core_rows.specs.OnRuns.{HasRun}
+use Rattle.protocol.specs.Conditions.{AllTrue, IsAllowed, refusal}
+use Rattle.protocol.specs.Effects.{after}
+use Rattle.protocol.specs.Events.{Event}
+use Rattle.protocol.specs.Fixed.{Fixed}
+use Rattle.protocol.specs.Laws.{AfterEveryRun}
+use Rattle.protocol.specs.Parts.{Machine}
+use Rattle.protocol_ready.specs.Telling.{PartsTell}
+use Rattle.protocol_ready.specs.Touched.{IsSound, LeavesUntouched, is_touched}
+use Rattle.ready_renewal.specs.Asked.{IsWith}
+use Rattle.ready_renewal.specs.Covering.{Covers}
+use Rattle.ready_renewal.proofs.KeptEvents.{new_is}
+use Rattle.snap_hand.specs.Hands.{Parts}
+use Rattle.touched_events.specs.New.{IsBehind, is_new}
+
+pub extended : (w : Fixed Rest) (h : Parts) (e : Event) (news old new : List Event)
+    → ((w : Fixed Rest) (e : Event) (s : Machine Rest) → HasRun w s → IsAllowed w e s → HasRun w (after w e s))
+    → ((w : Fixed Rest) (e : Event) (s : Machine Rest) → (refusal w e s ≡ 0) ↔ IsAllowed w e s)
+    → ((asked : Event → Bool) (w : Fixed Rest) (s : Machine Rest) (es : List Event) → PartsTell asked w s es → (f : Event) → asked f ≡ true → IsAllowed w f s → Contains es f)
+    → ((w : Fixed Rest) (s : Machine Rest) → LeavesUntouched w s)
+    → AfterEveryRun (IsSound {C = Rest})
+    → ((s : Machine Rest) → IsBehind w e s h → PartsTell (is_new w e s) w (after w e s) news)
+    → IsWith w h news old new
+    → (s : Machine Rest) → IsBehind w e s h → Covers w s old → Covers w (after w e s) new
+extended w h e news old new on ruled tells leaves stay told more s is before = record {
+  all = λ f now. holds f now (refusal w f s == 0) refl (is_touched w e s f) refl;
+  ascends = more.ascends before.ascends;
+}
+  where
+    sound : IsSound w s
+    sound = subst (IsSound w) (sym is.run.is_reached) (stay w is.run.events is.run.text is.run.run)
+
+    was : (f : Event) → IsAllowed w f s → Contains new f
+    was f ok = more.kept f (before.all f ok)
+
+    holds : (f : Event) → IsAllowed w f (after w e s) → (b : Bool) → (refusal w f s == 0) ≡ b → (t : Bool) → is_touched w e s f ≡ t → Contains new f
+    holds f now true q t touched = was f ((ruled w f s).0 (eqb-true (refusal w f s) 0 q))
+    holds f now false q false touched = was f (subst AllTrue (leaves w s e f sound is.allowed touched) now)
+    holds f now false q true touched =
+        let first = new_is w e s f (ruled w f) touched (λ ok. true≢false (sym (eq-eqb (refusal w f s) 0 ((ruled w f s).1 ok)) ∙ q)) now in
+        elim (more.due f (tells (is_new w e s) w (after w e s) news (told s is) f first now)) [
+          | inl c ↦ c
+          | inr r ↦ absurd (r (after w e s) (on w e s is.run is.allowed) is.fits now)
+        ]
