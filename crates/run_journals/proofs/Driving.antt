@@ -1,5 +1,5 @@
 -- Journals that got groups, one call after the other.
-use Rattle.std.proofs.Common.{◌≡◌, ℕ, false, Option, None, Some, List, [], ◌∷◌, ◌++◌, map, refl, sym, ap, subst, ◌∙◌, arith, append_assoc, append-nil}
+use Rattle.std.proofs.Common.{◌≡◌, ℕ, ◌≤◌, false, IfSome, Option, None, Some, List, [], ◌∷◌, ◌++◌, map, refl, sym, ap, subst, ◌∙◌, arith, append_assoc, append-nil}
 use Rattle.gate_log.specs.Appends.{append_ops, end_behind}
 use Rattle.gate_log.specs.State.{LogState, IsUntouched}
 use Rattle.log_part.specs.Shown.{told_bytes}
@@ -8,6 +8,7 @@ use Rattle.record_log.specs.Growth.{end_behind_groups, GrewBy, MayAppendGroup}
 use Rattle.record_log.specs.GrowthLaws.{GroupGrows, FaultGrows}
 use Rattle.record_log.specs.Records.{spelled}
 use Rattle.record_words.specs.Told.{all_told}
+use Rattle.snap_outside.specs.Causes.{Rose}
 use Rattle.snap_outside.specs.Disk.{AddsAll, AddsUpToFault}
 use Rattle.run_journals.specs.Driven.{IsDriven}
 use Rattle.run_journals.specs.Appending.{IsAppended, IsCutOff}
@@ -24,6 +25,10 @@ pub ends_join : (end : ℕ) (xs ys : List (List Record)) → end_behind_groups e
 ends_join end [] ys = refl
 ends_join end (x ∷ xs) ys = ends_join (end_behind end (spelled x)) xs ys
 
+rose_since : {X : Type 0} (a b c : ℕ) (tried : Option X) → a ≤ b → IfSome tried (λ _. Rose b c) → IfSome tried (λ _. Rose a c)
+rose_since a b c None later rose = tt
+rose_since a b c (Some x) later rose = omega (arith, later, rose)
+
 pub driven_join : (a b c : LogState) (xs ys : List (List Record)) (tried : Option (List Record)) → IsDriven a b xs None → IsDriven b c ys tried → IsDriven a c (xs ++ ys) tried
 driven_join a b c xs ys tried p q = record {
   grew = λ device end first grown at.
@@ -32,6 +37,7 @@ driven_join a b c xs ys tried p q = record {
   gate = q.gate ∙ ap (λ n. end_behind_groups n ys) p.gate ∙ sym (ends_join a.end xs ys);
   shut = q.shut;
   later = omega (arith, p.later, q.later);
+  rose = rose_since a.faults b.faults c.faults tried p.later q.rose;
 }
 
 -- nothing was done
@@ -41,6 +47,7 @@ driven_none a b same ready = record {
   gate = same.end;
   shut = same.shut ∙ ready;
   later = omega (arith, same.faults);
+  rose = tt;
 }
 
 pub driven_same : (a : LogState) → a.shut ≡ false → IsDriven a a [] None
@@ -56,6 +63,7 @@ driven_more law a b group may is = record {
   gate = is.gate;
   shut = is.ready;
   later = is.later;
+  rose = tt;
 }
 
 -- its append met a fault
@@ -69,4 +77,5 @@ driven_cut_off law a b group may is = record {
   gate = is.gate;
   shut = is.shut;
   later = is.later;
+  rose = is.rose;
 }

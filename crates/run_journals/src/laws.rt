@@ -1,4 +1,5 @@
-//! What follows of one append. Each is called to cite it.
+//! What follows of one append, and of the runs of a text. Each is called to cite it.
+ghost use Rattle.std.specs.List.{AllByRecursion};
 ghost use Rattle.std.specs.Prelude.{◌≡◌, false, None, Some, List, [], ◌∷◌, map};
 ghost use Rattle.gate_log.specs.State.{LogState};
 ghost use Rattle.log_part.specs.Shown.{told_bytes};
@@ -8,9 +9,20 @@ ghost use Rattle.record_log.specs.Records.{spelled};
 ghost use Rattle.record_words.specs.Told.{all_told};
 ghost use Rattle.run_journals.specs.Appending.{IsAppended, IsCutOff};
 ghost use Rattle.run_journals.specs.Driven.{IsDriven};
+ghost use Rattle.run_journals.specs.RunsOf.{RunsOf};
+ghost use Rattle.snap_hand.specs.Tables.{AreTables, fixed_of};
+ghost use Rattle.txn_records.specs.Records.{IsState};
 ghost use Rattle.txn_records.specs.declared.records.Record.{Record};
 
+use aml_slice::Control;
+use group_sizes::{groups_fit, waiting_fits};
+use machine_laws::{every_run_ends, texts_have_the_facts};
+use protocol_laws::logs_stay;
 use record_log::history_grows;
+use run_outputs::{groups_are_records, groups_grow, replies_grow};
+use snap_base::State;
+use snap_hand::Tables;
+use txn_records::states_fit;
 
 /// An open log got nothing yet; by an append of a group it got that group, and by one that met a fault a front of it. The
 /// pieces that wait are the records that wait, as they are written.
@@ -21,4 +33,31 @@ pub fn appends_drive()
     ensures pieces { (rs : List LogRecord) → map told_bytes rs ≡ spelled (all_told rs) }
 {
     history_grows();
+}
+
+/// What the laws say of the runs of a text: they end; they keep the text's logs; what waits on a log may be appended there; and
+/// with one more event what is appended and printed grows by that of the event.
+pub fn runs_of(tables: &Tables)
+    requires { AreTables tables.now }
+    ensures { RunsOf (fixed_of tables.now) }
+{
+    let program = &tables.work.program;
+    each_fits(tables.opening.states.as_slice());
+    texts_have_the_facts(program);
+    every_run_ends(program);
+    logs_stay::<Control>();
+    groups_are_records(program);
+    waiting_fits::<Control>();
+    groups_fit::<Control>();
+    groups_grow::<Control>();
+    replies_grow::<Control>();
+}
+
+/// Every one of the states may stand in a record.
+fn each_fits(states: &[State])
+    ensures { AllByRecursion IsState states.now }
+{
+    for state in states {
+        states_fit(state);
+    }
 }

@@ -1,9 +1,11 @@
 //! What a run makes of the journals of its logs: each gets the groups of the log's Syncs, one append for each, and then perhaps
-//! the front of one that met a fault. The definitions and the append are for every host, whoever takes the events.
+//! the front of one that met a fault. The definitions, the append and the laws are for every host, whoever takes the events; and so are the reasons why a host ends.
 #![tactic(auto)]
 
 mod appends;
 mod laws;
+mod stops;
 
 pub use appends::append_group;
-pub use laws::appends_drive;
+pub use laws::{appends_drive, runs_of};
+pub use stops::Stop;

@@ -18,9 +18,10 @@ use Rattle.run_outputs.specs.Laws.{line_by}
 use Rattle.run_outputs.specs.Lines.{replies_text}
 use Rattle.snap_outside.specs.Causes.{Rose}
 use Rattle.solo_host.specs.Drives.{log_at, AreDriven, IsWhy, IsPrinted, tried_on}
-use Rattle.solo_host.specs.Outside.{RunsOf, Outside, Got, no_group, no_fault, AreLow, AreOpen, IsDone, IsPicked, IsEnd}
-use Rattle.solo_host.specs.declared.drives.Stop.{Stop}
-use Rattle.solo_host.specs.declared.drives.Stop.TheVariants as stop
+use Rattle.run_journals.specs.RunsOf.{RunsOf}
+use Rattle.solo_host.specs.Outside.{Outside, Got, no_group, no_fault, AreLow, AreOpen, IsDone, IsPicked, IsEnd}
+use Rattle.run_journals.specs.declared.stops.Stop.{Stop}
+use Rattle.run_journals.specs.declared.stops.Stop.TheVariants as stop
 use Rattle.solo_host.proofs.GotGroups.{got_nothing, got_join, got_open, got_same}
 use Rattle.solo_host.proofs.Picking.{goes_on, picked_allowed}
 

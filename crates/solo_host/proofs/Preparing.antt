@@ -32,11 +32,14 @@ use Rattle.snap_outside.specs.Causes.{Rose}
 use Rattle.core_events.specs.declared.events.Event as code
 use Rattle.core_events.specs.declared.events.Event.TheVariants as events
 use Rattle.core_events.specs.Meant.{event_meant}
-use Rattle.solo_host.specs.Drives.{log_at, IsDriven, tried_on}
-use Rattle.solo_host.specs.Outside.{RunsOf, Got, no_group, no_fault, AreLow, AreOpen, IsAppended, IsNotAppended, IsCutOff, IsDone, IsGivenUp, IsSynced, IsNotSynced, outside, stop_of}
-use Rattle.solo_host.specs.declared.drives.Stop.{Stop}
-use Rattle.solo_host.specs.declared.drives.Stop.TheVariants as stop
-use Rattle.solo_host.proofs.GotGroups.{pieces_spelled, driven_same, driven_none, driven_more, driven_cut_off}
+use Rattle.run_journals.specs.Appending.{IsAppended, IsNotAppended, IsCutOff}
+use Rattle.run_journals.specs.Driven.{IsDriven}
+use Rattle.run_journals.specs.RunsOf.{RunsOf}
+use Rattle.run_journals.proofs.Driving.{pieces_spelled, driven_same, driven_none, driven_more, driven_cut_off}
+use Rattle.solo_host.specs.Drives.{log_at, tried_on}
+use Rattle.solo_host.specs.Outside.{Got, no_group, no_fault, AreLow, AreOpen, IsDone, IsGivenUp, IsSynced, IsNotSynced, outside, stop_of}
+use Rattle.run_journals.specs.declared.stops.Stop.{Stop}
+use Rattle.run_journals.specs.declared.stops.Stop.TheVariants as stop
 use Rattle.txn_records.specs.declared.records.Record.{Record}
 
 -- ---- one of the logs is changed

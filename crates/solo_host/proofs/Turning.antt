@@ -1,5 +1,5 @@
 -- A turn: an event that was picked, what stands before it, and the step.
-use Rattle.std.proofs.Common.{◌≡◌, ℕ, ◌+◌, ◌-◌, ◌*◌, ◌≤◌, ◌<◌, true, None, Some, Option, Result, Ok, Err, List, [], ◌∷◌, ◌++◌, length, map, slice_get, refl, sym, ap, subst, ◌∙◌, arith}
+use Rattle.std.proofs.Common.{◌≡◌, ℕ, ◌+◌, ◌-◌, ◌*◌, ◌≤◌, ◌<◌, true, None, Option, Result, Ok, Err, List, [], ◌∷◌, ◌++◌, length, map, refl, sym, ap, subst, ◌∙◌, arith}
 use Rattle.std.specs.Prelude.{MatchResult}
 use Rattle.std.specs.Io.KnownBytes.{Appends}
 use Rattle.gate_log.specs.State.{LogState}
@@ -13,8 +13,6 @@ use Rattle.protocol.specs.Events.{Event, Sync, Reply}
 use Rattle.protocol.specs.Fixed.{Fixed}
 use Rattle.protocol.specs.Parts.{Machine}
 use Rattle.protocol.specs.Runs.{IsRun, reached}
-use Rattle.protocol.specs.Schedule.{IsEnabled, pick}
-use Rattle.protocol_schedule.specs.Draw.{draw_of}
 use Rattle.run_outputs.specs.Groups.{group_by}
 use Rattle.run_outputs.specs.Laws.{line_by}
 use Rattle.snap_core.specs.Cores.{CoreState, IsAt}
@@ -22,14 +20,17 @@ use Rattle.snap_hand.specs.Steps.{may_want}
 use Rattle.protocol_theorems.specs.Left.{most_events}
 use Rattle.snap_hand.specs.Tables.{fixed_of}
 use Rattle.snap_hand.specs.declared.tables.Tables.{Tables}
-use Rattle.solo_host.specs.Drives.{log_at, IsDriven, tried_on}
-use Rattle.solo_host.specs.Outside.{Outside, outside, RunsOf, IsSynced, IsNotSynced, no_group, no_fault, AreOpen, IsDone, IsFailure, IsGivenUp, IsPicked, IsEnd}
+use Rattle.run_journals.specs.Driven.{IsDriven}
+use Rattle.solo_host.specs.Drives.{log_at, tried_on}
+use Rattle.run_journals.specs.RunsOf.{RunsOf}
+use Rattle.solo_host.specs.Outside.{Outside, outside, IsSynced, IsNotSynced, no_group, no_fault, AreOpen, IsDone, IsFailure, IsGivenUp, IsPicked, IsEnd}
 use Rattle.solo_host.specs.Turns.{HasGoneOn, HasEnded}
-use Rattle.solo_host.specs.declared.drives.Stop.{Stop}
-use Rattle.solo_host.specs.declared.drives.Stop.TheVariants as stop
+use Rattle.run_journals.specs.declared.stops.Stop.{Stop}
+use Rattle.run_journals.specs.declared.stops.Stop.TheVariants as stop
 use Rattle.solo_host.proofs.Preparing.{done_of_sync, given_up_of_sync, log_exists}
 use Rattle.solo_host.proofs.Driving.{IsDriving, IsOver, goes_further, is_over}
-use Rattle.solo_host.proofs.GotGroups.{driven_same, got_same}
+use Rattle.run_journals.proofs.Driving.{driven_same}
+use Rattle.solo_host.proofs.GotGroups.{got_same}
 
 -- an event that may want memory asks for nothing before it
 wants_no_group : (e : Event) → may_want e ≡ true → (l : ℕ) (s : Machine Rest) → group_by l e s ≡ []
@@ -39,12 +40,6 @@ wants_no_group e is l s = refl
 wants_no_line : (w : Fixed Rest) (es : List Event) (e : Event) → may_want e ≡ true → line_by w es e ≡ []
 wants_no_line w es (Reply n) is = cc
 wants_no_line w es e is = refl
-
--- ---- the pick
-
-pub was_picked : (w : Fixed Rest) (seed : ℕ) (es all : List Event) (e : Event) → IsEnabled w (reached w es) all
-    → slice_get all (pick (draw_of seed) (length es) (length all)) ≡ Some e → IsPicked w seed es e
-was_picked w seed es all e enabled place = record { all = all; enabled = enabled; place = place }
 
 -- ---- the ends
 

@@ -7,32 +7,18 @@ use Rattle.protocol.specs.Events.{Event, Sync, Reply}
 use Rattle.protocol.specs.Fixed.{Fixed}
 use Rattle.protocol.specs.Runs.{IsQuiet, reached}
 use Rattle.protocol_schedule.specs.Draw.{IsFrontOfSeed}
-use Rattle.record_log.specs.Growth.{end_behind_groups, GrewBy}
+use Rattle.run_journals.specs.Driven.{IsDriven}
 use Rattle.run_outputs.specs.Groups.{groups_of, group_behind}
 use Rattle.run_outputs.specs.Lines.{line_in, replies_text}
 use Rattle.snap_outside.specs.Causes.{Rose}
-use Rattle.snap_outside.specs.Disk.{History}
-use Rattle.solo_host.specs.declared.drives.Stop.{Stop}
-use Rattle.solo_host.specs.declared.drives.Stop.TheVariants as stop
+use Rattle.run_journals.specs.declared.stops.Stop.{Stop}
+use Rattle.run_journals.specs.declared.stops.Stop.TheVariants as stop
 use Rattle.txn_records.specs.declared.records.Record.{Record}
 
 -- ---- the logs
 
 abbrev pub log_at : List LogState → ℕ → LogState
 log_at logs n = slice_index_or logs n (record { told = None; end = 0; shut = true; found = []; faults = 0 })
-
--- Whatever groups the log's device had got since it was opened, it got these behind them, and a front of the append of one
--- that met a fault, where one did.
-abbrev pub GrewOn : LogState → LogState → List (List Record) → Option (List Record) → Type 0
-GrewOn old new groups tried = (device : Option History) (end : ℕ) (first : List (List Record))
-    → GrewBy device old.told end first None → old.end ≡ end_behind_groups end first → GrewBy device new.told end (first ++ groups) tried
-
--- A log got these groups, one append for each, and then one that met a fault, where one did.
-pub record IsDriven (old new : LogState) (groups : List (List Record)) (tried : Option (List Record)) : Type 0 where
-  pub grew : GrewOn old new groups tried
-  pub gate : new.end ≡ end_behind_groups old.end groups
-  pub shut : new.shut ≡ is_some tried
-  pub later : old.faults ≤ new.faults
 
 -- the append that met a fault on log l
 abbrev pub tried_on : Fixed Rest → ℕ → List Event → Stop → Option (List Record)

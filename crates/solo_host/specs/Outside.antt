@@ -1,43 +1,28 @@
 -- Only private contracts cite this; the rule is Drives.antt.
 -- What one turn of the host does to the outside: what stands before an event.
-use Rattle.std.specs.Prelude.{◌≡◌, ℕ, ◌+◌, ◌*◌, ◌≤◌, ◌<◌, false, true, Option, None, List, [], ◌++◌, length, slice_get, Some}
+use Rattle.std.specs.Prelude.{◌≡◌, ℕ, ◌+◌, ◌≤◌, ◌<◌, false, Option, None, List, [], ◌++◌, length, slice_get, Some}
 use Rattle.std.specs.Io.KnownBytes.{Appends}
 use Rattle.aml_slice.specs.Controls.{Rest}
-use Rattle.gate_log.specs.Appends.{append_ops, end_behind}
-use Rattle.gate_log.specs.State.{LogState, IsUntouched}
+use Rattle.gate_log.specs.State.{LogState}
 use Rattle.gate_log.specs.declared.logs.AppendNo.{AppendNo}
 use Rattle.gate_log.specs.declared.logs.AppendNo.TheVariants as append
 use Rattle.protocol.specs.Events.{Event, Sync, Reply}
 use Rattle.protocol.specs.Fixed.{Fixed}
 use Rattle.protocol.specs.Parts.{Machine}
-use Rattle.protocol.specs.Runs.{IsQuiet, IsRun, reached}
+use Rattle.protocol.specs.Runs.{IsQuiet, reached}
 use Rattle.protocol.specs.Schedule.{IsEnabled, pick}
-use Rattle.protocol_theorems.specs.Left.{most_events}
 use Rattle.protocol_schedule.specs.Draw.{draw_of}
 use Rattle.group_sizes.specs.Sizes.{most_bytes}
-use Rattle.record_log.specs.Growth.{end_behind_groups, MayAppendGroup}
 use Rattle.record_log.specs.declared.limits.TheConstants.{FARTHEST_APPEND}
-use Rattle.run_outputs.specs.Groups.{group_by, group_behind, groups_of}
-use Rattle.run_outputs.specs.Laws.{GroupsGrow, RepliesGrow, line_by}
+use Rattle.run_journals.specs.Driven.{IsDriven}
+use Rattle.run_outputs.specs.Groups.{group_by}
+use Rattle.run_outputs.specs.Laws.{line_by}
 use Rattle.run_outputs.specs.Lines.{line_in}
 use Rattle.snap_outside.specs.Causes.{Rose}
-use Rattle.snap_outside.specs.Disk.{AddsAll, AddsUpToFault}
-use Rattle.solo_host.specs.Drives.{log_at, IsDriven, tried_on}
-use Rattle.solo_host.specs.declared.drives.Stop.{Stop}
-use Rattle.solo_host.specs.declared.drives.Stop.TheVariants as stop
+use Rattle.solo_host.specs.Drives.{log_at, tried_on}
+use Rattle.run_journals.specs.declared.stops.Stop.{Stop}
+use Rattle.run_journals.specs.declared.stops.Stop.TheVariants as stop
 use Rattle.txn_records.specs.declared.records.Record.{Record}
-
--- ---- what holds of the runs of a text
-
--- They end; they keep the text's logs; what waits on a log may be appended there, and the gate does not go far; and with one more
--- event what is appended and printed grows by that of the event.
-pub record RunsOf (w : Fixed Rest) : Type 0 where
-  pub end : (es : List Event) → IsRun w es → length es ≤ most_events * length w.text.txs
-  pub logs : (es : List Event) → IsRun w es → length (reached w es).logs ≡ w.text.logs
-  pub fits : (es : List Event) (l end : ℕ) → IsRun w es → end ≤ FARTHEST_APPEND + most_bytes → MayAppendGroup end (group_behind w l es)
-  pub near : (es : List Event) (l end : ℕ) → IsRun w es → end ≤ FARTHEST_APPEND → end_behind_groups end (groups_of w l es) ≤ end + most_bytes
-  pub grow : GroupsGrow w
-  pub replies : (es : List Event) → IsRun w es → RepliesGrow w es
 
 -- ---- the outside: the logs, what the output took, and how often it failed
 
@@ -69,26 +54,6 @@ abbrev pub no_fault : ℕ → Option (List Record)
 no_fault l = None
 
 -- ---- before a Sync
-
--- the pieces were appended
-pub record IsAppended (old new : LogState) (pieces : List (List ℕ)) : Type 0 where
-  pub adds : AddsAll old.told new.told (append_ops old.end pieces)
-  pub gate : new.end ≡ end_behind old.end pieces
-  pub ready : new.shut ≡ false
-  pub later : old.faults ≤ new.faults
-
--- the device failed in their append
-pub record IsCutOff (old new : LogState) (pieces : List (List ℕ)) : Type 0 where
-  pub adds : AddsUpToFault old.told new.told (append_ops old.end pieces)
-  pub gate : new.end ≡ old.end
-  pub shut : new.shut ≡ true
-  pub rose : Rose old.faults new.faults
-  pub later : old.faults ≤ new.faults
-
-abbrev pub IsNotAppended : LogState → LogState → List (List ℕ) → AppendNo → Type 0
-IsNotAppended old new pieces append.Device = IsCutOff old new pieces
-IsNotAppended old new pieces append.Shut = ⊥
-IsNotAppended old new pieces append.Memory = IsUntouched old new
 
 -- an append to log l that is refused
 abbrev pub stop_of : AppendNo → ℕ → Stop

@@ -6,29 +6,35 @@ use Rattle.rand_pcg.specs.Lcg.{Lcg, advance}
 use Rattle.rand_pcg.specs.Pcg.{multiplier_64}
 use Rattle.protocol.specs.Events.{Event}
 use Rattle.protocol.specs.Fixed.{Fixed}
+use Rattle.protocol.specs.Parts.{Machine}
 use Rattle.protocol.specs.Runs.{reached}
 use Rattle.protocol.specs.Schedule.{IsEnabled}
 use Rattle.protocol_schedule.specs.Draw.{generator_of}
+use Rattle.ready_renewal.specs.Covering.{Covers}
 use Rattle.snap_core.specs.Cores.{CoreState, IsAt}
 use Rattle.snap_hand.specs.Tables.{fixed_of}
 use Rattle.solo_host.specs.Drives.{tried_on}
 use Rattle.solo_host.specs.Outside.{Outside, Got, no_group, IsDone, IsPicked, IsEnd}
-use Rattle.solo_host.specs.declared.drives.Stop.{Stop}
+use Rattle.run_journals.specs.declared.stops.Stop.{Stop}
 
 -- The generator has drawn the words of so many steps of the seed.
 abbrev pub IsBehindWords : ℕ → ℕ → Lcg → Type 0
 IsBehindWords seed step g = g ≡ advance 64 multiplier_64 step (generator_of seed)
 
+-- The list is of all that is allowed; by seed 0, which takes the first of it, others may stand among it.
+abbrev pub IsKeptFor : ℕ → Fixed Rest → Machine Rest → List Event → Type 0
+IsKeptFor seed w s list = IsEnabled w s list ⊎ ((seed ≡ 0) × Covers w s list)
+
 -- The list is of what was allowed ahead of the last event.
-pub record IsAheadOfLast (w : Fixed Rest) (es list : List Event) : Type 0 where
+pub record IsAheadOfLast (seed : ℕ) (w : Fixed Rest) (es list : List Event) : Type 0 where
   pub front : List Event
   pub last : Event
   pub is : es ≡ front ++ last ∷ []
-  pub enabled : IsEnabled w (reached w front) list
+  pub kept : IsKeptFor seed w (reached w front) list
 
 -- of any, where there is no event yet
-abbrev pub IsOneBehind : Fixed Rest → List Event → List Event → Type 0
-IsOneBehind w es list = (es ≡ []) ⊎ IsAheadOfLast w es list
+abbrev pub IsOneBehind : ℕ → Fixed Rest → List Event → List Event → Type 0
+IsOneBehind seed w es list = (es ≡ []) ⊎ IsAheadOfLast seed w es list
 
 -- one more event was taken
 pub record HasGoneOn (seed : ℕ) (core now : CoreState) (es kept : List Event) (old new : Outside) : Type 0 where

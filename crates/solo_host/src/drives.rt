@@ -7,27 +7,14 @@ ghost use Rattle.snap_hand.specs.Tables.{fixed_of};
 ghost use Rattle.solo_host.specs.Drives.{AreDriven, IsPrinted, IsWhy};
 
 use crate::picks::generator_of;
-use crate::runs::runs_of;
 use crate::turns::turn;
 use core_events::Event;
 use gate_log::{FARTHEST_END, Log};
 use ready_list::ReadyList;
+use run_journals::{Stop, runs_of};
 use snap_core::Core;
 use snap_outside::{LogDev, Sink};
 use std::alloc::Global;
-
-/// Why a host ended.
-#[derive(Clone, Copy, Debug, PartialEq, Eq)]
-pub enum Stop {
-    /// No event is allowed any more.
-    Quiet,
-    /// The device of this log failed while a group was appended. The log is shut.
-    LogFault(u8),
-    /// The output failed while a reply was printed.
-    OutFault,
-    /// There was no memory.
-    Memory,
-}
 
 /// How a host ended, and the events that it took.
 #[derive(Drop)]
@@ -62,10 +49,11 @@ pub fn drive<D: LogDev, O: Sink>(
     ensures printed { IsPrinted (fixed_of core.old.tables) seed (map event_meant result.kept.items) (O.taken out.old) (O.taken out.new) result.stop }
     ensures later { O.faults out.old ≤ O.faults out.new }
 {
-    runs_of(core);
+    runs_of(core.tables());
     let mut generator = generator_of(seed);
     let mut kept = Vec::new(alloc);
     let mut list = ReadyList::new(alloc);
+    let mut news = Vec::new(alloc);
     'turns: loop {
         match turn(
             alloc,
@@ -75,6 +63,7 @@ pub fn drive<D: LogDev, O: Sink>(
             seed,
             &mut generator,
             &mut list,
+            &mut news,
             &mut kept,
         ) {
             Some(stop) => return Driven { stop, kept },

@@ -1,11 +1,11 @@
-//! The allowed events, kept from turn to turn.
-ghost use Rattle.std.specs.Prelude.{List, map, OnOk};
+//! What is kept of the allowed events from turn to turn.
+ghost use Rattle.std.specs.Prelude.{List, [], ◌∷◌, ◌++◌, map, OnOk};
 ghost use Rattle.core_events.specs.Meant.{event_meant};
 ghost use Rattle.protocol.specs.Events as machine;
 ghost use Rattle.protocol.specs.Schedule.{IsEnabled};
 ghost use Rattle.snap_core.specs.Cores.{IsAt, state_at};
 ghost use Rattle.snap_hand.specs.Tables.{fixed_of};
-ghost use Rattle.solo_host.specs.Turns.{IsOneBehind};
+ghost use Rattle.solo_host.specs.Turns.{IsKeptFor, IsOneBehind};
 
 use core_events::Event;
 use ready_list::ReadyList;
@@ -21,19 +21,40 @@ fn list_anew(alloc: Global, core: &Core, list: &mut ReadyList) -> Result<(), Mem
     Ok(())
 }
 
-/// Makes of what was allowed ahead of the last event that was kept what is allowed now; where none was kept, it is listed.
+/// Makes of what was kept ahead of the event, which was just taken, what is kept now. Seed 0 takes the first of what is allowed, so
+/// what is refused may stay until it is the first.
+fn go_on(
+    alloc: Global,
+    core: &Core,
+    seed: u64,
+    e: Event,
+    list: &mut ReadyList,
+    news: &mut Vec<Event>,
+) -> Result<(), Memory>
+    ensures { OnOk result ((es : List machine.Event) → IsAt core.now (es ++ event_meant e ∷ []) → IsKeptFor seed (fixed_of core.now.tables) (state_at core.now es) list.old.events → IsKeptFor seed (fixed_of core.now.tables) (state_at core.now (es ++ event_meant e ∷ [])) list.new.events) }
+{
+    if seed == 0 {
+        core.extend(alloc, e, list, news)
+    } else {
+        core.renew(alloc, e, list, news)
+    }
+}
+
+/// Makes of what was kept ahead of the last event what is kept now; where there was no event yet, it is listed.
 pub(crate) fn freshen(
     alloc: Global,
     core: &Core,
+    seed: u64,
     kept: &Vec<Event>,
     list: &mut ReadyList,
+    news: &mut Vec<Event>,
 ) -> Result<(), Memory>
     requires at { IsAt core.now (map event_meant kept.now.items) }
-    requires behind { IsOneBehind (fixed_of core.now.tables) (map event_meant kept.now.items) list.old.events }
-    ensures { OnOk result (IsEnabled (fixed_of core.now.tables) (state_at core.now (map event_meant kept.now.items)) list.new.events) }
+    requires behind { IsOneBehind seed (fixed_of core.now.tables) (map event_meant kept.now.items) list.old.events }
+    ensures { OnOk result (IsKeptFor seed (fixed_of core.now.tables) (state_at core.now (map event_meant kept.now.items)) list.new.events) }
 {
     match kept.last() {
-        Some(e) => core.renew(alloc, *e, list),
+        Some(e) => go_on(alloc, core, seed, *e, list, news),
         None => list_anew(alloc, core, list),
     }
 }

@@ -1,15 +1,14 @@
 //! What is appended to a log's device before its Sync.
 ghost use Rattle.std.specs.Prelude.{◌≡◌, ◌<◌, ℕ, List, length, false, MatchResult};
-ghost use Rattle.gate_log.specs.Device.{MayAppend};
 ghost use Rattle.protocol.specs.Events as machine;
 ghost use Rattle.snap_core.specs.Cores.{IsAt};
 ghost use Rattle.snap_hand.specs.Tables.{fixed_of};
-ghost use Rattle.solo_host.specs.Outside.{AreLow, AreOpen, RunsOf, IsAppended, IsNotAppended, IsSynced, IsNotSynced, stop_of};
+ghost use Rattle.run_journals.specs.RunsOf.{RunsOf};
+ghost use Rattle.solo_host.specs.Outside.{AreLow, AreOpen, IsSynced, IsNotSynced, stop_of};
 
-use crate::Stop;
 use gate_log::{AppendNo, Log};
 use record_log::history_grows;
-use snap_base::Sequence;
+use run_journals::{Stop, append_group};
 use snap_core::Core;
 use snap_outside::LogDev;
 use std::alloc::Global;
@@ -49,17 +48,4 @@ fn stop_of(no: AppendNo, l: u8) -> Stop
         AppendNo::Memory => Stop::Memory,
         AppendNo::Device | AppendNo::Shut => Stop::LogFault(l),
     }
-}
-
-/// Appends the pieces to an open log, as one group.
-fn append_group<D: LogDev>(
-    alloc: Global,
-    log: &mut Log<D>,
-    pieces: &[Sequence<u8>],
-) -> Result<(), AppendNo>
-    requires may { MayAppend log.old.end pieces.now }
-    requires open { log.old.shut ≡ false }
-    ensures { MatchResult result (λ _. IsAppended log.old log.new pieces.now) (λ no. IsNotAppended log.old log.new pieces.now no) }
-{
-    log.append(alloc, pieces)
 }

@@ -9,8 +9,7 @@ mod freshening;
 mod groups;
 mod picks;
 mod replies;
-mod runs;
 mod steps;
 mod turns;
 
-pub use drives::{Driven, Stop, drive};
+pub use drives::{Driven, drive};

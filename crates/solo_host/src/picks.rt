@@ -1,14 +1,20 @@
 //! Which of the allowed events comes next.
-ghost use Rattle.std.specs.Prelude.{◌≡◌, ◌+◌, ◌<◌, ℕ, [], length, None, Some, IfSome, slice_get};
+ghost use Rattle.std.specs.Prelude.{◌≡◌, ◌+◌, ◌<◌, ℕ, List, [], length, None, Some, IfSome, slice_get};
 ghost use Rattle.core_events.specs.Meant.{event_meant};
+ghost use Rattle.protocol.specs.Events as machine;
+ghost use Rattle.protocol.specs.Runs.{IsQuiet};
 ghost use Rattle.protocol.specs.Schedule.{pick};
 ghost use Rattle.protocol_schedule.specs.Draw.{draw_of, word_of};
-ghost use Rattle.solo_host.specs.Turns.{IsBehindWords};
+ghost use Rattle.snap_core.specs.Cores.{IsAt, state_at};
+ghost use Rattle.snap_hand.specs.Tables.{fixed_of};
+ghost use Rattle.solo_host.specs.Outside.{IsPicked};
+ghost use Rattle.solo_host.specs.Turns.{IsBehindWords, IsKeptFor};
 
 use core_events::Event;
 use rand_core::utils::NextWord;
 use rand_pcg::Pcg32;
 use ready_list::ReadyList;
+use snap_core::Core;
 
 /// The generator of a seed, which has drawn no word yet.
 pub(crate) fn generator_of(seed: u64) -> Pcg32
@@ -34,16 +40,43 @@ fn place_of(seed: u64, word: u32, many: usize) -> usize
     if seed == 0 { 0 } else { word as usize % many }
 }
 
-/// The event that the seed's schedule takes at a step, of those that are allowed; `None` exactly where there are none. One word
-/// is drawn.
-pub(crate) fn picked(seed: u64, generator: &mut Pcg32, enabled: &ReadyList) -> Option<Event>
-    ensures some { IfSome result (λ e. (step : ℕ) → IsBehindWords seed step generator.old → slice_get enabled.now.events (pick (draw_of seed) step (length enabled.now.events)) ≡ Some (event_meant e)) }
+/// The event at the place that the seed picks by the word of a step; `None` exactly where there are none.
+fn by_word(seed: u64, word: u32, enabled: &ReadyList) -> Option<Event>
+    ensures some { IfSome result (λ e. (step : ℕ) → word ≡ word_of seed step → slice_get enabled.now.events (pick (draw_of seed) step (length enabled.now.events)) ≡ Some (event_meant e)) }
     ensures none { result ≡ None → enabled.now.events ≡ [] }
-    ensures drawn { (step : ℕ) → IsBehindWords seed step generator.old → IsBehindWords seed (step + 1) generator.new }
 {
-    let word = draw(generator);
     if enabled.count() == 0 {
         return None;
     }
     enabled.nth(place_of(seed, word, enabled.count()))
+}
+
+/// The event that the seed's schedule takes by the word of a step, of those that are kept; `None` exactly where none is allowed.
+fn by_seed(core: &Core, seed: u64, word: u32, list: &mut ReadyList) -> Option<Event>
+    ensures some { IfSome result (λ e. (es : List machine.Event) → IsAt core.now es → word ≡ word_of seed (length es) → IsKeptFor seed (fixed_of core.now.tables) (state_at core.now es) list.old.events → IsPicked (fixed_of core.now.tables) seed es (event_meant e)) }
+    ensures none { result ≡ None → (es : List machine.Event) → IsAt core.now es → IsKeptFor seed (fixed_of core.now.tables) (state_at core.now es) list.old.events → IsQuiet (fixed_of core.now.tables) (state_at core.now es) }
+    ensures kept { (es : List machine.Event) → IsAt core.now es → IsKeptFor seed (fixed_of core.now.tables) (state_at core.now es) list.old.events → IsKeptFor seed (fixed_of core.now.tables) (state_at core.now es) list.new.events }
+{
+    if seed == 0 {
+        core.first(list)
+    } else {
+        by_word(seed, word, list)
+    }
+}
+
+/// The event that the seed's schedule takes at a step, of those that are kept; `None` exactly where none is allowed. One word is
+/// drawn.
+pub(crate) fn picked(
+    core: &Core,
+    seed: u64,
+    generator: &mut Pcg32,
+    list: &mut ReadyList,
+) -> Option<Event>
+    ensures some { IfSome result (λ e. (es : List machine.Event) → IsAt core.now es → IsBehindWords seed (length es) generator.old → IsKeptFor seed (fixed_of core.now.tables) (state_at core.now es) list.old.events → IsPicked (fixed_of core.now.tables) seed es (event_meant e)) }
+    ensures none { result ≡ None → (es : List machine.Event) → IsAt core.now es → IsKeptFor seed (fixed_of core.now.tables) (state_at core.now es) list.old.events → IsQuiet (fixed_of core.now.tables) (state_at core.now es) }
+    ensures kept { (es : List machine.Event) → IsAt core.now es → IsKeptFor seed (fixed_of core.now.tables) (state_at core.now es) list.old.events → IsKeptFor seed (fixed_of core.now.tables) (state_at core.now es) list.new.events }
+    ensures drawn { (step : ℕ) → IsBehindWords seed step generator.old → IsBehindWords seed (step + 1) generator.new }
+{
+    let word = draw(generator);
+    by_seed(core, seed, word, list)
 }

@@ -4,7 +4,7 @@ ghost use Rattle.protocol.specs.Events as machine;
 ghost use Rattle.snap_core.specs.Cores.{IsAt, state_at};
 ghost use Rattle.solo_host.specs.Outside.{IsReplied, IsNotReplied};
 
-use crate::Stop;
+use run_journals::Stop;
 use run_outputs::write_all;
 use snap_base::TxNo;
 use snap_core::Core;

@@ -1,13 +1,12 @@
 //! One turn: an event is picked, what stands before it is done, and it is taken.
 ghost use Rattle.std.specs.Prelude.{None, ◌≡◌, ◌<◌, [], ◌∷◌, ◌++◌, length, map, vec_len, vec_capacity, MatchOption};
 ghost use Rattle.core_events.specs.Meant.{event_meant};
-ghost use Rattle.protocol.specs.Schedule.{IsEnabled};
 ghost use Rattle.snap_core.specs.Cores.{IsAt, state_at};
 ghost use Rattle.snap_hand.specs.Tables.{fixed_of};
-ghost use Rattle.solo_host.specs.Outside.{AreLow, AreOpen, RunsOf, outside};
-ghost use Rattle.solo_host.specs.Turns.{HasGoneOn, HasEnded, IsBehindWords, IsOneBehind};
+ghost use Rattle.run_journals.specs.RunsOf.{RunsOf};
+ghost use Rattle.solo_host.specs.Outside.{AreLow, AreOpen, outside};
+ghost use Rattle.solo_host.specs.Turns.{HasGoneOn, HasEnded, IsBehindWords, IsKeptFor, IsOneBehind};
 
-use crate::Stop;
 use crate::befores::before;
 use crate::freshening::freshen;
 use crate::picks::picked;
@@ -16,12 +15,13 @@ use core_events::Event;
 use gate_log::Log;
 use rand_pcg::Pcg32;
 use ready_list::ReadyList;
+use run_journals::Stop;
 use snap_core::Core;
 use snap_outside::{LogDev, Sink};
 use std::alloc::Global;
 
-/// Takes the next event of the seed's schedule and keeps it, or tells why the host ends. The generator and the list were kept
-/// from the turn before.
+/// Takes the next event of the seed's schedule and keeps it, or tells why the host ends. The generator and the lists were kept
+/// from the turn before; of `news` only the room is used.
 pub(crate) fn turn<D: LogDev, O: Sink>(
     alloc: Global,
     core: &mut Core,
@@ -30,26 +30,27 @@ pub(crate) fn turn<D: LogDev, O: Sink>(
     seed: u64,
     generator: &mut Pcg32,
     list: &mut ReadyList,
+    news: &mut Vec<Event>,
     kept: &mut Vec<Event>,
 ) -> Option<Stop>
     requires runs { RunsOf (fixed_of core.old.tables) }
     requires at { IsAt core.old (map event_meant kept.old.items) }
     requires drawn { IsBehindWords seed (length (map event_meant kept.old.items)) generator.old }
-    requires behind { IsOneBehind (fixed_of core.old.tables) (map event_meant kept.old.items) list.old.events }
+    requires behind { IsOneBehind seed (fixed_of core.old.tables) (map event_meant kept.old.items) list.old.events }
     requires logs { length logs.old.items ≡ core.old.tables.work.logs }
     requires open { AreOpen logs.old.items }
     requires low { AreLow logs.old.items }
     ensures goes { MatchOption result
         (HasGoneOn seed core.old core.new (map event_meant kept.old.items) (map event_meant kept.new.items) (outside logs.old.items (O.taken out.old) (O.faults out.old)) (outside logs.new.items (O.taken out.new) (O.faults out.new)))
         (λ stop. HasEnded seed core.old core.new (map event_meant kept.old.items) (map event_meant kept.new.items) stop (outside logs.old.items (O.taken out.old) (O.faults out.old)) (outside logs.new.items (O.taken out.new) (O.faults out.new))) }
-    ensures list { result ≡ None → IsEnabled (fixed_of core.old.tables) (state_at core.old (map event_meant kept.old.items)) list.new.events }
+    ensures list { result ≡ None → IsKeptFor seed (fixed_of core.old.tables) (state_at core.old (map event_meant kept.old.items)) list.new.events }
     ensures drawn { result ≡ None → IsBehindWords seed (length (map event_meant kept.new.items)) generator.new }
     ensures tables { core.new.tables ≡ core.old.tables }
 {
-    let Ok(()) = freshen(alloc, core, kept, list) else {
+    let Ok(()) = freshen(alloc, core, seed, kept, list, news) else {
         return Some(Stop::Memory);
     };
-    let Some(e) = picked(seed, generator, list) else {
+    let Some(e) = picked(core, seed, generator, list) else {
         return Some(Stop::Quiet);
     };
     if kept.reserve(1).is_err() {

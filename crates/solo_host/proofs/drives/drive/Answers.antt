@@ -5,7 +5,8 @@ use Rattle.protocol.specs.Runs.{IsRun}
 use Rattle.snap_core.specs.Cores.{IsAt}
 use Rattle.snap_hand.specs.Tables.{fixed_of}
 use Rattle.snap_hand.specs.declared.tables.Tables.{Tables}
-use Rattle.solo_host.specs.Outside.{RunsOf, outside}
+use Rattle.run_journals.specs.RunsOf.{RunsOf}
+use Rattle.solo_host.specs.Outside.{outside}
 use Rattle.solo_host.specs.Turns.{IsBehindWords, IsOneBehind}
 use Rattle.solo_host.proofs.KeptList.{first_behind, now_behind}
 use Rattle.solo_host.proofs.Driving.{IsDriving, begins, still_open, still_low, are_open, are_near}
@@ -20,18 +21,18 @@ turns-init g c =
       at = subst (λ (ks : List code.Event). IsAt c.args.core.now (map event_meant ks)) (sym c.new-kept.ensures.items) c.requires.new;
       tables = refl;
       drawn = subst (λ (ks : List code.Event). IsBehindWords c.args.seed (length (map event_meant ks)) c.generator_of-generator.result) (sym c.new-kept.ensures.items) c.generator_of-generator.ensures;
-      behind = first_behind w c.new-kept.result.items c.new-list.result.events c.new-kept.ensures.items;
+      behind = first_behind c.args.seed w c.new-kept.result.items c.new-list.result.events c.new-kept.ensures.items;
       driving = subst (λ (ks : List code.Event). IsDriving w c.args.seed (map event_meant ks) start start) (sym c.new-kept.ensures.items) (begins w c.args.seed start (are_open c.args.logs.now.items c.requires.open));
     }
 
 pub turn-requires-clause-runs : goal.turn-requires-clause-runs
-turn-requires-clause-runs g c = subst (λ (t : Tables). RunsOf (fixed_of t)) (sym c.turns.invariant.tables) c.runs_of.ensures
+turn-requires-clause-runs g c = subst (λ (t : Tables). RunsOf (fixed_of t)) (sym c.turns.invariant.tables) (subst (λ (t : Tables). RunsOf (fixed_of t)) c.tables.ensures.same c.runs_of.ensures)
 
 pub turn-requires-clause-logs : goal.turn-requires-clause-logs
 turn-requires-clause-logs g c = c.turns.invariant.driving.logs.many ∙ c.requires.logs ∙ ap (λ (t : Tables). t.work.logs) (sym c.turns.invariant.tables)
 
 pub turn-requires-clause-behind : goal.turn-requires-clause-behind
-turn-requires-clause-behind g c = subst (λ (t : Tables). IsOneBehind (fixed_of t) (map event_meant c.turns.kept.items) c.turns.list.events) (sym c.turns.invariant.tables) c.turns.invariant.behind
+turn-requires-clause-behind g c = subst (λ (t : Tables). IsOneBehind c.args.seed (fixed_of t) (map event_meant c.turns.kept.items) c.turns.list.events) (sym c.turns.invariant.tables) c.turns.invariant.behind
 
 pub turn-requires-clause-open : goal.turn-requires-clause-open
 turn-requires-clause-open g c =
@@ -46,7 +47,7 @@ turn-requires-clause-low g c =
     let start = outside c.args.logs.now.items (g.O.Sink.taken c.args.out.now) (g.O.Sink.faults c.args.out.now) in
     let old = outside c.turns.logs.items (g.O.Sink.taken c.turns.out) (g.O.Sink.faults c.turns.out) in
     let es = map event_meant c.turns.kept.items in
-    still_low w c.args.seed es start old c.runs_of.ensures (subst (λ (t : Tables). IsRun (fixed_of t) es) c.turns.invariant.tables c.turns.invariant.at.run)
+    still_low w c.args.seed es start old (subst (λ (t : Tables). RunsOf (fixed_of t)) c.tables.ensures.same c.runs_of.ensures) (subst (λ (t : Tables). IsRun (fixed_of t) es) c.turns.invariant.tables c.turns.invariant.at.run)
     (are_near c.args.logs.now.items c.requires.ends) c.turns.invariant.driving
 
 pub returns-in-Some-clause-why : goal.returns-in-Some-clause-why
@@ -85,7 +86,7 @@ turns-preserved g c =
       behind = now_behind c.args.core.now.tables c.args.seed c.turns.core c.turn.new.core (map event_meant c.turns.kept.items) (map event_meant c.turn.new.kept.items) c.turn.new.list.events old new
           c.turns.invariant.tables (c.in-None.ensures.list refl) c.in-None.ensures.goes;
       driving = stays_driving c.args.core.now.tables c.args.seed c.turns.core c.turn.new.core (map event_meant c.turns.kept.items) (map event_meant c.turn.new.kept.items) start old new
-          c.turns.invariant.tables c.runs_of.ensures c.turns.invariant.at c.turns.invariant.driving c.in-None.ensures.goes;
+          c.turns.invariant.tables (subst (λ (t : Tables). RunsOf (fixed_of t)) c.tables.ensures.same c.runs_of.ensures) c.turns.invariant.at c.turns.invariant.driving c.in-None.ensures.goes;
     }
 
 pub turns-smaller : goal.turns-smaller
@@ -93,4 +94,4 @@ turns-smaller g c =
     let old = outside c.turns.logs.items (g.O.Sink.taken c.turns.out) (g.O.Sink.faults c.turns.out) in
     let new = outside c.turn.new.logs.items (g.O.Sink.taken c.turn.new.out) (g.O.Sink.faults c.turn.new.out) in
     fewer_left c.args.core.now.tables c.args.seed c.turns.core c.turn.new.core c.turns.kept.items c.turn.new.kept.items old new
-    c.turns.invariant.tables c.in-None.ensures.tables c.runs_of.ensures c.in-None.ensures.goes
+    c.turns.invariant.tables c.in-None.ensures.tables (subst (λ (t : Tables). RunsOf (fixed_of t)) c.tables.ensures.same c.runs_of.ensures) c.in-None.ensures.goes

@@ -14,7 +14,7 @@ invariant-turns g l = record {
   at : IsAt l.core (map event_meant l.kept.items);
   tables : l.core.tables ≡ l.fn.core.tables;
   drawn : IsBehindWords l.seed (length (map event_meant l.kept.items)) l.generator;
-  behind : IsOneBehind (fixed_of l.fn.core.tables) (map event_meant l.kept.items) l.list.events;
+  behind : IsOneBehind l.seed (fixed_of l.fn.core.tables) (map event_meant l.kept.items) l.list.events;
   driving : IsDriving (fixed_of l.fn.core.tables) l.seed (map event_meant l.kept.items)
       (outside l.fn.logs.items (g.O.Sink.taken l.fn.out) (g.O.Sink.faults l.fn.out)) (outside l.logs.items (g.O.Sink.taken l.out) (g.O.Sink.faults l.out));
 }

@@ -2,7 +2,7 @@ use Rattle.std.proofs.Common.{◌<◌, length, set, subst, sym, ◌∙◌, arith
 use Rattle.snap_hand.specs.Tables.{fixed_of}
 use Rattle.solo_host.proofs.Preparing.{may_append, has_synced, has_not_synced}
 use Rattle.solo_host.specs.Outside.{IsNotSynced}
-use Rattle.solo_host.specs.declared.drives.Stop.{Stop}
+use Rattle.run_journals.specs.declared.stops.Stop.{Stop}
 use Rattle.solo_host.proofs.groups.before_sync.Goals as goal
 
 pub append_group-requires-clause-may : goal.append_group-requires-clause-may
@@ -16,11 +16,11 @@ pub returns-in-Ok-append_group : goal.returns-in-Ok-append_group
 returns-in-Ok-append_group g c es at =
     let within : c.args.l < length c.args.logs.now.items = omega (arith, c.requires.exists, c.requires.logs) in
     has_synced c.history_grows.ensures.group (fixed_of c.args.core.now.tables) es c.args.l c.args.logs.now.items c.index_mut.result.now c.append_group.new.log c.as_slice.result.now
-    c.requires.runs at.run within c.requires.low c.requires.open c.index_mut.ensures.value (c.as_slice.ensures ∙ c.in-Ok.ensures es at) c.in-Ok-append_group.ensures
+    c.requires.runs at.run within c.requires.low c.requires.open c.index_mut.ensures.value (c.as_slice.ensures ∙ c.in-Ok.ensures es at) c.in-Ok-append_group.ensures.appended
 
 pub returns : goal.returns
 returns g c es at =
     let within : c.args.l < length c.args.logs.now.items = omega (arith, c.requires.exists, c.requires.logs) in
     subst (λ (x : Stop). IsNotSynced (fixed_of c.args.core.now.tables) es c.args.l x c.args.logs.now.items (set c.args.logs.now.items c.args.l c.append_group.new.log)) (sym c.stop_of.ensures)
     (has_not_synced c.history_grows.ensures.fault (fixed_of c.args.core.now.tables) es c.args.l c.args.logs.now.items c.index_mut.result.now c.append_group.new.log c.as_slice.result.now c.in-Err.no
-    c.requires.runs at.run within c.requires.low c.requires.open c.index_mut.ensures.value (c.as_slice.ensures ∙ c.in-Ok.ensures es at) c.in-Err.ensures)
+    c.requires.runs at.run within c.requires.low c.requires.open c.index_mut.ensures.value (c.as_slice.ensures ∙ c.in-Ok.ensures es at) c.in-Err.ensures.appended)

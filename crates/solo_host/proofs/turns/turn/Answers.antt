@@ -1,14 +1,13 @@
-use Rattle.std.proofs.Common.{List, length, map, refl, sym, subst, ◌∙◌}
+use Rattle.std.proofs.Common.{List, length, map, refl, sym, subst}
 use Rattle.std.proofs.KnownBytes.{Appends-nil}
 use Rattle.core_events.specs.declared.events.Event as code
 use Rattle.core_events.specs.Meant.{event_meant}
-use Rattle.protocol.specs.Runs.{reached}
 use Rattle.snap_hand.specs.Tables.{fixed_of}
 use Rattle.solo_host.specs.Outside.{outside}
 use Rattle.solo_host.specs.Turns.{HasEnded}
-use Rattle.solo_host.specs.declared.drives.Stop.TheVariants as stop
-use Rattle.solo_host.proofs.Picking.{none_enabled, picked_allowed}
-use Rattle.solo_host.proofs.Turning.{was_picked, idle, given_up, not_stepped, kept_more, gone_on}
+use Rattle.run_journals.specs.declared.stops.Stop.TheVariants as stop
+use Rattle.solo_host.proofs.Picking.{picked_allowed}
+use Rattle.solo_host.proofs.Turning.{idle, given_up, not_stepped, kept_more, gone_on}
 use Rattle.solo_host.proofs.Words.{drawn_on}
 use Rattle.solo_host.proofs.turns.turn.Goals as goal
 
@@ -17,20 +16,20 @@ returns-in_default-picked-clause-goes g c =
     let w = fixed_of c.args.core.now.tables in
     let es = map event_meant c.args.kept.now.items in
     idle c.args.seed c.args.core.now es stop.Quiet (outside c.args.logs.now.items (g.O.Sink.taken c.args.out.now) (g.O.Sink.faults c.args.out.now)) c.requires.at c.requires.open (λ l. refl)
-    (none_enabled w (reached w es) c.freshen.new.list.events c.in-Ok.ensures (c.in_default-picked.ensures.none refl), Appends-nil (g.O.Sink.taken c.args.out.now))
+    (c.in_default-picked.ensures.none refl es c.requires.at c.in-Ok.ensures, Appends-nil (g.O.Sink.taken c.args.out.now))
 
 pub before-requires-clause-allowed : goal.before-requires-clause-allowed
 before-requires-clause-allowed g c =
     let w = fixed_of c.args.core.now.tables in
     let es = map event_meant c.args.kept.now.items in
-    let picked = was_picked w c.args.seed es c.freshen.new.list.events (event_meant c.in-Some.e) c.in-Ok.ensures (c.in-Some.ensures.some (length es) c.requires.drawn) in
+    let picked = c.in-Some.ensures.some es c.requires.at c.requires.drawn c.in-Ok.ensures in
     (es, c.requires.at, picked_allowed w c.args.seed es (event_meant c.in-Some.e) picked)
 
 pub returns-in-Err-clause-goes : goal.returns-in-Err-clause-goes
 returns-in-Err-clause-goes g c =
     let w = fixed_of c.args.core.now.tables in
     let es = map event_meant c.args.kept.now.items in
-    let picked = was_picked w c.args.seed es c.freshen.new.list.events (event_meant c.in-Some.e) c.in-Ok.ensures (c.in-Some.ensures.some (length es) c.requires.drawn) in
+    let picked = c.in-Some.ensures.some es c.requires.at c.requires.drawn c.in-Ok.ensures in
     let old = outside c.args.logs.now.items (g.O.Sink.taken c.args.out.now) (g.O.Sink.faults c.args.out.now) in
     let new = outside c.before-2.new.logs.items (g.O.Sink.taken c.before-2.new.out) (g.O.Sink.faults c.before-2.new.out) in
     subst (λ (ks : List code.Event). HasEnded c.args.seed c.args.core.now c.args.core.now es (map event_meant ks) c.in-Err.stop old new) (sym c.reserve.ensures.items)
@@ -40,7 +39,7 @@ pub take_step-requires : goal.take_step-requires
 take_step-requires g c =
     let w = fixed_of c.args.core.now.tables in
     let es = map event_meant c.args.kept.now.items in
-    let picked = was_picked w c.args.seed es c.freshen.new.list.events (event_meant c.in-Some.e) c.in-Ok.ensures (c.in-Some.ensures.some (length es) c.requires.drawn) in
+    let picked = c.in-Some.ensures.some es c.requires.at c.requires.drawn c.in-Ok.ensures in
     (es, c.requires.at, picked_allowed w c.args.seed es (event_meant c.in-Some.e) picked)
 
 pub returns-in-Err-take_step-clause-goes : goal.returns-in-Err-take_step-clause-goes
@@ -56,12 +55,15 @@ pub returns-clause-goes : goal.returns-clause-goes
 returns-clause-goes g c =
     let w = fixed_of c.args.core.now.tables in
     let es = map event_meant c.args.kept.now.items in
-    let picked = was_picked w c.args.seed es c.freshen.new.list.events (event_meant c.in-Some.e) c.in-Ok.ensures (c.in-Some.ensures.some (length es) c.requires.drawn) in
+    let picked = c.in-Some.ensures.some es c.requires.at c.requires.drawn c.in-Ok.ensures in
     let old = outside c.args.logs.now.items (g.O.Sink.taken c.args.out.now) (g.O.Sink.faults c.args.out.now) in
     let new = outside c.before-2.new.logs.items (g.O.Sink.taken c.before-2.new.out) (g.O.Sink.faults c.before-2.new.out) in
     gone_on c.args.seed c.args.core.now c.take_step.new.core es (map event_meant c.keep.new.kept.items) (event_meant c.in-Some.e) old new
     (kept_more c.args.kept.now.items c.reserve.new.self.items c.keep.new.kept.items c.in-Some.e c.reserve.ensures.items c.keep.ensures)
     picked (c.in-Ok-take_step.ensures.ok es c.requires.at).1 (c.in-Ok-before.ensures es c.requires.at)
+
+pub returns-clause-list : goal.returns-clause-list
+returns-clause-list g c _ = c.in-Some.ensures.kept (map event_meant c.args.kept.now.items) c.requires.at c.in-Ok.ensures
 
 pub returns-clause-drawn : goal.returns-clause-drawn
 returns-clause-drawn g c _ =

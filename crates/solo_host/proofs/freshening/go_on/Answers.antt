@@ -1,0 +1,9 @@
+use Rattle.core_events.specs.Meant.{event_meant}
+use Rattle.solo_host.proofs.KeptList.{extends, renews}
+use Rattle.solo_host.proofs.freshening.go_on.Goals as goal
+
+pub returns-then-seed-eq0 : goal.returns-then-seed-eq0
+returns-then-seed-eq0 c = extends c.args.seed c.args.core.now (event_meant c.args.e) c.args.list.now.events c.extend.new.list.events c.extend.result c.if-seed-eq0.true c.extend.ensures.extended
+
+pub returns-else-seed-eq0 : goal.returns-else-seed-eq0
+returns-else-seed-eq0 c = renews c.args.seed c.args.core.now (event_meant c.args.e) c.args.list.now.events c.renew.new.list.events c.renew.result c.if-seed-eq0.false c.renew.ensures.renewed
