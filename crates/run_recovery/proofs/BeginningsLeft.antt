@@ -1,5 +1,5 @@
 -- What a crash leaves of each log while a run begins.
-use Rattle.std.specs.Prelude.{◌≡◌, refl, ℕ, zero, suc, ◌<◌, ◌≤◌, ◌⊎◌, Option, Some, None, List, [], ◌∷◌, ◌++◌, length, IfSome}
+use Rattle.std.specs.Prelude.{◌≡◌, refl, ℕ, zero, suc, ◌<◌, ◌≤◌, ◌⊎◌, Bool, Option, Some, None, List, [], ◌∷◌, ◌++◌, length, IfSome}
 use Rattle.std.proofs.Common.{inl, inr, arith, sym, ap, subst, ◌∙◌}
 use Rattle.std.proofs.lemmas.List.{append-nil}
 use Rattle.std.proofs.lemmas.List.Concat.{flat_map-cons}
@@ -75,7 +75,7 @@ log_left : (bytes : List ℕ) (end l : ℕ) (rs added : List Record) (made : Lis
 log_left bytes end l rs added made image (inl cut) = inl cut.1
 log_left bytes end l rs added made image (inr x) = groups_left end l rs added x.0 image x.2
 
-each_left : GrowthKeeps → {w : Work} {o : Opening} {es : List machine.Event} {failed : Option ℕ} {before after : List Device} (devices : AreRunDevices w o es failed before after) (images : ℕ → List ℕ)
+each_left : GrowthKeeps → {w : Work} {o : Opening} {es : List machine.Event} {failed : ℕ → Bool} {before after : List Device} (devices : AreRunDevices w o es failed before after) (images : ℕ → List ℕ)
     → CrashBefore devices images → (l : ℕ) → l < w.logs → Left l (records_at devices.records l) devices.added (images l)
 each_left keeps {w} {o} {es} {failed} {before} {after} devices images crash l lt =
     log_left (content h) here.end l rs devices.added (crash.made l) (images l)
@@ -164,7 +164,7 @@ all_left unwritten written count (rs ∷ rss) states o added images some many (i
         one_more zero lt = more.1
         one_more (suc l) lt = others_left l (records_at rss l) added (images (suc l)) (left (suc l) lt)
 
-pub begins_again : GrowthKeeps → Unwritten → Written → {w : Work} {o : Opening} {es : List machine.Event} {failed : Option ℕ} {before after : List Device} → KeepsLimits w
+pub begins_again : GrowthKeeps → Unwritten → Written → {w : Work} {o : Opening} {es : List machine.Event} {failed : ℕ → Bool} {before after : List Device} → KeepsLimits w
     → (devices : AreRunDevices w o es failed before after) (images : ℕ → List ℕ) → CrashBefore devices images → BeginsAgain devices images
 begins_again keeps unwritten written {w} {o} limits devices images crash =
     let all = all_left unwritten written w.logs devices.records w.states o devices.added images limits.logs.0 devices.as_many devices.start (each_left keeps devices images crash) in

@@ -91,7 +91,7 @@ has_begun : (b : Bool) (begun : List DevOp) → begun ≢ [] → (b ≡ false �
 has_begun true begun some waits = refl
 has_begun false begun some waits = absurd (some (waits refl))
 
-cut_by : {C : Type 0} (w : Fixed C) (es : List machine.Event) (m : Moment w es) (l : ℕ) (failed : Option ℕ) (before : List Record) (image : List ℕ) (begun : List DevOp) (later : List (List Record))
+cut_by : {C : Type 0} (w : Fixed C) (es : List machine.Event) (m : Moment w es) (l : ℕ) (failed : ℕ → Bool) (before : List Record) (image : List ℕ) (begun : List DevOp) (later : List (List Record))
     → (m.has_begun l ≡ false → begun ≡ []) → ((group : List Record) (more : List (List Record)) → later ≡ group ∷ more → m.has_begun l ≡ true → group ≡ waiting (log_at (reached w m.events) l))
     → HoldsWhole (before ++ durable (log_at (reached w m.events) l)) later begun image
     → (k : ℕ) × IsCutTo w es m l k × HoldsCut w es m l before image k
@@ -108,13 +108,13 @@ cut_by w es m l failed before image begun (group ∷ later) waits next (inr more
     )
 
 -- what a crash at a moment of a run tells of a log of it
-abbrev CrashAt : {w : Work} {o : Opening} {es : List machine.Event} {failed : Option ℕ} {before after : List Device} (devices : AreRunDevices w o es failed before after) (m : Moment (machine_of w o) es) → (ℕ → List ℕ) → (ℕ → List DevOp) → (l : ℕ) → l < w.logs → Type 0
+abbrev CrashAt : {w : Work} {o : Opening} {es : List machine.Event} {failed : ℕ → Bool} {before after : List Device} (devices : AreRunDevices w o es failed before after) (m : Moment (machine_of w o) es) → (ℕ → List ℕ) → (ℕ → List DevOp) → (l : ℕ) → l < w.logs → Type 0
 CrashAt {w} {o} {es} {failed} {before} {after} devices m images made l lt =
     (h : History) × ((device_at before l).told ≡ Some h) × (disk h ≡ settled (content h))
     × IsMade m l (content h) (devices.each l lt).end (first_groups l devices.added) (begun_on devices l) (made l)
     × IsImage (disk_after (made l) (disk h)) (images l)
 
-pub cut_at : {w : Work} {o : Opening} {es : List machine.Event} {failed : Option ℕ} {before after : List Device} (devices : AreRunDevices w o es failed before after) (m : Moment (machine_of w o) es) (images : ℕ → List ℕ)
+pub cut_at : {w : Work} {o : Opening} {es : List machine.Event} {failed : ℕ → Bool} {before after : List Device} (devices : AreRunDevices w o es failed before after) (m : Moment (machine_of w o) es) (images : ℕ → List ℕ)
     → MomentKeeps → GroupsAreDurable (machine_of w o) → IsRun (machine_of w o) m.events → CrashOn devices m images → (l : ℕ) → l < w.logs
     → (k : ℕ) × IsCutTo (machine_of w o) es m l k × HoldsCut (machine_of w o) es m l (records_at (earlier devices) l) (images l) k
 cut_at {w} {o} {es} {failed} {before} {after} devices m images keeps synced run crash l lt =

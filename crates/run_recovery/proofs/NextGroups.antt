@@ -130,9 +130,8 @@ gets {C} w l fs s u = by u.ends
 
 -- ---- the next group
 
-tried_waits : (failed : Option ℕ) (l : ℕ) (behind group : List Record) (later : List (List Record)) → begun_groups [] (tried_on failed l behind) ≡ group ∷ later → group ≡ behind
-tried_waits None l behind group later e = absurd (cc e)
-tried_waits (Some k) l behind group later e = by (k == l) e
+tried_waits : (failed : ℕ → Bool) (l : ℕ) (behind group : List Record) (later : List (List Record)) → begun_groups [] (tried_on failed l behind) ≡ group ∷ later → group ≡ behind
+tried_waits failed l behind group later e = by (failed l) e
   where
     by : (b : Bool) → begun_groups [] (if b then Some behind else None) ≡ group ∷ later → group ≡ behind
     by true i = let is : behind ≡ group = cc i in sym is
@@ -142,7 +141,7 @@ first_begun : (x : List Record) (xs : List (List Record)) (tried : Option (List 
 first_begun x xs None group later e = let is : x ≡ group = cc e in sym is
 first_begun x xs (Some g) group later e = let is : x ≡ group = cc e in sym is
 
-next_of : {C : Type 0} (w : Fixed C) (l : ℕ) (fs : List Event) (s : Machine C) (failed : Option ℕ) (group : List Record) (later : List (List Record)) → Gets w l fs s
+next_of : {C : Type 0} (w : Fixed C) (l : ℕ) (fs : List Event) (s : Machine C) (failed : ℕ → Bool) (group : List Record) (later : List (List Record)) → Gets w l fs s
     → begun_groups (groups_from w l fs s) (tried_on failed l (waiting (log_at (state_after w fs s) l))) ≡ group ∷ later → group ≡ waiting (log_at s l)
 next_of w l fs s failed group later (inl none) e =
     let waits = waiting (log_at (state_after w fs s) l) in
@@ -151,7 +150,7 @@ next_of w l fs s failed group later (inr some) e =
     let tried = tried_on failed l (waiting (log_at (state_after w fs s) l)) in
     first_begun (waiting (log_at s l)) some.0 tried group later (subst (λ gs. begun_groups gs tried ≡ group ∷ later) some.1 e)
 
-pub next_waits : {C : Type 0} (w : Fixed C) (es : List Event) (m : Moment w es) (l : ℕ) (failed : Option ℕ) (first : List (List Record)) (group : List Record) (later : List (List Record)) → m.has_begun l ≡ true
+pub next_waits : {C : Type 0} (w : Fixed C) (es : List Event) (m : Moment w es) (l : ℕ) (failed : ℕ → Bool) (first : List (List Record)) (group : List Record) (later : List (List Record)) → m.has_begun l ≡ true
     → begun_groups (first ++ groups_of w l es) (tried_on failed l (group_behind w l es)) ≡ (first ++ groups_of w l m.events) ++ group ∷ later → group ≡ waiting (log_at (reached w m.events) l)
 next_waits {C} w es m l failed first group later begun e = next_of w l m.later now failed group later (gets w l m.later now (m.begun l begun)) after_it
   where

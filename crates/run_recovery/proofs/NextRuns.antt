@@ -1,5 +1,5 @@
 -- What a crash leaves of the logs is what the next run begins on.
-use Rattle.std.specs.Prelude.{◌≡◌, refl, ℕ, suc, ◌+◌, ◌≤◌, Option, List, [], ◌∷◌, ◌++◌, length, filter}
+use Rattle.std.specs.Prelude.{◌≡◌, refl, ℕ, suc, ◌+◌, ◌≤◌, Bool, List, [], ◌∷◌, ◌++◌, length, filter}
 use Rattle.std.proofs.Common.{inl, inr, sym, ap, ◌∙◌}
 use Rattle.std.proofs.lemmas.List.{append-nil}
 use Rattle.std.proofs.lemmas.List.Elements.{filter-append}
@@ -86,7 +86,7 @@ begins_alone : OneOpening → (logs : List (List Record)) (first states : List S
 begins_alone one logs first states o q began recovered (inl new) = absurd (began_some logs first began new.0)
 begins_alone one logs first states o q began recovered (inr on) = (one logs q o on.recovered recovered, one_beginning logs states first on.same began)
 
-pub goes_on : {p : List CheckedMethod} {w : Work} {o : Opening} {es : List machine.Event} {failed : Option ℕ} {before after : List Device} → BeginsWritten → OneOpening → KeepsLimits w → (devices : AreRunDevices w o es failed before after) (m : Moment (machine_of w o) es) (images : ℕ → List ℕ)
+pub goes_on : {p : List CheckedMethod} {w : Work} {o : Opening} {es : List machine.Event} {failed : ℕ → Bool} {before after : List Device} → BeginsWritten → OneOpening → KeepsLimits w → (devices : AreRunDevices w o es failed before after) (m : Moment (machine_of w o) es) (images : ℕ → List ℕ)
     → (r : Recovers p devices m images) → GoesOnFrom r
 goes_on {p} {w} {o} {es} law one limits devices m images r = record {
   as_many = grown_long 0 (earlier devices) more ∙ (first_long devices.records devices.added ∙ devices.as_many);

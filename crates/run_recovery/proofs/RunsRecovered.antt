@@ -1,5 +1,5 @@
 -- What a run on its logs is to the laws of the machine, and what a crash at a moment of it recovers to.
-use Rattle.std.specs.Prelude.{◌≡◌, refl, ℕ, ◌<◌, nat_lt, Bool, true, false, Option, List, [], ◌∷◌, ◌++◌, length}
+use Rattle.std.specs.Prelude.{◌≡◌, refl, ℕ, ◌<◌, nat_lt, Bool, true, false, List, [], ◌∷◌, ◌++◌, length}
 use Rattle.std.proofs.Common.{sym, subst, ◌∙◌}
 use Rattle.std.proofs.lemmas.Bool.{ltb-true, lt-ltb, true≢false}
 use Rattle.aml_slice.specs.Controls.{Rest}
@@ -17,7 +17,6 @@ use Rattle.protocol.specs.Parts.{Machine}
 use Rattle.protocol.specs.Runs.{EachAllowed, IsRun, opening, reached}
 use Rattle.protocol_theorems.specs.Quiet.{AnsweredWhenQuiet}
 use Rattle.protocol_records.specs.Crash.{CrashHolds}
-use Rattle.protocol_schedule.specs.Draw.{draw_of}
 use Rattle.protocol_verdicts.specs.Evidence.{VerdictsStand}
 use Rattle.record_log.specs.GrowthLaws.{MomentKeeps}
 use Rattle.record_log.specs.Records.{HoldsRecords}
@@ -30,45 +29,46 @@ use Rattle.snap_work.specs.Kept.{KeepsLimits}
 use Rattle.snap_work.specs.Works.{Work}
 use Rattle.run_recovery.specs.Crashes.{CrashOn, Recovers, earlier}
 use Rattle.run_recovery.specs.Runs.{AreRunDevices, HasRun, machine_of, text_of}
+use Rattle.run_recovery.specs.Schedules.{Schedule}
 use Rattle.run_recovery.proofs.BegunTexts.{BegunRecovered, begins_with, earlier_recovers, starts_with_as_many, text_begins}
 use Rattle.run_recovery.proofs.LogsLeft.{HoldsCut, IsCutTo, cut_at, cut_synced, first_long, grown_at}
-use Rattle.run_recovery.proofs.RunsFollowed.{run_of}
+use Rattle.run_recovery.proofs.RunsFollowed.{taken_run}
 
 -- ---- a run of the machine
 
-is_run : (w : Work) (seed : ℕ) (o : Opening) (es : List machine.Event) (failed : Option ℕ) (before after : List Device) → HasRun w seed o es failed before after → IsRun (machine_of w o) es
-is_run w seed o es failed before after run = run_of (machine_of w o) (draw_of seed) 0 es (opening (machine_of w o)) run.front
+is_run : (w : Work) (schedule : Schedule) (o : Opening) (es : List machine.Event) (failed : ℕ → Bool) (before after : List Device) → HasRun w schedule o es failed before after → IsRun (machine_of w o) es
+is_run w schedule o es failed before after run = taken_run (machine_of w o) schedule es run.front
 
-is_text : (w : Work) (seed : ℕ) (o : Opening) (es : List machine.Event) (failed : Option ℕ) (before after : List Device) → KeepsLimits w → HasRun w seed o es failed before after → IsTextOf w.program (text_of w o)
-is_text w seed o es failed before after kept run = text_begins w o kept run.room (starts_with_as_many run.devices.records w.states o run.devices.added run.devices.start)
+is_text : (w : Work) (schedule : Schedule) (o : Opening) (es : List machine.Event) (failed : ℕ → Bool) (before after : List Device) → KeepsLimits w → HasRun w schedule o es failed before after → IsTextOf w.program (text_of w o)
+is_text w schedule o es failed before after kept run = text_begins w o kept run.room (starts_with_as_many run.devices.records w.states o run.devices.added run.devices.start)
 
 front_allowed : {C : Type 0} (w : Fixed C) (es later : List machine.Event) (s : Machine C) → EachAllowed w (es ++ later) s → EachAllowed w es s
 front_allowed w [] later s run = tt
 front_allowed w (e ∷ es) later s run = (run.0, front_allowed w es later (effects.after w e s) run.1)
 
-pub committed_meant : (p : List CheckedMethod) → AfterEveryRunOf p (CommittedAsMeant p) → (w : Work) (seed : ℕ) (o : Opening) (es : List machine.Event) (failed : Option ℕ) (before after : List Device) → w.program ≡ p → KeepsLimits w → HasRun w seed o es failed before after
+pub committed_meant : (p : List CheckedMethod) → AfterEveryRunOf p (CommittedAsMeant p) → (w : Work) (schedule : Schedule) (o : Opening) (es : List machine.Event) (failed : ℕ → Bool) (before after : List Device) → w.program ≡ p → KeepsLimits w → HasRun w schedule o es failed before after
     → CommittedAsMeant p (machine_of w o) (finish_of p (text_of w o)) (reached (machine_of w o) es) (history (machine_of w o) es)
-committed_meant p law w seed o es failed before after e kept run =
+committed_meant p law w schedule o es failed before after e kept run =
     subst (λ q. CommittedAsMeant q (machine_of w o) (finish_of q (text_of w o)) (reached (machine_of w o) es) (history (machine_of w o) es)) e
-    (subst (λ q. AfterEveryRunOf q (CommittedAsMeant q)) (sym e) law (text_of w o) es (is_text w seed o es failed before after kept run) (is_run w seed o es failed before after run))
+    (subst (λ q. AfterEveryRunOf q (CommittedAsMeant q)) (sym e) law (text_of w o) es (is_text w schedule o es failed before after kept run) (is_run w schedule o es failed before after run))
 
-pub told_meant : (p : List CheckedMethod) → OfEveryRunOf p (VerdictsAsMeant p) → (w : Work) (seed : ℕ) (o : Opening) (es : List machine.Event) (failed : Option ℕ) (before after : List Device) → w.program ≡ p → KeepsLimits w → HasRun w seed o es failed before after
+pub told_meant : (p : List CheckedMethod) → OfEveryRunOf p (VerdictsAsMeant p) → (w : Work) (schedule : Schedule) (o : Opening) (es : List machine.Event) (failed : ℕ → Bool) (before after : List Device) → w.program ≡ p → KeepsLimits w → HasRun w schedule o es failed before after
     → VerdictsAsMeant p (machine_of w o) (finish_of p (text_of w o)) es
-told_meant p law w seed o es failed before after e kept run =
+told_meant p law w schedule o es failed before after e kept run =
     subst (λ q. VerdictsAsMeant q (machine_of w o) (finish_of q (text_of w o)) es) e
-    (subst (λ q. OfEveryRunOf q (VerdictsAsMeant q)) (sym e) law (text_of w o) es (is_text w seed o es failed before after kept run) (is_run w seed o es failed before after run))
+    (subst (λ q. OfEveryRunOf q (VerdictsAsMeant q)) (sym e) law (text_of w o) es (is_text w schedule o es failed before after kept run) (is_run w schedule o es failed before after run))
 
-pub evidence_stands : (p : List CheckedMethod) → OfEveryRunOf p VerdictsStand → (w : Work) (seed : ℕ) (o : Opening) (es : List machine.Event) (failed : Option ℕ) (before after : List Device) → w.program ≡ p → KeepsLimits w → HasRun w seed o es failed before after
+pub evidence_stands : (p : List CheckedMethod) → OfEveryRunOf p VerdictsStand → (w : Work) (schedule : Schedule) (o : Opening) (es : List machine.Event) (failed : ℕ → Bool) (before after : List Device) → w.program ≡ p → KeepsLimits w → HasRun w schedule o es failed before after
     → VerdictsStand (machine_of w o) (finish_of p (text_of w o)) es
-evidence_stands p law w seed o es failed before after e kept run =
+evidence_stands p law w schedule o es failed before after e kept run =
     subst (λ q. VerdictsStand (machine_of w o) (finish_of q (text_of w o)) es) e
-    (subst (λ q. OfEveryRunOf q VerdictsStand) (sym e) law (text_of w o) es (is_text w seed o es failed before after kept run) (is_run w seed o es failed before after run))
+    (subst (λ q. OfEveryRunOf q VerdictsStand) (sym e) law (text_of w o) es (is_text w schedule o es failed before after kept run) (is_run w schedule o es failed before after run))
 
-pub answered_all : (p : List CheckedMethod) → AfterEveryRunOf p AnsweredWhenQuiet → (w : Work) (seed : ℕ) (o : Opening) (es : List machine.Event) (failed : Option ℕ) (before after : List Device) → w.program ≡ p → KeepsLimits w → HasRun w seed o es failed before after
+pub answered_all : (p : List CheckedMethod) → AfterEveryRunOf p AnsweredWhenQuiet → (w : Work) (schedule : Schedule) (o : Opening) (es : List machine.Event) (failed : ℕ → Bool) (before after : List Device) → w.program ≡ p → KeepsLimits w → HasRun w schedule o es failed before after
     → AnsweredWhenQuiet (machine_of w o) (finish_of p (text_of w o)) (reached (machine_of w o) es) (history (machine_of w o) es)
-answered_all p law w seed o es failed before after e kept run =
+answered_all p law w schedule o es failed before after e kept run =
     subst (λ q. AnsweredWhenQuiet (machine_of w o) (finish_of q (text_of w o)) (reached (machine_of w o) es) (history (machine_of w o) es)) e
-    (subst (λ q. AfterEveryRunOf q AnsweredWhenQuiet) (sym e) law (text_of w o) es (is_text w seed o es failed before after kept run) (is_run w seed o es failed before after run))
+    (subst (λ q. AfterEveryRunOf q AnsweredWhenQuiet) (sym e) law (text_of w o) es (is_text w schedule o es failed before after kept run) (is_run w schedule o es failed before after run))
 
 -- ---- a crash
 
@@ -82,11 +82,11 @@ pub record Laws (p : List CheckedMethod) : Type 0 where
   pub begun : BegunRecovered
 
 -- a log is left with so many, where it is one of the run
-record IsPicked {w : Work} {o : Opening} {es : List machine.Event} {failed : Option ℕ} {before after : List Device} (devices : AreRunDevices w o es failed before after) (m : Moment (machine_of w o) es) (images : ℕ → List ℕ) (l k : ℕ) : Type 0 where
+record IsPicked {w : Work} {o : Opening} {es : List machine.Event} {failed : ℕ → Bool} {before after : List Device} (devices : AreRunDevices w o es failed before after) (m : Moment (machine_of w o) es) (images : ℕ → List ℕ) (l k : ℕ) : Type 0 where
   cut : IsCutTo (machine_of w o) es m l k
   holds : l < w.logs → HoldsCut (machine_of w o) es m l (records_at (earlier devices) l) (images l) k
 
-picked : {w : Work} {o : Opening} {es : List machine.Event} {failed : Option ℕ} {before after : List Device} (devices : AreRunDevices w o es failed before after) (m : Moment (machine_of w o) es) (images : ℕ → List ℕ)
+picked : {w : Work} {o : Opening} {es : List machine.Event} {failed : ℕ → Bool} {before after : List Device} (devices : AreRunDevices w o es failed before after) (m : Moment (machine_of w o) es) (images : ℕ → List ℕ)
     → MomentKeeps → GroupsAreDurable (machine_of w o) → IsRun (machine_of w o) m.events → CrashOn devices m images → (l : ℕ) → (k : ℕ) × IsPicked devices m images l k
 picked {w} {o} {es} devices m images keeps synced run crash l = by (nat_lt l w.logs) refl
   where
@@ -94,9 +94,9 @@ picked {w} {o} {es} devices m images keeps synced run crash l = by (nat_lt l w.l
     by true e = let c = cut_at devices m images keeps synced run crash l (ltb-true l w.logs e) in (c.0, record { cut = c.1; holds = λ lt. c.2 })
     by false e = ((effects.log_at (reached (machine_of w o) m.events) l).synced, record { cut = cut_synced (machine_of w o) es m l; holds = λ lt. absurd (true≢false (sym (lt-ltb l w.logs lt) ∙ e)) })
 
-run_recovers : (w : Work) (seed : ℕ) (o : Opening) (es : List machine.Event) (failed : Option ℕ) (before after : List Device) → Laws w.program → KeepsLimits w → (run : HasRun w seed o es failed before after)
+run_recovers : (w : Work) (schedule : Schedule) (o : Opening) (es : List machine.Event) (failed : ℕ → Bool) (before after : List Device) → Laws w.program → KeepsLimits w → (run : HasRun w schedule o es failed before after)
     → (m : Moment (machine_of w o) es) (images : ℕ → List ℕ) → CrashOn run.devices m images → Recovers w.program run.devices m images
-run_recovers w seed o es failed before after laws limits run m images crash = record {
+run_recovers w schedule o es failed before after laws limits run m images crash = record {
   kept = kept;
   left = left;
   holds = λ l lt. subst (HoldsRecords (images l)) (sym (grown_at (earlier devices) (left_in now kept) l (rw many lt))) ((pick l).1.holds lt);
@@ -109,10 +109,10 @@ run_recovers w seed o es failed before after laws limits run m images crash = re
     devices = run.devices
 
     text : IsTextOf w.program (text_of w o)
-    text = is_text w seed o es failed before after limits run
+    text = is_text w schedule o es failed before after limits run
 
     all : IsRun (machine_of w o) es
-    all = is_run w seed o es failed before after run
+    all = is_run w schedule o es failed before after run
 
     front : IsRun (machine_of w o) m.events
     front = front_allowed (machine_of w o) m.events m.later (opening (machine_of w o)) (subst (IsRun (machine_of w o)) m.splits all)
@@ -135,7 +135,7 @@ run_recovers w seed o es failed before after laws limits run m images crash = re
     recovered : IsRecovered (earlier devices) o
     recovered = earlier_recovers laws.begun devices.records w.states o devices.added (rw devices.as_many limits.logs.0) devices.start
 
-pub recovers : (p : List CheckedMethod) → Laws p → (w : Work) (seed : ℕ) (o : Opening) (es : List machine.Event) (failed : Option ℕ) (before after : List Device) → w.program ≡ p → KeepsLimits w → (run : HasRun w seed o es failed before after)
+pub recovers : (p : List CheckedMethod) → Laws p → (w : Work) (schedule : Schedule) (o : Opening) (es : List machine.Event) (failed : ℕ → Bool) (before after : List Device) → w.program ≡ p → KeepsLimits w → (run : HasRun w schedule o es failed before after)
     → (m : Moment (machine_of w o) es) (images : ℕ → List ℕ) → CrashOn run.devices m images → Recovers p run.devices m images
-recovers p laws w seed o es failed before after e limits run m images crash =
-    subst (λ q. Recovers q run.devices m images) e (run_recovers w seed o es failed before after (subst Laws (sym e) laws) limits run m images crash)
+recovers p laws w schedule o es failed before after e limits run m images crash =
+    subst (λ q. Recovers q run.devices m images) e (run_recovers w schedule o es failed before after (subst Laws (sym e) laws) limits run m images crash)

@@ -1,5 +1,5 @@
 -- Of runs one behind the other, what the crash of each left is what the next one began with.
-use Rattle.std.specs.Prelude.{◌≡◌, refl, ℕ, zero, suc, ◌+◌, ◌<◌, ◌≤◌, ◌⊎◌, Option, Some, List, [], ◌∷◌, ◌++◌, length, map, take, get_or, Contains, slice_index_or, IfSome}
+use Rattle.std.specs.Prelude.{◌≡◌, refl, ℕ, zero, suc, ◌+◌, ◌<◌, ◌≤◌, ◌⊎◌, Bool, Option, Some, List, [], ◌∷◌, ◌++◌, length, map, take, get_or, Contains, slice_index_or, IfSome}
 use Rattle.std.specs.List.{AllByRecursion}
 use Rattle.std.proofs.Common.{inl, inr, arith, sym, ap, subst, ◌∙◌}
 use Rattle.std.proofs.lemmas.List.{append-nil, take_all, take_more}
@@ -25,6 +25,7 @@ use Rattle.run_recovery.specs.Beginnings.{BeginsAgain, CrashBefore}
 use Rattle.run_recovery.specs.Crashes.{CrashOn, Recovers}
 use Rattle.run_recovery.specs.Next.{GoesOnFrom, opening_left, records_left}
 use Rattle.run_recovery.specs.Runs.{AreRunDevices, HasRun, machine_of}
+use Rattle.run_recovery.specs.Schedules.{Schedule}
 use Rattle.run_recovery.specs.Several.{BeganOn, Crash, CutOff, EachIsBehind, Early, GoOn, IsBehind, Left, OfNext, Within}
 use Rattle.run_recovery.proofs.LogsLeft.{first_long}
 use Rattle.run_recovery.proofs.NextRuns.{OneOpening}
@@ -57,14 +58,14 @@ among P xs x all c = subst P c.2 (each_at P xs c.0 x c.1 all)
 
 -- what the law runs_are_recovered says of the program
 abbrev pub AreRecovered : List CheckedMethod → Type 0
-AreRecovered p = (w : Work) (seed : ℕ) (o : Opening) (es : List machine.Event) (failed : Option ℕ) (before after : List Device) → w.program ≡ p → KeepsLimits w → (run : HasRun w seed o es failed before after)
+AreRecovered p = (w : Work) (schedule : Schedule) (o : Opening) (es : List machine.Event) (failed : ℕ → Bool) (before after : List Device) → w.program ≡ p → KeepsLimits w → (run : HasRun w schedule o es failed before after)
     → (m : Moment (machine_of w o) es) (images : ℕ → List ℕ) → CrashOn run.devices m images → Recovers p run.devices m images
 
 -- and what those say that speak of no program
 pub record NextLaws : Type 0 where
-  pub begin : (w : Work) (o : Opening) (es : List machine.Event) (failed : Option ℕ) (before after : List Device) → KeepsLimits w → (devices : AreRunDevices w o es failed before after)
+  pub begin : (w : Work) (o : Opening) (es : List machine.Event) (failed : ℕ → Bool) (before after : List Device) → KeepsLimits w → (devices : AreRunDevices w o es failed before after)
       → (images : ℕ → List ℕ) → CrashBefore devices images → BeginsAgain devices images
-  pub go_on : (p : List CheckedMethod) (w : Work) (o : Opening) (es : List machine.Event) (failed : Option ℕ) (before after : List Device) → KeepsLimits w → (devices : AreRunDevices w o es failed before after)
+  pub go_on : (p : List CheckedMethod) (w : Work) (o : Opening) (es : List machine.Event) (failed : ℕ → Bool) (before after : List Device) → KeepsLimits w → (devices : AreRunDevices w o es failed before after)
       → (m : Moment (machine_of w o) es) (images : ℕ → List ℕ) → (r : Recovers p devices m images) → GoesOnFrom r
   pub opening : OneOpening
   pub list : OneListOfRecords
@@ -77,7 +78,7 @@ one_start one logs states o q (inl x) (inr y) = absurd (y.some x.0)
 one_start one logs states o q (inr x) (inl y) = absurd (x.some y.0)
 one_start one logs states o q (inr x) (inr y) = one logs q o y.recovered x.recovered
 
-kept_long : {w : Work} {o : Opening} {es : List machine.Event} {failed : Option ℕ} {before after : List Device} (devices : AreRunDevices w o es failed before after) (images : ℕ → List ℕ) (b : BeginsAgain devices images) → length b.kept ≡ w.logs
+kept_long : {w : Work} {o : Opening} {es : List machine.Event} {failed : ℕ → Bool} {before after : List Device} (devices : AreRunDevices w o es failed before after) (images : ℕ → List ℕ) (b : BeginsAgain devices images) → length b.kept ≡ w.logs
 kept_long {w} devices images b = by b.which
   where
     by : (b.kept ≡ devices.records) ⊎ (AreEmpty devices.records × (b.kept ≡ with_first devices.records (first_record w.logs w.states ∷ []))) → length b.kept ≡ w.logs
@@ -97,7 +98,7 @@ left_by laws x recovered (Early crash) =
       committed = ([], sym (append-nil x.opening.committed));
     }
 left_by laws x recovered (Within m crash) =
-    let r = recovered x.work x.seed x.opening x.events x.failed x.before x.after refl x.limits x.run m x.images crash in
+    let r = recovered x.work x.schedule x.opening x.events x.failed x.before x.after refl x.limits x.run m x.images crash in
     let g = laws.go_on x.work.program x.work x.opening x.events x.failed x.before x.after x.limits x.run.devices m x.images r in
     record {
       records = records_left r;

@@ -1,5 +1,5 @@
 -- What a crash leaves while a run begins: its logs are opened, and what is written before it is appended.
-use Rattle.std.specs.Prelude.{◌≡◌, ℕ, ◌<◌, ◌⊎◌, Option, Some, List, [], ◌∷◌, ◌++◌}
+use Rattle.std.specs.Prelude.{◌≡◌, ℕ, ◌<◌, ◌⊎◌, Bool, Some, List, [], ◌∷◌, ◌++◌}
 use Rattle.gate_log.specs.Opened.{opening_ops}
 use Rattle.log_opening.specs.Devices.{Device, device_at}
 use Rattle.protocol.specs.Events as machine
@@ -21,7 +21,7 @@ IsFront made ops = (left : List DevOp) × (ops ≡ made ++ left)
 
 -- A crash while the run begins: of the operations of opening and of the groups before the run a front is made on each log, and
 -- these bytes are left. The devices told what they held before, and it was durable.
-pub record CrashBefore {w : Work} {o : Opening} {es : List machine.Event} {failed : Option ℕ} {before after : List Device} (devices : AreRunDevices w o es failed before after) (images : ℕ → List ℕ) : Type 0 where
+pub record CrashBefore {w : Work} {o : Opening} {es : List machine.Event} {failed : ℕ → Bool} {before after : List Device} (devices : AreRunDevices w o es failed before after) (images : ℕ → List ℕ) : Type 0 where
   pub made : ℕ → List DevOp
   pub each : (l : ℕ) (lt : l < w.logs) → (h : History) × ((device_at before l).told ≡ Some h) × (disk h ≡ settled (content h))
       × IsFront (made l) (opening_ops (content h) ++ groups_ops (devices.each l lt).end (first_groups l devices.added))
@@ -29,7 +29,7 @@ pub record CrashBefore {w : Work} {o : Opening} {es : List machine.Event} {faile
 
 -- Each log is left with the records of before; or, only where no log held one, log 0 with Genesis alone. A run of the same
 -- states begins on them with the same opening.
-pub record BeginsAgain {w : Work} {o : Opening} {es : List machine.Event} {failed : Option ℕ} {before after : List Device} (devices : AreRunDevices w o es failed before after) (images : ℕ → List ℕ) : Type 0 where
+pub record BeginsAgain {w : Work} {o : Opening} {es : List machine.Event} {failed : ℕ → Bool} {before after : List Device} (devices : AreRunDevices w o es failed before after) (images : ℕ → List ℕ) : Type 0 where
   pub kept : List (List Record)
   pub which : (kept ≡ devices.records) ⊎ (AreEmpty devices.records × (kept ≡ with_first devices.records (first_record w.logs w.states ∷ [])))
   pub holds : (l : ℕ) → l < w.logs → HoldsRecords (images l) (records_at kept l)

@@ -1,5 +1,5 @@
 -- What a crash leaves at a moment of a run, and what that recovers to.
-use Rattle.std.specs.Prelude.{◌≡◌, ℕ, ◌<◌, false, Option, Some, List, [], ◌++◌}
+use Rattle.std.specs.Prelude.{◌≡◌, ℕ, ◌<◌, false, Bool, Some, List, [], ◌++◌}
 use Rattle.aml_slice.specs.Controls.{Rest}
 use Rattle.aml_tree.specs.Tree.{CheckedMethod}
 use Rattle.gate_log.specs.Opened.{opening_ops}
@@ -39,13 +39,13 @@ pub record IsMade {w : Fixed Rest} {es : List machine.Event} (m : Moment w es) (
   pub waits : m.has_begun l ≡ false → begun ≡ []
 
 -- the groups whose appends to log l were begun
-abbrev pub begun_on : {w : Work} {o : Opening} {es : List machine.Event} {failed : Option ℕ} {before after : List Device} → AreRunDevices w o es failed before after → ℕ → List (List Record)
+abbrev pub begun_on : {w : Work} {o : Opening} {es : List machine.Event} {failed : ℕ → Bool} {before after : List Device} → AreRunDevices w o es failed before after → ℕ → List (List Record)
 begun_on {w} {o} {es} {failed} devices l =
     begun_groups (first_groups l devices.added ++ groups_of (machine_of w o) l es) (tried_on failed l (group_behind (machine_of w o) l es))
 
 -- A crash at a moment of the run: on each log these operations were made, and these bytes are left. The devices told what they
 -- held before, and it was durable.
-pub record CrashOn {w : Work} {o : Opening} {es : List machine.Event} {failed : Option ℕ} {before after : List Device} (devices : AreRunDevices w o es failed before after) (m : Moment (machine_of w o) es) (images : ℕ → List ℕ) : Type 0 where
+pub record CrashOn {w : Work} {o : Opening} {es : List machine.Event} {failed : ℕ → Bool} {before after : List Device} (devices : AreRunDevices w o es failed before after) (m : Moment (machine_of w o) es) (images : ℕ → List ℕ) : Type 0 where
   pub made : ℕ → List DevOp
   pub each : (l : ℕ) (lt : l < w.logs) → (h : History) × ((device_at before l).told ≡ Some h) × (disk h ≡ settled (content h))
       × IsMade m l (content h) (devices.each l lt).end (first_groups l devices.added) (begun_on devices l) (made l)
@@ -54,13 +54,13 @@ pub record CrashOn {w : Work} {o : Opening} {es : List machine.Event} {failed : 
 -- ---- what it recovers to
 
 -- the records of the logs as the run began
-abbrev pub earlier : {w : Work} {o : Opening} {es : List machine.Event} {failed : Option ℕ} {before after : List Device} → AreRunDevices w o es failed before after → List (List Record)
+abbrev pub earlier : {w : Work} {o : Opening} {es : List machine.Event} {failed : ℕ → Bool} {before after : List Device} → AreRunDevices w o es failed before after → List (List Record)
 earlier devices = with_first devices.records devices.added
 
 -- Each log is left with the records of before the run and, of the run's, those that are synced, or these with all that wait. They
 -- recover to the states that the members leave, one after the other in the order of their places, as the language means each;
 -- the members are closed under what comes before them, and hold everyone who was told that it committed.
-pub record Recovers (p : List CheckedMethod) {w : Work} {o : Opening} {es : List machine.Event} {failed : Option ℕ} {before after : List Device} (devices : AreRunDevices w o es failed before after) (m : Moment (machine_of w o) es) (images : ℕ → List ℕ) : Type 0 where
+pub record Recovers (p : List CheckedMethod) {w : Work} {o : Opening} {es : List machine.Event} {failed : ℕ → Bool} {before after : List Device} (devices : AreRunDevices w o es failed before after) (m : Moment (machine_of w o) es) (images : ℕ → List ℕ) : Type 0 where
   pub kept : ℕ → ℕ
   pub left : IsLeft (machine_of w o) es m kept
   pub holds : (l : ℕ) → l < w.logs → HoldsRecords (images l) (records_at (grown (earlier devices) (left_in (reached (machine_of w o) m.events) kept)) l)

@@ -1,3 +1,4 @@
+pub mod Schedules
 pub mod Runs
 pub mod Crashes
 pub mod Beginnings

@@ -1,5 +1,5 @@
 -- A run of a work: what it begins with, how far it goes, and what it leaves on its logs.
-use Rattle.std.specs.Prelude.{◌≡◌, ℕ, ◌<◌, ◌≤◌, ◌==◌, if◌then◌else◌, Option, None, Some, List, [], ◌∷◌, ◌++◌, length, drop, map}
+use Rattle.std.specs.Prelude.{◌≡◌, ℕ, ◌<◌, ◌≤◌, ◌==◌, if◌then◌else◌, Bool, true, false, Option, None, Some, List, [], ◌∷◌, ◌++◌, length, drop, map}
 use Rattle.aml_slice.specs.Controls.{Rest}
 use Rattle.core_events.specs.declared.events.Event.{Event}
 use Rattle.core_events.specs.Meant.{event_meant}
@@ -9,6 +9,7 @@ use Rattle.gate_log.specs.Opened.{Opened}
 use Rattle.log_opening.specs.Devices.{Device, device_at}
 use Rattle.log_opening.specs.Kept.{Holds}
 use Rattle.machine_laws.specs.Programs.{with_code}
+use Rattle.protocol.specs.Conditions.{IsAllowed}
 use Rattle.protocol.specs.Events as machine
 use Rattle.protocol.specs.Fixed.{Text, Fixed}
 use Rattle.protocol.specs.Runs.{IsQuiet, reached}
@@ -17,6 +18,7 @@ use Rattle.record_log.specs.Growth.{GrewBy}
 use Rattle.run_opening.specs.Opens.{HasRoom, first_groups, records_at}
 use Rattle.run_opening.specs.Starts.{IsStart}
 use Rattle.run_outputs.specs.Groups.{groups_of, group_behind}
+use Rattle.run_recovery.specs.Schedules.{Schedule, seeded, free, IsTakenBy}
 use Rattle.snap_outside.specs.Disk.{History}
 use Rattle.snap_recover.specs.declared.openings.Opening.{Opening}
 use Rattle.snap_work.specs.Works.{Work}
@@ -42,6 +44,21 @@ machine_of w o = with_code w.program (text_of w o)
 abbrev pub meant : List Event → List machine.Event
 meant es = map event_meant es
 
+-- ---- which logs failed
+
+-- no log
+abbrev pub no_log : ℕ → Bool
+no_log l = false
+
+-- this one alone
+abbrev pub one_log : ℕ → ℕ → Bool
+one_log log l = log == l
+
+-- This one did, and none of a lower number.
+pub record IsLeastOf (failed : ℕ → Bool) (log : ℕ) : Type 0 where
+  pub is : failed log ≡ true
+  pub least : (l : ℕ) → l < log → failed l ≡ false
+
 -- ---- what a run leaves on its logs
 
 -- The device held these records and was opened; since then it got these groups, one append for each, and a front of the
@@ -54,15 +71,14 @@ pub record IsRunDevice (before after : Device) (records : List Record) (groups :
   pub grew : GrewBy before.told after.told end groups tried
   pub later : before.faults ≤ after.faults
 
--- the append that met a fault on this log, where one did
-abbrev pub tried_on : Option ℕ → ℕ → List Record → Option (List Record)
-tried_on None l group = None
-tried_on (Some k) l group = if k == l then Some group else None
+-- the append that met a fault on this log, where it failed
+abbrev pub tried_on : (ℕ → Bool) → ℕ → List Record → Option (List Record)
+tried_on failed l group = if failed l then Some group else None
 
 -- The logs, so many as the text says, lie on the first devices. They held records on which a run of the text begins with the
--- opening. Each got what is written before a run, then a group for each of its Syncs; the one that failed got a front of one
--- more. The others got no call.
-pub record AreRunDevices (w : Work) (o : Opening) (es : List machine.Event) (failed : Option ℕ) (before after : List Device) : Type 0 where
+-- opening. Each got what is written before a run, then a group for each of its Syncs; each that failed got a front of one
+-- more, of what still waits there. The devices behind them got no call.
+pub record AreRunDevices (w : Work) (o : Opening) (es : List machine.Event) (failed : ℕ → Bool) (before after : List Device) : Type 0 where
   pub records : List (List Record)
   pub added : List Record
   pub as_many : length records ≡ w.logs
@@ -71,15 +87,17 @@ pub record AreRunDevices (w : Work) (o : Opening) (es : List machine.Event) (fai
       (first_groups l added ++ groups_of (machine_of w o) l es) (tried_on failed l (group_behind (machine_of w o) l es))
   pub others : drop w.logs after ≡ drop w.logs before
 
--- A run of the work began with the opening and took these events, which the seed's schedule begins with.
-pub record HasRun (w : Work) (seed : ℕ) (o : Opening) (es : List machine.Event) (failed : Option ℕ) (before after : List Device) : Type 0 where
+-- A run of the work began with the opening and took these events, by the schedule.
+pub record HasRun (w : Work) (schedule : Schedule) (o : Opening) (es : List machine.Event) (failed : ℕ → Bool) (before after : List Device) : Type 0 where
   pub room : HasRoom o
-  pub front : IsFrontOfSeed (machine_of w o) seed es
+  pub front : IsTakenBy (machine_of w o) schedule es
   pub devices : AreRunDevices w o es failed before after
 
--- the schedule goes on with this event
-abbrev pub IsNext : Work → ℕ → Opening → List machine.Event → machine.Event → Type 0
-IsNext w seed o es e = IsFrontOfSeed (machine_of w o) seed (es ++ e ∷ [])
+-- The seed's schedule goes on with this event. With several workers, it was allowed behind a front of the events: the others may
+-- have gone on behind it.
+abbrev pub IsNext : Work → Schedule → Opening → List machine.Event → machine.Event → Type 0
+IsNext w (seeded seed) o es e = IsFrontOfSeed (machine_of w o) seed (es ++ e ∷ [])
+IsNext w free o es e = (first more : List machine.Event) × (es ≡ first ++ more) × IsAllowed (machine_of w o) e (reached (machine_of w o) first)
 
 -- no event is allowed any more
 abbrev pub HasEnded : Work → Opening → List machine.Event → Type 0

@@ -1,6 +1,6 @@
 -- Runs one behind the other: each is cut off by a crash, and each begins on the bytes that the crash before it left. Any work may
 -- follow that is of as many logs and of the same states.
-use Rattle.std.specs.Prelude.{◌≡◌, ℕ, ◌<◌, Option, Some, List, [], ◌∷◌, ◌++◌, length}
+use Rattle.std.specs.Prelude.{◌≡◌, ℕ, ◌<◌, Bool, Some, List, [], ◌∷◌, ◌++◌, length}
 use Rattle.log_opening.specs.Devices.{Device, device_at}
 use Rattle.protocol.specs.Events as machine
 use Rattle.protocol.specs.Moments.{Moment}
@@ -11,6 +11,7 @@ use Rattle.run_recovery.specs.Beginnings.{BeginsAgain, CrashBefore}
 use Rattle.run_recovery.specs.Crashes.{CrashOn, Recovers}
 use Rattle.run_recovery.specs.Next.{GoesOnFrom, opening_left, records_left}
 use Rattle.run_recovery.specs.Runs.{AreRunDevices, HasRun, machine_of}
+use Rattle.run_recovery.specs.Schedules.{Schedule}
 use Rattle.snap_outside.specs.Disk.{History, content}
 use Rattle.snap_recover.specs.declared.openings.Kept.{Kept}
 use Rattle.snap_recover.specs.declared.openings.Opening.{Opening}
@@ -21,21 +22,21 @@ use Rattle.txn_records.specs.declared.records.Record.{Record}
 -- ---- a run that is cut off
 
 -- a crash while the run begins, or at a moment of it
-pub data Crash {w : Work} {o : Opening} {es : List machine.Event} {failed : Option ℕ} {before after : List Device} (devices : AreRunDevices w o es failed before after) (images : ℕ → List ℕ) : Type 0 where
+pub data Crash {w : Work} {o : Opening} {es : List machine.Event} {failed : ℕ → Bool} {before after : List Device} (devices : AreRunDevices w o es failed before after) (images : ℕ → List ℕ) : Type 0 where
   Early : (crash : CrashBefore devices images) → Crash devices images
   Within : (m : Moment (machine_of w o) es) (crash : CrashOn devices m images) → Crash devices images
 
 -- a run of a work that keeps its limits, the crash, and the bytes that it left
 pub record CutOff : Type 0 where
   pub work : Work
-  pub seed : ℕ
+  pub schedule : Schedule
   pub opening : Opening
   pub events : List machine.Event
-  pub failed : Option ℕ
+  pub failed : ℕ → Bool
   pub before : List Device
   pub after : List Device
   pub limits : KeepsLimits work
-  pub run : HasRun work seed opening events failed before after
+  pub run : HasRun work schedule opening events failed before after
   pub images : ℕ → List ℕ
   pub crash : Crash run.devices images
 

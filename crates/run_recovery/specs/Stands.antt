@@ -1,5 +1,5 @@
 -- What the laws of the machine say of a run of a work, in one.
-use Rattle.std.specs.Prelude.{ℕ, Option, List}
+use Rattle.std.specs.Prelude.{ℕ, Bool, List}
 use Rattle.log_opening.specs.Devices.{Device}
 use Rattle.machine_laws.specs.Meant.{CommittedAsMeant, VerdictsAsMeant}
 use Rattle.machine_laws.specs.Programs.{finish_of}
@@ -15,8 +15,9 @@ use Rattle.run_recovery.specs.Next.{GoesOnFrom}
 use Rattle.run_recovery.specs.Runs.{HasRun, machine_of, text_of}
 use Rattle.snap_recover.specs.declared.openings.Opening.{Opening}
 use Rattle.snap_work.specs.Works.{Work}
+use Rattle.run_recovery.specs.Schedules.{Schedule}
 
-pub record RunStands {w : Work} {seed : ℕ} {o : Opening} {es : List machine.Event} {failed : Option ℕ} {before after : List Device} (run : HasRun w seed o es failed before after) : Type 0 where
+pub record RunStands {w : Work} {schedule : Schedule} {o : Opening} {es : List machine.Event} {failed : ℕ → Bool} {before after : List Device} (run : HasRun w schedule o es failed before after) : Type 0 where
   -- its committed transactions, one by one in the order of their places as the language means each, give the results that they
   -- had; and where it has ended the actors' states are those that this leaves
   pub committed : CommittedAsMeant w.program (machine_of w o) (finish_of w.program (text_of w o)) (reached (machine_of w o) es) (history (machine_of w o) es)

@@ -1,5 +1,5 @@
 //! The laws, of every checked program.
-ghost use Rattle.std.specs.Prelude.{◌≡◌, ℕ, List, Option, map, Contains};
+ghost use Rattle.std.specs.Prelude.{◌≡◌, ℕ, List, Bool, map, Contains};
 ghost use Rattle.std.specs.List.{AllByRecursion};
 ghost use Rattle.aml_check.specs.Checked.{methods_of};
 ghost use Rattle.log_opening.specs.Devices.{Device};
@@ -14,7 +14,8 @@ ghost use Rattle.protocol_verdicts.specs.Evidence.{VerdictsStand};
 ghost use Rattle.run_recovery.specs.Beginnings.{BeginsAgain, CrashBefore};
 ghost use Rattle.run_recovery.specs.Crashes.{CrashOn, Recovers};
 ghost use Rattle.run_recovery.specs.Next.{GoesOnFrom};
-ghost use Rattle.run_recovery.specs.Runs.{AreRunDevices, HasRun, machine_of, text_of};
+ghost use Rattle.run_recovery.specs.Runs.{AreRunDevices, HasRun, IsNext, machine_of, text_of};
+ghost use Rattle.run_recovery.specs.Schedules.{Schedule, seeded, free};
 ghost use Rattle.run_recovery.specs.Several.{CutOff, EachIsBehind, GoOn};
 ghost use Rattle.run_recovery.specs.Stands.{RunStands};
 ghost use Rattle.aml_tree.specs.Tree.{CheckedMethod};
@@ -33,18 +34,24 @@ use run_opening::begins_again;
 use run_outputs::groups_grow;
 use snap_recover::{begun_logs_are_recovered, one_opening};
 
+/// What one thread takes by the schedule of a seed is among what several workers may take, and so is the event with which it goes on.
+pub fn seeds_pick_runs()
+    ensures runs { (w : Work) (seed : ℕ) (o : Opening) (es : List machine.Event) (failed : ℕ → Bool) (before after : List Device) → HasRun w (seeded seed) o es failed before after → HasRun w free o es failed before after }
+    ensures next { (w : Work) (seed : ℕ) (o : Opening) (es : List machine.Event) (e : machine.Event) → IsNext w (seeded seed) o es e → IsNext w free o es e }
+{}
+
 /// What a run took are events of a run of the machine: its committed transactions, one by one in the order of their places as the
 /// language means each, give the results that they had, and where it has ended the actors' states are those that this leaves; who
 /// is told a place is told what it means there; each verdict has its evidence in the events, and stays; and where it has ended all
 /// is answered.
 pub fn runs_are_as_meant(program: &Checked)
-    ensures committed { (w : Work) (seed : ℕ) (o : Opening) (es : List machine.Event) (failed : Option ℕ) (before after : List Device) → w.program ≡ methods_of program.now → KeepsLimits w → HasRun w seed o es failed before after
+    ensures committed { (w : Work) (schedule : Schedule) (o : Opening) (es : List machine.Event) (failed : ℕ → Bool) (before after : List Device) → w.program ≡ methods_of program.now → KeepsLimits w → HasRun w schedule o es failed before after
         → CommittedAsMeant (methods_of program.now) (machine_of w o) (finish_of (methods_of program.now) (text_of w o)) (reached (machine_of w o) es) (history (machine_of w o) es) }
-    ensures told { (w : Work) (seed : ℕ) (o : Opening) (es : List machine.Event) (failed : Option ℕ) (before after : List Device) → w.program ≡ methods_of program.now → KeepsLimits w → HasRun w seed o es failed before after
+    ensures told { (w : Work) (schedule : Schedule) (o : Opening) (es : List machine.Event) (failed : ℕ → Bool) (before after : List Device) → w.program ≡ methods_of program.now → KeepsLimits w → HasRun w schedule o es failed before after
         → VerdictsAsMeant (methods_of program.now) (machine_of w o) (finish_of (methods_of program.now) (text_of w o)) es }
-    ensures evidence { (w : Work) (seed : ℕ) (o : Opening) (es : List machine.Event) (failed : Option ℕ) (before after : List Device) → w.program ≡ methods_of program.now → KeepsLimits w → HasRun w seed o es failed before after
+    ensures evidence { (w : Work) (schedule : Schedule) (o : Opening) (es : List machine.Event) (failed : ℕ → Bool) (before after : List Device) → w.program ≡ methods_of program.now → KeepsLimits w → HasRun w schedule o es failed before after
         → VerdictsStand (machine_of w o) (finish_of (methods_of program.now) (text_of w o)) es }
-    ensures answered { (w : Work) (seed : ℕ) (o : Opening) (es : List machine.Event) (failed : Option ℕ) (before after : List Device) → w.program ≡ methods_of program.now → KeepsLimits w → HasRun w seed o es failed before after
+    ensures answered { (w : Work) (schedule : Schedule) (o : Opening) (es : List machine.Event) (failed : ℕ → Bool) (before after : List Device) → w.program ≡ methods_of program.now → KeepsLimits w → HasRun w schedule o es failed before after
         → AnsweredWhenQuiet (machine_of w o) (finish_of (methods_of program.now) (text_of w o)) (reached (machine_of w o) es) (history (machine_of w o) es) }
 {
     committed_transactions_are_as_meant(program);
@@ -55,7 +62,7 @@ pub fn runs_are_as_meant(program: &Checked)
 
 /// Whatever a crash leaves of the logs at any moment of a run recovers.
 pub fn runs_are_recovered(program: &Checked)
-    ensures { (w : Work) (seed : ℕ) (o : Opening) (es : List machine.Event) (failed : Option ℕ) (before after : List Device) → w.program ≡ methods_of program.now → KeepsLimits w → (run : HasRun w seed o es failed before after)
+    ensures { (w : Work) (schedule : Schedule) (o : Opening) (es : List machine.Event) (failed : ℕ → Bool) (before after : List Device) → w.program ≡ methods_of program.now → KeepsLimits w → (run : HasRun w schedule o es failed before after)
         → (m : Moment (machine_of w o) es) (images : ℕ → List ℕ) → CrashOn run.devices m images → Recovers (methods_of program.now) run.devices m images }
 {
     logs_recover_to_the_members(program);
@@ -69,7 +76,7 @@ pub fn runs_are_recovered(program: &Checked)
 /// A crash while a run begins loses no record: the logs hold what they held, or, where they held none, Genesis alone; and a run of
 /// the same states begins on them with the same opening.
 pub fn beginnings_are_recovered()
-    ensures { (w : Work) (o : Opening) (es : List machine.Event) (failed : Option ℕ) (before after : List Device) → KeepsLimits w → (devices : AreRunDevices w o es failed before after)
+    ensures { (w : Work) (o : Opening) (es : List machine.Event) (failed : ℕ → Bool) (before after : List Device) → KeepsLimits w → (devices : AreRunDevices w o es failed before after)
         → (images : ℕ → List ℕ) → CrashBefore devices images → BeginsAgain devices images }
 {
     groups_are_whole();
@@ -79,7 +86,7 @@ pub fn beginnings_are_recovered()
 /// What a crash leaves of the logs at any moment of a run is what the next run goes on from: unless a number is spent, a run of any
 /// text of the same states, on as many logs, begins on them with the opening to which they recover; and none begins with another.
 pub fn crashed_runs_go_on()
-    ensures { (p : List CheckedMethod) (w : Work) (o : Opening) (es : List machine.Event) (failed : Option ℕ) (before after : List Device) → KeepsLimits w → (devices : AreRunDevices w o es failed before after)
+    ensures { (p : List CheckedMethod) (w : Work) (o : Opening) (es : List machine.Event) (failed : ℕ → Bool) (before after : List Device) → KeepsLimits w → (devices : AreRunDevices w o es failed before after)
         → (m : Moment (machine_of w o) es) (images : ℕ → List ℕ) → (r : Recovers p devices m images) → GoesOnFrom r }
 {
     begins_again();
@@ -102,7 +109,7 @@ pub fn runs_go_on_behind_each_other(programs: &[Checked])
 
 /// All of it, of every run of a work that keeps its limits.
 pub fn runs_stand(program: &Checked)
-    ensures { (w : Work) (seed : ℕ) (o : Opening) (es : List machine.Event) (failed : Option ℕ) (before after : List Device) → w.program ≡ methods_of program.now → KeepsLimits w → (run : HasRun w seed o es failed before after) → RunStands run }
+    ensures { (w : Work) (schedule : Schedule) (o : Opening) (es : List machine.Event) (failed : ℕ → Bool) (before after : List Device) → w.program ≡ methods_of program.now → KeepsLimits w → (run : HasRun w schedule o es failed before after) → RunStands run }
 {
     runs_are_as_meant(program);
     runs_are_recovered(program);

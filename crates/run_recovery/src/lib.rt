@@ -6,5 +6,5 @@ mod laws;
 
 pub use laws::{
     beginnings_are_recovered, crashed_runs_go_on, runs_are_as_meant, runs_are_recovered,
-    runs_go_on_behind_each_other, runs_stand,
+    runs_go_on_behind_each_other, runs_stand, seeds_pick_runs,
 };

@@ -1,14 +1,17 @@
 -- How a call ends, from how a run ended and what was written of its trace.
-use Rattle.std.proofs.Common.{◌≡◌, ◌≢◌, ◌⊎◌, inl, inr, ℕ, List, [], append-nil, refl, sym, ◌∙◌, ap, subst, Option, Some, None}
+use Rattle.std.proofs.Common.{◌≡◌, ◌≢◌, ◌⊎◌, inl, inr, ℕ, ◌<◌, Bool, List, [], append-nil, refl, sym, ◌∙◌, ap, subst}
+use Rattle.std.proofs.lemmas.Bool.{eq-eqb}
 use Rattle.core_events.specs.declared.events.Event.{Event}
 use Rattle.log_opening.specs.declared.refusals.LogsNo.{LogsNo}
 use Rattle.log_opening.specs.declared.refusals.LogsNo.TheVariants as ending
 use Rattle.log_opening.specs.Devices.{Device, device_at}
 use Rattle.protocol.specs.Events as machine
 use Rattle.run_opening.specs.Opens.{IsNoRun, MayOpen}
-use Rattle.run_recovery.specs.Runs.{HasRun, meant, machine_of, HasEnded}
+use Rattle.run_recovery.specs.Runs.{no_log, one_log, HasRun, meant, machine_of, HasEnded}
+use Rattle.run_recovery.specs.Schedules.{Schedule, seeded, free}
 use Rattle.run_recovery.specs.Stands.{RunStands}
-use Rattle.run_work.specs.Runs.{Printing, ending_by, Ran, IsAnswerOf, PrintsAll, PrintsFront, IsOfLogs}
+use Rattle.run_work.specs.Hosts.{LeftFailed}
+use Rattle.run_work.specs.Runs.{Printing, ending_by, Ran, HasFailed, IsAnswerOf, LogRose, PrintsAll, PrintsFailed, PrintsFront, IsOfLogs}
 use Rattle.run_work.specs.Statuses.{logs_status}
 use Rattle.run_work.specs.Untraced.{IsRunEnd, LeftBy, IsNoBeginning, IsUntraced, IsTraced}
 use Rattle.run_work.specs.Writings.{Writing, WritesNothing, Writes, WritesFront}
@@ -46,18 +49,30 @@ all_front p w o es out ended all = inr (ended, (ending_by p (machine_of w o) es,
 
 -- what the laws say of each run that the call may have made
 abbrev pub EachStands : Ran → Type 0
-EachStands r = (o : Opening) (failed : Option ℕ) (run : HasRun r.work r.seed o (meant r.kept) failed r.devices_before r.devices_after) → RunStands run
+EachStands r = (o : Opening) (failed : ℕ → Bool) (run : HasRun r.work r.schedule o (meant r.kept) failed r.devices_before r.devices_after) → RunStands run
+
+-- the log that the status names is one of the work's, and its count rose
+rose_there : (r : Ran) (o : Opening) (schedule : Schedule) (log : ℕ) → LeftFailed (LeftBy r o) r.work schedule o (meant r.kept) log → (log < r.work.logs) × LogRose r log
+rose_there r o (seeded seed) log left = left.0.rose log (eq-eqb log log refl)
+rose_there r o free log left = left.2.rose log left.1.is
+
+failed_answer : (r : Ran) → EachStands r → (o : Opening) (schedule : Schedule) (log : ℕ) → WritesFront r.trace (trace_of r.kept)
+    → LeftFailed (LeftBy r o) r.work schedule o (meant r.kept) log → (P : Opening → List machine.Event → Type 0) → P o (meant r.kept) → HasFailed r schedule log P
+failed_answer r stands o (seeded seed) log front left P printed = (o, left.0.run, stands o (one_log log) left.0.run, (left.1, printed), front)
+failed_answer r stands o free log front left P printed =
+    (left.0, left.1, (o, left.2.run, stands o left.0 left.2.run, (λ l is. ((left.2.rose l is).0, (left.2.rose l is).1, left.3 l is), printed), front))
 
 begun_answer : (p : Printing) (r : Ran) → EachStands r → (o : Opening) (s : Status) → WritesFront r.trace (trace_of r.kept) → (s ≡ status.Done → Writes r.trace (trace_of r.kept))
-    → IsRunEnd p (LeftBy r o) r.work r.seed o (meant r.kept) r.out s → IsAnswerOf p r s
-begun_answer p r stands o status.Done front whole end = ((o, end.0.run, stands o None end.0.run, (end.1, end.2), front), whole refl)
+    → IsRunEnd p (LeftBy r o) r.work r.schedule o (meant r.kept) r.out s → IsAnswerOf p r s
+begun_answer p r stands o status.Done front whole end = ((o, end.0.run, stands o no_log end.0.run, (end.1, end.2), front), whole refl)
 begun_answer p r stands o (status.Usage place) front whole end = end
 begun_answer p r stands o (status.Input line cause) front whole end = end
 begun_answer p r stands o (status.Logs log offset cause) front whole end = absurd end
-begun_answer p r stands o status.Memory front whole end = inr (o, end.0.run, stands o None end.0.run, end.1, front)
+begun_answer p r stands o status.Memory front whole end = inr (o, end.0.run, stands o no_log end.0.run, end.1, front)
 begun_answer p r stands o status.ReadFault front whole end = end
-begun_answer p r stands o (status.LogFault log) front whole end = (end.0.rose.1, inr (o, end.0.run, stands o (Some log) end.0.run, (end.1, end.2), front))
-begun_answer p r stands o status.OutFault front whole end = (end.1, (o, end.0.run, stands o None end.0.run, end.2, front))
+begun_answer p r stands o (status.LogFault log) front whole end =
+    ((rose_there r o r.schedule log end.0).1, inr (failed_answer r stands o r.schedule log front end.0 (λ o es. PrintsFailed p r.work r.schedule log o es r.out) end.1))
+begun_answer p r stands o status.OutFault front whole end = (end.1, (o, end.0.run, stands o no_log end.0.run, end.2, front))
 begun_answer p r stands o status.TraceFault front whole end = absurd end
 
 -- where nothing is kept nothing is traced
@@ -81,9 +96,9 @@ done_but_traced p r stands after (inl (why, none, is)) front then = absurd (neve
     never (ending.Device log) e = cc
     never ending.Memory e = cc
 done_but_traced p r stands after (inr (o, end)) front (inl memory) =
-    subst (λ (t : Status). IsAnswerOf p r t) (sym memory) (inr (o, end.0.run, stands o None end.0.run, all_front p r.work o (meant r.kept) r.out end.1 end.2, front))
+    subst (λ (t : Status). IsAnswerOf p r t) (sym memory) (inr (o, end.0.run, stands o no_log end.0.run, all_front p r.work o (meant r.kept) r.out end.1 end.2, front))
 done_but_traced p r stands after (inr (o, end)) front (inr fault) =
-    subst (λ (t : Status). IsAnswerOf p r t) (sym fault.0) (fault.1, (o, end.0.run, stands o None end.0.run, (end.1, end.2), front))
+    subst (λ (t : Status). IsAnswerOf p r t) (sym fault.0) (fault.1, (o, end.0.run, stands o no_log end.0.run, (end.1, end.2), front))
 
 is_done : (s : Status) → (s ≡ status.Done) ⊎ (s ≢ status.Done)
 is_done status.Done = inl refl
@@ -107,14 +122,14 @@ answered p r stands before after nothing run (inr (front, other, done)) = elim (
 
 -- a log on which a run begins is not refused, and where none fails no log ends the run
 begun_not_of_logs : (p : Printing) (r : Ran) (records : List (List Record)) (first : Opening) → MayOpen r.work.logs r.work.states r.devices_before r.devices_after records first
-    → (o : Opening) (s : Status) → IsRunEnd p (LeftBy r o) r.work r.seed o (meant r.kept) r.out s → ¬ IsOfLogs s
+    → (o : Opening) (s : Status) → IsRunEnd p (LeftBy r o) r.work r.schedule o (meant r.kept) r.out s → ¬ IsOfLogs s
 begun_not_of_logs p r records first may o status.Done end of = of
 begun_not_of_logs p r records first may o (status.Usage place) end of = of
 begun_not_of_logs p r records first may o (status.Input line cause) end of = of
 begun_not_of_logs p r records first may o (status.Logs log offset cause) end of = end
 begun_not_of_logs p r records first may o status.Memory end of = of
 begun_not_of_logs p r records first may o status.ReadFault end of = of
-begun_not_of_logs p r records first may o (status.LogFault log) end of = may.quiet log end.0.rose.0 end.0.rose.1
+begun_not_of_logs p r records first may o (status.LogFault log) end of = let x = rose_there r o r.schedule log end.0 in may.quiet log x.0 x.1
 begun_not_of_logs p r records first may o status.OutFault end of = of
 begun_not_of_logs p r records first may o status.TraceFault end of = of
 

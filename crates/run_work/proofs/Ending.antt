@@ -1,5 +1,5 @@
 -- How a run ends, from how a host ended and what is printed then.
-use Rattle.std.proofs.Common.{◌≡◌, inl, inr, ℕ, ◌≤◌, List, [], ◌++◌, length, refl, sym, subst, arith, Option}
+use Rattle.std.proofs.Common.{◌≡◌, inl, inr, ℕ, ◌≤◌, List, [], ◌++◌, length, refl, sym, subst, arith, Bool, Option}
 use Rattle.std.proofs.KnownBytes.{Appends-trans, Appends-kept}
 use Rattle.aml_slice.specs.Controls.{Rest}
 use Rattle.log_opening.specs.declared.refusals.LogsNo.{LogsNo}
@@ -8,16 +8,17 @@ use Rattle.protocol.specs.Events as machine
 use Rattle.protocol.specs.Fixed.{Fixed}
 use Rattle.run_outputs.specs.Lines.{replies_text}
 use Rattle.run_recovery.specs.Runs.{machine_of}
+use Rattle.run_recovery.specs.Schedules.{Schedule, seeded, free}
 use Rattle.run_work.proofs.RunDevices.{rose_earlier}
-use Rattle.run_work.specs.Hosts.{IsHostEnd}
-use Rattle.run_work.specs.Runs.{Printing, reporting, summing, replies_by, ending_by, unsures_by, PrintsNext}
+use Rattle.run_work.specs.Hosts.{PrintsReplies, IsHostEnd}
+use Rattle.run_work.specs.Runs.{Printing, reporting, summing, replies_by, ending_by, unsures_by, PrintsNext, PrintsUnsure, PrintsFailed}
 use Rattle.run_work.specs.Untraced.{IsEnding, IsRunEnd, IsToldUnbegun}
 use Rattle.run_work.specs.Writings.{Writing, WritesNothing, Writes, WritesFront, WritesBehind}
 use Rattle.snap_recover.specs.declared.openings.Opening.{Opening}
 use Rattle.snap_report.specs.declared.statuses.Status.{Status}
 use Rattle.snap_work.specs.Works.{Work}
-use Rattle.solo_host.specs.declared.drives.Stop.{Stop}
-use Rattle.solo_host.specs.declared.drives.Stop.TheVariants as stop
+use Rattle.run_journals.specs.declared.stops.Stop.{Stop}
+use Rattle.run_journals.specs.declared.stops.Stop.TheVariants as stop
 
 -- ---- what is written, one after the other
 
@@ -40,56 +41,75 @@ and_nothing a b x on first then =
 and_front : (a b : Writing) (x y : List ℕ) → GoesOn a b → Writes a x → WritesFront b y → WritesBehind (joined a b) x y
 and_front a b x y on first then = (then.0, then.1, then.2, both a b x then.0 on first then.3)
 
-next_kept : (p : Printing) (w : Work) (seed : ℕ) (o : Opening) (es : List machine.Event) (a b : Writing) → GoesOn a b → WritesNothing b → PrintsNext p w seed o es a
-    → PrintsNext p w seed o es (joined a b)
-next_kept reporting w seed o es a b on nothing next =
+next_kept : (p : Printing) (w : Work) (schedule : Schedule) (o : Opening) (es : List machine.Event) (a b : Writing) → GoesOn a b → WritesNothing b → PrintsNext p w schedule o es a
+    → PrintsNext p w schedule o es (joined a b)
+next_kept reporting w (seeded seed) o es a b on nothing next =
     (next.0, next.1, (next.2.0, next.2.1, next.2.2, and_nothing a b (replies_text (machine_of w o) es ++ next.2.0) on next.2.3 nothing))
-next_kept summing w seed o es a b on nothing next = next
+next_kept reporting w free o es a b on nothing next =
+    (next.0, next.1, next.2, next.3, next.4, (next.5.0, next.5.1, next.5.2, and_nothing a b (replies_text (machine_of w o) es ++ next.5.0) on next.5.3 nothing))
+next_kept summing w schedule o es a b on nothing next = next
 
 -- ---- how the run ends then
 
-module _ (p : Printing) (Left : Option ℕ → Type 0) (w : Work) (seed : ℕ) (o : Opening) (es : List machine.Event) where
-  abbrev End : Writing → Status → Type 0
-  End out s = IsRunEnd p Left w seed o es out s
+-- where a log failed, no line of a reply was cut off
+abbrev pub PrintsWhole : Printing → Work → Opening → List machine.Event → Writing → Stop → Type 0
+PrintsWhole p w o es out stop.Quiet = Unit {0}
+PrintsWhole p w o es out (stop.LogFault log) = Writes out (replies_by p (machine_of w o) es)
+PrintsWhole p w o es out stop.OutFault = Unit {0}
+PrintsWhole p w o es out stop.Memory = Unit {0}
 
-  ended_quiet : (a b : Writing) (s : Status) → GoesOn a b → b.faults_before ≤ b.faults_after → IsHostEnd p Left w seed o es a stop.Quiet
+-- so it is with one thread
+pub seeds_print_whole : (p : Printing) (w : Work) (seed : ℕ) (o : Opening) (es : List machine.Event) (out : Writing) (by : Stop) → PrintsReplies p w (seeded seed) o es out by → PrintsWhole p w o es out by
+seeds_print_whole p w seed o es out stop.Quiet printed = tt
+seeds_print_whole p w seed o es out (stop.LogFault log) printed = printed
+seeds_print_whole p w seed o es out stop.OutFault printed = tt
+seeds_print_whole p w seed o es out stop.Memory printed = tt
+
+told_unsure : (p : Printing) (w : Work) (schedule : Schedule) (log : ℕ) (o : Opening) (es : List machine.Event) (out : Writing) → PrintsUnsure p w log o es out → PrintsFailed p w schedule log o es out
+told_unsure p w (seeded seed) log o es out told = told
+told_unsure p w free log o es out told = inl told
+
+module _ (p : Printing) (Left : (ℕ → Bool) → Type 0) (w : Work) (schedule : Schedule) (o : Opening) (es : List machine.Event) where
+  abbrev End : Writing → Status → Type 0
+  End out s = IsRunEnd p Left w schedule o es out s
+
+  ended_quiet : (a b : Writing) (s : Status) → GoesOn a b → b.faults_before ≤ b.faults_after → IsHostEnd p Left w schedule o es a stop.Quiet
       → IsEnding p (machine_of w o) es (length w.txs) stop.Quiet b s → End (joined a b) s
   ended_quiet a b s on later h (inl done) =
       subst (λ (t : Status). End (joined a b) t) (sym done.0)
-      (h.left, h.why, both a b (replies_by p (machine_of w o) es) (ending_by p (machine_of w o) es) on h.printed done.1)
+      (h.why.0, h.why.1, both a b (replies_by p (machine_of w o) es) (ending_by p (machine_of w o) es) on h.printed done.1)
   ended_quiet a b s on later h (inr (front, inl is)) =
       subst (λ (t : Status). End (joined a b) t) (sym is)
-      (h.left, inr (h.why, and_front a b (replies_by p (machine_of w o) es) (ending_by p (machine_of w o) es) on h.printed front))
+      (h.why.0, inr (h.why.1, and_front a b (replies_by p (machine_of w o) es) (ending_by p (machine_of w o) es) on h.printed front))
   ended_quiet a b s on later h (inr (front, inr is)) =
       subst (λ (t : Status). End (joined a b) t) (sym is.0) (
-        h.left,
+        h.why.0,
         rose_earlier a.faults_before b.faults_before b.faults_after b.faults_after (omega (arith, h.later, on.1)) (omega arith) is.1,
-        inr (h.why, and_front a b (replies_by p (machine_of w o) es) (ending_by p (machine_of w o) es) on h.printed front),
+        inr (h.why.1, and_front a b (replies_by p (machine_of w o) es) (ending_by p (machine_of w o) es) on h.printed front),
       )
 
-  ended : (a b : Writing) (why : Stop) (s : Status) → GoesOn a b → b.faults_before ≤ b.faults_after → IsHostEnd p Left w seed o es a why
+  ended : (a b : Writing) (why : Stop) (s : Status) → GoesOn a b → b.faults_before ≤ b.faults_after → IsHostEnd p Left w schedule o es a why → PrintsWhole p w o es a why
       → IsEnding p (machine_of w o) es (length w.txs) why b s → End (joined a b) s
-  ended a b stop.Quiet s on later h ending = ended_quiet a b s on later h ending
-  ended a b (stop.LogFault l) s on later h ending =
+  ended a b stop.Quiet s on later h whole ending = ended_quiet a b s on later h ending
+  ended a b (stop.LogFault l) s on later h whole ending =
       subst (λ (t : Status). End (joined a b) t) (sym ending.0) (
-        h.left,
         h.why,
-        and_front a b (replies_by p (machine_of w o) es) (unsures_by p l es (length w.txs)) on h.printed ending.1,
+        told_unsure p w schedule l o es (joined a b) (and_front a b (replies_by p (machine_of w o) es) (unsures_by p l es (length w.txs)) on whole ending.1),
       )
-  ended a b stop.OutFault s on later h ending =
+  ended a b stop.OutFault s on later h whole ending =
       subst (λ (t : Status). End (joined a b) t) (sym ending.0) (
-        h.left,
-        rose_earlier a.faults_before a.faults_before a.faults_after b.faults_after (omega arith) (omega (arith, later, on.1)) h.why,
-        inl (next_kept p w seed o es a b on ending.1 h.printed),
+        h.why.0,
+        rose_earlier a.faults_before a.faults_before a.faults_after b.faults_after (omega arith) (omega (arith, later, on.1)) h.why.1,
+        inl (next_kept p w schedule o es a b on ending.1 h.printed),
       )
-  ended a b stop.Memory s on later h ending =
+  ended a b stop.Memory s on later h whole ending =
       subst (λ (t : Status). End (joined a b) t) (sym ending.0)
-      (h.left, inl (and_nothing a b (replies_by p (machine_of w o) es) on h.printed ending.1))
+      (h.why, inl (and_nothing a b (replies_by p (machine_of w o) es) on h.printed ending.1))
 
   pub ended_so : (a b : Writing) (by : Stop) (s : Status) (m : Fixed Rest) (fs : List machine.Event) (count : ℕ) → m ≡ machine_of w o → fs ≡ es → count ≡ length w.txs
-      → GoesOn a b → b.faults_before ≤ b.faults_after → IsHostEnd p Left w seed o es a by → IsEnding p m fs count by b s → End (joined a b) s
-  ended_so a b by s m fs count same taken many on later h ending =
-      ended a b by s on later h
+      → GoesOn a b → b.faults_before ≤ b.faults_after → IsHostEnd p Left w schedule o es a by → PrintsWhole p w o es a by → IsEnding p m fs count by b s → End (joined a b) s
+  ended_so a b by s m fs count same taken many on later h whole ending =
+      ended a b by s on later h whole
       (subst (λ (x : Fixed Rest). IsEnding p x es (length w.txs) by b s) same
       (subst (λ (x : List machine.Event). IsEnding p m x (length w.txs) by b s) taken (subst (λ (n : ℕ). IsEnding p m fs n by b s) many ending)))
 

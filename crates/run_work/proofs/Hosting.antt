@@ -1,5 +1,6 @@
 -- What a host promises of what it took, in the words of a run.
-use Rattle.std.proofs.Common.{◌≡◌, ℕ, zero, suc, ◌<◌, ◌≤◌, List, [], ◌∷◌, length, append-nil, refl, sym, subst, arith, Option, Some, None, false}
+use Rattle.std.proofs.Common.{◌≡◌, ℕ, zero, suc, ◌<◌, ◌≤◌, Bool, true, false, List, [], ◌∷◌, length, append-nil, refl, sym, subst, arith, Option, Some, None}
+use Rattle.std.proofs.lemmas.Bool.{eqb-true, true≢false}
 use Rattle.std.proofs.KnownBytes.{Appends-nil, Appends-kept}
 use Rattle.std.specs.Prelude.{IfSome}
 use Rattle.std.specs.List.{AllByRecursion}
@@ -10,20 +11,29 @@ use Rattle.protocol.specs.Fixed.{Fixed}
 use Rattle.protocol_schedule.specs.Draw.{IsFrontOfSeed}
 use Rattle.record_log.specs.Growth.{GrewBy}
 use Rattle.run_outputs.specs.Groups.{groups_of, group_behind}
-use Rattle.run_recovery.specs.Runs.{machine_of, tried_on}
-use Rattle.run_work.specs.Hosts.{failed_by, HasDriven, IsStopOf, PrintsReplies, IsHostEnd, IsCoreOf}
+use Rattle.run_recovery.specs.Runs.{machine_of, no_log, one_log, tried_on}
+use Rattle.run_recovery.specs.Schedules.{Schedule, seeded, free}
+use Rattle.run_work.specs.Hosts.{HasDriven, LeftFailed, IsStopOf, PrintsReplies, IsHostEnd, IsCoreOf}
 use Rattle.run_work.specs.Runs.{Printing, reporting, summing}
 use Rattle.run_work.specs.Writings.{Writing, WritesNothing, Writes}
 use Rattle.snap_core.specs.Cores.{CoreState, IsAt}
 use Rattle.snap_outside.specs.Causes.{Rose}
 use Rattle.snap_recover.specs.declared.openings.Opening.{Opening}
 use Rattle.snap_work.specs.Works.{Work}
+use Rattle.run_journals.specs.Driven.{IsDriven}
 use Rattle.solo_host.specs.Drives as host
-use Rattle.solo_host.specs.declared.drives.Stop.{Stop}
-use Rattle.solo_host.specs.declared.drives.Stop.TheVariants as stop
+use Rattle.run_journals.specs.declared.stops.Stop.{Stop}
+use Rattle.run_journals.specs.declared.stops.Stop.TheVariants as stop
 use Rattle.txn_records.specs.declared.records.Record.{Record}
 
 -- ---- how it ended
+
+-- the log that one thread stopped at, where it did
+abbrev failed_by : Stop → ℕ → Bool
+failed_by stop.Quiet = no_log
+failed_by (stop.LogFault log) = one_log log
+failed_by stop.OutFault = no_log
+failed_by stop.Memory = no_log
 
 same_tried : (w : Work) (o : Opening) (es : List machine.Event) (why : Stop) (l : ℕ)
     → host.tried_on (machine_of w o) l es why ≡ tried_on (failed_by why) l (group_behind (machine_of w o) l es)
@@ -33,30 +43,31 @@ same_tried w o es stop.OutFault l = refl
 same_tried w o es stop.Memory l = refl
 
 rose_by : (w : Work) (seed : ℕ) (o : Opening) (es : List machine.Event) (old new : List LogState) (a b : ℕ) (why : Stop)
-    → host.IsWhy (machine_of w o) seed es old new a b why → IfSome (failed_by why) (λ l. (l < length old) × Rose (host.log_at old l).faults (host.log_at new l).faults)
-rose_by w seed o es old new a b stop.Quiet why = tt
-rose_by w seed o es old new a b (stop.LogFault k) why = (why.0, why.2)
-rose_by w seed o es old new a b stop.OutFault why = tt
-rose_by w seed o es old new a b stop.Memory why = tt
+    → host.IsWhy (machine_of w o) seed es old new a b why → (l : ℕ) → failed_by why l ≡ true → (l < length old) × Rose (host.log_at old l).faults (host.log_at new l).faults
+rose_by w seed o es old new a b stop.Quiet why l is = absurd (true≢false (sym is))
+rose_by w seed o es old new a b (stop.LogFault k) why l is =
+    subst (λ (n : ℕ). (n < length old) × Rose (host.log_at old n).faults (host.log_at new n).faults) (eqb-true k l is) (why.0, why.2)
+rose_by w seed o es old new a b stop.OutFault why l is = absurd (true≢false (sym is))
+rose_by w seed o es old new a b stop.Memory why l is = absurd (true≢false (sym is))
 
 driven : (w : Work) (seed : ℕ) (o : Opening) (es : List machine.Event) (old new : List LogState) (a b : ℕ) (by : Stop) → IsFrontOfSeed (machine_of w o) seed es
-    → host.IsWhy (machine_of w o) seed es old new a b by → host.AreDriven (machine_of w o) es by old new → HasDriven w seed o es old new (failed_by by)
+    → host.IsWhy (machine_of w o) seed es old new a b by → host.AreDriven (machine_of w o) es by old new → HasDriven w (seeded seed) o es old new (failed_by by)
 driven w seed o es old new a b by front why logs = record {
   front = front;
   as_many = logs.0;
-  each = λ l lt. subst (λ (t : Option (List Record)). host.IsDriven (host.log_at old l) (host.log_at new l) (groups_of (machine_of w o) l es) t) (same_tried w o es by l) (logs.1 l lt);
+  each = λ l lt. subst (λ (t : Option (List Record)). IsDriven (host.log_at old l) (host.log_at new l) (groups_of (machine_of w o) l es) t) (same_tried w o es by l) (logs.1 l lt);
   rose = rose_by w seed o es old new a b by why;
 }
 
-stopped : (w : Work) (seed : ℕ) (o : Opening) (es : List machine.Event) (old new : List LogState) (out : Writing) (by : Stop)
-    → host.IsWhy (machine_of w o) seed es old new out.faults_before out.faults_after by → IsStopOf w seed o es out by
-stopped w seed o es old new out stop.Quiet why = why
-stopped w seed o es old new out (stop.LogFault k) why = why.1
-stopped w seed o es old new out stop.OutFault why = why.1
-stopped w seed o es old new out stop.Memory why = tt
+stopped : (w : Work) (seed : ℕ) (o : Opening) (es : List machine.Event) (old new : List LogState) (out : Writing) (by : Stop) → HasDriven w (seeded seed) o es old new (failed_by by)
+    → host.IsWhy (machine_of w o) seed es old new out.faults_before out.faults_after by → IsStopOf (HasDriven w (seeded seed) o es old new) w (seeded seed) o es out by
+stopped w seed o es old new out stop.Quiet left why = (left, why)
+stopped w seed o es old new out (stop.LogFault k) left why = (left, why.1)
+stopped w seed o es old new out stop.OutFault left why = (left, why.1)
+stopped w seed o es old new out stop.Memory left why = left
 
 replies_printed : (w : Work) (seed : ℕ) (o : Opening) (es : List machine.Event) (out : Writing) (by : Stop)
-    → host.IsPrinted (machine_of w o) seed es out.taken_before out.taken_after by → PrintsReplies reporting w seed o es out by
+    → host.IsPrinted (machine_of w o) seed es out.taken_before out.taken_after by → PrintsReplies reporting w (seeded seed) o es out by
 replies_printed w seed o es out stop.Quiet is = is
 replies_printed w seed o es out (stop.LogFault k) is = is
 replies_printed w seed o es out stop.OutFault is = (is.0, is.3, (is.1, is.2, is.4, is.5))
@@ -65,10 +76,9 @@ replies_printed w seed o es out stop.Memory is = is
 hosted_by : (w : Work) (seed : ℕ) (o : Opening) (es : List machine.Event) (old new : List LogState) (out : Writing) (by : Stop) → IsFrontOfSeed (machine_of w o) seed es
     → host.IsWhy (machine_of w o) seed es old new out.faults_before out.faults_after by → host.AreDriven (machine_of w o) es by old new
     → host.IsPrinted (machine_of w o) seed es out.taken_before out.taken_after by → out.faults_before ≤ out.faults_after
-    → IsHostEnd reporting (HasDriven w seed o es old new) w seed o es out by
+    → IsHostEnd reporting (HasDriven w (seeded seed) o es old new) w (seeded seed) o es out by
 hosted_by w seed o es old new out by front why logs printed later = record {
-  left = driven w seed o es old new out.faults_before out.faults_after by front why logs;
-  why = stopped w seed o es old new out by why;
+  why = stopped w seed o es old new out by (driven w seed o es old new out.faults_before out.faults_after by front why logs) why;
   printed = replies_printed w seed o es out by printed;
   later = later;
 }
@@ -76,7 +86,7 @@ hosted_by w seed o es old new out by front why logs printed later = record {
 pub hosted : (w : Work) (seed : ℕ) (o : Opening) (es : List machine.Event) (old new : List LogState) (out : Writing) (by : Stop) (m : Fixed Rest) → m ≡ machine_of w o
     → IsFrontOfSeed m seed es → host.IsWhy m seed es old new out.faults_before out.faults_after by → host.AreDriven m es by old new
     → host.IsPrinted m seed es out.taken_before out.taken_after by → out.faults_before ≤ out.faults_after
-    → IsHostEnd reporting (HasDriven w seed o es old new) w seed o es out by
+    → IsHostEnd reporting (HasDriven w (seeded seed) o es old new) w (seeded seed) o es out by
 hosted w seed o es old new out by m same front why logs printed later =
     hosted_by w seed o es old new out by (subst (λ (x : Fixed Rest). IsFrontOfSeed x seed es) same front)
     (subst (λ (x : Fixed Rest). host.IsWhy x seed es old new out.faults_before out.faults_after by) same why) (subst (λ (x : Fixed Rest). host.AreDriven x es by old new) same logs)
@@ -84,12 +94,13 @@ hosted w seed o es old new out by m same front why logs printed later =
 
 -- ---- nothing was taken
 
-nothing_grew : (l : LogState) → l.shut ≡ false → host.IsDriven l l [] None
+nothing_grew : (l : LogState) → l.shut ≡ false → IsDriven l l [] None
 nothing_grew l quiet = record {
   grew = λ device end first grew gate. subst (λ (groups : List (List Record)). GrewBy device l.told end groups None) (sym (append-nil first)) grew;
   gate = refl;
   shut = quiet;
   later = omega arith;
+  rose = tt;
 }
 
 pub nothing_written : (out : Writing) → WritesNothing out → Writes out []
@@ -102,10 +113,9 @@ shut_at (l ∷ logs) (suc n) lt all = shut_at logs n (omega (arith, lt)) all.1
 
 -- there was no memory for a core
 pub no_core : (w : Work) (seed : ℕ) (o : Opening) (logs : List LogState) (out : Writing) → AllByRecursion (λ (l : LogState). l.shut ≡ false) logs → WritesNothing out
-    → out.faults_before ≤ out.faults_after → IsHostEnd reporting (HasDriven w seed o [] logs logs) w seed o [] out stop.Memory
+    → out.faults_before ≤ out.faults_after → IsHostEnd reporting (HasDriven w (seeded seed) o [] logs logs) w (seeded seed) o [] out stop.Memory
 no_core w seed o logs out ready nothing later = record {
-  left = record { front = tt; as_many = refl; each = λ l lt. nothing_grew (host.log_at logs l) (shut_at logs l lt ready); rose = tt };
-  why = tt;
+  why = record { front = tt; as_many = refl; each = λ l lt. nothing_grew (host.log_at logs l) (shut_at logs l lt ready); rose = λ l is. absurd (true≢false (sym is)) };
   printed = nothing_written out nothing;
   later = later;
 }
@@ -113,18 +123,28 @@ no_core w seed o logs out ready nothing later = record {
 -- ---- the same of other logs, or of another output
 
 -- what a run left, on open logs or on all devices
-pub left_as : (p : Printing) (P Q : Option ℕ → Type 0) → ((failed : Option ℕ) → P failed → Q failed) → (w : Work) (seed : ℕ) (o : Opening) (es : List machine.Event) (out : Writing) (by : Stop)
-    → IsHostEnd p P w seed o es out by → IsHostEnd p Q w seed o es out by
-left_as p P Q then w seed o es out by h = record { left = then (failed_by by) h.left; why = h.why; printed = h.printed; later = h.later }
+module _ (P Q : (ℕ → Bool) → Type 0) (then : (failed : ℕ → Bool) → P failed → Q failed) (w : Work) (o : Opening) (es : List machine.Event) where
+  failed_as : (schedule : Schedule) (log : ℕ) → LeftFailed P w schedule o es log → LeftFailed Q w schedule o es log
+  failed_as (seeded seed) log left = (then (one_log log) left.0, left.1)
+  failed_as free log left = (left.0, left.1, then left.0 left.2, left.3)
+
+  stop_as : (schedule : Schedule) (out : Writing) (by : Stop) → IsStopOf P w schedule o es out by → IsStopOf Q w schedule o es out by
+  stop_as schedule out stop.Quiet why = (then no_log why.0, why.1)
+  stop_as schedule out (stop.LogFault log) why = failed_as schedule log why
+  stop_as schedule out stop.OutFault why = (then no_log why.0, why.1)
+  stop_as schedule out stop.Memory why = then no_log why
+
+  pub left_as : (p : Printing) (schedule : Schedule) (out : Writing) (by : Stop) → IsHostEnd p P w schedule o es out by → IsHostEnd p Q w schedule o es out by
+  left_as p schedule out by h = record { why = stop_as schedule out by h.why; printed = h.printed; later = h.later }
 
 -- the replies went where nothing fails, and nothing was printed
-pub unheard : (Left : Option ℕ → Type 0) (w : Work) (seed : ℕ) (o : Opening) (es : List machine.Event) (replies out : Writing) (by : Stop)
+pub unheard : (Left : (ℕ → Bool) → Type 0) (w : Work) (seed : ℕ) (o : Opening) (es : List machine.Event) (replies out : Writing) (by : Stop)
     → ¬ Rose replies.faults_before replies.faults_after → Writes out [] → out.faults_before ≤ out.faults_after
-    → IsHostEnd reporting Left w seed o es replies by → IsHostEnd summing Left w seed o es out by
-unheard Left w seed o es replies out stop.Quiet quiet nothing later h = record { left = h.left; why = h.why; printed = nothing; later = later }
-unheard Left w seed o es replies out (stop.LogFault k) quiet nothing later h = record { left = h.left; why = h.why; printed = nothing; later = later }
-unheard Left w seed o es replies out stop.OutFault quiet nothing later h = absurd (quiet h.why)
-unheard Left w seed o es replies out stop.Memory quiet nothing later h = record { left = h.left; why = h.why; printed = nothing; later = later }
+    → IsHostEnd reporting Left w (seeded seed) o es replies by → IsHostEnd summing Left w (seeded seed) o es out by
+unheard Left w seed o es replies out stop.Quiet quiet nothing later h = record { why = h.why; printed = nothing; later = later }
+unheard Left w seed o es replies out (stop.LogFault k) quiet nothing later h = record { why = h.why; printed = nothing; later = later }
+unheard Left w seed o es replies out stop.OutFault quiet nothing later h = absurd (quiet h.why.1)
+unheard Left w seed o es replies out stop.Memory quiet nothing later h = record { why = h.why; printed = nothing; later = later }
 
 -- a core that has come to the events is there where there is one
 pub core_at : (m : Fixed Rest) (es : List machine.Event) (by : Stop) (core : Option CoreState) → IsCoreOf m es by core → IfSome core (λ c. IsAt c es)

@@ -1,6 +1,5 @@
 -- What a run leaves on its devices: what opening left on its open logs, and what a host made of these, log by log.
-use Rattle.std.proofs.Common.{◌≡◌, ℕ, ◌<◌, ◌≤◌, zero, suc, List, [], ◌∷◌, ◌++◌, length, map, drop, refl, sym, ◌∙◌, ap, subst, arith, Option, Some, None}
-use Rattle.std.specs.Prelude.{IfSome}
+use Rattle.std.proofs.Common.{◌≡◌, ℕ, ◌<◌, ◌≤◌, zero, suc, List, [], ◌∷◌, ◌++◌, length, map, drop, refl, sym, ◌∙◌, ap, subst, arith, Bool, Option}
 use Rattle.std.specs.List.{AllByRecursion}
 use Rattle.gate_log.specs.State.{LogState}
 use Rattle.log_opening.specs.Devices.{Device, as_device, device_at}
@@ -10,12 +9,13 @@ use Rattle.run_opening.specs.Opens.{HasRoom, OpensRun, IsRunLog, first_groups, l
 use Rattle.run_opening.specs.Starts.{IsStart}
 use Rattle.run_outputs.specs.Groups.{groups_of, group_behind}
 use Rattle.run_recovery.specs.Runs.{IsRunDevice, HasRun, tried_on, machine_of}
+use Rattle.run_recovery.specs.Schedules.{Schedule}
 use Rattle.run_work.specs.Hosts.{HasDriven, HasLeft}
 use Rattle.snap_base.specs.declared.transactions.State.{State}
 use Rattle.snap_outside.specs.Causes.{Rose}
 use Rattle.snap_recover.specs.declared.openings.Opening.{Opening}
 use Rattle.snap_work.specs.Works.{Work}
-use Rattle.solo_host.specs.Drives.{IsDriven}
+use Rattle.run_journals.specs.Driven.{IsDriven}
 use Rattle.txn_records.specs.declared.records.Record.{Record}
 
 -- ---- logs and devices by their numbers
@@ -44,10 +44,6 @@ each_log P (g ∷ logs) each = (each 0 (omega arith), each_log P logs (λ n lt. 
 pub rose_earlier : (a b c d : ℕ) → a ≤ b → c ≤ d → Rose b c → Rose a d
 rose_earlier a b c d le ge rose = omega (arith, le, ge, rose)
 
-some_then : {A : Type 0} (x : Option A) (P Q : A → Type 0) → ((a : A) → P a → Q a) → IfSome x P → IfSome x Q
-some_then None P Q then given = tt
-some_then (Some a) P Q then given = then a given
-
 -- ---- one log
 
 run_device : (b a : Device) (old new : LogState) (end : ℕ) (records : List Record) (first groups : List (List Record)) (tried : Option (List Record))
@@ -64,10 +60,10 @@ run_device b a old new end records first groups tried is driven same = record {
 -- ---- all of them
 
 module _
-    (w : Work) (seed : ℕ) (o : Opening) (es : List machine.Event) (failed : Option ℕ) (before after others : List Device) (old new : List LogState)
+    (w : Work) (schedule : Schedule) (o : Opening) (es : List machine.Event) (failed : ℕ → Bool) (before after others : List Device) (old new : List LogState)
     (states : List State) (records : List (List Record)) (added : List Record)
     (texts : states ≡ w.states) (opens : OpensRun before old states o records added) (as_many : length records ≡ w.logs) (room : HasRoom o)
-    (driven : HasDriven w seed o es old new failed) (same : after ≡ map as_device new ++ others) (rest : others ≡ drop w.logs before)
+    (driven : HasDriven w schedule o es old new failed) (same : after ≡ map as_device new ++ others) (rest : others ≡ drop w.logs before)
   where
     old_many : length old ≡ w.logs
     old_many = opens.as_many ∙ as_many
@@ -78,7 +74,7 @@ module _
     device_is : (l : ℕ) → l < w.logs → device_at after l ≡ as_device (log_at new l)
     device_is l lt = ap (λ (ds : List Device). device_at ds l) same ∙ device_of_log new others l (omega (arith, lt, new_many))
 
-    has_run : HasRun w seed o es failed before after
+    has_run : HasRun w schedule o es failed before after
     has_run = record {
       room = room;
       front = driven.front;
@@ -105,10 +101,6 @@ module _
           rose_earlier (device_at before l).faults (log_at old l).faults (log_at new l).faults (device_at after l).faults is.1.later (omega (arith, now)) rose,
         )
 
-    -- where a log failed it is one of the work's, and its device's count tells it
-    rose_now : IfSome failed (λ l. (l < w.logs) × Rose (device_at before l).faults (device_at after l).faults)
-    rose_now = some_then failed (λ l. (l < length old) × Rose (log_at old l).faults (log_at new l).faults) (λ l. (l < w.logs) × Rose (device_at before l).faults (device_at after l).faults)
-        (λ l x. has_risen l x.0 x.1) driven.rose
-
-    pub has_left : HasLeft w seed o es before after failed
-    has_left = record { run = has_run; rose = rose_now }
+    -- a log that failed is one of the work's, and its device's count tells it
+    pub has_left : HasLeft w schedule o es before after failed
+    has_left = record { run = has_run; rose = λ l is. let x = driven.rose l is in has_risen l x.0 x.1 }

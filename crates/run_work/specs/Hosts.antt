@@ -1,6 +1,6 @@
 -- Only private contracts cite this; the answers are Runs.antt.
 -- What a host makes of a work, wherever its replies go: on open logs, and on all devices.
-use Rattle.std.specs.Prelude.{◌≡◌, ℕ, ◌<◌, ◌≤◌, Option, None, Some, IfSome, List, length}
+use Rattle.std.specs.Prelude.{◌≡◌, ℕ, ◌<◌, ◌≤◌, ◌⊎◌, Bool, true, Option, None, Some, List, length}
 use Rattle.aml_slice.specs.Controls.{Rest}
 use Rattle.gate_log.specs.State.{LogState}
 use Rattle.log_opening.specs.declared.refusals.LogsNo.{LogsNo}
@@ -8,10 +8,11 @@ use Rattle.log_opening.specs.declared.refusals.LogsNo.TheVariants as ending
 use Rattle.log_opening.specs.Devices.{Device, device_at}
 use Rattle.protocol.specs.Events as machine
 use Rattle.protocol.specs.Fixed.{Fixed}
-use Rattle.protocol_schedule.specs.Draw.{IsFrontOfSeed}
 use Rattle.run_opening.specs.Opens.{AreSafe, IsNoRun, MayOpen}
+use Rattle.run_journals.specs.Driven.{IsDriven}
 use Rattle.run_outputs.specs.Groups.{groups_of, group_behind}
-use Rattle.run_recovery.specs.Runs.{HasRun, machine_of, meant, tried_on, IsNext, HasEnded}
+use Rattle.run_recovery.specs.Runs.{HasRun, machine_of, meant, no_log, one_log, IsLeastOf, tried_on, IsNext, HasEnded}
+use Rattle.run_recovery.specs.Schedules.{Schedule, seeded, free, IsTakenBy}
 use Rattle.run_work.specs.Runs.{Printing, reporting, replies_by, PrintsNext}
 use Rattle.run_work.specs.Writings.{Writing, Writes}
 use Rattle.run_work.specs.declared.hosts.Hosted.{Hosted}
@@ -20,54 +21,57 @@ use Rattle.snap_hand.specs.Tables.{fixed_of}
 use Rattle.snap_outside.specs.Causes.{Rose}
 use Rattle.snap_recover.specs.declared.openings.Opening.{Opening}
 use Rattle.snap_work.specs.Works.{Work}
-use Rattle.solo_host.specs.Drives.{IsDriven, log_at}
-use Rattle.solo_host.specs.declared.drives.Stop.{Stop}
-use Rattle.solo_host.specs.declared.drives.Stop.TheVariants as stop
+use Rattle.solo_host.specs.Drives.{log_at}
+use Rattle.run_journals.specs.declared.stops.Stop.{Stop}
+use Rattle.run_journals.specs.declared.stops.Stop.TheVariants as stop
 use Rattle.txn_records.specs.declared.records.Record.{Record}
 
 -- ---- what it leaves on its logs
 
--- the log that failed, where one did
-abbrev pub failed_by : Stop → Option ℕ
-failed_by stop.Quiet = None
-failed_by (stop.LogFault log) = Some log
-failed_by stop.OutFault = None
-failed_by stop.Memory = None
-
--- A front of the schedule was taken. Each of the open logs got a group for each of its Syncs, and the one that failed a front
--- of one more.
-pub record HasDriven (w : Work) (seed : ℕ) (o : Opening) (es : List machine.Event) (old new : List LogState) (failed : Option ℕ) : Type 0 where
-  pub front : IsFrontOfSeed (machine_of w o) seed es
+-- The events were taken by the schedule. Each of the open logs got a group for each of its Syncs, and each that failed a front of
+-- one more; its count tells it.
+pub record HasDriven (w : Work) (schedule : Schedule) (o : Opening) (es : List machine.Event) (old new : List LogState) (failed : ℕ → Bool) : Type 0 where
+  pub front : IsTakenBy (machine_of w o) schedule es
   pub as_many : length new ≡ length old
   pub each : (l : ℕ) → l < length old → IsDriven (log_at old l) (log_at new l) (groups_of (machine_of w o) l es) (tried_on failed l (group_behind (machine_of w o) l es))
-  pub rose : IfSome failed (λ l. (l < length old) × Rose (log_at old l).faults (log_at new l).faults)
+  pub rose : (l : ℕ) → failed l ≡ true → (l < length old) × Rose (log_at old l).faults (log_at new l).faults
 
--- A run of these events was made on the devices; the one that failed tells it.
-pub record HasLeft (w : Work) (seed : ℕ) (o : Opening) (es : List machine.Event) (before after : List Device) (failed : Option ℕ) : Type 0 where
-  pub run : HasRun w seed o es failed before after
-  pub rose : IfSome failed (λ l. (l < w.logs) × Rose (device_at before l).faults (device_at after l).faults)
+-- A run of these events was made on the devices; each that failed tells it.
+pub record HasLeft (w : Work) (schedule : Schedule) (o : Opening) (es : List machine.Event) (before after : List Device) (failed : ℕ → Bool) : Type 0 where
+  pub run : HasRun w schedule o es failed before after
+  pub rose : (l : ℕ) → failed l ≡ true → (l < w.logs) × Rose (device_at before l).faults (device_at after l).faults
 
 -- ---- how it ends
 
--- why it did
-abbrev pub IsStopOf : Work → ℕ → Opening → List machine.Event → Writing → Stop → Type 0
-IsStopOf w seed o es out stop.Quiet = HasEnded w o es
-IsStopOf w seed o es out (stop.LogFault log) = IsNext w seed o es (machine.Sync log)
-IsStopOf w seed o es out stop.OutFault = Rose out.faults_before out.faults_after
-IsStopOf w seed o es out stop.Memory = Unit {0}
+-- What it left, where the device of this log failed, if Left tells that by the logs that failed. One thread stops there, at its next
+-- event. With several workers it is the least of those that failed, and the Sync of each of them could come.
+abbrev pub LeftFailed : ((ℕ → Bool) → Type 0) → Work → Schedule → Opening → List machine.Event → ℕ → Type 0
+LeftFailed Left w (seeded seed) o es log = Left (one_log log) × IsNext w (seeded seed) o es (machine.Sync log)
+LeftFailed Left w free o es log = (failed : ℕ → Bool) × IsLeastOf failed log × Left failed × ((l : ℕ) → failed l ≡ true → IsNext w free o es (machine.Sync l))
+
+-- what it left, and why it stopped
+abbrev pub IsStopOf : ((ℕ → Bool) → Type 0) → Work → Schedule → Opening → List machine.Event → Writing → Stop → Type 0
+IsStopOf Left w schedule o es out stop.Quiet = Left no_log × HasEnded w o es
+IsStopOf Left w schedule o es out (stop.LogFault log) = LeftFailed Left w schedule o es log
+IsStopOf Left w schedule o es out stop.OutFault = Left no_log × Rose out.faults_before out.faults_after
+IsStopOf Left w schedule o es out stop.Memory = Left no_log
+
+-- the replies; where the output failed several workers too, these and a front of the next one
+abbrev pub PrintsStopped : Printing → Work → Schedule → Opening → List machine.Event → Writing → Type 0
+PrintsStopped p w (seeded seed) o es out = Writes out (replies_by p (machine_of w o) es)
+PrintsStopped p w free o es out = Writes out (replies_by p (machine_of w o) es) ⊎ (Rose out.faults_before out.faults_after × PrintsNext p w free o es out)
 
 -- what its replies printed
-abbrev pub PrintsReplies : Printing → Work → ℕ → Opening → List machine.Event → Writing → Stop → Type 0
-PrintsReplies p w seed o es out stop.Quiet = Writes out (replies_by p (machine_of w o) es)
-PrintsReplies p w seed o es out (stop.LogFault log) = Writes out (replies_by p (machine_of w o) es)
-PrintsReplies p w seed o es out stop.OutFault = PrintsNext p w seed o es out
-PrintsReplies p w seed o es out stop.Memory = Writes out (replies_by p (machine_of w o) es)
+abbrev pub PrintsReplies : Printing → Work → Schedule → Opening → List machine.Event → Writing → Stop → Type 0
+PrintsReplies p w schedule o es out stop.Quiet = Writes out (replies_by p (machine_of w o) es)
+PrintsReplies p w schedule o es out (stop.LogFault log) = PrintsStopped p w schedule o es out
+PrintsReplies p w schedule o es out stop.OutFault = PrintsNext p w schedule o es out
+PrintsReplies p w schedule o es out stop.Memory = Writes out (replies_by p (machine_of w o) es)
 
--- the two with what it left, where Left tells that by the log that failed, if any
-pub record IsHostEnd (p : Printing) (Left : Option ℕ → Type 0) (w : Work) (seed : ℕ) (o : Opening) (es : List machine.Event) (out : Writing) (by : Stop) : Type 0 where
-  pub left : Left (failed_by by)
-  pub why : IsStopOf w seed o es out by
-  pub printed : PrintsReplies p w seed o es out by
+-- both
+pub record IsHostEnd (p : Printing) (Left : (ℕ → Bool) → Type 0) (w : Work) (schedule : Schedule) (o : Opening) (es : List machine.Event) (out : Writing) (by : Stop) : Type 0 where
+  pub why : IsStopOf Left w schedule o es out by
+  pub printed : PrintsReplies p w schedule o es out by
   pub later : out.faults_before ≤ out.faults_after
 
 -- the core to which these events have come, if there was memory for one
@@ -78,14 +82,14 @@ IsCoreOf m es by (Some core) = (fixed_of core.tables ≡ m) × IsAt core es
 -- ---- in one
 
 -- on open logs, which had this opening
-pub record IsHostedOn (w : Work) (seed : ℕ) (o : Opening) (old new : List LogState) (replies : Writing) (h : Hosted) : Type 0 where
-  pub ends : IsHostEnd reporting (HasDriven w seed o (meant h.kept.items) old new) w seed o (meant h.kept.items) replies h.stop
+pub record IsHostedOn (w : Work) (schedule : Schedule) (o : Opening) (old new : List LogState) (replies : Writing) (h : Hosted) : Type 0 where
+  pub ends : IsHostEnd reporting (HasDriven w schedule o (meant h.kept.items) old new) w schedule o (meant h.kept.items) replies h.stop
   pub core : IsCoreOf (machine_of w o) (meant h.kept.items) h.stop h.core
 
 -- on all devices
-pub record IsHosted (w : Work) (seed : ℕ) (before after : List Device) (replies : Writing) (h : Hosted) : Type 0 where
+pub record IsHosted (w : Work) (schedule : Schedule) (before after : List Device) (replies : Writing) (h : Hosted) : Type 0 where
   pub opening : Opening
-  pub ends : IsHostEnd reporting (HasLeft w seed opening (meant h.kept.items) before after) w seed opening (meant h.kept.items) replies h.stop
+  pub ends : IsHostEnd reporting (HasLeft w schedule opening (meant h.kept.items) before after) w schedule opening (meant h.kept.items) replies h.stop
   pub core : IsCoreOf (machine_of w opening) (meant h.kept.items) h.stop h.core
 
 -- No run began, for this reason, and a crash at any moment loses no record. Where the logs hold records on which a run begins,

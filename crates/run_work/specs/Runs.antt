@@ -1,10 +1,11 @@
 -- What a run of a work prints, and the answers of the commands that run one.
-use Rattle.std.specs.Prelude.{◌≡◌, ℕ, ◌⊎◌, Option, None, Some, List, [], ◌++◌, length}
+use Rattle.std.specs.Prelude.{◌≡◌, ℕ, ◌<◌, ◌⊎◌, Bool, true, List, [], ◌++◌, length}
 use Rattle.aml_slice.specs.Controls.{Rest}
 use Rattle.core_events.specs.declared.events.Event.{Event}
 use Rattle.log_opening.specs.declared.refusals.LogsNo.{LogsNo}
 use Rattle.log_opening.specs.declared.refusals.LogsNo.TheVariants as ending
 use Rattle.log_opening.specs.Devices.{Device, device_at}
+use Rattle.protocol.specs.Conditions.{IsAllowed}
 use Rattle.protocol.specs.Events as machine
 use Rattle.protocol.specs.Fixed.{Fixed}
 use Rattle.protocol.specs.Runs.{reached}
@@ -12,7 +13,8 @@ use Rattle.run_opening.specs.Opens.{AreSafe, IsNoRun}
 use Rattle.run_outputs.specs.Lines.{line_in, replies_text, ending_text}
 use Rattle.run_printing.specs.Printed.{unanswered, unsures_text}
 use Rattle.run_printing.specs.Summed.{summing_text}
-use Rattle.run_recovery.specs.Runs.{machine_of, meant, HasRun, IsNext, HasEnded}
+use Rattle.run_recovery.specs.Runs.{machine_of, meant, no_log, one_log, IsLeastOf, HasRun, IsNext, HasEnded}
+use Rattle.run_recovery.specs.Schedules.{Schedule, seeded, free}
 use Rattle.run_recovery.specs.Stands.{RunStands}
 use Rattle.run_work.specs.Writings.{Writing, WritesNothing, Writes, WritesBehind, WritesFront}
 use Rattle.snap_outside.specs.Causes.{Rose}
@@ -56,22 +58,32 @@ PrintsEnding p w o es out = HasEnded w o es × WritesBehind out (replies_by p (m
 abbrev pub PrintsFront : Printing → Work → Opening → List machine.Event → Writing → Type 0
 PrintsFront p w o es out = Writes out (replies_by p (machine_of w o) es) ⊎ PrintsEnding p w o es out
 
--- the replies, and a front of the next one
-abbrev pub PrintsNext : Printing → Work → ℕ → Opening → List machine.Event → Writing → Type 0
-PrintsNext reporting w seed o es out =
-    (n : ℕ) × IsNext w seed o es (machine.Reply n) × WritesBehind out (replies_text (machine_of w o) es) (line_in (reached (machine_of w o) es) n)
-PrintsNext summing w seed o es out = ⊥
+-- The replies, and a front of the next one. With several workers its line is that of the moment at which it met the fault: behind
+-- a front of the events.
+abbrev pub PrintsNext : Printing → Work → Schedule → Opening → List machine.Event → Writing → Type 0
+PrintsNext reporting w (seeded seed) o es out =
+    (n : ℕ) × IsNext w (seeded seed) o es (machine.Reply n) × WritesBehind out (replies_text (machine_of w o) es) (line_in (reached (machine_of w o) es) n)
+PrintsNext reporting w free o es out =
+    (n : ℕ) × (first more : List machine.Event) × (es ≡ first ++ more) × IsAllowed (machine_of w o) (machine.Reply n) (reached (machine_of w o) first)
+    × WritesBehind out (replies_text (machine_of w o) es) (line_in (reached (machine_of w o) first) n)
+PrintsNext summing w schedule o es out = ⊥
 
 -- the replies, and a front of the lines of those that have none
 abbrev pub PrintsUnsure : Printing → Work → ℕ → Opening → List machine.Event → Writing → Type 0
 PrintsUnsure p w log o es out = WritesBehind out (replies_by p (machine_of w o) es) (unsures_by p log es (length w.txs))
 
+-- What is printed where the device of this log failed. With several workers the output may have failed too, and then nothing
+-- comes behind a front of the next reply.
+abbrev pub PrintsFailed : Printing → Work → Schedule → ℕ → Opening → List machine.Event → Writing → Type 0
+PrintsFailed p w (seeded seed) log o es out = PrintsUnsure p w log o es out
+PrintsFailed p w free log o es out = PrintsUnsure p w log o es out ⊎ (Rose out.faults_before out.faults_after × PrintsNext p w free o es out)
+
 -- ---- the answers
 
--- What a call was given and what it left, of a run of this work by this seed.
+-- What a call was given and what it left, of a run of this work by this schedule.
 pub record Ran : Type 0 where
   pub work : Work
-  pub seed : ℕ
+  pub schedule : Schedule
   pub kept : List Event
   pub devices_before : List Device
   pub devices_after : List Device
@@ -86,29 +98,39 @@ HasNotBegun r why =
 
 -- A run began, and what the laws of the machine say of it holds: of its committed transactions, of what they are told, and of
 -- what a crash leaves at any moment of it. P holds of what it began with and of its events. Of its trace a front is written.
-abbrev pub HasBegun : Ran → Option ℕ → (Opening → List machine.Event → Type 0) → Type 0
+abbrev pub HasBegun : Ran → (ℕ → Bool) → (Opening → List machine.Event → Type 0) → Type 0
 HasBegun r failed P =
-    (o : Opening) × (run : HasRun r.work r.seed o (meant r.kept) failed r.devices_before r.devices_after) × RunStands run
+    (o : Opening) × (run : HasRun r.work r.schedule o (meant r.kept) failed r.devices_before r.devices_after) × RunStands run
     × P o (meant r.kept) × WritesFront r.trace (trace_of r.kept)
 
 abbrev pub LogRose : Ran → ℕ → Type 0
 LogRose r log = Rose (device_at r.devices_before log).faults (device_at r.devices_after log).faults
 
+-- each log that failed is one of the work's, its count rose, and its Sync could come
+abbrev pub EachFailed : Ran → (ℕ → Bool) → Opening → List machine.Event → Type 0
+EachFailed r failed o es = (l : ℕ) → failed l ≡ true → (l < r.work.logs) × LogRose r l × IsNext r.work free o es (machine.Sync l)
+
+-- A run began, and ended since the device of this log failed. One thread stops there, at its next event, so no other log failed. With
+-- several workers others may have failed too, and it is the least of them.
+abbrev pub HasFailed : Ran → Schedule → ℕ → (Opening → List machine.Event → Type 0) → Type 0
+HasFailed r (seeded seed) log P = HasBegun r (one_log log) (λ o es. IsNext r.work (seeded seed) o es (machine.Sync log) × P o es)
+HasFailed r free log P = (failed : ℕ → Bool) × IsLeastOf failed log × HasBegun r failed (λ o es. EachFailed r failed o es × P o es)
+
 abbrev pub IsAnswerOf : Printing → Ran → Status → Type 0
-IsAnswerOf p r status.Done = HasBegun r None (λ o es. HasEnded r.work o es × PrintsAll p r.work o es r.out) × Writes r.trace (trace_of r.kept)
+IsAnswerOf p r status.Done = HasBegun r no_log (λ o es. HasEnded r.work o es × PrintsAll p r.work o es r.out) × Writes r.trace (trace_of r.kept)
 IsAnswerOf p r (status.Usage place) = ⊥
 IsAnswerOf p r (status.Input line cause) = ⊥
 IsAnswerOf p r (status.Logs log offset cause) = HasNotBegun r (ending.Refused log offset cause) × WritesNothing r.out
-IsAnswerOf p r status.Memory = (HasNotBegun r ending.Memory × WritesNothing r.out) ⊎ HasBegun r None (λ o es. PrintsFront p r.work o es r.out)
+IsAnswerOf p r status.Memory = (HasNotBegun r ending.Memory × WritesNothing r.out) ⊎ HasBegun r no_log (λ o es. PrintsFront p r.work o es r.out)
 IsAnswerOf p r status.ReadFault = ⊥
 IsAnswerOf p r (status.LogFault log) =
     LogRose r log
     × ((HasNotBegun r (ending.Device log) × WritesFront r.out (unsures_by p log [] (length r.work.txs)))
-    ⊎ HasBegun r (Some log) (λ o es. IsNext r.work r.seed o es (machine.Sync log) × PrintsUnsure p r.work log o es r.out))
+    ⊎ HasFailed r r.schedule log (λ o es. PrintsFailed p r.work r.schedule log o es r.out))
 IsAnswerOf p r status.OutFault =
-    Rose r.out.faults_before r.out.faults_after × HasBegun r None (λ o es. PrintsNext p r.work r.seed o es r.out ⊎ PrintsEnding p r.work o es r.out)
+    Rose r.out.faults_before r.out.faults_after × HasBegun r no_log (λ o es. PrintsNext p r.work r.schedule o es r.out ⊎ PrintsEnding p r.work o es r.out)
 IsAnswerOf p r status.TraceFault =
-    Rose r.trace.faults_before r.trace.faults_after × HasBegun r None (λ o es. HasEnded r.work o es × PrintsAll p r.work o es r.out)
+    Rose r.trace.faults_before r.trace.faults_after × HasBegun r no_log (λ o es. HasEnded r.work o es × PrintsAll p r.work o es r.out)
 
 -- of the command that prints the report
 abbrev pub IsWorkAnswer : Ran → Status → Type 0

@@ -1,15 +1,16 @@
 -- Only private contracts cite this; the answers are Runs.antt.
 -- How a run of a work ends before its trace is written, by how a host ended, and what its trace makes of that.
-use Rattle.std.specs.Prelude.{◌≡◌, ◌≢◌, ℕ, ◌⊎◌, Option, None, Some, List, [], length}
+use Rattle.std.specs.Prelude.{◌≡◌, ◌≢◌, ℕ, ◌⊎◌, Bool, List, [], length}
 use Rattle.aml_slice.specs.Controls.{Rest}
 use Rattle.core_events.specs.declared.events.Event.{Event}
 use Rattle.log_opening.specs.declared.refusals.LogsNo.{LogsNo}
 use Rattle.log_opening.specs.declared.refusals.LogsNo.TheVariants as ending
 use Rattle.protocol.specs.Events as machine
 use Rattle.protocol.specs.Fixed.{Fixed}
-use Rattle.run_recovery.specs.Runs.{meant, IsNext, HasEnded}
-use Rattle.run_work.specs.Hosts.{HasLeft, IsUnbegun}
-use Rattle.run_work.specs.Runs.{Printing, ending_by, unsures_by, Ran, PrintsAll, PrintsEnding, PrintsFront, PrintsNext, PrintsUnsure}
+use Rattle.run_recovery.specs.Runs.{meant, no_log, HasEnded}
+use Rattle.run_recovery.specs.Schedules.{Schedule}
+use Rattle.run_work.specs.Hosts.{HasLeft, LeftFailed, IsUnbegun}
+use Rattle.run_work.specs.Runs.{Printing, ending_by, unsures_by, Ran, PrintsAll, PrintsEnding, PrintsFront, PrintsNext, PrintsFailed}
 use Rattle.run_work.specs.Statuses.{logs_status}
 use Rattle.run_work.specs.Writings.{Writing, WritesNothing, Writes, WritesFront}
 use Rattle.snap_outside.specs.Causes.{Rose}
@@ -17,8 +18,8 @@ use Rattle.snap_recover.specs.declared.openings.Opening.{Opening}
 use Rattle.snap_report.specs.declared.statuses.Status.{Status}
 use Rattle.snap_report.specs.declared.statuses.Status.TheVariants as status
 use Rattle.snap_work.specs.Works.{Work}
-use Rattle.solo_host.specs.declared.drives.Stop.{Stop}
-use Rattle.solo_host.specs.declared.drives.Stop.TheVariants as stop
+use Rattle.run_journals.specs.declared.stops.Stop.{Stop}
+use Rattle.run_journals.specs.declared.stops.Stop.TheVariants as stop
 use Rattle.trace_text.specs.Traces.{trace_of}
 
 -- ---- behind a host
@@ -32,18 +33,18 @@ IsEnding p m es count (stop.LogFault log) out s = (s ≡ status.LogFault log) ×
 IsEnding p m es count stop.OutFault out s = (s ≡ status.OutFault) × WritesNothing out
 IsEnding p m es count stop.Memory out s = (s ≡ status.Memory) × WritesNothing out
 
--- ---- how a run of these events ended, where Left tells what it left on its logs, by the one that failed, if any
+-- ---- how a run of these events ended, where Left tells what it left on its logs, by those that failed
 
-abbrev pub IsRunEnd : Printing → (Option ℕ → Type 0) → Work → ℕ → Opening → List machine.Event → Writing → Status → Type 0
-IsRunEnd p Left w seed o es out status.Done = Left None × HasEnded w o es × PrintsAll p w o es out
-IsRunEnd p Left w seed o es out (status.Usage place) = ⊥
-IsRunEnd p Left w seed o es out (status.Input line cause) = ⊥
-IsRunEnd p Left w seed o es out (status.Logs log offset cause) = ⊥
-IsRunEnd p Left w seed o es out status.Memory = Left None × PrintsFront p w o es out
-IsRunEnd p Left w seed o es out status.ReadFault = ⊥
-IsRunEnd p Left w seed o es out (status.LogFault log) = Left (Some log) × IsNext w seed o es (machine.Sync log) × PrintsUnsure p w log o es out
-IsRunEnd p Left w seed o es out status.OutFault = Left None × Rose out.faults_before out.faults_after × (PrintsNext p w seed o es out ⊎ PrintsEnding p w o es out)
-IsRunEnd p Left w seed o es out status.TraceFault = ⊥
+abbrev pub IsRunEnd : Printing → ((ℕ → Bool) → Type 0) → Work → Schedule → Opening → List machine.Event → Writing → Status → Type 0
+IsRunEnd p Left w schedule o es out status.Done = Left no_log × HasEnded w o es × PrintsAll p w o es out
+IsRunEnd p Left w schedule o es out (status.Usage place) = ⊥
+IsRunEnd p Left w schedule o es out (status.Input line cause) = ⊥
+IsRunEnd p Left w schedule o es out (status.Logs log offset cause) = ⊥
+IsRunEnd p Left w schedule o es out status.Memory = Left no_log × PrintsFront p w o es out
+IsRunEnd p Left w schedule o es out status.ReadFault = ⊥
+IsRunEnd p Left w schedule o es out (status.LogFault log) = LeftFailed Left w schedule o es log × PrintsFailed p w schedule log o es out
+IsRunEnd p Left w schedule o es out status.OutFault = Left no_log × Rose out.faults_before out.faults_after × (PrintsNext p w schedule o es out ⊎ PrintsEnding p w o es out)
+IsRunEnd p Left w schedule o es out status.TraceFault = ⊥
 
 -- ---- on all devices
 
@@ -60,14 +61,14 @@ pub record IsNoBeginning (p : Printing) (r : Ran) (why : LogsNo) : Type 0 where
   pub told : IsToldUnbegun p (length r.work.txs) why r.out
 
 -- what a run left on its logs
-abbrev pub LeftBy : Ran → Opening → Option ℕ → Type 0
-LeftBy r o failed = HasLeft r.work r.seed o (meant r.kept) r.devices_before r.devices_after failed
+abbrev pub LeftBy : Ran → Opening → (ℕ → Bool) → Type 0
+LeftBy r o failed = HasLeft r.work r.schedule o (meant r.kept) r.devices_before r.devices_after failed
 
 -- How a run of a work ended before its trace is written: none began, or one began and ended.
 abbrev pub IsUntraced : Printing → Ran → Status → Type 0
 IsUntraced p r s =
     ((why : LogsNo) × IsNoBeginning p r why × (s ≡ logs_status why))
-    ⊎ ((o : Opening) × IsRunEnd p (LeftBy r o) r.work r.seed o (meant r.kept) r.out s)
+    ⊎ ((o : Opening) × IsRunEnd p (LeftBy r o) r.work r.schedule o (meant r.kept) r.out s)
 
 -- ---- the trace
 

@@ -1,6 +1,7 @@
 ghost use Rattle.std.specs.Prelude.{◌≡◌, List, [], vec_len};
 ghost use Rattle.log_opening.specs.Devices.{devices_of};
 ghost use Rattle.run_opening.specs.Opens.{MayOpen};
+ghost use Rattle.run_recovery.specs.Schedules.{seeded};
 ghost use Rattle.run_work.specs.Runs.{summing, Ran, IsBenchAnswer, IsOfLogs};
 ghost use Rattle.run_work.specs.Untraced.{IsUntraced};
 ghost use Rattle.run_work.specs.Writings.{Writing, writing_of};
@@ -31,7 +32,7 @@ pub fn bench_work<D: LogDev, O: Sink, T: Sink>(
 ) -> (Vec<Event>, Status)
     requires four { vec_len devices.old ≡ 4 }
     requires limits { KeepsLimits (work_of work) }
-    ensures answer { let r : Ran = record { work = work_of work; seed = 0; kept = result.0.items; devices_before = devices_of D.told D.faults devices.old.items; devices_after = devices_of D.told D.faults devices.new.items; out = writing_of O.taken O.faults out.old out.new; trace = writing_of T.taken T.faults trace.old trace.new } in IsBenchAnswer r result.1 }
+    ensures answer { let r : Ran = record { work = work_of work; schedule = seeded 0; kept = result.0.items; devices_before = devices_of D.told D.faults devices.old.items; devices_after = devices_of D.told D.faults devices.new.items; out = writing_of O.taken O.faults out.old out.new; trace = writing_of T.taken T.faults trace.old trace.new } in IsBenchAnswer r result.1 }
     // Where no event is kept the trace gets no call.
     ensures untouched { result.0.items ≡ [] → trace.new ≡ trace.old }
     // Where the logs hold records on which a run begins, and none fails, it does not end for a log.
@@ -52,7 +53,7 @@ fn bench_untraced<D: LogDev, O: Sink>(
 ) -> (Vec<Event>, Status)
     requires four { vec_len devices.old ≡ 4 }
     requires limits { KeepsLimits (work_of work) }
-    ensures { (trace : Writing) → let r : Ran = record { work = work_of work; seed = 0; kept = result.0.items; devices_before = devices_of D.told D.faults devices.old.items; devices_after = devices_of D.told D.faults devices.new.items; out = writing_of O.taken O.faults out.old out.new; trace = trace } in IsUntraced summing r result.1 }
+    ensures { (trace : Writing) → let r : Ran = record { work = work_of work; schedule = seeded 0; kept = result.0.items; devices_before = devices_of D.told D.faults devices.old.items; devices_after = devices_of D.told D.faults devices.new.items; out = writing_of O.taken O.faults out.old out.new; trace = trace } in IsUntraced summing r result.1 }
 {
     let mut replies = NullSink::new();
     match host_work(alloc, work, 0, devices, &mut replies) {

@@ -13,11 +13,11 @@ ghost use Rattle.snap_hand.specs.Tables.{fixed_of};
 use crate::statuses::status_of;
 use core_events::Event;
 use log_opening::LogsNo;
+use run_journals::Stop;
 use run_printing::{WriteNo, write_ending, write_unsures};
 use snap_core::Core;
 use snap_outside::Sink;
 use snap_report::Status;
-use solo_host::Stop;
 use std::alloc::Global;
 
 /// Prints what comes behind the replies of a run that a host ended so, and tells how it ends. `count` is the number of its

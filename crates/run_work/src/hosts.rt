@@ -2,6 +2,7 @@ ghost use Rattle.std.specs.Prelude.{◌≡◌, ◌+◌, ◌≤◌, ◌^◌, leng
 ghost use Rattle.std.specs.List.{AllByRecursion};
 ghost use Rattle.gate_log.specs.declared.limits.TheConstants.{FARTHEST_END};
 ghost use Rattle.log_opening.specs.Devices.{devices_of};
+ghost use Rattle.run_recovery.specs.Schedules.{seeded};
 ghost use Rattle.run_work.specs.Hosts.{IsHosted, IsHostedOn, IsUnbegun};
 ghost use Rattle.run_work.specs.Writings.{writing_of};
 ghost use Rattle.snap_hand.specs.Tables.{MayBegin};
@@ -11,13 +12,14 @@ ghost use Rattle.snap_work.specs.Works.{work_of};
 use core_events::Event;
 use gate_log::{FARTHEST_END, Log};
 use log_opening::{LogsNo, close};
+use run_journals::Stop;
 use run_opening::open_run;
 use snap_core::Core;
 use snap_hand::{Tables, works_are_tables};
 use snap_outside::{LogDev, Sink};
 use snap_recover::Opening;
 use snap_work::Work;
-use solo_host::{Driven, Stop, drive};
+use solo_host::{Driven, drive};
 use std::alloc::Global;
 
 /// What a host made of a work: how it ended, the events that it took, and the core to which these have come. Where there is no
@@ -40,7 +42,7 @@ pub(crate) fn host_work<D: LogDev, R: Sink>(
 ) -> Result<Hosted, LogsNo>
     requires four { vec_len devices.old ≡ 4 }
     requires limits { KeepsLimits (work_of work) }
-    ensures hosted { IfOk result (λ h. IsHosted (work_of work) seed (devices_of D.told D.faults devices.old.items) (devices_of D.told D.faults devices.new.items) (writing_of R.taken R.faults replies.old replies.new) h) }
+    ensures hosted { IfOk result (λ h. IsHosted (work_of work) (seeded seed) (devices_of D.told D.faults devices.old.items) (devices_of D.told D.faults devices.new.items) (writing_of R.taken R.faults replies.old replies.new) h) }
     ensures unbegun { IfErr result (λ no. IsUnbegun (work_of work) (devices_of D.told D.faults devices.old.items) (devices_of D.told D.faults devices.new.items) no) }
     ensures silent { OnErr result (replies.new ≡ replies.old) }
 {
@@ -65,7 +67,7 @@ fn host_on_logs<D: LogDev, R: Sink>(
     requires logs { length logs.old.items ≡ work.logs }
     requires open { AllByRecursion (λ l. l.shut ≡ false) logs.old.items }
     requires ends { AllByRecursion (λ l. l.end ≤ FARTHEST_END + 2 ^ 32) logs.old.items }
-    ensures { IsHostedOn (work_of work) seed opening logs.old.items logs.new.items (writing_of R.taken R.faults replies.old replies.new) result }
+    ensures { IsHostedOn (work_of work) (seeded seed) opening logs.old.items logs.new.items (writing_of R.taken R.faults replies.old replies.new) result }
 {
     works_are_tables();
     let Ok(mut core) = Core::open(alloc, Tables { work, opening }) else {

@@ -10,11 +10,11 @@ ghost use Rattle.snap_core.specs.Cores.{IsAt};
 ghost use Rattle.snap_hand.specs.Tables.{fixed_of};
 
 use core_events::Event;
+use run_journals::Stop;
 use run_printing::{WriteNo, write_summary};
 use snap_core::Core;
 use snap_outside::Sink;
 use snap_report::Status;
-use solo_host::Stop;
 use std::alloc::Global;
 
 /// Prints the summary of a run that a host ended so, where it is quiet, and tells how it ends.

@@ -1,5 +1,6 @@
 -- Where nothing stands in the way of a run, only two answers are left.
 use Rattle.std.proofs.Common.{◌≡◌, ◌⊎◌, inl, inr, ℕ, List, Option, IfSome, refl, subst}
+use Rattle.run_recovery.specs.Schedules.{Schedule, seeded}
 use Rattle.run_work.specs.Runs.{Printing, reporting, summing, Ran, IsAnswerOf, IsWorkAnswer, IsOfLogs}
 use Rattle.run_work.specs.Writings.{Writing}
 use Rattle.snap_outside.specs.Causes.{Rose}
@@ -48,13 +49,13 @@ module _ (apart : FaultOrWork) (u : Use) (text : List ℕ) (w : Work) (records :
   of_input status.OutFault a = absurd a
   of_input status.TraceFault a = absurd a
 
-  run_completed : (seed : ℕ) (s : Status) → ¬ IsOfLogs s → IsRunAnswer u seed s → (s ≡ status.Done) ⊎ (s ≡ status.Memory)
-  run_completed seed s not (inl a) = of_input s a.0
-  run_completed seed s not (inr a) =
-      let x = subst (λ (left : Option (List ℕ)). IfSome left (λ input. (v : Work) × IsWork input v × IsWorkAnswer (ran_of u v seed) s)) t.known a.1 in ended reporting (ran_of u x.0 seed) s not t.sink t.trace x.2
+  run_completed : (schedule : Schedule) (s : Status) → ¬ IsOfLogs s → IsRunAnswer u schedule s → (s ≡ status.Done) ⊎ (s ≡ status.Memory)
+  run_completed schedule s not (inl a) = of_input s a.0
+  run_completed schedule s not (inr a) =
+      let x = subst (λ (left : Option (List ℕ)). IfSome left (λ input. (v : Work) × IsWork input v × IsWorkAnswer (ran_of u v schedule) s)) t.known a.1 in ended reporting (ran_of u x.0 schedule) s not t.sink t.trace x.2
 
   pub completed : (s : Status) → ¬ IsOfLogs s → IsAnswer u s → (s ≡ status.Done) ⊎ (s ≡ status.Memory)
-  completed s not (inl x) = run_completed x.0 s not x.2
+  completed s not (inl x) = run_completed (seeded x.0) s not x.2
   completed s not (inr (inl x)) = absurd (not_both u.words t.run.0 t.run.1 x.0)
   completed s not (inr (inr (inl x))) = absurd (run_not_gen u.words t.run.0 x.0 x.1 t.run.1 x.2)
   completed s not (inr (inr (inr (inl x)))) = absurd (run_not_bench u.words t.run.0 x.0 x.1 t.run.1 x.2)
@@ -89,6 +90,6 @@ completed_bench u count seed w records o bench may s not (inr (inl x)) = absurd 
 completed_bench u count seed w records o bench may s not (inr (inr (inl x))) = absurd (gen_not_bench u.words x.0 x.1 count seed x.2 bench)
 completed_bench u count seed w records o bench may s not (inr (inr (inr (inl x)))) = elim x.4 [
   | inl none ↦ inr none.0
-  | inr run ↦ ended summing (ran_of u run.0 0) s not may.sink may.trace run.3
+  | inr run ↦ ended summing (ran_of u run.0 (seeded 0)) s not may.sink may.trace run.3
 ]
 completed_bench u count seed w records o bench may s not (inr (inr (inr (inr x)))) = absurd (x.0.2.no_form (inr (inr (inr (count, seed, bench)))))

@@ -11,6 +11,7 @@ use Rattle.work_text.specs.Reads.{IsWork}
 use Rattle.record_log.specs.Records.{KeepsRecords}
 use Rattle.log_opening.specs.Devices.{Device, IsOpenedAtMost}
 use Rattle.run_opening.specs.Opens.{MayOpen}
+use Rattle.run_recovery.specs.Schedules.{seeded}
 use Rattle.run_work.specs.Runs.{Printing, Ran, IsAnswerOf, IsWorkAnswer, IsOfLogs}
 use Rattle.run_work.specs.Writings.{Writing, WritesNothing}
 use Rattle.snap_recover.specs.declared.openings.Opening.{Opening}
@@ -83,9 +84,9 @@ of_text_then r w P of p = (of.0, known r.left_before of.1)
     known None h = tt
     known (Some text) h = (h.0, h.1, subst P (sym h.2) p)
 
-pub run_outcome : (u : Use) (seed : ℕ) (w : Work) (s : Status) → IsRun u.words seed → OfText u.reading (λ v. v ≡ w) → IsWorkAnswer (ran_of u w seed) s → IsOutcome u s
+pub run_outcome : (u : Use) (seed : ℕ) (w : Work) (s : Status) → IsRun u.words seed → OfText u.reading (λ v. v ≡ w) → IsWorkAnswer (ran_of u w (seeded seed)) s → IsOutcome u s
 run_outcome u seed w s run of a = record {
-  answer = inl (seed, run, inr (of_text_then u.reading w (λ v. IsWorkAnswer (ran_of u v seed) s) of a));
+  answer = inl (seed, run, inr (of_text_then u.reading w (λ v. IsWorkAnswer (ran_of u v (seeded seed)) s) of a));
   opened = λ recover. absurd (not_both u.words seed run recover);
   kept = λ recover. absurd (not_both u.words seed run recover);
 }

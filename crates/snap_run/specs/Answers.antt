@@ -9,6 +9,7 @@ use Rattle.snap_report.specs.declared.statuses.Status.TheVariants as status
 use Rattle.snap_work.specs.Works.{Work}
 use Rattle.work_text.specs.Reads.{IsWork, IsFirstWorkFault}
 use Rattle.run_opening.specs.Opens.{MayOpen}
+use Rattle.run_recovery.specs.Schedules.{Schedule, seeded}
 use Rattle.snap_run.specs.Words.{IsRun, IsRecover, IsGen, IsBench, IsUsageFault}
 use Rattle.snap_run.specs.Uses.{Reading, Use}
 use Rattle.run_work.specs.Writings.{Writing, WritesNothing, Writes, WritesFront}
@@ -26,11 +27,11 @@ abbrev pub OfText : Reading → (Work → Type 0) → Type 0
 OfText r P = IsAtEnd r.left_after × IfSome r.left_before (λ input. (w : Work) × IsWork input w × P w)
 
 -- a run of this work, by what the call was given and left
-abbrev pub ran_of : Use → Work → ℕ → Ran
-ran_of u w seed = record { work = w; seed = seed; kept = u.kept; devices_before = u.devices_before; devices_after = u.devices_after; out = u.writing; trace = u.tracing }
+abbrev pub ran_of : Use → Work → Schedule → Ran
+ran_of u w schedule = record { work = w; schedule = schedule; kept = u.kept; devices_before = u.devices_before; devices_after = u.devices_after; out = u.writing; trace = u.tracing }
 
-abbrev pub OfWork : Use → ℕ → Status → Type 0
-OfWork u seed s = OfText u.reading (λ w. IsWorkAnswer (ran_of u w seed) s)
+abbrev pub OfWork : Use → Schedule → Status → Type 0
+OfWork u schedule s = OfText u.reading (λ w. IsWorkAnswer (ran_of u w schedule) s)
 
 -- what reading and parsing may answer in place of a work; a text that is refused is told with its first fault
 abbrev pub IsInputAnswer : Reading → Status → Type 0
@@ -53,8 +54,8 @@ pub record TouchesNothing (u : Use) : Type 0 where
 
 -- The answers of the command that runs the input: there is no work, and nothing but the input was touched; or it is one of
 -- a run of the work.
-abbrev pub IsRunAnswer : Use → ℕ → Status → Type 0
-IsRunAnswer u seed s = (IsInputAnswer u.reading s × TouchesNothing u) ⊎ OfWork u seed s
+abbrev pub IsRunAnswer : Use → Schedule → Status → Type 0
+IsRunAnswer u schedule s = (IsInputAnswer u.reading s × TouchesNothing u) ⊎ OfWork u schedule s
 
 -- nothing was read
 abbrev pub ReadsNothing : Reading → Type 0
@@ -85,7 +86,7 @@ OfGenerated count seed P = (w : Work) × IsWork (generated_text count seed) w ×
 -- The answers of the command that runs a generated text, by the schedule of seed 0: there was no memory for a work, and
 -- nothing was touched; or it is one of a run of the work.
 abbrev pub IsMeasured : Use → ℕ → ℕ → Status → Type 0
-IsMeasured u count seed s = ((s ≡ status.Memory) × TouchesNothing u) ⊎ OfGenerated count seed (λ w. IsBenchAnswer (ran_of u w 0) s)
+IsMeasured u count seed s = ((s ≡ status.Memory) × TouchesNothing u) ⊎ OfGenerated count seed (λ w. IsBenchAnswer (ran_of u w (seeded 0)) s)
 
 -- the words are no form
 abbrev pub IsUsageAnswer : Use → Status → Type 0
@@ -93,7 +94,7 @@ IsUsageAnswer u s = (place : ℕ) × (s ≡ status.Usage place) × IsUsageFault 
 
 abbrev pub IsAnswer : Use → Status → Type 0
 IsAnswer u s =
-    ((seed : ℕ) × IsRun u.words seed × IsRunAnswer u seed s)
+    ((seed : ℕ) × IsRun u.words seed × IsRunAnswer u (seeded seed) s)
     ⊎ ((IsRecover u.words × ReadsNothing u.reading × (u.kept ≡ []) × WritesNothing u.tracing × IsRecoverAnswer u.devices_before u.devices_after u.writing s)
     ⊎ (((count seed : ℕ) × IsGen u.words count seed × ReadsNothing u.reading × TakesNoEvent u × IsGenAnswer (generated_text count seed) u.writing s)
     ⊎ (((count seed : ℕ) × IsBench u.words count seed × ReadsNothing u.reading × IsMeasured u count seed s)

@@ -12,19 +12,19 @@ use Rattle.run_recovery.specs.Runs.{machine_of, text_of}
 use Rattle.run_recovery.proofs.laws.runs_stand.Goals as goal
 
 pub returns : goal.returns
-returns c w seed o es failed before after same limits run =
+returns c w schedule o es failed before after same limits run =
     let p : List CheckedMethod = methods_of c.args.program.now in
     record {
       committed = subst (λ (q : List CheckedMethod). CommittedAsMeant q (machine_of w o) (finish_of q (text_of w o)) (reached (machine_of w o) es) (history (machine_of w o) es)) (sym same)
-          (c.runs_are_as_meant.ensures.committed w seed o es failed before after same limits run);
+          (c.runs_are_as_meant.ensures.committed w schedule o es failed before after same limits run);
       told = subst (λ (q : List CheckedMethod). VerdictsAsMeant q (machine_of w o) (finish_of q (text_of w o)) es) (sym same)
-          (c.runs_are_as_meant.ensures.told w seed o es failed before after same limits run);
+          (c.runs_are_as_meant.ensures.told w schedule o es failed before after same limits run);
       evidence = subst (λ (q : List CheckedMethod). VerdictsStand (machine_of w o) (finish_of q (text_of w o)) es) (sym same)
-          (c.runs_are_as_meant.ensures.evidence w seed o es failed before after same limits run);
+          (c.runs_are_as_meant.ensures.evidence w schedule o es failed before after same limits run);
       answered = subst (λ (q : List CheckedMethod). AnsweredWhenQuiet (machine_of w o) (finish_of q (text_of w o)) (reached (machine_of w o) es) (history (machine_of w o) es)) (sym same)
-          (c.runs_are_as_meant.ensures.answered w seed o es failed before after same limits run);
+          (c.runs_are_as_meant.ensures.answered w schedule o es failed before after same limits run);
       begins = λ images crash. c.beginnings_are_recovered.ensures w o es failed before after limits run.devices images crash;
       recovers = λ m images crash. subst (λ (q : List CheckedMethod). Recovers q run.devices m images) (sym same)
-          (c.runs_are_recovered.ensures w seed o es failed before after same limits run m images crash);
+          (c.runs_are_recovered.ensures w schedule o es failed before after same limits run m images crash);
       goes_on = λ m images r. c.crashed_runs_go_on.ensures w.program w o es failed before after limits run.devices m images r;
     }

@@ -3,7 +3,8 @@ use Rattle.std.proofs.KnownBytes.{Appends-nil, Keeps-refl}
 use Rattle.core_events.specs.declared.events.Event.{Event}
 use Rattle.log_opening.specs.Devices.{devices_of}
 use Rattle.run_recovery.specs.Runs.{machine_of, meant}
-use Rattle.run_work.proofs.Ending.{ended_so, told_nothing}
+use Rattle.run_recovery.specs.Schedules.{seeded}
+use Rattle.run_work.proofs.Ending.{ended_so, seeds_print_whole, told_nothing}
 use Rattle.run_work.proofs.Hosting.{core_at, unheard}
 use Rattle.run_work.proofs.benches.bench_untraced.Goals as goal
 use Rattle.run_work.specs.Hosts.{HasLeft, IsCoreOf}
@@ -29,13 +30,13 @@ returns-in-Ok g c = λ trace.
     let replies : Writing = writing_of (λ _. None) (λ _. 0) c.new-replies.result c.host_work.new.replies in
     let a : Writing = writing_of g.O.Sink.taken g.O.Sink.faults c.args.out.now c.args.out.now in
     let b : Writing = writing_of g.O.Sink.taken g.O.Sink.faults c.args.out.now c.end_summed-status.new.out in
-    let left = HasLeft w 0 is.opening es before after in
+    let left = HasLeft w (seeded 0) is.opening es before after in
     let core = subst (λ (kept : List Event). IsCoreOf m (meant kept) h.stop h.core) (sym c.as_slice.ensures.value) is.core in
+    let ends = unheard left w 0 is.opening es replies a h.stop (λ rose. omega (arith, rose)) (Appends-nil _) (omega arith) is.ends in
     inr (
       is.opening,
-      ended_so summing left w 0 is.opening es a b h.stop c.end_summed-status.result m (meant c.as_slice.result.now) (length w.txs) refl (ap meant c.as_slice.ensures.value) refl (refl, refl)
-          c.end_summed-status.ensures.later
-          (unheard left w 0 is.opening es replies a h.stop (λ rose. omega (arith, rose)) (Appends-nil _) (omega arith) is.ends) (c.end_summed-status.ensures.ending m (length w.txs) core),
+      ended_so summing left w (seeded 0) is.opening es a b h.stop c.end_summed-status.result m (meant c.as_slice.result.now) (length w.txs) refl (ap meant c.as_slice.ensures.value) refl (refl, refl)
+          c.end_summed-status.ensures.later ends (seeds_print_whole summing w 0 is.opening es a h.stop ends.printed) (c.end_summed-status.ensures.ending m (length w.txs) core),
     )
 
 pub returns-in-Err : goal.returns-in-Err

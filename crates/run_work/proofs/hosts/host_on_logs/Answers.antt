@@ -2,6 +2,7 @@ use Rattle.std.proofs.Common.{List, refl, sym, ◌∙◌, ap, subst, arith}
 use Rattle.std.proofs.KnownBytes.{Keeps-refl}
 use Rattle.core_events.specs.declared.events.Event.{Event}
 use Rattle.run_recovery.specs.Runs.{meant}
+use Rattle.run_recovery.specs.Schedules.{seeded}
 use Rattle.run_work.proofs.Hosting.{hosted, no_core}
 use Rattle.run_work.proofs.hosts.host_on_logs.Goals as goal
 use Rattle.run_work.specs.Hosts.{HasDriven, IsHostEnd}
@@ -10,7 +11,7 @@ use Rattle.run_work.specs.Writings.{Writing, writing_of}
 use Rattle.snap_hand.specs.Tables.{fixed_of}
 use Rattle.snap_hand.specs.declared.tables.Tables.{Tables}
 use Rattle.snap_work.specs.Works.{work_of}
-use Rattle.solo_host.specs.declared.drives.Stop.TheVariants as stop
+use Rattle.run_journals.specs.declared.stops.Stop.TheVariants as stop
 
 pub open-requires : goal.open-requires
 open-requires g c =
@@ -23,7 +24,7 @@ returns-in_default g c =
     let logs = c.args.logs.now.items in
     let replies : Writing = writing_of g.R.Sink.taken g.R.Sink.faults c.args.replies.now c.args.replies.now in
     record {
-      ends = subst (λ (kept : List Event). IsHostEnd reporting (HasDriven w c.args.seed c.args.opening (meant kept) logs logs) w c.args.seed c.args.opening (meant kept) replies stop.Memory)
+      ends = subst (λ (kept : List Event). IsHostEnd reporting (HasDriven w (seeded c.args.seed) c.args.opening (meant kept) logs logs) w (seeded c.args.seed) c.args.opening (meant kept) replies stop.Memory)
           (sym c.new.ensures.items) (no_core w c.args.seed c.args.opening logs replies c.requires.open (Keeps-refl _) (omega arith));
       core = refl;
     }

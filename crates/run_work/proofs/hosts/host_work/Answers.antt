@@ -4,6 +4,7 @@ use Rattle.gate_log.specs.State.{LogState}
 use Rattle.log_opening.specs.Devices.{devices_of}
 use Rattle.run_opening.specs.Opens.{AreSafe, IsNoRun, MayOpen}
 use Rattle.run_recovery.specs.Runs.{meant}
+use Rattle.run_recovery.specs.Schedules.{seeded}
 use Rattle.run_work.proofs.Hosting.{left_as}
 use Rattle.run_work.proofs.RunDevices.{each_log, mapped_behind, has_left}
 use Rattle.run_work.proofs.hosts.host_work.Goals as goal
@@ -40,10 +41,10 @@ returns-clause-hosted g c =
     let rest : others ≡ _ = ap (λ items. devices_of told faults items) c.in_ok-logs.ensures.rest ∙ mapped_behind (λ d. record { told = told d; faults = faults d }) w.logs c.args.devices.now.items in
     record {
       opening = o;
-      ends = left_as reporting (HasDriven w c.args.seed o es old new) (HasLeft w c.args.seed o es before after)
-          (λ failed d. has_left w c.args.seed o es failed before after others old new c.as_slice.result.now opens.0 opens.1 c.as_slice.ensures opens.3 opens.2 c.in_ok-logs.ensures.room d
+      ends = left_as (HasDriven w (seeded c.args.seed) o es old new) (HasLeft w (seeded c.args.seed) o es before after)
+          (λ failed d. has_left w (seeded c.args.seed) o es failed before after others old new c.as_slice.result.now opens.0 opens.1 c.as_slice.ensures opens.3 opens.2 c.in_ok-logs.ensures.room d
           c.close.ensures.devices rest)
-          w c.args.seed o es replies h.stop c.host_on_logs-hosted.ensures.ends;
+          w o es reporting (seeded c.args.seed) replies h.stop c.host_on_logs-hosted.ensures.ends;
       core = c.host_on_logs-hosted.ensures.core;
     }
 

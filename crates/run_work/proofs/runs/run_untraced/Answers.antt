@@ -2,7 +2,8 @@ use Rattle.std.proofs.Common.{ℕ, List, length, sym, ap, refl, subst, inl, inr}
 use Rattle.core_events.specs.declared.events.Event.{Event}
 use Rattle.log_opening.specs.Devices.{devices_of}
 use Rattle.run_recovery.specs.Runs.{machine_of, meant}
-use Rattle.run_work.proofs.Ending.{ended_so}
+use Rattle.run_recovery.specs.Schedules.{seeded}
+use Rattle.run_work.proofs.Ending.{ended_so, seeds_print_whole}
 use Rattle.run_work.proofs.Hosting.{core_at}
 use Rattle.run_work.proofs.runs.run_untraced.Goals as goal
 use Rattle.run_work.specs.Hosts.{HasLeft, IsCoreOf}
@@ -31,8 +32,9 @@ returns-in-Ok g c = λ trace.
     let core = subst (λ (kept : List Event). IsCoreOf m (meant kept) h.stop h.core) (sym c.as_slice.ensures.value) is.core in
     inr (
       is.opening,
-      ended_so reporting (HasLeft w c.args.seed is.opening es before after) w c.args.seed is.opening es a b h.stop c.end_reported-status.result m (meant c.as_slice.result.now) _ refl
-          (ap meant c.as_slice.ensures.value) c.len-count.ensures (refl, refl) c.end_reported-status.ensures.later is.ends (c.end_reported-status.ensures.ending m core),
+      ended_so reporting (HasLeft w (seeded c.args.seed) is.opening es before after) w (seeded c.args.seed) is.opening es a b h.stop c.end_reported-status.result m (meant c.as_slice.result.now) _ refl
+          (ap meant c.as_slice.ensures.value) c.len-count.ensures (refl, refl) c.end_reported-status.ensures.later is.ends
+          (seeds_print_whole reporting w c.args.seed is.opening es a h.stop is.ends.printed) (c.end_reported-status.ensures.ending m core),
     )
 
 pub returns-in-Err : goal.returns-in-Err

@@ -6,6 +6,7 @@ use Rattle.log_opening.specs.Devices.{devices_of}
 use Rattle.run_work.proofs.Answered.{answered, untraced_not_of_logs, traced_not_of_logs}
 use Rattle.run_work.proofs.runs.run_work.Goals as goal
 use Rattle.run_recovery.specs.Runs.{meant}
+use Rattle.run_recovery.specs.Schedules.{seeded}
 use Rattle.run_work.specs.Runs.{reporting, Ran}
 use Rattle.run_work.specs.Untraced.{IsTraced}
 use Rattle.run_work.specs.Writings.{Writing, writing_of}
@@ -16,14 +17,14 @@ returns-clause-answer g c =
     let trace : Writing = writing_of g.T.Sink.taken g.T.Sink.faults c.args.trace.now c.traced-status.new.trace in
     let r : Ran = record {
       work = work_of c.args.work;
-      seed = c.args.seed;
+      schedule = seeded c.args.seed;
       kept = c.run_untraced-kept.result.0.items;
       devices_before = devices_of g.D.LogDev.told g.D.LogDev.faults c.args.devices.now.items;
       devices_after = devices_of g.D.LogDev.told g.D.LogDev.faults c.run_untraced-kept.new.devices.items;
       out = writing_of g.O.Sink.taken g.O.Sink.faults c.args.out.now c.run_untraced-kept.new.out;
       trace = trace;
     } in
-    answered reporting r (λ o failed run. c.runs_stand.ensures r.work r.seed o (meant r.kept) failed r.devices_before r.devices_after refl c.requires.limits run)
+    answered reporting r (λ o failed run. c.runs_stand.ensures r.work r.schedule o (meant r.kept) failed r.devices_before r.devices_after refl c.requires.limits run)
     c.run_untraced-kept.result.1 c.traced-status.result
     (λ none. subst (λ t. Keeps (g.T.Sink.taken c.args.trace.now) (g.T.Sink.taken t)) (sym (c.traced-status.ensures.none (c.as_slice.ensures.value ∙ none))) (Keeps-refl _))
     (c.run_untraced-kept.ensures trace)
@@ -34,7 +35,7 @@ returns-clause-opens g c = λ records o may.
     let trace : Writing = writing_of g.T.Sink.taken g.T.Sink.faults c.args.trace.now c.traced-status.new.trace in
     let r : Ran = record {
       work = work_of c.args.work;
-      seed = c.args.seed;
+      schedule = seeded c.args.seed;
       kept = c.run_untraced-kept.result.0.items;
       devices_before = devices_of g.D.LogDev.told g.D.LogDev.faults c.args.devices.now.items;
       devices_after = devices_of g.D.LogDev.told g.D.LogDev.faults c.run_untraced-kept.new.devices.items;
