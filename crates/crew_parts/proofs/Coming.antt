@@ -23,8 +23,8 @@ use Rattle.std.proofs.KnownBytes.{Appends-nil}
 use Rattle.turn_table.specs.Places.{Covers, values, replaced}
 use Rattle.turn_table.specs.Runs.{May, Run}
 use Rattle.crew_parts.proofs.Replacing.{as_long, replaced_tells, covered_are_shown, goes_as_many, came_from}
-use Rattle.crew_parts.proofs.PartsStay.{part_stays, same_log_at}
-use Rattle.crew_parts.proofs.Outsides.{journal_goes, journal_stays, no_group, no_line, output_goes, output_stays}
+use Rattle.crew_parts.proofs.PartsStay.{log_stays, part_stays, same_log_at}
+use Rattle.crew_parts.proofs.Outsides.{due_goes, due_none, due_stays, journal_goes, journal_stays, no_group, no_line, output_goes, output_stays}
 use Rattle.run_journals.proofs.Driving.{driven_same}
 
 one_more : (w : Fixed Rest) (es : List Event) (e : Event) (s : Machine Rest) → EachAllowed w es s → IsAllowed w e (state_after w es s) → EachAllowed w (es ++ e ∷ []) s
@@ -90,6 +90,12 @@ module _
                   (ap waiting (sym (same_log_at w s (reached w new) (logs es come.run) (logs new run) l within (same (log l) here.1))))
                   (come.journals l x y within at here.0)
             ];
+            due = λ l y within now. elim (tells (log l) y now) [
+              | inl to ↦ (let old = from (log l) y to in due_goes w l done e s (reached w new) old.0.beside.journal y.beside.journal state ok.0 (old.2.journal l within refl))
+              | inr here ↦ due_stays w l s (reached w new) y.beside.journal
+                  (log_stays s (reached w new) l (omega (arith, within, logs es come.run)) (omega (arith, within, logs new run)) (same (log l) here.1))
+                  (come.due l y within here.0)
+            ];
             output = λ x y at now. elim (tells desk y now) [
               | inl to ↦ (let old = from desk y to in
                   output_goes w es e (replies es come.run) ok.0 done x.beside.output old.0.beside.output y.beside.output (come.output x old.0 at old.1) (old.2.output refl))
@@ -118,6 +124,7 @@ module _
         many = refl;
         parts = b.parts;
         journals = λ l x y within at now. subst (λ z. JournalIs w [] l x.beside.journal z.beside.journal) (some_same x y (sym at ∙ now)) (journal_begins l x.beside.journal (b.journals l x within at));
+        due = λ l y within now. due_none w l (reached w []) y.beside.journal (b.journals l y within now);
         output = λ x y at now. subst (λ z. OutputIs w [] x.beside.output z.beside.output) (some_same x y (sym at ∙ now)) (output_begins x.beside.output (b.output x at));
       } where
         some_same : (x y : ShareState) → Some x ≡ Some y → x ≡ y

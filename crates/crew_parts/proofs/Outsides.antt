@@ -1,21 +1,21 @@
 -- Journals and the output along a run.
-use Rattle.std.proofs.Common.{◌≡◌, ℕ, ◌+◌, ◌<◌, ◌≤◌, ◌==◌, ◌||◌, if◌then◌else◌, inl, inr, Bool, true, false, Option, None, Some, is_some, List, [], ◌∷◌, ◌++◌, refl, sym, ap, subst, ◌∙◌, arith, append_assoc, append-nil}
+use Rattle.std.proofs.Common.{◌≡◌, ℕ, ◌+◌, ◌<◌, ◌≤◌, ◌==◌, ◌||◌, if◌then◌else◌, inl, inr, Bool, true, false, Option, None, Some, is_some, List, [], ◌∷◌, ◌++◌, length, nat_lt, slice_get, refl, sym, ap, subst, ◌∙◌, arith, append_assoc, append-nil}
 use Rattle.std.specs.Io.KnownBytes.{Appends}
 use Rattle.std.proofs.KnownBytes.{Appends-nil, Appends-trans}
 use Rattle.std.proofs.lemmas.Bool.{eqb-false, or_parts, true≢false}
 use Rattle.std.proofs.lemmas.Bool.Decides.{eqb_tells}
 use Rattle.aml_slice.specs.Controls.{Rest}
 use Rattle.crew_parts.specs.Acts.{JournalGoes, OutputGoes, HasPrinted, HasBroken, Prints, behind, groups_by, tried_by, tried_at, line_at}
-use Rattle.crew_parts.specs.Crews.{JournalIs, OutputIs, BrokeOff, Printed, added}
+use Rattle.crew_parts.specs.Crews.{IsReady, IsStillDue, JournalIs, OutputIs, BrokeOff, Printed, added}
 use Rattle.crew_parts.specs.Shares.{OutputState}
 use Rattle.gate_log.specs.State.{LogState}
-use Rattle.protocol.specs.Conditions.{IsAllowed}
+use Rattle.protocol.specs.Conditions.{AllTrue, IsAllowed, conditions}
 use Rattle.protocol.specs.Effects.{log_at}
 use Rattle.protocol.specs.Events.{Event, Sync, Reply, desk, log, footprint}
 use Rattle.protocol.specs.Fixed.{Fixed}
 use Rattle.protocol.specs.Parts.{Log, Machine}
 use Rattle.protocol.specs.Runs.{reached}
-use Rattle.protocol.specs.Words.{is_among}
+use Rattle.protocol.specs.Words.{holds, is_among}
 use Rattle.run_outputs.specs.Groups.{group_by, group_behind, groups_of, waiting}
 use Rattle.run_outputs.specs.Laws.{GroupsGrow, RepliesGrow, line_by}
 use Rattle.run_outputs.specs.Lines.{line_in, replies_text}
@@ -82,6 +82,35 @@ module _ (w : Fixed Rest) (grow : GroupsGrow w) (es : List Event) (e : Event) wh
       subst (λ gs. IsDriven a b gs (if b.shut then Some (group_behind w l (es ++ added done e)) else None))
       (sym (grown_by done l ∙ (ap (λ gs. groups_of w l es ++ gs) none ∙ append-nil (groups_of w l es))))
       (subst (λ g. IsDriven a b (groups_of w l es) (if b.shut then Some g else None)) (sym same) is)
+
+-- ---- the Sync that is still to come
+
+due_of : (w : Fixed Rest) (l : ℕ) (done : Bool) (e : Event) (s : Machine Rest) → true ≡ is_some (tried_by l done e s) → IsAllowed w e s → IsAllowed w (Sync l) (behind w done e s)
+due_of w l true e s tried ok = absurd (cc tried)
+due_of w l false (Sync k) s tried ok = elim (eqb_tells k l) [
+  | inl same ↦ subst (λ i. IsAllowed w (Sync i) s) same.1 ok
+  | inr not ↦ absurd (true≢false (tried ∙ ap (λ b. is_some (if b then Some (waiting (log_at s l)) else None)) not.0))
+]
+due_of w l false e s tried ok = absurd (cc tried)
+
+-- it is the one whose append met a fault
+pub due_goes : (w : Fixed Rest) (l : ℕ) (done : Bool) (e : Event) (s t : Machine Rest) (j0 j1 : Option LogState) → t ≡ behind w done e s → IsAllowed w e s → JournalGoes l done e s j0 j1 → IsStillDue w t l j1
+due_goes w l done e s t None j1 state ok goes = absurd goes
+due_goes w l done e s t (Some a) None state ok goes = absurd goes
+due_goes w l done e s t (Some a) (Some b) state ok goes = λ shut. subst (IsAllowed w (Sync l)) (sym state) (due_of w l done e s (sym shut ∙ goes.1.shut) ok)
+
+sync_allowed : (w : Fixed Rest) (l : ℕ) (s t : Machine Rest) → slice_get s.logs l ≡ slice_get t.logs l → IsAllowed w (Sync l) s → IsAllowed w (Sync l) t
+unfolding conditions
+sync_allowed w l s t same ok = subst (λ g. AllTrue (holds (λ (x : Log). nat_lt x.synced (length x.records)) g ∷ [])) same ok
+
+-- it stays so, where the log does
+pub due_stays : (w : Fixed Rest) (l : ℕ) (s t : Machine Rest) (j : Option LogState) → slice_get s.logs l ≡ slice_get t.logs l → IsStillDue w s l j → IsStillDue w t l j
+due_stays w l s t None same due = tt
+due_stays w l s t (Some b) same due = λ shut. sync_allowed w l s t same (due shut)
+
+-- none is, where the journal takes appends
+pub due_none : (w : Fixed Rest) (l : ℕ) (s : Machine Rest) (j : Option LogState) → IsReady j → IsStillDue w s l j
+due_none w l s j ready = subst (IsStillDue w s l) (sym ready.is) (λ shut. absurd (true≢false (sym shut ∙ ready.ready)))
 
 -- ---- the output
 

@@ -23,11 +23,6 @@ beside_desk o = record { journal = None; output = Some o }
 
 -- ---- when a part can go on
 
--- a journal that is there takes appends
-abbrev pub IsOpenThere : Option LogState → Type 0
-IsOpenThere None = Unit {0}
-IsOpenThere (Some j) = j.shut ≡ false
-
 abbrev pub is_ready_journal : Option LogState → Bool
 is_ready_journal None = false
 is_ready_journal (Some j) = not j.shut
@@ -35,6 +30,16 @@ is_ready_journal (Some j) = not j.shut
 abbrev pub is_ready_output : Option OutputState → Bool
 is_ready_output None = false
 is_ready_output (Some o) = not o.failed
+
+-- a journal that is there is shut
+abbrev pub is_shut_there : Option LogState → Bool
+is_shut_there None = false
+is_shut_there (Some j) = j.shut
+
+-- an output that is there has failed
+abbrev pub has_failed_there : Option OutputState → Bool
+has_failed_there None = false
+has_failed_there (Some o) = o.failed
 
 -- Beside a log, where there are so many, is a journal that takes appends; beside the desk an output that has not failed.
 pub record IsSound (logs i : ℕ) (b : BesideState) : Type 0 where

@@ -9,8 +9,9 @@ use Rattle.crew_parts.specs.Shares.{OutputState, ShareState}
 use Rattle.crew_parts.specs.declared.acts.Act.{Act}
 use Rattle.gate_log.specs.State.{LogState}
 use Rattle.protocol.specs.Conditions.{IsAllowed}
-use Rattle.protocol.specs.Events.{Event, Reply, desk, log}
+use Rattle.protocol.specs.Events.{Event, Reply, Sync, desk, log}
 use Rattle.protocol.specs.Fixed.{Fixed}
+use Rattle.protocol.specs.Parts.{Machine}
 use Rattle.protocol.specs.Runs.{IsRun, opening, reached}
 use Rattle.record_log.specs.declared.limits.TheConstants.{FARTHEST_APPEND}
 use Rattle.run_outputs.specs.Groups.{group_behind, groups_of}
@@ -61,6 +62,11 @@ JournalIs w es l None new = ⊥
 JournalIs w es l (Some old) None = ⊥
 JournalIs w es l (Some old) (Some new) = IsDriven old new (groups_of w l es) (if new.shut then Some (group_behind w l es) else None)
 
+-- Where its journal is shut, the next Sync of the log is still to come.
+abbrev pub IsStillDue : Fixed Rest → Machine Rest → ℕ → Option LogState → Type 0
+IsStillDue w s l None = Unit {0}
+IsStillDue w s l (Some j) = j.shut ≡ true → IsAllowed w (Sync l) s
+
 -- It took the replies, and a front of the line of one that was allowed after a front of the events, where it failed.
 pub record BrokeOff (w : Fixed Rest) (es : List Event) (old new : OutputState) : Type 0 where
   pub first : List Event
@@ -89,6 +95,7 @@ pub record HasCome (w : Fixed Rest) (start : List ShareState) (es : List Event) 
   pub many : length now ≡ length start
   pub parts : (i : ℕ) (x : ShareState) → slice_get now i ≡ Some x → IsPartOf w (reached w es) i x.part
   pub journals : (l : ℕ) (x y : ShareState) → l < w.text.logs → slice_get start (log l) ≡ Some x → slice_get now (log l) ≡ Some y → JournalIs w es l x.beside.journal y.beside.journal
+  pub due : (l : ℕ) (y : ShareState) → l < w.text.logs → slice_get now (log l) ≡ Some y → IsStillDue w (reached w es) l y.beside.journal
   pub output : (x y : ShareState) → slice_get start desk ≡ Some x → slice_get now desk ≡ Some y → OutputIs w es x.beside.output y.beside.output
 
 -- ---- what who holds some of them knows

@@ -1,6 +1,6 @@
 //! What stands beside a part of the machine.
-ghost use Rattle.std.specs.Prelude.{◌≡◌, None, Some, false, true};
-ghost use Rattle.crew_parts.specs.Besides.{HasAppended, HasWritten, IsSound, MayAppendTo, MayWriteTo, beside_log, beside_desk, beside_none, is_ready_journal, is_ready_output};
+ghost use Rattle.std.specs.Prelude.{◌≡◌, None, Some, false, true, option_map};
+ghost use Rattle.crew_parts.specs.Besides.{HasAppended, HasWritten, IsSound, MayAppendTo, MayWriteTo, beside_log, beside_desk, beside_none, has_failed_there, is_ready_journal, is_ready_output, is_shut_there};
 ghost use Rattle.crew_parts.specs.Shares.{output_seen};
 
 use gate_log::{AppendNo, Log};
@@ -27,26 +27,31 @@ pub struct Beside<D: LogDev, O: Sink> {
 }
 
 impl<D: LogDev, O: Sink> Model for Beside<D, O> {
-    ghost use Rattle.std.specs.Prelude.{◌≡◌, false, option_map};
-    ghost use Rattle.crew_parts.specs.Besides.{IsOpenThere};
+    ghost use Rattle.std.specs.Prelude.{◌≡◌, option_map};
+    ghost use Rattle.crew_parts.specs.Besides.{is_shut_there};
     ghost use Rattle.crew_parts.specs.Shares.{BesideState, output_seen};
 
     ghost Value = { BesideState };
 
     ghost view = { λ b. record { journal = b.journal; output = option_map (output_seen O.taken O.faults b.failed) b.output } };
 
-    ghost invariant = { λ b. b.cut ≡ false → IsOpenThere b.journal };
+    ghost invariant = { λ b. b.cut ≡ is_shut_there b.journal };
 }
 
 impl<D: LogDev + Drop, O: Sink + Drop> Drop for Beside<D, O> {
     fn drop(self) {
         let (journal, _output) = self.open();
-        match journal {
-            Some(log) => {
-                let _device = log.into_dev();
-            }
-            None => {}
+        let_go(journal);
+    }
+}
+
+/// The device of a journal that is not needed any more is let go.
+fn let_go<D: LogDev + Drop>(journal: Option<Log<D>>) {
+    match journal {
+        Some(log) => {
+            let _device = log.into_dev();
         }
+        None => {}
     }
 }
 
@@ -99,6 +104,23 @@ impl<D: LogDev, O: Sink> Beside<D, O> {
             failed: _,
         } = self;
         (journal, output)
+    }
+
+    /// Whether a journal is here that is shut: its device failed at an append.
+    pub fn is_shut(&self) -> bool
+        ensures { result ≡ is_shut_there self.now.journal }
+    {
+        self.cut
+    }
+
+    /// Whether an output is here that failed at a line.
+    pub fn has_failed(&self) -> bool
+        ensures { result ≡ has_failed_there self.now.output }
+    {
+        match &self.output {
+            Some(_) => self.failed,
+            None => false,
+        }
     }
 
     /// Whether the part of this number, where there are so many logs, can go on with this beside it: a log with a journal that
@@ -156,6 +178,35 @@ impl<D: LogDev, O: Sink> Beside<D, O> {
                 }
             },
             None => unreachable!(),
+        }
+    }
+
+    /// The journal, where it is here. The output is let go.
+    pub fn into_journal(self) -> Option<Log<D>>
+    where
+        O: Drop,
+        ensures { result ≡ self.journal }
+    {
+        let (journal, _output) = self.open();
+        journal
+    }
+
+    /// The output, where it is here, and whether it failed. The journal's device is let go.
+    pub fn into_output(self) -> Option<(O, bool)>
+    where
+        D: Drop,
+        ensures { self.output ≡ option_map (λ p. output_seen O.taken O.faults p.1 p.0) result }
+    {
+        let Beside {
+            journal,
+            output,
+            cut: _,
+            failed,
+        } = self;
+        let_go(journal);
+        match output {
+            Some(out) => Some((out, failed)),
+            None => None,
         }
     }
 }

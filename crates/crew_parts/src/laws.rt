@@ -1,53 +1,21 @@
 //! What follows of a crew's acts. Each is called to cite it.
 ghost use Rattle.std.specs.Prelude.{List, Option, ℕ};
-ghost use Rattle.std.specs.List.{AllByRecursion};
 ghost use Rattle.crew_parts.specs.Acts.{MayDo, touched};
 ghost use Rattle.core_rows.specs.OnRuns.{HasRun};
 ghost use Rattle.crew_parts.specs.Crews.{Begins, HasCome, Stands, kept};
 ghost use Rattle.crew_parts.specs.Shares.{ShareState};
 ghost use Rattle.crew_parts.specs.declared.acts.Act.{Act};
 ghost use Rattle.snap_hand.specs.Tables.{AreTables, fixed_of};
-ghost use Rattle.run_journals.specs.RunsOf.{RunsOf};
 ghost use Rattle.protocol.specs.Events as machine;
 ghost use Rattle.protocol.specs.Runs.{IsRun, reached};
 ghost use Rattle.turn_table.specs.Places.{IsIdle};
 ghost use Rattle.turn_table.specs.Runs.{Fits, Run};
-ghost use Rattle.txn_records.specs.Records.{IsState};
 
 use aml_slice::Control;
-use group_sizes::{groups_fit, waiting_fits};
 use machine_laws::texts_have_the_facts;
-use protocol_laws::{events_leave_other_parts, logs_stay};
-use run_outputs::{groups_are_records, groups_grow, replies_grow};
-use snap_base::State;
+use protocol_laws::events_leave_other_parts;
+use run_journals::runs_of;
 use snap_hand::Tables;
-use txn_records::states_fit;
-
-/// What the laws say of the runs of a text: they keep the text's logs; what waits on a log may be appended there; and
-/// with one more event what is appended and printed grows by that of the event.
-pub fn runs_of(tables: &Tables)
-    requires { AreTables tables.now }
-    ensures { RunsOf (fixed_of tables.now) }
-{
-    let program = &tables.work.program;
-    each_fits(tables.opening.states.as_slice());
-    texts_have_the_facts(program);
-    logs_stay::<Control>();
-    groups_are_records(program);
-    waiting_fits::<Control>();
-    groups_fit::<Control>();
-    groups_grow::<Control>();
-    replies_grow::<Control>();
-}
-
-/// Every one of the states may stand in a record.
-fn each_fits(states: &[State])
-    ensures { AllByRecursion IsState states.now }
-{
-    for state in states {
-        states_fit(state);
-    }
-}
 
 /// Whatever acts lead from a beginning to some shares, those of their events that happened are a run of the machine, of whose
 /// state these are all parts; the journals got the groups of its Syncs, and the output the lines of its replies.

@@ -12,5 +12,5 @@ mod shares;
 
 pub use acts::Act;
 pub use besides::Beside;
-pub use laws::{acts_are_runs, passes_stand, runs_lead, runs_of};
+pub use laws::{acts_are_runs, passes_stand, runs_lead};
 pub use shares::Share;

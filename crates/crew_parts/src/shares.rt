@@ -9,7 +9,6 @@ use snap_outside::{LogDev, Sink};
 use std::marker::Model;
 
 /// A part of the machine with what stands beside it. Contracts see what the part shows.
-#[derive(Drop)]
 pub struct Share<D: LogDev, O: Sink> {
     part: Part,
     beside: Beside<D, O>,
@@ -24,12 +23,26 @@ impl<D: LogDev, O: Sink> Model for Share<D, O> {
     ghost view = { λ s. record { part = shown s.part; beside = s.beside } };
 }
 
+// Written out, since a derived drop is proved again in each crate that lets a share go.
+impl<D: LogDev + Drop, O: Sink + Drop> Drop for Share<D, O> {
+    fn drop(self) {
+        let (_part, _beside) = self.open();
+    }
+}
+
 impl<D: LogDev, O: Sink> Share<D, O> {
     /// The part with this beside it.
     pub fn new(part: Part, beside: Beside<D, O>) -> Self
         ensures { result ≡ share_of (shown part) beside }
     {
         Share { part, beside }
+    }
+
+    /// What stands beside the part.
+    pub fn beside(&self) -> &Beside<D, O>
+        ensures { result.now ≡ self.now.beside }
+    {
+        &self.beside
     }
 
     /// The part, and what stands beside it.

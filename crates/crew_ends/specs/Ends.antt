@@ -1,0 +1,45 @@
+-- What stands beside the shares that a crew begins with and ends with, and what it made of the journals and the output.
+use Rattle.std.specs.Prelude.{◌≡◌, ℕ, ◌<◌, true, if◌then◌else◌, Option, None, Some, List, [], length, slice_get, slice_index_or}
+use Rattle.aml_slice.specs.Controls.{Rest}
+use Rattle.crew_parts.specs.Crews.{Begins, HasCome}
+use Rattle.crew_parts.specs.Shares.{OutputState, ShareState}
+use Rattle.gate_log.specs.State.{LogState}
+use Rattle.protocol.specs.Conditions.{IsAllowed}
+use Rattle.protocol.specs.Events.{Event, Sync, desk, log}
+use Rattle.protocol.specs.Fixed.{Fixed}
+use Rattle.protocol.specs.Runs.{reached}
+use Rattle.run_journals.specs.Driven.{IsDriven}
+use Rattle.run_outputs.specs.Groups.{group_behind, groups_of}
+use Rattle.txn_records.specs.declared.records.Record.{Record}
+
+-- ---- beside the shares
+
+-- These journals stand beside the logs, in the order of their numbers, and this output beside the desk.
+pub record AreBeside (journals : List LogState) (out : OutputState) (xs : List ShareState) : Type 0 where
+  pub logs : (l : ℕ) (x : ShareState) → l < length journals → slice_get xs (log l) ≡ Some x → x.beside.journal ≡ slice_get journals l
+  pub desk : (x : ShareState) → slice_get xs desk ≡ Some x → x.beside.output ≡ Some out
+
+-- Some crew has come from a beginning to these shares.
+pub record IsSomeEnd (w : Fixed Rest) (now : List ShareState) : Type 0 where
+  pub start : List ShareState
+  pub events : List Event
+  pub begun : Begins w start
+  pub come : HasCome w start events now
+
+-- ---- what became of the journals
+
+abbrev pub log_at : List LogState → ℕ → LogState
+log_at logs n = slice_index_or logs n (record { told = None; end = 0; shut = true; found = []; faults = 0 })
+
+-- the group whose append met a fault, where the journal is shut
+abbrev pub tried_on : Fixed Rest → ℕ → List Event → LogState → Option (List Record)
+tried_on w l es j = if j.shut then Some (group_behind w l es) else None
+
+-- Each log got a group for each of its Syncs, and where it is shut a front of what still waits.
+abbrev pub AreDriven : Fixed Rest → List Event → List LogState → List LogState → Type 0
+AreDriven w es old new =
+    (length new ≡ length old) × ((l : ℕ) → l < length old → IsDriven (log_at old l) (log_at new l) (groups_of w l es) (tried_on w l es (log_at new l)))
+
+-- Where a log's journal is shut, the next Sync of the log is still to come.
+abbrev pub AreDue : Fixed Rest → List Event → List LogState → Type 0
+AreDue w es new = (l : ℕ) → l < length new → (log_at new l).shut ≡ true → IsAllowed w (Sync l) (reached w es)

@@ -1,0 +1,8 @@
+mod ByNumber
+mod HandsHold
+mod Working
+mod Recording
+mod GoingOut
+mod ActsMade
+mod Footprints
+mod Beginning

@@ -1,0 +1,28 @@
+use Rattle.std.proofs.Common.{◌≡◌, ◌∙◌, length, slice_set, None, Some, ap, subst, arith}
+use Rattle.std.proofs.lemmas.List.{length-set}
+use Rattle.crew_parts.specs.Besides.{HasAppended}
+use Rattle.crew_parts.specs.Shares.{BesideState}
+use Rattle.crew_grip.proofs.ByNumber.{at_within, set_twice}
+use Rattle.crew_grip.proofs.grips.Grip.append_at.Goals as goal
+
+pub take_up-requires : goal.take_up-requires
+take_up-requires g c = at_within c.args.self.now.besides c.args.part c.requires.0 c.requires.1.0
+
+pub lay-requires : goal.lay-requires
+lay-requires g c =
+    let within = at_within c.args.self.now.besides c.args.part c.requires.0 c.requires.1.0 in
+    let long = ap (λ h. length h.besides) c.take_up.ensures.left ∙ length-set c.args.self.now.besides c.args.part None in
+    omega (arith, within, long)
+
+pub returns : goal.returns
+returns g c b there =
+    let same : c.in-Some.beside ≡ b = one c.in-Some.beside b (c.in-Some.ensures.taken ∙ there) in (
+      c.append-result.new.self,
+      (
+        subst (λ (x : BesideState). HasAppended x c.append-result.new.self c.args.pieces.now c.append-result.result) same c.append-result.ensures,
+        c.lay.ensures ∙ (ap (λ h. record { hand = h.hand; besides = slice_set h.besides c.args.part (Some c.append-result.new.self) }) c.take_up.ensures.left
+            ∙ ap (λ bs. record { hand = c.args.self.now.hand; besides = bs }) (set_twice c.args.self.now.besides c.args.part None (Some c.append-result.new.self))),
+      ),
+    ) where
+      one : (x y : BesideState) → Some x ≡ Some y → x ≡ y
+      one x y e = cc e

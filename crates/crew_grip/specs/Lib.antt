@@ -1,0 +1,2 @@
+pub mod Grips
+pub mod Acted

@@ -1,0 +1,181 @@
+//! An event on what is held.
+ghost use Rattle.std.specs.List.{AllByRecursion};
+ghost use Rattle.std.specs.Prelude.{◌≡◌, ◌<◌, ◌++◌, ◌∷◌, [], ℕ, None, IfOk, OnOk, OnErr, true, false, vec_len, vec_capacity};
+ghost use Rattle.core_events.specs.Meant.{event_meant};
+ghost use Rattle.crew_grip.specs.Acted.{AreSound, HasActed, IsJust, IsReadyAt, IsRecorded, IsStepped};
+ghost use Rattle.crew_grip.specs.Grips.{GripState, IsAtWork, IsCrew, IsGripOf, IsHeldNow};
+ghost use Rattle.crew_parts.specs.Acts.{meant};
+ghost use Rattle.crew_parts.specs.declared.acts.Act.{Act};
+ghost use Rattle.hand_offers.specs.Offers.{AreOffers};
+ghost use Rattle.protocol.specs.Events as machine;
+ghost use Rattle.protocol.specs.Words.{is_among};
+ghost use Rattle.snap_hand.specs.Steps.{IsRefusalOn, MayBeAsked, may_want};
+ghost use Rattle.snap_hand.specs.Tables.{fixed_of, text_of};
+ghost use Rattle.turn_table.specs.Places.{at};
+ghost use Rattle.turn_table.specs.Words.{IsOf, knows, splits_of, tables_of};
+ghost use Rattle.turn_table.specs.declared.limits.TheConstants.{MOST_ENTRIES};
+
+use crate::Grip;
+use crate::results::{Acted, NotDone};
+use aml_slice::Control;
+use core_events::{Event, Footprint, footprint};
+use crew_parts::{Act, Share, passes_stand};
+use protocol_laws::allowed_or_refused;
+use ready_list::ReadyList;
+use snap_base::Memory;
+use snap_hand::{apply, places_are_set, refusal, taking_fits};
+use snap_outside::{Gate, LogDev, Sink};
+use std::alloc::Global;
+use turn_table::{Makes, Pass, Turns};
+
+impl<D: LogDev + Drop, O: Sink + Drop> Makes<Share<D, O>, Act> for Grip<D, O> {
+    ghost use Rattle.crew_grip.specs.Acted.{made_in};
+
+    ghost made = { made_in };
+}
+
+impl<D: LogDev + Drop, O: Sink + Drop> Grip<D, O> {
+    /// The events that may be taken with what is held, in the order in which a host takes them.
+    pub fn offers(&self, alloc: Global, turns: &Turns<Share<D, O>>) -> Result<ReadyList, Memory>
+        requires crew { IsCrew turns.now }
+        requires held { IsHeldNow turns.now self.now }
+        ensures { IfOk result (λ l. AreOffers (fixed_of (tables_of turns.now)) self.now.hand l.events) }
+    {
+        hand_offers::offers(alloc, turns.tables(), &self.hand)
+    }
+
+    /// Whether all parts of a footprint are held, and can go on.
+    fn is_ready(&self, footprint: &Footprint, logs: u8) -> bool
+        ensures { result ≡ true → AllByRecursion (λ i. IsReadyAt logs self.now i) footprint.now }
+    {
+        for i in 0..footprint.len() {
+            if !self.is_ready_at(footprint.part(i), logs) {
+                return false;
+            }
+        }
+        true
+    }
+
+    fn is_ready_at(&self, part: usize, logs: u8) -> bool
+        ensures { result ≡ true → IsReadyAt logs self.now part }
+    {
+        match self.besides.get(part) {
+            Some(Some(beside)) => beside.is_sound(part, logs),
+            _ => false,
+        }
+    }
+
+    /// Does the event, where it is allowed on the parts of its footprint, and records it. No other part is held. A Run passes
+    /// the gate first.
+    pub fn act<G: Gate>(
+        &mut self,
+        alloc: Global,
+        turns: &Turns<Share<D, O>>,
+        pass: &mut Pass<Share<D, O>>,
+        gate: &G,
+        e: Event,
+    ) -> Acted
+        requires crew { IsCrew turns.now }
+        requires work { IsAtWork turns.now pass.old.seat self.old }
+        requires room { (vec_len pass.old.entries < vec_capacity pass.old.entries) × (vec_len pass.old.entries < MOST_ENTRIES) }
+        requires others { (i : ℕ) → is_among i (machine.footprint (text_of (tables_of turns.now)).logs (event_meant e)) ≡ false → at (knows pass.old.seat).held i ≡ None }
+        ensures work { IsAtWork turns.now pass.new.seat self.new }
+        ensures entries { IsRecorded e pass.old.entries.items pass.new.entries.items result }
+        ensures splits { splits_of pass.new.seat ≡ splits_of pass.old.seat }
+    {
+        let tables = turns.tables();
+        let parts = footprint(e, tables.work.logs);
+        if !self.is_ready(&parts, tables.work.logs) {
+            return Acted::Unready;
+        }
+        places_are_set();
+        if refusal(tables, &self.hand, e) != 0 {
+            return Acted::NotNow;
+        }
+        self.act_allowed(alloc, turns, pass, gate, e)
+    }
+
+    /// The same of an event that is allowed, where its parts can go on.
+    fn act_allowed<G: Gate>(
+        &mut self,
+        alloc: Global,
+        turns: &Turns<Share<D, O>>,
+        pass: &mut Pass<Share<D, O>>,
+        gate: &G,
+        e: Event,
+    ) -> Acted
+        requires crew { IsCrew turns.now }
+        requires work { IsAtWork turns.now pass.old.seat self.old }
+        requires room { (vec_len pass.old.entries < vec_capacity pass.old.entries) × (vec_len pass.old.entries < MOST_ENTRIES) }
+        requires just { IsJust (machine.footprint (text_of (tables_of turns.now)).logs (event_meant e)) (knows pass.old.seat).held }
+        requires sound { AreSound (text_of (tables_of turns.now)).logs self.old }
+        requires allowed { IsRefusalOn (fixed_of (tables_of turns.now)) (event_meant e) self.old.hand 0 }
+        ensures work { IsAtWork turns.now pass.new.seat self.new }
+        ensures entries { IsRecorded e pass.old.entries.items pass.new.entries.items result }
+        ensures splits { splits_of pass.new.seat ≡ splits_of pass.old.seat }
+    {
+        allowed_or_refused::<Control>();
+        places_are_set();
+        match self.go_out(alloc, turns, e) {
+            Ok(()) => {
+                pass_gate(gate, e);
+                let Ok(()) = self.step(alloc, turns, e) else {
+                    return Acted::Memory;
+                };
+                let act = Act {
+                    event: e,
+                    done: true,
+                };
+                let done = self.record(turns, pass, act);
+                Acted::Done { number: done }
+            }
+            Err(NotDone::Fault) => {
+                let act = Act {
+                    event: e,
+                    done: false,
+                };
+                let broken = self.record(turns, pass, act);
+                Acted::Broken { number: broken }
+            }
+            Err(NotDone::Memory) => Acted::Memory,
+        }
+    }
+
+    /// Takes the event, which is allowed, on the hand. `Memory` comes only of the events that add something, and changes nothing.
+    fn step(&mut self, alloc: Global, turns: &Turns<Share<D, O>>, e: Event) -> Result<(), Memory>
+        requires crew { IsCrew turns.now }
+        requires asked { MayBeAsked (fixed_of (tables_of turns.now)) (event_meant e) self.old.hand }
+        requires allowed { IsRefusalOn (fixed_of (tables_of turns.now)) (event_meant e) self.old.hand 0 }
+        ensures taken { OnOk result (IsStepped (fixed_of (tables_of turns.now)) (event_meant e) self.old self.new) }
+        ensures not { OnErr result ((self.new ≡ self.old) × (may_want (event_meant e) ≡ true)) }
+    {
+        match apply(alloc, turns.tables(), e, &mut self.hand) {
+            Ok(()) => Ok(()),
+            Err(_) => Err(Memory),
+        }
+    }
+
+    /// Records an act that has made what is held now.
+    fn record(&self, turns: &Turns<Share<D, O>>, pass: &mut Pass<Share<D, O>>, act: Act) -> u64
+        requires crew { IsCrew turns.now }
+        requires own { IsOf turns.now pass.old.seat }
+        requires room { (vec_len pass.old.entries < vec_capacity pass.old.entries) × (vec_len pass.old.entries < MOST_ENTRIES) }
+        requires acted { (old : GripState) × (IsGripOf (fixed_of (tables_of turns.now)) (knows pass.old.seat).held old × (IsJust (machine.footprint (text_of (tables_of turns.now)).logs (meant act)) (knows pass.old.seat).held × HasActed (fixed_of (tables_of turns.now)) act.done (meant act) old self.now)) }
+        ensures work { IsAtWork turns.now pass.new.seat self.now }
+        ensures entry { pass.new.entries.items ≡ pass.old.entries.items ++ (result, act) ∷ [] }
+        ensures splits { splits_of pass.new.seat ≡ splits_of pass.old.seat }
+    {
+        taking_fits();
+        places_are_set();
+        passes_stand(turns.tables());
+        turns.record(pass, act, self)
+    }
+}
+
+/// A Run passes the gate.
+fn pass_gate<G: Gate>(gate: &G, e: Event) {
+    match e {
+        Event::Run(_, actor) => gate.enter(actor),
+        _ => {}
+    }
+}
