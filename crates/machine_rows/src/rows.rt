@@ -1,76 +1,114 @@
 //! Rows, and what is not as they say.
+//!
+//! The first line of a row tells what is shown, the second one what runs. Each line behind them tells what happens or what shows:
+//!
+//! - `does`: these events are taken, each in its turn, apart by `, `
+//! - `refuses`, with a rule: each of these events is refused by it
+//! - `picks`, with a seed: its words pick these events, and they are taken; seed 0 picks the first one allowed
+//! - `goes on`: the first event that is allowed is taken, until none is
+//! - `is quiet`: no event is allowed
+//! - `fields`, with an actor: the first fields of so many actors, from that one on
+//! - `replies`: the lines of the transactions of which it is known what became of them, apart by `, `
+//!
+//! Rows stand apart by an empty line.
 
 use crate::acts::ACTS;
 use crate::batches::BATCHES;
 use crate::cascades::CASCADES;
-use crate::cores::{Asked, core_of};
-use crate::events::{goes_on, is_quiet, not_picked, otherwise};
 use crate::schedules::SCHEDULES;
-use crate::telling::{other_fields, other_replies};
-use snap_core::Core;
+use crate::stepping::Machine;
+use crate::telling::{tell_fields, tell_replies};
+use crate::texts::{halves, number_of};
 use std::alloc::Global;
 use std::test::Fail;
 
-/// A line of a row. Events stand in a script apart by `, `.
+/// What happens or shows in a line.
 #[derive(Clone, Copy)]
-pub enum Line {
-    /// These events are taken, each in its turn.
-    Does(&'static str),
-    /// Each of these events is refused by this rule.
-    Refuses(&'static str, u8),
-    /// From the beginning on a seed picks these events, and they are taken; seed 0 picks the first one allowed.
-    Picks(u64, &'static str),
-    /// The first event that is allowed is taken, until none is.
+enum Word {
+    Does,
+    Refuses,
+    Picks,
     GoesOn,
-    /// No event is allowed.
     IsQuiet,
-    /// The first fields of actors, from one on.
-    Fields(u8, &'static [i64]),
-    /// The replies of the transactions of which it is known what became of them, apart by `, `.
-    Replies(&'static str),
+    Fields,
+    Replies,
 }
 
-/// A text, and what happens to its core, line by line.
-#[derive(Clone, Copy)]
-pub struct Row {
-    /// What is shown.
-    pub shows: &'static str,
-    pub asked: Asked,
-    pub lines: &'static [Line],
-}
-
-/// What is not as the line says.
-fn difference(alloc: Global, core: &mut Core, line: Line) -> Result<String, Fail> {
-    match line {
-        Line::Does(script) => otherwise(alloc, core, script, 0),
-        Line::Refuses(script, rule) => otherwise(alloc, core, script, rule),
-        Line::Picks(seed, script) => not_picked(alloc, core, script, seed),
-        Line::GoesOn => goes_on(alloc, core),
-        Line::IsQuiet => is_quiet(alloc, core),
-        Line::Fields(first, wanted) => Ok(other_fields(alloc, core, first, wanted)?),
-        Line::Replies(wanted) => Ok(other_replies(alloc, core, wanted)?),
+fn word_of(word: &str) -> Option<Word> {
+    match word {
+        "does" => Some(Word::Does),
+        "refuses" => Some(Word::Refuses),
+        "picks" => Some(Word::Picks),
+        "goes" => Some(Word::GoesOn),
+        "is" => Some(Word::IsQuiet),
+        "fields" => Some(Word::Fields),
+        "replies" => Some(Word::Replies),
+        _ => None,
     }
 }
 
-/// What is not as the row says: nothing, where all is.
-fn differences(alloc: Global, row: &Row) -> Result<String, Fail> {
-    let mut core = core_of(alloc, &row.asked)?;
-    let mut told = String::new(alloc);
-    for line in row.lines {
-        told.push_str(&difference(alloc, &mut core, *line)?)?;
+/// Does what a word says with what stands behind it, and tells what is not so.
+fn tell(
+    alloc: Global,
+    machine: &mut Machine,
+    word: Word,
+    rest: &str,
+    told: &mut String,
+) -> Result<(), Fail> {
+    let (number, behind) = halves(rest, ": ");
+    let number = number_of(number);
+    match word {
+        Word::Does => machine.tell_answers(alloc, rest, 0, told),
+        Word::Refuses => machine.tell_answers(alloc, behind, number, told),
+        Word::Picks => machine.tell_picks(alloc, behind, number as u64, told),
+        Word::GoesOn => machine.go_on(alloc, told),
+        Word::IsQuiet => machine.tell_allowed(alloc, told),
+        Word::Fields => Ok(tell_fields(alloc, machine.core(), number, behind, told)?),
+        Word::Replies => Ok(tell_replies(alloc, machine.core(), rest, told)?),
     }
-    Ok(told)
 }
 
-/// The rows that are not as they say, and what is not so: nothing, where all are.
-fn untrue(alloc: Global, rows: &[Row]) -> Result<String, Fail> {
+/// Does what the line says, and tells what is not so.
+fn tell_line(
+    alloc: Global,
+    machine: &mut Machine,
+    line: &str,
+    told: &mut String,
+) -> Result<(), Fail> {
+    let (word, rest) = halves(line, " ");
+    match word_of(word) {
+        Some(word) => tell(alloc, machine, word, rest, told),
+        None => Err("the word of a line".into()),
+    }
+}
+
+/// Does what the lines say with what runs, and tells what is not so.
+fn tell_lines(alloc: Global, asked: &str, lines: &str, told: &mut String) -> Result<(), Fail> {
+    let mut machine = Machine::open(alloc, asked)?;
+    for line in lines.split('\n') {
+        tell_line(alloc, &mut machine, line, told)?;
+    }
+    Ok(())
+}
+
+/// Tells what is not as the row says, and what it shows, where something is not.
+fn tell_row(alloc: Global, row: &str, told: &mut String) -> Result<(), Fail> {
+    let (shows, rest) = halves(row, "\n");
+    let (asked, lines) = halves(rest, "\n");
+    let before = told.len();
+    tell_lines(alloc, asked, lines, told)?;
+    if told.len() != before {
+        told.push_str(shows)?;
+        told.push_str("\n")?;
+    }
+    Ok(())
+}
+
+/// What is not as the rows say: nothing, where all is.
+fn untrue(alloc: Global, rows: &str) -> Result<String, Fail> {
     let mut told = String::new(alloc);
-    for row in rows {
-        let found = differences(alloc, row)?;
-        if !found.is_empty() {
-            let shows = row.shows;
-            told.push_str(&format!(in alloc; "{shows}: {found}\n")?)?;
-        }
+    for row in rows.split("\n\n") {
+        tell_row(alloc, row, &mut told)?;
     }
     Ok(told)
 }
@@ -78,9 +116,8 @@ fn untrue(alloc: Global, rows: &[Row]) -> Result<String, Fail> {
 #[test]
 fn cores_do_as_the_rows_say(rt: HostRuntime) -> Result<(), Fail> {
     let alloc = rt.alloc();
-    assert_eq!(rt; untrue(alloc, &BATCHES)?.as_str(), "");
-    assert_eq!(rt; untrue(alloc, &ACTS)?.as_str(), "");
-    assert_eq!(rt; untrue(alloc, &CASCADES)?.as_str(), "");
-    assert_eq!(rt; untrue(alloc, &SCHEDULES)?.as_str(), "");
+    for rows in [BATCHES, ACTS, CASCADES, SCHEDULES] {
+        assert_eq!(rt; untrue(alloc, rows)?.as_str(), "");
+    }
     Ok(())
 }

@@ -1,55 +1,62 @@
 //! What a core tells of actors and transactions.
 
+use crate::likeness::MOST;
 use snap_base::{ActorId, Memory, TxNo};
 use snap_core::Core;
 use snap_report::reply_line;
 use std::alloc::Global;
 
-/// Texts have fewer transactions.
-const MOST_TRANSACTIONS: u32 = 8;
-
-/// The first fields of so many actors, from one on.
-fn fields_from(alloc: Global, core: &Core, first: u8, count: usize) -> Result<Vec<i64>, Memory> {
+/// The first fields of at most so many actors, from one on, apart by blanks.
+fn fields_from(alloc: Global, core: &Core, first: u8, count: usize) -> Result<String, Memory> {
     let actors = core.tables().opening.states.len();
-    let mut fields = Vec::new(alloc);
-    for a in first..u8::MAX {
-        if (a as usize) < actors && fields.len() < count {
-            fields.push(core.state(ActorId(a as u16)).0[0])?;
+    let mut fields = String::new(alloc);
+    let mut listed: usize = 0;
+    for a in first..MOST {
+        if (a as usize) < actors && listed < count {
+            let field = core.state(ActorId(a as u16)).0[0];
+            fields.push_str(&format!(in alloc; " {field}")?)?;
+            listed += 1;
         }
     }
     Ok(fields)
 }
 
-/// The first fields of the actors from one on, where they are not those wanted.
-pub fn other_fields(
+/// Tells the first fields of the actors from one on, where they are not those wanted.
+pub fn tell_fields(
     alloc: Global,
     core: &Core,
     first: u8,
-    wanted: &[i64],
-) -> Result<String, Memory> {
-    let fields = fields_from(alloc, core, first, wanted.len())?;
-    if fields.as_slice() == wanted {
-        return Ok(String::new(alloc));
+    wanted: &str,
+    told: &mut String,
+) -> Result<(), Memory> {
+    let fields = fields_from(alloc, core, first, wanted.split(' ').count())?;
+    if fields.trim_start() != wanted {
+        told.push_str(&format!(in alloc; "fields{fields}; ")?)?;
     }
-    Ok(format!(in alloc; "fields {fields:?}; ")?)
+    Ok(())
 }
 
 /// The lines of the transactions of which it is known what became of them, apart by `, `.
 fn replies(alloc: Global, core: &Core) -> Result<String, Memory> {
-    let mut told = String::new(alloc);
-    for n in 0..MOST_TRANSACTIONS {
+    let mut lines = String::new(alloc);
+    for n in 0..MOST as u32 {
         if let Some(verdict) = core.verdict(TxNo(n)) {
-            told.push_str(&reply_line(alloc, TxNo(n), &verdict)?)?;
+            lines.push_str(&reply_line(alloc, TxNo(n), &verdict)?)?;
         }
     }
-    Ok(told.trim_end().replace(alloc, "\n", ", ")?)
+    Ok(lines.trim_end().replace(alloc, "\n", ", ")?)
 }
 
-/// The replies, where they are not those wanted.
-pub fn other_replies(alloc: Global, core: &Core, wanted: &str) -> Result<String, Memory> {
-    let told = replies(alloc, core)?;
-    if told.as_str() == wanted {
-        return Ok(String::new(alloc));
+/// Tells the replies, where they are not those wanted.
+pub fn tell_replies(
+    alloc: Global,
+    core: &Core,
+    wanted: &str,
+    told: &mut String,
+) -> Result<(), Memory> {
+    let lines = replies(alloc, core)?;
+    if lines.as_str() != wanted {
+        told.push_str(&format!(in alloc; "replies {lines}; ")?)?;
     }
-    Ok(format!(in alloc; "replies {told}; ")?)
+    Ok(())
 }

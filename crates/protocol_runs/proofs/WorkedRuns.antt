@@ -1,9 +1,11 @@
 -- The worked runs, computed.
-use Rattle.std.specs.Prelude.{refl}
+use Rattle.std.specs.Prelude.{◌≡◌, refl}
 use Rattle.protocol.specs.Conditions.{conditions, refusal}
 use Rattle.protocol.specs.Effects.{after}
 use Rattle.std.specs.List.{AllByRecursion}
+use Rattle.protocol_schedule.specs.Draw.{schedule_of}
 use Rattle.rand_pcg.specs.Lcg.{state_after}
+use Rattle.protocol_runs.specs.Crowd.{crowd, crowd_events}
 use Rattle.protocol_runs.specs.Lines.{IsAsTold}
 use Rattle.protocol_runs.specs.Seeds.{SeedsPlay}
 use Rattle.protocol_runs.specs.Rules.{rules}
@@ -69,6 +71,14 @@ rules_play = (refl, (refl, (refl, (refl, (refl, (refl, (refl, (refl, (refl, (ref
 pub paths_play : AllByRecursion IsAsTold paths
 unfolding conditions refusal after
 paths_play = (refl, (refl, (refl, (refl, (refl, (refl, (refl, tt)))))))
+
+pub crowd_plays : IsAsTold crowd
+unfolding conditions refusal after
+crowd_plays = refl
+
+pub crowd_is_drawn : schedule_of crowd.work 24 300 ≡ crowd_events
+unfolding conditions refusal after state_after
+crowd_is_drawn = refl
 
 pub seeds_play : SeedsPlay
 unfolding conditions refusal after state_after

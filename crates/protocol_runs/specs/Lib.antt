@@ -4,3 +4,4 @@ pub mod Lines
 pub mod Paths
 pub mod Rules
 pub mod Seeds
+pub mod Crowd

@@ -1,7 +1,8 @@
 //! Worked runs: texts with scripts of events, and what comes out.
 
-ghost use Rattle.std.specs.Prelude.{ℕ};
+ghost use Rattle.std.specs.Prelude.{◌≡◌, ℕ};
 ghost use Rattle.std.specs.List.{AllByRecursion};
+ghost use Rattle.protocol_runs.specs.Crowd.{crowd, crowd_events};
 ghost use Rattle.protocol_runs.specs.ExampleCode.{IsRestOf, finish, scripts};
 ghost use Rattle.protocol.specs.Facts.{Facts};
 ghost use Rattle.protocol.specs.Fixed.{IsTxOf};
@@ -9,6 +10,7 @@ ghost use Rattle.protocol_runs.specs.Lines.{IsAsTold};
 ghost use Rattle.protocol_runs.specs.Paths.{paths};
 ghost use Rattle.protocol_runs.specs.Rules.{rules};
 ghost use Rattle.protocol_runs.specs.Seeds.{SeedsPlay};
+ghost use Rattle.protocol_schedule.specs.Draw.{schedule_of};
 ghost use Rattle.protocol_runs.specs.Examples.{BatchesPlay, ActsPlay, CascadesPlay, RefusalsPlay};
 
 /// Declared transactions come out as they should.
@@ -39,6 +41,12 @@ pub fn rules_play()
 /// Each run over several logs and coordinators, behind earlier runs and through cascades is as it is told.
 pub fn paths_play()
     ensures { AllByRecursion IsAsTold paths }
+{}
+
+/// A run of some two hundred events, of all kinds, is as it is told, and it is the schedule of a seed.
+pub fn crowd_plays()
+    ensures told { IsAsTold crowd }
+    ensures drawn { schedule_of crowd.work 24 300 ≡ crowd_events }
 {}
 
 /// The schedules of a few seeds, and what comes out. The events are those that a second model of the event table, in

@@ -5,6 +5,6 @@
 mod examples;
 
 pub use examples::{
-    acts_play, batches_play, cascades_play, example_code_has_the_facts, paths_play, refusals_play,
-    rules_play, seeds_play,
+    acts_play, batches_play, cascades_play, crowd_plays, example_code_has_the_facts, paths_play,
+    refusals_play, rules_play, seeds_play,
 };
