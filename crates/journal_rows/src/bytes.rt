@@ -1,35 +1,37 @@
-use crate::logs::{ITEM, WITH_ITEM, append, has_items, is_refused, open_bytes};
+use crate::logs::{ITEM, WITH_ITEM, append, grown, has_items, is_refused, open_bytes, open_image};
 use gate_log::{Log, OpenNo};
 use snap_base::Memory;
 use snap_outside::MemLog;
 use std::alloc::Global;
-use std::test::Fail;
 
-#[test]
-fn a_new_log_and_its_first_group_are_these_bytes(rt: HostRuntime) -> Result<(), Fail> {
-    let alloc = rt.alloc();
-    let dev = MemLog::new(alloc, Vec::new(alloc), Vec::new(alloc))?;
-    let Ok(log) = Log::open(alloc, dev) else {
-        return Err(Fail::from("a new log opens"));
-    };
-    let mut log = log;
-    let appended = append(alloc, &mut log, &[&ITEM]);
-    let dev = log.into_dev();
-    assert!(rt; appended.is_ok());
-    assert_eq!(rt; dev.bytes(), WITH_ITEM.as_slice());
-    assert_eq!(rt; dev.ops().len(), 6);
+/// Whether a crash after so many operations leaves a log of these items.
+fn leaves(
+    alloc: Global,
+    dev: &MemLog,
+    ops: usize,
+    choice: u8,
+    items: &[&[u8]],
+) -> Result<bool, Memory> {
+    match open_image(alloc, dev, ops, choice)? {
+        Some(opened) => Ok(has_items(&opened, items)),
+        None => Ok(false),
+    }
+}
 
-    // The gate is the one byte that is not fixed after the fifth operation.
-    assert!(rt; dev.ops().len() >= 5);
-    let opened = open_bytes(alloc, dev.image(alloc, 5, 0x01)?)?;
-    assert!(rt; has_items(&opened, &[&ITEM]));
-    let closed = open_bytes(alloc, dev.image(alloc, 5, 0x7f)?)?;
-    assert!(rt; has_items(&closed, &[]));
-    Ok(())
+/// The gate is the one byte that is not fixed after the fifth operation.
+fn hangs_on_its_gate(alloc: Global, dev: &MemLog) -> Result<bool, Memory> {
+    Ok(leaves(alloc, dev, 5, 0x01, &[&ITEM])? && leaves(alloc, dev, 5, 0x7f, &[])?)
+}
+
+/// A new log and its first group are these bytes.
+pub fn first_group_is_written(alloc: Global) -> Result<bool, Memory> {
+    let (dev, is_grown) = grown(alloc, Vec::new(alloc), &[&[&ITEM]])?;
+    let is_so = is_grown && dev.ops().len() == 6 && dev.bytes() == WITH_ITEM.as_slice();
+    Ok(is_so && hangs_on_its_gate(alloc, &dev)?)
 }
 
 /// Bytes, and the refusal that opening them gives; or, where there is none, the items that it finds.
-const OPENED: [(&[u8], Option<OpenNo>, &[&[u8]]); 10] = [
+const OPENED: [(&'static [u8], Option<OpenNo>, &[&[u8]]); 10] = [
     (&WITH_ITEM, None, &[&ITEM]),
     // cut off, empty, as long as a new log, and a foreign file
     (
@@ -82,36 +84,61 @@ fn opens_so(
     })
 }
 
-#[test]
-fn opening_answers_what_the_bytes_are(rt: HostRuntime) -> Result<(), Fail> {
-    let alloc = rt.alloc();
+/// The first of these bytes that are opened otherwise, if there are such.
+pub fn opened_otherwise(alloc: Global) -> Result<Option<&'static [u8]>, Memory> {
     for (bytes, no, items) in OPENED {
-        assert!(rt; opens_so(alloc, bytes, no, items)?, "{bytes:?}");
+        if !opens_so(alloc, bytes, no, items)? {
+            return Ok(Some(bytes));
+        }
     }
-    Ok(())
+    Ok(None)
 }
 
-#[test]
-fn groups_of_several_and_of_the_longest_item_are_found_again(rt: HostRuntime) -> Result<(), Fail> {
-    let alloc = rt.alloc();
+/// The bytes with which the log of three groups begins.
+const FRONT: &[u8] = b"SNAPLOG1\x01\0\0\0\x0c\0\x01a\0\x02bc\0\x03def\x01\0\x01\0\x01\xff\xff\x07";
+
+/// How many bytes the log of a group of three items and one of the longest item has.
+const SIZE: usize = 8 + 5 + 12 + 5 + 2 + 65_535 + 1;
+
+/// A group of several items, one of the longest item, and nothing are appended; what is longer than an item may be is refused.
+fn takes_groups(alloc: Global, log: &mut Log<MemLog>, longest: &[u8], too_long: &[u8]) -> bool {
+    append(alloc, log, &[b"a", b"bc", b"def"]).is_ok()
+        && append(alloc, log, &[longest]).is_ok()
+        && append(alloc, log, &[]).is_ok()
+        && append(alloc, log, &[too_long]).is_err()
+}
+
+fn with_groups(alloc: Global, log: Log<MemLog>, longest: &[u8], too_long: &[u8]) -> (MemLog, bool) {
+    let mut log = log;
+    let is_so = takes_groups(alloc, &mut log, longest, too_long);
+    (log.into_dev(), is_so)
+}
+
+/// The device of a new log to which these were appended, and whether it was so.
+fn with_longest(alloc: Global, longest: &[u8], too_long: &[u8]) -> Result<(MemLog, bool), Memory> {
+    let dev = MemLog::new(alloc, Vec::new(alloc), Vec::new(alloc))?;
+    Ok(match Log::open(alloc, dev) {
+        Ok(log) => with_groups(alloc, log, longest, too_long),
+        Err((dev, _no)) => (dev, false),
+    })
+}
+
+fn is_as_long(dev: &MemLog) -> bool {
+    dev.ops().len() == 10
+        && dev.bytes().len() == SIZE
+        && dev.bytes().get(..FRONT.len()) == Some(FRONT)
+}
+
+/// Whether the log of such groups is as long as it should be, and is found again.
+fn is_found_again(alloc: Global, longest: &[u8], too_long: &[u8]) -> Result<bool, Memory> {
+    let (dev, is_so) = with_longest(alloc, longest, too_long)?;
+    let found = open_bytes(alloc, dev.bytes().to_vec(alloc)?)?;
+    Ok(is_so && is_as_long(&dev) && has_items(&found, &[b"a", b"bc", b"def", longest]))
+}
+
+/// Groups of several and of the longest item are found again.
+pub fn long_groups_are_found(alloc: Global) -> Result<bool, Memory> {
     let longest = vec![in alloc; 7u8; 65_535]?;
     let too_long = vec![in alloc; 7u8; 65_536]?;
-    let dev = MemLog::new(alloc, Vec::new(alloc), Vec::new(alloc))?;
-    let Ok(log) = Log::open(alloc, dev) else {
-        return Err(Fail::from("a new log opens"));
-    };
-    let mut log = log;
-    let several = append(alloc, &mut log, &[b"a", b"bc", b"def"]);
-    let long = append(alloc, &mut log, &[longest.as_slice()]);
-    let nothing = append(alloc, &mut log, &[]);
-    let refused = append(alloc, &mut log, &[too_long.as_slice()]);
-    let dev = log.into_dev();
-    assert!(rt; several.is_ok() && long.is_ok() && nothing.is_ok() && refused.is_err());
-    assert_eq!(rt; dev.ops().len(), 10);
-    let front = b"SNAPLOG1\x01\0\0\0\x0c\0\x01a\0\x02bc\0\x03def\x01\0\x01\0\x01\xff\xff\x07";
-    assert_eq!(rt; dev.bytes().get(..front.len()), Some(front.as_slice()));
-    assert_eq!(rt; dev.bytes().len(), 8 + 5 + 12 + 5 + 2 + 65_535 + 1);
-    let answer = open_bytes(alloc, dev.bytes().to_vec(alloc)?)?;
-    assert!(rt; has_items(&answer, &[b"a", b"bc", b"def", longest.as_slice()]));
-    Ok(())
+    is_found_again(alloc, &longest, &too_long)
 }

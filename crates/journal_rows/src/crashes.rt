@@ -1,27 +1,14 @@
-use crate::logs::{append, has_items, open_bytes};
-use gate_log::Log;
+use crate::logs::{Answer, grown, has_items, open_image};
 use snap_base::Memory;
 use snap_outside::MemLog;
 use std::alloc::Global;
-use std::test::Fail;
 
 /// The device calls of opening a new log and of two appends: one of the length, two of making the log, four of
 /// each append.
 const CALLS: u64 = 11;
 
-/// Opens a new log and appends two groups, up to the first refusal, on a device whose call with this number
-/// fails. It gives the device.
-fn run_to_a_failing_call(alloc: Global, failing: u64) -> Result<MemLog, Memory> {
-    let dev = MemLog::new(alloc, Vec::new(alloc), vec![in alloc; failing]?)?;
-    let mut log = match Log::open(alloc, dev) {
-        Ok(log) => log,
-        Err((dev, _no)) => return Ok(dev),
-    };
-    let first = append(alloc, &mut log, &[b"a"]);
-    let second = append(alloc, &mut log, &[b"b", b"c"]);
-    let _ends = (first, second);
-    Ok(log.into_dev())
-}
+/// The two groups.
+const GROUPS: [&[&[u8]]; 2] = [&[b"a"], &[b"b", b"c"]];
 
 /// How many of the two groups a crash after so many operations may leave: at least, and at most.
 fn groups_after(ops: usize) -> (usize, usize) {
@@ -34,7 +21,7 @@ fn groups_after(ops: usize) -> (usize, usize) {
     }
 }
 
-fn has_groups(answer: &crate::logs::Answer, groups: usize) -> bool {
+fn has_groups(answer: &Answer, groups: usize) -> bool {
     match groups {
         0 => has_items(answer, &[]),
         1 => has_items(answer, &[b"a"]),
@@ -42,23 +29,40 @@ fn has_groups(answer: &crate::logs::Answer, groups: usize) -> bool {
     }
 }
 
-#[test]
-fn every_crash_leaves_whole_groups(rt: HostRuntime) -> Result<(), Fail> {
-    let alloc = rt.alloc();
-    for failing in 1..CALLS + 2 {
-        let dev = run_to_a_failing_call(alloc, failing)?;
-        let count = dev.ops().len();
-        for ops in 0..count + 1 {
-            let (least, most) = groups_after(ops);
-            for choice in [0, 1, 2, 0x7f] {
-                assert!(rt; ops <= dev.ops().len());
-                let answer = open_bytes(alloc, dev.image(alloc, ops, choice)?)?;
-                assert!(rt;
-                    has_groups(&answer, least) || has_groups(&answer, most),
-                    "call {failing}, {ops} operations, choice {choice}"
-                );
+/// Whether a crash after so many operations leaves whole groups, as many as it may.
+fn leaves_groups(alloc: Global, dev: &MemLog, ops: usize, choice: u8) -> Result<bool, Memory> {
+    let (least, most) = groups_after(ops);
+    match open_image(alloc, dev, ops, choice)? {
+        Some(answer) => Ok(has_groups(&answer, least) || has_groups(&answer, most)),
+        None => Ok(false),
+    }
+}
+
+/// After how many operations a crash of the device does not, if there are such.
+fn wrong_after(alloc: Global, dev: &MemLog) -> Result<Option<(usize, u8)>, Memory> {
+    for ops in 0..dev.ops().len() + 1 {
+        for choice in [0, 1, 2, 0x7f] {
+            if !leaves_groups(alloc, dev, ops, choice)? {
+                return Ok(Some((ops, choice)));
             }
         }
     }
-    Ok(())
+    Ok(None)
+}
+
+/// The same where the device call with this number fails.
+fn wrong_with(alloc: Global, failing: u64) -> Result<Option<(usize, u8)>, Memory> {
+    let fails = vec![in alloc; failing]?;
+    let (dev, _is_grown) = grown(alloc, fails, &GROUPS)?;
+    wrong_after(alloc, &dev)
+}
+
+/// The first call with whose failure a crash does not leave whole groups, if there is one.
+pub fn wrong_call(alloc: Global) -> Result<Option<u64>, Memory> {
+    for failing in 1..CALLS + 2 {
+        if wrong_with(alloc, failing)?.is_some() {
+            return Ok(Some(failing));
+        }
+    }
+    Ok(None)
 }

@@ -4,7 +4,6 @@ ghost use Rattle.std.specs.Prelude.{◌≡◌, vec_len, IfOk};
 use snap_base::Memory;
 use snap_outside::{DevOp, Failed, LogDev, MemLog};
 use std::alloc::Global;
-use std::test::Fail;
 
 /// A call of a device. Before a read or a write the length is asked for.
 #[derive(Clone, Copy)]
@@ -74,18 +73,27 @@ fn is_done(given: Result<(), Failed>, answer: Answer) -> bool {
     }
 }
 
-/// Whether so many bytes were moved to the front of the buffer, and zeros are left behind them.
-fn is_moved(given: Result<usize, Failed>, buffer: &[u8], answer: Answer) -> bool {
-    let bytes: &[u8] = match answer {
-        Answer::Bytes(bytes) => bytes,
-        _ => b"",
-    };
-    let left = buffer.iter().skip(bytes.len()).all(|byte| *byte == 0);
-    match (given, answer) {
-        (Ok(count), Answer::Bytes(_)) => {
-            count == bytes.len() && buffer.get(..count) == Some(bytes) && left
+pub fn are_zeros(bytes: &[u8]) -> bool {
+    for byte in bytes {
+        if *byte != 0 {
+            return false;
         }
-        (Err(Failed), Answer::Fault) => left,
+    }
+    true
+}
+
+/// Whether these bytes were moved to the front of the buffer, and zeros are left behind them.
+pub fn is_filled(buffer: &[u8], count: usize, bytes: &[u8]) -> bool {
+    match buffer.split_at_checked(count) {
+        Some((front, left)) => front == bytes && are_zeros(left),
+        None => false,
+    }
+}
+
+fn is_moved(given: Result<usize, Failed>, buffer: &[u8], answer: Answer) -> bool {
+    match (given, answer) {
+        (Ok(count), Answer::Bytes(bytes)) => is_filled(buffer, count, bytes),
+        (Err(Failed), Answer::Fault) => are_zeros(buffer),
         _ => false,
     }
 }
@@ -151,28 +159,51 @@ fn is_write(op: &DevOp, place: u64, piece: &[u8]) -> bool {
     }
 }
 
-#[test]
-fn a_device_in_memory_keeps_what_a_crash_may_leave(rt: HostRuntime) -> Result<(), Fail> {
-    let alloc = rt.alloc();
-    let mut device = MemLog::new(alloc, b"abc".to_vec(alloc)?, Vec::new(alloc))?;
-    assert!(rt; answers(alloc, &mut device, &CALLS)?);
-    let ops = device.ops();
-    assert_eq!(rt; ops.len(), 3);
-    assert!(rt; is_write(&ops[0], 2, b"XY") && is_write(&ops[2], 4, b"Z"));
-    for (ops, choice, want) in IMAGES {
-        assert!(rt; ops <= device.ops().len());
-        let image = device.image(alloc, ops, choice)?;
-        assert_eq!(rt; image.as_slice(), want, "after {ops} at {choice}");
+/// Whether the operations are the three of the calls.
+fn has_its_ops(device: &MemLog) -> bool {
+    match device.ops() {
+        [first, DevOp::Sync, last] => is_write(first, 2, b"XY") && is_write(last, 4, b"Z"),
+        _ => false,
     }
-    Ok(())
 }
 
-#[test]
-fn a_call_that_fails_changes_nothing(rt: HostRuntime) -> Result<(), Fail> {
-    let alloc = rt.alloc();
+fn leaves_its_images(alloc: Global, device: &MemLog) -> Result<bool, Memory> {
+    for (ops, choice, bytes) in IMAGES {
+        if !leaves(alloc, device, ops, choice, bytes)? {
+            return Ok(false);
+        }
+    }
+    Ok(true)
+}
+
+fn leaves(
+    alloc: Global,
+    device: &MemLog,
+    ops: usize,
+    choice: u8,
+    bytes: &[u8],
+) -> Result<bool, Memory> {
+    if device.ops().len() < ops {
+        return Ok(false);
+    }
+    let image = device.image(alloc, ops, choice)?;
+    Ok(image.as_slice() == bytes)
+}
+
+/// A device in memory keeps what a crash may leave.
+pub fn keeps_what_a_crash_leaves(alloc: Global) -> Result<bool, Memory> {
+    let mut device = MemLog::new(alloc, b"abc".to_vec(alloc)?, Vec::new(alloc))?;
+    Ok(
+        answers(alloc, &mut device, &CALLS)?
+            && has_its_ops(&device)
+            && leaves_its_images(alloc, &device)?,
+    )
+}
+
+/// A call that fails changes nothing.
+pub fn stays_where_a_call_fails(alloc: Global) -> Result<bool, Memory> {
     let fails = [2, 7, 8, 10].to_vec(alloc)?;
     let mut device = MemLog::new(alloc, b"abc".to_vec(alloc)?, fails)?;
-    assert!(rt; answers(alloc, &mut device, &FAILING)?);
-    assert_eq!(rt; (device.ops().len(), device.wanted()), (1, 0));
-    Ok(())
+    let is_so = answers(alloc, &mut device, &FAILING)?;
+    Ok(is_so && device.ops().len() == 1 && device.wanted() == 0)
 }

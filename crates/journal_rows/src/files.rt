@@ -43,68 +43,112 @@ const OTHERS: [(Call, Answer); 2] = [
 /// The calls of a log whose folder is not there.
 const LOST: [(Call, Answer); 2] = [(Call::Length, Answer::Fault), (Call::Sync, Answer::Fault)];
 
-#[test]
-fn a_log_is_read_as_it_was_written(rt: HostRuntime) -> Result<(), Fail> {
+/// Whether a log in this file answers the calls so, and counts these faults.
+fn log_answers(
+    rt: &HostRuntime,
+    path: &str,
+    rows: &[(Call, Answer)],
+    faults: u64,
+) -> Result<bool, Fail> {
     let alloc = rt.alloc();
-    fresh(&rt, "rows_log")?;
-    let path = "rows_log/a";
-    let mut log = FileLog::new(&rt, text(alloc, path)?);
-    assert!(rt; !fs::exists(&rt, path)?);
-    assert!(rt; answers(alloc, &mut log, &CALLS)?);
-    let mut other = FileLog::new(&rt, text(alloc, path)?);
-    assert!(rt; answers(alloc, &mut other, &OTHERS)?);
-    assert_eq!(rt; (log.faults(), other.faults()), (0, 0));
-    fs::remove_dir_all(&rt, "rows_log")?;
-    Ok(())
+    let mut log = FileLog::new(rt, text(alloc, path)?);
+    Ok(answers(alloc, &mut log, rows)? && log.faults() == faults)
 }
 
-#[test]
-fn a_file_that_ends_early_is_a_fault(rt: HostRuntime) -> Result<(), Fail> {
-    fresh(&rt, "rows_short")?;
-    let path = "rows_short/a";
-    fs::write(&rt, path, b"abc".as_slice())?;
-    let mut log = FileLog::new(&rt, text(rt.alloc(), path)?);
-    assert_eq!(rt; log.len()?, 3);
-    fs::write(&rt, path, b"a".as_slice())?;
+/// Whether a log makes no file before its first call.
+fn log_waits(rt: &HostRuntime, path: &str) -> Result<bool, Fail> {
+    let log = FileLog::new(rt, text(rt.alloc(), path)?);
+    let is_made = fs::exists(rt, path)?;
+    drop(log);
+    Ok(!is_made)
+}
+
+/// A log is read as it was written.
+pub fn log_is_read(rt: &HostRuntime) -> Result<bool, Fail> {
+    fresh(rt, "rows_log")?;
+    let is_so = log_waits(rt, "rows_log/a")?
+        && log_answers(rt, "rows_log/a", &CALLS, 0)?
+        && log_answers(rt, "rows_log/a", &OTHERS, 0)?;
+    fs::remove_dir_all(rt, "rows_log")?;
+    Ok(is_so)
+}
+
+/// A log in a file of three bytes, which becomes a file of one byte: a read behind its end is a fault, until its length is asked
+/// for again.
+fn ends_early(rt: &HostRuntime, path: &str) -> Result<bool, Fail> {
+    fs::write(rt, path, b"abc".as_slice())?;
+    let mut log = FileLog::new(rt, text(rt.alloc(), path)?);
+    let length = log.len()?;
+    fs::write(rt, path, b"a".as_slice())?;
     let mut buffer = [0; 2];
-    assert_eq!(rt; log.read_at(1, &mut buffer), Err(Failed));
-    assert_eq!(rt; log.faults(), 1);
-    assert_eq!(rt; log.len()?, 1);
-    assert_eq!(rt; log.read_at(0, &mut buffer)?, 1);
-    assert_eq!(rt; log.faults(), 1);
-    fs::remove_dir_all(&rt, "rows_short")?;
-    Ok(())
+    let behind = log.read_at(1, &mut buffer);
+    let is_short = has_one(&mut log)?;
+    Ok(length == 3 && behind == Err(Failed) && is_short && log.faults() == 1)
 }
 
-#[test]
-fn a_missing_folder_is_a_fault(rt: HostRuntime) -> Result<(), Fail> {
-    let alloc = rt.alloc();
-    let _ = fs::remove_dir_all(&rt, "rows_none");
-    let mut log = FileLog::new(&rt, text(alloc, "rows_none/a")?);
-    for (row, faults) in LOST.iter().zip(1..3) {
-        assert!(rt; answers(alloc, &mut log, &[*row])?);
-        assert_eq!(rt; log.faults(), faults);
-    }
-    let mut sink = FileSink::new(&rt, text(alloc, "rows_none/b")?);
-    assert!(rt; takes(&mut sink, &[(b"abc", None)]));
-    assert_eq!(rt; sink.faults(), 1);
-    Ok(())
+/// Whether a device has one byte.
+fn has_one<D: LogDev>(device: &mut D) -> Result<bool, Failed> {
+    let mut buffer = [0; 2];
+    let length = device.len()?;
+    let count = device.read_at(0, &mut buffer)?;
+    Ok(length == 1 && count == 1)
 }
 
-#[test]
-fn a_sink_makes_its_file_at_the_first_call(rt: HostRuntime) -> Result<(), Fail> {
+/// A file that ends early is a fault.
+pub fn short_file_is_a_fault(rt: &HostRuntime) -> Result<bool, Fail> {
+    fresh(rt, "rows_short")?;
+    let is_so = ends_early(rt, "rows_short/a")?;
+    fs::remove_dir_all(rt, "rows_short")?;
+    Ok(is_so)
+}
+
+/// Whether a sink in this file takes these pieces, and counts these faults.
+fn sink_takes(
+    rt: &HostRuntime,
+    path: &str,
+    rows: &[(&[u8], Option<usize>)],
+    faults: u64,
+) -> Result<bool, Fail> {
+    let mut sink = FileSink::new(rt, text(rt.alloc(), path)?);
+    Ok(takes(&mut sink, rows) && sink.faults() == faults)
+}
+
+/// A missing folder is a fault.
+pub fn missing_folder_is_a_fault(rt: &HostRuntime) -> Result<bool, Fail> {
+    let _ = fs::remove_dir_all(rt, "rows_none");
+    Ok(
+        log_answers(rt, "rows_none/a", &LOST[..1], 1)?
+            && log_answers(rt, "rows_none/a", &LOST, 2)?
+            && sink_takes(rt, "rows_none/b", &[(b"abc", None)], 1)?,
+    )
+}
+
+fn holds(rt: &HostRuntime, path: &str, bytes: &[u8]) -> Result<bool, Fail> {
+    Ok(fs::read(rt, path)?.as_slice() == bytes)
+}
+
+/// What is in a file before its sink's first call.
+const BEFORE: &[u8] = b"what was there";
+
+/// Whether a sink leaves the file as it is before its first call, and makes none.
+fn sink_waits(rt: &HostRuntime, path: &str, unused: &str) -> Result<bool, Fail> {
     let alloc = rt.alloc();
-    fresh(&rt, "rows_sink")?;
+    let first = FileSink::new(rt, text(alloc, path)?);
+    let second = FileSink::new(rt, text(alloc, unused)?);
+    let is_kept = holds(rt, path, BEFORE)?;
+    drop(first);
+    drop(second);
+    Ok(is_kept && !fs::exists(rt, unused)?)
+}
+
+/// A sink makes its file at the first call.
+pub fn sink_makes_its_file(rt: &HostRuntime) -> Result<bool, Fail> {
+    fresh(rt, "rows_sink")?;
     let path = "rows_sink/a";
-    let before = b"what was there".as_slice();
-    fs::write(&rt, path, before)?;
-    let mut sink = FileSink::new(&rt, text(alloc, path)?);
-    assert_eq!(rt; fs::read(&rt, path)?.as_slice(), before);
-    assert!(rt; takes(&mut sink, &[(b"abc", Some(3)), (b"de", Some(2))]));
-    assert_eq!(rt; fs::read(&rt, path)?.as_slice(), b"abcde".as_slice());
-    let unused = FileSink::new(&rt, text(alloc, "rows_sink/b")?);
-    drop(unused);
-    assert!(rt; !fs::exists(&rt, "rows_sink/b")?);
-    fs::remove_dir_all(&rt, "rows_sink")?;
-    Ok(())
+    fs::write(rt, path, BEFORE)?;
+    let is_so = sink_waits(rt, path, "rows_sink/b")?
+        && sink_takes(rt, path, &[(b"abc", Some(3)), (b"de", Some(2))], 0)?
+        && holds(rt, path, b"abcde")?;
+    fs::remove_dir_all(rt, "rows_sink")?;
+    Ok(is_so)
 }

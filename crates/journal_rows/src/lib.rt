@@ -18,4 +18,6 @@ mod record_logs;
 #[cfg(test)]
 mod records;
 #[cfg(test)]
+mod rows;
+#[cfg(test)]
 mod streams;

@@ -9,7 +9,6 @@ use record_log::{ItemsNo, append_records, few_may_be_appended, records_of};
 use snap_base::{ActorId, Bid, Memory, Sequence, State};
 use snap_outside::MemLog;
 use std::alloc::Global;
-use std::test::Fail;
 use txn_records::{Key, Record, key_of};
 
 /// What the bytes of a device are read as.
@@ -75,18 +74,21 @@ fn append(alloc: Global, log: &mut Log<MemLog>, records: &[Record]) -> Result<()
     append_records(alloc, log, records)
 }
 
-/// A device with a new log to which the commit of batch 1 was appended, and then what completes batch 2 with its
-/// commit, and the first refusal of the two.
-fn grown(alloc: Global, fails: Vec<u64>) -> Result<(MemLog, Option<AppendNo>), Memory> {
-    let dev = MemLog::new(alloc, Vec::new(alloc), fails)?;
-    let mut log = match Log::open(alloc, dev) {
-        Ok(log) => log,
-        Err((dev, _no)) => return Ok((dev, None)),
-    };
-    let first = append(alloc, &mut log, &[Record::BatchCommit { bid: Bid(1) }]);
-    let second = append(
+/// The commit of batch 1.
+fn append_first(alloc: Global, log: &mut Log<MemLog>) -> Result<(), AppendNo>
+    requires { log.old.end ≤ FARTHEST_END }
+    ensures { log.new.end ≤ log.old.end + 2 ^ 32 }
+{
+    append(alloc, log, &[Record::BatchCommit { bid: Bid(1) }])
+}
+
+/// What completes batch 2, with its commit.
+fn append_second(alloc: Global, log: &mut Log<MemLog>) -> Result<(), AppendNo>
+    requires { log.old.end ≤ FARTHEST_END + 2 ^ 40 }
+{
+    append(
         alloc,
-        &mut log,
+        log,
         &[
             Record::BatchComplete {
                 bid: Bid(2),
@@ -95,9 +97,26 @@ fn grown(alloc: Global, fails: Vec<u64>) -> Result<(MemLog, Option<AppendNo>), M
             },
             Record::BatchCommit { bid: Bid(2) },
         ],
-    );
-    let dev = log.into_dev();
-    Ok((dev, first.err().or(second.err())))
+    )
+}
+
+/// The device of a log to which both were appended, and the first refusal of the two.
+fn grown_by_two(alloc: Global, log: Log<MemLog>) -> (MemLog, Option<AppendNo>)
+    requires { log.end ≤ FARTHEST_END }
+{
+    let mut log = log;
+    let first = append_first(alloc, &mut log);
+    let second = append_second(alloc, &mut log);
+    (log.into_dev(), first.err().or(second.err()))
+}
+
+/// The same of a new log on a device of which some calls may fail.
+fn grown(alloc: Global, fails: Vec<u64>) -> Result<(MemLog, Option<AppendNo>), Memory> {
+    let dev = MemLog::new(alloc, Vec::new(alloc), fails)?;
+    Ok(match Log::open(alloc, dev) {
+        Ok(log) => grown_by_two(alloc, log),
+        Err((dev, _no)) => (dev, None),
+    })
 }
 
 const FIRST: [Key; 1] = [Key::Commit(Bid(1))];
@@ -123,44 +142,58 @@ const BAD: [(&[u8], u64); 2] = [
     ),
 ];
 
-#[test]
-fn records_are_read_again_after_a_crash_at_any_operation(rt: HostRuntime) -> Result<(), Fail> {
-    let alloc = rt.alloc();
-    let (dev, no) = grown(alloc, Vec::new(alloc))?;
-    assert!(rt; no.is_none());
-    assert_eq!(rt; dev.bytes().get(..FRONT.len()), Some(FRONT));
-    assert_eq!(rt; dev.ops().len(), 10);
+/// What a crash after so many operations leaves: no record, the first one, or all.
+fn is_left(ops: usize, found: &Answer) -> bool {
+    ops < 6 && has(found, &[])
+        || 3 <= ops && ops < 10 && has(found, &FIRST)
+        || 7 <= ops && has(found, &ALL)
+}
+
+fn is_read_again(alloc: Global, dev: &MemLog, ops: usize, choice: u8) -> Result<bool, Memory> {
+    if dev.ops().len() < ops {
+        return Ok(false);
+    }
+    let image = dev.image(alloc, ops, choice)?;
+    Ok(is_left(ops, &read_bytes(alloc, image)?))
+}
+
+fn are_read_again(alloc: Global, dev: &MemLog) -> Result<bool, Memory> {
     for ops in 0..dev.ops().len() + 1 {
         for choice in [0, 1, 2, 0x7F] {
-            assert!(rt; ops <= dev.ops().len());
-            let found = read_bytes(alloc, dev.image(alloc, ops, choice)?)?;
-            let before = ops < 6 && has(&found, &[]);
-            let first = 3 <= ops && ops < 10 && has(&found, &FIRST);
-            let all = 7 <= ops && has(&found, &ALL);
-            assert!(rt; before || first || all, "after {ops} at {choice}");
+            if !is_read_again(alloc, dev, ops, choice)? {
+                return Ok(false);
+            }
         }
     }
-    Ok(())
+    Ok(true)
 }
 
-#[test]
-fn a_bad_record_is_told_at_its_byte_in_the_file(rt: HostRuntime) -> Result<(), Fail> {
-    let alloc = rt.alloc();
+/// Records are read again after a crash at any operation.
+pub fn crashes_leave_records(alloc: Global) -> Result<bool, Memory> {
+    let (dev, no) = grown(alloc, Vec::new(alloc))?;
+    let is_grown = no.is_none()
+        && dev.ops().len() == 10
+        && dev.bytes().get(..FRONT.len()) == Some(FRONT);
+    Ok(is_grown && are_read_again(alloc, &dev)?)
+}
+
+fn is_bad_at(alloc: Global, bytes: &[u8], offset: u64) -> Result<bool, Memory> {
+    let found = read_bytes(alloc, bytes.to_vec(alloc)?)?;
+    Ok(is_refused(&found, ItemsNo::BadRecord { offset }))
+}
+
+/// A bad record is told at its byte in the file.
+pub fn bad_records_are_told(alloc: Global) -> Result<bool, Memory> {
     for (bytes, offset) in BAD {
-        let found = read_bytes(alloc, bytes.to_vec(alloc)?)?;
-        assert!(rt;
-            is_refused(&found, ItemsNo::BadRecord { offset }),
-            "at {offset}"
-        );
+        if !is_bad_at(alloc, bytes, offset)? {
+            return Ok(false);
+        }
     }
-    Ok(())
+    Ok(true)
 }
 
-#[test]
-fn a_failing_device_shuts_the_log(rt: HostRuntime) -> Result<(), Fail> {
-    let alloc = rt.alloc();
+/// A failing device shuts the log.
+pub fn fault_shuts_the_log(alloc: Global) -> Result<bool, Memory> {
     let (dev, no) = grown(alloc, [5].to_vec(alloc)?)?;
-    assert_eq!(rt; no, Some(AppendNo::Device));
-    assert_eq!(rt; dev.ops().len(), 3);
-    Ok(())
+    Ok(no == Some(AppendNo::Device) && dev.ops().len() == 3)
 }

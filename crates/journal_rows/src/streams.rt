@@ -1,9 +1,10 @@
 //! Sources and sinks: what each call moves.
+use crate::devices::{are_zeros, is_filled};
 use snap_base::Memory;
 use snap_files::{StdinSource, StdoutSink};
 use snap_outside::{MemSink, MemSource, Sink, Source};
 use std::alloc::Global;
-use std::test::Fail;
+use std::rt::HostRuntime;
 
 /// Whether the sink takes so many bytes of each piece, in order; none stands for a fault.
 pub fn takes<S: Sink>(sink: &mut S, rows: &[(&[u8], Option<usize>)]) -> bool {
@@ -23,16 +24,25 @@ fn gives<S: Source>(
     rows: &[(usize, Option<&[u8]>)],
 ) -> Result<bool, Memory> {
     for (room, moved) in rows {
-        let mut buffer = vec![in alloc; 0u8; *room]?;
-        let count = source.read(&mut buffer).ok();
-        let bytes = moved.unwrap_or(b"");
-        let left = buffer.iter().skip(bytes.len()).all(|byte| *byte == 0);
-        let same = buffer.as_slice().get(..bytes.len()) == Some(bytes);
-        if count != moved.map(|bytes| bytes.len()) || !same || !left {
+        if !gives_so(alloc, source, *room, *moved)? {
             return Ok(false);
         }
     }
     Ok(true)
+}
+
+fn gives_so<S: Source>(
+    alloc: Global,
+    source: &mut S,
+    room: usize,
+    moved: Option<&[u8]>,
+) -> Result<bool, Memory> {
+    let mut buffer = vec![in alloc; 0u8; room]?;
+    let count = source.read(&mut buffer).ok();
+    Ok(match moved {
+        Some(bytes) => count == Some(bytes.len()) && is_filled(&buffer, bytes.len(), bytes),
+        None => count.is_none() && are_zeros(&buffer),
+    })
 }
 
 /// A source of "abc" whose second call fails.
@@ -49,23 +59,20 @@ const SINK: [(&[u8], Option<usize>); 3] = [(b"ab", Some(2)), (b"x", None), (b"c"
 /// The standard output.
 const OUTPUT: [(&[u8], Option<usize>); 2] = [(b"", Some(0)), (b"a line\n", Some(7))];
 
-#[test]
-fn streams_in_memory_move_bytes(rt: HostRuntime) -> Result<(), Fail> {
-    let alloc = rt.alloc();
+/// Streams in memory move bytes.
+pub fn memory_moves_bytes(alloc: Global) -> Result<bool, Memory> {
     let mut source = MemSource::new(b"abc".to_vec(alloc)?, [2].to_vec(alloc)?);
-    assert!(rt; gives(alloc, &mut source, &SOURCE)?);
+    let is_given = gives(alloc, &mut source, &SOURCE)?;
     let mut sink = MemSink::new(alloc, [2].to_vec(alloc)?)?;
-    assert!(rt; takes(&mut sink, &SINK));
-    assert_eq!(rt; (sink.bytes(), sink.wanted()), (b"abc".as_slice(), 0));
-    Ok(())
+    let is_taken = takes(&mut sink, &SINK);
+    Ok(is_given && is_taken && sink.bytes() == b"abc".as_slice() && sink.wanted() == 0)
 }
 
-#[test]
-fn the_standard_streams_are_there(rt: HostRuntime) -> Result<(), Fail> {
-    let mut source = StdinSource::new(&rt);
-    assert!(rt; gives(rt.alloc(), &mut source, &[(0, Some(b""))])?);
-    let mut sink = StdoutSink::new(&rt);
-    assert!(rt; takes(&mut sink, &OUTPUT));
-    assert_eq!(rt; (source.faults(), sink.faults()), (0, 0));
-    Ok(())
+/// The standard streams are there.
+pub fn standard_streams_are_there(rt: &HostRuntime) -> Result<bool, Memory> {
+    let mut source = StdinSource::new(rt);
+    let is_given = gives(rt.alloc(), &mut source, &[(0, Some(b""))])?;
+    let mut sink = StdoutSink::new(rt);
+    let is_taken = takes(&mut sink, &OUTPUT);
+    Ok(is_given && is_taken && source.faults() == 0 && sink.faults() == 0)
 }

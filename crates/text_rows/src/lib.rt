@@ -4,20 +4,10 @@
 #![tactic(auto)]
 
 #[cfg(test)]
-mod bases;
-#[cfg(test)]
 mod lines;
-#[cfg(test)]
-mod numbers;
 #[cfg(test)]
 mod pieces;
 #[cfg(test)]
 mod programs;
 #[cfg(test)]
-mod readings;
-#[cfg(test)]
-mod runs;
-#[cfg(test)]
-mod tokens;
-#[cfg(test)]
-mod trees;
+mod rows;
