@@ -4,9 +4,15 @@ use std::marker::Model;
 
 /// A program whose names are resolved: a variable is its place among those that are visible, a called
 /// method its place in the program. Contracts see its methods by the word `methods_of`.
-#[derive(Drop)]
 pub struct Checked {
     program: Program<u8, u16>,
+}
+
+// Written out, so that a crate above calls it and does not repeat it.
+impl Drop for Checked {
+    fn drop(self) {
+        let Checked { program: _program } = self;
+    }
 }
 
 impl Model for Checked {

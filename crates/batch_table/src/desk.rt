@@ -18,7 +18,6 @@ use std::marker::Model;
 
 /// The batches that were formed, how far each is, and who was replied to. A batch is live until it is trimmed on all
 /// its actors or aborted, and it stays at the desk after that.
-#[derive(Drop)]
 pub struct Desk {
     /// The number before that of the first batch.
     base: u64,
@@ -31,6 +30,21 @@ pub struct Desk {
     pub(crate) live: u32,
     /// How many batches are settled or aborted: those from the first one on.
     pub(crate) front: usize,
+}
+
+// Written out, so that a crate above calls it and does not repeat it.
+impl Drop for Desk {
+    fn drop(self) {
+        let Desk {
+            base: _base,
+            batches: _batches,
+            settled: _settled,
+            replied: _replied,
+            spots: _spots,
+            live: _live,
+            front: _front,
+        } = self;
+    }
 }
 
 impl Model for Desk {

@@ -19,11 +19,21 @@ use std::alloc::Global;
 use std::marker::Model;
 
 /// The book, as orders, votes and cascades. Contracts see its halves, and for how many cascades there is room.
-#[derive(Drop)]
 pub struct BookPart {
     pub(crate) orders: Book,
     pub(crate) votes: Acts,
     pub(crate) cascades: Cascades,
+}
+
+// Written out, so that a crate above calls it and does not repeat it.
+impl Drop for BookPart {
+    fn drop(self) {
+        let BookPart {
+            orders: _orders,
+            votes: _votes,
+            cascades: _cascades,
+        } = self;
+    }
 }
 
 impl Model for BookPart {

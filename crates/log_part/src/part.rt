@@ -16,9 +16,15 @@ use std::marker::Model;
 use txn_records::Record;
 
 /// The records of one log. Contracts see its list side, and how many more records there is room for.
-#[derive(Drop)]
 pub struct LogPart {
     pub(crate) pending: Pending,
+}
+
+// Written out, so that a crate above calls it and does not repeat it.
+impl Drop for LogPart {
+    fn drop(self) {
+        let LogPart { pending: _pending } = self;
+    }
 }
 
 impl Model for LogPart {

@@ -9,7 +9,6 @@ use token_ring::Ring;
 
 /// Parts of the machine at hand, by their numbers: the ring, the book, the post, the desk, then the logs, then the cells.
 /// Contracts see for each whether it is there and what it shows.
-#[derive(Drop)]
 pub struct Hand {
     pub(crate) ring: Option<Ring>,
     pub(crate) book: Option<BookPart>,
@@ -17,6 +16,20 @@ pub struct Hand {
     pub(crate) desk: Option<Desk>,
     pub(crate) logs: Vec<Option<LogPart>>,
     pub(crate) cells: Vec<Option<CellPart<Control>>>,
+}
+
+// Written out, so that a crate above calls it and does not repeat it.
+impl Drop for Hand {
+    fn drop(self) {
+        let Hand {
+            ring: _ring,
+            book: _book,
+            post: _post,
+            desk: _desk,
+            logs: _logs,
+            cells: _cells,
+        } = self;
+    }
 }
 
 impl Model for Hand {

@@ -20,7 +20,6 @@ use token_ring::Ring;
 
 /// One part of the machine. The number that it has in a hand tells its kind: 0 the ring, 1 the book, 2 the post, 3 the desk, from
 /// 4 on the logs, and behind these the cells.
-#[derive(Drop)]
 pub enum Part {
     Ring(Ring),
     Book(BookPart),
@@ -28,6 +27,41 @@ pub enum Part {
     Desk(Desk),
     Log(LogPart),
     Cell(CellPart<Control>),
+}
+
+// Written out, so that a crate above calls it and does not repeat it.
+impl Drop for Part {
+    fn drop(self) {
+        match self {
+            Part::Ring(_ring) => {}
+            Part::Book(_book) => {}
+            Part::Post(_post) => {}
+            Part::Desk(_desk) => {}
+            Part::Log(_log) => {}
+            Part::Cell(_cell) => {}
+        }
+    }
+}
+
+impl Part {
+    /// Goes to the place of this number in a hand.
+    fn go_to(self, hand: &mut Hand, part: usize)
+        requires kind { Belongs hand.old part (shown self) }
+        requires free { part_at hand.old part ≡ None }
+        ensures { hand.new ≡ with_part part (shown self) hand.old }
+    {
+        match self {
+            Part::Ring(ring) => hand.put_ring(ring),
+            Part::Book(book) => hand.put_book(book),
+            Part::Post(post) => hand.put_post(post),
+            Part::Desk(desk) => hand.put_desk(desk),
+            Part::Log(log) => hand.put_log(part - 4, log),
+            Part::Cell(cell) => {
+                let logs = hand.logs.len();
+                hand.put_cell_in(part - (4 + logs), cell)
+            }
+        }
+    }
 }
 
 impl Hand {
@@ -55,17 +89,7 @@ impl Hand {
         requires free { part_at self.old part ≡ None }
         ensures { self.new ≡ with_part part (shown p) self.old }
     {
-        match p {
-            Part::Ring(ring) => self.put_ring(ring),
-            Part::Book(book) => self.put_book(book),
-            Part::Post(post) => self.put_post(post),
-            Part::Desk(desk) => self.put_desk(desk),
-            Part::Log(log) => self.put_log(part - 4, log),
-            Part::Cell(cell) => {
-                let logs = self.logs.len();
-                self.put_cell_in(part - (4 + logs), cell)
-            }
-        }
+        p.go_to(self, part)
     }
 
     fn put_cell_in(&mut self, a: usize, cell: CellPart<Control>)

@@ -7,11 +7,23 @@ use snap_recover::Opening;
 use snap_work::Work;
 
 /// What events are read with, and what no event changes: the work text, and what earlier runs left.
-#[derive(Drop)]
 pub struct Tables {
     pub work: Work,
     pub opening: Opening,
 }
+
+// Written out, so that a crate above calls it and does not repeat it.
+impl Drop for Tables {
+    fn drop(self) {
+        let Tables {
+            work: _work,
+            opening: _opening,
+        } = self;
+    }
+}
+
+// (Proved here, so that crates above, which are over types of their own, need not find it.)
+unsafe impl Sync for Tables {}
 
 /// The log to which the batch, the transaction or the actor of this number writes.
 pub(crate) fn log_of(tables: &Tables, number: u64) -> usize

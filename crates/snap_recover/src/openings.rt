@@ -13,7 +13,6 @@ pub enum Kept {
 }
 
 /// What a run begins with.
-#[derive(Drop)]
 pub struct Opening {
     /// The state of each actor, in the order of their numbers.
     pub states: Sequence<State>,
@@ -26,6 +25,19 @@ pub struct Opening {
     pub next_bid: Bid,
     /// The next commit number, at least 1.
     pub next_c: u64,
+}
+
+// Written out, so that a crate above calls it and does not repeat it.
+impl Drop for Opening {
+    fn drop(self) {
+        let Opening {
+            states: _states,
+            committed: _committed,
+            next_tid: _next_tid,
+            next_bid: _next_bid,
+            next_c: _next_c,
+        } = self;
+    }
 }
 
 /// What the first run on empty logs begins with: these states, nothing committed, and all numbers from 1 on.

@@ -2,7 +2,6 @@ use aml_check::Checked;
 use snap_base::{Sequence, State, Tx};
 
 /// What a run is asked for.
-#[derive(Drop)]
 pub struct Work {
     /// How many coordinators pass the token on, 1 to `MOST_COORDINATORS`.
     pub coordinators: u8,
@@ -19,4 +18,20 @@ pub struct Work {
     pub states: Sequence<State>,
     /// The transactions in the order of the text, at most `MOST_TRANSACTIONS`.
     pub txs: Sequence<Tx>,
+}
+
+// Written out, so that a crate above calls it and does not repeat it.
+impl Drop for Work {
+    fn drop(self) {
+        let Work {
+            coordinators: _coordinators,
+            logs: _logs,
+            batch: _batch,
+            batches: _batches,
+            acts: _acts,
+            program: _program,
+            states: _states,
+            txs: _txs,
+        } = self;
+    }
 }

@@ -17,7 +17,6 @@ use std::marker::Model;
 
 /// The coordinators in a ring, one of which has the token: what waits at each, the numbers that are
 /// drawn next, and for each actor the last batch of the present epoch. Contracts see the machine's `Ring`.
-#[derive(Drop)]
 pub struct Ring {
     holder: u8,
     next_tx: u32,
@@ -27,6 +26,22 @@ pub struct Ring {
     lasts: Vec<u64>,
     pacts: Vec<Queue>,
     acts: Vec<Queue>,
+}
+
+// Written out, so that a crate above calls it and does not repeat it.
+impl Drop for Ring {
+    fn drop(self) {
+        let Ring {
+            holder: _holder,
+            next_tx: _next_tx,
+            next_tid: _next_tid,
+            next_bid: _next_bid,
+            epoch: _epoch,
+            lasts: _lasts,
+            pacts: _pacts,
+            acts: _acts,
+        } = self;
+    }
 }
 
 impl Model for Ring {
