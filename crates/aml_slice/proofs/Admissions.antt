@@ -6,6 +6,7 @@ use Rattle.std.proofs.lemmas.List.Elements.{Contains-push, Contains-append_left}
 use Rattle.snap_base.specs.declared.ids.ActorId.{ActorId}
 use Rattle.aml_check.specs.Meaning.{◌>>=◌, Progress, too_many_calls, too_many_actors, one_call, with_actor, declared, by_declaration, with_left, used, before, one_less, admitted}
 use Rattle.aml_slice.specs.Controls.{IsLeft, HasLeft}
+use Rattle.aml_slice.specs.Views.{calls_of}
 use Rattle.aml_slice.proofs.Askings.{any_contains}
 
 -- what a call of an actor takes
@@ -18,6 +19,8 @@ pub record Admits (a : ℕ) (r q : Progress) : Type 0 where
   pub was_left : (us : List (ActorId × ℕ)) → r.left ≡ Some us → HasLeft r.left a
   pub still : (us : List (ActorId × ℕ)) → r.left ≡ Some us → (vs : List (ActorId × ℕ)) × (q.left ≡ Some vs)
   pub statements : q.statements ≡ r.statements
+  pub undeclared : r.left ≡ None → q.left ≡ None
+  pub spent : (us vs : List (ActorId × ℕ)) → r.left ≡ Some us → q.left ≡ Some vs → calls_of us ≡ calls_of vs + 1
 
 -- ---- one call
 
@@ -71,6 +74,7 @@ joins_by a r q false false among few e = absurd cc
 record Spends (a : ℕ) (us vs : List (ActorId × ℕ)) : Type 0 where
   left : (b : ℕ) → IsLeft vs b → IsLeft us b
   was_left : IsLeft us a
+  fewer : calls_of us ≡ calls_of vs + 1
 
 spends_less : (a : ℕ) (u : ActorId) (n : ℕ) (us vs : List (ActorId × ℕ)) → u.0 ≡ a → one_less u n us ≡ Some vs → Spends a ((u, n) ∷ us) vs
 spends_less a u zero us vs here e = absurd cc
@@ -80,6 +84,7 @@ spends_less a u (suc n) us vs here e =
     subst P same (record {
       left = λ b h. elim h [ inl x ↦ inl (x.0, omega arith) | inr more ↦ inr more ];
       was_left = inl (here, omega arith);
+      fewer = omega arith;
     })
 
 spends_later : (a : ℕ) (u : ActorId × ℕ) (us : List (ActorId × ℕ)) (o : Option (List (ActorId × ℕ))) (vs : List (ActorId × ℕ)) → ((ws : List (ActorId × ℕ)) → o ≡ Some ws → Spends a us ws) → before u o ≡ Some vs → Spends a (u ∷ us) vs
@@ -91,6 +96,7 @@ spends_later a u us (Some ws) vs h e =
     subst P same (record {
       left = λ b k. elim k [ inl x ↦ inl x | inr more ↦ inr (s.left b more) ];
       was_left = inr s.was_left;
+      fewer = omega (arith, s.fewer);
     })
 
 spends_by : (a : ℕ) (u : ActorId × ℕ) (us vs : List (ActorId × ℕ)) (t : Bool) → (u.0.0 == a) ≡ t → ((ws : List (ActorId × ℕ)) → used a us ≡ Some ws → Spends a us ws)
@@ -109,6 +115,8 @@ record Declares (a : ℕ) (r q : Progress) : Type 0 where
   was_left : (us : List (ActorId × ℕ)) → r.left ≡ Some us → HasLeft r.left a
   still : (us : List (ActorId × ℕ)) → r.left ≡ Some us → (vs : List (ActorId × ℕ)) × (q.left ≡ Some vs)
   statements : q.statements ≡ r.statements
+  undeclared : r.left ≡ None → q.left ≡ None
+  spent : (us vs : List (ActorId × ℕ)) → r.left ≡ Some us → q.left ≡ Some vs → calls_of us ≡ calls_of vs + 1
 
 left_by : (a : ℕ) (r q : Progress) (us : List (ActorId × ℕ)) (o : Option (List (ActorId × ℕ))) → r.left ≡ Some us → used a us ≡ o → with_left r o ≡ Ok q → Declares a r q
 left_by a r q us None has took e = absurd cc
@@ -124,13 +132,15 @@ left_by a r q us (Some vs) has took e =
       was_left = λ ws e2. (let R : Option (List (ActorId × ℕ)) → Type 0 = λ m. HasLeft m a in subst R (sym has) s.was_left);
       still = λ ws h. (vs, refl);
       statements = refl;
+      undeclared = λ h. absurd cc;
+      spent = λ ws zs h k. (let before_is : ws ≡ us = cc in let after_is : zs ≡ vs = cc in omega (arith, s.fewer, ap calls_of before_is, ap calls_of after_is));
     })
 
 declares_by : (a : ℕ) (r q : Progress) (o : Option (List (ActorId × ℕ))) → r.left ≡ o → by_declaration a r o ≡ Ok q → Declares a r q
 declares_by a r q None has e =
     let same : r ≡ q = cc in
     let P : Progress → Type 0 = λ z. Declares a r z in
-    subst P same (record { calls = refl; actors = refl; left = λ b h. h; was_left = λ us h. absurd cc; still = λ us h. (us, h); statements = refl })
+    subst P same (record { calls = refl; actors = refl; left = λ b h. h; was_left = λ us h. absurd cc; still = λ us h. (us, h); statements = refl; undeclared = λ h. h; spent = λ us vs h k. absurd cc })
 declares_by a r q (Some us) has e = left_by a r q us (used a us) has refl e
 
 -- ---- together
@@ -148,6 +158,8 @@ declared_admits a r x y q c j d =
       was_left = λ us h. subst (L a) (j.left ∙ c.left) (d.was_left us (j.left ∙ c.left ∙ h));
       still = λ us h. d.still us (j.left ∙ c.left ∙ h);
       statements = d.statements ∙ j.statements ∙ c.statements;
+      undeclared = λ h. d.undeclared (j.left ∙ c.left ∙ h);
+      spent = λ us vs h k. d.spent us vs (j.left ∙ c.left ∙ h) k;
     }
 
 by_third : (a : ℕ) (r x q : Progress) (o : Result Progress ℕ) → with_actor a x ≡ o → Counts r x → (o >>= λ y. declared a y) ≡ Ok q → Admits a r q

@@ -4,6 +4,7 @@ pub mod NearLaws
 pub mod FrameLists
 pub mod Askings
 pub mod Admissions
+pub mod SpareFrames
 pub mod Worlds
 pub mod Moving
 pub mod MoveLaws

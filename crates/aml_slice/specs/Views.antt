@@ -1,6 +1,7 @@
 -- Only private contracts cite this; the rule is Slicing.
-use Rattle.std.specs.Prelude.{◌≡◌, ℕ, ◌+◌, ◌<◌, ◌≤◌, ◌⊎◌, ℤ, Result, Ok, Err, List, [], ◌∷◌, length, map, reverse, option_map, vec_capacity}
+use Rattle.std.specs.Prelude.{◌≡◌, ℕ, ◌+◌, ◌<◌, ◌≤◌, ◌⊎◌, ℤ, Result, Ok, Err, Option, Some, None, List, [], ◌∷◌, length, map, reverse, option_map, vec_capacity}
 use Rattle.std.specs.List.{AllByRecursion}
+use Rattle.snap_base.specs.declared.ids.ActorId.{ActorId}
 use Rattle.snap_base.specs.declared.transactions.State.{State}
 use Rattle.snap_base.specs.declared.transactions.TxResult.{TxResult}
 use Rattle.aml_tree.specs.declared.limits.TheConstants.{MOST_NAMES}
@@ -50,14 +51,26 @@ WaitsOn (f ∷ fs) a = (f.actor ≡ a) ⊎ WaitsOn fs a
 
 -- ---- room
 
--- no slice needs memory: all frames that may be open are there, with room for the variables and the place of each; and no
+-- how many calls are left of those that were declared
+abbrev pub calls_of : List (ActorId × ℕ) → ℕ
+calls_of [] = 0
+calls_of (u ∷ us) = u.1 + calls_of us
+
+-- beside so many frames that wait, so many more are enough: as many as may wait in all, or of a PACT as many as calls are left
+-- of those that it declared
+abbrev pub IsEnough : ℕ → ℕ → Option (List (ActorId × ℕ)) → Type 0
+IsEnough waiting spare None = most_waiting ≤ waiting + spare
+IsEnough waiting spare (Some us) = (most_waiting ≤ waiting + spare) ⊎ (calls_of us ≤ spare)
+
+-- no slice needs memory: all frames that may come to be open are there, with room for the variables and the place of each; and no
 -- more calls were made than a transaction may make
 pub record HasRooms (c : Running) : Type 0 where
   pub top : HasRoom c.top.activation
   pub waiting : AllByRecursion (λ (f : code.Frame). HasRoom f.activation) c.waiting.items
   pub spare : AllByRecursion HasRoom c.spare.items
-  pub frames : length c.waiting.items + length c.spare.items ≡ most_waiting
-  pub frames_fit : (most_waiting ≤ vec_capacity c.waiting) × (most_waiting ≤ vec_capacity c.spare)
+  pub frames : IsEnough (length c.waiting.items) (length c.spare.items) (option_map (λ us. us.items) c.allowance.left)
+  pub few : length c.waiting.items ≤ most_waiting
+  pub frames_fit : (length c.waiting.items + length c.spare.items ≤ vec_capacity c.waiting) × (length c.waiting.items + length c.spare.items ≤ vec_capacity c.spare)
   pub arguments : MOST_NAMES ≤ vec_capacity c.arguments
   pub actors : MOST_CALLED_ACTORS ≤ vec_capacity c.allowance.actors
   pub calls : c.allowance.calls ≤ MOST_CALLS

@@ -4,9 +4,10 @@ ghost use Rattle.std.specs.Prelude.{◌≡◌, ◌<◌, ◌==◌, ◌≤◌, ◌
 ghost use Rattle.std.specs.List.{list_any};
 ghost use Rattle.snap_base.specs.declared.transactions.State.{State};
 ghost use Rattle.aml_slice.specs.Controls.{IsLeft, HasLeft};
+ghost use Rattle.aml_slice.specs.Views.{IsEnough};
 ghost use Rattle.aml_check.specs.Meaning.{actor_of, one_call, with_actor, declared, admitted};
 
-use aml_check::{MOST_CALLED_ACTORS, MOST_CALLS};
+use aml_check::{MOST_CALLED_ACTORS, MOST_CALLS, MOST_OPEN_CALLS};
 use aml_values::{Code, NO_ACTOR, TOO_MANY_ACTORS, TOO_MANY_CALLS, UNDECLARED, one_less};
 use snap_base::ActorId;
 
@@ -48,6 +49,20 @@ fn is_left(uses: &[(ActorId, u8)], actor: u16) -> bool
         }
     }
     false
+}
+
+/// The frames that so many calls may open at a time: as many as may wait, or these calls, where they are fewer.
+fn frames_of_calls(uses: &[(ActorId, u8)]) -> usize
+    ensures { IsEnough 0 result (Some uses.now) }
+{
+    let mut calls = 0;
+    for one in uses {
+        calls += one.1 as usize;
+        if calls >= MOST_OPEN_CALLS - 1 {
+            return MOST_OPEN_CALLS - 1;
+        }
+    }
+    calls
 }
 
 impl Allowance {
@@ -131,5 +146,16 @@ impl Allowance {
         ensures { IsTrue result ↔ Contains self.now.actors.items actor }
     {
         is_called(&self.actors, actor)
+    }
+
+    /// The frames beside the one that runs that there may be at a time, where none waits: of a PACT no more than the calls
+    /// that it has left of those that it declared.
+    pub(crate) fn frames_to_come(&self) -> usize
+        ensures { IsEnough 0 result (option_map (λ us. us.items) self.now.left) }
+    {
+        match &self.left {
+            None => MOST_OPEN_CALLS - 1,
+            Some(uses) => frames_of_calls(uses),
+        }
     }
 }

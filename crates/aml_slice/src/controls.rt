@@ -5,9 +5,15 @@ use std::marker::Model;
 
 /// What is left of a transaction, with all the memory that it will need. Contracts see it as the rest of
 /// its transaction: the calls that are open and what of its limits is left.
-#[derive(Drop)]
 pub struct Control {
     running: Running,
+}
+
+// Written out, so that a crate above calls it and does not repeat it.
+impl Drop for Control {
+    fn drop(self) {
+        let Control { running: _running } = self;
+    }
 }
 
 impl Model for Control {

@@ -1,6 +1,6 @@
 //! What is left of a transaction, and the moves from frame to frame.
 
-ghost use Rattle.std.specs.Prelude.{◌≡◌, ◌+◌, ◌<◌, ◌≤◌, ◌∷◌, [], ℕ, length, MatchOption, MatchResult, IfOk, IsTrue, ◌↔◌, vec_capacity};
+ghost use Rattle.std.specs.Prelude.{◌≡◌, ◌+◌, ◌-◌, ◌<◌, ◌≤◌, ◌∷◌, [], ℕ, length, MatchOption, MatchResult, IfOk, IsTrue, ◌↔◌, option_map, vec_capacity};
 ghost use Rattle.aml_check.specs.Checked.{methods_of};
 ghost use Rattle.aml_check.specs.Names.{method_at};
 ghost use Rattle.aml_resume.specs.Places.{IsPlace};
@@ -22,7 +22,8 @@ pub(crate) struct Running {
     pub(crate) top: Frame,
     /// The frames that wait for a value, the root first.
     pub(crate) waiting: Vec<Frame>,
-    /// Room for the frames that are not open: with those that are, as many as calls may be open.
+    /// Room for the frames that may still come to be open: with those that are, as many as calls may be open, or of a PACT
+    /// as many as calls are left of those that it declared, where these are fewer.
     pub(crate) spare: Vec<Activation>,
     /// The values that a call passes on.
     pub(crate) arguments: Vec<i64>,
@@ -46,7 +47,7 @@ fn waits_on(frames: &[Frame], actor: u16) -> bool
 impl Running {
     ghost use Rattle.aml_resume.specs.Pausing.{method_pause, pause_of};
     ghost use Rattle.aml_slice.specs.Controls.{StandsOn, most_waiting};
-    ghost use Rattle.aml_slice.specs.Views.{frame_of, rest_of, Enters, HasPlace, HasRooms, NewFrame, NextFrame, Refuses};
+    ghost use Rattle.aml_slice.specs.Views.{frame_of, rest_of, Enters, HasPlace, HasRooms, IsEnough, NewFrame, NextFrame, Refuses};
 
     /// Runs the frame on its actor's state up to its next call, or to its end.
     pub(crate) fn run(&mut self, program: &Checked, state: &mut State) -> Result<Exit, Code>
@@ -105,6 +106,8 @@ impl Running {
     pub(crate) fn enter(&mut self, actor: u16, method: u16)
         requires rooms { HasRooms self.old }
         requires few { length self.old.waiting.items < most_waiting }
+        requires spare { 1 ≤ length self.old.spare.items }
+        requires enough { IsEnough (length self.old.waiting.items + 1) (length self.old.spare.items - 1) (option_map (λ us. us.items) self.old.allowance.left) }
         ensures entered { NewFrame (rest_of self.old) (rest_of self.new) actor method self.old.arguments.items }
         ensures rooms { HasRooms self.new }
     {

@@ -8,7 +8,7 @@ ghost use Rattle.aml_check.specs.Transactions.{IsTransaction};
 ghost use Rattle.aml_resume.specs.Rooms.{HasRoom};
 ghost use Rattle.aml_tree.specs.Tree.{CheckedMethod};
 ghost use Rattle.snap_base.specs.declared.transactions.State.{State};
-ghost use Rattle.aml_slice.specs.Controls.{fresh, most_waiting, progress_in};
+ghost use Rattle.aml_slice.specs.Controls.{fresh, progress_in};
 ghost use Rattle.aml_slice.specs.Slicing.{started};
 ghost use Rattle.aml_slice.specs.Views.{HasRooms, progress_with, rest_of};
 
@@ -16,7 +16,7 @@ use crate::allowances::Allowance;
 use crate::controls::Control;
 use crate::frames::Frame;
 use crate::running::Running;
-use aml_check::{Checked, MOST_CALLED_ACTORS, MOST_CALLS, MOST_OPEN_CALLS};
+use aml_check::{Checked, MOST_CALLED_ACTORS, MOST_CALLS};
 use aml_resume::Activation;
 use aml_tree::{MOST_LEVELS, MOST_NAMES};
 use snap_base::{ActorId, Kind, Memory, Sequence, Tid, Tx};
@@ -33,13 +33,13 @@ fn room(alloc: Global) -> Result<Activation, Memory>
     })
 }
 
-/// Room for the frames that the root's calls may open.
-fn rooms(alloc: Global) -> Result<Vec<Activation>, Memory>
+/// Room for so many frames.
+fn rooms(alloc: Global, number: usize) -> Result<Vec<Activation>, Memory>
     ensures all { IfOk result (λ rooms. AllByRecursion HasRoom rooms.items) }
-    ensures number { IfOk result (λ rooms. (length rooms.items ≡ most_waiting) × (most_waiting ≤ vec_capacity rooms)) }
+    ensures number { IfOk result (λ rooms. (length rooms.items ≡ number) × (number ≤ vec_capacity rooms)) }
 {
-    let mut rooms = Vec::with_capacity(alloc, MOST_OPEN_CALLS - 1)?;
-    for made in 0..MOST_OPEN_CALLS - 1 {
+    let mut rooms = Vec::with_capacity(alloc, number)?;
+    for made in 0..number {
         rooms.push_reserved(room(alloc)?);
     }
     Ok(rooms)
@@ -100,14 +100,16 @@ fn root(alloc: Global, tid: Tid, tx: &Tx) -> Result<Running, Memory>
         method: tx.method,
         activation: at_beginning(alloc, tx.args.as_slice())?,
     };
+    let allowance = with_root(alloc, tx)?;
+    let frames = allowance.frames_to_come();
     Ok(Running {
         tid,
         top,
-        waiting: Vec::with_capacity(alloc, MOST_OPEN_CALLS - 1)?,
-        spare: rooms(alloc)?,
+        waiting: Vec::with_capacity(alloc, frames)?,
+        spare: rooms(alloc, frames)?,
         arguments: Vec::with_capacity(alloc, MOST_NAMES)?,
         statements: 0,
-        allowance: with_root(alloc, tx)?,
+        allowance,
     })
 }
 

@@ -49,8 +49,7 @@ fn lines_of(alloc: Global, events: &[Event]) -> Result<String, Memory>
 {
     let mut text = String::new(alloc);
     for event in events {
-        let line = print_event(alloc, *event)?;
-        text.push_str(line.as_str())?;
+        print_event(&mut text, *event)?;
     }
     Ok(text)
 }

@@ -1,4 +1,4 @@
-//! Traces as texts: a line for each event, its name and its numbers. `print_event` gives the line of an event,
+//! Traces as texts: a line for each event, its name and its numbers. `print_event` appends the line of an event,
 //! and `parse_trace` the events of a text, or the first line that is none. What a line is stands in
 //! `specs/Lines.antt`, and what a trace is in `specs/Traces.antt`. A run prints its events with this, and who
 //! audits a run reads them.

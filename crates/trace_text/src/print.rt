@@ -5,18 +5,19 @@ use crate::names::text_of;
 use crate::parts::parts_of;
 use core_events::Event;
 use snap_base::Memory;
-use std::alloc::Global;
+use std::fmt::Write;
 
-/// The line of an event, with the line feed that ends it.
-pub fn print_event(alloc: Global, e: Event) -> Result<String, Memory>
-    ensures line { IfOk result (λ s. string_bytes s ≡ event_line e ++ 10 ∷ []) }
+/// Appends the line of an event, with the line feed that ends it. After `Memory` the text may have a front of the line.
+pub fn print_event(text: &mut String, e: Event) -> Result<(), Memory>
+    ensures line { IfOk result (λ _. string_bytes text.new ≡ string_bytes text.old ++ (event_line e ++ 10 ∷ [])) }
     // So the lines that are printed are a trace.
     ensures types { IsEvent e }
 {
     let (name, n, second) = parts_of(e);
     let name = text_of(name);
     match second {
-        None => Ok(format!(in alloc; "{name} {n}\n")?),
-        Some(a) => Ok(format!(in alloc; "{name} {n} {a}\n")?),
+        None => writeln!(text, "{name} {n}")?,
+        Some(a) => writeln!(text, "{name} {n} {a}")?,
     }
+    Ok(())
 }

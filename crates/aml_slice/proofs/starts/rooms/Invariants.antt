@@ -6,6 +6,6 @@ use Rattle.aml_slice.proofs.starts.rooms.Given as goal
 abbrev pub invariant-loop-made : goal.invariant-loop-made
 invariant-loop-made l = record {
   all : AllByRecursion HasRoom l.rooms.items;
-  number : length l.rooms.items ≡ l.made;
-  room : 15 ≤ vec_capacity l.rooms;
+  made : length l.rooms.items ≡ l.made;
+  room : l.number ≤ vec_capacity l.rooms;
 }
