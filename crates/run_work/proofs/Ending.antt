@@ -1,5 +1,5 @@
 -- How a run ends, from how a host ended and what is printed then.
-use Rattle.std.proofs.Common.{◌≡◌, inl, inr, ℕ, ◌≤◌, List, [], ◌++◌, length, refl, sym, subst, arith, Bool, Option}
+use Rattle.std.proofs.Common.{◌≡◌, ◌⊎◌, inl, inr, ℕ, ◌≤◌, List, [], ◌++◌, length, refl, sym, subst, arith, Bool, true, false, Option}
 use Rattle.std.proofs.KnownBytes.{Appends-trans, Appends-kept}
 use Rattle.aml_slice.specs.Controls.{Rest}
 use Rattle.log_opening.specs.declared.refusals.LogsNo.{LogsNo}
@@ -10,8 +10,8 @@ use Rattle.run_outputs.specs.Lines.{replies_text}
 use Rattle.run_recovery.specs.Runs.{machine_of}
 use Rattle.run_recovery.specs.Schedules.{Schedule, seeded, free}
 use Rattle.run_work.proofs.RunDevices.{rose_earlier}
-use Rattle.run_work.specs.Hosts.{PrintsReplies, IsHostEnd}
-use Rattle.run_work.specs.Runs.{Printing, reporting, summing, replies_by, ending_by, unsures_by, PrintsNext, PrintsUnsure, PrintsFailed}
+use Rattle.run_work.specs.Hosts.{IsHostEnd, PrintsReplies, PrintsStopped, PrintsUnlessFailed}
+use Rattle.run_work.specs.Runs.{Printing, reporting, summing, replies_by, ending_by, unsures_by, PrintsNext, PrintsFailed, PrintsUnsure}
 use Rattle.run_work.specs.Untraced.{IsEnding, IsRunEnd, IsToldUnbegun}
 use Rattle.run_work.specs.Writings.{Writing, WritesNothing, Writes, WritesFront, WritesBehind}
 use Rattle.snap_recover.specs.declared.openings.Opening.{Opening}
@@ -51,65 +51,70 @@ next_kept summing w schedule o es a b on nothing next = next
 
 -- ---- how the run ends then
 
--- where a log failed, no line of a reply was cut off
-abbrev pub PrintsWhole : Printing → Work → Opening → List machine.Event → Writing → Stop → Type 0
-PrintsWhole p w o es out stop.Quiet = Unit {0}
-PrintsWhole p w o es out (stop.LogFault log) = Writes out (replies_by p (machine_of w o) es)
-PrintsWhole p w o es out stop.OutFault = Unit {0}
-PrintsWhole p w o es out stop.Memory = Unit {0}
+-- where a log failed: all replies are printed behind which the others are told, or nothing comes behind
+abbrev pub MayTell : Printing → Work → Opening → List machine.Event → Writing → Writing → Stop → Type 0
+MayTell p w o es a b by = (log : ℕ) → by ≡ stop.LogFault log → Writes a (replies_by p (machine_of w o) es) ⊎ WritesNothing b
 
--- so it is with one thread
-pub seeds_print_whole : (p : Printing) (w : Work) (seed : ℕ) (o : Opening) (es : List machine.Event) (out : Writing) (by : Stop) → PrintsReplies p w (seeded seed) o es out by → PrintsWhole p w o es out by
-seeds_print_whole p w seed o es out stop.Quiet printed = tt
-seeds_print_whole p w seed o es out (stop.LogFault log) printed = printed
-seeds_print_whole p w seed o es out stop.OutFault printed = tt
-seeds_print_whole p w seed o es out stop.Memory printed = tt
+-- one thread prints whole replies
+pub solo_tells : (p : Printing) (Left : (ℕ → Bool) → Type 0) (w : Work) (seed : ℕ) (o : Opening) (es : List machine.Event) (a b : Writing) (by : Stop)
+    → IsHostEnd p Left w (seeded seed) o es a by → MayTell p w o es a b by
+solo_tells p Left w seed o es a b by h log is = inl (subst (λ (x : Stop). PrintsReplies p w (seeded seed) o es a x) is h.printed)
 
-told_unsure : (p : Printing) (w : Work) (schedule : Schedule) (log : ℕ) (o : Opening) (es : List machine.Event) (out : Writing) → PrintsUnsure p w log o es out → PrintsFailed p w schedule log o es out
-told_unsure p w (seeded seed) log o es out told = told
-told_unsure p w free log o es out told = inl told
+-- several workers too, unless the output failed, and then nothing comes behind
+pub crew_tells : (w : Work) (o : Opening) (es : List machine.Event) (a b : Writing) (by : Stop) (failed : Bool) → PrintsUnlessFailed failed w o es a
+    → (failed ≡ true → (log : ℕ) → by ≡ stop.LogFault log → WritesNothing b) → MayTell reporting w o es a b by
+crew_tells w o es a b by true whole silent log is = inr (silent refl log is)
+crew_tells w o es a b by false whole silent log is = inl (whole refl)
 
-module _ (p : Printing) (Left : (ℕ → Bool) → Type 0) (w : Work) (schedule : Schedule) (o : Opening) (es : List machine.Event) where
-  abbrev End : Writing → Status → Type 0
-  End out s = IsRunEnd p Left w schedule o es out s
+module _ (p : Printing) (Left : (ℕ → Bool) → Type 0) (w : Work) (o : Opening) (es : List machine.Event) where
+  abbrev End : Schedule → Writing → Status → Type 0
+  End schedule out s = IsRunEnd p Left w schedule o es out s
 
-  ended_quiet : (a b : Writing) (s : Status) → GoesOn a b → b.faults_before ≤ b.faults_after → IsHostEnd p Left w schedule o es a stop.Quiet
-      → IsEnding p (machine_of w o) es (length w.txs) stop.Quiet b s → End (joined a b) s
-  ended_quiet a b s on later h (inl done) =
-      subst (λ (t : Status). End (joined a b) t) (sym done.0)
+  unsure : (log : ℕ) (a b : Writing) → GoesOn a b → Writes a (replies_by p (machine_of w o) es) → WritesFront b (unsures_by p log es (length w.txs)) → PrintsUnsure p w log o es (joined a b)
+  unsure log a b on whole front = and_front a b (replies_by p (machine_of w o) es) (unsures_by p log es (length w.txs)) on whole front
+
+  told : (schedule : Schedule) (log : ℕ) (a b : Writing) → GoesOn a b → b.faults_before ≤ b.faults_after → PrintsStopped p w schedule o es a
+      → Writes a (replies_by p (machine_of w o) es) ⊎ WritesNothing b → WritesFront b (unsures_by p log es (length w.txs)) → PrintsFailed p w schedule log o es (joined a b)
+  told (seeded seed) log a b on later printed may front = unsure log a b on printed front
+  told free log a b on later (inl whole) may front = inl (unsure log a b on whole front)
+  told free log a b on later (inr cut) (inl whole) front = inl (unsure log a b on whole front)
+  told free log a b on later (inr cut) (inr nothing) front =
+      inr (rose_earlier a.faults_before a.faults_before a.faults_after b.faults_after (omega arith) (omega (arith, later, on.1)) cut.0, next_kept p w free o es a b on nothing cut.1)
+
+  ended_quiet : (schedule : Schedule) (a b : Writing) (s : Status) → GoesOn a b → b.faults_before ≤ b.faults_after → IsHostEnd p Left w schedule o es a stop.Quiet
+      → IsEnding p (machine_of w o) es (length w.txs) stop.Quiet b s → End schedule (joined a b) s
+  ended_quiet schedule a b s on later h (inl done) =
+      subst (λ (t : Status). End schedule (joined a b) t) (sym done.0)
       (h.why.0, h.why.1, both a b (replies_by p (machine_of w o) es) (ending_by p (machine_of w o) es) on h.printed done.1)
-  ended_quiet a b s on later h (inr (front, inl is)) =
-      subst (λ (t : Status). End (joined a b) t) (sym is)
+  ended_quiet schedule a b s on later h (inr (front, inl is)) =
+      subst (λ (t : Status). End schedule (joined a b) t) (sym is)
       (h.why.0, inr (h.why.1, and_front a b (replies_by p (machine_of w o) es) (ending_by p (machine_of w o) es) on h.printed front))
-  ended_quiet a b s on later h (inr (front, inr is)) =
-      subst (λ (t : Status). End (joined a b) t) (sym is.0) (
+  ended_quiet schedule a b s on later h (inr (front, inr is)) =
+      subst (λ (t : Status). End schedule (joined a b) t) (sym is.0) (
         h.why.0,
         rose_earlier a.faults_before b.faults_before b.faults_after b.faults_after (omega (arith, h.later, on.1)) (omega arith) is.1,
         inr (h.why.1, and_front a b (replies_by p (machine_of w o) es) (ending_by p (machine_of w o) es) on h.printed front),
       )
 
-  ended : (a b : Writing) (why : Stop) (s : Status) → GoesOn a b → b.faults_before ≤ b.faults_after → IsHostEnd p Left w schedule o es a why → PrintsWhole p w o es a why
-      → IsEnding p (machine_of w o) es (length w.txs) why b s → End (joined a b) s
-  ended a b stop.Quiet s on later h whole ending = ended_quiet a b s on later h ending
-  ended a b (stop.LogFault l) s on later h whole ending =
-      subst (λ (t : Status). End (joined a b) t) (sym ending.0) (
-        h.why,
-        told_unsure p w schedule l o es (joined a b) (and_front a b (replies_by p (machine_of w o) es) (unsures_by p l es (length w.txs)) on whole ending.1),
-      )
-  ended a b stop.OutFault s on later h whole ending =
-      subst (λ (t : Status). End (joined a b) t) (sym ending.0) (
+  ended : (schedule : Schedule) (a b : Writing) (why : Stop) (s : Status) → GoesOn a b → b.faults_before ≤ b.faults_after → IsHostEnd p Left w schedule o es a why
+      → MayTell p w o es a b why → IsEnding p (machine_of w o) es (length w.txs) why b s → End schedule (joined a b) s
+  ended schedule a b stop.Quiet s on later h may ending = ended_quiet schedule a b s on later h ending
+  ended schedule a b (stop.LogFault l) s on later h may ending =
+      subst (λ (t : Status). End schedule (joined a b) t) (sym ending.0) (h.why, told schedule l a b on later h.printed (may l refl) ending.1)
+  ended schedule a b stop.OutFault s on later h may ending =
+      subst (λ (t : Status). End schedule (joined a b) t) (sym ending.0) (
         h.why.0,
         rose_earlier a.faults_before a.faults_before a.faults_after b.faults_after (omega arith) (omega (arith, later, on.1)) h.why.1,
         inl (next_kept p w schedule o es a b on ending.1 h.printed),
       )
-  ended a b stop.Memory s on later h whole ending =
-      subst (λ (t : Status). End (joined a b) t) (sym ending.0)
+  ended schedule a b stop.Memory s on later h may ending =
+      subst (λ (t : Status). End schedule (joined a b) t) (sym ending.0)
       (h.why, inl (and_nothing a b (replies_by p (machine_of w o) es) on h.printed ending.1))
 
-  pub ended_so : (a b : Writing) (by : Stop) (s : Status) (m : Fixed Rest) (fs : List machine.Event) (count : ℕ) → m ≡ machine_of w o → fs ≡ es → count ≡ length w.txs
-      → GoesOn a b → b.faults_before ≤ b.faults_after → IsHostEnd p Left w schedule o es a by → PrintsWhole p w o es a by → IsEnding p m fs count by b s → End (joined a b) s
-  ended_so a b by s m fs count same taken many on later h whole ending =
-      ended a b by s on later h whole
+  pub ended_so : (schedule : Schedule) (a b : Writing) (by : Stop) (s : Status) (m : Fixed Rest) (fs : List machine.Event) (count : ℕ) → m ≡ machine_of w o → fs ≡ es → count ≡ length w.txs
+      → GoesOn a b → b.faults_before ≤ b.faults_after → IsHostEnd p Left w schedule o es a by → MayTell p w o es a b by → IsEnding p m fs count by b s → End schedule (joined a b) s
+  ended_so schedule a b by s m fs count same taken many on later h may ending =
+      ended schedule a b by s on later h may
       (subst (λ (x : Fixed Rest). IsEnding p x es (length w.txs) by b s) same
       (subst (λ (x : List machine.Event). IsEnding p m x (length w.txs) by b s) taken (subst (λ (n : ℕ). IsEnding p m fs n by b s) many ending)))
 

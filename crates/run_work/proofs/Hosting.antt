@@ -1,19 +1,21 @@
 -- What a host promises of what it took, in the words of a run.
-use Rattle.std.proofs.Common.{◌≡◌, ℕ, zero, suc, ◌<◌, ◌≤◌, Bool, true, false, List, [], ◌∷◌, length, append-nil, refl, sym, subst, arith, Option, Some, None}
+use Rattle.std.proofs.Common.{◌≡◌, ℕ, zero, suc, ◌<◌, ◌≤◌, Bool, true, false, List, [], ◌∷◌, length, append-nil, refl, sym, subst, arith, Option, Some, None, inl, Result, Ok, Err}
 use Rattle.std.proofs.lemmas.Bool.{eqb-true, true≢false}
 use Rattle.std.proofs.KnownBytes.{Appends-nil, Appends-kept}
-use Rattle.std.specs.Prelude.{IfSome}
+use Rattle.std.specs.Prelude.{IfSome, IfOk, IfErr, OnErr}
 use Rattle.std.specs.List.{AllByRecursion}
 use Rattle.aml_slice.specs.Controls.{Rest}
 use Rattle.gate_log.specs.State.{LogState}
+use Rattle.log_opening.specs.declared.refusals.LogsNo.{LogsNo}
 use Rattle.protocol.specs.Events as machine
 use Rattle.protocol.specs.Fixed.{Fixed}
 use Rattle.protocol_schedule.specs.Draw.{IsFrontOfSeed}
 use Rattle.record_log.specs.Growth.{GrewBy}
 use Rattle.run_outputs.specs.Groups.{groups_of, group_behind}
 use Rattle.run_recovery.specs.Runs.{machine_of, no_log, one_log, tried_on}
-use Rattle.run_recovery.specs.Schedules.{Schedule, seeded, free}
-use Rattle.run_work.specs.Hosts.{HasDriven, LeftFailed, IsStopOf, PrintsReplies, IsHostEnd, IsCoreOf}
+use Rattle.run_recovery.specs.Schedules.{Schedule, seeded, free, IsTakenBy}
+use Rattle.run_work.specs.declared.hosts.Hosted.{Hosted}
+use Rattle.run_work.specs.Hosts.{HasDriven, LeftFailed, IsStopOf, PrintsStopped, PrintsReplies, IsHostEnd, IsCoreOf}
 use Rattle.run_work.specs.Runs.{Printing, reporting, summing}
 use Rattle.run_work.specs.Writings.{Writing, WritesNothing, Writes}
 use Rattle.snap_core.specs.Cores.{CoreState, IsAt}
@@ -106,16 +108,20 @@ nothing_grew l quiet = record {
 pub nothing_written : (out : Writing) → WritesNothing out → Writes out []
 nothing_written out nothing = Appends-kept out.taken_before out.taken_before out.taken_after [] (Appends-nil out.taken_before) nothing
 
-shut_at : (logs : List LogState) (n : ℕ) → n < length logs → AllByRecursion (λ (l : LogState). l.shut ≡ false) logs → (host.log_at logs n).shut ≡ false
+pub shut_at : (logs : List LogState) (n : ℕ) → n < length logs → AllByRecursion (λ (l : LogState). l.shut ≡ false) logs → (host.log_at logs n).shut ≡ false
 shut_at [] n lt all = absurd (omega (arith, lt))
 shut_at (l ∷ logs) zero lt all = all.0
 shut_at (l ∷ logs) (suc n) lt all = shut_at logs n (omega (arith, lt)) all.1
 
+none_taken : (m : Fixed Rest) (schedule : Schedule) → IsTakenBy m schedule []
+none_taken m (seeded seed) = tt
+none_taken m free = tt
+
 -- there was no memory for a core
-pub no_core : (w : Work) (seed : ℕ) (o : Opening) (logs : List LogState) (out : Writing) → AllByRecursion (λ (l : LogState). l.shut ≡ false) logs → WritesNothing out
-    → out.faults_before ≤ out.faults_after → IsHostEnd reporting (HasDriven w (seeded seed) o [] logs logs) w (seeded seed) o [] out stop.Memory
-no_core w seed o logs out ready nothing later = record {
-  why = record { front = tt; as_many = refl; each = λ l lt. nothing_grew (host.log_at logs l) (shut_at logs l lt ready); rose = λ l is. absurd (true≢false (sym is)) };
+pub no_core : (w : Work) (schedule : Schedule) (o : Opening) (logs : List LogState) (out : Writing) → AllByRecursion (λ (l : LogState). l.shut ≡ false) logs → WritesNothing out
+    → out.faults_before ≤ out.faults_after → IsHostEnd reporting (HasDriven w schedule o [] logs logs) w schedule o [] out stop.Memory
+no_core w schedule o logs out ready nothing later = record {
+  why = record { front = none_taken (machine_of w o) schedule; as_many = refl; each = λ l lt. nothing_grew (host.log_at logs l) (shut_at logs l lt ready); rose = λ l is. absurd (true≢false (sym is)) };
   printed = nothing_written out nothing;
   later = later;
 }
@@ -137,16 +143,31 @@ module _ (P Q : (ℕ → Bool) → Type 0) (then : (failed : ℕ → Bool) → P
   pub left_as : (p : Printing) (schedule : Schedule) (out : Writing) (by : Stop) → IsHostEnd p P w schedule o es out by → IsHostEnd p Q w schedule o es out by
   left_as p schedule out by h = record { why = stop_as schedule out by h.why; printed = h.printed; later = h.later }
 
+nothing_stopped : (w : Work) (schedule : Schedule) (o : Opening) (es : List machine.Event) (out : Writing) → Writes out [] → PrintsStopped summing w schedule o es out
+nothing_stopped w (seeded seed) o es out nothing = nothing
+nothing_stopped w free o es out nothing = inl nothing
+
 -- the replies went where nothing fails, and nothing was printed
-pub unheard : (Left : (ℕ → Bool) → Type 0) (w : Work) (seed : ℕ) (o : Opening) (es : List machine.Event) (replies out : Writing) (by : Stop)
+pub unheard : (Left : (ℕ → Bool) → Type 0) (w : Work) (schedule : Schedule) (o : Opening) (es : List machine.Event) (replies out : Writing) (by : Stop)
     → ¬ Rose replies.faults_before replies.faults_after → Writes out [] → out.faults_before ≤ out.faults_after
-    → IsHostEnd reporting Left w (seeded seed) o es replies by → IsHostEnd summing Left w (seeded seed) o es out by
-unheard Left w seed o es replies out stop.Quiet quiet nothing later h = record { why = h.why; printed = nothing; later = later }
-unheard Left w seed o es replies out (stop.LogFault k) quiet nothing later h = record { why = h.why; printed = nothing; later = later }
-unheard Left w seed o es replies out stop.OutFault quiet nothing later h = absurd (quiet h.why.1)
-unheard Left w seed o es replies out stop.Memory quiet nothing later h = record { why = h.why; printed = nothing; later = later }
+    → IsHostEnd reporting Left w schedule o es replies by → IsHostEnd summing Left w schedule o es out by
+unheard Left w schedule o es replies out stop.Quiet quiet nothing later h = record { why = h.why; printed = nothing; later = later }
+unheard Left w schedule o es replies out (stop.LogFault k) quiet nothing later h = record { why = h.why; printed = nothing_stopped w schedule o es out nothing; later = later }
+unheard Left w schedule o es replies out stop.OutFault quiet nothing later h = absurd (quiet h.why.1)
+unheard Left w schedule o es replies out stop.Memory quiet nothing later h = record { why = h.why; printed = nothing; later = later }
 
 -- a core that has come to the events is there where there is one
 pub core_at : (m : Fixed Rest) (es : List machine.Event) (by : Stop) (core : Option CoreState) → IsCoreOf m es by core → IfSome core (λ c. IsAt c es)
 core_at m es by None is = tt
 core_at m es by (Some core) is = is.1
+
+-- ---- what is said of a host that returned, or of why none began
+
+pub of_hosted : (P : Hosted → Type 0) (r : Result Hosted LogsNo) (h : Hosted) → r ≡ Ok h → IfOk r P → P h
+of_hosted P r h is holds = subst (λ (x : Result Hosted LogsNo). IfOk x P) is holds
+
+pub of_unbegun : (P : LogsNo → Type 0) (r : Result Hosted LogsNo) (why : LogsNo) → r ≡ Err why → IfErr r P → P why
+of_unbegun P r why is holds = subst (λ (x : Result Hosted LogsNo). IfErr x P) is holds
+
+pub on_unbegun : (P : Type 0) (r : Result Hosted LogsNo) (why : LogsNo) → r ≡ Err why → OnErr r P → P
+on_unbegun P r why is holds = subst (λ (x : Result Hosted LogsNo). OnErr x P) is holds

@@ -1,6 +1,6 @@
 -- Only private contracts cite this; the answers are Runs.antt.
 -- What a host makes of a work, wherever its replies go: on open logs, and on all devices.
-use Rattle.std.specs.Prelude.{◌≡◌, ℕ, ◌<◌, ◌≤◌, ◌⊎◌, Bool, true, Option, None, Some, List, length}
+use Rattle.std.specs.Prelude.{◌≡◌, ℕ, ◌<◌, ◌≤◌, ◌⊎◌, Bool, true, false, Option, None, Some, List, length}
 use Rattle.aml_slice.specs.Controls.{Rest}
 use Rattle.gate_log.specs.State.{LogState}
 use Rattle.log_opening.specs.declared.refusals.LogsNo.{LogsNo}
@@ -91,6 +91,20 @@ pub record IsHosted (w : Work) (schedule : Schedule) (before after : List Device
   pub opening : Opening
   pub ends : IsHostEnd reporting (HasLeft w schedule opening (meant h.kept.items) before after) w schedule opening (meant h.kept.items) replies h.stop
   pub core : IsCoreOf (machine_of w opening) (meant h.kept.items) h.stop h.core
+
+-- where the output of several workers has not failed, all of its replies are printed
+abbrev pub PrintsUnlessFailed : Bool → Work → Opening → List machine.Event → Writing → Type 0
+PrintsUnlessFailed failed w o es out = failed ≡ false → Writes out (replies_by reporting (machine_of w o) es)
+
+-- on open logs, by several workers
+pub record IsCrewHostedOn (w : Work) (o : Opening) (old new : List LogState) (replies : Writing) (failed : Bool) (h : Hosted) : Type 0 where
+  pub hosted : IsHostedOn w free o old new replies h
+  pub whole : PrintsUnlessFailed failed w o (meant h.kept.items) replies
+
+-- on all devices, by several workers
+pub record IsCrewHosted (w : Work) (before after : List Device) (replies : Writing) (failed : Bool) (h : Hosted) : Type 0 where
+  pub hosted : IsHosted w free before after replies h
+  pub whole : PrintsUnlessFailed failed w hosted.opening (meant h.kept.items) replies
 
 -- No run began, for this reason, and a crash at any moment loses no record. Where the logs hold records on which a run begins,
 -- and none fails, it is want of memory.

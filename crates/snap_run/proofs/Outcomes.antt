@@ -1,8 +1,5 @@
 -- What the top call promises, from what a run and the other command promise.
-use Rattle.std.proofs.Common.{◌≡◌, inl, inr, ℕ, List, [], ◌∷◌, Option, None, Some, IfSome, get_or, refl, sym, ap, ◌∙◌, subst, arith}
-use Rattle.std.specs.Prelude.{codes}
-use Rattle.std.specs.Fmt.{decimal}
-use Rattle.std.proofs.lemmas.Fmt.{decimal_injective}
+use Rattle.std.proofs.Common.{◌≡◌, ◌<◌, ◌≤◌, inl, inr, ℕ, zero, suc, List, [], Option, None, Some, IfSome, refl, sym, ap, ◌∙◌, subst, arith}
 use Rattle.std.specs.List.{AllZip}
 use Rattle.snap_report.specs.declared.statuses.Status.{Status}
 use Rattle.snap_report.specs.declared.statuses.Status.TheVariants as status
@@ -11,53 +8,81 @@ use Rattle.work_text.specs.Reads.{IsWork}
 use Rattle.record_log.specs.Records.{KeepsRecords}
 use Rattle.log_opening.specs.Devices.{Device, IsOpenedAtMost}
 use Rattle.run_opening.specs.Opens.{MayOpen}
-use Rattle.run_recovery.specs.Schedules.{seeded}
+use Rattle.run_recovery.specs.Schedules.{free}
 use Rattle.run_work.specs.Runs.{Printing, Ran, IsAnswerOf, IsWorkAnswer, IsOfLogs}
 use Rattle.run_work.specs.Writings.{Writing, WritesNothing}
 use Rattle.snap_recover.specs.declared.openings.Opening.{Opening}
-use Rattle.snap_run.proofs.Names.{heads, run_recover, run_gen, recover_gen, run_bench, recover_bench, gen_bench}
-use Rattle.snap_run.specs.Words.{IsRun, IsRecover, IsGen, IsBench, IsUsageFault}
+use Rattle.command_words.specs.declared.commands.Command.{Command}
+use Rattle.command_words.specs.declared.commands.Command.TheVariants.{Run, Recover, Gen, Bench}
+use Rattle.command_words.specs.CommandLaws.{OneCommand}
+use Rattle.command_words.specs.Commands.{IsCommand}
+use Rattle.command_words.specs.Words.{AreLastWorkers, IsRun, IsRecover, IsGen, IsBench, IsForm, IsUsageFault}
+use Rattle.command_words.specs.Workers.{workers_in, AskFor}
 use Rattle.snap_run.specs.Uses.{Reading, Use}
 use Rattle.snap_run.specs.Recoveries.{IsRecoverAnswer}
-use Rattle.snap_run.specs.Answers.{OfText, ran_of, ReadsNothing, IsInputAnswer, TouchesNothing, TakesNoEvent, IsGenAnswer, IsMeasured, GetsNoCall, IsUntroubled, MayBeMeasured}
+use Rattle.snap_run.specs.Answers.{OfText, schedule_of, ran_of, ReadsNothing, IsInputAnswer, TouchesNothing, TakesNoEvent, IsGenAnswer, IsMeasured, GetsNoCall, IsUntroubled, MayBeMeasured}
 use Rattle.work_gen.specs.Generated.{generated_text}
 use Rattle.snap_run.specs.Outcomes.{IsOutcome}
 use Rattle.txn_records.specs.declared.records.Record.{Record}
 
--- the first word of a list is one word
-same_first : (words : List (List ℕ)) (x y : List ℕ) (xs ys : List (List ℕ)) → words ≡ x ∷ xs → words ≡ y ∷ ys → x ≡ y
-same_first words x y xs ys a b = heads x y xs ys (sym a ∙ b)
+-- ---- the words ask for one thing
 
--- the commands have different names
-pub not_both : (words : List (List ℕ)) (seed : ℕ) → IsRun words seed → IsRecover words → ⊥
-not_both words seed (inl run) recover = run_recover (same_first words _ _ _ _ run.0 recover)
-not_both words seed (inr run) recover = run_recover (same_first words _ _ _ _ run.0 recover)
+pub not_both : OneCommand → (words : List (List ℕ)) (n seed : ℕ) → IsRun words n seed → IsRecover words → ⊥
+not_both one words n seed run recover = let e : Run n seed ≡ Recover = one words (Run n seed) Recover run recover in cc
 
-pub run_not_gen : (words : List (List ℕ)) (seed count last : ℕ) → IsRun words seed → IsGen words count last → ⊥
-run_not_gen words seed count last (inl run) gen = run_gen (same_first words _ _ _ _ run.0 gen.0)
-run_not_gen words seed count last (inr run) gen = run_gen (same_first words _ _ _ _ run.0 gen.0)
+pub run_not_gen : OneCommand → (words : List (List ℕ)) (n seed count last : ℕ) → IsRun words n seed → IsGen words count last → ⊥
+run_not_gen one words n seed count last run gen = let e : Run n seed ≡ Gen count last = one words (Run n seed) (Gen count last) run gen in cc
 
-pub recover_not_gen : (words : List (List ℕ)) (count last : ℕ) → IsRecover words → IsGen words count last → ⊥
-recover_not_gen words count last recover gen = recover_gen (same_first words _ _ _ _ recover gen.0)
+pub recover_not_gen : OneCommand → (words : List (List ℕ)) (count last : ℕ) → IsRecover words → IsGen words count last → ⊥
+recover_not_gen one words count last recover gen = let e : Recover ≡ Gen count last = one words Recover (Gen count last) recover gen in cc
 
-pub run_not_bench : (words : List (List ℕ)) (seed count last : ℕ) → IsRun words seed → IsBench words count last → ⊥
-run_not_bench words seed count last (inl run) bench = run_bench (same_first words _ _ _ _ run.0 bench.0)
-run_not_bench words seed count last (inr run) bench = run_bench (same_first words _ _ _ _ run.0 bench.0)
+pub run_not_bench : OneCommand → (words : List (List ℕ)) (n seed count last m : ℕ) → IsRun words n seed → IsBench words count last m → ⊥
+run_not_bench one words n seed count last m run bench = let e : Run n seed ≡ Bench count last m = one words (Run n seed) (Bench count last m) run bench in cc
 
-pub recover_not_bench : (words : List (List ℕ)) (count last : ℕ) → IsRecover words → IsBench words count last → ⊥
-recover_not_bench words count last recover bench = recover_bench (same_first words _ _ _ _ recover bench.0)
+pub recover_not_bench : OneCommand → (words : List (List ℕ)) (count last m : ℕ) → IsRecover words → IsBench words count last m → ⊥
+recover_not_bench one words count last m recover bench = let e : Recover ≡ Bench count last m = one words Recover (Bench count last m) recover bench in cc
 
-pub gen_not_bench : (words : List (List ℕ)) (count seed other last : ℕ) → IsGen words count seed → IsBench words other last → ⊥
-gen_not_bench words count seed other last gen bench = gen_bench (same_first words _ _ _ _ gen.0 bench.0)
+pub gen_not_bench : OneCommand → (words : List (List ℕ)) (count seed other last m : ℕ) → IsGen words count seed → IsBench words other last m → ⊥
+gen_not_bench one words count seed other last m gen bench = let e : Gen count seed ≡ Bench other last m = one words (Gen count seed) (Bench other last m) gen bench in cc
+
+-- a command is a form
+form_of : (words : List (List ℕ)) (c : Command) → IsCommand words c → IsForm words
+form_of words (Run n seed) is = inl (n, seed, is)
+form_of words Recover is = inr (inl is)
+form_of words (Gen count seed) is = inr (inr (inl (count, seed, is)))
+form_of words (Bench count seed n) is = inr (inr (inr (count, seed, n, is)))
+
+-- the command that they are says how many workers they ask for
+pub asked : OneCommand → (words : List (List ℕ)) (n : ℕ) (c : Command) → AskFor words n → IsCommand words c → workers_in c ≡ n
+asked one words n c (inl x) is = ap (λ (k : Command). workers_in k) (one words c x.0 is x.1) ∙ sym x.2
+asked one words n c (inr x) is = absurd (x.0 (form_of words c is))
+
+-- words ask for one number of workers
+pub ask_once : OneCommand → (words : List (List ℕ)) (n m : ℕ) → AskFor words n → AskFor words m → n ≡ m
+ask_once one words n m (inl x) b = x.2 ∙ asked one words m x.0 b x.1
+ask_once one words n m (inr x) (inl y) = absurd (x.0 (form_of words y.0 y.1))
+ask_once one words n m (inr x) (inr y) = x.1 ∙ sym y.1
+
+-- a command of words that ask for workers asks for some
+pub some_asked : (words : List (List ℕ)) (c : Command) → ¬ AskFor words 0 → IsCommand words c → 0 < workers_in c
+some_asked words c crew is = some (workers_in c) refl
+  where
+    some : (n : ℕ) → n ≡ workers_in c → 0 < n
+    some zero e = absurd (crew (inl (c, is, e)))
+    some (suc n) e = omega arith
+
+pub few_workers : (last : List (List ℕ)) (n : ℕ) → AreLastWorkers last n → n ≤ 8
+few_workers last n (inl none) = omega (arith, none.1)
+few_workers last n (inr said) = said.1
 
 -- ---- the input is refused
 
 -- the run ended before its logs got a call
-pub input_outcome : (u : Use) (seed : ℕ) (s : Status) → IsRun u.words seed → TouchesNothing u → IsInputAnswer u.reading s → IsOutcome u s
-input_outcome u seed s run nothing a = record {
-  answer = inl (seed, run, inl (a, nothing));
-  opened = λ recover. absurd (not_both u.words seed run recover);
-  kept = λ recover. absurd (not_both u.words seed run recover);
+pub input_outcome : OneCommand → (u : Use) (n seed : ℕ) (s : Status) → IsRun u.words n seed → TouchesNothing u → IsInputAnswer u.reading s → IsOutcome u s
+input_outcome one u n seed s run nothing a = record {
+  answer = inl (n, seed, run, inl (a, nothing));
+  opened = λ recover. absurd (not_both one u.words n seed run recover);
+  kept = λ recover. absurd (not_both one u.words n seed run recover);
 }
 
 pub input_not_of_logs : (r : Reading) (s : Status) → IsInputAnswer r s → ¬ IsOfLogs s
@@ -84,12 +109,18 @@ of_text_then r w P of p = (of.0, known r.left_before of.1)
     known None h = tt
     known (Some text) h = (h.0, h.1, subst P (sym h.2) p)
 
-pub run_outcome : (u : Use) (seed : ℕ) (w : Work) (s : Status) → IsRun u.words seed → OfText u.reading (λ v. v ≡ w) → IsWorkAnswer (ran_of u w (seeded seed)) s → IsOutcome u s
-run_outcome u seed w s run of a = record {
-  answer = inl (seed, run, inr (of_text_then u.reading w (λ v. IsWorkAnswer (ran_of u v (seeded seed)) s) of a));
-  opened = λ recover. absurd (not_both u.words seed run recover);
-  kept = λ recover. absurd (not_both u.words seed run recover);
+pub run_outcome : OneCommand → (u : Use) (n seed : ℕ) (w : Work) (s : Status) → IsRun u.words n seed → OfText u.reading (λ v. v ≡ w)
+    → IsWorkAnswer (ran_of u w (schedule_of n seed)) s → IsOutcome u s
+run_outcome one u n seed w s run of a = record {
+  answer = inl (n, seed, run, inr (of_text_then u.reading w (λ v. IsWorkAnswer (ran_of u v (schedule_of n seed)) s) of a));
+  opened = λ recover. absurd (not_both one u.words n seed run recover);
+  kept = λ recover. absurd (not_both one u.words n seed run recover);
 }
+
+-- several workers take any schedule
+pub by_crew : (n seed : ℕ) → 0 < n → schedule_of n seed ≡ free
+by_crew zero seed some = absurd (omega (arith, some))
+by_crew (suc n) seed some = refl
 
 -- a text that is known stands for the work that is run
 same_work : OneWork → (r : Reading) (text : List ℕ) (v w : Work) → OfText r (λ x. x ≡ w) → r.left_before ≡ Some text → IsWork text v → v ≡ w
@@ -144,26 +175,26 @@ usage_outcome u place fault reads nothing = record {
   kept = λ recover. absurd (fault.no_form (inr (inl recover)));
 }
 
-pub gen_outcome : (u : Use) (count seed : ℕ) (s : Status) → IsGen u.words count seed → ReadsNothing u.reading → TakesNoEvent u → IsGenAnswer (generated_text count seed) u.writing s → IsOutcome u s
-gen_outcome u count seed s gen reads nothing a = record {
+pub gen_outcome : OneCommand → (u : Use) (count seed : ℕ) (s : Status) → IsGen u.words count seed → ReadsNothing u.reading → TakesNoEvent u → IsGenAnswer (generated_text count seed) u.writing s → IsOutcome u s
+gen_outcome one u count seed s gen reads nothing a = record {
   answer = inr (inr (inl (count, seed, gen, reads, nothing, a)));
-  opened = λ recover. absurd (recover_not_gen u.words count seed recover gen);
-  kept = λ recover. absurd (recover_not_gen u.words count seed recover gen);
+  opened = λ recover. absurd (recover_not_gen one u.words count seed recover gen);
+  kept = λ recover. absurd (recover_not_gen one u.words count seed recover gen);
 }
 
-pub bench_outcome : (u : Use) (count seed : ℕ) (s : Status) → IsBench u.words count seed → ReadsNothing u.reading → IsMeasured u count seed s → IsOutcome u s
-bench_outcome u count seed s bench reads a = record {
-  answer = inr (inr (inr (inl (count, seed, bench, reads, a))));
-  opened = λ recover. absurd (recover_not_bench u.words count seed recover bench);
-  kept = λ recover. absurd (recover_not_bench u.words count seed recover bench);
+pub bench_outcome : OneCommand → (u : Use) (count seed n : ℕ) (s : Status) → IsBench u.words count seed n → ReadsNothing u.reading → IsMeasured u (schedule_of n 0) count seed s
+    → IsOutcome u s
+bench_outcome one u count seed n s bench reads a = record {
+  answer = inr (inr (inr (inl (count, seed, n, bench, reads, a))));
+  opened = λ recover. absurd (recover_not_bench one u.words count seed n recover bench);
+  kept = λ recover. absurd (recover_not_bench one u.words count seed n recover bench);
 }
 
 -- the words tell one count and one seed
-pub same_measure : (u : Use) (words : List (List ℕ)) (count seed own last : ℕ) (w : Work) (records : List (List Record)) (o : Opening)
-    → IsBench words count seed → IsBench words own last → MayBeMeasured u count seed w records o → MayBeMeasured u own last w records o
-same_measure u words count seed own last w records o a b may =
-    let same : codes "bench" ∷ decimal count ∷ decimal seed ∷ [] ≡ codes "bench" ∷ decimal own ∷ decimal last ∷ [] = sym a.0 ∙ b.0 in
-    let counts : decimal count ≡ decimal own = ap (λ (l : List (List ℕ)). get_or l 1 []) same in
-    let seeds : decimal seed ≡ decimal last = ap (λ (l : List (List ℕ)). get_or l 2 []) same in
-    subst (λ (n : ℕ). MayBeMeasured u n last w records o) (decimal_injective count own (omega (arith, a.1)) (omega (arith, b.1)) counts)
-    (subst (λ (n : ℕ). MayBeMeasured u count n w records o) (decimal_injective seed last (omega (arith, a.2)) (omega (arith, b.2)) seeds) may)
+pub same_measure : OneCommand → (u : Use) (words : List (List ℕ)) (count seed n own last m : ℕ) (w : Work) (records : List (List Record)) (o : Opening)
+    → IsBench words count seed n → IsBench words own last m → MayBeMeasured u count seed w records o → MayBeMeasured u own last w records o
+same_measure one u words count seed n own last m w records o a b may =
+    let same : Bench count seed n ≡ Bench own last m = one words (Bench count seed n) (Bench own last m) a b in
+    let counts : count ≡ own = cc in
+    let seeds : seed ≡ last = cc in
+    subst (λ (k : ℕ). MayBeMeasured u k last w records o) counts (subst (λ (k : ℕ). MayBeMeasured u count k w records o) seeds may)

@@ -2,6 +2,7 @@
 use Rattle.std.proofs.Common.{◌≡◌, ◌≢◌, ◌⊎◌, inl, inr, ℕ, ◌<◌, zero, suc, List, [], ◌∷◌, length, take, get_or, refl, sym, ◌∙◌, ap, subst, arith}
 use Rattle.std.specs.Prelude.{IfSome}
 use Rattle.std.specs.List.{AllZip}
+use Rattle.command_words.specs.CommandLaws.{OneCommand}
 use Rattle.snap_outside.specs.Disk.{content}
 use Rattle.gate_log.specs.declared.opens.OpenNo.TheVariants as refusal
 use Rattle.gate_log.specs.Opened.{Opened, Refused}
@@ -79,7 +80,7 @@ holds_first (suc n) (b ∷ bs) (x ∷ xs) others first is all = let same : x ≡
 
 -- ---- as many logs as log 0 says
 
-module _ (laws : RecordLaws) (never : NeverBoth) (u : Use) (logs : List (List Record)) (may : IsRecoverable u logs) where
+module _ (one : OneCommand) (laws : RecordLaws) (never : NeverBoth) (u : Use) (logs : List (List Record)) (may : IsRecoverable u logs) where
   some : 0 < length logs
   some = omega (arith, ap (λ (l : List (List Record)). length l) may.said.2)
 
@@ -138,8 +139,8 @@ module _ (laws : RecordLaws) (never : NeverBoth) (u : Use) (logs : List (List Re
   recover_completed status.TraceFault a = absurd a
 
   pub completed_recover : (s : Status) → IsAnswer u s → (s ≡ status.Done) ⊎ (s ≡ status.Memory)
-  completed_recover s (inl x) = absurd (not_both u.words x.0 x.1 may.recover)
+  completed_recover s (inl x) = absurd (not_both one u.words x.0 x.1 x.2 may.recover)
   completed_recover s (inr (inl x)) = recover_completed s x.4
-  completed_recover s (inr (inr (inl x))) = absurd (recover_not_gen u.words x.0 x.1 may.recover x.2)
-  completed_recover s (inr (inr (inr (inl x)))) = absurd (recover_not_bench u.words x.0 x.1 may.recover x.2)
+  completed_recover s (inr (inr (inl x))) = absurd (recover_not_gen one u.words x.0 x.1 may.recover x.2)
+  completed_recover s (inr (inr (inr (inl x)))) = absurd (recover_not_bench one u.words x.0 x.1 x.2 may.recover x.3)
   completed_recover s (inr (inr (inr (inr x)))) = absurd (x.0.2.no_form (inr (inl may.recover)))

@@ -1,5 +1,5 @@
 -- Why the top call answers what it answers: one table by cases on the status, for each form of the words.
-use Rattle.std.specs.Prelude.{◌≡◌, ◌+◌, ◌⊎◌, ℕ, List, [], length, Some, IfSome}
+use Rattle.std.specs.Prelude.{◌≡◌, ◌+◌, ◌⊎◌, ℕ, zero, suc, List, [], length, Some, IfSome}
 use Rattle.std.specs.Io.KnownBytes.{Keeps, Consumes, IsAtEnd}
 use Rattle.snap_outside.specs.Causes.{Rose}
 use Rattle.txn_records.specs.declared.records.Record.{Record}
@@ -9,8 +9,8 @@ use Rattle.snap_report.specs.declared.statuses.Status.TheVariants as status
 use Rattle.snap_work.specs.Works.{Work}
 use Rattle.work_text.specs.Reads.{IsWork, IsFirstWorkFault}
 use Rattle.run_opening.specs.Opens.{MayOpen}
-use Rattle.run_recovery.specs.Schedules.{Schedule, seeded}
-use Rattle.snap_run.specs.Words.{IsRun, IsRecover, IsGen, IsBench, IsUsageFault}
+use Rattle.run_recovery.specs.Schedules.{Schedule, seeded, free}
+use Rattle.command_words.specs.Words.{IsRun, IsRecover, IsGen, IsBench, IsUsageFault}
 use Rattle.snap_run.specs.Uses.{Reading, Use}
 use Rattle.run_work.specs.Writings.{Writing, WritesNothing, Writes, WritesFront}
 use Rattle.run_work.specs.Runs.{Ran, IsWorkAnswer, IsBenchAnswer}
@@ -25,6 +25,11 @@ ReadsEnough r = (bytes : List ℕ) × Consumes r.left_before r.left_after bytes 
 -- The input was read to its end and stands for a work of which this holds.
 abbrev pub OfText : Reading → (Work → Type 0) → Type 0
 OfText r P = IsAtEnd r.left_after × IfSome r.left_before (λ input. (w : Work) × IsWork input w × P w)
+
+-- the schedule of a run with so many workers: where there are none it is that of the seed
+abbrev pub schedule_of : ℕ → ℕ → Schedule
+schedule_of zero seed = seeded seed
+schedule_of (suc n) seed = free
 
 -- a run of this work, by what the call was given and left
 abbrev pub ran_of : Use → Work → Schedule → Ran
@@ -83,21 +88,23 @@ pub record TakesNoEvent (u : Use) : Type 0 where
 abbrev pub OfGenerated : ℕ → ℕ → (Work → Type 0) → Type 0
 OfGenerated count seed P = (w : Work) × IsWork (generated_text count seed) w × (length w.txs ≡ count) × P w
 
--- The answers of the command that runs a generated text, by the schedule of seed 0: there was no memory for a work, and
--- nothing was touched; or it is one of a run of the work.
-abbrev pub IsMeasured : Use → ℕ → ℕ → Status → Type 0
-IsMeasured u count seed s = ((s ≡ status.Memory) × TouchesNothing u) ⊎ OfGenerated count seed (λ w. IsBenchAnswer (ran_of u w (seeded 0)) s)
+-- The answers of the command that runs a generated text: there was no memory for a work, and nothing was touched; or it is
+-- one of a run of the work by this schedule.
+abbrev pub IsMeasured : Use → Schedule → ℕ → ℕ → Status → Type 0
+IsMeasured u schedule count seed s = ((s ≡ status.Memory) × TouchesNothing u) ⊎ OfGenerated count seed (λ w. IsBenchAnswer (ran_of u w schedule) s)
 
 -- the words are no form
 abbrev pub IsUsageAnswer : Use → Status → Type 0
 IsUsageAnswer u s = (place : ℕ) × (s ≡ status.Usage place) × IsUsageFault u.words place
 
+-- What the call answers, for each command that the words may ask for. A generated text is run by the schedule of seed 0 where
+-- there are no workers.
 abbrev pub IsAnswer : Use → Status → Type 0
 IsAnswer u s =
-    ((seed : ℕ) × IsRun u.words seed × IsRunAnswer u (seeded seed) s)
+    ((workers seed : ℕ) × IsRun u.words workers seed × IsRunAnswer u (schedule_of workers seed) s)
     ⊎ ((IsRecover u.words × ReadsNothing u.reading × (u.kept ≡ []) × WritesNothing u.tracing × IsRecoverAnswer u.devices_before u.devices_after u.writing s)
     ⊎ (((count seed : ℕ) × IsGen u.words count seed × ReadsNothing u.reading × TakesNoEvent u × IsGenAnswer (generated_text count seed) u.writing s)
-    ⊎ (((count seed : ℕ) × IsBench u.words count seed × ReadsNothing u.reading × IsMeasured u count seed s)
+    ⊎ (((count seed workers : ℕ) × IsBench u.words count seed workers × ReadsNothing u.reading × IsMeasured u (schedule_of workers 0) count seed s)
     ⊎ (IsUsageAnswer u s × ReadsNothing u.reading × TouchesNothing u))))
 
 -- the call ended before a log was needed
@@ -115,7 +122,7 @@ GetsNoCall status.TraceFault = ⊥
 -- The words run the input; it stands for a work; its logs hold records on which a run of it begins, if any; and no count
 -- rises.
 pub record IsUntroubled (u : Use) (input : List ℕ) (w : Work) (records : List (List Record)) (o : Opening) : Type 0 where
-  pub run : (seed : ℕ) × IsRun u.words seed
+  pub run : (workers seed : ℕ) × IsRun u.words workers seed
   pub known : u.reading.left_before ≡ Some input
   pub work : IsWork input w
   pub opens : MayOpen w.logs w.states u.devices_before u.devices_after records o

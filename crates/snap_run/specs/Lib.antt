@@ -1,6 +1,4 @@
 pub mod Answers
-pub mod Commands
 pub mod Outcomes
 pub mod Recoveries
 pub mod Uses
-pub mod Words

@@ -3,7 +3,7 @@ use Rattle.std.specs.List.{AllZip}
 use Rattle.snap_report.specs.declared.statuses.Status.{Status}
 use Rattle.record_log.specs.Records.{KeepsRecords}
 use Rattle.log_opening.specs.Devices.{Device, IsOpenedAtMost}
-use Rattle.snap_run.specs.Words.{IsRecover}
+use Rattle.command_words.specs.Words.{IsRecover}
 use Rattle.snap_run.specs.Uses.{Use}
 use Rattle.snap_run.specs.Answers.{IsAnswer}
 

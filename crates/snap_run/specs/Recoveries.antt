@@ -14,7 +14,7 @@ use Rattle.log_opening.specs.Devices.{Device, device_at, AreOpened}
 use Rattle.log_opening.specs.Kept.{logs_said, AreGiven, AreRefused, HasFailed}
 use Rattle.snap_run.specs.Uses.{Use}
 use Rattle.run_work.specs.Writings.{Writing, WritesNothing, Writes, WritesFront}
-use Rattle.snap_run.specs.Words.{IsRecover}
+use Rattle.command_words.specs.Words.{IsRecover}
 
 abbrev pub recovered_report : Opening → List ℕ
 recovered_report o = actors_text 0 o.states ++ recovered_text o

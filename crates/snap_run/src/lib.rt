@@ -1,13 +1,13 @@
 //! The top call: from the words of the command line and the input's bytes to the output's and the trace's bytes and the logs.
 #![tactic(auto)]
 
-mod benches;
-mod commands;
-mod generated;
-mod reads;
+mod crews;
+mod endings;
 mod recoveries;
+mod solo;
 mod top;
-mod words;
 mod works;
 
-pub use top::{Outcome, run};
+pub use endings::Outcome;
+pub use solo::run_solo;
+pub use top::run;

@@ -1,6 +1,7 @@
+//! The call.
 ghost use Rattle.std.specs.Prelude.{◌≡◌, ◌⊎◌, ℕ, List, [], map, string_bytes, vec_len};
+ghost use Rattle.command_words.specs.Words.{IsBench};
 ghost use Rattle.log_opening.specs.Devices.{devices_of};
-ghost use Rattle.run_work.specs.Runs.{IsOfLogs};
 ghost use Rattle.run_work.specs.Writings.{writing_of};
 ghost use Rattle.snap_recover.specs.declared.openings.Opening.{Opening};
 ghost use Rattle.snap_report.specs.declared.statuses.Status.TheVariants as status;
@@ -8,46 +9,41 @@ ghost use Rattle.snap_run.specs.Answers.{IsUntroubled, IsPrintable, MayBeMeasure
 ghost use Rattle.snap_run.specs.Outcomes.{IsOutcome};
 ghost use Rattle.snap_run.specs.Recoveries.{IsRecoverable};
 ghost use Rattle.snap_run.specs.Uses.{Use, reading_of, use_of};
-ghost use Rattle.snap_run.specs.Words.{IsRun, IsBench};
 ghost use Rattle.snap_work.specs.Works.{Work};
 ghost use Rattle.txn_records.specs.declared.records.Record.{Record};
 
-use crate::benches::run_generated;
-use crate::commands::Command;
-use crate::generated::print_generated;
-use crate::recoveries::print_recovered;
-use crate::words::read_words;
-use crate::works::read_work;
-use core_events::Event;
-use record_log::{no_more_records, one_list_of_records};
-use run_work::run_work;
-use snap_outside::{LogDev, Sink, Source};
-use snap_recover::refused_is_not_recovered;
-use snap_report::Status;
+use crate::crews::crew_answer;
+use crate::endings::{Outcome, done_or_no_memory};
+use crate::solo::run_solo;
+use command_words::{one_command, workers_of};
+use run_work::CrewRan;
+use snap_outside::{Gate, LogDev, Sink, Source};
 use std::alloc::Global;
-use work_text::{fault_or_work, one_work};
+use std::sync::Wait;
+use std::thread::Threads;
 
-/// How the top call ended, the events that a run of it took, and what it was given.
-#[derive(Drop)]
-pub struct Outcome<D, O, T> {
-    pub status: Status,
-    pub kept: Vec<Event>,
-    pub logs: Vec<D>,
-    pub out: O,
-    pub trace: T,
-}
-
-/// Does what the words ask for. `run` reads a work text from `input` and runs it on the machine by the schedule of the seed: it
+/// Does what the words ask for. `run` reads a work text from `input` and runs it on the machine: with no workers by the schedule
+/// of the seed, and else with so many, each of which takes the events that it comes to and passes the gate before a slice. It
 /// goes on from what the text's logs hold, writes the records of the run there, prints its replies and its end to `out`, and
 /// at last a line of each event to `trace`. The other commands read no input: `recover` prints what the logs recover to, `gen`
-/// prints a generated text, and `bench` runs one as `run` runs its input, but prints the summary of the run alone.
-pub fn run<I: Source, D: LogDev, O: Sink, T: Sink>(
+/// prints a generated text, and `bench` runs one as `run` runs its input, but prints the summary of the run alone. Without
+/// workers it returns; whether it returns with some is not promised.
+pub fn run<
+    R: Threads + Wait + Sync,
+    I: Source,
+    D: LogDev + Drop + Send,
+    O: Sink + Drop + Send,
+    T: Sink,
+    G: Gate + Sync,
+>(
+    rt: &R,
     alloc: Global,
     words: &[String],
     input: &mut I,
     logs: Vec<D>,
     out: O,
     trace: T,
+    gate: &G,
 ) -> Outcome<D, O, T>
     requires { vec_len logs ≡ 4 }
     // Each answer has its cause, and tells what was printed, traced and left on the logs.
@@ -63,77 +59,27 @@ pub fn run<I: Source, D: LogDev, O: Sink, T: Sink>(
         IsPrintable u → (result.status ≡ status.Done) ⊎ (result.status ≡ status.Memory) }
     // Where nothing stands in the way of a generated text, it is run to its end, or there is no memory.
     ensures complete_bench { let u : Use = use_of (map string_bytes words.now) (reading_of I.left I.faults input.old input.new) (writing_of O.taken O.faults out result.out) (writing_of T.taken T.faults trace result.trace) result.kept.items (devices_of D.told D.faults logs.items) (devices_of D.told D.faults result.logs.items) in
-        (count seed : ℕ) (w : Work) (records : List (List Record)) (o : Opening) → IsBench u.words count seed → MayBeMeasured u count seed w records o → (result.status ≡ status.Done) ⊎ (result.status ≡ status.Memory) }
+        (count seed workers : ℕ) (w : Work) (records : List (List Record)) (o : Opening) → IsBench u.words count seed workers → MayBeMeasured u count seed w records o → (result.status ≡ status.Done) ⊎ (result.status ≡ status.Memory) }
     // Before the text is accepted, no log gets a call.
     ensures untouched { GetsNoCall result.status → result.logs ≡ logs }
     // Where no event is kept, the trace gets none.
     ensures no_trace { result.kept.items ≡ [] → result.trace ≡ trace }
 {
-    refused_is_not_recovered();
-    fault_or_work();
-    one_list_of_records();
-    no_more_records();
+    if workers_of(words) == 0 {
+        return run_solo(alloc, words, input, logs, out, trace);
+    }
+    one_command();
+    done_or_no_memory();
     let mut logs = logs;
-    let mut out = out;
     let mut trace = trace;
-    let (kept, status) = answer(alloc, words, input, &mut logs, &mut out, &mut trace);
+    let CrewRan { kept, status, out } = crew_answer(
+        rt, alloc, words, input, gate, &mut logs, out, &mut trace,
+    );
     Outcome {
         status,
         kept,
         logs,
         out,
         trace,
-    }
-}
-
-/// The words, then what they ask for.
-fn answer<I: Source, D: LogDev, O: Sink, T: Sink>(
-    alloc: Global,
-    words: &[String],
-    input: &mut I,
-    logs: &mut Vec<D>,
-    out: &mut O,
-    trace: &mut T,
-) -> (Vec<Event>, Status)
-    requires { vec_len logs.old ≡ 4 }
-    ensures outcome { let u : Use = use_of (map string_bytes words.now) (reading_of I.left I.faults input.old input.new) (writing_of O.taken O.faults out.old out.new) (writing_of T.taken T.faults trace.old trace.new) result.0.items (devices_of D.told D.faults logs.old.items) (devices_of D.told D.faults logs.new.items) in IsOutcome u result.1 }
-    ensures opens { let u : Use = use_of (map string_bytes words.now) (reading_of I.left I.faults input.old input.new) (writing_of O.taken O.faults out.old out.new) (writing_of T.taken T.faults trace.old trace.new) result.0.items (devices_of D.told D.faults logs.old.items) (devices_of D.told D.faults logs.new.items) in
-        (text : List ℕ) (w : Work) (records : List (List Record)) (o : Opening) → IsUntroubled u text w records o → ¬ IsOfLogs result.1 }
-    ensures opens_bench { let u : Use = use_of (map string_bytes words.now) (reading_of I.left I.faults input.old input.new) (writing_of O.taken O.faults out.old out.new) (writing_of T.taken T.faults trace.old trace.new) result.0.items (devices_of D.told D.faults logs.old.items) (devices_of D.told D.faults logs.new.items) in
-        (count seed : ℕ) (w : Work) (records : List (List Record)) (o : Opening) → IsBench u.words count seed → MayBeMeasured u count seed w records o → ¬ IsOfLogs result.1 }
-    ensures untouched { GetsNoCall result.1 → logs.new ≡ logs.old }
-    ensures no_trace { result.0.items ≡ [] → trace.new ≡ trace.old }
-{
-    match read_words(words) {
-        Ok(Command::Run { seed }) => run_input(alloc, input, seed, logs, out, trace),
-        Ok(Command::Recover) => (Vec::new(alloc), print_recovered(alloc, logs, out)),
-        Ok(Command::Gen { count, seed }) => {
-            (Vec::new(alloc), print_generated(alloc, count, seed, out))
-        }
-        Ok(Command::Bench { count, seed }) => run_generated(alloc, count, seed, logs, out, trace),
-        Err(word) => (Vec::new(alloc), Status::Usage { word }),
-    }
-}
-
-/// Runs the input.
-fn run_input<I: Source, D: LogDev, O: Sink, T: Sink>(
-    alloc: Global,
-    input: &mut I,
-    seed: u64,
-    logs: &mut Vec<D>,
-    out: &mut O,
-    trace: &mut T,
-) -> (Vec<Event>, Status)
-    requires { vec_len logs.old ≡ 4 }
-    ensures outcome { (words : List (List ℕ)) → IsRun words seed → let u : Use = use_of words (reading_of I.left I.faults input.old input.new) (writing_of O.taken O.faults out.old out.new) (writing_of T.taken T.faults trace.old trace.new) result.0.items (devices_of D.told D.faults logs.old.items) (devices_of D.told D.faults logs.new.items) in IsOutcome u result.1 }
-    ensures opens { (words : List (List ℕ)) → let u : Use = use_of words (reading_of I.left I.faults input.old input.new) (writing_of O.taken O.faults out.old out.new) (writing_of T.taken T.faults trace.old trace.new) result.0.items (devices_of D.told D.faults logs.old.items) (devices_of D.told D.faults logs.new.items) in
-        (text : List ℕ) (w : Work) (records : List (List Record)) (o : Opening) → IsUntroubled u text w records o → ¬ IsOfLogs result.1 }
-    ensures untouched { GetsNoCall result.1 → logs.new ≡ logs.old }
-    ensures no_trace { result.0.items ≡ [] → trace.new ≡ trace.old }
-{
-    one_work();
-    match read_work(alloc, input) {
-        Ok(work) => run_work(alloc, work, seed, logs, out, trace),
-        Err(status) => (Vec::new(alloc), status),
     }
 }

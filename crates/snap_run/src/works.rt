@@ -1,17 +1,21 @@
-ghost use Rattle.std.specs.Prelude.{◌≡◌, ◌≤◌, length, IfOk, MatchResult};
-ghost use Rattle.snap_run.specs.Answers.{OfText, IsInputAnswer};
+//! The text that is run, read or generated; and a generated one printed.
+ghost use Rattle.std.specs.Prelude.{◌≡◌, ◌+◌, ◌<◌, ◌≤◌, length, IfOk, IsErrOf, MatchResult};
+ghost use Rattle.std.specs.Io.KnownBytes.{Consumes, IsAtEnd};
+ghost use Rattle.run_work.specs.Writings.{writing_of};
+ghost use Rattle.snap_outside.specs.Causes.{Rose};
+ghost use Rattle.snap_run.specs.Answers.{OfText, IsInputAnswer, IsGenAnswer};
 ghost use Rattle.snap_run.specs.Uses.{Reading, reading_of};
 ghost use Rattle.snap_work.specs.Kept.{KeepsLimits};
 ghost use Rattle.snap_work.specs.Works.{work_of};
-ghost use Rattle.snap_work.specs.declared.limits.TheConstants.{MOST_TRANSACTIONS};
+ghost use Rattle.snap_work.specs.declared.limits.TheConstants.{MOST_TRANSACTIONS, LONGEST_WORK};
 ghost use Rattle.work_gen.specs.Generated.{generated_text};
 ghost use Rattle.work_text.specs.Reads.{IsWork};
 
-use crate::reads::{ReadNo, read_input};
+use run_outputs::write_all;
 use snap_base::Memory;
-use snap_outside::Source;
+use snap_outside::{Failed, Sink, Source};
 use snap_report::Status;
-use snap_work::{Work, WorkNo};
+use snap_work::{LONGEST_WORK, Work, WorkNo};
 use std::alloc::Global;
 use work_gen::{generate, generated_texts_are_works};
 use work_text::{a_work_is_short, one_work, parse_work, transactions_may_run};
@@ -38,6 +42,37 @@ pub(crate) fn read_work<I: Source>(alloc: Global, input: &mut I) -> Result<Work,
     }
 }
 
+/// Why there is no input.
+enum ReadNo {
+    Fault,
+    Memory,
+}
+
+/// Reads a source to its end, or one byte more than a work text may have.
+fn read_input<I: Source>(alloc: Global, input: &mut I) -> Result<Vec<u8>, ReadNo>
+    ensures moved { IfOk result (λ v. Consumes (I.left input.old) (I.left input.new) v.items) }
+    ensures whole { IfOk result (λ v. length v.items ≤ LONGEST_WORK → IsAtEnd (I.left input.new)) }
+    ensures most { IfOk result (λ v. length v.items ≤ LONGEST_WORK + 1) }
+    ensures later { I.faults input.old ≤ I.faults input.new }
+    ensures fault { IsErrOf result ReadNo.Fault → Rose (I.faults input.old) (I.faults input.new) }
+{
+    let mut bytes = Vec::new(alloc);
+    let mut piece = [0u8; 4096];
+    while bytes.len() <= LONGEST_WORK {
+        let room = (LONGEST_WORK + 1 - bytes.len()).min(piece.len());
+        let Ok(count) = input.read(&mut piece[..room]) else {
+            return Err(ReadNo::Fault);
+        };
+        if count == 0 {
+            break;
+        }
+        if bytes.extend_from_slice(&piece[..count]).is_err() {
+            return Err(ReadNo::Memory);
+        }
+    }
+    Ok(bytes)
+}
+
 /// The work that the text of so many transactions stands for, which the seed draws. The only refusal is want of memory.
 pub(crate) fn generated_work(alloc: Global, count: u32, seed: u64) -> Result<Work, Memory>
     requires { count ≤ MOST_TRANSACTIONS }
@@ -54,4 +89,18 @@ pub(crate) fn generated_work(alloc: Global, count: u32, seed: u64) -> Result<Wor
         // The text has no fault.
         Err(_) => Err(Memory),
     }
+}
+
+/// Prints the text of so many transactions that the seed draws.
+pub(crate) fn print_generated<O: Sink>(alloc: Global, count: u32, seed: u64, out: &mut O) -> Status
+    requires { count ≤ MOST_TRANSACTIONS }
+    ensures { IsGenAnswer (generated_text count seed) (writing_of O.taken O.faults out.old out.new) result }
+{
+    let Ok(text) = generate(alloc, count, seed) else {
+        return Status::Memory;
+    };
+    if write_all(out, text.as_slice()).is_err() {
+        return Status::OutFault;
+    }
+    Status::Done
 }

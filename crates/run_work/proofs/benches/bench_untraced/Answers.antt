@@ -4,7 +4,7 @@ use Rattle.core_events.specs.declared.events.Event.{Event}
 use Rattle.log_opening.specs.Devices.{devices_of}
 use Rattle.run_recovery.specs.Runs.{machine_of, meant}
 use Rattle.run_recovery.specs.Schedules.{seeded}
-use Rattle.run_work.proofs.Ending.{ended_so, seeds_print_whole, told_nothing}
+use Rattle.run_work.proofs.Ending.{ended_so, solo_tells, told_nothing}
 use Rattle.run_work.proofs.Hosting.{core_at, unheard}
 use Rattle.run_work.proofs.benches.bench_untraced.Goals as goal
 use Rattle.run_work.specs.Hosts.{HasLeft, IsCoreOf}
@@ -32,11 +32,12 @@ returns-in-Ok g c = λ trace.
     let b : Writing = writing_of g.O.Sink.taken g.O.Sink.faults c.args.out.now c.end_summed-status.new.out in
     let left = HasLeft w (seeded 0) is.opening es before after in
     let core = subst (λ (kept : List Event). IsCoreOf m (meant kept) h.stop h.core) (sym c.as_slice.ensures.value) is.core in
-    let ends = unheard left w 0 is.opening es replies a h.stop (λ rose. omega (arith, rose)) (Appends-nil _) (omega arith) is.ends in
+    let end = unheard left w (seeded 0) is.opening es replies a h.stop (λ rose. omega (arith, rose)) (Appends-nil _) (omega arith) is.ends in
     inr (
       is.opening,
-      ended_so summing left w (seeded 0) is.opening es a b h.stop c.end_summed-status.result m (meant c.as_slice.result.now) (length w.txs) refl (ap meant c.as_slice.ensures.value) refl (refl, refl)
-          c.end_summed-status.ensures.later ends (seeds_print_whole summing w 0 is.opening es a h.stop ends.printed) (c.end_summed-status.ensures.ending m (length w.txs) core),
+      ended_so summing left w is.opening es (seeded 0) a b h.stop c.end_summed-status.result m (meant c.as_slice.result.now) (length w.txs) refl (ap meant c.as_slice.ensures.value) refl (refl, refl)
+          c.end_summed-status.ensures.later
+          end (solo_tells summing left w 0 is.opening es a b h.stop end) (c.end_summed-status.ensures.ending m (length w.txs) core),
     )
 
 pub returns-in-Err : goal.returns-in-Err

@@ -25,7 +25,7 @@ returns-in_default g c =
     let replies : Writing = writing_of g.R.Sink.taken g.R.Sink.faults c.args.replies.now c.args.replies.now in
     record {
       ends = subst (λ (kept : List Event). IsHostEnd reporting (HasDriven w (seeded c.args.seed) c.args.opening (meant kept) logs logs) w (seeded c.args.seed) c.args.opening (meant kept) replies stop.Memory)
-          (sym c.new.ensures.items) (no_core w c.args.seed c.args.opening logs replies c.requires.open (Keeps-refl _) (omega arith));
+          (sym c.new.ensures.items) (no_core w (seeded c.args.seed) c.args.opening logs replies c.requires.open (Keeps-refl _) (omega arith));
       core = refl;
     }
 

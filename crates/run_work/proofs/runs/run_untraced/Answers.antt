@@ -3,7 +3,7 @@ use Rattle.core_events.specs.declared.events.Event.{Event}
 use Rattle.log_opening.specs.Devices.{devices_of}
 use Rattle.run_recovery.specs.Runs.{machine_of, meant}
 use Rattle.run_recovery.specs.Schedules.{seeded}
-use Rattle.run_work.proofs.Ending.{ended_so, seeds_print_whole}
+use Rattle.run_work.proofs.Ending.{ended_so, solo_tells}
 use Rattle.run_work.proofs.Hosting.{core_at}
 use Rattle.run_work.proofs.runs.run_untraced.Goals as goal
 use Rattle.run_work.specs.Hosts.{HasLeft, IsCoreOf}
@@ -30,11 +30,11 @@ returns-in-Ok g c = λ trace.
     let a : Writing = writing_of g.O.Sink.taken g.O.Sink.faults c.args.out.now c.host_work.new.replies in
     let b : Writing = writing_of g.O.Sink.taken g.O.Sink.faults c.host_work.new.replies c.end_reported-status.new.out in
     let core = subst (λ (kept : List Event). IsCoreOf m (meant kept) h.stop h.core) (sym c.as_slice.ensures.value) is.core in
+    let left = HasLeft w (seeded c.args.seed) is.opening es before after in
     inr (
       is.opening,
-      ended_so reporting (HasLeft w (seeded c.args.seed) is.opening es before after) w (seeded c.args.seed) is.opening es a b h.stop c.end_reported-status.result m (meant c.as_slice.result.now) _ refl
-          (ap meant c.as_slice.ensures.value) c.len-count.ensures (refl, refl) c.end_reported-status.ensures.later is.ends
-          (seeds_print_whole reporting w c.args.seed is.opening es a h.stop is.ends.printed) (c.end_reported-status.ensures.ending m core),
+      ended_so reporting left w is.opening es (seeded c.args.seed) a b h.stop c.end_reported-status.result m (meant c.as_slice.result.now) _ refl
+          (ap meant c.as_slice.ensures.value) c.len-count.ensures (refl, refl) c.end_reported-status.ensures.later is.ends (solo_tells reporting left w c.args.seed is.opening es a b h.stop is.ends) (c.end_reported-status.ensures.ending m core),
     )
 
 pub returns-in-Err : goal.returns-in-Err

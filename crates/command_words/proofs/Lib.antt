@@ -1,0 +1,4 @@
+pub mod Names
+pub mod OneCommand
+pub mod Usage
+pub mod UsageOfCounts

@@ -1,0 +1,37 @@
+-- The names of the commands differ, and those of the options.
+use Rattle.std.proofs.Common.{◌≡◌, ℕ, List, [], ◌∷◌, get_or, drop, ap, arith}
+use Rattle.std.specs.Prelude.{codes}
+
+-- ---- the first word, and the others
+
+pub heads : (x y : List ℕ) (xs ys : List (List ℕ)) → x ∷ xs ≡ y ∷ ys → x ≡ y
+heads x y xs ys e = ap (λ (l : List (List ℕ)). get_or l 0 []) e
+
+pub tails : (x y : List ℕ) (xs ys : List (List ℕ)) → x ∷ xs ≡ y ∷ ys → xs ≡ ys
+tails x y xs ys e = ap (λ (l : List (List ℕ)). drop 1 l) e
+
+-- ---- each pair by a letter
+
+letter : (n : ℕ) (x y : List ℕ) → x ≡ y → get_or x n 0 ≡ get_or y n 0
+letter n x y e = ap (λ (l : List ℕ). get_or l n 0) e
+
+pub run_recover : codes "run" ≡ codes "recover" → ⊥
+run_recover e = let h : 117 ≡ 101 = letter 1 (codes "run") (codes "recover") e in omega (arith, h)
+
+pub run_gen : codes "run" ≡ codes "gen" → ⊥
+run_gen e = let h : 114 ≡ 103 = letter 0 (codes "run") (codes "gen") e in omega (arith, h)
+
+pub recover_gen : codes "recover" ≡ codes "gen" → ⊥
+recover_gen e = let h : 114 ≡ 103 = letter 0 (codes "recover") (codes "gen") e in omega (arith, h)
+
+pub run_bench : codes "run" ≡ codes "bench" → ⊥
+run_bench e = let h : 114 ≡ 98 = letter 0 (codes "run") (codes "bench") e in omega (arith, h)
+
+pub recover_bench : codes "recover" ≡ codes "bench" → ⊥
+recover_bench e = let h : 114 ≡ 98 = letter 0 (codes "recover") (codes "bench") e in omega (arith, h)
+
+pub gen_bench : codes "gen" ≡ codes "bench" → ⊥
+gen_bench e = let h : 103 ≡ 98 = letter 0 (codes "gen") (codes "bench") e in omega (arith, h)
+
+pub workers_seed : codes "--workers" ≡ codes "--seed" → ⊥
+workers_seed e = let h : 119 ≡ 115 = letter 2 (codes "--workers") (codes "--seed") e in omega (arith, h)

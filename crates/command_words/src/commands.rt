@@ -1,0 +1,12 @@
+/// What the words of a command line ask for.
+#[derive(Clone, Copy, Debug, PartialEq, Eq)]
+pub enum Command {
+    /// Runs the work text: with no workers by the schedule of the seed, and else with so many workers, at most 8.
+    Run { workers: u8, seed: u64 },
+    /// Prints what the logs recover to.
+    Recover,
+    /// Prints the text of so many transactions that the seed draws.
+    Gen { count: u32, seed: u64 },
+    /// Runs that text, alone or with so many workers, at most 8, and prints its summary.
+    Bench { count: u32, seed: u64, workers: u8 },
+}

@@ -1,0 +1,6 @@
+ghost use Rattle.command_words.specs.CommandLaws.{OneCommand};
+
+/// Words ask for one thing at most.
+pub fn one_command()
+    ensures { OneCommand }
+{}

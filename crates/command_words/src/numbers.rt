@@ -1,0 +1,33 @@
+//! The numbers that words spell.
+ghost use Rattle.std.specs.Prelude.{◌≡◌, ℕ, ◌≤◌, Some, IfSome};
+ghost use Rattle.std.specs.Fmt.{decimal};
+ghost use Rattle.command_words.specs.declared.limits.TheConstants.{MOST_WORKERS};
+ghost use Rattle.snap_work.specs.declared.limits.TheConstants.{MOST_TRANSACTIONS};
+
+use crate::limits::MOST_WORKERS;
+use decimal_words::natural;
+use snap_work::MOST_TRANSACTIONS;
+
+/// The number of transactions that a word spells, where a text may have so many.
+pub(crate) fn count_of(word: &[u8]) -> Option<u32>
+    ensures found { IfSome result (λ n. (word.now ≡ decimal n) × (n ≤ MOST_TRANSACTIONS)) }
+    ensures only { (n : ℕ) → n ≤ MOST_TRANSACTIONS → word.now ≡ decimal n → result ≡ Some n }
+{
+    let number = natural(word)?;
+    if number > MOST_TRANSACTIONS as u64 {
+        return None;
+    }
+    Some(number as u32)
+}
+
+/// The number of workers that a word spells, where a run may have so many.
+pub(crate) fn workers_of(word: &[u8]) -> Option<u8>
+    ensures found { IfSome result (λ n. (word.now ≡ decimal n) × (n ≤ MOST_WORKERS)) }
+    ensures only { (n : ℕ) → n ≤ MOST_WORKERS → word.now ≡ decimal n → result ≡ Some n }
+{
+    let number = natural(word)?;
+    if number > MOST_WORKERS as u64 {
+        return None;
+    }
+    Some(number as u8)
+}

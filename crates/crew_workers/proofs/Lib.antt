@@ -1,0 +1,2 @@
+mod SharedTables
+mod WhatRounds

@@ -1,0 +1,152 @@
+-- What several workers promise of what they took, in the words of a run.
+use Rattle.std.proofs.Common.{◌≡◌, ℕ, ◌<◌, Bool, true, false, if◌then◌else◌, inl, inr, List, [], length, refl, sym, ap, subst, ◌∙◌, arith, Option, Some, None, nat_lt, append-nil}
+use Rattle.std.proofs.lemmas.Bool.{lt-ltb, ltb-true, true≢false}
+use Rattle.aml_slice.specs.Controls.{Rest}
+use Rattle.crew_ends.specs.Ends as crew
+use Rattle.crew_host.specs.Drives.{IsCrewStop, AreAllOpen}
+use Rattle.crew_parts.specs.Crews.{OutputIs}
+use Rattle.gate_log.specs.State.{LogState}
+use Rattle.protocol.specs.Events as machine
+use Rattle.protocol.specs.Fixed.{Fixed}
+use Rattle.protocol.specs.Runs.{IsRun}
+use Rattle.run_journals.specs.Driven.{IsDriven}
+use Rattle.run_journals.specs.declared.stops.Stop.{Stop}
+use Rattle.run_journals.specs.declared.stops.Stop.TheVariants as stop
+use Rattle.run_outputs.specs.Groups.{groups_of, group_behind}
+use Rattle.run_recovery.specs.Runs.{machine_of, no_log, tried_on, IsLeastOf}
+use Rattle.run_recovery.specs.Schedules.{free}
+use Rattle.run_work.specs.Hosts.{HasDriven, IsStopOf, PrintsStopped, PrintsReplies, PrintsUnlessFailed, IsHostEnd}
+use Rattle.run_work.specs.Runs.{reporting, PrintsNext}
+use Rattle.run_work.specs.Writings.{Writing}
+use Rattle.snap_outside.specs.Causes.{Rose}
+use Rattle.snap_recover.specs.declared.openings.Opening.{Opening}
+use Rattle.snap_work.specs.Works.{Work}
+use Rattle.txn_records.specs.declared.records.Record.{Record}
+
+-- ---- the logs that failed: those that are shut
+
+abbrev failed_logs : List LogState → ℕ → Bool
+failed_logs logs l = if nat_lt l (length logs) then (crew.log_at logs l).shut else false
+
+within : (logs : List LogState) (l : ℕ) → l < length logs → failed_logs logs l ≡ (crew.log_at logs l).shut
+within logs l lt = ap (λ t. if t then (crew.log_at logs l).shut else false) (lt-ltb l (length logs) lt)
+
+-- one that failed is there, and is shut
+there : (logs : List LogState) (l : ℕ) (t : Bool) → t ≡ nat_lt l (length logs) → (if t then (crew.log_at logs l).shut else false) ≡ true → (l < length logs) × ((crew.log_at logs l).shut ≡ true)
+there logs l true is shut = (ltb-true l (length logs) (sym is), shut)
+there logs l false is shut = absurd (true≢false (sym shut))
+
+is_there : (logs : List LogState) (l : ℕ) → failed_logs logs l ≡ true → (l < length logs) × ((crew.log_at logs l).shut ≡ true)
+is_there logs l shut = there logs l (nat_lt l (length logs)) refl shut
+
+-- ---- what the logs got
+
+same_tried : (m : Fixed Rest) (es : List machine.Event) (new : List LogState) (l : ℕ) → l < length new
+    → crew.tried_on m l es (crew.log_at new l) ≡ tried_on (failed_logs new) l (group_behind m l es)
+same_tried m es new l lt = ap (λ t. if t then Some (group_behind m l es) else None) (sym (within new l lt))
+
+rose_of : (a b : LogState) (groups : List (List Record)) (tried : Option (List Record)) → IsDriven a b groups tried → b.shut ≡ true → Rose a.faults b.faults
+rose_of a b groups None driven shut = absurd (true≢false (sym shut ∙ driven.shut))
+rose_of a b groups (Some group) driven shut = driven.rose
+
+driven : (w : Work) (o : Opening) (es : List machine.Event) (old new : List LogState) → IsRun (machine_of w o) es → crew.AreDriven (machine_of w o) es old new
+    → HasDriven w free o es old new (failed_logs new)
+driven w o es old new run logs = record {
+  front = run;
+  as_many = logs.0;
+  each = λ l lt.
+      subst (λ (t : Option (List Record)). IsDriven (crew.log_at old l) (crew.log_at new l) (groups_of (machine_of w o) l es) t) (same_tried (machine_of w o) es new l (omega (arith, lt, logs.0)))
+      (logs.1 l lt);
+  rose = λ l is.
+      let x = is_there new l is in
+      let lt : l < length old = omega (arith, x.0, logs.0) in
+      (lt, rose_of (crew.log_at old l) (crew.log_at new l) (groups_of (machine_of w o) l es) (crew.tried_on (machine_of w o) l es (crew.log_at new l)) (logs.1 l lt) x.1);
+}
+
+-- where no log is shut none failed
+none_driven : (w : Work) (o : Opening) (es : List machine.Event) (old new : List LogState) → IsRun (machine_of w o) es → crew.AreDriven (machine_of w o) es old new → AreAllOpen new
+    → HasDriven w free o es old new no_log
+none_driven w o es old new run logs ready = record {
+  front = run;
+  as_many = logs.0;
+  each = λ l lt.
+      subst (λ (t : Bool). IsDriven (crew.log_at old l) (crew.log_at new l) (groups_of (machine_of w o) l es) (if t then Some (group_behind (machine_of w o) l es) else None))
+      (ready l (omega (arith, lt, logs.0))) (logs.1 l lt);
+  rose = λ l is. absurd (true≢false (sym is));
+}
+
+-- ---- why they ended
+
+least : (logs : List LogState) (log : ℕ) → log < length logs → (crew.log_at logs log).shut ≡ true → ((k : ℕ) → k < log → (crew.log_at logs k).shut ≡ false) → IsLeastOf (failed_logs logs) log
+least logs log lt shut below = record {
+  is = within logs log lt ∙ shut;
+  least = λ l less. within logs l (omega (arith, lt, less)) ∙ below l less;
+}
+
+-- what several workers promise of the output
+abbrev Heard : Fixed Rest → List machine.Event → Bool → Writing → Type 0
+Heard m es failed out =
+    OutputIs m es (Some (record { taken = out.taken_before; faults = out.faults_before; failed = false })) (Some (record { taken = out.taken_after; faults = out.faults_after; failed = failed }))
+
+rose_out : (w : Work) (o : Opening) (es : List machine.Event) (failed : Bool) (out : Writing) → Heard (machine_of w o) es failed out → failed ≡ true → Rose out.faults_before out.faults_after
+rose_out w o es true out heard is = heard.1.rose
+rose_out w o es false out heard is = absurd (true≢false (sym is))
+
+whole : (w : Work) (o : Opening) (es : List machine.Event) (failed : Bool) (out : Writing) → Heard (machine_of w o) es failed out → PrintsUnlessFailed failed w o es out
+whole w o es true out heard is = absurd (true≢false is)
+whole w o es false out heard is = heard.1
+
+next : (w : Work) (o : Opening) (es : List machine.Event) (out : Writing) → Heard (machine_of w o) es true out → PrintsNext reporting w free o es out
+next w o es out heard = let b = heard.1 in (b.tx, b.first, b.more, b.is, b.allowed, (b.front, b.rest, b.line, b.taken))
+
+-- why they ended
+stopped : (w : Work) (o : Opening) (es : List machine.Event) (old new : List LogState) (failed : Bool) (out : Writing) (by : Stop) → IsRun (machine_of w o) es
+    → crew.AreDriven (machine_of w o) es old new → crew.AreDue (machine_of w o) es new → IsCrewStop (machine_of w o) es new failed by → Heard (machine_of w o) es failed out
+    → IsStopOf (HasDriven w free o es old new) w free o es out by
+stopped w o es old new failed out stop.Quiet run logs due why heard = (none_driven w o es old new run logs why.0, why.2)
+stopped w o es old new failed out (stop.LogFault log) run logs due why heard = (
+  failed_logs new,
+  least new log why.0 why.1 why.2,
+  driven w o es old new run logs,
+  λ l is. let x = is_there new l is in (es, [], sym (append-nil es), due l x.0 x.1),
+)
+stopped w o es old new failed out stop.OutFault run logs due why heard = (none_driven w o es old new run logs why.0, rose_out w o es failed out heard why.1)
+stopped w o es old new failed out stop.Memory run logs due why heard = none_driven w o es old new run logs why.0
+
+broke_off : (w : Work) (o : Opening) (es : List machine.Event) (failed : Bool) (out : Writing) → failed ≡ true → Heard (machine_of w o) es failed out → PrintsNext reporting w free o es out
+broke_off w o es true out is heard = next w o es out heard
+broke_off w o es false out is heard = absurd (true≢false (sym is))
+
+at_logs : (w : Work) (o : Opening) (es : List machine.Event) (failed : Bool) (out : Writing) → Heard (machine_of w o) es failed out → PrintsStopped reporting w free o es out
+at_logs w o es true out heard = inr (heard.1.rose, next w o es out heard)
+at_logs w o es false out heard = inl heard.1
+
+printed : (w : Work) (o : Opening) (es : List machine.Event) (new : List LogState) (failed : Bool) (out : Writing) (by : Stop) → IsCrewStop (machine_of w o) es new failed by
+    → Heard (machine_of w o) es failed out → PrintsReplies reporting w free o es out by
+printed w o es new failed out stop.Quiet why heard = whole w o es failed out heard why.1
+printed w o es new failed out (stop.LogFault log) why heard = at_logs w o es failed out heard
+printed w o es new failed out stop.OutFault why heard = broke_off w o es failed out why.1 heard
+printed w o es new failed out stop.Memory why heard = whole w o es failed out heard why.1
+
+-- ---- in one
+
+module _
+    (w : Work) (o : Opening) (es : List machine.Event) (old new : List LogState) (failed : Bool) (out : Writing) (by : Stop) (m : Fixed Rest) (same : m ≡ machine_of w o)
+    (heard : Heard m es failed out)
+  where
+    heard_by : Heard (machine_of w o) es failed out
+    heard_by = subst (λ (x : Fixed Rest). Heard x es failed out) same heard
+
+    pub crew_whole : PrintsUnlessFailed failed w o es out
+    crew_whole = whole w o es failed out heard_by
+
+    pub crew_hosted : IsRun m es → crew.AreDriven m es old new → crew.AreDue m es new → IsCrewStop m es new failed by
+        → IsHostEnd reporting (HasDriven w free o es old new) w free o es out by
+    crew_hosted run logs due why =
+        let why_by : IsCrewStop (machine_of w o) es new failed by = subst (λ (x : Fixed Rest). IsCrewStop x es new failed by) same why in
+        record {
+          why = stopped w o es old new failed out by (subst (λ (x : Fixed Rest). IsRun x es) same run) (subst (λ (x : Fixed Rest). crew.AreDriven x es old new) same logs)
+              (subst (λ (x : Fixed Rest). crew.AreDue x es new) same due) why_by heard_by;
+          printed = printed w o es new failed out by why_by heard_by;
+          later = heard_by.0;
+        }

@@ -1,0 +1,46 @@
+use Rattle.std.proofs.Common.{List, refl, sym, ◌∙◌, subst}
+use Rattle.std.proofs.KnownBytes.{Keeps-refl}
+use Rattle.std.specs.Io.KnownBytes.{Keeps}
+use Rattle.core_events.specs.declared.events.Event.{Event}
+use Rattle.log_opening.specs.Devices.{devices_of}
+use Rattle.run_work.proofs.Answered.{answered, untraced_not_of_logs, traced_not_of_logs}
+use Rattle.run_work.proofs.benches.crew_bench.Goals as goal
+use Rattle.run_recovery.specs.Runs.{meant}
+use Rattle.run_recovery.specs.Schedules.{free}
+use Rattle.run_work.specs.Runs.{summing, Ran}
+use Rattle.run_work.specs.Untraced.{IsTraced}
+use Rattle.run_work.specs.Writings.{Writing, writing_of}
+use Rattle.snap_work.specs.Works.{work_of}
+
+pub returns-clause-answer : goal.returns-clause-answer
+returns-clause-answer g c =
+    let trace : Writing = writing_of g.T.Sink.taken g.T.Sink.faults c.args.trace.now c.traced-status.new.trace in
+    let r : Ran = record {
+      work = work_of c.args.work;
+      schedule = free;
+      kept = c.crew_bench_untraced-kept.result.0.items;
+      devices_before = devices_of g.D.LogDev.told g.D.LogDev.faults c.args.devices.now.items;
+      devices_after = devices_of g.D.LogDev.told g.D.LogDev.faults c.crew_bench_untraced-kept.new.devices.items;
+      out = writing_of g.O.Sink.taken g.O.Sink.faults c.args.out c.crew_bench_untraced-kept.new.out;
+      trace = trace;
+    } in
+    answered summing r (λ o failed run. c.runs_stand.ensures r.work r.schedule o (meant r.kept) failed r.devices_before r.devices_after refl c.requires.limits run)
+    c.crew_bench_untraced-kept.result.1 c.traced-status.result
+    (λ none. subst (λ t. Keeps (g.T.Sink.taken c.args.trace.now) (g.T.Sink.taken t)) (sym (c.traced-status.ensures.none (c.as_slice.ensures.value ∙ none))) (Keeps-refl _))
+    (c.crew_bench_untraced-kept.ensures trace)
+    (subst (λ (kept : List Event). IsTraced trace kept c.crew_bench_untraced-kept.result.1 c.traced-status.result) c.as_slice.ensures.value c.traced-status.ensures.traced)
+
+pub returns-clause-opens : goal.returns-clause-opens
+returns-clause-opens g c = λ records o may.
+    let trace : Writing = writing_of g.T.Sink.taken g.T.Sink.faults c.args.trace.now c.traced-status.new.trace in
+    let r : Ran = record {
+      work = work_of c.args.work;
+      schedule = free;
+      kept = c.crew_bench_untraced-kept.result.0.items;
+      devices_before = devices_of g.D.LogDev.told g.D.LogDev.faults c.args.devices.now.items;
+      devices_after = devices_of g.D.LogDev.told g.D.LogDev.faults c.crew_bench_untraced-kept.new.devices.items;
+      out = writing_of g.O.Sink.taken g.O.Sink.faults c.args.out c.crew_bench_untraced-kept.new.out;
+      trace = trace;
+    } in
+    traced_not_of_logs trace c.as_slice.result.now c.crew_bench_untraced-kept.result.1 c.traced-status.result c.traced-status.ensures.traced
+    (untraced_not_of_logs summing r records o may c.crew_bench_untraced-kept.result.1 (c.crew_bench_untraced-kept.ensures trace))

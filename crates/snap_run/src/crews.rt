@@ -1,0 +1,147 @@
+//! The call with several workers.
+ghost use Rattle.std.specs.Prelude.{◌≡◌, ◌<◌, ◌≤◌, ℕ, List, [], map, string_bytes, vec_len};
+ghost use Rattle.command_words.specs.Words.{IsRun, IsBench};
+ghost use Rattle.command_words.specs.Workers.{AskFor};
+ghost use Rattle.command_words.specs.declared.limits.TheConstants.{MOST_WORKERS};
+ghost use Rattle.log_opening.specs.Devices.{devices_of};
+ghost use Rattle.run_recovery.specs.Schedules.{free};
+ghost use Rattle.run_work.specs.Runs.{IsOfLogs};
+ghost use Rattle.run_work.specs.Writings.{writing_of};
+ghost use Rattle.snap_recover.specs.declared.openings.Opening.{Opening};
+ghost use Rattle.snap_run.specs.Answers.{IsUntroubled, IsMeasured, MayBeMeasured, GetsNoCall};
+ghost use Rattle.snap_run.specs.Outcomes.{IsOutcome};
+ghost use Rattle.snap_run.specs.Uses.{Reading, Use, reading_of, use_of};
+ghost use Rattle.snap_work.specs.Works.{Work};
+ghost use Rattle.snap_work.specs.declared.limits.TheConstants.{MOST_TRANSACTIONS};
+ghost use Rattle.txn_records.specs.declared.records.Record.{Record};
+
+use crate::works::{generated_work, read_work};
+use command_words::{Command, one_command, read_words};
+use run_work::{CrewRan, crew_bench, crew_work};
+use snap_outside::{Gate, LogDev, Sink, Source};
+use snap_report::Status;
+use std::alloc::Global;
+use std::sync::Wait;
+use std::thread::Threads;
+use work_text::one_work;
+
+/// The words, which ask for workers, then what they ask for.
+pub(crate) fn crew_answer<
+    R: Threads + Wait + Sync,
+    I: Source,
+    D: LogDev + Drop + Send,
+    O: Sink + Drop + Send,
+    T: Sink,
+    G: Gate + Sync,
+>(
+    rt: &R,
+    alloc: Global,
+    words: &[String],
+    input: &mut I,
+    gate: &G,
+    logs: &mut Vec<D>,
+    out: O,
+    trace: &mut T,
+) -> CrewRan<O>
+    requires four { vec_len logs.old ≡ 4 }
+    requires crew { ¬ AskFor (map string_bytes words.now) 0 }
+    ensures outcome { let u : Use = use_of (map string_bytes words.now) (reading_of I.left I.faults input.old input.new) (writing_of O.taken O.faults out result.out) (writing_of T.taken T.faults trace.old trace.new) result.kept.items (devices_of D.told D.faults logs.old.items) (devices_of D.told D.faults logs.new.items) in IsOutcome u result.status }
+    ensures opens { let u : Use = use_of (map string_bytes words.now) (reading_of I.left I.faults input.old input.new) (writing_of O.taken O.faults out result.out) (writing_of T.taken T.faults trace.old trace.new) result.kept.items (devices_of D.told D.faults logs.old.items) (devices_of D.told D.faults logs.new.items) in
+        (text : List ℕ) (w : Work) (records : List (List Record)) (o : Opening) → IsUntroubled u text w records o → ¬ IsOfLogs result.status }
+    ensures opens_bench { let u : Use = use_of (map string_bytes words.now) (reading_of I.left I.faults input.old input.new) (writing_of O.taken O.faults out result.out) (writing_of T.taken T.faults trace.old trace.new) result.kept.items (devices_of D.told D.faults logs.old.items) (devices_of D.told D.faults logs.new.items) in
+        (count seed workers : ℕ) (w : Work) (records : List (List Record)) (o : Opening) → IsBench u.words count seed workers → MayBeMeasured u count seed w records o → ¬ IsOfLogs result.status }
+    ensures untouched { GetsNoCall result.status → logs.new ≡ logs.old }
+    ensures no_trace { result.kept.items ≡ [] → trace.new ≡ trace.old }
+{
+    one_command();
+    match read_words(words) {
+        Ok(Command::Run { workers, .. }) => {
+            crew_input(rt, alloc, input, workers, gate, logs, out, trace)
+        }
+        Ok(
+            Command::Bench {
+                count,
+                seed,
+                workers,
+            },
+        ) => { crew_generated(rt, alloc, count, seed, workers, gate, logs, out, trace) }
+        _ => unreachable!(),
+    }
+}
+
+/// Runs the input.
+fn crew_input<
+    R: Threads + Wait + Sync,
+    I: Source,
+    D: LogDev + Drop + Send,
+    O: Sink + Drop + Send,
+    T: Sink,
+    G: Gate + Sync,
+>(
+    rt: &R,
+    alloc: Global,
+    input: &mut I,
+    workers: u8,
+    gate: &G,
+    logs: &mut Vec<D>,
+    out: O,
+    trace: &mut T,
+) -> CrewRan<O>
+    requires four { vec_len logs.old ≡ 4 }
+    requires some { 0 < workers }
+    requires few { workers ≤ MOST_WORKERS }
+    ensures outcome { (words : List (List ℕ)) (seed : ℕ) → IsRun words workers seed → let u : Use = use_of words (reading_of I.left I.faults input.old input.new) (writing_of O.taken O.faults out result.out) (writing_of T.taken T.faults trace.old trace.new) result.kept.items (devices_of D.told D.faults logs.old.items) (devices_of D.told D.faults logs.new.items) in IsOutcome u result.status }
+    ensures opens { (words : List (List ℕ)) → let u : Use = use_of words (reading_of I.left I.faults input.old input.new) (writing_of O.taken O.faults out result.out) (writing_of T.taken T.faults trace.old trace.new) result.kept.items (devices_of D.told D.faults logs.old.items) (devices_of D.told D.faults logs.new.items) in
+        (text : List ℕ) (w : Work) (records : List (List Record)) (o : Opening) → IsUntroubled u text w records o → ¬ IsOfLogs result.status }
+    ensures untouched { GetsNoCall result.status → logs.new ≡ logs.old }
+    ensures no_trace { result.kept.items ≡ [] → trace.new ≡ trace.old }
+{
+    one_command();
+    one_work();
+    match read_work(alloc, input) {
+        Ok(work) => crew_work(rt, alloc, work, workers as usize, gate, logs, out, trace),
+        Err(status) => CrewRan {
+            kept: Vec::new(alloc),
+            status,
+            out,
+        },
+    }
+}
+
+/// Runs the text of so many transactions that the seed draws, and prints its summary.
+fn crew_generated<
+    R: Threads + Wait + Sync,
+    D: LogDev + Drop + Send,
+    O: Sink,
+    T: Sink,
+    G: Gate + Sync,
+>(
+    rt: &R,
+    alloc: Global,
+    count: u32,
+    seed: u64,
+    workers: u8,
+    gate: &G,
+    logs: &mut Vec<D>,
+    out: O,
+    trace: &mut T,
+) -> CrewRan<O>
+    requires few_transactions { count ≤ MOST_TRANSACTIONS }
+    requires four { vec_len logs.old ≡ 4 }
+    requires few { workers ≤ MOST_WORKERS }
+    ensures answer { (words : List (List ℕ)) (reading : Reading) → let u : Use = use_of words reading (writing_of O.taken O.faults out result.out) (writing_of T.taken T.faults trace.old trace.new) result.kept.items (devices_of D.told D.faults logs.old.items) (devices_of D.told D.faults logs.new.items) in IsMeasured u free count seed result.status }
+    ensures opens { (words : List (List ℕ)) (reading : Reading) → let u : Use = use_of words reading (writing_of O.taken O.faults out result.out) (writing_of T.taken T.faults trace.old trace.new) result.kept.items (devices_of D.told D.faults logs.old.items) (devices_of D.told D.faults logs.new.items) in
+        (w : Work) (records : List (List Record)) (o : Opening) → MayBeMeasured u count seed w records o → ¬ IsOfLogs result.status }
+    ensures untouched { GetsNoCall result.status → logs.new ≡ logs.old }
+    ensures no_trace { result.kept.items ≡ [] → trace.new ≡ trace.old }
+{
+    one_work();
+    match generated_work(alloc, count, seed) {
+        Ok(work) => crew_bench(rt, alloc, work, workers as usize, gate, logs, out, trace),
+        Err(_) => CrewRan {
+            kept: Vec::new(alloc),
+            status: Status::Memory,
+            out,
+        },
+    }
+}

@@ -1,0 +1,157 @@
+//! The call on one thread.
+ghost use Rattle.std.specs.Prelude.{◌≡◌, ◌⊎◌, ◌≤◌, ℕ, List, [], map, string_bytes, vec_len};
+ghost use Rattle.command_words.specs.Words.{IsRun, IsBench};
+ghost use Rattle.command_words.specs.Workers.{AskFor};
+ghost use Rattle.log_opening.specs.Devices.{devices_of};
+ghost use Rattle.run_recovery.specs.Schedules.{seeded};
+ghost use Rattle.run_work.specs.Runs.{IsOfLogs};
+ghost use Rattle.run_work.specs.Writings.{writing_of};
+ghost use Rattle.snap_recover.specs.declared.openings.Opening.{Opening};
+ghost use Rattle.snap_report.specs.declared.statuses.Status.TheVariants as status;
+ghost use Rattle.snap_run.specs.Answers.{IsUntroubled, IsPrintable, IsMeasured, MayBeMeasured, GetsNoCall};
+ghost use Rattle.snap_run.specs.Outcomes.{IsOutcome};
+ghost use Rattle.snap_run.specs.Recoveries.{IsRecoverable};
+ghost use Rattle.snap_run.specs.Uses.{Reading, Use, reading_of, use_of};
+ghost use Rattle.snap_work.specs.Works.{Work};
+ghost use Rattle.snap_work.specs.declared.limits.TheConstants.{MOST_TRANSACTIONS};
+ghost use Rattle.txn_records.specs.declared.records.Record.{Record};
+
+use crate::endings::{Outcome, done_or_no_memory};
+use crate::recoveries::print_recovered;
+use crate::works::{generated_work, print_generated, read_work};
+use command_words::{Command, one_command, read_words};
+use core_events::Event;
+use run_work::{bench_work, run_work};
+use snap_outside::{LogDev, Sink, Source};
+use snap_report::Status;
+use std::alloc::Global;
+use work_text::one_work;
+
+/// Does what the words ask for. `run` reads a work text from `input` and runs it on the machine by the schedule of the seed: it
+/// goes on from what the text's logs hold, writes the records of the run there, prints its replies and its end to `out`, and
+/// at last a line of each event to `trace`. The other commands read no input: `recover` prints what the logs recover to, `gen`
+/// prints a generated text, and `bench` runs one as `run` runs its input, but prints the summary of the run alone.
+pub fn run_solo<I: Source, D: LogDev, O: Sink, T: Sink>(
+    alloc: Global,
+    words: &[String],
+    input: &mut I,
+    logs: Vec<D>,
+    out: O,
+    trace: T,
+) -> Outcome<D, O, T>
+    requires four { vec_len logs ≡ 4 }
+    // They ask for no workers.
+    requires alone { AskFor (map string_bytes words.now) 0 }
+    // Each answer has its cause, and tells what was printed, traced and left on the logs.
+    ensures outcome { let u : Use = use_of (map string_bytes words.now) (reading_of I.left I.faults input.old input.new) (writing_of O.taken O.faults out result.out) (writing_of T.taken T.faults trace result.trace) result.kept.items (devices_of D.told D.faults logs.items) (devices_of D.told D.faults result.logs.items) in IsOutcome u result.status }
+    // Where nothing stands in the way, the work is run to its end, or there is no memory.
+    ensures complete { let u : Use = use_of (map string_bytes words.now) (reading_of I.left I.faults input.old input.new) (writing_of O.taken O.faults out result.out) (writing_of T.taken T.faults trace result.trace) result.kept.items (devices_of D.told D.faults logs.items) (devices_of D.told D.faults result.logs.items) in
+        (text : List ℕ) (w : Work) (records : List (List Record)) (o : Opening) → IsUntroubled u text w records o → (result.status ≡ status.Done) ⊎ (result.status ≡ status.Memory) }
+    // Where nothing stands in the way of recovering, what the logs recover to is printed, or there is no memory.
+    ensures complete_recover { let u : Use = use_of (map string_bytes words.now) (reading_of I.left I.faults input.old input.new) (writing_of O.taken O.faults out result.out) (writing_of T.taken T.faults trace result.trace) result.kept.items (devices_of D.told D.faults logs.items) (devices_of D.told D.faults result.logs.items) in
+        (kept : List (List Record)) → IsRecoverable u kept → (result.status ≡ status.Done) ⊎ (result.status ≡ status.Memory) }
+    // Where the output takes it, a generated text is printed, or there is no memory.
+    ensures complete_gen { let u : Use = use_of (map string_bytes words.now) (reading_of I.left I.faults input.old input.new) (writing_of O.taken O.faults out result.out) (writing_of T.taken T.faults trace result.trace) result.kept.items (devices_of D.told D.faults logs.items) (devices_of D.told D.faults result.logs.items) in
+        IsPrintable u → (result.status ≡ status.Done) ⊎ (result.status ≡ status.Memory) }
+    // Where nothing stands in the way of a generated text, it is run to its end, or there is no memory.
+    ensures complete_bench { let u : Use = use_of (map string_bytes words.now) (reading_of I.left I.faults input.old input.new) (writing_of O.taken O.faults out result.out) (writing_of T.taken T.faults trace result.trace) result.kept.items (devices_of D.told D.faults logs.items) (devices_of D.told D.faults result.logs.items) in
+        (count seed workers : ℕ) (w : Work) (records : List (List Record)) (o : Opening) → IsBench u.words count seed workers → MayBeMeasured u count seed w records o → (result.status ≡ status.Done) ⊎ (result.status ≡ status.Memory) }
+    // Before the text is accepted, no log gets a call.
+    ensures untouched { GetsNoCall result.status → result.logs ≡ logs }
+    // Where no event is kept, the trace gets none.
+    ensures no_trace { result.kept.items ≡ [] → result.trace ≡ trace }
+{
+    done_or_no_memory();
+    let mut logs = logs;
+    let mut out = out;
+    let mut trace = trace;
+    let (kept, status) = answer(alloc, words, input, &mut logs, &mut out, &mut trace);
+    Outcome {
+        status,
+        kept,
+        logs,
+        out,
+        trace,
+    }
+}
+
+/// The words, then what they ask for.
+fn answer<I: Source, D: LogDev, O: Sink, T: Sink>(
+    alloc: Global,
+    words: &[String],
+    input: &mut I,
+    logs: &mut Vec<D>,
+    out: &mut O,
+    trace: &mut T,
+) -> (Vec<Event>, Status)
+    requires four { vec_len logs.old ≡ 4 }
+    requires alone { AskFor (map string_bytes words.now) 0 }
+    ensures outcome { let u : Use = use_of (map string_bytes words.now) (reading_of I.left I.faults input.old input.new) (writing_of O.taken O.faults out.old out.new) (writing_of T.taken T.faults trace.old trace.new) result.0.items (devices_of D.told D.faults logs.old.items) (devices_of D.told D.faults logs.new.items) in IsOutcome u result.1 }
+    ensures opens { let u : Use = use_of (map string_bytes words.now) (reading_of I.left I.faults input.old input.new) (writing_of O.taken O.faults out.old out.new) (writing_of T.taken T.faults trace.old trace.new) result.0.items (devices_of D.told D.faults logs.old.items) (devices_of D.told D.faults logs.new.items) in
+        (text : List ℕ) (w : Work) (records : List (List Record)) (o : Opening) → IsUntroubled u text w records o → ¬ IsOfLogs result.1 }
+    ensures opens_bench { let u : Use = use_of (map string_bytes words.now) (reading_of I.left I.faults input.old input.new) (writing_of O.taken O.faults out.old out.new) (writing_of T.taken T.faults trace.old trace.new) result.0.items (devices_of D.told D.faults logs.old.items) (devices_of D.told D.faults logs.new.items) in
+        (count seed workers : ℕ) (w : Work) (records : List (List Record)) (o : Opening) → IsBench u.words count seed workers → MayBeMeasured u count seed w records o → ¬ IsOfLogs result.1 }
+    ensures untouched { GetsNoCall result.1 → logs.new ≡ logs.old }
+    ensures no_trace { result.0.items ≡ [] → trace.new ≡ trace.old }
+{
+    one_command();
+    match read_words(words) {
+        Ok(Command::Run { seed, .. }) => run_input(alloc, input, seed, logs, out, trace),
+        Ok(Command::Recover) => (Vec::new(alloc), print_recovered(alloc, logs, out)),
+        Ok(Command::Gen { count, seed }) => {
+            (Vec::new(alloc), print_generated(alloc, count, seed, out))
+        }
+        Ok(Command::Bench { count, seed, .. }) => run_generated(
+            alloc, count, seed, logs, out, trace,
+        ),
+        Err(word) => (Vec::new(alloc), Status::Usage { word }),
+    }
+}
+
+/// Runs the input.
+fn run_input<I: Source, D: LogDev, O: Sink, T: Sink>(
+    alloc: Global,
+    input: &mut I,
+    seed: u64,
+    logs: &mut Vec<D>,
+    out: &mut O,
+    trace: &mut T,
+) -> (Vec<Event>, Status)
+    requires { vec_len logs.old ≡ 4 }
+    ensures outcome { (words : List (List ℕ)) → IsRun words 0 seed → let u : Use = use_of words (reading_of I.left I.faults input.old input.new) (writing_of O.taken O.faults out.old out.new) (writing_of T.taken T.faults trace.old trace.new) result.0.items (devices_of D.told D.faults logs.old.items) (devices_of D.told D.faults logs.new.items) in IsOutcome u result.1 }
+    ensures opens { (words : List (List ℕ)) → let u : Use = use_of words (reading_of I.left I.faults input.old input.new) (writing_of O.taken O.faults out.old out.new) (writing_of T.taken T.faults trace.old trace.new) result.0.items (devices_of D.told D.faults logs.old.items) (devices_of D.told D.faults logs.new.items) in
+        (text : List ℕ) (w : Work) (records : List (List Record)) (o : Opening) → IsUntroubled u text w records o → ¬ IsOfLogs result.1 }
+    ensures untouched { GetsNoCall result.1 → logs.new ≡ logs.old }
+    ensures no_trace { result.0.items ≡ [] → trace.new ≡ trace.old }
+{
+    one_command();
+    one_work();
+    match read_work(alloc, input) {
+        Ok(work) => run_work(alloc, work, seed, logs, out, trace),
+        Err(status) => (Vec::new(alloc), status),
+    }
+}
+
+/// Runs the text of so many transactions that the seed draws, by the schedule of seed 0, and prints its summary.
+fn run_generated<D: LogDev, O: Sink, T: Sink>(
+    alloc: Global,
+    count: u32,
+    seed: u64,
+    logs: &mut Vec<D>,
+    out: &mut O,
+    trace: &mut T,
+) -> (Vec<Event>, Status)
+    requires few { count ≤ MOST_TRANSACTIONS }
+    requires four { vec_len logs.old ≡ 4 }
+    ensures answer { (words : List (List ℕ)) (reading : Reading) → let u : Use = use_of words reading (writing_of O.taken O.faults out.old out.new) (writing_of T.taken T.faults trace.old trace.new) result.0.items (devices_of D.told D.faults logs.old.items) (devices_of D.told D.faults logs.new.items) in IsMeasured u (seeded 0) count seed result.1 }
+    ensures opens { (words : List (List ℕ)) (reading : Reading) → let u : Use = use_of words reading (writing_of O.taken O.faults out.old out.new) (writing_of T.taken T.faults trace.old trace.new) result.0.items (devices_of D.told D.faults logs.old.items) (devices_of D.told D.faults logs.new.items) in
+        (w : Work) (records : List (List Record)) (o : Opening) → MayBeMeasured u count seed w records o → ¬ IsOfLogs result.1 }
+    ensures untouched { GetsNoCall result.1 → logs.new ≡ logs.old }
+    ensures no_trace { result.0.items ≡ [] → trace.new ≡ trace.old }
+{
+    one_work();
+    match generated_work(alloc, count, seed) {
+        Ok(work) => bench_work(alloc, work, logs, out, trace),
+        Err(_) => (Vec::new(alloc), Status::Memory),
+    }
+}
