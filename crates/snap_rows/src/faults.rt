@@ -1,113 +1,66 @@
-//! Runs whose source, output or trace fails at each call in turn.
+//! Calls whose source, sinks and devices fail.
 
-use crate::calls::{Failing, NONE, run_on_empty_logs};
-use crate::marks::{MARKED, marked_text};
-use snap_report::Status;
-use std::test::Fail;
+/// Runs and recoveries that a call of theirs cuts off. On its own, log 0 with a record takes three calls to recover: its length,
+/// a read and a sync; and an empty log 1 its length, a write and a sync.
+pub const CUTS: &str = "\
+two in turn|21
+tells LogFault { log: 0 }|tx 0 committed 1.0.1 101/tx 1 unsure 0/|
+recovers Done|actor 0 101/recovered batches 1 acts 0 next 3 3 1/|
 
-/// More than the reads of a text, the writes of its output, and those of its trace, in any of these runs.
-const MANY: u64 = 1000;
+two in turn|1
+tells LogFault { log: 0 }|tx 0 unsure 0/tx 1 unsure 0/|
+recovers Logs { log: 0, offset: 0, cause: NoGenesis }||
 
-/// Each read fails in turn, until there is none more and the run ends.
-#[test]
-fn a_read_that_fails_ends_the_run_before_it_begins(rt: HostRuntime) -> Result<(), Fail> {
-    let alloc = rt.alloc();
-    for row in MARKED.split('@') {
-        let parts: Vec<&str> = row.split('|').collect(alloc)?;
-        let [head, lines, output] = parts.as_slice() else {
-            return Err("the parts of a row".into());
-        };
-        let text = marked_text(alloc, head, lines)?;
-        for read in 1..MANY {
-            let failing = Failing {
-                read,
-                write: 0,
-                trace: 0,
-            };
-            let ran = run_on_empty_logs(alloc, text.as_str(), failing)?;
-            if ran.status == Status::Done {
-                assert!(rt; read > 1, "at read {read} of {row}");
-                assert!(rt; ran.prints(alloc, output)?, "{row}");
-                break;
-            }
-            assert!(rt; ran.gives(Status::ReadFault, ""), "at read {read} of {row}");
-            assert_eq!(rt; ran.trace.len(), 0, "at read {read} of {row}");
-            assert_eq!(rt;
-                ran.operations(alloc)?.as_str(),
-                "0.0.0.0",
-                "at read {read} of {row}"
-            );
-        }
-    }
-    Ok(())
-}
+two in turn|1 0 0 4
+tells LogFault { log: 0 }|tx 0 unsure 0/tx 1 uns|
+recovers Logs { log: 0, offset: 0, cause: NoGenesis }||
 
-/// Whether this is the whole trace, or its front up to a reply.
-fn ends_before_a_reply(whole: &[u8], front: &[u8]) -> bool {
-    if front.len() > whole.len() {
-        return false;
-    }
-    let (begun, rest) = whole.split_at(front.len());
-    begun == front && (rest.is_empty() || rest.starts_with("reply ".as_bytes()))
-}
+one on two logs|0 1
+tells LogFault { log: 1 }|tx 0 unsure 1/|
+recovers Logs { log: 0, offset: 0, cause: NoGenesis }||
 
-/// Each write of the output fails in turn, and then each of the trace, until there is none more. Behind a reply that could
-/// not be written no event is taken, but those before it are traced. A trace that fails changes nothing else.
-#[test]
-fn a_write_that_fails_leaves_what_was_taken(rt: HostRuntime) -> Result<(), Fail> {
-    let alloc = rt.alloc();
-    for row in MARKED.split('@') {
-        let parts: Vec<&str> = row.split('|').collect(alloc)?;
-        let [head, lines, output] = parts.as_slice() else {
-            return Err("the parts of a row".into());
-        };
-        let text = marked_text(alloc, head, lines)?;
-        let output = output.replace(alloc, "/", "\n")?;
-        let whole = run_on_empty_logs(alloc, text.as_str(), NONE)?;
-        assert!(rt; whole.gives(Status::Done, output.as_str()), "{row}");
-        for write in 1..MANY {
-            let failing = Failing {
-                read: 0,
-                write,
-                trace: 0,
-            };
-            let ran = run_on_empty_logs(alloc, text.as_str(), failing)?;
-            if ran.status == Status::Done {
-                assert!(rt; write > 1, "{row}");
-                break;
-            }
-            assert_eq!(rt; ran.status, Status::OutFault, "at write {write} of {row}");
-            assert!(rt;
-                output.as_bytes().starts_with(&ran.output),
-                "at write {write} of {row}"
-            );
-            assert!(rt;
-                ran.output.len() < output.len(),
-                "at write {write} of {row}"
-            );
-            assert!(rt;
-                ends_before_a_reply(&whole.trace, &ran.trace),
-                "at write {write} of {row}"
-            );
-        }
-        for trace in 1..MANY {
-            let failing = Failing {
-                read: 0,
-                write: 0,
-                trace,
-            };
-            let ran = run_on_empty_logs(alloc, text.as_str(), failing)?;
-            if ran.status == Status::Done {
-                assert!(rt; trace > 1, "{row}");
-                break;
-            }
-            assert!(rt;
-                ran.gives(Status::TraceFault, output.as_str()),
-                "at {trace} of {row}"
-            );
-            assert!(rt; whole.trace.starts_with(&ran.trace), "at {trace} of {row}");
-            assert!(rt; ran.trace.len() < whole.trace.len(), "at {trace} of {row}");
-        }
-    }
-    Ok(())
-}
+each kind on its log|0 8
+tells LogFault { log: 1 }|tx 0 unsure 1/tx 1 unsure 1/|
+recovers Done|actor 0 0/actor 1 0/recovered batches 0 acts 0 next 2 2 1/|
+
+recover|1 0 1 1 1|G2:100
+tells LogFault { log: 0 }||
+leaves |
+
+recover|2 0 1 1 1|G2:100
+tells LogFault { log: 0 }||
+leaves |
+
+recover|3 0 1 1 1|G2:100
+tells LogFault { log: 0 }||
+leaves |
+
+recover|0 1 1 1 1|G2:100
+tells LogFault { log: 1 }||
+leaves |
+
+recover|0 2 1 1 1|G2:100
+tells LogFault { log: 1 }||
+leaves |
+
+recover|0 3 1 1 1|G2:100
+tells LogFault { log: 1 }||
+leaves |=SNAPLOG1\0";
+
+/// Runs of which each call of the outside fails in turn.
+pub const SWEEPS: &str = "\
+a mark
+tells Done|tx 0 committed 1.0.1 80/actor 0 70 1/actor 1 80/end committed 1 aborted 0 batches 1/|
+fails at any call
+
+marks of both kinds
+tells Done|tx 0 committed 2.1.2 95/tx 1 committed 1.0.1 55/tx 2 committed 2.1.1 65/tx 3 committed 2.0.2 61/actor 0 65 3/actor 1 95 12/end committed 4 aborted 0 batches 2/|
+fails at any call
+
+marks on two logs
+tells Done|tx 0 committed 1.0.1 80/tx 1 committed 1.1.1 75/actor 0 75 1/actor 1 75 2/end committed 2 aborted 0 batches 1/|
+fails at any call
+
+marks and a failing batch
+tells Done|tx 0 committed 1.0.1 1/tx 1 batchcode 2 1 9/tx 2 cascade 2 1/tx 3 cascade 2 1/tx 4 committed 1.1.1 8/actor 0 8 17/actor 1 0/actor 2 0/end committed 2 aborted 3 batches 1/|
+fails at any call";

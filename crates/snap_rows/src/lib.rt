@@ -1,19 +1,15 @@
-//! Worked rows: what a run of a text leaves on the logs, record by record, on empty and on kept logs; what logs recover to,
-//! and why they are refused; and runs whose source, sinks and devices fail at each call in turn, with every image that a crash
-//! then leaves. Expected values are worked out from the rules,
-//! apart from the code. What the program itself shows, stands in `rows/`.
+//! Rows of calls of the top call: what a run of a text prints and leaves on the logs, record by record, on empty and on kept
+//! logs; what logs recover to, and why they are refused; and runs whose source, sinks and devices fail at each call in turn,
+//! with every image that a crash then leaves. Expected values are worked out from the rules, apart from the code. What the
+//! program itself shows, stands in `rows/`.
 #![tactic(auto)]
 
 #[cfg(test)]
 mod calls;
 #[cfg(test)]
-mod devices;
-#[cfg(test)]
 mod faults;
 #[cfg(test)]
-mod journals;
-#[cfg(test)]
-mod marks;
+mod logs;
 #[cfg(test)]
 mod recoveries;
 #[cfg(test)]

@@ -5,9 +5,9 @@
 mod counters;
 #[cfg(test)]
 mod rows;
+#[cfg(test)]
 mod runs;
+#[cfg(test)]
 mod workers;
 
 pub use counters::{Change, Counted, Counter};
-pub use runs::{Ending, Told, closed, opened, split_off, two_passes, two_workers};
-pub use workers::{add_once, count, count_all, is_free, is_free_while_held, move_once};

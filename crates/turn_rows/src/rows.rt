@@ -12,9 +12,10 @@ const ROWS: [(usize, u64, u64, Option<u64>); 3] = [
     (MOST_PARTS, 3, 8, Some(2)),
 ];
 
-/// A turn that is held is refused, changes get the numbers from 0 on, and they come out in this order.
+/// A turn that is held is refused, changes get the numbers from 0 on, and they come out in this order. Each of two workers in
+/// threads records ten thousand changes, and all of them come out once.
 #[test]
-fn turns_are_refused_and_numbers_count_on(rt: HostRuntime) -> Result<(), Fail> {
+fn turns_are_taken_as_the_rows_say(rt: HostRuntime) -> Result<(), Fail> {
     for (count, first, last, third_number) in ROWS {
         assert!(rt; 0 < count && count <= MOST_PARTS);
         let (told, ending) = two_passes(rt.alloc(), count)?;
@@ -44,12 +45,6 @@ fn turns_are_refused_and_numbers_count_on(rt: HostRuntime) -> Result<(), Fail> {
         assert_eq!(rt; changes.get(2).copied(), third_number.map(|_| moved));
         assert_eq!(rt; changes.get(3).copied(), None);
     }
-    Ok(())
-}
-
-/// Each of two workers in threads records ten thousand changes, and all of them come out once.
-#[test]
-fn workers_in_threads_record_each_change_once(rt: HostRuntime) -> Result<(), Fail> {
     let ending = two_workers(&rt, rt.alloc(), 10_000)?;
     assert_eq!(rt; ending.changes.len(), 20_000);
     let counted = Counter { value: 10_000 };

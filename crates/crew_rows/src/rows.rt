@@ -1,0 +1,672 @@
+//! Runs by crews, and what is not so of one.
+
+ghost use Rattle.std.specs.Prelude.{◌≡◌, ◌+◌, ◌≤◌, ◌^◌, false, length, vec_len, IfOk};
+ghost use Rattle.std.specs.List.{AllByRecursion};
+ghost use Rattle.gate_log.specs.declared.limits.TheConstants.{FARTHEST_END};
+ghost use Rattle.snap_hand.specs.Tables.{AreTables};
+ghost use Rattle.crew_workers.specs.declared.crews.TheConstants.{MOST_WORKERS};
+
+use crate::texts::{BY_HAND, TOTAL, TWO_ACTORS, drawn, tables_of, text_of};
+use aml_serial::run_alone;
+use core_events::Event;
+use crew_host::{CrewEnd, MOST_WORKERS, drive_crew};
+use gate_log::{FARTHEST_END, Log};
+use run_journals::Stop;
+use snap_base::{ActorId, Memory, Place, State, TxNo, TxResult, Verdict};
+use snap_core::{Core, StepNo};
+use snap_hand::Tables;
+use snap_outside::{FreeGate, Gate, MemLog, MemSink};
+use snap_report::reply_line;
+use std::alloc::Global;
+use std::sync::Wait;
+use std::sync::atomic::{AtomicU64, Ordering};
+use std::test::Fail;
+use std::thread;
+use std::thread::Threads;
+use work_gen::generate;
+
+/// A text has at most so many actors.
+const MOST_ACTORS: u16 = 256;
+
+/// An append to a log makes so many calls of its device, each of which the device keeps where it succeeds. Opening makes one more
+/// that it does not keep.
+const CALLS_OF_AN_APPEND: usize = 4;
+
+/// How often a slice that waits for another looks for it, at most.
+const PATIENCE: u64 = 20_000_000;
+
+/// Which calls fail: of the device of log 0, of that of log 1, and of the output, by their numbers from 1 on; 0 where none does.
+#[derive(Clone, Copy)]
+struct Faults {
+    first: u64,
+    second: u64,
+    out: u64,
+}
+
+const NO_FAULTS: Faults = Faults {
+    first: 0,
+    second: 0,
+    out: 0,
+};
+
+impl Faults {
+    /// The call that fails of this log's device.
+    fn of(self, l: usize) -> u64 {
+        match l {
+            0 => self.first,
+            1 => self.second,
+            _ => 0,
+        }
+    }
+}
+
+/// What a crew ended with.
+struct Ended {
+    core: Core,
+    devices: Vec<MemLog>,
+    out: MemSink,
+    failed: bool,
+    stop: Stop,
+    kept: Vec<Event>,
+}
+
+// By hand, so that whoever lets it go calls this, and does not repeat it.
+impl Drop for Ended {
+    fn drop(self) {
+        let Ended {
+            core: _core,
+            devices: _devices,
+            out: _out,
+            failed: _failed,
+            stop: _stop,
+            kept: _kept,
+        } = self;
+    }
+}
+
+/// A list of this call, or of none.
+fn fails(alloc: Global, call: u64) -> Result<Vec<u64>, Memory> {
+    let mut calls = Vec::new(alloc);
+    if call != 0 {
+        calls.push(call)?;
+    }
+    Ok(calls)
+}
+
+/// A new log on a device of which this call fails, which is none of its opening.
+fn open_log(alloc: Global, call: u64) -> Result<Log<MemLog>, Memory>
+    ensures open { IfOk result (λ log. log.shut ≡ false) }
+    ensures end { IfOk result (λ log. log.end ≤ FARTHEST_END) }
+{
+    let device = MemLog::new(alloc, Vec::new(alloc), fails(alloc, call)?)?;
+    match Log::open(alloc, device) {
+        Ok(log) => Ok(log),
+        Err(_) => Err(Memory),
+    }
+}
+
+/// So many new logs.
+fn open_logs(alloc: Global, count: u8, faults: Faults) -> Result<Vec<Log<MemLog>>, Memory>
+    ensures count { IfOk result (λ logs. vec_len logs ≡ count) }
+    ensures open { IfOk result (λ logs. AllByRecursion (λ l. l.shut ≡ false) logs.items) }
+    ensures ends { IfOk result (λ logs. AllByRecursion (λ l. l.end ≤ FARTHEST_END + 2 ^ 32) logs.items) }
+{
+    let mut logs = Vec::with_capacity(alloc, count as usize)?;
+    for l in 0..count {
+        match open_log(alloc, faults.of(l as usize)) {
+            Ok(log) => logs.push_reserved(log),
+            Err(_) => {
+                let _devices = devices_of(alloc, logs);
+                return Err(Memory);
+            }
+        }
+    }
+    Ok(logs)
+}
+
+/// The devices of the logs.
+fn devices_of(alloc: Global, logs: Vec<Log<MemLog>>) -> Result<Vec<MemLog>, Memory> {
+    let mut logs = logs;
+    let mut devices = Vec::new(alloc);
+    let mut all = Ok(());
+    while let Some(log) = logs.pop() {
+        if devices.push(log.into_dev()).is_err() {
+            all = Err(Memory);
+        }
+    }
+    logs.destroy_empty();
+    all?;
+    devices.reverse();
+    Ok(devices)
+}
+
+/// What so many workers make of the text.
+fn run<R: Threads + Wait + Sync, G: Gate + Sync>(
+    rt: &R,
+    alloc: Global,
+    text: &[u8],
+    faults: Faults,
+    gate: &G,
+    workers: usize,
+) -> Result<Ended, Fail>
+    requires { workers ≤ MOST_WORKERS }
+{
+    let core = Core::open(alloc, tables_of(alloc, text)?)?;
+    let out = MemSink::new(alloc, fails(alloc, faults.out)?)?;
+    let logs = open_logs(alloc, core.tables().work.logs, faults)?;
+    let CrewEnd {
+        core,
+        logs,
+        out,
+        failed,
+        stop,
+        kept,
+    } = drive_crew(rt, alloc, core, logs, out, gate, workers);
+    let devices = devices_of(alloc, logs)?;
+    Ok(Ended {
+        core,
+        devices,
+        out,
+        failed,
+        stop,
+        kept,
+    })
+}
+
+/// Appends what waits on log `l`, if there is such a log.
+fn append(alloc: Global, core: &Core, logs: &mut Vec<Log<MemLog>>, l: u8) -> Result<(), Memory> {
+    if l >= core.tables().work.logs {
+        return Ok(());
+    }
+    let pieces = core.group(alloc, l)?;
+    let Some(log) = logs.get_mut(l as usize) else {
+        return Ok(());
+    };
+    if !log.may_append(pieces.as_slice()) {
+        return Ok(());
+    }
+    match log.append(alloc, pieces.as_slice()) {
+        Ok(()) => Ok(()),
+        Err(_) => Err(Memory),
+    }
+}
+
+/// Prints the line of transaction `n`, where its verdict is known.
+fn print(alloc: Global, core: &Core, n: TxNo, lines: &mut String) -> Result<(), Memory> {
+    if let Some(verdict) = core.verdict(n) {
+        lines.push_str(&reply_line(alloc, n, &verdict)?)?;
+    }
+    Ok(())
+}
+
+/// Takes the event. Whether it is allowed.
+fn take(
+    alloc: Global,
+    core: &mut Core,
+    logs: &mut Vec<Log<MemLog>>,
+    lines: &mut String,
+    event: Event,
+) -> Result<bool, Memory> {
+    match event {
+        Event::Sync(l) => append(alloc, core, logs, l)?,
+        Event::Reply(n) => print(alloc, core, n, lines)?,
+        _ => {}
+    }
+    match core.step(alloc, event) {
+        Ok(()) => Ok(true),
+        Err(StepNo::NotNow { rule: _ }) => Ok(false),
+        Err(StepNo::Memory) => Err(Memory),
+    }
+}
+
+/// Takes the events one after the other, and then appends what waits on the logs that may have failed. Whether all are allowed.
+fn take_all(
+    alloc: Global,
+    core: &mut Core,
+    logs: &mut Vec<Log<MemLog>>,
+    lines: &mut String,
+    ended: &Ended,
+    faults: Faults,
+) -> Result<bool, Memory> {
+    for event in ended.kept.as_slice() {
+        if !take(alloc, core, logs, lines, *event)? {
+            return Ok(false);
+        }
+    }
+    for l in 0..2u8 {
+        if may_be_shut(ended.stop, faults, l as usize) {
+            append(alloc, core, logs, l)?;
+        }
+    }
+    Ok(true)
+}
+
+/// Whether the run ended for the fault of this log.
+fn is_shut(stop: Stop, l: usize) -> bool {
+    match stop {
+        Stop::LogFault(log) => log as usize == l,
+        _ => false,
+    }
+}
+
+/// Whether a log may be shut behind a run that ended so. The first that is has told why.
+fn may_be_shut(stop: Stop, faults: Faults, l: usize) -> bool {
+    match stop {
+        Stop::LogFault(first) => faults.of(l) != 0 && first as usize <= l,
+        _ => false,
+    }
+}
+
+/// Whether a device is as another one was behind as many calls, in what is read of it and in what is synced.
+fn is_front(alloc: Global, device: &MemLog, whole: &MemLog) -> Result<bool, Memory> {
+    let count = device.ops().len();
+    // All calls were made: there is no need to make them anew, which takes long.
+    if count == whole.ops().len() {
+        return Ok(device.bytes() == whole.bytes());
+    }
+    if count > whole.ops().len() {
+        return Ok(false);
+    }
+    for choice in [0, 2] {
+        let left = device.image(alloc, count, choice)?;
+        let wanted = whole.image(alloc, count, choice)?;
+        if left.as_slice() != wanted.as_slice() {
+            return Ok(false);
+        }
+    }
+    Ok(true)
+}
+
+/// Whether the device of log `l`, which keeps so many of its calls, has had those of all its appends, and none that fails; or,
+/// where the log may be shut, those up to the one that failed.
+fn has_calls(count: usize, whole: usize, stop: Stop, faults: Faults, l: usize) -> bool {
+    // With the call that asked for the length, and the next one.
+    let next = (count as u64).saturating_add(2);
+    let call = faults.of(l);
+    let is_cut_off = count < whole && whole <= count.saturating_add(CALLS_OF_AN_APPEND);
+    if is_shut(stop, l) {
+        return is_cut_off && next == call;
+    }
+    if may_be_shut(stop, faults, l) {
+        return is_cut_off || count == whole;
+    }
+    count == whole && (call == 0 || next <= call)
+}
+
+/// Whether the device of log `l` is as that of a plain journal is.
+fn is_kept(
+    alloc: Global,
+    ended: &Ended,
+    whole: &MemLog,
+    faults: Faults,
+    l: usize,
+) -> Result<bool, Memory> {
+    let Some(device) = ended.devices.get(l) else {
+        return Ok(false);
+    };
+    let (count, all) = (device.ops().len(), whole.ops().len());
+    Ok(has_calls(count, all, ended.stop, faults, l) && is_front(alloc, device, whole)?)
+}
+
+/// Whether the devices are as those of plain journals are.
+fn are_kept(
+    alloc: Global,
+    ended: &Ended,
+    wholes: &[MemLog],
+    faults: Faults,
+) -> Result<bool, Memory> {
+    for l in 0..wholes.len() {
+        if !is_kept(alloc, ended, &wholes[l], faults, l)? {
+            return Ok(false);
+        }
+    }
+    Ok(ended.devices.len() == wholes.len())
+}
+
+/// The actors' states.
+fn states_of(alloc: Global, core: &Core) -> Result<Vec<State>, Memory> {
+    let mut states = Vec::new(alloc);
+    for a in 0..MOST_ACTORS {
+        if (a as usize) < core.tables().opening.states.len() {
+            states.push(core.state(ActorId(a)))?;
+        }
+    }
+    Ok(states)
+}
+
+/// The sum of all fields.
+fn total(states: &[State]) -> i64 {
+    let mut total: i64 = 0;
+    for state in states {
+        for field in state.0 {
+            total = total.wrapping_add(field);
+        }
+    }
+    total
+}
+
+/// The place of a transaction that has one.
+fn place_of(verdict: Option<Verdict>) -> Option<Place> {
+    match verdict {
+        Some(Verdict::Committed { place, value: _ }) => Some(place),
+        _ => None,
+    }
+}
+
+/// Whether one comes before the other in the serial order.
+fn is_before(one: (Place, usize), other: (Place, usize)) -> bool {
+    one.0 < other.0 || (one.0 == other.0 && one.1 < other.1)
+}
+
+/// Whether one comes behind the last, where there is one, and before the next that is known, where one is.
+fn is_between(
+    last: Option<(Place, usize)>,
+    one: (Place, usize),
+    next: Option<(Place, usize)>,
+) -> bool {
+    if let Some(last) = last {
+        if !is_before(last, one) {
+            return false;
+        }
+    }
+    match next {
+        Some(next) => is_before(one, next),
+        None => true,
+    }
+}
+
+/// The committed transaction that comes next behind this one in the serial order.
+fn next_behind(
+    verdicts: &[Option<Verdict>],
+    last: Option<(Place, usize)>,
+) -> Option<(Place, usize)> {
+    let mut next = None;
+    for n in 0..verdicts.len() {
+        if let Some(place) = place_of(verdicts[n]) {
+            if is_between(last, (place, n), next) {
+                next = Some((place, n));
+            }
+        }
+    }
+    next
+}
+
+/// Whether the transaction, run alone, gives what it was told. The states are then those that come next.
+fn gives_its_value(
+    alloc: Global,
+    tables: &Tables,
+    verdict: Option<Verdict>,
+    states: &mut Vec<State>,
+    n: usize,
+) -> Result<bool, Memory>
+    requires tables { AreTables tables.now }
+    requires states { length states.old.items ≡ length tables.now.opening.states }
+    ensures { length states.new.items ≡ length states.old.items }
+{
+    let Some(tx) = tables.work.txs.get(n) else {
+        return Ok(false);
+    };
+    match (verdict, run_alone(alloc, &tables.work.program, states, tx)?) {
+        (Some(Verdict::Committed { place: _, value }), TxResult::Value(given)) => Ok(
+            value == given,
+        ),
+        _ => Ok(false),
+    }
+}
+
+/// Whether the committed transactions, one by one in the order of their places, give their values and these states.
+fn is_serial(
+    alloc: Global,
+    tables: &Tables,
+    verdicts: &[Option<Verdict>],
+    states: &[State],
+) -> Result<bool, Memory>
+    requires { AreTables tables.now }
+{
+    let mut serial = Vec::from_slice(alloc, tables.opening.states.as_slice())?;
+    let mut last = None;
+    for _ in 0..verdicts.len() {
+        let Some((place, n)) = next_behind(verdicts, last) else {
+            break;
+        };
+        let verdict = match verdicts.get(n) {
+            Some(verdict) => *verdict,
+            None => None,
+        };
+        if !gives_its_value(alloc, tables, verdict, &mut serial, n)? {
+            return Ok(false);
+        }
+        last = Some((place, n));
+    }
+    Ok(serial.as_slice() == states)
+}
+
+/// What is not so of a run to its end; nothing, where all is.
+fn untrue_at_the_end(
+    alloc: Global,
+    core: &Core,
+    states: &[State],
+    wanted: Option<i64>,
+) -> Result<&'static str, Memory> {
+    let allowed = core.enabled(alloc)?;
+    if allowed.count() != 0 {
+        return Ok("no event is allowed");
+    }
+    let verdicts = core.verdicts(alloc)?;
+    if verdicts.contains(&None) {
+        return Ok("each transaction has a reply");
+    }
+    if !is_serial(alloc, core.tables(), verdicts.as_slice(), states)? {
+        return Ok("the states are those of the serial run");
+    }
+    match wanted {
+        Some(wanted) if wanted != total(states) => Ok("the sum of all fields stays"),
+        _ => Ok(""),
+    }
+}
+
+/// Whether a run ended for what had failed.
+fn has_cause(ended: &Ended, faults: Faults, lines: &str) -> bool {
+    // The write that comes next.
+    let next = lines.split('\n').count() as u64;
+    if ended.failed && next != faults.out {
+        return false;
+    }
+    if !ended.failed && faults.out != 0 && next > faults.out {
+        return false;
+    }
+    match ended.stop {
+        Stop::Quiet => !ended.failed,
+        Stop::LogFault(l) => faults.of(l as usize) != 0,
+        Stop::OutFault => ended.failed,
+        Stop::Memory => false,
+    }
+}
+
+/// What is not so of what a crew ended with, where the events are taken once more by this core, with these logs.
+fn untrue_with(
+    alloc: Global,
+    ended: &Ended,
+    faults: Faults,
+    wanted: Option<i64>,
+    mut core: Core,
+    mut logs: Vec<Log<MemLog>>,
+) -> Result<&'static str, Memory> {
+    let mut lines = String::new(alloc);
+    let taken = take_all(alloc, &mut core, &mut logs, &mut lines, ended, faults);
+    let wholes = devices_of(alloc, logs)?;
+    if !taken? {
+        return Ok("each event is allowed");
+    }
+    if !has_cause(ended, faults, lines.as_str()) {
+        return Ok("the run ended for what failed first");
+    }
+    if ended.out.bytes() != lines.as_bytes() {
+        return Ok("the output has the lines of the replies");
+    }
+    if !are_kept(alloc, ended, wholes.as_slice(), faults)? {
+        return Ok("the devices have the groups of the Syncs");
+    }
+    let states = states_of(alloc, &core)?;
+    let left = states_of(alloc, &ended.core)?;
+    if left.as_slice() != states.as_slice() {
+        return Ok("the states are those of the core");
+    }
+    let (told, verdicts) = (ended.core.verdicts(alloc)?, core.verdicts(alloc)?);
+    if told.as_slice() != verdicts.as_slice() {
+        return Ok("the verdicts are those of the core");
+    }
+    if ended.stop != Stop::Quiet {
+        return Ok("");
+    }
+    untrue_at_the_end(alloc, &core, states.as_slice(), wanted)
+}
+
+/// What is not so of what a crew made of the text; nothing, where all is.
+fn untrue(
+    alloc: Global,
+    text: &[u8],
+    ended: &Ended,
+    faults: Faults,
+    wanted: Option<i64>,
+) -> Result<&'static str, Fail> {
+    let core = Core::open(alloc, tables_of(alloc, text)?)?;
+    let logs = open_logs(alloc, core.tables().work.logs, NO_FAULTS)?;
+    Ok(untrue_with(alloc, ended, faults, wanted, core, logs)?)
+}
+
+/// Runs the text by so many workers, and tells what is not so.
+fn run_untrue<R: Threads + Wait + Sync>(
+    rt: &R,
+    alloc: Global,
+    text: &[u8],
+    workers: usize,
+    faults: Faults,
+    wanted: Option<i64>,
+) -> Result<&'static str, Fail>
+    requires { workers ≤ MOST_WORKERS }
+{
+    let ended = run(rt, alloc, text, faults, &FreeGate::new(), workers)?;
+    untrue(alloc, text, &ended, faults, wanted)
+}
+
+/// A gate where each slice waits until another one is there, but not for ever.
+#[derive(Drop)]
+struct Meeting {
+    patience: u64,
+    arrived: AtomicU64,
+    missed: AtomicU64,
+}
+
+impl Gate for Meeting {
+    fn enter(&self, _actor: ActorId) {
+        let _before = self.arrived.fetch_add(1, Ordering::SeqCst);
+        for _ in 0..self.patience {
+            if self.arrived.load(Ordering::SeqCst) >= 2 {
+                return;
+            }
+            thread::yield_now();
+        }
+        self.missed.store(1, Ordering::SeqCst);
+    }
+}
+
+/// Whether two slices on two actors meet, where there are so many workers.
+fn meet<R: Threads + Wait + Sync>(
+    rt: &R,
+    alloc: Global,
+    workers: usize,
+    patience: u64,
+) -> Result<bool, Fail>
+    requires { workers ≤ MOST_WORKERS }
+{
+    let gate = Meeting {
+        patience,
+        arrived: AtomicU64::new(0),
+        missed: AtomicU64::new(0),
+    };
+    let (settings, lines) = TWO_ACTORS;
+    let text = text_of(alloc, settings, lines)?;
+    let _ended = run(rt, alloc, text.as_slice(), NO_FAULTS, &gate, workers)?;
+    Ok(gate.missed.load(Ordering::SeqCst) == 0)
+}
+
+/// Faults of a number, on one log, on two, on the output and on both kinds.
+fn faults_of(number: u64) -> Faults {
+    let (call, out) = (4 + number / 5, 1 + number / 5);
+    match number % 5 {
+        0 => Faults {
+            first: call,
+            second: 0,
+            out: 0,
+        },
+        1 => Faults {
+            first: 0,
+            second: call,
+            out: 0,
+        },
+        2 => Faults {
+            first: call,
+            second: call,
+            out: 0,
+        },
+        3 => Faults {
+            first: 0,
+            second: 0,
+            out,
+        },
+        _ => Faults {
+            first: call,
+            second: 0,
+            out,
+        },
+    }
+}
+
+#[test]
+fn crews_do_what_one_core_does(rt: HostRuntime) -> Result<(), Fail> {
+    let alloc = rt.alloc();
+    assert!(rt; meet(&rt, alloc, 2, PATIENCE)?);
+    assert!(rt; !meet(&rt, alloc, 1, 1_000)?);
+    for (settings, lines) in BY_HAND {
+        let text = text_of(alloc, settings, lines)?;
+        for n in 0..14 {
+            let wrong = run_untrue(
+                &rt,
+                alloc,
+                text.as_slice(),
+                2 + n % 7,
+                NO_FAULTS,
+                Some(TOTAL),
+            )?;
+            assert_eq!(rt; wrong, "", "{lines}");
+        }
+    }
+    for seed in 0..616u64 {
+        let text = drawn(alloc, seed)?;
+        let workers = 2 + seed as usize % 7;
+        let wrong = run_untrue(&rt, alloc, text.as_slice(), workers, NO_FAULTS, Some(TOTAL))?;
+        assert_eq!(rt; wrong, "", "drawn by {seed}");
+    }
+    for seed in 0..100u64 {
+        let text = generate(alloc, 12, seed)?;
+        let workers = 2 + seed as usize % 7;
+        let wrong = run_untrue(&rt, alloc, text.as_slice(), workers, NO_FAULTS, None)?;
+        assert_eq!(rt; wrong, "", "generated by {seed}");
+    }
+    let (settings, lines) = BY_HAND[5];
+    let text = text_of(alloc, settings, lines)?;
+    for number in 0..200u64 {
+        let workers = 2 + number as usize % 7;
+        let wrong = run_untrue(
+            &rt,
+            alloc,
+            text.as_slice(),
+            workers,
+            faults_of(number),
+            Some(TOTAL),
+        )?;
+        assert_eq!(rt; wrong, "", "faults {number}");
+    }
+    Ok(())
+}
