@@ -1,5 +1,5 @@
 -- A footprint that is looked through, number by number.
-use Rattle.std.proofs.Common.{◌≡◌, ◌≢◌, ℕ, zero, suc, ◌+◌, ◌≤◌, ◌||◌, ◌==◌, Bool, true, false, inl, inr, List, [], ◌∷◌, ◌++◌, length, take, slice_get, Some, ap, sym, subst, refl, ◌∙◌, arith, add-one}
+use Rattle.std.proofs.Common.{◌≡◌, ◌≢◌, ℕ, zero, suc, ◌+◌, ◌≤◌, ◌||◌, ◌==◌, ◌⊎◌, Bool, true, false, inl, inr, List, [], ◌∷◌, ◌++◌, length, take, slice_get, Some, ap, sym, subst, refl, ◌∙◌, arith, add-one, true≢false}
 use Rattle.std.specs.List.{AllByRecursion}
 use Rattle.std.proofs.lemmas.Bool.{or_parts}
 use Rattle.std.proofs.lemmas.Bool.Decides.{eqb_tells}
@@ -47,3 +47,13 @@ all_more P (y ∷ ys) x all one = (all.0, all_more P ys x all.1 one)
 
 pub all_next : {X : Type 0} (P : X → Type 0) (xs : List X) (i : ℕ) (x : X) → slice_get xs i ≡ Some x → AllByRecursion P (take i xs) → P x → AllByRecursion P (take (i + 1) xs)
 all_next P xs i x here all one = subst (λ k. AllByRecursion P (take k xs)) (sym (add-one i)) (subst (AllByRecursion P) (sym (next_taken xs i x here)) (all_more P (take i xs) x all one))
+
+-- one of those so far and the next
+pub among_next : (j : ℕ) (xs : List ℕ) (i x : ℕ) → slice_get xs i ≡ Some x → is_among j (take (i + 1) xs) ≡ true → (is_among j (take i xs) ≡ true) ⊎ (x ≡ j)
+among_next j xs i x here now = elim (eqb_tells x j) [
+  | inl h ↦ inr h.1
+  | inr h ↦ inl (before (is_among j (take i xs)) refl h.1)
+] where
+  before : (b : Bool) → is_among j (take i xs) ≡ b → x ≢ j → is_among j (take i xs) ≡ true
+  before true q other = q
+  before false q other = absurd (true≢false (sym now ∙ not_yet j xs i x here q other))

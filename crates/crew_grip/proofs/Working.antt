@@ -1,5 +1,5 @@
 -- One part more is held, or one less.
-use Rattle.std.proofs.Common.{◌≡◌, ℕ, ◌+◌, ◌<◌, ◌≤◌, true, false, inl, inr, List, length, slice_set, Option, None, Some, is_some, ap, sym, subst, refl, ◌∙◌, arith, true≢false, lt_of_not-le}
+use Rattle.std.proofs.Common.{◌≡◌, ℕ, ◌+◌, ◌<◌, ◌≤◌, true, inl, inr, List, length, slice_set, Option, None, Some, is_some, ap, sym, subst, refl, ◌∙◌, arith, true≢false, lt_of_not-le}
 use mathlib.Core.Logic.{dite}
 use native.Mathlib.Decide.{dec_le}
 use Rattle.std.proofs.lemmas.Bool.Decides.{eqb_tells}
@@ -13,7 +13,6 @@ use Rattle.crew_parts.specs.declared.acts.Act.{Act}
 use Rattle.protocol.specs.Fixed.{Fixed}
 use Rattle.protocol.specs.Parts.{Machine}
 use Rattle.protocol.specs.Runs.{reached}
-use Rattle.protocol.specs.Words.{is_among}
 use Rattle.snap_hand.specs.Hands.{Parts, IsHandOf}
 use Rattle.snap_hand.specs.Shown.{Shown, Belongs, IsPartOf, part_at, places, with_part, without}
 use Rattle.snap_hand.specs.Tables.{fixed_of}
@@ -115,24 +114,11 @@ given_next old new n before given others i lt = dite (dec_le n i)
     (λ le. (let same : n ≡ i = omega (arith, le, lt) in subst (λ k. at new k ≡ None) same given))
     (λ nle. others i (before i (lt_of_not-le nle)))
 
--- one number more of those that are not kept
-pub kept_next : (old new : List (Option ShareState)) (is : List ℕ) (n : ℕ) → ((i : ℕ) → i < n → is_among i is ≡ false → at old i ≡ None) → (is_among n is ≡ false → at new n ≡ None)
-    → ((i : ℕ) → at old i ≡ None → at new i ≡ None) → (i : ℕ) → i < n + 1 → is_among i is ≡ false → at new i ≡ None
-kept_next old new is n before given others i lt out = dite (dec_le n i)
-    (λ le. (let same : n ≡ i = omega (arith, le, lt) in subst (λ k. at new k ≡ None) same (given (ap (λ k. is_among k is) same ∙ out))))
-    (λ nle. others i (before i (lt_of_not-le nle) out))
-
 -- all of them
 pub all_given : (w : Fixed Rest) (start : List ShareState) (held : List (Option ShareState)) (n m : ℕ) → Stands w start held → length start ≡ n → ((i : ℕ) → i < m → at held i ≡ None) → n ≤ m → (i : ℕ) → at held i ≡ None
 all_given w start held n m st many before past i = dite (dec_le m i)
     (λ le. none_past w start held n st many i (omega (arith, le, past)))
     (λ nle. before i (lt_of_not-le nle))
-
-pub all_kept : (w : Fixed Rest) (start : List ShareState) (held : List (Option ShareState)) (n m : ℕ) (is : List ℕ) → Stands w start held → length start ≡ n
-    → ((i : ℕ) → i < m → is_among i is ≡ false → at held i ≡ None) → n ≤ m → (i : ℕ) → is_among i is ≡ false → at held i ≡ None
-all_kept w start held n m is st many before past i out = dite (dec_le m i)
-    (λ le. none_past w start held n st many i (omega (arith, le, past)))
-    (λ nle. before i (lt_of_not-le nle) out)
 
 -- ---- in what the code has at hand
 

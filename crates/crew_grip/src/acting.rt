@@ -65,6 +65,21 @@ impl<D: LogDev + Drop, O: Sink + Drop> Grip<D, O> {
         }
     }
 
+    /// Whether the event is allowed with what is held: its parts are there, and can go on.
+    pub fn may_do(&self, turns: &Turns<Share<D, O>>, e: Event) -> bool
+        requires crew { IsCrew turns.now }
+        requires held { IsHeldNow turns.now self.now }
+        ensures { result ≡ true → IsRefusalOn (fixed_of (tables_of turns.now)) (event_meant e) self.now.hand 0 }
+    {
+        let tables = turns.tables();
+        let parts = footprint(e, tables.work.logs);
+        if !self.is_ready(&parts, tables.work.logs) {
+            return false;
+        }
+        places_are_set();
+        refusal(tables, &self.hand, e) == 0
+    }
+
     /// Does the event, where it is allowed on the parts of its footprint, and records it. No other part is held. A Run passes
     /// the gate first.
     pub fn act<G: Gate>(
@@ -80,6 +95,7 @@ impl<D: LogDev + Drop, O: Sink + Drop> Grip<D, O> {
         requires room { (vec_len pass.old.entries < vec_capacity pass.old.entries) × (vec_len pass.old.entries < MOST_ENTRIES) }
         requires others { (i : ℕ) → is_among i (machine.footprint (text_of (tables_of turns.now)).logs (event_meant e)) ≡ false → at (knows pass.old.seat).held i ≡ None }
         ensures work { IsAtWork turns.now pass.new.seat self.new }
+        ensures others { (i : ℕ) → is_among i (machine.footprint (text_of (tables_of turns.now)).logs (event_meant e)) ≡ false → at (knows pass.new.seat).held i ≡ None }
         ensures entries { IsRecorded e pass.old.entries.items pass.new.entries.items result }
         ensures splits { splits_of pass.new.seat ≡ splits_of pass.old.seat }
     {
@@ -111,6 +127,7 @@ impl<D: LogDev + Drop, O: Sink + Drop> Grip<D, O> {
         requires sound { AreSound (text_of (tables_of turns.now)).logs self.old }
         requires allowed { IsRefusalOn (fixed_of (tables_of turns.now)) (event_meant e) self.old.hand 0 }
         ensures work { IsAtWork turns.now pass.new.seat self.new }
+        ensures others { (i : ℕ) → is_among i (machine.footprint (text_of (tables_of turns.now)).logs (event_meant e)) ≡ false → at (knows pass.new.seat).held i ≡ None }
         ensures entries { IsRecorded e pass.old.entries.items pass.new.entries.items result }
         ensures splits { splits_of pass.new.seat ≡ splits_of pass.old.seat }
     {
@@ -162,6 +179,7 @@ impl<D: LogDev + Drop, O: Sink + Drop> Grip<D, O> {
         requires room { (vec_len pass.old.entries < vec_capacity pass.old.entries) × (vec_len pass.old.entries < MOST_ENTRIES) }
         requires acted { (old : GripState) × (IsGripOf (fixed_of (tables_of turns.now)) (knows pass.old.seat).held old × (IsJust (machine.footprint (text_of (tables_of turns.now)).logs (meant act)) (knows pass.old.seat).held × HasActed (fixed_of (tables_of turns.now)) act.done (meant act) old self.now)) }
         ensures work { IsAtWork turns.now pass.new.seat self.now }
+        ensures others { (i : ℕ) → is_among i (machine.footprint (text_of (tables_of turns.now)).logs (meant act)) ≡ false → at (knows pass.new.seat).held i ≡ None }
         ensures entry { pass.new.entries.items ≡ pass.old.entries.items ++ (result, act) ∷ [] }
         ensures splits { splits_of pass.new.seat ≡ splits_of pass.old.seat }
     {

@@ -1,5 +1,5 @@
 //! Parts are taken and given back, each under its turn.
-ghost use Rattle.std.specs.Prelude.{◌≡◌, ◌<◌, ◌≤◌, ℕ, None, IsSome, true, false};
+ghost use Rattle.std.specs.Prelude.{◌≡◌, ◌≢◌, ◌<◌, ℕ, None, IsSome, true, false};
 ghost use Rattle.crew_grip.specs.Grips.{IsAtWork, IsCrew};
 ghost use Rattle.protocol.specs.Words.{is_among};
 ghost use Rattle.turn_table.specs.Places.{at};
@@ -27,6 +27,7 @@ impl<D: LogDev + Drop, O: Sink + Drop> Grip<D, O> {
         ensures work { IsAtWork turns.now pass.new.seat self.new }
         ensures held { result ≡ true → IsSome (at (knows pass.new.seat).held part) }
         ensures refused { result ≡ false → knows pass.new.seat ≡ refused (knows pass.old.seat) }
+        ensures others { (i : ℕ) → i ≢ part → at (knows pass.new.seat).held i ≡ at (knows pass.old.seat).held i }
         ensures rest { (pass.new.entries ≡ pass.old.entries) × (splits_of pass.new.seat ≡ splits_of pass.old.seat) }
     {
         if self.holds(part) {
@@ -43,21 +44,22 @@ impl<D: LogDev + Drop, O: Sink + Drop> Grip<D, O> {
         true
     }
 
-    /// Takes the first parts, so many, one after the other by a single try each. Whether all of them are held.
-    pub fn take_front(
+    /// Takes the parts of a footprint that are not held yet, one after the other, by one try each. Whether all of them are held.
+    pub fn take_parts(
         &mut self,
         turns: &Turns<Share<D, O>>,
         pass: &mut Pass<Share<D, O>>,
-        count: usize,
+        footprint: &Footprint,
     ) -> bool
         requires crew { IsCrew turns.now }
-        requires count { count ≤ turns.now.parts }
         requires work { IsAtWork turns.now pass.old.seat self.old }
         ensures work { IsAtWork turns.now pass.new.seat self.new }
+        ensures others { (i : ℕ) → is_among i footprint.now ≡ false → at (knows pass.new.seat).held i ≡ at (knows pass.old.seat).held i }
         ensures rest { (pass.new.entries ≡ pass.old.entries) × (splits_of pass.new.seat ≡ splits_of pass.old.seat) }
     {
-        for part in 0..count {
-            if !self.take(turns, pass, part) {
+        for i in 0..footprint.len() {
+            let part = footprint.part(i);
+            if part >= turns.part_count() || !self.take(turns, pass, part) {
                 return false;
             }
         }
@@ -67,7 +69,6 @@ impl<D: LogDev + Drop, O: Sink + Drop> Grip<D, O> {
     /// Gives this part back, where it is held.
     pub fn give(&mut self, turns: &Turns<Share<D, O>>, pass: &mut Pass<Share<D, O>>, part: usize)
         requires crew { IsCrew turns.now }
-        requires part { part < turns.now.parts }
         requires work { IsAtWork turns.now pass.old.seat self.old }
         ensures work { IsAtWork turns.now pass.new.seat self.new }
         ensures given { at (knows pass.new.seat).held part ≡ None }
@@ -96,8 +97,8 @@ impl<D: LogDev + Drop, O: Sink + Drop> Grip<D, O> {
         }
     }
 
-    /// Gives back all that is held but the parts of a footprint.
-    pub fn keep_only(
+    /// Gives back the parts of a footprint, where they are held.
+    pub fn give_parts(
         &mut self,
         turns: &Turns<Share<D, O>>,
         pass: &mut Pass<Share<D, O>>,
@@ -106,25 +107,12 @@ impl<D: LogDev + Drop, O: Sink + Drop> Grip<D, O> {
         requires crew { IsCrew turns.now }
         requires work { IsAtWork turns.now pass.old.seat self.old }
         ensures work { IsAtWork turns.now pass.new.seat self.new }
-        ensures others { (i : ℕ) → is_among i footprint.now ≡ false → at (knows pass.new.seat).held i ≡ None }
+        ensures given { (i : ℕ) → is_among i footprint.now ≡ true → at (knows pass.new.seat).held i ≡ None }
+        ensures others { (i : ℕ) → at (knows pass.old.seat).held i ≡ None → at (knows pass.new.seat).held i ≡ None }
         ensures rest { (pass.new.entries ≡ pass.old.entries) × (splits_of pass.new.seat ≡ splits_of pass.old.seat) }
     {
-        for part in 0..turns.part_count() {
-            if !has_part(footprint, part) {
-                self.give(turns, pass, part);
-            }
+        for i in 0..footprint.len() {
+            self.give(turns, pass, footprint.part(i));
         }
     }
-}
-
-/// Whether the footprint has the part of this number.
-fn has_part(footprint: &Footprint, part: usize) -> bool
-    ensures { result ≡ is_among part footprint.now }
-{
-    for i in 0..footprint.len() {
-        if footprint.part(i) == part {
-            return true;
-        }
-    }
-    false
 }

@@ -1,14 +1,14 @@
 -- A crew's acts one after the other: where they come to.
-use Rattle.std.proofs.Common.{◌≡◌, ℕ, ◌+◌, ◌<◌, if◌then◌else◌, Bool, true, false, inl, inr, Option, None, Some, List, [], ◌∷◌, ◌++◌, length, slice_get, refl, sym, ap, subst, ◌∙◌, arith, append_assoc, append-nil}
+use Rattle.std.proofs.Common.{◌≡◌, ℕ, if◌then◌else◌, Bool, true, false, inl, inr, Option, None, Some, List, [], ◌∷◌, ◌++◌, slice_get, refl, sym, ap, subst, ◌∙◌, arith, append_assoc, append-nil}
 use Rattle.aml_slice.specs.Controls.{Rest}
 use Rattle.core_rows.specs.OnRuns.{HasRun}
-use Rattle.crew_parts.specs.Acts.{Goes, Happens, MayDo, behind, meant, touched, groups_by}
+use Rattle.crew_parts.specs.Acts.{Happens, behind, meant, groups_by}
 use Rattle.crew_parts.specs.Crews.{Begins, HasCome, JournalIs, IsReady, IsFresh, OutputIs, Printed, added, kept}
 use Rattle.crew_parts.specs.Shares.{OutputState, ShareState}
 use Rattle.crew_parts.specs.declared.acts.Act.{Act}
 use Rattle.gate_log.specs.State.{LogState}
 use Rattle.protocol.specs.Conditions.{IsAllowed}
-use Rattle.protocol.specs.Effects.{after, log_at}
+use Rattle.protocol.specs.Effects.{after}
 use Rattle.protocol.specs.Events.{Event, desk, log, part, footprint}
 use Rattle.protocol.specs.Fixed.{Fixed}
 use Rattle.protocol.specs.Footprints.{HasLogs, LeavesOthers}
@@ -20,7 +20,7 @@ use Rattle.run_outputs.specs.Laws.{GroupsGrow, RepliesGrow}
 use Rattle.snap_hand.specs.Shown.{IsPartOf}
 use Rattle.run_journals.specs.Driven.{IsDriven}
 use Rattle.std.proofs.KnownBytes.{Appends-nil}
-use Rattle.turn_table.specs.Places.{Covers, values, replaced}
+use Rattle.turn_table.specs.Places.{values, replaced}
 use Rattle.turn_table.specs.Runs.{May, Run}
 use Rattle.crew_parts.proofs.Replacing.{as_long, replaced_tells, covered_are_shown, goes_as_many, came_from}
 use Rattle.crew_parts.proofs.PartsStay.{log_stays, part_stays, same_log_at}

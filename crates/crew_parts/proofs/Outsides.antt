@@ -1,12 +1,12 @@
 -- Journals and the output along a run.
-use Rattle.std.proofs.Common.{◌≡◌, ℕ, ◌+◌, ◌<◌, ◌≤◌, ◌==◌, ◌||◌, if◌then◌else◌, inl, inr, Bool, true, false, Option, None, Some, is_some, List, [], ◌∷◌, ◌++◌, length, nat_lt, slice_get, refl, sym, ap, subst, ◌∙◌, arith, append_assoc, append-nil}
+use Rattle.std.proofs.Common.{◌≡◌, ℕ, ◌≤◌, ◌==◌, if◌then◌else◌, inl, inr, Bool, true, false, Option, None, Some, is_some, List, [], ◌∷◌, ◌++◌, length, nat_lt, slice_get, refl, sym, ap, subst, ◌∙◌, arith, append_assoc, append-nil}
 use Rattle.std.specs.Io.KnownBytes.{Appends}
-use Rattle.std.proofs.KnownBytes.{Appends-nil, Appends-trans}
+use Rattle.std.proofs.KnownBytes.{Appends-trans}
 use Rattle.std.proofs.lemmas.Bool.{eqb-false, or_parts, true≢false}
 use Rattle.std.proofs.lemmas.Bool.Decides.{eqb_tells}
 use Rattle.aml_slice.specs.Controls.{Rest}
-use Rattle.crew_parts.specs.Acts.{JournalGoes, OutputGoes, HasPrinted, HasBroken, Prints, behind, groups_by, tried_by, tried_at, line_at}
-use Rattle.crew_parts.specs.Crews.{IsReady, IsStillDue, JournalIs, OutputIs, BrokeOff, Printed, added}
+use Rattle.crew_parts.specs.Acts.{JournalGoes, OutputGoes, Prints, behind, groups_by, tried_by, tried_at, line_at}
+use Rattle.crew_parts.specs.Crews.{IsReady, IsStillDue, JournalIs, OutputIs, Printed, added}
 use Rattle.crew_parts.specs.Shares.{OutputState}
 use Rattle.gate_log.specs.State.{LogState}
 use Rattle.protocol.specs.Conditions.{AllTrue, IsAllowed, conditions}
@@ -18,7 +18,7 @@ use Rattle.protocol.specs.Runs.{reached}
 use Rattle.protocol.specs.Words.{holds, is_among}
 use Rattle.run_outputs.specs.Groups.{group_by, group_behind, groups_of, waiting}
 use Rattle.run_outputs.specs.Laws.{GroupsGrow, RepliesGrow, line_by}
-use Rattle.run_outputs.specs.Lines.{line_in, replies_text}
+use Rattle.run_outputs.specs.Lines.{replies_text}
 use Rattle.run_journals.specs.Driven.{IsDriven}
 use Rattle.run_journals.proofs.Driving.{driven_join}
 use Rattle.snap_outside.specs.Causes.{Rose}

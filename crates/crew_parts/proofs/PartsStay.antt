@@ -1,12 +1,11 @@
 -- A part of a state is one of each state that has the same part under its number; and what waits on a log is the same then.
-use Rattle.std.proofs.Common.{◌≡◌, ℕ, zero, suc, ◌+◌, ◌-◌, ◌<◌, ◌≤◌, Option, None, Some, option_map, List, [], ◌∷◌, length, slice_get, get_or, refl, sym, ap, subst, ◌∙◌, arith}
+use Rattle.std.proofs.Common.{◌≡◌, ℕ, zero, suc, ◌+◌, ◌-◌, ◌<◌, Option, None, Some, option_map, List, [], ◌∷◌, length, slice_get, get_or, refl, sym, ap, subst, ◌∙◌, arith}
 use Rattle.aml_slice.specs.Controls.{Rest}
 use Rattle.book_part.specs.Halves.{Shows}
-use Rattle.log_part.specs.Shown.{ShowsLog}
 use Rattle.protocol.specs.Effects.{log_at, no_log}
 use Rattle.protocol.specs.Events.{Part, LogPart, CellPart, part, log}
 use Rattle.protocol.specs.Fixed.{Fixed}
-use Rattle.protocol.specs.Parts.{Ring, Book, Post, Desk, Log, Cell, Machine}
+use Rattle.protocol.specs.Parts.{Log, Cell, Machine}
 use Rattle.protocol_laws.proofs.first.PartsByNumber.{part_log, part_cell}
 use Rattle.snap_hand.specs.Shown.{Shown, TheRing, TheBook, ThePost, TheDesk, TheLog, TheCell, IsPartOf}
 

@@ -1,5 +1,5 @@
 -- What stands in a list of shares after those with some numbers were replaced.
-use Rattle.std.proofs.Common.{◌≡◌, ◌≢◌, ℕ, zero, suc, Bool, true, false, inl, inr, ◌⊎◌, ◌==◌, ◌||◌, Option, None, Some, IsSome, List, [], ◌∷◌, length, length-set, slice_get, slice_set, refl, sym, ap, subst, ◌∙◌}
+use Rattle.std.proofs.Common.{◌≡◌, ◌≢◌, ℕ, zero, suc, Bool, false, inl, inr, ◌⊎◌, ◌||◌, Option, None, Some, IsSome, List, [], ◌∷◌, length, length-set, slice_get, slice_set, refl, sym, ap, subst, ◌∙◌}
 use Rattle.std.proofs.lemmas.Bool.Decides.{eqb_tells}
 use Rattle.std.proofs.lemmas.Bool.{true≢false}
 use Rattle.aml_slice.specs.Controls.{Rest}

@@ -1,5 +1,5 @@
 -- What contracts see of a part that workers share: the machine's part, and what stands beside it under the same turn.
-use Rattle.std.specs.Prelude.{ℕ, Bool, List, Option, Some, None}
+use Rattle.std.specs.Prelude.{ℕ, Bool, List, Option}
 use Rattle.gate_log.specs.State.{LogState}
 use Rattle.snap_hand.specs.Shown.{Shown}
 

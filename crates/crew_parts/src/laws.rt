@@ -5,17 +5,22 @@ ghost use Rattle.core_rows.specs.OnRuns.{HasRun};
 ghost use Rattle.crew_parts.specs.Crews.{Begins, HasCome, Stands, kept};
 ghost use Rattle.crew_parts.specs.Shares.{ShareState};
 ghost use Rattle.crew_parts.specs.declared.acts.Act.{Act};
+ghost use Rattle.crew_parts.specs.Steps.{CrewTable, IsMoment};
 ghost use Rattle.snap_hand.specs.Tables.{AreTables, fixed_of};
 ghost use Rattle.protocol.specs.Events as machine;
 ghost use Rattle.protocol.specs.Runs.{IsRun, reached};
 ghost use Rattle.turn_table.specs.Places.{IsIdle};
+ghost use Rattle.turn_table.specs.Rule.{Kept};
 ghost use Rattle.turn_table.specs.Runs.{Fits, Run};
 
+use crate::shares::Share;
 use aml_slice::Control;
 use machine_laws::texts_have_the_facts;
 use protocol_laws::events_leave_other_parts;
 use run_journals::runs_of;
 use snap_hand::Tables;
+use snap_outside::{LogDev, Sink};
+use turn_table::one_view_holds_it;
 
 /// Whatever acts lead from a beginning to some shares, those of their events that happened are a run of the machine, of whose
 /// state these are all parts; the journals got the groups of its Syncs, and the output the lines of its replies.
@@ -26,6 +31,15 @@ pub fn acts_are_runs(tables: &Tables)
     runs_of(tables);
     texts_have_the_facts(&tables.work.program);
     events_leave_other_parts::<Control>();
+}
+
+/// At each step of a crew's table a crash finds a moment of a run of the machine.
+pub fn steps_are_moments<D: LogDev + Drop, O: Sink + Drop>(tables: &Tables)
+    requires { AreTables tables.now }
+    ensures { (start : List ShareState) (s : CrewTable) → Begins (fixed_of tables.now) start → Kept (touched tables.now) (MayDo tables.now) start s → IsMoment (fixed_of tables.now) start s }
+{
+    acts_are_runs(tables);
+    one_view_holds_it::<Share<D, O>>(tables);
 }
 
 /// Every run of the text leads to a state of which the calls of the rows may be asked.

@@ -1,2 +1,1 @@
 mod SharedTables
-mod WhatRounds

@@ -1,4 +1,4 @@
--- What a round records.
+-- What a try records.
 use Rattle.std.specs.Prelude.{◌≡◌, ℕ, List}
 use Rattle.core_events.specs.declared.events.Event as code
 use Rattle.crew_grip.specs.Acted.{IsRecorded}
@@ -10,16 +10,5 @@ use Rattle.crew_parts.specs.declared.acts.Act.{Act}
 abbrev pub HasTried : code.Event → List (ℕ × Act) → List (ℕ × Act) → Round → Type 0
 HasTried e old new (round.Looked acted) = IsRecorded e old new acted
 HasTried e old new round.Busy = new ≡ old
-HasTried e old new round.Nothing = new ≡ old
-HasTried e old new round.Quiet = new ≡ old
 HasTried e old new round.Full = new ≡ old
 HasTried e old new round.Memory = new ≡ old
-
--- the same of some event
-abbrev pub HasGoneRound : List (ℕ × Act) → List (ℕ × Act) → Round → Type 0
-HasGoneRound old new (round.Looked acted) = (e : code.Event) × IsRecorded e old new acted
-HasGoneRound old new round.Busy = new ≡ old
-HasGoneRound old new round.Nothing = new ≡ old
-HasGoneRound old new round.Quiet = new ≡ old
-HasGoneRound old new round.Full = new ≡ old
-HasGoneRound old new round.Memory = new ≡ old

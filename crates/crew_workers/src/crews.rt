@@ -42,8 +42,8 @@ fn hire<D: LogDev + Drop, O: Sink + Drop>(
     ensures all { vec_len workers.new + (splits_of first.new.seat + 1) ≡ PASSES }
     ensures many { vec_len workers.new ≤ count }
 {
-    for number in 0..count {
-        let Ok(worker) = Worker::new(alloc, turns, first, number) else {
+    for _hired in 0..count {
+        let Ok(worker) = Worker::new(alloc, turns, first) else {
             return;
         };
         workers.push_reserved(worker);

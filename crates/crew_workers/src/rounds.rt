@@ -1,14 +1,17 @@
-//! The rounds of a worker. None waits, and each gives back all that it took: a worker that lacks a turn keeps nobody waiting.
-//! Turns are tried in the order of the parts. Who looks takes the ring first, so two that look are not in each other's way; and
-//! it keeps the parts of one event that it found, so each look that finds one does one. The desk lists all that waits for an answer,
-//! and is left out of most looks: who finds nothing without it looks with it.
-ghost use Rattle.std.specs.Prelude.{◌≡◌, ◌<◌, vec_len, vec_capacity};
+//! A try of one event. It does not wait, and gives back all that it took: a worker that lacks a turn keeps nobody waiting.
+ghost use Rattle.std.specs.Prelude.{◌≡◌, ℕ, None, false};
+ghost use Rattle.core_events.specs.Meant.{event_meant};
 ghost use Rattle.crew_grip.specs.Grips.{IsAtWork, IsCrew};
-ghost use Rattle.crew_workers.specs.Rounds.{HasGoneRound, HasTried};
-ghost use Rattle.turn_table.specs.Words.{HoldsNothing, splits_of};
-ghost use Rattle.turn_table.specs.declared.limits.TheConstants.{MOST_ENTRIES};
+ghost use Rattle.crew_workers.specs.Rounds.{HasTried};
+ghost use Rattle.protocol.specs.Events as machine;
+ghost use Rattle.protocol.specs.Words.{is_among};
+ghost use Rattle.snap_hand.specs.Tables.{text_of};
+ghost use Rattle.turn_table.specs.Places.{at};
+ghost use Rattle.turn_table.specs.Words.{HoldsNothing, knows, splits_of, tables_of};
 
-use crate::finds::Finds;
+use crate::boards::Board;
+use crate::finds::{Finds, follow_ups};
+use crate::telling::{keep, list_answers};
 use core_events::{Event, Footprint, footprint};
 use crew_grip::{Acted, Grip};
 use crew_parts::Share;
@@ -16,56 +19,51 @@ use snap_outside::{Gate, LogDev, Sink};
 use std::alloc::Global;
 use turn_table::{Pass, RoomNo, Turns};
 
-/// The numbers of the ring and the desk among the parts. Who looks has the ring.
-const RING: usize = 0;
-
-const DESK: usize = 3;
-
-/// What came of a round.
+/// What came of a try.
 #[derive(Clone, Copy, Debug, PartialEq, Eq)]
 pub enum Round {
-    /// An event was looked at with its parts at hand, and this became of it.
+    /// The event was looked at with its parts at hand, and this became of it.
     Looked(Acted),
     /// A turn was held by another worker.
     Busy,
-    /// With the parts that were looked at no event is allowed.
-    Nothing,
-    /// With all parts no event is allowed.
-    Quiet,
     /// The pass has recorded as many acts as a pass may.
     Full,
     /// There was no memory. Nothing was done.
     Memory,
 }
 
-/// The round that an event came to. Where it was done, what it may have made allowed is tried next.
-pub(crate) fn done_before(finds: &mut Finds, e: Event, round: Round) -> Round
-    ensures { result ≡ round }
-{
-    if let Round::Looked(Acted::Done { number: _ }) = round {
-        finds.follow(e);
-    }
-    round
-}
-
-/// Tries one event: takes its parts by one try each, does it where it is allowed, and gives all back.
+/// Tries one event: takes its parts by one try each, does it where it is allowed, and gives all back. What it may have made allowed
+/// is left to try, and the parts that it touched are touched on the board; so they are where they were not to be had.
 pub fn try_event<D: LogDev + Drop, O: Sink + Drop, G: Gate>(
     alloc: Global,
     turns: &Turns<Share<D, O>>,
     pass: &mut Pass<Share<D, O>>,
     grip: &mut Grip<D, O>,
     gate: &G,
+    board: &Board,
+    finds: &mut Finds,
     e: Event,
 ) -> Round
     requires crew { IsCrew turns.now }
     requires work { IsAtWork turns.now pass.old.seat grip.old }
+    requires idle { HoldsNothing pass.old.seat }
     ensures work { IsAtWork turns.now pass.new.seat grip.new }
     ensures idle { HoldsNothing pass.new.seat }
     ensures entries { HasTried e pass.old.entries.items pass.new.entries.items result }
     ensures splits { splits_of pass.new.seat ≡ splits_of pass.old.seat }
 {
-    let round = tried(alloc, turns, pass, grip, gate, e);
-    grip.give_all(turns, pass);
+    let parts = footprint(e, turns.tables().work.logs);
+    let round = tried(alloc, turns, pass, grip, gate, &parts, e);
+    match round {
+        Round::Looked(Acted::Done { number: _ }) => {
+            board.touch(&parts);
+            follow(board, finds, e);
+            list_answers(alloc, grip.hand(), e, finds);
+        }
+        Round::Busy => board.touch(&parts),
+        _ => {}
+    }
+    grip.give_parts(turns, pass, &parts);
     round
 }
 
@@ -76,167 +74,37 @@ fn tried<D: LogDev + Drop, O: Sink + Drop, G: Gate>(
     pass: &mut Pass<Share<D, O>>,
     grip: &mut Grip<D, O>,
     gate: &G,
-    e: Event,
-) -> Round
-    requires crew { IsCrew turns.now }
-    requires work { IsAtWork turns.now pass.old.seat grip.old }
-    ensures work { IsAtWork turns.now pass.new.seat grip.new }
-    ensures entries { HasTried e pass.old.entries.items pass.new.entries.items result }
-    ensures splits { splits_of pass.new.seat ≡ splits_of pass.old.seat }
-{
-    match turns.room(pass) {
-        Ok(()) => attempt(alloc, turns, pass, grip, gate, e),
-        Err(RoomNo::Full { entries: _ }) => Round::Full,
-        Err(RoomNo::Memory) => Round::Memory,
-    }
-}
-
-/// Looks at the parts that are free, does one of the events that are allowed there, and gives all back. The others that it
-/// found are left to try. Where it does not look wide, it leaves out the desk, and does no event that can be put off.
-pub fn look<D: LogDev + Drop, O: Sink + Drop, G: Gate>(
-    alloc: Global,
-    turns: &Turns<Share<D, O>>,
-    pass: &mut Pass<Share<D, O>>,
-    grip: &mut Grip<D, O>,
-    gate: &G,
-    finds: &mut Finds,
-    wide: bool,
-) -> Round
-    requires crew { IsCrew turns.now }
-    requires work { IsAtWork turns.now pass.old.seat grip.old }
-    ensures work { IsAtWork turns.now pass.new.seat grip.new }
-    ensures idle { HoldsNothing pass.new.seat }
-    ensures entries { HasGoneRound pass.old.entries.items pass.new.entries.items result }
-    ensures splits { splits_of pass.new.seat ≡ splits_of pass.old.seat }
-{
-    let round = looked(alloc, turns, pass, grip, gate, finds, wide);
-    grip.give_all(turns, pass);
-    round
-}
-
-/// The same, but what is held is not given back.
-fn looked<D: LogDev + Drop, O: Sink + Drop, G: Gate>(
-    alloc: Global,
-    turns: &Turns<Share<D, O>>,
-    pass: &mut Pass<Share<D, O>>,
-    grip: &mut Grip<D, O>,
-    gate: &G,
-    finds: &mut Finds,
-    wide: bool,
-) -> Round
-    requires crew { IsCrew turns.now }
-    requires work { IsAtWork turns.now pass.old.seat grip.old }
-    ensures work { IsAtWork turns.now pass.new.seat grip.new }
-    ensures entries { HasGoneRound pass.old.entries.items pass.new.entries.items result }
-    ensures splits { splits_of pass.new.seat ≡ splits_of pass.old.seat }
-{
-    match turns.room(pass) {
-        Ok(()) => roomed(alloc, turns, pass, grip, gate, finds, wide),
-        Err(RoomNo::Full { entries: _ }) => Round::Full,
-        Err(RoomNo::Memory) => Round::Memory,
-    }
-}
-
-/// The same with room for an entry.
-fn roomed<D: LogDev + Drop, O: Sink + Drop, G: Gate>(
-    alloc: Global,
-    turns: &Turns<Share<D, O>>,
-    pass: &mut Pass<Share<D, O>>,
-    grip: &mut Grip<D, O>,
-    gate: &G,
-    finds: &mut Finds,
-    wide: bool,
-) -> Round
-    requires crew { IsCrew turns.now }
-    requires work { IsAtWork turns.now pass.old.seat grip.old }
-    requires room { (vec_len pass.old.entries < vec_capacity pass.old.entries) × (vec_len pass.old.entries < MOST_ENTRIES) }
-    ensures work { IsAtWork turns.now pass.new.seat grip.new }
-    ensures entries { HasGoneRound pass.old.entries.items pass.new.entries.items result }
-    ensures splits { splits_of pass.new.seat ≡ splits_of pass.old.seat }
-{
-    let Some(all) = take_free(turns, pass, grip, wide) else {
-        return Round::Busy;
-    };
-    let Ok(list) = grip.offers(alloc, turns) else {
-        return Round::Memory;
-    };
-    finds.put(list);
-    let found = if wide { finds.first() } else { finds.next() };
-    match found {
-        Some(e) => done_before(finds, e, attempt(alloc, turns, pass, grip, gate, e)),
-        None if all => Round::Quiet,
-        None => Round::Nothing,
-    }
-}
-
-/// Takes the parts of the event that are not held yet, gives back all others, and does the event where it is allowed.
-fn attempt<D: LogDev + Drop, O: Sink + Drop, G: Gate>(
-    alloc: Global,
-    turns: &Turns<Share<D, O>>,
-    pass: &mut Pass<Share<D, O>>,
-    grip: &mut Grip<D, O>,
-    gate: &G,
-    e: Event,
-) -> Round
-    requires crew { IsCrew turns.now }
-    requires work { IsAtWork turns.now pass.old.seat grip.old }
-    requires room { (vec_len pass.old.entries < vec_capacity pass.old.entries) × (vec_len pass.old.entries < MOST_ENTRIES) }
-    ensures work { IsAtWork turns.now pass.new.seat grip.new }
-    ensures entries { HasTried e pass.old.entries.items pass.new.entries.items result }
-    ensures splits { splits_of pass.new.seat ≡ splits_of pass.old.seat }
-{
-    let parts = footprint(e, turns.tables().work.logs);
-    if !take_parts(turns, pass, grip, &parts) {
-        return Round::Busy;
-    }
-    grip.keep_only(turns, pass, &parts);
-    Round::Looked(grip.act(alloc, turns, pass, gate, e))
-}
-
-/// Takes the parts of a footprint, one after the other, by one try each. Whether all of them are held.
-fn take_parts<D: LogDev + Drop, O: Sink + Drop>(
-    turns: &Turns<Share<D, O>>,
-    pass: &mut Pass<Share<D, O>>,
-    grip: &mut Grip<D, O>,
     parts: &Footprint,
-) -> bool
+    e: Event,
+) -> Round
     requires crew { IsCrew turns.now }
     requires work { IsAtWork turns.now pass.old.seat grip.old }
+    requires idle { HoldsNothing pass.old.seat }
+    requires parts { parts.now ≡ machine.footprint (text_of (tables_of turns.now)).logs (event_meant e) }
     ensures work { IsAtWork turns.now pass.new.seat grip.new }
-    ensures rest { (pass.new.entries ≡ pass.old.entries) × (splits_of pass.new.seat ≡ splits_of pass.old.seat) }
+    ensures others { (i : ℕ) → is_among i parts.now ≡ false → at (knows pass.new.seat).held i ≡ None }
+    ensures entries { HasTried e pass.old.entries.items pass.new.entries.items result }
+    ensures splits { splits_of pass.new.seat ≡ splits_of pass.old.seat }
 {
-    for i in 0..parts.len() {
-        let part = parts.part(i);
-        if part >= turns.part_count() || !grip.take(turns, pass, part) {
-            return false;
+    match turns.room(pass) {
+        Ok(()) => {
+            if !grip.take_parts(turns, pass, parts) {
+                return Round::Busy;
+            }
+            Round::Looked(grip.act(alloc, turns, pass, gate, e))
         }
+        Err(RoomNo::Full { entries: _ }) => Round::Full,
+        Err(RoomNo::Memory) => Round::Memory,
     }
-    true
 }
 
-/// Takes the parts that are free, by one try each, and the desk only where it looks wide. Whether these are all; `None` where
-/// another worker has the ring.
-fn take_free<D: LogDev + Drop, O: Sink + Drop>(
-    turns: &Turns<Share<D, O>>,
-    pass: &mut Pass<Share<D, O>>,
-    grip: &mut Grip<D, O>,
-    wide: bool,
-) -> Option<bool>
-    requires crew { IsCrew turns.now }
-    requires work { IsAtWork turns.now pass.old.seat grip.old }
-    ensures work { IsAtWork turns.now pass.new.seat grip.new }
-    ensures rest { (pass.new.entries ≡ pass.old.entries) × (splits_of pass.new.seat ≡ splits_of pass.old.seat) }
-{
-    let mut all = true;
-    for part in 0..turns.part_count() {
-        if part == DESK && !wide {
-            all = false;
-        } else if !grip.take(turns, pass, part) {
-            if part == RING {
-                return None;
-            }
-            all = false;
-        }
+/// What the event, which was done, may have made allowed. Where there is no memory for it, a look finds it.
+fn follow(board: &Board, finds: &mut Finds, e: Event) {
+    let (soon, later) = follow_ups(e);
+    if let Some(next) = soon {
+        let _kept = keep(board, finds, next);
     }
-    Some(all)
+    if let Some(next) = later {
+        let _kept = keep(board, finds, next);
+    }
 }

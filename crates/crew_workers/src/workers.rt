@@ -4,29 +4,22 @@ ghost use Rattle.crew_grip.specs.Grips.{IsCrew};
 ghost use Rattle.crew_workers.specs.Workers.{IsFree};
 ghost use Rattle.turn_table.specs.Words.{HoldsNothing, IsOf, splits_of};
 
+use crate::boards::Board;
 use crate::crews::MOST_WORKERS;
 use crate::finds::Finds;
-use crate::rounds::{Round, done_before, look, try_event};
+use crate::looking::{Scope, Seen, look};
+use crate::rounds::{Round, try_event};
 use crate::threads::{Work, work_in_threads};
+use core_events::Event;
 use crew_grip::{Acted, Grip};
 use crew_parts::{Share, passes_stand};
 use snap_base::Memory;
 use snap_outside::{Gate, LogDev, Sink};
 use std::alloc::Global;
 use std::sync::Wait;
-use std::sync::atomic::{AtomicU64, Ordering};
 use std::thread;
 use std::thread::Threads;
-use std::time::Duration;
 use turn_table::{Pass, Piece, Turns};
-
-/// How often a worker that has nothing to do yields before it sleeps.
-const YIELDS: u64 = 8;
-
-/// How much longer each of its sleeps is than the one before, and how many times that the longest is.
-const NAP_MICROS: u64 = 20;
-
-const LONGEST_NAP: u64 = 10;
 
 /// A worker: its pass, and what it holds. Between two rounds it holds nothing.
 #[derive(Drop)]
@@ -37,8 +30,10 @@ where
     pub(crate) pass: Pass<Share<D, O>>,
     pub(crate) grip: Grip<D, O>,
     finds: Finds,
-    /// Whether its next look is wide.
-    wide: bool,
+    /// How far its next look goes.
+    scope: Scope,
+    /// Whether it looked, and has not tried all yet that it found. No other worker looks meanwhile.
+    leads: bool,
     /// How often it rested since it had something to try.
     rests: u64,
 }
@@ -48,9 +43,9 @@ where
 enum Next {
     /// Another round.
     Again,
-    /// A wide look.
-    Wide,
-    /// Another round, when another worker has looked.
+    /// Another round, in which a look takes more.
+    Wider,
+    /// Another round, when others had a moment.
     Soon,
     /// It lets others work for a while.
     Rest,
@@ -59,12 +54,11 @@ enum Next {
 }
 
 impl<D: LogDev + Drop, O: Sink + Drop> Worker<D, O> {
-    /// A worker whose pass is cut off the first one. Its number tells where it begins in what it finds.
+    /// A worker whose pass is cut off the first one.
     pub fn new(
         alloc: Global,
         turns: &Turns<Share<D, O>>,
         first: &mut Pass<Share<D, O>>,
-        number: usize,
     ) -> Result<Self, Memory>
         requires crew { IsCrew turns.now }
         requires own { IsOf turns.now first.old.seat }
@@ -82,8 +76,9 @@ impl<D: LogDev + Drop, O: Sink + Drop> Worker<D, O> {
         Ok(Worker {
             pass,
             grip,
-            finds: Finds::new(alloc, number),
-            wide: false,
+            finds: Finds::new(alloc),
+            scope: Scope::Narrow,
+            leads: false,
             rests: 0,
         })
     }
@@ -96,43 +91,67 @@ impl<D: LogDev + Drop, O: Sink + Drop> Worker<D, O> {
             pass,
             grip: _,
             finds: _,
-            wide: _,
+            scope: _,
+            leads: _,
             rests: _,
         } = self;
         pass
     }
 }
 
-/// What comes after a try. Where a turn was held, the next event is tried. A fault or want of memory ends the worker.
-fn after_try(round: Round) -> Next {
+/// What comes after a try. A fault or want of memory ends the worker. A reply that was not to be had is tried again; all else that
+/// was not is found by a look.
+fn after_try(e: Event, round: Round) -> Next {
     match round {
         Round::Looked(Acted::Broken { number: _ })
         | Round::Looked(Acted::Unready)
         | Round::Looked(Acted::Memory)
         | Round::Full
         | Round::Memory => Next::End,
+        Round::Busy if matches!(e, Event::Reply(_)) => Next::Soon,
         _ => Next::Again,
     }
 }
 
-/// What comes after a look. One that found nothing is made again, wide; one that was wide, or another worker looking, is not made
-/// again at once. That all is quiet ends the worker.
-fn after_look(round: Round, wide: bool) -> Next {
-    match round {
-        Round::Nothing if !wide => Next::Wide,
-        Round::Busy | Round::Nothing => Next::Rest,
-        Round::Quiet => Next::End,
-        _ => after_try(round),
+/// What comes after a look. One that found nothing is made again and takes more; but only who had all parts looks wide. That all
+/// is quiet then ends the worker.
+fn after_look(seen: Seen, scope: Scope) -> Next {
+    match seen {
+        Seen::Something => Next::Again,
+        Seen::Nothing { all: _ } if scope == Scope::Narrow => Next::Wider,
+        Seen::Nothing { all: true } if scope == Scope::Full => Next::Wider,
+        Seen::Nothing { all: true } | Seen::Memory => Next::End,
+        Seen::Nothing { all: false } | Seen::Busy => Next::Rest,
     }
 }
 
-/// One round of a worker: it tries the next of the events that it found, or looks again. Who looks has nearly all parts, so what
-/// cannot be tried meanwhile is not given up; and nobody else looks then.
+/// The scope of the next look, unless an event is done before it: then it is narrow.
+fn scope_after(scope: Scope, next: Next) -> Scope {
+    match (next, scope) {
+        (Next::Again | Next::Wider, Scope::Narrow) => Scope::Full,
+        (Next::Wider, _) => Scope::Wide,
+        (Next::Rest, _) => Scope::Narrow,
+        _ => scope,
+    }
+}
+
+/// What the worker tries next: the first of what it found, or a Run that is for whoever comes first. Before a Sync, which may take
+/// long, and when it has tried all that it found, another worker may look.
+fn next_try(board: &Board, finds: &mut Finds, leads: &mut bool) -> Option<Event> {
+    let own = finds.next();
+    if *leads && matches!(own, None | Some(Event::Sync(_))) {
+        *leads = false;
+        board.end_look();
+    }
+    if own.is_some() { own } else { board.take_run() }
+}
+
+/// One round of a worker: it tries an event, or looks.
 fn turn<D: LogDev + Drop, O: Sink + Drop, G: Gate>(
     alloc: Global,
     turns: &Turns<Share<D, O>>,
     gate: &G,
-    looking: &AtomicU64,
+    board: &Board,
     worker: &mut Worker<D, O>,
 ) -> Next
     requires crew { IsCrew turns.now }
@@ -143,34 +162,29 @@ fn turn<D: LogDev + Drop, O: Sink + Drop, G: Gate>(
         pass,
         grip,
         finds,
-        wide,
+        scope,
+        leads,
         rests: _,
     } = worker;
-    let wide = *wide;
-    let Some(e) = finds.next() else {
-        if looking.swap(1, Ordering::SeqCst) != 0 {
-            return Next::Rest;
+    if let Some(e) = next_try(board, finds, leads) {
+        let round = try_event(alloc, turns, pass, grip, gate, board, finds, e);
+        if let Round::Looked(Acted::Done { number: _ }) = round {
+            *scope = Scope::Narrow;
         }
-        let round = look(alloc, turns, pass, grip, gate, finds, wide);
-        looking.store(0, Ordering::SeqCst);
-        return after_look(round, wide);
-    };
-    let round = done_before(finds, e, try_event(alloc, turns, pass, grip, gate, e));
-    if matches!(round, Round::Busy) && looking.load(Ordering::SeqCst) != 0 {
-        finds.again(e);
-        return Next::Soon;
+        let next = after_try(e, round);
+        if next == Next::Soon && finds.put(e).is_err() {
+            return Next::End;
+        }
+        return next;
     }
-    after_try(round)
-}
-
-/// Lets others work: first for a moment, then for longer and longer, up to a limit, unless a worker ends.
-fn rest<R: Wait>(rt: &R, ended: &AtomicU64, rests: u64) {
-    if rests < YIELDS {
-        thread::yield_now();
-    } else {
-        let times = (rests - YIELDS).min(LONGEST_NAP - 1) + 1;
-        ended.park_timeout(rt, 0, Duration::from_micros(NAP_MICROS * times));
+    if !board.begin_look() {
+        return Next::Rest;
     }
+    *leads = true;
+    let seen = look(alloc, turns, pass, grip, board, finds, *scope);
+    let next = after_look(seen, *scope);
+    *scope = scope_after(*scope, next);
+    next
 }
 
 /// The rounds of a worker, until it ends or another one has. Who ends has seen that no event is allowed on all parts together,
@@ -180,8 +194,7 @@ fn work<R: Wait, D: LogDev + Drop, O: Sink + Drop, G: Gate>(
     alloc: Global,
     turns: &Turns<Share<D, O>>,
     gate: &G,
-    ended: &AtomicU64,
-    looking: &AtomicU64,
+    board: &Board,
     worker: &mut Worker<D, O>,
 )
     requires crew { IsCrew turns.now }
@@ -189,24 +202,20 @@ fn work<R: Wait, D: LogDev + Drop, O: Sink + Drop, G: Gate>(
     ensures { IsFree turns.now worker.new.pass.seat worker.new.grip }
 {
     for _ in rt.forever() {
-        if ended.load(Ordering::SeqCst) != 0 {
+        if board.has_ended() {
             break;
         }
-        let next = turn(alloc, turns, gate, looking, worker);
-        worker.wide = next == Next::Wide;
-        match next {
-            Next::Again => worker.rests = 0,
-            Next::Wide => {}
+        match turn(alloc, turns, gate, board, worker) {
+            Next::Again | Next::Wider => worker.rests = 0,
             Next::Soon => thread::yield_now(),
             Next::Rest => {
-                rest(rt, ended, worker.rests);
+                board.rest(rt, worker.rests);
                 worker.rests = worker.rests.saturating_add(1);
             }
             Next::End => break,
         }
     }
-    ended.store(1, Ordering::SeqCst);
-    ended.wake_all();
+    board.end();
 }
 
 /// What each worker of a crew does.
@@ -214,10 +223,7 @@ fn work<R: Wait, D: LogDev + Drop, O: Sink + Drop, G: Gate>(
 struct Rounds<'a, G: Gate> {
     alloc: Global,
     gate: &'a G,
-    /// 1 once a worker has ended.
-    ended: &'a AtomicU64,
-    /// 1 while a worker looks.
-    looking: &'a AtomicU64,
+    board: &'a Board,
 }
 
 impl<'a, D: LogDev + Drop + Send, O: Sink + Drop + Send, G: Gate> Work<Share<D, O>, Worker<D, O>>
@@ -227,15 +233,7 @@ impl<'a, D: LogDev + Drop + Send, O: Sink + Drop + Send, G: Gate> Work<Share<D, 
     ghost ready = { λ turns worker. IsReady turns worker.pass.seat worker.grip };
 
     fn work<R: Wait>(&self, rt: &R, turns: &Turns<Share<D, O>>, worker: &mut Worker<D, O>) {
-        work(
-            rt,
-            self.alloc,
-            turns,
-            self.gate,
-            self.ended,
-            self.looking,
-            worker,
-        );
+        work(rt, self.alloc, turns, self.gate, self.board, worker);
     }
 }
 
@@ -250,13 +248,11 @@ pub fn work_together<
     requires free { All (λ worker. IsFree turns.now worker.pass.seat worker.grip) workers.old }
     ensures { All (λ worker. IsFree turns.now worker.pass.seat worker.grip) workers.new }
 {
-    let ended = AtomicU64::new(0);
-    let looking = AtomicU64::new(0);
+    let board = Board::new(alloc, turns.part_count());
     let job = Rounds {
         alloc,
         gate,
-        ended: &ended,
-        looking: &looking,
+        board: &board,
     };
     work_in_threads(rt, turns, &job, workers);
 }

@@ -1,12 +1,12 @@
 -- What a step has to show so that the rule stays.
-use Rattle.std.proofs.Common.{◌≡◌, ◌≢◌, ℕ, zero, suc, ◌+◌, ◌*◌, ◌<◌, ◌≤◌, List, [], ◌∷◌, ◌++◌, length, set, get_or, Option, Some, None, slice_get, slice_index, ap, sym, subst, refl, ◌∙◌, ⊎_elim, get_or-set_other, arith}
+use Rattle.std.proofs.Common.{◌≡◌, ◌≢◌, ℕ, zero, suc, ◌+◌, ◌<◌, List, [], ◌∷◌, length, set, Option, Some, None, slice_get, slice_index, ap, sym, subst, refl, ◌∙◌, ⊎_elim, get_or-set_other, arith}
 use Rattle.std.proofs.lemmas.Grind.{get_or-set_at}
 use mathlib.Core.Option as maybe
 use lib.ListN.{get_elem?}
 use Rattle.atomic_table.specs.Table.{State, Me}
 use Rattle.atomic_table.proofs.Lists.{at_set}
 use Rattle.turn_table.specs.declared.views.View.{View}
-use Rattle.turn_table.specs.Places.{at, one, total, times, once_below}
+use Rattle.turn_table.specs.Places.{at, one, times, once_below}
 use Rattle.turn_table.specs.Runs.{Run}
 use Rattle.turn_table.specs.Rule.{Kept, Knows}
 use Rattle.turn_table.proofs.ByPlace.{some_is_one}

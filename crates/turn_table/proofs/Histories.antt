@@ -1,5 +1,5 @@
 -- Runs and histories one event longer, and entries in them.
-use Rattle.std.proofs.Common.{◌≡◌, ◌≢◌, ℕ, zero, suc, ◌+◌, ◌<◌, ◌≤◌, Bool, List, [], ◌∷◌, ◌++◌, length, Option, Some, None, slice_get, slice_index, length-append, nat_lt, nat_eq, ap, ap₂, sym, subst, refl, ◌∙◌, lt_of_not-le, lt-ltb, le-ltb, eq-eqb, ne_eqb, arith}
+use Rattle.std.proofs.Common.{◌≡◌, ◌≢◌, ℕ, zero, suc, ◌+◌, ◌<◌, ◌≤◌, List, [], ◌∷◌, ◌++◌, length, Some, slice_get, slice_index, length-append, nat_eq, ap, sym, subst, refl, lt_of_not-le, lt-ltb, le-ltb, eq-eqb, ne_eqb, arith}
 use Rattle.std.proofs.lemmas.Option.{slice_get_within}
 use mathlib.Core.Logic.{dite}
 use native.Mathlib.Decide.{ℕ_discrete, dec_le}

@@ -1,19 +1,19 @@
 -- The step that records an event.
-use Rattle.std.proofs.Common.{◌≡◌, ◌≢◌, ℕ, zero, suc, ◌+◌, ◌*◌, ◌%◌, ◌^◌, ◌<◌, ◌≤◌, List, [], ◌∷◌, ◌++◌, length, set, nat_eq, Option, Some, None, IsSome, slice_get, slice_index, ap, sym, subst, refl, ◌∙◌, length-set, length-append, mod-eq_of_lt, get_or-set_same, get_or-set_other, arith}
+use Rattle.std.proofs.Common.{◌≡◌, ℕ, suc, ◌+◌, ◌*◌, ◌%◌, ◌^◌, ◌<◌, ◌≤◌, List, [], ◌∷◌, ◌++◌, length, set, nat_eq, Option, Some, None, IsSome, slice_get, slice_index, ap, sym, subst, refl, ◌∙◌, length-set, length-append, mod-eq_of_lt, get_or-set_same, get_or-set_other, arith}
 use mathlib.Core.Option as maybe
 use lib.ListN.{get_elem?}
-use Rattle.atomic_table.specs.Table.{State, Allows, step, stepped, Act, keeps}
+use Rattle.atomic_table.specs.Table.{State, Allows, step, stepped, keeps}
 use Rattle.atomic_table.proofs.Lists.{set_here}
 use Rattle.turn_table.specs.declared.views.View.{View}
-use Rattle.turn_table.specs.Places.{at, one, total, times, once_below, count_if, Stand, AllBefore, Covers, values, replaced, held_after}
-use Rattle.turn_table.specs.Runs.{May, Run, Fits}
+use Rattle.turn_table.specs.Places.{at, one, times, once_below, count_if, AllBefore, Covers, replaced, held_after}
+use Rattle.turn_table.specs.Runs.{May, Fits}
 use Rattle.turn_table.specs.Views.{noted}
 use Rattle.turn_table.specs.Steps.{recorded}
-use Rattle.turn_table.specs.Rule.{Kept, Knows}
+use Rattle.turn_table.specs.Rule.{Kept}
 use Rattle.turn_table.proofs.ByPlace.{values_same, one_held_after, length-replaced, replaced_else, agree_after, zero_of_none, some_of, some_is_one}
 use Rattle.turn_table.proofs.Sums.{total_le, total_times, total_one}
 use Rattle.turn_table.proofs.Histories.{times-append, stand_longer, Stand-append, get_last, stand_below, once_more, run_more}
-use Rattle.turn_table.proofs.Changes.{none_out, within, apart, busy, change}
+use Rattle.turn_table.proofs.Changes.{none_out, within, apart, change}
 
 is_held : {P : Type 0} (o : Option P) → one o ≡ 1 → IsSome o
 is_held None h = absurd (omega arith)

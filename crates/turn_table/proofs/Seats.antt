@@ -1,7 +1,6 @@
 -- How the rule begins, and what a view cut in two and two joined views leave of it.
-use Rattle.std.proofs.Common.{◌≡◌, ◌≢◌, ℕ, zero, suc, ◌+◌, ◌-◌, ◌*◌, ◌<◌, ◌≤◌, List, [], ◌∷◌, ◌++◌, map, length, set, replicate, Option, Some, None, slice_get, slice_index, ap, sym, subst, refl, ◌∙◌, ⊎_elim, length-set, length-append, le-ltb, arith}
-use Rattle.std.proofs.lemmas.List.{length-map, length-replicate, get_or-replicate}
-use Rattle.std.proofs.lemmas.Option.{slice_get_within}
+use Rattle.std.proofs.Common.{◌≡◌, ℕ, zero, suc, ◌+◌, ◌<◌, List, [], ◌∷◌, ◌++◌, map, length, set, replicate, Option, Some, slice_get, slice_index, ap, sym, subst, refl, ◌∙◌, ⊎_elim, length-append, le-ltb, arith}
+use Rattle.std.proofs.lemmas.List.{length-map, length-replicate}
 use mathlib.Core.Option as maybe
 use lib.ListN.{get_elem?}
 use Rattle.atomic_table.specs.Table.{State, Splits, Joins, opening}

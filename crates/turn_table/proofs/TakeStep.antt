@@ -1,18 +1,18 @@
 -- The step that takes a turn, or finds it held.
-use Rattle.std.proofs.Common.{◌≡◌, ◌≢◌, Bool, ℕ, zero, suc, ◌+◌, ◌<◌, List, [], ◌∷◌, length, set, eqb, Option, Some, None, slice_get, slice_index, ap, sym, subst, refl, ◌∙◌, eq-eqb, ne_eqb, length-set, arith}
+use Rattle.std.proofs.Common.{◌≡◌, Bool, ℕ, suc, ◌+◌, ◌<◌, List, [], length, set, eqb, Option, Some, slice_get, slice_index, ap, sym, subst, refl, ◌∙◌, eq-eqb, ne_eqb, length-set, arith}
 use mathlib.Core.Option as maybe
 use mathlib.Core.Logic.{dite}
 use native.Mathlib.Decide.{ℕ_discrete}
 use prog.Atomic.{either}
 use lib.ListN.{get_elem?}
-use Rattle.atomic_table.specs.Table.{State, Allows, step, stepped, Act, keeps, takes}
+use Rattle.atomic_table.specs.Table.{State, Allows, step, stepped, keeps, takes}
 use Rattle.atomic_table.proofs.Lists.{set_here, set_else}
 use Rattle.turn_table.specs.declared.views.View.{View}
 use Rattle.turn_table.specs.Places.{at, put_at, one, times, once_below, Stand}
 use Rattle.turn_table.specs.Runs.{Fits}
 use Rattle.turn_table.specs.Views.{handed, gained, refused}
 use Rattle.turn_table.specs.Steps.{took}
-use Rattle.turn_table.specs.Rule.{Kept, Knows}
+use Rattle.turn_table.specs.Rule.{Kept}
 use Rattle.turn_table.proofs.ByPlace.{put_here, put_else, some_is_one}
 use Rattle.turn_table.proofs.Changes.{one_out, within, word_here, word_else, word_first, word_again, rehomed, untaken, change}
 

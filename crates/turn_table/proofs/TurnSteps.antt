@@ -1,16 +1,16 @@
 -- The steps of a worker that holds a turn: its slot is laid down, picked up, and given back with the turn.
-use Rattle.std.proofs.Common.{◌≡◌, ◌≢◌, ℕ, zero, suc, ◌+◌, ◌<◌, List, [], ◌∷◌, length, set, Option, Some, None, slice_get, slice_index, ap, sym, subst, refl, ◌∙◌, length-set, arith}
+use Rattle.std.proofs.Common.{◌≡◌, ◌≢◌, ℕ, suc, ◌<◌, List, [], ◌∷◌, length, set, Option, Some, None, slice_get, slice_index, ap, sym, subst, refl, ◌∙◌, length-set, arith}
 use mathlib.Core.Option as maybe
 use mathlib.Core.Logic.{dite}
 use native.Mathlib.Decide.{ℕ_discrete}
 use lib.ListN.{get_elem?}
-use Rattle.atomic_table.specs.Table.{State, Allows, step, stepped, Act, takes, gives}
+use Rattle.atomic_table.specs.Table.{State, Allows, step, takes, gives}
 use Rattle.atomic_table.proofs.Lists.{set_here, set_else}
 use Rattle.turn_table.specs.declared.views.View.{View}
 use Rattle.turn_table.specs.Places.{at, put_at, one}
 use Rattle.turn_table.specs.Views.{handed, lost}
 use Rattle.turn_table.specs.Steps.{laid_down, picked_up, gave}
-use Rattle.turn_table.specs.Rule.{Kept, Knows}
+use Rattle.turn_table.specs.Rule.{Kept}
 use Rattle.turn_table.proofs.ByPlace.{none_is_some, put_here, put_else, some_is_one}
 use Rattle.turn_table.proofs.Changes.{none_out, one_out, same_part, word_here, word_else, word_first, word_again, rehomed, apart, busy, change}
 

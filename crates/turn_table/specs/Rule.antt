@@ -1,6 +1,6 @@
 -- The rule of the shared history, over the words, the slots and the views of a table.
 -- Word 0 is the count of recorded events, and word i + 1 is the turn of part i: 0 free, 1 held.
-use Rattle.std.specs.Prelude.{◌≡◌, ◌≢◌, ℕ, suc, ◌+◌, ◌*◌, ◌<◌, ◌≤◌, List, Option, Some, None, length, slice_index, slice_get}
+use Rattle.std.specs.Prelude.{◌≡◌, ◌≢◌, ℕ, suc, ◌+◌, ◌*◌, ◌<◌, ◌≤◌, List, Option, Some, None, IsSome, length, slice_index, slice_get}
 use mathlib.Core.Option as maybe
 use lib.ListN.{get_elem?}
 use Rattle.atomic_table.specs.Table.{State}
@@ -43,3 +43,8 @@ module _ {P E : Type 0} (footprint : E → List ℕ) (happens : E → List P →
     pub free : (i : ℕ) → i < length start → slice_index s.words (suc i) ≡ 0 → (p : P) × (slice_get parts i ≡ Some p) × (get_elem? s.homes i ≡ maybe.some (maybe.some (Some p)))
     -- and each view is right
     pub each : (j : ℕ) (v : View P E) → get_elem? s.views j ≡ maybe.some v → Knows parts history s.homes (length start) v
+
+module _ {P E : Type 0} where
+  -- the view at this place of the views holds part i
+  abbrev pub HoldsAt : State (Option P) (View P E) → ℕ → ℕ → Type 0
+  HoldsAt s i j = (v : View P E) × ((get_elem? s.views j ≡ maybe.some v) × IsSome (at v.held i))

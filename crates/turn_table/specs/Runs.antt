@@ -1,5 +1,5 @@
 -- Runs over a list of parts. An event has a footprint, the numbers of parts. Whether it happens, and what it makes, is told of their values alone.
-use Rattle.std.specs.Prelude.{◌≡◌, ℕ, ◌<◌, List, [], ◌∷◌, Option, Some, slice_get}
+use Rattle.std.specs.Prelude.{◌≡◌, ℕ, List, [], ◌∷◌, Option, Some, slice_get}
 use Rattle.turn_table.specs.Places.{at, Covers, values, replaced, Stand}
 
 module _ {P E : Type 0} (footprint : E → List ℕ) (happens : E → List P → List P → Type 0) where

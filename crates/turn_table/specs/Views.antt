@@ -1,5 +1,5 @@
 -- What a pass knows, and how each step changes it.
-use Rattle.std.specs.Prelude.{ℕ, ◌+◌, ◌-◌, List, [], ◌∷◌, ◌++◌, Option, Some, None}
+use Rattle.std.specs.Prelude.{ℕ, ◌+◌, ◌-◌, List, [], ◌∷◌, ◌++◌, Some, None}
 use Rattle.turn_table.specs.declared.views.View.{View}
 use Rattle.turn_table.specs.declared.limits.TheConstants.{PASSES}
 use Rattle.turn_table.specs.Places.{put_at, held_after}

@@ -18,7 +18,7 @@ mod turns;
 mod views;
 
 pub use held::{Held, Lease};
-pub use laws::{put_and_rest, taken_and_given};
+pub use laws::{one_view_holds_it, put_and_rest, taken_and_given};
 pub use limits::{MOST_ENTRIES, MOST_PARTS, PASSES};
 pub use passes::Pass;
 pub use pieces::{Makes, Piece};

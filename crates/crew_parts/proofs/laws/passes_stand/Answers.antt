@@ -1,4 +1,4 @@
-use Rattle.std.proofs.Common.{◌≡◌, ◌∙◌, [], None, Some, Option, refl, sym}
+use Rattle.std.proofs.Common.{◌≡◌, ◌∙◌, [], None, Some, refl, sym}
 use Rattle.crew_parts.specs.Crews.{kept}
 use Rattle.crew_parts.proofs.laws.passes_stand.Goals as goal
 

@@ -1,4 +1,4 @@
-use Rattle.std.proofs.Common.{sym, ◌∙◌, Some, None, ap, ◌++◌, ◌∷◌, [], map, reverse, arith}
+use Rattle.std.proofs.Common.{sym, ◌∙◌, Some, ap, ◌++◌, ◌∷◌, [], map, reverse, arith}
 use Rattle.turn_table.proofs.ByPlace.{none_is_some}
 use Rattle.turn_table.proofs.Calls.{last_full, moved_back, restored}
 use Rattle.turn_table.proofs.opens.put_back.Goals as goal

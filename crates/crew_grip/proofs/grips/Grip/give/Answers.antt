@@ -3,7 +3,7 @@ use Rattle.crew_parts.specs.Shares.{ShareState}
 use Rattle.snap_hand.specs.Tables.{fixed_of}
 use Rattle.turn_table.specs.Places.{at}
 use Rattle.crew_grip.specs.Grips.{IsGripOf}
-use Rattle.crew_grip.proofs.ByNumber.{none_of, put_here}
+use Rattle.crew_grip.proofs.ByNumber.{at_within, none_of, put_here, some_of}
 use Rattle.crew_grip.proofs.Working.{gave, gave_stands, nothing_held, share_is, share_there, stays_none}
 use Rattle.crew_grip.proofs.grips.Grip.give.Goals as goal
 
@@ -14,7 +14,15 @@ pub take_share-share-requires-clause-there : goal.take_share-share-requires-clau
 take_share-share-requires-clause-there g c = share_there _ _ c.args.self.now c.requires.work.grip c.args.part (sym c.holds.ensures ∙ c.if-not-holds.false)
 
 pub take_share-share-requires-clause-within : goal.take_share-share-requires-clause-within
-take_share-share-requires-clause-within g c = omega (arith, c.requires.part, c.args.turns.now.counted, c.requires.crew.begins.many, c.requires.work.grip.many)
+take_share-share-requires-clause-within g c =
+    let beside = some_of (at c.args.self.now.besides c.args.part) (sym c.holds.ensures ∙ c.if-not-holds.false) in
+    at_within c.args.self.now.besides c.args.part beside.0 beside.1
+
+pub give_part-requires-clause-part : goal.give_part-requires-clause-part
+give_part-requires-clause-part g c =
+    let beside = some_of (at c.args.self.now.besides c.args.part) (sym c.holds.ensures ∙ c.if-not-holds.false) in
+    let within = at_within c.args.self.now.besides c.args.part beside.0 beside.1 in
+    omega (arith, within, c.args.turns.now.counted, c.requires.crew.begins.many, c.requires.work.grip.many)
 
 pub give_part-requires-clause-held : goal.give_part-requires-clause-held
 give_part-requires-clause-held g c = sym (share_is _ _ c.args.self.now c.requires.work.grip c.args.part) ∙ c.take_share-share.ensures.taken

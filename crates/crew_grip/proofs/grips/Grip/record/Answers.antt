@@ -1,10 +1,11 @@
-use Rattle.std.proofs.Common.{ℕ, ap, sym, subst}
+use Rattle.std.proofs.Common.{ℕ, ◌∙◌, ap, sym, subst}
 use Rattle.crew_parts.specs.Acts.{MayDo, meant, touched}
 use Rattle.protocol.specs.Events.{footprint}
 use Rattle.snap_hand.specs.Tables.{fixed_of, text_of}
 use Rattle.turn_table.specs.Places.{at, held_after, values}
 use Rattle.turn_table.specs.Runs.{May}
 use Rattle.crew_grip.specs.Grips.{IsGripOf, share_at}
+use Rattle.crew_grip.proofs.ByNumber.{after_else}
 use Rattle.crew_grip.proofs.Recording.{grip_after, may_be_made}
 use Rattle.crew_grip.proofs.Working.{stands_now}
 use Rattle.crew_grip.proofs.grips.Grip.record.Goals as goal
@@ -33,3 +34,9 @@ returns-clause-work g c =
       grip = subst (λ hs. IsGripOf w hs c.args.self.now) (sym (ap (λ v. v.held) c.record.ensures.view)) now;
       stands = stands_now c.tables.result.now t c.tables.ensures c.passes_stand.ensures.knows start _ _ c.requires.crew.begins c.record.ensures.fits;
     }
+
+pub returns-clause-others : goal.returns-clause-others
+returns-clause-others g c i out =
+    let t = c.args.turns.now.table.shared.key.tables.value in
+    ap (λ v. at v.held i) c.record.ensures.view
+    ∙ (after_else c.args.pass.now.seat.me.0.held (footprint (text_of t).logs (meant c.args.act)) _ i out ∙ c.requires.acted.1.1.0.others i out)

@@ -1,4 +1,4 @@
-use Rattle.std.proofs.Common.{add-one, None, Some, arith}
+use Rattle.std.proofs.Common.{add-one, Some, arith}
 use Rattle.turn_table.proofs.TurnSteps.{pick_allowed, give_allowed}
 use Rattle.turn_table.proofs.Calls.{out_first, out_after, view_of, slots_out, left, still_holds, has_out}
 use Rattle.turn_table.proofs.turns.Turns.give_back.Goals as goal

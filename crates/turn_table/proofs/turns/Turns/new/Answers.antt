@@ -1,4 +1,4 @@
-use Rattle.std.proofs.Common.{ap, rules, arith, ◌+◌, ◌∙◌, sym}
+use Rattle.std.proofs.Common.{ap, rules, arith, ◌+◌, sym}
 use Rattle.turn_table.proofs.Seats.{opens}
 use Rattle.turn_table.proofs.turns.Turns.new.Goals as goal
 

@@ -1,4 +1,4 @@
-use Rattle.std.proofs.Common.{rules, arith}
+use Rattle.std.proofs.Common.{arith}
 use Rattle.turn_table.proofs.RecordStep.{record_allowed}
 use Rattle.turn_table.proofs.turns.Turns.record_told.Goals as goal
 

@@ -1,5 +1,5 @@
-use Rattle.std.proofs.Common.{ℕ, suc, ◌≡◌, add-one, None, ap, rules, arith}
-use Rattle.turn_table.specs.Views.{handed, gained}
+use Rattle.std.proofs.Common.{add-one, None, arith}
+use Rattle.turn_table.specs.Views.{gained}
 use Rattle.turn_table.proofs.TakeStep.{take_allowed}
 use Rattle.turn_table.proofs.TurnSteps.{lay_allowed}
 use Rattle.turn_table.proofs.Calls.{out_first, out_value, out_after, view_of, slots_out, laid, holds_it, has_out, if_some, if_none}
