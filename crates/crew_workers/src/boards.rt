@@ -1,7 +1,9 @@
 //! What the workers of a crew tell each other, besides the parts. All of it is hints: what a worker does it asks for first, with the
 //! parts at hand.
+use crate::finds::Finds;
 use core_events::{Event, Footprint};
 use ready_list::ReadyList;
+use snap_base::Memory;
 use std::alloc::Global;
 use std::sync::atomic::{AtomicU64, Ordering};
 use std::sync::{Mutex, Wait};
@@ -52,8 +54,16 @@ impl Board {
         }
     }
 
+    /// An event that was found: a Run is for whoever comes first, and all else is left to who found it. `Memory` leaves it out.
+    pub fn keep(&self, finds: &mut Finds, e: Event) -> Result<(), Memory> {
+        match e {
+            Event::Run(_, _) if self.post_run(e) => Ok(()),
+            _ => finds.put(e),
+        }
+    }
+
     /// A Run for whoever comes first. False where there was no room for it, or another worker was reading.
-    pub fn post_run(&self, e: Event) -> bool {
+    fn post_run(&self, e: Event) -> bool {
         let Some(mut runs) = self.runs.try_lock() else {
             return false;
         };

@@ -1,11 +1,11 @@
 //! What a worker found, and has left to try.
 use core_events::Event;
 use ready_list::ReadyList;
-use snap_base::{Memory, TxNo};
+use snap_base::Memory;
 use std::alloc::Global;
 
 /// How many transactions are submitted in a row. Between two rows the batches of the first are under way.
-const SUBMITS_IN_A_ROW: u32 = 256;
+pub(crate) const SUBMITS_IN_A_ROW: u32 = 256;
 
 /// Events that a worker has left to try, in the order in which a host takes them, each once.
 #[derive(Drop)]
@@ -37,21 +37,5 @@ impl Finds {
 
     pub fn is_empty(&self) -> bool {
         self.events.count() == 0
-    }
-}
-
-/// What an event may make allowed of what it touched itself. A guess: each is asked for before it is done, and a look finds
-/// the others.
-pub(crate) fn follow_ups(e: Event) -> (Option<Event>, Option<Event>) {
-    match e {
-        Event::Submit(n) if n.0 % SUBMITS_IN_A_ROW == SUBMITS_IN_A_ROW - 1 => (None, None),
-        Event::Submit(n) => (Some(Event::Submit(TxNo(n.0.wrapping_add(1)))), None),
-        Event::Ask(t, a) => (Some(Event::Take(t, a)), None),
-        Event::Take(t, a) => (Some(Event::Run(t, a)), None),
-        Event::Run(t, a) => (Some(Event::End(t, a)), Some(Event::Send(t, a))),
-        Event::End(t, a) => (Some(Event::Close(t, a)), Some(Event::Prepare(t, a))),
-        Event::Note(k, _) => (Some(Event::Commit(k)), None),
-        Event::Vouch(t, _) => (Some(Event::Decide(t)), None),
-        _ => (None, None),
     }
 }

@@ -8,9 +8,9 @@ mod boards;
 mod crews;
 mod ends;
 mod finds;
+mod follows;
 mod looking;
 mod rounds;
-mod telling;
 mod threads;
 mod workers;
 

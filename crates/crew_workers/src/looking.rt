@@ -2,16 +2,19 @@
 //! Who looks takes the ring first, so two that look are not in each other's way.
 ghost use Rattle.std.specs.Prelude.{◌≡◌};
 ghost use Rattle.crew_grip.specs.Grips.{IsAtWork, IsCrew, IsHeldNow};
+ghost use Rattle.snap_hand.specs.Hands.{IsHandOf};
+ghost use Rattle.snap_hand.specs.Tables.{AreTables, fixed_of};
 ghost use Rattle.turn_table.specs.Words.{HoldsNothing, splits_of};
 
 use crate::boards::Board;
 use crate::finds::Finds;
-use crate::telling::keep;
-use core_events::{Event, footprint};
+use crate::follows::list_coming;
+use core_events::Event;
 use crew_grip::Grip;
 use crew_parts::Share;
-use hand_offers::{list_book, list_cells, list_desk, list_post, list_ring};
-use snap_base::Memory;
+use hand_offers::{actor_count, list_book, list_cells, list_desk, list_post, list_ring};
+use snap_base::{ActorId, Memory};
+use snap_hand::{Hand, Tables};
 use snap_outside::{LogDev, Sink};
 use std::alloc::Global;
 use turn_table::{Pass, Turns};
@@ -24,11 +27,11 @@ const FIRST_LOG: usize = 4;
 /// How much a look takes, and what it lists.
 #[derive(Clone, Copy, Debug, PartialEq, Eq)]
 pub enum Scope {
-    /// All but the cells that no event touched since a look had them. No Sync.
+    /// All but the cells that no event touched since a look had them. What lies at actors, comes there, or is next of the ring.
     Narrow,
-    /// All parts. One Sync, where nothing else is found.
+    /// All parts, and all but replies; one Sync, where nothing else is found.
     Full,
-    /// All parts, and all that is allowed there; replies, which may be many, are listed here alone.
+    /// All parts, and all that is allowed there. Replies that wait may be many, and are listed here alone.
     Wide,
 }
 
@@ -125,8 +128,7 @@ fn seen_with<D: LogDev + Drop, O: Sink + Drop>(
     }
 }
 
-/// Finds what is allowed but Syncs and replies, as the parts at hand list it; and in a narrow look what is under way to actors whose
-/// cells it left out. Whether there was any.
+/// Finds what is allowed of what the parts at hand list. Whether there was any.
 fn find<D: LogDev + Drop, O: Sink + Drop>(
     alloc: Global,
     turns: &Turns<Share<D, O>>,
@@ -139,11 +141,11 @@ fn find<D: LogDev + Drop, O: Sink + Drop>(
     requires held { IsHeldNow turns.now grip.now }
 {
     let mut listed = Vec::new(alloc);
-    list_hand(alloc, turns, grip, &mut listed)?;
+    list_hand(alloc, turns, grip, scope, &mut listed)?;
     let mut any = false;
     for e in &listed {
-        if grip.may_do(turns, *e) || (scope == Scope::Narrow && is_on_its_way(turns, grip, *e)) {
-            keep(board, finds, *e)?;
+        if grip.may_do(turns, *e) {
+            board.keep(finds, *e)?;
             any = true;
         }
     }
@@ -155,6 +157,7 @@ fn list_hand<D: LogDev + Drop, O: Sink + Drop>(
     alloc: Global,
     turns: &Turns<Share<D, O>>,
     grip: &Grip<D, O>,
+    scope: Scope,
     listed: &mut Vec<Event>,
 ) -> Result<(), Memory>
     requires crew { IsCrew turns.now }
@@ -163,28 +166,32 @@ fn list_hand<D: LogDev + Drop, O: Sink + Drop>(
     let tables = turns.tables();
     let hand = grip.hand();
     list_ring(tables, hand, listed)?;
-    list_post(alloc, hand, listed)?;
     list_cells(alloc, tables, hand, listed)?;
-    list_desk(alloc, hand, listed)?;
     list_book(alloc, hand, listed)?;
+    if scope == Scope::Narrow {
+        return list_comings(alloc, tables, hand, listed);
+    }
+    list_post(alloc, hand, listed)?;
+    list_desk(alloc, hand, listed)?;
     Ok(())
 }
 
-/// Whether it brings something to an actor whose cell is not at hand. Such an event is nearly always allowed.
-fn is_on_its_way<D: LogDev + Drop, O: Sink + Drop>(
-    turns: &Turns<Share<D, O>>,
-    grip: &Grip<D, O>,
-    e: Event,
-) -> bool
-    requires crew { IsCrew turns.now }
+/// What comes to the actors whose cells are at hand.
+fn list_comings(
+    alloc: Global,
+    tables: &Tables,
+    hand: &Hand,
+    listed: &mut Vec<Event>,
+) -> Result<(), Memory>
+    requires tables { AreTables tables.now }
+    requires places { IsHandOf (fixed_of tables.now) hand.now }
 {
-    match e {
-        Event::Arrive(_, a) | Event::Ask(_, a) | Event::Take(_, a) => {
-            let cell = FIRST_LOG + turns.tables().work.logs as usize + a.0 as usize;
-            !grip.holds(cell)
+    for a in 0..actor_count(tables, hand) {
+        if hand.has_cell(ActorId(a)) {
+            list_coming(alloc, hand, ActorId(a), listed)?;
         }
-        _ => false,
     }
+    Ok(())
 }
 
 /// Finds all that is allowed with the parts at hand, but Syncs. Whether there was any.
@@ -204,7 +211,7 @@ fn find_all<D: LogDev + Drop, O: Sink + Drop>(
         match list.nth(i) {
             None | Some(Event::Sync(_)) => {}
             Some(e) => {
-                keep(board, finds, e)?;
+                board.keep(finds, e)?;
                 any = true;
             }
         }

@@ -1,7 +1,7 @@
 //! A try of one event. It does not wait, and gives back all that it took: a worker that lacks a turn keeps nobody waiting.
 ghost use Rattle.std.specs.Prelude.{◌≡◌, ℕ, None, false};
 ghost use Rattle.core_events.specs.Meant.{event_meant};
-ghost use Rattle.crew_grip.specs.Grips.{IsAtWork, IsCrew};
+ghost use Rattle.crew_grip.specs.Grips.{IsAtWork, IsCrew, IsHeldNow};
 ghost use Rattle.crew_workers.specs.Rounds.{HasTried};
 ghost use Rattle.protocol.specs.Events as machine;
 ghost use Rattle.protocol.specs.Words.{is_among};
@@ -10,8 +10,8 @@ ghost use Rattle.turn_table.specs.Places.{at};
 ghost use Rattle.turn_table.specs.Words.{HoldsNothing, knows, splits_of, tables_of};
 
 use crate::boards::Board;
-use crate::finds::{Finds, follow_ups};
-use crate::telling::{keep, list_answers};
+use crate::finds::Finds;
+use crate::follows::list_follows;
 use core_events::{Event, Footprint, footprint};
 use crew_grip::{Acted, Grip};
 use crew_parts::Share;
@@ -57,8 +57,7 @@ pub fn try_event<D: LogDev + Drop, O: Sink + Drop, G: Gate>(
     match round {
         Round::Looked(Acted::Done { number: _ }) => {
             board.touch(&parts);
-            follow(board, finds, e);
-            list_answers(alloc, grip.hand(), e, finds);
+            follow(alloc, turns, grip, board, finds, e);
         }
         Round::Busy => board.touch(&parts),
         _ => {}
@@ -98,13 +97,42 @@ fn tried<D: LogDev + Drop, O: Sink + Drop, G: Gate>(
     }
 }
 
-/// What the event, which was done, may have made allowed. Where there is no memory for it, a look finds it.
-fn follow(board: &Board, finds: &mut Finds, e: Event) {
-    let (soon, later) = follow_ups(e);
-    if let Some(next) = soon {
-        let _kept = keep(board, finds, next);
+/// What the event, which was done and whose parts are held, may have made allowed is left to try. Where there is no memory for
+/// it, a look finds it.
+fn follow<D: LogDev + Drop, O: Sink + Drop>(
+    alloc: Global,
+    turns: &Turns<Share<D, O>>,
+    grip: &Grip<D, O>,
+    board: &Board,
+    finds: &mut Finds,
+    e: Event,
+)
+    requires crew { IsCrew turns.now }
+    requires held { IsHeldNow turns.now grip.now }
+{
+    let mut listed = Vec::new(alloc);
+    let _all = list_follows(alloc, grip.hand(), e, &mut listed);
+    for next in &listed {
+        if may_be_next(turns, grip, *next) {
+            let _kept = board.keep(finds, *next);
+        }
     }
-    if let Some(next) = later {
-        let _kept = keep(board, finds, next);
+}
+
+/// Whether the event may be allowed, as far as what is held tells: not where all its parts are held and it is refused.
+fn may_be_next<D: LogDev + Drop, O: Sink + Drop>(
+    turns: &Turns<Share<D, O>>,
+    grip: &Grip<D, O>,
+    e: Event,
+) -> bool
+    requires crew { IsCrew turns.now }
+    requires held { IsHeldNow turns.now grip.now }
+{
+    let parts = footprint(e, turns.tables().work.logs);
+    for i in 0..parts.len() {
+        if !grip.holds(parts.part(i)) {
+            return true;
+        }
     }
+    grip.may_do(turns, e)
 }

@@ -125,7 +125,15 @@ fn after_look(seen: Seen, scope: Scope) -> Next {
     }
 }
 
-/// The scope of the next look, unless an event is done before it: then it is narrow.
+/// The scope of the next look behind an event that was done. What a Sync and an abort make allowed lies all over.
+fn scope_behind(e: Event) -> Scope {
+    match e {
+        Event::Sync(_) | Event::AbortBatch(_) => Scope::Full,
+        _ => Scope::Narrow,
+    }
+}
+
+/// The scope of the next look, unless an event is done before it.
 fn scope_after(scope: Scope, next: Next) -> Scope {
     match (next, scope) {
         (Next::Again | Next::Wider, Scope::Narrow) => Scope::Full,
@@ -169,7 +177,7 @@ fn turn<D: LogDev + Drop, O: Sink + Drop, G: Gate>(
     if let Some(e) = next_try(board, finds, leads) {
         let round = try_event(alloc, turns, pass, grip, gate, board, finds, e);
         if let Round::Looked(Acted::Done { number: _ }) = round {
-            *scope = Scope::Narrow;
+            *scope = scope_behind(e);
         }
         let next = after_try(e, round);
         if next == Next::Soon && finds.put(e).is_err() {

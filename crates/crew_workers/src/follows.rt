@@ -1,0 +1,184 @@
+//! What an event may have made allowed, as far as its own parts tell. A guess: each is asked for before it is done, and a look finds the
+//! others.
+use crate::finds::SUBMITS_IN_A_ROW;
+use core_events::Event;
+use hand_offers::{list_place, push_one, push_two};
+use snap_base::{ActorId, Bid, Memory, Tid, TxNo};
+use snap_hand::Hand;
+use std::alloc::Global;
+
+/// The numbers of these parts.
+const BOOK: usize = 1;
+
+const POST: usize = 2;
+
+const DESK: usize = 3;
+
+/// How many batches an abort is taken to reach. The replies of more are found when all is quiet.
+const BATCHES_LIVE: u64 = 64;
+
+/// Lists what the event, which was done with these parts at hand, may have made allowed. `Memory` leaves some of it.
+pub(crate) fn list_follows(
+    alloc: Global,
+    hand: &Hand,
+    e: Event,
+    events: &mut Vec<Event>,
+) -> Result<(), Memory> {
+    match e {
+        Event::Submit(n) => list_submit(n, events),
+        Event::Form(k) => list_arrivals(alloc, hand, k, events),
+        Event::Admit(t) | Event::Send(t, _) => list_control(hand, t, events),
+        Event::Arrive(_, a) => list_coming(alloc, hand, a, events),
+        Event::Ask(t, a) => {
+            push_one(events, Event::Take(t, a))?;
+            list_answer(hand, t, events)
+        }
+        Event::Take(t, a) => push_one(events, Event::Run(t, a)),
+        Event::Run(t, a) => push_two(events, Event::Send(t, a), Event::End(t, a)),
+        Event::End(t, a) => {
+            push_two(events, Event::Close(t, a), Event::Prepare(t, a))?;
+            list_answer(hand, t, events)
+        }
+        Event::Close(_, a) => list_next(alloc, hand, a, events),
+        Event::Note(k, _) => push_one(events, Event::Commit(k)),
+        Event::Vouch(t, _) => push_one(events, Event::Decide(t)),
+        Event::Settle(k) => list_settled(alloc, hand, k, events),
+        Event::AbortBatch(k) => list_aborted(alloc, hand, k, events),
+        Event::Decide(t) | Event::Seal(t) => list_leaving(alloc, hand, t, events),
+        _ => Ok(()),
+    }
+}
+
+/// The next transaction, as far as the row goes.
+fn list_submit(n: TxNo, events: &mut Vec<Event>) -> Result<(), Memory> {
+    if n.0 % SUBMITS_IN_A_ROW == SUBMITS_IN_A_ROW - 1 {
+        return Ok(());
+    }
+    push_one(events, Event::Submit(TxNo(n.0.wrapping_add(1))))
+}
+
+/// A batch comes to its actors.
+fn list_arrivals(
+    alloc: Global,
+    hand: &Hand,
+    k: Bid,
+    events: &mut Vec<Event>,
+) -> Result<(), Memory> {
+    if !hand.has(DESK) {
+        return Ok(());
+    }
+    for a in &hand.desk().actors_of(alloc, k)? {
+        push_one(events, Event::Arrive(k, *a))?;
+    }
+    Ok(())
+}
+
+/// A control comes to where it goes.
+fn list_control(hand: &Hand, t: Tid, events: &mut Vec<Event>) -> Result<(), Memory> {
+    if !hand.has(POST) {
+        return Ok(());
+    }
+    match hand.post().control_to(t) {
+        Some(a) => push_two(events, Event::Ask(t, a), Event::Take(t, a)),
+        None => Ok(()),
+    }
+}
+
+/// The controls that go to this actor come there.
+pub(crate) fn list_coming(
+    alloc: Global,
+    hand: &Hand,
+    a: ActorId,
+    events: &mut Vec<Event>,
+) -> Result<(), Memory> {
+    if !hand.has(POST) {
+        return Ok(());
+    }
+    for (t, a) in &hand.post().controls_to(alloc, a)? {
+        push_two(events, Event::Ask(*t, *a), Event::Take(*t, *a))?;
+    }
+    Ok(())
+}
+
+/// The first PACT that is not done on the actor comes there, and batches are complete there.
+fn list_next(
+    alloc: Global,
+    hand: &Hand,
+    a: ActorId,
+    events: &mut Vec<Event>,
+) -> Result<(), Memory> {
+    if !hand.has_actor(a) {
+        return Ok(());
+    }
+    let mut lying = Vec::new(alloc);
+    list_place(alloc, hand, a, &mut lying)?;
+    let mut first = true;
+    for e in &lying {
+        match *e {
+            Event::Close(t, a) if first => {
+                first = false;
+                push_one(events, Event::Take(t, a))?;
+            }
+            Event::Complete(k, a) => push_one(events, Event::Complete(k, a))?,
+            _ => {}
+        }
+    }
+    Ok(())
+}
+
+/// The replies of a batch's transactions.
+fn list_answers(alloc: Global, hand: &Hand, k: Bid, events: &mut Vec<Event>) -> Result<(), Memory> {
+    if !hand.has(DESK) {
+        return Ok(());
+    }
+    for n in &hand.desk().txs_of(alloc, k)? {
+        push_one(events, Event::Reply(*n))?;
+    }
+    Ok(())
+}
+
+/// The replies of a batch's transactions, that it leaves its actors, and that the next one commits.
+fn list_settled(alloc: Global, hand: &Hand, k: Bid, events: &mut Vec<Event>) -> Result<(), Memory> {
+    list_answers(alloc, hand, k, events)?;
+    if !hand.has(DESK) {
+        return Ok(());
+    }
+    if let Some(next) = hand.desk().next() {
+        push_one(events, Event::Commit(next))?;
+    }
+    for a in &hand.desk().actors_of(alloc, k)? {
+        push_one(events, Event::Trim(k, *a))?;
+    }
+    Ok(())
+}
+
+/// The replies of this batch's transactions, and of those behind it.
+fn list_aborted(alloc: Global, hand: &Hand, k: Bid, events: &mut Vec<Event>) -> Result<(), Memory> {
+    for i in 0..BATCHES_LIVE {
+        list_answers(alloc, hand, Bid(k.0.wrapping_add(i)), events)?;
+    }
+    Ok(())
+}
+
+/// The reply of an ACT's transaction.
+fn list_answer(hand: &Hand, t: Tid, events: &mut Vec<Event>) -> Result<(), Memory> {
+    if !hand.has(BOOK) {
+        return Ok(());
+    }
+    match hand.book().tx_of(t) {
+        Some(n) => push_one(events, Event::Reply(n)),
+        None => Ok(()),
+    }
+}
+
+/// The reply of an ACT's transaction, and that it leaves its actors.
+fn list_leaving(alloc: Global, hand: &Hand, t: Tid, events: &mut Vec<Event>) -> Result<(), Memory> {
+    list_answer(hand, t, events)?;
+    if !hand.has(BOOK) {
+        return Ok(());
+    }
+    for a in &hand.book().actors_of(alloc, t)? {
+        push_one(events, Event::Finish(t, *a))?;
+    }
+    Ok(())
+}
