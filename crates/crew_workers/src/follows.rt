@@ -17,10 +17,12 @@ const DESK: usize = 3;
 /// How many batches an abort is taken to reach. The replies of more are found when all is quiet.
 const BATCHES_LIVE: u64 = 64;
 
-/// Lists what the event, which was done with these parts at hand, may have made allowed. `Memory` leaves some of it.
+/// Lists what the event, which was done with these parts at hand, may have made allowed, where there are so many logs. `Memory`
+/// leaves some of it.
 pub(crate) fn list_follows(
     alloc: Global,
     hand: &Hand,
+    logs: u8,
     e: Event,
     events: &mut Vec<Event>,
 ) -> Result<(), Memory> {
@@ -41,6 +43,7 @@ pub(crate) fn list_follows(
         }
         Event::Close(_, a) => list_next(alloc, hand, a, events),
         Event::Note(k, _) => push_one(events, Event::Commit(k)),
+        Event::Commit(k) => list_committed(k, logs, events),
         Event::Vouch(t, _) => push_one(events, Event::Decide(t)),
         Event::Settle(k) => list_settled(alloc, hand, k, events),
         Event::AbortBatch(k) => list_aborted(alloc, hand, k, events),
@@ -135,6 +138,15 @@ fn list_answers(alloc: Global, hand: &Hand, k: Bid, events: &mut Vec<Event>) -> 
         push_one(events, Event::Reply(*n))?;
     }
     Ok(())
+}
+
+/// The commit record of a batch becomes durable: all behind it wait for that, so it is not put off.
+fn list_committed(k: Bid, logs: u8, events: &mut Vec<Event>) -> Result<(), Memory> {
+    if logs == 0 {
+        return Ok(());
+    }
+    let log = (k.0 % logs as u64) as u8;
+    push_two(events, Event::Sync(log), Event::Settle(k))
 }
 
 /// The replies of a batch's transactions, that it leaves its actors, and that the next one commits.

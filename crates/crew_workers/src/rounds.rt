@@ -111,7 +111,8 @@ fn follow<D: LogDev + Drop, O: Sink + Drop>(
     requires held { IsHeldNow turns.now grip.now }
 {
     let mut listed = Vec::new(alloc);
-    let _all = list_follows(alloc, grip.hand(), e, &mut listed);
+    let logs = turns.tables().work.logs;
+    let _all = list_follows(alloc, grip.hand(), logs, e, &mut listed);
     for next in &listed {
         if may_be_next(turns, grip, *next) {
             let _kept = board.keep(finds, *next);
