@@ -57,3 +57,13 @@ among_next j xs i x here now = elim (eqb_tells x j) [
   before : (b : Bool) → is_among j (take i xs) ≡ b → x ≢ j → is_among j (take i xs) ≡ true
   before true q other = q
   before false q other = absurd (true≢false (sym now ∙ not_yet j xs i x here q other))
+
+-- the one at a place
+pub all_at : {X : Type 0} (P : X → Type 0) (xs : List X) (i : ℕ) (x : X) → slice_get xs i ≡ Some x → AllByRecursion P xs → P x
+all_at P [] i x here all = absurd (cc here)
+all_at P (y ∷ ys) zero x here all = (let same : y ≡ x = cc here in subst P same all.0)
+all_at P (y ∷ ys) (suc i) x here all = all_at P ys i x here all.1
+
+pub all_as : {X : Type 0} (P Q : X → Type 0) (xs : List X) → ((x : X) → P x → Q x) → AllByRecursion P xs → AllByRecursion Q xs
+all_as P Q [] each all = tt
+all_as P Q (x ∷ xs) each all = (each x all.0, all_as P Q xs each all.1)

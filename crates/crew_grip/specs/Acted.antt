@@ -1,5 +1,6 @@
 -- What an event, with what stands before it, makes of what a worker holds.
-use Rattle.std.specs.Prelude.{◌≡◌, ℕ, ◌<◌, Bool, true, false, is_some, Option, None, Some, Result, Ok, Err, List, [], ◌∷◌, ◌++◌, length}
+use Rattle.std.specs.List.{AllByRecursion}
+use Rattle.std.specs.Prelude.{◌≡◌, ℕ, ◌<◌, ◌≤◌, Bool, true, false, is_some, Option, None, Some, Result, Ok, Err, List, [], ◌∷◌, ◌++◌, length}
 use Rattle.aml_slice.specs.Controls.{Rest}
 use Rattle.core_rows.specs.OnRuns.{HasRun}
 use Rattle.crew_grip.specs.Grips.{CrewTurns, GripState, IsGripOf, share_at}
@@ -21,7 +22,7 @@ use Rattle.protocol.specs.Fixed.{Fixed}
 use Rattle.protocol.specs.Parts.{Machine}
 use Rattle.protocol.specs.Words.{is_among}
 use Rattle.snap_hand.specs.Hands.{Parts, Fits, IsHandOf, are_there}
-use Rattle.snap_hand.specs.Steps.{IsTakenOn}
+use Rattle.snap_hand.specs.Steps.{IsRefusalOn, IsTakenOn}
 use Rattle.snap_hand.specs.Tables.{fixed_of, text_of}
 use Rattle.turn_table.specs.Places.{at, Covers, values}
 use Rattle.turn_table.specs.Words.{tables_of, opening_of}
@@ -43,6 +44,14 @@ pub record IsReadyAt (logs : ℕ) (g : GripState) (i : ℕ) : Type 0 where
   pub beside : BesideState
   pub there : at g.besides i ≡ Some beside
   pub sound : IsSound logs i beside
+
+-- all parts that the event touches
+abbrev pub AreReady : ℕ → Event → GripState → Type 0
+AreReady logs e g = AllByRecursion (λ i. IsReadyAt logs g i) (footprint logs e)
+
+-- in each state that the hand fits, the same condition of the event is the first false one
+abbrev pub IsRefused : Fixed Rest → Event → Parts → Type 0
+IsRefused w e h = (rule : ℕ) × ((1 ≤ rule) × IsRefusalOn w e h rule)
 
 -- what stands beside each of them can go on
 abbrev pub AreSound : ℕ → GripState → Type 0

@@ -2,7 +2,7 @@
 ghost use Rattle.std.specs.List.{AllByRecursion};
 ghost use Rattle.std.specs.Prelude.{◌≡◌, ◌<◌, ◌++◌, ◌∷◌, [], ℕ, None, IfOk, OnOk, OnErr, true, false, vec_len, vec_capacity};
 ghost use Rattle.core_events.specs.Meant.{event_meant};
-ghost use Rattle.crew_grip.specs.Acted.{AreSound, HasActed, IsJust, IsReadyAt, IsRecorded, IsStepped};
+ghost use Rattle.crew_grip.specs.Acted.{AreReady, AreSound, HasActed, IsJust, IsReadyAt, IsRecorded, IsRefused, IsStepped};
 ghost use Rattle.crew_grip.specs.Grips.{GripState, IsAtWork, IsCrew, IsGripOf, IsHeldNow};
 ghost use Rattle.crew_parts.specs.Acts.{meant};
 ghost use Rattle.crew_parts.specs.declared.acts.Act.{Act};
@@ -46,7 +46,8 @@ impl<D: LogDev + Drop, O: Sink + Drop> Grip<D, O> {
 
     /// Whether all parts of a footprint are held, and can go on.
     fn is_ready(&self, footprint: &Footprint, logs: u8) -> bool
-        ensures { result ≡ true → AllByRecursion (λ i. IsReadyAt logs self.now i) footprint.now }
+        ensures only { result ≡ true → AllByRecursion (λ i. IsReadyAt logs self.now i) footprint.now }
+        ensures all { AllByRecursion (λ i. IsReadyAt logs self.now i) footprint.now → result ≡ true }
     {
         for i in 0..footprint.len() {
             if !self.is_ready_at(footprint.part(i), logs) {
@@ -57,11 +58,13 @@ impl<D: LogDev + Drop, O: Sink + Drop> Grip<D, O> {
     }
 
     fn is_ready_at(&self, part: usize, logs: u8) -> bool
-        ensures { result ≡ true → IsReadyAt logs self.now part }
+        ensures only { result ≡ true → IsReadyAt logs self.now part }
+        ensures all { IsReadyAt logs self.now part → result ≡ true }
     {
         match self.besides.get(part) {
             Some(Some(beside)) => beside.is_sound(part, logs),
-            _ => false,
+            Some(None) => false,
+            None => false,
         }
     }
 
@@ -69,7 +72,8 @@ impl<D: LogDev + Drop, O: Sink + Drop> Grip<D, O> {
     pub fn may_do(&self, turns: &Turns<Share<D, O>>, e: Event) -> bool
         requires crew { IsCrew turns.now }
         requires held { IsHeldNow turns.now self.now }
-        ensures { result ≡ true → IsRefusalOn (fixed_of (tables_of turns.now)) (event_meant e) self.now.hand 0 }
+        ensures only { result ≡ true → IsRefusalOn (fixed_of (tables_of turns.now)) (event_meant e) self.now.hand 0 }
+        ensures all { AreReady (text_of (tables_of turns.now)).logs (event_meant e) self.now → IsRefusalOn (fixed_of (tables_of turns.now)) (event_meant e) self.now.hand 0 → result ≡ true }
     {
         let tables = turns.tables();
         let parts = footprint(e, tables.work.logs);
@@ -81,7 +85,7 @@ impl<D: LogDev + Drop, O: Sink + Drop> Grip<D, O> {
     }
 
     /// Does the event, where it is allowed on the parts of its footprint, and records it. No other part is held. A Run passes
-    /// the gate first.
+    /// the gate first. `Unready` and `NotNow` only where that is so.
     pub fn act<G: Gate>(
         &mut self,
         alloc: Global,
@@ -97,6 +101,8 @@ impl<D: LogDev + Drop, O: Sink + Drop> Grip<D, O> {
         ensures work { IsAtWork turns.now pass.new.seat self.new }
         ensures others { (i : ℕ) → is_among i (machine.footprint (text_of (tables_of turns.now)).logs (event_meant e)) ≡ false → at (knows pass.new.seat).held i ≡ None }
         ensures entries { IsRecorded e pass.old.entries.items pass.new.entries.items result }
+        ensures unready { result ≡ Acted.Unready → AreReady (text_of (tables_of turns.now)).logs (event_meant e) self.old → ⊥ }
+        ensures not_now { result ≡ Acted.NotNow → IsRefused (fixed_of (tables_of turns.now)) (event_meant e) self.old.hand }
         ensures splits { splits_of pass.new.seat ≡ splits_of pass.old.seat }
     {
         let tables = turns.tables();
@@ -129,6 +135,7 @@ impl<D: LogDev + Drop, O: Sink + Drop> Grip<D, O> {
         ensures work { IsAtWork turns.now pass.new.seat self.new }
         ensures others { (i : ℕ) → is_among i (machine.footprint (text_of (tables_of turns.now)).logs (event_meant e)) ≡ false → at (knows pass.new.seat).held i ≡ None }
         ensures entries { IsRecorded e pass.old.entries.items pass.new.entries.items result }
+        ensures tried { (result ≡ Acted.Unready → ⊥) × (result ≡ Acted.NotNow → ⊥) }
         ensures splits { splits_of pass.new.seat ≡ splits_of pass.old.seat }
     {
         allowed_or_refused::<Control>();

@@ -1,4 +1,5 @@
 //! Parts are taken and given back, each under its turn.
+ghost use Rattle.std.specs.List.{AllByRecursion};
 ghost use Rattle.std.specs.Prelude.{◌≡◌, ◌≢◌, ◌<◌, ℕ, None, IsSome, true, false};
 ghost use Rattle.crew_grip.specs.Grips.{IsAtWork, IsCrew};
 ghost use Rattle.protocol.specs.Words.{is_among};
@@ -54,6 +55,7 @@ impl<D: LogDev + Drop, O: Sink + Drop> Grip<D, O> {
         requires crew { IsCrew turns.now }
         requires work { IsAtWork turns.now pass.old.seat self.old }
         ensures work { IsAtWork turns.now pass.new.seat self.new }
+        ensures held { result ≡ true → AllByRecursion (λ i. IsSome (at (knows pass.new.seat).held i)) footprint.now }
         ensures others { (i : ℕ) → is_among i footprint.now ≡ false → at (knows pass.new.seat).held i ≡ at (knows pass.old.seat).held i }
         ensures rest { (pass.new.entries ≡ pass.old.entries) × (splits_of pass.new.seat ≡ splits_of pass.old.seat) }
     {

@@ -126,7 +126,8 @@ impl<D: LogDev, O: Sink> Beside<D, O> {
     /// Whether the part of this number, where there are so many logs, can go on with this beside it: a log with a journal that
     /// takes appends, the desk with an output that has not failed.
     pub fn is_sound(&self, part: usize, logs: u8) -> bool
-        ensures { result ≡ true → IsSound logs part self.now }
+        ensures only { result ≡ true → IsSound logs part self.now }
+        ensures all { IsSound logs part self.now → result ≡ true }
     {
         if part == DESK {
             return self.has_output();
@@ -138,13 +139,13 @@ impl<D: LogDev, O: Sink> Beside<D, O> {
     }
 
     fn has_output(&self) -> bool
-        ensures { result ≡ true → is_ready_output self.now.output ≡ true }
+        ensures { result ≡ is_ready_output self.now.output }
     {
         self.output.is_some() && !self.failed
     }
 
     fn has_journal(&self) -> bool
-        ensures { result ≡ true → is_ready_journal self.now.journal ≡ true }
+        ensures { result ≡ is_ready_journal self.now.journal }
     {
         self.journal.is_some() && !self.cut
     }

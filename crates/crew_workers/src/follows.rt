@@ -164,12 +164,12 @@ fn list_settled(alloc: Global, hand: &Hand, k: Bid, events: &mut Vec<Event>) -> 
     Ok(())
 }
 
-/// The replies of this batch's transactions, and of those behind it.
+/// The replies of this batch's transactions, of those behind it, and of the ACTs that are live.
 fn list_aborted(alloc: Global, hand: &Hand, k: Bid, events: &mut Vec<Event>) -> Result<(), Memory> {
     for i in 0..BATCHES_LIVE {
         list_answers(alloc, hand, Bid(k.0.wrapping_add(i)), events)?;
     }
-    Ok(())
+    list_live_answers(alloc, hand, events)
 }
 
 /// The reply of an ACT's transaction.
@@ -181,6 +181,21 @@ fn list_answer(hand: &Hand, t: Tid, events: &mut Vec<Event>) -> Result<(), Memor
         Some(n) => push_one(events, Event::Reply(n)),
         None => Ok(()),
     }
+}
+
+/// The replies of the ACTs that are live: one that fell with a batch, or at another one's call, may be due.
+pub(crate) fn list_live_answers(
+    alloc: Global,
+    hand: &Hand,
+    events: &mut Vec<Event>,
+) -> Result<(), Memory> {
+    if !hand.has(BOOK) {
+        return Ok(());
+    }
+    for t in &hand.book().going(alloc)? {
+        list_answer(hand, *t, events)?;
+    }
+    Ok(())
 }
 
 /// The reply of an ACT's transaction, and that it leaves its actors.

@@ -8,7 +8,7 @@ ghost use Rattle.turn_table.specs.Words.{HoldsNothing, splits_of};
 
 use crate::boards::Board;
 use crate::finds::Finds;
-use crate::follows::list_coming;
+use crate::follows::{list_coming, list_live_answers};
 use core_events::Event;
 use crew_grip::Grip;
 use crew_parts::Share;
@@ -29,7 +29,7 @@ const FIRST_LOG: usize = 4;
 pub enum Scope {
     /// All but the cells that no event touched since a look had them. What lies at actors, comes there, or is next of the ring.
     Narrow,
-    /// All parts, and all but replies; one Sync, where nothing else is found.
+    /// All parts, and all but replies of PACTs; one Sync, where nothing else is found.
     Full,
     /// All parts, and all that is allowed there. Replies that wait may be many, and are listed here alone.
     Wide,
@@ -152,7 +152,7 @@ fn find<D: LogDev + Drop, O: Sink + Drop>(
     Ok(any)
 }
 
-/// What the parts at hand list, but Syncs and replies. Want of memory leaves some of it.
+/// What the parts at hand list, but Syncs and replies of PACTs. Want of memory leaves some of it.
 fn list_hand<D: LogDev + Drop, O: Sink + Drop>(
     alloc: Global,
     turns: &Turns<Share<D, O>>,
@@ -173,7 +173,7 @@ fn list_hand<D: LogDev + Drop, O: Sink + Drop>(
     }
     list_post(alloc, hand, listed)?;
     list_desk(alloc, hand, listed)?;
-    Ok(())
+    list_live_answers(alloc, hand, listed)
 }
 
 /// What comes to the actors whose cells are at hand.

@@ -22,7 +22,7 @@ refusal-requires-clause-asked g c =
     let held = c.args.pass.now.seat.me.0.held in
     let e = event_meant c.args.e in
     let grip = c.requires.work.grip in
-    let all = ready_now c.tables-tables.result.now t e c.args.self.now c.footprint-parts.result c.tables-tables.ensures c.footprint-parts.ensures (c.is_ready.ensures c.if-not-is_ready.false) in
+    let all = ready_now c.tables-tables.result.now t e c.args.self.now c.footprint-parts.result c.tables-tables.ensures c.footprint-parts.ensures (c.is_ready.ensures.only c.if-not-is_ready.false) in
     subst (λ (u : Tables). MayBeAsked (fixed_of u) e c.self.inside.hand) (sym c.tables-tables.ensures)
     (subst (λ (x : GripState). MayBeAsked w e x.hand) (sym c.self.view_is)
     (may_be_asked w e start held c.args.self.now c.places_are_set.ensures.told c.requires.work.stands grip (covers_ready t.work.logs w held c.args.self.now (footprint t.work.logs e) grip all)))
@@ -31,7 +31,7 @@ pub act_allowed-requires-clause-just : goal.act_allowed-requires-clause-just
 act_allowed-requires-clause-just g c =
     let t = c.args.turns.now.table.shared.key.tables.value in
     let e = event_meant c.args.e in
-    let all = ready_now c.tables-tables.result.now t e c.args.self.now c.footprint-parts.result c.tables-tables.ensures c.footprint-parts.ensures (c.is_ready.ensures c.if-not-is_ready.false) in
+    let all = ready_now c.tables-tables.result.now t e c.args.self.now c.footprint-parts.result c.tables-tables.ensures c.footprint-parts.ensures (c.is_ready.ensures.only c.if-not-is_ready.false) in
     record {
       all = covers_ready t.work.logs (fixed_of t) c.args.pass.now.seat.me.0.held c.args.self.now (footprint t.work.logs e) c.requires.work.grip all;
       others = c.requires.others;
@@ -41,7 +41,7 @@ pub act_allowed-requires-clause-sound : goal.act_allowed-requires-clause-sound
 act_allowed-requires-clause-sound g c =
     let t = c.args.turns.now.table.shared.key.tables.value in
     let e = event_meant c.args.e in
-    let all = ready_now c.tables-tables.result.now t e c.args.self.now c.footprint-parts.result c.tables-tables.ensures c.footprint-parts.ensures (c.is_ready.ensures c.if-not-is_ready.false) in
+    let all = ready_now c.tables-tables.result.now t e c.args.self.now c.footprint-parts.result c.tables-tables.ensures c.footprint-parts.ensures (c.is_ready.ensures.only c.if-not-is_ready.false) in
     are_sound t.work.logs (fixed_of t) c.args.pass.now.seat.me.0.held c.args.self.now (footprint t.work.logs e) c.requires.work.grip all c.requires.others
 
 pub act_allowed-requires-clause-allowed : goal.act_allowed-requires-clause-allowed
