@@ -1,12 +1,14 @@
 //! What the workers of a crew tell each other, besides the parts. All of it is hints: what a worker does it asks for first, with the
 //! parts at hand.
-use crate::finds::Finds;
-use core_events::{Event, Footprint};
+ghost use Rattle.std.specs.Prelude.{◌≤◌};
+
+use crate::finds::{Finds, take_first};
+use core_events::{Event, Footprint, footprint};
 use ready_list::ReadyList;
 use snap_base::Memory;
 use std::alloc::Global;
 use std::sync::atomic::{AtomicU64, Ordering};
-use std::sync::{Mutex, Wait};
+use std::sync::{Mutex, MutexGuard, Wait};
 use std::thread;
 use std::time::Duration;
 
@@ -18,11 +20,18 @@ const NAP_MICROS: u64 = 20;
 
 const LONGEST_NAP: u64 = 10;
 
+/// How often a list is tried that another worker has. It has it for as long as a few of these tries take.
+const TRIES: usize = 32;
+
 /// A board that all workers of a crew read and write.
 #[derive(Drop)]
 pub struct Board {
     /// Runs for whoever comes first.
     runs: Mutex<ReadyList>,
+    /// What waits for a Sync.
+    unsynced: Mutex<ReadyList>,
+    /// What lacked a part that another worker had for long.
+    blocked: Mutex<ReadyList>,
     /// By the number of a part, 1 where an event touched it since a look had it.
     touched: Vec<AtomicU64>,
     /// 1 while a worker looks, and until it has tried what it found.
@@ -42,12 +51,68 @@ fn all_touched(alloc: Global, parts: usize) -> Vec<AtomicU64> {
     touched
 }
 
+/// The list, unless another worker keeps it.
+fn open(list: &Mutex<ReadyList>) -> Option<MutexGuard<'_, ReadyList>> {
+    for _try in 0..TRIES {
+        let opened = list.try_lock();
+        if opened.is_some() {
+            return opened;
+        }
+    }
+    None
+}
+
+/// Puts an event into the list, as far as there is memory for it, unless another worker keeps the list. How many stand there then.
+fn put_in(list: &Mutex<ReadyList>, e: Event) -> usize {
+    let Some(mut list) = open(list) else {
+        return 0;
+    };
+    if list.room(1).is_ok() {
+        list.put(e);
+    }
+    list.count()
+}
+
+/// Whether the event, where there are so many logs, has this part.
+pub(crate) fn has_part(e: Event, part: usize, logs: u8) -> bool
+    requires { 1 ≤ logs }
+{
+    let parts = footprint(e, logs);
+    for i in 0..parts.len() {
+        if parts.part(i) == part {
+            return true;
+        }
+    }
+    false
+}
+
+/// What has this part, where there are so many logs, stands in the list no more, and is left to try.
+fn take_from(list: &Mutex<ReadyList>, finds: &mut Finds, part: usize, logs: u8)
+    requires { 1 ≤ logs }
+{
+    let Some(mut list) = open(list) else {
+        return;
+    };
+    let count = list.count();
+    for i in 0..count {
+        match list.nth(count - 1 - i) {
+            Some(e) if has_part(e, part, logs) => {
+                list.take(e);
+                let _left = finds.put(e);
+            }
+            _ => {}
+        }
+    }
+}
+
 impl Board {
     /// A board for so many parts, none of which a look had yet. Where there is no memory for a part's word, it is taken for
     /// touched always.
     pub fn new(alloc: Global, parts: usize) -> Self {
         Board {
             runs: Mutex::new(ReadyList::new(alloc)),
+            unsynced: Mutex::new(ReadyList::new(alloc)),
+            blocked: Mutex::new(ReadyList::new(alloc)),
             touched: all_touched(alloc, parts),
             looking: AtomicU64::new(0),
             ended: AtomicU64::new(0),
@@ -62,9 +127,9 @@ impl Board {
         }
     }
 
-    /// A Run for whoever comes first. False where there was no room for it, or another worker was reading.
+    /// A Run for whoever comes first. False where there was no room for it, or another worker had the list.
     fn post_run(&self, e: Event) -> bool {
-        let Some(mut runs) = self.runs.try_lock() else {
+        let Some(mut runs) = open(&self.runs) else {
             return false;
         };
         if runs.room(1).is_err() {
@@ -74,12 +139,34 @@ impl Board {
         true
     }
 
-    /// The first Run, which stands here no more; nothing where another worker was reading.
+    /// The first Run, which stands here no more; nothing where another worker had the list.
     pub fn take_run(&self) -> Option<Event> {
-        let mut runs = self.runs.try_lock()?;
-        let e = runs.nth(0)?;
-        runs.take(e);
-        Some(e)
+        let mut runs = open(&self.runs)?;
+        take_first(&mut runs)
+    }
+
+    /// An event that waits for a Sync. How many do.
+    pub fn wait(&self, e: Event) -> usize {
+        put_in(&self.unsynced, e)
+    }
+
+    /// The log with this number among the parts was synced: what waited for that is left to try.
+    pub fn end_wait(&self, finds: &mut Finds, part: usize, logs: u8)
+        requires { 1 ≤ logs }
+    {
+        take_from(&self.unsynced, finds, part, logs);
+    }
+
+    /// An event that lacked a part that another worker had for long.
+    pub fn block(&self, e: Event) {
+        let _count = put_in(&self.blocked, e);
+    }
+
+    /// The part is to be had: what lacked it is left to try.
+    pub fn unblock(&self, finds: &mut Finds, part: usize, logs: u8)
+        requires { 1 ≤ logs }
+    {
+        take_from(&self.blocked, finds, part, logs);
     }
 
     /// Whether an event touched this part since a look had it.

@@ -1,34 +1,48 @@
 //! What an event may have made allowed, as far as its own parts tell. A guess: each is asked for before it is done, and a look finds the
 //! others.
+ghost use Rattle.snap_hand.specs.Tables.{AreTables};
+
 use crate::finds::SUBMITS_IN_A_ROW;
+use crate::numbers::{BOOK, DESK, POST};
 use core_events::Event;
-use hand_offers::{list_place, push_one, push_two};
+use hand_offers::{list_place, list_ring, push_one, push_two};
 use snap_base::{ActorId, Bid, Memory, Tid, TxNo};
-use snap_hand::Hand;
+use snap_hand::{Hand, Tables};
 use std::alloc::Global;
-
-/// The numbers of these parts.
-const BOOK: usize = 1;
-
-const POST: usize = 2;
-
-const DESK: usize = 3;
 
 /// How many batches an abort is taken to reach. The replies of more are found when all is quiet.
 const BATCHES_LIVE: u64 = 64;
 
-/// Lists what the event, which was done with these parts at hand, may have made allowed, where there are so many logs. `Memory`
+/// What waits for the record that the event adds.
+pub(crate) fn behind_sync(e: Event) -> Option<Event> {
+    match e {
+        Event::Form(k) => Some(Event::Commit(k)),
+        Event::Complete(k, a) => Some(Event::Note(k, a)),
+        Event::Prepare(t, a) => Some(Event::Vouch(t, a)),
+        Event::Commit(k) => Some(Event::Settle(k)),
+        Event::Decide(t) => Some(Event::Seal(t)),
+        _ => None,
+    }
+}
+
+/// Lists what the event, which was done with these parts at hand, may have made allowed, but what waits for a Sync. `Memory`
 /// leaves some of it.
 pub(crate) fn list_follows(
     alloc: Global,
+    tables: &Tables,
     hand: &Hand,
-    logs: u8,
     e: Event,
     events: &mut Vec<Event>,
-) -> Result<(), Memory> {
+) -> Result<(), Memory>
+    requires { AreTables tables.now }
+{
     match e {
         Event::Submit(n) => list_submit(n, events),
-        Event::Form(k) => list_arrivals(alloc, hand, k, events),
+        Event::Pass(_) => list_ring(tables, hand, events),
+        Event::Form(k) => {
+            list_ring(tables, hand, events)?;
+            list_arrivals(alloc, hand, k, events)
+        }
         Event::Admit(t) | Event::Send(t, _) => list_control(hand, t, events),
         Event::Arrive(_, a) => list_coming(alloc, hand, a, events),
         Event::Ask(t, a) => {
@@ -39,13 +53,15 @@ pub(crate) fn list_follows(
         Event::Run(t, a) => push_two(events, Event::Send(t, a), Event::End(t, a)),
         Event::End(t, a) => {
             push_two(events, Event::Close(t, a), Event::Prepare(t, a))?;
+            list_next(alloc, hand, a, events)?;
             list_answer(hand, t, events)
         }
         Event::Close(_, a) => list_next(alloc, hand, a, events),
         Event::Note(k, _) => push_one(events, Event::Commit(k)),
-        Event::Commit(k) => list_committed(k, logs, events),
+        Event::Commit(k) => list_committed(k, tables.work.logs, events),
         Event::Vouch(t, _) => push_one(events, Event::Decide(t)),
         Event::Settle(k) => list_settled(alloc, hand, k, events),
+        Event::Trim(k, _) => list_gone(alloc, hand, k, events),
         Event::AbortBatch(k) => list_aborted(alloc, hand, k, events),
         Event::Decide(t) | Event::Seal(t) => list_leaving(alloc, hand, t, events),
         _ => Ok(()),
@@ -145,8 +161,7 @@ fn list_committed(k: Bid, logs: u8, events: &mut Vec<Event>) -> Result<(), Memor
     if logs == 0 {
         return Ok(());
     }
-    let log = (k.0 % logs as u64) as u8;
-    push_two(events, Event::Sync(log), Event::Settle(k))
+    push_one(events, Event::Sync((k.0 % logs as u64) as u8))
 }
 
 /// The replies of a batch's transactions, that it leaves its actors, and that the next one commits.
@@ -162,6 +177,20 @@ fn list_settled(alloc: Global, hand: &Hand, k: Bid, events: &mut Vec<Event>) -> 
         push_one(events, Event::Trim(k, *a))?;
     }
     Ok(())
+}
+
+/// Where the batch has left all its actors, the next one is formed.
+fn list_gone(alloc: Global, hand: &Hand, k: Bid, events: &mut Vec<Event>) -> Result<(), Memory> {
+    if !hand.has(DESK) {
+        return Ok(());
+    }
+    let going = hand.desk().going(alloc)?;
+    match going.last() {
+        Some(last) if !going.contains(&k) => {
+            push_one(events, Event::Form(Bid(last.0.wrapping_add(1))))
+        }
+        _ => Ok(()),
+    }
 }
 
 /// The replies of this batch's transactions, of those behind it, and of the ACTs that are live.

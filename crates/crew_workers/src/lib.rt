@@ -10,6 +10,7 @@ mod ends;
 mod finds;
 mod follows;
 mod looking;
+mod numbers;
 mod rounds;
 mod threads;
 mod workers;

@@ -9,6 +9,7 @@ ghost use Rattle.turn_table.specs.Words.{HoldsNothing, splits_of};
 use crate::boards::Board;
 use crate::finds::Finds;
 use crate::follows::{list_coming, list_live_answers};
+use crate::numbers::{FIRST_LOG, RING};
 use core_events::Event;
 use crew_grip::Grip;
 use crew_parts::Share;
@@ -18,11 +19,6 @@ use snap_hand::{Hand, Tables};
 use snap_outside::{LogDev, Sink};
 use std::alloc::Global;
 use turn_table::{Pass, Turns};
-
-/// The number of the ring among the parts, and of the first log.
-const RING: usize = 0;
-
-const FIRST_LOG: usize = 4;
 
 /// How much a look takes, and what it lists.
 #[derive(Clone, Copy, Debug, PartialEq, Eq)]

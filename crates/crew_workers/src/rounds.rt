@@ -1,5 +1,5 @@
 //! A try of one event. It does not wait, and gives back all that it took: a worker that lacks a turn keeps nobody waiting.
-ghost use Rattle.std.specs.Prelude.{◌≡◌, ℕ, None, false};
+ghost use Rattle.std.specs.Prelude.{◌≡◌, ◌≤◌, ℕ, None, false};
 ghost use Rattle.core_events.specs.Meant.{event_meant};
 ghost use Rattle.crew_grip.specs.Grips.{IsAtWork, IsCrew, IsHeldNow};
 ghost use Rattle.crew_workers.specs.Rounds.{HasTried};
@@ -9,9 +9,10 @@ ghost use Rattle.snap_hand.specs.Tables.{text_of};
 ghost use Rattle.turn_table.specs.Places.{at};
 ghost use Rattle.turn_table.specs.Words.{HoldsNothing, knows, splits_of, tables_of};
 
-use crate::boards::Board;
+use crate::boards::{Board, has_part};
 use crate::finds::Finds;
-use crate::follows::list_follows;
+use crate::follows::{behind_sync, list_follows};
+use crate::numbers::FIRST_LOG;
 use core_events::{Event, Footprint, footprint};
 use crew_grip::{Acted, Grip};
 use crew_parts::Share;
@@ -19,13 +20,16 @@ use snap_outside::{Gate, LogDev, Sink};
 use std::alloc::Global;
 use turn_table::{Pass, RoomNo, Turns};
 
+/// So many events that wait for a Sync, for each log, are worth one.
+const GROUP: usize = 64;
+
 /// What came of a try.
 #[derive(Clone, Copy, Debug, PartialEq, Eq)]
 pub enum Round {
     /// The event was looked at with its parts at hand, and this became of it.
     Looked(Acted),
-    /// A turn was held by another worker.
-    Busy,
+    /// A turn was held by another worker. Whether that was neither a log's nor a cell's: then not for long.
+    Busy { brief: bool },
     /// The pass has recorded as many acts as a pass may.
     Full,
     /// There was no memory. Nothing was done.
@@ -57,9 +61,14 @@ pub fn try_event<D: LogDev + Drop, O: Sink + Drop, G: Gate>(
     match round {
         Round::Looked(Acted::Done { number: _ }) => {
             board.touch(&parts);
-            follow(alloc, turns, grip, board, finds, e);
+            follow(alloc, turns, grip, board, finds, &parts, e);
         }
-        Round::Busy => board.touch(&parts),
+        Round::Busy { brief } => {
+            board.touch(&parts);
+            if !brief {
+                board.block(e);
+            }
+        }
         _ => {}
     }
     grip.give_parts(turns, pass, &parts);
@@ -88,7 +97,8 @@ fn tried<D: LogDev + Drop, O: Sink + Drop, G: Gate>(
     match turns.room(pass) {
         Ok(()) => {
             if !grip.take_parts(turns, pass, parts) {
-                return Round::Busy;
+                let brief = lacks_brief(grip, parts);
+                return Round::Busy { brief };
             }
             Round::Looked(grip.act(alloc, turns, pass, gate, e))
         }
@@ -97,25 +107,71 @@ fn tried<D: LogDev + Drop, O: Sink + Drop, G: Gate>(
     }
 }
 
-/// What the event, which was done and whose parts are held, may have made allowed is left to try. Where there is no memory for
-/// it, a look finds it.
+/// Whether the first of these parts that is not held is neither a log nor a cell.
+fn lacks_brief<D: LogDev + Drop, O: Sink + Drop>(grip: &Grip<D, O>, parts: &Footprint) -> bool {
+    for i in 0..parts.len() {
+        if !grip.holds(parts.part(i)) {
+            return parts.part(i) < FIRST_LOG;
+        }
+    }
+    false
+}
+
+/// What the event, which was done and whose parts are held, may have made allowed is left to try, and what lacked one of these. Where
+/// there is no memory for it, a look finds it.
 fn follow<D: LogDev + Drop, O: Sink + Drop>(
     alloc: Global,
     turns: &Turns<Share<D, O>>,
     grip: &Grip<D, O>,
     board: &Board,
     finds: &mut Finds,
+    parts: &Footprint,
     e: Event,
 )
     requires crew { IsCrew turns.now }
     requires held { IsHeldNow turns.now grip.now }
 {
+    let tables = turns.tables();
+    follow_parts(board, finds, parts, e, tables.work.logs);
+    follow_synced(board, finds, e, tables.work.logs);
     let mut listed = Vec::new(alloc);
-    let logs = turns.tables().work.logs;
-    let _all = list_follows(alloc, grip.hand(), logs, e, &mut listed);
+    let _all = list_follows(alloc, tables, grip.hand(), e, &mut listed);
     for next in &listed {
         if may_be_next(turns, grip, *next) {
             let _kept = board.keep(finds, *next);
+        }
+    }
+}
+
+/// What lacked one of these parts is left to try, and behind a Sync what waited for that.
+fn follow_parts(board: &Board, finds: &mut Finds, parts: &Footprint, e: Event, logs: u8)
+    requires { 1 ≤ logs }
+{
+    for i in 0..parts.len() {
+        let part = parts.part(i);
+        if part >= FIRST_LOG {
+            board.unblock(finds, part, logs);
+        }
+        if matches!(e, Event::Sync(_)) {
+            board.end_wait(finds, part, logs);
+        }
+    }
+}
+
+/// What the record that the event added makes allowed once it is durable waits for that; where much waits, for a Sync that is left
+/// to try.
+fn follow_synced(board: &Board, finds: &mut Finds, e: Event, logs: u8)
+    requires { 1 ≤ logs }
+{
+    let Some(next) = behind_sync(e) else {
+        return;
+    };
+    if board.wait(next) < GROUP * logs as usize {
+        return;
+    }
+    for l in 0..logs {
+        if has_part(next, FIRST_LOG + l as usize, logs) {
+            let _left = finds.put(Event::Sync(l));
         }
     }
 }

@@ -17,7 +17,6 @@ use snap_base::Memory;
 use snap_outside::{Gate, LogDev, Sink};
 use std::alloc::Global;
 use std::sync::Wait;
-use std::thread;
 use std::thread::Threads;
 use turn_table::{Pass, Piece, Turns};
 
@@ -45,8 +44,6 @@ enum Next {
     Again,
     /// Another round, in which a look takes more.
     Wider,
-    /// Another round, when others had a moment.
-    Soon,
     /// It lets others work for a while.
     Rest,
     /// No more rounds.
@@ -99,16 +96,16 @@ impl<D: LogDev + Drop, O: Sink + Drop> Worker<D, O> {
     }
 }
 
-/// What comes after a try. A fault or want of memory ends the worker. A reply that was not to be had is tried again; all else that
-/// was not is found by a look.
-fn after_try(e: Event, round: Round) -> Next {
+/// What comes after a try. A fault or want of memory ends the worker. What lacked a part that nobody holds for long is tried again;
+/// what lacked a log or a cell is found by a look.
+fn after_try(round: Round) -> Next {
     match round {
         Round::Looked(Acted::Broken { number: _ })
         | Round::Looked(Acted::Unready)
         | Round::Looked(Acted::Memory)
         | Round::Full
         | Round::Memory => Next::End,
-        Round::Busy if matches!(e, Event::Reply(_)) => Next::Soon,
+        Round::Busy { brief: true } => Next::Rest,
         _ => Next::Again,
     }
 }
@@ -125,10 +122,10 @@ fn after_look(seen: Seen, scope: Scope) -> Next {
     }
 }
 
-/// The scope of the next look behind an event that was done. What a Sync and an abort make allowed lies all over.
+/// The scope of the next look behind an event that was done. What an abort makes allowed lies all over.
 fn scope_behind(e: Event) -> Scope {
     match e {
-        Event::Sync(_) | Event::AbortBatch(_) => Scope::Full,
+        Event::AbortBatch(_) => Scope::Full,
         _ => Scope::Narrow,
     }
 }
@@ -179,8 +176,8 @@ fn turn<D: LogDev + Drop, O: Sink + Drop, G: Gate>(
         if let Round::Looked(Acted::Done { number: _ }) = round {
             *scope = scope_behind(e);
         }
-        let next = after_try(e, round);
-        if next == Next::Soon && finds.put(e).is_err() {
+        let next = after_try(round);
+        if next == Next::Rest && finds.put(e).is_err() {
             return Next::End;
         }
         return next;
@@ -215,7 +212,6 @@ fn work<R: Wait, D: LogDev + Drop, O: Sink + Drop, G: Gate>(
         }
         match turn(alloc, turns, gate, board, worker) {
             Next::Again | Next::Wider => worker.rests = 0,
-            Next::Soon => thread::yield_now(),
             Next::Rest => {
                 board.rest(rt, worker.rests);
                 worker.rests = worker.rests.saturating_add(1);
