@@ -37,7 +37,8 @@ pub enum Round {
 }
 
 /// Tries one event: takes its parts by one try each, does it where it is allowed, and gives all back. What it may have made allowed
-/// is left to try, and the parts that it touched are touched on the board; so they are where they were not to be had.
+/// is left to try, and the parts that it touched are touched on the board; so they are where they were not to be had. What lacked a
+/// log or a cell waits there for whoever has it.
 pub fn try_event<D: LogDev + Drop, O: Sink + Drop, G: Gate>(
     alloc: Global,
     turns: &Turns<Share<D, O>>,

@@ -97,7 +97,7 @@ impl<D: LogDev + Drop, O: Sink + Drop> Worker<D, O> {
 }
 
 /// What comes after a try. A fault or want of memory ends the worker. What lacked a part that nobody holds for long is tried again;
-/// what lacked a log or a cell is found by a look.
+/// what lacked a log or a cell waits on the board, and a look finds it too.
 fn after_try(round: Round) -> Next {
     match round {
         Round::Looked(Acted::Broken { number: _ })
