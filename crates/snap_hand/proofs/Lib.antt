@@ -1,4 +1,5 @@
 pub mod InLists
+pub mod InBoxes
 pub mod Held
 pub mod Refits
 pub mod SlicesHere

@@ -22,12 +22,12 @@ pub data Shown : Type 0 where
   TheCell : Cell Rest → Shown
 
 abbrev pub shown : Part → Shown
-shown (a.Ring x) = TheRing x
-shown (a.Book x) = TheBook x
-shown (a.Post x) = ThePost x.messages
-shown (a.Desk x) = TheDesk x
-shown (a.Log x) = TheLog x.log
-shown (a.Cell x) = TheCell x.cell
+shown (a.Ring x) = TheRing x.value
+shown (a.Book x) = TheBook x.value
+shown (a.Post x) = ThePost x.value.messages
+shown (a.Desk x) = TheDesk x.value
+shown (a.Log x) = TheLog x.value.log
+shown (a.Cell x) = TheCell x.value.cell
 
 -- ---- the places of a hand
 

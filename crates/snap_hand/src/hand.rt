@@ -4,18 +4,20 @@ use book_part::BookPart;
 use cell_part::CellPart;
 use log_part::LogPart;
 use post_box::Post;
+use std::boxed::Box;
 use std::marker::Model;
 use token_ring::Ring;
 
 /// Parts of the machine at hand, by their numbers: the ring, the book, the post, the desk, then the logs, then the cells.
-/// Contracts see for each whether it is there and what it shows.
+/// Contracts see for each whether it is there and what it shows. Each has a box of its own, made where a run begins, so that to
+/// take it out or put it in moves a pointer.
 pub struct Hand {
-    pub(crate) ring: Option<Ring>,
-    pub(crate) book: Option<BookPart>,
-    pub(crate) post: Option<Post<Control>>,
-    pub(crate) desk: Option<Desk>,
-    pub(crate) logs: Vec<Option<LogPart>>,
-    pub(crate) cells: Vec<Option<CellPart<Control>>>,
+    pub(crate) ring: Option<Box<Ring>>,
+    pub(crate) book: Option<Box<BookPart>>,
+    pub(crate) post: Option<Box<Post<Control>>>,
+    pub(crate) desk: Option<Box<Desk>>,
+    pub(crate) logs: Vec<Option<Box<LogPart>>>,
+    pub(crate) cells: Vec<Option<Box<CellPart<Control>>>>,
 }
 
 // Written out, so that a crate above calls it and does not repeat it.
@@ -39,11 +41,11 @@ impl Model for Hand {
     ghost Value = { Parts };
 
     ghost view = { λ h. record {
-      ring = h.ring;
-      book = h.book;
-      post = option_map (λ p. p.messages) h.post;
-      desk = h.desk;
-      logs = map (option_map (λ l. l.log)) h.logs.items;
-      cells = map (option_map (λ c. c.cell)) h.cells.items;
+      ring = option_map (λ r. r.value) h.ring;
+      book = option_map (λ b. b.value) h.book;
+      post = option_map (λ p. p.value.messages) h.post;
+      desk = option_map (λ d. d.value) h.desk;
+      logs = map (option_map (λ l. l.value.log)) h.logs.items;
+      cells = map (option_map (λ c. c.value.cell)) h.cells.items;
     } };
 }

@@ -19,6 +19,7 @@ use log_part::LogPart;
 use post_box::Post;
 use snap_base::{Bid, Memory, State};
 use std::alloc::Global;
+use std::boxed::Box;
 use token_ring::Ring;
 
 /// How many transactions the text has.
@@ -30,43 +31,55 @@ fn tx_count(tables: &Tables) -> u32
 }
 
 /// The ring before any event.
-fn new_ring(alloc: Global, tables: &Tables) -> Result<Ring, Memory>
+fn new_ring(alloc: Global, tables: &Tables) -> Result<Box<Ring>, Memory>
     requires { AreTables tables.now }
-    ensures { IfOk result (λ r. r ≡ opening_ring (fixed_of tables.now)) }
+    ensures { IfOk result (λ r. r.value ≡ opening_ring (fixed_of tables.now)) }
 {
     let actors = tables.opening.states.len() as u16;
-    Ring::new(
+    let ring = Ring::new(
         alloc,
         tables.work.coordinators,
         actors,
         tables.opening.next_tid,
         tables.opening.next_bid,
-    )
+    )?;
+    Ok(Box::new(alloc, ring)?)
 }
 
 /// The book before any event, with room for a cascade of each transaction.
-fn new_book(alloc: Global, tables: &Tables) -> Result<BookPart, Memory>
+fn new_book(alloc: Global, tables: &Tables) -> Result<Box<BookPart>, Memory>
     requires { AreTables tables.now }
-    ensures { IfOk result (λ b. b ≡ record { orders = no_orders; votes = no_votes (text_of tables.now).opening.next_c; cascades = []; most = length (text_of tables.now).txs }) }
+    ensures { IfOk result (λ b. b.value ≡ record { orders = no_orders; votes = no_votes (text_of tables.now).opening.next_c; cascades = []; most = length (text_of tables.now).txs }) }
 {
-    BookPart::new(alloc, tables.opening.next_c, tx_count(tables))
+    let book = BookPart::new(alloc, tables.opening.next_c, tx_count(tables))?;
+    Ok(Box::new(alloc, book)?)
+}
+
+/// The post before any event.
+fn new_post(alloc: Global) -> Result<Box<Post<Control>>, Memory>
+    ensures { IfOk result (λ p. p.value.messages ≡ record { subs = []; controls = [] }) }
+{
+    let post = Post::new(alloc)?;
+    Ok(Box::new(alloc, post)?)
 }
 
 /// The desk before any event.
-fn new_desk(alloc: Global, tables: &Tables) -> Result<Desk, Memory>
+fn new_desk(alloc: Global, tables: &Tables) -> Result<Box<Desk>, Memory>
     requires { AreTables tables.now }
-    ensures { IfOk result (λ d. d ≡ (opening (fixed_of tables.now)).desk) }
+    ensures { IfOk result (λ d. d.value ≡ (opening (fixed_of tables.now)).desk) }
 {
-    Desk::new(alloc, tx_count(tables), base(tables))
+    let desk = Desk::new(alloc, tx_count(tables), base(tables))?;
+    Ok(Box::new(alloc, desk)?)
 }
 
 /// So many logs with no records.
-fn new_logs(alloc: Global, count: u8) -> Result<Vec<Option<LogPart>>, Memory>
-    ensures { IfOk result (λ v. map (option_map (λ l. l.log)) v.items ≡ replicate count (Some no_records)) }
+fn new_logs(alloc: Global, count: u8) -> Result<Vec<Option<Box<LogPart>>>, Memory>
+    ensures { IfOk result (λ v. map (option_map (λ l. l.value.log)) v.items ≡ replicate count (Some no_records)) }
 {
     let mut logs = Vec::new(alloc);
     for _made in 0..count {
-        logs.push(Some(LogPart::new(alloc)?))?;
+        let log = Box::new(alloc, LogPart::new(alloc)?)?;
+        logs.push(Some(log))?;
     }
     Ok(logs)
 }
@@ -76,12 +89,13 @@ fn new_cells(
     alloc: Global,
     states: &[State],
     first: Bid,
-) -> Result<Vec<Option<CellPart<Control>>>, Memory>
-    ensures { IfOk result (λ v. map (option_map (λ c. c.cell)) v.items ≡ map (λ s. Some (new_cell first.0 s)) states.now) }
+) -> Result<Vec<Option<Box<CellPart<Control>>>>, Memory>
+    ensures { IfOk result (λ v. map (option_map (λ c. c.value.cell)) v.items ≡ map (λ s. Some (new_cell first.0 s)) states.now) }
 {
     let mut cells = Vec::new(alloc);
     for state in states {
-        cells.push(Some(CellPart::new(alloc, *state, first)?))?;
+        let cell = Box::new(alloc, CellPart::new(alloc, *state, first)?)?;
+        cells.push(Some(cell))?;
     }
     Ok(cells)
 }
@@ -113,7 +127,7 @@ impl Hand {
         self.put_ring(ring);
         let book = new_book(alloc, tables)?;
         self.put_book(book);
-        let post = Post::new(alloc)?;
+        let post = new_post(alloc)?;
         self.put_post(post);
         let desk = new_desk(alloc, tables)?;
         self.put_desk(desk);

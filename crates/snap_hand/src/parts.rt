@@ -16,17 +16,18 @@ use log_part::LogPart;
 use post_box::Post;
 use snap_base::Memory;
 use std::alloc::Global;
+use std::boxed::Box;
 use token_ring::Ring;
 
 /// One part of the machine. The number that it has in a hand tells its kind: 0 the ring, 1 the book, 2 the post, 3 the desk, from
 /// 4 on the logs, and behind these the cells.
 pub enum Part {
-    Ring(Ring),
-    Book(BookPart),
-    Post(Post<Control>),
-    Desk(Desk),
-    Log(LogPart),
-    Cell(CellPart<Control>),
+    Ring(Box<Ring>),
+    Book(Box<BookPart>),
+    Post(Box<Post<Control>>),
+    Desk(Box<Desk>),
+    Log(Box<LogPart>),
+    Cell(Box<CellPart<Control>>),
 }
 
 // Written out, so that a crate above calls it and does not repeat it.
@@ -92,9 +93,9 @@ impl Hand {
         p.go_to(self, part)
     }
 
-    fn put_cell_in(&mut self, a: usize, cell: CellPart<Control>)
+    fn put_cell_in(&mut self, a: usize, cell: Box<CellPart<Control>>)
         requires { a < length self.old.cells }
-        ensures { self.new ≡ record self.old { cells = slice_set self.old.cells a (Some cell.cell) } }
+        ensures { self.new ≡ record self.old { cells = slice_set self.old.cells a (Some cell.value.cell) } }
     {
         self.cells[a] = Some(cell);
     }
@@ -156,8 +157,8 @@ fn empty_places<T: Drop>(alloc: Global, count: usize) -> Result<Vec<Option<T>>, 
     Ok(places)
 }
 
-fn ring_part(x: Option<Ring>) -> Option<Part>
-    ensures { option_map shown result ≡ option_map TheRing x }
+fn ring_part(x: Option<Box<Ring>>) -> Option<Part>
+    ensures { option_map shown result ≡ option_map (λ r. TheRing r.value) x }
 {
     match x {
         Some(ring) => Some(Part::Ring(ring)),
@@ -165,8 +166,8 @@ fn ring_part(x: Option<Ring>) -> Option<Part>
     }
 }
 
-fn book_part(x: Option<BookPart>) -> Option<Part>
-    ensures { option_map shown result ≡ option_map TheBook x }
+fn book_part(x: Option<Box<BookPart>>) -> Option<Part>
+    ensures { option_map shown result ≡ option_map (λ b. TheBook b.value) x }
 {
     match x {
         Some(book) => Some(Part::Book(book)),
@@ -174,8 +175,8 @@ fn book_part(x: Option<BookPart>) -> Option<Part>
     }
 }
 
-fn post_part(x: Option<Post<Control>>) -> Option<Part>
-    ensures { option_map shown result ≡ option_map (λ p. ThePost p.messages) x }
+fn post_part(x: Option<Box<Post<Control>>>) -> Option<Part>
+    ensures { option_map shown result ≡ option_map (λ p. ThePost p.value.messages) x }
 {
     match x {
         Some(post) => Some(Part::Post(post)),
@@ -183,8 +184,8 @@ fn post_part(x: Option<Post<Control>>) -> Option<Part>
     }
 }
 
-fn desk_part(x: Option<Desk>) -> Option<Part>
-    ensures { option_map shown result ≡ option_map TheDesk x }
+fn desk_part(x: Option<Box<Desk>>) -> Option<Part>
+    ensures { option_map shown result ≡ option_map (λ d. TheDesk d.value) x }
 {
     match x {
         Some(desk) => Some(Part::Desk(desk)),
@@ -192,8 +193,8 @@ fn desk_part(x: Option<Desk>) -> Option<Part>
     }
 }
 
-fn log_part(x: Option<LogPart>) -> Option<Part>
-    ensures { option_map shown result ≡ option_map (λ l. TheLog l.log) x }
+fn log_part(x: Option<Box<LogPart>>) -> Option<Part>
+    ensures { option_map shown result ≡ option_map (λ l. TheLog l.value.log) x }
 {
     match x {
         Some(log) => Some(Part::Log(log)),
@@ -201,8 +202,8 @@ fn log_part(x: Option<LogPart>) -> Option<Part>
     }
 }
 
-fn cell_part(x: Option<CellPart<Control>>) -> Option<Part>
-    ensures { option_map shown result ≡ option_map (λ c. TheCell c.cell) x }
+fn cell_part(x: Option<Box<CellPart<Control>>>) -> Option<Part>
+    ensures { option_map shown result ≡ option_map (λ c. TheCell c.value.cell) x }
 {
     match x {
         Some(cell) => Some(Part::Cell(cell)),

@@ -15,6 +15,7 @@ use cell_part::CellPart;
 use log_part::LogPart;
 use post_box::Post;
 use snap_base::ActorId;
+use std::boxed::Box;
 use token_ring::Ring;
 
 impl Hand {
@@ -80,99 +81,99 @@ impl Hand {
     }
 
     /// Takes out the cell of the actor, which is there.
-    pub(crate) fn take_cell(&mut self, a: ActorId) -> CellPart<Control>
+    pub(crate) fn take_cell(&mut self, a: ActorId) -> Box<CellPart<Control>>
         requires { (x : Cell Rest) × (slice_get self.old.cells a.0 ≡ Some (Some x)) }
-        ensures there { slice_get self.old.cells a.0 ≡ Some (Some result.cell) }
+        ensures there { slice_get self.old.cells a.0 ≡ Some (Some result.value.cell) }
         ensures taken { self.new ≡ record self.old { cells = slice_set self.old.cells a.0 None } }
     {
         self.cells[a.0 as usize].take().unwrap()
     }
 
     /// Puts the cell of the actor in its place.
-    pub(crate) fn put_cell(&mut self, a: ActorId, cell: CellPart<Control>)
+    pub(crate) fn put_cell(&mut self, a: ActorId, cell: Box<CellPart<Control>>)
         requires { a.0 < length self.old.cells }
-        ensures { self.new ≡ record self.old { cells = slice_set self.old.cells a.0 (Some cell.cell) } }
+        ensures { self.new ≡ record self.old { cells = slice_set self.old.cells a.0 (Some cell.value.cell) } }
     {
         self.cells[a.0 as usize] = Some(cell);
     }
 
     /// Takes out the ring, which is there.
-    pub(crate) fn take_ring(&mut self) -> Ring
+    pub(crate) fn take_ring(&mut self) -> Box<Ring>
         requires { (x : parts.Ring) × (self.old.ring ≡ Some x) }
-        ensures there { self.old.ring ≡ Some result }
+        ensures there { self.old.ring ≡ Some result.value }
         ensures taken { self.new ≡ record self.old { ring = None } }
     {
         self.ring.take().unwrap()
     }
 
     /// Puts the ring in its place.
-    pub(crate) fn put_ring(&mut self, ring: Ring)
-        ensures { self.new ≡ record self.old { ring = Some ring } }
+    pub(crate) fn put_ring(&mut self, ring: Box<Ring>)
+        ensures { self.new ≡ record self.old { ring = Some ring.value } }
     {
         self.ring = Some(ring);
     }
 
     /// Takes out the book, which is there.
-    pub(crate) fn take_book(&mut self) -> BookPart
+    pub(crate) fn take_book(&mut self) -> Box<BookPart>
         requires { (x : Halves) × (self.old.book ≡ Some x) }
-        ensures there { self.old.book ≡ Some result }
+        ensures there { self.old.book ≡ Some result.value }
         ensures taken { self.new ≡ record self.old { book = None } }
     {
         self.book.take().unwrap()
     }
 
     /// Puts the book in its place.
-    pub(crate) fn put_book(&mut self, book: BookPart)
-        ensures { self.new ≡ record self.old { book = Some book } }
+    pub(crate) fn put_book(&mut self, book: Box<BookPart>)
+        ensures { self.new ≡ record self.old { book = Some book.value } }
     {
         self.book = Some(book);
     }
 
     /// Takes out the post, which is there.
-    pub(crate) fn take_post(&mut self) -> Post<Control>
+    pub(crate) fn take_post(&mut self) -> Box<Post<Control>>
         requires { (x : parts.Post Rest) × (self.old.post ≡ Some x) }
-        ensures there { self.old.post ≡ Some result.messages }
+        ensures there { self.old.post ≡ Some result.value.messages }
         ensures taken { self.new ≡ record self.old { post = None } }
     {
         self.post.take().unwrap()
     }
 
     /// Puts the post in its place.
-    pub(crate) fn put_post(&mut self, post: Post<Control>)
-        ensures { self.new ≡ record self.old { post = Some post.messages } }
+    pub(crate) fn put_post(&mut self, post: Box<Post<Control>>)
+        ensures { self.new ≡ record self.old { post = Some post.value.messages } }
     {
         self.post = Some(post);
     }
 
     /// Takes out the desk, which is there.
-    pub(crate) fn take_desk(&mut self) -> Desk
+    pub(crate) fn take_desk(&mut self) -> Box<Desk>
         requires { (x : parts.Desk) × (self.old.desk ≡ Some x) }
-        ensures there { self.old.desk ≡ Some result }
+        ensures there { self.old.desk ≡ Some result.value }
         ensures taken { self.new ≡ record self.old { desk = None } }
     {
         self.desk.take().unwrap()
     }
 
     /// Puts the desk in its place.
-    pub(crate) fn put_desk(&mut self, desk: Desk)
-        ensures { self.new ≡ record self.old { desk = Some desk } }
+    pub(crate) fn put_desk(&mut self, desk: Box<Desk>)
+        ensures { self.new ≡ record self.old { desk = Some desk.value } }
     {
         self.desk = Some(desk);
     }
 
     /// Takes out the log of this number, which is there.
-    pub(crate) fn take_log(&mut self, l: usize) -> LogPart
+    pub(crate) fn take_log(&mut self, l: usize) -> Box<LogPart>
         requires { (x : LogList) × (slice_get self.old.logs l ≡ Some (Some x)) }
-        ensures there { slice_get self.old.logs l ≡ Some (Some result.log) }
+        ensures there { slice_get self.old.logs l ≡ Some (Some result.value.log) }
         ensures taken { self.new ≡ record self.old { logs = slice_set self.old.logs l None } }
     {
         self.logs[l].take().unwrap()
     }
 
     /// Puts the log of this number in its place.
-    pub(crate) fn put_log(&mut self, l: usize, log: LogPart)
+    pub(crate) fn put_log(&mut self, l: usize, log: Box<LogPart>)
         requires { l < length self.old.logs }
-        ensures { self.new ≡ record self.old { logs = slice_set self.old.logs l (Some log.log) } }
+        ensures { self.new ≡ record self.old { logs = slice_set self.old.logs l (Some log.value.log) } }
     {
         self.logs[l] = Some(log);
     }
@@ -182,7 +183,7 @@ impl Hand {
         requires { (x : parts.Ring) × (self.now.ring ≡ Some x) }
         ensures { self.now.ring ≡ Some result.now }
     {
-        self.ring.as_ref().unwrap()
+        self.ring.as_ref().unwrap().as_ref()
     }
 
     /// The book, which is there.
@@ -190,7 +191,7 @@ impl Hand {
         requires { (x : Halves) × (self.now.book ≡ Some x) }
         ensures { self.now.book ≡ Some result.now }
     {
-        self.book.as_ref().unwrap()
+        self.book.as_ref().unwrap().as_ref()
     }
 
     /// The post, which is there.
@@ -198,7 +199,7 @@ impl Hand {
         requires { (x : parts.Post Rest) × (self.now.post ≡ Some x) }
         ensures { self.now.post ≡ Some result.now.messages }
     {
-        self.post.as_ref().unwrap()
+        self.post.as_ref().unwrap().as_ref()
     }
 
     /// The desk, which is there.
@@ -206,7 +207,7 @@ impl Hand {
         requires { (x : parts.Desk) × (self.now.desk ≡ Some x) }
         ensures { self.now.desk ≡ Some result.now }
     {
-        self.desk.as_ref().unwrap()
+        self.desk.as_ref().unwrap().as_ref()
     }
 
     /// The log of this number, which is there.
@@ -214,7 +215,7 @@ impl Hand {
         requires { (x : LogList) × (slice_get self.now.logs l ≡ Some (Some x)) }
         ensures { slice_get self.now.logs l ≡ Some (Some result.now.log) }
     {
-        self.logs[l].as_ref().unwrap()
+        self.logs[l].as_ref().unwrap().as_ref()
     }
 
     /// The cell of the actor, which is there.
@@ -222,6 +223,6 @@ impl Hand {
         requires { (x : Cell Rest) × (slice_get self.now.cells a.0 ≡ Some (Some x)) }
         ensures { slice_get self.now.cells a.0 ≡ Some (Some result.now.cell) }
     {
-        self.cells[a.0 as usize].as_ref().unwrap()
+        self.cells[a.0 as usize].as_ref().unwrap().as_ref()
     }
 }

@@ -22,9 +22,6 @@ impl Drop for Tables {
     }
 }
 
-// (Proved here, so that crates above, which are over types of their own, need not find it.)
-unsafe impl Sync for Tables {}
-
 /// The log to which the batch, the transaction or the actor of this number writes.
 pub(crate) fn log_of(tables: &Tables, number: u64) -> usize
     requires { AreTables tables.now }

@@ -6,6 +6,7 @@ use Rattle.snap_hand.specs.Tables.{fixed_of}
 use Rattle.snap_hand.proofs.Begins.{log_is_in, log_is_there, form_stepped}
 use Rattle.snap_hand.proofs.Held.{ring_there, post_there, desk_there}
 use Rattle.snap_hand.proofs.Stepping.{of_run}
+use Rattle.snap_hand.proofs.InBoxes.{lent, lent_log, lent_post}
 use Rattle.snap_hand.proofs.beginning.form.Goals as goal
 
 pub take_log-log-requires : goal.take_log-log-requires
@@ -22,10 +23,10 @@ take_desk-desk-requires c = let x = desk_there c.args.hand.now c.requires.asked.
 
 pub form_on-step-requires-clause-run : goal.form_on-step-requires-clause-run
 form_on-step-requires-clause-run c =
-    let ring = sym (ap (λ (h : Parts). h.ring) c.take_log-log.ensures.taken) ∙ c.take_ring-ring.ensures.there in
-    let post = sym (ap (λ (h : Parts). h.post) c.take_ring-ring.ensures.taken ∙ ap (λ (h : Parts). h.post) c.take_log-log.ensures.taken) ∙ c.take_post-post.ensures.there in
-    let desk = sym (ap (λ (h : Parts). h.desk) c.take_post-post.ensures.taken ∙ (ap (λ (h : Parts). h.desk) c.take_ring-ring.ensures.taken ∙ ap (λ (h : Parts). h.desk) c.take_log-log.ensures.taken)) ∙ c.take_desk-desk.ensures.there in
-    of_run (fixed_of c.args.tables.now) c.args.hand.now _ (λ s f. (refl, f.ring _ ring, f.post _ post, f.desk _ desk, subst (λ l. ShowsLogAt l c.take_log-log.result s) c.log_of-l.ensures (f.logs c.log_of-l.result _ c.take_log-log.ensures.there))) c.requires.asked.some
+    let ring = sym (ap (λ (h : Parts). h.ring) c.take_log-log.ensures.taken) ∙ (lent _ _ _ c.take_ring-ring.ensures.there c.deref_mut.ensures.value) in
+    let post = sym (ap (λ (h : Parts). h.post) c.take_ring-ring.ensures.taken ∙ ap (λ (h : Parts). h.post) c.take_log-log.ensures.taken) ∙ (lent_post _ _ _ c.take_post-post.ensures.there c.deref_mut-2.ensures.value) in
+    let desk = sym (ap (λ (h : Parts). h.desk) c.take_post-post.ensures.taken ∙ (ap (λ (h : Parts). h.desk) c.take_ring-ring.ensures.taken ∙ ap (λ (h : Parts). h.desk) c.take_log-log.ensures.taken)) ∙ (lent _ _ _ c.take_desk-desk.ensures.there c.deref_mut-3.ensures.value) in
+    of_run (fixed_of c.args.tables.now) c.args.hand.now _ (λ s f. (refl, f.ring _ ring, f.post _ post, f.desk _ desk, subst (λ l. ShowsLogAt l c.deref_mut-4.result.now s) c.log_of-l.ensures (f.logs c.log_of-l.result _ (lent_log _ _ _ c.take_log-log.ensures.there c.deref_mut-4.ensures.value)))) c.requires.asked.some
 
 pub put_log-requires : goal.put_log-requires
 put_log-requires c =
@@ -39,14 +40,14 @@ pub returns : goal.returns
 returns c =
     let old = c.args.hand.now in
     let l = c.log_of-l.result in
-    let ring = sym (ap (λ (h : Parts). h.ring) c.take_log-log.ensures.taken) ∙ c.take_ring-ring.ensures.there in
-    let post = sym (ap (λ (h : Parts). h.post) c.take_ring-ring.ensures.taken ∙ ap (λ (h : Parts). h.post) c.take_log-log.ensures.taken) ∙ c.take_post-post.ensures.there in
-    let desk = sym (ap (λ (h : Parts). h.desk) c.take_post-post.ensures.taken ∙ (ap (λ (h : Parts). h.desk) c.take_ring-ring.ensures.taken ∙ ap (λ (h : Parts). h.desk) c.take_log-log.ensures.taken)) ∙ c.take_desk-desk.ensures.there in
+    let ring = sym (ap (λ (h : Parts). h.ring) c.take_log-log.ensures.taken) ∙ (lent _ _ _ c.take_ring-ring.ensures.there c.deref_mut.ensures.value) in
+    let post = sym (ap (λ (h : Parts). h.post) c.take_ring-ring.ensures.taken ∙ ap (λ (h : Parts). h.post) c.take_log-log.ensures.taken) ∙ (lent_post _ _ _ c.take_post-post.ensures.there c.deref_mut-2.ensures.value) in
+    let desk = sym (ap (λ (h : Parts). h.desk) c.take_post-post.ensures.taken ∙ (ap (λ (h : Parts). h.desk) c.take_ring-ring.ensures.taken ∙ ap (λ (h : Parts). h.desk) c.take_log-log.ensures.taken)) ∙ (lent _ _ _ c.take_desk-desk.ensures.there c.deref_mut-3.ensures.value) in
     form_stepped (fixed_of c.args.tables.now) old c.put_log.new.self c.args.k.0 l
-    c.take_ring-ring.result c.form_on-step.new.ring c.take_post-post.result.messages c.form_on-step.new.post.messages c.take_desk-desk.result c.form_on-step.new.desk c.take_log-log.result c.form_on-step.new.log
-    (λ w s. (w ≡ fixed_of c.args.tables.now) × ShowsRing c.take_ring-ring.result s × ShowsPost c.take_post-post.result s × ShowsDesk c.take_desk-desk.result s × ShowsLogAt (c.args.k.0 % w.text.logs) c.take_log-log.result s)
-    c.form_on-step.result c.requires.asked.places c.log_of-l.ensures ring post desk c.take_log-log.ensures.there
-    (λ s f. (refl, f.ring _ ring, f.post _ post, f.desk _ desk, subst (λ m. ShowsLogAt m c.take_log-log.result s) c.log_of-l.ensures (f.logs l _ c.take_log-log.ensures.there)))
+    c.deref_mut.result.now c.form_on-step.new.ring c.deref_mut-2.result.now.messages c.form_on-step.new.post.messages c.deref_mut-3.result.now c.form_on-step.new.desk c.deref_mut-4.result.now c.form_on-step.new.log
+    (λ w s. (w ≡ fixed_of c.args.tables.now) × ShowsRing c.deref_mut.result.now s × ShowsPost c.deref_mut-2.result.now s × ShowsDesk c.deref_mut-3.result.now s × ShowsLogAt (c.args.k.0 % w.text.logs) c.deref_mut-4.result.now s)
+    c.form_on-step.result c.requires.asked.places c.log_of-l.ensures ring post desk (lent_log _ _ _ c.take_log-log.ensures.there c.deref_mut-4.ensures.value)
+    (λ s f. (refl, f.ring _ ring, f.post _ post, f.desk _ desk, subst (λ m. ShowsLogAt m c.deref_mut-4.result.now s) c.log_of-l.ensures (f.logs l _ (lent_log _ _ _ c.take_log-log.ensures.there c.deref_mut-4.ensures.value))))
     (c.put_log.ensures ∙ ap (λ (h : Parts). record h { logs = slice_set h.logs l (Some c.form_on-step.new.log.log) })
     (c.put_desk.ensures ∙ ap (λ (h : Parts). record h { desk = Some c.form_on-step.new.desk })
     (c.put_post.ensures ∙ ap (λ (h : Parts). record h { post = Some c.form_on-step.new.post.messages })

@@ -4,6 +4,7 @@ use Rattle.protocol.specs.Events.{Ask}
 use Rattle.snap_hand.specs.Tables.{fixed_of}
 use Rattle.snap_hand.proofs.AtActors.{book_post_and_cell_shown, cell_held, err_same, never_asks, on_book_post_and_cell, place_kept, refused_nowhere}
 use Rattle.snap_hand.proofs.Held.{book_there, post_there}
+use Rattle.snap_hand.proofs.InBoxes.{lent, lent_cell, lent_post}
 use Rattle.snap_hand.proofs.on_actors.ask.Goals as goal
 
 pub returns-then-not-has_actor : goal.returns-then-not-has_actor
@@ -22,7 +23,7 @@ take_cell-cell-requires c =
     (x.0, ap (λ z. slice_get z.cells c.args.a.0) c.take_post-post.ensures.taken ∙ (ap (λ z. slice_get z.cells c.args.a.0) c.take_book-book.ensures.taken ∙ x.1))
 
 pub ask-step-requires : goal.ask-step-requires
-ask-step-requires c = book_post_and_cell_shown (fixed_of c.args.tables.now) c.args.hand.now c.take_book-book.new.self c.take_post-post.new.self c.args.a.0 c.take_book-book.result c.take_post-post.result c.take_cell-cell.result c.requires.asked.some c.take_book-book.ensures.there c.take_book-book.ensures.taken c.take_post-post.ensures.there c.take_post-post.ensures.taken c.take_cell-cell.ensures.there
+ask-step-requires c = book_post_and_cell_shown (fixed_of c.args.tables.now) c.args.hand.now c.take_book-book.new.self c.take_post-post.new.self c.args.a.0 c.deref_mut.result.now c.deref_mut-2.result.now c.deref_mut-3.result.now c.requires.asked.some (lent _ _ _ c.take_book-book.ensures.there c.deref_mut.ensures.value) c.take_book-book.ensures.taken (lent_post _ _ _ c.take_post-post.ensures.there c.deref_mut-2.ensures.value) c.take_post-post.ensures.taken (lent_cell _ _ _ c.take_cell-cell.ensures.there c.deref_mut-3.ensures.value)
 
 pub put_cell-requires : goal.put_cell-requires
 put_cell-requires c = place_kept c.take_post-post.new.self c.take_cell-cell.new.self c.put_post.new.self c.args.a.0 _ c.take_cell-cell.ensures.there c.take_cell-cell.ensures.taken (ap (λ z. z.cells) c.put_post.ensures ∙ ap (λ z. z.cells) c.put_book.ensures)
@@ -31,8 +32,8 @@ pub returns : goal.returns
 unfolding after
 returns c =
     on_book_post_and_cell (fixed_of c.args.tables.now) (Ask c.args.t.0 c.args.a.0) c.args.hand.now c.take_book-book.new.self c.take_post-post.new.self c.take_cell-cell.new.self c.put_book.new.self c.put_post.new.self c.put_cell.new.self c.args.a.0
-    c.take_book-book.result c.ask-step.new.book c.take_post-post.result c.ask-step.new.post c.take_cell-cell.result c.ask-step.new.cell _ c.ask-step.result
+    c.deref_mut.result.now c.ask-step.new.book c.deref_mut-2.result.now c.ask-step.new.post c.deref_mut-3.result.now c.ask-step.new.cell _ c.ask-step.result
     (λ s. refl) c.requires.asked.places refl
-    c.take_book-book.ensures.there c.take_book-book.ensures.taken c.take_post-post.ensures.there c.take_post-post.ensures.taken c.take_cell-cell.ensures.there c.take_cell-cell.ensures.taken
+    (lent _ _ _ c.take_book-book.ensures.there c.deref_mut.ensures.value) c.take_book-book.ensures.taken (lent_post _ _ _ c.take_post-post.ensures.there c.deref_mut-2.ensures.value) c.take_post-post.ensures.taken (lent_cell _ _ _ c.take_cell-cell.ensures.there c.deref_mut-3.ensures.value) c.take_cell-cell.ensures.taken
     c.put_book.ensures c.put_post.ensures c.put_cell.ensures
     c.ask-step.ensures.ok c.ask-step.ensures.room c.ask-step.ensures.no c.ask-step.ensures.book (err_same (λ z. z.messages) _ _ _ c.ask-step.ensures.post) c.ask-step.ensures.cell

@@ -4,6 +4,7 @@ use Rattle.protocol.specs.Events.{Finish}
 use Rattle.snap_hand.specs.Tables.{fixed_of}
 use Rattle.snap_hand.proofs.AtActors.{cell_held, err_same, finishes_somewhere, on_book_and_cell, place_kept, refused_at_none}
 use Rattle.snap_hand.proofs.Held.{book_there}
+use Rattle.snap_hand.proofs.InBoxes.{lent, lent_cell}
 use Rattle.snap_hand.proofs.on_actors.finish.Goals as goal
 
 pub returns-then-not-has_actor : goal.returns-then-not-has_actor
@@ -25,8 +26,8 @@ pub returns : goal.returns
 unfolding after
 returns c =
     on_book_and_cell (fixed_of c.args.tables.now) (Finish c.args.t.0 c.args.a.0) c.args.hand.now c.take_book-book.new.self c.take_cell-cell.new.self c.put_book.new.self c.put_cell.new.self c.args.a.0
-    c.take_book-book.result c.finish-step.new.book c.take_cell-cell.result c.finish-step.new.cell _ c.finish-step.result
+    c.deref_mut.result.now c.finish-step.new.book c.deref_mut-2.result.now c.finish-step.new.cell _ c.finish-step.result
     (λ s. refl) c.requires.asked.places
-    c.take_book-book.ensures.there c.take_book-book.ensures.taken c.take_cell-cell.ensures.there c.take_cell-cell.ensures.taken
+    (lent _ _ _ c.take_book-book.ensures.there c.deref_mut.ensures.value) c.take_book-book.ensures.taken (lent_cell _ _ _ c.take_cell-cell.ensures.there c.deref_mut-2.ensures.value) c.take_cell-cell.ensures.taken
     c.put_book.ensures c.put_cell.ensures
     c.finish-step.ensures.ok c.finish-step.ensures.room c.finish-step.ensures.no c.finish-step.ensures.rule c.finish-step.ensures.book (err_same (λ z. z.cell) _ _ _ c.finish-step.ensures.cell)

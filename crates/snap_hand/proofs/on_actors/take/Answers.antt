@@ -4,6 +4,7 @@ use Rattle.protocol.specs.Events.{Take}
 use Rattle.snap_hand.specs.Tables.{fixed_of}
 use Rattle.snap_hand.proofs.AtActors.{cell_held, err_same, never_taken, on_post_and_cell, place_kept, post_and_cell_shown, refused_nowhere}
 use Rattle.snap_hand.proofs.Held.{post_there}
+use Rattle.snap_hand.proofs.InBoxes.{lent_cell, lent_post}
 use Rattle.snap_hand.proofs.on_actors.take.Goals as goal
 
 pub returns-then-not-has_actor : goal.returns-then-not-has_actor
@@ -19,7 +20,7 @@ take_cell-cell-requires c =
     (x.0, ap (λ z. slice_get z.cells c.args.a.0) c.take_post-post.ensures.taken ∙ x.1)
 
 pub take-step-requires : goal.take-step-requires
-take-step-requires c = post_and_cell_shown (fixed_of c.args.tables.now) c.args.hand.now c.take_post-post.new.self c.args.a.0 c.take_post-post.result c.take_cell-cell.result c.requires.asked.some c.take_post-post.ensures.there c.take_post-post.ensures.taken c.take_cell-cell.ensures.there
+take-step-requires c = post_and_cell_shown (fixed_of c.args.tables.now) c.args.hand.now c.take_post-post.new.self c.args.a.0 c.deref_mut.result.now c.deref_mut-2.result.now c.requires.asked.some (lent_post _ _ _ c.take_post-post.ensures.there c.deref_mut.ensures.value) c.take_post-post.ensures.taken (lent_cell _ _ _ c.take_cell-cell.ensures.there c.deref_mut-2.ensures.value)
 
 pub put_cell-requires : goal.put_cell-requires
 put_cell-requires c = place_kept c.take_post-post.new.self c.take_cell-cell.new.self c.put_post.new.self c.args.a.0 _ c.take_cell-cell.ensures.there c.take_cell-cell.ensures.taken (ap (λ z. z.cells) c.put_post.ensures)
@@ -28,8 +29,8 @@ pub returns : goal.returns
 unfolding after
 returns c =
     on_post_and_cell (fixed_of c.args.tables.now) (Take c.args.t.0 c.args.a.0) c.args.hand.now c.take_post-post.new.self c.take_cell-cell.new.self c.put_post.new.self c.put_cell.new.self c.args.a.0
-    c.take_post-post.result c.take-step.new.post c.take_cell-cell.result c.take-step.new.cell _ c.take-step.result
+    c.deref_mut.result.now c.take-step.new.post c.deref_mut-2.result.now c.take-step.new.cell _ c.take-step.result
     (λ s. refl) c.requires.asked.places refl
-    c.take_post-post.ensures.there c.take_post-post.ensures.taken c.take_cell-cell.ensures.there c.take_cell-cell.ensures.taken
+    (lent_post _ _ _ c.take_post-post.ensures.there c.deref_mut.ensures.value) c.take_post-post.ensures.taken (lent_cell _ _ _ c.take_cell-cell.ensures.there c.deref_mut-2.ensures.value) c.take_cell-cell.ensures.taken
     c.put_post.ensures c.put_cell.ensures
     c.take-step.ensures.ok c.take-step.ensures.no (err_same (λ z. z.messages) _ _ _ c.take-step.ensures.post) c.take-step.ensures.cell

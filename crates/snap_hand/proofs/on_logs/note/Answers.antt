@@ -6,6 +6,7 @@ use Rattle.snap_hand.specs.Tables.{fixed_of}
 use Rattle.snap_hand.proofs.Held.{desk_there}
 use Rattle.snap_hand.proofs.LogSteps.{log_held, log_shown, on_desk}
 use Rattle.snap_hand.proofs.Stepping.{of_run}
+use Rattle.snap_hand.proofs.InBoxes.{lent}
 use Rattle.snap_hand.proofs.on_logs.note.Goals as goal
 
 pub take_desk-desk-requires : goal.take_desk-desk-requires
@@ -15,8 +16,8 @@ pub log-requires : goal.log-requires
 log-requires c = subst (λ z. (x : LogList) × (slice_get z.logs c.log_of-place.result ≡ Some (Some x))) (sym c.take_desk-desk.ensures.taken) (log_held (fixed_of c.args.tables.now) c.args.hand.now c.args.a.0 c.log_of-place.result c.requires.tables.accepted c.requires.asked.places c.log_of-place.ensures c.requires.asked.parts.1.0)
 
 pub note-step-requires : goal.note-step-requires
-note-step-requires c = of_run (fixed_of c.args.tables.now) c.args.hand.now _ (λ s f. (f.desk _ c.take_desk-desk.ensures.there, log_shown c.args.hand.now s f c.log_of-place.result _ c.log_of-place.ensures c.log.result.now (sym (ap (λ z. slice_get z.logs c.log_of-place.result) c.take_desk-desk.ensures.taken) ∙ c.log.ensures))) c.requires.asked.some
+note-step-requires c = of_run (fixed_of c.args.tables.now) c.args.hand.now _ (λ s f. (f.desk _ (lent _ _ _ c.take_desk-desk.ensures.there c.deref_mut.ensures.value), log_shown c.args.hand.now s f c.log_of-place.result _ c.log_of-place.ensures c.log.result.now (sym (ap (λ z. slice_get z.logs c.log_of-place.result) c.take_desk-desk.ensures.taken) ∙ c.log.ensures))) c.requires.asked.some
 
 pub returns : goal.returns
 unfolding after
-returns c = on_desk (fixed_of c.args.tables.now) (Note c.args.k.0 c.args.a.0) c.args.hand.now c.take_desk-desk.new.self c.put_desk.new.self c.args.a.0 c.log_of-place.result c.take_desk-desk.result c.note-step.new.desk c.log.result.now c.note-step.result (λ s. refl) c.requires.asked.places c.log_of-place.ensures c.take_desk-desk.ensures.there c.take_desk-desk.ensures.taken c.log.ensures c.put_desk.ensures c.note-step.ensures.ok c.note-step.ensures.no c.note-step.ensures.rule c.note-step.ensures.unchanged
+returns c = on_desk (fixed_of c.args.tables.now) (Note c.args.k.0 c.args.a.0) c.args.hand.now c.take_desk-desk.new.self c.put_desk.new.self c.args.a.0 c.log_of-place.result c.deref_mut.result.now c.note-step.new.desk c.log.result.now c.note-step.result (λ s. refl) c.requires.asked.places c.log_of-place.ensures (lent _ _ _ c.take_desk-desk.ensures.there c.deref_mut.ensures.value) c.take_desk-desk.ensures.taken c.log.ensures c.put_desk.ensures c.note-step.ensures.ok c.note-step.ensures.no c.note-step.ensures.rule c.note-step.ensures.unchanged

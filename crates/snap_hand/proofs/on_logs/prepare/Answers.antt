@@ -10,6 +10,7 @@ use Rattle.snap_hand.proofs.Held.{book_there, cell_there}
 use Rattle.snap_hand.proofs.LogSteps.{log_held, log_shown, on_book_and_log}
 use Rattle.snap_hand.proofs.Nowhere.{below, not_an_actor, prepares_somewhere, refuses}
 use Rattle.snap_hand.proofs.Stepping.{of_run}
+use Rattle.snap_hand.proofs.InBoxes.{lent, lent_log}
 use Rattle.snap_hand.proofs.on_logs.prepare.Goals as goal
 
 pub book-requires : goal.book-requires
@@ -36,12 +37,12 @@ pub cell-requires : goal.cell-requires
 cell-requires c = let d = cell_there c.args.hand.now (text_of c.args.tables.now).logs c.args.a.0 c.requires.asked.places.logs c.requires.asked.parts.1.1.0 (below c.args.a.0 _ c.has_actor.result c.has_actor.ensures c.if-not-has_actor.false) in (d.0, ap (λ z. slice_get z.cells c.args.a.0) c.take_log-log.ensures.taken ∙ (ap (λ z. slice_get z.cells c.args.a.0) c.take_book-book.ensures.taken ∙ d.1))
 
 pub prepare-step-requires : goal.prepare-step-requires
-prepare-step-requires c = of_run (fixed_of c.args.tables.now) c.args.hand.now _ (λ s f. (f.book _ c.take_book-book.ensures.there, log_shown c.args.hand.now s f c.log_of-place.result _ c.log_of-place.ensures c.take_log-log.result (sym (ap (λ z. slice_get z.logs c.log_of-place.result) c.take_book-book.ensures.taken) ∙ c.take_log-log.ensures.there), f.cells c.args.a.0 _ (sym (ap (λ z. slice_get z.cells c.args.a.0) c.take_book-book.ensures.taken) ∙ (sym (ap (λ z. slice_get z.cells c.args.a.0) c.take_log-log.ensures.taken) ∙ c.cell.ensures)))) c.requires.asked.some
+prepare-step-requires c = of_run (fixed_of c.args.tables.now) c.args.hand.now _ (λ s f. (f.book _ (lent _ _ _ c.take_book-book.ensures.there c.deref_mut.ensures.value), log_shown c.args.hand.now s f c.log_of-place.result _ c.log_of-place.ensures c.deref_mut-2.result.now (sym (ap (λ z. slice_get z.logs c.log_of-place.result) c.take_book-book.ensures.taken) ∙ (lent_log _ _ _ c.take_log-log.ensures.there c.deref_mut-2.ensures.value)), f.cells c.args.a.0 _ (sym (ap (λ z. slice_get z.cells c.args.a.0) c.take_book-book.ensures.taken) ∙ (sym (ap (λ z. slice_get z.cells c.args.a.0) c.take_log-log.ensures.taken) ∙ c.cell.ensures)))) c.requires.asked.some
 
 pub returns : goal.returns
 unfolding after
-returns c = on_book_and_log (fixed_of c.args.tables.now) (Prepare c.args.t.0 c.args.a.0) c.args.hand.now c.take_book-book.new.self c.take_log-log.new.self c.put_book.new.self c.put_log.new.self c.args.a.0 c.log_of-place.result c.take_book-book.result c.prepare-step.new.book c.take_log-log.result c.prepare-step.new.log (λ s. added (ActPrepare c.args.t.0 c.args.a.0 (cell_at s c.args.a.0).state ∷ []) (log_at s (c.args.a.0 % (text_of c.args.tables.now).logs)))
-    (λ w s. ShowsBook c.take_book-book.result s × ShowsLogAt (c.args.a.0 % w.text.logs) c.take_log-log.result s × ShowsCell c.args.a.0 c.cell.result.now s)
+returns c = on_book_and_log (fixed_of c.args.tables.now) (Prepare c.args.t.0 c.args.a.0) c.args.hand.now c.take_book-book.new.self c.take_log-log.new.self c.put_book.new.self c.put_log.new.self c.args.a.0 c.log_of-place.result c.deref_mut.result.now c.prepare-step.new.book c.deref_mut-2.result.now c.prepare-step.new.log (λ s. added (ActPrepare c.args.t.0 c.args.a.0 (cell_at s c.args.a.0).state ∷ []) (log_at s (c.args.a.0 % (text_of c.args.tables.now).logs)))
+    (λ w s. ShowsBook c.deref_mut.result.now s × ShowsLogAt (c.args.a.0 % w.text.logs) c.deref_mut-2.result.now s × ShowsCell c.args.a.0 c.cell.result.now s)
     (λ w s. ShowsBook c.prepare-step.new.book s × ShowsLogAt (c.args.a.0 % w.text.logs) c.prepare-step.new.log s × ShowsCell c.args.a.0 c.cell.result.now s)
-    c.prepare-step.result (λ s. refl) c.requires.asked.places refl c.log_of-place.ensures c.take_book-book.ensures.there c.take_book-book.ensures.taken c.take_log-log.ensures.there c.take_log-log.ensures.taken c.put_book.ensures c.put_log.ensures
-    (λ s f. (f.book _ c.take_book-book.ensures.there, log_shown c.args.hand.now s f c.log_of-place.result _ c.log_of-place.ensures c.take_log-log.result (sym (ap (λ z. slice_get z.logs c.log_of-place.result) c.take_book-book.ensures.taken) ∙ c.take_log-log.ensures.there), f.cells c.args.a.0 _ (sym (ap (λ z. slice_get z.cells c.args.a.0) c.take_book-book.ensures.taken) ∙ (sym (ap (λ z. slice_get z.cells c.args.a.0) c.take_log-log.ensures.taken) ∙ c.cell.ensures)))) (λ s g. (g.0, g.1)) c.prepare-step.ensures.ok c.prepare-step.ensures.room c.prepare-step.ensures.no c.prepare-step.ensures.book c.prepare-step.ensures.log
+    c.prepare-step.result (λ s. refl) c.requires.asked.places refl c.log_of-place.ensures (lent _ _ _ c.take_book-book.ensures.there c.deref_mut.ensures.value) c.take_book-book.ensures.taken (lent_log _ _ _ c.take_log-log.ensures.there c.deref_mut-2.ensures.value) c.take_log-log.ensures.taken c.put_book.ensures c.put_log.ensures
+    (λ s f. (f.book _ (lent _ _ _ c.take_book-book.ensures.there c.deref_mut.ensures.value), log_shown c.args.hand.now s f c.log_of-place.result _ c.log_of-place.ensures c.deref_mut-2.result.now (sym (ap (λ z. slice_get z.logs c.log_of-place.result) c.take_book-book.ensures.taken) ∙ (lent_log _ _ _ c.take_log-log.ensures.there c.deref_mut-2.ensures.value)), f.cells c.args.a.0 _ (sym (ap (λ z. slice_get z.cells c.args.a.0) c.take_book-book.ensures.taken) ∙ (sym (ap (λ z. slice_get z.cells c.args.a.0) c.take_log-log.ensures.taken) ∙ c.cell.ensures)))) (λ s g. (g.0, g.1)) c.prepare-step.ensures.ok c.prepare-step.ensures.room c.prepare-step.ensures.no c.prepare-step.ensures.book c.prepare-step.ensures.log

@@ -5,6 +5,7 @@ use Rattle.protocol.specs.Events.{Vouch}
 use Rattle.snap_hand.specs.Tables.{fixed_of}
 use Rattle.snap_hand.proofs.Held.{book_there}
 use Rattle.snap_hand.proofs.LogSteps.{log_held, on_book}
+use Rattle.snap_hand.proofs.InBoxes.{lent}
 use Rattle.snap_hand.proofs.on_logs.vouch.Goals as goal
 
 pub take_book-book-requires : goal.take_book-book-requires
@@ -15,4 +16,4 @@ log-requires c = subst (λ z. (x : LogList) × (slice_get z.logs c.log_of-place.
 
 pub returns : goal.returns
 unfolding after
-returns c = on_book (fixed_of c.args.tables.now) (Vouch c.args.t.0 c.args.a.0) c.args.hand.now c.take_book-book.new.self c.put_book.new.self c.args.a.0 c.log_of-place.result c.take_book-book.result c.vouch-step.new.book c.log.result.now c.vouch-step.result (λ s. refl) c.requires.asked.places c.log_of-place.ensures c.take_book-book.ensures.there c.take_book-book.ensures.taken c.log.ensures c.put_book.ensures c.vouch-step.ensures.ok c.vouch-step.ensures.room c.vouch-step.ensures.no c.vouch-step.ensures.rule c.vouch-step.ensures.unchanged
+returns c = on_book (fixed_of c.args.tables.now) (Vouch c.args.t.0 c.args.a.0) c.args.hand.now c.take_book-book.new.self c.put_book.new.self c.args.a.0 c.log_of-place.result c.deref_mut.result.now c.vouch-step.new.book c.log.result.now c.vouch-step.result (λ s. refl) c.requires.asked.places c.log_of-place.ensures (lent _ _ _ c.take_book-book.ensures.there c.deref_mut.ensures.value) c.take_book-book.ensures.taken c.log.ensures c.put_book.ensures c.vouch-step.ensures.ok c.vouch-step.ensures.room c.vouch-step.ensures.no c.vouch-step.ensures.rule c.vouch-step.ensures.unchanged

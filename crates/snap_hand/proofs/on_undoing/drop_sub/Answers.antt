@@ -6,6 +6,7 @@ use Rattle.snap_hand.specs.Tables.{fixed_of}
 use Rattle.snap_hand.proofs.Held.{book_there, post_there}
 use Rattle.snap_hand.proofs.Refits.{post_back, hand_with_post, there_with_post}
 use Rattle.snap_hand.proofs.Stepping.{stepped_freely}
+use Rattle.snap_hand.proofs.InBoxes.{lent_post}
 use Rattle.snap_hand.proofs.on_undoing.drop_sub.Goals as goal
 
 pub take_post-post-requires : goal.take_post-post-requires
@@ -20,10 +21,10 @@ returns c =
     let old = c.args.hand.now in
     let post = c.drop_sub-step.new.post.messages in
     let w = fixed_of c.args._tables.now in
-    let there = c.take_post-post.ensures.there in
+    let there = (lent_post _ _ _ c.take_post-post.ensures.there c.deref_mut.ensures.value) in
     let book = sym (ap (λ h. h.book) c.take_post-post.ensures.taken) ∙ c.book.ensures in
     rw (c.put_post.ensures, c.take_post-post.ensures.taken) (
-    stepped_freely w (DropSub c.args.k.0 c.args.a.0) old (record old { post = Some post }) (λ v s. ShowsBook c.book.result.now s × ShowsPost c.take_post-post.result s) _ _ c.drop_sub-step.result
+    stepped_freely w (DropSub c.args.k.0 c.args.a.0) old (record old { post = Some post }) (λ v s. ShowsBook c.book.result.now s × ShowsPost c.deref_mut.result.now s) _ _ c.drop_sub-step.result
     (λ s f. (f.book _ book, f.post _ there))
     c.drop_sub-step.ensures.rule
     c.drop_sub-step.ensures.ok

@@ -3,4 +3,4 @@ use Rattle.log_set.specs.Logs.{no_records}
 use Rattle.snap_hand.proofs.opening.new_logs.Given as goal
 
 abbrev pub invariant-loop-made : goal.invariant-loop-made
-invariant-loop-made l = map (option_map (λ x. x.log)) l.logs.items ≡ replicate l._made (Some no_records)
+invariant-loop-made l = map (option_map (λ x. x.value.log)) l.logs.items ≡ replicate l._made (Some no_records)
