@@ -86,8 +86,8 @@ pub(crate) fn has_part(e: Event, part: usize, logs: u8) -> bool
     false
 }
 
-/// What has this part, where there are so many logs, stands in the list no more, and is left to try.
-fn take_from(list: &Mutex<ReadyList>, finds: &mut Finds, part: usize, logs: u8)
+/// What has this part, where there are so many logs, stands in the list no more, and is left to try, but for the event that was done.
+fn take_from(list: &Mutex<ReadyList>, finds: &mut Finds, part: usize, logs: u8, done: Event)
     requires { 1 ≤ logs }
 {
     let Some(mut list) = open(list) else {
@@ -98,7 +98,9 @@ fn take_from(list: &Mutex<ReadyList>, finds: &mut Finds, part: usize, logs: u8)
         match list.nth(count - 1 - i) {
             Some(e) if has_part(e, part, logs) => {
                 list.take(e);
-                let _left = finds.put(e);
+                if e != done {
+                    let _left = finds.put(e);
+                }
             }
             _ => {}
         }
@@ -150,23 +152,43 @@ impl Board {
         put_in(&self.unsynced, e)
     }
 
-    /// The log with this number among the parts was synced: what waited for that is left to try.
-    pub fn end_wait(&self, finds: &mut Finds, part: usize, logs: u8)
+    /// The log with this number among the parts was synced, by this event: what waited for that is left to try.
+    pub fn end_wait(&self, finds: &mut Finds, part: usize, logs: u8, done: Event)
         requires { 1 ≤ logs }
     {
-        take_from(&self.unsynced, finds, part, logs);
+        take_from(&self.unsynced, finds, part, logs, done);
     }
 
-    /// An event that lacked a part that another worker had for long.
-    pub fn block(&self, e: Event) {
-        let _count = put_in(&self.blocked, e);
+    /// An event that lacked a part that another worker had for long. Whether it did not stand here yet: then it is to be tried once more,
+    /// since that worker may have looked here before.
+    pub fn block(&self, e: Event) -> bool {
+        let Some(mut blocked) = open(&self.blocked) else {
+            return true;
+        };
+        let before = blocked.count();
+        if blocked.room(1).is_ok() {
+            blocked.put(e);
+        }
+        before < blocked.count()
     }
 
-    /// The part is to be had: what lacked it is left to try.
-    pub fn unblock(&self, finds: &mut Finds, part: usize, logs: u8)
+    /// The part was given back behind this event: what lacked it is left to try.
+    pub fn unblock(&self, finds: &mut Finds, part: usize, logs: u8, done: Event)
         requires { 1 ≤ logs }
     {
-        take_from(&self.blocked, finds, part, logs);
+        take_from(&self.blocked, finds, part, logs, done);
+    }
+
+    /// All parts of a look were given back: what lacked one is left to try.
+    pub fn unblock_all(&self, finds: &mut Finds) {
+        let Some(mut blocked) = open(&self.blocked) else {
+            return;
+        };
+        for _event in 0..blocked.count() {
+            if let Some(e) = take_first(&mut blocked) {
+                let _left = finds.put(e);
+            }
+        }
     }
 
     /// Whether an event touched this part since a look had it.

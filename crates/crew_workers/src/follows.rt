@@ -44,7 +44,10 @@ pub(crate) fn list_follows(
             list_arrivals(alloc, hand, k, events)
         }
         Event::Admit(t) | Event::Send(t, _) => list_control(hand, t, events),
-        Event::Arrive(_, a) => list_coming(alloc, hand, a, events),
+        Event::Arrive(_, a) => {
+            list_arriving(alloc, hand, a, events)?;
+            list_coming(alloc, hand, a, events)
+        }
         Event::Ask(t, a) => {
             push_one(events, Event::Take(t, a))?;
             list_answer(hand, t, events)
@@ -56,7 +59,8 @@ pub(crate) fn list_follows(
             list_next(alloc, hand, a, events)?;
             list_answer(hand, t, events)
         }
-        Event::Close(_, a) => list_next(alloc, hand, a, events),
+        Event::Close(_, a) | Event::Complete(_, a) => list_next(alloc, hand, a, events),
+        Event::Finish(_, a) => list_turns(alloc, hand, a, events),
         Event::Note(k, _) => push_one(events, Event::Commit(k)),
         Event::Commit(k) => list_committed(k, tables.work.logs, events),
         Event::Vouch(t, _) => push_one(events, Event::Decide(t)),
@@ -103,6 +107,22 @@ fn list_control(hand: &Hand, t: Tid, events: &mut Vec<Event>) -> Result<(), Memo
     }
 }
 
+/// The sub-batches that go to this actor come there, one behind the other.
+fn list_arriving(
+    alloc: Global,
+    hand: &Hand,
+    a: ActorId,
+    events: &mut Vec<Event>,
+) -> Result<(), Memory> {
+    if !hand.has(POST) {
+        return Ok(());
+    }
+    for (k, a) in &hand.post().subs_to(alloc, a)? {
+        push_one(events, Event::Arrive(*k, *a))?;
+    }
+    Ok(())
+}
+
 /// The controls that go to this actor come there.
 pub(crate) fn list_coming(
     alloc: Global,
@@ -119,7 +139,7 @@ pub(crate) fn list_coming(
     Ok(())
 }
 
-/// The first PACT that is not done on the actor comes there, and batches are complete there.
+/// The first PACT that is not done on the actor comes there and runs, and batches are complete there.
 fn list_next(
     alloc: Global,
     hand: &Hand,
@@ -136,10 +156,30 @@ fn list_next(
         match *e {
             Event::Close(t, a) if first => {
                 first = false;
-                push_one(events, Event::Take(t, a))?;
+                push_two(events, Event::Take(t, a), Event::Run(t, a))?;
             }
             Event::Complete(k, a) => push_one(events, Event::Complete(k, a))?,
             _ => {}
+        }
+    }
+    Ok(())
+}
+
+/// Where an ACT leaves an actor, another one that came there may have its turn.
+fn list_turns(
+    alloc: Global,
+    hand: &Hand,
+    a: ActorId,
+    events: &mut Vec<Event>,
+) -> Result<(), Memory> {
+    if !hand.has_actor(a) {
+        return Ok(());
+    }
+    let mut lying = Vec::new(alloc);
+    list_place(alloc, hand, a, &mut lying)?;
+    for e in &lying {
+        if matches!(*e, Event::Run(_, _)) {
+            push_one(events, *e)?;
         }
     }
     Ok(())

@@ -44,7 +44,7 @@ pub enum Seen {
     Memory,
 }
 
-/// Looks at the parts that are free, as far as the scope goes. What it finds is left to try.
+/// Looks at the parts that are free, as far as the scope goes. What it finds is left to try, and what lacked a part behind that.
 pub fn look<D: LogDev + Drop, O: Sink + Drop>(
     alloc: Global,
     turns: &Turns<Share<D, O>>,
@@ -65,6 +65,7 @@ pub fn look<D: LogDev + Drop, O: Sink + Drop>(
         None => Seen::Busy,
     };
     grip.give_all(turns, pass);
+    board.unblock_all(finds);
     seen
 }
 

@@ -28,8 +28,8 @@ const GROUP: usize = 64;
 pub enum Round {
     /// The event was looked at with its parts at hand, and this became of it.
     Looked(Acted),
-    /// A turn was held by another worker. Whether that was neither a log's nor a cell's: then not for long.
-    Busy { brief: bool },
+    /// A turn was held by another worker. Whether the event is to be tried again: else it waits on the board.
+    Busy { again: bool },
     /// The pass has recorded as many acts as a pass may.
     Full,
     /// There was no memory. Nothing was done.
@@ -38,7 +38,7 @@ pub enum Round {
 
 /// Tries one event: takes its parts by one try each, does it where it is allowed, and gives all back. What it may have made allowed
 /// is left to try, and the parts that it touched are touched on the board; so they are where they were not to be had. What lacked a
-/// log or a cell waits there for whoever has it.
+/// log or a cell waits there for whoever has it, and what lacked one of these parts is left to try behind that.
 pub fn try_event<D: LogDev + Drop, O: Sink + Drop, G: Gate>(
     alloc: Global,
     turns: &Turns<Share<D, O>>,
@@ -57,22 +57,20 @@ pub fn try_event<D: LogDev + Drop, O: Sink + Drop, G: Gate>(
     ensures entries { HasTried e pass.old.entries.items pass.new.entries.items result }
     ensures splits { splits_of pass.new.seat ≡ splits_of pass.old.seat }
 {
-    let parts = footprint(e, turns.tables().work.logs);
-    let round = tried(alloc, turns, pass, grip, gate, &parts, e);
-    match round {
-        Round::Looked(Acted::Done { number: _ }) => {
-            board.touch(&parts);
-            follow(alloc, turns, grip, board, finds, &parts, e);
-        }
-        Round::Busy { brief } => {
-            board.touch(&parts);
-            if !brief {
-                board.block(e);
-            }
-        }
-        _ => {}
+    let logs = turns.tables().work.logs;
+    let parts = footprint(e, logs);
+    let round = tried(alloc, turns, pass, grip, gate, board, &parts, e);
+    let done = matches!(round, Round::Looked(Acted::Done { number: _ }));
+    if done || matches!(round, Round::Busy { again: _ }) {
+        board.touch(&parts);
+    }
+    if done {
+        follow(alloc, turns, grip, board, finds, &parts, e);
     }
     grip.give_parts(turns, pass, &parts);
+    if done {
+        unblock_parts(board, finds, &parts, logs, e);
+    }
     round
 }
 
@@ -83,6 +81,7 @@ fn tried<D: LogDev + Drop, O: Sink + Drop, G: Gate>(
     pass: &mut Pass<Share<D, O>>,
     grip: &mut Grip<D, O>,
     gate: &G,
+    board: &Board,
     parts: &Footprint,
     e: Event,
 ) -> Round
@@ -98,8 +97,8 @@ fn tried<D: LogDev + Drop, O: Sink + Drop, G: Gate>(
     match turns.room(pass) {
         Ok(()) => {
             if !grip.take_parts(turns, pass, parts) {
-                let brief = lacks_brief(grip, parts);
-                return Round::Busy { brief };
+                let again = lacks_brief(grip, parts) || board.block(e);
+                return Round::Busy { again };
             }
             Round::Looked(grip.act(alloc, turns, pass, gate, e))
         }
@@ -108,7 +107,7 @@ fn tried<D: LogDev + Drop, O: Sink + Drop, G: Gate>(
     }
 }
 
-/// Whether the first of these parts that is not held is neither a log nor a cell.
+/// Whether the first of these parts that is not held is neither a log nor a cell: then nobody holds it for long.
 fn lacks_brief<D: LogDev + Drop, O: Sink + Drop>(grip: &Grip<D, O>, parts: &Footprint) -> bool {
     for i in 0..parts.len() {
         if !grip.holds(parts.part(i)) {
@@ -118,8 +117,8 @@ fn lacks_brief<D: LogDev + Drop, O: Sink + Drop>(grip: &Grip<D, O>, parts: &Foot
     false
 }
 
-/// What the event, which was done and whose parts are held, may have made allowed is left to try, and what lacked one of these. Where
-/// there is no memory for it, a look finds it.
+/// What the event, which was done and whose parts are held, may have made allowed is left to try. Where there is no memory for
+/// it, a look finds it.
 fn follow<D: LogDev + Drop, O: Sink + Drop>(
     alloc: Global,
     turns: &Turns<Share<D, O>>,
@@ -133,8 +132,11 @@ fn follow<D: LogDev + Drop, O: Sink + Drop>(
     requires held { IsHeldNow turns.now grip.now }
 {
     let tables = turns.tables();
-    follow_parts(board, finds, parts, e, tables.work.logs);
-    follow_synced(board, finds, e, tables.work.logs);
+    let logs = tables.work.logs;
+    match e {
+        Event::Sync(_) => end_waits(board, finds, parts, logs, e),
+        _ => follow_synced(board, finds, e, logs),
+    }
     let mut listed = Vec::new(alloc);
     let _all = list_follows(alloc, tables, grip.hand(), e, &mut listed);
     for next in &listed {
@@ -144,17 +146,23 @@ fn follow<D: LogDev + Drop, O: Sink + Drop>(
     }
 }
 
-/// What lacked one of these parts is left to try, and behind a Sync what waited for that.
-fn follow_parts(board: &Board, finds: &mut Finds, parts: &Footprint, e: Event, logs: u8)
+/// Behind a Sync what waited for it is left to try.
+fn end_waits(board: &Board, finds: &mut Finds, parts: &Footprint, logs: u8, e: Event)
     requires { 1 ≤ logs }
 {
     for i in 0..parts.len() {
-        let part = parts.part(i);
-        if part >= FIRST_LOG {
-            board.unblock(finds, part, logs);
-        }
-        if matches!(e, Event::Sync(_)) {
-            board.end_wait(finds, part, logs);
+        board.end_wait(finds, parts.part(i), logs, e);
+    }
+}
+
+/// What lacked one of these parts, which were given back, is left to try. Who finds a part held stands on the board before it tries
+/// again, so one of the two sees the other.
+fn unblock_parts(board: &Board, finds: &mut Finds, parts: &Footprint, logs: u8, e: Event)
+    requires { 1 ≤ logs }
+{
+    for i in 0..parts.len() {
+        if parts.part(i) >= FIRST_LOG {
+            board.unblock(finds, parts.part(i), logs, e);
         }
     }
 }

@@ -96,8 +96,8 @@ impl<D: LogDev + Drop, O: Sink + Drop> Worker<D, O> {
     }
 }
 
-/// What comes after a try. A fault or want of memory ends the worker. What lacked a part that nobody holds for long is tried again;
-/// what lacked a log or a cell waits on the board, and a look finds it too.
+/// What comes after a try. A fault or want of memory ends the worker. What lacked a part is tried again, in a moment, unless it waits
+/// on the board; a look finds it too.
 fn after_try(round: Round) -> Next {
     match round {
         Round::Looked(Acted::Broken { number: _ })
@@ -105,7 +105,7 @@ fn after_try(round: Round) -> Next {
         | Round::Looked(Acted::Memory)
         | Round::Full
         | Round::Memory => Next::End,
-        Round::Busy { brief: true } => Next::Rest,
+        Round::Busy { again: true } => Next::Rest,
         _ => Next::Again,
     }
 }
