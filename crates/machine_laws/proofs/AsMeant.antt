@@ -8,8 +8,8 @@ use Rattle.aml_tree.specs.Tree.{CheckedMethod}
 use Rattle.aml_check.specs.Meaning as meaning
 use Rattle.aml_check.specs.Transactions.{IsTransaction}
 use Rattle.aml_slice.specs.Controls.{Rest}
-use Rattle.protocol.specs.Fixed.{Text, Fixed, no_tx}
-use Rattle.protocol.specs.Facts.{Serial, serial, state_in}
+use Rattle.protocol.specs.Fixed.{Text, Fixed, no_tx, tx_at}
+use Rattle.protocol.specs.Facts.{Alone, alone, Serial, serial, state_in}
 use Rattle.protocol.specs.Parts.{Machine}
 use Rattle.protocol.specs.Events.{Event}
 use Rattle.protocol.specs.Runs.{EachAllowed}
@@ -17,11 +17,14 @@ use Rattle.protocol.specs.Effects.{after}
 use Rattle.protocol.specs.Records.{LogRecord}
 use Rattle.protocol.specs.History.{Done, History}
 use Rattle.protocol.specs.Chains.{is_place_below, put_by_place, by_place, txs_of, serial_run}
+use Rattle.protocol_laws.specs.Commits.{left_of}
+use Rattle.protocol_laws.specs.Linked.{IsExplained}
 use Rattle.protocol_theorems.specs.Order.{OrderHolds}
+use Rattle.protocol_records.specs.AsTold.{told, ToldStands}
 use Rattle.protocol_records.specs.Crash.{CrashHolds, members}
 use Rattle.machine_code.specs.MethodCode.{finish, method_code}
 use Rattle.machine_laws.specs.Programs.{IsTextOf, with_code, finish_of}
-use Rattle.machine_laws.specs.Meant.{meant_run, CommittedAsMeant, RecoveredAsMeant}
+use Rattle.machine_laws.specs.Meant.{meant_run, MeansWhatItDid, CommittedAsMeant, RecoveredAsMeant}
 use Rattle.machine_laws.proofs.Instances.{each_at}
 
 -- these are transactions of the text
@@ -36,11 +39,11 @@ all_put P d (x ∷ xs) h k = by (is_place_below d.place x.place) (all_put P d xs
     by true behind = (h, k)
     by false behind = (k.0, behind)
 
-all_by_place : (P : Done → Type 0) (ds : List Done) → AllByRecursion P ds → AllByRecursion P (by_place ds)
+pub all_by_place : (P : Done → Type 0) (ds : List Done) → AllByRecursion P ds → AllByRecursion P (by_place ds)
 all_by_place P [] h = tt
 all_by_place P (d ∷ ds) h = all_put P d (by_place ds) h.0 (all_by_place P ds h.1)
 
-all_filter : (P : Done → Type 0) (test : Done → Bool) (ds : List Done) → AllByRecursion P ds → AllByRecursion P (filter test ds)
+pub all_filter : (P : Done → Type 0) (test : Done → Bool) (ds : List Done) → AllByRecursion P ds → AllByRecursion P (filter test ds)
 all_filter P test [] h = tt
 all_filter P test (d ∷ ds) h = by (test d) (all_filter P test ds h.1)
   where
@@ -59,18 +62,41 @@ first_allowed w (e ∷ es) later s run = (run.0, first_allowed w es later (after
 abbrev pub SerialMeant : List CheckedMethod → Type 0
 SerialMeant p = (count : ℕ) (w : List State) (txs : List Tx) → length w ≡ count → AllByRecursion (IsTransaction p count) txs → serial (method_code p count) (finish p count) w txs ≡ meaning.serial p w txs
 
-asked : (p : List CheckedMethod) (w : Text) (ds : List Done) → IsTextOf p w → AreThere w ds → AllByRecursion (IsTransaction p (length w.opening.states)) (txs_of (with_code p w) ds)
+pub asked : (p : List CheckedMethod) (w : Text) (ds : List Done) → IsTextOf p w → AreThere w ds → AllByRecursion (IsTransaction p (length w.opening.states)) (txs_of (with_code p w) ds)
 asked p w [] is h = tt
 asked p w (d ∷ ds) is h = (each_at (IsTransaction p (length w.opening.states)) w.txs d.tx no_tx h.0 is.asks, asked p w ds is h.1)
 
 run_meant : (p : List CheckedMethod) (w : Text) (ds : List Done) → SerialMeant p → IsTextOf p w → AreThere w ds → serial_run (with_code p w) (finish_of p w) ds ≡ meant_run p (with_code p w) ds
 run_meant p w ds meant is h = meant (length w.opening.states) w.opening.states (txs_of (with_code p w) (by_place ds)) refl (asked p w (by_place ds) is (all_by_place (λ d. d.tx < length w.txs) ds h))
 
-pub committed_meant : (p : List CheckedMethod) (w : Text) (s : Machine Rest) (h : History) → SerialMeant p → IsTextOf p w → AreThere w h.committed → OrderHolds (with_code p w) (finish_of p w) s h → CommittedAsMeant p (with_code p w) (finish_of p w) s h
-committed_meant p w s h meant is there order =
+-- ---- one alone
+
+-- what is said of the machine's transactions alone
+abbrev pub AloneMeant : List CheckedMethod → Type 0
+AloneMeant p = (count : ℕ) (w : List State) (tx : Tx) → length w ≡ count → IsTransaction p count tx → alone (method_code p count) (finish p count) w tx ≡ meaning.alone p w tx
+
+did_meant : (p : List CheckedMethod) (w : Text) (d : Done) → AloneMeant p → IsTextOf p w → d.tx < length w.txs → IsExplained (with_code p w) (finish_of p w) d → MeansWhatItDid p (with_code p w) d
+did_meant p w d meant is there e = λ world as_many agrees.
+    let x = e world as_many agrees in
+    let same : alone (with_code p w).code (finish_of p w) world (tx_at w d.tx) ≡ meaning.alone p world (tx_at w d.tx) = meant (length w.opening.states) world (tx_at w d.tx) as_many (each_at (IsTransaction p (length w.opening.states)) w.txs d.tx no_tx there is.asks) in
+    record {
+      result = subst (λ (y : Alone). Some y.result ≡ d.result) same x.result;
+      as_many = subst (λ (y : Alone). length y.world ≡ length world) same x.as_many;
+      leaves = λ a below. subst (λ (y : Alone). state_in y.world a ≡ left_of a d (state_in world a)) same (x.leaves a below);
+    }
+
+all_did : (p : List CheckedMethod) (w : Text) (ds : List Done) → AloneMeant p → IsTextOf p w → AreThere w ds → AllByRecursion (IsExplained (with_code p w) (finish_of p w)) ds → AllByRecursion (MeansWhatItDid p (with_code p w)) ds
+all_did p w [] meant is there e = tt
+all_did p w (d ∷ ds) meant is there e = (did_meant p w d meant is there.0 e.0, all_did p w ds meant is there.1 e.1)
+
+pub committed_meant : (p : List CheckedMethod) (w : Text) (s : Machine Rest) (h : History) → AloneMeant p → SerialMeant p → IsTextOf p w → AreThere w h.committed → OrderHolds (with_code p w) (finish_of p w) s h → ToldStands (with_code p w) (finish_of p w) s h → CommittedAsMeant p (with_code p w) (finish_of p w) s h
+committed_meant p w s h one meant is there order ts =
+    let same_told = run_meant p w (told s h) meant is (all_filter (λ d. d.tx < length w.txs) _ h.committed there) in
     let same = run_meant p w h.committed meant is there in
     record {
       results = subst (λ (x : Serial). map Some x.results ≡ map (λ d. d.result) (by_place h.committed)) same order.stands.serial;
+      told = subst (λ (x : Serial). map Some x.results ≡ map (λ d. d.result) (by_place (told s h))) same_told ts.serial;
+      explained = all_did p w h.committed one is there order.stands.explained;
       states = λ quiet. order.last_states quiet ∙ ap (λ (x : Serial). x.world) same;
     }
 

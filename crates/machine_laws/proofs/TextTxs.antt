@@ -9,6 +9,7 @@ use Rattle.protocol.specs.Events.{Event, Submit}
 use Rattle.protocol.specs.Conditions.{IsAllowed, conditions}
 use Rattle.protocol.specs.Effects.{after}
 use Rattle.protocol.specs.Runs.{EachAllowed, IsRun, opening, reached, state_after}
+use Rattle.protocol.specs.Words.{batch_of}
 use Rattle.protocol.specs.Numbers.{flat, times, one_if, once_in, TransactionsInOnePlace}
 use Rattle.protocol.specs.History.{Done, history}
 use Rattle.protocol_verdicts.specs.EvidenceSerial.{IsCommittedPact, IsCommittedAct}
@@ -119,3 +120,17 @@ committed_there w s (d ∷ ds) few one h = (let below = committed_below s.ring.n
 
 pub there_after : {C : Type 0} (w : Fixed C) (es : List Event) → IsRun w es → TransactionsInOnePlace w (reached w es) → AllByRecursion (λ d. IsCommittedPact (reached w es) d ⊎ IsCommittedAct (reached w es) d) (history w es).committed → AllByRecursion (λ d. d.tx < length w.text.txs) (history w es).committed
 there_after w es run one h = committed_there w (reached w es) (history w es).committed (few_submitted w es (opening w) (omega arith) run) one h
+
+-- a batch's PACTs are
+pub pacts_there : {C : Type 0} (w : Fixed C) (es : List Event) → IsRun w es → TransactionsInOnePlace w (reached w es) → (k : ℕ) (b : Batch) → batch_of k (reached w es).desk.batches ≡ Some b → AllByRecursion (λ (p : Pact). p.tx < length w.text.txs) b.pacts
+pacts_there {C} w es run one k b e = each b.pacts (found (λ b. AllByRecursion (λ (p : Pact). p.tx < s.ring.next_tx) b.pacts) (λ b. b.bid == k) s.desk.batches b e (txs_below w s one).batches)
+  where
+    s : Machine C
+    s = reached w es
+
+    few : s.ring.next_tx ≤ length w.text.txs
+    few = few_submitted w es (opening w) (omega arith) run
+
+    each : (ps : List Pact) → AllByRecursion (λ (p : Pact). p.tx < s.ring.next_tx) ps → AllByRecursion (λ (p : Pact). p.tx < length w.text.txs) ps
+    each [] h = tt
+    each (p ∷ ps) h = (let below = h.0 in omega (arith, few, below), each ps h.1)

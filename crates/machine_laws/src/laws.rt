@@ -3,6 +3,7 @@
 
 ghost use Rattle.aml_check.specs.Checked.{methods_of};
 ghost use Rattle.protocol.specs.Rows.{RowsAgree};
+ghost use Rattle.protocol_records.specs.AsTold.{ToldStands};
 ghost use Rattle.protocol_records.specs.Crash.{CrashHolds};
 ghost use Rattle.protocol_verdicts.specs.Evidence.{VerdictsStand};
 ghost use Rattle.protocol_verdicts.specs.EvidenceSerial.{VerdictsTell};
@@ -16,7 +17,7 @@ ghost use Rattle.machine_laws.specs.Programs.{AfterEveryRunOf, AtEveryMomentOf, 
 
 use aml_check::Checked;
 use aml_slice::Control;
-use machine_code::{code_has_the_facts, serial_as_meant};
+use machine_code::{alone_as_meant, code_has_the_facts, serial_as_meant};
 
 /// Run one after the other in the order of their places, the transactions that committed give the results that they
 /// had; no two places are equal; on each actor places rise and states link in the order of placing; and who is told
@@ -37,6 +38,16 @@ pub fn recovered_transactions_are_in_order(program: &Checked)
 {
     code_has_the_facts(program);
     protocol_records::recovered_transactions_are_in_order::<Control>();
+}
+
+/// After every run, also one that stopped early: who is told that it committed is a PACT of a batch that settled, or an ACT
+/// that is sealed with a value; with each of these is all that committed with a value and was placed before it; and run one
+/// after the other in the order of their places, with nobody else, they give the results that they had.
+pub fn told_transactions_are_in_order(program: &Checked)
+    ensures { AfterEveryRunOf (methods_of program.now) ToldStands }
+{
+    code_has_the_facts(program);
+    protocol_records::told_transactions_are_in_order::<Control>();
 }
 
 /// A verdict is there exactly where an event of the run gave it, with its cause at that event, and it stays.
@@ -101,12 +112,15 @@ pub fn rows_are_as_agreed(program: &Checked)
 }
 
 /// The transactions that committed, run one after the other in the order of their places as the language means each of
-/// them, give the results that they had; and where no event is allowed the actors have the states that this leaves.
+/// them, give the results that they had, and so do those of them that are told so, with nobody else; each alone, where it
+/// found what it found, means what it did; and where no event is allowed the actors have the states that this leaves.
 pub fn committed_transactions_are_as_meant(program: &Checked)
     ensures { AfterEveryRunOf (methods_of program.now) (CommittedAsMeant (methods_of program.now)) }
 {
+    alone_as_meant(program);
     serial_as_meant(program);
     committed_transactions_are_in_order(program);
+    told_transactions_are_in_order(program);
     verdicts_tell_of_serial_runs(program);
     protocol_laws::transactions_are_in_one_place::<Control>();
 }
@@ -124,11 +138,15 @@ pub fn recovered_transactions_are_as_meant(program: &Checked)
 }
 
 /// Who is told a place, with a value or with a code of its own, gives that alone, as the language means it, behind those
-/// that committed with a place below its own, each run as the language means it.
+/// that committed with a place below its own, each run as the language means it; and who failed with its batch fails so
+/// behind the settled batches below it and the ACTs with a value below the number that it is told.
 pub fn verdicts_are_as_meant(program: &Checked)
     ensures { OfEveryRunOf (methods_of program.now) (VerdictsAsMeant (methods_of program.now)) }
 {
+    serial_as_meant(program);
     committed_transactions_are_in_order(program);
+    told_transactions_are_in_order(program);
     committed_transactions_are_as_meant(program);
     verdicts_tell_of_serial_runs(program);
+    protocol_laws::transactions_are_in_one_place::<Control>();
 }

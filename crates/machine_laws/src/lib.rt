@@ -18,7 +18,8 @@ pub use laws::{
     committed_transactions_are_as_meant, committed_transactions_are_in_order, every_run_ends,
     numbers_are_the_ends_of_sets, places_stay, recovered_transactions_are_as_meant,
     recovered_transactions_are_in_order, rows_are_as_agreed, runs_that_cannot_go_on_have_answered,
-    verdicts_are_as_meant, verdicts_have_evidence, verdicts_tell_of_serial_runs,
+    told_transactions_are_in_order, verdicts_are_as_meant, verdicts_have_evidence,
+    verdicts_tell_of_serial_runs,
 };
 pub use records::{
     marks_are_durable, next_numbers_are_above_all, records_are_added_once, records_are_few,

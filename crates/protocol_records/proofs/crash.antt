@@ -19,6 +19,7 @@ pub mod KeptSure
 pub mod NoneBehind
 pub mod OnLong
 pub mod OnceKept
+pub mod OverFronts
 pub mod RecordsKept
 pub mod RecoverLists
 pub mod RecoversKept
@@ -26,3 +27,4 @@ pub mod TellLists
 pub mod TellsKept
 pub mod TidsDiffer
 pub mod ToldOnce
+pub mod ToldSerial

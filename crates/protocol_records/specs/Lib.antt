@@ -1,3 +1,4 @@
+pub mod AsTold
 pub mod Crash
 pub mod Logged
 pub mod NextNumbers

@@ -9,6 +9,7 @@ mod overs;
 mod records;
 mod recovered;
 mod runs;
+mod told;
 
 pub use numbers::{next_numbers_are_above_all, places_are_drawn};
 pub use overs::acts_end_whole;
@@ -17,3 +18,4 @@ pub use records::{
 };
 pub use recovered::recovered_transactions_are_in_order;
 pub use runs::several_runs_stand;
+pub use told::told_transactions_are_in_order;

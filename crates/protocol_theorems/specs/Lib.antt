@@ -8,5 +8,6 @@ pub mod Order
 pub mod OrderCases
 pub mod Placed
 pub mod Quiet
+pub mod Rises
 pub mod Sets
 pub mod Sizes

@@ -22,6 +22,8 @@ use Rattle.protocol_laws.specs.Told.{IsAmongDone}
 pub record OrderStands {C : Type 0} (w : Fixed C) (finish : C → List State → Alone) (s : Machine C) (h : History) : Type 0 where
   -- run one after the other in the order of places, the committed transactions give the results that they had
   pub serial : IsSerial w finish h.committed
+  -- each does alone, on any world with the states that it found, what it did: its result, and what it left on each actor
+  pub explained : AllByRecursion (IsExplained w finish) h.committed
   -- no two places are equal
   pub rise : PlacesRise (by_place h.committed)
   -- on each actor places rise in the order in which they were placed there, and states link

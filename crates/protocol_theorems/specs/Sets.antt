@@ -48,11 +48,18 @@ IsLeast cs long behind x = is_live_status x.status ≡ true → (x.n ≡ least_i
 abbrev pub IsUncrossed : Act → Type 0
 IsUncrossed x = is_crossed x ≡ false
 
+-- these hold all of those
+abbrev pub HoldsAll : List ℕ → List ℕ → Type 0
+HoldsAll ks js = AllByRecursion (λ j. is_among j ks ≡ true) js
+
 -- ---- what every run owes of numbers
 
 pub record NumbersStand {C : Type 0} (w : Fixed C) (finish : C → List State → Alone) (s : Machine C) (h : History) : Type 0 where
   -- the before number of an ACT that is not doomed is the greatest of the batches that stand before it
   pub before_is_greatest : (t : ℕ) (x : Act) → act_of t s.book.acts ≡ Some x → is_doomed x.status ≡ false → x.m ≡ greatest (h.before x.tid)
+  -- these sets are closed along the pairs whose ACT ahead is not doomed: what stands before that one stands before the one
+  -- behind it
+  pub before_is_closed : AllByRecursion (λ p. doomed_at s.book.acts p.ahead ≡ false → HoldsAll (h.before p.behind) (h.before p.ahead)) s.book.pairs
   -- the after number of a live one is the least of the batches that stand behind it: not aborted, and behind it on some actor
   pub after_is_least : (t : ℕ) (x : Act) → act_of t s.book.acts ≡ Some x → is_live_status x.status ≡ true → (x.n ≡ least_in (h.behind x.tid)) × AllByRecursion (StandsBehind s.book.cascades h.long x.tid) (h.behind x.tid)
   -- nobody live stands behind a batch and ahead of one that is not above it, and nobody who has its place

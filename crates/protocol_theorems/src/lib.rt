@@ -15,5 +15,5 @@ pub use cases::{cases_of_order, schedules_are_in_order};
 pub use parts::{batches_have_actors, boxes_are_few, controls_are_rests, places_are_few};
 pub use theorems::{
     committed_transactions_are_in_order, every_run_ends, numbers_are_the_ends_of_sets,
-    rows_are_as_agreed, runs_that_cannot_go_on_have_answered,
+    rises_are_least, rows_are_as_agreed, runs_that_cannot_go_on_have_answered,
 };

@@ -6,6 +6,7 @@ ghost use Rattle.protocol.specs.Rows.{RowsAgree};
 ghost use Rattle.protocol_theorems.specs.Order.{OrderHolds};
 ghost use Rattle.protocol_theorems.specs.Left.{RunsEnd};
 ghost use Rattle.protocol_theorems.specs.Quiet.{AnsweredWhenQuiet};
+ghost use Rattle.protocol_theorems.specs.Rises.{RisesAreLeast};
 ghost use Rattle.protocol_theorems.specs.Sets.{NumbersStand};
 
 /// Run one after the other in the order of their places, the transactions that committed give the results that they
@@ -23,11 +24,16 @@ pub fn runs_that_cannot_go_on_have_answered<C>()
     ensures { AfterEveryRunWithHistory (AnsweredWhenQuiet {C = C}) }
 {}
 
-/// Before and after numbers are the greatest and the least of the batches that stand before and behind an ACT, and
-/// do not cross; who has its place stands behind nobody that is not doomed; a floor is the greatest before number of
+/// Before and after numbers are the greatest and the least of the batches that stand before and behind an ACT, in sets
+/// that are closed along the pairs that carry, and do not cross; who has its place stands behind nobody that is not doomed; a floor is the greatest before number of
 /// those that left; and on each actor places rise in the order of commits.
 pub fn numbers_are_the_ends_of_sets<C>()
     ensures { AfterEveryRunWithHistory (NumbersStand {C = C}) }
+{}
+
+/// What is raised along pairs is raised no further than the pairs force.
+pub fn rises_are_least()
+    ensures { RisesAreLeast }
 {}
 
 /// On every run the table, whose words are shorter at four rows, gives what the rows give as they were agreed.

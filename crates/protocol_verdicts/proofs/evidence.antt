@@ -2,6 +2,7 @@
 pub mod EvidenceActs
 pub mod EvidenceAhead
 pub mod EvidenceBack
+pub mod EvidenceBetween
 pub mod EvidenceCommitted
 pub mod EvidenceGiven
 pub mod EvidencePacts

@@ -1,5 +1,5 @@
 -- Evidence: for each verdict the event of a run that gives it, and what held there. s is the state before the event.
-use Rattle.std.specs.Prelude.{◌≡◌, ◌≢◌, ◌⊎◌, ◌↔◌, ℕ, ℤ, ◌<◌, ◌≤◌, ◌==◌, true, Some, None, List, ◌∷◌, ◌++◌, map, find}
+use Rattle.std.specs.Prelude.{◌≡◌, ◌≢◌, ◌⊎◌, ◌↔◌, ℕ, ℤ, ◌<◌, ◌≤◌, ◌==◌, true, Some, None, List, [], ◌∷◌, ◌++◌, map, find}
 use Rattle.std.specs.List.{AllByRecursion}
 use Rattle.snap_base.specs.declared.transactions.State.{State}
 use Rattle.snap_base.specs.declared.transactions.TxResult.TheVariants.{Value, Fail}
@@ -10,11 +10,13 @@ use Rattle.protocol.specs.Fixed.{Fixed}
 use Rattle.protocol.specs.Facts.{Alone}
 use Rattle.protocol.specs.Parts.{Act, Decided, Pact, Batch, Machine}
 use Rattle.protocol.specs.Events.{Event, Arrive, Ask, Settle, Abort, Decide, Seal}
-use Rattle.protocol.specs.Words.{is_among, is_value, is_live_status, act_of, batch_of, tail_group}
+use Rattle.protocol.specs.Words.{is_among, is_value, is_live_status, act_of, batch_of, tail_group, greatest}
 use Rattle.protocol.specs.Verdicts.{verdict, pact_place, act_place}
 use Rattle.protocol.specs.OnBook.{in_the_way}
 use Rattle.protocol.specs.Effects.{after, cell_at}
 use Rattle.protocol.specs.Runs.{reached}
+use Rattle.protocol.specs.History.{history}
+use Rattle.protocol_theorems.specs.Sets.{least_in, StandsBehind}
 
 -- ---- whose a transaction is
 
@@ -159,6 +161,18 @@ abbrev pub VerdictsStay : {C : Type 0} → Fixed C → List Event → Type 0
 VerdictsStay w es = (front later : List Event) → es ≡ front ++ later → (n : ℕ) (v : Verdict)
     → verdict n (reached w front).book (reached w front).desk ≡ Some v → verdict n (reached w es).book (reached w es).desk ≡ Some v
 
+-- One of the events gave it up for its two numbers. Behind that event the first is the greatest of the batches that stand
+-- before it, and the second the least of those behind it; each of these is not aborted, and behind it on some actor.
+pub record StandsBetween {C : Type 0} (w : Fixed C) (n m k a : ℕ) (es : List Event) : Type 0 where
+  pub front : List Event
+  pub event : Event
+  pub later : List Event
+  pub splits : es ≡ front ++ event ∷ later
+  pub crosses : Crosses w n m k a event (reached w front)
+  pub greatest_before : m ≡ greatest ((history w (front ++ event ∷ [])).before crosses.tid)
+  pub least_behind : Some k ≡ least_in ((history w (front ++ event ∷ [])).behind crosses.tid)
+  pub stand : AllByRecursion (StandsBehind (reached w (front ++ event ∷ [])).book.cascades (history w (front ++ event ∷ [])).long crosses.tid) ((history w (front ++ event ∷ [])).behind crosses.tid)
+
 -- ---- who may have which verdict
 
 -- A PACT commits, or fails with its batch, or is taken along.
@@ -185,5 +199,7 @@ IsOfAct (verdicts.Unsure l) = ⊥
 pub record VerdictsStand {C : Type 0} (w : Fixed C) (finish : C → List State → Alone) (es : List Event) : Type 0 where
   pub evidence : EvidenceStands w es
   pub stay : VerdictsStay w es
+  -- who is given up for its two numbers stood between these two batches, as its sets have them
+  pub between : (n m k a : ℕ) → verdict n (reached w es).book (reached w es).desk ≡ Some (verdicts.Order (record { 0 = m }) (record { 0 = k }) (record { 0 = a })) → StandsBetween w n m k a es
   pub of_pacts : (n k : ℕ) (b : Batch) (p : Pact) (v : Verdict) → IsPact n k b p (reached w es) → verdict n (reached w es).book (reached w es).desk ≡ Some v → IsOfPact v
   pub of_acts : (n t : ℕ) (x : Act) (v : Verdict) → IsAct n t x (reached w es) → verdict n (reached w es).book (reached w es).desk ≡ Some v → IsOfAct v

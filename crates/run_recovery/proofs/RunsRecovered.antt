@@ -11,7 +11,8 @@ use Rattle.machine_recovery.specs.OnLogs.{AtEveryMomentOnLogsOf, RecoversAsMeant
 use Rattle.protocol.specs.Effects as effects
 use Rattle.protocol.specs.Events as machine
 use Rattle.protocol.specs.Fixed.{Fixed}
-use Rattle.protocol.specs.History.{history}
+use Rattle.protocol.specs.Facts.{Alone}
+use Rattle.protocol.specs.History.{History, history}
 use Rattle.protocol.specs.Moments.{Moment, IsLeft, left_in}
 use Rattle.protocol.specs.Parts.{Machine}
 use Rattle.protocol.specs.Runs.{EachAllowed, IsRun, opening, reached}
@@ -23,6 +24,7 @@ use Rattle.record_log.specs.Records.{HoldsRecords}
 use Rattle.recovery_laws.specs.Joined.{RecoversToMembers}
 use Rattle.run_opening.specs.Opens.{records_at}
 use Rattle.run_outputs.specs.Laws.{GroupsAreDurable}
+use Rattle.snap_base.specs.declared.transactions.State.{State}
 use Rattle.snap_recover.specs.declared.openings.Opening.{Opening}
 use Rattle.snap_recover.specs.Opening.{IsRecovered}
 use Rattle.snap_work.specs.Kept.{KeepsLimits}
@@ -69,6 +71,19 @@ pub answered_all : (p : List CheckedMethod) → AfterEveryRunOf p AnsweredWhenQu
 answered_all p law w schedule o es failed before after e kept run =
     subst (λ q. AnsweredWhenQuiet (machine_of w o) (finish_of q (text_of w o)) (reached (machine_of w o) es) (history (machine_of w o) es)) e
     (subst (λ q. AfterEveryRunOf q AnsweredWhenQuiet) (sym e) law (text_of w o) es (is_text w schedule o es failed before after kept run) (is_run w schedule o es failed before after run))
+
+-- what holds after every run of the program, or of its events, holds of this one
+pub after_run : (P : Fixed Rest → (Rest → List State → Alone) → Machine Rest → History → Type 0) (p : List CheckedMethod) → AfterEveryRunOf p P → (w : Work) (schedule : Schedule) (o : Opening) (es : List machine.Event) (failed : ℕ → Bool) (before after : List Device) → w.program ≡ p → KeepsLimits w → HasRun w schedule o es failed before after
+    → P (machine_of w o) (finish_of p (text_of w o)) (reached (machine_of w o) es) (history (machine_of w o) es)
+after_run P p law w schedule o es failed before after e kept run =
+    subst (λ q. P (machine_of w o) (finish_of q (text_of w o)) (reached (machine_of w o) es) (history (machine_of w o) es)) e
+    (subst (λ q. AfterEveryRunOf q P) (sym e) law (text_of w o) es (is_text w schedule o es failed before after kept run) (is_run w schedule o es failed before after run))
+
+pub of_run : (P : Fixed Rest → (Rest → List State → Alone) → List machine.Event → Type 0) (p : List CheckedMethod) → OfEveryRunOf p P → (w : Work) (schedule : Schedule) (o : Opening) (es : List machine.Event) (failed : ℕ → Bool) (before after : List Device) → w.program ≡ p → KeepsLimits w → HasRun w schedule o es failed before after
+    → P (machine_of w o) (finish_of p (text_of w o)) es
+of_run P p law w schedule o es failed before after e kept run =
+    subst (λ q. P (machine_of w o) (finish_of q (text_of w o)) es) e
+    (subst (λ q. OfEveryRunOf q P) (sym e) law (text_of w o) es (is_text w schedule o es failed before after kept run) (is_run w schedule o es failed before after run))
 
 -- ---- a crash
 

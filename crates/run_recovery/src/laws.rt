@@ -9,8 +9,13 @@ ghost use Rattle.protocol.specs.Events as machine;
 ghost use Rattle.protocol.specs.History.{history};
 ghost use Rattle.protocol.specs.Moments.{Moment};
 ghost use Rattle.protocol.specs.Runs.{reached};
+ghost use Rattle.protocol_records.specs.AsTold.{ToldStands};
+ghost use Rattle.protocol_theorems.specs.Left.{RunsEnd};
+ghost use Rattle.protocol_theorems.specs.Order.{OrderHolds};
 ghost use Rattle.protocol_theorems.specs.Quiet.{AnsweredWhenQuiet};
+ghost use Rattle.protocol_theorems.specs.Sets.{NumbersStand};
 ghost use Rattle.protocol_verdicts.specs.Evidence.{VerdictsStand};
+ghost use Rattle.protocol_verdicts.specs.EvidenceSerial.{VerdictsTell};
 ghost use Rattle.run_recovery.specs.Beginnings.{BeginsAgain, CrashBefore};
 ghost use Rattle.run_recovery.specs.Crashes.{CrashOn, Recovers};
 ghost use Rattle.run_recovery.specs.Next.{GoesOnFrom};
@@ -25,8 +30,10 @@ ghost use Rattle.snap_work.specs.Works.{Work};
 
 use aml_check::Checked;
 use machine_laws::{
-    committed_transactions_are_as_meant, recovered_transactions_are_in_order,
-    runs_that_cannot_go_on_have_answered, verdicts_are_as_meant, verdicts_have_evidence,
+    committed_transactions_are_as_meant, committed_transactions_are_in_order, every_run_ends,
+    numbers_are_the_ends_of_sets, recovered_transactions_are_in_order,
+    runs_that_cannot_go_on_have_answered, told_transactions_are_in_order, verdicts_are_as_meant,
+    verdicts_have_evidence, verdicts_tell_of_serial_runs,
 };
 use machine_recovery::{logs_recover_as_meant, logs_recover_to_the_members};
 use record_log::{groups_are_whole, one_list_of_records};
@@ -53,8 +60,23 @@ pub fn runs_are_as_meant(program: &Checked)
         → VerdictsStand (machine_of w o) (finish_of (methods_of program.now) (text_of w o)) es }
     ensures answered { (w : Work) (schedule : Schedule) (o : Opening) (es : List machine.Event) (failed : ℕ → Bool) (before after : List Device) → w.program ≡ methods_of program.now → KeepsLimits w → HasRun w schedule o es failed before after
         → AnsweredWhenQuiet (machine_of w o) (finish_of (methods_of program.now) (text_of w o)) (reached (machine_of w o) es) (history (machine_of w o) es) }
+    ensures order { (w : Work) (schedule : Schedule) (o : Opening) (es : List machine.Event) (failed : ℕ → Bool) (before after : List Device) → w.program ≡ methods_of program.now → KeepsLimits w → HasRun w schedule o es failed before after
+        → OrderHolds (machine_of w o) (finish_of (methods_of program.now) (text_of w o)) (reached (machine_of w o) es) (history (machine_of w o) es) }
+    ensures codes { (w : Work) (schedule : Schedule) (o : Opening) (es : List machine.Event) (failed : ℕ → Bool) (before after : List Device) → w.program ≡ methods_of program.now → KeepsLimits w → HasRun w schedule o es failed before after
+        → VerdictsTell (machine_of w o) (finish_of (methods_of program.now) (text_of w o)) es }
+    ensures sure { (w : Work) (schedule : Schedule) (o : Opening) (es : List machine.Event) (failed : ℕ → Bool) (before after : List Device) → w.program ≡ methods_of program.now → KeepsLimits w → HasRun w schedule o es failed before after
+        → ToldStands (machine_of w o) (finish_of (methods_of program.now) (text_of w o)) (reached (machine_of w o) es) (history (machine_of w o) es) }
+    ensures numbers { (w : Work) (schedule : Schedule) (o : Opening) (es : List machine.Event) (failed : ℕ → Bool) (before after : List Device) → w.program ≡ methods_of program.now → KeepsLimits w → HasRun w schedule o es failed before after
+        → NumbersStand (machine_of w o) (finish_of (methods_of program.now) (text_of w o)) (reached (machine_of w o) es) (history (machine_of w o) es) }
+    ensures ends { (w : Work) (schedule : Schedule) (o : Opening) (es : List machine.Event) (failed : ℕ → Bool) (before after : List Device) → w.program ≡ methods_of program.now → KeepsLimits w → HasRun w schedule o es failed before after
+        → RunsEnd (machine_of w o) (finish_of (methods_of program.now) (text_of w o)) es }
 {
     committed_transactions_are_as_meant(program);
+    committed_transactions_are_in_order(program);
+    told_transactions_are_in_order(program);
+    verdicts_tell_of_serial_runs(program);
+    numbers_are_the_ends_of_sets(program);
+    every_run_ends(program);
     verdicts_are_as_meant(program);
     verdicts_have_evidence(program);
     runs_that_cannot_go_on_have_answered(program);

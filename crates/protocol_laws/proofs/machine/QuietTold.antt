@@ -281,15 +281,17 @@ sum_of w n s t = omega (arith, t n, bound (once_in 0 s.ring.next_tx n) (one _), 
 abbrev pub IsTold : {C : Type 0} → Machine C → Done → Type 0
 IsTold s d = verdict d.tx s.book s.desk ≡ ended_at d.place d.result
 
--- an ACT
-act_told : {C : Type 0} (w : Fixed C) (s : Machine C) (t : ℕ) (d : Done) (x : Act) → IsQuiet w s → TransactionsInOnePlace w s → ActsRecorded w s → act_of t s.book.acts ≡ Some x → Rattle.protocol_laws.specs.Told.IsDone d x → IsTold s d
-unfolding ActsRecorded
-act_told w s t d x q o r e i =
-    let sealed : is_decided x.status ≡ false = false_from_ne_true (is_decided x.status) (λ f. q (Seal t) (seal_allowed w t s x e f (records.quiet_durable w s (is_act_commit t) (t % w.text.logs) q ((r t x e).0 (at_placed i.c x.status i.at) ((r t x e).1 f))))) in
+-- an ACT that is not only decided
+pub act_told : {C : Type 0} (w : Fixed C) (s : Machine C) (t : ℕ) (d : Done) (x : Act) → TransactionsInOnePlace w s → is_decided x.status ≡ false → act_of t s.book.acts ≡ Some x → Rattle.protocol_laws.specs.Told.IsDone d x → IsTold s d
+act_told w s t d x o sealed e i =
     let l = sum_of w x.tx s o in
     let m = at_least_one t x s.book.acts e in
     ap (λ z. verdict z s.book s.desk) i.tx ∙ (or_none (verdict_of_pact s.book.cascades x.tx s.desk.batches) (verdict_of_act x.tx s.book.acts) (none_of_pacts s.book.cascades x.tx s.desk.batches (omega (arith, l, m)))
     ∙ (act_is_told t x s.book.acts e (omega (arith, l)) ∙ (told_sealed i.c x.m x.status x.result i.at sealed ∙ (ap (λ z. ended_at z x.result) (sym i.place) ∙ ap (ended_at d.place) (sym i.result)))))
+
+quiet_sealed : {C : Type 0} (w : Fixed C) (s : Machine C) (t : ℕ) (d : Done) (x : Act) → IsQuiet w s → ActsRecorded w s → act_of t s.book.acts ≡ Some x → Rattle.protocol_laws.specs.Told.IsDone d x → is_decided x.status ≡ false
+unfolding ActsRecorded
+quiet_sealed w s t d x q r e i = false_from_ne_true (is_decided x.status) (λ f. q (Seal t) (seal_allowed w t s x e f (records.quiet_durable w s (is_act_commit t) (t % w.text.logs) q ((r t x e).0 (at_placed i.c x.status i.at) ((r t x e).1 f)))))
 
 ended_some : (p : Rattle.snap_base.specs.declared.verdicts.Place.Place) (r : Option TxResult) → is_some r ≡ true → (v : Verdict) × (ended_at p r ≡ Some v)
 ended_some p None e = absurd (true≢false (sym e))
@@ -301,13 +303,10 @@ any_some k d [] a = absurd a
 any_some k d (p ∷ ps) (inl a) = ap is_some a.result ∙ a.ended
 any_some k d (p ∷ ps) (inr a) = any_some k d ps a
 
--- a PACT
-pact_told : {C : Type 0} (w : Fixed C) (s : Machine C) (h : History) (k : ℕ) (d : Done) (b : Batch) → IsQuiet w s → TransactionsInOnePlace w s → settling.Settling w s → Marked s h → BatchesRecorded w s → batch_of k s.desk.batches ≡ Some b → PactFrom s.desk.batches h.kept k d → IsTold s d
-unfolding Marked BatchesRecorded
-pact_told w s h k d b q o g m r e f =
-    let formed : is_formed b.stage ≡ false = not-true (is_formed b.stage) (sym (m k b e).known ∙ f.kept) in
-    let fine : is_aborted k s.book.cascades ≡ false = false_from_ne_true (is_aborted k s.book.cascades) (λ v. true≢false (sym (settling.aborted_formed w s k b e g v) ∙ formed)) in
-    let settled : is_settled b.stage ≡ true = not_formed b.stage formed (λ c. q (Settle k) (settle_allowed w k s b e c (settling.mark_is w s k b e g ∙ fine) (records.quiet_durable w s (is_commit k) (k % w.text.logs) q (r k b e formed)))) in
+-- a PACT of a batch that settled
+pub pact_told : {C : Type 0} (w : Fixed C) (s : Machine C) (h : History) (k : ℕ) (d : Done) (b : Batch) → TransactionsInOnePlace w s → settling.Settling w s → is_settled b.stage ≡ true → batch_of k s.desk.batches ≡ Some b → PactFrom s.desk.batches h.kept k d → IsTold s d
+pact_told w s h k d b o g settled e f =
+    let fine : is_aborted k s.book.cascades ≡ false = false_from_ne_true (is_aborted k s.book.cascades) (λ v. settled_past b.stage settled (settling.aborted_formed w s k b e g v)) in
     let bid : b.bid ≡ k = eqb-true b.bid k (marks.found_bid k b s.desk.batches e) in
     let v = ended_some d.place d.result (any_some k d b.pacts (f.is_it k b e refl)) in
     let none : find (covers b.bid) s.book.cascades ≡ None = no_cascade b.bid s.book.cascades (ap (λ z. is_aborted z s.book.cascades) bid ∙ fine) in
@@ -316,6 +315,18 @@ pact_told w s h k d b q o g m r e f =
     (λ p i. ap (λ z. pact_verdict z b p) none ∙ (told_settled b.stage b.bid p.tid p.result settled ∙ (ap (λ z. ended_at (pact_place z p.tid) p.result) bid ∙ (ap (λ z. ended_at z p.result) (sym i.place) ∙ (ap (ended_at d.place) (sym i.result) ∙ v.1)))))
     e (f.is_it k b e refl) (omega (arith, sum_of w d.tx s o)))
     ∙ sym v.1
+  where
+    settled_past : (st : Stage) → is_settled st ≡ true → is_formed st ≡ true → ⊥
+    settled_past Formed e f = true≢false (sym e)
+    settled_past Committing e f = true≢false (sym e)
+    settled_past Settled e f = true≢false (sym f)
+
+quiet_settled : {C : Type 0} (w : Fixed C) (s : Machine C) (h : History) (k : ℕ) (d : Done) (b : Batch) → IsQuiet w s → settling.Settling w s → Marked s h → BatchesRecorded w s → batch_of k s.desk.batches ≡ Some b → PactFrom s.desk.batches h.kept k d → is_settled b.stage ≡ true
+unfolding Marked BatchesRecorded
+quiet_settled w s h k d b q g m r e f =
+    let formed : is_formed b.stage ≡ false = not-true (is_formed b.stage) (sym (m k b e).known ∙ f.kept) in
+    let fine : is_aborted k s.book.cascades ≡ false = false_from_ne_true (is_aborted k s.book.cascades) (λ v. true≢false (sym (settling.aborted_formed w s k b e g v) ∙ formed)) in
+    not_formed b.stage formed (λ c. q (Settle k) (settle_allowed w k s b e c (settling.mark_is w s k b e g ∙ fine) (records.quiet_durable w s (is_commit k) (k % w.text.logs) q (r k b e formed))))
 
 -- In a quiet state all that committed is told.
 pub all_told : {C : Type 0} (w : Fixed C) (s : Machine C) (h : History) → IsQuiet w s → TransactionsInOnePlace w s → settling.Settling w s → Marked s h → Known s h → ActsRecorded w s → BatchesRecorded w s → AllFrom s h → PactsFrom s h → AllByRecursion (λ d. IsTold s d) h.committed
@@ -323,8 +334,8 @@ unfolding AllFrom PactsFrom Known
 all_told w s h q o g m kn ra rb fa fp = each h.committed fa fp
   where
     one : (d : Done) → ((t : ℕ) → d.who ≡ OfAct t → Rattle.protocol_laws.specs.Told.DoneFrom s.book.acts t d) → ((k : ℕ) → d.who ≡ OfBatch k → PactFrom s.desk.batches h.kept k d) → (y : Who) → d.who ≡ y → IsTold s d
-    one d a b (OfBatch k) e = let f = b k e in let c = some_is (batch_of k s.desk.batches) (kn k f.kept) in pact_told w s h k d c.0 q o g m rb c.1 f
-    one d a b (OfAct t) e = let f = a t e in let x = some_is (act_of t s.book.acts) f.there in act_told w s t d x.0 q o ra x.1 (f.is_it t x.0 x.1 refl)
+    one d a b (OfBatch k) e = let f = b k e in let c = some_is (batch_of k s.desk.batches) (kn k f.kept) in pact_told w s h k d c.0 o g (quiet_settled w s h k d c.0 q g m rb c.1 f) c.1 f
+    one d a b (OfAct t) e = let f = a t e in let x = some_is (act_of t s.book.acts) f.there in act_told w s t d x.0 o (quiet_sealed w s t d x.0 q ra x.1 (f.is_it t x.0 x.1 refl)) x.1 (f.is_it t x.0 x.1 refl)
 
     each : (ds : List Done) → AllByRecursion (λ d. (t : ℕ) → d.who ≡ OfAct t → Rattle.protocol_laws.specs.Told.DoneFrom s.book.acts t d) ds → FromBatches s.desk.batches h.kept ds → AllByRecursion (λ d. IsTold s d) ds
     each [] a b = tt

@@ -1,5 +1,5 @@
 -- Who was told that it committed is recovered, at every moment.
-use Rattle.std.specs.Prelude.{◌≡◌, refl, ℕ, zero, suc, ℤ, true, ◌&&◌, Option, Some, List, [], ◌∷◌, ◌++◌, length, filter}
+use Rattle.std.specs.Prelude.{◌≡◌, refl, ℕ, zero, suc, ℤ, Bool, true, ◌&&◌, Option, Some, List, [], ◌∷◌, ◌++◌, length, filter}
 use Rattle.std.proofs.Common.{arith, sym, ap, subst, ◌∙◌}
 use Rattle.std.proofs.lemmas.Bool.{eq-eqb}
 use Rattle.snap_base.specs.declared.transactions.State.{State}
@@ -11,7 +11,6 @@ use Rattle.snap_base.specs.declared.verdicts.Verdict.{Verdict}
 use Rattle.snap_base.specs.declared.verdicts.Verdict.TheVariants as verdicts
 use Rattle.protocol.specs.Fixed.{Fixed, IsText}
 use Rattle.protocol.specs.Facts.{Alone}
-use Rattle.protocol.specs.Records.{LogRecord}
 use Rattle.protocol.specs.Parts.{Act, Batch, Who, OfBatch, OfAct, Machine}
 use Rattle.protocol.specs.Events.{Event}
 use Rattle.protocol.specs.Words.{holds, is_value, is_formed, is_settled}
@@ -40,12 +39,12 @@ abbrev pub Acked : ℕ → List Done → Place → TxResult → Type 0
 Acked n ms p r = (v : ℤ) → r ≡ Value v → IsAmongDone n p (Value v) ms
 
 -- who committed with a value, and has a record that is left
-member : (many : ℕ) (logs : ℕ → List LogRecord) (h : History) (y : Who) (t m n : ℕ) (p : Place) (o : Option TxResult) (r : TxResult) → AmongDone y t m p o h.committed → is_in many logs y ≡ true → m ≡ n → o ≡ Some r → Acked n (members many logs h) p r
-member many logs h y t m n p o r a i same q v j = record {
+pub member : (test : Who → Bool) (h : History) (y : Who) (t m n : ℕ) (p : Place) (o : Option TxResult) (r : TxResult) → AmongDone y t m p o h.committed → test y ≡ true → m ≡ n → o ≡ Some r → Acked n (filter (λ d. test d.who && is_value d.result) h.committed) p r
+member test h y t m n p o r a i same q v j = record {
   done = a.done;
-  front = filter (λ d. is_in many logs d.who && is_value d.result) a.front;
-  rest = filter (λ d. is_in many logs d.who && is_value d.result) a.rest;
-  splits = ap (filter (λ d. is_in many logs d.who && is_value d.result)) a.splits ∙ (filter_join (λ d. is_in many logs d.who && is_value d.result) a.front (a.done ∷ a.rest) ∙ ap (λ l. filter (λ d. is_in many logs d.who && is_value d.result) a.front ++ l) own);
+  front = filter (λ d. test d.who && is_value d.result) a.front;
+  rest = filter (λ d. test d.who && is_value d.result) a.rest;
+  splits = ap (filter (λ d. test d.who && is_value d.result)) a.splits ∙ (filter_join (λ d. test d.who && is_value d.result) a.front (a.done ∷ a.rest) ∙ ap (λ l. filter (λ d. test d.who && is_value d.result) a.front ++ l) own);
   tx = a.tx ∙ same;
   place = a.place;
   result = valued;
@@ -54,19 +53,19 @@ member many logs h y t m n p o r a i same q v j = record {
     valued : a.done.result ≡ Some (Value v)
     valued = a.result ∙ (q ∙ ap Some j)
 
-    there : is_in many logs a.done.who ≡ true
-    there = ap (is_in many logs) a.who ∙ i
+    there : test a.done.who ≡ true
+    there = ap (test) a.who ∙ i
 
-    own : filter (λ d. is_in many logs d.who && is_value d.result) (a.done ∷ a.rest) ≡ a.done ∷ filter (λ d. is_in many logs d.who && is_value d.result) a.rest
+    own : filter (λ d. test d.who && is_value d.result) (a.done ∷ a.rest) ≡ a.done ∷ filter (λ d. test d.who && is_value d.result) a.rest
     own = rw (there, valued) refl
 
 batch_member : {C : Type 0} (w : Fixed C) (s : Machine C) (h : History) (left : ℕ → ℕ) (n : ℕ) (b : Batch) → IsCut s left → (is_settled b.stage ≡ true → has_record w s (OfBatch b.bid) ≡ true) → BatchTold h.committed b.bid b → BatchSays n (Acked n (members w.text.logs (left_in s left) h)) b
 batch_member w s h left n b c d t f = weaker _ _ b.pacts
-    (λ p i q r o. member w.text.logs (left_in s left) h (OfBatch b.bid) p.tid p.tx n (pact_place b.bid p.tid) p.result r i.0 (is_left w s left (OfBatch b.bid) c (d (ap is_settled f))) q o)
+    (λ p i q r o. member (is_in w.text.logs (left_in s left)) h (OfBatch b.bid) p.tid p.tx n (pact_place b.bid p.tid) p.result r i.0 (is_left w s left (OfBatch b.bid) c (d (ap is_settled f))) q o)
     (t (ap is_formed f))
 
 act_member : {C : Type 0} (w : Fixed C) (s : Machine C) (h : History) (left : ℕ → ℕ) (n : ℕ) (x : Act) → IsCut s left → (is_sealed_act x ≡ true → has_record w s (OfAct x.tid) ≡ true) → ActTold h.committed x.tid x → ActSays n (Acked n (members w.text.logs (left_in s left) h)) x
-act_member w s h left n x c d t q k f r o v j = member w.text.logs (left_in s left) h (OfAct x.tid) x.tid x.tx n (act_place x.m k) x.result r (t k (ap (is_at k) f ∙ eq-eqb k k refl)) (is_left w s left (OfAct x.tid) c (d (rw (f, o, j) refl))) q o v j
+act_member w s h left n x c d t q k f r o v j = member (is_in w.text.logs (left_in s left)) h (OfAct x.tid) x.tid x.tx n (act_place x.m k) x.result r (t k (ap (is_at k) f ∙ eq-eqb k k refl)) (is_left w s left (OfAct x.tid) c (d (rw (f, o, j) refl))) q o v j
 
 -- Where a verdict says that it committed with a value, it is a member.
 acknowledged_at : {C : Type 0} (w : Fixed C) (Of : Tx → C → Type 0) (finish : C → List State → Alone) (s : Machine C) (h : History) (left : ℕ → ℕ) → IsCut s left → AllGood w Of finish s h → Durable w s h

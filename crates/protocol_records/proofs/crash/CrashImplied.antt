@@ -8,7 +8,7 @@ use Rattle.snap_base.specs.declared.verdicts.Place.{Place}
 use Rattle.protocol.specs.Fixed.{Fixed}
 use Rattle.protocol.specs.Facts.{Alone, state_in}
 use Rattle.protocol.specs.Records.{LogRecord}
-use Rattle.protocol.specs.Parts.{Log, Machine}
+use Rattle.protocol.specs.Parts.{Who, Log, Machine}
 use Rattle.protocol.specs.Events.{Event, Form, Complete, Sync, Commit, Prepare, Decide}
 use Rattle.protocol.specs.Words.{is_value}
 use Rattle.protocol.specs.Conditions.{IsAllowed}
@@ -79,12 +79,12 @@ all_valued (d ∷ ds) h = by (is_value d.result) h.0 (all_valued ds h.1)
     by true e k = ap (λ l. d ∷ l) k
     by false e k = absurd (true≢false (sym e))
 
-pub members_valued : (many : ℕ) (logs : ℕ → List LogRecord) (ds : List Done) → AllByRecursion (λ d. is_value d.result ≡ true) (filter (λ d. is_in many logs d.who && is_value d.result) ds)
-members_valued many logs [] = tt
-members_valued many logs (d ∷ ds) = by (is_in many logs d.who) (is_value d.result) refl (members_valued many logs ds)
+pub are_valued : (test : Who → Bool) (ds : List Done) → AllByRecursion (λ d. is_value d.result ≡ true) (filter (λ d. test d.who && is_value d.result) ds)
+are_valued test [] = tt
+are_valued test (d ∷ ds) = by (test d.who) (is_value d.result) refl (are_valued test ds)
   where
-    by : (b c : Bool) → is_value d.result ≡ c → AllByRecursion (λ d. is_value d.result ≡ true) (filter (λ d. is_in many logs d.who && is_value d.result) ds)
-        → AllByRecursion (λ d. is_value d.result ≡ true) (if b && c then d ∷ filter (λ d. is_in many logs d.who && is_value d.result) ds else filter (λ d. is_in many logs d.who && is_value d.result) ds)
+    by : (b c : Bool) → is_value d.result ≡ c → AllByRecursion (λ d. is_value d.result ≡ true) (filter (λ d. test d.who && is_value d.result) ds)
+        → AllByRecursion (λ d. is_value d.result ≡ true) (if b && c then d ∷ filter (λ d. test d.who && is_value d.result) ds else filter (λ d. test d.who && is_value d.result) ds)
     by true true e k = (e, k)
     by true false e k = k
     by false c e k = k
@@ -95,22 +95,23 @@ pub record Members {C : Type 0} (w : Fixed C) (finish : C → List State → Alo
   pub serial : IsSerial w finish ms
   pub states : (a : ℕ) → a < length w.text.opening.states → state_in (serial_run w finish ms).world a ≡ last_state a (state_in w.text.opening.states a) ms
 
-pub members_serial : {C : Type 0} (w : Fixed C) (finish : C → List State → Alone) (s : Machine C) (h : History) (logs : ℕ → List LogRecord) → OrderFacts w finish s h
-    → ((a : ℕ) → a < length w.text.opening.states → IsFrontOn a (members w.text.logs logs h) h.committed) → Members w finish (members w.text.logs logs h)
+-- those with a value that pass a test, a front on each actor
+pub parts_serial : {C : Type 0} (w : Fixed C) (finish : C → List State → Alone) (s : Machine C) (h : History) (test : Who → Bool) → OrderFacts w finish s h
+    → ((a : ℕ) → a < length w.text.opening.states → IsFrontOn a (filter (λ d. test d.who && is_value d.result) h.committed) h.committed) → Members w finish (filter (λ d. test d.who && is_value d.result) h.committed)
 unfolding LinkedFrom
-members_serial {C} w finish s h logs f front = record {
+parts_serial {C} w finish s h test f front = record {
   serial = serial_results w finish (by_place ms) w.text.opening.states refl explained sorted;
   states = λ a k. serial_states w finish (by_place ms) w.text.opening.states refl explained sorted a k ∙ sorted_last a (state_in w.text.opening.states a) ms (rise a k);
 }
   where
     ms : List Done
-    ms = members w.text.logs logs h
+    ms = filter (λ d. test d.who && is_value d.result) h.committed
 
     explained : AllByRecursion (IsExplained w finish) (by_place ms)
     explained = all_sorted (IsExplained w finish) ms (all_filter (IsExplained w finish) _ h.committed f.explained)
 
     own : (a : ℕ) → valued a ms ≡ visitors a ms
-    own a = all_valued (visitors a ms) (all_filter (λ d. is_value d.result ≡ true) _ ms (members_valued w.text.logs logs h.committed))
+    own a = all_valued (visitors a ms) (all_filter (λ d. is_value d.result ≡ true) _ ms (are_valued test h.committed))
 
     rise : (a : ℕ) → a < length w.text.opening.states → PlacesRise (visitors a ms)
     rise a k = let q = front a k in subst (λ xs. PlacesRise xs) (own a) (rise_front (valued a ms) q.0 (subst (λ xs. PlacesRise xs) q.1 (rise_filter (λ d. is_value d.result) (visitors a h.committed) (f.rise a k))))
@@ -123,6 +124,10 @@ members_serial {C} w finish s h logs f front = record {
 
     sorted : LinkedFrom w.text.opening.states (by_place ms)
     sorted = λ a k. sorted_links a (state_in w.text.opening.states a) ms (rise a k) (linked a k)
+
+pub members_serial : {C : Type 0} (w : Fixed C) (finish : C → List State → Alone) (s : Machine C) (h : History) (logs : ℕ → List LogRecord) → OrderFacts w finish s h
+    → ((a : ℕ) → a < length w.text.opening.states → IsFrontOn a (members w.text.logs logs h) h.committed) → Members w finish (members w.text.logs logs h)
+members_serial w finish s h logs f front = parts_serial w finish s h (is_in w.text.logs logs) f front
 
 -- ---- a moment is a cut
 

@@ -7,7 +7,7 @@ use Rattle.snap_base.specs.declared.transactions.State.{State}
 use Rattle.snap_base.specs.declared.transactions.Tx.{Tx}
 use Rattle.protocol.specs.Fixed.{Fixed, IsText}
 use Rattle.protocol.specs.Facts.{Alone}
-use Rattle.protocol.specs.Records.{LogRecord, is_commit, is_act_commit}
+use Rattle.protocol.specs.Records.{is_commit, is_act_commit}
 use Rattle.protocol.specs.Parts.{Who, OfBatch, OfAct, Machine}
 use Rattle.protocol.specs.Events.{Event}
 use Rattle.protocol.specs.Words.{is_value}
@@ -36,13 +36,13 @@ pub record Recovers {C : Type 0} (w : Fixed C) (s : Machine C) (h : History) : T
   pub durable : Durable w s h
   pub fronts : Fronts w s h
 
-kept : {C : Type 0} (w : Fixed C) (Of : Tx → C → Type 0) (finish : C → List State → Alone) (e : Event) (s : Machine C) (h : History) → Given w Of finish → IsAllowed w e s → AllGood w Of finish s h → Recovers w s h → Recovers w (after w e s) (grown w e s h)
+pub kept : {C : Type 0} (w : Fixed C) (Of : Tx → C → Type 0) (finish : C → List State → Alone) (e : Event) (s : Machine C) (h : History) → Given w Of finish → IsAllowed w e s → AllGood w Of finish s h → Recovers w s h → Recovers w (after w e s) (grown w e s h)
 kept w Of finish e s h v ok g i = record {
   durable = durable.kept w e s h ok g.acts g.none i.durable;
   fronts = fronts.kept w Of finish e s h ok (for_chain w Of finish e s h v ok (owes w Of finish e s h ok g) g.good) g i.durable i.fronts;
 }
 
-opened : {C : Type 0} (w : Fixed C) → Recovers w (opening w) no_history
+pub opened : {C : Type 0} (w : Fixed C) → Recovers w (opening w) no_history
 opened w = record {
   durable = record { settled = λ k q. absurd (true≢false (sym q)); sealed = λ t q. absurd (true≢false (sym q)); gone = λ a. tt };
   fronts = record { there = λ a. tt; split = λ a. record { front = []; last = []; who = OfAct 0; splits = refl; durable = tt; of_it = tt } };
@@ -58,16 +58,16 @@ pub is_left : {C : Type 0} (w : Fixed C) (s : Machine C) (left : ℕ → ℕ) (y
 is_left w s left (OfBatch k) c e = any_take (is_commit k) (log_at s (k % w.text.logs)).synced (left (k % w.text.logs)) (log_at s (k % w.text.logs)).records (c.all_synced (k % w.text.logs)) e
 is_left w s left (OfAct t) c e = any_take (is_act_commit t) (log_at s (t % w.text.logs)).synced (left (t % w.text.logs)) (log_at s (t % w.text.logs)).records (c.all_synced (t % w.text.logs)) e
 
--- members that came are those that came, as far as their records are left
-members_came : (many : ℕ) (logs : ℕ → List LogRecord) (a : ℕ) (ds : List Done) → valued a (filter (λ d. is_in many logs d.who && is_value d.result) ds) ≡ filter (λ d. is_in many logs d.who) (valued a ds)
-members_came many logs a [] = refl
-members_came many logs a (d ∷ ds) = by (is_in many logs d.who) refl (is_value d.result) refl (came_to a d) refl (members_came many logs a ds)
+-- members that came are those that came, as far as they pass the test
+members_came : (test : Who → Bool) (a : ℕ) (ds : List Done) → valued a (filter (λ d. test d.who && is_value d.result) ds) ≡ filter (λ d. test d.who) (valued a ds)
+members_came test a [] = refl
+members_came test a (d ∷ ds) = by (test d.who) refl (is_value d.result) refl (came_to a d) refl (members_came test a ds)
   where
     rest : List Done
-    rest = filter (λ d. is_in many logs d.who && is_value d.result) ds
+    rest = filter (λ d. test d.who && is_value d.result) ds
 
-    by : (i : Bool) → is_in many logs d.who ≡ i → (v : Bool) → is_value d.result ≡ v → (c : Bool) → came_to a d ≡ c → valued a rest ≡ filter (λ d. is_in many logs d.who) (valued a ds)
-        → valued a (if i && v then d ∷ rest else rest) ≡ filter (λ d. is_in many logs d.who) (filter (λ d. is_value d.result) (if c then d ∷ visitors a ds else visitors a ds))
+    by : (i : Bool) → test d.who ≡ i → (v : Bool) → is_value d.result ≡ v → (c : Bool) → came_to a d ≡ c → valued a rest ≡ filter (λ d. test d.who) (valued a ds)
+        → valued a (if i && v then d ∷ rest else rest) ≡ filter (λ d. test d.who) (filter (λ d. is_value d.result) (if c then d ∷ visitors a ds else visitors a ds))
     by true p true q true r h = rw (r, q, p) (ap (λ l. d ∷ l) h)
     by true p true q false r h = rw r h
     by true p false q true r h = rw q h
@@ -77,38 +77,42 @@ members_came many logs a (d ∷ ds) = by (is_in many logs d.who) refl (is_value 
     by false p false q true r h = rw q h
     by false p false q false r h = h
 
-all_in : (many : ℕ) (logs : ℕ → List LogRecord) (ds : List Done) → AllByRecursion (λ d. is_in many logs d.who ≡ true) ds → filter (λ d. is_in many logs d.who) ds ≡ ds
-all_in many logs [] h = refl
-all_in many logs (d ∷ ds) h = rw h.0 (ap (λ l. d ∷ l) (all_in many logs ds h.1))
+all_in : (test : Who → Bool) (ds : List Done) → AllByRecursion (λ d. test d.who ≡ true) ds → filter (λ d. test d.who) ds ≡ ds
+all_in test [] h = refl
+all_in test (d ∷ ds) h = rw h.0 (ap (λ l. d ∷ l) (all_in test ds h.1))
 
-none_in : (many : ℕ) (logs : ℕ → List LogRecord) (who : Who) (ds : List Done) → is_in many logs who ≡ false → OfIt who ds → filter (λ d. is_in many logs d.who) ds ≡ []
-none_in many logs who [] e h = refl
-none_in many logs who (d ∷ ds) e h = rw (h.0, e) (none_in many logs who ds e h.1)
+none_in : (test : Who → Bool) (who : Who) (ds : List Done) → test who ≡ false → OfIt who ds → filter (λ d. test d.who) ds ≡ []
+none_in test who [] e h = refl
+none_in test who (d ∷ ds) e h = rw (h.0, e) (none_in test who ds e h.1)
 
-some_in : (many : ℕ) (logs : ℕ → List LogRecord) (who : Who) (ds : List Done) → is_in many logs who ≡ true → OfIt who ds → AllByRecursion (λ d. is_in many logs d.who ≡ true) ds
-some_in many logs who [] e h = tt
-some_in many logs who (d ∷ ds) e h = (rw h.0 e, some_in many logs who ds e h.1)
+some_in : (test : Who → Bool) (who : Who) (ds : List Done) → test who ≡ true → OfIt who ds → AllByRecursion (λ d. test d.who ≡ true) ds
+some_in test who [] e h = tt
+some_in test who (d ∷ ds) e h = (rw h.0 e, some_in test who ds e h.1)
+
+-- on each actor those that pass are a front of those that committed there with a value
+pub front_by : (test : Who → Bool) (D : Who → Type 0) (a : ℕ) (ds : List Done) → ((y : Who) → D y → test y ≡ true) → Split D (valued a ds) → IsFrontOn a (filter (λ d. test d.who && is_value d.result) ds) ds
+front_by test D a ds passes x = by (cases_Bool (test x.who))
+  where
+    ms : List Done
+    ms = filter (λ d. test d.who && is_value d.result) ds
+
+    all_pass : (xs : List Done) → AllByRecursion (λ d. D d.who) xs → AllByRecursion (λ d. test d.who ≡ true) xs
+    all_pass [] q = tt
+    all_pass (d ∷ xs) q = (passes d.who q.0, all_pass xs q.1)
+
+    front : filter (λ d. test d.who) x.front ≡ x.front
+    front = all_in test x.front (all_pass x.front x.durable)
+
+    own : valued a ms ≡ x.front ++ filter (λ d. test d.who) x.last
+    own = members_came test a ds ∙ (ap (filter (λ d. test d.who)) x.splits ∙ (filter_join (λ d. test d.who) x.front x.last ∙ ap (λ l. l ++ filter (λ d. test d.who) x.last) front))
+
+    by : Rattle.std.specs.Prelude.◌⊎◌ (test x.who ≡ true) (test x.who ≡ false) → IsFrontOn a ms ds
+    by (inl e) = ([], x.splits ∙ (ap (λ l. x.front ++ l) (sym (all_in test x.last (some_in test x.who x.last e x.of_it))) ∙ (sym own ∙ sym (join_nil (valued a ms)))))
+    by (inr e) = (x.last, x.splits ∙ ap (λ l. l ++ x.last) (sym (own ∙ (ap (λ l. x.front ++ l) (none_in test x.who x.last e x.of_it) ∙ join_nil x.front))))
 
 -- On each actor the members are a front of those that committed there with a value.
 pub front_at : {C : Type 0} (w : Fixed C) (s : Machine C) (h : History) (left : ℕ → ℕ) (a : ℕ) → IsCut s left → Split (λ y. has_record w s y ≡ true) (valued a h.committed) → IsFrontOn a (members w.text.logs (left_in s left) h) h.committed
-front_at w s h left a c x = by (cases_Bool (is_in w.text.logs logs x.who))
-  where
-    logs : ℕ → List LogRecord
-    logs = left_in s left
-
-    durable_in : (ds : List Done) → AllByRecursion (λ d. has_record w s d.who ≡ true) ds → AllByRecursion (λ d. is_in w.text.logs logs d.who ≡ true) ds
-    durable_in [] q = tt
-    durable_in (d ∷ ds) q = (is_left w s left d.who c q.0, durable_in ds q.1)
-
-    front : filter (λ d. is_in w.text.logs logs d.who) x.front ≡ x.front
-    front = all_in w.text.logs logs x.front (durable_in x.front x.durable)
-
-    own : valued a (members w.text.logs logs h) ≡ x.front ++ filter (λ d. is_in w.text.logs logs d.who) x.last
-    own = members_came w.text.logs logs a h.committed ∙ (ap (filter (λ d. is_in w.text.logs logs d.who)) x.splits ∙ (filter_join (λ d. is_in w.text.logs logs d.who) x.front x.last ∙ ap (λ l. l ++ filter (λ d. is_in w.text.logs logs d.who) x.last) front))
-
-    by : Rattle.std.specs.Prelude.◌⊎◌ (is_in w.text.logs logs x.who ≡ true) (is_in w.text.logs logs x.who ≡ false) → IsFrontOn a (members w.text.logs logs h) h.committed
-    by (inl e) = ([], x.splits ∙ (ap (λ l. x.front ++ l) (sym (all_in w.text.logs logs x.last (some_in w.text.logs logs x.who x.last e x.of_it))) ∙ (sym own ∙ sym (join_nil (valued a (members w.text.logs logs h))))))
-    by (inr e) = (x.last, x.splits ∙ ap (λ l. l ++ x.last) (sym (own ∙ (ap (λ l. x.front ++ l) (none_in w.text.logs logs x.who x.last e x.of_it) ∙ join_nil x.front))))
+front_at w s h left a c x = front_by (is_in w.text.logs (left_in s left)) (λ y. has_record w s y ≡ true) a h.committed (λ y q. is_left w s left y c q) x
 
 -- ---- at every moment
 

@@ -265,7 +265,7 @@ pub record_stays : {C : Type 0} (w : Fixed C) (e : Event) (s : Machine C) (y : W
 record_stays w e s (OfBatch k) q = durable_stays w e s (is_commit k) (k % w.text.logs) q
 record_stays w e s (OfAct t) q = durable_stays w e s (is_act_commit t) (t % w.text.logs) q
 
-gone_weaker : (P Q : Who → Type 0) (rs : List Ran) → ((y : Who) → P y → Q y) → AllGone P rs → AllGone Q rs
+pub gone_weaker : (P Q : Who → Type 0) (rs : List Ran) → ((y : Who) → P y → Q y) → AllGone P rs → AllGone Q rs
 gone_weaker P Q [] k h = tt
 gone_weaker P Q (Stands y c ss ∷ rs) k h = gone_weaker P Q rs k h
 gone_weaker P Q (Gone y ss ∷ rs) k h = (k y h.0, gone_weaker P Q rs k h.1)
@@ -353,20 +353,22 @@ trims_settled k bs q h = by (batch_of k bs) h
     by None h = h
     by (Some b) h = (and_parts (is_settled b.stage) (q b) h).0
 
-gone_before : {C : Type 0} (w : Fixed C) (e : Event) (s : Machine C) (h : History) → IsAllowed w e s → Acts s h → Durable w s h → (a : ℕ) → AllGone (λ y. has_record w s y ≡ true) ((grown w e s h).long a)
+-- what settled and what was sealed with a value has D; so has what is gone
+pub gone_before : {C : Type 0} (w : Fixed C) (D : Who → Type 0) (e : Event) (s : Machine C) (h : History) → IsAllowed w e s → Acts s h → ((k : ℕ) → holds is_settled_batch (batch_of k s.desk.batches) ≡ true → D (OfBatch k)) → ((t : ℕ) → holds is_sealed_act (act_of t s.book.acts) ≡ true → D (OfAct t))
+    → ((a : ℕ) → AllGone D (h.long a)) → (a : ℕ) → AllGone D ((grown w e s h).long a)
 unfolding conditions grown
-gone_before w (Arrive k a) s h ok i g = beside_carried (λ b rs. AllGone (λ y. has_record w s y ≡ true) rs) a _ h.long (λ x. gone_more _ (OfBatch k) (h.long a) x) g.gone
-gone_before w (Ask t a) s h ok i g = beside_carried (λ b rs. AllGone (λ y. has_record w s y ≡ true) rs) a _ h.long (λ x. gone_asks _ t (book.in_the_way t (cell_at s a).entries) (h.long a) x) g.gone
-gone_before w (Run t a) s h ok i g = beside_carried (λ b rs. AllGone (λ y. has_record w s y ≡ true) rs) a _ h.long (λ x. gone_ran _ _ _ (h.long a) x) g.gone
-gone_before w (Complete k a) s h ok i g = beside_carried (λ b rs. AllGone (λ y. has_record w s y ≡ true) rs) a _ h.long (λ x. gone_completed _ k (h.long a) x) g.gone
-gone_before w (Rollback a) s h ok i g = beside_carried (λ b rs. AllGone (λ y. has_record w s y ≡ true) rs) a _ h.long (λ x. gone_staying _ s.book.cascades (h.long a) x) g.gone
-gone_before w (Finish t a) s h ok i g = beside_carried (λ b rs. AllGone (λ y. has_record w s y ≡ true) rs) a _ h.long (λ x. gone_finish (λ y. has_record w s y ≡ true) t (is_undone_act (act_of t s.book.acts)) (h.long a) (λ u. g.sealed t (finishes_sealed s h t i ok.0 u)) x) g.gone
-gone_before w (Trim k a) s h ok i g = beside_carried (λ b rs. AllGone (λ y. has_record w s y ≡ true) rs) a _ h.long (λ x. gone_left (λ y. has_record w s y ≡ true) (OfBatch k) (h.long a) (g.settled k (trims_settled k s.desk.batches _ ok.0)) x) g.gone
-gone_before w e s h ok i g = g.gone
+gone_before w D (Arrive k a) s h ok i settled sealed g = beside_carried (λ b rs. AllGone D rs) a _ h.long (λ x. gone_more _ (OfBatch k) (h.long a) x) g
+gone_before w D (Ask t a) s h ok i settled sealed g = beside_carried (λ b rs. AllGone D rs) a _ h.long (λ x. gone_asks _ t (book.in_the_way t (cell_at s a).entries) (h.long a) x) g
+gone_before w D (Run t a) s h ok i settled sealed g = beside_carried (λ b rs. AllGone D rs) a _ h.long (λ x. gone_ran _ _ _ (h.long a) x) g
+gone_before w D (Complete k a) s h ok i settled sealed g = beside_carried (λ b rs. AllGone D rs) a _ h.long (λ x. gone_completed _ k (h.long a) x) g
+gone_before w D (Rollback a) s h ok i settled sealed g = beside_carried (λ b rs. AllGone D rs) a _ h.long (λ x. gone_staying _ s.book.cascades (h.long a) x) g
+gone_before w D (Finish t a) s h ok i settled sealed g = beside_carried (λ b rs. AllGone D rs) a _ h.long (λ x. gone_finish D t (is_undone_act (act_of t s.book.acts)) (h.long a) (λ u. sealed t (finishes_sealed s h t i ok.0 u)) x) g
+gone_before w D (Trim k a) s h ok i settled sealed g = beside_carried (λ b rs. AllGone D rs) a _ h.long (λ x. gone_left D (OfBatch k) (h.long a) (settled k (trims_settled k s.desk.batches _ ok.0)) x) g
+gone_before w D e s h ok i settled sealed g = g
 
 pub kept : {C : Type 0} (w : Fixed C) (e : Event) (s : Machine C) (h : History) → IsAllowed w e s → Acts s h → AllControls (NoneActed s) s → Durable w s h → Durable w (after w e s) (grown w e s h)
 kept w e s h ok i n g = record {
   settled = λ k q. elim (settled_was w e s k q) [ inl o ↦ record_stays w e s (OfBatch k) (g.settled k o) | inr j ↦ record_stays w e s (OfBatch k) (now_settled w e s k ok j) ];
   sealed = λ t q. elim (sealed_was w e s h t ok i n q) [ inl o ↦ record_stays w e s (OfAct t) (g.sealed t o) | inr j ↦ record_stays w e s (OfAct t) (now_sealed w e s t ok j) ];
-  gone = λ a. gone_weaker (λ y. has_record w s y ≡ true) (λ y. has_record w (after w e s) y ≡ true) ((grown w e s h).long a) (λ y q. record_stays w e s y q) (gone_before w e s h ok i g a);
+  gone = λ a. gone_weaker (λ y. has_record w s y ≡ true) (λ y. has_record w (after w e s) y ≡ true) ((grown w e s h).long a) (λ y q. record_stays w e s y q) (gone_before w (λ y. has_record w s y ≡ true) e s h ok i g.settled g.sealed g.gone a);
 }

@@ -194,7 +194,7 @@ pub record Split (D : Who → Type 0) (ds : List Done) : Type 0 where
   pub durable : AllByRecursion (λ d. D d.who) front
   pub of_it : OfIt who last
 
-split_weaker : (D E : Who → Type 0) (ds : List Done) → ((y : Who) → D y → E y) → Split D ds → Split E ds
+pub split_weaker : (D E : Who → Type 0) (ds : List Done) → ((y : Who) → D y → E y) → Split D ds → Split E ds
 split_weaker D E ds k h = record { front = h.front; last = h.last; who = h.who; splits = h.splits; durable = weaker (λ d. D d.who) (λ d. E d.who) h.front (λ d q. k d.who q) h.durable; of_it = h.of_it }
 
 -- what commits comes behind all others, which are durable by then
@@ -281,18 +281,22 @@ there_kept w e s h ok m c g = g
 
 -- ---- who commits finds all ahead durable
 
-settled_durable : {C : Type 0} (w : Fixed C) (s : Machine C) (h : History) (j : ℕ) (b : Batch) → batch_of j s.desk.batches ≡ Some b → Durable w s h → is_settled b.stage ≡ true → has_record w s (OfBatch j) ≡ true
-settled_durable w s h j b e d q = d.settled j (subst (λ o. holds is_settled_batch o ≡ true) (sym e) q)
+-- what settled has D
+abbrev pub SettledAre : {C : Type 0} → (Who → Type 0) → Machine C → Type 0
+SettledAre D s = (j : ℕ) → holds is_settled_batch (batch_of j s.desk.batches) ≡ true → D (OfBatch j)
+
+settled_is : {C : Type 0} (D : Who → Type 0) (s : Machine C) (j : ℕ) (b : Batch) → batch_of j s.desk.batches ≡ Some b → SettledAre D s → is_settled b.stage ≡ true → D (OfBatch j)
+settled_is D s j b e d q = d j (subst (λ o. holds is_settled_batch o ≡ true) (sym e) q)
 
 some_batch : (o : Option Batch) → is_some o ≡ true → (b : Batch) × (o ≡ Some b)
 some_batch None e = absurd (true≢false (sym e))
 some_batch (Some b) e = (b, refl)
 
 -- a batch that is not above the one that commits
-below_commit : {C : Type 0} (w : Fixed C) (k : ℕ) (s : Machine C) (h : History) → IsAllowed w (Commit k) s → is_kept (OfBatch k) h.kept ≡ false → settling.Settling w s → Known s h → Durable w s h
-    → (j : ℕ) → IsFirm k s.book.cascades (OfBatch j) → is_kept (OfBatch j) h.kept ≡ true → has_record w s (OfBatch j) ≡ true
+below_commit : {C : Type 0} (w : Fixed C) (D : Who → Type 0) (k : ℕ) (s : Machine C) (h : History) → IsAllowed w (Commit k) s → is_kept (OfBatch k) h.kept ≡ false → settling.Settling w s → Known s h → SettledAre D s
+    → (j : ℕ) → IsFirm k s.book.cascades (OfBatch j) → is_kept (OfBatch j) h.kept ≡ true → D (OfBatch j)
 unfolding conditions Known
-below_commit w k s h ok fresh g n d j f e =
+below_commit w D k s h ok fresh g n d j f e =
     let b = some_batch (batch_of j s.desk.batches) (n j e) in
     let v = one_is (λ b. is_open b && is_next_to_commit k s.desk.batches) (batch_of k s.desk.batches) ok.0 in
     let next : is_next_to_commit k s.desk.batches ≡ true = (and_parts (is_open v.0) (is_next_to_commit k s.desk.batches) v.2).1 in
@@ -300,44 +304,45 @@ below_commit w k s h ok fresh g n d j f e =
       | inl q ↦ absurd (true≢false (sym e ∙ subst (λ z. is_kept (OfBatch z) h.kept ≡ false) (same j b.0.bid f.0 (leb-true k b.0.bid q) (eqb-true b.0.bid j (marks.found_bid j b.0 s.desk.batches b.1))) fresh))
       | inr q ↦ elim (or_cases b.0.aborted (is_settled b.0.stage) q) [
         | inl r ↦ absurd (true≢false (sym r ∙ (settling.mark_is w s j b.0 b.1 g ∙ f.1)))
-        | inr r ↦ settled_durable w s h j b.0 b.1 d r
+        | inr r ↦ settled_is D s j b.0 b.1 d r
       ]
     ]
   where
     same : (j i : ℕ) → j ≤ k → k ≤ i → i ≡ j → k ≡ j
     same j i l m e = omega (arith, l, m, e)
 
-below_settled : {C : Type 0} (w : Fixed C) (s : Machine C) (h : History) → settling.Settling w s → Known s h → Durable w s h → (j : ℕ) → IsFirm s.desk.settled s.book.cascades (OfBatch j) → is_kept (OfBatch j) h.kept ≡ true → has_record w s (OfBatch j) ≡ true
+below_settled : {C : Type 0} (w : Fixed C) (D : Who → Type 0) (s : Machine C) (h : History) → settling.Settling w s → Known s h → SettledAre D s → (j : ℕ) → IsFirm s.desk.settled s.book.cascades (OfBatch j) → is_kept (OfBatch j) h.kept ≡ true → D (OfBatch j)
 unfolding Known
-below_settled w s h g n d j f e =
+below_settled w D s h g n d j f e =
     let b = some_batch (batch_of j s.desk.batches) (n j e) in
     elim (or_cases b.0.aborted (is_settled b.0.stage) (settling.over_settled w s j b.0 b.1 g f.0)) [
       | inl r ↦ absurd (true≢false (sym r ∙ (settling.mark_is w s j b.0 b.1 g ∙ f.1)))
-      | inr r ↦ settled_durable w s h j b.0 b.1 d r
+      | inr r ↦ settled_is D s j b.0 b.1 d r
     ]
 
-pub split_kept : {C : Type 0} (w : Fixed C) (Of : Tx → C → Type 0) (finish : C → List State → Alone) (e : Event) (s : Machine C) (h : History) → IsAllowed w e s → chain.Assumed e s h → AllGood w Of finish s h → Durable w s h → Fronts w s h
-    → (a : ℕ) → Split (λ y. has_record w s y ≡ true) (valued a (grown w e s h).committed)
+-- of each D that what settled has, and what is gone
+pub split_kept : {C : Type 0} (w : Fixed C) (Of : Tx → C → Type 0) (finish : C → List State → Alone) (D : Who → Type 0) (e : Event) (s : Machine C) (h : History) → IsAllowed w e s → chain.Assumed e s h → AllGood w Of finish s h → SettledAre D s → ((a : ℕ) → AllGone D (h.long a))
+    → ((a : ℕ) → ThereAt h.kept h.committed a (h.long a)) → ((a : ℕ) → Split D (valued a h.committed)) → (a : ℕ) → Split D (valued a (grown w e s h).committed)
 unfolding chain.Assumed Committed Tracked Placed Numbers AllBehind conditions grown
-split_kept w Of finish (Commit k) s h ok m g d f = λ a. subst (λ o. Split (λ y. has_record w s y ≡ true) (valued a (h.committed ++ done_batch k h o))) (sym m.1.is_it)
-    (split_more (λ y. has_record w s y ≡ true) a (OfBatch k) h.kept (h.long a) h.committed (map (done_pact k h) m.0.pacts) (batch_of_it k h m.0.pacts) (batch_comes k a h m.0.pacts)
-    (λ t q. ahead_durable (λ y. has_record w s y ≡ true) h.kept k t s.book.cascades (OfBatch k) (h.long a) (below_commit w k s h ok m.1.fresh g.good.settling g.good.known d) m.1.fresh
+split_kept w Of finish D (Commit k) s h ok m g d gone there split = λ a. subst (λ o. Split D (valued a (h.committed ++ done_batch k h o))) (sym m.1.is_it)
+    (split_more D a (OfBatch k) h.kept (h.long a) h.committed (map (done_pact k h) m.0.pacts) (batch_of_it k h m.0.pacts) (batch_comes k a h m.0.pacts)
+    (λ t q. ahead_durable D h.kept k t s.book.cascades (OfBatch k) (h.long a) (below_commit w D k s h ok m.1.fresh g.good.settling g.good.known d) m.1.fresh
     (g.good.committed a).front (g.good.tracked a).in_order (subst (AllByRecursion CompleteBatch) (g.good.tracked a).stands (complete_keys (cell_at s a).entries))
-    (firm_up_to _ k s.book.cascades _ _ k (h.long a) (omega arith) (sound k ok g) (g.good.placed a).fit (g.good.placed a).ascends) (d.gone a) q)
-    (f.there a) (f.split a))
+    (firm_up_to _ k s.book.cascades _ _ k (h.long a) (omega arith) (sound k ok g) (g.good.placed a).fit (g.good.placed a).ascends) (gone a) q)
+    (there a) (split a))
   where
     sound : (k : ℕ) → IsAllowed w (Commit k) s → AllGood w Of finish s h → is_aborted k s.book.cascades ≡ false
     sound k ok g =
         let v = one_is (λ b. is_open b && is_next_to_commit k s.desk.batches) (batch_of k s.desk.batches) ok.0 in
         let o = and_parts (is_formed v.0.stage) (not v.0.aborted) (and_parts (is_open v.0) (is_next_to_commit k s.desk.batches) v.2).0 in
         sym (settling.mark_is w s k v.0 v.1 g.good.settling) ∙ not-true v.0.aborted o.1
-split_kept w Of finish (Decide t) s h ok m g d f = λ a. subst (λ o. Split (λ y. has_record w s y ≡ true) (valued a (h.committed ++ done_act s.book.next_c h o))) (sym m.1.is_it)
-    (split_more (λ y. has_record w s y ≡ true) a (OfAct m.0.tid) h.kept (h.long a) h.committed (act_done s.book.next_c h m.0 ∷ []) (refl, tt) (act_comes s.book.next_c a h m.0)
-    (λ u q. ahead_durable (λ y. has_record w s y ≡ true) h.kept s.desk.settled u s.book.cascades (OfAct m.0.tid) (h.long a) (below_settled w s h g.good.settling g.good.known d)
+split_kept w Of finish D (Decide t) s h ok m g d gone there split = λ a. subst (λ o. Split D (valued a (h.committed ++ done_act s.book.next_c h o))) (sym m.1.is_it)
+    (split_more D a (OfAct m.0.tid) h.kept (h.long a) h.committed (act_done s.book.next_c h m.0 ∷ []) (refl, tt) (act_comes s.book.next_c a h m.0)
+    (λ u q. ahead_durable D h.kept s.desk.settled u s.book.cascades (OfAct m.0.tid) (h.long a) (below_settled w D s h g.good.settling g.good.known d)
     (subst (λ z. is_kept (OfAct z) h.kept ≡ false) (sym m.1.tid) m.1.fresh)
     (g.good.committed a).front (g.good.tracked a).in_order (subst (AllByRecursion CompleteBatch) (g.good.tracked a).stands (complete_keys (cell_at s a).entries))
-    (subst (λ z. FirmUpTo s.desk.settled s.book.cascades (OfAct z) (h.long a)) (sym m.1.tid) (firm_ahead s.book.acts s.book.cascades s.desk.settled 0 false t m.0 (h.long a) m.1.is_it live low (g.good.numbers a) (g.behind a))) (d.gone a) q)
-    (f.there a) (f.split a))
+    (subst (λ z. FirmUpTo s.desk.settled s.book.cascades (OfAct z) (h.long a)) (sym m.1.tid) (firm_ahead s.book.acts s.book.cascades s.desk.settled 0 false t m.0 (h.long a) m.1.is_it live low (g.good.numbers a) (g.behind a))) (gone a) q)
+    (there a) (split a))
   where
     live : is_doomed m.0.status ≡ false
     live = by m.0.status (and_parts (is_some m.0.result) (is_live_status m.0.status) (subst (λ o. holds (λ x. is_some x.result && is_live_status x.status) o ≡ true) m.1.is_it ok.0)).1
@@ -350,10 +355,10 @@ split_kept w Of finish (Decide t) s h ok m g d f = λ a. subst (λ o. Split (λ 
 
     low : m.0.m ≤ s.desk.settled
     low = omega (arith, leb-true m.0.m (max s.desk.settled (base w.text)) (subst (λ o. holds (λ x. nat_le x.m (max s.desk.settled (base w.text))) o ≡ true) m.1.is_it ok.1.1.0), g.sizes.based)
-split_kept w Of finish e s h ok m g d f = f.split
+split_kept w Of finish D e s h ok m g d gone there split = split
 
 pub kept : {C : Type 0} (w : Fixed C) (Of : Tx → C → Type 0) (finish : C → List State → Alone) (e : Event) (s : Machine C) (h : History) → IsAllowed w e s → chain.Assumed e s h → AllGood w Of finish s h → Durable w s h → Fronts w s h → Fronts w (after w e s) (grown w e s h)
 kept w Of finish e s h ok m g d f = record {
   there = there_kept w e s h ok m g.good.committed f.there;
-  split = λ a. split_weaker (λ y. has_record w s y ≡ true) (λ y. has_record w (after w e s) y ≡ true) (valued a (grown w e s h).committed) (λ y q. record_stays w e s y q) (split_kept w Of finish e s h ok m g d f a);
+  split = λ a. split_weaker (λ y. has_record w s y ≡ true) (λ y. has_record w (after w e s) y ≡ true) (valued a (grown w e s h).committed) (λ y q. record_stays w e s y q) (split_kept w Of finish (λ y. has_record w s y ≡ true) e s h ok m g d.settled d.gone f.there f.split a);
 }

@@ -8,7 +8,7 @@ use Rattle.snap_base.specs.declared.transactions.Tx.{Tx}
 use Rattle.protocol.specs.Fixed.{Fixed, IsText}
 use Rattle.protocol.specs.Facts.{Alone}
 use Rattle.protocol.specs.Events.{Event, Commit, Decide}
-use Rattle.protocol.specs.Parts.{OfBatch, OfAct, Machine}
+use Rattle.protocol.specs.Parts.{Who, OfBatch, OfAct, Machine}
 use Rattle.protocol.specs.Words.{holds, is_value, is_live_status}
 use Rattle.protocol.specs.Conditions.{IsAllowed, conditions}
 use Rattle.protocol.specs.Runs.{opening, IsRun, reached}
@@ -16,7 +16,7 @@ use Rattle.protocol.specs.History.{Done, History, no_history, history}
 use Rattle.protocol.specs.Chains.{chain, Precedes, IsClosed}
 use Rattle.protocol_laws.specs.Linked.{came_to, visitors}
 use Rattle.protocol.specs.Moments.{Moment, IsLeft, left_in}
-use Rattle.protocol_records.specs.Crash.{HasMember, members, valued, CrashStands, AtEveryMoment}
+use Rattle.protocol_records.specs.Crash.{HasMember, is_in, members, valued, IsFrontOn, CrashStands, AtEveryMoment}
 use Rattle.protocol_laws.proofs.first.Lists.{all_back, all_filter, all_mid, filter_join, join_assoc}
 use Rattle.protocol_laws.proofs.machine.Good.{Given, for_chain}
 use Rattle.protocol_laws.proofs.machine.AllGood.{owes, along_good, none_allowed}
@@ -29,7 +29,7 @@ use Rattle.protocol_theorems.proofs.order.LastLaw.{Whole, whole}
 use Rattle.protocol_theorems.proofs.order.LastLaw as last
 use Rattle.protocol_theorems.proofs.order.OrderLaw.{committed_grows}
 use Rattle.protocol_records.proofs.crash.FrontsKept.{valued_join}
-use Rattle.protocol_records.proofs.crash.CrashImplied.{moment_is_cut, front_runs, members_valued}
+use Rattle.protocol_records.proofs.crash.CrashImplied.{moment_is_cut, front_runs, are_valued}
 use Rattle.protocol_records.proofs.crash.CrashSerial.{recovers, front_at, members_recover}
 use Rattle.protocol_records.proofs.crash.CrashClosed.{goes_on}
 use Rattle.protocol_records.proofs.crash.Acknowledged.{acknowledged}
@@ -115,10 +115,11 @@ both w Of finish es v run = along_good w Of finish (Both w Of finish) v
 
 -- ---- closed
 
--- With each member all that the whole run places before it, and that committed with a value.
-pub members_closed : {C : Type 0} (w : Fixed C) (finish : C → List State → Alone) (es : List Event) (m : Moment w es) (left : ℕ → ℕ) → HasFacts w finish → IsText w.text → IsRun w es → IsLeft w es m left
-    → 1 ≤ length w.text.opening.states → IsClosed (λ t. HasMember t (members w.text.logs (left_in (reached w m.events) left) (history w m.events))) (history w es)
-members_closed {C} w finish es m left f text run l some t u mine before value =
+-- With each of them all that the whole run places before it, and that committed with a value.
+pub parts_closed : {C : Type 0} (w : Fixed C) (finish : C → List State → Alone) (es events later : List Event) (test : Who → Bool) → es ≡ events ++ later → HasFacts w finish → IsText w.text → IsRun w es → 1 ≤ length w.text.opening.states
+    → ((a : ℕ) → IsFrontOn a (filter (λ d. test d.who && is_value d.result) (history w events).committed) (history w events).committed)
+    → IsClosed (λ t. HasMember t (filter (λ d. test d.who && is_value d.result) (history w events).committed)) (history w es)
+parts_closed {C} w finish es events later test splits f text run some fronts t u mine before value =
     has_member t ms (any_filter (λ d. d.tid == t) (came_to a) ms (any_filter (λ d. d.tid == t) (λ d. is_value d.result) (visitors a ms)
     (in_front t u (vals p.front) (vals p.between) (vals p.rest) (valued a ms) rest p.first p.second parted differ p.is_first p.is_second there)))
   where
@@ -128,14 +129,11 @@ members_closed {C} w finish es m left f text run l some t u mine before value =
     v : Given w Of finish
     v = record { text = text; actors = some; facts = f }
 
-    early : IsRun w m.events
-    early = front_runs w m.events m.later (subst (λ xs. IsRun w xs) m.splits run)
-
     h : History
     h = history w es
 
     ms : List Done
-    ms = members w.text.logs (left_in (reached w m.events) left) (history w m.events)
+    ms = filter (λ d. test d.who && is_value d.result) (history w events).committed
 
     a : ℕ
     a = before.0
@@ -149,20 +147,20 @@ members_closed {C} w finish es m left f text run l some t u mine before value =
     end : Both w Of finish (reached w es) h
     end = both w Of finish es v run
 
-    more : (new : List Done) × (h.committed ≡ (history w m.events).committed ++ new)
-    more = let g = committed_grows w m.later (reached w m.events) (history w m.events) in (g.0, ap (λ xs. (history w xs).committed) m.splits ∙ (ap (λ z. z.committed) (goes_on w m.events m.later (opening w) no_history) ∙ g.1))
+    more : (new : List Done) × (h.committed ≡ (history w events).committed ++ new)
+    more = let g = committed_grows w later (reached w events) (history w events) in (g.0, ap (λ xs. (history w xs).committed) splits ∙ (ap (λ z. z.committed) (goes_on w events later (opening w) no_history) ∙ g.1))
 
     along : chain a h ≡ visitors a h.committed
     along = (end.whole.ordered.chained.chains a).chain
 
-    first_front : (r : List Done) × (valued a (history w m.events).committed ≡ valued a ms ++ r)
-    first_front = front_at w (reached w m.events) (history w m.events) left a (moment_is_cut w es m left run l) ((recovers w Of finish m.events v early).fronts.split a)
+    first_front : (r : List Done) × (valued a (history w events).committed ≡ valued a ms ++ r)
+    first_front = fronts a
 
     rest : List Done
     rest = first_front.0 ++ valued a more.0
 
     joined : valued a h.committed ≡ valued a ms ++ rest
-    joined = ap (valued a) more.1 ∙ (valued_join a (history w m.events).committed more.0 ∙ (ap (λ z. z ++ valued a more.0) first_front.1 ∙ join_assoc (valued a ms) first_front.0 (valued a more.0)))
+    joined = ap (valued a) more.1 ∙ (valued_join a (history w events).committed more.0 ∙ (ap (λ z. z ++ valued a more.0) first_front.1 ∙ join_assoc (valued a ms) first_front.0 (valued a more.0)))
 
     differ : TidsDiffer (valued a ms ++ rest)
     differ = subst TidsDiffer joined (differ_filter (λ d. is_value d.result) (visitors a h.committed) (differ_filter (came_to a) h.committed end.owned.differ))
@@ -193,12 +191,12 @@ members_closed {C} w finish es m left f text run l some t u mine before value =
     same : mine.done ≡ p.second
     same =
         let all = of_second (λ d. AllByRecursion (λ e. e.tid ≡ d.tid → e ≡ d) h.committed) unique in
-        let early_ones = front_all (λ e. e.tid ≡ p.second.tid → e ≡ p.second) (history w m.events).committed more.0 (subst (AllByRecursion (λ e. e.tid ≡ p.second.tid → e ≡ p.second)) more.1 all) in
-        let one = all_mid (λ e. e.tid ≡ p.second.tid → e ≡ p.second) mine.done mine.front mine.rest (subst (AllByRecursion (λ e. e.tid ≡ p.second.tid → e ≡ p.second)) mine.splits (all_filter (λ e. e.tid ≡ p.second.tid → e ≡ p.second) _ (history w m.events).committed early_ones)) in
+        let early_ones = front_all (λ e. e.tid ≡ p.second.tid → e ≡ p.second) (history w events).committed more.0 (subst (AllByRecursion (λ e. e.tid ≡ p.second.tid → e ≡ p.second)) more.1 all) in
+        let one = all_mid (λ e. e.tid ≡ p.second.tid → e ≡ p.second) mine.done mine.front mine.rest (subst (AllByRecursion (λ e. e.tid ≡ p.second.tid → e ≡ p.second)) mine.splits (all_filter (λ e. e.tid ≡ p.second.tid → e ≡ p.second) _ (history w events).committed early_ones)) in
         one (mine.is_it ∙ sym p.is_second)
 
     second_value : is_value p.second.result ≡ true
-    second_value = ap (λ z. is_value z.result) (sym same) ∙ all_mid (λ d. is_value d.result ≡ true) mine.done mine.front mine.rest (subst (AllByRecursion (λ d. is_value d.result ≡ true)) mine.splits (members_valued w.text.logs (left_in (reached w m.events) left) (history w m.events).committed))
+    second_value = ap (λ z. is_value z.result) (sym same) ∙ all_mid (λ d. is_value d.result ≡ true) mine.done mine.front mine.rest (subst (AllByRecursion (λ d. is_value d.result ≡ true)) mine.splits (are_valued test (history w events).committed))
 
     second_came : came_to a p.second ≡ true
     second_came = all_mid (λ d. came_to a d ≡ true) p.second p.between p.rest ((all_back (λ d. came_to a d ≡ true) p.front (p.first ∷ (p.between ++ p.second ∷ p.rest)) (subst (AllByRecursion (λ d. came_to a d ≡ true)) (sym along ∙ p.splits) (all_tested (came_to a) h.committed))).1)
@@ -216,6 +214,14 @@ members_closed {C} w finish es m left f text run l some t u mine before value =
         by e c =
             let own : valued a (mine.done ∷ mine.rest) ≡ mine.done ∷ valued a mine.rest = rw (ap (came_to a) same ∙ c, ap (λ z. is_value z.result) same ∙ e) refl in
             subst (λ z. list_any (λ d. d.tid == u) z ≡ true) (sym (valued_join a mine.front (mine.done ∷ mine.rest) ∙ ap (λ z. valued a mine.front ++ z) own)) (any_split (λ d. d.tid == u) (valued a mine.front) mine.done (valued a mine.rest) (eq-eqb mine.done.tid u mine.is_it))
+
+-- With each member all that the whole run places before it, and that committed with a value.
+pub members_closed : {C : Type 0} (w : Fixed C) (finish : C → List State → Alone) (es : List Event) (m : Moment w es) (left : ℕ → ℕ) → HasFacts w finish → IsText w.text → IsRun w es → IsLeft w es m left
+    → 1 ≤ length w.text.opening.states → IsClosed (λ t. HasMember t (members w.text.logs (left_in (reached w m.events) left) (history w m.events))) (history w es)
+members_closed w finish es m left f text run l some =
+    let early = front_runs w m.events m.later (subst (λ xs. IsRun w xs) m.splits run) in
+    parts_closed w finish es m.events m.later (is_in w.text.logs (left_in (reached w m.events) left)) m.splits f text run some
+    (λ a. front_at w (reached w m.events) (history w m.events) left a (moment_is_cut w es m left run l) ((recovers w (IsRest w.code (IsTxIn w.text)) finish m.events (record { text = text; actors = some; facts = f }) early).fronts.split a))
 
 -- ---- what holds of a crash
 

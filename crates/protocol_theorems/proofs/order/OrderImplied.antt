@@ -121,6 +121,7 @@ linked_sorted w finish s h f = λ a k. sorted_links a (state_in w.text.opening.s
 pub order_stands : {C : Type 0} (w : Fixed C) (finish : C → List State → Alone) (s : Machine C) (h : History) → OrderFacts w finish s h → OrderStands w finish s h
 order_stands w finish s h f = record {
   serial = serial_results w finish (by_place h.committed) w.text.opening.states refl (explained_sorted w finish s h f) (linked_sorted w finish s h f);
+  explained = f.explained;
   rise = rises_sorted h.committed f.differ;
   chains_rise = λ a k. subst (λ ds. PlacesRise ds) (sym (f.chains a k)) (f.rise a k);
   chains_link = λ a k. subst (λ ds. StatesLink a (state_in w.text.opening.states a) ds) (sym (f.chains a k)) (links_visitors a (state_in w.text.opening.states a) h.committed (f.linked a k));

@@ -442,6 +442,27 @@ taken_all w k s h o g x e l j q =
     not_less : (j k : ℕ) → k ≤ j → nat_lt j k ≡ false
     not_less j k l = false_from_ne_true (nat_lt j k) (λ e. omega (arith, l, ltb-true j k e))
 
+-- a batch stands behind the ACTs there, and who stands between batches is not given up yet
+pub arrived_least : {C : Type 0} (w : Fixed C) (k a : ℕ) (s : Machine C) (h : History) → IsAllowed w (Arrive k a) s → AfterWith w s h → AfterSets s h
+    → Leasts s.book.cascades (with_at a (h.long a ++ not_run (OfBatch k) ∷ []) h.long) (behind_too k (book.tids_on (cell_at s a).entries) h.behind) (map (book.lowered k (book.tids_on (cell_at s a).entries)) s.book.acts)
+unfolding AfterSets TidsAscend Turned conditions
+arrived_least w k a s h ok q g =
+    let long' = with_at a (h.long a ++ not_run (OfBatch k) ∷ []) h.long in
+    let tids = book.tids_on (cell_at s a).entries in
+    least_arrives s.book.cascades long' h.behind k tids s.book.acts (not-true (is_aborted k s.book.cascades) ok.1.0) (λ t i. (a, rw (eq-eqb a a refl) (ahead_placed t k (h.long a) (cell_at s a).entries (q.beside.turned a) i)))
+    (least_long s.book.cascades h.long long' h.behind 0 s.ring.next_tid s.book.acts q.tids (λ x e l j n b i. stays_at x.tid j a (h.long a ++ not_run (OfBatch k) ∷ []) h.long (ahead_join x.tid j (h.long a) (not_run (OfBatch k) ∷ [])) b i) g)
+
+-- an ACT asks, and nobody is in its way
+pub asked_least : {C : Type 0} (w : Fixed C) (t a : ℕ) (s : Machine C) (h : History) → AfterWith w s h → AfterSets s h
+    → Leasts s.book.cascades (with_at a (h.long a ++ map not_run (asks t (book.in_the_way t (cell_at s a).entries))) h.long) h.behind (raised (s.book.pairs ++ book.new_pairs t a (book.met t (cell_at s a).entries) s.book.acts) (book.changed_act t (book.joins a (max (cell_at s a).last (cell_at s a).floor)) s.book.acts))
+unfolding AfterSets TidsAscend
+asked_least w t a s h q g =
+    let new = h.long a ++ map not_run (asks t (book.in_the_way t (cell_at s a).entries)) in
+    let long' = with_at a new h.long in
+    least_raised s.book.cascades long' h.behind (s.book.pairs ++ book.new_pairs t a (book.met t (cell_at s a).entries) s.book.acts) (book.changed_act t (book.joins a (max (cell_at s a).last (cell_at s a).floor)) s.book.acts)
+    (least_changed s.book.cascades long' h.behind t (book.joins a (max (cell_at s a).last (cell_at s a).floor)) s.book.acts (λ y. record { tid = refl; n = refl; live = λ d. d })
+    (least_long s.book.cascades h.long long' h.behind 0 s.ring.next_tid s.book.acts q.tids (λ x e l j n b i. stays_at x.tid j a new h.long (ask_ahead x.tid j t (book.in_the_way t (cell_at s a).entries) (h.long a)) b i) g))
+
 pub after_kept : {C : Type 0} (w : Fixed C) (e : Event) (s : Machine C) (h : History) → IsAllowed w e s → AfterWith w s h → AfterSets s h → AfterSets (after w e s) (grown w e s h)
 unfolding AfterSets TidsAscend Placed Turned conditions after grown
 after_kept w (Admit t) s h ok k g =
@@ -449,11 +470,8 @@ after_kept w (Admit t) s h ok k g =
     all_join (IsLeast s.book.cascades h.long (with_at t [] h.behind)) s.book.acts _ (others_least s.book.cascades h.long h.behind t 0 [] s.book.acts (subst (λ z. Ascend 0 z (map (λ x. x.tid) s.book.acts)) (sym i) k.tids) g)
     ((λ l. (ap least_in (sym (at_it t [] h.behind)), subst (AllByRecursion (StandsBehind s.book.cascades h.long t)) (sym (at_it t [] h.behind)) tt)), tt)
 after_kept w (Arrive k a) s h ok q g =
-    let long' = with_at a (h.long a ++ not_run (OfBatch k) ∷ []) h.long in
-    let tids = book.tids_on (cell_at s a).entries in
-    least_map s.book.cascades long' (behind_too k tids h.behind) (crossed_out a) (map (book.lowered k tids) s.book.acts) (λ x. record { tid = refl; n = refl; live = live_if (is_crossed x) _ x.status })
-    (least_arrives s.book.cascades long' h.behind k tids s.book.acts (not-true (is_aborted k s.book.cascades) ok.1.0) (λ t i. (a, rw (eq-eqb a a refl) (ahead_placed t k (h.long a) (cell_at s a).entries (q.beside.turned a) i)))
-    (least_long s.book.cascades h.long long' h.behind 0 s.ring.next_tid s.book.acts q.tids (λ x e l j n b i. stays_at x.tid j a (h.long a ++ not_run (OfBatch k) ∷ []) h.long (ahead_join x.tid j (h.long a) (not_run (OfBatch k) ∷ [])) b i) g))
+    least_map s.book.cascades (with_at a (h.long a ++ not_run (OfBatch k) ∷ []) h.long) (behind_too k (book.tids_on (cell_at s a).entries) h.behind) (crossed_out a) (map (book.lowered k (book.tids_on (cell_at s a).entries)) s.book.acts) (λ x. record { tid = refl; n = refl; live = live_if (is_crossed x) _ x.status })
+    (arrived_least w k a s h ok q g)
 after_kept w (Ask t a) s h ok q g =
     let new = h.long a ++ map not_run (asks t (book.in_the_way t (cell_at s a).entries)) in
     least_asked s.book.cascades (with_at a new h.long) h.behind t a (book.in_the_way t (cell_at s a).entries) (book.met t (cell_at s a).entries) (cell_at s a) s.book

@@ -51,7 +51,7 @@ pub record Less (x y : Act) : Type 0 where
 less_is : (b : ℕ → List ℕ) (x y : Act) → Less x y → IsGreatest b x → IsGreatest b y
 less_is b x y k h = λ d. k.m ∙ (h (k.doomed d) ∙ ap (λ z. greatest (b z)) (sym k.tid))
 
-mapped : (b : ℕ → List ℕ) (f : Act → Act) (xs : List Act) → ((x : Act) → Less x (f x)) → AllGreatest b xs → AllGreatest b (map f xs)
+pub mapped : (b : ℕ → List ℕ) (f : Act → Act) (xs : List Act) → ((x : Act) → Less x (f x)) → AllGreatest b xs → AllGreatest b (map f xs)
 mapped b f xs k h = all_map (IsGreatest b) (IsGreatest b) f xs (λ x i. less_is b x (f x) (k x) i) h
 
 pub if_less : (v : Bool) (f : Act → Act) (x : Act) → Less x (f x) → Less x (book.change_if v f x)
@@ -103,7 +103,7 @@ find_self low high (x ∷ xs) a Q k = (k x (rw (eq-eqb x.tid x.tid refl) refl), 
     after_all low high xs a y e = found.further low high y.tid xs y a e
 
 -- each pair is one of them
-self_pairs : (ps qs : List Pair) → ((t u : ℕ) → stands_behind qs t u ≡ true → stands_behind ps t u ≡ true) → AllByRecursion (λ p. stands_behind ps p.behind p.ahead ≡ true) qs
+pub self_pairs : (ps qs : List Pair) → ((t u : ℕ) → stands_behind qs t u ≡ true → stands_behind ps t u ≡ true) → AllByRecursion (λ p. stands_behind ps p.behind p.ahead ≡ true) qs
 self_pairs ps [] k = tt
 self_pairs ps (p ∷ qs) k = (k p.behind p.ahead (or_left ((p.behind == p.behind) && (p.ahead == p.ahead)) (stands_behind qs p.behind p.ahead) (same_pair p)), self_pairs ps qs (λ t u q. k t u (or_right ((p.behind == t) && (p.ahead == u)) (stands_behind qs t u) q)))
 
@@ -276,12 +276,13 @@ pub record AskedOn (first : ℕ) (acts : List Act) (last trimmed floor : ℕ) (l
   pub lasts : LastIs last trimmed long
   pub floors : FloorIs first acts floor left
 
-asked : {C : Type 0} (first t a : ℕ) (s : Machine C) (h : History) → holds (λ x. is_live_status x.status) (act_of t s.book.acts) ≡ true → AskedOn first s.book.acts (cell_at s a).last (cell_at s a).last_trimmed (cell_at s a).floor (h.long a) (h.left_sealed a)
+-- before who stands between batches is given up
+pub asked_raised : {C : Type 0} (first t a : ℕ) (s : Machine C) (h : History) → holds (λ x. is_live_status x.status) (act_of t s.book.acts) ≡ true → AskedOn first s.book.acts (cell_at s a).last (cell_at s a).last_trimmed (cell_at s a).floor (h.long a) (h.left_sealed a)
     → AllByRecursion (λ x. first ≤ x.m) s.book.acts → TidsAscend s → AllByRecursion IsOlder (s.book.pairs ++ book.new_pairs t a (book.met t (cell_at s a).entries) s.book.acts) → AllIn s.book.acts (s.book.pairs ++ book.new_pairs t a (book.met t (cell_at s a).entries) s.book.acts)
-    → AllByRecursion (NoneAhead s.book.acts) s.book.pairs → h.gains ≡ carrying s.book.acts s.book.pairs → AllGreatest h.before s.book.acts → AllGreatest (asked_before true t a s h) (book.asked_acts None (book.met t (cell_at s a).entries) t a (max (cell_at s a).last (cell_at s a).floor) s.book)
+    → AllByRecursion (NoneAhead s.book.acts) s.book.pairs → h.gains ≡ carrying s.book.acts s.book.pairs → AllGreatest h.before s.book.acts
+    → AllGreatest (asked_before true t a s h) (raised (s.book.pairs ++ book.new_pairs t a (book.met t (cell_at s a).entries) s.book.acts) (book.changed_act t (book.joins a (max (cell_at s a).last (cell_at s a).floor)) s.book.acts))
 unfolding TidsAscend
-asked {C} first t a s h live on based asc older ins none gs sets =
-    mapped (asked_before true t a s h) (crossed_out a) (raised ps joined) (λ x. record { tid = refl; m = refl; doomed = dooms (is_crossed x) _ x.status })
+asked_raised {C} first t a s h live on based asc older ins none gs sets =
     (subst (λ z. AllGreatest z (raised ps joined)) (spread_joined (asked_gains t a s h) t a m acts b)
     (subst (λ z. AllGreatest (spread_sets z joined b) (raised ps joined)) same
     (SpreadSets.spread_raised ps (carrying joined ps) 0 s.ring.next_tid b joined asc'
@@ -370,13 +371,19 @@ pub record SetsWith {C : Type 0} (w : Fixed C) (e : Event) (s : Machine C) (h : 
   pub lasts : Lasts s h
   pub floors : Floors w s h
 
+-- nobody is in its way, and who stands between batches is not given up yet
+pub asks_raised : {C : Type 0} (w : Fixed C) (t a : ℕ) (s : Machine C) (h : History) → holds (λ x. is_live_status x.status) (act_of t s.book.acts) ≡ true → SetsWith w (Ask t a) s h → AllGreatest h.before s.book.acts → book.in_the_way t (cell_at s a).entries ≡ None
+    → AllGreatest (asked_before true t a s h) (raised (s.book.pairs ++ book.new_pairs t a (book.met t (cell_at s a).entries) s.book.acts) (book.changed_act t (book.joins a (max (cell_at s a).last (cell_at s a).floor)) s.book.acts))
+unfolding GainsAre PairsIn Tights Lasts Floors after
+asks_raised w t a s h live k g e = asked_raised (base w.text) t a s h live (record { tight = k.tights a; lasts = k.lasts a; floors = k.floors a }) (found.stand w s k.tids k.pairs_stand).based k.tids
+    (subst (λ o. AllByRecursion IsOlder (book.asked_pairs o (book.met t (cell_at s a).entries) t a s.book)) e (found.stand w (after w (Ask t a) s) k.tids_then k.pairs_then).older)
+    (all_join (λ p. IsIn s.book.acts p.ahead) s.book.pairs _ k.pairs_in (k.new_in t a)) k.none_ahead k.gains g
+
 asks : {C : Type 0} (w : Fixed C) (t a : ℕ) (s : Machine C) (h : History) → holds (λ x. is_live_status x.status) (act_of t s.book.acts) ≡ true → SetsWith w (Ask t a) s h → AllGreatest h.before s.book.acts → (o : Option ℕ) → book.in_the_way t (cell_at s a).entries ≡ o
     → AllGreatest (asked_before (is_none o) t a s h) (book.asked_acts o (book.met t (cell_at s a).entries) t a (max (cell_at s a).last (cell_at s a).floor) s.book)
 unfolding GainsAre PairsIn Tights Lasts Floors after
 asks w t a s h live k g (Some x) e = changed h.before t (book.doomed_by (Rattle.protocol.specs.Verdicts.died a x t)) s.book.acts (λ x. record { tid = refl; m = refl; doomed = dooms (is_live_status x.status) _ x.status }) g
-asks w t a s h live k g None e = asked (base w.text) t a s h live (record { tight = k.tights a; lasts = k.lasts a; floors = k.floors a }) (found.stand w s k.tids k.pairs_stand).based k.tids
-    (subst (λ o. AllByRecursion IsOlder (book.asked_pairs o (book.met t (cell_at s a).entries) t a s.book)) e (found.stand w (after w (Ask t a) s) k.tids_then k.pairs_then).older)
-    (all_join (λ p. IsIn s.book.acts p.ahead) s.book.pairs _ k.pairs_in (k.new_in t a)) k.none_ahead k.gains g
+asks w t a s h live k g None e = mapped (asked_before true t a s h) (crossed_out a) (raised (s.book.pairs ++ book.new_pairs t a (book.met t (cell_at s a).entries) s.book.acts) (book.changed_act t (book.joins a (max (cell_at s a).last (cell_at s a).floor)) s.book.acts)) (λ x. record { tid = refl; m = refl; doomed = dooms (is_crossed x) _ x.status }) (asks_raised w t a s h live k g e)
 
 pub sets_kept : {C : Type 0} (w : Fixed C) (e : Event) (s : Machine C) (h : History) → IsAllowed w e s → shows.Owed e s h → SetsWith w e s h → Sets s h → Sets (after w e s) (grown w e s h)
 unfolding Sets shows.Owed TidsAscend conditions after grown

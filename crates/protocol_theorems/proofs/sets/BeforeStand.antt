@@ -1,6 +1,7 @@
 -- Over every run: the before number of an ACT that is not doomed is the greatest of its set.
+use Rattle.std.specs.List.{AllByRecursion}
 use Rattle.std.specs.Prelude.{◌≡◌, refl, ℕ, ◌==◌, not, true, false, ◌&&◌, Option, Some, None, is_some, List}
-use Rattle.std.proofs.Common.{sym, inl, inr, ◌∙◌}
+use Rattle.std.proofs.Common.{sym, subst, inl, inr, ◌∙◌}
 use Rattle.std.proofs.lemmas.Bool.{and_parts, true≢false}
 use Rattle.snap_base.specs.declared.transactions.State.{State}
 use Rattle.snap_base.specs.declared.transactions.Tx.{Tx}
@@ -13,6 +14,8 @@ use Rattle.protocol.specs.Conditions.{IsAllowed, conditions}
 use Rattle.protocol.specs.Effects.{after, cell_at}
 use Rattle.protocol.specs.Runs.{opening, IsRun, reached}
 use Rattle.protocol.specs.History.{History, no_history, history, grown}
+use Rattle.protocol_laws.specs.Highs.{doomed_at}
+use Rattle.protocol_theorems.specs.Sets.{HoldsAll}
 use Rattle.protocol_laws.proofs.machine.BatchesCommit as commits
 use Rattle.protocol_laws.proofs.machine.BeforesKept.{Numbers}
 use Rattle.protocol_laws.proofs.machine.TurnsKept.{Turned}
@@ -22,6 +25,8 @@ use Rattle.protocol_theorems.proofs.sets.FloorsKept as flooring
 use Rattle.protocol_theorems.proofs.sets.FloorsKept.{FloorsStand}
 use Rattle.protocol_theorems.proofs.sets.PairsAhead as ahead
 use Rattle.protocol_theorems.proofs.sets.BeforeSets as greatest_sets
+use Rattle.protocol_theorems.proofs.sets.ClosedSets as closing
+use Rattle.protocol_theorems.proofs.sets.ClosedSets.{Closed, ClosedOver, over_pairs}
 use Rattle.protocol_laws.proofs.machine.Good.{Given}
 use Rattle.protocol_laws.proofs.machine.AllGood as all
 use Rattle.protocol_laws.proofs.machine.AllGood.{AllGood}
@@ -37,6 +42,7 @@ pub record BeforeStand {C : Type 0} (w : Fixed C) (s : Machine C) (h : History) 
   pub tights : tight.Tights w s h
   pub pairs_ahead : ahead.PairsAhead s h
   pub sets : greatest_sets.Sets s h
+  pub closed : Closed s h
 
 trims_done : {C : Type 0} (w : Fixed C) (Of : Tx → C → Type 0) (finish : C → List State → Alone) (e : Event) (s : Machine C) (h : History) → IsAllowed w e s → AllGood w Of finish s h → tight.TrimsDone e s h
 unfolding conditions
@@ -56,6 +62,22 @@ trims_done w Of finish (Trim k a) s h ok g =
     declared (Some b) e = some (declared_of a b) (and_parts (not b.aborted) (holds (λ p. not p.trimmed) (declared_of a b)) (and_parts (is_settled b.stage) (not b.aborted && holds (λ p. not p.trimmed) (declared_of a b)) e).1).1
 trims_done w Of finish e s h ok g = tt
 
+pub sets_with : {C : Type 0} (w : Fixed C) (Of : Tx → C → Type 0) (finish : C → List State → Alone) (e : Event) (s : Machine C) (h : History) → IsAllowed w e s → AllGood w Of finish s h → BeforeStand w s h → Higher w (after w e s) (grown w e s h) → greatest_sets.SetsWith w e s h
+unfolding Turned Numbers
+sets_with w Of finish e s h ok g i high' = record {
+  pairs_stand = i.high.pairs_stand;
+  pairs_then = high'.pairs_stand;
+  tids = i.high.tids;
+  tids_then = high'.tids;
+  gains = i.gains;
+  pairs_in = i.pairs_in;
+  none_ahead = ahead.none_ahead s h i.pairs_ahead;
+  new_in = λ t a. gaining.new_in t a (cell_at s a) s.book.acts (h.long a) (g.good.turned a) (g.good.numbers a);
+  tights = i.tights;
+  lasts = g.good.lasts;
+  floors = i.floors.floors;
+}
+
 pub kept : {C : Type 0} (w : Fixed C) (Of : Tx → C → Type 0) (finish : C → List State → Alone) (e : Event) (s : Machine C) (h : History) → IsAllowed w e s → AllGood w Of finish s h → BeforeStand w s h → BeforeStand w (after w e s) (grown w e s h)
 unfolding Turned Numbers
 kept w Of finish e s h ok g i =
@@ -68,19 +90,8 @@ kept w Of finish e s h ok g i =
       pairs_in = gaining.in_kept w e s h g.good.turned g.good.numbers i.pairs_in;
       tights = tight.tights_kept w e s h ok o (trims_done w Of finish e s h ok g) g.good.placed g.good.turned i.tights;
       pairs_ahead = ahead.step w Of finish e s h ok g i.pairs_ahead;
-      sets = greatest_sets.sets_kept w e s h ok o (record {
-        pairs_stand = i.high.pairs_stand;
-        pairs_then = high'.pairs_stand;
-        tids = i.high.tids;
-        tids_then = high'.tids;
-        gains = i.gains;
-        pairs_in = i.pairs_in;
-        none_ahead = ahead.none_ahead s h i.pairs_ahead;
-        new_in = λ t a. gaining.new_in t a (cell_at s a) s.book.acts (h.long a) (g.good.turned a) (g.good.numbers a);
-        tights = i.tights;
-        lasts = g.good.lasts;
-        floors = i.floors.floors;
-      }) i.sets;
+      sets = greatest_sets.sets_kept w e s h ok o (sets_with w Of finish e s h ok g i high') i.sets;
+      closed = closing.kept w e s h ok (sets_with w Of finish e s h ok g i high') i.closed;
     }
 
 pub opened : {C : Type 0} (w : Fixed C) (Of : Tx → C → Type 0) (finish : C → List State → Alone) → Given w Of finish → BeforeStand w (opening w) no_history
@@ -93,6 +104,7 @@ opened w Of finish v = record {
   tights = tight.tights_opened w;
   pairs_ahead = ahead.ahead_opened w;
   sets = tt;
+  closed = record { behind_in = tt; closed = tt };
 }
 
 pub before_stand : {C : Type 0} (w : Fixed C) (Of : Tx → C → Type 0) (finish : C → List State → Alone) (es : List Event) → Given w Of finish → IsRun w es → BeforeStand w (reached w es) (history w es)
@@ -102,3 +114,9 @@ before_stand w Of finish es v run = all.along_good w Of finish (BeforeStand w) v
 pub m_is_greatest : {C : Type 0} (w : Fixed C) (Of : Tx → C → Type 0) (finish : C → List State → Alone) (es : List Event) → Given w Of finish → IsRun w es → (t : ℕ) (x : Act) → act_of t (reached w es).book.acts ≡ Some x → is_doomed x.status ≡ false → x.m ≡ greatest ((history w es).before x.tid)
 unfolding greatest_sets.Sets
 m_is_greatest w Of finish es v run t x e d = (all_found _ (λ y. y.tid == t) (reached w es).book.acts x (before_stand w Of finish es v run).sets e).0 d
+
+-- Over every run the sets are closed along the pairs whose ACT ahead is not doomed
+pub before_closed : {C : Type 0} (w : Fixed C) (Of : Tx → C → Type 0) (finish : C → List State → Alone) (es : List Event) → Given w Of finish → IsRun w es
+    → AllByRecursion (λ p. doomed_at (reached w es).book.acts p.ahead ≡ false → HoldsAll ((history w es).before p.behind) ((history w es).before p.ahead)) (reached w es).book.pairs
+unfolding gaining.GainsAre
+before_closed w Of finish es v run = let b = before_stand w Of finish es v run in over_pairs (history w es).before (reached w es).book.acts (reached w es).book.pairs (subst (ClosedOver (history w es).before) b.gains b.closed.closed)

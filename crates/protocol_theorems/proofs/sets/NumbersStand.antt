@@ -11,7 +11,7 @@ use Rattle.protocol_theorems.specs.Sets.{NumbersStand}
 use Rattle.protocol_laws.proofs.machine.Good.{Given}
 use Rattle.protocol_laws.proofs.machine.AllGood.{none_allowed}
 use Rattle.protocol_laws.proofs.machine.Higher.{places_rise, places_differ}
-use Rattle.protocol_theorems.proofs.sets.BeforeStand.{before_stand, m_is_greatest}
+use Rattle.protocol_theorems.proofs.sets.BeforeStand.{before_stand, before_closed, m_is_greatest}
 use Rattle.protocol_theorems.proofs.sets.AfterStand.{n_is_least, m_below_n}
 use Rattle.protocol_theorems.proofs.sets.FloorsKept.{floor_is}
 use Rattle.protocol_theorems.proofs.sets.NumbersBelow.{placed_below_n}
@@ -28,6 +28,7 @@ numbers_stand {C} w finish es f t run = by es run (length w.text.opening.states)
         let v : Given w Of finish = record { text = t; actors = omega (arith, l); facts = f } in
         record {
           before_is_greatest = m_is_greatest w Of finish es v run;
+          before_is_closed = before_closed w Of finish es v run;
           after_is_least = n_is_least w Of finish es v run;
           before_below_after = m_below_n w Of finish es v run;
           placed_below = placed_below_n w Of finish es v run;
@@ -38,6 +39,7 @@ numbers_stand {C} w finish es f t run = by es run (length w.text.opening.states)
         }
     by [] run zero l = record {
       before_is_greatest = λ u x e d. absurd (cc e);
+      before_is_closed = tt;
       after_is_least = λ u x e d. absurd (cc e);
       before_below_after = λ u k x e d n. absurd (cc e);
       placed_below = λ u x e p. absurd (cc e);

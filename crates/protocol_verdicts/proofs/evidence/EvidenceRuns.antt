@@ -30,6 +30,7 @@ use Rattle.protocol_verdicts.proofs.evidence.EvidenceSaid.{IsOnce, is_once, by_a
 use Rattle.protocol_verdicts.proofs.evidence.EvidenceGiven as step
 use Rattle.protocol_verdicts.proofs.evidence.EvidenceGiven.{Informed}
 use Rattle.protocol_verdicts.proofs.evidence.EvidenceBack.{back}
+use Rattle.protocol_verdicts.proofs.evidence.EvidenceBetween.{stands_between}
 use Rattle.protocol.specs.Rests.{IsRest, IsTxIn}
 
 -- ---- what is carried
@@ -190,6 +191,7 @@ verdicts_stand {C} w finish es f t run = by es run (length w.text.opening.states
     at_start = record {
       evidence = λ n u. record { 0 = λ q. absurd (cc q); 1 = λ g. absurd (no_split g.front g.later g.event g.splits) };
       stay = λ front later e n u q. one front later e n u q;
+      between = λ n m k a q. absurd (cc q);
       of_pacts = λ n k b p v i q. absurd (cc q);
       of_acts = λ n t x v i q. absurd (cc q);
     }
@@ -205,6 +207,7 @@ verdicts_stand {C} w finish es f t run = by es run (length w.text.opening.states
         record {
           evidence = evidence w (IsRest w.code (IsTxIn w.text)) finish es v run;
           stay = stay w (IsRest w.code (IsTxIn w.text)) finish es v run;
+          between = λ n m k a q. stands_between w (IsRest w.code (IsTxIn w.text)) finish n m k a es v run ((evidence w (IsRest w.code (IsTxIn w.text)) finish es v run n _).0 q);
           of_pacts = of_pacts w (IsRest w.code (IsTxIn w.text)) finish (reached w es) end;
           of_acts = of_acts w (IsRest w.code (IsTxIn w.text)) finish (reached w es) end;
         }

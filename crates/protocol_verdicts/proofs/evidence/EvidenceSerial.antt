@@ -50,7 +50,7 @@ use Rattle.protocol_laws.proofs.first.Statuses.{settled_not_formed, value_some}
 
 -- ---- one of the serial run
 
-record SplitAt (d : Done) (ds : List Done) : Type 0 where
+pub record SplitAt (d : Done) (ds : List Done) : Type 0 where
   pub front : List Done
   pub rest : List Done
   pub splits : ds ≡ front ++ d ∷ rest
@@ -75,7 +75,7 @@ put_other x d (y ∷ front) rest = by (is_place_below x.place y.place) (put_othe
     by true g = record { front = x ∷ y ∷ front; rest = rest; splits = refl }
     by false g = record { front = y ∷ g.front; rest = g.rest; splits = ap (λ l. y ∷ l) g.splits }
 
-sorted_at : (d : Done) (front rest : List Done) → SplitAt d (by_place (front ++ d ∷ rest))
+pub sorted_at : (d : Done) (front rest : List Done) → SplitAt d (by_place (front ++ d ∷ rest))
 sorted_at d [] rest = put_own d (by_place rest)
 sorted_at d (x ∷ front) rest = let g = sorted_at d front rest in subst (λ z. SplitAt d (put_by_place x z)) (sym g.splits) (put_other x d g.front g.rest)
 

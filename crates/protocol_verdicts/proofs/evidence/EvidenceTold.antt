@@ -292,7 +292,7 @@ verdicts_tell {C} w finish es f t run =
       value = λ n p v q. result_there w finish (reached w es) (history w es) n p (Value v) order (order.told_value n p v q);
       code = λ n p c q. result_there w finish (reached w es) (history w es) n p (Fail c) order (order.told_code n p c q);
       batch_code = λ n k c code q. by es run (length w.text.opening.states) refl n k c code ((stand.evidence n (verdicts.BatchCode (record { 0 = k }) c code)).0 q);
-      cascade = λ n k by q. cascade_of w es n k by (record { evidence = stand.evidence; stay = stand.stay; of_pacts = stand.of_pacts; of_acts = stand.of_acts }) ((stand.evidence n (verdicts.Cascade (record { 0 = k }) (record { 0 = by }))).0 q);
+      cascade = λ n k by q. cascade_of w es n k by (record { evidence = stand.evidence; stay = stand.stay; between = stand.between; of_pacts = stand.of_pacts; of_acts = stand.of_acts }) ((stand.evidence n (verdicts.Cascade (record { 0 = k }) (record { 0 = by }))).0 q);
     }
   where
     no_split : (front later : List Event) (e : Event) → [] ≡ front ++ e ∷ later → ⊥

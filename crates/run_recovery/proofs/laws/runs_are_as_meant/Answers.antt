@@ -1,5 +1,10 @@
 use Rattle.aml_check.specs.Checked.{methods_of}
-use Rattle.run_recovery.proofs.RunsRecovered.{answered_all, committed_meant, evidence_stands, told_meant}
+use Rattle.protocol_records.specs.AsTold.{ToldStands}
+use Rattle.protocol_theorems.specs.Left.{RunsEnd}
+use Rattle.protocol_theorems.specs.Order.{OrderHolds}
+use Rattle.protocol_theorems.specs.Sets.{NumbersStand}
+use Rattle.protocol_verdicts.specs.EvidenceSerial.{VerdictsTell}
+use Rattle.run_recovery.proofs.RunsRecovered.{after_run, answered_all, committed_meant, evidence_stands, of_run, told_meant}
 use Rattle.run_recovery.proofs.laws.runs_are_as_meant.Goals as goal
 
 pub returns-clause-committed : goal.returns-clause-committed
@@ -13,3 +18,18 @@ returns-clause-evidence c = evidence_stands (methods_of c.args.program.now) c.ve
 
 pub returns-clause-answered : goal.returns-clause-answered
 returns-clause-answered c = answered_all (methods_of c.args.program.now) c.runs_that_cannot_go_on_have_answered.ensures
+
+pub returns-clause-order : goal.returns-clause-order
+returns-clause-order c = after_run OrderHolds (methods_of c.args.program.now) c.committed_transactions_are_in_order.ensures
+
+pub returns-clause-codes : goal.returns-clause-codes
+returns-clause-codes c = of_run VerdictsTell (methods_of c.args.program.now) c.verdicts_tell_of_serial_runs.ensures
+
+pub returns-clause-numbers : goal.returns-clause-numbers
+returns-clause-numbers c = after_run NumbersStand (methods_of c.args.program.now) c.numbers_are_the_ends_of_sets.ensures
+
+pub returns-clause-ends : goal.returns-clause-ends
+returns-clause-ends c = of_run RunsEnd (methods_of c.args.program.now) c.every_run_ends.ensures
+
+pub returns-clause-sure : goal.returns-clause-sure
+returns-clause-sure c = after_run ToldStands (methods_of c.args.program.now) c.told_transactions_are_in_order.ensures
