@@ -1,16 +1,16 @@
 -- The rows of the table whose words in `Effects` are shorter than those that were agreed, in the agreed words. On
 -- every run both give the same state (protocol_laws, `rows_are_as_agreed`).
-use Rattle.std.specs.Prelude.{◌≡◌, ℕ, max, Bool, true, false, not, ◌&&◌, if◌then◌else◌, Option, Some, None, unwrap_or, List, [], ◌∷◌, ◌++◌, length, map, filter}
+use Rattle.std.specs.Prelude.{◌≡◌, ℕ, ◌-◌, nat_le, max, Bool, true, false, not, ◌&&◌, if◌then◌else◌, Option, Some, None, unwrap_or, List, [], ◌∷◌, ◌++◌, length, map, filter}
 use Rattle.snap_base.specs.declared.transactions.State.{State}
 use Rattle.snap_base.specs.declared.verdicts.Verdict.{Verdict}
 use Rattle.protocol.specs.Fixed.{Fixed}
 use Rattle.protocol.specs.Rivals.{Lock}
 use Rattle.protocol.specs.Parts.{Doomed, Act, Pair, Book, Cascade, Entry, BatchEntry, ActEntry, Cell, Machine}
-use Rattle.protocol.specs.Events.{Event, Arrive, Ask, Rollback, Finish}
-use Rattle.protocol.specs.Words.{is_aborted, is_doomed, is_live_act, is_act_entry, act_of, batches_on, greatest}
-use Rattle.protocol.specs.Verdicts.{died, out_of_order}
+use Rattle.protocol.specs.Events.{Event, Arrive, Ask, Abort, Rollback, Finish}
+use Rattle.protocol.specs.Words.{is_aborted, is_doomed, is_ordered, is_live_act, is_act_entry, act_of, batches_on, greatest}
+use Rattle.protocol.specs.Verdicts.{died, out_of_order, taken_along}
 use Rattle.protocol.specs.Spread.{stands_behind, reaches}
-use Rattle.protocol.specs.OnBook.{changed_act, lowered, tids_on, joins, new_pairs, asked_pairs, met, in_the_way}
+use Rattle.protocol.specs.OnBook.{changed_act, lowered, why, failed_tx, failed_code, tids_on, joins, new_pairs, asked_pairs, met, in_the_way}
 use Rattle.protocol.specs.OnCell.{own_entries, state_before, images_without, inbox_without, outbox_without, is_undone_act, floor_after}
 use Rattle.protocol.specs.Conditions.{IsAllowed}
 use Rattle.protocol.specs.Effects.{after, cell_at, puts}
@@ -41,6 +41,14 @@ dies v x = record x { status = if is_doomed x.status then x.status else Doomed v
 abbrev pub asks : Option ℕ → List Lock → ℕ → ℕ → ℕ → Book → List Act
 asks (Some older) group t a m b = changed_act t (dies (died a older t)) b.acts
 asks None group t a m b = map (dooms a) (risen (b.pairs ++ new_pairs t a group b.acts) (changed_act t (joins a m) b.acts))
+
+-- ---- abort: of each that has not left all its actors, and is neither doomed nor decided, who stands behind the batch is given up
+
+abbrev pub is_taken : ℕ → Act → Bool
+is_taken k x = is_live_act x && (not (is_doomed x.status) && (not (is_ordered x.status) && nat_le k x.m))
+
+abbrev pub takes : ℕ → ℕ → Act → Act
+takes k by x = record x { n = None; status = if is_taken k x then Doomed (taken_along k by) else x.status }
 
 -- ---- rollback: the aborted batches go, and the ACTs behind the first of them
 
@@ -90,6 +98,12 @@ as_agreed w (Ask t a) s = record (after w (Ask t a) s) {
   book = record s.book {
     acts = asks (in_the_way t (cell_at s a).entries) (met t (cell_at s a).entries) t a (max (cell_at s a).last (cell_at s a).floor) s.book;
     pairs = asked_pairs (in_the_way t (cell_at s a).entries) (met t (cell_at s a).entries) t a s.book;
+  };
+}
+as_agreed w (Abort k) s = record (after w (Abort k) s) {
+  book = record s.book {
+    cascades = s.book.cascades ++ record { first = k; upto = s.ring.next_bid - 1; by = failed_tx (why k s.desk); at = s.book.next_c; code = failed_code (why k s.desk) } ∷ [];
+    acts = map (takes k (failed_tx (why k s.desk))) s.book.acts;
   };
 }
 as_agreed w (Rollback a) s = record s { cells = puts s a (rolls_back s.book.cascades (cell_at s a)) }

@@ -1,5 +1,5 @@
 -- The table's own words give, over every run, what the rows give as they were agreed.
-use Rattle.std.specs.Prelude.{◌≡◌, refl, ℕ, ◌<◌, ◌≤◌, ◌==◌, nat_lt, nat_le, max, Bool, true, false, not, ◌&&◌, ◌||◌, ◌⊎◌, if◌then◌else◌, Option, Some, None, unwrap_or, List, [], ◌∷◌, ◌++◌, length, map, filter, find}
+use Rattle.std.specs.Prelude.{◌≡◌, refl, ℕ, ◌-◌, ◌<◌, ◌≤◌, ◌==◌, nat_lt, nat_le, max, Bool, true, false, not, ◌&&◌, ◌||◌, ◌⊎◌, if◌then◌else◌, Option, Some, None, unwrap_or, List, [], ◌∷◌, ◌++◌, length, map, filter, find}
 use Rattle.std.specs.List.{AllByRecursion, list_all}
 use Rattle.std.proofs.Common.{arith, sym, ap, subst, inl, inr, ◌∙◌}
 use Rattle.std.proofs.lemmas.Bool.{eqb-true, eq-eqb, leb-true, le-leb, ltb-true, lt-ltb, and_parts, and_from, or_cases, not-true, true≢false, false_from_ne_true, cases_lt}
@@ -10,9 +10,9 @@ use Rattle.protocol.specs.Fixed.{Fixed}
 use Rattle.protocol.specs.Facts.{Alone}
 use Rattle.protocol.specs.Rivals.{Lock}
 use Rattle.protocol.specs.Parts.{Act, Joined, Pair, Book, Status, Live, Doomed, Decided, Sealed, Cascade, Who, OfBatch, OfAct, Entry, BatchEntry, ActEntry, Image, Cell, Machine}
-use Rattle.protocol.specs.Events.{Event, Arrive, Ask, Rollback, Finish}
+use Rattle.protocol.specs.Events.{Event, Arrive, Ask, Abort, Rollback, Finish}
 use Rattle.protocol.specs.Words.{is_empty, holds, greatest, covers, is_aborted, epoch_of, is_live_status, is_doomed, is_ordered, is_live_act, act_of, is_act_entry, has_act, is_who, batches_on}
-use Rattle.protocol.specs.Verdicts.{died, out_of_order}
+use Rattle.protocol.specs.Verdicts.{died, out_of_order, taken_along}
 use Rattle.protocol.specs.Spread.{stands_behind, carries_to, raised, reaches, crossed_out}
 use Rattle.protocol.specs.OnBook as book
 use Rattle.protocol.specs.OnCell as cell
@@ -243,6 +243,21 @@ asks_same t a m None group b long low high asc live l g p h =
     doom_all a (raised ps ys) (going_raised ps ys (going_joined t a m b.acts g)) (below_before a (raised ps ys) h)
     ∙ ap (map (rows.dooms a)) (rise_same (placed_in b.acts) (doomed_at b.acts) ps ys told (told_joined (placed_in b.acts) (doomed_at b.acts) t a m b.acts (told_all low high b.acts asc)))
 
+-- ---- a batch is aborted
+
+take_same : (st : Status) (acting far : Bool) → (is_live_status st ≡ true → acting ≡ true) → (is_live_status st && far) ≡ (acting && (not (is_doomed st) && (not (is_ordered st) && far)))
+take_same Live acting far g = rw (g refl) refl
+take_same (Doomed v) acting far g = sym (and_false acting)
+take_same (Decided c) acting far g = sym (and_false acting)
+take_same (Sealed c) acting far g = sym (and_false acting)
+
+taken_same : (k by : ℕ) (x : Act) → IsGoing x → book.cascaded k by x ≡ rows.takes k by x
+taken_same k by x g = ap (λ b. record x { n = None; status = if b then Doomed (taken_along k by) else x.status }) (take_same x.status (is_live_act x) (nat_le k x.m) g)
+
+taken_all : (k by : ℕ) (xs : List Act) → AllByRecursion IsGoing xs → map (book.cascaded k by) xs ≡ map (rows.takes k by) xs
+taken_all k by [] g = refl
+taken_all k by (x ∷ xs) g = rw (taken_same k by x g.0, taken_all k by xs g.1) refl
+
 -- ---- a rollback
 
 or_last : (b : Bool) {d : Bool} → d ≡ true → (b || d) ≡ true
@@ -430,6 +445,10 @@ agree_at w Of finish (Ask t a) s h ok g i =
     let live = higher.asks_live w Of finish t a s h ok g in
     ap (λ acts. record (after w (Ask t a) s) { book = record s.book { acts = acts; pairs = book.asked_pairs (book.in_the_way t c.entries) (book.met t c.entries) t a s.book } })
     (asks_same t a (max c.last c.floor) (book.in_the_way t c.entries) (book.met t c.entries) s.book h.long 0 s.ring.next_tid g.ascend live (asks_live t s live g.ascend) (going_all s g.ascend g.left) i.before.pairs_ahead (below_kept w Of finish (Ask t a) s h ok g i.below.after_stand i.below.below))
+agree_at w Of finish (Abort k) s h ok g i =
+    let b = book.failed_tx (book.why k s.desk) in
+    let cs = s.book.cascades ++ record { first = k; upto = s.ring.next_bid - 1; by = book.failed_tx (book.why k s.desk); at = s.book.next_c; code = book.failed_code (book.why k s.desk) } ∷ [] in
+    ap (λ acts. record (after w (Abort k) s) { book = record s.book { cascades = cs; acts = acts } }) (taken_all k b s.book.acts (going_all s g.ascend g.left))
 agree_at w Of finish (Rollback a) s h ok g i =
     let c = cell_at s a in
     let r = i.rows a in
