@@ -4,14 +4,17 @@ pub mod AfterStand
 pub mod AtPlacing
 pub mod BeforeSets
 pub mod BeforeStand
+pub mod Blamed
 pub mod ClosedSets
 pub mod FloorsKept
 pub mod GainsKept
+pub mod HasEnded
 pub mod LastsTight
 pub mod LeastRise
 pub mod NumbersBelow
 pub mod NumbersStand
 pub mod PairsAhead
+pub mod RisesAgree
 pub mod RowsAgree
 pub mod RowsLaw
 pub mod SpreadSets

@@ -14,6 +14,7 @@ pub use books::{books_are_asked_by_parts, books_are_of_parts, halves_go_on, halv
 pub use cases::{cases_of_order, schedules_are_in_order};
 pub use parts::{batches_have_actors, boxes_are_few, controls_are_rests, places_are_few};
 pub use theorems::{
-    committed_transactions_are_in_order, every_run_ends, numbers_are_the_ends_of_sets,
-    rises_are_least, rows_are_as_agreed, runs_that_cannot_go_on_have_answered,
+    committed_transactions_are_in_order, conditions_are_as_agreed, every_run_ends,
+    numbers_are_carried_through_all_pairs, numbers_are_the_ends_of_sets, rises_are_least,
+    rows_are_as_agreed, runs_that_cannot_go_on_have_answered, who_has_ended_has_a_verdict,
 };

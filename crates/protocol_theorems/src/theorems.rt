@@ -2,7 +2,7 @@
 //! `C` is the type of controls.
 
 ghost use Rattle.protocol.specs.Laws.{AfterEveryRunWithHistory, OfEveryRun};
-ghost use Rattle.protocol.specs.Rows.{RowsAgree};
+ghost use Rattle.protocol.specs.Rows.{ConditionsAgree, RisesAgree, RowsAgree, VerdictsAgree};
 ghost use Rattle.protocol_theorems.specs.Order.{OrderHolds};
 ghost use Rattle.protocol_theorems.specs.Left.{RunsEnd};
 ghost use Rattle.protocol_theorems.specs.Quiet.{AnsweredWhenQuiet};
@@ -36,9 +36,30 @@ pub fn rises_are_least()
     ensures { RisesAreLeast }
 {}
 
-/// On every run the table, whose words are shorter at four rows, gives what the rows give as they were agreed.
+/// On every run the table, whose words are shorter at some rows, makes of a state what the rows make of it as they were
+/// agreed.
 pub fn rows_are_as_agreed<C>()
     ensures { AfterEveryRunWithHistory (RowsAgree {C = C}) }
+{}
+
+/// On every run each condition of each event holds exactly where the agreed one does: an Abort is for a PACT that failed
+/// where all smaller tids of its batch ended with a value, and a Reply is to a transaction whose batch is settled or
+/// aborted, or whose ACT is doomed or sealed.
+pub fn conditions_are_as_agreed<C>()
+    ensures { AfterEveryRunWithHistory (ConditionsAgree {C = C}) }
+{}
+
+/// On every run the one pass over the ACTs in which before numbers rise where an ACT is placed carries them through all
+/// pairs: along each pair whose ACT ahead is not doomed the one behind has a number at least as great, no number is greater
+/// than this forces, and there is one such list alone.
+pub fn numbers_are_carried_through_all_pairs<C>()
+    ensures { AfterEveryRunWithHistory (RisesAgree {C = C}) }
+{}
+
+/// On every run a transaction has no verdict exactly where its batch is neither settled nor aborted, and its ACT neither
+/// doomed nor sealed.
+pub fn who_has_ended_has_a_verdict<C>()
+    ensures { AfterEveryRunWithHistory (VerdictsAgree {C = C}) }
 {}
 
 /// A number computed from the state, at most so many times the transactions at the opening, falls at every event.

@@ -135,7 +135,7 @@ of_act n (x ∷ xs) h l = by (x.tx == n) (le (Times.times_cons n x.tx (map (λ x
     by true k r = h.0
     by false k r = r (omega (arith, k))
 
-has_ended : (p : Place) (r : Option TxResult) → is_some r ≡ true → is_some (ended_at p r) ≡ true
+pub has_ended : (p : Place) (r : Option TxResult) → is_some r ≡ true → is_some (ended_at p r) ≡ true
 has_ended p None h = absurd (true≢false (sym h))
 has_ended p (Some (Value v)) h = refl
 has_ended p (Some (Fail c)) h = refl

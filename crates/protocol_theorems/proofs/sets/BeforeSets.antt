@@ -193,7 +193,7 @@ spread_joined gs t a m (x ∷ xs) b = by (x.tid == t) (spread_joined gs t a m xs
     by true r = rw r refl
     by false r = rw r refl
 
-joined_tids : (t a m : ℕ) (xs : List Act) → map (λ x. x.tid) (book.changed_act t (book.joins a m) xs) ≡ map (λ x. x.tid) xs
+pub joined_tids : (t a m : ℕ) (xs : List Act) → map (λ x. x.tid) (book.changed_act t (book.joins a m) xs) ≡ map (λ x. x.tid) xs
 joined_tids t a m [] = refl
 joined_tids t a m (x ∷ xs) = by (x.tid == t) (joined_tids t a m xs)
   where

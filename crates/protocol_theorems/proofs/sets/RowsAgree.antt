@@ -9,30 +9,33 @@ use Rattle.snap_base.specs.declared.verdicts.Verdict.{Verdict}
 use Rattle.protocol.specs.Fixed.{Fixed}
 use Rattle.protocol.specs.Facts.{Alone}
 use Rattle.protocol.specs.Rivals.{Lock}
-use Rattle.protocol.specs.Parts.{Act, Joined, Pair, Book, Status, Live, Doomed, Decided, Sealed, Cascade, Who, OfBatch, OfAct, Entry, BatchEntry, ActEntry, Image, Cell, Machine}
+use Rattle.protocol.specs.Parts.{Act, Joined, Pair, Book, Status, Live, Doomed, Decided, Sealed, Cascade, Who, OfBatch, OfAct, Entry, BatchEntry, ActEntry, Image, Waiting, Outcome, Batch, Cell, Machine}
 use Rattle.protocol.specs.Events.{Event, Arrive, Ask, Abort, Rollback, Finish}
-use Rattle.protocol.specs.Words.{is_empty, holds, greatest, covers, is_aborted, epoch_of, is_live_status, is_doomed, is_ordered, is_live_act, act_of, is_act_entry, has_act, is_who, batches_on}
+use Rattle.protocol.specs.Words.{is_empty, holds, greatest, covers, is_aborted, epoch_of, is_live_status, is_doomed, is_sealed, is_ordered, is_live_act, act_of, batch_of, is_act_entry, has_act, is_who, batches_on, Failure}
 use Rattle.protocol.specs.Verdicts.{died, out_of_order, taken_along}
 use Rattle.protocol.specs.Spread.{stands_behind, carries_to, raised, reaches, crossed_out}
 use Rattle.protocol.specs.OnBook as book
 use Rattle.protocol.specs.OnCell as cell
 use Rattle.protocol.specs.Rows as rows
 use Rattle.protocol.specs.Rows.{as_agreed}
-use Rattle.protocol.specs.Conditions.{IsAllowed}
+use Rattle.protocol.specs.Conditions.{IsAllowed, conditions}
 use Rattle.protocol.specs.Effects.{after, cell_at, puts}
 use Rattle.protocol.specs.Runs.{IsRun, reached}
 use Rattle.protocol.specs.History.{Ran, Stands, Gone, Slice, History, no_history, history}
 use Rattle.protocol_laws.specs.Tracks.{key_of, keys_in, is_key_among, first_image, images_in}
 use Rattle.protocol_laws.specs.Highs.{doomed_at}
 use Rattle.protocol_laws.specs.Places.{Ascends, Fits}
+use Rattle.protocol_laws.specs.Told.{PactsAscend}
 use Rattle.protocol_laws.proofs.first.Lists.{all_join, all_of, weaker}
 use Rattle.protocol_laws.proofs.machine.Good.{Given}
 use Rattle.protocol_laws.proofs.machine.AllGood as all
 use Rattle.protocol_laws.proofs.machine.AllGood.{AllGood}
-use Rattle.protocol_laws.proofs.machine.EntriesKept.{Left, LeftThrough, is_through}
+use Rattle.protocol_laws.proofs.machine.BatchesCommit.{Numbered}
+use Rattle.protocol_laws.proofs.machine.EntriesKept.{Left, LeftThrough, Standing, is_through, open_at}
 use Rattle.protocol_laws.proofs.machine.TracksKept.{Tracked}
 use Rattle.protocol_laws.proofs.machine.Higher as higher
 use Rattle.protocol_theorems.proofs.sets.BeforeSets.{find_self}
+use Rattle.protocol_theorems.proofs.sets.Blamed.{find_same, find_none, first_is_blamed}
 use Rattle.protocol_theorems.proofs.sets.BeforeStand as befores
 use Rattle.protocol_theorems.proofs.sets.BeforeStand.{BeforeStand}
 use Rattle.protocol_theorems.proofs.sets.NumbersBelow.{IsBelow, AllBelow, BelowStand, asks_live, below_kept, below_step, below_begins}
@@ -46,9 +49,9 @@ pub filter_same : {X : Type 0} (p q : X → Bool) (xs : List X) → AllByRecursi
 filter_same p q [] h = refl
 filter_same p q (x ∷ xs) h = rw (h.0, filter_same p q xs h.1) refl
 
-find_same : {X : Type 0} (p q : X → Bool) (xs : List X) → AllByRecursion (λ x. p x ≡ q x) xs → find p xs ≡ find q xs
-find_same p q [] h = refl
-find_same p q (x ∷ xs) h = rw (h.0, find_same p q xs h.1) refl
+filter_whole : {X : Type 0} (p : X → Bool) (xs : List X) → AllByRecursion (λ x. p x ≡ true) xs → filter p xs ≡ xs
+filter_whole p [] h = refl
+filter_whole p (x ∷ xs) h = rw (h.0, filter_whole p xs h.1) refl
 
 and_false : (b : Bool) → (b && false) ≡ false
 and_false true = refl
@@ -232,6 +235,12 @@ dies_all v t (x ∷ xs) h = rw (by (x.tid == t) refl, dies_all v t xs h.1) refl
     by true e = dies_same v x (h.0 e)
     by false e = refl
 
+asked_rise : (t a m : ℕ) (group : List Lock) (b : Book) (long : ℕ → List Ran) (low high : ℕ) → Ascend low high (map (λ x. x.tid) b.acts) → holds (λ x. is_live_status x.status) (act_of t b.acts) ≡ true → AllByRecursion (PairStands b.acts long) b.pairs
+    → raised (b.pairs ++ book.new_pairs t a group b.acts) (book.changed_act t (book.joins a m) b.acts) ≡ rows.risen (b.pairs ++ book.new_pairs t a group b.acts) (book.changed_act t (book.joins a m) b.acts)
+asked_rise t a m group b long low high asc live p =
+    let told = all_join (PairTold (placed_in b.acts) (doomed_at b.acts)) b.pairs (book.new_pairs t a group b.acts) (pairs_told b.acts long b.pairs p) (new_told b.acts t a (filter (λ x. not (book.is_doomed_act b.acts x)) group) (live_unplaced (act_of t b.acts) live)) in
+    rise_same (placed_in b.acts) (doomed_at b.acts) (b.pairs ++ book.new_pairs t a group b.acts) (book.changed_act t (book.joins a m) b.acts) told (told_joined (placed_in b.acts) (doomed_at b.acts) t a m b.acts (told_all low high b.acts asc))
+
 asks_same : (t a m : ℕ) (o : Option ℕ) (group : List Lock) (b : Book) (long : ℕ → List Ran) (low high : ℕ) → Ascend low high (map (λ x. x.tid) b.acts) → holds (λ x. is_live_status x.status) (act_of t b.acts) ≡ true
     → AllByRecursion (λ x. (x.tid == t) ≡ true → is_live_status x.status ≡ true) b.acts → AllByRecursion IsGoing b.acts → AllByRecursion (PairStands b.acts long) b.pairs → AllByRecursion IsBelow (book.asked_acts o group t a m b)
     → book.asked_acts o group t a m b ≡ rows.asks o group t a m b
@@ -239,9 +248,8 @@ asks_same t a m (Some older) group b long low high asc live l g p h = dies_all (
 asks_same t a m None group b long low high asc live l g p h =
     let ps = b.pairs ++ book.new_pairs t a group b.acts in
     let ys = book.changed_act t (book.joins a m) b.acts in
-    let told = all_join (PairTold (placed_in b.acts) (doomed_at b.acts)) b.pairs (book.new_pairs t a group b.acts) (pairs_told b.acts long b.pairs p) (new_told b.acts t a (filter (λ x. not (book.is_doomed_act b.acts x)) group) (live_unplaced (act_of t b.acts) live)) in
     doom_all a (raised ps ys) (going_raised ps ys (going_joined t a m b.acts g)) (below_before a (raised ps ys) h)
-    ∙ ap (map (rows.dooms a)) (rise_same (placed_in b.acts) (doomed_at b.acts) ps ys told (told_joined (placed_in b.acts) (doomed_at b.acts) t a m b.acts (told_all low high b.acts asc)))
+    ∙ ap (map (rows.dooms a)) (asked_rise t a m group b long low high asc live p)
 
 -- ---- a batch is aborted
 
@@ -257,6 +265,14 @@ taken_same k by x g = ap (λ b. record x { n = None; status = if b then Doomed (
 taken_all : (k by : ℕ) (xs : List Act) → AllByRecursion IsGoing xs → map (book.cascaded k by) xs ≡ map (rows.takes k by) xs
 taken_all k by [] g = refl
 taken_all k by (x ∷ xs) g = rw (taken_same k by x g.0, taken_all k by xs g.1) refl
+
+-- the PACT that is blamed
+pub why_same : (k : ℕ) (bs : List Batch) → ((b : Batch) → batch_of k bs ≡ Some b → PactsAscend 0 b.pacts) → book.failure_of (batch_of k bs) ≡ rows.blamed_in (batch_of k bs)
+why_same k bs n = by (batch_of k bs) n
+  where
+    by : (o : Option Batch) → ((b : Batch) → o ≡ Some b → PactsAscend 0 b.pacts) → book.failure_of o ≡ rows.blamed_in o
+    by None n = refl
+    by (Some b) n = first_is_blamed 0 b.pacts (n b refl)
 
 -- ---- a rollback
 
@@ -412,13 +428,80 @@ left_with t x c found images = record c {
   outbox = cell.outbox_without (cell.own_entries t c.entries) c.outbox;
 }
 
-leaves_same : {C : Type 0} (t : ℕ) (x : Option Act) (c : Cell C) → AllByRecursion (λ i. is_key_among i.who (map key_of c.entries) ≡ true) c.images → cell.act_left t x c ≡ rows.leaves t x c
-leaves_same t x c h =
+left_same : {C : Type 0} (t : ℕ) (x : Option Act) (c : Cell C) → AllByRecursion (λ i. is_key_among i.who (map key_of c.entries) ≡ true) c.images → cell.act_left t x c ≡ rows.left_by t x c
+left_same t x c h =
     let own = λ (i : Image). is_who (OfAct t) i.who in
     let gone = λ (i : Image). cell.is_entry_among i.who (cell.own_entries t c.entries) in
     let e = images_same t c.entries c.images h in
     ap (λ o. left_with t x c o (filter (λ i. not (own i)) c.images)) (find_same own gone c.images e)
     ∙ ap (λ is. left_with t x c (find gone c.images) is) (filter_same (λ i. not (own i)) (λ i. not (gone i)) c.images (weaker _ _ c.images (λ i k. ap not k) e))
+
+-- ---- where it has no entry nothing changes
+
+none_own : (t : ℕ) (es : List Entry) → has_act t es ≡ false → cell.own_entries t es ≡ []
+none_own t [] h = refl
+none_own t (BatchEntry b ∷ es) h = none_own t es h
+none_own t (ActEntry x ∷ es) h = by (x.tid == t) h (none_own t es)
+  where
+    by : (b : Bool) → (b || has_act t es) ≡ false → (has_act t es ≡ false → cell.own_entries t es ≡ []) → (if b then ActEntry x ∷ cell.own_entries t es else cell.own_entries t es) ≡ []
+    by true e r = absurd (true≢false e)
+    by false e r = r e
+
+none_goes : (t : ℕ) (es : List Entry) → has_act t es ≡ false → filter (λ e. not (is_act_entry t e)) es ≡ es
+none_goes t [] h = refl
+none_goes t (BatchEntry b ∷ es) h = ap (λ z. BatchEntry b ∷ z) (none_goes t es h)
+none_goes t (ActEntry x ∷ es) h = by (x.tid == t) h (none_goes t es)
+  where
+    by : (b : Bool) → (b || has_act t es) ≡ false → (has_act t es ≡ false → filter (λ e. not (is_act_entry t e)) es ≡ es) → (if not b then ActEntry x ∷ filter (λ e. not (is_act_entry t e)) es else filter (λ e. not (is_act_entry t e)) es) ≡ ActEntry x ∷ es
+    by true e r = absurd (true≢false e)
+    by false e r = ap (λ z. ActEntry x ∷ z) (r e)
+
+same_cell : {C : Type 0} (c : Cell C) (state : State) (images : List Image) (floor : ℕ) (entries : List Entry) (inbox : List (Waiting C)) (outbox : List (Outcome C)) → state ≡ c.state → images ≡ c.images → floor ≡ c.floor → entries ≡ c.entries → inbox ≡ c.inbox → outbox ≡ c.outbox
+    → record c { state = state; images = images; floor = floor; entries = entries; inbox = inbox; outbox = outbox } ≡ c
+same_cell c state images floor entries inbox outbox a b d e f g = rw (a, b, d, e, f, g) refl
+
+stays_same_without : {C : Type 0} (t : ℕ) (x : Option Act) (c : Cell C) → has_act t c.entries ≡ false → AllByRecursion (λ i. is_key_among i.who (map key_of c.entries) ≡ true) c.images → cell.floor_after c.floor x ≡ c.floor → cell.act_left t x c ≡ c
+stays_same_without {C} t x c n h f =
+    let others : AllByRecursion (λ i. is_who (OfAct t) i.who ≡ false) c.images = weaker _ _ c.images (λ i k. sym (subst (λ z. (z && is_who (OfAct t) i.who) ≡ is_who (OfAct t) i.who) n (act_image t c.entries i k))) h in
+    let state : (if cell.is_undone_act x then cell.state_from c.state (find (λ i. is_who (OfAct t) i.who) c.images) else c.state) ≡ c.state = undone (cell.is_undone_act x) (find_none (λ i. is_who (OfAct t) i.who) c.images others) in
+    let images : filter (λ i. not (is_who (OfAct t) i.who)) c.images ≡ c.images = filter_whole (λ i. not (is_who (OfAct t) i.who)) c.images (weaker _ _ c.images (λ i k. ap not k) others) in
+    same_cell c _ _ _ _ _ _ state images f (none_goes t c.entries n) (in_inbox c.inbox) (in_outbox c.outbox)
+  where
+    undone : (b : Bool) → find (λ i. is_who (OfAct t) i.who) c.images ≡ None → (if b then cell.state_from c.state (find (λ i. is_who (OfAct t) i.who) c.images) else c.state) ≡ c.state
+    undone true e = ap (cell.state_from c.state) e
+    undone false e = refl
+
+    in_inbox : (xs : List (Waiting C)) → cell.inbox_without (cell.own_entries t c.entries) xs ≡ xs
+    in_inbox xs = ap (λ z. cell.inbox_without z xs) (none_own t c.entries n) ∙ filter_whole (λ y. true) xs (all_of _ xs (λ y. refl))
+
+    in_outbox : (xs : List (Outcome C)) → cell.outbox_without (cell.own_entries t c.entries) xs ≡ xs
+    in_outbox xs = ap (λ z. cell.outbox_without z xs) (none_own t c.entries n) ∙ filter_whole (λ y. true) xs (all_of _ xs (λ y. refl))
+
+leaves_same : {C : Type 0} (t : ℕ) (x : Option Act) (c : Cell C) → AllByRecursion (λ i. is_key_among i.who (map key_of c.entries) ≡ true) c.images → (has_act t c.entries ≡ false → cell.floor_after c.floor x ≡ c.floor) → cell.act_left t x c ≡ rows.leaves t x c
+leaves_same t x c h f = by (has_act t c.entries) refl
+  where
+    by : (b : Bool) → has_act t c.entries ≡ b → cell.act_left t x c ≡ (if b then rows.left_by t x c else c)
+    by true e = left_same t x c h
+    by false e = stays_same_without t x c e h (f e)
+
+-- who is sealed and has not left the actor has its entry there
+floor_stays : {C : Type 0} (w : Fixed C) (t a : ℕ) (s : Machine C) → IsAllowed w (Finish t a) s → Standing s → has_act t (cell_at s a).entries ≡ false → cell.floor_after (cell_at s a).floor (act_of t s.book.acts) ≡ (cell_at s a).floor
+unfolding conditions Standing
+floor_stays w t a s ok st n = by (act_of t s.book.acts) refl ok.1.0
+  where
+    not_doomed : (st : Status) → is_sealed st ≡ true → is_doomed st ≡ false
+    not_doomed Live e = refl
+    not_doomed (Doomed v) e = absurd (true≢false (sym e))
+    not_doomed (Decided c) e = refl
+    not_doomed (Sealed c) e = refl
+
+    by : (o : Option Act) → act_of t s.book.acts ≡ o → holds (open_at a) o ≡ true → cell.floor_after (cell_at s a).floor o ≡ (cell_at s a).floor
+    by None e h = refl
+    by (Some x) e h = one (is_sealed x.status) refl
+      where
+        one : (b : Bool) → is_sealed x.status ≡ b → (if b then max (cell_at s a).floor x.m else (cell_at s a).floor) ≡ (cell_at s a).floor
+        one true q = absurd (true≢false (sym (sym (act_key t (cell_at s a).entries) ∙ st t x e (not_doomed x.status q) a h) ∙ n))
+        one false q = refl
 
 -- ---- over every run
 
@@ -435,7 +518,7 @@ unfolding TidsAscend Left
 going_all s asc l = find_self 0 s.ring.next_tid s.book.acts asc IsGoing (λ y e. going_from y (l y.tid y e))
 
 agree_at : {C : Type 0} (w : Fixed C) (Of : Tx → C → Type 0) (finish : C → List State → Alone) (e : Event) (s : Machine C) (h : History) → IsAllowed w e s → AllGood w Of finish s h → RowsStand w s h → after w e s ≡ as_agreed w e s
-unfolding after as_agreed TidsAscend AllBelow PairsAhead Rows Tracked
+unfolding after as_agreed TidsAscend AllBelow PairsAhead Rows Tracked Numbered
 agree_at w Of finish (Arrive k a) s h ok g i =
     let b = below_kept w Of finish (Arrive k a) s h ok g i.below.after_stand i.below.below in
     let xs = map (book.lowered k (book.tids_on (cell_at s a).entries)) s.book.acts in
@@ -446,9 +529,9 @@ agree_at w Of finish (Ask t a) s h ok g i =
     ap (λ acts. record (after w (Ask t a) s) { book = record s.book { acts = acts; pairs = book.asked_pairs (book.in_the_way t c.entries) (book.met t c.entries) t a s.book } })
     (asks_same t a (max c.last c.floor) (book.in_the_way t c.entries) (book.met t c.entries) s.book h.long 0 s.ring.next_tid g.ascend live (asks_live t s live g.ascend) (going_all s g.ascend g.left) i.before.pairs_ahead (below_kept w Of finish (Ask t a) s h ok g i.below.after_stand i.below.below))
 agree_at w Of finish (Abort k) s h ok g i =
-    let b = book.failed_tx (book.why k s.desk) in
-    let cs = s.book.cascades ++ record { first = k; upto = s.ring.next_bid - 1; by = book.failed_tx (book.why k s.desk); at = s.book.next_c; code = book.failed_code (book.why k s.desk) } ∷ [] in
-    ap (λ acts. record (after w (Abort k) s) { book = record s.book { cascades = cs; acts = acts } }) (taken_all k b s.book.acts (going_all s g.ascend g.left))
+    let aborted = λ (f : Option Failure). s.book.cascades ++ record { first = k; upto = s.ring.next_bid - 1; by = book.failed_tx f; at = s.book.next_c; code = book.failed_code f } ∷ [] in
+    ap (λ acts. record (after w (Abort k) s) { book = record s.book { cascades = aborted (book.why k s.desk); acts = acts } }) (taken_all k (book.failed_tx (book.why k s.desk)) s.book.acts (going_all s g.ascend g.left))
+    ∙ ap (λ f. record (after w (Abort k) s) { book = record s.book { cascades = aborted f; acts = map (rows.takes k (book.failed_tx f)) s.book.acts } }) (why_same k s.desk.batches (g.good.numbered k))
 agree_at w Of finish (Rollback a) s h ok g i =
     let c = cell_at s a in
     let r = i.rows a in
@@ -458,8 +541,14 @@ agree_at w Of finish (Finish t a) s h ok g i =
     let k = g.good.tracked a in
     let owners : AllByRecursion (λ j. is_key_among j.who (map key_of c.entries) ≡ true) c.images =
     subst (λ z. AllByRecursion (λ j. is_key_among j.who (map key_of c.entries) ≡ true) z) (sym k.images_are) (subst (λ z. AllByRecursion (λ j. is_key_among j.who z ≡ true) (images_in (h.long a))) (sym k.stands) (image_owners (h.long a))) in
-    ap (λ z. record (after w (Finish t a) s) { cells = puts s a z }) (leaves_same t (act_of t s.book.acts) c owners)
+    ap (λ z. record (after w (Finish t a) s) { cells = puts s a z }) (leaves_same t (act_of t s.book.acts) c owners (floor_stays w t a s ok g.standing))
 agree_at w Of finish e s h ok g i = refl
+
+-- the rise at an Ask
+pub rise_at : {C : Type 0} (w : Fixed C) (Of : Tx → C → Type 0) (finish : C → List State → Alone) (t a m : ℕ) (s : Machine C) (h : History) → IsAllowed w (Ask t a) s → AllGood w Of finish s h → RowsStand w s h
+    → let ps = s.book.pairs ++ book.new_pairs t a (book.met t (cell_at s a).entries) s.book.acts in raised ps (book.changed_act t (book.joins a m) s.book.acts) ≡ rows.risen ps (book.changed_act t (book.joins a m) s.book.acts)
+unfolding TidsAscend PairsAhead
+rise_at w Of finish t a m s h ok g i = asked_rise t a m (book.met t (cell_at s a).entries) s.book h.long 0 s.ring.next_tid g.ascend (higher.asks_live w Of finish t a s h ok g) i.before.pairs_ahead
 
 pub rows_stand : {C : Type 0} (w : Fixed C) (Of : Tx → C → Type 0) (finish : C → List State → Alone) (es : List Event) → Given w Of finish → IsRun w es → RowsStand w (reached w es) (history w es)
 rows_stand w Of finish es v run = all.along_good w Of finish (RowsStand w) v (λ e s h ok g i. stand_kept w Of finish e s h ok g i) (record { before = befores.opened w Of finish v; below = below_begins w Of finish v; rows = rows_opened w }) es run
