@@ -6,8 +6,6 @@ pub mod BegunLogs
 pub mod Greatest
 pub mod StatesOver
 pub mod Growing
-pub mod NextBatch
-pub mod NextCommit
 pub mod Steps
 pub mod Homes
 pub mod Placing

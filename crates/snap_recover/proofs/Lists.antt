@@ -134,9 +134,3 @@ zip_one R (x ∷ xs) (y ∷ ys) (z ∷ zs) f h g =
     let first : y ≡ z = f x y z h.0 g.0 in
     let rest : ys ≡ zs = zip_one R xs ys zs f h.1 g.1 in
     cc
-
-pub zip_weaker : {X Y : Type 0} (R S : X → Y → Type 0) (xs : List X) (ys : List Y) → ((x : X) (y : Y) → R x y → S x y) → AllZip R xs ys → AllZip S xs ys
-zip_weaker R S [] [] f h = tt
-zip_weaker R S [] (y ∷ ys) f h = elim h [ ]
-zip_weaker R S (x ∷ xs) [] f h = elim h [ ]
-zip_weaker R S (x ∷ xs) (y ∷ ys) f h = (f x y h.0, zip_weaker R S xs ys f h.1)

@@ -1,4 +1,3 @@
-pub mod Batches
 pub mod Logs
 pub mod Opening
 pub mod Refusals

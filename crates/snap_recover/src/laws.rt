@@ -3,14 +3,13 @@ ghost use Rattle.std.specs.List.{AllByRecursion};
 ghost use Rattle.txn_records.specs.declared.limits.TheConstants.{MOST_LISTED};
 ghost use Rattle.snap_base.specs.declared.transactions.State.{State};
 ghost use Rattle.txn_records.specs.declared.records.Record.{Record};
-ghost use Rattle.txn_records.specs.declared.records.Record.TheVariants.{Genesis, BatchCommit};
+ghost use Rattle.txn_records.specs.declared.records.Record.TheVariants.{Genesis};
 ghost use Rattle.txn_records.specs.Records.{IsState, IsRecord};
 ghost use Rattle.snap_recover.specs.declared.openings.Opening.{Opening};
 ghost use Rattle.snap_recover.specs.declared.refusals.RecoverNo.{RecoverNo};
 ghost use Rattle.snap_recover.specs.declared.refusals.RecoverNo.TheVariants.{Memory};
 ghost use Rattle.snap_recover.specs.Opening.{IsRecovered};
 ghost use Rattle.snap_recover.specs.Refusals.{IsRefused};
-ghost use Rattle.snap_recover.specs.Batches.{Completion, tids_from, batch_records, with_numbers_drawn, with_batch, MayRun};
 
 /// Logs recover to one opening at most.
 pub fn one_opening()
@@ -43,18 +42,4 @@ pub fn begun_is_recovered()
 pub fn begun_logs_are_recovered()
     ensures { (count : ℕ) (others : List (List Record)) (states : List State) → count ≡ length others + 1 → AllByRecursion (λ (rs : List Record). rs ≡ []) others
         → IsRecovered ((Genesis count states ∷ []) ∷ others) (record { states = states; committed = []; next_tid = record { 0 = 1 }; next_bid = record { 0 = 1 }; next_c = 1 }) }
-{}
-
-/// The next batch's records change no state before its commit is there, and only draw its numbers.
-pub fn batch_without_its_commit()
-    ensures { (rs : List Record) (o : Opening) (count : ℕ) (completions : List Completion)
-        → IsRecovered (rs ∷ []) o → MayRun o count completions
-        → IsRecovered ((rs ++ batch_records o.next_bid (tids_from o.next_tid count) completions) ∷ []) (with_numbers_drawn o count) }
-{}
-
-/// With its commit the batch is in, and its actors have the states that they completed it with.
-pub fn batch_with_its_commit()
-    ensures { (rs : List Record) (o : Opening) (count : ℕ) (completions : List Completion)
-        → IsRecovered (rs ∷ []) o → MayRun o count completions
-        → IsRecovered (((rs ++ batch_records o.next_bid (tids_from o.next_tid count) completions) ++ BatchCommit o.next_bid ∷ []) ∷ []) (with_batch o count completions) }
 {}

@@ -21,8 +21,8 @@ mod wholes;
 pub use causes::{LogCause, What};
 pub use genesis::first_genesis;
 pub use laws::{
-    batch_with_its_commit, batch_without_its_commit, begun_is_recovered, begun_logs_are_recovered,
-    one_opening, one_refusal, recovered_states, refused_is_not_recovered,
+    begun_is_recovered, begun_logs_are_recovered, one_opening, one_refusal, recovered_states,
+    refused_is_not_recovered,
 };
 pub use openings::{Kept, Opening, fresh};
 pub use ranges::GREATEST_NUMBER;
