@@ -90,6 +90,9 @@ pub fn take_room(
     ensures empty { IfOk result (λ slots. slots.items ≡ []) }
     ensures fits { IfOk result (λ slots. tids ≤ vec_capacity slots) }
     ensures room { OnOk result (vec_len entries.new < vec_capacity entries.new) }
+    ensures len { vec_len entries.new ≡ vec_len entries.old }
+    ensures no_less { vec_capacity entries.old ≤ vec_capacity entries.new }
+    ensures too_few { vec_capacity ready.old < tids → vec_capacity ready.new ≡ vec_capacity ready.old }
     ensures succeeds { vec_len entries.old < vec_capacity entries.old → tids ≤ vec_capacity ready.old
         → IsOk result }
     ensures err_entries { OnErr result (vec_capacity entries.new ≡ vec_capacity entries.old) }

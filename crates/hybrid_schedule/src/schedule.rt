@@ -1,4 +1,4 @@
-ghost use Rattle.std.specs.Prelude.{◌≡◌, ℕ, ◌≤◌, ◌<◌, nat_lt, Bool, Some, None, map, length, MatchResult, IfOk, OnOk, OnErr, IfErr, IsOk};
+ghost use Rattle.std.specs.Prelude.{◌≡◌, ℕ, ◌+◌, ◌≤◌, ◌<◌, nat_lt, Bool, Some, None, map, length, MatchResult, IfOk, OnOk, OnErr, IfErr, IsOk};
 ghost use Rattle.protocol.specs.Words.{has_act, has_entry, has_undone, is_clear, who_on};
 ghost use Rattle.protocol.specs.OnBook.{tids_on};
 ghost use Rattle.protocol.specs.CellParts.{with_batch, with_act, with_done, with_complete, without_act, without_batch};
@@ -52,7 +52,7 @@ impl Model for Schedule {
 }
 
 impl Schedule {
-    /// Nothing stands there, and no batch was placed since this one. It has its first room.
+    /// Nothing stands there, and no batch was placed since this one.
     pub fn new(alloc: Global, base: Bid) -> Result<Self, Memory>
         ensures { IfOk result (λ s. s.schedule ≡ opened base.0) }
     {
@@ -97,6 +97,10 @@ impl Schedule {
         // Where room was made before, there is memory.
         ensures has_room { 1 ≤ self.old.spare_entries → length s.tids ≤ self.old.spare_tids
             → refusal s self.old.schedule ≡ None → IsOk result }
+
+        // It takes the room of one entry, and that for tids, but where there was too little.
+        ensures entries { self.old.spare_entries ≤ self.new.spare_entries + 1 }
+        ensures tids { self.old.spare_tids < length s.tids → self.old.spare_tids ≤ self.new.spare_tids }
     {
         if s.epoch != self.epoch {
             return Err((s, ArriveNo::Epoch { own: self.epoch }));
@@ -116,11 +120,13 @@ impl Schedule {
         }
     }
 
-    /// Places an ACT at the end.
+    /// Places an ACT at the end. It takes the room of one entry.
     pub fn place_act(&mut self, alloc: Global, t: Tid) -> Result<(), Memory>
         ensures ok { OnOk result (self.new.schedule ≡ with_act t.0 None self.old.schedule) }
         ensures err { OnErr result (self.new ≡ self.old) }
         ensures has_room { 1 ≤ self.old.spare_entries → IsOk result }
+        ensures entries { self.old.spare_entries ≤ self.new.spare_entries + 1 }
+        ensures tids { self.old.spare_tids ≤ self.new.spare_tids }
     {
         self.entries.reserve(1)?;
         self.acts.reserve(1)?;
