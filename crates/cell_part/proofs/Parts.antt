@@ -4,6 +4,7 @@ use Rattle.std.proofs.lemmas.Bool.{cond-false, cond_both}
 use Rattle.hybrid_schedule.specs.Cuts.{staying_below, going_from, cut_from}
 use Rattle.hybrid_schedule.specs.Schedules.{is_behind_no_act, tail_tids}
 use Rattle.actor_cell.specs.Calls.{undone_from}
+use Rattle.cell_part.specs.Cutting.{cut_back}
 use Rattle.protocol.specs.CellParts.{Store, HybridSchedule, Boxes, cell_of, cleared, cut_at, with_undone}
 use Rattle.protocol.specs.OnBook.{met}
 use Rattle.protocol.specs.OnCell.{going, staying, rolled_back}
@@ -27,19 +28,27 @@ all_ahead k (BatchEntry b ∷ es) =
     cond_both (nat_le k b.bid) [] (BatchEntry b ∷ staying_below k es) (λ o. ahead (is_batch_entry k) o ≡ o) (λ e. refl)
     (λ e. cond-false (b.bid == k) [] (BatchEntry b ∷ ahead (is_batch_entry k) (staying_below k es)) (other k b.bid e) ∙ ap (λ es. BatchEntry b ∷ es) rest)
 
-pub cell_back : {C : Type 0} (cascades : List Cascade) (k epoch : ℕ) (acts : Bool) (s s' : Store) (h h' : HybridSchedule) (b b' : Boxes C)
-    → epoch ≡ length cascades → cut_from k (length cascades) h ≡ cut_at cascades h → going_from k h.entries ≡ going cascades h.entries
-    → (undone_from k (is_empty (acts_on (staying cascades h.entries))) s ≡ with_undone (going cascades h.entries) s)
+-- equal parts make one cell
+cells_of : {C : Type 0} {s s' : Store} {h h' : HybridSchedule} {b b' : Boxes C} → s ≡ s' → h ≡ h' → b ≡ b' → cell_of s h b ≡ cell_of s' h' b'
+cells_of store schedule boxes = rw (store, schedule, boxes) refl
+
+-- whether ACTs are undone may be asked of the schedule once it is cut
+pub cell_cut : {C : Type 0} (k epoch : ℕ) (acts : Bool) (s s' : Store) (h h' : HybridSchedule) (b b' : Boxes C)
     → b' ≡ cleared (going_from k h.entries) b → h' ≡ cut_from k epoch h → acts ≡ is_behind_no_act k h'.entries → s' ≡ undone_from k acts s
-    → cell_of s' h' b' ≡ rolled_back cascades (cell_of s h b)
-cell_back cascades k epoch acts s s' h h' b b' seen cut gone undone boxes schedule told store =
-    let same : h' ≡ cut_at cascades h = schedule ∙ ap (λ n. cut_from k n h) seen ∙ cut in
+    → cell_of s' h' b' ≡ cut_back k epoch (cell_of s h b)
+cell_cut k epoch acts s s' h h' b b' boxes schedule told store =
+    let all : acts ≡ is_empty (acts_on (staying_below k h.entries)) =
+    told ∙ ap (λ x. is_behind_no_act k x.entries) schedule ∙ ap (λ es. is_empty (acts_on es)) (all_ahead k h.entries) in
+    cells_of (store ∙ ap (λ o. undone_from k o s) all) schedule boxes
+
+-- a cut at the first aborted batch is the machine's rollback
+pub cut_is_rollback : {C : Type 0} (cascades : List Cascade) (k epoch : ℕ) (s : Store) (h : HybridSchedule) (b : Boxes C)
+    → epoch ≡ length cascades → cut_from k (length cascades) h ≡ cut_at cascades h → going_from k h.entries ≡ going cascades h.entries
+    → undone_from k (is_empty (acts_on (staying cascades h.entries))) s ≡ with_undone (going cascades h.entries) s
+    → cut_back k epoch (cell_of s h b) ≡ rolled_back cascades (cell_of s h b)
+cut_is_rollback cascades k epoch s h b seen cut gone undone =
     let stays : staying_below k h.entries ≡ staying cascades h.entries = ap (λ x. x.entries) cut in
-    let all : acts ≡ is_empty (acts_on (staying cascades h.entries)) =
-    told ∙ ap (λ x. is_behind_no_act k x.entries) schedule ∙ ap (λ es. is_empty (acts_on es)) (all_ahead k h.entries ∙ stays) in
-    let back : s' ≡ with_undone (going cascades h.entries) s = store ∙ ap (λ o. undone_from k o s) all ∙ undone in
-    let empty : b' ≡ cleared (going cascades h.entries) b = boxes ∙ ap (λ es. cleared es b) gone in
-    rw (back, same, empty) refl
+    cells_of (ap (λ es. undone_from k (is_empty (acts_on es)) s) stays ∙ undone) (ap (λ n. cut_from k n h) seen ∙ cut) (ap (λ es. cleared es b) gone)
 
 locks_of_tids : (l : Lock) (xs : List Lock) → map lock_of (map (λ (x : Lock). x.tid) xs) ≡ filter (rivals l) xs
 locks_of_tids l [] = refl

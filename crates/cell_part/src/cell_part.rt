@@ -11,6 +11,7 @@ ghost use Rattle.protocol.specs.Rivals.{lock_of};
 ghost use Rattle.protocol.specs.Runs.{new_cell};
 ghost use Rattle.protocol.specs.Words.{acts_on, has_act, has_entry, has_undone, holds, image_of, is_clear, is_empty, is_ended, is_going, is_sealed, outcome_of, waiting_of, who_on};
 ghost use Rattle.cell_part.specs.Contents.{next_meant, outcome_next, outcome_result, waiting_control};
+ghost use Rattle.cell_part.specs.Cutting.{cut_back};
 ghost use Rattle.cell_part.specs.Room.{KeepsRoom};
 ghost use Rattle.cell_part.specs.Running.{begun, ended};
 
@@ -176,6 +177,7 @@ impl<C: Drop> CellPart<C> {
     /// them. It is the machine's wherever of the batches on the schedule those from `first` on are the aborted ones, images
     /// are of entries, and nothing has run behind an ACT that stays.
     pub fn rollback(&mut self, first: Bid, epoch: u64)
+        ensures cut { self.new.cell ≡ cut_back first.0 epoch self.old.cell }
         ensures back { (cascades : List Cascade) → epoch ≡ length cascades
             → IsCutFrom first.0 (is_empty (acts_on (staying cascades self.old.cell.entries))) cascades self.old.cell.entries self.old.cell.images
             → self.new.cell ≡ rolled_back cascades self.old.cell }
