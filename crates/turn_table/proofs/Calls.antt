@@ -47,8 +47,8 @@ module _ {P E : Type 0} where
   left v part h me new l rest e q =
       q ∙ ap (λ (m : Me (Option P) (View P E)). none_out (handed (lost m.0 part) 0)) e ∙ ap (λ (n : ℕ). none_out (handed (lost v part) n)) (sym rest)
 
-  pub holds_it : (v u : View P E) (part h : ℕ) (p : P) → u ≡ handed (gained v part p) h → at u.held part ≡ Some p
-  holds_it v u part h p e = ap (λ (w : View P E). at w.held part) e ∙ put_here v.held part (Some p)
+  pub holds_it : (v u : View P E) (part h n : ℕ) (p : P) → u ≡ handed (gained v part p n) h → at u.held part ≡ Some p
+  holds_it v u part h n p e = ap (λ (w : View P E). at w.held part) e ∙ put_here v.held part (Some p)
 
   pub still_holds : (v u : View P E) (part h : ℕ) (p : P) → u ≡ handed v h → at v.held part ≡ Some p → at u.held part ≡ Some p
   still_holds v u part h p e q = ap (λ (w : View P E). at w.held part) e ∙ q

@@ -8,7 +8,7 @@ use Rattle.atomic_table.proofs.Lists.{at_set}
 use Rattle.turn_table.specs.declared.views.View.{View}
 use Rattle.turn_table.specs.Places.{at, one, times, once_below}
 use Rattle.turn_table.specs.Runs.{Run}
-use Rattle.turn_table.specs.Rule.{Kept, Knows}
+use Rattle.turn_table.specs.Rule.{HoldsApart, Kept, Knows}
 use Rattle.turn_table.proofs.ByPlace.{some_is_one}
 use Rattle.turn_table.proofs.Sums.{total_set, total_one, total_two}
 
@@ -56,6 +56,7 @@ module _ {P E : Type 0} where
     held = λ i q e. ((k.held i q e).0, (k.held i q e).1, λ ne. h i q e ((k.held i q e).2 ne));
     stand = k.stand;
     bound = k.bound;
+    since = k.since;
     live = k.live;
   }
 
@@ -108,8 +109,10 @@ module _ {P E : Type 0} (footprint : E → List ℕ) (happens : E → List P →
       → ((i : ℕ) → i < length start → slice_index words (suc i) ≡ 0 → (p : P) × (slice_get parts i ≡ Some p) × (get_elem? homes i ≡ maybe.some (maybe.some (Some p))))
       → Knows parts history homes (length start) w
       → ((j : ℕ) (u : View P E) → j ≢ id → get_elem? s.views j ≡ maybe.some u → Knows parts history homes (length start) u)
+      → ((j : ℕ) (u : View P E) → j ≢ id → get_elem? s.views j ≡ maybe.some u → HoldsApart footprint w u)
+      → ((j : ℕ) (u : View P E) → j ≢ id → get_elem? s.views j ≡ maybe.some u → HoldsApart footprint u w)
       → Kept footprint happens start record { words = words; homes = homes; views = set s.views id w }
-  change s k id v w here words homes history parts run wide deep sized count numbers many weights turn binary free mine others = record {
+  change s k id v w here words homes history parts run wide deep sized count numbers many weights turn binary free mine others from_others from_it = record {
     history = history;
     parts = parts;
     run = run;
@@ -123,5 +126,15 @@ module _ {P E : Type 0} (footprint : E → List ℕ) (happens : E → List P →
     turn = λ i h. (let t = total_set (λ (u : View P E). one (at u.held i)) s.views id v w here in let q = turn i h in let b = k.turn i h in omega arith);
     binary = binary;
     free = free;
+    alone = λ j l x y there yonder ne. ⊎_elim
+        (λ t. ⊎_elim
+        (λ u. absurd (ne (t.0 ∙ sym u.0)))
+        (λ u. subst (λ (z : View P E). HoldsApart footprint z y) t.1 (from_others l y u.0 u.1))
+        (at_set s.views id l w y yonder))
+        (λ t. ⊎_elim
+        (λ u. subst (λ (z : View P E). HoldsApart footprint x z) u.1 (from_it j x t.0 t.1))
+        (λ u. k.alone j l x y t.1 u.1 ne)
+        (at_set s.views id l w y yonder))
+        (at_set s.views id j w x there);
     each = λ j u e. ⊎_elim (λ t. subst (λ (x : View P E). Knows parts history homes (length start) x) t.1 mine) (λ t. others j u t.0 t.1) (at_set s.views id j w u e);
   }

@@ -69,6 +69,14 @@ module _ {P E : Type 0} (footprint : E → List ℕ) (happens : E → List P →
   )
   run_more xs (d ∷ es) ys e made r m = (r.0, r.1, run_more (replaced xs (footprint d) r.0) es ys e made r.2 m)
 
+  pub run_join : (xs ys zs : List P) (es more : List E) → Run footprint happens xs es ys → Run footprint happens ys more zs → Run footprint happens xs (es ++ more) zs
+  run_join xs ys zs [] more r m = subst (λ (ps : List P). Run footprint happens ps more zs) (sym r) m
+  run_join xs ys zs (d ∷ es) more r m = (r.0, r.1, run_join (replaced xs (footprint d) r.0) ys zs es more r.2 m)
+
+  pub run_cut : (xs zs : List P) (es more : List E) → Run footprint happens xs (es ++ more) zs → (ys : List P) × Run footprint happens xs es ys × Run footprint happens ys more zs
+  run_cut xs zs [] more r = (xs, refl, r)
+  run_cut xs zs (d ∷ es) more r = let c = run_cut (replaced xs (footprint d) r.0) zs es more r.2 in (c.0, (r.0, r.1, c.1), c.2)
+
 module _ {E : Type 0} where
   index_front : (es ys : List (ℕ × E)) (i : ℕ) → i < length es → slice_index (numbers (es ++ ys)) i ≡ slice_index (numbers es) i
   index_front [] ys i h = absurd (omega arith)

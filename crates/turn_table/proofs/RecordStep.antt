@@ -13,6 +13,7 @@ use Rattle.turn_table.specs.Rule.{Kept}
 use Rattle.turn_table.proofs.ByPlace.{values_same, one_held_after, length-replaced, replaced_else, agree_after, zero_of_none, some_of, some_is_one}
 use Rattle.turn_table.proofs.Sums.{total_le, total_times, total_one}
 use Rattle.turn_table.proofs.Histories.{times-append, stand_longer, Stand-append, get_last, stand_below, once_more, run_more}
+use Rattle.turn_table.proofs.Apart.{leave-append, not_covered}
 use Rattle.turn_table.proofs.Changes.{none_out, within, apart, change}
 
 is_held : {P : Type 0} (o : Option P) → one o ≡ 1 → IsSome o
@@ -79,6 +80,10 @@ module _ {P E : Type 0} (footprint : E → List ℕ) (happens : E → List P →
             (o.0, agree_after v.held k.parts is ps may.0 agree i q g, o.2));
         stand = Stand-append history v.entries ((n, e) ∷ []) (stand_longer k.history (e ∷ []) v.entries known.stand) (ap (λ (m : ℕ). slice_get history m) count ∙ get_last k.history e, tt);
         bound = (let a : length (v.entries ++ (n, e) ∷ []) ≡ length v.entries + 1 = length-append v.entries ((n, e) ∷ []) in omega arith);
+        since = λ i q g. (
+            let before = some_of (at v.held i) (held_before v.held is ps i q may.0 g) in
+            let o = known.since i before.0 before.1 in
+            (o.0, o.1, omega (arith, o.2, longer)));
         live = λ i q g. (let before = some_of (at v.held i) (held_before v.held is ps i q may.0 g) in known.live i before.0 before.1);
       })
       (λ j u ne f.
@@ -90,8 +95,14 @@ module _ {P E : Type 0} (footprint : E → List ℕ) (happens : E → List P →
             (o.0, replaced_else v.held k.parts is ps i may.0 z ∙ o.1, o.2));
         stand = stand_longer k.history (e ∷ []) u.entries them.stand;
         bound = them.bound;
+        since = λ i q g. (let o = them.since i q g in (o.0, o.1, omega (arith, o.2, longer)));
         live = them.live;
-      }) where
+      })
+      (λ j u other there i m q g f.
+      let before = some_of (at v.held i) (held_before v.held is ps i q may.0 g) in
+      k.alone id j v u here there (λ h. other (sym h)) i m before.0 before.1 f)
+      (λ j u other there i m q g f. leave-append footprint i m v.entries ((n, e) ∷ []) (k.alone j id u v there here other i m q g f)
+      ((λ le. not_covered v.held is i may.0 (λ p h. apart footprint happens start s k j id u v there here other i p q h g)), tt)) where
         fits : (n m : ℕ) → n ≡ m → m ≤ 68719476736 → n + 1 < 18446744073709551616
         fits n m e h = omega arith
 

@@ -1,5 +1,5 @@
 -- How the rule begins, and what a view cut in two and two joined views leave of it.
-use Rattle.std.proofs.Common.{◌≡◌, ℕ, zero, suc, ◌+◌, ◌<◌, List, [], ◌∷◌, ◌++◌, map, length, set, replicate, Option, Some, slice_get, slice_index, ap, sym, subst, refl, ◌∙◌, ⊎_elim, length-append, le-ltb, arith}
+use Rattle.std.proofs.Common.{◌≡◌, ◌≢◌, ◌⊎◌, inl, inr, ℕ, zero, suc, ◌+◌, ◌<◌, List, [], ◌∷◌, ◌++◌, map, length, set, replicate, Option, Some, slice_get, slice_index, ap, sym, subst, refl, ◌∙◌, ⊎_elim, length-append, le-ltb, arith}
 use Rattle.std.proofs.lemmas.List.{length-map, length-replicate}
 use mathlib.Core.Option as maybe
 use lib.ListN.{get_elem?}
@@ -8,10 +8,11 @@ use Rattle.atomic_table.proofs.Lists.{at_set, at_snoc, set_else}
 use Rattle.turn_table.specs.declared.views.View.{View}
 use Rattle.turn_table.specs.Places.{at, one, total, times, once_below, count_if}
 use Rattle.turn_table.specs.Views.{whole, fresh, cut, joined}
-use Rattle.turn_table.specs.Rule.{Kept, Knows}
+use Rattle.turn_table.specs.Rule.{HoldsApart, Kept, Knows}
 use Rattle.turn_table.proofs.ByPlace.{none_is_some, zero_of_none}
 use Rattle.turn_table.proofs.Sums.{total_set, total_snoc}
 use Rattle.turn_table.proofs.Histories.{times-append, Stand-append}
+use Rattle.turn_table.proofs.Apart.{leave-append}
 
 -- the element at a number of a list of parts, each at home
 part_there : {P : Type 0} (xs : List P) (i : ℕ) → i < length xs → (p : P) × (slice_get xs i ≡ Some p) × (get_elem? (map maybe.some (map Some xs)) i ≡ maybe.some (maybe.some (Some p)))
@@ -26,9 +27,10 @@ module _ {P E : Type 0} (footprint : E → List ℕ) (happens : E → List P →
       → total (λ (v : View P E). length v.entries) views ≡ total (λ (v : View P E). length v.entries) s.views
       → total (λ (v : View P E). v.weight + v.splits) views ≡ total (λ (v : View P E). v.weight + v.splits) s.views
       → ((i : ℕ) → total (λ (v : View P E). one (at v.held i)) views ≡ total (λ (v : View P E). one (at v.held i)) s.views)
+      → ((j l : ℕ) (v u : View P E) → get_elem? views j ≡ maybe.some v → get_elem? views l ≡ maybe.some u → j ≢ l → HoldsApart footprint v u)
       → ((j : ℕ) (v : View P E) → get_elem? views j ≡ maybe.some v → Knows k.parts k.history s.homes (length start) v)
       → Kept footprint happens start record { words = s.words; homes = s.homes; views = views }
-  recast s k views numbers many weights turn each = record {
+  recast s k views numbers many weights turn alone each = record {
     history = k.history;
     parts = k.parts;
     run = k.run;
@@ -42,8 +44,13 @@ module _ {P E : Type 0} (footprint : E → List ℕ) (happens : E → List P →
     turn = λ i h. turn i ∙ k.turn i h;
     binary = k.binary;
     free = k.free;
+    alone = alone;
     each = each;
   }
+
+  -- who holds nothing
+  idle_apart : (v u : View P E) → ((i : ℕ) (p : P) → at v.held i ≡ Some p → ⊥) → HoldsApart footprint v u
+  idle_apart v u idle i n p e f = absurd (idle i p e)
 
   -- a view that holds nothing and has no entry
   fresh_knows : (parts : List P) (history : List E) (homes : List (maybe.Option (Option P))) (weight splits : ℕ) → Knows parts history homes (length start) (fresh {P = P} {E = E} weight splits)
@@ -51,6 +58,7 @@ module _ {P E : Type 0} (footprint : E → List ℕ) (happens : E → List P →
     held = λ i p e. absurd (none_is_some p e);
     stand = tt;
     bound = omega arith;
+    since = λ i p e. absurd (none_is_some p e);
     live = λ i p e. absurd (none_is_some p e);
   }
 
@@ -62,13 +70,29 @@ module _ {P E : Type 0} (footprint : E → List ℕ) (happens : E → List P →
       (let t = total_set (λ (u : View P E). length u.entries) s.views id v (cut v) here in let n = total_snoc (λ (u : View P E). length u.entries) (set s.views id (cut v)) (fresh 1 0) in omega arith)
       (let t = total_set (λ (u : View P E). u.weight + u.splits) s.views id v (cut v) here in let n = total_snoc (λ (u : View P E). u.weight + u.splits) (set s.views id (cut v)) (fresh 1 0) in omega arith)
       (λ i. (let t = total_set (λ (u : View P E). one (at u.held i)) s.views id v (cut v) here in let n = total_snoc (λ (u : View P E). one (at u.held i)) (set s.views id (cut v)) (fresh 1 0) in omega arith))
+      (λ j l x y e f ne. ⊎_elim
+      (λ a. ⊎_elim
+      (λ b. apart_after j l x y a b ne (at_set s.views id j (cut v) x a) (at_set s.views id l (cut v) y b))
+      (λ q. subst (λ (z : View P E). HoldsApart footprint x z) q (λ i n p h g. tt))
+      (at_snoc (set s.views id (cut v)) (fresh 1 0) y l f))
+      (λ q. subst (λ (z : View P E). HoldsApart footprint z y) q (idle_apart (fresh 1 0) y (λ i p h. none_is_some p h)))
+      (at_snoc (set s.views id (cut v)) (fresh 1 0) x j e))
       (λ j u e. ⊎_elim
       (λ f. ⊎_elim
-      (λ t. subst (λ (x : View P E). Knows k.parts k.history s.homes (length start) x) t.1 (record { held = known.held; stand = known.stand; bound = known.bound; live = known.live }))
+      (λ t. subst (λ (x : View P E). Knows k.parts k.history s.homes (length start) x) t.1 (record { held = known.held; stand = known.stand; bound = known.bound; since = known.since; live = known.live }))
       (λ t. k.each j u t.1)
       (at_set s.views id j (cut v) u f))
       (λ q. subst (λ (x : View P E). Knows k.parts k.history s.homes (length start) x) q (fresh_knows k.parts k.history s.homes 1 0))
-      (at_snoc (set s.views id (cut v)) (fresh 1 0) u j e))
+      (at_snoc (set s.views id (cut v)) (fresh 1 0) u j e)) where
+        Now : ℕ → View P E → Type 0
+        Now j x = ((j ≡ id) × (cut v ≡ x)) ⊎ ((j ≢ id) × (get_elem? s.views j ≡ maybe.some x))
+
+        apart_after : (j l : ℕ) (x y : View P E) → get_elem? (set s.views id (cut v)) j ≡ maybe.some x → get_elem? (set s.views id (cut v)) l ≡ maybe.some y → j ≢ l
+            → Now j x → Now l y → HoldsApart footprint x y
+        apart_after j l x y e f ne (inl t) (inl u) = absurd (ne (t.0 ∙ sym u.0))
+        apart_after j l x y e f ne (inl t) (inr u) = subst (λ (z : View P E). HoldsApart footprint z y) t.1 (k.alone id l v y here u.1 (λ h. u.0 (sym h)))
+        apart_after j l x y e f ne (inr t) (inl u) = subst (λ (z : View P E). HoldsApart footprint x z) u.1 (k.alone j id x v t.1 here t.0)
+        apart_after j l x y e f ne (inr t) (inr u) = k.alone j l x y t.1 u.1 ne
 
   -- f of the two views together is f of the joined one
   moved_over : (f : View P E → ℕ) (s : State (Option P) (View P E)) (id other : ℕ) (v w : View P E)
@@ -91,6 +115,13 @@ module _ {P E : Type 0} (footprint : E → List ℕ) (happens : E → List P →
       (moved_over (λ (u : View P E). length u.entries) s id other v w here there (length-append v.entries w.entries) refl)
       (moved_over (λ (u : View P E). u.weight + u.splits) s id other v w here there (omega arith) refl)
       (λ i. moved_over (λ (u : View P E). one (at u.held i)) s id other v w here there (let z = zero_of_none (at w.held i) (idle i) in omega arith) refl)
+      (λ j l x y e f ne. ⊎_elim
+      (λ t. subst (λ (z : View P E). HoldsApart footprint z y) t.1 (idle_apart (fresh 0 0) y (λ i p h. none_is_some p h)))
+      (λ t. ⊎_elim
+      (λ u. subst (λ (z : View P E). HoldsApart footprint x z) u.1 (λ i n p h g. tt))
+      (λ u. apart_after j l x y ne t.0 (at_set s.views id j (joined v w) x t.1) (at_set s.views id l (joined v w) y u.1))
+      (at_set (set s.views id (joined v w)) other l (fresh 0 0) y f))
+      (at_set (set s.views id (joined v w)) other j (fresh 0 0) x e))
       (λ j u e. ⊎_elim
       (λ t. subst (λ (x : View P E). Knows k.parts k.history s.homes (length start) x) t.1 (fresh_knows k.parts k.history s.homes 0 0))
       (λ t. ⊎_elim
@@ -98,11 +129,24 @@ module _ {P E : Type 0} (footprint : E → List ℕ) (happens : E → List P →
         held = known.held;
         stand = Stand-append k.history v.entries w.entries known.stand second.stand;
         bound = (let a = length-append v.entries w.entries in let b = known.bound in let c = second.bound in omega arith);
+        since = known.since;
         live = λ i p f. omega arith;
       }))
       (λ q. k.each j u q.1)
       (at_set s.views id j (joined v w) u t.1))
-      (at_set (set s.views id (joined v w)) other j (fresh 0 0) u e))
+      (at_set (set s.views id (joined v w)) other j (fresh 0 0) u e)) where
+        old : get_elem? s.views other ≡ maybe.some w
+        old = sym (set_else s.views id other (joined v w) differ) ∙ there
+
+        Now : ℕ → View P E → Type 0
+        Now j x = ((j ≡ id) × (joined v w ≡ x)) ⊎ ((j ≢ id) × (get_elem? s.views j ≡ maybe.some x))
+
+        apart_after : (j l : ℕ) (x y : View P E) → j ≢ l → j ≢ other → Now j x → Now l y → HoldsApart footprint x y
+        apart_after j l x y ne not (inl t) (inl u) = absurd (ne (t.0 ∙ sym u.0))
+        apart_after j l x y ne not (inl t) (inr u) = subst (λ (z : View P E). HoldsApart footprint z y) t.1 (k.alone id l v y here u.1 (λ h. u.0 (sym h)))
+        apart_after j l x y ne not (inr t) (inl u) = subst (λ (z : View P E). HoldsApart footprint x z) u.1
+            (λ i n p h g. leave-append footprint i n v.entries w.entries (k.alone j id x v t.1 here t.0 i n p h g) (k.alone j other x w t.1 old not i n p h g))
+        apart_after j l x y ne not (inr t) (inr u) = k.alone j l x y t.1 u.1 ne
 
   zeros : (n i : ℕ) → slice_index (replicate n 0) i ≡ 0
   zeros zero i = refl
@@ -126,6 +170,7 @@ module _ {P E : Type 0} (footprint : E → List ℕ) (happens : E → List P →
     turn = λ i r. sym (zeros (suc (length start)) (suc i));
     binary = λ i r. (let z = zeros (suc (length start)) (suc i) in omega arith);
     free = λ i r z. part_there start i r;
+    alone = λ j l v u e f ne. first_idle j v u e;
     each = λ j v e. first_only j v e;
   })) where
     one_more : (n m k : ℕ) → n ≡ m + 1 → m ≡ k → n ≡ suc k
@@ -133,6 +178,10 @@ module _ {P E : Type 0} (footprint : E → List ℕ) (happens : E → List P →
 
     below_zero : (x : ℕ) → 0 ≡ once_below x 0
     below_zero x = sym (ap count_if (le-ltb x 0 (omega arith)))
+
+    first_idle : (j : ℕ) (v u : View P E) → get_elem? (whole {P = P} {E = E} ∷ []) j ≡ maybe.some v → HoldsApart footprint v u
+    first_idle zero v u e = subst (λ (x : View P E). HoldsApart footprint x u) (maybe.some-injective whole v e) (idle_apart whole u (λ i p h. none_is_some p h))
+    first_idle (suc j) v u e = absurd (maybe.some-ne-none v (sym e))
 
     first_only : (j : ℕ) (v : View P E) → get_elem? (whole {P = P} {E = E} ∷ []) j ≡ maybe.some v → Knows start [] (map maybe.some (map Some start)) (length start) v
     first_only zero v e = subst (λ (x : View P E). Knows start [] (map maybe.some (map Some start)) (length start) x) (maybe.some-injective whole v e) (fresh_knows start [] (map maybe.some (map Some start)) 1 15)

@@ -47,9 +47,12 @@ module _ {P E : Type 0} (footprint : E → List ℕ) (happens : E → List P →
         held = λ i q e. ((known.held i q e).0, (known.held i q e).1, mine i q e);
         stand = known.stand;
         bound = known.bound;
+        since = known.since;
         live = known.live;
       })
       (λ j u n e. rehomed k.parts k.history s.homes (set s.homes part x) (length start) u (k.each j u e) (others j u n e))
+      (λ j u other there. k.alone id j v u here there (λ h. other (sym h)))
+      (λ j u other there. k.alone j id u v there here other)
 
   pub lay_allowed : (slots id x part : ℕ) (v : View P E) (l : List (ℕ × Option P)) (p : P) → x ≡ suc part → l ≡ (part, None) ∷ [] → at v.held part ≡ Some p → v.hand ≡ suc part
       → Allows (Kept footprint happens start) slots id (v, l) x (λ n. n) (laid_down (step slots x 0 0 maybe.none) (v, l))
@@ -151,12 +154,23 @@ module _ {P E : Type 0} (footprint : E → List ℕ) (happens : E → List P →
             (o.0, o.1, λ m. set_else s.homes part i (maybe.some (Some p)) ne ∙ o.2 (λ g. ne (omega arith))));
         stand = known.stand;
         bound = known.bound;
+        since = λ i q e. (
+            let ne = left i q e in
+            let o = known.since i q (sym (put_else v.held part i None ne) ∙ e) in
+            (o.0, put_else v.since part i None ne ∙ o.1, o.2));
         live = λ i q e. known.live part p holds;
       })
       (λ j u n e. rehomed k.parts k.history s.homes (set s.homes part (maybe.some (Some p))) (length start) u (k.each j u e) (λ i q g home. dite
       (ℕ_discrete i part)
       (λ d. absurd (apart footprint happens start s k j id u v e here n part p q holds (ap (λ (m : ℕ). at u.held m) (sym d) ∙ g)))
       (λ ne. set_else s.homes part i (maybe.some (Some p)) ne ∙ home)))
+      (λ j u other there i n q e f.
+      let ne = left i q e in
+      k.alone id j v u here there (λ h. other (sym h)) i n q (sym (put_else v.held part i None ne) ∙ e) (sym (put_else v.since part i None ne) ∙ f))
+      (λ j u other there. k.alone j id u v there here other) where
+        -- what is held still is another part
+        left : (i : ℕ) (q : P) → at (put_at v.held part None) i ≡ Some q → i ≢ part
+        left i q e d = none_is_some q (sym (ap (λ (j : ℕ). at (put_at v.held part None) j) d ∙ put_here v.held part None) ∙ e)
 
   pub give_allowed : (slots id x part : ℕ) (v : View P E) (l : List (ℕ × Option P)) (p : P) → x ≡ suc part → l ≡ (part, Some p) ∷ [] → at v.held part ≡ Some p → v.hand ≡ suc part
       → Allows (Kept footprint happens start) slots id (v, l) x (λ n. 0) (λ n. gave (step slots x 0 0 maybe.none) (v, l) 0)

@@ -1,5 +1,5 @@
 -- What stands at a number: in a list that reaches it or not, and at the numbers of a footprint.
-use Rattle.std.specs.Prelude.{◌≡◌, ℕ, zero, suc, ◌+◌, ◌<◌, Bool, true, false, List, [], ◌∷◌, Option, Some, None, IsSome, map, length, slice_index, slice_set, slice_get, nat_eq, nat_lt, ⊤}
+use Rattle.std.specs.Prelude.{◌≡◌, ◌≢◌, ℕ, zero, suc, ◌+◌, ◌<◌, Bool, true, false, List, [], ◌∷◌, Option, Some, None, IsSome, map, length, slice_index, slice_set, slice_get, nat_eq, nat_lt, ⊤}
 
 -- 1 where the test is true, and else 0
 abbrev pub count_if : Bool → ℕ
@@ -59,6 +59,11 @@ module _ {P : Type 0} where
   held_after hs [] ps = hs
   held_after hs (i ∷ is) [] = hs
   held_after hs (i ∷ is) (p ∷ ps) = held_after (put_at hs i (Some p)) is ps
+
+-- the number is not one of these
+abbrev pub IsNoneOf : ℕ → List ℕ → Type 0
+IsNoneOf i [] = ⊤
+IsNoneOf i (j ∷ js) = (i ≢ j) × IsNoneOf i js
 
 module _ {E : Type 0} where
   -- how often a number stands in the entries

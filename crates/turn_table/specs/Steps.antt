@@ -10,7 +10,7 @@ module _ {P E : Type 0} where
   abbrev pub took : (View P E → Type 0) → Step (Option P) → Me (Option P) (View P E) → ℕ → Me (Option P) (View P E) → Type 0
   took facts s me n after =
       (i : ℕ) → s.word ≡ suc i
-      → (n ≡ 0 → (p : P) × (after ≡ (handed (gained me.0 i p) (suc i), (i, Some p) ∷ [])) × facts (gained me.0 i p))
+      → (n ≡ 0 → (p : P) × (count : ℕ) × (after ≡ (handed (gained me.0 i p count) (suc i), (i, Some p) ∷ [])) × facts (gained me.0 i p count))
       × (n ≢ 0 → after ≡ (refused me.0, []))
 
   -- no slot is out any more

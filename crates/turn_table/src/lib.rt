@@ -18,7 +18,10 @@ mod turns;
 mod views;
 
 pub use held::{Held, Lease};
-pub use laws::{one_view_holds_it, put_and_rest, taken_and_given};
+pub use laws::{
+    histories_go_on, one_view_holds_it, put_and_rest, runs_join, taken_and_given,
+    what_is_held_is_left,
+};
 pub use limits::{MOST_ENTRIES, MOST_PARTS, PASSES};
 pub use passes::Pass;
 pub use pieces::{Makes, Piece};

@@ -2,7 +2,7 @@
 ghost use Rattle.std.specs.Prelude.{◌≡◌, ℕ, ◌+◌, ◌*◌, ◌<◌, ◌≤◌, [], ◌∷◌, ◌++◌, ◌↔◌, Some, None, IfSome, IfNone, OnOk, vec_len, vec_capacity, length};
 ghost use Rattle.turn_table.specs.Places.{at, AllBefore};
 ghost use Rattle.turn_table.specs.Runs.{Fits, May};
-ghost use Rattle.turn_table.specs.Views.{gained, lost, refused, noted, cut, fresh};
+ghost use Rattle.turn_table.specs.Views.{HasGained, gained, lost, refused, noted, cut, fresh};
 ghost use Rattle.turn_table.specs.Words.{tables_of, opening_of, IsOf, knows, part_of, value_of};
 ghost use Rattle.turn_table.specs.declared.limits.TheConstants.{MOST_ENTRIES};
 
@@ -60,7 +60,7 @@ impl<P: Piece> Turns<P> {
         requires own { IsOf self.now pass.old.seat }
         requires part { part < self.now.parts }
         ensures own { IsOf self.now pass.new.seat }
-        ensures some { IfSome result (λ h. (part_of h ≡ part) × (knows pass.new.seat ≡ gained (knows pass.old.seat) part (value_of h))) }
+        ensures some { IfSome result (λ h. (part_of h ≡ part) × HasGained (knows pass.old.seat) part (value_of h) (knows pass.new.seat)) }
         ensures value { IfSome result (λ h. at (knows pass.new.seat).held part ≡ Some (value_of h)) }
         ensures fits { IfSome result (λ h. Fits (P.footprint (tables_of self.now)) (P.happens (tables_of self.now)) (opening_of self.now) (knows pass.new.seat).held pass.new.entries.items) }
         ensures none { IfNone result (knows pass.new.seat ≡ refused (knows pass.old.seat)) }
@@ -80,7 +80,7 @@ impl<P: Piece> Turns<P> {
         requires rest { (seat.old.me.1 ≡ []) × ((knows seat.old).hand ≡ 0) × (0 < (knows seat.old).weight) }
         requires told { (w : View P P.Event) → Fits (P.footprint (tables_of self.now)) (P.happens (tables_of self.now)) (opening_of self.now) w.held w.entries → W.facts w }
         ensures own { seat.new.table_id ≡ seat.old.table_id }
-        ensures some { IfSome result (λ p. (seat.new.me ≡ (gained (knows seat.old) part p, [])) × W.facts (gained (knows seat.old) part p)) }
+        ensures some { IfSome result (λ p. (n : ℕ) × (seat.new.me ≡ (gained (knows seat.old) part p n, [])) × W.facts (gained (knows seat.old) part p n)) }
         ensures value { IfSome result (λ p. at (knows seat.new).held part ≡ Some p) }
         ensures none { IfNone result (seat.new.me ≡ (refused (knows seat.old), [])) }
     {

@@ -4,6 +4,8 @@ use std::collections::LinkedList;
 pub struct View<P, E> {
     /// By part, its value where the turn is held.
     pub held: LinkedList<Option<P>>,
+    /// By part, how many events were recorded by all when the turn was taken, where it is held.
+    pub since: LinkedList<Option<u64>>,
     /// The events that it recorded, each with its number.
     pub entries: LinkedList<(u64, E)>,
     pub weight: u64,

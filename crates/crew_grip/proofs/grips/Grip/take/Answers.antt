@@ -41,7 +41,7 @@ returns-clause-work g c =
     record {
       own = c.take.ensures.own;
       grip =
-          subst (λ (hs : List (Option ShareState)). IsGripOf w hs c.put_share.new.self) (sym (ap (λ v. v.held) c.in-Some.ensures.some.1 ∙ ap (λ (y : ShareState). put_at held c.args.part (Some y)) (sym c.open-share.ensures.1)))
+          subst (λ (hs : List (Option ShareState)). IsGripOf w hs c.put_share.new.self) (sym (ap (λ v. v.held) c.in-Some.ensures.some.1.1 ∙ ap (λ (y : ShareState). put_at held c.args.part (Some y)) (sym c.open-share.ensures.1)))
           (took w held c.args.self.now c.put_share.new.self c.args.part x (reached w st.events)
           c.putting_fits.ensures.stays c.putting_fits.ensures.belongs c.places_are_set.ensures.with c.requires.work.grip
           (omega (arith, c.requires.part, c.args.turns.now.counted, c.requires.crew.begins.many)) (part_of_run w start _ c.args.part x st is) c.put_share.ensures);
@@ -52,4 +52,4 @@ pub returns-clause-held : goal.returns-clause-held
 returns-clause-held g c is = ap is_some c.in-Some.ensures.value
 
 pub returns-clause-others : goal.returns-clause-others
-returns-clause-others g c i other = ap (λ v. at v.held i) c.in-Some.ensures.some.1 ∙ put_else _ c.args.part i _ (λ same. other (sym same))
+returns-clause-others g c i other = ap (λ v. at v.held i) c.in-Some.ensures.some.1.1 ∙ put_else _ c.args.part i _ (λ same. other (sym same))
