@@ -97,7 +97,7 @@ impl<P: Piece> Turns<P> {
     /// Makes room for one more event of this pass, and leaves all else as it is.
     pub fn room(&self, pass: &mut Pass<P>) -> Result<(), RoomNo>
         ensures ok { OnOk result ((vec_len pass.new.entries < vec_capacity pass.new.entries) × (vec_len pass.new.entries < MOST_ENTRIES)) }
-        ensures full { (result ≡ Err (RoomNo.Full (vec_len pass.old.entries))) ↔ (vec_len pass.old.entries ≡ MOST_ENTRIES) }
+        ensures full { (n : ℕ) → (result ≡ Err (RoomNo.Full n)) ↔ ((n ≡ vec_len pass.old.entries) × (n ≡ MOST_ENTRIES)) }
         ensures same { (pass.new.seat ≡ pass.old.seat) × (pass.new.entries.items ≡ pass.old.entries.items) }
     {
         let entries = pass.entries.len() as u64;
