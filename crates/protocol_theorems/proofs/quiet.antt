@@ -38,3 +38,5 @@ pub mod StandInLine
 pub mod SubPlaces
 pub mod SubsArrive
 pub mod TailsKept
+pub mod WaitsFall
+pub mod WaitsLaw

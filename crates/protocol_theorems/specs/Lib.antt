@@ -11,3 +11,4 @@ pub mod Quiet
 pub mod Rises
 pub mod Sets
 pub mod Sizes
+pub mod Waits

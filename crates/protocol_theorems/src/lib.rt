@@ -1,6 +1,7 @@
-//! The theorems of the machine, over every run: the order of those that committed, numbers as the ends of sets, what a state is
-//! like where no event is allowed, that each run ends, and what its parts have to hold meanwhile. Public functions with empty
-//! bodies, whose contracts are the laws. Their proofs go on from the invariants of protocol_laws.
+//! The theorems of the machine, over every run: the order of those that committed, numbers as the ends of sets, who waits
+//! for whom, what a state is like where no event is allowed, that each run ends, and what its parts have to hold
+//! meanwhile. Public functions with empty bodies, whose contracts are the laws. Their proofs go on from the invariants of
+//! protocol_laws.
 #![tactic(auto)]
 
 mod actors;
@@ -15,6 +16,7 @@ pub use cases::{cases_of_order, schedules_are_in_order};
 pub use parts::{batches_have_actors, boxes_are_few, controls_are_rests, places_are_few};
 pub use theorems::{
     committed_transactions_are_in_order, conditions_are_as_agreed, every_run_ends,
-    numbers_are_carried_through_all_pairs, numbers_are_the_ends_of_sets, rises_are_least,
-    rows_are_as_agreed, runs_that_cannot_go_on_have_answered, who_has_ended_has_a_verdict,
+    nobody_waits_in_a_circle, numbers_are_carried_through_all_pairs, numbers_are_the_ends_of_sets,
+    rises_are_least, rows_are_as_agreed, runs_that_cannot_go_on_have_answered,
+    who_has_ended_has_a_verdict,
 };

@@ -8,6 +8,7 @@ ghost use Rattle.protocol_theorems.specs.Left.{RunsEnd};
 ghost use Rattle.protocol_theorems.specs.Quiet.{AnsweredWhenQuiet};
 ghost use Rattle.protocol_theorems.specs.Rises.{RisesAreLeast};
 ghost use Rattle.protocol_theorems.specs.Sets.{NumbersStand};
+ghost use Rattle.protocol_theorems.specs.Waits.{WaitsEnd};
 
 /// Run one after the other in the order of their places, the transactions that committed give the results that they
 /// had; no two places are equal; on each actor places rise and states link in the order of placing; and who is told
@@ -22,6 +23,15 @@ pub fn committed_transactions_are_in_order<C>()
 /// logs are synced, no actor has an entry or an outcome, and no control is left.
 pub fn runs_that_cannot_go_on_have_answered<C>()
     ensures { AfterEveryRunWithHistory (AnsweredWhenQuiet {C = C}) }
+{}
+
+/// A batch or an ACT that still has something to do waits for another one in five cases: an ACT that has ended, for the
+/// batch of its before number; one that is to run on an actor, for a batch and for an ACT ahead of it there; an open batch,
+/// for each smaller one, and for an ACT ahead of it on an actor. Who is waited for is lower: by number, a batch before an
+/// ACT of the same number, and of two such ACTs the younger first. So nobody waits in a circle; and where one waits for
+/// nobody, some event is allowed.
+pub fn nobody_waits_in_a_circle<C>()
+    ensures { AfterEveryRunWithHistory (WaitsEnd {C = C}) }
 {}
 
 /// Before and after numbers are the greatest and the least of the batches that stand before and behind an ACT, in sets

@@ -1,4 +1,5 @@
--- An ACT that still has to do something waits for a batch, or for an ACT, below it, or an event is allowed.
+-- An ACT that still has to do something waits for the batch of its before number, or for who stands ahead of it, or an event
+-- is allowed.
 use Rattle.std.specs.Prelude.{◌≡◌, refl, ℕ, ◌<◌, ◌≤◌, ◌%◌, ◌==◌, nat_le, max, not, Bool, true, false, ◌&&◌, ◌||◌, if◌then◌else◌, Option, Some, None, is_some, List, [], ◌∷◌, length, find}
 use Rattle.std.specs.List.{list_any, list_all}
 use Rattle.std.proofs.Common.{arith, sym, ap, subst, inl, inr, ◌∙◌}
@@ -7,20 +8,16 @@ use Rattle.snap_base.specs.declared.transactions.TxResult.{TxResult}
 use Rattle.snap_base.specs.declared.transactions.TxResult.TheVariants.{Value, Fail}
 use Rattle.protocol.specs.Fixed.{Fixed, base}
 use Rattle.protocol.specs.Records.{is_prepare}
-use Rattle.protocol.specs.Parts.{Act, Batch, Status, Live, Doomed, Decided, Sealed, Entry, BatchEntry, ActEntry, Machine}
+use Rattle.protocol.specs.Parts.{Act, Batch, Status, Live, Doomed, Decided, Sealed, Who, OfBatch, OfAct, Entry, BatchEntry, ActEntry, Machine}
 use Rattle.protocol.specs.Events.{Ask, Take, Run, Prepare, Vouch, Decide}
 use Rattle.protocol.specs.Words.{is_empty, is_among, holds, is_doomed, is_sealed, is_decided, is_value, is_failure, is_live_status, is_live_act, is_live_batch, is_vouched_everywhere, act_of, joined_of, waiting_of, batch_of, is_entry_of, is_clear, is_turn_of, has_entry, has_act, batches_on}
 use Rattle.protocol.specs.Conditions.{conditions, epoch}
 use Rattle.protocol.specs.Effects.{cell_at, log_at, no_cell}
 use Rattle.protocol.specs.Runs.{IsQuiet}
-use Rattle.protocol_theorems.specs.Quiet.{Orderly, IsLiveBatch, IsAt, is_waiting_act, BehindBatches, ActsInOrder, IsAheadOf}
+use Rattle.protocol_theorems.specs.Quiet.{Orderly, IsLiveBatch, IsAt, is_waiting_act}
+use Rattle.protocol_theorems.specs.Waits.{IsPending, is_ahead, HasEndedAt, IsKeptBack, WaitsFor}
 use Rattle.protocol_theorems.proofs.quiet.QuietEasy.{passes, passed, there, all_at, list_all_of, false_not, durable, up_to_date, no_outcome, all_left, not_decided}
 use Rattle.protocol_theorems.proofs.quiet.QuietBatch.{open_live, act_stands, trimmed_settled}
-
--- nothing that still has to do something is below this ACT
-pub record BelowAct {C : Type 0} (s : Machine C) (y : Act) : Type 0 where
-  pub batches : (j : ℕ) → j ≤ y.m → IsLiveBatch s j → ⊥
-  pub acts : (u : ℕ) (x : Act) → act_of u s.book.acts ≡ Some x → is_waiting_act x ≡ true → IsAheadOf x y → ⊥
 
 -- it is neither doomed nor decided nor sealed
 is_live : {C : Type 0} (w : Fixed C) (s : Machine C) (t : ℕ) (y : Act) → IsQuiet w s → Orderly w s → act_of t s.book.acts ≡ Some y → is_live_act y ≡ true → is_doomed y.status ≡ false → is_live_status y.status ≡ true
@@ -37,7 +34,7 @@ is_live w s t y q o e l d = by y.status refl
         over false n f = rw f refl
 
 -- its before number is settled
-low : {C : Type 0} (w : Fixed C) (s : Machine C) (t : ℕ) (y : Act) → IsQuiet w s → Orderly w s → BelowAct s y → act_of t s.book.acts ≡ Some y → is_doomed y.status ≡ false → y.m ≤ max s.desk.settled (base w.text)
+low : {C : Type 0} (w : Fixed C) (s : Machine C) (t : ℕ) (y : Act) → IsQuiet w s → Orderly w s → (IsLiveBatch s y.m → ⊥) → act_of t s.book.acts ≡ Some y → is_doomed y.status ≡ false → y.m ≤ max s.desk.settled (base w.text)
 low w s t y q o l e d = elim (o.acts.number t y e d) [
   | inl h ↦ omega (arith, h)
   | inr h ↦ let b = passed (λ b. not b.aborted) (batch_of y.m s.desk.batches) h in by b.0 b.1 b.2 (list_all (λ p. p.trimmed) b.0.places) refl
@@ -45,10 +42,10 @@ low w s t y q o l e d = elim (o.acts.number t y e d) [
   where
     by : (b : Batch) → batch_of y.m s.desk.batches ≡ Some b → not b.aborted ≡ true → (z : Bool) → list_all (λ p. p.trimmed) b.places ≡ z → y.m ≤ max s.desk.settled (base w.text)
     by b i n true h = omega (arith, o.acts.settled y.m b i (trimmed_settled w s y.m b o i h))
-    by b i n false h = absurd (l.batches y.m (omega arith) (passes is_live_batch (batch_of y.m s.desk.batches) b i (rw (n, h) refl)))
+    by b i n false h = absurd (l (passes is_live_batch (batch_of y.m s.desk.batches) b i (rw (n, h) refl)))
 
 -- with a result it can be decided
-no_result : {C : Type 0} (w : Fixed C) (s : Machine C) (t : ℕ) (y : Act) (r : TxResult) → IsQuiet w s → Orderly w s → BelowAct s y → act_of t s.book.acts ≡ Some y → is_live_act y ≡ true → is_doomed y.status ≡ false → y.result ≡ Some r → ⊥
+no_result : {C : Type 0} (w : Fixed C) (s : Machine C) (t : ℕ) (y : Act) (r : TxResult) → IsQuiet w s → Orderly w s → (IsLiveBatch s y.m → ⊥) → act_of t s.book.acts ≡ Some y → is_live_act y ≡ true → is_doomed y.status ≡ false → y.result ≡ Some r → ⊥
 unfolding conditions
 no_result w s t y r q o l e a d i = by r i
   where
@@ -83,7 +80,7 @@ act_entry t (ActEntry x ∷ es) h = by (x.tid == t) h (act_entry t es)
     by false g k = k g
 
 -- without a result it can go on
-goes_on : {C : Type 0} (w : Fixed C) (s : Machine C) (t : ℕ) (y : Act) → IsQuiet w s → Orderly w s → BelowAct s y → act_of t s.book.acts ≡ Some y → is_doomed y.status ≡ false → y.result ≡ None → ⊥
+goes_on : {C : Type 0} (w : Fixed C) (s : Machine C) (t : ℕ) (y : Act) → IsQuiet w s → Orderly w s → ((x : Who) → IsPending s x → IsKeptBack s t x → ⊥) → act_of t s.book.acts ≡ Some y → is_doomed y.status ≡ false → y.result ≡ None → ⊥
 unfolding conditions
 goes_on w s t y q o l e d i =
     let c = o.controls.of_act t y e d i in
@@ -103,7 +100,7 @@ goes_on w s t y q o l e d i =
         first [] g h = true≢false (sym h)
         first (BatchEntry b ∷ es) g h =
             let on : is_among b.bid (batches_on (cell_at s a).entries) ≡ true = subst (λ z. is_among b.bid (batches_on z) ≡ true) (sym g) (rw (eq-eqb b.bid b.bid refl) refl) in
-            l.batches b.bid ((subst (BehindBatches s.book.acts) g (o.acts.behind a now)).0 t y h e d) (let v = o.batches.present a b.bid now on in open_live w s o b.bid a v (o.batches.on_schedule b.bid a v on))
+            l (OfBatch b.bid) (let v = o.batches.present a b.bid now on in open_live w s o b.bid a v (o.batches.on_schedule b.bid a v on)) (record { actor = a; present = now; ahead = subst (λ v. is_ahead (OfBatch b.bid) (OfAct t) v ≡ true) (sym g) (rw (eq-eqb b.bid b.bid refl, h) refl) }, m)
         first (ActEntry z ∷ es) g h = elim (or_cases (z.tid == t) (has_act t es) h) [
           | inl n ↦ q (Run t a) (
             there (λ c. is_some (waiting_of t c.inbox)) s.cells a no_cell r m,
@@ -114,15 +111,24 @@ goes_on w s t y q o l e d i =
           )
           | inr n ↦
               let x = act_stands w s q o z.tid a (subst (λ v. has_act z.tid v ≡ true) (sym g) (rw (eq-eqb z.tid z.tid refl) refl)) in
-              l.acts z.tid x.0 x.1 x.2 ((subst (ActsInOrder s.book.acts) g (o.acts.in_order a now)).0 t x.0 y n x.1 e (not-true (is_doomed x.0.status) (and_parts (is_live_act x.0) (not (is_doomed x.0.status)) x.2).1) d)
+              l (OfAct z.tid) (passes is_waiting_act (act_of z.tid s.book.acts) x.0 x.1 x.2) (record { actor = a; present = now; ahead = subst (λ v. is_ahead (OfAct z.tid) (OfAct t) v ≡ true) (sym g) (rw (eq-eqb z.tid z.tid refl, n) refl) }, m)
         ]
 
--- An ACT that still has to do something has something below it.
-pub no_act : {C : Type 0} (w : Fixed C) (s : Machine C) (t : ℕ) (y : Act) → IsQuiet w s → Orderly w s → BelowAct s y → act_of t s.book.acts ≡ Some y → is_waiting_act y ≡ true → ⊥
-no_act w s t y q o l e h =
+-- An ACT that still has to do something waits for somebody.
+pub no_act : {C : Type 0} (w : Fixed C) (s : Machine C) (t : ℕ) (y : Act) → IsQuiet w s → Orderly w s → ((x : Who) → WaitsFor s (OfAct t) x → ⊥) → act_of t s.book.acts ≡ Some y → is_waiting_act y ≡ true → ⊥
+no_act w s t y q o n e h =
     let p = and_parts (is_live_act y) (not (is_doomed y.status)) h in
     by y.result refl p.0 (not-true (is_doomed y.status) p.1)
   where
+    waiter : IsPending s (OfAct t)
+    waiter = passes is_waiting_act (act_of t s.book.acts) y e h
+
+    kept : (x : Who) → IsPending s x → IsKeptBack s t x → ⊥
+    kept (OfBatch k) v p = n (OfBatch k) (record { waiter = waiter; other = v; waits = inr p })
+    kept (OfAct u) v p = n (OfAct u) (record { waiter = waiter; other = v; waits = p })
+
     by : (r : Option TxResult) → y.result ≡ r → is_live_act y ≡ true → is_doomed y.status ≡ false → ⊥
-    by None i a d = goes_on w s t y q o l e d i
-    by (Some r) i a d = no_result w s t y r q o l e a d i
+    by None i a d = goes_on w s t y q o kept e d i
+    by (Some r) i a d =
+        let ended : HasEndedAt s t y.m = passes (λ x. is_live_status x.status && (is_some x.result && (x.m == y.m))) (act_of t s.book.acts) y e (rw (is_live w s t y q o e a d, i, eq-eqb y.m y.m refl) refl) in
+        no_result w s t y r q o (λ v. n (OfBatch y.m) (record { waiter = waiter; other = v; waits = inl ended })) e a d i

@@ -1,4 +1,4 @@
--- A batch that is not over waits for a smaller batch, or for an ACT with a smaller before number, or an event is allowed.
+-- A batch that is not over waits for a smaller batch, or for an ACT that stands ahead of it, or an event is allowed.
 use Rattle.std.specs.Prelude.{◌≡◌, refl, ℕ, zero, suc, ◌<◌, ◌%◌, ◌==◌, nat_lt, nat_le, not, Bool, true, false, ◌&&◌, ◌||◌, if◌then◌else◌, Option, Some, None, is_some, List, [], ◌∷◌, length, find, slice_get}
 use Rattle.std.specs.List.{AllByRecursion, list_any, list_all}
 use Rattle.std.proofs.Common.{arith, sym, ap, subst, inl, inr, ◌∙◌}
@@ -7,14 +7,15 @@ use Rattle.snap_base.specs.declared.transactions.TxResult.{TxResult}
 use Rattle.snap_base.specs.declared.transactions.TxResult.TheVariants.{Value, Fail}
 use Rattle.protocol.specs.Fixed.{Fixed}
 use Rattle.protocol.specs.Records.{is_info, is_complete}
-use Rattle.protocol.specs.Parts.{Act, Batch, Declared, Pact, Stage, Formed, Committing, Settled, SubBatch, PlacedBatch, Slot, Entry, BatchEntry, ActEntry, Machine}
+use Rattle.protocol.specs.Parts.{Act, Batch, Declared, Pact, Stage, Formed, Committing, Settled, SubBatch, PlacedBatch, Slot, Who, OfBatch, OfAct, Entry, BatchEntry, ActEntry, Machine}
 use Rattle.protocol.specs.Events.{Arrive, Take, Run, Close, Complete, Note, Commit, Abort}
 use Rattle.protocol.specs.Words.{is_empty, is_among, holds, is_aborted, is_doomed, is_value, is_formed, is_committing, is_settled, is_open, is_live_batch, is_live_act, is_next_to_commit, first_failed, act_of, joined_of, sub_of, waiting_of, batch_of, declared_of, names_pact, pact_result, names_slot, is_entry_of, is_batch_entry, is_clear, is_turn_of, has_undone, has_entry, has_act, is_complete_batch, is_all_done, ahead, batches_on}
 use Rattle.protocol.specs.Conditions.{conditions, epoch}
 use Rattle.protocol.specs.Effects.{cell_at, log_at, no_cell}
 use Rattle.protocol.specs.Runs.{IsQuiet}
 use Rattle.protocol_laws.specs.FromDesk.{is_pact_of}
-use Rattle.protocol_theorems.specs.Quiet.{Orderly, IsLiveBatch, IsAt, is_waiting_act, BeforeBatches, Rises}
+use Rattle.protocol_theorems.specs.Quiet.{Orderly, IsLiveBatch, IsAt, is_waiting_act, Rises}
+use Rattle.protocol_theorems.specs.Waits.{IsPending, is_ahead, StandsAhead, IsOpenBatch, WaitsFor}
 use Rattle.protocol_theorems.proofs.quiet.QuietEasy.{passes, passed, there, all_at, any_at, all_in, list_all_of, found_at, false_not, durable, up_to_date, no_outcome, no_aborted_sub, has_left, not_committing, settled_is_trimmed}
 
 -- ---- who is on a schedule is not over
@@ -51,11 +52,11 @@ act_stands w s q o t a h =
         one true = rw d refl
         one false = rw (f, d) refl
 
--- ---- a batch and what is below it
+-- ---- a batch that waits for nobody
 
-pub record Below {C : Type 0} (s : Machine C) (k : ℕ) : Type 0 where
+pub record IsFree {C : Type 0} (s : Machine C) (k : ℕ) : Type 0 where
   pub batches : (j : ℕ) → j < k → IsLiveBatch s j → ⊥
-  pub acts : (u : ℕ) (x : Act) → act_of u s.book.acts ≡ Some x → is_waiting_act x ≡ true → x.m < k → ⊥
+  pub acts : (u : ℕ) → IsPending s (OfAct u) → StandsAhead s (OfAct u) (OfBatch k) → ⊥
 
 -- the batch stands first on the actor
 abbrev pub IsFirst : {C : Type 0} → ℕ → ℕ → Machine C → Type 0
@@ -70,7 +71,7 @@ trimmed_settled w s k b o e t = by b.places (o.batches.somewhere k b e) t (o.bat
     by (p ∷ ps) n g h = h.0 (and_parts p.trimmed (list_all (λ p. p.trimmed) ps) g).0
 
 -- all smaller ones are over
-next_to_commit : {C : Type 0} (w : Fixed C) (s : Machine C) (k : ℕ) → Orderly w s → Below s k → is_next_to_commit k s.desk.batches ≡ true
+next_to_commit : {C : Type 0} (w : Fixed C) (s : Machine C) (k : ℕ) → Orderly w s → IsFree s k → is_next_to_commit k s.desk.batches ≡ true
 next_to_commit w s k o l = list_all_of (λ b. nat_le k b.bid || (b.aborted || is_settled b.stage)) s.desk.batches one
   where
     one : (i : ℕ) (b : Batch) → slice_get s.desk.batches i ≡ Some b → (nat_le k b.bid || (b.aborted || is_settled b.stage)) ≡ false → ⊥
@@ -88,7 +89,7 @@ next_to_commit w s k o l = list_all_of (λ b. nat_le k b.bid || (b.aborted || is
         ]
 
 -- who is on a schedule there is first
-first_of : {C : Type 0} (w : Fixed C) (s : Machine C) (k a : ℕ) → IsQuiet w s → Orderly w s → Below s k → a < length s.cells → is_among k (batches_on (cell_at s a).entries) ≡ true → IsFirst k a s
+first_of : {C : Type 0} (w : Fixed C) (s : Machine C) (k a : ℕ) → IsQuiet w s → Orderly w s → IsFree s k → a < length s.cells → is_among k (batches_on (cell_at s a).entries) ≡ true → IsFirst k a s
 first_of w s k a q o l r h = by (cell_at s a).entries refl h
   where
     now : (cell_at s a).epoch ≡ epoch s.book
@@ -105,19 +106,10 @@ first_of w s k a q o l r h = by (cell_at s a).entries refl h
     ]
     by (ActEntry z ∷ es) e g =
         let x = act_stands w s q o z.tid a (subst (λ v. has_act z.tid v ≡ true) (sym e) (rw (eq-eqb z.tid z.tid refl) refl)) in
-        let m = (subst (BeforeBatches s.book.acts) e (o.acts.before a now)).0 k g in
-        absurd (act (act_of z.tid s.book.acts) x.0 x.1 x.2 m)
-      where
-        act : (y : Option Act) (x : Act) → act_of z.tid s.book.acts ≡ Some x → is_waiting_act x ≡ true → holds (λ y. is_doomed y.status || nat_lt y.m k) (act_of z.tid s.book.acts) ≡ true → ⊥
-        act y x i t m =
-            let n : (is_doomed x.status || nat_lt x.m k) ≡ true = subst (λ v. holds (λ y. is_doomed y.status || nat_lt y.m k) v ≡ true) i m in
-            elim (or_cases (is_doomed x.status) (nat_lt x.m k) n) [
-              | inl d ↦ true≢false (sym d ∙ not-true (is_doomed x.status) (and_parts (is_live_act x) (not (is_doomed x.status)) t).1)
-              | inr d ↦ l.acts z.tid x i t (ltb-true x.m k d)
-            ]
+        absurd (l.acts z.tid (passes is_waiting_act (act_of z.tid s.book.acts) x.0 x.1 x.2) (record { actor = a; present = now; ahead = subst (λ v. is_ahead (OfAct z.tid) (OfBatch k) v ≡ true) (sym e) (rw (eq-eqb z.tid z.tid refl, g) refl) }))
 
 -- the batch is on its way to no actor: it could arrive
-not_on_way : {C : Type 0} (w : Fixed C) (s : Machine C) (k a : ℕ) (b : Batch) → IsQuiet w s → Orderly w s → Below s k → a < length s.cells → batch_of k s.desk.batches ≡ Some b → is_open b ≡ true → is_some (sub_of k a s.post.subs) ≡ true → ⊥
+not_on_way : {C : Type 0} (w : Fixed C) (s : Machine C) (k a : ℕ) (b : Batch) → IsQuiet w s → Orderly w s → IsFree s k → a < length s.cells → batch_of k s.desk.batches ≡ Some b → is_open b ≡ true → is_some (sub_of k a s.post.subs) ≡ true → ⊥
 unfolding conditions
 not_on_way w s k a b q o l r e p h = by (sub_of k a s.post.subs) refl h
   where
@@ -150,7 +142,7 @@ not_on_way w s k a b q o l r e p h = by (sub_of k a s.post.subs) refl h
         )
 
 -- on each of its actors it stands first
-stands_first : {C : Type 0} (w : Fixed C) (s : Machine C) (k a : ℕ) (b : Batch) → IsQuiet w s → Orderly w s → Below s k → batch_of k s.desk.batches ≡ Some b → is_open b ≡ true → (p : Declared) → declared_of a b ≡ Some p → (a < length s.cells) × IsFirst k a s
+stands_first : {C : Type 0} (w : Fixed C) (s : Machine C) (k a : ℕ) (b : Batch) → IsQuiet w s → Orderly w s → IsFree s k → batch_of k s.desk.batches ≡ Some b → is_open b ≡ true → (p : Declared) → declared_of a b ≡ Some p → (a < length s.cells) × IsFirst k a s
 stands_first w s k a b q o l e f p d =
     let i = found_at (λ p. p.actor == a) b.places p d in
     let g = all_at (λ p. (declared_of p.actor b ≡ Some p) × (p.actor < length s.cells)) b.places i.0 p i.1 (o.found.declared k b e) in
@@ -193,7 +185,7 @@ closed w s a e es q r f i x g h = elim (cases_Bool x.done) [
   | inr d ↦ absurd (q (Close x.tid a) (h, (there (λ c. has_undone x.tid c.entries) s.cells a no_cell r (subst (λ z. has_undone x.tid z ≡ true) (sym f) (rw (any_at (λ y. (y.tid == x.tid) && not y.done) e.slots i x g (rw (eq-eqb x.tid x.tid refl, d) refl)) refl)), tt)))
 ]
 
-one_result : {C : Type 0} (w : Fixed C) (s : Machine C) (k t : ℕ) (b : Batch) → IsQuiet w s → Orderly w s → Below s k → batch_of k s.desk.batches ≡ Some b → is_open b ≡ true → is_pact_of t k s.desk.batches ≡ true
+one_result : {C : Type 0} (w : Fixed C) (s : Machine C) (k t : ℕ) (b : Batch) → IsQuiet w s → Orderly w s → IsFree s k → batch_of k s.desk.batches ≡ Some b → is_open b ≡ true → is_pact_of t k s.desk.batches ≡ true
     → ((u : ℕ) → u < t → is_pact_of u k s.desk.batches ≡ true → is_some (pact_result u s.desk.batches) ≡ true) → pact_result t s.desk.batches ≡ None → ⊥
 unfolding conditions
 one_result {C} w s k t b q o l e f p before none =
@@ -242,7 +234,7 @@ one_result {C} w s k t b q o l e f p before none =
                   | inr m ↦ true≢false (sym (le-leb t y.tid m) ∙ v)
                 ]
 
-results_below : {C : Type 0} (w : Fixed C) (s : Machine C) (k : ℕ) (b : Batch) → IsQuiet w s → Orderly w s → Below s k → batch_of k s.desk.batches ≡ Some b → is_open b ≡ true → (n t : ℕ) → t < n → is_pact_of t k s.desk.batches ≡ true → is_some (pact_result t s.desk.batches) ≡ true
+results_below : {C : Type 0} (w : Fixed C) (s : Machine C) (k : ℕ) (b : Batch) → IsQuiet w s → Orderly w s → IsFree s k → batch_of k s.desk.batches ≡ Some b → is_open b ≡ true → (n t : ℕ) → t < n → is_pact_of t k s.desk.batches ≡ true → is_some (pact_result t s.desk.batches) ≡ true
 results_below w s k b q o l e f zero t m p = absurd (omega (arith, m))
 results_below w s k b q o l e f (suc n) t m p = by (pact_result t s.desk.batches) refl (λ u v. results_below w s k b q o l e f n u (omega (arith, v, m)))
   where
@@ -268,7 +260,7 @@ all_values (p ∷ ps) h f = by p.result (and_parts (is_some p.result) (list_all 
         fails : p.result ≡ Some (Fail c) → is_some (first_failed (p ∷ ps)) ≡ true
         fails i = rw i refl
 
-not_open : {C : Type 0} (w : Fixed C) (s : Machine C) (k : ℕ) (b : Batch) → IsQuiet w s → Orderly w s → Below s k → batch_of k s.desk.batches ≡ Some b → is_open b ≡ true → ⊥
+not_open : {C : Type 0} (w : Fixed C) (s : Machine C) (k : ℕ) (b : Batch) → IsQuiet w s → Orderly w s → IsFree s k → batch_of k s.desk.batches ≡ Some b → is_open b ≡ true → ⊥
 unfolding conditions
 not_open w s k b q o l e f =
     elim (cases_Bool (is_some (first_failed b.pacts))) [
@@ -308,15 +300,20 @@ not_open w s k b q o l e f =
         let z = stands_first w s k p.actor b q o l e f p d in
         is_noted p.actor p d (false_not p.noted n) z.0 z.1.0 z.1.1 z.1.2 z.1.3)
 
--- A live batch has something below it.
-pub no_batch : {C : Type 0} (w : Fixed C) (s : Machine C) (k : ℕ) → IsQuiet w s → Orderly w s → Below s k → IsLiveBatch s k → ⊥
-no_batch w s k q o l h =
+-- A live batch waits for somebody.
+pub no_batch : {C : Type 0} (w : Fixed C) (s : Machine C) (k : ℕ) → IsQuiet w s → Orderly w s → ((y : Who) → WaitsFor s (OfBatch k) y → ⊥) → IsLiveBatch s k → ⊥
+no_batch w s k q o n h =
     let b = passed is_live_batch (batch_of k s.desk.batches) h in
     let p = and_parts (not b.0.aborted) (not (list_all (λ p. p.trimmed) b.0.places)) b.2 in
-    let n : b.0.aborted ≡ false = not-true b.0.aborted p.0 in
-    by b.0 b.1 n p.1 b.0.stage refl
+    by b.0 b.1 (not-true b.0.aborted p.0) p.1 b.0.stage refl
   where
+    free : IsOpenBatch s k → IsFree s k
+    free i = record {
+      batches = λ j m v. n (OfBatch j) (record { waiter = h; other = v; waits = (i, m) });
+      acts = λ u v a. n (OfAct u) (record { waiter = h; other = v; waits = (i, a) });
+    }
+
     by : (b : Batch) → batch_of k s.desk.batches ≡ Some b → b.aborted ≡ false → not (list_all (λ p. p.trimmed) b.places) ≡ true → (st : Stage) → b.stage ≡ st → ⊥
-    by b e n t Formed i = not_open w s k b q o l e (rw (i, n) refl)
+    by b e n t Formed i = let open_there : is_open b ≡ true = rw (i, n) refl in not_open w s k b q o (free (passes is_open (batch_of k s.desk.batches) b e open_there)) e open_there
     by b e n t Committing i = true≢false (sym (ap is_committing i) ∙ not_committing w s q o.written o.some_logs k b e n)
     by b e n t Settled i = true≢false (sym (settled_is_trimmed w s q o.found k b e n (ap is_settled i)) ∙ not-true (list_all (λ p. p.trimmed) b.places) t)

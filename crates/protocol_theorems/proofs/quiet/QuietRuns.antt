@@ -87,7 +87,7 @@ ranged n [] i p e h = absurd (cc e)
 ranged n (x ∷ ps) zero p e h = let q : x ≡ p = cc e in subst (λ z. z.actor < n) q h.0
 ranged n (x ∷ ps) (suc i) p e h = ranged n ps i p e h.1
 
-orderly : {C : Type 0} (w : Fixed C) (es : List Event) → IsText w.text → 1 ≤ length w.text.opening.states → IsRun w es → StillOwed w (reached w es) → Orderly w (reached w es)
+pub orderly : {C : Type 0} (w : Fixed C) (es : List Event) → IsText w.text → 1 ≤ length w.text.opening.states → IsRun w es → StillOwed w (reached w es) → Orderly w (reached w es)
 orderly w es v l run o =
     let s = reached w es in
     let k = known_after w es v l run in
