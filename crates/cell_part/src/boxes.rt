@@ -4,7 +4,7 @@ ghost use Rattle.hybrid_schedule.specs.Cuts.{is_cut_off};
 ghost use Rattle.protocol.specs.CellParts.{taken_from};
 ghost use Rattle.protocol.specs.Words.{holds, is_going, is_ended, waiting_of, without_waiting, outcome_of, without_outcome};
 ghost use Rattle.cell_part.specs.Contents.{next_meant, waiting_control, outcome_next, outcome_result};
-ghost use Rattle.cell_part.specs.Room.{KeepsBoxes};
+ghost use Rattle.cell_part.specs.Room.{KeepsBoxes, UsesBoxes};
 
 use crate::kept::{drop_each, first_of, take_first};
 use crate::next::Next;
@@ -65,7 +65,8 @@ impl<C: Drop> Boxes<C> {
     /// A control arrives.
     pub(crate) fn put_control(&mut self, t: Tid, control: C)
         requires { 1 ≤ self.old.spare_controls }
-        ensures { self.new.boxes ≡ record self.old.boxes { inbox = self.old.boxes.inbox ++ record { tid = t.0; control = control } ∷ [] } }
+        ensures came { self.new.boxes ≡ record self.old.boxes { inbox = self.old.boxes.inbox ++ record { tid = t.0; control = control } ∷ [] } }
+        ensures room { UsesBoxes self.old self.new }
     {
         self.inbox.push_reserved(Waiting { tid: t, control });
     }
@@ -86,7 +87,8 @@ impl<C: Drop> Boxes<C> {
     /// What a slice ended with is kept.
     pub(crate) fn put_outcome(&mut self, t: Tid, next: Next<C>)
         requires { 1 ≤ self.old.spare_outcomes }
-        ensures { self.new.boxes ≡ record self.old.boxes { outbox = self.old.boxes.outbox ++ record { tid = t.0; next = next_meant next } ∷ [] } }
+        ensures kept { self.new.boxes ≡ record self.old.boxes { outbox = self.old.boxes.outbox ++ record { tid = t.0; next = next_meant next } ∷ [] } }
+        ensures room { UsesBoxes self.old self.new }
     {
         self.outbox.push_reserved(Outcome { tid: t, next });
     }

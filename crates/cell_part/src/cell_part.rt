@@ -1,4 +1,4 @@
-ghost use Rattle.std.specs.Prelude.{◌≡◌, ℕ, ◌<◌, ◌≤◌, nat_lt, max, true, false, not, is_some, filter, find, map, length, List, Some, None, OnOk, IfOk};
+ghost use Rattle.std.specs.Prelude.{◌≡◌, ℕ, ◌+◌, ◌<◌, ◌≤◌, nat_lt, max, true, false, not, is_some, filter, find, map, length, List, Some, None, OnOk, IfOk};
 ghost use Rattle.std.specs.List.{list_all};
 ghost use Rattle.std.specs.Option.{option_map, option_and_then};
 ghost use Rattle.actor_cell.specs.Cut.{IsCutFrom};
@@ -12,7 +12,7 @@ ghost use Rattle.protocol.specs.Runs.{new_cell};
 ghost use Rattle.protocol.specs.Words.{acts_on, has_act, has_entry, has_undone, holds, image_of, is_clear, is_empty, is_ended, is_going, is_sealed, outcome_of, waiting_of, who_on};
 ghost use Rattle.cell_part.specs.Contents.{next_meant, outcome_next, outcome_result, waiting_control};
 ghost use Rattle.cell_part.specs.Cutting.{cut_back};
-ghost use Rattle.cell_part.specs.Room.{KeepsRoom};
+ghost use Rattle.cell_part.specs.Room.{KeepsRoom, KeepsRoomBut};
 ghost use Rattle.cell_part.specs.Running.{begun, ended};
 
 use crate::boxes::Boxes;
@@ -54,7 +54,7 @@ impl<C: Drop> CellPart<C> {
     ghost use Rattle.cell_part.specs.contracts.cell_part.CellPart.{the_row};
     ghost use Rattle.cell_part.specs.Lending.{with_state};
 
-    /// An actor with this state, where nothing has run since batch `base`. `Memory` where its first room cannot be
+    /// An actor with this state, where nothing has run since batch `base`. `Memory` where what it begins with cannot be
     /// allocated.
     pub fn new(alloc: Global, state: State, base: Bid) -> Result<CellPart<C>, Memory>
         ensures { IfOk result (λ p. p.cell ≡ new_cell base.0 state) }
@@ -82,13 +82,16 @@ impl<C: Drop> CellPart<C> {
     }
 
     /// Arrive: a sub-batch is placed at the end of the schedule. It is of the cell's epoch, the batch before it is the
-    /// last one that was placed in this epoch, and there is room for it.
+    /// last one that was placed in this epoch, and there is room for it. The room for tids goes with it.
     pub fn arrive(&mut self, alloc: Global, s: SubBatch)
         requires epoch { s.epoch ≡ self.old.cell.epoch }
         requires before { s.prev.0 ≡ self.old.cell.tail }
         requires entry { 1 ≤ self.old.spare_entries }
         requires tids { length s.tids ≤ self.old.spare_tids }
-        ensures { self.new.cell ≡ batch_placed s.bid.0 (Some (sub_batch s)) self.old.cell }
+        ensures placed { self.new.cell ≡ batch_placed s.bid.0 (Some (sub_batch s)) self.old.cell }
+        ensures entries { self.old.spare_entries ≤ self.new.spare_entries + 1 }
+        ensures controls { self.old.spare_controls ≤ self.new.spare_controls }
+        ensures outcomes { self.old.spare_outcomes ≤ self.new.spare_outcomes }
     {
         let _placed = self.schedule.arrive(alloc, s);
     }
@@ -98,7 +101,8 @@ impl<C: Drop> CellPart<C> {
     pub fn ask(&mut self, alloc: Global, t: Tid, control: C)
         requires entry { 1 ≤ self.old.spare_entries }
         requires control { 1 ≤ self.old.spare_controls }
-        ensures { (m : ControlMessage C) → m.tid ≡ t.0 → m.control ≡ control → self.new.cell ≡ act_placed t.0 None (Some m) self.old.cell }
+        ensures placed { (m : ControlMessage C) → m.tid ≡ t.0 → m.control ≡ control → self.new.cell ≡ act_placed t.0 None (Some m) self.old.cell }
+        ensures room { KeepsRoomBut 1 1 self.old self.new }
     {
         let _placed = self.schedule.place_act(alloc, t);
         self.boxes.put_control(t, control);
@@ -107,7 +111,8 @@ impl<C: Drop> CellPart<C> {
     /// Take: the control of a transaction that has its entry arrives. There is room for it.
     pub fn take(&mut self, t: Tid, control: C)
         requires { 1 ≤ self.old.spare_controls }
-        ensures { (m : ControlMessage C) → m.tid ≡ t.0 → m.control ≡ control → self.new.cell ≡ control_came (Some m) self.old.cell }
+        ensures came { (m : ControlMessage C) → m.tid ≡ t.0 → m.control ≡ control → self.new.cell ≡ control_came (Some m) self.old.cell }
+        ensures room { KeepsRoomBut 0 1 self.old self.new }
     {
         self.boxes.put_control(t, control);
     }
@@ -139,7 +144,8 @@ impl<C: Drop> CellPart<C> {
     /// its slot is done.
     pub fn end(&mut self, t: Tid, next: Next<C>, through: bool)
         requires { 1 ≤ self.old.spare_outcomes }
-        ensures { self.new.cell ≡ ended t.0 (next_meant next) through self.old.cell }
+        ensures ended { self.new.cell ≡ ended t.0 (next_meant next) through self.old.cell }
+        ensures room { KeepsRoomBut 0 1 self.old self.new }
     {
         if through {
             self.schedule.mark_done(t);

@@ -33,7 +33,7 @@ impl<C> Model for Post<C> {
 }
 
 impl<C: Drop> Post<C> {
-    /// A post with no messages. It makes its first room here.
+    /// A post with no messages.
     pub fn new(alloc: Global) -> Result<Post<C>, Memory>
         ensures { IfOk result (λ post. post.messages ≡ record { subs = []; controls = [] }) }
     {

@@ -39,7 +39,7 @@ impl<K: Eq + Hash, M> Model for Posted<K, M> {
 }
 
 impl<K: Eq + Hash + Drop, M: Drop> Posted<K, M> {
-    /// No messages, and the first room.
+    /// No messages.
     pub(crate) fn new(alloc: Global) -> Result<Self, Memory>
         ensures { IfOk result (λ posted. posted.entries ≡ []) }
     {

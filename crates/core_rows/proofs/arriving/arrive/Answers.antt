@@ -56,7 +56,7 @@ returns-clause-ok g c w s r shows =
         subst (λ h. Shows h (after w (Arrive c.args.k.0 c.args.a.0) s).book) (sym (c.arrive.ensures ∙ arrived_halves c.args.book.now c.args.k.0 c.args.a.0 _ _ acts)) (c.books_go_on.ensures w (Arrive c.args.k.0 c.args.a.0) s c.args.book.now r shows.0 ok),
         ap (sub_taken c.args.k.0 c.args.a.0) shows.1 ∙ sym c.take_sub.ensures.messages,
         put_there s c.args.a.0 c.args.cell.now.cell _ (batch_placed c.args.k.0 (sub_of c.args.k.0 c.args.a.0 s.post.subs)) shows.2
-            (c.arrive-2.ensures ∙ (ap (batch_placed _ (Some (sub_batch c.unwrap-sub.result))) c.room.ensures.unchanged
+            (c.arrive-2.ensures.placed ∙ (ap (batch_placed _ (Some (sub_batch c.unwrap-sub.result))) c.room.ensures.unchanged
             ∙ (ap (λ n. batch_placed n (Some (sub_batch c.unwrap-sub.result)) c.args.cell.now.cell) bid
             ∙ (ap (λ o. batch_placed c.args.k.0 o c.args.cell.now.cell) (sym is)
             ∙ ap (λ p. batch_placed c.args.k.0 (sub_of c.args.k.0 c.args.a.0 p.subs) c.args.cell.now.cell) (sym shows.1))))),

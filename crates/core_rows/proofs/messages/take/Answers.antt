@@ -26,7 +26,7 @@ returns-clause-ok g c w s r shows =
     let m = held _ _ ok.0 in
     let is = is_there message_control c.take_control.result _ m.0 c.take_control.ensures.value (ap (λ p. control_of c.args.t.0 p.controls) (sym shows.0) ∙ m.1) in
     let control : Some m.0.control ≡ Some c.unwrap-control.result = sym is ∙ c.unwrap-control.ensures in
-    let came = c.take.ensures m.0 (c.what_is_found_has_its_number.ensures.control c.args.t.0 s.post.controls m.0 m.1) (cc control) in (
+    let came = c.take.ensures.came m.0 (c.what_is_found_has_its_number.ensures.control c.args.t.0 s.post.controls m.0 m.1) (cc control) in (
       ok,
       (
         ap (control_taken c.args.t.0) shows.0 ∙ sym c.take_control.ensures.messages,

@@ -48,7 +48,7 @@ returns-then-is_none-clause-ok g c w s r shows =
     let m = held _ _ ok.0 in
     let is = is_there message_control c.take_control.result _ m.0 c.take_control.ensures.value (ap (λ p. control_of c.args.t.0 p.controls) (sym shows.1) ∙ m.1) in
     let control : Some m.0.control ≡ Some c.unwrap-control.result = sym is ∙ c.unwrap-control.ensures in
-    let placed = c.ask-then-is_none.ensures m.0 (c.what_is_found_has_its_number.ensures.control c.args.t.0 s.post.controls m.0 m.1) (cc control) in (
+    let placed = c.ask-then-is_none.ensures.placed m.0 (c.what_is_found_has_its_number.ensures.control c.args.t.0 s.post.controls m.0 m.1) (cc control) in (
       ok,
       (
         book,

@@ -35,5 +35,5 @@ returns-clause-ok g c w s r shows =
     let lent = c.state_mut.ensures.value ∙ ap (λ y. y.state) c.begin-control.ensures.begun in
     let law = c.run_is_begin_slice_end.ensures w.code c.args.t.0 c.args.a.0 c.args.cell.now.cell x.0 x.1 in
     let run = ran g.F.FnOnce c.args.slice w.code c.args.t.0 c.args.a.0 c.args.cell.now.cell c.begin-control.new.self.cell c.end.new.self.cell x.0 c.begin-control.result c.state_mut.result _ c.slice-next.result.0 c.slice-next.result.1
-    shows.0 x.1 same lent c.slice-next.ensures c.begin-control.ensures.begun c.end.ensures law in
+    shows.0 x.1 same lent c.slice-next.ensures c.begin-control.ensures.begun c.end.ensures.ended law in
     (ok, put_there s c.args.a.0 c.args.cell.now.cell c.end.new.self.cell (slice_run w.code c.args.t.0 c.args.a.0) shows.1 run)
