@@ -53,7 +53,7 @@ impl Writer {
         text
     }
 
-    /// Writes the bytes of a name. For want of memory, here and below, some of it may be written.
+    /// Writes the bytes of a name. For want of memory, here and below, nothing is said of the text.
     pub fn name(&mut self, name: &[u8]) -> Result<(), Memory>
         ensures { OnOk result (self.new ≡ with_piece self.old name.now) }
     {

@@ -28,7 +28,7 @@ fn list_joined(t: Tid, actors: &[ActorId], events: &mut Vec<Event>) -> Result<()
     Ok(())
 }
 
-/// What an ACT waits for, where it was admitted; else two events of it that nobody may take. Want of memory leaves some of it.
+/// What an ACT waits for, where it was admitted; else two events of it that nobody may take.
 pub fn list_act(
     alloc: Global,
     book: &BookPart,

@@ -21,7 +21,7 @@ fn list_declared(k: Bid, actors: &[ActorId], events: &mut Vec<Event>) -> Result<
     Ok(())
 }
 
-/// What a batch waits for, where it was formed; else three events of it that nobody may take. Want of memory leaves some of it.
+/// What a batch waits for, where it was formed; else three events of it that nobody may take.
 pub fn list_batch(alloc: Global, desk: &Desk, k: Bid, events: &mut Vec<Event>) -> Result<(), Memory>
     ensures { OnOk result (Adds events.old.items events.new.items (of_batch desk.now k.0)) }
 {
@@ -50,7 +50,7 @@ fn list_batches(
     Ok(())
 }
 
-/// What batches wait for. Want of memory leaves some of it.
+/// What batches wait for.
 pub fn list_going(alloc: Global, desk: &Desk, events: &mut Vec<Event>) -> Result<(), Memory>
     ensures { OnOk result (Adds events.old.items events.new.items (on_desk desk.now)) }
 {

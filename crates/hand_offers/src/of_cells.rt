@@ -51,7 +51,7 @@ fn list_incomplete(a: ActorId, bids: &[Bid], events: &mut Vec<Event>) -> Result<
     Ok(())
 }
 
-/// What lies in the boxes of an actor. Want of memory leaves some of it.
+/// What lies in the boxes of an actor.
 pub fn list_boxes(
     alloc: Global,
     cell: &CellPart<Control>,
@@ -67,7 +67,7 @@ pub fn list_boxes(
     Ok(())
 }
 
-/// What stands on an actor and is not done or not complete. Want of memory leaves some of it.
+/// What stands on an actor and is not done or not complete.
 pub fn list_schedule(
     alloc: Global,
     cell: &CellPart<Control>,
@@ -83,7 +83,7 @@ pub fn list_schedule(
     Ok(())
 }
 
-/// What lies at an actor, and its rollback. Want of memory leaves some of it.
+/// What lies at an actor, and its rollback.
 pub fn list_cell(
     alloc: Global,
     cell: &CellPart<Control>,

@@ -70,7 +70,7 @@ fn upto(tables: &Tables, hand: &Hand) -> TxNo
     hand.ring().next_tx()
 }
 
-/// The replies of these transactions. Want of memory leaves some of them.
+/// The replies of these transactions.
 pub fn list_unreplied(txs: &[TxNo], events: &mut Vec<Event>) -> Result<(), Memory>
     ensures { OnOk result (Adds events.old.items events.new.items (flat_map of_reply (map (λ n. n.0) txs.now))) }
 {

@@ -13,7 +13,7 @@ use snap_base::{ActorId, Bid, Memory, Tid};
 use snap_hand::Hand;
 use std::alloc::Global;
 
-/// The events of these sub-batches. Want of memory leaves some of them.
+/// The events of these sub-batches.
 pub fn list_subs(subs: &[(Bid, ActorId)], events: &mut Vec<Event>) -> Result<(), Memory>
     ensures { OnOk result (Adds events.old.items events.new.items (flat_map of_sub (map sub_listed subs.now))) }
 {
@@ -23,7 +23,7 @@ pub fn list_subs(subs: &[(Bid, ActorId)], events: &mut Vec<Event>) -> Result<(),
     Ok(())
 }
 
-/// The events of these controls. Want of memory leaves some of them.
+/// The events of these controls.
 pub fn list_controls(controls: &[(Tid, ActorId)], events: &mut Vec<Event>) -> Result<(), Memory>
     ensures { OnOk result (Adds events.old.items events.new.items (flat_map of_control (map control_listed controls.now))) }
 {
@@ -38,7 +38,7 @@ pub fn list_controls(controls: &[(Tid, ActorId)], events: &mut Vec<Event>) -> Re
     Ok(())
 }
 
-/// The events of all that is under way. Want of memory leaves some of them.
+/// The events of all that is under way.
 pub fn list_messages(
     alloc: Global,
     post: &Post<Control>,

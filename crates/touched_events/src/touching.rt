@@ -21,8 +21,8 @@ use snap_hand::{Hand, Tables};
 use std::alloc::Global;
 
 /// Puts events in place of what was in the list, among which each is that the event, which was just taken, has made allowed. All
-/// parts are at hand, as they are after it. The list's room is kept, so that one list serves event after event. Want of memory
-/// leaves some of them.
+/// parts are at hand, as they are after it. There may be others, which were allowed before or are not, and one may be there twice:
+/// who puts them to the allowed ones looks at each. For want of memory nothing is said of the list.
 pub fn touched(
     alloc: Global,
     tables: &Tables,
@@ -35,6 +35,7 @@ pub fn touched(
     requires whole { IsWhole hand.now }
     ensures { OnOk result ((s : Machine Rest) → IsBehind (fixed_of tables.now) (event_meant e) s hand.now → PartsTell (is_new (fixed_of tables.now) (event_meant e) s) (fixed_of tables.now) (after (fixed_of tables.now) (event_meant e) s) (map event_meant events.new.items)) }
 {
+    // One list serves event after event, and keeps its room.
     events.clear();
     list_ring(tables, hand, e, events)?;
     let fallen = given_up_by(alloc, hand.book(), e)?;

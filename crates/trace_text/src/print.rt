@@ -7,7 +7,7 @@ use core_events::Event;
 use snap_base::Memory;
 use std::fmt::Write;
 
-/// Appends the line of an event, with the line feed that ends it. After `Memory` the text may have a front of the line.
+/// Appends the line of an event, with the line feed that ends it. After `Memory` nothing is said of the text.
 pub fn print_event(text: &mut String, e: Event) -> Result<(), Memory>
     ensures line { IfOk result (λ _. string_bytes text.new ≡ string_bytes text.old ++ (event_line e ++ 10 ∷ [])) }
     // So the lines that are printed are a trace.
