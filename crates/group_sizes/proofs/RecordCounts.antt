@@ -8,7 +8,8 @@ use Rattle.protocol.specs.Fixed.{Fixed}
 use Rattle.protocol.specs.Laws.{AfterEveryRunWithHistory, OfEveryRun}
 use Rattle.protocol.specs.Parts.{Log, Machine}
 use Rattle.protocol.specs.Runs.{opening, reached}
-use Rattle.protocol_theorems.specs.Left.{total, RunsEnd}
+use Rattle.protocol.specs.Left.{total}
+use Rattle.protocol_theorems.specs.Left.{RunsEnd}
 use Rattle.protocol_records.specs.RecordLaws as records
 use Rattle.protocol_records.specs.RecordLaws.{RecordsAreFew}
 use Rattle.txn_records.specs.declared.records.Record.{Record}

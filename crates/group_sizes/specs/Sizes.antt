@@ -9,7 +9,7 @@ use Rattle.protocol.specs.History.{History}
 use Rattle.protocol.specs.Parts.{Log, Machine}
 use Rattle.protocol.specs.Records.{LogRecord}
 use Rattle.protocol.specs.Runs.{IsRun}
-use Rattle.protocol_theorems.specs.Left.{total}
+use Rattle.protocol.specs.Left.{total}
 use Rattle.protocol_records.specs.RecordLaws.{most_records}
 use Rattle.txn_records.specs.declared.records.Record.{Record}
 use Rattle.txn_records.specs.Records.{record_bytes, IsRecord}

@@ -12,6 +12,7 @@ pub mod Fixed
 pub mod Footprints
 pub mod History
 pub mod Laws
+pub mod Left
 pub mod Moments
 pub mod Numbers
 pub mod OnBook

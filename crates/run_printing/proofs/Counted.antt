@@ -9,7 +9,7 @@ use Rattle.protocol.specs.Parts.{Machine}
 use Rattle.protocol.specs.Report.{Answer, answer, answers, is_committed}
 use Rattle.protocol.specs.Verdicts.{verdict}
 use Rattle.protocol.specs.Words.{count, holds}
-use Rattle.protocol_theorems.specs.Left.{total}
+use Rattle.protocol.specs.Left.{total}
 use Rattle.run_outputs.specs.Laws.{settles}
 use Rattle.run_outputs.specs.Replies.{committed_by, aborted_by}
 use Rattle.run_printing.specs.Counted.{settled_by}

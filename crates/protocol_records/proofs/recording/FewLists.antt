@@ -5,7 +5,7 @@ use Rattle.std.proofs.Common.{arith, sym, subst, inl, inr, ◌∙◌}
 use Rattle.std.proofs.lemmas.Bool.{true≢false, cases_Bool, eqb-true, eq-eqb, false_from_ne_true}
 use Rattle.protocol.specs.Words.{count, is_among}
 use Rattle.protocol.specs.Numbers.{times}
-use Rattle.protocol_theorems.specs.Left.{total}
+use Rattle.protocol.specs.Left.{total}
 
 count_more : {X : Type 0} (p : X → Bool) (x : X) (xs : List X) → p x ≡ true → count p (x ∷ xs) ≡ 1 + count p xs
 count_more p x xs e = by (p x) e

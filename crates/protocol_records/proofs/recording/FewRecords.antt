@@ -21,7 +21,7 @@ use Rattle.protocol.specs.OnRing as ring
 use Rattle.protocol.specs.OnDesk as desk
 use Rattle.protocol.specs.Runs.{opening, IsRun, reached}
 use Rattle.protocol.specs.History.{History, no_history, history}
-use Rattle.protocol_theorems.specs.Left.{total}
+use Rattle.protocol.specs.Left.{total}
 use Rattle.protocol_records.specs.RecordLaws.{RecordKey, OfInfo, OfComplete, OfCommit, OfPrepare, OfActCommit, has_key, all_records, batch_actors, act_actors, TellsOf, RecordsTell, most_of_batches, most_of_acts, RecordsAreFew}
 use Rattle.protocol_laws.proofs.first.Frames.{frame}
 use Rattle.protocol_laws.proofs.first.Lists.{all_join, all_alike, any_front, weaker}

@@ -17,7 +17,8 @@ use Rattle.protocol.specs.History.{History, no_history, grown}
 use Rattle.protocol.specs.Runs.{opening, new_cell, EachAllowed, state_after, IsRun, reached}
 use Rattle.protocol.specs.OnPost as post
 use Rattle.protocol.specs.OnBook as book
-use Rattle.protocol_theorems.specs.Left.{IsSmall, total, visit, rest, act_left, control_left, waiting_left, outcome_left, next_left, reply_left, log_left, cell_left, act_tids, left_as, left}
+use Rattle.protocol.specs.Left.{total, visit, rest, act_left, control_left, waiting_left, outcome_left, next_left, reply_left, log_left, cell_left, act_tids, left_as, left}
+use Rattle.protocol_theorems.specs.Left.{IsSmall}
 use Rattle.protocol_laws.proofs.first.Frames.{frame}
 use Rattle.protocol_laws.proofs.first.Times
 use Rattle.protocol_laws.proofs.first.Drawn as drawn

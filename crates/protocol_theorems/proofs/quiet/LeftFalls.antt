@@ -18,7 +18,8 @@ use Rattle.protocol.specs.OnPost as post
 use Rattle.protocol.specs.OnBook as book
 use Rattle.protocol.specs.OnDesk as desk
 use Rattle.protocol.specs.OnCell as cell
-use Rattle.protocol_theorems.specs.Left.{IsSmall, total, unless, visit, rest, ring_left, act_left, joined_left, status_left, control_left, waiting_left, outcome_left, sub_left, entry_left, declared_left, batch_left, reply_left, log_left, cell_left, act_tids, left_as, left}
+use Rattle.protocol.specs.Left.{total, unless, visit, rest, ring_left, act_left, joined_left, status_left, control_left, waiting_left, outcome_left, sub_left, entry_left, declared_left, batch_left, reply_left, log_left, cell_left, act_tids, left_as, left}
+use Rattle.protocol_theorems.specs.Left.{IsSmall}
 use Rattle.protocol_laws.proofs.first.Times
 use Rattle.protocol_laws.proofs.first.Drawn as drawn
 use Rattle.protocol_laws.proofs.first.Controls as controls
@@ -79,7 +80,7 @@ run_entries false t es = omega arith
 complete_most : (k : ℕ) (e : Entry) → entry_left (cell.complete_in k e) ≤ entry_left e
 complete_most k (Rattle.protocol.specs.Parts.BatchEntry b) = by b.complete (b.bid == k)
   where
-    by : (x y : Bool) → unless (x || y) 2 + total Rattle.protocol_theorems.specs.Left.slot_left b.slots ≤ unless x 2 + total Rattle.protocol_theorems.specs.Left.slot_left b.slots
+    by : (x y : Bool) → unless (x || y) 2 + total Rattle.protocol.specs.Left.slot_left b.slots ≤ unless x 2 + total Rattle.protocol.specs.Left.slot_left b.slots
     by true y = omega arith
     by false true = omega arith
     by false false = omega arith
@@ -88,7 +89,7 @@ complete_most k (Rattle.protocol.specs.Parts.ActEntry x) = omega arith
 complete_falls : (k : ℕ) (e : Entry) → is_batch_entry k e ≡ true → not (is_complete_batch e) ≡ true → entry_left (cell.complete_in k e) + 2 ≤ entry_left e
 complete_falls k (Rattle.protocol.specs.Parts.BatchEntry b) i n = by b.complete (b.bid == k) i n
   where
-    by : (x y : Bool) → y ≡ true → not x ≡ true → unless (x || y) 2 + total Rattle.protocol_theorems.specs.Left.slot_left b.slots + 2 ≤ unless x 2 + total Rattle.protocol_theorems.specs.Left.slot_left b.slots
+    by : (x y : Bool) → y ≡ true → not x ≡ true → unless (x || y) 2 + total Rattle.protocol.specs.Left.slot_left b.slots + 2 ≤ unless x 2 + total Rattle.protocol.specs.Left.slot_left b.slots
     by true y i n = absurd (true≢false (sym n))
     by false true i n = omega arith
     by false false i n = absurd (true≢false (sym i))

@@ -7,7 +7,7 @@ use Rattle.protocol.specs.Parts.{Entry, BatchEntry, ActEntry, Slot}
 use Rattle.protocol.specs.Words.{holds, is_among, is_undone}
 use Rattle.protocol.specs.Numbers.{times, one_if}
 use Rattle.protocol.specs.OnCell as cell
-use Rattle.protocol_theorems.specs.Left.{total, unless, visit, slot_left, entry_left}
+use Rattle.protocol.specs.Left.{total, unless, visit, slot_left, entry_left}
 use Rattle.protocol_laws.proofs.first.Times
 
 -- ---- append, filter, map

@@ -22,7 +22,7 @@ use Rattle.protocol.specs.OnBook as book
 use Rattle.protocol.specs.OnDesk as desk
 use Rattle.protocol.specs.OnCell as cell
 use Rattle.protocol.specs.Effects as effects
-use Rattle.protocol_theorems.specs.Left.{total, unless, visit, rest, status_left, joined_left, act_left, control_left, waiting_left, next_left, outcome_left, sub_left, entry_left, stage_left, declared_left, batch_left, log_left}
+use Rattle.protocol.specs.Left.{total, unless, visit, rest, status_left, joined_left, act_left, control_left, waiting_left, next_left, outcome_left, sub_left, entry_left, stage_left, declared_left, batch_left, log_left}
 use Rattle.protocol_theorems.proofs.quiet.LeftLists
 use Rattle.protocol_theorems.proofs.quiet.LeftLists.{total_join, total_filter, total_out, total_map, total_falls, total_rises, total_set, total_set_most, unless_most}
 use Rattle.protocol_laws.proofs.first.Times

@@ -12,7 +12,7 @@ use Rattle.protocol.specs.Conditions.{IsAllowed, conditions, queue, is_idle, is_
 use Rattle.protocol.specs.Effects.{after}
 use Rattle.protocol.specs.Runs.{opening}
 use Rattle.protocol.specs.OnRing as ring
-use Rattle.protocol_theorems.specs.Left.{total, unless, busy_from, way, ring_left}
+use Rattle.protocol.specs.Left.{total, unless, busy_from, way, ring_left}
 use Rattle.protocol_theorems.proofs.quiet.LeftLists.{total_set, total_set_most}
 use Rattle.protocol_laws.proofs.first.Times
 use Rattle.protocol_laws.proofs.first.OnePlace.{remainder}

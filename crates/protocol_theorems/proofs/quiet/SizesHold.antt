@@ -19,7 +19,7 @@ use Rattle.protocol.specs.OnRing as ring
 use Rattle.protocol.specs.OnBook as book
 use Rattle.protocol.specs.Settling.{CascadesAscend}
 use Rattle.protocol_laws.specs.OneWay.{EachBecame, StatusWent, ActWent}
-use Rattle.protocol_theorems.specs.Left.{total}
+use Rattle.protocol.specs.Left.{total}
 use Rattle.protocol_theorems.specs.Sizes.{SizesHold}
 use Rattle.protocol_laws.proofs.first.Along.{along}
 use Rattle.protocol_laws.proofs.first.Frames.{frame}

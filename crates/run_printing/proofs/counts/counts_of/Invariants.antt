@@ -1,6 +1,6 @@
 use Rattle.std.proofs.Common.{◌≡◌, ◌≤◌, map, take}
 use Rattle.core_events.specs.Meant.{event_meant}
-use Rattle.protocol_theorems.specs.Left.{total}
+use Rattle.protocol.specs.Left.{total}
 use Rattle.run_outputs.specs.Replies.{committed_by, aborted_by}
 use Rattle.run_printing.specs.Counted.{settled_by}
 use Rattle.snap_core.specs.Cores.{state_at}
