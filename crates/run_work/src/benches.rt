@@ -50,6 +50,7 @@ pub fn bench_work<D: LogDev, O: Sink, T: Sink>(
     ensures untouched { result.0.items ≡ [] → trace.new ≡ trace.old }
     // Where the logs hold records on which a run begins, and none fails, it does not end for a log.
     ensures opens { (records : List (List Record)) (o : Opening) → MayOpen (work_of work).logs (work_of work).states (devices_of D.told D.faults devices.old.items) (devices_of D.told D.faults devices.new.items) records o → ¬ IsOfLogs result.1 }
+    ensures four { vec_len devices.new ≡ 4 }
 {
     runs_stand(&work.program);
     let (kept, status) = bench_untraced(alloc, work, devices, out);
@@ -66,7 +67,8 @@ fn bench_untraced<D: LogDev, O: Sink>(
 ) -> (Vec<Event>, Status)
     requires four { vec_len devices.old ≡ 4 }
     requires limits { KeepsLimits (work_of work) }
-    ensures { (trace : Writing) → let r : Ran = record { work = work_of work; schedule = seeded 0; kept = result.0.items; devices_before = devices_of D.told D.faults devices.old.items; devices_after = devices_of D.told D.faults devices.new.items; out = writing_of O.taken O.faults out.old out.new; trace = trace } in IsUntraced summing r result.1 }
+    ensures ended { (trace : Writing) → let r : Ran = record { work = work_of work; schedule = seeded 0; kept = result.0.items; devices_before = devices_of D.told D.faults devices.old.items; devices_after = devices_of D.told D.faults devices.new.items; out = writing_of O.taken O.faults out.old out.new; trace = trace } in IsUntraced summing r result.1 }
+    ensures four { vec_len devices.new ≡ 4 }
 {
     let mut replies = NullSink::new();
     match host_work(alloc, work, 0, devices, &mut replies) {
@@ -106,6 +108,7 @@ pub fn crew_bench<
     ensures untouched { result.kept.items ≡ [] → trace.new ≡ trace.old }
     // Where the logs hold records on which a run begins, and none fails, it does not end for a log.
     ensures opens { (records : List (List Record)) (o : Opening) → MayOpen (work_of work).logs (work_of work).states (devices_of D.told D.faults devices.old.items) (devices_of D.told D.faults devices.new.items) records o → ¬ IsOfLogs result.status }
+    ensures four { vec_len devices.new ≡ 4 }
 {
     runs_stand(&work.program);
     let mut out = out;
@@ -127,7 +130,8 @@ fn crew_bench_untraced<R: Threads + Wait + Sync, D: LogDev + Drop + Send, O: Sin
     requires four { vec_len devices.old ≡ 4 }
     requires limits { KeepsLimits (work_of work) }
     requires workers { workers ≤ MOST_WORKERS }
-    ensures { (trace : Writing) → let r : Ran = record { work = work_of work; schedule = free; kept = result.0.items; devices_before = devices_of D.told D.faults devices.old.items; devices_after = devices_of D.told D.faults devices.new.items; out = writing_of O.taken O.faults out.old out.new; trace = trace } in IsUntraced summing r result.1 }
+    ensures ended { (trace : Writing) → let r : Ran = record { work = work_of work; schedule = free; kept = result.0.items; devices_before = devices_of D.told D.faults devices.old.items; devices_after = devices_of D.told D.faults devices.new.items; out = writing_of O.taken O.faults out.old out.new; trace = trace } in IsUntraced summing r result.1 }
+    ensures four { vec_len devices.new ≡ 4 }
 {
     let replies = NullSink::new();
     let CrewHosted {

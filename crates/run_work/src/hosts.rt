@@ -49,6 +49,7 @@ pub(crate) fn host_work<D: LogDev, R: Sink>(
     ensures hosted { IfOk result (λ h. IsHosted (work_of work) (seeded seed) (devices_of D.told D.faults devices.old.items) (devices_of D.told D.faults devices.new.items) (writing_of R.taken R.faults replies.old replies.new) h) }
     ensures unbegun { IfErr result (λ no. IsUnbegun (work_of work) (devices_of D.told D.faults devices.old.items) (devices_of D.told D.faults devices.new.items) no) }
     ensures silent { OnErr result (replies.new ≡ replies.old) }
+    ensures four { vec_len devices.new ≡ 4 }
 {
     let (logs, opening) = open_run(alloc, devices, work.logs, work.states.as_slice())?;
     let mut logs = logs;
@@ -128,6 +129,7 @@ pub(crate) fn host_crew<
     ensures unbegun { IfErr result.hosted (λ no. IsUnbegun (work_of work) (devices_of D.told D.faults devices.old.items) (devices_of D.told D.faults devices.new.items) no) }
     ensures silent { OnErr result.hosted (result.replies ≡ replies) }
     ensures unfailed { OnErr result.hosted (result.failed ≡ false) }
+    ensures four { vec_len devices.new ≡ 4 }
 {
     match open_run(alloc, devices, work.logs, work.states.as_slice()) {
         Ok((logs, opening)) => {

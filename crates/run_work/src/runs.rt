@@ -41,6 +41,7 @@ pub fn run_work<D: LogDev, O: Sink, T: Sink>(
     ensures untouched { result.0.items ≡ [] → trace.new ≡ trace.old }
     // Where the logs hold records on which a run begins, and none fails, it does not end for a log.
     ensures opens { (records : List (List Record)) (o : Opening) → MayOpen (work_of work).logs (work_of work).states (devices_of D.told D.faults devices.old.items) (devices_of D.told D.faults devices.new.items) records o → ¬ IsOfLogs result.1 }
+    ensures four { vec_len devices.new ≡ 4 }
 {
     runs_stand(&work.program);
     let (kept, status) = run_untraced(alloc, work, seed, devices, out);
@@ -58,7 +59,8 @@ fn run_untraced<D: LogDev, O: Sink>(
 ) -> (Vec<Event>, Status)
     requires four { vec_len devices.old ≡ 4 }
     requires limits { KeepsLimits (work_of work) }
-    ensures { (trace : Writing) → let r : Ran = record { work = work_of work; schedule = seeded seed; kept = result.0.items; devices_before = devices_of D.told D.faults devices.old.items; devices_after = devices_of D.told D.faults devices.new.items; out = writing_of O.taken O.faults out.old out.new; trace = trace } in IsUntraced reporting r result.1 }
+    ensures ended { (trace : Writing) → let r : Ran = record { work = work_of work; schedule = seeded seed; kept = result.0.items; devices_before = devices_of D.told D.faults devices.old.items; devices_after = devices_of D.told D.faults devices.new.items; out = writing_of O.taken O.faults out.old out.new; trace = trace } in IsUntraced reporting r result.1 }
+    ensures four { vec_len devices.new ≡ 4 }
 {
     let count = work.txs.len() as u32;
     match host_work(alloc, work, seed, devices, out) {
@@ -106,6 +108,7 @@ pub fn crew_work<
     ensures untouched { result.kept.items ≡ [] → trace.new ≡ trace.old }
     // Where the logs hold records on which a run begins, and none fails, it does not end for a log.
     ensures opens { (records : List (List Record)) (o : Opening) → MayOpen (work_of work).logs (work_of work).states (devices_of D.told D.faults devices.old.items) (devices_of D.told D.faults devices.new.items) records o → ¬ IsOfLogs result.status }
+    ensures four { vec_len devices.new ≡ 4 }
 {
     runs_stand(&work.program);
     let CrewRan { kept, status, out } = crew_untraced(rt, alloc, work, workers, gate, devices, out);
@@ -131,7 +134,8 @@ fn crew_untraced<
     requires four { vec_len devices.old ≡ 4 }
     requires limits { KeepsLimits (work_of work) }
     requires workers { workers ≤ MOST_WORKERS }
-    ensures { (trace : Writing) → let r : Ran = record { work = work_of work; schedule = free; kept = result.kept.items; devices_before = devices_of D.told D.faults devices.old.items; devices_after = devices_of D.told D.faults devices.new.items; out = writing_of O.taken O.faults out result.out; trace = trace } in IsUntraced reporting r result.status }
+    ensures ended { (trace : Writing) → let r : Ran = record { work = work_of work; schedule = free; kept = result.kept.items; devices_before = devices_of D.told D.faults devices.old.items; devices_after = devices_of D.told D.faults devices.new.items; out = writing_of O.taken O.faults out result.out; trace = trace } in IsUntraced reporting r result.status }
+    ensures four { vec_len devices.new ≡ 4 }
 {
     let count = work.txs.len() as u32;
     let CrewHosted {

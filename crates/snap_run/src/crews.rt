@@ -52,6 +52,7 @@ pub(crate) fn crew_answer<
         (count seed workers : ℕ) (w : Work) (records : List (List Record)) (o : Opening) → IsBench u.words count seed workers → MayBeMeasured u count seed w records o → ¬ IsOfLogs result.status }
     ensures untouched { GetsNoCall result.status → logs.new ≡ logs.old }
     ensures no_trace { result.kept.items ≡ [] → trace.new ≡ trace.old }
+    ensures four { vec_len logs.new ≡ 4 }
 {
     one_command();
     match read_words(words) {
@@ -95,6 +96,7 @@ fn crew_input<
         (text : List ℕ) (w : Work) (records : List (List Record)) (o : Opening) → IsUntroubled u text w records o → ¬ IsOfLogs result.status }
     ensures untouched { GetsNoCall result.status → logs.new ≡ logs.old }
     ensures no_trace { result.kept.items ≡ [] → trace.new ≡ trace.old }
+    ensures four { vec_len logs.new ≡ 4 }
 {
     one_command();
     one_work();
@@ -134,6 +136,7 @@ fn crew_generated<
         (w : Work) (records : List (List Record)) (o : Opening) → MayBeMeasured u count seed w records o → ¬ IsOfLogs result.status }
     ensures untouched { GetsNoCall result.status → logs.new ≡ logs.old }
     ensures no_trace { result.kept.items ≡ [] → trace.new ≡ trace.old }
+    ensures four { vec_len logs.new ≡ 4 }
 {
     one_work();
     match generated_work(alloc, count, seed) {

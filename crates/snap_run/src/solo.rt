@@ -60,6 +60,8 @@ pub fn run_solo<I: Source, D: LogDev, O: Sink, T: Sink>(
     ensures untouched { GetsNoCall result.status → result.logs ≡ logs }
     // Where no event is kept, the trace gets none.
     ensures no_trace { result.kept.items ≡ [] → result.trace ≡ trace }
+    // The devices come back, all of them.
+    ensures four { vec_len result.logs ≡ 4 }
 {
     done_or_no_memory();
     let mut logs = logs;
@@ -93,6 +95,7 @@ fn answer<I: Source, D: LogDev, O: Sink, T: Sink>(
         (count seed workers : ℕ) (w : Work) (records : List (List Record)) (o : Opening) → IsBench u.words count seed workers → MayBeMeasured u count seed w records o → ¬ IsOfLogs result.1 }
     ensures untouched { GetsNoCall result.1 → logs.new ≡ logs.old }
     ensures no_trace { result.0.items ≡ [] → trace.new ≡ trace.old }
+    ensures four { vec_len logs.new ≡ 4 }
 {
     one_command();
     match read_words(words) {
@@ -123,6 +126,7 @@ fn run_input<I: Source, D: LogDev, O: Sink, T: Sink>(
         (text : List ℕ) (w : Work) (records : List (List Record)) (o : Opening) → IsUntroubled u text w records o → ¬ IsOfLogs result.1 }
     ensures untouched { GetsNoCall result.1 → logs.new ≡ logs.old }
     ensures no_trace { result.0.items ≡ [] → trace.new ≡ trace.old }
+    ensures four { vec_len logs.new ≡ 4 }
 {
     one_command();
     one_work();
@@ -148,6 +152,7 @@ fn run_generated<D: LogDev, O: Sink, T: Sink>(
         (w : Work) (records : List (List Record)) (o : Opening) → MayBeMeasured u count seed w records o → ¬ IsOfLogs result.1 }
     ensures untouched { GetsNoCall result.1 → logs.new ≡ logs.old }
     ensures no_trace { result.0.items ≡ [] → trace.new ≡ trace.old }
+    ensures four { vec_len logs.new ≡ 4 }
 {
     one_work();
     match generated_work(alloc, count, seed) {

@@ -64,6 +64,8 @@ pub fn run<
     ensures untouched { GetsNoCall result.status → result.logs ≡ logs }
     // Where no event is kept, the trace gets none.
     ensures no_trace { result.kept.items ≡ [] → result.trace ≡ trace }
+    // The devices come back, all of them.
+    ensures four { vec_len result.logs ≡ 4 }
 {
     if workers_of(words) == 0 {
         return run_solo(alloc, words, input, logs, out, trace);

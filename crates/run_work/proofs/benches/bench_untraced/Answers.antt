@@ -18,8 +18,8 @@ end_summed-status-requires g c =
     core_at (machine_of (work_of c.args.work) is.opening) (meant c.as_slice.result.now) c.in-Ok.hosted.stop c.in-Ok.hosted.core
     (subst (λ (kept : List Event). IsCoreOf (machine_of (work_of c.args.work) is.opening) (meant kept) c.in-Ok.hosted.stop c.in-Ok.hosted.core) (sym c.as_slice.ensures.value) is.core)
 
-pub returns-in-Ok : goal.returns-in-Ok
-returns-in-Ok g c = λ trace.
+pub returns-in-Ok-clause-ended : goal.returns-in-Ok-clause-ended
+returns-in-Ok-clause-ended g c = λ trace.
     let w = work_of c.args.work in
     let is = c.in-Ok.ensures.hosted in
     let h = c.in-Ok.hosted in
@@ -40,8 +40,8 @@ returns-in-Ok g c = λ trace.
           end (solo_tells summing left w 0 is.opening es a b h.stop end) (c.end_summed-status.ensures.ending m (length w.txs) core),
     )
 
-pub returns-in-Err : goal.returns-in-Err
-returns-in-Err g c = λ trace.
+pub returns-in-Err-clause-ended : goal.returns-in-Err-clause-ended
+returns-in-Err-clause-ended g c = λ trace.
     let out : Writing = writing_of g.O.Sink.taken g.O.Sink.faults c.args.out.now c.args.out.now in
     inl (
       c.in-Err.no,

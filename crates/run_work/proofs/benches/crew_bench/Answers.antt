@@ -27,7 +27,7 @@ returns-clause-answer g c =
     answered summing r (λ o failed run. c.runs_stand.ensures r.work r.schedule o (meant r.kept) failed r.devices_before r.devices_after refl c.requires.limits run)
     c.crew_bench_untraced-kept.result.1 c.traced-status.result
     (λ none. subst (λ t. Keeps (g.T.Sink.taken c.args.trace.now) (g.T.Sink.taken t)) (sym (c.traced-status.ensures.none (c.as_slice.ensures.value ∙ none))) (Keeps-refl _))
-    (c.crew_bench_untraced-kept.ensures trace)
+    (c.crew_bench_untraced-kept.ensures.ended trace)
     (subst (λ (kept : List Event). IsTraced trace kept c.crew_bench_untraced-kept.result.1 c.traced-status.result) c.as_slice.ensures.value c.traced-status.ensures.traced)
 
 pub returns-clause-opens : goal.returns-clause-opens
@@ -43,4 +43,4 @@ returns-clause-opens g c = λ records o may.
       trace = trace;
     } in
     traced_not_of_logs trace c.as_slice.result.now c.crew_bench_untraced-kept.result.1 c.traced-status.result c.traced-status.ensures.traced
-    (untraced_not_of_logs summing r records o may c.crew_bench_untraced-kept.result.1 (c.crew_bench_untraced-kept.ensures trace))
+    (untraced_not_of_logs summing r records o may c.crew_bench_untraced-kept.result.1 (c.crew_bench_untraced-kept.ensures.ended trace))

@@ -25,8 +25,8 @@ end_crew-status-requires g c =
     core_at (machine_of (work_of c.args.work) is.hosted.opening) (meant c.as_slice.result.now) c.in-Ok.hosted.stop c.in-Ok.hosted.core
     (subst (λ (kept : List Event). IsCoreOf (machine_of (work_of c.args.work) is.hosted.opening) (meant kept) c.in-Ok.hosted.stop c.in-Ok.hosted.core) (sym c.as_slice.ensures.value) is.hosted.core)
 
-pub returns-in-Ok : goal.returns-in-Ok
-returns-in-Ok g c = λ trace.
+pub returns-in-Ok-clause-ended : goal.returns-in-Ok-clause-ended
+returns-in-Ok-clause-ended g c = λ trace.
     let w = work_of c.args.work in
     let before = devices_of g.D.LogDev.told g.D.LogDev.faults c.args.devices.now.items in
     let after = devices_of g.D.LogDev.told g.D.LogDev.faults c.host_crew-hosted.new.devices.items in
@@ -48,8 +48,8 @@ returns-in-Ok g c = λ trace.
           (ap meant c.as_slice.ensures.value) c.len-count.ensures (refl, refl) c.end_crew-status.ensures.later is.ends (crew_tells w is.opening es a b h.stop made.failed crew.whole silent) (c.end_crew-status.ensures.ending m core),
     )
 
-pub returns-in-Err : goal.returns-in-Err
-returns-in-Err g c = λ trace.
+pub returns-in-Err-clause-ended : goal.returns-in-Err-clause-ended
+returns-in-Err-clause-ended g c = λ trace.
     let before = devices_of g.D.LogDev.told g.D.LogDev.faults c.args.devices.now.items in
     let after = devices_of g.D.LogDev.told g.D.LogDev.faults c.host_crew-hosted.new.devices.items in
     let made = c.host_crew-hosted.result in

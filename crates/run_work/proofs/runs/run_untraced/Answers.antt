@@ -18,8 +18,8 @@ end_reported-status-requires g c =
     core_at (machine_of (work_of c.args.work) is.opening) (meant c.as_slice.result.now) c.in-Ok.hosted.stop c.in-Ok.hosted.core
     (subst (λ (kept : List Event). IsCoreOf (machine_of (work_of c.args.work) is.opening) (meant kept) c.in-Ok.hosted.stop c.in-Ok.hosted.core) (sym c.as_slice.ensures.value) is.core)
 
-pub returns-in-Ok : goal.returns-in-Ok
-returns-in-Ok g c = λ trace.
+pub returns-in-Ok-clause-ended : goal.returns-in-Ok-clause-ended
+returns-in-Ok-clause-ended g c = λ trace.
     let w = work_of c.args.work in
     let is = c.in-Ok.ensures.hosted in
     let h = c.in-Ok.hosted in
@@ -37,8 +37,8 @@ returns-in-Ok g c = λ trace.
           (ap meant c.as_slice.ensures.value) c.len-count.ensures (refl, refl) c.end_reported-status.ensures.later is.ends (solo_tells reporting left w c.args.seed is.opening es a b h.stop is.ends) (c.end_reported-status.ensures.ending m core),
     )
 
-pub returns-in-Err : goal.returns-in-Err
-returns-in-Err g c = λ trace.
+pub returns-in-Err-clause-ended : goal.returns-in-Err-clause-ended
+returns-in-Err-clause-ended g c = λ trace.
     let w = work_of c.args.work in
     let out = c.host_work.new.replies in
     let told = subst (λ (n : ℕ). IsToldUnbegun reporting n c.in-Err.no (writing_of g.O.Sink.taken g.O.Sink.faults out c.not_begun.new.out)) c.len-count.ensures c.not_begun.ensures.told in
