@@ -14,7 +14,5 @@ pub trace_more : (es : List Event) (at n : ℕ) → trace_of (take (at + n) es) 
 trace_more es at n = ap trace_of (take-add at n es) ∙ trace-append (take at es) (take n (drop at es))
 
 -- those before a place, n of them from there on, and those behind these
-pub trace_cut : (es : List Event) (at n : ℕ) → trace_of es ≡ trace_of (take at es) ++ (trace_of (take n (drop at es)) ++ trace_of (drop n (drop at es)))
-trace_cut es at n =
-    ap trace_of (sym (take-append-drop at es)) ∙ trace-append (take at es) (drop at es)
-    ∙ ap (λ l. trace_of (take at es) ++ l) (ap trace_of (sym (take-append-drop n (drop at es))) ∙ trace-append (take n (drop at es)) (drop n (drop at es)))
+pub events_cut : (es : List Event) (at n : ℕ) → es ≡ take at es ++ (take n (drop at es) ++ drop n (drop at es))
+events_cut es at n = sym (take-append-drop at es) ∙ ap (λ l. take at es ++ l) (sym (take-append-drop n (drop at es)))

@@ -3,15 +3,12 @@ use Rattle.std.proofs.Common.{◌≡◌, ℕ, zero, suc, ◌+◌, ◌-◌, ◌<�
 use Rattle.std.proofs.lemmas.List.{map_more}
 use Rattle.std.proofs.lemmas.List.Elements.{filter-append}
 use Rattle.std.proofs.lemmas.List.Folds.{list_any-append}
-use Rattle.std.proofs.lemmas.Grind.{flat_map-append}
 use Rattle.core_events.specs.declared.events.Event as code
 use Rattle.core_events.specs.Meant.{event_meant}
 use Rattle.protocol.specs.Events.{Event, Reply}
 use Rattle.protocol.specs.Report.{replied}
 use Rattle.protocol.specs.Words.{below, is_among}
-use Rattle.run_printing.specs.Printed.{unanswered, unsures_text}
-use Rattle.snap_base.specs.declared.verdicts.Verdict.TheVariants.{Unsure}
-use Rattle.snap_report.specs.Lines.{reply_text}
+use Rattle.run_printing.specs.Printed.{unanswered}
 
 pub replied-append : (xs ys : List Event) → replied (xs ++ ys) ≡ replied xs ++ replied ys
 replied-append [] ys = refl
@@ -32,7 +29,7 @@ open_at marks n true is unset = cc
 open_at marks n false is unset = sym is
 
 -- the numbers below m begin with those below n
-pub below_on : (n d : ℕ) → (rest : List ℕ) × (below (n + d) ≡ below n ++ rest)
+below_on : (n d : ℕ) → (rest : List ℕ) × (below (n + d) ≡ below n ++ rest)
 below_on n zero = ([], let same : n + 0 ≡ n = omega arith in ap below same ∙ sym (append-nil (below n)))
 below_on n (suc d) = let before = below_on n d in (
   before.0 ++ (n + d) ∷ [],
@@ -40,37 +37,30 @@ below_on n (suc d) = let before = below_on n d in (
 )
 
 -- one more transaction
-pub unanswered_more : (es : List Event) (n : ℕ) → unanswered es (n + 1) ≡ unanswered es n ++ filter (λ m. not (is_among m (replied es))) (n ∷ [])
+unanswered_more : (es : List Event) (n : ℕ) → unanswered es (n + 1) ≡ unanswered es n ++ filter (λ m. not (is_among m (replied es))) (n ∷ [])
 unanswered_more es n = let next : n + 1 ≡ suc n = omega arith in ap (unanswered es) next ∙ filter-append (λ m. not (is_among m (replied es))) (below n) (n ∷ [])
 
--- the lines of one more transaction, where it is answered
-pub unsures_skip : (log : ℕ) (es : List Event) (n : ℕ) → is_among n (replied es) ≡ true → unsures_text log (unanswered es (n + 1)) ≡ unsures_text log (unanswered es n)
-unsures_skip log es n is = ap (unsures_text log) (unanswered_more es n ∙ rw is (append-nil (unanswered es n)))
+-- where it is answered
+pub unanswered_skip : (es : List Event) (n : ℕ) → is_among n (replied es) ≡ true → unanswered es (n + 1) ≡ unanswered es n
+unanswered_skip es n is = unanswered_more es n ∙ rw is (append-nil (unanswered es n))
 
 -- and where it is not
-pub unsures_more : (log : ℕ) (es : List Event) (n : ℕ) → is_among n (replied es) ≡ false
-    → unsures_text log (unanswered es (n + 1)) ≡ unsures_text log (unanswered es n) ++ reply_text n (Unsure log)
-unsures_more log es n is =
-    ap (unsures_text log) (unanswered_more es n ∙ rw is refl)
-    ∙ flat_map-append (λ m. reply_text m (Unsure log)) (unanswered es n) (n ∷ [])
-    ∙ ap (λ l. unsures_text log (unanswered es n) ++ l) (append-nil (reply_text n (Unsure log)))
+pub unanswered_next : (es : List Event) (n : ℕ) → is_among n (replied es) ≡ false → unanswered es (n + 1) ≡ unanswered es n ++ n ∷ []
+unanswered_next es n is = unanswered_more es n ∙ rw is refl
 
--- what is written begins with the lines of those below n, of any n
-pub unsures_on : (log : ℕ) (es : List Event) (n d : ℕ) → (rest : List ℕ) × (unsures_text log (unanswered es (n + d)) ≡ unsures_text log (unanswered es n) ++ rest)
-unsures_on log es n d = let cut = below_on n d in (
-  unsures_text log (filter (λ m. not (is_among m (replied es))) cut.0),
-  ap (λ l. unsures_text log (filter (λ m. not (is_among m (replied es))) l)) cut.1
-      ∙ ap (unsures_text log) (filter-append (λ m. not (is_among m (replied es))) (below n) cut.0)
-      ∙ flat_map-append (λ m. reply_text m (Unsure log)) (unanswered es n) (filter (λ m. not (is_among m (replied es))) cut.0),
+-- those below n come first, of any n
+unanswered_on : (es : List Event) (n d : ℕ) → (rest : List ℕ) × (unanswered es (n + d) ≡ unanswered es n ++ rest)
+unanswered_on es n d = let cut = below_on n d in (
+  filter (λ m. not (is_among m (replied es))) cut.0,
+  ap (filter (λ m. not (is_among m (replied es)))) cut.1 ∙ filter-append (λ m. not (is_among m (replied es))) (below n) cut.0,
 )
 
 -- behind them lies one that is not answered, and more
-pub unsures_behind : (log : ℕ) (es : List Event) (n count : ℕ) → n < count → is_among n (replied es) ≡ false
-    → (rest : List ℕ) × (unsures_text log (unanswered es count) ≡ unsures_text log (unanswered es n) ++ (reply_text n (Unsure log) ++ rest))
-unsures_behind log es n count within is =
-    let on = unsures_on log es (n + 1) (count - (n + 1)) in
+pub unanswered_behind : (es : List Event) (n count : ℕ) → n < count → is_among n (replied es) ≡ false
+    → (rest : List ℕ) × (unanswered es count ≡ unanswered es n ++ (n ∷ [] ++ rest))
+unanswered_behind es n count within is =
+    let on = unanswered_on es (n + 1) (count - (n + 1)) in
     let all : n + 1 + (count - (n + 1)) ≡ count = omega arith in (
       on.0,
-      ap (λ m. unsures_text log (unanswered es m)) (sym all) ∙ on.1 ∙ ap (λ l. l ++ on.0) (unsures_more log es n is)
-          ∙ append_assoc (unsures_text log (unanswered es n)) (reply_text n (Unsure log)) on.0,
+      ap (unanswered es) (sym all) ∙ on.1 ∙ ap (λ l. l ++ on.0) (unanswered_next es n is) ∙ append_assoc (unanswered es n) (n ∷ []) on.0,
     )

@@ -29,6 +29,8 @@ pub fn write_summary<O: Sink>(
     ensures whole { OnOk result (Appends (O.taken out.old) (O.taken out.new) (summing_text (fixed_of core.now.tables) (map event_meant kept.now))) }
     ensures front { OnErr result (AppendsFront (O.taken out.old) (O.taken out.new) (summing_text (fixed_of core.now.tables) (map event_meant kept.now))) }
     ensures fault { IsErrOf result WriteNo.Fault → Rose (O.faults out.old) (O.faults out.new) }
+    // The text is made whole before it is written.
+    ensures memory { IsErrOf result WriteNo.Memory → out.new ≡ out.old }
     ensures later { O.faults out.old ≤ O.faults out.new }
 {
     let line = line_of(alloc, core, kept)?;

@@ -1,6 +1,6 @@
 ghost use Rattle.std.specs.Prelude.{◌≡◌, ◌≤◌, [], IfOk, IsErrOf, OnOk, OnErr, string_bytes};
 ghost use Rattle.std.specs.Io.KnownBytes.{Appends};
-ghost use Rattle.run_printing.specs.Printed.{AppendsFront};
+ghost use Rattle.run_printing.specs.Printed.{AppendsLines, IsCut, traced_line};
 ghost use Rattle.snap_outside.specs.Causes.{Rose};
 ghost use Rattle.trace_text.specs.Traces.{trace_of};
 
@@ -15,10 +15,10 @@ use trace_text::print_event;
 /// How many lines go to the sink at once.
 const LINES: usize = 512;
 
-/// Writes a line for each event. Where there is none the sink gets no call.
+/// Writes a line for each event. Want of memory ends it between two lines. Where there is no event the sink gets no call.
 pub fn write_trace<T: Sink>(alloc: Global, kept: &[Event], trace: &mut T) -> Result<(), WriteNo>
     ensures whole { OnOk result (Appends (T.taken trace.old) (T.taken trace.new) (trace_of kept.now)) }
-    ensures front { OnErr result (AppendsFront (T.taken trace.old) (T.taken trace.new) (trace_of kept.now)) }
+    ensures lines { OnErr result (AppendsLines traced_line (T.taken trace.old) (T.taken trace.new) (T.faults trace.old) (T.faults trace.new) kept.now) }
     ensures fault { IsErrOf result WriteNo.Fault → Rose (T.faults trace.old) (T.faults trace.new) }
     ensures later { T.faults trace.old ≤ T.faults trace.new }
     ensures none { kept.now ≡ [] → trace.new ≡ trace.old }
@@ -35,7 +35,7 @@ pub fn write_trace<T: Sink>(alloc: Global, kept: &[Event], trace: &mut T) -> Res
 /// Writes the lines of these events at once.
 fn write_lines<T: Sink>(alloc: Global, events: &[Event], trace: &mut T) -> Result<(), WriteNo>
     ensures whole { OnOk result (Appends (T.taken trace.old) (T.taken trace.new) (trace_of events.now)) }
-    ensures front { OnErr result (AppendsFront (T.taken trace.old) (T.taken trace.new) (trace_of events.now)) }
+    ensures cut { OnErr result (IsCut (T.taken trace.old) (T.taken trace.new) (T.faults trace.old) (T.faults trace.new) (trace_of events.now)) }
     ensures fault { IsErrOf result WriteNo.Fault → Rose (T.faults trace.old) (T.faults trace.new) }
     ensures later { T.faults trace.old ≤ T.faults trace.new }
 {

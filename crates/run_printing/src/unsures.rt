@@ -1,11 +1,9 @@
-ghost use Rattle.std.specs.Prelude.{◌≡◌, ◌<◌, ◌≤◌, ◌||◌, ℕ, [], ◌∷◌, false, get_or, length, map, IfOk, IsTrue};
+ghost use Rattle.std.specs.Prelude.{◌≡◌, ◌<◌, ◌≤◌, ◌||◌, ℕ, [], ◌∷◌, false, get_or, length, map, IfOk, IsTrue, IsFalse};
 ghost use Rattle.std.specs.Io.KnownBytes.{Appends};
 ghost use Rattle.core_events.specs.Meant.{event_meant};
 ghost use Rattle.protocol.specs.Report.{replied};
 ghost use Rattle.protocol.specs.Words.{is_among};
-ghost use Rattle.run_printing.specs.Printed.{AppendsFront, unanswered, unsures_text};
-ghost use Rattle.snap_base.specs.declared.verdicts.Verdict.TheVariants.{Unsure};
-ghost use Rattle.snap_report.specs.Lines.{reply_text};
+ghost use Rattle.run_printing.specs.Printed.{AppendsLines, IsCut, unanswered, unsure_line};
 
 use crate::writes::write_text;
 use core_events::Event;
@@ -15,9 +13,9 @@ use snap_report::reply_line;
 use std::alloc::Global;
 
 /// Writes for each transaction, of so many, that the events do not answer that it is not known whether it is committed, as
-/// the device of this log failed. Want of memory and a sink that fails end it.
+/// the device of this log failed. Want of memory ends it between two lines, and a sink that fails where it fails.
 pub fn write_unsures<O: Sink>(alloc: Global, out: &mut O, log: u8, count: u32, kept: &[Event])
-    ensures front { AppendsFront (O.taken out.old) (O.taken out.new) (unsures_text log (unanswered (map event_meant kept.now) count)) }
+    ensures lines { AppendsLines (unsure_line log) (O.taken out.old) (O.taken out.new) (O.faults out.old) (O.faults out.new) (unanswered (map event_meant kept.now) count) }
     ensures later { O.faults out.old ≤ O.faults out.new }
 {
     let Ok(answered) = answered_by(alloc, count, kept) else {
@@ -60,8 +58,8 @@ fn mark(answered: &mut Vec<bool>, event: Event)
 
 /// Writes the line of one transaction, and tells whether it was written whole.
 fn write_unsure<O: Sink>(alloc: Global, out: &mut O, log: u8, number: u32) -> bool
-    ensures whole { IsTrue result → Appends (O.taken out.old) (O.taken out.new) (reply_text number (Unsure log)) }
-    ensures front { AppendsFront (O.taken out.old) (O.taken out.new) (reply_text number (Unsure log)) }
+    ensures whole { IsTrue result → Appends (O.taken out.old) (O.taken out.new) (unsure_line log number) }
+    ensures cut { IsFalse result → IsCut (O.taken out.old) (O.taken out.new) (O.faults out.old) (O.faults out.new) (unsure_line log number) }
     ensures later { O.faults out.old ≤ O.faults out.new }
 {
     match reply_line(alloc, TxNo(number), &Verdict::Unsure { log }) {

@@ -1,4 +1,4 @@
-ghost use Rattle.std.specs.Prelude.{◌≡◌, ◌≤◌, IsErrOf, OnOk, OnErr};
+ghost use Rattle.std.specs.Prelude.{◌≡◌, ◌≤◌, IsOkUnless, OnOk, OnErr};
 ghost use Rattle.std.specs.Io.KnownBytes.{Appends};
 ghost use Rattle.run_printing.specs.Printed.{AppendsFront};
 ghost use Rattle.snap_outside.specs.Causes.{Rose};
@@ -32,6 +32,7 @@ pub(crate) fn write_text<O: Sink>(out: &mut O, text: &str) -> Result<(), WriteNo
     ensures whole { OnOk result (Appends (O.taken out.old) (O.taken out.new) text.now) }
     ensures front { OnErr result (AppendsFront (O.taken out.old) (O.taken out.new) text.now) }
     ensures fault { OnErr result (Rose (O.faults out.old) (O.faults out.new)) }
+    ensures only { IsOkUnless result WriteNo.Fault }
     ensures later { O.faults out.old ≤ O.faults out.new }
 {
     match write_all(out, text.as_bytes()) {

@@ -7,14 +7,15 @@ use Rattle.log_opening.specs.declared.refusals.LogsNo.TheVariants as ending
 use Rattle.log_opening.specs.Devices.{Device, device_at}
 use Rattle.protocol.specs.Events as machine
 use Rattle.run_opening.specs.Opens.{IsNoRun, MayOpen}
-use Rattle.run_recovery.specs.Runs.{no_log, one_log, HasRun, meant, machine_of, HasEnded}
+use Rattle.run_printing.specs.Printed.{traced_line}
+use Rattle.run_recovery.specs.Runs.{no_log, one_log, HasRun, meant}
 use Rattle.run_recovery.specs.Schedules.{Schedule, seeded, free}
 use Rattle.run_recovery.specs.Stands.{RunStands}
 use Rattle.run_work.specs.Hosts.{LeftFailed}
-use Rattle.run_work.specs.Runs.{Printing, ending_by, Ran, HasFailed, IsAnswerOf, LogRose, PrintsAll, PrintsFailed, PrintsFront, IsOfLogs}
+use Rattle.run_work.specs.Runs.{Printing, Ran, HasFailed, IsAnswerOf, LogRose, PrintsFailed, IsOfLogs}
 use Rattle.run_work.specs.Statuses.{logs_status}
 use Rattle.run_work.specs.Untraced.{IsRunEnd, LeftBy, IsNoBeginning, IsUntraced, IsTraced}
-use Rattle.run_work.specs.Writings.{Writing, WritesNothing, Writes, WritesFront}
+use Rattle.run_work.specs.Writings.{Writing, WritesNothing, Writes, WritesLines}
 use Rattle.snap_base.specs.declared.transactions.State.{State}
 use Rattle.snap_outside.specs.Causes.{Rose}
 use Rattle.snap_recover.specs.declared.openings.Opening.{Opening}
@@ -40,12 +41,9 @@ unbegun_answer p r (ending.Device log) nothing none =
     (no_run_rose r.work.logs r.work.states r.devices_before r.devices_after log none.none.none, inl ((none.kept, none.none.none, nothing, none.none.safe), none.told))
 unbegun_answer p r ending.Memory nothing none = inl ((none.kept, none.none.none, nothing, none.none.safe), none.told)
 
--- of a trace that is written whole a front is written
-whole_front : (t : Writing) (bytes : List ℕ) → Writes t bytes → WritesFront t bytes
-whole_front t bytes whole = (bytes, [], sym (append-nil bytes), whole)
-
-all_front : (p : Printing) (w : Work) (o : Opening) (es : List machine.Event) (out : Writing) → HasEnded w o es → PrintsAll p w o es out → PrintsFront p w o es out
-all_front p w o es out ended all = inr (ended, (ending_by p (machine_of w o) es, [], sym (append-nil (ending_by p (machine_of w o) es)), all))
+-- of a trace that is written whole, whole lines are
+whole_lines : (t : Writing) (kept : List Event) → Writes t (trace_of kept) → WritesLines traced_line t [] kept
+whole_lines t kept whole = inl (kept, [], sym (append-nil kept), whole)
 
 -- what the laws say of each run that the call may have made
 abbrev pub EachStands : Ran → Type 0
@@ -56,13 +54,13 @@ rose_there : (r : Ran) (o : Opening) (schedule : Schedule) (log : ℕ) → LeftF
 rose_there r o (seeded seed) log left = left.0.rose log (eq-eqb log log refl)
 rose_there r o free log left = left.2.rose log left.1.is
 
-failed_answer : (r : Ran) → EachStands r → (o : Opening) (schedule : Schedule) (log : ℕ) → WritesFront r.trace (trace_of r.kept)
+failed_answer : (r : Ran) → EachStands r → (o : Opening) (schedule : Schedule) (log : ℕ) → WritesLines traced_line r.trace [] r.kept
     → LeftFailed (LeftBy r o) r.work schedule o (meant r.kept) log → (P : Opening → List machine.Event → Type 0) → P o (meant r.kept) → HasFailed r schedule log P
 failed_answer r stands o (seeded seed) log front left P printed = (o, left.0.run, stands o (one_log log) left.0.run, (left.1, printed), front)
 failed_answer r stands o free log front left P printed =
     (left.0, left.1, (o, left.2.run, stands o left.0 left.2.run, (λ l is. ((left.2.rose l is).0, (left.2.rose l is).1, left.3 l is), printed), front))
 
-begun_answer : (p : Printing) (r : Ran) → EachStands r → (o : Opening) (s : Status) → WritesFront r.trace (trace_of r.kept) → (s ≡ status.Done → Writes r.trace (trace_of r.kept))
+begun_answer : (p : Printing) (r : Ran) → EachStands r → (o : Opening) (s : Status) → WritesLines traced_line r.trace [] r.kept → (s ≡ status.Done → Writes r.trace (trace_of r.kept))
     → IsRunEnd p (LeftBy r o) r.work r.schedule o (meant r.kept) r.out s → IsAnswerOf p r s
 begun_answer p r stands o status.Done front whole end = ((o, end.0.run, stands o no_log end.0.run, (end.1, end.2), front), whole refl)
 begun_answer p r stands o (status.Usage place) front whole end = end
@@ -79,7 +77,7 @@ begun_answer p r stands o status.TraceFault front whole end = absurd end
 abbrev Unwritten : Ran → Type 0
 Unwritten r = r.kept ≡ [] → WritesNothing r.trace
 
-same_answer : (p : Printing) (r : Ran) → EachStands r → (before after : Status) → Unwritten r → IsUntraced p r before → after ≡ before → WritesFront r.trace (trace_of r.kept)
+same_answer : (p : Printing) (r : Ran) → EachStands r → (before after : Status) → Unwritten r → IsUntraced p r before → after ≡ before → WritesLines traced_line r.trace [] r.kept
     → (before ≡ status.Done → Writes r.trace (trace_of r.kept)) → IsAnswerOf p r after
 same_answer p r stands before after nothing (inl (why, none, is)) same front whole =
     subst (λ (t : Status). IsAnswerOf p r t) (sym (same ∙ is)) (unbegun_answer p r why (nothing none.kept) none)
@@ -87,7 +85,7 @@ same_answer p r stands before after nothing (inr (o, end)) same front whole =
     subst (λ (t : Status). IsAnswerOf p r t) (sym same) (begun_answer p r stands o before front whole end)
 
 -- all was done, but for the trace
-done_but_traced : (p : Printing) (r : Ran) → EachStands r → (after : Status) → IsUntraced p r status.Done → WritesFront r.trace (trace_of r.kept)
+done_but_traced : (p : Printing) (r : Ran) → EachStands r → (after : Status) → IsUntraced p r status.Done → WritesLines traced_line r.trace [] r.kept
     → (after ≡ status.Memory) ⊎ ((after ≡ status.TraceFault) × Rose r.trace.faults_before r.trace.faults_after) → IsAnswerOf p r after
 done_but_traced p r stands after (inl (why, none, is)) front then = absurd (never why is)
   where
@@ -96,7 +94,7 @@ done_but_traced p r stands after (inl (why, none, is)) front then = absurd (neve
     never (ending.Device log) e = cc
     never ending.Memory e = cc
 done_but_traced p r stands after (inr (o, end)) front (inl memory) =
-    subst (λ (t : Status). IsAnswerOf p r t) (sym memory) (inr (o, end.0.run, stands o no_log end.0.run, all_front p r.work o (meant r.kept) r.out end.1 end.2, front))
+    subst (λ (t : Status). IsAnswerOf p r t) (sym memory) (inr (o, end.0.run, stands o no_log end.0.run, inr (end.1, end.2), front))
 done_but_traced p r stands after (inr (o, end)) front (inr fault) =
     subst (λ (t : Status). IsAnswerOf p r t) (sym fault.0) (fault.1, (o, end.0.run, stands o no_log end.0.run, (end.1, end.2), front))
 
@@ -112,7 +110,7 @@ is_done status.OutFault = inr (λ e. cc)
 is_done status.TraceFault = inr (λ e. cc)
 
 pub answered : (p : Printing) (r : Ran) → EachStands r → (before after : Status) → (r.kept ≡ [] → WritesNothing r.trace) → IsUntraced p r before → IsTraced r.trace r.kept before after → IsAnswerOf p r after
-answered p r stands before after nothing run (inl (same, whole)) = same_answer p r stands before after nothing run same (whole_front r.trace (trace_of r.kept) whole) (λ _. whole)
+answered p r stands before after nothing run (inl (same, whole)) = same_answer p r stands before after nothing run same (whole_lines r.trace r.kept whole) (λ _. whole)
 answered p r stands before after nothing run (inr (front, other, done)) = elim (is_done before) [
   | inl is ↦ done_but_traced p r stands after (subst (λ (t : Status). IsUntraced p r t) is run) front (done is)
   | inr not ↦ same_answer p r stands before after nothing run (other not) front (λ is. absurd (not is))

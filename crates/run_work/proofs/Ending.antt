@@ -1,5 +1,5 @@
 -- How a run ends, from how a host ended and what is printed then.
-use Rattle.std.proofs.Common.{◌≡◌, ◌⊎◌, inl, inr, ℕ, ◌≤◌, List, [], ◌++◌, length, refl, sym, subst, arith, Bool, true, false, Option}
+use Rattle.std.proofs.Common.{◌≡◌, ◌⊎◌, inl, inr, ℕ, ◌≤◌, List, [], ◌++◌, flat_map, length, refl, sym, subst, arith, Bool, true, false, Option}
 use Rattle.std.proofs.KnownBytes.{Appends-trans, Appends-kept}
 use Rattle.aml_slice.specs.Controls.{Rest}
 use Rattle.log_opening.specs.declared.refusals.LogsNo.{LogsNo}
@@ -7,13 +7,14 @@ use Rattle.log_opening.specs.declared.refusals.LogsNo.TheVariants as ending
 use Rattle.protocol.specs.Events as machine
 use Rattle.protocol.specs.Fixed.{Fixed}
 use Rattle.run_outputs.specs.Lines.{replies_text}
+use Rattle.run_printing.specs.Printed.{unsure_line}
 use Rattle.run_recovery.specs.Runs.{machine_of}
 use Rattle.run_recovery.specs.Schedules.{Schedule, seeded, free}
 use Rattle.run_work.proofs.RunDevices.{rose_earlier}
 use Rattle.run_work.specs.Hosts.{IsHostEnd, PrintsReplies, PrintsStopped, PrintsUnlessFailed}
-use Rattle.run_work.specs.Runs.{Printing, reporting, summing, replies_by, ending_by, unsures_by, PrintsNext, PrintsFailed, PrintsUnsure}
+use Rattle.run_work.specs.Runs.{Printing, reporting, summing, replies_by, ending_by, unsure_by, PrintsNext, PrintsFailed, PrintsUnsure, TellsUnsure}
 use Rattle.run_work.specs.Untraced.{IsEnding, IsRunEnd, IsToldUnbegun}
-use Rattle.run_work.specs.Writings.{Writing, WritesNothing, Writes, WritesFront, WritesBehind}
+use Rattle.run_work.specs.Writings.{Writing, WritesNothing, Writes, WritesFront, WritesBehind, WritesLines}
 use Rattle.snap_recover.specs.declared.openings.Opening.{Opening}
 use Rattle.snap_report.specs.declared.statuses.Status.{Status}
 use Rattle.snap_work.specs.Works.{Work}
@@ -40,6 +41,14 @@ and_nothing a b x on first then =
 
 and_front : (a b : Writing) (x y : List ℕ) → GoesOn a b → Writes a x → WritesFront b y → WritesBehind (joined a b) x y
 and_front a b x y on first then = (then.0, then.1, then.2, both a b x then.0 on first then.3)
+
+and_lines : {X : Type 0} (line : X → List ℕ) (a b : Writing) (x : List ℕ) (xs : List X) → GoesOn a b → a.faults_before ≤ a.faults_after → Writes a x → WritesLines line b [] xs
+    → WritesLines line (joined a b) x xs
+and_lines line a b x xs on later first (inl whole) = inl (whole.0, whole.1, whole.2, both a b x (flat_map line whole.0) on first whole.3)
+and_lines line a b x xs on later first (inr cut) = inr (
+  rose_earlier a.faults_before b.faults_before b.faults_after b.faults_after (omega (arith, later, on.1)) (omega arith) cut.0,
+  and_front a b x (flat_map line xs) on first cut.1,
+)
 
 next_kept : (p : Printing) (w : Work) (schedule : Schedule) (o : Opening) (es : List machine.Event) (a b : Writing) → GoesOn a b → WritesNothing b → PrintsNext p w schedule o es a
     → PrintsNext p w schedule o es (joined a b)
@@ -70,15 +79,16 @@ module _ (p : Printing) (Left : (ℕ → Bool) → Type 0) (w : Work) (o : Openi
   abbrev End : Schedule → Writing → Status → Type 0
   End schedule out s = IsRunEnd p Left w schedule o es out s
 
-  unsure : (log : ℕ) (a b : Writing) → GoesOn a b → Writes a (replies_by p (machine_of w o) es) → WritesFront b (unsures_by p log es (length w.txs)) → PrintsUnsure p w log o es (joined a b)
-  unsure log a b on whole front = and_front a b (replies_by p (machine_of w o) es) (unsures_by p log es (length w.txs)) on whole front
+  unsure : (log : ℕ) (a b : Writing) → GoesOn a b → a.faults_before ≤ a.faults_after → Writes a (replies_by p (machine_of w o) es) → TellsUnsure p log es (length w.txs) [] b
+      → PrintsUnsure p w log o es (joined a b)
+  unsure log a b on earlier whole lines = and_lines (unsure_line log) a b (replies_by p (machine_of w o) es) (unsure_by p es (length w.txs)) on earlier whole lines
 
-  told : (schedule : Schedule) (log : ℕ) (a b : Writing) → GoesOn a b → b.faults_before ≤ b.faults_after → PrintsStopped p w schedule o es a
-      → Writes a (replies_by p (machine_of w o) es) ⊎ WritesNothing b → WritesFront b (unsures_by p log es (length w.txs)) → PrintsFailed p w schedule log o es (joined a b)
-  told (seeded seed) log a b on later printed may front = unsure log a b on printed front
-  told free log a b on later (inl whole) may front = inl (unsure log a b on whole front)
-  told free log a b on later (inr cut) (inl whole) front = inl (unsure log a b on whole front)
-  told free log a b on later (inr cut) (inr nothing) front =
+  told : (schedule : Schedule) (log : ℕ) (a b : Writing) → GoesOn a b → a.faults_before ≤ a.faults_after → b.faults_before ≤ b.faults_after → PrintsStopped p w schedule o es a
+      → Writes a (replies_by p (machine_of w o) es) ⊎ WritesNothing b → TellsUnsure p log es (length w.txs) [] b → PrintsFailed p w schedule log o es (joined a b)
+  told (seeded seed) log a b on earlier later printed may lines = unsure log a b on earlier printed lines
+  told free log a b on earlier later (inl whole) may lines = inl (unsure log a b on earlier whole lines)
+  told free log a b on earlier later (inr cut) (inl whole) lines = inl (unsure log a b on earlier whole lines)
+  told free log a b on earlier later (inr cut) (inr nothing) lines =
       inr (rose_earlier a.faults_before a.faults_before a.faults_after b.faults_after (omega arith) (omega (arith, later, on.1)) cut.0, next_kept p w free o es a b on nothing cut.1)
 
   ended_quiet : (schedule : Schedule) (a b : Writing) (s : Status) → GoesOn a b → b.faults_before ≤ b.faults_after → IsHostEnd p Left w schedule o es a stop.Quiet
@@ -86,21 +96,21 @@ module _ (p : Printing) (Left : (ℕ → Bool) → Type 0) (w : Work) (o : Openi
   ended_quiet schedule a b s on later h (inl done) =
       subst (λ (t : Status). End schedule (joined a b) t) (sym done.0)
       (h.why.0, h.why.1, both a b (replies_by p (machine_of w o) es) (ending_by p (machine_of w o) es) on h.printed done.1)
-  ended_quiet schedule a b s on later h (inr (front, inl is)) =
-      subst (λ (t : Status). End schedule (joined a b) t) (sym is)
-      (h.why.0, inr (h.why.1, and_front a b (replies_by p (machine_of w o) es) (ending_by p (machine_of w o) es) on h.printed front))
-  ended_quiet schedule a b s on later h (inr (front, inr is)) =
-      subst (λ (t : Status). End schedule (joined a b) t) (sym is.0) (
+  ended_quiet schedule a b s on later h (inr (inl none)) =
+      subst (λ (t : Status). End schedule (joined a b) t) (sym none.0)
+      (h.why.0, inl (and_nothing a b (replies_by p (machine_of w o) es) on h.printed none.1))
+  ended_quiet schedule a b s on later h (inr (inr cut)) =
+      subst (λ (t : Status). End schedule (joined a b) t) (sym cut.0) (
         h.why.0,
-        rose_earlier a.faults_before b.faults_before b.faults_after b.faults_after (omega (arith, h.later, on.1)) (omega arith) is.1,
-        inr (h.why.1, and_front a b (replies_by p (machine_of w o) es) (ending_by p (machine_of w o) es) on h.printed front),
+        rose_earlier a.faults_before b.faults_before b.faults_after b.faults_after (omega (arith, h.later, on.1)) (omega arith) cut.1,
+        inr (h.why.1, and_front a b (replies_by p (machine_of w o) es) (ending_by p (machine_of w o) es) on h.printed cut.2),
       )
 
   ended : (schedule : Schedule) (a b : Writing) (why : Stop) (s : Status) → GoesOn a b → b.faults_before ≤ b.faults_after → IsHostEnd p Left w schedule o es a why
       → MayTell p w o es a b why → IsEnding p (machine_of w o) es (length w.txs) why b s → End schedule (joined a b) s
   ended schedule a b stop.Quiet s on later h may ending = ended_quiet schedule a b s on later h ending
   ended schedule a b (stop.LogFault l) s on later h may ending =
-      subst (λ (t : Status). End schedule (joined a b) t) (sym ending.0) (h.why, told schedule l a b on later h.printed (may l refl) ending.1)
+      subst (λ (t : Status). End schedule (joined a b) t) (sym ending.0) (h.why, told schedule l a b on h.later later h.printed (may l refl) ending.1)
   ended schedule a b stop.OutFault s on later h may ending =
       subst (λ (t : Status). End schedule (joined a b) t) (sym ending.0) (
         h.why.0,
@@ -123,5 +133,5 @@ module _ (p : Printing) (Left : (ℕ → Bool) → Type 0) (w : Work) (o : Openi
 -- and nothing is printed
 pub told_nothing : (count : ℕ) (why : LogsNo) (out : Writing) → WritesNothing out → Writes out [] → IsToldUnbegun summing count why out
 told_nothing count (ending.Refused log offset cause) out nothing none = nothing
-told_nothing count (ending.Device log) out nothing none = ([], [], refl, none)
+told_nothing count (ending.Device log) out nothing none = inl ([], [], refl, none)
 told_nothing count ending.Memory out nothing none = nothing

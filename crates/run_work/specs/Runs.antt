@@ -11,12 +11,12 @@ use Rattle.protocol.specs.Fixed.{Fixed}
 use Rattle.protocol.specs.Runs.{reached}
 use Rattle.run_opening.specs.Opens.{AreSafe, IsNoRun}
 use Rattle.run_outputs.specs.Lines.{line_in, replies_text, ending_text}
-use Rattle.run_printing.specs.Printed.{unanswered, unsures_text}
+use Rattle.run_printing.specs.Printed.{traced_line, unanswered, unsure_line}
 use Rattle.run_printing.specs.Summed.{summing_text}
 use Rattle.run_recovery.specs.Runs.{machine_of, meant, no_log, one_log, IsLeastOf, HasRun, IsNext, HasEnded}
 use Rattle.run_recovery.specs.Schedules.{Schedule, seeded, free}
 use Rattle.run_recovery.specs.Stands.{RunStands}
-use Rattle.run_work.specs.Writings.{Writing, WritesNothing, Writes, WritesBehind, WritesFront}
+use Rattle.run_work.specs.Writings.{Writing, WritesNothing, Writes, WritesBehind, WritesLines}
 use Rattle.snap_outside.specs.Causes.{Rose}
 use Rattle.snap_recover.specs.declared.openings.Opening.{Opening}
 use Rattle.snap_report.specs.declared.statuses.Status.{Status}
@@ -41,10 +41,14 @@ abbrev pub ending_by : Printing → Fixed Rest → List machine.Event → List �
 ending_by reporting m es = ending_text m es
 ending_by summing m es = summing_text m es
 
--- what is printed behind them, where the device of this log failed, of so many transactions
-abbrev pub unsures_by : Printing → ℕ → List machine.Event → ℕ → List ℕ
-unsures_by reporting log es count = unsures_text log (unanswered es count)
-unsures_by summing log es count = []
+-- who is told, where a log's device failed, that it is not known whether they are committed: of so many transactions
+abbrev pub unsure_by : Printing → List machine.Event → ℕ → List ℕ
+unsure_by reporting es count = unanswered es count
+unsure_by summing es count = []
+
+-- behind these bytes their lines, where the device of this log failed
+abbrev pub TellsUnsure : Printing → ℕ → List machine.Event → ℕ → List ℕ → Writing → Type 0
+TellsUnsure p log es count before out = WritesLines (unsure_line log) out before (unsure_by p es count)
 
 -- all of it
 abbrev pub PrintsAll : Printing → Work → Opening → List machine.Event → Writing → Type 0
@@ -54,9 +58,9 @@ PrintsAll p w o es out = Writes out (replies_by p (machine_of w o) es ++ ending_
 abbrev pub PrintsEnding : Printing → Work → Opening → List machine.Event → Writing → Type 0
 PrintsEnding p w o es out = HasEnded w o es × WritesBehind out (replies_by p (machine_of w o) es) (ending_by p (machine_of w o) es)
 
--- the replies, and where the run has ended a front of what comes behind them
-abbrev pub PrintsFront : Printing → Work → Opening → List machine.Event → Writing → Type 0
-PrintsFront p w o es out = Writes out (replies_by p (machine_of w o) es) ⊎ PrintsEnding p w o es out
+-- the replies alone, or where the run has ended all of it
+abbrev pub PrintsWhole : Printing → Work → Opening → List machine.Event → Writing → Type 0
+PrintsWhole p w o es out = Writes out (replies_by p (machine_of w o) es) ⊎ (HasEnded w o es × PrintsAll p w o es out)
 
 -- The replies, and a front of the next one. With several workers its line is that of the moment at which it met the fault: behind
 -- a front of the events.
@@ -68,9 +72,9 @@ PrintsNext reporting w free o es out =
     × WritesBehind out (replies_text (machine_of w o) es) (line_in (reached (machine_of w o) first) n)
 PrintsNext summing w schedule o es out = ⊥
 
--- the replies, and a front of the lines of those that have none
+-- the replies, and the lines of those that have none
 abbrev pub PrintsUnsure : Printing → Work → ℕ → Opening → List machine.Event → Writing → Type 0
-PrintsUnsure p w log o es out = WritesBehind out (replies_by p (machine_of w o) es) (unsures_by p log es (length w.txs))
+PrintsUnsure p w log o es out = TellsUnsure p log es (length w.txs) (replies_by p (machine_of w o) es) out
 
 -- What is printed where the device of this log failed. With several workers the output may have failed too, and then nothing
 -- comes behind a front of the next reply.
@@ -97,11 +101,12 @@ HasNotBegun r why =
     × AreSafe r.work.logs r.work.states r.devices_before r.devices_after
 
 -- A run began, and what the laws of the machine say of it holds: of its committed transactions, of what they are told, and of
--- what a crash leaves at any moment of it. P holds of what it began with and of its events. Of its trace a front is written.
+-- what a crash leaves at any moment of it. P holds of what it began with and of its events. Its trace is written, or some lines
+-- of it that come first.
 abbrev pub HasBegun : Ran → (ℕ → Bool) → (Opening → List machine.Event → Type 0) → Type 0
 HasBegun r failed P =
     (o : Opening) × (run : HasRun r.work r.schedule o (meant r.kept) failed r.devices_before r.devices_after) × RunStands run
-    × P o (meant r.kept) × WritesFront r.trace (trace_of r.kept)
+    × P o (meant r.kept) × WritesLines traced_line r.trace [] r.kept
 
 abbrev pub LogRose : Ran → ℕ → Type 0
 LogRose r log = Rose (device_at r.devices_before log).faults (device_at r.devices_after log).faults
@@ -121,11 +126,11 @@ IsAnswerOf p r status.Done = HasBegun r no_log (λ o es. HasEnded r.work o es ×
 IsAnswerOf p r (status.Usage place) = ⊥
 IsAnswerOf p r (status.Input line cause) = ⊥
 IsAnswerOf p r (status.Logs log offset cause) = HasNotBegun r (ending.Refused log offset cause) × WritesNothing r.out
-IsAnswerOf p r status.Memory = (HasNotBegun r ending.Memory × WritesNothing r.out) ⊎ HasBegun r no_log (λ o es. PrintsFront p r.work o es r.out)
+IsAnswerOf p r status.Memory = (HasNotBegun r ending.Memory × WritesNothing r.out) ⊎ HasBegun r no_log (λ o es. PrintsWhole p r.work o es r.out)
 IsAnswerOf p r status.ReadFault = ⊥
 IsAnswerOf p r (status.LogFault log) =
     LogRose r log
-    × ((HasNotBegun r (ending.Device log) × WritesFront r.out (unsures_by p log [] (length r.work.txs)))
+    × ((HasNotBegun r (ending.Device log) × TellsUnsure p log [] (length r.work.txs) [] r.out)
     ⊎ HasFailed r r.schedule log (λ o es. PrintsFailed p r.work r.schedule log o es r.out))
 IsAnswerOf p r status.OutFault =
     Rose r.out.faults_before r.out.faults_after × HasBegun r no_log (λ o es. PrintsNext p r.work r.schedule o es r.out ⊎ PrintsEnding p r.work o es r.out)

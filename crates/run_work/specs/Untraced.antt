@@ -9,10 +9,11 @@ use Rattle.protocol.specs.Events as machine
 use Rattle.protocol.specs.Fixed.{Fixed}
 use Rattle.run_recovery.specs.Runs.{meant, no_log, HasEnded}
 use Rattle.run_recovery.specs.Schedules.{Schedule}
+use Rattle.run_printing.specs.Printed.{traced_line}
 use Rattle.run_work.specs.Hosts.{HasLeft, LeftFailed, IsUnbegun}
-use Rattle.run_work.specs.Runs.{Printing, ending_by, unsures_by, Ran, PrintsAll, PrintsEnding, PrintsFront, PrintsNext, PrintsFailed}
+use Rattle.run_work.specs.Runs.{Printing, ending_by, Ran, PrintsAll, PrintsEnding, PrintsWhole, PrintsNext, PrintsFailed, TellsUnsure}
 use Rattle.run_work.specs.Statuses.{logs_status}
-use Rattle.run_work.specs.Writings.{Writing, WritesNothing, Writes, WritesFront}
+use Rattle.run_work.specs.Writings.{Writing, WritesNothing, Writes, WritesFront, WritesLines}
 use Rattle.snap_outside.specs.Causes.{Rose}
 use Rattle.snap_recover.specs.declared.openings.Opening.{Opening}
 use Rattle.snap_report.specs.declared.statuses.Status.{Status}
@@ -28,8 +29,8 @@ use Rattle.trace_text.specs.Traces.{trace_of}
 abbrev pub IsEnding : Printing → Fixed Rest → List machine.Event → ℕ → Stop → Writing → Status → Type 0
 IsEnding p m es count stop.Quiet out s =
     ((s ≡ status.Done) × Writes out (ending_by p m es))
-    ⊎ (WritesFront out (ending_by p m es) × ((s ≡ status.Memory) ⊎ ((s ≡ status.OutFault) × Rose out.faults_before out.faults_after)))
-IsEnding p m es count (stop.LogFault log) out s = (s ≡ status.LogFault log) × WritesFront out (unsures_by p log es count)
+    ⊎ (((s ≡ status.Memory) × WritesNothing out) ⊎ ((s ≡ status.OutFault) × Rose out.faults_before out.faults_after × WritesFront out (ending_by p m es)))
+IsEnding p m es count (stop.LogFault log) out s = (s ≡ status.LogFault log) × TellsUnsure p log es count [] out
 IsEnding p m es count stop.OutFault out s = (s ≡ status.OutFault) × WritesNothing out
 IsEnding p m es count stop.Memory out s = (s ≡ status.Memory) × WritesNothing out
 
@@ -40,7 +41,7 @@ IsRunEnd p Left w schedule o es out status.Done = Left no_log × HasEnded w o es
 IsRunEnd p Left w schedule o es out (status.Usage place) = ⊥
 IsRunEnd p Left w schedule o es out (status.Input line cause) = ⊥
 IsRunEnd p Left w schedule o es out (status.Logs log offset cause) = ⊥
-IsRunEnd p Left w schedule o es out status.Memory = Left no_log × PrintsFront p w o es out
+IsRunEnd p Left w schedule o es out status.Memory = Left no_log × PrintsWhole p w o es out
 IsRunEnd p Left w schedule o es out status.ReadFault = ⊥
 IsRunEnd p Left w schedule o es out (status.LogFault log) = LeftFailed Left w schedule o es log × PrintsFailed p w schedule log o es out
 IsRunEnd p Left w schedule o es out status.OutFault = Left no_log × Rose out.faults_before out.faults_after × (PrintsNext p w schedule o es out ⊎ PrintsEnding p w o es out)
@@ -51,7 +52,7 @@ IsRunEnd p Left w schedule o es out status.TraceFault = ⊥
 -- What is printed where no run began. Where a log's device failed all transactions are told to be unsure.
 abbrev pub IsToldUnbegun : Printing → ℕ → LogsNo → Writing → Type 0
 IsToldUnbegun p count (ending.Refused log offset cause) out = WritesNothing out
-IsToldUnbegun p count (ending.Device log) out = WritesFront out (unsures_by p log [] count)
+IsToldUnbegun p count (ending.Device log) out = TellsUnsure p log [] count [] out
 IsToldUnbegun p count ending.Memory out = WritesNothing out
 
 -- no run began, for this reason
@@ -72,9 +73,10 @@ IsUntraced p r s =
 
 -- ---- the trace
 
--- The trace is written, and the call ends as the run did; or a front of it is, and only that all was done is changed.
+-- The trace is written, and the call ends as the run did; or some lines of it that come first are, and only that all was done is
+-- changed.
 abbrev pub IsTraced : Writing → List Event → Status → Status → Type 0
 IsTraced trace kept before after =
     ((after ≡ before) × Writes trace (trace_of kept))
-    ⊎ (WritesFront trace (trace_of kept) × (before ≢ status.Done → after ≡ before)
+    ⊎ (WritesLines traced_line trace [] kept × (before ≢ status.Done → after ≡ before)
     × (before ≡ status.Done → (after ≡ status.Memory) ⊎ ((after ≡ status.TraceFault) × Rose trace.faults_before trace.faults_after)))

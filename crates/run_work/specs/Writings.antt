@@ -1,6 +1,8 @@
 -- What a call wrote to a sink, as contracts see it.
-use Rattle.std.specs.Prelude.{◌≡◌, ℕ, List, ◌++◌, Option}
+use Rattle.std.specs.Prelude.{◌≡◌, ℕ, ◌⊎◌, List, ◌++◌, Option}
+use Rattle.std.specs.List.{flat_map}
 use Rattle.std.specs.Io.KnownBytes.{Keeps, Appends}
+use Rattle.snap_outside.specs.Causes.{Rose}
 
 -- the sink: the bytes that it has taken, where it tells them, and its faults
 pub record Writing : Type 0 where
@@ -27,3 +29,10 @@ WritesFront w bytes = (front rest : List ℕ) × (bytes ≡ front ++ rest) × Wr
 -- these bytes were written, and then a front of those
 abbrev pub WritesBehind : Writing → List ℕ → List ℕ → Type 0
 WritesBehind w first then = (front rest : List ℕ) × (then ≡ front ++ rest) × Writes w (first ++ front)
+
+-- These bytes were written, and then whole lines: those of all these, or of some that come first. A line is cut only where the
+-- sink failed.
+abbrev pub WritesLines : {X : Type 0} → (X → List ℕ) → Writing → List ℕ → List X → Type 0
+WritesLines {X} line w before xs =
+    ((first rest : List X) × (xs ≡ first ++ rest) × Writes w (before ++ flat_map line first))
+    ⊎ (Rose w.faults_before w.faults_after × WritesBehind w before (flat_map line xs))

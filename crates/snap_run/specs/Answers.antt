@@ -66,13 +66,13 @@ IsRunAnswer u schedule s = (IsInputAnswer u.reading s × TouchesNothing u) ⊎ O
 abbrev pub ReadsNothing : Reading → Type 0
 ReadsNothing r = Keeps r.left_before r.left_after
 
--- The answers of the command that prints a generated text.
+-- The answers of the command that prints a generated text. For want of memory nothing of it is printed.
 abbrev pub IsGenAnswer : List ℕ → Writing → Status → Type 0
 IsGenAnswer text out status.Done = Writes out text
 IsGenAnswer text out (status.Usage place) = ⊥
 IsGenAnswer text out (status.Input line cause) = ⊥
 IsGenAnswer text out (status.Logs log offset cause) = ⊥
-IsGenAnswer text out status.Memory = WritesFront out text
+IsGenAnswer text out status.Memory = WritesNothing out
 IsGenAnswer text out status.ReadFault = ⊥
 IsGenAnswer text out (status.LogFault log) = ⊥
 IsGenAnswer text out status.OutFault = WritesFront out text × Rose out.faults_before out.faults_after

@@ -2,18 +2,19 @@ use Rattle.std.proofs.Common.{◌≡◌, ◌+◌, ◌-◌, length, take, drop, s
 use Rattle.std.specs.Io.KnownBytes.{Appends}
 use Rattle.std.proofs.KnownBytes.{Appends-trans}
 use Rattle.trace_text.specs.Traces.{trace_of}
-use Rattle.run_printing.proofs.Fronts.{front_on, on_any_err}
-use Rattle.run_printing.proofs.Lines.{trace_more, trace_cut}
+use Rattle.run_printing.specs.Printed.{traced_line}
+use Rattle.run_printing.proofs.Fronts.{lines_cut, on_any_err}
+use Rattle.run_printing.proofs.Lines.{trace_more, events_cut}
 use Rattle.run_printing.proofs.traces.write_trace.Goals as goal
 
-pub returns-in_err-write_lines-clause-front : goal.returns-in_err-write_lines-clause-front
-returns-in_err-write_lines-clause-front g c =
+pub returns-in_err-write_lines-clause-lines : goal.returns-in_err-write_lines-clause-lines
+returns-in_err-write_lines-clause-lines g c =
     let es = c.args.kept.now in
     let at = c.loop-at.at in
     let n = (at + c.min-count.result) - at in
     on_any_err _ c.from_residual.result
-    (front_on _ _ _ (trace_of (take at es)) (trace_of (take n (drop at es))) (trace_of (drop n (drop at es))) _ (trace_cut es at n) c.loop-at.invariant.taken
-    c.in_err-write_lines.ensures.front)
+    (lines_cut traced_line _ _ _ _ _ _ (take at es) (take n (drop at es)) (drop n (drop at es)) es (events_cut es at n) c.loop-at.invariant.taken c.loop-at.invariant.later
+    c.in_err-write_lines.ensures.cut)
 
 pub loop-at-preserved : goal.loop-at-preserved
 loop-at-preserved g c =

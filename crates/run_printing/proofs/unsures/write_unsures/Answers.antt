@@ -1,32 +1,46 @@
-use Rattle.std.proofs.Common.{◌≡◌, false, map, sym, ◌∙◌, subst, arith}
+use Rattle.std.proofs.Common.{◌≡◌, ◌+◌, false, [], ◌∷◌, ◌++◌, inl, refl, flat_map, map, sym, ap, ◌∙◌, subst, append-nil, arith}
 use Rattle.std.specs.Io.KnownBytes.{Appends}
-use Rattle.std.proofs.KnownBytes.{Appends-trans}
+use Rattle.std.proofs.KnownBytes.{Appends-nil, Appends-trans}
+use Rattle.std.proofs.lemmas.Grind.{flat_map-append}
 use Rattle.core_events.specs.Meant.{event_meant}
 use Rattle.protocol.specs.Report.{replied}
 use Rattle.protocol.specs.Words.{is_among}
-use Rattle.snap_base.specs.declared.verdicts.Verdict.TheVariants.{Unsure}
-use Rattle.snap_report.specs.Lines.{reply_text}
-use Rattle.run_printing.specs.Printed.{unanswered, unsures_text}
-use Rattle.run_printing.proofs.Fronts.{front_on}
-use Rattle.run_printing.proofs.Unanswered.{open_at, unsures_more, unsures_behind}
+use Rattle.run_printing.specs.Printed.{IsCut, unanswered, unsure_line}
+use Rattle.run_printing.proofs.Fronts.{lines_cut, lines_whole}
+use Rattle.run_printing.proofs.Unanswered.{open_at, unanswered_next, unanswered_behind}
 use Rattle.run_printing.proofs.unsures.write_unsures.Goals as goal
 
-pub returns-then-not-write_unsure-clause-front : goal.returns-then-not-write_unsure-clause-front
-returns-then-not-write_unsure-clause-front g c =
+pub returns-in_default-clause-lines : goal.returns-in_default-clause-lines
+returns-in_default-clause-lines g c = inl ([], unanswered (map event_meant c.args.kept.now) c.args.count, refl, Appends-nil _)
+
+pub returns-then-not-write_unsure-clause-lines : goal.returns-then-not-write_unsure-clause-lines
+returns-then-not-write_unsure-clause-lines g c =
     let es = map event_meant c.args.kept.now in
     let n = c.loop-number.number in
     let none : is_among n (replied es) ≡ false =
     sym (c.in-Ok.ensures.answered n c.loop-number-test.true) ∙ open_at c.in-Ok.answered.items n c.index.result.now c.index.ensures c.if-index.false in
-    let rest = unsures_behind c.args.log es n c.args.count c.loop-number-test.true none in
-    front_on _ _ _ (unsures_text c.args.log (unanswered es n)) (reply_text n (Unsure c.args.log)) rest.0 _ rest.1 c.loop-number.invariant.taken c.write_unsure.ensures.front
+    let rest = unanswered_behind es n c.args.count c.loop-number-test.true none in
+    lines_cut (unsure_line c.args.log) _ _ _ _ _ _ (unanswered es n) (n ∷ []) rest.0 _ rest.1 c.loop-number.invariant.taken c.loop-number.invariant.later
+    (subst (λ bytes. IsCut (g.O.Sink.taken c.loop-number.out) (g.O.Sink.taken c.write_unsure.new.out) (g.O.Sink.faults c.loop-number.out) (g.O.Sink.faults c.write_unsure.new.out) bytes)
+    (sym (append-nil (unsure_line c.args.log n))) (c.write_unsure.ensures.cut c.if-not-write_unsure.true))
 
 pub loop-number-preserved : goal.loop-number-preserved
 loop-number-preserved g c =
     let es = map event_meant c.args.kept.now in
     let n = c.loop-number.number in
     let none : is_among n (replied es) ≡ false =
-    sym (c.in-Ok.ensures.answered n c.loop-number-test.true) ∙ open_at c.in-Ok.answered.items n c.index.result.now c.index.ensures c.if-index.false in record {
-      taken = subst (Appends (g.O.Sink.taken c.args.out.now) (g.O.Sink.taken c.write_unsure.new.out)) (sym (unsures_more c.args.log es n none))
+    sym (c.in-Ok.ensures.answered n c.loop-number-test.true) ∙ open_at c.in-Ok.answered.items n c.index.result.now c.index.ensures c.if-index.false in
+    let line = unsure_line c.args.log in
+    let more : flat_map line (unanswered es (n + 1)) ≡ _ =
+    ap (flat_map line) (unanswered_next es n none) ∙ flat_map-append line (unanswered es n) (n ∷ []) ∙ ap (λ l. flat_map line (unanswered es n) ++ l) (append-nil (line n)) in record {
+      taken = subst (Appends (g.O.Sink.taken c.args.out.now) (g.O.Sink.taken c.write_unsure.new.out)) (sym more)
           (Appends-trans _ _ _ _ _ c.loop-number.invariant.taken (c.write_unsure.ensures.whole c.if-not-write_unsure.false));
       later = omega (arith, c.loop-number.invariant.later, c.write_unsure.ensures.later);
     }
+
+pub returns-clause-lines : goal.returns-clause-lines
+returns-clause-lines g c =
+    let es = map event_meant c.args.kept.now in
+    let end : c.loop-number.number ≡ c.args.count = omega (arith, c.loop-number-test.false, c.loop-number.auto.number-end) in
+    lines_whole (unsure_line c.args.log) _ _ _ _ (unanswered es c.args.count)
+    (subst (λ n. Appends (g.O.Sink.taken c.args.out.now) (g.O.Sink.taken c.loop-number.out) (flat_map (unsure_line c.args.log) (unanswered es n))) end c.loop-number.invariant.taken)
