@@ -1,18 +1,22 @@
 -- How a call ends, from how a run ended and what was written of its trace.
-use Rattle.std.proofs.Common.{◌≡◌, ◌≢◌, ◌⊎◌, inl, inr, ℕ, ◌<◌, Bool, List, [], append-nil, refl, sym, ◌∙◌, ap, subst}
+use Rattle.std.proofs.Common.{◌≡◌, ◌≢◌, ◌⊎◌, inl, inr, ℕ, ◌<◌, Bool, true, List, [], length, append-nil, refl, sym, ◌∙◌, ap, subst}
 use Rattle.std.proofs.lemmas.Bool.{eq-eqb}
+use Rattle.std.specs.List.{list_all}
+use Rattle.aml_slice.specs.Controls.{Rest}
 use Rattle.core_events.specs.declared.events.Event.{Event}
 use Rattle.log_opening.specs.declared.refusals.LogsNo.{LogsNo}
 use Rattle.log_opening.specs.declared.refusals.LogsNo.TheVariants as ending
 use Rattle.log_opening.specs.Devices.{Device, device_at}
 use Rattle.protocol.specs.Events as machine
+use Rattle.protocol.specs.Fixed.{Fixed}
+use Rattle.protocol.specs.Runs.{reached}
 use Rattle.run_opening.specs.Opens.{IsNoRun, MayOpen}
 use Rattle.run_printing.specs.Printed.{traced_line}
-use Rattle.run_recovery.specs.Runs.{no_log, one_log, HasRun, meant}
+use Rattle.run_recovery.specs.Runs.{no_log, one_log, HasRun, meant, machine_of, HasEnded}
 use Rattle.run_recovery.specs.Schedules.{Schedule, seeded, free}
 use Rattle.run_recovery.specs.Stands.{RunStands}
 use Rattle.run_work.specs.Hosts.{LeftFailed}
-use Rattle.run_work.specs.Runs.{Printing, Ran, HasFailed, IsAnswerOf, LogRose, PrintsFailed, IsOfLogs}
+use Rattle.run_work.specs.Runs.{Printing, Ran, AllReplied, HasFailed, IsAnswerOf, LogRose, PrintsFailed, IsOfLogs}
 use Rattle.run_work.specs.Statuses.{logs_status}
 use Rattle.run_work.specs.Untraced.{IsRunEnd, LeftBy, IsNoBeginning, IsUntraced, IsTraced}
 use Rattle.run_work.specs.Writings.{Writing, WritesNothing, Writes, WritesLines}
@@ -49,6 +53,15 @@ whole_lines t kept whole = inl (kept, [], sym (append-nil kept), whole)
 abbrev pub EachStands : Ran → Type 0
 EachStands r = (o : Opening) (failed : ℕ → Bool) (run : HasRun r.work r.schedule o (meant r.kept) failed r.devices_before r.devices_after) → RunStands run
 
+-- what the law marks_are_replies says
+abbrev pub MarksAreReplies : Type 0
+MarksAreReplies = (m : Fixed Rest) (es : List machine.Event) → list_all (λ r. r) (reached m es).desk.replied ≡ true → AllReplied (length m.text.txs) es
+
+-- where a run has ended, each transaction has its Reply
+all_replied : (r : Ran) → EachStands r → MarksAreReplies → (o : Opening) (failed : ℕ → Bool) → HasRun r.work r.schedule o (meant r.kept) failed r.devices_before r.devices_after
+    → HasEnded r.work o (meant r.kept) → AllReplied (length r.work.txs) (meant r.kept)
+all_replied r stands marks o failed run ended = marks (machine_of r.work o) (meant r.kept) ((stands o failed run).answered ended).0.replied
+
 -- the log that the status names is one of the work's, and its count rose
 rose_there : (r : Ran) (o : Opening) (schedule : Schedule) (log : ℕ) → LeftFailed (LeftBy r o) r.work schedule o (meant r.kept) log → (log < r.work.logs) × LogRose r log
 rose_there r o (seeded seed) log left = left.0.rose log (eq-eqb log log refl)
@@ -60,43 +73,43 @@ failed_answer r stands o (seeded seed) log front left P printed = (o, left.0.run
 failed_answer r stands o free log front left P printed =
     (left.0, left.1, (o, left.2.run, stands o left.0 left.2.run, (λ l is. ((left.2.rose l is).0, (left.2.rose l is).1, left.3 l is), printed), front))
 
-begun_answer : (p : Printing) (r : Ran) → EachStands r → (o : Opening) (s : Status) → WritesLines traced_line r.trace [] r.kept → (s ≡ status.Done → Writes r.trace (trace_of r.kept))
+begun_answer : (p : Printing) (r : Ran) → EachStands r → MarksAreReplies → (o : Opening) (s : Status) → WritesLines traced_line r.trace [] r.kept → (s ≡ status.Done → Writes r.trace (trace_of r.kept))
     → IsRunEnd p (LeftBy r o) r.work r.schedule o (meant r.kept) r.out s → IsAnswerOf p r s
-begun_answer p r stands o status.Done front whole end = ((o, end.0.run, stands o no_log end.0.run, (end.1, end.2), front), whole refl)
-begun_answer p r stands o (status.Usage place) front whole end = end
-begun_answer p r stands o (status.Input line cause) front whole end = end
-begun_answer p r stands o (status.Logs log offset cause) front whole end = absurd end
-begun_answer p r stands o status.Memory front whole end = inr (o, end.0.run, stands o no_log end.0.run, end.1, front)
-begun_answer p r stands o status.ReadFault front whole end = end
-begun_answer p r stands o (status.LogFault log) front whole end =
+begun_answer p r stands marks o status.Done front whole end = ((o, end.0.run, stands o no_log end.0.run, ((end.1, all_replied r stands marks o no_log end.0.run end.1), end.2), front), whole refl)
+begun_answer p r stands marks o (status.Usage place) front whole end = end
+begun_answer p r stands marks o (status.Input line cause) front whole end = end
+begun_answer p r stands marks o (status.Logs log offset cause) front whole end = absurd end
+begun_answer p r stands marks o status.Memory front whole end = inr (o, end.0.run, stands o no_log end.0.run, end.1, front)
+begun_answer p r stands marks o status.ReadFault front whole end = end
+begun_answer p r stands marks o (status.LogFault log) front whole end =
     ((rose_there r o r.schedule log end.0).1, inr (failed_answer r stands o r.schedule log front end.0 (λ o es. PrintsFailed p r.work r.schedule log o es r.out) end.1))
-begun_answer p r stands o status.OutFault front whole end = (end.1, (o, end.0.run, stands o no_log end.0.run, end.2, front))
-begun_answer p r stands o status.TraceFault front whole end = absurd end
+begun_answer p r stands marks o status.OutFault front whole end = (end.1, (o, end.0.run, stands o no_log end.0.run, end.2, front))
+begun_answer p r stands marks o status.TraceFault front whole end = absurd end
 
 -- where nothing is kept nothing is traced
 abbrev Unwritten : Ran → Type 0
 Unwritten r = r.kept ≡ [] → WritesNothing r.trace
 
-same_answer : (p : Printing) (r : Ran) → EachStands r → (before after : Status) → Unwritten r → IsUntraced p r before → after ≡ before → WritesLines traced_line r.trace [] r.kept
+same_answer : (p : Printing) (r : Ran) → EachStands r → MarksAreReplies → (before after : Status) → Unwritten r → IsUntraced p r before → after ≡ before → WritesLines traced_line r.trace [] r.kept
     → (before ≡ status.Done → Writes r.trace (trace_of r.kept)) → IsAnswerOf p r after
-same_answer p r stands before after nothing (inl (why, none, is)) same front whole =
+same_answer p r stands marks before after nothing (inl (why, none, is)) same front whole =
     subst (λ (t : Status). IsAnswerOf p r t) (sym (same ∙ is)) (unbegun_answer p r why (nothing none.kept) none)
-same_answer p r stands before after nothing (inr (o, end)) same front whole =
-    subst (λ (t : Status). IsAnswerOf p r t) (sym same) (begun_answer p r stands o before front whole end)
+same_answer p r stands marks before after nothing (inr (o, end)) same front whole =
+    subst (λ (t : Status). IsAnswerOf p r t) (sym same) (begun_answer p r stands marks o before front whole end)
 
 -- all was done, but for the trace
-done_but_traced : (p : Printing) (r : Ran) → EachStands r → (after : Status) → IsUntraced p r status.Done → WritesLines traced_line r.trace [] r.kept
+done_but_traced : (p : Printing) (r : Ran) → EachStands r → MarksAreReplies → (after : Status) → IsUntraced p r status.Done → WritesLines traced_line r.trace [] r.kept
     → (after ≡ status.Memory) ⊎ ((after ≡ status.TraceFault) × Rose r.trace.faults_before r.trace.faults_after) → IsAnswerOf p r after
-done_but_traced p r stands after (inl (why, none, is)) front then = absurd (never why is)
+done_but_traced p r stands marks after (inl (why, none, is)) front then = absurd (never why is)
   where
     never : (answer : LogsNo) → status.Done ≡ logs_status answer → ⊥
     never (ending.Refused log offset cause) e = cc
     never (ending.Device log) e = cc
     never ending.Memory e = cc
-done_but_traced p r stands after (inr (o, end)) front (inl memory) =
+done_but_traced p r stands marks after (inr (o, end)) front (inl memory) =
     subst (λ (t : Status). IsAnswerOf p r t) (sym memory) (inr (o, end.0.run, stands o no_log end.0.run, inr (end.1, end.2), front))
-done_but_traced p r stands after (inr (o, end)) front (inr fault) =
-    subst (λ (t : Status). IsAnswerOf p r t) (sym fault.0) (fault.1, (o, end.0.run, stands o no_log end.0.run, (end.1, end.2), front))
+done_but_traced p r stands marks after (inr (o, end)) front (inr fault) =
+    subst (λ (t : Status). IsAnswerOf p r t) (sym fault.0) (fault.1, (o, end.0.run, stands o no_log end.0.run, ((end.1, all_replied r stands marks o no_log end.0.run end.1), end.2), front))
 
 is_done : (s : Status) → (s ≡ status.Done) ⊎ (s ≢ status.Done)
 is_done status.Done = inl refl
@@ -109,11 +122,11 @@ is_done (status.LogFault log) = inr (λ e. cc)
 is_done status.OutFault = inr (λ e. cc)
 is_done status.TraceFault = inr (λ e. cc)
 
-pub answered : (p : Printing) (r : Ran) → EachStands r → (before after : Status) → (r.kept ≡ [] → WritesNothing r.trace) → IsUntraced p r before → IsTraced r.trace r.kept before after → IsAnswerOf p r after
-answered p r stands before after nothing run (inl (same, whole)) = same_answer p r stands before after nothing run same (whole_lines r.trace r.kept whole) (λ _. whole)
-answered p r stands before after nothing run (inr (front, other, done)) = elim (is_done before) [
-  | inl is ↦ done_but_traced p r stands after (subst (λ (t : Status). IsUntraced p r t) is run) front (done is)
-  | inr not ↦ same_answer p r stands before after nothing run (other not) front (λ is. absurd (not is))
+pub answered : (p : Printing) (r : Ran) → EachStands r → MarksAreReplies → (before after : Status) → (r.kept ≡ [] → WritesNothing r.trace) → IsUntraced p r before → IsTraced r.trace r.kept before after → IsAnswerOf p r after
+answered p r stands marks before after nothing run (inl (same, whole)) = same_answer p r stands marks before after nothing run same (whole_lines r.trace r.kept whole) (λ _. whole)
+answered p r stands marks before after nothing run (inr (front, other, done)) = elim (is_done before) [
+  | inl is ↦ done_but_traced p r stands marks after (subst (λ (t : Status). IsUntraced p r t) is run) front (done is)
+  | inr not ↦ same_answer p r stands marks before after nothing run (other not) front (λ is. absurd (not is))
 ]
 
 -- ---- what stands in the way

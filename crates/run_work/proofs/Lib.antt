@@ -2,4 +2,5 @@ pub mod Answered
 pub mod CrewHosting
 pub mod Ending
 pub mod Hosting
+pub mod Replied
 pub mod RunDevices

@@ -1,5 +1,5 @@
 -- What a run of a work prints, and the answers of the commands that run one.
-use Rattle.std.specs.Prelude.{◌≡◌, ℕ, ◌<◌, ◌⊎◌, Bool, true, List, [], ◌++◌, length}
+use Rattle.std.specs.Prelude.{◌≡◌, ℕ, ◌<◌, ◌⊎◌, Bool, true, List, [], ◌++◌, length, Contains}
 use Rattle.aml_slice.specs.Controls.{Rest}
 use Rattle.core_events.specs.declared.events.Event.{Event}
 use Rattle.log_opening.specs.declared.refusals.LogsNo.{LogsNo}
@@ -8,6 +8,7 @@ use Rattle.log_opening.specs.Devices.{Device, device_at}
 use Rattle.protocol.specs.Conditions.{IsAllowed}
 use Rattle.protocol.specs.Events as machine
 use Rattle.protocol.specs.Fixed.{Fixed}
+use Rattle.protocol.specs.Report.{replied}
 use Rattle.protocol.specs.Runs.{reached}
 use Rattle.run_opening.specs.Opens.{AreSafe, IsNoRun}
 use Rattle.run_outputs.specs.Lines.{line_in, replies_text, ending_text}
@@ -82,6 +83,14 @@ abbrev pub PrintsFailed : Printing → Work → Schedule → ℕ → Opening →
 PrintsFailed p w (seeded seed) log o es out = PrintsUnsure p w log o es out
 PrintsFailed p w free log o es out = PrintsUnsure p w log o es out ⊎ (Rose out.faults_before out.faults_after × PrintsNext p w free o es out)
 
+-- each of so many transactions has its Reply among these events
+abbrev pub AllReplied : ℕ → List machine.Event → Type 0
+AllReplied count es = (n : ℕ) → n < count → Contains (replied es) n
+
+-- no event is allowed any more, and each transaction has its Reply among the events
+abbrev pub HasAnswered : Work → Opening → List machine.Event → Type 0
+HasAnswered w o es = HasEnded w o es × AllReplied (length w.txs) es
+
 -- ---- the answers
 
 -- What a call was given and what it left, of a run of this work by this schedule.
@@ -122,7 +131,7 @@ HasFailed r (seeded seed) log P = HasBegun r (one_log log) (λ o es. IsNext r.wo
 HasFailed r free log P = (failed : ℕ → Bool) × IsLeastOf failed log × HasBegun r failed (λ o es. EachFailed r failed o es × P o es)
 
 abbrev pub IsAnswerOf : Printing → Ran → Status → Type 0
-IsAnswerOf p r status.Done = HasBegun r no_log (λ o es. HasEnded r.work o es × PrintsAll p r.work o es r.out) × Writes r.trace (trace_of r.kept)
+IsAnswerOf p r status.Done = HasBegun r no_log (λ o es. HasAnswered r.work o es × PrintsAll p r.work o es r.out) × Writes r.trace (trace_of r.kept)
 IsAnswerOf p r (status.Usage place) = ⊥
 IsAnswerOf p r (status.Input line cause) = ⊥
 IsAnswerOf p r (status.Logs log offset cause) = HasNotBegun r (ending.Refused log offset cause) × WritesNothing r.out
@@ -135,7 +144,7 @@ IsAnswerOf p r (status.LogFault log) =
 IsAnswerOf p r status.OutFault =
     Rose r.out.faults_before r.out.faults_after × HasBegun r no_log (λ o es. PrintsNext p r.work r.schedule o es r.out ⊎ PrintsEnding p r.work o es r.out)
 IsAnswerOf p r status.TraceFault =
-    Rose r.trace.faults_before r.trace.faults_after × HasBegun r no_log (λ o es. HasEnded r.work o es × PrintsAll p r.work o es r.out)
+    Rose r.trace.faults_before r.trace.faults_after × HasBegun r no_log (λ o es. HasAnswered r.work o es × PrintsAll p r.work o es r.out)
 
 -- of the command that prints the report
 abbrev pub IsWorkAnswer : Ran → Status → Type 0

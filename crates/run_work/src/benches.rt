@@ -20,7 +20,9 @@ ghost use Rattle.txn_records.specs.declared.records.Record.{Record};
 
 use crate::endings::{status_of, traced};
 use crate::hosts::{CrewHosted, Hosted, host_crew, host_work};
+use crate::replies::marks_are_replies;
 use crate::runs::CrewRan;
+use aml_slice::Control;
 use core_events::Event;
 use crew_host::MOST_WORKERS;
 use run_journals::Stop;
@@ -53,6 +55,7 @@ pub fn bench_work<D: LogDev, O: Sink, T: Sink>(
     ensures four { vec_len devices.new ≡ 4 }
 {
     runs_stand(&work.program);
+    marks_are_replies::<Control>();
     let (kept, status) = bench_untraced(alloc, work, devices, out);
     let status = traced(alloc, kept.as_slice(), status, trace);
     (kept, status)
@@ -111,6 +114,7 @@ pub fn crew_bench<
     ensures four { vec_len devices.new ≡ 4 }
 {
     runs_stand(&work.program);
+    marks_are_replies::<Control>();
     let mut out = out;
     let (kept, status) = crew_bench_untraced(rt, alloc, work, workers, gate, devices, &mut out);
     let status = traced(alloc, kept.as_slice(), status, trace);

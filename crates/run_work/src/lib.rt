@@ -7,6 +7,7 @@
 mod benches;
 mod endings;
 mod hosts;
+mod replies;
 mod runs;
 
 pub use benches::{bench_work, crew_bench};

@@ -14,6 +14,8 @@ ghost use Rattle.txn_records.specs.declared.records.Record.{Record};
 
 use crate::endings::{end_crew, end_reported, not_begun, traced};
 use crate::hosts::{CrewHosted, Hosted, host_crew, host_work};
+use crate::replies::marks_are_replies;
+use aml_slice::Control;
 use core_events::Event;
 use crew_host::MOST_WORKERS;
 use run_recovery::runs_stand;
@@ -44,6 +46,7 @@ pub fn run_work<D: LogDev, O: Sink, T: Sink>(
     ensures four { vec_len devices.new ≡ 4 }
 {
     runs_stand(&work.program);
+    marks_are_replies::<Control>();
     let (kept, status) = run_untraced(alloc, work, seed, devices, out);
     let status = traced(alloc, kept.as_slice(), status, trace);
     (kept, status)
@@ -111,6 +114,7 @@ pub fn crew_work<
     ensures four { vec_len devices.new ≡ 4 }
 {
     runs_stand(&work.program);
+    marks_are_replies::<Control>();
     let CrewRan { kept, status, out } = crew_untraced(rt, alloc, work, workers, gate, devices, out);
     let status = traced(alloc, kept.as_slice(), status, trace);
     CrewRan { kept, status, out }

@@ -24,7 +24,7 @@ returns-clause-answer g c =
       out = writing_of g.O.Sink.taken g.O.Sink.faults c.args.out.now c.bench_untraced-kept.new.out;
       trace = trace;
     } in
-    answered summing r (λ o failed run. c.runs_stand.ensures r.work r.schedule o (meant r.kept) failed r.devices_before r.devices_after refl c.requires.limits run)
+    answered summing r (λ o failed run. c.runs_stand.ensures r.work r.schedule o (meant r.kept) failed r.devices_before r.devices_after refl c.requires.limits run) c.marks_are_replies.ensures
     c.bench_untraced-kept.result.1 c.traced-status.result
     (λ none. subst (λ t. Keeps (g.T.Sink.taken c.args.trace.now) (g.T.Sink.taken t)) (sym (c.traced-status.ensures.none (c.as_slice.ensures.value ∙ none))) (Keeps-refl _))
     (c.bench_untraced-kept.ensures.ended trace)
