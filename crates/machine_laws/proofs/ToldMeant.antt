@@ -74,7 +74,7 @@ among_meant : (p : List CheckedMethod) (w : Fixed Rest) (n : ℕ) (at : Place) (
 among_meant p w n at r ds means i =
     let g = subst (λ z. SplitAt i.done (by_place z)) (sym i.splits) (sorted_at i.done i.front i.rest) in
     let here : Some (meaning.alone p (meaning.serial p w.text.opening.states (txs_of w g.front)).world (tx_at w.text i.done.tx)).result ≡ i.done.result =
-        meant_there p w w.text.opening.states g.front i.done g.rest (subst (λ xs. map Some (meaning.serial p w.text.opening.states (txs_of w xs)).results ≡ map (λ d. d.result) xs) g.splits means) in
+    meant_there p w w.text.opening.states g.front i.done g.rest (subst (λ xs. map Some (meaning.serial p w.text.opening.states (txs_of w xs)).results ≡ map (λ d. d.result) xs) g.splits means) in
     record {
       done = i.done;
       front = g.front;
@@ -134,7 +134,7 @@ failed_meant p w n k c code es meant is there pacts h =
     let in_batch = subst (AllByRecursion (λ (q : Pact). q.tx < length w.txs)) t.splits (pacts h.front (Abort k ∷ h.later) h.splits k t.batch t.found) in
     let ours = first_with (λ (q : Pact). q.tx < length w.txs) t.front t.pact t.rest in_batch in
     let same = behind_meant p w (txs_of (with_code p w) (counted k c ds)) (map (λ (q : Pact). tx_at w q.tx) ps) meant
-        (asked p w (counted k c ds) is (all_by_place (λ d. d.tx < length w.txs) _ (all_filter (λ d. d.tx < length w.txs) (counts k c) ds there))) (pacts_asked p w ps is ours) in
+    (asked p w (counted k c ds) is (all_by_place (λ d. d.tx < length w.txs) _ (all_filter (λ d. d.tx < length w.txs) (counts k c) ds there))) (pacts_asked p w ps is ours) in
     record {
       front = h.front;
       later = h.later;

@@ -2,7 +2,7 @@
 //! it. No premise on code is left.
 
 ghost use Rattle.aml_check.specs.Checked.{methods_of};
-ghost use Rattle.protocol.specs.Rows.{RowsAgree};
+ghost use Rattle.protocol.specs.Rows.{ConditionsAgree, RisesAgree, RowsAgree, VerdictsAgree};
 ghost use Rattle.protocol_records.specs.AsTold.{ToldStands};
 ghost use Rattle.protocol_records.specs.Crash.{CrashHolds};
 ghost use Rattle.protocol_verdicts.specs.Evidence.{VerdictsStand};
@@ -12,6 +12,7 @@ ghost use Rattle.protocol_laws.specs.OneWay.{PlacesStay};
 ghost use Rattle.protocol_theorems.specs.Order.{OrderHolds};
 ghost use Rattle.protocol_theorems.specs.Quiet.{AnsweredWhenQuiet};
 ghost use Rattle.protocol_theorems.specs.Sets.{NumbersStand};
+ghost use Rattle.protocol_theorems.specs.Waits.{WaitsEnd};
 ghost use Rattle.machine_laws.specs.Meant.{CommittedAsMeant, RecoveredAsMeant, VerdictsAsMeant};
 ghost use Rattle.machine_laws.specs.Programs.{AfterEveryRunOf, AtEveryMomentOf, OfEveryRunOf};
 
@@ -103,12 +104,47 @@ pub fn places_stay(program: &Checked)
     protocol_laws::places_stay::<Control>();
 }
 
-/// The table, whose words are shorter at four rows, gives what the rows give as they were agreed.
+/// The table, whose words are shorter at some rows, makes of a state what the rows make of it as they were agreed.
 pub fn rows_are_as_agreed(program: &Checked)
     ensures { AfterEveryRunOf (methods_of program.now) RowsAgree }
 {
     code_has_the_facts(program);
     protocol_theorems::rows_are_as_agreed::<Control>();
+}
+
+/// Each condition of each event holds exactly where the agreed one does.
+pub fn conditions_are_as_agreed(program: &Checked)
+    ensures { AfterEveryRunOf (methods_of program.now) ConditionsAgree }
+{
+    code_has_the_facts(program);
+    protocol_theorems::conditions_are_as_agreed::<Control>();
+}
+
+/// Where an ACT is placed, one pass over the ACTs carries before numbers through all pairs, and nothing else does.
+pub fn numbers_are_carried_through_all_pairs(program: &Checked)
+    ensures { AfterEveryRunOf (methods_of program.now) RisesAgree }
+{
+    code_has_the_facts(program);
+    protocol_theorems::numbers_are_carried_through_all_pairs::<Control>();
+}
+
+/// A transaction has no verdict exactly where its batch is neither settled nor aborted, and its ACT neither doomed nor
+/// sealed.
+pub fn who_has_ended_has_a_verdict(program: &Checked)
+    ensures { AfterEveryRunOf (methods_of program.now) VerdictsAgree }
+{
+    code_has_the_facts(program);
+    protocol_theorems::who_has_ended_has_a_verdict::<Control>();
+}
+
+/// A batch or an ACT that still has something to do waits for one that is lower: by number, a batch before an ACT of the
+/// same number, and of two such ACTs the younger first. So nobody waits in a circle; and where one waits for nobody, some
+/// event is allowed.
+pub fn nobody_waits_in_a_circle(program: &Checked)
+    ensures { AfterEveryRunOf (methods_of program.now) WaitsEnd }
+{
+    code_has_the_facts(program);
+    protocol_theorems::nobody_waits_in_a_circle::<Control>();
 }
 
 /// The transactions that committed, run one after the other in the order of their places as the language means each of

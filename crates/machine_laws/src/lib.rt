@@ -15,11 +15,12 @@ pub use cases::{
     cases_of_order, halves_go_on, schedules_are_in_order, undo_gives_the_state_before,
 };
 pub use laws::{
-    committed_transactions_are_as_meant, committed_transactions_are_in_order, every_run_ends,
-    numbers_are_the_ends_of_sets, places_stay, recovered_transactions_are_as_meant,
-    recovered_transactions_are_in_order, rows_are_as_agreed, runs_that_cannot_go_on_have_answered,
-    told_transactions_are_in_order, verdicts_are_as_meant, verdicts_have_evidence,
-    verdicts_tell_of_serial_runs,
+    committed_transactions_are_as_meant, committed_transactions_are_in_order,
+    conditions_are_as_agreed, every_run_ends, nobody_waits_in_a_circle,
+    numbers_are_carried_through_all_pairs, numbers_are_the_ends_of_sets, places_stay,
+    recovered_transactions_are_as_meant, recovered_transactions_are_in_order, rows_are_as_agreed,
+    runs_that_cannot_go_on_have_answered, told_transactions_are_in_order, verdicts_are_as_meant,
+    verdicts_have_evidence, verdicts_tell_of_serial_runs, who_has_ended_has_a_verdict,
 };
 pub use records::{
     marks_are_durable, next_numbers_are_above_all, records_are_added_once, records_are_few,
