@@ -26,11 +26,11 @@ stop_read : (count log : ℕ) (before after : List Device) (why : OpenNo) → lo
 stop_read count log before after (refusal.NotALog offset) lt stop = record { asked = lt; refused = stop.refused; reached = stop.reached }
 stop_read count log before after (refusal.Damage offset) lt stop = record { asked = lt; refused = stop.refused; reached = stop.reached }
 stop_read count log before after refusal.Device lt stop = (record { asked = lt; refused = stop.refused; reached = stop.reached }, stop.rose refl)
-stop_read count log before after refusal.Memory lt stop = tt
+stop_read count log before after refusal.Memory lt stop = inr (log, lt, stop.refused, stop.reached)
 
 pub halted_read : (count : ℕ) (before after : List Device) (answer : LogsNo) → IsHalted count before after answer → AreNotRead count before after answer
 halted_read count before after answer halted = elim (halted.why) [
-  | inl memory ↦ subst (λ (n : LogsNo). AreNotRead count before after n) (sym memory) tt
+  | inl memory ↦ subst (λ (n : LogsNo). AreNotRead count before after n) (sym memory.0) (inl (memory.1.0, (λ log lt. omega (arith, lt, memory.1.1)), memory.1.2))
   | inr at ↦ subst (λ (n : LogsNo). AreNotRead count before after n) (sym at.4) (stop_read count at.0 before after at.1 at.2 (stopped at.0 before after at.1 at.3))
 ]
 
@@ -56,7 +56,7 @@ no_read law count before after found (ending.Refused log offset (cause.Missing k
 no_read law count before after found (ending.Refused log offset (cause.Spent n)) size are why = absurd why
 no_read law count before after found (ending.Refused log offset (cause.Differs w k t)) size are why = absurd why
 no_read law count before after found (ending.Device log) size are why = absurd why
-no_read law count before after found ending.Memory size are why = tt
+no_read law count before after found ending.Memory size are why = inl (count, (λ log lt. lt), subst (λ (n : ℕ). AreOpened n before after) size (found_opened before after found are))
 
 -- ---- both
 

@@ -1,5 +1,5 @@
 -- What the steps of the flow leave.
-use Rattle.std.proofs.Common.{◌≡◌, ℕ, ◌≤◌, inr, List, [], ◌∷◌, length, get_or, take, sym, ◌∙◌, ap, subst, arith, Result, Ok, Err}
+use Rattle.std.proofs.Common.{◌≡◌, ℕ, ◌≤◌, inl, inr, List, [], ◌∷◌, length, get_or, take, refl, sym, ◌∙◌, ap, subst, arith, Result, Ok, Err}
 use Rattle.std.proofs.lemmas.List.{take_all}
 use Rattle.std.proofs.lemmas.Slice.Zip.{AllZip-long}
 use Rattle.std.specs.Prelude.{IfOk, IfErr, MatchResult}
@@ -13,7 +13,7 @@ use Rattle.snap_recover.specs.declared.openings.Opening.{Opening}
 use Rattle.snap_recover.specs.Opening.{IsRecovered}
 use Rattle.log_opening.specs.declared.refusals.LogsNo.{LogsNo}
 use Rattle.log_opening.specs.declared.refusals.LogsNo.TheVariants as ending
-use Rattle.log_opening.specs.Devices.{Device, AreOpened}
+use Rattle.log_opening.specs.Devices.{Device, device_at, AreOpened}
 use Rattle.log_opening.specs.Found.{AreFound, IsHalted, IsNoReading, IsNoDecoding, IsNoRecovery}
 use Rattle.log_opening.specs.Kept.{logs_said, Holds, IsLogsNo}
 use Rattle.log_opening.specs.Reads.{IsEnded, IsFirstRead, AreRead}
@@ -47,31 +47,35 @@ first_here before mid found all first read kept =
 
 -- ---- the others
 
+-- log 0 held them
+pub first_holds : OpenedHeld → (before mid : List Device) (found : List (List LogItem)) (first : List Record) → IsFirstRead before mid found first → Holds (device_at before 0) first
+first_holds law before mid found first read =
+    zip_first (length found) before first []
+    (zip_holds law (length found) before mid found (first ∷ []) (omega arith) read.are_found
+    (subst (λ (l : List (List LogItem)). AllZip AreItemsOf l (first ∷ [])) (sym (take_all (length found) found (omega arith))) read.records))
+
 pub others_ended : OpenedHeld → (before mid after : List Device) (found : List (List LogItem)) (first : List Record) (a : LogsNo) → IsFirstRead before mid found first
     → IsHalted (logs_said first) before after a → IsEnded before after a
-others_ended law before mid after found first a read halted =
-    let held : AllZip Holds (take (length found) before) (first ∷ []) = zip_holds law (length found) before mid found (first ∷ []) (omega arith) read.are_found
-    (subst (λ (l : List (List LogItem)). AllZip AreItemsOf l (first ∷ [])) (sym (take_all (length found) found (omega arith))) read.records) in
-    record {
-      cause = halted_no (logs_said first) before after a (λ log lt. inr (first, zip_first (length found) before first [] held, lt)) halted;
-      touched = halted.touched;
-    }
+others_ended law before mid after found first a read halted = record {
+  cause = halted_no (logs_said first) before after a (λ log lt. inr (first, first_holds law before mid found first read, lt)) halted;
+  touched = halted.touched;
+}
 
-pub others_read : OpenedHeld → ItemsAreRecords → (before after : List Device) (all : List (List LogItem)) (first : List Record) (r : Result (List (List Record)) LogsNo) → AreFound before after all
-    → length all ≡ logs_said first
+pub others_read : OpenedHeld → ItemsAreRecords → (before after : List Device) (all : List (List LogItem)) (first : List Record) (r : Result (List (List Record)) LogsNo) → Holds (device_at before 0) first
+    → AreFound before after all → length all ≡ logs_said first
     → MatchResult r (λ logs. AllZip AreItemsOf all logs × ((others : List (List Record)) × (logs ≡ first ∷ others))) (λ a. IsNoDecoding all (first ∷ []) a)
     → MatchResult r (λ logs. AreRead before after logs) (λ a. IsEnded before after a)
-others_read law each before after all first (Ok logs) are count said = record {
+others_read law each before after all first (Ok logs) held are count said = record {
   given = given law each before after all first said.1.0 logs are said.0 said.1.1 count;
   opened = subst (λ (n : ℕ). AreOpened n before after) (sym (AllZip-long AreItemsOf all logs said.0)) (found_opened before after all are);
   touched = found_touched before after all are;
 }
-others_read law each before after all first (Err a) are count said = record { cause = decoding_no law before after all first a count are said; touched = found_touched before after all are }
+others_read law each before after all first (Err a) held are count said = record { cause = decoding_no law before after all first a held count are said; touched = found_touched before after all are }
 
 -- ---- all of them
 
 pub ended_for_memory : (devices : List Device) → IsEnded devices devices ending.Memory
-ended_for_memory devices = record { cause = tt; touched = all_untouched devices }
+ended_for_memory devices = record { cause = inl (0, (λ log lt. absurd (omega (arith, lt))), record { opened = tt; others = refl }); touched = all_untouched devices }
 
 -- the devices come back from the open logs
 pub read_back : (before after mid before_mid : List Device) (r : Result (List (List Record)) LogsNo) → before_mid ≡ before → after ≡ mid

@@ -148,8 +148,8 @@ stopped_touched (b ∷ bs) (m ∷ ms) (i ∷ is) new are lt one = (on_touched b 
 
 -- ---- not so many
 
-pub halted_for_memory : (count : ℕ) (before after : List Device) (found : List (List LogItem)) → AreFound before after found → IsHalted count before after ending.Memory
-halted_for_memory count before after found are = record { touched = found_touched before after found are; why = inl refl }
+pub halted_for_memory : (count : ℕ) (before after : List Device) (found : List (List LogItem)) → length found ≤ count → AreFound before after found → IsHalted count before after ending.Memory
+halted_for_memory count before after found few are = record { touched = found_touched before after found are; why = inl (refl, (length found, few, found_opened before after found are)) }
 
 halted_here : (before mid : List Device) (found : List (List LogItem)) (new : Device) (why : OpenNo) → AreFound before mid found → length found < length mid
     → IsClosed (device_at mid (length found)) new why → IsHalted (length found + 1) before (set mid (length found) new) (no_of_opening (length found) why)
@@ -177,7 +177,7 @@ pub halted_below : (few many : ℕ) (before after : List Device) (answer : LogsN
 halted_below few many before after answer le halted = record {
   touched = halted.touched;
   why = elim (halted.why) [
-    | inl memory ↦ inl memory
+    | inl memory ↦ inl (memory.0, (memory.1.0, omega (arith, le, memory.1.1), memory.1.2))
     | inr at ↦ inr (at.0, at.1, omega (arith, le, at.2), at.3, at.4)
   ];
 }

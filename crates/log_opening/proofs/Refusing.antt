@@ -54,11 +54,11 @@ stop_no : (log : ℕ) (before after : List devices.Device) (why : OpenNo) → Is
 stop_no log before after (refusal.NotALog offset) asked stop = (asked, stop.refused, stop.reached)
 stop_no log before after (refusal.Damage offset) asked stop = (asked, stop.refused, stop.reached)
 stop_no log before after refusal.Device asked stop = (stop.below, stop.rose refl, asked, stop.refused, stop.reached)
-stop_no log before after refusal.Memory asked stop = tt
+stop_no log before after refusal.Memory asked stop = inr (log, asked, stop.refused, stop.reached)
 
 pub halted_no : (count : ℕ) (before after : List devices.Device) (answer : LogsNo) → ((log : ℕ) → log < count → IsAsked before log) → IsHalted count before after answer → IsLogsNo before after answer
 halted_no count before after answer asked halted = elim (halted.why) [
-  | inl memory ↦ subst (λ (n : LogsNo). IsLogsNo before after n) (sym memory) tt
+  | inl memory ↦ subst (λ (n : LogsNo). IsLogsNo before after n) (sym memory.0) (inl (memory.1.0, (λ log lt. asked log (omega (arith, lt, memory.1.1))), memory.1.2))
   | inr at ↦ subst (λ (n : LogsNo). IsLogsNo before after n) (sym at.4) (stop_no at.0 before after at.1 (asked at.0 at.2) (stopped at.0 before after at.1 at.3))
 ]
 
@@ -84,29 +84,36 @@ reading_no before after found (ending.Refused log offset (cause.Missing k)) one 
 reading_no before after found (ending.Refused log offset (cause.Spent n)) one are why = absurd why
 reading_no before after found (ending.Refused log offset (cause.Differs w k t)) one are why = absurd why
 reading_no before after found (ending.Device log) one are why = absurd why
-reading_no before after found ending.Memory one are why = tt
+reading_no before after found ending.Memory one are why = inl (1, asked_first before, subst (λ (n : ℕ). AreOpened n before after) one (found_opened before after found are))
 
-pub decoding_no : OpenedHeld → (before after : List devices.Device) (found : List (List LogItem)) (first : List Record) (answer : LogsNo) → length found ≡ logs_said first → AreFound before after found
-    → IsNoDecoding found (first ∷ []) answer → IsLogsNo before after answer
-decoding_no law before after found first (ending.Refused log offset cause.NotALog) said are why = absurd why
-decoding_no law before after found first (ending.Refused log offset cause.Damage) said are why = absurd why
-decoding_no law before after found first (ending.Refused log offset cause.BadRecord) said are why =
+pub decoding_no : OpenedHeld → (before after : List devices.Device) (found : List (List LogItem)) (first : List Record) (answer : LogsNo) → Holds (device_at before 0) first → length found ≡ logs_said first
+    → AreFound before after found → IsNoDecoding found (first ∷ []) answer → IsLogsNo before after answer
+decoding_no law before after found first (ending.Refused log offset cause.NotALog) held said are why = absurd why
+decoding_no law before after found first (ending.Refused log offset cause.Damage) held said are why = absurd why
+decoding_no law before after found first (ending.Refused log offset cause.BadRecord) held said are why =
     let at = found_opened_at before after found log are why.2 in
-    let held : AllZip Holds (take log before) (first ∷ why.0) = zip_holds law log before after found (first ∷ why.0) (omega (arith, why.2)) are why.3 in
+    let all : AllZip Holds (take log before) (first ∷ why.0) = zip_holds law log before after found (first ∷ why.0) (omega (arith, why.2)) are why.3 in
     let lt : log < logs_said first = omega (arith, why.2, said) in
     let opened : AreOpened (logs_said first) before after = subst (λ (n : ℕ). AreOpened n before after) said (found_opened before after found are) in
-    (inr (first, zip_first log before first why.0 held, lt), (at.0, get_or found log [], at.1, why.4), inr (first, why.0, omega (arith, why.1), held, lt, opened))
-decoding_no law before after found first (ending.Refused log offset cause.NoGenesis) said are why = absurd why
-decoding_no law before after found first (ending.Refused log offset cause.TwoGenesis) said are why = absurd why
-decoding_no law before after found first (ending.Refused log offset (cause.LogCount k f)) said are why = absurd why
-decoding_no law before after found first (ending.Refused log offset (cause.Range k)) said are why = absurd why
-decoding_no law before after found first (ending.Refused log offset (cause.Missing k)) said are why = absurd why
-decoding_no law before after found first (ending.Refused log offset (cause.Spent n)) said are why = absurd why
-decoding_no law before after found first (ending.Refused log offset (cause.Differs w k t)) said are why = absurd why
-decoding_no law before after found first (ending.Device log) said are why = absurd why
-decoding_no law before after found first ending.Memory said are why = tt
+    (inr (first, held, lt), (at.0, get_or found log [], at.1, why.4), inr (first, why.0, omega (arith, why.1), all, lt, opened))
+decoding_no law before after found first (ending.Refused log offset cause.NoGenesis) held said are why = absurd why
+decoding_no law before after found first (ending.Refused log offset cause.TwoGenesis) held said are why = absurd why
+decoding_no law before after found first (ending.Refused log offset (cause.LogCount k f)) held said are why = absurd why
+decoding_no law before after found first (ending.Refused log offset (cause.Range k)) held said are why = absurd why
+decoding_no law before after found first (ending.Refused log offset (cause.Missing k)) held said are why = absurd why
+decoding_no law before after found first (ending.Refused log offset (cause.Spent n)) held said are why = absurd why
+decoding_no law before after found first (ending.Refused log offset (cause.Differs w k t)) held said are why = absurd why
+decoding_no law before after found first (ending.Device log) held said are why = absurd why
+decoding_no law before after found first ending.Memory held said are why =
+    inl (logs_said first, (λ log lt. inr (first, held, lt)), subst (λ (n : ℕ). AreOpened n before after) said (found_opened before after found are))
 
 -- ---- recovering
+
+-- the logs that are given are those that log 0 says
+pub given_asked : (before : List devices.Device) (logs : List (List Record)) → AreGiven before logs → (log : ℕ) → log < length logs → IsAsked before log
+given_asked before logs given log lt =
+    let held : AllZip Holds (take (length logs) before) (given.0 ∷ given.1) = subst (λ (l : List (List Record)). AllZip Holds (take (length logs) before) l) given.2 given.5 in
+    inr (given.0, zip_first (length logs) before given.0 given.1 held, omega (arith, lt, given.3))
 
 pub recovery_no : (before after : List devices.Device) (logs : List (List Record)) (answer : LogsNo) → AreGiven before logs → AreOpened (length logs) before after
     → IsNoRecovery logs answer → IsLogsNo before after answer
@@ -121,4 +128,4 @@ recovery_no before after logs (ending.Refused log offset (cause.Missing k)) give
 recovery_no before after logs (ending.Refused log offset (cause.Spent n)) given opened why = absurd why.1
 recovery_no before after logs (ending.Refused log offset (cause.Differs w k t)) given opened why = absurd why.1
 recovery_no before after logs (ending.Device log) given opened why = absurd why
-recovery_no before after logs ending.Memory given opened why = tt
+recovery_no before after logs ending.Memory given opened why = inl (length logs, given_asked before logs given, opened)

@@ -49,4 +49,4 @@ AreNotRead count before after (ending.Refused log offset cause.BadRecord) = HasB
 AreNotRead count before after (ending.Refused log offset c) = ⊥
 AreNotRead count before after (ending.Device log) =
     IsNotOpened count before after log refusal.Device × Rose (devices.device_at before log).faults (devices.device_at after log).faults
-AreNotRead count before after ending.Memory = Unit {0}
+AreNotRead count before after ending.Memory = devices.LacksMemory (λ log. log < count) before after

@@ -1,8 +1,9 @@
 -- Devices as contracts see them.
-use Rattle.std.specs.Prelude.{◌≡◌, ℕ, ◌+◌, ◌⊎◌, List, ◌++◌, map, take, drop, Option, None, slice_index_or}
+use Rattle.std.specs.Prelude.{◌≡◌, ℕ, ◌+◌, ◌<◌, ◌⊎◌, List, ◌++◌, map, take, drop, Option, None, slice_index_or}
 use Rattle.std.specs.List.{AllZip}
 use Rattle.snap_outside.specs.Disk.{History}
-use Rattle.gate_log.specs.Opened.{Opened, MayBeMade}
+use Rattle.gate_log.specs.Opened.{Opened, MayBeMade, Refused}
+use Rattle.gate_log.specs.declared.opens.OpenNo.TheVariants as refusal
 use Rattle.gate_log.specs.declared.logs.LogItem.{LogItem}
 use Rattle.gate_log.specs.State.{LogState}
 
@@ -47,3 +48,10 @@ pub record AreOpened (count : ℕ) (before after : List Device) : Type 0 where
 pub record IsReached (log : ℕ) (before after : List Device) : Type 0 where
   pub below : AllZip IsOpened (take log before) (take log after)
   pub above : drop (log + 1) after ≡ drop (log + 1) before
+
+-- There was no memory, and no log was opened but those that are asked. So many devices are opened, from the first one on, and
+-- the others got no call; or one that is asked holds what it held, those below it are opened, and those above it got no call.
+abbrev pub LacksMemory : (ℕ → Type 0) → List Device → List Device → Type 0
+LacksMemory Asked before after =
+    ((n : ℕ) × ((log : ℕ) → log < n → Asked log) × AreOpened n before after)
+    ⊎ ((log : ℕ) × Asked log × Refused (device_at before log).told (device_at after log).told refusal.Memory × IsReached log before after)

@@ -76,10 +76,10 @@ no_of_opening log (refusal.Damage offset) = ending.Refused log offset cause.Dama
 no_of_opening log refusal.Device = ending.Device log
 no_of_opening log refusal.Memory = ending.Memory
 
--- Not so many devices were opened, and why.
+-- Not so many devices were opened, and why: there was no memory behind the opening of one of them, or one was not opened.
 pub record IsHalted (count : ℕ) (before after : List devices.Device) (no : LogsNo) : Type 0 where
   pub touched : AllZip IsTouched before after
-  pub why : (no ≡ ending.Memory) ⊎ ((log : ℕ) × (why : OpenNo) × (log < count) × IsStoppedAt log before after why × (no ≡ no_of_opening log why))
+  pub why : ((no ≡ ending.Memory) × ((n : ℕ) × (n ≤ count) × devices.AreOpened n before after)) ⊎ ((log : ℕ) × (why : OpenNo) × (log < count) × IsStoppedAt log before after why × (no ≡ no_of_opening log why))
 
 -- ---- records
 

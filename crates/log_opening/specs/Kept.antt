@@ -72,4 +72,4 @@ HasFailed before after log =
 abbrev pub IsLogsNo : List devices.Device → List devices.Device → LogsNo → Type 0
 IsLogsNo before after (ending.Refused log offset c) = AreRefused before after log offset c
 IsLogsNo before after (ending.Device log) = HasFailed before after log
-IsLogsNo before after ending.Memory = Unit {0}
+IsLogsNo before after ending.Memory = devices.LacksMemory (λ log. IsAsked before log) before after

@@ -265,9 +265,10 @@ fails_first laws count states b bs l k ls others f fs rs rss o added size many l
     }
 
 not_written : (count : ℕ) (states : List State) (b : Device) (bs : List Device) (l k : LogState) (ms : List Device) (answer : LogsNo) → IsTouched b (as_device l) → AllZip IsTouched bs ms
-    → answer ≡ ending.Memory → IsUntouched l k → IsNoRun count states (b ∷ bs) (as_device k ∷ ms) answer
-not_written count states b bs l k ms answer first others is same =
-    inl (inl (subst (λ (a : LogsNo). AreNotRead count (b ∷ bs) (as_device k ∷ ms) a) (sym is) tt), (subst (λ (d : Device). IsTouched b d) (sym (same_device l k same)) first, others))
+    → AreOpened count (b ∷ bs) (as_device l ∷ ms) → answer ≡ ending.Memory → IsUntouched l k → IsNoRun count states (b ∷ bs) (as_device k ∷ ms) answer
+not_written count states b bs l k ms answer first others opened is same =
+    subst (λ (d : Device). IsNoRun count states (b ∷ bs) (d ∷ ms) answer) (sym (same_device l k same))
+    (inl (inl (subst (λ (a : LogsNo). AreNotRead count (b ∷ bs) (as_device l ∷ ms) a) (sym is) (inl (count, (λ log lt. lt), opened))), (first, others)))
 
 not_first : Laws → (count : ℕ) (states : List State) (b : Device) (bs : List Device) (l k : LogState) (ls : List LogState) (others : List Device) (f : List LogItem) (fs : List (List LogItem))
     (rs : List Record) (rss : List (List Record)) (o : Opening) (added : List Record) (answer : LogsNo) → suc (length fs) ≡ count
@@ -279,7 +280,8 @@ not_first laws count states b bs l k ls others f fs rs rss o added answer size l
     let first : IsRunLog b l l.end rs [] = run_logs laws.logs (b ∷ bs) others (l ∷ ls) (f ∷ fs) logs lie.are_found lie.ready lie.items 0 (omega arith) in
     record {
       why = elim (w.why) [
-        | inl memory ↦ not_written count states b bs l k (all_devices ls others) answer lie.touched.0 lie.touched.1 memory.0 memory.1
+        | inl memory ↦ not_written count states b bs l k (all_devices ls others) answer lie.touched.0 lie.touched.1
+            (subst (λ (n : ℕ). AreOpened n (b ∷ bs) (all_devices (l ∷ ls) others)) size lie.opened) memory.0 memory.1
         | inr device ↦ inr (device.0, fails_first laws count states b bs l k ls others f fs rs rss o added size many lie first start device.1 w.may device.2 device.3)
       ];
       safe = safe_with count states b (as_device k) bs (all_devices ls others) logs o added many (subst (λ (n : ℕ). AllZip Holds (take n (b ∷ bs)) logs) size lie.held) start
@@ -303,7 +305,7 @@ has_not_begun laws count states (b ∷ bs) (l ∷ ls) (k ∷ ks) others (f ∷ f
 -- ---- as it is said of the devices alone
 
 pub nothing_done : ((ds : List Device) → AllZip IsTouched ds ds) → (count : ℕ) (states : List State) (ds : List Device) → HasNotBegun count states ds ds ending.Memory
-nothing_done law count states ds = not_read count states ds ds ending.Memory tt (law ds)
+nothing_done law count states ds = not_read count states ds ds ending.Memory (inl (0, (λ log lt. absurd (omega (arith, lt))), record { opened = tt; others = refl })) (law ds)
 
 pub devices_long : {D : Type 0} (told : D → Option History) (faults : D → ℕ) (xs : List D) → length (devices_of told faults xs) ≡ length xs
 devices_long told faults [] = refl

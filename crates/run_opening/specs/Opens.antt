@@ -103,7 +103,8 @@ pub record FailsFirst (count : ℕ) (states : List State) (before after : List D
   pub others : drop count after ≡ drop count before
 
 -- Why no run of a text with these states begins on so many logs: they are not opened and decoded, or what they hold gives
--- no run, and the devices got the operations of opening at most; or Genesis was begun and is not written.
+-- no run, and the devices got the operations of opening at most; or Genesis was begun and is not written. Whatever the answer,
+-- the devices behind them got no call (`others_get_no_call`).
 abbrev pub IsNoRun : ℕ → List State → List Device → List Device → LogsNo → Type 0
 IsNoRun count states before after answer =
     ((AreNotRead count before after answer ⊎ AreNoStart count states before after answer) × AllZip IsTouched before after)

@@ -1,10 +1,12 @@
-ghost use Rattle.std.specs.Prelude.{ℕ, ◌≤◌, List, length};
+ghost use Rattle.std.specs.Prelude.{◌≡◌, ℕ, ◌≤◌, List, length, drop};
 ghost use Rattle.snap_base.specs.declared.transactions.State.{State};
 ghost use Rattle.txn_records.specs.declared.records.Record.{Record};
 ghost use Rattle.snap_recover.specs.declared.openings.Opening.{Opening};
+ghost use Rattle.log_opening.specs.Devices.{Device};
+ghost use Rattle.log_opening.specs.declared.refusals.LogsNo.{LogsNo};
 ghost use Rattle.run_opening.specs.Begins.{Begins};
 ghost use Rattle.run_opening.specs.Starts.{IsStart};
-ghost use Rattle.run_opening.specs.Opens.{with_first};
+ghost use Rattle.run_opening.specs.Opens.{IsNoRun, with_first};
 
 use snap_recover::begun_logs_are_recovered;
 
@@ -16,3 +18,8 @@ pub fn begins_again()
 {
     begun_logs_are_recovered();
 }
+
+/// Where no run begins, whatever the answer is, the devices behind its logs got no call.
+pub fn others_get_no_call()
+    ensures { (count : ℕ) (states : List State) (before after : List Device) (no : LogsNo) → IsNoRun count states before after no → drop count after ≡ drop count before }
+{}

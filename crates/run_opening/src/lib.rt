@@ -10,7 +10,7 @@ mod opens;
 mod starts;
 
 pub use comparisons::{GREATEST_TO_BEGIN, ROOM_TO_BEGIN};
-pub use laws::begins_again;
+pub use laws::{begins_again, others_get_no_call};
 pub use limits::LARGEST_START;
 pub use opens::open_run;
 pub use starts::{Start, start_from};

@@ -1,4 +1,4 @@
-use Rattle.std.proofs.Common.{rules, ◌≡◌, ◌<◌, ◌++◌, ◌∷◌, [], length, List, subst, sym, ◌∙◌, ap}
+use Rattle.std.proofs.Common.{rules, ◌≡◌, ◌+◌, ◌<◌, ◌++◌, arith, length-append, ◌∷◌, [], length, List, subst, sym, ◌∙◌, ap}
 use Rattle.std.specs.List.{AllZip, insert}
 use Rattle.log_opening.specs.Devices.{Device, devices_now, as_device}
 use Rattle.log_opening.specs.Found.{AreFound, IsReadyLog, IsFoundOn, IsClosed, no_of_opening}
@@ -15,7 +15,8 @@ returns-then-is_err-clause-halted g c = λ before are.
     let lt : 0 < length xs = search rules in
     let at : c.len-number.result ≡ length logs = search rules in
     let same : length c.args.opened.now.found ≡ length logs = search rules in
-    halted_for_memory _ before (devices_now told faults c.put.new.objects.items c.remove-dev.new.self.items) (c.args.opened.now.found ++ c.in-Ok.items ∷ [])
+    halted_for_memory (length c.args.opened.now.found + 1) before (devices_now told faults c.put.new.objects.items c.remove-dev.new.self.items) (c.args.opened.now.found ++ c.in-Ok.items ∷ [])
+    (omega (arith, length-append c.args.opened.now.found (c.in-Ok.items ∷ [])))
     (one_more before (devices_now told faults logs xs) (devices_now told faults c.put.new.objects.items c.remove-dev.new.self.items)
     c.args.opened.now.found (length logs) (as_device c.in-Ok.log) c.in-Ok.items (sym same) (now_long told faults logs xs lt)
     (now_opened told faults logs c.put.new.objects.items c.in-Ok.log xs c.remove-dev.new.self.items lt c.remove-dev.ensures.items (c.put.ensures.items ∙ ap (λ n. insert logs n c.in-Ok.log) at))

@@ -7,7 +7,7 @@ use Rattle.record_log.specs.Records.{AreItemsOf}
 use Rattle.log_opening.specs.Devices.{devices_now}
 use Rattle.log_opening.specs.Found.{ArePlaced, IsHalted, IsNoDecoding}
 use Rattle.log_opening.proofs.Reading.{found_placed}
-use Rattle.log_opening.proofs.Flow.{first_said, others_ended, others_read}
+use Rattle.log_opening.proofs.Flow.{first_holds, first_said, others_ended, others_read}
 use Rattle.log_opening.proofs.recovery.open_and_read.Goals as goal
 
 pub open_logs-requires-clause-more : goal.open_logs-requires-clause-more
@@ -39,9 +39,11 @@ read_others-requires-clause-few g c =
 pub returns-in-Ok-open_logs-clause-read : goal.returns-in-Ok-open_logs-clause-read
 returns-in-Ok-open_logs-clause-read g c =
     let before = devices_now g.D.LogDev.told g.D.LogDev.faults c.args.opened.now.logs.items c.args.devices.now.items in
+    let mid = devices_now g.D.LogDev.told g.D.LogDev.faults c.first_records.new.opened.logs.items c.first_records.new.devices.items in
     let after = devices_now g.D.LogDev.told g.D.LogDev.faults c.open_logs.new.opened.logs.items c.open_logs.new.devices.items in
     let said = c.logs_said-count.ensures in
-    others_read c.opened_holds.ensures.before c.records_are_held.ensures.items before after c.open_logs.new.opened.found c.in-Ok.first c.read_others.result (c.in-Ok-open_logs.ensures.found before c.in-Ok.ensures.read.are_found)
+    others_read c.opened_holds.ensures.before c.records_are_held.ensures.items before after c.open_logs.new.opened.found c.in-Ok.first c.read_others.result
+    (first_holds c.opened_holds.ensures.before before mid c.first_records.new.opened.found c.in-Ok.first c.in-Ok.ensures.read) (c.in-Ok-open_logs.ensures.found before c.in-Ok.ensures.read.are_found)
     (c.in-Ok-open_logs.ensures.count.0 ∙ said)
     (subst (λ (l : List (List LogItem)). MatchResult c.read_others.result
     (λ logs. AllZip AreItemsOf l logs × ((others : List (List Record)) × (logs ≡ c.in-Ok.first ∷ others))) (λ a. IsNoDecoding l (c.in-Ok.first ∷ []) a))
