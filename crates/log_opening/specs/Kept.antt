@@ -27,6 +27,10 @@ logs_said (BatchCommit bid ∷ rs) = logs_said rs
 logs_said (ActPrepare tid actor state ∷ rs) = logs_said rs
 logs_said (ActCommit tid m c actors ∷ rs) = logs_said rs
 
+-- log 0 says how many logs there are, and there are so many
+abbrev pub IsSaid : List (List Record) → Type 0
+IsSaid logs = (first : List Record) × (others : List (List Record)) × (logs ≡ first ∷ others) × (length logs ≡ logs_said first)
+
 -- what a device holds, where it tells it
 abbrev pub Holds : devices.Device → List Record → Type 0
 Holds d rs = IfSome d.told (λ h. HoldsRecords (content h) rs)

@@ -11,9 +11,9 @@ use Rattle.record_log.specs.Growth.{GrewBy, HoldsWhole, IsGrowth, Leaves, Leaves
 use Rattle.record_log.specs.GrowthLaws.{GrowthKeeps}
 use Rattle.record_log.specs.Records.{HoldsRecords, spelled}
 use Rattle.gate_log.specs.Appends.{end_behind}
-use Rattle.run_opening.specs.Begins.{AreEmpty, Begins}
+use Rattle.run_opening.specs.Begins.{AreOfRuns, Begins}
 use Rattle.run_opening.specs.Opens.{first_groups, records_at, with_first}
-use Rattle.run_opening.specs.Starts.{IsStart, first_record}
+use Rattle.run_opening.specs.Starts.{IsStart}
 use Rattle.run_outputs.specs.Groups.{group_behind, groups_of}
 use Rattle.snap_outside.specs.declared.devices.DevOp.{DevOp}
 use Rattle.snap_outside.specs.Disk.{History, IsImage, content, disk, disk_after, settled}
@@ -21,8 +21,9 @@ use Rattle.snap_recover.specs.declared.openings.Opening.{Opening}
 use Rattle.snap_work.specs.Kept.{KeepsLimits}
 use Rattle.snap_work.specs.Works.{Work}
 use Rattle.txn_records.specs.declared.records.Record.{Record}
-use Rattle.run_recovery.specs.Beginnings.{BeginsAgain, CrashBefore, IsFront}
+use Rattle.run_recovery.specs.Beginnings.{BeginsAgain, CrashBefore, HoldEach, IsFront, KeepsOrBegins}
 use Rattle.run_recovery.specs.Runs.{AreRunDevices, IsRunDevice, machine_of, tried_on}
+use Rattle.run_recovery.proofs.SaidLogs.{said_written}
 
 -- ---- the first groups alone
 
@@ -123,9 +124,10 @@ Written = (logs : List (List Record)) (states : List State) (o : Opening) (added
 -- which records all logs are left with
 record AllLeft (count : ℕ) (records : List (List Record)) (states : List State) (o : Opening) (images : ℕ → List ℕ) : Type 0 where
   kept : List (List Record)
-  which : (kept ≡ records) ⊎ (AreEmpty records × (kept ≡ with_first records (first_record (length records) states ∷ [])))
-  holds : (l : ℕ) → l < count → HoldsRecords (images l) (records_at kept l)
+  which : KeepsOrBegins (length records) states records kept
+  holds : HoldEach count images kept
   begins : Begins kept states o
+  said : AreOfRuns records → AreOfRuns kept
 
 -- on the logs behind log 0
 others_left : (l : ℕ) (rs added : List Record) (image : List ℕ) → Left (suc l) rs added image → HoldsRecords image rs
@@ -144,11 +146,12 @@ all_left unwritten written count (rs ∷ rss) states o added images some many (i
   which = inl refl;
   holds = λ l lt. nothing_left l (records_at (rs ∷ rss) l) added (images l) on.1 (left l lt);
   begins = unwritten (rs ∷ rss) states o added (inr on);
+  said = λ own. own;
 }
 all_left unwritten written count (rs ∷ rss) states o added images some many (inl new) left = by (left 0 some)
   where
     by : Left 0 rs added (images 0) → AllLeft count (rs ∷ rss) states o images
-    by (inl held) = record { kept = rs ∷ rss; which = inl refl; holds = same; begins = unwritten (rs ∷ rss) states o added (inl new) }
+    by (inl held) = record { kept = rs ∷ rss; which = inl refl; holds = same; begins = unwritten (rs ∷ rss) states o added (inl new); said = λ own. own }
       where
         same : (l : ℕ) → l < count → HoldsRecords (images l) (records_at (rs ∷ rss) l)
         same zero lt = held
@@ -158,6 +161,7 @@ all_left unwritten written count (rs ∷ rss) states o added images some many (i
       which = inr (new.0, ap (λ xs. (rs ++ xs) ∷ rss) new.2);
       holds = one_more;
       begins = written (rs ∷ rss) states o added (omega arith) (inl new);
+      said = λ own. inr (said_written (rs ∷ rss) states o added (omega arith) (inl new) own);
     }
       where
         one_more : (l : ℕ) → l < count → HoldsRecords (images l) (records_at ((rs ++ added) ∷ rss) l)
@@ -170,7 +174,8 @@ begins_again keeps unwritten written {w} {o} limits devices images crash =
     let all = all_left unwritten written w.logs devices.records w.states o devices.added images limits.logs.0 devices.as_many devices.start (each_left keeps devices images crash) in
     record {
       kept = all.kept;
-      which = subst (λ n. (all.kept ≡ devices.records) ⊎ (AreEmpty devices.records × (all.kept ≡ with_first devices.records (first_record n w.states ∷ [])))) devices.as_many all.which;
+      which = subst (λ n. KeepsOrBegins n w.states devices.records all.kept) devices.as_many all.which;
       holds = all.holds;
       begins = all.begins;
+      said = all.said;
     }

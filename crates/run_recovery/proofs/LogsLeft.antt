@@ -44,6 +44,10 @@ grown_up n (suc l) (rs ∷ rss) logs lt = let e : (n + 1) + l ≡ n + suc l = om
 pub grown_at : (rss : List (List Record)) (logs : ℕ → List LogRecord) (l : ℕ) → l < length rss → records_at (grown rss logs) l ≡ records_at rss l ++ all_told (logs l)
 grown_at rss logs l lt = let e : 0 + l ≡ l = omega arith in grown_up 0 l rss logs lt ∙ ap (λ j. records_at rss l ++ all_told (logs j)) e
 
+pub grown_long : (n : ℕ) (rss : List (List Record)) (logs : ℕ → List LogRecord) → length (grown_from n rss logs) ≡ length rss
+grown_long n [] logs = refl
+grown_long n (rs ∷ rss) logs = ap suc (grown_long (n + 1) rss logs)
+
 as_all : (added : List Record) → all_records (as_groups added) ≡ added
 as_all [] = refl
 as_all (r ∷ rs) = flat_map-cons (λ (g : List Record). g) (r ∷ rs) [] ∙ append-nil (r ∷ rs)

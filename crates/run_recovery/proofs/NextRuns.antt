@@ -1,5 +1,5 @@
 -- What a crash leaves of the logs is what the next run begins on.
-use Rattle.std.specs.Prelude.{◌≡◌, refl, ℕ, suc, ◌+◌, ◌≤◌, Bool, List, [], ◌∷◌, ◌++◌, length, filter}
+use Rattle.std.specs.Prelude.{◌≡◌, refl, ℕ, ◌+◌, ◌≤◌, Bool, List, [], ◌∷◌, ◌++◌, length, filter}
 use Rattle.std.proofs.Common.{inl, inr, sym, ap, ◌∙◌}
 use Rattle.std.proofs.lemmas.List.{append-nil}
 use Rattle.std.proofs.lemmas.List.Elements.{filter-append}
@@ -26,7 +26,8 @@ use Rattle.txn_records.specs.declared.records.Record.TheVariants.{Genesis}
 use Rattle.run_recovery.specs.Crashes.{Recovers, earlier}
 use Rattle.run_recovery.specs.Next.{GoesOnFrom, opening_left, records_left}
 use Rattle.run_recovery.specs.Runs.{AreRunDevices, machine_of}
-use Rattle.run_recovery.proofs.LogsLeft.{first_long}
+use Rattle.run_recovery.proofs.LogsLeft.{first_long, grown_long}
+use Rattle.run_recovery.proofs.SaidLogs.{said_grown, said_written}
 
 -- ---- a run writes no Genesis
 
@@ -37,10 +38,6 @@ none_written (written.BatchComplete k a st ∷ rs) = none_written rs
 none_written (written.BatchCommit k ∷ rs) = none_written rs
 none_written (written.ActPrepare t a st ∷ rs) = none_written rs
 none_written (written.ActCommit t m c actors ∷ rs) = none_written rs
-
-grown_long : (n : ℕ) (rss : List (List Record)) (logs : ℕ → List LogRecord) → length (grown_from n rss logs) ≡ length rss
-grown_long n [] logs = refl
-grown_long n (rs ∷ rss) logs = ap suc (grown_long (n + 1) rss logs)
 
 grown_geneses : (n : ℕ) (rss : List (List Record)) (logs : ℕ → List LogRecord) → geneses (grown_from n rss logs) ≡ geneses rss
 grown_geneses n [] logs = refl
@@ -94,6 +91,7 @@ goes_on {p} {w} {o} {es} law one limits devices m images r = record {
   some = began_some (records_left r) w.states same;
   recovered = r.members.recovered;
   same = same;
+  said = λ own. said_grown (earlier devices) more (said_written devices.records w.states o devices.added (rw devices.as_many limits.logs.0) devices.start own);
   begins = λ unspent. inr (record { some = began_some (records_left r) w.states same; recovered = r.members.recovered; same = same; unspent = unspent });
   alone = λ states q begins. begins_alone one (records_left r) w.states states (opening_left r) q same r.members.recovered begins;
 }

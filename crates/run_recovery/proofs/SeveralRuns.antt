@@ -1,5 +1,5 @@
 -- Of runs one behind the other, what the crash of each left is what the next one began with.
-use Rattle.std.specs.Prelude.{◌≡◌, refl, ℕ, zero, suc, ◌+◌, ◌<◌, ◌≤◌, ◌⊎◌, Bool, Option, Some, List, [], ◌∷◌, ◌++◌, length, map, take, get_or, Contains, slice_index_or, IfSome}
+use Rattle.std.specs.Prelude.{◌≡◌, refl, ℕ, zero, suc, ◌+◌, ◌<◌, ◌≤◌, Bool, Option, Some, List, [], ◌∷◌, ◌++◌, length, map, take, get_or, Contains, slice_index_or, IfSome}
 use Rattle.std.specs.List.{AllByRecursion}
 use Rattle.std.proofs.Common.{inl, inr, arith, sym, ap, subst, ◌∙◌}
 use Rattle.std.proofs.lemmas.List.{append-nil, take_all, take_more}
@@ -12,21 +12,24 @@ use Rattle.protocol.specs.Runs.{reached}
 use Rattle.record_log.specs.RecordLogLaws.{OneListOfRecords}
 use Rattle.record_log.specs.Records.{HoldsRecords}
 use Rattle.recovery_laws.specs.Grown.{all_in}
-use Rattle.run_opening.specs.Begins.{AreEmpty, Begins}
-use Rattle.run_opening.specs.Opens.{records_at, with_first}
+use Rattle.run_opening.specs.Begins.{AreOfRuns, Begins, fresh_opening}
+use Rattle.run_opening.specs.Opens.{records_at}
 use Rattle.run_opening.specs.Starts.{IsStart, first_record}
 use Rattle.snap_base.specs.declared.transactions.State.{State}
 use Rattle.snap_outside.specs.Disk.{History, content}
+use Rattle.snap_recover.specs.declared.openings.Kept.{Kept}
 use Rattle.snap_recover.specs.declared.openings.Opening.{Opening}
 use Rattle.snap_work.specs.Kept.{KeepsLimits}
 use Rattle.snap_work.specs.Works.{Work}
 use Rattle.txn_records.specs.declared.records.Record.{Record}
-use Rattle.run_recovery.specs.Beginnings.{BeginsAgain, CrashBefore}
+use Rattle.run_recovery.specs.Beginnings.{BeginsAgain, CrashBefore, HoldEach, KeepsOrBegins}
 use Rattle.run_recovery.specs.Crashes.{CrashOn, Recovers}
 use Rattle.run_recovery.specs.Next.{GoesOnFrom, opening_left, records_left}
 use Rattle.run_recovery.specs.Runs.{AreRunDevices, HasRun, machine_of}
 use Rattle.run_recovery.specs.Schedules.{Schedule}
-use Rattle.run_recovery.specs.Several.{BeganOn, Crash, CutOff, EachIsBehind, Early, GoOn, IsBehind, Left, OfNext, Within}
+use Rattle.run_recovery.specs.Several.{BeganOn, Crash, CutOff, EachIsBehind, Early, FindsRunsLogs, GoOn, IsBehind, Left, LeftBy, OfNext, Within, bytes_left}
+use Rattle.run_recovery.specs.Unbegun.{AreKept}
+use Rattle.run_recovery.proofs.CallsKept.{CallsKeep}
 use Rattle.run_recovery.proofs.LogsLeft.{first_long}
 use Rattle.run_recovery.proofs.NextRuns.{OneOpening}
 
@@ -69,8 +72,9 @@ pub record NextLaws : Type 0 where
       → (m : Moment (machine_of w o) es) (images : ℕ → List ℕ) → (r : Recovers p devices m images) → GoesOnFrom r
   pub opening : OneOpening
   pub list : OneListOfRecords
+  pub calls : CallsKeep
 
--- ---- what a crash leaves
+-- ---- what is left
 
 one_start : OneOpening → (logs : List (List Record)) (states : List State) (o q : Opening) → Begins logs states o → Begins logs states q → q ≡ o
 one_start one logs states o q (inl x) (inl y) = y.1 ∙ sym x.1
@@ -78,15 +82,26 @@ one_start one logs states o q (inl x) (inr y) = absurd (y.some x.0)
 one_start one logs states o q (inr x) (inl y) = absurd (x.some y.0)
 one_start one logs states o q (inr x) (inr y) = one logs q o y.recovered x.recovered
 
-kept_long : {w : Work} {o : Opening} {es : List machine.Event} {failed : ℕ → Bool} {before after : List Device} (devices : AreRunDevices w o es failed before after) (images : ℕ → List ℕ) (b : BeginsAgain devices images) → length b.kept ≡ w.logs
+pub kept_long : {w : Work} {o : Opening} {es : List machine.Event} {failed : ℕ → Bool} {before after : List Device} (devices : AreRunDevices w o es failed before after) (images : ℕ → List ℕ) (b : BeginsAgain devices images) → length b.kept ≡ w.logs
 kept_long {w} devices images b = by b.which
   where
-    by : (b.kept ≡ devices.records) ⊎ (AreEmpty devices.records × (b.kept ≡ with_first devices.records (first_record w.logs w.states ∷ []))) → length b.kept ≡ w.logs
+    by : KeepsOrBegins w.logs w.states devices.records b.kept → length b.kept ≡ w.logs
     by (inl e) = ap (λ (l : List (List Record)). length l) e ∙ devices.as_many
     by (inr new) = ap (λ (l : List (List Record)). length l) new.1 ∙ (first_long devices.records (first_record w.logs w.states ∷ []) ∙ devices.as_many)
 
-left_by : NextLaws → (x : CutOff) → AreRecovered x.work.program → (crash : Crash x.run.devices x.images) → Left x crash
-left_by laws x recovered (Early crash) =
+-- behind the crash
+record AtCrash (x : CutOff) (crash : Crash x.run.devices x.images) : Type 0 where
+  records : List (List Record)
+  opening : Opening
+  by : LeftBy x crash records opening
+  as_many : length records ≡ x.work.logs
+  holds : HoldEach x.work.logs x.images records
+  alone : (q : Opening) → Begins records x.work.states q → q ≡ opening
+  said : AreOfRuns x.run.devices.records → AreOfRuns records
+  committed : (more : List Kept) × (opening.committed ≡ x.opening.committed ++ more)
+
+crashed : NextLaws → (x : CutOff) → AreRecovered x.work.program → (crash : Crash x.run.devices x.images) → AtCrash x crash
+crashed laws x recovered (Early crash) =
     let b = laws.begin x.work x.opening x.events x.failed x.before x.after x.limits x.run.devices x.images crash in
     record {
       records = b.kept;
@@ -95,9 +110,10 @@ left_by laws x recovered (Early crash) =
       as_many = kept_long x.run.devices x.images b;
       holds = b.holds;
       alone = λ q begins. one_start laws.opening b.kept x.work.states x.opening q b.begins begins;
+      said = b.said;
       committed = ([], sym (append-nil x.opening.committed));
     }
-left_by laws x recovered (Within m crash) =
+crashed laws x recovered (Within m crash) =
     let r = recovered x.work x.schedule x.opening x.events x.failed x.before x.after refl x.limits x.run m x.images crash in
     let g = laws.go_on x.work.program x.work x.opening x.events x.failed x.before x.after x.limits x.run.devices m x.images r in
     record {
@@ -107,7 +123,37 @@ left_by laws x recovered (Within m crash) =
       as_many = g.as_many;
       holds = g.holds;
       alone = λ q begins. (g.alone x.work.states q begins).0;
+      said = λ own. inr (g.said own);
       committed = (all_in x.work.logs (left_in (reached (machine_of x.work x.opening) m.events) r.kept) (reached (machine_of x.work x.opening) m.events), refl);
+    }
+
+-- a run begins behind the calls with the opening with which it would have begun before them
+begins_alone : OneOpening → (logs : ℕ) (states : List State) (records : List (List Record)) (images : ℕ → List ℕ) (k : AreKept logs states records images) (o : Opening) → ((q : Opening) → Begins records states q → q ≡ o)
+    → (q : Opening) → Begins k.kept states q → q ≡ o
+begins_alone one logs states records images k o alone q begins = by k.which
+  where
+    by : KeepsOrBegins logs states records k.kept → q ≡ o
+    by (inl same) = alone q (subst (λ (l : List (List Record)). Begins l states q) same begins)
+    by (inr new) =
+        let fresh : Begins records states (fresh_opening states) = inl (new.0, refl) in
+        one_start one k.kept states (fresh_opening states) q (k.begins (fresh_opening states) fresh) begins ∙ alone (fresh_opening states) fresh
+
+-- behind the calls
+left_by : NextLaws → (x : CutOff) → AreRecovered x.work.program → (crash : Crash x.run.devices x.images) → Left x crash
+left_by laws x recovered crash =
+    let c = crashed laws x recovered crash in
+    let k = laws.calls x.work.logs x.work.states c.records x.images x.calls x.limits.logs.0 c.as_many c.holds x.unbegun in
+    record {
+      crashed = c.records;
+      records = k.kept;
+      opening = c.opening;
+      by = c.by;
+      which = k.which;
+      as_many = k.as_many;
+      holds = k.holds;
+      alone = begins_alone laws.opening x.work.logs x.work.states c.records (bytes_left x) k c.opening c.alone;
+      said = λ own. k.said (c.said own);
+      committed = c.committed;
     }
 
 -- ---- what the next one begins with
@@ -138,8 +184,8 @@ began_on laws x y crash left behind = record {
     at : (l : ℕ) → l < x.work.logs → records_at y.run.devices.records l ≡ records_at left.records l
     at l lt =
         let t = behind.told l lt in
-        laws.list (x.images l) (records_at y.run.devices.records l) (records_at left.records l)
-        (held_there (device_at y.before l) t.0 (x.images l) (records_at y.run.devices.records l) t.1 t.2 (y.run.devices.each l (rw behind.logs lt)).held) (left.holds l lt)
+        laws.list (bytes_left x l) (records_at y.run.devices.records l) (records_at left.records l)
+        (held_there (device_at y.before l) t.0 (bytes_left x l) (records_at y.run.devices.records l) t.1 t.2 (y.run.devices.each l (rw behind.logs lt)).held) (left.holds l lt)
 
     same : y.run.devices.records ≡ left.records
     same = same_lists_at y.run.devices.records left.records (y.run.devices.as_many ∙ (behind.logs ∙ sym left.as_many)) (λ l lt. at l (omega (arith, lt, y.run.devices.as_many, behind.logs)))
@@ -153,3 +199,13 @@ go_on_behind laws ps all [] of_them behind = tt
 go_on_behind laws ps all (x ∷ xs) of_them behind =
     let left = left_by laws x (among AreRecovered ps x.work.program all of_them.0) x.crash in
     ((left, next_began laws x x.crash left xs behind.0), go_on_behind laws ps all xs of_them.1 behind.1)
+
+-- ---- logs as runs leave them
+
+next_finds : (x : CutOff) (left : Left x x.crash) (xs : List CutOff) → OfNext (BeganOn left) xs → FindsRunsLogs x → OfNext FindsRunsLogs xs
+next_finds x left [] began own = tt
+next_finds x left (y ∷ ys) began own = subst AreOfRuns (sym began.records) (left.said own)
+
+pub each_finds : (xs : List CutOff) → GoOn xs → OfNext FindsRunsLogs xs → AllByRecursion FindsRunsLogs xs
+each_finds [] on own = tt
+each_finds (x ∷ xs) on own = (own, each_finds xs on.1 (next_finds x on.0.0 xs on.0.1 own))

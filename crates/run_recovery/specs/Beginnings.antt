@@ -5,10 +5,11 @@ use Rattle.log_opening.specs.Devices.{Device, device_at}
 use Rattle.protocol.specs.Events as machine
 use Rattle.record_log.specs.Growth.{groups_ops}
 use Rattle.record_log.specs.Records.{HoldsRecords}
-use Rattle.run_opening.specs.Begins.{AreEmpty, Begins}
+use Rattle.run_opening.specs.Begins.{AreEmpty, AreOfRuns, Begins}
 use Rattle.run_opening.specs.Opens.{first_groups, records_at, with_first}
 use Rattle.run_opening.specs.Starts.{first_record}
 use Rattle.run_recovery.specs.Runs.{AreRunDevices}
+use Rattle.snap_base.specs.declared.transactions.State.{State}
 use Rattle.snap_outside.specs.declared.devices.DevOp.{DevOp}
 use Rattle.snap_outside.specs.Disk.{History, content, disk, disk_after, settled, IsImage}
 use Rattle.snap_recover.specs.declared.openings.Opening.{Opening}
@@ -27,10 +28,19 @@ pub record CrashBefore {w : Work} {o : Opening} {es : List machine.Event} {faile
       × IsFront (made l) (opening_ops (content h) ++ groups_ops (devices.each l lt).end (first_groups l devices.added))
       × IsImage (disk_after (made l) (disk h)) (images l)
 
+-- these records are the same as those; or, only where these are none, log 0 has Genesis alone
+abbrev pub KeepsOrBegins : ℕ → List State → List (List Record) → List (List Record) → Type 0
+KeepsOrBegins logs states records kept = (kept ≡ records) ⊎ (AreEmpty records × (kept ≡ with_first records (first_record logs states ∷ [])))
+
+-- these bytes hold these records, log by log
+abbrev pub HoldEach : ℕ → (ℕ → List ℕ) → List (List Record) → Type 0
+HoldEach logs images records = (l : ℕ) → l < logs → HoldsRecords (images l) (records_at records l)
+
 -- Each log is left with the records of before; or, only where no log held one, log 0 with Genesis alone. A run of the same
--- states begins on them with the same opening.
+-- states begins on them with the same opening. They are as runs leave them, where the run found them so.
 pub record BeginsAgain {w : Work} {o : Opening} {es : List machine.Event} {failed : ℕ → Bool} {before after : List Device} (devices : AreRunDevices w o es failed before after) (images : ℕ → List ℕ) : Type 0 where
   pub kept : List (List Record)
-  pub which : (kept ≡ devices.records) ⊎ (AreEmpty devices.records × (kept ≡ with_first devices.records (first_record w.logs w.states ∷ [])))
-  pub holds : (l : ℕ) → l < w.logs → HoldsRecords (images l) (records_at kept l)
+  pub which : KeepsOrBegins w.logs w.states devices.records kept
+  pub holds : HoldEach w.logs images kept
   pub begins : Begins kept w.states o
+  pub said : AreOfRuns devices.records → AreOfRuns kept

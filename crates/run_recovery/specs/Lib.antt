@@ -4,4 +4,6 @@ pub mod Crashes
 pub mod Beginnings
 pub mod Stands
 pub mod Next
+pub mod Recoverable
+pub mod Unbegun
 pub mod Several

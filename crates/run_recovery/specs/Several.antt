@@ -1,18 +1,17 @@
--- Runs one behind the other: each is cut off by a crash, and each begins on the bytes that the crash before it left. Any work may
--- follow that is of as many logs and of the same states.
-use Rattle.std.specs.Prelude.{◌≡◌, ℕ, ◌<◌, Bool, Some, List, [], ◌∷◌, ◌++◌, length}
-use Rattle.log_opening.specs.Devices.{Device, device_at}
+-- Runs one behind the other: each is cut off by a crash; behind that may come calls in which no run began; and the next run begins on
+-- the bytes that were left. Any work may follow that is of as many logs and of the same states.
+use Rattle.std.specs.Prelude.{◌≡◌, ℕ, Bool, List, [], ◌∷◌, ◌++◌, length}
+use Rattle.log_opening.specs.Devices.{Device}
 use Rattle.protocol.specs.Events as machine
 use Rattle.protocol.specs.Moments.{Moment}
-use Rattle.record_log.specs.Records.{HoldsRecords}
-use Rattle.run_opening.specs.Begins.{Begins}
-use Rattle.run_opening.specs.Opens.{records_at}
-use Rattle.run_recovery.specs.Beginnings.{BeginsAgain, CrashBefore}
+use Rattle.run_opening.specs.Begins.{AreOfRuns, Begins}
+use Rattle.run_recovery.specs.Beginnings.{BeginsAgain, CrashBefore, HoldEach, KeepsOrBegins}
 use Rattle.run_recovery.specs.Crashes.{CrashOn, Recovers}
 use Rattle.run_recovery.specs.Next.{GoesOnFrom, opening_left, records_left}
+use Rattle.run_recovery.specs.Recoverable.{TellBytes}
 use Rattle.run_recovery.specs.Runs.{AreRunDevices, HasRun, machine_of}
 use Rattle.run_recovery.specs.Schedules.{Schedule}
-use Rattle.snap_outside.specs.Disk.{History, content}
+use Rattle.run_recovery.specs.Unbegun.{AreUnbegun, left_last}
 use Rattle.snap_recover.specs.declared.openings.Kept.{Kept}
 use Rattle.snap_recover.specs.declared.openings.Opening.{Opening}
 use Rattle.snap_work.specs.Kept.{KeepsLimits}
@@ -26,7 +25,8 @@ pub data Crash {w : Work} {o : Opening} {es : List machine.Event} {failed : ℕ 
   Early : (crash : CrashBefore devices images) → Crash devices images
   Within : (m : Moment (machine_of w o) es) (crash : CrashOn devices m images) → Crash devices images
 
--- a run of a work that keeps its limits, the crash, and the bytes that it left
+-- A run of a work that keeps its limits; the crash, and the bytes that it left; and the calls behind it in which no run began, with
+-- the bytes that each of them left.
 pub record CutOff : Type 0 where
   pub work : Work
   pub schedule : Schedule
@@ -39,12 +39,18 @@ pub record CutOff : Type 0 where
   pub run : HasRun work schedule opening events failed before after
   pub images : ℕ → List ℕ
   pub crash : Crash run.devices images
+  pub calls : List (ℕ → List ℕ)
+  pub unbegun : AreUnbegun work.logs work.states images calls
 
--- y is of as many logs and of the same states as x, and its devices told the bytes that the crash of x left
+-- the bytes that are left behind it and the calls
+abbrev pub bytes_left : CutOff → ℕ → List ℕ
+bytes_left x = left_last x.images x.calls
+
+-- y is of as many logs and of the same states as x, and its devices told the bytes that were left behind x
 pub record IsBehind (x y : CutOff) : Type 0 where
   pub logs : y.work.logs ≡ x.work.logs
   pub states : y.work.states ≡ x.work.states
-  pub told : (l : ℕ) → l < x.work.logs → (h : History) × ((device_at y.before l).told ≡ Some h) × (content h ≡ x.images l)
+  pub told : TellBytes x.work.logs y.before (bytes_left x)
 
 -- P holds of the first of them, where there is one
 abbrev pub OfNext : (CutOff → Type 0) → List CutOff → Type 0
@@ -58,21 +64,25 @@ EachIsBehind (x ∷ xs) = OfNext (IsBehind x) xs × EachIsBehind xs
 
 -- ---- what it left
 
--- Where it came while the run began, no record is lost, and a run begins as this one did. At a moment of the run its members are
--- left, and a run goes on from them.
+-- What the crash left. Where it came while the run began, no record is lost, and a run begins as this one did. At a moment of the run
+-- its members are left, and a run goes on from them.
 abbrev pub LeftBy : (x : CutOff) → Crash x.run.devices x.images → List (List Record) → Opening → Type 0
 LeftBy x (Early crash) records o = (b : BeginsAgain x.run.devices x.images) × (records ≡ b.kept) × (o ≡ x.opening)
 LeftBy x (Within m crash) records o = (r : Recovers x.work.program x.run.devices m x.images) × GoesOnFrom r × (records ≡ records_left r) × (o ≡ opening_left r)
 
--- The records with which the logs are left, and the opening with which alone a run of the same states begins on them. What was
--- committed before the run stands first in it.
+-- The records with which the crash left the logs, those with which the calls behind it left them, and the opening with which alone a
+-- run of the same states begins on these. What was committed before the run stands first in it. They are as runs leave them, where
+-- the run found them so.
 pub record Left (x : CutOff) (crash : Crash x.run.devices x.images) : Type 0 where
+  pub crashed : List (List Record)
   pub records : List (List Record)
   pub opening : Opening
-  pub by : LeftBy x crash records opening
+  pub by : LeftBy x crash crashed opening
+  pub which : KeepsOrBegins x.work.logs x.work.states crashed records
   pub as_many : length records ≡ x.work.logs
-  pub holds : (l : ℕ) → l < x.work.logs → HoldsRecords (x.images l) (records_at records l)
+  pub holds : HoldEach x.work.logs (bytes_left x) records
   pub alone : (q : Opening) → Begins records x.work.states q → q ≡ opening
+  pub said : AreOfRuns x.run.devices.records → AreOfRuns records
   pub committed : (more : List Kept) × (opening.committed ≡ x.opening.committed ++ more)
 
 -- the run y began on these records, with this opening
@@ -84,3 +94,7 @@ pub record BeganOn {x : CutOff} {crash : Crash x.run.devices x.images} (left : L
 abbrev pub GoOn : List CutOff → Type 0
 GoOn [] = Unit {0}
 GoOn (x ∷ xs) = ((left : Left x x.crash) × OfNext (BeganOn left) xs) × GoOn xs
+
+-- its run found logs as runs leave them
+abbrev pub FindsRunsLogs : CutOff → Type 0
+FindsRunsLogs x = AreOfRuns x.run.devices.records

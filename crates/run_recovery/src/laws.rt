@@ -1,5 +1,5 @@
 //! The laws, of every checked program.
-ghost use Rattle.std.specs.Prelude.{◌≡◌, ℕ, List, Bool, map, Contains};
+ghost use Rattle.std.specs.Prelude.{◌≡◌, ◌≤◌, ℕ, List, Bool, length, map, Contains};
 ghost use Rattle.std.specs.List.{AllByRecursion};
 ghost use Rattle.aml_check.specs.Checked.{methods_of};
 ghost use Rattle.log_opening.specs.Devices.{Device};
@@ -16,17 +16,22 @@ ghost use Rattle.protocol_theorems.specs.Quiet.{AnsweredWhenQuiet};
 ghost use Rattle.protocol_theorems.specs.Sets.{NumbersStand};
 ghost use Rattle.protocol_verdicts.specs.Evidence.{VerdictsStand};
 ghost use Rattle.protocol_verdicts.specs.EvidenceSerial.{VerdictsTell};
-ghost use Rattle.run_recovery.specs.Beginnings.{BeginsAgain, CrashBefore};
+ghost use Rattle.run_opening.specs.Begins.{AreEmpty, AreOfRuns};
+ghost use Rattle.run_recovery.specs.Beginnings.{BeginsAgain, CrashBefore, HoldEach};
 ghost use Rattle.run_recovery.specs.Crashes.{CrashOn, Recovers};
-ghost use Rattle.run_recovery.specs.Next.{GoesOnFrom};
+ghost use Rattle.run_recovery.specs.Next.{GoesOnFrom, opening_left, records_left};
+ghost use Rattle.run_recovery.specs.Recoverable.{AreRecoverable, TellBytes};
 ghost use Rattle.run_recovery.specs.Runs.{AreRunDevices, HasRun, IsNext, machine_of, text_of};
 ghost use Rattle.run_recovery.specs.Schedules.{Schedule, seeded, free};
-ghost use Rattle.run_recovery.specs.Several.{CutOff, EachIsBehind, GoOn};
+ghost use Rattle.run_recovery.specs.Several.{CutOff, EachIsBehind, FindsRunsLogs, GoOn, OfNext};
 ghost use Rattle.run_recovery.specs.Stands.{RunStands};
+ghost use Rattle.run_recovery.specs.Unbegun.{AreKept, AreUnbegun, left_last};
+ghost use Rattle.snap_base.specs.declared.transactions.State.{State};
 ghost use Rattle.aml_tree.specs.Tree.{CheckedMethod};
 ghost use Rattle.snap_recover.specs.declared.openings.Opening.{Opening};
 ghost use Rattle.snap_work.specs.Kept.{KeepsLimits};
 ghost use Rattle.snap_work.specs.Works.{Work};
+ghost use Rattle.txn_records.specs.declared.records.Record.{Record};
 
 use aml_check::Checked;
 use machine_laws::{
@@ -115,8 +120,31 @@ pub fn crashed_runs_go_on()
     one_opening();
 }
 
-/// Of runs one behind the other, each of a work of one of these programs, and each on the bytes that the crash before it left, whether
-/// that came while its run began or at a moment of it: each is recovered, and the next one began with just what was left.
+/// Calls in which no run began, one behind the other, each made to its end or cut off by a crash, lose no record: the logs hold what
+/// they held, or, only where they held none, Genesis alone; and a run of the same states begins on them as it began before.
+pub fn unbegun_calls_lose_nothing()
+    ensures { (logs : ℕ) (states : List State) (records : List (List Record)) (found : ℕ → List ℕ) (calls : List (ℕ → List ℕ)) → 1 ≤ logs → length records ≡ logs → HoldEach logs found records
+        → AreUnbegun logs states found calls → AreKept logs states records (left_last found calls) }
+{
+    one_list_of_records();
+    begins_again();
+}
+
+/// What a run leaves is what the call that prints what the logs recover to goes by, where the run found its logs as runs leave them:
+/// behind a crash at any moment of it, and, once Genesis is written, behind one while it begins. So that call prints the opening with
+/// which the next run begins.
+pub fn what_is_left_is_recoverable()
+    ensures within { (p : List CheckedMethod) (w : Work) (o : Opening) (es : List machine.Event) (failed : ℕ → Bool) (before after : List Device) (devices : AreRunDevices w o es failed before after)
+        → (m : Moment (machine_of w o) es) (images : ℕ → List ℕ) → (r : Recovers p devices m images) → GoesOnFrom r → AreOfRuns devices.records
+        → (again : List Device) → TellBytes w.logs again images → AreRecoverable again (records_left r) (opening_left r) }
+    ensures early { (w : Work) (o : Opening) (es : List machine.Event) (failed : ℕ → Bool) (before after : List Device) (devices : AreRunDevices w o es failed before after)
+        → (images : ℕ → List ℕ) → (b : BeginsAgain devices images) → ¬ AreEmpty b.kept → AreOfRuns devices.records
+        → (again : List Device) → TellBytes w.logs again images → AreRecoverable again b.kept o }
+{}
+
+/// Of runs one behind the other, each of a work of one of these programs, and each on the bytes that were left before it by a crash,
+/// whether that came while its run began or at a moment of it, and by the calls behind the crash in which no run began: each is
+/// recovered, and the next one began with just what was left.
 pub fn runs_go_on_behind_each_other(programs: &[Checked])
     ensures { (xs : List CutOff) → AllByRecursion (λ (x : CutOff). Contains (map methods_of programs.now) x.work.program) xs → EachIsBehind xs → GoOn xs }
 {
@@ -124,10 +152,17 @@ pub fn runs_go_on_behind_each_other(programs: &[Checked])
     crashed_runs_go_on();
     one_opening();
     one_list_of_records();
+    unbegun_calls_lose_nothing();
     for program in programs {
         runs_are_recovered(program);
     }
 }
+
+/// Where the first of runs one behind the other found logs as runs leave them, each of them did: no record, or log 0 says how many
+/// logs there are. So what each of them leaves is recoverable.
+pub fn each_run_finds_logs_as_runs_leave_them()
+    ensures { (xs : List CutOff) → GoOn xs → OfNext FindsRunsLogs xs → AllByRecursion FindsRunsLogs xs }
+{}
 
 /// All of it, of every run of a work that keeps its limits.
 pub fn runs_stand(program: &Checked)

@@ -1,0 +1,56 @@
+-- What a run leaves is what the call that prints what the logs recover to goes by.
+use Rattle.std.specs.Prelude.{◌≡◌, ℕ, suc, ◌<◌, Bool, List, [], ◌∷◌, length, take}
+use Rattle.std.specs.List.{AllZip}
+use Rattle.std.proofs.Common.{inl, inr, arith, sym, subst}
+use Rattle.aml_tree.specs.Tree.{CheckedMethod}
+use Rattle.log_opening.specs.Devices.{Device, device_at}
+use Rattle.log_opening.specs.Kept.{IsSaid}
+use Rattle.protocol.specs.Events as machine
+use Rattle.protocol.specs.Moments.{Moment}
+use Rattle.record_log.specs.Records.{HoldsRecords}
+use Rattle.run_opening.specs.Begins.{AreEmpty, AreOfRuns, Begins}
+use Rattle.run_opening.specs.Opens.{Tells, records_at}
+use Rattle.run_recovery.specs.Beginnings.{BeginsAgain, HoldEach}
+use Rattle.run_recovery.specs.Crashes.{Recovers}
+use Rattle.run_recovery.specs.Next.{GoesOnFrom, opening_left, records_left}
+use Rattle.run_recovery.specs.Recoverable.{AreRecoverable, TellBytes}
+use Rattle.run_recovery.specs.Runs.{AreRunDevices, machine_of}
+use Rattle.snap_base.specs.declared.transactions.State.{State}
+use Rattle.snap_recover.specs.declared.openings.Opening.{Opening}
+use Rattle.snap_recover.specs.Opening.{IsRecovered}
+use Rattle.snap_work.specs.Works.{Work}
+use Rattle.txn_records.specs.declared.records.Record.{Record}
+use Rattle.run_recovery.proofs.SeveralRuns.{kept_long}
+
+-- the devices that tell their records lie on the first ones
+tell_all : (logs : List (List Record)) (ds : List Device) → ((l : ℕ) → l < length logs → Tells (device_at ds l) (records_at logs l)) → AllZip Tells (take (length logs) ds) logs
+tell_all [] ds each = tt
+tell_all (rs ∷ logs) [] each = let none = (each 0 (omega arith)).1 in absurd (cc none)
+tell_all (rs ∷ logs) (d ∷ ds) each = (each 0 (omega arith), tell_all logs ds (λ l lt. each (suc l) (omega (arith, lt))))
+
+tell_each : (logs : ℕ) (ds : List Device) (images : ℕ → List ℕ) (records : List (List Record)) → length records ≡ logs → HoldEach logs images records → TellBytes logs ds images → AllZip Tells (take (length records) ds) records
+tell_each logs ds images records as_many holds tell =
+    tell_all records ds (λ l lt.
+    let here : l < logs = omega (arith, lt, as_many) in
+    let t = tell l here in
+    (t.0, t.1, subst (λ (bytes : List ℕ). HoldsRecords bytes (records_at records l)) (sym t.2) (holds l here)))
+
+pub within : {p : List CheckedMethod} {w : Work} {o : Opening} {es : List machine.Event} {failed : ℕ → Bool} {before after : List Device} (devices : AreRunDevices w o es failed before after) (m : Moment (machine_of w o) es) (images : ℕ → List ℕ)
+    (r : Recovers p devices m images) → GoesOnFrom r → AreOfRuns devices.records → (ds : List Device) → TellBytes w.logs ds images → AreRecoverable ds (records_left r) (opening_left r)
+within {p} {w} devices m images r g own ds tell = record { said = g.said own; told = tell_each w.logs ds images (records_left r) g.as_many g.holds tell; recovered = g.recovered }
+
+some_recovered : (records : List (List Record)) (states : List State) (o : Opening) → ¬ AreEmpty records → Begins records states o → IsRecovered records o
+some_recovered records states o some (inl fresh) = absurd (some fresh.0)
+some_recovered records states o some (inr on) = on.recovered
+
+some_said : (records : List (List Record)) → ¬ AreEmpty records → AreOfRuns records → IsSaid records
+some_said records some (inl none) = absurd (some none)
+some_said records some (inr said) = said
+
+pub early : {w : Work} {o : Opening} {es : List machine.Event} {failed : ℕ → Bool} {before after : List Device} (devices : AreRunDevices w o es failed before after) (images : ℕ → List ℕ)
+    (b : BeginsAgain devices images) → ¬ AreEmpty b.kept → AreOfRuns devices.records → (ds : List Device) → TellBytes w.logs ds images → AreRecoverable ds b.kept o
+early {w} {o} devices images b some own ds tell = record {
+  said = some_said b.kept some (b.said own);
+  told = tell_each w.logs ds images b.kept (kept_long devices images b) b.holds tell;
+  recovered = some_recovered b.kept w.states o some b.begins;
+}

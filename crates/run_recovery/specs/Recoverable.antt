@@ -1,0 +1,21 @@
+-- What the call that prints what the logs recover to goes by.
+use Rattle.std.specs.Prelude.{◌≡◌, ℕ, ◌<◌, List, length, take, Some}
+use Rattle.std.specs.List.{AllZip}
+use Rattle.log_opening.specs.Devices.{Device, device_at}
+use Rattle.log_opening.specs.Kept.{IsSaid}
+use Rattle.run_opening.specs.Opens.{Tells}
+use Rattle.snap_outside.specs.Disk.{History, content}
+use Rattle.snap_recover.specs.declared.openings.Opening.{Opening}
+use Rattle.snap_recover.specs.Opening.{IsRecovered}
+use Rattle.txn_records.specs.declared.records.Record.{Record}
+
+-- Log 0 says how many logs there are; their devices, the first ones of these, tell that they hold these records; and the records
+-- recover to the opening.
+pub record AreRecoverable (devices : List Device) (logs : List (List Record)) (o : Opening) : Type 0 where
+  pub said : IsSaid logs
+  pub told : AllZip Tells (take (length logs) devices) logs
+  pub recovered : IsRecovered logs o
+
+-- the devices of so many logs tell these bytes
+abbrev pub TellBytes : ℕ → List Device → (ℕ → List ℕ) → Type 0
+TellBytes logs devices images = (l : ℕ) → l < logs → (h : History) × ((device_at devices l).told ≡ Some h) × (content h ≡ images l)
