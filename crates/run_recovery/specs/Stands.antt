@@ -23,23 +23,28 @@ use Rattle.snap_work.specs.Works.{Work}
 use Rattle.run_recovery.specs.Schedules.{Schedule}
 
 pub record RunStands {w : Work} {schedule : Schedule} {o : Opening} {es : List machine.Event} {failed : ℕ → Bool} {before after : List Device} (run : HasRun w schedule o es failed before after) : Type 0 where
-  -- its committed transactions, one by one in the order of their places as the language means each, give the results that they
-  -- had; and where it has ended the actors' states are those that this leaves
+  -- Its committed transactions, one by one in the order of their places as the language means each, give the results that they had;
+  -- each of them did what the language means of it alone, on the states that it found; those that are told that they committed give
+  -- theirs with nobody else, also where it stopped early; and where it has ended the actors' states are those that this leaves.
   pub committed : CommittedAsMeant w.program (machine_of w o) (finish_of w.program (text_of w o)) (reached (machine_of w o) es) (history (machine_of w o) es)
-  -- no two of its places are equal; on each actor they rise in the order in which who committed was placed there; and where it has
-  -- ended all that committed are told so
+  -- No two of their places are equal; on each actor, in the order in which they were placed there, places rise and states link, from
+  -- the state that it began with; and where it has ended each of them is told its place and its result.
   pub order : OrderHolds (machine_of w o) (finish_of w.program (text_of w o)) (reached (machine_of w o) es) (history (machine_of w o) es)
-  -- who is told that it committed, with nobody else: closed, and serial, also where the run stopped early
+  -- Those that are told that they committed, and nobody else: with each of them all that committed and was placed before it, and one by
+  -- one in the order of their places they give their results. It holds also where the run stopped early.
   pub sure : ToldStands (machine_of w o) (finish_of w.program (text_of w o)) (reached (machine_of w o) es) (history (machine_of w o) es)
-  -- who is told a place is told what it means there, and so is who failed with its batch
+  -- Who is told a place is told what it means there, behind those before it. Who failed with its batch does so in the language's own
+  -- words: behind the settled batches below it and the ACTs with a value and a number below the one told, its batch's PACTs by tid
+  -- give a value each up to it, and it fails with the code told.
   pub told : VerdictsAsMeant w.program (machine_of w o) (finish_of w.program (text_of w o)) es
-  -- each verdict has its evidence in the events of the run, and stays
+  -- Each verdict has its evidence in the events of the run, and stays. Who was given up between two batches was so by an event behind
+  -- which the first is the greatest of those before it, and the second the least of those behind it.
   pub evidence : VerdictsStand (machine_of w o) (finish_of w.program (text_of w o)) es
-  -- who failed with its batch fails so in a serial run, and who was taken along is told who failed
+  -- who was taken along is told who failed with that batch; and what each verdict tells of the serial runs of the machine's code
   pub codes : VerdictsTell (machine_of w o) (finish_of w.program (text_of w o)) es
-  -- the two numbers of an ACT are the ends of the sets of batches before it and behind it
+  -- the two numbers of an ACT are the ends of its sets: the greatest of the batches before it, and the least of those behind it
   pub numbers : NumbersStand (machine_of w o) (finish_of w.program (text_of w o)) (reached (machine_of w o) es) (history (machine_of w o) es)
-  -- it has at most so many events, and a number falls at each
+  -- it has at most 1,024 events for each transaction: a number that opens so falls at each of them
   pub ends : RunsEnd (machine_of w o) (finish_of w.program (text_of w o)) es
   -- where it has ended all is answered: each transaction was submitted and replied to, and nothing is under way any more
   pub answered : AnsweredWhenQuiet (machine_of w o) (finish_of w.program (text_of w o)) (reached (machine_of w o) es) (history (machine_of w o) es)
@@ -47,5 +52,5 @@ pub record RunStands {w : Work} {schedule : Schedule} {o : Opening} {es : List m
   pub begins : (images : ℕ → List ℕ) → CrashBefore run.devices images → BeginsAgain run.devices images
   -- whatever a crash leaves at any moment of it recovers
   pub recovers : (m : Moment (machine_of w o) es) (images : ℕ → List ℕ) → CrashOn run.devices m images → Recovers w.program run.devices m images
-  -- and what it leaves is what the next run goes on from
+  -- and what it leaves is what the next run goes on from, and what the call that prints what the logs recover to goes by
   pub goes_on : (m : Moment (machine_of w o) es) (images : ℕ → List ℕ) → (r : Recovers w.program run.devices m images) → GoesOnFrom r
