@@ -7,5 +7,6 @@ mod statuses;
 mod summaries;
 
 pub use lines::{actor_line, end_line, recovered_line, reply_line};
+pub use snap_recover::{LogCause, What};
 pub use statuses::{Status, status_line};
 pub use summaries::{Summary, summary_line};
