@@ -23,8 +23,8 @@ use Rattle.std.proofs.KnownBytes.{Appends-nil}
 use Rattle.turn_table.specs.Places.{values, replaced}
 use Rattle.turn_table.specs.Runs.{May, Run}
 use Rattle.crew_parts.proofs.Replacing.{as_long, replaced_tells, covered_are_shown, goes_as_many, came_from}
-use Rattle.crew_parts.proofs.PartsStay.{log_stays, part_stays, same_log_at}
-use Rattle.crew_parts.proofs.Outsides.{due_goes, due_none, due_stays, journal_goes, journal_stays, no_group, no_line, output_goes, output_stays}
+use Rattle.crew_parts.proofs.PartsStay.{desk_is, log_stays, part_stays, same_log_at}
+use Rattle.crew_parts.proofs.Outsides.{VerdictsGoOn, due_goes, due_none, due_stays, journal_goes, journal_stays, no_group, no_line, output_goes, output_stays}
 use Rattle.run_journals.proofs.Driving.{driven_same}
 
 one_more : (w : Fixed Rest) (es : List Event) (e : Event) (s : Machine Rest) → EachAllowed w es s → IsAllowed w e (state_after w es s) → EachAllowed w (es ++ e ∷ []) s
@@ -42,6 +42,7 @@ module _
     (leaves : (e : Event) (s : Machine Rest) → HasLogs w s → LeavesOthers w e s)
     (grow : GroupsGrow w)
     (replies : (es : List Event) → IsRun w es → RepliesGrow w es)
+    (tell : (es : List Event) (e : Event) → IsRun w (es ++ e ∷ []) → VerdictsGoOn w es (es ++ e ∷ []))
   where
     run_goes : (done : Bool) (es : List Event) (e : Event) → IsRun w es → IsAllowed w e (reached w es) → IsRun w (es ++ added done e)
     run_goes true es e run ok = one_more w es e (opening w) run ok
@@ -50,6 +51,10 @@ module _
     state_is : (done : Bool) (es : List Event) (e : Event) → reached w (es ++ added done e) ≡ behind w done e (reached w es)
     state_is true es e = behind_one w es e (opening w)
     state_is false es e = ap (reached w) (append-nil es)
+
+    tells_on : (done : Bool) (es : List Event) (e : Event) → IsRun w (es ++ added done e) → VerdictsGoOn w es (es ++ added done e)
+    tells_on true es e run = tell es e run
+    tells_on false es e run = subst (VerdictsGoOn w es) (sym (append-nil es)) (λ n v h. h)
 
     -- what it does not touch stays
     stays : (done : Bool) (e : Event) (s : Machine Rest) (i : ℕ) → HasLogs w s → is_among i (footprint w.text.logs e) ≡ false → part (behind w done e s) i ≡ part s i
@@ -99,7 +104,8 @@ module _
             output = λ x y at now. elim (tells desk y now) [
               | inl to ↦ (let old = from desk y to in
                   output_goes w es e (replies es come.run) ok.0 done x.beside.output old.0.beside.output y.beside.output (come.output x old.0 at old.1) (old.2.output refl))
-              | inr here ↦ output_stays w es e (replies es come.run) ok.0 done x.beside.output y.beside.output (no_line w es w.text.logs e here.1) (come.output x y at here.0)
+              | inr here ↦ output_stays w es e (replies es come.run) ok.0 done (desk_is s (reached w new) (sym (same desk here.1))) (tells_on done es e run) (no_line w es w.text.logs e here.1)
+                  x.beside.output y.beside.output (come.output x y at here.0)
             ];
           }
 

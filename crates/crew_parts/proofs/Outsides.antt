@@ -1,5 +1,5 @@
 -- Journals and the output along a run.
-use Rattle.std.proofs.Common.{◌≡◌, ℕ, ◌≤◌, ◌==◌, if◌then◌else◌, inl, inr, Bool, true, false, Option, None, Some, is_some, List, [], ◌∷◌, ◌++◌, length, nat_lt, slice_get, refl, sym, ap, subst, ◌∙◌, arith, append_assoc, append-nil}
+use Rattle.std.proofs.Common.{◌≡◌, ℕ, ◌≤◌, ◌==◌, not, if◌then◌else◌, inl, inr, Bool, true, false, Option, None, Some, is_some, List, [], ◌∷◌, ◌++◌, length, nat_lt, slice_get, refl, sym, ap, subst, ◌∙◌, arith, append-nil}
 use Rattle.std.specs.Io.KnownBytes.{Appends}
 use Rattle.std.proofs.KnownBytes.{Appends-trans}
 use Rattle.std.proofs.lemmas.Bool.{eqb-false, or_parts, true≢false}
@@ -13,14 +13,17 @@ use Rattle.protocol.specs.Conditions.{AllTrue, IsAllowed, conditions}
 use Rattle.protocol.specs.Effects.{log_at}
 use Rattle.protocol.specs.Events.{Event, Sync, Reply, desk, log, footprint}
 use Rattle.protocol.specs.Fixed.{Fixed}
-use Rattle.protocol.specs.Parts.{Log, Machine}
+use Rattle.protocol.specs.Parts.{Desk, Log, Machine}
 use Rattle.protocol.specs.Runs.{reached}
+use Rattle.protocol.specs.Verdicts.{verdict}
 use Rattle.protocol.specs.Words.{holds, is_among}
 use Rattle.run_outputs.specs.Groups.{group_by, group_behind, groups_of, waiting}
 use Rattle.run_outputs.specs.Laws.{GroupsGrow, RepliesGrow, line_by}
-use Rattle.run_outputs.specs.Lines.{replies_text}
+use Rattle.run_outputs.specs.Lines.{line_in, line_of, replies_text}
+use Rattle.crew_parts.proofs.Replacing.{some_of}
 use Rattle.run_journals.specs.Driven.{IsDriven}
 use Rattle.run_journals.proofs.Driving.{driven_join}
+use Rattle.snap_base.specs.declared.verdicts.Verdict.{Verdict}
 use Rattle.snap_outside.specs.Causes.{Rose}
 use Rattle.txn_records.specs.declared.records.Record.{Record}
 
@@ -114,6 +117,21 @@ due_none w l s j ready = subst (IsStillDue w s l) (sym ready.is) (λ shut. absur
 
 -- ---- the output
 
+-- what becomes of a transaction stays, from the first events to the others
+abbrev pub VerdictsGoOn : Fixed Rest → List Event → List Event → Type 0
+VerdictsGoOn w es ds = (n : ℕ) (v : Verdict) → verdict n (reached w es).book (reached w es).desk ≡ Some v → verdict n (reached w ds).book (reached w ds).desk ≡ Some v
+
+-- A reply that is allowed stays so, with its line, where the desk and what is told stay.
+reply_stays : (w : Fixed Rest) (es ds : List Event) (tx : ℕ) → (reached w es).desk ≡ (reached w ds).desk → VerdictsGoOn w es ds → IsAllowed w (Reply tx) (reached w es)
+    → IsAllowed w (Reply tx) (reached w ds) × (line_in (reached w ds) tx ≡ line_in (reached w es) tx)
+unfolding conditions
+reply_stays w es ds tx same go ok =
+    let told = some_of (verdict tx (reached w es).book (reached w es).desk) ok.1.0 in
+    let still = go tx told.0 told.1 in (
+      (subst (λ (d : Desk). holds not (slice_get d.replied tx) ≡ true) same ok.0, (ap is_some still, tt)),
+      ap (line_of tx) (still ∙ sym told.1),
+    )
+
 rose_on : (a b c : ℕ) → a ≤ b → Rose b c → Rose a c
 rose_on a b c later rose = omega (arith, later, rose)
 
@@ -138,14 +156,11 @@ module _ (w : Fixed Rest) (es : List Event) (e : Event) (replies : RepliesGrow w
   printed_goes false a b c later took goes = (
     omega (arith, later, goes.later),
     subst (λ z. Printed z w (es ++ []) a c) (sym goes.failed) (record {
-      first = es;
-      more = [];
-      is = refl;
       tx = goes.tx;
-      allowed = subst (λ d. IsAllowed w d (reached w es)) goes.is allowed;
+      allowed = subst (λ ds. IsAllowed w (Reply goes.tx) (reached w ds)) (sym (append-nil es)) (subst (λ d. IsAllowed w d (reached w es)) goes.is allowed);
       front = goes.front;
       rest = goes.rest;
-      line = goes.line;
+      line = subst (λ ds. line_in (reached w ds) goes.tx ≡ goes.front ++ goes.rest) (sym (append-nil es)) goes.line;
       taken = subst (λ ds. Appends a.taken c.taken (replies_text w ds ++ goes.front)) (sym (append-nil es))
           (Appends-trans a.taken b.taken c.taken (replies_text w es) goes.front took goes.taken);
       rose = rose_on a.faults b.faults c.faults later goes.rose;
@@ -163,22 +178,22 @@ module _ (w : Fixed Rest) (es : List Event) (e : Event) (replies : RepliesGrow w
   text_stays true none = replies e allowed ∙ (ap (λ l. replies_text w es ++ l) none ∙ append-nil (replies_text w es))
   text_stays false none = ap (replies_text w) (append-nil es)
 
-  printed_stays : (done failed : Bool) (a b : OutputState) → line_by w es e ≡ [] → Printed failed w es a b → Printed failed w (es ++ added done e) a b
-  printed_stays done true a b none is = record {
-    first = is.first;
-    more = is.more ++ added done e;
-    is = ap (λ ds. ds ++ added done e) is.is ∙ append_assoc is.first is.more (added done e);
-    tx = is.tx;
-    allowed = is.allowed;
-    front = is.front;
-    rest = is.rest;
-    line = is.line;
-    taken = subst (λ l. Appends a.taken b.taken (l ++ is.front)) (sym (text_stays done none)) is.taken;
-    rose = is.rose;
-  }
-  printed_stays done false a b none is = subst (Appends a.taken b.taken) (sym (text_stays done none)) is
+  module _ (done : Bool) (same : (reached w es).desk ≡ (reached w (es ++ added done e)).desk) (go : VerdictsGoOn w es (es ++ added done e)) (none : line_by w es e ≡ []) where
+    printed_stays : (failed : Bool) (a b : OutputState) → Printed failed w es a b → Printed failed w (es ++ added done e) a b
+    printed_stays true a b is =
+        let still = reply_stays w es (es ++ added done e) is.tx same go is.allowed in
+        record {
+          tx = is.tx;
+          allowed = still.0;
+          front = is.front;
+          rest = is.rest;
+          line = still.1 ∙ is.line;
+          taken = subst (λ l. Appends a.taken b.taken (l ++ is.front)) (sym (text_stays done none)) is.taken;
+          rose = is.rose;
+        }
+    printed_stays false a b is = subst (Appends a.taken b.taken) (sym (text_stays done none)) is
 
-  pub output_stays : (done : Bool) (o0 o1 : Option OutputState) → line_by w es e ≡ [] → OutputIs w es o0 o1 → OutputIs w (es ++ added done e) o0 o1
-  output_stays done None o1 none is = absurd is
-  output_stays done (Some a) None none is = absurd is
-  output_stays done (Some a) (Some b) none is = (is.0, printed_stays done b.failed a b none is.1)
+    pub output_stays : (o0 o1 : Option OutputState) → OutputIs w es o0 o1 → OutputIs w (es ++ added done e) o0 o1
+    output_stays None o1 is = absurd is
+    output_stays (Some a) None is = absurd is
+    output_stays (Some a) (Some b) is = (is.0, printed_stays b.failed a b is.1)

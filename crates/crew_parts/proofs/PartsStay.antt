@@ -18,7 +18,7 @@ book_is s t e = cc e
 post_is : (s t : Machine Rest) → part s 2 ≡ part t 2 → s.post ≡ t.post
 post_is s t e = cc e
 
-desk_is : (s t : Machine Rest) → part s 3 ≡ part t 3 → s.desk ≡ t.desk
+pub desk_is : (s t : Machine Rest) → part s 3 ≡ part t 3 → s.desk ≡ t.desk
 desk_is s t e = cc e
 
 same_log : (x y : Option Log) → option_map {U = Part Rest} LogPart x ≡ option_map LogPart y → x ≡ y

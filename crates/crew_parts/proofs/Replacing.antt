@@ -57,7 +57,7 @@ replaced_tells xs (j ∷ js) (z ∷ zs) i y many e = elim (replaced_tells (slice
   ]
 ]
 
-some_of : {X : Type 0} (o : Option X) → IsSome o → (x : X) × (o ≡ Some x)
+pub some_of : {X : Type 0} (o : Option X) → IsSome o → (x : X) × (o ≡ Some x)
 some_of None h = absurd (true≢false (sym h))
 some_of (Some x) h = (x, refl)
 

@@ -67,16 +67,13 @@ abbrev pub IsStillDue : Fixed Rest → Machine Rest → ℕ → Option LogState 
 IsStillDue w s l None = Unit {0}
 IsStillDue w s l (Some j) = j.shut ≡ true → IsAllowed w (Sync l) s
 
--- It took the replies, and a front of the line of one that was allowed after a front of the events, where it failed.
+-- It took the replies, and a front of the line of one that is still to come, where it failed.
 pub record BrokeOff (w : Fixed Rest) (es : List Event) (old new : OutputState) : Type 0 where
-  pub first : List Event
-  pub more : List Event
-  pub is : es ≡ first ++ more
   pub tx : ℕ
-  pub allowed : IsAllowed w (Reply tx) (reached w first)
+  pub allowed : IsAllowed w (Reply tx) (reached w es)
   pub front : List ℕ
   pub rest : List ℕ
-  pub line : line_in (reached w first) tx ≡ front ++ rest
+  pub line : line_in (reached w es) tx ≡ front ++ rest
   pub taken : Appends old.taken new.taken (replies_text w es ++ front)
   pub rose : Rose old.faults new.faults
 

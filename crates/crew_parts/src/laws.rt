@@ -15,7 +15,7 @@ ghost use Rattle.turn_table.specs.Runs.{Fits, Run};
 
 use crate::shares::Share;
 use aml_slice::Control;
-use machine_laws::texts_have_the_facts;
+use machine_laws::{texts_have_the_facts, verdicts_have_evidence};
 use protocol_laws::events_leave_other_parts;
 use run_journals::runs_of;
 use snap_hand::Tables;
@@ -30,6 +30,7 @@ pub fn acts_are_runs(tables: &Tables)
 {
     runs_of(tables);
     texts_have_the_facts(&tables.work.program);
+    verdicts_have_evidence(&tables.work.program);
     events_leave_other_parts::<Control>();
 }
 

@@ -1,4 +1,4 @@
-use Rattle.std.proofs.Common.{List, [], refl}
+use Rattle.std.proofs.Common.{List, [], ◌∷◌, ◌++◌, refl}
 use Rattle.aml_check.specs.Checked.{methods_of}
 use Rattle.aml_slice.specs.Controls.{Rest}
 use Rattle.core_rows.specs.OnRuns.{HasRun}
@@ -9,6 +9,7 @@ use Rattle.protocol.specs.Parts.{Machine}
 use Rattle.protocol.specs.Runs.{IsRun, reached}
 use Rattle.snap_hand.specs.Tables.{fixed_of, text_of}
 use Rattle.crew_parts.proofs.Coming.{acts_come, begins}
+use Rattle.crew_parts.proofs.Outsides.{VerdictsGoOn}
 use Rattle.crew_parts.proofs.laws.acts_are_runs.Goals as goal
 
 pub returns : goal.returns
@@ -25,4 +26,6 @@ returns c start acts now begun run =
       is_reached = refl;
     } in
     let leaves : (e : Event) (s : Machine Rest) → HasLogs w s → LeavesOthers w e s = λ e s has. c.events_leave_other_parts.ensures w e s has in
-    acts_come w lead runs.logs leaves runs.grow runs.replies start acts [] start now (begins w lead runs.logs leaves runs.grow runs.replies start begun) run
+    let tell : (es : List Event) (e : Event) → IsRun w (es ++ e ∷ []) → VerdictsGoOn w es (es ++ e ∷ []) =
+    λ es e one n v told. (c.verdicts_have_evidence.ensures (text_of t) (es ++ e ∷ []) c.requires one).stay es (e ∷ []) refl n v told in
+    acts_come w lead runs.logs leaves runs.grow runs.replies tell start acts [] start now (begins w lead runs.logs leaves runs.grow runs.replies tell start begun) run
