@@ -2,3 +2,4 @@ mod Replacing
 mod PartsStay
 mod Outsides
 mod Coming
+mod UnderWay

@@ -1,16 +1,16 @@
 //! What follows of a crew's acts. Each is called to cite it.
-ghost use Rattle.std.specs.Prelude.{List, Option, ℕ};
+ghost use Rattle.std.specs.Prelude.{◌≡◌, ◌<◌, Bool, true, List, Option, ℕ};
 ghost use Rattle.crew_parts.specs.Acts.{MayDo, touched};
 ghost use Rattle.core_rows.specs.OnRuns.{HasRun};
 ghost use Rattle.crew_parts.specs.Crews.{Begins, HasCome, Stands, kept};
 ghost use Rattle.crew_parts.specs.Shares.{ShareState};
 ghost use Rattle.crew_parts.specs.declared.acts.Act.{Act};
-ghost use Rattle.crew_parts.specs.Steps.{CrewTable, IsMoment};
+ghost use Rattle.crew_parts.specs.Steps.{CrewTable, FindsMoment, HoldsForSync, IsMoment};
 ghost use Rattle.snap_hand.specs.Tables.{AreTables, fixed_of};
 ghost use Rattle.protocol.specs.Events as machine;
 ghost use Rattle.protocol.specs.Runs.{IsRun, reached};
 ghost use Rattle.turn_table.specs.Places.{IsIdle};
-ghost use Rattle.turn_table.specs.Rule.{Kept};
+ghost use Rattle.turn_table.specs.Rule.{IsLater, Kept};
 ghost use Rattle.turn_table.specs.Runs.{Fits, Run};
 
 use crate::shares::Share;
@@ -20,7 +20,7 @@ use protocol_laws::events_leave_other_parts;
 use run_journals::runs_of;
 use snap_hand::Tables;
 use snap_outside::{LogDev, Sink};
-use turn_table::one_view_holds_it;
+use turn_table::{histories_go_on, one_view_holds_it, runs_join, what_is_held_is_left};
 
 /// Whatever acts lead from a beginning to some shares, those of their events that happened are a run of the machine, of whose
 /// state these are all parts; the journals got the groups of its Syncs, and the output the lines of its replies.
@@ -41,6 +41,20 @@ pub fn steps_are_moments<D: LogDev + Drop, O: Sink + Drop>(tables: &Tables)
 {
     acts_are_runs(tables);
     one_view_holds_it::<Share<D, O>>(tables);
+}
+
+/// What a crash finds at a step of a crew's table is a moment of the run that is recorded at a later one: behind the acts so far,
+/// with one more append begun on each log that is held for its next Sync.
+pub fn crashes_find_moments<D: LogDev + Drop, O: Sink + Drop>(tables: &Tables)
+    requires { AreTables tables.now }
+    ensures { (start : List ShareState) (s u : CrewTable) (begun : ℕ → Bool) (now : Kept (touched tables.now) (MayDo tables.now) start s) (end : Kept (touched tables.now) (MayDo tables.now) start u) → Begins (fixed_of tables.now) start → IsLater s u →
+        ((l : ℕ) → begun l ≡ true → (l < (fixed_of tables.now).text.logs) × HoldsForSync tables.now start s u l) → FindsMoment tables.now start s u now end begun }
+{
+    acts_are_runs(tables);
+    runs_lead(tables);
+    histories_go_on::<Share<D, O>>(tables);
+    runs_join::<Share<D, O>>(tables);
+    what_is_held_is_left::<Share<D, O>>(tables);
 }
 
 /// Every run of the text leads to a state of which the calls of the rows may be asked.

@@ -12,5 +12,5 @@ mod shares;
 
 pub use acts::Act;
 pub use besides::Beside;
-pub use laws::{acts_are_runs, passes_stand, runs_lead, steps_are_moments};
+pub use laws::{acts_are_runs, crashes_find_moments, passes_stand, runs_lead, steps_are_moments};
 pub use shares::Share;
