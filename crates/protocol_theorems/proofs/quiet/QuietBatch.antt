@@ -1,15 +1,15 @@
 -- A batch that is not over waits for a smaller batch, or for an ACT that stands ahead of it, or an event is allowed.
-use Rattle.std.specs.Prelude.{◌≡◌, refl, ℕ, zero, suc, ◌<◌, ◌%◌, ◌==◌, nat_lt, nat_le, not, Bool, true, false, ◌&&◌, ◌||◌, if◌then◌else◌, Option, Some, None, is_some, List, [], ◌∷◌, length, find, slice_get}
+use Rattle.std.specs.Prelude.{◌≡◌, refl, ℕ, zero, suc, ◌<◌, ◌%◌, ◌==◌, nat_le, not, Bool, true, false, ◌&&◌, ◌||◌, if◌then◌else◌, Option, Some, None, is_some, List, [], ◌∷◌, length, find, slice_get}
 use Rattle.std.specs.List.{AllByRecursion, list_any, list_all}
 use Rattle.std.proofs.Common.{arith, sym, ap, subst, inl, inr, ◌∙◌}
-use Rattle.std.proofs.lemmas.Bool.{and_parts, or_cases, true≢false, eqb-true, eq-eqb, ltb-true, le-leb, cases_Bool, cases_lt, not-true}
+use Rattle.std.proofs.lemmas.Bool.{and_parts, or_cases, true≢false, eqb-true, eq-eqb, le-leb, cases_Bool, cases_lt, not-true}
 use Rattle.snap_base.specs.declared.transactions.TxResult.{TxResult}
 use Rattle.snap_base.specs.declared.transactions.TxResult.TheVariants.{Value, Fail}
 use Rattle.protocol.specs.Fixed.{Fixed}
 use Rattle.protocol.specs.Records.{is_info, is_complete}
 use Rattle.protocol.specs.Parts.{Act, Batch, Declared, Pact, Stage, Formed, Committing, Settled, SubBatch, PlacedBatch, Slot, Who, OfBatch, OfAct, Entry, BatchEntry, ActEntry, Machine}
 use Rattle.protocol.specs.Events.{Arrive, Take, Run, Close, Complete, Note, Commit, Abort}
-use Rattle.protocol.specs.Words.{is_empty, is_among, holds, is_aborted, is_doomed, is_value, is_formed, is_committing, is_settled, is_open, is_live_batch, is_live_act, is_next_to_commit, first_failed, act_of, joined_of, sub_of, waiting_of, batch_of, declared_of, names_pact, pact_result, names_slot, is_entry_of, is_batch_entry, is_clear, is_turn_of, has_undone, has_entry, has_act, is_complete_batch, is_all_done, ahead, batches_on}
+use Rattle.protocol.specs.Words.{is_empty, is_among, holds, is_aborted, is_doomed, is_value, is_formed, is_committing, is_settled, is_open, is_live_batch, is_next_to_commit, first_failed, act_of, joined_of, sub_of, waiting_of, batch_of, declared_of, names_pact, pact_result, names_slot, is_entry_of, is_batch_entry, is_clear, is_turn_of, has_undone, has_entry, has_act, is_complete_batch, is_all_done, ahead, batches_on}
 use Rattle.protocol.specs.Conditions.{conditions, epoch}
 use Rattle.protocol.specs.Effects.{cell_at, log_at, no_cell}
 use Rattle.protocol.specs.Runs.{IsQuiet}

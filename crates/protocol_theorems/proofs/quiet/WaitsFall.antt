@@ -1,5 +1,5 @@
 -- Who is waited for is lower, so nobody waits in a circle.
-use Rattle.std.specs.Prelude.{◌≡◌, ℕ, ◌<◌, ◌≤◌, ◌==◌, nat_lt, Bool, true, false, ◌&&◌, ◌||◌, ◌⊎◌, Option, Some, is_some, List, [], ◌∷◌, ◌++◌}
+use Rattle.std.specs.Prelude.{◌≡◌, ℕ, ◌<◌, ◌≤◌, ◌==◌, nat_lt, true, false, ◌&&◌, ◌||◌, ◌⊎◌, Some, is_some, List, [], ◌∷◌, ◌++◌}
 use Rattle.std.proofs.Common.{arith, sym, ap, subst, inl, inr, ◌∙◌}
 use Rattle.std.proofs.lemmas.Bool.{and_parts, or_cases, true≢false, eqb-true, ltb-true, not-true, cases_lt}
 use Rattle.protocol.specs.Fixed.{Fixed}
@@ -8,7 +8,7 @@ use Rattle.protocol.specs.Words.{holds, is_among, is_doomed, is_live_act, is_liv
 use Rattle.protocol.specs.Effects.{cell_at}
 use Rattle.protocol_theorems.specs.Floors.{number_or_0}
 use Rattle.protocol_theorems.specs.Quiet.{Orderly, is_waiting_act, BeforeBatches, BehindBatches, ActsInOrder, IsAheadOf}
-use Rattle.protocol_theorems.specs.Waits.{IsPending, is_on, is_ahead, StandsAhead, Waits, WaitsFor, IsLower, number_of, WaitsAlong}
+use Rattle.protocol_theorems.specs.Waits.{IsPending, is_ahead, WaitsFor, IsLower, number_of, WaitsAlong}
 use Rattle.protocol_laws.proofs.first.PairsFound.{found_tid}
 use Rattle.protocol_theorems.proofs.quiet.QuietEasy.{passed}
 
