@@ -1,5 +1,5 @@
 -- What is over of an ACT, after every run.
-use Rattle.std.specs.Prelude.{◌≡◌, refl, ℕ, zero, suc, ◌≤◌, ◌==◌, not, Bool, true, false, ◌&&◌, ◌||◌, if◌then◌else◌, Option, Some, None, List, [], ◌∷◌, length, find}
+use Rattle.std.specs.Prelude.{◌≡◌, refl, ℕ, zero, suc, ◌==◌, not, Bool, true, false, if◌then◌else◌, Option, Some, None, List, [], ◌∷◌, length, find}
 use Rattle.std.specs.List.{list_all}
 use Rattle.std.proofs.Common.{arith, sym, ap, ◌∙◌}
 use Rattle.std.proofs.lemmas.Bool.{and_parts, or_right}
@@ -10,9 +10,8 @@ use Rattle.protocol.specs.Facts.{Alone}
 use Rattle.protocol.specs.Fixed.{Fixed, IsText}
 use Rattle.protocol.specs.Parts.{Act, Joined, Machine}
 use Rattle.protocol.specs.Events.{Event}
-use Rattle.protocol.specs.Words.{holds, act_of, joined_of, is_decided, is_sealed, is_value}
-use Rattle.protocol.specs.Conditions.{IsAllowed}
-use Rattle.protocol.specs.Effects.{after, no_log}
+use Rattle.protocol.specs.Words.{holds, act_of, joined_of, is_decided, is_sealed}
+use Rattle.protocol.specs.Effects.{no_log}
 use Rattle.protocol.specs.History.{history}
 use Rattle.protocol.specs.Laws.{AfterEveryRunWithHistory}
 use Rattle.protocol.specs.Rests.{IsRest, IsTxIn}
