@@ -1,6 +1,6 @@
 //! What has to be alike.
 
-use footprint_steps::FootprintCore;
+use footprint_rows::FootprintCore;
 use ready_list::ReadyList;
 use snap_base::{ActorId, TxNo};
 use snap_core::Core;

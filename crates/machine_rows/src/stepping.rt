@@ -3,7 +3,7 @@
 use crate::likeness::{are_same, tell_the_same};
 use crate::texts::tables_of;
 use core_events::Event;
-use footprint_steps::{FootprintCore, is_listed};
+use footprint_rows::{FootprintCore, is_listed};
 use rand_core::utils::NextWord;
 use rand_pcg::Pcg32;
 use ready_list::ReadyList;

@@ -1,8 +1,8 @@
 use Rattle.std.proofs.Common.{subst}
 use Rattle.core_events.specs.Meant.{event_meant}
 use Rattle.snap_hand.specs.Tables.{fixed_of}
-use Rattle.footprint_steps.proofs.Moved.{AreGone, both_after}
-use Rattle.footprint_steps.proofs.steps.answer_apart.Goals as goal
+use Rattle.footprint_rows.proofs.Moved.{AreGone, both_after}
+use Rattle.footprint_rows.proofs.steps.answer_apart.Goals as goal
 
 pub move_parts-requires-clause-both : goal.move_parts-requires-clause-both
 move_parts-requires-clause-both c =

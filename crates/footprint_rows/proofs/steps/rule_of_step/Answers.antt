@@ -1,7 +1,7 @@
 use Rattle.std.proofs.Common.{inl, inr, sym, subst}
 use Rattle.snap_hand.specs.Hands.{Fits, IsHandOf}
 use Rattle.snap_hand.specs.Tables.{fixed_of}
-use Rattle.footprint_steps.proofs.steps.rule_of_step.Goals as goal
+use Rattle.footprint_rows.proofs.steps.rule_of_step.Goals as goal
 
 pub returns-in-Ok-clause-places : goal.returns-in-Ok-clause-places
 returns-in-Ok-clause-places c = c.in-Ok.ensures.1

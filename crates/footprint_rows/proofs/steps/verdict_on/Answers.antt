@@ -1,5 +1,5 @@
-use Rattle.footprint_steps.proofs.Moved.{has_it}
-use Rattle.footprint_steps.proofs.steps.verdict_on.Goals as goal
+use Rattle.footprint_rows.proofs.Moved.{has_it}
+use Rattle.footprint_rows.proofs.steps.verdict_on.Goals as goal
 
 pub verdict-requires-clause-book : goal.verdict-requires-clause-book
 verdict-requires-clause-book c = has_it c.args.hand.now 1 c.has.result c.has.ensures c.if-not-has.false

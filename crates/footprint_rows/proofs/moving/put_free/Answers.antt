@@ -1,8 +1,8 @@
 use Rattle.std.proofs.Common.{sym, subst}
 use Rattle.snap_hand.specs.Hands.{Fits, IsHandOf}
 use Rattle.snap_hand.specs.Shown.{shown}
-use Rattle.footprint_steps.proofs.Moved.{free_at}
-use Rattle.footprint_steps.proofs.moving.put_free.Goals as goal
+use Rattle.footprint_rows.proofs.Moved.{free_at}
+use Rattle.footprint_rows.proofs.moving.put_free.Goals as goal
 
 pub put-requires-clause-free : goal.put-requires-clause-free
 put-requires-clause-free c = free_at c.args.hand.now c.args.i c.has.result c.places_are_set.ensures.told c.has.ensures c.if-has.false

@@ -1,7 +1,7 @@
 use Rattle.std.proofs.Common.{subst}
 use Rattle.std.specs.List.{AllByRecursion}
 use Rattle.snap_hand.specs.Hands.{Has}
-use Rattle.footprint_steps.proofs.steps.answer_on.Goals as goal
+use Rattle.footprint_rows.proofs.steps.answer_on.Goals as goal
 
 pub refusal-asked-requires-clause-asked : goal.refusal-asked-requires-clause-asked
 refusal-asked-requires-clause-asked c = record {

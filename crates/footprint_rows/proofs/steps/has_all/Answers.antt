@@ -1,7 +1,7 @@
 use Rattle.std.proofs.Common.{arith}
 use Rattle.snap_hand.specs.Hands.{Has}
-use Rattle.footprint_steps.proofs.Moved.{each_more, all_taken, has_it}
-use Rattle.footprint_steps.proofs.steps.has_all.Goals as goal
+use Rattle.footprint_rows.proofs.Moved.{each_more, all_taken, has_it}
+use Rattle.footprint_rows.proofs.steps.has_all.Goals as goal
 
 pub loop-n-preserved : goal.loop-n-preserved
 loop-n-preserved c =

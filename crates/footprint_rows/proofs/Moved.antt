@@ -19,7 +19,7 @@ use Rattle.protocol.specs.Parts.{Log, Cell, Machine}
 use Rattle.protocol.specs.Words.{is_among}
 use Rattle.snap_hand.specs.Hands.{Parts, Fits, Has, IsHandOf, are_there, is_at_hand, is_not_out}
 use Rattle.snap_hand.specs.Shown.{Shown, TheRing, TheBook, ThePost, TheDesk, TheLog, TheCell, part_at, places, without}
-use Rattle.footprint_steps.specs.Footprints.{AreBoth, Goes}
+use Rattle.footprint_rows.specs.Footprints.{AreBoth, Goes}
 
 -- ---- lists
 

@@ -3,7 +3,7 @@ use Rattle.aml_check.specs.Checked.{methods_of}
 use Rattle.machine_laws.specs.Programs.{finish_of}
 use Rattle.protocol.specs.Runs.{opening}
 use Rattle.snap_hand.specs.Tables.{fixed_of, text_of}
-use Rattle.footprint_steps.proofs.steps.FootprintCore.open.Goals as goal
+use Rattle.footprint_rows.proofs.steps.FootprintCore.open.Goals as goal
 
 pub invariant_of-result : goal.invariant_of-result
 invariant_of-result c = record {

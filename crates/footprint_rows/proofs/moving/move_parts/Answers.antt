@@ -2,8 +2,8 @@ use Rattle.std.proofs.Common.{◌≡◌, None, sym, subst, arith}
 use Rattle.snap_hand.specs.Hands.{Fits, IsHandOf}
 use Rattle.snap_hand.specs.Shown.{part_at}
 use Rattle.snap_hand.specs.Tables.{fixed_of}
-use Rattle.footprint_steps.proofs.Moved.{gone_more, all_taken}
-use Rattle.footprint_steps.proofs.moving.move_parts.Goals as goal
+use Rattle.footprint_rows.proofs.Moved.{gone_more, all_taken}
+use Rattle.footprint_rows.proofs.moving.move_parts.Goals as goal
 
 pub loop-n-init : goal.loop-n-init
 loop-n-init c = record { gone = tt; from = c.requires.from; to = c.requires.to; fits = λ s f g. (f, g) }

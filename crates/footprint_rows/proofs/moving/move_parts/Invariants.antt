@@ -3,8 +3,8 @@ use Rattle.protocol.specs.Parts.{Machine}
 use Rattle.aml_slice.specs.Controls.{Rest}
 use Rattle.snap_hand.specs.Hands.{Fits, IsHandOf}
 use Rattle.snap_hand.specs.Tables.{fixed_of}
-use Rattle.footprint_steps.proofs.Moved.{AreGone}
-use Rattle.footprint_steps.proofs.moving.move_parts.Given as goal
+use Rattle.footprint_rows.proofs.Moved.{AreGone}
+use Rattle.footprint_rows.proofs.moving.move_parts.Given as goal
 
 abbrev pub invariant-loop-n : goal.invariant-loop-n
 invariant-loop-n l = record {

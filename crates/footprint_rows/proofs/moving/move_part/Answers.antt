@@ -1,7 +1,7 @@
 use Rattle.std.proofs.Common.{sym}
 use Rattle.snap_hand.specs.Shown.{shown}
 use Rattle.snap_hand.specs.Tables.{fixed_of}
-use Rattle.footprint_steps.proofs.moving.move_part.Goals as goal
+use Rattle.footprint_rows.proofs.moving.move_part.Goals as goal
 
 pub put_free-requires : goal.put_free-requires
 put_free-requires c =

@@ -1,7 +1,7 @@
 use Rattle.std.proofs.Common.{◌+◌, sym, subst}
 use Rattle.snap_hand.specs.Hands.{Has}
-use Rattle.footprint_steps.proofs.Moved.{has_it}
-use Rattle.footprint_steps.proofs.steps.state_on.Goals as goal
+use Rattle.footprint_rows.proofs.Moved.{has_it}
+use Rattle.footprint_rows.proofs.steps.state_on.Goals as goal
 
 pub state-requires-clause-cell : goal.state-requires-clause-cell
 state-requires-clause-cell c =

@@ -2,7 +2,7 @@
 ghost use Rattle.std.specs.Prelude.{◌≡◌, true};
 ghost use Rattle.std.specs.List.{AllByRecursion};
 ghost use Rattle.core_events.specs.Meant.{event_meant};
-ghost use Rattle.footprint_steps.specs.Footprints.{Goes};
+ghost use Rattle.footprint_rows.specs.Footprints.{Goes};
 ghost use Rattle.snap_hand.specs.Hands.{Has, IsHandOf};
 ghost use Rattle.snap_hand.specs.Steps.{MayBeAsked, OnSomeRun};
 ghost use Rattle.snap_hand.specs.Tables.{AreTables, fixed_of};
@@ -43,7 +43,7 @@ impl Drop for FootprintCore {
 }
 
 impl Model for FootprintCore {
-    ghost use Rattle.footprint_steps.specs.Footprints.{IsFootprintCore};
+    ghost use Rattle.footprint_rows.specs.Footprints.{IsFootprintCore};
     ghost use Rattle.snap_hand.specs.Hands.{Parts};
 
     ghost Value = { Parts };

@@ -2,7 +2,7 @@
 ghost use Rattle.std.specs.Prelude.{◌≡◌, None};
 ghost use Rattle.std.specs.List.{AllByRecursion};
 ghost use Rattle.aml_slice.specs.Controls.{Rest};
-ghost use Rattle.footprint_steps.specs.Footprints.{AreBoth};
+ghost use Rattle.footprint_rows.specs.Footprints.{AreBoth};
 ghost use Rattle.protocol.specs.Fixed.{Fixed};
 ghost use Rattle.protocol.specs.Parts.{Machine};
 ghost use Rattle.snap_hand.specs.Hands.{Fits, IsHandOf};
