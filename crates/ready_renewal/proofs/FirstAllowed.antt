@@ -1,5 +1,5 @@
 -- The first of the allowed events, by a list that leaves none of them out.
-use Rattle.std.proofs.Common.{◌≡◌, ◌↔◌, ◌<◌, ◌≤◌, ◌==◌, Bool, true, false, ◌||◌, if◌then◌else◌, Some, Contains, ◌⊎◌, List, [], ◌∷◌, length, filter, slice_get, refl, sym, ap, subst, inl, inr, ◌∙◌, arith}
+use Rattle.std.proofs.Common.{◌≡◌, ◌↔◌, ◌<◌, ◌≤◌, ◌==◌, Bool, true, false, ◌||◌, if◌then◌else◌, None, Some, Contains, ◌⊎◌, List, [], ◌∷◌, length, filter, slice_get, refl, sym, ap, subst, inl, inr, ◌∙◌, arith}
 use Rattle.std.proofs.lemmas.Bool.{eqb-true, eq-eqb}
 use Rattle.aml_slice.specs.Controls.{Rest}
 use Rattle.protocol.specs.Conditions.{IsAllowed, refusal}
@@ -11,7 +11,7 @@ use Rattle.protocol_ready.specs.Ready.{without}
 use Rattle.protocol_ready.proofs.Listing.{from_filter, from_has, has_filter, to_has}
 use Rattle.protocol_ready.proofs.Ordered.{ascends_filter}
 use Rattle.ready_renewal.specs.Asked.{IsAllowedOn, IsRefusedOn}
-use Rattle.ready_renewal.specs.Covering.{Covers, CoversStill, IsFirstOf}
+use Rattle.ready_renewal.specs.Covering.{Covers, CoversStill, IsFirstOf, Sheds}
 use Rattle.snap_hand.specs.Hands.{Parts}
 
 -- ---- lists
@@ -53,7 +53,26 @@ covers_without w h e old list new kept order refused taken still s run fits c = 
   ascends = order e list (still s run fits c).ascends;
 })
 
+pub sheds_none : (w : Fixed Rest) (h : Parts) (es : List Event) → Sheds w h es es
+sheds_none w h es = record { only = λ f c. c; kept = λ f c. inl c }
+
+pub sheds_one : (w : Fixed Rest) (h : Parts) (e : Event) (old list new : List Event)
+    → ((e : Event) (es : List Event) (f : Event) → Contains (without e es) f → Contains es f × (f ≡ e → ⊥))
+    → ((e : Event) (es : List Event) (f : Event) → Contains es f → Contains (without e es) f ⊎ (f ≡ e))
+    → IsRefusedOn w h e → new ≡ without e list → Sheds w h old list → Sheds w h old new
+sheds_one w h e old list new others kept refused taken so_far = subst (Sheds w h old) (sym taken) (record {
+  only = λ f c. so_far.only f (others e list f c).0;
+  kept = λ f c. elim (so_far.kept f c) [
+    | inl a ↦ elim (kept e list f a) [ inl b ↦ inl b | inr q ↦ inr (subst (IsRefusedOn w h) (sym q) refused) ]
+    | inr gone ↦ inr gone
+  ];
+})
+
 -- ---- what is found
+
+pub nothing_left : (es : List Event) → slice_get es 0 ≡ None → es ≡ []
+nothing_left [] h = refl
+nothing_left (x ∷ es) h = absurd (cc h)
 
 first_kept : (p : Event → Bool) (es : List Event) (e : Event) → slice_get es 0 ≡ Some e → p e ≡ true → slice_get (filter p es) 0 ≡ Some e
 first_kept p [] e h q = absurd (cc h)

@@ -1,5 +1,5 @@
 -- Events among which all are that are allowed, and the first of these.
-use Rattle.std.specs.Prelude.{◌≡◌, Some, List, slice_get, Contains}
+use Rattle.std.specs.Prelude.{◌≡◌, ◌⊎◌, Some, List, slice_get, Contains}
 use Rattle.aml_slice.specs.Controls.{Rest}
 use Rattle.core_rows.specs.OnRuns.{HasRun}
 use Rattle.protocol.specs.Conditions.{IsAllowed}
@@ -8,9 +8,10 @@ use Rattle.protocol.specs.Fixed.{Fixed}
 use Rattle.protocol.specs.Parts.{Machine}
 use Rattle.protocol.specs.Runs.{IsQuiet}
 use Rattle.protocol.specs.Schedule.{Ascends, IsEnabled}
+use Rattle.ready_renewal.specs.Asked.{IsAllowedOn, IsRefusedOn}
 use Rattle.snap_hand.specs.Hands.{Parts, Fits}
 
--- in order, and maybe with others, that were allowed before and are refused now
+-- in order, and maybe with others
 pub record Covers (w : Fixed Rest) (s : Machine Rest) (es : List Event) : Type 0 where
   pub all : (f : Event) → IsAllowed w f s → Contains es f
   pub ascends : Ascends es
@@ -34,3 +35,13 @@ IsFirstOf w h es e = (s : Machine Rest) → HasRun w s → Fits h s → Covers w
 -- and there is none
 abbrev pub HasNoFirst : Fixed Rest → Parts → List Event → Type 0
 HasNoFirst w h es = (s : Machine Rest) → HasRun w s → Fits h s → Covers w s es → IsQuiet w s
+
+-- nothing is taken out, and nothing is put in but what is allowed
+pub record Extends (w : Fixed Rest) (h : Parts) (old new : List Event) : Type 0 where
+  pub kept : (f : Event) → Contains old f → Contains new f
+  pub only : (f : Event) → Contains new f → Contains old f ⊎ IsAllowedOn w h f
+
+-- nothing is put in, and nothing is taken out but what is refused
+pub record Sheds (w : Fixed Rest) (h : Parts) (old new : List Event) : Type 0 where
+  pub only : (f : Event) → Contains new f → Contains old f
+  pub kept : (f : Event) → Contains old f → Contains new f ⊎ IsRefusedOn w h f

@@ -1,7 +1,7 @@
 //! The first of the allowed events, by a list that leaves none of them out.
-ghost use Rattle.std.specs.Prelude.{◌≡◌, None, IfSome};
+ghost use Rattle.std.specs.Prelude.{◌≡◌, None, Some, [], IfSome, slice_get};
 ghost use Rattle.core_events.specs.Meant.{event_meant};
-ghost use Rattle.ready_renewal.specs.Covering.{CoversStill, HasNoFirst, IsFirstOf};
+ghost use Rattle.ready_renewal.specs.Covering.{CoversStill, HasNoFirst, IsFirstOf, Sheds};
 ghost use Rattle.snap_hand.specs.Hands.{IsHandOf, IsWhole};
 ghost use Rattle.snap_hand.specs.Steps.{OnSomeRun};
 ghost use Rattle.snap_hand.specs.Tables.{AreTables, fixed_of};
@@ -24,6 +24,11 @@ pub fn first(tables: &Tables, hand: &Hand, list: &mut ReadyList) -> Option<Event
     ensures some { IfSome result (λ e. IsFirstOf (fixed_of tables.now) hand.now list.old.events (event_meant e)) }
     ensures none { result ≡ None → HasNoFirst (fixed_of tables.now) hand.now list.old.events }
     ensures kept { CoversStill (fixed_of tables.now) hand.now list.old.events list.new.events }
+
+    // It is the first of what is left of the list, from which refused ones alone are gone.
+    ensures front { IfSome result (λ e. slice_get list.new.events 0 ≡ Some (event_meant e)) }
+    ensures empty { result ≡ None → list.new.events ≡ [] }
+    ensures passed { Sheds (fixed_of tables.now) hand.now list.old.events list.new.events }
 {
     allowed_or_refused::<Control>();
     events_stay_in_order();

@@ -4,7 +4,7 @@ ghost use Rattle.core_events.specs.Meant.{event_meant};
 ghost use Rattle.protocol.specs.Effects.{after};
 ghost use Rattle.protocol.specs.Parts.{Machine};
 ghost use Rattle.protocol.specs.Schedule.{IsEnabled};
-ghost use Rattle.ready_renewal.specs.Covering.{Covers};
+ghost use Rattle.ready_renewal.specs.Covering.{Covers, Extends};
 ghost use Rattle.snap_hand.specs.Hands.{IsHandOf, IsWhole};
 ghost use Rattle.snap_hand.specs.Steps.{OnSomeRun};
 ghost use Rattle.snap_hand.specs.Tables.{AreTables, fixed_of};
@@ -25,7 +25,7 @@ use touched_events::touched;
 
 /// Makes of all allowed events before the event, which was just taken, all allowed events after it. All parts are at hand, as
 /// they are after it. For want of memory the list is as it was. `news` is for lists that are made on the way: what is in it is
-/// not read, and its room is kept.
+/// not read, and nothing is said of what it has then.
 pub fn renew(
     alloc: Global,
     tables: &Tables,
@@ -69,6 +69,7 @@ pub fn extend(
     requires whole { IsWhole hand.now }
     requires some { OnSomeRun (fixed_of tables.now) hand.now }
     ensures extended { OnOk result ((s : Machine Rest) → IsBehind (fixed_of tables.now) (event_meant e) s hand.now → Covers (fixed_of tables.now) s list.old.events → Covers (fixed_of tables.now) (after (fixed_of tables.now) (event_meant e) s) list.new.events) }
+    ensures only { OnOk result (Extends (fixed_of tables.now) hand.now list.old.events list.new.events) }
     ensures unchanged { OnErr result (list.new.events ≡ list.old.events) }
 {
     runs_go_on::<Control>();

@@ -1,5 +1,5 @@
 -- A core whose hand takes an event, and the run that it has come from.
-use Rattle.std.proofs.Common.{◌≡◌, ℕ, Result, Ok, Err, OnOk, OnErr, IfOk, IfErr, Option, Some, None, map, drop, List, [], ◌∷◌, ◌++◌, slice_get, refl, sym, ap, subst, ◌∙◌}
+use Rattle.std.proofs.Common.{◌≡◌, ℕ, Result, Ok, Err, OnOk, OnErr, IfOk, IfErr, Option, Some, None, map, drop, List, [], ◌∷◌, ◌++◌, slice_get, refl, sym, ap, subst, inl, inr, ◌∙◌}
 use Rattle.std.specs.Prelude.{IfSome}
 use Rattle.std.specs.List.{AllByRecursion}
 use Rattle.aml_slice.specs.Controls.{Rest}
@@ -19,6 +19,8 @@ use Rattle.hand_offers.specs.Offers.{AreOffers}
 use Rattle.ready_list.specs.Order.{Roomed}
 use Rattle.protocol.specs.Runs.{EachAllowed, IsQuiet, IsRun, state_after, reached, opening}
 use Rattle.ready_renewal.specs.Covering.{Covers, CoversStill, HasNoFirst, IsFirst, IsFirstOf}
+use Rattle.ready_renewal.specs.Covering as hands
+use Rattle.snap_core.specs.Kept.{Extends, Sheds}
 use Rattle.snap_core.specs.Cores.{CoreState, IsCore, IsAt, state_at, IsTakenBy, IsRefusalBy, IsNoBy}
 use Rattle.snap_hand.specs.Hands.{Parts, Fits, Has, IsWhole}
 use Rattle.snap_hand.specs.Steps.{MayBeAsked, IsRefusalOn, IsStep}
@@ -157,3 +159,19 @@ module _ (core : CoreState) (t : Tables) (h : Parts) (view : core_of t h ≡ cor
 
   pub still_at : (old new : List Event) → CoversStill (fixed_of t) h old new → (es : List Event) → IsAt core es → Covers (fixed_of core.tables) (state_at core es) old → Covers (fixed_of core.tables) (state_at core es) new
   still_at old new still = where_it_is (λ w s. Covers w s old → Covers w s new) core t h view lead still
+
+-- ---- what is put in and taken out
+
+module _ (core : CoreState) (t : Tables) (h : Parts) (view : core_of t h ≡ core) (lead : (es : List Event) → IsRun (fixed_of t) es → HasRun (fixed_of t) (reached (fixed_of t) es)) (old new : List Event) where
+  pub extends_at : {E : Type 0} (r : Result (Unit {0}) E) → OnOk r (hands.Extends (fixed_of t) h old new) → OnOk r (Extends core old new)
+  extends_at (Err e) more = tt
+  extends_at (Ok _) more = subst (λ z. Extends z old new) view (record {
+    kept = more.kept;
+    only = λ f c. elim (more.only f c) [ inl was ↦ inl was | inr ok ↦ inr (λ es at. ok (reached (fixed_of t) es) (lead es at.run) at.fits) ];
+  })
+
+  pub sheds_at : hands.Sheds (fixed_of t) h old new → Sheds core old new
+  sheds_at less = subst (λ z. Sheds z old new) view (record {
+    only = less.only;
+    kept = λ f c. elim (less.kept f c) [ inl still ↦ inl still | inr gone ↦ inr (λ es at ok. gone (reached (fixed_of t) es) (lead es at.run) at.fits ok) ];
+  })

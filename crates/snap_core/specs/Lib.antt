@@ -1,3 +1,4 @@
 pub mod Cores
 pub mod Apart
 pub mod AllVerdicts
+pub mod Kept

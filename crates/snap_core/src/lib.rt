@@ -14,4 +14,4 @@ mod verdicts;
 
 pub use cores::Core;
 pub use parting::one_core_of_parts;
-pub use snap_hand::{StepNo, Tables};
+pub use snap_hand::{Hand, Part, StepNo, Tables, apply};

@@ -18,3 +18,9 @@ returns-clause-extended c =
     extended w h (event_meant c.args.e) (map event_meant news) old new
     c.runs_go_on.ensures c.allowed_or_refused.ensures c.parts_tell_all.ensures.told c.untouched_stay.ensures c.states_are_sound.ensures
     c.in_ok-touched.ensures more
+
+pub returns-clause-only : goal.returns-clause-only
+returns-clause-only c =
+    let more : IsWith (fixed_of c.args.tables.now) c.args.hand.now (map event_meant c.as_slice.result.now) c.args.list.now.events c.put_in.new.list.events =
+    subst (λ v. IsWith (fixed_of c.args.tables.now) c.args.hand.now (map event_meant c.as_slice.result.now) v c.put_in.new.list.events) c.room.ensures.unchanged c.put_in.ensures in
+    record { kept = more.kept; only = more.only }
