@@ -31,7 +31,7 @@ pub fn first_group_is_written(alloc: Global) -> Result<bool, Memory> {
 }
 
 /// Bytes, and the refusal that opening them gives; or, where there is none, the items that it finds.
-const OPENED: [(&'static [u8], Option<OpenNo>, &[&[u8]]); 10] = [
+const OPENED: [(&'static [u8], Option<OpenNo>, &[&[u8]]); 15] = [
     (&WITH_ITEM, None, &[&ITEM]),
     // cut off, empty, as long as a new log, and a foreign file
     (
@@ -49,7 +49,27 @@ const OPENED: [(&'static [u8], Option<OpenNo>, &[&[u8]]); 10] = [
         &[],
     ),
     (
+        b"\0NAPLOG1\x01\0\0\0\x0b\0\x09\x04\0\0\0\0\0\0\0\x01\0",
+        Some(OpenNo::NotALog { offset: 0 }),
+        &[],
+    ),
+    (
+        b"SNAPLOG1\x01\xff\0\0\x0b\0\x09\x04\0\0\0\0\0\0\0\x01\0",
+        Some(OpenNo::Damage { offset: 8 }),
+        &[],
+    ),
+    (
+        b"SNAPLOG1\x01\0\0\0\x0a\0\x09\x04\0\0\0\0\0\0\0\x01\0",
+        Some(OpenNo::Damage { offset: 8 }),
+        &[],
+    ),
+    (
         b"SNAPLOG1\x01\0\0\0\x0c\0\x09\x04\0\0\0\0\0\0\0\x01\0",
+        Some(OpenNo::Damage { offset: 8 }),
+        &[],
+    ),
+    (
+        b"SNAPLOG1\x01\0\0\0\x0b\0\0\x04\0\0\0\0\0\0\0\x01\0",
         Some(OpenNo::Damage { offset: 8 }),
         &[],
     ),
@@ -63,9 +83,14 @@ const OPENED: [(&'static [u8], Option<OpenNo>, &[&[u8]]); 10] = [
         Some(OpenNo::Damage { offset: 24 }),
         &[],
     ),
-    // a closed gate ends the log before the block
+    // a gate that is not open ends the log before the block, whatever it has in place of a closed gate's 0
     (
         b"SNAPLOG1\0\0\0\0\x0b\0\x09\x04\0\0\0\0\0\0\0\x01\0",
+        None,
+        &[],
+    ),
+    (
+        b"SNAPLOG1\x02\0\0\0\x0b\0\x09\x04\0\0\0\0\0\0\0\x01\0",
         None,
         &[],
     ),
