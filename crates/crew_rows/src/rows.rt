@@ -6,7 +6,7 @@ ghost use Rattle.gate_log.specs.declared.limits.TheConstants.{FARTHEST_END};
 ghost use Rattle.snap_hand.specs.Tables.{AreTables};
 ghost use Rattle.crew_workers.specs.declared.crews.TheConstants.{MOST_WORKERS};
 
-use crate::texts::{BY_HAND, TOTAL, TWO_ACTORS, drawn, tables_of, text_of};
+use crate::texts::{BY_HAND, TOTAL, drawn, tables_of, text_of};
 use aml_serial::run_alone;
 use core_events::Event;
 use crew_host::{CrewEnd, MOST_WORKERS, drive_crew};
@@ -19,10 +19,9 @@ use snap_outside::{FreeGate, Gate, MemLog, MemSink};
 use snap_report::reply_line;
 use std::alloc::Global;
 use std::sync::Wait;
-use std::sync::atomic::{AtomicU64, Ordering};
 use std::test::Fail;
-use std::thread;
 use std::thread::Threads;
+use trace_text::print_event;
 use work_gen::generate;
 
 /// A text has at most so many actors.
@@ -31,9 +30,6 @@ const MOST_ACTORS: u16 = 256;
 /// An append to a log makes so many calls of its device, each of which the device keeps where it succeeds. Opening makes one more
 /// that it does not keep.
 const CALLS_OF_AN_APPEND: usize = 4;
-
-/// How often a slice that waits for another looks for it, at most.
-const PATIENCE: u64 = 20_000_000;
 
 /// Which calls fail: of the device of log 0, of that of log 1, and of the output, by their numbers from 1 on; 0 where none does.
 #[derive(Clone, Copy)]
@@ -345,10 +341,14 @@ fn total(states: &[State]) -> i64 {
     total
 }
 
-/// The place of a transaction that has one.
-fn place_of(verdict: Option<Verdict>) -> Option<Place> {
+/// Where a transaction stands in the serial order and what it gave there, if it has a place.
+pub type Placed = Option<(Place, TxResult)>;
+
+/// What a verdict says of it.
+fn placed_by(verdict: Option<Verdict>) -> Placed {
     match verdict {
-        Some(Verdict::Committed { place, value: _ }) => Some(place),
+        Some(Verdict::Committed { place, value }) => Some((place, TxResult::Value(value))),
+        Some(Verdict::Code { place, code }) => Some((place, TxResult::Fail(code))),
         _ => None,
     }
 }
@@ -375,14 +375,11 @@ fn is_between(
     }
 }
 
-/// The committed transaction that comes next behind this one in the serial order.
-fn next_behind(
-    verdicts: &[Option<Verdict>],
-    last: Option<(Place, usize)>,
-) -> Option<(Place, usize)> {
+/// The transaction that comes next behind this one in the serial order.
+fn next_behind(placed: &[Placed], last: Option<(Place, usize)>) -> Option<(Place, usize)> {
     let mut next = None;
-    for n in 0..verdicts.len() {
-        if let Some(place) = place_of(verdicts[n]) {
+    for n in 0..placed.len() {
+        if let Some((place, _)) = placed[n] {
             if is_between(last, (place, n), next) {
                 next = Some((place, n));
             }
@@ -391,11 +388,11 @@ fn next_behind(
     next
 }
 
-/// Whether the transaction, run alone, gives what it was told. The states are then those that come next.
-fn gives_its_value(
+/// Whether the transaction, run alone, gives what it gave at its place. The states are then those that come next.
+fn gives_the_same(
     alloc: Global,
     tables: &Tables,
-    verdict: Option<Verdict>,
+    placed: Placed,
     states: &mut Vec<State>,
     n: usize,
 ) -> Result<bool, Memory>
@@ -406,15 +403,40 @@ fn gives_its_value(
     let Some(tx) = tables.work.txs.get(n) else {
         return Ok(false);
     };
-    match (verdict, run_alone(alloc, &tables.work.program, states, tx)?) {
-        (Some(Verdict::Committed { place: _, value }), TxResult::Value(given)) => Ok(
-            value == given,
-        ),
-        _ => Ok(false),
-    }
+    let given = run_alone(alloc, &tables.work.program, states, tx)?;
+    Ok(match placed {
+        Some((_, wanted)) => given == wanted,
+        None => false,
+    })
 }
 
-/// Whether the committed transactions, one by one in the order of their places, give their values and these states.
+/// The states behind those with a place, one by one in the order of their places; none where one of them gives something else.
+pub fn serial_states(
+    alloc: Global,
+    tables: &Tables,
+    placed: &[Placed],
+) -> Result<Option<Vec<State>>, Memory>
+    requires { AreTables tables.now }
+{
+    let mut serial = Vec::from_slice(alloc, tables.opening.states.as_slice())?;
+    let mut last = None;
+    for _ in 0..placed.len() {
+        let Some((place, n)) = next_behind(placed, last) else {
+            break;
+        };
+        let wanted = match placed.get(n) {
+            Some(wanted) => *wanted,
+            None => None,
+        };
+        if !gives_the_same(alloc, tables, wanted, &mut serial, n)? {
+            return Ok(None);
+        }
+        last = Some((place, n));
+    }
+    Ok(Some(serial))
+}
+
+/// Whether those with a place, one by one in the order of their places, give what they gave there, and these states.
 fn is_serial(
     alloc: Global,
     tables: &Tables,
@@ -423,22 +445,14 @@ fn is_serial(
 ) -> Result<bool, Memory>
     requires { AreTables tables.now }
 {
-    let mut serial = Vec::from_slice(alloc, tables.opening.states.as_slice())?;
-    let mut last = None;
-    for _ in 0..verdicts.len() {
-        let Some((place, n)) = next_behind(verdicts, last) else {
-            break;
-        };
-        let verdict = match verdicts.get(n) {
-            Some(verdict) => *verdict,
-            None => None,
-        };
-        if !gives_its_value(alloc, tables, verdict, &mut serial, n)? {
-            return Ok(false);
-        }
-        last = Some((place, n));
+    let mut placed = Vec::new(alloc);
+    for verdict in verdicts {
+        placed.push(placed_by(*verdict))?;
     }
-    Ok(serial.as_slice() == states)
+    Ok(match serial_states(alloc, tables, placed.as_slice())? {
+        Some(serial) => serial.as_slice() == states,
+        None => false,
+    })
 }
 
 /// What is not so of a run to its end; nothing, where all is.
@@ -535,7 +549,7 @@ fn untrue(
     Ok(untrue_with(alloc, ended, faults, wanted, core, logs)?)
 }
 
-/// Runs the text by so many workers, and tells what is not so.
+/// Runs the text by so many workers, and tells what is not so, and behind it the events that they took.
 fn run_untrue<R: Threads + Wait + Sync>(
     rt: &R,
     alloc: Global,
@@ -543,52 +557,18 @@ fn run_untrue<R: Threads + Wait + Sync>(
     workers: usize,
     faults: Faults,
     wanted: Option<i64>,
-) -> Result<&'static str, Fail>
+) -> Result<String, Fail>
     requires { workers ≤ MOST_WORKERS }
 {
     let ended = run(rt, alloc, text, faults, &FreeGate::new(), workers)?;
-    untrue(alloc, text, &ended, faults, wanted)
-}
-
-/// A gate where each slice waits until another one is there, but not for ever.
-#[derive(Drop)]
-struct Meeting {
-    patience: u64,
-    arrived: AtomicU64,
-    missed: AtomicU64,
-}
-
-impl Gate for Meeting {
-    fn enter(&self, _actor: ActorId) {
-        let _before = self.arrived.fetch_add(1, Ordering::SeqCst);
-        for _ in 0..self.patience {
-            if self.arrived.load(Ordering::SeqCst) >= 2 {
-                return;
-            }
-            thread::yield_now();
+    let mut told = String::from_str(alloc, untrue(alloc, text, &ended, faults, wanted)?)?;
+    if !told.is_empty() {
+        told.push_str("; taken were\n")?;
+        for event in ended.kept.as_slice() {
+            print_event(&mut told, *event)?;
         }
-        self.missed.store(1, Ordering::SeqCst);
     }
-}
-
-/// Whether two slices on two actors meet, where there are so many workers.
-fn meet<R: Threads + Wait + Sync>(
-    rt: &R,
-    alloc: Global,
-    workers: usize,
-    patience: u64,
-) -> Result<bool, Fail>
-    requires { workers ≤ MOST_WORKERS }
-{
-    let gate = Meeting {
-        patience,
-        arrived: AtomicU64::new(0),
-        missed: AtomicU64::new(0),
-    };
-    let (settings, lines) = TWO_ACTORS;
-    let text = text_of(alloc, settings, lines)?;
-    let _ended = run(rt, alloc, text.as_slice(), NO_FAULTS, &gate, workers)?;
-    Ok(gate.missed.load(Ordering::SeqCst) == 0)
+    Ok(told)
 }
 
 /// Faults of a number, on one log, on two, on the output and on both kinds.
@@ -626,8 +606,6 @@ fn faults_of(number: u64) -> Faults {
 #[test]
 fn crews_do_what_one_core_does(rt: HostRuntime) -> Result<(), Fail> {
     let alloc = rt.alloc();
-    assert!(rt; meet(&rt, alloc, 2, PATIENCE)?);
-    assert!(rt; !meet(&rt, alloc, 1, 1_000)?);
     for (settings, lines) in BY_HAND {
         let text = text_of(alloc, settings, lines)?;
         for n in 0..14 {
@@ -639,20 +617,20 @@ fn crews_do_what_one_core_does(rt: HostRuntime) -> Result<(), Fail> {
                 NO_FAULTS,
                 Some(TOTAL),
             )?;
-            assert_eq!(rt; wrong, "", "{lines}");
+            assert_eq!(rt; wrong.as_str(), "", "{lines}");
         }
     }
     for seed in 0..616u64 {
         let text = drawn(alloc, seed)?;
         let workers = 2 + seed as usize % 7;
         let wrong = run_untrue(&rt, alloc, text.as_slice(), workers, NO_FAULTS, Some(TOTAL))?;
-        assert_eq!(rt; wrong, "", "drawn by {seed}");
+        assert_eq!(rt; wrong.as_str(), "", "drawn by {seed}");
     }
     for seed in 0..100u64 {
         let text = generate(alloc, 12, seed)?;
         let workers = 2 + seed as usize % 7;
         let wrong = run_untrue(&rt, alloc, text.as_slice(), workers, NO_FAULTS, None)?;
-        assert_eq!(rt; wrong, "", "generated by {seed}");
+        assert_eq!(rt; wrong.as_str(), "", "generated by {seed}");
     }
     let (settings, lines) = BY_HAND[5];
     let text = text_of(alloc, settings, lines)?;
@@ -666,7 +644,7 @@ fn crews_do_what_one_core_does(rt: HostRuntime) -> Result<(), Fail> {
             faults_of(number),
             Some(TOTAL),
         )?;
-        assert_eq!(rt; wrong, "", "faults {number}");
+        assert_eq!(rt; wrong.as_str(), "", "faults {number}");
     }
     Ok(())
 }

@@ -66,11 +66,25 @@ pub const BY_HAND: [(Settings, &str); 6] = [
     ),
 ];
 
-/// Two transactions, each on an actor of its own.
-pub const TWO_ACTORS: (Settings, &str) = (
-    [1, 1, 2, 1, 1],
-    "pact 0 move 0 1 uses 0:2\npact 1 look uses 1:1\n",
-);
+/// Two transactions, each of one slice on an actor of its own.
+pub const TWO_ACTORS: &str = "\
+snapper 1
+coordinators 1
+logs 1
+batch 16
+batches 8
+acts 8
+program
+method put(n) { f0 = f0 + n; return f0; }
+method move(to, n) { if f0 < n { fail 7; } f0 = f0 - n; let r = call to put(n); return r; }
+method twice(to) { let a = call to put(1); let b = call to put(1); return b; }
+method bad() { f0 = f0 + 1; fail 9; }
+method via(to) { let r = call to bad(); return r; }
+end
+actors 2
+pact 0 put 1 uses 0:1
+pact 1 put 1 uses 1:1
+";
 
 /// The text of these settings and transactions.
 pub fn text_of(alloc: Global, settings: Settings, lines: &str) -> Result<Vec<u8>, Memory> {

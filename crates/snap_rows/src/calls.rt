@@ -10,8 +10,14 @@
 //! - `recovers`: what `recover` tells on what a crash leaves that keeps all
 //! - `fails at any call`: where each call of the outside fails in turn, the run ends there as it should; and what any crash leaves
 //!   behind a call of a log recovers to what was printed, and is what a further run goes on from
+//! - `stops at any moment`: so does what a crash leaves behind any front of the events, where each log on its own has done none,
+//!   some or all operations of an append that may be under way then, and has lost what it has not synced on its own
+//!
+//! The text `endless` is one that never ends.
 //!
 //! Rows stand apart by an empty line.
+
+ghost use Rattle.std.specs.Prelude.{◌≤◌};
 
 use crate::faults::{CUTS, SWEEPS};
 use crate::logs::log_bytes;
@@ -19,6 +25,7 @@ use crate::recoveries::RECOVERIES;
 use crate::runs::RUNS;
 use crate::texts::{FRONT, PROGRAM, TEXTS};
 use command_words::workers_of;
+use core_events::{Event, footprint};
 use snap_base::Memory;
 use snap_outside::{Failed, MemLog, MemSink, MemSource, Sink, Source};
 use snap_recover::LogCause;
@@ -57,6 +64,28 @@ impl Source for Trickle {
     fn read(&mut self, buf: &mut [u8]) -> Result<usize, Failed> {
         let room = buf.len().min(1);
         self.0.read(&mut buf[..room])
+    }
+}
+
+/// A source that gives a comment without an end.
+struct Endless;
+
+impl Drop for Endless {
+    fn drop(self) {
+        let Endless = self;
+    }
+}
+
+impl Source for Endless {
+    ghost use Rattle.std.specs.Prelude.{None};
+
+    ghost left = { λ _. None };
+
+    ghost faults = { λ _. 0 };
+
+    fn read(&mut self, buf: &mut [u8]) -> Result<usize, Failed> {
+        buf.fill(b'#');
+        Ok(buf.len())
     }
 }
 
@@ -199,11 +228,11 @@ impl Drop for Ran {
     }
 }
 
-/// Does what the word asks for with a text and four logs. A read gives a byte, and a write takes a few.
-fn perform(
+/// Does what the word asks for with an input and four logs. A write takes a few bytes.
+fn perform<I: Source>(
     alloc: Global,
     word: &str,
-    text: &str,
+    input: &mut I,
     logs: Vec<MemLog>,
     failing: Failing,
 ) -> Result<Ran, Fail> {
@@ -215,19 +244,33 @@ fn perform(
     if workers_of(words) != 0 {
         return Err("there are no workers".into());
     }
-    let mut input = Trickle::new(alloc, text, failing.read)?;
     let out = Drip::new(alloc, failing.write)?;
     let trace = Drip::new(alloc, failing.trace)?;
-    Ok(Ran(run_solo(alloc, words, &mut input, logs, out, trace)))
+    Ok(Ran(run_solo(alloc, words, input, logs, out, trace)))
+}
+
+/// The same with a text, of which a read gives a byte.
+fn perform_on(
+    alloc: Global,
+    word: &str,
+    text: &str,
+    logs: Vec<MemLog>,
+    failing: Failing,
+) -> Result<Ran, Fail> {
+    let mut input = Trickle::new(alloc, text, failing.read)?;
+    perform(alloc, word, &mut input, logs, failing)
 }
 
 /// The call of a row, of which these calls of the outside fail.
 fn call(alloc: Global, asked: &str, failing: Failing) -> Result<Ran, Fail> {
     let name = part(asked, '|', 0);
-    let text = text_of(alloc, name)?;
     let logs = logs_of(alloc, asked, failing.logs)?;
+    if name == "endless" {
+        return perform(alloc, "run", &mut Endless, logs, failing);
+    }
+    let text = text_of(alloc, name)?;
     let word = if name == "recover" { "recover" } else { "run" };
-    perform(alloc, word, text.as_str(), logs, failing)
+    perform_on(alloc, word, text.as_str(), logs, failing)
 }
 
 /// What any crash leaves of what is not synced: nothing, all, or this byte in its place.
@@ -296,21 +339,61 @@ impl Ran {
         Ok(true)
     }
 
-    /// The logs that a crash leaves.
-    fn images(&self, alloc: Global, choice: u8) -> Result<Vec<MemLog>, Memory> {
+    /// The logs that a crash leaves behind so many operations of log 0 and of log 1, as far as they go, with a choice for each.
+    fn images(
+        &self,
+        alloc: Global,
+        counts: [usize; 2],
+        choices: [u8; 2],
+    ) -> Result<Vec<MemLog>, Memory> {
         let mut logs = Vec::new(alloc);
-        for log in &self.0.logs {
-            let image = log.image(alloc, log.ops().len(), choice)?;
+        for (number, log) in self.0.logs.iter().enumerate() {
+            let (count, choice) = match number {
+                0 => (counts[0], choices[0]),
+                _ => (counts[1], choices[1]),
+            };
+            let image = log.image(alloc, count.min(log.ops().len()), choice)?;
             logs.push(MemLog::new(alloc, image, Vec::new(alloc))?)?;
         }
         Ok(logs)
     }
 
-    /// What `recover` does on the logs that a crash leaves.
-    fn recovered(&self, alloc: Global, choice: u8) -> Result<Ran, Fail> {
-        perform(alloc, "recover", "", self.images(alloc, choice)?, NONE)
+    /// Whether log 0 has done the operations of opening it and of Genesis by then.
+    fn has_genesis(&self, counts: [usize; 2]) -> bool {
+        match self.0.logs.first() {
+            Some(log) => counts[0].min(log.ops().len()) >= OPENING + APPEND,
+            None => false,
+        }
+    }
+
+    /// Whether what a crash then leaves recovers to what was printed, and is what a further run of the text goes on from.
+    fn is_recovered(
+        &self,
+        alloc: Global,
+        name: &str,
+        printed: &str,
+        counts: [usize; 2],
+        choices: [u8; 2],
+    ) -> Result<bool, Fail> {
+        let text = text_of(alloc, name)?;
+        let logs = self.images(alloc, counts, choices)?;
+        let recovered = perform_on(alloc, "recover", "", logs, NONE)?;
+        let logs = self.images(alloc, counts, choices)?;
+        let again = perform_on(alloc, "run", text.as_str(), logs, NONE)?;
+        if self.has_genesis(counts) && !recovered.is_done() {
+            return Ok(false);
+        }
+        Ok(again.is_done() && agree(alloc, name, printed, &recovered)?)
     }
 }
+
+/// Opening makes so many operations of a new log, and each append so many.
+const OPENING: usize = 2;
+
+const APPEND: usize = 4;
+
+/// As many operations as there are.
+const EACH: [usize; 2] = [usize::MAX, usize::MAX];
 
 /// The answer to logs without a Genesis.
 const NO_GENESIS: Status = Status::Logs {
@@ -340,36 +423,63 @@ fn tells_truly(line: &str, marks: u64) -> bool {
     is_in == (verdict == "committed")
 }
 
-/// Whether each reply that was printed agrees with what is recovered. Where there is no Genesis yet, nothing was told to be
-/// committed.
-fn agree(printed: &str, recovered: &Ran) -> bool {
-    if !recovered.is_done() {
-        return recovered.0.status == NO_GENESIS && !printed.contains(" committed ");
+/// The states that the text with this name may leave; empty where it has marks.
+fn states_of(name: &str) -> &'static str {
+    for line in TEXTS.split('\n') {
+        if part(line, '|', 0) == name {
+            return part(line, '|', 3);
+        }
     }
-    let output = recovered.output();
-    let marks = marks_in(output);
+    ""
+}
+
+/// Whether the word is one of these.
+fn has_word(words: &str, word: &str) -> bool {
+    for one in words.split(' ') {
+        if one == word {
+            return true;
+        }
+    }
+    false
+}
+
+/// Whether these numbers, apart by blanks, have each transaction that was told to be committed.
+fn has_committed(numbers: &str, printed: &str) -> bool {
     for line in printed.split('\n') {
-        if !tells_truly(line, marks) {
+        let is_committed = part(line, ' ', 0) == "tx" && part(line, ' ', 2) == "committed";
+        if is_committed && !has_word(numbers, part(line, ' ', 1)) {
             return false;
         }
     }
     true
 }
 
-/// Whether what any crash leaves is recovered as the run told it, and is what a further run goes on from.
-fn is_recovered(alloc: Global, asked: &str, ran: &Ran) -> Result<bool, Fail> {
-    let name = part(asked, '|', 0);
-    let text = text_of(alloc, name)?;
-    for choice in CHOICES {
-        let recovered = ran.recovered(alloc, choice)?;
-        let again = perform(
-            alloc,
-            "run",
-            text.as_str(),
-            ran.images(alloc, choice)?,
-            NONE,
-        )?;
-        if !agree(ran.output(), &recovered) || !again.is_done() {
+/// Whether one of the states that may be left, with each transaction that was told to be committed, is what is recovered.
+fn is_state(alloc: Global, states: &str, printed: &str, recovered: &str) -> Result<bool, Memory> {
+    for state in states.split(';') {
+        let lines = part(state, ':', 1).replace(alloc, "/", "\n")?;
+        let wanted = format!(in alloc; "{lines}recovered ")?;
+        if recovered.starts_with(wanted.as_str()) && has_committed(part(state, ':', 0), printed) {
+            return Ok(true);
+        }
+    }
+    Ok(false)
+}
+
+/// Whether each reply that was printed agrees with what is recovered. Where there is no Genesis yet, nothing was told to be
+/// committed.
+fn agree(alloc: Global, name: &str, printed: &str, recovered: &Ran) -> Result<bool, Memory> {
+    if !recovered.is_done() {
+        return Ok(recovered.0.status == NO_GENESIS && !printed.contains(" committed "));
+    }
+    let output = recovered.output();
+    let states = states_of(name);
+    if !states.is_empty() {
+        return is_state(alloc, states, printed, output);
+    }
+    let marks = marks_in(output);
+    for line in printed.split('\n') {
+        if !tells_truly(line, marks) {
             return Ok(false);
         }
     }
@@ -416,10 +526,16 @@ fn is_cut_off(place: Place, whole: &Ran, ran: &Ran) -> bool {
 
 /// Whether what a run left, of which a call failed at this place, is as it should be.
 fn is_left(alloc: Global, place: Place, asked: &str, ran: &Ran) -> Result<bool, Fail> {
-    match place {
-        Place::Log(_) => is_recovered(alloc, asked, ran),
-        _ => Ok(true),
+    let Place::Log(_) = place else {
+        return Ok(true);
+    };
+    let name = part(asked, '|', 0);
+    for choice in CHOICES {
+        if !ran.is_recovered(alloc, name, ran.output(), EACH, [choice, choice])? {
+            return Ok(false);
+        }
     }
+    Ok(true)
 }
 
 /// Whether a run may go on to its end where the call with this number fails: it has fewer at this place. A text may have no log 1.
@@ -453,6 +569,158 @@ fn tell_failing(
     Ok(told.push_str("no end; ")?)
 }
 
+/// How many operations of the log are done when these events are taken: those of opening it, of Genesis and of its Syncs.
+fn done_by(events: &[Event], log: u8) -> usize {
+    let mut done = if log == 0 { OPENING + APPEND } else { OPENING };
+    for event in events {
+        if *event == Event::Sync(log) {
+            done = done.saturating_add(APPEND);
+        }
+    }
+    done
+}
+
+/// Whether the event needs the log, of one or of two.
+fn needs(event: Event, log: u8, has_two: bool) -> bool {
+    let parts = footprint(event, if has_two { 2 } else { 1 });
+    for i in 0..parts.len() {
+        if parts.part(i) == 4 + log as usize {
+            return true;
+        }
+    }
+    false
+}
+
+/// How many operations of the log may be done besides: those of its next Sync, where no other event needs the log before it.
+fn begun_before(later: &[Event], log: u8, has_two: bool) -> usize
+    ensures { result ≤ 4 }
+{
+    if log == 1 && !has_two {
+        return 0;
+    }
+    for event in later {
+        if needs(*event, log, has_two) {
+            return if *event == Event::Sync(log) {
+                APPEND
+            } else {
+                0
+            };
+        }
+    }
+    0
+}
+
+/// The lines of the replies among these events.
+fn lines_of(alloc: Global, events: &[Event], output: &str) -> Result<String, Memory> {
+    let mut lines = String::new(alloc);
+    let mut rest = output.split('\n');
+    for event in events {
+        if let Event::Reply(_) = event {
+            lines.push_str(rest.next().unwrap_or(""))?;
+            lines.push_str("\n")?;
+        }
+    }
+    Ok(lines)
+}
+
+/// What a crash may leave of the log, without those choices that leave what the first one does.
+fn choices_of(alloc: Global, log: &MemLog, count: usize) -> Result<Vec<u8>, Memory> {
+    let mut choices = Vec::new(alloc);
+    let count = count.min(log.ops().len());
+    let first = log.image(alloc, count, CHOICES[0])?;
+    for choice in CHOICES {
+        let image = log.image(alloc, count, choice)?;
+        if choice == CHOICES[0] || image.as_slice() != first.as_slice() {
+            choices.push(choice)?;
+        }
+    }
+    Ok(choices)
+}
+
+/// Whether a crash behind so many operations of each log leaves what recovers to what was printed then.
+fn is_stop(
+    alloc: Global,
+    asked: &str,
+    whole: &Ran,
+    printed: &str,
+    counts: [usize; 2],
+) -> Result<bool, Fail> {
+    let name = part(asked, '|', 0);
+    let [log, other, ..] = whole.0.logs.as_slice() else {
+        return Ok(false);
+    };
+    let others = choices_of(alloc, other, counts[1])?;
+    for first in choices_of(alloc, log, counts[0])?.as_slice() {
+        for second in others.as_slice() {
+            if !whole.is_recovered(alloc, name, printed, counts, [*first, *second])? {
+                return Ok(false);
+            }
+        }
+    }
+    Ok(true)
+}
+
+/// Tells at which operations of the logs a crash behind these events, of which others come later, leaves what it should not.
+fn tell_stops(
+    alloc: Global,
+    asked: &str,
+    whole: &Ran,
+    events: &[Event],
+    later: &[Event],
+    has_two: bool,
+    told: &mut String,
+) -> Result<(), Fail> {
+    let printed = lines_of(alloc, events, whole.output())?;
+    for first in 0..begun_before(later, 0, has_two) + 1 {
+        for second in 0..begun_before(later, 1, has_two) + 1 {
+            let counts = [
+                done_by(events, 0).saturating_add(first),
+                done_by(events, 1).saturating_add(second),
+            ];
+            if !is_stop(alloc, asked, whole, printed.as_str(), counts)? {
+                let taken = events.len();
+                told.push_str(&format!(in alloc;
+                    "stopped behind {taken} events at {counts:?}; "
+                )?)?;
+            }
+        }
+    }
+    Ok(())
+}
+
+/// Whether behind this event more was told or written than before it, or an append of a log may be under way.
+fn moves(event: Event, later: &[Event], has_two: bool) -> bool {
+    let is_told = matches!(event, Event::Reply(_) | Event::Sync(_));
+    let begins = needs(event, 0, has_two) && begun_before(later, 0, has_two) != 0;
+    let begins_other = needs(event, 1, has_two) && begun_before(later, 1, has_two) != 0;
+    is_told || begins || begins_other
+}
+
+/// Tells at which moments a crash leaves what it should not.
+fn tell_moments(alloc: Global, asked: &str, whole: &Ran, told: &mut String) -> Result<(), Fail> {
+    let kept = whole.0.kept.as_slice();
+    let has_two = match whole.0.logs.get(1) {
+        Some(log) => !log.ops().is_empty(),
+        None => false,
+    };
+    for (log, number) in whole.0.logs.iter().zip(0..2) {
+        if (number == 0 || has_two) && log.ops().len() != done_by(kept, number) {
+            told.push_str("other operations; ")?;
+        }
+    }
+    for taken in 0..kept.len() + 1 {
+        let (events, later) = kept.split_at(taken);
+        let is_other = match events.last() {
+            Some(event) => moves(*event, later, has_two),
+            None => true,
+        };
+        if is_other {
+            tell_stops(alloc, asked, whole, events, later, has_two, told)?;
+        }
+    }
+    Ok(())
+}
+
 /// Tells what of a line is not so behind the call of its row.
 fn tell_line(
     alloc: Global,
@@ -470,9 +738,13 @@ fn tell_line(
         return tell_other(if is_so { left } else { "other logs" }, left, told);
     }
     if let Some(wanted) = line.strip_prefix("recovers ") {
-        let recovered = ran.recovered(alloc, ALL)?;
+        let logs = ran.images(alloc, EACH, [ALL, ALL])?;
+        let recovered = perform_on(alloc, "recover", "", logs, NONE)?;
         let is = recovered.told(alloc)?;
         return tell_other(is.as_str(), wanted, told);
+    }
+    if line == "stops at any moment" {
+        return tell_moments(alloc, asked, ran, told);
     }
     if line != "fails at any call" {
         return Err("the word of a line".into());

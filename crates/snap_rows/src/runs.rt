@@ -131,4 +131,8 @@ leaves |
 
 empty
 tells Input { line: 1, cause: BadHeader }||0 0 0 0|snapper: line 1: BadHeader/|
+leaves |
+
+endless
+tells Input { line: 0, cause: Limit { which: Input, found: 8388609 } }||0 0 0 0|snapper: line 0: Limit/|
 leaves |";

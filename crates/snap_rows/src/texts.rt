@@ -18,7 +18,9 @@ end
 ";
 
 /// In each line the name of a text, its settings, and its actors and transactions, apart by `|`; `/` stands for a line feed. In
-/// the texts with marks transaction n has the mark 2^n.
+/// the texts with marks transaction n has the mark 2^n. Behind texts without marks that are stopped there stand the states that
+/// may be left, apart by `;`: the transactions that are in it, then `:` and the actors' lines. They are those behind each front of
+/// the committed ones in the order of their places.
 pub const TEXTS: &str = "\
 deposit|logs 1/batch 16/batches 8/acts 8|actors 1/actor 0 100/pact 0 put 5 uses 0:1/
 two deposits|logs 1/batch 16/batches 8/acts 8|actors 1/actor 0 100/pact 0 put 5 uses 0:1/pact 0 put 2 uses 0:1/
@@ -29,15 +31,15 @@ two actors|logs 1/batch 16/batches 8/acts 8|actors 2/actor 0 100/actor 1 50/pact
 both signs|logs 1/batch 1/batches 1/acts 1|actors 2/actor 1 8 3/pact 1 swap uses 1:1/
 two of three|logs 1/batch 16/batches 8/acts 8|actors 3/actor 0 10/actor 1 20/actor 2 30/pact 2 put 5 uses 2:1/pact 0 put 7 uses 0:1/
 another is called|logs 1/batch 16/batches 8/acts 8|actors 3/actor 0 10/actor 1 20/actor 2 30/pact 2 give 0 5 uses 0:1 1:3 2:1/
-locked|logs 1/batch 16/batches 8/acts 8|actors 2/actor 0 100/actor 1 50/act 0 give 1 30/
+locked|logs 1/batch 16/batches 8/acts 8|actors 2/actor 0 100/actor 1 50/act 0 give 1 30/|:actor 0 100/actor 1 50/;0:actor 0 70/actor 1 80/
 locked on two logs|logs 2/batch 16/batches 8/acts 8|actors 2/actor 0 100/actor 1 50/act 0 give 1 30/
 too much|logs 1/batch 16/batches 8/acts 8|actors 2/actor 0 100/actor 1 50/act 0 give 1 300/
-two logs|logs 2/batch 16/batches 8/acts 8|actors 2/actor 0 100/actor 1 50/pact 0 give 1 30 uses 0:1 1:1/
+two logs|logs 2/batch 16/batches 8/acts 8|actors 2/actor 0 100/actor 1 50/pact 0 give 1 30 uses 0:1 1:1/|:actor 0 100/actor 1 50/;0:actor 0 70/actor 1 80/
 both kinds on two logs|logs 2/batch 16/batches 8/acts 8|actors 2/actor 0 100/actor 1 50/act 0 give 1 30/pact 1 put 5 uses 1:1/
 two in turn|logs 1/batch 1/batches 1/acts 8|actors 1/actor 0 100/pact 0 put 1 uses 0:1/pact 0 put 2 uses 0:1/
 one on two logs|logs 2/batch 1/batches 1/acts 8|actors 1/actor 0 100/pact 0 put 1 uses 0:1/
 each kind on its log|logs 2/batch 1/batches 1/acts 8|actors 2/pact 0 put 1 uses 0:1/act 1 put 2/
-a mark|logs 1/batch 16/batches 8/acts 8|actors 2/actor 0 100/actor 1 50/pact 0 pay 1 30 1 uses 0:1 1:1/
+a transfer|logs 1/batch 16/batches 8/acts 8|actors 2/actor 0 100/actor 1 50/pact 0 give 1 30 uses 0:1 1:1/|:actor 0 100/actor 1 50/;0:actor 0 70/actor 1 80/
+a failing batch|logs 1/batch 1/batches 8/acts 8|actors 3/actor 0 100/actor 1 100/actor 2 100/pact 0 put 1 uses 0:1/pact 1 bad uses 1:1/pact 2 put 1 uses 2:1/act 2 put 7/act 0 put 7/|:actor 0 100/actor 1 100/actor 2 100/;0:actor 0 101/actor 1 100/actor 2 100/;0 4:actor 0 108/actor 1 100/actor 2 100/
 marks of both kinds|logs 1/batch 1/batches 8/acts 8|actors 2/actor 0 100/actor 1 50/act 0 pay 1 30 1/pact 0 pay 1 5 2 uses 0:1 1:1/act 1 mark 4 4/pact 1 mark 6 8 uses 1:1/
-marks on two logs|logs 2/batch 16/batches 8/acts 8|actors 2/actor 0 100/actor 1 50/pact 0 pay 1 30 1 uses 0:1 1:1/act 1 pay 0 5 2/
-marks and a failing batch|logs 1/batch 1/batches 8/acts 8|actors 3/pact 0 mark 1 1 uses 0:1/pact 1 bad uses 1:1/pact 2 mark 1 4 uses 2:1/act 2 mark 7 8/act 0 mark 7 16/";
+marks on two logs|logs 2/batch 16/batches 8/acts 8|actors 2/actor 0 100/actor 1 50/pact 0 pay 1 30 1 uses 0:1 1:1/act 1 pay 0 5 2/";
