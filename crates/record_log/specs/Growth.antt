@@ -65,6 +65,11 @@ abbrev pub IsNext : ℕ → List (List Record) → List DevOp → Type 0
 IsNext end [] begun = begun ≡ []
 IsNext end (group ∷ groups) begun = IsCutShort begun (append_ops end (spelled group))
 
+-- these operations are a front of the next group's append, or all of it
+abbrev pub IsBegun : ℕ → List (List Record) → List DevOp → Type 0
+IsBegun end [] begun = begun ≡ []
+IsBegun end (group ∷ groups) begun = (left : List DevOp) × (append_ops end (spelled group) ≡ begun ++ left)
+
 -- the records, and those of the first of the groups
 abbrev pub HoldsOneMore : List ℕ → List Record → List (List Record) → Type 0
 HoldsOneMore image rs [] = ⊥

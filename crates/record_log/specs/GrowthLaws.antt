@@ -7,7 +7,7 @@ use Rattle.gate_log.specs.declared.logs.LogItem.{LogItem}
 use Rattle.gate_log.specs.Appends.{append_ops, end_behind}
 use Rattle.gate_log.specs.Opened.{opening_ops, Opened}
 use Rattle.txn_records.specs.declared.records.Record.{Record}
-use Rattle.record_log.specs.Growth.{all_records, groups_ops, end_behind_groups, MayAppendGroup, MayAppendGroups, IsGrowth, GrewBy, begun_groups, IsNext, HoldsWhole, Leaves}
+use Rattle.record_log.specs.Growth.{all_records, groups_ops, end_behind_groups, MayAppendGroup, MayAppendGroups, IsGrowth, GrewBy, begun_groups, IsBegun, HoldsWhole, Leaves}
 use Rattle.record_log.specs.Records.{spelled, HoldsRecords, RecordLog}
 
 -- ---- how a history comes to have grown so
@@ -43,12 +43,12 @@ GrowthGives =
     → Opened (Some h) opened end found → HoldsRecords (content h) rs → IsGrowth (content h) end groups None ops
     → RecordLog (with_ops h ops) (end_behind_groups end groups) (rs ++ all_records groups)
 
--- At a moment at which these appends are whole, and of the next these operations are made, whatever a crash leaves holds
--- the earlier records with those of the appends that are whole, or, only where one more has begun, with those of one more.
+-- At a moment at which these appends are whole, and of the next these operations are made, some or all, whatever a crash leaves
+-- holds the earlier records with those of these appends, or, only where one more has begun, with those of one more.
 abbrev pub MomentKeeps : Type 0
 MomentKeeps =
     (h : History) (opened : Option History) (end : ℕ) (found : List LogItem) (rs : List Record) (whole later : List (List Record)) (begun : List DevOp)
-    → Opened (Some h) opened end found → HoldsRecords (content h) rs → MayAppendGroups end (whole ++ later) → IsNext (end_behind_groups end whole) later begun
+    → Opened (Some h) opened end found → HoldsRecords (content h) rs → MayAppendGroups end (whole ++ later) → IsBegun (end_behind_groups end whole) later begun
     → (image : List ℕ) → IsImage (disk_after (opening_ops (content h) ++ (groups_ops end whole ++ begun)) (disk h)) image
     → HoldsWhole (rs ++ all_records whole) later begun image
 

@@ -12,7 +12,7 @@ use Rattle.protocol.specs.History.{history}
 use Rattle.protocol.specs.Moments.{Moment, IsLeft, left_in}
 use Rattle.protocol.specs.Runs.{reached}
 use Rattle.protocol_records.specs.Crash.{CrashStands}
-use Rattle.record_log.specs.Growth.{begun_groups, end_behind_groups, groups_ops, IsNext}
+use Rattle.record_log.specs.Growth.{begun_groups, end_behind_groups, groups_ops, IsBegun}
 use Rattle.record_log.specs.Records.{HoldsRecords}
 use Rattle.recovery_laws.specs.Grown.{grown}
 use Rattle.recovery_laws.specs.Joined.{RecoversToMembers}
@@ -28,14 +28,14 @@ use Rattle.txn_records.specs.declared.records.Record.{Record}
 -- ---- a moment, on the devices
 
 -- Of the operations of log l's device these are made at the moment: those of opening; one append for each group that the log
--- had got by then; and some of the next append, only where that has begun. `all` are the groups whose appends were begun in
+-- had got by then; and some or all of the next append, only where that has begun. `all` are the groups whose appends were begun in
 -- the whole call, `first` those of before the run.
 pub record IsMade {w : Fixed Rest} {es : List machine.Event} (m : Moment w es) (l : ℕ) (bytes : List ℕ) (end : ℕ) (first all : List (List Record)) (made : List DevOp) : Type 0 where
   pub later : List (List Record)
   pub begun : List DevOp
   pub splits : all ≡ (first ++ groups_of w l m.events) ++ later
   pub so_far : made ≡ opening_ops bytes ++ (groups_ops end (first ++ groups_of w l m.events) ++ begun)
-  pub next : IsNext (end_behind_groups end (first ++ groups_of w l m.events)) later begun
+  pub next : IsBegun (end_behind_groups end (first ++ groups_of w l m.events)) later begun
   pub waits : m.has_begun l ≡ false → begun ≡ []
 
 -- the groups whose appends to log l were begun
