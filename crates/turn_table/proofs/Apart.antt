@@ -1,5 +1,5 @@
 -- Entries that leave a part out, from a number on.
-use Rattle.std.proofs.Common.{◌≡◌, ◌≢◌, ℕ, ◌<◌, ◌≤◌, List, [], ◌∷◌, ◌++◌, Option, Some, sym, subst, ap, ◌∙◌, arith, true≢false, IsSome}
+use Rattle.std.proofs.Common.{◌≡◌, ℕ, ◌≤◌, List, [], ◌∷◌, ◌++◌, Option, Some, ap, ◌∙◌, arith}
 use Rattle.turn_table.specs.Places.{at, Covers, AllBefore, IsNoneOf}
 use Rattle.turn_table.specs.Runs.{AllLeaveFrom}
 use Rattle.turn_table.proofs.ByPlace.{some_of}

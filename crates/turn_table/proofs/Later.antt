@@ -1,5 +1,5 @@
 -- Two steps of a table, of which the later has all entries of the earlier.
-use Rattle.std.proofs.Common.{◌≡◌, ℕ, zero, suc, ◌+◌, ◌<◌, ◌≤◌, inl, inr, List, [], ◌∷◌, ◌++◌, length, nat_eq, Contains, Option, Some, slice_get, slice_index, append-nil, length-append, ap, sym, subst, refl, ◌∙◌, lt_of_not-le, lt-ltb, arith}
+use Rattle.std.proofs.Common.{◌≡◌, ℕ, zero, suc, ◌<◌, ◌≤◌, inl, inr, List, [], ◌∷◌, ◌++◌, length, nat_eq, Contains, Option, Some, slice_get, slice_index, append-nil, length-append, ap, sym, subst, refl, ◌∙◌, lt_of_not-le, lt-ltb, arith}
 use Rattle.std.proofs.lemmas.Option.{slice_get_within}
 use Rattle.std.proofs.lemmas.Bool.Decides.{eqb_tells}
 use mathlib.Core.Option as maybe
