@@ -66,7 +66,7 @@ module _
     no_groups false l e s none = refl
 
     module _ (start : List ShareState) where
-      one_act : (a : Act) (es : List Event) (xs made : List ShareState) → HasCome w start es xs
+      pub one_act : (a : Act) (es : List Event) (xs made : List ShareState) → HasCome w start es xs
           → May (λ b. footprint w.text.logs (meant b)) (Happens w) (slice_get xs) a made
           → HasCome w start (es ++ added a.done (meant a)) (replaced xs (footprint w.text.logs (meant a)) made)
       one_act a es xs made come may =
@@ -75,7 +75,7 @@ module _
           let is = footprint w.text.logs e in
           let s = reached w es in
           let new = es ++ added done e in
-          let ok = may.1 s (lead es come.run) (covered_are_shown w s (slice_get xs) is come.parts may.0) in
+          let ok = may.1.goes s (lead es come.run) (covered_are_shown w s (slice_get xs) is come.parts may.0) in
           let run = run_goes done es e come.run ok.0 in
           let state : reached w new ≡ behind w done e s = state_is done es e in
           let tells = λ (i : ℕ) (y : ShareState). replaced_tells xs is made i y (goes_as_many w s done e is (values (slice_get xs) is) made ok.1) in

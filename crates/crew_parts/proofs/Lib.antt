@@ -3,3 +3,4 @@ mod PartsStay
 mod Outsides
 mod Coming
 mod UnderWay
+mod FewActs

@@ -111,7 +111,7 @@ module _
     goes front xs run a made may =
         let here = come front xs run in
         let s = reached w (kept front) in
-        (may.1 s (lead (kept front) here.run) (covered_are_shown w s (slice_get xs) (footprint w.text.logs (meant a)) here.parts may.0)).1
+        (may.1.goes s (lead (kept front) here.run) (covered_are_shown w s (slice_get xs) (footprint w.text.logs (meant a)) here.parts may.0)).1
 
     -- an act does not touch the log, where its journal is shut
     shut_left : (front : List Act) (xs : List ShareState) → RunTo start front xs → (a : Act) (made : List ShareState) → May (λ b. footprint w.text.logs (meant b)) (Happens w) (slice_get xs) a made

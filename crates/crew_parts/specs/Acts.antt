@@ -29,6 +29,12 @@ meant a = event_meant a.event
 abbrev pub touched : Tables → Act → List ℕ
 touched t a = footprint (text_of t).logs (meant a)
 
+-- what stands before it may meet a fault: the append before a Sync, the line before a reply
+abbrev pub may_break : Event → Bool
+may_break (Sync l) = true
+may_break (Reply n) = true
+may_break e = false
+
 -- the state behind it: where what stands before the event met a fault, nothing happened to the machine
 abbrev pub behind : Fixed Rest → Bool → Event → Machine Rest → Machine Rest
 behind w true e s = after w e s
@@ -114,10 +120,11 @@ AreShown w s (i ∷ is) [] = ⊥
 AreShown w s (i ∷ is) (x ∷ xs) = IsPartOf w s i x.part × AreShown w s is xs
 
 -- In each state that some run has come to and of which these are parts, the event is allowed, and those are what is made of them.
-abbrev pub Happens : Fixed Rest → Act → List ShareState → List ShareState → Type 0
-Happens w a old new =
-    (s : Machine Rest) → HasRun w s → AreShown w s (footprint w.text.logs (meant a)) old
-    → IsAllowed w (meant a) s × EachGoes w s a.done (meant a) (footprint w.text.logs (meant a)) old new
+-- A fault comes of a Sync or a reply alone.
+pub record Happens (w : Fixed Rest) (a : Act) (old new : List ShareState) : Type 0 where
+  pub goes : (s : Machine Rest) → HasRun w s → AreShown w s (footprint w.text.logs (meant a)) old
+      → IsAllowed w (meant a) s × EachGoes w s a.done (meant a) (footprint w.text.logs (meant a)) old new
+  pub broken : a.done ≡ false → may_break (meant a) ≡ true
 
 abbrev pub MayDo : Tables → Act → List ShareState → List ShareState → Type 0
 MayDo t a = Happens (fixed_of t) a

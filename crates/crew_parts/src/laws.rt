@@ -1,17 +1,19 @@
 //! What follows of a crew's acts. Each is called to cite it.
-ghost use Rattle.std.specs.Prelude.{◌≡◌, ◌<◌, Bool, true, List, Option, ℕ};
+ghost use Rattle.std.specs.Prelude.{◌≡◌, ◌+◌, ◌*◌, ◌<◌, ◌≤◌, Bool, true, List, Option, ℕ, length};
 ghost use Rattle.crew_parts.specs.Acts.{MayDo, touched};
 ghost use Rattle.core_rows.specs.OnRuns.{HasRun};
 ghost use Rattle.crew_parts.specs.Crews.{Begins, HasCome, Stands, kept};
 ghost use Rattle.crew_parts.specs.Shares.{ShareState};
 ghost use Rattle.crew_parts.specs.declared.acts.Act.{Act};
 ghost use Rattle.crew_parts.specs.Steps.{CrewTable, FindsMoment, HoldsForSync, IsMoment};
-ghost use Rattle.snap_hand.specs.Tables.{AreTables, fixed_of};
+ghost use Rattle.snap_hand.specs.Tables.{AreTables, fixed_of, text_of};
 ghost use Rattle.protocol.specs.Events as machine;
 ghost use Rattle.protocol.specs.Runs.{IsRun, reached};
-ghost use Rattle.turn_table.specs.Places.{IsIdle};
+ghost use Rattle.protocol_theorems.specs.Left.{most_events};
+ghost use Rattle.turn_table.specs.Places.{Ascending, IsIdle};
 ghost use Rattle.turn_table.specs.Rule.{IsLater, Kept};
 ghost use Rattle.turn_table.specs.Runs.{Fits, Run};
+ghost use Rattle.turn_table.specs.declared.limits.TheConstants.{MOST_ENTRIES};
 
 use crate::shares::Share;
 use aml_slice::Control;
@@ -27,6 +29,18 @@ use turn_table::{histories_go_on, one_view_holds_it, runs_join, what_is_held_is_
 pub fn acts_are_runs(tables: &Tables)
     requires { AreTables tables.now }
     ensures { (start : List ShareState) (acts : List Act) (now : List ShareState) → Begins (fixed_of tables.now) start → Run (touched tables.now) (MayDo tables.now) start acts now → HasCome (fixed_of tables.now) start (kept acts) now }
+{
+    runs_of(tables);
+    texts_have_the_facts(&tables.work.program);
+    verdicts_have_evidence(&tables.work.program);
+    events_leave_other_parts::<Control>();
+}
+
+/// Acts are few: those of their events that happened are a run, which is short; and of each log and of the output there is one fault at
+/// most.
+pub fn acts_are_few(tables: &Tables)
+    requires { AreTables tables.now }
+    ensures { (start : List ShareState) (acts : List Act) (now : List ShareState) → Begins (fixed_of tables.now) start → Run (touched tables.now) (MayDo tables.now) start acts now → length acts ≤ most_events * length (text_of tables.now).txs + ((text_of tables.now).logs + 1) }
 {
     runs_of(tables);
     texts_have_the_facts(&tables.work.program);
@@ -73,4 +87,12 @@ pub fn passes_stand(tables: &Tables)
 {
     acts_are_runs(tables);
     runs_lead(tables);
+}
+
+/// No pass is ever full.
+pub fn passes_have_room(tables: &Tables)
+    requires { AreTables tables.now }
+    ensures { (start : List ShareState) (held : List (Option ShareState)) (entries : List (ℕ × Act)) → Begins (fixed_of tables.now) start → Fits (touched tables.now) (MayDo tables.now) start held entries → Ascending entries → length entries < MOST_ENTRIES }
+{
+    acts_are_few(tables);
 }
