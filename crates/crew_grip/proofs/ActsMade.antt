@@ -5,6 +5,7 @@ use Rattle.std.proofs.lemmas.Bool.Decides.{eqb_tells}
 use Rattle.aml_slice.specs.Controls.{Rest}
 use Rattle.core_rows.specs.declared.step_no.StepNo.{StepNo}
 use Rattle.core_rows.specs.declared.step_no.StepNo.TheVariants.{NotNow, Memory}
+use Rattle.crew_parts.specs.Acts.{may_break}
 use Rattle.crew_parts.specs.Besides.{IsSound}
 use Rattle.crew_parts.specs.Crews.{Stands}
 use Rattle.crew_parts.specs.Shares.{BesideState, ShareState}
@@ -79,18 +80,20 @@ acted_done w e old mid new out step = record {
   besides = subst (λ bs. BesidesGo w true e old.hand old.besides bs) (sym step.besides) out.besides;
   many = ap length step.besides ∙ out.many;
   there = λ i. ap (λ bs. is_some (at bs i)) step.besides ∙ out.there i;
+  broken = λ none. absurd (true≢false none);
 }
 
 pub acted_broken : (w : Fixed Rest) (e : Event) (old new : GripState) → ((s : Machine Rest) → (refusal w e s ≡ 0) → IsAllowed w e s) → IsRefusalOn w e old.hand 0 → IsHandOf w old.hand
-    → HasGoneOut w false e old new → HasActed w false e old new
+    → (may_break e ≡ true) × HasGoneOut w false e old new → HasActed w false e old new
 acted_broken w e old new says allowed of out = record {
   allowed = λ s run fits. says s (allowed s run fits);
-  fits = λ s run fits. subst (λ h. Fits h s) (sym out.hand) fits;
-  places = subst (IsHandOf w) (sym out.hand) of;
-  same_parts = ap are_there out.hand;
-  besides = out.besides;
-  many = out.many;
-  there = out.there;
+  fits = λ s run fits. subst (λ h. Fits h s) (sym out.1.hand) fits;
+  places = subst (IsHandOf w) (sym out.1.hand) of;
+  same_parts = ap are_there out.1.hand;
+  besides = out.1.besides;
+  many = out.1.many;
+  there = out.1.there;
+  broken = λ none. out.0;
 }
 
 -- ---- in what the code has at hand

@@ -49,6 +49,7 @@ use Rattle.turn_table.specs.Places.{at}
 use Rattle.txn_records.specs.declared.records.Record.{Record}
 use Rattle.crew_grip.specs.Acted.{AreSound, BesideGoes, HasGoneOut, IsJust, IsOuter, why_of}
 use Rattle.crew_grip.specs.Grips.{GripState, IsGripOf, beside_in}
+use Rattle.crew_grip.specs.declared.results.NotDone.TheVariants as undone
 use Rattle.crew_grip.proofs.ByNumber.{some_of, set_here, set_else, at_within}
 use Rattle.crew_grip.proofs.HandsHold.{stands_fit}
 
@@ -328,8 +329,11 @@ module _ (w : Fixed Rest) (laws : Drives) (runs : RunsOf w) (start : List ShareS
 
     pub not_appended : (why : AppendNo) (x : ShareState) (c : BesideState) (new : GripState) → at held (log l) ≡ Some x → at g.besides (log l) ≡ Some x.beside → HasAppended x.beside c pieces (Err why)
         → new ≡ record { hand = g.hand; besides = slice_set g.besides (log l) (Some c) } → IsOuter w (Sync l) g new (Err (why_of why))
-    not_appended append.Device x c new here was became is = subst (HasGoneOut w false (Sync l) g) (sym is)
-        (cut_off w laws runs held g l within grip just sound pieces waits x.beside was (λ k q. gate_is_low w start held l x k runs begins st within here q) c became)
+    not_appended append.Device x c new here was became is = (
+      refl,
+      subst (HasGoneOut w false (Sync l) g) (sym is)
+          (cut_off w laws runs held g l within grip just sound pieces waits x.beside was (λ k q. gate_is_low w start held l x k runs begins st within here q) c became),
+    )
     not_appended append.Shut x c new here was became is = absurd became
     not_appended append.Memory x c new here was became is =
         is ∙ ap (λ bs. record { hand = g.hand; besides = bs }) (ap (λ b. slice_set g.besides (log l) (Some b)) became ∙ set_same g.besides (log l) x.beside was)
@@ -344,8 +348,8 @@ module _ (w : Fixed Rest) (held : List (Option ShareState)) (g : GripState) (n :
   written_out line prints b c new was became is = subst (HasGoneOut w true (Reply n) g) (sym is) (replied w held g n grip just sound line prints b was c became)
 
   pub not_written : (line : List ℕ) → ((s : Machine Rest) → Fits g.hand s → line ≡ line_in s n) → (b c : BesideState) (new : GripState) (why : Failed) → at g.besides desk ≡ Some b → HasWritten b c line (Err why)
-      → new ≡ record { hand = g.hand; besides = slice_set g.besides desk (Some c) } → HasGoneOut w false (Reply n) g new
-  not_written line prints b c new why was became is = subst (HasGoneOut w false (Reply n) g) (sym is) (broken_off w held g n grip just sound line prints b was c became)
+      → new ≡ record { hand = g.hand; besides = slice_set g.besides desk (Some c) } → IsOuter w (Reply n) g new (Err undone.Fault)
+  not_written line prints b c new why was became is = (refl, subst (HasGoneOut w false (Reply n) g) (sym is) (broken_off w held g n grip just sound line prints b was c became))
 
 -- what stands beside the desk where a reply's parts are held
 pub desk_held : (w : Fixed Rest) (held : List (Option ShareState)) (g : GripState) → IsGripOf w held g → IsJust (book ∷ desk ∷ []) held → (x : ShareState) × ((at held desk ≡ Some x) × (at g.besides desk ≡ Some x.beside))

@@ -17,8 +17,11 @@ use Rattle.snap_hand.specs.Hands.{Parts, IsHandOf}
 use Rattle.snap_hand.specs.Shown.{Shown, Belongs, IsPartOf, part_at, places, with_part, without}
 use Rattle.snap_hand.specs.Tables.{fixed_of}
 use Rattle.snap_hand.specs.declared.tables.Tables.{Tables}
-use Rattle.turn_table.specs.Places.{at, put_at}
+use Rattle.turn_table.specs.Places.{Ascending, at, put_at}
 use Rattle.turn_table.specs.Runs.{Fits}
+use Rattle.turn_table.specs.Views.{lost}
+use Rattle.turn_table.specs.declared.limits.TheConstants.{MOST_ENTRIES}
+use Rattle.turn_table.specs.declared.views.View.{View}
 use Rattle.crew_grip.specs.Grips.{GripState, IsGripOf, beside_in, joined, part_count, part_in, share_at}
 use Rattle.crew_grip.proofs.ByNumber.{put_here, put_else, set_here, set_else, set_none}
 use Rattle.crew_grip.proofs.HandsHold.{part_is, places_many}
@@ -153,3 +156,17 @@ part_of_run w start held i x st here = st.come.parts i x (st.held i x here)
 -- what was given back is held no more, and all else as before
 pub gave_stands : (w : Fixed Rest) (start : List ShareState) (held new : List (Option ShareState)) (i : ℕ) → Stands w start held → new ≡ put_at held i None → Stands w start new
 gave_stands w start held new i st is = subst (Stands w start) (sym is) (still_stands w start held (put_at held i None) st (λ j x e. fewer held i j x e))
+
+-- and so it is of the acts that have led to that
+pub gave_fits : (t : Tables) (start : List ShareState) (v u : View ShareState Act) (i : ℕ) → Fits (touched t) (MayDo t) start v.held v.entries → u ≡ lost v i → Fits (touched t) (MayDo t) start u.held u.entries
+gave_fits t start v u i fits is =
+    subst (λ (x : View ShareState Act). Fits (touched t) (MayDo t) start x.held x.entries) (sym is) (fits.0, fits.1, fits.2, λ j p e. fits.3 j p (fewer v.held i j p e), fits.4)
+
+-- and its pass has room
+pub has_room : (t u : Tables) → t ≡ u
+    → ((start : List ShareState) (held : List (Option ShareState)) (entries : List (ℕ × Act)) → Begins (fixed_of t) start → Fits (touched t) (MayDo t) start held entries → Ascending entries → length entries < MOST_ENTRIES)
+    → (start : List ShareState) (held : List (Option ShareState)) (entries known : List (ℕ × Act)) → Begins (fixed_of u) start → Fits (touched u) (MayDo u) start held known → entries ≡ known → Ascending entries
+    → length entries < MOST_ENTRIES
+has_room t u same law start held entries known begins fits is rises =
+    subst (λ v. Begins (fixed_of v) start → Fits (touched v) (MayDo v) start held entries → length entries < MOST_ENTRIES) same (λ b f. law start held entries b f rises)
+    begins (subst (Fits (touched u) (MayDo u) start held) (sym is) fits)

@@ -9,7 +9,7 @@ use Rattle.crew_grip.specs.declared.results.Acted.TheVariants as acted
 use Rattle.crew_grip.specs.declared.results.NotDone.{NotDone}
 use Rattle.crew_grip.specs.declared.results.NotDone.TheVariants as undone
 use Rattle.core_events.specs.declared.events.Event as code
-use Rattle.crew_parts.specs.Acts.{JournalGoes, OutputGoes, behind, meant}
+use Rattle.crew_parts.specs.Acts.{JournalGoes, OutputGoes, behind, may_break, meant}
 use Rattle.crew_parts.specs.Besides.{IsSound}
 use Rattle.crew_parts.specs.Crews.{Stands}
 use Rattle.crew_parts.specs.Shares.{BesideState, ShareState}
@@ -82,10 +82,11 @@ why_of append.Memory = undone.Memory
 
 abbrev pub IsOuter : Fixed Rest → Event → GripState → GripState → Result (Unit {0}) NotDone → Type 0
 IsOuter w e old new (Ok _) = HasGoneOut w true e old new
-IsOuter w e old new (Err undone.Fault) = HasGoneOut w false e old new
+IsOuter w e old new (Err undone.Fault) = (may_break e ≡ true) × HasGoneOut w false e old new
 IsOuter w e old new (Err undone.Memory) = new ≡ old
 
--- In each state of a run that the hand fits the event is allowed; and where it was done, the hand fits the state after it.
+-- In each state of a run that the hand fits the event is allowed; and where it was done, the hand fits the state after it. Where not,
+-- it is one that may break.
 pub record HasActed (w : Fixed Rest) (done : Bool) (e : Event) (old new : GripState) : Type 0 where
   pub allowed : (s : Machine Rest) → HasRun w s → Fits old.hand s → IsAllowed w e s
   pub fits : (s : Machine Rest) → HasRun w s → Fits old.hand s → Fits new.hand (behind w done e s)
@@ -94,6 +95,7 @@ pub record HasActed (w : Fixed Rest) (done : Bool) (e : Event) (old new : GripSt
   pub besides : BesidesGo w done e old.hand old.besides new.besides
   pub many : length new.besides ≡ length old.besides
   pub there : (i : ℕ) → is_some (at new.besides i) ≡ is_some (at old.besides i)
+  pub broken : done ≡ false → may_break e ≡ true
 
 -- The hand took the event, with the same parts, and what stands beside them stays.
 pub record IsStepped (w : Fixed Rest) (e : Event) (old new : GripState) : Type 0 where

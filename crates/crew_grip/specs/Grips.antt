@@ -2,6 +2,7 @@
 use Rattle.std.specs.Prelude.{◌≡◌, ℕ, ◌+◌, Option, None, Some, option_map, List, length}
 use Rattle.aml_slice.specs.Controls.{Rest}
 use Rattle.atomic_table.specs.declared.shared.Seat.{Seat}
+use Rattle.crew_parts.specs.Acts.{MayDo, touched}
 use Rattle.crew_parts.specs.Crews.{Begins, Stands}
 use Rattle.crew_parts.specs.Shares.{BesideState, ShareState, share_of}
 use Rattle.crew_parts.specs.declared.acts.Act.{Act}
@@ -11,6 +12,7 @@ use Rattle.snap_hand.specs.Shown.{Shown, part_at}
 use Rattle.snap_hand.specs.Tables.{AreTables, fixed_of}
 use Rattle.snap_hand.specs.declared.tables.Tables.{Tables}
 use Rattle.turn_table.specs.Places.{at}
+use Rattle.turn_table.specs.Runs.{Fits}
 use Rattle.turn_table.specs.Words.{tables_of, opening_of, IsOf, knows}
 use Rattle.turn_table.specs.declared.turns.Turns.{Turns}
 use Rattle.turn_table.specs.declared.views.View.{View}
@@ -57,11 +59,13 @@ pub record IsCrew (turns : CrewTurns) : Type 0 where
   pub tables : AreTables (tables_of turns)
   pub begins : Begins (fixed_of (tables_of turns)) (opening_of turns)
 
--- The pass is one of the table, the grip has what the pass holds, and some run has come to that.
+-- The pass is one of the table, the grip has what the pass holds, and some run has come to that: acts in which what the pass recorded
+-- stands at its numbers.
 pub record IsAtWork (turns : CrewTurns) (seat : CrewSeat) (g : GripState) : Type 0 where
   pub own : IsOf turns seat
   pub grip : IsGripOf (fixed_of (tables_of turns)) (knows seat).held g
   pub stands : Stands (fixed_of (tables_of turns)) (opening_of turns) (knows seat).held
+  pub fits : Fits (touched (tables_of turns)) (MayDo (tables_of turns)) (opening_of turns) (knows seat).held (knows seat).entries
 
 -- It has what some pass of the table holds: some run has come to that.
 pub record IsHeldNow (turns : CrewTurns) (g : GripState) : Type 0 where

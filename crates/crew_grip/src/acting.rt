@@ -19,14 +19,14 @@ use crate::Grip;
 use crate::results::{Acted, NotDone};
 use aml_slice::Control;
 use core_events::{Event, Footprint, footprint};
-use crew_parts::{Act, Share, passes_stand};
+use crew_parts::{Act, Share, passes_have_room, passes_stand};
 use protocol_laws::allowed_or_refused;
 use ready_list::ReadyList;
 use snap_base::Memory;
 use snap_hand::{apply, places_are_set, refusal, taking_fits};
 use snap_outside::{Gate, LogDev, Sink};
 use std::alloc::Global;
-use turn_table::{Makes, Pass, Turns};
+use turn_table::{Makes, Pass, RoomNo, Turns};
 
 impl<D: LogDev + Drop, O: Sink + Drop> Makes<Share<D, O>, Act> for Grip<D, O> {
     ghost use Rattle.crew_grip.specs.Acted.{made_in};
@@ -82,6 +82,36 @@ impl<D: LogDev + Drop, O: Sink + Drop> Grip<D, O> {
         }
         places_are_set();
         refusal(tables, &self.hand, e) == 0
+    }
+
+    /// Makes room for one act more. Only memory may be wanting: no pass is ever full, since runs are short.
+    pub fn room(
+        &self,
+        turns: &Turns<Share<D, O>>,
+        pass: &mut Pass<Share<D, O>>,
+    ) -> Result<(), Memory>
+        requires crew { IsCrew turns.now }
+        requires work { IsAtWork turns.now pass.old.seat self.now }
+        ensures ok { OnOk result (vec_len pass.new.entries < vec_capacity pass.new.entries) }
+        ensures few { vec_len pass.new.entries < MOST_ENTRIES }
+        ensures same { (pass.new.seat ≡ pass.old.seat) × (pass.new.entries.items ≡ pass.old.entries.items) }
+    {
+        self.leaves_room(turns, pass);
+        match turns.room(pass) {
+            Ok(()) => Ok(()),
+            Err(RoomNo::Full { entries: _ }) => unreachable!(),
+            Err(RoomNo::Memory) => Err(Memory),
+        }
+    }
+
+    /// What the pass has recorded leaves room for more. Called to cite it.
+    fn leaves_room(&self, turns: &Turns<Share<D, O>>, pass: &Pass<Share<D, O>>)
+        requires crew { IsCrew turns.now }
+        requires work { IsAtWork turns.now pass.now.seat self.now }
+        ensures { vec_len pass.now.entries < MOST_ENTRIES }
+    {
+        let _ = pass;
+        passes_have_room(turns.tables());
     }
 
     /// Does the event, where it is allowed on the parts of its footprint, and records it. No other part is held. A Run passes

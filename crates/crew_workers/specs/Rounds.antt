@@ -10,5 +10,4 @@ use Rattle.crew_parts.specs.declared.acts.Act.{Act}
 abbrev pub HasTried : code.Event → List (ℕ × Act) → List (ℕ × Act) → Round → Type 0
 HasTried e old new (round.Looked acted) = IsRecorded e old new acted
 HasTried e old new (round.Busy _) = new ≡ old
-HasTried e old new round.Full = new ≡ old
 HasTried e old new round.Memory = new ≡ old

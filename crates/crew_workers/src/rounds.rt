@@ -18,7 +18,7 @@ use crew_grip::{Acted, Grip};
 use crew_parts::Share;
 use snap_outside::{Gate, LogDev, Sink};
 use std::alloc::Global;
-use turn_table::{Pass, RoomNo, Turns};
+use turn_table::{Pass, Turns};
 
 /// So many events that wait for a Sync, for each log, are worth one.
 const GROUP: usize = 64;
@@ -30,8 +30,6 @@ pub enum Round {
     Looked(Acted),
     /// A turn was held by another worker. Whether the event is to be tried again: else it waits on the board.
     Busy { again: bool },
-    /// The pass has recorded as many acts as a pass may.
-    Full,
     /// There was no memory. Nothing was done.
     Memory,
 }
@@ -94,17 +92,14 @@ fn tried<D: LogDev + Drop, O: Sink + Drop, G: Gate>(
     ensures entries { HasTried e pass.old.entries.items pass.new.entries.items result }
     ensures splits { splits_of pass.new.seat ≡ splits_of pass.old.seat }
 {
-    match turns.room(pass) {
-        Ok(()) => {
-            if !grip.take_parts(turns, pass, parts) {
-                let again = lacks_brief(grip, parts) || board.block(e);
-                return Round::Busy { again };
-            }
-            Round::Looked(grip.act(alloc, turns, pass, gate, e))
-        }
-        Err(RoomNo::Full { entries: _ }) => Round::Full,
-        Err(RoomNo::Memory) => Round::Memory,
+    let Ok(()) = grip.room(turns, pass) else {
+        return Round::Memory;
+    };
+    if !grip.take_parts(turns, pass, parts) {
+        let again = lacks_brief(grip, parts) || board.block(e);
+        return Round::Busy { again };
     }
+    Round::Looked(grip.act(alloc, turns, pass, gate, e))
 }
 
 /// Whether the first of these parts that is not held is neither a log nor a cell: then nobody holds it for long.

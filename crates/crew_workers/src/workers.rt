@@ -103,7 +103,6 @@ fn after_try(round: Round) -> Next {
         Round::Looked(Acted::Broken { number: _ })
         | Round::Looked(Acted::Unready)
         | Round::Looked(Acted::Memory)
-        | Round::Full
         | Round::Memory => Next::End,
         Round::Busy { again: true } => Next::Rest,
         _ => Next::Again,

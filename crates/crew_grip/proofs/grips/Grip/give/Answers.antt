@@ -4,7 +4,7 @@ use Rattle.snap_hand.specs.Tables.{fixed_of}
 use Rattle.turn_table.specs.Places.{at}
 use Rattle.crew_grip.specs.Grips.{IsGripOf}
 use Rattle.crew_grip.proofs.ByNumber.{at_within, none_of, put_here, some_of}
-use Rattle.crew_grip.proofs.Working.{gave, gave_stands, nothing_held, share_is, share_there, stays_none}
+use Rattle.crew_grip.proofs.Working.{gave, gave_fits, gave_stands, nothing_held, share_is, share_there, stays_none}
 use Rattle.crew_grip.proofs.grips.Grip.give.Goals as goal
 
 pub returns-then-not-holds-clause-given : goal.returns-then-not-holds-clause-given
@@ -38,6 +38,9 @@ returns-clause-work g c =
           subst (λ (hs : List (Option ShareState)). IsGripOf w hs c.take_share-share.new.self) (sym is)
           (gave w held c.args.self.now c.take_share-share.new.self c.args.part c.taking_fits.ensures.stays c.places_are_set.ensures.without c.requires.work.grip c.take_share-share.ensures.left);
       stands = gave_stands w _ _ _ c.args.part c.requires.work.stands is;
+      fits =
+          gave_fits c.args.turns.now.table.shared.key.tables.value c.args.turns.now.table.shared.key.parts.value.items c.args.pass.now.seat.me.0 c.give_part.new.pass.seat.me.0 c.args.part
+          c.requires.work.fits c.give_part.ensures.view;
     }
 
 pub returns-clause-given : goal.returns-clause-given

@@ -3,7 +3,7 @@ use Rattle.crew_parts.specs.Acts.{MayDo, meant, touched}
 use Rattle.protocol.specs.Events.{footprint}
 use Rattle.snap_hand.specs.Tables.{fixed_of, text_of}
 use Rattle.turn_table.specs.Places.{at, held_after, values}
-use Rattle.turn_table.specs.Runs.{May}
+use Rattle.turn_table.specs.Runs.{Fits, May}
 use Rattle.crew_grip.specs.Grips.{IsGripOf, share_at}
 use Rattle.crew_grip.proofs.ByNumber.{after_else}
 use Rattle.crew_grip.proofs.Recording.{grip_after, may_be_made}
@@ -15,9 +15,10 @@ record-requires-clause-held g c =
     let t = c.args.turns.now.table.shared.key.tables.value in
     let w = fixed_of t in
     let acted = c.requires.acted in
+    let made = may_be_made w c.args.pass.now.seat.me.0.held acted.0 c.args.self.now (footprint (text_of t).logs (meant c.args.act)) c.args.act.done (meant c.args.act) acted.1.0 acted.1.1.0 acted.1.1.1
+    c.places_are_set.ensures.told (c.taking_fits.ensures.is w) in
     subst (λ (n : ℕ). May (touched t) (MayDo t) (at c.args.pass.now.seat.me.0.held) c.args.act (values (share_at c.args.self.now) (footprint n (meant c.args.act)))) (sym acted.1.1.1.places.logs)
-    (may_be_made w c.args.pass.now.seat.me.0.held acted.0 c.args.self.now (footprint (text_of t).logs (meant c.args.act)) c.args.act.done (meant c.args.act) acted.1.0 acted.1.1.0 acted.1.1.1
-    c.places_are_set.ensures.told (c.taking_fits.ensures.is w))
+    (made.0, record { goes = made.1; broken = acted.1.1.1.broken })
 
 pub returns-clause-work : goal.returns-clause-work
 returns-clause-work g c =
@@ -33,6 +34,7 @@ returns-clause-work g c =
       own = c.record.ensures.own;
       grip = subst (λ hs. IsGripOf w hs c.args.self.now) (sym (ap (λ v. v.held) c.record.ensures.view)) now;
       stands = stands_now c.tables.result.now t c.tables.ensures c.passes_stand.ensures.knows start _ _ c.requires.crew.begins c.record.ensures.fits;
+      fits = subst (λ es. Fits (touched t) (MayDo t) start c.record.new.pass.seat.me.0.held es) c.record.new.pass.same c.record.ensures.fits;
     }
 
 pub returns-clause-others : goal.returns-clause-others

@@ -1,9 +1,11 @@
 use Rattle.std.proofs.Common.{◌∙◌, List, Option, Some, is_some, ap, sym, subst, arith}
+use Rattle.crew_parts.specs.Acts.{MayDo, touched}
 use Rattle.crew_parts.specs.Shares.{ShareState}
 use Rattle.protocol.specs.Runs.{reached}
 use Rattle.snap_hand.specs.Shown.{Belongs}
 use Rattle.snap_hand.specs.Tables.{fixed_of}
 use Rattle.turn_table.specs.Places.{at, put_at}
+use Rattle.turn_table.specs.Runs.{Fits}
 use Rattle.crew_grip.specs.Grips.{IsGripOf}
 use Rattle.crew_grip.proofs.ByNumber.{is_some_map, none_of, put_else}
 use Rattle.crew_grip.proofs.Working.{no_part, part_of_run, stands_now, took}
@@ -46,6 +48,7 @@ returns-clause-work g c =
           c.putting_fits.ensures.stays c.putting_fits.ensures.belongs c.places_are_set.ensures.with c.requires.work.grip
           (omega (arith, c.requires.part, c.args.turns.now.counted, c.requires.crew.begins.many)) (part_of_run w start _ c.args.part x st is) c.put_share.ensures);
       stands = st;
+      fits = subst (λ es. Fits (touched t) (MayDo t) start c.take.new.pass.seat.me.0.held es) c.take.new.pass.same c.in-Some.ensures.fits;
     }
 
 pub returns-clause-held : goal.returns-clause-held
