@@ -9,8 +9,8 @@ ghost use Rattle.crew_parts.specs.declared.acts.Act.{Act};
 ghost use Rattle.hand_offers.specs.Offers.{AreOffers};
 ghost use Rattle.protocol.specs.Events as machine;
 ghost use Rattle.protocol.specs.Words.{is_among};
-ghost use Rattle.snap_hand.specs.Steps.{IsRefusalOn, MayBeAsked, may_want};
-ghost use Rattle.snap_hand.specs.Tables.{fixed_of, text_of};
+ghost use Rattle.snap_hand.specs.Steps.{IsRefusalOn, IsStep, MayBeAsked, may_want};
+ghost use Rattle.snap_hand.specs.Tables.{AreTables, fixed_of, text_of};
 ghost use Rattle.turn_table.specs.Places.{at};
 ghost use Rattle.turn_table.specs.Words.{IsOf, knows, splits_of, tables_of};
 ghost use Rattle.turn_table.specs.declared.limits.TheConstants.{MOST_ENTRIES};
@@ -19,11 +19,12 @@ use crate::Grip;
 use crate::results::{Acted, NotDone};
 use aml_slice::Control;
 use core_events::{Event, Footprint, footprint};
+use core_rows::StepNo;
 use crew_parts::{Act, Share, passes_have_room, passes_stand};
 use protocol_laws::allowed_or_refused;
 use ready_list::ReadyList;
 use snap_base::Memory;
-use snap_hand::{apply, places_are_set, refusal, taking_fits};
+use snap_hand::{Hand, Tables, apply, places_are_set, refusal, taking_fits};
 use snap_outside::{Gate, LogDev, Sink};
 use std::alloc::Global;
 use turn_table::{Makes, Pass, RoomNo, Turns};
@@ -172,8 +173,7 @@ impl<D: LogDev + Drop, O: Sink + Drop> Grip<D, O> {
         places_are_set();
         match self.go_out(alloc, turns, e) {
             Ok(()) => {
-                pass_gate(gate, e);
-                let Ok(()) = self.step(alloc, turns, e) else {
+                let Ok(()) = self.step(alloc, turns, gate, e) else {
                     return Acted::Memory;
                 };
                 let act = Act {
@@ -195,15 +195,22 @@ impl<D: LogDev + Drop, O: Sink + Drop> Grip<D, O> {
         }
     }
 
-    /// Takes the event, which is allowed, on the hand. `Memory` comes only of the events that add something, and changes nothing.
-    fn step(&mut self, alloc: Global, turns: &Turns<Share<D, O>>, e: Event) -> Result<(), Memory>
+    /// Takes the event, which is allowed, on the hand. A Run passes the gate first. `Memory` comes only of the events that add
+    /// something, and changes nothing.
+    fn step<G: Gate>(
+        &mut self,
+        alloc: Global,
+        turns: &Turns<Share<D, O>>,
+        gate: &G,
+        e: Event,
+    ) -> Result<(), Memory>
         requires crew { IsCrew turns.now }
         requires asked { MayBeAsked (fixed_of (tables_of turns.now)) (event_meant e) self.old.hand }
         requires allowed { IsRefusalOn (fixed_of (tables_of turns.now)) (event_meant e) self.old.hand 0 }
         ensures taken { OnOk result (IsStepped (fixed_of (tables_of turns.now)) (event_meant e) self.old self.new) }
         ensures not { OnErr result ((self.new ≡ self.old) × (may_want (event_meant e) ≡ true)) }
     {
-        match apply(alloc, turns.tables(), e, &mut self.hand) {
+        match take_on(alloc, turns.tables(), gate, e, &mut self.hand) {
             Ok(()) => Ok(()),
             Err(_) => Err(Memory),
         }
@@ -225,6 +232,24 @@ impl<D: LogDev + Drop, O: Sink + Drop> Grip<D, O> {
         passes_stand(turns.tables());
         turns.record(pass, act, self)
     }
+}
+
+/// Takes the event, which is allowed, on a hand: the hand's parts, as the cell of a Run, are then as the event leaves them. A Run
+/// passes the gate first.
+fn take_on<G: Gate>(
+    alloc: Global,
+    tables: &Tables,
+    gate: &G,
+    e: Event,
+    hand: &mut Hand,
+) -> Result<(), StepNo>
+    requires tables { AreTables tables.now }
+    requires asked { MayBeAsked (fixed_of tables.now) (event_meant e) hand.old }
+    requires allowed { IsRefusalOn (fixed_of tables.now) (event_meant e) hand.old 0 }
+    ensures { IsStep (fixed_of tables.now) (event_meant e) hand.old hand.new result }
+{
+    pass_gate(gate, e);
+    apply(alloc, tables, e, hand)
 }
 
 /// A Run passes the gate.
