@@ -86,8 +86,9 @@ pub(crate) fn has_part(e: Event, part: usize, logs: u8) -> bool
     false
 }
 
-/// What has this part, where there are so many logs, stands in the list no more, and is left to try, but for the event that was done.
-fn take_from(list: &Mutex<ReadyList>, finds: &mut Finds, part: usize, logs: u8, done: Event)
+/// What has this part, where there are so many logs, stands in the list no more, and is left to try, but for the event that was tried.
+/// Where there is no memory for that, it stays.
+fn take_from(list: &Mutex<ReadyList>, finds: &mut Finds, part: usize, logs: u8, tried: Event)
     requires { 1 ≤ logs }
 {
     let Some(mut list) = open(list) else {
@@ -97,9 +98,8 @@ fn take_from(list: &Mutex<ReadyList>, finds: &mut Finds, part: usize, logs: u8, 
     for i in 0..count {
         match list.nth(count - 1 - i) {
             Some(e) if has_part(e, part, logs) => {
-                list.take(e);
-                if e != done {
-                    let _left = finds.put(e);
+                if e == tried || finds.put(e).is_ok() {
+                    list.take(e);
                 }
             }
             _ => {}
@@ -172,11 +172,11 @@ impl Board {
         before < blocked.count()
     }
 
-    /// The part was given back behind this event: what lacked it is left to try.
-    pub fn unblock(&self, finds: &mut Finds, part: usize, logs: u8, done: Event)
+    /// The part was given back behind this event, done or refused: what lacked it is left to try.
+    pub fn unblock(&self, finds: &mut Finds, part: usize, logs: u8, tried: Event)
         requires { 1 ≤ logs }
     {
-        take_from(&self.blocked, finds, part, logs, done);
+        take_from(&self.blocked, finds, part, logs, tried);
     }
 
     /// All parts of a look were given back: what lacked one is left to try.

@@ -36,7 +36,7 @@ pub enum Round {
 
 /// Tries one event: takes its parts by one try each, does it where it is allowed, and gives all back. What it may have made allowed
 /// is left to try, and the parts that it touched are touched on the board; so they are where they were not to be had. What lacked a
-/// log or a cell waits there for whoever has it, and what lacked one of these parts is left to try behind that.
+/// log or a cell waits there for whoever has it, and what lacked one of these parts, which were at hand, is left to try behind that.
 pub fn try_event<D: LogDev + Drop, O: Sink + Drop, G: Gate>(
     alloc: Global,
     turns: &Turns<Share<D, O>>,
@@ -66,7 +66,7 @@ pub fn try_event<D: LogDev + Drop, O: Sink + Drop, G: Gate>(
         follow(alloc, turns, grip, board, finds, &parts, e);
     }
     grip.give_parts(turns, pass, &parts);
-    if done {
+    if matches!(round, Round::Looked(_)) {
         unblock_parts(board, finds, &parts, logs, e);
     }
     round

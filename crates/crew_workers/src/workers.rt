@@ -139,11 +139,16 @@ fn scope_after(scope: Scope, next: Next) -> Scope {
     }
 }
 
-/// What the worker tries next: the first of what it found, or a Run that is for whoever comes first. Before a Sync, which may take
-/// long, and when it has tried all that it found, another worker may look.
+/// What the worker tries next: the first of what it found, or a Run that is for whoever comes first. Before what may take long, a
+/// slice or what goes to a device or to the output, and when it has tried all that it found, another worker may look.
 fn next_try(board: &Board, finds: &mut Finds, leads: &mut bool) -> Option<Event> {
     let own = finds.next();
-    if *leads && matches!(own, None | Some(Event::Sync(_))) {
+    if *leads
+        && matches!(
+            own,
+            None | Some(Event::Sync(_) | Event::Run(_, _) | Event::Reply(_))
+        )
+    {
         *leads = false;
         board.end_look();
     }
