@@ -21,9 +21,10 @@ use Rattle.snap_report.specs.declared.statuses.Status.TheVariants as status
 use Rattle.log_opening.specs.Devices.{Device, device_at}
 use Rattle.log_opening.specs.Found.{IsRecoveryCause}
 use Rattle.log_opening.specs.Kept.{logs_said, Holds, AreGiven, IsAsked, AreRefused}
+use Rattle.run_opening.specs.Opens.{Tells}
 use Rattle.snap_run.specs.Uses.{Use}
 use Rattle.snap_run.specs.Answers.{IsAnswer}
-use Rattle.snap_run.specs.Recoveries.{Tells, IsRecoverable, IsRecoverAnswer}
+use Rattle.snap_run.specs.Recoveries.{IsRecoverable, IsRecoverAnswer}
 use Rattle.snap_run.proofs.Outcomes.{not_both, recover_not_gen, recover_not_bench}
 
 -- what the law refused_is_not_recovered of snap_recover says
@@ -82,14 +83,14 @@ holds_first (suc n) (b ∷ bs) (x ∷ xs) others first is all = let same : x ≡
 
 module _ (one : OneCommand) (laws : RecordLaws) (never : NeverBoth) (u : Use) (logs : List (List Record)) (may : IsRecoverable u logs) where
   some : 0 < length logs
-  some = omega (arith, ap (λ (l : List (List Record)). length l) may.said.2)
+  some = omega (arith, ap (λ (l : List (List Record)). length l) may.recovers.1.said.2)
 
   -- what log 0 holds says how many there are
   said : (first : List Record) → Holds (device_at u.devices_before 0) first → logs_said first ≡ length logs
   said first holds =
-      let here = same_records laws.one_list (device_at u.devices_before 0) (get_or logs 0 []) first (told_at (length logs) u.devices_before logs 0 may.told some) holds in
-      let same : first ≡ may.said.0 = here ∙ ap (λ (l : List (List Record)). get_or l 0 []) may.said.2 in
-      ap (λ (rs : List Record). logs_said rs) same ∙ sym may.said.3
+      let here = same_records laws.one_list (device_at u.devices_before 0) (get_or logs 0 []) first (told_at (length logs) u.devices_before logs 0 may.recovers.1.told some) holds in
+      let same : first ≡ may.recovers.1.said.0 = here ∙ ap (λ (l : List (List Record)). get_or l 0 []) may.recovers.1.said.2 in
+      ap (λ (rs : List Record). logs_said rs) same ∙ sym may.recovers.1.said.3
 
   asked_below : (log : ℕ) → IsAsked u.devices_before log → log < length logs
   asked_below log (inl zero_is) = omega (arith, some, zero_is)
@@ -98,23 +99,23 @@ module _ (one : OneCommand) (laws : RecordLaws) (never : NeverBoth) (u : Use) (l
   given_same : (xs : List (List Record)) → AreGiven u.devices_before xs → xs ≡ logs
   given_same xs given =
       let many : length xs ≡ length logs = given.3 ∙ said given.0 (holds_first (length xs) u.devices_before xs given.1 given.0 given.2 given.5) in
-      same_logs laws.one_list (take (length logs) u.devices_before) xs logs (subst (λ (n : ℕ). AllZip Holds (take n u.devices_before) xs) many given.5) may.told
+      same_logs laws.one_list (take (length logs) u.devices_before) xs logs (subst (λ (n : ℕ). AllZip Holds (take n u.devices_before) xs) many given.5) may.recovers.1.told
 
   given_not_refused : (xs : List (List Record)) (log : ℕ) (c : LogCause) → AreGiven u.devices_before xs → IsRecoveryCause xs log c → ⊥
   given_not_refused xs log c given why =
-      recovers_not_refused never logs may.recovers.0 log c may.recovers.1 (subst (λ (l : List (List Record)). IsRecoveryCause l log c) (given_same xs given) why)
+      recovers_not_refused never logs may.recovers.0 log c may.recovers.1.recovered (subst (λ (l : List (List Record)). IsRecoveryCause l log c) (given_same xs given) why)
 
   none_refused : (after : List Device) (log offset : ℕ) (c : LogCause) → AreRefused u.devices_before after log offset c → ⊥
   none_refused after log offset cause.NotALog x =
-      let tells = told_at (length logs) u.devices_before logs log may.told (asked_below log x.0) in
+      let tells = told_at (length logs) u.devices_before logs log may.recovers.1.told (asked_below log x.0) in
       let why = subst (λ o. Refused o (device_at after log).told (refusal.NotALog offset)) tells.1 x.1 in
       laws.foreign (content tells.0) (get_or logs log []) offset why.1.0 tells.2 why.1.1
   none_refused after log offset cause.Damage x =
-      let tells = told_at (length logs) u.devices_before logs log may.told (asked_below log x.0) in
+      let tells = told_at (length logs) u.devices_before logs log may.recovers.1.told (asked_below log x.0) in
       let why = subst (λ o. Refused o (device_at after log).told (refusal.Damage offset)) tells.1 x.1 in
       laws.damaged (content tells.0) (get_or logs log []) offset why.1.0 tells.2 why.1.1
   none_refused after log offset cause.BadRecord x =
-      let tells = told_at (length logs) u.devices_before logs log may.told (asked_below log x.0) in
+      let tells = told_at (length logs) u.devices_before logs log may.recovers.1.told (asked_below log x.0) in
       let opened = subst (λ o. Opened o (device_at after log).told x.1.0 x.1.1) tells.1 x.1.2 in
       laws.bad tells.0 (device_at after log).told x.1.0 offset x.1.1 (get_or logs log []) opened tells.2 x.1.3
   none_refused after log offset cause.NoGenesis x = given_not_refused x.1.0 log cause.NoGenesis x.1.1 x.1.2

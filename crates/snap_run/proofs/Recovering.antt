@@ -12,4 +12,4 @@ use Rattle.snap_run.specs.Recoveries.{IsRecoverAnswer}
 pub recovery_refused : (before after : List Device) (out : Writing) (no : LogsNo) (s : Status) → s ≡ logs_status no → IsLogsNo before after no → WritesNothing out → IsRecoverAnswer before after out s
 recovery_refused before after out (ending.Refused log offset cause) s same is nothing = rw same (is, nothing)
 recovery_refused before after out (ending.Device log) s same is nothing = rw same (is, nothing)
-recovery_refused before after out ending.Memory s same is nothing = rw same nothing
+recovery_refused before after out ending.Memory s same is nothing = rw same (is, nothing)

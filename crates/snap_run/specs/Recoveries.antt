@@ -1,17 +1,15 @@
 -- Why the command that prints what the logs recover to answers what it answers.
-use Rattle.std.specs.Prelude.{◌≡◌, ℕ, ◌<◌, List, ◌∷◌, ◌++◌, length, take, Some}
-use Rattle.std.specs.List.{AllZip}
+use Rattle.std.specs.Prelude.{ℕ, ◌<◌, List, ◌++◌, length}
 use Rattle.snap_outside.specs.Causes.{Rose}
-use Rattle.snap_outside.specs.Disk.{History, content}
 use Rattle.txn_records.specs.declared.records.Record.{Record}
-use Rattle.record_log.specs.Records.{HoldsRecords}
+use Rattle.run_recovery.specs.Recoverable.{AreRecoverable}
 use Rattle.snap_recover.specs.declared.openings.Opening.{Opening}
 use Rattle.snap_recover.specs.Opening.{IsRecovered}
 use Rattle.snap_report.specs.Lines.{actors_text, recovered_text}
 use Rattle.snap_report.specs.declared.statuses.Status.{Status}
 use Rattle.snap_report.specs.declared.statuses.Status.TheVariants as status
-use Rattle.log_opening.specs.Devices.{Device, device_at, AreOpened}
-use Rattle.log_opening.specs.Kept.{logs_said, AreGiven, AreRefused, HasFailed}
+use Rattle.log_opening.specs.Devices.{Device, device_at, AreOpened, LacksMemory}
+use Rattle.log_opening.specs.Kept.{AreGiven, IsAsked, AreRefused, HasFailed}
 use Rattle.snap_run.specs.Uses.{Use}
 use Rattle.run_work.specs.Writings.{Writing, WritesNothing, Writes, WritesFront}
 use Rattle.command_words.specs.Words.{IsRecover}
@@ -25,7 +23,7 @@ IsRecoverAnswer before after out status.Done =
 IsRecoverAnswer before after out (status.Usage place) = ⊥
 IsRecoverAnswer before after out (status.Input line cause) = ⊥
 IsRecoverAnswer before after out (status.Logs log offset c) = AreRefused before after log offset c × WritesNothing out
-IsRecoverAnswer before after out status.Memory = WritesNothing out
+IsRecoverAnswer before after out status.Memory = LacksMemory (λ log. IsAsked before log) before after × WritesNothing out
 IsRecoverAnswer before after out status.ReadFault = ⊥
 IsRecoverAnswer before after out (status.LogFault log) = HasFailed before after log × WritesNothing out
 IsRecoverAnswer before after out status.OutFault =
@@ -33,15 +31,9 @@ IsRecoverAnswer before after out status.OutFault =
     × Rose out.faults_before out.faults_after
 IsRecoverAnswer before after out status.TraceFault = ⊥
 
--- the device tells that it holds these records
-abbrev pub Tells : Device → List Record → Type 0
-Tells d rs = (h : History) × (d.told ≡ Some h) × HoldsRecords (content h) rs
-
--- The words print what the logs recover to; the logs are as many as log 0 says, and recover; and no count rises.
+-- The words print what the logs recover to; the logs are as many as log 0 says, hold these records, and recover; and no count rises.
 pub record IsRecoverable (u : Use) (logs : List (List Record)) : Type 0 where
   pub recover : IsRecover u.words
-  pub said : (first : List Record) × (others : List (List Record)) × (logs ≡ first ∷ others) × (length logs ≡ logs_said first)
-  pub told : AllZip Tells (take (length logs) u.devices_before) logs
-  pub recovers : (o : Opening) × IsRecovered logs o
+  pub recovers : (o : Opening) × AreRecoverable u.devices_before logs o
   pub devices : (log : ℕ) → log < length u.devices_before → ¬ Rose (device_at u.devices_before log).faults (device_at u.devices_after log).faults
   pub sink : ¬ Rose u.writing.faults_before u.writing.faults_after
