@@ -97,7 +97,7 @@ whole w o es true out heard is = absurd (true≢false is)
 whole w o es false out heard is = heard.1
 
 next : (w : Work) (o : Opening) (es : List machine.Event) (out : Writing) → Heard (machine_of w o) es true out → PrintsNext reporting w free o es out
-next w o es out heard = let b = heard.1 in (b.tx, b.first, b.more, b.is, b.allowed, (b.front, b.rest, b.line, b.taken))
+next w o es out heard = let b = heard.1 in (b.tx, es, [], sym (append-nil es), b.allowed, (b.front, b.rest, b.line, b.taken))
 
 -- why they ended
 stopped : (w : Work) (o : Opening) (es : List machine.Event) (old new : List LogState) (failed : Bool) (out : Writing) (by : Stop) → IsRun (machine_of w o) es
