@@ -1,7 +1,6 @@
 -- What a schedule takes is a run, and what comes next by it is allowed.
 use Rattle.std.specs.Prelude.{◌≡◌, ℕ, zero, suc, ◌+◌, Bool, Some, List, [], ◌∷◌, ◌++◌, length, slice_get, Contains}
-use Rattle.std.proofs.Common.{arith, sym}
-use Rattle.std.proofs.lemmas.List.{append-nil}
+use Rattle.std.proofs.Common.{arith}
 use Rattle.aml_slice.specs.Controls.{Rest}
 use Rattle.log_opening.specs.Devices.{Device}
 use Rattle.protocol.specs.Conditions.{IsAllowed}
@@ -42,4 +41,4 @@ last_allowed w (x ∷ es) e s run = last_allowed w es e (after w x s) run.1
 pub freed_next : (w : Work) (seed : ℕ) (o : Opening) (es : List Event) (e : Event) → IsNext w (seeded seed) o es e → IsNext w free o es e
 freed_next w seed o es e next =
     let m = machine_of w o in
-    (es, [], sym (append-nil es), last_allowed m es e (opening m) (taken_run m (seeded seed) (es ++ e ∷ []) next))
+    last_allowed m es e (opening m) (taken_run m (seeded seed) (es ++ e ∷ []) next)

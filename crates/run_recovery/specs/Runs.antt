@@ -93,11 +93,10 @@ pub record HasRun (w : Work) (schedule : Schedule) (o : Opening) (es : List mach
   pub front : IsTakenBy (machine_of w o) schedule es
   pub devices : AreRunDevices w o es failed before after
 
--- The seed's schedule goes on with this event. With several workers, it was allowed behind a front of the events: the others may
--- have gone on behind it.
+-- The seed's schedule goes on with this event. With several workers, it is allowed after all of the events.
 abbrev pub IsNext : Work → Schedule → Opening → List machine.Event → machine.Event → Type 0
 IsNext w (seeded seed) o es e = IsFrontOfSeed (machine_of w o) seed (es ++ e ∷ [])
-IsNext w free o es e = (first more : List machine.Event) × (es ≡ first ++ more) × IsAllowed (machine_of w o) e (reached (machine_of w o) first)
+IsNext w free o es e = IsAllowed (machine_of w o) e (reached (machine_of w o) es)
 
 -- no event is allowed any more
 abbrev pub HasEnded : Work → Opening → List machine.Event → Type 0

@@ -1,5 +1,5 @@
 -- What several workers promise of what they took, in the words of a run.
-use Rattle.std.proofs.Common.{◌≡◌, ℕ, ◌<◌, Bool, true, false, if◌then◌else◌, inl, inr, List, [], length, refl, sym, ap, subst, ◌∙◌, arith, Option, Some, None, nat_lt, append-nil}
+use Rattle.std.proofs.Common.{◌≡◌, ℕ, ◌<◌, Bool, true, false, if◌then◌else◌, inl, inr, List, length, refl, sym, ap, subst, ◌∙◌, arith, Option, Some, None, nat_lt}
 use Rattle.std.proofs.lemmas.Bool.{lt-ltb, ltb-true, true≢false}
 use Rattle.aml_slice.specs.Controls.{Rest}
 use Rattle.crew_ends.specs.Ends as crew
@@ -97,7 +97,7 @@ whole w o es true out heard is = absurd (true≢false is)
 whole w o es false out heard is = heard.1
 
 next : (w : Work) (o : Opening) (es : List machine.Event) (out : Writing) → Heard (machine_of w o) es true out → PrintsNext reporting w free o es out
-next w o es out heard = let b = heard.1 in (b.tx, es, [], sym (append-nil es), b.allowed, (b.front, b.rest, b.line, b.taken))
+next w o es out heard = let b = heard.1 in (b.tx, b.allowed, (b.front, b.rest, b.line, b.taken))
 
 -- why they ended
 stopped : (w : Work) (o : Opening) (es : List machine.Event) (old new : List LogState) (failed : Bool) (out : Writing) (by : Stop) → IsRun (machine_of w o) es
@@ -108,7 +108,7 @@ stopped w o es old new failed out (stop.LogFault log) run logs due why heard = (
   failed_logs new,
   least new log why.0 why.1 why.2,
   driven w o es old new run logs,
-  λ l is. let x = is_there new l is in (es, [], sym (append-nil es), due l x.0 x.1),
+  λ l is. let x = is_there new l is in due l x.0 x.1,
 )
 stopped w o es old new failed out stop.OutFault run logs due why heard = (none_driven w o es old new run logs why.0, rose_out w o es failed out heard why.1)
 stopped w o es old new failed out stop.Memory run logs due why heard = none_driven w o es old new run logs why.0

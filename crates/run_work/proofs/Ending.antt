@@ -52,10 +52,8 @@ and_lines line a b x xs on later first (inr cut) = inr (
 
 next_kept : (p : Printing) (w : Work) (schedule : Schedule) (o : Opening) (es : List machine.Event) (a b : Writing) → GoesOn a b → WritesNothing b → PrintsNext p w schedule o es a
     → PrintsNext p w schedule o es (joined a b)
-next_kept reporting w (seeded seed) o es a b on nothing next =
+next_kept reporting w schedule o es a b on nothing next =
     (next.0, next.1, (next.2.0, next.2.1, next.2.2, and_nothing a b (replies_text (machine_of w o) es ++ next.2.0) on next.2.3 nothing))
-next_kept reporting w free o es a b on nothing next =
-    (next.0, next.1, next.2, next.3, next.4, (next.5.0, next.5.1, next.5.2, and_nothing a b (replies_text (machine_of w o) es ++ next.5.0) on next.5.3 nothing))
 next_kept summing w schedule o es a b on nothing next = next
 
 -- ---- how the run ends then

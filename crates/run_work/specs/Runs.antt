@@ -5,7 +5,6 @@ use Rattle.core_events.specs.declared.events.Event.{Event}
 use Rattle.log_opening.specs.declared.refusals.LogsNo.{LogsNo}
 use Rattle.log_opening.specs.declared.refusals.LogsNo.TheVariants as ending
 use Rattle.log_opening.specs.Devices.{Device, device_at}
-use Rattle.protocol.specs.Conditions.{IsAllowed}
 use Rattle.protocol.specs.Events as machine
 use Rattle.protocol.specs.Fixed.{Fixed}
 use Rattle.protocol.specs.Report.{replied}
@@ -63,14 +62,10 @@ PrintsEnding p w o es out = HasEnded w o es × WritesBehind out (replies_by p (m
 abbrev pub PrintsWhole : Printing → Work → Opening → List machine.Event → Writing → Type 0
 PrintsWhole p w o es out = Writes out (replies_by p (machine_of w o) es) ⊎ (HasEnded w o es × PrintsAll p w o es out)
 
--- The replies, and a front of the next one. With several workers its line is that of the moment at which it met the fault: behind
--- a front of the events.
+-- the replies, and a front of the line of the Reply that comes next
 abbrev pub PrintsNext : Printing → Work → Schedule → Opening → List machine.Event → Writing → Type 0
-PrintsNext reporting w (seeded seed) o es out =
-    (n : ℕ) × IsNext w (seeded seed) o es (machine.Reply n) × WritesBehind out (replies_text (machine_of w o) es) (line_in (reached (machine_of w o) es) n)
-PrintsNext reporting w free o es out =
-    (n : ℕ) × (first more : List machine.Event) × (es ≡ first ++ more) × IsAllowed (machine_of w o) (machine.Reply n) (reached (machine_of w o) first)
-    × WritesBehind out (replies_text (machine_of w o) es) (line_in (reached (machine_of w o) first) n)
+PrintsNext reporting w schedule o es out =
+    (n : ℕ) × IsNext w schedule o es (machine.Reply n) × WritesBehind out (replies_text (machine_of w o) es) (line_in (reached (machine_of w o) es) n)
 PrintsNext summing w schedule o es out = ⊥
 
 -- the replies, and the lines of those that have none
