@@ -5,7 +5,6 @@ use Rattle.std.proofs.lemmas.Bool.{ltb-true, lt-ltb, true≢false}
 use Rattle.aml_slice.specs.Controls.{Rest}
 use Rattle.aml_tree.specs.Tree.{CheckedMethod}
 use Rattle.log_opening.specs.Devices.{Device}
-use Rattle.machine_laws.specs.Meant.{CommittedAsMeant, VerdictsAsMeant}
 use Rattle.machine_laws.specs.Programs.{AfterEveryRunOf, AtEveryMomentOf, IsTextOf, OfEveryRunOf, finish_of}
 use Rattle.machine_recovery.specs.OnLogs.{AtEveryMomentOnLogsOf, RecoversAsMeant}
 use Rattle.protocol.specs.Effects as effects
@@ -16,9 +15,7 @@ use Rattle.protocol.specs.History.{History, history}
 use Rattle.protocol.specs.Moments.{Moment, IsLeft, left_in}
 use Rattle.protocol.specs.Parts.{Machine}
 use Rattle.protocol.specs.Runs.{EachAllowed, IsRun, opening, reached}
-use Rattle.protocol_theorems.specs.Quiet.{AnsweredWhenQuiet}
 use Rattle.protocol_records.specs.Crash.{CrashHolds}
-use Rattle.protocol_verdicts.specs.Evidence.{VerdictsStand}
 use Rattle.record_log.specs.GrowthLaws.{MomentKeeps}
 use Rattle.record_log.specs.Records.{HoldsRecords}
 use Rattle.recovery_laws.specs.Joined.{RecoversToMembers}
@@ -30,6 +27,7 @@ use Rattle.snap_recover.specs.Opening.{IsRecovered}
 use Rattle.snap_work.specs.Kept.{KeepsLimits}
 use Rattle.snap_work.specs.Works.{Work}
 use Rattle.run_recovery.specs.Crashes.{CrashOn, Recovers, earlier}
+use Rattle.run_recovery.specs.EachRun.{AfterEachRun, OfEachRun}
 use Rattle.run_recovery.specs.Runs.{AreRunDevices, HasRun, machine_of, text_of}
 use Rattle.run_recovery.specs.Schedules.{Schedule}
 use Rattle.run_recovery.proofs.BegunTexts.{BegunRecovered, begins_with, earlier_recovers, starts_with_as_many, text_begins}
@@ -48,42 +46,14 @@ front_allowed : {C : Type 0} (w : Fixed C) (es later : List machine.Event) (s : 
 front_allowed w [] later s run = tt
 front_allowed w (e ∷ es) later s run = (run.0, front_allowed w es later (effects.after w e s) run.1)
 
-pub committed_meant : (p : List CheckedMethod) → AfterEveryRunOf p (CommittedAsMeant p) → (w : Work) (schedule : Schedule) (o : Opening) (es : List machine.Event) (failed : ℕ → Bool) (before after : List Device) → w.program ≡ p → KeepsLimits w → HasRun w schedule o es failed before after
-    → CommittedAsMeant p (machine_of w o) (finish_of p (text_of w o)) (reached (machine_of w o) es) (history (machine_of w o) es)
-committed_meant p law w schedule o es failed before after e kept run =
-    subst (λ q. CommittedAsMeant q (machine_of w o) (finish_of q (text_of w o)) (reached (machine_of w o) es) (history (machine_of w o) es)) e
-    (subst (λ q. AfterEveryRunOf q (CommittedAsMeant q)) (sym e) law (text_of w o) es (is_text w schedule o es failed before after kept run) (is_run w schedule o es failed before after run))
-
-pub told_meant : (p : List CheckedMethod) → OfEveryRunOf p (VerdictsAsMeant p) → (w : Work) (schedule : Schedule) (o : Opening) (es : List machine.Event) (failed : ℕ → Bool) (before after : List Device) → w.program ≡ p → KeepsLimits w → HasRun w schedule o es failed before after
-    → VerdictsAsMeant p (machine_of w o) (finish_of p (text_of w o)) es
-told_meant p law w schedule o es failed before after e kept run =
-    subst (λ q. VerdictsAsMeant q (machine_of w o) (finish_of q (text_of w o)) es) e
-    (subst (λ q. OfEveryRunOf q (VerdictsAsMeant q)) (sym e) law (text_of w o) es (is_text w schedule o es failed before after kept run) (is_run w schedule o es failed before after run))
-
-pub evidence_stands : (p : List CheckedMethod) → OfEveryRunOf p VerdictsStand → (w : Work) (schedule : Schedule) (o : Opening) (es : List machine.Event) (failed : ℕ → Bool) (before after : List Device) → w.program ≡ p → KeepsLimits w → HasRun w schedule o es failed before after
-    → VerdictsStand (machine_of w o) (finish_of p (text_of w o)) es
-evidence_stands p law w schedule o es failed before after e kept run =
-    subst (λ q. VerdictsStand (machine_of w o) (finish_of q (text_of w o)) es) e
-    (subst (λ q. OfEveryRunOf q VerdictsStand) (sym e) law (text_of w o) es (is_text w schedule o es failed before after kept run) (is_run w schedule o es failed before after run))
-
-pub answered_all : (p : List CheckedMethod) → AfterEveryRunOf p AnsweredWhenQuiet → (w : Work) (schedule : Schedule) (o : Opening) (es : List machine.Event) (failed : ℕ → Bool) (before after : List Device) → w.program ≡ p → KeepsLimits w → HasRun w schedule o es failed before after
-    → AnsweredWhenQuiet (machine_of w o) (finish_of p (text_of w o)) (reached (machine_of w o) es) (history (machine_of w o) es)
-answered_all p law w schedule o es failed before after e kept run =
-    subst (λ q. AnsweredWhenQuiet (machine_of w o) (finish_of q (text_of w o)) (reached (machine_of w o) es) (history (machine_of w o) es)) e
-    (subst (λ q. AfterEveryRunOf q AnsweredWhenQuiet) (sym e) law (text_of w o) es (is_text w schedule o es failed before after kept run) (is_run w schedule o es failed before after run))
-
--- what holds after every run of the program, or of its events, holds of this one
-pub after_run : (P : Fixed Rest → (Rest → List State → Alone) → Machine Rest → History → Type 0) (p : List CheckedMethod) → AfterEveryRunOf p P → (w : Work) (schedule : Schedule) (o : Opening) (es : List machine.Event) (failed : ℕ → Bool) (before after : List Device) → w.program ≡ p → KeepsLimits w → HasRun w schedule o es failed before after
-    → P (machine_of w o) (finish_of p (text_of w o)) (reached (machine_of w o) es) (history (machine_of w o) es)
-after_run P p law w schedule o es failed before after e kept run =
-    subst (λ q. P (machine_of w o) (finish_of q (text_of w o)) (reached (machine_of w o) es) (history (machine_of w o) es)) e
-    (subst (λ q. AfterEveryRunOf q P) (sym e) law (text_of w o) es (is_text w schedule o es failed before after kept run) (is_run w schedule o es failed before after run))
-
-pub of_run : (P : Fixed Rest → (Rest → List State → Alone) → List machine.Event → Type 0) (p : List CheckedMethod) → OfEveryRunOf p P → (w : Work) (schedule : Schedule) (o : Opening) (es : List machine.Event) (failed : ℕ → Bool) (before after : List Device) → w.program ≡ p → KeepsLimits w → HasRun w schedule o es failed before after
-    → P (machine_of w o) (finish_of p (text_of w o)) es
+-- what holds of every run of the program's texts holds of each run of a work of it
+pub of_run : (P : Fixed Rest → (Rest → List State → Alone) → List machine.Event → Type 0) (p : List CheckedMethod) → OfEveryRunOf p P → OfEachRun p P
 of_run P p law w schedule o es failed before after e kept run =
     subst (λ q. P (machine_of w o) (finish_of q (text_of w o)) es) e
     (subst (λ q. OfEveryRunOf q P) (sym e) law (text_of w o) es (is_text w schedule o es failed before after kept run) (is_run w schedule o es failed before after run))
+
+pub after_run : (P : Fixed Rest → (Rest → List State → Alone) → Machine Rest → History → Type 0) (p : List CheckedMethod) → AfterEveryRunOf p P → AfterEachRun p P
+after_run P p law = of_run (λ w finish es. P w finish (reached w es) (history w es)) p law
 
 -- ---- a crash
 

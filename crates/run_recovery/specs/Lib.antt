@@ -1,5 +1,6 @@
 pub mod Schedules
 pub mod Runs
+pub mod EachRun
 pub mod Crashes
 pub mod Beginnings
 pub mod Stands

@@ -4,11 +4,8 @@ ghost use Rattle.std.specs.List.{AllByRecursion};
 ghost use Rattle.aml_check.specs.Checked.{methods_of};
 ghost use Rattle.log_opening.specs.Devices.{Device};
 ghost use Rattle.machine_laws.specs.Meant.{CommittedAsMeant, VerdictsAsMeant};
-ghost use Rattle.machine_laws.specs.Programs.{finish_of};
 ghost use Rattle.protocol.specs.Events as machine;
-ghost use Rattle.protocol.specs.History.{history};
 ghost use Rattle.protocol.specs.Moments.{Moment};
-ghost use Rattle.protocol.specs.Runs.{reached};
 ghost use Rattle.protocol_records.specs.AsTold.{ToldStands};
 ghost use Rattle.protocol_theorems.specs.Left.{RunsEnd};
 ghost use Rattle.protocol_theorems.specs.Order.{OrderHolds};
@@ -19,6 +16,7 @@ ghost use Rattle.protocol_verdicts.specs.EvidenceSerial.{VerdictsTell};
 ghost use Rattle.run_opening.specs.Begins.{AreEmpty, AreOfRuns};
 ghost use Rattle.run_recovery.specs.Beginnings.{BeginsAgain, CrashBefore, HoldEach};
 ghost use Rattle.run_recovery.specs.Crashes.{CrashOn, Recovers};
+ghost use Rattle.run_recovery.specs.EachRun.{AfterEachRun, OfEachRun};
 ghost use Rattle.run_recovery.specs.Next.{GoesOnFrom, opening_left, records_left};
 ghost use Rattle.run_recovery.specs.Recoverable.{AreRecoverable, TellBytes};
 ghost use Rattle.run_recovery.specs.Runs.{AreRunDevices, HasRun, IsNext, machine_of, text_of};
@@ -57,24 +55,15 @@ pub fn seeds_pick_runs()
 /// is told a place is told what it means there; each verdict has its evidence in the events, and stays; and where it has ended all
 /// is answered.
 pub fn runs_are_as_meant(program: &Checked)
-    ensures committed { (w : Work) (schedule : Schedule) (o : Opening) (es : List machine.Event) (failed : ℕ → Bool) (before after : List Device) → w.program ≡ methods_of program.now → KeepsLimits w → HasRun w schedule o es failed before after
-        → CommittedAsMeant (methods_of program.now) (machine_of w o) (finish_of (methods_of program.now) (text_of w o)) (reached (machine_of w o) es) (history (machine_of w o) es) }
-    ensures told { (w : Work) (schedule : Schedule) (o : Opening) (es : List machine.Event) (failed : ℕ → Bool) (before after : List Device) → w.program ≡ methods_of program.now → KeepsLimits w → HasRun w schedule o es failed before after
-        → VerdictsAsMeant (methods_of program.now) (machine_of w o) (finish_of (methods_of program.now) (text_of w o)) es }
-    ensures evidence { (w : Work) (schedule : Schedule) (o : Opening) (es : List machine.Event) (failed : ℕ → Bool) (before after : List Device) → w.program ≡ methods_of program.now → KeepsLimits w → HasRun w schedule o es failed before after
-        → VerdictsStand (machine_of w o) (finish_of (methods_of program.now) (text_of w o)) es }
-    ensures answered { (w : Work) (schedule : Schedule) (o : Opening) (es : List machine.Event) (failed : ℕ → Bool) (before after : List Device) → w.program ≡ methods_of program.now → KeepsLimits w → HasRun w schedule o es failed before after
-        → AnsweredWhenQuiet (machine_of w o) (finish_of (methods_of program.now) (text_of w o)) (reached (machine_of w o) es) (history (machine_of w o) es) }
-    ensures order { (w : Work) (schedule : Schedule) (o : Opening) (es : List machine.Event) (failed : ℕ → Bool) (before after : List Device) → w.program ≡ methods_of program.now → KeepsLimits w → HasRun w schedule o es failed before after
-        → OrderHolds (machine_of w o) (finish_of (methods_of program.now) (text_of w o)) (reached (machine_of w o) es) (history (machine_of w o) es) }
-    ensures codes { (w : Work) (schedule : Schedule) (o : Opening) (es : List machine.Event) (failed : ℕ → Bool) (before after : List Device) → w.program ≡ methods_of program.now → KeepsLimits w → HasRun w schedule o es failed before after
-        → VerdictsTell (machine_of w o) (finish_of (methods_of program.now) (text_of w o)) es }
-    ensures sure { (w : Work) (schedule : Schedule) (o : Opening) (es : List machine.Event) (failed : ℕ → Bool) (before after : List Device) → w.program ≡ methods_of program.now → KeepsLimits w → HasRun w schedule o es failed before after
-        → ToldStands (machine_of w o) (finish_of (methods_of program.now) (text_of w o)) (reached (machine_of w o) es) (history (machine_of w o) es) }
-    ensures numbers { (w : Work) (schedule : Schedule) (o : Opening) (es : List machine.Event) (failed : ℕ → Bool) (before after : List Device) → w.program ≡ methods_of program.now → KeepsLimits w → HasRun w schedule o es failed before after
-        → NumbersStand (machine_of w o) (finish_of (methods_of program.now) (text_of w o)) (reached (machine_of w o) es) (history (machine_of w o) es) }
-    ensures ends { (w : Work) (schedule : Schedule) (o : Opening) (es : List machine.Event) (failed : ℕ → Bool) (before after : List Device) → w.program ≡ methods_of program.now → KeepsLimits w → HasRun w schedule o es failed before after
-        → RunsEnd (machine_of w o) (finish_of (methods_of program.now) (text_of w o)) es }
+    ensures committed { AfterEachRun (methods_of program.now) (CommittedAsMeant (methods_of program.now)) }
+    ensures told { OfEachRun (methods_of program.now) (VerdictsAsMeant (methods_of program.now)) }
+    ensures evidence { OfEachRun (methods_of program.now) VerdictsStand }
+    ensures answered { AfterEachRun (methods_of program.now) AnsweredWhenQuiet }
+    ensures order { AfterEachRun (methods_of program.now) OrderHolds }
+    ensures codes { OfEachRun (methods_of program.now) VerdictsTell }
+    ensures sure { AfterEachRun (methods_of program.now) ToldStands }
+    ensures numbers { AfterEachRun (methods_of program.now) NumbersStand }
+    ensures ends { OfEachRun (methods_of program.now) RunsEnd }
 {
     committed_transactions_are_as_meant(program);
     committed_transactions_are_in_order(program);

@@ -1,23 +1,26 @@
 use Rattle.aml_check.specs.Checked.{methods_of}
+use Rattle.machine_laws.specs.Meant.{CommittedAsMeant, VerdictsAsMeant}
 use Rattle.protocol_records.specs.AsTold.{ToldStands}
 use Rattle.protocol_theorems.specs.Left.{RunsEnd}
 use Rattle.protocol_theorems.specs.Order.{OrderHolds}
+use Rattle.protocol_theorems.specs.Quiet.{AnsweredWhenQuiet}
 use Rattle.protocol_theorems.specs.Sets.{NumbersStand}
+use Rattle.protocol_verdicts.specs.Evidence.{VerdictsStand}
 use Rattle.protocol_verdicts.specs.EvidenceSerial.{VerdictsTell}
-use Rattle.run_recovery.proofs.RunsRecovered.{after_run, answered_all, committed_meant, evidence_stands, of_run, told_meant}
+use Rattle.run_recovery.proofs.RunsRecovered.{after_run, of_run}
 use Rattle.run_recovery.proofs.laws.runs_are_as_meant.Goals as goal
 
 pub returns-clause-committed : goal.returns-clause-committed
-returns-clause-committed c = committed_meant (methods_of c.args.program.now) c.committed_transactions_are_as_meant.ensures
+returns-clause-committed c = after_run (CommittedAsMeant (methods_of c.args.program.now)) (methods_of c.args.program.now) c.committed_transactions_are_as_meant.ensures
 
 pub returns-clause-told : goal.returns-clause-told
-returns-clause-told c = told_meant (methods_of c.args.program.now) c.verdicts_are_as_meant.ensures
+returns-clause-told c = of_run (VerdictsAsMeant (methods_of c.args.program.now)) (methods_of c.args.program.now) c.verdicts_are_as_meant.ensures
 
 pub returns-clause-evidence : goal.returns-clause-evidence
-returns-clause-evidence c = evidence_stands (methods_of c.args.program.now) c.verdicts_have_evidence.ensures
+returns-clause-evidence c = of_run VerdictsStand (methods_of c.args.program.now) c.verdicts_have_evidence.ensures
 
 pub returns-clause-answered : goal.returns-clause-answered
-returns-clause-answered c = answered_all (methods_of c.args.program.now) c.runs_that_cannot_go_on_have_answered.ensures
+returns-clause-answered c = after_run AnsweredWhenQuiet (methods_of c.args.program.now) c.runs_that_cannot_go_on_have_answered.ensures
 
 pub returns-clause-order : goal.returns-clause-order
 returns-clause-order c = after_run OrderHolds (methods_of c.args.program.now) c.committed_transactions_are_in_order.ensures

@@ -1,10 +1,7 @@
-use Rattle.std.proofs.Common.{List, sym, subst}
+use Rattle.std.proofs.Common.{List, refl, sym, subst}
 use Rattle.aml_check.specs.Checked.{methods_of}
 use Rattle.aml_tree.specs.Tree.{CheckedMethod}
 use Rattle.machine_laws.specs.Meant.{CommittedAsMeant, VerdictsAsMeant}
-use Rattle.machine_laws.specs.Programs.{finish_of}
-use Rattle.protocol.specs.History.{history}
-use Rattle.protocol.specs.Runs.{reached}
 use Rattle.protocol_records.specs.AsTold.{ToldStands}
 use Rattle.protocol_theorems.specs.Left.{RunsEnd}
 use Rattle.protocol_theorems.specs.Order.{OrderHolds}
@@ -13,31 +10,23 @@ use Rattle.protocol_theorems.specs.Sets.{NumbersStand}
 use Rattle.protocol_verdicts.specs.Evidence.{VerdictsStand}
 use Rattle.protocol_verdicts.specs.EvidenceSerial.{VerdictsTell}
 use Rattle.run_recovery.specs.Crashes.{Recovers}
-use Rattle.run_recovery.specs.Runs.{machine_of, text_of}
+use Rattle.run_recovery.specs.EachRun.{AfterEachRun, OfEachRun}
 use Rattle.run_recovery.proofs.laws.runs_stand.Goals as goal
 
 pub returns : goal.returns
 returns c w schedule o es failed before after same limits run =
-    let p : List CheckedMethod = methods_of c.args.program.now in
+    -- what is said of the program is said of the work's
+    let own : (F : List CheckedMethod → Type 0) → F (methods_of c.args.program.now) → F w.program = λ F law. subst F (sym same) law in
     record {
-      committed = subst (λ (q : List CheckedMethod). CommittedAsMeant q (machine_of w o) (finish_of q (text_of w o)) (reached (machine_of w o) es) (history (machine_of w o) es)) (sym same)
-          (c.runs_are_as_meant.ensures.committed w schedule o es failed before after same limits run);
-      told = subst (λ (q : List CheckedMethod). VerdictsAsMeant q (machine_of w o) (finish_of q (text_of w o)) es) (sym same)
-          (c.runs_are_as_meant.ensures.told w schedule o es failed before after same limits run);
-      evidence = subst (λ (q : List CheckedMethod). VerdictsStand (machine_of w o) (finish_of q (text_of w o)) es) (sym same)
-          (c.runs_are_as_meant.ensures.evidence w schedule o es failed before after same limits run);
-      answered = subst (λ (q : List CheckedMethod). AnsweredWhenQuiet (machine_of w o) (finish_of q (text_of w o)) (reached (machine_of w o) es) (history (machine_of w o) es)) (sym same)
-          (c.runs_are_as_meant.ensures.answered w schedule o es failed before after same limits run);
-      order = subst (λ (q : List CheckedMethod). OrderHolds (machine_of w o) (finish_of q (text_of w o)) (reached (machine_of w o) es) (history (machine_of w o) es)) (sym same)
-          (c.runs_are_as_meant.ensures.order w schedule o es failed before after same limits run);
-      sure = subst (λ (q : List CheckedMethod). ToldStands (machine_of w o) (finish_of q (text_of w o)) (reached (machine_of w o) es) (history (machine_of w o) es)) (sym same)
-          (c.runs_are_as_meant.ensures.sure w schedule o es failed before after same limits run);
-      codes = subst (λ (q : List CheckedMethod). VerdictsTell (machine_of w o) (finish_of q (text_of w o)) es) (sym same)
-          (c.runs_are_as_meant.ensures.codes w schedule o es failed before after same limits run);
-      numbers = subst (λ (q : List CheckedMethod). NumbersStand (machine_of w o) (finish_of q (text_of w o)) (reached (machine_of w o) es) (history (machine_of w o) es)) (sym same)
-          (c.runs_are_as_meant.ensures.numbers w schedule o es failed before after same limits run);
-      ends = subst (λ (q : List CheckedMethod). RunsEnd (machine_of w o) (finish_of q (text_of w o)) es) (sym same)
-          (c.runs_are_as_meant.ensures.ends w schedule o es failed before after same limits run);
+      committed = own (λ q. AfterEachRun q (CommittedAsMeant q)) c.runs_are_as_meant.ensures.committed w schedule o es failed before after refl limits run;
+      told = own (λ q. OfEachRun q (VerdictsAsMeant q)) c.runs_are_as_meant.ensures.told w schedule o es failed before after refl limits run;
+      evidence = own (λ q. OfEachRun q VerdictsStand) c.runs_are_as_meant.ensures.evidence w schedule o es failed before after refl limits run;
+      answered = own (λ q. AfterEachRun q AnsweredWhenQuiet) c.runs_are_as_meant.ensures.answered w schedule o es failed before after refl limits run;
+      order = own (λ q. AfterEachRun q OrderHolds) c.runs_are_as_meant.ensures.order w schedule o es failed before after refl limits run;
+      sure = own (λ q. AfterEachRun q ToldStands) c.runs_are_as_meant.ensures.sure w schedule o es failed before after refl limits run;
+      codes = own (λ q. OfEachRun q VerdictsTell) c.runs_are_as_meant.ensures.codes w schedule o es failed before after refl limits run;
+      numbers = own (λ q. AfterEachRun q NumbersStand) c.runs_are_as_meant.ensures.numbers w schedule o es failed before after refl limits run;
+      ends = own (λ q. OfEachRun q RunsEnd) c.runs_are_as_meant.ensures.ends w schedule o es failed before after refl limits run;
       begins = λ images crash. c.beginnings_are_recovered.ensures w o es failed before after limits run.devices images crash;
       recovers = λ m images crash. subst (λ (q : List CheckedMethod). Recovers q run.devices m images) (sym same)
           (c.runs_are_recovered.ensures w schedule o es failed before after same limits run m images crash);
