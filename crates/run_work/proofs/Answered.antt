@@ -25,7 +25,6 @@ use Rattle.snap_outside.specs.Causes.{Rose}
 use Rattle.snap_recover.specs.declared.openings.Opening.{Opening}
 use Rattle.snap_report.specs.declared.statuses.Status.{Status}
 use Rattle.snap_report.specs.declared.statuses.Status.TheVariants as status
-use Rattle.snap_work.specs.Works.{Work}
 use Rattle.trace_text.specs.Traces.{trace_of}
 use Rattle.txn_records.specs.declared.records.Record.{Record}
 
