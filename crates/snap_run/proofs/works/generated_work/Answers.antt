@@ -1,4 +1,4 @@
-use Rattle.std.proofs.Common.{◌≡◌, ℕ, List, length, sym, ap, ◌∙◌, subst}
+use Rattle.std.proofs.Common.{ℕ, List, length, ap, ◌∙◌, subst}
 use Rattle.snap_run.proofs.works.generated_work.Goals as goal
 use Rattle.snap_work.specs.Works.{Work, work_of}
 use Rattle.work_gen.specs.Generated.{generated_text}
