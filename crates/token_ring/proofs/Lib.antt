@@ -1,3 +1,4 @@
+pub mod Busy
 pub mod Collected
 pub mod Places
 pub mod Plans

@@ -1,5 +1,6 @@
-ghost use Rattle.std.specs.Prelude.{◌≡◌, ◌+◌, ◌<◌, ◌^◌, [], ◌∷◌, ◌++◌, map, take, drop, replicate, IfOk, OnOk, OnErr, slice_index_or, length};
+ghost use Rattle.std.specs.Prelude.{◌≡◌, ◌+◌, ◌-◌, ◌<◌, ◌≤◌, ◌^◌, min, not, [], ◌∷◌, ◌++◌, map, take, drop, replicate, IfOk, OnOk, OnErr, slice_index_or, length};
 ghost use Rattle.std.specs.List.{list_all};
+ghost use Rattle.protocol.specs.Left.{busy_from, total};
 ghost use Rattle.protocol.specs.Words.{is_empty};
 ghost use Rattle.protocol.specs.OnRing.{numbered, joined_at};
 ghost use Rattle.machine_words.specs.Meant.{batch_pact};
@@ -38,6 +39,12 @@ impl Queue {
         ensures { result ≡ is_empty self.now }
     {
         self.waiting.is_empty()
+    }
+
+    pub fn len(&self) -> usize
+        ensures { result ≡ length self.now }
+    {
+        self.waiting.len()
     }
 
     /// The transaction that came first; `None` where none waits.
@@ -103,6 +110,25 @@ pub(crate) fn all_empty(queues: &[Queue]) -> bool
         }
     }
     true
+}
+
+/// Whether something waits in one of them from this place on.
+pub(crate) fn is_busy_from(queues: &[Queue], place: usize) -> bool
+    requires { place ≤ length queues.now }
+    ensures { result ≡ busy_from place queues.now }
+{
+    !all_empty(&queues[place..])
+}
+
+/// How many transactions wait in all of them, and `u64::MAX` where more do.
+pub(crate) fn waiting_in(queues: &[Queue]) -> u64
+    ensures { result ≡ min (total length queues.now) (2 ^ 64 - 1) }
+{
+    let mut waiting: u64 = 0;
+    for queue in queues {
+        waiting = waiting.saturating_add(queue.len() as u64);
+    }
+    waiting
 }
 
 /// A transaction joins the queue at this place. For want of memory all stay as they were.

@@ -1,16 +1,17 @@
-ghost use Rattle.std.specs.Prelude.{◌≡◌, ◌+◌, ◌%◌, ◌<◌, ◌≤◌, ◌^◌, ◌↔◌, true, false, not, ◌&&◌, length, IfOk, OnOk, OnErr};
+ghost use Rattle.std.specs.Prelude.{◌≡◌, ◌+◌, ◌-◌, ◌%◌, ◌<◌, ◌≤◌, ◌^◌, ◌↔◌, min, true, false, not, ◌&&◌, ◌||◌, length, IfOk, OnOk, OnErr};
 ghost use Rattle.std.specs.Option.{OnSome, IfNone};
 ghost use Rattle.std.specs.Result.{IsErrAnd};
 ghost use Rattle.protocol.specs.Words.{is_empty};
 ghost use Rattle.protocol.specs.Conditions.{queue, is_idle_at, is_idle};
+ghost use Rattle.protocol.specs.Left.{busy_from, total, way};
 ghost use Rattle.protocol.specs.OnRing.{passed, admitted, cut};
 ghost use Rattle.token_ring.specs.Asked.{fresh, next_act, MayPass, IsSubmitted, IsNextBatch, IsPlanned, IsFormed};
 
 use crate::FormNo;
 use crate::lasts::{forget, mark};
-use crate::queue::{Queue, all_empty, empty_queues, join_at};
+use crate::queue::{Queue, all_empty, empty_queues, is_busy_from, join_at, waiting_in};
 use crate::subs::{Heading, sub_batches};
-use machine_words::Formed;
+use machine_words::{Formed, unless};
 use snap_base::{Bid, Kind, Memory, Tid, Tx, TxNo};
 use std::alloc::Global;
 use std::marker::Model;
@@ -161,6 +162,33 @@ impl Ring {
         ensures { result ≡ (is_idle_at self.now.holder self.now && not (is_idle self.now)) }
     {
         self.is_holder_idle() && !self.is_idle()
+    }
+
+    /// How many transactions wait at coordinators, and `u64::MAX` where more do.
+    pub fn waiting(&self) -> u64
+        ensures { result ≡ min (total length self.now.pacts + total length self.now.acts) (2 ^ 64 - 1) }
+    {
+        waiting_in(self.pacts.as_slice()).saturating_add(waiting_in(self.acts.as_slice()))
+    }
+
+    /// How far the token is from a coordinator where something waits, at most, on a ring of so many: it goes on to the last
+    /// one, and once around where nothing waits on that way.
+    pub fn way(&self, coordinators: u8) -> u64
+        ensures { result ≡ way coordinators self.now }
+    {
+        let count = u64::from(coordinators);
+        let on = count
+            .saturating_sub(1)
+            .saturating_sub(u64::from(self.holder));
+        unless(self.is_idle(), on + unless(self.is_busy_ahead(), count))
+    }
+
+    /// Whether something waits at the holder or at a coordinator behind it.
+    fn is_busy_ahead(&self) -> bool
+        ensures { result ≡ (busy_from self.now.holder self.now.pacts || busy_from self.now.holder self.now.acts) }
+    {
+        let holder = self.holder as usize;
+        is_busy_from(self.pacts.as_slice(), holder) || is_busy_from(self.acts.as_slice(), holder)
     }
 
     /// The next transaction of the text joins the queue of its kind at its coordinator. For want of
