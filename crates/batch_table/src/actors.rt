@@ -1,10 +1,12 @@
-ghost use Rattle.std.specs.Prelude.{◌≡◌, ◌==◌, ◌≤◌, ◌++◌, not, map, filter, find, option_copied, IfOk, OnOk};
+ghost use Rattle.std.specs.Prelude.{◌≡◌, ◌==◌, ◌+◌, ◌-◌, ◌≤◌, ◌^◌, ◌++◌, min, not, map, filter, find, option_copied, IfOk, OnOk};
 ghost use Rattle.std.specs.List.{list_all};
 ghost use Rattle.machine_words.specs.Meant.{actor_number};
+ghost use Rattle.protocol.specs.Left.{declared_left, total};
 ghost use Rattle.protocol.specs.Words.{holds};
 ghost use Rattle.protocol.specs.OnDesk as desk;
 ghost use Rattle.batch_table.specs.Listed.{is_unnoted, unnoted_shown};
 
+use machine_words::unless;
 use snap_base::{ActorId, Bid, Memory};
 use std::alloc::Global;
 use std::marker::Model;
@@ -69,6 +71,13 @@ impl ActorEntry {
         !self.noted && self.actor.0 % logs as u16 == log as u16
     }
 
+    /// How many events it may still bring: each mark that it lacks is one.
+    fn left(&self) -> u64
+        ensures { result ≡ declared_left self.now }
+    {
+        unless(self.noted, 1) + unless(self.trimmed, 1)
+    }
+
     /// Sets the mark that the batch is complete there, if this is the actor.
     fn note_if(&mut self, actor: ActorId)
         ensures { self.new ≡ desk.mark_if (self.old.actor == actor.0) desk.is_noted self.old }
@@ -116,6 +125,17 @@ pub(crate) fn are_all_trimmed(actors: &[ActorEntry]) -> bool
     ensures { result ≡ list_all (λ p. p.trimmed) actors.now }
 {
     actors.iter().all(|entry| entry.is_trimmed())
+}
+
+/// How many events they may still bring, and `u64::MAX` where more.
+pub(crate) fn left_on(actors: &[ActorEntry]) -> u64
+    ensures { result ≡ min (total declared_left actors.now) (2 ^ 64 - 1) }
+{
+    let mut left: u64 = 0;
+    for entry in actors {
+        left = left.saturating_add(entry.left());
+    }
+    left
 }
 
 fn entry_of(actors: &[ActorEntry], actor: ActorId) -> Option<&ActorEntry>

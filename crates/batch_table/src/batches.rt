@@ -1,5 +1,6 @@
-ghost use Rattle.std.specs.Prelude.{◌≡◌, ◌≤◌, not, ◌&&◌, ◌++◌, true, map, option_map, IfOk, OnOk, slice_get};
+ghost use Rattle.std.specs.Prelude.{◌≡◌, ◌-◌, ◌≤◌, ◌^◌, min, not, ◌&&◌, ◌++◌, true, map, option_map, IfOk, OnOk, slice_get};
 ghost use Rattle.std.specs.List.{list_all};
+ghost use Rattle.protocol.specs.Left.{batch_left};
 ghost use Rattle.protocol.specs.Words as words;
 ghost use Rattle.protocol.specs.OnDesk as desk;
 ghost use Rattle.machine_words.specs.Meant.{actor_number, batch_pact, subs_actor};
@@ -12,7 +13,7 @@ ghost use Rattle.batch_table.specs.Stages.{stage_meant};
 use crate::actors::{self, ActorEntry};
 use crate::pacts::{self, PactEntry};
 use crate::{FoundPact, Stage};
-use machine_words::Formed;
+use machine_words::{Formed, unless};
 use snap_base::{ActorId, Bid, Memory, SubBatch, Tid, TxNo, TxResult};
 use std::alloc::Global;
 use std::marker::Model;
@@ -198,6 +199,15 @@ impl BatchEntry {
             }
             None => None,
         }
+    }
+
+    /// How many events it may still bring, and `u64::MAX` where more.
+    pub fn left(&self) -> u64
+        ensures { result ≡ min (batch_left self.now) (2 ^ 64 - 1) }
+    {
+        unless(self.aborted, self.stage.left()).saturating_add(actors::left_on(
+            self.actors.as_slice(),
+        ))
     }
 
     /// Marks the actor as noted.

@@ -11,6 +11,7 @@ mod counts;
 mod desk;
 mod found;
 mod laws;
+mod left;
 mod listing;
 mod pacts;
 mod replies;

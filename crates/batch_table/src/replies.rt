@@ -1,7 +1,9 @@
-ghost use Rattle.std.specs.Prelude.{◌≡◌, ◌<◌, true, false, map, take, length, replicate, slice_set, IfOk};
+ghost use Rattle.std.specs.Prelude.{◌≡◌, ◌-◌, ◌<◌, ◌^◌, min, true, false, map, take, length, replicate, slice_set, IfOk};
 ghost use Rattle.std.specs.List.{list_all};
+ghost use Rattle.protocol.specs.Left.{reply_left, total};
 ghost use Rattle.batch_table.specs.Listed.{is_unreplied, unreplied_below};
 
+use machine_words::unless;
 use snap_base::{Memory, TxNo};
 use std::alloc::Global;
 use std::marker::Model;
@@ -50,6 +52,13 @@ impl Replies {
         self.replied = end_of_replied(self.marks.as_slice(), self.replied);
     }
 
+    /// How many wait for a reply, and `u64::MAX` where more do.
+    pub(crate) fn left(&self) -> u64
+        ensures { result ≡ min (total reply_left self.now) (2 ^ 64 - 1) }
+    {
+        left_of(self.marks.as_slice())
+    }
+
     /// Those below this number that wait for a reply, ascending. It walks them from the first one on that waits.
     pub(crate) fn awaited(&self, alloc: Global, upto: TxNo) -> Result<Vec<TxNo>, Memory>
         ensures { IfOk result (λ txs. map (λ n. n.0) txs.items ≡ unreplied_below upto.0 self.now) }
@@ -65,6 +74,17 @@ fn is_awaited(marks: &[bool], tx: TxNo) -> bool
         Some(replied) => !*replied,
         None => false,
     }
+}
+
+/// How many are not replied to.
+fn left_of(marks: &[bool]) -> u64
+    ensures { result ≡ min (total reply_left marks.now) (2 ^ 64 - 1) }
+{
+    let mut left: u64 = 0;
+    for replied in marks {
+        left = left.saturating_add(unless(*replied, 1));
+    }
+    left
 }
 
 /// How many are replied to, from the first one on, where so many are.

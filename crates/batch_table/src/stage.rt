@@ -1,4 +1,5 @@
 ghost use Rattle.std.specs.Prelude.{◌≡◌};
+ghost use Rattle.protocol.specs.Left.{stage_left};
 ghost use Rattle.protocol.specs.Words as words;
 ghost use Rattle.batch_table.specs.Stages.{stage_meant};
 
@@ -41,6 +42,18 @@ impl Stage {
             Stage::Formed => false,
             Stage::Committing => false,
             Stage::Settled => true,
+        }
+    }
+
+    /// How many events a batch at this stage may still bring, where it is not aborted. One that is formed may have to be
+    /// rolled back on each of 256 actors.
+    pub(crate) fn left(self) -> u64
+        ensures { result ≡ stage_left (stage_meant self) }
+    {
+        match self {
+            Stage::Formed => 260,
+            Stage::Committing => 1,
+            Stage::Settled => 0,
         }
     }
 }
