@@ -1,4 +1,5 @@
-ghost use Rattle.std.specs.Prelude.{◌≡◌, ℕ, nat_lt, max, Bool, false, ◌∷◌, ◌++◌, [], not, map, OnOk};
+ghost use Rattle.std.specs.Prelude.{◌≡◌, ℕ, ◌-◌, ◌^◌, nat_lt, min, max, Bool, false, ◌∷◌, ◌++◌, [], not, map, OnOk};
+ghost use Rattle.protocol.specs.Left.{entry_left};
 ghost use Rattle.protocol.specs.Rivals.{lock_of};
 ghost use Rattle.protocol.specs.Parts.{BatchEntry, ActEntry};
 ghost use Rattle.protocol.specs.Words.{is_batch_entry, is_act_entry, is_entry_of, who_of, is_complete_batch, is_turn_of, is_undone, is_all_done, batches_on, greatest};
@@ -9,6 +10,7 @@ ghost use Rattle.hybrid_schedule.specs.Cuts.{is_from};
 ghost use Rattle.hybrid_schedule.specs.Listed.{incomplete_of, undone_of};
 
 use crate::slots::Slots;
+use machine_words::unless;
 use snap_base::{Bid, Memory, Tid, Who};
 use std::alloc::Global;
 use std::marker::Model;
@@ -152,6 +154,16 @@ impl Entry {
         match self.owner {
             Who::Batch(_) => self.slots.are_done(),
             Who::Act(_) => false,
+        }
+    }
+
+    /// How many events it may still bring, and `u64::MAX` where more.
+    pub fn left(&self) -> u64
+        ensures { result ≡ min (entry_left self.now) (2 ^ 64 - 1) }
+    {
+        match self.owner {
+            Who::Batch(_) => unless(self.complete, 2).saturating_add(self.slots.left()),
+            Who::Act(_) => 0,
         }
     }
 

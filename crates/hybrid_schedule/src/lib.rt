@@ -9,6 +9,7 @@ mod askings;
 mod changes;
 mod entries;
 mod laws;
+mod left;
 mod listing;
 mod schedule;
 mod slots;

@@ -1,11 +1,13 @@
-ghost use Rattle.std.specs.Prelude.{◌≡◌, ℕ, ◌≤◌, ◌==◌, Bool, true, false, not, [], ◌++◌, filter, map, length, vec_capacity, OnOk};
+ghost use Rattle.std.specs.Prelude.{◌≡◌, ℕ, ◌-◌, ◌≤◌, ◌==◌, ◌^◌, min, Bool, true, false, not, [], ◌++◌, filter, map, length, vec_capacity, OnOk};
 ghost use Rattle.std.specs.List.{list_any, list_all};
+ghost use Rattle.protocol.specs.Left.{slot_left, total};
 ghost use Rattle.protocol.specs.OnCell.{not_done, done_if};
 ghost use Rattle.machine_words.specs.Meant.{tid_number};
 ghost use Rattle.hybrid_schedule.specs.Listed.{undone_in};
 ghost use Rattle.hybrid_schedule.specs.Slots.{is_of, lets_run, is_undone_of, is_within};
 
 use crate::changes::push_in_room;
+use machine_words::unless;
 use snap_base::{Memory, Tid};
 use std::alloc::Global;
 use std::marker::Model;
@@ -48,6 +50,13 @@ impl Slot {
         ensures { result ≡ self.now.done }
     {
         self.done
+    }
+
+    /// How many events it may still bring: one, unless it is done.
+    pub fn left(&self) -> u64
+        ensures { result ≡ slot_left self.now }
+    {
+        unless(self.done, 1)
     }
 
     pub fn lets_run(&self, t: Tid) -> bool
@@ -154,6 +163,13 @@ impl Slots {
         are_all_done(self.items.as_slice())
     }
 
+    /// How many events they may still bring, and `u64::MAX` where more.
+    pub fn left(&self) -> u64
+        ensures { result ≡ min (total slot_left self.now) (2 ^ 64 - 1) }
+    {
+        left_of(self.items.as_slice())
+    }
+
     /// Adds the PACTs that are not done.
     pub fn list_undone(&self, tids: &mut Vec<Tid>) -> Result<(), Memory>
         ensures { OnOk result (map tid_number tids.new.items ≡ map tid_number tids.old.items ++ undone_in self.now) }
@@ -202,6 +218,16 @@ fn are_all_done(slots: &[Slot]) -> bool
     ensures { result ≡ list_all (λ s. s.done) slots.now }
 {
     slots.iter().all(|s| s.is_done())
+}
+
+fn left_of(slots: &[Slot]) -> u64
+    ensures { result ≡ min (total slot_left slots.now) (2 ^ 64 - 1) }
+{
+    let mut left: u64 = 0;
+    for slot in slots {
+        left = left.saturating_add(slot.left());
+    }
+    left
 }
 
 fn mark_all(slots: &mut Vec<Slot>, t: Tid)
