@@ -111,7 +111,7 @@ module _ {X : Type 0} (number : X → ℕ) where
   in_order_past zero x h = refl
   in_order_past (suc n) x h = λ j. in_order_past n x (omega arith) j ++ numbered_else x n (λ e. omega arith) j
 
-  in_order-one : (n : ℕ) (x : X) → number x < n → in_order number n (x ∷ []) ≡ x ∷ []
+  pub in_order-one : (n : ℕ) (x : X) → number x < n → in_order number n (x ∷ []) ≡ x ∷ []
   in_order-one zero x h = absurd (omega arith)
   in_order-one (suc n) x h =
       dite

@@ -3,3 +3,4 @@ pub mod SwapRemove
 pub mod ByKey
 pub mod Machine
 pub mod Sorted
+pub mod Totals

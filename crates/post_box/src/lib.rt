@@ -7,6 +7,7 @@
 mod head;
 mod kept;
 mod keys;
+mod left;
 mod listing;
 mod numbered;
 mod post;
