@@ -1,5 +1,6 @@
 //! What the conditions of the events ask of a log. Each answer is about whatever log the part shows.
 ghost use Rattle.std.specs.Prelude.{◌≡◌, nat_lt, length};
+ghost use Rattle.protocol.specs.Left.{log_left};
 ghost use Rattle.protocol.specs.Parts.{Log};
 ghost use Rattle.protocol.specs.Records.{is_info, is_complete, is_commit, is_prepare, is_act_commit};
 ghost use Rattle.protocol.specs.Words.{is_durable};
@@ -15,6 +16,14 @@ impl LogPart {
         ensures { (l : Log) → ShowsLog self.now.log l → result ≡ nat_lt l.synced (length l.records) }
     {
         0 < self.pending.waiting()
+    }
+
+    /// How many records are not synced.
+    pub fn waiting(&self) -> usize
+        ensures log { result ≡ length self.now.log.waiting }
+        ensures shows { (l : Log) → ShowsLog self.now.log l → result ≡ log_left l }
+    {
+        self.pending.waiting()
     }
 
     /// Whether it is durable that the batch was formed.
