@@ -108,6 +108,26 @@ impl Acts {
         }
     }
 
+    /// Whether ACT t ended, and is prepared on the actor.
+    pub fn is_prepared(&self, t: Tid, a: ActorId) -> bool
+        ensures { result ≡ holds (λ x. holds (λ p. p.prepared) (joined_of a.0 x)) (act_of t.0 self.now.acts) }
+    {
+        match self.votes.get(t) {
+            Some(vote) => vote.is_prepared(a),
+            None => false,
+        }
+    }
+
+    /// Whether ACT t ended, and is vouched on the actor.
+    pub fn is_vouched(&self, t: Tid, a: ActorId) -> bool
+        ensures { result ≡ holds (λ x. holds (λ p. p.vouched) (joined_of a.0 x)) (act_of t.0 self.now.acts) }
+    {
+        match self.votes.get(t) {
+            Some(vote) => vote.is_vouched(a),
+            None => false,
+        }
+    }
+
     /// Whether ACT t ended, joined the actor and is not prepared there.
     pub fn is_unprepared(&self, t: Tid, a: ActorId) -> bool
         ensures { result ≡ holds (λ x. holds (λ p. not p.prepared) (joined_of a.0 x)) (act_of t.0 self.now.acts) }

@@ -58,7 +58,13 @@ impl Seat {
         self.actor == actor
     }
 
-    fn is_vouched(&self) -> bool
+    pub fn is_prepared(&self) -> bool
+        ensures { result ≡ self.now.prepared }
+    {
+        self.prepared
+    }
+
+    pub fn is_vouched(&self) -> bool
         ensures { result ≡ self.now.vouched }
     {
         self.vouched

@@ -105,6 +105,24 @@ impl Vote {
         self.result
     }
 
+    pub fn is_prepared(&self, actor: ActorId) -> bool
+        ensures { result ≡ holds (λ p. p.prepared) (joined_of actor.0 self.now) }
+    {
+        match seat_on(self.seats.as_slice(), actor) {
+            Some(seat) => seat.is_prepared(),
+            None => false,
+        }
+    }
+
+    pub fn is_vouched(&self, actor: ActorId) -> bool
+        ensures { result ≡ holds (λ p. p.vouched) (joined_of actor.0 self.now) }
+    {
+        match seat_on(self.seats.as_slice(), actor) {
+            Some(seat) => seat.is_vouched(),
+            None => false,
+        }
+    }
+
     pub fn is_unprepared(&self, actor: ActorId) -> bool
         ensures { result ≡ holds (λ p. not p.prepared) (joined_of actor.0 self.now) }
     {
