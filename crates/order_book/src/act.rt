@@ -1,7 +1,7 @@
 ghost use Rattle.std.specs.Prelude.{◌≡◌, ◌==◌, ◌≤◌, not, max, find, List, [], ◌∷◌, ◌++◌, map, if◌then◌else◌, Some, OnOk, OnErr};
 ghost use Rattle.std.specs.List.{list_all};
 ghost use Rattle.std.specs.Option.{option_map};
-ghost use Rattle.protocol.specs.Words.{is_doomed, is_live_status, is_ordered, is_live_act, joined_of, holds, least_of};
+ghost use Rattle.protocol.specs.Words.{is_doomed, is_live_status, is_ordered, is_sealed, is_live_act, joined_of, holds, least_of};
 ghost use Rattle.protocol.specs.OnBook.{mark_if, has_left, new_act, joins, doomed_by, marked};
 ghost use Rattle.order_book.specs.Asked.{doom_in};
 ghost use Rattle.order_book.specs.Fates.{bid_number, status_of};
@@ -19,7 +19,7 @@ use std::marker::Model;
 
 /// An ACT, as the book keeps it. Contracts see the machine's ACT, and under how many cascades its after number was set.
 #[derive(Drop)]
-pub(crate) struct Act {
+pub struct Act {
     tid: Tid,
     tx: TxNo,
     before: Bid,
@@ -108,7 +108,7 @@ impl Act {
         self.under = 0;
     }
 
-    pub(crate) fn tid(&self) -> Tid
+    pub fn tid(&self) -> Tid
         ensures { result.0 ≡ self.now.act.tid }
     {
         self.tid
@@ -137,7 +137,8 @@ impl Act {
         }
     }
 
-    pub(crate) fn marks(&self) -> &[Mark]
+    /// The actors that it joined, in that order.
+    pub fn marks(&self) -> &[Mark]
         ensures { result.now ≡ self.now.act.places }
     {
         self.marks.as_slice()
@@ -152,7 +153,8 @@ impl Act {
         }
     }
 
-    pub(crate) fn is_undecided(&self) -> bool
+    /// Whether it is neither given up nor has its place.
+    pub fn is_undecided(&self) -> bool
         ensures { result ≡ is_live_status self.now.act.status }
     {
         self.fate.is_undecided()
@@ -164,8 +166,10 @@ impl Act {
         self.fate.is_given_up()
     }
 
-    pub(crate) fn is_placed(&self) -> bool
-        ensures { result ≡ is_ordered self.now.act.status }
+    /// Whether it has its place in the serial order, which shows as sealed.
+    pub fn is_placed(&self) -> bool
+        ensures ordered { result ≡ is_ordered self.now.act.status }
+        ensures sealed { result ≡ is_sealed self.now.act.status }
     {
         self.fate.is_placed()
     }

@@ -1,10 +1,10 @@
-ghost use Rattle.std.specs.Prelude.{◌≡◌, ◌==◌, ◌≤◌, ◌+◌, not, List, [], ◌∷◌, ◌++◌, length, map, max, if◌then◌else◌, is_ok, is_some, slice_get, option_copied, OnOk, OnErr};
+ghost use Rattle.std.specs.Prelude.{◌≡◌, ℕ, ◌==◌, ◌≤◌, ◌+◌, not, List, [], ◌∷◌, ◌++◌, length, map, max, if◌then◌else◌, is_ok, is_some, slice_get, option_copied, OnOk, OnErr};
 ghost use Rattle.std.specs.Option.{option_map};
 ghost use Rattle.protocol.specs.Words.{is_doomed, is_live_status, is_ordered, is_live_act, joined_of, holds};
 ghost use Rattle.protocol.specs.OnBook.{new_act, joins};
 ghost use Rattle.order_book.specs.Asked.{doom_of, before_of, after_of, tx_of, joined_in};
 ghost use Rattle.order_book.specs.Fates.{bid_number, tx_number};
-ghost use Rattle.order_book.specs.Kept.{cut, forgotten};
+ghost use Rattle.order_book.specs.Kept.{cut, forgotten, seen};
 ghost use Rattle.order_book.specs.Changes.{changed_by, changed_at};
 ghost use Rattle.order_book.specs.Walking.{is_walked_at};
 
@@ -51,6 +51,13 @@ impl Acts {
         ensures { result ≡ length self.now }
     {
         self.rows.len()
+    }
+
+    /// All of them, as they are kept.
+    pub(crate) fn rows(&self) -> &[Act]
+        ensures { (epoch : ℕ) × (self.now ≡ map (seen epoch) result.now) }
+    {
+        self.rows.as_slice()
     }
 
     /// One more ACT, at the end. For want of memory all is as before.

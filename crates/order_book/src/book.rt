@@ -1,4 +1,4 @@
-ghost use Rattle.std.specs.Prelude.{◌≡◌, ◌<◌, ◌==◌, not, max, IsTrue, List, [], ◌∷◌, ◌++◌, map, is_some, OnOk, OnErr, Some, None, IfSome, find};
+ghost use Rattle.std.specs.Prelude.{◌≡◌, ℕ, ◌<◌, ◌==◌, not, max, IsTrue, List, [], ◌∷◌, ◌++◌, map, is_some, OnOk, OnErr, Some, None, IfSome, find};
 ghost use Rattle.std.specs.List.{All};
 ghost use Rattle.std.specs.Option.{option_map};
 ghost use Rattle.machine_words.specs.Meant.{tid_number};
@@ -8,7 +8,9 @@ ghost use Rattle.protocol.specs.OnBook.{act_admitted, act_asked, act_finished, b
 ghost use Rattle.protocol.specs.BookParts.{no_orders, has_place, orders_cascaded};
 ghost use Rattle.order_book.specs.Asked.{locks_of, doom_of, before_of, after_of, tx_of, joined_in, tid_of};
 ghost use Rattle.order_book.specs.Fates.{bid_number, tx_number};
+ghost use Rattle.order_book.specs.Kept.{seen};
 
+use crate::act::Act;
 use crate::change::Change;
 use crate::mark::Mark;
 use crate::pair::Pair;
@@ -156,6 +158,14 @@ impl Book {
         self.register.change(at, Change::Leave(a));
         self.pairs.retain(|p| !p.is_ended(t, a));
         keep_walked(&mut self.walked, &self.register, self.pairs.as_slice());
+    }
+
+    /// All ACTs, in the order in which they were admitted. What is kept of one does not tell whether a cascade has come since
+    /// its after number was set.
+    pub fn acts(&self) -> &[Act]
+        ensures { (epoch : ℕ) × (self.now.acts ≡ map (seen epoch) result.now) }
+    {
+        self.register.acts().rows()
     }
 
     /// How many ACTs are live: they have an actor still to leave, or have joined none and are not given up.

@@ -18,6 +18,7 @@ mod placing;
 mod register;
 mod walk;
 
+pub use act::Act;
 pub use answer::{Answer, ask};
 pub use book::Book;
 pub use mark::Mark;

@@ -1,4 +1,4 @@
-ghost use Rattle.std.specs.Prelude.{◌≡◌, ◌==◌};
+ghost use Rattle.std.specs.Prelude.{◌≡◌, ◌==◌, false};
 ghost use Rattle.protocol.specs.BookParts.{not_voted};
 ghost use Rattle.protocol.specs.OnBook.{mark_if, has_left};
 
@@ -38,9 +38,11 @@ impl Mark {
         self.actor
     }
 
-    /// Whether the ACT has left the actor.
+    /// Whether the ACT has left the actor. Of what is prepared and vouched there the votes know.
     pub fn is_finished(&self) -> bool
-        ensures { result ≡ self.now.finished }
+        ensures finished { result ≡ self.now.finished }
+        ensures unprepared { self.now.prepared ≡ false }
+        ensures unvouched { self.now.vouched ≡ false }
     {
         self.finished
     }
