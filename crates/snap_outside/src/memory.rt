@@ -35,7 +35,7 @@ impl MemLog {
         ensures ops { IfOk result (λ d. d.ops.items ≡ []) }
         ensures bytes { IfOk result (λ d. d.bytes.items ≡ bytes.items) }
         ensures wanted { IfOk result (λ d. d.wanted ≡ 0) }
-        ensures schedule { IfOk result (λ d. d.schedule ≡ record { fails = fails; calls = 0; faults = 0 }) }
+        ensures schedule { IfOk result (λ d. d.schedule ≡ record { fails = fails; calls = 0; faults = 0; late = 0 }) }
     {
         let first = bytes.as_slice().to_vec(alloc)?;
         Ok(MemLog {

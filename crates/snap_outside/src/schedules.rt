@@ -1,5 +1,5 @@
 ghost use Rattle.std.specs.Prelude.{◌≡◌, ℕ, ◌+◌, ◌-◌, ◌^◌, ◌≤◌, ◌↔◌, min, IsErr, OnOk, Contains};
-ghost use Rattle.snap_outside.specs.Causes.{Rose, HasCause};
+ghost use Rattle.snap_outside.specs.Causes.{Rose, HasCause, CountsLate};
 
 use std::error::Error;
 use std::fmt;
@@ -20,23 +20,25 @@ impl fmt::Display for Failed {
 
 impl Error for Failed {}
 
-/// Which calls of a fake fail, by their numbers from 1 on, and how many have been made and have failed.
-/// Counts stop at 2^64 - 1.
+/// Which calls of a fake fail, by their numbers from 1 on, and how many have been made, have failed, and were
+/// made after one had failed. Counts stop at 2^64 - 1.
 #[derive(Drop)]
 pub(crate) struct Schedule {
     pub(crate) fails: Vec<u64>,
     pub(crate) calls: u64,
     pub(crate) faults: u64,
+    pub(crate) late: u64,
 }
 
 impl Schedule {
     pub(crate) fn new(fails: Vec<u64>) -> Self
-        ensures { result ≡ record { fails = fails; calls = 0; faults = 0 } }
+        ensures { result ≡ record { fails = fails; calls = 0; faults = 0; late = 0 } }
     {
         Schedule {
             fails,
             calls: 0,
             faults: 0,
+            late: 0,
         }
     }
 
@@ -47,8 +49,12 @@ impl Schedule {
         ensures same { self.new.fails ≡ self.old.fails }
         ensures cause { HasCause self.old.faults self.new.faults result }
         ensures unchanged { OnOk result (self.new.faults ≡ self.old.faults) }
+        ensures late { CountsLate self.old.faults self.old.late self.new.late }
     {
         self.calls = self.calls.saturating_add(1);
+        if self.faults > 0 {
+            self.late = self.late.saturating_add(1);
+        }
         if self.fails.contains(&self.calls) {
             return Err(self.fault());
         }
@@ -59,7 +65,7 @@ impl Schedule {
     pub(crate) fn fault(&mut self) -> Failed
         ensures later { self.old.faults ≤ self.new.faults }
         ensures rose { Rose self.old.faults self.new.faults }
-        ensures same { (self.new.fails ≡ self.old.fails) × (self.new.calls ≡ self.old.calls) }
+        ensures same { (self.new.fails ≡ self.old.fails) × (self.new.calls ≡ self.old.calls) × (self.new.late ≡ self.old.late) }
     {
         self.faults = self.faults.saturating_add(1);
         Failed

@@ -1,6 +1,6 @@
-ghost use Rattle.std.specs.Prelude.{ℕ, ◌<◌, ◌≤◌, List, length, Option, IfOk};
+ghost use Rattle.std.specs.Prelude.{◌≡◌, ℕ, ◌<◌, ◌≤◌, List, length, Option, IfOk, OnOk};
 ghost use Rattle.std.specs.Io.KnownBytes.{WriteAppends};
-ghost use Rattle.snap_outside.specs.Causes.{HasCause};
+ghost use Rattle.snap_outside.specs.Causes.{HasCause, CountsLate};
 
 use crate::schedules::{Failed, Schedule};
 use snap_base::Memory;
@@ -14,13 +14,18 @@ pub trait Sink {
     /// How many calls have failed. It never falls.
     ghost faults: { Self → ℕ };
 
+    /// How many calls were made after one had failed.
+    ghost late: { Self → ℕ };
+
     /// Takes bytes from the front of `piece` and tells how many: some, where there are some. A call that
     /// fails takes none.
     fn write(&mut self, piece: &[u8]) -> Result<usize, Failed>
         ensures count { IfOk result (λ n. n ≤ length piece.now) }
         ensures some { IfOk result (λ n. 0 < length piece.now → 0 < n) }
         ensures moved { WriteAppends (taken self.old) (taken self.new) result piece.now }
-        ensures cause { HasCause (faults self.old) (faults self.new) result };
+        ensures cause { HasCause (faults self.old) (faults self.new) result }
+        ensures quiet { OnOk result (faults self.new ≡ faults self.old) }
+        ensures late { CountsLate (faults self.old) (late self.old) (late self.new) };
 }
 
 /// A sink in memory. A call that finds no memory is a fault too.
@@ -38,7 +43,7 @@ impl MemSink {
     pub fn new(alloc: Global, fails: Vec<u64>) -> Result<Self, Memory>
         ensures bytes { IfOk result (λ s. s.bytes.items ≡ []) }
         ensures wanted { IfOk result (λ s. s.wanted ≡ 0) }
-        ensures schedule { IfOk result (λ s. s.schedule ≡ record { fails = fails; calls = 0; faults = 0 }) }
+        ensures schedule { IfOk result (λ s. s.schedule ≡ record { fails = fails; calls = 0; faults = 0; late = 0 }) }
     {
         Ok(MemSink {
             bytes: Vec::with_capacity(alloc, FIRST_ROOM)?,
@@ -60,6 +65,13 @@ impl MemSink {
     {
         self.wanted
     }
+
+    /// How many calls were made after one had failed. The count stops at 2^64 - 1.
+    pub fn late(&self) -> u64
+        ensures { result ≡ self.now.schedule.late }
+    {
+        self.schedule.late
+    }
 }
 
 /// The room, in bytes, that a new sink in memory has.
@@ -68,12 +80,14 @@ const FIRST_ROOM: usize = 64;
 impl Sink for MemSink {
     ghost use Rattle.std.specs.Prelude.{◌≡◌, ◌<◌, ◌≤◌, ◌⊎◌, length, Some, IfOk, IsErr, OnOk, MatchResult};
     ghost use Rattle.std.specs.Io.KnownBytes.{WriteAppends};
-    ghost use Rattle.snap_outside.specs.Causes.{HasCause, Rose};
+    ghost use Rattle.snap_outside.specs.Causes.{HasCause, CountsLate, Rose};
     ghost use Rattle.snap_outside.specs.Fakes.{OneCall, SinkFailsNext};
 
     ghost taken = { λ s. Some s.bytes.items };
 
     ghost faults = { λ s. s.schedule.faults };
+
+    ghost late = { λ s. s.schedule.late };
 
     fn write(&mut self, piece: &[u8]) -> Result<usize, Failed>
         ensures count { IfOk result (λ n. n ≤ length piece.now) }
@@ -86,6 +100,7 @@ impl Sink for MemSink {
             (λ _. SinkFailsNext self.old ⊎ Rose self.old.wanted self.new.wanted) }
         ensures counted { OneCall self.old.schedule self.new.schedule }
         ensures quiet { OnOk result (self.new.schedule.faults ≡ self.old.schedule.faults) }
+        ensures late { CountsLate self.old.schedule.faults self.old.schedule.late self.new.schedule.late }
     {
         self.schedule.call()?;
         if self.bytes.extend_from_slice(piece).is_err() {
@@ -112,6 +127,8 @@ impl Sink for NullSink {
     ghost taken = { λ _. None };
 
     ghost faults = { λ _. 0 };
+
+    ghost late = { λ _. 0 };
 
     fn write(&mut self, piece: &[u8]) -> Result<usize, Failed> {
         Ok(piece.len())

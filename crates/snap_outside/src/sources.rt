@@ -1,6 +1,6 @@
-ghost use Rattle.std.specs.Prelude.{◌≡◌, ℕ, ◌≤◌, min, List, length, take, Option, IfOk};
+ghost use Rattle.std.specs.Prelude.{◌≡◌, ℕ, ◌≤◌, min, List, length, take, Option, IfOk, OnOk};
 ghost use Rattle.std.specs.Io.KnownBytes.{ReadConsumes};
-ghost use Rattle.snap_outside.specs.Causes.{HasCause};
+ghost use Rattle.snap_outside.specs.Causes.{HasCause, CountsLate};
 
 use crate::schedules::{Failed, Schedule};
 
@@ -12,12 +12,17 @@ pub trait Source {
     /// How many calls have failed. It never falls.
     ghost faults: { Self → ℕ };
 
+    /// How many calls were made after one had failed.
+    ghost late: { Self → ℕ };
+
     /// Moves bytes to the front of `buf` and tells how many. None into a buffer that has room is the end
     /// of the input. A call that fails moves none.
     fn read(&mut self, buf: &mut [u8]) -> Result<usize, Failed>
         ensures count { IfOk result (λ n. n ≤ length buf.old) }
         ensures moved { ReadConsumes (left self.old) (left self.new) result buf.new }
-        ensures cause { HasCause (faults self.old) (faults self.new) result };
+        ensures cause { HasCause (faults self.old) (faults self.new) result }
+        ensures quiet { OnOk result (faults self.new ≡ faults self.old) }
+        ensures late { CountsLate (faults self.old) (late self.old) (late self.new) };
 }
 
 /// A source in memory.
@@ -36,13 +41,20 @@ impl MemSource {
     /// A source of these bytes whose calls with these numbers, from 1 on, fail.
     pub fn new(bytes: Vec<u8>, fails: Vec<u64>) -> Self
         ensures left { source_left result ≡ bytes.items }
-        ensures schedule { result.schedule ≡ record { fails = fails; calls = 0; faults = 0 } }
+        ensures schedule { result.schedule ≡ record { fails = fails; calls = 0; faults = 0; late = 0 } }
     {
         MemSource {
             bytes,
             at: 0,
             schedule: Schedule::new(fails),
         }
+    }
+
+    /// How many calls were made after one had failed. The count stops at 2^64 - 1.
+    pub fn late(&self) -> u64
+        ensures { result ≡ self.now.schedule.late }
+    {
+        self.schedule.late
     }
 
     fn left(&self) -> &[u8]
@@ -55,12 +67,14 @@ impl MemSource {
 impl Source for MemSource {
     ghost use Rattle.std.specs.Prelude.{◌≡◌, ◌≤◌, ◌↔◌, length, Some, IfOk, IsErr, OnOk};
     ghost use Rattle.std.specs.Io.KnownBytes.{ReadConsumes};
-    ghost use Rattle.snap_outside.specs.Causes.{HasCause};
+    ghost use Rattle.snap_outside.specs.Causes.{HasCause, CountsLate};
     ghost use Rattle.snap_outside.specs.Fakes.{source_left, OneCall, SourceFailsNext};
 
     ghost left = { λ s. Some (source_left s) };
 
     ghost faults = { λ s. s.schedule.faults };
+
+    ghost late = { λ s. s.schedule.late };
 
     fn read(&mut self, buf: &mut [u8]) -> Result<usize, Failed>
         ensures count { IfOk result (λ n. n ≤ length buf.old) }
@@ -69,6 +83,7 @@ impl Source for MemSource {
         ensures fails { IsErr result ↔ SourceFailsNext self.old }
         ensures counted { OneCall self.old.schedule self.new.schedule }
         ensures quiet { OnOk result (self.new.schedule.faults ≡ self.old.schedule.faults) }
+        ensures late { CountsLate self.old.schedule.faults self.old.schedule.late self.new.schedule.late }
     {
         self.schedule.call()?;
         let count = copied(self.left(), buf);
