@@ -1,6 +1,6 @@
 ghost use Rattle.std.specs.Prelude.{◌<◌, ◌≤◌, length, IfOk};
 
-use crate::faults::counted;
+use crate::faults::Calls;
 use crate::files::LateFile;
 use snap_outside::{Failed, Sink};
 use std::fs::OpenOptions;
@@ -13,28 +13,28 @@ use std::rt::Files;
 #[derive(Drop)]
 pub struct FileSink<'a, R: Files> {
     file: LateFile<'a, R>,
-    faults: u64,
+    calls: Calls,
 }
 
 impl<'a, R: Files> FileSink<'a, R> {
     ghost use Rattle.std.specs.Prelude.{◌≡◌};
 
     pub fn new(rt: &'a R, path: String) -> Self
-        ensures faults { result.faults ≡ 0 }
+        ensures calls { result.calls ≡ record { faults = 0; late = 0 } }
     {
         let mut how = OpenOptions::new();
         how.write(true).create(true).truncate(true);
         FileSink {
             file: LateFile::new(rt, path, how),
-            faults: 0,
+            calls: Calls::new(),
         }
     }
 
     /// How many calls have failed. The count stops at 2^64 - 1.
     pub fn faults(&self) -> u64
-        ensures { result ≡ self.now.faults }
+        ensures { result ≡ self.now.calls.faults }
     {
-        self.faults
+        self.calls.faults
     }
 }
 
@@ -43,10 +43,12 @@ impl<'a, R: Files> Sink for FileSink<'a, R> {
 
     ghost taken = { λ _. None };
 
-    ghost faults = { λ s. s.faults };
+    ghost faults = { λ s. s.calls.faults };
+
+    ghost late = { λ s. s.calls.late };
 
     fn write(&mut self, piece: &[u8]) -> Result<usize, Failed> {
-        counted(write_late(&mut self.file, piece), &mut self.faults)
+        self.calls.counted(write_late(&mut self.file, piece))
     }
 }
 

@@ -1,4 +1,4 @@
-use crate::faults::counted;
+use crate::faults::Calls;
 use crate::sinks::write_some;
 use snap_outside::{Failed, Sink, Source};
 use std::io;
@@ -8,26 +8,26 @@ use std::io::{BufRead, Printer};
 #[derive(Drop)]
 pub struct StdinSource<R> {
     reader: R,
-    faults: u64,
+    calls: Calls,
 }
 
 impl<R: BufRead> StdinSource<R> {
     ghost use Rattle.std.specs.Prelude.{◌≡◌};
 
     pub fn new<I: Input<Reader = R>>(rt: &I) -> Self
-        ensures faults { result.faults ≡ 0 }
+        ensures calls { result.calls ≡ record { faults = 0; late = 0 } }
     {
         StdinSource {
             reader: rt.reader(),
-            faults: 0,
+            calls: Calls::new(),
         }
     }
 
     /// How many calls have failed. The count stops at 2^64 - 1.
     pub fn faults(&self) -> u64
-        ensures { result ≡ self.now.faults }
+        ensures { result ≡ self.now.calls.faults }
     {
-        self.faults
+        self.calls.faults
     }
 }
 
@@ -36,10 +36,12 @@ impl<R: BufRead> Source for StdinSource<R> {
 
     ghost left = { λ _. None };
 
-    ghost faults = { λ s. s.faults };
+    ghost faults = { λ s. s.calls.faults };
+
+    ghost late = { λ s. s.calls.late };
 
     fn read(&mut self, buf: &mut [u8]) -> Result<usize, Failed> {
-        counted(self.reader.read(buf), &mut self.faults)
+        self.calls.counted(self.reader.read(buf))
     }
 }
 
@@ -47,26 +49,26 @@ impl<R: BufRead> Source for StdinSource<R> {
 #[derive(Drop)]
 pub struct StdoutSink<'a, P> {
     writer: Printer<'a, P>,
-    faults: u64,
+    calls: Calls,
 }
 
 impl<'a, P: Print> StdoutSink<'a, P> {
     ghost use Rattle.std.specs.Prelude.{◌≡◌};
 
     pub fn new(rt: &'a P) -> Self
-        ensures faults { result.faults ≡ 0 }
+        ensures calls { result.calls ≡ record { faults = 0; late = 0 } }
     {
         StdoutSink {
             writer: io::writer(rt),
-            faults: 0,
+            calls: Calls::new(),
         }
     }
 
     /// How many calls have failed. The count stops at 2^64 - 1.
     pub fn faults(&self) -> u64
-        ensures { result ≡ self.now.faults }
+        ensures { result ≡ self.now.calls.faults }
     {
-        self.faults
+        self.calls.faults
     }
 }
 
@@ -75,9 +77,11 @@ impl<'a, P: Print> Sink for StdoutSink<'a, P> {
 
     ghost taken = { λ _. None };
 
-    ghost faults = { λ s. s.faults };
+    ghost faults = { λ s. s.calls.faults };
+
+    ghost late = { λ s. s.calls.late };
 
     fn write(&mut self, piece: &[u8]) -> Result<usize, Failed> {
-        counted(write_some(&mut self.writer, piece), &mut self.faults)
+        self.calls.counted(write_some(&mut self.writer, piece))
     }
 }
