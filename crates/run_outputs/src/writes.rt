@@ -1,6 +1,6 @@
-ghost use Rattle.std.specs.Prelude.{ℕ, List, ◌≡◌, ◌≤◌, ◌++◌, OnOk, OnErr};
+ghost use Rattle.std.specs.Prelude.{ℕ, List, ◌≡◌, ◌≤◌, ◌++◌, IsOk, OnOk, OnErr};
 ghost use Rattle.std.specs.Io.KnownBytes.{Appends};
-ghost use Rattle.snap_outside.specs.Causes.{HasCause};
+ghost use Rattle.snap_outside.specs.Causes.{HasCause, EndsAtFault};
 
 use snap_outside::{Failed, Sink};
 
@@ -9,6 +9,8 @@ pub fn write_all<O: Sink>(out: &mut O, bytes: &[u8]) -> Result<(), Failed>
     ensures whole { OnOk result (Appends (O.taken out.old) (O.taken out.new) bytes.now) }
     ensures front { OnErr result ((front rest : List ℕ) × (bytes.now ≡ front ++ rest) × Appends (O.taken out.old) (O.taken out.new) front) }
     ensures cause { HasCause (O.faults out.old) (O.faults out.new) result }
+    // It makes no call behind one that failed.
+    ensures once { EndsAtFault (IsOk result) (O.faults out.old) (O.late out.old) (O.faults out.new) (O.late out.new) }
 {
     let mut at = 0;
     while at < bytes.len() {
