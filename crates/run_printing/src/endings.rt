@@ -6,7 +6,7 @@ ghost use Rattle.run_outputs.specs.Lines.{ending_text};
 ghost use Rattle.run_printing.specs.Printed.{AppendsFront};
 ghost use Rattle.snap_core.specs.Cores.{IsAt, state_at};
 ghost use Rattle.snap_hand.specs.Tables.{fixed_of};
-ghost use Rattle.snap_outside.specs.Causes.{Rose};
+ghost use Rattle.snap_outside.specs.Causes.{Rose, EndsAtFault};
 ghost use Rattle.snap_report.specs.Lines.{actor_text, actors_text};
 
 use crate::WriteNo;
@@ -35,6 +35,7 @@ pub fn write_ending<O: Sink>(
     // The text is made whole before it is written.
     ensures memory { IsErrOf result WriteNo.Memory → out.new ≡ out.old }
     ensures later { O.faults out.old ≤ O.faults out.new }
+    ensures once { EndsAtFault (¬ IsErrOf result WriteNo.Fault) (O.faults out.old) (O.late out.old) (O.faults out.new) (O.late out.new) }
 {
     let text = ending_of(alloc, core, kept)?;
     write_text(out, text.as_str())

@@ -5,7 +5,7 @@ ghost use Rattle.run_printing.specs.Printed.{AppendsFront};
 ghost use Rattle.run_printing.specs.Summed.{summary_by, summing_text};
 ghost use Rattle.snap_core.specs.Cores.{IsAt};
 ghost use Rattle.snap_hand.specs.Tables.{fixed_of};
-ghost use Rattle.snap_outside.specs.Causes.{Rose};
+ghost use Rattle.snap_outside.specs.Causes.{Rose, EndsAtFault};
 
 use crate::WriteNo;
 use crate::counts::counts_of;
@@ -32,6 +32,7 @@ pub fn write_summary<O: Sink>(
     // The text is made whole before it is written.
     ensures memory { IsErrOf result WriteNo.Memory → out.new ≡ out.old }
     ensures later { O.faults out.old ≤ O.faults out.new }
+    ensures once { EndsAtFault (¬ IsErrOf result WriteNo.Fault) (O.faults out.old) (O.late out.old) (O.faults out.new) (O.late out.new) }
 {
     let line = line_of(alloc, core, kept)?;
     write_text(out, line.as_str())

@@ -1,7 +1,7 @@
 ghost use Rattle.std.specs.Prelude.{◌≡◌, ◌≤◌, [], IfOk, IsErrOf, OnOk, OnErr, string_bytes};
 ghost use Rattle.std.specs.Io.KnownBytes.{Appends};
 ghost use Rattle.run_printing.specs.Printed.{AppendsLines, IsCut, traced_line};
-ghost use Rattle.snap_outside.specs.Causes.{Rose};
+ghost use Rattle.snap_outside.specs.Causes.{Rose, EndsAtFault};
 ghost use Rattle.trace_text.specs.Traces.{trace_of};
 
 use crate::WriteNo;
@@ -21,6 +21,7 @@ pub fn write_trace<T: Sink>(alloc: Global, kept: &[Event], trace: &mut T) -> Res
     ensures lines { OnErr result (AppendsLines traced_line (T.taken trace.old) (T.taken trace.new) (T.faults trace.old) (T.faults trace.new) kept.now) }
     ensures fault { IsErrOf result WriteNo.Fault → Rose (T.faults trace.old) (T.faults trace.new) }
     ensures later { T.faults trace.old ≤ T.faults trace.new }
+    ensures once { EndsAtFault (¬ IsErrOf result WriteNo.Fault) (T.faults trace.old) (T.late trace.old) (T.faults trace.new) (T.late trace.new) }
     ensures none { kept.now ≡ [] → trace.new ≡ trace.old }
 {
     let mut at = 0;
@@ -38,6 +39,7 @@ fn write_lines<T: Sink>(alloc: Global, events: &[Event], trace: &mut T) -> Resul
     ensures cut { OnErr result (IsCut (T.taken trace.old) (T.taken trace.new) (T.faults trace.old) (T.faults trace.new) (trace_of events.now)) }
     ensures fault { IsErrOf result WriteNo.Fault → Rose (T.faults trace.old) (T.faults trace.new) }
     ensures later { T.faults trace.old ≤ T.faults trace.new }
+    ensures once { EndsAtFault (¬ IsErrOf result WriteNo.Fault) (T.faults trace.old) (T.late trace.old) (T.faults trace.new) (T.late trace.new) }
 {
     let text = lines_of(alloc, events)?;
     write_text(trace, text.as_str())

@@ -4,6 +4,7 @@ ghost use Rattle.core_events.specs.Meant.{event_meant};
 ghost use Rattle.protocol.specs.Report.{replied};
 ghost use Rattle.protocol.specs.Words.{is_among};
 ghost use Rattle.run_printing.specs.Printed.{AppendsLines, IsCut, unanswered, unsure_line};
+ghost use Rattle.snap_outside.specs.Causes.{EndsAtFault};
 
 use crate::writes::write_text;
 use core_events::Event;
@@ -17,6 +18,7 @@ use std::alloc::Global;
 pub fn write_unsures<O: Sink>(alloc: Global, out: &mut O, log: u8, count: u32, kept: &[Event])
     ensures lines { AppendsLines (unsure_line log) (O.taken out.old) (O.taken out.new) (O.faults out.old) (O.faults out.new) (unanswered (map event_meant kept.now) count) }
     ensures later { O.faults out.old ≤ O.faults out.new }
+    ensures once { EndsAtFault ⊥ (O.faults out.old) (O.late out.old) (O.faults out.new) (O.late out.new) }
 {
     let Ok(answered) = answered_by(alloc, count, kept) else {
         return;
@@ -61,6 +63,7 @@ fn write_unsure<O: Sink>(alloc: Global, out: &mut O, log: u8, number: u32) -> bo
     ensures whole { IsTrue result → Appends (O.taken out.old) (O.taken out.new) (unsure_line log number) }
     ensures cut { IsFalse result → IsCut (O.taken out.old) (O.taken out.new) (O.faults out.old) (O.faults out.new) (unsure_line log number) }
     ensures later { O.faults out.old ≤ O.faults out.new }
+    ensures once { EndsAtFault (IsTrue result) (O.faults out.old) (O.late out.old) (O.faults out.new) (O.late out.new) }
 {
     match reply_line(alloc, TxNo(number), &Verdict::Unsure { log }) {
         Ok(line) => write_text(out, line.as_str()).is_ok(),

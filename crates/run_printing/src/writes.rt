@@ -1,7 +1,7 @@
-ghost use Rattle.std.specs.Prelude.{◌≡◌, ◌≤◌, IsOkUnless, OnOk, OnErr};
+ghost use Rattle.std.specs.Prelude.{◌≡◌, ◌≤◌, IsErrOf, IsOkUnless, OnOk, OnErr};
 ghost use Rattle.std.specs.Io.KnownBytes.{Appends};
 ghost use Rattle.run_printing.specs.Printed.{AppendsFront};
-ghost use Rattle.snap_outside.specs.Causes.{Rose};
+ghost use Rattle.snap_outside.specs.Causes.{Rose, EndsAtFault};
 
 use run_outputs::write_all;
 use snap_base::Memory;
@@ -34,6 +34,7 @@ pub(crate) fn write_text<O: Sink>(out: &mut O, text: &str) -> Result<(), WriteNo
     ensures fault { OnErr result (Rose (O.faults out.old) (O.faults out.new)) }
     ensures only { IsOkUnless result WriteNo.Fault }
     ensures later { O.faults out.old ≤ O.faults out.new }
+    ensures once { EndsAtFault (¬ IsErrOf result WriteNo.Fault) (O.faults out.old) (O.late out.old) (O.faults out.new) (O.late out.new) }
 {
     match write_all(out, text.as_bytes()) {
         Ok(()) => Ok(()),

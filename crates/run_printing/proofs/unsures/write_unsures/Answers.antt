@@ -7,6 +7,7 @@ use Rattle.protocol.specs.Report.{replied}
 use Rattle.protocol.specs.Words.{is_among}
 use Rattle.run_printing.specs.Printed.{IsCut, unanswered, unsure_line}
 use Rattle.run_printing.proofs.Fronts.{lines_cut, lines_whole}
+use Rattle.snap_outside.proofs.AtFault.{calls_join, surely}
 use Rattle.run_printing.proofs.Unanswered.{open_at, unanswered_next, unanswered_behind}
 use Rattle.run_printing.proofs.unsures.write_unsures.Goals as goal
 
@@ -24,6 +25,9 @@ returns-then-not-write_unsure-clause-lines g c =
     (subst (λ bytes. IsCut (g.O.Sink.taken c.loop-number.out) (g.O.Sink.taken c.write_unsure.new.out) (g.O.Sink.faults c.loop-number.out) (g.O.Sink.faults c.write_unsure.new.out) bytes)
     (sym (append-nil (unsure_line c.args.log n))) (c.write_unsure.ensures.cut c.if-not-write_unsure.true))
 
+pub returns-then-not-write_unsure-clause-once : goal.returns-then-not-write_unsure-clause-once
+returns-then-not-write_unsure-clause-once g c = calls_join _ _ _ _ _ _ tt c.loop-number.invariant.once (surely _ _ _ _ (λ no. absurd no) c.write_unsure.ensures.once)
+
 pub loop-number-preserved : goal.loop-number-preserved
 loop-number-preserved g c =
     let es = map event_meant c.args.kept.now in
@@ -36,7 +40,11 @@ loop-number-preserved g c =
       taken = subst (Appends (g.O.Sink.taken c.args.out.now) (g.O.Sink.taken c.write_unsure.new.out)) (sym more)
           (Appends-trans _ _ _ _ _ c.loop-number.invariant.taken (c.write_unsure.ensures.whole c.if-not-write_unsure.false));
       later = omega (arith, c.loop-number.invariant.later, c.write_unsure.ensures.later);
+      once = calls_join _ _ _ _ _ _ tt c.loop-number.invariant.once (surely _ _ _ _ (λ _. c.if-not-write_unsure.false) c.write_unsure.ensures.once);
     }
+
+pub returns-clause-once : goal.returns-clause-once
+returns-clause-once g c = surely _ _ _ _ (λ no. absurd no) c.loop-number.invariant.once
 
 pub returns-clause-lines : goal.returns-clause-lines
 returns-clause-lines g c =
