@@ -1,10 +1,11 @@
 //! What is done before an event.
-ghost use Rattle.std.specs.Prelude.{◌≡◌, List, length, MatchResult};
+ghost use Rattle.std.specs.Prelude.{◌≡◌, List, length, IsErrOf, MatchResult};
 ghost use Rattle.core_events.specs.Meant.{event_meant};
 ghost use Rattle.protocol.specs.Conditions.{IsAllowed};
 ghost use Rattle.protocol.specs.Events as machine;
 ghost use Rattle.snap_core.specs.Cores.{IsAt, state_at};
 ghost use Rattle.snap_hand.specs.Tables.{fixed_of};
+ghost use Rattle.snap_outside.specs.Causes.{EndsAtFault};
 ghost use Rattle.run_journals.specs.RunsOf.{RunsOf};
 ghost use Rattle.solo_host.specs.Outside.{AreLow, AreOpen, outside, IsDone, IsGivenUp};
 
@@ -30,9 +31,10 @@ pub(crate) fn before<D: LogDev, O: Sink>(
     requires logs { length logs.old.items ≡ core.now.tables.work.logs }
     requires open { AreOpen logs.old.items }
     requires low { AreLow logs.old.items }
-    ensures { MatchResult result
+    ensures outer { MatchResult result
         (λ _. (es : List machine.Event) → IsAt core.now es → IsDone (fixed_of core.now.tables) es (event_meant e) (outside logs.old.items (O.taken out.old) (O.faults out.old)) (outside logs.new.items (O.taken out.new) (O.faults out.new)))
         (λ stop. (es : List machine.Event) → IsAt core.now es → IsGivenUp (fixed_of core.now.tables) es (event_meant e) stop (outside logs.old.items (O.taken out.old) (O.faults out.old)) (outside logs.new.items (O.taken out.new) (O.faults out.new))) }
+    ensures once { EndsAtFault (¬ IsErrOf result Stop.OutFault) (O.faults out.old) (O.late out.old) (O.faults out.new) (O.late out.new) }
 {
     match e {
         Event::Sync(l) => before_sync(alloc, core, logs, l),

@@ -1,9 +1,10 @@
-ghost use Rattle.std.specs.Prelude.{◌≡◌, ◌+◌, ◌≤◌, ◌^◌, [], List, length, map, false};
+ghost use Rattle.std.specs.Prelude.{◌≡◌, ◌≢◌, ◌+◌, ◌≤◌, ◌^◌, [], List, length, map, false};
 ghost use Rattle.std.specs.List.{AllByRecursion};
 ghost use Rattle.core_events.specs.Meant.{event_meant};
 ghost use Rattle.protocol_schedule.specs.Draw.{IsFrontOfSeed};
 ghost use Rattle.snap_core.specs.Cores.{IsAt};
 ghost use Rattle.snap_hand.specs.Tables.{fixed_of};
+ghost use Rattle.snap_outside.specs.Causes.{EndsAtFault};
 ghost use Rattle.solo_host.specs.Drives.{AreDriven, IsPrinted, IsWhy};
 
 use crate::picks::generator_of;
@@ -48,6 +49,8 @@ pub fn drive<D: LogDev, O: Sink>(
     // The output got the lines of its replies.
     ensures printed { IsPrinted (fixed_of core.old.tables) seed (map event_meant result.kept.items) (O.taken out.old) (O.taken out.new) result.stop }
     ensures later { O.faults out.old ≤ O.faults out.new }
+    // It gets no call behind one that failed.
+    ensures once { EndsAtFault (result.stop ≢ Stop.OutFault) (O.faults out.old) (O.late out.old) (O.faults out.new) (O.late out.new) }
 {
     runs_of(core.tables());
     let mut generator = generator_of(seed);

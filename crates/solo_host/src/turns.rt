@@ -1,8 +1,9 @@
 //! One turn: an event is picked, what stands before it is done, and it is taken.
-ghost use Rattle.std.specs.Prelude.{None, ◌≡◌, ◌<◌, [], ◌∷◌, ◌++◌, length, map, vec_len, vec_capacity, MatchOption};
+ghost use Rattle.std.specs.Prelude.{None, Some, ◌≡◌, ◌≢◌, ◌<◌, [], ◌∷◌, ◌++◌, length, map, vec_len, vec_capacity, MatchOption};
 ghost use Rattle.core_events.specs.Meant.{event_meant};
 ghost use Rattle.snap_core.specs.Cores.{IsAt, state_at};
 ghost use Rattle.snap_hand.specs.Tables.{fixed_of};
+ghost use Rattle.snap_outside.specs.Causes.{EndsAtFault};
 ghost use Rattle.run_journals.specs.RunsOf.{RunsOf};
 ghost use Rattle.solo_host.specs.Outside.{AreLow, AreOpen, outside};
 ghost use Rattle.solo_host.specs.Turns.{HasGoneOn, HasEnded, IsBehindWords, IsKeptFor, IsOneBehind};
@@ -46,6 +47,7 @@ pub(crate) fn turn<D: LogDev, O: Sink>(
     ensures list { result ≡ None → IsKeptFor seed (fixed_of core.old.tables) (state_at core.old (map event_meant kept.old.items)) list.new.events }
     ensures drawn { result ≡ None → IsBehindWords seed (length (map event_meant kept.new.items)) generator.new }
     ensures tables { core.new.tables ≡ core.old.tables }
+    ensures once { EndsAtFault (result ≢ Some Stop.OutFault) (O.faults out.old) (O.late out.old) (O.faults out.new) (O.late out.new) }
 {
     let Ok(()) = freshen(alloc, core, seed, kept, list, news) else {
         return Some(Stop::Memory);

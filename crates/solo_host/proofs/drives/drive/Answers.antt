@@ -11,6 +11,7 @@ use Rattle.solo_host.specs.Turns.{IsBehindWords, IsOneBehind}
 use Rattle.solo_host.proofs.KeptList.{first_behind, now_behind}
 use Rattle.solo_host.proofs.Driving.{IsDriving, begins, still_open, still_low, are_open, are_near}
 use Rattle.solo_host.proofs.Turning.{stays_driving, has_driven, fewer_left}
+use Rattle.snap_outside.proofs.AtFault.{calls_join, no_call, surely}
 use Rattle.solo_host.proofs.drives.drive.Goals as goal
 
 pub turns-init : goal.turns-init
@@ -23,6 +24,7 @@ turns-init g c =
       drawn = subst (λ (ks : List code.Event). IsBehindWords c.args.seed (length (map event_meant ks)) c.generator_of-generator.result) (sym c.new-kept.ensures.items) c.generator_of-generator.ensures;
       behind = first_behind c.args.seed w c.new-kept.result.items c.new-list.result.events c.new-kept.ensures.items;
       driving = subst (λ (ks : List code.Event). IsDriving w c.args.seed (map event_meant ks) start start) (sym c.new-kept.ensures.items) (begins w c.args.seed start (are_open c.args.logs.now.items c.requires.open));
+      once = no_call _ _ _;
     }
 
 pub turn-requires-clause-runs : goal.turn-requires-clause-runs
@@ -74,6 +76,9 @@ returns-in-Some-clause-printed g c =
     (has_driven c.args.core.now.tables c.args.seed c.turns.core c.turn.new.core (map event_meant c.turns.kept.items) (map event_meant c.turn.new.kept.items) c.in-Some.stop start old new
     c.turns.invariant.tables c.turns.invariant.driving c.in-Some.ensures.goes).printed
 
+pub returns-in-Some-clause-once : goal.returns-in-Some-clause-once
+returns-in-Some-clause-once g c = calls_join _ _ _ _ _ _ tt c.turns.invariant.once (surely _ _ _ _ (λ no is. no (cc is)) c.in-Some.ensures.once)
+
 pub turns-preserved : goal.turns-preserved
 turns-preserved g c =
     let start = outside c.args.logs.now.items (g.O.Sink.taken c.args.out.now) (g.O.Sink.faults c.args.out.now) in
@@ -87,6 +92,7 @@ turns-preserved g c =
           c.turns.invariant.tables (c.in-None.ensures.list refl) c.in-None.ensures.goes;
       driving = stays_driving c.args.core.now.tables c.args.seed c.turns.core c.turn.new.core (map event_meant c.turns.kept.items) (map event_meant c.turn.new.kept.items) start old new
           c.turns.invariant.tables (subst (λ (t : Tables). RunsOf (fixed_of t)) c.tables.ensures.same c.runs_of.ensures) c.turns.invariant.at c.turns.invariant.driving c.in-None.ensures.goes;
+      once = calls_join _ _ _ _ _ _ tt c.turns.invariant.once (surely _ _ _ _ (λ _ is. cc is) c.in-None.ensures.once);
     }
 
 pub turns-smaller : goal.turns-smaller

@@ -3,6 +3,7 @@ use Rattle.core_events.specs.Meant.{event_meant}
 use Rattle.protocol_theorems.specs.Left.{most_events}
 use Rattle.snap_core.specs.Cores.{IsAt}
 use Rattle.snap_hand.specs.Tables.{fixed_of}
+use Rattle.snap_outside.specs.Causes.{EndsAtFault}
 use Rattle.solo_host.specs.Outside.{outside}
 use Rattle.solo_host.specs.Turns.{IsBehindWords, IsOneBehind}
 use Rattle.solo_host.proofs.Driving.{IsDriving}
@@ -17,6 +18,7 @@ invariant-turns g l = record {
   behind : IsOneBehind l.seed (fixed_of l.fn.core.tables) (map event_meant l.kept.items) l.list.events;
   driving : IsDriving (fixed_of l.fn.core.tables) l.seed (map event_meant l.kept.items)
       (outside l.fn.logs.items (g.O.Sink.taken l.fn.out) (g.O.Sink.faults l.fn.out)) (outside l.logs.items (g.O.Sink.taken l.out) (g.O.Sink.faults l.out));
+  once : EndsAtFault (Unit {0}) (g.O.Sink.faults l.fn.out) (g.O.Sink.late l.fn.out) (g.O.Sink.faults l.out) (g.O.Sink.late l.out);
 }
 
 -- a run has at most so many events a transaction
