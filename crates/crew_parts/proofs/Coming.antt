@@ -20,6 +20,7 @@ use Rattle.run_outputs.specs.Laws.{GroupsGrow, RepliesGrow}
 use Rattle.snap_hand.specs.Shown.{IsPartOf}
 use Rattle.run_journals.specs.Driven.{IsDriven}
 use Rattle.std.proofs.KnownBytes.{Appends-nil}
+use Rattle.snap_outside.proofs.AtFault.{no_call}
 use Rattle.turn_table.specs.Places.{values, replaced}
 use Rattle.turn_table.specs.Runs.{May, Run}
 use Rattle.crew_parts.proofs.Replacing.{as_long, replaced_tells, covered_are_shown, goes_as_many, came_from}
@@ -122,7 +123,7 @@ module _
 
       output_begins : (o : Option OutputState) → IsFresh o → OutputIs w [] o o
       output_begins o fresh = subst (λ p. OutputIs w [] p p) (sym fresh.is)
-          (omega arith, subst (λ b. Printed b w [] fresh.output fresh.output) (sym fresh.ready) (Appends-nil fresh.output.taken))
+          (omega arith, subst (λ b. Printed b w [] fresh.output fresh.output) (sym fresh.ready) (Appends-nil fresh.output.taken), no_call _ _ _)
 
       pub begins : Begins w start → HasCome w start [] start
       begins b = record {

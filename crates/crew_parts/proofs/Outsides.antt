@@ -7,7 +7,7 @@ use Rattle.std.proofs.lemmas.Bool.Decides.{eqb_tells}
 use Rattle.aml_slice.specs.Controls.{Rest}
 use Rattle.crew_parts.specs.Acts.{JournalGoes, OutputGoes, Prints, behind, groups_by, tried_by, tried_at, line_at}
 use Rattle.crew_parts.specs.Crews.{IsReady, IsStillDue, JournalIs, OutputIs, Printed, added}
-use Rattle.crew_parts.specs.Shares.{OutputState}
+use Rattle.crew_parts.specs.Shares.{OutputState, GetsNoMore}
 use Rattle.gate_log.specs.State.{LogState}
 use Rattle.protocol.specs.Conditions.{AllTrue, IsAllowed, conditions}
 use Rattle.protocol.specs.Effects.{log_at}
@@ -25,6 +25,7 @@ use Rattle.run_journals.specs.Driven.{IsDriven}
 use Rattle.run_journals.proofs.Driving.{driven_join}
 use Rattle.snap_base.specs.declared.verdicts.Verdict.{Verdict}
 use Rattle.snap_outside.specs.Causes.{Rose}
+use Rattle.snap_outside.proofs.AtFault.{calls_join}
 use Rattle.txn_records.specs.declared.records.Record.{Record}
 
 -- ---- journals
@@ -145,15 +146,16 @@ no_line w es logs (Reply n) h = absurd (true≢false h)
 no_line w es logs e h = refl
 
 module _ (w : Fixed Rest) (es : List Event) (e : Event) (replies : RepliesGrow w es) (allowed : IsAllowed w e (reached w es)) where
-  printed_goes : (done : Bool) (a b c : OutputState) → a.faults ≤ b.faults → Appends a.taken b.taken (replies_text w es) → Prints done e (reached w es) b c
-      → (a.faults ≤ c.faults) × Printed c.failed w (es ++ added done e) a c
-  printed_goes true a b c later took goes = (
+  printed_goes : (done : Bool) (a b c : OutputState) → a.faults ≤ b.faults → b.failed ≡ false → GetsNoMore a b → Appends a.taken b.taken (replies_text w es) → Prints done e (reached w es) b c
+      → (a.faults ≤ c.faults) × Printed c.failed w (es ++ added done e) a c × GetsNoMore a c
+  printed_goes true a b c later ready once took goes = (
     omega (arith, later, goes.later),
     subst (λ z. Printed z w (es ++ e ∷ []) a c) (sym goes.ready)
         (subst (Appends a.taken c.taken) (sym (replies e allowed ∙ ap (λ l. replies_text w es ++ l) (sym (line_is w es e))))
         (Appends-trans a.taken b.taken c.taken (replies_text w es) (line_at (reached w es) e) took goes.taken)),
+    calls_join a.faults a.late b.faults b.late c.faults c.late ready once goes.once,
   )
-  printed_goes false a b c later took goes = (
+  printed_goes false a b c later ready once took goes = (
     omega (arith, later, goes.later),
     subst (λ z. Printed z w (es ++ []) a c) (sym goes.failed) (record {
       tx = goes.tx;
@@ -165,13 +167,14 @@ module _ (w : Fixed Rest) (es : List Event) (e : Event) (replies : RepliesGrow w
           (Appends-trans a.taken b.taken c.taken (replies_text w es) goes.front took goes.taken);
       rose = rose_on a.faults b.faults c.faults later goes.rose;
     }),
+    calls_join a.faults a.late b.faults b.late c.faults c.late ready once goes.once,
   )
 
   pub output_goes : (done : Bool) (o0 o1 o2 : Option OutputState) → OutputIs w es o0 o1 → OutputGoes done e (reached w es) o1 o2 → OutputIs w (es ++ added done e) o0 o2
   output_goes done None o1 o2 is goes = absurd is
   output_goes done (Some a) None o2 is goes = absurd is
   output_goes done (Some a) (Some b) None is goes = absurd goes
-  output_goes done (Some a) (Some b) (Some c) is goes = printed_goes done a b c is.0 (subst (λ z. Printed z w es a b) goes.0 is.1) goes.1
+  output_goes done (Some a) (Some b) (Some c) is goes = printed_goes done a b c is.0 goes.0 is.2 (subst (λ z. Printed z w es a b) goes.0 is.1) goes.1
 
   -- the event prints nothing
   text_stays : (done : Bool) → line_by w es e ≡ [] → replies_text w (es ++ added done e) ≡ replies_text w es
@@ -196,4 +199,4 @@ module _ (w : Fixed Rest) (es : List Event) (e : Event) (replies : RepliesGrow w
     pub output_stays : (o0 o1 : Option OutputState) → OutputIs w es o0 o1 → OutputIs w (es ++ added done e) o0 o1
     output_stays None o1 is = absurd is
     output_stays (Some a) None is = absurd is
-    output_stays (Some a) (Some b) is = (is.0, printed_stays b.failed a b is.1)
+    output_stays (Some a) (Some b) is = (is.0, printed_stays b.failed a b is.1, is.2)

@@ -5,7 +5,7 @@ use Rattle.std.specs.Io.KnownBytes.{Appends}
 use Rattle.aml_slice.specs.Controls.{Rest}
 use Rattle.core_events.specs.Meant.{event_meant}
 use Rattle.core_rows.specs.OnRuns.{HasRun}
-use Rattle.crew_parts.specs.Shares.{OutputState, ShareState}
+use Rattle.crew_parts.specs.Shares.{OutputState, ShareState, GetsNoMore}
 use Rattle.crew_parts.specs.declared.acts.Act.{Act}
 use Rattle.gate_log.specs.State.{LogState}
 use Rattle.protocol.specs.Conditions.{IsAllowed}
@@ -75,6 +75,7 @@ pub record HasPrinted (line : List ℕ) (old new : OutputState) : Type 0 where
   pub taken : Appends old.taken new.taken line
   pub ready : new.failed ≡ false
   pub later : old.faults ≤ new.faults
+  pub once : GetsNoMore old new
 
 -- It took a front of the line of a reply, and failed.
 pub record HasBroken (s : Machine Rest) (e : Event) (old new : OutputState) : Type 0 where
@@ -87,6 +88,7 @@ pub record HasBroken (s : Machine Rest) (e : Event) (old new : OutputState) : Ty
   pub failed : new.failed ≡ true
   pub rose : Rose old.faults new.faults
   pub later : old.faults ≤ new.faults
+  pub once : GetsNoMore old new
 
 abbrev pub Prints : Bool → Event → Machine Rest → OutputState → OutputState → Type 0
 Prints true e s old new = HasPrinted (line_at s e) old new

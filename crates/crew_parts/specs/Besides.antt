@@ -2,7 +2,7 @@
 use Rattle.std.specs.Prelude.{◌≡◌, ℕ, ◌<◌, ◌≤◌, Bool, true, false, not, Option, None, Some, Result, Ok, Err, List, ◌++◌}
 use Rattle.std.specs.Io.KnownBytes.{Appends}
 use Rattle.crew_parts.specs.Acts.{HasPrinted}
-use Rattle.crew_parts.specs.Shares.{BesideState, OutputState}
+use Rattle.crew_parts.specs.Shares.{BesideState, OutputState, GetsNoMore}
 use Rattle.gate_log.specs.Device.{MayAppend}
 use Rattle.gate_log.specs.State.{LogState}
 use Rattle.gate_log.specs.declared.logs.AppendNo.{AppendNo}
@@ -83,6 +83,7 @@ pub record HasBrokenOff (all : List ℕ) (old new : OutputState) : Type 0 where
   pub failed : new.failed ≡ true
   pub rose : Rose old.faults new.faults
   pub later : old.faults ≤ new.faults
+  pub once : GetsNoMore old new
 
 -- the output alone changed
 pub record OutputBecame (changes : OutputState → OutputState → Type 0) (old new : BesideState) : Type 0 where

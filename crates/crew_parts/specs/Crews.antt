@@ -5,7 +5,7 @@ use Rattle.std.specs.Io.KnownBytes.{Appends}
 use Rattle.aml_slice.specs.Controls.{Rest}
 use Rattle.core_rows.specs.OnRuns.{HasRun}
 use Rattle.crew_parts.specs.Acts.{meant}
-use Rattle.crew_parts.specs.Shares.{OutputState, ShareState}
+use Rattle.crew_parts.specs.Shares.{OutputState, ShareState, GetsNoMore}
 use Rattle.crew_parts.specs.declared.acts.Act.{Act}
 use Rattle.gate_log.specs.State.{LogState}
 use Rattle.protocol.specs.Conditions.{IsAllowed}
@@ -84,7 +84,7 @@ Printed false w es old new = Appends old.taken new.taken (replies_text w es)
 abbrev pub OutputIs : Fixed Rest → List Event → Option OutputState → Option OutputState → Type 0
 OutputIs w es None new = ⊥
 OutputIs w es (Some old) None = ⊥
-OutputIs w es (Some old) (Some new) = (old.faults ≤ new.faults) × Printed new.failed w es old new
+OutputIs w es (Some old) (Some new) = (old.faults ≤ new.faults) × Printed new.failed w es old new × GetsNoMore old new
 
 -- The events are a run of the machine, of whose state these are all parts; and the journals and the output got what the events give.
 pub record HasCome (w : Fixed Rest) (start : List ShareState) (es : List Event) (now : List ShareState) : Type 0 where

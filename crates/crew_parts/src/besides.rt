@@ -33,7 +33,7 @@ impl<D: LogDev, O: Sink> Model for Beside<D, O> {
 
     ghost Value = { BesideState };
 
-    ghost view = { λ b. record { journal = b.journal; output = option_map (output_seen O.taken O.faults b.failed) b.output } };
+    ghost view = { λ b. record { journal = b.journal; output = option_map (output_seen O.taken O.faults O.late b.failed) b.output } };
 
     ghost invariant = { λ b. b.cut ≡ is_shut_there b.journal };
 }
@@ -83,7 +83,7 @@ impl<D: LogDev, O: Sink> Beside<D, O> {
 
     /// Beside the desk, the output.
     pub fn with_output(out: O) -> Self
-        ensures { result ≡ beside_desk (output_seen O.taken O.faults false out) }
+        ensures { result ≡ beside_desk (output_seen O.taken O.faults O.late false out) }
     {
         Beside {
             journal: None,
@@ -196,7 +196,7 @@ impl<D: LogDev, O: Sink> Beside<D, O> {
     pub fn into_output(self) -> Option<(O, bool)>
     where
         D: Drop,
-        ensures { self.output ≡ option_map (λ p. output_seen O.taken O.faults p.1 p.0) result }
+        ensures { self.output ≡ option_map (λ p. output_seen O.taken O.faults O.late p.1 p.0) result }
     {
         let Beside {
             journal,
