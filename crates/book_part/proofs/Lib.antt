@@ -6,3 +6,4 @@ pub mod Going
 pub mod Numbered
 mod Mapped
 pub mod Live
+pub mod LeftTold

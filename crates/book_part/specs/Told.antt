@@ -1,5 +1,5 @@
 -- What orders and votes tell together. Of an ACT each of them has its own part, or nothing.
-use Rattle.std.specs.Prelude.{ℕ, Bool, true, false, if◌then◌else◌, Option, Some, None}
+use Rattle.std.specs.Prelude.{ℕ, ◌&&◌, Bool, true, false, if◌then◌else◌, Option, Some, None}
 use Rattle.snap_base.specs.declared.transactions.TxResult.{TxResult}
 use Rattle.snap_base.specs.declared.verdicts.Verdict.{Verdict}
 use Rattle.protocol.specs.Verdicts.{ended_at, act_place}
@@ -25,3 +25,9 @@ doom_or_votes (Some why) placed told = Some why
 -- of an ACT as orders and votes have it
 abbrev pub told_verdict : Option Act → Option Act → Option Verdict
 told_verdict x y = doom_or_votes (doom_of x) (holds (λ z. is_ordered z.status) x) (sealed_verdict (before_of x) (holds (λ z. is_sealed z.status) y) (number_by y) (result_by y))
+
+-- ---- how many events its status may still bring
+
+-- by orders it is live, or has its place; by votes it is decided and not sealed
+abbrev pub left_told : Bool → Bool → Bool → ℕ
+left_told live placed decided = if live then 3 else (if placed && decided then 1 else 0)

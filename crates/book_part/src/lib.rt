@@ -8,6 +8,7 @@
 mod askings;
 mod commit;
 mod laws;
+mod left;
 mod listing;
 mod marks;
 mod part;
