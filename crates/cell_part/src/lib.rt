@@ -10,6 +10,7 @@ mod cell_part;
 mod kept;
 mod laws;
 mod leaving;
+mod left;
 mod listing;
 mod next;
 mod outcome;
