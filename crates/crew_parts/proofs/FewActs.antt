@@ -6,28 +6,27 @@ use native.Mathlib.Decide.{dec_le}
 use Rattle.std.proofs.lemmas.Bool.{eq-eqb}
 use Rattle.std.proofs.lemmas.Option.{slice_get_cases, slice_get_within}
 use Rattle.aml_slice.specs.Controls.{Rest}
-use Rattle.core_rows.specs.OnRuns.{HasRun}
-use Rattle.crew_parts.specs.Acts.{EachGoes, Goes, Happens, JournalGoes, OutputGoes, may_break, meant, tried_by}
-use Rattle.crew_parts.specs.Besides.{has_failed_there, is_shut_there}
+use Rattle.crew_parts.specs.Acts.{EachGoes, Goes, Happens, OutputGoes, may_break, meant}
+use Rattle.crew_parts.specs.Besides.{has_failed_there}
 use Rattle.crew_parts.specs.Crews.{Begins, HasCome, added, kept}
+use Rattle.crew_parts.specs.Devices.{is_shut}
+use Rattle.crew_parts.specs.LawsOfRuns.{LawsOfRuns}
 use Rattle.crew_parts.specs.Shares.{OutputState, ShareState}
 use Rattle.crew_parts.specs.declared.acts.Act.{Act}
-use Rattle.gate_log.specs.State.{LogState}
 use Rattle.protocol.specs.Conditions.{IsAllowed, conditions}
 use Rattle.protocol.specs.Effects.{log_at}
 use Rattle.protocol.specs.Events.{Event, Sync, Reply, desk, log, footprint}
 use Rattle.protocol.specs.Fixed.{Fixed}
-use Rattle.protocol.specs.Footprints.{HasLogs, LeavesOthers}
+use Rattle.protocol.specs.Footprints.{HasLogs}
 use Rattle.protocol.specs.Parts.{Log, Machine}
-use Rattle.protocol.specs.Runs.{IsRun, reached}
+use Rattle.protocol.specs.Runs.{reached}
 use Rattle.protocol.specs.Words.{holds, is_among}
 use Rattle.protocol_theorems.specs.Left.{most_events}
 use Rattle.run_outputs.specs.Groups.{waiting}
-use Rattle.run_outputs.specs.Laws.{GroupsGrow, RepliesGrow}
 use Rattle.turn_table.specs.Places.{Ascending, Covers, Stand, count_if, numbers, replaced, values}
 use Rattle.turn_table.specs.Runs.{Run}
 use Rattle.crew_parts.proofs.Coming.{acts_come, begins, one_act}
-use Rattle.crew_parts.proofs.Outsides.{VerdictsGoOn}
+use Rattle.crew_parts.proofs.Shutting.{journal_tells, there}
 use Rattle.crew_parts.proofs.Replacing.{GoesTo, as_long, came_from, covered_are_shown, goes_as_many, replaced_tells}
 
 -- ---- at how many numbers a test is true
@@ -72,20 +71,11 @@ count_more (suc n) k f g within h was is = dite (dec_le n k)
 
 -- ---- how many logs are shut, and whether the output has failed
 
-abbrev is_shut : ShareState → Bool
-is_shut x = is_shut_there x.beside.journal
-
 abbrev has_failed : ShareState → Bool
 has_failed x = has_failed_there x.beside.output
 
 abbrev faults : ℕ → List ShareState → ℕ
 faults logs xs = count_below logs (λ l. holds is_shut (slice_get xs (log l))) + count_if (holds has_failed (slice_get xs desk))
-
--- what an act finds, and what it leaves
-journal_tells : (l : ℕ) (done : Bool) (e : Event) (s : Machine Rest) (j k : Option LogState) → JournalGoes l done e s j k → (is_shut_there j ≡ false) × (is_shut_there k ≡ is_some (tried_by l done e s))
-journal_tells l done e s None k goes = absurd goes
-journal_tells l done e s (Some a) None goes = absurd goes
-journal_tells l done e s (Some a) (Some b) goes = (goes.0, goes.1.shut)
 
 printed_false : (e : Event) (s : Machine Rest) (o p : Option OutputState) → OutputGoes false e s o p → has_failed_there p ≡ true
 printed_false e s None p goes = absurd goes
@@ -110,9 +100,6 @@ is_there test (Some x) h = (x, refl)
 synced_exists : (w : Fixed Rest) (k : ℕ) (s : Machine Rest) → IsAllowed w (Sync k) s → k < length s.logs
 unfolding conditions
 synced_exists w k s ok = let there = is_there (λ (g : Log). nat_lt g.synced (length g.records)) (slice_get s.logs k) ok.0 in slice_get_within s.logs k there.0 there.1
-
-there : (xs : List ShareState) (i : ℕ) → i < length xs → (x : ShareState) × (slice_get xs i ≡ Some x)
-there xs i within = let c = slice_get_cases xs i in elim c.1 [ inl x ↦ (x.0, x.2) | inr past ↦ absurd (omega (arith, within, past.0)) ]
 
 covered_is_there : (xs : List ShareState) (i : ℕ) (is : List ℕ) → Covers (slice_get xs) (i ∷ is) → i < length xs
 covered_is_there xs i is covers = let c = slice_get_cases xs i in elim c.1 [
@@ -217,39 +204,30 @@ one_more w s false e xs made has ok broken covers goes = by (which e (broken ref
 
 -- ---- all acts
 
-module _
-    (w : Fixed Rest)
-    (lead : (es : List Event) → IsRun w es → HasRun w (reached w es))
-    (logs : (es : List Event) → IsRun w es → HasLogs w (reached w es))
-    (leaves : (e : Event) (s : Machine Rest) → HasLogs w s → LeavesOthers w e s)
-    (grow : GroupsGrow w)
-    (replies : (es : List Event) → IsRun w es → RepliesGrow w es)
-    (tell : (es : List Event) (e : Event) → IsRun w (es ++ e ∷ []) → VerdictsGoOn w es (es ++ e ∷ []))
-    (start : List ShareState)
-  where
-    each_counts : (acts : List Act) (es : List Event) (xs ys : List ShareState) → HasCome w start es xs → Run (λ b. footprint w.text.logs (meant b)) (Happens w) xs acts ys
-        → length acts + faults w.text.logs xs ≤ length (kept acts) + faults w.text.logs ys
-    each_counts [] es xs ys come run = let same = ap (faults w.text.logs) run in omega arith
-    each_counts (a ∷ more) es xs ys come run =
-        let s = reached w es in
-        let e = meant a in
-        let is = footprint w.text.logs e in
-        let goes = run.1.1.goes s (lead es come.run) (covered_are_shown w s (slice_get xs) is come.parts run.1.0) in
-        let one = one_more w s a.done e xs run.0 (logs es come.run) goes.0 run.1.1.broken run.1.0 goes.1 in
-        let others = each_counts more (es ++ added a.done e) (replaced xs is run.0) ys (one_act w lead logs leaves grow replies tell start a es xs run.0 come run.1) run.2 in
-        let both = length-append (added a.done e) (kept more) in
-        omega arith
+module _ (w : Fixed Rest) (laws : LawsOfRuns w) (start : List ShareState) where
+  each_counts : (acts : List Act) (es : List Event) (xs ys : List ShareState) → HasCome w start es xs → Run (λ b. footprint w.text.logs (meant b)) (Happens w) xs acts ys
+      → length acts + faults w.text.logs xs ≤ length (kept acts) + faults w.text.logs ys
+  each_counts [] es xs ys come run = let same = ap (faults w.text.logs) run in omega arith
+  each_counts (a ∷ more) es xs ys come run =
+      let s = reached w es in
+      let e = meant a in
+      let is = footprint w.text.logs e in
+      let goes = run.1.1.goes s (laws.lead es come.run) (covered_are_shown w s (slice_get xs) is come.parts run.1.0) in
+      let one = one_more w s a.done e xs run.0 (laws.runs.logs es come.run) goes.0 run.1.1.broken run.1.0 goes.1 in
+      let others = each_counts more (es ++ added a.done e) (replaced xs is run.0) ys (one_act w laws start a es xs run.0 come run.1) run.2 in
+      let both = length-append (added a.done e) (kept more) in
+      omega arith
 
-    pub few_acts : (acts : List Act) (ys : List ShareState) → ((es : List Event) → IsRun w es → length es ≤ most_events * length w.text.txs) → Begins w start
-        → Run (λ b. footprint w.text.logs (meant b)) (Happens w) start acts ys → length acts ≤ most_events * length w.text.txs + (w.text.logs + 1)
-    few_acts acts ys short begun run =
-        let begin = begins w lead logs leaves grow replies tell start begun in
-        let come = acts_come w lead logs leaves grow replies tell start acts [] start ys begin run in
-        let counted = each_counts acts [] start ys begin run in
-        let events = short (kept acts) come.run in
-        let shut = count_at_most w.text.logs (λ l. holds is_shut (slice_get ys (log l))) in
-        let failed = one_at_most (holds has_failed (slice_get ys desk)) in
-        omega arith
+  pub few_acts : (acts : List Act) (ys : List ShareState) → Begins w start
+      → Run (λ b. footprint w.text.logs (meant b)) (Happens w) start acts ys → length acts ≤ most_events * length w.text.txs + (w.text.logs + 1)
+  few_acts acts ys begun run =
+      let begin = begins w laws start begun in
+      let come = acts_come w laws start acts [] start ys begin run in
+      let counted = each_counts acts [] start ys begin run in
+      let events = laws.runs.end (kept acts) come.run in
+      let shut = count_at_most w.text.logs (λ l. holds is_shut (slice_get ys (log l))) in
+      let failed = one_at_most (holds has_failed (slice_get ys desk)) in
+      omega arith
 
 -- ---- entries that stand in a history
 

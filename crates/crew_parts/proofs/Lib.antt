@@ -2,5 +2,9 @@ mod Replacing
 mod PartsStay
 mod Outsides
 mod Coming
+mod Shutting
+mod LeftAlone
 mod UnderWay
+mod Telling
+mod DevicesStand
 mod FewActs

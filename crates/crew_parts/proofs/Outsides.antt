@@ -7,7 +7,8 @@ use Rattle.std.proofs.lemmas.Bool.Decides.{eqb_tells}
 use Rattle.aml_slice.specs.Controls.{Rest}
 use Rattle.crew_parts.specs.Acts.{JournalGoes, OutputGoes, Prints, behind, groups_by, tried_by, tried_at, line_at}
 use Rattle.crew_parts.specs.Crews.{IsReady, IsStillDue, JournalIs, OutputIs, Printed, added}
-use Rattle.crew_parts.specs.Shares.{OutputState, GetsNoMore}
+use Rattle.crew_parts.specs.LawsOfRuns.{VerdictsGoOn}
+use Rattle.crew_parts.specs.Shares.{OutputState}
 use Rattle.gate_log.specs.State.{LogState}
 use Rattle.protocol.specs.Conditions.{AllTrue, IsAllowed, conditions}
 use Rattle.protocol.specs.Effects.{log_at}
@@ -23,7 +24,6 @@ use Rattle.run_outputs.specs.Lines.{line_in, line_of, replies_text}
 use Rattle.crew_parts.proofs.Replacing.{some_of}
 use Rattle.run_journals.specs.Driven.{IsDriven}
 use Rattle.run_journals.proofs.Driving.{driven_join}
-use Rattle.snap_base.specs.declared.verdicts.Verdict.{Verdict}
 use Rattle.snap_outside.specs.Causes.{Rose}
 use Rattle.snap_outside.proofs.AtFault.{calls_join}
 use Rattle.txn_records.specs.declared.records.Record.{Record}
@@ -57,7 +57,7 @@ no_group logs l (Sync k) s h =
 no_group logs l e s h = refl
 
 module _ (w : Fixed Rest) (grow : GroupsGrow w) (es : List Event) (e : Event) where
-  grown_by : (done : Bool) (l : ℕ) → groups_of w l (es ++ added done e) ≡ groups_of w l es ++ groups_by l done e (reached w es)
+  pub grown_by : (done : Bool) (l : ℕ) → groups_of w l (es ++ added done e) ≡ groups_of w l es ++ groups_by l done e (reached w es)
   grown_by true l = grow l es e
   grown_by false l = ap (groups_of w l) (append-nil es) ∙ sym (append-nil (groups_of w l es))
 
@@ -117,10 +117,6 @@ pub due_none : (w : Fixed Rest) (l : ℕ) (s : Machine Rest) (j : Option LogStat
 due_none w l s j ready = subst (IsStillDue w s l) (sym ready.is) (λ shut. absurd (true≢false (sym shut ∙ ready.ready)))
 
 -- ---- the output
-
--- what becomes of a transaction stays, from the first events to the others
-abbrev pub VerdictsGoOn : Fixed Rest → List Event → List Event → Type 0
-VerdictsGoOn w es ds = (n : ℕ) (v : Verdict) → verdict n (reached w es).book (reached w es).desk ≡ Some v → verdict n (reached w ds).book (reached w ds).desk ≡ Some v
 
 -- A reply that is allowed stays so, with its line, where the desk and what is told stay.
 reply_stays : (w : Fixed Rest) (es ds : List Event) (tx : ℕ) → (reached w es).desk ≡ (reached w ds).desk → VerdictsGoOn w es ds → IsAllowed w (Reply tx) (reached w es)

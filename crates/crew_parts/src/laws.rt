@@ -3,6 +3,8 @@ ghost use Rattle.std.specs.Prelude.{◌≡◌, ◌+◌, ◌*◌, ◌<◌, ◌≤
 ghost use Rattle.crew_parts.specs.Acts.{MayDo, touched};
 ghost use Rattle.core_rows.specs.OnRuns.{HasRun};
 ghost use Rattle.crew_parts.specs.Crews.{Begins, HasCome, Stands, kept};
+ghost use Rattle.crew_parts.specs.Devices.{AreAtMoment, MayTell};
+ghost use Rattle.crew_parts.specs.LawsOfRuns.{LawsOfRuns};
 ghost use Rattle.crew_parts.specs.Shares.{ShareState};
 ghost use Rattle.crew_parts.specs.declared.acts.Act.{Act};
 ghost use Rattle.crew_parts.specs.Steps.{CrewTable, FindsMoment, HoldsForSync, IsMoment};
@@ -10,6 +12,7 @@ ghost use Rattle.snap_hand.specs.Tables.{AreTables, fixed_of, text_of};
 ghost use Rattle.protocol.specs.Events as machine;
 ghost use Rattle.protocol.specs.Runs.{IsRun, reached};
 ghost use Rattle.protocol_theorems.specs.Left.{most_events};
+ghost use Rattle.snap_outside.specs.Disk.{History};
 ghost use Rattle.turn_table.specs.Places.{Ascending, IsIdle};
 ghost use Rattle.turn_table.specs.Rule.{IsLater, Kept};
 ghost use Rattle.turn_table.specs.Runs.{Fits, Run};
@@ -30,10 +33,7 @@ pub fn acts_are_runs(tables: &Tables)
     requires { AreTables tables.now }
     ensures { (start : List ShareState) (acts : List Act) (now : List ShareState) → Begins (fixed_of tables.now) start → Run (touched tables.now) (MayDo tables.now) start acts now → HasCome (fixed_of tables.now) start (kept acts) now }
 {
-    runs_of(tables);
-    texts_have_the_facts(&tables.work.program);
-    verdicts_have_evidence(&tables.work.program);
-    events_leave_other_parts::<Control>();
+    laws_of_runs(tables);
 }
 
 /// Acts are few: those of their events that happened are a run, which is short; and of each log and of the output there is one fault at
@@ -42,10 +42,7 @@ pub fn acts_are_few(tables: &Tables)
     requires { AreTables tables.now }
     ensures { (start : List ShareState) (acts : List Act) (now : List ShareState) → Begins (fixed_of tables.now) start → Run (touched tables.now) (MayDo tables.now) start acts now → length acts ≤ most_events * length (text_of tables.now).txs + ((text_of tables.now).logs + 1) }
 {
-    runs_of(tables);
-    texts_have_the_facts(&tables.work.program);
-    verdicts_have_evidence(&tables.work.program);
-    events_leave_other_parts::<Control>();
+    laws_of_runs(tables);
 }
 
 /// At each step of a crew's table a crash finds a moment of a run of the machine.
@@ -64,11 +61,35 @@ pub fn crashes_find_moments<D: LogDev + Drop, O: Sink + Drop>(tables: &Tables)
     ensures { (start : List ShareState) (s u : CrewTable) (begun : ℕ → Bool) (now : Kept (touched tables.now) (MayDo tables.now) start s) (end : Kept (touched tables.now) (MayDo tables.now) start u) → Begins (fixed_of tables.now) start → IsLater s u →
         ((l : ℕ) → begun l ≡ true → (l < (fixed_of tables.now).text.logs) × HoldsForSync tables.now start s u l) → FindsMoment tables.now start s u now end begun }
 {
-    acts_are_runs(tables);
-    runs_lead(tables);
+    laws_of_runs(tables);
     histories_go_on::<Share<D, O>>(tables);
     runs_join::<Share<D, O>>(tables);
     what_is_held_is_left::<Share<D, O>>(tables);
+}
+
+/// At each step of a crew's table, whatever its workers do between two of their acts, the devices of its logs stand at one moment of
+/// the run that is recorded at a later step. What a worker makes of a device while it holds the log, up to its next act, is some or all
+/// of the append of what waits there; and nothing, where that act is not the log's Sync. Of a log that is shut it is what its fault left.
+pub fn devices_stand_at_moments<D: LogDev + Drop, O: Sink + Drop>(tables: &Tables)
+    requires { AreTables tables.now }
+    ensures { (start : List ShareState) (s u : CrewTable) (told : ℕ → Option History) (now : Kept (touched tables.now) (MayDo tables.now) start s) (end : Kept (touched tables.now) (MayDo tables.now) start u) → Begins (fixed_of tables.now) start → IsLater s u →
+        ((l : ℕ) → l < (fixed_of tables.now).text.logs → MayTell tables.now start s u now l (told l)) → AreAtMoment tables.now start s u now end told }
+{
+    laws_of_runs(tables);
+    histories_go_on::<Share<D, O>>(tables);
+    runs_join::<Share<D, O>>(tables);
+    what_is_held_is_left::<Share<D, O>>(tables);
+}
+
+/// What the laws say of the runs of the text. The acts of a crew rest on it.
+fn laws_of_runs(tables: &Tables)
+    requires { AreTables tables.now }
+    ensures { LawsOfRuns (fixed_of tables.now) }
+{
+    runs_of(tables);
+    runs_lead(tables);
+    verdicts_have_evidence(&tables.work.program);
+    events_leave_other_parts::<Control>();
 }
 
 /// Every run of the text leads to a state of which the calls of the rows may be asked.

@@ -6,7 +6,8 @@ use Rattle.protocol.specs.Events.{log}
 use Rattle.protocol.specs.Moments.{IsUnderWay}
 use Rattle.snap_hand.specs.Tables.{fixed_of}
 use Rattle.turn_table.specs.Runs.{Run}
-use Rattle.crew_parts.proofs.UnderWay.{kept-append, later_is, still_under_way, under_way}
+use Rattle.crew_parts.proofs.LeftAlone.{kept-append, later_is, none_touches}
+use Rattle.crew_parts.proofs.UnderWay.{still_under_way, under_way}
 use Rattle.crew_parts.proofs.laws.crashes_find_moments.Goals as goal
 
 pub returns : goal.returns
@@ -28,13 +29,13 @@ returns g c start s u begun now end begins later holds =
               | inl same ↦ (
                   let back = c.histories_go_on.ensures.none start h.last u h.rule end h.before same in
                   let rest = later_is end.history now.history h.rule.history left.0 [] on.0 on.1 left.1 (back ∙ sym (append-nil h.rule.history)) in
-                  subst (λ (acts : List Act). IsUnderWay w.text.logs l (kept acts)) (sym (rest ∙ append-nil left.0)) (still_under_way w.text.logs l left.0 left.2))
+                  subst (λ (acts : List Act). IsUnderWay w.text.logs l (kept acts)) (sym (rest ∙ append-nil left.0)) (still_under_way w.text.logs l (kept left.0) (none_touches w.text.logs l left.0 left.2)))
               | inr next ↦ (
                   let back = c.histories_go_on.ensures.next start h.last u h.rule end next.0 h.before next.2 in
                   let rest = later_is end.history now.history h.rule.history left.0 (next.0 ∷ back.0) on.0 on.1 left.1 back.1 in
                   let run = subst (λ (acts : List Act). Run (touched t) (MayDo t) start acts end.parts) back.1 end.run in
                   subst (λ (acts : List Act). IsUnderWay w.text.logs l (kept acts)) (sym rest)
-                  (under_way w start c.runs_lead.ensures (λ acts xs way. c.acts_are_runs.ensures start acts xs begins way) c.runs_join.ensures.join c.runs_join.ensures.cut l within
+                  (under_way w c.laws_of_runs.ensures start begins c.runs_join.ensures.join c.runs_join.ensures.cut l within
                   h.rule.history left.0 next.0 back.0 end.parts left.2 next.1 run))
             ];
       };
