@@ -32,7 +32,7 @@ pub fn shares_of<D: LogDev, O: Sink>(
     requires ends { AllByRecursion (λ l. l.end ≤ FARTHEST_END + 2 ^ 32) logs.items }
     ensures tables { IfOk result (λ made. (made.tables ≡ core.tables) × AreTables made.tables) }
     ensures begins { IfOk result (λ made. Begins (fixed_of core.tables) made.shares.items) }
-    ensures beside { IfOk result (λ made. AreBeside logs.items (output_seen O.taken O.faults false out) made.shares.items) }
+    ensures beside { IfOk result (λ made. AreBeside logs.items (output_seen O.taken O.faults O.late false out) made.shares.items) }
     ensures room { IfOk result (λ made. HasRoom (fixed_of core.tables) made.room) }
     ensures back { IfErr result (λ kept. (kept.0 ≡ core) × ((kept.1 ≡ logs) × (kept.2 ≡ out))) }
 {

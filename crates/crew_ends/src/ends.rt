@@ -37,7 +37,7 @@ pub fn core_of<D: LogDev + Drop, O: Sink + Drop>(
     // The core is where the events have come to.
     ensures tables { result.core.tables ≡ tables }
     ensures core { (start : List ShareState) (es : List machine.Event) → HasCome (fixed_of tables) start es shares.items → IsAt result.core es }
-    ensures beside { AreBeside result.logs.items (output_seen O.taken O.faults result.broken result.out) shares.items }
+    ensures beside { AreBeside result.logs.items (output_seen O.taken O.faults O.late result.broken result.out) shares.items }
     ensures many { length result.logs.items ≡ tables.work.logs }
 {
     runs_lead(&tables);

@@ -31,7 +31,7 @@ pub(crate) fn lay_out<D: LogDev, O: Sink>(
     requires empty { room.items ≡ [] }
     requires room { vec_len parts ≤ vec_capacity room }
     ensures parts { parts_of result.items ≡ map shown parts.items }
-    ensures beside { AreBeside logs.old.items (output_seen O.taken O.faults false out) result.items }
+    ensures beside { AreBeside logs.old.items (output_seen O.taken O.faults O.late false out) result.items }
     ensures emptied { logs.new.items ≡ [] }
     ensures room { vec_capacity logs.new ≡ vec_capacity logs.old }
 {

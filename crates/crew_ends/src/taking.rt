@@ -39,7 +39,7 @@ pub(crate) fn take_apart<D: LogDev + Drop, O: Sink + Drop>(
     requires room { (vec_len shares ≤ room.parts) × (count ≤ room.logs) }
     ensures hand { result.hand ≡ room.hand }
     ensures parts { map shown result.parts.items ≡ parts_of shares.items }
-    ensures beside { AreBeside result.logs.items (output_seen O.taken O.faults result.broken result.out) shares.items }
+    ensures beside { AreBeside result.logs.items (output_seen O.taken O.faults O.late result.broken result.out) shares.items }
     ensures many { length result.logs.items ≡ count }
 {
     let Room {
@@ -143,7 +143,7 @@ fn take_output<D: LogDev + Drop, O: Sink + Drop>(
     requires last { (output : OutputState) × EndsWithOutput output (besides_of shares.old.items) }
     requires room { vec_len parts.old < vec_capacity parts.old }
     ensures parts { taken shares.new.items parts.new.items ≡ taken shares.old.items parts.old.items }
-    ensures output { EndsWithOutput (output_seen O.taken O.faults result.1 result.0) (besides_of shares.old.items) }
+    ensures output { EndsWithOutput (output_seen O.taken O.faults O.late result.1 result.0) (besides_of shares.old.items) }
     ensures fewer { vec_len shares.new + 1 ≡ vec_len shares.old }
     ensures more { vec_len parts.new ≡ vec_len parts.old + 1 }
     ensures room { vec_capacity parts.new ≡ vec_capacity parts.old }

@@ -28,7 +28,7 @@ returns-clause-beside g c =
     let logs = c.take_logs.new.logs in
     let many : length (reverse logs.items) ≡ c.args.count = length-reverse logs.items ∙ (sym logs.ok.0 ∙ c.take_logs.ensures.logs) in
     stood_beside c.args.shares.items (besides_of c.take_bare.new.shares.items) (besides_of c.take_logs.new.shares.items) logs.items
-    (output_seen g.O.Sink.taken g.O.Sink.faults c.take_output-out.result.1 c.take_output-out.result.0)
+    (output_seen g.O.Sink.taken g.O.Sink.faults g.O.Sink.late c.take_output-out.result.1 c.take_output-out.result.0)
     (as_many c.take_bare.new.shares.items _ (sym c.take_bare.new.shares.ok.0 ∙ omega (arith, many)))
     (as_many c.take_logs.new.shares.items 4 (sym c.take_logs.new.shares.ok.0 ∙ c.take_logs.ensures.fewer))
     c.take_bare.ensures.front c.take_logs.ensures.front c.take_logs.ensures.journals c.take_output-out.ensures.output
