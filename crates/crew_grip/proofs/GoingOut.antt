@@ -43,6 +43,7 @@ use Rattle.snap_base.specs.declared.verdicts.Verdict.{Verdict}
 use Rattle.snap_base.specs.declared.ids.TxNo.{TxNo}
 use Rattle.snap_hand.specs.Hands.{Fits}
 use Rattle.snap_hand.specs.Steps.{IsRefusalOn, may_want}
+use Rattle.snap_outside.proofs.AtFault.{no_call}
 use Rattle.snap_outside.specs.declared.schedules.Failed.{Failed}
 use Rattle.snap_report.specs.Lines.{reply_text}
 use Rattle.turn_table.specs.Places.{at}
@@ -85,7 +86,7 @@ module _ (w : Fixed Rest) (same : (a : LogState) → a.shut ≡ false → IsDriv
   output_same e s o ready none =
       let x = ready_output o ready in
       subst (λ p. OutputGoes true e s p p) (sym x.1.0)
-      (x.1.1, record { taken = subst (Appends x.0.taken x.0.taken) (sym none) (Appends-nil x.0.taken); ready = x.1.1; later = omega arith })
+      (x.1.1, record { taken = subst (Appends x.0.taken x.0.taken) (sym none) (Appends-nil x.0.taken); ready = x.1.1; later = omega arith; once = no_call _ _ _ })
 
   quiet : (e : Event) (g : GripState) → AreSound w.text.logs g → ((l : ℕ) (s : Machine Rest) → group_by l e s ≡ []) → ((s : Machine Rest) → line_at s e ≡ []) → HasGoneOut w true e g g
   quiet e g sound groups line = record {
@@ -286,6 +287,7 @@ module _ (w : Fixed Rest) (held : List (Option ShareState)) (g : GripState) (n :
             failed = is.failed;
             rose = is.rose;
             later = is.later;
+            once = is.once;
           });
         })
         (book_stays false)
