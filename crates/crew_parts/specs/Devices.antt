@@ -63,6 +63,7 @@ pub record HoldsForAct (t : Tables) (start : List ShareState) (s u : CrewTable) 
   pub on : HoldsOn s last (log l) place
   pub act : Act
   pub recorded : IsEntry next (slice_index last.words 0, act)
+  -- nothing else is recorded with it
   pub alone : slice_index next.words 0 ≡ suc (slice_index last.words 0)
   pub order : IsLater s last × IsLater last next × IsLater next u
 

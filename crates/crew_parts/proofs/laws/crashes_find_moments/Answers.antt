@@ -7,13 +7,14 @@ use Rattle.protocol.specs.Moments.{IsUnderWay}
 use Rattle.snap_hand.specs.Tables.{fixed_of}
 use Rattle.turn_table.specs.Runs.{Run}
 use Rattle.crew_parts.proofs.LeftAlone.{kept-append, later_is, none_touches}
-use Rattle.crew_parts.proofs.UnderWay.{still_under_way, under_way}
+use Rattle.crew_parts.proofs.UnderWay.{Crew, still_under_way, under_way}
 use Rattle.crew_parts.proofs.laws.crashes_find_moments.Goals as goal
 
 pub returns : goal.returns
 returns g c start s u begun now end begins later holds =
     let t = c.args.tables.now in
     let w = fixed_of t in
+    let crew : Crew w = record { laws = c.laws_of_runs.ensures; start = start; begun = begins; join = c.runs_join.ensures.join; cut = c.runs_join.ensures.cut } in
     let on = c.histories_go_on.ensures.more start s u now end later in
     record {
       moment = record {
@@ -35,7 +36,7 @@ returns g c start s u begun now end begins later holds =
                   let rest = later_is end.history now.history h.rule.history left.0 (next.0 ∷ back.0) on.0 on.1 left.1 back.1 in
                   let run = subst (λ (acts : List Act). Run (touched t) (MayDo t) start acts end.parts) back.1 end.run in
                   subst (λ (acts : List Act). IsUnderWay w.text.logs l (kept acts)) (sym rest)
-                  (under_way w c.laws_of_runs.ensures start begins c.runs_join.ensures.join c.runs_join.ensures.cut l within
+                  (under_way w crew l within
                   h.rule.history left.0 next.0 back.0 end.parts left.2 next.1 run))
             ];
       };

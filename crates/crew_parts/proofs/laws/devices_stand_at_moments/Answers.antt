@@ -6,6 +6,7 @@ use Rattle.protocol.specs.Events.{log}
 use Rattle.snap_hand.specs.Tables.{fixed_of}
 use Rattle.turn_table.specs.Runs.{Run}
 use Rattle.crew_parts.proofs.DevicesStand.{GoesOn, found}
+use Rattle.crew_parts.proofs.UnderWay.{Crew}
 use Rattle.crew_parts.proofs.LeftAlone.{later_is, no_more_acts}
 use Rattle.crew_parts.proofs.laws.devices_stand_at_moments.Goals as goal
 
@@ -13,11 +14,9 @@ pub returns : goal.returns
 returns g c start s u told now end begins later tells =
     let t = c.args.tables.now in
     let w = fixed_of t in
-    let laws = c.laws_of_runs.ensures in
-    let join = c.runs_join.ensures.join in
-    let cut = c.runs_join.ensures.cut in
+    let crew : Crew w = record { laws = c.laws_of_runs.ensures; start = start; begun = begins; join = c.runs_join.ensures.join; cut = c.runs_join.ensures.cut } in
     let on = c.histories_go_on.ensures.more start s u now end later in
-    let goes : (l : ℕ) → l < w.text.logs → (told l ≡ told_at now.parts l) ⊎ GoesOn w laws start begins join cut now.history on.0 end.history now.parts end.parts on.1 now.run end.run l (told l) =
+    let goes : (l : ℕ) → l < w.text.logs → (told l ≡ told_at now.parts l) ⊎ GoesOn w crew now.history on.0 end.history now.parts end.parts on.1 now.run end.run l (told l) =
     λ l within. elim (tells l within) [
       | inl same ↦ inl same
       | inr h ↦ (
@@ -37,7 +36,7 @@ returns g c start s u told now end begins later tells =
             through = h.1;
           }))
     ] in
-    let all = found w laws start begins join cut now.history on.0 end.history now.parts end.parts on.1 now.run end.run told goes in
+    let all = found w crew now.history on.0 end.history now.parts end.parts on.1 now.run end.run told goes in
     record {
       moment = all.moment;
       so_far = all.so_far;
