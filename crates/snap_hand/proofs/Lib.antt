@@ -14,3 +14,4 @@ pub mod TablesHold
 pub mod Numbered
 pub mod PartsFit
 pub mod OneHand
+pub mod AllLeft

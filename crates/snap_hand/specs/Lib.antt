@@ -3,3 +3,4 @@ pub mod Hands
 pub mod Steps
 pub mod Shown
 pub mod Openings
+pub mod Left

@@ -8,6 +8,7 @@ mod beginning;
 mod events;
 mod hand;
 mod laws;
+mod left;
 mod on_actors;
 mod on_logs;
 mod on_replies;
