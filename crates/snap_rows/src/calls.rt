@@ -12,10 +12,14 @@
 //!   behind a call of a log recovers to what was printed, and is what a further run goes on from
 //! - `stops at any moment`: so does what a crash leaves behind any front of the events, where each log on its own has done none,
 //!   some or all operations of an append that may be under way then, and has lost what it has not synced on its own
+//! - `may lack memory`: the call is made again, and one of its requests for memory may be refused. Where the output, the trace or
+//!   a log made that request, the run ends as where that call fails; else it wants memory, or is as before. What any crash leaves
+//!   recovers as behind a call of a log. `.ci/memory` refuses each request in turn; it knows the call by what the test writes to
+//!   standard error. With all its memory the run is as before
 //!
 //! The text `endless` is one that never ends.
 //!
-//! Rows stand apart by an empty line.
+//! Rows stand apart by an empty line. A word behind the name of the test, where its program is called by hand, is read as the rows.
 
 ghost use Rattle.std.specs.Prelude.{◌≤◌};
 
@@ -32,6 +36,8 @@ use snap_recover::LogCause;
 use snap_report::{Status, status_line};
 use snap_run::{Outcome, run_solo};
 use std::alloc::Global;
+use std::env;
+use std::rt::HostRuntime;
 use std::test::Fail;
 
 /// A source that gives one byte at a read.
@@ -569,6 +575,63 @@ fn tell_failing(
     Ok(told.push_str("no end; ")?)
 }
 
+/// The place at which the outside found no memory, where it did.
+fn place_of_want(ran: &Ran) -> Option<Place> {
+    for (log, number) in ran.0.logs.iter().zip(0..4) {
+        if log.wanted() != 0 {
+            return Some(Place::Log(number));
+        }
+    }
+    if ran.0.out.0.wanted() != 0 {
+        return Some(Place::Write);
+    }
+    if ran.0.trace.0.wanted() != 0 {
+        return Some(Place::Trace);
+    }
+    None
+}
+
+/// Whether a run ended as the whole one did, with the same output, trace and logs.
+fn is_whole(whole: &Ran, ran: &Ran) -> bool {
+    for (log, left) in whole.0.logs.iter().zip(ran.0.logs.iter()) {
+        if log.bytes() != left.bytes() {
+            return false;
+        }
+    }
+    ran.is_done() && ran.output() == whole.output() && ran.trace() == whole.trace()
+}
+
+/// Whether a run ended as it should where one request for memory was refused, or none. Where the outside made it, that call failed.
+/// Else the run is the whole one, or it wants memory, and what it printed and traced are fronts.
+fn is_as_refused(whole: &Ran, ran: &Ran) -> bool {
+    match place_of_want(ran) {
+        Some(place) => is_cut_off(place, whole, ran),
+        None if ran.0.status == Status::Memory => {
+            whole.output().starts_with(ran.output()) && whole.trace().starts_with(ran.trace())
+        }
+        None => is_whole(whole, ran),
+    }
+}
+
+/// Makes the call again, of which a request for memory may be refused, and tells where it does not end as it should. What it asks
+/// for stands between two writes to standard error, of which the second tells the status.
+fn tell_refused(
+    rt: &HostRuntime,
+    alloc: Global,
+    asked: &str,
+    whole: &Ran,
+    told: &mut String,
+) -> Result<(), Fail> {
+    eprint!(rt; "ends with ")?;
+    let ran = call(alloc, asked, NONE)?;
+    let status = ran.0.status;
+    eprintln!(rt; "{status:?}")?;
+    if !is_as_refused(whole, &ran) || !is_left(alloc, Place::Log(0), asked, &ran)? {
+        told.push_str(&format!(in alloc; "{status:?} for want of memory; ")?)?;
+    }
+    Ok(())
+}
+
 /// How many operations of the log are done when these events are taken: those of opening it, of Genesis and of its Syncs.
 fn done_by(events: &[Event], log: u8) -> usize {
     let mut done = if log == 0 { OPENING + APPEND } else { OPENING };
@@ -723,6 +786,7 @@ fn tell_moments(alloc: Global, asked: &str, whole: &Ran, told: &mut String) -> R
 
 /// Tells what of a line is not so behind the call of its row.
 fn tell_line(
+    rt: &HostRuntime,
     alloc: Global,
     asked: &str,
     line: &str,
@@ -746,6 +810,9 @@ fn tell_line(
     if line == "stops at any moment" {
         return tell_moments(alloc, asked, ran, told);
     }
+    if line == "may lack memory" {
+        return tell_refused(rt, alloc, asked, ran, told);
+    }
     if line != "fails at any call" {
         return Err("the word of a line".into());
     }
@@ -765,12 +832,12 @@ fn tell_other(is: &str, wanted: &str, told: &mut String) -> Result<(), Fail> {
 }
 
 /// Tells what is not as the row says, and behind it the row, where something is not.
-fn tell_row(alloc: Global, row: &str, told: &mut String) -> Result<(), Fail> {
+fn tell_row(rt: &HostRuntime, alloc: Global, row: &str, told: &mut String) -> Result<(), Fail> {
     let (asked, lines) = row.split_once('\n').unwrap_or((row, ""));
     let ran = call(alloc, asked, Failing::of(asked))?;
     let before = told.len();
     for line in lines.split('\n') {
-        tell_line(alloc, asked, line, &ran, told)?;
+        tell_line(rt, alloc, asked, line, &ran, told)?;
     }
     if told.len() != before {
         told.push_str(row)?;
@@ -780,10 +847,10 @@ fn tell_row(alloc: Global, row: &str, told: &mut String) -> Result<(), Fail> {
 }
 
 /// What is not as the rows say: nothing, where all is.
-fn untrue(alloc: Global, rows: &str) -> Result<String, Fail> {
+fn untrue(rt: &HostRuntime, alloc: Global, rows: &str) -> Result<String, Fail> {
     let mut told = String::new(alloc);
     for row in rows.split("\n\n") {
-        tell_row(alloc, row, &mut told)?;
+        tell_row(rt, alloc, row, &mut told)?;
     }
     Ok(told)
 }
@@ -791,8 +858,12 @@ fn untrue(alloc: Global, rows: &str) -> Result<String, Fail> {
 #[test]
 fn calls_are_as_their_rows_say(rt: HostRuntime) -> Result<(), Fail> {
     let alloc = rt.alloc();
+    if let Some(rows) = env::args(&rt)?.nth(2) {
+        assert_eq!(rt; untrue(&rt, alloc, rows.as_str())?.as_str(), "");
+        return Ok(());
+    }
     for rows in [RUNS, RECOVERIES, CUTS, SWEEPS] {
-        assert_eq!(rt; untrue(alloc, rows)?.as_str(), "");
+        assert_eq!(rt; untrue(&rt, alloc, rows)?.as_str(), "");
     }
     Ok(())
 }
