@@ -8,6 +8,7 @@ use Rattle.crew_ends.specs.Ends.{AreDriven, AreDue, log_at}
 use Rattle.crew_host.specs.Drives.{AreAllOpen}
 use Rattle.crew_parts.specs.Crews.{OutputIs, Printed}
 use Rattle.crew_parts.specs.Shares.{OutputState}
+use Rattle.snap_outside.proofs.AtFault.{no_call}
 use Rattle.gate_log.specs.State.{LogState}
 use Rattle.protocol.specs.Fixed.{Fixed}
 use Rattle.run_journals.specs.Driven.{IsDriven}
@@ -30,4 +31,4 @@ pub nothing_due : (w : Fixed Rest) (logs : List LogState) → AreAllOpen logs �
 nothing_due w logs ready l lt shut = absurd (true≢false (sym shut ∙ ready l lt))
 
 pub nothing_printed : (w : Fixed Rest) (out : OutputState) → out.failed ≡ false → OutputIs w [] (Some out) (Some out)
-nothing_printed w out fresh = (omega arith, subst (λ (b : Bool). Printed b w [] out out) (sym fresh) (Appends-nil out.taken))
+nothing_printed w out fresh = (omega arith, subst (λ (b : Bool). Printed b w [] out out) (sym fresh) (Appends-nil out.taken), no_call _ _ _)

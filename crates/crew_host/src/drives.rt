@@ -71,7 +71,7 @@ pub fn drive_crew<
     ensures logs { AreDriven (fixed_of core.tables) (map event_meant result.kept.items) logs.items result.logs.items }
     ensures due { AreDue (fixed_of core.tables) (map event_meant result.kept.items) result.logs.items }
     // The output got the lines of its replies, and where it failed a front of one more.
-    ensures printed { OutputIs (fixed_of core.tables) (map event_meant result.kept.items) (Some (output_seen O.taken O.faults false out)) (Some (output_seen O.taken O.faults result.failed result.out)) }
+    ensures printed { OutputIs (fixed_of core.tables) (map event_meant result.kept.items) (Some (output_seen O.taken O.faults O.late false out)) (Some (output_seen O.taken O.faults O.late result.failed result.out)) }
 {
     crews_drive();
     appends_drive();
@@ -158,7 +158,7 @@ fn ended<R: Wait, D: LogDev + Drop, O: Sink + Drop>(
     ensures tables { result.core.tables ≡ ending.tables }
     ensures kept { map event_meant result.kept.items ≡ kept ending.acts.items }
     ensures core { IsAt result.core (kept ending.acts.items) }
-    ensures beside { AreBeside result.logs.items (output_seen O.taken O.faults result.failed result.out) ending.shares.items }
+    ensures beside { AreBeside result.logs.items (output_seen O.taken O.faults O.late result.failed result.out) ending.shares.items }
     ensures many { length result.logs.items ≡ ending.tables.work.logs }
     ensures stop { IsCrewStop (fixed_of ending.tables) (kept ending.acts.items) result.logs.items result.failed result.stop }
 {

@@ -45,8 +45,8 @@ returns-in-Ok-clause-printed g c =
     let ending = c.run_or_stay-ending.result in
     let end = c.ended.result in
     let es = kept ending.acts.items in
-    let before : OutputState = output_seen g.O.Sink.taken g.O.Sink.faults false c.args.out in
-    let after : OutputState = output_seen g.O.Sink.taken g.O.Sink.faults end.failed end.out in
+    let before : OutputState = output_seen g.O.Sink.taken g.O.Sink.faults g.O.Sink.late false c.args.out in
+    let after : OutputState = output_seen g.O.Sink.taken g.O.Sink.faults g.O.Sink.late end.failed end.out in
     let come : HasCome m begun.shares.items es ending.shares.items =
     subst (λ (t : Tables). HasCome (fixed_of t) begun.shares.items es ending.shares.items) c.in-Ok.ensures.tables.0 c.run_or_stay-ending.ensures.come in
     subst (λ (ds : List Event). OutputIs m ds (Some before) (Some after)) (sym c.ended.ensures.kept)
@@ -65,9 +65,9 @@ pub returns-in-Err-clause-printed : goal.returns-in-Err-clause-printed
 returns-in-Err-clause-printed g c =
     let m = fixed_of c.args.core.tables in
     let none : map event_meant c.not_begun.result.kept.items ≡ [] = ap (λ es. map event_meant es) c.not_begun.ensures.kept in
-    let before : OutputState = output_seen g.O.Sink.taken g.O.Sink.faults false c.args.out in
+    let before : OutputState = output_seen g.O.Sink.taken g.O.Sink.faults g.O.Sink.late false c.args.out in
     let same : c.not_begun.result.out ≡ c.args.out = c.not_begun.ensures.out.0 ∙ c.in-Err.ensures.back.1.1 in
-    let after : before ≡ output_seen g.O.Sink.taken g.O.Sink.faults c.not_begun.result.failed c.not_begun.result.out =
-    ap (λ o. output_seen g.O.Sink.taken g.O.Sink.faults false o) (sym same) ∙ ap (λ b. output_seen g.O.Sink.taken g.O.Sink.faults b c.not_begun.result.out) (sym c.not_begun.ensures.out.1) in
-    subst (λ (es : List Event). OutputIs m es (Some before) (Some (output_seen g.O.Sink.taken g.O.Sink.faults c.not_begun.result.failed c.not_begun.result.out))) (sym none)
+    let after : before ≡ output_seen g.O.Sink.taken g.O.Sink.faults g.O.Sink.late c.not_begun.result.failed c.not_begun.result.out =
+    ap (λ o. output_seen g.O.Sink.taken g.O.Sink.faults g.O.Sink.late false o) (sym same) ∙ ap (λ b. output_seen g.O.Sink.taken g.O.Sink.faults g.O.Sink.late b c.not_begun.result.out) (sym c.not_begun.ensures.out.1) in
+    subst (λ (es : List Event). OutputIs m es (Some before) (Some (output_seen g.O.Sink.taken g.O.Sink.faults g.O.Sink.late c.not_begun.result.failed c.not_begun.result.out))) (sym none)
     (subst (λ (o : OutputState). OutputIs m [] (Some before) (Some o)) after (nothing_printed m before refl))

@@ -20,5 +20,5 @@ returns-clause-stop g c =
     let fault : IsFault t.work.logs shares c.fault_of-fault.result = subst (λ (xs : List ShareState). IsFault t.work.logs xs c.fault_of-fault.result) c.as_slice-2.ensures.value c.fault_of-fault.ensures in
     let why : IsStopBy w es c.fault_of-fault.result c.stop_of-stop.result =
     subst (λ (u : Tables). IsStopBy (fixed_of u) es c.fault_of-fault.result c.stop_of-stop.result) c.core_of-core.ensures.tables (c.stop_of-stop.ensures es (c.core_of-core.ensures.core come.0 es come.1.1)) in
-    crew_stop w es end.logs.items (output_seen g.O.Sink.taken g.O.Sink.faults end.broken end.out) shares t.work.logs c.fault_of-fault.result c.stop_of-stop.result
+    crew_stop w es end.logs.items (output_seen g.O.Sink.taken g.O.Sink.faults g.O.Sink.late end.broken end.out) shares t.work.logs c.fault_of-fault.result c.stop_of-stop.result
     c.core_of-core.ensures.beside (omega (arith, many, c.core_of-core.ensures.many)) c.core_of-core.ensures.many fault why
