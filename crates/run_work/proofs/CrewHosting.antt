@@ -83,21 +83,22 @@ least logs log lt shut below = record {
   least = λ l less. within logs l (omega (arith, lt, less)) ∙ below l less;
 }
 
--- what several workers promise of the output
+-- what several workers promise of the output, however many of its calls were late before and after
 abbrev Heard : Fixed Rest → List machine.Event → Bool → Writing → Type 0
 Heard m es failed out =
-    OutputIs m es (Some (record { taken = out.taken_before; faults = out.faults_before; failed = false })) (Some (record { taken = out.taken_after; faults = out.faults_after; failed = failed }))
+    (before after : ℕ) × OutputIs m es (Some (record { taken = out.taken_before; faults = out.faults_before; late = before; failed = false }))
+    (Some (record { taken = out.taken_after; faults = out.faults_after; late = after; failed = failed }))
 
 rose_out : (w : Work) (o : Opening) (es : List machine.Event) (failed : Bool) (out : Writing) → Heard (machine_of w o) es failed out → failed ≡ true → Rose out.faults_before out.faults_after
-rose_out w o es true out heard is = heard.1.rose
+rose_out w o es true out heard is = heard.2.1.rose
 rose_out w o es false out heard is = absurd (true≢false (sym is))
 
 whole : (w : Work) (o : Opening) (es : List machine.Event) (failed : Bool) (out : Writing) → Heard (machine_of w o) es failed out → PrintsUnlessFailed failed w o es out
 whole w o es true out heard is = absurd (true≢false is)
-whole w o es false out heard is = heard.1
+whole w o es false out heard is = heard.2.1
 
 next : (w : Work) (o : Opening) (es : List machine.Event) (out : Writing) → Heard (machine_of w o) es true out → PrintsNext reporting w free o es out
-next w o es out heard = let b = heard.1 in (b.tx, b.allowed, (b.front, b.rest, b.line, b.taken))
+next w o es out heard = let b = heard.2.1 in (b.tx, b.allowed, (b.front, b.rest, b.line, b.taken))
 
 -- why they ended
 stopped : (w : Work) (o : Opening) (es : List machine.Event) (old new : List LogState) (failed : Bool) (out : Writing) (by : Stop) → IsRun (machine_of w o) es
@@ -118,8 +119,8 @@ broke_off w o es true out is heard = next w o es out heard
 broke_off w o es false out is heard = absurd (true≢false (sym is))
 
 at_logs : (w : Work) (o : Opening) (es : List machine.Event) (failed : Bool) (out : Writing) → Heard (machine_of w o) es failed out → PrintsStopped reporting w free o es out
-at_logs w o es true out heard = inr (heard.1.rose, next w o es out heard)
-at_logs w o es false out heard = inl heard.1
+at_logs w o es true out heard = inr (heard.2.1.rose, next w o es out heard)
+at_logs w o es false out heard = inl heard.2.1
 
 printed : (w : Work) (o : Opening) (es : List machine.Event) (new : List LogState) (failed : Bool) (out : Writing) (by : Stop) → IsCrewStop (machine_of w o) es new failed by
     → Heard (machine_of w o) es failed out → PrintsReplies reporting w free o es out by
@@ -148,5 +149,5 @@ module _
           why = stopped w o es old new failed out by (subst (λ (x : Fixed Rest). IsRun x es) same run) (subst (λ (x : Fixed Rest). crew.AreDriven x es old new) same logs)
               (subst (λ (x : Fixed Rest). crew.AreDue x es new) same due) why_by heard_by;
           printed = printed w o es new failed out by why_by heard_by;
-          later = heard_by.0;
+          later = heard_by.2.0;
         }

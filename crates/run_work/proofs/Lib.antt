@@ -1,4 +1,5 @@
 pub mod Answered
+pub mod AtFault
 pub mod CrewHosting
 pub mod Ending
 pub mod Hosting

@@ -96,15 +96,24 @@ pub record IsHosted (w : Work) (schedule : Schedule) (before after : List Device
 abbrev pub PrintsUnlessFailed : Bool → Work → Opening → List machine.Event → Writing → Type 0
 PrintsUnlessFailed failed w o es out = failed ≡ false → Writes out (replies_by reporting (machine_of w o) es)
 
+-- where the output of several workers has failed, they stopped for it, or for a log
+abbrev pub StopsSo : Bool → Stop → Type 0
+StopsSo failed stop.Quiet = failed ≡ false
+StopsSo failed (stop.LogFault log) = Unit {0}
+StopsSo failed stop.OutFault = Unit {0}
+StopsSo failed stop.Memory = failed ≡ false
+
 -- on open logs, by several workers
 pub record IsCrewHostedOn (w : Work) (o : Opening) (old new : List LogState) (replies : Writing) (failed : Bool) (h : Hosted) : Type 0 where
   pub hosted : IsHostedOn w free o old new replies h
   pub whole : PrintsUnlessFailed failed w o (meant h.kept.items) replies
+  pub stops : StopsSo failed h.stop
 
 -- on all devices, by several workers
 pub record IsCrewHosted (w : Work) (before after : List Device) (replies : Writing) (failed : Bool) (h : Hosted) : Type 0 where
   pub hosted : IsHosted w free before after replies h
   pub whole : PrintsUnlessFailed failed w hosted.opening (meant h.kept.items) replies
+  pub stops : StopsSo failed h.stop
 
 -- No run began, for this reason, and a crash at any moment loses no record. Where the logs hold records on which a run begins,
 -- and none fails, it is want of memory.

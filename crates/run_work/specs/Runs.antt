@@ -1,5 +1,5 @@
 -- What a run of a work prints, and the answers of the commands that run one.
-use Rattle.std.specs.Prelude.{◌≡◌, ℕ, ◌<◌, ◌⊎◌, Bool, true, List, [], ◌++◌, length, Contains}
+use Rattle.std.specs.Prelude.{◌≡◌, ◌≢◌, ℕ, ◌<◌, ◌⊎◌, Bool, true, List, [], ◌++◌, length, Contains}
 use Rattle.aml_slice.specs.Controls.{Rest}
 use Rattle.core_events.specs.declared.events.Event.{Event}
 use Rattle.log_opening.specs.declared.refusals.LogsNo.{LogsNo}
@@ -162,3 +162,9 @@ IsOfLogs status.ReadFault = ⊥
 IsOfLogs (status.LogFault log) = Unit {0}
 IsOfLogs status.OutFault = ⊥
 IsOfLogs status.TraceFault = ⊥
+
+-- ---- whether the output failed
+
+-- The status tells that it did not. A log's fault may hide that it did.
+abbrev pub OutStood : Status → Type 0
+OutStood s = (s ≢ status.OutFault) × ((log : ℕ) → s ≢ status.LogFault log)

@@ -1,5 +1,5 @@
 //! A run that prints its summary alone, on one thread or by several workers.
-ghost use Rattle.std.specs.Prelude.{◌≡◌, ◌≤◌, ℕ, List, [], map, vec_len, IfSome};
+ghost use Rattle.std.specs.Prelude.{◌≡◌, ◌≢◌, ◌≤◌, ℕ, List, [], map, vec_len, IfSome};
 ghost use Rattle.aml_slice.specs.Controls.{Rest};
 ghost use Rattle.core_events.specs.Meant.{event_meant};
 ghost use Rattle.crew_workers.specs.declared.crews.TheConstants.{MOST_WORKERS};
@@ -13,6 +13,7 @@ ghost use Rattle.run_work.specs.Untraced.{IsUntraced, IsEnding};
 ghost use Rattle.run_work.specs.Writings.{Writing, writing_of};
 ghost use Rattle.snap_core.specs.Cores.{IsAt};
 ghost use Rattle.snap_hand.specs.Tables.{fixed_of};
+ghost use Rattle.snap_outside.specs.Causes.{EndsAtFault};
 ghost use Rattle.snap_recover.specs.declared.openings.Opening.{Opening};
 ghost use Rattle.snap_work.specs.Kept.{KeepsLimits};
 ghost use Rattle.snap_work.specs.Works.{work_of};
@@ -50,6 +51,9 @@ pub fn bench_work<D: LogDev, O: Sink, T: Sink>(
     ensures answer { let r : Ran = record { work = work_of work; schedule = seeded 0; kept = result.0.items; devices_before = devices_of D.told D.faults devices.old.items; devices_after = devices_of D.told D.faults devices.new.items; out = writing_of O.taken O.faults out.old out.new; trace = writing_of T.taken T.faults trace.old trace.new } in IsBenchAnswer r result.1 }
     // Where no event is kept the trace gets no call.
     ensures untouched { result.0.items ≡ [] → trace.new ≡ trace.old }
+    // The output and the trace get no call behind one that failed.
+    ensures out_once { EndsAtFault (result.1 ≢ Status.OutFault) (O.faults out.old) (O.late out.old) (O.faults out.new) (O.late out.new) }
+    ensures trace_once { EndsAtFault (result.1 ≡ Status.Done) (T.faults trace.old) (T.late trace.old) (T.faults trace.new) (T.late trace.new) }
     // Where the logs hold records on which a run begins, and none fails, it does not end for a log.
     ensures opens { (records : List (List Record)) (o : Opening) → MayOpen (work_of work).logs (work_of work).states (devices_of D.told D.faults devices.old.items) (devices_of D.told D.faults devices.new.items) records o → ¬ IsOfLogs result.1 }
     ensures four { vec_len devices.new ≡ 4 }
@@ -71,6 +75,7 @@ fn bench_untraced<D: LogDev, O: Sink>(
     requires four { vec_len devices.old ≡ 4 }
     requires limits { KeepsLimits (work_of work) }
     ensures ended { (trace : Writing) → let r : Ran = record { work = work_of work; schedule = seeded 0; kept = result.0.items; devices_before = devices_of D.told D.faults devices.old.items; devices_after = devices_of D.told D.faults devices.new.items; out = writing_of O.taken O.faults out.old out.new; trace = trace } in IsUntraced summing r result.1 }
+    ensures once { EndsAtFault (result.1 ≢ Status.OutFault) (O.faults out.old) (O.late out.old) (O.faults out.new) (O.late out.new) }
     ensures four { vec_len devices.new ≡ 4 }
 {
     let mut replies = NullSink::new();
@@ -109,6 +114,9 @@ pub fn crew_bench<
     ensures answer { let r : Ran = record { work = work_of work; schedule = free; kept = result.kept.items; devices_before = devices_of D.told D.faults devices.old.items; devices_after = devices_of D.told D.faults devices.new.items; out = writing_of O.taken O.faults out result.out; trace = writing_of T.taken T.faults trace.old trace.new } in IsBenchAnswer r result.status }
     // Where no event is kept the trace gets no call.
     ensures untouched { result.kept.items ≡ [] → trace.new ≡ trace.old }
+    // The output and the trace get no call behind one that failed.
+    ensures out_once { EndsAtFault (result.status ≢ Status.OutFault) (O.faults out) (O.late out) (O.faults result.out) (O.late result.out) }
+    ensures trace_once { EndsAtFault (result.status ≡ Status.Done) (T.faults trace.old) (T.late trace.old) (T.faults trace.new) (T.late trace.new) }
     // Where the logs hold records on which a run begins, and none fails, it does not end for a log.
     ensures opens { (records : List (List Record)) (o : Opening) → MayOpen (work_of work).logs (work_of work).states (devices_of D.told D.faults devices.old.items) (devices_of D.told D.faults devices.new.items) records o → ¬ IsOfLogs result.status }
     ensures four { vec_len devices.new ≡ 4 }
@@ -135,6 +143,7 @@ fn crew_bench_untraced<R: Threads + Wait + Sync, D: LogDev + Drop + Send, O: Sin
     requires limits { KeepsLimits (work_of work) }
     requires workers { workers ≤ MOST_WORKERS }
     ensures ended { (trace : Writing) → let r : Ran = record { work = work_of work; schedule = free; kept = result.0.items; devices_before = devices_of D.told D.faults devices.old.items; devices_after = devices_of D.told D.faults devices.new.items; out = writing_of O.taken O.faults out.old out.new; trace = trace } in IsUntraced summing r result.1 }
+    ensures once { EndsAtFault (result.1 ≢ Status.OutFault) (O.faults out.old) (O.late out.old) (O.faults out.new) (O.late out.new) }
     ensures four { vec_len devices.new ≡ 4 }
 {
     let replies = NullSink::new();
@@ -164,6 +173,7 @@ fn end_summed<O: Sink>(
     requires { IfSome core (λ c. IsAt c (map event_meant kept.now)) }
     ensures ending { (m : Fixed Rest) (count : ℕ) → IsCoreOf m (map event_meant kept.now) stop core → IsEnding summing m (map event_meant kept.now) count stop (writing_of O.taken O.faults out.old out.new) result }
     ensures later { O.faults out.old ≤ O.faults out.new }
+    ensures once { EndsAtFault (result ≢ Status.OutFault) (O.faults out.old) (O.late out.old) (O.faults out.new) (O.late out.new) }
 {
     match core {
         Some(core) => summarize(alloc, &core, stop, kept, out),
@@ -176,6 +186,7 @@ fn summarize<O: Sink>(alloc: Global, core: &Core, stop: Stop, kept: &[Event], ou
     requires { IsAt core.now (map event_meant kept.now) }
     ensures ending { (count : ℕ) → IsEnding summing (fixed_of core.now.tables) (map event_meant kept.now) count stop (writing_of O.taken O.faults out.old out.new) result }
     ensures later { O.faults out.old ≤ O.faults out.new }
+    ensures once { EndsAtFault (result ≢ Status.OutFault) (O.faults out.old) (O.late out.old) (O.faults out.new) (O.late out.new) }
 {
     match stop {
         Stop::Quiet => match write_summary(alloc, core, kept, out) {

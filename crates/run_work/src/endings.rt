@@ -4,12 +4,13 @@ ghost use Rattle.aml_slice.specs.Controls.{Rest};
 ghost use Rattle.core_events.specs.Meant.{event_meant};
 ghost use Rattle.protocol.specs.Fixed.{Fixed};
 ghost use Rattle.run_work.specs.Hosts.{IsCoreOf};
-ghost use Rattle.run_work.specs.Runs.{reporting};
+ghost use Rattle.run_work.specs.Runs.{reporting, OutStood};
 ghost use Rattle.run_work.specs.Statuses.{logs_status};
 ghost use Rattle.run_work.specs.Untraced.{IsEnding, IsToldUnbegun, IsTraced};
 ghost use Rattle.run_work.specs.Writings.{writing_of};
 ghost use Rattle.snap_core.specs.Cores.{IsAt};
 ghost use Rattle.snap_hand.specs.Tables.{fixed_of};
+ghost use Rattle.snap_outside.specs.Causes.{EndsAtFault};
 
 use core_events::Event;
 use log_opening::LogsNo;
@@ -33,6 +34,8 @@ pub(crate) fn end_reported<O: Sink>(
     requires { IfSome core (λ c. IsAt c (map event_meant kept.now)) }
     ensures ending { (m : Fixed Rest) → IsCoreOf m (map event_meant kept.now) stop core → IsEnding reporting m (map event_meant kept.now) count stop (writing_of O.taken O.faults out.old out.new) result }
     ensures later { O.faults out.old ≤ O.faults out.new }
+    ensures once { EndsAtFault (OutStood result) (O.faults out.old) (O.late out.old) (O.faults out.new) (O.late out.new) }
+    ensures stopped { stop ≡ Stop.OutFault → out.new ≡ out.old }
 {
     match core {
         Some(core) => report(alloc, &core, stop, kept, count, out),
@@ -54,6 +57,8 @@ pub(crate) fn end_crew<O: Sink>(
     ensures ending { (m : Fixed Rest) → IsCoreOf m (map event_meant kept.now) stop core → IsEnding reporting m (map event_meant kept.now) count stop (writing_of O.taken O.faults out.old out.new) result }
     ensures silent { failed ≡ true → (log : ℕ) → stop ≡ Stop.LogFault log → out.new ≡ out.old }
     ensures later { O.faults out.old ≤ O.faults out.new }
+    ensures once { EndsAtFault (OutStood result) (O.faults out.old) (O.late out.old) (O.faults out.new) (O.late out.new) }
+    ensures stopped { stop ≡ Stop.OutFault → out.new ≡ out.old }
 {
     match (stop, failed) {
         (Stop::LogFault(log), true) => Status::LogFault { log },
@@ -73,6 +78,8 @@ fn report<O: Sink>(
     requires { IsAt core.now (map event_meant kept.now) }
     ensures ending { IsEnding reporting (fixed_of core.now.tables) (map event_meant kept.now) count stop (writing_of O.taken O.faults out.old out.new) result }
     ensures later { O.faults out.old ≤ O.faults out.new }
+    ensures once { EndsAtFault (OutStood result) (O.faults out.old) (O.late out.old) (O.faults out.new) (O.late out.new) }
+    ensures stopped { stop ≡ Stop.OutFault → out.new ≡ out.old }
 {
     match stop {
         Stop::Quiet => match write_ending(alloc, core, kept, out) {
@@ -93,6 +100,7 @@ fn report<O: Sink>(
 pub(crate) fn not_begun<O: Sink>(alloc: Global, no: LogsNo, count: u32, out: &mut O) -> Status
     ensures status { result ≡ logs_status no }
     ensures told { IsToldUnbegun reporting count no (writing_of O.taken O.faults out.old out.new) }
+    ensures once { EndsAtFault (OutStood result) (O.faults out.old) (O.late out.old) (O.faults out.new) (O.late out.new) }
 {
     if let LogsNo::Device { log } = no {
         write_unsures(alloc, out, log, count, &[]);
@@ -120,6 +128,7 @@ pub(crate) fn traced<T: Sink>(
 ) -> Status
     ensures traced { IsTraced (writing_of T.taken T.faults trace.old trace.new) kept.now status result }
     ensures none { kept.now ≡ [] → trace.new ≡ trace.old }
+    ensures once { EndsAtFault (result ≡ Status.Done) (T.faults trace.old) (T.late trace.old) (T.faults trace.new) (T.late trace.new) }
 {
     match write_trace(alloc, kept, trace) {
         Ok(()) => status,

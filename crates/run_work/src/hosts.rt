@@ -1,5 +1,5 @@
 //! The hosts on the logs of a work: one thread, or several workers.
-ghost use Rattle.std.specs.Prelude.{◌≡◌, ◌+◌, ◌≤◌, ◌^◌, length, vec_len, false, IfOk, IfErr, OnErr};
+ghost use Rattle.std.specs.Prelude.{◌≡◌, ◌≢◌, ◌+◌, ◌≤◌, ◌^◌, length, vec_len, false, IfOk, IfErr, OnErr};
 ghost use Rattle.std.specs.List.{AllByRecursion};
 ghost use Rattle.crew_workers.specs.declared.crews.TheConstants.{MOST_WORKERS};
 ghost use Rattle.gate_log.specs.declared.limits.TheConstants.{FARTHEST_END};
@@ -8,6 +8,7 @@ ghost use Rattle.run_recovery.specs.Schedules.{seeded};
 ghost use Rattle.run_work.specs.Hosts.{IsHosted, IsHostedOn, IsUnbegun, IsCrewHosted, IsCrewHostedOn};
 ghost use Rattle.run_work.specs.Writings.{writing_of};
 ghost use Rattle.snap_hand.specs.Tables.{MayBegin};
+ghost use Rattle.snap_outside.specs.Causes.{EndsAtFault};
 ghost use Rattle.snap_work.specs.Kept.{KeepsLimits};
 ghost use Rattle.snap_work.specs.Works.{work_of};
 
@@ -49,6 +50,7 @@ pub(crate) fn host_work<D: LogDev, R: Sink>(
     ensures hosted { IfOk result (λ h. IsHosted (work_of work) (seeded seed) (devices_of D.told D.faults devices.old.items) (devices_of D.told D.faults devices.new.items) (writing_of R.taken R.faults replies.old replies.new) h) }
     ensures unbegun { IfErr result (λ no. IsUnbegun (work_of work) (devices_of D.told D.faults devices.old.items) (devices_of D.told D.faults devices.new.items) no) }
     ensures silent { OnErr result (replies.new ≡ replies.old) }
+    ensures once { IfOk result (λ h. EndsAtFault (h.stop ≢ Stop.OutFault) (R.faults replies.old) (R.late replies.old) (R.faults replies.new) (R.late replies.new)) }
     ensures four { vec_len devices.new ≡ 4 }
 {
     let (logs, opening) = open_run(alloc, devices, work.logs, work.states.as_slice())?;
@@ -72,7 +74,8 @@ fn host_on_logs<D: LogDev, R: Sink>(
     requires logs { length logs.old.items ≡ work.logs }
     requires open { AllByRecursion (λ l. l.shut ≡ false) logs.old.items }
     requires ends { AllByRecursion (λ l. l.end ≤ FARTHEST_END + 2 ^ 32) logs.old.items }
-    ensures { IsHostedOn (work_of work) (seeded seed) opening logs.old.items logs.new.items (writing_of R.taken R.faults replies.old replies.new) result }
+    ensures hosted { IsHostedOn (work_of work) (seeded seed) opening logs.old.items logs.new.items (writing_of R.taken R.faults replies.old replies.new) result }
+    ensures once { EndsAtFault (result.stop ≢ Stop.OutFault) (R.faults replies.old) (R.late replies.old) (R.faults replies.new) (R.late replies.new) }
 {
     works_are_tables();
     let Ok(mut core) = Core::open(alloc, Tables { work, opening }) else {
@@ -129,6 +132,7 @@ pub(crate) fn host_crew<
     ensures unbegun { IfErr result.hosted (λ no. IsUnbegun (work_of work) (devices_of D.told D.faults devices.old.items) (devices_of D.told D.faults devices.new.items) no) }
     ensures silent { OnErr result.hosted (result.replies ≡ replies) }
     ensures unfailed { OnErr result.hosted (result.failed ≡ false) }
+    ensures once { EndsAtFault (result.failed ≡ false) (O.faults replies) (O.late replies) (O.faults result.replies) (O.late result.replies) }
     ensures four { vec_len devices.new ≡ 4 }
 {
     match open_run(alloc, devices, work.logs, work.states.as_slice()) {
@@ -177,6 +181,7 @@ fn crew_on_logs<
     requires open { AllByRecursion (λ l. l.shut ≡ false) logs.items }
     requires ends { AllByRecursion (λ l. l.end ≤ FARTHEST_END + 2 ^ 32) logs.items }
     ensures hosted { IsCrewHostedOn (work_of work) opening logs.items result.logs.items (writing_of O.taken O.faults replies result.replies) result.failed result.hosted }
+    ensures once { EndsAtFault (result.failed ≡ false) (O.faults replies) (O.late replies) (O.faults result.replies) (O.late result.replies) }
     ensures as_many { length result.logs.items ≡ length logs.items }
 {
     works_are_tables();

@@ -4,9 +4,10 @@ ghost use Rattle.crew_workers.specs.declared.crews.TheConstants.{MOST_WORKERS};
 ghost use Rattle.log_opening.specs.Devices.{devices_of};
 ghost use Rattle.run_opening.specs.Opens.{MayOpen};
 ghost use Rattle.run_recovery.specs.Schedules.{seeded, free};
-ghost use Rattle.run_work.specs.Runs.{reporting, Ran, IsWorkAnswer, IsOfLogs};
+ghost use Rattle.run_work.specs.Runs.{reporting, Ran, IsWorkAnswer, IsOfLogs, OutStood};
 ghost use Rattle.run_work.specs.Untraced.{IsUntraced};
 ghost use Rattle.run_work.specs.Writings.{Writing, writing_of};
+ghost use Rattle.snap_outside.specs.Causes.{EndsAtFault};
 ghost use Rattle.snap_recover.specs.declared.openings.Opening.{Opening};
 ghost use Rattle.snap_work.specs.Kept.{KeepsLimits};
 ghost use Rattle.snap_work.specs.Works.{work_of};
@@ -41,6 +42,9 @@ pub fn run_work<D: LogDev, O: Sink, T: Sink>(
     ensures answer { let r : Ran = record { work = work_of work; schedule = seeded seed; kept = result.0.items; devices_before = devices_of D.told D.faults devices.old.items; devices_after = devices_of D.told D.faults devices.new.items; out = writing_of O.taken O.faults out.old out.new; trace = writing_of T.taken T.faults trace.old trace.new } in IsWorkAnswer r result.1 }
     // Where no event is kept the trace gets no call.
     ensures untouched { result.0.items ≡ [] → trace.new ≡ trace.old }
+    // The output and the trace get no call behind one that failed.
+    ensures out_once { EndsAtFault (OutStood result.1) (O.faults out.old) (O.late out.old) (O.faults out.new) (O.late out.new) }
+    ensures trace_once { EndsAtFault (result.1 ≡ Status.Done) (T.faults trace.old) (T.late trace.old) (T.faults trace.new) (T.late trace.new) }
     // Where the logs hold records on which a run begins, and none fails, it does not end for a log.
     ensures opens { (records : List (List Record)) (o : Opening) → MayOpen (work_of work).logs (work_of work).states (devices_of D.told D.faults devices.old.items) (devices_of D.told D.faults devices.new.items) records o → ¬ IsOfLogs result.1 }
     ensures four { vec_len devices.new ≡ 4 }
@@ -63,6 +67,7 @@ fn run_untraced<D: LogDev, O: Sink>(
     requires four { vec_len devices.old ≡ 4 }
     requires limits { KeepsLimits (work_of work) }
     ensures ended { (trace : Writing) → let r : Ran = record { work = work_of work; schedule = seeded seed; kept = result.0.items; devices_before = devices_of D.told D.faults devices.old.items; devices_after = devices_of D.told D.faults devices.new.items; out = writing_of O.taken O.faults out.old out.new; trace = trace } in IsUntraced reporting r result.1 }
+    ensures once { EndsAtFault (OutStood result.1) (O.faults out.old) (O.late out.old) (O.faults out.new) (O.late out.new) }
     ensures four { vec_len devices.new ≡ 4 }
 {
     let count = work.txs.len() as u32;
@@ -109,6 +114,9 @@ pub fn crew_work<
     ensures answer { let r : Ran = record { work = work_of work; schedule = free; kept = result.kept.items; devices_before = devices_of D.told D.faults devices.old.items; devices_after = devices_of D.told D.faults devices.new.items; out = writing_of O.taken O.faults out result.out; trace = writing_of T.taken T.faults trace.old trace.new } in IsWorkAnswer r result.status }
     // Where no event is kept the trace gets no call.
     ensures untouched { result.kept.items ≡ [] → trace.new ≡ trace.old }
+    // The output and the trace get no call behind one that failed.
+    ensures out_once { EndsAtFault (OutStood result.status) (O.faults out) (O.late out) (O.faults result.out) (O.late result.out) }
+    ensures trace_once { EndsAtFault (result.status ≡ Status.Done) (T.faults trace.old) (T.late trace.old) (T.faults trace.new) (T.late trace.new) }
     // Where the logs hold records on which a run begins, and none fails, it does not end for a log.
     ensures opens { (records : List (List Record)) (o : Opening) → MayOpen (work_of work).logs (work_of work).states (devices_of D.told D.faults devices.old.items) (devices_of D.told D.faults devices.new.items) records o → ¬ IsOfLogs result.status }
     ensures four { vec_len devices.new ≡ 4 }
@@ -139,6 +147,7 @@ fn crew_untraced<
     requires limits { KeepsLimits (work_of work) }
     requires workers { workers ≤ MOST_WORKERS }
     ensures ended { (trace : Writing) → let r : Ran = record { work = work_of work; schedule = free; kept = result.kept.items; devices_before = devices_of D.told D.faults devices.old.items; devices_after = devices_of D.told D.faults devices.new.items; out = writing_of O.taken O.faults out result.out; trace = trace } in IsUntraced reporting r result.status }
+    ensures once { EndsAtFault (OutStood result.status) (O.faults out) (O.late out) (O.faults result.out) (O.late result.out) }
     ensures four { vec_len devices.new ≡ 4 }
 {
     let count = work.txs.len() as u32;

@@ -4,6 +4,8 @@ use Rattle.std.specs.Io.KnownBytes.{Keeps}
 use Rattle.core_events.specs.declared.events.Event.{Event}
 use Rattle.log_opening.specs.Devices.{devices_of}
 use Rattle.run_work.proofs.Answered.{answered, untraced_not_of_logs, traced_not_of_logs}
+use Rattle.run_work.proofs.AtFault.{traced_no_out}
+use Rattle.snap_outside.proofs.AtFault.{surely}
 use Rattle.run_work.proofs.benches.bench_work.Goals as goal
 use Rattle.run_recovery.specs.Runs.{meant}
 use Rattle.run_recovery.specs.Schedules.{seeded}
@@ -29,6 +31,11 @@ returns-clause-answer g c =
     (λ none. subst (λ t. Keeps (g.T.Sink.taken c.args.trace.now) (g.T.Sink.taken t)) (sym (c.traced-status.ensures.none (c.as_slice.ensures.value ∙ none))) (Keeps-refl _))
     (c.bench_untraced-kept.ensures.ended trace)
     (subst (λ (kept : List Event). IsTraced trace kept c.bench_untraced-kept.result.1 c.traced-status.result) c.as_slice.ensures.value c.traced-status.ensures.traced)
+
+pub returns-clause-out_once : goal.returns-clause-out_once
+returns-clause-out_once g c =
+    let trace : Writing = writing_of g.T.Sink.taken g.T.Sink.faults c.args.trace.now c.traced-status.new.trace in
+    surely _ _ _ _ (traced_no_out trace c.as_slice.result.now c.bench_untraced-kept.result.1 c.traced-status.result c.traced-status.ensures.traced) c.bench_untraced-kept.ensures.once
 
 pub returns-clause-opens : goal.returns-clause-opens
 returns-clause-opens g c = λ records o may.

@@ -4,6 +4,7 @@ use Rattle.core_events.specs.declared.events.Event.{Event}
 use Rattle.protocol.specs.Runs.{IsRun}
 use Rattle.run_recovery.specs.Runs.{meant}
 use Rattle.run_recovery.specs.Schedules.{free}
+use Rattle.run_work.proofs.AtFault.{stops_so}
 use Rattle.run_work.proofs.CrewHosting.{crew_hosted, crew_whole}
 use Rattle.run_work.proofs.Hosting.{no_core, nothing_written}
 use Rattle.run_work.proofs.hosts.crew_on_logs.Goals as goal
@@ -33,6 +34,7 @@ returns-in_default-clause-hosted g c =
         core = refl;
       };
       whole = subst (λ (kept : List Event). PrintsUnlessFailed false w o (meant kept) replies) (sym c.new.ensures.items) (λ _. nothing_written replies (Keeps-refl _));
+      stops = refl;
     }
 
 pub returns-clause-hosted : goal.returns-clause-hosted
@@ -49,8 +51,12 @@ returns-clause-hosted g c =
     let now = ap (λ (t : Tables). fixed_of t) ends.tables in
     record {
       hosted = record {
-        ends = crew_hosted w o es old new end.failed replies end.stop _ same ends.printed (subst (λ m. IsRun m es) now ends.core.run) ends.logs ends.due ends.stop;
+        ends = crew_hosted w o es old new end.failed replies end.stop _ same (g.O.Sink.late c.args.replies, g.O.Sink.late end.out, ends.printed) (subst (λ m. IsRun m es) now ends.core.run) ends.logs ends.due ends.stop;
         core = (now ∙ same, ends.core);
       };
-      whole = crew_whole w o es old new end.failed replies end.stop _ same ends.printed;
+      whole = crew_whole w o es old new end.failed replies end.stop _ same (g.O.Sink.late c.args.replies, g.O.Sink.late end.out, ends.printed);
+      stops = stops_so _ es new end.failed end.stop ends.stop;
     }
+
+pub returns-clause-once : goal.returns-clause-once
+returns-clause-once g c = c.drive_crew-core.ensures.printed.2

@@ -50,6 +50,7 @@ returns-in-Ok-clause-hosted g c =
         core = is.hosted.core;
       };
       whole = is.whole;
+      stops = is.stops;
     }
 
 pub returns-in-Err-clause-unbegun : goal.returns-in-Err-clause-unbegun

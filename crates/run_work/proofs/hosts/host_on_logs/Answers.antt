@@ -18,8 +18,8 @@ open-requires g c =
     let t : Tables = record { work = c.args.work; opening = c.args.opening } in
     c.works_are_tables.ensures t c.requires.limits c.requires.begins
 
-pub returns-in_default : goal.returns-in_default
-returns-in_default g c =
+pub returns-in_default-clause-hosted : goal.returns-in_default-clause-hosted
+returns-in_default-clause-hosted g c =
     let w = work_of c.args.work in
     let logs = c.args.logs.now.items in
     let replies : Writing = writing_of g.R.Sink.taken g.R.Sink.faults c.args.replies.now c.args.replies.now in
@@ -29,8 +29,8 @@ returns-in_default g c =
       core = refl;
     }
 
-pub returns : goal.returns
-returns g c =
+pub returns-clause-hosted : goal.returns-clause-hosted
+returns-clause-hosted g c =
     let w = work_of c.args.work in
     let replies : Writing = writing_of g.R.Sink.taken g.R.Sink.faults c.args.replies.now c.drive-stop.new.out in
     let same = ap (λ (t : Tables). fixed_of t) c.in-Ok.ensures.tables in

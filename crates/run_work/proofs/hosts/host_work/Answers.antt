@@ -44,8 +44,8 @@ returns-clause-hosted g c =
       ends = left_as (HasDriven w (seeded c.args.seed) o es old new) (HasLeft w (seeded c.args.seed) o es before after)
           (λ failed d. has_left w (seeded c.args.seed) o es failed before after others old new c.as_slice.result.now opens.0 opens.1 c.as_slice.ensures opens.3 opens.2 c.in_ok-logs.ensures.room d
           c.close.ensures.devices rest)
-          w o es reporting (seeded c.args.seed) replies h.stop c.host_on_logs-hosted.ensures.ends;
-      core = c.host_on_logs-hosted.ensures.core;
+          w o es reporting (seeded c.args.seed) replies h.stop c.host_on_logs-hosted.ensures.hosted.ends;
+      core = c.host_on_logs-hosted.ensures.hosted.core;
     }
 
 pub returns-in_err-logs-clause-unbegun : goal.returns-in_err-logs-clause-unbegun
