@@ -1,13 +1,15 @@
 //! The call with several workers.
-ghost use Rattle.std.specs.Prelude.{◌≡◌, ◌<◌, ◌≤◌, ℕ, List, [], map, string_bytes, vec_len};
+ghost use Rattle.std.specs.Prelude.{◌≡◌, ◌≢◌, ◌<◌, ◌≤◌, ℕ, List, [], map, string_bytes, vec_len};
 ghost use Rattle.command_words.specs.Words.{IsRun, IsBench};
 ghost use Rattle.command_words.specs.Workers.{AskFor};
 ghost use Rattle.command_words.specs.declared.limits.TheConstants.{MOST_WORKERS};
 ghost use Rattle.log_opening.specs.Devices.{devices_of};
 ghost use Rattle.run_recovery.specs.Schedules.{free};
-ghost use Rattle.run_work.specs.Runs.{IsOfLogs};
+ghost use Rattle.run_work.specs.Runs.{IsOfLogs, OutStood};
 ghost use Rattle.run_work.specs.Writings.{writing_of};
+ghost use Rattle.snap_outside.specs.Causes.{EndsAtFault};
 ghost use Rattle.snap_recover.specs.declared.openings.Opening.{Opening};
+ghost use Rattle.snap_report.specs.declared.statuses.Status.TheVariants as status;
 ghost use Rattle.snap_run.specs.Answers.{IsUntroubled, IsMeasured, MayBeMeasured, GetsNoCall};
 ghost use Rattle.snap_run.specs.Outcomes.{IsOutcome};
 ghost use Rattle.snap_run.specs.Uses.{Reading, Use, reading_of, use_of};
@@ -52,6 +54,9 @@ pub(crate) fn crew_answer<
         (count seed workers : ℕ) (w : Work) (records : List (List Record)) (o : Opening) → IsBench u.words count seed workers → MayBeMeasured u count seed w records o → ¬ IsOfLogs result.status }
     ensures untouched { GetsNoCall result.status → logs.new ≡ logs.old }
     ensures no_trace { result.kept.items ≡ [] → trace.new ≡ trace.old }
+    ensures out_once { EndsAtFault (OutStood result.status) (O.faults out) (O.late out) (O.faults result.out) (O.late result.out) }
+    ensures trace_once { EndsAtFault (result.status ≡ status.Done) (T.faults trace.old) (T.late trace.old) (T.faults trace.new) (T.late trace.new) }
+    ensures input_once { EndsAtFault (result.status ≢ status.ReadFault) (I.faults input.old) (I.late input.old) (I.faults input.new) (I.late input.new) }
     ensures four { vec_len logs.new ≡ 4 }
 {
     one_command();
@@ -96,6 +101,9 @@ fn crew_input<
         (text : List ℕ) (w : Work) (records : List (List Record)) (o : Opening) → IsUntroubled u text w records o → ¬ IsOfLogs result.status }
     ensures untouched { GetsNoCall result.status → logs.new ≡ logs.old }
     ensures no_trace { result.kept.items ≡ [] → trace.new ≡ trace.old }
+    ensures out_once { EndsAtFault (OutStood result.status) (O.faults out) (O.late out) (O.faults result.out) (O.late result.out) }
+    ensures trace_once { EndsAtFault (result.status ≡ status.Done) (T.faults trace.old) (T.late trace.old) (T.faults trace.new) (T.late trace.new) }
+    ensures input_once { EndsAtFault (result.status ≢ status.ReadFault) (I.faults input.old) (I.late input.old) (I.faults input.new) (I.late input.new) }
     ensures four { vec_len logs.new ≡ 4 }
 {
     one_command();
@@ -136,6 +144,8 @@ fn crew_generated<
         (w : Work) (records : List (List Record)) (o : Opening) → MayBeMeasured u count seed w records o → ¬ IsOfLogs result.status }
     ensures untouched { GetsNoCall result.status → logs.new ≡ logs.old }
     ensures no_trace { result.kept.items ≡ [] → trace.new ≡ trace.old }
+    ensures out_once { EndsAtFault (result.status ≢ status.OutFault) (O.faults out) (O.late out) (O.faults result.out) (O.late result.out) }
+    ensures trace_once { EndsAtFault (result.status ≡ status.Done) (T.faults trace.old) (T.late trace.old) (T.faults trace.new) (T.late trace.new) }
     ensures four { vec_len logs.new ≡ 4 }
 {
     one_work();

@@ -1,7 +1,8 @@
-ghost use Rattle.std.specs.Prelude.{◌≡◌, ◌≤◌, ◌++◌, length, vec_len, IfOk, OnOk, string_bytes};
+ghost use Rattle.std.specs.Prelude.{◌≡◌, ◌≢◌, ◌≤◌, ◌++◌, length, vec_len, IfOk, OnOk, string_bytes};
 ghost use Rattle.std.specs.List.{AllZip};
 ghost use Rattle.record_log.specs.Records.{KeepsRecords};
 ghost use Rattle.log_opening.specs.Devices.{Device, devices_of, IsOpenedAtMost};
+ghost use Rattle.snap_outside.specs.Causes.{EndsAtFault};
 ghost use Rattle.snap_report.specs.Lines.{actors_text};
 ghost use Rattle.run_work.specs.Writings.{Writing, writing_of};
 ghost use Rattle.snap_run.specs.Recoveries.{recovered_report, IsRecoverAnswer};
@@ -24,6 +25,7 @@ pub(crate) fn print_recovered<D: LogDev, O: Sink>(
 ) -> Status
     requires { vec_len devices.old ≡ 4 }
     ensures answer { let writing : Writing = writing_of O.taken O.faults out.old out.new in IsRecoverAnswer (devices_of D.told D.faults devices.old.items) (devices_of D.told D.faults devices.new.items) writing result }
+    ensures once { EndsAtFault (result ≢ Status.OutFault) (O.faults out.old) (O.late out.old) (O.faults out.new) (O.late out.new) }
     ensures four { vec_len devices.new ≡ 4 }
     ensures opened { AllZip IsOpenedAtMost (devices_of D.told D.faults devices.old.items) (devices_of D.told D.faults devices.new.items) }
     ensures safe { AllZip (λ (a b : Device). KeepsRecords a.told b.told) (devices_of D.told D.faults devices.old.items) (devices_of D.told D.faults devices.new.items) }

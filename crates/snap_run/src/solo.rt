@@ -1,11 +1,12 @@
 //! The call on one thread.
-ghost use Rattle.std.specs.Prelude.{◌≡◌, ◌⊎◌, ◌≤◌, ℕ, List, [], map, string_bytes, vec_len};
+ghost use Rattle.std.specs.Prelude.{◌≡◌, ◌≢◌, ◌⊎◌, ◌≤◌, ℕ, List, [], map, string_bytes, vec_len};
 ghost use Rattle.command_words.specs.Words.{IsRun, IsBench};
 ghost use Rattle.command_words.specs.Workers.{AskFor};
 ghost use Rattle.log_opening.specs.Devices.{devices_of};
 ghost use Rattle.run_recovery.specs.Schedules.{seeded};
-ghost use Rattle.run_work.specs.Runs.{IsOfLogs};
+ghost use Rattle.run_work.specs.Runs.{IsOfLogs, OutStood};
 ghost use Rattle.run_work.specs.Writings.{writing_of};
+ghost use Rattle.snap_outside.specs.Causes.{EndsAtFault};
 ghost use Rattle.snap_recover.specs.declared.openings.Opening.{Opening};
 ghost use Rattle.snap_report.specs.declared.statuses.Status.TheVariants as status;
 ghost use Rattle.snap_run.specs.Answers.{IsUntroubled, IsPrintable, IsMeasured, MayBeMeasured, GetsNoCall};
@@ -60,6 +61,10 @@ pub fn run_solo<I: Source, D: LogDev, O: Sink, T: Sink>(
     ensures untouched { GetsNoCall result.status → result.logs ≡ logs }
     // Where no event is kept, the trace gets none.
     ensures no_trace { result.kept.items ≡ [] → result.trace ≡ trace }
+    // The output, the trace and the input get no call behind one that failed. They did not fail where the status tells so.
+    ensures out_once { EndsAtFault (OutStood result.status) (O.faults out) (O.late out) (O.faults result.out) (O.late result.out) }
+    ensures trace_once { EndsAtFault (result.status ≡ status.Done) (T.faults trace) (T.late trace) (T.faults result.trace) (T.late result.trace) }
+    ensures input_once { EndsAtFault (result.status ≢ status.ReadFault) (I.faults input.old) (I.late input.old) (I.faults input.new) (I.late input.new) }
     // The devices come back, all of them.
     ensures four { vec_len result.logs ≡ 4 }
 {
@@ -95,6 +100,9 @@ fn answer<I: Source, D: LogDev, O: Sink, T: Sink>(
         (count seed workers : ℕ) (w : Work) (records : List (List Record)) (o : Opening) → IsBench u.words count seed workers → MayBeMeasured u count seed w records o → ¬ IsOfLogs result.1 }
     ensures untouched { GetsNoCall result.1 → logs.new ≡ logs.old }
     ensures no_trace { result.0.items ≡ [] → trace.new ≡ trace.old }
+    ensures out_once { EndsAtFault (OutStood result.1) (O.faults out.old) (O.late out.old) (O.faults out.new) (O.late out.new) }
+    ensures trace_once { EndsAtFault (result.1 ≡ status.Done) (T.faults trace.old) (T.late trace.old) (T.faults trace.new) (T.late trace.new) }
+    ensures input_once { EndsAtFault (result.1 ≢ status.ReadFault) (I.faults input.old) (I.late input.old) (I.faults input.new) (I.late input.new) }
     ensures four { vec_len logs.new ≡ 4 }
 {
     one_command();
@@ -126,6 +134,9 @@ fn run_input<I: Source, D: LogDev, O: Sink, T: Sink>(
         (text : List ℕ) (w : Work) (records : List (List Record)) (o : Opening) → IsUntroubled u text w records o → ¬ IsOfLogs result.1 }
     ensures untouched { GetsNoCall result.1 → logs.new ≡ logs.old }
     ensures no_trace { result.0.items ≡ [] → trace.new ≡ trace.old }
+    ensures out_once { EndsAtFault (OutStood result.1) (O.faults out.old) (O.late out.old) (O.faults out.new) (O.late out.new) }
+    ensures trace_once { EndsAtFault (result.1 ≡ status.Done) (T.faults trace.old) (T.late trace.old) (T.faults trace.new) (T.late trace.new) }
+    ensures input_once { EndsAtFault (result.1 ≢ status.ReadFault) (I.faults input.old) (I.late input.old) (I.faults input.new) (I.late input.new) }
     ensures four { vec_len logs.new ≡ 4 }
 {
     one_command();
@@ -152,6 +163,8 @@ fn run_generated<D: LogDev, O: Sink, T: Sink>(
         (w : Work) (records : List (List Record)) (o : Opening) → MayBeMeasured u count seed w records o → ¬ IsOfLogs result.1 }
     ensures untouched { GetsNoCall result.1 → logs.new ≡ logs.old }
     ensures no_trace { result.0.items ≡ [] → trace.new ≡ trace.old }
+    ensures out_once { EndsAtFault (result.1 ≢ status.OutFault) (O.faults out.old) (O.late out.old) (O.faults out.new) (O.late out.new) }
+    ensures trace_once { EndsAtFault (result.1 ≡ status.Done) (T.faults trace.old) (T.late trace.old) (T.faults trace.new) (T.late trace.new) }
     ensures four { vec_len logs.new ≡ 4 }
 {
     one_work();

@@ -1,8 +1,10 @@
 //! The call.
-ghost use Rattle.std.specs.Prelude.{◌≡◌, ◌⊎◌, ℕ, List, [], map, string_bytes, vec_len};
+ghost use Rattle.std.specs.Prelude.{◌≡◌, ◌≢◌, ◌⊎◌, ℕ, List, [], map, string_bytes, vec_len};
 ghost use Rattle.command_words.specs.Words.{IsBench};
 ghost use Rattle.log_opening.specs.Devices.{devices_of};
+ghost use Rattle.run_work.specs.Runs.{OutStood};
 ghost use Rattle.run_work.specs.Writings.{writing_of};
+ghost use Rattle.snap_outside.specs.Causes.{EndsAtFault};
 ghost use Rattle.snap_recover.specs.declared.openings.Opening.{Opening};
 ghost use Rattle.snap_report.specs.declared.statuses.Status.TheVariants as status;
 ghost use Rattle.snap_run.specs.Answers.{IsUntroubled, IsPrintable, MayBeMeasured, GetsNoCall};
@@ -64,6 +66,10 @@ pub fn run<
     ensures untouched { GetsNoCall result.status → result.logs ≡ logs }
     // Where no event is kept, the trace gets none.
     ensures no_trace { result.kept.items ≡ [] → result.trace ≡ trace }
+    // The output, the trace and the input get no call behind one that failed. They did not fail where the status tells so.
+    ensures out_once { EndsAtFault (OutStood result.status) (O.faults out) (O.late out) (O.faults result.out) (O.late result.out) }
+    ensures trace_once { EndsAtFault (result.status ≡ status.Done) (T.faults trace) (T.late trace) (T.faults result.trace) (T.late result.trace) }
+    ensures input_once { EndsAtFault (result.status ≢ status.ReadFault) (I.faults input.old) (I.late input.old) (I.faults input.new) (I.late input.new) }
     // The devices come back, all of them.
     ensures four { vec_len result.logs ≡ 4 }
 {

@@ -1,8 +1,8 @@
 //! The text that is run, read or generated; and a generated one printed.
-ghost use Rattle.std.specs.Prelude.{◌≡◌, ◌+◌, ◌<◌, ◌≤◌, length, IfOk, IsErrOf, MatchResult};
+ghost use Rattle.std.specs.Prelude.{◌≡◌, ◌≢◌, ◌+◌, ◌<◌, ◌≤◌, length, IfOk, IsErrOf, MatchResult};
 ghost use Rattle.std.specs.Io.KnownBytes.{Consumes, IsAtEnd};
 ghost use Rattle.run_work.specs.Writings.{writing_of};
-ghost use Rattle.snap_outside.specs.Causes.{Rose};
+ghost use Rattle.snap_outside.specs.Causes.{Rose, EndsAtFault};
 ghost use Rattle.snap_run.specs.Answers.{OfText, IsInputAnswer, IsGenAnswer};
 ghost use Rattle.snap_run.specs.Uses.{Reading, reading_of};
 ghost use Rattle.snap_work.specs.Kept.{KeepsLimits};
@@ -24,6 +24,7 @@ use work_text::{a_work_is_short, one_work, parse_work, transactions_may_run};
 pub(crate) fn read_work<I: Source>(alloc: Global, input: &mut I) -> Result<Work, Status>
     ensures answer { let r : Reading = reading_of I.left I.faults input.old input.new in MatchResult result (λ w. OfText r (λ v. v ≡ work_of w)) (λ s. IsInputAnswer r s) }
     ensures limits { IfOk result (λ w. KeepsLimits (work_of w)) }
+    ensures once { EndsAtFault (¬ IsErrOf result Status.ReadFault) (I.faults input.old) (I.late input.old) (I.faults input.new) (I.late input.new) }
 {
     a_work_is_short();
     transactions_may_run();
@@ -55,6 +56,7 @@ fn read_input<I: Source>(alloc: Global, input: &mut I) -> Result<Vec<u8>, ReadNo
     ensures most { IfOk result (λ v. length v.items ≤ LONGEST_WORK + 1) }
     ensures later { I.faults input.old ≤ I.faults input.new }
     ensures fault { IsErrOf result ReadNo.Fault → Rose (I.faults input.old) (I.faults input.new) }
+    ensures once { EndsAtFault (¬ IsErrOf result ReadNo.Fault) (I.faults input.old) (I.late input.old) (I.faults input.new) (I.late input.new) }
 {
     let mut bytes = Vec::new(alloc);
     let mut piece = [0u8; 4096];
@@ -94,7 +96,8 @@ pub(crate) fn generated_work(alloc: Global, count: u32, seed: u64) -> Result<Wor
 /// Prints the text of so many transactions that the seed draws.
 pub(crate) fn print_generated<O: Sink>(alloc: Global, count: u32, seed: u64, out: &mut O) -> Status
     requires { count ≤ MOST_TRANSACTIONS }
-    ensures { IsGenAnswer (generated_text count seed) (writing_of O.taken O.faults out.old out.new) result }
+    ensures answer { IsGenAnswer (generated_text count seed) (writing_of O.taken O.faults out.old out.new) result }
+    ensures once { EndsAtFault (result ≢ Status.OutFault) (O.faults out.old) (O.late out.old) (O.faults out.new) (O.late out.new) }
 {
     let Ok(text) = generate(alloc, count, seed) else {
         return Status::Memory;

@@ -9,6 +9,7 @@ use Rattle.run_recovery.specs.Schedules.{Schedule}
 use Rattle.run_work.specs.Writings.{writing_of}
 use Rattle.snap_run.proofs.Outcomes.{by_crew, bench_outcome, run_not_bench, few_workers, same_measure, some_asked}
 use Rattle.snap_run.proofs.crews.crew_answer.Goals as goal
+use Rattle.snap_outside.proofs.AtFault.{surely}
 use Rattle.snap_run.specs.Answers.{IsMeasured}
 use Rattle.snap_run.specs.Uses.{Use, reading_of, use_of}
 
@@ -55,6 +56,9 @@ returns-in-Ok-Bench-clause-outcome g c =
     let by = sym (by_crew c.in-Ok-Bench.workers 0 (some_asked words (Bench c.in-Ok-Bench.count c.in-Ok-Bench.seed c.in-Ok-Bench.workers) c.requires.crew own)) in
     bench_outcome c.one_command.ensures u c.in-Ok-Bench.count c.in-Ok-Bench.seed c.in-Ok-Bench.workers c.crew_generated.result.status own (Keeps-refl _)
     (subst (λ (schedule : Schedule). IsMeasured u schedule c.in-Ok-Bench.count c.in-Ok-Bench.seed c.crew_generated.result.status) by (c.crew_generated.ensures.answer words reading))
+
+pub returns-in-Ok-Bench-clause-out_once : goal.returns-in-Ok-Bench-clause-out_once
+returns-in-Ok-Bench-clause-out_once g c = surely _ _ _ _ (λ stood. stood.0) c.crew_generated.ensures.out_once
 
 pub returns-in-Ok-Bench-clause-opens : goal.returns-in-Ok-Bench-clause-opens
 returns-in-Ok-Bench-clause-opens g c = λ text w records o t.

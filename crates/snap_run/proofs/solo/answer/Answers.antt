@@ -5,6 +5,7 @@ use Rattle.log_opening.specs.Devices.{devices_of}
 use Rattle.run_work.specs.Writings.{writing_of}
 use Rattle.snap_run.proofs.Outcomes.{asked, usage_outcome, gen_outcome, bench_outcome, run_not_gen, run_not_bench, gen_not_bench, same_measure}
 use Rattle.snap_run.proofs.solo.answer.Goals as goal
+use Rattle.snap_outside.proofs.AtFault.{surely}
 use Rattle.command_words.specs.Commands.{IsCommand}
 use Rattle.command_words.specs.Words.{IsRun, IsBench}
 use Rattle.snap_run.specs.Uses.{Use, reading_of, use_of}
@@ -34,7 +35,10 @@ returns-in-Ok-Gen-clause-outcome g c =
     (devices_of g.D.LogDev.told g.D.LogDev.faults c.args.logs.now.items) (devices_of g.D.LogDev.told g.D.LogDev.faults c.args.logs.now.items) in
     gen_outcome c.one_command.ensures u c.in-Ok-Gen.count c.in-Ok-Gen.seed c.print_generated.result
     (subst (λ (k : Command). IsCommand (map string_bytes c.args.words.now) k) c.in-Ok-Gen.field-0-is c.in-Ok-Gen.ensures) (Keeps-refl _)
-    (record { kept = c.new-in-Ok-Gen.ensures.items; trace = Keeps-refl _; devices = refl }) c.print_generated.ensures
+    (record { kept = c.new-in-Ok-Gen.ensures.items; trace = Keeps-refl _; devices = refl }) c.print_generated.ensures.answer
+
+pub returns-in-Ok-Gen-clause-out_once : goal.returns-in-Ok-Gen-clause-out_once
+returns-in-Ok-Gen-clause-out_once g c = surely _ _ _ _ (λ stood. stood.0) c.print_generated.ensures.once
 
 pub returns-in-Ok-Gen-clause-opens : goal.returns-in-Ok-Gen-clause-opens
 returns-in-Ok-Gen-clause-opens g c = λ text w records o t.
@@ -72,6 +76,14 @@ returns-in-Ok-Bench-clause-opens_bench g c = λ count seed workers w records o b
     let reading = reading_of g.I.Source.left g.I.Source.faults c.args.input.now c.args.input.now in
     let own = subst (λ (k : Command). IsCommand words k) c.in-Ok-Bench.field-0-is c.in-Ok-Bench.ensures in
     c.run_generated.ensures.opens words reading w records o (same_measure c.one_command.ensures _ words count seed workers c.in-Ok-Bench.count c.in-Ok-Bench.seed _ w records o bench own may)
+
+pub returns-in-Ok-Bench-clause-out_once : goal.returns-in-Ok-Bench-clause-out_once
+returns-in-Ok-Bench-clause-out_once g c = surely _ _ _ _ (λ stood. stood.0) c.run_generated.ensures.out_once
+
+-- ---- what the logs recover to is printed
+
+pub returns-in-Ok-Recover-clause-out_once : goal.returns-in-Ok-Recover-clause-out_once
+returns-in-Ok-Recover-clause-out_once g c = surely _ _ _ _ (λ stood. stood.0) c.print_recovered.ensures.once
 
 -- ---- the words are no form
 

@@ -4,6 +4,7 @@ use Rattle.snap_run.proofs.Outcomes.{run_outcome, run_not_of_logs}
 use Rattle.snap_run.proofs.solo.run_input.Goals as goal
 use Rattle.snap_run.specs.Uses.{Use, reading_of, use_of}
 use Rattle.snap_work.specs.Works.{work_of}
+use Rattle.snap_outside.proofs.AtFault.{surely}
 
 pub returns-in-Ok-clause-outcome : goal.returns-in-Ok-clause-outcome
 returns-in-Ok-clause-outcome g c = λ words run.
@@ -18,3 +19,9 @@ returns-in-Ok-clause-opens g c = λ words.
     (writing_of g.T.Sink.taken g.T.Sink.faults c.args.trace.now c.run_work.new.trace) c.run_work.result.0.items
     (devices_of g.D.LogDev.told g.D.LogDev.faults c.args.logs.now.items) (devices_of g.D.LogDev.told g.D.LogDev.faults c.run_work.new.devices.items) in
     run_not_of_logs c.one_work.ensures u (work_of c.in-Ok.work) c.run_work.result.1 c.run_work.ensures.opens c.in-Ok.ensures.answer
+
+pub returns-in-Ok-clause-input_once : goal.returns-in-Ok-clause-input_once
+returns-in-Ok-clause-input_once g c = surely _ _ _ _ (λ no is. cc is) c.in-Ok.ensures.once
+
+pub returns-in-Err-clause-input_once : goal.returns-in-Err-clause-input_once
+returns-in-Err-clause-input_once g c = surely _ _ _ _ (λ no is. no (cc is)) c.in-Err.ensures.once

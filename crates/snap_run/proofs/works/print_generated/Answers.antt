@@ -4,12 +4,12 @@ use Rattle.snap_report.specs.declared.statuses.Status.TheVariants as status
 use Rattle.snap_run.specs.Answers.{IsGenAnswer}
 use Rattle.snap_run.proofs.works.print_generated.Goals as goal
 
-pub returns-then-is_err : goal.returns-then-is_err
-returns-then-is_err g c =
+pub returns-then-is_err-clause-answer : goal.returns-then-is_err-clause-answer
+returns-then-is_err-clause-answer g c =
     let out : Writing = writing_of g.O.Sink.taken g.O.Sink.faults c.args.out.now c.write_all.new.out in
     subst (λ bytes. IsGenAnswer bytes out status.OutFault) (c.as_slice.ensures.value ∙ c.in-Ok.ensures) (search rules)
 
-pub returns : goal.returns
-returns g c =
+pub returns-clause-answer : goal.returns-clause-answer
+returns-clause-answer g c =
     let out : Writing = writing_of g.O.Sink.taken g.O.Sink.faults c.args.out.now c.write_all.new.out in
     subst (λ bytes. Writes out bytes) (c.as_slice.ensures.value ∙ c.in-Ok.ensures) (search rules)
