@@ -65,7 +65,8 @@ pub fn memory_moves_bytes(alloc: Global) -> Result<bool, Memory> {
     let is_given = gives(alloc, &mut source, &SOURCE)?;
     let mut sink = MemSink::new(alloc, [2].to_vec(alloc)?)?;
     let is_taken = takes(&mut sink, &SINK);
-    Ok(is_given && is_taken && sink.bytes() == b"abc".as_slice() && sink.wanted() == 0)
+    let is_late = source.late() == 2 && sink.late() == 1;
+    Ok(is_given && is_taken && is_late && sink.bytes() == b"abc".as_slice() && sink.wanted() == 0)
 }
 
 /// The standard streams are there.

@@ -41,11 +41,11 @@ may_be_asked t e h c = record { places = c.places; parts = all_here h c.whole (f
 
 -- ---- a run and one event more
 
-one_more : (w : Fixed Rest) (es : List Event) (e : Event) (s : Machine Rest) → EachAllowed w es s → IsAllowed w e (state_after w es s) → EachAllowed w (es ++ e ∷ []) s
+pub one_more : (w : Fixed Rest) (es : List Event) (e : Event) (s : Machine Rest) → EachAllowed w es s → IsAllowed w e (state_after w es s) → EachAllowed w (es ++ e ∷ []) s
 one_more w [] e s run ok = (ok, tt)
 one_more w (d ∷ es) e s run ok = (run.0, one_more w es e (after w d s) run.1 ok)
 
-then : (w : Fixed Rest) (es : List Event) (e : Event) (s : Machine Rest) → state_after w (es ++ e ∷ []) s ≡ after w e (state_after w es s)
+pub then : (w : Fixed Rest) (es : List Event) (e : Event) (s : Machine Rest) → state_after w (es ++ e ∷ []) s ≡ after w e (state_after w es s)
 then w [] e s = refl
 then w (d ∷ es) e s = then w es e (after w d s)
 

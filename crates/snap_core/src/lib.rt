@@ -7,6 +7,7 @@
 mod allowed;
 mod answers;
 mod cores;
+mod left;
 mod parting;
 mod renewals;
 mod settling;

@@ -1,5 +1,5 @@
 -- What the parts of a whole hand count together.
-use Rattle.std.proofs.Common.{◌≡◌, ℕ, zero, suc, ◌+◌, ◌-◌, ◌^◌, ◌<◌, min, Option, Some, None, option_map, List, [], ◌∷◌, length, map, drop, slice_get, refl, sym, ap, ◌∙◌, arith}
+use Rattle.std.proofs.Common.{◌≡◌, ℕ, suc, ◌+◌, ◌-◌, ◌^◌, ◌<◌, min, Option, Some, None, option_map, List, [], ◌∷◌, length, map, drop, slice_get, refl, sym, ap, ◌∙◌, arith}
 use Rattle.std.proofs.lemmas.List.{length-map, length-drop}
 use Rattle.aml_slice.specs.Controls.{Rest}
 use Rattle.book_part.specs.Halves.{Halves, Shows}
@@ -11,7 +11,7 @@ use Rattle.protocol.specs.Conditions.{epoch}
 use Rattle.protocol.specs.Events.{cell, log}
 use Rattle.protocol.specs.Fixed.{Code, Fixed}
 use Rattle.protocol.specs.Left.{act_left, act_tids, batch_left, cell_left, control_left, left, log_left, reply_left, ring_left, sub_left, total}
-use Rattle.protocol.specs.Parts.{Act, Cell, Desk, Log, Machine, Post, Ring}
+use Rattle.protocol.specs.Parts.{Act, Desk, Log, Machine, Post, Ring}
 use Rattle.snap_hand.specs.Hands.{IsWhole, Parts}
 use Rattle.snap_hand.specs.Left.{FitsAll, of_part}
 use Rattle.snap_hand.proofs.Held.{cell_there, log_there}

@@ -61,11 +61,13 @@ impl Trickle {
 
 impl Source for Trickle {
     ghost use Rattle.std.specs.Prelude.{None};
-    ghost use Rattle.snap_rows.specs.Inner.{source_faults};
+    ghost use Rattle.snap_rows.specs.Inner.{source_faults, source_late};
 
     ghost left = { λ _. None };
 
     ghost faults = { λ s. source_faults s.0 };
+
+    ghost late = { λ s. source_late s.0 };
 
     fn read(&mut self, buf: &mut [u8]) -> Result<usize, Failed> {
         let room = buf.len().min(1);
@@ -88,6 +90,8 @@ impl Source for Endless {
     ghost left = { λ _. None };
 
     ghost faults = { λ _. 0 };
+
+    ghost late = { λ _. 0 };
 
     fn read(&mut self, buf: &mut [u8]) -> Result<usize, Failed> {
         buf.fill(b'#');
@@ -117,11 +121,13 @@ impl Drip {
 
 impl Sink for Drip {
     ghost use Rattle.std.specs.Prelude.{None};
-    ghost use Rattle.snap_rows.specs.Inner.{sink_faults};
+    ghost use Rattle.snap_rows.specs.Inner.{sink_faults, sink_late};
 
     ghost taken = { λ _. None };
 
     ghost faults = { λ s. sink_faults s.0 };
+
+    ghost late = { λ s. sink_late s.0 };
 
     fn write(&mut self, piece: &[u8]) -> Result<usize, Failed> {
         let room = piece.len().min(AT_ONCE);
@@ -252,7 +258,11 @@ fn perform<I: Source>(
     }
     let out = Drip::new(alloc, failing.write)?;
     let trace = Drip::new(alloc, failing.trace)?;
-    Ok(Ran(run_solo(alloc, words, input, logs, out, trace)))
+    let ran = Ran(run_solo(alloc, words, input, logs, out, trace));
+    if ran.0.out.0.late() != 0 || ran.0.trace.0.late() != 0 {
+        return Err("a write is made behind one that failed".into());
+    }
+    Ok(ran)
 }
 
 /// The same with a text, of which a read gives a byte.

@@ -1,6 +1,6 @@
 use Rattle.std.proofs.Common.{◌≡◌, ◌+◌, ◌<◌, Some, length, map, refl, subst, sym, ◌∙◌, ap, arith}
 use Rattle.snap_hand.specs.Hands.{IsHandOf}
-use Rattle.snap_hand.specs.Shown.{places, shown}
+use Rattle.snap_hand.specs.Shown.{shown}
 use Rattle.snap_hand.specs.Tables.{fixed_of}
 use Rattle.snap_core.proofs.Together.{all_out, count_of, next_out, next_there, next_taken, next_rest}
 use Rattle.snap_core.proofs.parting.all_parts.Goals as goal
