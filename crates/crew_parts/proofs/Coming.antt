@@ -113,7 +113,7 @@ module _ (w : Fixed Rest) (laws : LawsOfRuns w) where
 
     output_begins : (o : Option OutputState) → IsFresh o → OutputIs w [] o o
     output_begins o fresh = subst (λ p. OutputIs w [] p p) (sym fresh.is)
-        (omega arith, subst (λ b. Printed b w [] fresh.output fresh.output) (sym fresh.ready) (Appends-nil fresh.output.taken))
+        (omega arith, subst (λ b. Printed b w [] fresh.output fresh.output) (sym fresh.ready) (Appends-nil fresh.output.taken), no_call _ _ _)
 
     pub begins : Begins w start → HasCome w start [] start
     begins b = record {

@@ -8,7 +8,7 @@ use Rattle.aml_slice.specs.Controls.{Rest}
 use Rattle.crew_parts.specs.Acts.{JournalGoes, OutputGoes, Prints, behind, groups_by, tried_by, tried_at, line_at}
 use Rattle.crew_parts.specs.Crews.{IsReady, IsStillDue, JournalIs, OutputIs, Printed, added}
 use Rattle.crew_parts.specs.LawsOfRuns.{VerdictsGoOn}
-use Rattle.crew_parts.specs.Shares.{OutputState}
+use Rattle.crew_parts.specs.Shares.{OutputState, GetsNoMore}
 use Rattle.gate_log.specs.State.{LogState}
 use Rattle.protocol.specs.Conditions.{AllTrue, IsAllowed, conditions}
 use Rattle.protocol.specs.Effects.{log_at}
