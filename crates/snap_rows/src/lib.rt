@@ -7,12 +7,24 @@
 #[cfg(test)]
 mod calls;
 #[cfg(test)]
+mod crashes;
+#[cfg(test)]
+mod cut_offs;
+#[cfg(test)]
+mod failing;
+#[cfg(test)]
+mod fakes;
+#[cfg(test)]
 mod faults;
 #[cfg(test)]
 mod logs;
 #[cfg(test)]
+mod ran;
+#[cfg(test)]
 mod recoveries;
 #[cfg(test)]
 mod runs;
+#[cfg(test)]
+mod stops;
 #[cfg(test)]
 mod texts;

@@ -1,10 +1,13 @@
-//! The texts of the rows. All have the same methods.
+//! The texts of the rows, and the words of a row. All texts have the same methods.
+
+use snap_base::Memory;
+use std::alloc::Global;
 
 /// A text's first lines.
-pub const FRONT: &str = "# a text\nsnapper 1\n\ncoordinators 1\n";
+const FRONT: &str = "# a text\nsnapper 1\n\ncoordinators 1\n";
 
 /// What stands between a text's settings and its actors. A method with a mark adds it to the second field.
-pub const PROGRAM: &str = "\
+const PROGRAM: &str = "\
 program
 method put(n) { # adds
 \tf0 = f0 + n; return f0; }
@@ -21,7 +24,7 @@ end
 /// the texts with marks transaction n has the mark 2^n. Behind texts without marks that are stopped there stand the states that
 /// may be left, apart by `;`: the transactions that are in it, then `:` and the actors' lines. They are those behind each front of
 /// the committed ones in the order of their places.
-pub const TEXTS: &str = "\
+pub(crate) const TEXTS: &str = "\
 deposit|logs 1/batch 16/batches 8/acts 8|actors 1/actor 0 100/pact 0 put 5 uses 0:1/
 two deposits|logs 1/batch 16/batches 8/acts 8|actors 1/actor 0 100/pact 0 put 5 uses 0:1/pact 0 put 2 uses 0:1/
 no transaction|logs 1/batch 16/batches 8/acts 8|actors 3/actor 1 0 -7
@@ -44,3 +47,27 @@ a failing batch|logs 1/batch 1/batches 8/acts 8|actors 3/actor 0 100/actor 1 100
 marks of both kinds|logs 1/batch 1/batches 8/acts 8|actors 2/actor 0 100/actor 1 50/act 0 pay 1 30 1/pact 0 pay 1 5 2 uses 0:1 1:1/act 1 mark 4 4/pact 1 mark 6 8 uses 1:1/
 marks on two logs|logs 2/batch 16/batches 8/acts 8|actors 2/actor 0 100/actor 1 50/pact 0 pay 1 30 1 uses 0:1 1:1/act 1 pay 0 5 2/
 many images|logs 1/batch 1/batches 32/acts 8|actors 1/actor 0 100/pact 0 bad uses 0:1/pact 0 put 1 uses 0:1/pact 0 put 1 uses 0:1/pact 0 put 1 uses 0:1/pact 0 put 1 uses 0:1/pact 0 put 1 uses 0:1/pact 0 put 1 uses 0:1/pact 0 put 1 uses 0:1/pact 0 put 1 uses 0:1/pact 0 put 1 uses 0:1/pact 0 put 1 uses 0:1/pact 0 put 1 uses 0:1/pact 0 put 1 uses 0:1/pact 0 put 1 uses 0:1/pact 0 put 1 uses 0:1/pact 0 put 1 uses 0:1/pact 0 put 1 uses 0:1/pact 0 put 1 uses 0:1/pact 0 put 1 uses 0:1/pact 0 put 1 uses 0:1/pact 0 put 1 uses 0:1/pact 0 put 1 uses 0:1/pact 0 put 1 uses 0:1/pact 0 put 1 uses 0:1/pact 0 put 1 uses 0:1/pact 0 put 1 uses 0:1/pact 0 put 1 uses 0:1/pact 0 put 1 uses 0:1/pact 0 put 1 uses 0:1/pact 0 put 1 uses 0:1/pact 0 put 1 uses 0:1/pact 0 put 1 uses 0:1/|:actor 0 100/";
+
+/// The part with this number, from 0 on; empty where there is none.
+pub(crate) fn part(text: &str, between: char, number: usize) -> &str {
+    text.split(between).nth(number).unwrap_or("")
+}
+
+/// The word with this number, from 0 on, as a number; 0 where it is none.
+pub(crate) fn number_at(words: &str, number: usize) -> u64 {
+    let word = part(words, ' ', number);
+    word.parse().unwrap_or(0)
+}
+
+/// The text with this name; the empty text where none has it.
+pub(crate) fn text_of(alloc: Global, name: &str) -> Result<String, Memory> {
+    for line in TEXTS.split('\n') {
+        if part(line, '|', 0) == name {
+            let (settings, lines) = (part(line, '|', 1), part(line, '|', 2));
+            let settings = settings.replace(alloc, "/", "\n")?;
+            let lines = lines.replace(alloc, "/", "\n")?;
+            return Ok(format!(in alloc; "{FRONT}{settings}\n{PROGRAM}{lines}")?);
+        }
+    }
+    Ok(String::new(alloc))
+}

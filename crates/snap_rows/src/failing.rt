@@ -1,0 +1,64 @@
+//! Which calls of the outside fail.
+
+use crate::texts::{number_at, part};
+
+/// Where a call may fail.
+#[derive(Clone, Copy, Debug)]
+pub(crate) enum Place {
+    Log(u8),
+    Read,
+    Write,
+    Trace,
+}
+
+/// All places.
+pub(crate) const PLACES: [Place; 5] = [
+    Place::Log(0),
+    Place::Log(1),
+    Place::Read,
+    Place::Write,
+    Place::Trace,
+];
+
+/// The numbers, from 1 on, of the calls that fail; 0 is none.
+#[derive(Clone, Copy)]
+pub(crate) struct Failing {
+    pub(crate) logs: [u64; 2],
+    pub(crate) read: u64,
+    pub(crate) write: u64,
+    pub(crate) trace: u64,
+}
+
+/// None fails.
+pub(crate) const NONE: Failing = Failing {
+    logs: [0, 0],
+    read: 0,
+    write: 0,
+    trace: 0,
+};
+
+impl Failing {
+    /// One fails at this place.
+    pub(crate) fn at(place: Place, call: u64) -> Failing {
+        let mut failing = NONE;
+        match place {
+            Place::Log(0) => failing.logs[0] = call,
+            Place::Log(_) => failing.logs[1] = call,
+            Place::Read => failing.read = call,
+            Place::Write => failing.write = call,
+            Place::Trace => failing.trace = call,
+        }
+        failing
+    }
+
+    /// Those that a row names.
+    pub(crate) fn of(asked: &str) -> Failing {
+        let numbers = part(asked, '|', 1);
+        Failing {
+            logs: [number_at(numbers, 0), number_at(numbers, 1)],
+            read: number_at(numbers, 2),
+            write: number_at(numbers, 3),
+            trace: number_at(numbers, 4),
+        }
+    }
+}
