@@ -370,13 +370,15 @@ module _ (w : Fixed Rest) (crew : Crew w) where
         made_of h gate first (groups_of w l (kept acts)) tells.begun,
         tells.is,
         record {
-          later = gets.later;
-          begun = tells.begun;
-          splits = splits_behind first b gets;
-          so_far = refl;
-          next = next_begun told b gets h gate first tells;
-          waits = λ e. tells.waits (sym same ∙ e);
-          is = λ e. gets.is (sym same ∙ e);
+          is_made = record {
+            later = gets.later;
+            begun = tells.begun;
+            splits = splits_behind first b gets;
+            so_far = refl;
+            next = next_begun told b gets h gate first tells;
+            waits = λ e. tells.waits (sym same ∙ e);
+          };
+          waits = λ e. gets.is (sym same ∙ e);
         },
       )
 

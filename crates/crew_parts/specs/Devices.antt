@@ -7,14 +7,14 @@ use Rattle.crew_parts.specs.Crews.{kept}
 use Rattle.crew_parts.specs.Shares.{ShareState}
 use Rattle.crew_parts.specs.Steps.{CrewTable}
 use Rattle.crew_parts.specs.declared.acts.Act.{Act}
-use Rattle.gate_log.specs.Opened.{opening_ops}
 use Rattle.gate_log.specs.State.{LogState}
 use Rattle.protocol.specs.Events.{Event, log}
 use Rattle.protocol.specs.Fixed.{Fixed}
 use Rattle.protocol.specs.Moments.{Moment}
 use Rattle.protocol.specs.Words.{holds}
-use Rattle.record_log.specs.Growth.{GrewBy, IsBegun, begun_groups, end_behind_groups, groups_ops}
+use Rattle.record_log.specs.Growth.{GrewBy, begun_groups, end_behind_groups}
 use Rattle.run_outputs.specs.Groups.{group_behind, groups_of}
+use Rattle.run_outputs.specs.Made.{IsMade}
 use Rattle.snap_hand.specs.Tables.{fixed_of}
 use Rattle.snap_hand.specs.declared.tables.Tables.{Tables}
 use Rattle.snap_outside.specs.Disk.{History, AddsAll, content, with_ops}
@@ -74,17 +74,10 @@ MayTell t start s u now l told = (told ≡ told_at now.parts l) ⊎ ((h : HoldsF
 
 -- ---- where it stands
 
--- Of the operations of log l's device these are made at a moment: those of opening; one append for each group that the log had got
--- by then; and some or all of the next append, only where that has begun: then it is that of what waits. The device held these bytes as it
--- was opened, with its gate at `end`. `all` are the groups whose appends were begun in the whole run, `first` those of before it.
+-- The operations of log l's device are those of the moment, and where its next append has begun, that is the append of what waits.
 pub record StandsAt {w : Fixed Rest} {es : List Event} (m : Moment w es) (l : ℕ) (bytes : List ℕ) (end : ℕ) (first all : List (List Record)) (made : List DevOp) : Type 0 where
-  pub later : List (List Record)
-  pub begun : List DevOp
-  pub splits : all ≡ (first ++ groups_of w l m.events) ++ later
-  pub so_far : made ≡ opening_ops bytes ++ (groups_ops end (first ++ groups_of w l m.events) ++ begun)
-  pub next : IsBegun (end_behind_groups end (first ++ groups_of w l m.events)) later begun
-  pub waits : m.has_begun l ≡ false → begun ≡ []
-  pub is : m.has_begun l ≡ true → (more : List (List Record)) × (later ≡ group_behind w l m.events ∷ more)
+  pub is_made : IsMade m l bytes end first all made
+  pub waits : m.has_begun l ≡ true → (more : List (List Record)) × (is_made.later ≡ group_behind w l m.events ∷ more)
 
 -- the groups whose appends to log l were begun: those of before the run, one for each of its Syncs, and what waits where its journal is shut
 abbrev pub begun_on : Fixed Rest → ℕ → List (List Record) → List Event → List ShareState → List (List Record)

@@ -1,4 +1,5 @@
 pub mod Groups
+pub mod Made
 pub mod Lines
 pub mod Laws
 pub mod Recorded

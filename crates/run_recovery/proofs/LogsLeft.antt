@@ -30,7 +30,8 @@ use Rattle.snap_outside.specs.Disk.{History, IsImage, content, disk, disk_after,
 use Rattle.snap_recover.specs.declared.openings.Opening.{Opening}
 use Rattle.snap_work.specs.Works.{Work}
 use Rattle.txn_records.specs.declared.records.Record.{Record}
-use Rattle.run_recovery.specs.Crashes.{CrashOn, IsMade, begun_on, earlier}
+use Rattle.run_outputs.specs.Made.{IsMade}
+use Rattle.run_recovery.specs.Crashes.{CrashOn, begun_on, earlier}
 use Rattle.run_recovery.specs.Runs.{AreRunDevices, IsRunDevice, machine_of, tried_on}
 use Rattle.run_recovery.proofs.NextGroups.{assoc, next_waits}
 

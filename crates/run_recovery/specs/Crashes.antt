@@ -1,23 +1,22 @@
 -- What a crash leaves at a moment of a run, and what that recovers to.
-use Rattle.std.specs.Prelude.{◌≡◌, ℕ, ◌<◌, false, Bool, Some, List, [], ◌++◌}
+use Rattle.std.specs.Prelude.{◌≡◌, ℕ, ◌<◌, Bool, Some, List, ◌++◌}
 use Rattle.aml_slice.specs.Controls.{Rest}
 use Rattle.aml_tree.specs.Tree.{CheckedMethod}
-use Rattle.gate_log.specs.Opened.{opening_ops}
 use Rattle.log_opening.specs.Devices.{Device, device_at}
 use Rattle.machine_laws.specs.Programs.{finish_of}
 use Rattle.machine_recovery.specs.OnLogs.{RecoversAsMeant}
 use Rattle.protocol.specs.Events as machine
-use Rattle.protocol.specs.Fixed.{Fixed}
 use Rattle.protocol.specs.History.{history}
 use Rattle.protocol.specs.Moments.{Moment, IsLeft, left_in}
 use Rattle.protocol.specs.Runs.{reached}
 use Rattle.protocol_records.specs.Crash.{CrashStands}
-use Rattle.record_log.specs.Growth.{begun_groups, end_behind_groups, groups_ops, IsBegun}
+use Rattle.record_log.specs.Growth.{begun_groups}
 use Rattle.record_log.specs.Records.{HoldsRecords}
 use Rattle.recovery_laws.specs.Grown.{grown}
 use Rattle.recovery_laws.specs.Joined.{RecoversToMembers}
 use Rattle.run_opening.specs.Opens.{first_groups, records_at, with_first}
 use Rattle.run_outputs.specs.Groups.{groups_of, group_behind}
+use Rattle.run_outputs.specs.Made.{IsMade}
 use Rattle.run_recovery.specs.Runs.{machine_of, text_of, tried_on, AreRunDevices}
 use Rattle.snap_outside.specs.declared.devices.DevOp.{DevOp}
 use Rattle.snap_outside.specs.Disk.{History, content, disk, disk_after, settled, IsImage}
@@ -26,17 +25,6 @@ use Rattle.snap_work.specs.Works.{Work}
 use Rattle.txn_records.specs.declared.records.Record.{Record}
 
 -- ---- a moment, on the devices
-
--- Of the operations of log l's device these are made at the moment: those of opening; one append for each group that the log
--- had got by then; and some or all of the next append, only where that has begun. `all` are the groups whose appends were begun in
--- the whole call, `first` those of before the run.
-pub record IsMade {w : Fixed Rest} {es : List machine.Event} (m : Moment w es) (l : ℕ) (bytes : List ℕ) (end : ℕ) (first all : List (List Record)) (made : List DevOp) : Type 0 where
-  pub later : List (List Record)
-  pub begun : List DevOp
-  pub splits : all ≡ (first ++ groups_of w l m.events) ++ later
-  pub so_far : made ≡ opening_ops bytes ++ (groups_ops end (first ++ groups_of w l m.events) ++ begun)
-  pub next : IsBegun (end_behind_groups end (first ++ groups_of w l m.events)) later begun
-  pub waits : m.has_begun l ≡ false → begun ≡ []
 
 -- the groups whose appends to log l were begun
 abbrev pub begun_on : {w : Work} {o : Opening} {es : List machine.Event} {failed : ℕ → Bool} {before after : List Device} → AreRunDevices w o es failed before after → ℕ → List (List Record)
