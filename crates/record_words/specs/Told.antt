@@ -5,7 +5,7 @@ use Rattle.snap_base.specs.declared.ids.Bid.{Bid}
 use Rattle.snap_base.specs.declared.ids.Tid.{Tid}
 use Rattle.txn_records.specs.declared.records.Record.{Record}
 use Rattle.txn_records.specs.declared.records.Record.TheVariants as records
-use Rattle.protocol.specs.Records.{LogRecord, BatchInfo, BatchComplete, BatchCommit, ActPrepare, ActCommit}
+use Rattle.protocol.specs.Records.{LogRecord, BatchInfo, BatchComplete, BatchDone, ActPrepare, ActDone}
 
 abbrev pub bid_of : ℕ → Bid
 bid_of n = record { 0 = n }
@@ -25,9 +25,9 @@ actors_of ns = map actor_of ns
 abbrev pub told : LogRecord → Record
 told (BatchInfo bid actors tids) = records.BatchInfo (bid_of bid) (actors_of actors) (tids_of tids)
 told (BatchComplete bid actor state) = records.BatchComplete (bid_of bid) (actor_of actor) state
-told (BatchCommit bid) = records.BatchCommit (bid_of bid)
+told (BatchDone bid values) = records.BatchDone (bid_of bid) values
 told (ActPrepare tid actor state) = records.ActPrepare (tid_of tid) (actor_of actor) state
-told (ActCommit tid m c actors) = records.ActCommit (tid_of tid) (bid_of m) c (actors_of actors)
+told (ActDone tid m c value actors) = records.ActDone (tid_of tid) (bid_of m) c value (actors_of actors)
 
 abbrev pub all_told : List LogRecord → List Record
 all_told rs = map told rs

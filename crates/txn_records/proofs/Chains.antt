@@ -1,15 +1,15 @@
 -- The fields of a record, one behind the other: a stop at any of them is a stop of the record.
-use Rattle.std.proofs.Common.{◌≡◌, ℕ, ◌^◌, List, [], ◌++◌, pos, refl, sym, ◌∙◌, arith, FitsSigned}
+use Rattle.std.proofs.Common.{◌≡◌, ℕ, ℤ, ◌^◌, List, [], ◌++◌, pos, refl, sym, ◌∙◌, arith, FitsSigned}
 use Rattle.std.specs.Int.{w16, w64, to_be_bytes}
 use Rattle.snap_base.specs.declared.ids.ActorId.{ActorId}
 use Rattle.snap_base.specs.declared.ids.Tid.{Tid}
 use Rattle.snap_base.specs.declared.transactions.State.{State}
 use Rattle.txn_records.specs.declared.numbers.Stop.{Stop}
-use Rattle.txn_records.specs.Records.{IsState, state_bytes, states_bytes, actors_bytes, tids_bytes}
+use Rattle.txn_records.specs.Records.{IsState, field_bytes, state_bytes, states_bytes, actors_bytes, tids_bytes, values_bytes}
 use Rattle.txn_records.specs.Stops.{Fails, Any, Nil, Seq}
 use Rattle.txn_records.specs.Numbers.{Between}
-use Rattle.txn_records.specs.Texts.{one_byte, AreStates, AreActors, AreTids, Count, FewCount, Number, Actor, GenesisTexts, InfoTexts, CompleteTexts, CommitTexts, ActTexts}
-use Rattle.txn_records.proofs.OneRecord.{SpelledApart, apart_through, apart16, apart64, Below, lists_apart, actors_apart, tids_apart, states_apart, actor_bytes, tid_bytes, IsActor, IsTid, are_actors, are_tids}
+use Rattle.txn_records.specs.Texts.{one_byte, AreStates, AreActors, AreTids, AreValues, Count, FewCount, Number, Actor, Field, GenesisTexts, InfoTexts, CompleteTexts, CommitTexts, ActTexts, DoneTexts, ActDoneTexts}
+use Rattle.txn_records.proofs.OneRecord.{SpelledApart, apart_through, apart16, apart64, Below, lists_apart, actors_apart, tids_apart, fields_apart, states_apart, actor_bytes, tid_bytes, IsActor, IsTid, are_actors, are_tids}
 use Rattle.txn_records.proofs.Digits.{bytes_apart}
 use Rattle.txn_records.proofs.Lists.{copies, are_copies, row, row_rises, fails_first, fails_after}
 
@@ -35,6 +35,9 @@ so_many_actors n = record { apart = λ a b x y p q e. lists_apart IsActor actor_
 
 so_many_tids : (n : ℕ) → SpelledApart (AreTids n) tids_bytes
 so_many_tids n = record { apart = λ a b x y p q e. lists_apart IsTid tid_bytes tids_apart a b x y (are_tids 0 a p.1) (are_tids 0 b q.1) (p.0 ∙ sym q.0) e }
+
+so_many_values : (n : ℕ) → SpelledApart (AreValues n) values_bytes
+so_many_values n = record { apart = λ a b x y p q e. lists_apart (FitsSigned w64) field_bytes fields_apart a b x y p.1 q.1 (p.0 ∙ sym q.0) e }
 
 -- ---- there is some text of each language
 
@@ -70,6 +73,18 @@ ActNumber = Number (λ c. ActCount)
 
 abbrev pub ActBatch : List ℕ → Type 0
 ActBatch = Number (λ m. ActNumber)
+
+abbrev pub DoneValues : ℕ → List ℕ → Type 0
+DoneValues n = Seq (AreValues n) values_bytes (λ vs. Nil)
+
+abbrev pub ActValue : List ℕ → Type 0
+ActValue = Field (λ v. ActCount)
+
+abbrev pub ActDoneNumber : List ℕ → Type 0
+ActDoneNumber = Number (λ c. ActValue)
+
+abbrev pub ActDoneBatch : List ℕ → Type 0
+ActDoneBatch = Number (λ m. ActDoneNumber)
 
 some_state : (s : State) × IsState s
 some_state =
@@ -121,6 +136,21 @@ act_number_some = number_some ActCount act_count_some
 
 act_batch_some : Some ActBatch
 act_batch_some = number_some ActNumber act_number_some
+
+values_some : (n : ℕ) → Some (DoneValues n)
+values_some n = seq_some (AreValues n) values_bytes (λ vs. Nil) (copies (pos 0) n) (are_copies (FitsSigned w64) (pos 0) (omega arith) n) nil_some
+
+count_values_some : Some (Count DoneValues)
+count_values_some = seq_some (Between 1 256) (to_be_bytes w16) DoneValues 1 (omega arith, omega arith) (values_some 1)
+
+act_value_some : Some ActValue
+act_value_some = seq_some (FitsSigned w64) field_bytes (λ v. ActCount) (pos 0) (omega arith) act_count_some
+
+act_done_number_some : Some ActDoneNumber
+act_done_number_some = number_some ActValue act_value_some
+
+act_done_batch_some : Some ActDoneBatch
+act_done_batch_some = number_some ActDoneNumber act_done_number_some
 
 -- ---- BatchCommit
 
@@ -219,6 +249,52 @@ act_actors n bytes stop s = fails_first (AreActors n) actors_bytes (λ xs. Nil) 
 
 pub act_end : (n : ℕ) (xs : List ActorId) (bytes rest : List ℕ) (stop : Stop) → AreActors n xs × (bytes ≡ actors_bytes xs ++ rest) → Fails Nil rest stop → Fails (ActActors n) bytes stop
 act_end n xs bytes rest stop p s = fails_after (AreActors n) actors_bytes (λ xs. Nil) (so_many_actors n) xs bytes rest stop p.0 p.1 s
+
+-- ---- BatchDone
+
+pub done_bid : (bytes : List ℕ) (stop : Stop) → Fails (Number (λ n. Any)) bytes stop → Fails DoneTexts bytes stop
+done_bid bytes stop s = number_fails (Count DoneValues) count_values_some bytes stop s
+
+pub behind_done_bid : (n : ℕ) (bytes rest : List ℕ) (stop : Stop) → Between 0 18446744073709551615 n × (bytes ≡ to_be_bytes w64 n ++ rest) → Fails (Count DoneValues) rest stop → Fails DoneTexts bytes stop
+behind_done_bid n bytes rest stop p s = behind_number (Count DoneValues) n bytes rest stop p s
+
+pub done_count : (bytes : List ℕ) (stop : Stop) → Fails (Count (λ n. Any)) bytes stop → Fails (Count DoneValues) bytes stop
+done_count bytes stop s = fails_first (Between 1 256) (to_be_bytes w16) DoneValues bytes stop (λ n p. values_some n) s
+
+pub behind_done_count : (n : ℕ) (bytes rest : List ℕ) (stop : Stop) → Between 1 256 n × (bytes ≡ to_be_bytes w16 n ++ rest) → Fails (DoneValues n) rest stop → Fails (Count DoneValues) bytes stop
+behind_done_count n bytes rest stop p s = fails_after (Between 1 256) (to_be_bytes w16) DoneValues count_apart n bytes rest stop p.0 p.1 s
+
+pub done_values : (n : ℕ) (bytes : List ℕ) (stop : Stop) → Fails (Seq (AreValues n) values_bytes (λ vs. Any)) bytes stop → Fails (DoneValues n) bytes stop
+done_values n bytes stop s = fails_first (AreValues n) values_bytes (λ vs. Nil) bytes stop (λ vs p. nil_some) s
+
+pub done_end : (n : ℕ) (vs : List ℤ) (bytes rest : List ℕ) (stop : Stop) → AreValues n vs × (bytes ≡ values_bytes vs ++ rest) → Fails Nil rest stop → Fails (DoneValues n) bytes stop
+done_end n vs bytes rest stop p s = fails_after (AreValues n) values_bytes (λ vs. Nil) (so_many_values n) vs bytes rest stop p.0 p.1 s
+
+-- ---- ActDone, which ends as ActCommit does
+
+pub act_done_tid : (bytes : List ℕ) (stop : Stop) → Fails (Number (λ n. Any)) bytes stop → Fails ActDoneTexts bytes stop
+act_done_tid bytes stop s = number_fails ActDoneBatch act_done_batch_some bytes stop s
+
+pub behind_act_done_tid : (n : ℕ) (bytes rest : List ℕ) (stop : Stop) → Between 0 18446744073709551615 n × (bytes ≡ to_be_bytes w64 n ++ rest) → Fails ActDoneBatch rest stop → Fails ActDoneTexts bytes stop
+behind_act_done_tid n bytes rest stop p s = behind_number ActDoneBatch n bytes rest stop p s
+
+pub act_done_batch : (bytes : List ℕ) (stop : Stop) → Fails (Number (λ n. Any)) bytes stop → Fails ActDoneBatch bytes stop
+act_done_batch bytes stop s = number_fails ActDoneNumber act_done_number_some bytes stop s
+
+pub behind_act_done_batch : (n : ℕ) (bytes rest : List ℕ) (stop : Stop) → Between 0 18446744073709551615 n × (bytes ≡ to_be_bytes w64 n ++ rest) → Fails ActDoneNumber rest stop → Fails ActDoneBatch bytes stop
+behind_act_done_batch n bytes rest stop p s = behind_number ActDoneNumber n bytes rest stop p s
+
+pub act_done_number : (bytes : List ℕ) (stop : Stop) → Fails (Number (λ n. Any)) bytes stop → Fails ActDoneNumber bytes stop
+act_done_number bytes stop s = number_fails ActValue act_value_some bytes stop s
+
+pub behind_act_done_number : (n : ℕ) (bytes rest : List ℕ) (stop : Stop) → Between 0 18446744073709551615 n × (bytes ≡ to_be_bytes w64 n ++ rest) → Fails ActValue rest stop → Fails ActDoneNumber bytes stop
+behind_act_done_number n bytes rest stop p s = behind_number ActValue n bytes rest stop p s
+
+pub act_value : (bytes : List ℕ) (stop : Stop) → Fails (Seq (FitsSigned w64) field_bytes (λ v. Any)) bytes stop → Fails ActValue bytes stop
+act_value bytes stop s = fails_first (FitsSigned w64) field_bytes (λ v. ActCount) bytes stop (λ v p. act_count_some) s
+
+pub behind_act_value : (v : ℤ) (bytes rest : List ℕ) (stop : Stop) → FitsSigned w64 v × (bytes ≡ field_bytes v ++ rest) → Fails ActCount rest stop → Fails ActValue bytes stop
+behind_act_value v bytes rest stop p s = fails_after (FitsSigned w64) field_bytes (λ v. ActCount) fields_apart v bytes rest stop p.0 p.1 s
 
 -- ---- Genesis
 

@@ -11,8 +11,8 @@ use Rattle.snap_base.specs.declared.ids.Bid.{Bid}
 use Rattle.snap_base.specs.declared.ids.Tid.{Tid}
 use Rattle.snap_base.specs.declared.transactions.State.{State}
 use Rattle.txn_records.specs.declared.records.Record.{Record}
-use Rattle.txn_records.specs.declared.records.Record.TheVariants.{Genesis, BatchInfo, BatchComplete, BatchCommit, ActPrepare, ActCommit}
-use Rattle.txn_records.specs.Records.{record_bytes, IsRecord, field_bytes, state_bytes, states_bytes, actors_bytes, tids_bytes, actor_numbers, tid_numbers, IsState, IsGenesis, IsInfo, IsComplete, IsCommit, IsPrepare, IsAct, Ascend}
+use Rattle.txn_records.specs.declared.records.Record.TheVariants.{Genesis, BatchInfo, BatchComplete, BatchCommit, ActPrepare, ActCommit, BatchDone, ActDone}
+use Rattle.txn_records.specs.Records.{record_bytes, IsRecord, field_bytes, state_bytes, states_bytes, actors_bytes, tids_bytes, actor_numbers, tid_numbers, IsState, IsGenesis, IsInfo, IsComplete, IsCommit, IsPrepare, IsAct, Ascend, IsDone, IsActDone, values_bytes}
 
 -- two fronts of one length in the same bytes are one
 pub same_front : (a x b y : List ℕ) → length a ≡ length b → a ++ x ≡ b ++ y → (a ≡ b) × (x ≡ y)
@@ -193,6 +193,31 @@ one_act a b m n c d xs ys p q e =
     let x = one_list IsActor actor_bytes actors_apart xs ys (are_actors 0 xs p.ascend) (are_actors 0 ys q.ascend) w.0 w.1 in
     ap (λ (z : Tid). ActCommit z m c xs) t.0 ∙ ap (λ (z : Bid). ActCommit b z c xs) u.0 ∙ ap (λ (z : ℕ). ActCommit b n z xs) v.0 ∙ ap (λ (zs : List ActorId). ActCommit b n d zs) x
 
+one_done : (a b : Bid) (vs ws : List ℤ) → IsDone a vs → IsDone b ws → record_bytes (BatchDone a vs) ≡ record_bytes (BatchDone b ws) → BatchDone a vs ≡ BatchDone b ws
+one_done a b vs ws p q e =
+    let xa : List ℕ = to_be_bytes w16 (length vs) ++ values_bytes vs in
+    let ya : List ℕ = to_be_bytes w16 (length ws) ++ values_bytes ws in
+    let s = same_front (7 ∷ []) (bid_bytes a ++ xa) (7 ∷ []) (bid_bytes b ++ ya) refl e in
+    let t = bids_apart.apart a b xa ya p.bid_fits q.bid_fits s.1 in
+    let u = apart16.apart (length vs) (length ws) (values_bytes vs) (values_bytes ws) (short (length vs) p.few) (short (length ws) q.few) t.1 in
+    let v = one_list (FitsSigned w64) field_bytes fields_apart vs ws p.each q.each u.0 u.1 in
+    ap (λ (z : Bid). BatchDone z vs) t.0 ∙ ap (λ (zs : List ℤ). BatchDone b zs) v
+
+one_act_done : (a b : Tid) (m n : Bid) (c d : ℕ) (f g : ℤ) (xs ys : List ActorId) → IsActDone a m c f xs → IsActDone b n d g ys → record_bytes (ActDone a m c f xs) ≡ record_bytes (ActDone b n d g ys) → ActDone a m c f xs ≡ ActDone b n d g ys
+one_act_done a b m n c d f g xs ys p q e =
+    let xa : List ℕ = to_be_bytes w16 (length xs) ++ actors_bytes xs in
+    let ya : List ℕ = to_be_bytes w16 (length ys) ++ actors_bytes ys in
+    let xf : List ℕ = field_bytes f ++ xa in
+    let yf : List ℕ = field_bytes g ++ ya in
+    let s = same_front (8 ∷ []) (tid_bytes a ++ (bid_bytes m ++ (to_be_bytes w64 c ++ xf))) (8 ∷ []) (tid_bytes b ++ (bid_bytes n ++ (to_be_bytes w64 d ++ yf))) refl e in
+    let t = tids_apart.apart a b (bid_bytes m ++ (to_be_bytes w64 c ++ xf)) (bid_bytes n ++ (to_be_bytes w64 d ++ yf)) p.tid_fits q.tid_fits s.1 in
+    let u = bids_apart.apart m n (to_be_bytes w64 c ++ xf) (to_be_bytes w64 d ++ yf) p.m_fits q.m_fits t.1 in
+    let v = apart64.apart c d xf yf p.c_fits q.c_fits u.1 in
+    let o = fields_apart.apart f g xa ya p.value_fits q.value_fits v.1 in
+    let w = apart16.apart (length xs) (length ys) (actors_bytes xs) (actors_bytes ys) (omega (arith, p.few)) (omega (arith, q.few)) o.1 in
+    let x = one_list IsActor actor_bytes actors_apart xs ys (are_actors 0 xs p.ascend) (are_actors 0 ys q.ascend) w.0 w.1 in
+    ap (λ (z : Tid). ActDone z m c f xs) t.0 ∙ ap (λ (z : Bid). ActDone b z c f xs) u.0 ∙ ap (λ (z : ℕ). ActDone b n z f xs) v.0 ∙ ap (λ (z : ℤ). ActDone b n d z xs) o.0 ∙ ap (λ (zs : List ActorId). ActDone b n d g zs) x
+
 -- the first byte
 pub other_tag : {P : Type 0} (a b : ℕ) (x y : List ℕ) → a < b → a ∷ x ≡ b ∷ y → P
 other_tag a b x y lt e = absurd (omega (arith, ap (λ (z : List ℕ). get_or z 0 0) e))
@@ -237,3 +262,31 @@ one_record (ActCommit a m c xs) (BatchInfo b ys us) p q e = other_tag_down 6 2 _
 one_record (ActCommit a m c xs) (BatchComplete b n y) p q e = other_tag_down 6 3 _ _ (omega arith) e
 one_record (ActCommit a m c xs) (BatchCommit b) p q e = other_tag_down 6 4 _ _ (omega arith) e
 one_record (ActCommit a m c xs) (ActPrepare b n y) p q e = other_tag_down 6 5 _ _ (omega arith) e
+one_record (BatchDone a vs) (BatchDone b ws) p q e = one_done a b vs ws p q e
+one_record (ActDone a m c f xs) (ActDone b n d g ys) p q e = one_act_done a b m n c d f g xs ys p q e
+one_record (Genesis l xs) (BatchDone b ws) p q e = other_tag 1 7 _ _ (omega arith) e
+one_record (Genesis l xs) (ActDone b n d g ys) p q e = other_tag 1 8 _ _ (omega arith) e
+one_record (BatchInfo a xs ts) (BatchDone b ws) p q e = other_tag 2 7 _ _ (omega arith) e
+one_record (BatchInfo a xs ts) (ActDone b n d g ys) p q e = other_tag 2 8 _ _ (omega arith) e
+one_record (BatchComplete a m x) (BatchDone b ws) p q e = other_tag 3 7 _ _ (omega arith) e
+one_record (BatchComplete a m x) (ActDone b n d g ys) p q e = other_tag 3 8 _ _ (omega arith) e
+one_record (BatchCommit a) (BatchDone b ws) p q e = other_tag 4 7 _ _ (omega arith) e
+one_record (BatchCommit a) (ActDone b n d g ys) p q e = other_tag 4 8 _ _ (omega arith) e
+one_record (ActPrepare a m x) (BatchDone b ws) p q e = other_tag 5 7 _ _ (omega arith) e
+one_record (ActPrepare a m x) (ActDone b n d g ys) p q e = other_tag 5 8 _ _ (omega arith) e
+one_record (ActCommit a m c xs) (BatchDone b ws) p q e = other_tag 6 7 _ _ (omega arith) e
+one_record (ActCommit a m c xs) (ActDone b n d g ys) p q e = other_tag 6 8 _ _ (omega arith) e
+one_record (BatchDone a vs) (Genesis k ys) p q e = other_tag_down 7 1 _ _ (omega arith) e
+one_record (BatchDone a vs) (BatchInfo b ys us) p q e = other_tag_down 7 2 _ _ (omega arith) e
+one_record (BatchDone a vs) (BatchComplete b n y) p q e = other_tag_down 7 3 _ _ (omega arith) e
+one_record (BatchDone a vs) (BatchCommit b) p q e = other_tag_down 7 4 _ _ (omega arith) e
+one_record (BatchDone a vs) (ActPrepare b n y) p q e = other_tag_down 7 5 _ _ (omega arith) e
+one_record (BatchDone a vs) (ActCommit b n d ys) p q e = other_tag_down 7 6 _ _ (omega arith) e
+one_record (BatchDone a vs) (ActDone b n d g ys) p q e = other_tag 7 8 _ _ (omega arith) e
+one_record (ActDone a m c f xs) (Genesis k ys) p q e = other_tag_down 8 1 _ _ (omega arith) e
+one_record (ActDone a m c f xs) (BatchInfo b ys us) p q e = other_tag_down 8 2 _ _ (omega arith) e
+one_record (ActDone a m c f xs) (BatchComplete b n y) p q e = other_tag_down 8 3 _ _ (omega arith) e
+one_record (ActDone a m c f xs) (BatchCommit b) p q e = other_tag_down 8 4 _ _ (omega arith) e
+one_record (ActDone a m c f xs) (ActPrepare b n y) p q e = other_tag_down 8 5 _ _ (omega arith) e
+one_record (ActDone a m c f xs) (ActCommit b n d ys) p q e = other_tag_down 8 6 _ _ (omega arith) e
+one_record (ActDone a m c f xs) (BatchDone b ws) p q e = other_tag_down 8 7 _ _ (omega arith) e

@@ -37,6 +37,11 @@ fails_field bytes stop s = fails_alike (Seq (Between 0 18446744073709551615) (to
     (λ f w. (cast_signed w64 w.0, w.1, signed_fits w.0 (omega (arith, w.2)), tt, w.4 ∙ ap (λ (z : List ℕ). z ++ w.1) (sym (field_of_bits w.0 (omega (arith, w.2))))))
     (λ f w. (cast_unsigned w64 w.0, w.1, (omega arith, omega (arith, bits_below w.0 w.2)), tt, w.4 ∙ ap (λ (z : List ℕ). z ++ w.1) (field_is w.0))) s
 
+pub field_found : (bytes rest : List ℕ) (n : ℕ) (z : ℤ) → Between 0 18446744073709551615 n × (bytes ≡ to_be_bytes w64 n ++ rest) → z ≡ cast_signed w64 n → FitsSigned w64 z × (bytes ≡ field_bytes z ++ rest)
+field_found bytes rest n z p ez =
+    let small : n < 2 ^ 64 = omega (arith, p.0) in
+    (subst (FitsSigned w64) (sym ez) (signed_fits n small), p.1 ∙ ap (λ (y : List ℕ). y ++ rest) (sym (ap field_bytes ez ∙ field_of_bits n small)))
+
 abbrev pub Fields : List ℕ → Type 0
 Fields = Seq IsState state_bytes (λ s. Any)
 

@@ -9,8 +9,8 @@ use Rattle.snap_base.specs.declared.ids.Tid.{Tid}
 use Rattle.snap_base.specs.declared.transactions.State.{State}
 use Rattle.txn_records.specs.declared.limits.TheConstants.{LONGEST_RECORD}
 use Rattle.txn_records.specs.declared.records.Record.{Record}
-use Rattle.txn_records.specs.declared.records.Record.TheVariants.{Genesis, BatchInfo, BatchComplete, BatchCommit, ActPrepare, ActCommit}
-use Rattle.txn_records.specs.Records.{field_bytes, state_bytes, states_bytes, actors_bytes, tids_bytes, genesis_bytes, info_bytes, complete_bytes, prepare_bytes, act_bytes, record_bytes, IsState, IsGenesis, IsInfo, IsAct, IsRecord}
+use Rattle.txn_records.specs.declared.records.Record.TheVariants.{Genesis, BatchInfo, BatchComplete, BatchCommit, ActPrepare, ActCommit, BatchDone, ActDone}
+use Rattle.txn_records.specs.Records.{field_bytes, state_bytes, states_bytes, actors_bytes, tids_bytes, genesis_bytes, info_bytes, complete_bytes, prepare_bytes, act_bytes, done_bytes, act_done_bytes, values_bytes, record_bytes, IsState, IsGenesis, IsInfo, IsAct, IsDone, IsActDone, IsRecord}
 use Rattle.txn_records.specs.Stops.{Stops}
 use Rattle.txn_records.specs.Texts.{RecordTexts}
 
@@ -76,6 +76,19 @@ act_size tid m c actors is =
     let all : length (act_bytes tid m c actors) ≡ 27 + length (actors_bytes actors) = omega arith in
     (omega (arith, all), omega (arith, all, actors_size actors, is.few))
 
+done_size : (bid : Bid) (values : List ℤ) → IsDone bid values → IsSize (length (done_bytes bid values))
+done_size bid values is =
+    let all : length (done_bytes bid values) ≡ 11 + length (values_bytes values) = omega arith in
+    (omega (arith, all), omega (arith, all, fields_size values, is.few))
+
+act_done_size : (tid : Tid) (m : Bid) (c : ℕ) (value : ℤ) (actors : List ActorId) → IsActDone tid m c value actors → IsSize (length (act_done_bytes tid m c value actors))
+act_done_size tid m c value actors is =
+    let behind : List ℕ = to_be_bytes w16 (length actors) ++ actors_bytes actors in
+    let all : length (act_done_bytes tid m c value actors) ≡ 25 + length (field_bytes value ++ behind) = omega arith in
+    let two : length behind ≡ 2 + length (actors_bytes actors) = omega arith in
+    let sum = length-append (field_bytes value) behind in
+    (omega (arith, all), omega (arith, all, sum, two, field_size value, actors_size actors, is.few))
+
 pub record_size : (r : Record) → IsRecord r → IsSize (length (record_bytes r))
 record_size (Genesis logs states) is = genesis_size logs states is
 record_size (BatchInfo bid actors tids) is = info_size bid actors tids is
@@ -83,6 +96,8 @@ record_size (BatchComplete bid actor state) is = complete_size bid actor state i
 record_size (BatchCommit bid) is = (omega arith, omega arith)
 record_size (ActPrepare tid actor state) is = prepare_size tid actor state is.is_state
 record_size (ActCommit tid m c actors) is = act_size tid m c actors is
+record_size (BatchDone bid values) is = done_size bid values is
+record_size (ActDone tid m c value actors) is = act_done_size tid m c value actors is
 
 -- ---- what goes on as a record does is no longer than one
 

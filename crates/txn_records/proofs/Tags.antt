@@ -6,15 +6,15 @@ use Rattle.snap_base.specs.declared.ids.ActorId.{ActorId}
 use Rattle.snap_base.specs.declared.ids.Bid.{Bid}
 use Rattle.snap_base.specs.declared.ids.Tid.{Tid}
 use Rattle.txn_records.specs.declared.records.Record.{Record}
-use Rattle.txn_records.specs.declared.records.Record.TheVariants.{Genesis, BatchInfo, BatchComplete, BatchCommit, ActPrepare, ActCommit}
+use Rattle.txn_records.specs.declared.records.Record.TheVariants.{Genesis, BatchInfo, BatchComplete, BatchCommit, ActPrepare, ActCommit, BatchDone, ActDone}
 use Rattle.txn_records.specs.declared.numbers.Stop.{Stop}
 use Rattle.txn_records.specs.declared.numbers.Stop.TheVariants.{Left, Memory}
-use Rattle.txn_records.specs.Records.{IsRecord, record_bytes, states_bytes, actors_bytes, tids_bytes, state_bytes}
+use Rattle.txn_records.specs.Records.{IsRecord, record_bytes, states_bytes, actors_bytes, tids_bytes, field_bytes, values_bytes, state_bytes}
 use Rattle.txn_records.specs.Stops.{Stops, Fails, Nil, Seq}
-use Rattle.txn_records.specs.Texts.{AreActors, Number, GenesisTexts, InfoTexts, CompleteTexts, CommitTexts, PrepareTexts, ActTexts, RecordTexts}
+use Rattle.txn_records.specs.Texts.{AreActors, Number, Field, GenesisTexts, InfoTexts, CompleteTexts, CommitTexts, PrepareTexts, ActTexts, DoneTexts, ActDoneTexts, RecordTexts}
 use Rattle.txn_records.proofs.OneRecord.{other_tag, other_tag_down}
 use Rattle.txn_records.proofs.Stopping.{stops_here}
-use Rattle.txn_records.proofs.Chains.{Some, ActCount}
+use Rattle.txn_records.proofs.Chains.{Some, ActCount, ActValue}
 
 tag_stops : (T : List ℕ → Type 0) (t : ℕ) (rest : List ℕ) (left : ℕ) → ((f : List ℕ) → T f → RecordTexts (t ∷ f)) → ((f : List ℕ) → RecordTexts (t ∷ f) → T f) → Stops T rest left → Stops RecordTexts (t ∷ rest) left
 tag_stops T t rest left there back s = record {
@@ -63,6 +63,8 @@ genesis_out f (BatchComplete a m x, p, e) = other_tag 1 3 _ _ (omega arith) e
 genesis_out f (BatchCommit a, p, e) = other_tag 1 4 _ _ (omega arith) e
 genesis_out f (ActPrepare a m x, p, e) = other_tag 1 5 _ _ (omega arith) e
 genesis_out f (ActCommit a m c xs, p, e) = other_tag 1 6 _ _ (omega arith) e
+genesis_out f (BatchDone a vs, p, e) = other_tag 1 7 _ _ (omega arith) e
+genesis_out f (ActDone a m c v xs, p, e) = other_tag 1 8 _ _ (omega arith) e
 
 pub info_in : (f : List ℕ) → InfoTexts f → RecordTexts (2 ∷ f)
 info_in f (b, g, p, (n, h, q, (xs, k, r, (m, i, v, (ts, j, w, nil, e5), e4), e3), e2), e1) =
@@ -99,6 +101,8 @@ info_out f (BatchComplete a m x, p, e) = other_tag 2 3 _ _ (omega arith) e
 info_out f (BatchCommit a, p, e) = other_tag 2 4 _ _ (omega arith) e
 info_out f (ActPrepare a m x, p, e) = other_tag 2 5 _ _ (omega arith) e
 info_out f (ActCommit a m c xs, p, e) = other_tag 2 6 _ _ (omega arith) e
+info_out f (BatchDone a vs, p, e) = other_tag 2 7 _ _ (omega arith) e
+info_out f (ActDone a m c v xs, p, e) = other_tag 2 8 _ _ (omega arith) e
 
 pub complete_in : (f : List ℕ) → CompleteTexts f → RecordTexts (3 ∷ f)
 complete_in f (b, g, p, (a, h, q, (s, k, r, nil, e3), e2), e1) =
@@ -123,6 +127,8 @@ complete_out f (BatchComplete b a s, p, e) = (
 complete_out f (BatchCommit a, p, e) = other_tag 3 4 _ _ (omega arith) e
 complete_out f (ActPrepare a m x, p, e) = other_tag 3 5 _ _ (omega arith) e
 complete_out f (ActCommit a m c xs, p, e) = other_tag 3 6 _ _ (omega arith) e
+complete_out f (BatchDone a vs, p, e) = other_tag 3 7 _ _ (omega arith) e
+complete_out f (ActDone a m c v xs, p, e) = other_tag 3 8 _ _ (omega arith) e
 
 pub commit_in : (f : List ℕ) → CommitTexts f → RecordTexts (4 ∷ f)
 commit_in f (b, g, p, nil, e) =
@@ -136,6 +142,8 @@ commit_out f (BatchComplete a m x, p, e) = other_tag_down 4 3 _ _ (omega arith) 
 commit_out f (BatchCommit b, p, e) = (b.0, [], (omega arith, omega (arith, p.bid_fits)), refl, tail_of 4 f (to_be_bytes w64 b.0) e ∙ sym (append-nil (to_be_bytes w64 b.0)))
 commit_out f (ActPrepare a m x, p, e) = other_tag 4 5 _ _ (omega arith) e
 commit_out f (ActCommit a m c xs, p, e) = other_tag 4 6 _ _ (omega arith) e
+commit_out f (BatchDone a vs, p, e) = other_tag 4 7 _ _ (omega arith) e
+commit_out f (ActDone a m c v xs, p, e) = other_tag 4 8 _ _ (omega arith) e
 
 pub prepare_in : (f : List ℕ) → PrepareTexts f → RecordTexts (5 ∷ f)
 prepare_in f (b, g, p, (a, h, q, (s, k, r, nil, e3), e2), e1) =
@@ -160,6 +168,8 @@ prepare_out f (ActPrepare t a s, p, e) = (
   tail_of 5 f (to_be_bytes w64 t.0 ++ (to_be_bytes w16 a.0 ++ state_bytes s)) e,
 )
 prepare_out f (ActCommit a m c xs, p, e) = other_tag 5 6 _ _ (omega arith) e
+prepare_out f (BatchDone a vs, p, e) = other_tag 5 7 _ _ (omega arith) e
+prepare_out f (ActDone a m c v xs, p, e) = other_tag 5 8 _ _ (omega arith) e
 
 pub act_in : (f : List ℕ) → ActTexts f → RecordTexts (6 ∷ f)
 act_in f (t, g, p, (b, h, q, (c, i, r, (n, j, v, (xs, k, w, nil, e5), e4), e3), e2), e1) =
@@ -188,6 +198,64 @@ act_out f (ActCommit t m c xs, p, e) =
     let listed : Seq (AreActors (length xs)) actors_bytes (λ ys. Nil) (actors_bytes xs) = (xs, [], (refl, p.ascend), refl, sym (append-nil (actors_bytes xs))) in
     let numbered : Number (λ n. ActCount) xc = (c, xa, (omega arith, omega (arith, p.c_fits)), (length xs, actors_bytes xs, (p.some, p.few), listed, refl), refl) in
     (t.0, xm, (omega arith, omega (arith, p.tid_fits)), (m.0, xc, (omega arith, omega (arith, p.m_fits)), numbered, refl), tail)
+act_out f (BatchDone a vs, p, e) = other_tag 6 7 _ _ (omega arith) e
+act_out f (ActDone a m c v xs, p, e) = other_tag 6 8 _ _ (omega arith) e
+
+pub done_in : (f : List ℕ) → DoneTexts f → RecordTexts (7 ∷ f)
+done_in f (b, g, p, (n, h, q, (vs, k, r, nil, e3), e2), e1) =
+    let bid : Bid = record { 0 = b } in
+    let whole : h ≡ values_bytes vs = e3 ∙ ap (λ (z : List ℕ). values_bytes vs ++ z) nil ∙ append-nil (values_bytes vs) in
+    let counted : g ≡ to_be_bytes w16 (length vs) ++ values_bytes vs = e2 ∙ ap (λ (z : List ℕ). to_be_bytes w16 n ++ z) whole ∙ ap (λ (z : ℕ). to_be_bytes w16 z ++ values_bytes vs) (sym r.0) in (
+      BatchDone bid vs,
+      record { bid_fits = omega (arith, p); some = omega (arith, q, r.0); few = omega (arith, q, r.0); each = r.1 },
+      ap (λ (z : List ℕ). 7 ∷ z) (e1 ∙ ap (λ (z : List ℕ). to_be_bytes w64 b ++ z) counted),
+    )
+
+pub done_out : (f : List ℕ) → RecordTexts (7 ∷ f) → DoneTexts f
+done_out f (Genesis l xs, p, e) = other_tag_down 7 1 _ _ (omega arith) e
+done_out f (BatchInfo a xs ts, p, e) = other_tag_down 7 2 _ _ (omega arith) e
+done_out f (BatchComplete a m x, p, e) = other_tag_down 7 3 _ _ (omega arith) e
+done_out f (BatchCommit a, p, e) = other_tag_down 7 4 _ _ (omega arith) e
+done_out f (ActPrepare a m x, p, e) = other_tag_down 7 5 _ _ (omega arith) e
+done_out f (ActCommit a m c xs, p, e) = other_tag_down 7 6 _ _ (omega arith) e
+done_out f (BatchDone b vs, p, e) =
+    let xc : List ℕ = to_be_bytes w16 (length vs) ++ values_bytes vs in
+    let tail : f ≡ to_be_bytes w64 b.0 ++ xc = tail_of 7 f (to_be_bytes w64 b.0 ++ xc) e in
+    (b.0, xc, (omega arith, omega (arith, p.bid_fits)), (length vs, values_bytes vs, (p.some, p.few), (vs, [], (refl, p.each), refl, sym (append-nil (values_bytes vs))), refl), tail)
+done_out f (ActDone a m c v xs, p, e) = other_tag 7 8 _ _ (omega arith) e
+
+pub act_done_in : (f : List ℕ) → ActDoneTexts f → RecordTexts (8 ∷ f)
+act_done_in f (t, g, p, (b, h, q, (c, i, r, (z, l, y, (n, j, v, (xs, k, w, nil, e6), e5), e4), e3), e2), e1) =
+    let tid : Tid = record { 0 = t } in
+    let bid : Bid = record { 0 = b } in
+    let actors : j ≡ actors_bytes xs = e6 ∙ ap (λ (z : List ℕ). actors_bytes xs ++ z) nil ∙ append-nil (actors_bytes xs) in
+    let counted : l ≡ to_be_bytes w16 (length xs) ++ actors_bytes xs = e5 ∙ ap (λ (z : List ℕ). to_be_bytes w16 n ++ z) actors ∙ ap (λ (z : ℕ). to_be_bytes w16 z ++ actors_bytes xs) (sym w.0) in
+    let valued : i ≡ field_bytes z ++ (to_be_bytes w16 (length xs) ++ actors_bytes xs) = e4 ∙ ap (λ (y : List ℕ). field_bytes z ++ y) counted in
+    let numbered : g ≡ to_be_bytes w64 b ++ (to_be_bytes w64 c ++ (field_bytes z ++ (to_be_bytes w16 (length xs) ++ actors_bytes xs))) =
+    e2 ∙ ap (λ (z : List ℕ). to_be_bytes w64 b ++ z) (e3 ∙ ap (λ (z : List ℕ). to_be_bytes w64 c ++ z) valued) in (
+      ActDone tid bid c z xs,
+      record { tid_fits = omega (arith, p); m_fits = omega (arith, q); c_fits = omega (arith, r); value_fits = y; some = omega (arith, v, w.0); few = omega (arith, v, w.0); ascend = w.1 },
+      ap (λ (z : List ℕ). 8 ∷ z) (e1 ∙ ap (λ (z : List ℕ). to_be_bytes w64 t ++ z) numbered),
+    )
+
+pub act_done_out : (f : List ℕ) → RecordTexts (8 ∷ f) → ActDoneTexts f
+act_done_out f (Genesis l xs, p, e) = other_tag_down 8 1 _ _ (omega arith) e
+act_done_out f (BatchInfo a xs ts, p, e) = other_tag_down 8 2 _ _ (omega arith) e
+act_done_out f (BatchComplete a m x, p, e) = other_tag_down 8 3 _ _ (omega arith) e
+act_done_out f (BatchCommit a, p, e) = other_tag_down 8 4 _ _ (omega arith) e
+act_done_out f (ActPrepare a m x, p, e) = other_tag_down 8 5 _ _ (omega arith) e
+act_done_out f (ActCommit a m c xs, p, e) = other_tag_down 8 6 _ _ (omega arith) e
+act_done_out f (BatchDone a vs, p, e) = other_tag_down 8 7 _ _ (omega arith) e
+act_done_out f (ActDone t m c v xs, p, e) =
+    let xa : List ℕ = to_be_bytes w16 (length xs) ++ actors_bytes xs in
+    let xv : List ℕ = field_bytes v ++ xa in
+    let xc : List ℕ = to_be_bytes w64 c ++ xv in
+    let xm : List ℕ = to_be_bytes w64 m.0 ++ xc in
+    let tail : f ≡ to_be_bytes w64 t.0 ++ xm = tail_of 8 f (to_be_bytes w64 t.0 ++ xm) e in
+    let listed : Seq (AreActors (length xs)) actors_bytes (λ ys. Nil) (actors_bytes xs) = (xs, [], (refl, p.ascend), refl, sym (append-nil (actors_bytes xs))) in
+    let valued : Field (λ n. ActCount) xv = (v, xa, p.value_fits, (length xs, actors_bytes xs, (p.some, p.few), listed, refl), refl) in
+    let numbered : Number (λ n. ActValue) xc = (c, xv, (omega arith, omega (arith, p.c_fits)), valued, refl) in
+    (t.0, xm, (omega arith, omega (arith, p.tid_fits)), (m.0, xc, (omega arith, omega (arith, p.m_fits)), numbered, refl), tail)
 
 -- ---- no tag
 
@@ -195,7 +263,7 @@ some_record : Some RecordTexts
 some_record = let b : Bid = record { 0 = 0 } in (record_bytes (BatchCommit b), (BatchCommit b, record { bid_fits = omega arith }, refl))
 
 abbrev IsTag : ℕ → Type 0
-IsTag t = (1 ≤ t) × (t ≤ 6)
+IsTag t = (1 ≤ t) × (t ≤ 8)
 
 tag_of : (r : Record) (c : ℕ) (y : List ℕ) → record_bytes r ≡ c ∷ y → IsTag c
 tag_of (Genesis l xs) c y e = let h = ap (λ (z : List ℕ). get_or z 0 0) e in (omega (arith, h), omega (arith, h))
@@ -204,6 +272,8 @@ tag_of (BatchComplete a m x) c y e = let h = ap (λ (z : List ℕ). get_or z 0 0
 tag_of (BatchCommit a) c y e = let h = ap (λ (z : List ℕ). get_or z 0 0) e in (omega (arith, h), omega (arith, h))
 tag_of (ActPrepare a m x) c y e = let h = ap (λ (z : List ℕ). get_or z 0 0) e in (omega (arith, h), omega (arith, h))
 tag_of (ActCommit a m n xs) c y e = let h = ap (λ (z : List ℕ). get_or z 0 0) e in (omega (arith, h), omega (arith, h))
+tag_of (BatchDone a vs) c y e = let h = ap (λ (z : List ℕ). get_or z 0 0) e in (omega (arith, h), omega (arith, h))
+tag_of (ActDone a m n v xs) c y e = let h = ap (λ (z : List ℕ). get_or z 0 0) e in (omega (arith, h), omega (arith, h))
 
 not_empty : (r : Record) → record_bytes r ≢ []
 not_empty (Genesis l xs) e = cc
@@ -212,12 +282,14 @@ not_empty (BatchComplete a m x) e = cc
 not_empty (BatchCommit a) e = cc
 not_empty (ActPrepare a m x) e = cc
 not_empty (ActCommit a m c xs) e = cc
+not_empty (BatchDone a vs) e = cc
+not_empty (ActDone a m c v xs) e = cc
 
 pub nothing_stops : (bytes : List ℕ) → length bytes ≡ 0 → Stops RecordTexts bytes 0
 nothing_stops [] e = stops_here RecordTexts [] some_record (λ f y p h. (refl, λ z. not_empty p.0 (sym p.2 ∙ h ∙ z)))
 nothing_stops (b ∷ x) e = absurd (omega (arith, e))
 
-pub no_tag_stops : (b : ℕ) (bytes rest : List ℕ) → bytes ≡ b ∷ rest → b ≢ 1 → b ≢ 2 → b ≢ 3 → b ≢ 4 → b ≢ 5 → b ≢ 6 → Stops RecordTexts bytes (length bytes)
-no_tag_stops b bytes rest e n1 n2 n3 n4 n5 n6 =
-    let here : Stops RecordTexts (b ∷ rest) (length (b ∷ rest)) = stops_here RecordTexts (b ∷ rest) some_record (λ f y p h. let t = tag_of p.0 b y (sym p.2 ∙ h) in absurd (omega (arith, t, n1, n2, n3, n4, n5, n6))) in
+pub no_tag_stops : (b : ℕ) (bytes rest : List ℕ) → bytes ≡ b ∷ rest → b ≢ 1 → b ≢ 2 → b ≢ 3 → b ≢ 4 → b ≢ 5 → b ≢ 6 → b ≢ 7 → b ≢ 8 → Stops RecordTexts bytes (length bytes)
+no_tag_stops b bytes rest e n1 n2 n3 n4 n5 n6 n7 n8 =
+    let here : Stops RecordTexts (b ∷ rest) (length (b ∷ rest)) = stops_here RecordTexts (b ∷ rest) some_record (λ f y p h. let t = tag_of p.0 b y (sym p.2 ∙ h) in absurd (omega (arith, t, n1, n2, n3, n4, n5, n6, n7, n8))) in
     subst (λ (z : List ℕ). Stops RecordTexts z (length z)) (sym e) here

@@ -9,7 +9,7 @@ use Rattle.snap_base.specs.declared.ids.Bid.{Bid}
 use Rattle.snap_base.specs.declared.ids.Tid.{Tid}
 use Rattle.snap_base.specs.declared.transactions.State.{State}
 use Rattle.txn_records.specs.declared.records.Record.{Record}
-use Rattle.txn_records.specs.declared.records.Record.TheVariants.{Genesis, BatchInfo, BatchComplete, BatchCommit, ActPrepare, ActCommit}
+use Rattle.txn_records.specs.declared.records.Record.TheVariants.{Genesis, BatchInfo, BatchComplete, BatchCommit, ActPrepare, ActCommit, BatchDone, ActDone}
 use Rattle.txn_records.specs.declared.keys.Key.{Key}
 use Rattle.txn_records.specs.declared.keys.Key.TheVariants as keys
 
@@ -51,6 +51,16 @@ abbrev pub act_bytes : Tid → Bid → ℕ → List ActorId → List ℕ
 act_bytes tid m c actors =
     (6 ∷ []) ++ (to_be_bytes w64 tid.0 ++ (to_be_bytes w64 m.0 ++ (to_be_bytes w64 c ++ (to_be_bytes w16 (length actors) ++ actors_bytes actors))))
 
+abbrev pub values_bytes : List ℤ → List ℕ
+values_bytes values = flat_map field_bytes values
+
+abbrev pub done_bytes : Bid → List ℤ → List ℕ
+done_bytes bid values = (7 ∷ []) ++ (to_be_bytes w64 bid.0 ++ (to_be_bytes w16 (length values) ++ values_bytes values))
+
+abbrev pub act_done_bytes : Tid → Bid → ℕ → ℤ → List ActorId → List ℕ
+act_done_bytes tid m c value actors =
+    (8 ∷ []) ++ (to_be_bytes w64 tid.0 ++ (to_be_bytes w64 m.0 ++ (to_be_bytes w64 c ++ (field_bytes value ++ (to_be_bytes w16 (length actors) ++ actors_bytes actors)))))
+
 abbrev pub record_bytes : Record → List ℕ
 record_bytes (Genesis logs states) = genesis_bytes logs states
 record_bytes (BatchInfo bid actors tids) = info_bytes bid actors tids
@@ -58,6 +68,8 @@ record_bytes (BatchComplete bid actor state) = complete_bytes bid actor state
 record_bytes (BatchCommit bid) = commit_bytes bid
 record_bytes (ActPrepare tid actor state) = prepare_bytes tid actor state
 record_bytes (ActCommit tid m c actors) = act_bytes tid m c actors
+record_bytes (BatchDone bid values) = done_bytes bid values
+record_bytes (ActDone tid m c value actors) = act_done_bytes tid m c value actors
 
 -- ---- what has a spelling
 
@@ -117,6 +129,21 @@ pub record IsAct (tid : Tid) (m : Bid) (c : ℕ) (actors : List ActorId) : Type 
   pub few : length actors ≤ MOST_ACT_ACTORS
   pub ascend : Ascend 0 (2 ^ 16) (actor_numbers actors)
 
+pub record IsDone (bid : Bid) (values : List ℤ) : Type 0 where
+  pub bid_fits : bid.0 < 2 ^ 64
+  pub some : 1 ≤ length values
+  pub few : length values ≤ MOST_LISTED
+  pub each : AllByRecursion (FitsSigned w64) values
+
+pub record IsActDone (tid : Tid) (m : Bid) (c : ℕ) (value : ℤ) (actors : List ActorId) : Type 0 where
+  pub tid_fits : tid.0 < 2 ^ 64
+  pub m_fits : m.0 < 2 ^ 64
+  pub c_fits : c < 2 ^ 64
+  pub value_fits : FitsSigned w64 value
+  pub some : 1 ≤ length actors
+  pub few : length actors ≤ MOST_ACT_ACTORS
+  pub ascend : Ascend 0 (2 ^ 16) (actor_numbers actors)
+
 abbrev pub IsRecord : Record → Type 0
 IsRecord (Genesis logs states) = IsGenesis logs states
 IsRecord (BatchInfo bid actors tids) = IsInfo bid actors tids
@@ -124,6 +151,8 @@ IsRecord (BatchComplete bid actor state) = IsComplete bid actor state
 IsRecord (BatchCommit bid) = IsCommit bid
 IsRecord (ActPrepare tid actor state) = IsPrepare tid actor state
 IsRecord (ActCommit tid m c actors) = IsAct tid m c actors
+IsRecord (BatchDone bid values) = IsDone bid values
+IsRecord (ActDone tid m c value actors) = IsActDone tid m c value actors
 
 -- ---- what a record is about
 
@@ -134,3 +163,5 @@ key (BatchComplete bid actor state) = keys.Complete bid actor
 key (BatchCommit bid) = keys.Commit bid
 key (ActPrepare tid actor state) = keys.Prepare tid actor
 key (ActCommit tid m c actors) = keys.Act tid
+key (BatchDone bid values) = keys.Commit bid
+key (ActDone tid m c value actors) = keys.Act tid

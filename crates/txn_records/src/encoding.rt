@@ -2,7 +2,7 @@ ghost use Rattle.std.specs.Prelude.{◌≡◌, ◌<◌, ◌≤◌, ◌^◌, ◌+
 ghost use Rattle.std.specs.Int.{to_be_bytes, w16, w64};
 ghost use Rattle.std.specs.List.{flat_map};
 ghost use Rattle.txn_records.specs.declared.limits.TheConstants.{MOST_LISTED};
-ghost use Rattle.txn_records.specs.Records.{record_bytes, field_bytes, state_bytes, states_bytes, actors_bytes, tids_bytes, genesis_bytes, info_bytes, complete_bytes, commit_bytes, prepare_bytes, act_bytes, IsRecord};
+ghost use Rattle.txn_records.specs.Records.{record_bytes, field_bytes, state_bytes, states_bytes, actors_bytes, tids_bytes, genesis_bytes, info_bytes, complete_bytes, commit_bytes, prepare_bytes, act_bytes, done_bytes, act_done_bytes, IsRecord};
 
 use crate::Record;
 use snap_base::{ActorId, Bid, Memory, Sequence, State, Tid};
@@ -19,6 +19,10 @@ const BATCH_COMMIT: u8 = 4;
 const ACT_PREPARE: u8 = 5;
 
 const ACT_COMMIT: u8 = 6;
+
+const BATCH_DONE: u8 = 7;
+
+const ACT_DONE: u8 = 8;
 
 /// The one spelling of a record.
 pub fn encode(alloc: Global, r: &Record) -> Result<Vec<u8>, Memory>
@@ -38,6 +42,10 @@ pub fn encode(alloc: Global, r: &Record) -> Result<Vec<u8>, Memory>
         Record::ActPrepare { tid, actor, state } => put_prepare(&mut out, *tid, *actor, state)?,
         Record::ActCommit { tid, m, c, actors } => {
             put_act(&mut out, *tid, *m, *c, actors.as_slice())?
+        }
+        Record::BatchDone { bid, values } => put_done(&mut out, *bid, values.as_slice())?,
+        Record::ActDone { tid, m, c, value, actors } => {
+            put_act_done(&mut out, *tid, *m, *c, *value, actors.as_slice())?
         }
     }
     Ok(out)
@@ -110,6 +118,43 @@ fn put_decision(out: &mut Vec<u8>, m: Bid, c: u64, actors: &[ActorId]) -> Result
 {
     put_u64(out, m.0)?;
     put_u64(out, c)?;
+    put_count(out, actors.len())?;
+    put_actors(out, actors)
+}
+
+fn put_done(out: &mut Vec<u8>, bid: Bid, values: &[i64]) -> Result<(), Memory>
+    requires { length values.now ≤ MOST_LISTED }
+    ensures { OnOk result (out.new.items ≡ out.old.items ++ done_bytes bid values.now) }
+{
+    out.push(BATCH_DONE)?;
+    put_u64(out, bid.0)?;
+    put_count(out, values.len())?;
+    put_fields(out, values)
+}
+
+fn put_act_done(out: &mut Vec<u8>, tid: Tid, m: Bid, c: u64, value: i64, actors: &[ActorId]) -> Result<(), Memory>
+    requires { length actors.now ≤ MOST_LISTED }
+    ensures { OnOk result (out.new.items ≡ out.old.items ++ act_done_bytes tid m c value actors.now) }
+{
+    out.push(ACT_DONE)?;
+    put_u64(out, tid.0)?;
+    put_outcome(out, m, c, value, actors)
+}
+
+fn put_outcome(out: &mut Vec<u8>, m: Bid, c: u64, value: i64, actors: &[ActorId]) -> Result<(), Memory>
+    requires { length actors.now ≤ MOST_LISTED }
+    ensures { OnOk result (out.new.items ≡ out.old.items ++ (to_be_bytes w64 m.0 ++ (to_be_bytes w64 c ++ (field_bytes value ++ (to_be_bytes w16 (length actors.now) ++ actors_bytes actors.now))))) }
+{
+    put_u64(out, m.0)?;
+    put_u64(out, c)?;
+    put_field(out, value)?;
+    put_counted(out, actors)
+}
+
+fn put_counted(out: &mut Vec<u8>, actors: &[ActorId]) -> Result<(), Memory>
+    requires { length actors.now ≤ MOST_LISTED }
+    ensures { OnOk result (out.new.items ≡ out.old.items ++ (to_be_bytes w16 (length actors.now) ++ actors_bytes actors.now)) }
+{
     put_count(out, actors.len())?;
     put_actors(out, actors)
 }

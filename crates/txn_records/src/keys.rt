@@ -26,5 +26,7 @@ pub fn key_of(r: &Record) -> Key
         Record::BatchCommit { bid } => Key::Commit(*bid),
         Record::ActPrepare { tid, actor, .. } => Key::Prepare(*tid, *actor),
         Record::ActCommit { tid, .. } => Key::Act(*tid),
+        Record::BatchDone { bid, .. } => Key::Commit(*bid),
+        Record::ActDone { tid, .. } => Key::Act(*tid),
     }
 }

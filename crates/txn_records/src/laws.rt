@@ -1,3 +1,6 @@
+ghost use Rattle.std.specs.Prelude.{FitsSigned};
+ghost use Rattle.std.specs.List.{AllByRecursion};
+ghost use Rattle.std.specs.Int.{w64};
 ghost use Rattle.txn_records.specs.RecordLaws.{OneRecord, RecordsAreShort};
 ghost use Rattle.txn_records.specs.Records.{IsState};
 
@@ -19,5 +22,14 @@ pub fn states_fit(state: &State)
 {
     for field in &state.0 {
         let _field = *field;
+    }
+}
+
+/// So may every list of values.
+pub fn values_fit(values: &[i64])
+    ensures { AllByRecursion (FitsSigned w64) values.now }
+{
+    for value in values {
+        let _value = *value;
     }
 }

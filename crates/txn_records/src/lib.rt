@@ -15,6 +15,6 @@ mod records;
 pub use decoding::{DecodeNo, decode};
 pub use encoding::encode;
 pub use keys::{Key, key_of};
-pub use laws::{one_record, records_are_short, states_fit};
+pub use laws::{one_record, records_are_short, states_fit, values_fit};
 pub use limits::{LONGEST_RECORD, MOST_ACT_ACTORS, MOST_LISTED, MOST_LOGS};
 pub use records::Record;

@@ -1,9 +1,9 @@
-ghost use Rattle.std.specs.Prelude.{◌≡◌, ℕ, ◌+◌, ◌<◌, ◌≤◌, ◌^◌, List, [], ◌∷◌, ◌++◌, length, take, MatchResult};
+ghost use Rattle.std.specs.Prelude.{◌≡◌, ℕ, ◌+◌, ◌<◌, ◌≤◌, ◌^◌, List, [], ◌∷◌, ◌++◌, length, take, FitsSigned, MatchResult};
 ghost use Rattle.std.specs.Int.{to_be_bytes, w16, w64};
 ghost use Rattle.txn_records.specs.Stops.{Fails, Any, Nil, Seq};
 ghost use Rattle.txn_records.specs.Numbers.{Between};
-ghost use Rattle.txn_records.specs.Records.{IsState, IsRecord, state_bytes, states_bytes, actors_bytes, tids_bytes, record_bytes};
-ghost use Rattle.txn_records.specs.Texts.{AreStates, AreActors, AreTids, GenesisTexts, InfoTexts, CompleteTexts, CommitTexts, PrepareTexts, ActTexts, RecordTexts};
+ghost use Rattle.txn_records.specs.Records.{IsState, IsRecord, field_bytes, state_bytes, states_bytes, actors_bytes, tids_bytes, values_bytes, record_bytes};
+ghost use Rattle.txn_records.specs.Texts.{AreStates, AreActors, AreTids, AreValues, GenesisTexts, InfoTexts, CompleteTexts, CommitTexts, PrepareTexts, ActTexts, DoneTexts, ActDoneTexts, RecordTexts};
 
 use crate::numbers::{Stop, u8_between, u16_between, u64_between};
 use crate::{MOST_ACT_ACTORS, MOST_LISTED, MOST_LOGS, Record};
@@ -72,6 +72,28 @@ fn tids_of(alloc: Global, bytes: &[u8], count: usize) -> Result<(Sequence<Tid>, 
         rest = behind;
     }
     Ok((tids, rest))
+}
+
+/// The value that stands first, and what is behind it.
+fn value_of(bytes: &[u8]) -> Result<(i64, &[u8]), Stop>
+    ensures { MatchResult result (λ x. FitsSigned w64 x.0 × (bytes.now ≡ field_bytes x.0 ++ x.1.now)) (Fails (Seq (FitsSigned w64) field_bytes (λ v. Any)) bytes.now) }
+{
+    let (bits, rest) = u64_between(bytes, 0, u64::MAX)?;
+    Ok((bits.cast_signed(), rest))
+}
+
+/// So many values, and what is behind them.
+fn values_of(alloc: Global, bytes: &[u8], count: usize) -> Result<(Sequence<i64>, &[u8]), Stop>
+    ensures { MatchResult result (λ x. AreValues count x.0 × (bytes.now ≡ values_bytes x.0 ++ x.1.now)) (Fails (Seq (AreValues count) values_bytes (λ xs. Any)) bytes.now) }
+{
+    let mut values = Sequence::new(alloc);
+    let mut rest = bytes;
+    for i in 0..count {
+        let (value, behind) = value_of(rest)?;
+        values.push(value)?;
+        rest = behind;
+    }
+    Ok((values, rest))
 }
 
 /// A count from 1 to `MOST_LISTED`, and what is behind it.
@@ -172,6 +194,38 @@ fn act_of(alloc: Global, bytes: &[u8]) -> Result<Record, Stop>
     })
 }
 
+fn done_of(alloc: Global, bytes: &[u8]) -> Result<Record, Stop>
+    ensures { MatchResult result (λ r. IsRecord r × (7 ∷ bytes.now ≡ record_bytes r)) (Fails DoneTexts bytes.now) }
+{
+    let (bid, rest) = u64_between(bytes, 0, u64::MAX)?;
+    let (count, rest) = count_of(rest)?;
+    let (values, rest) = values_of(alloc, rest, count)?;
+    end_of(rest)?;
+    Ok(Record::BatchDone {
+        bid: Bid(bid),
+        values,
+    })
+}
+
+fn act_done_of(alloc: Global, bytes: &[u8]) -> Result<Record, Stop>
+    ensures { MatchResult result (λ r. IsRecord r × (8 ∷ bytes.now ≡ record_bytes r)) (Fails ActDoneTexts bytes.now) }
+{
+    let (tid, rest) = u64_between(bytes, 0, u64::MAX)?;
+    let (m, rest) = u64_between(rest, 0, u64::MAX)?;
+    let (c, rest) = u64_between(rest, 0, u64::MAX)?;
+    let (value, rest) = value_of(rest)?;
+    let (count, rest) = u16_between(rest, 1, MOST_ACT_ACTORS as u16)?;
+    let (actors, rest) = actors_of(alloc, rest, count as usize)?;
+    end_of(rest)?;
+    Ok(Record::ActDone {
+        tid: Tid(tid),
+        m: Bid(m),
+        c,
+        value,
+        actors,
+    })
+}
+
 /// The record that the bytes are.
 pub(crate) fn read(alloc: Global, bytes: &[u8]) -> Result<Record, Stop>
     ensures { MatchResult result (λ r. IsRecord r × (bytes.now ≡ record_bytes r)) (Fails RecordTexts bytes.now) }
@@ -186,6 +240,8 @@ pub(crate) fn read(alloc: Global, bytes: &[u8]) -> Result<Record, Stop>
         4 => commit_of(rest),
         5 => prepare_of(rest),
         6 => act_of(alloc, rest),
+        7 => done_of(alloc, rest),
+        8 => act_done_of(alloc, rest),
         _ => Err(Stop::Left(bytes.len())),
     }
 }

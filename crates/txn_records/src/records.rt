@@ -39,4 +39,18 @@ pub enum Record {
         c: u64,
         actors: Sequence<ActorId>,
     },
+    /// A batch is committed with the values of its transactions, by their tids. Format 2 has it in place of a
+    /// BatchCommit.
+    BatchDone {
+        bid: Bid,
+        values: Sequence<i64>,
+    },
+    /// An undeclared transaction is committed with its value. Format 2 has it in place of an ActCommit.
+    ActDone {
+        tid: Tid,
+        m: Bid,
+        c: u64,
+        value: i64,
+        actors: Sequence<ActorId>,
+    },
 }
