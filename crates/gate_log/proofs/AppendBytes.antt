@@ -19,14 +19,14 @@ log_of bytes end items log = elim (cases_lt 9 (length bytes)) [
   | inl long ↦ inr (long, (end, log))
   | inr short ↦
       let p = log.parts in
-      let same : length ((header ++ blocks p.0) ++ p.1 ∷ p.2) ≡ length bytes = sym (ap (λ (l : List ℕ). length l) p.5) in
-      inl (short, p.7 ∙ no_items header p.0 p.1 p.2 refl (omega (arith, same, short)))
+      let same : length ((header log.mark ++ blocks p.0) ++ p.1 ∷ p.2) ≡ length bytes = sym (ap (λ (l : List ℕ). length l) p.5) in
+      inl (short, p.7 ∙ no_items (header log.mark) p.0 p.1 p.2 refl (omega (arith, same, short)))
 ]
 
 -- whatever stands behind a gate that is not open, and whatever else that gate is
-pub closed_log : (groups : List (List (List ℕ))) → AllByRecursion IsGroup groups → (gate : ℕ) (rest : List ℕ) → gate ≢ 1
-    → IsLogAt ((header ++ blocks groups) ++ gate ∷ rest) (length (header ++ blocks groups)) (items_of groups)
-closed_log groups all gate rest closed = record { parts = (groups, gate, rest, all, closed, refl, refl, refl) }
+pub closed_log : (mark : ℕ) (groups : List (List (List ℕ))) → AllByRecursion IsGroup groups → (gate : ℕ) (rest : List ℕ) → gate ≢ 1
+    → IsLogAt ((header mark ++ blocks groups) ++ gate ∷ rest) (length (header mark ++ blocks groups)) (items_of groups)
+closed_log mark groups all gate rest closed = record { mark = mark; parts = (groups, gate, rest, all, closed, refl, refl, refl) }
 
 all_push : {X : Type 0} (P : X → Type 0) (xs : List X) (x : X) → AllByRecursion P xs → P x → AllByRecursion P (xs ++ x ∷ [])
 all_push P [] x all here = (here, tt)
@@ -42,21 +42,22 @@ regrouped_length head front group =
     omega (arith, length-append head front, length-append group (0 ∷ []), length-append head (front ++ ((1 ∷ group) ++ [])), length-append front ((1 ∷ group) ++ []), length-append (1 ∷ group) [])
 
 -- behind an open gate a group and a closed gate
-pub grown_log : (groups : List (List (List ℕ))) → AllByRecursion IsGroup groups → (added : List (List ℕ)) → IsGroup added → (rest : List ℕ)
-    → IsLogAt ((header ++ blocks groups) ++ 1 ∷ ((group_bytes added ++ 0 ∷ []) ++ rest))
-    (length (header ++ blocks groups) + length (group_bytes added ++ 0 ∷ [])) (items_of groups ++ added)
-grown_log groups all added group rest =
+pub grown_log : (mark : ℕ) (groups : List (List (List ℕ))) → AllByRecursion IsGroup groups → (added : List (List ℕ)) → IsGroup added → (rest : List ℕ)
+    → IsLogAt ((header mark ++ blocks groups) ++ 1 ∷ ((group_bytes added ++ 0 ∷ []) ++ rest))
+    (length (header mark ++ blocks groups) + length (group_bytes added ++ 0 ∷ [])) (items_of groups ++ added)
+grown_log mark groups all added group rest =
     let more : blocks groups ++ ((1 ∷ group_bytes added) ++ []) ≡ blocks (groups ++ added ∷ []) =
     sym (flat_map-append (λ (g : List (List ℕ)). 1 ∷ group_bytes g) groups (added ∷ [])) in
     record {
+      mark = mark;
       parts = (
         groups ++ added ∷ [],
         0,
         rest,
         all_push IsGroup groups added all group,
         (λ is. omega arith),
-        regrouped header (blocks groups) (group_bytes added) rest ∙ ap (λ (l : List ℕ). (header ++ l) ++ 0 ∷ rest) more,
-        regrouped_length header (blocks groups) (group_bytes added) ∙ ap (λ (l : List ℕ). length (header ++ l)) more,
+        regrouped (header mark) (blocks groups) (group_bytes added) rest ∙ ap (λ (l : List ℕ). (header mark ++ l) ++ 0 ∷ rest) more,
+        regrouped_length (header mark) (blocks groups) (group_bytes added) ∙ ap (λ (l : List ℕ). length (header mark ++ l)) more,
         ap (λ (l : List (List ℕ)). items_of groups ++ l) (sym (append-nil added)) ∙ sym (flat_map-append (λ (g : List (List ℕ)). g) groups (added ∷ [])),
       );
     }

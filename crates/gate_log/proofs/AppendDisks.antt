@@ -39,7 +39,7 @@ module _ (front : List ℕ) (gate end : ℕ) (at : length front ≡ end) where
       ap (λ (l : List ℕ). l ++ after) head ∙ append_assoc front (gate ∷ []) after
 
   -- a write of one byte at the gate changes the gate
-  written_gate : (new : ℕ) (tail : List ℕ) → written (front ++ gate ∷ tail) end (new ∷ []) ≡ front ++ new ∷ tail
+  pub written_gate : (new : ℕ) (tail : List ℕ) → written (front ++ gate ∷ tail) end (new ∷ []) ≡ front ++ new ∷ tail
   written_gate new tail =
       let head : take end (front ++ gate ∷ tail) ≡ front = take_at front (gate ∷ tail) end at in
       let after : drop (end + 1) (front ++ gate ∷ tail) ≡ tail =
@@ -61,7 +61,7 @@ module _ (front : List ℕ) (gate end : ℕ) (at : length front ≡ end) where
       ∙ append_assoc front (gate ∷ []) (drop (end + 1) image)
 
   -- while the gate is written, all but the gate stands
-  opening_image : (tail now image : List ℕ) → length now ≡ length (front ++ gate ∷ tail)
+  pub opening_image : (tail now image : List ℕ) → length now ≡ length (front ++ gate ∷ tail)
       → IsImage (record { synced = front ++ gate ∷ tail; now = now; loose = record { 0 = end; 1 = 1 } ∷ [] }) image
       → image ≡ front ++ get_or image end 0 ∷ tail
   opening_image tail now image long left =

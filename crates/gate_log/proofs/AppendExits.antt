@@ -11,21 +11,22 @@ use Rattle.snap_outside.specs.declared.devices.DevOp.TheVariants.{Write, Sync}
 use Rattle.snap_outside.specs.Disk.{History, Disk, settled, disk, disk_after, content, EachMoment, Adds, MayAdd, AddsAll, with_ops, IsImage, AddsUpToFault}
 use Rattle.snap_outside.specs.Moments.{disk_join, adds_nothing}
 use Rattle.gate_log.specs.Appends.{group_block, block_ops, append_ops, end_behind}
-use Rattle.gate_log.specs.Bytes.{items_bytes, group_bytes, IsLog, IsLogAt}
-use Rattle.gate_log.specs.Device.{DeviceLog, IsReady, MayAppend, Appended, Crashes}
+use Rattle.gate_log.specs.Bytes.{items_bytes, group_bytes, marked_format, IsLog, IsLogAt}
+use Rattle.gate_log.specs.Device.{DeviceLog, HasFormat, IsReady, MayAppend, Appended, Crashes}
 use Rattle.gate_log.proofs.AppendBytes.{log_of}
 use Rattle.gate_log.proofs.AppendDisks.{settled_image, moments_front}
-use Rattle.gate_log.proofs.AppendLogs.{IsEither, log_moments, log_grown}
+use Rattle.gate_log.proofs.AppendLogs.{IsEither, log_moments, log_grown, mark_stays}
+use Rattle.gate_log.proofs.Upgrades.{second}
 
 -- ---- histories
 
-adds_more : (t0 t1 t2 : Option History) (ops : List DevOp) (op : DevOp) → AddsAll t0 t1 ops → Adds t1 t2 op → AddsAll t0 t2 (ops ++ op ∷ [])
+pub adds_more : (t0 t1 t2 : Option History) (ops : List DevOp) (op : DevOp) → AddsAll t0 t1 ops → Adds t1 t2 op → AddsAll t0 t2 (ops ++ op ∷ [])
 adds_more None t1 t2 ops op front last = subst (λ (t : Option History). Adds t t2 op) front last
 adds_more (Some h) t1 t2 ops op front last =
     subst (λ (t : Option History). Adds t t2 op) front last
     ∙ ap (λ (l : List DevOp). Some (record { first = h.first; ops = l })) (append_assoc h.ops ops (op ∷ []))
 
-may_add_more : (t0 t1 t2 : Option History) (ops : List DevOp) (op : DevOp) → AddsAll t0 t1 ops → MayAdd t1 t2 op → AddsAll t0 t2 ops ⊎ AddsAll t0 t2 (ops ++ op ∷ [])
+pub may_add_more : (t0 t1 t2 : Option History) (ops : List DevOp) (op : DevOp) → AddsAll t0 t1 ops → MayAdd t1 t2 op → AddsAll t0 t2 ops ⊎ AddsAll t0 t2 (ops ++ op ∷ [])
 may_add_more None t1 t2 ops op front last = inl (subst (λ (t : Option History). MayAdd t t2 op) front last)
 may_add_more (Some h) t1 t2 ops op front last =
     elim (subst (λ (t : Option History). MayAdd t t2 op) front last) [
@@ -33,11 +34,11 @@ may_add_more (Some h) t1 t2 ops op front last =
       | inr more ↦ inr (more ∙ ap (λ (l : List DevOp). Some (record { first = h.first; ops = l })) (append_assoc h.ops ops (op ∷ [])))
     ]
 
-adds_same : (t0 t1 t2 : Option History) (ops : List DevOp) → AddsAll t0 t1 ops → t2 ≡ t1 → AddsAll t0 t2 ops
+pub adds_same : (t0 t1 t2 : Option History) (ops : List DevOp) → AddsAll t0 t1 ops → t2 ≡ t1 → AddsAll t0 t2 ops
 adds_same t0 t1 t2 ops front same = subst (λ (t : Option History). AddsAll t0 t ops) (sym same) front
 
 -- a front is made, and at least one operation is not
-up_to : (old new : Option History) (made : List DevOp) (next : DevOp) (later : List DevOp) → AddsAll old new made → AddsUpToFault old new (made ++ next ∷ later)
+pub up_to : (old new : Option History) (made : List DevOp) (next : DevOp) (later : List DevOp) → AddsAll old new made → AddsUpToFault old new (made ++ next ∷ later)
 up_to old new made next later adds = (made, record { left = next ∷ later; some = λ none. cc; whole = refl }, adds)
 
 -- ---- the exits of the four operations
@@ -183,17 +184,36 @@ appended_at old told new old_end end n added piece same_told same_end same_piece
     ap (λ (e : ℕ). e + length (group_block added)) (sym same_end) ∙ ap (λ (m : ℕ). end + m) (sym (ap (λ (l : List ℕ). length l) same_piece) ∙ size) in
     subst (λ (e : ℕ). Appended old new old_end e added) ends (appended old new old_end added may all)
 
+-- the mark stays
+keeps_mark : (h : History) (end : ℕ) (items added : List (List ℕ)) → DeviceLog h end items
+    → marked_format (content (record { first = h.first; ops = h.ops ++ block_ops end (group_block added) })) ≡ marked_format (content h)
+keeps_mark h end items added log =
+    let ops = block_ops end (group_block added) in
+    let after : History = record { first = h.first; ops = h.ops ++ ops } in
+    let there : disk after ≡ disk_after ops (settled (content h)) = disk_join h.ops ops (settled h.first) ∙ ap (λ (d : Disk). disk_after ops d) log.quiet in
+    ap (λ (d : Disk). marked_format d.now) there ∙ mark_stays (content h) end items added log.log
+
+format_again : (old new : Option History) (end format : ℕ) (added : List (List ℕ)) → AddsAll old new (block_ops end (group_block added))
+    → IfSome old (λ h. (items : List (List ℕ)) × DeviceLog h end items) → HasFormat old format → format ≡ 2 → HasFormat new format
+format_again None new end format added adds log has two = subst (λ (t : Option History). HasFormat t format) (sym adds) tt
+format_again (Some h) new end format added adds log has two =
+    let after : History = record { first = h.first; ops = h.ops ++ block_ops end (group_block added) } in
+    let kept : format ≡ marked_format (content after) = has.0 ∙ sym (keeps_mark h end log.0 added log.1) in
+    subst (λ (t : Option History). HasFormat t format) (sym adds) (kept, two ∙ sym (second (content after) (sym kept ∙ two)))
+
 -- and the log is ready again
-pub ready_at : (told new : Option History) (length_before length_after : Option ℕ) (may_end end n : ℕ) (added : List (List ℕ)) (piece : List ℕ)
-    → IsReady told length_before end → end ≡ may_end → piece ≡ group_block added → length piece ≡ n → MayAppend may_end added
+pub ready_at : (told new : Option History) (length_before length_after : Option ℕ) (may_end end n format : ℕ) (added : List (List ℕ)) (piece : List ℕ)
+    → IsReady told length_before end format → format ≡ 2 → end ≡ may_end → piece ≡ group_block added → length piece ≡ n → MayAppend may_end added
     → AddsAll told new (block_ops end piece) → IsSome length_after → ForSome length_after (λ len. end + length piece < len)
-    → IsReady new length_after (end + n)
-ready_at told new length_before length_after may_end end n added piece ready same_end same_piece size may adds known lies =
+    → IsReady new length_after (end + n) format
+ready_at told new length_before length_after may_end end n format added piece ready two same_end same_piece size may adds known lies =
     let may_here = subst (λ (e : ℕ). MayAppend e added) (sym same_end) may in
     let all = subst (λ (l : List ℕ). AddsAll told new (block_ops end l)) same_piece adds in
     let ends : end + length (group_block added) ≡ end + n = ap (λ (m : ℕ). end + m) (sym (ap (λ (l : List ℕ). length l) same_piece) ∙ size) in
     record {
       log = subst (λ (e : ℕ). IfSome new (λ h. (items : List (List ℕ)) × DeviceLog h e items)) ends (log_again told new end added may_here all ready.log);
+      formatted = format_again told new end format added all ready.log ready.formatted two;
+      begun = omega (arith, ready.begun);
       known = known;
       within = λ len is. subst (λ (m : ℕ). end + m < len) size (lies len is);
     }

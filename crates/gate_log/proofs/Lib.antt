@@ -11,3 +11,5 @@ pub mod ReadingCounted
 pub mod ReadingGroups
 pub mod ReadingHeader
 pub mod ReadingItems
+pub mod UpgradeExits
+pub mod Upgrades

@@ -1,6 +1,6 @@
 -- Bytes are a log in one way at most.
-use Rattle.std.proofs.Common.{◌≡◌, ◌≢◌, ℕ, ◌<◌, ◌^◌, inl, inr, List, [], ◌∷◌, ◌++◌, length, take, drop, refl, sym, ◌∙◌, ap, arith, append_assoc}
-use Rattle.std.proofs.lemmas.List.{take_at, drop_at, append_cancel_left}
+use Rattle.std.proofs.Common.{◌≡◌, ◌≢◌, ℕ, ◌<◌, ◌^◌, inl, inr, List, [], ◌∷◌, ◌++◌, length, get_or, take, drop, refl, sym, ◌∙◌, ap, arith, append_assoc}
+use Rattle.std.proofs.lemmas.List.{take_at, drop_at}
 use Rattle.std.proofs.lemmas.Nat.{from_be_bytes-to_be_bytes_2, from_be_bytes-to_be_bytes_4}
 use Rattle.std.specs.Int.{to_be_bytes, from_be_bytes, w16, w32}
 use Rattle.std.specs.List.{AllByRecursion}
@@ -54,15 +54,22 @@ one_groups (k ∷ gs) (l ∷ hs) g h xs ys gs_are hs_are g_closed h_closed same 
     let rest = one_groups gs hs g h xs ys gs_are.1 hs_are.1 g_closed h_closed first.1 in
     ap (λ (u : List (List ℕ)). u ∷ gs) first.0 ∙ ap (λ (us : List (List (List ℕ))). l ∷ us) rest
 
+-- two logs in the same bytes have one mark
+pub same_mark : (m n : ℕ) (xs ys bytes : List ℕ) → bytes ≡ header m ++ xs → bytes ≡ header n ++ ys → (m ≡ n) × (xs ≡ ys)
+same_mark m n xs ys bytes e f =
+    let same : header m ++ xs ≡ header n ++ ys = sym e ∙ f in
+    (ap (λ (l : List ℕ). get_or l 7 0) same, ap (λ (l : List ℕ). drop 8 l) same)
+
 pub reading : (bytes : List ℕ) (e f : ℕ) (xs ys : List (List ℕ)) → IsLogAt bytes e xs → IsLogAt bytes f ys → (e ≡ f) × (xs ≡ ys)
 reading bytes e f xs ys one other =
     let p = one.parts in
     let q = other.parts in
     let same : blocks p.0 ++ p.1 ∷ p.2 ≡ blocks q.0 ++ q.1 ∷ q.2 =
-    append_cancel_left header (blocks p.0 ++ p.1 ∷ p.2) (blocks q.0 ++ q.1 ∷ q.2)
-    (sym (append_assoc header (blocks p.0) (p.1 ∷ p.2)) ∙ sym p.5 ∙ q.5 ∙ append_assoc header (blocks q.0) (q.1 ∷ q.2)) in
-    let groups : p.0 ≡ q.0 = one_groups p.0 q.0 p.1 q.1 p.2 q.2 p.3 q.3 p.4 q.4 same in (
-      p.6 ∙ ap (λ (gs : List (List (List ℕ))). length (header ++ blocks gs)) groups ∙ sym q.6,
+    (same_mark one.mark other.mark (blocks p.0 ++ p.1 ∷ p.2) (blocks q.0 ++ q.1 ∷ q.2) bytes
+    (p.5 ∙ append_assoc (header one.mark) (blocks p.0) (p.1 ∷ p.2)) (q.5 ∙ append_assoc (header other.mark) (blocks q.0) (q.1 ∷ q.2))).1 in
+    let groups : p.0 ≡ q.0 = one_groups p.0 q.0 p.1 q.1 p.2 q.2 p.3 q.3 p.4 q.4 same in
+    let sized : (gs : List (List (List ℕ))) → length (header one.mark ++ blocks gs) ≡ length (header other.mark ++ blocks gs) = λ gs. refl in (
+      p.6 ∙ ap (λ (gs : List (List (List ℕ))). length (header one.mark ++ blocks gs)) groups ∙ sized q.0 ∙ sym q.6,
       p.7 ∙ ap (λ (gs : List (List (List ℕ))). items_of gs) groups ∙ sym q.7,
     )
 

@@ -1,14 +1,16 @@
 -- Groups are read one after the other, and in one way alone.
-use Rattle.std.proofs.Common.{◌≡◌, ◌≢◌, ℕ, ◌+◌, ◌-◌, ◌^◌, ◌<◌, ◌≤◌, List, [], ◌∷◌, ◌++◌, length, get_or, take, drop, refl, sym, ap, ◌∙◌, append_assoc, arith}
+use Rattle.std.proofs.Common.{◌≡◌, ◌≢◌, ℕ, ◌+◌, ◌-◌, ◌^◌, ◌<◌, ◌≤◌, List, [], ◌∷◌, ◌++◌, length, get_or, take, drop, refl, sym, ap, subst, ◌∙◌, append_assoc, arith}
 use Rattle.std.specs.List.{AllByRecursion}
 use Rattle.std.specs.Int.{w32, to_be_bytes}
-use Rattle.std.proofs.lemmas.List.{length-append, append-nil, append_cancel_left, take_all}
+use Rattle.std.proofs.Math.Seq.{drop-cons}
+use Rattle.std.proofs.lemmas.List.{length-append, append-nil, take_all, take-append-drop, length-drop}
 use Rattle.std.proofs.lemmas.List.Concat.{flat_map-append}
 use Rattle.gate_log.specs.declared.logs.LogItem.{LogItem}
-use Rattle.gate_log.specs.Bytes.{header, IsGroup, items_bytes, group_bytes, blocks, placed_items, placed, IsLogAt, IsDamagedAt}
+use Rattle.gate_log.specs.Bytes.{magic, header, IsGroup, items_bytes, group_bytes, blocks, placed_items, placed, IsLogAt, IsDamagedAt}
 use Rattle.gate_log.specs.Reading.{BeginsGroup, GroupsSoFar}
 use Rattle.gate_log.proofs.ReadingCounted.{wide32, counted_same}
 use Rattle.gate_log.proofs.ReadingItems.{items_same, AllByRecursion-push}
+use Rattle.gate_log.proofs.OneReading.{same_mark}
 
 -- ---- one group
 
@@ -52,19 +54,33 @@ pub behind_gate : (rest : List ℕ) (n : ℕ) → 0 < length rest → get_or res
 behind_gate [] n some gate e = absurd (omega arith)
 behind_gate (x ∷ xs) n some gate e = ap (λ (y : ℕ). y ∷ xs) gate ∙ ap (λ (ys : List ℕ). 1 ∷ ys) (sym (take_all n xs (omega arith)))
 
+-- behind the header, before any group
+pub groups_begin : (bytes : List ℕ) (found : List LogItem) → 8 < length bytes → take 7 bytes ≡ magic → found ≡ []
+    → GroupsSoFar bytes 8 (take (length bytes - 8) (drop 8 bytes)) found × (8 + length (take (length bytes - 8) (drop 8 bytes)) ≡ length bytes)
+groups_begin bytes found long begins none =
+    let rest : List ℕ = drop 8 bytes in
+    let few : length rest ≡ length bytes - 8 = length-drop 8 bytes in
+    let all : take (length bytes - 8) rest ≡ rest = take_all (length bytes - 8) rest (omega (arith, few)) in
+    let eighth : drop 7 bytes ≡ get_or bytes 7 0 ∷ rest = drop-cons bytes 7 0 (omega (arith, long)) in
+    let parted : bytes ≡ header (get_or bytes 7 0) ++ rest =
+    sym (take-append-drop 7 bytes) ∙ ap (λ (l : List ℕ). l ++ drop 7 bytes) begins ∙ ap (λ (l : List ℕ). magic ++ l) eighth ∙ sym (append_assoc magic (get_or bytes 7 0 ∷ []) rest) in
+    subst (λ (l : List ℕ). GroupsSoFar bytes 8 l found × (8 + length l ≡ length bytes)) (sym all)
+    (record { some = omega (arith, few, long); mark = get_or bytes 7 0; parts = ([], tt, parted, refl, none) }, omega (arith, few, long))
+
 pub groups_more : (bytes : List ℕ) (place : ℕ) (rest : List ℕ) (found : List LogItem) (tail behind : List ℕ) (newer : List LogItem)
     → GroupsSoFar bytes place rest found → rest ≡ 1 ∷ tail → BeginsGroup place tail behind found newer
     → GroupsSoFar bytes (place + (length rest - length behind)) behind newer
 groups_more bytes place rest found tail behind newer so_far gate begins =
     let s = so_far.parts in
     let b = begins.parts in
-    let g = grown header bytes rest tail behind s.0 b.0 s.2 gate b.2 in
+    let g = grown (header so_far.mark) bytes rest tail behind s.0 b.0 s.2 gate b.2 in
     let items : newer ≡ placed 8 (s.0 ++ b.0 ∷ []) =
     b.3 ∙ ap (λ (xs : List LogItem). xs ++ placed_items (place + 5) b.0) s.4
-    ∙ ap (λ (n : ℕ). placed 8 s.0 ++ placed_items (n + 5) b.0) (s.3 ∙ length-append header (blocks s.0))
+    ∙ ap (λ (n : ℕ). placed 8 s.0 ++ placed_items (n + 5) b.0) (s.3 ∙ length-append (header so_far.mark) (blocks s.0))
     ∙ sym (placed-push 8 s.0 b.0) in
     record {
       some = begins.some;
+      mark = so_far.mark;
       parts = (s.0 ++ b.0 ∷ [], AllByRecursion-push IsGroup s.0 b.0 s.1 b.1, g.0, omega (arith, g.1, s.3, ap length gate, ap length b.2, length-append (group_bytes b.0) behind), items);
     }
 
@@ -112,19 +128,20 @@ damage_once (g ∷ gs) (o ∷ os) rest more p q none nor e =
     let s = group_same g o (blocks gs ++ 1 ∷ rest) (blocks os ++ 1 ∷ more) p.0 q.0 (sym (append_assoc (group_bytes g) (blocks gs) (1 ∷ rest)) ∙ ap (drop 1) e ∙ append_assoc (group_bytes o) (blocks os) (1 ∷ more)) in
     ap (λ (x : List (List ℕ)). x ∷ gs) s.0 ∙ ap (λ (xs : List (List (List ℕ))). o ∷ xs) (damage_once gs os rest more p.1 q.1 none nor s.1)
 
--- the same behind a common front
-past_front : (front : List ℕ) (a b x y : List ℕ) (bytes : List ℕ) → bytes ≡ (front ++ a) ++ x → bytes ≡ (front ++ b) ++ y → a ++ x ≡ b ++ y
-past_front front a b x y bytes e f = append_cancel_left front (a ++ x) (b ++ y) (sym (append_assoc front a x) ∙ sym e ∙ f ∙ append_assoc front b y)
+-- the same behind two headers
+past_header : (m n : ℕ) (a b x y : List ℕ) (bytes : List ℕ) → bytes ≡ (header m ++ a) ++ x → bytes ≡ (header n ++ b) ++ y → a ++ x ≡ b ++ y
+past_header m n a b x y bytes e f = (same_mark m n (a ++ x) (b ++ y) bytes (e ∙ append_assoc (header m) a x) (f ∙ append_assoc (header n) b y)).1
 
 pub damaged_or_log : (bytes : List ℕ) (offset end : ℕ) (items : List (List ℕ)) → IsDamagedAt bytes offset → IsLogAt bytes end items → ⊥
 damaged_or_log bytes offset end items d l =
     let a = d.parts in
     let b = l.parts in
-    damage_place a.0 b.0 a.1 b.2 b.1 a.2 b.3 a.5 (past_front header (blocks a.0) (blocks b.0) (1 ∷ a.1) (b.1 ∷ b.2) bytes a.3 b.5) b.4
+    damage_place a.0 b.0 a.1 b.2 b.1 a.2 b.3 a.5 (past_header d.mark l.mark (blocks a.0) (blocks b.0) (1 ∷ a.1) (b.1 ∷ b.2) bytes a.3 b.5) b.4
 
 pub damaged_once : (bytes : List ℕ) (offset other : ℕ) → IsDamagedAt bytes offset → IsDamagedAt bytes other → offset ≡ other
 damaged_once bytes offset other d f =
     let a = d.parts in
     let b = f.parts in
-    let same = damage_once a.0 b.0 a.1 b.1 a.2 b.2 a.5 b.5 (past_front header (blocks a.0) (blocks b.0) (1 ∷ a.1) (1 ∷ b.1) bytes a.3 b.3) in
-    a.4 ∙ ap (λ (gs : List (List (List ℕ))). length (header ++ blocks gs)) same ∙ sym b.4
+    let same = damage_once a.0 b.0 a.1 b.1 a.2 b.2 a.5 b.5 (past_header d.mark f.mark (blocks a.0) (blocks b.0) (1 ∷ a.1) (1 ∷ b.1) bytes a.3 b.3) in
+    let sized : (gs : List (List (List ℕ))) → length (header d.mark ++ blocks gs) ≡ length (header f.mark ++ blocks gs) = λ gs. refl in
+    a.4 ∙ ap (λ (gs : List (List (List ℕ))). length (header d.mark ++ blocks gs)) same ∙ sized b.0 ∙ sym b.4

@@ -3,7 +3,7 @@ use Rattle.std.specs.Prelude.{◌≡◌, ℕ, ◌+◌, List, [], ◌∷◌, ◌+
 use Rattle.snap_outside.specs.declared.devices.DevOp.{DevOp}
 use Rattle.snap_outside.specs.declared.devices.DevOp.TheVariants.{Write, Sync}
 use Rattle.snap_outside.specs.Disk.{History, AddsUpToFault}
-use Rattle.gate_log.specs.Bytes.{items_bytes, group_bytes}
+use Rattle.gate_log.specs.Bytes.{MARK_2, items_bytes, group_bytes}
 use Rattle.gate_log.specs.declared.logs.AppendNo.{AppendNo}
 use Rattle.gate_log.specs.declared.logs.AppendNo.TheVariants.{Device, Shut, Memory}
 
@@ -25,7 +25,11 @@ abbrev pub end_behind : ℕ → List (List ℕ) → ℕ
 end_behind end [] = end
 end_behind end (item ∷ items) = end + 5 + length (items_bytes (item ∷ items))
 
--- What an append of these operations that is refused did to the device.
+-- the operations of an upgrade: the mark is written, and made durable
+abbrev pub upgrade_ops : List DevOp
+upgrade_ops = Write 7 (MARK_2 ∷ []) ∷ Sync ∷ []
+
+-- What an append, or an upgrade, of these operations that is refused did to the device.
 abbrev pub AddsRefused : Option History → Option History → List DevOp → AppendNo → Type 0
 AddsRefused old new ops Device = AddsUpToFault old new ops
 AddsRefused old new ops Shut = new ≡ old

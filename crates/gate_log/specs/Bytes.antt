@@ -1,12 +1,40 @@
--- What a log is, as bytes: a header, groups of items behind open gates, and the first gate that is not open.
-use Rattle.std.specs.Prelude.{◌≡◌, ◌≢◌, ℕ, ◌+◌, ◌<◌, ◌≤◌, ◌^◌, ◌⊎◌, List, [], ◌∷◌, ◌++◌, length, take, slice_index, codes}
+-- What a log is, as bytes: a header, groups of items behind open gates, and the first gate that is not open; and its format.
+use Rattle.std.specs.Prelude.{◌≡◌, ◌≢◌, ℕ, ◌+◌, ◌==◌, ◌<◌, ◌≤◌, nat_le, if◌then◌else◌, ◌^◌, ◌⊎◌, List, [], ◌∷◌, ◌++◌, length, take, slice_index, codes}
 use Rattle.std.specs.List.{AllByRecursion, flat_map}
 use Rattle.gate_log.specs.declared.logs.LogItem.{LogItem}
 use Rattle.std.specs.Int.{to_be_bytes, w16, w32}
 use Rattle.gate_log.specs.declared.limits.TheConstants.{LONGEST_ITEM, NEW_LOG_SIZE}
 
-abbrev pub header : List ℕ
-header = codes "SNAPLOG1"
+-- each log begins with these bytes
+abbrev pub magic : List ℕ
+magic = codes "SNAPLOG"
+
+-- and with its mark
+abbrev pub header : ℕ → List ℕ
+header mark = magic ++ mark ∷ []
+
+-- ---- formats
+
+-- the marks of logs of format 1, and of those that are written in format 2
+abbrev pub MARK_1 : ℕ
+MARK_1 = 49
+
+abbrev pub MARK_2 : ℕ
+MARK_2 = 50
+
+-- every other mark is one of format 2
+abbrev pub format_of : ℕ → ℕ
+format_of mark = if mark == MARK_1 then 1 else 2
+
+-- the format that the mark tells
+abbrev pub marked_format : List ℕ → ℕ
+marked_format bytes = format_of (slice_index bytes 7)
+
+-- the format of bytes that are a log; where they are too few to hold an item it is format 2
+abbrev pub format_in : List ℕ → ℕ
+format_in bytes = if nat_le (length bytes) NEW_LOG_SIZE then 2 else marked_format bytes
+
+-- ---- items
 
 -- an item is its length in two bytes, and its bytes
 abbrev pub item_bytes : List ℕ → List ℕ
@@ -38,30 +66,36 @@ pub record IsGroup (group : List (List ℕ)) : Type 0 where
 -- The bytes are a log whose first gate that is not open stands at `end`, and whose groups hold these items.
 -- What lies behind that gate is no part of the log.
 pub record IsLogAt (bytes : List ℕ) (end : ℕ) (items : List (List ℕ)) : Type 0 where
+  pub mark : ℕ
   pub parts : (groups : List (List (List ℕ))) × (gate : ℕ) × (rest : List ℕ)
       × AllByRecursion IsGroup groups × (gate ≢ 1)
-      × (bytes ≡ (header ++ blocks groups) ++ gate ∷ rest)
-      × (end ≡ length (header ++ blocks groups))
+      × (bytes ≡ (header mark ++ blocks groups) ++ gate ∷ rest)
+      × (end ≡ length (header mark ++ blocks groups))
       × (items ≡ items_of groups)
 
 -- a file that is no longer than a new log holds no block, and stands for no item
 abbrev pub IsLog : List ℕ → List (List ℕ) → Type 0
 IsLog bytes items = ((length bytes ≤ NEW_LOG_SIZE) × (items ≡ [])) ⊎ ((NEW_LOG_SIZE < length bytes) × ((end : ℕ) × IsLogAt bytes end items))
 
+-- the bytes are a log of this format with these items
+abbrev pub IsLogOf : List ℕ → ℕ → List (List ℕ) → Type 0
+IsLogOf bytes format items = IsLog bytes items × (format ≡ format_in bytes)
+
 -- ---- what is no log
 
--- the first byte that differs from the header
+-- the first byte that differs from those with which each log begins
 pub record DiffersAt (bytes : List ℕ) (offset : ℕ) : Type 0 where
-  pub within : offset < 8
-  pub same : take offset bytes ≡ take offset header
-  pub differs : slice_index bytes offset ≢ slice_index header offset
+  pub within : offset < 7
+  pub same : take offset bytes ≡ take offset magic
+  pub differs : slice_index bytes offset ≢ slice_index magic offset
 
 -- behind the open gate at the offset there is no whole group with a gate behind it
 pub record IsDamagedAt (bytes : List ℕ) (offset : ℕ) : Type 0 where
+  pub mark : ℕ
   pub parts : (groups : List (List (List ℕ))) × (rest : List ℕ)
       × AllByRecursion IsGroup groups
-      × (bytes ≡ (header ++ blocks groups) ++ 1 ∷ rest)
-      × (offset ≡ length (header ++ blocks groups))
+      × (bytes ≡ (header mark ++ blocks groups) ++ 1 ∷ rest)
+      × (offset ≡ length (header mark ++ blocks groups))
       × ((group : List (List ℕ)) (gate : ℕ) (more : List ℕ) → IsGroup group → rest ≢ group_bytes group ++ gate ∷ more)
 
 -- ---- where the items stand
@@ -78,8 +112,9 @@ placed offset (group ∷ groups) = placed_items (offset + 5) group ++ placed (of
 
 -- the bytes are a log at `end` with these items at their places
 pub record IsPlacedLogAt (bytes : List ℕ) (end : ℕ) (found : List LogItem) : Type 0 where
+  pub mark : ℕ
   pub parts : (groups : List (List (List ℕ))) × (gate : ℕ) × (rest : List ℕ)
       × AllByRecursion IsGroup groups × (gate ≢ 1)
-      × (bytes ≡ (header ++ blocks groups) ++ gate ∷ rest)
-      × (end ≡ length (header ++ blocks groups))
+      × (bytes ≡ (header mark ++ blocks groups) ++ gate ∷ rest)
+      × (end ≡ length (header mark ++ blocks groups))
       × (found ≡ placed 8 groups)

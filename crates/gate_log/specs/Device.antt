@@ -5,7 +5,7 @@ use Rattle.std.specs.List.{AllByRecursion}
 use Rattle.snap_outside.specs.declared.devices.DevOp.{DevOp}
 use Rattle.snap_outside.specs.Disk.{History, disk, content, settled, EachMoment, AddsAll}
 use Rattle.gate_log.specs.declared.limits.TheConstants.{LARGEST_GROUP}
-use Rattle.gate_log.specs.Bytes.{IsItem, IsLog, IsLogAt, items_bytes}
+use Rattle.gate_log.specs.Bytes.{IsItem, IsLog, IsLogAt, marked_format, format_in, items_bytes}
 
 -- The device holds a log of these items whose closed gate stands at `end`, and nothing of it is loose.
 pub record DeviceLog (h : History) (end : ℕ) (items : List (List ℕ)) : Type 0 where
@@ -29,9 +29,26 @@ Crashes old new end added =
     IfSome old (λ h. (ops : List DevOp) × AddsAll old new ops
     × ((items : List (List ℕ)) → DeviceLog h end items → EachMoment (disk h) ops (λ image. IsLog image items ⊎ IsLog image (items ++ added))))
 
--- Where a log is not shut: if the device tells its history, it holds a log at `end`; its length is known, and the
--- closed gate lies in the device.
-pub record IsReady (told : Option History) (told_length : Option ℕ) (end : ℕ) : Type 0 where
+-- The format is that of what the device holds, and that which its mark tells. A device of nine bytes with the mark of format 1
+-- stands for format 2, but is made anew before anything is appended.
+abbrev pub HasFormat : Option History → ℕ → Type 0
+HasFormat told format = IfSome told (λ h. (format ≡ marked_format (content h)) × (format ≡ format_in (content h)))
+
+-- Whatever a crash leaves at any moment of an upgrade is the log from before it, in one of the two formats.
+abbrev pub UpgradesSafely : Option History → Option History → ℕ → Type 0
+UpgradesSafely old new end =
+    IfSome old (λ h. (ops : List DevOp) × AddsAll old new ops
+    × ((items : List (List ℕ)) → DeviceLog h end items → EachMoment (disk h) ops (λ image. IsLog image items)))
+
+-- The device held a log; now it holds the same in format 2.
+abbrev pub Upgraded : Option History → Option History → ℕ → Type 0
+Upgraded old new end = IfSome old (λ h. IfSome new (λ g. (items : List (List ℕ)) → DeviceLog h end items → DeviceLog g end items)) × HasFormat new 2
+
+-- Where a log is not shut: if the device tells its history, it holds a log at `end` of this format; its length is known, and
+-- the closed gate lies in the device.
+pub record IsReady (told : Option History) (told_length : Option ℕ) (end format : ℕ) : Type 0 where
   pub log : IfSome told (λ h. (items : List (List ℕ)) × DeviceLog h end items)
+  pub formatted : HasFormat told format
+  pub begun : 8 ≤ end
   pub known : IsSome told_length
   pub within : ForSome told_length (λ len. end < len)

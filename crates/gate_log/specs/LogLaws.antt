@@ -4,8 +4,8 @@ use Rattle.std.specs.Prelude.{◌≡◌, ℕ, ◌⊎◌, List, ◌++◌, Option,
 use Rattle.snap_outside.specs.Disk.{History, disk, content, settled, with_ops, AddsAll, AddsUpToFault, EachMoment}
 use Rattle.gate_log.specs.declared.logs.LogItem.{LogItem}
 use Rattle.gate_log.specs.declared.opens.OpenNo.{OpenNo}
-use Rattle.gate_log.specs.Appends.{append_ops, end_behind}
-use Rattle.gate_log.specs.Bytes.{IsLog, IsLogAt, IsPlacedLogAt, DiffersAt, IsDamagedAt}
+use Rattle.gate_log.specs.Appends.{append_ops, end_behind, upgrade_ops}
+use Rattle.gate_log.specs.Bytes.{IsLog, IsLogAt, IsPlacedLogAt, DiffersAt, IsDamagedAt, marked_format, format_in}
 use Rattle.gate_log.specs.Device.{DeviceLog, MayAppend}
 use Rattle.gate_log.specs.Opened.{bytes_of, opening_ops, Opened, Refused}
 
@@ -75,3 +75,25 @@ abbrev pub AppendKeeps : Type 0
 AppendKeeps =
     (h : History) (end : ℕ) (items added : List (List ℕ)) → MayAppend end added → DeviceLog h end items
     → EachMoment (disk h) (append_ops end added) (λ image. IsLog image items ⊎ IsLog image (items ++ added))
+
+-- it leaves the mark, and so the format
+abbrev pub AppendKeepsFormat : Type 0
+AppendKeepsFormat =
+    (h : History) (end : ℕ) (items added : List (List ℕ)) → MayAppend end added → DeviceLog h end items
+    → marked_format (content (with_ops h (append_ops end added))) ≡ marked_format (content h)
+
+-- ---- an upgrade
+
+-- behind an upgrade's operations the device holds the same log in format 2
+abbrev pub UpgradeGives : Type 0
+UpgradeGives =
+    (h : History) (end : ℕ) (items : List (List ℕ)) → DeviceLog h end items
+    → DeviceLog (with_ops h upgrade_ops) end items × (marked_format (content (with_ops h upgrade_ops)) ≡ 2)
+
+-- whatever a crash leaves while they are made has the items that were there
+abbrev pub UpgradeKeeps : Type 0
+UpgradeKeeps = (h : History) (end : ℕ) (items : List (List ℕ)) → DeviceLog h end items → EachMoment (disk h) upgrade_ops (λ image. IsLog image items)
+
+-- what is marked so is of format 2, however long it is
+abbrev pub MarkedIsSecond : Type 0
+MarkedIsSecond = (bytes : List ℕ) → marked_format bytes ≡ 2 → format_in bytes ≡ 2

@@ -8,15 +8,15 @@ use Rattle.gate_log.specs.declared.limits.TheConstants.{NEW_LOG_SIZE}
 use Rattle.gate_log.specs.declared.logs.LogItem.{LogItem}
 use Rattle.gate_log.specs.declared.opens.OpenNo.{OpenNo}
 use Rattle.gate_log.specs.declared.opens.OpenNo.TheVariants.{NotALog, Damage, Device, Memory}
-use Rattle.gate_log.specs.Bytes.{header, IsLog, DiffersAt, IsDamagedAt, IsPlacedLogAt}
+use Rattle.gate_log.specs.Bytes.{MARK_2, header, IsLog, DiffersAt, IsDamagedAt, IsPlacedLogAt}
 
 -- the bytes of items, without where they stand
 abbrev pub bytes_of : List LogItem → List (List ℕ)
 bytes_of items = map (λ (i : LogItem). i.bytes) items
 
--- a log with no group: the header and a closed gate
+-- a log of format 2 with no group: the header and a closed gate
 abbrev pub new_log : List ℕ
-new_log = header ++ 0 ∷ []
+new_log = header MARK_2 ++ 0 ∷ []
 
 -- what opening does to a device with these bytes: a new log is made, or one is read; then the device is durable
 abbrev pub opening_ops : List ℕ → List DevOp

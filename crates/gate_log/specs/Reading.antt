@@ -68,9 +68,10 @@ IsNoGroup place bytes Memory = Unit {0}
 -- groups stand before `place`, their items are found, and the rest begins with a gate
 pub record GroupsSoFar (bytes : List ℕ) (place : ℕ) (rest : List ℕ) (found : List LogItem) : Type 0 where
   pub some : 0 < length rest
+  pub mark : ℕ
   pub parts : (groups : List (List (List ℕ))) × AllByRecursion IsGroup groups
-      × (bytes ≡ (header ++ blocks groups) ++ rest)
-      × (place ≡ length (header ++ blocks groups))
+      × (bytes ≡ (header mark ++ blocks groups) ++ rest)
+      × (place ≡ length (header mark ++ blocks groups))
       × (found ≡ placed 8 groups)
 
 -- why the bytes are no log

@@ -7,7 +7,9 @@ pub record LogState : Type 0 where
   pub told : Option History
   -- the offset of the closed gate
   pub end : ℕ
-  -- whether an append has met a failing device
+  -- 1 or 2
+  pub format : ℕ
+  -- whether a call has met a failing device
   pub shut : Bool
   -- the items that were found at opening and are not taken yet
   pub found : List LogItem
@@ -18,5 +20,6 @@ pub record LogState : Type 0 where
 pub record IsUntouched (before after : LogState) : Type 0 where
   pub told : after.told ≡ before.told
   pub end : after.end ≡ before.end
+  pub format : after.format ≡ before.format
   pub shut : after.shut ≡ before.shut
   pub faults : after.faults ≡ before.faults

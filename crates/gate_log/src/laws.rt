@@ -1,4 +1,4 @@
-ghost use Rattle.gate_log.specs.LogLaws.{OneReading, OneList, LogAtIsLog, PlacedIsLogAt, DamageIsNoLog, OneDamage, DifferenceIsNoLog, DifferenceIsNoDamage, OneDifference, OpeningAdds, RefusalAdds, OpeningGives, OpeningKeeps, AppendGives, AppendKeeps};
+ghost use Rattle.gate_log.specs.LogLaws.{OneReading, OneList, LogAtIsLog, PlacedIsLogAt, DamageIsNoLog, OneDamage, DifferenceIsNoLog, DifferenceIsNoDamage, OneDifference, OpeningAdds, RefusalAdds, OpeningGives, OpeningKeeps, AppendGives, AppendKeeps, AppendKeepsFormat, UpgradeGives, UpgradeKeeps, MarkedIsSecond};
 
 /// Bytes are a log in one way at most: with one closed gate and one list of items.
 pub fn one_reading()
@@ -42,8 +42,16 @@ pub fn opening_is_safe()
     ensures keeps { OpeningKeeps }
 {}
 
-/// The operations of an append add its items all at once.
+/// The operations of an append add its items all at once, and leave the format.
 pub fn append_is_whole()
     ensures gives { AppendGives }
     ensures keeps { AppendKeeps }
+    ensures format { AppendKeepsFormat }
+{}
+
+/// Those of an upgrade make the log one of format 2, and lose no item.
+pub fn upgrade_is_safe()
+    ensures gives { UpgradeGives }
+    ensures keeps { UpgradeKeeps }
+    ensures second { MarkedIsSecond }
 {}

@@ -1,10 +1,10 @@
 ghost use Rattle.std.specs.Prelude.{◌≡◌, ◌↔◌, ◌≤◌, [], true, false, IsOk, IsErr, IsTrue, OnOk, IsErrOf, MatchResult};
 ghost use Rattle.snap_outside.specs.Causes.{Rose};
 ghost use Rattle.snap_outside.specs.Disk.{AddsAll};
-ghost use Rattle.gate_log.specs.Appends.{append_ops, end_behind, AddsRefused};
-ghost use Rattle.gate_log.specs.Device.{MayAppend, Appended, Crashes};
+ghost use Rattle.gate_log.specs.Appends.{append_ops, end_behind, upgrade_ops, AddsRefused};
+ghost use Rattle.gate_log.specs.Device.{MayAppend, Appended, Crashes, UpgradesSafely, Upgraded};
 
-use crate::appends::append_group;
+use crate::appends::{append_group, write_mark};
 use crate::blocks::block_of;
 use crate::sizes::size_of_group;
 use snap_base::Sequence;
@@ -17,7 +17,7 @@ use std::marker::Model;
 pub enum AppendNo {
     /// The device failed. The log is shut from now on: a crash leaves the list with the group or without it.
     Device,
-    /// An earlier append met a failing device.
+    /// An earlier call met a failing device.
     Shut,
     /// There was no memory. No call of the device was made.
     Memory,
@@ -35,6 +35,7 @@ pub struct Log<D: LogDev> {
     pub(crate) alloc: Global,
     pub(crate) dev: D,
     pub(crate) end: u64,
+    pub(crate) format: u8,
     pub(crate) shut: bool,
     pub(crate) found: Sequence<LogItem>,
 }
@@ -46,9 +47,9 @@ impl<D: LogDev> Model for Log<D> {
 
     ghost Value = { LogState };
 
-    ghost view = { λ l. record { told = D.told l.dev; end = l.end; shut = l.shut; found = l.found; faults = D.faults l.dev } };
+    ghost view = { λ l. record { told = D.told l.dev; end = l.end; format = l.format; shut = l.shut; found = l.found; faults = D.faults l.dev } };
 
-    ghost invariant = { λ l. l.shut ≡ false → IsReady (D.told l.dev) (D.told_length l.dev) l.end };
+    ghost invariant = { λ l. l.shut ≡ false → IsReady (D.told l.dev) (D.told_length l.dev) l.end l.format };
 }
 
 impl<D: LogDev> Log<D> {
@@ -70,7 +71,8 @@ impl<D: LogDev> Log<D> {
 
     /// Appends the items as one group. Nothing is written for an empty list.
     pub fn append(&mut self, alloc: Global, items: &[Sequence<u8>]) -> Result<(), AppendNo>
-        requires { MayAppend self.old.end items.now }
+        requires items { MayAppend self.old.end items.now }
+        requires format { self.old.format ≡ 2 }
 
         ensures appended { OnOk result (Appended self.old.told self.new.told self.old.end self.new.end items.now) }
 
@@ -94,6 +96,7 @@ impl<D: LogDev> Log<D> {
 
         ensures faults { self.old.faults ≤ self.new.faults }
         ensures found { self.new.found ≡ self.old.found }
+        ensures format { self.new.format ≡ self.old.format }
     {
         if self.shut {
             return Err(AppendNo::Shut);
@@ -116,6 +119,47 @@ impl<D: LogDev> Log<D> {
         }
     }
 
+    /// The log's format, 1 or 2. A log may be appended to where it is 2.
+    pub fn format(&self) -> u8
+        ensures { result ≡ self.now.format }
+    {
+        self.format
+    }
+
+    /// Makes the log one of format 2, with the items that it has. It takes no memory.
+    pub fn upgrade(&mut self) -> Result<(), AppendNo>
+        ensures upgraded { OnOk result (Upgraded self.old.told self.new.told self.old.end) }
+
+        // A crash at any moment of the call leaves the list from before it, in one of the two formats.
+        ensures crashes { UpgradesSafely self.old.told self.new.told self.old.end }
+
+        ensures ops { MatchResult result
+            (λ _. AddsAll self.old.told self.new.told upgrade_ops)
+            (AddsRefused self.old.told self.new.told upgrade_ops) }
+
+        ensures format { OnOk result (self.new.format ≡ 2) }
+        ensures end_kept { self.new.end ≡ self.old.end }
+        ensures open { OnOk result (self.new.shut ≡ false) }
+
+        ensures device { IsErrOf result AppendNo.Device → (self.new.shut ≡ true) × Rose self.old.faults self.new.faults }
+        ensures shut { IsErrOf result AppendNo.Shut ↔ (self.old.shut ≡ true) }
+        ensures shut_kept { IsErrOf result AppendNo.Shut → IsUntouched self.old self.new }
+        ensures memory { ¬ IsErrOf result AppendNo.Memory }
+
+        ensures faults { self.old.faults ≤ self.new.faults }
+        ensures found { self.new.found ≡ self.old.found }
+    {
+        if self.shut {
+            return Err(AppendNo::Shut);
+        }
+        let Ok(()) = write_mark(&mut self.dev) else {
+            self.shut = true;
+            return Err(AppendNo::Device);
+        };
+        self.format = 2;
+        Ok(())
+    }
+
     /// The device.
     pub fn into_dev(self) -> D
         ensures told { D.told result ≡ self.told }
@@ -125,6 +169,7 @@ impl<D: LogDev> Log<D> {
             alloc: _,
             dev,
             end: _,
+            format: _,
             shut: _,
             found: _,
         } = self;

@@ -1,5 +1,5 @@
-ghost use Rattle.std.specs.Prelude.{◌≡◌, ℕ, ◌+◌, ◌<◌, ◌≤◌, ◌^◌, length, take, IfOk, MatchOption, MatchResult, ◌++◌, ◌∷◌, [], ◌-◌};
-ghost use Rattle.gate_log.specs.Bytes.{header, DiffersAt, IsPlacedLogAt};
+ghost use Rattle.std.specs.Prelude.{◌≡◌, ℕ, ◌+◌, ◌<◌, ◌≤◌, ◌^◌, length, take, slice_index, IfOk, MatchOption, MatchResult, ◌++◌, ◌∷◌, [], ◌-◌};
+ghost use Rattle.gate_log.specs.Bytes.{magic, format_of, DiffersAt, IsPlacedLogAt};
 ghost use Rattle.gate_log.specs.Reading.{BeginsItem, BeginsNoItem, AreItems, BeginsPiece, BeginsNoPiece, BeginsGroup, IsNoGroup, IsNoLog};
 
 use crate::limits::FARTHEST_END;
@@ -7,14 +7,17 @@ use crate::{LogItem, OpenNo};
 use snap_base::{Memory, Sequence};
 use std::alloc::Global;
 
-const HEADER: [u8; 8] = *b"SNAPLOG1";
+const MAGIC: [u8; 7] = *b"SNAPLOG";
 
-/// The first place at which the bytes differ from the header.
+/// The mark of a log of format 1.
+const FIRST_MARK: u8 = 49;
+
+/// The first place at which the bytes differ from those with which each log begins.
 fn differs_at(bytes: &[u8]) -> Option<usize>
-    requires { 8 ≤ length bytes.now }
-    ensures { MatchOption result (take 8 bytes.now ≡ header) (DiffersAt bytes.now) }
+    requires { 7 ≤ length bytes.now }
+    ensures { MatchOption result (take 7 bytes.now ≡ magic) (DiffersAt bytes.now) }
 {
-    for (i, byte) in HEADER.iter().enumerate() {
+    for (i, byte) in MAGIC.iter().enumerate() {
         if bytes[i] != *byte {
             return Some(i);
         }
@@ -115,7 +118,7 @@ fn read_group<'a>(
 /// The end of the log behind the header, and its items.
 fn read_groups(alloc: Global, bytes: &[u8]) -> Result<(u64, Sequence<LogItem>), OpenNo>
     requires long { 8 < length bytes.now }
-    requires begins { take 8 bytes.now ≡ header }
+    requires begins { take 7 bytes.now ≡ magic }
     ensures read { MatchResult result (λ read. IsPlacedLogAt bytes.now read.0 read.1) (IsNoLog bytes.now) }
     ensures within { IfOk result (λ read. (read.0 < length bytes.now) × (read.0 < FARTHEST_END)) }
 {
@@ -142,4 +145,12 @@ pub(crate) fn read_log(alloc: Global, bytes: &[u8]) -> Result<(u64, Sequence<Log
         });
     }
     read_groups(alloc, bytes)
+}
+
+/// The format of a log whose bytes these are.
+pub(crate) fn format_at(bytes: &[u8]) -> u8
+    requires { 8 < length bytes.now }
+    ensures { result ≡ format_of (slice_index bytes.now 7) }
+{
+    if bytes[7] == FIRST_MARK { 1 } else { 2 }
 }

@@ -40,7 +40,7 @@ groups_near place (group ∷ groups) are low =
 log_near : (bytes : List ℕ) (end : ℕ) (items : List LogItem) → IsPlacedLogAt bytes end items → end ≤ 2 ^ 63 → AllByRecursion IsNear items
 log_near bytes end items log low =
     let p = log.parts in
-    let size : end ≡ 8 + length (blocks p.0) = p.6 ∙ length-append header (blocks p.0) in
+    let size : end ≡ 8 + length (blocks p.0) = p.6 ∙ length-append (header log.mark) (blocks p.0) in
     subst (λ (found : List LogItem). AllByRecursion IsNear found) (sym p.7) (groups_near 8 p.0 p.3 (omega (arith, size, low)))
 
 pub near_at : (bytes : List ℕ) (end : ℕ) (items : List LogItem) (i : ℕ) (item : LogItem) → IsPlacedLogAt bytes end items → end ≤ 2 ^ 63

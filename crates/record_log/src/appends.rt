@@ -24,6 +24,7 @@ pub fn append_records<D: LogDev>(
 ) -> Result<(), AppendNo>
     requires records { AllByRecursion IsRecord records.now }
     requires may { MayAppend log.old.end (spelled records.now) }
+    requires format { log.old.format ≡ 2 }
 
     ensures appended { OnOk result (AppendsRecords log.old.told log.new.told log.old.end log.new.end records.now) }
     ensures crashes { CrashesRecords log.old.told log.new.told log.old.end records.now }
@@ -48,6 +49,7 @@ pub fn append_records<D: LogDev>(
 
     ensures faults { log.old.faults ≤ log.new.faults }
     ensures found { log.new.found ≡ log.old.found }
+    ensures format { log.new.format ≡ log.old.format }
 {
     logs_are_lists();
     images_of_settled();

@@ -1,6 +1,9 @@
 use Rattle.std.proofs.Common.{refl}
-use Rattle.gate_log.proofs.ReadingGroups.{behind_gate, groups_more, groups_length}
+use Rattle.gate_log.proofs.ReadingGroups.{groups_begin, behind_gate, groups_more, groups_length}
 use Rattle.gate_log.proofs.reads.read_groups.Goals as goal
+
+pub loop-rest-init : goal.loop-rest-init
+loop-rest-init c = groups_begin c.args.bytes.now c.new-found.result c.requires.long c.requires.begins c.new-found.ensures
 
 pub loop-rest-preserved : goal.loop-rest-preserved
 loop-rest-preserved c =

@@ -5,11 +5,11 @@ use Rattle.gate_log.proofs.logs.Log.append.Goals as goal
 
 pub returns-then-self-clause-crashes : goal.returns-then-self-clause-crashes
 returns-then-self-clause-crashes g c =
-    no_crash c.args.self.now.told c.args.self.now.told c.args.self.now.end c.args.items.now c.requires refl
+    no_crash c.args.self.now.told c.args.self.now.told c.args.self.now.end c.args.items.now c.requires.items refl
 
 pub returns-then-is_empty-clause-crashes : goal.returns-then-is_empty-clause-crashes
 returns-then-is_empty-clause-crashes g c =
-    no_crash c.args.self.now.told c.args.self.now.told c.args.self.now.end c.args.items.now c.requires refl
+    no_crash c.args.self.now.told c.args.self.now.told c.args.self.now.end c.args.items.now c.requires.items refl
 
 pub returns-then-is_empty-clause-ops : goal.returns-then-is_empty-clause-ops
 returns-then-is_empty-clause-ops g c =
@@ -21,27 +21,27 @@ returns-then-is_empty-clause-grown g c =
 
 pub returns-in_default-clause-crashes : goal.returns-in_default-clause-crashes
 returns-in_default-clause-crashes g c =
-    no_crash c.args.self.now.told c.args.self.now.told c.args.self.now.end c.args.items.now c.requires refl
+    no_crash c.args.self.now.told c.args.self.now.told c.args.self.now.end c.args.items.now c.requires.items refl
 
 pub invariant_of-self : goal.invariant_of-self
 invariant_of-self g c = λ open_log.
-    ready_at _ _ _ _ _ c.self.inside.end c.len.result c.args.items.now _
-    (c.self.invariant open_log) (ap (λ (s : LogState). s.end) c.self.view_is)
-    (c.as_slice.ensures.value ∙ c.in-Ok.ensures) (c.as_slice.ensures.len ∙ sym c.len.ensures) c.requires
+    ready_at _ _ _ _ _ c.self.inside.end c.len.result _ c.args.items.now _
+    (c.self.invariant open_log) (ap (λ (s : LogState). s.format) c.self.view_is ∙ c.requires.format) (ap (λ (s : LogState). s.end) c.self.view_is)
+    (c.as_slice.ensures.value ∙ c.in-Ok.ensures) (c.as_slice.ensures.len ∙ sym c.len.ensures) c.requires.items
     c.in-Ok-append_group.ensures.done c.in-Ok-append_group.ensures.known c.in-Ok-append_group.ensures.within
 
 pub returns-in-Ok-append_group-clause-appended : goal.returns-in-Ok-append_group-clause-appended
 returns-in-Ok-append_group-clause-appended g c =
     appended_at _ _ _ _ c.self.inside.end c.len.result c.args.items.now _
     (ap (λ (s : LogState). s.told) c.self.view_is) (ap (λ (s : LogState). s.end) c.self.view_is)
-    (c.as_slice.ensures.value ∙ c.in-Ok.ensures) (c.as_slice.ensures.len ∙ sym c.len.ensures) c.requires
+    (c.as_slice.ensures.value ∙ c.in-Ok.ensures) (c.as_slice.ensures.len ∙ sym c.len.ensures) c.requires.items
     c.in-Ok-append_group.ensures.done
 
 pub returns-in-Ok-append_group-clause-crashes : goal.returns-in-Ok-append_group-clause-crashes
 returns-in-Ok-append_group-clause-crashes g c =
     crashes_when_done _ _ _ _ _ c.args.items.now _
     (ap (λ (s : LogState). s.told) c.self.view_is) (ap (λ (s : LogState). s.end) c.self.view_is)
-    (c.as_slice.ensures.value ∙ c.in-Ok.ensures) c.requires c.in-Ok-append_group.ensures.done
+    (c.as_slice.ensures.value ∙ c.in-Ok.ensures) c.requires.items c.in-Ok-append_group.ensures.done
 
 pub returns-in-Ok-append_group-clause-ops : goal.returns-in-Ok-append_group-clause-ops
 returns-in-Ok-append_group-clause-ops g c =
@@ -60,7 +60,7 @@ pub returns-clause-crashes : goal.returns-clause-crashes
 returns-clause-crashes g c =
     crashes_at_fault _ _ _ _ _ c.args.items.now _
     (ap (λ (s : LogState). s.told) c.self.view_is) (ap (λ (s : LogState). s.end) c.self.view_is)
-    (c.as_slice.ensures.value ∙ c.in-Ok.ensures) c.requires c.in-Err.ensures.fault
+    (c.as_slice.ensures.value ∙ c.in-Ok.ensures) c.requires.items c.in-Err.ensures.fault
 
 pub returns-clause-ops : goal.returns-clause-ops
 returns-clause-ops g c =
