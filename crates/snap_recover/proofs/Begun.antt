@@ -39,6 +39,7 @@ begun_is_recovered states = record {
   begun = (states, record { one = refl; range = (record { actors_below = tt; numbers_below = tt }, tt) }, begun_states states states 0);
   whole = λ b h. absurd (genesis_commits states b h);
   acts_whole = λ t h. absurd (genesis_acts states t h);
+  valued = λ b h. absurd (genesis_commits states b h);
   committed = record { ascend = λ i j d l m. absurd (omega arith); each = tt; all_batches = λ b h. absurd (genesis_commits states b h); all_acts = λ t h. absurd (genesis_acts states t h) };
   next_tid = refl;
   next_bid = refl;

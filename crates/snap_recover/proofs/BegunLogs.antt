@@ -84,6 +84,7 @@ module _ (count : ℕ) (others : List (List Record)) (states : List State) (size
     );
     whole = λ b h. absurd (no_commit b h);
     acts_whole = λ t h. absurd (no_act t h);
+    valued = λ b h. absurd (no_commit b h);
     committed = record { ascend = λ i j d l m. absurd (omega arith); each = tt; all_batches = λ b h. absurd (no_commit b h); all_acts = λ t h. absurd (no_act t h) };
     next_tid = next tids_in refl;
     next_bid = next bids_in refl;

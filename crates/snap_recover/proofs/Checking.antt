@@ -16,7 +16,7 @@ use Rattle.txn_records.specs.declared.keys.Key.TheVariants as keys
 use Rattle.snap_recover.specs.declared.kinds.Kind.{Kind}
 use Rattle.snap_recover.specs.declared.kinds.Kind.TheVariants as kinds
 use Rattle.snap_recover.specs.declared.refusals.RecoverNo.{RecoverNo}
-use Rattle.snap_recover.specs.declared.refusals.RecoverNo.TheVariants.{NoGenesis, TwoGenesis, LogCount, Range, Missing, Memory}
+use Rattle.snap_recover.specs.declared.refusals.RecoverNo.TheVariants.{NoGenesis, TwoGenesis, LogCount, Range, Missing, Values, Memory}
 use Rattle.snap_recover.specs.Logs.{Has, log_of}
 use Rattle.snap_recover.specs.Opening.{IsInfoOf, HasCompleted, IsActOf, HasPrepared}
 use Rattle.snap_recover.specs.Passes.{bid_at, tid_at, InPair, commit_key, part_key, info_key, HasCommitted, HasAllParts, IsPlaced, TellsActors, MemberWhole, MemberLacks, IsLackOf, IsFirstLackOfKind, IsFirstLackOf, AllWhole, IsAllWhole, HasIn}
@@ -54,13 +54,14 @@ lacks_part kinds.Batch logs n actors set a (tids, info) has (front, behind, is, 
       refl,
       λ h. out ((has (n, a.0)).1 h),
     )
-lacks_part kinds.Act logs n actors set a (m, c, act) has (front, behind, is, all, out) = (
+lacks_part kinds.Act logs n actors set a (m, c, v, act) has (front, behind, is, all, out) = (
   front,
   behind,
   a,
   m,
   c,
-  subst (λ (z : List ActorId). IsActOf logs (tid_at n) m c z) is act,
+  v,
+  subst (λ (z : List ActorId). IsActOf logs (tid_at n) m c v z) is act,
   all_weaker (λ (b : ActorId). InPair set (n, b.0)) (HasPrepared logs (tid_at n)) front (λ b h. (has (n, b.0)).0 h) all,
   refl,
   refl,
@@ -71,8 +72,8 @@ pub member_whole : (kind : Kind) (logs : List (List Record)) (n : ℕ) (actors :
     → AllByRecursion (λ (b : ActorId). InPair set (n, b.0)) actors → MemberWhole kind logs n
 member_whole kinds.Batch logs n actors set (tids, info) has all =
     (actors, tids, info, all_weaker (λ (b : ActorId). InPair set (n, b.0)) (HasCompleted logs (bid_at n)) actors (λ b h. (has (n, b.0)).0 h) all)
-member_whole kinds.Act logs n actors set (m, c, act) has all =
-    (m, c, actors, act, all_weaker (λ (b : ActorId). InPair set (n, b.0)) (HasPrepared logs (tid_at n)) actors (λ b h. (has (n, b.0)).0 h) all)
+member_whole kinds.Act logs n actors set (m, c, v, act) has all =
+    (m, c, v, actors, act, all_weaker (λ (b : ActorId). InPair set (n, b.0)) (HasPrepared logs (tid_at n)) actors (λ b h. (has (n, b.0)).0 h) all)
 
 -- ---- the keys of a set
 
@@ -121,17 +122,17 @@ numbers_in kind logs numbers are = all_of_contained (λ n. Has (log_of logs n) (
 abbrev pub WholeThrough : Kind → List (List Record) → List ℕ → ℕ → Type 0
 WholeThrough kind logs numbers i = AllByRecursion (MemberWhole kind logs) (take i numbers)
 
--- all that are in with a smaller number are whole
-below_whole : (kind : Kind) (logs : List (List Record)) (numbers : List ℕ) (i n : ℕ) → i < length numbers → n ≡ get_or numbers i n → AreNumbers kind logs numbers → WholeThrough kind logs numbers i
-    → (b : ℕ) → b < n → Has (log_of logs b) (commit_key kind b) → MemberWhole kind logs b
-below_whole kind logs numbers i n l at are h b low is_in =
+-- all that are in with a smaller number have the property
+pub below_all : (P : ℕ → Type 0) (kind : Kind) (logs : List (List Record)) (numbers : List ℕ) (i n : ℕ) → i < length numbers → n ≡ get_or numbers i n → AreNumbers kind logs numbers → AllByRecursion P (take i numbers)
+    → (b : ℕ) → b < n → Has (log_of logs b) (commit_key kind b) → P b
+below_all P kind logs numbers i n l at are h b low is_in =
     let p = are.all b is_in in
     let j : ℕ = p.0 in
     let here : get_or numbers j b ≡ b = p.2 in
     elim (cases_lt j i) [
       | inl less ↦
           let there : get_or (take i numbers) j b ≡ b = get_or-take i numbers j b less ∙ here in
-          all_contains (MemberWhole kind logs) (take i numbers) b h (j, omega (arith, length-take i numbers, p.1, less), there)
+          all_contains P (take i numbers) b h (j, omega (arith, length-take i numbers, p.1, less), there)
       | inr high ↦
           let at0 : get_or numbers i b ≡ n = get_or_default numbers i b n l ∙ sym at in
           elim (cases_lt i j) [
@@ -139,6 +140,10 @@ below_whole kind logs numbers i n l at are h b low is_in =
             | inr same ↦ absurd (let e : j ≡ i = omega arith in let e2 = ap (λ (z : ℕ). get_or numbers z b) e in omega (arith, e2, at0, here, low))
           ]
     ]
+
+below_whole : (kind : Kind) (logs : List (List Record)) (numbers : List ℕ) (i n : ℕ) → i < length numbers → n ≡ get_or numbers i n → AreNumbers kind logs numbers → WholeThrough kind logs numbers i
+    → (b : ℕ) → b < n → Has (log_of logs b) (commit_key kind b) → MemberWhole kind logs b
+below_whole kind logs numbers i n l at are h b low is_in = below_all (MemberWhole kind logs) kind logs numbers i n l at are h b low is_in
 
 first_lack : (kind : Kind) (logs : List (List Record)) (n : ℕ) (no : RecoverNo) → Has (log_of logs n) (commit_key kind n) → ((b : ℕ) → b < n → Has (log_of logs b) (commit_key kind b) → MemberWhole kind logs b)
     → IsLackOf kind logs n no → IsFirstLackOfKind kind logs no
@@ -148,6 +153,7 @@ first_lack kind logs n (LogCount c f) i low h = h
 first_lack kind logs n (Range k l) i low h = h
 first_lack kinds.Batch logs n (Missing k l) i low h = (bid_at n, i, λ b. low b.0, h)
 first_lack kinds.Act logs n (Missing k l) i low h = (tid_at n, i, λ t. low t.0, h)
+first_lack kind logs n (Values k l u v) i low h = h
 first_lack kind logs n Memory i low h = tt
 
 pub check_refused : (kind : Kind) (logs : List (List Record)) (numbers : List ℕ) (i n : ℕ) (answer : RecoverNo) → i < length numbers → n ≡ get_or numbers i n → AreNumbers kind logs numbers → WholeThrough kind logs numbers i
@@ -171,6 +177,7 @@ batch_lack logs TwoGenesis h = h
 batch_lack logs (LogCount c f) h = h
 batch_lack logs (Range k l) h = h
 batch_lack logs (Missing k l) h = inl h
+batch_lack logs (Values k l u v) h = h
 batch_lack logs Memory h = tt
 
 act_lack : (logs : List (List Record)) (no : RecoverNo) → AllWhole kinds.Batch logs → IsFirstLackOfKind kinds.Act logs no → IsFirstLackOf logs no
@@ -179,6 +186,7 @@ act_lack logs TwoGenesis w h = h
 act_lack logs (LogCount c f) w h = h
 act_lack logs (Range k l) w h = h
 act_lack logs (Missing k l) w h = inr (λ (b : Bid) i. w b.0 i, h)
+act_lack logs (Values k l u v) w h = h
 act_lack logs Memory w h = tt
 
 pub all_whole_or_lack : (logs : List (List Record)) (r : Result (Unit {0}) RecoverNo) → AllWhole kinds.Batch logs → MatchResult r (λ t. AllWhole kinds.Act logs) (λ no. IsFirstLackOfKind kinds.Act logs no)

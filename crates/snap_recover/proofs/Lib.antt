@@ -14,3 +14,4 @@ pub mod Checking
 pub mod Whole
 pub mod Recovered
 pub mod Spots
+pub mod Valuing

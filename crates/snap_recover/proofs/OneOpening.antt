@@ -1,19 +1,20 @@
 -- Logs recover to one opening at most.
-use Rattle.std.proofs.Common.{◌≡◌, ℕ, suc, inl, inr, List, [], ◌∷◌, ◌++◌, length, map, get_or, refl, sym, ap, subst, ◌∙◌, arith}
+use Rattle.std.proofs.Common.{◌≡◌, ℕ, ℤ, suc, Option, Some, None, inl, inr, List, [], ◌∷◌, ◌++◌, length, map, get_or, refl, sym, ap, subst, ◌∙◌, arith}
 use Rattle.std.specs.List.{AllByRecursion, AllPairs, Contains, enumerate_from}
 use Rattle.snap_base.specs.declared.ids.ActorId.{ActorId}
 use Rattle.snap_base.specs.declared.ids.Bid.{Bid}
 use Rattle.snap_base.specs.declared.ids.Tid.{Tid}
 use Rattle.snap_base.specs.declared.transactions.State.{State}
 use Rattle.txn_records.specs.declared.records.Record.{Record}
-use Rattle.txn_records.specs.declared.records.Record.TheVariants.{Genesis, BatchInfo, ActCommit}
+use Rattle.txn_records.specs.declared.records.Record.TheVariants.{Genesis, BatchInfo}
+use Rattle.txn_records.specs.declared.keys.Key.{Key}
 use Rattle.txn_records.specs.declared.keys.Key.TheVariants as keys
 use Rattle.txn_records.specs.Records.{key}
 use Rattle.snap_recover.specs.declared.openings.Opening.{Opening}
 use Rattle.snap_recover.specs.declared.openings.Kept.{Kept}
 use Rattle.snap_recover.specs.declared.openings.Kept.TheVariants as kept
-use Rattle.snap_recover.specs.Logs.{log_of, states_in, geneses}
-use Rattle.snap_recover.specs.Opening.{IsInfoOf, IsActIn, IsActOf, Counts, IsStateOf, AreStates, commit_of, IsKept, ComesBefore, IsCommitted, IsRecovered}
+use Rattle.snap_recover.specs.Logs.{log_of, states_in, values_in, geneses}
+use Rattle.snap_recover.specs.Opening.{IsInfoOf, IsCommitOf, IsActIn, IsActOf, act_record, Counts, IsStateOf, AreStates, commit_of, IsKept, ComesBefore, IsCommitted, IsRecovered}
 use Rattle.snap_recover.proofs.Lists.{one_last, all_middle, zip_one, contains_cases, contains_here, all_contains, contains_none, contains_there, contains_middle, contains_map, contains_unmap}
 
 pub one_info : (logs : List (List Record)) (bid : Bid) (a b : List ActorId) (t u : List Tid) → IsInfoOf logs bid a t → IsInfoOf logs bid b u → (a ≡ b) × (t ≡ u)
@@ -21,15 +22,29 @@ one_info logs bid a b t u p q =
     let same : BatchInfo bid a t ≡ BatchInfo bid b u = one_last (λ (r : Record). key r ≡ keys.Info bid) p.0 p.1 q.0 q.1 (BatchInfo bid a t) (BatchInfo bid b u) (sym p.2 ∙ q.2) p.3 q.3 p.4 q.4 in
     (cc, cc)
 
-pub one_act : (logs : List (List Record)) (tid : Tid) (m n : Bid) (c d : ℕ) (a b : List ActorId) → IsActOf logs tid m c a → IsActOf logs tid n d b → (m ≡ n) × (c ≡ d) × (a ≡ b)
-one_act logs tid m n c d a b p q =
-    let same : ActCommit tid m c a ≡ ActCommit tid n d b = one_last (λ (r : Record). key r ≡ keys.Act tid) p.0 p.1 q.0 q.1 (ActCommit tid m c a) (ActCommit tid n d b) (sym p.2 ∙ q.2) p.3 q.3 p.4 q.4 in
-    (cc, cc, cc)
+pub one_commit : (logs : List (List Record)) (bid : Bid) (r s : Record) → IsCommitOf logs bid r → IsCommitOf logs bid s → r ≡ s
+one_commit logs bid r s p q = one_last (λ (x : Record). key x ≡ keys.Commit bid) p.0 p.1 q.0 q.1 r s (sym p.2 ∙ q.2) p.3 q.3 p.4 q.4
 
-pub act_is_in : (logs : List (List Record)) (tid : Tid) (m : Bid) (c : ℕ) (actors : List ActorId) → IsActOf logs tid m c actors → IsActIn logs tid
-act_is_in logs tid m c actors p =
-    let here : Contains (p.0 ++ ActCommit tid m c actors ∷ p.1) (ActCommit tid m c actors) = contains_middle p.0 (ActCommit tid m c actors) p.1 in
-    contains_map key (log_of logs tid.0) (ActCommit tid m c actors) (subst (λ (z : List Record). Contains z (ActCommit tid m c actors)) (sym p.2) here)
+-- a commit of an ACT tells one thing
+act_record_one : (t u : Tid) (m n : Bid) (c d : ℕ) (v w : Option ℤ) (a b : List ActorId) → act_record t m c v a ≡ act_record u n d w b → (m ≡ n) × (c ≡ d) × (v ≡ w) × (a ≡ b)
+act_record_one t u m n c d None None a b e = (cc, cc, refl, cc)
+act_record_one t u m n c d None (Some w) a b e = absurd (cc)
+act_record_one t u m n c d (Some v) None a b e = absurd (cc)
+act_record_one t u m n c d (Some v) (Some w) a b e = let value : v ≡ w = cc in (cc, cc, ap (λ (z : ℤ). Some z) value, cc)
+
+pub act_key : (t : Tid) (m : Bid) (c : ℕ) (v : Option ℤ) (a : List ActorId) → key (act_record t m c v a) ≡ keys.Act t
+act_key t m c None a = refl
+act_key t m c (Some v) a = refl
+
+pub one_act : (logs : List (List Record)) (tid : Tid) (m n : Bid) (c d : ℕ) (v w : Option ℤ) (a b : List ActorId) → IsActOf logs tid m c v a → IsActOf logs tid n d w b → (m ≡ n) × (c ≡ d) × (v ≡ w) × (a ≡ b)
+one_act logs tid m n c d v w a b p q =
+    act_record_one tid tid m n c d v w a b (one_last (λ (r : Record). key r ≡ keys.Act tid) p.0 p.1 q.0 q.1 (act_record tid m c v a) (act_record tid n d w b) (sym p.2 ∙ q.2) p.3 q.3 p.4 q.4)
+
+pub act_is_in : (logs : List (List Record)) (tid : Tid) (m : Bid) (c : ℕ) (value : Option ℤ) (actors : List ActorId) → IsActOf logs tid m c value actors → IsActIn logs tid
+act_is_in logs tid m c value actors p =
+    let r : Record = act_record tid m c value actors in
+    let here : Contains (p.0 ++ r ∷ p.1) r = contains_middle p.0 r p.1 in
+    subst (λ (z : Key). Contains (map key (log_of logs tid.0)) z) (act_key tid m c value actors) (contains_map key (log_of logs tid.0) r (subst (λ (z : List Record). Contains z r) (sym p.2) here))
 
 one_state : (logs : List (List Record)) (a : ℕ) (first s t : State) → IsStateOf logs a first s → IsStateOf logs a first t → s ≡ t
 one_state logs a first s t (inl (r, told, p)) (inl (r', told', q)) =
@@ -49,34 +64,37 @@ pub same_tid : (a b : Tid) → a.0 ≡ b.0 → a ≡ b
 same_tid a b e = ap (λ (n : ℕ). let t : Tid = record { 0 = n } in t) e
 
 one_kept : (logs : List (List Record)) (a b : Kept) → IsKept logs a → IsKept logs b → commit_of a ≡ commit_of b → a ≡ b
-one_kept logs (kept.Batch k t) (kept.Batch j u) p q e =
+one_kept logs (kept.Batch k t v) (kept.Batch j u w) p q e =
     let same : k ≡ j = cc in
     let info : IsInfoOf logs j p.1.0 t = subst (λ (z : Bid). IsInfoOf logs z p.1.0 t) same p.1.1 in
     let tids : t ≡ u = (one_info logs j p.1.0 q.1.0 t u info q.1.1).1 in
+    let commit : IsCommitOf logs j p.2.0 = subst (λ (z : Bid). IsCommitOf logs z p.2.0) same p.2.1 in
+    let values : v ≡ w = p.2.2 ∙ ap values_in (one_commit logs j p.2.0 q.2.0 commit q.2.1) ∙ sym q.2.2 in
     cc
-one_kept logs (kept.Batch k t) (kept.Act u n d) p q e = absurd (cc)
-one_kept logs (kept.Act t m c) (kept.Batch j u) p q e = absurd (cc)
-one_kept logs (kept.Act t m c) (kept.Act u n d) p q e =
+one_kept logs (kept.Batch k t v) (kept.Act u n d w) p q e = absurd (cc)
+one_kept logs (kept.Act t m c v) (kept.Batch j u w) p q e = absurd (cc)
+one_kept logs (kept.Act t m c v) (kept.Act u n d w) p q e =
     let same : t ≡ u = cc in
-    let act : IsActOf logs u m c p.0 = subst (λ (z : Tid). IsActOf logs z m c p.0) same p.1 in
-    let both = one_act logs u m n c d p.0 q.0 act q.1 in
-    let batches : m ≡ n = both.0 in
-    let commits : c ≡ d = both.1 in
+    let act : IsActOf logs u m c v p.0 = subst (λ (z : Tid). IsActOf logs z m c v p.0) same p.1 in
+    let all = one_act logs u m n c d v w p.0 q.0 act q.1 in
+    let batches : m ≡ n = all.0 in
+    let commits : c ≡ d = all.1 in
+    let values : v ≡ w = all.2 in
     cc
 
 -- ---- lists in the order of the places, with the same members
 
 pub before_not_after : (a b : Kept) → ComesBefore a b → ComesBefore b a → ⊥
-before_not_after (kept.Batch k t) (kept.Batch j u) h g = omega (arith, h, g)
-before_not_after (kept.Batch k t) (kept.Act u n d) h g = omega (arith, h, g)
-before_not_after (kept.Act t m c) (kept.Batch j u) h g = omega (arith, h, g)
-before_not_after (kept.Act t m c) (kept.Act u n d) (inl h) (inl g) = omega (arith, h, g)
-before_not_after (kept.Act t m c) (kept.Act u n d) (inl h) (inr g) = omega (arith, h, g.0)
-before_not_after (kept.Act t m c) (kept.Act u n d) (inr h) (inl g) = omega (arith, h.0, g)
-before_not_after (kept.Act t m c) (kept.Act u n d) (inr (e, inl h)) (inr (f, inl g)) = omega (arith, h, g)
-before_not_after (kept.Act t m c) (kept.Act u n d) (inr (e, inl h)) (inr (f, inr g)) = omega (arith, h, g.0)
-before_not_after (kept.Act t m c) (kept.Act u n d) (inr (e, inr h)) (inr (f, inl g)) = omega (arith, h.0, g)
-before_not_after (kept.Act t m c) (kept.Act u n d) (inr (e, inr h)) (inr (f, inr g)) = omega (arith, h.1, g.1)
+before_not_after (kept.Batch k t v) (kept.Batch j u w) h g = omega (arith, h, g)
+before_not_after (kept.Batch k t v) (kept.Act u n d w) h g = omega (arith, h, g)
+before_not_after (kept.Act t m c v) (kept.Batch j u w) h g = omega (arith, h, g)
+before_not_after (kept.Act t m c v) (kept.Act u n d w) (inl h) (inl g) = omega (arith, h, g)
+before_not_after (kept.Act t m c v) (kept.Act u n d w) (inl h) (inr g) = omega (arith, h, g.0)
+before_not_after (kept.Act t m c v) (kept.Act u n d w) (inr h) (inl g) = omega (arith, h.0, g)
+before_not_after (kept.Act t m c v) (kept.Act u n d w) (inr (e, inl h)) (inr (f, inl g)) = omega (arith, h, g)
+before_not_after (kept.Act t m c v) (kept.Act u n d w) (inr (e, inl h)) (inr (f, inr g)) = omega (arith, h, g.0)
+before_not_after (kept.Act t m c v) (kept.Act u n d w) (inr (e, inr h)) (inr (f, inl g)) = omega (arith, h.0, g)
+before_not_after (kept.Act t m c v) (kept.Act u n d w) (inr (e, inr h)) (inr (f, inr g)) = omega (arith, h.1, g.1)
 
 head_before : (x : Kept) (xs : List Kept) → AllPairs ComesBefore (x ∷ xs) → (b : Kept) → Contains xs b → ComesBefore x b
 head_before x xs h b (k, l, e) =
@@ -116,8 +134,8 @@ one_committed (x ∷ xs) (y ∷ ys) p q f g =
     cc
 
 kept_listed : (logs : List (List Record)) (ys : List Kept) (x : Kept) → IsCommitted logs ys → IsKept logs x → Contains (map commit_of ys) (commit_of x)
-kept_listed logs ys (kept.Batch k t) q h = q.all_batches k h.0
-kept_listed logs ys (kept.Act t m c) q h = q.all_acts t (act_is_in logs t m c h.0 h.1)
+kept_listed logs ys (kept.Batch k t v) q h = q.all_batches k h.0
+kept_listed logs ys (kept.Act t m c v) q h = q.all_acts t (act_is_in logs t m c v h.0 h.1)
 
 pub committed_within : (logs : List (List Record)) (xs ys : List Kept) → IsCommitted logs xs → IsCommitted logs ys → Within xs ys
 committed_within logs xs ys p q b m =

@@ -1,5 +1,5 @@
 -- Logs are refused with one answer at most, and not where they recover to an opening.
-use Rattle.std.proofs.Common.{◌≡◌, ◌≢◌, ℕ, ◌≤◌, ◌%◌, ◌⊎◌, inl, inr, List, [], ◌∷◌, ◌++◌, length, refl, sym, ap, subst, ◌∙◌, arith}
+use Rattle.std.proofs.Common.{◌≡◌, ◌≢◌, ℕ, ℤ, ◌≤◌, ◌%◌, ◌⊎◌, inl, inr, List, [], ◌∷◌, ◌++◌, length, refl, sym, ap, subst, ◌∙◌, arith}
 use Rattle.std.proofs.lemmas.Bool.{cases_lt}
 use Rattle.std.specs.List.{AllByRecursion, Contains}
 use Rattle.std.proofs.lemmas.List.Concat.{flat_map-append}
@@ -8,18 +8,18 @@ use Rattle.snap_base.specs.declared.ids.Bid.{Bid}
 use Rattle.snap_base.specs.declared.ids.Tid.{Tid}
 use Rattle.snap_base.specs.declared.transactions.State.{State}
 use Rattle.txn_records.specs.declared.records.Record.{Record}
-use Rattle.txn_records.specs.declared.records.Record.TheVariants.{Genesis, BatchInfo}
+use Rattle.txn_records.specs.declared.records.Record.TheVariants.{Genesis, BatchInfo, BatchDone}
 use Rattle.txn_records.specs.declared.keys.Key.{Key}
 use Rattle.txn_records.specs.declared.keys.Key.TheVariants as keys
 use Rattle.txn_records.specs.Records.{key}
 use Rattle.snap_recover.specs.declared.openings.Opening.{Opening}
 use Rattle.snap_recover.specs.declared.refusals.RecoverNo.{RecoverNo}
-use Rattle.snap_recover.specs.declared.refusals.RecoverNo.TheVariants.{NoGenesis, TwoGenesis, LogCount, Range, Missing, Memory}
+use Rattle.snap_recover.specs.declared.refusals.RecoverNo.TheVariants.{NoGenesis, TwoGenesis, LogCount, Range, Missing, Values, Memory}
 use Rattle.snap_recover.specs.Logs.{all_of, log_of, Has, geneses}
-use Rattle.snap_recover.specs.Opening.{IsInfoOf, HasCompleted, IsWhole, HasPrepared, IsActWhole, IsInRange, IsBegun, IsRecovered}
-use Rattle.snap_recover.specs.Refusals.{IsFirstOutOfRange, LacksInfo, LacksComplete, LacksPrepare, IsFirstBatchLacking, IsFirstActLacking, IsFirstLacking, IsRefused}
+use Rattle.snap_recover.specs.Opening.{IsInfoOf, FitsTids, HasItsValues, HasCompleted, IsWhole, HasPrepared, IsActWhole, IsInRange, IsBegun, IsRecovered}
+use Rattle.snap_recover.specs.Refusals.{IsFirstOutOfRange, LacksInfo, LacksComplete, LacksPrepare, LacksValues, IsFirstLackingValues, NoneMissing, IsFirstBatchLacking, IsFirstActLacking, IsFirstLacking, IsRefused}
 use Rattle.snap_recover.proofs.Lists.{one_first, all_left, all_right, all_middle, contains_map, contains_middle}
-use Rattle.snap_recover.proofs.OneOpening.{one_info, one_act, same_bid, same_tid, one_first_states}
+use Rattle.snap_recover.proofs.OneOpening.{one_info, one_commit, one_act, same_bid, same_tid, one_first_states}
 
 -- ---- the record that is not in range
 
@@ -90,15 +90,15 @@ one_first_batch logs k j l m (b, in1, low1, p) (d, in2, low2, q) =
     one_lacking logs d k j l m (subst (λ (z : Bid). Lacks logs z k l) (same_bid b d same) p) q
 
 one_prepare : (logs : List (List Record)) (tid : Tid) (k j : Key) (l m : ℕ) → LacksPrepare logs tid k l → LacksPrepare logs tid j m → (k ≡ j) × (l ≡ m)
-one_prepare logs tid k j l m (f, b, a, n, c, i, w, e, el, out) (f', b', a', n', c', i', w', e', el', out') =
-    let acts = one_act logs tid n n' c c' (f ++ a ∷ b) (f' ++ a' ∷ b') i i' in
-    let same : a ≡ a' = (one_first (HasPrepared logs tid) f b f' b' a a' acts.2 w w' out out').1 in
+one_prepare logs tid k j l m (f, b, a, n, c, v, i, w, e, el, out) (f', b', a', n', c', v', i', w', e', el', out') =
+    let acts = one_act logs tid n n' c c' v v' (f ++ a ∷ b) (f' ++ a' ∷ b') i i' in
+    let same : a ≡ a' = (one_first (HasPrepared logs tid) f b f' b' a a' acts.3 w w' out out').1 in
     (e ∙ ap (λ (z : ActorId). keys.Prepare tid z) same ∙ sym e', el ∙ ap (λ (z : ActorId). z.0 % length logs) same ∙ sym el')
 
 pub act_lacks_is_not_whole : (logs : List (List Record)) (tid : Tid) (k : Key) (l : ℕ) → LacksPrepare logs tid k l → ¬ IsActWhole logs tid
-act_lacks_is_not_whole logs tid k l (f, b, a, n, c, i, p, e, el, out) w =
-    let acts = one_act logs tid w.0 n w.1 c w.2 (f ++ a ∷ b) w.3 i in
-    out (all_middle (HasPrepared logs tid) f a b (subst (λ (z : List ActorId). AllByRecursion (HasPrepared logs tid) z) acts.2 w.4))
+act_lacks_is_not_whole logs tid k l (f, b, a, n, c, v, i, p, e, el, out) w =
+    let acts = one_act logs tid w.0 n w.1 c w.2 v w.3 (f ++ a ∷ b) w.4 i in
+    out (all_middle (HasPrepared logs tid) f a b (subst (λ (z : List ActorId). AllByRecursion (HasPrepared logs tid) z) acts.3 w.5))
 
 one_first_act : (logs : List (List Record)) (k j : Key) (l m : ℕ) → IsFirstActLacking logs k l → IsFirstActLacking logs j m → (k ≡ j) × (l ≡ m)
 one_first_act logs k j l m (b, in1, low1, p) (d, in2, low2, q) =
@@ -119,6 +119,36 @@ one_first_lacking logs k j l m (inr p) (inr q) = one_first_act logs k j l m p.1 
 lacking_is_not_recovered : (logs : List (List Record)) (k : Key) (l : ℕ) (o : Opening) → IsFirstLacking logs k l → ¬ IsRecovered logs o
 lacking_is_not_recovered logs k l o (inl p) h = lacks_is_not_whole logs p.0 k l p.3 (h.whole p.0 p.1)
 lacking_is_not_recovered logs k l o (inr p) h = act_lacks_is_not_whole logs p.1.0 k l p.1.3 (h.acts_whole p.1.0 p.1.1)
+
+-- ---- values
+
+pub lacks_values_has_not : (logs : List (List Record)) (bid : Bid) (k : Key) (l c f : ℕ) → LacksValues logs bid k l c f → ¬ HasItsValues logs bid
+lacks_values_has_not logs bid k l c f (a, t, v, i, m, ec, ef, ne, ek, el) h =
+    let infos = one_info logs bid a h.actors t h.tids i h.info_is in
+    let same : BatchDone bid v ≡ h.commit = one_commit logs bid (BatchDone bid v) h.commit m h.commit_is in
+    let fits : length v ≡ length h.tids = subst (λ (z : Record). FitsTids z h.tids) (sym same) h.fits in
+    ne (ec ∙ ap (λ (z : List Tid). length z) infos.1 ∙ sym fits ∙ sym ef)
+
+pub one_lack_of_values : (logs : List (List Record)) (bid : Bid) (k j : Key) (l m c d f g : ℕ) → LacksValues logs bid k l c f → LacksValues logs bid j m d g → (k ≡ j) × (l ≡ m) × (c ≡ d) × (f ≡ g)
+one_lack_of_values logs bid k j l m c d f g (a, t, v, i, o, ec, ef, ne, ek, el) (a', t', v', i', o', ec', ef', ne', ek', el') =
+    let tids : t ≡ t' = (one_info logs bid a a' t t' i i').1 in
+    let same : BatchDone bid v ≡ BatchDone bid v' = one_commit logs bid (BatchDone bid v) (BatchDone bid v') o o' in
+    let values : v ≡ v' = cc in
+    (ek ∙ sym ek', el ∙ sym el', ec ∙ ap (λ (z : List Tid). length z) tids ∙ sym ec', ef ∙ ap (λ (z : List ℤ). length z) values ∙ sym ef')
+
+one_first_values : (logs : List (List Record)) (k j : Key) (l m c d f g : ℕ) → IsFirstLackingValues logs k l c f → IsFirstLackingValues logs j m d g → (k ≡ j) × (l ≡ m) × (c ≡ d) × (f ≡ g)
+one_first_values logs k j l m c d f g (b, in1, low1, p) (e, in2, low2, q) =
+    let same : b.0 ≡ e.0 =
+    elim (cases_lt b.0 e.0) [
+      | inl h ↦ absurd (lacks_values_has_not logs b k l c f p (low2 b h in1))
+      | inr h ↦ elim (cases_lt e.0 b.0) [ inl y ↦ absurd (lacks_values_has_not logs e j m d g q (low1 e y in2)) | inr y ↦ omega arith ]
+    ] in
+    one_lack_of_values logs e k j l m c d f g (subst (λ (z : Bid). LacksValues logs z k l c f) (same_bid b e same) p) q
+
+-- where a key is lacking, nothing is said of values
+lacking_is_missing : (logs : List (List Record)) (k : Key) (l : ℕ) → IsFirstLacking logs k l → ¬ NoneMissing logs
+lacking_is_missing logs k l (inl p) n = lacks_is_not_whole logs p.0 k l p.3 (n.0 p.0 p.1)
+lacking_is_missing logs k l (inr p) n = act_lacks_is_not_whole logs p.1.0 k l p.1.3 (n.1 p.1.0 p.1.1)
 
 -- ---- answers
 
@@ -145,12 +175,14 @@ one_refusal logs NoGenesis TwoGenesis a b p q = absurd (none_is_two logs p q)
 one_refusal logs NoGenesis (LogCount c f) a b p q = absurd (none_is_one logs c q.0 p q.1)
 one_refusal logs NoGenesis (Range k l) a b p q = absurd (none_is_one logs (length logs) q.0 p q.2)
 one_refusal logs NoGenesis (Missing k l) a b p q = absurd (none_is_one logs (length logs) q.0 p q.1.one)
+one_refusal logs NoGenesis (Values k l u v) a b p q = absurd (none_is_one logs (length logs) q.0 p q.1.one)
 one_refusal logs NoGenesis Memory a b p q = absurd (b refl)
 one_refusal logs TwoGenesis NoGenesis a b p q = absurd (none_is_two logs q p)
 one_refusal logs TwoGenesis TwoGenesis a b p q = refl
 one_refusal logs TwoGenesis (LogCount c f) a b p q = absurd (two_is_one logs c q.0 p q.1)
 one_refusal logs TwoGenesis (Range k l) a b p q = absurd (two_is_one logs (length logs) q.0 p q.2)
 one_refusal logs TwoGenesis (Missing k l) a b p q = absurd (two_is_one logs (length logs) q.0 p q.1.one)
+one_refusal logs TwoGenesis (Values k l u v) a b p q = absurd (two_is_one logs (length logs) q.0 p q.1.one)
 one_refusal logs TwoGenesis Memory a b p q = absurd (b refl)
 one_refusal logs (LogCount c f) NoGenesis a b p q = absurd (none_is_one logs c p.0 q p.1)
 one_refusal logs (LogCount c f) TwoGenesis a b p q = absurd (two_is_one logs c p.0 q p.1)
@@ -160,6 +192,7 @@ one_refusal logs (LogCount c f) (LogCount d g) a b p q =
     λ i. LogCount (kept i) (found i)
 one_refusal logs (LogCount c f) (Range k l) a b p q = absurd (p.3 (one_genesis logs c (length logs) p.0 q.0 p.1 q.2 ∙ sym p.2))
 one_refusal logs (LogCount c f) (Missing k l) a b p q = absurd (p.3 (one_genesis logs c (length logs) p.0 q.0 p.1 q.1.one ∙ sym p.2))
+one_refusal logs (LogCount c f) (Values k l u v) a b p q = absurd (p.3 (one_genesis logs c (length logs) p.0 q.0 p.1 q.1.one ∙ sym p.2))
 one_refusal logs (LogCount c f) Memory a b p q = absurd (b refl)
 one_refusal logs (Range k l) NoGenesis a b p q = absurd (none_is_one logs (length logs) p.0 q p.2)
 one_refusal logs (Range k l) TwoGenesis a b p q = absurd (two_is_one logs (length logs) p.0 q p.2)
@@ -172,6 +205,7 @@ one_refusal logs (Range k l) (Range j m) a b p q =
     let log : l ≡ m = same.1 in
     λ i. Range (keyed i) (log i)
 one_refusal logs (Range k l) (Missing j m) a b p q = absurd (range_is_not_begun logs k l q.0 p q.1)
+one_refusal logs (Range k l) (Values j m u v) a b p q = absurd (range_is_not_begun logs k l q.0 p q.1)
 one_refusal logs (Range k l) Memory a b p q = absurd (b refl)
 one_refusal logs (Missing k l) NoGenesis a b p q = absurd (none_is_one logs (length logs) p.0 q p.1.one)
 one_refusal logs (Missing k l) TwoGenesis a b p q = absurd (two_is_one logs (length logs) p.0 q p.1.one)
@@ -182,7 +216,21 @@ one_refusal logs (Missing k l) (Missing j m) a b p q =
     let keyed : k ≡ j = same.0 in
     let log : l ≡ m = same.1 in
     λ i. Missing (keyed i) (log i)
+one_refusal logs (Missing k l) (Values j m u v) a b p q = absurd (lacking_is_missing logs k l p.2 q.2)
 one_refusal logs (Missing k l) Memory a b p q = absurd (b refl)
+one_refusal logs (Values k l u v) NoGenesis a b p q = absurd (none_is_one logs (length logs) p.0 q p.1.one)
+one_refusal logs (Values k l u v) TwoGenesis a b p q = absurd (two_is_one logs (length logs) p.0 q p.1.one)
+one_refusal logs (Values k l u v) (LogCount d g) a b p q = absurd (q.3 (one_genesis logs d (length logs) q.0 p.0 q.1 p.1.one ∙ sym q.2))
+one_refusal logs (Values k l u v) (Range j m) a b p q = absurd (range_is_not_begun logs j m p.0 q p.1)
+one_refusal logs (Values k l u v) (Missing j m) a b p q = absurd (lacking_is_missing logs j m q.2 p.2)
+one_refusal logs (Values k l u v) (Values j m d g) a b p q =
+    let same = one_first_values logs k j l m u d v g p.3 q.3 in
+    let keyed : k ≡ j = same.0 in
+    let log : l ≡ m = same.1 in
+    let kept : u ≡ d = same.2 in
+    let found : v ≡ g = same.3 in
+    λ i. Values (keyed i) (log i) (kept i) (found i)
+one_refusal logs (Values k l u v) Memory a b p q = absurd (b refl)
 one_refusal logs Memory y a b p q = absurd (a refl)
 
 pub refused_is_not_recovered : (logs : List (List Record)) (x : RecoverNo) (o : Opening) → x ≢ Memory → IsRefused logs x → ¬ IsRecovered logs o
@@ -191,4 +239,5 @@ refused_is_not_recovered logs TwoGenesis o a p h = two_is_one logs (length logs)
 refused_is_not_recovered logs (LogCount c f) o a p h = p.3 (one_genesis logs c (length logs) p.0 h.begun.0 p.1 h.begun.1.one ∙ sym p.2)
 refused_is_not_recovered logs (Range k l) o a p h = range_is_not_begun logs k l h.begun.0 p h.begun.1
 refused_is_not_recovered logs (Missing k l) o a p h = lacking_is_not_recovered logs k l o p.2 h
+refused_is_not_recovered logs (Values k l u v) o a p h = lacks_values_has_not logs p.3.0 k l u v p.3.3 (h.valued p.3.0 p.3.1)
 refused_is_not_recovered logs Memory o a p h = absurd (a refl)

@@ -16,7 +16,7 @@ use Rattle.txn_records.specs.Records.{key}
 use Rattle.snap_recover.specs.declared.kinds.Kind.{Kind}
 use Rattle.snap_recover.specs.declared.kinds.Kind.TheVariants as kinds
 use Rattle.snap_recover.specs.Logs.{Has, log_of}
-use Rattle.snap_recover.specs.Passes.{IsPlaced, IsPlacedBy, AddsInfo, AddsInfos, HasInfos, info_key, bid_at, tid_at}
+use Rattle.snap_recover.specs.Passes.{IsPlaced, IsPlacedBy, AddsInfo, AddsInfos, HasInfos, info_key, commit_key, bid_at, tid_at}
 use Rattle.snap_recover.proofs.Lists.{all_append, all_contains, contains_unmap}
 use Rattle.snap_recover.proofs.Homes.{at_log, below_cases, at_same}
 use Rattle.snap_recover.proofs.Steps.{taken}
@@ -41,15 +41,18 @@ placed_quiet k rs r old new h (inr (quiet, e)) = inr (all_append (λ y. key y �
 placed_here : (k : Key) (place : ℕ) (rs : List Record) (r : Record) (old : Option ℕ) → key r ≡ k → place ≡ length rs → IsPlaced k (rs ++ r ∷ []) old (Some place)
 placed_here k place rs r old it at = inl (place, refl, (rs, [], r, refl, at, it, tt))
 
-infos_apart : (kind : Kind) (n m : ℕ) → info_key kind n ≡ info_key kind m → n ≡ m
+pub infos_apart : (kind : Kind) (n m : ℕ) → info_key kind n ≡ info_key kind m → n ≡ m
 infos_apart kinds.Batch n m e = let same : bid_at n ≡ bid_at m = cc in ap (λ (b : Bid). b.0) same
 infos_apart kinds.Act n m e = let same : tid_at n ≡ tid_at m = cc in ap (λ (t : Tid). t.0) same
+
+pub commits_apart : (n m : ℕ) → commit_key kinds.Batch n ≡ commit_key kinds.Batch m → n ≡ m
+commits_apart n m e = let same : bid_at n ≡ bid_at m = cc in ap (λ (b : Bid). b.0) same
 
 at_other : (k q : ℕ) → k ≢ q → is_at (nat_cmp k) q ≡ false
 at_other k q h = grind (arith, nat_tests)
 
-pub infos_none : (kind : Kind) (log logs : ℕ) (places : BTreeMap ℕ ℕ) → AddsInfos kind log logs [] places places
-infos_none kind log logs places n = (λ e. inr (tt, refl), λ e. refl)
+pub infos_none : (key_at : ℕ → Key) (log logs : ℕ) (places : BTreeMap ℕ ℕ) → AddsInfos key_at log logs [] places places
+infos_none key_at log logs places n = (λ e. inr (tt, refl), λ e. refl)
 
 got_here : (k n v : ℕ) (old new : BTreeMap ℕ ℕ) → tree.Updates nat_cmp old new k (Some v) → k ≡ n → tree.get nat_cmp new n ≡ Some v
 got_here k n v old new u e =
@@ -60,14 +63,14 @@ got_other : (k n v : ℕ) (old new : BTreeMap ℕ ℕ) → tree.Updates nat_cmp 
 got_other k n v old new u ne = u.2 n (at_other k n ne)
 
 -- one record
-pub info_quiet : (kind : Kind) (log logs at : ℕ) (r : Record) (places : BTreeMap ℕ ℕ) → ((n : ℕ) → n % logs ≡ log → key r ≢ info_key kind n) → AddsInfo kind log logs at r places places
-info_quiet kind log logs at r places quiet n = (λ e. inr (quiet n e, refl), λ e. refl)
+pub info_quiet : (key_at : ℕ → Key) (log logs at : ℕ) (r : Record) (places : BTreeMap ℕ ℕ) → ((n : ℕ) → n % logs ≡ log → key r ≢ key_at n) → AddsInfo key_at log logs at r places places
+info_quiet key_at log logs at r places quiet n = (λ e. inr (quiet n e, refl), λ e. refl)
 
-pub info_here : (kind : Kind) (log logs at k : ℕ) (r : Record) (old new : BTreeMap ℕ ℕ) → k % logs ≡ log → key r ≡ info_key kind k → tree.Updates nat_cmp old new k (Some at) → AddsInfo kind log logs at r old new
-info_here kind log logs at k r old new home is u n = (
+pub info_here : (key_at : ℕ → Key) → ((n m : ℕ) → key_at n ≡ key_at m → n ≡ m) → (log logs at k : ℕ) (r : Record) (old new : BTreeMap ℕ ℕ) → k % logs ≡ log → key r ≡ key_at k → tree.Updates nat_cmp old new k (Some at) → AddsInfo key_at log logs at r old new
+info_here key_at apart log logs at k r old new home is u n = (
   λ here. elim (cases_eq k n) [
-    | inl e ↦ inl (is ∙ ap (info_key kind) e, got_here k n at old new u e)
-    | inr ne ↦ inr (λ e. ne (infos_apart kind k n (sym is ∙ e)), got_other k n at old new u ne)
+    | inl e ↦ inl (is ∙ ap key_at e, got_here k n at old new u e)
+    | inr ne ↦ inr (λ e. ne (apart k n (sym is ∙ e)), got_other k n at old new u ne)
   ],
   λ away. got_other k n at old new u (λ e. away (ap (λ (z : ℕ). z % logs) (sym e) ∙ home)),
 )
@@ -77,39 +80,39 @@ placed_more : (k : Key) (at : ℕ) (rs : List Record) (r : Record) (old mid new 
 placed_more k at rs r old mid new len h (inl (is, e)) = subst (λ (z : Option ℕ). IsPlaced k (rs ++ r ∷ []) old z) (sym e) (placed_here k at rs r old is len)
 placed_more k at rs r old mid new len h (inr (other, e)) = subst (λ (z : Option ℕ). IsPlaced k (rs ++ r ∷ []) old z) (sym e) (placed_quiet k rs r old mid other h)
 
-pub infos_step : (kind : Kind) (log logs : ℕ) (rs : List Record) (i : ℕ) (r : Record) (old mid new : BTreeMap ℕ ℕ) → i < length rs → r ≡ get_or rs i r
-    → AddsInfos kind log logs (take i rs) old mid → AddsInfo kind log logs i r mid new → AddsInfos kind log logs (take (i + 1) rs) old new
-infos_step kind log logs rs i r old mid new l at h g =
-    subst (λ (z : List Record). AddsInfos kind log logs z old new) (sym (taken rs i r l at))
+pub infos_step : (key_at : ℕ → Key) (log logs : ℕ) (rs : List Record) (i : ℕ) (r : Record) (old mid new : BTreeMap ℕ ℕ) → i < length rs → r ≡ get_or rs i r
+    → AddsInfos key_at log logs (take i rs) old mid → AddsInfo key_at log logs i r mid new → AddsInfos key_at log logs (take (i + 1) rs) old new
+infos_step key_at log logs rs i r old mid new l at h g =
+    subst (λ (z : List Record). AddsInfos key_at log logs z old new) (sym (taken rs i r l at))
     (λ n. (
-      λ here. placed_more (info_key kind n) i (take i rs) r (tree.get nat_cmp old n) (tree.get nat_cmp mid n) (tree.get nat_cmp new n) (sym (length-take-le i rs (omega arith))) ((h n).0 here) ((g n).0 here),
+      λ here. placed_more (key_at n) i (take i rs) r (tree.get nat_cmp old n) (tree.get nat_cmp mid n) (tree.get nat_cmp new n) (sym (length-take-le i rs (omega arith))) ((h n).0 here) ((g n).0 here),
       λ away. (g n).1 away ∙ (h n).1 away,
     ))
 
 -- ---- over the logs
 
-abbrev pub InfosThrough : Kind → List (List Record) → ℕ → BTreeMap ℕ ℕ → Type 0
-InfosThrough kind logs i places = (n : ℕ) →
-    ((n % length logs < i → IsPlaced (info_key kind n) (log_of logs n) None (tree.get nat_cmp places n)) × (i ≤ n % length logs → tree.get nat_cmp places n ≡ None))
+abbrev pub InfosThrough : (ℕ → Key) → List (List Record) → ℕ → BTreeMap ℕ ℕ → Type 0
+InfosThrough key_at logs i places = (n : ℕ) →
+    ((n % length logs < i → IsPlaced (key_at n) (log_of logs n) None (tree.get nat_cmp places n)) × (i ≤ n % length logs → tree.get nat_cmp places n ≡ None))
 
-pub infos_begin : (kind : Kind) (logs : List (List Record)) (places : BTreeMap ℕ ℕ) → places.entries ≡ [] → InfosThrough kind logs 0 places
-infos_begin kind logs places e n = (λ l. absurd (omega arith), λ l. ap (λ (z : List (ℕ × ℕ)). lookup (is_at (nat_cmp n)) z) e)
+pub infos_begin : (key_at : ℕ → Key) (logs : List (List Record)) (places : BTreeMap ℕ ℕ) → places.entries ≡ [] → InfosThrough key_at logs 0 places
+infos_begin key_at logs places e n = (λ l. absurd (omega arith), λ l. ap (λ (z : List (ℕ × ℕ)). lookup (is_at (nat_cmp n)) z) e)
 
-pub infos_through : (kind : Kind) (logs : List (List Record)) (i : ℕ) (rs : List Record) (old new : BTreeMap ℕ ℕ) → i < length logs → rs ≡ get_or logs i rs
-    → AddsInfos kind i (length logs) rs old new → InfosThrough kind logs i old → InfosThrough kind logs (i + 1) new
-infos_through kind logs i rs old new l at adds h n = (
+pub infos_through : (key_at : ℕ → Key) (logs : List (List Record)) (i : ℕ) (rs : List Record) (old new : BTreeMap ℕ ℕ) → i < length logs → rs ≡ get_or logs i rs
+    → AddsInfos key_at i (length logs) rs old new → InfosThrough key_at logs i old → InfosThrough key_at logs (i + 1) new
+infos_through key_at logs i rs old new l at adds h n = (
   λ low. elim (below_cases (n % length logs) i low) [
-    | inl less ↦ subst (λ (z : Option ℕ). IsPlaced (info_key kind n) (log_of logs n) None z) (sym ((adds n).1 (omega arith))) ((h n).0 less)
+    | inl less ↦ subst (λ (z : Option ℕ). IsPlaced (key_at n) (log_of logs n) None z) (sym ((adds n).1 (omega arith))) ((h n).0 less)
     | inr e ↦
         let none : tree.get nat_cmp old n ≡ None = (h n).1 (omega arith) in
-        subst (λ (z : List Record). IsPlaced (info_key kind n) z None (tree.get nat_cmp new n)) (sym (at_log logs n i rs l at e))
-        (subst (λ (z : Option ℕ). IsPlaced (info_key kind n) rs z (tree.get nat_cmp new n)) none ((adds n).0 e))
+        subst (λ (z : List Record). IsPlaced (key_at n) z None (tree.get nat_cmp new n)) (sym (at_log logs n i rs l at e))
+        (subst (λ (z : Option ℕ). IsPlaced (key_at n) rs z (tree.get nat_cmp new n)) none ((adds n).0 e))
   ],
   λ high. (adds n).1 (omega arith) ∙ (h n).1 (omega arith),
 )
 
-pub infos_end : (kind : Kind) (logs : List (List Record)) (i : ℕ) (places : BTreeMap ℕ ℕ) → 0 < length logs → length logs ≤ i → InfosThrough kind logs i places → HasInfos kind logs places
-infos_end kind logs i places some l h n = (h n).0 (let low = mod-lt n some in omega (arith, low))
+pub infos_end : (key_at : ℕ → Key) (logs : List (List Record)) (i : ℕ) (places : BTreeMap ℕ ℕ) → 0 < length logs → length logs ≤ i → InfosThrough key_at logs i places → HasInfos key_at logs places
+infos_end key_at logs i places some l h n = (h n).0 (let low = mod-lt n some in omega (arith, low))
 
 -- what stands in its log has a place
 pub placed_some : (k : Key) (rs : List Record) (now : Option ℕ) → now ≡ None → IsPlaced k rs None now → ¬ Has rs k

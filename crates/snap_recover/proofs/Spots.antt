@@ -1,5 +1,5 @@
 -- The spots of all that is in, and what is kept at each in their order.
-use Rattle.std.proofs.Common.{◌≡◌, ◌≢◌, ℕ, ◌+◌, ◌<◌, ◌≤◌, ◌⊎◌, inl, inr, Bool, true, false, cond, List, [], ◌∷◌, ◌++◌, length, map, take, get_or, refl, sym, ap, subst, ◌∙◌, arith, IsTrue, ◌↔◌}
+use Rattle.std.proofs.Common.{◌≡◌, ◌≢◌, ℕ, ℤ, Option, ◌+◌, ◌<◌, ◌≤◌, ◌⊎◌, inl, inr, Bool, true, false, cond, List, [], ◌∷◌, ◌++◌, length, map, take, get_or, refl, sym, ap, subst, ◌∙◌, arith, IsTrue, ◌↔◌}
 use Rattle.std.proofs.lemmas.Bool.Decides.{nat_tests}
 use Rattle.std.proofs.lemmas.List.{take_all, map-append}
 use Rattle.std.proofs.lemmas.List.Elements.{All-from_recursion}
@@ -13,6 +13,7 @@ use Rattle.std.specs.Ordering.{nat_cmp, ordering_then}
 use Rattle.std.specs.BTreeSet as bag
 use Rattle.std.specs.BTreeSet.{BTreeSet}
 use Rattle.std.specs.BTreeMap.{is_at}
+use Rattle.snap_base.specs.declared.ids.ActorId.{ActorId}
 use Rattle.snap_base.specs.declared.ids.Bid.{Bid}
 use Rattle.snap_base.specs.declared.ids.Tid.{Tid}
 use Rattle.txn_records.specs.declared.records.Record.{Record}
@@ -21,7 +22,7 @@ use Rattle.txn_records.specs.declared.keys.Key.TheVariants as keys
 use Rattle.snap_recover.specs.declared.kinds.Kind.TheVariants as kinds
 use Rattle.snap_recover.specs.declared.openings.Kept.{Kept}
 use Rattle.snap_recover.specs.declared.openings.Kept.TheVariants as kept
-use Rattle.snap_recover.specs.Opening.{IsIn, commit_of, IsKept, ComesBefore, IsCommitted}
+use Rattle.snap_recover.specs.Opening.{IsIn, IsActIn, IsActOf, commit_of, IsKept, ComesBefore, IsCommitted}
 use Rattle.snap_recover.specs.Passes.{bid_at, tid_at, Spot, spot_cmp, InSpots, spot_of, IsBatchSpot, IsActSpot, AddsSpots, IsSpotIn, HasSpots, IsKeptAt, IsAllWhole}
 use Rattle.snap_recover.proofs.Lists.{all_append, all_weaker, contains_here, contains_left, contains_right, contains_append, contains_cases, contains_none, contains_map, contains_unmap}
 use Rattle.snap_recover.proofs.Homes.{Inserts}
@@ -81,8 +82,8 @@ spots_step IsSpot numbers i n x old mid new l at is one ins adds =
     ))
 
 pub act_spot_one : (logs : List (List Record)) (n : ℕ) (x y : Spot) → IsActSpot logs n x → IsActSpot logs n y → x ≡ y
-act_spot_one logs n x y (m, c, a, p, e) (m', c', a', p', e') =
-    let same = one_act logs (tid_at n) m m' c c' a a' p p' in
+act_spot_one logs n x y (m, c, v, a, p, e) (m', c', v', a', p', e') =
+    let same = one_act logs (tid_at n) m m' c c' v v' a a' p p' in
     let between : (m.0, 1, c, n) ≡ (m'.0, 1, c', n) = λ i. ((same.0 i).0, 1, same.1 i, n) in
     e ∙ between ∙ sym e'
 
@@ -105,13 +106,19 @@ pub batch_spot : (logs : List (List Record)) (x : Spot) → IsSpotIn logs x → 
 batch_spot logs x (inl (n, i, e)) zero =
     let P : Spot → Type 0 = λ y. IsIn logs (bid_at y.0) × (y ≡ (y.0, 0, 0, 0)) in
     subst P (sym e) (i, refl)
-batch_spot logs x (inr (n, i, (m, c, a, p, e))) zero = absurd (let one : x.1 ≡ 1 = ap (λ (y : Spot). y.1) e in omega (arith, one, zero))
+batch_spot logs x (inr (n, i, (m, c, v, a, p, e))) zero = absurd (let one : x.1 ≡ 1 = ap (λ (y : Spot). y.1) e in omega (arith, one, zero))
 
-pub act_kept : (logs : List (List Record)) (x : Spot) → IsSpotIn logs x → x.1 ≢ 0 → IsKeptAt logs x (kept.Act (tid_at x.3) (bid_at x.0) x.2)
-act_kept logs x (inl (n, i, e)) some = absurd (some (ap (λ (y : Spot). y.1) e))
-act_kept logs x (inr (n, i, (m, c, a, p, e))) some =
-    let P : Spot → Type 0 = λ y. IsKeptAt logs y (kept.Act (tid_at y.3) (bid_at y.0) y.2) in
-    subst P (sym e) (record { at = refl; is_kept = (a, p) })
+pub act_spot : (logs : List (List Record)) (x : Spot) → IsSpotIn logs x → x.1 ≢ 0 → IsActIn logs (tid_at x.3)
+act_spot logs x (inl (n, i, e)) some = absurd (some (ap (λ (y : Spot). y.1) e))
+act_spot logs x (inr (n, i, (m, c, v, a, p, e))) some =
+    let P : Spot → Type 0 = λ y. IsActIn logs (tid_at y.3) in
+    subst P (sym e) i
+
+pub act_kept : (logs : List (List Record)) (x : Spot) (m : Bid) (c : ℕ) (v : Option ℤ) (a : List ActorId) → IsSpotIn logs x → x.1 ≢ 0 → IsActOf logs (tid_at x.3) m c v a → IsKeptAt logs x (kept.Act (tid_at x.3) m c v)
+act_kept logs x m c v a (inl (n, i, e)) some h = absurd (some (ap (λ (y : Spot). y.1) e))
+act_kept logs x m c v a (inr (n, i, (m', c', v', a', p, e))) some h =
+    let P : Spot → Type 0 = λ y. IsActOf logs (tid_at y.3) m c v a → IsKeptAt logs y (kept.Act (tid_at y.3) m c v) in
+    subst P (sym e) (λ k. let same = one_act logs (tid_at n) m m' c c' v v' a a' k p in record { at = λ i. ((same.0 i).0, 1, same.1 i, n); is_kept = (a, k) }) h
 
 -- ---- the order
 
@@ -156,18 +163,18 @@ spot_less x y h = elim (then_less (ordering_then (ordering_then (nat_cmp x.0 y.0
 ]
 
 before_kept : (a b : Kept) → SpotBefore (spot_of a) (spot_of b) → ComesBefore a b
-before_kept (kept.Batch k t) (kept.Batch j u) (inl h) = h
-before_kept (kept.Batch k t) (kept.Batch j u) (inr (e, inl h)) = absurd (omega (arith, h))
-before_kept (kept.Batch k t) (kept.Batch j u) (inr (e, inr (f, inl h))) = absurd (omega (arith, h))
-before_kept (kept.Batch k t) (kept.Batch j u) (inr (e, inr (f, inr (g, h)))) = absurd (omega (arith, h))
-before_kept (kept.Batch k t) (kept.Act u n d) (inl h) = omega (arith, h)
-before_kept (kept.Batch k t) (kept.Act u n d) (inr (e, h)) = omega (arith, e)
-before_kept (kept.Act t m c) (kept.Batch j u) (inl h) = h
-before_kept (kept.Act t m c) (kept.Batch j u) (inr (e, inl h)) = absurd (omega (arith, h))
-before_kept (kept.Act t m c) (kept.Batch j u) (inr (e, inr (f, h))) = absurd (omega (arith, f))
-before_kept (kept.Act t m c) (kept.Act u n d) (inl h) = inl h
-before_kept (kept.Act t m c) (kept.Act u n d) (inr (e, inl h)) = absurd (omega (arith, h))
-before_kept (kept.Act t m c) (kept.Act u n d) (inr (e, inr (f, h))) = inr (e, h)
+before_kept (kept.Batch k t v) (kept.Batch j u w) (inl h) = h
+before_kept (kept.Batch k t v) (kept.Batch j u w) (inr (e, inl h)) = absurd (omega (arith, h))
+before_kept (kept.Batch k t v) (kept.Batch j u w) (inr (e, inr (f, inl h))) = absurd (omega (arith, h))
+before_kept (kept.Batch k t v) (kept.Batch j u w) (inr (e, inr (f, inr (g, h)))) = absurd (omega (arith, h))
+before_kept (kept.Batch k t v) (kept.Act u n d w) (inl h) = omega (arith, h)
+before_kept (kept.Batch k t v) (kept.Act u n d w) (inr (e, h)) = omega (arith, e)
+before_kept (kept.Act t m c v) (kept.Batch j u w) (inl h) = h
+before_kept (kept.Act t m c v) (kept.Batch j u w) (inr (e, inl h)) = absurd (omega (arith, h))
+before_kept (kept.Act t m c v) (kept.Batch j u w) (inr (e, inr (f, h))) = absurd (omega (arith, f))
+before_kept (kept.Act t m c v) (kept.Act u n d w) (inl h) = inl h
+before_kept (kept.Act t m c v) (kept.Act u n d w) (inr (e, inl h)) = absurd (omega (arith, h))
+before_kept (kept.Act t m c v) (kept.Act u n d w) (inr (e, inr (f, h))) = inr (e, h)
 
 sorted_ascends : (ks : List Kept) → IsStrictlySortedBy spot_cmp (map spot_of ks) → AllPairs ComesBefore ks
 sorted_ascends [] s = λ i j d l m. absurd (omega arith)
@@ -210,12 +217,12 @@ pub spot_in : (logs : List (List Record)) (spots : List Spot) (i : ℕ) (x : Spo
 spot_in logs spots i x l at are = are.are_in x (i, l, sym at)
 
 batch_of_spot : (k : Kept) (b : Bid) → spot_of k ≡ (b.0, 0, 0, 0) → commit_of k ≡ keys.Commit b
-batch_of_spot (kept.Batch j t) b e = ap (λ (x : Spot). keys.Commit (bid_at x.0)) e
-batch_of_spot (kept.Act t m c) b e = absurd (let bad : 1 ≡ 0 = ap (λ (x : Spot). x.1) e in omega (arith, bad))
+batch_of_spot (kept.Batch j t v) b e = ap (λ (x : Spot). keys.Commit (bid_at x.0)) e
+batch_of_spot (kept.Act t m c v) b e = absurd (let bad : 1 ≡ 0 = ap (λ (x : Spot). x.1) e in omega (arith, bad))
 
 act_of_spot : (k : Kept) (m : Bid) (c : ℕ) (t : Tid) → spot_of k ≡ (m.0, 1, c, t.0) → commit_of k ≡ keys.Act t
-act_of_spot (kept.Batch j u) m c t e = absurd (let bad : 0 ≡ 1 = ap (λ (x : Spot). x.1) e in omega (arith, bad))
-act_of_spot (kept.Act u n d) m c t e = ap (λ (x : Spot). keys.Act (tid_at x.3)) e
+act_of_spot (kept.Batch j u v) m c t e = absurd (let bad : 0 ≡ 1 = ap (λ (x : Spot). x.1) e in omega (arith, bad))
+act_of_spot (kept.Act u n d v) m c t e = ap (λ (x : Spot). keys.Act (tid_at x.3)) e
 
 listed : (logs : List (List Record)) (spots : List Spot) (ks : List Kept) (x : Spot) (k : Key) → map spot_of ks ≡ spots → AreSpots logs spots → IsSpotIn logs x → ((y : Kept) → spot_of y ≡ x → commit_of y ≡ k) → Contains (map commit_of ks) k
 listed logs spots ks x k same are i told =
@@ -230,5 +237,5 @@ kept_end logs spots i ks l whole are h =
       ascend = sorted_ascends ks (subst (IsStrictlySortedBy spot_cmp) (sym same) are.ascend);
       each = h.each;
       all_batches = λ b p. listed logs spots ks (b.0, 0, 0, 0) (keys.Commit b) same are (inl (b.0, p, refl)) (λ y e. batch_of_spot y b e);
-      all_acts = λ t p. let w = whole.acts t p in listed logs spots ks (w.0.0, 1, w.1, t.0) (keys.Act t) same are (inr (t.0, p, (w.0, w.1, w.2, w.3, refl))) (λ y e. act_of_spot y w.0 w.1 t e);
+      all_acts = λ t p. let w = whole.acts t p in listed logs spots ks (w.0.0, 1, w.1, t.0) (keys.Act t) same are (inr (t.0, p, (w.0, w.1, w.2, w.3, w.4, refl))) (λ y e. act_of_spot y w.0 w.1 t e);
     }

@@ -1,9 +1,9 @@
 -- What stands in the logs: lists of records, one for each log. Batch k writes to log k, actor a to log a, and
 -- transaction t commits in log t, all modulo the number of logs.
-use Rattle.std.specs.Prelude.{◌≡◌, ℕ, ◌%◌, Bool, true, false, List, [], ◌∷◌, ◌++◌, length, map, filter, slice_index_or, Contains}
+use Rattle.std.specs.Prelude.{◌≡◌, ℕ, ℤ, ◌%◌, Bool, true, false, List, [], ◌∷◌, ◌++◌, length, map, filter, slice_index_or, Contains}
 use Rattle.std.specs.List.{AllByRecursion, flat_map}
 use Rattle.txn_records.specs.declared.records.Record.{Record}
-use Rattle.txn_records.specs.declared.records.Record.TheVariants.{Genesis, BatchInfo, BatchComplete, BatchCommit, ActPrepare, ActCommit}
+use Rattle.txn_records.specs.declared.records.Record.TheVariants.{Genesis, BatchInfo, BatchComplete, BatchCommit, ActPrepare, ActCommit, BatchDone, ActDone}
 use Rattle.snap_base.specs.declared.transactions.State.{State}
 use Rattle.txn_records.specs.declared.keys.Key.{Key}
 use Rattle.txn_records.specs.Records.{key, actor_numbers, tid_numbers}
@@ -33,6 +33,8 @@ actors_in (BatchComplete bid actor state) = actor.0 ∷ []
 actors_in (BatchCommit bid) = []
 actors_in (ActPrepare tid actor state) = actor.0 ∷ []
 actors_in (ActCommit tid m c actors) = actor_numbers actors
+actors_in (BatchDone bid values) = []
+actors_in (ActDone tid m c value actors) = actor_numbers actors
 
 abbrev pub tids_in : Record → List ℕ
 tids_in (Genesis logs states) = []
@@ -41,6 +43,8 @@ tids_in (BatchComplete bid actor state) = []
 tids_in (BatchCommit bid) = []
 tids_in (ActPrepare tid actor state) = tid.0 ∷ []
 tids_in (ActCommit tid m c actors) = tid.0 ∷ []
+tids_in (BatchDone bid values) = []
+tids_in (ActDone tid m c value actors) = tid.0 ∷ []
 
 abbrev pub bids_in : Record → List ℕ
 bids_in (Genesis logs states) = []
@@ -49,6 +53,8 @@ bids_in (BatchComplete bid actor state) = bid.0 ∷ []
 bids_in (BatchCommit bid) = bid.0 ∷ []
 bids_in (ActPrepare tid actor state) = []
 bids_in (ActCommit tid m c actors) = m.0 ∷ []
+bids_in (BatchDone bid values) = bid.0 ∷ []
+bids_in (ActDone tid m c value actors) = m.0 ∷ []
 
 -- commit numbers
 abbrev pub commits_in : Record → List ℕ
@@ -58,6 +64,8 @@ commits_in (BatchComplete bid actor state) = []
 commits_in (BatchCommit bid) = []
 commits_in (ActPrepare tid actor state) = []
 commits_in (ActCommit tid m c actors) = c ∷ []
+commits_in (BatchDone bid values) = []
+commits_in (ActDone tid m c value actors) = c ∷ []
 
 -- the states of the one actor that the record is of
 abbrev pub states_in : Record → List State
@@ -67,6 +75,19 @@ states_in (BatchComplete bid actor state) = state ∷ []
 states_in (BatchCommit bid) = []
 states_in (ActPrepare tid actor state) = state ∷ []
 states_in (ActCommit tid m c actors) = []
+states_in (BatchDone bid values) = []
+states_in (ActDone tid m c value actors) = []
+
+-- the values that the commit of a batch tells; format 1 tells none
+abbrev pub values_in : Record → List ℤ
+values_in (Genesis logs states) = []
+values_in (BatchInfo bid actors tids) = []
+values_in (BatchComplete bid actor state) = []
+values_in (BatchCommit bid) = []
+values_in (ActPrepare tid actor state) = []
+values_in (ActCommit tid m c actors) = []
+values_in (BatchDone bid values) = values
+values_in (ActDone tid m c value actors) = []
 
 abbrev pub is_genesis : Record → Bool
 is_genesis (Genesis logs states) = true
@@ -75,6 +96,8 @@ is_genesis (BatchComplete bid actor state) = false
 is_genesis (BatchCommit bid) = false
 is_genesis (ActPrepare tid actor state) = false
 is_genesis (ActCommit tid m c actors) = false
+is_genesis (BatchDone bid values) = false
+is_genesis (ActDone tid m c value actors) = false
 
 abbrev pub geneses : List (List Record) → List Record
 geneses logs = filter is_genesis (all_of logs)

@@ -1,13 +1,13 @@
 -- What logs recover to: which batches and undeclared transactions are in, the state of each actor, and the next
 -- numbers. An undeclared transaction is called an ACT.
-use Rattle.std.specs.Prelude.{◌≡◌, ℕ, ◌+◌, ◌<◌, ◌≤◌, ◌⊎◌, max, List, [], ◌∷◌, ◌++◌, length, map, Contains}
+use Rattle.std.specs.Prelude.{◌≡◌, ℕ, ℤ, ◌+◌, ◌<◌, ◌≤◌, ◌⊎◌, max, Option, Some, None, List, [], ◌∷◌, ◌++◌, length, map, Contains}
 use Rattle.std.specs.List.{AllByRecursion, AllZip, AllPairs, flat_map, enumerate_from}
 use Rattle.snap_base.specs.declared.ids.ActorId.{ActorId}
 use Rattle.snap_base.specs.declared.ids.Bid.{Bid}
 use Rattle.snap_base.specs.declared.ids.Tid.{Tid}
 use Rattle.snap_base.specs.declared.transactions.State.{State}
 use Rattle.txn_records.specs.declared.records.Record.{Record}
-use Rattle.txn_records.specs.declared.records.Record.TheVariants.{Genesis, BatchInfo, BatchComplete, BatchCommit, ActPrepare, ActCommit}
+use Rattle.txn_records.specs.declared.records.Record.TheVariants.{Genesis, BatchInfo, BatchComplete, BatchCommit, ActPrepare, ActCommit, BatchDone, ActDone}
 use Rattle.txn_records.specs.declared.keys.Key.{Key}
 use Rattle.txn_records.specs.declared.keys.Key.TheVariants as keys
 use Rattle.txn_records.specs.Records.{key}
@@ -15,7 +15,7 @@ use Rattle.snap_recover.specs.declared.openings.Opening.{Opening}
 use Rattle.snap_recover.specs.declared.ranges.TheConstants.{GREATEST_NUMBER}
 use Rattle.snap_recover.specs.declared.openings.Kept.{Kept}
 use Rattle.snap_recover.specs.declared.openings.Kept.TheVariants as kept
-use Rattle.snap_recover.specs.Logs.{all_of, log_of, Has, IsLastOf, actors_in, tids_in, bids_in, commits_in, states_in, geneses}
+use Rattle.snap_recover.specs.Logs.{all_of, log_of, Has, IsLastOf, actors_in, tids_in, bids_in, commits_in, states_in, values_in, geneses}
 
 -- ---- batches
 
@@ -26,6 +26,30 @@ IsIn logs bid = Has (log_of logs bid.0) (keys.Commit bid)
 -- what its log says of a batch: its actors and its transactions; where it says so twice, the last counts
 abbrev pub IsInfoOf : List (List Record) → Bid → List ActorId → List Tid → Type 0
 IsInfoOf logs bid actors tids = IsLastOf (λ r. key r ≡ keys.Info bid) (log_of logs bid.0) (BatchInfo bid actors tids)
+
+-- its commit; of two the last counts
+abbrev pub IsCommitOf : List (List Record) → Bid → Record → Type 0
+IsCommitOf logs bid r = IsLastOf (λ x. key x ≡ keys.Commit bid) (log_of logs bid.0) r
+
+-- where it tells values, it tells one for each of these transactions
+abbrev pub FitsTids : Record → List Tid → Type 0
+FitsTids (Genesis count states) tids = Unit {0}
+FitsTids (BatchInfo bid actors tids') tids = Unit {0}
+FitsTids (BatchComplete bid actor state) tids = Unit {0}
+FitsTids (BatchCommit bid) tids = Unit {0}
+FitsTids (ActPrepare tid actor state) tids = Unit {0}
+FitsTids (ActCommit tid m c actors) tids = Unit {0}
+FitsTids (BatchDone bid values) tids = length values ≡ length tids
+FitsTids (ActDone tid m c value actors) tids = Unit {0}
+
+-- a batch has as many values as transactions, or its commit tells none
+pub record HasItsValues (logs : List (List Record)) (bid : Bid) : Type 0 where
+  pub actors : List ActorId
+  pub tids : List Tid
+  pub commit : Record
+  pub info_is : IsInfoOf logs bid actors tids
+  pub commit_is : IsCommitOf logs bid commit
+  pub fits : FitsTids commit tids
 
 -- the actor's log says that it has run its part of the batch
 abbrev pub HasCompleted : List (List Record) → Bid → ActorId → Type 0
@@ -41,9 +65,15 @@ IsWhole logs bid = (actors : List ActorId) × (tids : List Tid) × IsInfoOf logs
 abbrev pub IsActIn : List (List Record) → Tid → Type 0
 IsActIn logs tid = Has (log_of logs tid.0) (keys.Act tid)
 
--- what its commit says of an ACT: the batch behind which it comes, its number, and its actors; of two the last counts
-abbrev pub IsActOf : List (List Record) → Tid → Bid → ℕ → List ActorId → Type 0
-IsActOf logs tid m c actors = IsLastOf (λ r. key r ≡ keys.Act tid) (log_of logs tid.0) (ActCommit tid m c actors)
+-- the commit of an ACT: format 2 tells its value
+abbrev pub act_record : Tid → Bid → ℕ → Option ℤ → List ActorId → Record
+act_record tid m c None actors = ActCommit tid m c actors
+act_record tid m c (Some value) actors = ActDone tid m c value actors
+
+-- what its commit says of an ACT: the batch behind which it comes, its number, its value where that is known, and its actors;
+-- of two the last counts
+abbrev pub IsActOf : List (List Record) → Tid → Bid → ℕ → Option ℤ → List ActorId → Type 0
+IsActOf logs tid m c value actors = IsLastOf (λ r. key r ≡ keys.Act tid) (log_of logs tid.0) (act_record tid m c value actors)
 
 -- the actor's log has the state that the ACT gave it
 abbrev pub HasPrepared : List (List Record) → Tid → ActorId → Type 0
@@ -51,7 +81,7 @@ HasPrepared logs tid actor = Has (log_of logs actor.0) (keys.Prepare tid actor)
 
 -- nothing is lacking of an ACT
 abbrev pub IsActWhole : List (List Record) → Tid → Type 0
-IsActWhole logs tid = (m : Bid) × (c : ℕ) × (actors : List ActorId) × IsActOf logs tid m c actors × AllByRecursion (HasPrepared logs tid) actors
+IsActWhole logs tid = (m : Bid) × (c : ℕ) × (value : Option ℤ) × (actors : List ActorId) × IsActOf logs tid m c value actors × AllByRecursion (HasPrepared logs tid) actors
 
 -- ---- states
 
@@ -63,6 +93,8 @@ Counts logs a (BatchComplete bid actor state) = (actor.0 ≡ a) × IsIn logs bid
 Counts logs a (BatchCommit bid) = ⊥
 Counts logs a (ActPrepare tid actor state) = (actor.0 ≡ a) × IsActIn logs tid
 Counts logs a (ActCommit tid m c actors) = ⊥
+Counts logs a (BatchDone bid values) = ⊥
+Counts logs a (ActDone tid m c value actors) = ⊥
 
 -- The state of actor a is that of the last record of its log that counts, and where none does it is the first one.
 abbrev pub IsStateOf : List (List Record) → ℕ → State → State → Type 0
@@ -78,20 +110,20 @@ AreStates logs first states = AllZip (λ (x : ℕ × State) s. IsStateOf logs x.
 
 -- the key of the record by which it is in
 abbrev pub commit_of : Kept → Key
-commit_of (kept.Batch bid tids) = keys.Commit bid
-commit_of (kept.Act tid m c) = keys.Act tid
+commit_of (kept.Batch bid tids values) = keys.Commit bid
+commit_of (kept.Act tid m c value) = keys.Act tid
 
 abbrev pub IsKept : List (List Record) → Kept → Type 0
-IsKept logs (kept.Batch bid tids) = IsIn logs bid × ((actors : List ActorId) × IsInfoOf logs bid actors tids)
-IsKept logs (kept.Act tid m c) = (actors : List ActorId) × IsActOf logs tid m c actors
+IsKept logs (kept.Batch bid tids values) = IsIn logs bid × ((actors : List ActorId) × IsInfoOf logs bid actors tids) × ((r : Record) × IsCommitOf logs bid r × (values ≡ values_in r))
+IsKept logs (kept.Act tid m c value) = (actors : List ActorId) × IsActOf logs tid m c value actors
 
 -- The order of the places: batches by their numbers, and ACTs behind the batch of their m and before all later
 -- ones, by their commit numbers and then by their tids.
 abbrev pub ComesBefore : Kept → Kept → Type 0
-ComesBefore (kept.Batch bid tids) (kept.Batch bid' tids') = bid.0 < bid'.0
-ComesBefore (kept.Batch bid tids) (kept.Act tid m c) = bid.0 ≤ m.0
-ComesBefore (kept.Act tid m c) (kept.Batch bid tids) = m.0 < bid.0
-ComesBefore (kept.Act tid m c) (kept.Act tid' m' c') = (m.0 < m'.0) ⊎ ((m.0 ≡ m'.0) × ((c < c') ⊎ ((c ≡ c') × (tid.0 < tid'.0))))
+ComesBefore (kept.Batch bid tids values) (kept.Batch bid' tids' values') = bid.0 < bid'.0
+ComesBefore (kept.Batch bid tids values) (kept.Act tid m c value) = bid.0 ≤ m.0
+ComesBefore (kept.Act tid m c value) (kept.Batch bid tids values) = m.0 < bid.0
+ComesBefore (kept.Act tid m c value) (kept.Act tid' m' c' value') = (m.0 < m'.0) ⊎ ((m.0 ≡ m'.0) × ((c < c') ⊎ ((c ≡ c') × (tid.0 < tid'.0))))
 
 -- the batches and the ACTs that are in, in the order of their places
 pub record IsCommitted (logs : List (List Record)) (committed : List Kept) : Type 0 where
@@ -126,6 +158,7 @@ pub record IsRecovered (logs : List (List Record)) (o : Opening) : Type 0 where
   pub begun : (first : List State) × IsBegun logs first × AreStates logs first o.states
   pub whole : (bid : Bid) → IsIn logs bid → IsWhole logs bid
   pub acts_whole : (tid : Tid) → IsActIn logs tid → IsActWhole logs tid
+  pub valued : (bid : Bid) → IsIn logs bid → HasItsValues logs bid
   pub committed : IsCommitted logs o.committed
   pub next_tid : o.next_tid.0 ≡ next_of tids_in logs
   pub next_bid : o.next_bid.0 ≡ next_of bids_in logs

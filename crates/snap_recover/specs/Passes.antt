@@ -1,6 +1,6 @@
 -- Only private contracts cite this; the rule is specs/Opening.antt.
 -- What a pass over one log gives. The log is number `log` of `logs`.
-use Rattle.std.specs.Prelude.{◌≡◌, ◌≢◌, ℕ, ◌%◌, ◌<◌, ◌⊎◌, Option, Some, None, List, [], ◌∷◌, ◌++◌, length, slice_index_or, Contains, IsTrue, ◌↔◌}
+use Rattle.std.specs.Prelude.{◌≡◌, ◌≢◌, ℕ, ℤ, ◌%◌, ◌<◌, ◌⊎◌, Option, Some, None, List, [], ◌∷◌, ◌++◌, length, slice_index_or, Contains, IsTrue, ◌↔◌}
 use Rattle.std.specs.List.{AllByRecursion}
 use Rattle.std.specs.declared.cmp.Ordering.{Ordering}
 use Rattle.std.specs.Ordering.{nat_cmp, ordering_then}
@@ -13,7 +13,7 @@ use Rattle.snap_base.specs.declared.ids.Bid.{Bid}
 use Rattle.snap_base.specs.declared.ids.Tid.{Tid}
 use Rattle.snap_base.specs.declared.transactions.State.{State}
 use Rattle.txn_records.specs.declared.records.Record.{Record}
-use Rattle.txn_records.specs.declared.records.Record.TheVariants.{Genesis, BatchInfo, BatchComplete, BatchCommit, ActPrepare, ActCommit}
+use Rattle.txn_records.specs.declared.records.Record.TheVariants.{Genesis, BatchInfo, BatchComplete, BatchCommit, ActPrepare, ActCommit, BatchDone, ActDone}
 use Rattle.txn_records.specs.declared.keys.Key.{Key}
 use Rattle.txn_records.specs.declared.keys.Key.TheVariants as keys
 use Rattle.txn_records.specs.Records.{key}
@@ -23,9 +23,9 @@ use Rattle.snap_recover.specs.declared.kinds.Kind.TheVariants as kinds
 use Rattle.snap_recover.specs.declared.openings.Kept.{Kept}
 use Rattle.snap_recover.specs.declared.openings.Kept.TheVariants as kept
 use Rattle.snap_recover.specs.declared.refusals.RecoverNo.{RecoverNo}
-use Rattle.snap_recover.specs.declared.refusals.RecoverNo.TheVariants.{NoGenesis, TwoGenesis, LogCount, Range, Missing, Memory}
-use Rattle.snap_recover.specs.Opening.{IsWhole, IsIn, IsActIn, IsActWhole, IsActOf, IsKept}
-use Rattle.snap_recover.specs.Refusals.{LacksInfo, LacksComplete, LacksPrepare, IsFirstBatchLacking, IsFirstActLacking, IsFirstLacking}
+use Rattle.snap_recover.specs.declared.refusals.RecoverNo.TheVariants.{NoGenesis, TwoGenesis, LogCount, Range, Missing, Values, Memory}
+use Rattle.snap_recover.specs.Opening.{IsWhole, IsIn, IsActIn, IsActWhole, IsActOf, HasItsValues, act_record, IsKept}
+use Rattle.snap_recover.specs.Refusals.{LacksInfo, LacksComplete, LacksPrepare, LacksValues, IsFirstBatchLacking, IsFirstActLacking, IsFirstLacking, IsFirstLackingValues}
 
 abbrev pub bid_at : ℕ → Bid
 bid_at n = record { 0 = n }
@@ -90,15 +90,15 @@ IsPlaced k rs old new =
 abbrev pub IsPlacedBy : Key → ℕ → Record → Option ℕ → Option ℕ → Type 0
 IsPlacedBy k at r old new = ((key r ≡ k) × (new ≡ Some at)) ⊎ ((key r ≢ k) × (new ≡ old))
 
--- the place of the record is added, where it tells actors and stands in its log
-abbrev pub AddsInfo : Kind → ℕ → ℕ → ℕ → Record → BTreeMap ℕ ℕ → BTreeMap ℕ ℕ → Type 0
-AddsInfo kind log logs at r old new = (n : ℕ) →
-    ((n % logs ≡ log → IsPlacedBy (info_key kind n) at r (tree.get nat_cmp old n) (tree.get nat_cmp new n)) × (n % logs ≢ log → tree.get nat_cmp new n ≡ tree.get nat_cmp old n))
+-- the place of the record is added under the number of its key, where it has one and stands in its log
+abbrev pub AddsInfo : (ℕ → Key) → ℕ → ℕ → ℕ → Record → BTreeMap ℕ ℕ → BTreeMap ℕ ℕ → Type 0
+AddsInfo key_at log logs at r old new = (n : ℕ) →
+    ((n % logs ≡ log → IsPlacedBy (key_at n) at r (tree.get nat_cmp old n) (tree.get nat_cmp new n)) × (n % logs ≢ log → tree.get nat_cmp new n ≡ tree.get nat_cmp old n))
 
--- the places of the records that tell actors and stand in their log are added
-abbrev pub AddsInfos : Kind → ℕ → ℕ → List Record → BTreeMap ℕ ℕ → BTreeMap ℕ ℕ → Type 0
-AddsInfos kind log logs rs old new = (n : ℕ) →
-    ((n % logs ≡ log → IsPlaced (info_key kind n) rs (tree.get nat_cmp old n) (tree.get nat_cmp new n)) × (n % logs ≢ log → tree.get nat_cmp new n ≡ tree.get nat_cmp old n))
+-- the places of the records with these keys that stand in their log are added
+abbrev pub AddsInfos : (ℕ → Key) → ℕ → ℕ → List Record → BTreeMap ℕ ℕ → BTreeMap ℕ ℕ → Type 0
+AddsInfos key_at log logs rs old new = (n : ℕ) →
+    ((n % logs ≡ log → IsPlaced (key_at n) rs (tree.get nat_cmp old n) (tree.get nat_cmp new n)) × (n % logs ≢ log → tree.get nat_cmp new n ≡ tree.get nat_cmp old n))
 
 -- ---- over all logs
 
@@ -108,8 +108,8 @@ HasCommitted kind logs set = (n : ℕ) → In set n ↔ Has (log_of logs n) (com
 abbrev pub HasAllParts : Kind → List (List Record) → BTreeSet (ℕ × ℕ) → Type 0
 HasAllParts kind logs set = (x : ℕ × ℕ) → InPair set x ↔ Has (log_of logs x.1) (part_key kind x)
 
-abbrev pub HasInfos : Kind → List (List Record) → BTreeMap ℕ ℕ → Type 0
-HasInfos kind logs places = (n : ℕ) → IsPlaced (info_key kind n) (log_of logs n) None (tree.get nat_cmp places n)
+abbrev pub HasInfos : (ℕ → Key) → List (List Record) → BTreeMap ℕ ℕ → Type 0
+HasInfos key_at logs places = (n : ℕ) → IsPlaced (key_at n) (log_of logs n) None (tree.get nat_cmp places n)
 
 -- ---- states
 
@@ -121,6 +121,8 @@ Tells Batches Acts a (BatchComplete bid actor state) = (actor.0 ≡ a) × Batche
 Tells Batches Acts a (BatchCommit bid) = ⊥
 Tells Batches Acts a (ActPrepare tid actor state) = (actor.0 ≡ a) × Acts tid.0
 Tells Batches Acts a (ActCommit tid m c actors) = ⊥
+Tells Batches Acts a (BatchDone bid values) = ⊥
+Tells Batches Acts a (ActDone tid m c value actors) = ⊥
 
 -- the state of the last record that has P, and where none has it the first one
 abbrev pub StateOver : (Record → Type 0) → List Record → State → State → Type 0
@@ -147,7 +149,7 @@ MemberLacks kinds.Act logs n k log = LacksPrepare logs (tid_at n) k log
 -- its actors, as the last record with its key tells them
 abbrev pub TellsActors : Kind → ℕ → List Record → List ActorId → Type 0
 TellsActors kinds.Batch n rs actors = (tids : List Tid) × IsLastOf (λ r. key r ≡ keys.Info (bid_at n)) rs (BatchInfo (bid_at n) actors tids)
-TellsActors kinds.Act n rs actors = (m : Bid) × (c : ℕ) × IsLastOf (λ r. key r ≡ keys.Act (tid_at n)) rs (ActCommit (tid_at n) m c actors)
+TellsActors kinds.Act n rs actors = (m : Bid) × (c : ℕ) × (value : Option ℤ) × IsLastOf (λ r. key r ≡ keys.Act (tid_at n)) rs (act_record (tid_at n) m c value actors)
 
 -- the answer tells what it lacks
 abbrev pub IsLackOf : Kind → List (List Record) → ℕ → RecoverNo → Type 0
@@ -156,6 +158,7 @@ IsLackOf kind logs n TwoGenesis = ⊥
 IsLackOf kind logs n (LogCount count found) = ⊥
 IsLackOf kind logs n (Range k log) = ⊥
 IsLackOf kind logs n (Missing k log) = MemberLacks kind logs n k log
+IsLackOf kind logs n (Values k log count found) = ⊥
 IsLackOf kind logs n Memory = Unit {0}
 
 abbrev pub IsFirstLackingOf : Kind → List (List Record) → Key → ℕ → Type 0
@@ -169,6 +172,7 @@ IsFirstLackOfKind kind logs TwoGenesis = ⊥
 IsFirstLackOfKind kind logs (LogCount count found) = ⊥
 IsFirstLackOfKind kind logs (Range k log) = ⊥
 IsFirstLackOfKind kind logs (Missing k log) = IsFirstLackingOf kind logs k log
+IsFirstLackOfKind kind logs (Values k log count found) = ⊥
 IsFirstLackOfKind kind logs Memory = Unit {0}
 
 -- the answer tells the first key that is lacking
@@ -178,6 +182,7 @@ IsFirstLackOf logs TwoGenesis = ⊥
 IsFirstLackOf logs (LogCount count found) = ⊥
 IsFirstLackOf logs (Range k log) = ⊥
 IsFirstLackOf logs (Missing k log) = IsFirstLacking logs k log
+IsFirstLackOf logs (Values k log count found) = ⊥
 IsFirstLackOf logs Memory = Unit {0}
 
 -- nothing is lacking of this kind
@@ -188,6 +193,40 @@ AllWhole kind logs = (n : ℕ) → Has (log_of logs n) (commit_key kind n) → M
 pub record IsAllWhole (logs : List (List Record)) : Type 0 where
   pub batches : (bid : Bid) → IsIn logs bid → IsWhole logs bid
   pub acts : (tid : Tid) → IsActIn logs tid → IsActWhole logs tid
+
+-- the answer tells which values of this batch are lacking
+abbrev pub IsValuesLackOf : List (List Record) → ℕ → RecoverNo → Type 0
+IsValuesLackOf logs n NoGenesis = ⊥
+IsValuesLackOf logs n TwoGenesis = ⊥
+IsValuesLackOf logs n (LogCount count found) = ⊥
+IsValuesLackOf logs n (Range k log) = ⊥
+IsValuesLackOf logs n (Missing k log) = ⊥
+IsValuesLackOf logs n (Values k log count found) = LacksValues logs (bid_at n) k log count found
+IsValuesLackOf logs n Memory = Unit {0}
+
+-- the answer tells the first batch whose values are lacking
+abbrev pub IsFirstValuesLackOf : List (List Record) → RecoverNo → Type 0
+IsFirstValuesLackOf logs NoGenesis = ⊥
+IsFirstValuesLackOf logs TwoGenesis = ⊥
+IsFirstValuesLackOf logs (LogCount count found) = ⊥
+IsFirstValuesLackOf logs (Range k log) = ⊥
+IsFirstValuesLackOf logs (Missing k log) = ⊥
+IsFirstValuesLackOf logs (Values k log count found) = IsFirstLackingValues logs k log count found
+IsFirstValuesLackOf logs Memory = Unit {0}
+
+-- each batch that is in has its values
+abbrev pub AllValued : List (List Record) → Type 0
+AllValued logs = (n : ℕ) → Has (log_of logs n) (commit_key kinds.Batch n) → HasItsValues logs (bid_at n)
+
+-- the answer tells what the logs lack, where they are begun
+abbrev pub IsLackOfBegun : List (List Record) → RecoverNo → Type 0
+IsLackOfBegun logs NoGenesis = ⊥
+IsLackOfBegun logs TwoGenesis = ⊥
+IsLackOfBegun logs (LogCount count found) = ⊥
+IsLackOfBegun logs (Range k log) = ⊥
+IsLackOfBegun logs (Missing k log) = IsFirstLacking logs k log
+IsLackOfBegun logs (Values k log count found) = IsAllWhole logs × IsFirstLackingValues logs k log count found
+IsLackOfBegun logs Memory = Unit {0}
 
 -- ---- the order of what is kept
 
@@ -206,15 +245,15 @@ abbrev pub InSpots : BTreeSet Spot → Spot → Type 0
 InSpots set x = IsTrue (bag.contains spot_cmp set x)
 
 abbrev pub spot_of : Kept → Spot
-spot_of (kept.Batch bid tids) = (bid.0, 0, 0, 0)
-spot_of (kept.Act tid m c) = (m.0, 1, c, tid.0)
+spot_of (kept.Batch bid tids values) = (bid.0, 0, 0, 0)
+spot_of (kept.Act tid m c value) = (m.0, 1, c, tid.0)
 
 abbrev pub IsBatchSpot : ℕ → Spot → Type 0
 IsBatchSpot n x = x ≡ (n, 0, 0, 0)
 
 -- the spot of this ACT, as its commit tells it
 abbrev pub IsActSpot : List (List Record) → ℕ → Spot → Type 0
-IsActSpot logs n x = (m : Bid) × (c : ℕ) × (actors : List ActorId) × IsActOf logs (tid_at n) m c actors × (x ≡ (m.0, 1, c, n))
+IsActSpot logs n x = (m : Bid) × (c : ℕ) × (value : Option ℤ) × (actors : List ActorId) × IsActOf logs (tid_at n) m c value actors × (x ≡ (m.0, 1, c, n))
 
 -- the spots of these numbers are added
 abbrev pub AddsSpots : (ℕ → Spot → Type 0) → List ℕ → BTreeSet Spot → BTreeSet Spot → Type 0

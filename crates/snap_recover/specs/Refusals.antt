@@ -1,19 +1,19 @@
 -- Why logs recover to nothing. The causes stand in the order in which they are asked.
-use Rattle.std.specs.Prelude.{◌≡◌, ◌≢◌, ℕ, ◌%◌, ◌<◌, ◌≤◌, ◌⊎◌, List, [], ◌∷◌, ◌++◌, length}
+use Rattle.std.specs.Prelude.{◌≡◌, ◌≢◌, ℕ, ℤ, Option, ◌%◌, ◌<◌, ◌≤◌, ◌⊎◌, List, [], ◌∷◌, ◌++◌, length}
 use Rattle.std.specs.List.{AllByRecursion}
 use Rattle.snap_base.specs.declared.ids.ActorId.{ActorId}
 use Rattle.snap_base.specs.declared.ids.Bid.{Bid}
 use Rattle.snap_base.specs.declared.ids.Tid.{Tid}
 use Rattle.snap_base.specs.declared.transactions.State.{State}
 use Rattle.txn_records.specs.declared.records.Record.{Record}
-use Rattle.txn_records.specs.declared.records.Record.TheVariants.{Genesis}
+use Rattle.txn_records.specs.declared.records.Record.TheVariants.{Genesis, BatchDone}
 use Rattle.txn_records.specs.declared.keys.Key.{Key}
 use Rattle.txn_records.specs.declared.keys.Key.TheVariants as keys
 use Rattle.txn_records.specs.Records.{key}
 use Rattle.snap_recover.specs.declared.refusals.RecoverNo.{RecoverNo}
-use Rattle.snap_recover.specs.declared.refusals.RecoverNo.TheVariants.{NoGenesis, TwoGenesis, LogCount, Range, Missing, Memory}
+use Rattle.snap_recover.specs.declared.refusals.RecoverNo.TheVariants.{NoGenesis, TwoGenesis, LogCount, Range, Missing, Values, Memory}
 use Rattle.snap_recover.specs.Logs.{all_of, log_of, Has, geneses}
-use Rattle.snap_recover.specs.Opening.{IsIn, IsInfoOf, HasCompleted, IsWhole, IsActIn, IsActOf, HasPrepared, IsActWhole, IsInRange, IsBegun}
+use Rattle.snap_recover.specs.Opening.{IsIn, IsInfoOf, IsCommitOf, HasItsValues, HasCompleted, IsWhole, IsActIn, IsActOf, HasPrepared, IsActWhole, IsInRange, IsBegun}
 
 -- the first record, log by log, that is not in range, and the log in which it stands
 abbrev pub IsFirstOutOfRange : ℕ → List (List Record) → Record → ℕ → Type 0
@@ -36,8 +36,8 @@ LacksComplete logs bid k log =
 -- an actor of the ACT has not prepared it, and all before it have
 abbrev pub LacksPrepare : List (List Record) → Tid → Key → ℕ → Type 0
 LacksPrepare logs tid k log =
-    (front behind : List ActorId) × (actor : ActorId) × (m : Bid) × (c : ℕ)
-    × IsActOf logs tid m c (front ++ actor ∷ behind) × AllByRecursion (HasPrepared logs tid) front
+    (front behind : List ActorId) × (actor : ActorId) × (m : Bid) × (c : ℕ) × (value : Option ℤ)
+    × IsActOf logs tid m c value (front ++ actor ∷ behind) × AllByRecursion (HasPrepared logs tid) front
     × (k ≡ keys.Prepare tid actor) × (log ≡ actor.0 % length logs) × ¬ HasPrepared logs tid actor
 
 -- the first key that is lacking of batches, by their numbers, and the log in which it should be
@@ -58,6 +58,24 @@ IsFirstLacking logs k log =
     IsFirstBatchLacking logs k log
     ⊎ (((bid : Bid) → IsIn logs bid → IsWhole logs bid) × IsFirstActLacking logs k log)
 
+-- the commit of a batch tells values, and not one for each of its transactions
+abbrev pub LacksValues : List (List Record) → Bid → Key → ℕ → ℕ → ℕ → Type 0
+LacksValues logs bid k log count found =
+    (actors : List ActorId) × (tids : List Tid) × (values : List ℤ)
+    × IsInfoOf logs bid actors tids × IsCommitOf logs bid (BatchDone bid values)
+    × (count ≡ length tids) × (found ≡ length values) × (count ≢ found)
+    × (k ≡ keys.Commit bid) × (log ≡ bid.0 % length logs)
+
+-- the first such batch, by the numbers
+abbrev pub IsFirstLackingValues : List (List Record) → Key → ℕ → ℕ → ℕ → Type 0
+IsFirstLackingValues logs k log count found =
+    (bid : Bid) × IsIn logs bid × ((b : Bid) → b.0 < bid.0 → IsIn logs b → HasItsValues logs b)
+    × LacksValues logs bid k log count found
+
+-- nothing is lacking
+abbrev pub NoneMissing : List (List Record) → Type 0
+NoneMissing logs = ((bid : Bid) → IsIn logs bid → IsWhole logs bid) × ((tid : Tid) → IsActIn logs tid → IsActWhole logs tid)
+
 abbrev pub IsRefused : List (List Record) → RecoverNo → Type 0
 IsRefused logs NoGenesis = geneses logs ≡ []
 IsRefused logs TwoGenesis = 2 ≤ length (geneses logs)
@@ -67,4 +85,6 @@ IsRefused logs (Range k log) =
     (first : List State) × (r : Record) × (geneses logs ≡ Genesis (length logs) first ∷ [])
     × IsFirstOutOfRange (length first) logs r log × (k ≡ key r)
 IsRefused logs (Missing k log) = (first : List State) × IsBegun logs first × IsFirstLacking logs k log
+IsRefused logs (Values k log count found) =
+    (first : List State) × IsBegun logs first × NoneMissing logs × IsFirstLackingValues logs k log count found
 IsRefused logs Memory = Unit {0}

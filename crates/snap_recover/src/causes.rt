@@ -20,6 +20,8 @@ pub enum LogCause {
     Range { key: Key },
     /// What rests on the record with the key is committed, and that is not in its log.
     Missing { key: Key },
+    /// The batch with the commit of this key has `kept` transactions, and its commit tells `found` values.
+    Values { key: Key, kept: u64, found: u64 },
     /// The next number of transactions, batches or commits is above 2^62 - 2^20.
     Spent { number: u64 },
     /// The logs began with another text: what differs first, with both values.

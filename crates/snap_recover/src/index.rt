@@ -30,7 +30,7 @@ pub(crate) fn index_of(
     requires some { 0 < length logs.now }
     ensures committed { IfOk result (λ index. HasCommitted kind logs.now index.committed) }
     ensures parts { IfOk result (λ index. HasAllParts kind logs.now index.parts) }
-    ensures infos { IfOk result (λ index. HasInfos kind logs.now index.infos) }
+    ensures infos { IfOk result (λ index. HasInfos (info_key kind) logs.now index.infos) }
 {
     let mut index = Index {
         committed: BTreeSet::new(alloc),
@@ -49,7 +49,7 @@ fn add_log(index: &mut Index, kind: Kind, rs: &[Record], log: u64, logs: u64) ->
     requires some { 0 < logs }
     ensures committed { OnOk result (AddsCommits kind log logs rs.now index.old.committed index.new.committed) }
     ensures parts { OnOk result (AddsParts kind log logs rs.now index.old.parts index.new.parts) }
-    ensures infos { OnOk result (AddsInfos kind log logs rs.now index.old.infos index.new.infos) }
+    ensures infos { OnOk result (AddsInfos (info_key kind) log logs rs.now index.old.infos index.new.infos) }
 {
     for at in 0..rs.len() {
         let r = &rs[at];
@@ -88,12 +88,13 @@ fn commit_here(kind: Kind, r: &Record, log: u64, logs: u64) -> Option<u64>
     }
 }
 
-fn batch_commit_here(r: &Record, log: u64, logs: u64) -> Option<u64>
+pub(crate) fn batch_commit_here(r: &Record, log: u64, logs: u64) -> Option<u64>
     requires some { 0 < logs }
     ensures { MatchOption result ((n : ℕ) → n % logs ≡ log → key r.now ≢ commit_key kinds.Batch n) (λ n. (n % logs ≡ log) × (key r.now ≡ commit_key kinds.Batch n)) }
 {
     match r {
         Record::BatchCommit { bid } if bid.0 % logs == log => Some(bid.0),
+        Record::BatchDone { bid, .. } if bid.0 % logs == log => Some(bid.0),
         _ => None,
     }
 }
@@ -104,6 +105,7 @@ fn act_commit_here(r: &Record, log: u64, logs: u64) -> Option<u64>
 {
     match r {
         Record::ActCommit { tid, .. } if tid.0 % logs == log => Some(tid.0),
+        Record::ActDone { tid, .. } if tid.0 % logs == log => Some(tid.0),
         _ => None,
     }
 }
@@ -170,7 +172,7 @@ fn add_info(
     logs: u64,
 ) -> Result<(), Memory>
     requires some { 0 < logs }
-    ensures { OnOk result (AddsInfo kind log logs at r.now places.old places.new) }
+    ensures { OnOk result (AddsInfo (info_key kind) log logs at r.now places.old places.new) }
 {
     if let Some(number) = info_here(kind, r, log, logs) {
         places.insert(number, at)?;

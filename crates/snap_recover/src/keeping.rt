@@ -1,12 +1,15 @@
-ghost use Rattle.std.specs.Prelude.{◌≡◌, ℕ, ◌<◌, length, IfOk, OnOk};
+ghost use Rattle.std.specs.Prelude.{◌≡◌, ◌≢◌, ℕ, ◌<◌, List, length, IfOk, OnOk};
+ghost use Rattle.snap_base.specs.declared.ids.ActorId.{ActorId};
+ghost use Rattle.txn_records.specs.declared.records.Record.{Record};
 ghost use Rattle.std.specs.List.Sorted.{IsStrictlySortedBy};
 ghost use Rattle.snap_recover.specs.declared.kinds.Kind.TheVariants as kinds;
-ghost use Rattle.snap_recover.specs.Opening.{IsIn, IsWhole, IsActIn, IsCommitted};
-ghost use Rattle.snap_recover.specs.Passes.{Spot, spot_cmp, HasCommitted, HasInfos, IsAllWhole, IsBatchSpot, IsActSpot, IsSpotIn, AddsSpots, HasSpots, IsKeptAt, HasIn, bid_at, tid_at};
+ghost use Rattle.snap_recover.specs.Logs.{values_in};
+ghost use Rattle.snap_recover.specs.Opening.{IsIn, IsWhole, IsActIn, IsActOf, IsInfoOf, IsCommitOf, IsCommitted};
+ghost use Rattle.snap_recover.specs.Passes.{Spot, spot_cmp, info_key, commit_key, HasCommitted, HasInfos, IsAllWhole, IsBatchSpot, IsActSpot, IsSpotIn, AddsSpots, HasSpots, IsKeptAt, HasIn, bid_at, tid_at};
 
 use crate::Kept;
 use crate::index::Index;
-use crate::infos::{act_at, info_at};
+use crate::infos::{act_at, copy_values, info_at};
 use crate::wholes::ascending;
 use snap_base::{Bid, Memory, Sequence, Tid};
 use std::alloc::Global;
@@ -22,14 +25,16 @@ pub(crate) fn keep_all(
     alloc: Global,
     logs: &[Sequence<Record>],
     batches: &Index,
+    commits: &BTreeMap<u64, usize>,
     acts: &Index,
 ) -> Result<Sequence<Kept>, Memory>
     requires some { 0 < length logs.now }
     requires whole { IsAllWhole logs.now }
     requires batches_committed { HasCommitted kinds.Batch logs.now batches.now.committed }
-    requires batches_infos { HasInfos kinds.Batch logs.now batches.now.infos }
+    requires batches_infos { HasInfos (info_key kinds.Batch) logs.now batches.now.infos }
+    requires commits { HasInfos (commit_key kinds.Batch) logs.now commits.now }
     requires acts_committed { HasCommitted kinds.Act logs.now acts.now.committed }
-    requires acts_infos { HasInfos kinds.Act logs.now acts.now.infos }
+    requires acts_infos { HasInfos (info_key kinds.Act) logs.now acts.now.infos }
     ensures { IfOk result (λ ks. IsCommitted logs.now ks) }
 {
     let spots = spots_of(
@@ -42,7 +47,7 @@ pub(crate) fn keep_all(
     let order = in_order(alloc, &spots)?;
     let mut kept = Sequence::new(alloc);
     for i in 0..order.len() {
-        let next = keep(alloc, logs, order[i], &batches.infos)?;
+        let next = keep(alloc, logs, order[i], &batches.infos, commits, &acts.infos)?;
         kept.push(next)?;
     }
     Ok(kept)
@@ -68,7 +73,7 @@ fn spots_of(
     requires some { 0 < length logs.now }
     requires batches { HasCommitted kinds.Batch logs.now batches.now }
     requires acts { HasCommitted kinds.Act logs.now acts.now }
-    requires infos { HasInfos kinds.Act logs.now infos.now }
+    requires infos { HasInfos (info_key kinds.Act) logs.now infos.now }
     ensures { IfOk result (λ spots. HasSpots logs.now spots) }
 {
     let mut spots = BTreeSet::new(alloc);
@@ -98,7 +103,7 @@ fn add_acts(
 ) -> Result<(), Memory>
     requires some { 0 < length logs.now }
     requires are_in { HasIn kinds.Act logs.now tids.now }
-    requires infos { HasInfos kinds.Act logs.now infos.now }
+    requires infos { HasInfos (info_key kinds.Act) logs.now infos.now }
     ensures { OnOk result (AddsSpots (IsActSpot logs.now) tids.now spots.old spots.new) }
 {
     for i in 0..tids.len() {
@@ -112,14 +117,14 @@ fn add_acts(
 fn spot_of_act(logs: &[Sequence<Record>], tid: u64, infos: &BTreeMap<u64, usize>) -> Spot
     requires some { 0 < length logs.now }
     requires is_in { IsActIn logs.now (tid_at tid) }
-    requires infos { HasInfos kinds.Act logs.now infos.now }
+    requires infos { HasInfos (info_key kinds.Act) logs.now infos.now }
     ensures { IsActSpot logs.now tid result }
 {
     let Some(place) = infos.get(&tid) else {
         unreachable!()
     };
     let log = tid % logs.len() as u64;
-    let (m, c, _) = act_at(logs[log as usize].as_slice(), *place, tid);
+    let (m, c, _, _) = act_at(logs[log as usize].as_slice(), *place, tid);
     (m.0, 1, c, tid)
 }
 
@@ -129,22 +134,52 @@ fn keep(
     logs: &[Sequence<Record>],
     spot: Spot,
     infos: &BTreeMap<u64, usize>,
+    commits: &BTreeMap<u64, usize>,
+    acts: &BTreeMap<u64, usize>,
 ) -> Result<Kept, Memory>
     requires some { 0 < length logs.now }
     requires whole { IsAllWhole logs.now }
     requires is_in { IsSpotIn logs.now spot }
-    requires infos { HasInfos kinds.Batch logs.now infos.now }
+    requires infos { HasInfos (info_key kinds.Batch) logs.now infos.now }
+    requires commits { HasInfos (commit_key kinds.Batch) logs.now commits.now }
+    requires acts { HasInfos (info_key kinds.Act) logs.now acts.now }
     ensures { IfOk result (λ k. IsKeptAt logs.now spot k) }
 {
-    let (bid, side, c, tid) = spot;
-    if side == 0 {
-        return keep_batch(alloc, logs, bid, infos);
+    if spot.1 == 0 {
+        return keep_batch(alloc, logs, spot.0, infos, commits);
     }
-    Ok(Kept::Act {
-        tid: Tid(tid),
-        m: Bid(bid),
-        c,
-    })
+    Ok(keep_act(logs, spot, acts))
+}
+
+/// What is kept of an undeclared transaction that is in.
+fn keep_act(logs: &[Sequence<Record>], spot: Spot, infos: &BTreeMap<u64, usize>) -> Kept
+    requires some { 0 < length logs.now }
+    requires is_in { IsSpotIn logs.now spot }
+    requires is_act { spot.1 ≢ 0 }
+    requires infos { HasInfos (info_key kinds.Act) logs.now infos.now }
+    ensures { IsKeptAt logs.now spot result }
+{
+    let (tid, m, c, value) = outcome_of(logs, spot.3, infos);
+    Kept::Act { tid, m, c, value }
+}
+
+/// What its commit tells of an undeclared transaction that is in.
+fn outcome_of(
+    logs: &[Sequence<Record>],
+    tid: u64,
+    infos: &BTreeMap<u64, usize>,
+) -> (Tid, Bid, u64, Option<i64>)
+    requires some { 0 < length logs.now }
+    requires is_in { IsActIn logs.now (tid_at tid) }
+    requires infos { HasInfos (info_key kinds.Act) logs.now infos.now }
+    ensures { (result.0 ≡ tid_at tid) × ((actors : List ActorId) × IsActOf logs.now (tid_at tid) result.1 result.2 result.3 actors) }
+{
+    let Some(place) = infos.get(&tid) else {
+        unreachable!()
+    };
+    let log = tid % logs.len() as u64;
+    let (m, c, value, _) = act_at(logs[log as usize].as_slice(), *place, tid);
+    (Tid(tid), m, c, value)
 }
 
 /// What is kept of a batch that is in.
@@ -153,21 +188,59 @@ fn keep_batch(
     logs: &[Sequence<Record>],
     bid: u64,
     infos: &BTreeMap<u64, usize>,
+    commits: &BTreeMap<u64, usize>,
 ) -> Result<Kept, Memory>
     requires some { 0 < length logs.now }
     requires whole { IsWhole logs.now (bid_at bid) }
     requires is_in { IsIn logs.now (bid_at bid) }
-    requires infos { HasInfos kinds.Batch logs.now infos.now }
+    requires infos { HasInfos (info_key kinds.Batch) logs.now infos.now }
+    requires commits { HasInfos (commit_key kinds.Batch) logs.now commits.now }
     ensures { IfOk result (λ k. IsKeptAt logs.now (bid, 0, 0, 0) k) }
+{
+    let values = values_of(alloc, logs, bid, commits)?;
+    let tids = tids_of(alloc, logs, bid, infos)?;
+    Ok(Kept::Batch {
+        bid: Bid(bid),
+        tids,
+        values,
+    })
+}
+
+/// The transactions of a batch that is in.
+fn tids_of(
+    alloc: Global,
+    logs: &[Sequence<Record>],
+    bid: u64,
+    infos: &BTreeMap<u64, usize>,
+) -> Result<Sequence<Tid>, Memory>
+    requires some { 0 < length logs.now }
+    requires whole { IsWhole logs.now (bid_at bid) }
+    requires infos { HasInfos (info_key kinds.Batch) logs.now infos.now }
+    ensures { IfOk result (λ tids. (actors : List ActorId) × IsInfoOf logs.now (bid_at bid) actors tids) }
 {
     let Some(place) = infos.get(&bid) else {
         unreachable!()
     };
     let log = bid % logs.len() as u64;
     let (_, tids) = info_at(logs[log as usize].as_slice(), *place, bid);
-    let tids = Sequence::from_vec(Vec::from_slice(alloc, tids.as_slice())?);
-    Ok(Kept::Batch {
-        bid: Bid(bid),
-        tids,
-    })
+    Ok(Sequence::from_vec(Vec::from_slice(alloc, tids.as_slice())?))
+}
+
+/// The values that the commit of a batch that is in tells, or none.
+fn values_of(
+    alloc: Global,
+    logs: &[Sequence<Record>],
+    bid: u64,
+    commits: &BTreeMap<u64, usize>,
+) -> Result<Sequence<i64>, Memory>
+    requires some { 0 < length logs.now }
+    requires is_in { IsIn logs.now (bid_at bid) }
+    requires commits { HasInfos (commit_key kinds.Batch) logs.now commits.now }
+    ensures { IfOk result (λ vs. (r : Record) × IsCommitOf logs.now (bid_at bid) r × (vs ≡ values_in r)) }
+{
+    let Some(place) = commits.get(&bid) else {
+        unreachable!()
+    };
+    let log = bid % logs.len() as u64;
+    copy_values(alloc, logs[log as usize].as_slice(), *place, bid)
 }

@@ -4,6 +4,7 @@
 #![tactic(auto)]
 
 mod causes;
+mod commits;
 mod genesis;
 mod index;
 mod infos;
@@ -16,6 +17,7 @@ mod ranges;
 mod recovery;
 mod refusals;
 mod states;
+mod values;
 mod wholes;
 
 pub use causes::{LogCause, What};

@@ -42,6 +42,8 @@ fn bid_number(r: &Record) -> u64
         Record::BatchCommit { bid } => bid.0,
         Record::ActPrepare { .. } => 0,
         Record::ActCommit { m, .. } => m.0,
+        Record::BatchDone { bid, .. } => bid.0,
+        Record::ActDone { m, .. } => m.0,
     }
 }
 
@@ -76,6 +78,7 @@ fn tid_number(r: &Record) -> u64
         Record::BatchInfo { tids, .. } => greatest_of(tids.as_slice()),
         Record::ActPrepare { tid, .. } => tid.0,
         Record::ActCommit { tid, .. } => tid.0,
+        Record::ActDone { tid, .. } => tid.0,
         _ => 0,
     }
 }
@@ -119,6 +122,7 @@ fn commit_number(r: &Record) -> u64
 {
     match r {
         Record::ActCommit { c, .. } => *c,
+        Record::ActDone { c, .. } => *c,
         _ => 0,
     }
 }

@@ -6,10 +6,21 @@ use std::alloc::Global;
 /// What is committed.
 #[derive(Drop)]
 pub enum Kept {
-    /// A batch and its transactions, ascending.
-    Batch { bid: Bid, tids: Sequence<Tid> },
-    /// An undeclared transaction, the batch behind which it comes, and the number of its commit.
-    Act { tid: Tid, m: Bid, c: u64 },
+    /// A batch and its transactions, ascending, with their values in this order. Where its commit does not tell them, as in
+    /// format 1, there are none.
+    Batch {
+        bid: Bid,
+        tids: Sequence<Tid>,
+        values: Sequence<i64>,
+    },
+    /// An undeclared transaction, the batch behind which it comes, the number of its commit, and its value, where its commit
+    /// tells it.
+    Act {
+        tid: Tid,
+        m: Bid,
+        c: u64,
+        value: Option<i64>,
+    },
 }
 
 /// What a run begins with.

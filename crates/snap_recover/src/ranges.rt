@@ -75,6 +75,19 @@ fn in_range(r: &Record, actors: usize) -> bool
                 && tid.0 <= GREATEST_NUMBER
                 && all_actors_below(named.as_slice(), actors)
         }
+        Record::BatchDone { bid, .. } => bid.0 <= GREATEST_NUMBER,
+        Record::ActDone {
+            tid,
+            m,
+            c,
+            actors: named,
+            ..
+        } => {
+            m.0 <= GREATEST_NUMBER
+                && *c <= GREATEST_NUMBER
+                && tid.0 <= GREATEST_NUMBER
+                && all_actors_below(named.as_slice(), actors)
+        }
     }
 }
 

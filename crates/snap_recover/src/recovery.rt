@@ -1,8 +1,9 @@
 ghost use Rattle.std.specs.Prelude.{◌<◌, length, IfOk, IfErr, MatchResult};
 ghost use Rattle.snap_recover.specs.Opening.{IsBegun, IsRecovered};
 ghost use Rattle.snap_recover.specs.Refusals.{IsRefused};
-ghost use Rattle.snap_recover.specs.Passes.{IsFirstLackOf};
+ghost use Rattle.snap_recover.specs.Passes.{IsLackOfBegun};
 
+use crate::commits::commits_of;
 use crate::genesis::{count_geneses, first_genesis};
 use crate::index::index_of;
 use crate::keeping::keep_all;
@@ -10,6 +11,7 @@ use crate::kinds::Kind;
 use crate::numbers::{next_bid, next_commit, next_tid};
 use crate::ranges::check_range;
 use crate::states::states_after;
+use crate::values::check_values;
 use crate::wholes::check_all;
 use crate::{Opening, RecoverNo};
 use snap_base::{Sequence, State};
@@ -42,12 +44,14 @@ fn opening(alloc: Global, logs: &[Sequence<Record>], first: &[State]) -> Result<
     requires some { 0 < length logs.now }
     requires few { length logs.now < 256 }
     requires begun { IsBegun logs.now first.now }
-    ensures { MatchResult result (λ o. IsRecovered logs.now o) (λ no. IsFirstLackOf logs.now no) }
+    ensures { MatchResult result (λ o. IsRecovered logs.now o) (λ no. IsLackOfBegun logs.now no) }
 {
     let batches = index_of(alloc, Kind::Batch, logs)?;
     let acts = index_of(alloc, Kind::Act, logs)?;
     check_all(alloc, logs, &batches, &acts)?;
-    let kept = keep_all(alloc, logs, &batches, &acts)?;
+    let commits = commits_of(alloc, logs)?;
+    check_values(alloc, logs, &batches.committed, &batches.infos, &commits)?;
+    let kept = keep_all(alloc, logs, &batches, &commits, &acts)?;
     let states = states_after(alloc, logs, first, &batches.committed, &acts.committed)?;
     Ok(Opening {
         states: Sequence::from_vec(states),

@@ -15,6 +15,13 @@ pub enum RecoverNo {
     Range { key: Key, log: u8 },
     /// What rests on the record with the key is committed, and that is not in this log.
     Missing { key: Key, log: u8 },
+    /// The batch with the commit of this key, in this log, has `kept` transactions, and its commit tells `found` values.
+    Values {
+        key: Key,
+        log: u8,
+        kept: u64,
+        found: u64,
+    },
     /// There was no memory.
     Memory,
 }

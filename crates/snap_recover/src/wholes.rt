@@ -28,10 +28,10 @@ pub(crate) fn check_all(
     requires few { length logs.now < 256 }
     requires batches_committed { HasCommitted kinds.Batch logs.now batches.now.committed }
     requires batches_parts { HasAllParts kinds.Batch logs.now batches.now.parts }
-    requires batches_infos { HasInfos kinds.Batch logs.now batches.now.infos }
+    requires batches_infos { HasInfos (info_key kinds.Batch) logs.now batches.now.infos }
     requires acts_committed { HasCommitted kinds.Act logs.now acts.now.committed }
     requires acts_parts { HasAllParts kinds.Act logs.now acts.now.parts }
-    requires acts_infos { HasInfos kinds.Act logs.now acts.now.infos }
+    requires acts_infos { HasInfos (info_key kinds.Act) logs.now acts.now.infos }
     ensures { MatchResult result (λ t. IsAllWhole logs.now) (λ no. IsFirstLackOf logs.now no) }
 {
     check_kind(
@@ -65,7 +65,7 @@ fn check_kind(
     requires few { length logs.now < 256 }
     requires committed { HasCommitted kind logs.now committed.now }
     requires parts { HasAllParts kind logs.now parts.now }
-    requires infos { HasInfos kind logs.now infos.now }
+    requires infos { HasInfos (info_key kind) logs.now infos.now }
     ensures { MatchResult result (λ t. AllWhole kind logs.now) (λ no. IsFirstLackOfKind kind logs.now no) }
 {
     let numbers = ascending(alloc, committed)?;
@@ -96,7 +96,7 @@ fn check(
     requires few { length logs.now < 256 }
     requires is_in { Has (log_of logs.now number) (commit_key kind number) }
     requires parts { HasAllParts kind logs.now parts.now }
-    requires infos { HasInfos kind logs.now infos.now }
+    requires infos { HasInfos (info_key kind) logs.now infos.now }
     ensures { MatchResult result (λ t. MemberWhole kind logs.now number) (λ no. IsLackOf kind logs.now number no) }
 {
     let count = logs.len() as u64;

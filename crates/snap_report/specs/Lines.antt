@@ -66,12 +66,12 @@ end_text committed aborted batches =
     codes "end committed " ++ (decimal committed ++ (codes " aborted " ++ (decimal aborted ++ (codes " batches " ++ (decimal batches ++ line_end)))))
 
 abbrev pub is_batch : Kept → Bool
-is_batch (kept.Batch bid tids) = true
-is_batch (kept.Act tid m c) = false
+is_batch (kept.Batch bid tids values) = true
+is_batch (kept.Act tid m c value) = false
 
 abbrev pub is_act : Kept → Bool
-is_act (kept.Batch bid tids) = false
-is_act (kept.Act tid m c) = true
+is_act (kept.Batch bid tids values) = false
+is_act (kept.Act tid m c value) = true
 
 -- what logs recover to
 abbrev pub recovered_text : Opening → List ℕ
@@ -130,6 +130,7 @@ log_cause_text cause.TwoGenesis = codes "TwoGenesis"
 log_cause_text (cause.LogCount kept found) = codes "LogCount"
 log_cause_text (cause.Range k) = codes "Range"
 log_cause_text (cause.Missing k) = codes "Missing"
+log_cause_text (cause.Values k kept found) = codes "Values"
 log_cause_text (cause.Spent number) = codes "Spent"
 log_cause_text (cause.Differs what kept text) = codes "Differs"
 

@@ -150,6 +150,7 @@ fn log_cause_name(cause: LogCause) -> &'static str
         LogCause::LogCount { .. } => "LogCount",
         LogCause::Range { .. } => "Range",
         LogCause::Missing { .. } => "Missing",
+        LogCause::Values { .. } => "Values",
         LogCause::Spent { .. } => "Spent",
         LogCause::Differs { .. } => "Differs",
     }

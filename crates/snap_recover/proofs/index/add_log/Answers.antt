@@ -1,7 +1,7 @@
 use Rattle.std.proofs.Common.{ℕ, ◌≡◌, ◌%◌, List, subst}
 use Rattle.std.proofs.lemmas.List.{take_all}
 use Rattle.txn_records.specs.declared.records.Record.{Record}
-use Rattle.snap_recover.specs.Passes.{In, InPair, commit_key, part_key, AddsCommits, AddsParts, AddsInfos}
+use Rattle.snap_recover.specs.Passes.{In, InPair, commit_key, part_key, info_key, AddsCommits, AddsParts, AddsInfos}
 use Rattle.snap_recover.proofs.Homes.{adds_step}
 use Rattle.snap_recover.proofs.Placing.{infos_step}
 use Rattle.snap_recover.proofs.index.add_log.Goals as goal
@@ -12,7 +12,7 @@ loop-at-preserved c = record {
       c.loop-at-test.true c.index-rs-at.is c.loop-at.invariant.committed c.in_ok-add_commit.ensures;
   parts = adds_step (λ (x : ℕ × ℕ). x.1 % c.args.logs ≡ c.args.log) (part_key c.args.kind) c.args.rs.now c.loop-at.at c.index-rs-at.result (InPair c.args.index.now.parts) (InPair c.loop-at.index.parts) (InPair c.add_part.new.set)
       c.loop-at-test.true c.index-rs-at.is c.loop-at.invariant.parts c.in_ok-add_part.ensures;
-  infos = infos_step c.args.kind c.args.log c.args.logs c.args.rs.now c.loop-at.at c.index-rs-at.result c.args.index.now.infos c.loop-at.index.infos c.add_info.new.places
+  infos = infos_step (info_key c.args.kind) c.args.log c.args.logs c.args.rs.now c.loop-at.at c.index-rs-at.result c.args.index.now.infos c.loop-at.index.infos c.add_info.new.places
       c.loop-at-test.true c.index-rs-at.is c.loop-at.invariant.infos c.in_ok-add_info.ensures;
 }
 
@@ -26,4 +26,4 @@ returns-clause-parts c =
 
 pub returns-clause-infos : goal.returns-clause-infos
 returns-clause-infos c =
-    subst (λ (z : List Record). AddsInfos c.args.kind c.args.log c.args.logs z c.args.index.now.infos c.loop-at.index.infos) (take_all c.loop-at.at c.args.rs.now c.loop-at-test.false) c.loop-at.invariant.infos
+    subst (λ (z : List Record). AddsInfos (info_key c.args.kind) c.args.log c.args.logs z c.args.index.now.infos c.loop-at.index.infos) (take_all c.loop-at.at c.args.rs.now c.loop-at-test.false) c.loop-at.invariant.infos

@@ -1,10 +1,10 @@
 use Rattle.std.proofs.Common.{take}
-use Rattle.snap_recover.specs.Passes.{AddsCommits, AddsParts, AddsInfos}
+use Rattle.snap_recover.specs.Passes.{info_key, AddsCommits, AddsParts, AddsInfos}
 use Rattle.snap_recover.proofs.index.add_log.Given as goal
 
 abbrev pub invariant-loop-at : goal.invariant-loop-at
 invariant-loop-at l = record {
   committed : AddsCommits l.kind l.log l.logs (take l.at l.rs) l.initial.index.committed l.index.committed;
   parts : AddsParts l.kind l.log l.logs (take l.at l.rs) l.initial.index.parts l.index.parts;
-  infos : AddsInfos l.kind l.log l.logs (take l.at l.rs) l.initial.index.infos l.index.infos;
+  infos : AddsInfos (info_key l.kind) l.log l.logs (take l.at l.rs) l.initial.index.infos l.index.infos;
 }

@@ -1,5 +1,5 @@
 use Rattle.std.proofs.Common.{ℕ}
-use Rattle.snap_recover.specs.Passes.{In, InPair, commit_key, part_key}
+use Rattle.snap_recover.specs.Passes.{In, InPair, commit_key, part_key, info_key}
 use Rattle.snap_recover.proofs.Steps.{same_at}
 use Rattle.snap_recover.proofs.Homes.{through_step, through_end}
 use Rattle.snap_recover.proofs.Placing.{infos_through}
@@ -13,7 +13,7 @@ loop-i-preserved c =
           c.loop-i-test.true here c.in_ok-add_log.ensures.committed c.loop-i.invariant.committed;
       parts = through_step (λ (x : ℕ × ℕ). x.1) (part_key c.args.kind) c.args.logs.now c.loop-i.i c.as_slice.result.now (InPair c.loop-i.index.parts) (InPair c.add_log.new.index.parts)
           c.loop-i-test.true here c.in_ok-add_log.ensures.parts c.loop-i.invariant.parts;
-      infos = infos_through c.args.kind c.args.logs.now c.loop-i.i c.as_slice.result.now c.loop-i.index.infos c.add_log.new.index.infos
+      infos = infos_through (info_key c.args.kind) c.args.logs.now c.loop-i.i c.as_slice.result.now c.loop-i.index.infos c.add_log.new.index.infos
           c.loop-i-test.true here c.in_ok-add_log.ensures.infos c.loop-i.invariant.infos;
     }
 

@@ -6,7 +6,7 @@ use Rattle.snap_recover.specs.Logs.{log_of}
 use Rattle.snap_recover.specs.Passes.{bid_at}
 use Rattle.snap_recover.proofs.OneRefusal.{info_is_there}
 use Rattle.snap_recover.proofs.Placing.{placed_some}
-use Rattle.snap_recover.proofs.keeping.keep_batch.Goals as goal
+use Rattle.snap_recover.proofs.keeping.tids_of.Goals as goal
 
 pub unreachable-requires : goal.unreachable-requires
 unreachable-requires c =

@@ -1,0 +1,74 @@
+ghost use Rattle.std.specs.Prelude.{◌≡◌, ℕ, ◌%◌, ◌<◌, length, MatchResult};
+ghost use Rattle.txn_records.specs.declared.records.Record.{Record};
+ghost use Rattle.snap_recover.specs.declared.kinds.Kind.TheVariants as kinds;
+ghost use Rattle.snap_recover.specs.Opening.{IsIn, IsWhole, HasItsValues};
+ghost use Rattle.snap_recover.specs.Passes.{bid_at, info_key, commit_key, HasCommitted, HasInfos, AllWhole, AllValued, IsValuesLackOf, IsFirstValuesLackOf};
+
+use crate::RecoverNo;
+use crate::infos::{info_at, values_at};
+use crate::wholes::ascending;
+use snap_base::{Bid, Sequence, Tid};
+use std::alloc::Global;
+use std::collections::{BTreeMap, BTreeSet};
+use txn_records::{Key, Record};
+
+/// That each batch that is in has one value for each of its transactions, or none is told, by the numbers.
+pub(crate) fn check_values(
+    alloc: Global,
+    logs: &[Sequence<Record>],
+    committed: &BTreeSet<u64>,
+    infos: &BTreeMap<u64, usize>,
+    commits: &BTreeMap<u64, usize>,
+) -> Result<(), RecoverNo>
+    requires some { 0 < length logs.now }
+    requires few { length logs.now < 256 }
+    requires whole { AllWhole kinds.Batch logs.now }
+    requires committed { HasCommitted kinds.Batch logs.now committed.now }
+    requires infos { HasInfos (info_key kinds.Batch) logs.now infos.now }
+    requires commits { HasInfos (commit_key kinds.Batch) logs.now commits.now }
+    ensures { MatchResult result (λ t. AllValued logs.now) (λ no. IsFirstValuesLackOf logs.now no) }
+{
+    let numbers = ascending(alloc, committed)?;
+    for i in 0..numbers.len() {
+        check_batch(logs, numbers[i], infos, commits)?;
+    }
+    Ok(())
+}
+
+/// The same of one batch that is in.
+fn check_batch(
+    logs: &[Sequence<Record>],
+    number: u64,
+    infos: &BTreeMap<u64, usize>,
+    commits: &BTreeMap<u64, usize>,
+) -> Result<(), RecoverNo>
+    requires some { 0 < length logs.now }
+    requires few { length logs.now < 256 }
+    requires is_in { IsIn logs.now (bid_at number) }
+    requires whole { IsWhole logs.now (bid_at number) }
+    requires infos { HasInfos (info_key kinds.Batch) logs.now infos.now }
+    requires commits { HasInfos (commit_key kinds.Batch) logs.now commits.now }
+    ensures { MatchResult result (λ t. HasItsValues logs.now (bid_at number)) (λ no. IsValuesLackOf logs.now number no) }
+{
+    let Some(place) = infos.get(&number) else {
+        unreachable!()
+    };
+    let Some(commit) = commits.get(&number) else {
+        unreachable!()
+    };
+    let log = number % logs.len() as u64;
+    let rs = logs[log as usize].as_slice();
+    let (_, tids) = info_at(rs, *place, number);
+    let Some(values) = values_at(rs, *commit, number) else {
+        return Ok(());
+    };
+    if values.len() != tids.len() {
+        return Err(RecoverNo::Values {
+            key: Key::Commit(Bid(number)),
+            log: log as u8,
+            kept: tids.len() as u64,
+            found: values.len() as u64,
+        });
+    }
+    Ok(())
+}
