@@ -2,9 +2,9 @@
 -- parts of the event's footprint, and nothing else changes.
 use Rattle.std.specs.Prelude.{ℕ, ◌-◌, ◌%◌, nat_le, max, if◌then◌else◌, Option, Some, None, List, [], ◌∷◌, ◌++◌, length, map, slice_set, slice_index_or}
 use Rattle.protocol.specs.Fixed.{Fixed, base, no_state}
-use Rattle.protocol.specs.Records.{LogRecord, BatchInfo, BatchComplete, BatchCommit, ActPrepare, ActCommit}
+use Rattle.protocol.specs.Records.{LogRecord, BatchInfo, BatchComplete, BatchDone, ActPrepare, ActDone}
 use Rattle.protocol.specs.Parts.{Act, Log, Cell, Machine}
-use Rattle.protocol.specs.Words.{is_value, act_of, sub_of, control_of, who_on, outcome_of, has_act}
+use Rattle.protocol.specs.Words.{is_value, value_of, values_of, act_of, batch_of, sub_of, control_of, who_on, outcome_of, has_act}
 use Rattle.protocol.specs.Events.{Event, Submit, Pass, Form, Admit, Arrive, Ask, Take, Run, Send, End, Close, Complete, Sync, Note, Commit, Settle, Abort, Rollback, DropSub, DropControl, Prepare, Vouch, Decide, Seal, Finish, Reply, Trim}
 use Rattle.protocol.specs.OnRing as ring
 use Rattle.protocol.specs.OnPost as post
@@ -40,7 +40,7 @@ adds s l rs = slice_set s.logs l (added rs (log_at s l))
 abbrev pub puts : {C : Type 0} → Machine C → ℕ → Cell C → List (Cell C)
 puts s a c = slice_set s.cells a c
 
--- ---- the commit record of an ACT
+-- ---- the commit record of an ACT, which has its value
 
 -- a number among ascending ones
 abbrev pub put_in : ℕ → List ℕ → List ℕ
@@ -53,7 +53,7 @@ ascending (n ∷ ns) = put_in n (ascending ns)
 
 abbrev pub act_commit : ℕ → Option Act → List LogRecord
 act_commit c None = []
-act_commit c (Some x) = if is_value x.result then ActCommit x.tid x.m c (ascending (map (λ p. p.actor) x.places)) ∷ [] else []
+act_commit c (Some x) = if is_value x.result then ActDone x.tid x.m c (value_of x.result) (ascending (map (λ p. p.actor) x.places)) ∷ [] else []
 
 -- ---- the table
 
@@ -104,7 +104,7 @@ after w (Sync l) s = record s { logs = slice_set s.logs l (synced (log_at s l)) 
 after w (Note k a) s = record s { desk = desk.batch_noted k a s.desk }
 after w (Commit k) s = record s {
   desk = desk.batch_committing k s.desk;
-  logs = adds s (k % w.text.logs) (BatchCommit k ∷ []);
+  logs = adds s (k % w.text.logs) (BatchDone k (values_of (batch_of k s.desk.batches)) ∷ []);
 }
 after w (Settle k) s = record s { desk = desk.batch_settled k s.desk }
 after w (Abort k) s = record s {

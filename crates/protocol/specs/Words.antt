@@ -1,5 +1,5 @@
 -- Words computed from a state. Each looks at some contents of some parts, and at nothing else.
-use Rattle.std.specs.Prelude.{ℕ, zero, suc, ◌==◌, nat_lt, nat_le, min, max, Bool, true, false, not, ◌&&◌, ◌||◌, if◌then◌else◌, Option, Some, None, List, [], ◌∷◌, ◌++◌, length, filter, find, take}
+use Rattle.std.specs.Prelude.{ℕ, zero, suc, ℤ, pos, ◌==◌, nat_lt, nat_le, min, max, Bool, true, false, not, ◌&&◌, ◌||◌, if◌then◌else◌, Option, Some, None, List, [], ◌∷◌, ◌++◌, length, map, filter, find, take}
 use Rattle.std.specs.List.{list_any, list_all}
 use Rattle.snap_base.specs.declared.transactions.TxResult.{TxResult}
 use Rattle.snap_base.specs.declared.transactions.TxResult.TheVariants.{Value, Fail}
@@ -45,6 +45,17 @@ abbrev pub is_failure : Option TxResult → Bool
 is_failure (Some (Value v)) = false
 is_failure (Some (Fail code)) = true
 is_failure None = false
+
+-- its value, where it is one
+abbrev pub value_of : Option TxResult → ℤ
+value_of (Some (Value v)) = v
+value_of (Some (Fail code)) = pos 0
+value_of None = pos 0
+
+-- the values of the PACTs of a batch, by their tids
+abbrev pub values_of : Option Batch → List ℤ
+values_of None = []
+values_of (Some b) = map (λ p. value_of p.result) b.pacts
 
 -- ---- cascades
 

@@ -4,7 +4,7 @@ use Rattle.std.specs.List.{list_any}
 use Rattle.std.proofs.Common.{sym, ap, subst, inl, inr, ◌∙◌}
 use Rattle.std.proofs.lemmas.Bool.{eqb-true, and_parts, true≢false, or_cases}
 use Rattle.protocol.specs.Fixed.{Fixed}
-use Rattle.protocol.specs.Records.{LogRecord, BatchInfo, BatchComplete, BatchCommit, ActPrepare, ActCommit, is_info, is_complete, is_commit, is_prepare, is_act_commit}
+use Rattle.protocol.specs.Records.{LogRecord, BatchInfo, BatchComplete, BatchDone, ActPrepare, ActDone, is_info, is_complete, is_commit, is_prepare, is_act_commit}
 use Rattle.protocol.specs.Rivals.{Lock}
 use Rattle.protocol.specs.Parts.{Act, Book, Pact, Machine}
 use Rattle.protocol.specs.Events.{Event, Form, Admit, Arrive, Ask, Take, Run, Send, End, Close, Complete, Sync, Note, Commit, Settle, Abort, Rollback, DropSub, DropControl, Prepare, Vouch, Decide, Seal, Finish, Reply, Trim}
@@ -127,7 +127,7 @@ of_complete k a (BatchComplete j b state) h = inl (two_same Note j k b a h)
 of_complete k a _ h = no h
 
 pub of_commit : (k : ℕ) (r : LogRecord) → is_commit k r ≡ true → Has (of_record r) (Settle k)
-of_commit k (BatchCommit j) h = inl (ap Settle (eqb-true j k h))
+of_commit k (BatchDone j vs) h = inl (ap Settle (eqb-true j k h))
 of_commit k _ h = no h
 
 pub of_prepare : (t a : ℕ) (r : LogRecord) → is_prepare t a r ≡ true → Has (of_record r) (Vouch t a)
@@ -135,7 +135,7 @@ of_prepare t a (ActPrepare u b state) h = inl (two_same Vouch u t b a h)
 of_prepare t a _ h = no h
 
 pub of_act_commit : (t : ℕ) (r : LogRecord) → is_act_commit t r ≡ true → Has (of_record r) (Seal t)
-of_act_commit t (ActCommit u m c actors) h = inl (ap Seal (eqb-true u t h))
+of_act_commit t (ActDone u m c v actors) h = inl (ap Seal (eqb-true u t h))
 of_act_commit t _ h = no h
 
 pub among_has : (t : ℕ) (ts : List ℕ) → is_among t ts ≡ true → Has ts t

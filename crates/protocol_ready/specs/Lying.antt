@@ -3,7 +3,7 @@
 use Rattle.std.specs.Prelude.{ℕ, ◌+◌, ◌%◌, ◌==◌, ◌&&◌, is_some, Option, Some, None, List, [], ◌∷◌, ◌++◌, length, map, filter, slice_get}
 use Rattle.std.specs.List.{flat_map}
 use Rattle.protocol.specs.Fixed.{Fixed}
-use Rattle.protocol.specs.Records.{LogRecord, BatchInfo, BatchComplete, BatchCommit, ActPrepare, ActCommit}
+use Rattle.protocol.specs.Records.{LogRecord, BatchInfo, BatchComplete, BatchDone, ActPrepare, ActDone}
 use Rattle.protocol.specs.Parts.{Act, Batch, Entry, BatchEntry, ActEntry, ControlMessage, OfAct, Machine}
 use Rattle.protocol.specs.Events.{Event, Submit, Pass, Form, Admit, Arrive, Ask, Take, Run, Send, End, Close, Complete, Sync, Note, Commit, Settle, Abort, Rollback, DropSub, DropControl, Prepare, Vouch, Decide, Seal, Finish, Reply, Trim}
 use Rattle.protocol.specs.Words.{below, holds, is_who, control_of, act_of, batch_of, has_undone, is_live_status}
@@ -128,9 +128,9 @@ on_result t s = map (Close t) (filter (λ a. holds (λ c. has_undone t c.entries
 abbrev pub of_record : LogRecord → List Event
 of_record (BatchInfo k actors tids) = Commit k ∷ []
 of_record (BatchComplete k a state) = Note k a ∷ []
-of_record (BatchCommit k) = Settle k ∷ []
+of_record (BatchDone k vs) = Settle k ∷ []
 of_record (ActPrepare t a state) = Vouch t a ∷ []
-of_record (ActCommit t m c actors) = Seal t ∷ []
+of_record (ActDone t m c v actors) = Seal t ∷ []
 
 -- ---- all that there is
 

@@ -11,3 +11,4 @@ pub mod RecordsHold
 pub mod RecordsTold
 pub mod SeveralRunsStand
 pub mod TellsTids
+pub mod TellsValues

@@ -7,7 +7,7 @@ use Rattle.snap_base.specs.declared.verdicts.Place.{Place}
 use Rattle.snap_base.specs.declared.verdicts.Verdict.TheVariants as verdicts
 use Rattle.protocol.specs.Fixed.{Fixed, IsText}
 use Rattle.protocol.specs.Facts.{Alone, state_in}
-use Rattle.protocol.specs.Records.{LogRecord, BatchInfo, BatchComplete, BatchCommit, ActPrepare, ActCommit, is_complete, is_commit, is_prepare, is_act_commit}
+use Rattle.protocol.specs.Records.{LogRecord, BatchInfo, BatchComplete, BatchDone, ActPrepare, ActDone, is_complete, is_commit, is_prepare, is_act_commit}
 use Rattle.protocol.specs.Parts.{Who, OfBatch, OfAct, Machine}
 use Rattle.protocol.specs.Events.{Event}
 use Rattle.protocol.specs.Words.{is_value}
@@ -32,16 +32,16 @@ is_in many logs (OfAct t) = list_any (is_act_commit t) (logs (t % many))
 abbrev pub counts : ℕ → (ℕ → List LogRecord) → ℕ → LogRecord → Bool
 counts many logs a (BatchInfo bid actors tids) = false
 counts many logs a (BatchComplete bid actor state) = (actor == a) && is_in many logs (OfBatch bid)
-counts many logs a (BatchCommit bid) = false
+counts many logs a (BatchDone bid vs) = false
 counts many logs a (ActPrepare tid actor state) = (actor == a) && is_in many logs (OfAct tid)
-counts many logs a (ActCommit tid m c actors) = false
+counts many logs a (ActDone tid m c v actors) = false
 
 abbrev pub state_told : State → LogRecord → State
 state_told s (BatchInfo bid actors tids) = s
 state_told s (BatchComplete bid actor state) = state
-state_told s (BatchCommit bid) = s
+state_told s (BatchDone bid vs) = s
 state_told s (ActPrepare tid actor state) = state
-state_told s (ActCommit tid m c actors) = s
+state_told s (ActDone tid m c v actors) = s
 
 abbrev pub last_told : State → List LogRecord → State
 last_told s [] = s
@@ -63,29 +63,30 @@ pub record BatchIsWhole (many : ℕ) (logs : ℕ → List LogRecord) (k : ℕ) :
 pub record ActIsWhole (many : ℕ) (logs : ℕ → List LogRecord) (t : ℕ) : Type 0 where
   pub m : ℕ
   pub c : ℕ
+  pub v : ℤ
   pub actors : List ℕ
   pub front : List LogRecord
   pub rest : List LogRecord
-  pub commit : logs (t % many) ≡ front ++ ActCommit t m c actors ∷ rest
+  pub commit : logs (t % many) ≡ front ++ ActDone t m c v actors ∷ rest
   pub prepares : AllByRecursion (λ a. list_any (is_prepare t a) (logs (a % many)) ≡ true) actors
 
 -- the numbers that a record names
 abbrev pub bids_in : LogRecord → List ℕ
 bids_in (BatchInfo bid actors tids) = bid ∷ []
 bids_in (BatchComplete bid actor state) = bid ∷ []
-bids_in (BatchCommit bid) = bid ∷ []
+bids_in (BatchDone bid vs) = bid ∷ []
 bids_in (ActPrepare tid actor state) = []
-bids_in (ActCommit tid m c actors) = m ∷ []
+bids_in (ActDone tid m c v actors) = m ∷ []
 
 abbrev pub tids_in : LogRecord → List ℕ
 tids_in (BatchInfo bid actors tids) = tids
 tids_in (BatchComplete bid actor state) = []
-tids_in (BatchCommit bid) = []
+tids_in (BatchDone bid vs) = []
 tids_in (ActPrepare tid actor state) = tid ∷ []
-tids_in (ActCommit tid m c actors) = tid ∷ []
+tids_in (ActDone tid m c v actors) = tid ∷ []
 
 abbrev pub cs_in : LogRecord → List ℕ
-cs_in (ActCommit tid m c actors) = c ∷ []
+cs_in (ActDone tid m c v actors) = c ∷ []
 cs_in _ = []
 
 -- no number of a kind in any log reaches this one

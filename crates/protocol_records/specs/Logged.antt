@@ -3,7 +3,7 @@
 use Rattle.std.specs.Prelude.{◌≡◌, ℕ, ◌%◌, ◌==◌, Bool, true, false, ◌&&◌, ◌||◌, Option, Some, None, is_some, not, List, [], ◌∷◌, map, slice_index_or}
 use Rattle.std.specs.List.{AllByRecursion, list_any, list_all}
 use Rattle.protocol.specs.Fixed.{Fixed}
-use Rattle.protocol.specs.Records.{LogRecord, BatchInfo, ActCommit, is_info, is_complete, is_commit, is_prepare, is_act_commit}
+use Rattle.protocol.specs.Records.{LogRecord, BatchInfo, ActDone, is_info, is_complete, is_commit, is_prepare, is_act_commit}
 use Rattle.protocol.specs.Parts.{Act, Joined, Who, OfBatch, OfAct, Batch, Log, Machine}
 use Rattle.protocol.specs.Words.{holds, joined_of, is_failure, is_doomed, is_who, is_durable, is_value, is_formed, is_settled, is_decided, is_sealed, batch_of, act_of}
 use Rattle.protocol.specs.Effects.{no_log, ascending}
@@ -70,7 +70,7 @@ ActsSure w s = (t : ℕ) (x : Act) → act_of t s.book.acts ≡ Some x → ActSu
 
 -- the commit record of an ACT has its actors
 abbrev pub CommitIs : List Act → LogRecord → Type 0
-CommitIs acts (ActCommit t m c actors) = (x : Act) × (act_of t acts ≡ Some x) × ((is_decided x.status || is_sealed x.status) ≡ true) × (ascending (map (λ p. p.actor) x.places) ≡ actors)
+CommitIs acts (ActDone t m c v actors) = (x : Act) × (act_of t acts ≡ Some x) × ((is_decided x.status || is_sealed x.status) ≡ true) × (ascending (map (λ p. p.actor) x.places) ≡ actors)
 CommitIs acts _ = Unit {0}
 
 unfoldable pub ActCommits : {C : Type 0} → Machine C → Type 0

@@ -1,10 +1,12 @@
 -- The records of a run: what each is about, where it lies, how many there are, what they tell, and what is durable.
-use Rattle.std.specs.Prelude.{◌≡◌, ℕ, ◌+◌, ◌*◌, ◌%◌, ◌≤◌, Bool, true, false, not, ◌&&◌, Some, option_map, List, [], ◌∷◌, ◌++◌, length, map}
+use Rattle.std.specs.Prelude.{◌≡◌, ℕ, ℤ, ◌+◌, ◌*◌, ◌%◌, ◌≤◌, Bool, true, false, not, ◌&&◌, Option, Some, option_map, List, [], ◌∷◌, ◌++◌, length, map}
 use Rattle.std.specs.List.{AllByRecursion, list_all}
 use Rattle.snap_base.specs.declared.transactions.State.{State}
+use Rattle.snap_base.specs.declared.transactions.TxResult.{TxResult}
+use Rattle.snap_base.specs.declared.transactions.TxResult.TheVariants.{Value}
 use Rattle.protocol.specs.Fixed.{Fixed}
 use Rattle.protocol.specs.Facts.{Alone}
-use Rattle.protocol.specs.Records.{LogRecord, BatchInfo, BatchComplete, BatchCommit, ActPrepare, ActCommit, is_info, is_complete, is_commit, is_prepare, is_act_commit}
+use Rattle.protocol.specs.Records.{LogRecord, BatchInfo, BatchComplete, BatchDone, ActPrepare, ActDone, is_info, is_complete, is_commit, is_prepare, is_act_commit}
 use Rattle.protocol.specs.Parts.{Act, Batch, Log, Machine}
 use Rattle.protocol.specs.Words.{holds, is_among, is_value, is_formed, is_settled, is_ordered, is_sealed, is_durable, act_of, batch_of, count}
 use Rattle.protocol.specs.Effects.{log_at, ascending}
@@ -23,9 +25,9 @@ pub data RecordKey : Type 0 where
 abbrev pub key_of : LogRecord → RecordKey
 key_of (BatchInfo k actors tids) = OfInfo k
 key_of (BatchComplete k a state) = OfComplete k a
-key_of (BatchCommit k) = OfCommit k
+key_of (BatchDone k vs) = OfCommit k
 key_of (ActPrepare t a state) = OfPrepare t a
-key_of (ActCommit t m c actors) = OfActCommit t
+key_of (ActDone t m c v actors) = OfActCommit t
 
 abbrev pub has_key : RecordKey → LogRecord → Bool
 has_key (OfInfo k) r = is_info k r
@@ -60,25 +62,32 @@ batch_actors b = map (λ p. p.actor) b.places
 abbrev pub batch_tids : Batch → List ℕ
 batch_tids b = map (λ p. p.tid) b.pacts
 
+abbrev pub batch_results : Batch → List (Option TxResult)
+batch_results b = map (λ p. p.result) b.pacts
+
+-- a result that is this value
+abbrev pub valued : ℤ → Option TxResult
+valued v = Some (Value v)
+
 abbrev pub act_actors : Act → List ℕ
 act_actors x = map (λ p. p.actor) x.places
 
--- it committed at (m, 1, c), with a value, on these actors
-pub record ActCommitted (acts : List Act) (t m c : ℕ) (actors : List ℕ) : Type 0 where
+-- it committed at (m, 1, c), with this value, on these actors
+pub record ActCommitted (acts : List Act) (t m c : ℕ) (v : ℤ) (actors : List ℕ) : Type 0 where
   pub act : Act
   pub found : act_of t acts ≡ Some act
   pub m_is : act.m ≡ m
   pub c_is : is_at c act.status ≡ true
-  pub valued : is_value act.result ≡ true
+  pub result_is : act.result ≡ valued v
   pub actors_are : ascending (act_actors act) ≡ actors
 
 -- A record is of a batch or an ACT that is known, and tells it as it is.
 abbrev pub TellsOf : List Batch → List Act → LogRecord → Type 0
 TellsOf batches acts (BatchInfo k actors tids) = (option_map batch_actors (batch_of k batches) ≡ Some actors) × (option_map batch_tids (batch_of k batches) ≡ Some tids)
 TellsOf batches acts (BatchComplete k a state) = holds (λ b. is_among a (batch_actors b)) (batch_of k batches) ≡ true
-TellsOf batches acts (BatchCommit k) = holds (λ b. not (is_formed b.stage)) (batch_of k batches) ≡ true
+TellsOf batches acts (BatchDone k vs) = (holds (λ b. not (is_formed b.stage)) (batch_of k batches) ≡ true) × (option_map batch_results (batch_of k batches) ≡ Some (map valued vs))
 TellsOf batches acts (ActPrepare t a state) = holds (λ x. is_value x.result && is_among a (act_actors x)) (act_of t acts) ≡ true
-TellsOf batches acts (ActCommit t m c actors) = ActCommitted acts t m c actors
+TellsOf batches acts (ActDone t m c v actors) = ActCommitted acts t m c v actors
 
 abbrev pub RecordsTell : {C : Type 0} → Fixed C → (C → List State → Alone) → Machine C → History → Type 0
 RecordsTell w finish s h = (l : ℕ) → AllByRecursion (TellsOf s.desk.batches s.book.acts) (log_at s l).records
@@ -102,6 +111,8 @@ pub record RecordsAreFew {C : Type 0} (w : Fixed C) (finish : C → List State �
   pub of_each : length (all_records s.logs) ≤ most_of_batches s.desk.batches + most_of_acts s.book.acts
   -- a batch has a PACT, and at most sixteen actors for each; an ACT has at most sixteen
   pub batches : AllByRecursion (λ b. (1 ≤ length b.pacts) × (length b.places ≤ 16 * length b.pacts)) s.desk.batches
+  -- nor more PACTs than a batch of the text may have
+  pub pacts : AllByRecursion (λ b. (1 ≤ length b.pacts) × (length b.pacts ≤ w.text.batch)) s.desk.batches
   pub acts : AllByRecursion (λ x. length x.places ≤ 16) s.book.acts
   -- so they are at most so many for each transaction that was submitted
   pub of_all : length (all_records s.logs) ≤ most_records * s.ring.next_tx

@@ -4,7 +4,7 @@ use Rattle.std.specs.Prelude.{◌≡◌, ℕ, ◌%◌, ◌==◌, Bool, true, fal
 use Rattle.std.specs.List.{list_any}
 use Rattle.snap_base.specs.declared.transactions.State.{State}
 use Rattle.protocol.specs.Fixed.{Fixed, no_state}
-use Rattle.protocol.specs.Records.{LogRecord, BatchInfo, BatchComplete, BatchCommit, ActPrepare, ActCommit}
+use Rattle.protocol.specs.Records.{LogRecord, BatchInfo, BatchComplete, BatchDone, ActPrepare, ActDone}
 use Rattle.protocol.specs.Parts.{Who, OfBatch, OfAct, Machine}
 use Rattle.protocol.specs.Words.{is_who, is_act_who, is_value}
 use Rattle.protocol.specs.Effects.{log_at}
@@ -21,9 +21,9 @@ abbrev pub told : ℕ → List LogRecord → List One
 told a [] = []
 told a (BatchInfo k actors tids ∷ rs) = told a rs
 told a (BatchComplete k b st ∷ rs) = if b == a then record { who = OfBatch k; state = st } ∷ told a rs else told a rs
-told a (BatchCommit k ∷ rs) = told a rs
+told a (BatchDone k vs ∷ rs) = told a rs
 told a (ActPrepare t b st ∷ rs) = if b == a then record { who = OfAct t; state = st } ∷ told a rs else told a rs
-told a (ActCommit t m c actors ∷ rs) = told a rs
+told a (ActDone t m c v actors ∷ rs) = told a rs
 
 abbrev pub names : Who → List One → Bool
 names y os = list_any (λ o. is_who y o.who) os

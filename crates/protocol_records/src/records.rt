@@ -21,7 +21,7 @@ pub fn marks_are_durable<C>()
 {}
 
 /// A batch adds at most two records and one for each of its actors, an ACT at most one and one for each of its actors: at
-/// most eighteen for each transaction that was submitted.
+/// most eighteen for each transaction that was submitted. A batch has a PACT, and no more than a batch of the text may have.
 pub fn records_are_few<C>()
     ensures { AfterEveryRunWithHistory (RecordsAreFew {C = C}) }
 {}

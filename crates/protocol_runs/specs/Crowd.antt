@@ -1,7 +1,7 @@
 -- A long run: sixteen transactions of both kinds over three actors, from two coordinators and on two logs. Each of the 27 kinds of
 -- events comes, and each kind of verdict.
 use Rattle.std.specs.Prelude.{pos, None, Some, List, [], ◌∷◌, ◌++◌}
-use Rattle.protocol.specs.Records.{BatchInfo, BatchComplete, BatchCommit, ActPrepare, ActCommit}
+use Rattle.protocol.specs.Records.{BatchInfo, BatchComplete, BatchDone, ActPrepare, ActDone}
 use Rattle.protocol.specs.Events.{Event, Submit, Pass, Form, Admit, Arrive, Ask, Take, Run, Send, End, Close, Complete, Sync, Note, Commit, Settle, Abort, Rollback, DropSub, DropControl, Prepare, Vouch, Decide, Seal, Finish, Reply, Trim}
 use Rattle.protocol.specs.Verdicts.{died, out_of_order}
 use Rattle.protocol_runs.specs.ExampleCode.{holding}
@@ -97,13 +97,13 @@ crowd = record {
       ∷ Ends
       ∷ Cascades (taken 3 5 4 1 9 ∷ [])
       ∷ Records 0 (BatchInfo 2 (1 ∷ 2 ∷ []) (3 ∷ []) ∷ BatchComplete 2 2 (holding (pos 104)) ∷ BatchInfo 4 (0 ∷ 2 ∷ []) (7 ∷ [])
-      ∷ BatchComplete 1 0 (holding (pos 90)) ∷ BatchComplete 3 0 (holding (pos 90)) ∷ BatchCommit 2 ∷ ActPrepare 5 0 (holding (pos 93))
-      ∷ BatchInfo 6 (0 ∷ 2 ∷ []) (12 ∷ []) ∷ BatchComplete 6 2 (holding (pos 124)) ∷ BatchComplete 6 0 (holding (pos 70)) ∷ BatchCommit 6
-      ∷ ActCommit 16 7 3 (1 ∷ []) ∷ ActPrepare 15 0 (holding (pos 72)) ∷ [])
+      ∷ BatchComplete 1 0 (holding (pos 90)) ∷ BatchComplete 3 0 (holding (pos 90)) ∷ BatchDone 2 (pos 104 ∷ []) ∷ ActPrepare 5 0 (holding (pos 93))
+      ∷ BatchInfo 6 (0 ∷ 2 ∷ []) (12 ∷ []) ∷ BatchComplete 6 2 (holding (pos 124)) ∷ BatchComplete 6 0 (holding (pos 70)) ∷ BatchDone 6 (pos 124 ∷ [])
+      ∷ ActDone 16 7 3 (pos 124) (1 ∷ []) ∷ ActPrepare 15 0 (holding (pos 72)) ∷ [])
       ∷ Records 1 (BatchInfo 1 (0 ∷ 1 ∷ []) (1 ∷ []) ∷ BatchInfo 3 (0 ∷ 1 ∷ []) (4 ∷ []) ∷ BatchComplete 1 1 (holding (pos 110))
-      ∷ BatchComplete 2 1 (holding (pos 110)) ∷ BatchComplete 3 1 (holding (pos 111)) ∷ BatchCommit 1
+      ∷ BatchComplete 2 1 (holding (pos 110)) ∷ BatchComplete 3 1 (holding (pos 111)) ∷ BatchDone 1 (pos 110 ∷ [])
       ∷ BatchInfo 5 (0 ∷ 2 ∷ []) (10 ∷ 11 ∷ []) ∷ BatchInfo 7 (1 ∷ []) (13 ∷ []) ∷ BatchComplete 7 1 (holding (pos 118))
-      ∷ ActPrepare 16 1 (holding (pos 124)) ∷ BatchCommit 7 ∷ ActPrepare 15 1 (holding (pos 122)) ∷ ActCommit 15 7 4 (0 ∷ 1 ∷ []) ∷ [])
+      ∷ ActPrepare 16 1 (holding (pos 124)) ∷ BatchDone 7 (pos 118 ∷ []) ∷ ActPrepare 15 1 (holding (pos 122)) ∷ ActDone 15 7 4 (pos 72) (0 ∷ 1 ∷ []) ∷ [])
       ∷ Floor 0 7
       ∷ Floor 1 7
       ∷ Floor 2 2

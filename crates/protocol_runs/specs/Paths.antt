@@ -1,6 +1,6 @@
 -- Worked runs over several logs and coordinators, behind earlier runs, and through cascades.
 use Rattle.std.specs.Prelude.{pos, None, List, [], ◌∷◌}
-use Rattle.protocol.specs.Records.{BatchInfo, BatchComplete, BatchCommit, ActPrepare, ActCommit}
+use Rattle.protocol.specs.Records.{BatchInfo, BatchComplete, BatchDone, ActPrepare, ActDone}
 use Rattle.protocol.specs.Events.{Submit, Pass, Form, Admit, Arrive, Ask, Take, Run, Send, End, Close, Complete, Sync, Note, Commit, Abort, Rollback, DropSub, DropControl, Finish}
 use Rattle.protocol_runs.specs.ExampleCode.{holding}
 use Rattle.protocol_runs.specs.Examples.{text, on_logs, numbered_from, two_actors, three_actors, put, move, bad, act_put, act_move, committed, batch_coded, cascaded, taken}
@@ -13,7 +13,7 @@ on_two_logs = record {
   lines =
       Ends
       ∷ Records 0 (BatchComplete 1 0 (holding (pos 70)) ∷ [])
-      ∷ Records 1 (BatchInfo 1 (0 ∷ 1 ∷ []) (1 ∷ []) ∷ BatchComplete 1 1 (holding (pos 80)) ∷ BatchCommit 1 ∷ [])
+      ∷ Records 1 (BatchInfo 1 (0 ∷ 1 ∷ []) (1 ∷ []) ∷ BatchComplete 1 1 (holding (pos 80)) ∷ BatchDone 1 (pos 80 ∷ []) ∷ [])
       ∷ Verdicts (committed 1 0 1 (pos 80) ∷ [])
       ∷ Fields (pos 70 ∷ pos 80 ∷ [])
       ∷ [];
@@ -36,8 +36,8 @@ above_earlier_runs = record {
       ∷ Ends
       ∷ Records 0 (ActPrepare 6 0 (holding (pos 70)) ∷ BatchComplete 11 0 (holding (pos 75)) ∷ [])
       ∷ Records 1 (ActPrepare 6 1 (holding (pos 80)) ∷ [])
-      ∷ Records 2 (ActCommit 6 10 4 (0 ∷ 1 ∷ []) ∷ [])
-      ∷ Records 3 (BatchInfo 11 (0 ∷ []) (7 ∷ []) ∷ BatchCommit 11 ∷ [])
+      ∷ Records 2 (ActDone 6 10 4 (pos 80) (0 ∷ 1 ∷ []) ∷ [])
+      ∷ Records 3 (BatchInfo 11 (0 ∷ []) (7 ∷ []) ∷ BatchDone 11 (pos 75 ∷ []) ∷ [])
       ∷ Floor 0 10
       ∷ Floor 1 10
       ∷ Last 0 11

@@ -1,7 +1,7 @@
 -- Worked runs of single rules: who changes the rule is refused by the run.
 use Rattle.std.specs.Prelude.{pos, None, Some, List, [], ◌∷◌}
 use Rattle.snap_base.specs.declared.transactions.TxResult.TheVariants.{Fail}
-use Rattle.protocol.specs.Records.{ActPrepare, ActCommit}
+use Rattle.protocol.specs.Records.{ActPrepare, ActDone}
 use Rattle.protocol.specs.Events.{Submit, Form, Admit, Arrive, Ask, Take, Run, Send, End, Close, Complete, Sync, Note, Commit, Settle, Abort, Rollback, Prepare, Vouch, Decide, Seal, Finish, Trim}
 use Rattle.protocol.specs.Verdicts.{died}
 use Rattle.protocol_runs.specs.ExampleCode.{holding}
@@ -47,7 +47,7 @@ trimmed_before_a_rollback = record {
       ∷ [];
 }
 
--- A record counts from its Sync on: BatchComplete, BatchInfo, BatchCommit, ActPrepare and ActCommit.
+-- A record counts from its Sync on: BatchComplete, BatchInfo, BatchDone, ActPrepare and ActDone.
 abbrev pub durable_or_not : Worked
 durable_or_not = record {
   work = on_logs 2 (text 1 16 two_actors (put 0 (pos 1) (0 ∷ []) ∷ act_put 1 (pos 7) ∷ []));
@@ -115,7 +115,7 @@ actors_of_a_commit = record {
       ∷ Prepare 1 1 ∷ Sync 0 ∷ Vouch 1 0 ∷ [])
       ∷ Refuses (Decide 1) 2
       ∷ Does (Vouch 1 1 ∷ Decide 1 ∷ [])
-      ∷ Records 0 (ActPrepare 1 0 (holding (pos 105)) ∷ ActPrepare 1 1 (holding (pos 45)) ∷ ActCommit 1 0 1 (0 ∷ 1 ∷ []) ∷ [])
+      ∷ Records 0 (ActPrepare 1 0 (holding (pos 105)) ∷ ActPrepare 1 1 (holding (pos 45)) ∷ ActDone 1 0 1 (pos 105) (0 ∷ 1 ∷ []) ∷ [])
       ∷ Ends
       ∷ Verdicts (committed 0 1 1 (pos 105) ∷ [])
       ∷ Fields (pos 105 ∷ pos 45 ∷ [])

@@ -200,7 +200,7 @@ reads_commit w k s t p q some h =
     let lr : k % w.text.logs < length t.logs = omega (arith, lt, q) in
     let lg = log_is s t (k % w.text.logs) ls lr h.1.0 in
     let la = at_get s.logs t.logs (k % w.text.logs) no_log lg in
-    record { asks = rw (ed, lg) refl; parts = (rw (ed) refl, (log_after (after w (Commit k) s) (after w (Commit k) t) (k % w.text.logs) (set_lt s.logs (k % w.text.logs) _ ls) (set_lt t.logs (k % w.text.logs) _ lr) (set_same s.logs t.logs (k % w.text.logs) _ _ lg (rw (la) refl)), tt)) }
+    record { asks = rw (ed, lg) refl; parts = (rw (ed) refl, (log_after (after w (Commit k) s) (after w (Commit k) t) (k % w.text.logs) (set_lt s.logs (k % w.text.logs) _ ls) (set_lt t.logs (k % w.text.logs) _ lr) (set_same s.logs t.logs (k % w.text.logs) _ _ lg (rw (la, ed) refl)), tt)) }
 
 reads_settle : {C : Type 0} (w : Fixed C) (k : ℕ) (s t : Machine C) → HasLogs w s → HasLogs w t → 1 ≤ w.text.logs → SameOn (footprint w.text.logs (Settle k)) s t → ReadsItsParts w (Settle k) s t
 unfolding conditions after

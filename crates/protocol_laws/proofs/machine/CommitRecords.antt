@@ -5,7 +5,7 @@ use Rattle.std.proofs.Common.{arith, sym, ap, subst, inl, inr, ◌∙◌}
 use Rattle.std.proofs.lemmas.Bool.{true≢false, eqb-true, eq-eqb, and_parts, or_cases, or_left, or_right, lt-ltb, cases_lt}
 use Rattle.snap_base.specs.declared.transactions.TxResult.{TxResult}
 use Rattle.protocol.specs.Fixed.{Fixed, IsText, Next, Go, Ended}
-use Rattle.protocol.specs.Records.{LogRecord, BatchCommit, is_commit, is_act_commit}
+use Rattle.protocol.specs.Records.{LogRecord, is_commit, is_act_commit}
 use Rattle.protocol.specs.Parts.{Act, Batch, Declared, Committing, Settled, Status, Live, Doomed, Decided, Sealed, Log, Outcome, Machine}
 use Rattle.protocol.specs.Events.{Event, Form, Admit, Ask, End, Complete, Sync, Note, Commit, Settle, Abort, Prepare, Decide, Trim}
 use Rattle.protocol.specs.Words.{holds, is_value, is_decided, is_ended, is_formed, is_committing, is_durable, act_of, batch_of, has_act, outcome_of, is_ordered}
@@ -185,7 +185,7 @@ pub batches_recorded : {C : Type 0} (w : Fixed C) (e : Event) (s : Machine C) �
 unfolding BatchesRecorded BatchReady conditions after
 batches_recorded w (Form k) s tx l ok g = batches_keep w (Form k) s (BatchRecorded w (after w (Form k) s)) (batch_recorded_holds w (after w (Form k) s)) (λ j e f. absurd (true≢false f)) (stay_batches w (Form k) s g)
 batches_recorded w (End t a) s tx l ok g = batches_keep w (End t a) s (BatchRecorded w (after w (End t a) s)) (batch_recorded_holds w (after w (End t a) s)) (λ k b r e p. p) (stay_batches w (End t a) s g)
-batches_recorded w (Commit k) s tx l ok g = batches_keep w (Commit k) s (BatchRecorded w (after w (Commit k) s)) (batch_recorded_holds w (after w (Commit k) s)) (λ b e p f. adds_new (is_commit k) (BatchCommit k ∷ []) s.logs (k % w.text.logs) (has_log w s k tx l) (or_left (k == k) false (eq-eqb k k refl))) (stay_batches w (Commit k) s g)
+batches_recorded w (Commit k) s tx l ok g = batches_keep w (Commit k) s (BatchRecorded w (after w (Commit k) s)) (batch_recorded_holds w (after w (Commit k) s)) (λ b e p f. adds_new (is_commit k) _ s.logs (k % w.text.logs) (has_log w s k tx l) (or_left (k == k) false (eq-eqb k k refl))) (stay_batches w (Commit k) s g)
 batches_recorded w (Settle k) s tx l ok g = batches_keep w (Settle k) s (BatchRecorded w (after w (Settle k) s)) (batch_recorded_holds w (after w (Settle k) s)) (λ b e p f. p (committing_not_formed b.stage (and_parts (is_committing b.stage) (not b.aborted) (some_of (λ b. is_committing b.stage && not b.aborted) (batch_of k s.desk.batches) b e ok.0)).0)) (stay_batches w (Settle k) s g)
 batches_recorded w e s tx l ok g = batches_keep w e s (BatchRecorded w (after w e s)) (batch_recorded_holds w (after w e s)) tt (stay_batches w e s g)
 

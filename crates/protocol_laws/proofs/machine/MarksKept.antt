@@ -7,7 +7,7 @@ use Rattle.protocol.specs.Fixed.{Fixed, Next, Go, Ended}
 use Rattle.protocol.specs.Records.{LogRecord, is_complete}
 use Rattle.protocol.specs.Parts.{Act, Desk, Cascade, Who, OfBatch, OfAct, Batch, Declared, Committing, Settled, Entry, BatchEntry, ActEntry, Outcome, Log, Cell, Machine}
 use Rattle.protocol.specs.Events.{Event, Form, Arrive, Ask, Run, Complete, End, Sync, Note, Commit, Settle, Abort, Rollback, Prepare, Decide, Finish, Trim}
-use Rattle.protocol.specs.Words.{holds, who_on, is_who, is_value, is_aborted, is_formed, is_committing, is_durable, batch_of, is_batch_entry, is_complete_batch, has_act, outcome_of, act_of}
+use Rattle.protocol.specs.Words.{holds, who_on, is_who, is_value, is_aborted, is_formed, is_committing, is_durable, batch_of, is_batch_entry, is_complete_batch, has_act, outcome_of, act_of, value_of}
 use Rattle.protocol.specs.Conditions.{IsAllowed, conditions}
 use Rattle.protocol.specs.Effects.{after, cell_at, log_at, no_cell, no_log, added, adds, synced, act_commit}
 use Rattle.protocol.specs.OnRing as ring
@@ -168,7 +168,7 @@ none_complete : (k a c : ℕ) (o : Option Act) → list_any (is_complete k a) (a
 none_complete k a c None = refl
 none_complete k a c (Some x) = by (is_value x.result)
   where
-    by : (b : Bool) → list_any (is_complete k a) (if b then Rattle.protocol.specs.Records.ActCommit x.tid x.m c (Rattle.protocol.specs.Effects.ascending (map (λ p. p.actor) x.places)) ∷ [] else []) ≡ false
+    by : (b : Bool) → list_any (is_complete k a) (if b then Rattle.protocol.specs.Records.ActDone x.tid x.m c (value_of x.result) (Rattle.protocol.specs.Effects.ascending (map (λ p. p.actor) x.places)) ∷ [] else []) ≡ false
     by true = refl
     by false = refl
 

@@ -8,7 +8,7 @@ use Rattle.protocol.specs.Fixed.{Fixed}
 use Rattle.protocol.specs.Records.{is_prepare}
 use Rattle.protocol.specs.Parts.{Act, Joined, Cascade, Who, OfBatch, OfAct, Machine}
 use Rattle.protocol.specs.Events.{Event, Form, Admit, Arrive, Ask, Run, End, Complete, Sync, Commit, Rollback, Prepare, Vouch, Decide, Seal, Finish, Trim}
-use Rattle.protocol.specs.Words.{holds, is_who, is_value, is_failure, is_doomed, is_live_act, is_ended, is_aborted, outcome_of, joined_of, act_of}
+use Rattle.protocol.specs.Words.{holds, is_who, is_value, is_failure, is_doomed, is_live_act, is_ended, is_aborted, outcome_of, joined_of, act_of, value_of}
 use Rattle.protocol.specs.Conditions.{IsAllowed, conditions}
 use Rattle.protocol.specs.Effects.{after, cell_at, no_cell, act_commit}
 use Rattle.protocol.specs.OnBook as book
@@ -164,7 +164,7 @@ no_prepare : (t a c : ℕ) (o : Option Act) → list_any (is_prepare t a) (act_c
 no_prepare t a c None h = true≢false (sym h)
 no_prepare t a c (Some x) h = by (is_value x.result) h
   where
-    by : (b : Bool) → list_any (is_prepare t a) (if b then Rattle.protocol.specs.Records.ActCommit x.tid x.m c (Rattle.protocol.specs.Effects.ascending (map (λ p. p.actor) x.places)) ∷ [] else []) ≡ true → ⊥
+    by : (b : Bool) → list_any (is_prepare t a) (if b then Rattle.protocol.specs.Records.ActDone x.tid x.m c (value_of x.result) (Rattle.protocol.specs.Effects.ascending (map (λ p. p.actor) x.places)) ∷ [] else []) ≡ true → ⊥
     by true g = true≢false (sym g)
     by false g = true≢false (sym g)
 

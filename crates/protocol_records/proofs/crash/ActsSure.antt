@@ -5,10 +5,10 @@ use Rattle.std.proofs.Common.{sym, ap, subst, inl, inr, ◌∙◌}
 use Rattle.std.proofs.lemmas.Bool.{true≢false, or_cases, eqb-true, and_parts}
 use Rattle.snap_base.specs.declared.transactions.TxResult.{TxResult}
 use Rattle.protocol.specs.Fixed.{Fixed}
-use Rattle.protocol.specs.Records.{LogRecord, BatchInfo, BatchComplete, BatchCommit, ActPrepare, ActCommit, is_prepare, is_act_commit}
+use Rattle.protocol.specs.Records.{LogRecord, BatchInfo, BatchComplete, BatchDone, ActPrepare, ActDone, is_prepare, is_act_commit}
 use Rattle.protocol.specs.Parts.{Act, Joined, Status, Live, Doomed, Decided, Sealed, Log, Machine}
 use Rattle.protocol.specs.Events.{Event, Form, Admit, Ask, End, Complete, Sync, Commit, Prepare, Vouch, Decide, Seal, Finish}
-use Rattle.protocol.specs.Words.{is_value, is_failure, holds, act_of, is_sealed, is_live_status, is_vouched_everywhere, is_ended, outcome_of, is_ordered}
+use Rattle.protocol.specs.Words.{is_value, is_failure, holds, act_of, is_sealed, is_live_status, is_vouched_everywhere, is_ended, outcome_of, is_ordered, value_of}
 use Rattle.protocol.specs.Conditions.{IsAllowed, conditions}
 use Rattle.protocol.specs.Effects.{after, no_cell, act_commit, ascending}
 use Rattle.protocol.specs.OnBook as book
@@ -168,9 +168,9 @@ commits_stay w e s h rs ok n i g = weaker (CommitIs s.book.acts) (CommitIs (afte
     one : (r : LogRecord) → CommitIs s.book.acts r → CommitIs (after w e s).book.acts r
     one (BatchInfo k actors tids) p = tt
     one (BatchComplete k a st) p = tt
-    one (BatchCommit k) p = tt
+    one (BatchDone k vs) p = tt
     one (ActPrepare t a st) p = tt
-    one (ActCommit t m c actors) p = fixed_stays w e s h t actors ok n i p
+    one (ActDone t m c v actors) p = fixed_stays w e s h t actors ok n i p
 
 pub found_changed : (t : ℕ) (f : Act → Act) (x : Act) (xs : List Act) → ((x : Act) → (f x).tid ≡ x.tid) → act_of t xs ≡ Some x → act_of t (book.changed_act t f xs) ≡ Some (f x)
 found_changed t f x [] i e = absurd (cc e)
@@ -180,7 +180,7 @@ found_changed t f x (y ∷ ys) i e = by (y.tid == t) refl e (found_changed t f x
     by true q e k = let j : y ≡ x = cc e in let u : ((f y).tid == t) ≡ true = ap (λ z. z == t) (i y) ∙ q in rw u (ap (λ z. Some (f z)) j)
     by false q e k = rw q (k e)
 
-now_placed : (c : ℕ) (b : Bool) (st : Status) → is_live_status st ≡ true → is_ordered (book.decided_status c b st) ≡ true
+pub now_placed : (c : ℕ) (b : Bool) (st : Status) → is_live_status st ≡ true → is_ordered (book.decided_status c b st) ≡ true
 now_placed c true Live e = refl
 now_placed c false Live e = refl
 now_placed c b (Doomed v) e = absurd (true≢false (sym e))
@@ -201,7 +201,7 @@ commits_kept w (Decide t) s h ok n i g = λ l. all_added _ _ s.logs (t % w.text.
         tid : q.0.tid ≡ t
         tid = acts.found_tid t q.0 s.book.acts q.1
 
-        by : (b : Bool) → AllByRecursion (CommitIs (book.changed_act t (book.decided_as s.book.next_c) s.book.acts)) (if b then ActCommit q.0.tid q.0.m s.book.next_c (ascending (map (λ p. p.actor) q.0.places)) ∷ [] else [])
+        by : (b : Bool) → AllByRecursion (CommitIs (book.changed_act t (book.decided_as s.book.next_c) s.book.acts)) (if b then ActDone q.0.tid q.0.m s.book.next_c (value_of q.0.result) (ascending (map (λ p. p.actor) q.0.places)) ∷ [] else [])
         by true = ((book.decided_as s.book.next_c q.0, ap (λ z. act_of z (book.changed_act t (book.decided_as s.book.next_c) s.book.acts)) tid ∙ found_changed t (book.decided_as s.book.next_c) q.0 s.book.acts (λ x. refl) q.1, now_placed s.book.next_c (is_value q.0.result) q.0.status (and_parts (is_some q.0.result) (is_live_status q.0.status) q.2).1, refl), tt)
         by false = tt
 commits_kept w (Sync j) s h ok n i g = λ l. subst (AllByRecursion (CommitIs s.book.acts)) (sym (log_synced s.logs j l)) (g l)

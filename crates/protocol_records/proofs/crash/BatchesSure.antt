@@ -5,10 +5,10 @@ use Rattle.std.proofs.Common.{arith, sym, ap, subst, inl, inr, ◌∙◌}
 use Rattle.std.proofs.lemmas.Bool.{true≢false, or_cases, or_left, or_right, eqb-true}
 use Rattle.snap_base.specs.declared.transactions.TxResult.{TxResult}
 use Rattle.protocol.specs.Fixed.{Fixed, Next, Go, Ended}
-use Rattle.protocol.specs.Records.{LogRecord, BatchInfo, BatchComplete, BatchCommit, ActPrepare, ActCommit, is_info, is_complete, is_commit}
+use Rattle.protocol.specs.Records.{LogRecord, BatchInfo, BatchComplete, BatchDone, ActPrepare, ActDone, is_info, is_complete, is_commit}
 use Rattle.protocol.specs.Parts.{Act, Pact, Batch, Declared, Stage, Committing, Settled, Outcome, Log, Machine}
 use Rattle.protocol.specs.Events.{Event, Form, End, Complete, Sync, Note, Commit, Settle, Abort, Prepare, Decide, Trim}
-use Rattle.protocol.specs.Words.{is_value, is_durable, holds, act_of, batch_of, has_act, outcome_of, is_settled, is_formed}
+use Rattle.protocol.specs.Words.{is_value, is_durable, holds, act_of, batch_of, has_act, outcome_of, is_settled, is_formed, value_of}
 use Rattle.protocol.specs.Conditions.{IsAllowed, conditions, queue}
 use Rattle.protocol.specs.Effects.{after, cell_at, no_log, added, synced, act_commit}
 use Rattle.protocol.specs.OnRing as ring
@@ -181,15 +181,15 @@ infos_stay w e s rs h = weaker (InfoIs s.desk.batches) (InfoIs (after w e s).des
     one : (r : LogRecord) → InfoIs s.desk.batches r → InfoIs (after w e s).desk.batches r
     one (BatchInfo k actors tids) p = actors_stay w e s k actors p
     one (BatchComplete k a st) p = tt
-    one (BatchCommit k) p = tt
+    one (BatchDone k vs) p = tt
     one (ActPrepare t a st) p = tt
-    one (ActCommit t m c actors) p = tt
+    one (ActDone t m c v actors) p = tt
 
 no_info : (bs : List Batch) (c : ℕ) (o : Option Act) → AllByRecursion (InfoIs bs) (act_commit c o)
 no_info bs c None = tt
 no_info bs c (Some x) = by (is_value x.result)
   where
-    by : (b : Bool) → AllByRecursion (InfoIs bs) (if b then ActCommit x.tid x.m c (Rattle.protocol.specs.Effects.ascending (map (λ p. p.actor) x.places)) ∷ [] else [])
+    by : (b : Bool) → AllByRecursion (InfoIs bs) (if b then ActDone x.tid x.m c (value_of x.result) (Rattle.protocol.specs.Effects.ascending (map (λ p. p.actor) x.places)) ∷ [] else [])
     by true = (tt, tt)
     by false = tt
 

@@ -8,7 +8,7 @@ use Rattle.snap_base.specs.declared.transactions.Tx.{Tx}
 use Rattle.snap_base.specs.declared.transactions.State.{State}
 use Rattle.protocol.specs.Facts.{Alone, state_in}
 use Rattle.protocol.specs.Fixed.{Fixed, no_state}
-use Rattle.protocol.specs.Records.{LogRecord, BatchInfo, BatchComplete, BatchCommit, ActPrepare, ActCommit, is_commit, is_prepare, is_act_commit}
+use Rattle.protocol.specs.Records.{LogRecord, BatchInfo, BatchComplete, BatchDone, ActPrepare, ActDone, is_commit, is_prepare, is_act_commit}
 use Rattle.protocol.specs.Parts.{Who, OfBatch, OfAct, Machine}
 use Rattle.protocol.specs.Events.{Event}
 use Rattle.protocol.specs.Conditions.{IsAllowed}
@@ -154,7 +154,7 @@ counted many a logs first (BatchComplete k b st ∷ rs) = by (b == a) (is_in man
     by true true e r = rw e (r st)
     by true false e r = rw e (r first)
     by false u e r = r first
-counted many a logs first (BatchCommit k ∷ rs) = counted many a logs first rs
+counted many a logs first (BatchDone k vs ∷ rs) = counted many a logs first rs
 counted many a logs first (ActPrepare t b st ∷ rs) = by (b == a) (is_in many logs (OfAct t)) refl (λ s. counted many a logs s rs)
   where
     by : (v u : Bool) → is_in many logs (OfAct t) ≡ u → ((s : State) → last_told s (filter (counts many logs a) rs) ≡ last_one s (filter (λ o. is_in many logs o.who) (told a rs)))
@@ -162,7 +162,7 @@ counted many a logs first (ActPrepare t b st ∷ rs) = by (b == a) (is_in many l
     by true true e r = rw e (r st)
     by true false e r = rw e (r first)
     by false u e r = r first
-counted many a logs first (ActCommit t m c actors ∷ rs) = counted many a logs first rs
+counted many a logs first (ActDone t m c v actors ∷ rs) = counted many a logs first rs
 
 pub take_drop : {X : Type 0} (n : ℕ) (xs : List X) → xs ≡ take n xs ++ drop n xs
 take_drop zero xs = refl

@@ -1,5 +1,5 @@
 -- A commit record that is in a cut rests on records that are in it.
-use Rattle.std.specs.Prelude.{◌≡◌, refl, ℕ, ◌%◌, ◌==◌, nat_le, Bool, true, false, ◌||◌, if◌then◌else◌, Some, List, [], ◌∷◌, ◌++◌, map}
+use Rattle.std.specs.Prelude.{◌≡◌, refl, ℕ, ℤ, ◌%◌, ◌==◌, nat_le, Bool, true, false, ◌||◌, if◌then◌else◌, Some, List, [], ◌∷◌, ◌++◌, map}
 use Rattle.std.specs.List.{AllByRecursion, list_any, list_all}
 use Rattle.std.proofs.Common.{sym, ap, subst, ◌∙◌}
 use Rattle.std.proofs.lemmas.Bool.{true≢false, and_parts, eqb-true, not-true}
@@ -7,7 +7,7 @@ use Rattle.snap_base.specs.declared.transactions.Tx.{Tx}
 use Rattle.snap_base.specs.declared.transactions.State.{State}
 use Rattle.protocol.specs.Facts.{Alone}
 use Rattle.protocol.specs.Fixed.{Fixed}
-use Rattle.protocol.specs.Records.{LogRecord, BatchInfo, BatchComplete, BatchCommit, ActPrepare, ActCommit, is_info, is_complete, is_prepare, is_act_commit}
+use Rattle.protocol.specs.Records.{LogRecord, BatchInfo, BatchComplete, BatchDone, ActPrepare, ActDone, is_info, is_complete, is_prepare, is_act_commit}
 use Rattle.protocol.specs.Parts.{Joined, Declared, OfBatch, OfAct, Machine}
 use Rattle.protocol.specs.Words.{is_formed, is_value, batch_of, is_ordered}
 use Rattle.protocol.specs.Effects.{log_at, put_in, ascending}
@@ -39,29 +39,30 @@ info_at k (BatchInfo j actors tids ∷ rs) h = by (j == k) refl h (info_at k rs)
     by true e h r = record { actors = actors; tids = tids; front = []; rest = rs; splits = ap (λ z. BatchInfo z actors tids ∷ rs) (eqb-true j k e) }
     by false e h r = let g = r h in record { actors = g.actors; tids = g.tids; front = BatchInfo j actors tids ∷ g.front; rest = g.rest; splits = ap (λ l. BatchInfo j actors tids ∷ l) g.splits }
 info_at k (BatchComplete j a st ∷ rs) h = let g = info_at k rs h in record { actors = g.actors; tids = g.tids; front = BatchComplete j a st ∷ g.front; rest = g.rest; splits = ap (λ l. BatchComplete j a st ∷ l) g.splits }
-info_at k (BatchCommit j ∷ rs) h = let g = info_at k rs h in record { actors = g.actors; tids = g.tids; front = BatchCommit j ∷ g.front; rest = g.rest; splits = ap (λ l. BatchCommit j ∷ l) g.splits }
+info_at k (BatchDone j vs ∷ rs) h = let g = info_at k rs h in record { actors = g.actors; tids = g.tids; front = BatchDone j vs ∷ g.front; rest = g.rest; splits = ap (λ l. BatchDone j vs ∷ l) g.splits }
 info_at k (ActPrepare t a st ∷ rs) h = let g = info_at k rs h in record { actors = g.actors; tids = g.tids; front = ActPrepare t a st ∷ g.front; rest = g.rest; splits = ap (λ l. ActPrepare t a st ∷ l) g.splits }
-info_at k (ActCommit t m c as' ∷ rs) h = let g = info_at k rs h in record { actors = g.actors; tids = g.tids; front = ActCommit t m c as' ∷ g.front; rest = g.rest; splits = ap (λ l. ActCommit t m c as' ∷ l) g.splits }
+info_at k (ActDone t m c v as' ∷ rs) h = let g = info_at k rs h in record { actors = g.actors; tids = g.tids; front = ActDone t m c v as' ∷ g.front; rest = g.rest; splits = ap (λ l. ActDone t m c v as' ∷ l) g.splits }
 
 record CommitAt (t : ℕ) (rs : List LogRecord) : Type 0 where
   m : ℕ
   c : ℕ
+  v : ℤ
   actors : List ℕ
   front : List LogRecord
   rest : List LogRecord
-  splits : rs ≡ front ++ ActCommit t m c actors ∷ rest
+  splits : rs ≡ front ++ ActDone t m c v actors ∷ rest
 
 commit_at : (t : ℕ) (rs : List LogRecord) → list_any (is_act_commit t) rs ≡ true → CommitAt t rs
 commit_at t [] h = absurd (true≢false (sym h))
-commit_at t (ActCommit u m c actors ∷ rs) h = by (u == t) refl h (commit_at t rs)
+commit_at t (ActDone u m c v actors ∷ rs) h = by (u == t) refl h (commit_at t rs)
   where
-    by : (v : Bool) → (u == t) ≡ v → (v || list_any (is_act_commit t) rs) ≡ true → (list_any (is_act_commit t) rs ≡ true → CommitAt t rs) → CommitAt t (ActCommit u m c actors ∷ rs)
-    by true e h r = record { m = m; c = c; actors = actors; front = []; rest = rs; splits = ap (λ z. ActCommit z m c actors ∷ rs) (eqb-true u t e) }
-    by false e h r = let g = r h in record { m = g.m; c = g.c; actors = g.actors; front = ActCommit u m c actors ∷ g.front; rest = g.rest; splits = ap (λ l. ActCommit u m c actors ∷ l) g.splits }
-commit_at t (BatchInfo j actors tids ∷ rs) h = let g = commit_at t rs h in record { m = g.m; c = g.c; actors = g.actors; front = BatchInfo j actors tids ∷ g.front; rest = g.rest; splits = ap (λ l. BatchInfo j actors tids ∷ l) g.splits }
-commit_at t (BatchComplete j a st ∷ rs) h = let g = commit_at t rs h in record { m = g.m; c = g.c; actors = g.actors; front = BatchComplete j a st ∷ g.front; rest = g.rest; splits = ap (λ l. BatchComplete j a st ∷ l) g.splits }
-commit_at t (BatchCommit j ∷ rs) h = let g = commit_at t rs h in record { m = g.m; c = g.c; actors = g.actors; front = BatchCommit j ∷ g.front; rest = g.rest; splits = ap (λ l. BatchCommit j ∷ l) g.splits }
-commit_at t (ActPrepare u a st ∷ rs) h = let g = commit_at t rs h in record { m = g.m; c = g.c; actors = g.actors; front = ActPrepare u a st ∷ g.front; rest = g.rest; splits = ap (λ l. ActPrepare u a st ∷ l) g.splits }
+    by : (q : Bool) → (u == t) ≡ q → (q || list_any (is_act_commit t) rs) ≡ true → (list_any (is_act_commit t) rs ≡ true → CommitAt t rs) → CommitAt t (ActDone u m c v actors ∷ rs)
+    by true e h r = record { m = m; c = c; v = v; actors = actors; front = []; rest = rs; splits = ap (λ z. ActDone z m c v actors ∷ rs) (eqb-true u t e) }
+    by false e h r = let g = r h in record { m = g.m; c = g.c; v = g.v; actors = g.actors; front = ActDone u m c v actors ∷ g.front; rest = g.rest; splits = ap (λ l. ActDone u m c v actors ∷ l) g.splits }
+commit_at t (BatchInfo j actors tids ∷ rs) h = let g = commit_at t rs h in record { m = g.m; c = g.c; v = g.v; actors = g.actors; front = BatchInfo j actors tids ∷ g.front; rest = g.rest; splits = ap (λ l. BatchInfo j actors tids ∷ l) g.splits }
+commit_at t (BatchComplete j a st ∷ rs) h = let g = commit_at t rs h in record { m = g.m; c = g.c; v = g.v; actors = g.actors; front = BatchComplete j a st ∷ g.front; rest = g.rest; splits = ap (λ l. BatchComplete j a st ∷ l) g.splits }
+commit_at t (BatchDone j vs ∷ rs) h = let g = commit_at t rs h in record { m = g.m; c = g.c; v = g.v; actors = g.actors; front = BatchDone j vs ∷ g.front; rest = g.rest; splits = ap (λ l. BatchDone j vs ∷ l) g.splits }
+commit_at t (ActPrepare u a st ∷ rs) h = let g = commit_at t rs h in record { m = g.m; c = g.c; v = g.v; actors = g.actors; front = ActPrepare u a st ∷ g.front; rest = g.rest; splits = ap (λ l. ActPrepare u a st ∷ l) g.splits }
 
 pub some_is : {X : Type 0} (x y : X) → Some x ≡ Some y → x ≡ y
 some_is x y e = cc e
@@ -104,7 +105,7 @@ unfolding Acts ActsSure ActCommits
 whole_act w Of finish s h kept t c g l e =
     let q = in_kept w s h kept (OfAct t) l.written e in
     let i = commit_at t (left_in s kept (t % w.text.logs)) e in
-    let f = all_mid (CommitIs s.book.acts) (ActCommit t i.m i.c i.actors) i.front i.rest (subst (AllByRecursion (CommitIs s.book.acts)) i.splits (all_take (CommitIs s.book.acts) (kept (t % w.text.logs)) (log_at s (t % w.text.logs)).records (l.commits (t % w.text.logs)))) in
+    let f = all_mid (CommitIs s.book.acts) (ActDone t i.m i.c i.v i.actors) i.front i.rest (subst (AllByRecursion (CommitIs s.book.acts)) i.splits (all_take (CommitIs s.book.acts) (kept (t % w.text.logs)) (log_at s (t % w.text.logs)).records (l.commits (t % w.text.logs)))) in
     let v = and_parts (is_ordered f.0.status) (is_value f.0.result) (sym (g.acts t f.0 f.1).known ∙ q) in
     let p = l.acts t f.0 f.1 in
-    record { m = i.m; c = i.c; actors = i.actors; front = i.front; rest = i.rest; commit = i.splits; prepares = subst (AllByRecursion (λ a. list_any (is_prepare t a) (left_in s kept (a % w.text.logs)) ≡ true)) f.3 (all_ascending (λ a. list_any (is_prepare t a) (left_in s kept (a % w.text.logs)) ≡ true) (map (λ p. p.actor) f.0.places) (vouched_in w s kept t f.0.places c (p.everywhere v.0 v.1) p.vouched)) }
+    record { m = i.m; c = i.c; v = i.v; actors = i.actors; front = i.front; rest = i.rest; commit = i.splits; prepares = subst (AllByRecursion (λ a. list_any (is_prepare t a) (left_in s kept (a % w.text.logs)) ≡ true)) f.3 (all_ascending (λ a. list_any (is_prepare t a) (left_in s kept (a % w.text.logs)) ≡ true) (map (λ p. p.actor) f.0.places) (vouched_in w s kept t f.0.places c (p.everywhere v.0 v.1) p.vouched)) }

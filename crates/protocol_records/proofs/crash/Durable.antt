@@ -7,7 +7,7 @@ use Rattle.protocol.specs.Fixed.{Fixed}
 use Rattle.protocol.specs.Records.{LogRecord, is_info, is_complete, is_commit, is_prepare, is_act_commit}
 use Rattle.protocol.specs.Parts.{Act, Who, OfBatch, OfAct, Log, Machine}
 use Rattle.protocol.specs.Events.{Event, Form, Complete, Sync, Commit, Prepare, Decide}
-use Rattle.protocol.specs.Words.{is_who, is_value, is_durable, holds, act_of}
+use Rattle.protocol.specs.Words.{is_who, is_value, is_durable, holds, act_of, value_of}
 use Rattle.protocol.specs.Effects.{after, no_log, added, synced, act_commit}
 use Rattle.protocol.specs.History.{History, grown, kept_act}
 use Rattle.protocol_laws.specs.Commits.{is_kept}
@@ -93,7 +93,7 @@ act_written : (t c : ℕ) (kept : List Who) (o : Option Act) → list_any (is_ac
 act_written t c kept None h = absurd (true≢false (sym h))
 act_written t c kept (Some x) h = by (is_value x.result) h
   where
-    by : (b : Bool) → list_any (is_act_commit t) (if b then Rattle.protocol.specs.Records.ActCommit x.tid x.m c (Rattle.protocol.specs.Effects.ascending (map (λ p. p.actor) x.places)) ∷ [] else []) ≡ true → is_kept (OfAct t) (kept ++ (if b then OfAct x.tid ∷ [] else [])) ≡ true
+    by : (b : Bool) → list_any (is_act_commit t) (if b then Rattle.protocol.specs.Records.ActDone x.tid x.m c (value_of x.result) (Rattle.protocol.specs.Effects.ascending (map (λ p. p.actor) x.places)) ∷ [] else []) ≡ true → is_kept (OfAct t) (kept ++ (if b then OfAct x.tid ∷ [] else [])) ≡ true
     by true g = any_back (λ z. is_who z (OfAct t)) kept (OfAct x.tid ∷ []) g
     by false g = absurd (true≢false (sym g))
 
@@ -101,7 +101,7 @@ no_batch_in : (k c : ℕ) (o : Option Act) → list_any (is_commit k) (act_commi
 no_batch_in k c None h = true≢false (sym h)
 no_batch_in k c (Some x) h = by (is_value x.result) h
   where
-    by : (b : Bool) → list_any (is_commit k) (if b then Rattle.protocol.specs.Records.ActCommit x.tid x.m c (Rattle.protocol.specs.Effects.ascending (map (λ p. p.actor) x.places)) ∷ [] else []) ≡ true → ⊥
+    by : (b : Bool) → list_any (is_commit k) (if b then Rattle.protocol.specs.Records.ActDone x.tid x.m c (value_of x.result) (Rattle.protocol.specs.Effects.ascending (map (λ p. p.actor) x.places)) ∷ [] else []) ≡ true → ⊥
     by true g = true≢false (sym g)
     by false g = true≢false (sym g)
 

@@ -51,7 +51,7 @@ all_among P a (x ∷ xs) e h = elim (or_cases (x == a) _ e) [ inl q ↦ subst P 
 
 declares_step : {C : Type 0} (w : Fixed C) (Of : Tx → C → Type 0) (finish : C → List State → Alone) (e : Event) (s : Machine C) (h : History) → IsAllowed w e s → AllGood w Of finish s h → Declares w s → Declares w (after w e s)
 unfolding Declares conditions
-declares_step w Of finish e s h ok g d = λ k a q. elim (new_record w e s (is_complete k a) (a % w.text.logs) (λ j xs ts. refl) (λ j. refl) (λ u n c xs. refl) q) [
+declares_step w Of finish e s h ok g d = λ k a q. elim (new_record w e s (is_complete k a) (a % w.text.logs) (λ j xs ts. refl) (λ j vs. refl) (λ u n c v xs. refl) q) [
   | inl v ↦ let z = d k a v in (z.0, actors_stay w e s k z.0 z.1, z.2)
   | inr v ↦ elim v [
     | inl j ↦ let u = and_parts (j.0 == k) (j.1 == a) j.3 in let z = own j.0 j.1 (subst (λ i. IsAllowed w i s) j.2 ok) in

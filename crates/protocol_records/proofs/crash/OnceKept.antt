@@ -1,5 +1,5 @@
 -- Records of states are added once, over every run; so none of a member lies behind a cut.
-use Rattle.std.specs.Prelude.{◌≡◌, refl, ℕ, ◌%◌, ◌==◌, not, Bool, true, false, ◌⊎◌, if◌then◌else◌, Option, Some, None, is_some, List, [], ◌∷◌, ◌++◌, map, find, slice_index_or}
+use Rattle.std.specs.Prelude.{◌≡◌, refl, ℕ, ℤ, ◌%◌, ◌==◌, not, Bool, true, false, ◌⊎◌, if◌then◌else◌, Option, Some, None, is_some, List, [], ◌∷◌, ◌++◌, map, find, slice_index_or}
 use Rattle.std.specs.List.{AllByRecursion, list_any}
 use Rattle.std.proofs.Common.{sym, ap, subst, inl, inr, ◌∙◌}
 use Rattle.std.proofs.lemmas.List.{append-nil}
@@ -11,7 +11,7 @@ use Rattle.protocol.specs.Fixed.{Fixed, no_state}
 use Rattle.protocol.specs.Records.{LogRecord, BatchComplete, ActPrepare, is_complete, is_prepare}
 use Rattle.protocol.specs.Parts.{Act, Joined, Who, OfBatch, OfAct, Machine}
 use Rattle.protocol.specs.Events.{Event, Form, Admit, Ask, End, Complete, Sync, Commit, Prepare, Vouch, Decide, Seal, Finish}
-use Rattle.protocol.specs.Words.{holds, is_among, is_complete_batch, is_batch_entry, joined_of, act_of, batch_of}
+use Rattle.protocol.specs.Words.{holds, is_among, is_complete_batch, is_batch_entry, joined_of, act_of, batch_of, value_of}
 use Rattle.protocol.specs.Conditions.{IsAllowed, conditions}
 use Rattle.protocol.specs.Effects.{after, cell_at, no_cell, log_at, no_log, added, act_commit}
 use Rattle.protocol.specs.OnBook as book
@@ -124,11 +124,11 @@ pub record Once {C : Type 0} (w : Fixed C) (s : Machine C) : Type 0 where
   pub declares : Declares w s
 
 -- which records of states an event adds
-pub new_record : {C : Type 0} (w : Fixed C) (e : Event) (s : Machine C) (p : LogRecord → Bool) (l : ℕ) → ((k : ℕ) (xs ts : List ℕ) → p (Rattle.protocol.specs.Records.BatchInfo k xs ts) ≡ false) → ((k : ℕ) → p (Rattle.protocol.specs.Records.BatchCommit k) ≡ false) → ((t m c : ℕ) (xs : List ℕ) → p (Rattle.protocol.specs.Records.ActCommit t m c xs) ≡ false) → logged_at p (after w e s).logs l ≡ true
+pub new_record : {C : Type 0} (w : Fixed C) (e : Event) (s : Machine C) (p : LogRecord → Bool) (l : ℕ) → ((k : ℕ) (xs ts : List ℕ) → p (Rattle.protocol.specs.Records.BatchInfo k xs ts) ≡ false) → ((k : ℕ) (vs : List ℤ) → p (Rattle.protocol.specs.Records.BatchDone k vs) ≡ false) → ((t m c : ℕ) (v : ℤ) (xs : List ℕ) → p (Rattle.protocol.specs.Records.ActDone t m c v xs) ≡ false) → logged_at p (after w e s).logs l ≡ true
     → (logged_at p s.logs l ≡ true) ⊎ ((k a : ℕ) × (e ≡ Complete k a) × (p (BatchComplete k a (cell_at s a).state) ≡ true)) ⊎ ((t a : ℕ) × (e ≡ Prepare t a) × (p (ActPrepare t a (cell_at s a).state) ≡ true))
 unfolding after
 new_record w (Form k) s p l f g h q = elim (logged_added p _ s.logs (k % w.text.logs) l q) [ inl v ↦ inl v | inr v ↦ absurd (elim (or_cases (p _) false v) [ inl u ↦ true≢false (sym u ∙ f _ _ _) | inr u ↦ true≢false (sym u) ]) ]
-new_record w (Commit k) s p l f g h q = elim (logged_added p _ s.logs (k % w.text.logs) l q) [ inl v ↦ inl v | inr v ↦ absurd (elim (or_cases (p _) false v) [ inl u ↦ true≢false (sym u ∙ g _) | inr u ↦ true≢false (sym u) ]) ]
+new_record w (Commit k) s p l f g h q = elim (logged_added p _ s.logs (k % w.text.logs) l q) [ inl v ↦ inl v | inr v ↦ absurd (elim (or_cases (p _) false v) [ inl u ↦ true≢false (sym u ∙ g _ _) | inr u ↦ true≢false (sym u) ]) ]
 new_record w (Complete k a) s p l f g h q = elim (logged_added p _ s.logs (a % w.text.logs) l q) [ inl v ↦ inl v | inr v ↦ elim (or_cases (p _) false v) [ inl u ↦ inr (inl (k, a, refl, u)) | inr u ↦ absurd (true≢false (sym u)) ] ]
 new_record w (Prepare t a) s p l f g h q = elim (logged_added p _ s.logs (a % w.text.logs) l q) [ inl v ↦ inl v | inr v ↦ elim (or_cases (p _) false v) [ inl u ↦ inr (inr (t, a, refl, u)) | inr u ↦ absurd (true≢false (sym u)) ] ]
 new_record w (Sync i) s p l f g h q = inl (sym (ap (list_any p) (log_synced s.logs i l)) ∙ q)
@@ -138,8 +138,8 @@ new_record w (Decide t) s p l f g h q = elim (logged_added p _ s.logs (t % w.tex
     none None v = true≢false (sym v)
     none (Some x) v = by (Rattle.protocol.specs.Words.is_value x.result) v
       where
-        by : (b : Bool) → list_any p (if b then Rattle.protocol.specs.Records.ActCommit x.tid x.m s.book.next_c (Rattle.protocol.specs.Effects.ascending (map (λ p. p.actor) x.places)) ∷ [] else []) ≡ true → ⊥
-        by true v = elim (or_cases (p (Rattle.protocol.specs.Records.ActCommit x.tid x.m s.book.next_c (Rattle.protocol.specs.Effects.ascending (map (λ p. p.actor) x.places)))) false v) [ inl u ↦ true≢false (sym u ∙ h x.tid x.m s.book.next_c (Rattle.protocol.specs.Effects.ascending (map (λ p. p.actor) x.places))) | inr u ↦ true≢false (sym u) ]
+        by : (b : Bool) → list_any p (if b then Rattle.protocol.specs.Records.ActDone x.tid x.m s.book.next_c (value_of x.result) (Rattle.protocol.specs.Effects.ascending (map (λ p. p.actor) x.places)) ∷ [] else []) ≡ true → ⊥
+        by true v = elim (or_cases (p (Rattle.protocol.specs.Records.ActDone x.tid x.m s.book.next_c (value_of x.result) (Rattle.protocol.specs.Effects.ascending (map (λ p. p.actor) x.places)))) false v) [ inl u ↦ true≢false (sym u ∙ h x.tid x.m s.book.next_c (value_of x.result) (Rattle.protocol.specs.Effects.ascending (map (λ p. p.actor) x.places))) | inr u ↦ true≢false (sym u) ]
         by false v = true≢false (sym v)
 new_record w e s p l f g h q = inl q
 
@@ -178,7 +178,7 @@ marked_prepared w t a s ok =
 
 pub marked_step : {C : Type 0} (w : Fixed C) (e : Event) (s : Machine C) → IsAllowed w e s → MarkedPrepared w s → MarkedPrepared w (after w e s)
 unfolding MarkedPrepared
-marked_step w e s ok m = λ t a q. elim (new_record w e s (is_prepare t a) (a % w.text.logs) (λ k xs ts. refl) (λ k. refl) (λ u n c xs. refl) q) [
+marked_step w e s ok m = λ t a q. elim (new_record w e s (is_prepare t a) (a % w.text.logs) (λ k xs ts. refl) (λ k vs. refl) (λ u n c v xs. refl) q) [
   | inl v ↦ marked_stays w e s t a (m t a v)
   | inr v ↦ elim v [
     | inl k ↦ absurd (true≢false (sym k.3))

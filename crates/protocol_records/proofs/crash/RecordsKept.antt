@@ -1,13 +1,13 @@
 -- Who has a commit record in a log has committed with a value.
-use Rattle.std.specs.Prelude.{◌≡◌, refl, ℕ, zero, suc, ◌%◌, ◌⊎◌, Bool, true, false, if◌then◌else◌, Option, Some, None, List, [], ◌∷◌, ◌++◌, map, replicate, slice_index_or, slice_set}
+use Rattle.std.specs.Prelude.{◌≡◌, refl, ℕ, ℤ, zero, suc, ◌%◌, ◌⊎◌, Bool, true, false, if◌then◌else◌, Option, Some, None, List, [], ◌∷◌, ◌++◌, map, replicate, slice_index_or, slice_set}
 use Rattle.std.specs.List.{list_any}
 use Rattle.std.proofs.Common.{sym, subst, inl, inr, ◌∙◌}
 use Rattle.std.proofs.lemmas.Bool.{or_cases, or_left, or_right, true≢false}
 use Rattle.protocol.specs.Fixed.{Fixed}
-use Rattle.protocol.specs.Records.{LogRecord, BatchInfo, BatchComplete, BatchCommit, ActPrepare, ActCommit, is_commit, is_act_commit}
+use Rattle.protocol.specs.Records.{LogRecord, BatchInfo, BatchComplete, BatchDone, ActPrepare, ActDone, is_commit, is_act_commit}
 use Rattle.protocol.specs.Parts.{Act, Who, OfBatch, OfAct, Log, Machine}
 use Rattle.protocol.specs.Events.{Event, Form, Complete, Sync, Commit, Prepare, Decide}
-use Rattle.protocol.specs.Words.{is_who, is_value, act_of}
+use Rattle.protocol.specs.Words.{is_who, is_value, act_of, batch_of, value_of, values_of}
 use Rattle.protocol.specs.Effects.{after, log_at, no_log, added, act_commit, cell_at}
 use Rattle.protocol.specs.Runs.{opening}
 use Rattle.protocol.specs.History.{History, no_history, grown, kept_act}
@@ -62,15 +62,15 @@ prepare_none : (t a : ℕ) (st : Rattle.snap_base.specs.declared.transactions.St
 prepare_none t a st (OfBatch j) = refl
 prepare_none t a st (OfAct u) = refl
 
-commit_one : (k : ℕ) (y : Who) → list_any (is_record_of y) (BatchCommit k ∷ []) ≡ true → is_kept y (OfBatch k ∷ []) ≡ true
-commit_one k (OfBatch j) h = h
-commit_one k (OfAct t) h = absurd (true≢false (sym h))
+commit_one : (k : ℕ) (vs : List ℤ) (y : Who) → list_any (is_record_of y) (BatchDone k vs ∷ []) ≡ true → is_kept y (OfBatch k ∷ []) ≡ true
+commit_one k vs (OfBatch j) h = h
+commit_one k vs (OfAct t) h = absurd (true≢false (sym h))
 
 decide_one : (c : ℕ) (o : Option Act) (y : Who) → list_any (is_record_of y) (act_commit c o) ≡ true → is_kept y (kept_act o) ≡ true
 decide_one c None y h = absurd (true≢false (sym h))
 decide_one c (Some x) y h = by (is_value x.result) y h
   where
-    by : (b : Bool) (y : Who) → list_any (is_record_of y) (if b then ActCommit x.tid x.m c (Rattle.protocol.specs.Effects.ascending (map (λ p. p.actor) x.places)) ∷ [] else []) ≡ true → is_kept y (if b then OfAct x.tid ∷ [] else []) ≡ true
+    by : (b : Bool) (y : Who) → list_any (is_record_of y) (if b then ActDone x.tid x.m c (value_of x.result) (Rattle.protocol.specs.Effects.ascending (map (λ p. p.actor) x.places)) ∷ [] else []) ≡ true → is_kept y (if b then OfAct x.tid ∷ [] else []) ≡ true
     by true (OfBatch k) h = absurd (true≢false (sym h))
     by true (OfAct t) h = h
     by false y h = absurd (true≢false (sym h))
@@ -81,7 +81,7 @@ kept w (Form k) s h g = λ y l q. elim (added_to (is_record_of y) _ s.logs _ l _
 kept w (Complete k a) s h g = λ y l q. elim (added_to (is_record_of y) _ s.logs _ l _ refl q) [ inl r ↦ g y l r | inr r ↦ absurd (no_one y _ (complete_none k a _) r) ]
 kept w (Prepare t a) s h g = λ y l q. elim (added_to (is_record_of y) _ s.logs _ l _ refl q) [ inl r ↦ g y l r | inr r ↦ absurd (no_one y _ (prepare_none t a _) r) ]
 kept w (Sync i) s h g = λ y l q. g y l (synced_to (is_record_of y) s.logs i l _ q)
-kept w (Commit k) s h g = λ y l q. elim (added_to (is_record_of y) (BatchCommit k ∷ []) s.logs _ l _ refl q) [ inl r ↦ kept_grows h.kept (OfBatch k ∷ []) y (g y l r) | inr r ↦ kept_end h.kept (OfBatch k ∷ []) y (commit_one k y r) ]
+kept w (Commit k) s h g = λ y l q. elim (added_to (is_record_of y) (BatchDone k (values_of (batch_of k s.desk.batches)) ∷ []) s.logs _ l _ refl q) [ inl r ↦ kept_grows h.kept (OfBatch k ∷ []) y (g y l r) | inr r ↦ kept_end h.kept (OfBatch k ∷ []) y (commit_one k _ y r) ]
 kept w (Decide t) s h g = λ y l q. elim (added_to (is_record_of y) (act_commit s.book.next_c (act_of t s.book.acts)) s.logs _ l _ refl q) [ inl r ↦ kept_grows h.kept (kept_act (act_of t s.book.acts)) y (g y l r) | inr r ↦ kept_end h.kept (kept_act (act_of t s.book.acts)) y (decide_one s.book.next_c (act_of t s.book.acts) y r) ]
 kept w e s h g = g
 

@@ -135,13 +135,13 @@ named_batch k a (BatchComplete j b st ∷ rs) h = by (b == a) refl (or_cases ((j
     by true e (inr q) r = or_right (k == j) _ (r q)
     by false e (inl q) r = absurd (true≢false (sym (and_parts (j == k) (b == a) q).1 ∙ e))
     by false e (inr q) r = r q
-named_batch k a (Rattle.protocol.specs.Records.BatchCommit j ∷ rs) h = named_batch k a rs h
+named_batch k a (Rattle.protocol.specs.Records.BatchDone j vs ∷ rs) h = named_batch k a rs h
 named_batch k a (ActPrepare t b st ∷ rs) h = by (b == a) (named_batch k a rs h)
   where
     by : (v : Bool) → names (OfBatch k) (told a rs) ≡ true → names (OfBatch k) (if v then record { who = OfAct t; state = st } ∷ told a rs else told a rs) ≡ true
     by true r = r
     by false r = r
-named_batch k a (Rattle.protocol.specs.Records.ActCommit t m c actors ∷ rs) h = named_batch k a rs h
+named_batch k a (Rattle.protocol.specs.Records.ActDone t m c v actors ∷ rs) h = named_batch k a rs h
 
 pub named_act : (t a : ℕ) (rs : List LogRecord) → list_any (is_prepare t a) rs ≡ true → names (OfAct t) (told a rs) ≡ true
 named_act t a [] h = h
@@ -151,7 +151,7 @@ named_act t a (BatchComplete k b st ∷ rs) h = by (b == a) (named_act t a rs h)
     by : (v : Bool) → names (OfAct t) (told a rs) ≡ true → names (OfAct t) (if v then record { who = OfBatch k; state = st } ∷ told a rs else told a rs) ≡ true
     by true r = r
     by false r = r
-named_act t a (Rattle.protocol.specs.Records.BatchCommit j ∷ rs) h = named_act t a rs h
+named_act t a (Rattle.protocol.specs.Records.BatchDone j vs ∷ rs) h = named_act t a rs h
 named_act t a (ActPrepare j b st ∷ rs) h = by (b == a) refl (or_cases ((j == t) && (b == a)) _ h) (named_act t a rs)
   where
     by : (v : Bool) → (b == a) ≡ v → (((j == t) && (b == a)) ≡ true) ⊎ (list_any (is_prepare t a) rs ≡ true) → (list_any (is_prepare t a) rs ≡ true → names (OfAct t) (told a rs) ≡ true) → names (OfAct t) (if v then record { who = OfAct j; state = st } ∷ told a rs else told a rs) ≡ true
@@ -159,7 +159,7 @@ named_act t a (ActPrepare j b st ∷ rs) h = by (b == a) refl (or_cases ((j == t
     by true e (inr q) r = or_right (t == j) _ (r q)
     by false e (inl q) r = absurd (true≢false (sym (and_parts (j == t) (b == a) q).1 ∙ e))
     by false e (inr q) r = r q
-named_act t a (Rattle.protocol.specs.Records.ActCommit j m c actors ∷ rs) h = named_act t a rs h
+named_act t a (Rattle.protocol.specs.Records.ActDone j m c v actors ∷ rs) h = named_act t a rs h
 
 -- ---- a batch or an ACT commits
 

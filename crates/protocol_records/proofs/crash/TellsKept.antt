@@ -8,10 +8,10 @@ use Rattle.snap_base.specs.declared.transactions.Tx.{Tx}
 use Rattle.snap_base.specs.declared.transactions.State.{State}
 use Rattle.protocol.specs.Facts.{Alone}
 use Rattle.protocol.specs.Fixed.{Fixed, no_state}
-use Rattle.protocol.specs.Records.{LogRecord, BatchInfo, BatchComplete, BatchCommit, ActPrepare, ActCommit, is_complete, is_prepare}
+use Rattle.protocol.specs.Records.{LogRecord, BatchInfo, BatchComplete, BatchDone, ActPrepare, ActDone, is_complete, is_prepare}
 use Rattle.protocol.specs.Parts.{Act, Who, OfBatch, OfAct, Entry, BatchEntry, ActEntry, Waiting, Log, Machine}
 use Rattle.protocol.specs.Events.{Event, Form, Arrive, Ask, Run, Complete, Sync, Commit, Rollback, Prepare, Decide, Finish, Trim}
-use Rattle.protocol.specs.Words.{holds, is_who, is_act_who, is_value, is_doomed, is_aborted, who_of, who_on, is_entry_of, is_batch_entry, is_complete_batch, ahead, waiting_of, joined_of, act_of, is_ordered}
+use Rattle.protocol.specs.Words.{holds, is_who, is_act_who, is_value, is_doomed, is_aborted, who_of, who_on, is_entry_of, is_batch_entry, is_complete_batch, ahead, waiting_of, joined_of, act_of, is_ordered, value_of}
 use Rattle.protocol.specs.Contents.{complete_mark}
 use Rattle.protocol.specs.Conditions.{IsAllowed, conditions}
 use Rattle.protocol.specs.Effects.{after, cell_at, no_cell, no_log, added, act_commit}
@@ -56,13 +56,13 @@ told_join a (BatchComplete k b st ∷ xs) ys = by (b == a) (told_join a xs ys)
     by : (v : Bool) → told a (xs ++ ys) ≡ told a xs ++ told a ys → (if v then record { who = OfBatch k; state = st } ∷ told a (xs ++ ys) else told a (xs ++ ys)) ≡ (if v then record { who = OfBatch k; state = st } ∷ told a xs else told a xs) ++ told a ys
     by true e = ap (λ l. record { who = OfBatch k; state = st } ∷ l) e
     by false e = e
-told_join a (BatchCommit k ∷ xs) ys = told_join a xs ys
+told_join a (BatchDone k vs ∷ xs) ys = told_join a xs ys
 told_join a (ActPrepare t b st ∷ xs) ys = by (b == a) (told_join a xs ys)
   where
     by : (v : Bool) → told a (xs ++ ys) ≡ told a xs ++ told a ys → (if v then record { who = OfAct t; state = st } ∷ told a (xs ++ ys) else told a (xs ++ ys)) ≡ (if v then record { who = OfAct t; state = st } ∷ told a xs else told a xs) ++ told a ys
     by true e = ap (λ l. record { who = OfAct t; state = st } ∷ l) e
     by false e = e
-told_join a (ActCommit t m c actors ∷ xs) ys = told_join a xs ys
+told_join a (ActDone t m c v actors ∷ xs) ys = told_join a xs ys
 
 pub told_added : (a : ℕ) (rs : List LogRecord) (logs : List Log) (l m : ℕ)
     → (told a (slice_index_or (slice_set logs l (added rs (slice_index_or logs l no_log))) m no_log).records ≡ told a (slice_index_or logs m no_log).records)
@@ -81,7 +81,7 @@ pub told_commit : (a c : ℕ) (o : Option Act) → told a (act_commit c o) ≡ [
 told_commit a c None = refl
 told_commit a c (Some x) = by (is_value x.result)
   where
-    by : (b : Bool) → told a (if b then ActCommit x.tid x.m c (Rattle.protocol.specs.Effects.ascending (map (λ p. p.actor) x.places)) ∷ [] else []) ≡ []
+    by : (b : Bool) → told a (if b then ActDone x.tid x.m c (value_of x.result) (Rattle.protocol.specs.Effects.ascending (map (λ p. p.actor) x.places)) ∷ [] else []) ≡ []
     by true = refl
     by false = refl
 
@@ -94,13 +94,13 @@ told_all P a (BatchComplete k b st ∷ rs) f g = by (b == a) refl (told_all P a 
     by : (v : Bool) → (b == a) ≡ v → AllByRecursion (λ o. P o.who) (told a rs) → AllByRecursion (λ o. P o.who) (if v then record { who = OfBatch k; state = st } ∷ told a rs else told a rs)
     by true e h = (f k (or_left ((k == k) && (b == a)) _ (rw (eq-eqb k k refl, e) refl)), h)
     by false e h = h
-told_all P a (BatchCommit k ∷ rs) f g = told_all P a rs f g
+told_all P a (BatchDone k vs ∷ rs) f g = told_all P a rs f g
 told_all P a (ActPrepare t b st ∷ rs) f g = by (b == a) refl (told_all P a rs f (λ j q. g j (or_right ((t == j) && (b == a)) _ q)))
   where
     by : (v : Bool) → (b == a) ≡ v → AllByRecursion (λ o. P o.who) (told a rs) → AllByRecursion (λ o. P o.who) (if v then record { who = OfAct t; state = st } ∷ told a rs else told a rs)
     by true e h = (g t (or_left ((t == t) && (b == a)) _ (rw (eq-eqb t t refl, e) refl)), h)
     by false e h = h
-told_all P a (ActCommit t m c actors ∷ rs) f g = told_all P a rs f g
+told_all P a (ActDone t m c v actors ∷ rs) f g = told_all P a rs f g
 
 -- ---- marks, from the entries
 

@@ -7,10 +7,10 @@ use Rattle.snap_base.specs.declared.transactions.Tx.{Tx}
 use Rattle.snap_base.specs.declared.transactions.State.{State}
 use Rattle.protocol.specs.Facts.{Alone}
 use Rattle.protocol.specs.Fixed.{Fixed}
-use Rattle.protocol.specs.Records.{LogRecord, BatchInfo, BatchComplete, BatchCommit, ActPrepare, ActCommit, is_info, is_complete, is_commit, is_prepare, is_act_commit}
+use Rattle.protocol.specs.Records.{LogRecord, BatchInfo, BatchComplete, BatchDone, ActPrepare, ActDone, is_info, is_complete, is_commit, is_prepare, is_act_commit}
 use Rattle.protocol.specs.Parts.{Act, Batch, Log, Machine}
 use Rattle.protocol.specs.Events.{Event, Form, Complete, Sync, Commit, Prepare, Decide}
-use Rattle.protocol.specs.Words.{count, holds, is_open, is_formed, is_value, is_next_to_commit, is_live_status, act_of, batch_of}
+use Rattle.protocol.specs.Words.{count, holds, is_open, is_formed, is_value, is_next_to_commit, is_live_status, act_of, batch_of, value_of, values_of}
 use Rattle.protocol.specs.Conditions.{IsAllowed, conditions}
 use Rattle.protocol.specs.Effects.{after, log_at, no_log, cell_at, added, act_commit, ascending}
 use Rattle.protocol.specs.OnRing as ring
@@ -52,39 +52,39 @@ add_none k logs i h = omega (arith, count_added (has_key k) [] logs i, h)
 known_info : (bs : List Batch) (xs : List Act) (j : ℕ) (r : LogRecord) → TellsOf bs xs r → is_info j r ≡ true → is_some (option_map batch_actors (batch_of j bs)) ≡ true
 known_info bs xs j (BatchInfo k actors tids) t e = ap is_some (subst (λ z. option_map batch_actors (batch_of z bs) ≡ Some actors) (eqb-true k j e) t.0)
 known_info bs xs j (BatchComplete k a st) t e = absurd (true≢false (sym e))
-known_info bs xs j (BatchCommit k) t e = absurd (true≢false (sym e))
+known_info bs xs j (BatchDone k vs) t e = absurd (true≢false (sym e))
 known_info bs xs j (ActPrepare u a st) t e = absurd (true≢false (sym e))
-known_info bs xs j (ActCommit u m c actors) t e = absurd (true≢false (sym e))
+known_info bs xs j (ActDone u m c v actors) t e = absurd (true≢false (sym e))
 
 known_commit : (bs : List Batch) (xs : List Act) (j : ℕ) (r : LogRecord) → TellsOf bs xs r → is_commit j r ≡ true → holds (λ b. not (is_formed b.stage)) (batch_of j bs) ≡ true
 known_commit bs xs j (BatchInfo k actors tids) t e = absurd (true≢false (sym e))
 known_commit bs xs j (BatchComplete k a st) t e = absurd (true≢false (sym e))
-known_commit bs xs j (BatchCommit k) t e = subst (λ z. holds (λ b. not (is_formed b.stage)) (batch_of z bs) ≡ true) (eqb-true k j e) t
+known_commit bs xs j (BatchDone k vs) t e = subst (λ z. holds (λ b. not (is_formed b.stage)) (batch_of z bs) ≡ true) (eqb-true k j e) t.0
 known_commit bs xs j (ActPrepare u a st) t e = absurd (true≢false (sym e))
-known_commit bs xs j (ActCommit u m c actors) t e = absurd (true≢false (sym e))
+known_commit bs xs j (ActDone u m c v actors) t e = absurd (true≢false (sym e))
 
 live_has_none : (bs : List Batch) (xs : List Act) (j : ℕ) (x : Act) (r : LogRecord) → act_of j xs ≡ Some x → is_live_status x.status ≡ true → TellsOf bs xs r → is_act_commit j r ≡ true → ⊥
 live_has_none bs xs j x (BatchInfo k actors tids) f l t e = true≢false (sym e)
 live_has_none bs xs j x (BatchComplete k a st) f l t e = true≢false (sym e)
-live_has_none bs xs j x (BatchCommit k) f l t e = true≢false (sym e)
+live_has_none bs xs j x (BatchDone k vs) f l t e = true≢false (sym e)
 live_has_none bs xs j x (ActPrepare u a st) f l t e = true≢false (sym e)
-live_has_none bs xs j x (ActCommit u m c actors) f l t e =
+live_has_none bs xs j x (ActDone u m c v actors) f l t e =
     let i : t.act ≡ x = cc (sym t.found ∙ (ap (λ z. act_of z xs) (eqb-true u j e) ∙ f)) in
     at_live c x.status l (subst (λ z. is_at c z.status ≡ true) i t.c_is)
 
 home_complete : (many j b l : ℕ) (r : LogRecord) → home many (key_of r) ≡ l → is_complete j b r ≡ true → l ≡ b % many
 home_complete many j b l (BatchInfo k actors tids) h e = absurd (true≢false (sym e))
 home_complete many j b l (BatchComplete k a st) h e = sym h ∙ ap (λ z. z % many) (eqb-true a b (and_parts (k == j) (a == b) e).1)
-home_complete many j b l (BatchCommit k) h e = absurd (true≢false (sym e))
+home_complete many j b l (BatchDone k vs) h e = absurd (true≢false (sym e))
 home_complete many j b l (ActPrepare u a st) h e = absurd (true≢false (sym e))
-home_complete many j b l (ActCommit u m c actors) h e = absurd (true≢false (sym e))
+home_complete many j b l (ActDone u m c v actors) h e = absurd (true≢false (sym e))
 
 home_prepare : (many j b l : ℕ) (r : LogRecord) → home many (key_of r) ≡ l → is_prepare j b r ≡ true → l ≡ b % many
 home_prepare many j b l (BatchInfo k actors tids) h e = absurd (true≢false (sym e))
 home_prepare many j b l (BatchComplete k a st) h e = absurd (true≢false (sym e))
-home_prepare many j b l (BatchCommit k) h e = absurd (true≢false (sym e))
+home_prepare many j b l (BatchDone k vs) h e = absurd (true≢false (sym e))
 home_prepare many j b l (ActPrepare u a st) h e = sym h ∙ ap (λ z. z % many) (eqb-true a b (and_parts (u == j) (a == b) e).1)
-home_prepare many j b l (ActCommit u m c actors) h e = absurd (true≢false (sym e))
+home_prepare many j b l (ActDone u m c v actors) h e = absurd (true≢false (sym e))
 
 open_formed : (b : Batch) (r : Bool) → (is_open b && r) ≡ true → is_formed b.stage ≡ true
 open_formed b r e = (and_parts (is_formed b.stage) (not b.aborted) (and_parts (is_open b) r e).0).0
@@ -118,14 +118,14 @@ once_kept w Of finish (Complete k a) s h ok g b home tells q = λ key. add_one k
     fresh (OfCommit j) e l i = true≢false (sym e)
     fresh (OfPrepare u c) e l i = true≢false (sym e)
     fresh (OfActCommit u) e l i = true≢false (sym e)
-once_kept w Of finish (Commit k) s h ok g b home tells q = λ key. add_one key (BatchCommit k) s.logs (k % w.text.logs) (fresh key) (q key)
+once_kept w Of finish (Commit k) s h ok g b home tells q = λ key. add_one key (BatchDone k (values_of (batch_of k s.desk.batches))) s.logs (k % w.text.logs) (fresh key) (q key)
   where
     none : holds (λ b. not (is_formed b.stage)) (batch_of k s.desk.batches) ≡ true → ⊥
     none i =
         let x = one_is (λ b. is_open b && is_next_to_commit k s.desk.batches) (batch_of k s.desk.batches) ok.0 in
         true≢false (sym (open_formed x.0 (is_next_to_commit k s.desk.batches) x.2) ∙ not-true (is_formed x.0.stage) (some_of (λ b. not (is_formed b.stage)) (batch_of k s.desk.batches) x.0 x.1 i))
 
-    fresh : (key : RecordKey) → has_key key (BatchCommit k) ≡ true → NoneHas s.logs key
+    fresh : (key : RecordKey) → has_key key (BatchDone k (values_of (batch_of k s.desk.batches))) ≡ true → NoneHas s.logs key
     fresh (OfInfo j) e l i = true≢false (sym e)
     fresh (OfComplete j c) e l i = true≢false (sym e)
     fresh (OfCommit j) e l i = of_any (TellsOf s.desk.batches s.book.acts) (is_commit j) ⊥ (log_at s l).records (tells l) (λ r t v. none (subst (λ z. holds (λ b. not (is_formed b.stage)) (batch_of z s.desk.batches) ≡ true) (sym (eqb-true k j e)) (known_commit s.desk.batches s.book.acts j r t v))) i
@@ -153,7 +153,7 @@ once_kept {C} w Of finish (Decide t) s h ok g b home tells q = λ key. subst (λ
     live : is_live_status x.0.status ≡ true
     live = (and_parts (is_some x.0.result) (is_live_status x.0.status) x.2).1
 
-    fresh : (actors : List ℕ) (key : RecordKey) → has_key key (ActCommit x.0.tid x.0.m s.book.next_c actors) ≡ true → NoneHas s.logs key
+    fresh : (actors : List ℕ) (key : RecordKey) → has_key key (ActDone x.0.tid x.0.m s.book.next_c (value_of x.0.result) actors) ≡ true → NoneHas s.logs key
     fresh actors (OfInfo j) e l i = true≢false (sym e)
     fresh actors (OfComplete j c) e l i = true≢false (sym e)
     fresh actors (OfCommit j) e l i = true≢false (sym e)
@@ -162,8 +162,8 @@ once_kept {C} w Of finish (Decide t) s h ok g b home tells q = λ key. subst (λ
         let f : act_of u s.book.acts ≡ Some x.0 = ap (λ z. act_of z s.book.acts) (sym (eqb-true x.0.tid u e) ∙ Rattle.protocol_laws.proofs.machine.ActsFound.found_tid t x.0 s.book.acts x.1) ∙ x.1 in
         of_any (TellsOf s.desk.batches s.book.acts) (is_act_commit u) ⊥ (log_at s l).records (tells l) (λ r y v. live_has_none s.desk.batches s.book.acts u x.0 r f live y v) i
 
-    by : (key : RecordKey) (v : Bool) → count (has_key key) (all_records (slice_set s.logs (t % w.text.logs) (added (if v then ActCommit x.0.tid x.0.m s.book.next_c (ascending (map (λ p. p.actor) x.0.places)) ∷ [] else []) (log_at s (t % w.text.logs))))) ≤ 1
-    by key true = add_one key (ActCommit x.0.tid x.0.m s.book.next_c (ascending (map (λ p. p.actor) x.0.places))) s.logs (t % w.text.logs) (fresh (ascending (map (λ p. p.actor) x.0.places)) key) (q key)
+    by : (key : RecordKey) (v : Bool) → count (has_key key) (all_records (slice_set s.logs (t % w.text.logs) (added (if v then ActDone x.0.tid x.0.m s.book.next_c (value_of x.0.result) (ascending (map (λ p. p.actor) x.0.places)) ∷ [] else []) (log_at s (t % w.text.logs))))) ≤ 1
+    by key true = add_one key (ActDone x.0.tid x.0.m s.book.next_c (value_of x.0.result) (ascending (map (λ p. p.actor) x.0.places))) s.logs (t % w.text.logs) (fresh (ascending (map (λ p. p.actor) x.0.places)) key) (q key)
     by key false = add_none key s.logs (t % w.text.logs) (q key)
 once_kept w Of finish (Sync i) s h ok g b home tells q = λ key. subst (λ z. count (has_key key) z ≤ 1) (sym (all_synced s.logs i)) (q key)
 once_kept w Of finish e s h ok g b home tells q = q

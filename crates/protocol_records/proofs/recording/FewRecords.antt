@@ -2,13 +2,14 @@
 use Rattle.std.specs.Prelude.{◌≡◌, refl, ℕ, zero, suc, ◌+◌, ◌*◌, ◌≤◌, ◌<◌, ◌==◌, nat_lt, not, Bool, true, false, ◌&&◌, ◌||◌, Option, Some, None, is_some, option_map, List, [], ◌∷◌, ◌++◌, length, map, filter, take, replicate}
 use Rattle.std.specs.List.{AllByRecursion, list_any}
 use Rattle.std.proofs.Common.{arith, sym, ap, subst, inl, inr}
+use Rattle.std.proofs.lemmas.List.{length-take}
 use Rattle.std.proofs.lemmas.Bool.{true≢false, or_cases, or_left, or_right, and_parts, and_from, eqb-true, eq-eqb, ltb-true, cases_Bool}
 use Rattle.snap_base.specs.declared.transactions.Tx.{Tx}
 use Rattle.snap_base.specs.declared.transactions.State.{State}
 use Rattle.protocol.specs.Facts.{Alone}
 use Rattle.protocol.specs.Fixed.{Fixed, IsText}
 use Rattle.protocol.specs.Laws.{AfterEveryRunWithHistory}
-use Rattle.protocol.specs.Records.{LogRecord, BatchInfo, BatchComplete, BatchCommit, ActPrepare, ActCommit}
+use Rattle.protocol.specs.Records.{LogRecord, BatchInfo, BatchComplete, BatchDone, ActPrepare, ActDone}
 use Rattle.protocol.specs.Rests.{IsRest, IsTxIn}
 use Rattle.protocol.specs.Parts.{Act, Batch, Pact, Machine}
 use Rattle.protocol.specs.Events.{Event, Submit, Form}
@@ -113,16 +114,16 @@ named bs xs (BatchComplete k a st) t =
     let b = one_is (λ b. is_among a (batch_actors b)) (batch_of k bs) t in
     let p : RecordKey → Bool = λ y. has_key y (BatchComplete k a st) in
     any_front p (keys_of_batches bs) (keys_of_acts xs) (in_batches p k b.0 bs b.1 (among_completes k a b.0.bid st (batch_actors b.0) (eq-eqb k b.0.bid (sym (eqb-true b.0.bid k (marks.found_bid k b.0 bs b.1)))) b.2))
-named bs xs (BatchCommit k) t =
-    let b = one_is (λ b. not (is_formed b.stage)) (batch_of k bs) t in
-    let p : RecordKey → Bool = λ y. has_key y (BatchCommit k) in
+named bs xs (BatchDone k vs) t =
+    let b = one_is (λ b. not (is_formed b.stage)) (batch_of k bs) t.0 in
+    let p : RecordKey → Bool = λ y. has_key y (BatchDone k vs) in
     any_front p (keys_of_batches bs) (keys_of_acts xs) (in_batches p k b.0 bs b.1 (or_left (k == b.0.bid) _ (eq-eqb k b.0.bid (sym (eqb-true b.0.bid k (marks.found_bid k b.0 bs b.1))))))
 named bs xs (ActPrepare t a st) h =
     let x = one_is (λ x. is_value x.result && is_among a (act_actors x)) (act_of t xs) h in
     let p : RecordKey → Bool = λ y. has_key y (ActPrepare t a st) in
     any_back p (keys_of_batches bs) (keys_of_acts xs) (in_acts p t x.0 xs x.1 (among_prepares t a x.0.tid st (act_actors x.0) (eq-eqb t x.0.tid (sym (found.found_tid t x.0 xs x.1))) (and_parts (is_value x.0.result) (is_among a (act_actors x.0)) x.2).1))
-named bs xs (ActCommit t m c actors) h =
-    let p : RecordKey → Bool = λ y. has_key y (ActCommit t m c actors) in
+named bs xs (ActDone t m c v actors) h =
+    let p : RecordKey → Bool = λ y. has_key y (ActDone t m c v actors) in
     any_back p (keys_of_batches bs) (keys_of_acts xs) (in_acts p t h.act xs h.found (or_left (t == h.act.tid) _ (eq-eqb t h.act.tid (sym (found.found_tid t h.act xs h.found)))))
 
 of_each : {C : Type 0} (w : Fixed C) (finish : C → List State → Alone) (s : Machine C) (h : History) → OnceKeys s → RecordsTell w finish s h → length (all_records s.logs) ≤ most_of_batches s.desk.batches + most_of_acts s.book.acts
@@ -173,6 +174,33 @@ unfolding FewBatches conditions after
 few_batches_kept w (Form k) s t ok h = all_join HasFew s.desk.batches _ h (new_few w k s t ok.1.0, tt)
 few_batches_kept w e s t ok h = all_alike (λ b. map (λ p. p.actor) b.places) (λ b. map (λ p. p.tid) b.pacts) HasFew s.desk.batches (after w e s).desk.batches same_few (frame w e s BatchActors refl) (frame w e s BatchTids refl) h
 
+-- and no more PACTs than a batch may have
+abbrev pub IsFilled : ℕ → Batch → Type 0
+IsFilled most b = (1 ≤ length b.pacts) × (length b.pacts ≤ most)
+
+unfoldable pub FilledBatches : {C : Type 0} → Fixed C → Machine C → Type 0
+FilledBatches w s = AllByRecursion (IsFilled w.text.batch) s.desk.batches
+
+same_filled : (most : ℕ) (x y : Batch) → map (λ p. p.tid) y.pacts ≡ map (λ p. p.tid) x.pacts → IsFilled most x → IsFilled most y
+same_filled most x y i h =
+    let c = Times.length_map (λ p. p.tid) x.pacts in
+    let d = Times.length_map (λ p. p.tid) y.pacts in
+    let g : length (map (λ p. p.tid) y.pacts) ≡ length (map (λ p. p.tid) x.pacts) = ap length i in
+    (omega (arith, h.0, c, d, g), omega (arith, h.1, c, d, g))
+
+new_filled : {C : Type 0} (w : Fixed C) (k : ℕ) (s : Machine C) → IsText w.text → not (is_empty (queue s.ring.pacts s.ring.holder)) ≡ true → IsFilled w.text.batch (desk.new_batch k (ring.next_actors w.text s.ring) (ring.next_pacts w.text s.ring))
+new_filled w k s t e =
+    let queued = queue s.ring.pacts s.ring.holder in
+    let many = numbered_length s.ring.next_tid (take w.text.batch queued) in
+    (omega (arith, many, some_taken w.text.batch queued t.some_batch e), omega (arith, many, length-take w.text.batch queued))
+
+filled_kept : {C : Type 0} (w : Fixed C) (e : Event) (s : Machine C) → IsText w.text → IsAllowed w e s → FilledBatches w s → FilledBatches w (after w e s)
+unfolding FilledBatches conditions after
+filled_kept w (Form k) s t ok h = all_join (IsFilled w.text.batch) s.desk.batches _ h (new_filled w k s t ok.1.0, tt)
+filled_kept w e s t ok h =
+    all_alike (λ b. map (λ p. p.actor) b.places) (λ b. map (λ p. p.tid) b.pacts) (IsFilled w.text.batch) s.desk.batches (after w e s).desk.batches (λ x y places. same_filled w.text.batch x y)
+    (frame w e s BatchActors refl) (frame w e s BatchTids refl) h
+
 -- ---- no more are submitted than the text has
 
 unfoldable pub Submitted : {C : Type 0} → Fixed C → Machine C → Type 0
@@ -190,15 +218,17 @@ pub record Few {C : Type 0} (w : Fixed C) (s : Machine C) (h : History) : Type 0
   pub visited : AllControls (Visited w s.book.acts) s
   pub acts : FewActs s
   pub batches : FewBatches s
+  pub pacts : FilledBatches w s
   pub submitted : Submitted w s
 
 few_opened : {C : Type 0} (w : Fixed C) → Few w (opening w) no_history
-unfolding Joins FewActs FewBatches Submitted
+unfolding Joins FewActs FewBatches FilledBatches Submitted
 few_opened w = record {
   joins = λ t x e. absurd (cc e);
   visited = Rattle.protocol_records.proofs.recording.FewActors.visited_opened w;
   acts = λ t x e. absurd (cc e);
   batches = tt;
+  pacts = tt;
   submitted = omega arith;
 }
 
@@ -208,6 +238,7 @@ few_hold w Of finish es v run = along_good w Of finish (Few w) v (λ e s h ok g 
   visited = visited_kept w Of finish e s h v ok g f.visited;
   acts = few_acts_kept w Of finish e s h v ok g f.joins f.visited f.acts;
   batches = few_batches_kept w e s v.text ok f.batches;
+  pacts = filled_kept w e s v.text ok f.pacts;
   submitted = submitted_kept w e s ok f.submitted;
 }) (few_opened w) es run
 
@@ -257,12 +288,13 @@ all_sum s = omega (
 )
 
 few_of : {C : Type 0} (w : Fixed C) (finish : C → List State → Alone) (s : Machine C) (h : History) → Records w s h → RecordsTell w finish s h → Few w s h → TidsAscend s → TransactionsInOnePlace w s → RecordsAreFew w finish s h
-unfolding FewActs FewBatches Submitted
+unfolding FewActs FewBatches FilledBatches Submitted
 few_of w finish s h r tells f asc one =
     let few = each_act s (λ t x. length x.places ≤ 16) asc f.acts in
     record {
       of_each = of_each w finish s h r.once tells;
       batches = f.batches;
+      pacts = f.pacts;
       acts = few;
       of_all = omega (arith, of_each w finish s h r.once tells, batches_sum s.desk.batches f.batches, acts_sum s.book.acts few, all_sum s, placed_once w s one);
       submitted = f.submitted;

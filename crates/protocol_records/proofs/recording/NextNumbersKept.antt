@@ -7,7 +7,7 @@ use Rattle.snap_base.specs.declared.transactions.Tx.{Tx}
 use Rattle.snap_base.specs.declared.transactions.State.{State}
 use Rattle.protocol.specs.Facts.{Alone}
 use Rattle.protocol.specs.Fixed.{Fixed, IsText}
-use Rattle.protocol.specs.Records.{LogRecord, BatchInfo, BatchComplete, BatchCommit, ActPrepare, ActCommit}
+use Rattle.protocol.specs.Records.{LogRecord, BatchInfo, BatchComplete, BatchDone, ActPrepare, ActDone}
 use Rattle.protocol.specs.Rests.{IsRest, IsTxIn}
 use Rattle.protocol.specs.Parts.{Act, Batch, Pact, Who, OfBatch, OfAct, Machine}
 use Rattle.protocol.specs.Events.{Event}
@@ -101,26 +101,26 @@ tids_drawn w s (BatchInfo k actors tids) n t =
     let g = all_found (BatchInRange w s) (λ b. b.bid == k) s.desk.batches b.0 n.range.batches b.1 in
     subst (AllByRecursion (λ n. n < s.ring.next_tid)) b.2 (tids_all w.text.opening.next_tid s.ring.next_tid b.0.pacts g.0.tids)
 tids_drawn w s (BatchComplete k a st) n t = tt
-tids_drawn w s (BatchCommit k) n t = tt
+tids_drawn w s (BatchDone k vs) n t = tt
 tids_drawn w s (ActPrepare u a st) n t = let x = one_is (λ x. is_value x.result && is_among a (act_actors x)) (act_of u s.book.acts) t in (act_drawn w s u x.0 n.range x.1, tt)
-tids_drawn w s (ActCommit u m c actors) n t = (act_drawn w s u t.act n.range t.found, tt)
+tids_drawn w s (ActDone u m c v actors) n t = (act_drawn w s u t.act n.range t.found, tt)
 
 bids_drawn : {C : Type 0} (w : Fixed C) (s : Machine C) (h : History) (r : LogRecord) → Numbers w s → Acts s h → TellsOf s.desk.batches s.book.acts r → AllByRecursion (λ n. n < s.ring.next_bid) (bids_in r)
 unfolding Acts
 bids_drawn w s h (BatchInfo k actors tids) n ac t = let b = mapped_is batch_tids (batch_of k s.desk.batches) tids t.1 in (batch_drawn w s k b.0 n.range b.1, tt)
 bids_drawn w s h (BatchComplete k a st) n ac t = let b = one_is (λ b. is_among a (batch_actors b)) (batch_of k s.desk.batches) t in (batch_drawn w s k b.0 n.range b.1, tt)
-bids_drawn w s h (BatchCommit k) n ac t = let b = one_is (λ b. not (is_formed b.stage)) (batch_of k s.desk.batches) t in (batch_drawn w s k b.0 n.range b.1, tt)
+bids_drawn w s h (BatchDone k vs) n ac t = let b = one_is (λ b. not (is_formed b.stage)) (batch_of k s.desk.batches) t.0 in (batch_drawn w s k b.0 n.range b.1, tt)
 bids_drawn w s h (ActPrepare u a st) n ac t = tt
-bids_drawn w s h (ActCommit u m c actors) n ac t =
+bids_drawn w s h (ActDone u m c v actors) n ac t =
     let l = (ac u t.act t.found).settles (at_placed c t.act.status t.c_is) in
     (omega (arith, l, t.m_is, n.settled), tt)
 
 cs_drawn : {C : Type 0} (w : Fixed C) (s : Machine C) (r : LogRecord) → Numbers w s → TellsOf s.desk.batches s.book.acts r → AllByRecursion (λ n. n < s.book.next_c) (cs_in r)
 cs_drawn w s (BatchInfo k actors tids) n t = tt
 cs_drawn w s (BatchComplete k a st) n t = tt
-cs_drawn w s (BatchCommit k) n t = tt
+cs_drawn w s (BatchDone k vs) n t = tt
 cs_drawn w s (ActPrepare u a st) n t = tt
-cs_drawn w s (ActCommit u m c actors) n t = ((n.commits.each u t.act t.found c t.c_is).below, tt)
+cs_drawn w s (ActDone u m c v actors) n t = ((n.commits.each u t.act t.found c t.c_is).below, tt)
 
 all_take : {X : Type 0} (P : X → Type 0) (n : ℕ) (xs : List X) → AllByRecursion P xs → AllByRecursion P (take n xs)
 all_take P zero xs h = tt
@@ -165,7 +165,7 @@ member_act : {C : Type 0} (w : Fixed C) (finish : C → List State → Alone) (s
 member_act w finish s h logs t d some n ac f p i e =
     let old = of_act w s h t d n ac p i in
     let q = f.whole_acts t e in
-    let r = ActCommit t q.m q.c q.actors in
+    let r = ActDone t q.m q.c q.v q.actors in
     let y = all_mid (TellsOf s.desk.batches s.book.acts) r q.front q.rest (subst (AllByRecursion (TellsOf s.desk.batches s.book.acts)) q.commit (f.tells (t % w.text.logs))) in
     let x = p.is_it t y.act y.found refl in
     let tids = is_below tids_in w.text.opening.next_tid w.text.logs (t % w.text.logs) logs q.front q.rest r (mod-lt t some) q.commit in

@@ -25,6 +25,7 @@ use Rattle.protocol_records.proofs.crash.RecordsKept as kept
 use Rattle.protocol_records.proofs.crash.RecordsKept.{RecordsAreKept}
 use Rattle.protocol_records.proofs.crash.NoneBehind.{Both, both_kept, both_opened}
 use Rattle.protocol_records.proofs.recording.TellsTids.{AtHome, InfoTids, CommitNumbers, home_kept, home_opened, tids_kept, numbers_kept}
+use Rattle.protocol_records.proofs.recording.TellsValues.{CommitValues, values_kept}
 use Rattle.protocol_records.proofs.recording.RecordsTold.{told}
 use Rattle.protocol_records.proofs.recording.AddedOnce.{OnceKeys, once_kept}
 
@@ -34,6 +35,7 @@ pub record Records {C : Type 0} (w : Fixed C) (s : Machine C) (h : History) : Ty
   pub kept : RecordsAreKept s h
   pub tids : InfoTids s
   pub numbers : CommitNumbers s
+  pub values : CommitValues s
   pub once : OnceKeys s
 
 pub records_kept : {C : Type 0} (w : Fixed C) (Of : Tx → C → Type 0) (finish : C → List State → Alone) (e : Event) (s : Machine C) (h : History) → Given w Of finish → IsAllowed w e s → AllGood w Of finish s h → Records w s h → Records w (after w e s) (grown w e s h)
@@ -43,7 +45,8 @@ records_kept w Of finish e s h v ok g r = record {
   kept = kept.kept w e s h r.kept;
   tids = tids_kept w e s ok g.good.agreeing r.tids;
   numbers = numbers_kept w e s h ok g.none g.acts r.numbers;
-  once = once_kept w Of finish e s h ok g r.both r.home (told w Of finish s h g r.both r.home r.kept r.tids r.numbers) r.once;
+  values = values_kept w e s h ok g.good.none g.none g.acts r.values;
+  once = once_kept w Of finish e s h ok g r.both r.home (told w Of finish s h g r.both r.home r.kept r.tids r.numbers r.values) r.once;
 }
 
 none_recorded : (p : LogRecord → Rattle.std.specs.Prelude.Bool) (n : ℕ) → count p (all_records (replicate n no_log)) ≤ 1
@@ -51,13 +54,14 @@ none_recorded p zero = omega arith
 none_recorded p (suc n) = none_recorded p n
 
 pub records_opened : {C : Type 0} (w : Fixed C) → Records w (opening w) no_history
-unfolding AtHome InfoTids CommitNumbers OnceKeys
+unfolding AtHome InfoTids CommitNumbers CommitValues OnceKeys
 records_opened w = record {
   both = both_opened w;
   home = home_opened w.text.logs _ w.text.logs;
   kept = kept.opened w;
   tids = home_opened w.text.logs _ w.text.logs;
   numbers = home_opened w.text.logs _ w.text.logs;
+  values = home_opened w.text.logs _ w.text.logs;
   once = λ k. none_recorded (has_key k) w.text.logs;
 }
 
@@ -85,7 +89,7 @@ pub added_once : {C : Type 0} → AfterEveryRunWithHistory (RecordsAddedOnce {C 
 added_once {C} = of_runs (RecordsAddedOnce {C = C}) (λ w finish t. once_of w finish (opening w) no_history (records_opened w)) (λ w finish es v run. once_of w finish (reached w es) (history w es) (records_hold w (IsRest w.code (IsTxIn w.text)) finish es v run))
 
 pub tells_of : {C : Type 0} (w : Fixed C) (Of : Tx → C → Type 0) (finish : C → List State → Alone) (es : List Event) → Given w Of finish → IsRun w es → RecordsTell w finish (reached w es) (history w es)
-tells_of w Of finish es v run = let r = records_hold w Of finish es v run in told w Of finish (reached w es) (history w es) (all_good w Of finish es v run) r.both r.home r.kept r.tids r.numbers
+tells_of w Of finish es v run = let r = records_hold w Of finish es v run in told w Of finish (reached w es) (history w es) (all_good w Of finish es v run) r.both r.home r.kept r.tids r.numbers r.values
 
 pub tells_opened : {C : Type 0} (w : Fixed C) (finish : C → List State → Alone) → RecordsTell w finish (opening w) no_history
 tells_opened w finish = home_opened w.text.logs (λ l. TellsOf [] []) w.text.logs

@@ -4,10 +4,10 @@ use Rattle.std.specs.List.{AllByRecursion}
 use Rattle.std.proofs.Common.{sym, ap, subst, ◌∙◌}
 use Rattle.std.proofs.lemmas.Bool.{true≢false, and_parts, and_from, eq-eqb, eqb-true}
 use Rattle.protocol.specs.Fixed.{Fixed}
-use Rattle.protocol.specs.Records.{LogRecord, BatchInfo, BatchComplete, BatchCommit, ActPrepare, ActCommit}
+use Rattle.protocol.specs.Records.{LogRecord, BatchInfo, BatchComplete, BatchDone, ActPrepare, ActDone}
 use Rattle.protocol.specs.Parts.{Act, Batch, Status, Machine}
 use Rattle.protocol.specs.Events.{Event, Form, Admit, Ask, End, Complete, Sync, Commit, Prepare, Vouch, Decide, Seal, Finish}
-use Rattle.protocol.specs.Words.{holds, is_value, is_live_status, is_ordered, is_ended, act_of, batch_of, outcome_of}
+use Rattle.protocol.specs.Words.{holds, is_value, is_live_status, is_ordered, is_ended, act_of, batch_of, outcome_of, value_of}
 use Rattle.protocol.specs.Conditions.{IsAllowed, conditions}
 use Rattle.protocol.specs.Contents.{Bids, BatchTids}
 use Rattle.protocol.specs.Effects.{after, log_at, no_cell, no_log, act_commit, ascending}
@@ -45,7 +45,7 @@ commit_home : (many t c : ℕ) (o : Option Act) → ((x : Act) → o ≡ Some x 
 commit_home many t c None k = tt
 commit_home many t c (Some x) k = by (is_value x.result)
   where
-    by : (b : Bool) → AllByRecursion (λ r. home many (key_of r) ≡ t % many) (if b then ActCommit x.tid x.m c (ascending (map (λ p. p.actor) x.places)) ∷ [] else [])
+    by : (b : Bool) → AllByRecursion (λ r. home many (key_of r) ≡ t % many) (if b then ActDone x.tid x.m c (value_of x.result) (ascending (map (λ p. p.actor) x.places)) ∷ [] else [])
     by true = (ap (λ z. z % many) (k x refl), tt)
     by false = tt
 
@@ -67,9 +67,9 @@ home_opened many P n l = subst (AllByRecursion (P l)) (sym (no_records n l)) tt
 abbrev pub TidsAre : List Batch → LogRecord → Type 0
 TidsAre bs (BatchInfo k actors tids) = option_map batch_tids (batch_of k bs) ≡ Some tids
 TidsAre bs (BatchComplete k a st) = Unit {0}
-TidsAre bs (BatchCommit k) = Unit {0}
+TidsAre bs (BatchDone k vs) = Unit {0}
 TidsAre bs (ActPrepare t a st) = Unit {0}
-TidsAre bs (ActCommit t m c actors) = Unit {0}
+TidsAre bs (ActDone t m c v actors) = Unit {0}
 
 unfoldable pub InfoTids : {C : Type 0} → Machine C → Type 0
 InfoTids s = (l : ℕ) → AllByRecursion (TidsAre s.desk.batches) (log_at s l).records
@@ -86,15 +86,15 @@ infos_stay w e s rs h = weaker (TidsAre s.desk.batches) (TidsAre (after w e s).d
     one : (r : LogRecord) → TidsAre s.desk.batches r → TidsAre (after w e s).desk.batches r
     one (BatchInfo k actors tids) p = tids_stay w e s k tids p
     one (BatchComplete k a st) p = tt
-    one (BatchCommit k) p = tt
+    one (BatchDone k vs) p = tt
     one (ActPrepare t a st) p = tt
-    one (ActCommit t m c actors) p = tt
+    one (ActDone t m c v actors) p = tt
 
 no_info : (bs : List Batch) (c : ℕ) (o : Option Act) → AllByRecursion (TidsAre bs) (act_commit c o)
 no_info bs c None = tt
 no_info bs c (Some x) = by (is_value x.result)
   where
-    by : (b : Bool) → AllByRecursion (TidsAre bs) (if b then ActCommit x.tid x.m c (ascending (map (λ p. p.actor) x.places)) ∷ [] else [])
+    by : (b : Bool) → AllByRecursion (TidsAre bs) (if b then ActDone x.tid x.m c (value_of x.result) (ascending (map (λ p. p.actor) x.places)) ∷ [] else [])
     by true = (tt, tt)
     by false = tt
 
@@ -119,9 +119,9 @@ is_placed m c x = (x.m == m) && is_at c x.status
 abbrev pub NumbersAre : List Act → LogRecord → Type 0
 NumbersAre xs (BatchInfo k actors tids) = Unit {0}
 NumbersAre xs (BatchComplete k a st) = Unit {0}
-NumbersAre xs (BatchCommit k) = Unit {0}
+NumbersAre xs (BatchDone k vs) = Unit {0}
 NumbersAre xs (ActPrepare t a st) = Unit {0}
-NumbersAre xs (ActCommit t m c actors) = holds (is_placed m c) (act_of t xs) ≡ true
+NumbersAre xs (ActDone t m c v actors) = holds (is_placed m c) (act_of t xs) ≡ true
 
 unfoldable pub CommitNumbers : {C : Type 0} → Machine C → Type 0
 CommitNumbers s = (l : ℕ) → AllByRecursion (NumbersAre s.book.acts) (log_at s l).records
@@ -157,9 +157,9 @@ numbers_stay w e s h rs ok n i g = weaker (NumbersAre s.book.acts) (NumbersAre (
     one : (r : LogRecord) → NumbersAre s.book.acts r → NumbersAre (after w e s).book.acts r
     one (BatchInfo k actors tids) p = tt
     one (BatchComplete k a st) p = tt
-    one (BatchCommit k) p = tt
+    one (BatchDone k vs) p = tt
     one (ActPrepare t a st) p = tt
-    one (ActCommit t m c actors) p = fact_stays w e s t (is_placed m c) (holds_placed t m c) (ready_placed w e s h t m c ok n i (some_held (is_placed m c) (act_of t s.book.acts) p)) p
+    one (ActDone t m c v actors) p = fact_stays w e s t (is_placed m c) (holds_placed t m c) (ready_placed w e s h t m c ok n i (some_held (is_placed m c) (act_of t s.book.acts) p)) p
 
 pub numbers_kept : {C : Type 0} (w : Fixed C) (e : Event) (s : Machine C) (h : History) → IsAllowed w e s → AllControls (NoneActed s) s → Acts s h → CommitNumbers s → CommitNumbers (after w e s)
 unfolding CommitNumbers conditions after
@@ -172,7 +172,7 @@ numbers_kept w (Decide t) s h ok n i g = each_added (λ l. NumbersAre (after w (
     q : (x : Act) × (act_of t s.book.acts ≡ Some x) × ((is_some x.result && is_live_status x.status) ≡ true)
     q = one_is (λ x. is_some x.result && is_live_status x.status) (act_of t s.book.acts) ok.0
 
-    by : (x : Act) → act_of t s.book.acts ≡ Some x → is_live_status x.status ≡ true → (b : Bool) → AllByRecursion (NumbersAre (book.changed_act t (book.decided_as s.book.next_c) s.book.acts)) (if b then ActCommit x.tid x.m s.book.next_c (ascending (map (λ p. p.actor) x.places)) ∷ [] else [])
+    by : (x : Act) → act_of t s.book.acts ≡ Some x → is_live_status x.status ≡ true → (b : Bool) → AllByRecursion (NumbersAre (book.changed_act t (book.decided_as s.book.next_c) s.book.acts)) (if b then ActDone x.tid x.m s.book.next_c (value_of x.result) (ascending (map (λ p. p.actor) x.places)) ∷ [] else [])
     by x e l true = (
       subst (λ o. holds (is_placed x.m s.book.next_c) o ≡ true) (sym (ap (λ z. act_of z (book.changed_act t (book.decided_as s.book.next_c) s.book.acts)) (acts.found_tid t x s.book.acts e) ∙ found_changed t (book.decided_as s.book.next_c) x s.book.acts (λ x. refl) e))
           (and_from (x.m == x.m) (is_at s.book.next_c (book.decided_status s.book.next_c (is_value x.result) x.status)) (eq-eqb x.m x.m refl) (now_at s.book.next_c (is_value x.result) x.status l)),

@@ -6,10 +6,10 @@ use Rattle.std.proofs.lemmas.List.{length-replicate}
 use Rattle.std.proofs.lemmas.Bool.{and_parts, or_cases, or_left, or_right, true≢false, eqb-true, eq-eqb, cases_Bool, not-true}
 use Rattle.snap_base.specs.declared.transactions.TxResult.{TxResult}
 use Rattle.protocol.specs.Fixed.{Fixed, IsText, IsTxOf, Next, Go, Ended, Code, tx_at, no_tx, is_pact, root, declared}
-use Rattle.protocol.specs.Records.{BatchComplete, BatchCommit, is_info, is_complete, is_commit}
+use Rattle.protocol.specs.Records.{BatchComplete, BatchDone, is_info, is_complete, is_commit}
 use Rattle.protocol.specs.Parts.{Batch, Declared, Stage, Formed, Committing, Settled, PlacedBatch, SubBatch, Cascade, Entry, BatchEntry, ActEntry, Outcome, Machine}
 use Rattle.protocol.specs.Events.{Event, Submit, Form, Arrive, Ask, Take, Run, Send, End, Close, Complete, Note, Commit, Settle, Abort, Rollback, Finish, Trim}
-use Rattle.protocol.specs.Words.{holds, is_empty, is_among, below, is_open, is_formed, is_settled, is_committing, is_next_to_commit, is_durable, batch_of, declared_of, sub_of, has_act, outcome_of, is_batch_entry, is_act_entry, who_of}
+use Rattle.protocol.specs.Words.{holds, is_empty, values_of, is_among, below, is_open, is_formed, is_settled, is_committing, is_next_to_commit, is_durable, batch_of, declared_of, sub_of, has_act, outcome_of, is_batch_entry, is_act_entry, who_of}
 use Rattle.protocol.specs.Conditions.{IsAllowed, conditions, queue}
 use Rattle.protocol.specs.Effects.{after, cell_at, no_cell, no_log, log_at}
 use Rattle.protocol.specs.Numbers.{times, one_if}
@@ -248,7 +248,7 @@ kept w (Commit k) s v l g m ok h = each_changed (Fit w (after w (Commit k) s)) k
     let f = (and_parts (is_formed b.stage) (not b.aborted) (and_parts (is_open b) (is_next_to_commit k s.desk.batches) q).0).0 in
     record {
       info = p.info;
-      commit = λ d. there_now s (is_commit k) (k % w.text.logs) (BatchCommit k ∷ []) (in_logs w s k v.some_logs g) (rw (eq-eqb k k refl) refl);
+      commit = λ d. there_now s (is_commit k) (k % w.text.logs) (BatchDone k (values_of (batch_of k s.desk.batches)) ∷ []) (in_logs w s k v.some_logs g) (rw (eq-eqb k k refl) refl);
       trimmed = weaker _ _ b.places (λ x y d. absurd (not_settled b.stage f (y d))) p.trimmed;
       distinct = p.distinct;
       range = p.range;

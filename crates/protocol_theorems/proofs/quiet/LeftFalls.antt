@@ -9,7 +9,7 @@ use Rattle.protocol.specs.Fixed.{Fixed, Code, Go, base, tx_at}
 use Rattle.protocol.specs.Facts.{Alone}
 use Rattle.protocol.specs.Parts.{Act, Joined, Cascade, Batch, Declared, Log, Committing, Settled, SubBatch, ControlMessage, Waiting, Outcome, Entry, Cell, OfAct, OfBatch, Machine}
 use Rattle.protocol.specs.Events.{Event, Submit, Pass, Form, Admit, Arrive, Ask, Take, Run, Send, End, Close, Complete, Sync, Note, Commit, Settle, Abort, Rollback, DropSub, DropControl, Prepare, Vouch, Decide, Seal, Finish, Reply, Trim}
-use Rattle.protocol.specs.Words.{is_empty, holds, is_among, is_value, is_live_status, is_live_act, is_doomed, is_decided, is_sealed, is_settled, is_committing, is_open, is_next_to_commit, first_failed, act_of, joined_of, batch_of, declared_of, sub_of, control_of, has_control_to, waiting_of, outcome_of, is_going, is_ended, is_batch_entry, is_complete_batch, has_undone, has_act, who_on}
+use Rattle.protocol.specs.Words.{is_empty, holds, is_among, is_value, values_of, is_live_status, is_live_act, is_doomed, is_decided, is_sealed, is_settled, is_committing, is_open, is_next_to_commit, first_failed, act_of, joined_of, batch_of, declared_of, sub_of, control_of, has_control_to, waiting_of, outcome_of, is_going, is_ended, is_batch_entry, is_complete_batch, has_undone, has_act, who_on}
 use Rattle.protocol.specs.Conditions.{IsAllowed, conditions, epoch, queue}
 use Rattle.protocol.specs.Effects.{after, cell_at, no_cell, log_at, no_log, act_commit, synced}
 use Rattle.protocol.specs.Numbers.{flat, times, one_if, once_in}
@@ -244,7 +244,7 @@ falls w Of finish (Commit k) s v small g ok =
     omega (
       arith,
       LeftParts.stage_falls k 2 Committing (λ b. is_open b && is_next_to_commit k s.desk.batches) s.desk.batches (bid_once w s g.numbers k) (λ b e. LeftParts.commit_stage b (is_next_to_commit k s.desk.batches) e) ok.0,
-      LeftParts.adds_most s.logs (k % w.text.logs) (Rattle.protocol.specs.Records.BatchCommit k ∷ []),
+      LeftParts.adds_most s.logs (k % w.text.logs) (Rattle.protocol.specs.Records.BatchDone k (values_of (batch_of k s.desk.batches)) ∷ []),
     )
 falls w Of finish (Settle k) s v small g ok =
     omega (arith, LeftParts.stage_falls k 1 Settled (λ b. is_committing b.stage && not b.aborted) s.desk.batches (bid_once w s g.numbers k) LeftParts.settle_stage ok.0)

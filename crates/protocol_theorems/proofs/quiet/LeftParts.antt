@@ -12,7 +12,7 @@ use Rattle.protocol.specs.Facts.{Alone, Facts}
 use Rattle.protocol.specs.Records.{LogRecord}
 use Rattle.protocol.specs.Rivals.{Lock}
 use Rattle.protocol.specs.Parts.{Ring, Book, Status, Live, Doomed, Decided, Sealed, Joined, Act, Pair, Who, OfBatch, SubBatch, ControlMessage, Stage, Formed, Committing, Settled, Declared, Pact, Batch, Log, Waiting, Outcome, Cell}
-use Rattle.protocol.specs.Words.{holds, is_among, below, act_of, batch_of, sub_of, control_of, waiting_of, outcome_of, without_sub, without_control, without_waiting, without_outcome, is_going, is_ended, is_live_status, is_decided, is_open, is_formed, is_committing, has_act}
+use Rattle.protocol.specs.Words.{holds, is_among, below, act_of, batch_of, sub_of, control_of, waiting_of, outcome_of, without_sub, without_control, without_waiting, without_outcome, is_going, is_ended, is_live_status, is_decided, is_open, is_formed, is_committing, has_act, value_of}
 use Rattle.protocol.specs.Numbers.{times, one_if}
 use Rattle.protocol.specs.Spread.{raised, crossed_out, is_crossed}
 use Rattle.protocol_laws.specs.Trails.{IsOf}
@@ -130,7 +130,7 @@ pub commit_one : (c : ℕ) (o : Option Act) → length (effects.act_commit c o) 
 commit_one c None = omega arith
 commit_one c (Some x) = by (Rattle.protocol.specs.Words.is_value x.result)
   where
-    by : (b : Bool) → length (if b then Rattle.protocol.specs.Records.ActCommit x.tid x.m c (effects.ascending (map (λ p. p.actor) x.places)) ∷ [] else []) ≤ 1
+    by : (b : Bool) → length (if b then Rattle.protocol.specs.Records.ActDone x.tid x.m c (value_of x.result) (effects.ascending (map (λ p. p.actor) x.places)) ∷ [] else []) ≤ 1
     by true = omega arith
     by false = omega arith
 

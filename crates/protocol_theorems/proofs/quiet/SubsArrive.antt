@@ -5,10 +5,10 @@ use Rattle.std.specs.List.{AllByRecursion, list_any}
 use Rattle.std.proofs.Common.{arith, sym, ap, subst, inl, inr, ◌∙◌}
 use Rattle.std.proofs.lemmas.Bool.{eqb-true, eq-eqb, ne_eqb, and_parts, or_cases, true≢false, not-true, cases_lt}
 use Rattle.protocol.specs.Fixed.{Fixed}
-use Rattle.protocol.specs.Records.{LogRecord, ActCommit, is_complete}
+use Rattle.protocol.specs.Records.{LogRecord, ActDone, is_complete}
 use Rattle.protocol.specs.Parts.{Act, SubBatch, Declared, Committing, Settled, Stage, Formed, Entry, BatchEntry, ActEntry, Machine}
 use Rattle.protocol.specs.Events.{Event, Form, Arrive, Ask, Take, Run, Send, End, Close, Complete, Sync, Note, Commit, Settle, Abort, Rollback, Prepare, Decide, Finish, Trim}
-use Rattle.protocol.specs.Words.{holds, is_among, is_aborted, is_value, is_formed, is_settled, sub_of, batch_of, declared_of, act_of, is_batch_entry, is_complete_batch, has_act, outcome_of, batches_on}
+use Rattle.protocol.specs.Words.{holds, is_among, is_aborted, is_value, is_formed, is_settled, sub_of, batch_of, declared_of, act_of, is_batch_entry, is_complete_batch, has_act, outcome_of, batches_on, value_of}
 use Rattle.protocol.specs.Conditions.{IsAllowed, conditions}
 use Rattle.protocol.specs.Effects.{after, cell_at, log_at, no_cell, no_log, added, synced, act_commit, ascending}
 use Rattle.protocol.specs.Numbers.{times, one_if}
@@ -47,7 +47,7 @@ no_complete : (k a c : ℕ) (o : Option Act) → list_any (is_complete k a) (act
 no_complete k a c None h = true≢false (sym h)
 no_complete k a c (Some x) h = by (is_value x.result) h
   where
-    by : (v : Bool) → list_any (is_complete k a) (if v then ActCommit x.tid x.m c (ascending (map (λ p. p.actor) x.places)) ∷ [] else []) ≡ true → ⊥
+    by : (v : Bool) → list_any (is_complete k a) (if v then ActDone x.tid x.m c (value_of x.result) (ascending (map (λ p. p.actor) x.places)) ∷ [] else []) ≡ true → ⊥
     by true g = true≢false (sym g)
     by false g = true≢false (sym g)
 
