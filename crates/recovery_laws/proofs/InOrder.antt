@@ -1,5 +1,5 @@
 -- What is kept, in the order of places.
-use Rattle.std.specs.Prelude.{◌≡◌, ◌≢◌, refl, ℕ, zero, suc, ◌-◌, ◌<◌, ◌≤◌, ◌==◌, nat_lt, ◌⊎◌, Bool, true, false, ◌&&◌, ◌||◌, if◌then◌else◌, Some, List, [], ◌∷◌, ◌++◌, length, map, slice_index_or, Contains}
+use Rattle.std.specs.Prelude.{◌≡◌, ◌≢◌, refl, ℕ, ℤ, Option, zero, suc, ◌-◌, ◌<◌, ◌≤◌, ◌==◌, nat_lt, ◌⊎◌, Bool, true, false, ◌&&◌, ◌||◌, if◌then◌else◌, Some, List, [], ◌∷◌, ◌++◌, length, map, slice_index_or, Contains}
 use Rattle.std.specs.List.{AllByRecursion, AllPairs}
 use Rattle.std.proofs.Common.{arith, sym, subst, inl, inr, ◌∙◌}
 use Rattle.std.proofs.lemmas.Bool.{true≢false, or_cases, or_left, or_right, and_parts, and_from, eqb-true, eq-eqb, ltb-true, ltb-false, leb-true, lt-ltb, le-leb}
@@ -14,7 +14,7 @@ use Rattle.snap_recover.specs.declared.openings.Kept.TheVariants as kept
 use Rattle.snap_recover.specs.Opening.{ComesBefore}
 use Rattle.snap_recover.proofs.Lists.{all_append, all_weaker, contains_cases, contains_here, contains_there}
 use Rattle.record_words.specs.Told.{bid_of, tid_of}
-use Rattle.recovery_laws.specs.Grown.{comes_before, put_in, number_of, kept_act, with_acts}
+use Rattle.recovery_laws.specs.Grown.{comes_before, put_in, number_of, told_value, kept_act, with_acts}
 use Rattle.recovery_laws.proofs.KnownLogs.{Apart}
 
 -- ---- lists that rise
@@ -64,23 +64,23 @@ not_below m n P (inl a) = omega (arith, a)
 not_below m n P (inr a) = omega (arith, a.0)
 
 goes_on : (x y z : Kept) → ComesBefore x y → ComesBefore y z → ComesBefore x z
-goes_on (kept.Batch a as') (kept.Batch b bs) (kept.Batch c cs) h k = omega (arith, h, k)
-goes_on (kept.Batch a as') (kept.Batch b bs) (kept.Act t m c) h k = omega (arith, h, k)
-goes_on (kept.Batch a as') (kept.Act t m c) (kept.Batch b bs) h k = omega (arith, h, k)
-goes_on (kept.Batch a as') (kept.Act t m c) (kept.Act u n d) h k = omega (arith, h, not_below m.0 n.0 ((c < d) ⊎ ((c ≡ d) × (t.0 < u.0))) k)
-goes_on (kept.Act t m c) (kept.Batch a as') (kept.Batch b bs) h k = omega (arith, h, k)
-goes_on (kept.Act t m c) (kept.Batch a as') (kept.Act u n d) h k = inl (omega (arith, h, k))
-goes_on (kept.Act t m c) (kept.Act u n d) (kept.Batch b bs) h k = omega (arith, not_below m.0 n.0 ((c < d) ⊎ ((c ≡ d) × (t.0 < u.0))) h, k)
-goes_on (kept.Act t m c) (kept.Act u n d) (kept.Act v o e) (inl a) (inl b) = inl (omega (arith, a, b))
-goes_on (kept.Act t m c) (kept.Act u n d) (kept.Act v o e) (inl a) (inr b) = inl (omega (arith, a, b.0))
-goes_on (kept.Act t m c) (kept.Act u n d) (kept.Act v o e) (inr a) (inl b) = inl (omega (arith, a.0, b))
-goes_on (kept.Act t m c) (kept.Act u n d) (kept.Act v o e) (inr a) (inr b) = inr (a.0 ∙ b.0, by_number c d e t.0 u.0 v.0 a.1 b.1)
+goes_on (kept.Batch a as' av) (kept.Batch b bs bv) (kept.Batch c cs cv) h k = omega (arith, h, k)
+goes_on (kept.Batch a as' av) (kept.Batch b bs bv) (kept.Act t m c x1) h k = omega (arith, h, k)
+goes_on (kept.Batch a as' av) (kept.Act t m c x1) (kept.Batch b bs bv) h k = omega (arith, h, k)
+goes_on (kept.Batch a as' av) (kept.Act t m c x1) (kept.Act u n d x2) h k = omega (arith, h, not_below m.0 n.0 ((c < d) ⊎ ((c ≡ d) × (t.0 < u.0))) k)
+goes_on (kept.Act t m c x1) (kept.Batch a as' av) (kept.Batch b bs bv) h k = omega (arith, h, k)
+goes_on (kept.Act t m c x1) (kept.Batch a as' av) (kept.Act u n d x2) h k = inl (omega (arith, h, k))
+goes_on (kept.Act t m c x1) (kept.Act u n d x2) (kept.Batch b bs bv) h k = omega (arith, not_below m.0 n.0 ((c < d) ⊎ ((c ≡ d) × (t.0 < u.0))) h, k)
+goes_on (kept.Act t m c x1) (kept.Act u n d x2) (kept.Act v o e x3) (inl a) (inl b) = inl (omega (arith, a, b))
+goes_on (kept.Act t m c x1) (kept.Act u n d x2) (kept.Act v o e x3) (inl a) (inr b) = inl (omega (arith, a, b.0))
+goes_on (kept.Act t m c x1) (kept.Act u n d x2) (kept.Act v o e x3) (inr a) (inl b) = inl (omega (arith, a.0, b))
+goes_on (kept.Act t m c x1) (kept.Act u n d x2) (kept.Act v o e x3) (inr a) (inr b) = inr (a.0 ∙ b.0, by_number c d e t.0 u.0 v.0 a.1 b.1)
 
 before_true : (x y : Kept) → comes_before x y ≡ true → ComesBefore x y
-before_true (kept.Batch a as') (kept.Batch b bs) e = ltb-true a.0 b.0 e
-before_true (kept.Batch a as') (kept.Act t m c) e = leb-true a.0 m.0 e
-before_true (kept.Act t m c) (kept.Batch b bs) e = ltb-true m.0 b.0 e
-before_true (kept.Act t m c) (kept.Act u n d) e = elim (or_cases (nat_lt m.0 n.0) _ e) [
+before_true (kept.Batch a as' av) (kept.Batch b bs bv) e = ltb-true a.0 b.0 e
+before_true (kept.Batch a as' av) (kept.Act t m c x1) e = leb-true a.0 m.0 e
+before_true (kept.Act t m c x1) (kept.Batch b bs bv) e = ltb-true m.0 b.0 e
+before_true (kept.Act t m c x1) (kept.Act u n d x2) e = elim (or_cases (nat_lt m.0 n.0) _ e) [
   | inl q ↦ inl (ltb-true m.0 n.0 q)
   | inr q ↦ let v = and_parts (m.0 == n.0) (nat_lt c d || ((c == d) && nat_lt t.0 u.0)) q in
       inr (
@@ -97,26 +97,26 @@ by_number_is c d t u (inl a) = or_left (nat_lt c d) _ (lt-ltb c d a)
 by_number_is c d t u (inr a) = or_right (nat_lt c d) _ (and_from (c == d) (nat_lt t u) (eq-eqb c d a.0) (lt-ltb t u a.1))
 
 before_is : (x y : Kept) → ComesBefore x y → comes_before x y ≡ true
-before_is (kept.Batch a as') (kept.Batch b bs) h = lt-ltb a.0 b.0 h
-before_is (kept.Batch a as') (kept.Act t m c) h = le-leb a.0 m.0 h
-before_is (kept.Act t m c) (kept.Batch b bs) h = lt-ltb m.0 b.0 h
-before_is (kept.Act t m c) (kept.Act u n d) (inl a) = or_left (nat_lt m.0 n.0) _ (lt-ltb m.0 n.0 a)
-before_is (kept.Act t m c) (kept.Act u n d) (inr a) = or_right (nat_lt m.0 n.0) _ (and_from (m.0 == n.0) (nat_lt c d || ((c == d) && nat_lt t.0 u.0)) (eq-eqb m.0 n.0 a.0) (by_number_is c d t.0 u.0 a.1))
+before_is (kept.Batch a as' av) (kept.Batch b bs bv) h = lt-ltb a.0 b.0 h
+before_is (kept.Batch a as' av) (kept.Act t m c x1) h = le-leb a.0 m.0 h
+before_is (kept.Act t m c x1) (kept.Batch b bs bv) h = lt-ltb m.0 b.0 h
+before_is (kept.Act t m c x1) (kept.Act u n d x2) (inl a) = or_left (nat_lt m.0 n.0) _ (lt-ltb m.0 n.0 a)
+before_is (kept.Act t m c x1) (kept.Act u n d x2) (inr a) = or_right (nat_lt m.0 n.0) _ (and_from (m.0 == n.0) (nat_lt c d || ((c == d) && nat_lt t.0 u.0)) (eq-eqb m.0 n.0 a.0) (by_number_is c d t.0 u.0 a.1))
 
 -- it is no ACT of this tid
 abbrev pub IsOther : ℕ → Kept → Type 0
-IsOther n (kept.Batch b tids) = Unit {0}
-IsOther n (kept.Act t m c) = t.0 ≢ n
+IsOther n (kept.Batch b tids bv) = Unit {0}
+IsOther n (kept.Act t m c x1) = t.0 ≢ n
 
-one_of_two : (t : Tid) (m : Bid) (c : ℕ) (y : Kept) → IsOther t.0 y → ComesBefore (kept.Act t m c) y ⊎ ComesBefore y (kept.Act t m c)
-one_of_two t m c (kept.Batch b tids) h = by (nat_lt m.0 b.0) refl
+one_of_two : (t : Tid) (m : Bid) (c : ℕ) (x1 : Option ℤ) (y : Kept) → IsOther t.0 y → ComesBefore (kept.Act t m c x1) y ⊎ ComesBefore y (kept.Act t m c x1)
+one_of_two t m c x1 (kept.Batch b tids bv) h = by (nat_lt m.0 b.0) refl
   where
-    by : (v : Bool) → nat_lt m.0 b.0 ≡ v → ComesBefore (kept.Act t m c) (kept.Batch b tids) ⊎ ComesBefore (kept.Batch b tids) (kept.Act t m c)
+    by : (v : Bool) → nat_lt m.0 b.0 ≡ v → ComesBefore (kept.Act t m c x1) (kept.Batch b tids bv) ⊎ ComesBefore (kept.Batch b tids bv) (kept.Act t m c x1)
     by true e = inl (ltb-true m.0 b.0 e)
     by false e = inr (omega (arith, ltb-false m.0 b.0 e))
-one_of_two t m c (kept.Act u n d) h = by (three_ways m.0 n.0) (three_ways c d) (three_ways t.0 u.0)
+one_of_two t m c x1 (kept.Act u n d x2) h = by (three_ways m.0 n.0) (three_ways c d) (three_ways t.0 u.0)
   where
-    by : (m.0 < n.0) ⊎ ((m.0 ≡ n.0) ⊎ (n.0 < m.0)) → (c < d) ⊎ ((c ≡ d) ⊎ (d < c)) → (t.0 < u.0) ⊎ ((t.0 ≡ u.0) ⊎ (u.0 < t.0)) → ComesBefore (kept.Act t m c) (kept.Act u n d) ⊎ ComesBefore (kept.Act u n d) (kept.Act t m c)
+    by : (m.0 < n.0) ⊎ ((m.0 ≡ n.0) ⊎ (n.0 < m.0)) → (c < d) ⊎ ((c ≡ d) ⊎ (d < c)) → (t.0 < u.0) ⊎ ((t.0 ≡ u.0) ⊎ (u.0 < t.0)) → ComesBefore (kept.Act t m c x1) (kept.Act u n d x2) ⊎ ComesBefore (kept.Act u n d x2) (kept.Act t m c x1)
     by (inl a) y z = inl (inl a)
     by (inr (inr a)) y z = inr (inl a)
     by (inr (inl a)) (inl b) z = inl (inr (a, inl b))
@@ -184,7 +184,7 @@ acts_rise many logs (x ∷ xs) ks a o r = by (is_in many logs (OfAct x.tid)) (ac
     others = acts_all (IsOther x.tid) many logs xs ks (all_weaker (λ y. y.tid ≢ x.tid) (λ y. is_in many logs (OfAct y.tid) ≡ true → IsOther x.tid (kept_act y)) xs (λ y q e. q) a.0) (o x.tid)
 
     by : (v : Bool) → Rises (with_acts many logs xs ks) → Rises (if v then put_in (kept_act x) (with_acts many logs xs ks) else with_acts many logs xs ks)
-    by true q = put_rises (kept_act x) (with_acts many logs xs ks) (all_weaker (IsOther x.tid) (λ y. ComesBefore (kept_act x) y ⊎ ComesBefore y (kept_act x)) (with_acts many logs xs ks) (λ y p. one_of_two (tid_of x.tid) (bid_of x.m) (number_of x.status) y p) others) q
+    by true q = put_rises (kept_act x) (with_acts many logs xs ks) (all_weaker (IsOther x.tid) (λ y. ComesBefore (kept_act x) y ⊎ ComesBefore y (kept_act x)) (with_acts many logs xs ks) (λ y p. one_of_two (tid_of x.tid) (bid_of x.m) (number_of x.status) (told_value x.result) y p) others) q
     by false q = q
 
 pub acts_keep : {Y : Type 0} (f : Kept → Y) (many : ℕ) (logs : ℕ → List LogRecord) (xs : List Act) (ks : List Kept) (c : Y) → Contains (map f ks) c → Contains (map f (with_acts many logs xs ks)) c
@@ -215,21 +215,21 @@ acts_have f many logs t y (x ∷ xs) ks e h = by (x.tid == t) refl e (acts_have 
 
 -- it is of earlier runs, before these numbers
 abbrev pub IsOld : ℕ → ℕ → Kept → Type 0
-IsOld bid c (kept.Batch b tids) = b.0 < bid
-IsOld bid c (kept.Act t m d) = (m.0 < bid) × (d < c)
+IsOld bid c (kept.Batch b tids bv) = b.0 < bid
+IsOld bid c (kept.Act t m d x1) = (m.0 < bid) × (d < c)
 
 -- it is of this run, from these numbers on
 abbrev pub IsNew : ℕ → ℕ → Kept → Type 0
-IsNew bid c (kept.Batch b tids) = bid ≤ b.0
-IsNew bid c (kept.Act t m d) = (bid - 1 ≤ m.0) × (c ≤ d)
+IsNew bid c (kept.Batch b tids bv) = bid ≤ b.0
+IsNew bid c (kept.Act t m d x1) = (bid - 1 ≤ m.0) × (c ≤ d)
 
 old_before_new : (bid c : ℕ) (x y : Kept) → 1 ≤ bid → IsOld bid c x → IsNew bid c y → ComesBefore x y
-old_before_new bid c (kept.Batch a as') (kept.Batch b bs) l h k = omega (arith, h, k)
-old_before_new bid c (kept.Batch a as') (kept.Act t m d) l h k = omega (arith, h, k.0, l)
-old_before_new bid c (kept.Act t m d) (kept.Batch b bs) l h k = omega (arith, h.0, k)
-old_before_new bid c (kept.Act t m d) (kept.Act u n e) l h k = by (three_ways m.0 n.0)
+old_before_new bid c (kept.Batch a as' av) (kept.Batch b bs bv) l h k = omega (arith, h, k)
+old_before_new bid c (kept.Batch a as' av) (kept.Act t m d x1) l h k = omega (arith, h, k.0, l)
+old_before_new bid c (kept.Act t m d x1) (kept.Batch b bs bv) l h k = omega (arith, h.0, k)
+old_before_new bid c (kept.Act t m d x1) (kept.Act u n e x2) l h k = by (three_ways m.0 n.0)
   where
-    by : (m.0 < n.0) ⊎ ((m.0 ≡ n.0) ⊎ (n.0 < m.0)) → ComesBefore (kept.Act t m d) (kept.Act u n e)
+    by : (m.0 < n.0) ⊎ ((m.0 ≡ n.0) ⊎ (n.0 < m.0)) → ComesBefore (kept.Act t m d x1) (kept.Act u n e x2)
     by (inl a) = inl a
     by (inr (inl a)) = inr (a, inl (omega (arith, h.1, k.1)))
     by (inr (inr a)) = absurd (omega (arith, a, h.0, k.0, l))

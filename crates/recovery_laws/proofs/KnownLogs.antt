@@ -13,7 +13,7 @@ use Rattle.protocol_laws.specs.Told.{is_at}
 use Rattle.protocol_records.specs.Crash.{is_in, BatchIsWhole, ActIsWhole}
 use Rattle.protocol_records.specs.RecordLaws.{RecordKey, has_key, TellsOf}
 use Rattle.txn_records.specs.declared.records.Record.{Record}
-use Rattle.txn_records.specs.declared.records.Record.TheVariants.{Genesis, BatchInfo, BatchComplete, BatchCommit, ActPrepare, ActCommit}
+use Rattle.txn_records.specs.declared.records.Record.TheVariants.{Genesis, BatchInfo, BatchComplete, BatchCommit, ActPrepare, ActCommit, BatchDone, ActDone}
 use Rattle.txn_records.specs.declared.keys.Key.TheVariants as keys
 use Rattle.txn_records.specs.Records.{key}
 use Rattle.snap_recover.specs.declared.openings.Opening.{Opening}
@@ -75,6 +75,8 @@ commit_low (BatchComplete k a t) b n e h = absurd (cc e)
 commit_low (BatchCommit k) b n e h = let q : k ≡ b = cc e in subst (λ z. z.0 < n) q h.0
 commit_low (ActPrepare t a st) b n e h = absurd (cc e)
 commit_low (ActCommit t m c actors) b n e h = absurd (cc e)
+commit_low (BatchDone k v) b n e h = let q : k ≡ b = cc e in subst (λ z. z.0 < n) q h.0
+commit_low (ActDone t m c v actors) b n e h = absurd (cc e)
 
 pub in_old : {C : Type 0} (w : Fixed C) (earlier : List (List Record)) (o : Opening) (s : Machine C) (logs : ℕ → List LogRecord) (b : Bid) → Known w earlier o s logs → IsIn earlier b → b.0 < w.text.opening.next_bid
 in_old w earlier o s logs b g h = let r = contains_unmap key (log_of earlier b.0) (keys.Commit b) h in commit_low r.0 b w.text.opening.next_bid r.2 (all_contains (λ r. AllByRecursion (λ x. x < w.text.opening.next_bid) (bids_in r)) (log_of earlier b.0) r.0 (old_low w earlier o s logs b.0 g) r.1)
@@ -107,6 +109,8 @@ act_low (BatchComplete k a u) t n e h = absurd (cc e)
 act_low (BatchCommit k) t n e h = absurd (cc e)
 act_low (ActPrepare u a st) t n e h = absurd (cc e)
 act_low (ActCommit u m c actors) t n e h = let q : u ≡ t = cc e in subst (λ z. z.0 < n) q h.0
+act_low (BatchDone k v) t n e h = absurd (cc e)
+act_low (ActDone u m c v actors) t n e h = let q : u ≡ t = cc e in subst (λ z. z.0 < n) q h.0
 
 pub act_old : {C : Type 0} (w : Fixed C) (earlier : List (List Record)) (o : Opening) (s : Machine C) (logs : ℕ → List LogRecord) (t : Tid) → Known w earlier o s logs → IsActIn earlier t → t.0 < w.text.opening.next_tid
 act_old w earlier o s logs t g h = let r = contains_unmap key (log_of earlier t.0) (keys.Act t) h in act_low r.0 t w.text.opening.next_tid r.2 (all_contains (λ r. AllByRecursion (λ x. x < w.text.opening.next_tid) (tids_in r)) (log_of earlier t.0) r.0 (old_acts_low w earlier o s logs t.0 g) r.1)

@@ -20,7 +20,7 @@ use Rattle.recovery_laws.proofs.WrittenLists.{tids_written, bids_written, cs_wri
 use Rattle.recovery_laws.proofs.KnownLogs.{Known}
 use Rattle.recovery_laws.proofs.WholesGrown.{whole_grown, act_whole_grown}
 use Rattle.recovery_laws.proofs.StatesGrown.{states_grown}
-use Rattle.recovery_laws.proofs.CommittedGrown.{committed_grown}
+use Rattle.recovery_laws.proofs.CommittedGrown.{committed_grown, valued_grown}
 
 enumerated : (n : ℕ) (xs : List State) → length (enumerate_from n xs) ≡ length xs
 enumerated n [] = refl
@@ -41,6 +41,7 @@ recovers {C} w earlier o s logs g =
       );
       whole = λ x h. whole_grown w earlier o s logs x g h;
       acts_whole = λ t h. act_whole_grown w earlier o s logs t g h;
+      valued = λ b h. valued_grown w earlier o s logs b g h;
       committed = committed_grown w earlier o s logs g;
       next_tid = omega (arith, g.before.next_tid, g.begins.next_tid, grown_greatest tids_in crash.tids_in 0 earlier logs (λ l. tids_written (logs l)), ap (λ n. greatest (all_from crash.tids_in logs 0 n)) g.many, greatest_written crash.tids_in logs w.text.logs);
       next_bid = omega (arith, g.before.next_bid, g.begins.next_bid, grown_greatest bids_in crash.bids_in 0 earlier logs (λ l. bids_written (logs l)), ap (λ n. greatest (all_from crash.bids_in logs 0 n)) g.many, greatest_written crash.bids_in logs w.text.logs);

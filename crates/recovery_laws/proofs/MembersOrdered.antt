@@ -1,14 +1,15 @@
 -- What recovery gives of a run is its members, in the order of their places.
-use Rattle.std.specs.Prelude.{◌≡◌, refl, ℕ, ◌%◌, ◌≤◌, ◌⊎◌, not, Bool, true, false, ◌&&◌, if◌then◌else◌, Option, Some, List, [], ◌∷◌, map, filter, Contains}
+use Rattle.std.specs.Prelude.{◌≡◌, refl, ℕ, None, ◌%◌, ◌≤◌, ◌⊎◌, not, Bool, true, false, ◌&&◌, if◌then◌else◌, Option, Some, List, [], ◌∷◌, map, filter, Contains}
 use Rattle.std.specs.List.{AllByRecursion, flat_map}
 use Rattle.std.proofs.Common.{sym, ap, subst, inl, inr, ◌∙◌}
 use Rattle.std.proofs.lemmas.Bool.{true≢false, and_parts, and_from, eqb-true}
 use Rattle.snap_base.specs.declared.transactions.TxResult.{TxResult}
+use Rattle.snap_base.specs.declared.transactions.TxResult.TheVariants.{Value, Fail}
 use Rattle.snap_base.specs.declared.verdicts.Place.{Place}
 use Rattle.protocol.specs.Fixed.{Fixed}
 use Rattle.protocol.specs.Records.{LogRecord}
 use Rattle.protocol.specs.Parts.{Act, Batch, Pact, Status, Live, Doomed, Decided, Sealed, Who, OfBatch, OfAct, Machine}
-use Rattle.protocol.specs.Words.{is_formed, is_value, act_of, batch_of}
+use Rattle.protocol.specs.Words.{is_formed, is_value, value_of, act_of, batch_of}
 use Rattle.protocol.specs.Verdicts.{pact_place, act_place}
 use Rattle.protocol.specs.History.{Done, History}
 use Rattle.protocol.specs.Chains.{is_place_below, put_by_place, by_place}
@@ -21,15 +22,14 @@ use Rattle.txn_records.specs.declared.records.Record.{Record}
 use Rattle.snap_recover.specs.declared.openings.Kept.{Kept}
 use Rattle.snap_recover.specs.declared.openings.Opening.{Opening}
 use Rattle.snap_recover.proofs.Lists.{all_both, all_weaker, all_map, all_contains, contains_cases, contains_here, contains_there, contains_none, contains_map, contains_middle}
-use Rattle.record_words.specs.Told.{tids_of}
-use Rattle.recovery_laws.specs.Grown.{number_of, kept_batch, kept_act, batches_in, all_in, places_of}
+use Rattle.recovery_laws.specs.Grown.{number_of, told_value, answer_of, kept_batch, kept_act, batches_in, all_in, answers_of, answer_at}
 use Rattle.recovery_laws.proofs.InOrder.{acts_all, acts_keep, acts_have}
 use Rattle.recovery_laws.proofs.KnownLogs.{Known}
 use Rattle.recovery_laws.proofs.CommittedGrown.{number_is, found_at, found_acts, one_is, known_commit, act_told, has_batch, new_kept_all}
-use Rattle.recovery_laws.proofs.SpotsOrdered.{Spot, SpotsRise, same_spots, spots_all, spot_there, spots_rise, pacts_rise, dones_rise}
+use Rattle.recovery_laws.proofs.SpotsOrdered.{Spot, SpotsRise, same_spots, spots_all, spot_there, spots_rise, pact_answers, pacts_rise, dones_rise}
 
 abbrev pub spot_of : Done → Spot
-spot_of d = (d.place, d.tid)
+spot_of d = answer_at d
 
 -- ---- members
 
@@ -86,14 +86,14 @@ all_filtered P p (d ∷ ds) h = by (p d) refl (all_filtered P p ds h.1)
     by false e r = r
 
 -- one of these that committed with a value, and is in, is a member
-member_spot : (many : ℕ) (logs : ℕ → List LogRecord) (h : History) (y : Who) (t n : ℕ) (p : Place) (r : Option TxResult) (a : AmongDone y t n p r h.committed) → is_in many logs y ≡ true → is_value a.done.result ≡ true → Contains (map spot_of (by_place (members many logs h))) (p, t)
+member_spot : (many : ℕ) (logs : ℕ → List LogRecord) (h : History) (y : Who) (t n : ℕ) (p : Place) (r : Option TxResult) (a : AmongDone y t n p r h.committed) → is_in many logs y ≡ true → is_value a.done.result ≡ true → Contains (map spot_of (by_place (members many logs h))) (p, t, r)
 member_spot many logs h y t n p r a i v =
     let test : Done → Bool = λ d. is_in many logs d.who && is_value d.result in
     let in' : is_in many logs a.done.who ≡ true = ap (is_in many logs) a.who ∙ i in
     let there : Contains h.committed a.done = subst (λ z. Contains z a.done) (sym a.splits) (contains_middle a.front a.done a.rest) in
     let m : Contains (members many logs h) a.done = contains_filter (λ d. is_in many logs d.who && is_value d.result) a.done h.committed there (and_from (is_in many logs a.done.who) (is_value a.done.result) in' v) in
-    let c : Contains (map spot_of (by_place (members many logs h))) (a.done.place, a.done.tid) = contains_map spot_of (by_place (members many logs h)) a.done (contains_sorted a.done (members many logs h) m) in
-    subst (λ z. Contains (map spot_of (by_place (members many logs h))) (z, t)) a.place (subst (λ z. Contains (map spot_of (by_place (members many logs h))) (a.done.place, z)) a.tid c)
+    let c : Contains (map spot_of (by_place (members many logs h))) (a.done.place, a.done.tid, a.done.result) = contains_map spot_of (by_place (members many logs h)) a.done (contains_sorted a.done (members many logs h) m) in
+    subst (λ z. Contains (map spot_of (by_place (members many logs h))) (z, t, r)) a.place (subst (λ z. Contains (map spot_of (by_place (members many logs h))) (a.done.place, z, r)) a.tid (subst (λ z. Contains (map spot_of (by_place (members many logs h))) (a.done.place, a.done.tid, z)) a.result c))
 
 -- ---- from what is in to the members
 
@@ -107,17 +107,30 @@ batches_all P many logs (b ∷ bs) h = by (is_in many logs (OfBatch b.bid)) refl
 
 -- its places rise, and are members'
 abbrev IsOfMembers : ℕ → (ℕ → List LogRecord) → History → Kept → Type 0
-IsOfMembers many logs h k = SpotsRise (places_of k) × AllByRecursion (Contains (map spot_of (by_place (members many logs h)))) (places_of k)
+IsOfMembers many logs h k = SpotsRise (answers_of k) × AllByRecursion (Contains (map spot_of (by_place (members many logs h)))) (answers_of k)
 
-value_of : (k : ℕ) (ds : List Done) (d : Done) → Valued ds → Contains ds d → d.who ≡ OfBatch k → is_value d.result ≡ true
-value_of k ds d v c i = all_contains (λ d. (k : ℕ) → d.who ≡ OfBatch k → is_value d.result ≡ true) ds d v c k i
+has_value : (k : ℕ) (ds : List Done) (d : Done) → Valued ds → Contains ds d → d.who ≡ OfBatch k → is_value d.result ≡ true
+has_value k ds d v c i = all_contains (λ d. (k : ℕ) → d.who ≡ OfBatch k → is_value d.result ≡ true) ds d v c k i
 
-pacts_spots : (many : ℕ) (logs : ℕ → List LogRecord) (h : History) (k : ℕ) (ps : List Pact) → Valued h.committed → is_in many logs (OfBatch k) ≡ true → AllByRecursion (PactTold h.committed k) ps → AllByRecursion (Contains (map spot_of (by_place (members many logs h)))) (map (λ t. (pact_place k t.0, t.0)) (tids_of (map (λ p. p.tid) ps)))
+-- a value is told as it is
+told_back : (r : Option TxResult) → is_value r ≡ true → r ≡ answer_of (told_value r)
+told_back (Some (Value v)) e = refl
+told_back (Some (Fail code)) e = absurd (true≢false (sym e))
+told_back None e = absurd (true≢false (sym e))
+
+value_back : (r : Option TxResult) → is_value r ≡ true → r ≡ answer_of (Some (value_of r))
+value_back (Some (Value v)) e = refl
+value_back (Some (Fail code)) e = absurd (true≢false (sym e))
+value_back None e = absurd (true≢false (sym e))
+
+pacts_spots : (many : ℕ) (logs : ℕ → List LogRecord) (h : History) (k : ℕ) (ps : List Pact) → Valued h.committed → is_in many logs (OfBatch k) ≡ true → AllByRecursion (PactTold h.committed k) ps → AllByRecursion (Contains (map spot_of (by_place (members many logs h)))) (pact_answers k ps)
 pacts_spots many logs h k [] v i t = tt
 pacts_spots many logs h k (p ∷ ps) v i t =
     let a = t.0.0 in
     let there : Contains h.committed a.done = subst (λ z. Contains z a.done) (sym a.splits) (contains_middle a.front a.done a.rest) in
-    (member_spot many logs h (OfBatch k) p.tid p.tx (pact_place k p.tid) p.result a i (value_of k h.committed a.done v there a.who), pacts_spots many logs h k ps v i t.1)
+    let value : is_value a.done.result ≡ true = has_value k h.committed a.done v there a.who in
+    let back : p.result ≡ answer_of (Some (value_of p.result)) = value_back p.result (ap is_value (sym a.result) ∙ value) in
+    (subst (λ z. Contains (map spot_of (by_place (members many logs h))) (pact_place k p.tid, p.tid, z)) back (member_spot many logs h (OfBatch k) p.tid p.tx (pact_place k p.tid) p.result a i value), pacts_spots many logs h k ps v i t.1)
 
 number_at : (c : ℕ) (st : Status) → is_at c st ≡ true → (is_at (number_of st) st ≡ true)
 number_at c Live e = absurd (true≢false (sym e))
@@ -147,8 +160,9 @@ act_of_members w earlier o s h logs x g t f e =
     let same : y.act ≡ x = (let q : Some y.act ≡ Some x = sym y.found ∙ f in cc q) in
     let n : is_at (number_of x.status) x.status ≡ true = subst (λ z. is_at (number_of z.status) z.status ≡ true) same (number_at (g.whole_acts x.tid e).c y.act.status y.c_is) in
     let a = t.acts_told x.tid x f (number_of x.status) n in
-    let v : is_value a.done.result ≡ true = valued_too a.done.result x.result a.result (subst (λ z. is_value z.result ≡ true) same y.valued) in
-    ((tt, tt), (member_spot w.text.logs logs h (OfAct x.tid) x.tid x.tx (act_place x.m (number_of x.status)) x.result a e v, tt))
+    let value : is_value x.result ≡ true = ap (λ z. is_value z.result) (sym same) ∙ ap is_value y.result_is in
+    let v : is_value a.done.result ≡ true = valued_too a.done.result x.result a.result value in
+    ((tt, tt), (subst (λ z. Contains (map spot_of (by_place (members w.text.logs logs h))) (act_place x.m (number_of x.status), x.tid, z)) (told_back x.result value) (member_spot w.text.logs logs h (OfAct x.tid) x.tid x.tx (act_place x.m (number_of x.status)) x.result a e v), tt))
 
 of_members : {C : Type 0} (w : Fixed C) (earlier : List (List Record)) (o : Opening) (s : Machine C) (h : History) (logs : ℕ → List LogRecord) → Known w earlier o s logs → CommittedTold s h → AllByRecursion (IsOfMembers w.text.logs logs h) (all_in w.text.logs logs s)
 of_members w earlier o s h logs g t = acts_all (IsOfMembers w.text.logs logs h) w.text.logs logs s.book.acts (batches_in w.text.logs logs s.desk.batches)
@@ -158,49 +172,49 @@ of_members w earlier o s h logs g t = acts_all (IsOfMembers w.text.logs logs h) 
 
 -- ---- from the members to what is in
 
-moved : (xs : List Spot) (p q : Place) (t u : ℕ) → p ≡ q → t ≡ u → Contains xs (q, u) → Contains xs (p, t)
-moved xs p q t u e f h = subst (λ z. Contains xs (z, t)) (sym e) (subst (λ z. Contains xs (q, z)) (sym f) h)
+moved : (xs : List Spot) (p q : Place) (t u : ℕ) (r v : Option TxResult) → p ≡ q → t ≡ u → r ≡ v → Contains xs (q, u, v) → Contains xs (p, t, r)
+moved xs p q t u r v e f i h = subst (λ z. Contains xs (z, t, r)) (sym e) (subst (λ z. Contains xs (q, z, r)) (sym f) (subst (λ z. Contains xs (q, u, z)) (sym i) h))
 
-any_spot : (k : ℕ) (d : Done) (ps : List Pact) → AnyPact (IsDonePact k d) ps → Contains (map (λ t. (pact_place k t.0, t.0)) (tids_of (map (λ p. p.tid) ps))) (spot_of d)
-any_spot k d [] a = absurd a
-any_spot k d (p ∷ ps) (inl q) =
-    let rest : List Spot = map (λ t. (pact_place k t.0, t.0)) (tids_of (map (λ p. p.tid) ps)) in
-    let first : Spot = (pact_place k p.tid, p.tid) in
-    moved (first ∷ rest) d.place (pact_place k p.tid) d.tid p.tid q.place q.tid (contains_here first rest)
-any_spot k d (p ∷ ps) (inr q) = contains_there {X = Spot} (pact_place k p.tid, p.tid) (spot_of d) (map (λ t. (pact_place k t.0, t.0)) (tids_of (map (λ p. p.tid) ps))) (any_spot k d ps q)
+any_spot : (k : ℕ) (d : Done) (ps : List Pact) → is_value d.result ≡ true → AnyPact (IsDonePact k d) ps → Contains (pact_answers k ps) (spot_of d)
+any_spot k d [] v a = absurd a
+any_spot k d (p ∷ ps) v (inl q) =
+    let rest : List Spot = pact_answers k ps in
+    let first : Spot = (pact_place k p.tid, p.tid, answer_of (Some (value_of p.result))) in
+    moved (first ∷ rest) d.place (pact_place k p.tid) d.tid p.tid d.result (answer_of (Some (value_of p.result))) q.place q.tid (q.result ∙ value_back p.result (ap is_value (sym q.result) ∙ v)) (contains_here first rest)
+any_spot k d (p ∷ ps) v (inr q) = contains_there {X = Spot} (pact_place k p.tid, p.tid, answer_of (Some (value_of p.result))) (spot_of d) (pact_answers k ps) (any_spot k d ps v q)
 
-act_spot : (d : Done) (x : Act) (c : ℕ) → d.place ≡ act_place x.m c → d.tid ≡ x.tid → number_of x.status ≡ c → Contains (places_of (kept_act x)) (spot_of d)
-act_spot d x c p t n =
-    let first : Spot = (act_place x.m (number_of x.status), x.tid) in
-    moved (places_of (kept_act x)) d.place (act_place x.m (number_of x.status)) d.tid x.tid (p ∙ ap (act_place x.m) (sym n)) t (contains_here first [])
+act_spot : (d : Done) (x : Act) (c : ℕ) → is_value d.result ≡ true → d.place ≡ act_place x.m c → d.tid ≡ x.tid → d.result ≡ x.result → number_of x.status ≡ c → Contains (answers_of (kept_act x)) (spot_of d)
+act_spot d x c v p t r n =
+    let first : Spot = (act_place x.m (number_of x.status), x.tid, answer_of (told_value x.result)) in
+    moved (answers_of (kept_act x)) d.place (act_place x.m (number_of x.status)) d.tid x.tid d.result (answer_of (told_value x.result)) (p ∙ ap (act_place x.m) (sym n)) t (r ∙ told_back x.result (ap is_value (sym r) ∙ v)) (contains_here first [])
 
-done_there : {C : Type 0} (w : Fixed C) (earlier : List (List Record)) (o : Opening) (s : Machine C) (h : History) (logs : ℕ → List LogRecord) (d : Done) (y : Who) → Known w earlier o s logs → ((k : ℕ) → d.who ≡ OfBatch k → PactFrom s.desk.batches h.kept k d) → ((t : ℕ) → d.who ≡ OfAct t → DoneFrom s.book.acts t d) → d.who ≡ y → is_in w.text.logs logs y ≡ true
-    → Contains (flat_map places_of (all_in w.text.logs logs s)) (spot_of d)
-done_there w earlier o s h logs d (OfBatch k) g p q i e =
+done_there : {C : Type 0} (w : Fixed C) (earlier : List (List Record)) (o : Opening) (s : Machine C) (h : History) (logs : ℕ → List LogRecord) (d : Done) (y : Who) → Known w earlier o s logs → ((k : ℕ) → d.who ≡ OfBatch k → PactFrom s.desk.batches h.kept k d) → ((t : ℕ) → d.who ≡ OfAct t → DoneFrom s.book.acts t d) → d.who ≡ y → is_in w.text.logs logs y ≡ true → is_value d.result ≡ true
+    → Contains (flat_map answers_of (all_in w.text.logs logs s)) (spot_of d)
+done_there w earlier o s h logs d (OfBatch k) g p q i e v =
     let x = one_is (λ b. not (is_formed b.stage)) (batch_of k s.desk.batches) (known_commit s.desk.batches s.book.acts k (logs (k % w.text.logs)) (g.tells (k % w.text.logs)) e) in
     let same : x.0.bid ≡ k = eqb-true x.0.bid k (found_bid k x.0 s.desk.batches x.1) in
-    let spot = subst (λ z. Contains (map (λ t. (pact_place z t.0, t.0)) (tids_of (map (λ p. p.tid) x.0.pacts))) (spot_of d)) (sym same) (any_spot k d x.0.pacts ((p k i).is_it k x.0 x.1 refl)) in
-    spot_there (all_in w.text.logs logs s) (places_of (kept_batch x.0)) (spot_of d) (acts_keep places_of w.text.logs logs s.book.acts (batches_in w.text.logs logs s.desk.batches) (places_of (kept_batch x.0)) (has_batch places_of w.text.logs logs k x.0 s.desk.batches x.1 e)) spot
-done_there w earlier o s h logs d (OfAct t) g p q i e =
+    let spot = subst (λ z. Contains (pact_answers z x.0.pacts) (spot_of d)) (sym same) (any_spot k d x.0.pacts v ((p k i).is_it k x.0 x.1 refl)) in
+    spot_there (all_in w.text.logs logs s) (answers_of (kept_batch x.0)) (spot_of d) (acts_keep answers_of w.text.logs logs s.book.acts (batches_in w.text.logs logs s.desk.batches) (answers_of (kept_batch x.0)) (has_batch answers_of w.text.logs logs k x.0 s.desk.batches x.1 e)) spot
+done_there w earlier o s h logs d (OfAct t) g p q i e v =
     let x = act_told w earlier o s logs t g e in
     let k = (q t i).is_it t x.act x.found refl in
-    spot_there (all_in w.text.logs logs s) (places_of (kept_act x.act)) (spot_of d) (acts_have places_of w.text.logs logs t x.act s.book.acts (batches_in w.text.logs logs s.desk.batches) x.found e) (act_spot d x.act k.c k.place k.tid (number_is k.c x.act.status k.at))
+    spot_there (all_in w.text.logs logs s) (answers_of (kept_act x.act)) (spot_of d) (acts_have answers_of w.text.logs logs t x.act s.book.acts (batches_in w.text.logs logs s.desk.batches) x.found e) (act_spot d x.act k.c v k.place k.tid k.result (number_is k.c x.act.status k.at))
 
-members_there : {C : Type 0} (w : Fixed C) (earlier : List (List Record)) (o : Opening) (s : Machine C) (h : History) (logs : ℕ → List LogRecord) → Known w earlier o s logs → CommittedTold s h → AllByRecursion (λ d. Contains (flat_map places_of (all_in w.text.logs logs s)) (spot_of d)) (members w.text.logs logs h)
-members_there w earlier o s h logs g t = all_filtered (λ d. Contains (flat_map places_of (all_in w.text.logs logs s)) (spot_of d)) (λ d. is_in w.text.logs logs d.who && is_value d.result) h.committed
-    (all_both (λ d. (k : ℕ) → d.who ≡ OfBatch k → PactFrom s.desk.batches h.kept k d) (λ d. (t : ℕ) → d.who ≡ OfAct t → DoneFrom s.book.acts t d) (λ d. (is_in w.text.logs logs d.who && is_value d.result) ≡ true → Contains (flat_map places_of (all_in w.text.logs logs s)) (spot_of d)) h.committed
-    (λ d p q e. done_there w earlier o s h logs d d.who g p q refl (and_parts (is_in w.text.logs logs d.who) (is_value d.result) e).0) t.pacts_from t.acts_from)
+members_there : {C : Type 0} (w : Fixed C) (earlier : List (List Record)) (o : Opening) (s : Machine C) (h : History) (logs : ℕ → List LogRecord) → Known w earlier o s logs → CommittedTold s h → AllByRecursion (λ d. Contains (flat_map answers_of (all_in w.text.logs logs s)) (spot_of d)) (members w.text.logs logs h)
+members_there w earlier o s h logs g t = all_filtered (λ d. Contains (flat_map answers_of (all_in w.text.logs logs s)) (spot_of d)) (λ d. is_in w.text.logs logs d.who && is_value d.result) h.committed
+    (all_both (λ d. (k : ℕ) → d.who ≡ OfBatch k → PactFrom s.desk.batches h.kept k d) (λ d. (t : ℕ) → d.who ≡ OfAct t → DoneFrom s.book.acts t d) (λ d. (is_in w.text.logs logs d.who && is_value d.result) ≡ true → Contains (flat_map answers_of (all_in w.text.logs logs s)) (spot_of d)) h.committed
+    (λ d p q e. let v = and_parts (is_in w.text.logs logs d.who) (is_value d.result) e in done_there w earlier o s h logs d d.who g p q refl v.0 v.1) t.pacts_from t.acts_from)
 
 -- ---- the same
 
 pub members_ordered : {C : Type 0} (w : Fixed C) (earlier : List (List Record)) (o : Opening) (s : Machine C) (h : History) (logs : ℕ → List LogRecord) → Known w earlier o s logs → CommittedTold s h
-    → flat_map places_of (all_in w.text.logs logs s) ≡ map (λ d. (d.place, d.tid)) (by_place (members w.text.logs logs h))
+    → flat_map answers_of (all_in w.text.logs logs s) ≡ map answer_at (by_place (members w.text.logs logs h))
 members_ordered w earlier o s h logs g t =
     let k = of_members w earlier o s h logs g t in
     let ks = all_in w.text.logs logs s in
     let ms = by_place (members w.text.logs logs h) in
-    same_spots (flat_map places_of ks) (map spot_of ms)
-    (spots_rise ks (new_kept_all w earlier o s logs g).2 (all_weaker (IsOfMembers w.text.logs logs h) (λ k. SpotsRise (places_of k)) ks (λ k q. q.0) k))
+    same_spots (flat_map answers_of ks) (map spot_of ms)
+    (spots_rise ks (new_kept_all w earlier o s logs g).2 (all_weaker (IsOfMembers w.text.logs logs h) (λ k. SpotsRise (answers_of k)) ks (λ k q. q.0) k))
     (dones_rise ms (rises_sorted (members w.text.logs logs h) (differ_filter (λ d. is_in w.text.logs logs d.who && is_value d.result) h.committed t.differ)))
-    (λ z c. all_contains (Contains (map spot_of ms)) (flat_map places_of ks) z (spots_all (Contains (map spot_of ms)) ks (all_weaker (IsOfMembers w.text.logs logs h) (λ k. AllByRecursion (Contains (map spot_of ms)) (places_of k)) ks (λ k q. q.1) k)) c)
-    (λ z c. all_contains (Contains (flat_map places_of ks)) (map spot_of ms) z (all_map spot_of (Contains (flat_map places_of ks)) ms (all_sorted (λ d. Contains (flat_map places_of ks) (spot_of d)) (members w.text.logs logs h) (members_there w earlier o s h logs g t))) c)
+    (λ z c. all_contains (Contains (map spot_of ms)) (flat_map answers_of ks) z (spots_all (Contains (map spot_of ms)) ks (all_weaker (IsOfMembers w.text.logs logs h) (λ k. AllByRecursion (Contains (map spot_of ms)) (answers_of k)) ks (λ k q. q.1) k)) c)
+    (λ z c. all_contains (Contains (flat_map answers_of ks)) (map spot_of ms) z (all_map spot_of (Contains (flat_map answers_of ks)) ms (all_sorted (λ d. Contains (flat_map answers_of ks) (spot_of d)) (members w.text.logs logs h) (members_there w earlier o s h logs g t))) c)

@@ -143,16 +143,16 @@ prepared_of w s u a n t =
 record_low : {C : Type 0} (w : Fixed C) (s : Machine C) (r : LogRecord) → NumbersInRange w s → TellsOf s.desk.batches s.book.acts r → AllByRecursion (λ n. w.text.opening.next_bid ≤ n) (batch_bids r)
 record_low w s (machine.BatchInfo k actors tids) n t = let b = mapped_some batch_actors (batch_of k s.desk.batches) actors t.0 in let g = found_all (BatchInRange w s) k b.0 s.desk.batches n.batches b.1 in (subst (λ z. w.text.opening.next_bid ≤ z) g.1 g.0.bid.reached, tt)
 record_low w s (machine.BatchComplete k a st) n t = let b = one_is (λ b. is_among a (batch_actors b)) (batch_of k s.desk.batches) t in let g = found_all (BatchInRange w s) k b.0 s.desk.batches n.batches b.1 in (subst (λ z. w.text.opening.next_bid ≤ z) g.1 g.0.bid.reached, tt)
-record_low w s (machine.BatchCommit k) n t = let b = one_is (λ b. Rattle.std.specs.Prelude.not (is_formed b.stage)) (batch_of k s.desk.batches) t in let g = found_all (BatchInRange w s) k b.0 s.desk.batches n.batches b.1 in (subst (λ z. w.text.opening.next_bid ≤ z) g.1 g.0.bid.reached, tt)
+record_low w s (machine.BatchDone k vs) n t = let b = one_is (λ b. Rattle.std.specs.Prelude.not (is_formed b.stage)) (batch_of k s.desk.batches) t.0 in let g = found_all (BatchInRange w s) k b.0 s.desk.batches n.batches b.1 in (subst (λ z. w.text.opening.next_bid ≤ z) g.1 g.0.bid.reached, tt)
 record_low w s (machine.ActPrepare u a st) n t = tt
-record_low w s (machine.ActCommit u m c actors) n t = tt
+record_low w s (machine.ActDone u m c v actors) n t = tt
 
 act_record_low : {C : Type 0} (w : Fixed C) (s : Machine C) (r : LogRecord) → NumbersInRange w s → TellsOf s.desk.batches s.book.acts r → AllByRecursion (λ n. w.text.opening.next_tid ≤ n) (act_tids r)
 act_record_low w s (machine.BatchInfo k actors tids) n t = tt
 act_record_low w s (machine.BatchComplete k a st) n t = tt
-act_record_low w s (machine.BatchCommit k) n t = tt
+act_record_low w s (machine.BatchDone k vs) n t = tt
 act_record_low w s (machine.ActPrepare u a st) n t = ((prepared_of w s u a n t).1.reached, tt)
-act_record_low w s (machine.ActCommit u m c actors) n t = let g = act_found (ActInRange w s) u t.act s.book.acts n.acts t.found in (subst (λ z. w.text.opening.next_tid ≤ z) g.1 g.0.tid.reached, tt)
+act_record_low w s (machine.ActDone u m c v actors) n t = let g = act_found (ActInRange w s) u t.act s.book.acts n.acts t.found in (subst (λ z. w.text.opening.next_tid ≤ z) g.1 g.0.tid.reached, tt)
 
 bid_fits : (low high k : ℕ) (b : Batch) → high ≤ GREATEST_NUMBER + 1 → IsWithin low high b.bid → b.bid ≡ k → k ≤ GREATEST_NUMBER
 bid_fits low high k b l h e = omega (arith, h.below, l, e)
@@ -174,14 +174,14 @@ record_range w s (machine.BatchComplete k a st) n d f t =
       actors_below = (among_all (λ a. a < length w.text.opening.states) a (batch_actors b.0) b.2 (actors_below (length w.text.opening.states) b.0.places g.0.actors), tt);
       numbers_below = (bid_fits w.text.opening.next_bid s.ring.next_bid k b.0 f.bids g.0.bid g.1, tt);
     }
-record_range w s (machine.BatchCommit k) n d f t =
-    let b = one_is (λ b. Rattle.std.specs.Prelude.not (is_formed b.stage)) (batch_of k s.desk.batches) t in
+record_range w s (machine.BatchDone k vs) n d f t =
+    let b = one_is (λ b. Rattle.std.specs.Prelude.not (is_formed b.stage)) (batch_of k s.desk.batches) t.0 in
     let g = found_all (BatchInRange w s) k b.0 s.desk.batches n.batches b.1 in
     record { actors_below = tt; numbers_below = (bid_fits w.text.opening.next_bid s.ring.next_bid k b.0 f.bids g.0.bid g.1, tt) }
 record_range w s (machine.ActPrepare u a st) n d f t =
     let x = prepared_of w s u a n t in
     record { actors_below = (x.2, tt); numbers_below = (omega (arith, x.1.below, f.tids), tt) }
-record_range w s (machine.ActCommit u m c actors) n d f t =
+record_range w s (machine.ActDone u m c v actors) n d f t =
     let g = act_found (ActInRange w s) u t.act s.book.acts n.acts t.found in
     let k = d u t.act t.found c t.c_is in
     record {

@@ -11,7 +11,7 @@ use Rattle.protocol.specs.Parts.{OfBatch, OfAct, Machine}
 use Rattle.protocol_records.specs.Crash.{is_in, recovered_state}
 use Rattle.protocol_records.specs.SeveralRuns.{recovered_from}
 use Rattle.txn_records.specs.declared.records.Record.{Record}
-use Rattle.txn_records.specs.declared.records.Record.TheVariants.{Genesis, BatchInfo, BatchComplete, BatchCommit, ActPrepare, ActCommit}
+use Rattle.txn_records.specs.declared.records.Record.TheVariants.{Genesis, BatchInfo, BatchComplete, BatchCommit, ActPrepare, ActCommit, BatchDone, ActDone}
 use Rattle.snap_recover.specs.declared.openings.Opening.{Opening}
 use Rattle.snap_recover.specs.Logs.{log_of, tids_in, bids_in}
 use Rattle.snap_recover.specs.Opening.{Counts, IsStateOf}
@@ -41,6 +41,8 @@ agree_old {C} w earlier o s logs a (r ∷ rs) g h k = (one r h.0 k.0, agree_old 
       (λ q. (q.0, elim (act_cases w earlier o s logs t g q.1) [ inl i ↦ i | inr i ↦ absurd (omega (arith, k.0, new_act_low w earlier o s logs t.0 g i)) ])),
     )
     one (ActCommit t m c actors) l k = ((λ q. q), (λ q. q))
+    one (BatchDone b v) l k = ((λ q. q), (λ q. q))
+    one (ActDone t m c v actors) l k = ((λ q. q), (λ q. q))
 
 counted_new : {C : Type 0} (w : Fixed C) (earlier : List (List Record)) (o : Opening) (s : Machine C) (logs : ℕ → List LogRecord) (a : ℕ) (rs : List LogRecord) → Known w earlier o s logs → AllByRecursion (λ r. AllByRecursion (λ n. w.text.opening.next_bid ≤ n) (batch_bids r)) rs → AllByRecursion (λ r. AllByRecursion (λ n. w.text.opening.next_tid ≤ n) (act_tids r)) rs
     → AllByRecursion (Counted (Counts (grown earlier logs) a) w.text.logs logs a) rs
@@ -49,8 +51,8 @@ counted_new {C} w earlier o s logs a (r ∷ rs) g l k = (one r l.0 k.0, counted_
   where
     one : (r : LogRecord) → AllByRecursion (λ n. w.text.opening.next_bid ≤ n) (batch_bids r) → AllByRecursion (λ n. w.text.opening.next_tid ≤ n) (act_tids r) → Counted (Counts (grown earlier logs) a) w.text.logs logs a r
     one (machine.BatchInfo k actors tids) l u = tt
-    one (machine.BatchCommit k) l u = tt
-    one (machine.ActCommit t m c actors) l u = tt
+    one (machine.BatchDone k vs) l u = tt
+    one (machine.ActDone t m c v actors) l u = tt
     one (machine.BatchComplete k c st) l u = (
       (λ e. let v = and_parts (c == a) (is_in w.text.logs logs (OfBatch k)) e in (eqb-true c a v.0, in_new w earlier o s logs k g v.1)),
       (λ e q. elim (in_cases w earlier o s logs (bid_of k) g q.1) [
@@ -71,7 +73,7 @@ state_grown w earlier o s logs a first x g h =
     let P = Counts (grown earlier logs) a in
     let old : StateOver (Counts (grown earlier logs) a) (log_of earlier a) first x = over_alike (Counts earlier a) P (log_of earlier a) first x (agree_old w earlier o s logs a (log_of earlier a) g (old_low w earlier o s logs a g) (old_acts_low w earlier o s logs a g)) h in
     subst (λ z. StateOver (Counts (grown earlier logs) a) z first (recovered_state w.text.logs logs a x)) (sym (log_grown w earlier o s logs a g))
-    (over_written P w.text.logs a logs first (logs (a % w.text.logs)) (log_of earlier a) x (record { infos = λ b actors tids q. q; commits = λ b q. q; acts = λ t m c actors q. q }) (counted_new w earlier o s logs a (logs (a % w.text.logs)) g (g.low (a % w.text.logs)) (g.low_acts (a % w.text.logs))) old)
+    (over_written P w.text.logs a logs first (logs (a % w.text.logs)) (log_of earlier a) x (record { infos = λ b actors tids q. q; commits = λ b v q. q; acts = λ t m c v actors q. q }) (counted_new w earlier o s logs a (logs (a % w.text.logs)) g (g.low (a % w.text.logs)) (g.low_acts (a % w.text.logs))) old)
 
 pub states_grown : {C : Type 0} (w : Fixed C) (earlier : List (List Record)) (o : Opening) (s : Machine C) (logs : ℕ → List LogRecord) (n : ℕ) (first states : List State) → Known w earlier o s logs → AllZip (λ (x : ℕ × State) t. IsStateOf earlier x.0 x.1 t) (enumerate_from n first) states
     → AllZip (λ (x : ℕ × State) t. IsStateOf (grown earlier logs) x.0 x.1 t) (enumerate_from n first) (recovered_from w.text.logs logs n states)

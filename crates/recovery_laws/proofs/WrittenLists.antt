@@ -1,5 +1,5 @@
 -- Records as they are written: their keys, numbers and states.
-use Rattle.std.specs.Prelude.{◌≡◌, refl, ℕ, zero, suc, ◌+◌, ◌<◌, ◌≤◌, ◌==◌, max, Bool, true, false, ◌&&◌, if◌then◌else◌, List, [], ◌∷◌, ◌++◌, length, map, filter, slice_index_or, Contains}
+use Rattle.std.specs.Prelude.{◌≡◌, refl, ℕ, ℤ, zero, suc, ◌+◌, ◌<◌, ◌≤◌, ◌==◌, max, Bool, true, false, ◌&&◌, if◌then◌else◌, List, [], ◌∷◌, ◌++◌, length, map, filter, slice_index_or, Contains}
 use Rattle.std.specs.List.{AllByRecursion, list_any, flat_map}
 use Rattle.std.proofs.Common.{arith, sym, ap, subst, inl, inr, ◌∙◌, append_assoc}
 use Rattle.std.proofs.lemmas.Bool.{true≢false, or_cases, or_left, or_right, or_parts, and_parts, and_from, eqb-true, eq-eqb}
@@ -13,7 +13,7 @@ use Rattle.protocol.specs.Records.{LogRecord, is_info, is_complete, is_commit, i
 use Rattle.protocol.specs.Words as words
 use Rattle.protocol_records.specs.Crash as crash
 use Rattle.txn_records.specs.declared.records.Record.{Record}
-use Rattle.txn_records.specs.declared.records.Record.TheVariants.{BatchInfo, BatchComplete, BatchCommit, ActPrepare, ActCommit}
+use Rattle.txn_records.specs.declared.records.Record.TheVariants.{BatchInfo, BatchComplete, BatchDone, ActPrepare, ActDone}
 use Rattle.txn_records.specs.declared.keys.Key.TheVariants as keys
 use Rattle.txn_records.specs.Records.{key, actor_numbers, tid_numbers}
 use Rattle.snap_recover.specs.Logs.{Has, all_of, tids_in, bids_in, commits_in, states_in, is_genesis, geneses}
@@ -40,20 +40,20 @@ pub has_commit : (rs : List LogRecord) (b : Bid) → Has (all_told rs) (keys.Com
 has_commit [] b h = absurd (contains_none (keys.Commit b) h)
 has_commit (machine.BatchInfo k actors tids ∷ rs) b h = elim (contains_cases (keys.Info (bid_of k)) (keys.Commit b) (map key (all_told rs)) h) [ inl e ↦ absurd (cc e) | inr g ↦ has_commit rs b g ]
 has_commit (machine.BatchComplete k a st ∷ rs) b h = elim (contains_cases (keys.Complete (bid_of k) (record { 0 = a })) (keys.Commit b) (map key (all_told rs)) h) [ inl e ↦ absurd (cc e) | inr g ↦ has_commit rs b g ]
-has_commit (machine.BatchCommit k ∷ rs) b h = elim (contains_cases (keys.Commit (bid_of k)) (keys.Commit b) (map key (all_told rs)) h) [ inl e ↦ or_left (k == b.0) _ (eq-eqb k b.0 (commit_bid k b e)) | inr g ↦ or_right (k == b.0) _ (has_commit rs b g) ]
+has_commit (machine.BatchDone k vs ∷ rs) b h = elim (contains_cases (keys.Commit (bid_of k)) (keys.Commit b) (map key (all_told rs)) h) [ inl e ↦ or_left (k == b.0) _ (eq-eqb k b.0 (commit_bid k b e)) | inr g ↦ or_right (k == b.0) _ (has_commit rs b g) ]
 has_commit (machine.ActPrepare t a st ∷ rs) b h = elim (contains_cases (keys.Prepare (tid_of t) (actor_of a)) (keys.Commit b) (map key (all_told rs)) h) [ inl e ↦ absurd (cc e) | inr g ↦ has_commit rs b g ]
-has_commit (machine.ActCommit t m c actors ∷ rs) b h = elim (contains_cases (keys.Act (tid_of t)) (keys.Commit b) (map key (all_told rs)) h) [ inl e ↦ absurd (cc e) | inr g ↦ has_commit rs b g ]
+has_commit (machine.ActDone t m c v actors ∷ rs) b h = elim (contains_cases (keys.Act (tid_of t)) (keys.Commit b) (map key (all_told rs)) h) [ inl e ↦ absurd (cc e) | inr g ↦ has_commit rs b g ]
 
 pub commit_has : (rs : List LogRecord) (k : ℕ) → list_any (is_commit k) rs ≡ true → Has (all_told rs) (keys.Commit (bid_of k))
 commit_has [] k h = absurd (true≢false (sym h))
 commit_has (machine.BatchInfo j actors tids ∷ rs) k h = contains_there (keys.Info (bid_of j)) (keys.Commit (bid_of k)) (map key (all_told rs)) (commit_has rs k h)
 commit_has (machine.BatchComplete j a st ∷ rs) k h = contains_there (keys.Complete (bid_of j) (record { 0 = a })) (keys.Commit (bid_of k)) (map key (all_told rs)) (commit_has rs k h)
-commit_has (machine.BatchCommit j ∷ rs) k h = elim (or_cases (j == k) _ h) [
+commit_has (machine.BatchDone j vs ∷ rs) k h = elim (or_cases (j == k) _ h) [
   | inl e ↦ subst (λ z. Contains (keys.Commit (bid_of j) ∷ map key (all_told rs)) (keys.Commit (bid_of z))) (eqb-true j k e) (contains_here (keys.Commit (bid_of j)) (map key (all_told rs)))
   | inr g ↦ contains_there (keys.Commit (bid_of j)) (keys.Commit (bid_of k)) (map key (all_told rs)) (commit_has rs k g)
 ]
 commit_has (machine.ActPrepare t a st ∷ rs) k h = contains_there (keys.Prepare (tid_of t) (actor_of a)) (keys.Commit (bid_of k)) (map key (all_told rs)) (commit_has rs k h)
-commit_has (machine.ActCommit t m c actors ∷ rs) k h = contains_there (keys.Act (tid_of t)) (keys.Commit (bid_of k)) (map key (all_told rs)) (commit_has rs k h)
+commit_has (machine.ActDone t m c v actors ∷ rs) k h = contains_there (keys.Act (tid_of t)) (keys.Commit (bid_of k)) (map key (all_told rs)) (commit_has rs k h)
 
 pub complete_has : (rs : List LogRecord) (k c : ℕ) → list_any (is_complete k c) rs ≡ true → Has (all_told rs) (keys.Complete (bid_of k) (record { 0 = c }))
 complete_has [] k c h = absurd (true≢false (sym h))
@@ -64,9 +64,9 @@ complete_has (machine.BatchComplete j a st ∷ rs) k c h = elim (or_cases ((j ==
       (subst (λ z. Contains (keys.Complete (bid_of j) (record { 0 = a }) ∷ map key (all_told rs)) (keys.Complete (bid_of j) (record { 0 = z }))) (eqb-true a c v.1) (contains_here (keys.Complete (bid_of j) (record { 0 = a })) (map key (all_told rs))))
   | inr g ↦ contains_there (keys.Complete (bid_of j) (record { 0 = a })) (keys.Complete (bid_of k) (record { 0 = c })) (map key (all_told rs)) (complete_has rs k c g)
 ]
-complete_has (machine.BatchCommit j ∷ rs) k c h = contains_there (keys.Commit (bid_of j)) (keys.Complete (bid_of k) (record { 0 = c })) (map key (all_told rs)) (complete_has rs k c h)
+complete_has (machine.BatchDone j vs ∷ rs) k c h = contains_there (keys.Commit (bid_of j)) (keys.Complete (bid_of k) (record { 0 = c })) (map key (all_told rs)) (complete_has rs k c h)
 complete_has (machine.ActPrepare t a st ∷ rs) k c h = contains_there (keys.Prepare (tid_of t) (actor_of a)) (keys.Complete (bid_of k) (actor_of c)) (map key (all_told rs)) (complete_has rs k c h)
-complete_has (machine.ActCommit t m d actors ∷ rs) k c h = contains_there (keys.Act (tid_of t)) (keys.Complete (bid_of k) (actor_of c)) (map key (all_told rs)) (complete_has rs k c h)
+complete_has (machine.ActDone t m d v actors ∷ rs) k c h = contains_there (keys.Act (tid_of t)) (keys.Complete (bid_of k) (actor_of c)) (map key (all_told rs)) (complete_has rs k c h)
 
 -- ---- ACTs
 
@@ -77,17 +77,17 @@ pub has_act : (rs : List LogRecord) (u : Tid) → Has (all_told rs) (keys.Act u)
 has_act [] u h = absurd (contains_none (keys.Act u) h)
 has_act (machine.BatchInfo k actors tids ∷ rs) u h = elim (contains_cases (keys.Info (bid_of k)) (keys.Act u) (map key (all_told rs)) h) [ inl e ↦ absurd (cc e) | inr g ↦ has_act rs u g ]
 has_act (machine.BatchComplete k a st ∷ rs) u h = elim (contains_cases (keys.Complete (bid_of k) (actor_of a)) (keys.Act u) (map key (all_told rs)) h) [ inl e ↦ absurd (cc e) | inr g ↦ has_act rs u g ]
-has_act (machine.BatchCommit k ∷ rs) u h = elim (contains_cases (keys.Commit (bid_of k)) (keys.Act u) (map key (all_told rs)) h) [ inl e ↦ absurd (cc e) | inr g ↦ has_act rs u g ]
+has_act (machine.BatchDone k vs ∷ rs) u h = elim (contains_cases (keys.Commit (bid_of k)) (keys.Act u) (map key (all_told rs)) h) [ inl e ↦ absurd (cc e) | inr g ↦ has_act rs u g ]
 has_act (machine.ActPrepare t a st ∷ rs) u h = elim (contains_cases (keys.Prepare (tid_of t) (actor_of a)) (keys.Act u) (map key (all_told rs)) h) [ inl e ↦ absurd (cc e) | inr g ↦ has_act rs u g ]
-has_act (machine.ActCommit t m c actors ∷ rs) u h = elim (contains_cases (keys.Act (tid_of t)) (keys.Act u) (map key (all_told rs)) h) [ inl e ↦ or_left (t == u.0) _ (eq-eqb t u.0 (act_tid t u e)) | inr g ↦ or_right (t == u.0) _ (has_act rs u g) ]
+has_act (machine.ActDone t m c v actors ∷ rs) u h = elim (contains_cases (keys.Act (tid_of t)) (keys.Act u) (map key (all_told rs)) h) [ inl e ↦ or_left (t == u.0) _ (eq-eqb t u.0 (act_tid t u e)) | inr g ↦ or_right (t == u.0) _ (has_act rs u g) ]
 
 pub act_has : (rs : List LogRecord) (u : ℕ) → list_any (is_act_commit u) rs ≡ true → Has (all_told rs) (keys.Act (tid_of u))
 act_has [] u h = absurd (true≢false (sym h))
 act_has (machine.BatchInfo j actors tids ∷ rs) u h = contains_there (keys.Info (bid_of j)) (keys.Act (tid_of u)) (map key (all_told rs)) (act_has rs u h)
 act_has (machine.BatchComplete j a st ∷ rs) u h = contains_there (keys.Complete (bid_of j) (actor_of a)) (keys.Act (tid_of u)) (map key (all_told rs)) (act_has rs u h)
-act_has (machine.BatchCommit j ∷ rs) u h = contains_there (keys.Commit (bid_of j)) (keys.Act (tid_of u)) (map key (all_told rs)) (act_has rs u h)
+act_has (machine.BatchDone j vs ∷ rs) u h = contains_there (keys.Commit (bid_of j)) (keys.Act (tid_of u)) (map key (all_told rs)) (act_has rs u h)
 act_has (machine.ActPrepare t a st ∷ rs) u h = contains_there (keys.Prepare (tid_of t) (actor_of a)) (keys.Act (tid_of u)) (map key (all_told rs)) (act_has rs u h)
-act_has (machine.ActCommit t m c actors ∷ rs) u h = elim (or_cases (t == u) _ h) [
+act_has (machine.ActDone t m c v actors ∷ rs) u h = elim (or_cases (t == u) _ h) [
   | inl e ↦ subst (λ z. Contains (keys.Act (tid_of t) ∷ map key (all_told rs)) (keys.Act (tid_of z))) (eqb-true t u e) (contains_here (keys.Act (tid_of t)) (map key (all_told rs)))
   | inr g ↦ contains_there (keys.Act (tid_of t)) (keys.Act (tid_of u)) (map key (all_told rs)) (act_has rs u g)
 ]
@@ -96,38 +96,38 @@ pub prepare_has : (rs : List LogRecord) (u c : ℕ) → list_any (is_prepare u c
 prepare_has [] u c h = absurd (true≢false (sym h))
 prepare_has (machine.BatchInfo j actors tids ∷ rs) u c h = contains_there (keys.Info (bid_of j)) (keys.Prepare (tid_of u) (actor_of c)) (map key (all_told rs)) (prepare_has rs u c h)
 prepare_has (machine.BatchComplete j a st ∷ rs) u c h = contains_there (keys.Complete (bid_of j) (actor_of a)) (keys.Prepare (tid_of u) (actor_of c)) (map key (all_told rs)) (prepare_has rs u c h)
-prepare_has (machine.BatchCommit j ∷ rs) u c h = contains_there (keys.Commit (bid_of j)) (keys.Prepare (tid_of u) (actor_of c)) (map key (all_told rs)) (prepare_has rs u c h)
+prepare_has (machine.BatchDone j vs ∷ rs) u c h = contains_there (keys.Commit (bid_of j)) (keys.Prepare (tid_of u) (actor_of c)) (map key (all_told rs)) (prepare_has rs u c h)
 prepare_has (machine.ActPrepare t a st ∷ rs) u c h = elim (or_cases ((t == u) && (a == c)) _ h) [
   | inl e ↦ let v = and_parts (t == u) (a == c) e in
       subst (λ z. Contains (keys.Prepare (tid_of t) (actor_of a) ∷ map key (all_told rs)) (keys.Prepare (tid_of z) (actor_of c))) (eqb-true t u v.0)
       (subst (λ z. Contains (keys.Prepare (tid_of t) (actor_of a) ∷ map key (all_told rs)) (keys.Prepare (tid_of t) (actor_of z))) (eqb-true a c v.1) (contains_here (keys.Prepare (tid_of t) (actor_of a)) (map key (all_told rs))))
   | inr g ↦ contains_there (keys.Prepare (tid_of t) (actor_of a)) (keys.Prepare (tid_of u) (actor_of c)) (map key (all_told rs)) (prepare_has rs u c g)
 ]
-prepare_has (machine.ActCommit t m d actors ∷ rs) u c h = contains_there (keys.Act (tid_of t)) (keys.Prepare (tid_of u) (actor_of c)) (map key (all_told rs)) (prepare_has rs u c h)
+prepare_has (machine.ActDone t m d v actors ∷ rs) u c h = contains_there (keys.Act (tid_of t)) (keys.Prepare (tid_of u) (actor_of c)) (map key (all_told rs)) (prepare_has rs u c h)
 
 pub no_act : (rs : List LogRecord) (u : Tid) → list_any (is_act_commit u.0) rs ≡ false → AllByRecursion (λ r. ¬ (key r ≡ keys.Act u)) (all_told rs)
 no_act [] u h = tt
 no_act (machine.BatchInfo k actors tids ∷ rs) u h = ((λ e. absurd (cc e)), no_act rs u h)
 no_act (machine.BatchComplete k a st ∷ rs) u h = ((λ e. absurd (cc e)), no_act rs u h)
-no_act (machine.BatchCommit k ∷ rs) u h = ((λ e. absurd (cc e)), no_act rs u h)
+no_act (machine.BatchDone k vs ∷ rs) u h = ((λ e. absurd (cc e)), no_act rs u h)
 no_act (machine.ActPrepare t a st ∷ rs) u h = ((λ e. absurd (cc e)), no_act rs u h)
-no_act (machine.ActCommit t m c actors ∷ rs) u h = let v = or_parts (t == u.0) (list_any (is_act_commit u.0) rs) h in ((λ e. true≢false (sym (eq-eqb t u.0 (act_tid t u e)) ∙ v.0)), no_act rs u v.1)
+no_act (machine.ActDone t m c w actors ∷ rs) u h = let v = or_parts (t == u.0) (list_any (is_act_commit u.0) rs) h in ((λ e. true≢false (sym (eq-eqb t u.0 (act_tid t u e)) ∙ v.0)), no_act rs u v.1)
 
 -- the ACT of a record, where it is one of an ACT
 abbrev pub act_tids : LogRecord → List ℕ
 act_tids (machine.BatchInfo k actors tids) = []
 act_tids (machine.BatchComplete k a st) = []
-act_tids (machine.BatchCommit k) = []
+act_tids (machine.BatchDone k vs) = []
 act_tids (machine.ActPrepare t a st) = t ∷ []
-act_tids (machine.ActCommit t m c actors) = t ∷ []
+act_tids (machine.ActDone t m c v actors) = t ∷ []
 
 pub act_from : (rs : List LogRecord) (low u : ℕ) → AllByRecursion (λ r. AllByRecursion (λ n. low ≤ n) (act_tids r)) rs → list_any (is_act_commit u) rs ≡ true → low ≤ u
 act_from [] low u h e = absurd (true≢false (sym e))
 act_from (machine.BatchInfo j actors tids ∷ rs) low u h e = act_from rs low u h.1 e
 act_from (machine.BatchComplete j a st ∷ rs) low u h e = act_from rs low u h.1 e
-act_from (machine.BatchCommit j ∷ rs) low u h e = act_from rs low u h.1 e
+act_from (machine.BatchDone j vs ∷ rs) low u h e = act_from rs low u h.1 e
 act_from (machine.ActPrepare t a st ∷ rs) low u h e = act_from rs low u h.1 e
-act_from (machine.ActCommit t m c actors ∷ rs) low u h e = elim (or_cases (t == u) _ e) [ inl q ↦ omega (arith, h.0.0, eqb-true t u q) | inr q ↦ act_from rs low u h.1 q ]
+act_from (machine.ActDone t m c v actors ∷ rs) low u h e = elim (or_cases (t == u) _ e) [ inl q ↦ omega (arith, h.0.0, eqb-true t u q) | inr q ↦ act_from rs low u h.1 q ]
 
 -- ---- infos
 
@@ -135,34 +135,63 @@ pub no_info : (rs : List LogRecord) (b : Bid) → list_any (is_info b.0) rs ≡ 
 no_info [] b h = tt
 no_info (machine.BatchInfo k actors tids ∷ rs) b h = let v = or_parts (k == b.0) (list_any (is_info b.0) rs) h in ((λ e. let s : bid_of k ≡ b = cc e in true≢false (sym (eq-eqb k b.0 (ap (λ z. z.0) s)) ∙ v.0)), no_info rs b v.1)
 no_info (machine.BatchComplete k a st ∷ rs) b h = ((λ e. absurd (cc e)), no_info rs b h)
-no_info (machine.BatchCommit k ∷ rs) b h = ((λ e. absurd (cc e)), no_info rs b h)
+no_info (machine.BatchDone k vs ∷ rs) b h = ((λ e. absurd (cc e)), no_info rs b h)
 no_info (machine.ActPrepare t a st ∷ rs) b h = ((λ e. absurd (cc e)), no_info rs b h)
-no_info (machine.ActCommit t m c actors ∷ rs) b h = ((λ e. absurd (cc e)), no_info rs b h)
+no_info (machine.ActDone t m c v actors ∷ rs) b h = ((λ e. absurd (cc e)), no_info rs b h)
+
+pub no_done : (rs : List LogRecord) (b : Bid) → list_any (is_commit b.0) rs ≡ false → AllByRecursion (λ r. ¬ (key r ≡ keys.Commit b)) (all_told rs)
+no_done [] b h = tt
+no_done (machine.BatchInfo k actors tids ∷ rs) b h = ((λ e. absurd (cc e)), no_done rs b h)
+no_done (machine.BatchComplete k a st ∷ rs) b h = ((λ e. absurd (cc e)), no_done rs b h)
+no_done (machine.BatchDone k vs ∷ rs) b h = let v = or_parts (k == b.0) (list_any (is_commit b.0) rs) h in ((λ e. true≢false (sym (eq-eqb k b.0 (commit_bid k b e)) ∙ v.0)), no_done rs b v.1)
+no_done (machine.ActPrepare t a st ∷ rs) b h = ((λ e. absurd (cc e)), no_done rs b h)
+no_done (machine.ActDone t m c v actors ∷ rs) b h = ((λ e. absurd (cc e)), no_done rs b h)
+
+-- where the commit of a batch stands
+pub record DoneAt (k : ℕ) (rs : List LogRecord) : Type 0 where
+  pub values : List ℤ
+  pub front : List LogRecord
+  pub rest : List LogRecord
+  pub splits : rs ≡ front ++ machine.BatchDone k values ∷ rest
+
+done_behind : (k : ℕ) (r : LogRecord) (rs : List LogRecord) → DoneAt k rs → DoneAt k (r ∷ rs)
+done_behind k r rs d = record { values = d.values; front = r ∷ d.front; rest = d.rest; splits = ap (λ l. r ∷ l) d.splits }
+
+pub done_at : (k : ℕ) (rs : List LogRecord) → list_any (is_commit k) rs ≡ true → DoneAt k rs
+done_at k [] h = absurd (true≢false (sym h))
+done_at k (machine.BatchInfo j actors tids ∷ rs) h = done_behind k (machine.BatchInfo j actors tids) rs (done_at k rs h)
+done_at k (machine.BatchComplete j a st ∷ rs) h = done_behind k (machine.BatchComplete j a st) rs (done_at k rs h)
+done_at k (machine.BatchDone j vs ∷ rs) h = elim (or_cases (j == k) _ h) [
+  | inl e ↦ record { values = vs; front = []; rest = rs; splits = ap (λ z. machine.BatchDone z vs ∷ rs) (eqb-true j k e) }
+  | inr g ↦ done_behind k (machine.BatchDone j vs) rs (done_at k rs g)
+]
+done_at k (machine.ActPrepare t a st ∷ rs) h = done_behind k (machine.ActPrepare t a st) rs (done_at k rs h)
+done_at k (machine.ActDone t m c v actors ∷ rs) h = done_behind k (machine.ActDone t m c v actors) rs (done_at k rs h)
 
 -- the batch of a record, where it is one of a batch
 abbrev pub batch_bids : LogRecord → List ℕ
 batch_bids (machine.BatchInfo k actors tids) = k ∷ []
 batch_bids (machine.BatchComplete k a st) = k ∷ []
-batch_bids (machine.BatchCommit k) = k ∷ []
+batch_bids (machine.BatchDone k vs) = k ∷ []
 batch_bids (machine.ActPrepare t a st) = []
-batch_bids (machine.ActCommit t m c actors) = []
+batch_bids (machine.ActDone t m c v actors) = []
 
 -- a record from a number on is of no batch below it
 pub info_above : (rs : List LogRecord) (low k : ℕ) → k < low → AllByRecursion (λ r. AllByRecursion (λ n. low ≤ n) (batch_bids r)) rs → list_any (is_info k) rs ≡ false
 info_above [] low k l h = refl
 info_above (machine.BatchInfo j actors tids ∷ rs) low k l h = let e : (j == k) ≡ false = Rattle.std.proofs.lemmas.Bool.ne_eqb j k (λ q. omega (arith, q, l, h.0.0)) in rw (e, info_above rs low k l h.1) refl
 info_above (machine.BatchComplete j a st ∷ rs) low k l h = info_above rs low k l h.1
-info_above (machine.BatchCommit j ∷ rs) low k l h = info_above rs low k l h.1
+info_above (machine.BatchDone j vs ∷ rs) low k l h = info_above rs low k l h.1
 info_above (machine.ActPrepare t a st ∷ rs) low k l h = info_above rs low k l h.1
-info_above (machine.ActCommit t m c actors ∷ rs) low k l h = info_above rs low k l h.1
+info_above (machine.ActDone t m c v actors ∷ rs) low k l h = info_above rs low k l h.1
 
 pub commit_from : (rs : List LogRecord) (low k : ℕ) → AllByRecursion (λ r. AllByRecursion (λ n. low ≤ n) (batch_bids r)) rs → list_any (is_commit k) rs ≡ true → low ≤ k
 commit_from [] low k h e = absurd (true≢false (sym e))
 commit_from (machine.BatchInfo j actors tids ∷ rs) low k h e = commit_from rs low k h.1 e
 commit_from (machine.BatchComplete j a st ∷ rs) low k h e = commit_from rs low k h.1 e
-commit_from (machine.BatchCommit j ∷ rs) low k h e = elim (or_cases (j == k) _ e) [ inl q ↦ omega (arith, h.0.0, eqb-true j k q) | inr q ↦ commit_from rs low k h.1 q ]
+commit_from (machine.BatchDone j vs ∷ rs) low k h e = elim (or_cases (j == k) _ e) [ inl q ↦ omega (arith, h.0.0, eqb-true j k q) | inr q ↦ commit_from rs low k h.1 q ]
 commit_from (machine.ActPrepare t a st ∷ rs) low k h e = commit_from rs low k h.1 e
-commit_from (machine.ActCommit t m c actors ∷ rs) low k h e = commit_from rs low k h.1 e
+commit_from (machine.ActDone t m c v actors ∷ rs) low k h e = commit_from rs low k h.1 e
 
 -- ---- states
 
@@ -170,15 +199,15 @@ commit_from (machine.ActCommit t m c actors ∷ rs) low k h e = commit_from rs l
 abbrev pub Counted : (Record → Type 0) → ℕ → (ℕ → List LogRecord) → ℕ → LogRecord → Type 0
 Counted P many logs a (machine.BatchInfo k actors tids) = Unit {0}
 Counted P many logs a (machine.BatchComplete k c st) = (crash.counts many logs a (machine.BatchComplete k c st) ≡ true → P (BatchComplete (bid_of k) (actor_of c) st)) × (crash.counts many logs a (machine.BatchComplete k c st) ≡ false → ¬ P (BatchComplete (bid_of k) (record { 0 = c }) st))
-Counted P many logs a (machine.BatchCommit k) = Unit {0}
+Counted P many logs a (machine.BatchDone k vs) = Unit {0}
 Counted P many logs a (machine.ActPrepare t c st) = (crash.counts many logs a (machine.ActPrepare t c st) ≡ true → P (ActPrepare (tid_of t) (actor_of c) st)) × (crash.counts many logs a (machine.ActPrepare t c st) ≡ false → ¬ P (ActPrepare (tid_of t) (actor_of c) st))
-Counted P many logs a (machine.ActCommit t m c actors) = Unit {0}
+Counted P many logs a (machine.ActDone t m c v actors) = Unit {0}
 
 -- infos and commits tell no state
 pub record IsOfStates (P : Record → Type 0) : Type 0 where
   pub infos : (b : Bid) (actors : List ActorId) (tids : List Tid) → ¬ P (BatchInfo b actors tids)
-  pub commits : (b : Bid) → ¬ P (BatchCommit b)
-  pub acts : (t : Tid) (m : Bid) (c : ℕ) (actors : List ActorId) → ¬ P (ActCommit t m c actors)
+  pub commits : (b : Bid) (values : List ℤ) → ¬ P (BatchDone b values)
+  pub acts : (t : Tid) (m : Bid) (c : ℕ) (value : ℤ) (actors : List ActorId) → ¬ P (ActDone t m c value actors)
 
 -- a record that tells a state, where it counts and where it does not
 over_told : (P : Record → Type 0) (many a : ℕ) (logs : ℕ → List LogRecord) (first : State) (m : LogRecord) (rs : List LogRecord) (r : Record) (st : State) (front : List Record) (s : State) → states_in r ≡ st ∷ [] → ((x : State) → crash.state_told x m ≡ st)
@@ -200,14 +229,14 @@ over_written P many a logs first (machine.BatchInfo k actors tids ∷ rs) front 
     let r = BatchInfo (bid_of k) (actors_of actors) (tids_of tids) in
     subst (λ z. StateOver P z first (crash.last_told s (filter (crash.counts many logs a) rs))) (append_assoc front (r ∷ []) (all_told rs))
     (over_written P many a logs first rs (front ++ r ∷ []) s i h.1 (over_quiet P front (r ∷ []) first s (i.infos (bid_of k) (actors_of actors) (tids_of tids), tt) o))
-over_written P many a logs first (machine.BatchCommit k ∷ rs) front s i h o =
-    let r = BatchCommit (bid_of k) in
+over_written P many a logs first (machine.BatchDone k vs ∷ rs) front s i h o =
+    let r = BatchDone (bid_of k) vs in
     subst (λ z. StateOver P z first (crash.last_told s (filter (crash.counts many logs a) rs))) (append_assoc front (r ∷ []) (all_told rs))
-    (over_written P many a logs first rs (front ++ r ∷ []) s i h.1 (over_quiet P front (r ∷ []) first s (i.commits (bid_of k), tt) o))
-over_written P many a logs first (machine.ActCommit t m c actors ∷ rs) front s i h o =
-    let r = ActCommit (tid_of t) (bid_of m) c (actors_of actors) in
+    (over_written P many a logs first rs (front ++ r ∷ []) s i h.1 (over_quiet P front (r ∷ []) first s (i.commits (bid_of k) vs, tt) o))
+over_written P many a logs first (machine.ActDone t m c v actors ∷ rs) front s i h o =
+    let r = ActDone (tid_of t) (bid_of m) c v (actors_of actors) in
     subst (λ z. StateOver P z first (crash.last_told s (filter (crash.counts many logs a) rs))) (append_assoc front (r ∷ []) (all_told rs))
-    (over_written P many a logs first rs (front ++ r ∷ []) s i h.1 (over_quiet P front (r ∷ []) first s (i.acts (tid_of t) (bid_of m) c (actors_of actors), tt) o))
+    (over_written P many a logs first rs (front ++ r ∷ []) s i h.1 (over_quiet P front (r ∷ []) first s (i.acts (tid_of t) (bid_of m) c v (actors_of actors), tt) o))
 over_written P many a logs first (machine.BatchComplete k c st ∷ rs) front s i h o = over_told P many a logs first (machine.BatchComplete k c st) rs (BatchComplete (bid_of k) (actor_of c) st) st front s refl (λ x. refl) h.0.0 h.0.1 (λ f t x. over_written P many a logs first rs f t i h.1 x) o
 over_written P many a logs first (machine.ActPrepare t c st ∷ rs) front s i h o = over_told P many a logs first (machine.ActPrepare t c st) rs (ActPrepare (tid_of t) (actor_of c) st) st front s refl (λ x. refl) h.0.0 h.0.1 (λ f t x. over_written P many a logs first rs f t i h.1 x) o
 
@@ -225,33 +254,33 @@ pub tids_written : (rs : List LogRecord) → flat_map tids_in (all_told rs) ≡ 
 tids_written [] = refl
 tids_written (machine.BatchInfo k actors tids ∷ rs) = ap (λ z. z ++ flat_map tids_in (all_told rs)) (same_tids tids) ∙ ap (λ z. tids ++ z) (tids_written rs)
 tids_written (machine.BatchComplete k a st ∷ rs) = tids_written rs
-tids_written (machine.BatchCommit k ∷ rs) = tids_written rs
+tids_written (machine.BatchDone k vs ∷ rs) = tids_written rs
 tids_written (machine.ActPrepare t a st ∷ rs) = ap (λ z. t ∷ z) (tids_written rs)
-tids_written (machine.ActCommit t m c actors ∷ rs) = ap (λ z. t ∷ z) (tids_written rs)
+tids_written (machine.ActDone t m c v actors ∷ rs) = ap (λ z. t ∷ z) (tids_written rs)
 
 pub bids_written : (rs : List LogRecord) → flat_map bids_in (all_told rs) ≡ flat_map crash.bids_in rs
 bids_written [] = refl
 bids_written (machine.BatchInfo k actors tids ∷ rs) = ap (λ z. k ∷ z) (bids_written rs)
 bids_written (machine.BatchComplete k a st ∷ rs) = ap (λ z. k ∷ z) (bids_written rs)
-bids_written (machine.BatchCommit k ∷ rs) = ap (λ z. k ∷ z) (bids_written rs)
+bids_written (machine.BatchDone k vs ∷ rs) = ap (λ z. k ∷ z) (bids_written rs)
 bids_written (machine.ActPrepare t a st ∷ rs) = bids_written rs
-bids_written (machine.ActCommit t m c actors ∷ rs) = ap (λ z. m ∷ z) (bids_written rs)
+bids_written (machine.ActDone t m c v actors ∷ rs) = ap (λ z. m ∷ z) (bids_written rs)
 
 pub cs_written : (rs : List LogRecord) → flat_map commits_in (all_told rs) ≡ flat_map crash.cs_in rs
 cs_written [] = refl
 cs_written (machine.BatchInfo k actors tids ∷ rs) = cs_written rs
 cs_written (machine.BatchComplete k a st ∷ rs) = cs_written rs
-cs_written (machine.BatchCommit k ∷ rs) = cs_written rs
+cs_written (machine.BatchDone k vs ∷ rs) = cs_written rs
 cs_written (machine.ActPrepare t a st ∷ rs) = cs_written rs
-cs_written (machine.ActCommit t m c actors ∷ rs) = ap (λ z. c ∷ z) (cs_written rs)
+cs_written (machine.ActDone t m c v actors ∷ rs) = ap (λ z. c ∷ z) (cs_written rs)
 
 pub no_genesis : (rs : List LogRecord) → filter is_genesis (all_told rs) ≡ []
 no_genesis [] = refl
 no_genesis (machine.BatchInfo k actors tids ∷ rs) = no_genesis rs
 no_genesis (machine.BatchComplete k a st ∷ rs) = no_genesis rs
-no_genesis (machine.BatchCommit k ∷ rs) = no_genesis rs
+no_genesis (machine.BatchDone k vs ∷ rs) = no_genesis rs
 no_genesis (machine.ActPrepare t a st ∷ rs) = no_genesis rs
-no_genesis (machine.ActCommit t m c actors ∷ rs) = no_genesis rs
+no_genesis (machine.ActDone t m c v actors ∷ rs) = no_genesis rs
 
 -- ---- all logs
 

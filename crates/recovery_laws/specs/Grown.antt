@@ -1,10 +1,15 @@
 -- The records of a run as they are written, behind those of earlier runs, and the opening to which they recover.
-use Rattle.std.specs.Prelude.{◌≡◌, ℕ, ◌+◌, ◌==◌, nat_lt, nat_le, Bool, ◌&&◌, ◌||◌, if◌then◌else◌, List, [], ◌∷◌, ◌++◌, map}
+use Rattle.std.specs.Prelude.{◌≡◌, ℕ, ℤ, ◌+◌, ◌==◌, nat_lt, nat_le, Bool, ◌&&◌, ◌||◌, if◌then◌else◌, Option, Some, None, List, [], ◌∷◌, ◌++◌, map}
+use Rattle.snap_base.specs.declared.ids.Tid.{Tid}
+use Rattle.snap_base.specs.declared.transactions.TxResult.{TxResult}
+use Rattle.snap_base.specs.declared.transactions.TxResult.TheVariants.{Value, Fail}
 use Rattle.snap_base.specs.declared.verdicts.Place.{Place}
 use Rattle.protocol.specs.Fixed.{Text, Fixed}
 use Rattle.protocol.specs.Records.{LogRecord}
 use Rattle.protocol.specs.Parts.{Act, Status, Live, Doomed, Decided, Sealed, OfBatch, OfAct, Batch, Machine}
+use Rattle.protocol.specs.Words.{value_of}
 use Rattle.protocol.specs.Verdicts.{pact_place, act_place}
+use Rattle.protocol.specs.History.{Done}
 use Rattle.protocol_records.specs.Crash.{is_in}
 use Rattle.protocol_records.specs.NextNumbers.{next_tid_of, next_bid_of, next_c_of}
 use Rattle.protocol_records.specs.SeveralRuns.{recovered_from}
@@ -26,10 +31,10 @@ grown earlier logs = grown_from 0 earlier logs
 
 -- A batch stands before all later ones, and an ACT behind its batch m, by its commit number and then by its tid.
 abbrev pub comes_before : Kept → Kept → Bool
-comes_before (kept.Batch b tids) (kept.Batch b' tids') = nat_lt b.0 b'.0
-comes_before (kept.Batch b tids) (kept.Act t m c) = nat_le b.0 m.0
-comes_before (kept.Act t m c) (kept.Batch b tids) = nat_lt m.0 b.0
-comes_before (kept.Act t m c) (kept.Act t' m' c') = nat_lt m.0 m'.0 || ((m.0 == m'.0) && (nat_lt c c' || ((c == c') && nat_lt t.0 t'.0)))
+comes_before (kept.Batch b tids vs) (kept.Batch b' tids' vs') = nat_lt b.0 b'.0
+comes_before (kept.Batch b tids vs) (kept.Act t m c v) = nat_le b.0 m.0
+comes_before (kept.Act t m c v) (kept.Batch b tids vs) = nat_lt m.0 b.0
+comes_before (kept.Act t m c v) (kept.Act t' m' c' v') = nat_lt m.0 m'.0 || ((m.0 == m'.0) && (nat_lt c c' || ((c == c') && nat_lt t.0 t'.0)))
 
 -- before the first one that it comes before
 abbrev pub put_in : Kept → List Kept → List Kept
@@ -37,7 +42,7 @@ put_in k [] = k ∷ []
 put_in k (x ∷ xs) = if comes_before k x then k ∷ x ∷ xs else x ∷ put_in k xs
 
 abbrev pub kept_batch : Batch → Kept
-kept_batch b = kept.Batch (bid_of b.bid) (tids_of (map (λ p. p.tid) b.pacts))
+kept_batch b = kept.Batch (bid_of b.bid) (tids_of (map (λ p. p.tid) b.pacts)) (map (λ p. value_of p.result) b.pacts)
 
 -- the commit number of an ACT that has one
 abbrev pub number_of : Status → ℕ
@@ -46,8 +51,14 @@ number_of (Doomed v) = 0
 number_of (Decided c) = c
 number_of (Sealed c) = c
 
+-- the value that a commit tells of this result
+abbrev pub told_value : Option TxResult → Option ℤ
+told_value (Some (Value v)) = Some v
+told_value (Some (Fail code)) = None
+told_value None = None
+
 abbrev pub kept_act : Act → Kept
-kept_act x = kept.Act (tid_of x.tid) (bid_of x.m) (number_of x.status)
+kept_act x = kept.Act (tid_of x.tid) (bid_of x.m) (number_of x.status) (told_value x.result)
 
 -- the batches that are in
 abbrev pub batches_in : ℕ → (ℕ → List LogRecord) → List Batch → List Kept
@@ -62,10 +73,28 @@ with_acts many logs (x ∷ xs) ks = if is_in many logs (OfAct x.tid) then put_in
 abbrev pub all_in : {C : Type 0} → ℕ → (ℕ → List LogRecord) → Machine C → List Kept
 all_in many logs s = with_acts many logs s.book.acts (batches_in many logs s.desk.batches)
 
--- the places of its transactions, each with its tid
-abbrev pub places_of : Kept → List (Place × ℕ)
-places_of (kept.Batch b tids) = map (λ t. (pact_place b.0 t.0, t.0)) tids
-places_of (kept.Act t m c) = (act_place m.0 c, t.0) ∷ []
+-- the result that a value is; where it is not known there is none
+abbrev pub answer_of : Option ℤ → Option TxResult
+answer_of None = None
+answer_of (Some v) = Some (Value v)
+
+-- a place, whose it is, and the result there
+abbrev pub Answer : Type 0
+Answer = Place × ℕ × Option TxResult
+
+-- the answers of a batch's transactions; those without a value have an unknown one
+abbrev pub batch_answers : ℕ → List Tid → List ℤ → List Answer
+batch_answers k [] vs = []
+batch_answers k (t ∷ ts) [] = (pact_place k t.0, t.0, None) ∷ batch_answers k ts []
+batch_answers k (t ∷ ts) (v ∷ vs) = (pact_place k t.0, t.0, answer_of (Some v)) ∷ batch_answers k ts vs
+
+-- the places of its transactions, each with its tid and its result
+abbrev pub answers_of : Kept → List Answer
+answers_of (kept.Batch b tids vs) = batch_answers b.0 tids vs
+answers_of (kept.Act t m c v) = (act_place m.0 c, t.0, answer_of v) ∷ []
+
+abbrev pub answer_at : Done → Answer
+answer_at d = (d.place, d.tid, d.result)
 
 -- ---- what they recover to
 

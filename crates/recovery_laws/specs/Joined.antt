@@ -1,5 +1,5 @@
 -- Whatever a crash leaves of the logs of a run, recovery takes it, and gives what the laws of the machine speak of.
-use Rattle.std.specs.Prelude.{◌≡◌, ◌≢◌, ℕ, ◌<◌, List, [], ◌∷◌, length, map}
+use Rattle.std.specs.Prelude.{◌≡◌, ◌≢◌, ℕ, ◌<◌, Some, List, [], ◌∷◌, ◌++◌, length, map}
 use Rattle.std.specs.List.{AllByRecursion, flat_map}
 use Rattle.snap_base.specs.declared.transactions.State.{State}
 use Rattle.protocol.specs.Fixed.{Fixed, IsText}
@@ -14,22 +14,24 @@ use Rattle.protocol.specs.History.{History, history}
 use Rattle.protocol.specs.Chains.{by_place, serial_run}
 use Rattle.protocol_records.specs.Crash.{members}
 use Rattle.protocol_records.specs.NextNumbers.{IsNumberedWithin}
-use Rattle.protocol_records.specs.SeveralRuns.{CutRun, MayBe, logs_left}
+use Rattle.protocol_records.specs.SeveralRuns.{CutRun, MayBe, logs_left, members_of}
 use Rattle.txn_records.specs.declared.records.Record.{Record}
 use Rattle.snap_recover.specs.declared.openings.Opening.{Opening}
 use Rattle.snap_recover.specs.declared.refusals.RecoverNo.{RecoverNo}
 use Rattle.snap_recover.specs.declared.refusals.RecoverNo.TheVariants.{Memory}
 use Rattle.snap_recover.specs.Opening.{IsRecovered}
 use Rattle.snap_recover.specs.Refusals.{IsRefused}
-use Rattle.recovery_laws.specs.Grown.{grown, places_of, all_in, BeginsWith, opening_after}
+use Rattle.recovery_laws.specs.Grown.{grown, Answer, answers_of, answer_at, all_in, BeginsWith, opening_after}
 
 -- Behind the records of earlier runs, what the logs hold of this run recovers to the members.
 pub record RecoversToMembers {C : Type 0} (w : Fixed C) (finish : C → List State → Alone) (earlier : List (List Record)) (o : Opening) (s : Machine C) (h : History) (logs : ℕ → List LogRecord) : Type 0 where
   pub recovered : IsRecovered (grown earlier logs) (opening_after w o s logs)
   -- want of memory aside, recovery refuses nothing
   pub taken : (no : RecoverNo) → no ≢ Memory → ¬ IsRefused (grown earlier logs) no
-  -- what it gives of this run is the members, in the order of their places
-  pub ordered : flat_map places_of (all_in w.text.logs logs s) ≡ map (λ d. (d.place, d.tid)) (by_place (members w.text.logs logs h))
+  -- what it gives of this run is the members, in the order of their places, each with its result
+  pub ordered : flat_map answers_of (all_in w.text.logs logs s) ≡ map answer_at (by_place (members w.text.logs logs h))
+  -- and these are the results that they have alone, one after the other in the order of places from the opening's states
+  pub alone : map (λ (x : Answer). x.2) (flat_map answers_of (all_in w.text.logs logs s)) ≡ map Some (serial_run w finish (members w.text.logs logs h)).results
   -- and its next numbers are above theirs
   pub above : AllByRecursion (IsNumberedWithin w (opening_after w o s logs).next_tid.0 (opening_after w o s logs).next_bid.0 (opening_after w o s logs).next_c) (members w.text.logs logs h)
   -- the states are those that the members leave, one after the other in the order of places from the opening's states
@@ -58,3 +60,29 @@ RecoverAgain earlier o [] = IsRecovered earlier o
 RecoverAgain earlier o (x ∷ xs) =
     RecoversToMembers x.fixed x.finish earlier o (reached x.fixed x.moment.events) (history x.fixed x.moment.events) (logs_left x)
     × RecoverAgain (grown earlier (logs_left x)) (opening_after x.fixed o (reached x.fixed x.moment.events) (logs_left x)) xs
+
+-- ---- what several runs answer
+
+-- what the logs hold behind all of the runs
+abbrev pub logs_behind : {C : Type 0} → List (List Record) → List (CutRun C) → List (List Record)
+logs_behind earlier [] = earlier
+logs_behind earlier (x ∷ xs) = logs_behind (grown earlier (logs_left x)) xs
+
+-- and what they recover to
+abbrev pub opening_behind : {C : Type 0} → Opening → List (CutRun C) → Opening
+opening_behind o [] = o
+opening_behind o (x ∷ xs) = opening_behind (opening_after x.fixed o (reached x.fixed x.moment.events) (logs_left x)) xs
+
+-- the members of a run in the order of their places, each with its result
+abbrev pub answers_in : {C : Type 0} → CutRun C → List Answer
+answers_in x = map answer_at (by_place (members_of x))
+
+-- the results of its members are those that they have alone, one after the other from the states with which the run began
+abbrev pub AnswersAlone : {C : Type 0} → CutRun C → Type 0
+AnswersAlone x = map (λ (y : Answer). y.2) (answers_in x) ≡ map Some (serial_run x.fixed x.finish (members_of x)).results
+
+-- Behind all of the runs recovery gives what it gave before them, and behind that the members of each run with their results.
+pub record ValuesAreResults {C : Type 0} (earlier : List (List Record)) (o : Opening) (xs : List (CutRun C)) : Type 0 where
+  pub recovered : IsRecovered (logs_behind earlier xs) (opening_behind o xs)
+  pub answers : flat_map answers_of (opening_behind o xs).committed ≡ flat_map answers_of o.committed ++ flat_map answers_in xs
+  pub alone : AllByRecursion AnswersAlone xs

@@ -5,7 +5,7 @@ ghost use Rattle.txn_records.specs.declared.records.Record.{Record};
 ghost use Rattle.snap_recover.specs.declared.openings.Opening.{Opening};
 ghost use Rattle.snap_recover.specs.Opening.{IsRecovered};
 ghost use Rattle.protocol_records.specs.SeveralRuns.{CutRun};
-ghost use Rattle.recovery_laws.specs.Joined.{AtEveryMomentOnLogs, GoOnLogs, RecoverAgain, RecoversToMembers};
+ghost use Rattle.recovery_laws.specs.Joined.{AtEveryMomentOnLogs, GoOnLogs, RecoverAgain, RecoversToMembers, ValuesAreResults};
 
 use protocol_laws::{
     committed_are_those_with_places, numbers_are_drawn_once, numbers_are_in_range,
@@ -20,8 +20,8 @@ use snap_recover::refused_is_not_recovered;
 
 /// At every moment of every run on logs that recover to the run's opening, whatever each log is left with, recovery refuses
 /// nothing. Of the opening that it gives the states are those that the members leave, the batches and the undeclared
-/// transactions are those of earlier runs and behind them the members, in the order of their places, and the next numbers
-/// are above all.
+/// transactions are those of earlier runs and behind them the members, in the order of their places, each with the result
+/// that it has alone, and the next numbers are above all.
 pub fn logs_recover_to_the_members<C>()
     ensures { AtEveryMomentOnLogs (RecoversToMembers {C = C}) }
 {
@@ -43,6 +43,14 @@ pub fn logs_recover_to_the_members<C>()
 /// the runs before.
 pub fn logs_recover_behind_each_run<C>()
     ensures { (earlier : List (List Record)) (o : Opening) (xs : List (CutRun C)) → IsRecovered earlier o → GoOnLogs earlier o xs → RecoverAgain earlier o xs }
+{
+    logs_recover_to_the_members::<C>();
+}
+
+/// Of such runs, whatever the logs held before the first of them: recovery gives the members of each with their values, and
+/// these are their results alone, one after the other from the states with which the run began.
+pub fn values_are_results<C>()
+    ensures { (earlier : List (List Record)) (o : Opening) (xs : List (CutRun C)) → IsRecovered earlier o → GoOnLogs earlier o xs → ValuesAreResults earlier o xs }
 {
     logs_recover_to_the_members::<C>();
 }

@@ -5,4 +5,4 @@
 
 mod laws;
 
-pub use laws::{logs_recover_behind_each_run, logs_recover_to_the_members};
+pub use laws::{logs_recover_behind_each_run, logs_recover_to_the_members, values_are_results};
