@@ -1,4 +1,4 @@
-ghost use Rattle.std.specs.Prelude.{◌≡◌, ◌-◌, ◌≤◌, ◌^◌, min, not, ◌&&◌, ◌++◌, true, map, option_map, IfOk, OnOk, slice_get};
+ghost use Rattle.std.specs.Prelude.{◌≡◌, ◌-◌, ◌≤◌, ◌^◌, min, not, ◌&&◌, ◌++◌, true, Some, map, option_map, IfOk, OnOk, slice_get};
 ghost use Rattle.std.specs.List.{list_all};
 ghost use Rattle.protocol.specs.Left.{batch_left};
 ghost use Rattle.protocol.specs.Words as words;
@@ -14,7 +14,7 @@ use crate::actors::{self, ActorEntry};
 use crate::pacts::{self, PactEntry};
 use crate::{FoundPact, Stage};
 use machine_words::{Formed, unless};
-use snap_base::{ActorId, Bid, Memory, SubBatch, Tid, TxNo, TxResult};
+use snap_base::{ActorId, Bid, Memory, Sequence, SubBatch, Tid, TxNo, TxResult};
 use std::alloc::Global;
 use std::marker::Model;
 
@@ -132,6 +132,13 @@ impl BatchEntry {
         ensures { result ≡ list_all (λ p. words.is_value p.result) self.now.pacts }
     {
         pacts::have_values(self.pacts.as_slice())
+    }
+
+    /// The values of its PACTs, in order.
+    pub fn values(&self, alloc: Global) -> Result<Sequence<i64>, Memory>
+        ensures { IfOk result (λ values. values ≡ words.values_of (Some self.now)) }
+    {
+        pacts::values(alloc, self.pacts.as_slice())
     }
 
     pub fn is_noted(&self) -> bool

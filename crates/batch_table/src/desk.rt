@@ -12,7 +12,7 @@ use crate::replies::Replies;
 use crate::spots::{Spot, write_spots};
 use crate::{FoundPact, Stage, table};
 use machine_words::Formed;
-use snap_base::{ActorId, Bid, Memory, Tid, TxNo, TxResult};
+use snap_base::{ActorId, Bid, Memory, Sequence, Tid, TxNo, TxResult};
 use std::alloc::Global;
 use std::marker::Model;
 
@@ -155,6 +155,16 @@ impl Desk {
         match self.batch(bid) {
             Some(batch) => batch.has_ended_well(),
             None => false,
+        }
+    }
+
+    /// The values of the PACTs of the batch, by their tids.
+    pub fn values(&self, alloc: Global, bid: Bid) -> Result<Sequence<i64>, Memory>
+        ensures { IfOk result (λ values. values ≡ words.values_of (words.batch_of bid.0 self.now.batches)) }
+    {
+        match self.batch(bid) {
+            Some(batch) => batch.values(alloc),
+            None => Ok(Sequence::new(alloc)),
         }
     }
 

@@ -6,7 +6,7 @@ ghost use Rattle.machine_words.specs.Meant.{batch_pact};
 ghost use Rattle.batch_table.specs.Askings.{failure_shown};
 ghost use Rattle.batch_table.specs.Joining as joining;
 
-use snap_base::{Memory, Tid, TxNo, TxResult};
+use snap_base::{Memory, Sequence, Tid, TxNo, TxResult};
 use std::alloc::Global;
 use std::marker::Model;
 
@@ -66,6 +66,17 @@ impl PactEntry {
         }
     }
 
+    /// The value that it ended with; 0 where it did not.
+    fn value(&self) -> i64
+        ensures { result ≡ words.value_of self.now.result }
+    {
+        match self.result {
+            Some(TxResult::Value(value)) => value,
+            Some(TxResult::Fail(_)) => 0,
+            None => 0,
+        }
+    }
+
     fn end(&mut self, r: TxResult)
         ensures { self.new ≡ record self.old { result = Some r } }
     {
@@ -92,6 +103,17 @@ pub(crate) fn txs(alloc: Global, pacts: &[PactEntry]) -> Result<Vec<TxNo>, Memor
         txs.push(pact.tx())?;
     }
     Ok(txs)
+}
+
+/// The values that they ended with, in order.
+pub(crate) fn values(alloc: Global, pacts: &[PactEntry]) -> Result<Sequence<i64>, Memory>
+    ensures { IfOk result (λ values. values ≡ map (λ p. words.value_of p.result) pacts.now) }
+{
+    let mut values = Sequence::new(alloc);
+    for pact in pacts {
+        values.push(pact.value())?;
+    }
+    Ok(values)
 }
 
 /// Whether all ended with a value.

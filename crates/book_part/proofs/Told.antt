@@ -1,12 +1,12 @@
 -- What records and verdicts tell of an ACT, by what orders (x) and votes (y) have of it.
-use Rattle.std.specs.Prelude.{◌≡◌, refl, ℕ, true, false, if◌then◌else◌, Option, Some, None, option_map, List, [], ◌∷◌, map}
+use Rattle.std.specs.Prelude.{◌≡◌, refl, ℕ, ℤ, true, false, if◌then◌else◌, Option, Some, None, option_map, List, [], ◌∷◌, map}
 use Rattle.std.proofs.Common.{sym, ap, subst, ◌∙◌}
 use Rattle.std.proofs.lemmas.Bool.{true≢false}
 use Rattle.snap_base.specs.declared.transactions.TxResult.{TxResult}
 use Rattle.snap_base.specs.declared.verdicts.Verdict.{Verdict}
 use Rattle.protocol.specs.Parts.{Status, Live, Doomed, Decided, Sealed, Act, Book}
-use Rattle.protocol.specs.Records.{LogRecord, ActCommit}
-use Rattle.protocol.specs.Words.{holds, count, act_of, is_live_act, is_value, is_doomed, is_ordered, is_sealed}
+use Rattle.protocol.specs.Records.{LogRecord, ActDone}
+use Rattle.protocol.specs.Words.{holds, count, act_of, is_live_act, is_value, value_of, is_doomed, is_ordered, is_sealed}
 use Rattle.protocol.specs.Effects.{ascending, act_commit}
 use Rattle.protocol.specs.Verdicts.{verdict_of_act, act_verdict}
 use Rattle.protocol.specs.BookParts.{act_by, place_by, result_by}
@@ -22,7 +22,7 @@ use Rattle.book_part.proofs.Shown.{IsAt, is_book, stands, found_tid}
 -- ---- the commit record
 
 abbrev pub committed : ℕ → ℕ → Option Act → Option Act → List LogRecord
-committed t c x y = if is_value (result_by y) then ActCommit t (before_of x) c (actors_by y) ∷ [] else []
+committed t c x y = if is_value (result_by y) then ActDone t (before_of x) c (value_of (result_by y)) (actors_by y) ∷ [] else []
 
 actors_kept : (y x : Act) → IsVoted y x → map (λ p. p.actor) (map (place_by (Some y)) x.places) ≡ map (λ p. p.actor) y.places
 actors_kept y x e = map_each (λ p. p.actor) (place_by (Some y)) (λ p. p.actor) x.places (λ p. place_actor (Some y) p) ∙ sym e.actors
@@ -31,8 +31,8 @@ pub commits : (t c : ℕ) (x y : Option Act) → ((z : Act) → x ≡ Some z →
 commits t c None y i e = sym (ap (committed t c None) e)
 commits t c (Some x) None i e = refl
 commits t c (Some x) (Some y) i e =
-    ap (λ ns. if is_value y.result then ActCommit x.tid x.m c (ascending ns) ∷ [] else []) (actors_kept y x e.1)
-    ∙ ap (λ n. if is_value y.result then ActCommit n x.m c (actors_by (Some y)) ∷ [] else []) (i x refl)
+    ap (λ ns. if is_value y.result then ActDone x.tid x.m c (value_of y.result) (ascending ns) ∷ [] else []) (actors_kept y x e.1)
+    ∙ ap (λ n. if is_value y.result then ActDone n x.m c (value_of y.result) (actors_by (Some y)) ∷ [] else []) (i x refl)
 
 -- ---- verdicts
 
@@ -93,17 +93,21 @@ shown_commits h b t s =
 
 pub no_commit : (k h : Halves) → k ≡ h → (b : Book) (t : ℕ) → Shows h b → false ≡ is_value (result_by (act_of t k.votes.acts)) → [] ≡ act_commit b.next_c (act_of t b.acts)
 no_commit k h i b t s e =
-    ap (λ z. if z then ActCommit t (before_of (act_of t k.orders.acts)) k.votes.next_c (actors_by (act_of t k.votes.acts)) ∷ [] else []) e
+    let y = act_of t k.votes.acts in
+    ap (λ z. if z then ActDone t (before_of (act_of t k.orders.acts)) k.votes.next_c (value_of (result_by y)) (actors_by y) ∷ [] else []) e
     ∙ sym (shown_commits k b t (subst (λ z. Shows z b) (sym i) s))
 
-pub one_commit : (k h : Halves) → k ≡ h → (b : Book) (t m c : ℕ) (actors : List ℕ) → Shows h b → true ≡ is_value (result_by (act_of t k.votes.acts)) → m ≡ before_of (act_of t k.orders.acts) → c ≡ k.votes.next_c → actors ≡ actors_by (act_of t k.votes.acts)
-    → (ActCommit t m c actors ∷ []) ≡ act_commit b.next_c (act_of t b.acts)
-one_commit k h i b t m c actors s e f g j =
-    ap (λ z. ActCommit t z c actors ∷ []) f
-    ∙ (ap (λ z. ActCommit t (before_of (act_of t k.orders.acts)) z actors ∷ []) g
-    ∙ (ap (λ z. ActCommit t (before_of (act_of t k.orders.acts)) k.votes.next_c z ∷ []) j
-    ∙ (ap (λ z. if z then ActCommit t (before_of (act_of t k.orders.acts)) k.votes.next_c (actors_by (act_of t k.votes.acts)) ∷ [] else []) e
-    ∙ sym (shown_commits k b t (subst (λ z. Shows z b) (sym i) s)))))
+pub one_commit : (k h : Halves) → k ≡ h → (b : Book) (t m c : ℕ) (v : ℤ) (actors : List ℕ) → Shows h b → true ≡ is_value (result_by (act_of t k.votes.acts)) → m ≡ before_of (act_of t k.orders.acts) → c ≡ k.votes.next_c
+    → v ≡ value_of (result_by (act_of t k.votes.acts)) → actors ≡ actors_by (act_of t k.votes.acts) → (ActDone t m c v actors ∷ []) ≡ act_commit b.next_c (act_of t b.acts)
+one_commit k h i b t m c v actors s e f g valued j =
+    let x = act_of t k.orders.acts in
+    let y = act_of t k.votes.acts in
+    ap (λ z. ActDone t z c v actors ∷ []) f
+    ∙ (ap (λ z. ActDone t (before_of x) z v actors ∷ []) g
+    ∙ (ap (λ z. ActDone t (before_of x) k.votes.next_c z actors ∷ []) valued
+    ∙ (ap (λ z. ActDone t (before_of x) k.votes.next_c (value_of (result_by y)) z ∷ []) j
+    ∙ (ap (λ z. if z then ActDone t (before_of x) k.votes.next_c (value_of (result_by y)) (actors_by y) ∷ [] else []) e
+    ∙ sym (shown_commits k b t (subst (λ z. Shows z b) (sym i) s))))))
 
 -- ---- live ones
 

@@ -16,7 +16,7 @@ ghost use Rattle.book_part.specs.Told.{told_verdict};
 use crate::commit::Commit;
 use crate::marks::has_joined;
 use crate::part::BookPart;
-use crate::results::{is_failure, is_value};
+use crate::results::{is_failure, is_value, value_of};
 use crate::verdicts::{doom_or_votes, sealed_verdict};
 use snap_base::{ActorId, Bid, Memory, Tid, TxNo, Verdict, Who};
 use std::alloc::Global;
@@ -184,7 +184,8 @@ impl BookPart {
     pub fn commit(&self, alloc: Global, t: Tid) -> Result<Option<Commit>, Memory>
         ensures { IfOk result (λ c. (b : Book) → Shows self.now b → records_of c ≡ act_commit b.next_c (act_of t.0 b.acts)) }
     {
-        if !is_value(self.votes.result(t)) {
+        let ended = self.votes.result(t);
+        if !is_value(ended) {
             return Ok(None);
         }
         let actors = self.votes.actors(alloc, t)?;
@@ -192,6 +193,7 @@ impl BookPart {
             tid: t,
             before: self.orders.before(t),
             number: self.votes.next_c(),
+            value: value_of(ended),
             actors,
         }))
     }

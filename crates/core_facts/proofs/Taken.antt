@@ -1,7 +1,8 @@
 -- What the parts' calls ask is so after a run: from the laws of the protocol.
-use Rattle.std.proofs.Common.{◌≡◌, ℕ, ◌+◌, ◌-◌, ◌%◌, ◌^◌, ◌<◌, ◌≤◌, ◌==◌, ◌&&◌, not, Bool, true, false, Some, List, [], ◌∷◌, length, map, take, refl, ap, sym, ◌∙◌, subst, arith}
+use Rattle.std.proofs.Common.{◌≡◌, ℕ, ℤ, ◌+◌, ◌-◌, ◌%◌, ◌^◌, ◌<◌, ◌≤◌, ◌==◌, ◌&&◌, not, Bool, true, false, Some, List, [], ◌∷◌, length, map, take, refl, ap, sym, ◌∙◌, subst, arith, FitsSigned}
 use Rattle.std.specs.Prelude.{find, is_some}
 use Rattle.std.specs.List.{All, AllByRecursion}
+use Rattle.std.specs.Int.{w64}
 use Rattle.std.proofs.lemmas.Bool.{eqb-true, and_parts}
 use Rattle.snap_base.specs.declared.ids.ActorId.{ActorId}
 use Rattle.snap_base.specs.declared.ids.Bid.{Bid}
@@ -11,7 +12,7 @@ use Rattle.protocol.specs.Facts.{Alone}
 use Rattle.protocol.specs.Fixed.{Fixed, IsText}
 use Rattle.protocol.specs.Parts.{Act, Joined, Batch, Book, Cascade, Entry, BatchEntry, ActEntry, Image, Machine}
 use Rattle.protocol.specs.Events.{Pass, Form, Admit, Send, Complete, Commit, Abort, Prepare, Decide}
-use Rattle.protocol.specs.Words.{is_empty, holds, act_of, joined_of, is_live_status, batch_of, is_open, is_next_to_commit, is_batch_entry, is_complete_batch, batches_on, acts_on}
+use Rattle.protocol.specs.Words.{is_empty, value_of, values_of, holds, act_of, joined_of, is_live_status, batch_of, is_open, is_next_to_commit, is_batch_entry, is_complete_batch, batches_on, acts_on}
 use Rattle.protocol.specs.Conditions.{IsAllowed, conditions, queue}
 use Rattle.protocol.specs.Effects.{cell_at, no_cell, ascending}
 use Rattle.protocol.specs.Epochs.{EpochsAgree}
@@ -24,12 +25,13 @@ use Rattle.protocol.specs.BookParts.{act_by}
 use Rattle.protocol_theorems.specs.BookFits.{IsOfHalves, HalvesGoOn}
 use Rattle.protocol_theorems.specs.Bounds.{BatchesHaveActors, BoxesAreFew, PlacesAreFew}
 use Rattle.protocol_theorems.specs.OnActors.{AllLieInOrder, LimitsHold}
+use Rattle.protocol_records.specs.RecordLaws.{RecordsAreFew}
 use Rattle.protocol_laws.specs.Ranges.{NumbersInRange, CellInRange, IsDrawnBid}
 use Rattle.protocol_theorems.specs.Sizes.{SizesHold, AllFindRoom}
 use Rattle.batch_table.specs.Laws.{PlannedMayJoin}
 use Rattle.actor_cell.specs.Cut.{HaveRunInOrder}
 use Rattle.token_ring.specs.Asked.{MayPass}
-use Rattle.txn_records.specs.Records.{actor_numbers, tid_numbers, IsInfo, Ascend}
+use Rattle.txn_records.specs.Records.{actor_numbers, tid_numbers, IsInfo, IsDone, Ascend}
 use Rattle.core_facts.specs.RowsMay.{IsActRecord, RowsMay}
 use Rattle.core_facts.proofs.Listed
 use Rattle.core_facts.proofs.Planned as plans
@@ -54,6 +56,7 @@ pub record Known {C : Type 0} (w : Fixed C) (finish : C → List State → Alone
   pub few_places : PlacesAreFew w finish s h
   pub halves : HalvesGoOn w finish s h
   pub joins : PlannedMayJoin w s
+  pub few_records : RecordsAreFew w finish s h
 
 -- nothing that goes has run, where an ACT stays
 abbrev pub NothingHasRun : Type 0
@@ -185,6 +188,20 @@ commit_stands : {C : Type 0} (w : Fixed C) (s : Machine C) (k : ℕ) → IsAllow
 unfolding conditions
 commit_stands w s k ok = ok.0
 
+-- the values of a batch that may commit
+done : {C : Type 0} (w : Fixed C) (s : Machine C) → IsText w.text → SizesHold w s → NumbersInRange w s → AllByRecursion (λ b. (1 ≤ length b.pacts) × (length b.pacts ≤ w.text.batch)) s.desk.batches
+    → (k : ℕ) → IsAllowed w (Commit k) s → (bid : Bid) (values : List ℤ) → bid.0 ≡ k → values ≡ values_of (batch_of k s.desk.batches) → AllByRecursion (FitsSigned w64) values → IsDone bid values
+done w s t z r filled k ok bid values e same each =
+    let b = Listed.one_is (λ b. is_open b && is_next_to_commit k s.desk.batches) (batch_of k s.desk.batches) (commit_stands w s k ok) in
+    let f = Listed.all_found (λ b. (1 ≤ length b.pacts) × (length b.pacts ≤ w.text.batch)) (λ b. b.bid == k) s.desk.batches b.0 filled b.1.0 in
+    let many : length values ≡ length b.0.pacts = ap length same ∙ ap (λ o. length (values_of o)) b.1.0 ∙ Listed.length_mapped (λ p. value_of p.result) b.0.pacts in
+    record {
+      bid_fits = omega (arith, e, bid_drawn w s k _ r (commit_stands w s k ok), bids_fit w s t z);
+      some = omega (arith, many, f.0.0);
+      few = omega (arith, many, f.0.1, t.small_batch);
+      each = each;
+    }
+
 pub rows_may : {C : Type 0} (w : Fixed C) (finish : C → List State → Alone) (s : Machine C) (h : History) → NothingHasRun → Known w finish s h → RowsMay w s
 rows_may w finish s h nothing g =
     let t = g.text in
@@ -230,7 +247,7 @@ rows_may w finish s h nothing g =
         actor_fits = omega (arith, i, d.1, z.cells, t.few_actors);
         is_state = is;
       };
-      tells_commit = λ k ok bid e. record { bid_fits = omega (arith, e, bid_drawn w s k _ g.ranges (commit_stands w s k ok), bids_fit w s t z) };
+      tells_commit = done w s t z g.ranges g.few_records.pacts;
       tells_prepare = λ u a ok. let d = prepare_drawn w s u a g.ranges ok in (omega (arith, d.0, tids_fit w s t z), omega (arith, d.1, t.few_actors));
       tells_act = λ u x ok e. act_record w finish s h t z g.ranges g.few_places u x ok e;
     }

@@ -1,6 +1,7 @@
 -- What the parts' calls ask, where the event table lets a row be taken, in the words of their own contracts.
-use Rattle.std.specs.Prelude.{◌≡◌, ℕ, ◌+◌, ◌-◌, ◌%◌, ◌^◌, ◌<◌, ◌≤◌, false, Some, None, is_some, List, ◌∷◌, ◌++◌, length, map, slice_get}
+use Rattle.std.specs.Prelude.{◌≡◌, ℕ, ℤ, ◌+◌, ◌-◌, ◌%◌, ◌^◌, ◌<◌, ◌≤◌, false, Some, None, is_some, List, ◌∷◌, ◌++◌, length, map, slice_get, FitsSigned}
 use Rattle.std.specs.List.{All, AllByRecursion}
+use Rattle.std.specs.Int.{w64}
 use Rattle.snap_base.specs.declared.ids.ActorId.{ActorId}
 use Rattle.snap_base.specs.declared.ids.Bid.{Bid}
 use Rattle.snap_base.specs.declared.ids.Tid.{Tid}
@@ -9,7 +10,7 @@ use Rattle.protocol.specs.Fixed.{Fixed}
 use Rattle.protocol.specs.Facts.{Alone}
 use Rattle.protocol.specs.Parts.{Act, Book, Cascade, Pact, SubBatch, OfBatch, Machine}
 use Rattle.protocol.specs.Events.{Event, Pass, Form, Admit, Run, Send, Complete, Commit, Abort, Prepare, Decide}
-use Rattle.protocol.specs.Words.{is_empty, act_of, sub_of, control_of, image_of, who_on, acts_on}
+use Rattle.protocol.specs.Words.{is_empty, act_of, batch_of, values_of, sub_of, control_of, image_of, who_on, acts_on}
 use Rattle.protocol.specs.Conditions.{IsAllowed}
 use Rattle.protocol.specs.Effects.{cell_at, ascending}
 use Rattle.protocol.specs.History.{History}
@@ -22,7 +23,7 @@ use Rattle.token_ring.specs.Asked.{MayPass}
 use Rattle.batch_table.specs.Joining.{MayJoin}
 use Rattle.actor_cell.specs.Cut.{IsCutFrom}
 use Rattle.hybrid_schedule.specs.Cuts.{AreAbortedFrom}
-use Rattle.txn_records.specs.Records.{Ascend, actor_numbers, tid_numbers, IsState, IsInfo, IsComplete, IsCommit}
+use Rattle.txn_records.specs.Records.{Ascend, actor_numbers, tid_numbers, IsState, IsInfo, IsComplete, IsDone}
 
 -- the numbers of an ACT's commit record fit, and its actors ascend and are at most sixteen
 pub record IsActRecord (t m c : ℕ) (actors : List ℕ) : Type 0 where
@@ -73,7 +74,7 @@ pub record RowsMay {C : Type 0} (w : Fixed C) (s : Machine C) : Type 0 where
   -- ---- the records: they have a spelling
   pub tells_info : (k : ℕ) → IsAllowed w (Form k) s → (bid : Bid) (actors : List ActorId) (tids : List Tid) → bid.0 ≡ k → actor_numbers actors ≡ next_actors w.text s.ring → tid_numbers tids ≡ map (λ p. p.tid) (next_pacts w.text s.ring) → IsInfo bid actors tids
   pub tells_complete : (k a : ℕ) → IsAllowed w (Complete k a) s → (bid : Bid) (actor : ActorId) (state : State) → bid.0 ≡ k → actor.0 ≡ a → IsState state → IsComplete bid actor state
-  pub tells_commit : (k : ℕ) → IsAllowed w (Commit k) s → (bid : Bid) → bid.0 ≡ k → IsCommit bid
+  pub tells_commit : (k : ℕ) → IsAllowed w (Commit k) s → (bid : Bid) (values : List ℤ) → bid.0 ≡ k → values ≡ values_of (batch_of k s.desk.batches) → AllByRecursion (FitsSigned w64) values → IsDone bid values
   pub tells_prepare : (t a : ℕ) → IsAllowed w (Prepare t a) s → (t < 2 ^ 63) × (a < 2 ^ 16)
   pub tells_act : (t : ℕ) (x : Act) → IsAllowed w (Decide t) s → act_of t s.book.acts ≡ Some x → IsActRecord t x.m s.book.next_c (ascending (map (λ p. p.actor) x.places))
 

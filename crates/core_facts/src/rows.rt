@@ -10,6 +10,7 @@ use protocol_laws::{
     batches_settle_in_order, controls_are_in_one_place, numbers_are_drawn_once,
     numbers_are_in_range, sub_batches_name_the_one_before, transactions_are_in_one_place,
 };
+use protocol_records::records_are_few;
 use protocol_theorems::{
     actors_lie_in_order, batches_have_actors, boxes_are_few, halves_go_on, limits_hold,
     places_are_few, sizes_hold, what_is_new_is_not_there,
@@ -34,5 +35,6 @@ pub fn rows_may_be_taken<C>()
     places_are_few::<C>();
     halves_go_on::<C>();
     planned_batch_may_join::<C>();
+    records_are_few::<C>();
     nothing_behind_an_act_has_run();
 }

@@ -1,17 +1,20 @@
 -- The commit record of an ACT that is decided: it can be spelled, and it is the machine's.
-use Rattle.std.proofs.Common.{◌≡◌, ◌==◌, ℕ, ◌<◌, ◌≤◌, ◌^◌, Bool, true, false, if◌then◌else◌, Option, Some, None, List, [], ◌∷◌, ◌++◌, length, map, refl, ap, sym, subst, ◌∙◌, arith}
+use Rattle.std.proofs.Common.{◌≡◌, ◌==◌, ℕ, ℤ, FitsSigned, ◌<◌, ◌≤◌, ◌^◌, Bool, true, false, if◌then◌else◌, Option, Some, None, List, [], ◌∷◌, ◌++◌, length, map, refl, ap, sym, subst, ◌∙◌, arith}
 use Rattle.std.proofs.lemmas.Bool.{eqb-true}
 use Rattle.std.proofs.lemmas.List.{append-nil, length-map}
 use Rattle.snap_base.specs.declared.ids.ActorId.{ActorId}
+use Rattle.snap_base.specs.declared.ids.Bid.{Bid}
+use Rattle.snap_base.specs.declared.ids.Tid.{Tid}
+use Rattle.std.specs.Int.{w64}
 use Rattle.protocol.specs.Effects.{act_commit, added, ascending}
 use Rattle.protocol.specs.Parts.{Act, Log}
-use Rattle.protocol.specs.Records.{ActCommit}
-use Rattle.protocol.specs.Words.{act_of, is_value}
+use Rattle.protocol.specs.Records.{ActDone}
+use Rattle.protocol.specs.Words.{act_of, is_value, value_of}
 use Rattle.book_part.specs.Commits.{records_of}
 use Rattle.book_part.specs.declared.commit.Commit.{Commit}
 use Rattle.core_facts.specs.RowsMay.{IsActRecord}
 use Rattle.record_words.specs.Told.{actor_of, told}
-use Rattle.txn_records.specs.Records.{Ascend, actor_numbers, IsAct}
+use Rattle.txn_records.specs.Records.{Ascend, actor_numbers, IsAct, IsActDone}
 use Rattle.txn_records.specs.declared.records.Record.TheVariants as records
 use Rattle.core_rows.specs.Commits.{HasSpelling}
 
@@ -44,7 +47,7 @@ spelled None n t o same facts = tt
 spelled (Some c) n t None same facts = absurd (cc same)
 spelled (Some c) n t (Some x) same facts = by (is_value x.result) same
   where
-    by : (b : Bool) → (ActCommit c.tid.0 c.before.0 c.number (actor_numbers c.actors) ∷ []) ≡ (if b then ActCommit x.tid x.m n (ascending (map (λ p. p.actor) x.places)) ∷ [] else []) → HasSpelling (Some c)
+    by : (b : Bool) → (ActDone c.tid.0 c.before.0 c.number c.value (actor_numbers c.actors) ∷ []) ≡ (if b then ActDone x.tid x.m n (value_of x.result) (ascending (map (λ p. p.actor) x.places)) ∷ [] else []) → HasSpelling (Some c)
     by false same = absurd (cc same)
     by true same =
         let f = facts x refl in
@@ -54,14 +57,18 @@ spelled (Some c) n t (Some x) same facts = by (is_value x.result) same
         let actors : actor_numbers c.actors ≡ ascending (map (λ p. p.actor) x.places) = cc same in
         is_act c t x.m n (ascending (map (λ p. p.actor) x.places)) (tid ∙ f.0) before number actors f.1
 
+-- with a value of 64 bits
+pub is_done : (tid : Tid) (m : Bid) (c : ℕ) (value : ℤ) (actors : List ActorId) → IsAct tid m c actors → FitsSigned w64 value → IsActDone tid m c value actors
+is_done tid m c value actors h fits = record { tid_fits = h.tid_fits; m_fits = h.m_fits; c_fits = h.c_fits; value_fits = fits; some = h.some; few = h.few; ascend = h.ascend }
+
 -- ---- it is the machine's
 
 same_actors : (actors : List ActorId) → map actor_of (actor_numbers actors) ≡ actors
 same_actors [] = refl
 same_actors (a ∷ others) = ap (λ xs. a ∷ xs) (same_actors others)
 
-pub told_commit : (c : Commit) → records.ActCommit c.tid c.before c.number c.actors ≡ told (ActCommit c.tid.0 c.before.0 c.number (actor_numbers c.actors))
-told_commit c = ap (λ xs. records.ActCommit c.tid c.before c.number xs) (sym (same_actors c.actors))
+pub told_commit : (c : Commit) → records.ActDone c.tid c.before c.number c.value c.actors ≡ told (ActDone c.tid.0 c.before.0 c.number c.value (actor_numbers c.actors))
+told_commit c = ap (λ xs. records.ActDone c.tid c.before c.number c.value xs) (sym (same_actors c.actors))
 
 -- where there is no record the log stays
 pub nothing_added : (l : Log) → added [] l ≡ l

@@ -80,13 +80,15 @@ fn add_commit(alloc: Global, log: &mut LogPart, commit: Option<Commit>) -> Resul
                 tid,
                 before,
                 number,
+                value,
                 actors,
             },
         ) => {
-            let record = Record::ActCommit {
+            let record = Record::ActDone {
                 tid,
                 m: before,
                 c: number,
+                value,
                 actors,
             };
             log.add(alloc, &record)?;

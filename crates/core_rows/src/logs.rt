@@ -11,7 +11,7 @@ use batch_table::Desk;
 use log_part::LogPart;
 use snap_base::Bid;
 use std::alloc::Global;
-use txn_records::Record;
+use txn_records::{Record, values_fit};
 
 /// Sync: 1 where its condition is false, or 0.
 pub fn sync_refusal<C>(log: &LogPart, l: u8) -> u8
@@ -47,7 +47,7 @@ pub fn commit_refusal<C>(desk: &Desk, log: &LogPart, k: Bid) -> u8
     first_no(&[next, ended, noted, durable])
 }
 
-/// Commit: the commit record of the batch is added.
+/// Commit: the commit record of the batch is added, with the values of its PACTs.
 pub fn commit<C>(alloc: Global, desk: &mut Desk, log: &mut LogPart, k: Bid) -> Result<(), StepNo>
     requires { IsOfRun {C = C} (λ w s. ShowsDesk desk.old s × ShowsLogAt (k.0 % w.text.logs) log.old s) }
     ensures ok { OnOk result (IsTaken {C = C} (Commit k.0) (λ w s. ShowsDesk desk.old s × ShowsLogAt (k.0 % w.text.logs) log.old s) (λ w s. ShowsDesk desk.new s × ShowsLogAt (k.0 % w.text.logs) log.new s)) }
@@ -60,7 +60,9 @@ pub fn commit<C>(alloc: Global, desk: &mut Desk, log: &mut LogPart, k: Bid) -> R
     if rule != 0 {
         return Err(StepNo::NotNow { rule });
     }
-    let record = Record::BatchCommit { bid: k };
+    let values = desk.values(alloc, k)?;
+    values_fit(values.as_slice());
+    let record = Record::BatchDone { bid: k, values };
     log.add(alloc, &record)?;
     desk.commit(k);
     Ok(())

@@ -7,8 +7,8 @@ use Rattle.snap_base.specs.declared.ids.ActorId.{ActorId}
 use Rattle.snap_base.specs.declared.ids.Bid.{Bid}
 use Rattle.snap_base.specs.declared.ids.Tid.{Tid}
 use Rattle.snap_base.specs.declared.transactions.State.{State}
-use Rattle.protocol.specs.Records.{LogRecord, BatchInfo, BatchComplete, BatchCommit, ActPrepare, ActCommit}
-use Rattle.txn_records.specs.Records.{field_bytes, state_bytes, actors_bytes, tids_bytes, info_bytes, complete_bytes, prepare_bytes, act_bytes, record_bytes, IsState, IsInfo, IsAct, IsRecord}
+use Rattle.protocol.specs.Records.{LogRecord, BatchInfo, BatchComplete, BatchDone, ActPrepare, ActDone}
+use Rattle.txn_records.specs.Records.{field_bytes, state_bytes, actors_bytes, tids_bytes, info_bytes, complete_bytes, prepare_bytes, values_bytes, done_bytes, act_done_bytes, record_bytes, IsState, IsInfo, IsDone, IsActDone, IsRecord}
 use Rattle.record_words.specs.Told.{told, bid_of, tid_of, actor_of, tids_of, actors_of}
 use Rattle.group_sizes.specs.Sizes.{longest_told}
 
@@ -56,14 +56,21 @@ prepare_size tid actor state is =
     let one = state_size state is in
     omega (arith, all, one)
 
-act_size : (tid : Tid) (m : Bid) (c : ℕ) (actors : List ActorId) → IsAct tid m c actors → length (act_bytes tid m c actors) ≤ longest_told
-act_size tid m c actors is =
-    let all : length (act_bytes tid m c actors) ≡ 27 + length (actors_bytes actors) = omega arith in
-    omega (arith, all, actors_size actors, is.few)
+done_size : (bid : Bid) (values : List ℤ) → IsDone bid values → length (done_bytes bid values) ≤ longest_told
+done_size bid values is =
+    let all : length (done_bytes bid values) ≡ 11 + length (values_bytes values) = omega arith in
+    omega (arith, all, fields_size values, is.few)
+
+act_size : (tid : Tid) (m : Bid) (c : ℕ) (value : ℤ) (actors : List ActorId) → IsActDone tid m c value actors → length (act_done_bytes tid m c value actors) ≤ longest_told
+act_size tid m c value actors is =
+    let behind : List ℕ = to_be_bytes w16 (length actors) ++ actors_bytes actors in
+    let all : length (act_done_bytes tid m c value actors) ≡ 25 + length (field_bytes value ++ behind) = omega arith in
+    let two : length behind ≡ 2 + length (actors_bytes actors) = omega arith in
+    omega (arith, all, length-append (field_bytes value) behind, field_size value, two, actors_size actors, is.few)
 
 pub told_size : (r : LogRecord) → IsRecord (told r) → length (record_bytes (told r)) ≤ longest_told
 told_size (BatchInfo bid actors tids) is = info_size (bid_of bid) (actors_of actors) (tids_of tids) is
 told_size (BatchComplete bid actor state) is = complete_size (bid_of bid) (actor_of actor) state is.is_state
-told_size (BatchCommit bid) is = omega arith
+told_size (BatchDone bid values) is = done_size (bid_of bid) values is
 told_size (ActPrepare tid actor state) is = prepare_size (tid_of tid) (actor_of actor) state is.is_state
-told_size (ActCommit tid m c actors) is = act_size (tid_of tid) (bid_of m) c (actors_of actors) is
+told_size (ActDone tid m c value actors) is = act_size (tid_of tid) (bid_of m) c value (actors_of actors) is

@@ -1,10 +1,10 @@
 -- What is told can be told back.
-use Rattle.std.proofs.Common.{◌≡◌, ℕ, List, [], ◌∷◌, map, refl, ap, sym, ◌∙◌}
+use Rattle.std.proofs.Common.{◌≡◌, ℕ, pos, List, [], ◌∷◌, map, refl, ap, sym, ◌∙◌}
 use Rattle.snap_base.specs.declared.ids.ActorId.{ActorId}
 use Rattle.snap_base.specs.declared.ids.Tid.{Tid}
 use Rattle.txn_records.specs.declared.records.Record.{Record}
 use Rattle.txn_records.specs.declared.records.Record.TheVariants as records
-use Rattle.protocol.specs.Records.{LogRecord, BatchInfo, BatchComplete, BatchCommit, ActPrepare, ActCommit}
+use Rattle.protocol.specs.Records.{LogRecord, BatchInfo, BatchComplete, BatchDone, ActPrepare, ActDone}
 use Rattle.record_words.specs.Told.{told, actor_of, tid_of}
 use Rattle.log_part.specs.Laws.{ToldOnce}
 
@@ -14,14 +14,16 @@ actors_back actors = map (λ (a : ActorId). a.0) actors
 abbrev tids_back : List Tid → List ℕ
 tids_back tids = map (λ (t : Tid). t.0) tids
 
--- a Genesis is none of the machine's: any record does
+-- a Genesis and the commits of format 1 are none of the machine's: any record does
 abbrev told_back : Record → LogRecord
-told_back (records.Genesis logs states) = BatchCommit logs
+told_back (records.Genesis logs states) = BatchDone logs []
 told_back (records.BatchInfo bid actors tids) = BatchInfo bid.0 (actors_back actors) (tids_back tids)
 told_back (records.BatchComplete bid actor state) = BatchComplete bid.0 actor.0 state
-told_back (records.BatchCommit bid) = BatchCommit bid.0
+told_back (records.BatchCommit bid) = BatchDone bid.0 []
 told_back (records.ActPrepare tid actor state) = ActPrepare tid.0 actor.0 state
-told_back (records.ActCommit tid m c actors) = ActCommit tid.0 m.0 c (actors_back actors)
+told_back (records.ActCommit tid m c actors) = ActDone tid.0 m.0 c (pos 0) (actors_back actors)
+told_back (records.BatchDone bid values) = BatchDone bid.0 values
+told_back (records.ActDone tid m c value actors) = ActDone tid.0 m.0 c value (actors_back actors)
 
 actors_again : (actors : List ℕ) → actors_back (map actor_of actors) ≡ actors
 actors_again [] = refl
@@ -34,9 +36,9 @@ tids_again (t ∷ rest) = ap (λ (xs : List ℕ). t ∷ xs) (tids_again rest)
 told_again : (r : LogRecord) → told_back (told r) ≡ r
 told_again (BatchInfo bid actors tids) = ap (λ (xs : List ℕ). BatchInfo bid xs (tids_back (map tid_of tids))) (actors_again actors) ∙ ap (BatchInfo bid actors) (tids_again tids)
 told_again (BatchComplete bid actor state) = refl
-told_again (BatchCommit bid) = refl
+told_again (BatchDone bid values) = refl
 told_again (ActPrepare tid actor state) = refl
-told_again (ActCommit tid m c actors) = ap (ActCommit tid m c) (actors_again actors)
+told_again (ActDone tid m c value actors) = ap (ActDone tid m c value) (actors_again actors)
 
 pub told_once : ToldOnce
 told_once r q same = sym (told_again r) ∙ (ap told_back same ∙ told_again q)

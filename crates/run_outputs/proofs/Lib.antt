@@ -5,6 +5,7 @@ pub mod Pieces
 pub mod ProgramsLeave
 pub mod RecordsKept
 pub mod RepliesGrown
+pub mod ResultsFit
 pub mod RunsLonger
 pub mod SlicesFit
 pub mod StatesKept

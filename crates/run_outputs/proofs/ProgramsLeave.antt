@@ -32,7 +32,7 @@ started_fits t tx b = record { top = record { actor = b.actor; variables = b.val
 
 next_met : (x : slices.Next) → FitNext x → MetNext FitRest (as_next x)
 next_met (slice.Go b d) h = h
-next_met (slice.Ended r) h = tt
+next_met (slice.Ended r) h = h
 
 pub program_leaves : (p : List CheckedMethod) (w : Text) → IsClosedProgram p → IsTextOf p w → AllByRecursion IsState w.opening.states → LeavesStates (with_code p w) FitRest
 program_leaves p w closed is opens =

@@ -1,5 +1,5 @@
 -- Along a run each record of each log has a spelling.
-use Rattle.std.specs.Prelude.{◌≡◌, refl, ℕ, zero, suc, ◌%◌, ◌==◌, Bool, true, false, if◌then◌else◌, Option, Some, None, List, [], ◌∷◌, ◌++◌, length, drop, take, map, replicate, slice_set}
+use Rattle.std.specs.Prelude.{◌≡◌, refl, ℕ, ℤ, zero, suc, ◌%◌, ◌==◌, Bool, true, false, if◌then◌else◌, Option, Some, None, List, [], ◌∷◌, ◌++◌, length, drop, take, map, replicate, slice_set}
 use Rattle.std.specs.List.{AllByRecursion}
 use Rattle.std.proofs.Common.{arith, sym, subst}
 use Rattle.std.proofs.lemmas.Bool.{eqb-true}
@@ -11,9 +11,9 @@ use Rattle.protocol.specs.Events.{Event, Form, Complete, Sync, Commit, Prepare, 
 use Rattle.protocol.specs.Fixed.{Fixed}
 use Rattle.protocol.specs.OnRing.{next_actors, next_pacts}
 use Rattle.protocol.specs.Parts.{Act, Log, Machine}
-use Rattle.protocol.specs.Records.{LogRecord, ActCommit}
+use Rattle.protocol.specs.Records.{LogRecord, ActDone}
 use Rattle.protocol.specs.Runs.{EachAllowed, IsRun, opening, reached, state_after}
-use Rattle.protocol.specs.Words.{act_of, is_value}
+use Rattle.protocol.specs.Words.{act_of, batch_of, is_value, value_of, values_of}
 use Rattle.record_log.specs.Growth.{all_records}
 use Rattle.record_words.specs.Told.{actor_of, actors_of, all_told, bid_of, tids_of, told}
 use Rattle.txn_records.specs.declared.records.Record.{Record}
@@ -22,7 +22,9 @@ use Rattle.run_outputs.specs.Groups.{durable, groups_of}
 use Rattle.run_outputs.specs.Recorded.{AreRecords, GroupsHoldRecords}
 use Rattle.run_outputs.proofs.RunsLonger.{allowed_longer, state_longer}
 use Rattle.run_outputs.proofs.StatesKept.{Keeps, LeavesStates, CellKeeps, event_keeps, none_keeps, opening_keeps}
-use Rattle.run_outputs.proofs.StatesKept.{all_at, all_join, all_set}
+use Rattle.run_outputs.proofs.StatesKept.{If, all_at, all_found, all_join, all_set}
+use Rattle.run_outputs.proofs.ResultsFit.{ActFits, Frames, ResultsFit, results_stay, value_fits, values_fit}
+use Rattle.run_outputs.proofs.ValuesFit.{Fits}
 
 IsTold : LogRecord → Type 0
 IsTold r = IsRecord (told r)
@@ -55,11 +57,12 @@ longer : (ns : List ℕ) → length (actors_of ns) ≡ length ns
 longer [] = refl
 longer (n ∷ ns) = rw (longer ns) refl
 
-act_is : (t m c : ℕ) (actors : List ℕ) → IsActRecord t m c actors → IsRecord (told (ActCommit t m c actors))
-act_is t m c actors h = record {
+act_is : (t m c : ℕ) (v : ℤ) (actors : List ℕ) → IsActRecord t m c actors → Fits v → IsRecord (told (ActDone t m c v actors))
+act_is t m c v actors h fits = record {
   tid_fits = omega (arith, h.tid_fits);
   m_fits = omega (arith, h.m_fits);
   c_fits = omega (arith, h.c_fits);
+  value_fits = fits;
   some = omega (arith, h.some, longer actors);
   few = omega (arith, h.few, longer actors);
   ascend = rw (numbers_back actors) h.ascend;
@@ -73,31 +76,33 @@ found_tid t (y ∷ ys) x e = by (y.tid == t) refl e (found_tid t ys x)
     by true q i k = let same : y ≡ x = cc i in subst (λ z. z.tid ≡ t) same (eqb-true y.tid t q)
     by false q i k = k i
 
-decided_is : (t c : ℕ) (acts : List Act) → ((x : Act) → act_of t acts ≡ Some x → IsActRecord t x.m c (ascending (map (λ p. p.actor) x.places))) → AllByRecursion IsTold (act_commit c (act_of t acts))
+decided_is : (t c : ℕ) (acts : List Act) → AllByRecursion ActFits acts → ((x : Act) → act_of t acts ≡ Some x → IsActRecord t x.m c (ascending (map (λ p. p.actor) x.places))) → AllByRecursion IsTold (act_commit c (act_of t acts))
 unfolding IsTold
-decided_is t c acts h = by (act_of t acts) refl
+decided_is t c acts fit h = by (act_of t acts) refl (all_found ActFits (λ x. x.tid == t) acts fit)
   where
-    by : (o : Option Act) → act_of t acts ≡ o → AllByRecursion IsTold (act_commit c o)
-    by None e = tt
-    by (Some x) e = valued (is_value x.result)
+    by : (o : Option Act) → act_of t acts ≡ o → If ActFits o → AllByRecursion IsTold (act_commit c o)
+    by None e f = tt
+    by (Some x) e f = valued (is_value x.result)
       where
-        valued : (b : Bool) → AllByRecursion IsTold (if b then ActCommit x.tid x.m c (ascending (map (λ p. p.actor) x.places)) ∷ [] else [])
-        valued true = (subst (λ u. IsRecord (told (ActCommit u x.m c (ascending (map (λ p. p.actor) x.places))))) (sym (found_tid t acts x e)) (act_is t x.m c (ascending (map (λ p. p.actor) x.places)) (h x e)), tt)
+        valued : (b : Bool) → AllByRecursion IsTold (if b then ActDone x.tid x.m c (value_of x.result) (ascending (map (λ p. p.actor) x.places)) ∷ [] else [])
+        valued true =
+            let actors = ascending (map (λ p. p.actor) x.places) in
+            (subst (λ u. IsRecord (told (ActDone u x.m c (value_of x.result) actors))) (sym (found_tid t acts x e)) (act_is t x.m c (value_of x.result) actors (h x e) (value_fits x.result f)), tt)
         valued false = tt
 
-event_tells : {C : Type 0} (w : Fixed C) (Met : C → Type 0) (e : Event) (s : Machine C) → IsAllowed w e s → RowsMay w s → Keeps Met s → LogsHold s → LogsHold (after w e s)
+event_tells : {C : Type 0} (w : Fixed C) (Met : C → Type 0) (e : Event) (s : Machine C) → IsAllowed w e s → RowsMay w s → Keeps Met s → ResultsFit s → LogsHold s → LogsHold (after w e s)
 unfolding LogsHold LogHolds IsTold after
-event_tells w Met (Form k) s ok may kept h =
+event_tells w Met (Form k) s ok may kept fit h =
     one_more s (k % w.text.logs) _ (may.tells_info k ok (bid_of k) (actors_of (next_actors w.text s.ring)) (tids_of (map (λ p. p.tid) (next_pacts w.text s.ring))) refl (numbers_back (next_actors w.text s.ring)) (tids_back (map (λ p. p.tid) (next_pacts w.text s.ring))), tt) h
-event_tells w Met (Complete k a) s ok may kept h =
+event_tells w Met (Complete k a) s ok may kept fit h =
     one_more s (a % w.text.logs) _ (may.tells_complete k a ok (bid_of k) (actor_of a) (cell_at s a).state refl refl (all_at (CellKeeps Met) s.cells a _ (none_keeps Met) kept.cells).state, tt) h
-event_tells w Met (Sync l) s ok may kept h = all_set LogHolds s.logs l (synced (log_at s l)) (log_here s l h) h
-event_tells w Met (Commit k) s ok may kept h = one_more s (k % w.text.logs) _ (may.tells_commit k ok (bid_of k) refl, tt) h
-event_tells w Met (Prepare t a) s ok may kept h =
+event_tells w Met (Sync l) s ok may kept fit h = all_set LogHolds s.logs l (synced (log_at s l)) (log_here s l h) h
+event_tells w Met (Commit k) s ok may kept fit h = one_more s (k % w.text.logs) _ (may.tells_commit k ok (bid_of k) (values_of (batch_of k s.desk.batches)) refl refl (values_fit s k fit), tt) h
+event_tells w Met (Prepare t a) s ok may kept fit h =
     let fits = may.tells_prepare t a ok in
     one_more s (a % w.text.logs) _ (record { tid_fits = omega (arith, fits.0); actor_fits = fits.1; is_state = (all_at (CellKeeps Met) s.cells a _ (none_keeps Met) kept.cells).state }, tt) h
-event_tells w Met (Decide t) s ok may kept h = one_more s (t % w.text.logs) _ (decided_is t s.book.next_c s.book.acts (λ x e. may.tells_act t x ok e)) h
-event_tells w Met _ s ok may kept h = h
+event_tells w Met (Decide t) s ok may kept fit h = one_more s (t % w.text.logs) _ (decided_is t s.book.next_c s.book.acts fit.acts (λ x e. may.tells_act t x ok e)) h
+event_tells w Met _ s ok may kept fit h = h
 
 -- ---- a run
 
@@ -115,10 +120,11 @@ unfolding LogHolds
 no_records zero = tt
 no_records (suc n) = (tt, no_records n)
 
-run_holds : {C : Type 0} (w : Fixed C) (Met : C → Type 0) (es : List Event) → LeavesStates w Met → ((es : List Event) → IsRun w es → RowsMay w (reached w es)) → IsRun w es → LogsHold (reached w es)
+run_holds : {C : Type 0} (w : Fixed C) (Met : C → Type 0) (es : List Event) → Frames w → LeavesStates w Met → ((es : List Event) → IsRun w es → RowsMay w (reached w es)) → IsRun w es → LogsHold (reached w es)
 unfolding LogsHold
-run_holds w Met es leaves may run =
-    (along_run w (RowsMay w) (λ s. Keeps Met s × LogsHold s) may (λ e s ok m p. (event_keeps w Met e s leaves p.0, event_tells w Met e s ok m p.0 p.1)) [] es tt (opening_keeps w Met leaves, no_records w.text.logs) run).1
+run_holds w Met es frames leaves may run =
+    (along_run w (RowsMay w) (λ s. Keeps Met s × ResultsFit s × LogsHold s) may (λ e s ok m p. (event_keeps w Met e s leaves p.0, results_stay w Met frames e s p.0 p.1, event_tells w Met e s ok m p.0 p.1 p.2)) [] es tt
+    (opening_keeps w Met leaves, record { batches = tt; acts = tt }, no_records w.text.logs) run).2
 
 -- ---- groups
 
@@ -147,11 +153,11 @@ each_group (group ∷ groups) h =
     let p = all_parts group (all_records groups) (subst AreRecords (flat_map-cons (λ (g : List Record). g) group groups) h) in
     (p.0, each_group groups p.1)
 
-pub groups_hold : {C : Type 0} (w : Fixed C) (Met : C → Type 0) (es : List Event) (l : ℕ) → LeavesStates w Met → ((es : List Event) → IsRun w es → RowsMay w (reached w es)) → IsRun w es
+pub groups_hold : {C : Type 0} (w : Fixed C) (Met : C → Type 0) (es : List Event) (l : ℕ) → Frames w → LeavesStates w Met → ((es : List Event) → IsRun w es → RowsMay w (reached w es)) → IsRun w es
     → all_records (groups_of w l es) ≡ durable (log_at (reached w es) l) → GroupsHoldRecords w es l
-groups_hold w Met es l leaves may run e =
+groups_hold w Met es l frames leaves may run e =
     let g = log_at (reached w es) l in
-    let h = log_here (reached w es) l (run_holds w Met es leaves may run) in
+    let h = log_here (reached w es) l (run_holds w Met es frames leaves may run) in
     record {
       groups = each_group (groups_of w l es) (subst AreRecords (sym e) (all_told_are (take g.synced g.records) (all_take IsTold g.synced g.records h)));
       waiting = all_told_are (drop g.synced g.records) (all_drop IsTold g.synced g.records h);

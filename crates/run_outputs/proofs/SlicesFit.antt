@@ -16,6 +16,7 @@ use Rattle.aml_slice.specs.Controls.{Frame, Rest, progress_in, most_waiting, mov
 use Rattle.aml_slice.specs.Slicing.{Move, To, Out, SliceEnd, returned, unless_refused, called_on, moved_by, move, after_move, slice_end_in, slice_end}
 use Rattle.txn_records.specs.Records.{IsState}
 use Rattle.run_outputs.proofs.ValuesFit.{Has, all_push, Fits, AllFit, nought_fits, method_small}
+use Rattle.run_outputs.proofs.StatesKept.{ResultFits}
 use Rattle.run_outputs.proofs.PausesFit.{FitPause, method_fit}
 
 pub record FitFrame (f : Frame) : Type 0 where
@@ -28,11 +29,11 @@ pub record FitRest (c : Rest) : Type 0 where
 
 abbrev pub FitMove : Move → Type 0
 FitMove (To d t) = FitRest d × IsState t
-FitMove (Out r t) = IsState t
+FitMove (Out r t) = ResultFits r × IsState t
 
 abbrev pub FitNext : Next → Type 0
 FitNext (Go b d) = FitRest d
-FitNext (Ended r) = Unit {0}
+FitNext (Ended r) = ResultFits r
 
 pub record FitEnd (x : SliceEnd) : Type 0 where
   pub state : IsState x.state
@@ -41,12 +42,12 @@ pub record FitEnd (x : SliceEnd) : Type 0 where
 -- ---- one move
 
 returned_fits : (c : Rest) (fs : List Frame) (v : ℤ) (t : State) (n : ℕ) → AllByRecursion FitFrame fs → Fits v → IsState t → FitMove (returned c fs v t n)
-returned_fits c [] v t n h fits is = is
+returned_fits c [] v t n h fits is = (fits, is)
 returned_fits c (f ∷ fs) v t n h fits is = (record { top = record { actor = h.0.actor; variables = all_push Fits f.standing.variables v h.0.variables fits }; waiting = h.1 }, is)
 
 refused_fits : {A : Type 0} (P : A → Type 0) (t : State) (m : Result A ℕ) (next : A → Move) → IsState t → Has P m → ((x : A) → P x → FitMove (next x)) → FitMove (unless_refused t m next)
 refused_fits P t (Ok x) next is h k = k x h
-refused_fits P t (Err code) next is h k = is
+refused_fits P t (Err code) next is h k = (tt, is)
 
 actor_below : (count : ℕ) (target : ℤ) → Has (λ a. a < count) (actor_of count target)
 actor_below count (pos n) = by (nat_lt n count) refl
@@ -70,13 +71,13 @@ called_fits count c target m arguments g t n few h all variables is =
     either (nat_lt (length c.waiting) most_waiting) _ _
     (refused_fits (λ q. Unit {0}) t (admitted a (record (progress_in c []) { statements = n })) _ is (anything _) (λ q _.
     (record { top = record { actor = omega (arith, below, few); variables = all }; waiting = (record { actor = h.top.actor; variables = variables }, h.waiting) }, is)))
-    is)
+    (tt, is))
 
 moved_fits : (count : ℕ) (c : Rest) (p : Pause) → count ≤ 2 ^ 63 → FitRest c → FitPause p → FitMove (moved_by count c p)
 moved_fits count c (Through vs t n) few h f = returned_fits c c.waiting (pos 0) t n h.waiting nought_fits f.1
 moved_fits count c (Returned v t n) few h f = returned_fits c c.waiting v t n h.waiting f.0 f.1
 moved_fits count c (Calling target m arguments g t n) few h f = called_fits count c target m arguments g t n few h f.0 f.1 f.2
-moved_fits count c (Failed code t n) few h f = f
+moved_fits count c (Failed code t n) few h f = (tt, f)
 
 -- ---- a slice
 
@@ -86,7 +87,7 @@ after_fits own more (To d t) h k = by (d.top.actor == own)
     by : (b : Bool) → FitEnd (if b then more d t else record { state = t; next = Go (record { 0 = d.top.actor }) d })
     by true = k d t h.0 h.1
     by false = record { state = h.1; next = h.0 }
-after_fits own more (Out r t) h k = record { state = h; next = tt }
+after_fits own more (Out r t) h k = record { state = h.1; next = h.0 }
 
 slices_fit : (p : List CheckedMethod) (count own more : ℕ) → IsClosedProgram p → count ≤ 2 ^ 63 → (c : Rest) (s : State) → FitRest c → IsState s → FitEnd (slice_end_in more p count own c s)
 slices_fit p count own zero closed few = λ c s h is. record { state = is; next = tt }

@@ -2,6 +2,8 @@
 use Rattle.std.specs.Prelude.{refl, ℕ, zero, suc, ◌==◌, Bool, true, false, is_some, if◌then◌else◌, Option, Some, None, List, [], ◌∷◌, ◌++◌, map, filter, find, slice_index_or, slice_set}
 use Rattle.std.specs.List.{AllByRecursion}
 use Rattle.snap_base.specs.declared.transactions.State.{State}
+use Rattle.snap_base.specs.declared.transactions.TxResult.{TxResult}
+use Rattle.snap_base.specs.declared.transactions.TxResult.TheVariants.{Value, Fail}
 use Rattle.txn_records.specs.Records.{IsState}
 use Rattle.protocol.specs.Effects.{after, cell_at, no_cell}
 use Rattle.protocol.specs.Events.{Event, Form, Admit, Arrive, Ask, Take, Run, Send, End, Close, Complete, Rollback, DropControl, Finish, Trim}
@@ -12,14 +14,19 @@ use Rattle.protocol.specs.OnRing as ring
 use Rattle.protocol.specs.Parts.{Act, Cell, ControlMessage, Image, Machine, OfAct, OfBatch, Outcome, Pact, Waiting, Who}
 use Rattle.protocol.specs.Runs.{new_cell, opening}
 use Rattle.protocol.specs.Words.{act_of, control_of, image_of, outcome_of, waiting_of}
-use Rattle.run_outputs.proofs.ValuesFit.{noughts_fit}
+use Rattle.run_outputs.proofs.ValuesFit.{Fits, noughts_fit}
 
 -- ---- what is kept
 
--- what goes on is a control that may be met
+-- a result whose value has 64 bits
+abbrev pub ResultFits : TxResult → Type 0
+ResultFits (Value v) = Fits v
+ResultFits (Fail code) = Unit {0}
+
+-- what goes on is a control that may be met, and what ended has a result within 64 bits
 abbrev pub MetNext : {C : Type 0} → (C → Type 0) → Next C → Type 0
 MetNext Met (Go a c) = Met c
-MetNext Met (Ended r) = Unit {0}
+MetNext Met (Ended r) = ResultFits r
 
 -- Code that leaves states where it finds some, by which controls may be met.
 pub record LeavesStates {C : Type 0} (w : Fixed C) (Met : C → Type 0) : Type 0 where
@@ -67,7 +74,7 @@ abbrev pub If : {X : Type 0} → (X → Type 0) → Option X → Type 0
 If P None = Unit {0}
 If P (Some x) = P x
 
-all_found : {X : Type 0} (P : X → Type 0) (p : X → Bool) (xs : List X) → AllByRecursion P xs → If P (find p xs)
+pub all_found : {X : Type 0} (P : X → Type 0) (p : X → Bool) (xs : List X) → AllByRecursion P xs → If P (find p xs)
 all_found P p [] h = tt
 all_found P p (x ∷ xs) h = by (p x) (all_found P p xs h.1)
   where
@@ -153,7 +160,7 @@ left_keeps Met t x c h = record {
 
 -- ---- an event
 
-here : {C : Type 0} (Met : C → Type 0) (s : Machine C) (a : ℕ) → Keeps Met s → CellKeeps Met (cell_at s a)
+pub here : {C : Type 0} (Met : C → Type 0) (s : Machine C) (a : ℕ) → Keeps Met s → CellKeeps Met (cell_at s a)
 here Met s a h = all_at (CellKeeps Met) s.cells a no_cell (none_keeps Met) h.cells
 
 -- one cell becomes another one

@@ -7,6 +7,7 @@ use aml_check::Checked;
 use aml_slice::Control;
 use core_facts::rows_may_be_taken;
 use machine_laws::texts_have_the_facts;
+use protocol_laws::frame;
 
 /// In every run of every text of the program whose opening's states are states, each record of each group that a log gets is a
 /// record, and so is each that waits there.
@@ -16,5 +17,6 @@ pub fn groups_are_records(program: &Checked)
     program.methods();
     texts_have_the_facts(program);
     rows_may_be_taken::<Control>();
+    frame::<Control>();
     groups_grow::<Control>();
 }

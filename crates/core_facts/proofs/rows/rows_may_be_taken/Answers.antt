@@ -20,4 +20,5 @@ returns g c w finish es f text run = rows_may w finish (reached w es) (history w
   few_places = c.places_are_few.ensures w finish es f text run;
   halves = c.halves_go_on.ensures w finish es f text run;
   joins = c.planned_batch_may_join.ensures w (reached w es);
+  few_records = c.records_are_few.ensures w finish es f text run;
 })

@@ -2,7 +2,8 @@ use Rattle.std.proofs.Common.{◌≡◌, ◌%◌, Some, [], ◌∷◌, slice_get
 use Rattle.log_set.specs.Logs.{LogList}
 use Rattle.protocol.specs.Effects.{after, added, log_at}
 use Rattle.protocol.specs.Events.{Commit}
-use Rattle.protocol.specs.Records.{BatchCommit}
+use Rattle.protocol.specs.Records.{BatchDone}
+use Rattle.protocol.specs.Words.{batch_of, values_of}
 use Rattle.snap_hand.specs.Tables.{fixed_of, text_of}
 use Rattle.snap_hand.proofs.Held.{desk_there}
 use Rattle.snap_hand.proofs.LogSteps.{log_held, log_shown, on_desk_and_log}
@@ -21,4 +22,4 @@ commit-step-requires c = of_run (fixed_of c.args.tables.now) c.args.hand.now _ (
 
 pub returns : goal.returns
 unfolding after
-returns c = on_desk_and_log (fixed_of c.args.tables.now) (Commit c.args.k.0) c.args.hand.now c.take_desk-desk.new.self c.take_log-log.new.self c.put_desk.new.self c.put_log.new.self c.args.k.0 c.log_of-place.result c.deref_mut.result.now c.commit-step.new.desk c.deref_mut-2.result.now c.commit-step.new.log (λ s. added (BatchCommit c.args.k.0 ∷ []) (log_at s (c.args.k.0 % (text_of c.args.tables.now).logs))) c.commit-step.result (λ s. refl) c.requires.asked.places refl c.log_of-place.ensures (lent _ _ _ c.take_desk-desk.ensures.there c.deref_mut.ensures.value) c.take_desk-desk.ensures.taken (lent_log _ _ _ c.take_log-log.ensures.there c.deref_mut-2.ensures.value) c.take_log-log.ensures.taken c.put_desk.ensures c.put_log.ensures c.commit-step.ensures.ok c.commit-step.ensures.no c.commit-step.ensures.desk c.commit-step.ensures.log
+returns c = on_desk_and_log (fixed_of c.args.tables.now) (Commit c.args.k.0) c.args.hand.now c.take_desk-desk.new.self c.take_log-log.new.self c.put_desk.new.self c.put_log.new.self c.args.k.0 c.log_of-place.result c.deref_mut.result.now c.commit-step.new.desk c.deref_mut-2.result.now c.commit-step.new.log (λ s. added (BatchDone c.args.k.0 (values_of (batch_of c.args.k.0 s.desk.batches)) ∷ []) (log_at s (c.args.k.0 % (text_of c.args.tables.now).logs))) c.commit-step.result (λ s. refl) c.requires.asked.places refl c.log_of-place.ensures (lent _ _ _ c.take_desk-desk.ensures.there c.deref_mut.ensures.value) c.take_desk-desk.ensures.taken (lent_log _ _ _ c.take_log-log.ensures.there c.deref_mut-2.ensures.value) c.take_log-log.ensures.taken c.put_desk.ensures c.put_log.ensures c.commit-step.ensures.ok c.commit-step.ensures.no c.commit-step.ensures.desk c.commit-step.ensures.log
