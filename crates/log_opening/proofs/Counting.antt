@@ -53,6 +53,7 @@ no_read law count before after found (ending.Refused log offset cause.TwoGenesis
 no_read law count before after found (ending.Refused log offset (cause.LogCount k f)) size are why = absurd why
 no_read law count before after found (ending.Refused log offset (cause.Range k)) size are why = absurd why
 no_read law count before after found (ending.Refused log offset (cause.Missing k)) size are why = absurd why
+no_read law count before after found (ending.Refused log offset (cause.Values k u v)) size are why = absurd why
 no_read law count before after found (ending.Refused log offset (cause.Spent n)) size are why = absurd why
 no_read law count before after found (ending.Refused log offset (cause.Differs w k t)) size are why = absurd why
 no_read law count before after found (ending.Device log) size are why = absurd why

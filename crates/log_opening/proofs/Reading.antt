@@ -9,7 +9,7 @@ use Rattle.snap_outside.specs.Disk.{History, content}
 use Rattle.gate_log.specs.declared.logs.LogItem.{LogItem}
 use Rattle.gate_log.specs.Opened.{Opened}
 use Rattle.txn_records.specs.declared.records.Record.{Record}
-use Rattle.txn_records.specs.declared.records.Record.TheVariants.{Genesis, BatchInfo, BatchComplete, BatchCommit, ActPrepare, ActCommit}
+use Rattle.txn_records.specs.declared.records.Record.TheVariants.{Genesis, BatchInfo, BatchComplete, BatchCommit, ActPrepare, ActCommit, BatchDone, ActDone}
 use Rattle.txn_records.specs.Records.{IsRecord}
 use Rattle.record_log.specs.Records.{HoldsRecords, AreItemsOf, IsFirstBadIn}
 use Rattle.record_log.specs.RecordLogLaws.{OpenedHeld, ItemsAreRecords}
@@ -31,6 +31,8 @@ said_first (BatchComplete b a s ∷ rs) more logs states is = said_first rs more
 said_first (BatchCommit b ∷ rs) more logs states is = said_first rs more logs states is
 said_first (ActPrepare t a s ∷ rs) more logs states is = said_first rs more logs states is
 said_first (ActCommit t m c a ∷ rs) more logs states is = said_first rs more logs states is
+said_first (BatchDone b v ∷ rs) more logs states is = said_first rs more logs states is
+said_first (ActDone t m c v a ∷ rs) more logs states is = said_first rs more logs states is
 
 pub said_one : (rs : List Record) → filter is_genesis rs ≡ [] → logs_said rs ≡ 1
 said_one [] none = refl
@@ -40,6 +42,8 @@ said_one (BatchComplete b a s ∷ rs) none = said_one rs none
 said_one (BatchCommit b ∷ rs) none = said_one rs none
 said_one (ActPrepare t a s ∷ rs) none = said_one rs none
 said_one (ActCommit t m c a ∷ rs) none = said_one rs none
+said_one (BatchDone b v ∷ rs) none = said_one rs none
+said_one (ActDone t m c v a ∷ rs) none = said_one rs none
 
 -- the Geneses of one log
 pub geneses_one : (logs : List (List Record)) (rs : List Record) → logs ≡ rs ∷ [] → geneses logs ≡ filter is_genesis rs
@@ -53,6 +57,8 @@ said_range (BatchComplete b a s ∷ rs) are = said_range rs are.1
 said_range (BatchCommit b ∷ rs) are = said_range rs are.1
 said_range (ActPrepare t a s ∷ rs) are = said_range rs are.1
 said_range (ActCommit t m c a ∷ rs) are = said_range rs are.1
+said_range (BatchDone b v ∷ rs) are = said_range rs are.1
+said_range (ActDone t m c v a ∷ rs) are = said_range rs are.1
 
 -- ---- what the devices hold
 
@@ -149,6 +155,7 @@ bad_among found known log logs more (ending.Refused l offset cause.TwoGenesis) l
 bad_among found known log logs more (ending.Refused l offset (cause.LogCount k f)) lt all same why = absurd why
 bad_among found known log logs more (ending.Refused l offset (cause.Range k)) lt all same why = absurd why
 bad_among found known log logs more (ending.Refused l offset (cause.Missing k)) lt all same why = absurd why
+bad_among found known log logs more (ending.Refused l offset (cause.Values k u v)) lt all same why = absurd why
 bad_among found known log logs more (ending.Refused l offset (cause.Spent n)) lt all same why = absurd why
 bad_among found known log logs more (ending.Refused l offset (cause.Differs w k t)) lt all same why = absurd why
 bad_among found known log logs more (ending.Device l) lt all same why = absurd why

@@ -81,6 +81,7 @@ reading_no before after found (ending.Refused log offset cause.TwoGenesis) one a
 reading_no before after found (ending.Refused log offset (cause.LogCount k f)) one are why = absurd why
 reading_no before after found (ending.Refused log offset (cause.Range k)) one are why = absurd why
 reading_no before after found (ending.Refused log offset (cause.Missing k)) one are why = absurd why
+reading_no before after found (ending.Refused log offset (cause.Values k u v)) one are why = absurd why
 reading_no before after found (ending.Refused log offset (cause.Spent n)) one are why = absurd why
 reading_no before after found (ending.Refused log offset (cause.Differs w k t)) one are why = absurd why
 reading_no before after found (ending.Device log) one are why = absurd why
@@ -101,6 +102,7 @@ decoding_no law before after found first (ending.Refused log offset cause.TwoGen
 decoding_no law before after found first (ending.Refused log offset (cause.LogCount k f)) held said are why = absurd why
 decoding_no law before after found first (ending.Refused log offset (cause.Range k)) held said are why = absurd why
 decoding_no law before after found first (ending.Refused log offset (cause.Missing k)) held said are why = absurd why
+decoding_no law before after found first (ending.Refused log offset (cause.Values k u v)) held said are why = absurd why
 decoding_no law before after found first (ending.Refused log offset (cause.Spent n)) held said are why = absurd why
 decoding_no law before after found first (ending.Refused log offset (cause.Differs w k t)) held said are why = absurd why
 decoding_no law before after found first (ending.Device log) held said are why = absurd why
@@ -125,6 +127,7 @@ recovery_no before after logs (ending.Refused log offset cause.TwoGenesis) given
 recovery_no before after logs (ending.Refused log offset (cause.LogCount k f)) given opened why = (why.0, (logs, given, why.1, opened))
 recovery_no before after logs (ending.Refused log offset (cause.Range k)) given opened why = (why.0, (logs, given, why.1, opened))
 recovery_no before after logs (ending.Refused log offset (cause.Missing k)) given opened why = (why.0, (logs, given, why.1, opened))
+recovery_no before after logs (ending.Refused log offset (cause.Values k u v)) given opened why = (why.0, (logs, given, why.1, opened))
 recovery_no before after logs (ending.Refused log offset (cause.Spent n)) given opened why = absurd why.1
 recovery_no before after logs (ending.Refused log offset (cause.Differs w k t)) given opened why = absurd why.1
 recovery_no before after logs (ending.Device log) given opened why = absurd why

@@ -109,6 +109,7 @@ IsRecoveryCause logs log cause.TwoGenesis = (log ≡ 0) × IsRefused logs recove
 IsRecoveryCause logs log (cause.LogCount kept found) = (log ≡ 0) × IsRefused logs (recover.LogCount kept found)
 IsRecoveryCause logs log (cause.Range k) = IsRefused logs (recover.Range k log)
 IsRecoveryCause logs log (cause.Missing k) = IsRefused logs (recover.Missing k log)
+IsRecoveryCause logs log (cause.Values k u v) = IsRefused logs (recover.Values k log u v)
 IsRecoveryCause logs log (cause.Spent number) = ⊥
 IsRecoveryCause logs log (cause.Differs what kept text) = ⊥
 

@@ -7,7 +7,7 @@ use Rattle.gate_log.specs.declared.logs.LogItem.{LogItem}
 use Rattle.gate_log.specs.declared.opens.OpenNo.TheVariants as refusal
 use Rattle.gate_log.specs.Opened.{Opened, Refused}
 use Rattle.txn_records.specs.declared.records.Record.{Record}
-use Rattle.txn_records.specs.declared.records.Record.TheVariants.{Genesis, BatchInfo, BatchComplete, BatchCommit, ActPrepare, ActCommit}
+use Rattle.txn_records.specs.declared.records.Record.TheVariants.{Genesis, BatchInfo, BatchComplete, BatchCommit, ActPrepare, ActCommit, BatchDone, ActDone}
 use Rattle.txn_records.specs.Records.{IsRecord}
 use Rattle.record_log.specs.Records.{HoldsRecords, IsFirstBadIn}
 use Rattle.snap_recover.specs.declared.causes.LogCause.{LogCause}
@@ -26,6 +26,8 @@ logs_said (BatchComplete bid actor state ∷ rs) = logs_said rs
 logs_said (BatchCommit bid ∷ rs) = logs_said rs
 logs_said (ActPrepare tid actor state ∷ rs) = logs_said rs
 logs_said (ActCommit tid m c actors ∷ rs) = logs_said rs
+logs_said (BatchDone bid values ∷ rs) = logs_said rs
+logs_said (ActDone tid m c value actors ∷ rs) = logs_said rs
 
 -- log 0 says how many logs there are, and there are so many
 abbrev pub IsSaid : List (List Record) → Type 0

@@ -55,6 +55,12 @@ pub(crate) fn of_recovery(no: RecoverNo) -> LogsNo
         RecoverNo::LogCount { kept, found } => (0, LogCause::LogCount { kept, found }),
         RecoverNo::Range { key, log } => (log, LogCause::Range { key }),
         RecoverNo::Missing { key, log } => (log, LogCause::Missing { key }),
+        RecoverNo::Values {
+            key,
+            log,
+            kept,
+            found,
+        } => (log, LogCause::Values { key, kept, found }),
         RecoverNo::Memory => return LogsNo::Memory,
     };
     LogsNo::Refused {

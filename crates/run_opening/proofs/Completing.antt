@@ -70,6 +70,7 @@ not_refused laws logs o log cause.TwoGenesis on x = laws.never_both logs recover
 not_refused laws logs o log (cause.LogCount kept found) on x = laws.never_both logs (recover.LogCount kept found) o (λ e. cc) x.1 on
 not_refused laws logs o log (cause.Range k) on x = laws.never_both logs (recover.Range k log) o (λ e. cc) x on
 not_refused laws logs o log (cause.Missing k) on x = laws.never_both logs (recover.Missing k log) o (λ e. cc) x on
+not_refused laws logs o log (cause.Values k u v) on x = laws.never_both logs (recover.Values k log u v) o (λ e. cc) x on
 not_refused laws logs o log (cause.Spent number) on x = x
 not_refused laws logs o log (cause.Differs what kept text) on x = x
 
@@ -88,6 +89,7 @@ no_cause laws logs states o log cause.TwoGenesis on x = not_refused laws logs o 
 no_cause laws logs states o log (cause.LogCount kept found) on x = not_refused laws logs o log (cause.LogCount kept found) on.recovered x
 no_cause laws logs states o log (cause.Range k) on x = not_refused laws logs o log (cause.Range k) on.recovered x
 no_cause laws logs states o log (cause.Missing k) on x = not_refused laws logs o log (cause.Missing k) on.recovered x
+no_cause laws logs states o log (cause.Values k u v) on x = not_refused laws logs o log (cause.Values k u v) on.recovered x
 
 no_start : Laws → (logs : List (List Record)) (states : List State) (o : Opening) (answer : LogsNo) → Begins logs states o → IsNoStart logs states answer → answer ≡ ending.Memory
 no_start laws logs states o (ending.Refused log offset c) (inl fresh) why = absurd (why.1 fresh.0)
@@ -147,6 +149,7 @@ module _ (laws : Laws) (count : ℕ) (states : List State) (before after : List 
   read_well (ending.Refused log offset (cause.LogCount k f)) why = absurd why
   read_well (ending.Refused log offset (cause.Range k)) why = absurd why
   read_well (ending.Refused log offset (cause.Missing k)) why = absurd why
+  read_well (ending.Refused log offset (cause.Values k u v)) why = absurd why
   read_well (ending.Refused log offset (cause.Spent n)) why = absurd why
   read_well (ending.Refused log offset (cause.Differs w k t)) why = absurd why
   read_well (ending.Device log) why = absurd (may.quiet log why.0.asked why.1)

@@ -88,6 +88,7 @@ no_recovery logs states (ending.Refused log offset cause.TwoGenesis) some why = 
 no_recovery logs states (ending.Refused log offset (cause.LogCount k f)) some why = (why.0, some, why.1)
 no_recovery logs states (ending.Refused log offset (cause.Range k)) some why = (why.0, some, why.1)
 no_recovery logs states (ending.Refused log offset (cause.Missing k)) some why = (why.0, some, why.1)
+no_recovery logs states (ending.Refused log offset (cause.Values k u v)) some why = (why.0, some, why.1)
 no_recovery logs states (ending.Refused log offset (cause.Spent n)) some why = absurd why.1
 no_recovery logs states (ending.Refused log offset (cause.Differs w k t)) some why = absurd why.1
 no_recovery logs states (ending.Device log) some why = absurd why

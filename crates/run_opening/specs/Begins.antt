@@ -84,3 +84,4 @@ IsCause logs states log cause.TwoGenesis = IsRecoveryCause logs log cause.TwoGen
 IsCause logs states log (cause.LogCount kept found) = IsRecoveryCause logs log (cause.LogCount kept found)
 IsCause logs states log (cause.Range k) = IsRecoveryCause logs log (cause.Range k)
 IsCause logs states log (cause.Missing k) = IsRecoveryCause logs log (cause.Missing k)
+IsCause logs states log (cause.Values k u v) = IsRecoveryCause logs log (cause.Values k u v)
