@@ -35,6 +35,7 @@ driven_join a b c xs ys tried p q = record {
       subst (λ gs. GrewBy device c.told end gs tried) (append_assoc first xs ys)
       (q.grew device end (first ++ xs) (p.grew device end first grown at) (p.gate ∙ ap (λ n. end_behind_groups n xs) at ∙ sym (ends_join end first xs)));
   gate = q.gate ∙ ap (λ n. end_behind_groups n ys) p.gate ∙ sym (ends_join a.end xs ys);
+  format = q.format ∙ p.format;
   shut = q.shut;
   later = omega (arith, p.later, q.later);
   rose = rose_since a.faults b.faults c.faults tried p.later q.rose;
@@ -45,13 +46,14 @@ pub driven_none : (a b : LogState) → IsUntouched a b → a.shut ≡ false → 
 driven_none a b same ready = record {
   grew = λ device end first grown at. subst (λ gs. GrewBy device b.told end gs None) (sym (append-nil first)) (subst (λ t. GrewBy device t end first None) (sym same.told) grown);
   gate = same.end;
+  format = same.format;
   shut = same.shut ∙ ready;
   later = omega (arith, same.faults);
   rose = tt;
 }
 
 pub driven_same : (a : LogState) → a.shut ≡ false → IsDriven a a [] None
-driven_same a ready = driven_none a a (record { told = refl; end = refl; shut = refl; faults = refl }) ready
+driven_same a ready = driven_none a a (record { told = refl; end = refl; format = refl; shut = refl; faults = refl }) ready
 
 -- a group was appended
 pub driven_more : GroupGrows → (a b : LogState) (group : List Record) → MayAppendGroup a.end group → IsAppended a b (spelled group) → IsDriven a b (group ∷ []) None
@@ -61,6 +63,7 @@ driven_more law a b group may is = record {
       (subst (λ n. MayAppendGroup n group) at may)
       (subst (λ n. AddsAll a.told b.told (append_ops n (spelled group))) at is.adds);
   gate = is.gate;
+  format = is.format;
   shut = is.ready;
   later = is.later;
   rose = tt;
@@ -75,6 +78,7 @@ driven_cut_off law a b group may is = record {
       (subst (λ n. MayAppendGroup n group) at may)
       (subst (λ n. AddsUpToFault a.told b.told (append_ops n (spelled group))) at is.adds));
   gate = is.gate;
+  format = is.format;
   shut = is.shut;
   later = is.later;
   rose = is.rose;

@@ -11,6 +11,7 @@ use Rattle.snap_outside.specs.Disk.{AddsAll, AddsUpToFault}
 pub record IsAppended (old new : LogState) (pieces : List (List ℕ)) : Type 0 where
   pub adds : AddsAll old.told new.told (append_ops old.end pieces)
   pub gate : new.end ≡ end_behind old.end pieces
+  pub format : new.format ≡ old.format
   pub ready : new.shut ≡ false
   pub later : old.faults ≤ new.faults
 
@@ -18,6 +19,7 @@ pub record IsAppended (old new : LogState) (pieces : List (List ℕ)) : Type 0 w
 pub record IsCutOff (old new : LogState) (pieces : List (List ℕ)) : Type 0 where
   pub adds : AddsUpToFault old.told new.told (append_ops old.end pieces)
   pub gate : new.end ≡ old.end
+  pub format : new.format ≡ old.format
   pub shut : new.shut ≡ true
   pub rose : Rose old.faults new.faults
   pub later : old.faults ≤ new.faults

@@ -16,6 +16,7 @@ GrewOn old new groups tried = (device : Option History) (end : ℕ) (first : Lis
 pub record IsDriven (old new : LogState) (groups : List (List Record)) (tried : Option (List Record)) : Type 0 where
   pub grew : GrewOn old new groups tried
   pub gate : new.end ≡ end_behind_groups old.end groups
+  pub format : new.format ≡ old.format
   pub shut : new.shut ≡ is_some tried
   pub later : old.faults ≤ new.faults
   pub rose : IfSome tried (λ _. Rose old.faults new.faults)

@@ -7,7 +7,7 @@ use snap_base::Sequence;
 use snap_outside::LogDev;
 use std::alloc::Global;
 
-/// Appends the pieces to an open log, as one group.
+/// Appends the pieces to an open log of format 2, as one group.
 pub fn append_group<D: LogDev>(
     alloc: Global,
     log: &mut Log<D>,
@@ -15,6 +15,7 @@ pub fn append_group<D: LogDev>(
 ) -> Result<(), AppendNo>
     requires may { MayAppend log.old.end pieces.now }
     requires open { log.old.shut ≡ false }
+    requires format { log.old.format ≡ 2 }
     ensures found { log.new.found ≡ log.old.found }
     ensures appended { MatchResult result (λ _. IsAppended log.old log.new pieces.now) (λ no. IsNotAppended log.old log.new pieces.now no) }
 {

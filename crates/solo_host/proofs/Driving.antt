@@ -1,5 +1,5 @@
 -- What the outside got so far, and what it has got where the host ends.
-use Rattle.std.proofs.Common.{◌≡◌, ℕ, zero, suc, false, ◌+◌, ◌^◌, ◌≤◌, ◌<◌, List, [], ◌∷◌, ◌++◌, length, sym, subst, arith, append-nil}
+use Rattle.std.proofs.Common.{◌≡◌, ℕ, zero, suc, false, ◌+◌, ◌^◌, ◌≤◌, ◌<◌, List, [], ◌∷◌, ◌++◌, length, sym, subst, ◌∙◌, arith, append-nil}
 use Rattle.std.specs.List.{AllByRecursion}
 use Rattle.std.specs.Io.KnownBytes.{Appends}
 use Rattle.std.proofs.KnownBytes.{Appends-nil, Appends-trans}
@@ -19,7 +19,7 @@ use Rattle.run_outputs.specs.Lines.{replies_text}
 use Rattle.snap_outside.specs.Causes.{Rose}
 use Rattle.solo_host.specs.Drives.{log_at, AreDriven, IsWhy, IsPrinted, tried_on}
 use Rattle.run_journals.specs.RunsOf.{RunsOf}
-use Rattle.solo_host.specs.Outside.{Outside, Got, no_group, no_fault, AreLow, AreOpen, IsDone, IsPicked, IsEnd}
+use Rattle.solo_host.specs.Outside.{Outside, Got, no_group, no_fault, AreLow, AreOfFormat2, AreOpen, IsDone, IsPicked, IsEnd}
 use Rattle.run_journals.specs.declared.stops.Stop.{Stop}
 use Rattle.run_journals.specs.declared.stops.Stop.TheVariants as stop
 use Rattle.solo_host.proofs.GotGroups.{got_nothing, got_join, got_open, got_same}
@@ -38,6 +38,11 @@ begins w seed start ready = record { front = tt; logs = got_nothing start.logs r
 -- no append has met a fault, and what waits may be appended
 pub still_open : (w : Fixed Rest) (seed : ℕ) (es : List Event) (start now : Outside) → IsDriving w seed es start now → AreOpen now.logs
 still_open w seed es start now driving = got_open start.logs now.logs (λ l. groups_of w l es) driving.logs
+
+pub still_of_format : (w : Fixed Rest) (seed : ℕ) (es : List Event) (start now : Outside) → AreOfFormat2 start.logs → IsDriving w seed es start now → AreOfFormat2 now.logs
+still_of_format w seed es start now all driving l within =
+    let before : l < length start.logs = omega (arith, within, driving.logs.many) in
+    (driving.logs.each l before).format ∙ all l before
 
 pub still_low : (w : Fixed Rest) (seed : ℕ) (es : List Event) (start now : Outside) → RunsOf w → IsRun w es → ((l : ℕ) → l < length start.logs → (log_at start.logs l).end ≤ FARTHEST_APPEND)
     → IsDriving w seed es start now → AreLow now.logs
@@ -131,6 +136,9 @@ all_at P (x ∷ logs) (suc l) all within = all_at P logs l all.1 (omega (arith, 
 
 pub are_open : (logs : List LogState) → AllByRecursion (λ (l : LogState). l.shut ≡ false) logs → AreOpen logs
 are_open logs all l within = all_at (λ (x : LogState). x.shut ≡ false) logs l all within
+
+pub are_of_format : (logs : List LogState) → AllByRecursion (λ (l : LogState). l.format ≡ 2) logs → AreOfFormat2 logs
+are_of_format logs all l within = all_at (λ (x : LogState). x.format ≡ 2) logs l all within
 
 pub are_near : (logs : List LogState) → AllByRecursion (λ (l : LogState). l.end ≤ FARTHEST_END + 2 ^ 32) logs → (l : ℕ) → l < length logs → (log_at logs l).end ≤ FARTHEST_APPEND
 are_near logs all l within =

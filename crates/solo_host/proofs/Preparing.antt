@@ -37,7 +37,7 @@ use Rattle.run_journals.specs.Driven.{IsDriven}
 use Rattle.run_journals.specs.RunsOf.{RunsOf}
 use Rattle.run_journals.proofs.Driving.{pieces_spelled, driven_same, driven_none, driven_more, driven_cut_off}
 use Rattle.solo_host.specs.Drives.{log_at, tried_on}
-use Rattle.solo_host.specs.Outside.{Got, no_group, no_fault, AreLow, AreOpen, IsDone, IsGivenUp, IsSynced, IsNotSynced, outside, stop_of}
+use Rattle.solo_host.specs.Outside.{Got, no_group, no_fault, AreLow, AreOfFormat2, AreOpen, IsDone, IsGivenUp, IsSynced, IsNotSynced, outside, stop_of}
 use Rattle.run_journals.specs.declared.stops.Stop.{Stop}
 use Rattle.run_journals.specs.declared.stops.Stop.TheVariants as stop
 use Rattle.txn_records.specs.declared.records.Record.{Record}
@@ -100,6 +100,10 @@ at_place : (logs : List LogState) (l : ℕ) (x : LogState) → l < length logs �
 at_place [] l x within is = absurd (omega (arith, within))
 at_place (y ∷ logs) zero x within is = sym is
 at_place (y ∷ logs) (suc l) x within is = at_place logs l x (omega (arith, within)) is
+
+-- it is of format 2
+pub of_format : (logs : List LogState) (l : ℕ) (x : LogState) → l < length logs → AreOfFormat2 logs → x ≡ get_or logs l x → x.format ≡ 2
+of_format logs l x within all is = subst (λ (y : LogState). y.format ≡ 2) (at_place logs l x within is) (all l within)
 
 abbrev IsWhatWaits : Fixed Rest → ℕ → List Event → List (List ℕ) → Type 0
 IsWhatWaits w l es pieces = pieces ≡ map told_bytes (drop (effects.log_at (reached w es) l).synced (effects.log_at (reached w es) l).records)

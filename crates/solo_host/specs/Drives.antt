@@ -18,7 +18,7 @@ use Rattle.txn_records.specs.declared.records.Record.{Record}
 -- ---- the logs
 
 abbrev pub log_at : List LogState → ℕ → LogState
-log_at logs n = slice_index_or logs n (record { told = None; end = 0; shut = true; found = []; faults = 0 })
+log_at logs n = slice_index_or logs n (record { told = None; end = 0; format = 2; shut = true; found = []; faults = 0 })
 
 -- the append that met a fault on log l
 abbrev pub tried_on : Fixed Rest → ℕ → List Event → Stop → Option (List Record)

@@ -38,6 +38,10 @@ outside logs taken faults = record { logs = logs; taken = taken; faults = faults
 abbrev pub AreOpen : List LogState → Type 0
 AreOpen logs = (l : ℕ) → l < length logs → (log_at logs l).shut ≡ false
 
+-- each may be appended to
+abbrev pub AreOfFormat2 : List LogState → Type 0
+AreOfFormat2 logs = (l : ℕ) → l < length logs → (log_at logs l).format ≡ 2
+
 -- what waits may be appended
 abbrev pub AreLow : List LogState → Type 0
 AreLow logs = (l : ℕ) → l < length logs → (log_at logs l).end ≤ FARTHEST_APPEND + most_bytes

@@ -26,8 +26,8 @@ pub struct Driven {
 
 /// Takes the events of the core as the seed's schedule picks them, until none is allowed. Seed 0 takes the first allowed event
 /// at each step. Before a Sync the records that wait are appended to the log's device as one group, and before a reply its
-/// line is printed; an event is kept once that is done. The core is a new one, and the logs, as many as the text says, take
-/// appends.
+/// line is printed; an event is kept once that is done. The core is a new one, and the logs, as many as the text says and of
+/// format 2, take appends.
 pub fn drive<D: LogDev, O: Sink>(
     alloc: Global,
     core: &mut Core,
@@ -38,6 +38,7 @@ pub fn drive<D: LogDev, O: Sink>(
     requires new { IsAt core.old [] }
     requires logs { length logs.old.items ≡ core.old.tables.work.logs }
     requires open { AllByRecursion (λ l. l.shut ≡ false) logs.old.items }
+    requires format { AllByRecursion (λ l. l.format ≡ 2) logs.old.items }
     requires ends { AllByRecursion (λ l. l.end ≤ FARTHEST_END + 2 ^ 32) logs.old.items }
     // What was kept is a front of the schedule, and a run of the machine, to which the core has come.
     ensures front { IsFrontOfSeed (fixed_of core.old.tables) seed (map event_meant result.kept.items) }

@@ -9,7 +9,7 @@ use Rattle.run_journals.specs.RunsOf.{RunsOf}
 use Rattle.solo_host.specs.Outside.{outside}
 use Rattle.solo_host.specs.Turns.{IsBehindWords, IsOneBehind}
 use Rattle.solo_host.proofs.KeptList.{first_behind, now_behind}
-use Rattle.solo_host.proofs.Driving.{IsDriving, begins, still_open, still_low, are_open, are_near}
+use Rattle.solo_host.proofs.Driving.{IsDriving, begins, still_open, still_of_format, still_low, are_open, are_of_format, are_near}
 use Rattle.solo_host.proofs.Turning.{stays_driving, has_driven, fewer_left}
 use Rattle.snap_outside.proofs.AtFault.{calls_join, no_call, surely}
 use Rattle.solo_host.proofs.drives.drive.Goals as goal
@@ -42,6 +42,13 @@ turn-requires-clause-open g c =
     let start = outside c.args.logs.now.items (g.O.Sink.taken c.args.out.now) (g.O.Sink.faults c.args.out.now) in
     let old = outside c.turns.logs.items (g.O.Sink.taken c.turns.out) (g.O.Sink.faults c.turns.out) in
     still_open w c.args.seed (map event_meant c.turns.kept.items) start old c.turns.invariant.driving
+
+pub turn-requires-clause-format : goal.turn-requires-clause-format
+turn-requires-clause-format g c =
+    let w = fixed_of c.args.core.now.tables in
+    let start = outside c.args.logs.now.items (g.O.Sink.taken c.args.out.now) (g.O.Sink.faults c.args.out.now) in
+    let old = outside c.turns.logs.items (g.O.Sink.taken c.turns.out) (g.O.Sink.faults c.turns.out) in
+    still_of_format w c.args.seed (map event_meant c.turns.kept.items) start old (are_of_format c.args.logs.now.items c.requires.format) c.turns.invariant.driving
 
 pub turn-requires-clause-low : goal.turn-requires-clause-low
 turn-requires-clause-low g c =

@@ -1,6 +1,6 @@
 use Rattle.std.proofs.Common.{◌<◌, length, set, subst, sym, ◌∙◌, arith}
 use Rattle.snap_hand.specs.Tables.{fixed_of}
-use Rattle.solo_host.proofs.Preparing.{may_append, has_synced, has_not_synced}
+use Rattle.solo_host.proofs.Preparing.{may_append, of_format, has_synced, has_not_synced}
 use Rattle.solo_host.specs.Outside.{IsNotSynced}
 use Rattle.run_journals.specs.declared.stops.Stop.{Stop}
 use Rattle.solo_host.proofs.groups.before_sync.Goals as goal
@@ -11,6 +11,11 @@ append_group-requires-clause-may g c =
     let within : c.args.l < length c.args.logs.now.items = omega (arith, c.requires.exists, c.requires.logs) in
     may_append (fixed_of c.args.core.now.tables) es c.args.l c.args.logs.now.items c.index_mut.result.now c.as_slice.result.now c.requires.runs c.requires.at.1.run within c.requires.low
     c.index_mut.ensures.value (c.as_slice.ensures ∙ c.in-Ok.ensures es c.requires.at.1)
+
+pub append_group-requires-clause-format : goal.append_group-requires-clause-format
+append_group-requires-clause-format g c =
+    let within : c.args.l < length c.args.logs.now.items = omega (arith, c.requires.exists, c.requires.logs) in
+    of_format c.args.logs.now.items c.args.l c.index_mut.result.now within c.requires.format c.index_mut.ensures.value
 
 pub returns-in-Ok-append_group : goal.returns-in-Ok-append_group
 returns-in-Ok-append_group g c es at =
