@@ -29,7 +29,7 @@ pub record IsSomeEnd (w : Fixed Rest) (now : List ShareState) : Type 0 where
 -- ---- what became of the journals
 
 abbrev pub log_at : List LogState → ℕ → LogState
-log_at logs n = slice_index_or logs n (record { told = None; end = 0; shut = true; found = []; faults = 0 })
+log_at logs n = slice_index_or logs n (record { told = None; end = 0; format = 2; shut = true; found = []; faults = 0 })
 
 -- the group whose append met a fault, where the journal is shut
 abbrev pub tried_on : Fixed Rest → ℕ → List Event → LogState → Option (List Record)

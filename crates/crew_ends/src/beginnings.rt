@@ -29,6 +29,7 @@ pub fn shares_of<D: LogDev, O: Sink>(
     requires new { IsAt core [] }
     requires logs { length logs.items ≡ core.tables.work.logs }
     requires open { AllByRecursion (λ l. l.shut ≡ false) logs.items }
+    requires format { AllByRecursion (λ l. l.format ≡ 2) logs.items }
     requires ends { AllByRecursion (λ l. l.end ≤ FARTHEST_END + 2 ^ 32) logs.items }
     ensures tables { IfOk result (λ made. (made.tables ≡ core.tables) × AreTables made.tables) }
     ensures begins { IfOk result (λ made. Begins (fixed_of core.tables) made.shares.items) }

@@ -28,6 +28,7 @@ pub(crate) fn lay_out<D: LogDev, O: Sink>(
 ) -> Vec<Share<D, O>>
     requires many { 4 + vec_len logs.old ≤ vec_len parts }
     requires open { AllByRecursion (λ l. l.shut ≡ false) logs.old.items }
+    requires format { AllByRecursion (λ l. l.format ≡ 2) logs.old.items }
     requires empty { room.items ≡ [] }
     requires room { vec_len parts ≤ vec_capacity room }
     ensures parts { parts_of result.items ≡ map shown parts.items }
@@ -70,6 +71,7 @@ fn lay_logs<D: LogDev, O: Sink>(
 )
     requires many { vec_len logs.old ≤ vec_len parts.old }
     requires open { AllByRecursion (λ l. l.shut ≡ false) logs.old.items }
+    requires format { AllByRecursion (λ l. l.format ≡ 2) logs.old.items }
     requires room { vec_len shares.old + vec_len logs.old ≤ vec_capacity shares.old }
     ensures parts { laid parts.new.items shares.new.items ≡ laid parts.old.items shares.old.items }
     ensures besides { besides_of (reverse shares.new.items) ≡ map beside_log logs.old.items ++ besides_of (reverse shares.old.items) }

@@ -43,7 +43,7 @@ pub struct CrewEnd<D: LogDev, O: Sink> {
 /// So many workers take the events of the core, each where it finds some, until none is allowed. Before a Sync the records that
 /// wait are appended to the log's device as one group, and before a reply its line is printed; an event is kept once that is
 /// done. Where the device of a log or the output fails, or there is no memory, the workers end. The core is a new one, and the
-/// logs, as many as the text says, take appends. Whether it returns is not promised.
+/// logs, as many as the text says and of format 2, take appends. Whether it returns is not promised.
 pub fn drive_crew<
     R: Threads + Wait + Sync,
     D: LogDev + Drop + Send,
@@ -61,6 +61,7 @@ pub fn drive_crew<
     requires new { IsAt core [] }
     requires logs { length logs.items ≡ core.tables.work.logs }
     requires open { AllByRecursion (λ l. l.shut ≡ false) logs.items }
+    requires format { AllByRecursion (λ l. l.format ≡ 2) logs.items }
     requires ends { AllByRecursion (λ l. l.end ≤ FARTHEST_END + 2 ^ 32) logs.items }
     requires workers { workers ≤ MOST_WORKERS }
     // The events are a run of the machine, to which the core has come.

@@ -36,6 +36,11 @@ abbrev pub is_shut_there : Option LogState → Bool
 is_shut_there None = false
 is_shut_there (Some j) = j.shut
 
+-- a journal that is there is of format 2, so it may be appended to
+abbrev pub IsOfFormat2 : Option LogState → Type 0
+IsOfFormat2 None = Unit {0}
+IsOfFormat2 (Some j) = j.format ≡ 2
+
 -- an output that is there has failed
 abbrev pub has_failed_there : Option OutputState → Bool
 has_failed_there None = false

@@ -28,14 +28,14 @@ pub struct Beside<D: LogDev, O: Sink> {
 
 impl<D: LogDev, O: Sink> Model for Beside<D, O> {
     ghost use Rattle.std.specs.Prelude.{◌≡◌, option_map};
-    ghost use Rattle.crew_parts.specs.Besides.{is_shut_there};
+    ghost use Rattle.crew_parts.specs.Besides.{IsOfFormat2, is_shut_there};
     ghost use Rattle.crew_parts.specs.Shares.{BesideState, output_seen};
 
     ghost Value = { BesideState };
 
     ghost view = { λ b. record { journal = b.journal; output = option_map (output_seen O.taken O.faults O.late b.failed) b.output } };
 
-    ghost invariant = { λ b. b.cut ≡ is_shut_there b.journal };
+    ghost invariant = { λ b. (b.cut ≡ is_shut_there b.journal) × IsOfFormat2 b.journal };
 }
 
 impl<D: LogDev + Drop, O: Sink + Drop> Drop for Beside<D, O> {
@@ -70,7 +70,8 @@ impl<D: LogDev, O: Sink> Beside<D, O> {
 
     /// Beside a log, a journal that takes appends.
     pub fn with_journal(log: Log<D>) -> Self
-        requires { log.shut ≡ false }
+        requires open { log.shut ≡ false }
+        requires format { log.format ≡ 2 }
         ensures { result ≡ beside_log log }
     {
         Beside {

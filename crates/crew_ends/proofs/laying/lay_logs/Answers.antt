@@ -6,9 +6,13 @@ use Rattle.crew_ends.specs.Lists.{besides_of}
 use Rattle.crew_ends.proofs.LaidOut.{one_log, open_front, open_last}
 use Rattle.crew_ends.proofs.laying.lay_logs.Goals as goal
 
-pub with_journal-requires : goal.with_journal-requires
-with_journal-requires g c = open_last (λ (j : LogState). j.shut ≡ false) c.pop.new.self.items c.in-Some.log
+pub with_journal-requires-clause-open : goal.with_journal-requires-clause-open
+with_journal-requires-clause-open g c = open_last (λ (j : LogState). j.shut ≡ false) c.pop.new.self.items c.in-Some.log
     (subst (λ (js : List LogState). AllByRecursion (λ (j : LogState). j.shut ≡ false) js) c.in-Some.ensures.items c.loop-log.invariant.ready)
+
+pub with_journal-requires-clause-format : goal.with_journal-requires-clause-format
+with_journal-requires-clause-format g c = open_last (λ (j : LogState). j.format ≡ 2) c.pop.new.self.items c.in-Some.log
+    (subst (λ (js : List LogState). AllByRecursion (λ (j : LogState). j.format ≡ 2) js) c.in-Some.ensures.items c.loop-log.invariant.format)
 
 pub loop-log-preserved : goal.loop-log-preserved
 loop-log-preserved g c = record {
@@ -17,6 +21,8 @@ loop-log-preserved g c = record {
       (c.lay_last.ensures.besides ∙ ap (λ b. b ∷ besides_of (reverse c.loop-log.shares.items)) c.with_journal.ensures);
   ready = open_front (λ (j : LogState). j.shut ≡ false) c.pop.new.self.items c.in-Some.log
       (subst (λ (js : List LogState). AllByRecursion (λ (j : LogState). j.shut ≡ false) js) c.in-Some.ensures.items c.loop-log.invariant.ready);
+  format = open_front (λ (j : LogState). j.format ≡ 2) c.pop.new.self.items c.in-Some.log
+      (subst (λ (js : List LogState). AllByRecursion (λ (j : LogState). j.format ≡ 2) js) c.in-Some.ensures.items c.loop-log.invariant.format);
   capacity = c.in-Some.ensures.capacity ∙ c.loop-log.invariant.capacity;
   fewer = omega (arith, c.in-Some.ensures.cases);
   more = omega (arith, c.in-Some.ensures.cases);
