@@ -3,6 +3,7 @@ pub mod AppendDisks
 pub mod AppendExits
 pub mod AppendItems
 pub mod AppendLogs
+pub mod Beginnings
 pub mod OneReading
 pub mod OpenCrashes
 pub mod OpenDisks

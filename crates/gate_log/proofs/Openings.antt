@@ -1,16 +1,16 @@
 -- What opening's operations do to a log on a device.
-use Rattle.std.proofs.Common.{◌≡◌, ◌≢◌, ℕ, ◌≤◌, ◌<◌, inl, inr, Bool, List, [], ◌∷◌, length, Option, Some, refl, sym, ap, subst, arith}
+use Rattle.std.proofs.Common.{◌≡◌, ◌≢◌, ℕ, ◌≤◌, ◌<◌, inl, inr, Bool, List, [], ◌∷◌, length, Option, Some, refl, sym, ap, subst, ◌∙◌, arith}
 use Rattle.std.specs.Prelude.{if◌then◌else◌}
 use Rattle.std.proofs.lemmas.Bool.{cases_lt, le-leb, lt-leb}
 use Rattle.snap_outside.specs.declared.devices.DevOp.{DevOp}
 use Rattle.snap_outside.specs.declared.devices.DevOp.TheVariants.{Write, Sync}
 use Rattle.snap_outside.specs.Disk.{History, Disk, disk, content, settled, with_ops, IsImage, EachMoment, AddsAll, AddsUpToFault}
-use Rattle.snap_outside.specs.Moments.{adds_nothing}
+use Rattle.snap_outside.specs.Moments.{adds_nothing, disk_join}
 use Rattle.gate_log.specs.declared.limits.TheConstants.{NEW_LOG_SIZE}
 use Rattle.gate_log.specs.declared.logs.LogItem.{LogItem}
 use Rattle.gate_log.specs.declared.opens.OpenNo.{OpenNo}
 use Rattle.gate_log.specs.declared.opens.OpenNo.TheVariants.{NotALog, Damage, Device, Memory}
-use Rattle.gate_log.specs.Bytes.{IsLog}
+use Rattle.gate_log.specs.Bytes.{marked_format, format_in, IsLog}
 use Rattle.gate_log.specs.Device.{DeviceLog}
 use Rattle.gate_log.specs.Opened.{bytes_of, new_log, opening_ops, Opened, Refused}
 use Rattle.gate_log.proofs.AppendDisks.{settled_image}
@@ -23,10 +23,10 @@ make = Write 0 new_log ∷ Sync ∷ []
 abbrev chosen : Bool → List DevOp
 chosen short = if short then Write 0 new_log ∷ Sync ∷ [] else Sync ∷ []
 
-short_ops : (bytes : List ℕ) → length bytes ≤ NEW_LOG_SIZE → make ≡ opening_ops bytes
+pub short_ops : (bytes : List ℕ) → length bytes ≤ NEW_LOG_SIZE → make ≡ opening_ops bytes
 short_ops bytes short = sym (ap chosen (le-leb (length bytes) NEW_LOG_SIZE short))
 
-long_ops : (bytes : List ℕ) → NEW_LOG_SIZE < length bytes → Sync ∷ [] ≡ opening_ops bytes
+pub long_ops : (bytes : List ℕ) → NEW_LOG_SIZE < length bytes → Sync ∷ [] ≡ opening_ops bytes
 long_ops bytes long = sym (ap chosen (lt-leb (length bytes) NEW_LOG_SIZE long))
 
 pub adds : (h : History) (new : Option History) (end : ℕ) (found : List LogItem) → Opened (Some h) new end found → AddsAll (Some h) new (opening_ops (content h))
@@ -53,7 +53,7 @@ refused h new Device told = elim told [
 ]
 refused h new Memory told = untouched h new told
 
-made_log : (h : History) → length (content h) ≤ NEW_LOG_SIZE → DeviceLog (with_ops h make) 8 []
+pub made_log : (h : History) → length (content h) ≤ NEW_LOG_SIZE → DeviceLog (with_ops h make) 8 []
 made_log h short = settled_log (with_ops h make) new_log 8 [] (disk_written_over h new_log short) new_is_log
 
 pub gives : (h : History) (new : Option History) (end : ℕ) (found : List LogItem) → Opened (Some h) new end found
@@ -87,4 +87,19 @@ keeps h items quiet log = elim (cases_lt NEW_LOG_SIZE (length (content h))) [
   | inr short ↦
       subst (λ (ops : List DevOp). EachMoment (disk h) ops (λ image. IsLog image items)) (short_ops (content h) short)
       (subst (λ (us : List (List ℕ)). EachMoment (disk h) make (λ image. IsLog image us)) (short_items (content h) items short log) (make_moments (disk h) short))
+]
+
+-- ---- the format
+
+long_same : (h : History) → content (with_ops h (Sync ∷ [])) ≡ content h
+long_same h = ap (λ (d : Disk). d.now) (disk_join h.ops (Sync ∷ []) (settled h.first))
+
+pub keeps_format : (h : History) (new : Option History) (end : ℕ) (found : List LogItem) → Opened (Some h) new end found
+    → format_in (content (with_ops h (opening_ops (content h)))) ≡ format_in (content h)
+keeps_format h new end found opened = elim (cases_lt NEW_LOG_SIZE (length (content h))) [
+  | inl long ↦ subst (λ (ops : List DevOp). format_in (content (with_ops h ops)) ≡ format_in (content h)) (long_ops (content h) long) (ap format_in (long_same h))
+  | inr short ↦
+      let made : format_in (content (with_ops h make)) ≡ 2 = ap (λ (d : Disk). format_in d.now) (disk_written_over h new_log short) in
+      let two : format_in (content h) ≡ 2 = ap (λ (b : Bool). if b then 2 else marked_format (content h)) (le-leb (length (content h)) NEW_LOG_SIZE short) in
+      subst (λ (ops : List DevOp). format_in (content (with_ops h ops)) ≡ format_in (content h)) (short_ops (content h) short) (made ∙ sym two)
 ]

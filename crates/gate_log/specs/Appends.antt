@@ -1,9 +1,9 @@
 -- The operations of an append, and those that one which is refused has made.
-use Rattle.std.specs.Prelude.{◌≡◌, ℕ, ◌+◌, List, [], ◌∷◌, ◌++◌, length, Option}
+use Rattle.std.specs.Prelude.{◌≡◌, ℕ, ◌+◌, ◌==◌, if◌then◌else◌, List, [], ◌∷◌, ◌++◌, length, Option}
 use Rattle.snap_outside.specs.declared.devices.DevOp.{DevOp}
 use Rattle.snap_outside.specs.declared.devices.DevOp.TheVariants.{Write, Sync}
 use Rattle.snap_outside.specs.Disk.{History, AddsUpToFault}
-use Rattle.gate_log.specs.Bytes.{MARK_2, items_bytes, group_bytes}
+use Rattle.gate_log.specs.Bytes.{MARK_2, format_in, items_bytes, group_bytes}
 use Rattle.gate_log.specs.declared.logs.AppendNo.{AppendNo}
 use Rattle.gate_log.specs.declared.logs.AppendNo.TheVariants.{Device, Shut, Memory}
 
@@ -28,6 +28,10 @@ end_behind end (item ∷ items) = end + 5 + length (items_bytes (item ∷ items)
 -- the operations of an upgrade: the mark is written, and made durable
 abbrev pub upgrade_ops : List DevOp
 upgrade_ops = Write 7 (MARK_2 ∷ []) ∷ Sync ∷ []
+
+-- those that make a log with these bytes one of format 2: none where it is one
+abbrev pub upgrading_ops : List ℕ → List DevOp
+upgrading_ops bytes = if format_in bytes == 1 then upgrade_ops else []
 
 -- What an append, or an upgrade, of these operations that is refused did to the device.
 abbrev pub AddsRefused : Option History → Option History → List DevOp → AppendNo → Type 0

@@ -7,7 +7,7 @@ use Rattle.gate_log.specs.declared.opens.OpenNo.{OpenNo}
 use Rattle.gate_log.specs.Appends.{append_ops, end_behind, upgrade_ops}
 use Rattle.gate_log.specs.Bytes.{IsLog, IsLogAt, IsPlacedLogAt, DiffersAt, IsDamagedAt, marked_format, format_in}
 use Rattle.gate_log.specs.Device.{DeviceLog, MayAppend}
-use Rattle.gate_log.specs.Opened.{bytes_of, opening_ops, Opened, Refused}
+use Rattle.gate_log.specs.Opened.{bytes_of, opening_ops, beginning_ops, Opened, Refused}
 
 -- ---- bytes
 
@@ -62,6 +62,12 @@ OpeningKeeps =
     (h : History) (items : List (List ℕ)) → disk h ≡ settled (content h) → IsLog (content h) items
     → EachMoment (disk h) (opening_ops (content h)) (λ image. IsLog image items)
 
+-- they leave the format that the bytes stand for
+abbrev pub OpeningKeepsFormat : Type 0
+OpeningKeepsFormat =
+    (h : History) (new : Option History) (end : ℕ) (found : List LogItem) → Opened (Some h) new end found
+    → format_in (content (with_ops h (opening_ops (content h)))) ≡ format_in (content h)
+
 -- ---- an append
 
 -- behind an append's operations the device holds the log with the items added
@@ -97,3 +103,17 @@ UpgradeKeeps = (h : History) (end : ℕ) (items : List (List ℕ)) → DeviceLog
 -- what is marked so is of format 2, however long it is
 abbrev pub MarkedIsSecond : Type 0
 MarkedIsSecond = (bytes : List ℕ) → marked_format bytes ≡ 2 → format_in bytes ≡ 2
+
+-- ---- a beginning: an opening, and an upgrade where the log is of format 1
+
+-- behind its operations the device holds the log that was found, or made
+abbrev pub BeginningGives : Type 0
+BeginningGives =
+    (h : History) (new : Option History) (end : ℕ) (found : List LogItem) → Opened (Some h) new end found
+    → DeviceLog (with_ops h (beginning_ops (content h))) end (bytes_of found)
+
+-- whatever a crash leaves while they are made has the items that were there
+abbrev pub BeginningKeeps : Type 0
+BeginningKeeps =
+    (h : History) (items : List (List ℕ)) → disk h ≡ settled (content h) → IsLog (content h) items
+    → EachMoment (disk h) (beginning_ops (content h)) (λ image. IsLog image items)

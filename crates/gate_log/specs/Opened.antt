@@ -8,6 +8,7 @@ use Rattle.gate_log.specs.declared.limits.TheConstants.{NEW_LOG_SIZE}
 use Rattle.gate_log.specs.declared.logs.LogItem.{LogItem}
 use Rattle.gate_log.specs.declared.opens.OpenNo.{OpenNo}
 use Rattle.gate_log.specs.declared.opens.OpenNo.TheVariants.{NotALog, Damage, Device, Memory}
+use Rattle.gate_log.specs.Appends.{upgrading_ops}
 use Rattle.gate_log.specs.Bytes.{MARK_2, header, IsLog, DiffersAt, IsDamagedAt, IsPlacedLogAt}
 
 -- the bytes of items, without where they stand
@@ -21,6 +22,10 @@ new_log = header MARK_2 ++ 0 ∷ []
 -- what opening does to a device with these bytes: a new log is made, or one is read; then the device is durable
 abbrev pub opening_ops : List ℕ → List DevOp
 opening_ops bytes = if nat_le (length bytes) NEW_LOG_SIZE then Write 0 new_log ∷ Sync ∷ [] else Sync ∷ []
+
+-- what is done to a device with these bytes until its log may be appended to: it is opened, and its log made one of format 2
+abbrev pub beginning_ops : List ℕ → List DevOp
+beginning_ops bytes = opening_ops bytes ++ upgrading_ops bytes
 
 -- A device that is no longer than a new log is made one, and made durable. A longer one is read, and made durable.
 pub record OpenedOn (h : History) (new : Option History) (end : ℕ) (found : List LogItem) : Type 0 where

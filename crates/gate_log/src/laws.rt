@@ -1,4 +1,4 @@
-ghost use Rattle.gate_log.specs.LogLaws.{OneReading, OneList, LogAtIsLog, PlacedIsLogAt, DamageIsNoLog, OneDamage, DifferenceIsNoLog, DifferenceIsNoDamage, OneDifference, OpeningAdds, RefusalAdds, OpeningGives, OpeningKeeps, AppendGives, AppendKeeps, AppendKeepsFormat, UpgradeGives, UpgradeKeeps, MarkedIsSecond};
+ghost use Rattle.gate_log.specs.LogLaws.{OneReading, OneList, LogAtIsLog, PlacedIsLogAt, DamageIsNoLog, OneDamage, DifferenceIsNoLog, DifferenceIsNoDamage, OneDifference, OpeningAdds, RefusalAdds, OpeningGives, OpeningKeeps, OpeningKeepsFormat, AppendGives, AppendKeeps, AppendKeepsFormat, UpgradeGives, UpgradeKeeps, MarkedIsSecond, BeginningGives, BeginningKeeps};
 
 /// Bytes are a log in one way at most: with one closed gate and one list of items.
 pub fn one_reading()
@@ -34,12 +34,14 @@ pub fn one_difference()
     ensures once { OneDifference }
 {}
 
-/// What opening does to a device: these operations, or a front of them where it is refused. It loses no item.
+/// What opening does to a device: these operations, or a front of them where it is refused. It loses no item, and leaves the
+/// format.
 pub fn opening_is_safe()
     ensures adds { OpeningAdds }
     ensures refused { RefusalAdds }
     ensures gives { OpeningGives }
     ensures keeps { OpeningKeeps }
+    ensures format { OpeningKeepsFormat }
 {}
 
 /// The operations of an append add its items all at once, and leave the format.
@@ -54,4 +56,10 @@ pub fn upgrade_is_safe()
     ensures gives { UpgradeGives }
     ensures keeps { UpgradeKeeps }
     ensures second { MarkedIsSecond }
+{}
+
+/// Nor do an opening and an upgrade, one behind the other.
+pub fn beginning_is_safe()
+    ensures gives { BeginningGives }
+    ensures keeps { BeginningKeeps }
 {}

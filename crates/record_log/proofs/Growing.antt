@@ -4,11 +4,11 @@ use Rattle.snap_outside.specs.declared.devices.DevOp.{DevOp}
 use Rattle.snap_outside.specs.Disk.{History, content, AddsAll, AddsUpToFault}
 use Rattle.snap_outside.specs.Moments.{adds_join}
 use Rattle.gate_log.specs.declared.logs.LogItem.{LogItem}
-use Rattle.gate_log.specs.Appends.{append_ops, end_behind}
+use Rattle.gate_log.specs.Appends.{append_ops, end_behind, upgrading_ops}
 use Rattle.gate_log.specs.LogLaws.{OpeningAdds}
-use Rattle.gate_log.specs.Opened.{opening_ops, Opened}
+use Rattle.gate_log.specs.Opened.{opening_ops, beginning_ops, Opened}
 use Rattle.txn_records.specs.declared.records.Record.{Record}
-use Rattle.record_log.specs.Growth.{groups_ops, end_behind_groups, MayAppendGroup, MayAppendGroups, IsTried, GrewBy, begun_groups}
+use Rattle.record_log.specs.Growth.{groups_ops, end_behind_groups, MayAppendGroup, MayAppendGroups, IsTried, GrewBy, upgrading_of, begun_groups}
 use Rattle.record_log.specs.Records.{spelled}
 
 -- ---- one group more
@@ -33,12 +33,13 @@ may_more end (first ∷ groups) group may one = (may.0, may_more (end_behind end
 
 -- ---- the history
 
-pub opening_grows : (law : OpeningAdds) (old new : Option History) (end : ℕ) (found : List LogItem) → Opened old new end found → GrewBy old new end [] None
-opening_grows law None new end found opened = opened
-opening_grows law (Some h) new end found opened = (
-  opening_ops (content h),
-  record { may = tt; begun = []; last = refl; parts = sym (append-nil (opening_ops (content h))) },
-  law h new end found opened,
+pub opening_grows : (law : OpeningAdds) (old opened new : Option History) (end : ℕ) (found : List LogItem) → Opened old opened end found → AddsAll opened new (upgrading_of old)
+    → GrewBy old new end [] None
+opening_grows law None opened new end found is upgraded = subst (λ (t : Option History). AddsAll t new []) is upgraded
+opening_grows law (Some h) opened new end found is upgraded = (
+  beginning_ops (content h),
+  record { may = tt; begun = []; last = refl; parts = sym (append-nil (beginning_ops (content h))) },
+  adds_join (Some h) opened new (opening_ops (content h)) (upgrading_ops (content h)) (law h opened end found is) upgraded,
 )
 
 -- the operations that are made are no fewer
@@ -54,7 +55,7 @@ group_grows None between new end groups group grew may adds =
     subst (λ (t : Option History). AddsAll t new (append_ops (end_behind_groups end groups) (spelled group))) grew adds
 group_grows (Some h) between new end groups group grew may adds =
     let more = append_ops (end_behind_groups end groups) (spelled group) in
-    let opening = opening_ops (content h) in (
+    let opening = beginning_ops (content h) in (
       grew.0 ++ more,
       record {
         may = may_more end groups group grew.1.may may;
@@ -76,7 +77,7 @@ fault_grows (Some h) between new end groups group grew may adds = (
     may = grew.1.may;
     begun = adds.0;
     last = (may, adds.1);
-    parts = longer grew.0 (opening_ops (content h)) (groups_ops end groups) grew.1.begun adds.0 grew.1.parts grew.1.last;
+    parts = longer grew.0 (beginning_ops (content h)) (groups_ops end groups) grew.1.begun adds.0 grew.1.parts grew.1.last;
   },
   adds_join (Some h) between new grew.0 adds.0 grew.2 adds.2,
 )

@@ -4,4 +4,5 @@ pub mod Holding
 pub mod Reading
 pub mod Sizes
 pub mod Spelling
+pub mod Upgrading
 pub mod WholeGroups

@@ -7,8 +7,8 @@ use Rattle.gate_log.specs.declared.logs.LogItem.{LogItem}
 use Rattle.gate_log.specs.Appends.{append_ops, end_behind}
 use Rattle.gate_log.specs.Bytes.{IsLog}
 use Rattle.gate_log.specs.Device.{DeviceLog}
-use Rattle.gate_log.specs.LogLaws.{OneList, LogAtIsLog, PlacedIsLogAt, OpeningGives, OpeningKeeps, AppendGives, AppendKeeps}
-use Rattle.gate_log.specs.Opened.{bytes_of, opening_ops, Opened}
+use Rattle.gate_log.specs.LogLaws.{OneList, LogAtIsLog, PlacedIsLogAt, AppendGives, AppendKeeps, BeginningGives, BeginningKeeps}
+use Rattle.gate_log.specs.Opened.{bytes_of, beginning_ops, Opened}
 use Rattle.txn_records.specs.declared.records.Record.{Record}
 use Rattle.record_log.specs.Growth.{all_records, groups_ops, end_behind_groups, MayAppendGroup, MayAppendGroups, IsGrowth, begun_groups, IsBegun, HoldsWhole, LeavesGroups, Leaves}
 use Rattle.record_log.specs.Records.{spelled, HoldsRecords, RecordLog}
@@ -140,12 +140,12 @@ module _ (gives : AppendGives) (keeps : AppendKeeps) (log_at : LogAtIsLog) (imag
       next_leaves (with_ops h appends) (end_behind_groups end whole) (rs ++ all_records whole) later begun split.1 (groups_give h end rs whole split.0 log) next image
       (subst (λ (d : Disk). IsImage d image) (disk_behind h (appends ++ begun) appends begun refl) is)
 
-  module _ (placed : PlacedIsLogAt) (lists : OneList) (opening_gives : OpeningGives) (opening_keeps : OpeningKeeps) where
+  module _ (placed : PlacedIsLogAt) (lists : OneList) (beginning_gives : BeginningGives) (beginning_keeps : BeginningKeeps) where
     opened_gives : (h : History) (opened : Option History) (end : ℕ) (found : List LogItem) (rs : List Record) → Opened (Some h) opened end found → HoldsRecords (content h) rs
-        → RecordLog (with_ops h (opening_ops (content h))) end rs
+        → RecordLog (with_ops h (beginning_ops (content h))) end rs
     opened_gives h opened end found rs is held = record {
-      log = subst (λ (items : List (List ℕ)). DeviceLog (with_ops h (opening_ops (content h))) end items)
-          (lists (content h) (bytes_of found) (spelled rs) (opened_log placed h opened end found is) held.log) (opening_gives h opened end found is);
+      log = subst (λ (items : List (List ℕ)). DeviceLog (with_ops h (beginning_ops (content h))) end items)
+          (lists (content h) (bytes_of found) (spelled rs) (opened_log placed h opened end found is) held.log) (beginning_gives h opened end found is);
       each = held.each;
     }
 
@@ -153,30 +153,30 @@ module _ (gives : AppendGives) (keeps : AppendKeeps) (log_at : LogAtIsLog) (imag
         → Opened (Some h) opened end found → HoldsRecords (content h) rs → IsGrowth (content h) end groups None ops
         → RecordLog (with_ops h ops) (end_behind_groups end groups) (rs ++ all_records groups)
     growth_gives h opened end found rs groups ops is held growth =
-        let opening = opening_ops (content h) in
+        let beginning = beginning_ops (content h) in
         let appends = groups_ops end groups in
-        let same : (h.ops ++ opening) ++ appends ≡ h.ops ++ ops =
-        append_assoc h.ops opening appends
-        ∙ ap (λ (l : List DevOp). h.ops ++ l) (sym (growth.parts ∙ ap (λ (b : List DevOp). opening ++ (appends ++ b)) growth.last ∙ ap (λ (l : List DevOp). opening ++ l) (append-nil appends))) in
+        let same : (h.ops ++ beginning) ++ appends ≡ h.ops ++ ops =
+        append_assoc h.ops beginning appends
+        ∙ ap (λ (l : List DevOp). h.ops ++ l) (sym (growth.parts ∙ ap (λ (b : List DevOp). beginning ++ (appends ++ b)) growth.last ∙ ap (λ (l : List DevOp). beginning ++ l) (append-nil appends))) in
         subst (λ (l : List DevOp). RecordLog (record { first = h.first; ops = l }) (end_behind_groups end groups) (rs ++ all_records groups)) same
-        (groups_give (with_ops h opening) end rs groups growth.may (opened_gives h opened end found rs is held))
+        (groups_give (with_ops h beginning) end rs groups growth.may (opened_gives h opened end found rs is held))
 
     pub moment_keeps : (h : History) (opened : Option History) (end : ℕ) (found : List LogItem) (rs : List Record) (whole later : List (List Record)) (begun : List DevOp)
         → Opened (Some h) opened end found → HoldsRecords (content h) rs → MayAppendGroups end (whole ++ later) → IsBegun (end_behind_groups end whole) later begun
-        → (image : List ℕ) → IsImage (disk_after (opening_ops (content h) ++ (groups_ops end whole ++ begun)) (disk h)) image
+        → (image : List ℕ) → IsImage (disk_after (beginning_ops (content h) ++ (groups_ops end whole ++ begun)) (disk h)) image
         → HoldsWhole (rs ++ all_records whole) later begun image
     moment_keeps h opened end found rs whole later begun opens held may next image is =
-        let opening = opening_ops (content h) in
+        let beginning = beginning_ops (content h) in
         let more = groups_ops end whole ++ begun in
-        whole_leave (with_ops h opening) end rs whole later begun may (opened_gives h opened end found rs opens held) next image
-        (subst (λ (d : Disk). IsImage d image) (disk_behind h (opening ++ more) opening more refl) is)
+        whole_leave (with_ops h beginning) end rs whole later begun may (opened_gives h opened end found rs opens held) next image
+        (subst (λ (d : Disk). IsImage d image) (disk_behind h (beginning ++ more) beginning more refl) is)
 
-    -- while the log is opened
-    opening_leaves : (h : History) (rs : List Record) (made left : List DevOp) → disk h ≡ settled (content h) → HoldsRecords (content h) rs
-        → opening_ops (content h) ≡ made ++ left → (image : List ℕ) → IsImage (disk_after made (disk h)) image → HoldsRecords image rs
-    opening_leaves h rs made left quiet held front image is =
+    -- while the log is opened and upgraded
+    beginning_leaves : (h : History) (rs : List Record) (made left : List DevOp) → disk h ≡ settled (content h) → HoldsRecords (content h) rs
+        → beginning_ops (content h) ≡ made ++ left → (image : List ℕ) → IsImage (disk_after made (disk h)) image → HoldsRecords image rs
+    beginning_leaves h rs made left quiet held front image is =
         let P : List ℕ → Type 0 = λ bytes. IsLog bytes (spelled rs) in
-        let all = subst (λ (ops : List DevOp). EachMoment (disk h) ops P) front (opening_keeps h (spelled rs) quiet held.log) in
+        let all = subst (λ (ops : List DevOp). EachMoment (disk h) ops P) front (beginning_keeps h (spelled rs) quiet held.log) in
         record { log = moment_between (disk h) made left P all image is; each = held.each }
 
     pub growth_keeps : (h : History) (opened : Option History) (end : ℕ) (found : List LogItem) (rs : List Record) (groups : List (List Record)) (tried : Option (List Record)) (ops : List DevOp)
@@ -184,18 +184,18 @@ module _ (gives : AppendGives) (keeps : AppendKeeps) (log_at : LogAtIsLog) (imag
         → (made left : List DevOp) → ops ≡ made ++ left → (image : List ℕ) → IsImage (disk_after made (disk h)) image
         → Leaves (content h) end rs (begun_groups groups tried) made image
     growth_keeps h opened end found rs groups tried ops opens quiet held growth made left front image is =
-        let opening = opening_ops (content h) in
+        let beginning = beginning_ops (content h) in
         let all = groups_ops end (begun_groups groups tried) in
         let out = left_out end groups tried growth.begun growth.may growth.last in
-        let same : made ++ (left ++ out.0) ≡ opening ++ all =
+        let same : made ++ (left ++ out.0) ≡ beginning ++ all =
         sym (append_assoc made left out.0) ∙ ap (λ (l : List DevOp). l ++ out.0) (sym front ∙ growth.parts)
-        ∙ append_assoc opening (groups_ops end groups ++ growth.begun) out.0 ∙ ap (λ (l : List DevOp). opening ++ l) (sym out.1) in
-        elim (split_front made (left ++ out.0) opening all same) [
-          | inl cut ↦ inl (record { left = cut.0; some = cut.1; whole = cut.2 }, opening_leaves h rs made cut.0 quiet held cut.2 image is)
+        ∙ append_assoc beginning (groups_ops end groups ++ growth.begun) out.0 ∙ ap (λ (l : List DevOp). beginning ++ l) (sym out.1) in
+        elim (split_front made (left ++ out.0) beginning all same) [
+          | inl cut ↦ inl (record { left = cut.0; some = cut.1; whole = cut.2 }, beginning_leaves h rs made cut.0 quiet held cut.2 image is)
           | inr behind ↦ inr (
             behind.0,
             behind.1,
-            groups_leave (with_ops h opening) end rs (begun_groups groups tried) behind.0 (left ++ out.0) out.2 (opened_gives h opened end found rs opens held) behind.2 image
-                (subst (λ (d : Disk). IsImage d image) (disk_behind h made opening behind.0 behind.1) is),
+            groups_leave (with_ops h beginning) end rs (begun_groups groups tried) behind.0 (left ++ out.0) out.2 (opened_gives h opened end found rs opens held) behind.2 image
+                (subst (λ (d : Disk). IsImage d image) (disk_behind h made beginning behind.0 behind.1) is),
           )
         ]

@@ -3,9 +3,9 @@ use Rattle.std.specs.Prelude.{◌≡◌, ◌≢◌, ℕ, ◌⊎◌, List, [], �
 use Rattle.std.specs.List.{AllByRecursion, flat_map}
 use Rattle.snap_outside.specs.declared.devices.DevOp.{DevOp}
 use Rattle.snap_outside.specs.Disk.{History, content, AddsAll, IsCutShort}
-use Rattle.gate_log.specs.Appends.{append_ops, end_behind}
 use Rattle.gate_log.specs.Device.{MayAppend}
-use Rattle.gate_log.specs.Opened.{opening_ops}
+use Rattle.gate_log.specs.Appends.{append_ops, end_behind, upgrading_ops}
+use Rattle.gate_log.specs.Opened.{beginning_ops}
 use Rattle.txn_records.specs.declared.records.Record.{Record}
 use Rattle.txn_records.specs.Records.{IsRecord}
 use Rattle.record_log.specs.Records.{spelled, HoldsRecords}
@@ -40,13 +40,19 @@ abbrev pub IsTried : ℕ → Option (List Record) → List DevOp → Type 0
 IsTried end None made = made ≡ []
 IsTried end (Some group) made = MayAppendGroup end group × IsCutShort made (append_ops end (spelled group))
 
--- The operations are those of opening a device with these bytes, whose closed gate then stands at `end`; those of one
--- append for each of the groups, in order; and a front of those of the append that met a fault, where one did.
+-- The operations are those of opening a device with these bytes, whose closed gate then stands at `end`, and of upgrading its
+-- log, where it is of format 1; those of one append for each of the groups, in order; and a front of those of the append that met
+-- a fault, where one did.
 pub record IsGrowth (bytes : List ℕ) (end : ℕ) (groups : List (List Record)) (tried : Option (List Record)) (ops : List DevOp) : Type 0 where
   pub may : MayAppendGroups end groups
   pub begun : List DevOp
   pub last : IsTried (end_behind_groups end groups) tried begun
-  pub parts : ops ≡ opening_ops bytes ++ (groups_ops end groups ++ begun)
+  pub parts : ops ≡ beginning_ops bytes ++ (groups_ops end groups ++ begun)
+
+-- what a device that told this gets between its opening and the first append
+abbrev pub upgrading_of : Option History → List DevOp
+upgrading_of None = []
+upgrading_of (Some h) = upgrading_ops (content h)
 
 -- the device's history grew so
 abbrev pub GrewBy : Option History → Option History → ℕ → List (List Record) → Option (List Record) → Type 0
@@ -90,8 +96,8 @@ pub record LeavesGroups (end : ℕ) (rs : List Record) (groups : List (List Reco
   pub next : IsNext (end_behind_groups end whole) later begun
   pub holds : HoldsWhole (rs ++ all_records whole) later begun image
 
--- The same from the first operation of opening on: until the log is open it leaves the earlier records.
+-- The same from the first operation of opening on: until the log may be appended to it leaves the earlier records.
 abbrev pub Leaves : List ℕ → ℕ → List Record → List (List Record) → List DevOp → List ℕ → Type 0
 Leaves bytes end rs groups made image =
-    (IsCutShort made (opening_ops bytes) × HoldsRecords image rs)
-    ⊎ ((more : List DevOp) × (made ≡ opening_ops bytes ++ more) × LeavesGroups end rs groups more image)
+    (IsCutShort made (beginning_ops bytes) × HoldsRecords image rs)
+    ⊎ ((more : List DevOp) × (made ≡ beginning_ops bytes ++ more) × LeavesGroups end rs groups more image)

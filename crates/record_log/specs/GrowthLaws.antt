@@ -5,15 +5,17 @@ use Rattle.snap_outside.specs.declared.devices.DevOp.{DevOp}
 use Rattle.snap_outside.specs.Disk.{History, disk, disk_after, content, settled, with_ops, IsImage, AddsAll, AddsUpToFault}
 use Rattle.gate_log.specs.declared.logs.LogItem.{LogItem}
 use Rattle.gate_log.specs.Appends.{append_ops, end_behind}
-use Rattle.gate_log.specs.Opened.{opening_ops, Opened}
+use Rattle.gate_log.specs.Opened.{beginning_ops, Opened}
 use Rattle.txn_records.specs.declared.records.Record.{Record}
-use Rattle.record_log.specs.Growth.{all_records, groups_ops, end_behind_groups, MayAppendGroup, MayAppendGroups, IsGrowth, GrewBy, begun_groups, IsBegun, HoldsWhole, Leaves}
+use Rattle.record_log.specs.Growth.{all_records, groups_ops, end_behind_groups, MayAppendGroup, MayAppendGroups, IsGrowth, GrewBy, upgrading_of, begun_groups, IsBegun, HoldsWhole, Leaves}
 use Rattle.record_log.specs.Records.{spelled, HoldsRecords, RecordLog}
 
 -- ---- how a history comes to have grown so
 
+-- the device is opened, and its log upgraded where it is of format 1
 abbrev pub OpeningGrows : Type 0
-OpeningGrows = (old new : Option History) (end : ℕ) (found : List LogItem) → Opened old new end found → GrewBy old new end [] None
+OpeningGrows =
+    (old opened new : Option History) (end : ℕ) (found : List LogItem) → Opened old opened end found → AddsAll opened new (upgrading_of old) → GrewBy old new end [] None
 
 -- one more append is whole
 abbrev pub GroupGrows : Type 0
@@ -49,7 +51,7 @@ abbrev pub MomentKeeps : Type 0
 MomentKeeps =
     (h : History) (opened : Option History) (end : ℕ) (found : List LogItem) (rs : List Record) (whole later : List (List Record)) (begun : List DevOp)
     → Opened (Some h) opened end found → HoldsRecords (content h) rs → MayAppendGroups end (whole ++ later) → IsBegun (end_behind_groups end whole) later begun
-    → (image : List ℕ) → IsImage (disk_after (opening_ops (content h) ++ (groups_ops end whole ++ begun)) (disk h)) image
+    → (image : List ℕ) → IsImage (disk_after (beginning_ops (content h) ++ (groups_ops end whole ++ begun)) (disk h)) image
     → HoldsWhole (rs ++ all_records whole) later begun image
 
 -- At each moment, whatever a crash leaves holds the earlier records with those of the appends that are whole, or with

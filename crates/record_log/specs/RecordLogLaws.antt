@@ -7,7 +7,7 @@ use Rattle.gate_log.specs.declared.limits.TheConstants.{LARGEST_GROUP, NEW_LOG_S
 use Rattle.gate_log.specs.declared.logs.LogItem.{LogItem}
 use Rattle.gate_log.specs.declared.opens.OpenNo.{OpenNo}
 use Rattle.gate_log.specs.Bytes.{items_bytes, DiffersAt, IsDamagedAt}
-use Rattle.gate_log.specs.Device.{DeviceLog, MayAppend}
+use Rattle.gate_log.specs.Device.{DeviceLog, MayAppend, UpgradesSafely}
 use Rattle.gate_log.specs.Opened.{bytes_of, Opened, Refused, MadeSafely}
 use Rattle.txn_records.specs.declared.records.Record.{Record}
 use Rattle.txn_records.specs.Records.{IsRecord}
@@ -49,6 +49,11 @@ OpeningKeepsRecords = (old new : Option History) (end : ℕ) (items : List LogIt
 
 abbrev pub RefusalKeepsRecords : Type 0
 RefusalKeepsRecords = (old new : Option History) (no : OpenNo) → Refused old new no → MadeSafely old new → KeepsRecords old new
+
+-- whatever the upgrade of an opened log comes to
+abbrev pub UpgradeKeepsRecords : Type 0
+UpgradeKeepsRecords =
+    (old opened new : Option History) (end : ℕ) (items : List LogItem) → Opened old opened end items → KeepsRecords old opened → UpgradesSafely opened new end → KeepsRecords old new
 
 -- ---- sizes
 

@@ -1,10 +1,10 @@
 ghost use Rattle.record_log.specs.GrowthLaws.{OpeningGrows, GroupGrows, FaultGrows, EndGrows, GrowthGives, MomentKeeps, GrowthKeeps};
 
-use gate_log::{append_is_whole, logs_are_lists, one_list, opening_is_safe};
+use gate_log::{append_is_whole, beginning_is_safe, logs_are_lists, one_list, opening_is_safe};
 use snap_outside::images_of_settled;
 
-/// A history grows by opening's operations, by those of one append after the other, and at last by a front of those of
-/// one that met a fault.
+/// A history grows by opening's operations, and an upgrade's where the log is of format 1; by those of one append after the
+/// other; and at last by a front of those of one that met a fault.
 pub fn history_grows()
     ensures opening { OpeningGrows }
     ensures group { GroupGrows }
@@ -21,7 +21,7 @@ pub fn groups_are_whole()
     ensures moment { MomentKeeps }
     ensures keeps { GrowthKeeps }
 {
-    opening_is_safe();
+    beginning_is_safe();
     append_is_whole();
     logs_are_lists();
     one_list();

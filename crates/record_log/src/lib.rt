@@ -13,6 +13,6 @@ pub use growth::{groups_are_whole, history_grows};
 pub use items::{ItemsNo, records_of};
 pub use laws::{
     few_may_be_appended, no_more_records, one_list_of_records, opened_holds, opening_keeps,
-    records_are_held, refused_keeps,
+    records_are_held, refused_keeps, upgrade_keeps,
 };
 pub use limits::{FARTHEST_APPEND, MOST_RECORDS};

@@ -4,10 +4,10 @@ use Rattle.record_log.proofs.growth.groups_are_whole.Goals as goal
 pub returns : goal.returns
 returns c =
     let append = c.append_is_whole.ensures in
-    let opening = c.opening_is_safe.ensures in
+    let beginning = c.beginning_is_safe.ensures in
     let logs = c.logs_are_lists.ensures in
     record {
-      gives = growth_gives append.gives append.keeps logs.at c.images_of_settled.ensures logs.placed c.one_list.ensures opening.gives opening.keeps;
-      moment = moment_keeps append.gives append.keeps logs.at c.images_of_settled.ensures logs.placed c.one_list.ensures opening.gives opening.keeps;
-      keeps = growth_keeps append.gives append.keeps logs.at c.images_of_settled.ensures logs.placed c.one_list.ensures opening.gives opening.keeps;
+      gives = growth_gives append.gives append.keeps logs.at c.images_of_settled.ensures logs.placed c.one_list.ensures beginning.gives beginning.keeps;
+      moment = moment_keeps append.gives append.keeps logs.at c.images_of_settled.ensures logs.placed c.one_list.ensures beginning.gives beginning.keeps;
+      keeps = growth_keeps append.gives append.keeps logs.at c.images_of_settled.ensures logs.placed c.one_list.ensures beginning.gives beginning.keeps;
     }
