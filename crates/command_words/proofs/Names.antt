@@ -33,5 +33,17 @@ recover_bench e = let h : 114 ≡ 98 = letter 0 (codes "recover") (codes "bench"
 pub gen_bench : codes "gen" ≡ codes "bench" → ⊥
 gen_bench e = let h : 103 ≡ 98 = letter 0 (codes "gen") (codes "bench") e in omega (arith, h)
 
+pub run_migrate : codes "run" ≡ codes "migrate" → ⊥
+run_migrate e = let h : 114 ≡ 109 = letter 0 (codes "run") (codes "migrate") e in omega (arith, h)
+
+pub recover_migrate : codes "recover" ≡ codes "migrate" → ⊥
+recover_migrate e = let h : 114 ≡ 109 = letter 0 (codes "recover") (codes "migrate") e in omega (arith, h)
+
+pub gen_migrate : codes "gen" ≡ codes "migrate" → ⊥
+gen_migrate e = let h : 103 ≡ 109 = letter 0 (codes "gen") (codes "migrate") e in omega (arith, h)
+
+pub bench_migrate : codes "bench" ≡ codes "migrate" → ⊥
+bench_migrate e = let h : 98 ≡ 109 = letter 0 (codes "bench") (codes "migrate") e in omega (arith, h)
+
 pub workers_seed : codes "--workers" ≡ codes "--seed" → ⊥
 workers_seed e = let h : 119 ≡ 115 = letter 2 (codes "--workers") (codes "--seed") e in omega (arith, h)

@@ -47,6 +47,10 @@ IsRun words n s = (said : Said) × (words ≡ codes "run" ∷ options said n s) 
 abbrev pub IsRecover : List (List ℕ) → Type 0
 IsRecover words = words ≡ codes "recover" ∷ []
 
+-- makes the logs of format 1 ones of format 2
+abbrev pub IsMigrate : List (List ℕ) → Type 0
+IsMigrate words = words ≡ codes "migrate" ∷ []
+
 -- prints the text of so many transactions that the seed draws
 abbrev pub IsGen : List (List ℕ) → ℕ → ℕ → Type 0
 IsGen words count s = (words ≡ codes "gen" ∷ decimal count ∷ decimal s ∷ []) × (count ≤ MOST_TRANSACTIONS) × (s < 2 ^ 64)
@@ -62,7 +66,8 @@ IsBench words count s n =
 
 abbrev pub IsForm : List (List ℕ) → Type 0
 IsForm words =
-    ((n s : ℕ) × IsRun words n s) ⊎ (IsRecover words ⊎ (((count s : ℕ) × IsGen words count s) ⊎ ((count s n : ℕ) × IsBench words count s n)))
+    ((n s : ℕ) × IsRun words n s)
+    ⊎ (IsRecover words ⊎ (((count s : ℕ) × IsGen words count s) ⊎ (((count s n : ℕ) × IsBench words count s n) ⊎ IsMigrate words)))
 
 -- ---- a wrong word
 

@@ -5,6 +5,8 @@ pub enum Command {
     Run { workers: u8, seed: u64 },
     /// Prints what the logs recover to.
     Recover,
+    /// Makes the logs of format 1 ones of format 2.
+    Migrate,
     /// Prints the text of so many transactions that the seed draws.
     Gen { count: u32, seed: u64 },
     /// Runs that text, alone or with so many workers, at most 8, and prints its summary.

@@ -26,6 +26,9 @@ pub fn read_words(words: &[String]) -> Result<Command, u32>
     if word == "recover" {
         return read_recover(rest);
     }
+    if word == "migrate" {
+        return read_migrate(rest);
+    }
     if word == "gen" {
         return read_gen(rest);
     }
@@ -43,6 +46,16 @@ fn read_recover(words: &[String]) -> Result<Command, u32>
         return Err(1);
     }
     Ok(Command::Recover)
+}
+
+/// The words behind `migrate`: there may be none.
+fn read_migrate(words: &[String]) -> Result<Command, u32>
+    ensures { MatchResult result (IsCommand (codes "migrate" ∷ map string_bytes words.now)) (IsUsageFault (codes "migrate" ∷ map string_bytes words.now)) }
+{
+    if !words.is_empty() {
+        return Err(1);
+    }
+    Ok(Command::Migrate)
 }
 
 /// The words behind `gen`: a number of transactions and a seed.

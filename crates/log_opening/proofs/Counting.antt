@@ -40,6 +40,7 @@ no_read : OpenedHeld → (count : ℕ) (before after : List Device) (found : Lis
     → IsNoDecoding found [] answer → AreNotRead count before after answer
 no_read law count before after found (ending.Refused log offset cause.NotALog) size are why = absurd why
 no_read law count before after found (ending.Refused log offset cause.Damage) size are why = absurd why
+no_read law count before after found (ending.Refused log offset cause.OldFormat) size are why = absurd why
 no_read law count before after found (ending.Refused log offset cause.BadRecord) size are why =
     let at = found_opened_at before after found log are why.2 in
     record {

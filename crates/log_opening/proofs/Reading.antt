@@ -150,6 +150,7 @@ bad_among found known log logs more (ending.Refused l offset cause.BadRecord) lt
     )
 bad_among found known log logs more (ending.Refused l offset cause.NotALog) lt all same why = absurd why
 bad_among found known log logs more (ending.Refused l offset cause.Damage) lt all same why = absurd why
+bad_among found known log logs more (ending.Refused l offset cause.OldFormat) lt all same why = absurd why
 bad_among found known log logs more (ending.Refused l offset cause.NoGenesis) lt all same why = absurd why
 bad_among found known log logs more (ending.Refused l offset cause.TwoGenesis) lt all same why = absurd why
 bad_among found known log logs more (ending.Refused l offset (cause.LogCount k f)) lt all same why = absurd why

@@ -71,6 +71,7 @@ pub reading_no : (before after : List devices.Device) (found : List (List LogIte
     → IsNoReading (get_or found 0 []) 0 answer → IsLogsNo before after answer
 reading_no before after found (ending.Refused log offset cause.NotALog) one are why = absurd why
 reading_no before after found (ending.Refused log offset cause.Damage) one are why = absurd why
+reading_no before after found (ending.Refused log offset cause.OldFormat) one are why = absurd why
 reading_no before after found (ending.Refused log offset cause.BadRecord) one are why =
     let at = found_opened_at before after found 0 are (omega (arith, one)) in
     let opened : AreOpened 1 before after = subst (λ (n : ℕ). AreOpened n before after) one (found_opened before after found are) in
@@ -91,6 +92,7 @@ pub decoding_no : OpenedHeld → (before after : List devices.Device) (found : L
     → AreFound before after found → IsNoDecoding found (first ∷ []) answer → IsLogsNo before after answer
 decoding_no law before after found first (ending.Refused log offset cause.NotALog) held said are why = absurd why
 decoding_no law before after found first (ending.Refused log offset cause.Damage) held said are why = absurd why
+decoding_no law before after found first (ending.Refused log offset cause.OldFormat) held said are why = absurd why
 decoding_no law before after found first (ending.Refused log offset cause.BadRecord) held said are why =
     let at = found_opened_at before after found log are why.2 in
     let all : AllZip Holds (take log before) (first ∷ why.0) = zip_holds law log before after found (first ∷ why.0) (omega (arith, why.2)) are why.3 in
@@ -121,6 +123,7 @@ pub recovery_no : (before after : List devices.Device) (logs : List (List Record
     → IsNoRecovery logs answer → IsLogsNo before after answer
 recovery_no before after logs (ending.Refused log offset cause.NotALog) given opened why = absurd why.1
 recovery_no before after logs (ending.Refused log offset cause.Damage) given opened why = absurd why.1
+recovery_no before after logs (ending.Refused log offset cause.OldFormat) given opened why = absurd why.1
 recovery_no before after logs (ending.Refused log offset cause.BadRecord) given opened why = absurd why.1
 recovery_no before after logs (ending.Refused log offset cause.NoGenesis) given opened why = (why.0, (logs, given, why.1, opened))
 recovery_no before after logs (ending.Refused log offset cause.TwoGenesis) given opened why = (why.0, (logs, given, why.1, opened))

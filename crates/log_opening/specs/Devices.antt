@@ -1,11 +1,15 @@
 -- Devices as contracts see them.
-use Rattle.std.specs.Prelude.{◌≡◌, ℕ, ◌+◌, ◌<◌, ◌⊎◌, List, ◌++◌, map, take, drop, Option, None, slice_index_or}
-use Rattle.std.specs.List.{AllZip}
-use Rattle.snap_outside.specs.Disk.{History}
+use Rattle.std.specs.Prelude.{◌≡◌, ◌≢◌, ℕ, ◌+◌, ◌<◌, ◌⊎◌, List, [], ◌∷◌, ◌++◌, map, take, drop, Option, None, IfSome, slice_index_or}
+use Rattle.std.specs.List.{AllByRecursion, AllZip}
+use Rattle.snap_outside.specs.declared.devices.DevOp.{DevOp}
+use Rattle.snap_outside.specs.Disk.{History, content, AddsAll, AddsUpToFault}
+use Rattle.gate_log.specs.Appends.{upgrade_ops}
+use Rattle.gate_log.specs.Bytes.{IsLogOf, format_in}
 use Rattle.gate_log.specs.Opened.{Opened, MayBeMade, Refused}
 use Rattle.gate_log.specs.declared.opens.OpenNo.TheVariants as refusal
 use Rattle.gate_log.specs.declared.logs.LogItem.{LogItem}
 use Rattle.gate_log.specs.State.{LogState}
+use Rattle.record_log.specs.Growth.{upgrading_of}
 
 -- a device: its history, where it tells it, and its faults
 pub record Device : Type 0 where
@@ -55,3 +59,55 @@ abbrev pub LacksMemory : (ℕ → Type 0) → List Device → List Device → Ty
 LacksMemory Asked before after =
     ((n : ℕ) × ((log : ℕ) → log < n → Asked log) × AreOpened n before after)
     ⊎ ((log : ℕ) × Asked log × Refused (device_at before log).told (device_at after log).told refusal.Memory × IsReached log before after)
+
+-- ---- logs that are to be appended to
+
+-- the bytes are a log of format 1 with an item
+abbrev pub IsOld : List ℕ → Type 0
+IsOld bytes = (items : List (List ℕ)) × IsLogOf bytes 1 items × (items ≢ [])
+
+-- the device holds such a log, if it tells what it holds
+abbrev pub HoldsOld : Device → Type 0
+HoldsOld d = IfSome d.told (λ h. IsOld (content h))
+
+-- it holds none, if it tells what it holds
+abbrev pub HoldsNoOld : Device → Type 0
+HoldsNoOld d = IfSome d.told (λ h. ¬ IsOld (content h))
+
+-- none of the first devices, so many, holds one
+abbrev pub HoldNoOld : ℕ → List Device → Type 0
+HoldNoOld count before = AllByRecursion HoldsNoOld (take count before)
+
+-- A device was opened, and its log made one of format 2, where it was of format 1.
+abbrev pub Begun : Option History → Option History → ℕ → List LogItem → Type 0
+Begun old new end found = (opened : Option History) × Opened old opened end found × AddsAll opened new (upgrading_of old)
+
+abbrev pub IsBegun : Device → Device → Type 0
+IsBegun before after = (end : ℕ) × (found : List LogItem) × Begun before.told after.told end found
+
+-- So many devices are opened so, from the first one on, and the others got no call.
+pub record AreBegun (count : ℕ) (before after : List Device) : Type 0 where
+  pub begun : AllZip IsBegun (take count before) (take count after)
+  pub others : drop count after ≡ drop count before
+
+-- the same operations, but where there are items
+abbrev pub preparing_of : Option History → List LogItem → List DevOp
+preparing_of old [] = upgrading_of old
+preparing_of old (item ∷ found) = []
+
+-- A device was opened, and its log made one of format 2, where it was of format 1 and had no item.
+abbrev pub Prepared : Option History → Option History → ℕ → List LogItem → Type 0
+Prepared old new end found = (opened : Option History) × Opened old opened end found × AddsAll opened new (preparing_of old found)
+
+abbrev pub IsPrepared : Device → Device → Type 0
+IsPrepared before after = (end : ℕ) × (found : List LogItem) × Prepared before.told after.told end found
+
+-- It was opened, its log was of format 1 and had no item, and the upgrade met a fault.
+abbrev pub IsUpgradeCutOff : Device → Device → Type 0
+IsUpgradeCutOff before after =
+    (end : ℕ) × (opened : Option History) × Opened before.told opened end [] × IfSome before.told (λ h. format_in (content h) ≡ 1)
+    × AddsUpToFault opened after.told upgrade_ops
+
+-- A device got no call, or those of opening and then of an upgrade, as far as it did not fail.
+abbrev pub IsPreparedAtMost : Device → Device → Type 0
+IsPreparedAtMost before after = IsOpenedAtMost before after ⊎ (IsPrepared before after ⊎ IsUpgradeCutOff before after)

@@ -7,7 +7,7 @@ use Rattle.gate_log.specs.declared.logs.LogItem.{LogItem}
 use Rattle.gate_log.specs.declared.opens.OpenNo.{OpenNo}
 use Rattle.gate_log.specs.declared.opens.OpenNo.TheVariants as refusal
 use Rattle.gate_log.specs.Bytes.{IsPlacedLogAt}
-use Rattle.gate_log.specs.Device.{DeviceLog}
+use Rattle.gate_log.specs.Device.{DeviceLog, HasFormat}
 use Rattle.gate_log.specs.State.{LogState}
 use Rattle.gate_log.specs.Opened.{Opened, Refused, bytes_of}
 use Rattle.txn_records.specs.declared.records.Record.{Record}
@@ -37,9 +37,11 @@ pub record IsFoundOn (before after : devices.Device) (items : List LogItem) : Ty
   pub placed : ArePlaced items
   pub safe : IsKeptSafe before after
 
--- the open log holds these items, is not shut, and may grow
+-- the open log holds these items, has the format of what its device holds, is not shut, and may grow
 pub record IsReadyLog (log : LogState) (items : List LogItem) : Type 0 where
   pub holds : IfSome log.told (λ h. DeviceLog h log.end (bytes_of items))
+  pub formatted : HasFormat log.told log.format
+  pub known : (log.format ≡ 1) ⊎ (log.format ≡ 2)
   pub low : log.end ≤ FARTHEST_END
   pub ready : log.shut ≡ false
 
@@ -54,6 +56,17 @@ pub record IsTouched (before after : devices.Device) : Type 0 where
   pub opened : devices.IsOpenedAtMost before after
   pub safe : IsKeptSafe before after
 
+-- the device is opened, these items were found on it, and its log is one of format 2 now
+pub record IsBegunOn (before after : devices.Device) (items : List LogItem) : Type 0 where
+  pub begun : (end : ℕ) × devices.Begun before.told after.told end items
+  pub placed : ArePlaced items
+  pub safe : IsKeptSafe before after
+
+-- got no call but those of opening and of an upgrade, with all that it held
+pub record IsHandled (before after : devices.Device) : Type 0 where
+  pub prepared : devices.IsPreparedAtMost before after
+  pub safe : IsKeptSafe before after
+
 -- ---- all devices
 
 -- These items were found on the first devices, a list on each. The others got no call.
@@ -62,6 +75,13 @@ AreFound before after [] = after ≡ before
 AreFound [] after (items ∷ found) = ⊥
 AreFound (b ∷ before) [] (items ∷ found) = ⊥
 AreFound (b ∷ before) (a ∷ after) (items ∷ found) = IsFoundOn b a items × AreFound before after found
+
+-- the same, and their logs are of format 2 now
+abbrev pub AreBegunOn : List devices.Device → List devices.Device → List (List LogItem) → Type 0
+AreBegunOn before after [] = after ≡ before
+AreBegunOn [] after (items ∷ found) = ⊥
+AreBegunOn (b ∷ before) [] (items ∷ found) = ⊥
+AreBegunOn (b ∷ before) (a ∷ after) (items ∷ found) = IsBegunOn b a items × AreBegunOn before after found
 
 -- The devices below this one were opened, and this one was not, for this cause.
 pub record IsStoppedAt (log : ℕ) (before after : List devices.Device) (no : OpenNo) : Type 0 where
@@ -103,6 +123,7 @@ IsNoDecoding found known ending.Memory = Unit {0}
 abbrev pub IsRecoveryCause : List (List Record) → ℕ → LogCause → Type 0
 IsRecoveryCause logs log cause.NotALog = ⊥
 IsRecoveryCause logs log cause.Damage = ⊥
+IsRecoveryCause logs log cause.OldFormat = ⊥
 IsRecoveryCause logs log cause.BadRecord = ⊥
 IsRecoveryCause logs log cause.NoGenesis = (log ≡ 0) × IsRefused logs recover.NoGenesis
 IsRecoveryCause logs log cause.TwoGenesis = (log ≡ 0) × IsRefused logs recover.TwoGenesis

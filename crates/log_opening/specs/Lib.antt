@@ -3,3 +3,4 @@ pub mod Devices
 pub mod Found
 pub mod Kept
 pub mod Reads
+pub mod Upgrades

@@ -1,13 +1,15 @@
--- Only private contracts cite this; the rules are Kept.antt and Found.antt.
--- What the steps of the flow leave, on the devices before and after.
+-- What the steps of recovering leave, on the devices before and after. The rules are Kept.antt and Found.antt.
 use Rattle.std.specs.Prelude.{◌≡◌, List, [], ◌∷◌, length}
 use Rattle.std.specs.List.{AllZip}
 use Rattle.gate_log.specs.declared.logs.LogItem.{LogItem}
+use Rattle.gate_log.specs.State.{LogState}
 use Rattle.txn_records.specs.declared.records.Record.{Record}
 use Rattle.record_log.specs.Records.{AreItemsOf}
+use Rattle.snap_recover.specs.declared.openings.Opening.{Opening}
+use Rattle.snap_recover.specs.Opening.{IsRecovered}
 use Rattle.log_opening.specs.declared.refusals.LogsNo.{LogsNo}
 use Rattle.log_opening.specs.Devices.{Device, AreOpened}
-use Rattle.log_opening.specs.Found.{IsTouched, AreFound}
+use Rattle.log_opening.specs.Found.{IsReadyLog, IsTouched, AreFound}
 use Rattle.log_opening.specs.Kept.{AreGiven, IsLogsNo}
 
 -- nothing is recovered, for this cause
@@ -26,3 +28,16 @@ pub record AreRead (before after : List Device) (logs : List (List Record)) : Ty
   pub given : AreGiven before logs
   pub opened : AreOpened (length logs) before after
   pub touched : AllZip IsTouched before after
+
+-- these items were found on the first devices, whose logs are open
+pub record AreOpen (before after : List Device) (logs : List LogState) (found : List (List LogItem)) : Type 0 where
+  pub are_found : AreFound before after found
+  pub ready : AllZip IsReadyLog logs found
+
+-- so the logs are open, and what was found there recovers to the opening
+pub record IsOpenOn (before after : List Device) (logs : List LogState) (found : List (List LogItem)) (o : Opening) : Type 0 where
+  pub records : List (List Record)
+  pub read : AreRead before after records
+  pub recovered : IsRecovered records o
+  pub as_many : length records ≡ length found
+  pub open_logs : AreOpen before after logs found

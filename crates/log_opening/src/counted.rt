@@ -1,20 +1,22 @@
 ghost use Rattle.std.specs.Prelude.{◌≡◌, ◌+◌, ◌-◌, ◌≤◌, [], length, drop, vec_len, vec_capacity, OnOk, MatchResult};
 ghost use Rattle.std.specs.List.{AllZip};
 ghost use Rattle.log_opening.specs.Devices.{devices_now};
-ghost use Rattle.log_opening.specs.Found.{IsTouched};
+ghost use Rattle.log_opening.specs.Found.{IsHandled};
 ghost use Rattle.log_opening.specs.Counted.{AreOpenWith, AreNotRead};
 
 use crate::LogsNo;
 use crate::decoding::read_logs;
 use crate::openings::{OpenLogs, open_logs};
-use record_log::{opened_holds, records_are_held};
+use crate::upgrades::make_ready;
+use gate_log::{logs_are_lists, one_list, opening_is_safe};
+use record_log::{opened_holds, records_are_held, upgrade_keeps};
 use snap_base::Sequence;
 use snap_outside::LogDev;
 use std::alloc::Global;
 use txn_records::Record;
 
-/// The records of so many logs, whose devices are the first ones of these. All are opened, from log 0 on; then they
-/// are decoded, from log 0 on. They stay open.
+/// The records of so many logs, whose devices are the first ones of these. All are opened, from log 0 on; then those of format 1
+/// that have no item are upgraded, and none of format 1 may be left; then they are decoded, from log 0 on. They stay open.
 pub fn open_and_decode<D: LogDev>(
     alloc: Global,
     devices: &mut Vec<D>,
@@ -35,11 +37,19 @@ pub fn open_and_decode<D: LogDev>(
     ensures read { MatchResult result
         (λ records. AreOpenWith (devices_now D.told D.faults opened.old.logs.items devices.old.items) (devices_now D.told D.faults opened.new.logs.items devices.new.items) opened.new.logs.items opened.new.found records)
         (λ no. AreNotRead count (devices_now D.told D.faults opened.old.logs.items devices.old.items) (devices_now D.told D.faults opened.new.logs.items devices.new.items) no
-        × AllZip IsTouched (devices_now D.told D.faults opened.old.logs.items devices.old.items) (devices_now D.told D.faults opened.new.logs.items devices.new.items)) }
+        × AllZip IsHandled (devices_now D.told D.faults opened.old.logs.items devices.old.items) (devices_now D.told D.faults opened.new.logs.items devices.new.items)) }
 {
+    logs_are_lists();
+    one_list();
+    opening_is_safe();
     opened_holds();
     records_are_held();
+    upgrade_keeps();
     match open_logs(alloc, devices, opened, count) {
+        Ok(()) => {}
+        Err(no) => return Err(no),
+    }
+    match make_ready(opened) {
         Ok(()) => read_logs(alloc, opened.found.as_slice(), Sequence::new(alloc)),
         Err(no) => Err(no),
     }

@@ -5,8 +5,9 @@ ghost use Rattle.txn_records.specs.declared.records.Record.{Record};
 ghost use Rattle.record_log.specs.Records.{KeepsRecords};
 ghost use Rattle.snap_recover.specs.Opening.{IsRecovered};
 ghost use Rattle.log_opening.specs.Devices.{Device, devices_of, devices_now, device_at, IsOpenedAtMost, AreOpened};
+ghost use Rattle.log_opening.specs.Found.{IsReadyLog};
 ghost use Rattle.log_opening.specs.Kept.{logs_said, Holds, AreGiven, IsLogsNo};
-ghost use Rattle.log_opening.specs.Reads.{IsEnded, IsFirstRead, AreRead};
+ghost use Rattle.log_opening.specs.Reads.{AreOpen, AreRead, IsEnded, IsFirstRead, IsOpenOn};
 
 use crate::LogsNo;
 use crate::counts::logs_said;
@@ -37,6 +38,27 @@ pub fn recover_kept<D: LogDev>(alloc: Global, devices: &mut Vec<D>) -> Result<Op
 {
     recovered_states();
     match all_records(alloc, devices) {
+        Ok(logs) => recover_records(alloc, logs.as_slice()),
+        Err(no) => Err(no),
+    }
+}
+
+/// The same on logs that are opened here and stay open, also where nothing is recovered.
+pub fn open_and_recover<D: LogDev>(
+    alloc: Global,
+    devices: &mut Vec<D>,
+    opened: &mut OpenLogs<D>,
+) -> Result<Opening, LogsNo>
+    requires four { vec_len devices.old ≡ 4 }
+    requires none { (opened.old.found ≡ []) × (vec_len opened.old.logs ≡ 0) }
+    requires room { (4 ≤ vec_capacity opened.old.logs) × (4 ≤ vec_capacity devices.old) }
+    ensures recovered { IfOk result (λ o. IsOpenOn (devices_now D.told D.faults opened.old.logs.items devices.old.items) (devices_now D.told D.faults opened.new.logs.items devices.new.items)
+        opened.new.logs.items opened.new.found o) }
+    ensures refused { IfErr result (λ no. IsEnded (devices_now D.told D.faults opened.old.logs.items devices.old.items) (devices_now D.told D.faults opened.new.logs.items devices.new.items) no) }
+    ensures four { vec_len opened.new.logs + vec_len devices.new ≡ 4 }
+    ensures room { 4 ≤ vec_capacity devices.new }
+{
+    match open_and_read(alloc, devices, opened) {
         Ok(logs) => recover_records(alloc, logs.as_slice()),
         Err(no) => Err(no),
     }
@@ -74,6 +96,8 @@ fn open_and_read<D: LogDev>(
     ensures read { MatchResult result
         (λ logs. AreRead (devices_now D.told D.faults opened.old.logs.items devices.old.items) (devices_now D.told D.faults opened.new.logs.items devices.new.items) logs)
         (λ no. IsEnded (devices_now D.told D.faults opened.old.logs.items devices.old.items) (devices_now D.told D.faults opened.new.logs.items devices.new.items) no) }
+    ensures many { IfOk result (λ logs. length logs ≡ length opened.new.found) }
+    ensures open { OnOk result (AreOpen (devices_now D.told D.faults opened.old.logs.items devices.old.items) (devices_now D.told D.faults opened.new.logs.items devices.new.items) opened.new.logs.items opened.new.found) }
     ensures four { vec_len opened.new.logs + vec_len devices.new ≡ 4 }
     ensures room { 4 ≤ vec_capacity devices.new }
 {
@@ -102,6 +126,7 @@ fn first_records<D: LogDev>(
     ensures read { MatchResult result
         (λ first. IsFirstRead (devices_now D.told D.faults opened.old.logs.items devices.old.items) (devices_now D.told D.faults opened.new.logs.items devices.new.items) opened.new.found first)
         (λ no. IsEnded (devices_now D.told D.faults opened.old.logs.items devices.old.items) (devices_now D.told D.faults opened.new.logs.items devices.new.items) no) }
+    ensures ready { OnOk result (AllZip IsReadyLog opened.new.logs.items opened.new.found) }
     ensures one { OnOk result (vec_len opened.new.logs ≡ 1) }
     ensures four { vec_len opened.new.logs + vec_len devices.new ≡ 4 }
     ensures room { (4 ≤ vec_capacity opened.new.logs) × (4 ≤ vec_capacity devices.new) }

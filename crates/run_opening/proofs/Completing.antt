@@ -64,6 +64,7 @@ spent_not o n u (inr (inr x)) = omega (arith, u.c, x.2)
 not_refused : Laws → (logs : List (List Record)) (o : Opening) (log : ℕ) (c : LogCause) → IsRecovered logs o → IsRecoveryCause logs log c → ⊥
 not_refused laws logs o log cause.NotALog on x = x
 not_refused laws logs o log cause.Damage on x = x
+not_refused laws logs o log cause.OldFormat on x = x
 not_refused laws logs o log cause.BadRecord on x = x
 not_refused laws logs o log cause.NoGenesis on x = laws.never_both logs recover.NoGenesis o (λ e. cc) x.1 on
 not_refused laws logs o log cause.TwoGenesis on x = laws.never_both logs recover.TwoGenesis o (λ e. cc) x.1 on
@@ -83,6 +84,7 @@ no_cause laws logs states o log (cause.Differs what kept text) on x =
     same_states states what kept text (subst (λ (ss : List State). IsDifference ss states what kept text) first x.1.5)
 no_cause laws logs states o log cause.NotALog on x = x
 no_cause laws logs states o log cause.Damage on x = x
+no_cause laws logs states o log cause.OldFormat on x = x
 no_cause laws logs states o log cause.BadRecord on x = x
 no_cause laws logs states o log cause.NoGenesis on x = not_refused laws logs o log cause.NoGenesis on.recovered x
 no_cause laws logs states o log cause.TwoGenesis on x = not_refused laws logs o log cause.TwoGenesis on.recovered x

@@ -82,6 +82,7 @@ begins_unspent logs states o (inr on) = on.unspent
 pub no_recovery : (logs : List (List Record)) (states : List State) (no : LogsNo) → ¬ AreEmpty logs → IsNoRecovery logs no → IsNoStart logs states no
 no_recovery logs states (ending.Refused log offset cause.NotALog) some why = absurd why.1
 no_recovery logs states (ending.Refused log offset cause.Damage) some why = absurd why.1
+no_recovery logs states (ending.Refused log offset cause.OldFormat) some why = absurd why.1
 no_recovery logs states (ending.Refused log offset cause.BadRecord) some why = absurd why.1
 no_recovery logs states (ending.Refused log offset cause.NoGenesis) some why = (why.0, some, why.1)
 no_recovery logs states (ending.Refused log offset cause.TwoGenesis) some why = (why.0, some, why.1)

@@ -78,6 +78,7 @@ IsCause logs states log (cause.Differs what kept text) =
     (log ≡ 0) × ((o : Opening) × (first : List State) × IsRecovered logs o × IsUnspent o × BeganWith logs first × IsDifference first states what kept text)
 IsCause logs states log cause.NotALog = ⊥
 IsCause logs states log cause.Damage = ⊥
+IsCause logs states log cause.OldFormat = ⊥
 IsCause logs states log cause.BadRecord = ⊥
 IsCause logs states log cause.NoGenesis = IsRecoveryCause logs log cause.NoGenesis
 IsCause logs states log cause.TwoGenesis = IsRecoveryCause logs log cause.TwoGenesis

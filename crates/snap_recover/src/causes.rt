@@ -8,6 +8,8 @@ pub enum LogCause {
     NotALog,
     /// Behind an open gate there is no whole group: the gate.
     Damage,
+    /// The log is of format 1 and has an item, so no run may go on with it.
+    OldFormat,
     /// An item is no record: the first byte at which none goes on.
     BadRecord,
     /// No log has a Genesis.

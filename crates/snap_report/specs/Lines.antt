@@ -1,9 +1,12 @@
 -- The lines of the output, byte for byte. A line ends with a line feed.
-use Rattle.std.specs.Prelude.{ℕ, zero, suc, ◌+◌, ℤ, pos, negsuc, Bool, true, false, if◌then◌else◌, List, [], ◌∷◌, ◌++◌, codes, count_by}
+use Rattle.std.specs.Prelude.{ℕ, zero, suc, ◌+◌, ℤ, pos, negsuc, Bool, true, false, if◌then◌else◌, Option, None, Some, List, [], ◌∷◌, ◌++◌, codes, count_by}
 use Rattle.std.specs.List.{flat_map}
 use Rattle.std.specs.Fmt.{decimal, signed_decimal}
+use Rattle.snap_base.specs.declared.ids.Bid.{Bid}
+use Rattle.snap_base.specs.declared.ids.Tid.{Tid}
+use Rattle.snap_base.specs.declared.verdicts.Place.{Place}
 use Rattle.snap_base.specs.declared.verdicts.Verdict.{Verdict}
-use Rattle.snap_base.specs.Text.{verdict_text}
+use Rattle.snap_base.specs.Text.{place_text, verdict_text}
 use Rattle.snap_base.specs.declared.transactions.State.{State}
 use Rattle.aml_tokens.specs.declared.tokens.TextCause.{TextCause}
 use Rattle.aml_tokens.specs.declared.tokens.TextCause.TheVariants as text
@@ -79,6 +82,43 @@ recovered_text o =
     codes "recovered batches " ++ (decimal (count_by is_batch o.committed) ++ (codes " acts " ++ (decimal (count_by is_act o.committed)
     ++ (codes " next " ++ (decimal o.next_tid.0 ++ (codes " " ++ (decimal o.next_bid.0 ++ (codes " " ++ (decimal o.next_c ++ line_end)))))))))
 
+-- ---- what is kept
+
+-- a value, where it is known
+abbrev pub value_text : Option ℤ → List ℕ
+value_text None = codes "unknown"
+value_text (Some value) = signed_decimal value
+
+abbrev pub kept_text : Place → Option ℤ → List ℕ
+kept_text place value = codes "kept " ++ (place_text place ++ (codes " " ++ (value_text value ++ line_end)))
+
+-- the places of a transaction of a batch, and of one outside of batches
+abbrev pub pact_place : Bid → Tid → Place
+pact_place bid tid = record { batch = bid; side = 0; order = tid.0 }
+
+abbrev pub act_place : Bid → ℕ → Place
+act_place m c = record { batch = m; side = 1; order = c }
+
+-- a batch's transactions with their values, which are known of all of them or of none
+abbrev pub batch_text : Bid → List Tid → List ℤ → List ℕ
+batch_text bid [] values = []
+batch_text bid (tid ∷ tids) [] = kept_text (pact_place bid tid) None ++ batch_text bid tids []
+batch_text bid (tid ∷ tids) (value ∷ values) = kept_text (pact_place bid tid) (Some value) ++ batch_text bid tids values
+
+abbrev pub lines_of : Kept → List ℕ
+lines_of (kept.Batch bid tids values) = batch_text bid tids values
+lines_of (kept.Act tid m c value) = kept_text (act_place m c) value
+
+-- all that is kept, in its order
+abbrev pub all_kept_text : List Kept → List ℕ
+all_kept_text committed = flat_map lines_of committed
+
+-- ---- logs of format 1
+
+-- how many were made ones of format 2
+abbrev pub migrated_text : ℕ → List ℕ
+migrated_text logs = codes "migrated " ++ (decimal logs ++ line_end)
+
 -- ---- the status
 
 -- the program's exit status
@@ -124,6 +164,7 @@ cause_text work.RootNotDeclared = codes "RootNotDeclared"
 abbrev pub log_cause_text : LogCause → List ℕ
 log_cause_text cause.NotALog = codes "NotALog"
 log_cause_text cause.Damage = codes "Damage"
+log_cause_text cause.OldFormat = codes "OldFormat"
 log_cause_text cause.BadRecord = codes "BadRecord"
 log_cause_text cause.NoGenesis = codes "NoGenesis"
 log_cause_text cause.TwoGenesis = codes "TwoGenesis"

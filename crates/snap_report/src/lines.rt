@@ -1,7 +1,7 @@
 ghost use Rattle.std.specs.Prelude.{◌≡◌, ◌<◌, ◌≤◌, IfOk, string_bytes, length, take, count_by};
-ghost use Rattle.snap_report.specs.Lines.{reply_text, actor_text, end_text, recovered_text, shown_fields, is_batch, is_act};
+ghost use Rattle.snap_report.specs.Lines.{reply_text, actor_text, end_text, recovered_text, kept_text, migrated_text, shown_fields, is_batch, is_act};
 
-use snap_base::{ActorId, Memory, State, TxNo, Verdict};
+use snap_base::{ActorId, Memory, Place, State, TxNo, Verdict};
 use snap_recover::{Kept, Opening};
 use std::alloc::Global;
 use std::fmt::Write;
@@ -59,6 +59,23 @@ pub fn recovered_line(alloc: Global, opening: &Opening) -> Result<String, Memory
     let (batches, acts) = (count_batches(committed), count_acts(committed));
     let (tid, bid, c) = (opening.next_tid, opening.next_bid, opening.next_c);
     Ok(format!(in alloc; "recovered batches {batches} acts {acts} next {tid} {bid} {c}\n")?)
+}
+
+/// A transaction that is kept, by its place: the value that it was committed with, where that is known.
+pub fn kept_line(alloc: Global, place: Place, value: Option<i64>) -> Result<String, Memory>
+    ensures { IfOk result (λ s. string_bytes s ≡ kept_text place value) }
+{
+    match value {
+        Some(value) => Ok(format!(in alloc; "kept {place} {value}\n")?),
+        None => Ok(format!(in alloc; "kept {place} unknown\n")?),
+    }
+}
+
+/// How many logs were made ones of format 2.
+pub fn migrated_line(alloc: Global, logs: u8) -> Result<String, Memory>
+    ensures { IfOk result (λ s. string_bytes s ≡ migrated_text logs) }
+{
+    Ok(format!(in alloc; "migrated {logs}\n")?)
 }
 
 fn count_batches(committed: &[Kept]) -> usize

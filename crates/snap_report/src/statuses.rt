@@ -144,6 +144,7 @@ fn log_cause_name(cause: LogCause) -> &'static str
     match cause {
         LogCause::NotALog => "NotALog",
         LogCause::Damage => "Damage",
+        LogCause::OldFormat => "OldFormat",
         LogCause::BadRecord => "BadRecord",
         LogCause::NoGenesis => "NoGenesis",
         LogCause::TwoGenesis => "TwoGenesis",

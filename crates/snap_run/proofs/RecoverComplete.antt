@@ -41,12 +41,14 @@ pub record RecordLaws : Type 0 where
 recovers_not_refused : (never : NeverBoth) (logs : List (List Record)) (o : Opening) (log : ℕ) (c : LogCause) → IsRecovered logs o → IsRecoveryCause logs log c → ⊥
 recovers_not_refused never logs o log cause.NotALog on x = x
 recovers_not_refused never logs o log cause.Damage on x = x
+recovers_not_refused never logs o log cause.OldFormat on x = x
 recovers_not_refused never logs o log cause.BadRecord on x = x
 recovers_not_refused never logs o log cause.NoGenesis on x = never logs recover.NoGenesis o (λ e. cc) x.1 on
 recovers_not_refused never logs o log cause.TwoGenesis on x = never logs recover.TwoGenesis o (λ e. cc) x.1 on
 recovers_not_refused never logs o log (cause.LogCount kept found) on x = never logs (recover.LogCount kept found) o (λ e. cc) x.1 on
 recovers_not_refused never logs o log (cause.Range k) on x = never logs (recover.Range k log) o (λ e. cc) x on
 recovers_not_refused never logs o log (cause.Missing k) on x = never logs (recover.Missing k log) o (λ e. cc) x on
+recovers_not_refused never logs o log (cause.Values k kept found) on x = never logs (recover.Values k log kept found) o (λ e. cc) x on
 recovers_not_refused never logs o log (cause.Spent number) on x = x
 recovers_not_refused never logs o log (cause.Differs what kept text) on x = x
 
@@ -123,6 +125,8 @@ module _ (one : OneCommand) (laws : RecordLaws) (never : NeverBoth) (u : Use) (l
   none_refused after log offset (cause.LogCount k f) x = given_not_refused x.1.0 log (cause.LogCount k f) x.1.1 x.1.2
   none_refused after log offset (cause.Range k) x = given_not_refused x.1.0 log (cause.Range k) x.1.1 x.1.2
   none_refused after log offset (cause.Missing k) x = given_not_refused x.1.0 log (cause.Missing k) x.1.1 x.1.2
+  none_refused after log offset cause.OldFormat x = given_not_refused x.1.0 log cause.OldFormat x.1.1 x.1.2
+  none_refused after log offset (cause.Values k kept found) x = given_not_refused x.1.0 log (cause.Values k kept found) x.1.1 x.1.2
   none_refused after log offset (cause.Spent n) x = given_not_refused x.1.0 log (cause.Spent n) x.1.1 x.1.2
   none_refused after log offset (cause.Differs w k t) x = given_not_refused x.1.0 log (cause.Differs w k t) x.1.1 x.1.2
 
