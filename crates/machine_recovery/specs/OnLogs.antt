@@ -1,6 +1,7 @@
 -- A program's runs on logs that hold the records of earlier runs, and the shapes of laws over all of them. No premise on
 -- code is left: the code is the program's own.
-use Rattle.std.specs.Prelude.{◌≡◌, ℕ, ◌<◌, List, [], ◌∷◌, length, Contains}
+use Rattle.std.specs.Prelude.{◌≡◌, ℕ, ◌<◌, Some, List, [], ◌∷◌, length, map, Contains}
+use Rattle.std.specs.List.{flat_map}
 use Rattle.snap_base.specs.declared.transactions.State.{State}
 use Rattle.aml_tree.specs.Tree.{CheckedMethod}
 use Rattle.aml_slice.specs.Controls.{Rest}
@@ -17,7 +18,7 @@ use Rattle.protocol_records.specs.SeveralRuns.{CutRun, logs_left}
 use Rattle.txn_records.specs.declared.records.Record.{Record}
 use Rattle.snap_recover.specs.declared.openings.Opening.{Opening}
 use Rattle.snap_recover.specs.Opening.{IsRecovered}
-use Rattle.recovery_laws.specs.Grown.{grown, BeginsWith, opening_after}
+use Rattle.recovery_laws.specs.Grown.{grown, Answer, answers_of, all_in, BeginsWith, opening_after}
 use Rattle.machine_laws.specs.Meant.{IsAsMeant, meant_run}
 use Rattle.machine_laws.specs.Programs.{IsTextOf, with_code, finish_of}
 
@@ -30,9 +31,10 @@ AtEveryMomentOnLogsOf p P =
     → P (with_code p w) (finish_of p w) earlier o (reached (with_code p w) m.events) (history (with_code p w) m.events) (left_in (reached (with_code p w) m.events) kept)
 
 -- What the logs recover to is what the language means: the results of the members are those that they have one after the
--- other in the order of their places, and the states are those that this leaves.
+-- other in the order of their places, the values that recovery gives are these results, and the states are those that this leaves.
 pub record RecoversAsMeant (p : List CheckedMethod) (w : Fixed Rest) (finish : Rest → List State → Alone) (earlier : List (List Record)) (o : Opening) (s : Machine Rest) (h : History) (logs : ℕ → List LogRecord) : Type 0 where
   pub results : IsAsMeant p w (members w.text.logs logs h)
+  pub values : map (λ (x : Answer). x.2) (flat_map answers_of (all_in w.text.logs logs s)) ≡ map Some (meant_run p w (members w.text.logs logs h)).results
   pub states : (a : ℕ) → a < length w.text.opening.states → state_in (opening_after w o s logs).states a ≡ state_in (meant_run p w (members w.text.logs logs h)).world a
 
 -- ---- several runs

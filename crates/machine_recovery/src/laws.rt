@@ -25,7 +25,8 @@ pub fn logs_recover_to_the_members(program: &Checked)
 }
 
 /// The members, one after the other in the order of their places as the language means each of them, give the results that
-/// they had; and the states of the opening to which the logs recover are those that this leaves.
+/// they had, which are the values that recovery gives; and the states of the opening to which the logs recover are those that this
+/// leaves.
 pub fn logs_recover_as_meant(program: &Checked)
     ensures { AtEveryMomentOnLogsOf (methods_of program.now) (RecoversAsMeant (methods_of program.now)) }
 {

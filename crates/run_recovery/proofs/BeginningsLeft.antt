@@ -4,7 +4,7 @@ use Rattle.std.proofs.Common.{inl, inr, arith, sym, ap, subst, ◌∙◌}
 use Rattle.std.proofs.lemmas.List.{append-nil}
 use Rattle.std.proofs.lemmas.List.Concat.{flat_map-cons}
 use Rattle.snap_base.specs.declared.transactions.State.{State}
-use Rattle.gate_log.specs.Opened.{Opened, opening_ops}
+use Rattle.gate_log.specs.Opened.{Opened, beginning_ops}
 use Rattle.log_opening.specs.Devices.{Device, device_at}
 use Rattle.protocol.specs.Events as machine
 use Rattle.record_log.specs.Growth.{GrewBy, HoldsWhole, IsGrowth, Leaves, LeavesGroups, MayAppendGroups, all_records, groups_ops}
@@ -34,8 +34,8 @@ may_front end (x ∷ xs) ys may = (may.0, may_front (end_behind end (spelled x))
 grew_first : (h : History) (new : Option History) (end : ℕ) (xs ys : List (List Record)) (tried : Option (List Record)) → GrewBy (Some h) new end (xs ++ ys) tried → MayAppendGroups end xs
 grew_first h new end xs ys tried grew = may_front end xs ys grew.1.may
 
-first_growth : (bytes : List ℕ) (end : ℕ) (groups : List (List Record)) → MayAppendGroups end groups → IsGrowth bytes end groups None (opening_ops bytes ++ groups_ops end groups)
-first_growth bytes end groups may = record { may = may; begun = []; last = refl; parts = ap (λ ops. opening_ops bytes ++ ops) (sym (append-nil (groups_ops end groups))) }
+first_growth : (bytes : List ℕ) (end : ℕ) (groups : List (List Record)) → MayAppendGroups end groups → IsGrowth bytes end groups None (beginning_ops bytes ++ groups_ops end groups)
+first_growth bytes end groups may = record { may = may; begun = []; last = refl; parts = ap (λ ops. beginning_ops bytes ++ ops) (sym (append-nil (groups_ops end groups))) }
 
 -- ---- what they leave
 
@@ -80,7 +80,7 @@ each_left : GrowthKeeps → {w : Work} {o : Opening} {es : List machine.Event} {
     → CrashBefore devices images → (l : ℕ) → l < w.logs → Left l (records_at devices.records l) devices.added (images l)
 each_left keeps {w} {o} {es} {failed} {before} {after} devices images crash l lt =
     log_left (content h) here.end l rs devices.added (crash.made l) (images l)
-    (keeps h here.opened.0 here.end here.opened.1 rs first None (opening_ops (content h) ++ groups_ops here.end first) opened c.2 held (first_growth (content h) here.end first may) (crash.made l) c.3.0 c.3.1 (images l) c.4)
+    (keeps h here.opened.0 here.end here.opened.1 rs first None (beginning_ops (content h) ++ groups_ops here.end first) opened c.2 held (first_growth (content h) here.end first may) (crash.made l) c.3.0 c.3.1 (images l) c.4)
   where
     first : List (List Record)
     first = first_groups l devices.added
@@ -97,7 +97,7 @@ each_left keeps {w} {o} {es} {failed} {before} {after} devices images crash l lt
     here : IsRunDevice (device_at before l) (device_at after l) rs (first ++ groups) tried
     here = devices.each l lt
 
-    c : (h : History) × ((device_at before l).told ≡ Some h) × (disk h ≡ settled (content h)) × IsFront (crash.made l) (opening_ops (content h) ++ groups_ops here.end first) × IsImage (disk_after (crash.made l) (disk h)) (images l)
+    c : (h : History) × ((device_at before l).told ≡ Some h) × (disk h ≡ settled (content h)) × IsFront (crash.made l) (beginning_ops (content h) ++ groups_ops here.end first) × IsImage (disk_after (crash.made l) (disk h)) (images l)
     c = crash.each l lt
 
     h : History

@@ -35,9 +35,9 @@ none_written : (rs : List LogRecord) → filter is_genesis (all_told rs) ≡ []
 none_written [] = refl
 none_written (written.BatchInfo k actors tids ∷ rs) = none_written rs
 none_written (written.BatchComplete k a st ∷ rs) = none_written rs
-none_written (written.BatchCommit k ∷ rs) = none_written rs
+none_written (written.BatchDone k vs ∷ rs) = none_written rs
 none_written (written.ActPrepare t a st ∷ rs) = none_written rs
-none_written (written.ActCommit t m c actors ∷ rs) = none_written rs
+none_written (written.ActDone t m c v actors ∷ rs) = none_written rs
 
 grown_geneses : (n : ℕ) (rss : List (List Record)) (logs : ℕ → List LogRecord) → geneses (grown_from n rss logs) ≡ geneses rss
 grown_geneses n [] logs = refl

@@ -13,7 +13,7 @@ use Rattle.run_opening.specs.Starts.{IsStart}
 use Rattle.snap_base.specs.declared.transactions.State.{State}
 use Rattle.snap_recover.specs.declared.openings.Opening.{Opening}
 use Rattle.txn_records.specs.declared.records.Record.{Record}
-use Rattle.txn_records.specs.declared.records.Record.TheVariants.{Genesis, BatchInfo, BatchComplete, BatchCommit, ActPrepare, ActCommit}
+use Rattle.txn_records.specs.declared.records.Record.TheVariants.{Genesis, BatchInfo, BatchComplete, BatchCommit, ActPrepare, ActCommit, BatchDone, ActDone}
 use Rattle.run_recovery.proofs.LogsLeft.{grown_long}
 
 -- ---- a run's records say nothing of it
@@ -22,9 +22,9 @@ none_said : (rs : List LogRecord) → logs_said (all_told rs) ≡ 1
 none_said [] = refl
 none_said (written.BatchInfo k actors tids ∷ rs) = none_said rs
 none_said (written.BatchComplete k a st ∷ rs) = none_said rs
-none_said (written.BatchCommit k ∷ rs) = none_said rs
+none_said (written.BatchDone k vs ∷ rs) = none_said rs
 none_said (written.ActPrepare t a st ∷ rs) = none_said rs
-none_said (written.ActCommit t m c actors ∷ rs) = none_said rs
+none_said (written.ActDone t m c v actors ∷ rs) = none_said rs
 
 said_before : (rs : List Record) (more : List LogRecord) → logs_said (rs ++ all_told more) ≡ logs_said rs
 said_before [] more = none_said more
@@ -34,6 +34,8 @@ said_before (BatchComplete k a st ∷ rs) more = said_before rs more
 said_before (BatchCommit k ∷ rs) more = said_before rs more
 said_before (ActPrepare t a st ∷ rs) more = said_before rs more
 said_before (ActCommit t m c actors ∷ rs) more = said_before rs more
+said_before (BatchDone k vs ∷ rs) more = said_before rs more
+said_before (ActDone t m c v actors ∷ rs) more = said_before rs more
 
 pub said_grown : (logs : List (List Record)) (more : ℕ → List LogRecord) → IsSaid logs → IsSaid (grown logs more)
 said_grown [] more said = let none : [] ≡ said.0 ∷ said.1 = said.2 in absurd (cc)

@@ -1,14 +1,16 @@
 -- Of runs one behind the other, what the crash of each left is what the next one began with.
 use Rattle.std.specs.Prelude.{◌≡◌, refl, ℕ, zero, suc, ◌+◌, ◌<◌, ◌≤◌, Bool, Option, Some, List, [], ◌∷◌, ◌++◌, length, map, take, get_or, Contains, slice_index_or, IfSome}
 use Rattle.std.specs.List.{AllByRecursion}
-use Rattle.std.proofs.Common.{inl, inr, arith, sym, ap, subst, ◌∙◌}
+use Rattle.std.proofs.Common.{inl, inr, append_assoc, arith, sym, ap, subst, ◌∙◌}
 use Rattle.std.proofs.lemmas.List.{append-nil, take_all, take_more}
 use Rattle.aml_tree.specs.Tree.{CheckedMethod}
 use Rattle.log_opening.specs.Devices.{Device, device_at}
 use Rattle.log_opening.specs.Kept.{Holds}
 use Rattle.protocol.specs.Events as machine
 use Rattle.protocol.specs.Moments.{Moment, left_in}
+use Rattle.protocol.specs.History.{history}
 use Rattle.protocol.specs.Runs.{reached}
+use Rattle.protocol_records.specs.Crash.{members}
 use Rattle.record_log.specs.RecordLogLaws.{OneListOfRecords}
 use Rattle.record_log.specs.Records.{HoldsRecords}
 use Rattle.recovery_laws.specs.Grown.{all_in}
@@ -27,7 +29,7 @@ use Rattle.run_recovery.specs.Crashes.{CrashOn, Recovers}
 use Rattle.run_recovery.specs.Next.{GoesOnFrom, opening_left, records_left}
 use Rattle.run_recovery.specs.Runs.{AreRunDevices, HasRun, machine_of}
 use Rattle.run_recovery.specs.Schedules.{Schedule}
-use Rattle.run_recovery.specs.Several.{BeganOn, Crash, CutOff, EachIsBehind, Early, FindsRunsLogs, GoOn, IsBehind, Left, LeftBy, OfNext, Within, bytes_left}
+use Rattle.run_recovery.specs.Several.{AddsMembers, BeganOn, Crash, CutOff, EachIsBehind, Early, FindsRunsLogs, GoOn, IsBehind, Left, LeftBy, OfNext, ValuesStand, Within, added_by, bytes_left, opening_behind}
 use Rattle.run_recovery.specs.Unbegun.{AreKept}
 use Rattle.run_recovery.proofs.CallsKept.{CallsKeep}
 use Rattle.run_recovery.proofs.LogsLeft.{first_long}
@@ -98,7 +100,7 @@ record AtCrash (x : CutOff) (crash : Crash x.run.devices x.images) : Type 0 wher
   holds : HoldEach x.work.logs x.images records
   alone : (q : Opening) → Begins records x.work.states q → q ≡ opening
   said : AreOfRuns x.run.devices.records → AreOfRuns records
-  committed : (more : List Kept) × (opening.committed ≡ x.opening.committed ++ more)
+  committed : (more : List Kept) × (opening.committed ≡ x.opening.committed ++ more) × AddsMembers x crash more
 
 crashed : NextLaws → (x : CutOff) → AreRecovered x.work.program → (crash : Crash x.run.devices x.images) → AtCrash x crash
 crashed laws x recovered (Early crash) =
@@ -111,7 +113,7 @@ crashed laws x recovered (Early crash) =
       holds = b.holds;
       alone = λ q begins. one_start laws.opening b.kept x.work.states x.opening q b.begins begins;
       said = b.said;
-      committed = ([], sym (append-nil x.opening.committed));
+      committed = ([], sym (append-nil x.opening.committed), refl);
     }
 crashed laws x recovered (Within m crash) =
     let r = recovered x.work x.schedule x.opening x.events x.failed x.before x.after refl x.limits x.run m x.images crash in
@@ -124,7 +126,11 @@ crashed laws x recovered (Within m crash) =
       holds = g.holds;
       alone = λ q begins. (g.alone x.work.states q begins).0;
       said = λ own. inr (g.said own);
-      committed = (all_in x.work.logs (left_in (reached (machine_of x.work x.opening) m.events) r.kept) (reached (machine_of x.work x.opening) m.events), refl);
+      committed = (
+        all_in x.work.logs (left_in (reached (machine_of x.work x.opening) m.events) r.kept) (reached (machine_of x.work x.opening) m.events),
+        refl,
+        (members x.work.logs (left_in (reached (machine_of x.work x.opening) m.events) r.kept) (history (machine_of x.work x.opening) m.events), r.members.ordered, r.meant.values),
+      );
     }
 
 -- a run begins behind the calls with the opening with which it would have begun before them
@@ -209,3 +215,20 @@ next_finds x left (y ∷ ys) began own = subst AreOfRuns (sym began.records) (le
 pub each_finds : (xs : List CutOff) → GoOn xs → OfNext FindsRunsLogs xs → AllByRecursion FindsRunsLogs xs
 each_finds [] on own = tt
 each_finds (x ∷ xs) on own = (own, each_finds xs on.1 (next_finds x on.0.0 xs on.0.1 own))
+
+-- ---- the values that recovery gives
+
+next_opening : (x : CutOff) (left : Left x x.crash) (xs : List CutOff) → OfNext (BeganOn left) xs → OfNext (λ (y : CutOff). y.opening ≡ left.opening) xs
+next_opening x left [] began = tt
+next_opening x left (y ∷ ys) began = began.opening
+
+pub values_stand : (o : Opening) (xs : List CutOff) (on : GoOn xs) → OfNext (λ (x : CutOff). x.opening ≡ o) xs → ValuesStand o xs on
+values_stand o [] on first = record { committed = sym (append-nil o.committed); members = tt }
+values_stand o (x ∷ xs) on first =
+    let left = on.0.0 in
+    let more : List Kept = left.committed.0 in
+    let later = values_stand left.opening xs on.1 (next_opening x left xs on.0.1) in
+    record {
+      committed = later.committed ∙ (ap (λ (ks : List Kept). ks ++ added_by xs on.1) (left.committed.1 ∙ ap (λ (q : Opening). q.committed ++ more) first) ∙ append_assoc o.committed more (added_by xs on.1));
+      members = (left.committed.2, later.members);
+    }

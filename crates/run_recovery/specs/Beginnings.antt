@@ -1,6 +1,7 @@
--- What a crash leaves while a run begins: its logs are opened, and what is written before it is appended.
+-- What a crash leaves while a run begins: its logs are opened, those of format 1 are upgraded, and what is written before it is
+-- appended.
 use Rattle.std.specs.Prelude.{◌≡◌, ℕ, ◌<◌, ◌⊎◌, Bool, Some, List, [], ◌∷◌, ◌++◌}
-use Rattle.gate_log.specs.Opened.{opening_ops}
+use Rattle.gate_log.specs.Opened.{beginning_ops}
 use Rattle.log_opening.specs.Devices.{Device, device_at}
 use Rattle.protocol.specs.Events as machine
 use Rattle.record_log.specs.Growth.{groups_ops}
@@ -20,12 +21,12 @@ use Rattle.txn_records.specs.declared.records.Record.{Record}
 abbrev pub IsFront : List DevOp → List DevOp → Type 0
 IsFront made ops = (left : List DevOp) × (ops ≡ made ++ left)
 
--- A crash while the run begins: of the operations of opening and of the groups before the run a front is made on each log, and
--- these bytes are left. The devices told what they held before, and it was durable.
+-- A crash while the run begins: of the operations of opening, of an upgrade where the log was of format 1, and of the groups before
+-- the run a front is made on each log, and these bytes are left. The devices told what they held before, and it was durable.
 pub record CrashBefore {w : Work} {o : Opening} {es : List machine.Event} {failed : ℕ → Bool} {before after : List Device} (devices : AreRunDevices w o es failed before after) (images : ℕ → List ℕ) : Type 0 where
   pub made : ℕ → List DevOp
   pub each : (l : ℕ) (lt : l < w.logs) → (h : History) × ((device_at before l).told ≡ Some h) × (disk h ≡ settled (content h))
-      × IsFront (made l) (opening_ops (content h) ++ groups_ops (devices.each l lt).end (first_groups l devices.added))
+      × IsFront (made l) (beginning_ops (content h) ++ groups_ops (devices.each l lt).end (first_groups l devices.added))
       × IsImage (disk_after (made l) (disk h)) (images l)
 
 -- these records are the same as those; or, only where these are none, log 0 has Genesis alone

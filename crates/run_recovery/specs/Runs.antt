@@ -61,8 +61,8 @@ pub record IsLeastOf (failed : ℕ → Bool) (log : ℕ) : Type 0 where
 
 -- ---- what a run leaves on its logs
 
--- The device held these records and was opened; since then it got these groups, one append for each, and a front of the
--- append of one more that met a fault, where one did, and nothing else.
+-- The device held these records and was opened, and its log upgraded where it was of format 1; since then it got these groups, one
+-- append for each, and a front of the append of one more that met a fault, where one did, and nothing else.
 pub record IsRunDevice (before after : Device) (records : List Record) (groups : List (List Record)) (tried : Option (List Record)) : Type 0 where
   pub held : Holds before records
   pub end : ℕ

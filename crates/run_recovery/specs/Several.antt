@@ -1,9 +1,14 @@
 -- Runs one behind the other: each is cut off by a crash; behind that may come calls in which no run began; and the next run begins on
 -- the bytes that were left. Any work may follow that is of as many logs and of the same states.
-use Rattle.std.specs.Prelude.{◌≡◌, ℕ, Bool, List, [], ◌∷◌, ◌++◌, length}
+use Rattle.std.specs.Prelude.{◌≡◌, ℕ, Bool, Some, List, [], ◌∷◌, ◌++◌, length, map}
+use Rattle.std.specs.List.{flat_map}
 use Rattle.log_opening.specs.Devices.{Device}
+use Rattle.machine_laws.specs.Meant.{meant_run}
+use Rattle.protocol.specs.Chains.{by_place}
 use Rattle.protocol.specs.Events as machine
+use Rattle.protocol.specs.History.{Done}
 use Rattle.protocol.specs.Moments.{Moment}
+use Rattle.recovery_laws.specs.Grown.{Answer, answer_at, answers_of}
 use Rattle.run_opening.specs.Begins.{AreOfRuns, Begins}
 use Rattle.run_recovery.specs.Beginnings.{BeginsAgain, CrashBefore, HoldEach, KeepsOrBegins}
 use Rattle.run_recovery.specs.Crashes.{CrashOn, Recovers}
@@ -70,6 +75,15 @@ abbrev pub LeftBy : (x : CutOff) → Crash x.run.devices x.images → List (List
 LeftBy x (Early crash) records o = (b : BeginsAgain x.run.devices x.images) × (records ≡ b.kept) × (o ≡ x.opening)
 LeftBy x (Within m crash) records o = (r : Recovers x.work.program x.run.devices m x.images) × GoesOnFrom r × (records ≡ records_left r) × (o ≡ opening_left r)
 
+-- What recovery gives of the run beside what was committed before it. Where the crash came while the run began it is nothing. At a
+-- moment of the run it is members of it, in the order of their places; and the values that it gives are the results that these have
+-- one after the other in this order, from the states with which the run began, as the language means each.
+abbrev pub AddsMembers : (x : CutOff) → Crash x.run.devices x.images → List Kept → Type 0
+AddsMembers x (Early crash) more = more ≡ []
+AddsMembers x (Within m crash) more =
+    (ds : List Done) × (flat_map answers_of more ≡ map answer_at (by_place ds))
+    × (map (λ (y : Answer). y.2) (flat_map answers_of more) ≡ map Some (meant_run x.work.program (machine_of x.work x.opening) ds).results)
+
 -- The records with which the crash left the logs, those with which the calls behind it left them, and the opening with which alone a
 -- run of the same states begins on these. What was committed before the run stands first in it. They are as runs leave them, where
 -- the run found them so.
@@ -83,7 +97,7 @@ pub record Left (x : CutOff) (crash : Crash x.run.devices x.images) : Type 0 whe
   pub holds : HoldEach x.work.logs (bytes_left x) records
   pub alone : (q : Opening) → Begins records x.work.states q → q ≡ opening
   pub said : AreOfRuns x.run.devices.records → AreOfRuns records
-  pub committed : (more : List Kept) × (opening.committed ≡ x.opening.committed ++ more)
+  pub committed : (more : List Kept) × (opening.committed ≡ x.opening.committed ++ more) × AddsMembers x crash more
 
 -- the run y began on these records, with this opening
 pub record BeganOn {x : CutOff} {crash : Crash x.run.devices x.images} (left : Left x crash) (y : CutOff) : Type 0 where
@@ -98,3 +112,25 @@ GoOn (x ∷ xs) = ((left : Left x x.crash) × OfNext (BeganOn left) xs) × GoOn 
 -- its run found logs as runs leave them
 abbrev pub FindsRunsLogs : CutOff → Type 0
 FindsRunsLogs x = AreOfRuns x.run.devices.records
+
+-- ---- the values that recovery gives behind all of them
+
+-- the opening with which a run would begin there, where the first of them began with this one
+abbrev pub opening_behind : Opening → (xs : List CutOff) → GoOn xs → Opening
+opening_behind o [] on = o
+opening_behind o (x ∷ xs) on = opening_behind on.0.0.opening xs on.1
+
+-- what each of them adds, one behind the other
+abbrev pub added_by : (xs : List CutOff) → GoOn xs → List Kept
+added_by [] on = []
+added_by (x ∷ xs) on = on.0.0.committed.0 ++ added_by xs on.1
+
+abbrev pub EachAddsMembers : (xs : List CutOff) → GoOn xs → Type 0
+EachAddsMembers [] on = Unit {0}
+EachAddsMembers (x ∷ xs) on = AddsMembers x x.crash on.0.0.committed.0 × EachAddsMembers xs on.1
+
+-- Recovery gives what was committed before the first of them, and behind that what each of them adds: members, with the values that
+-- they give alone.
+pub record ValuesStand (o : Opening) (xs : List CutOff) (on : GoOn xs) : Type 0 where
+  pub committed : (opening_behind o xs on).committed ≡ o.committed ++ added_by xs on
+  pub members : EachAddsMembers xs on

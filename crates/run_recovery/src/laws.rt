@@ -21,7 +21,7 @@ ghost use Rattle.run_recovery.specs.Next.{GoesOnFrom, opening_left, records_left
 ghost use Rattle.run_recovery.specs.Recoverable.{AreRecoverable, TellBytes};
 ghost use Rattle.run_recovery.specs.Runs.{AreRunDevices, HasRun, IsNext, machine_of, text_of};
 ghost use Rattle.run_recovery.specs.Schedules.{Schedule, seeded, free};
-ghost use Rattle.run_recovery.specs.Several.{CutOff, EachIsBehind, FindsRunsLogs, GoOn, OfNext};
+ghost use Rattle.run_recovery.specs.Several.{CutOff, EachIsBehind, FindsRunsLogs, GoOn, OfNext, ValuesStand};
 ghost use Rattle.run_recovery.specs.Stands.{RunStands};
 ghost use Rattle.run_recovery.specs.Unbegun.{AreKept, AreUnbegun, left_last};
 ghost use Rattle.snap_base.specs.declared.transactions.State.{State};
@@ -146,6 +146,13 @@ pub fn runs_go_on_behind_each_other(programs: &[Checked])
         runs_are_recovered(program);
     }
 }
+
+/// Of runs one behind the other that go on so: recovery gives, behind what was committed before the first of them, the members of each
+/// with their values, and these are the results that they have alone, one after the other in the order of their places from the states
+/// with which the run began, as the language means each.
+pub fn values_are_results_alone()
+    ensures { (o : Opening) (xs : List CutOff) (on : GoOn xs) → OfNext (λ (x : CutOff). x.opening ≡ o) xs → ValuesStand o xs on }
+{}
 
 /// Where the first of runs one behind the other found logs as runs leave them, each of them did: no record, or log 0 says how many
 /// logs there are. So what each of them leaves is recoverable.

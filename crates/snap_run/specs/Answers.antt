@@ -10,11 +10,12 @@ use Rattle.snap_work.specs.Works.{Work}
 use Rattle.work_text.specs.Reads.{IsWork, IsFirstWorkFault}
 use Rattle.run_opening.specs.Opens.{MayOpen}
 use Rattle.run_recovery.specs.Schedules.{Schedule, seeded, free}
-use Rattle.command_words.specs.Words.{IsRun, IsRecover, IsGen, IsBench, IsUsageFault}
+use Rattle.command_words.specs.Words.{IsRun, IsRecover, IsMigrate, IsGen, IsBench, IsUsageFault}
 use Rattle.snap_run.specs.Uses.{Reading, Use}
 use Rattle.run_work.specs.Writings.{Writing, WritesNothing, Writes, WritesFront}
 use Rattle.run_work.specs.Runs.{Ran, IsWorkAnswer, IsBenchAnswer}
 use Rattle.work_gen.specs.Generated.{generated_text}
+use Rattle.snap_run.specs.Migrations.{IsMigrateAnswer}
 use Rattle.snap_run.specs.Recoveries.{IsRecoverAnswer}
 use Rattle.snap_work.specs.declared.limits.TheConstants.{LONGEST_WORK}
 
@@ -105,7 +106,8 @@ IsAnswer u s =
     ⊎ ((IsRecover u.words × ReadsNothing u.reading × (u.kept ≡ []) × WritesNothing u.tracing × IsRecoverAnswer u.devices_before u.devices_after u.writing s)
     ⊎ (((count seed : ℕ) × IsGen u.words count seed × ReadsNothing u.reading × TakesNoEvent u × IsGenAnswer (generated_text count seed) u.writing s)
     ⊎ (((count seed workers : ℕ) × IsBench u.words count seed workers × ReadsNothing u.reading × IsMeasured u (schedule_of workers 0) count seed s)
-    ⊎ (IsUsageAnswer u s × ReadsNothing u.reading × TouchesNothing u))))
+    ⊎ ((IsMigrate u.words × ReadsNothing u.reading × (u.kept ≡ []) × WritesNothing u.tracing × IsMigrateAnswer u.devices_before u.devices_after u.writing s)
+    ⊎ (IsUsageAnswer u s × ReadsNothing u.reading × TouchesNothing u)))))
 
 -- the call ended before a log was needed
 abbrev pub GetsNoCall : Status → Type 0

@@ -3,7 +3,7 @@ use Rattle.std.specs.List.{AllZip}
 use Rattle.snap_report.specs.declared.statuses.Status.{Status}
 use Rattle.record_log.specs.Records.{KeepsRecords}
 use Rattle.log_opening.specs.Devices.{Device, IsOpenedAtMost}
-use Rattle.command_words.specs.Words.{IsRecover}
+use Rattle.command_words.specs.Words.{IsMigrate, IsRecover}
 use Rattle.snap_run.specs.Uses.{Use}
 use Rattle.snap_run.specs.Answers.{IsAnswer}
 
@@ -14,3 +14,5 @@ pub record IsOutcome (u : Use) (s : Status) : Type 0 where
   pub opened : IsRecover u.words → AllZip IsOpenedAtMost u.devices_before u.devices_after
   -- and a crash at any moment loses no record
   pub kept : IsRecover u.words → AllZip (λ (a b : Device). KeepsRecords a.told b.told) u.devices_before u.devices_after
+  -- so does the one that makes logs of format 1 ones of format 2, and the logs recover to the same as before
+  pub migrated : IsMigrate u.words → AllZip (λ (a b : Device). KeepsRecords a.told b.told) u.devices_before u.devices_after

@@ -5,7 +5,7 @@ use Rattle.txn_records.specs.declared.records.Record.{Record}
 use Rattle.run_recovery.specs.Recoverable.{AreRecoverable}
 use Rattle.snap_recover.specs.declared.openings.Opening.{Opening}
 use Rattle.snap_recover.specs.Opening.{IsRecovered}
-use Rattle.snap_report.specs.Lines.{actors_text, recovered_text}
+use Rattle.snap_report.specs.Lines.{actors_text, all_kept_text, recovered_text}
 use Rattle.snap_report.specs.declared.statuses.Status.{Status}
 use Rattle.snap_report.specs.declared.statuses.Status.TheVariants as status
 use Rattle.log_opening.specs.Devices.{Device, device_at, AreOpened, LacksMemory}
@@ -14,8 +14,9 @@ use Rattle.snap_run.specs.Uses.{Use}
 use Rattle.run_work.specs.Writings.{Writing, WritesNothing, Writes, WritesFront}
 use Rattle.command_words.specs.Words.{IsRecover}
 
+-- the actors, what is kept with its values, and what is recovered
 abbrev pub recovered_report : Opening → List ℕ
-recovered_report o = actors_text 0 o.states ++ recovered_text o
+recovered_report o = actors_text 0 o.states ++ (all_kept_text o.committed ++ recovered_text o)
 
 abbrev pub IsRecoverAnswer : List Device → List Device → Writing → Status → Type 0
 IsRecoverAnswer before after out status.Done =

@@ -6,6 +6,7 @@ ghost use Rattle.snap_recover.specs.declared.openings.Opening.{Opening};
 ghost use Rattle.snap_report.specs.declared.statuses.Status.{Status};
 ghost use Rattle.snap_report.specs.declared.statuses.Status.TheVariants as status;
 ghost use Rattle.snap_run.specs.Answers.{IsUntroubled, IsPrintable, MayBeMeasured};
+ghost use Rattle.snap_run.specs.Migrations.{IsMigratable};
 ghost use Rattle.snap_run.specs.Outcomes.{IsOutcome};
 ghost use Rattle.snap_run.specs.Recoveries.{IsRecoverable};
 ghost use Rattle.snap_run.specs.Uses.{Use};
@@ -33,6 +34,7 @@ pub struct Outcome<D, O, T> {
 pub(crate) fn done_or_no_memory()
     ensures complete { (u : Use) (s : Status) (text : List ℕ) (w : Work) (records : List (List Record)) (o : Opening) → IsOutcome u s → IsUntroubled u text w records o → ¬ IsOfLogs s → (s ≡ status.Done) ⊎ (s ≡ status.Memory) }
     ensures complete_recover { (u : Use) (s : Status) (kept : List (List Record)) → IsOutcome u s → IsRecoverable u kept → (s ≡ status.Done) ⊎ (s ≡ status.Memory) }
+    ensures complete_migrate { (u : Use) (s : Status) (kept : List (List Record)) → IsOutcome u s → IsMigratable u kept → (s ≡ status.Done) ⊎ (s ≡ status.Memory) }
     ensures complete_gen { (u : Use) (s : Status) → IsOutcome u s → IsPrintable u → (s ≡ status.Done) ⊎ (s ≡ status.Memory) }
     ensures complete_bench { (u : Use) (s : Status) (count seed workers : ℕ) (w : Work) (records : List (List Record)) (o : Opening) → IsOutcome u s → IsBench u.words count seed workers → MayBeMeasured u count seed w records o → ¬ IsOfLogs s → (s ≡ status.Done) ⊎ (s ≡ status.Memory) }
 {

@@ -3,6 +3,7 @@
 
 mod crews;
 mod endings;
+mod migrations;
 mod recoveries;
 mod solo;
 mod top;

@@ -3,7 +3,7 @@ ghost use Rattle.std.specs.List.{AllZip};
 ghost use Rattle.record_log.specs.Records.{KeepsRecords};
 ghost use Rattle.log_opening.specs.Devices.{Device, devices_of, IsOpenedAtMost};
 ghost use Rattle.snap_outside.specs.Causes.{EndsAtFault};
-ghost use Rattle.snap_report.specs.Lines.{actors_text};
+ghost use Rattle.snap_report.specs.Lines.{actors_text, all_kept_text, batch_text, kept_text, lines_of, pact_place, act_place};
 ghost use Rattle.run_work.specs.Writings.{Writing, writing_of};
 ghost use Rattle.snap_run.specs.Recoveries.{recovered_report, IsRecoverAnswer};
 
@@ -11,10 +11,10 @@ use log_opening::recover_kept;
 use run_outputs::write_all;
 use run_printing::push_actor;
 use run_work::status_of;
-use snap_base::{ActorId, Memory, State};
+use snap_base::{ActorId, Bid, Memory, Place, State, Tid};
 use snap_outside::{LogDev, Sink};
-use snap_recover::Opening;
-use snap_report::{Status, recovered_line};
+use snap_recover::{Kept, Opening};
+use snap_report::{Status, kept_line, recovered_line};
 use std::alloc::Global;
 
 /// Prints what the logs on these devices recover to.
@@ -43,13 +43,14 @@ pub(crate) fn print_recovered<D: LogDev, O: Sink>(
     Status::Done
 }
 
-/// The lines of the actors, and what is recovered.
+/// The lines of the actors, those of what is kept, and what is recovered.
 fn report_of(alloc: Global, opening: &Opening) -> Result<String, Memory>
     requires { length opening.now.states ≤ 256 }
     ensures { IfOk result (λ s. string_bytes s ≡ recovered_report opening.now) }
 {
     let mut text = String::new(alloc);
     push_actors(alloc, &mut text, opening.states.as_slice())?;
+    push_all_kept(alloc, &mut text, opening.committed.as_slice())?;
     let line = recovered_line(alloc, opening)?;
     text.push_str(line.as_str())?;
     Ok(text)
@@ -64,4 +65,78 @@ fn push_actors(alloc: Global, text: &mut String, states: &[State]) -> Result<(),
         push_actor(alloc, text, ActorId(number as u16), state)?;
     }
     Ok(())
+}
+
+/// Adds the lines of all that is kept.
+fn push_all_kept(alloc: Global, text: &mut String, committed: &[Kept]) -> Result<(), Memory>
+    ensures { OnOk result (string_bytes text.new ≡ string_bytes text.old ++ all_kept_text committed.now) }
+{
+    for kept in committed {
+        push_kept(alloc, text, kept)?;
+    }
+    Ok(())
+}
+
+/// Adds the lines of a batch's transactions, or that of one outside of batches.
+fn push_kept(alloc: Global, text: &mut String, kept: &Kept) -> Result<(), Memory>
+    ensures { OnOk result (string_bytes text.new ≡ string_bytes text.old ++ lines_of kept.now) }
+{
+    match kept {
+        Kept::Batch { bid, tids, values } => {
+            push_batch(alloc, text, *bid, tids.as_slice(), values.as_slice())
+        }
+        Kept::Act { m, c, value, .. } => push_line(alloc, text, act_place(*m, *c), *value),
+    }
+}
+
+/// Adds the lines of a batch's transactions, with their values where these are known.
+fn push_batch(
+    alloc: Global,
+    text: &mut String,
+    bid: Bid,
+    tids: &[Tid],
+    values: &[i64],
+) -> Result<(), Memory>
+    ensures { OnOk result (string_bytes text.new ≡ string_bytes text.old ++ batch_text bid tids.now values.now) }
+{
+    for (number, tid) in tids.iter().enumerate() {
+        push_line(alloc, text, pact_place(bid, *tid), values.get(number).copied())?;
+    }
+    Ok(())
+}
+
+/// Adds the line of one transaction.
+fn push_line(
+    alloc: Global,
+    text: &mut String,
+    place: Place,
+    value: Option<i64>,
+) -> Result<(), Memory>
+    ensures { OnOk result (string_bytes text.new ≡ string_bytes text.old ++ kept_text place value) }
+{
+    let line = kept_line(alloc, place, value)?;
+    text.push_str(line.as_str())?;
+    Ok(())
+}
+
+/// The place of a transaction of a batch.
+fn pact_place(bid: Bid, tid: Tid) -> Place
+    ensures { result ≡ pact_place bid tid }
+{
+    Place {
+        batch: bid,
+        side: 0,
+        order: tid.0,
+    }
+}
+
+/// The place of a transaction outside of batches, behind the batch `m`.
+fn act_place(m: Bid, c: u64) -> Place
+    ensures { result ≡ act_place m c }
+{
+    Place {
+        batch: m,
+        side: 1,
+        order: c,
+    }
 }

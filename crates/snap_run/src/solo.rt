@@ -10,6 +10,7 @@ ghost use Rattle.snap_outside.specs.Causes.{EndsAtFault};
 ghost use Rattle.snap_recover.specs.declared.openings.Opening.{Opening};
 ghost use Rattle.snap_report.specs.declared.statuses.Status.TheVariants as status;
 ghost use Rattle.snap_run.specs.Answers.{IsUntroubled, IsPrintable, IsMeasured, MayBeMeasured, GetsNoCall};
+ghost use Rattle.snap_run.specs.Migrations.{IsMigratable};
 ghost use Rattle.snap_run.specs.Outcomes.{IsOutcome};
 ghost use Rattle.snap_run.specs.Recoveries.{IsRecoverable};
 ghost use Rattle.snap_run.specs.Uses.{Reading, Use, reading_of, use_of};
@@ -18,6 +19,7 @@ ghost use Rattle.snap_work.specs.declared.limits.TheConstants.{MOST_TRANSACTIONS
 ghost use Rattle.txn_records.specs.declared.records.Record.{Record};
 
 use crate::endings::{Outcome, done_or_no_memory};
+use crate::migrations::print_migrated;
 use crate::recoveries::print_recovered;
 use crate::works::{generated_work, print_generated, read_work};
 use command_words::{Command, one_command, read_words};
@@ -30,8 +32,8 @@ use work_text::one_work;
 
 /// Does what the words ask for. `run` reads a work text from `input` and runs it on the machine by the schedule of the seed: it
 /// goes on from what the text's logs hold, writes the records of the run there, prints its replies and its end to `out`, and
-/// at last a line of each event to `trace`. The other commands read no input: `recover` prints what the logs recover to, `gen`
-/// prints a generated text, and `bench` runs one as `run` runs its input, but prints the summary of the run alone.
+/// at last a line of each event to `trace`. The other commands read no input: `recover` prints what the logs recover to, `migrate`
+/// makes those of format 1 ones of format 2, `gen` prints a generated text, and `bench` runs one as `run` runs its input, but prints the summary of the run alone.
 pub fn run_solo<I: Source, D: LogDev, O: Sink, T: Sink>(
     alloc: Global,
     words: &[String],
@@ -51,6 +53,9 @@ pub fn run_solo<I: Source, D: LogDev, O: Sink, T: Sink>(
     // Where nothing stands in the way of recovering, what the logs recover to is printed, or there is no memory.
     ensures complete_recover { let u : Use = use_of (map string_bytes words.now) (reading_of I.left I.faults input.old input.new) (writing_of O.taken O.faults out result.out) (writing_of T.taken T.faults trace result.trace) result.kept.items (devices_of D.told D.faults logs.items) (devices_of D.told D.faults result.logs.items) in
         (kept : List (List Record)) → IsRecoverable u kept → (result.status ≡ status.Done) ⊎ (result.status ≡ status.Memory) }
+    // Where nothing stands in the way of recovering, the logs of format 1 are made ones of format 2, or there is no memory.
+    ensures complete_migrate { let u : Use = use_of (map string_bytes words.now) (reading_of I.left I.faults input.old input.new) (writing_of O.taken O.faults out result.out) (writing_of T.taken T.faults trace result.trace) result.kept.items (devices_of D.told D.faults logs.items) (devices_of D.told D.faults result.logs.items) in
+        (kept : List (List Record)) → IsMigratable u kept → (result.status ≡ status.Done) ⊎ (result.status ≡ status.Memory) }
     // Where the output takes it, a generated text is printed, or there is no memory.
     ensures complete_gen { let u : Use = use_of (map string_bytes words.now) (reading_of I.left I.faults input.old input.new) (writing_of O.taken O.faults out result.out) (writing_of T.taken T.faults trace result.trace) result.kept.items (devices_of D.told D.faults logs.items) (devices_of D.told D.faults result.logs.items) in
         IsPrintable u → (result.status ≡ status.Done) ⊎ (result.status ≡ status.Memory) }
@@ -109,6 +114,7 @@ fn answer<I: Source, D: LogDev, O: Sink, T: Sink>(
     match read_words(words) {
         Ok(Command::Run { seed, .. }) => run_input(alloc, input, seed, logs, out, trace),
         Ok(Command::Recover) => (Vec::new(alloc), print_recovered(alloc, logs, out)),
+        Ok(Command::Migrate) => (Vec::new(alloc), print_migrated(alloc, logs, out)),
         Ok(Command::Gen { count, seed }) => {
             (Vec::new(alloc), print_generated(alloc, count, seed, out))
         }

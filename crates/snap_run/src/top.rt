@@ -8,6 +8,7 @@ ghost use Rattle.snap_outside.specs.Causes.{EndsAtFault};
 ghost use Rattle.snap_recover.specs.declared.openings.Opening.{Opening};
 ghost use Rattle.snap_report.specs.declared.statuses.Status.TheVariants as status;
 ghost use Rattle.snap_run.specs.Answers.{IsUntroubled, IsPrintable, MayBeMeasured, GetsNoCall};
+ghost use Rattle.snap_run.specs.Migrations.{IsMigratable};
 ghost use Rattle.snap_run.specs.Outcomes.{IsOutcome};
 ghost use Rattle.snap_run.specs.Recoveries.{IsRecoverable};
 ghost use Rattle.snap_run.specs.Uses.{Use, reading_of, use_of};
@@ -27,8 +28,8 @@ use std::thread::Threads;
 /// Does what the words ask for. `run` reads a work text from `input` and runs it on the machine: with no workers by the schedule
 /// of the seed, and else with so many, each of which takes the events that it comes to and passes the gate before a slice. It
 /// goes on from what the text's logs hold, writes the records of the run there, prints its replies and its end to `out`, and
-/// at last a line of each event to `trace`. The other commands read no input: `recover` prints what the logs recover to, `gen`
-/// prints a generated text, and `bench` runs one as `run` runs its input, but prints the summary of the run alone. Without
+/// at last a line of each event to `trace`. The other commands read no input: `recover` prints what the logs recover to, `migrate`
+/// makes those of format 1 ones of format 2, `gen` prints a generated text, and `bench` runs one as `run` runs its input, but prints the summary of the run alone. Without
 /// workers it returns; whether it returns with some is not promised.
 pub fn run<
     R: Threads + Wait + Sync,
@@ -56,6 +57,9 @@ pub fn run<
     // Where nothing stands in the way of recovering, what the logs recover to is printed, or there is no memory.
     ensures complete_recover { let u : Use = use_of (map string_bytes words.now) (reading_of I.left I.faults input.old input.new) (writing_of O.taken O.faults out result.out) (writing_of T.taken T.faults trace result.trace) result.kept.items (devices_of D.told D.faults logs.items) (devices_of D.told D.faults result.logs.items) in
         (kept : List (List Record)) → IsRecoverable u kept → (result.status ≡ status.Done) ⊎ (result.status ≡ status.Memory) }
+    // Where nothing stands in the way of recovering, the logs of format 1 are made ones of format 2, or there is no memory.
+    ensures complete_migrate { let u : Use = use_of (map string_bytes words.now) (reading_of I.left I.faults input.old input.new) (writing_of O.taken O.faults out result.out) (writing_of T.taken T.faults trace result.trace) result.kept.items (devices_of D.told D.faults logs.items) (devices_of D.told D.faults result.logs.items) in
+        (kept : List (List Record)) → IsMigratable u kept → (result.status ≡ status.Done) ⊎ (result.status ≡ status.Memory) }
     // Where the output takes it, a generated text is printed, or there is no memory.
     ensures complete_gen { let u : Use = use_of (map string_bytes words.now) (reading_of I.left I.faults input.old input.new) (writing_of O.taken O.faults out result.out) (writing_of T.taken T.faults trace result.trace) result.kept.items (devices_of D.told D.faults logs.items) (devices_of D.told D.faults result.logs.items) in
         IsPrintable u → (result.status ≡ status.Done) ⊎ (result.status ≡ status.Memory) }
