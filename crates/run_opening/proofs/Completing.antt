@@ -23,7 +23,7 @@ use Rattle.snap_recover.specs.declared.causes.What.{What}
 use Rattle.snap_recover.specs.declared.causes.What.TheVariants.{Actors, Field}
 use Rattle.log_opening.specs.declared.refusals.LogsNo.{LogsNo}
 use Rattle.log_opening.specs.declared.refusals.LogsNo.TheVariants as ending
-use Rattle.log_opening.specs.Devices.{Device, device_at}
+use Rattle.log_opening.specs.Devices.{Device, device_at, HoldNoOld, HoldsNoOld, HoldsOld, IsOld}
 use Rattle.log_opening.specs.Found.{IsRecoveryCause}
 use Rattle.log_opening.specs.Kept.{Holds}
 use Rattle.log_opening.specs.Counted.{AreNotRead}
@@ -137,6 +137,17 @@ decodes : Laws → (d : Device) (new : Option History) (rs : List Record) (end o
 decodes laws d new rs end offset items tells opened bad =
     laws.bad tells.0 new end offset items rs (subst (λ (m : Option History). Opened m new end items) tells.1 opened) tells.2 bad
 
+recent_at : (count n : ℕ) (ds : List Device) → n < count → n < length ds → HoldNoOld count ds → HoldsNoOld (device_at ds n)
+recent_at zero n ds lt in_ds all = absurd (omega (arith, lt))
+recent_at (suc count) n [] lt in_ds all = absurd (omega (arith, in_ds))
+recent_at (suc count) zero (d ∷ ds) lt in_ds all = all.0
+recent_at (suc count) (suc n) (d ∷ ds) lt in_ds all = recent_at count n ds (omega (arith, lt)) (omega (arith, in_ds)) all.1
+
+never_old : (d : Device) (rs : List Record) → Tells d rs → HoldsNoOld d → HoldsOld d → ⊥
+never_old d rs tells none old =
+    let no : ¬ IsOld (content tells.0) = subst (λ (m : Option History). IfSome m (λ h. ¬ IsOld (content h))) tells.1 none in
+    no (subst (λ (m : Option History). IfSome m (λ h. IsOld (content h))) tells.1 old)
+
 module _ (laws : Laws) (count : ℕ) (states : List State) (before after : List Device) (records : List (List Record)) (o : Opening) (few : count ≤ length before) (may : MayOpen count states before after records o) where
   told : (n : ℕ) → n < count → Tells (device_at before n) (records_at records n)
   told n lt = tells_at count n before records lt (omega (arith, lt, few)) may.told
@@ -144,8 +155,10 @@ module _ (laws : Laws) (count : ℕ) (states : List State) (before after : List 
   read_well : (answer : LogsNo) → AreNotRead count before after answer → answer ≡ ending.Memory
   read_well (ending.Refused log offset cause.NotALog) why = absurd (opens_well laws (device_at before log) (device_at after log).told (records_at records log) offset (told log why.asked) why.refused)
   read_well (ending.Refused log offset cause.Damage) why = absurd (opens_whole laws (device_at before log) (device_at after log).told (records_at records log) offset (told log why.asked) why.refused)
+  read_well (ending.Refused log offset cause.OldFormat) why =
+      absurd (never_old (device_at before log) (records_at records log) (told log why.1.asked) (recent_at count log before why.1.asked (omega (arith, why.1.asked, few)) may.recent) why.1.old)
   read_well (ending.Refused log offset cause.BadRecord) why =
-      absurd (decodes laws (device_at before log) (device_at after log).told (records_at records log) why.bad.0 offset why.bad.1 (told log why.asked) why.bad.2 why.bad.3)
+      absurd (decodes laws (device_at before log) why.bad.2.0 (records_at records log) why.bad.0 offset why.bad.1 (told log why.asked) why.bad.2.1 why.bad.3)
   read_well (ending.Refused log offset cause.NoGenesis) why = absurd why
   read_well (ending.Refused log offset cause.TwoGenesis) why = absurd why
   read_well (ending.Refused log offset (cause.LogCount k f)) why = absurd why
@@ -154,7 +167,8 @@ module _ (laws : Laws) (count : ℕ) (states : List State) (before after : List 
   read_well (ending.Refused log offset (cause.Values k u v)) why = absurd why
   read_well (ending.Refused log offset (cause.Spent n)) why = absurd why
   read_well (ending.Refused log offset (cause.Differs w k t)) why = absurd why
-  read_well (ending.Device log) why = absurd (may.quiet log why.0.asked why.1)
+  read_well (ending.Device log) (inl not, rose) = absurd (may.quiet log not.asked rose)
+  read_well (ending.Device log) (inr fails, rose) = absurd (may.quiet log fails.asked rose)
   read_well ending.Memory why = refl
 
   start_well : (answer : LogsNo) → AreNoStart count states before after answer → answer ≡ ending.Memory

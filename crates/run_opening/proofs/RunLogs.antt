@@ -1,23 +1,23 @@
 -- The logs of a run that are opened and written to, log by log.
 use Rattle.std.proofs.Common.{◌≡◌, ℕ, ◌<◌, inl, inr, List, [], ◌∷◌, ◌++◌, zero, suc, length, map, append_assoc, append-nil, refl, sym, ◌∙◌, ap, subst, arith, Option, Some, None}
 use Rattle.std.specs.Prelude.{IfSome, ◌⊎◌}
-use Rattle.std.specs.List.{AllZip}
+use Rattle.std.specs.List.{AllByRecursion, AllZip}
 use Rattle.snap_outside.specs.declared.devices.DevOp.{DevOp}
 use Rattle.snap_outside.specs.Disk.{History, Disk, disk, content, settled, EachMoment, AddsAll, with_ops}
-use Rattle.snap_outside.specs.Moments.{moments_join, moments_weaker, disk_join}
+use Rattle.snap_outside.specs.Moments.{adds_join, moments_join, moments_weaker, disk_join}
 use Rattle.gate_log.specs.declared.logs.LogItem.{LogItem}
-use Rattle.gate_log.specs.Appends.{append_ops, end_behind}
+use Rattle.gate_log.specs.Appends.{append_ops, end_behind, upgrading_ops}
 use Rattle.gate_log.specs.Device.{DeviceLog}
-use Rattle.gate_log.specs.LogLaws.{OneReading, OpeningAdds, OpeningGives}
-use Rattle.gate_log.specs.Opened.{bytes_of, opening_ops, Opened}
+use Rattle.gate_log.specs.LogLaws.{OneReading, OpeningAdds, BeginningGives}
+use Rattle.gate_log.specs.Opened.{bytes_of, opening_ops, beginning_ops, Opened}
 use Rattle.gate_log.specs.State.{LogState, IsUntouched}
 use Rattle.txn_records.specs.declared.records.Record.{Record}
-use Rattle.record_log.specs.Growth.{all_records, MayAppendGroup, GrewBy}
+use Rattle.record_log.specs.Growth.{all_records, MayAppendGroup, GrewBy, upgrading_of}
 use Rattle.record_log.specs.GrowthLaws.{OpeningGrows, GroupGrows, FaultGrows}
 use Rattle.record_log.specs.Records.{spelled, HoldsRecords, RecordLog, AreItemsOf, KeepsRecords, AppendsRecords, CrashesRecords}
 use Rattle.record_log.specs.RecordLogLaws.{OneListOfRecords, OpenedHeld, OpenedHolds}
 use Rattle.log_opening.specs.Devices.{Device, device_at, as_device}
-use Rattle.log_opening.specs.Found.{IsFoundOn, IsReadyLog, AreFound}
+use Rattle.log_opening.specs.Found.{IsBegunOn, IsReadyLog, AreBegunOn}
 use Rattle.run_opening.specs.Opens.{IsRunLog, log_at, records_at, as_groups, KeepsOrAdds}
 use Rattle.run_opening.specs.Writes.{IsWritten}
 
@@ -25,7 +25,7 @@ use Rattle.run_opening.specs.Writes.{IsWritten}
 pub record LogLaws : Type 0 where
   pub one_reading : OneReading
   pub adds : OpeningAdds
-  pub gives : OpeningGives
+  pub gives : BeginningGives
   pub before : OpenedHeld
   pub after : OpenedHolds
   pub one_list : OneListOfRecords
@@ -40,42 +40,48 @@ if_some None P Q then given = tt
 if_some (Some g) P Q then given = then g given
 
 -- the closed gate of the log that was found is where the open log has it
-opened_at : LogLaws → (told new : Option History) (e end : ℕ) (items : List LogItem) → Opened told new e items → IfSome new (λ g. DeviceLog g end (bytes_of items)) → Opened told new end items
-opened_at laws None new e end items opened log = opened
-opened_at laws (Some h) new e end items opened log =
-    let adds : new ≡ Some (with_ops h (opening_ops (content h))) = laws.adds h new e items opened in
-    let there : DeviceLog (with_ops h (opening_ops (content h))) end (bytes_of items) = subst (λ (m : Option History). IfSome m (λ g. DeviceLog g end (bytes_of items))) adds log in
-    let here = laws.gives h new e items opened in
-    subst (λ (n : ℕ). Opened (Some h) new n items) (laws.one_reading (content (with_ops h (opening_ops (content h)))) e end (bytes_of items) (bytes_of items) here.log there.log).0 opened
+opened_at : LogLaws → (told mid new : Option History) (e end : ℕ) (items : List LogItem) → Opened told mid e items → AddsAll mid new (upgrading_of told)
+    → IfSome new (λ g. DeviceLog g end (bytes_of items)) → Opened told mid end items
+opened_at laws None mid new e end items opened upgraded log = opened
+opened_at laws (Some h) mid new e end items opened upgraded log =
+    let ops = beginning_ops (content h) in
+    let adds : new ≡ Some (with_ops h ops) = adds_join (Some h) mid new (opening_ops (content h)) (upgrading_ops (content h)) (laws.adds h mid e items opened) upgraded in
+    let there : DeviceLog (with_ops h ops) end (bytes_of items) = subst (λ (m : Option History). IfSome m (λ g. DeviceLog g end (bytes_of items))) adds log in
+    let here = laws.gives h mid e items opened in
+    subst (λ (n : ℕ). Opened (Some h) mid n items) (laws.one_reading (content (with_ops h ops)) e end (bytes_of items) (bytes_of items) here.log there.log).0 opened
 
 held_of : LogLaws → (told new : Option History) (e : ℕ) (items : List LogItem) (rs : List Record) → Opened told new e items → AreItemsOf items rs → IfSome told (λ h. HoldsRecords (content h) rs)
 held_of laws None new e items rs opened are = tt
 held_of laws (Some h) new e items rs opened are = laws.before h new e items rs opened are
 
-one_log : LogLaws → (b : Device) (l : LogState) (items : List LogItem) (rs : List Record) → IsFoundOn b (as_device l) items → IsReadyLog l items → AreItemsOf items rs → IsRunLog b l l.end rs []
-one_log laws b l items rs on ready are =
-    let opened : Opened b.told l.told l.end items = opened_at laws b.told l.told on.opened.0 l.end items on.opened.1 ready.holds in
+one_log : LogLaws → (b : Device) (l : LogState) (items : List LogItem) (rs : List Record) → IsBegunOn b (as_device l) items → IsReadyLog l items → l.format ≡ 2 → AreItemsOf items rs
+    → IsRunLog b l l.end rs []
+one_log laws b l items rs on ready second are =
+    let mid = on.begun.1.0 in
+    let opened : Opened b.told mid l.end items = opened_at laws b.told mid l.told on.begun.0 l.end items on.begun.1.1 on.begun.1.2 ready.holds in
     record {
-      opened = (l.told, items, opened);
+      opened = (mid, items, opened);
       low = ready.low;
-      held = held_of laws b.told l.told l.end items rs opened are;
-      grew = laws.grows b.told l.told l.end items opened;
+      held = held_of laws b.told mid l.end items rs opened are;
+      grew = laws.grows b.told mid l.told l.end items opened on.begun.1.2;
       gate = refl;
       holds = if_some l.told (λ g. DeviceLog g l.end (bytes_of items)) (λ g. RecordLog g l.end (rs ++ all_records []))
           (λ g log. subst (λ (x : List Record). RecordLog g l.end x) (sym (append-nil rs)) (laws.after g l.end items rs log are)) ready.holds;
+      second = second;
       ready = ready.ready;
       later = on.safe.later;
     }
 
-pub run_logs : LogLaws → (before others : List Device) (logs : List LogState) (found : List (List LogItem)) (records : List (List Record)) → AreFound before (map as_device logs ++ others) found
-    → AllZip IsReadyLog logs found → AllZip AreItemsOf found records → (n : ℕ) → n < length records
+pub run_logs : LogLaws → (before others : List Device) (logs : List LogState) (found : List (List LogItem)) (records : List (List Record)) → AreBegunOn before (map as_device logs ++ others) found
+    → AllZip IsReadyLog logs found → AllByRecursion (λ (l : LogState). l.format ≡ 2) logs → AllZip AreItemsOf found records → (n : ℕ) → n < length records
     → IsRunLog (device_at before n) (log_at logs n) (log_at logs n).end (records_at records n) []
-run_logs laws before others logs found [] are ready items n lt = absurd (omega (arith, lt))
-run_logs laws before others logs [] (rs ∷ records) are ready items n lt = absurd items
-run_logs laws before others [] (f ∷ found) (rs ∷ records) are ready items n lt = absurd ready
-run_logs laws [] others (l ∷ logs) (f ∷ found) (rs ∷ records) are ready items n lt = absurd are
-run_logs laws (b ∷ before) others (l ∷ logs) (f ∷ found) (rs ∷ records) are ready items zero lt = one_log laws b l f rs are.0 ready.0 items.0
-run_logs laws (b ∷ before) others (l ∷ logs) (f ∷ found) (rs ∷ records) are ready items (suc n) lt = run_logs laws before others logs found records are.1 ready.1 items.1 n (omega (arith, lt))
+run_logs laws before others logs found [] are ready second items n lt = absurd (omega (arith, lt))
+run_logs laws before others logs [] (rs ∷ records) are ready second items n lt = absurd items
+run_logs laws before others [] (f ∷ found) (rs ∷ records) are ready second items n lt = absurd ready
+run_logs laws [] others (l ∷ logs) (f ∷ found) (rs ∷ records) are ready second items n lt = absurd are
+run_logs laws (b ∷ before) others (l ∷ logs) (f ∷ found) (rs ∷ records) are ready second items zero lt = one_log laws b l f rs are.0 ready.0 second.0 items.0
+run_logs laws (b ∷ before) others (l ∷ logs) (f ∷ found) (rs ∷ records) are ready second items (suc n) lt =
+    run_logs laws before others logs found records are.1 ready.1 second.1 items.1 n (omega (arith, lt))
 
 -- ---- written to
 
@@ -97,6 +103,7 @@ written_log laws b l k end rs [] is w =
       gate = same.end ∙ is.gate;
       holds = subst (λ (m : Option History). IfSome m (λ g. RecordLog g k.end (rs ++ all_records []))) (sym same.told)
           (subst (λ (n : ℕ). IfSome l.told (λ g. RecordLog g n (rs ++ all_records []))) (sym same.end) is.holds);
+      second = w.format ∙ is.second;
       ready = w.ready;
       later = omega (arith, is.later, w.later);
     }
@@ -111,6 +118,7 @@ written_log laws b l k end rs (r ∷ added) is w =
       grew = laws.group b.told l.told k.told end [] group is.grew may adds;
       gate = w.gate ∙ ap (λ (n : ℕ). end_behind n (spelled group)) is.gate;
       holds = holds_more l.told k.told l.end k.end rs group (append_ops l.end (spelled group)) w.adds is.holds w.appended;
+      second = w.format ∙ is.second;
       ready = w.ready;
       later = omega (arith, is.later, w.later);
     }

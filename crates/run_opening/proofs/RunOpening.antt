@@ -20,8 +20,8 @@ use Rattle.snap_recover.specs.Logs.{all_of, is_genesis, geneses}
 use Rattle.snap_recover.specs.Opening.{IsRecovered}
 use Rattle.log_opening.specs.declared.refusals.LogsNo.{LogsNo}
 use Rattle.log_opening.specs.declared.refusals.LogsNo.TheVariants as ending
-use Rattle.log_opening.specs.Devices.{Device, device_at, devices_of, as_device, IsOpened, AreOpened}
-use Rattle.log_opening.specs.Found.{IsReadyLog, IsTouched}
+use Rattle.log_opening.specs.Devices.{Device, device_at, devices_of, as_device, AreBegun, HoldNoOld, IsBegun}
+use Rattle.log_opening.specs.Found.{IsReadyLog, IsTouched, IsHandled}
 use Rattle.log_opening.specs.Kept.{Holds}
 use Rattle.log_opening.specs.Counted.{AreOpenWith, AreNotRead}
 use Rattle.run_opening.specs.declared.limits.TheConstants.{LARGEST_START}
@@ -101,17 +101,17 @@ same_device l k same = λ i. record { told = same.told i; faults = same.faults i
 rose_before : (before between after : ℕ) → before ≤ between → Rose between after → Rose before after
 rose_before before between after le rose = omega (arith, le, rose)
 
-touched_keeps : (bs ms : List Device) → AllZip IsTouched bs ms → AllZip (λ (b a : Device). KeepsRecords b.told a.told) bs ms
-touched_keeps [] [] all = tt
-touched_keeps [] (m ∷ ms) all = absurd all
-touched_keeps (b ∷ bs) [] all = absurd all
-touched_keeps (b ∷ bs) (m ∷ ms) all = (all.0.safe.records, touched_keeps bs ms all.1)
+handled_keeps : (bs ms : List Device) → AllZip IsHandled bs ms → AllZip (λ (b a : Device). KeepsRecords b.told a.told) bs ms
+handled_keeps [] [] all = tt
+handled_keeps [] (m ∷ ms) all = absurd all
+handled_keeps (b ∷ bs) [] all = absurd all
+handled_keeps (b ∷ bs) (m ∷ ms) all = (all.0.safe.records, handled_keeps bs ms all.1)
 
-touched_later : (bs ms : List Device) → AllZip IsTouched bs ms → AllZip (λ (b a : Device). b.faults ≤ a.faults) bs ms
-touched_later [] [] all = tt
-touched_later [] (m ∷ ms) all = absurd all
-touched_later (b ∷ bs) [] all = absurd all
-touched_later (b ∷ bs) (m ∷ ms) all = (all.0.safe.later, touched_later bs ms all.1)
+handled_later : (bs ms : List Device) → AllZip IsHandled bs ms → AllZip (λ (b a : Device). b.faults ≤ a.faults) bs ms
+handled_later [] [] all = tt
+handled_later [] (m ∷ ms) all = absurd all
+handled_later (b ∷ bs) [] all = absurd all
+handled_later (b ∷ bs) (m ∷ ms) all = (all.0.safe.later, handled_later bs ms all.1)
 
 -- where no log has a record each device holds none
 held_empty : (bs : List Device) (logs : List (List Record)) → AllZip Holds bs logs → AreEmpty logs → AllByRecursion (λ (d : Device). Holds d []) bs
@@ -121,12 +121,12 @@ held_empty (b ∷ bs) (rs ∷ logs) held empty = (subst (λ (l : List Record). H
 
 -- log 0 keeps its records or has Genesis besides, and the others keep theirs
 safe_with : (count : ℕ) (states : List State) (b a : Device) (bs ms : List Device) (logs : List (List Record)) (o : Opening) (added : List Record) → length logs ≡ count
-    → AllZip Holds (take count (b ∷ bs)) logs → IsStart logs states o added → KeepsOrAdds b.told a.told added → AllZip IsTouched bs ms → AreSafe count states (b ∷ bs) (a ∷ ms)
+    → AllZip Holds (take count (b ∷ bs)) logs → IsStart logs states o added → KeepsOrAdds b.told a.told added → AllZip IsHandled bs ms → AreSafe count states (b ∷ bs) (a ∷ ms)
 safe_with count states b a bs ms logs o added size held (inl new) keeps others =
     let is : added ≡ first_record count states ∷ [] = subst (λ (n : ℕ). added ≡ first_record n states ∷ []) size new.2 in
-    inr (held_empty (take count (b ∷ bs)) logs held new.0, subst (λ (l : List Record). KeepsOrAdds b.told a.told l) is keeps, touched_keeps bs ms others)
+    inr (held_empty (take count (b ∷ bs)) logs held new.0, subst (λ (l : List Record). KeepsOrAdds b.told a.told l) is keeps, handled_keeps bs ms others)
 safe_with count states b a bs ms logs o added size held (inr on) keeps others =
-    inl (nothing_added b.told a.told (subst (λ (l : List Record). KeepsOrAdds b.told a.told l) on.1 keeps), touched_keeps bs ms others)
+    inl (nothing_added b.told a.told (subst (λ (l : List Record). KeepsOrAdds b.told a.told l) on.1 keeps), handled_keeps bs ms others)
 
 -- ---- the run begins
 
@@ -145,6 +145,10 @@ first_ready logs [] some ready = absurd (omega (arith, some))
 first_ready [] (f ∷ found) some ready = absurd ready
 first_ready (l ∷ logs) (f ∷ found) some ready = (ready.0.low, ready.0.ready)
 
+pub first_second : (logs : List LogState) → AllByRecursion (λ (l : LogState). l.format ≡ 2) logs → (log_at logs 0).format ≡ 2
+first_second [] all = refl
+first_second (l ∷ logs) all = all.0
+
 pub added_records : (count : ℕ) (states : List State) (records : List (List Record)) (o : Opening) (added : List Record) → length records ≡ count → 1 ≤ count → count ≤ 4
     → 1 ≤ length states → length states ≤ 256 → AllByRecursion IsState states → IsStart records states o added → AllByRecursion IsRecord added × (length added ≤ 1)
 added_records count states records o added many some_logs few_logs some few are start =
@@ -161,14 +165,14 @@ begun_logs : LogLaws → (b : Device) (bs : List Device) (l k : LogState) (ls : 
     → (n : ℕ) → n < length (rs ∷ rss) → (end : ℕ) × IsRunLog (device_at (b ∷ bs) n) (log_at (k ∷ ls) n) end (records_at (rs ∷ rss) n) (first_groups n added)
 begun_logs laws b bs l k ls others f fs rs rss added lie first w zero lt = (l.end, written_log laws b l k l.end rs added first w)
 begun_logs laws b bs l k ls others f fs rs rss added lie first w (suc n) lt =
-    ((log_at ls n).end, run_logs laws (b ∷ bs) others (l ∷ ls) (f ∷ fs) (rs ∷ rss) lie.are_found lie.ready lie.items (suc n) lt)
+    ((log_at ls n).end, run_logs laws (b ∷ bs) others (l ∷ ls) (f ∷ fs) (rs ∷ rss) lie.are_begun lie.ready lie.second lie.items (suc n) lt)
 
 begun_ends : LogLaws → (b : Device) (bs : List Device) (l k : LogState) (ls : List LogState) (others : List Device) (f : List LogItem) (fs : List (List LogItem))
     (rs : List Record) (rss : List (List Record)) (added : List Record) → AreOpenWith (b ∷ bs) (all_devices (l ∷ ls) others) (l ∷ ls) (f ∷ fs) (rs ∷ rss) → IsRunLog b l l.end rs [] → IsWritten l k added
     → (n : ℕ) → n < length (rs ∷ rss) → (log_at (k ∷ ls) n).end ≤ FARTHEST_END + LARGEST_START
 begun_ends laws b bs l k ls others f fs rs rss added lie first w zero lt = omega (arith, w.little, first.low)
 begun_ends laws b bs l k ls others f fs rs rss added lie first w (suc n) lt =
-    omega (arith, (run_logs laws (b ∷ bs) others (l ∷ ls) (f ∷ fs) (rs ∷ rss) lie.are_found lie.ready lie.items (suc n) lt).low)
+    omega (arith, (run_logs laws (b ∷ bs) others (l ∷ ls) (f ∷ fs) (rs ∷ rss) lie.are_begun lie.ready lie.second lie.items (suc n) lt).low)
 
 begun_first : Laws → (count : ℕ) (states : List State) (b : Device) (bs : List Device) (l k : LogState) (ls : List LogState) (others : List Device) (f : List LogItem) (fs : List (List LogItem))
     (rs : List Record) (rss : List (List Record)) (o : Opening) (added : List Record) → suc (length fs) ≡ count
@@ -180,7 +184,7 @@ begun_first laws count states b bs l k ls others f fs rs rss o added size lie ar
     let as_ready : length (f ∷ fs) ≡ length (l ∷ ls) = AllZip-long IsReadyLog (l ∷ ls) (f ∷ fs) lie.ready in
     let many : length logs ≡ count = as_found ∙ size in
     let held : AllZip Holds (take (length logs) (b ∷ bs)) logs = subst (λ (n : ℕ). AllZip Holds (take n (b ∷ bs)) logs) (sym as_found) lie.held in
-    let first : IsRunLog b l l.end rs [] = run_logs laws.logs (b ∷ bs) others (l ∷ ls) (f ∷ fs) logs lie.are_found lie.ready lie.items 0 (omega arith) in
+    let first : IsRunLog b l l.end rs [] = run_logs laws.logs (b ∷ bs) others (l ∷ ls) (f ∷ fs) logs lie.are_begun lie.ready lie.second lie.items 0 (omega arith) in
     let log : (n : ℕ) → n < length logs → (end : ℕ) × IsRunLog (device_at (b ∷ bs) n) (log_at (k ∷ ls) n) end (records_at logs n) (first_groups n added) =
     begun_logs laws.logs b bs l k ls others f fs rs rss added lie first w in
     let states_are = starts_with_states laws.states logs states o added lie.each are start in
@@ -193,6 +197,7 @@ begun_first laws count states b bs l k ls others f fs rs rss o added size lie ar
           start = start;
           each = lie.each;
           held = held;
+          recent = subst (λ (n : ℕ). HoldNoOld n (b ∷ bs)) (sym as_found) lie.recent;
           as_many = sym as_ready ∙ sym as_found;
           log = log;
           recovers = recovers_now laws.begun logs states o added (omega arith) start;
@@ -204,8 +209,8 @@ begun_first laws count states b bs l k ls others f fs rs rss o added size lie ar
       ends = λ n lt. begun_ends laws.logs b bs l k ls others f fs rs rss added lie first w n (omega (arith, lt, many));
       safe = safe_with count states b (as_device k) bs (map as_device ls ++ others) logs o added many
           (subst (λ (n : ℕ). AllZip Holds (take n (b ∷ bs)) logs) many held) start
-          (written_safely laws.logs b l l.end rs added k.told first lie.touched.0.safe.records w.crashes) lie.touched.1;
-      later = (omega (arith, first.later, w.later), touched_later bs (map as_device ls ++ others) lie.touched.1);
+          (written_safely laws.logs b l l.end rs added k.told first lie.handled.0.safe.records w.crashes) lie.handled.1;
+      later = (omega (arith, first.later, w.later), handled_later bs (map as_device ls ++ others) lie.handled.1);
     }
 
 pub has_begun : Laws → (count : ℕ) (states : List State) (before : List Device) (logs written : List LogState) (others : List Device) (found : List (List LogItem)) (records : List (List Record)) (o : Opening)
@@ -214,7 +219,7 @@ pub has_begun : Laws → (count : ℕ) (states : List State) (before : List Devi
 has_begun laws count states before logs written others [] records o added size some lie are start long rest w = absurd (omega (arith, size, some))
 has_begun laws count states before logs written others (f ∷ fs) [] o added size some lie are start long rest w = absurd lie.items
 has_begun laws count states before [] written others (f ∷ fs) (rs ∷ rss) o added size some lie are start long rest w = absurd lie.ready
-has_begun laws count states [] (l ∷ ls) written others (f ∷ fs) (rs ∷ rss) o added size some lie are start long rest w = absurd lie.are_found
+has_begun laws count states [] (l ∷ ls) written others (f ∷ fs) (rs ∷ rss) o added size some lie are start long rest w = absurd lie.are_begun
 has_begun laws count states (b ∷ bs) (l ∷ ls) [] others (f ∷ fs) (rs ∷ rss) o added size some lie are start long rest w = absurd (omega (arith, long))
 has_begun laws count states (b ∷ bs) (l ∷ ls) (k ∷ ks) others (f ∷ fs) (rs ∷ rss) o added size some lie are start long rest w =
     let same : ks ≡ ls = rest in
@@ -223,9 +228,9 @@ has_begun laws count states (b ∷ bs) (l ∷ ls) (k ∷ ks) others (f ∷ fs) (
 
 -- ---- no run begins
 
-pub not_read : (count : ℕ) (states : List State) (before after : List Device) (answer : LogsNo) → AreNotRead count before after answer → AllZip IsTouched before after
+pub not_read : (count : ℕ) (states : List State) (before after : List Device) (answer : LogsNo) → AreNotRead count before after answer → AllZip IsHandled before after
     → HasNotBegun count states before after answer
-not_read count states before after answer reason touched = record { why = inl (inl reason, touched); safe = inl (touched_keeps before after touched); later = touched_later before after touched }
+not_read count states before after answer reason touched = record { why = inl (inl reason, touched); safe = inl (handled_keeps before after touched); later = handled_later before after touched }
 
 pub not_started : (count : ℕ) (states : List State) (before after : List Device) (logs : List LogState) (found : List (List LogItem)) (records : List (List Record)) (answer : LogsNo) → length found ≡ count
     → AreOpenWith before after logs found records → IsNoStart records states answer → HasNotBegun count states before after answer
@@ -235,12 +240,13 @@ not_started count states before after logs found records answer size lie reason 
       why = inl (
         inr (record {
           records = (records, many, subst (λ (n : ℕ). AllZip Holds (take n before) records) size lie.held, reason);
-          opened = subst (λ (n : ℕ). AreOpened n before after) size lie.opened;
+          recent = subst (λ (n : ℕ). HoldNoOld n before) size lie.recent;
+          begun = subst (λ (n : ℕ). AreBegun n before after) size lie.begun;
         }),
-        lie.touched,
+        lie.handled,
       );
-      safe = inl (touched_keeps before after lie.touched);
-      later = touched_later before after lie.touched;
+      safe = inl (handled_keeps before after lie.handled);
+      later = handled_later before after lie.handled;
     }
 
 fails_first : Laws → (count : ℕ) (states : List State) (b : Device) (bs : List Device) (l k : LogState) (ls : List LogState) (others : List Device) (f : List LogItem) (fs : List (List LogItem))
@@ -260,15 +266,15 @@ fails_first laws count states b bs l k ls others f fs rs rss o added size many l
         first.opened.2,
         subst (λ (g : List Record). GrewBy b.told k.told l.end [] (Some g)) is (laws.logs.fault b.told l.told k.told l.end [] added first.grew may fault),
       );
-      opened = subst (λ (n : ℕ). AllZip IsOpened (drop 1 (take n (b ∷ bs))) (drop 1 (take n (all_devices (k ∷ ls) others)))) size lie.opened.opened.1;
-      others = subst (λ (n : ℕ). drop n (all_devices (k ∷ ls) others) ≡ drop n (b ∷ bs)) size lie.opened.others;
+      begun = subst (λ (n : ℕ). AllZip IsBegun (drop 1 (take n (b ∷ bs))) (drop 1 (take n (all_devices (k ∷ ls) others)))) size lie.begun.begun.1;
+      others = subst (λ (n : ℕ). drop n (all_devices (k ∷ ls) others) ≡ drop n (b ∷ bs)) size lie.begun.others;
     }
 
-not_written : (count : ℕ) (states : List State) (b : Device) (bs : List Device) (l k : LogState) (ms : List Device) (answer : LogsNo) → IsTouched b (as_device l) → AllZip IsTouched bs ms
-    → AreOpened count (b ∷ bs) (as_device l ∷ ms) → answer ≡ ending.Memory → IsUntouched l k → IsNoRun count states (b ∷ bs) (as_device k ∷ ms) answer
-not_written count states b bs l k ms answer first others opened is same =
+not_written : (count : ℕ) (states : List State) (b : Device) (bs : List Device) (l k : LogState) (ms : List Device) (answer : LogsNo) → IsHandled b (as_device l) → AllZip IsHandled bs ms
+    → HoldNoOld count (b ∷ bs) → AreBegun count (b ∷ bs) (as_device l ∷ ms) → answer ≡ ending.Memory → IsUntouched l k → IsNoRun count states (b ∷ bs) (as_device k ∷ ms) answer
+not_written count states b bs l k ms answer first others recent begun is same =
     subst (λ (d : Device). IsNoRun count states (b ∷ bs) (d ∷ ms) answer) (sym (same_device l k same))
-    (inl (inl (subst (λ (a : LogsNo). AreNotRead count (b ∷ bs) (as_device l ∷ ms) a) (sym is) (inl (count, (λ log lt. lt), opened))), (first, others)))
+    (inl (inl (subst (λ (a : LogsNo). AreNotRead count (b ∷ bs) (as_device l ∷ ms) a) (sym is) (inr (recent, begun))), (first, others)))
 
 not_first : Laws → (count : ℕ) (states : List State) (b : Device) (bs : List Device) (l k : LogState) (ls : List LogState) (others : List Device) (f : List LogItem) (fs : List (List LogItem))
     (rs : List Record) (rss : List (List Record)) (o : Opening) (added : List Record) (answer : LogsNo) → suc (length fs) ≡ count
@@ -277,16 +283,16 @@ not_first : Laws → (count : ℕ) (states : List State) (b : Device) (bs : List
 not_first laws count states b bs l k ls others f fs rs rss o added answer size lie start w =
     let logs : List (List Record) = rs ∷ rss in
     let many : length logs ≡ count = AllZip-long AreItemsOf (f ∷ fs) logs lie.items ∙ size in
-    let first : IsRunLog b l l.end rs [] = run_logs laws.logs (b ∷ bs) others (l ∷ ls) (f ∷ fs) logs lie.are_found lie.ready lie.items 0 (omega arith) in
+    let first : IsRunLog b l l.end rs [] = run_logs laws.logs (b ∷ bs) others (l ∷ ls) (f ∷ fs) logs lie.are_begun lie.ready lie.second lie.items 0 (omega arith) in
     record {
       why = elim (w.why) [
-        | inl memory ↦ not_written count states b bs l k (all_devices ls others) answer lie.touched.0 lie.touched.1
-            (subst (λ (n : ℕ). AreOpened n (b ∷ bs) (all_devices (l ∷ ls) others)) size lie.opened) memory.0 memory.1
+        | inl memory ↦ not_written count states b bs l k (all_devices ls others) answer lie.handled.0 lie.handled.1
+            (subst (λ (n : ℕ). HoldNoOld n (b ∷ bs)) size lie.recent) (subst (λ (n : ℕ). AreBegun n (b ∷ bs) (all_devices (l ∷ ls) others)) size lie.begun) memory.0 memory.1
         | inr device ↦ inr (device.0, fails_first laws count states b bs l k ls others f fs rs rss o added size many lie first start device.1 w.may device.2 device.3)
       ];
       safe = safe_with count states b (as_device k) bs (all_devices ls others) logs o added many (subst (λ (n : ℕ). AllZip Holds (take n (b ∷ bs)) logs) size lie.held) start
-          (written_safely laws.logs b l l.end rs added k.told first lie.touched.0.safe.records w.crashes) lie.touched.1;
-      later = (omega (arith, first.later, w.later), touched_later bs (all_devices ls others) lie.touched.1);
+          (written_safely laws.logs b l l.end rs added k.told first lie.handled.0.safe.records w.crashes) lie.handled.1;
+      later = (omega (arith, first.later, w.later), handled_later bs (all_devices ls others) lie.handled.1);
     }
 
 pub has_not_begun : Laws → (count : ℕ) (states : List State) (before : List Device) (logs written : List LogState) (others : List Device) (found : List (List LogItem)) (records : List (List Record)) (o : Opening)
@@ -295,7 +301,7 @@ pub has_not_begun : Laws → (count : ℕ) (states : List State) (before : List 
 has_not_begun laws count states before logs written others [] records o added answer size some lie start long rest w = absurd (omega (arith, size, some))
 has_not_begun laws count states before logs written others (f ∷ fs) [] o added answer size some lie start long rest w = absurd lie.items
 has_not_begun laws count states before [] written others (f ∷ fs) (rs ∷ rss) o added answer size some lie start long rest w = absurd lie.ready
-has_not_begun laws count states [] (l ∷ ls) written others (f ∷ fs) (rs ∷ rss) o added answer size some lie start long rest w = absurd lie.are_found
+has_not_begun laws count states [] (l ∷ ls) written others (f ∷ fs) (rs ∷ rss) o added answer size some lie start long rest w = absurd lie.are_begun
 has_not_begun laws count states (b ∷ bs) (l ∷ ls) [] others (f ∷ fs) (rs ∷ rss) o added answer size some lie start long rest w = absurd (omega (arith, long))
 has_not_begun laws count states (b ∷ bs) (l ∷ ls) (k ∷ ks) others (f ∷ fs) (rs ∷ rss) o added answer size some lie start long rest w =
     let same : ks ≡ ls = rest in
@@ -304,8 +310,15 @@ has_not_begun laws count states (b ∷ bs) (l ∷ ls) (k ∷ ks) others (f ∷ f
 
 -- ---- as it is said of the devices alone
 
+-- devices that are opened at most are handled
+all_handled : (bs ms : List Device) → AllZip IsTouched bs ms → AllZip IsHandled bs ms
+all_handled [] [] all = tt
+all_handled [] (m ∷ ms) all = absurd all
+all_handled (b ∷ bs) [] all = absurd all
+all_handled (b ∷ bs) (m ∷ ms) all = (record { prepared = inl all.0.opened; safe = all.0.safe }, all_handled bs ms all.1)
+
 pub nothing_done : ((ds : List Device) → AllZip IsTouched ds ds) → (count : ℕ) (states : List State) (ds : List Device) → HasNotBegun count states ds ds ending.Memory
-nothing_done law count states ds = not_read count states ds ds ending.Memory (inl (0, (λ log lt. absurd (omega (arith, lt))), record { opened = tt; others = refl })) (law ds)
+nothing_done law count states ds = not_read count states ds ds ending.Memory (inl (inl (0, (λ log lt. absurd (omega (arith, lt))), record { opened = tt; others = refl }))) (all_handled ds ds (law ds))
 
 pub devices_long : {D : Type 0} (told : D → Option History) (faults : D → ℕ) (xs : List D) → length (devices_of told faults xs) ≡ length xs
 devices_long told faults [] = refl

@@ -27,8 +27,8 @@ may_write law end added are one low = record { records = are; may = law end adde
 
 pub wrote : (l k : LogState) (added : List Record) → MayAppendGroup l.end added → length added ≤ 1 → AppendsRecords l.told k.told l.end k.end added → CrashesRecords l.told k.told l.end added
     → AddsAll l.told k.told (append_ops l.end (spelled added)) → k.end ≡ end_behind l.end (spelled added) → (added ≡ [] → IsUntouched l k)
-    → (added ≢ [] → k.end ≡ l.end + 5 + length (items_bytes (spelled added))) → k.shut ≡ false → l.faults ≤ k.faults → IsWritten l k added
-wrote l k added may one appended crashes adds gate nothing grown ready later = record {
+    → (added ≢ [] → k.end ≡ l.end + 5 + length (items_bytes (spelled added))) → k.format ≡ l.format → k.shut ≡ false → l.faults ≤ k.faults → IsWritten l k added
+wrote l k added may one appended crashes adds gate nothing grown format ready later = record {
   may = may;
   appended = appended;
   crashes = crashes;
@@ -36,6 +36,7 @@ wrote l k added may one appended crashes adds gate nothing grown ready later = r
   gate = gate;
   little = grown_little added l.end k.end may.may one (λ e. (nothing (sym e)).end) grown;
   nothing = nothing;
+  format = format;
   ready = ready;
   later = later;
 }

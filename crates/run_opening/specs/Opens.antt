@@ -19,8 +19,8 @@ use Rattle.snap_recover.specs.declared.ranges.TheConstants.{GREATEST_NUMBER}
 use Rattle.snap_recover.specs.Opening.{IsRecovered}
 use Rattle.log_opening.specs.declared.refusals.LogsNo.{LogsNo}
 use Rattle.log_opening.specs.declared.refusals.LogsNo.TheVariants as ending
-use Rattle.log_opening.specs.Devices.{Device, device_at, IsOpened, AreOpened}
-use Rattle.log_opening.specs.Found.{IsTouched}
+use Rattle.log_opening.specs.Devices.{Device, device_at, AreBegun, HoldNoOld, IsBegun}
+use Rattle.log_opening.specs.Found.{IsHandled}
 use Rattle.log_opening.specs.Kept.{Holds}
 use Rattle.log_opening.specs.Counted.{AreNotRead}
 use Rattle.run_opening.specs.declared.comparisons.TheConstants.{ROOM_TO_BEGIN}
@@ -54,13 +54,13 @@ first_groups zero added = as_groups added
 first_groups (suc n) added = []
 
 abbrev pub log_at : List LogState → ℕ → LogState
-log_at logs n = slice_index_or logs n (record { told = None; end = 0; shut = true; found = []; faults = 0 })
+log_at logs n = slice_index_or logs n (record { told = None; end = 0; format = 2; shut = true; found = []; faults = 0 })
 
 abbrev pub records_at : List (List Record) → ℕ → List Record
 records_at logs n = slice_index_or logs n []
 
--- A log of a run: its device held these records; it was opened, with its closed gate at `end`; and since then these groups
--- were appended, one after the other, and nothing else.
+-- A log of a run: its device held these records; it was opened, with its closed gate at `end`, and upgraded where it was of format 1;
+-- and since then these groups were appended, one after the other, and nothing else.
 pub record IsRunLog (before : Device) (log : LogState) (end : ℕ) (records : List Record) (groups : List (List Record)) : Type 0 where
   pub opened : (mid : Option History) × (found : List LogItem) × Opened before.told mid end found
   pub low : end ≤ FARTHEST_END
@@ -68,15 +68,17 @@ pub record IsRunLog (before : Device) (log : LogState) (end : ℕ) (records : Li
   pub grew : GrewBy before.told log.told end groups None
   pub gate : log.end ≡ end_behind_groups end groups
   pub holds : IfSome log.told (λ g. RecordLog g log.end (records ++ all_records groups))
+  pub second : log.format ≡ 2
   pub ready : log.shut ≡ false
   pub later : before.faults ≤ log.faults
 
--- The logs are open. They held these records; a run of a text with these states begins on them with the opening; and
--- what was to be written before it is written to log 0.
+-- The logs are open. They held these records, none of them in format 1; a run of a text with these states begins on them with the
+-- opening; and what was to be written before it is written to log 0.
 pub record OpensRun (before : List Device) (logs : List LogState) (states : List State) (o : Opening) (records : List (List Record)) (added : List Record) : Type 0 where
   pub start : IsStart records states o added
   pub each : AllByRecursion (AllByRecursion IsRecord) records
   pub held : AllZip Holds (take (length records) before) records
+  pub recent : HoldNoOld (length records) before
   pub as_many : length logs ≡ length records
   pub log : (n : ℕ) → n < length records → (end : ℕ) × IsRunLog (device_at before n) (log_at logs n) end (records_at records n) (first_groups n added)
   -- what they hold now recovers to the opening
@@ -84,30 +86,31 @@ pub record OpensRun (before : List Device) (logs : List LogState) (states : List
 
 -- ---- no run begins
 
--- What the logs hold gives no run of the text. All are opened.
+-- What the logs hold gives no run of the text. All are opened, and of format 2.
 pub record AreNoStart (count : ℕ) (states : List State) (before after : List Device) (no : LogsNo) : Type 0 where
   pub records : (logs : List (List Record)) × (length logs ≡ count) × AllZip Holds (take count before) logs × IsNoStart logs states no
-  pub opened : AreOpened count before after
+  pub recent : HoldNoOld count before
+  pub begun : AreBegun count before after
 
 -- no log of the run holds a record
 abbrev pub AreHeldEmpty : ℕ → List Device → Type 0
 AreHeldEmpty count before = AllByRecursion (λ (d : Device). Holds d []) (take count before)
 
--- No log held a record, and log 0's device failed when Genesis was written. All are opened.
+-- No log held a record, and log 0's device failed when Genesis was written. All are opened, and of format 2.
 pub record FailsFirst (count : ℕ) (states : List State) (before after : List Device) : Type 0 where
   pub empty : AreHeldEmpty count before
   pub rose : Rose (device_at before 0).faults (device_at after 0).faults
   pub grew : (end : ℕ) × (mid : Option History) × (found : List LogItem) × Opened (device_at before 0).told mid end found
       × GrewBy (device_at before 0).told (device_at after 0).told end [] (Some (first_record count states ∷ []))
-  pub opened : AllZip IsOpened (drop 1 (take count before)) (drop 1 (take count after))
+  pub begun : AllZip IsBegun (drop 1 (take count before)) (drop 1 (take count after))
   pub others : drop count after ≡ drop count before
 
--- Why no run of a text with these states begins on so many logs: they are not opened and decoded, or what they hold gives
--- no run, and the devices got the operations of opening at most; or Genesis was begun and is not written. Whatever the answer,
+-- Why no run of a text with these states begins on so many logs: they are not opened, made ready and decoded, or what they hold
+-- gives no run, and the devices got the operations of opening and of an upgrade at most; or Genesis was begun and is not written. Whatever the answer,
 -- the devices behind them got no call (`others_get_no_call`).
 abbrev pub IsNoRun : ℕ → List State → List Device → List Device → LogsNo → Type 0
 IsNoRun count states before after answer =
-    ((AreNotRead count before after answer ⊎ AreNoStart count states before after answer) × AllZip IsTouched before after)
+    ((AreNotRead count before after answer ⊎ AreNoStart count states before after answer) × AllZip IsHandled before after)
     ⊎ ((answer ≡ ending.Device 0) × FailsFirst count states before after)
 
 -- ---- crashes
@@ -133,8 +136,9 @@ AreSafe count states before after =
 abbrev pub Tells : Device → List Record → Type 0
 Tells d rs = (h : History) × (d.told ≡ Some h) × HoldsRecords (content h) rs
 
--- The devices tell records on which a run of the text begins, and no count of theirs rises.
+-- The devices tell records on which a run of the text begins, none of them in format 1, and no count of theirs rises.
 pub record MayOpen (count : ℕ) (states : List State) (before after : List Device) (records : List (List Record)) (o : Opening) : Type 0 where
   pub told : AllZip Tells (take count before) records
+  pub recent : HoldNoOld count before
   pub begins : Begins records states o
   pub quiet : (log : ℕ) → log < count → ¬ Rose (device_at before log).faults (device_at after log).faults

@@ -30,6 +30,7 @@ pub record IsWritten (before after : LogState) (added : List Record) : Type 0 wh
   pub gate : after.end ≡ end_behind before.end (spelled added)
   pub little : after.end ≤ before.end + LARGEST_START
   pub nothing : added ≡ [] → IsUntouched before after
+  pub format : after.format ≡ before.format
   pub ready : after.shut ≡ false
   pub later : before.faults ≤ after.faults
 

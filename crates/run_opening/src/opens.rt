@@ -10,7 +10,9 @@ ghost use Rattle.run_opening.specs.Writes.{IsWritten, IsNotWritten, HasBegun, Ha
 
 use crate::limits::LARGEST_START;
 use crate::starts::{Start, start_from};
-use gate_log::{AppendNo, FARTHEST_END, Log, one_reading, opening_is_safe};
+use gate_log::{
+    AppendNo, FARTHEST_END, Log, beginning_is_safe, one_reading, opening_is_safe,
+};
 use log_opening::{LogsNo, OpenLogs, close, no_call_is_safe, no_logs, open_and_decode};
 use record_log::{
     append_records, few_may_be_appended, history_grows, no_more_records, one_list_of_records,
@@ -28,8 +30,8 @@ use txn_records::Record;
 const FIRST: u8 = 0;
 
 /// Opens the logs of a run whose text says that there are so many, and gives the actors these states. All are opened,
-/// from log 0 on, then all are decoded; then what they hold is recovered and compared with the text; then Genesis is
-/// written to log 0, where no log holds a record. The logs are ready for the run's records. Their devices are the first
+/// from log 0 on; those of format 1 that have no item are upgraded, and the first other one is refused; then all are decoded;
+/// then what they hold is recovered and compared with the text; then Genesis is written to log 0, where no log holds a record. The logs are ready for the run's records. Their devices are the first
 /// ones of these and leave them; `close` of `log_opening` puts them back. Where no run begins they are back already, and
 /// each device is in its place.
 pub fn open_run<D: LogDev>(
@@ -117,6 +119,7 @@ fn begin_on<D: LogDev>(
 {
     one_reading();
     opening_is_safe();
+    beginning_is_safe();
     opened_holds();
     history_grows();
     one_list_of_records();
@@ -147,6 +150,7 @@ fn write_first<D: LogDev>(
     requires one { length added.now ≤ 1 }
     requires low { (log_at logs.old.items 0).end ≤ FARTHEST_END }
     requires open { (log_at logs.old.items 0).shut ≡ false }
+    requires format { (log_at logs.old.items 0).format ≡ 2 }
     ensures written { MatchResult result
         (λ _. IsWritten (log_at logs.old.items 0) (log_at logs.new.items 0) added.now)
         (λ no. IsNotWritten (log_at logs.old.items 0) (log_at logs.new.items 0) added.now no) }
@@ -162,6 +166,7 @@ fn write<D: LogDev>(alloc: Global, log: &mut Log<D>, added: &[Record]) -> Result
     requires one { length added.now ≤ 1 }
     requires low { log.old.end ≤ FARTHEST_END }
     requires open { log.old.shut ≡ false }
+    requires format { log.old.format ≡ 2 }
     ensures { MatchResult result (λ _. IsWritten log.old log.new added.now) (λ no. IsNotWritten log.old log.new added.now no) }
 {
     few_may_be_appended();

@@ -7,7 +7,7 @@ use Rattle.run_opening.specs.Starts.{IsStart, IsNoStart}
 use Rattle.run_opening.specs.Opens.{log_at}
 use Rattle.run_opening.specs.Writes.{IsWritten, IsNotWritten}
 use Rattle.run_opening.proofs.RunLogs.{LogLaws}
-use Rattle.run_opening.proofs.RunOpening.{Laws, as_many, first_ready, added_records, has_begun, not_read, not_started, has_not_begun}
+use Rattle.run_opening.proofs.RunOpening.{Laws, as_many, first_ready, first_second, added_records, has_begun, not_read, not_started, has_not_begun}
 use Rattle.run_opening.proofs.opens.begin_on.Goals as goal
 
 pub start_from-requires-clause-logs : goal.start_from-requires-clause-logs
@@ -85,6 +85,9 @@ write_first-requires-clause-open g c =
     let ready = first_ready logs found (omega (arith, c.in-Ok.ensures.count.0, c.requires.some_logs)) lie.ready in
     ready.1
 
+pub write_first-requires-clause-format : goal.write_first-requires-clause-format
+write_first-requires-clause-format g c = first_second c.open_and_decode.new.opened.logs.items c.in-Ok.ensures.read.second
+
 pub returns-in-Err-clause-begun : goal.returns-in-Err-clause-begun
 returns-in-Err-clause-begun g c =
     let told = g.D.LogDev.told in
@@ -111,7 +114,7 @@ returns-in-Ok-write_first-clause-begun g c =
     let log_laws : LogLaws = record {
       one_reading = c.one_reading.ensures;
       adds = c.opening_is_safe.ensures.adds;
-      gives = c.opening_is_safe.ensures.gives;
+      gives = c.beginning_is_safe.ensures.gives;
       before = c.opened_holds.ensures.before;
       after = c.opened_holds.ensures.after;
       one_list = c.one_list_of_records.ensures;
@@ -140,7 +143,7 @@ returns-clause-begun g c =
     let log_laws : LogLaws = record {
       one_reading = c.one_reading.ensures;
       adds = c.opening_is_safe.ensures.adds;
-      gives = c.opening_is_safe.ensures.gives;
+      gives = c.beginning_is_safe.ensures.gives;
       before = c.opened_holds.ensures.before;
       after = c.opened_holds.ensures.after;
       one_list = c.one_list_of_records.ensures;

@@ -13,7 +13,7 @@ returns-in-Ok g c =
     let is = c.in-Ok.ensures in
     wrote c.args.log.now c.append_records.new.log c.args.added.now
     (may_write c.few_may_be_appended.ensures.may c.args.log.now.end c.args.added.now c.requires.records c.requires.one c.requires.low) c.requires.one
-    is.appended is.crashes is.ops is.end (λ e. (is.empty e).0) is.grown is.open is.faults
+    is.appended is.crashes is.ops is.end (λ e. (is.empty e).0) is.grown is.format is.open is.faults
 
 pub returns-in-Err : goal.returns-in-Err
 returns-in-Err g c =
