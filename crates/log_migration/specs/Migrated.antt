@@ -44,6 +44,7 @@ pub record FailsMigration (before after : List Device) (log : ℕ) : Type 0 wher
   pub given : AreGiven before logs
   pub recovered : IsRecovered logs opening
   pub asked : log < length logs
+  pub there : log < length before
   pub cut_off : IsCutOff (device_at before log) (device_at after log)
   pub rose : Rose (device_at before log).faults (device_at after log).faults
   pub below : AllZip IsBegun (take log before) (take log after)

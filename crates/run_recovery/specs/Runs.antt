@@ -6,7 +6,7 @@ use Rattle.core_events.specs.Meant.{event_meant}
 use Rattle.gate_log.specs.declared.limits.TheConstants.{FARTHEST_END}
 use Rattle.gate_log.specs.declared.logs.LogItem.{LogItem}
 use Rattle.gate_log.specs.Opened.{Opened}
-use Rattle.log_opening.specs.Devices.{Device, device_at}
+use Rattle.log_opening.specs.Devices.{Device, device_at, HoldNoOld}
 use Rattle.log_opening.specs.Kept.{Holds}
 use Rattle.machine_laws.specs.Programs.{with_code}
 use Rattle.protocol.specs.Conditions.{IsAllowed}
@@ -76,13 +76,14 @@ abbrev pub tried_on : (ℕ → Bool) → ℕ → List Record → Option (List Re
 tried_on failed l group = if failed l then Some group else None
 
 -- The logs, so many as the text says, lie on the first devices. They held records on which a run of the text begins with the
--- opening. Each got what is written before a run, then a group for each of its Syncs; each that failed got a front of one
+-- opening, none of them in format 1. Each got what is written before a run, then a group for each of its Syncs; each that failed got a front of one
 -- more, of what still waits there. The devices behind them got no call.
 pub record AreRunDevices (w : Work) (o : Opening) (es : List machine.Event) (failed : ℕ → Bool) (before after : List Device) : Type 0 where
   pub records : List (List Record)
   pub added : List Record
   pub as_many : length records ≡ w.logs
   pub start : IsStart records w.states o added
+  pub recent : HoldNoOld w.logs before
   pub each : (l : ℕ) → l < w.logs → IsRunDevice (device_at before l) (device_at after l) (records_at records l)
       (first_groups l added ++ groups_of (machine_of w o) l es) (tried_on failed l (group_behind (machine_of w o) l es))
   pub others : drop w.logs after ≡ drop w.logs before

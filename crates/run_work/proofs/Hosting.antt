@@ -100,6 +100,7 @@ nothing_grew : (l : LogState) → l.shut ≡ false → IsDriven l l [] None
 nothing_grew l quiet = record {
   grew = λ device end first grew gate. subst (λ (groups : List (List Record)). GrewBy device l.told end groups None) (sym (append-nil first)) grew;
   gate = refl;
+  format = refl;
   shut = quiet;
   later = omega arith;
   rose = tt;

@@ -2,7 +2,7 @@
 use Rattle.std.proofs.Common.{◌≡◌, ℕ, ◌<◌, ◌≤◌, zero, suc, List, [], ◌∷◌, ◌++◌, length, map, drop, refl, sym, ◌∙◌, ap, subst, arith, Bool, Option}
 use Rattle.std.specs.List.{AllByRecursion}
 use Rattle.gate_log.specs.State.{LogState}
-use Rattle.log_opening.specs.Devices.{Device, as_device, device_at}
+use Rattle.log_opening.specs.Devices.{Device, HoldNoOld, as_device, device_at}
 use Rattle.protocol.specs.Events as machine
 use Rattle.record_log.specs.Growth.{GrewBy}
 use Rattle.run_opening.specs.Opens.{HasRoom, OpensRun, IsRunLog, first_groups, log_at, records_at}
@@ -83,6 +83,7 @@ module _
         added = added;
         as_many = as_many;
         start = subst (λ (ss : List State). IsStart records ss o added) texts opens.start;
+        recent = subst (λ (n : ℕ). HoldNoOld n before) as_many opens.recent;
         each = λ l lt.
             let is = opens.log l (omega (arith, lt, as_many)) in
             run_device (device_at before l) (device_at after l) (log_at old l) (log_at new l) is.0 (records_at records l) (first_groups l added) (groups_of (machine_of w o) l es)

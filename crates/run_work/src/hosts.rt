@@ -73,6 +73,7 @@ fn host_on_logs<D: LogDev, R: Sink>(
     requires begins { MayBegin (work_of work) opening }
     requires logs { length logs.old.items ≡ work.logs }
     requires open { AllByRecursion (λ l. l.shut ≡ false) logs.old.items }
+    requires format { AllByRecursion (λ l. l.format ≡ 2) logs.old.items }
     requires ends { AllByRecursion (λ l. l.end ≤ FARTHEST_END + 2 ^ 32) logs.old.items }
     ensures hosted { IsHostedOn (work_of work) (seeded seed) opening logs.old.items logs.new.items (writing_of R.taken R.faults replies.old replies.new) result }
     ensures once { EndsAtFault (result.stop ≢ Stop.OutFault) (R.faults replies.old) (R.late replies.old) (R.faults replies.new) (R.late replies.new) }
@@ -179,6 +180,7 @@ fn crew_on_logs<
     requires workers { workers ≤ MOST_WORKERS }
     requires logs { length logs.items ≡ work.logs }
     requires open { AllByRecursion (λ l. l.shut ≡ false) logs.items }
+    requires format { AllByRecursion (λ l. l.format ≡ 2) logs.items }
     requires ends { AllByRecursion (λ l. l.end ≤ FARTHEST_END + 2 ^ 32) logs.items }
     ensures hosted { IsCrewHostedOn (work_of work) opening logs.items result.logs.items (writing_of O.taken O.faults replies result.replies) result.failed result.hosted }
     ensures once { EndsAtFault (result.failed ≡ false) (O.faults replies) (O.late replies) (O.faults result.replies) (O.late result.replies) }

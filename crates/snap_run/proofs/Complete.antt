@@ -9,7 +9,7 @@ use Rattle.snap_outside.specs.Causes.{Rose}
 use Rattle.snap_recover.specs.declared.openings.Opening.{Opening}
 use Rattle.snap_report.specs.declared.statuses.Status.{Status}
 use Rattle.snap_report.specs.declared.statuses.Status.TheVariants as status
-use Rattle.snap_run.proofs.Outcomes.{not_both, run_not_gen, recover_not_gen, run_not_bench, recover_not_bench, gen_not_bench}
+use Rattle.snap_run.proofs.Outcomes.{not_both, run_not_gen, recover_not_gen, run_not_bench, recover_not_bench, gen_not_bench, run_not_migrate, gen_not_migrate, bench_not_migrate}
 use Rattle.snap_run.specs.Answers.{schedule_of, ran_of, IsInputAnswer, IsRunAnswer, IsGenAnswer, IsAnswer, IsUntroubled, IsPrintable, MayBeMeasured}
 use Rattle.work_gen.specs.Generated.{generated_text}
 use Rattle.snap_run.specs.Uses.{Use}
@@ -60,7 +60,8 @@ module _ (one : OneCommand) (apart : FaultOrWork) (u : Use) (text : List ℕ) (w
   completed s not (inr (inl x)) = absurd (not_both one u.words t.run.0 t.run.1 t.run.2 x.0)
   completed s not (inr (inr (inl x))) = absurd (run_not_gen one u.words t.run.0 t.run.1 x.0 x.1 t.run.2 x.2)
   completed s not (inr (inr (inr (inl x)))) = absurd (run_not_bench one u.words t.run.0 t.run.1 x.0 x.1 x.2 t.run.2 x.3)
-  completed s not (inr (inr (inr (inr x)))) = absurd (x.0.2.no_form (inl t.run))
+  completed s not (inr (inr (inr (inr (inl x))))) = absurd (run_not_migrate one u.words t.run.0 t.run.1 t.run.2 x.0)
+  completed s not (inr (inr (inr (inr (inr x))))) = absurd (x.0.2.no_form (inl t.run))
 
 -- ---- the command that prints a generated text
 
@@ -80,7 +81,8 @@ completed_gen one u may s (inl x) = absurd (run_not_gen one u.words x.0 x.1 may.
 completed_gen one u may s (inr (inl x)) = absurd (recover_not_gen one u.words may.gen.0 may.gen.1 x.0 may.gen.2)
 completed_gen one u may s (inr (inr (inl x))) = gen_completed (generated_text x.0 x.1) u.writing s may.sink x.5
 completed_gen one u may s (inr (inr (inr (inl x)))) = absurd (gen_not_bench one u.words may.gen.0 may.gen.1 x.0 x.1 x.2 may.gen.2 x.3)
-completed_gen one u may s (inr (inr (inr (inr x)))) = absurd (x.0.2.no_form (inr (inr (inl (may.gen.0, may.gen.1, may.gen.2)))))
+completed_gen one u may s (inr (inr (inr (inr (inl x))))) = absurd (gen_not_migrate one u.words may.gen.0 may.gen.1 may.gen.2 x.0)
+completed_gen one u may s (inr (inr (inr (inr (inr x))))) = absurd (x.0.2.no_form (inr (inr (inl (may.gen.0, may.gen.1, may.gen.2)))))
 
 -- ---- the command that runs a generated text
 
@@ -93,4 +95,5 @@ completed_bench one u count seed n w records o bench may s not (inr (inr (inr (i
   | inl none ↦ inr none.0
   | inr run ↦ ended summing (ran_of u run.0 (schedule_of x.2 0)) s not may.sink may.trace run.3
 ]
-completed_bench one u count seed n w records o bench may s not (inr (inr (inr (inr x)))) = absurd (x.0.2.no_form (inr (inr (inr (count, seed, n, bench)))))
+completed_bench one u count seed n w records o bench may s not (inr (inr (inr (inr (inl x))))) = absurd (bench_not_migrate one u.words count seed n bench x.0)
+completed_bench one u count seed n w records o bench may s not (inr (inr (inr (inr (inr x))))) = absurd (x.0.2.no_form (inr (inr (inr (inl (count, seed, n, bench))))))

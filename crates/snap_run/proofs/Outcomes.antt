@@ -13,12 +13,13 @@ use Rattle.run_work.specs.Runs.{Printing, Ran, IsAnswerOf, IsWorkAnswer, IsOfLog
 use Rattle.run_work.specs.Writings.{Writing, WritesNothing}
 use Rattle.snap_recover.specs.declared.openings.Opening.{Opening}
 use Rattle.command_words.specs.declared.commands.Command.{Command}
-use Rattle.command_words.specs.declared.commands.Command.TheVariants.{Run, Recover, Gen, Bench}
+use Rattle.command_words.specs.declared.commands.Command.TheVariants.{Run, Recover, Migrate, Gen, Bench}
 use Rattle.command_words.specs.CommandLaws.{OneCommand}
 use Rattle.command_words.specs.Commands.{IsCommand}
-use Rattle.command_words.specs.Words.{AreLastWorkers, IsRun, IsRecover, IsGen, IsBench, IsForm, IsUsageFault}
+use Rattle.command_words.specs.Words.{AreLastWorkers, IsRun, IsRecover, IsMigrate, IsGen, IsBench, IsForm, IsUsageFault}
 use Rattle.command_words.specs.Workers.{workers_in, AskFor}
 use Rattle.snap_run.specs.Uses.{Reading, Use}
+use Rattle.snap_run.specs.Migrations.{IsMigrateAnswer}
 use Rattle.snap_run.specs.Recoveries.{IsRecoverAnswer}
 use Rattle.snap_run.specs.Answers.{OfText, schedule_of, ran_of, ReadsNothing, IsInputAnswer, TouchesNothing, TakesNoEvent, IsGenAnswer, IsMeasured, GetsNoCall, IsUntroubled, MayBeMeasured}
 use Rattle.work_gen.specs.Generated.{generated_text}
@@ -45,12 +46,25 @@ recover_not_bench one words count last m recover bench = let e : Recover ≡ Ben
 pub gen_not_bench : OneCommand → (words : List (List ℕ)) (count seed other last m : ℕ) → IsGen words count seed → IsBench words other last m → ⊥
 gen_not_bench one words count seed other last m gen bench = let e : Gen count seed ≡ Bench other last m = one words (Gen count seed) (Bench other last m) gen bench in cc
 
+pub run_not_migrate : OneCommand → (words : List (List ℕ)) (n seed : ℕ) → IsRun words n seed → IsMigrate words → ⊥
+run_not_migrate one words n seed run migrate = let e : Run n seed ≡ Migrate = one words (Run n seed) Migrate run migrate in cc
+
+pub recover_not_migrate : OneCommand → (words : List (List ℕ)) → IsRecover words → IsMigrate words → ⊥
+recover_not_migrate one words recover migrate = let e : Recover ≡ Migrate = one words Recover Migrate recover migrate in cc
+
+pub gen_not_migrate : OneCommand → (words : List (List ℕ)) (count seed : ℕ) → IsGen words count seed → IsMigrate words → ⊥
+gen_not_migrate one words count seed gen migrate = let e : Gen count seed ≡ Migrate = one words (Gen count seed) Migrate gen migrate in cc
+
+pub bench_not_migrate : OneCommand → (words : List (List ℕ)) (count seed n : ℕ) → IsBench words count seed n → IsMigrate words → ⊥
+bench_not_migrate one words count seed n bench migrate = let e : Bench count seed n ≡ Migrate = one words (Bench count seed n) Migrate bench migrate in cc
+
 -- a command is a form
 form_of : (words : List (List ℕ)) (c : Command) → IsCommand words c → IsForm words
 form_of words (Run n seed) is = inl (n, seed, is)
 form_of words Recover is = inr (inl is)
 form_of words (Gen count seed) is = inr (inr (inl (count, seed, is)))
-form_of words (Bench count seed n) is = inr (inr (inr (count, seed, n, is)))
+form_of words (Bench count seed n) is = inr (inr (inr (inl (count, seed, n, is))))
+form_of words Migrate is = inr (inr (inr (inr is)))
 
 -- the command that they are says how many workers they ask for
 pub asked : OneCommand → (words : List (List ℕ)) (n : ℕ) (c : Command) → AskFor words n → IsCommand words c → workers_in c ≡ n
@@ -83,6 +97,7 @@ input_outcome one u n seed s run nothing a = record {
   answer = inl (n, seed, run, inl (a, nothing));
   opened = λ recover. absurd (not_both one u.words n seed run recover);
   kept = λ recover. absurd (not_both one u.words n seed run recover);
+  migrated = λ migrate. absurd (run_not_migrate one u.words n seed run migrate);
 }
 
 pub input_not_of_logs : (r : Reading) (s : Status) → IsInputAnswer r s → ¬ IsOfLogs s
@@ -115,6 +130,7 @@ run_outcome one u n seed w s run of a = record {
   answer = inl (n, seed, run, inr (of_text_then u.reading w (λ v. IsWorkAnswer (ran_of u v (schedule_of n seed)) s) of a));
   opened = λ recover. absurd (not_both one u.words n seed run recover);
   kept = λ recover. absurd (not_both one u.words n seed run recover);
+  migrated = λ migrate. absurd (run_not_migrate one u.words n seed run migrate);
 }
 
 -- several workers take any schedule
@@ -159,20 +175,42 @@ recover_calls before after out (status.LogFault log) a none = none
 recover_calls before after out status.OutFault a none = none
 recover_calls before after out status.TraceFault a none = none
 
-pub recover_outcome : (u : Use) (s : Status) → IsRecover u.words → ReadsNothing u.reading → u.kept ≡ [] → WritesNothing u.tracing
+pub recover_outcome : OneCommand → (u : Use) (s : Status) → IsRecover u.words → ReadsNothing u.reading → u.kept ≡ [] → WritesNothing u.tracing
     → AllZip IsOpenedAtMost u.devices_before u.devices_after → AllZip (λ (a b : Device). KeepsRecords a.told b.told) u.devices_before u.devices_after
     → IsRecoverAnswer u.devices_before u.devices_after u.writing s → IsOutcome u s
-recover_outcome u s recover nothing none untraced opened kept a = record {
+recover_outcome one u s recover nothing none untraced opened kept a = record {
   answer = inr (inl (recover, nothing, none, untraced, a));
   opened = λ _. opened;
   kept = λ _. kept;
+  migrated = λ migrate. absurd (recover_not_migrate one u.words recover migrate);
+}
+
+pub migrate_calls : (before after : List Device) (out : Writing) (s : Status) → IsMigrateAnswer before after out s → GetsNoCall s → ⊥
+migrate_calls before after out status.Done a none = none
+migrate_calls before after out (status.Usage place) a none = a
+migrate_calls before after out (status.Input line cause) a none = a
+migrate_calls before after out (status.Logs log offset cause) a none = none
+migrate_calls before after out status.Memory a none = none
+migrate_calls before after out status.ReadFault a none = a
+migrate_calls before after out (status.LogFault log) a none = none
+migrate_calls before after out status.OutFault a none = none
+migrate_calls before after out status.TraceFault a none = none
+
+pub migrate_outcome : OneCommand → (u : Use) (s : Status) → IsMigrate u.words → ReadsNothing u.reading → u.kept ≡ [] → WritesNothing u.tracing
+    → AllZip (λ (a b : Device). KeepsRecords a.told b.told) u.devices_before u.devices_after → IsMigrateAnswer u.devices_before u.devices_after u.writing s → IsOutcome u s
+migrate_outcome one u s migrate nothing none untraced kept a = record {
+  answer = inr (inr (inr (inr (inl (migrate, nothing, none, untraced, a)))));
+  opened = λ recover. absurd (recover_not_migrate one u.words recover migrate);
+  kept = λ recover. absurd (recover_not_migrate one u.words recover migrate);
+  migrated = λ _. kept;
 }
 
 pub usage_outcome : (u : Use) (place : ℕ) → IsUsageFault u.words place → ReadsNothing u.reading → TouchesNothing u → IsOutcome u (status.Usage place)
 usage_outcome u place fault reads nothing = record {
-  answer = inr (inr (inr (inr ((place, refl, fault), reads, nothing))));
+  answer = inr (inr (inr (inr (inr ((place, refl, fault), reads, nothing)))));
   opened = λ recover. absurd (fault.no_form (inr (inl recover)));
   kept = λ recover. absurd (fault.no_form (inr (inl recover)));
+  migrated = λ migrate. absurd (fault.no_form (inr (inr (inr (inr migrate)))));
 }
 
 pub gen_outcome : OneCommand → (u : Use) (count seed : ℕ) (s : Status) → IsGen u.words count seed → ReadsNothing u.reading → TakesNoEvent u → IsGenAnswer (generated_text count seed) u.writing s → IsOutcome u s
@@ -180,6 +218,7 @@ gen_outcome one u count seed s gen reads nothing a = record {
   answer = inr (inr (inl (count, seed, gen, reads, nothing, a)));
   opened = λ recover. absurd (recover_not_gen one u.words count seed recover gen);
   kept = λ recover. absurd (recover_not_gen one u.words count seed recover gen);
+  migrated = λ migrate. absurd (gen_not_migrate one u.words count seed gen migrate);
 }
 
 pub bench_outcome : OneCommand → (u : Use) (count seed n : ℕ) (s : Status) → IsBench u.words count seed n → ReadsNothing u.reading → IsMeasured u (schedule_of n 0) count seed s
@@ -188,6 +227,7 @@ bench_outcome one u count seed n s bench reads a = record {
   answer = inr (inr (inr (inl (count, seed, n, bench, reads, a))));
   opened = λ recover. absurd (recover_not_bench one u.words count seed n recover bench);
   kept = λ recover. absurd (recover_not_bench one u.words count seed n recover bench);
+  migrated = λ migrate. absurd (bench_not_migrate one u.words count seed n bench migrate);
 }
 
 -- the words tell one count and one seed

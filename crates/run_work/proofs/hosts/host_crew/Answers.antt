@@ -18,6 +18,11 @@ crew_on_logs-hosted-requires-clause-open g c κs within =
     let opens = c.in-Ok.ensures.opens in
     each_log (λ (l : LogState). l.shut ≡ false) c.in-Ok.logs.items (λ n lt. (opens.3.log n (omega (arith, lt, opens.3.as_many))).1.ready)
 
+pub crew_on_logs-hosted-requires-clause-format : goal.crew_on_logs-hosted-requires-clause-format
+crew_on_logs-hosted-requires-clause-format g c κs within =
+    let opens = c.in-Ok.ensures.opens in
+    each_log (λ (l : LogState). l.format ≡ 2) c.in-Ok.logs.items (λ n lt. (opens.3.log n (omega (arith, lt, opens.3.as_many))).1.second)
+
 pub crew_on_logs-hosted-requires-clause-ends : goal.crew_on_logs-hosted-requires-clause-ends
 crew_on_logs-hosted-requires-clause-ends g c κs within =
     each_log (λ (l : LogState). l.end ≤ 9223372041149743104) c.in-Ok.logs.items (λ n lt. omega (arith, c.in-Ok.ensures.ends n (omega (arith, lt, c.in-Ok.ensures.logs.0))))

@@ -19,6 +19,11 @@ host_on_logs-hosted-requires-clause-open g c =
     let opens = c.in_ok-logs.ensures.opens in
     each_log (λ (l : LogState). l.shut ≡ false) c.in_ok-logs.logs.items (λ n lt. (opens.3.log n (omega (arith, lt, opens.3.as_many))).1.ready)
 
+pub host_on_logs-hosted-requires-clause-format : goal.host_on_logs-hosted-requires-clause-format
+host_on_logs-hosted-requires-clause-format g c =
+    let opens = c.in_ok-logs.ensures.opens in
+    each_log (λ (l : LogState). l.format ≡ 2) c.in_ok-logs.logs.items (λ n lt. (opens.3.log n (omega (arith, lt, opens.3.as_many))).1.second)
+
 pub host_on_logs-hosted-requires-clause-ends : goal.host_on_logs-hosted-requires-clause-ends
 host_on_logs-hosted-requires-clause-ends g c =
     each_log (λ (l : LogState). l.end ≤ 9223372041149743104) c.in_ok-logs.logs.items (λ n lt. omega (arith, c.in_ok-logs.ensures.ends n (omega (arith, lt, c.in_ok-logs.ensures.logs.0))))

@@ -3,7 +3,7 @@ use Rattle.std.proofs.KnownBytes.{Keeps-refl}
 use Rattle.std.specs.Prelude.{string_bytes}
 use Rattle.log_opening.specs.Devices.{devices_of}
 use Rattle.run_work.specs.Writings.{writing_of}
-use Rattle.snap_run.proofs.Outcomes.{asked, usage_outcome, gen_outcome, bench_outcome, run_not_gen, run_not_bench, gen_not_bench, same_measure}
+use Rattle.snap_run.proofs.Outcomes.{asked, usage_outcome, recover_outcome, migrate_outcome, gen_outcome, bench_outcome, run_not_gen, run_not_bench, gen_not_bench, same_measure}
 use Rattle.snap_run.proofs.solo.answer.Goals as goal
 use Rattle.snap_outside.proofs.AtFault.{surely}
 use Rattle.command_words.specs.Commands.{IsCommand}
@@ -22,6 +22,26 @@ returns-in-Ok-Run-clause-outcome g c =
 
 pub returns-in-Ok-Run-clause-opens : goal.returns-in-Ok-Run-clause-opens
 returns-in-Ok-Run-clause-opens g c = c.run_input.ensures.opens (map string_bytes c.args.words.now)
+
+-- ---- the logs are recovered, or migrated
+
+pub returns-in-Ok-Recover-clause-outcome : goal.returns-in-Ok-Recover-clause-outcome
+returns-in-Ok-Recover-clause-outcome g c =
+    let words = map string_bytes c.args.words.now in
+    let u : Use = use_of words (reading_of g.I.Source.left g.I.Source.faults c.args.input.now c.args.input.now)
+    (writing_of g.O.Sink.taken g.O.Sink.faults c.args.out.now c.print_recovered.new.out) (writing_of g.T.Sink.taken g.T.Sink.faults c.args.trace.now c.args.trace.now) c.new-in-Ok-Recover.result.items
+    (devices_of g.D.LogDev.told g.D.LogDev.faults c.args.logs.now.items) (devices_of g.D.LogDev.told g.D.LogDev.faults c.print_recovered.new.devices.items) in
+    recover_outcome c.one_command.ensures u c.print_recovered.result (subst (λ (k : Command). IsCommand words k) c.in-Ok-Recover.field-0-is c.in-Ok-Recover.ensures) (Keeps-refl _)
+    c.new-in-Ok-Recover.ensures.items (Keeps-refl _) c.print_recovered.ensures.opened c.print_recovered.ensures.safe c.print_recovered.ensures.answer
+
+pub returns-in-Ok-Migrate-clause-outcome : goal.returns-in-Ok-Migrate-clause-outcome
+returns-in-Ok-Migrate-clause-outcome g c =
+    let words = map string_bytes c.args.words.now in
+    let u : Use = use_of words (reading_of g.I.Source.left g.I.Source.faults c.args.input.now c.args.input.now)
+    (writing_of g.O.Sink.taken g.O.Sink.faults c.args.out.now c.print_migrated.new.out) (writing_of g.T.Sink.taken g.T.Sink.faults c.args.trace.now c.args.trace.now) c.new-in-Ok-Migrate.result.items
+    (devices_of g.D.LogDev.told g.D.LogDev.faults c.args.logs.now.items) (devices_of g.D.LogDev.told g.D.LogDev.faults c.print_migrated.new.devices.items) in
+    migrate_outcome c.one_command.ensures u c.print_migrated.result (subst (λ (k : Command). IsCommand words k) c.in-Ok-Migrate.field-0-is c.in-Ok-Migrate.ensures) (Keeps-refl _)
+    c.new-in-Ok-Migrate.ensures.items (Keeps-refl _) c.print_migrated.ensures.safe c.print_migrated.ensures.answer
 
 -- ---- a generated text is printed
 

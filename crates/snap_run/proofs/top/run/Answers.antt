@@ -14,6 +14,9 @@ returns-clause-complete g c = λ text w records o untroubled.
 pub returns-clause-complete_recover : goal.returns-clause-complete_recover
 returns-clause-complete_recover g c = λ kept may. c.done_or_no_memory.ensures.complete_recover _ c.crew_answer-kept.result.status kept c.crew_answer-kept.ensures.outcome may
 
+pub returns-clause-complete_migrate : goal.returns-clause-complete_migrate
+returns-clause-complete_migrate g c = λ kept may. c.done_or_no_memory.ensures.complete_migrate _ c.crew_answer-kept.result.status kept c.crew_answer-kept.ensures.outcome may
+
 pub returns-clause-complete_gen : goal.returns-clause-complete_gen
 returns-clause-complete_gen g c = λ may. c.done_or_no_memory.ensures.complete_gen _ c.crew_answer-kept.result.status c.crew_answer-kept.ensures.outcome may
 
