@@ -13,8 +13,8 @@ mod reads;
 mod sizes;
 
 pub use laws::{
-    append_is_whole, beginning_is_safe, damage_is_no_log, logs_are_lists, one_damage, one_difference,
-    one_list, one_reading, opening_is_safe, upgrade_is_safe,
+    append_is_whole, beginning_is_safe, damage_is_no_log, logs_are_lists, one_damage,
+    one_difference, one_list, one_reading, opening_is_safe, upgrade_is_safe,
 };
 pub use limits::{FARTHEST_END, LARGEST_GROUP, LONGEST_ITEM, NEW_LOG_SIZE};
 pub use logs::{AppendNo, Log, LogItem};

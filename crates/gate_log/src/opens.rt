@@ -106,10 +106,7 @@ impl<D: LogDev> Log<D> {
 }
 
 /// Finds the log on the device, or makes it one.
-fn find_log<D: LogDev>(
-    alloc: Global,
-    dev: &mut D,
-) -> Result<(u64, Sequence<LogItem>, u8), OpenNo>
+fn find_log<D: LogDev>(alloc: Global, dev: &mut D) -> Result<(u64, Sequence<LogItem>, u8), OpenNo>
     ensures opened { IfOk result (λ log. Opened (D.told dev.old) (D.told dev.new) log.0 log.1) }
     ensures log { IfOk result (λ log. IfSome (D.told dev.new) (λ h. DeviceLog h log.0 (bytes_of log.1))) }
     ensures placed { IfOk result (λ log. (bytes : List ℕ) × IsPlacedLogAt bytes log.0 log.1) }

@@ -160,12 +160,14 @@ new_kept {C} w earlier o s logs (b ∷ bs) g h = by (is_in w.text.logs logs (OfB
         let t = middle (TellsOf s.desk.batches s.book.acts) (machine.BatchInfo b.bid x.actors x.tids) x.front x.rest (subst (AllByRecursion (TellsOf s.desk.batches s.book.acts)) x.info (g.tells (b.bid % w.text.logs))) in
         let same : batch_tids b ≡ x.tids = mapped_is batch_tids (batch_of b.bid s.desk.batches) b x.tids h.0 t.1 in
         let d = done_told w earlier o s logs b.bid g e in
-        let values : map (λ p. value_of p.result) b.pacts ≡ d.at.values = values_back b.pacts d.at.values (mapped_is batch_results (batch_of b.bid s.desk.batches) b (map valued d.at.values) h.0 d.results) in
-        ((
-          in_new w earlier o s logs b.bid g e,
-          (actors_of x.actors, subst (λ z. IsInfoOf (grown earlier logs) (bid_of b.bid) (actors_of x.actors) (tids_of z)) (sym same) (info_new w earlier o s logs b.bid x.actors x.tids x.front x.rest g x.info)),
-          (BatchDone (bid_of b.bid) d.at.values, done_new w earlier o s logs b.bid d.at.values d.at.front d.at.rest g d.at.splits, values),
-        ), r)
+        let values : map (λ p. value_of p.result) b.pacts ≡ d.at.values = values_back b.pacts d.at.values (mapped_is batch_results (batch_of b.bid s.desk.batches) b (map valued d.at.values) h.0 d.results) in (
+          (
+            in_new w earlier o s logs b.bid g e,
+            (actors_of x.actors, subst (λ z. IsInfoOf (grown earlier logs) (bid_of b.bid) (actors_of x.actors) (tids_of z)) (sym same) (info_new w earlier o s logs b.bid x.actors x.tids x.front x.rest g x.info)),
+            (BatchDone (bid_of b.bid) d.at.values, done_new w earlier o s logs b.bid d.at.values d.at.front d.at.rest g d.at.splits, values),
+          ),
+          r,
+        )
     by false e r = r
 
 pub number_is : (c : ℕ) (st : Status) → is_at c st ≡ true → number_of st ≡ c

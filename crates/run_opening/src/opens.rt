@@ -10,9 +10,7 @@ ghost use Rattle.run_opening.specs.Writes.{IsWritten, IsNotWritten, HasBegun, Ha
 
 use crate::limits::LARGEST_START;
 use crate::starts::{Start, start_from};
-use gate_log::{
-    AppendNo, FARTHEST_END, Log, beginning_is_safe, one_reading, opening_is_safe,
-};
+use gate_log::{AppendNo, FARTHEST_END, Log, beginning_is_safe, one_reading, opening_is_safe};
 use log_opening::{LogsNo, OpenLogs, close, no_call_is_safe, no_logs, open_and_decode};
 use record_log::{
     append_records, few_may_be_appended, history_grows, no_more_records, one_list_of_records,

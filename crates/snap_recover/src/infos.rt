@@ -83,8 +83,5 @@ pub(crate) fn copy_values(
     let Some(values) = values_at(rs, place, bid) else {
         return Ok(Sequence::new(alloc));
     };
-    Ok(Sequence::from_vec(Vec::from_slice(
-        alloc,
-        values.as_slice(),
-    )?))
+    Ok(Sequence::from_vec(Vec::from_slice(alloc, values.as_slice())?))
 }

@@ -10,11 +10,20 @@ pub enum RecoverNo {
     /// The logs have more than one.
     TwoGenesis,
     /// Genesis says that there are `kept` logs, and `found` are here.
-    LogCount { kept: u64, found: u64 },
+    LogCount {
+        kept: u64,
+        found: u64,
+    },
     /// The record with the key, in this log, names an actor that there is not, or a number above 2^62.
-    Range { key: Key, log: u8 },
+    Range {
+        key: Key,
+        log: u8,
+    },
     /// What rests on the record with the key is committed, and that is not in this log.
-    Missing { key: Key, log: u8 },
+    Missing {
+        key: Key,
+        log: u8,
+    },
     /// The batch with the commit of this key, in this log, has `kept` transactions, and its commit tells `found` values.
     Values {
         key: Key,

@@ -92,89 +92,89 @@ module _ (one : OneCommand) (laws : RecordLaws) (never : NeverBoth) (u : Use) (l
     (quiet : (log : ℕ) → log < length u.devices_before → ¬ Rose (device_at u.devices_before log).faults (device_at u.devices_after log).faults)
     (sink : ¬ Rose u.writing.faults_before u.writing.faults_after)
   where
-  some : 0 < length logs
-  some = omega (arith, ap (λ (l : List (List Record)). length l) recovers.1.said.2)
+    some : 0 < length logs
+    some = omega (arith, ap (λ (l : List (List Record)). length l) recovers.1.said.2)
 
-  -- what log 0 holds says how many there are
-  said : (first : List Record) → Holds (device_at u.devices_before 0) first → logs_said first ≡ length logs
-  said first holds =
-      let here = same_records laws.one_list (device_at u.devices_before 0) (get_or logs 0 []) first (told_at (length logs) u.devices_before logs 0 recovers.1.told some) holds in
-      let same : first ≡ recovers.1.said.0 = here ∙ ap (λ (l : List (List Record)). get_or l 0 []) recovers.1.said.2 in
-      ap (λ (rs : List Record). logs_said rs) same ∙ sym recovers.1.said.3
+    -- what log 0 holds says how many there are
+    said : (first : List Record) → Holds (device_at u.devices_before 0) first → logs_said first ≡ length logs
+    said first holds =
+        let here = same_records laws.one_list (device_at u.devices_before 0) (get_or logs 0 []) first (told_at (length logs) u.devices_before logs 0 recovers.1.told some) holds in
+        let same : first ≡ recovers.1.said.0 = here ∙ ap (λ (l : List (List Record)). get_or l 0 []) recovers.1.said.2 in
+        ap (λ (rs : List Record). logs_said rs) same ∙ sym recovers.1.said.3
 
-  asked_below : (log : ℕ) → IsAsked u.devices_before log → log < length logs
-  asked_below log (inl zero_is) = omega (arith, some, zero_is)
-  asked_below log (inr named) = omega (arith, named.2, said named.0 named.1)
+    asked_below : (log : ℕ) → IsAsked u.devices_before log → log < length logs
+    asked_below log (inl zero_is) = omega (arith, some, zero_is)
+    asked_below log (inr named) = omega (arith, named.2, said named.0 named.1)
 
-  given_same : (xs : List (List Record)) → AreGiven u.devices_before xs → xs ≡ logs
-  given_same xs given =
-      let many : length xs ≡ length logs = given.3 ∙ said given.0 (holds_first (length xs) u.devices_before xs given.1 given.0 given.2 given.5) in
-      same_logs laws.one_list (take (length logs) u.devices_before) xs logs (subst (λ (n : ℕ). AllZip Holds (take n u.devices_before) xs) many given.5) recovers.1.told
+    given_same : (xs : List (List Record)) → AreGiven u.devices_before xs → xs ≡ logs
+    given_same xs given =
+        let many : length xs ≡ length logs = given.3 ∙ said given.0 (holds_first (length xs) u.devices_before xs given.1 given.0 given.2 given.5) in
+        same_logs laws.one_list (take (length logs) u.devices_before) xs logs (subst (λ (n : ℕ). AllZip Holds (take n u.devices_before) xs) many given.5) recovers.1.told
 
-  given_not_refused : (xs : List (List Record)) (log : ℕ) (c : LogCause) → AreGiven u.devices_before xs → IsRecoveryCause xs log c → ⊥
-  given_not_refused xs log c given why =
-      recovers_not_refused never logs recovers.0 log c recovers.1.recovered (subst (λ (l : List (List Record)). IsRecoveryCause l log c) (given_same xs given) why)
+    given_not_refused : (xs : List (List Record)) (log : ℕ) (c : LogCause) → AreGiven u.devices_before xs → IsRecoveryCause xs log c → ⊥
+    given_not_refused xs log c given why =
+        recovers_not_refused never logs recovers.0 log c recovers.1.recovered (subst (λ (l : List (List Record)). IsRecoveryCause l log c) (given_same xs given) why)
 
-  none_refused : (after : List Device) (log offset : ℕ) (c : LogCause) → AreRefused u.devices_before after log offset c → ⊥
-  none_refused after log offset cause.NotALog x =
-      let tells = told_at (length logs) u.devices_before logs log recovers.1.told (asked_below log x.0) in
-      let why = subst (λ o. Refused o (device_at after log).told (refusal.NotALog offset)) tells.1 x.1 in
-      laws.foreign (content tells.0) (get_or logs log []) offset why.1.0 tells.2 why.1.1
-  none_refused after log offset cause.Damage x =
-      let tells = told_at (length logs) u.devices_before logs log recovers.1.told (asked_below log x.0) in
-      let why = subst (λ o. Refused o (device_at after log).told (refusal.Damage offset)) tells.1 x.1 in
-      laws.damaged (content tells.0) (get_or logs log []) offset why.1.0 tells.2 why.1.1
-  none_refused after log offset cause.BadRecord x =
-      let tells = told_at (length logs) u.devices_before logs log recovers.1.told (asked_below log x.0) in
-      let opened = subst (λ o. Opened o (device_at after log).told x.1.0 x.1.1) tells.1 x.1.2 in
-      laws.bad tells.0 (device_at after log).told x.1.0 offset x.1.1 (get_or logs log []) opened tells.2 x.1.3
-  none_refused after log offset cause.NoGenesis x = given_not_refused x.1.0 log cause.NoGenesis x.1.1 x.1.2
-  none_refused after log offset cause.TwoGenesis x = given_not_refused x.1.0 log cause.TwoGenesis x.1.1 x.1.2
-  none_refused after log offset (cause.LogCount k f) x = given_not_refused x.1.0 log (cause.LogCount k f) x.1.1 x.1.2
-  none_refused after log offset (cause.Range k) x = given_not_refused x.1.0 log (cause.Range k) x.1.1 x.1.2
-  none_refused after log offset (cause.Missing k) x = given_not_refused x.1.0 log (cause.Missing k) x.1.1 x.1.2
-  none_refused after log offset cause.OldFormat x = given_not_refused x.1.0 log cause.OldFormat x.1.1 x.1.2
-  none_refused after log offset (cause.Values k kept found) x = given_not_refused x.1.0 log (cause.Values k kept found) x.1.1 x.1.2
-  none_refused after log offset (cause.Spent n) x = given_not_refused x.1.0 log (cause.Spent n) x.1.1 x.1.2
-  none_refused after log offset (cause.Differs w k t) x = given_not_refused x.1.0 log (cause.Differs w k t) x.1.1 x.1.2
+    none_refused : (after : List Device) (log offset : ℕ) (c : LogCause) → AreRefused u.devices_before after log offset c → ⊥
+    none_refused after log offset cause.NotALog x =
+        let tells = told_at (length logs) u.devices_before logs log recovers.1.told (asked_below log x.0) in
+        let why = subst (λ o. Refused o (device_at after log).told (refusal.NotALog offset)) tells.1 x.1 in
+        laws.foreign (content tells.0) (get_or logs log []) offset why.1.0 tells.2 why.1.1
+    none_refused after log offset cause.Damage x =
+        let tells = told_at (length logs) u.devices_before logs log recovers.1.told (asked_below log x.0) in
+        let why = subst (λ o. Refused o (device_at after log).told (refusal.Damage offset)) tells.1 x.1 in
+        laws.damaged (content tells.0) (get_or logs log []) offset why.1.0 tells.2 why.1.1
+    none_refused after log offset cause.BadRecord x =
+        let tells = told_at (length logs) u.devices_before logs log recovers.1.told (asked_below log x.0) in
+        let opened = subst (λ o. Opened o (device_at after log).told x.1.0 x.1.1) tells.1 x.1.2 in
+        laws.bad tells.0 (device_at after log).told x.1.0 offset x.1.1 (get_or logs log []) opened tells.2 x.1.3
+    none_refused after log offset cause.NoGenesis x = given_not_refused x.1.0 log cause.NoGenesis x.1.1 x.1.2
+    none_refused after log offset cause.TwoGenesis x = given_not_refused x.1.0 log cause.TwoGenesis x.1.1 x.1.2
+    none_refused after log offset (cause.LogCount k f) x = given_not_refused x.1.0 log (cause.LogCount k f) x.1.1 x.1.2
+    none_refused after log offset (cause.Range k) x = given_not_refused x.1.0 log (cause.Range k) x.1.1 x.1.2
+    none_refused after log offset (cause.Missing k) x = given_not_refused x.1.0 log (cause.Missing k) x.1.1 x.1.2
+    none_refused after log offset cause.OldFormat x = given_not_refused x.1.0 log cause.OldFormat x.1.1 x.1.2
+    none_refused after log offset (cause.Values k kept found) x = given_not_refused x.1.0 log (cause.Values k kept found) x.1.1 x.1.2
+    none_refused after log offset (cause.Spent n) x = given_not_refused x.1.0 log (cause.Spent n) x.1.1 x.1.2
+    none_refused after log offset (cause.Differs w k t) x = given_not_refused x.1.0 log (cause.Differs w k t) x.1.1 x.1.2
 
-  -- ---- the answers that are left
+    -- ---- the answers that are left
 
-  recover_completed : (s : Status) → IsRecoverAnswer u.devices_before u.devices_after u.writing s → (s ≡ status.Done) ⊎ (s ≡ status.Memory)
-  recover_completed status.Done a = inl refl
-  recover_completed status.Memory a = inr refl
-  recover_completed (status.Usage place) a = absurd a
-  recover_completed (status.Input line c) a = absurd a
-  recover_completed (status.Logs log offset c) a = absurd (none_refused u.devices_after log offset c a.0)
-  recover_completed status.ReadFault a = absurd a
-  recover_completed (status.LogFault log) a = absurd (quiet log a.0.0 a.0.1)
-  recover_completed status.OutFault a = absurd (sink a.6)
-  recover_completed status.TraceFault a = absurd a
+    recover_completed : (s : Status) → IsRecoverAnswer u.devices_before u.devices_after u.writing s → (s ≡ status.Done) ⊎ (s ≡ status.Memory)
+    recover_completed status.Done a = inl refl
+    recover_completed status.Memory a = inr refl
+    recover_completed (status.Usage place) a = absurd a
+    recover_completed (status.Input line c) a = absurd a
+    recover_completed (status.Logs log offset c) a = absurd (none_refused u.devices_after log offset c a.0)
+    recover_completed status.ReadFault a = absurd a
+    recover_completed (status.LogFault log) a = absurd (quiet log a.0.0 a.0.1)
+    recover_completed status.OutFault a = absurd (sink a.6)
+    recover_completed status.TraceFault a = absurd a
 
-  migrate_completed : (s : Status) → IsMigrateAnswer u.devices_before u.devices_after u.writing s → (s ≡ status.Done) ⊎ (s ≡ status.Memory)
-  migrate_completed status.Done a = inl refl
-  migrate_completed status.Memory a = inr refl
-  migrate_completed (status.Usage place) a = absurd a
-  migrate_completed (status.Input line c) a = absurd a
-  migrate_completed (status.Logs log offset c) a = absurd (none_refused u.devices_after log offset c a.0)
-  migrate_completed status.ReadFault a = absurd a
-  migrate_completed (status.LogFault log) (inl failed, nothing) = absurd (quiet log failed.0 failed.1)
-  migrate_completed (status.LogFault log) (inr fails, nothing) = absurd (quiet log fails.there fails.rose)
-  migrate_completed status.OutFault a = absurd (sink a.3)
-  migrate_completed status.TraceFault a = absurd a
+    migrate_completed : (s : Status) → IsMigrateAnswer u.devices_before u.devices_after u.writing s → (s ≡ status.Done) ⊎ (s ≡ status.Memory)
+    migrate_completed status.Done a = inl refl
+    migrate_completed status.Memory a = inr refl
+    migrate_completed (status.Usage place) a = absurd a
+    migrate_completed (status.Input line c) a = absurd a
+    migrate_completed (status.Logs log offset c) a = absurd (none_refused u.devices_after log offset c a.0)
+    migrate_completed status.ReadFault a = absurd a
+    migrate_completed (status.LogFault log) (inl failed, nothing) = absurd (quiet log failed.0 failed.1)
+    migrate_completed (status.LogFault log) (inr fails, nothing) = absurd (quiet log fails.there fails.rose)
+    migrate_completed status.OutFault a = absurd (sink a.3)
+    migrate_completed status.TraceFault a = absurd a
 
-  pub completed_recover : IsRecover u.words → (s : Status) → IsAnswer u s → (s ≡ status.Done) ⊎ (s ≡ status.Memory)
-  completed_recover recover s (inl x) = absurd (not_both one u.words x.0 x.1 x.2 recover)
-  completed_recover recover s (inr (inl x)) = recover_completed s x.4
-  completed_recover recover s (inr (inr (inl x))) = absurd (recover_not_gen one u.words x.0 x.1 recover x.2)
-  completed_recover recover s (inr (inr (inr (inl x)))) = absurd (recover_not_bench one u.words x.0 x.1 x.2 recover x.3)
-  completed_recover recover s (inr (inr (inr (inr (inl x))))) = absurd (recover_not_migrate one u.words recover x.0)
-  completed_recover recover s (inr (inr (inr (inr (inr x))))) = absurd (x.0.2.no_form (inr (inl recover)))
+    pub completed_recover : IsRecover u.words → (s : Status) → IsAnswer u s → (s ≡ status.Done) ⊎ (s ≡ status.Memory)
+    completed_recover recover s (inl x) = absurd (not_both one u.words x.0 x.1 x.2 recover)
+    completed_recover recover s (inr (inl x)) = recover_completed s x.4
+    completed_recover recover s (inr (inr (inl x))) = absurd (recover_not_gen one u.words x.0 x.1 recover x.2)
+    completed_recover recover s (inr (inr (inr (inl x)))) = absurd (recover_not_bench one u.words x.0 x.1 x.2 recover x.3)
+    completed_recover recover s (inr (inr (inr (inr (inl x))))) = absurd (recover_not_migrate one u.words recover x.0)
+    completed_recover recover s (inr (inr (inr (inr (inr x))))) = absurd (x.0.2.no_form (inr (inl recover)))
 
-  pub completed_migrate : IsMigrate u.words → (s : Status) → IsAnswer u s → (s ≡ status.Done) ⊎ (s ≡ status.Memory)
-  completed_migrate migrate s (inl x) = absurd (run_not_migrate one u.words x.0 x.1 x.2 migrate)
-  completed_migrate migrate s (inr (inl x)) = absurd (recover_not_migrate one u.words x.0 migrate)
-  completed_migrate migrate s (inr (inr (inl x))) = absurd (gen_not_migrate one u.words x.0 x.1 x.2 migrate)
-  completed_migrate migrate s (inr (inr (inr (inl x)))) = absurd (bench_not_migrate one u.words x.0 x.1 x.2 x.3 migrate)
-  completed_migrate migrate s (inr (inr (inr (inr (inl x))))) = migrate_completed s x.4
-  completed_migrate migrate s (inr (inr (inr (inr (inr x))))) = absurd (x.0.2.no_form (inr (inr (inr (inr migrate)))))
+    pub completed_migrate : IsMigrate u.words → (s : Status) → IsAnswer u s → (s ≡ status.Done) ⊎ (s ≡ status.Memory)
+    completed_migrate migrate s (inl x) = absurd (run_not_migrate one u.words x.0 x.1 x.2 migrate)
+    completed_migrate migrate s (inr (inl x)) = absurd (recover_not_migrate one u.words x.0 migrate)
+    completed_migrate migrate s (inr (inr (inl x))) = absurd (gen_not_migrate one u.words x.0 x.1 x.2 migrate)
+    completed_migrate migrate s (inr (inr (inr (inl x)))) = absurd (bench_not_migrate one u.words x.0 x.1 x.2 x.3 migrate)
+    completed_migrate migrate s (inr (inr (inr (inr (inl x))))) = migrate_completed s x.4
+    completed_migrate migrate s (inr (inr (inr (inr (inr x))))) = absurd (x.0.2.no_form (inr (inr (inr (inr migrate)))))

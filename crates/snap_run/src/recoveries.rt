@@ -100,7 +100,12 @@ fn push_batch(
     ensures { OnOk result (string_bytes text.new ≡ string_bytes text.old ++ batch_text bid tids.now values.now) }
 {
     for (number, tid) in tids.iter().enumerate() {
-        push_line(alloc, text, pact_place(bid, *tid), values.get(number).copied())?;
+        push_line(
+            alloc,
+            text,
+            pact_place(bid, *tid),
+            values.get(number).copied(),
+        )?;
     }
     Ok(())
 }

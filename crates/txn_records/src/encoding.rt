@@ -44,9 +44,13 @@ pub fn encode(alloc: Global, r: &Record) -> Result<Vec<u8>, Memory>
             put_act(&mut out, *tid, *m, *c, actors.as_slice())?
         }
         Record::BatchDone { bid, values } => put_done(&mut out, *bid, values.as_slice())?,
-        Record::ActDone { tid, m, c, value, actors } => {
-            put_act_done(&mut out, *tid, *m, *c, *value, actors.as_slice())?
-        }
+        Record::ActDone {
+            tid,
+            m,
+            c,
+            value,
+            actors,
+        } => { put_act_done(&mut out, *tid, *m, *c, *value, actors.as_slice())? }
     }
     Ok(out)
 }
@@ -132,7 +136,14 @@ fn put_done(out: &mut Vec<u8>, bid: Bid, values: &[i64]) -> Result<(), Memory>
     put_fields(out, values)
 }
 
-fn put_act_done(out: &mut Vec<u8>, tid: Tid, m: Bid, c: u64, value: i64, actors: &[ActorId]) -> Result<(), Memory>
+fn put_act_done(
+    out: &mut Vec<u8>,
+    tid: Tid,
+    m: Bid,
+    c: u64,
+    value: i64,
+    actors: &[ActorId],
+) -> Result<(), Memory>
     requires { length actors.now ≤ MOST_LISTED }
     ensures { OnOk result (out.new.items ≡ out.old.items ++ act_done_bytes tid m c value actors.now) }
 {
@@ -141,7 +152,13 @@ fn put_act_done(out: &mut Vec<u8>, tid: Tid, m: Bid, c: u64, value: i64, actors:
     put_outcome(out, m, c, value, actors)
 }
 
-fn put_outcome(out: &mut Vec<u8>, m: Bid, c: u64, value: i64, actors: &[ActorId]) -> Result<(), Memory>
+fn put_outcome(
+    out: &mut Vec<u8>,
+    m: Bid,
+    c: u64,
+    value: i64,
+    actors: &[ActorId],
+) -> Result<(), Memory>
     requires { length actors.now ≤ MOST_LISTED }
     ensures { OnOk result (out.new.items ≡ out.old.items ++ (to_be_bytes w64 m.0 ++ (to_be_bytes w64 c ++ (field_bytes value ++ (to_be_bytes w16 (length actors.now) ++ actors_bytes actors.now))))) }
 {
