@@ -8,9 +8,9 @@ use Rattle.gate_log.specs.declared.limits.TheConstants.{FARTHEST_END}
 use Rattle.gate_log.specs.declared.logs.LogItem.{LogItem}
 use Rattle.gate_log.specs.declared.opens.OpenNo.{OpenNo}
 use Rattle.gate_log.specs.declared.opens.OpenNo.TheVariants as refusal
-use Rattle.std.specs.Prelude.{IfSome}
+use Rattle.std.specs.Prelude.{IfSome, ◌⊎◌}
 use Rattle.gate_log.specs.Bytes.{IsPlacedLogAt}
-use Rattle.gate_log.specs.Device.{DeviceLog}
+use Rattle.gate_log.specs.Device.{DeviceLog, HasFormat}
 use Rattle.gate_log.specs.State.{LogState}
 use Rattle.gate_log.specs.Opened.{Opened, Refused, bytes_of}
 use Rattle.record_log.specs.Records.{HoldsRecords, KeepsRecords}
@@ -24,9 +24,9 @@ use Rattle.log_opening.specs.Found.{IsFoundOn, IsReadyLog, IsClosed, IsTouched, 
 -- ---- a log that is opened
 
 pub found_on : (d : Device) (log taken : LogState) (items : List LogItem) → Opened d.told log.told log.end log.found → KeepsRecords d.told log.told
-    → IfSome log.told (λ h. DeviceLog h log.end (bytes_of log.found)) → ((bytes : List ℕ) × IsPlacedLogAt bytes log.end log.found) → log.shut ≡ false → log.end ≤ FARTHEST_END
-    → d.faults ≤ log.faults → items ≡ log.found → taken ≡ record log { found = [] } → IsFoundOn d (as_device taken) items × IsReadyLog taken items
-found_on d log taken items opened keeps holds placed unshut low later same emptied =
+    → IfSome log.told (λ h. DeviceLog h log.end (bytes_of log.found)) → ((bytes : List ℕ) × IsPlacedLogAt bytes log.end log.found) → HasFormat log.told log.format → (log.format ≡ 1) ⊎ (log.format ≡ 2)
+    → log.shut ≡ false → log.end ≤ FARTHEST_END → d.faults ≤ log.faults → items ≡ log.found → taken ≡ record log { found = [] } → IsFoundOn d (as_device taken) items × IsReadyLog taken items
+found_on d log taken items opened keeps holds placed formatted known unshut low later same emptied =
     subst (λ (l : LogState). IsFoundOn d (as_device l) items × IsReadyLog l items) (sym emptied)
     (subst (λ (is : List LogItem). IsFoundOn d (as_device log) is × IsReadyLog (record log { found = [] }) is) (sym same) (
       record {
@@ -34,7 +34,7 @@ found_on d log taken items opened keeps holds placed unshut low later same empti
         placed = (placed.0, log.end, placed.1, low);
         safe = record { records = keeps; later = later };
       },
-      record { holds = holds; low = low; ready = unshut },
+      record { holds = holds; formatted = formatted; known = known; low = low; ready = unshut },
     ))
 
 -- ---- one more device
@@ -72,13 +72,13 @@ found_next [] after (i ∷ is) are = absurd are
 found_next (b ∷ bs) [] (i ∷ is) are = absurd are
 found_next (b ∷ bs) (a ∷ more) (i ∷ is) are = found_next bs more is are.1
 
-found_zip : (before after : List Device) (found : List (List LogItem)) → AreFound before after found → AllZip IsOpened (take (length found) before) (take (length found) after)
+pub found_zip : (before after : List Device) (found : List (List LogItem)) → AreFound before after found → AllZip IsOpened (take (length found) before) (take (length found) after)
 found_zip before after [] are = tt
 found_zip [] after (i ∷ is) are = absurd are
 found_zip (b ∷ bs) [] (i ∷ is) are = absurd are
 found_zip (b ∷ bs) (a ∷ more) (i ∷ is) are = ((are.0.opened.0, i, are.0.opened.1), found_zip bs more is are.1)
 
-found_rest : (before after : List Device) (found : List (List LogItem)) → AreFound before after found → drop (length found) after ≡ drop (length found) before
+pub found_rest : (before after : List Device) (found : List (List LogItem)) → AreFound before after found → drop (length found) after ≡ drop (length found) before
 found_rest before after [] are = are
 found_rest [] after (i ∷ is) are = absurd are
 found_rest (b ∷ bs) [] (i ∷ is) are = absurd are
@@ -109,7 +109,7 @@ keeps_same (Some h) = (
   λ quiet rs held image left. subst (λ (b : List ℕ). HoldsRecords b rs) (sym (image_is (content h) image (subst (λ d. IsImage d image) quiet left))) held,
 )
 
-untouched : (d : Device) → IsTouched d d
+pub untouched : (d : Device) → IsTouched d d
 untouched d = record { opened = inl refl; safe = record { records = keeps_same d.told; later = omega arith } }
 
 pub all_untouched : (ds : List Device) → AllZip IsTouched ds ds

@@ -1,12 +1,16 @@
 -- What upgrading open logs leaves of them.
-use Rattle.std.specs.Prelude.{◌≡◌, ◌≢◌, ℕ, ◌<◌, ◌≤◌, ◌⊎◌, false, None, List, [], length, slice_index_or}
+use Rattle.std.specs.Prelude.{◌≡◌, ◌≢◌, ℕ, ◌+◌, ◌==◌, ◌<◌, ◌≤◌, ◌⊎◌, if◌then◌else◌, Bool, false, Option, None, IfSome, List, [], ◌∷◌, length, take, drop, slice_index_or}
+use Rattle.std.specs.List.{AllZip}
 use Rattle.snap_outside.specs.Causes.{Rose}
-use Rattle.snap_outside.specs.Disk.{AddsAll, AddsUpToFault}
+use Rattle.snap_outside.specs.Disk.{History, content, AddsAll, AddsUpToFault}
 use Rattle.gate_log.specs.declared.logs.LogItem.{LogItem}
 use Rattle.gate_log.specs.Appends.{upgrade_ops}
+use Rattle.gate_log.specs.Bytes.{format_in}
 use Rattle.gate_log.specs.Device.{Upgraded, UpgradesSafely}
+use Rattle.gate_log.specs.Opened.{Opened}
 use Rattle.gate_log.specs.State.{LogState}
 use Rattle.snap_recover.specs.declared.causes.LogCause.TheVariants as cause
+use Rattle.log_opening.specs.Devices.{Device, device_at, IsBegun, IsOpened}
 use Rattle.log_opening.specs.declared.refusals.LogsNo.{LogsNo}
 use Rattle.log_opening.specs.declared.refusals.LogsNo.TheVariants as ending
 
@@ -29,11 +33,11 @@ pub record IsUpgradeFailed (old new : LogState) : Type 0 where
   pub rose : Rose old.faults new.faults
   pub later : old.faults ≤ new.faults
 
--- ---- logs that are made ready for appends
+-- ---- logs that are made ready for appends, but those for which items are listed
 
--- The log, which has these items, is as it was, since it is of format 2 or has some; or it is upgraded.
+-- The log is as it was, since it is not of format 1 or these are some items; or it is upgraded.
 abbrev pub IsMadeReady : LogState → LogState → List LogItem → Type 0
-IsMadeReady old new items = ((new ≡ old) × ((old.format ≡ 2) ⊎ (items ≢ []))) ⊎ ((items ≡ []) × (old.format ≡ 1) × IsUpgraded old new)
+IsMadeReady old new items = ((new ≡ old) × ((old.format ≢ 1) ⊎ (items ≢ []))) ⊎ ((items ≡ []) × (old.format ≡ 1) × IsUpgraded old new)
 
 -- it was to be upgraded, and its device failed
 abbrev pub IsNotMadeReady : LogState → LogState → List LogItem → Type 0
@@ -77,3 +81,33 @@ AreNotReady old new found (ending.Refused log offset cause.OldFormat) = (offset 
 AreNotReady old new found (ending.Refused log offset c) = ⊥
 AreNotReady old new found (ending.Device log) = IsStopped log old new found
 AreNotReady old new found ending.Memory = ⊥
+
+-- ---- logs all of which are made ready
+
+-- So many of these devices hold a log of format 1, where they tell what they hold.
+abbrev pub AreOld : List Device → ℕ → Type 0
+AreOld [] count = count ≡ 0
+AreOld (d ∷ devices) count =
+    (others : ℕ) × (old : Bool) × AreOld devices others × (count ≡ (if old then 1 else 0) + others) × IfSome d.told (λ h. old ≡ (format_in (content h) == 1))
+
+-- The device was opened, its log was of format 1, and the upgrade met a fault.
+abbrev pub IsCutOff : Device → Device → Type 0
+IsCutOff before after =
+    (end : ℕ) × (found : List LogItem) × (opened : Option History) × Opened before.told opened end found × IfSome before.told (λ h. format_in (content h) ≡ 1)
+    × AddsUpToFault opened after.told upgrade_ops
+
+-- So many are opened. The upgrade of this log failed; those below it are of format 2, and those above it are only opened.
+pub record FailsBeginning (count : ℕ) (before after : List Device) (log : ℕ) : Type 0 where
+  pub asked : log < count
+  pub there : log < length before
+  pub cut_off : IsCutOff (device_at before log) (device_at after log)
+  pub rose : Rose (device_at before log).faults (device_at after log).faults
+  pub below : AllZip IsBegun (take log before) (take log after)
+  pub above : AllZip IsOpened (drop (log + 1) (take count before)) (drop (log + 1) (take count after))
+  pub others : drop count after ≡ drop count before
+
+-- why not all are of format 2, of so many
+abbrev pub IsNotBegun : ℕ → List Device → List Device → LogsNo → Type 0
+IsNotBegun count before after (ending.Device log) = FailsBeginning count before after log
+IsNotBegun count before after (ending.Refused log offset c) = ⊥
+IsNotBegun count before after ending.Memory = ⊥

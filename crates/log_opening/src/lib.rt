@@ -19,4 +19,4 @@ pub use laws::no_call_is_safe;
 pub use openings::{OpenLogs, close, no_logs, open_logs};
 pub use recovery::{open_and_recover, recover_kept};
 pub use refusals::{LogsNo, of_opening};
-pub use upgrades::upgrade_log;
+pub use upgrades::{count_old, upgrade_all};

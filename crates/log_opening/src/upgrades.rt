@@ -1,15 +1,20 @@
 //! Open logs of format 1 are made ones of format 2, to which may be appended.
-ghost use Rattle.std.specs.Prelude.{◌≡◌, ◌≢◌, ◌<◌, ◌≤◌, ℕ, length, vec_len, vec_capacity, false, MatchOption, MatchResult};
-ghost use Rattle.std.specs.List.{AllZip};
-ghost use Rattle.log_opening.specs.Found.{IsReadyLog};
-ghost use Rattle.log_opening.specs.Upgrades.{AreNotReady, AreReady, AreReadyBelow, IsMadeReady, IsNotMadeReady, IsStopped, IsUpgraded, IsUpgradeFailed, log_at};
+ghost use Rattle.std.specs.Prelude.{◌≡◌, ◌≢◌, ◌++◌, ◌<◌, ◌≤◌, ℕ, List, [], length, map, take, vec_len, vec_capacity, false, IfErr, MatchOption, MatchResult, OnOk};
+ghost use Rattle.std.specs.List.{AllByRecursion, AllZip};
+ghost use Rattle.gate_log.specs.declared.logs.LogItem.{LogItem};
+ghost use Rattle.log_opening.specs.Devices.{Device, AreBegun, as_device};
+ghost use Rattle.log_opening.specs.Found.{IsHandled, IsReadyLog};
+ghost use Rattle.log_opening.specs.Reads.{AreOpen};
+ghost use Rattle.log_opening.specs.Upgrades.{AreNotReady, AreOld, AreReady, AreReadyBelow, IsMadeReady, IsNotBegun, IsNotMadeReady, IsStopped, IsUpgraded, IsUpgradeFailed, items_at, log_at};
 
 use crate::LogsNo;
 use crate::openings::OpenLogs;
-use gate_log::{Log, LogItem};
+use gate_log::{Log, LogItem, logs_are_lists, one_list, opening_is_safe};
+use record_log::upgrade_keeps;
 use snap_base::Sequence;
 use snap_outside::{Failed, LogDev};
 use snap_recover::LogCause;
+use std::alloc::Global;
 
 /// Makes open logs ready for appends: each of format 1 that has no item is upgraded, from log 0 on. Then the first that is still of
 /// format 1 is refused.
@@ -23,7 +28,7 @@ pub(crate) fn make_ready<D: LogDev>(opened: &mut OpenLogs<D>) -> Result<(), Logs
     ensures len { vec_len opened.new.logs ≡ vec_len opened.old.logs }
     ensures room { vec_capacity opened.new.logs ≡ vec_capacity opened.old.logs }
 {
-    match upgrade_empty(&mut opened.logs, opened.found.as_slice()) {
+    match upgrade_logs(&mut opened.logs, opened.found.as_slice()) {
         Ok(()) => {}
         Err(log) => return Err(LogsNo::Device { log }),
     }
@@ -37,27 +42,76 @@ pub(crate) fn make_ready<D: LogDev>(opened: &mut OpenLogs<D>) -> Result<(), Logs
     }
 }
 
-/// Upgrades each log of format 1 that has no item. The error is the log whose device failed.
-fn upgrade_empty<D: LogDev>(logs: &mut Vec<Log<D>>, found: &[Sequence<LogItem>]) -> Result<(), u8>
+/// Makes all open logs ones of format 2, from log 0 on. Where the device of one fails, those above it are as they were.
+pub fn upgrade_all<D: LogDev>(alloc: Global, opened: &mut OpenLogs<D>) -> Result<(), LogsNo>
+    requires few { vec_len opened.old.logs ≤ 4 }
+    requires ready { AllZip IsReadyLog opened.old.logs.items opened.old.found }
+    ensures begun { OnOk result ((before others : List Device) → AreOpen before (map as_device opened.old.logs.items ++ others) opened.old.logs.items opened.old.found
+        → AreBegun (length opened.old.found) before (map as_device opened.new.logs.items ++ others)) }
+    ensures failed { IfErr result (λ no. (before others : List Device) → AreOpen before (map as_device opened.old.logs.items ++ others) opened.old.logs.items opened.old.found
+        → IsNotBegun (length opened.old.found) before (map as_device opened.new.logs.items ++ others) no) }
+    ensures handled { (before others : List Device) → AreOpen before (map as_device opened.old.logs.items ++ others) opened.old.logs.items opened.old.found
+        → AllZip IsHandled before (map as_device opened.new.logs.items ++ others) }
+    ensures len { vec_len opened.new.logs ≡ vec_len opened.old.logs }
+    ensures room { vec_capacity opened.new.logs ≡ vec_capacity opened.old.logs }
+{
+    logs_are_lists();
+    one_list();
+    opening_is_safe();
+    upgrade_keeps();
+    let none = Sequence::new(alloc);
+    match upgrade_logs(&mut opened.logs, none.as_slice()) {
+        Ok(()) => Ok(()),
+        Err(log) => Err(LogsNo::Device { log }),
+    }
+}
+
+/// How many open logs are of format 1.
+pub fn count_old<D: LogDev>(logs: &[Log<D>]) -> u8
+    requires { length logs.now ≤ 4 }
+    ensures { (before others : List Device) (found : List (List LogItem)) → AreOpen before (map as_device logs.now ++ others) logs.now found → AreOld (take (length found) before) result }
+{
+    opening_is_safe();
+    let mut count = 0;
+    for log in logs {
+        if log.format() == 1 {
+            count += 1;
+        }
+    }
+    count
+}
+
+/// Upgrades each log of format 1, from log 0 on, but those for which items are listed. The error is the log whose device failed.
+fn upgrade_logs<D: LogDev>(logs: &mut Vec<Log<D>>, listed: &[Sequence<LogItem>]) -> Result<(), u8>
     requires few { vec_len logs.old ≤ 4 }
-    requires ready { AllZip IsReadyLog logs.old.items found.now }
+    requires open { AllByRecursion (λ l. l.shut ≡ false) logs.old.items }
     ensures ready { MatchResult result
-        (λ _. AreReadyBelow (length logs.old.items) logs.old.items logs.new.items found.now)
-        (λ n. IsStopped n logs.old.items logs.new.items found.now) }
+        (λ _. AreReadyBelow (length logs.old.items) logs.old.items logs.new.items listed.now)
+        (λ n. IsStopped n logs.old.items logs.new.items listed.now) }
     ensures len { vec_len logs.new ≡ vec_len logs.old }
     ensures room { vec_capacity logs.new ≡ vec_capacity logs.old }
 {
-    for log in 0..found.len() {
-        if make_one_ready(&mut logs[log], found[log].as_slice()).is_err() {
+    for log in 0..logs.len() {
+        if make_one_ready(&mut logs[log], items_at(listed, log)).is_err() {
             return Err(log as u8);
         }
     }
     Ok(())
 }
 
-/// Upgrades a log of format 1 that has none of these items.
+/// The items that are listed for a log.
+fn items_at(listed: &[Sequence<LogItem>], log: usize) -> &[LogItem]
+    ensures { result.now ≡ items_at listed.now log }
+{
+    match listed.get(log) {
+        Some(items) => items.as_slice(),
+        None => &[],
+    }
+}
+
+/// Upgrades a log of format 1, where these are no items.
 fn make_one_ready<D: LogDev>(log: &mut Log<D>, items: &[LogItem]) -> Result<(), Failed>
-    requires { IsReadyLog log.old items.now }
+    requires { log.old.shut ≡ false }
     ensures { MatchResult result (λ _. IsMadeReady log.old log.new items.now) (λ _. IsNotMadeReady log.old log.new items.now) }
 {
     if log.format() == 1 && items.is_empty() {
@@ -82,7 +136,7 @@ fn first_old<D: LogDev>(logs: &[Log<D>]) -> Option<u8>
 }
 
 /// Makes an open log one of format 2.
-pub fn upgrade_log<D: LogDev>(log: &mut Log<D>) -> Result<(), Failed>
+fn upgrade_log<D: LogDev>(log: &mut Log<D>) -> Result<(), Failed>
     requires { log.old.shut ≡ false }
     ensures { MatchResult result (λ _. IsUpgraded log.old log.new) (λ _. IsUpgradeFailed log.old log.new) }
 {

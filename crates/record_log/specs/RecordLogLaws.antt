@@ -1,6 +1,6 @@
 -- What holds of every log of records. A law of `src/laws.rt` says each of these, and a proof that rests on one takes it
 -- as a premise.
-use Rattle.std.specs.Prelude.{◌≡◌, ℕ, ◌<◌, ◌≤◌, List, length, Option, Some}
+use Rattle.std.specs.Prelude.{◌≡◌, ℕ, ◌<◌, ◌≤◌, List, length, Option, Some, IfSome}
 use Rattle.std.specs.List.{AllByRecursion}
 use Rattle.snap_outside.specs.Disk.{History, content}
 use Rattle.gate_log.specs.declared.limits.TheConstants.{LARGEST_GROUP, NEW_LOG_SIZE}
@@ -53,7 +53,8 @@ RefusalKeepsRecords = (old new : Option History) (no : OpenNo) → Refused old n
 -- whatever the upgrade of an opened log comes to
 abbrev pub UpgradeKeepsRecords : Type 0
 UpgradeKeepsRecords =
-    (old opened new : Option History) (end : ℕ) (items : List LogItem) → Opened old opened end items → KeepsRecords old opened → UpgradesSafely opened new end → KeepsRecords old new
+    (old opened new : Option History) (found_end end : ℕ) (items : List LogItem) → Opened old opened found_end items → IfSome opened (λ g. DeviceLog g end (bytes_of items))
+    → KeepsRecords old opened → UpgradesSafely opened new end → KeepsRecords old new
 
 -- ---- sizes
 

@@ -1,6 +1,6 @@
 ghost use Rattle.record_log.specs.RecordLogLaws.{OneListOfRecords, RecordsAreNotForeign, RecordsAreNotDamaged, NoRecordIsBad, OpenedHeld, OpenedHolds, ItemsAreRecords, RecordLogHolds, OpeningKeepsRecords, RefusalKeepsRecords, UpgradeKeepsRecords, FewMayBeAppended, FewTakeLittle};
 
-use gate_log::{damage_is_no_log, logs_are_lists, one_difference, one_list, opening_is_safe};
+use gate_log::{damage_is_no_log, logs_are_lists, one_difference, one_list};
 use snap_outside::images_of_settled;
 use txn_records::{one_record, records_are_short};
 
@@ -60,7 +60,6 @@ pub fn upgrade_keeps()
 {
     logs_are_lists();
     one_list();
-    opening_is_safe();
 }
 
 /// A few records may be appended to a log that is not near the end of offsets, and it grows by little.

@@ -8,4 +8,4 @@ returns-in-Ok g c =
     let is = c.in-Ok.ensures in
     found_on d c.in-Ok.log c.take_found-found.new.self c.take_found-found.result is.opened
     (c.opening_keeps.ensures d.told c.in-Ok.log.told c.in-Ok.log.end c.in-Ok.log.found is.opened is.crashes)
-    is.log is.placed is.open is.end is.later c.take_found-found.ensures.items c.take_found-found.ensures.others
+    is.log is.placed is.format is.formats.0 is.open is.end is.later c.take_found-found.ensures.items c.take_found-found.ensures.others

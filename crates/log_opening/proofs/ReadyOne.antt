@@ -1,0 +1,195 @@
+-- One open log that is made ready for appends, on its device.
+use Rattle.std.proofs.Common.{◌≡◌, ◌≢◌, ℕ, ◌<◌, ◌≤◌, inl, inr, List, [], ◌∷◌, length, map, Option, Some, None, refl, sym, ◌∙◌, ap, subst, arith}
+use Rattle.std.specs.Prelude.{IfSome, ◌⊎◌, ◌==◌, if◌then◌else◌}
+use Rattle.std.proofs.lemmas.Bool.{cases_lt}
+use Rattle.snap_outside.specs.Causes.{Rose}
+use Rattle.snap_outside.specs.declared.devices.DevOp.{DevOp}
+use Rattle.snap_outside.specs.Disk.{History, content, with_ops, AddsAll}
+use Rattle.snap_outside.specs.Moments.{adds_nothing}
+use Rattle.gate_log.specs.declared.limits.TheConstants.{NEW_LOG_SIZE}
+use Rattle.gate_log.specs.declared.logs.LogItem.{LogItem}
+use Rattle.gate_log.specs.Appends.{upgrade_ops, upgrading_ops}
+use Rattle.gate_log.specs.Bytes.{IsLog, format_in}
+use Rattle.gate_log.specs.Device.{DeviceLog, HasFormat, Upgraded}
+use Rattle.gate_log.specs.LogLaws.{OneList, OpeningAdds, OpeningKeepsFormat, PlacedIsLogAt}
+use Rattle.gate_log.specs.Opened.{Opened, bytes_of, opening_ops}
+use Rattle.gate_log.specs.State.{LogState}
+use Rattle.record_log.specs.Growth.{upgrading_of}
+use Rattle.record_log.specs.RecordLogLaws.{UpgradeKeepsRecords}
+use Rattle.record_log.specs.Records.{KeepsRecords}
+use Rattle.log_opening.specs.Devices.{Device, as_device, preparing_of, Begun, Prepared, HoldsNoOld, HoldsOld, IsBegun, IsPrepared, IsUpgradeCutOff}
+use Rattle.log_opening.specs.Found.{IsBegunOn, IsFoundOn, IsHandled, IsKeptSafe, IsReadyLog}
+use Rattle.log_opening.specs.Upgrades.{IsMadeReady, IsNotMadeReady, IsUpgradeFailed, IsUpgraded}
+
+-- what the logs promise
+pub record ReadyLaws : Type 0 where
+  pub placed : PlacedIsLogAt
+  pub lists : OneList
+  pub adds : OpeningAdds
+  pub format : OpeningKeepsFormat
+  pub keeps : UpgradeKeepsRecords
+
+-- ---- formats
+
+chosen : ℕ → List DevOp
+chosen n = if n == 1 then upgrade_ops else []
+
+-- the format of what the device held is that of the log
+pub format_was : ReadyLaws → (told new : Option History) (end : ℕ) (items : List LogItem) (format : ℕ) → Opened told new end items → HasFormat new format → IfSome told (λ h. format ≡ format_in (content h))
+format_was laws None new end items format opened has = tt
+format_was laws (Some h) new end items format opened has =
+    let behind : new ≡ Some (with_ops h (opening_ops (content h))) = laws.adds h new end items opened in
+    (subst (λ (t : Option History). HasFormat t format) behind has).1 ∙ laws.format h new end items opened
+
+-- a log of format 2 is not upgraded
+second_stays : (told : Option History) (format : ℕ) → IfSome told (λ h. format ≡ format_in (content h)) → format ≡ 2 → upgrading_of told ≡ []
+unfolding chosen
+second_stays None format was two = refl
+second_stays (Some h) format was two = let is : format_in (content h) ≡ 2 = sym was ∙ two in ap chosen is
+
+-- one of format 1 is
+first_upgrades : (told opened new : Option History) (end : ℕ) (items : List LogItem) (format : ℕ) → Opened told opened end items → IfSome told (λ h. format ≡ format_in (content h)) → format ≡ 1
+    → AddsAll opened new upgrade_ops → AddsAll opened new (upgrading_of told)
+unfolding chosen
+first_upgrades None opened new end items format is was one adds =
+    subst (λ (t : Option History). AddsAll t new []) (sym is) (subst (λ (t : Option History). AddsAll t new upgrade_ops) is adds)
+first_upgrades (Some h) opened new end items format is was one adds =
+    let here : format_in (content h) ≡ 1 = sym was ∙ one in
+    subst (λ (ops : List DevOp). AddsAll opened new ops) (sym (ap chosen here)) adds
+
+-- ---- items
+
+opened_items : ReadyLaws → (h : History) (new : Option History) (end : ℕ) (items : List LogItem) → Opened (Some h) new end items → IsLog (content h) (bytes_of items)
+opened_items laws h new end items opened = elim (cases_lt NEW_LOG_SIZE (length (content h))) [
+  | inl long ↦ inr (long, (end, laws.placed (content h) end items (opened.read long).0))
+  | inr short ↦ inl (short, ap (λ (l : List LogItem). bytes_of l) (opened.made short).1)
+]
+
+some_bytes : (items : List LogItem) → items ≢ [] → bytes_of items ≢ []
+some_bytes [] some none = some refl
+some_bytes (i ∷ items) some none = cc
+
+second_no_old : ReadyLaws → (told new : Option History) (end : ℕ) (items : List LogItem) (format : ℕ) (faults : ℕ) → Opened told new end items → HasFormat new format → format ≡ 2
+    → HoldsNoOld (record { told = told; faults = faults })
+second_no_old laws None new end items format faults opened has two = tt
+second_no_old laws (Some h) new end items format faults opened has two = λ old.
+    let was : format ≡ format_in (content h) = format_was laws (Some h) new end items format opened has in
+    omega (arith, was, two, old.1.1)
+
+empty_no_old : ReadyLaws → (told new : Option History) (end : ℕ) (items : List LogItem) (faults : ℕ) → Opened told new end items → items ≡ [] → HoldsNoOld (record { told = told; faults = faults })
+empty_no_old laws None new end items faults opened none = tt
+empty_no_old laws (Some h) new end items faults opened none = λ old.
+    let here : IsLog (content h) [] = subst (λ (l : List LogItem). IsLog (content h) (bytes_of l)) none (opened_items laws h new end items opened) in
+    old.2 (laws.lists (content h) old.0 [] old.1.0 here)
+
+old_there : ReadyLaws → (told new : Option History) (end : ℕ) (items : List LogItem) (format : ℕ) (faults : ℕ) → Opened told new end items → HasFormat new format → format ≡ 1 → items ≢ []
+    → HoldsOld (record { told = told; faults = faults })
+old_there laws None new end items format faults opened has one some = tt
+old_there laws (Some h) new end items format faults opened has one some =
+    let was : format ≡ format_in (content h) = format_was laws (Some h) new end items format opened has in
+    (bytes_of items, (opened_items laws h new end items opened, sym one ∙ was), some_bytes items some)
+
+-- ---- what is made of a log
+
+module _ (laws : ReadyLaws) (b : Device) (l k : LogState) (items : List LogItem) (on : IsFoundOn b (as_device l) items) (ready : IsReadyLog l items) where
+  was : IfSome b.told (λ h. l.format ≡ format_in (content h))
+  was = format_was laws b.told l.told on.opened.0 items l.format on.opened.1 ready.formatted
+
+  -- it was of format 2
+  begun_still : l.format ≡ 2 → (end : ℕ) × Begun b.told l.told end items
+  begun_still two =
+      (on.opened.0, l.told, on.opened.1, subst (λ (ops : List DevOp). AddsAll l.told l.told ops) (sym (second_stays b.told l.format was two)) (adds_nothing l.told l.told refl))
+
+  -- it was of format 1
+  begun_now : l.format ≡ 1 → IsUpgraded l k → (end : ℕ) × Begun b.told k.told end items
+  begun_now one up = (on.opened.0, l.told, on.opened.1, first_upgrades b.told l.told k.told on.opened.0 items l.format on.opened.1 was one up.adds)
+
+  keeps_now : IsUpgraded l k → KeepsRecords b.told k.told
+  keeps_now up = laws.keeps b.told l.told k.told on.opened.0 l.end items on.opened.1 ready.holds on.safe.records up.safe
+
+  holds_now : IsUpgraded l k → IfSome k.told (λ g. DeviceLog g k.end (bytes_of items))
+  holds_now up = subst (λ (n : ℕ). IfSome k.told (λ g. DeviceLog g n (bytes_of items))) (sym up.gate) (by l.told k.told up.adds up.upgraded.0 ready.holds)
+    where
+      by : (old new : Option History) → AddsAll old new upgrade_ops → IfSome old (λ h. IfSome new (λ g. (xs : List (List ℕ)) → DeviceLog h l.end xs → DeviceLog g l.end xs))
+          → IfSome old (λ h. DeviceLog h l.end (bytes_of items)) → IfSome new (λ g. DeviceLog g l.end (bytes_of items))
+      by None new adds up log = subst (λ (t : Option History). IfSome t (λ g. DeviceLog g l.end (bytes_of items))) (sym adds) tt
+      by (Some h) None adds up log = tt
+      by (Some h) (Some g) adds up log = up (bytes_of items) log
+
+  ready_now : IsUpgraded l k → IsReadyLog k items
+  ready_now up = record {
+    holds = holds_now up;
+    formatted = subst (λ (n : ℕ). HasFormat k.told n) (sym up.second) up.upgraded.1;
+    known = inr up.second;
+    low = omega (arith, ready.low, up.gate);
+    ready = up.ready;
+  }
+
+  -- ---- by the cases
+
+  pub begun_on : IsMadeReady l k items → k.format ≡ 2 → IsBegunOn b (as_device k) items
+  begun_on (inl same) two =
+      let stays : l.format ≡ 2 = sym (ap (λ (x : LogState). x.format) same.0) ∙ two in
+      subst (λ (x : LogState). IsBegunOn b (as_device x) items) (sym same.0) (record { begun = begun_still stays; placed = on.placed; safe = on.safe })
+  begun_on (inr up) two = record { begun = begun_now up.1 up.2; placed = on.placed; safe = record { records = keeps_now up.2; later = omega (arith, on.safe.later, up.2.later) } }
+
+  pub still_ready : IsMadeReady l k items → IsReadyLog k items
+  still_ready (inl same) = subst (λ (x : LogState). IsReadyLog x items) (sym same.0) ready
+  still_ready (inr up) = ready_now up.2
+
+  pub no_old : IsMadeReady l k items → k.format ≡ 2 → HoldsNoOld b
+  no_old (inl same) two = second_no_old laws b.told l.told on.opened.0 items l.format b.faults on.opened.1 ready.formatted (sym (ap (λ (x : LogState). x.format) same.0) ∙ two)
+  no_old (inr up) two = empty_no_old laws b.told l.told on.opened.0 items b.faults on.opened.1 up.0
+
+  -- one that is still of format 1 has items
+  pub is_old : IsMadeReady l k items → k.format ≡ 1 → HoldsOld b
+  is_old (inl (same, inl other)) one = absurd (other (sym (ap (λ (x : LogState). x.format) same) ∙ one))
+  is_old (inl (same, inr some)) one =
+      old_there laws b.told l.told on.opened.0 items l.format b.faults on.opened.1 ready.formatted (sym (ap (λ (x : LogState). x.format) same) ∙ one) some
+  is_old (inr up) one = absurd (omega (arith, up.2.second, one))
+
+  untouched_prepared : (format_or : (l.format ≢ 1) ⊎ (items ≢ [])) → AddsAll l.told l.told (preparing_of b.told items)
+  untouched_prepared format_or = by items format_or (second_stays b.told l.format was)
+    where
+      two : l.format ≢ 1 → l.format ≡ 2
+      two other = elim (ready.known) [ inl one ↦ absurd (other one) | inr is ↦ is ]
+
+      by : (xs : List LogItem) → (l.format ≢ 1) ⊎ (xs ≢ []) → (l.format ≡ 2 → upgrading_of b.told ≡ []) → AddsAll l.told l.told (preparing_of b.told xs)
+      by [] (inl other) none = subst (λ (ops : List DevOp). AddsAll l.told l.told ops) (sym (none (two other))) (adds_nothing l.told l.told refl)
+      by [] (inr some) none = absurd (some refl)
+      by (x ∷ xs) format_or none = adds_nothing l.told l.told refl
+
+  pub prepared : IsMadeReady l k items → IsPrepared b (as_device k)
+  prepared (inl same) =
+      subst (λ (x : LogState). IsPrepared b (as_device x)) (sym same.0) (on.opened.0, items, (l.told, on.opened.1, untouched_prepared same.1))
+  prepared (inr up) =
+      let here : Opened b.told l.told on.opened.0 [] = subst (λ (xs : List LogItem). Opened b.told l.told on.opened.0 xs) up.0 on.opened.1 in
+      (on.opened.0, [], (l.told, here, first_upgrades b.told l.told k.told on.opened.0 [] l.format here was up.1 up.2.adds))
+
+  pub handled : IsMadeReady l k items → IsHandled b (as_device k)
+  handled made = record { prepared = inr (inl (prepared made)); safe = safe made }
+    where
+      safe : IsMadeReady l k items → IsKeptSafe b (as_device k)
+      safe (inl same) = subst (λ (x : LogState). IsKeptSafe b (as_device x)) (sym same.0) on.safe
+      safe (inr up) = record { records = keeps_now up.2; later = omega (arith, on.safe.later, up.2.later) }
+
+  pub cut_off : IsNotMadeReady l k items → IsUpgradeCutOff b (as_device k)
+  cut_off not =
+      let here : Opened b.told l.told on.opened.0 [] = subst (λ (xs : List LogItem). Opened b.told l.told on.opened.0 xs) not.0 on.opened.1 in
+      (on.opened.0, l.told, here, of_first b.told was, not.2.adds)
+    where
+      of_first : (told : Option History) → IfSome told (λ h. l.format ≡ format_in (content h)) → IfSome told (λ h. format_in (content h) ≡ 1)
+      of_first None is = tt
+      of_first (Some h) is = sym is ∙ not.1
+
+  pub handled_failed : IsNotMadeReady l k items → IsHandled b (as_device k)
+  handled_failed not = record {
+    prepared = inr (inr (cut_off not));
+    safe = record {
+      records = laws.keeps b.told l.told k.told on.opened.0 l.end items on.opened.1 ready.holds on.safe.records not.2.safe;
+      later = omega (arith, on.safe.later, not.2.later);
+    };
+  }
+
+  pub has_risen : IsNotMadeReady l k items → Rose b.faults k.faults
+  has_risen not = omega (arith, on.safe.later, not.2.rose)
