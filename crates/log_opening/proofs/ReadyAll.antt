@@ -57,6 +57,14 @@ all_second (l ∷ ls) each = (each 0 (omega arith), all_second ls (λ n lt. each
 abbrev Handled : LogState → LogState → List LogItem → Type 0
 Handled l k f = IsMadeReady l k f ⊎ (IsNotMadeReady l k f ⊎ (k ≡ l))
 
+-- all logs are open and of format 2
+pub record AllReady (before after : List Device) (logs : List LogState) (found : List (List LogItem)) : Type 0 where
+  pub begun : AreBegunOn before after found
+  pub ready : AllZip IsReadyLog logs found
+  pub second : Second logs
+  pub recent : HoldNoOld (length found) before
+  pub handled : AllZip IsHandled before after
+
 -- ---- all of them
 
 module _ (laws : ReadyLaws) where
@@ -177,7 +185,9 @@ module _ (laws : ReadyLaws) where
       let same : ks ≡ ls = same_logs ks ls (omega (arith, many)) (λ i. above (suc i) (omega arith)) in
       subst (λ (xs : List LogState). AllZip IsOpened (take (length fs) bs) (take (length fs) (with_logs xs others))) (sym same) (found_zip bs (with_logs ls others) fs are.1)
   above_opened (suc n) (b ∷ bs) others (l ∷ ls) (k ∷ ks) (f ∷ fs) lt are ready many above =
-      above_opened n bs others ls ks fs (omega (arith, lt)) are.1 ready.1 (omega (arith, many)) (λ i more. above (suc i) (omega (arith, more)))
+      let next : suc (n + 1) ≡ suc n + 1 = omega arith in
+      subst (λ (i : ℕ). AllZip IsOpened (drop i (take (length (f ∷ fs)) (b ∷ bs))) (drop i (take (length (f ∷ fs)) (with_logs (k ∷ ks) others)))) next
+      (above_opened n bs others ls ks fs (omega (arith, lt)) are.1 ready.1 (omega (arith, many)) (λ i more. above (suc i) (omega (arith, more))))
 
   failed_at : (n : ℕ) (before others : List Device) (old new : List LogState) (found : List (List LogItem)) → n < length found → AreFound before (with_logs old others) found → AllZip IsReadyLog old found
       → length new ≡ length old → IsNotMadeReady (log_at old n) (log_at new n) (items_at found n)
@@ -248,13 +258,6 @@ module _ (laws : ReadyLaws) where
   not_ready count before others old new found ending.Memory size as_many are ready why = absurd why
 
   -- ---- all are ready
-
-  pub record AllReady (before after : List Device) (logs : List LogState) (found : List (List LogItem)) : Type 0 where
-    pub begun : AreBegunOn before after found
-    pub ready : AllZip IsReadyLog logs found
-    pub second : Second logs
-    pub recent : HoldNoOld (length found) before
-    pub handled : AllZip IsHandled before after
 
   pub are_ready : (before others : List Device) (old new : List LogState) (found : List (List LogItem)) → length found ≡ length old → AreFound before (with_logs old others) found
       → AllZip IsReadyLog old found → AreReady old new found → AllReady before (with_logs new others) new found

@@ -98,11 +98,11 @@ module _ (laws : ReadyLaws) (b : Device) (l k : LogState) (items : List LogItem)
   -- it was of format 2
   begun_still : l.format ≡ 2 → (end : ℕ) × Begun b.told l.told end items
   begun_still two =
-      (on.opened.0, l.told, on.opened.1, subst (λ (ops : List DevOp). AddsAll l.told l.told ops) (sym (second_stays b.told l.format was two)) (adds_nothing l.told l.told refl))
+      (on.opened.0, (l.told, on.opened.1, subst (λ (ops : List DevOp). AddsAll l.told l.told ops) (sym (second_stays b.told l.format was two)) (adds_nothing l.told l.told refl)))
 
   -- it was of format 1
   begun_now : l.format ≡ 1 → IsUpgraded l k → (end : ℕ) × Begun b.told k.told end items
-  begun_now one up = (on.opened.0, l.told, on.opened.1, first_upgrades b.told l.told k.told on.opened.0 items l.format on.opened.1 was one up.adds)
+  begun_now one up = (on.opened.0, (l.told, on.opened.1, first_upgrades b.told l.told k.told on.opened.0 items l.format on.opened.1 was one up.adds))
 
   keeps_now : IsUpgraded l k → KeepsRecords b.told k.told
   keeps_now up = laws.keeps b.told l.told k.told on.opened.0 l.end items on.opened.1 ready.holds on.safe.records up.safe
