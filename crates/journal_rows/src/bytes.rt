@@ -31,7 +31,7 @@ pub fn first_group_is_written(alloc: Global) -> Result<bool, Memory> {
 }
 
 /// Bytes, and the refusal that opening them gives; or, where there is none, the items that it finds.
-const OPENED: [(&'static [u8], Option<OpenNo>, &[&[u8]]); 15] = [
+const OPENED: [(&'static [u8], Option<OpenNo>, &[&[u8]]); 17] = [
     (&WITH_ITEM, None, &[&ITEM]),
     // cut off, empty, as long as a new log, and a foreign file
     (
@@ -41,20 +41,27 @@ const OPENED: [(&'static [u8], Option<OpenNo>, &[&[u8]]); 15] = [
     ),
     (b"", None, &[]),
     (b"anything!", None, &[]),
-    (b"SNAPLOG2\0\0", Some(OpenNo::NotALog { offset: 7 }), &[]),
+    (b"SNAPLOX1\0\0", Some(OpenNo::NotALog { offset: 6 }), &[]),
+    (b"SNAPLOG3\0\0", Some(OpenNo::NotALog { offset: 7 }), &[]),
+    // a log of format 1
+    (
+        b"SNAPLOG1\x01\0\0\0\x0b\0\x09\x04\0\0\0\0\0\0\0\x01\0",
+        None,
+        &[&ITEM],
+    ),
     // one byte changed: the first, the block's length, the item's length, and the gate behind the block
     (
-        b"TNAPLOG1\x01\0\0\0\x0b\0\x09\x04\0\0\0\0\0\0\0\x01\0",
+        b"TNAPLOG2\x01\0\0\0\x0b\0\x09\x04\0\0\0\0\0\0\0\x01\0",
         Some(OpenNo::NotALog { offset: 0 }),
         &[],
     ),
     (
-        b"\0NAPLOG1\x01\0\0\0\x0b\0\x09\x04\0\0\0\0\0\0\0\x01\0",
+        b"\0NAPLOG2\x01\0\0\0\x0b\0\x09\x04\0\0\0\0\0\0\0\x01\0",
         Some(OpenNo::NotALog { offset: 0 }),
         &[],
     ),
     (
-        b"SNAPLOG1\x01\xff\0\0\x0b\0\x09\x04\0\0\0\0\0\0\0\x01\0",
+        b"SNAPLOG2\x01\xff\0\0\x0b\0\x09\x04\0\0\0\0\0\0\0\x01\0",
         Some(OpenNo::Damage { offset: 8 }),
         &[],
     ),
@@ -69,7 +76,7 @@ const OPENED: [(&'static [u8], Option<OpenNo>, &[&[u8]]); 15] = [
         &[],
     ),
     (
-        b"SNAPLOG1\x01\0\0\0\x0b\0\0\x04\0\0\0\0\0\0\0\x01\0",
+        b"SNAPLOG2\x01\0\0\0\x0b\0\0\x04\0\0\0\0\0\0\0\x01\0",
         Some(OpenNo::Damage { offset: 8 }),
         &[],
     ),
@@ -120,7 +127,7 @@ pub fn opened_otherwise(alloc: Global) -> Result<Option<&'static [u8]>, Memory> 
 }
 
 /// The bytes with which the log of three groups begins.
-const FRONT: &[u8] = b"SNAPLOG1\x01\0\0\0\x0c\0\x01a\0\x02bc\0\x03def\x01\0\x01\0\x01\xff\xff\x07";
+const FRONT: &[u8] = b"SNAPLOG2\x01\0\0\0\x0c\0\x01a\0\x02bc\0\x03def\x01\0\x01\0\x01\xff\xff\x07";
 
 /// How many bytes the log of a group of three items and one of the longest item has.
 const SIZE: usize = 8 + 5 + 12 + 5 + 2 + 65_535 + 1;

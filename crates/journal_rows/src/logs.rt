@@ -7,7 +7,7 @@ use std::alloc::Global;
 pub const ITEM: [u8; 9] = [4, 0, 0, 0, 0, 0, 0, 0, 1];
 
 /// A new log with this item appended.
-pub const WITH_ITEM: [u8; 25] = *b"SNAPLOG1\x01\0\0\0\x0b\0\x09\x04\0\0\0\0\0\0\0\x01\0";
+pub const WITH_ITEM: [u8; 25] = *b"SNAPLOG2\x01\0\0\0\x0b\0\x09\x04\0\0\0\0\0\0\0\x01\0";
 
 /// What opening a device answers.
 #[derive(Drop)]
@@ -86,7 +86,7 @@ pub fn append(alloc: Global, log: &mut Log<MemLog>, items: &[&[u8]]) -> Result<(
     let Ok(list) = list_of(alloc, items) else {
         return Err(AppendNo::Memory);
     };
-    if !log.may_append(list.as_slice()) {
+    if log.format() != 2 || !log.may_append(list.as_slice()) {
         return Err(AppendNo::Memory);
     }
     log.append(alloc, list.as_slice())

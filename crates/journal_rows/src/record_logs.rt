@@ -63,7 +63,7 @@ fn is_refused(answer: &Answer, no: ItemsNo) -> bool {
     }
 }
 
-/// Appends a few records as one group.
+/// Appends a few records as one group. A log of format 1 answers as want of memory does.
 fn append(alloc: Global, log: &mut Log<MemLog>, records: &[Record]) -> Result<(), AppendNo>
     requires records { AllByRecursion IsRecord records.now }
     requires few { length records.now ≤ 16 }
@@ -71,6 +71,9 @@ fn append(alloc: Global, log: &mut Log<MemLog>, records: &[Record]) -> Result<()
     ensures { log.new.end ≤ log.old.end + 2 ^ 32 }
 {
     few_may_be_appended();
+    if log.format() != 2 {
+        return Err(AppendNo::Memory);
+    }
     append_records(alloc, log, records)
 }
 
@@ -128,7 +131,7 @@ const ALL: [Key; 3] = [
 ];
 
 /// The bytes with which the log of the two groups begins.
-const FRONT: &[u8] = b"SNAPLOG1\x01\0\0\0\x0b\0\x09\x04\0\0\0\0\0\0\0\x01\x01\0\0\0\x98\0\x8b\x03";
+const FRONT: &[u8] = b"SNAPLOG2\x01\0\0\0\x0b\0\x09\x04\0\0\0\0\0\0\0\x01\x01\0\0\0\x98\0\x8b\x03";
 
 /// Logs whose second record, the bytes from 26 on, is none, and the offset of the first bad byte.
 const BAD: [(&[u8], u64); 2] = [
@@ -137,7 +140,7 @@ const BAD: [(&[u8], u64); 2] = [
         34,
     ),
     (
-        b"SNAPLOG1\x01\0\0\0\x15\0\x09\x04\0\0\0\0\0\0\0\x01\0\x08\x09\0\0\0\0\0\0\0\0",
+        b"SNAPLOG2\x01\0\0\0\x15\0\x09\x04\0\0\0\0\0\0\0\x01\0\x08\x09\0\0\0\0\0\0\0\0",
         26,
     ),
 ];

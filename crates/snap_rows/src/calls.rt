@@ -1,6 +1,6 @@
 //! Calls, and what is not as their rows say.
 //!
-//! The first line of a row tells the call. Its parts stand apart by `|`: the name of a text to run, or `recover`; the numbers, from
+//! The first line of a row tells the call. Its parts stand apart by `|`: the name of a text to run, `recover` or `migrate`; the numbers, from
 //! 1 on, of the calls that fail of log 0, of log 1, of the reads, of the writes of the output and of those of the trace, where 0
 //! is none; and the four logs. Parts and numbers that are left out are empty and 0. Each line behind it tells what is so then:
 //!

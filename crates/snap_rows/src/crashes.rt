@@ -138,12 +138,41 @@ fn has_committed(numbers: &str, printed: &str) -> bool {
     true
 }
 
+/// Whether just these lines of actors are recovered.
+fn has_actors(lines: &str, recovered: &str) -> bool {
+    match recovered.strip_prefix(lines) {
+        Some(rest) => rest.starts_with("kept ") || rest.starts_with("recovered "),
+        None => false,
+    }
+}
+
+/// Whether each reply that a transaction was committed is kept, with its place and its result.
+fn are_kept(printed: &str, recovered: &str) -> bool {
+    for line in printed.split('\n') {
+        if let Some((word, reply)) = line.split_once(" committed ") {
+            if word.starts_with("tx ") && !is_kept(reply, recovered) {
+                return false;
+            }
+        }
+    }
+    true
+}
+
+/// Whether one of these lines keeps this place and result.
+fn is_kept(reply: &str, recovered: &str) -> bool {
+    for line in recovered.split('\n') {
+        if line.strip_prefix("kept ") == Some(reply) {
+            return true;
+        }
+    }
+    false
+}
+
 /// Whether one of the states that may be left, with each transaction that was told to be committed, is what is recovered.
 fn is_state(alloc: Global, states: &str, printed: &str, recovered: &str) -> Result<bool, Memory> {
     for state in states.split(';') {
         let lines = part(state, ':', 1).replace(alloc, "/", "\n")?;
-        let wanted = format!(in alloc; "{lines}recovered ")?;
-        if recovered.starts_with(wanted.as_str()) && has_committed(part(state, ':', 0), printed) {
+        if has_actors(lines.as_str(), recovered) && has_committed(part(state, ':', 0), printed) {
             return Ok(true);
         }
     }
@@ -157,6 +186,9 @@ fn agree(alloc: Global, name: &str, printed: &str, recovered: &Ran) -> Result<bo
         return Ok(recovered.0.status == NO_GENESIS && !printed.contains(" committed "));
     }
     let output = recovered.output();
+    if !are_kept(printed, output) {
+        return Ok(false);
+    }
     let states = states_of(name);
     if !states.is_empty() {
         return is_state(alloc, states, printed, output);

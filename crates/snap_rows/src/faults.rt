@@ -1,11 +1,11 @@
 //! Calls whose source, sinks and devices fail.
 
 /// Runs and recoveries that a call of theirs cuts off. On its own, log 0 with a record takes three calls to recover: its length,
-/// a read and a sync; and an empty log 1 its length, a write and a sync.
+/// a read and a sync, and to upgrade two more, a write and a sync; and an empty log 1 its length, a write and a sync.
 pub const CUTS: &str = "\
 two in turn|21
 tells LogFault { log: 0 }|tx 0 committed 1.0.1 101/tx 1 unsure 0/|
-recovers Done|actor 0 101/recovered batches 1 acts 0 next 3 3 1/|
+recovers Done|actor 0 101/kept 1.0.1 101/recovered batches 1 acts 0 next 3 3 1/|
 
 two in turn|1
 tells LogFault { log: 0 }|tx 0 unsure 0/tx 1 unsure 0/|
@@ -45,7 +45,35 @@ leaves |
 
 recover|0 3 1 1 1|G2:100
 tells LogFault { log: 1 }||
-leaves |=SNAPLOG1\0";
+leaves |=SNAPLOG2\0
+
+migrate|4|old G1:100
+tells LogFault { log: 0 }||1 0 0 0|
+leaves |
+
+migrate|5|old G1:100
+tells LogFault { log: 0 }||2 0 0 0|
+leaves G1:100
+
+migrate|0 4|old G2:1.2|old P1:1:6
+tells LogFault { log: 1 }||3 1 0 0|
+leaves G2:1.2|
+
+migrate|4|old G2:1.2|old P1:1:6
+tells LogFault { log: 0 }||1 1 0 0|
+leaves |
+
+migrate|0 0 0 1|old G1:100
+tells OutFault||3 0 0 0|
+leaves G1:100
+
+deposit|4|=SNAPLOG1\0\0
+tells LogFault { log: 0 }||1 0 0 0|
+leaves |
+
+deposit|5|=SNAPLOG1\0\0
+tells LogFault { log: 0 }||2 0 0 0|
+leaves =SNAPLOG2\0\0";
 
 /// Runs of which each call of the outside fails in turn, that are stopped at each moment, or that may lack memory.
 pub const SWEEPS: &str = "\

@@ -1,8 +1,10 @@
 //! Logs as rows spell them. An empty word is an empty file, and `=` stands before the bytes of a file. Else groups stand apart by
-//! `;` and their records by `,`; `-c` and a number at the end cuts so many bytes off. A record is `G2:7.8_9` (Genesis of two
-//! logs, actors with first fields 7, and 8 and 9), `I4:0.1:5` (batch 4 of actors 0 and 1 with transaction 5), `C4:1:9` (actor 1
-//! completes it with first field 9), `K4` (its commit), `P7:1:9` (undeclared transaction 7 leaves actor 1 with first field 9),
-//! `A7:4:2:0.1` (its commit, behind batch 4, with number 2, on actors 0 and 1), or `x` with the bytes of an item.
+//! `;` and their records by `,`; `old ` in front makes it a log of format 1, and `-c` and a number at the end cuts so many bytes
+//! off. A record is `G2:7.8_9` (Genesis of two logs, actors with first fields 7, and 8 and 9), `I4:0.1:5` (batch 4 of actors 0
+//! and 1 with transaction 5), `C4:1:9` (actor 1 completes it with first field 9), `D4:80` (its commit: transaction 5 had the
+//! result 80), `K4` (a commit that tells no results), `P7:1:9` (undeclared transaction 7 leaves actor 1 with first field 9),
+//! `E7:4:2:80:0.1` (its commit, behind batch 4, with number 2 and result 80, on actors 0 and 1), `A7:4:2:0.1` (one that tells no
+//! result), or `x` with the bytes of an item.
 
 use snap_base::Memory;
 use std::alloc::Global;
@@ -60,13 +62,15 @@ const STATES: Kind = Kind {
 };
 
 /// The letter of a kind of record, its tag, and how its parts are written.
-const RECORDS: [(&str, u8, &[Kind]); 6] = [
+const RECORDS: [(&str, u8, &[Kind]); 8] = [
     ("G", 1, &[BYTE, STATES]),
     ("I", 2, &[LONG, SHORTS, LONGS]),
     ("C", 3, &[LONG, SHORT, STATE]),
     ("K", 4, &[LONG]),
     ("P", 5, &[LONG, SHORT, STATE]),
     ("A", 6, &[LONG, LONG, LONG, SHORTS]),
+    ("D", 7, &[LONG, LONGS]),
+    ("E", 8, &[LONG, LONG, LONG, LONG, SHORTS]),
 ];
 
 /// The bytes that a row's word for a log spells.
@@ -74,18 +78,22 @@ pub fn log_bytes(alloc: Global, word: &str) -> Result<Vec<u8>, Memory> {
     if let Some(bytes) = word.strip_prefix("=") {
         return Ok(bytes.as_bytes().to_vec(alloc)?);
     }
+    let (header, word) = match word.strip_prefix("old ") {
+        Some(rest) => (b"SNAPLOG1", rest),
+        None => (b"SNAPLOG2", word),
+    };
     let (groups, cut) = word.rsplit_once("-c").unwrap_or((word, "0"));
     let mut bytes = Vec::new(alloc);
     if !groups.is_empty() {
-        push_log(alloc, &mut bytes, groups)?;
+        bytes.extend_from_slice(header)?;
+        push_groups(alloc, &mut bytes, groups)?;
     }
     let kept = bytes.len().saturating_sub(cut.parse().unwrap_or(0));
     bytes.truncate(kept);
     Ok(bytes)
 }
 
-fn push_log(alloc: Global, bytes: &mut Vec<u8>, groups: &str) -> Result<(), Memory> {
-    bytes.extend_from_slice(b"SNAPLOG1")?;
+fn push_groups(alloc: Global, bytes: &mut Vec<u8>, groups: &str) -> Result<(), Memory> {
     for group in groups.split(';') {
         let mut items = Vec::new(alloc);
         for record in group.split(',') {

@@ -77,7 +77,10 @@ pub(crate) fn call(alloc: Global, asked: &str, failing: Failing) -> Result<Ran, 
         return perform(alloc, "run", &mut Endless, logs, failing);
     }
     let text = text_of(alloc, name)?;
-    let word = if name == "recover" { "recover" } else { "run" };
+    let word = match name {
+        "recover" | "migrate" => name,
+        _ => "run",
+    };
     perform_on(alloc, word, text.as_str(), logs, failing)
 }
 
