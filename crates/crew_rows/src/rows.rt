@@ -93,12 +93,24 @@ fn fails(alloc: Global, call: u64) -> Result<Vec<u64>, Memory> {
 fn open_log(alloc: Global, call: u64) -> Result<Log<MemLog>, Memory>
     ensures open { IfOk result (λ log. log.shut ≡ false) }
     ensures end { IfOk result (λ log. log.end ≤ FARTHEST_END) }
+    ensures format { IfOk result (λ log. log.format ≡ 2) }
 {
     let device = MemLog::new(alloc, Vec::new(alloc), fails(alloc, call)?)?;
     match Log::open(alloc, device) {
-        Ok(log) => Ok(log),
+        Ok(log) => of_format_2(log),
         Err(_) => Err(Memory),
     }
+}
+
+/// A new log is of format 2.
+fn of_format_2(log: Log<MemLog>) -> Result<Log<MemLog>, Memory>
+    ensures { IfOk result (λ l. (l ≡ log) × (l.format ≡ 2)) }
+{
+    if log.format() != 2 {
+        let _device = log.into_dev();
+        return Err(Memory);
+    }
+    Ok(log)
 }
 
 /// So many new logs.
@@ -106,6 +118,7 @@ fn open_logs(alloc: Global, count: u8, faults: Faults) -> Result<Vec<Log<MemLog>
     ensures count { IfOk result (λ logs. vec_len logs ≡ count) }
     ensures open { IfOk result (λ logs. AllByRecursion (λ l. l.shut ≡ false) logs.items) }
     ensures ends { IfOk result (λ logs. AllByRecursion (λ l. l.end ≤ FARTHEST_END + 2 ^ 32) logs.items) }
+    ensures formats { IfOk result (λ logs. AllByRecursion (λ l. l.format ≡ 2) logs.items) }
 {
     let mut logs = Vec::with_capacity(alloc, count as usize)?;
     for l in 0..count {
@@ -178,7 +191,7 @@ fn append(alloc: Global, core: &Core, logs: &mut Vec<Log<MemLog>>, l: u8) -> Res
     let Some(log) = logs.get_mut(l as usize) else {
         return Ok(());
     };
-    if !log.may_append(pieces.as_slice()) {
+    if log.format() != 2 || !log.may_append(pieces.as_slice()) {
         return Ok(());
     }
     match log.append(alloc, pieces.as_slice()) {

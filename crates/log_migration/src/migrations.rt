@@ -1,12 +1,14 @@
-ghost use Rattle.std.specs.Prelude.{◌≡◌, ◌+◌, ◌≤◌, ℕ, [], length, IfErr, IfOk, MatchResult, string_bytes, vec_len, vec_capacity};
+ghost use Rattle.std.specs.Prelude.{◌≡◌, ◌+◌, ◌≤◌, ◌++◌, ℕ, List, [], length, map, take, IfErr, IfOk, MatchResult, string_bytes, vec_len, vec_capacity};
 ghost use Rattle.std.specs.List.{AllZip};
-ghost use Rattle.log_migration.specs.Migrated.{AreMigrated, IsMigrateNo};
-ghost use Rattle.log_opening.specs.Devices.{Device, devices_of, devices_now};
+ghost use Rattle.log_migration.specs.Migrated.{AreMigrated, IsMigrateNo, IsNotTold};
+ghost use Rattle.log_opening.specs.Devices.{Device, AreBegun, as_device, devices_of, devices_now};
+ghost use Rattle.log_opening.specs.Found.{IsKeptSafe, IsReadyLog};
+ghost use Rattle.log_opening.specs.Reads.{AreOpen};
+ghost use Rattle.log_opening.specs.Upgrades.{AreOld};
 ghost use Rattle.record_log.specs.Records.{KeepsRecords};
 ghost use Rattle.snap_report.specs.Lines.{migrated_text};
 
-use gate_log::Log;
-use log_opening::{LogsNo, OpenLogs, close, no_logs, open_and_recover, upgrade_log};
+use log_opening::{LogsNo, OpenLogs, close, count_old, no_logs, open_and_recover, upgrade_all};
 use snap_outside::LogDev;
 use snap_report::migrated_line;
 use std::alloc::Global;
@@ -36,41 +38,45 @@ fn recover_and_upgrade<D: LogDev>(
     alloc: Global,
     devices: &mut Vec<D>,
     opened: &mut OpenLogs<D>,
-) -> Result<String, LogsNo> {
+) -> Result<String, LogsNo>
+    requires four { vec_len devices.old ≡ 4 }
+    requires none { (opened.old.found ≡ []) × (vec_len opened.old.logs ≡ 0) }
+    requires room { (4 ≤ vec_capacity opened.old.logs) × (4 ≤ vec_capacity devices.old) }
+    ensures answered { MatchResult result
+        (λ line. (count : ℕ) × (string_bytes line ≡ migrated_text count)
+            × AreMigrated (devices_now D.told D.faults opened.old.logs.items devices.old.items) (devices_now D.told D.faults opened.new.logs.items devices.new.items) count)
+        (λ no. IsMigrateNo (devices_now D.told D.faults opened.old.logs.items devices.old.items) (devices_now D.told D.faults opened.new.logs.items devices.new.items) no) }
+    ensures safe { AllZip IsKeptSafe (devices_now D.told D.faults opened.old.logs.items devices.old.items) (devices_now D.told D.faults opened.new.logs.items devices.new.items) }
+    ensures four { vec_len opened.new.logs + vec_len devices.new ≡ 4 }
+    ensures room { 4 ≤ vec_capacity devices.new }
+{
     match open_and_recover(alloc, devices, opened) {
-        Ok(_opening) => tell_and_upgrade(alloc, &mut opened.logs),
+        Ok(_opening) => tell_and_upgrade(alloc, opened),
         Err(no) => Err(no),
     }
 }
 
 /// The line that tells how many of the logs are of format 1, which are upgraded then.
-fn tell_and_upgrade<D: LogDev>(alloc: Global, logs: &mut Vec<Log<D>>) -> Result<String, LogsNo> {
-    let Ok(line) = migrated_line(alloc, count_old(logs.as_slice())) else {
+fn tell_and_upgrade<D: LogDev>(
+    alloc: Global,
+    opened: &mut OpenLogs<D>,
+) -> Result<String, LogsNo>
+    requires few { vec_len opened.old.logs ≤ 4 }
+    requires ready { AllZip IsReadyLog opened.old.logs.items opened.old.found }
+    ensures told { IfOk result (λ line. (count : ℕ) × (string_bytes line ≡ migrated_text count) × ((before others : List Device)
+        → AreOpen before (map as_device opened.old.logs.items ++ others) opened.old.logs.items opened.old.found
+        → AreOld (take (length opened.old.found) before) count × AreBegun (length opened.old.found) before (map as_device opened.new.logs.items ++ others))) }
+    ensures failed { IfErr result (λ no. (before others : List Device) → AreOpen before (map as_device opened.old.logs.items ++ others) opened.old.logs.items opened.old.found
+        → IsNotTold (length opened.old.found) before (map as_device opened.new.logs.items ++ others) no) }
+    ensures safe { (before others : List Device) → AreOpen before (map as_device opened.old.logs.items ++ others) opened.old.logs.items opened.old.found
+        → AllZip IsKeptSafe before (map as_device opened.new.logs.items ++ others) }
+    ensures len { vec_len opened.new.logs ≡ vec_len opened.old.logs }
+{
+    let Ok(line) = migrated_line(alloc, count_old(opened.logs.as_slice())) else {
         return Err(LogsNo::Memory);
     };
-    match upgrade_all(logs) {
+    match upgrade_all(alloc, opened) {
         Ok(()) => Ok(line),
-        Err(log) => Err(LogsNo::Device { log }),
+        Err(no) => Err(no),
     }
-}
-
-/// How many of the logs are of format 1.
-fn count_old<D: LogDev>(logs: &[Log<D>]) -> u8 {
-    let mut count = 0;
-    for log in logs {
-        if log.format() == 1 {
-            count += 1;
-        }
-    }
-    count
-}
-
-/// Upgrades each log of format 1, from log 0 on. The error is the log whose device failed.
-fn upgrade_all<D: LogDev>(logs: &mut Vec<Log<D>>) -> Result<(), u8> {
-    for log in 0..logs.len() {
-        if logs[log].format() == 1 && upgrade_log(&mut logs[log]).is_err() {
-            return Err(log as u8);
-        }
-    }
-    Ok(())
 }

@@ -2,9 +2,10 @@
 use Rattle.std.proofs.Common.{◌≡◌, ℕ, ◌≤◌, inl, inr, List, [], ◌∷◌, length, get_or, take, refl, sym, ◌∙◌, ap, subst, arith, Result, Ok, Err}
 use Rattle.std.proofs.lemmas.List.{take_all}
 use Rattle.std.proofs.lemmas.Slice.Zip.{AllZip-long}
-use Rattle.std.specs.Prelude.{IfOk, IfErr, MatchResult}
+use Rattle.std.specs.Prelude.{IfOk, IfErr, OnOk, MatchResult}
 use Rattle.std.specs.List.{AllZip, AllByRecursion}
 use Rattle.gate_log.specs.declared.logs.LogItem.{LogItem}
+use Rattle.gate_log.specs.State.{LogState}
 use Rattle.txn_records.specs.declared.records.Record.{Record}
 use Rattle.txn_records.specs.Records.{IsRecord}
 use Rattle.record_log.specs.Records.{AreItemsOf}
@@ -14,9 +15,9 @@ use Rattle.snap_recover.specs.Opening.{IsRecovered}
 use Rattle.log_opening.specs.declared.refusals.LogsNo.{LogsNo}
 use Rattle.log_opening.specs.declared.refusals.LogsNo.TheVariants as ending
 use Rattle.log_opening.specs.Devices.{Device, device_at, AreOpened}
-use Rattle.log_opening.specs.Found.{AreFound, IsHalted, IsNoReading, IsNoDecoding, IsNoRecovery}
+use Rattle.log_opening.specs.Found.{AreFound, IsHalted, IsReadyLog, IsNoReading, IsNoDecoding, IsNoRecovery}
 use Rattle.log_opening.specs.Kept.{logs_said, Holds, IsLogsNo}
-use Rattle.log_opening.specs.Reads.{IsEnded, IsFirstRead, AreRead}
+use Rattle.log_opening.specs.Reads.{AreOpen, IsEnded, IsFirstRead, IsOpenOn, AreRead}
 use Rattle.log_opening.proofs.Opening.{found_opened, found_touched, all_untouched}
 use Rattle.log_opening.proofs.Reading.{said_range, zip_holds, zip_first, each_record, given}
 use Rattle.log_opening.proofs.Refusing.{halted_no, asked_first, reading_no, decoding_no, recovery_no}
@@ -72,6 +73,18 @@ others_read law each before after all first (Ok logs) held are count said = reco
 }
 others_read law each before after all first (Err a) held are count said = record { cause = decoding_no law before after all first a held count are said; touched = found_touched before after all are }
 
+-- a list of records for each log
+pub read_many : (found : List (List LogItem)) (known : List Record) (r : Result (List (List Record)) LogsNo)
+    → MatchResult r (λ logs. AllZip AreItemsOf found logs × ((others : List (List Record)) × (logs ≡ known ∷ others))) (λ a. IsNoDecoding found (known ∷ []) a)
+    → IfOk r (λ logs. length logs ≡ length found)
+read_many found known (Ok logs) said = AllZip-long AreItemsOf found logs said.0
+read_many found known (Err a) said = tt
+
+pub open_then : (before after : List Device) (logs : List LogState) (found : List (List LogItem)) (r : Result (List (List Record)) LogsNo) → AreFound before after found → AllZip IsReadyLog logs found
+    → OnOk r (AreOpen before after logs found)
+open_then before after logs found (Ok rs) are ready = record { are_found = are; ready = ready }
+open_then before after logs found (Err a) are ready = tt
+
 -- ---- all of them
 
 pub ended_for_memory : (devices : List Device) → IsEnded devices devices ending.Memory
@@ -90,6 +103,17 @@ pub read_refused : (before after : List Device) (logs : List (List Record)) (r :
     → MatchResult r (λ o. IsRecovered logs o) (λ a. IsNoRecovery logs a) → IfErr r (λ a. IsLogsNo before after a)
 read_refused before after logs (Ok o) read said = tt
 read_refused before after logs (Err a) read said = recovery_no before after logs a read.given read.opened said
+
+-- the logs stay open
+pub recovered_open : (before after : List Device) (logs : List LogState) (found : List (List LogItem)) (rs : List (List Record)) (r : Result Opening LogsNo) → AreRead before after rs → length rs ≡ length found
+    → AreOpen before after logs found → MatchResult r (λ o. IsRecovered rs o) (λ a. IsNoRecovery rs a) → IfOk r (λ o. IsOpenOn before after logs found o)
+recovered_open before after logs found rs (Ok o) read many open_logs said = record { records = rs; read = read; recovered = said; as_many = many; open_logs = open_logs }
+recovered_open before after logs found rs (Err a) read many open_logs said = tt
+
+pub refused_open : (before after : List Device) (rs : List (List Record)) (r : Result Opening LogsNo) → AreRead before after rs → MatchResult r (λ o. IsRecovered rs o) (λ a. IsNoRecovery rs a)
+    → IfErr r (λ a. IsEnded before after a)
+refused_open before after rs (Ok o) read said = tt
+refused_open before after rs (Err a) read said = record { cause = recovery_no before after rs a read.given read.opened said; touched = read.touched }
 
 pub read_few : (before after : List Device) (logs : List (List Record)) (r : Result Opening LogsNo)
     → ((all : List (List Record)) (o : Opening) → AllByRecursion (AllByRecursion IsRecord) all → IsRecovered all o → length o.states ≤ 256) → AreRead before after logs

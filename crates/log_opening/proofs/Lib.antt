@@ -6,3 +6,4 @@ pub mod Reading
 pub mod ReadyAll
 pub mod ReadyOne
 pub mod Refusing
+pub mod Upgrading

@@ -30,13 +30,22 @@ same_logs (x ∷ xs) (y ∷ ys) long each =
     let others : xs ≡ ys = same_logs xs ys (omega (arith, long)) (λ l. each (suc l)) in
     cc
 
+pub three : (l n : ℕ) → (l < n) ⊎ ((l ≡ n) ⊎ (n < l))
+three zero zero = inr (inl refl)
+three zero (suc n) = inl (omega arith)
+three (suc l) zero = inr (inr (omega arith))
+three (suc l) (suc n) = elim (three l n) [
+  | inl lt ↦ inl (omega (arith, lt))
+  | inr rest ↦ elim rest [ inl same ↦ inr (inl (ap (λ (i : ℕ). suc i) same)) | inr gt ↦ inr (inr (omega (arith, gt))) ]
+]
+
 -- how each went
-abbrev EachLog : (LogState → LogState → List LogItem → Type 0) → List LogState → List LogState → List (List LogItem) → Type 0
+abbrev pub EachLog : (LogState → LogState → List LogItem → Type 0) → List LogState → List LogState → List (List LogItem) → Type 0
 EachLog P [] [] [] = Unit {0}
 EachLog P (l ∷ ls) (k ∷ ks) (f ∷ fs) = P l k f × EachLog P ls ks fs
 EachLog P ls ks fs = ⊥
 
-each_log : (P : LogState → LogState → List LogItem → Type 0) (old new : List LogState) (found : List (List LogItem)) → length new ≡ length old → length found ≡ length old
+pub each_log : (P : LogState → LogState → List LogItem → Type 0) (old new : List LogState) (found : List (List LogItem)) → length new ≡ length old → length found ≡ length old
     → ((l : ℕ) → l < length old → P (log_at old l) (log_at new l) (items_at found l)) → EachLog P old new found
 each_log P [] [] [] many as_many each = tt
 each_log P [] [] (f ∷ fs) many as_many each = absurd (omega (arith, as_many))
@@ -46,10 +55,10 @@ each_log P (l ∷ ls) (k ∷ ks) [] many as_many each = absurd (omega (arith, as
 each_log P (l ∷ ls) (k ∷ ks) (f ∷ fs) many as_many each =
     (each 0 (omega arith), each_log P ls ks fs (omega (arith, many)) (omega (arith, as_many)) (λ n lt. each (suc n) (omega (arith, lt))))
 
-abbrev Second : List LogState → Type 0
+abbrev pub Second : List LogState → Type 0
 Second logs = AllByRecursion (λ (l : LogState). l.format ≡ 2) logs
 
-all_second : (logs : List LogState) → ((l : ℕ) → l < length logs → (log_at logs l).format ≡ 2) → Second logs
+pub all_second : (logs : List LogState) → ((l : ℕ) → l < length logs → (log_at logs l).format ≡ 2) → Second logs
 all_second [] each = tt
 all_second (l ∷ ls) each = (each 0 (omega arith), all_second ls (λ n lt. each (suc n) (omega (arith, lt))))
 
@@ -68,20 +77,21 @@ pub record AllReady (before after : List Device) (logs : List LogState) (found :
 -- ---- all of them
 
 module _ (laws : ReadyLaws) where
-  pub all_begun : (before others : List Device) (old new : List LogState) (found : List (List LogItem)) → AreFound before (with_logs old others) found → AllZip IsReadyLog old found
-      → EachLog IsMadeReady old new found → Second new → AreBegunOn before (with_logs new others) found
-  all_begun before others [] [] [] are ready made second = are
-  all_begun before others [] (k ∷ ks) fs are ready made second = absurd (none fs made)
+  -- where what is listed for a log is said by what is found in it
+  pub all_begun : (listed : List LogItem → List LogItem) (before others : List Device) (old new : List LogState) (found : List (List LogItem)) → AreFound before (with_logs old others) found
+      → AllZip IsReadyLog old found → EachLog (λ l k f. IsMadeReady l k (listed f)) old new found → Second new → AreBegunOn before (with_logs new others) found
+  all_begun listed before others [] [] [] are ready made second = are
+  all_begun listed before others [] (k ∷ ks) fs are ready made second = absurd (none fs made)
     where
-      none : (xs : List (List LogItem)) → EachLog IsMadeReady [] (k ∷ ks) xs → ⊥
+      none : (xs : List (List LogItem)) → EachLog (λ l k f. IsMadeReady l k (listed f)) [] (k ∷ ks) xs → ⊥
       none [] m = m
       none (x ∷ xs) m = m
-  all_begun before others [] [] (f ∷ fs) are ready made second = absurd made
-  all_begun before others (l ∷ ls) new [] are ready made second = absurd ready
-  all_begun before others (l ∷ ls) [] (f ∷ fs) are ready made second = absurd made
-  all_begun [] others (l ∷ ls) (k ∷ ks) (f ∷ fs) are ready made second = absurd are
-  all_begun (b ∷ bs) others (l ∷ ls) (k ∷ ks) (f ∷ fs) are ready made second =
-      (begun_on laws b l k f are.0 ready.0 made.0 second.0, all_begun bs others ls ks fs are.1 ready.1 made.1 second.1)
+  all_begun listed before others [] [] (f ∷ fs) are ready made second = absurd made
+  all_begun listed before others (l ∷ ls) new [] are ready made second = absurd ready
+  all_begun listed before others (l ∷ ls) [] (f ∷ fs) are ready made second = absurd made
+  all_begun listed [] others (l ∷ ls) (k ∷ ks) (f ∷ fs) are ready made second = absurd are
+  all_begun listed (b ∷ bs) others (l ∷ ls) (k ∷ ks) (f ∷ fs) are ready made second =
+      (begun_on laws b l k f are.0 ready.0 (listed f) made.0 second.0, all_begun listed bs others ls ks fs are.1 ready.1 made.1 second.1)
 
   pub all_ready : (before others : List Device) (old new : List LogState) (found : List (List LogItem)) → AreFound before (with_logs old others) found → AllZip IsReadyLog old found
       → EachLog IsMadeReady old new found → AllZip IsReadyLog new found
@@ -91,7 +101,7 @@ module _ (laws : ReadyLaws) where
   all_ready before others (l ∷ ls) new [] are ready made = absurd ready
   all_ready before others (l ∷ ls) [] (f ∷ fs) are ready made = absurd made
   all_ready [] others (l ∷ ls) (k ∷ ks) (f ∷ fs) are ready made = absurd are
-  all_ready (b ∷ bs) others (l ∷ ls) (k ∷ ks) (f ∷ fs) are ready made = (still_ready laws b l k f are.0 ready.0 made.0, all_ready bs others ls ks fs are.1 ready.1 made.1)
+  all_ready (b ∷ bs) others (l ∷ ls) (k ∷ ks) (f ∷ fs) are ready made = (still_ready laws b l k f are.0 ready.0 f made.0, all_ready bs others ls ks fs are.1 ready.1 made.1)
 
   -- of the first of them that are of format 2, so many
   pub all_no_old : (n : ℕ) (before others : List Device) (old new : List LogState) (found : List (List LogItem)) → n ≤ length found → AreFound before (with_logs old others) found → AllZip IsReadyLog old found
@@ -146,7 +156,7 @@ module _ (laws : ReadyLaws) where
       by (inr (inr same)) =
           subst (λ (x : LogState). IsHandled b (as_device x)) (sym same) (record { prepared = inl (inr (inl (are.0.opened.0, f, are.0.opened.1))); safe = are.0.safe })
 
-  rest_same : (before others : List Device) (old new : List LogState) (found : List (List LogItem)) → AreFound before (with_logs old others) found → AllZip IsReadyLog old found → length new ≡ length old
+  pub rest_same : (before others : List Device) (old new : List LogState) (found : List (List LogItem)) → AreFound before (with_logs old others) found → AllZip IsReadyLog old found → length new ≡ length old
       → drop (length found) (with_logs new others) ≡ drop (length found) before
   rest_same before others [] [] [] are ready many = are
   rest_same before others [] (k ∷ ks) found are ready many = absurd (omega (arith, many))
@@ -174,7 +184,7 @@ module _ (laws : ReadyLaws) where
 
   -- ---- the upgrade of one failed
 
-  above_opened : (n : ℕ) (before others : List Device) (old new : List LogState) (found : List (List LogItem)) → n < length found → AreFound before (with_logs old others) found → AllZip IsReadyLog old found
+  pub above_opened : (n : ℕ) (before others : List Device) (old new : List LogState) (found : List (List LogItem)) → n < length found → AreFound before (with_logs old others) found → AllZip IsReadyLog old found
       → length new ≡ length old → ((l : ℕ) → n < l → log_at new l ≡ log_at old l)
       → AllZip IsOpened (drop (n + 1) (take (length found) before)) (drop (n + 1) (take (length found) (with_logs new others)))
   above_opened n before others old new [] lt are ready many above = absurd (omega (arith, lt))
@@ -196,7 +206,7 @@ module _ (laws : ReadyLaws) where
   failed_at n before others [] new (f ∷ fs) lt are ready many not = absurd ready
   failed_at n before others (l ∷ ls) [] (f ∷ fs) lt are ready many not = absurd (omega (arith, many))
   failed_at n [] others (l ∷ ls) (k ∷ ks) (f ∷ fs) lt are ready many not = absurd are
-  failed_at zero (b ∷ bs) others (l ∷ ls) (k ∷ ks) (f ∷ fs) lt are ready many not = (cut_off laws b l k f are.0 ready.0 not, has_risen laws b l k f are.0 ready.0 not)
+  failed_at zero (b ∷ bs) others (l ∷ ls) (k ∷ ks) (f ∷ fs) lt are ready many not = (cut_off laws b l k f are.0 ready.0 not, has_risen laws b l k f are.0 ready.0 f not)
   failed_at (suc n) (b ∷ bs) others (l ∷ ls) (k ∷ ks) (f ∷ fs) lt are ready many not = failed_at n bs others ls ks fs (omega (arith, lt)) are.1 ready.1 (omega (arith, many)) not
 
   went_at : (n l : ℕ) (old new : List LogState) (found : List (List LogItem)) → IsStopped n old new found → (l < n) ⊎ ((l ≡ n) ⊎ (n < l)) → Handled (log_at old l) (log_at new l) (items_at found l)
@@ -223,15 +233,6 @@ module _ (laws : ReadyLaws) where
         ),
         all_handled before others old new found are ready (each_log Handled old new found stopped.many as_many (λ l lt. went_at n l old new found stopped (three l n))),
       )
-    where
-      three : (l n : ℕ) → (l < n) ⊎ ((l ≡ n) ⊎ (n < l))
-      three zero zero = inr (inl refl)
-      three zero (suc n) = inl (omega arith)
-      three (suc l) zero = inr (inr (omega arith))
-      three (suc l) (suc n) = elim (three l n) [
-        | inl lt ↦ inl (omega (arith, lt))
-        | inr rest ↦ elim rest [ inl same ↦ inr (inl (ap (λ (i : ℕ). suc i) same)) | inr gt ↦ inr (inr (omega (arith, gt))) ]
-      ]
 
   -- ---- as answers
 
@@ -265,7 +266,7 @@ module _ (laws : ReadyLaws) where
       let made = each_log IsMadeReady old new found is.all.many as_many is.all.below in
       let second : Second new = all_second new (λ l lt. is.second l (omega (arith, lt, is.all.many))) in
       record {
-        begun = all_begun before others old new found are ready made second;
+        begun = all_begun (λ f. f) before others old new found are ready made second;
         ready = all_ready before others old new found are ready made;
         second = second;
         recent = all_no_old (length found) before others old new found (omega arith) are ready made (λ l lt. is.second l (omega (arith, lt, as_many)));

@@ -19,7 +19,7 @@ use Rattle.record_log.specs.RecordLogLaws.{UpgradeKeepsRecords}
 use Rattle.record_log.specs.Records.{KeepsRecords}
 use Rattle.log_opening.specs.Devices.{Device, as_device, preparing_of, Begun, Prepared, HoldsNoOld, HoldsOld, IsBegun, IsPrepared, IsUpgradeCutOff}
 use Rattle.log_opening.specs.Found.{IsBegunOn, IsFoundOn, IsHandled, IsKeptSafe, IsReadyLog}
-use Rattle.log_opening.specs.Upgrades.{IsMadeReady, IsNotMadeReady, IsUpgradeFailed, IsUpgraded}
+use Rattle.log_opening.specs.Upgrades.{IsCutOff, IsMadeReady, IsNotMadeReady, IsUpgradeFailed, IsUpgraded}
 
 -- what the logs promise
 pub record ReadyLaws : Type 0 where
@@ -35,11 +35,12 @@ chosen : ℕ → List DevOp
 chosen n = if n == 1 then upgrade_ops else []
 
 -- the format of what the device held is that of the log
-pub format_was : ReadyLaws → (told new : Option History) (end : ℕ) (items : List LogItem) (format : ℕ) → Opened told new end items → HasFormat new format → IfSome told (λ h. format ≡ format_in (content h))
-format_was laws None new end items format opened has = tt
-format_was laws (Some h) new end items format opened has =
-    let behind : new ≡ Some (with_ops h (opening_ops (content h))) = laws.adds h new end items opened in
-    (subst (λ (t : Option History). HasFormat t format) behind has).1 ∙ laws.format h new end items opened
+pub format_was : OpeningAdds → OpeningKeepsFormat → (told new : Option History) (end : ℕ) (items : List LogItem) (format : ℕ) → Opened told new end items → HasFormat new format
+    → IfSome told (λ h. format ≡ format_in (content h))
+format_was adds keeps None new end items format opened has = tt
+format_was adds keeps (Some h) new end items format opened has =
+    let behind : new ≡ Some (with_ops h (opening_ops (content h))) = adds h new end items opened in
+    (subst (λ (t : Option History). HasFormat t format) behind has).1 ∙ keeps h new end items opened
 
 -- a log of format 2 is not upgraded
 second_stays : (told : Option History) (format : ℕ) → IfSome told (λ h. format ≡ format_in (content h)) → format ≡ 2 → upgrading_of told ≡ []
@@ -73,7 +74,7 @@ second_no_old : ReadyLaws → (told new : Option History) (end : ℕ) (items : L
     → HoldsNoOld (record { told = told; faults = faults })
 second_no_old laws None new end items format faults opened has two = tt
 second_no_old laws (Some h) new end items format faults opened has two = λ old.
-    let was : format ≡ format_in (content h) = format_was laws (Some h) new end items format opened has in
+    let was : format ≡ format_in (content h) = format_was laws.adds laws.format (Some h) new end items format opened has in
     omega (arith, was, two, old.1.1)
 
 empty_no_old : ReadyLaws → (told new : Option History) (end : ℕ) (items : List LogItem) (faults : ℕ) → Opened told new end items → items ≡ [] → HoldsNoOld (record { told = told; faults = faults })
@@ -86,14 +87,22 @@ old_there : ReadyLaws → (told new : Option History) (end : ℕ) (items : List 
     → HoldsOld (record { told = told; faults = faults })
 old_there laws None new end items format faults opened has one some = tt
 old_there laws (Some h) new end items format faults opened has one some =
-    let was : format ≡ format_in (content h) = format_was laws (Some h) new end items format opened has in
+    let was : format ≡ format_in (content h) = format_was laws.adds laws.format (Some h) new end items format opened has in
     (bytes_of items, (opened_items laws h new end items opened, sym one ∙ was), some_bytes items some)
 
 -- ---- what is made of a log
 
 module _ (laws : ReadyLaws) (b : Device) (l k : LogState) (items : List LogItem) (on : IsFoundOn b (as_device l) items) (ready : IsReadyLog l items) where
   was : IfSome b.told (λ h. l.format ≡ format_in (content h))
-  was = format_was laws b.told l.told on.opened.0 items l.format on.opened.1 ready.formatted
+  was = format_was laws.adds laws.format b.told l.told on.opened.0 items l.format on.opened.1 ready.formatted
+
+  -- so what the device held was of format 1
+  is_first : l.format ≡ 1 → IfSome b.told (λ h. format_in (content h) ≡ 1)
+  is_first one = by b.told was
+    where
+      by : (told : Option History) → IfSome told (λ h. l.format ≡ format_in (content h)) → IfSome told (λ h. format_in (content h) ≡ 1)
+      by None is = tt
+      by (Some h) is = sym is ∙ one
 
   -- it was of format 2
   begun_still : l.format ≡ 2 → (end : ℕ) × Begun b.told l.told end items
@@ -127,15 +136,15 @@ module _ (laws : ReadyLaws) (b : Device) (l k : LogState) (items : List LogItem)
 
   -- ---- by the cases
 
-  pub begun_on : IsMadeReady l k items → k.format ≡ 2 → IsBegunOn b (as_device k) items
-  begun_on (inl same) two =
+  pub begun_on : (listed : List LogItem) → IsMadeReady l k listed → k.format ≡ 2 → IsBegunOn b (as_device k) items
+  begun_on listed (inl same) two =
       let stays : l.format ≡ 2 = sym (ap (λ (x : LogState). x.format) same.0) ∙ two in
       subst (λ (x : LogState). IsBegunOn b (as_device x) items) (sym same.0) (record { begun = begun_still stays; placed = on.placed; safe = on.safe })
-  begun_on (inr up) two = record { begun = begun_now up.1 up.2; placed = on.placed; safe = record { records = keeps_now up.2; later = omega (arith, on.safe.later, up.2.later) } }
+  begun_on listed (inr up) two = record { begun = begun_now up.1 up.2; placed = on.placed; safe = record { records = keeps_now up.2; later = omega (arith, on.safe.later, up.2.later) } }
 
-  pub still_ready : IsMadeReady l k items → IsReadyLog k items
-  still_ready (inl same) = subst (λ (x : LogState). IsReadyLog x items) (sym same.0) ready
-  still_ready (inr up) = ready_now up.2
+  pub still_ready : (listed : List LogItem) → IsMadeReady l k listed → IsReadyLog k items
+  still_ready listed (inl same) = subst (λ (x : LogState). IsReadyLog x items) (sym same.0) ready
+  still_ready listed (inr up) = ready_now up.2
 
   pub no_old : IsMadeReady l k items → k.format ≡ 2 → HoldsNoOld b
   no_old (inl same) two = second_no_old laws b.told l.told on.opened.0 items l.format b.faults on.opened.1 ready.formatted (sym (ap (λ (x : LogState). x.format) same.0) ∙ two)
@@ -166,30 +175,30 @@ module _ (laws : ReadyLaws) (b : Device) (l k : LogState) (items : List LogItem)
       let here : Opened b.told l.told on.opened.0 [] = subst (λ (xs : List LogItem). Opened b.told l.told on.opened.0 xs) up.0 on.opened.1 in
       (on.opened.0, [], (l.told, here, first_upgrades b.told l.told k.told on.opened.0 [] l.format here was up.1 up.2.adds))
 
+  pub kept_safe : (listed : List LogItem) → IsMadeReady l k listed → IsKeptSafe b (as_device k)
+  kept_safe listed (inl same) = subst (λ (x : LogState). IsKeptSafe b (as_device x)) (sym same.0) on.safe
+  kept_safe listed (inr up) = record { records = keeps_now up.2; later = omega (arith, on.safe.later, up.2.later) }
+
   pub handled : IsMadeReady l k items → IsHandled b (as_device k)
-  handled made = record { prepared = inr (inl (prepared made)); safe = safe made }
-    where
-      safe : IsMadeReady l k items → IsKeptSafe b (as_device k)
-      safe (inl same) = subst (λ (x : LogState). IsKeptSafe b (as_device x)) (sym same.0) on.safe
-      safe (inr up) = record { records = keeps_now up.2; later = omega (arith, on.safe.later, up.2.later) }
+  handled made = record { prepared = inr (inl (prepared made)); safe = kept_safe items made }
 
   pub cut_off : IsNotMadeReady l k items → IsUpgradeCutOff b (as_device k)
   cut_off not =
       let here : Opened b.told l.told on.opened.0 [] = subst (λ (xs : List LogItem). Opened b.told l.told on.opened.0 xs) not.0 on.opened.1 in
-      (on.opened.0, l.told, here, of_first b.told was, not.2.adds)
-    where
-      of_first : (told : Option History) → IfSome told (λ h. l.format ≡ format_in (content h)) → IfSome told (λ h. format_in (content h) ≡ 1)
-      of_first None is = tt
-      of_first (Some h) is = sym is ∙ not.1
+      (on.opened.0, l.told, here, is_first not.1, not.2.adds)
 
-  pub handled_failed : IsNotMadeReady l k items → IsHandled b (as_device k)
-  handled_failed not = record {
-    prepared = inr (inr (cut_off not));
-    safe = record {
-      records = laws.keeps b.told l.told k.told on.opened.0 l.end items on.opened.1 ready.holds on.safe.records not.2.safe;
-      later = omega (arith, on.safe.later, not.2.later);
-    };
+  pub failed_safe : (listed : List LogItem) → IsNotMadeReady l k listed → IsKeptSafe b (as_device k)
+  failed_safe listed not = record {
+    records = laws.keeps b.told l.told k.told on.opened.0 l.end items on.opened.1 ready.holds on.safe.records not.2.safe;
+    later = omega (arith, on.safe.later, not.2.later);
   }
 
-  pub has_risen : IsNotMadeReady l k items → Rose b.faults k.faults
-  has_risen not = omega (arith, on.safe.later, not.2.rose)
+  pub handled_failed : IsNotMadeReady l k items → IsHandled b (as_device k)
+  handled_failed not = record { prepared = inr (inr (cut_off not)); safe = failed_safe items not }
+
+  pub has_risen : (listed : List LogItem) → IsNotMadeReady l k listed → Rose b.faults k.faults
+  has_risen listed not = omega (arith, on.safe.later, not.2.rose)
+
+  -- where it may have items
+  pub cut_off_at : (listed : List LogItem) → IsNotMadeReady l k listed → IsCutOff b (as_device k)
+  cut_off_at listed not = (on.opened.0, items, l.told, on.opened.1, is_first not.1, not.2.adds)

@@ -82,6 +82,11 @@ AreNotReady old new found (ending.Refused log offset c) = ⊥
 AreNotReady old new found (ending.Device log) = IsStopped log old new found
 AreNotReady old new found ending.Memory = ⊥
 
+-- how many of the logs are of format 1
+abbrev pub old_count : List LogState → ℕ
+old_count [] = 0
+old_count (l ∷ logs) = (if l.format == 1 then 1 else 0) + old_count logs
+
 -- ---- logs all of which are made ready
 
 -- So many of these devices hold a log of format 1, where they tell what they hold.

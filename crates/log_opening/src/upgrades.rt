@@ -3,9 +3,9 @@ ghost use Rattle.std.specs.Prelude.{◌≡◌, ◌≢◌, ◌++◌, ◌<◌, ◌
 ghost use Rattle.std.specs.List.{AllByRecursion, AllZip};
 ghost use Rattle.gate_log.specs.declared.logs.LogItem.{LogItem};
 ghost use Rattle.log_opening.specs.Devices.{Device, AreBegun, as_device};
-ghost use Rattle.log_opening.specs.Found.{IsHandled, IsReadyLog};
+ghost use Rattle.log_opening.specs.Found.{IsKeptSafe, IsReadyLog};
 ghost use Rattle.log_opening.specs.Reads.{AreOpen};
-ghost use Rattle.log_opening.specs.Upgrades.{AreNotReady, AreOld, AreReady, AreReadyBelow, IsMadeReady, IsNotBegun, IsNotMadeReady, IsStopped, IsUpgraded, IsUpgradeFailed, items_at, log_at};
+ghost use Rattle.log_opening.specs.Upgrades.{AreNotReady, AreOld, AreReady, AreReadyBelow, IsMadeReady, IsNotBegun, IsNotMadeReady, IsStopped, IsUpgraded, IsUpgradeFailed, items_at, log_at, old_count};
 
 use crate::LogsNo;
 use crate::openings::OpenLogs;
@@ -50,8 +50,8 @@ pub fn upgrade_all<D: LogDev>(alloc: Global, opened: &mut OpenLogs<D>) -> Result
         → AreBegun (length opened.old.found) before (map as_device opened.new.logs.items ++ others)) }
     ensures failed { IfErr result (λ no. (before others : List Device) → AreOpen before (map as_device opened.old.logs.items ++ others) opened.old.logs.items opened.old.found
         → IsNotBegun (length opened.old.found) before (map as_device opened.new.logs.items ++ others) no) }
-    ensures handled { (before others : List Device) → AreOpen before (map as_device opened.old.logs.items ++ others) opened.old.logs.items opened.old.found
-        → AllZip IsHandled before (map as_device opened.new.logs.items ++ others) }
+    ensures safe { (before others : List Device) → AreOpen before (map as_device opened.old.logs.items ++ others) opened.old.logs.items opened.old.found
+        → AllZip IsKeptSafe before (map as_device opened.new.logs.items ++ others) }
     ensures len { vec_len opened.new.logs ≡ vec_len opened.old.logs }
     ensures room { vec_capacity opened.new.logs ≡ vec_capacity opened.old.logs }
 {
@@ -72,6 +72,14 @@ pub fn count_old<D: LogDev>(logs: &[Log<D>]) -> u8
     ensures { (before others : List Device) (found : List (List LogItem)) → AreOpen before (map as_device logs.now ++ others) logs.now found → AreOld (take (length found) before) result }
 {
     opening_is_safe();
+    old_logs(logs)
+}
+
+/// How many of these logs are of format 1.
+fn old_logs<D: LogDev>(logs: &[Log<D>]) -> u8
+    requires { length logs.now ≤ 4 }
+    ensures { result ≡ old_count logs.now }
+{
     let mut count = 0;
     for log in logs {
         if log.format() == 1 {

@@ -8,5 +8,6 @@ invariant-loop-l l = record {
   count : vec_len l.logs ≡ l.l;
   room : l.fn.count ≤ vec_capacity l.logs;
   ready : AllByRecursion (λ k. k.shut ≡ false) l.logs.items;
+  formats : AllByRecursion (λ k. k.format ≡ 2) l.logs.items;
   ends : AllByRecursion (λ k. k.end ≤ FARTHEST_END + 2 ^ 32) l.logs.items;
 }

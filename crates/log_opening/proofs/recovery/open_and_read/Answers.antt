@@ -7,7 +7,7 @@ use Rattle.record_log.specs.Records.{AreItemsOf}
 use Rattle.log_opening.specs.Devices.{devices_now}
 use Rattle.log_opening.specs.Found.{ArePlaced, IsHalted, IsNoDecoding}
 use Rattle.log_opening.proofs.Reading.{found_placed}
-use Rattle.log_opening.proofs.Flow.{first_holds, first_said, others_ended, others_read}
+use Rattle.log_opening.proofs.Flow.{first_holds, first_said, open_then, others_ended, others_read, read_many}
 use Rattle.log_opening.proofs.recovery.open_and_read.Goals as goal
 
 pub open_logs-requires-clause-more : goal.open_logs-requires-clause-more
@@ -57,3 +57,17 @@ returns-in-Err-open_logs-clause-read g c =
     let said = c.logs_said-count.ensures in
     others_ended c.opened_holds.ensures.before before mid after c.first_records.new.opened.found c.in-Ok.first c.in-Err-open_logs.no c.in-Ok.ensures.read
     (subst (λ (n : ℕ). IsHalted n before after c.in-Err-open_logs.no) said (c.in-Err-open_logs.ensures.halted before c.in-Ok.ensures.read.are_found))
+
+pub returns-in-Ok-open_logs-clause-many : goal.returns-in-Ok-open_logs-clause-many
+returns-in-Ok-open_logs-clause-many g c =
+    read_many c.open_logs.new.opened.found c.in-Ok.first c.read_others.result
+    (subst (λ (l : List (List LogItem)). MatchResult c.read_others.result
+    (λ logs. AllZip AreItemsOf l logs × ((others : List (List Record)) × (logs ≡ c.in-Ok.first ∷ others))) (λ a. IsNoDecoding l (c.in-Ok.first ∷ []) a))
+    c.as_slice.ensures c.read_others.ensures)
+
+pub returns-in-Ok-open_logs-clause-open : goal.returns-in-Ok-open_logs-clause-open
+returns-in-Ok-open_logs-clause-open g c =
+    let before = devices_now g.D.LogDev.told g.D.LogDev.faults c.args.opened.now.logs.items c.args.devices.now.items in
+    let after = devices_now g.D.LogDev.told g.D.LogDev.faults c.open_logs.new.opened.logs.items c.open_logs.new.devices.items in
+    open_then before after c.open_logs.new.opened.logs.items c.open_logs.new.opened.found c.read_others.result
+    (c.in-Ok-open_logs.ensures.found before c.in-Ok.ensures.read.are_found) (c.in-Ok-open_logs.ensures.ready c.in-Ok.ensures.ready)
