@@ -5,7 +5,7 @@ use txn_records::{DecodeNo, decode, encode};
 
 /// A front, a byte that follows it so many times, and the offset of the first byte at which no record goes on; none
 /// where the bytes are a record.
-const ROWS: [(&'static [u8], u8, usize, Option<u32>); 14] = [
+const ROWS: [(&'static [u8], u8, usize, Option<u32>); 21] = [
     // a Genesis with one state, and what an actor completed
     (b"\x01\x02\0\x01", 0xFF, 128, None),
     (b"\x03", 0x80, 138, None),
@@ -43,6 +43,26 @@ const ROWS: [(&'static [u8], u8, usize, Option<u32>); 14] = [
         0,
         34,
         Some(26),
+    ),
+    // the result of a batch's one transaction, with a byte more, and with no room for a second one
+    (b"\x07\0\0\0\0\0\0\0\x01\0\x01", 0x80, 8, None),
+    (b"\x07\0\0\0\0\0\0\0\x01\0\x01", 0x80, 9, Some(19)),
+    (b"\x07\0\0\0\0\0\0\0\x01\0\x02", 0x80, 8, Some(19)),
+    // no result, and too many
+    (b"\x07\0\0\0\0\0\0\0\x01\0\0", 0, 0, Some(10)),
+    (b"\x07\0\0\0\0\0\0\0\x01\x01\x01", 0, 2056, Some(10)),
+    // the commit of an undeclared transaction with its result, on two actors, and with these in the wrong order
+    (
+        b"\x08\0\0\0\0\0\0\0\x01\0\0\0\0\0\0\0\0\0\0\0\0\0\0\0\x01\xFF\xFF\xFF\xFF\xFF\xFF\xFF\x9C\0\x02\0\0\0\x01",
+        0,
+        0,
+        None,
+    ),
+    (
+        b"\x08\0\0\0\0\0\0\0\x01\0\0\0\0\0\0\0\0\0\0\0\0\0\0\0\x01\xFF\xFF\xFF\xFF\xFF\xFF\xFF\x9C\0\x02\0\x01\0\0",
+        0,
+        0,
+        Some(38),
     ),
 ];
 
