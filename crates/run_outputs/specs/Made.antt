@@ -11,7 +11,8 @@ use Rattle.txn_records.specs.declared.records.Record.{Record}
 
 -- Of the operations of log l's device these are made at the moment: those of opening, and of an upgrade where the log was of
 -- format 1; one append for each group that the log had got by then; and some or all of the next append, only where that has begun.
--- The device held these bytes as it was opened, with its gate at `end`. `all` are the groups whose appends were begun in the whole run, `first` those of before it.
+-- The device held these bytes as it was opened, with its gate at `end`. `all` are the groups whose appends were begun in the whole
+-- run, `first` those of before it.
 pub record IsMade {C : Type 0} {w : Fixed C} {es : List Event} (m : Moment w es) (l : ℕ) (bytes : List ℕ) (end : ℕ) (first all : List (List Record)) (made : List DevOp) : Type 0 where
   pub later : List (List Record)
   pub begun : List DevOp

@@ -159,7 +159,7 @@ module _ (one : OneCommand) (laws : RecordLaws) (never : NeverBoth) (u : Use) (l
     migrate_completed (status.Logs log offset c) a = absurd (none_refused u.devices_after log offset c a.0)
     migrate_completed status.ReadFault a = absurd a
     migrate_completed (status.LogFault log) (inl failed, nothing) = absurd (quiet log failed.0 failed.1)
-    migrate_completed (status.LogFault log) (inr fails, nothing) = absurd (quiet log fails.there fails.rose)
+    migrate_completed (status.LogFault log) (inr fails, nothing) = absurd (quiet log fails.fails.there fails.fails.rose)
     migrate_completed status.OutFault a = absurd (sink a.3)
     migrate_completed status.TraceFault a = absurd a
 
