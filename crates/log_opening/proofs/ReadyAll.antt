@@ -1,5 +1,5 @@
 -- Open logs that are made ready for appends, on all devices.
-use Rattle.std.proofs.Common.{◌≡◌, ◌≢◌, ℕ, zero, suc, ◌+◌, ◌<◌, ◌≤◌, inl, inr, List, [], ◌∷◌, ◌++◌, length, map, take, drop, refl, sym, ◌∙◌, ap, subst, arith}
+use Rattle.std.proofs.Common.{◌≡◌, ℕ, zero, suc, ◌+◌, ◌<◌, ◌≤◌, inl, inr, List, [], ◌∷◌, ◌++◌, length, map, take, drop, refl, sym, ap, subst, arith}
 use Rattle.std.specs.Prelude.{◌⊎◌}
 use Rattle.std.specs.List.{AllByRecursion, AllZip}
 use Rattle.snap_outside.specs.Causes.{Rose}
@@ -11,8 +11,8 @@ use Rattle.log_opening.specs.declared.refusals.LogsNo.TheVariants as ending
 use Rattle.log_opening.specs.Counted.{AreNotRead, FailsUpgrade, HasOldFormat}
 use Rattle.log_opening.specs.Devices.{Device, as_device, device_at, AreBegun, HoldNoOld, HoldsOld, IsBegun, IsOpened, IsPrepared, IsUpgradeCutOff}
 use Rattle.log_opening.specs.Found.{AreBegunOn, AreFound, IsHandled, IsReadyLog}
-use Rattle.log_opening.specs.Upgrades.{AreNotReady, AreReady, AreReadyBelow, IsLeftOld, IsMadeReady, IsNotMadeReady, IsStopped, items_at, log_at}
-use Rattle.log_opening.proofs.Opening.{found_zip, found_rest, untouched}
+use Rattle.log_opening.specs.Upgrades.{AreNotReady, AreReady, IsLeftOld, IsMadeReady, IsNotMadeReady, IsStopped, items_at, log_at}
+use Rattle.log_opening.proofs.Opening.{found_zip, untouched}
 use Rattle.log_opening.proofs.ReadyOne.{ReadyLaws, begun_on, still_ready, no_old, is_old, prepared, handled, cut_off, handled_failed, has_risen}
 
 -- the devices of these logs, and the others

@@ -1,5 +1,5 @@
 -- One open log that is made ready for appends, on its device.
-use Rattle.std.proofs.Common.{◌≡◌, ◌≢◌, ℕ, ◌<◌, ◌≤◌, inl, inr, List, [], ◌∷◌, length, map, Option, Some, None, refl, sym, ◌∙◌, ap, subst, arith}
+use Rattle.std.proofs.Common.{◌≡◌, ◌≢◌, ℕ, inl, inr, List, [], ◌∷◌, length, Option, Some, None, refl, sym, ◌∙◌, ap, subst, arith}
 use Rattle.std.specs.Prelude.{IfSome, ◌⊎◌, ◌==◌, if◌then◌else◌}
 use Rattle.std.proofs.lemmas.Bool.{cases_lt}
 use Rattle.snap_outside.specs.Causes.{Rose}
@@ -8,18 +8,18 @@ use Rattle.snap_outside.specs.Disk.{History, content, with_ops, AddsAll}
 use Rattle.snap_outside.specs.Moments.{adds_nothing}
 use Rattle.gate_log.specs.declared.limits.TheConstants.{NEW_LOG_SIZE}
 use Rattle.gate_log.specs.declared.logs.LogItem.{LogItem}
-use Rattle.gate_log.specs.Appends.{upgrade_ops, upgrading_ops}
+use Rattle.gate_log.specs.Appends.{upgrade_ops}
 use Rattle.gate_log.specs.Bytes.{IsLog, format_in}
-use Rattle.gate_log.specs.Device.{DeviceLog, HasFormat, Upgraded}
+use Rattle.gate_log.specs.Device.{DeviceLog, HasFormat}
 use Rattle.gate_log.specs.LogLaws.{OneList, OpeningAdds, OpeningKeepsFormat, PlacedIsLogAt}
 use Rattle.gate_log.specs.Opened.{Opened, bytes_of, opening_ops}
 use Rattle.gate_log.specs.State.{LogState}
 use Rattle.record_log.specs.Growth.{upgrading_of}
 use Rattle.record_log.specs.RecordLogLaws.{UpgradeKeepsRecords}
 use Rattle.record_log.specs.Records.{KeepsRecords}
-use Rattle.log_opening.specs.Devices.{Device, as_device, preparing_of, Begun, Prepared, HoldsNoOld, HoldsOld, IsBegun, IsPrepared, IsUpgradeCutOff}
+use Rattle.log_opening.specs.Devices.{Device, as_device, preparing_of, Begun, HoldsNoOld, HoldsOld, IsPrepared, IsUpgradeCutOff}
 use Rattle.log_opening.specs.Found.{IsBegunOn, IsFoundOn, IsHandled, IsKeptSafe, IsReadyLog}
-use Rattle.log_opening.specs.Upgrades.{IsCutOff, IsMadeReady, IsNotMadeReady, IsUpgradeFailed, IsUpgraded}
+use Rattle.log_opening.specs.Upgrades.{IsCutOff, IsMadeReady, IsNotMadeReady, IsUpgraded}
 
 -- what the logs promise
 pub record ReadyLaws : Type 0 where

@@ -1,30 +1,21 @@
 -- Open logs that are upgraded one after the other.
-use Rattle.std.proofs.Common.{◌≡◌, ◌≢◌, ℕ, zero, suc, ◌+◌, ◌<◌, ◌≤◌, inl, inr, List, [], ◌∷◌, ◌++◌, length, map, take, drop, get_or, refl, sym, ◌∙◌, ap, subst, arith}
-use Rattle.std.specs.Prelude.{◌⊎◌, ◌==◌, false, IfSome, Option, Some, None, slice_set}
+use Rattle.std.proofs.Common.{◌≡◌, ◌≢◌, ℕ, zero, suc, ◌<◌, ◌≤◌, inl, inr, List, [], ◌∷◌, length, take, refl, sym, ◌∙◌, ap, subst, arith}
+use Rattle.std.specs.Prelude.{◌⊎◌, ◌==◌, false, IfSome, Option, Some, None}
 use Rattle.std.specs.List.{AllByRecursion, AllZip}
-use Rattle.std.proofs.lemmas.List.{get_or_read, get_or-set_same, get_or-set_other, length-set}
 use Rattle.snap_outside.specs.Causes.{Rose}
 use Rattle.snap_outside.specs.Disk.{History, content}
 use Rattle.gate_log.specs.declared.logs.LogItem.{LogItem}
 use Rattle.gate_log.specs.Bytes.{format_in}
 use Rattle.gate_log.specs.LogLaws.{OpeningAdds, OpeningKeepsFormat}
 use Rattle.gate_log.specs.State.{LogState}
-use Rattle.log_opening.specs.Devices.{Device, as_device, device_at, AreBegun, IsBegun, IsOpened}
+use Rattle.log_opening.specs.Devices.{Device, as_device, device_at, AreBegun, IsBegun}
 use Rattle.log_opening.specs.Found.{AreFound, IsKeptSafe, IsReadyLog}
 use Rattle.log_opening.specs.Upgrades.{AreOld, AreReady, AreReadyBelow, FailsBeginning, IsCutOff, IsLeftOld, IsMadeReady, IsNotMadeReady, IsStopped, items_at, log_at, old_count}
 use Rattle.log_opening.proofs.Opening.{untouched}
 use Rattle.log_opening.proofs.ReadyOne.{ReadyLaws, begun_on, cut_off_at, failed_safe, format_was, has_risen, kept_safe}
-use Rattle.log_opening.proofs.ReadyAll.{with_logs, three, EachLog, each_log, Second, all_second, all_begun, above_opened, rest_same, begun_all}
+use Rattle.log_opening.proofs.ReadyAll.{with_logs, three, EachLog, each_log, all_second, all_begun, above_opened, rest_same, begun_all}
 
 -- ---- logs by their numbers
-
-pub log_read : (logs : List LogState) (n : ℕ) (log : LogState) → n < length logs → log ≡ get_or logs n log → log_at logs n ≡ log
-log_read logs n log lt is = sym (get_or_read logs n log lt is _)
-
-pub open_at : (logs : List LogState) (n : ℕ) → n < length logs → AllByRecursion (λ (l : LogState). l.shut ≡ false) logs → (log_at logs n).shut ≡ false
-open_at [] n lt all = absurd (omega (arith, lt))
-open_at (l ∷ logs) zero lt all = all.0
-open_at (l ∷ logs) (suc n) lt all = open_at logs n (omega (arith, lt)) all.1
 
 pub all_open : (logs : List LogState) (found : List (List LogItem)) → AllZip IsReadyLog logs found → AllByRecursion (λ (l : LogState). l.shut ≡ false) logs
 all_open [] found ready = tt
@@ -42,68 +33,6 @@ as_many [] [] ready = refl
 as_many [] (f ∷ found) ready = absurd ready
 as_many (l ∷ logs) [] ready = absurd ready
 as_many (l ∷ logs) (f ∷ found) ready = ap (λ (n : ℕ). suc n) (as_many logs found ready.1)
-
--- ---- one after the other
-
-pub before_first : (old : List LogState) (listed : List (List LogItem)) → AreReadyBelow 0 old old listed
-before_first old listed = record { many = refl; below = λ l lt. absurd (omega (arith, lt)); above = λ l le. refl }
-
-upto : (l n : ℕ) → l < n + 1 → (l < n) ⊎ (l ≡ n)
-upto zero zero lt = inr refl
-upto zero (suc n) lt = inl (omega arith)
-upto (suc l) zero lt = absurd (omega (arith, lt))
-upto (suc l) (suc n) lt = elim (upto l n (omega (arith, lt))) [ inl less ↦ inl (omega (arith, less)) | inr same ↦ inr (ap (λ (i : ℕ). suc i) same) ]
-
-below_set : (n : ℕ) (old logs : List LogState) (listed : List (List LogItem)) (new : LogState) → AreReadyBelow n old logs listed → (l : ℕ) → l < n
-    → IsMadeReady (log_at old l) (log_at (slice_set logs n new) l) (items_at listed l)
-below_set n old logs listed new are l lt =
-    subst (λ (x : LogState). IsMadeReady (log_at old l) x (items_at listed l)) (sym (get_or-set_other logs n l new _ (λ same. omega (arith, lt, same)))) (are.below l lt)
-
-above_set : (n : ℕ) (old logs : List LogState) (listed : List (List LogItem)) (new : LogState) → AreReadyBelow n old logs listed → (l : ℕ) → n < l → log_at (slice_set logs n new) l ≡ log_at old l
-above_set n old logs listed new are l lt = get_or-set_other logs n l new _ (λ same. omega (arith, lt, same)) ∙ are.above l (omega (arith, lt))
-
-pub one_ready : (n : ℕ) (old logs : List LogState) (listed : List (List LogItem)) (log new : LogState) (items : List LogItem) → n < length old → log ≡ get_or logs n log → items ≡ items_at listed n
-    → AreReadyBelow n old logs listed → IsMadeReady log new items → AreReadyBelow (n + 1) old (slice_set logs n new) listed
-one_ready n old logs listed log new items lt is its are made = record {
-  many = length-set logs n new ∙ are.many;
-  below = λ l less. elim (upto l n less) [
-    | inl under ↦ below_set n old logs listed new are l under
-    | inr same ↦ subst (λ (i : ℕ). IsMadeReady (log_at old i) (log_at (slice_set logs n new) i) (items_at listed i)) (sym same) here
-  ];
-  above = λ l le. above_set n old logs listed new are l (omega (arith, le));
-}
-  where
-    there : n < length logs
-    there = omega (arith, lt, are.many)
-
-    was : log ≡ log_at old n
-    was = sym (log_read logs n log there is) ∙ are.above n (omega arith)
-
-    here : IsMadeReady (log_at old n) (log_at (slice_set logs n new) n) (items_at listed n)
-    here =
-        subst (λ (x : LogState). IsMadeReady x (log_at (slice_set logs n new) n) (items_at listed n)) was
-        (subst (λ (x : LogState). IsMadeReady log x (items_at listed n)) (sym (get_or-set_same logs n new _ there)) (subst (λ (xs : List LogItem). IsMadeReady log new xs) its made))
-
-pub one_stopped : (n : ℕ) (old logs : List LogState) (listed : List (List LogItem)) (log new : LogState) (items : List LogItem) → n < length old → log ≡ get_or logs n log → items ≡ items_at listed n
-    → AreReadyBelow n old logs listed → IsNotMadeReady log new items → IsStopped n old (slice_set logs n new) listed
-one_stopped n old logs listed log new items lt is its are not = record {
-  asked = lt;
-  many = length-set logs n new ∙ are.many;
-  below = below_set n old logs listed new are;
-  failed = here;
-  above = above_set n old logs listed new are;
-}
-  where
-    there : n < length logs
-    there = omega (arith, lt, are.many)
-
-    was : log ≡ log_at old n
-    was = sym (log_read logs n log there is) ∙ are.above n (omega arith)
-
-    here : IsNotMadeReady (log_at old n) (log_at (slice_set logs n new) n) (items_at listed n)
-    here =
-        subst (λ (x : LogState). IsNotMadeReady x (log_at (slice_set logs n new) n) (items_at listed n)) was
-        (subst (λ (x : LogState). IsNotMadeReady log x (items_at listed n)) (sym (get_or-set_same logs n new _ there)) (subst (λ (xs : List LogItem). IsNotMadeReady log new xs) its not))
 
 -- ---- their formats then
 
@@ -132,10 +61,6 @@ left_first n old new found ready all lt one none = record {
 }
 
 -- ---- how many are of format 1
-
-pub old_at_most : (logs : List LogState) → old_count logs ≤ length logs
-old_at_most [] = omega arith
-old_at_most (l ∷ logs) = elim (l.format == 1) [ true ↦ omega (arith, old_at_most logs) | false ↦ omega (arith, old_at_most logs) ]
 
 pub counts_old : OpeningAdds → OpeningKeepsFormat → (before others : List Device) (logs : List LogState) (found : List (List LogItem)) → AreFound before (with_logs logs others) found
     → AllZip IsReadyLog logs found → AreOld (take (length found) before) (old_count logs)

@@ -3,7 +3,6 @@ use Rattle.std.specs.List.{AllByRecursion, AllZip}
 use Rattle.gate_log.specs.declared.logs.LogItem.{LogItem}
 use Rattle.log_opening.specs.Devices.{Device, devices_now, devices_of}
 use Rattle.log_opening.specs.Found.{AreFound, ArePlaced, IsReadyLog}
-use Rattle.log_opening.specs.Upgrades.{AreReady}
 use Rattle.log_opening.proofs.Opening.{none_found, none_ready}
 use Rattle.log_opening.proofs.Reading.{found_placed}
 use Rattle.log_opening.proofs.Counting.{halted_read, opened_handled, read_from, none_known}

@@ -1,4 +1,4 @@
-use Rattle.std.proofs.Common.{◌≡◌, ◌≢◌, ◌<◌, ◌≤◌, ℕ, length}
+use Rattle.std.proofs.Common.{◌≢◌, ◌<◌, ◌≤◌, ℕ, length}
 use Rattle.log_opening.specs.Upgrades.{log_at}
 use Rattle.log_opening.proofs.upgrades.first_old.Given as goal
 
