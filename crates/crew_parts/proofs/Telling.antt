@@ -3,7 +3,7 @@ use Rattle.std.proofs.Common.{◌≡◌, ℕ, if◌then◌else◌, Bool, true, f
 use Rattle.std.proofs.lemmas.List.{append_cancel_left}
 use Rattle.crew_parts.specs.Devices.{GrowsThrough}
 use Rattle.gate_log.specs.Appends.{append_ops}
-use Rattle.gate_log.specs.Opened.{opening_ops}
+use Rattle.gate_log.specs.Opened.{beginning_ops}
 use Rattle.record_log.proofs.Growing.{ops_more}
 use Rattle.record_log.specs.Growth.{GrewBy, IsBegun, begun_groups, end_behind_groups, groups_ops}
 use Rattle.record_log.specs.Records.{spelled}
@@ -48,7 +48,7 @@ begun_groups_first x xs (Some group) = refl
 module _ (h : History) (gate : ℕ) (first : List (List Record)) where
   -- its operations, once the log has got these groups, and these are made of one more append
   abbrev pub made_of : List (List Record) → List DevOp → List DevOp
-  made_of groups begun = opening_ops (content h) ++ (groups_ops gate (first ++ groups) ++ begun)
+  made_of groups begun = beginning_ops (content h) ++ (groups_ops gate (first ++ groups) ++ begun)
 
   -- those of the append of one more group
   abbrev pub next_ops : List (List Record) → List Record → List DevOp
@@ -64,13 +64,13 @@ module _ (h : History) (gate : ℕ) (first : List (List Record)) where
 
   made_on : (groups : List (List Record)) (xs ys : List DevOp) → made_of groups xs ++ ys ≡ made_of groups (xs ++ ys)
   made_on groups xs ys =
-      append_assoc (opening_ops (content h)) (groups_ops gate (first ++ groups) ++ xs) ys
-      ∙ ap (λ ops. opening_ops (content h) ++ ops) (append_assoc (groups_ops gate (first ++ groups)) xs ys)
+      append_assoc (beginning_ops (content h)) (groups_ops gate (first ++ groups) ++ xs) ys
+      ∙ ap (λ ops. beginning_ops (content h) ++ ops) (append_assoc (groups_ops gate (first ++ groups)) xs ys)
 
   same_begun : (groups : List (List Record)) (xs ys : List DevOp) → made_of groups xs ≡ made_of groups ys → xs ≡ ys
   same_begun groups xs ys e =
       let all = groups_ops gate (first ++ groups) in
-      append_cancel_left all xs ys (append_cancel_left (opening_ops (content h)) (all ++ xs) (all ++ ys) e)
+      append_cancel_left all xs ys (append_cancel_left (beginning_ops (content h)) (all ++ xs) (all ++ ys) e)
 
   pub growth_tells : (told : Option History) (groups : List (List Record)) (group : List Record) (b : Bool) → GrewBy (Some h) told gate (first ++ groups) (if b then Some group else None) → Tells groups group b told
   growth_tells told groups group true grew = record {
@@ -91,7 +91,7 @@ module _ (h : History) (gate : ℕ) (first : List (List Record)) where
   -- one group more is whole
   pub one_whole : (groups : List (List Record)) (group : List Record) → made_of (groups ++ group ∷ []) [] ≡ made_of groups (next_ops groups group)
   one_whole groups group =
-      ap (λ ops. opening_ops (content h) ++ ops)
+      ap (λ ops. beginning_ops (content h) ++ ops)
       (append-nil (groups_ops gate (first ++ (groups ++ group ∷ [])))
       ∙ (ap (groups_ops gate) (sym (append_assoc first groups (group ∷ []))) ∙ ops_more gate (first ++ groups) group))
 
