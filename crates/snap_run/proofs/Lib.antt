@@ -1,6 +1,7 @@
 pub mod ActorLines
 pub mod Complete
 pub mod InputLaws
+pub mod KeptLines
 pub mod Outcomes
 pub mod RecoverComplete
 pub mod Recovering

@@ -105,6 +105,11 @@ returns-in-Ok-Bench-clause-out_once g c = surely _ _ _ _ (λ stood. stood.0) c.r
 pub returns-in-Ok-Recover-clause-out_once : goal.returns-in-Ok-Recover-clause-out_once
 returns-in-Ok-Recover-clause-out_once g c = surely _ _ _ _ (λ stood. stood.0) c.print_recovered.ensures.once
 
+-- ---- the logs are made ones of format 2
+
+pub returns-in-Ok-Migrate-clause-out_once : goal.returns-in-Ok-Migrate-clause-out_once
+returns-in-Ok-Migrate-clause-out_once g c = surely _ _ _ _ (λ stood. stood.0) c.print_migrated.ensures.once
+
 -- ---- the words are no form
 
 pub returns-in-Err-clause-outcome : goal.returns-in-Err-clause-outcome

@@ -1,0 +1,26 @@
+-- The lines of what is kept grow by one that is kept, and those of a batch by a line at a time.
+use Rattle.std.proofs.Common.{◌≡◌, ℕ, ◌+◌, ◌<◌, zero, suc, ℤ, Option, None, Some, List, [], ◌∷◌, ◌++◌, length, take, get_or, slice_get, refl, sym, ap, ◌∙◌, append_assoc, append-nil, arith}
+use Rattle.std.specs.List.{flat_map}
+use Rattle.std.proofs.lemmas.List.{take_more}
+use Rattle.std.proofs.lemmas.List.Concat.{flat_map-append}
+use Rattle.snap_base.specs.declared.ids.Bid.{Bid}
+use Rattle.snap_base.specs.declared.ids.Tid.{Tid}
+use Rattle.snap_recover.specs.declared.openings.Kept.{Kept}
+use Rattle.snap_report.specs.Lines.{all_kept_text, batch_text, kept_text, lines_of, pact_place}
+
+pub all_kept_more : (all : List Kept) (n : ℕ) (d : Kept) → n < length all → all_kept_text (take n all) ++ lines_of (get_or all n d) ≡ all_kept_text (take (n + 1) all)
+all_kept_more all n d lt =
+    ap (λ l. all_kept_text (take n all) ++ l) (sym (append-nil (lines_of (get_or all n d))))
+    ∙ (sym (flat_map-append lines_of (take n all) (get_or all n d ∷ [])) ∙ ap all_kept_text (sym (take_more all n d lt)))
+
+pub batch_more : (bid : Bid) (tids : List Tid) (values : List ℤ) (n : ℕ) (d : Tid) → n < length tids
+    → batch_text bid (take n tids) (take n values) ++ kept_text (pact_place bid (get_or tids n d)) (slice_get values n) ≡ batch_text bid (take (n + 1) tids) (take (n + 1) values)
+batch_more bid [] values n d lt = absurd (omega (arith, lt))
+batch_more bid (t ∷ tids) [] zero d lt = sym (append-nil _)
+batch_more bid (t ∷ tids) (v ∷ values) zero d lt = sym (append-nil _)
+batch_more bid (t ∷ tids) [] (suc n) d lt =
+    append_assoc (kept_text (pact_place bid t) None) (batch_text bid (take n tids) []) _
+    ∙ ap (λ l. kept_text (pact_place bid t) None ++ l) (batch_more bid tids [] n d (omega (arith, lt)))
+batch_more bid (t ∷ tids) (v ∷ values) (suc n) d lt =
+    append_assoc (kept_text (pact_place bid t) (Some v)) (batch_text bid (take n tids) (take n values)) _
+    ∙ ap (λ l. kept_text (pact_place bid t) (Some v) ++ l) (batch_more bid tids values n d (omega (arith, lt)))
