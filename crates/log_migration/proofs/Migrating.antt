@@ -9,9 +9,9 @@ use Rattle.snap_recover.specs.declared.openings.Opening.{Opening}
 use Rattle.snap_report.specs.Lines.{migrated_text}
 use Rattle.log_opening.specs.declared.refusals.LogsNo.{LogsNo}
 use Rattle.log_opening.specs.declared.refusals.LogsNo.TheVariants as ending
-use Rattle.log_opening.specs.Devices.{Device, AreBegun, AreOpened}
+use Rattle.log_opening.specs.Devices.{Device, AreBegun, AreOpened, as_device}
 use Rattle.log_opening.specs.Found.{IsKeptSafe, IsTouched}
-use Rattle.log_opening.specs.Reads.{IsEnded, IsOpenOn}
+use Rattle.log_opening.specs.Reads.{AreOpen, IsEnded, IsOpenOn}
 use Rattle.log_opening.specs.Upgrades.{AreOld, FailsBeginning}
 use Rattle.log_migration.specs.Migrated.{AreMigrated, FailsMigration, IsMigrateNo, IsNotTold, LacksWords}
 
@@ -26,8 +26,8 @@ migrated_all before mid after logs found o count is old begun = record {
   old = subst (λ (n : ℕ). AreOld (take n before) count) (sym is.as_many) old;
 }
 
-pub not_migrated : (before mid after : List Device) (logs : List LogState) (found : List (List LogItem)) (o : Opening) (no : LogsNo) → IsOpenOn before mid logs found o
-    → IsNotTold (length found) before after no → IsMigrateNo before after no
+pub not_migrated : (before mid after : List Device) (logs : List LogState) (found : List (List LogItem)) (o : Opening) (why : LogsNo) → IsOpenOn before mid logs found o
+    → IsNotTold (length found) before after why → IsMigrateNo before after why
 not_migrated before mid after logs found o (ending.Device log) is not = inr (record {
   logs = is.records;
   opening = o;
@@ -44,7 +44,7 @@ not_migrated before mid after logs found o ending.Memory is not = inr (record {
 })
 not_migrated before mid after logs found o (ending.Refused log offset cause) is not = absurd not
 
-pub not_recovered : (before after : List Device) (no : LogsNo) → IsEnded before after no → IsMigrateNo before after no
+pub not_recovered : (before after : List Device) (why : LogsNo) → IsEnded before after why → IsMigrateNo before after why
 not_recovered before after (ending.Device log) is = inl is.cause
 not_recovered before after ending.Memory is = inl is.cause
 not_recovered before after (ending.Refused log offset cause) is = is.cause
@@ -57,29 +57,19 @@ touched_kept (b ∷ before) (a ∷ after) all = (all.0.safe, touched_kept before
 
 -- ---- told and upgraded
 
-pub told_migrated : {S : Type 0} (bytes : S → List ℕ) (before mid after : List Device) (logs : List LogState) (found : List (List LogItem)) (o : Opening) (r : Result S LogsNo) → IsOpenOn before mid logs found o
-    → IfOk r (λ line. (count : ℕ) × (bytes line ≡ migrated_text count) × (AreOld (take (length found) before) count × AreBegun (length found) before after))
-    → IfErr r (λ no. IsNotTold (length found) before after no)
-    → MatchResult r (λ line. (count : ℕ) × (bytes line ≡ migrated_text count) × AreMigrated before after count) (λ no. IsMigrateNo before after no)
-told_migrated bytes before mid after logs found o (Ok line) is told failed = (told.0, told.1, migrated_all before mid after logs found o told.0 is told.2.0 told.2.1)
-told_migrated bytes before mid after logs found o (Err no) is told failed = not_migrated before mid after logs found o no is failed
+pub told_migrated : {S : Type 0} (bytes : S → List ℕ) (before others : List Device) (old new : List LogState) (found : List (List LogItem)) (o : Opening) (r : Result S LogsNo)
+    → IsOpenOn before (map as_device old ++ others) old found o
+    → IfOk r (λ line. (count : ℕ) × (bytes line ≡ migrated_text count) × ((start rest : List Device) → AreOpen start (map as_device old ++ rest) old found
+    → AreOld (take (length found) start) count × AreBegun (length found) start (map as_device new ++ rest)))
+    → IfErr r (λ why. (start rest : List Device) → AreOpen start (map as_device old ++ rest) old found → IsNotTold (length found) start (map as_device new ++ rest) why)
+    → MatchResult r (λ line. (count : ℕ) × (bytes line ≡ migrated_text count) × AreMigrated before (map as_device new ++ others) count) (λ why. IsMigrateNo before (map as_device new ++ others) why)
+told_migrated bytes before others old new found o (Ok line) is told failed =
+    let both = told.2 before others is.open_logs in
+    (told.0, told.1, migrated_all before (map as_device old ++ others) (map as_device new ++ others) old found o told.0 is both.0 both.1)
+told_migrated bytes before others old new found o (Err why) is told failed =
+    not_migrated before (map as_device old ++ others) (map as_device new ++ others) old found o why is (failed before others is.open_logs)
 
 -- ---- the devices come back from the open logs
-
-pub migrated_back : {S : Type 0} (bytes : S → List ℕ) (before after mid before_mid : List Device) (r : Result S LogsNo) → before_mid ≡ before → after ≡ mid
-    → MatchResult r (λ line. (count : ℕ) × (bytes line ≡ migrated_text count) × AreMigrated before_mid mid count) (λ no. IsMigrateNo before_mid mid no)
-    → MatchResult r (λ line. (count : ℕ) × (bytes line ≡ migrated_text count) × AreMigrated before after count) (λ no. IsMigrateNo before after no)
-migrated_back bytes before after mid before_mid r first last answered =
-    subst (λ (l : List Device). MatchResult r (λ line. (count : ℕ) × (bytes line ≡ migrated_text count) × AreMigrated before l count) (λ no. IsMigrateNo before l no)) (sym last)
-    (subst (λ (l : List Device). MatchResult r (λ line. (count : ℕ) × (bytes line ≡ migrated_text count) × AreMigrated l mid count) (λ no. IsMigrateNo l mid no)) first answered)
-
-pub done_of : {S : Type 0} (P : S → Type 0) (Q : LogsNo → Type 0) (r : Result S LogsNo) → MatchResult r P Q → IfOk r P
-done_of P Q (Ok line) answered = answered
-done_of P Q (Err no) answered = tt
-
-pub refused_of : {S : Type 0} (P : S → Type 0) (Q : LogsNo → Type 0) (r : Result S LogsNo) → MatchResult r P Q → IfErr r Q
-refused_of P Q (Ok line) answered = tt
-refused_of P Q (Err no) answered = answered
 
 pub safe_back : (before after mid before_mid : List Device) → before_mid ≡ before → after ≡ mid → AllZip IsKeptSafe before_mid mid → AllZip IsKeptSafe before after
 safe_back before after mid before_mid first last safe =
@@ -87,12 +77,12 @@ safe_back before after mid before_mid first last safe =
 
 pub safe_records : (before after : List Device) → AllZip IsKeptSafe before after → AllZip (λ (b a : Device). KeepsRecords b.told a.told) before after
 safe_records [] [] all = tt
-safe_records [] (a ∷ as) all = absurd all
+safe_records [] (a ∷ after) all = absurd all
 safe_records (b ∷ bs) [] all = absurd all
-safe_records (b ∷ bs) (a ∷ as) all = (all.0.records, safe_records bs as all.1)
+safe_records (b ∷ bs) (a ∷ after) all = (all.0.records, safe_records bs after all.1)
 
 pub safe_later : (before after : List Device) → AllZip IsKeptSafe before after → AllZip (λ (b a : Device). b.faults ≤ a.faults) before after
 safe_later [] [] all = tt
-safe_later [] (a ∷ as) all = absurd all
+safe_later [] (a ∷ after) all = absurd all
 safe_later (b ∷ bs) [] all = absurd all
-safe_later (b ∷ bs) (a ∷ as) all = (all.0.later, safe_later bs as all.1)
+safe_later (b ∷ bs) (a ∷ after) all = (all.0.later, safe_later bs after all.1)

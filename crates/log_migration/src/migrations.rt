@@ -44,7 +44,7 @@ fn recover_and_upgrade<D: LogDev>(
     requires room { (4 ≤ vec_capacity opened.old.logs) × (4 ≤ vec_capacity devices.old) }
     ensures answered { MatchResult result
         (λ line. (count : ℕ) × (string_bytes line ≡ migrated_text count)
-            × AreMigrated (devices_now D.told D.faults opened.old.logs.items devices.old.items) (devices_now D.told D.faults opened.new.logs.items devices.new.items) count)
+        × AreMigrated (devices_now D.told D.faults opened.old.logs.items devices.old.items) (devices_now D.told D.faults opened.new.logs.items devices.new.items) count)
         (λ no. IsMigrateNo (devices_now D.told D.faults opened.old.logs.items devices.old.items) (devices_now D.told D.faults opened.new.logs.items devices.new.items) no) }
     ensures safe { AllZip IsKeptSafe (devices_now D.told D.faults opened.old.logs.items devices.old.items) (devices_now D.told D.faults opened.new.logs.items devices.new.items) }
     ensures four { vec_len opened.new.logs + vec_len devices.new ≡ 4 }
@@ -57,10 +57,7 @@ fn recover_and_upgrade<D: LogDev>(
 }
 
 /// The line that tells how many of the logs are of format 1, which are upgraded then.
-fn tell_and_upgrade<D: LogDev>(
-    alloc: Global,
-    opened: &mut OpenLogs<D>,
-) -> Result<String, LogsNo>
+fn tell_and_upgrade<D: LogDev>(alloc: Global, opened: &mut OpenLogs<D>) -> Result<String, LogsNo>
     requires few { vec_len opened.old.logs ≤ 4 }
     requires ready { AllZip IsReadyLog opened.old.logs.items opened.old.found }
     ensures told { IfOk result (λ line. (count : ℕ) × (string_bytes line ≡ migrated_text count) × ((before others : List Device)

@@ -10,14 +10,9 @@ pub returns-in-Ok-clause-answered : goal.returns-in-Ok-clause-answered
 returns-in-Ok-clause-answered g c =
     let told = g.D.LogDev.told in
     let faults = g.D.LogDev.faults in
-    let before = devices_now told faults c.args.opened.now.logs.items c.args.devices.now.items in
-    let others = devices_of told faults c.open_and_recover.new.devices.items in
-    let logs = c.open_and_recover.new.opened.logs.items in
-    let found = c.open_and_recover.new.opened.found in
-    let is = c.in-Ok.ensures.recovered in
-    told_migrated string_bytes before (devices_now told faults logs c.open_and_recover.new.devices.items)
-    (devices_now told faults c.tell_and_upgrade.new.opened.logs.items c.open_and_recover.new.devices.items) logs found c.in-Ok._opening c.tell_and_upgrade.result is
-    (c.tell_and_upgrade.ensures.told before others is.open_logs) (c.tell_and_upgrade.ensures.failed before others is.open_logs)
+    told_migrated string_bytes (devices_now told faults c.args.opened.now.logs.items c.args.devices.now.items) (devices_of told faults c.open_and_recover.new.devices.items)
+    c.open_and_recover.new.opened.logs.items c.tell_and_upgrade.new.opened.logs.items c.open_and_recover.new.opened.found c.in-Ok._opening c.tell_and_upgrade.result
+    c.in-Ok.ensures.recovered c.tell_and_upgrade.ensures.told c.tell_and_upgrade.ensures.failed
 
 pub returns-in-Ok-clause-safe : goal.returns-in-Ok-clause-safe
 returns-in-Ok-clause-safe g c =

@@ -1,4 +1,4 @@
-use Rattle.log_opening.proofs.Opening.{all_untouched, found_opened, found_touched}
+use Rattle.log_opening.proofs.Opening.{found_opened, found_touched}
 use Rattle.log_migration.proofs.Migrating.{touched_kept}
 use Rattle.log_migration.proofs.migrations.tell_and_upgrade.Goals as goal
 
