@@ -68,11 +68,11 @@ tells OutFault||3 0 0 0|
 leaves G1:100
 
 deposit|4|=SNAPLOG1\0\0
-tells LogFault { log: 0 }||1 0 0 0|
+tells LogFault { log: 0 }|tx 0 unsure 0/|1 0 0 0|
 leaves |
 
 deposit|5|=SNAPLOG1\0\0
-tells LogFault { log: 0 }||2 0 0 0|
+tells LogFault { log: 0 }|tx 0 unsure 0/|2 0 0 0|
 leaves =SNAPLOG2\0\0";
 
 /// Runs of which each call of the outside fails in turn, that are stopped at each moment, or that may lack memory.
