@@ -13,14 +13,29 @@ all_kept_more all n d lt =
     ap (λ l. all_kept_text (take n all) ++ l) (sym (append-nil (lines_of (get_or all n d))))
     ∙ (sym (flat_map-append lines_of (take n all) (get_or all n d ∷ [])) ∙ ap all_kept_text (sym (take_more all n d lt)))
 
+-- without values
+none_more : (bid : Bid) (tids : List Tid) (n : ℕ) (d : Tid) → n < length tids
+    → batch_text bid (take n tids) [] ++ kept_text (pact_place bid (get_or tids n d)) None ≡ batch_text bid (take (suc n) tids) []
+none_more bid [] n d lt = absurd (omega (arith, lt))
+none_more bid (t ∷ tids) zero d lt = sym (append-nil _)
+none_more bid (t ∷ tids) (suc n) d lt =
+    append_assoc (kept_text (pact_place bid t) None) (batch_text bid (take n tids) []) _
+    ∙ ap (λ l. kept_text (pact_place bid t) None ++ l) (none_more bid tids n d (omega (arith, lt)))
+
+line_more : (bid : Bid) (tids : List Tid) (values : List ℤ) (n : ℕ) (d : Tid) → n < length tids
+    → batch_text bid (take n tids) (take n values) ++ kept_text (pact_place bid (get_or tids n d)) (slice_get values n) ≡ batch_text bid (take (suc n) tids) (take (suc n) values)
+line_more bid [] values n d lt = absurd (omega (arith, lt))
+line_more bid (t ∷ tids) [] zero d lt = sym (append-nil _)
+line_more bid (t ∷ tids) (v ∷ values) zero d lt = sym (append-nil _)
+line_more bid (t ∷ tids) [] (suc n) d lt =
+    append_assoc (kept_text (pact_place bid t) None) (batch_text bid (take n tids) []) _
+    ∙ ap (λ l. kept_text (pact_place bid t) None ++ l) (none_more bid tids n d (omega (arith, lt)))
+line_more bid (t ∷ tids) (v ∷ values) (suc n) d lt =
+    append_assoc (kept_text (pact_place bid t) (Some v)) (batch_text bid (take n tids) (take n values)) _
+    ∙ ap (λ l. kept_text (pact_place bid t) (Some v) ++ l) (line_more bid tids values n d (omega (arith, lt)))
+
 pub batch_more : (bid : Bid) (tids : List Tid) (values : List ℤ) (n : ℕ) (d : Tid) → n < length tids
     → batch_text bid (take n tids) (take n values) ++ kept_text (pact_place bid (get_or tids n d)) (slice_get values n) ≡ batch_text bid (take (n + 1) tids) (take (n + 1) values)
-batch_more bid [] values n d lt = absurd (omega (arith, lt))
-batch_more bid (t ∷ tids) [] zero d lt = sym (append-nil _)
-batch_more bid (t ∷ tids) (v ∷ values) zero d lt = sym (append-nil _)
-batch_more bid (t ∷ tids) [] (suc n) d lt =
-    append_assoc (kept_text (pact_place bid t) None) (batch_text bid (take n tids) []) _
-    ∙ ap (λ l. kept_text (pact_place bid t) None ++ l) (batch_more bid tids [] n d (omega (arith, lt)))
-batch_more bid (t ∷ tids) (v ∷ values) (suc n) d lt =
-    append_assoc (kept_text (pact_place bid t) (Some v)) (batch_text bid (take n tids) (take n values)) _
-    ∙ ap (λ l. kept_text (pact_place bid t) (Some v) ++ l) (batch_more bid tids values n d (omega (arith, lt)))
+batch_more bid tids values n d lt =
+    let next : suc n ≡ n + 1 = omega arith in
+    line_more bid tids values n d lt ∙ ap (λ m. batch_text bid (take m tids) (take m values)) next
