@@ -10,7 +10,7 @@ use std::alloc::Global;
 const MAGIC: [u8; 7] = *b"SNAPLOG";
 
 /// The mark of a log of format 1.
-const FIRST_MARK: u8 = 49;
+const FIRST_MARK: u8 = b'1';
 
 /// The first place at which the bytes differ from those with which each log begins.
 fn differs_at(bytes: &[u8]) -> Option<usize>
