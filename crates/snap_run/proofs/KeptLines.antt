@@ -1,8 +1,10 @@
 -- The lines of what is kept grow by one that is kept, and those of a batch by a line at a time.
-use Rattle.std.proofs.Common.{◌≡◌, ℕ, ◌+◌, ◌<◌, zero, suc, ℤ, Option, None, Some, List, [], ◌∷◌, ◌++◌, length, take, get_or, slice_get, refl, sym, ap, ◌∙◌, append_assoc, append-nil, arith}
-use Rattle.std.specs.List.{flat_map}
-use Rattle.std.proofs.lemmas.List.{take_more}
+use Rattle.std.proofs.Common.{◌≡◌, ℕ, ◌+◌, ◌<◌, zero, suc, ℤ, Option, None, Some, List, [], ◌∷◌, ◌++◌, length, take, get_or, slice_get, refl, sym, ap, ◌∙◌, append_assoc, append-nil, arith, Bor}
+use Rattle.std.specs.Prelude.{◌≤◌, MatchOption, option_copied}
+use Rattle.std.specs.List.{HoldsAt}
+use Rattle.std.proofs.lemmas.List.{take_more, take_all}
 use Rattle.std.proofs.lemmas.List.Concat.{flat_map-append}
+use Rattle.std.proofs.lemmas.Option.{slice_get_past, slice_get_read}
 use Rattle.snap_base.specs.declared.ids.Bid.{Bid}
 use Rattle.snap_base.specs.declared.ids.Tid.{Tid}
 use Rattle.snap_recover.specs.declared.openings.Kept.{Kept}
@@ -39,3 +41,17 @@ pub batch_more : (bid : Bid) (tids : List Tid) (values : List ℤ) (n : ℕ) (d 
 batch_more bid tids values n d lt =
     let next : suc n ≡ n + 1 = omega arith in
     line_more bid tids values n d lt ∙ ap (λ m. batch_text bid (take m tids) (take m values)) next
+
+-- the lines of all of a batch
+pub batch_whole : (bid : Bid) (tids : List Tid) (values : List ℤ) (n : ℕ) → length tids ≤ n → batch_text bid (take n tids) (take n values) ≡ batch_text bid tids values
+batch_whole bid [] values zero le = refl
+batch_whole bid [] values (suc n) le = refl
+batch_whole bid (t ∷ tids) values zero le = absurd (omega (arith, le))
+batch_whole bid (t ∷ tids) [] (suc n) le = ap (λ ts. kept_text (pact_place bid t) None ++ batch_text bid ts []) (take_all n tids (omega (arith, le)))
+batch_whole bid (t ∷ tids) (v ∷ values) (suc n) le = ap (λ l. kept_text (pact_place bid t) (Some v) ++ l) (batch_whole bid tids values n (omega (arith, le)))
+
+-- the value that stands there, if there is one
+pub copied_at : (values : List ℤ) (n : ℕ) (o : Option (Bor ℤ)) → MatchOption o (length values ≤ n) (λ x. (n < length values) × HoldsAt (λ y. x.now ≡ y) values n)
+    → option_copied o ≡ slice_get values n
+copied_at values n None past = sym (slice_get_past values n past)
+copied_at values n (Some x) at = sym (slice_get_read values (length values) n x.now refl at.0 (at.1 x.now))

@@ -29,10 +29,10 @@ pub returns-in-Ok-Recover-clause-outcome : goal.returns-in-Ok-Recover-clause-out
 returns-in-Ok-Recover-clause-outcome g c =
     let words = map string_bytes c.args.words.now in
     let u : Use = use_of words (reading_of g.I.Source.left g.I.Source.faults c.args.input.now c.args.input.now)
-    (writing_of g.O.Sink.taken g.O.Sink.faults c.args.out.now c.print_recovered.new.out) (writing_of g.T.Sink.taken g.T.Sink.faults c.args.trace.now c.args.trace.now) c.new-in-Ok-Recover.result.items
+    (writing_of g.O.Sink.taken g.O.Sink.faults c.args.out.now c.print_recovered.new.out) (writing_of g.T.Sink.taken g.T.Sink.faults c.args.trace.now c.args.trace.now) c.new.result.items
     (devices_of g.D.LogDev.told g.D.LogDev.faults c.args.logs.now.items) (devices_of g.D.LogDev.told g.D.LogDev.faults c.print_recovered.new.devices.items) in
     recover_outcome c.one_command.ensures u c.print_recovered.result (subst (λ (k : Command). IsCommand words k) c.in-Ok-Recover.field-0-is c.in-Ok-Recover.ensures) (Keeps-refl _)
-    c.new-in-Ok-Recover.ensures.items (Keeps-refl _) c.print_recovered.ensures.opened c.print_recovered.ensures.safe c.print_recovered.ensures.answer
+    c.new.ensures.items (Keeps-refl _) c.print_recovered.ensures.opened c.print_recovered.ensures.safe c.print_recovered.ensures.answer
 
 pub returns-in-Ok-Migrate-clause-outcome : goal.returns-in-Ok-Migrate-clause-outcome
 returns-in-Ok-Migrate-clause-outcome g c =
