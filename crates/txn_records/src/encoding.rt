@@ -24,12 +24,15 @@ const BATCH_DONE: u8 = 7;
 
 const ACT_DONE: u8 = 8;
 
+/// Room, in bytes, for the record of an actor's state, as most records are, and for those of small batches.
+const FIRST_ROOM: usize = 160;
+
 /// The one spelling of a record.
 pub fn encode(alloc: Global, r: &Record) -> Result<Vec<u8>, Memory>
     requires { IsRecord r.now }
     ensures { IfOk result (λ v. v.items ≡ record_bytes r.now) }
 {
-    let mut out = Vec::new(alloc);
+    let mut out = Vec::with_capacity(alloc, FIRST_ROOM)?;
     match r {
         Record::Genesis { logs, states } => put_genesis(&mut out, *logs, states.as_slice())?,
         Record::BatchInfo { bid, actors, tids } => {

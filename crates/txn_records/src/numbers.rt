@@ -55,6 +55,12 @@ pub(crate) fn u64_between(bytes: &[u8], low: u64, high: u64) -> Result<(u64, &[u
     requires { low ≤ high }
     ensures { MatchResult result (λ x. Between low high x.0 × (bytes.now ≡ to_be_bytes w64 x.0 ++ x.1.now)) (Fails (Seq (Between low high) (to_be_bytes w64) (λ n. Any)) bytes.now) }
 {
+    if bytes.len() >= 8 {
+        let (number, rest) = front_u64(bytes);
+        if low <= number && number <= high {
+            return Ok((number, rest));
+        }
+    }
     match walk(bytes, 7, 1 << 56, low, high) {
         Ok(rest) => Ok((first_u64(bytes), rest)),
         Err(stop) => Err(stop),
@@ -66,6 +72,12 @@ pub(crate) fn u16_between(bytes: &[u8], low: u16, high: u16) -> Result<(u16, &[u
     requires { low ≤ high }
     ensures { MatchResult result (λ x. Between low high x.0 × (bytes.now ≡ to_be_bytes w16 x.0 ++ x.1.now)) (Fails (Seq (Between low high) (to_be_bytes w16) (λ n. Any)) bytes.now) }
 {
+    if bytes.len() >= 2 {
+        let (number, rest) = front_u16(bytes);
+        if low <= number && number <= high {
+            return Ok((number, rest));
+        }
+    }
     match walk(bytes, 1, 256, low as u64, high as u64) {
         Ok(rest) => Ok((first_u16(bytes), rest)),
         Err(stop) => Err(stop),
@@ -81,6 +93,24 @@ pub(crate) fn u8_between(bytes: &[u8], low: u8, high: u8) -> Result<(u8, &[u8]),
         Ok(rest) => Ok((bytes[0], rest)),
         Err(stop) => Err(stop),
     }
+}
+
+/// The number of eight bytes at the front, whatever it is, and the bytes behind it.
+fn front_u64(bytes: &[u8]) -> (u64, &[u8])
+    requires { 8 ≤ length bytes.now }
+    ensures { bytes.now ≡ to_be_bytes w64 result.0 ++ result.1.now }
+{
+    let (_, rest) = bytes.split_at(8);
+    (first_u64(bytes), rest)
+}
+
+/// The number of two bytes at the front, whatever it is, and the bytes behind it.
+fn front_u16(bytes: &[u8]) -> (u16, &[u8])
+    requires { 2 ≤ length bytes.now }
+    ensures { bytes.now ≡ to_be_bytes w16 result.0 ++ result.1.now }
+{
+    let (_, rest) = bytes.split_at(2);
+    (first_u16(bytes), rest)
 }
 
 fn first_u64(bytes: &[u8]) -> u64
