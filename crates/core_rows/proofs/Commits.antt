@@ -1,5 +1,5 @@
 -- The commit record of an ACT that is decided: it can be spelled, and it is the machine's.
-use Rattle.std.proofs.Common.{◌≡◌, ◌==◌, ℕ, ℤ, FitsSigned, ◌<◌, ◌≤◌, ◌^◌, Bool, true, false, if◌then◌else◌, Option, Some, None, List, [], ◌∷◌, ◌++◌, length, map, refl, ap, sym, subst, ◌∙◌, arith}
+use Rattle.std.proofs.Common.{◌≡◌, ◌==◌, ℕ, ℤ, FitsSigned, ◌^◌, Bool, true, false, if◌then◌else◌, Option, Some, None, List, [], ◌∷◌, length, map, refl, ap, sym, subst, ◌∙◌, arith}
 use Rattle.std.proofs.lemmas.Bool.{eqb-true}
 use Rattle.std.proofs.lemmas.List.{append-nil, length-map}
 use Rattle.snap_base.specs.declared.ids.ActorId.{ActorId}

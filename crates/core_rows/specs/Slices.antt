@@ -4,7 +4,7 @@ use Rattle.std.specs.Prelude.{◌≡◌, ℕ, Bool, Some}
 use Rattle.std.specs.Borrow.{MutBor}
 use Rattle.std.specs.Fn.{Once, FnOnceReturns}
 use Rattle.snap_base.specs.declared.transactions.State.{State}
-use Rattle.protocol.specs.Fixed.{Code, Sliced}
+use Rattle.protocol.specs.Fixed.{Code}
 use Rattle.protocol.specs.OnCell.{is_through}
 use Rattle.protocol.specs.Parts.{Waiting, Cell}
 use Rattle.protocol.specs.Words.{waiting_of}

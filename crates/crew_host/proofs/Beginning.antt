@@ -1,5 +1,5 @@
 -- A crew that did nothing.
-use Rattle.std.proofs.Common.{◌≡◌, ℕ, zero, suc, ◌<◌, Bool, true, false, if◌then◌else◌, Option, None, Some, List, [], ◌∷◌, length, refl, sym, subst, ◌∙◌, arith}
+use Rattle.std.proofs.Common.{◌≡◌, zero, suc, Bool, false, if◌then◌else◌, None, Some, List, [], ◌∷◌, refl, sym, subst, ◌∙◌, arith}
 use Rattle.std.proofs.lemmas.Bool.{true≢false}
 use Rattle.std.proofs.KnownBytes.{Appends-nil}
 use Rattle.std.specs.List.{AllByRecursion}
@@ -13,7 +13,6 @@ use Rattle.gate_log.specs.State.{LogState}
 use Rattle.protocol.specs.Fixed.{Fixed}
 use Rattle.run_journals.specs.Driven.{IsDriven}
 use Rattle.run_outputs.specs.Groups.{group_behind}
-use Rattle.txn_records.specs.declared.records.Record.{Record}
 
 pub are_open : (logs : List LogState) → AllByRecursion (λ (l : LogState). l.shut ≡ false) logs → AreAllOpen logs
 are_open [] all l lt = absurd (omega (arith, lt))

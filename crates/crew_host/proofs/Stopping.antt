@@ -1,5 +1,5 @@
 -- Why a crew ended, as the logs and the output tell it that stood beside its shares.
-use Rattle.std.proofs.Common.{◌≡◌, ℕ, zero, suc, ◌+◌, ◌<◌, ◌≤◌, Bool, true, false, inl, inr, Option, None, Some, List, [], ◌∷◌, length, slice_get, slice_index_or, refl, sym, ap, subst, ◌∙◌, arith, Contains}
+use Rattle.std.proofs.Common.{◌≡◌, ℕ, zero, suc, ◌+◌, ◌<◌, ◌≤◌, inl, inr, Option, None, Some, List, [], ◌∷◌, length, slice_get, slice_index_or, refl, sym, ap, subst, ◌∙◌, arith, Contains}
 use Rattle.aml_slice.specs.Controls.{Rest}
 use Rattle.crew_ends.specs.Ends.{AreBeside, log_at}
 use Rattle.crew_host.specs.Drives.{AreAllOpen, IsCrewStop}
@@ -10,14 +10,12 @@ use Rattle.crew_workers.specs.Ends.{IsFault, AllOpen, is_shut_at, is_shut_in, ha
 use Rattle.crew_workers.specs.declared.ends.Fault.{Fault}
 use Rattle.crew_workers.specs.declared.ends.Fault.TheVariants as fault
 use Rattle.gate_log.specs.State.{LogState}
-use Rattle.protocol.specs.Conditions.{IsAllowed}
 use Rattle.protocol.specs.Events.{Event, desk, log}
 use Rattle.protocol.specs.Fixed.{Fixed}
 use Rattle.protocol.specs.Parts.{Machine}
-use Rattle.protocol.specs.Runs.{IsQuiet, reached}
+use Rattle.protocol.specs.Runs.{IsQuiet}
 use Rattle.protocol.specs.Schedule.{IsEnabled}
 use Rattle.run_journals.specs.declared.stops.Stop.{Stop}
-use Rattle.run_journals.specs.declared.stops.Stop.TheVariants as stop
 
 -- where nothing is enabled all is quiet
 pub none_enabled : (w : Fixed Rest) (s : Machine Rest) (all : List Event) → IsEnabled w s all → length all ≡ 0 → IsQuiet w s

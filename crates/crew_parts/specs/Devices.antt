@@ -1,5 +1,5 @@
 -- What the devices of a crew's logs tell while its workers append, and the moment of the run at which they stand.
-use Rattle.std.specs.Prelude.{◌≡◌, ℕ, suc, ◌<◌, if◌then◌else◌, ◌⊎◌, Bool, true, false, Option, None, Some, List, [], ◌∷◌, ◌++◌, slice_get, slice_index}
+use Rattle.std.specs.Prelude.{◌≡◌, ℕ, suc, ◌<◌, if◌then◌else◌, ◌⊎◌, Bool, true, Option, None, Some, List, ◌∷◌, ◌++◌, slice_get, slice_index}
 use Rattle.aml_slice.specs.Controls.{Rest}
 use Rattle.crew_parts.specs.Acts.{MayDo, touched}
 use Rattle.crew_parts.specs.Besides.{is_shut_there}

@@ -1,12 +1,10 @@
 -- An opening, and an upgrade where the log is of format 1.
-use Rattle.std.proofs.Common.{◌≡◌, ℕ, ◌≤◌, ◌<◌, inl, inr, Bool, true, false, List, [], ◌∷◌, ◌++◌, length, Option, Some, refl, sym, ap, subst, append_assoc, append-nil}
+use Rattle.std.proofs.Common.{◌≡◌, ℕ, inl, inr, Bool, true, false, List, [], ◌∷◌, ◌++◌, Option, Some, sym, subst, append_assoc, append-nil}
 use Rattle.std.specs.Prelude.{◌==◌, if◌then◌else◌}
-use Rattle.std.proofs.lemmas.Bool.{cases_lt}
 use Rattle.snap_outside.specs.declared.devices.DevOp.{DevOp}
 use Rattle.snap_outside.specs.declared.devices.DevOp.TheVariants.{Write, Sync}
-use Rattle.snap_outside.specs.Disk.{History, Disk, disk, disk_after, content, settled, with_ops, EachMoment}
+use Rattle.snap_outside.specs.Disk.{History, Disk, disk, content, settled, with_ops, EachMoment}
 use Rattle.snap_outside.specs.Moments.{disk_join, moments_join}
-use Rattle.gate_log.specs.declared.limits.TheConstants.{NEW_LOG_SIZE}
 use Rattle.gate_log.specs.declared.logs.LogItem.{LogItem}
 use Rattle.gate_log.specs.Appends.{upgrade_ops}
 use Rattle.gate_log.specs.Bytes.{format_in, IsLog}

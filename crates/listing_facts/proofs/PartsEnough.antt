@@ -1,14 +1,14 @@
 -- What the post, an actor and the desk list is what they have to tell.
-use Rattle.std.specs.Prelude.{◌≡◌, refl, ℕ, ◌==◌, not, Bool, true, false, ◌&&◌, ◌||◌, if◌then◌else◌, is_some, Option, Some, None, List, [], ◌∷◌, ◌⊎◌, map, filter, find, Contains}
+use Rattle.std.specs.Prelude.{◌≡◌, refl, ℕ, ◌==◌, not, Bool, true, false, ◌&&◌, ◌||◌, if◌then◌else◌, is_some, Option, Some, None, List, [], ◌∷◌, map, filter, find, Contains}
 use Rattle.std.specs.List.{list_any, list_all}
-use Rattle.std.proofs.Common.{sym, ap, subst, inl, inr, ◌∙◌}
+use Rattle.std.proofs.Common.{sym, ap, subst, inl}
 use Rattle.std.proofs.lemmas.Bool.{eqb-true, and_parts, not-true, true≢false}
 use Rattle.protocol.specs.Parts.{SubBatch, ControlMessage, Post, Declared, Stage, Formed, Committing, Settled, Batch, Desk, Entry, BatchEntry, ActEntry, Slot, Cell}
 use Rattle.protocol.specs.Events.{Event}
 use Rattle.protocol.specs.Words.{holds, sub_of, control_of, has_control_to, is_formed, is_committing, is_settled, is_open, is_next_to_commit, batch_of, declared_of, waiting_of, outcome_of, is_going, is_ended, is_batch_entry, is_complete_batch, is_undone, has_undone}
 use Rattle.protocol_ready.specs.Telling.{PostTells, CellTells, DeskTells}
 use Rattle.protocol_ready.proofs.Listing.{Has, from_has, has_map, has_filter, has_flat_map, held, some, found_in, any_of}
-use Rattle.protocol_ready.proofs.Offered.{sub_found, control_found}
+use Rattle.protocol_ready.proofs.Offered.{sub_found}
 use Rattle.post_box.specs.Listed.{sub_places, control_places}
 use Rattle.hybrid_schedule.specs.Listed.{incomplete_of, incomplete_on, undone_in, undone_of, undone_on}
 use Rattle.batch_table.specs.Listed as batches

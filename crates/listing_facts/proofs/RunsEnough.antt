@@ -1,11 +1,10 @@
 -- What the book lists, and which replies are due, after every run.
-use Rattle.std.specs.Prelude.{◌≡◌, refl, ℕ, zero, suc, ◌+◌, ◌<◌, ◌≤◌, ◌==◌, nat_lt, nat_le, not, Bool, true, false, ◌&&◌, ◌||◌, if◌then◌else◌, is_some, Option, Some, None, List, [], ◌∷◌, ◌++◌, ◌⊎◌, length, map, filter, find, slice_get, Contains}
+use Rattle.std.specs.Prelude.{◌≡◌, refl, ℕ, ◌+◌, ◌<◌, ◌≤◌, ◌==◌, nat_lt, nat_le, not, Bool, true, false, ◌&&◌, ◌||◌, if◌then◌else◌, is_some, Option, Some, None, List, [], ◌∷◌, ◌++◌, ◌⊎◌, length, map, filter, find, Contains}
 use Rattle.std.specs.List.{list_all}
 use Rattle.std.proofs.Common.{arith, sym, ap, subst, inl, inr, ◌∙◌}
-use Rattle.std.proofs.lemmas.Bool.{eqb-true, eq-eqb, and_parts, not-true, true≢false, cases_Bool, ltb-true}
-use Rattle.snap_base.specs.declared.verdicts.Verdict.{Verdict}
+use Rattle.std.proofs.lemmas.Bool.{eqb-true, eq-eqb, and_parts, true≢false, cases_Bool, ltb-true}
 use Rattle.protocol.specs.Fixed.{Fixed}
-use Rattle.protocol.specs.Parts.{Status, Live, Doomed, Decided, Sealed, Joined, Act, Book, Cascade, Pact, Batch, Desk, Machine}
+use Rattle.protocol.specs.Parts.{Status, Live, Doomed, Decided, Sealed, Joined, Act, Book, Cascade, Pact, Batch, Machine}
 use Rattle.protocol.specs.Events.{Event}
 use Rattle.protocol.specs.Words.{holds, is_empty, below, covers, act_of, joined_of, is_value, is_doomed, is_decided, is_sealed, is_live_status, is_live_act}
 use Rattle.protocol.specs.Numbers.{flat, times, one_if, once_in, txs_in, TransactionsInOnePlace}

@@ -13,7 +13,7 @@ use Rattle.log_opening.specs.Devices.{Device, AreBegun, AreOpened, as_device}
 use Rattle.log_opening.specs.Found.{IsKeptSafe, IsTouched}
 use Rattle.log_opening.specs.Reads.{AreOpen, IsEnded, IsOpenOn}
 use Rattle.log_opening.specs.Upgrades.{AreOld, FailsBeginning}
-use Rattle.log_migration.specs.Migrated.{AreMigrated, FailsMigration, IsMigrateNo, IsNotTold, LacksWords}
+use Rattle.log_migration.specs.Migrated.{AreMigrated, IsMigrateNo, IsNotTold}
 
 pub migrated_all : (before mid after : List Device) (logs : List LogState) (found : List (List LogItem)) (o : Opening) (count : ℕ) → IsOpenOn before mid logs found o
     → AreOld (take (length found) before) count → AreBegun (length found) before after → AreMigrated before after count

@@ -1,11 +1,10 @@
 -- Where slices end with values of 64 bits, all results of a run are within 64 bits: those of the desk, and those of the book.
-use Rattle.std.specs.Prelude.{◌≡◌, refl, ℕ, ℤ, ◌+◌, ◌==◌, Bool, true, false, if◌then◌else◌, FitsSigned, Option, Some, None, List, [], ◌∷◌, ◌++◌, map}
-use Rattle.std.proofs.Common.{sym, subst}
+use Rattle.std.specs.Prelude.{◌≡◌, refl, ℕ, ◌+◌, ◌==◌, Bool, true, false, if◌then◌else◌, FitsSigned, Option, Some, None, List, [], ◌∷◌, map}
+use Rattle.std.proofs.Common.{subst}
 use Rattle.std.specs.Int.{w64}
 use Rattle.std.specs.List.{AllByRecursion}
 use Rattle.snap_base.specs.declared.transactions.TxResult.{TxResult}
 use Rattle.snap_base.specs.declared.transactions.TxResult.TheVariants.{Value, Fail}
-use Rattle.protocol.specs.Conditions.{queue}
 use Rattle.protocol.specs.Contents.{Content, PactResults, ActResults, IsSame, is_changed}
 use Rattle.protocol.specs.Effects.{after, cell_at}
 use Rattle.protocol.specs.Events.{Event, Form, Admit, End}
@@ -14,9 +13,9 @@ use Rattle.protocol.specs.OnBook as book
 use Rattle.protocol.specs.OnDesk as desk
 use Rattle.protocol.specs.OnRing as ring
 use Rattle.protocol.specs.Parts.{Act, Batch, Machine, Outcome, Pact}
-use Rattle.protocol.specs.Words.{batch_of, act_of, has_act, outcome_of, value_of, values_of}
+use Rattle.protocol.specs.Words.{batch_of, has_act, outcome_of, value_of, values_of}
 use Rattle.run_outputs.proofs.ValuesFit.{Fits, nought_fits}
-use Rattle.run_outputs.proofs.StatesKept.{If, Keeps, CellKeeps, MetNext, ResultFits, all_join, all_found, here}
+use Rattle.run_outputs.proofs.StatesKept.{If, Keeps, MetNext, ResultFits, all_join, all_found, here}
 
 -- what ended has a result within 64 bits
 abbrev pub EndFits : Option TxResult → Type 0

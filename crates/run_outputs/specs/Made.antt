@@ -1,5 +1,5 @@
 -- What the device of a log has had at a moment of a run.
-use Rattle.std.specs.Prelude.{◌≡◌, ℕ, Bool, false, List, [], ◌++◌}
+use Rattle.std.specs.Prelude.{◌≡◌, ℕ, false, List, [], ◌++◌}
 use Rattle.gate_log.specs.Opened.{beginning_ops}
 use Rattle.protocol.specs.Events.{Event}
 use Rattle.protocol.specs.Fixed.{Fixed}

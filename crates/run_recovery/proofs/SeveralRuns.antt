@@ -29,7 +29,7 @@ use Rattle.run_recovery.specs.Crashes.{CrashOn, Recovers}
 use Rattle.run_recovery.specs.Next.{GoesOnFrom, opening_left, records_left}
 use Rattle.run_recovery.specs.Runs.{AreRunDevices, HasRun, machine_of}
 use Rattle.run_recovery.specs.Schedules.{Schedule}
-use Rattle.run_recovery.specs.Several.{AddsMembers, BeganOn, Crash, CutOff, EachIsBehind, Early, FindsRunsLogs, GoOn, IsBehind, Left, LeftBy, OfNext, ValuesStand, Within, added_by, bytes_left, opening_behind}
+use Rattle.run_recovery.specs.Several.{AddsMembers, BeganOn, Crash, CutOff, EachIsBehind, Early, FindsRunsLogs, GoOn, IsBehind, Left, LeftBy, OfNext, ValuesStand, Within, added_by, bytes_left}
 use Rattle.run_recovery.specs.Unbegun.{AreKept}
 use Rattle.run_recovery.proofs.CallsKept.{CallsKeep}
 use Rattle.run_recovery.proofs.LogsLeft.{first_long}

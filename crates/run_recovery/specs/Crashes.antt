@@ -1,6 +1,5 @@
 -- What a crash leaves at a moment of a run, and what that recovers to.
 use Rattle.std.specs.Prelude.{◌≡◌, ℕ, ◌<◌, Bool, Some, List, ◌++◌}
-use Rattle.aml_slice.specs.Controls.{Rest}
 use Rattle.aml_tree.specs.Tree.{CheckedMethod}
 use Rattle.log_opening.specs.Devices.{Device, device_at}
 use Rattle.machine_laws.specs.Programs.{finish_of}

@@ -1,6 +1,6 @@
 -- A work that a text stands for is a text of the machine, where an opening has a state for each of its actors and room.
-use Rattle.std.proofs.Common.{◌≡◌, ℕ, zero, suc, ◌+◌, ◌<◌, ◌≤◌, ◌==◌, ◌||◌, Bool, true, false, List, [], ◌∷◌, length, map, refl, sym, ap, subst, ◌∙◌, arith}
-use Rattle.std.specs.Prelude.{Contains, slice_index_or}
+use Rattle.std.proofs.Common.{◌≡◌, ℕ, zero, suc, ◌<◌, ◌≤◌, ◌==◌, ◌||◌, Bool, true, false, List, [], ◌∷◌, length, map, refl, sym, ap, subst, arith}
+use Rattle.std.specs.Prelude.{slice_index_or}
 use Rattle.std.specs.List.{AllByRecursion, list_any}
 use Rattle.std.proofs.lemmas.Bool.{eq-eqb}
 use Rattle.snap_base.specs.declared.ids.ActorId.{ActorId}
@@ -10,7 +10,6 @@ use Rattle.snap_base.specs.declared.transactions.Tx.{Tx}
 use Rattle.aml_check.specs.Checked.{methods_of}
 use Rattle.aml_check.specs.Transactions as asked
 use Rattle.aml_tree.specs.Tree.{CheckedMethod}
-use Rattle.machine_laws.specs.Programs.{IsTextOf}
 use Rattle.protocol.specs.Fixed.{is_pact_kind, IsTxOf, IsUse, HasFewUses, IsText}
 use Rattle.snap_hand.specs.declared.tables.Tables.{Tables}
 use Rattle.snap_hand.specs.Tables.{text_of, AreTables, MayBegin}

@@ -1,4 +1,4 @@
-use Rattle.std.proofs.Common.{rules, ℤ, FitsSigned, ◌≡◌, ap, sym, subst, ◌∙◌}
+use Rattle.std.proofs.Common.{rules, ℤ, FitsSigned, ap, sym, subst, ◌∙◌}
 use Rattle.protocol.specs.Effects.{added}
 use Rattle.protocol.specs.Records.{ActDone}
 use Rattle.book_part.specs.Commits.{records_of}

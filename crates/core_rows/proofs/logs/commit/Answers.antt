@@ -1,4 +1,4 @@
-use Rattle.std.proofs.Common.{ℤ, List, FitsSigned, ◌%◌, [], ◌∷◌, IsTrue, refl, ap, sym, subst, ◌∙◌}
+use Rattle.std.proofs.Common.{FitsSigned, ◌%◌, [], ◌∷◌, IsTrue, refl, ap, sym, subst, ◌∙◌}
 use Rattle.protocol.specs.Events.{Commit}
 use Rattle.protocol.specs.Conditions.{conditions}
 use Rattle.protocol.specs.Effects.{after, added}

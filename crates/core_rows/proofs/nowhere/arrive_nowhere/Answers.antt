@@ -1,6 +1,6 @@
-use Rattle.std.proofs.Common.{◌==◌, ◌&&◌, not, is_some, ap, sym, ◌∙◌}
+use Rattle.std.proofs.Common.{◌==◌, not, is_some, ap, sym, ◌∙◌}
 use Rattle.protocol.specs.Conditions.{conditions, epoch}
-use Rattle.protocol.specs.Words.{holds, is_aborted, sub_of}
+use Rattle.protocol.specs.Words.{holds, sub_of}
 use Rattle.core_rows.proofs.Rules.{refused, four}
 use Rattle.core_rows.proofs.Found.{never, not_both}
 use Rattle.core_rows.proofs.nowhere.arrive_nowhere.Goals as goal

@@ -1,4 +1,4 @@
-use Rattle.std.proofs.Common.{◌==◌, nat_lt, not, is_some, find, refl, ap}
+use Rattle.std.proofs.Common.{nat_lt, not, is_some, find, refl, ap}
 use Rattle.protocol.specs.Conditions.{conditions, epoch}
 use Rattle.protocol.specs.Events.{Run, Send, End, Complete, Rollback}
 use Rattle.protocol.specs.Words.{holds, is_complete_batch, is_going, is_ended, is_batch_entry, outcome_of, waiting_of}

@@ -1,7 +1,7 @@
-use Rattle.std.proofs.Common.{◌≡◌, ℕ, false, List, [], Some, length, map, refl, sym, ap, subst, ◌∙◌}
+use Rattle.std.proofs.Common.{◌≡◌, false, List, [], Some, map, refl, sym, ap, subst, ◌∙◌}
 use Rattle.core_events.specs.Meant.{event_meant}
 use Rattle.crew_ends.specs.Ends.{AreDriven, AreDue}
-use Rattle.crew_host.proofs.Beginning.{are_open, nothing_driven, nothing_due, nothing_printed}
+use Rattle.crew_host.proofs.Beginning.{are_open, nothing_driven, nothing_printed}
 use Rattle.crew_parts.specs.Crews.{HasCome, OutputIs, kept}
 use Rattle.crew_parts.specs.Shares.{OutputState, output_seen}
 use Rattle.gate_log.specs.State.{LogState}

@@ -1,4 +1,4 @@
-use Rattle.std.proofs.Common.{◌≡◌, ◌+◌, ◌≤◌, ℕ, List, Option, length, sym, subst, ap, ◌∙◌, arith}
+use Rattle.std.proofs.Common.{◌≡◌, ◌+◌, List, length, subst, ◌∙◌, arith}
 use Rattle.crew_host.proofs.Stopping.{crew_stop}
 use Rattle.crew_host.specs.Stops.{IsStopBy}
 use Rattle.crew_parts.specs.Crews.{kept}

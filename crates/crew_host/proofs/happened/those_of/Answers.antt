@@ -1,4 +1,4 @@
-use Rattle.std.proofs.Common.{◌≡◌, ◌++◌, List, get_or, sym, ap, ◌∙◌, false, arith}
+use Rattle.std.proofs.Common.{◌++◌, List, get_or, sym, ap, ◌∙◌, false, arith}
 use Rattle.core_events.specs.declared.events.Event.TheVariants as events
 use Rattle.crew_host.proofs.Kept.{kept_more}
 use Rattle.crew_parts.specs.Acts.{meant}
