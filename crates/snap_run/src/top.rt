@@ -29,8 +29,8 @@ use std::thread::Threads;
 /// of the seed, and else with so many, each of which takes the events that it comes to and passes the gate before a slice. It
 /// goes on from what the text's logs hold, writes the records of the run there, prints its replies and its end to `out`, and
 /// at last a line of each event to `trace`. The other commands read no input: `recover` prints what the logs recover to, `migrate`
-/// makes those of format 1 ones of format 2, `gen` prints a generated text, and `bench` runs one as `run` runs its input, but prints the summary of the run alone. Without
-/// workers it returns; whether it returns with some is not promised.
+/// makes those of format 1 ones of format 2, `gen` prints a generated text, and `bench` runs one as `run` runs its input, but
+/// prints the summary of the run alone. Without workers it returns; whether it returns with some is not promised.
 pub fn run<
     R: Threads + Wait + Sync,
     I: Source,
