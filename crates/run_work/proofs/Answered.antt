@@ -1,5 +1,7 @@
 -- How a call ends, from how a run ended and what was written of its trace.
-use Rattle.std.proofs.Common.{◌≡◌, ◌≢◌, ◌⊎◌, inl, inr, ℕ, ◌<◌, Bool, true, List, [], length, append-nil, refl, sym, ◌∙◌, ap, subst}
+use Rattle.std.proofs.Common.{◌≡◌, ◌≢◌, ◌⊎◌, inl, inr, ℕ, ◌<◌, Bool, true, Option, Result, Ok, Err, List, [], length, append-nil, refl, sym, ◌∙◌, ap, subst}
+use Rattle.std.proofs.KnownBytes.{Keeps-refl}
+use Rattle.std.specs.Io.KnownBytes.{Keeps}
 use Rattle.std.proofs.lemmas.Bool.{eq-eqb}
 use Rattle.std.specs.List.{list_all}
 use Rattle.aml_slice.specs.Controls.{Rest}
@@ -15,16 +17,19 @@ use Rattle.run_printing.specs.Printed.{traced_line}
 use Rattle.run_recovery.specs.Runs.{no_log, one_log, HasRun, meant, machine_of, HasEnded}
 use Rattle.run_recovery.specs.Schedules.{Schedule, seeded, free}
 use Rattle.run_recovery.specs.Stands.{RunStands}
-use Rattle.run_work.specs.Hosts.{LeftFailed}
+use Rattle.run_work.proofs.Ending.{StopsAtFault, untraced_of}
+use Rattle.run_work.specs.Hosts.{LeftFailed, HasHosted}
 use Rattle.run_work.specs.Runs.{Printing, Ran, AllReplied, HasFailed, IsAnswerOf, LogRose, PrintsFailed, IsOfLogs}
 use Rattle.run_work.specs.Statuses.{logs_status}
-use Rattle.run_work.specs.Untraced.{IsRunEnd, LeftBy, IsNoBeginning, IsUntraced, IsTraced}
-use Rattle.run_work.specs.Writings.{Writing, WritesNothing, Writes, WritesLines}
+use Rattle.run_work.specs.Untraced.{IsRunEnd, LeftBy, IsNoBeginning, IsUntraced, IsTraced, EndsUntraced, IsCallEnd}
+use Rattle.run_work.specs.declared.hosts.Hosted.{Hosted}
+use Rattle.run_work.specs.Writings.{Writing, writing_of, WritesNothing, Writes, WritesLines}
 use Rattle.snap_base.specs.declared.transactions.State.{State}
 use Rattle.snap_outside.specs.Causes.{Rose}
 use Rattle.snap_recover.specs.declared.openings.Opening.{Opening}
 use Rattle.snap_report.specs.declared.statuses.Status.{Status}
 use Rattle.snap_report.specs.declared.statuses.Status.TheVariants as status
+use Rattle.snap_work.specs.Works.{Work}
 use Rattle.trace_text.specs.Traces.{trace_of}
 use Rattle.txn_records.specs.declared.records.Record.{Record}
 
@@ -121,7 +126,7 @@ is_done (status.LogFault log) = inr (λ e. cc)
 is_done status.OutFault = inr (λ e. cc)
 is_done status.TraceFault = inr (λ e. cc)
 
-pub answered : (p : Printing) (r : Ran) → EachStands r → MarksAreReplies → (before after : Status) → (r.kept ≡ [] → WritesNothing r.trace) → IsUntraced p r before → IsTraced r.trace r.kept before after → IsAnswerOf p r after
+answered : (p : Printing) (r : Ran) → EachStands r → MarksAreReplies → (before after : Status) → (r.kept ≡ [] → WritesNothing r.trace) → IsUntraced p r before → IsTraced r.trace r.kept before after → IsAnswerOf p r after
 answered p r stands marks before after nothing run (inl (same, whole)) = same_answer p r stands marks before after nothing run same (whole_lines r.trace r.kept whole) (λ _. whole)
 answered p r stands marks before after nothing run (inr (front, other, done)) = elim (is_done before) [
   | inl is ↦ done_but_traced p r stands marks after (subst (λ (t : Status). IsUntraced p r t) is run) front (done is)
@@ -148,13 +153,13 @@ unbegun_not_of_logs : (why : LogsNo) (s : Status) → s ≡ logs_status why → 
 unbegun_not_of_logs why s is memory of =
     let told : s ≡ status.Memory = is ∙ ap (λ (x : LogsNo). logs_status x) memory in subst (λ (x : Status). IsOfLogs x) told of
 
-pub untraced_not_of_logs : (p : Printing) (r : Ran) (records : List (List Record)) (first : Opening) → MayOpen r.work.logs r.work.states r.devices_before r.devices_after records first
+untraced_not_of_logs : (p : Printing) (r : Ran) (records : List (List Record)) (first : Opening) → MayOpen r.work.logs r.work.states r.devices_before r.devices_after records first
     → (s : Status) → IsUntraced p r s → ¬ IsOfLogs s
 untraced_not_of_logs p r records first may s (inl (why, none, is)) = unbegun_not_of_logs why s is (none.none.complete records first may)
 untraced_not_of_logs p r records first may s (inr (o, end)) = begun_not_of_logs p r records first may o s end
 
 -- nor does the trace
-pub traced_not_of_logs : (trace : Writing) (kept : List Event) (before after : Status) → IsTraced trace kept before after → ¬ IsOfLogs before → ¬ IsOfLogs after
+traced_not_of_logs : (trace : Writing) (kept : List Event) (before after : Status) → IsTraced trace kept before after → ¬ IsOfLogs before → ¬ IsOfLogs after
 traced_not_of_logs trace kept before after (inl (same, whole)) not of = not (subst (λ (s : Status). IsOfLogs s) same of)
 traced_not_of_logs trace kept before after (inr (front, other, done)) not of = elim (is_done before) [
   | inl is ↦ elim (done is) [
@@ -163,3 +168,30 @@ traced_not_of_logs trace kept before after (inr (front, other, done)) not of = e
   ]
   | inr otherwise ↦ not (subst (λ (s : Status). IsOfLogs s) (other otherwise) of)
 ]
+
+-- ---- of a call, by what a host left and how it ended then
+
+-- the output as the host was handed it, as it left it, and at the end
+module _
+    {O : Type 0} (taken : O → Option (List ℕ)) (faults : O → ℕ) (first then last : O)
+    (p : Printing) (w : Work) (schedule : Schedule) (before after : List Device) (ran : Result Hosted LogsNo) (count : ℕ) (events : List Event) (trace : Writing) (s : Status)
+    (many : count ≡ length w.txs) (hosted : HasHosted p w schedule before after (writing_of taken faults first then) ran)
+    (end : IsCallEnd p ran count events (writing_of taken faults then last) trace s) (silent : StopsAtFault p ran (last ≡ then))
+  where
+    abbrev run_of : Ran
+    run_of = record { work = w; schedule = schedule; kept = events; devices_before = before; devices_after = after; out = writing_of taken faults first last; trace = trace }
+
+    nothing_behind : (r : Result Hosted LogsNo) → StopsAtFault p r (last ≡ then) → StopsAtFault p r (WritesNothing (writing_of taken faults then last))
+    nothing_behind (Ok h) quiet = λ stops failed. subst (λ (x : O). Keeps (taken then) (taken x)) (sym (quiet stops failed)) (Keeps-refl (taken then))
+    nothing_behind (Err why) quiet = tt
+
+    untraced : IsUntraced p run_of end.before
+    untraced =
+        untraced_of p w schedule before after (writing_of taken faults first then) (writing_of taken faults then last) trace (refl, refl) ran events end.before hosted
+        (subst (λ (n : ℕ). EndsUntraced p ran n events (writing_of taken faults then last) end.before) many end.untraced) (nothing_behind ran silent)
+
+    pub call_answer : EachStands run_of → MarksAreReplies → (events ≡ [] → WritesNothing trace) → IsAnswerOf p run_of s
+    call_answer stands marks nothing = answered p run_of stands marks end.before s nothing untraced end.traced
+
+    pub call_not_of_logs : (records : List (List Record)) (o : Opening) → MayOpen w.logs w.states before after records o → ¬ IsOfLogs s
+    call_not_of_logs records o may = traced_not_of_logs trace events end.before s end.traced (untraced_not_of_logs p run_of records o may end.before untraced)

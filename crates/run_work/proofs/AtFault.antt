@@ -1,58 +1,42 @@
 -- No call is made behind one that failed: what a host writes, what is printed behind the replies, and the trace.
-use Rattle.std.proofs.Common.{◌≡◌, ◌≢◌, ℕ, Bool, true, false, inl, inr, List, refl, ◌∙◌}
-use Rattle.std.proofs.lemmas.Bool.{true≢false}
+use Rattle.std.proofs.Common.{◌≡◌, ◌≢◌, ℕ, Bool, true, false, inl, inr, List, Result, Ok, Err, refl, sym, ◌∙◌, ap, subst}
+use Rattle.std.proofs.lemmas.Bool.{cases_Bool, true≢false}
 use Rattle.aml_slice.specs.Controls.{Rest}
 use Rattle.core_events.specs.declared.events.Event.{Event}
-use Rattle.crew_host.specs.Drives.{IsCrewStop}
-use Rattle.gate_log.specs.State.{LogState}
+use Rattle.log_opening.specs.Devices.{Device}
+use Rattle.log_opening.specs.declared.refusals.LogsNo.{LogsNo}
 use Rattle.protocol.specs.Events as machine
 use Rattle.protocol.specs.Fixed.{Fixed}
 use Rattle.run_journals.specs.declared.stops.Stop.{Stop}
 use Rattle.run_journals.specs.declared.stops.Stop.TheVariants as stop
-use Rattle.run_work.specs.Hosts.{StopsSo}
-use Rattle.run_work.specs.Runs.{Printing, OutStood}
-use Rattle.run_work.specs.Untraced.{IsEnding, IsTraced}
+use Rattle.run_recovery.specs.Runs.{machine_of, meant}
+use Rattle.run_recovery.specs.Schedules.{Schedule}
+use Rattle.run_work.proofs.Ending.{StopsAtFault}
+use Rattle.run_work.specs.Hosts.{StopsSo, HasHosted, HasStood}
+use Rattle.run_work.specs.Runs.{Printing, reporting, summing, OutStoodOf}
+use Rattle.run_work.specs.Untraced.{IsEnding, IsTraced, IsCallEnd}
 use Rattle.run_work.specs.Writings.{Writing}
+use Rattle.run_work.specs.declared.hosts.Hosted.{Hosted}
 use Rattle.snap_outside.proofs.AtFault.{calls_join}
 use Rattle.snap_outside.specs.Causes.{EndsAtFault}
 use Rattle.snap_report.specs.declared.statuses.Status.{Status}
 use Rattle.snap_report.specs.declared.statuses.Status.TheVariants as status
+use Rattle.snap_work.specs.Works.{Work}
 
--- ---- the output
+-- ---- what is printed behind the replies
 
-module _ (p : Printing) (m : Fixed Rest) (es : List machine.Event) (count : ℕ) (out : Writing) (s : Status) (f0 l0 f1 l1 f2 l2 : ℕ) where
-  -- where one thread stopped for the output, nothing comes behind
-  pub ended_once : (by : Stop) → IsEnding p m es count by out s → (by ≡ stop.OutFault → (f2 ≡ f1) × (l2 ≡ l1))
-      → EndsAtFault (by ≢ stop.OutFault) f0 l0 f1 l1 → EndsAtFault (OutStood s) f1 l1 f2 l2 → EndsAtFault (OutStood s) f0 l0 f2 l2
-  ended_once stop.OutFault is silent host end = record {
-    quiet = λ stood. absurd (stood.0 is.0);
-    none_late = λ none. (silent refl).1 ∙ host.none_late none;
-  }
-  ended_once stop.Quiet is silent host end = calls_join f0 l0 f1 l1 f2 l2 (λ e. cc) host end
-  ended_once (stop.LogFault log) is silent host end = calls_join f0 l0 f1 l1 f2 l2 (λ e. cc) host end
-  ended_once stop.Memory is silent host end = calls_join f0 l0 f1 l1 f2 l2 (λ e. cc) host end
+-- a log's fault is told beside a report alone
+pub stood_alone : (p : Printing) (log : ℕ) → OutStoodOf p (status.LogFault log) → p ≡ summing
+stood_alone reporting log stood = absurd (stood.1 log refl)
+stood_alone summing log stood = refl
 
-  -- nor where the output of several workers has failed
-  pub crew_ended_once : (failed : Bool) (by : Stop) → IsEnding p m es count by out s → StopsSo failed by → (failed ≡ true → (log : ℕ) → by ≡ stop.LogFault log → (f2 ≡ f1) × (l2 ≡ l1))
-      → (by ≡ stop.OutFault → (f2 ≡ f1) × (l2 ≡ l1))
-      → EndsAtFault (failed ≡ false) f0 l0 f1 l1 → EndsAtFault (OutStood s) f1 l1 f2 l2 → EndsAtFault (OutStood s) f0 l0 f2 l2
-  crew_ended_once false by is stops silent stopped host end = calls_join f0 l0 f1 l1 f2 l2 refl host end
-  crew_ended_once true stop.Quiet is stops silent stopped host end = absurd (true≢false stops)
-  crew_ended_once true (stop.LogFault log) is stops silent stopped host end = record {
-    quiet = λ stood. absurd (stood.1 log is.0);
-    none_late = λ none. (silent refl log refl).1 ∙ host.none_late none;
-  }
-  crew_ended_once true stop.OutFault is stops silent stopped host end = record {
-    quiet = λ stood. absurd (stood.0 is.0);
-    none_late = λ none. (stopped refl).1 ∙ host.none_late none;
-  }
-  crew_ended_once true stop.Memory is stops silent stopped host end = absurd (true≢false stops)
-
-pub stops_so : (w : Fixed Rest) (es : List machine.Event) (logs : List LogState) (failed : Bool) (by : Stop) → IsCrewStop w es logs failed by → StopsSo failed by
-stops_so w es logs failed stop.Quiet is = is.1
-stops_so w es logs failed (stop.LogFault log) is = tt
-stops_so w es logs failed stop.OutFault is = tt
-stops_so w es logs failed stop.Memory is = is.1
+-- where the output failed before, and the host stopped for it or for a log, so it is behind
+pub silent_so : (p : Printing) (failed : Bool) (by : Stop) (P : Type 0) → (failed ≡ true → (log : ℕ) → by ≡ stop.LogFault log → P) → (by ≡ stop.OutFault → P) → StopsSo p failed by → failed ≡ true → P
+silent_so summing failed by P log out so is = absurd (true≢false (sym is ∙ so))
+silent_so reporting failed stop.Quiet P log out so is = absurd (true≢false (sym is ∙ so))
+silent_so reporting failed (stop.LogFault l) P log out so is = log is l refl
+silent_so reporting failed stop.OutFault P log out so is = out refl
+silent_so reporting failed stop.Memory P log out so is = absurd (true≢false (sym is ∙ so))
 
 -- ---- the trace
 
@@ -61,11 +45,45 @@ other : (trace : Writing) (kept : List Event) (before after : Status) → IsTrac
 other trace kept before after (inl (same, whole)) not = same
 other trace kept before after (inr (front, others, done)) not = others not
 
-pub traced_no_out : (trace : Writing) (kept : List Event) (before after : Status) → IsTraced trace kept before after → after ≢ status.OutFault → before ≢ status.OutFault
-traced_no_out trace kept before after is none = λ e. none (other trace kept before after is (λ d. cc (e, d)) ∙ e)
+no_out : (trace : Writing) (kept : List Event) (before after : Status) → IsTraced trace kept before after → after ≢ status.OutFault → before ≢ status.OutFault
+no_out trace kept before after is none = λ e. none (other trace kept before after is (λ d. cc (e, d)) ∙ e)
 
-pub traced_stood : (trace : Writing) (kept : List Event) (before after : Status) → IsTraced trace kept before after → OutStood after → OutStood before
-traced_stood trace kept before after is stood = (
-  traced_no_out trace kept before after is stood.0,
+pub traced_stood : (p : Printing) (trace : Writing) (kept : List Event) (before after : Status) → IsTraced trace kept before after → OutStoodOf p after → OutStoodOf p before
+traced_stood reporting trace kept before after is stood = (
+  no_out trace kept before after is stood.0,
   λ log e. stood.1 log (other trace kept before after is (λ d. cc (e, d)) ∙ e),
 )
+traced_stood summing trace kept before after is stood = no_out trace kept before after is stood
+
+-- ---- a call
+
+-- where the output failed at the line of a reply the status tells that it, or a log, failed
+not_stood : (p : Printing) (m : Fixed Rest) (es : List machine.Event) (count : ℕ) (by : Stop) (out : Writing) (before : Status) → StopsSo p true by → IsEnding p m es count by out before → ¬ OutStoodOf p before
+not_stood summing m es count by out before so ending stood = true≢false so
+not_stood reporting m es count stop.Quiet out before so ending stood = true≢false so
+not_stood reporting m es count (stop.LogFault log) out before so ending stood = stood.1 log ending.0
+not_stood reporting m es count stop.OutFault out before so ending stood = stood.0 ending.0
+not_stood reporting m es count stop.Memory out before so ending stood = true≢false so
+
+-- of the calls of a host, and then of those that come behind the replies
+module _
+    {O : Type 0} (faults late : O → ℕ) (first then last : O)
+    (p : Printing) (w : Work) (schedule : Schedule) (before after : List Device) (replies : Writing) (count : ℕ) (events : List Event) (out trace : Writing) (s : Status)
+  where
+    abbrev Once : Type 0 → O → O → Type 0
+    Once fine x y = EndsAtFault fine (faults x) (late x) (faults y) (late y)
+
+    pub call_once : (ran : Result Hosted LogsNo) → HasHosted p w schedule before after replies ran → IsCallEnd p ran count events out trace s → StopsAtFault p ran (last ≡ then)
+        → Once (HasStood ran) first then → Once (OutStoodOf p s) then last → Once (OutStoodOf p s) first last
+    call_once (Err why) is end silent host behind = calls_join (faults first) (late first) (faults then) (late then) (faults last) (late last) tt host behind
+    call_once (Ok h) is end silent host behind = elim (cases_Bool h.failed) [
+      | inl failed ↦
+          let same : last ≡ then = silent is.made.stops failed in
+          let so : StopsSo p true h.stop = subst (λ (x : Bool). StopsSo p x h.stop) failed is.made.stops in
+          let ending = end.untraced.ending (machine_of w is.opening) is.made.core in
+          record {
+            quiet = λ stood. absurd (not_stood p (machine_of w is.opening) (meant h.kept.items) count h.stop out end.before so ending (traced_stood p trace events end.before s end.traced stood));
+            none_late = λ none. ap late same ∙ host.none_late none;
+          }
+      | inr stood ↦ calls_join (faults first) (late first) (faults then) (late then) (faults last) (late last) stood host behind
+    ]

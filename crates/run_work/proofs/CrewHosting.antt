@@ -15,7 +15,7 @@ use Rattle.run_journals.specs.declared.stops.Stop.TheVariants as stop
 use Rattle.run_outputs.specs.Groups.{groups_of, group_behind}
 use Rattle.run_recovery.specs.Runs.{machine_of, no_log, tried_on, IsLeastOf}
 use Rattle.run_recovery.specs.Schedules.{free}
-use Rattle.run_work.specs.Hosts.{HasDriven, IsStopOf, PrintsStopped, PrintsReplies, PrintsUnlessFailed, IsHostEnd}
+use Rattle.run_work.specs.Hosts.{HasDriven, IsStopOf, PrintsStopped, PrintsReplies, PrintsUnlessFailed, StopsSo, IsHostEnd}
 use Rattle.run_work.specs.Runs.{reporting, PrintsNext}
 use Rattle.run_work.specs.Writings.{Writing}
 use Rattle.snap_outside.specs.Causes.{Rose}
@@ -93,7 +93,7 @@ rose_out : (w : Work) (o : Opening) (es : List machine.Event) (failed : Bool) (o
 rose_out w o es true out heard is = heard.2.1.rose
 rose_out w o es false out heard is = absurd (true≢false (sym is))
 
-whole : (w : Work) (o : Opening) (es : List machine.Event) (failed : Bool) (out : Writing) → Heard (machine_of w o) es failed out → PrintsUnlessFailed failed w o es out
+whole : (w : Work) (o : Opening) (es : List machine.Event) (failed : Bool) (out : Writing) → Heard (machine_of w o) es failed out → PrintsUnlessFailed reporting failed w o es out
 whole w o es true out heard is = absurd (true≢false is)
 whole w o es false out heard is = heard.2.1
 
@@ -129,6 +129,12 @@ printed w o es new failed out (stop.LogFault log) why heard = at_logs w o es fai
 printed w o es new failed out stop.OutFault why heard = broke_off w o es failed out why.1 heard
 printed w o es new failed out stop.Memory why heard = whole w o es failed out heard why.1
 
+pub stops : (m : Fixed Rest) (es : List machine.Event) (logs : List LogState) (failed : Bool) (by : Stop) → IsCrewStop m es logs failed by → StopsSo reporting failed by
+stops m es logs failed stop.Quiet is = is.1
+stops m es logs failed (stop.LogFault log) is = tt
+stops m es logs failed stop.OutFault is = is.1
+stops m es logs failed stop.Memory is = is.1
+
 -- ---- in one
 
 module _
@@ -138,7 +144,7 @@ module _
     heard_by : Heard (machine_of w o) es failed out
     heard_by = subst (λ (x : Fixed Rest). Heard x es failed out) same heard
 
-    pub crew_whole : PrintsUnlessFailed failed w o es out
+    pub crew_whole : PrintsUnlessFailed reporting failed w o es out
     crew_whole = whole w o es failed out heard_by
 
     pub crew_hosted : IsRun m es → crew.AreDriven m es old new → crew.AreDue m es new → IsCrewStop m es new failed by

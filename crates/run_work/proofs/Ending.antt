@@ -1,20 +1,23 @@
 -- How a run ends, from how a host ended and what is printed then.
-use Rattle.std.proofs.Common.{◌≡◌, ◌⊎◌, inl, inr, ℕ, ◌≤◌, List, [], ◌++◌, flat_map, length, refl, sym, subst, arith, Bool, true, false, Option}
+use Rattle.std.proofs.Common.{◌≡◌, ◌⊎◌, inl, inr, ℕ, ◌≤◌, List, [], ◌++◌, flat_map, length, refl, sym, ◌∙◌, subst, arith, Bool, true, false, Option, Result, Ok, Err}
+use Rattle.std.specs.Prelude.{IfOk}
 use Rattle.std.proofs.KnownBytes.{Appends-trans, Appends-kept}
 use Rattle.aml_slice.specs.Controls.{Rest}
+use Rattle.core_events.specs.declared.events.Event.{Event}
+use Rattle.log_opening.specs.Devices.{Device}
 use Rattle.log_opening.specs.declared.refusals.LogsNo.{LogsNo}
-use Rattle.log_opening.specs.declared.refusals.LogsNo.TheVariants as ending
 use Rattle.protocol.specs.Events as machine
 use Rattle.protocol.specs.Fixed.{Fixed}
 use Rattle.run_outputs.specs.Lines.{replies_text}
 use Rattle.run_printing.specs.Printed.{unsure_line}
-use Rattle.run_recovery.specs.Runs.{machine_of}
+use Rattle.run_recovery.specs.Runs.{machine_of, meant}
 use Rattle.run_recovery.specs.Schedules.{Schedule, seeded, free}
 use Rattle.run_work.proofs.RunDevices.{rose_earlier}
-use Rattle.run_work.specs.Hosts.{IsHostEnd, PrintsReplies, PrintsStopped, PrintsUnlessFailed}
-use Rattle.run_work.specs.Runs.{Printing, reporting, summing, replies_by, ending_by, unsure_by, PrintsNext, PrintsFailed, PrintsUnsure, TellsUnsure}
-use Rattle.run_work.specs.Untraced.{IsEnding, IsRunEnd, IsToldUnbegun}
-use Rattle.run_work.specs.Writings.{Writing, WritesNothing, Writes, WritesFront, WritesBehind, WritesLines}
+use Rattle.run_work.specs.Hosts.{HasLeft, IsHostEnd, PrintsStopped, PrintsUnlessFailed, StopsSo, IsHosted, HasHosted}
+use Rattle.run_work.specs.Runs.{Printing, reporting, summing, replies_by, ending_by, unsure_by, Ran, PrintsNext, PrintsFailed, PrintsUnsure, TellsUnsure}
+use Rattle.run_work.specs.Untraced.{IsEnding, IsRunEnd, IsToldUnbegun, IsUntraced, IsEndOf, EndsUntraced}
+use Rattle.run_work.specs.declared.hosts.Hosted.{Hosted}
+use Rattle.run_work.specs.Writings.{Writing, WritesNothing, IsSilent, Writes, WritesFront, WritesBehind, WritesLines}
 use Rattle.snap_recover.specs.declared.openings.Opening.{Opening}
 use Rattle.snap_report.specs.declared.statuses.Status.{Status}
 use Rattle.snap_work.specs.Works.{Work}
@@ -62,16 +65,11 @@ next_kept summing w schedule o es a b on nothing next = next
 abbrev pub MayTell : Printing → Work → Opening → List machine.Event → Writing → Writing → Stop → Type 0
 MayTell p w o es a b by = (log : ℕ) → by ≡ stop.LogFault log → Writes a (replies_by p (machine_of w o) es) ⊎ WritesNothing b
 
--- one thread prints whole replies
-pub solo_tells : (p : Printing) (Left : (ℕ → Bool) → Type 0) (w : Work) (seed : ℕ) (o : Opening) (es : List machine.Event) (a b : Writing) (by : Stop)
-    → IsHostEnd p Left w (seeded seed) o es a by → MayTell p w o es a b by
-solo_tells p Left w seed o es a b by h log is = inl (subst (λ (x : Stop). PrintsReplies p w (seeded seed) o es a x) is h.printed)
-
--- several workers too, unless the output failed, and then nothing comes behind
-pub crew_tells : (w : Work) (o : Opening) (es : List machine.Event) (a b : Writing) (by : Stop) (failed : Bool) → PrintsUnlessFailed failed w o es a
-    → (failed ≡ true → (log : ℕ) → by ≡ stop.LogFault log → WritesNothing b) → MayTell reporting w o es a b by
-crew_tells w o es a b by true whole silent log is = inr (silent refl log is)
-crew_tells w o es a b by false whole silent log is = inl (whole refl)
+-- unless the output failed all replies are printed, and where it did nothing comes behind
+tells : (p : Printing) (w : Work) (o : Opening) (es : List machine.Event) (a b : Writing) (by : Stop) (failed : Bool) → PrintsUnlessFailed p failed w o es a → (failed ≡ true → WritesNothing b)
+    → MayTell p w o es a b by
+tells p w o es a b by true whole silent log is = inr (silent refl)
+tells p w o es a b by false whole silent log is = inl (whole refl)
 
 module _ (p : Printing) (Left : (ℕ → Bool) → Type 0) (w : Work) (o : Opening) (es : List machine.Event) where
   abbrev End : Schedule → Writing → Status → Type 0
@@ -119,17 +117,34 @@ module _ (p : Printing) (Left : (ℕ → Bool) → Type 0) (w : Work) (o : Openi
       subst (λ (t : Status). End schedule (joined a b) t) (sym ending.0)
       (h.why, inl (and_nothing a b (replies_by p (machine_of w o) es) on h.printed ending.1))
 
-  pub ended_so : (schedule : Schedule) (a b : Writing) (by : Stop) (s : Status) (m : Fixed Rest) (fs : List machine.Event) (count : ℕ) → m ≡ machine_of w o → fs ≡ es → count ≡ length w.txs
-      → GoesOn a b → b.faults_before ≤ b.faults_after → IsHostEnd p Left w schedule o es a by → MayTell p w o es a b by → IsEnding p m fs count by b s → End schedule (joined a b) s
-  ended_so schedule a b by s m fs count same taken many on later h may ending =
-      ended schedule a b by s on later h may
-      (subst (λ (x : Fixed Rest). IsEnding p x es (length w.txs) by b s) same
-      (subst (λ (x : List machine.Event). IsEnding p m x (length w.txs) by b s) taken (subst (λ (n : ℕ). IsEnding p m fs n by b s) many ending)))
+-- ---- from what a host left
 
--- ---- no run began
+-- no reply was printed before
+told_first : (p : Printing) (count : ℕ) (why : LogsNo) (a b : Writing) → GoesOn a b → IsSilent a → IsToldUnbegun p count why b → IsToldUnbegun p count why (joined a b)
+told_first p count why a b on silent told =
+    subst (λ (n : ℕ). IsToldUnbegun p count why (record b { taken_before = a.taken_before; faults_before = n })) (on.1 ∙ silent.1)
+    (subst (λ (t : Option (List ℕ)). IsToldUnbegun p count why (record b { taken_before = t })) (on.0 ∙ silent.0) told)
 
--- and nothing is printed
-pub told_nothing : (count : ℕ) (why : LogsNo) (out : Writing) → WritesNothing out → Writes out [] → IsToldUnbegun summing count why out
-told_nothing count (ending.Refused log offset cause) out nothing none = nothing
-told_nothing count (ending.Device log) out nothing none = inl ([], [], refl, none)
-told_nothing count ending.Memory out nothing none = nothing
+-- where the output failed at the line of a reply nothing comes behind
+abbrev pub StopsAtFault : Printing → Result Hosted LogsNo → Type 0 → Type 0
+StopsAtFault p ran P = IfOk ran (λ h. StopsSo p h.failed h.stop → h.failed ≡ true → P)
+
+module _ (p : Printing) (w : Work) (schedule : Schedule) (before after : List Device) (a b trace : Writing) (on : GoesOn a b) where
+  abbrev RunOf : List Event → Ran
+  RunOf events = record { work = w; schedule = schedule; kept = events; devices_before = before; devices_after = after; out = joined a b; trace = trace }
+
+  of_hosted : (h : Hosted) (events : List Event) (s : Status) → IsHosted p w schedule before after a h → IsEndOf p h (length w.txs) events b s → (StopsSo p h.failed h.stop → h.failed ≡ true → WritesNothing b)
+      → IsUntraced p (RunOf events) s
+  of_hosted h events s is end silent =
+      let o = is.opening in
+      let es = meant h.kept.items in
+      subst (λ (kept : List Event). IsUntraced p (RunOf kept) s) (sym end.same) (inr (
+        o,
+        ended p (HasLeft w schedule o es before after) w o es schedule a b h.stop s on end.later is.made.ends (tells p w o es a b h.stop h.failed is.made.whole (silent is.made.stops))
+            (end.ending (machine_of w o) is.made.core),
+      ))
+
+  pub untraced_of : (ran : Result Hosted LogsNo) (events : List Event) (s : Status) → HasHosted p w schedule before after a ran → EndsUntraced p ran (length w.txs) events b s
+      → StopsAtFault p ran (WritesNothing b) → IsUntraced p (RunOf events) s
+  untraced_of (Ok h) events s is end silent = of_hosted h events s is end silent
+  untraced_of (Err why) events s is end silent = inl (why, record { kept = end.0; none = is.0; told = told_first p (length w.txs) why a b on is.1 end.2 }, end.1)

@@ -1,22 +1,24 @@
 -- What a host promises of what it took, in the words of a run.
-use Rattle.std.proofs.Common.{◌≡◌, ℕ, zero, suc, ◌<◌, ◌≤◌, Bool, true, false, List, [], ◌∷◌, length, append-nil, refl, sym, subst, arith, Option, Some, None, inl, Result, Ok, Err}
+use Rattle.std.proofs.Common.{◌≡◌, ◌≢◌, ℕ, zero, suc, ◌<◌, ◌≤◌, Bool, true, false, List, [], ◌∷◌, length, append-nil, refl, sym, ◌∙◌, subst, arith, Option, Some, None, inl, Result, Ok, Err}
 use Rattle.std.proofs.lemmas.Bool.{eqb-true, true≢false}
 use Rattle.std.proofs.KnownBytes.{Appends-nil, Appends-kept}
-use Rattle.std.specs.Prelude.{IfSome, IfOk, IfErr, OnErr}
+use Rattle.std.specs.Prelude.{IfSome, IfOk}
 use Rattle.std.specs.List.{AllByRecursion}
 use Rattle.aml_slice.specs.Controls.{Rest}
 use Rattle.gate_log.specs.State.{LogState}
+use Rattle.core_events.specs.declared.events.Event.{Event}
+use Rattle.log_opening.specs.Devices.{Device}
 use Rattle.log_opening.specs.declared.refusals.LogsNo.{LogsNo}
 use Rattle.protocol.specs.Events as machine
 use Rattle.protocol.specs.Fixed.{Fixed}
 use Rattle.protocol_schedule.specs.Draw.{IsFrontOfSeed}
 use Rattle.record_log.specs.Growth.{GrewBy}
 use Rattle.run_outputs.specs.Groups.{groups_of, group_behind}
-use Rattle.run_recovery.specs.Runs.{machine_of, no_log, one_log, tried_on}
+use Rattle.run_recovery.specs.Runs.{machine_of, meant, no_log, one_log, tried_on}
 use Rattle.run_recovery.specs.Schedules.{Schedule, seeded, free, IsTakenBy}
 use Rattle.run_work.specs.declared.hosts.Hosted.{Hosted}
-use Rattle.run_work.specs.Hosts.{HasDriven, LeftFailed, IsStopOf, PrintsStopped, PrintsReplies, IsHostEnd, IsCoreOf}
-use Rattle.run_work.specs.Runs.{Printing, reporting, summing}
+use Rattle.run_work.specs.Hosts.{HasDriven, LeftFailed, IsStopOf, PrintsStopped, PrintsReplies, PrintsUnlessFailed, StopsSo, IsHostEnd, IsCoreOf, IsMade, HasHosted}
+use Rattle.run_work.specs.Runs.{Printing, reporting, summing, replies_by}
 use Rattle.run_work.specs.Writings.{Writing, WritesNothing, Writes}
 use Rattle.snap_core.specs.Cores.{CoreState, IsAt}
 use Rattle.snap_outside.specs.Causes.{Rose}
@@ -94,6 +96,25 @@ hosted w seed o es old new out by m same front why logs printed later =
     (subst (λ (x : Fixed Rest). host.IsWhy x seed es old new out.faults_before out.faults_after by) same why) (subst (λ (x : Fixed Rest). host.AreDriven x es by old new) same logs)
     (subst (λ (x : Fixed Rest). host.IsPrinted x seed es out.taken_before out.taken_after by) same printed) later
 
+-- unless it stopped for the output, all replies are printed
+whole_by : (w : Work) (seed : ℕ) (o : Opening) (es : List machine.Event) (out : Writing) (by : Stop) (failed : Bool) → (by ≡ stop.OutFault → failed ≡ true)
+    → host.IsPrinted (machine_of w o) seed es out.taken_before out.taken_after by → PrintsUnlessFailed reporting failed w o es out
+whole_by w seed o es out stop.Quiet failed told is stood = is
+whole_by w seed o es out (stop.LogFault k) failed told is stood = is
+whole_by w seed o es out stop.OutFault failed told is stood = absurd (true≢false (sym (told refl) ∙ stood))
+whole_by w seed o es out stop.Memory failed told is stood = is
+
+pub whole : (w : Work) (seed : ℕ) (o : Opening) (es : List machine.Event) (out : Writing) (by : Stop) (failed : Bool) (m : Fixed Rest) → m ≡ machine_of w o → (by ≡ stop.OutFault → failed ≡ true)
+    → host.IsPrinted m seed es out.taken_before out.taken_after by → PrintsUnlessFailed reporting failed w o es out
+whole w seed o es out by failed m same told is =
+    whole_by w seed o es out by failed told (subst (λ (x : Fixed Rest). host.IsPrinted x seed es out.taken_before out.taken_after by) same is)
+
+pub stops : (by : Stop) (failed : Bool) → (by ≡ stop.OutFault → failed ≡ true) → (by ≢ stop.OutFault → failed ≡ false) → StopsSo reporting failed by
+stops stop.Quiet failed told stood = stood (λ e. cc)
+stops (stop.LogFault k) failed told stood = tt
+stops stop.OutFault failed told stood = told refl
+stops stop.Memory failed told stood = stood (λ e. cc)
+
 -- ---- nothing was taken
 
 nothing_grew : (l : LogState) → l.shut ≡ false → IsDriven l l [] None
@@ -118,14 +139,28 @@ none_taken : (m : Fixed Rest) (schedule : Schedule) → IsTakenBy m schedule []
 none_taken m (seeded seed) = tt
 none_taken m free = tt
 
+no_replies : (p : Printing) (m : Fixed Rest) (out : Writing) → Writes out [] → Writes out (replies_by p m [])
+no_replies reporting m out nothing = nothing
+no_replies summing m out nothing = nothing
+
 -- there was no memory for a core
-pub no_core : (w : Work) (schedule : Schedule) (o : Opening) (logs : List LogState) (out : Writing) → AllByRecursion (λ (l : LogState). l.shut ≡ false) logs → WritesNothing out
-    → out.faults_before ≤ out.faults_after → IsHostEnd reporting (HasDriven w schedule o [] logs logs) w schedule o [] out stop.Memory
-no_core w schedule o logs out ready nothing later = record {
+no_core_ends : (p : Printing) (w : Work) (schedule : Schedule) (o : Opening) (logs : List LogState) (out : Writing) → AllByRecursion (λ (l : LogState). l.shut ≡ false) logs → WritesNothing out
+    → out.faults_before ≤ out.faults_after → IsHostEnd p (HasDriven w schedule o [] logs logs) w schedule o [] out stop.Memory
+no_core_ends p w schedule o logs out ready nothing later = record {
   why = record { front = none_taken (machine_of w o) schedule; as_many = refl; each = λ l lt. nothing_grew (host.log_at logs l) (shut_at logs l lt ready); rose = λ l is. absurd (true≢false (sym is)) };
-  printed = nothing_written out nothing;
+  printed = no_replies p (machine_of w o) out (nothing_written out nothing);
   later = later;
 }
+
+pub no_core : (p : Printing) (w : Work) (schedule : Schedule) (o : Opening) (logs : List LogState) (out : Writing) (kept : List Event) → kept ≡ []
+    → AllByRecursion (λ (l : LogState). l.shut ≡ false) logs → WritesNothing out → out.faults_before ≤ out.faults_after
+    → IsHostEnd p (HasDriven w schedule o (meant kept) logs logs) w schedule o (meant kept) out stop.Memory
+no_core p w schedule o logs out kept none ready nothing later =
+    subst (λ (es : List Event). IsHostEnd p (HasDriven w schedule o (meant es) logs logs) w schedule o (meant es) out stop.Memory) (sym none) (no_core_ends p w schedule o logs out ready nothing later)
+
+pub no_memory : (p : Printing) → StopsSo p false stop.Memory
+no_memory reporting = refl
+no_memory summing = refl
 
 -- ---- the same of other logs, or of another output
 
@@ -157,18 +192,19 @@ unheard Left w schedule o es replies out (stop.LogFault k) quiet nothing later h
 unheard Left w schedule o es replies out stop.OutFault quiet nothing later h = absurd (quiet h.why.1)
 unheard Left w schedule o es replies out stop.Memory quiet nothing later h = record { why = h.why; printed = nothing; later = later }
 
+-- ---- what a host made, in one
+
+-- of other logs
+pub made_as : (P Q : (ℕ → Bool) → Type 0) → ((failed : ℕ → Bool) → P failed → Q failed) → (p : Printing) (w : Work) (schedule : Schedule) (o : Opening) (replies : Writing) (h : Hosted)
+    → IsMade p P w schedule o replies h → IsMade p Q w schedule o replies h
+made_as P Q then p w schedule o replies h is = record { ends = left_as P Q then w o (meant h.kept.items) p schedule replies h.stop is.ends; core = is.core; whole = is.whole; stops = is.stops }
+
 -- a core that has come to the events is there where there is one
-pub core_at : (m : Fixed Rest) (es : List machine.Event) (by : Stop) (core : Option CoreState) → IsCoreOf m es by core → IfSome core (λ c. IsAt c es)
+core_at : (m : Fixed Rest) (es : List machine.Event) (by : Stop) (core : Option CoreState) → IsCoreOf m es by core → IfSome core (λ c. IsAt c es)
 core_at m es by None is = tt
 core_at m es by (Some core) is = is.1
 
--- ---- what is said of a host that returned, or of why none began
-
-pub of_hosted : (P : Hosted → Type 0) (r : Result Hosted LogsNo) (h : Hosted) → r ≡ Ok h → IfOk r P → P h
-of_hosted P r h is holds = subst (λ (x : Result Hosted LogsNo). IfOk x P) is holds
-
-pub of_unbegun : (P : LogsNo → Type 0) (r : Result Hosted LogsNo) (why : LogsNo) → r ≡ Err why → IfErr r P → P why
-of_unbegun P r why is holds = subst (λ (x : Result Hosted LogsNo). IfErr x P) is holds
-
-pub on_unbegun : (P : Type 0) (r : Result Hosted LogsNo) (why : LogsNo) → r ≡ Err why → OnErr r P → P
-on_unbegun P r why is holds = subst (λ (x : Result Hosted LogsNo). OnErr x P) is holds
+pub core_of : (p : Printing) (w : Work) (schedule : Schedule) (before after : List Device) (replies : Writing) (ran : Result Hosted LogsNo) → HasHosted p w schedule before after replies ran
+    → IfOk ran (λ h. IfSome h.core (λ c. IsAt c (meant h.kept.items)))
+core_of p w schedule before after replies (Ok h) is = core_at (machine_of w is.opening) (meant h.kept.items) h.stop h.core is.made.core
+core_of p w schedule before after replies (Err why) is = tt

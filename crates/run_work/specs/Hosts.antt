@@ -1,6 +1,6 @@
 -- Only private contracts cite this; the answers are Runs.antt.
 -- What a host makes of a work, wherever its replies go: on open logs, and on all devices.
-use Rattle.std.specs.Prelude.{◌≡◌, ℕ, ◌<◌, ◌≤◌, ◌⊎◌, Bool, true, false, Option, None, Some, List, length}
+use Rattle.std.specs.Prelude.{◌≡◌, ℕ, ◌<◌, ◌≤◌, ◌⊎◌, Bool, true, false, Option, None, Some, Result, Ok, Err, List, length}
 use Rattle.aml_slice.specs.Controls.{Rest}
 use Rattle.gate_log.specs.State.{LogState}
 use Rattle.log_opening.specs.declared.refusals.LogsNo.{LogsNo}
@@ -13,8 +13,8 @@ use Rattle.run_journals.specs.Driven.{IsDriven}
 use Rattle.run_outputs.specs.Groups.{groups_of, group_behind}
 use Rattle.run_recovery.specs.Runs.{HasRun, machine_of, meant, no_log, one_log, IsLeastOf, tried_on, IsNext, HasEnded}
 use Rattle.run_recovery.specs.Schedules.{Schedule, seeded, free, IsTakenBy}
-use Rattle.run_work.specs.Runs.{Printing, reporting, replies_by, PrintsNext}
-use Rattle.run_work.specs.Writings.{Writing, Writes}
+use Rattle.run_work.specs.Runs.{Printing, reporting, summing, replies_by, PrintsNext}
+use Rattle.run_work.specs.Writings.{Writing, IsSilent, Writes}
 use Rattle.run_work.specs.declared.hosts.Hosted.{Hosted}
 use Rattle.snap_core.specs.Cores.{CoreState, IsAt}
 use Rattle.snap_hand.specs.Tables.{fixed_of}
@@ -81,39 +81,33 @@ IsCoreOf m es by (Some core) = (fixed_of core.tables ≡ m) × IsAt core es
 
 -- ---- in one
 
--- on open logs, which had this opening
-pub record IsHostedOn (w : Work) (schedule : Schedule) (o : Opening) (old new : List LogState) (replies : Writing) (h : Hosted) : Type 0 where
-  pub ends : IsHostEnd reporting (HasDriven w schedule o (meant h.kept.items) old new) w schedule o (meant h.kept.items) replies h.stop
+-- where the output has not failed at the line of a reply, all replies are printed
+abbrev pub PrintsUnlessFailed : Printing → Bool → Work → Opening → List machine.Event → Writing → Type 0
+PrintsUnlessFailed p failed w o es out = failed ≡ false → Writes out (replies_by p (machine_of w o) es)
+
+-- Where it has, the host stopped for it, or for a log. It has not where no reply is printed.
+abbrev pub StopsSo : Printing → Bool → Stop → Type 0
+StopsSo summing failed by = failed ≡ false
+StopsSo reporting failed stop.Quiet = failed ≡ false
+StopsSo reporting failed (stop.LogFault log) = Unit {0}
+StopsSo reporting failed stop.OutFault = failed ≡ true
+StopsSo reporting failed stop.Memory = failed ≡ false
+
+-- What a host made of a work from this opening, where Left tells what it left on its logs, by those that failed.
+pub record IsMade (p : Printing) (Left : (ℕ → Bool) → Type 0) (w : Work) (schedule : Schedule) (o : Opening) (replies : Writing) (h : Hosted) : Type 0 where
+  pub ends : IsHostEnd p Left w schedule o (meant h.kept.items) replies h.stop
   pub core : IsCoreOf (machine_of w o) (meant h.kept.items) h.stop h.core
+  pub whole : PrintsUnlessFailed p h.failed w o (meant h.kept.items) replies
+  pub stops : StopsSo p h.failed h.stop
+
+-- on open logs
+abbrev pub IsHostedOn : Printing → Work → Schedule → Opening → List LogState → List LogState → Writing → Hosted → Type 0
+IsHostedOn p w schedule o old new replies h = IsMade p (HasDriven w schedule o (meant h.kept.items) old new) w schedule o replies h
 
 -- on all devices
-pub record IsHosted (w : Work) (schedule : Schedule) (before after : List Device) (replies : Writing) (h : Hosted) : Type 0 where
+pub record IsHosted (p : Printing) (w : Work) (schedule : Schedule) (before after : List Device) (replies : Writing) (h : Hosted) : Type 0 where
   pub opening : Opening
-  pub ends : IsHostEnd reporting (HasLeft w schedule opening (meant h.kept.items) before after) w schedule opening (meant h.kept.items) replies h.stop
-  pub core : IsCoreOf (machine_of w opening) (meant h.kept.items) h.stop h.core
-
--- where the output of several workers has not failed, all of its replies are printed
-abbrev pub PrintsUnlessFailed : Bool → Work → Opening → List machine.Event → Writing → Type 0
-PrintsUnlessFailed failed w o es out = failed ≡ false → Writes out (replies_by reporting (machine_of w o) es)
-
--- where the output of several workers has failed, they stopped for it, or for a log
-abbrev pub StopsSo : Bool → Stop → Type 0
-StopsSo failed stop.Quiet = failed ≡ false
-StopsSo failed (stop.LogFault log) = Unit {0}
-StopsSo failed stop.OutFault = Unit {0}
-StopsSo failed stop.Memory = failed ≡ false
-
--- on open logs, by several workers
-pub record IsCrewHostedOn (w : Work) (o : Opening) (old new : List LogState) (replies : Writing) (failed : Bool) (h : Hosted) : Type 0 where
-  pub hosted : IsHostedOn w free o old new replies h
-  pub whole : PrintsUnlessFailed failed w o (meant h.kept.items) replies
-  pub stops : StopsSo failed h.stop
-
--- on all devices, by several workers
-pub record IsCrewHosted (w : Work) (before after : List Device) (replies : Writing) (failed : Bool) (h : Hosted) : Type 0 where
-  pub hosted : IsHosted w free before after replies h
-  pub whole : PrintsUnlessFailed failed w hosted.opening (meant h.kept.items) replies
-  pub stops : StopsSo failed h.stop
+  pub made : IsMade p (HasLeft w schedule opening (meant h.kept.items) before after) w schedule opening replies h
 
 -- No run began, for this reason, and a crash at any moment loses no record. Where the logs hold records on which a run begins,
 -- and none fails, it is want of memory.
@@ -121,3 +115,13 @@ pub record IsUnbegun (w : Work) (before after : List Device) (why : LogsNo) : Ty
   pub none : IsNoRun w.logs w.states before after why
   pub safe : AreSafe w.logs w.states before after
   pub complete : (records : List (List Record)) (o : Opening) → MayOpen w.logs w.states before after records o → why ≡ ending.Memory
+
+-- What a host leaves of a work: what it made of it, or why no run began, and then the output got no call.
+abbrev pub HasHosted : Printing → Work → Schedule → List Device → List Device → Writing → Result Hosted LogsNo → Type 0
+HasHosted p w schedule before after replies (Ok h) = IsHosted p w schedule before after replies h
+HasHosted p w schedule before after replies (Err why) = IsUnbegun w before after why × IsSilent replies
+
+-- its output has not failed at the line of a reply
+abbrev pub HasStood : Result Hosted LogsNo → Type 0
+HasStood (Ok h) = h.failed ≡ false
+HasStood (Err why) = Unit {0}

@@ -1,4 +1,5 @@
 pub mod Hosts
+pub mod Printings
 pub mod Runs
 pub mod Statuses
 pub mod Untraced

@@ -168,3 +168,8 @@ IsOfLogs status.TraceFault = ⊥
 -- The status tells that it did not. A log's fault may hide that it did.
 abbrev pub OutStood : Status → Type 0
 OutStood s = (s ≢ status.OutFault) × ((log : ℕ) → s ≢ status.LogFault log)
+
+-- the same by what is printed: where it is the summary alone, nothing is printed behind a log's fault
+abbrev pub OutStoodOf : Printing → Status → Type 0
+OutStoodOf reporting s = OutStood s
+OutStoodOf summing s = s ≢ status.OutFault

@@ -1,6 +1,6 @@
 -- Only private contracts cite this; the answers are Runs.antt.
 -- How a run of a work ends before its trace is written, by how a host ended, and what its trace makes of that.
-use Rattle.std.specs.Prelude.{◌≡◌, ◌≢◌, ℕ, ◌⊎◌, Bool, List, [], length}
+use Rattle.std.specs.Prelude.{◌≡◌, ◌≢◌, ℕ, ◌≤◌, ◌⊎◌, Bool, Result, Ok, Err, List, [], length}
 use Rattle.aml_slice.specs.Controls.{Rest}
 use Rattle.core_events.specs.declared.events.Event.{Event}
 use Rattle.log_opening.specs.declared.refusals.LogsNo.{LogsNo}
@@ -10,9 +10,10 @@ use Rattle.protocol.specs.Fixed.{Fixed}
 use Rattle.run_recovery.specs.Runs.{meant, no_log, HasEnded}
 use Rattle.run_recovery.specs.Schedules.{Schedule}
 use Rattle.run_printing.specs.Printed.{traced_line}
-use Rattle.run_work.specs.Hosts.{HasLeft, LeftFailed, IsUnbegun}
+use Rattle.run_work.specs.Hosts.{HasLeft, LeftFailed, IsCoreOf, IsUnbegun}
 use Rattle.run_work.specs.Runs.{Printing, ending_by, Ran, PrintsAll, PrintsEnding, PrintsWhole, PrintsNext, PrintsFailed, TellsUnsure}
 use Rattle.run_work.specs.Statuses.{logs_status}
+use Rattle.run_work.specs.declared.hosts.Hosted.{Hosted}
 use Rattle.run_work.specs.Writings.{Writing, WritesNothing, Writes, WritesFront, WritesLines}
 use Rattle.snap_outside.specs.Causes.{Rose}
 use Rattle.snap_recover.specs.declared.openings.Opening.{Opening}
@@ -80,3 +81,22 @@ IsTraced trace kept before after =
     ((after ≡ before) × Writes trace (trace_of kept))
     ⊎ (WritesLines traced_line trace [] kept × (before ≢ status.Done → after ≡ before)
     × (before ≡ status.Done → (after ≡ status.Memory) ⊎ ((after ≡ status.TraceFault) × Rose trace.faults_before trace.faults_after)))
+
+-- ---- from what a host left
+
+-- How the run that a host made so, of so many transactions, ends before its trace.
+pub record IsEndOf (p : Printing) (h : Hosted) (count : ℕ) (events : List Event) (out : Writing) (s : Status) : Type 0 where
+  pub same : events ≡ h.kept.items
+  pub ending : (m : Fixed Rest) → IsCoreOf m (meant h.kept.items) h.stop h.core → IsEnding p m (meant h.kept.items) count h.stop out s
+  pub later : out.faults_before ≤ out.faults_after
+
+-- the same where none may have begun
+abbrev pub EndsUntraced : Printing → Result Hosted LogsNo → ℕ → List Event → Writing → Status → Type 0
+EndsUntraced p (Ok h) count events out s = IsEndOf p h count events out s
+EndsUntraced p (Err why) count events out s = (events ≡ []) × (s ≡ logs_status why) × IsToldUnbegun p count why out
+
+-- how it ended before its trace, and how the call ends then
+pub record IsCallEnd (p : Printing) (hosted : Result Hosted LogsNo) (count : ℕ) (events : List Event) (out trace : Writing) (s : Status) : Type 0 where
+  pub before : Status
+  pub untraced : EndsUntraced p hosted count events out before
+  pub traced : IsTraced trace events before s

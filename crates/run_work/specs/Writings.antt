@@ -19,6 +19,10 @@ writing_of taken faults before after = record { taken_before = taken before; tak
 abbrev pub WritesNothing : Writing → Type 0
 WritesNothing w = Keeps w.taken_before w.taken_after
 
+-- the sink got no call, as far as these tell
+abbrev pub IsSilent : Writing → Type 0
+IsSilent w = (w.taken_after ≡ w.taken_before) × (w.faults_after ≡ w.faults_before)
+
 abbrev pub Writes : Writing → List ℕ → Type 0
 Writes w bytes = Appends w.taken_before w.taken_after bytes
 

@@ -1,51 +1,94 @@
 //! How a call ends: what comes behind the replies, and the trace.
-ghost use Rattle.std.specs.Prelude.{◌≡◌, ◌≢◌, ◌≤◌, ℕ, [], map, true, IfSome};
+ghost use Rattle.std.specs.Prelude.{◌≡◌, ◌≢◌, ◌≤◌, ℕ, [], map, true, IfSome, IfOk, IsErrOf, OnOk, OnErr};
 ghost use Rattle.aml_slice.specs.Controls.{Rest};
 ghost use Rattle.core_events.specs.Meant.{event_meant};
 ghost use Rattle.protocol.specs.Fixed.{Fixed};
-ghost use Rattle.run_work.specs.Hosts.{IsCoreOf};
-ghost use Rattle.run_work.specs.Runs.{reporting, OutStood};
+ghost use Rattle.run_work.specs.Hosts.{IsCoreOf, StopsSo};
+ghost use Rattle.run_work.specs.Printings.{printing_of};
+ghost use Rattle.run_work.specs.Runs.{summing, ending_by, TellsUnsure, OutStoodOf};
 ghost use Rattle.run_work.specs.Statuses.{logs_status};
-ghost use Rattle.run_work.specs.Untraced.{IsEnding, IsToldUnbegun, IsTraced};
-ghost use Rattle.run_work.specs.Writings.{writing_of};
+ghost use Rattle.run_work.specs.Untraced.{IsEnding, EndsUntraced, IsCallEnd, IsToldUnbegun, IsTraced};
+ghost use Rattle.run_work.specs.Writings.{Writes, WritesFront, writing_of};
 ghost use Rattle.snap_core.specs.Cores.{IsAt};
 ghost use Rattle.snap_hand.specs.Tables.{fixed_of};
-ghost use Rattle.snap_outside.specs.Causes.{EndsAtFault};
+ghost use Rattle.snap_outside.specs.Causes.{Rose, EndsAtFault};
 
+use crate::hosts::{HostRan, Hosted};
+use crate::printings::Told;
 use core_events::Event;
 use log_opening::LogsNo;
 use run_journals::Stop;
-use run_printing::{WriteNo, write_ending, write_trace, write_unsures};
+use run_printing::{WriteNo, write_ending, write_summary, write_trace, write_unsures};
 use snap_core::Core;
 use snap_outside::Sink;
 use snap_report::Status;
 use std::alloc::Global;
 
-/// Prints what comes behind the replies of a run that a host ended so, and tells how it ends. `count` is the number of its
-/// transactions.
-pub(crate) fn end_reported<O: Sink>(
+/// What a run of a work ends with: the events that were taken, in the order of their numbers, how the call ends, and the output
+/// that it was handed.
+pub struct HasRun<O> {
+    pub kept: Vec<Event>,
+    pub status: Status,
+    pub out: O,
+}
+
+/// Ends the run that a host left so, of so many transactions: prints what comes behind the replies, or what is printed where no
+/// run began, and then writes the trace.
+pub(crate) fn end_run<O: Sink, T: Sink>(
     alloc: Global,
-    core: Option<Core>,
-    stop: Stop,
-    kept: &[Event],
+    told: Told,
     count: u32,
-    out: &mut O,
-) -> Status
-    requires { IfSome core (λ c. IsAt c (map event_meant kept.now)) }
-    ensures ending { (m : Fixed Rest) → IsCoreOf m (map event_meant kept.now) stop core → IsEnding reporting m (map event_meant kept.now) count stop (writing_of O.taken O.faults out.old out.new) result }
-    ensures later { O.faults out.old ≤ O.faults out.new }
-    ensures once { EndsAtFault (OutStood result) (O.faults out.old) (O.late out.old) (O.faults out.new) (O.late out.new) }
-    ensures stopped { stop ≡ Stop.OutFault → out.new ≡ out.old }
+    ran: HostRan<O>,
+    trace: &mut T,
+) -> HasRun<O>
+    requires { IfOk ran.hosted (λ h. IfSome h.core (λ c. IsAt c (map event_meant h.kept.items))) }
+    ensures ended { IsCallEnd (printing_of told) ran.hosted count result.kept.items (writing_of O.taken O.faults ran.out result.out)
+        (writing_of T.taken T.faults trace.old trace.new) result.status }
+    ensures none { result.kept.items ≡ [] → trace.new ≡ trace.old }
+    // Where the output failed at the line of a reply it gets no call.
+    ensures silent { IfOk ran.hosted (λ h. StopsSo (printing_of told) h.failed h.stop → h.failed ≡ true → result.out ≡ ran.out) }
+    ensures out_once { EndsAtFault (OutStoodOf (printing_of told) result.status) (O.faults ran.out) (O.late ran.out) (O.faults result.out) (O.late result.out) }
+    ensures trace_once { EndsAtFault (result.status ≡ Status.Done) (T.faults trace.old) (T.late trace.old) (T.faults trace.new) (T.late trace.new) }
 {
-    match core {
-        Some(core) => report(alloc, &core, stop, kept, count, out),
-        None => Status::Memory,
+    let HostRan { hosted, out } = ran;
+    let mut out = out;
+    let (kept, before) = end_untraced(alloc, told, count, hosted, &mut out);
+    let status = traced(alloc, kept.as_slice(), before, trace);
+    HasRun { kept, status, out }
+}
+
+/// The same, but for the trace.
+fn end_untraced<O: Sink>(
+    alloc: Global,
+    told: Told,
+    count: u32,
+    ran: Result<Hosted, LogsNo>,
+    out: &mut O,
+) -> (Vec<Event>, Status)
+    requires { IfOk ran (λ h. IfSome h.core (λ c. IsAt c (map event_meant h.kept.items))) }
+    ensures ended { EndsUntraced (printing_of told) ran count result.0.items (writing_of O.taken O.faults out.old out.new) result.1 }
+    ensures silent { IfOk ran (λ h. StopsSo (printing_of told) h.failed h.stop → h.failed ≡ true → out.new ≡ out.old) }
+    ensures once { EndsAtFault (OutStoodOf (printing_of told) result.1) (O.faults out.old) (O.late out.old) (O.faults out.new) (O.late out.new) }
+{
+    match ran {
+        Ok(hosted) => {
+            let Hosted {
+                core,
+                stop,
+                kept,
+                failed,
+            } = hosted;
+            let status = end_hosted(alloc, told, core, stop, failed, kept.as_slice(), count, out);
+            (kept, status)
+        }
+        Err(no) => (Vec::new(alloc), not_begun(alloc, told, no, count, out)),
     }
 }
 
-/// The same where several workers ended it. Where the output failed too, nothing comes behind.
-pub(crate) fn end_crew<O: Sink>(
+/// The same, where a run began. Where the output failed too, nothing comes behind.
+fn end_hosted<O: Sink>(
     alloc: Global,
+    told: Told,
     core: Option<Core>,
     stop: Stop,
     failed: bool,
@@ -54,21 +97,46 @@ pub(crate) fn end_crew<O: Sink>(
     out: &mut O,
 ) -> Status
     requires { IfSome core (λ c. IsAt c (map event_meant kept.now)) }
-    ensures ending { (m : Fixed Rest) → IsCoreOf m (map event_meant kept.now) stop core → IsEnding reporting m (map event_meant kept.now) count stop (writing_of O.taken O.faults out.old out.new) result }
+    ensures ending { (m : Fixed Rest) → IsCoreOf m (map event_meant kept.now) stop core
+        → IsEnding (printing_of told) m (map event_meant kept.now) count stop (writing_of O.taken O.faults out.old out.new) result }
     ensures silent { failed ≡ true → (log : ℕ) → stop ≡ Stop.LogFault log → out.new ≡ out.old }
     ensures later { O.faults out.old ≤ O.faults out.new }
-    ensures once { EndsAtFault (OutStood result) (O.faults out.old) (O.late out.old) (O.faults out.new) (O.late out.new) }
+    ensures once { EndsAtFault (OutStoodOf (printing_of told) result) (O.faults out.old) (O.late out.old) (O.faults out.new) (O.late out.new) }
     ensures stopped { stop ≡ Stop.OutFault → out.new ≡ out.old }
 {
     match (stop, failed) {
         (Stop::LogFault(log), true) => Status::LogFault { log },
-        (stop, _) => end_reported(alloc, core, stop, kept, count, out),
+        (stop, _) => end_whole(alloc, told, core, stop, kept, count, out),
+    }
+}
+
+/// The same, where all replies are printed.
+fn end_whole<O: Sink>(
+    alloc: Global,
+    told: Told,
+    core: Option<Core>,
+    stop: Stop,
+    kept: &[Event],
+    count: u32,
+    out: &mut O,
+) -> Status
+    requires { IfSome core (λ c. IsAt c (map event_meant kept.now)) }
+    ensures ending { (m : Fixed Rest) → IsCoreOf m (map event_meant kept.now) stop core
+        → IsEnding (printing_of told) m (map event_meant kept.now) count stop (writing_of O.taken O.faults out.old out.new) result }
+    ensures later { O.faults out.old ≤ O.faults out.new }
+    ensures once { EndsAtFault (OutStoodOf (printing_of told) result) (O.faults out.old) (O.late out.old) (O.faults out.new) (O.late out.new) }
+    ensures stopped { stop ≡ Stop.OutFault → out.new ≡ out.old }
+{
+    match core {
+        Some(core) => tell(alloc, told, &core, stop, kept, count, out),
+        None => Status::Memory,
     }
 }
 
 /// The same, where there is a core.
-fn report<O: Sink>(
+fn tell<O: Sink>(
     alloc: Global,
+    told: Told,
     core: &Core,
     stop: Stop,
     kept: &[Event],
@@ -76,19 +144,19 @@ fn report<O: Sink>(
     out: &mut O,
 ) -> Status
     requires { IsAt core.now (map event_meant kept.now) }
-    ensures ending { IsEnding reporting (fixed_of core.now.tables) (map event_meant kept.now) count stop (writing_of O.taken O.faults out.old out.new) result }
+    ensures ending { IsEnding (printing_of told) (fixed_of core.now.tables) (map event_meant kept.now) count stop (writing_of O.taken O.faults out.old out.new) result }
     ensures later { O.faults out.old ≤ O.faults out.new }
-    ensures once { EndsAtFault (OutStood result) (O.faults out.old) (O.late out.old) (O.faults out.new) (O.late out.new) }
+    ensures once { EndsAtFault (OutStoodOf (printing_of told) result) (O.faults out.old) (O.late out.old) (O.faults out.new) (O.late out.new) }
     ensures stopped { stop ≡ Stop.OutFault → out.new ≡ out.old }
 {
     match stop {
-        Stop::Quiet => match write_ending(alloc, core, kept, out) {
+        Stop::Quiet => match tell_end(alloc, told, core, kept, out) {
             Ok(()) => Status::Done,
             Err(WriteNo::Fault) => Status::OutFault,
             Err(WriteNo::Memory) => Status::Memory,
         },
         Stop::LogFault(log) => {
-            write_unsures(alloc, out, log, count, kept);
+            tell_unsures(alloc, told, log, count, kept, out);
             Status::LogFault { log }
         }
         Stop::OutFault => Status::OutFault,
@@ -96,14 +164,56 @@ fn report<O: Sink>(
     }
 }
 
+/// Prints what comes behind the replies of a run that has ended.
+fn tell_end<O: Sink>(
+    alloc: Global,
+    told: Told,
+    core: &Core,
+    kept: &[Event],
+    out: &mut O,
+) -> Result<(), WriteNo>
+    requires { IsAt core.now (map event_meant kept.now) }
+    ensures whole { OnOk result (Writes (writing_of O.taken O.faults out.old out.new) (ending_by (printing_of told) (fixed_of core.now.tables) (map event_meant kept.now))) }
+    ensures front { OnErr result (WritesFront (writing_of O.taken O.faults out.old out.new) (ending_by (printing_of told) (fixed_of core.now.tables) (map event_meant kept.now))) }
+    ensures fault { IsErrOf result WriteNo.Fault → Rose (O.faults out.old) (O.faults out.new) }
+    // The text is made whole before it is written.
+    ensures memory { IsErrOf result WriteNo.Memory → out.new ≡ out.old }
+    ensures later { O.faults out.old ≤ O.faults out.new }
+    ensures once { EndsAtFault (¬ IsErrOf result WriteNo.Fault) (O.faults out.old) (O.late out.old) (O.faults out.new) (O.late out.new) }
+{
+    match told {
+        Told::Report => write_ending(alloc, core, kept, out),
+        Told::Summary => write_summary(alloc, core, kept, out),
+    }
+}
+
+/// Tells those that have no reply that they are unsure, since the log's device failed. Beside a summary nobody is told.
+fn tell_unsures<O: Sink>(
+    alloc: Global,
+    told: Told,
+    log: u8,
+    count: u32,
+    kept: &[Event],
+    out: &mut O,
+)
+    ensures lines { TellsUnsure (printing_of told) log (map event_meant kept.now) count [] (writing_of O.taken O.faults out.old out.new) }
+    ensures later { O.faults out.old ≤ O.faults out.new }
+    ensures once { EndsAtFault (printing_of told ≡ summing) (O.faults out.old) (O.late out.old) (O.faults out.new) (O.late out.new) }
+{
+    match told {
+        Told::Report => write_unsures(alloc, out, log, count, kept),
+        Told::Summary => {}
+    }
+}
+
 /// How the call ends where no run of so many transactions begins. Where a log's device failed they are told to be unsure.
-pub(crate) fn not_begun<O: Sink>(alloc: Global, no: LogsNo, count: u32, out: &mut O) -> Status
+fn not_begun<O: Sink>(alloc: Global, told: Told, no: LogsNo, count: u32, out: &mut O) -> Status
     ensures status { result ≡ logs_status no }
-    ensures told { IsToldUnbegun reporting count no (writing_of O.taken O.faults out.old out.new) }
-    ensures once { EndsAtFault (OutStood result) (O.faults out.old) (O.late out.old) (O.faults out.new) (O.late out.new) }
+    ensures told { IsToldUnbegun (printing_of told) count no (writing_of O.taken O.faults out.old out.new) }
+    ensures once { EndsAtFault (OutStoodOf (printing_of told) result) (O.faults out.old) (O.late out.old) (O.faults out.new) (O.late out.new) }
 {
     if let LogsNo::Device { log } = no {
-        write_unsures(alloc, out, log, count, &[]);
+        tell_unsures(alloc, told, log, count, &[], out);
     }
     status_of(no)
 }

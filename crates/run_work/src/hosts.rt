@@ -1,17 +1,19 @@
 //! The hosts on the logs of a work: one thread, or several workers.
-ghost use Rattle.std.specs.Prelude.{◌≡◌, ◌≢◌, ◌+◌, ◌≤◌, ◌^◌, length, vec_len, false, IfOk, IfErr, OnErr};
+ghost use Rattle.std.specs.Prelude.{◌≡◌, ◌≢◌, ◌+◌, ◌≤◌, ◌^◌, length, vec_len, true, false};
 ghost use Rattle.std.specs.List.{AllByRecursion};
 ghost use Rattle.crew_workers.specs.declared.crews.TheConstants.{MOST_WORKERS};
 ghost use Rattle.gate_log.specs.declared.limits.TheConstants.{FARTHEST_END};
 ghost use Rattle.log_opening.specs.Devices.{devices_of};
-ghost use Rattle.run_recovery.specs.Schedules.{seeded};
-ghost use Rattle.run_work.specs.Hosts.{IsHosted, IsHostedOn, IsUnbegun, IsCrewHosted, IsCrewHostedOn};
+ghost use Rattle.run_recovery.specs.Schedules.{seeded, free};
+ghost use Rattle.run_work.specs.Hosts.{HasHosted, HasStood, IsHostedOn};
+ghost use Rattle.run_work.specs.Printings.{printing_of};
 ghost use Rattle.run_work.specs.Writings.{writing_of};
 ghost use Rattle.snap_hand.specs.Tables.{MayBegin};
 ghost use Rattle.snap_outside.specs.Causes.{EndsAtFault};
 ghost use Rattle.snap_work.specs.Kept.{KeepsLimits};
 ghost use Rattle.snap_work.specs.Works.{work_of};
 
+use crate::printings::Told;
 use core_events::Event;
 use crew_host::{CrewEnd, MOST_WORKERS, drive_crew};
 use gate_log::{FARTHEST_END, Log};
@@ -20,7 +22,7 @@ use run_journals::Stop;
 use run_opening::open_run;
 use snap_core::Core;
 use snap_hand::{Tables, works_are_tables};
-use snap_outside::{Gate, LogDev, Sink};
+use snap_outside::{Gate, LogDev, NullSink, Sink};
 use snap_recover::Opening;
 use snap_work::Work;
 use solo_host::{Driven, drive};
@@ -34,84 +36,141 @@ pub(crate) struct Hosted {
     pub core: Option<Core>,
     pub stop: Stop,
     pub kept: Vec<Event>,
-}
-
-/// Opens the logs of a work, takes its events by the schedule of the seed, and closes the logs. They lie on the first of these
-/// devices; the others get no call. An error tells why no run began.
-pub(crate) fn host_work<D: LogDev, R: Sink>(
-    alloc: Global,
-    work: Work,
-    seed: u64,
-    devices: &mut Vec<D>,
-    replies: &mut R,
-) -> Result<Hosted, LogsNo>
-    requires four { vec_len devices.old ≡ 4 }
-    requires limits { KeepsLimits (work_of work) }
-    ensures hosted { IfOk result (λ h. IsHosted (work_of work) (seeded seed) (devices_of D.told D.faults devices.old.items) (devices_of D.told D.faults devices.new.items) (writing_of R.taken R.faults replies.old replies.new) h) }
-    ensures unbegun { IfErr result (λ no. IsUnbegun (work_of work) (devices_of D.told D.faults devices.old.items) (devices_of D.told D.faults devices.new.items) no) }
-    ensures silent { OnErr result (replies.new ≡ replies.old) }
-    ensures once { IfOk result (λ h. EndsAtFault (h.stop ≢ Stop.OutFault) (R.faults replies.old) (R.late replies.old) (R.faults replies.new) (R.late replies.new)) }
-    ensures four { vec_len devices.new ≡ 4 }
-{
-    let (logs, opening) = open_run(alloc, devices, work.logs, work.states.as_slice())?;
-    let mut logs = logs;
-    let hosted = host_on_logs(alloc, work, opening, seed, &mut logs, replies);
-    close(logs, devices);
-    Ok(hosted)
-}
-
-/// The same on its open logs, from the opening with which it begins.
-fn host_on_logs<D: LogDev, R: Sink>(
-    alloc: Global,
-    work: Work,
-    opening: Opening,
-    seed: u64,
-    logs: &mut Vec<Log<D>>,
-    replies: &mut R,
-) -> Hosted
-    requires limits { KeepsLimits (work_of work) }
-    requires begins { MayBegin (work_of work) opening }
-    requires logs { length logs.old.items ≡ work.logs }
-    requires open { AllByRecursion (λ l. l.shut ≡ false) logs.old.items }
-    requires format { AllByRecursion (λ l. l.format ≡ 2) logs.old.items }
-    requires ends { AllByRecursion (λ l. l.end ≤ FARTHEST_END + 2 ^ 32) logs.old.items }
-    ensures hosted { IsHostedOn (work_of work) (seeded seed) opening logs.old.items logs.new.items (writing_of R.taken R.faults replies.old replies.new) result }
-    ensures once { EndsAtFault (result.stop ≢ Stop.OutFault) (R.faults replies.old) (R.late replies.old) (R.faults replies.new) (R.late replies.new) }
-{
-    works_are_tables();
-    let Ok(mut core) = Core::open(alloc, Tables { work, opening }) else {
-        return Hosted {
-            core: None,
-            stop: Stop::Memory,
-            kept: Vec::new(alloc),
-        };
-    };
-    let Driven { stop, kept } = drive(alloc, &mut core, logs, replies, seed);
-    Hosted {
-        core: Some(core),
-        stop,
-        kept,
-    }
-}
-
-/// What several workers made of a work, or why no run began; and the output of its replies.
-pub(crate) struct CrewHosted<O> {
-    pub hosted: Result<Hosted, LogsNo>,
-    pub replies: O,
     /// Whether the output failed at the line of a reply.
     pub failed: bool,
 }
 
-/// What they made of it on its open logs.
-struct CrewOnLogs<D: LogDev, O> {
+/// What a host leaves: what it made of a work, or why no run began; and the output that it was handed.
+pub(crate) struct HostRan<O> {
+    pub hosted: Result<Hosted, LogsNo>,
+    pub out: O,
+}
+
+/// What it leaves of open logs.
+struct OnLogs<D: LogDev, O> {
     hosted: Hosted,
     logs: Vec<Log<D>>,
-    replies: O,
-    failed: bool,
+    out: O,
+}
+
+/// Opens the logs of a work, takes its events by the schedule of the seed, and closes the logs. They lie on the first of these
+/// devices; the others get no call. The replies are printed, or where the summary is asked for they go nowhere. An error tells
+/// why no run began.
+pub(crate) fn host_work<D: LogDev, O: Sink>(
+    alloc: Global,
+    work: Work,
+    told: Told,
+    seed: u64,
+    devices: &mut Vec<D>,
+    out: O,
+) -> HostRan<O>
+    requires four { vec_len devices.old ≡ 4 }
+    requires limits { KeepsLimits (work_of work) }
+    ensures left { HasHosted (printing_of told) (work_of work) (seeded seed) (devices_of D.told D.faults devices.old.items)
+        (devices_of D.told D.faults devices.new.items) (writing_of O.taken O.faults out result.out) result.hosted }
+    ensures once { EndsAtFault (HasStood result.hosted) (O.faults out) (O.late out) (O.faults result.out) (O.late result.out) }
+    ensures four { vec_len devices.new ≡ 4 }
+{
+    match open_run(alloc, devices, work.logs, work.states.as_slice()) {
+        Ok((logs, opening)) => {
+            let OnLogs { hosted, logs, out } = host_on_logs(
+                alloc, work, opening, told, seed, logs, out,
+            );
+            close(logs, devices);
+            HostRan {
+                hosted: Ok(hosted),
+                out,
+            }
+        }
+        Err(no) => HostRan {
+            hosted: Err(no),
+            out,
+        },
+    }
+}
+
+/// The same on its open logs, from the opening with which it begins.
+fn host_on_logs<D: LogDev, O: Sink>(
+    alloc: Global,
+    work: Work,
+    opening: Opening,
+    told: Told,
+    seed: u64,
+    logs: Vec<Log<D>>,
+    out: O,
+) -> OnLogs<D, O>
+    requires limits { KeepsLimits (work_of work) }
+    requires begins { MayBegin (work_of work) opening }
+    requires logs { length logs.items ≡ work.logs }
+    requires open { AllByRecursion (λ l. l.shut ≡ false) logs.items }
+    requires format { AllByRecursion (λ l. l.format ≡ 2) logs.items }
+    requires ends { AllByRecursion (λ l. l.end ≤ FARTHEST_END + 2 ^ 32) logs.items }
+    ensures hosted { IsHostedOn (printing_of told) (work_of work) (seeded seed) opening logs.items result.logs.items
+        (writing_of O.taken O.faults out result.out) result.hosted }
+    ensures once { EndsAtFault (result.hosted.failed ≡ false) (O.faults out) (O.late out) (O.faults result.out) (O.late result.out) }
+    ensures as_many { length result.logs.items ≡ length logs.items }
+{
+    works_are_tables();
+    let Ok(mut core) = Core::open(alloc, Tables { work, opening }) else {
+        return OnLogs {
+            hosted: Hosted {
+                core: None,
+                stop: Stop::Memory,
+                kept: Vec::new(alloc),
+                failed: false,
+            },
+            logs,
+            out,
+        };
+    };
+    let mut logs = logs;
+    match told {
+        Told::Report => {
+            let mut out = out;
+            let Driven { stop, kept } = drive(alloc, &mut core, &mut logs, &mut out, seed);
+            let failed = is_of_output(&stop);
+            OnLogs {
+                hosted: Hosted {
+                    core: Some(core),
+                    stop,
+                    kept,
+                    failed,
+                },
+                logs,
+                out,
+            }
+        }
+        Told::Summary => {
+            let mut nowhere = NullSink::new();
+            let Driven { stop, kept } = drive(alloc, &mut core, &mut logs, &mut nowhere, seed);
+            OnLogs {
+                hosted: Hosted {
+                    core: Some(core),
+                    stop,
+                    kept,
+                    failed: false,
+                },
+                logs,
+                out,
+            }
+        }
+    }
+}
+
+/// Whether one thread stopped for the output.
+fn is_of_output(by: &Stop) -> bool
+    ensures failed { by.now ≡ Stop.OutFault → result ≡ true }
+    ensures stood { by.now ≢ Stop.OutFault → result ≡ false }
+{
+    match by {
+        Stop::OutFault => true,
+        _ => false,
+    }
 }
 
 /// Opens the logs of a work, lets so many workers take its events, and closes the logs. They lie on the first of these devices;
-/// the others get no call. An error tells why no run began. Whether it returns is not promised.
+/// the others get no call. The replies are printed, or where the summary is asked for they go nowhere. An error tells why no run
+/// began. Whether it returns is not promised.
 pub(crate) fn host_crew<
     R: Threads + Wait + Sync,
     D: LogDev + Drop + Send,
@@ -121,40 +180,34 @@ pub(crate) fn host_crew<
     rt: &R,
     alloc: Global,
     work: Work,
+    told: Told,
     workers: usize,
     gate: &G,
     devices: &mut Vec<D>,
-    replies: O,
-) -> CrewHosted<O>
+    out: O,
+) -> HostRan<O>
     requires four { vec_len devices.old ≡ 4 }
     requires limits { KeepsLimits (work_of work) }
     requires workers { workers ≤ MOST_WORKERS }
-    ensures hosted { IfOk result.hosted (λ h. IsCrewHosted (work_of work) (devices_of D.told D.faults devices.old.items) (devices_of D.told D.faults devices.new.items) (writing_of O.taken O.faults replies result.replies) result.failed h) }
-    ensures unbegun { IfErr result.hosted (λ no. IsUnbegun (work_of work) (devices_of D.told D.faults devices.old.items) (devices_of D.told D.faults devices.new.items) no) }
-    ensures silent { OnErr result.hosted (result.replies ≡ replies) }
-    ensures unfailed { OnErr result.hosted (result.failed ≡ false) }
-    ensures once { EndsAtFault (result.failed ≡ false) (O.faults replies) (O.late replies) (O.faults result.replies) (O.late result.replies) }
+    ensures left { HasHosted (printing_of told) (work_of work) free (devices_of D.told D.faults devices.old.items)
+        (devices_of D.told D.faults devices.new.items) (writing_of O.taken O.faults out result.out) result.hosted }
+    ensures once { EndsAtFault (HasStood result.hosted) (O.faults out) (O.late out) (O.faults result.out) (O.late result.out) }
     ensures four { vec_len devices.new ≡ 4 }
 {
     match open_run(alloc, devices, work.logs, work.states.as_slice()) {
         Ok((logs, opening)) => {
-            let CrewOnLogs {
-                hosted,
-                logs,
-                replies,
-                failed,
-            } = crew_on_logs(rt, alloc, work, opening, workers, gate, logs, replies);
+            let OnLogs { hosted, logs, out } = crew_on_logs(
+                rt, alloc, work, opening, told, workers, gate, logs, out,
+            );
             close(logs, devices);
-            CrewHosted {
+            HostRan {
                 hosted: Ok(hosted),
-                replies,
-                failed,
+                out,
             }
         }
-        Err(no) => CrewHosted {
+        Err(no) => HostRan {
             hosted: Err(no),
-            replies,
-            failed: false,
+            out,
         },
     }
 }
@@ -170,11 +223,12 @@ fn crew_on_logs<
     alloc: Global,
     work: Work,
     opening: Opening,
+    told: Told,
     workers: usize,
     gate: &G,
     logs: Vec<Log<D>>,
-    replies: O,
-) -> CrewOnLogs<D, O>
+    out: O,
+) -> OnLogs<D, O>
     requires limits { KeepsLimits (work_of work) }
     requires begins { MayBegin (work_of work) opening }
     requires workers { workers ≤ MOST_WORKERS }
@@ -182,39 +236,64 @@ fn crew_on_logs<
     requires open { AllByRecursion (λ l. l.shut ≡ false) logs.items }
     requires format { AllByRecursion (λ l. l.format ≡ 2) logs.items }
     requires ends { AllByRecursion (λ l. l.end ≤ FARTHEST_END + 2 ^ 32) logs.items }
-    ensures hosted { IsCrewHostedOn (work_of work) opening logs.items result.logs.items (writing_of O.taken O.faults replies result.replies) result.failed result.hosted }
-    ensures once { EndsAtFault (result.failed ≡ false) (O.faults replies) (O.late replies) (O.faults result.replies) (O.late result.replies) }
+    ensures hosted { IsHostedOn (printing_of told) (work_of work) free opening logs.items result.logs.items
+        (writing_of O.taken O.faults out result.out) result.hosted }
+    ensures once { EndsAtFault (result.hosted.failed ≡ false) (O.faults out) (O.late out) (O.faults result.out) (O.late result.out) }
     ensures as_many { length result.logs.items ≡ length logs.items }
 {
     works_are_tables();
     let Ok(core) = Core::open(alloc, Tables { work, opening }) else {
-        return CrewOnLogs {
+        return OnLogs {
             hosted: Hosted {
                 core: None,
                 stop: Stop::Memory,
                 kept: Vec::new(alloc),
+                failed: false,
             },
             logs,
-            replies,
-            failed: false,
+            out,
         };
     };
-    let CrewEnd {
-        core,
-        logs,
-        out,
-        failed,
-        stop,
-        kept,
-    } = drive_crew(rt, alloc, core, logs, replies, gate, workers);
-    CrewOnLogs {
-        hosted: Hosted {
-            core: Some(core),
-            stop,
-            kept,
-        },
-        logs,
-        replies: out,
-        failed,
+    match told {
+        Told::Report => {
+            let CrewEnd {
+                core,
+                logs,
+                out,
+                failed,
+                stop,
+                kept,
+            } = drive_crew(rt, alloc, core, logs, out, gate, workers);
+            OnLogs {
+                hosted: Hosted {
+                    core: Some(core),
+                    stop,
+                    kept,
+                    failed,
+                },
+                logs,
+                out,
+            }
+        }
+        Told::Summary => {
+            let CrewEnd {
+                core,
+                logs,
+                out: _nowhere,
+                failed: _failed,
+                stop,
+                kept,
+            } = drive_crew(rt, alloc, core, logs, NullSink::new(), gate, workers);
+            OnLogs {
+                hosted: Hosted {
+                    core: Some(core),
+                    stop,
+                    kept,
+                    failed: false,
+                },
+                logs,
+                out,
+            }
+        }
     }
 }

@@ -4,12 +4,12 @@
 //! once its text is accepted.
 #![tactic(auto)]
 
-mod benches;
 mod endings;
 mod hosts;
+mod printings;
 mod replies;
 mod runs;
 
-pub use benches::{bench_work, crew_bench};
-pub use endings::status_of;
-pub use runs::{CrewRan, crew_work, run_work};
+pub use endings::{HasRun, status_of};
+pub use printings::Told;
+pub use runs::{crew_work, run_work};

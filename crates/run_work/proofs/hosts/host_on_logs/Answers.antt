@@ -1,17 +1,19 @@
-use Rattle.std.proofs.Common.{List, refl, sym, ◌∙◌, ap, subst, arith}
-use Rattle.std.proofs.KnownBytes.{Keeps-refl}
-use Rattle.core_events.specs.declared.events.Event.{Event}
+use Rattle.std.proofs.Common.{◌≡◌, false, refl, sym, ◌∙◌, ap, subst, arith, None, Some}
+use Rattle.std.proofs.KnownBytes.{Appends-nil, Keeps-refl}
+use Rattle.std.proofs.lemmas.Bool.{true≢false}
 use Rattle.run_recovery.specs.Runs.{meant}
 use Rattle.run_recovery.specs.Schedules.{seeded}
-use Rattle.run_work.proofs.Hosting.{hosted, no_core}
+use Rattle.run_work.proofs.Hosting.{hosted, whole, stops, no_core, no_memory, unheard}
 use Rattle.run_work.proofs.hosts.host_on_logs.Goals as goal
-use Rattle.run_work.specs.Hosts.{HasDriven, IsHostEnd}
-use Rattle.run_work.specs.Runs.{reporting}
+use Rattle.run_work.specs.Hosts.{HasDriven, IsHostedOn}
+use Rattle.run_work.specs.Printings.{printing_of}
 use Rattle.run_work.specs.Writings.{Writing, writing_of}
+use Rattle.run_work.specs.declared.hosts.Hosted.{Hosted}
+use Rattle.run_work.specs.declared.printings.Told.{Told}
 use Rattle.snap_hand.specs.Tables.{fixed_of}
 use Rattle.snap_hand.specs.declared.tables.Tables.{Tables}
+use Rattle.snap_outside.proofs.AtFault.{surely}
 use Rattle.snap_work.specs.Works.{work_of}
-use Rattle.run_journals.specs.declared.stops.Stop.TheVariants as stop
 
 pub open-requires : goal.open-requires
 open-requires g c =
@@ -20,22 +22,54 @@ open-requires g c =
 
 pub returns-in_default-clause-hosted : goal.returns-in_default-clause-hosted
 returns-in_default-clause-hosted g c =
-    let w = work_of c.args.work in
-    let logs = c.args.logs.now.items in
-    let replies : Writing = writing_of g.R.Sink.taken g.R.Sink.faults c.args.replies.now c.args.replies.now in
-    record {
-      ends = subst (λ (kept : List Event). IsHostEnd reporting (HasDriven w (seeded c.args.seed) c.args.opening (meant kept) logs logs) w (seeded c.args.seed) c.args.opening (meant kept) replies stop.Memory)
-          (sym c.new.ensures.items) (no_core w (seeded c.args.seed) c.args.opening logs replies c.requires.open (Keeps-refl _) (omega arith));
-      core = refl;
-    }
+    let p = printing_of c.args.told in
+    let out : Writing = writing_of g.O.Sink.taken g.O.Sink.faults c.args.out c.args.out in
+    let ends = no_core p (work_of c.args.work) (seeded c.args.seed) c.args.opening c.args.logs.items out c.new.result.items c.new.ensures.items c.requires.open (Keeps-refl _) (omega arith) in
+    record { ends = ends; core = refl; whole = λ _. ends.printed; stops = no_memory p }
 
-pub returns-clause-hosted : goal.returns-clause-hosted
-returns-clause-hosted g c =
+pub returns-in-Report-clause-hosted : goal.returns-in-Report-clause-hosted
+returns-in-Report-clause-hosted g c =
     let w = work_of c.args.work in
-    let replies : Writing = writing_of g.R.Sink.taken g.R.Sink.faults c.args.replies.now c.drive-stop.new.out in
+    let o = c.args.opening in
+    let seed = c.args.seed in
+    let made = c.drive-stop.result in
+    let old = c.args.logs.items in
+    let new = c.drive-stop.new.logs.items in
+    let es = meant made.kept.items in
+    let is = c.drive-stop.ensures in
+    let failed = c.is_of_output-failed in
+    let out : Writing = writing_of g.O.Sink.taken g.O.Sink.faults c.args.out c.drive-stop.new.out in
     let same = ap (λ (t : Tables). fixed_of t) c.in-Ok.ensures.tables in
-    record {
-      ends = hosted w c.args.seed c.args.opening (meant c.drive-stop.result.kept.items) c.args.logs.now.items c.drive-stop.new.logs.items replies c.drive-stop.result.stop _ same
-          c.drive-stop.ensures.front c.drive-stop.ensures.why c.drive-stop.ensures.logs c.drive-stop.ensures.printed c.drive-stop.ensures.later;
-      core = (ap (λ (t : Tables). fixed_of t) c.drive-stop.ensures.tables ∙ same, c.drive-stop.ensures.core);
-    }
+    let h : Hosted = record { core = Some c.drive-stop.new.core; stop = made.stop; kept = made.kept; failed = failed.result } in
+    subst (λ (t : Told). IsHostedOn (printing_of t) w (seeded seed) o old new out h) (sym c.in-Report.is) (record {
+      ends = hosted w seed o es old new out made.stop _ same is.front is.why is.logs is.printed is.later;
+      core = (ap (λ (t : Tables). fixed_of t) is.tables ∙ same, is.core);
+      whole = whole w seed o es out made.stop failed.result _ same failed.ensures.failed is.printed;
+      stops = stops made.stop failed.result failed.ensures.failed failed.ensures.stood;
+    })
+
+pub returns-in-Report-clause-once : goal.returns-in-Report-clause-once
+returns-in-Report-clause-once g c =
+    surely _ _ _ _ (λ stood by. true≢false (sym (c.is_of_output-failed.ensures.failed by) ∙ stood)) c.drive-stop.ensures.once
+
+pub returns-in-Summary-clause-hosted : goal.returns-in-Summary-clause-hosted
+returns-in-Summary-clause-hosted g c =
+    let w = work_of c.args.work in
+    let o = c.args.opening in
+    let seed = c.args.seed in
+    let made = c.drive-stop-in-Summary.result in
+    let old = c.args.logs.items in
+    let new = c.drive-stop-in-Summary.new.logs.items in
+    let es = meant made.kept.items in
+    let is = c.drive-stop-in-Summary.ensures in
+    let nowhere : Writing = record { taken_before = None; taken_after = None; faults_before = 0; faults_after = 0 } in
+    let out : Writing = writing_of g.O.Sink.taken g.O.Sink.faults c.args.out c.args.out in
+    let same = ap (λ (t : Tables). fixed_of t) c.in-Ok.ensures.tables in
+    let h : Hosted = record { core = Some c.drive-stop-in-Summary.new.core; stop = made.stop; kept = made.kept; failed = false } in
+    subst (λ (t : Told). IsHostedOn (printing_of t) w (seeded seed) o old new out h) (sym c.in-Summary.is) (record {
+      ends = unheard (HasDriven w (seeded seed) o es old new) w (seeded seed) o es nowhere out made.stop (λ rose. omega (arith, rose)) (Appends-nil _) (omega arith)
+          (hosted w seed o es old new nowhere made.stop _ same is.front is.why is.logs is.printed is.later);
+      core = (ap (λ (t : Tables). fixed_of t) is.tables ∙ same, is.core);
+      whole = λ _. Appends-nil _;
+      stops = refl;
+    })

@@ -3,9 +3,9 @@ use Rattle.std.proofs.KnownBytes.{Keeps-refl}
 use Rattle.aml_slice.specs.Controls.{Rest}
 use Rattle.core_events.specs.Meant.{event_meant}
 use Rattle.protocol.specs.Fixed.{Fixed}
-use Rattle.run_work.proofs.benches.end_summed.Goals as goal
+use Rattle.run_work.proofs.endings.end_whole.Goals as goal
 use Rattle.run_work.specs.Hosts.{IsCoreOf}
-use Rattle.run_work.specs.Runs.{summing}
+use Rattle.run_work.specs.Printings.{printing_of}
 use Rattle.run_work.specs.Untraced.{IsEnding}
 use Rattle.run_work.specs.Writings.{Writing, writing_of}
 use Rattle.snap_core.specs.Cores.{CoreState}
@@ -14,14 +14,14 @@ use Rattle.run_journals.specs.declared.stops.Stop.{Stop}
 use Rattle.run_journals.specs.declared.stops.Stop.TheVariants as stop
 
 pub returns-in-Some-clause-ending : goal.returns-in-Some-clause-ending
-returns-in-Some-clause-ending g c = λ m count is.
-    let out : Writing = writing_of g.O.Sink.taken g.O.Sink.faults c.args.out.now c.summarize.new.out in
+returns-in-Some-clause-ending g c = λ m is.
+    let out : Writing = writing_of g.O.Sink.taken g.O.Sink.faults c.args.out.now c.tell.new.out in
     let known : IsCoreOf m (map event_meant c.args.kept.now) c.args.stop (Some c.in-Some.core) =
     subst (λ (core : Option CoreState). IsCoreOf m (map event_meant c.args.kept.now) c.args.stop core) c.in-Some.is is in
-    subst (λ (x : Fixed Rest). IsEnding summing x (map event_meant c.args.kept.now) count c.args.stop out c.summarize.result) known.0 (c.summarize.ensures.ending count)
+    subst (λ (x : Fixed Rest). IsEnding (printing_of c.args.told) x (map event_meant c.args.kept.now) c.args.count c.args.stop out c.tell.result) known.0 c.tell.ensures.ending
 
 pub returns-in-None-clause-ending : goal.returns-in-None-clause-ending
-returns-in-None-clause-ending g c = λ m count is.
+returns-in-None-clause-ending g c = λ m is.
     let out : Writing = writing_of g.O.Sink.taken g.O.Sink.faults c.args.out.now c.args.out.now in
     let known : c.args.stop ≡ stop.Memory = subst (λ (core : Option CoreState). IsCoreOf m (map event_meant c.args.kept.now) c.args.stop core) c.in-None.is is in
-    subst (λ (by : Stop). IsEnding summing m (map event_meant c.args.kept.now) count by out status.Memory) (sym known) (refl, Keeps-refl _)
+    subst (λ (by : Stop). IsEnding (printing_of c.args.told) m (map event_meant c.args.kept.now) c.args.count by out status.Memory) (sym known) (refl, Keeps-refl _)

@@ -1,0 +1,38 @@
+-- What a host left on open logs, on all devices.
+use Rattle.std.proofs.Common.{◌≡◌, ℕ, ◌++◌, List, length, map, drop, sym, subst}
+use Rattle.gate_log.specs.State.{LogState}
+use Rattle.log_opening.specs.Devices.{Device, as_device}
+use Rattle.log_opening.specs.declared.refusals.LogsNo.{LogsNo}
+use Rattle.log_opening.specs.declared.refusals.LogsNo.TheVariants as ending
+use Rattle.run_opening.specs.Opens.{AreSafe, HasRoom, IsNoRun, MayOpen, OpensRun}
+use Rattle.run_recovery.specs.Runs.{meant}
+use Rattle.run_recovery.specs.Schedules.{Schedule}
+use Rattle.run_work.proofs.Hosting.{made_as}
+use Rattle.run_work.proofs.RunDevices.{has_left}
+use Rattle.run_work.specs.Hosts.{HasDriven, HasLeft, IsHosted, IsHostedOn, IsUnbegun}
+use Rattle.run_work.specs.Runs.{Printing}
+use Rattle.run_work.specs.Writings.{Writing}
+use Rattle.run_work.specs.declared.hosts.Hosted.{Hosted}
+use Rattle.snap_base.specs.declared.transactions.State.{State}
+use Rattle.snap_recover.specs.declared.openings.Opening.{Opening}
+use Rattle.snap_work.specs.Works.{Work}
+use Rattle.txn_records.specs.declared.records.Record.{Record}
+
+pub hosted_on : (p : Printing) (w : Work) (schedule : Schedule) (o : Opening) (before after others : List Device) (old new : List LogState) (replies : Writing) (h : Hosted)
+    → (states : List State) (records : List (List Record)) (added : List Record) → states ≡ w.states → OpensRun before old states o records added → length records ≡ w.logs → HasRoom o
+    → after ≡ map as_device new ++ others → others ≡ drop w.logs before → IsHostedOn p w schedule o old new replies h → IsHosted p w schedule before after replies h
+hosted_on p w schedule o before after others old new replies h states records added texts opens as_many room same rest is =
+    let es = meant h.kept.items in
+    record {
+      opening = o;
+      made = made_as (HasDriven w schedule o es old new) (HasLeft w schedule o es before after)
+          (λ failed driven. has_left w schedule o es failed before after others old new states records added texts opens as_many room driven same rest) p w schedule o replies h is;
+    }
+
+pub unbegun : (w : Work) (before after : List Device) (why : LogsNo) (states : List State) → states ≡ w.states → IsNoRun w.logs states before after why → AreSafe w.logs states before after
+    → ((records : List (List Record)) (o : Opening) → MayOpen w.logs states before after records o → why ≡ ending.Memory) → IsUnbegun w before after why
+unbegun w before after why states texts none safe complete = record {
+  none = subst (λ (ss : List State). IsNoRun w.logs ss before after why) texts none;
+  safe = subst (λ (ss : List State). AreSafe w.logs ss before after) texts safe;
+  complete = λ records o may. complete records o (subst (λ (ss : List State). MayOpen w.logs ss before after records o) (sym texts) may);
+}

@@ -1,0 +1,38 @@
+use Rattle.std.proofs.Common.{◌≡◌, List, Result, refl, sym, subst}
+use Rattle.core_events.specs.declared.events.Event.{Event}
+use Rattle.log_opening.specs.declared.refusals.LogsNo.{LogsNo}
+use Rattle.run_recovery.specs.Runs.{meant}
+use Rattle.run_work.proofs.AtFault.{silent_so}
+use Rattle.run_work.proofs.Ending.{StopsAtFault}
+use Rattle.run_work.proofs.endings.end_untraced.Goals as goal
+use Rattle.run_work.specs.Hosts.{IsCoreOf}
+use Rattle.run_work.specs.Printings.{printing_of}
+use Rattle.run_work.specs.Untraced.{IsEnding, EndsUntraced}
+use Rattle.run_work.specs.Writings.{Writing, writing_of}
+use Rattle.run_work.specs.declared.hosts.Hosted.{Hosted}
+
+pub returns-in-Ok-clause-ended : goal.returns-in-Ok-clause-ended
+returns-in-Ok-clause-ended g c =
+    let p = printing_of c.args.told in
+    let h = c.in-Ok.hosted in
+    let out : Writing = writing_of g.O.Sink.taken g.O.Sink.faults c.args.out.now c.end_hosted-status.new.out in
+    let s = c.end_hosted-status.result in
+    subst (λ (ran : Result Hosted LogsNo). EndsUntraced p ran c.args.count h.kept.items out s) (sym c.in-Ok.is) (record {
+      same = refl;
+      ending = subst (λ (kept : List Event). (m : _) → IsCoreOf m (meant kept) h.stop h.core → IsEnding p m (meant kept) c.args.count h.stop out s) c.as_slice.ensures.value
+          c.end_hosted-status.ensures.ending;
+      later = c.end_hosted-status.ensures.later;
+    })
+
+pub returns-in-Ok-clause-silent : goal.returns-in-Ok-clause-silent
+returns-in-Ok-clause-silent g c =
+    let p = printing_of c.args.told in
+    let h = c.in-Ok.hosted in
+    subst (λ (ran : Result Hosted LogsNo). StopsAtFault p ran (c.end_hosted-status.new.out ≡ c.args.out.now)) (sym c.in-Ok.is)
+    (silent_so p h.failed h.stop (c.end_hosted-status.new.out ≡ c.args.out.now) c.end_hosted-status.ensures.silent c.end_hosted-status.ensures.stopped)
+
+pub returns-in-Err-clause-ended : goal.returns-in-Err-clause-ended
+returns-in-Err-clause-ended g c =
+    let out : Writing = writing_of g.O.Sink.taken g.O.Sink.faults c.args.out.now c.not_begun.new.out in
+    subst (λ (ran : Result Hosted LogsNo). EndsUntraced (printing_of c.args.told) ran c.args.count c.new.result.items out c.not_begun.result) (sym c.in-Err.is)
+    (c.new.ensures.items, c.not_begun.ensures.status, c.not_begun.ensures.told)
