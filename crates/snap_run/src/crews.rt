@@ -19,7 +19,7 @@ ghost use Rattle.txn_records.specs.declared.records.Record.{Record};
 
 use crate::works::{generated_work, read_work};
 use command_words::{Command, one_command, read_words};
-use run_work::{CrewRan, crew_bench, crew_work};
+use run_work::{HasRun, Told, crew_work};
 use snap_outside::{Gate, LogDev, Sink, Source};
 use snap_report::Status;
 use std::alloc::Global;
@@ -44,7 +44,7 @@ pub(crate) fn crew_answer<
     logs: &mut Vec<D>,
     out: O,
     trace: &mut T,
-) -> CrewRan<O>
+) -> HasRun<O>
     requires four { vec_len logs.old ≡ 4 }
     requires crew { ¬ AskFor (map string_bytes words.now) 0 }
     ensures outcome { let u : Use = use_of (map string_bytes words.now) (reading_of I.left I.faults input.old input.new) (writing_of O.taken O.faults out result.out) (writing_of T.taken T.faults trace.old trace.new) result.kept.items (devices_of D.told D.faults logs.old.items) (devices_of D.told D.faults logs.new.items) in IsOutcome u result.status }
@@ -92,7 +92,7 @@ fn crew_input<
     logs: &mut Vec<D>,
     out: O,
     trace: &mut T,
-) -> CrewRan<O>
+) -> HasRun<O>
     requires four { vec_len logs.old ≡ 4 }
     requires some { 0 < workers }
     requires few { workers ≤ MOST_WORKERS }
@@ -109,8 +109,18 @@ fn crew_input<
     one_command();
     one_work();
     match read_work(alloc, input) {
-        Ok(work) => crew_work(rt, alloc, work, workers as usize, gate, logs, out, trace),
-        Err(status) => CrewRan {
+        Ok(work) => crew_work(
+            rt,
+            alloc,
+            work,
+            Told::Report,
+            workers as usize,
+            gate,
+            logs,
+            out,
+            trace,
+        ),
+        Err(status) => HasRun {
             kept: Vec::new(alloc),
             status,
             out,
@@ -122,7 +132,7 @@ fn crew_input<
 fn crew_generated<
     R: Threads + Wait + Sync,
     D: LogDev + Drop + Send,
-    O: Sink,
+    O: Sink + Drop + Send,
     T: Sink,
     G: Gate + Sync,
 >(
@@ -135,7 +145,7 @@ fn crew_generated<
     logs: &mut Vec<D>,
     out: O,
     trace: &mut T,
-) -> CrewRan<O>
+) -> HasRun<O>
     requires few_transactions { count ≤ MOST_TRANSACTIONS }
     requires four { vec_len logs.old ≡ 4 }
     requires few { workers ≤ MOST_WORKERS }
@@ -150,8 +160,18 @@ fn crew_generated<
 {
     one_work();
     match generated_work(alloc, count, seed) {
-        Ok(work) => crew_bench(rt, alloc, work, workers as usize, gate, logs, out, trace),
-        Err(_) => CrewRan {
+        Ok(work) => crew_work(
+            rt,
+            alloc,
+            work,
+            Told::Summary,
+            workers as usize,
+            gate,
+            logs,
+            out,
+            trace,
+        ),
+        Err(_) => HasRun {
             kept: Vec::new(alloc),
             status: Status::Memory,
             out,

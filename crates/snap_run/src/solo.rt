@@ -23,8 +23,7 @@ use crate::migrations::print_migrated;
 use crate::recoveries::print_recovered;
 use crate::works::{generated_work, print_generated, read_work};
 use command_words::{Command, one_command, read_words};
-use core_events::Event;
-use run_work::{bench_work, run_work};
+use run_work::{HasRun, Told, run_work};
 use snap_outside::{LogDev, Sink, Source};
 use snap_report::Status;
 use std::alloc::Global;
@@ -75,9 +74,8 @@ pub fn run_solo<I: Source, D: LogDev, O: Sink, T: Sink>(
 {
     done_or_no_memory();
     let mut logs = logs;
-    let mut out = out;
     let mut trace = trace;
-    let (kept, status) = answer(alloc, words, input, &mut logs, &mut out, &mut trace);
+    let HasRun { kept, status, out } = answer(alloc, words, input, &mut logs, out, &mut trace);
     Outcome {
         status,
         kept,
@@ -93,35 +91,61 @@ fn answer<I: Source, D: LogDev, O: Sink, T: Sink>(
     words: &[String],
     input: &mut I,
     logs: &mut Vec<D>,
-    out: &mut O,
+    out: O,
     trace: &mut T,
-) -> (Vec<Event>, Status)
+) -> HasRun<O>
     requires four { vec_len logs.old ≡ 4 }
     requires alone { AskFor (map string_bytes words.now) 0 }
-    ensures outcome { let u : Use = use_of (map string_bytes words.now) (reading_of I.left I.faults input.old input.new) (writing_of O.taken O.faults out.old out.new) (writing_of T.taken T.faults trace.old trace.new) result.0.items (devices_of D.told D.faults logs.old.items) (devices_of D.told D.faults logs.new.items) in IsOutcome u result.1 }
-    ensures opens { let u : Use = use_of (map string_bytes words.now) (reading_of I.left I.faults input.old input.new) (writing_of O.taken O.faults out.old out.new) (writing_of T.taken T.faults trace.old trace.new) result.0.items (devices_of D.told D.faults logs.old.items) (devices_of D.told D.faults logs.new.items) in
-        (text : List ℕ) (w : Work) (records : List (List Record)) (o : Opening) → IsUntroubled u text w records o → ¬ IsOfLogs result.1 }
-    ensures opens_bench { let u : Use = use_of (map string_bytes words.now) (reading_of I.left I.faults input.old input.new) (writing_of O.taken O.faults out.old out.new) (writing_of T.taken T.faults trace.old trace.new) result.0.items (devices_of D.told D.faults logs.old.items) (devices_of D.told D.faults logs.new.items) in
-        (count seed workers : ℕ) (w : Work) (records : List (List Record)) (o : Opening) → IsBench u.words count seed workers → MayBeMeasured u count seed w records o → ¬ IsOfLogs result.1 }
-    ensures untouched { GetsNoCall result.1 → logs.new ≡ logs.old }
-    ensures no_trace { result.0.items ≡ [] → trace.new ≡ trace.old }
-    ensures out_once { EndsAtFault (OutStood result.1) (O.faults out.old) (O.late out.old) (O.faults out.new) (O.late out.new) }
-    ensures trace_once { EndsAtFault (result.1 ≡ status.Done) (T.faults trace.old) (T.late trace.old) (T.faults trace.new) (T.late trace.new) }
-    ensures input_once { EndsAtFault (result.1 ≢ status.ReadFault) (I.faults input.old) (I.late input.old) (I.faults input.new) (I.late input.new) }
+    ensures outcome { let u : Use = use_of (map string_bytes words.now) (reading_of I.left I.faults input.old input.new) (writing_of O.taken O.faults out result.out) (writing_of T.taken T.faults trace.old trace.new) result.kept.items (devices_of D.told D.faults logs.old.items) (devices_of D.told D.faults logs.new.items) in IsOutcome u result.status }
+    ensures opens { let u : Use = use_of (map string_bytes words.now) (reading_of I.left I.faults input.old input.new) (writing_of O.taken O.faults out result.out) (writing_of T.taken T.faults trace.old trace.new) result.kept.items (devices_of D.told D.faults logs.old.items) (devices_of D.told D.faults logs.new.items) in
+        (text : List ℕ) (w : Work) (records : List (List Record)) (o : Opening) → IsUntroubled u text w records o → ¬ IsOfLogs result.status }
+    ensures opens_bench { let u : Use = use_of (map string_bytes words.now) (reading_of I.left I.faults input.old input.new) (writing_of O.taken O.faults out result.out) (writing_of T.taken T.faults trace.old trace.new) result.kept.items (devices_of D.told D.faults logs.old.items) (devices_of D.told D.faults logs.new.items) in
+        (count seed workers : ℕ) (w : Work) (records : List (List Record)) (o : Opening) → IsBench u.words count seed workers → MayBeMeasured u count seed w records o → ¬ IsOfLogs result.status }
+    ensures untouched { GetsNoCall result.status → logs.new ≡ logs.old }
+    ensures no_trace { result.kept.items ≡ [] → trace.new ≡ trace.old }
+    ensures out_once { EndsAtFault (OutStood result.status) (O.faults out) (O.late out) (O.faults result.out) (O.late result.out) }
+    ensures trace_once { EndsAtFault (result.status ≡ status.Done) (T.faults trace.old) (T.late trace.old) (T.faults trace.new) (T.late trace.new) }
+    ensures input_once { EndsAtFault (result.status ≢ status.ReadFault) (I.faults input.old) (I.late input.old) (I.faults input.new) (I.late input.new) }
     ensures four { vec_len logs.new ≡ 4 }
 {
     one_command();
     match read_words(words) {
         Ok(Command::Run { seed, .. }) => run_input(alloc, input, seed, logs, out, trace),
-        Ok(Command::Recover) => (Vec::new(alloc), print_recovered(alloc, logs, out)),
-        Ok(Command::Migrate) => (Vec::new(alloc), print_migrated(alloc, logs, out)),
+        Ok(Command::Recover) => {
+            let mut out = out;
+            let status = print_recovered(alloc, logs, &mut out);
+            HasRun {
+                kept: Vec::new(alloc),
+                status,
+                out,
+            }
+        }
+        Ok(Command::Migrate) => {
+            let mut out = out;
+            let status = print_migrated(alloc, logs, &mut out);
+            HasRun {
+                kept: Vec::new(alloc),
+                status,
+                out,
+            }
+        }
         Ok(Command::Gen { count, seed }) => {
-            (Vec::new(alloc), print_generated(alloc, count, seed, out))
+            let mut out = out;
+            let status = print_generated(alloc, count, seed, &mut out);
+            HasRun {
+                kept: Vec::new(alloc),
+                status,
+                out,
+            }
         }
         Ok(Command::Bench { count, seed, .. }) => run_generated(
             alloc, count, seed, logs, out, trace,
         ),
-        Err(word) => (Vec::new(alloc), Status::Usage { word }),
+        Err(word) => HasRun {
+            kept: Vec::new(alloc),
+            status: Status::Usage { word },
+            out,
+        },
     }
 }
 
@@ -131,25 +155,29 @@ fn run_input<I: Source, D: LogDev, O: Sink, T: Sink>(
     input: &mut I,
     seed: u64,
     logs: &mut Vec<D>,
-    out: &mut O,
+    out: O,
     trace: &mut T,
-) -> (Vec<Event>, Status)
+) -> HasRun<O>
     requires { vec_len logs.old ≡ 4 }
-    ensures outcome { (words : List (List ℕ)) → IsRun words 0 seed → let u : Use = use_of words (reading_of I.left I.faults input.old input.new) (writing_of O.taken O.faults out.old out.new) (writing_of T.taken T.faults trace.old trace.new) result.0.items (devices_of D.told D.faults logs.old.items) (devices_of D.told D.faults logs.new.items) in IsOutcome u result.1 }
-    ensures opens { (words : List (List ℕ)) → let u : Use = use_of words (reading_of I.left I.faults input.old input.new) (writing_of O.taken O.faults out.old out.new) (writing_of T.taken T.faults trace.old trace.new) result.0.items (devices_of D.told D.faults logs.old.items) (devices_of D.told D.faults logs.new.items) in
-        (text : List ℕ) (w : Work) (records : List (List Record)) (o : Opening) → IsUntroubled u text w records o → ¬ IsOfLogs result.1 }
-    ensures untouched { GetsNoCall result.1 → logs.new ≡ logs.old }
-    ensures no_trace { result.0.items ≡ [] → trace.new ≡ trace.old }
-    ensures out_once { EndsAtFault (OutStood result.1) (O.faults out.old) (O.late out.old) (O.faults out.new) (O.late out.new) }
-    ensures trace_once { EndsAtFault (result.1 ≡ status.Done) (T.faults trace.old) (T.late trace.old) (T.faults trace.new) (T.late trace.new) }
-    ensures input_once { EndsAtFault (result.1 ≢ status.ReadFault) (I.faults input.old) (I.late input.old) (I.faults input.new) (I.late input.new) }
+    ensures outcome { (words : List (List ℕ)) → IsRun words 0 seed → let u : Use = use_of words (reading_of I.left I.faults input.old input.new) (writing_of O.taken O.faults out result.out) (writing_of T.taken T.faults trace.old trace.new) result.kept.items (devices_of D.told D.faults logs.old.items) (devices_of D.told D.faults logs.new.items) in IsOutcome u result.status }
+    ensures opens { (words : List (List ℕ)) → let u : Use = use_of words (reading_of I.left I.faults input.old input.new) (writing_of O.taken O.faults out result.out) (writing_of T.taken T.faults trace.old trace.new) result.kept.items (devices_of D.told D.faults logs.old.items) (devices_of D.told D.faults logs.new.items) in
+        (text : List ℕ) (w : Work) (records : List (List Record)) (o : Opening) → IsUntroubled u text w records o → ¬ IsOfLogs result.status }
+    ensures untouched { GetsNoCall result.status → logs.new ≡ logs.old }
+    ensures no_trace { result.kept.items ≡ [] → trace.new ≡ trace.old }
+    ensures out_once { EndsAtFault (OutStood result.status) (O.faults out) (O.late out) (O.faults result.out) (O.late result.out) }
+    ensures trace_once { EndsAtFault (result.status ≡ status.Done) (T.faults trace.old) (T.late trace.old) (T.faults trace.new) (T.late trace.new) }
+    ensures input_once { EndsAtFault (result.status ≢ status.ReadFault) (I.faults input.old) (I.late input.old) (I.faults input.new) (I.late input.new) }
     ensures four { vec_len logs.new ≡ 4 }
 {
     one_command();
     one_work();
     match read_work(alloc, input) {
-        Ok(work) => run_work(alloc, work, seed, logs, out, trace),
-        Err(status) => (Vec::new(alloc), status),
+        Ok(work) => run_work(alloc, work, Told::Report, seed, logs, out, trace),
+        Err(status) => HasRun {
+            kept: Vec::new(alloc),
+            status,
+            out,
+        },
     }
 }
 
@@ -159,23 +187,27 @@ fn run_generated<D: LogDev, O: Sink, T: Sink>(
     count: u32,
     seed: u64,
     logs: &mut Vec<D>,
-    out: &mut O,
+    out: O,
     trace: &mut T,
-) -> (Vec<Event>, Status)
+) -> HasRun<O>
     requires few { count ≤ MOST_TRANSACTIONS }
     requires four { vec_len logs.old ≡ 4 }
-    ensures answer { (words : List (List ℕ)) (reading : Reading) → let u : Use = use_of words reading (writing_of O.taken O.faults out.old out.new) (writing_of T.taken T.faults trace.old trace.new) result.0.items (devices_of D.told D.faults logs.old.items) (devices_of D.told D.faults logs.new.items) in IsMeasured u (seeded 0) count seed result.1 }
-    ensures opens { (words : List (List ℕ)) (reading : Reading) → let u : Use = use_of words reading (writing_of O.taken O.faults out.old out.new) (writing_of T.taken T.faults trace.old trace.new) result.0.items (devices_of D.told D.faults logs.old.items) (devices_of D.told D.faults logs.new.items) in
-        (w : Work) (records : List (List Record)) (o : Opening) → MayBeMeasured u count seed w records o → ¬ IsOfLogs result.1 }
-    ensures untouched { GetsNoCall result.1 → logs.new ≡ logs.old }
-    ensures no_trace { result.0.items ≡ [] → trace.new ≡ trace.old }
-    ensures out_once { EndsAtFault (result.1 ≢ status.OutFault) (O.faults out.old) (O.late out.old) (O.faults out.new) (O.late out.new) }
-    ensures trace_once { EndsAtFault (result.1 ≡ status.Done) (T.faults trace.old) (T.late trace.old) (T.faults trace.new) (T.late trace.new) }
+    ensures answer { (words : List (List ℕ)) (reading : Reading) → let u : Use = use_of words reading (writing_of O.taken O.faults out result.out) (writing_of T.taken T.faults trace.old trace.new) result.kept.items (devices_of D.told D.faults logs.old.items) (devices_of D.told D.faults logs.new.items) in IsMeasured u (seeded 0) count seed result.status }
+    ensures opens { (words : List (List ℕ)) (reading : Reading) → let u : Use = use_of words reading (writing_of O.taken O.faults out result.out) (writing_of T.taken T.faults trace.old trace.new) result.kept.items (devices_of D.told D.faults logs.old.items) (devices_of D.told D.faults logs.new.items) in
+        (w : Work) (records : List (List Record)) (o : Opening) → MayBeMeasured u count seed w records o → ¬ IsOfLogs result.status }
+    ensures untouched { GetsNoCall result.status → logs.new ≡ logs.old }
+    ensures no_trace { result.kept.items ≡ [] → trace.new ≡ trace.old }
+    ensures out_once { EndsAtFault (result.status ≢ status.OutFault) (O.faults out) (O.late out) (O.faults result.out) (O.late result.out) }
+    ensures trace_once { EndsAtFault (result.status ≡ status.Done) (T.faults trace.old) (T.late trace.old) (T.faults trace.new) (T.late trace.new) }
     ensures four { vec_len logs.new ≡ 4 }
 {
     one_work();
     match generated_work(alloc, count, seed) {
-        Ok(work) => bench_work(alloc, work, logs, out, trace),
-        Err(_) => (Vec::new(alloc), Status::Memory),
+        Ok(work) => run_work(alloc, work, Told::Summary, 0, logs, out, trace),
+        Err(_) => HasRun {
+            kept: Vec::new(alloc),
+            status: Status::Memory,
+            out,
+        },
     }
 }

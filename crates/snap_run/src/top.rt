@@ -19,7 +19,7 @@ use crate::crews::crew_answer;
 use crate::endings::{Outcome, done_or_no_memory};
 use crate::solo::run_solo;
 use command_words::{one_command, workers_of};
-use run_work::CrewRan;
+use run_work::HasRun;
 use snap_outside::{Gate, LogDev, Sink, Source};
 use std::alloc::Global;
 use std::sync::Wait;
@@ -84,7 +84,7 @@ pub fn run<
     done_or_no_memory();
     let mut logs = logs;
     let mut trace = trace;
-    let CrewRan { kept, status, out } = crew_answer(
+    let HasRun { kept, status, out } = crew_answer(
         rt, alloc, words, input, gate, &mut logs, out, &mut trace,
     );
     Outcome {

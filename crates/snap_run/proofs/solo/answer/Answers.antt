@@ -29,36 +29,36 @@ pub returns-in-Ok-Recover-clause-outcome : goal.returns-in-Ok-Recover-clause-out
 returns-in-Ok-Recover-clause-outcome g c =
     let words = map string_bytes c.args.words.now in
     let u : Use = use_of words (reading_of g.I.Source.left g.I.Source.faults c.args.input.now c.args.input.now)
-    (writing_of g.O.Sink.taken g.O.Sink.faults c.args.out.now c.print_recovered.new.out) (writing_of g.T.Sink.taken g.T.Sink.faults c.args.trace.now c.args.trace.now) c.new.result.items
-    (devices_of g.D.LogDev.told g.D.LogDev.faults c.args.logs.now.items) (devices_of g.D.LogDev.told g.D.LogDev.faults c.print_recovered.new.devices.items) in
-    recover_outcome c.one_command.ensures u c.print_recovered.result (subst (λ (k : Command). IsCommand words k) c.in-Ok-Recover.field-0-is c.in-Ok-Recover.ensures) (Keeps-refl _)
-    c.new.ensures.items (Keeps-refl _) c.print_recovered.ensures.opened c.print_recovered.ensures.safe c.print_recovered.ensures.answer
+    (writing_of g.O.Sink.taken g.O.Sink.faults c.args.out c.print_recovered-status.new.out) (writing_of g.T.Sink.taken g.T.Sink.faults c.args.trace.now c.args.trace.now) c.new.result.items
+    (devices_of g.D.LogDev.told g.D.LogDev.faults c.args.logs.now.items) (devices_of g.D.LogDev.told g.D.LogDev.faults c.print_recovered-status.new.devices.items) in
+    recover_outcome c.one_command.ensures u c.print_recovered-status.result (subst (λ (k : Command). IsCommand words k) c.in-Ok-Recover.field-0-is c.in-Ok-Recover.ensures) (Keeps-refl _)
+    c.new.ensures.items (Keeps-refl _) c.print_recovered-status.ensures.opened c.print_recovered-status.ensures.safe c.print_recovered-status.ensures.answer
 
 pub returns-in-Ok-Migrate-clause-outcome : goal.returns-in-Ok-Migrate-clause-outcome
 returns-in-Ok-Migrate-clause-outcome g c =
     let words = map string_bytes c.args.words.now in
     let u : Use = use_of words (reading_of g.I.Source.left g.I.Source.faults c.args.input.now c.args.input.now)
-    (writing_of g.O.Sink.taken g.O.Sink.faults c.args.out.now c.print_migrated.new.out) (writing_of g.T.Sink.taken g.T.Sink.faults c.args.trace.now c.args.trace.now) c.new-in-Ok-Migrate.result.items
-    (devices_of g.D.LogDev.told g.D.LogDev.faults c.args.logs.now.items) (devices_of g.D.LogDev.told g.D.LogDev.faults c.print_migrated.new.devices.items) in
-    migrate_outcome c.one_command.ensures u c.print_migrated.result (subst (λ (k : Command). IsCommand words k) c.in-Ok-Migrate.field-0-is c.in-Ok-Migrate.ensures) (Keeps-refl _)
-    c.new-in-Ok-Migrate.ensures.items (Keeps-refl _) c.print_migrated.ensures.safe c.print_migrated.ensures.answer
+    (writing_of g.O.Sink.taken g.O.Sink.faults c.args.out c.print_migrated-status.new.out) (writing_of g.T.Sink.taken g.T.Sink.faults c.args.trace.now c.args.trace.now) c.new-in-Ok-Migrate.result.items
+    (devices_of g.D.LogDev.told g.D.LogDev.faults c.args.logs.now.items) (devices_of g.D.LogDev.told g.D.LogDev.faults c.print_migrated-status.new.devices.items) in
+    migrate_outcome c.one_command.ensures u c.print_migrated-status.result (subst (λ (k : Command). IsCommand words k) c.in-Ok-Migrate.field-0-is c.in-Ok-Migrate.ensures) (Keeps-refl _)
+    c.new-in-Ok-Migrate.ensures.items (Keeps-refl _) c.print_migrated-status.ensures.safe c.print_migrated-status.ensures.answer
 
 -- ---- a generated text is printed
 
-pub print_generated-requires : goal.print_generated-requires
-print_generated-requires g c = (subst (λ (k : Command). IsCommand (map string_bytes c.args.words.now) k) c.in-Ok-Gen.field-0-is c.in-Ok-Gen.ensures).1
+pub print_generated-status-requires : goal.print_generated-status-requires
+print_generated-status-requires g c = (subst (λ (k : Command). IsCommand (map string_bytes c.args.words.now) k) c.in-Ok-Gen.field-0-is c.in-Ok-Gen.ensures).1
 
 pub returns-in-Ok-Gen-clause-outcome : goal.returns-in-Ok-Gen-clause-outcome
 returns-in-Ok-Gen-clause-outcome g c =
     let u : Use = use_of (map string_bytes c.args.words.now) (reading_of g.I.Source.left g.I.Source.faults c.args.input.now c.args.input.now)
-    (writing_of g.O.Sink.taken g.O.Sink.faults c.args.out.now c.print_generated.new.out) (writing_of g.T.Sink.taken g.T.Sink.faults c.args.trace.now c.args.trace.now) c.new-in-Ok-Gen.result.items
+    (writing_of g.O.Sink.taken g.O.Sink.faults c.args.out c.print_generated-status.new.out) (writing_of g.T.Sink.taken g.T.Sink.faults c.args.trace.now c.args.trace.now) c.new-in-Ok-Gen.result.items
     (devices_of g.D.LogDev.told g.D.LogDev.faults c.args.logs.now.items) (devices_of g.D.LogDev.told g.D.LogDev.faults c.args.logs.now.items) in
-    gen_outcome c.one_command.ensures u c.in-Ok-Gen.count c.in-Ok-Gen.seed c.print_generated.result
+    gen_outcome c.one_command.ensures u c.in-Ok-Gen.count c.in-Ok-Gen.seed c.print_generated-status.result
     (subst (λ (k : Command). IsCommand (map string_bytes c.args.words.now) k) c.in-Ok-Gen.field-0-is c.in-Ok-Gen.ensures) (Keeps-refl _)
-    (record { kept = c.new-in-Ok-Gen.ensures.items; trace = Keeps-refl _; devices = refl }) c.print_generated.ensures.answer
+    (record { kept = c.new-in-Ok-Gen.ensures.items; trace = Keeps-refl _; devices = refl }) c.print_generated-status.ensures.answer
 
 pub returns-in-Ok-Gen-clause-out_once : goal.returns-in-Ok-Gen-clause-out_once
-returns-in-Ok-Gen-clause-out_once g c = surely _ _ _ _ (λ stood. stood.0) c.print_generated.ensures.once
+returns-in-Ok-Gen-clause-out_once g c = surely _ _ _ _ (λ stood. stood.0) c.print_generated-status.ensures.once
 
 pub returns-in-Ok-Gen-clause-opens : goal.returns-in-Ok-Gen-clause-opens
 returns-in-Ok-Gen-clause-opens g c = λ text w records o t.
@@ -77,13 +77,13 @@ pub returns-in-Ok-Bench-clause-outcome : goal.returns-in-Ok-Bench-clause-outcome
 returns-in-Ok-Bench-clause-outcome g c =
     let words = map string_bytes c.args.words.now in
     let reading = reading_of g.I.Source.left g.I.Source.faults c.args.input.now c.args.input.now in
-    let u : Use = use_of words reading (writing_of g.O.Sink.taken g.O.Sink.faults c.args.out.now c.run_generated.new.out)
-    (writing_of g.T.Sink.taken g.T.Sink.faults c.args.trace.now c.run_generated.new.trace) c.run_generated.result.0.items
+    let u : Use = use_of words reading (writing_of g.O.Sink.taken g.O.Sink.faults c.args.out c.run_generated.result.out)
+    (writing_of g.T.Sink.taken g.T.Sink.faults c.args.trace.now c.run_generated.new.trace) c.run_generated.result.kept.items
     (devices_of g.D.LogDev.told g.D.LogDev.faults c.args.logs.now.items) (devices_of g.D.LogDev.told g.D.LogDev.faults c.run_generated.new.logs.items) in
     let own = subst (λ (k : Command). IsCommand words k) c.in-Ok-Bench.field-0-is c.in-Ok-Bench.ensures in
     let alone = subst (λ (n : ℕ). IsBench words c.in-Ok-Bench.count c.in-Ok-Bench.seed n)
     (asked c.one_command.ensures words 0 (Bench c.in-Ok-Bench.count c.in-Ok-Bench.seed c.in-Ok-Bench.field-0-2) c.requires.alone own) own in
-    bench_outcome c.one_command.ensures u c.in-Ok-Bench.count c.in-Ok-Bench.seed 0 c.run_generated.result.1 alone (Keeps-refl _) (c.run_generated.ensures.answer words reading)
+    bench_outcome c.one_command.ensures u c.in-Ok-Bench.count c.in-Ok-Bench.seed 0 c.run_generated.result.status alone (Keeps-refl _) (c.run_generated.ensures.answer words reading)
 
 pub returns-in-Ok-Bench-clause-opens : goal.returns-in-Ok-Bench-clause-opens
 returns-in-Ok-Bench-clause-opens g c = λ text w records o t.
@@ -103,18 +103,18 @@ returns-in-Ok-Bench-clause-out_once g c = surely _ _ _ _ (λ stood. stood.0) c.r
 -- ---- what the logs recover to is printed
 
 pub returns-in-Ok-Recover-clause-out_once : goal.returns-in-Ok-Recover-clause-out_once
-returns-in-Ok-Recover-clause-out_once g c = surely _ _ _ _ (λ stood. stood.0) c.print_recovered.ensures.once
+returns-in-Ok-Recover-clause-out_once g c = surely _ _ _ _ (λ stood. stood.0) c.print_recovered-status.ensures.once
 
 -- ---- the logs are made ones of format 2
 
 pub returns-in-Ok-Migrate-clause-out_once : goal.returns-in-Ok-Migrate-clause-out_once
-returns-in-Ok-Migrate-clause-out_once g c = surely _ _ _ _ (λ stood. stood.0) c.print_migrated.ensures.once
+returns-in-Ok-Migrate-clause-out_once g c = surely _ _ _ _ (λ stood. stood.0) c.print_migrated-status.ensures.once
 
 -- ---- the words are no form
 
 pub returns-in-Err-clause-outcome : goal.returns-in-Err-clause-outcome
 returns-in-Err-clause-outcome g c =
     let u : Use = use_of (map string_bytes c.args.words.now) (reading_of g.I.Source.left g.I.Source.faults c.args.input.now c.args.input.now)
-    (writing_of g.O.Sink.taken g.O.Sink.faults c.args.out.now c.args.out.now) (writing_of g.T.Sink.taken g.T.Sink.faults c.args.trace.now c.args.trace.now) c.new-in-Err.result.items
+    (writing_of g.O.Sink.taken g.O.Sink.faults c.args.out c.args.out) (writing_of g.T.Sink.taken g.T.Sink.faults c.args.trace.now c.args.trace.now) c.new-in-Err.result.items
     (devices_of g.D.LogDev.told g.D.LogDev.faults c.args.logs.now.items) (devices_of g.D.LogDev.told g.D.LogDev.faults c.args.logs.now.items) in
     usage_outcome u c.in-Err.word c.in-Err.ensures (Keeps-refl _) (record { kept = c.new-in-Err.ensures.items; out = Keeps-refl _; trace = Keeps-refl _; devices = refl })

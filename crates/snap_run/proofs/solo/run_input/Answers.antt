@@ -8,17 +8,17 @@ use Rattle.snap_outside.proofs.AtFault.{surely}
 
 pub returns-in-Ok-clause-outcome : goal.returns-in-Ok-clause-outcome
 returns-in-Ok-clause-outcome g c = λ words run.
-    let u : Use = use_of words (reading_of g.I.Source.left g.I.Source.faults c.args.input.now c.read_work.new.input) (writing_of g.O.Sink.taken g.O.Sink.faults c.args.out.now c.run_work.new.out)
-    (writing_of g.T.Sink.taken g.T.Sink.faults c.args.trace.now c.run_work.new.trace) c.run_work.result.0.items
+    let u : Use = use_of words (reading_of g.I.Source.left g.I.Source.faults c.args.input.now c.read_work.new.input) (writing_of g.O.Sink.taken g.O.Sink.faults c.args.out c.run_work.result.out)
+    (writing_of g.T.Sink.taken g.T.Sink.faults c.args.trace.now c.run_work.new.trace) c.run_work.result.kept.items
     (devices_of g.D.LogDev.told g.D.LogDev.faults c.args.logs.now.items) (devices_of g.D.LogDev.told g.D.LogDev.faults c.run_work.new.devices.items) in
-    run_outcome c.one_command.ensures u 0 c.args.seed (work_of c.in-Ok.work) c.run_work.result.1 run c.in-Ok.ensures.answer c.run_work.ensures.answer
+    run_outcome c.one_command.ensures u 0 c.args.seed (work_of c.in-Ok.work) c.run_work.result.status run c.in-Ok.ensures.answer c.run_work.ensures.answer
 
 pub returns-in-Ok-clause-opens : goal.returns-in-Ok-clause-opens
 returns-in-Ok-clause-opens g c = λ words.
-    let u : Use = use_of words (reading_of g.I.Source.left g.I.Source.faults c.args.input.now c.read_work.new.input) (writing_of g.O.Sink.taken g.O.Sink.faults c.args.out.now c.run_work.new.out)
-    (writing_of g.T.Sink.taken g.T.Sink.faults c.args.trace.now c.run_work.new.trace) c.run_work.result.0.items
+    let u : Use = use_of words (reading_of g.I.Source.left g.I.Source.faults c.args.input.now c.read_work.new.input) (writing_of g.O.Sink.taken g.O.Sink.faults c.args.out c.run_work.result.out)
+    (writing_of g.T.Sink.taken g.T.Sink.faults c.args.trace.now c.run_work.new.trace) c.run_work.result.kept.items
     (devices_of g.D.LogDev.told g.D.LogDev.faults c.args.logs.now.items) (devices_of g.D.LogDev.told g.D.LogDev.faults c.run_work.new.devices.items) in
-    run_not_of_logs c.one_work.ensures u (work_of c.in-Ok.work) c.run_work.result.1 c.run_work.ensures.opens c.in-Ok.ensures.answer
+    run_not_of_logs c.one_work.ensures u (work_of c.in-Ok.work) c.run_work.result.status c.run_work.ensures.opens c.in-Ok.ensures.answer
 
 pub returns-in-Ok-clause-input_once : goal.returns-in-Ok-clause-input_once
 returns-in-Ok-clause-input_once g c = surely _ _ _ _ (λ no is. cc is) c.in-Ok.ensures.once
