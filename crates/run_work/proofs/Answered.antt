@@ -1,5 +1,5 @@
 -- How a call ends, from how a run ended and what was written of its trace.
-use Rattle.std.proofs.Common.{◌≡◌, ◌≢◌, ◌⊎◌, inl, inr, ℕ, ◌<◌, Bool, true, Option, Result, Ok, Err, List, [], length, append-nil, refl, sym, ◌∙◌, ap, subst}
+use Rattle.std.proofs.Common.{◌≡◌, ◌≢◌, ◌⊎◌, inl, inr, ℕ, ◌<◌, Bool, true, Result, Ok, Err, List, [], length, append-nil, refl, sym, ◌∙◌, ap, subst}
 use Rattle.std.proofs.KnownBytes.{Keeps-refl}
 use Rattle.std.specs.Io.KnownBytes.{Keeps}
 use Rattle.std.proofs.lemmas.Bool.{eq-eqb}
@@ -26,6 +26,7 @@ use Rattle.run_work.specs.declared.hosts.Hosted.{Hosted}
 use Rattle.run_work.specs.Writings.{Writing, writing_of, WritesNothing, Writes, WritesLines}
 use Rattle.snap_base.specs.declared.transactions.State.{State}
 use Rattle.snap_outside.specs.Causes.{Rose}
+use Rattle.snap_outside.specs.declared.sinks.Sink.{Ghosts}
 use Rattle.snap_recover.specs.declared.openings.Opening.{Opening}
 use Rattle.snap_report.specs.declared.statuses.Status.{Status}
 use Rattle.snap_report.specs.declared.statuses.Status.TheVariants as status
@@ -173,22 +174,22 @@ traced_not_of_logs trace kept before after (inr (front, other, done)) not of = e
 
 -- the output as the host was handed it, as it left it, and at the end
 module _
-    {O : Type 0} (taken : O → Option (List ℕ)) (faults : O → ℕ) (first then last : O)
+    {O : Type 0} (tells : Ghosts O) (first then last : O)
     (p : Printing) (w : Work) (schedule : Schedule) (before after : List Device) (ran : Result Hosted LogsNo) (count : ℕ) (events : List Event) (trace : Writing) (s : Status)
-    (many : count ≡ length w.txs) (hosted : HasHosted p w schedule before after (writing_of taken faults first then) ran)
-    (end : IsCallEnd p ran count events (writing_of taken faults then last) trace s) (silent : StopsAtFault p ran (last ≡ then))
+    (many : count ≡ length w.txs) (hosted : HasHosted p w schedule before after (writing_of tells first then) ran)
+    (end : IsCallEnd p ran count events (writing_of tells then last) trace s) (silent : StopsAtFault p ran (last ≡ then))
   where
     abbrev run_of : Ran
-    run_of = record { work = w; schedule = schedule; kept = events; devices_before = before; devices_after = after; out = writing_of taken faults first last; trace = trace }
+    run_of = record { work = w; schedule = schedule; kept = events; devices_before = before; devices_after = after; out = writing_of tells first last; trace = trace }
 
-    nothing_behind : (r : Result Hosted LogsNo) → StopsAtFault p r (last ≡ then) → StopsAtFault p r (WritesNothing (writing_of taken faults then last))
-    nothing_behind (Ok h) quiet = λ stops failed. subst (λ (x : O). Keeps (taken then) (taken x)) (sym (quiet stops failed)) (Keeps-refl (taken then))
+    nothing_behind : (r : Result Hosted LogsNo) → StopsAtFault p r (last ≡ then) → StopsAtFault p r (WritesNothing (writing_of tells then last))
+    nothing_behind (Ok h) quiet = λ stops failed. subst (λ (x : O). Keeps (tells.taken then) (tells.taken x)) (sym (quiet stops failed)) (Keeps-refl (tells.taken then))
     nothing_behind (Err why) quiet = tt
 
     untraced : IsUntraced p run_of end.before
     untraced =
-        untraced_of p w schedule before after (writing_of taken faults first then) (writing_of taken faults then last) trace (refl, refl) ran events end.before hosted
-        (subst (λ (n : ℕ). EndsUntraced p ran n events (writing_of taken faults then last) end.before) many end.untraced) (nothing_behind ran silent)
+        untraced_of p w schedule before after (writing_of tells first then) (writing_of tells then last) trace (refl, refl) ran events end.before hosted
+        (subst (λ (n : ℕ). EndsUntraced p ran n events (writing_of tells then last) end.before) many end.untraced) (nothing_behind ran silent)
 
     pub call_answer : EachStands run_of → MarksAreReplies → (events ≡ [] → WritesNothing trace) → IsAnswerOf p run_of s
     call_answer stands marks nothing = answered p run_of stands marks end.before s nothing untraced end.traced

@@ -1,5 +1,5 @@
 -- No call is made behind one that failed: what a host writes, what is printed behind the replies, and the trace.
-use Rattle.std.proofs.Common.{◌≡◌, ◌≢◌, ℕ, Bool, true, false, inl, inr, List, Result, Ok, Err, refl, sym, ◌∙◌, ap, subst}
+use Rattle.std.proofs.Common.{◌≡◌, ◌≢◌, ℕ, Bool, true, inl, inr, List, Result, Ok, Err, refl, sym, ◌∙◌, ap, subst}
 use Rattle.std.proofs.lemmas.Bool.{cases_Bool, true≢false}
 use Rattle.aml_slice.specs.Controls.{Rest}
 use Rattle.core_events.specs.declared.events.Event.{Event}
@@ -19,6 +19,7 @@ use Rattle.run_work.specs.Writings.{Writing}
 use Rattle.run_work.specs.declared.hosts.Hosted.{Hosted}
 use Rattle.snap_outside.proofs.AtFault.{calls_join}
 use Rattle.snap_outside.specs.Causes.{EndsAtFault}
+use Rattle.snap_outside.specs.declared.sinks.Sink.{Ghosts}
 use Rattle.snap_report.specs.declared.statuses.Status.{Status}
 use Rattle.snap_report.specs.declared.statuses.Status.TheVariants as status
 use Rattle.snap_work.specs.Works.{Work}
@@ -67,15 +68,15 @@ not_stood reporting m es count stop.Memory out before so ending stood = true≢f
 
 -- of the calls of a host, and then of those that come behind the replies
 module _
-    {O : Type 0} (faults late : O → ℕ) (first then last : O)
+    {O : Type 0} (tells : Ghosts O) (first then last : O)
     (p : Printing) (w : Work) (schedule : Schedule) (before after : List Device) (replies : Writing) (count : ℕ) (events : List Event) (out trace : Writing) (s : Status)
   where
     abbrev Once : Type 0 → O → O → Type 0
-    Once fine x y = EndsAtFault fine (faults x) (late x) (faults y) (late y)
+    Once fine x y = EndsAtFault fine (tells.faults x) (tells.late x) (tells.faults y) (tells.late y)
 
     pub call_once : (ran : Result Hosted LogsNo) → HasHosted p w schedule before after replies ran → IsCallEnd p ran count events out trace s → StopsAtFault p ran (last ≡ then)
         → Once (HasStood ran) first then → Once (OutStoodOf p s) then last → Once (OutStoodOf p s) first last
-    call_once (Err why) is end silent host behind = calls_join (faults first) (late first) (faults then) (late then) (faults last) (late last) tt host behind
+    call_once (Err why) is end silent host behind = calls_join (tells.faults first) (tells.late first) (tells.faults then) (tells.late then) (tells.faults last) (tells.late last) tt host behind
     call_once (Ok h) is end silent host behind = elim (cases_Bool h.failed) [
       | inl failed ↦
           let same : last ≡ then = silent is.made.stops failed in
@@ -83,7 +84,7 @@ module _
           let ending = end.untraced.ending (machine_of w is.opening) is.made.core in
           record {
             quiet = λ stood. absurd (not_stood p (machine_of w is.opening) (meant h.kept.items) count h.stop out end.before so ending (traced_stood p trace events end.before s end.traced stood));
-            none_late = λ none. ap late same ∙ host.none_late none;
+            none_late = λ none. ap tells.late same ∙ host.none_late none;
           }
-      | inr stood ↦ calls_join (faults first) (late first) (faults then) (late then) (faults last) (late last) stood host behind
+      | inr stood ↦ calls_join (tells.faults first) (tells.late first) (tells.faults then) (tells.late then) (tells.faults last) (tells.late last) stood host behind
     ]

@@ -2,12 +2,10 @@
 use Rattle.std.proofs.Common.{◌≡◌, ◌⊎◌, inl, inr, ℕ, ◌≤◌, List, [], ◌++◌, flat_map, length, refl, sym, ◌∙◌, subst, arith, Bool, true, false, Option, Result, Ok, Err}
 use Rattle.std.specs.Prelude.{IfOk}
 use Rattle.std.proofs.KnownBytes.{Appends-trans, Appends-kept}
-use Rattle.aml_slice.specs.Controls.{Rest}
 use Rattle.core_events.specs.declared.events.Event.{Event}
 use Rattle.log_opening.specs.Devices.{Device}
 use Rattle.log_opening.specs.declared.refusals.LogsNo.{LogsNo}
 use Rattle.protocol.specs.Events as machine
-use Rattle.protocol.specs.Fixed.{Fixed}
 use Rattle.run_outputs.specs.Lines.{replies_text}
 use Rattle.run_printing.specs.Printed.{unsure_line}
 use Rattle.run_recovery.specs.Runs.{machine_of, meant}

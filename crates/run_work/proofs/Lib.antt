@@ -1,5 +1,6 @@
 pub mod Answered
 pub mod AtFault
+pub mod Called
 pub mod CrewHosting
 pub mod Ending
 pub mod Hosting

@@ -1,5 +1,5 @@
 -- What a host left on open logs, on all devices.
-use Rattle.std.proofs.Common.{◌≡◌, ℕ, ◌++◌, List, length, map, drop, sym, subst}
+use Rattle.std.proofs.Common.{◌≡◌, ◌++◌, List, length, map, drop, sym, subst}
 use Rattle.gate_log.specs.State.{LogState}
 use Rattle.log_opening.specs.Devices.{Device, as_device}
 use Rattle.log_opening.specs.declared.refusals.LogsNo.{LogsNo}

@@ -3,6 +3,7 @@ use Rattle.std.specs.Prelude.{◌≡◌, ℕ, ◌⊎◌, List, ◌++◌, Option}
 use Rattle.std.specs.List.{flat_map}
 use Rattle.std.specs.Io.KnownBytes.{Keeps, Appends}
 use Rattle.snap_outside.specs.Causes.{Rose}
+use Rattle.snap_outside.specs.declared.sinks.Sink.{Ghosts}
 
 -- the sink: the bytes that it has taken, where it tells them, and its faults
 pub record Writing : Type 0 where
@@ -11,9 +12,9 @@ pub record Writing : Type 0 where
   pub faults_before : ℕ
   pub faults_after : ℕ
 
--- a sink before and after a call, by what it has taken and its faults
-abbrev pub writing_of : {O : Type 0} → (O → Option (List ℕ)) → (O → ℕ) → O → O → Writing
-writing_of taken faults before after = record { taken_before = taken before; taken_after = taken after; faults_before = faults before; faults_after = faults after }
+-- a sink before and after a call, by what sinks of its kind tell
+abbrev pub writing_of : {O : Type 0} → Ghosts O → O → O → Writing
+writing_of tells before after = record { taken_before = tells.taken before; taken_after = tells.taken after; faults_before = tells.faults before; faults_after = tells.faults after }
 
 -- nothing was written
 abbrev pub WritesNothing : Writing → Type 0

@@ -13,7 +13,7 @@ ghost use Rattle.snap_core.specs.Cores.{IsAt};
 ghost use Rattle.snap_hand.specs.Tables.{fixed_of};
 ghost use Rattle.snap_outside.specs.Causes.{Rose, EndsAtFault};
 
-use crate::hosts::{HostRan, Hosted};
+use crate::hosts::Hosted;
 use crate::printings::Told;
 use core_events::Event;
 use log_opening::LogsNo;
@@ -24,37 +24,27 @@ use snap_outside::Sink;
 use snap_report::Status;
 use std::alloc::Global;
 
-/// What a run of a work ends with: the events that were taken, in the order of their numbers, how the call ends, and the output
-/// that it was handed.
-pub struct HasRun<O> {
-    pub kept: Vec<Event>,
-    pub status: Status,
-    pub out: O,
-}
-
 /// Ends the run that a host left so, of so many transactions: prints what comes behind the replies, or what is printed where no
-/// run began, and then writes the trace.
+/// run began, and then writes the trace. The events that were taken come back, and how the call ends.
 pub(crate) fn end_run<O: Sink, T: Sink>(
     alloc: Global,
     told: Told,
     count: u32,
-    ran: HostRan<O>,
+    ran: Result<Hosted, LogsNo>,
+    out: &mut O,
     trace: &mut T,
-) -> HasRun<O>
-    requires { IfOk ran.hosted (λ h. IfSome h.core (λ c. IsAt c (map event_meant h.kept.items))) }
-    ensures ended { IsCallEnd (printing_of told) ran.hosted count result.kept.items (writing_of O.taken O.faults ran.out result.out)
-        (writing_of T.taken T.faults trace.old trace.new) result.status }
-    ensures none { result.kept.items ≡ [] → trace.new ≡ trace.old }
+) -> (Vec<Event>, Status)
+    requires { IfOk ran (λ h. IfSome h.core (λ c. IsAt c (map event_meant h.kept.items))) }
+    ensures ended { IsCallEnd (printing_of told) ran count result.0.items (writing_of O.Sink out.old out.new) (writing_of T.Sink trace.old trace.new) result.1 }
+    ensures none { result.0.items ≡ [] → trace.new ≡ trace.old }
     // Where the output failed at the line of a reply it gets no call.
-    ensures silent { IfOk ran.hosted (λ h. StopsSo (printing_of told) h.failed h.stop → h.failed ≡ true → result.out ≡ ran.out) }
-    ensures out_once { EndsAtFault (OutStoodOf (printing_of told) result.status) (O.faults ran.out) (O.late ran.out) (O.faults result.out) (O.late result.out) }
-    ensures trace_once { EndsAtFault (result.status ≡ Status.Done) (T.faults trace.old) (T.late trace.old) (T.faults trace.new) (T.late trace.new) }
+    ensures silent { IfOk ran (λ h. StopsSo (printing_of told) h.failed h.stop → h.failed ≡ true → out.new ≡ out.old) }
+    ensures out_once { EndsAtFault (OutStoodOf (printing_of told) result.1) (O.faults out.old) (O.late out.old) (O.faults out.new) (O.late out.new) }
+    ensures trace_once { EndsAtFault (result.1 ≡ Status.Done) (T.faults trace.old) (T.late trace.old) (T.faults trace.new) (T.late trace.new) }
 {
-    let HostRan { hosted, out } = ran;
-    let mut out = out;
-    let (kept, before) = end_untraced(alloc, told, count, hosted, &mut out);
+    let (kept, before) = end_untraced(alloc, told, count, ran, out);
     let status = traced(alloc, kept.as_slice(), before, trace);
-    HasRun { kept, status, out }
+    (kept, status)
 }
 
 /// The same, but for the trace.
@@ -66,7 +56,7 @@ fn end_untraced<O: Sink>(
     out: &mut O,
 ) -> (Vec<Event>, Status)
     requires { IfOk ran (λ h. IfSome h.core (λ c. IsAt c (map event_meant h.kept.items))) }
-    ensures ended { EndsUntraced (printing_of told) ran count result.0.items (writing_of O.taken O.faults out.old out.new) result.1 }
+    ensures ended { EndsUntraced (printing_of told) ran count result.0.items (writing_of O.Sink out.old out.new) result.1 }
     ensures silent { IfOk ran (λ h. StopsSo (printing_of told) h.failed h.stop → h.failed ≡ true → out.new ≡ out.old) }
     ensures once { EndsAtFault (OutStoodOf (printing_of told) result.1) (O.faults out.old) (O.late out.old) (O.faults out.new) (O.late out.new) }
 {
@@ -98,7 +88,7 @@ fn end_hosted<O: Sink>(
 ) -> Status
     requires { IfSome core (λ c. IsAt c (map event_meant kept.now)) }
     ensures ending { (m : Fixed Rest) → IsCoreOf m (map event_meant kept.now) stop core
-        → IsEnding (printing_of told) m (map event_meant kept.now) count stop (writing_of O.taken O.faults out.old out.new) result }
+        → IsEnding (printing_of told) m (map event_meant kept.now) count stop (writing_of O.Sink out.old out.new) result }
     ensures silent { failed ≡ true → (log : ℕ) → stop ≡ Stop.LogFault log → out.new ≡ out.old }
     ensures later { O.faults out.old ≤ O.faults out.new }
     ensures once { EndsAtFault (OutStoodOf (printing_of told) result) (O.faults out.old) (O.late out.old) (O.faults out.new) (O.late out.new) }
@@ -122,7 +112,7 @@ fn end_whole<O: Sink>(
 ) -> Status
     requires { IfSome core (λ c. IsAt c (map event_meant kept.now)) }
     ensures ending { (m : Fixed Rest) → IsCoreOf m (map event_meant kept.now) stop core
-        → IsEnding (printing_of told) m (map event_meant kept.now) count stop (writing_of O.taken O.faults out.old out.new) result }
+        → IsEnding (printing_of told) m (map event_meant kept.now) count stop (writing_of O.Sink out.old out.new) result }
     ensures later { O.faults out.old ≤ O.faults out.new }
     ensures once { EndsAtFault (OutStoodOf (printing_of told) result) (O.faults out.old) (O.late out.old) (O.faults out.new) (O.late out.new) }
     ensures stopped { stop ≡ Stop.OutFault → out.new ≡ out.old }
@@ -144,7 +134,7 @@ fn tell<O: Sink>(
     out: &mut O,
 ) -> Status
     requires { IsAt core.now (map event_meant kept.now) }
-    ensures ending { IsEnding (printing_of told) (fixed_of core.now.tables) (map event_meant kept.now) count stop (writing_of O.taken O.faults out.old out.new) result }
+    ensures ending { IsEnding (printing_of told) (fixed_of core.now.tables) (map event_meant kept.now) count stop (writing_of O.Sink out.old out.new) result }
     ensures later { O.faults out.old ≤ O.faults out.new }
     ensures once { EndsAtFault (OutStoodOf (printing_of told) result) (O.faults out.old) (O.late out.old) (O.faults out.new) (O.late out.new) }
     ensures stopped { stop ≡ Stop.OutFault → out.new ≡ out.old }
@@ -173,8 +163,8 @@ fn tell_end<O: Sink>(
     out: &mut O,
 ) -> Result<(), WriteNo>
     requires { IsAt core.now (map event_meant kept.now) }
-    ensures whole { OnOk result (Writes (writing_of O.taken O.faults out.old out.new) (ending_by (printing_of told) (fixed_of core.now.tables) (map event_meant kept.now))) }
-    ensures front { OnErr result (WritesFront (writing_of O.taken O.faults out.old out.new) (ending_by (printing_of told) (fixed_of core.now.tables) (map event_meant kept.now))) }
+    ensures whole { OnOk result (Writes (writing_of O.Sink out.old out.new) (ending_by (printing_of told) (fixed_of core.now.tables) (map event_meant kept.now))) }
+    ensures front { OnErr result (WritesFront (writing_of O.Sink out.old out.new) (ending_by (printing_of told) (fixed_of core.now.tables) (map event_meant kept.now))) }
     ensures fault { IsErrOf result WriteNo.Fault → Rose (O.faults out.old) (O.faults out.new) }
     // The text is made whole before it is written.
     ensures memory { IsErrOf result WriteNo.Memory → out.new ≡ out.old }
@@ -196,7 +186,7 @@ fn tell_unsures<O: Sink>(
     kept: &[Event],
     out: &mut O,
 )
-    ensures lines { TellsUnsure (printing_of told) log (map event_meant kept.now) count [] (writing_of O.taken O.faults out.old out.new) }
+    ensures lines { TellsUnsure (printing_of told) log (map event_meant kept.now) count [] (writing_of O.Sink out.old out.new) }
     ensures later { O.faults out.old ≤ O.faults out.new }
     ensures once { EndsAtFault (printing_of told ≡ summing) (O.faults out.old) (O.late out.old) (O.faults out.new) (O.late out.new) }
 {
@@ -209,7 +199,7 @@ fn tell_unsures<O: Sink>(
 /// How the call ends where no run of so many transactions begins. Where a log's device failed they are told to be unsure.
 fn not_begun<O: Sink>(alloc: Global, told: Told, no: LogsNo, count: u32, out: &mut O) -> Status
     ensures status { result ≡ logs_status no }
-    ensures told { IsToldUnbegun (printing_of told) count no (writing_of O.taken O.faults out.old out.new) }
+    ensures told { IsToldUnbegun (printing_of told) count no (writing_of O.Sink out.old out.new) }
     ensures once { EndsAtFault (OutStoodOf (printing_of told) result) (O.faults out.old) (O.late out.old) (O.faults out.new) (O.late out.new) }
 {
     if let LogsNo::Device { log } = no {
@@ -236,7 +226,7 @@ pub(crate) fn traced<T: Sink>(
     status: Status,
     trace: &mut T,
 ) -> Status
-    ensures traced { IsTraced (writing_of T.taken T.faults trace.old trace.new) kept.now status result }
+    ensures traced { IsTraced (writing_of T.Sink trace.old trace.new) kept.now status result }
     ensures none { kept.now ≡ [] → trace.new ≡ trace.old }
     ensures once { EndsAtFault (result ≡ Status.Done) (T.faults trace.old) (T.late trace.old) (T.faults trace.new) (T.late trace.new) }
 {

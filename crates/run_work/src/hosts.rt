@@ -40,9 +40,10 @@ pub(crate) struct Hosted {
     pub failed: bool,
 }
 
-/// What a host leaves: what it made of a work, or why no run began; and the output that it was handed.
-pub(crate) struct HostRan<O> {
+/// What a host leaves: what it made of a work, or why no run began; and the devices and the output that it was handed.
+pub(crate) struct HostRan<D, O> {
     pub hosted: Result<Hosted, LogsNo>,
+    pub devices: Vec<D>,
     pub out: O,
 }
 
@@ -61,29 +62,32 @@ pub(crate) fn host_work<D: LogDev, O: Sink>(
     work: Work,
     told: Told,
     seed: u64,
-    devices: &mut Vec<D>,
+    devices: Vec<D>,
     out: O,
-) -> HostRan<O>
-    requires four { vec_len devices.old ≡ 4 }
+) -> HostRan<D, O>
+    requires four { vec_len devices ≡ 4 }
     requires limits { KeepsLimits (work_of work) }
-    ensures left { HasHosted (printing_of told) (work_of work) (seeded seed) (devices_of D.told D.faults devices.old.items)
-        (devices_of D.told D.faults devices.new.items) (writing_of O.taken O.faults out result.out) result.hosted }
+    ensures left { HasHosted (printing_of told) (work_of work) (seeded seed) (devices_of D.told D.faults devices.items)
+        (devices_of D.told D.faults result.devices.items) (writing_of O.Sink out result.out) result.hosted }
     ensures once { EndsAtFault (HasStood result.hosted) (O.faults out) (O.late out) (O.faults result.out) (O.late result.out) }
-    ensures four { vec_len devices.new ≡ 4 }
+    ensures four { vec_len result.devices ≡ 4 }
 {
-    match open_run(alloc, devices, work.logs, work.states.as_slice()) {
+    let mut devices = devices;
+    match open_run(alloc, &mut devices, work.logs, work.states.as_slice()) {
         Ok((logs, opening)) => {
             let OnLogs { hosted, logs, out } = host_on_logs(
                 alloc, work, opening, told, seed, logs, out,
             );
-            close(logs, devices);
+            close(logs, &mut devices);
             HostRan {
                 hosted: Ok(hosted),
+                devices,
                 out,
             }
         }
         Err(no) => HostRan {
             hosted: Err(no),
+            devices,
             out,
         },
     }
@@ -106,7 +110,7 @@ fn host_on_logs<D: LogDev, O: Sink>(
     requires format { AllByRecursion (λ l. l.format ≡ 2) logs.items }
     requires ends { AllByRecursion (λ l. l.end ≤ FARTHEST_END + 2 ^ 32) logs.items }
     ensures hosted { IsHostedOn (printing_of told) (work_of work) (seeded seed) opening logs.items result.logs.items
-        (writing_of O.taken O.faults out result.out) result.hosted }
+        (writing_of O.Sink out result.out) result.hosted }
     ensures once { EndsAtFault (result.hosted.failed ≡ false) (O.faults out) (O.late out) (O.faults result.out) (O.late result.out) }
     ensures as_many { length result.logs.items ≡ length logs.items }
 {
@@ -183,30 +187,33 @@ pub(crate) fn host_crew<
     told: Told,
     workers: usize,
     gate: &G,
-    devices: &mut Vec<D>,
+    devices: Vec<D>,
     out: O,
-) -> HostRan<O>
-    requires four { vec_len devices.old ≡ 4 }
+) -> HostRan<D, O>
+    requires four { vec_len devices ≡ 4 }
     requires limits { KeepsLimits (work_of work) }
     requires workers { workers ≤ MOST_WORKERS }
-    ensures left { HasHosted (printing_of told) (work_of work) free (devices_of D.told D.faults devices.old.items)
-        (devices_of D.told D.faults devices.new.items) (writing_of O.taken O.faults out result.out) result.hosted }
+    ensures left { HasHosted (printing_of told) (work_of work) free (devices_of D.told D.faults devices.items)
+        (devices_of D.told D.faults result.devices.items) (writing_of O.Sink out result.out) result.hosted }
     ensures once { EndsAtFault (HasStood result.hosted) (O.faults out) (O.late out) (O.faults result.out) (O.late result.out) }
-    ensures four { vec_len devices.new ≡ 4 }
+    ensures four { vec_len result.devices ≡ 4 }
 {
-    match open_run(alloc, devices, work.logs, work.states.as_slice()) {
+    let mut devices = devices;
+    match open_run(alloc, &mut devices, work.logs, work.states.as_slice()) {
         Ok((logs, opening)) => {
             let OnLogs { hosted, logs, out } = crew_on_logs(
                 rt, alloc, work, opening, told, workers, gate, logs, out,
             );
-            close(logs, devices);
+            close(logs, &mut devices);
             HostRan {
                 hosted: Ok(hosted),
+                devices,
                 out,
             }
         }
         Err(no) => HostRan {
             hosted: Err(no),
+            devices,
             out,
         },
     }
@@ -237,7 +244,7 @@ fn crew_on_logs<
     requires format { AllByRecursion (λ l. l.format ≡ 2) logs.items }
     requires ends { AllByRecursion (λ l. l.end ≤ FARTHEST_END + 2 ^ 32) logs.items }
     ensures hosted { IsHostedOn (printing_of told) (work_of work) free opening logs.items result.logs.items
-        (writing_of O.taken O.faults out result.out) result.hosted }
+        (writing_of O.Sink out result.out) result.hosted }
     ensures once { EndsAtFault (result.hosted.failed ≡ false) (O.faults out) (O.late out) (O.faults result.out) (O.late result.out) }
     ensures as_many { length result.logs.items ≡ length logs.items }
 {

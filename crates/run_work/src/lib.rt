@@ -4,12 +4,14 @@
 //! once its text is accepted.
 #![tactic(auto)]
 
+mod calls;
 mod endings;
 mod hosts;
 mod printings;
 mod replies;
 mod runs;
 
-pub use endings::{HasRun, status_of};
+pub use calls::Call;
+pub use endings::status_of;
 pub use printings::Told;
-pub use runs::{crew_work, run_work};
+pub use runs::{HasRun, crew_work, run_work};

@@ -21,5 +21,5 @@ untold p m es count log by out is nothing =
 
 pub returns-in-LogFault-true-clause-ending : goal.returns-in-LogFault-true-clause-ending
 returns-in-LogFault-true-clause-ending g c = λ m is.
-    let out : Writing = writing_of g.O.Sink.taken g.O.Sink.faults c.args.out.now c.args.out.now in
+    let out : Writing = writing_of g.O.Sink c.args.out.now c.args.out.now in
     untold (printing_of c.args.told) m (map event_meant c.args.kept.now) c.args.count c.in-LogFault-true.log c.args.stop out c.in-LogFault-true.is-0 (Appends-nil _)

@@ -9,7 +9,7 @@ use Rattle.snap_outside.proofs.AtFault.{surely}
 
 pub returns-clause-ended : goal.returns-clause-ended
 returns-clause-ended g c =
-    let trace : Writing = writing_of g.T.Sink.taken g.T.Sink.faults c.args.trace.now c.traced-status.new.trace in
+    let trace : Writing = writing_of g.T.Sink c.args.trace.now c.traced-status.new.trace in
     let before = c.end_untraced-kept.result.1 in
     record {
       before = before;
@@ -19,5 +19,5 @@ returns-clause-ended g c =
 
 pub returns-clause-out_once : goal.returns-clause-out_once
 returns-clause-out_once g c =
-    let trace : Writing = writing_of g.T.Sink.taken g.T.Sink.faults c.args.trace.now c.traced-status.new.trace in
+    let trace : Writing = writing_of g.T.Sink c.args.trace.now c.traced-status.new.trace in
     surely _ _ _ _ (traced_stood (printing_of c.args.told) trace c.as_slice.result.now c.end_untraced-kept.result.1 c.traced-status.result c.traced-status.ensures.traced) c.end_untraced-kept.ensures.once

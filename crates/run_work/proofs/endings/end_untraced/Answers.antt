@@ -15,7 +15,7 @@ pub returns-in-Ok-clause-ended : goal.returns-in-Ok-clause-ended
 returns-in-Ok-clause-ended g c =
     let p = printing_of c.args.told in
     let h = c.in-Ok.hosted in
-    let out : Writing = writing_of g.O.Sink.taken g.O.Sink.faults c.args.out.now c.end_hosted-status.new.out in
+    let out : Writing = writing_of g.O.Sink c.args.out.now c.end_hosted-status.new.out in
     let s = c.end_hosted-status.result in
     subst (λ (ran : Result Hosted LogsNo). EndsUntraced p ran c.args.count h.kept.items out s) (sym c.in-Ok.is) (record {
       same = refl;
@@ -33,6 +33,6 @@ returns-in-Ok-clause-silent g c =
 
 pub returns-in-Err-clause-ended : goal.returns-in-Err-clause-ended
 returns-in-Err-clause-ended g c =
-    let out : Writing = writing_of g.O.Sink.taken g.O.Sink.faults c.args.out.now c.not_begun.new.out in
+    let out : Writing = writing_of g.O.Sink c.args.out.now c.not_begun.new.out in
     subst (λ (ran : Result Hosted LogsNo). EndsUntraced (printing_of c.args.told) ran c.args.count c.new.result.items out c.not_begun.result) (sym c.in-Err.is)
     (c.new.ensures.items, c.not_begun.ensures.status, c.not_begun.ensures.told)

@@ -15,13 +15,13 @@ use Rattle.run_journals.specs.declared.stops.Stop.TheVariants as stop
 
 pub returns-in-Some-clause-ending : goal.returns-in-Some-clause-ending
 returns-in-Some-clause-ending g c = λ m is.
-    let out : Writing = writing_of g.O.Sink.taken g.O.Sink.faults c.args.out.now c.tell.new.out in
+    let out : Writing = writing_of g.O.Sink c.args.out.now c.tell.new.out in
     let known : IsCoreOf m (map event_meant c.args.kept.now) c.args.stop (Some c.in-Some.core) =
     subst (λ (core : Option CoreState). IsCoreOf m (map event_meant c.args.kept.now) c.args.stop core) c.in-Some.is is in
     subst (λ (x : Fixed Rest). IsEnding (printing_of c.args.told) x (map event_meant c.args.kept.now) c.args.count c.args.stop out c.tell.result) known.0 c.tell.ensures.ending
 
 pub returns-in-None-clause-ending : goal.returns-in-None-clause-ending
 returns-in-None-clause-ending g c = λ m is.
-    let out : Writing = writing_of g.O.Sink.taken g.O.Sink.faults c.args.out.now c.args.out.now in
+    let out : Writing = writing_of g.O.Sink c.args.out.now c.args.out.now in
     let known : c.args.stop ≡ stop.Memory = subst (λ (core : Option CoreState). IsCoreOf m (map event_meant c.args.kept.now) c.args.stop core) c.in-None.is is in
     subst (λ (by : Stop). IsEnding (printing_of c.args.told) m (map event_meant c.args.kept.now) c.args.count by out status.Memory) (sym known) (refl, Keeps-refl _)

@@ -1,4 +1,4 @@
-use Rattle.std.proofs.Common.{◌≡◌, false, refl, sym, ◌∙◌, ap, subst, arith, None, Some}
+use Rattle.std.proofs.Common.{false, refl, sym, ◌∙◌, ap, subst, arith, None, Some}
 use Rattle.std.proofs.KnownBytes.{Appends-nil, Keeps-refl}
 use Rattle.protocol.specs.Runs.{IsRun}
 use Rattle.run_recovery.specs.Runs.{meant}
@@ -23,7 +23,7 @@ open-requires g c =
 pub returns-in_default-clause-hosted : goal.returns-in_default-clause-hosted
 returns-in_default-clause-hosted g c =
     let p = printing_of c.args.told in
-    let out : Writing = writing_of g.O.Sink.taken g.O.Sink.faults c.args.out c.args.out in
+    let out : Writing = writing_of g.O.Sink c.args.out c.args.out in
     let ends = no_core p (work_of c.args.work) free c.args.opening c.args.logs.items out c.new.result.items c.new.ensures.items c.requires.open (Keeps-refl _) (omega arith) in
     record { ends = ends; core = refl; whole = λ _. ends.printed; stops = no_memory p }
 
@@ -36,7 +36,7 @@ returns-in-Report-clause-hosted g c =
     let es = meant end.kept.items in
     let old = c.args.logs.items in
     let new = end.logs.items in
-    let out : Writing = writing_of g.O.Sink.taken g.O.Sink.faults c.args.out end.out in
+    let out : Writing = writing_of g.O.Sink c.args.out end.out in
     let same = ap (λ (t : Tables). fixed_of t) c.in-Ok.ensures.tables in
     let now = ap (λ (t : Tables). fixed_of t) is.tables in
     let h : Hosted = record { core = Some end.core; stop = end.stop; kept = end.kept; failed = end.failed } in
@@ -60,7 +60,7 @@ returns-in-Summary-clause-hosted g c =
     let old = c.args.logs.items in
     let new = end.logs.items in
     let nowhere : Writing = record { taken_before = None; taken_after = None; faults_before = 0; faults_after = 0 } in
-    let out : Writing = writing_of g.O.Sink.taken g.O.Sink.faults c.args.out c.args.out in
+    let out : Writing = writing_of g.O.Sink c.args.out c.args.out in
     let same = ap (λ (t : Tables). fixed_of t) c.in-Ok.ensures.tables in
     let now = ap (λ (t : Tables). fixed_of t) is.tables in
     let h : Hosted = record { core = Some end.core; stop = end.stop; kept = end.kept; failed = false } in

@@ -1,4 +1,4 @@
-use Rattle.std.proofs.Common.{◌≡◌, ◌≤◌, sym, ◌∙◌, ap, arith, false, refl}
+use Rattle.std.proofs.Common.{◌≡◌, ◌≤◌, ◌∙◌, ap, arith, false, refl}
 use Rattle.gate_log.specs.State.{LogState}
 use Rattle.log_opening.specs.Devices.{devices_of}
 use Rattle.run_recovery.specs.Schedules.{free}
@@ -28,18 +28,18 @@ returns-in-Ok-clause-left g c =
     let told = g.D.LogDev.told in
     let faults = g.D.LogDev.faults in
     let w = work_of c.args.work in
-    let before = devices_of told faults c.args.devices.now.items in
+    let before = devices_of told faults c.args.devices.items in
     let after = devices_of told faults c.close.new.devices.items in
     let others = devices_of told faults c.open_run.new.devices.items in
     let made = c.crew_on_logs-hosted.result in
-    let out : Writing = writing_of g.O.Sink.taken g.O.Sink.faults c.args.out made.out in
+    let out : Writing = writing_of g.O.Sink c.args.out made.out in
     let is = c.in-Ok.ensures in
-    let rest : others ≡ _ = ap (λ items. devices_of told faults items) is.rest ∙ mapped_behind (λ d. record { told = told d; faults = faults d }) w.logs c.args.devices.now.items in
+    let rest : others ≡ _ = ap (λ items. devices_of told faults items) is.rest ∙ mapped_behind (λ d. record { told = told d; faults = faults d }) w.logs c.args.devices.items in
     hosted_on (printing_of c.args.told) w free c.in-Ok.opening before after others c.in-Ok.logs.items made.logs.items out made.hosted c.as_slice.result.now is.opens.0 is.opens.1
     c.as_slice.ensures is.opens.3 is.opens.2 is.room c.close.ensures.devices rest c.crew_on_logs-hosted.ensures.hosted
 
 pub returns-in-Err-clause-left : goal.returns-in-Err-clause-left
 returns-in-Err-clause-left g c =
-    let before = devices_of g.D.LogDev.told g.D.LogDev.faults c.args.devices.now.items in
+    let before = devices_of g.D.LogDev.told g.D.LogDev.faults c.args.devices.items in
     let after = devices_of g.D.LogDev.told g.D.LogDev.faults c.open_run.new.devices.items in
     (unbegun (work_of c.args.work) before after c.in-Err.no c.as_slice.result.now c.as_slice.ensures c.in-Err.ensures.refused c.in-Err.ensures.safe c.in-Err.ensures.complete, (refl, refl))

@@ -1,4 +1,4 @@
-use Rattle.std.proofs.Common.{◌≡◌, false, refl, sym, ◌∙◌, ap, subst, arith, None, Some}
+use Rattle.std.proofs.Common.{false, refl, sym, ◌∙◌, ap, subst, arith, None, Some}
 use Rattle.std.proofs.KnownBytes.{Appends-nil, Keeps-refl}
 use Rattle.std.proofs.lemmas.Bool.{true≢false}
 use Rattle.run_recovery.specs.Runs.{meant}
@@ -23,7 +23,7 @@ open-requires g c =
 pub returns-in_default-clause-hosted : goal.returns-in_default-clause-hosted
 returns-in_default-clause-hosted g c =
     let p = printing_of c.args.told in
-    let out : Writing = writing_of g.O.Sink.taken g.O.Sink.faults c.args.out c.args.out in
+    let out : Writing = writing_of g.O.Sink c.args.out c.args.out in
     let ends = no_core p (work_of c.args.work) (seeded c.args.seed) c.args.opening c.args.logs.items out c.new.result.items c.new.ensures.items c.requires.open (Keeps-refl _) (omega arith) in
     record { ends = ends; core = refl; whole = λ _. ends.printed; stops = no_memory p }
 
@@ -38,7 +38,7 @@ returns-in-Report-clause-hosted g c =
     let es = meant made.kept.items in
     let is = c.drive-stop.ensures in
     let failed = c.is_of_output-failed in
-    let out : Writing = writing_of g.O.Sink.taken g.O.Sink.faults c.args.out c.drive-stop.new.out in
+    let out : Writing = writing_of g.O.Sink c.args.out c.drive-stop.new.out in
     let same = ap (λ (t : Tables). fixed_of t) c.in-Ok.ensures.tables in
     let h : Hosted = record { core = Some c.drive-stop.new.core; stop = made.stop; kept = made.kept; failed = failed.result } in
     subst (λ (t : Told). IsHostedOn (printing_of t) w (seeded seed) o old new out h) (sym c.in-Report.is) (record {
@@ -63,7 +63,7 @@ returns-in-Summary-clause-hosted g c =
     let es = meant made.kept.items in
     let is = c.drive-stop-in-Summary.ensures in
     let nowhere : Writing = record { taken_before = None; taken_after = None; faults_before = 0; faults_after = 0 } in
-    let out : Writing = writing_of g.O.Sink.taken g.O.Sink.faults c.args.out c.args.out in
+    let out : Writing = writing_of g.O.Sink c.args.out c.args.out in
     let same = ap (λ (t : Tables). fixed_of t) c.in-Ok.ensures.tables in
     let h : Hosted = record { core = Some c.drive-stop-in-Summary.new.core; stop = made.stop; kept = made.kept; failed = false } in
     subst (λ (t : Told). IsHostedOn (printing_of t) w (seeded seed) o old new out h) (sym c.in-Summary.is) (record {
