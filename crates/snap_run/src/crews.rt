@@ -3,10 +3,8 @@ ghost use Rattle.std.specs.Prelude.{◌≡◌, ◌≢◌, ◌<◌, ◌≤◌, �
 ghost use Rattle.command_words.specs.Words.{IsRun, IsBench};
 ghost use Rattle.command_words.specs.Workers.{AskFor};
 ghost use Rattle.command_words.specs.declared.limits.TheConstants.{MOST_WORKERS};
-ghost use Rattle.log_opening.specs.Devices.{devices_of};
 ghost use Rattle.run_recovery.specs.Schedules.{free};
 ghost use Rattle.run_work.specs.Runs.{IsOfLogs, OutStood};
-ghost use Rattle.run_work.specs.Writings.{writing_of};
 ghost use Rattle.snap_outside.specs.Causes.{EndsAtFault};
 ghost use Rattle.snap_recover.specs.declared.openings.Opening.{Opening};
 ghost use Rattle.snap_report.specs.declared.statuses.Status.TheVariants as status;
@@ -19,7 +17,7 @@ ghost use Rattle.txn_records.specs.declared.records.Record.{Record};
 
 use crate::works::{generated_work, read_work};
 use command_words::{Command, one_command, read_words};
-use run_work::{HasRun, Told, crew_work};
+use run_work::{Call, HasRun, Told, crew_work};
 use snap_outside::{Gate, LogDev, Sink, Source};
 use snap_report::Status;
 use std::alloc::Global;
@@ -41,36 +39,33 @@ pub(crate) fn crew_answer<
     words: &[String],
     input: &mut I,
     gate: &G,
-    logs: &mut Vec<D>,
-    out: O,
-    trace: &mut T,
-) -> HasRun<O>
-    requires four { vec_len logs.old ≡ 4 }
+    call: Call<D, O, T>,
+) -> HasRun<D, O, T>
+    requires four { vec_len call.logs ≡ 4 }
     requires crew { ¬ AskFor (map string_bytes words.now) 0 }
-    ensures outcome { let u : Use = use_of (map string_bytes words.now) (reading_of I.left I.faults input.old input.new) (writing_of O.taken O.faults out result.out) (writing_of T.taken T.faults trace.old trace.new) result.kept.items (devices_of D.told D.faults logs.old.items) (devices_of D.told D.faults logs.new.items) in IsOutcome u result.status }
-    ensures opens { let u : Use = use_of (map string_bytes words.now) (reading_of I.left I.faults input.old input.new) (writing_of O.taken O.faults out result.out) (writing_of T.taken T.faults trace.old trace.new) result.kept.items (devices_of D.told D.faults logs.old.items) (devices_of D.told D.faults logs.new.items) in
+    ensures outcome { IsOutcome (use_of (map string_bytes words.now) (reading_of I.Source input.old input.new) call result.call result.kept.items) result.status }
+    ensures opens { let u : Use = use_of (map string_bytes words.now) (reading_of I.Source input.old input.new) call result.call result.kept.items in
         (text : List ℕ) (w : Work) (records : List (List Record)) (o : Opening) → IsUntroubled u text w records o → ¬ IsOfLogs result.status }
-    ensures opens_bench { let u : Use = use_of (map string_bytes words.now) (reading_of I.left I.faults input.old input.new) (writing_of O.taken O.faults out result.out) (writing_of T.taken T.faults trace.old trace.new) result.kept.items (devices_of D.told D.faults logs.old.items) (devices_of D.told D.faults logs.new.items) in
-        (count seed workers : ℕ) (w : Work) (records : List (List Record)) (o : Opening) → IsBench u.words count seed workers → MayBeMeasured u count seed w records o → ¬ IsOfLogs result.status }
-    ensures untouched { GetsNoCall result.status → logs.new ≡ logs.old }
-    ensures no_trace { result.kept.items ≡ [] → trace.new ≡ trace.old }
-    ensures out_once { EndsAtFault (OutStood result.status) (O.faults out) (O.late out) (O.faults result.out) (O.late result.out) }
-    ensures trace_once { EndsAtFault (result.status ≡ status.Done) (T.faults trace.old) (T.late trace.old) (T.faults trace.new) (T.late trace.new) }
+    ensures opens_bench { let u : Use = use_of (map string_bytes words.now) (reading_of I.Source input.old input.new) call result.call result.kept.items in
+        (count seed workers : ℕ) (w : Work) (records : List (List Record)) (o : Opening)
+        → IsBench u.words count seed workers → MayBeMeasured u count seed w records o → ¬ IsOfLogs result.status }
+    ensures untouched { GetsNoCall result.status → result.call.logs ≡ call.logs }
+    ensures no_trace { result.kept.items ≡ [] → result.call.trace ≡ call.trace }
+    ensures out_once { EndsAtFault (OutStood result.status) call.output.faults call.output.late result.call.output.faults result.call.output.late }
+    ensures trace_once { EndsAtFault (result.status ≡ status.Done) call.tracing.faults call.tracing.late result.call.tracing.faults result.call.tracing.late }
     ensures input_once { EndsAtFault (result.status ≢ status.ReadFault) (I.faults input.old) (I.late input.old) (I.faults input.new) (I.late input.new) }
-    ensures four { vec_len logs.new ≡ 4 }
+    ensures four { vec_len result.call.logs ≡ 4 }
 {
     one_command();
     match read_words(words) {
-        Ok(Command::Run { workers, .. }) => {
-            crew_input(rt, alloc, input, workers, gate, logs, out, trace)
-        }
+        Ok(Command::Run { workers, .. }) => { crew_input(rt, alloc, input, workers, gate, call) }
         Ok(
             Command::Bench {
                 count,
                 seed,
                 workers,
             },
-        ) => { crew_generated(rt, alloc, count, seed, workers, gate, logs, out, trace) }
+        ) => { crew_generated(rt, alloc, count, seed, workers, gate, call) }
         _ => unreachable!(),
     }
 }
@@ -89,41 +84,30 @@ fn crew_input<
     input: &mut I,
     workers: u8,
     gate: &G,
-    logs: &mut Vec<D>,
-    out: O,
-    trace: &mut T,
-) -> HasRun<O>
-    requires four { vec_len logs.old ≡ 4 }
+    call: Call<D, O, T>,
+) -> HasRun<D, O, T>
+    requires four { vec_len call.logs ≡ 4 }
     requires some { 0 < workers }
     requires few { workers ≤ MOST_WORKERS }
-    ensures outcome { (words : List (List ℕ)) (seed : ℕ) → IsRun words workers seed → let u : Use = use_of words (reading_of I.left I.faults input.old input.new) (writing_of O.taken O.faults out result.out) (writing_of T.taken T.faults trace.old trace.new) result.kept.items (devices_of D.told D.faults logs.old.items) (devices_of D.told D.faults logs.new.items) in IsOutcome u result.status }
-    ensures opens { (words : List (List ℕ)) → let u : Use = use_of words (reading_of I.left I.faults input.old input.new) (writing_of O.taken O.faults out result.out) (writing_of T.taken T.faults trace.old trace.new) result.kept.items (devices_of D.told D.faults logs.old.items) (devices_of D.told D.faults logs.new.items) in
+    ensures outcome { (words : List (List ℕ)) (seed : ℕ) → IsRun words workers seed
+        → IsOutcome (use_of words (reading_of I.Source input.old input.new) call result.call result.kept.items) result.status }
+    ensures opens { (words : List (List ℕ)) → let u : Use = use_of words (reading_of I.Source input.old input.new) call result.call result.kept.items in
         (text : List ℕ) (w : Work) (records : List (List Record)) (o : Opening) → IsUntroubled u text w records o → ¬ IsOfLogs result.status }
-    ensures untouched { GetsNoCall result.status → logs.new ≡ logs.old }
-    ensures no_trace { result.kept.items ≡ [] → trace.new ≡ trace.old }
-    ensures out_once { EndsAtFault (OutStood result.status) (O.faults out) (O.late out) (O.faults result.out) (O.late result.out) }
-    ensures trace_once { EndsAtFault (result.status ≡ status.Done) (T.faults trace.old) (T.late trace.old) (T.faults trace.new) (T.late trace.new) }
+    ensures untouched { GetsNoCall result.status → result.call.logs ≡ call.logs }
+    ensures no_trace { result.kept.items ≡ [] → result.call.trace ≡ call.trace }
+    ensures out_once { EndsAtFault (OutStood result.status) call.output.faults call.output.late result.call.output.faults result.call.output.late }
+    ensures trace_once { EndsAtFault (result.status ≡ status.Done) call.tracing.faults call.tracing.late result.call.tracing.faults result.call.tracing.late }
     ensures input_once { EndsAtFault (result.status ≢ status.ReadFault) (I.faults input.old) (I.late input.old) (I.faults input.new) (I.late input.new) }
-    ensures four { vec_len logs.new ≡ 4 }
+    ensures four { vec_len result.call.logs ≡ 4 }
 {
     one_command();
     one_work();
     match read_work(alloc, input) {
-        Ok(work) => crew_work(
-            rt,
-            alloc,
-            work,
-            Told::Report,
-            workers as usize,
-            gate,
-            logs,
-            out,
-            trace,
-        ),
+        Ok(work) => crew_work(rt, alloc, work, Told::Report, workers as usize, gate, call),
         Err(status) => HasRun {
             kept: Vec::new(alloc),
             status,
-            out,
+            call,
         },
     }
 }
@@ -142,39 +126,27 @@ fn crew_generated<
     seed: u64,
     workers: u8,
     gate: &G,
-    logs: &mut Vec<D>,
-    out: O,
-    trace: &mut T,
-) -> HasRun<O>
+    call: Call<D, O, T>,
+) -> HasRun<D, O, T>
     requires few_transactions { count ≤ MOST_TRANSACTIONS }
-    requires four { vec_len logs.old ≡ 4 }
+    requires four { vec_len call.logs ≡ 4 }
     requires few { workers ≤ MOST_WORKERS }
-    ensures answer { (words : List (List ℕ)) (reading : Reading) → let u : Use = use_of words reading (writing_of O.taken O.faults out result.out) (writing_of T.taken T.faults trace.old trace.new) result.kept.items (devices_of D.told D.faults logs.old.items) (devices_of D.told D.faults logs.new.items) in IsMeasured u free count seed result.status }
-    ensures opens { (words : List (List ℕ)) (reading : Reading) → let u : Use = use_of words reading (writing_of O.taken O.faults out result.out) (writing_of T.taken T.faults trace.old trace.new) result.kept.items (devices_of D.told D.faults logs.old.items) (devices_of D.told D.faults logs.new.items) in
+    ensures answer { (words : List (List ℕ)) (reading : Reading) → IsMeasured (use_of words reading call result.call result.kept.items) free count seed result.status }
+    ensures opens { (words : List (List ℕ)) (reading : Reading) → let u : Use = use_of words reading call result.call result.kept.items in
         (w : Work) (records : List (List Record)) (o : Opening) → MayBeMeasured u count seed w records o → ¬ IsOfLogs result.status }
-    ensures untouched { GetsNoCall result.status → logs.new ≡ logs.old }
-    ensures no_trace { result.kept.items ≡ [] → trace.new ≡ trace.old }
-    ensures out_once { EndsAtFault (result.status ≢ status.OutFault) (O.faults out) (O.late out) (O.faults result.out) (O.late result.out) }
-    ensures trace_once { EndsAtFault (result.status ≡ status.Done) (T.faults trace.old) (T.late trace.old) (T.faults trace.new) (T.late trace.new) }
-    ensures four { vec_len logs.new ≡ 4 }
+    ensures untouched { GetsNoCall result.status → result.call.logs ≡ call.logs }
+    ensures no_trace { result.kept.items ≡ [] → result.call.trace ≡ call.trace }
+    ensures out_once { EndsAtFault (result.status ≢ status.OutFault) call.output.faults call.output.late result.call.output.faults result.call.output.late }
+    ensures trace_once { EndsAtFault (result.status ≡ status.Done) call.tracing.faults call.tracing.late result.call.tracing.faults result.call.tracing.late }
+    ensures four { vec_len result.call.logs ≡ 4 }
 {
     one_work();
     match generated_work(alloc, count, seed) {
-        Ok(work) => crew_work(
-            rt,
-            alloc,
-            work,
-            Told::Summary,
-            workers as usize,
-            gate,
-            logs,
-            out,
-            trace,
-        ),
+        Ok(work) => crew_work(rt, alloc, work, Told::Summary, workers as usize, gate, call),
         Err(_) => HasRun {
             kept: Vec::new(alloc),
             status: Status::Memory,
-            out,
+            call,
         },
     }
 }

@@ -32,11 +32,13 @@ pub struct Outcome<D, O, T> {
 
 /// Where nothing stands in the way of what the words ask for, it is done, or there is no memory.
 pub(crate) fn done_or_no_memory()
-    ensures complete { (u : Use) (s : Status) (text : List ℕ) (w : Work) (records : List (List Record)) (o : Opening) → IsOutcome u s → IsUntroubled u text w records o → ¬ IsOfLogs s → (s ≡ status.Done) ⊎ (s ≡ status.Memory) }
+    ensures complete { (u : Use) (s : Status) (text : List ℕ) (w : Work) (records : List (List Record)) (o : Opening)
+        → IsOutcome u s → IsUntroubled u text w records o → ¬ IsOfLogs s → (s ≡ status.Done) ⊎ (s ≡ status.Memory) }
     ensures complete_recover { (u : Use) (s : Status) (kept : List (List Record)) → IsOutcome u s → IsRecoverable u kept → (s ≡ status.Done) ⊎ (s ≡ status.Memory) }
     ensures complete_migrate { (u : Use) (s : Status) (kept : List (List Record)) → IsOutcome u s → IsMigratable u kept → (s ≡ status.Done) ⊎ (s ≡ status.Memory) }
     ensures complete_gen { (u : Use) (s : Status) → IsOutcome u s → IsPrintable u → (s ≡ status.Done) ⊎ (s ≡ status.Memory) }
-    ensures complete_bench { (u : Use) (s : Status) (count seed workers : ℕ) (w : Work) (records : List (List Record)) (o : Opening) → IsOutcome u s → IsBench u.words count seed workers → MayBeMeasured u count seed w records o → ¬ IsOfLogs s → (s ≡ status.Done) ⊎ (s ≡ status.Memory) }
+    ensures complete_bench { (u : Use) (s : Status) (count seed workers : ℕ) (w : Work) (records : List (List Record)) (o : Opening)
+        → IsOutcome u s → IsBench u.words count seed workers → MayBeMeasured u count seed w records o → ¬ IsOfLogs s → (s ≡ status.Done) ⊎ (s ≡ status.Memory) }
 {
     one_command();
     refused_is_not_recovered();

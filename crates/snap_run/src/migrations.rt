@@ -2,7 +2,7 @@ ghost use Rattle.std.specs.Prelude.{◌≡◌, ◌≢◌, vec_len};
 ghost use Rattle.std.specs.List.{AllZip};
 ghost use Rattle.log_opening.specs.Devices.{Device, devices_of};
 ghost use Rattle.record_log.specs.Records.{KeepsRecords};
-ghost use Rattle.run_work.specs.Writings.{Writing, writing_of};
+ghost use Rattle.run_work.specs.Writings.{writing_of};
 ghost use Rattle.snap_outside.specs.Causes.{EndsAtFault};
 ghost use Rattle.snap_run.specs.Migrations.{IsMigrateAnswer};
 
@@ -20,7 +20,7 @@ pub(crate) fn print_migrated<D: LogDev, O: Sink>(
     out: &mut O,
 ) -> Status
     requires { vec_len devices.old ≡ 4 }
-    ensures answer { let writing : Writing = writing_of O.taken O.faults out.old out.new in IsMigrateAnswer (devices_of D.told D.faults devices.old.items) (devices_of D.told D.faults devices.new.items) writing result }
+    ensures answer { IsMigrateAnswer (devices_of D.told D.faults devices.old.items) (devices_of D.told D.faults devices.new.items) (writing_of O.Sink out.old out.new) result }
     ensures once { EndsAtFault (result ≢ Status.OutFault) (O.faults out.old) (O.late out.old) (O.faults out.new) (O.late out.new) }
     ensures four { vec_len devices.new ≡ 4 }
     ensures safe { AllZip (λ (a b : Device). KeepsRecords a.told b.told) (devices_of D.told D.faults devices.old.items) (devices_of D.told D.faults devices.new.items) }

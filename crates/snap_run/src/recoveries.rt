@@ -4,7 +4,7 @@ ghost use Rattle.record_log.specs.Records.{KeepsRecords};
 ghost use Rattle.log_opening.specs.Devices.{Device, devices_of, IsOpenedAtMost};
 ghost use Rattle.snap_outside.specs.Causes.{EndsAtFault};
 ghost use Rattle.snap_report.specs.Lines.{actors_text, all_kept_text, batch_text, kept_text, lines_of, pact_place, act_place};
-ghost use Rattle.run_work.specs.Writings.{Writing, writing_of};
+ghost use Rattle.run_work.specs.Writings.{writing_of};
 ghost use Rattle.snap_run.specs.Recoveries.{recovered_report, IsRecoverAnswer};
 
 use log_opening::recover_kept;
@@ -24,7 +24,7 @@ pub(crate) fn print_recovered<D: LogDev, O: Sink>(
     out: &mut O,
 ) -> Status
     requires { vec_len devices.old ≡ 4 }
-    ensures answer { let writing : Writing = writing_of O.taken O.faults out.old out.new in IsRecoverAnswer (devices_of D.told D.faults devices.old.items) (devices_of D.told D.faults devices.new.items) writing result }
+    ensures answer { IsRecoverAnswer (devices_of D.told D.faults devices.old.items) (devices_of D.told D.faults devices.new.items) (writing_of O.Sink out.old out.new) result }
     ensures once { EndsAtFault (result ≢ Status.OutFault) (O.faults out.old) (O.late out.old) (O.faults out.new) (O.late out.new) }
     ensures four { vec_len devices.new ≡ 4 }
     ensures opened { AllZip IsOpenedAtMost (devices_of D.told D.faults devices.old.items) (devices_of D.told D.faults devices.new.items) }

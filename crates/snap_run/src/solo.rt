@@ -2,10 +2,8 @@
 ghost use Rattle.std.specs.Prelude.{◌≡◌, ◌≢◌, ◌⊎◌, ◌≤◌, ℕ, List, [], map, string_bytes, vec_len};
 ghost use Rattle.command_words.specs.Words.{IsRun, IsBench};
 ghost use Rattle.command_words.specs.Workers.{AskFor};
-ghost use Rattle.log_opening.specs.Devices.{devices_of};
 ghost use Rattle.run_recovery.specs.Schedules.{seeded};
 ghost use Rattle.run_work.specs.Runs.{IsOfLogs, OutStood};
-ghost use Rattle.run_work.specs.Writings.{writing_of};
 ghost use Rattle.snap_outside.specs.Causes.{EndsAtFault};
 ghost use Rattle.snap_recover.specs.declared.openings.Opening.{Opening};
 ghost use Rattle.snap_report.specs.declared.statuses.Status.TheVariants as status;
@@ -13,7 +11,7 @@ ghost use Rattle.snap_run.specs.Answers.{IsUntroubled, IsPrintable, IsMeasured, 
 ghost use Rattle.snap_run.specs.Migrations.{IsMigratable};
 ghost use Rattle.snap_run.specs.Outcomes.{IsOutcome};
 ghost use Rattle.snap_run.specs.Recoveries.{IsRecoverable};
-ghost use Rattle.snap_run.specs.Uses.{Reading, Use, reading_of, use_of};
+ghost use Rattle.snap_run.specs.Uses.{Reading, Use, reading_of, use_of, use_by};
 ghost use Rattle.snap_work.specs.Works.{Work};
 ghost use Rattle.snap_work.specs.declared.limits.TheConstants.{MOST_TRANSACTIONS};
 ghost use Rattle.txn_records.specs.declared.records.Record.{Record};
@@ -23,7 +21,7 @@ use crate::migrations::print_migrated;
 use crate::recoveries::print_recovered;
 use crate::works::{generated_work, print_generated, read_work};
 use command_words::{Command, one_command, read_words};
-use run_work::{HasRun, Told, run_work};
+use run_work::{Call, HasRun, Told, run_work};
 use snap_outside::{LogDev, Sink, Source};
 use snap_report::Status;
 use std::alloc::Global;
@@ -45,22 +43,23 @@ pub fn run_solo<I: Source, D: LogDev, O: Sink, T: Sink>(
     // They ask for no workers.
     requires alone { AskFor (map string_bytes words.now) 0 }
     // Each answer has its cause, and tells what was printed, traced and left on the logs.
-    ensures outcome { let u : Use = use_of (map string_bytes words.now) (reading_of I.left I.faults input.old input.new) (writing_of O.taken O.faults out result.out) (writing_of T.taken T.faults trace result.trace) result.kept.items (devices_of D.told D.faults logs.items) (devices_of D.told D.faults result.logs.items) in IsOutcome u result.status }
+    ensures outcome { IsOutcome (use_by I.Source D.LogDev O.Sink T.Sink (map string_bytes words.now) input.old input.new logs out trace result) result.status }
     // Where nothing stands in the way, the work is run to its end, or there is no memory.
-    ensures complete { let u : Use = use_of (map string_bytes words.now) (reading_of I.left I.faults input.old input.new) (writing_of O.taken O.faults out result.out) (writing_of T.taken T.faults trace result.trace) result.kept.items (devices_of D.told D.faults logs.items) (devices_of D.told D.faults result.logs.items) in
+    ensures complete { let u : Use = use_by I.Source D.LogDev O.Sink T.Sink (map string_bytes words.now) input.old input.new logs out trace result in
         (text : List ℕ) (w : Work) (records : List (List Record)) (o : Opening) → IsUntroubled u text w records o → (result.status ≡ status.Done) ⊎ (result.status ≡ status.Memory) }
     // Where nothing stands in the way of recovering, what the logs recover to is printed, or there is no memory.
-    ensures complete_recover { let u : Use = use_of (map string_bytes words.now) (reading_of I.left I.faults input.old input.new) (writing_of O.taken O.faults out result.out) (writing_of T.taken T.faults trace result.trace) result.kept.items (devices_of D.told D.faults logs.items) (devices_of D.told D.faults result.logs.items) in
+    ensures complete_recover { let u : Use = use_by I.Source D.LogDev O.Sink T.Sink (map string_bytes words.now) input.old input.new logs out trace result in
         (kept : List (List Record)) → IsRecoverable u kept → (result.status ≡ status.Done) ⊎ (result.status ≡ status.Memory) }
     // Where nothing stands in the way of recovering, the logs of format 1 are made ones of format 2, or there is no memory.
-    ensures complete_migrate { let u : Use = use_of (map string_bytes words.now) (reading_of I.left I.faults input.old input.new) (writing_of O.taken O.faults out result.out) (writing_of T.taken T.faults trace result.trace) result.kept.items (devices_of D.told D.faults logs.items) (devices_of D.told D.faults result.logs.items) in
+    ensures complete_migrate { let u : Use = use_by I.Source D.LogDev O.Sink T.Sink (map string_bytes words.now) input.old input.new logs out trace result in
         (kept : List (List Record)) → IsMigratable u kept → (result.status ≡ status.Done) ⊎ (result.status ≡ status.Memory) }
     // Where the output takes it, a generated text is printed, or there is no memory.
-    ensures complete_gen { let u : Use = use_of (map string_bytes words.now) (reading_of I.left I.faults input.old input.new) (writing_of O.taken O.faults out result.out) (writing_of T.taken T.faults trace result.trace) result.kept.items (devices_of D.told D.faults logs.items) (devices_of D.told D.faults result.logs.items) in
+    ensures complete_gen { let u : Use = use_by I.Source D.LogDev O.Sink T.Sink (map string_bytes words.now) input.old input.new logs out trace result in
         IsPrintable u → (result.status ≡ status.Done) ⊎ (result.status ≡ status.Memory) }
     // Where nothing stands in the way of a generated text, it is run to its end, or there is no memory.
-    ensures complete_bench { let u : Use = use_of (map string_bytes words.now) (reading_of I.left I.faults input.old input.new) (writing_of O.taken O.faults out result.out) (writing_of T.taken T.faults trace result.trace) result.kept.items (devices_of D.told D.faults logs.items) (devices_of D.told D.faults result.logs.items) in
-        (count seed workers : ℕ) (w : Work) (records : List (List Record)) (o : Opening) → IsBench u.words count seed workers → MayBeMeasured u count seed w records o → (result.status ≡ status.Done) ⊎ (result.status ≡ status.Memory) }
+    ensures complete_bench { let u : Use = use_by I.Source D.LogDev O.Sink T.Sink (map string_bytes words.now) input.old input.new logs out trace result in
+        (count seed workers : ℕ) (w : Work) (records : List (List Record)) (o : Opening)
+        → IsBench u.words count seed workers → MayBeMeasured u count seed w records o → (result.status ≡ status.Done) ⊎ (result.status ≡ status.Memory) }
     // Before the text is accepted, no log gets a call.
     ensures untouched { GetsNoCall result.status → result.logs ≡ logs }
     // Where no event is kept, the trace gets none.
@@ -73,9 +72,8 @@ pub fn run_solo<I: Source, D: LogDev, O: Sink, T: Sink>(
     ensures four { vec_len result.logs ≡ 4 }
 {
     done_or_no_memory();
-    let mut logs = logs;
-    let mut trace = trace;
-    let HasRun { kept, status, out } = answer(alloc, words, input, &mut logs, out, &mut trace);
+    let HasRun { kept, status, call } = answer(alloc, words, input, Call { logs, out, trace });
+    let Call { logs, out, trace } = call;
     Outcome {
         status,
         kept,
@@ -90,61 +88,58 @@ fn answer<I: Source, D: LogDev, O: Sink, T: Sink>(
     alloc: Global,
     words: &[String],
     input: &mut I,
-    logs: &mut Vec<D>,
-    out: O,
-    trace: &mut T,
-) -> HasRun<O>
-    requires four { vec_len logs.old ≡ 4 }
+    call: Call<D, O, T>,
+) -> HasRun<D, O, T>
+    requires four { vec_len call.logs ≡ 4 }
     requires alone { AskFor (map string_bytes words.now) 0 }
-    ensures outcome { let u : Use = use_of (map string_bytes words.now) (reading_of I.left I.faults input.old input.new) (writing_of O.taken O.faults out result.out) (writing_of T.taken T.faults trace.old trace.new) result.kept.items (devices_of D.told D.faults logs.old.items) (devices_of D.told D.faults logs.new.items) in IsOutcome u result.status }
-    ensures opens { let u : Use = use_of (map string_bytes words.now) (reading_of I.left I.faults input.old input.new) (writing_of O.taken O.faults out result.out) (writing_of T.taken T.faults trace.old trace.new) result.kept.items (devices_of D.told D.faults logs.old.items) (devices_of D.told D.faults logs.new.items) in
+    ensures outcome { IsOutcome (use_of (map string_bytes words.now) (reading_of I.Source input.old input.new) call result.call result.kept.items) result.status }
+    ensures opens { let u : Use = use_of (map string_bytes words.now) (reading_of I.Source input.old input.new) call result.call result.kept.items in
         (text : List ℕ) (w : Work) (records : List (List Record)) (o : Opening) → IsUntroubled u text w records o → ¬ IsOfLogs result.status }
-    ensures opens_bench { let u : Use = use_of (map string_bytes words.now) (reading_of I.left I.faults input.old input.new) (writing_of O.taken O.faults out result.out) (writing_of T.taken T.faults trace.old trace.new) result.kept.items (devices_of D.told D.faults logs.old.items) (devices_of D.told D.faults logs.new.items) in
-        (count seed workers : ℕ) (w : Work) (records : List (List Record)) (o : Opening) → IsBench u.words count seed workers → MayBeMeasured u count seed w records o → ¬ IsOfLogs result.status }
-    ensures untouched { GetsNoCall result.status → logs.new ≡ logs.old }
-    ensures no_trace { result.kept.items ≡ [] → trace.new ≡ trace.old }
-    ensures out_once { EndsAtFault (OutStood result.status) (O.faults out) (O.late out) (O.faults result.out) (O.late result.out) }
-    ensures trace_once { EndsAtFault (result.status ≡ status.Done) (T.faults trace.old) (T.late trace.old) (T.faults trace.new) (T.late trace.new) }
+    ensures opens_bench { let u : Use = use_of (map string_bytes words.now) (reading_of I.Source input.old input.new) call result.call result.kept.items in
+        (count seed workers : ℕ) (w : Work) (records : List (List Record)) (o : Opening)
+        → IsBench u.words count seed workers → MayBeMeasured u count seed w records o → ¬ IsOfLogs result.status }
+    ensures untouched { GetsNoCall result.status → result.call.logs ≡ call.logs }
+    ensures no_trace { result.kept.items ≡ [] → result.call.trace ≡ call.trace }
+    ensures out_once { EndsAtFault (OutStood result.status) call.output.faults call.output.late result.call.output.faults result.call.output.late }
+    ensures trace_once { EndsAtFault (result.status ≡ status.Done) call.tracing.faults call.tracing.late result.call.tracing.faults result.call.tracing.late }
     ensures input_once { EndsAtFault (result.status ≢ status.ReadFault) (I.faults input.old) (I.late input.old) (I.faults input.new) (I.late input.new) }
-    ensures four { vec_len logs.new ≡ 4 }
+    ensures four { vec_len result.call.logs ≡ 4 }
 {
     one_command();
     match read_words(words) {
-        Ok(Command::Run { seed, .. }) => run_input(alloc, input, seed, logs, out, trace),
+        Ok(Command::Run { seed, .. }) => run_input(alloc, input, seed, call),
         Ok(Command::Recover) => {
-            let mut out = out;
-            let status = print_recovered(alloc, logs, &mut out);
+            let mut call = call;
+            let status = print_recovered(alloc, &mut call.logs, &mut call.out);
             HasRun {
                 kept: Vec::new(alloc),
                 status,
-                out,
+                call,
             }
         }
         Ok(Command::Migrate) => {
-            let mut out = out;
-            let status = print_migrated(alloc, logs, &mut out);
+            let mut call = call;
+            let status = print_migrated(alloc, &mut call.logs, &mut call.out);
             HasRun {
                 kept: Vec::new(alloc),
                 status,
-                out,
+                call,
             }
         }
         Ok(Command::Gen { count, seed }) => {
-            let mut out = out;
-            let status = print_generated(alloc, count, seed, &mut out);
+            let mut call = call;
+            let status = print_generated(alloc, count, seed, &mut call.out);
             HasRun {
                 kept: Vec::new(alloc),
                 status,
-                out,
+                call,
             }
         }
-        Ok(Command::Bench { count, seed, .. }) => run_generated(
-            alloc, count, seed, logs, out, trace,
-        ),
+        Ok(Command::Bench { count, seed, .. }) => run_generated(alloc, count, seed, call),
         Err(word) => HasRun {
             kept: Vec::new(alloc),
             status: Status::Usage { word },
-            out,
+            call,
         },
     }
 }
@@ -154,29 +149,27 @@ fn run_input<I: Source, D: LogDev, O: Sink, T: Sink>(
     alloc: Global,
     input: &mut I,
     seed: u64,
-    logs: &mut Vec<D>,
-    out: O,
-    trace: &mut T,
-) -> HasRun<O>
-    requires { vec_len logs.old ≡ 4 }
-    ensures outcome { (words : List (List ℕ)) → IsRun words 0 seed → let u : Use = use_of words (reading_of I.left I.faults input.old input.new) (writing_of O.taken O.faults out result.out) (writing_of T.taken T.faults trace.old trace.new) result.kept.items (devices_of D.told D.faults logs.old.items) (devices_of D.told D.faults logs.new.items) in IsOutcome u result.status }
-    ensures opens { (words : List (List ℕ)) → let u : Use = use_of words (reading_of I.left I.faults input.old input.new) (writing_of O.taken O.faults out result.out) (writing_of T.taken T.faults trace.old trace.new) result.kept.items (devices_of D.told D.faults logs.old.items) (devices_of D.told D.faults logs.new.items) in
+    call: Call<D, O, T>,
+) -> HasRun<D, O, T>
+    requires { vec_len call.logs ≡ 4 }
+    ensures outcome { (words : List (List ℕ)) → IsRun words 0 seed → IsOutcome (use_of words (reading_of I.Source input.old input.new) call result.call result.kept.items) result.status }
+    ensures opens { (words : List (List ℕ)) → let u : Use = use_of words (reading_of I.Source input.old input.new) call result.call result.kept.items in
         (text : List ℕ) (w : Work) (records : List (List Record)) (o : Opening) → IsUntroubled u text w records o → ¬ IsOfLogs result.status }
-    ensures untouched { GetsNoCall result.status → logs.new ≡ logs.old }
-    ensures no_trace { result.kept.items ≡ [] → trace.new ≡ trace.old }
-    ensures out_once { EndsAtFault (OutStood result.status) (O.faults out) (O.late out) (O.faults result.out) (O.late result.out) }
-    ensures trace_once { EndsAtFault (result.status ≡ status.Done) (T.faults trace.old) (T.late trace.old) (T.faults trace.new) (T.late trace.new) }
+    ensures untouched { GetsNoCall result.status → result.call.logs ≡ call.logs }
+    ensures no_trace { result.kept.items ≡ [] → result.call.trace ≡ call.trace }
+    ensures out_once { EndsAtFault (OutStood result.status) call.output.faults call.output.late result.call.output.faults result.call.output.late }
+    ensures trace_once { EndsAtFault (result.status ≡ status.Done) call.tracing.faults call.tracing.late result.call.tracing.faults result.call.tracing.late }
     ensures input_once { EndsAtFault (result.status ≢ status.ReadFault) (I.faults input.old) (I.late input.old) (I.faults input.new) (I.late input.new) }
-    ensures four { vec_len logs.new ≡ 4 }
+    ensures four { vec_len result.call.logs ≡ 4 }
 {
     one_command();
     one_work();
     match read_work(alloc, input) {
-        Ok(work) => run_work(alloc, work, Told::Report, seed, logs, out, trace),
+        Ok(work) => run_work(alloc, work, Told::Report, seed, call),
         Err(status) => HasRun {
             kept: Vec::new(alloc),
             status,
-            out,
+            call,
         },
     }
 }
@@ -186,28 +179,26 @@ fn run_generated<D: LogDev, O: Sink, T: Sink>(
     alloc: Global,
     count: u32,
     seed: u64,
-    logs: &mut Vec<D>,
-    out: O,
-    trace: &mut T,
-) -> HasRun<O>
+    call: Call<D, O, T>,
+) -> HasRun<D, O, T>
     requires few { count ≤ MOST_TRANSACTIONS }
-    requires four { vec_len logs.old ≡ 4 }
-    ensures answer { (words : List (List ℕ)) (reading : Reading) → let u : Use = use_of words reading (writing_of O.taken O.faults out result.out) (writing_of T.taken T.faults trace.old trace.new) result.kept.items (devices_of D.told D.faults logs.old.items) (devices_of D.told D.faults logs.new.items) in IsMeasured u (seeded 0) count seed result.status }
-    ensures opens { (words : List (List ℕ)) (reading : Reading) → let u : Use = use_of words reading (writing_of O.taken O.faults out result.out) (writing_of T.taken T.faults trace.old trace.new) result.kept.items (devices_of D.told D.faults logs.old.items) (devices_of D.told D.faults logs.new.items) in
+    requires four { vec_len call.logs ≡ 4 }
+    ensures answer { (words : List (List ℕ)) (reading : Reading) → IsMeasured (use_of words reading call result.call result.kept.items) (seeded 0) count seed result.status }
+    ensures opens { (words : List (List ℕ)) (reading : Reading) → let u : Use = use_of words reading call result.call result.kept.items in
         (w : Work) (records : List (List Record)) (o : Opening) → MayBeMeasured u count seed w records o → ¬ IsOfLogs result.status }
-    ensures untouched { GetsNoCall result.status → logs.new ≡ logs.old }
-    ensures no_trace { result.kept.items ≡ [] → trace.new ≡ trace.old }
-    ensures out_once { EndsAtFault (result.status ≢ status.OutFault) (O.faults out) (O.late out) (O.faults result.out) (O.late result.out) }
-    ensures trace_once { EndsAtFault (result.status ≡ status.Done) (T.faults trace.old) (T.late trace.old) (T.faults trace.new) (T.late trace.new) }
-    ensures four { vec_len logs.new ≡ 4 }
+    ensures untouched { GetsNoCall result.status → result.call.logs ≡ call.logs }
+    ensures no_trace { result.kept.items ≡ [] → result.call.trace ≡ call.trace }
+    ensures out_once { EndsAtFault (result.status ≢ status.OutFault) call.output.faults call.output.late result.call.output.faults result.call.output.late }
+    ensures trace_once { EndsAtFault (result.status ≡ status.Done) call.tracing.faults call.tracing.late result.call.tracing.faults result.call.tracing.late }
+    ensures four { vec_len result.call.logs ≡ 4 }
 {
     one_work();
     match generated_work(alloc, count, seed) {
-        Ok(work) => run_work(alloc, work, Told::Summary, 0, logs, out, trace),
+        Ok(work) => run_work(alloc, work, Told::Summary, 0, call),
         Err(_) => HasRun {
             kept: Vec::new(alloc),
             status: Status::Memory,
-            out,
+            call,
         },
     }
 }

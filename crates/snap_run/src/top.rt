@@ -1,9 +1,7 @@
 //! The call.
 ghost use Rattle.std.specs.Prelude.{◌≡◌, ◌≢◌, ◌⊎◌, ℕ, List, [], map, string_bytes, vec_len};
 ghost use Rattle.command_words.specs.Words.{IsBench};
-ghost use Rattle.log_opening.specs.Devices.{devices_of};
 ghost use Rattle.run_work.specs.Runs.{OutStood};
-ghost use Rattle.run_work.specs.Writings.{writing_of};
 ghost use Rattle.snap_outside.specs.Causes.{EndsAtFault};
 ghost use Rattle.snap_recover.specs.declared.openings.Opening.{Opening};
 ghost use Rattle.snap_report.specs.declared.statuses.Status.TheVariants as status;
@@ -11,7 +9,7 @@ ghost use Rattle.snap_run.specs.Answers.{IsUntroubled, IsPrintable, MayBeMeasure
 ghost use Rattle.snap_run.specs.Migrations.{IsMigratable};
 ghost use Rattle.snap_run.specs.Outcomes.{IsOutcome};
 ghost use Rattle.snap_run.specs.Recoveries.{IsRecoverable};
-ghost use Rattle.snap_run.specs.Uses.{Use, reading_of, use_of};
+ghost use Rattle.snap_run.specs.Uses.{Use, use_by};
 ghost use Rattle.snap_work.specs.Works.{Work};
 ghost use Rattle.txn_records.specs.declared.records.Record.{Record};
 
@@ -19,7 +17,7 @@ use crate::crews::crew_answer;
 use crate::endings::{Outcome, done_or_no_memory};
 use crate::solo::run_solo;
 use command_words::{one_command, workers_of};
-use run_work::HasRun;
+use run_work::{Call, HasRun};
 use snap_outside::{Gate, LogDev, Sink, Source};
 use std::alloc::Global;
 use std::sync::Wait;
@@ -50,22 +48,23 @@ pub fn run<
 ) -> Outcome<D, O, T>
     requires { vec_len logs ≡ 4 }
     // Each answer has its cause, and tells what was printed, traced and left on the logs.
-    ensures outcome { let u : Use = use_of (map string_bytes words.now) (reading_of I.left I.faults input.old input.new) (writing_of O.taken O.faults out result.out) (writing_of T.taken T.faults trace result.trace) result.kept.items (devices_of D.told D.faults logs.items) (devices_of D.told D.faults result.logs.items) in IsOutcome u result.status }
+    ensures outcome { IsOutcome (use_by I.Source D.LogDev O.Sink T.Sink (map string_bytes words.now) input.old input.new logs out trace result) result.status }
     // Where nothing stands in the way, the work is run to its end, or there is no memory.
-    ensures complete { let u : Use = use_of (map string_bytes words.now) (reading_of I.left I.faults input.old input.new) (writing_of O.taken O.faults out result.out) (writing_of T.taken T.faults trace result.trace) result.kept.items (devices_of D.told D.faults logs.items) (devices_of D.told D.faults result.logs.items) in
+    ensures complete { let u : Use = use_by I.Source D.LogDev O.Sink T.Sink (map string_bytes words.now) input.old input.new logs out trace result in
         (text : List ℕ) (w : Work) (records : List (List Record)) (o : Opening) → IsUntroubled u text w records o → (result.status ≡ status.Done) ⊎ (result.status ≡ status.Memory) }
     // Where nothing stands in the way of recovering, what the logs recover to is printed, or there is no memory.
-    ensures complete_recover { let u : Use = use_of (map string_bytes words.now) (reading_of I.left I.faults input.old input.new) (writing_of O.taken O.faults out result.out) (writing_of T.taken T.faults trace result.trace) result.kept.items (devices_of D.told D.faults logs.items) (devices_of D.told D.faults result.logs.items) in
+    ensures complete_recover { let u : Use = use_by I.Source D.LogDev O.Sink T.Sink (map string_bytes words.now) input.old input.new logs out trace result in
         (kept : List (List Record)) → IsRecoverable u kept → (result.status ≡ status.Done) ⊎ (result.status ≡ status.Memory) }
     // Where nothing stands in the way of recovering, the logs of format 1 are made ones of format 2, or there is no memory.
-    ensures complete_migrate { let u : Use = use_of (map string_bytes words.now) (reading_of I.left I.faults input.old input.new) (writing_of O.taken O.faults out result.out) (writing_of T.taken T.faults trace result.trace) result.kept.items (devices_of D.told D.faults logs.items) (devices_of D.told D.faults result.logs.items) in
+    ensures complete_migrate { let u : Use = use_by I.Source D.LogDev O.Sink T.Sink (map string_bytes words.now) input.old input.new logs out trace result in
         (kept : List (List Record)) → IsMigratable u kept → (result.status ≡ status.Done) ⊎ (result.status ≡ status.Memory) }
     // Where the output takes it, a generated text is printed, or there is no memory.
-    ensures complete_gen { let u : Use = use_of (map string_bytes words.now) (reading_of I.left I.faults input.old input.new) (writing_of O.taken O.faults out result.out) (writing_of T.taken T.faults trace result.trace) result.kept.items (devices_of D.told D.faults logs.items) (devices_of D.told D.faults result.logs.items) in
+    ensures complete_gen { let u : Use = use_by I.Source D.LogDev O.Sink T.Sink (map string_bytes words.now) input.old input.new logs out trace result in
         IsPrintable u → (result.status ≡ status.Done) ⊎ (result.status ≡ status.Memory) }
     // Where nothing stands in the way of a generated text, it is run to its end, or there is no memory.
-    ensures complete_bench { let u : Use = use_of (map string_bytes words.now) (reading_of I.left I.faults input.old input.new) (writing_of O.taken O.faults out result.out) (writing_of T.taken T.faults trace result.trace) result.kept.items (devices_of D.told D.faults logs.items) (devices_of D.told D.faults result.logs.items) in
-        (count seed workers : ℕ) (w : Work) (records : List (List Record)) (o : Opening) → IsBench u.words count seed workers → MayBeMeasured u count seed w records o → (result.status ≡ status.Done) ⊎ (result.status ≡ status.Memory) }
+    ensures complete_bench { let u : Use = use_by I.Source D.LogDev O.Sink T.Sink (map string_bytes words.now) input.old input.new logs out trace result in
+        (count seed workers : ℕ) (w : Work) (records : List (List Record)) (o : Opening)
+        → IsBench u.words count seed workers → MayBeMeasured u count seed w records o → (result.status ≡ status.Done) ⊎ (result.status ≡ status.Memory) }
     // Before the text is accepted, no log gets a call.
     ensures untouched { GetsNoCall result.status → result.logs ≡ logs }
     // Where no event is kept, the trace gets none.
@@ -82,11 +81,15 @@ pub fn run<
     }
     one_command();
     done_or_no_memory();
-    let mut logs = logs;
-    let mut trace = trace;
-    let HasRun { kept, status, out } = crew_answer(
-        rt, alloc, words, input, gate, &mut logs, out, &mut trace,
+    let HasRun { kept, status, call } = crew_answer(
+        rt,
+        alloc,
+        words,
+        input,
+        gate,
+        Call { logs, out, trace },
     );
+    let Call { logs, out, trace } = call;
     Outcome {
         status,
         kept,

@@ -22,7 +22,7 @@ use work_text::{a_work_is_short, one_work, parse_work, transactions_may_run};
 
 /// The work that the input stands for.
 pub(crate) fn read_work<I: Source>(alloc: Global, input: &mut I) -> Result<Work, Status>
-    ensures answer { let r : Reading = reading_of I.left I.faults input.old input.new in MatchResult result (λ w. OfText r (λ v. v ≡ work_of w)) (λ s. IsInputAnswer r s) }
+    ensures answer { let r : Reading = reading_of I.Source input.old input.new in MatchResult result (λ w. OfText r (λ v. v ≡ work_of w)) (λ s. IsInputAnswer r s) }
     ensures limits { IfOk result (λ w. KeepsLimits (work_of w)) }
     ensures once { EndsAtFault (¬ IsErrOf result Status.ReadFault) (I.faults input.old) (I.late input.old) (I.faults input.new) (I.late input.new) }
 {
@@ -96,7 +96,7 @@ pub(crate) fn generated_work(alloc: Global, count: u32, seed: u64) -> Result<Wor
 /// Prints the text of so many transactions that the seed draws.
 pub(crate) fn print_generated<O: Sink>(alloc: Global, count: u32, seed: u64, out: &mut O) -> Status
     requires { count ≤ MOST_TRANSACTIONS }
-    ensures answer { IsGenAnswer (generated_text count seed) (writing_of O.taken O.faults out.old out.new) result }
+    ensures answer { IsGenAnswer (generated_text count seed) (writing_of O.Sink out.old out.new) result }
     ensures once { EndsAtFault (result ≢ Status.OutFault) (O.faults out.old) (O.late out.old) (O.faults out.new) (O.late out.new) }
 {
     let Ok(text) = generate(alloc, count, seed) else {

@@ -4,9 +4,7 @@ use Rattle.std.specs.Prelude.{string_bytes}
 use Rattle.command_words.specs.Commands.{IsCommand}
 use Rattle.command_words.specs.declared.commands.Command.{Command}
 use Rattle.command_words.specs.declared.commands.Command.TheVariants.{Run, Bench}
-use Rattle.log_opening.specs.Devices.{devices_of}
 use Rattle.run_recovery.specs.Schedules.{Schedule}
-use Rattle.run_work.specs.Writings.{writing_of}
 use Rattle.snap_run.proofs.Outcomes.{by_crew, bench_outcome, run_not_bench, few_workers, same_measure, some_asked}
 use Rattle.snap_run.proofs.crews.crew_answer.Goals as goal
 use Rattle.snap_outside.proofs.AtFault.{surely}
@@ -48,10 +46,8 @@ crew_generated-requires-clause-few g c = λ _ _.
 pub returns-in-Ok-Bench-clause-outcome : goal.returns-in-Ok-Bench-clause-outcome
 returns-in-Ok-Bench-clause-outcome g c =
     let words = map string_bytes c.args.words.now in
-    let reading = reading_of g.I.Source.left g.I.Source.faults c.args.input.now c.args.input.now in
-    let u : Use = use_of words reading (writing_of g.O.Sink.taken g.O.Sink.faults c.args.out c.crew_generated.result.out)
-    (writing_of g.T.Sink.taken g.T.Sink.faults c.args.trace.now c.crew_generated.new.trace) c.crew_generated.result.kept.items
-    (devices_of g.D.LogDev.told g.D.LogDev.faults c.args.logs.now.items) (devices_of g.D.LogDev.told g.D.LogDev.faults c.crew_generated.new.logs.items) in
+    let reading = reading_of g.I.Source c.args.input.now c.args.input.now in
+    let u : Use = use_of words reading c.args.call c.crew_generated.result.call c.crew_generated.result.kept.items in
     let own = subst (λ (k : Command). IsCommand words k) c.in-Ok-Bench.field-0-is c.in-Ok-Bench.ensures in
     let by = sym (by_crew c.in-Ok-Bench.workers 0 (some_asked words (Bench c.in-Ok-Bench.count c.in-Ok-Bench.seed c.in-Ok-Bench.workers) c.requires.crew own)) in
     bench_outcome c.one_command.ensures u c.in-Ok-Bench.count c.in-Ok-Bench.seed c.in-Ok-Bench.workers c.crew_generated.result.status own (Keeps-refl _)
@@ -68,7 +64,7 @@ returns-in-Ok-Bench-clause-opens g c = λ text w records o t.
 pub returns-in-Ok-Bench-clause-opens_bench : goal.returns-in-Ok-Bench-clause-opens_bench
 returns-in-Ok-Bench-clause-opens_bench g c = λ count seed workers w records o bench may.
     let words = map string_bytes c.args.words.now in
-    let reading = reading_of g.I.Source.left g.I.Source.faults c.args.input.now c.args.input.now in
+    let reading = reading_of g.I.Source c.args.input.now c.args.input.now in
     let own = subst (λ (k : Command). IsCommand words k) c.in-Ok-Bench.field-0-is c.in-Ok-Bench.ensures in
     c.crew_generated.ensures.opens words reading w records o
     (same_measure c.one_command.ensures _ words count seed workers c.in-Ok-Bench.count c.in-Ok-Bench.seed c.in-Ok-Bench.workers w records o bench own may)

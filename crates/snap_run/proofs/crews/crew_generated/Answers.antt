@@ -1,6 +1,5 @@
 use Rattle.std.proofs.Common.{refl, inl, inr, subst}
 use Rattle.std.proofs.KnownBytes.{Keeps-refl}
-use Rattle.log_opening.specs.Devices.{devices_of}
 use Rattle.run_opening.specs.Opens.{MayOpen}
 use Rattle.snap_run.proofs.crews.crew_generated.Goals as goal
 use Rattle.snap_work.specs.Works.{Work, work_of}
@@ -10,10 +9,8 @@ returns-in-Ok-clause-answer g c = λ words reading. inr (work_of c.in-Ok.work, c
 
 pub returns-in-Ok-clause-opens : goal.returns-in-Ok-clause-opens
 returns-in-Ok-clause-opens g c = λ words reading w records o may.
-    let before = devices_of g.D.LogDev.told g.D.LogDev.faults c.args.logs.now.items in
-    let after = devices_of g.D.LogDev.told g.D.LogDev.faults c.crew_work.new.devices.items in
     let same = c.one_work.ensures _ w (work_of c.in-Ok.work) may.work c.in-Ok.ensures.work in
-    c.crew_work.ensures.opens records o (subst (λ (x : Work). MayOpen x.logs x.states before after records o) same may.opens)
+    c.crew_work.ensures.opens records o (subst (λ (x : Work). MayOpen x.logs x.states c.args.call.devices c.crew_work.result.call.devices records o) same may.opens)
 
 pub returns-in-Err-clause-answer : goal.returns-in-Err-clause-answer
 returns-in-Err-clause-answer g c = λ words reading. inl (refl, record { kept = c.new.ensures.items; out = Keeps-refl _; trace = Keeps-refl _; devices = refl })

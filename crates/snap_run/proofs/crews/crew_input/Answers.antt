@@ -1,8 +1,6 @@
 use Rattle.std.proofs.Common.{sym, subst}
-use Rattle.log_opening.specs.Devices.{devices_of}
 use Rattle.run_recovery.specs.Schedules.{Schedule}
 use Rattle.run_work.specs.Runs.{IsWorkAnswer}
-use Rattle.run_work.specs.Writings.{writing_of}
 use Rattle.snap_run.proofs.Outcomes.{by_crew, run_outcome, run_not_of_logs}
 use Rattle.snap_run.proofs.crews.crew_input.Goals as goal
 use Rattle.snap_run.specs.Answers.{ran_of}
@@ -12,18 +10,14 @@ use Rattle.snap_outside.proofs.AtFault.{surely}
 
 pub returns-in-Ok-clause-outcome : goal.returns-in-Ok-clause-outcome
 returns-in-Ok-clause-outcome g c = λ words seed run.
-    let u : Use = use_of words (reading_of g.I.Source.left g.I.Source.faults c.args.input.now c.read_work.new.input) (writing_of g.O.Sink.taken g.O.Sink.faults c.args.out c.crew_work.result.out)
-    (writing_of g.T.Sink.taken g.T.Sink.faults c.args.trace.now c.crew_work.new.trace) c.crew_work.result.kept.items
-    (devices_of g.D.LogDev.told g.D.LogDev.faults c.args.logs.now.items) (devices_of g.D.LogDev.told g.D.LogDev.faults c.crew_work.new.devices.items) in
+    let u : Use = use_of words (reading_of g.I.Source c.args.input.now c.read_work.new.input) c.args.call c.crew_work.result.call c.crew_work.result.kept.items in
     let by = sym (by_crew c.args.workers seed c.requires.some) in
     run_outcome c.one_command.ensures u c.args.workers seed (work_of c.in-Ok.work) c.crew_work.result.status run c.in-Ok.ensures.answer
     (subst (λ (schedule : Schedule). IsWorkAnswer (ran_of u (work_of c.in-Ok.work) schedule) c.crew_work.result.status) by c.crew_work.ensures.answer)
 
 pub returns-in-Ok-clause-opens : goal.returns-in-Ok-clause-opens
 returns-in-Ok-clause-opens g c = λ words.
-    let u : Use = use_of words (reading_of g.I.Source.left g.I.Source.faults c.args.input.now c.read_work.new.input) (writing_of g.O.Sink.taken g.O.Sink.faults c.args.out c.crew_work.result.out)
-    (writing_of g.T.Sink.taken g.T.Sink.faults c.args.trace.now c.crew_work.new.trace) c.crew_work.result.kept.items
-    (devices_of g.D.LogDev.told g.D.LogDev.faults c.args.logs.now.items) (devices_of g.D.LogDev.told g.D.LogDev.faults c.crew_work.new.devices.items) in
+    let u : Use = use_of words (reading_of g.I.Source c.args.input.now c.read_work.new.input) c.args.call c.crew_work.result.call c.crew_work.result.kept.items in
     run_not_of_logs c.one_work.ensures u (work_of c.in-Ok.work) c.crew_work.result.status c.crew_work.ensures.opens c.in-Ok.ensures.answer
 
 pub returns-in-Ok-clause-input_once : goal.returns-in-Ok-clause-input_once

@@ -1,11 +1,13 @@
 use Rattle.std.proofs.Common.{ℕ, map, refl, subst}
 use Rattle.std.proofs.KnownBytes.{Keeps-refl}
 use Rattle.std.specs.Prelude.{string_bytes}
-use Rattle.log_opening.specs.Devices.{devices_of}
-use Rattle.run_work.specs.Writings.{writing_of}
+use Rattle.run_work.specs.Calls.{CallState, call_of}
+use Rattle.run_work.specs.Runs.{OutStood}
 use Rattle.snap_run.proofs.Outcomes.{asked, usage_outcome, recover_outcome, migrate_outcome, gen_outcome, bench_outcome, run_not_gen, run_not_bench, gen_not_bench, same_measure}
 use Rattle.snap_run.proofs.solo.answer.Goals as goal
 use Rattle.snap_outside.proofs.AtFault.{surely}
+use Rattle.snap_outside.specs.Causes.{EndsAtFault}
+use Rattle.snap_run.specs.Outcomes.{IsOutcome}
 use Rattle.command_words.specs.Commands.{IsCommand}
 use Rattle.command_words.specs.Words.{IsRun, IsBench}
 use Rattle.snap_run.specs.Uses.{Use, reading_of, use_of}
@@ -28,20 +30,26 @@ returns-in-Ok-Run-clause-opens g c = c.run_input.ensures.opens (map string_bytes
 pub returns-in-Ok-Recover-clause-outcome : goal.returns-in-Ok-Recover-clause-outcome
 returns-in-Ok-Recover-clause-outcome g c =
     let words = map string_bytes c.args.words.now in
-    let u : Use = use_of words (reading_of g.I.Source.left g.I.Source.faults c.args.input.now c.args.input.now)
-    (writing_of g.O.Sink.taken g.O.Sink.faults c.args.out c.print_recovered-status.new.out) (writing_of g.T.Sink.taken g.T.Sink.faults c.args.trace.now c.args.trace.now) c.new.result.items
-    (devices_of g.D.LogDev.told g.D.LogDev.faults c.args.logs.now.items) (devices_of g.D.LogDev.told g.D.LogDev.faults c.print_recovered-status.new.devices.items) in
-    recover_outcome c.one_command.ensures u c.print_recovered-status.result (subst (λ (k : Command). IsCommand words k) c.in-Ok-Recover.field-0-is c.in-Ok-Recover.ensures) (Keeps-refl _)
-    c.new.ensures.items (Keeps-refl _) c.print_recovered-status.ensures.opened c.print_recovered-status.ensures.safe c.print_recovered-status.ensures.answer
+    let reading = reading_of g.I.Source c.args.input.now c.args.input.now in
+    let call = c.call.inside in
+    let end = c.print_recovered-status in
+    let kept = c.new.result.items in
+    let before : CallState g.row.D.Denot g.row.T.Denot = call_of g.D.LogDev g.O.Sink g.T.Sink call.logs call.out call.trace in
+    let after : CallState g.row.D.Denot g.row.T.Denot = call_of g.D.LogDev g.O.Sink g.T.Sink end.new.devices end.new.out call.trace in
+    subst (λ (x : CallState g.row.D.Denot g.row.T.Denot). IsOutcome (use_of words reading x after kept) end.result) c.call.view_is
+    (recover_outcome c.one_command.ensures (use_of words reading before after kept) end.result (subst (λ (k : Command). IsCommand words k) c.in-Ok-Recover.field-0-is c.in-Ok-Recover.ensures) (Keeps-refl _) c.new.ensures.items (Keeps-refl _) end.ensures.opened end.ensures.safe end.ensures.answer)
 
 pub returns-in-Ok-Migrate-clause-outcome : goal.returns-in-Ok-Migrate-clause-outcome
 returns-in-Ok-Migrate-clause-outcome g c =
     let words = map string_bytes c.args.words.now in
-    let u : Use = use_of words (reading_of g.I.Source.left g.I.Source.faults c.args.input.now c.args.input.now)
-    (writing_of g.O.Sink.taken g.O.Sink.faults c.args.out c.print_migrated-status.new.out) (writing_of g.T.Sink.taken g.T.Sink.faults c.args.trace.now c.args.trace.now) c.new-in-Ok-Migrate.result.items
-    (devices_of g.D.LogDev.told g.D.LogDev.faults c.args.logs.now.items) (devices_of g.D.LogDev.told g.D.LogDev.faults c.print_migrated-status.new.devices.items) in
-    migrate_outcome c.one_command.ensures u c.print_migrated-status.result (subst (λ (k : Command). IsCommand words k) c.in-Ok-Migrate.field-0-is c.in-Ok-Migrate.ensures) (Keeps-refl _)
-    c.new-in-Ok-Migrate.ensures.items (Keeps-refl _) c.print_migrated-status.ensures.safe c.print_migrated-status.ensures.answer
+    let reading = reading_of g.I.Source c.args.input.now c.args.input.now in
+    let call = c.call-in-Ok-Migrate.inside in
+    let end = c.print_migrated-status in
+    let kept = c.new-in-Ok-Migrate.result.items in
+    let before : CallState g.row.D.Denot g.row.T.Denot = call_of g.D.LogDev g.O.Sink g.T.Sink call.logs call.out call.trace in
+    let after : CallState g.row.D.Denot g.row.T.Denot = call_of g.D.LogDev g.O.Sink g.T.Sink end.new.devices end.new.out call.trace in
+    subst (λ (x : CallState g.row.D.Denot g.row.T.Denot). IsOutcome (use_of words reading x after kept) end.result) c.call-in-Ok-Migrate.view_is
+    (migrate_outcome c.one_command.ensures (use_of words reading before after kept) end.result (subst (λ (k : Command). IsCommand words k) c.in-Ok-Migrate.field-0-is c.in-Ok-Migrate.ensures) (Keeps-refl _) c.new-in-Ok-Migrate.ensures.items (Keeps-refl _) end.ensures.safe end.ensures.answer)
 
 -- ---- a generated text is printed
 
@@ -50,15 +58,22 @@ print_generated-status-requires g c = (subst (λ (k : Command). IsCommand (map s
 
 pub returns-in-Ok-Gen-clause-outcome : goal.returns-in-Ok-Gen-clause-outcome
 returns-in-Ok-Gen-clause-outcome g c =
-    let u : Use = use_of (map string_bytes c.args.words.now) (reading_of g.I.Source.left g.I.Source.faults c.args.input.now c.args.input.now)
-    (writing_of g.O.Sink.taken g.O.Sink.faults c.args.out c.print_generated-status.new.out) (writing_of g.T.Sink.taken g.T.Sink.faults c.args.trace.now c.args.trace.now) c.new-in-Ok-Gen.result.items
-    (devices_of g.D.LogDev.told g.D.LogDev.faults c.args.logs.now.items) (devices_of g.D.LogDev.told g.D.LogDev.faults c.args.logs.now.items) in
-    gen_outcome c.one_command.ensures u c.in-Ok-Gen.count c.in-Ok-Gen.seed c.print_generated-status.result
-    (subst (λ (k : Command). IsCommand (map string_bytes c.args.words.now) k) c.in-Ok-Gen.field-0-is c.in-Ok-Gen.ensures) (Keeps-refl _)
-    (record { kept = c.new-in-Ok-Gen.ensures.items; trace = Keeps-refl _; devices = refl }) c.print_generated-status.ensures.answer
+    let words = map string_bytes c.args.words.now in
+    let reading = reading_of g.I.Source c.args.input.now c.args.input.now in
+    let call = c.call-in-Ok-Gen.inside in
+    let end = c.print_generated-status in
+    let kept = c.new-in-Ok-Gen.result.items in
+    let before : CallState g.row.D.Denot g.row.T.Denot = call_of g.D.LogDev g.O.Sink g.T.Sink call.logs call.out call.trace in
+    let after : CallState g.row.D.Denot g.row.T.Denot = call_of g.D.LogDev g.O.Sink g.T.Sink call.logs end.new.out call.trace in
+    subst (λ (x : CallState g.row.D.Denot g.row.T.Denot). IsOutcome (use_of words reading x after kept) end.result) c.call-in-Ok-Gen.view_is
+    (gen_outcome c.one_command.ensures (use_of words reading before after kept) c.in-Ok-Gen.count c.in-Ok-Gen.seed end.result (subst (λ (k : Command). IsCommand words k) c.in-Ok-Gen.field-0-is c.in-Ok-Gen.ensures) (Keeps-refl _)
+    (record { kept = c.new-in-Ok-Gen.ensures.items; trace = Keeps-refl _; devices = refl }) end.ensures.answer)
 
 pub returns-in-Ok-Gen-clause-out_once : goal.returns-in-Ok-Gen-clause-out_once
-returns-in-Ok-Gen-clause-out_once g c = surely _ _ _ _ (λ stood. stood.0) c.print_generated-status.ensures.once
+returns-in-Ok-Gen-clause-out_once g c =
+    let end = c.print_generated-status in
+    subst (λ (x : CallState g.row.D.Denot g.row.T.Denot). EndsAtFault (OutStood end.result) x.output.faults x.output.late (g.O.Sink.faults end.new.out) (g.O.Sink.late end.new.out)) c.call-in-Ok-Gen.view_is
+    (surely _ _ _ _ (λ stood. stood.0) end.ensures.once)
 
 pub returns-in-Ok-Gen-clause-opens : goal.returns-in-Ok-Gen-clause-opens
 returns-in-Ok-Gen-clause-opens g c = λ text w records o t.
@@ -76,10 +91,8 @@ run_generated-requires-clause-few g c = (subst (λ (k : Command). IsCommand (map
 pub returns-in-Ok-Bench-clause-outcome : goal.returns-in-Ok-Bench-clause-outcome
 returns-in-Ok-Bench-clause-outcome g c =
     let words = map string_bytes c.args.words.now in
-    let reading = reading_of g.I.Source.left g.I.Source.faults c.args.input.now c.args.input.now in
-    let u : Use = use_of words reading (writing_of g.O.Sink.taken g.O.Sink.faults c.args.out c.run_generated.result.out)
-    (writing_of g.T.Sink.taken g.T.Sink.faults c.args.trace.now c.run_generated.new.trace) c.run_generated.result.kept.items
-    (devices_of g.D.LogDev.told g.D.LogDev.faults c.args.logs.now.items) (devices_of g.D.LogDev.told g.D.LogDev.faults c.run_generated.new.logs.items) in
+    let reading = reading_of g.I.Source c.args.input.now c.args.input.now in
+    let u : Use = use_of words reading c.args.call c.run_generated.result.call c.run_generated.result.kept.items in
     let own = subst (λ (k : Command). IsCommand words k) c.in-Ok-Bench.field-0-is c.in-Ok-Bench.ensures in
     let alone = subst (λ (n : ℕ). IsBench words c.in-Ok-Bench.count c.in-Ok-Bench.seed n)
     (asked c.one_command.ensures words 0 (Bench c.in-Ok-Bench.count c.in-Ok-Bench.seed c.in-Ok-Bench.field-0-2) c.requires.alone own) own in
@@ -93,7 +106,7 @@ returns-in-Ok-Bench-clause-opens g c = λ text w records o t.
 pub returns-in-Ok-Bench-clause-opens_bench : goal.returns-in-Ok-Bench-clause-opens_bench
 returns-in-Ok-Bench-clause-opens_bench g c = λ count seed workers w records o bench may.
     let words = map string_bytes c.args.words.now in
-    let reading = reading_of g.I.Source.left g.I.Source.faults c.args.input.now c.args.input.now in
+    let reading = reading_of g.I.Source c.args.input.now c.args.input.now in
     let own = subst (λ (k : Command). IsCommand words k) c.in-Ok-Bench.field-0-is c.in-Ok-Bench.ensures in
     c.run_generated.ensures.opens words reading w records o (same_measure c.one_command.ensures _ words count seed workers c.in-Ok-Bench.count c.in-Ok-Bench.seed _ w records o bench own may)
 
@@ -103,18 +116,22 @@ returns-in-Ok-Bench-clause-out_once g c = surely _ _ _ _ (λ stood. stood.0) c.r
 -- ---- what the logs recover to is printed
 
 pub returns-in-Ok-Recover-clause-out_once : goal.returns-in-Ok-Recover-clause-out_once
-returns-in-Ok-Recover-clause-out_once g c = surely _ _ _ _ (λ stood. stood.0) c.print_recovered-status.ensures.once
+returns-in-Ok-Recover-clause-out_once g c =
+    let end = c.print_recovered-status in
+    subst (λ (x : CallState g.row.D.Denot g.row.T.Denot). EndsAtFault (OutStood end.result) x.output.faults x.output.late (g.O.Sink.faults end.new.out) (g.O.Sink.late end.new.out)) c.call.view_is
+    (surely _ _ _ _ (λ stood. stood.0) end.ensures.once)
 
 -- ---- the logs are made ones of format 2
 
 pub returns-in-Ok-Migrate-clause-out_once : goal.returns-in-Ok-Migrate-clause-out_once
-returns-in-Ok-Migrate-clause-out_once g c = surely _ _ _ _ (λ stood. stood.0) c.print_migrated-status.ensures.once
+returns-in-Ok-Migrate-clause-out_once g c =
+    let end = c.print_migrated-status in
+    subst (λ (x : CallState g.row.D.Denot g.row.T.Denot). EndsAtFault (OutStood end.result) x.output.faults x.output.late (g.O.Sink.faults end.new.out) (g.O.Sink.late end.new.out)) c.call-in-Ok-Migrate.view_is
+    (surely _ _ _ _ (λ stood. stood.0) end.ensures.once)
 
 -- ---- the words are no form
 
 pub returns-in-Err-clause-outcome : goal.returns-in-Err-clause-outcome
 returns-in-Err-clause-outcome g c =
-    let u : Use = use_of (map string_bytes c.args.words.now) (reading_of g.I.Source.left g.I.Source.faults c.args.input.now c.args.input.now)
-    (writing_of g.O.Sink.taken g.O.Sink.faults c.args.out c.args.out) (writing_of g.T.Sink.taken g.T.Sink.faults c.args.trace.now c.args.trace.now) c.new-in-Err.result.items
-    (devices_of g.D.LogDev.told g.D.LogDev.faults c.args.logs.now.items) (devices_of g.D.LogDev.told g.D.LogDev.faults c.args.logs.now.items) in
+    let u : Use = use_of (map string_bytes c.args.words.now) (reading_of g.I.Source c.args.input.now c.args.input.now) c.args.call c.args.call c.new-in-Err.result.items in
     usage_outcome u c.in-Err.word c.in-Err.ensures (Keeps-refl _) (record { kept = c.new-in-Err.ensures.items; out = Keeps-refl _; trace = Keeps-refl _; devices = refl })

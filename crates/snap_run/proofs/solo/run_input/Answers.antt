@@ -1,5 +1,3 @@
-use Rattle.log_opening.specs.Devices.{devices_of}
-use Rattle.run_work.specs.Writings.{writing_of}
 use Rattle.snap_run.proofs.Outcomes.{run_outcome, run_not_of_logs}
 use Rattle.snap_run.proofs.solo.run_input.Goals as goal
 use Rattle.snap_run.specs.Uses.{Use, reading_of, use_of}
@@ -8,16 +6,12 @@ use Rattle.snap_outside.proofs.AtFault.{surely}
 
 pub returns-in-Ok-clause-outcome : goal.returns-in-Ok-clause-outcome
 returns-in-Ok-clause-outcome g c = λ words run.
-    let u : Use = use_of words (reading_of g.I.Source.left g.I.Source.faults c.args.input.now c.read_work.new.input) (writing_of g.O.Sink.taken g.O.Sink.faults c.args.out c.run_work.result.out)
-    (writing_of g.T.Sink.taken g.T.Sink.faults c.args.trace.now c.run_work.new.trace) c.run_work.result.kept.items
-    (devices_of g.D.LogDev.told g.D.LogDev.faults c.args.logs.now.items) (devices_of g.D.LogDev.told g.D.LogDev.faults c.run_work.new.devices.items) in
+    let u : Use = use_of words (reading_of g.I.Source c.args.input.now c.read_work.new.input) c.args.call c.run_work.result.call c.run_work.result.kept.items in
     run_outcome c.one_command.ensures u 0 c.args.seed (work_of c.in-Ok.work) c.run_work.result.status run c.in-Ok.ensures.answer c.run_work.ensures.answer
 
 pub returns-in-Ok-clause-opens : goal.returns-in-Ok-clause-opens
 returns-in-Ok-clause-opens g c = λ words.
-    let u : Use = use_of words (reading_of g.I.Source.left g.I.Source.faults c.args.input.now c.read_work.new.input) (writing_of g.O.Sink.taken g.O.Sink.faults c.args.out c.run_work.result.out)
-    (writing_of g.T.Sink.taken g.T.Sink.faults c.args.trace.now c.run_work.new.trace) c.run_work.result.kept.items
-    (devices_of g.D.LogDev.told g.D.LogDev.faults c.args.logs.now.items) (devices_of g.D.LogDev.told g.D.LogDev.faults c.run_work.new.devices.items) in
+    let u : Use = use_of words (reading_of g.I.Source c.args.input.now c.read_work.new.input) c.args.call c.run_work.result.call c.run_work.result.kept.items in
     run_not_of_logs c.one_work.ensures u (work_of c.in-Ok.work) c.run_work.result.status c.run_work.ensures.opens c.in-Ok.ensures.answer
 
 pub returns-in-Ok-clause-input_once : goal.returns-in-Ok-clause-input_once

@@ -6,10 +6,10 @@ use Rattle.snap_run.proofs.works.print_generated.Goals as goal
 
 pub returns-then-is_err-clause-answer : goal.returns-then-is_err-clause-answer
 returns-then-is_err-clause-answer g c =
-    let out : Writing = writing_of g.O.Sink.taken g.O.Sink.faults c.args.out.now c.write_all.new.out in
+    let out : Writing = writing_of g.O.Sink c.args.out.now c.write_all.new.out in
     subst (λ bytes. IsGenAnswer bytes out status.OutFault) (c.as_slice.ensures.value ∙ c.in-Ok.ensures) (search rules)
 
 pub returns-clause-answer : goal.returns-clause-answer
 returns-clause-answer g c =
-    let out : Writing = writing_of g.O.Sink.taken g.O.Sink.faults c.args.out.now c.write_all.new.out in
+    let out : Writing = writing_of g.O.Sink c.args.out.now c.write_all.new.out in
     subst (λ bytes. Writes out bytes) (c.as_slice.ensures.value ∙ c.in-Ok.ensures) (search rules)

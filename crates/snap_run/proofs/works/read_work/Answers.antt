@@ -10,14 +10,14 @@ returns-in-Ok-parse_work-clause-limits g c = c.transactions_may_run.ensures _ _ 
 
 pub returns-in-Ok-parse_work-clause-answer : goal.returns-in-Ok-parse_work-clause-answer
 returns-in-Ok-parse_work-clause-answer g c =
-    let r : Reading = reading_of g.I.Source.left g.I.Source.faults c.args.input.now c.read_input.new.input in
+    let r : Reading = reading_of g.I.Source c.args.input.now c.read_input.new.input in
     of_text r c.as_slice.result.now (work_of c.in-Ok-parse_work.work) c.in-Ok-parse_work.ensures.found (c.a_work_is_short.ensures _ _ c.in-Ok-parse_work.ensures.found)
     (subst (Consumes (g.I.Source.left c.args.input.now) (g.I.Source.left c.read_input.new.input)) (sym c.as_slice.ensures.value) c.in-Ok.ensures.moved)
     (subst (λ l. length l ≤ 8388608 → IsAtEnd (g.I.Source.left c.read_input.new.input)) (sym c.as_slice.ensures.value) c.in-Ok.ensures.whole)
 
 pub returns-in-Err-Fault-parse_work-clause-answer : goal.returns-in-Err-Fault-parse_work-clause-answer
 returns-in-Err-Fault-parse_work-clause-answer g c =
-    let r : Reading = reading_of g.I.Source.left g.I.Source.faults c.args.input.now c.read_input.new.input in
+    let r : Reading = reading_of g.I.Source c.args.input.now c.read_input.new.input in
     let is = ap Err c.in-Err-Fault-parse_work.field-0-is in
     let moved = subst (Consumes (g.I.Source.left c.args.input.now) (g.I.Source.left c.read_input.new.input)) (sym c.as_slice.ensures.value) c.in-Ok.ensures.moved in
     let whole = subst (λ l. length l ≤ 8388608 → IsAtEnd (g.I.Source.left c.read_input.new.input)) (sym c.as_slice.ensures.value) c.in-Ok.ensures.whole in (
