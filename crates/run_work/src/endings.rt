@@ -47,7 +47,8 @@ pub(crate) fn end_run<O: Sink, T: Sink>(
     (kept, status)
 }
 
-/// The same, but for the trace.
+/// Prints what comes behind the replies of the run that a host left so, or what is printed where no run began. The events that
+/// were taken come back, and how the call ends if its trace is written.
 fn end_untraced<O: Sink>(
     alloc: Global,
     told: Told,
@@ -75,7 +76,7 @@ fn end_untraced<O: Sink>(
     }
 }
 
-/// The same, where a run began. Where the output failed too, nothing comes behind.
+/// Prints what comes behind the replies of a run that a host ended so. Where the output failed too, nothing comes behind.
 fn end_hosted<O: Sink>(
     alloc: Global,
     told: Told,
@@ -100,7 +101,7 @@ fn end_hosted<O: Sink>(
     }
 }
 
-/// The same, where all replies are printed.
+/// Prints what comes behind the replies of a run, all of which are printed. With no memory for a core nothing comes behind.
 fn end_whole<O: Sink>(
     alloc: Global,
     told: Told,
@@ -123,7 +124,7 @@ fn end_whole<O: Sink>(
     }
 }
 
-/// The same, where there is a core.
+/// Prints what comes behind the replies of a run that has come to this core.
 fn tell<O: Sink>(
     alloc: Global,
     told: Told,

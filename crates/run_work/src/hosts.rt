@@ -47,7 +47,7 @@ pub(crate) struct HostRan<D, O> {
     pub out: O,
 }
 
-/// What it leaves of open logs.
+/// What a host leaves of open logs.
 struct OnLogs<D: LogDev, O> {
     hosted: Hosted,
     logs: Vec<Log<D>>,
@@ -93,7 +93,7 @@ pub(crate) fn host_work<D: LogDev, O: Sink>(
     }
 }
 
-/// The same on its open logs, from the opening with which it begins.
+/// Takes the events of a work on its open logs, from the opening with which it begins, by the schedule of the seed.
 fn host_on_logs<D: LogDev, O: Sink>(
     alloc: Global,
     work: Work,
@@ -219,7 +219,7 @@ pub(crate) fn host_crew<
     }
 }
 
-/// The same on its open logs, from the opening with which it begins.
+/// Lets so many workers take the events of a work on its open logs, from the opening with which it begins.
 fn crew_on_logs<
     R: Threads + Wait + Sync,
     D: LogDev + Drop + Send,

@@ -82,7 +82,9 @@ pub fn run_work<D: LogDev, O: Sink, T: Sink>(
     }
 }
 
-/// The same by so many workers, each of which takes the events that it comes to. Whether it returns is not promised.
+/// Runs a work on the machine by so many workers, each of which takes the events that it comes to, and prints its report, or its
+/// summary alone. Its logs lie on the first devices of the call; the others get no call. The events that were taken come back; a
+/// line of each is written to the trace at the end. Whether it returns is not promised.
 pub fn crew_work<
     R: Threads + Wait + Sync,
     D: LogDev + Drop + Send,
