@@ -36,7 +36,7 @@ not_voted a = record { actor = a; prepared = false; vouched = false; finished = 
 -- ACT t ended on these actors
 abbrev pub votes_begin : ℕ → TxResult → List ℕ → Book → Book
 votes_begin t r actors b = record b {
-  acts = b.acts ++ record { tid = t; tx = 0; m = 0; n = None; places = map not_voted actors; result = Some r; status = Live } ∷ [];
+  acts = b.acts ++ record { tid = t; tx = 0; reader = false; m = 0; n = None; places = map not_voted actors; result = Some r; status = Live } ∷ [];
 }
 
 -- ---- the book that they make

@@ -3,15 +3,16 @@
 use Rattle.std.specs.Prelude.{ℕ, max, Bool, not, if◌then◌else◌, Option, List, ◌++◌, length, map, filter}
 use Rattle.snap_base.specs.declared.transactions.State.{State}
 use Rattle.protocol.specs.Fixed.{Sliced}
-use Rattle.protocol.specs.Parts.{Act, Cascade, Who, OfBatch, OfAct, SubBatch, ControlMessage, Entry, Image, Waiting, Outcome, Cell}
+use Rattle.protocol.specs.Rivals.{Lock}
+use Rattle.protocol.specs.Parts.{FloorPair, Act, Cascade, Who, OfBatch, OfAct, SubBatch, ControlMessage, Entry, Image, Waiting, Outcome, Cell}
 use Rattle.protocol.specs.Words.{is_batch_entry, is_act_entry, is_who, without_waiting, without_outcome, image_of, batches_on, greatest}
-use Rattle.protocol.specs.OnCell.{batch_entries, act_entries, arrived, where_placed, done_in, complete_in, state_after, outcomes, with_image, state_from, state_before, images_without, inbox_without, outbox_without, staying, is_undone_act, floor_after}
+use Rattle.protocol.specs.OnCell.{batch_entries, act_entries, arrived, where_placed, done_in, complete_in, state_after, outcomes, images_after, state_from, state_before, images_without, inbox_without, outbox_without, staying, is_undone_act, floors_after}
 
 -- the actor's state, what it was when entries first ran, and the floor for who comes
 pub record Store : Type 0 where
   pub state : State
   pub images : List Image
-  pub floor : ℕ
+  pub floors : FloorPair
 
 -- batches and ACTs in the order in which they stand, and how far batches are
 pub record HybridSchedule : Type 0 where
@@ -34,7 +35,7 @@ cell_of s h b = record {
   last = h.last;
   last_trimmed = h.last_trimmed;
   tail = h.tail;
-  floor = s.floor;
+  floors = s.floors;
   entries = h.entries;
   inbox = b.inbox;
   outbox = b.outbox;
@@ -42,9 +43,9 @@ cell_of s h b = record {
 
 -- ---- the store
 
--- a slice of this one ran, and left this
-abbrev pub ran : {C : Type 0} → Who → Option (Sliced C) → Store → Store
-ran who x s = record s { state = state_after s.state x; images = with_image who s.state s.images }
+-- a slice of this one ran, which only reads or not, and left this
+abbrev pub ran : {C : Type 0} → Bool → Who → Option (Sliced C) → Store → Store
+ran reads who x s = record s { state = state_after s.state x; images = images_after reads who s.state s.images }
 
 -- what these entries did is undone
 abbrev pub with_undone : List Entry → Store → Store
@@ -55,7 +56,7 @@ abbrev pub parted : ℕ → Option Act → Store → Store
 parted t x s = record {
   state = if is_undone_act x then state_from s.state (image_of (OfAct t) s.images) else s.state;
   images = filter (λ i. not (is_who (OfAct t) i.who)) s.images;
-  floor = floor_after s.floor x;
+  floors = floors_after s.floors x;
 }
 
 -- a settled batch leaves
@@ -67,8 +68,8 @@ without_image k s = record s { images = filter (λ i. not (is_who (OfBatch k) i.
 abbrev pub with_batch : ℕ → Option SubBatch → HybridSchedule → HybridSchedule
 with_batch k m h = record h { entries = h.entries ++ batch_entries k m; tail = k; last = k }
 
-abbrev pub with_act : ℕ → Option ℕ → HybridSchedule → HybridSchedule
-with_act t older h = record h { entries = h.entries ++ act_entries t older }
+abbrev pub with_act : Lock → Option ℕ → HybridSchedule → HybridSchedule
+with_act x older h = record h { entries = h.entries ++ act_entries x older }
 
 abbrev pub with_done : ℕ → HybridSchedule → HybridSchedule
 with_done t h = record h { entries = map (done_in t) h.entries }

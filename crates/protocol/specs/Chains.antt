@@ -1,7 +1,7 @@
 -- The order in which what committed was placed, the sets of transactions that this order closes, and the serial
 -- order of places.
-use Rattle.std.specs.Prelude.{◌≡◌, ℕ, ◌==◌, nat_lt, Bool, true, ◌&&◌, ◌||◌, if◌then◌else◌, is_some, Some, List, [], ◌∷◌, ◌++◌, map, filter}
-use Rattle.std.specs.List.{flat_map}
+use Rattle.std.specs.Prelude.{◌≡◌, ℕ, ◌==◌, nat_lt, Bool, true, false, ◌&&◌, ◌||◌, if◌then◌else◌, is_some, Some, List, [], ◌∷◌, ◌++◌, map, filter}
+use Rattle.std.specs.List.{AllByRecursion, flat_map}
 use Rattle.snap_base.specs.declared.transactions.State.{State}
 use Rattle.snap_base.specs.declared.transactions.Tx.{Tx}
 use Rattle.snap_base.specs.declared.verdicts.Place.{Place}
@@ -22,7 +22,7 @@ stands_for a who d = is_who who d.who && (is_act_who who || is_some (d.views a))
 abbrev pub chain : ℕ → History → List Done
 chain a h = flat_map (λ who. filter (stands_for a who) h.committed) (h.placed a)
 
--- the first one precedes the second one in a list
+-- the first one precedes the second one in a list, and they are no two readers
 pub record Precedes (t u : ℕ) (chain : List Done) : Type 0 where
   pub first : Done
   pub second : Done
@@ -32,6 +32,8 @@ pub record Precedes (t u : ℕ) (chain : List Done) : Type 0 where
   pub splits : chain ≡ front ++ first ∷ (between ++ second ∷ rest)
   pub is_first : first.tid ≡ t
   pub is_second : second.tid ≡ u
+  -- and they are not both readers
+  pub rivals : (first.reader && second.reader) ≡ false
 
 -- t was placed before u on some actor
 abbrev pub IsBefore : ℕ → ℕ → History → Type 0
@@ -72,6 +74,11 @@ IsBelowAll p (d ∷ ds) = (is_place_below p d.place ≡ true) × IsBelowAll p ds
 abbrev pub PlacesRise : List Done → Type 0
 PlacesRise [] = Unit {0}
 PlacesRise (d ∷ ds) = IsBelowAll d.place ds × PlacesRise ds
+
+-- of each and one that follows it, but for two readers, the place is below
+abbrev pub RivalsRise : List Done → Type 0
+RivalsRise [] = Unit {0}
+RivalsRise (d ∷ ds) = AllByRecursion (λ e. (d.reader && e.reader) ≡ false → is_place_below d.place e.place ≡ true) ds × RivalsRise ds
 
 -- ---- the serial run of what committed
 

@@ -2,7 +2,7 @@
 use Rattle.std.specs.Prelude.{◌≡◌, ℕ, Bool, false, List, [], ◌∷◌, map}
 use Rattle.protocol.specs.Parts.{Entry, BatchEntry, ActEntry, Machine}
 use Rattle.protocol.specs.Events.{Event, Submit, Pass, Form, Admit, Arrive, Ask, Take, Run, Send, End, Close, Complete, Sync, Note, Commit, Settle, Abort, Rollback, DropSub, DropControl, Prepare, Vouch, Decide, Seal, Finish, Reply, Trim}
-use Rattle.protocol.specs.Words.{is_among, who_of}
+use Rattle.protocol.specs.Words.{is_among, is_reader_entry, who_of}
 
 pub data Content : Type 0 where
   -- the ring
@@ -20,6 +20,7 @@ pub data Content : Type 0 where
   Pairs : Content
   ActTids : Content
   ActTxs : Content
+  ActReaders : Content
   Befores : Content
   Afters : Content
   ActActors : Content
@@ -56,6 +57,7 @@ pub data Content : Type 0 where
   Floors : Content
   EntryOwners : Content
   EntryTids : Content
+  EntryReaders : Content
   DoneMarks : Content
   CompleteMarks : Content
   Inboxes : Content
@@ -90,6 +92,7 @@ IsSame Cascades s t = t.book.cascades ≡ s.book.cascades
 IsSame Pairs s t = t.book.pairs ≡ s.book.pairs
 IsSame ActTids s t = map (λ x. x.tid) t.book.acts ≡ map (λ x. x.tid) s.book.acts
 IsSame ActTxs s t = map (λ x. x.tx) t.book.acts ≡ map (λ x. x.tx) s.book.acts
+IsSame ActReaders s t = map (λ x. x.reader) t.book.acts ≡ map (λ x. x.reader) s.book.acts
 IsSame Befores s t = map (λ x. x.m) t.book.acts ≡ map (λ x. x.m) s.book.acts
 IsSame Afters s t = map (λ x. x.n) t.book.acts ≡ map (λ x. x.n) s.book.acts
 IsSame ActActors s t = map (λ x. map (λ p. p.actor) x.places) t.book.acts ≡ map (λ x. map (λ p. p.actor) x.places) s.book.acts
@@ -119,9 +122,10 @@ IsSame CellEpochs s t = map (λ c. c.epoch) t.cells ≡ map (λ c. c.epoch) s.ce
 IsSame LastPlaced s t = map (λ c. c.last) t.cells ≡ map (λ c. c.last) s.cells
 IsSame LastTrimmed s t = map (λ c. c.last_trimmed) t.cells ≡ map (λ c. c.last_trimmed) s.cells
 IsSame Tails s t = map (λ c. c.tail) t.cells ≡ map (λ c. c.tail) s.cells
-IsSame Floors s t = map (λ c. c.floor) t.cells ≡ map (λ c. c.floor) s.cells
+IsSame Floors s t = map (λ c. c.floors) t.cells ≡ map (λ c. c.floors) s.cells
 IsSame EntryOwners s t = map (λ c. map who_of c.entries) t.cells ≡ map (λ c. map who_of c.entries) s.cells
 IsSame EntryTids s t = map (λ c. map slot_tids c.entries) t.cells ≡ map (λ c. map slot_tids c.entries) s.cells
+IsSame EntryReaders s t = map (λ c. map is_reader_entry c.entries) t.cells ≡ map (λ c. map is_reader_entry c.entries) s.cells
 IsSame DoneMarks s t = map (λ c. map slot_marks c.entries) t.cells ≡ map (λ c. map slot_marks c.entries) s.cells
 IsSame CompleteMarks s t = map (λ c. map complete_mark c.entries) t.cells ≡ map (λ c. map complete_mark c.entries) s.cells
 IsSame Inboxes s t = map (λ c. c.inbox) t.cells ≡ map (λ c. c.inbox) s.cells
@@ -134,9 +138,9 @@ abbrev pub changes : Event → List Content
 changes (Submit n) = NextTx ∷ PactQueues ∷ ActQueues ∷ []
 changes (Pass c) = Holder ∷ []
 changes (Form k) = NextTid ∷ NextBid ∷ Lasts ∷ PactQueues ∷ Subs ∷ Controls ∷ Bids ∷ BatchActors ∷ BatchTids ∷ BatchTxs ∷ NotedMarks ∷ TrimmedMarks ∷ PactResults ∷ Stages ∷ AbortedMarks ∷ Records ∷ []
-changes (Admit t) = NextTid ∷ ActQueues ∷ ActTids ∷ ActTxs ∷ Befores ∷ Afters ∷ ActActors ∷ PreparedMarks ∷ VouchedMarks ∷ FinishedMarks ∷ ActResults ∷ Statuses ∷ Controls ∷ []
-changes (Arrive k a) = Afters ∷ Statuses ∷ Subs ∷ LastPlaced ∷ Tails ∷ EntryOwners ∷ EntryTids ∷ DoneMarks ∷ CompleteMarks ∷ []
-changes (Ask t a) = Befores ∷ ActActors ∷ PreparedMarks ∷ VouchedMarks ∷ FinishedMarks ∷ Statuses ∷ Pairs ∷ Controls ∷ EntryOwners ∷ EntryTids ∷ DoneMarks ∷ CompleteMarks ∷ Inboxes ∷ []
+changes (Admit t) = NextTid ∷ ActQueues ∷ ActTids ∷ ActTxs ∷ ActReaders ∷ Befores ∷ Afters ∷ ActActors ∷ PreparedMarks ∷ VouchedMarks ∷ FinishedMarks ∷ ActResults ∷ Statuses ∷ Controls ∷ []
+changes (Arrive k a) = Afters ∷ Statuses ∷ Subs ∷ LastPlaced ∷ Tails ∷ EntryOwners ∷ EntryTids ∷ EntryReaders ∷ DoneMarks ∷ CompleteMarks ∷ []
+changes (Ask t a) = Befores ∷ ActActors ∷ PreparedMarks ∷ VouchedMarks ∷ FinishedMarks ∷ Statuses ∷ Pairs ∷ Controls ∷ EntryOwners ∷ EntryTids ∷ EntryReaders ∷ DoneMarks ∷ CompleteMarks ∷ Inboxes ∷ []
 changes (Take t a) = Controls ∷ Inboxes ∷ []
 changes (Run t a) = States ∷ Images ∷ DoneMarks ∷ Inboxes ∷ Outboxes ∷ []
 changes (Send t a) = Controls ∷ Outboxes ∷ []
@@ -148,16 +152,16 @@ changes (Note k a) = NotedMarks ∷ []
 changes (Commit k) = Stages ∷ Records ∷ []
 changes (Settle k) = Stages ∷ SettledBatch ∷ []
 changes (Abort k) = RingEpoch ∷ Lasts ∷ Cascades ∷ Afters ∷ Statuses ∷ AbortedMarks ∷ []
-changes (Rollback a) = States ∷ Images ∷ CellEpochs ∷ LastPlaced ∷ Tails ∷ EntryOwners ∷ EntryTids ∷ DoneMarks ∷ CompleteMarks ∷ Inboxes ∷ Outboxes ∷ []
+changes (Rollback a) = States ∷ Images ∷ CellEpochs ∷ LastPlaced ∷ Tails ∷ EntryOwners ∷ EntryTids ∷ EntryReaders ∷ DoneMarks ∷ CompleteMarks ∷ Inboxes ∷ Outboxes ∷ []
 changes (DropSub k a) = Subs ∷ []
 changes (DropControl t) = Controls ∷ []
 changes (Prepare t a) = PreparedMarks ∷ Records ∷ []
 changes (Vouch t a) = VouchedMarks ∷ []
 changes (Decide t) = NextC ∷ Statuses ∷ Records ∷ []
 changes (Seal t) = Statuses ∷ []
-changes (Finish t a) = FinishedMarks ∷ Pairs ∷ States ∷ Images ∷ Floors ∷ EntryOwners ∷ EntryTids ∷ DoneMarks ∷ CompleteMarks ∷ Inboxes ∷ Outboxes ∷ []
+changes (Finish t a) = FinishedMarks ∷ Pairs ∷ States ∷ Images ∷ Floors ∷ EntryOwners ∷ EntryTids ∷ EntryReaders ∷ DoneMarks ∷ CompleteMarks ∷ Inboxes ∷ Outboxes ∷ []
 changes (Reply n) = Replied ∷ []
-changes (Trim k a) = TrimmedMarks ∷ Images ∷ LastTrimmed ∷ EntryOwners ∷ EntryTids ∷ DoneMarks ∷ CompleteMarks ∷ []
+changes (Trim k a) = TrimmedMarks ∷ Images ∷ LastTrimmed ∷ EntryOwners ∷ EntryTids ∷ EntryReaders ∷ DoneMarks ∷ CompleteMarks ∷ []
 
 abbrev pub number : Content → ℕ
 number Holder = 0
@@ -209,6 +213,8 @@ number DoneMarks = 45
 number CompleteMarks = 46
 number Inboxes = 47
 number Outboxes = 48
+number ActReaders = 49
+number EntryReaders = 50
 
 abbrev pub is_changed : Content → Event → Bool
 is_changed c e = is_among (number c) (map number (changes e))

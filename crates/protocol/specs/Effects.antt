@@ -1,10 +1,10 @@
 -- What each event makes of a state: each part that it names becomes what the event makes of it, from the
 -- parts of the event's footprint, and nothing else changes.
 use Rattle.std.specs.Prelude.{ℕ, ◌-◌, ◌%◌, nat_le, max, if◌then◌else◌, Option, Some, None, List, [], ◌∷◌, ◌++◌, length, map, slice_set, slice_index_or}
-use Rattle.protocol.specs.Fixed.{Fixed, base, no_state}
+use Rattle.protocol.specs.Fixed.{Fixed, base, no_state, is_reader}
 use Rattle.protocol.specs.Records.{LogRecord, BatchInfo, BatchComplete, BatchDone, ActPrepare, ActDone}
 use Rattle.protocol.specs.Parts.{Act, Log, Cell, Machine}
-use Rattle.protocol.specs.Words.{is_value, value_of, values_of, act_of, batch_of, sub_of, control_of, who_on, outcome_of, has_act}
+use Rattle.protocol.specs.Words.{is_value, value_of, values_of, act_of, batch_of, sub_of, control_of, who_on, outcome_of, has_act, lock_of, floor_at}
 use Rattle.protocol.specs.Events.{Event, Submit, Pass, Form, Admit, Arrive, Ask, Take, Run, Send, End, Close, Complete, Sync, Note, Commit, Settle, Abort, Rollback, DropSub, DropControl, Prepare, Vouch, Decide, Seal, Finish, Reply, Trim}
 use Rattle.protocol.specs.OnRing as ring
 use Rattle.protocol.specs.OnPost as post
@@ -15,7 +15,7 @@ use Rattle.protocol.specs.OnCell as cell
 -- ---- one cell, one log
 
 abbrev pub no_cell : {C : Type 0} → Cell C
-no_cell = record { state = no_state; images = []; epoch = 0; last = 0; last_trimmed = 0; tail = 0; floor = 0; entries = []; inbox = []; outbox = [] }
+no_cell = record { state = no_state; images = []; epoch = 0; last = 0; last_trimmed = 0; tail = 0; floors = record { write = 0; read = 0 }; entries = []; inbox = []; outbox = [] }
 
 abbrev pub cell_at : {C : Type 0} → Machine C → ℕ → Cell C
 cell_at s a = slice_index_or s.cells a no_cell
@@ -68,7 +68,7 @@ after w (Form k) s = record s {
 }
 after w (Admit t) s = record s {
   ring = ring.admitted s.ring;
-  book = book.act_admitted t (post.next_act s.ring) (base w.text) s.book;
+  book = book.act_admitted t (post.next_act s.ring) (is_reader w (post.next_act s.ring)) (base w.text) s.book;
   post = post.posted_act w t (post.next_act s.ring) s.post;
 }
 after w (Arrive k a) s = record s {
@@ -77,9 +77,9 @@ after w (Arrive k a) s = record s {
   cells = puts s a (cell.batch_placed k (sub_of k a s.post.subs) (cell_at s a));
 }
 after w (Ask t a) s = record s {
-  book = book.act_asked (book.in_the_way t (cell_at s a).entries) (book.met t (cell_at s a).entries) t a (max (cell_at s a).last (cell_at s a).floor) s.book;
+  book = book.act_asked (book.in_the_way (lock_of t s.book.acts) (cell_at s a).entries) (book.met (lock_of t s.book.acts) (cell_at s a).entries) t a (max (cell_at s a).last (floor_at t s.book.acts (cell_at s a))) s.book;
   post = post.control_taken t s.post;
-  cells = puts s a (cell.act_placed t (book.in_the_way t (cell_at s a).entries) (control_of t s.post.controls) (cell_at s a));
+  cells = puts s a (cell.act_placed (lock_of t s.book.acts) (book.in_the_way (lock_of t s.book.acts) (cell_at s a).entries) (control_of t s.post.controls) (cell_at s a));
 }
 after w (Take t a) s = record s {
   post = post.control_taken t s.post;

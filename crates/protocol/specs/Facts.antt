@@ -60,6 +60,8 @@ pub record Facts {C : Type 0} (actors : ℕ) (code : Code C) (Allowed : Tx → T
   pub few_visits : (t : ℕ) (tx : Tx) → code.visits_left (code.start t tx) ≤ 127
   pub one_visit : (tx : Tx) (c : C) → Of tx c → 1 ≤ code.visits_left c
   pub visits_fall : (tx : Tx) (c d : C) (s : State) (b : ℕ) → Of tx c → (code.slice c s).next ≡ Go b d → code.visits_left d < code.visits_left c
+  -- what it leaves: a slice of a reader gives back the state that it got
+  pub readers_leave : (tx : Tx) (c : C) (s : State) → code.only_reads tx ≡ true → Of tx c → (code.slice c s).state ≡ s
   -- what it means
   pub only_named_by_tid : (t u : ℕ) (tx : Tx) (world : List State) → finish (code.start t tx) world ≡ finish (code.start u tx) world
   pub slices_keep_the_meaning : (tx : Tx) (c : C) (world : List State) → Of tx c → code.at c < length world →

@@ -34,6 +34,8 @@ pub record Code (C : Type 0) : Type 0 where
   pub visits_left : C → ℕ
   -- runs on the state of the actor on which the control stands, until it leaves the actor or ends
   pub slice : C → State → Sliced C
+  -- the transaction's method only reads: so does each that it calls
+  pub only_reads : Tx → Bool
 
 -- ---- the text, its limits, and what earlier runs left
 
@@ -82,6 +84,10 @@ is_pact tx = is_pact_kind tx.kind
 
 abbrev pub root : Tx → ℕ
 root tx = tx.actor.0
+
+-- transaction n of the text, as an ACT, is a reader
+abbrev pub is_reader : {C : Type 0} → Fixed C → ℕ → Bool
+is_reader w n = w.code.only_reads (tx_at w.text n)
 
 -- the actors that a PACT declares
 abbrev pub declared : Tx → List ℕ

@@ -6,15 +6,15 @@ use Rattle.snap_base.specs.declared.transactions.State.{State}
 use Rattle.snap_base.specs.declared.transactions.TxResult.{TxResult}
 use Rattle.snap_base.specs.declared.verdicts.Place.{Place}
 use Rattle.protocol.specs.Fixed.{Fixed, base}
-use Rattle.protocol.specs.Rivals.{Lock, lock_of, rivals}
+use Rattle.protocol.specs.Rivals.{Lock, rivals}
 use Rattle.protocol.specs.Parts.{Act, Pair, Cascade, Who, OfBatch, OfAct, Pact, Batch, Machine}
 use Rattle.protocol.specs.Events.{Event, Form, Admit, Arrive, Ask, Run, Complete, Commit, Abort, Rollback, Decide, Finish, Trim}
-use Rattle.protocol.specs.Words.{is_among, is_value, is_sealed, is_who, who_on, act_of, batch_of}
+use Rattle.protocol.specs.Words.{is_among, is_value, is_sealed, is_who, who_on, act_of, batch_of, lock_of}
 use Rattle.protocol.specs.Verdicts.{pact_place, act_place}
 use Rattle.protocol.specs.OnRing.{next_pacts}
 use Rattle.protocol.specs.OnPost.{next_act}
 use Rattle.protocol.specs.OnBook.{met, in_the_way, is_doomed_act, new_pairs, tids_on}
-use Rattle.protocol.specs.OnCell.{is_cut, slice_run, is_undone_act}
+use Rattle.protocol.specs.OnCell.{is_cut, slice_run, is_undone_act, reads_on}
 use Rattle.protocol.specs.Effects.{after, cell_at}
 use Rattle.protocol.specs.Runs.{opening}
 
@@ -32,6 +32,8 @@ pub record Done : Type 0 where
   pub tx : ℕ
   pub place : Place
   pub result : Option TxResult
+  -- it is an ACT that only reads
+  pub reader : Bool
   -- at each actor
   pub views : ℕ → Option View
 
@@ -61,16 +63,20 @@ pub record Trail : Type 0 where
 pub record History : Type 0 where
   -- for each actor, who was placed there; nothing leaves it
   pub placed : ℕ → List Who
-  -- for each actor its schedule as if nothing that stays had ever left it
+  -- for each actor its schedule as if nothing that stays had ever left it; of a reader, which leaves what it finds, it has
+  -- no slices, and nothing is left of it when it leaves
   pub long : ℕ → List Ran
+  -- for each actor the slices of readers, in order
+  pub reads : ℕ → List Slice
   -- for each tid its trail
   pub trails : ℕ → Trail
   -- for each tid whose it is: a batch's, or an ACT's own
   pub owners : ℕ → Who
   -- in the order of their Commit and Decide events
   pub committed : List Done
-  -- who committed with a value
+  -- who committed with a value, readers aside, and the readers that did
   pub kept : List Who
+  pub kept_readers : List Who
   -- for each ACT the batches that stand before it, and those that stand behind it
   pub before : ℕ → List ℕ
   pub behind : ℕ → List ℕ
@@ -83,7 +89,9 @@ abbrev pub no_history : History
 no_history = record {
   placed = λ a. [];
   long = λ a. [];
+  reads = λ a. [];
   kept = [];
+  kept_readers = [];
   trails = λ t. record { tx = 0; steps = [] };
   owners = λ t. OfAct t;
   committed = [];
@@ -105,7 +113,7 @@ is_none (Some x) = false
 
 -- the pairs that still carry what an ACT gains
 abbrev pub carrying : List Act → List Pair → List Pair
-carrying acts pairs = filter (λ p. not (is_doomed_act acts (lock_of p.ahead))) pairs
+carrying acts pairs = filter (λ p. not (is_doomed_act acts (lock_of p.ahead acts))) pairs
 
 -- ---- the order of placing
 
@@ -127,6 +135,15 @@ asks t (Some older) = []
 abbrev pub ran_in : Who → Slice → Ran → Ran
 ran_in who x (Stands y c ss) = Stands y c (if is_who y who then ss ++ x ∷ [] else ss)
 ran_in who x (Gone y ss) = Gone y ss
+
+-- what a reader runs does not show there
+abbrev pub read_on : Bool → Slice → List Slice → List Slice
+read_on true x xs = xs ++ x ∷ []
+read_on false x xs = xs
+
+abbrev pub ran_on : Bool → Who → Slice → List Ran → List Ran
+ran_on true who x rs = rs
+ran_on false who x rs = map (ran_in who x) rs
 
 abbrev pub completed : ℕ → Ran → Ran
 completed k (Stands y c ss) = Stands y (c || is_who y (OfBatch k)) ss
@@ -176,6 +193,14 @@ slices_of who [] = []
 slices_of who (Stands y c ss ∷ rs) = if is_who y who then ss else slices_of who rs
 slices_of who (Gone y ss ∷ rs) = slices_of who rs
 
+-- the slices among which those of an ACT are
+abbrev pub slices_for : Bool → ℕ → List Slice → List Ran → List Slice
+slices_for true t reads long = reads
+slices_for false t reads long = slices_of (OfAct t) long
+
+abbrev pub act_view : History → Act → ℕ → Option View
+act_view h x a = view_in x.tid (slices_for x.reader x.tid (h.reads a) (h.long a))
+
 -- ---- sets
 
 abbrev pub batch_in : Who → List ℕ
@@ -195,8 +220,8 @@ sets_of before xs = flat_map (λ x. before x.tid) xs
 -- rivals in the tail group that are not doomed
 abbrev pub asked_set : {C : Type 0} → ℕ → ℕ → Machine C → History → List ℕ
 asked_set t a s h =
-    batches_in (h.long a) ++ (sets_of h.before (filter (rivals (lock_of t)) (h.left_sealed a))
-    ++ sets_of h.before (filter (λ x. not (is_doomed_act s.book.acts x)) (met t (cell_at s a).entries)))
+    batches_in (h.long a) ++ (sets_of h.before (filter (rivals (lock_of t s.book.acts)) (h.left_sealed a))
+    ++ sets_of h.before (filter (λ x. not (is_doomed_act s.book.acts x)) (met (lock_of t s.book.acts) (cell_at s a).entries)))
 
 abbrev pub gained : List Pair → ℕ → (ℕ → List ℕ) → List ℕ
 gained pairs t before = flat_map (λ p. before p.ahead) (filter (λ p. p.behind == t) pairs)
@@ -210,7 +235,7 @@ spread_sets pairs [] before = before
 spread_sets pairs (x ∷ xs) before = gains_over pairs x.tid (spread_sets pairs xs before)
 
 abbrev pub asked_gains : {C : Type 0} → ℕ → ℕ → Machine C → History → List Pair
-asked_gains t a s h = h.gains ++ new_pairs t a (met t (cell_at s a).entries) s.book.acts
+asked_gains t a s h = h.gains ++ new_pairs t a (met (lock_of t s.book.acts) (cell_at s a).entries) s.book.acts
 
 abbrev pub asked_before : {C : Type 0} → Bool → ℕ → ℕ → Machine C → History → ℕ → List ℕ
 asked_before true t a s h = spread_sets (asked_gains t a s h) s.book.acts (with_at t (h.before t ++ asked_set t a s h) h.before)
@@ -227,7 +252,7 @@ behind_too k tids f t = if is_among t tids then f t ++ k ∷ [] else f t
 -- ---- places
 
 abbrev pub done_pact : ℕ → History → Pact → Done
-done_pact k h p = record { who = OfBatch k; tid = p.tid; tx = p.tx; place = pact_place k p.tid; result = p.result; views = λ a. view_in p.tid (slices_of (OfBatch k) (h.long a)) }
+done_pact k h p = record { who = OfBatch k; tid = p.tid; tx = p.tx; place = pact_place k p.tid; result = p.result; reader = false; views = λ a. view_in p.tid (slices_of (OfBatch k) (h.long a)) }
 
 abbrev pub done_batch : ℕ → History → Option Batch → List Done
 done_batch k h None = []
@@ -235,17 +260,29 @@ done_batch k h (Some b) = map (done_pact k h) b.pacts
 
 abbrev pub done_act : ℕ → History → Option Act → List Done
 done_act c h None = []
-done_act c h (Some x) = record { who = OfAct x.tid; tid = x.tid; tx = x.tx; place = act_place x.m c; result = x.result; views = λ a. view_in x.tid (slices_of (OfAct x.tid) (h.long a)) } ∷ []
+done_act c h (Some x) = record { who = OfAct x.tid; tid = x.tid; tx = x.tx; place = act_place x.m c; result = x.result; reader = x.reader; views = act_view h x } ∷ []
 
 abbrev pub kept_act : Option Act → List Who
 kept_act None = []
-kept_act (Some x) = if is_value x.result then OfAct x.tid ∷ [] else []
+kept_act (Some x) = if is_value x.result && not x.reader then OfAct x.tid ∷ [] else []
+
+abbrev pub kept_reader : Option Act → List Who
+kept_reader None = []
+kept_reader (Some x) = if is_value x.result && x.reader then OfAct x.tid ∷ [] else []
 
 -- ---- ACTs that leave
 
+abbrev pub is_reader_act : Option Act → Bool
+is_reader_act None = false
+is_reader_act (Some x) = x.reader
+
+-- nothing of it stays: what it did is undone, or it only read
+abbrev pub is_traceless : Option Act → Bool
+is_traceless x = is_undone_act x || is_reader_act x
+
 abbrev pub seals : ℕ → Option Act → List Lock
 seals t None = []
-seals t (Some x) = if is_sealed x.status then lock_of t ∷ [] else []
+seals t (Some x) = if is_sealed x.status then record { tid = t; reader = x.reader } ∷ [] else []
 
 -- ---- the table: s is the state before the event
 
@@ -259,13 +296,14 @@ grown w (Arrive k a) s h = record h {
   gains = carrying (after w (Arrive k a) s).book.acts h.gains;
 }
 grown w (Ask t a) s h = record h {
-  placed = with_placed a (asks t (in_the_way t (cell_at s a).entries)) h;
-  long = with_long a (asks t (in_the_way t (cell_at s a).entries)) h;
-  before = asked_before (is_none (in_the_way t (cell_at s a).entries)) t a s h;
-  gains = carrying (after w (Ask t a) s).book.acts (gains_after_ask (is_none (in_the_way t (cell_at s a).entries)) t a s h);
+  placed = with_placed a (asks t (in_the_way (lock_of t s.book.acts) (cell_at s a).entries)) h;
+  long = with_long a (asks t (in_the_way (lock_of t s.book.acts) (cell_at s a).entries)) h;
+  before = asked_before (is_none (in_the_way (lock_of t s.book.acts) (cell_at s a).entries)) t a s h;
+  gains = carrying (after w (Ask t a) s).book.acts (gains_after_ask (is_none (in_the_way (lock_of t s.book.acts) (cell_at s a).entries)) t a s h);
 }
 grown w (Run t a) s h = record h {
-  long = with_at a (map (ran_in (who_on t (cell_at s a).entries) (record { tid = t; found = (cell_at s a).state; left = (slice_run w.code t a (cell_at s a)).state })) (h.long a)) h.long;
+  long = with_at a (ran_on (reads_on t (cell_at s a).entries) (who_on t (cell_at s a).entries) (record { tid = t; found = (cell_at s a).state; left = (slice_run w.code t a (cell_at s a)).state }) (h.long a)) h.long;
+  reads = with_at a (read_on (reads_on t (cell_at s a).entries) (record { tid = t; found = (cell_at s a).state; left = (slice_run w.code t a (cell_at s a)).state }) (h.reads a)) h.reads;
   trails = with_at t (gone_on (record { actor = a; found = (cell_at s a).state; left = (slice_run w.code t a (cell_at s a)).state }) (h.trails t)) h.trails;
 }
 grown w (Complete k a) s h = record h { long = with_at a (map (completed k) (h.long a)) h.long }
@@ -275,9 +313,9 @@ grown w (Abort k) s h = record h {
   gains = carrying (after w (Abort k) s).book.acts h.gains;
 }
 grown w (Rollback a) s h = record h { long = with_at a (long_staying s.book.cascades (h.long a)) h.long }
-grown w (Decide t) s h = record h { committed = h.committed ++ done_act s.book.next_c h (act_of t s.book.acts); kept = h.kept ++ kept_act (act_of t s.book.acts) }
+grown w (Decide t) s h = record h { committed = h.committed ++ done_act s.book.next_c h (act_of t s.book.acts); kept = h.kept ++ kept_act (act_of t s.book.acts); kept_readers = h.kept_readers ++ kept_reader (act_of t s.book.acts) }
 grown w (Finish t a) s h = record h {
-  long = with_at a (if is_undone_act (act_of t s.book.acts) then without_standing (OfAct t) (h.long a) else map (left_for_good (OfAct t)) (h.long a)) h.long;
+  long = with_at a (if is_traceless (act_of t s.book.acts) then without_standing (OfAct t) (h.long a) else map (left_for_good (OfAct t)) (h.long a)) h.long;
   gains = filter (λ p. not ((p.ahead == t) && (p.actor == a))) h.gains;
   left_sealed = with_at a (h.left_sealed a ++ seals t (act_of t s.book.acts)) h.left_sealed;
 }

@@ -2,7 +2,7 @@
 use Rattle.std.specs.Prelude.{ℕ, ◌+◌, ◌==◌, nat_le, max, Bool, true, false, not, ◌&&◌, if◌then◌else◌, Option, Some, None, List, [], ◌∷◌, ◌++◌, map, filter}
 use Rattle.snap_base.specs.declared.transactions.TxResult.{TxResult}
 use Rattle.protocol.specs.Fixed.{Next, Go, Ended}
-use Rattle.protocol.specs.Rivals.{Lock, lock_of}
+use Rattle.protocol.specs.Rivals.{Lock}
 use Rattle.protocol.specs.Parts.{Book, Joined, Status, Live, Doomed, Decided, Sealed, Act, Pair, Outcome, Batch, Desk, Entry}
 use Rattle.protocol.specs.Words.{is_doomed, is_live_status, is_value, is_among, act_of, holds, least_of, acts_on, rivals_in_tail, least_older, batch_of, first_failed, Failure}
 use Rattle.snap_base.specs.declared.verdicts.Verdict.{Verdict}
@@ -33,12 +33,12 @@ doomed_by v x = record x { status = if is_live_status x.status then Doomed v els
 
 -- ---- admission
 
-abbrev pub new_act : ℕ → ℕ → ℕ → Act
-new_act t n m = record { tid = t; tx = n; m = m; n = None; places = []; result = None; status = Live }
+abbrev pub new_act : ℕ → ℕ → Bool → ℕ → Act
+new_act t n reader m = record { tid = t; tx = n; reader = reader; m = m; n = None; places = []; result = None; status = Live }
 
--- transaction n begins as ACT t, with this before number
-abbrev pub act_admitted : ℕ → ℕ → ℕ → Book → Book
-act_admitted t n m b = record b { acts = b.acts ++ new_act t n m ∷ [] }
+-- transaction n begins as ACT t, a reader or not, with this before number
+abbrev pub act_admitted : ℕ → ℕ → Bool → ℕ → Book → Book
+act_admitted t n reader m b = record b { acts = b.acts ++ new_act t n reader m ∷ [] }
 
 -- ---- a batch arrives behind ACTs
 
@@ -77,12 +77,12 @@ asked_pairs (Some older) group t a b = b.pairs
 asked_pairs None group t a b = b.pairs ++ new_pairs t a group b.acts
 
 -- the rivals of the tail group, as the ACT meets them
-abbrev pub met : ℕ → List Entry → List Lock
-met t entries = rivals_in_tail (lock_of t) entries
+abbrev pub met : Lock → List Entry → List Lock
+met x entries = rivals_in_tail x entries
 
 -- the oldest of them that is older than the ACT
-abbrev pub in_the_way : ℕ → List Entry → Option ℕ
-in_the_way t entries = least_older t (met t entries)
+abbrev pub in_the_way : Lock → List Entry → Option ℕ
+in_the_way x entries = least_older x.tid (met x entries)
 
 abbrev pub act_asked : Option ℕ → List Lock → ℕ → ℕ → ℕ → Book → Book
 act_asked older group t a m b = record b { acts = asked_acts older group t a m b; pairs = asked_pairs older group t a b }

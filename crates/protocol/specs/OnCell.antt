@@ -3,9 +3,9 @@ use Rattle.std.specs.Prelude.{ℕ, ◌==◌, max, Bool, true, false, not, ◌||�
 use Rattle.std.specs.List.{list_any}
 use Rattle.snap_base.specs.declared.transactions.State.{State}
 use Rattle.protocol.specs.Fixed.{Next, Go, Ended, Sliced, Code}
-use Rattle.protocol.specs.Rivals.{lock_of}
-use Rattle.protocol.specs.Parts.{Act, Cascade, Who, OfBatch, OfAct, SubBatch, ControlMessage, Slot, Entry, BatchEntry, ActEntry, Image, Waiting, Outcome, Cell}
-use Rattle.protocol.specs.Words.{is_aborted, is_doomed, is_sealed, is_failure, is_batch_entry, is_act_entry, is_entry_of, who_of, who_on, is_who, waiting_of, without_waiting, without_outcome, image_of, batches_on, greatest}
+use Rattle.protocol.specs.Rivals.{Lock}
+use Rattle.protocol.specs.Parts.{Act, Cascade, FloorPair, Who, OfBatch, OfAct, SubBatch, ControlMessage, Slot, Entry, BatchEntry, ActEntry, Image, Waiting, Outcome, Cell}
+use Rattle.protocol.specs.Words.{is_aborted, is_doomed, is_sealed, is_failure, is_batch_entry, is_act_entry, holds, is_reader_entry, is_entry_of, who_of, who_on, is_who, waiting_of, without_waiting, without_outcome, image_of, batches_on, greatest}
 
 -- ---- what is placed at the end of the schedule
 
@@ -23,17 +23,17 @@ abbrev pub arrived : {C : Type 0} → Option (ControlMessage C) → List (Waitin
 arrived None = []
 arrived (Some m) = record { tid = m.tid; control = m.control } ∷ []
 
-abbrev pub act_entries : ℕ → Option ℕ → List Entry
-act_entries t None = ActEntry (lock_of t) ∷ []
-act_entries t (Some older) = []
+abbrev pub act_entries : Lock → Option ℕ → List Entry
+act_entries x None = ActEntry x ∷ []
+act_entries x (Some older) = []
 
 abbrev pub where_placed : {C : Type 0} → Option ℕ → Option (ControlMessage C) → List (Waiting C)
 where_placed None m = arrived m
 where_placed (Some older) m = []
 
 -- where an older one is in its way, nothing is placed
-abbrev pub act_placed : {C : Type 0} → ℕ → Option ℕ → Option (ControlMessage C) → Cell C → Cell C
-act_placed t older m c = record c { entries = c.entries ++ act_entries t older; inbox = c.inbox ++ where_placed older m }
+abbrev pub act_placed : {C : Type 0} → Lock → Option ℕ → Option (ControlMessage C) → Cell C → Cell C
+act_placed x older m c = record c { entries = c.entries ++ act_entries x older; inbox = c.inbox ++ where_placed older m }
 
 abbrev pub control_came : {C : Type 0} → Option (ControlMessage C) → Cell C → Cell C
 control_came m c = record c { inbox = c.inbox ++ arrived m }
@@ -85,13 +85,21 @@ is_done_after code a (Some r) = is_through code a r.next
 abbrev pub with_image : Who → State → List Image → List Image
 with_image who s images = if is_some (image_of who images) then images else images ++ record { who = who; state = s } ∷ []
 
+-- the transaction's entry is that of a reader: it changes nothing, and no image is kept
+abbrev pub reads_on : ℕ → List Entry → Bool
+reads_on t entries = holds is_reader_entry (find (is_entry_of t) entries)
+
+abbrev pub images_after : Bool → Who → State → List Image → List Image
+images_after true who s images = images
+images_after false who s images = with_image who s images
+
 abbrev pub slice_of : {C : Type 0} → Code C → ℕ → Cell C → Option (Sliced C)
 slice_of code t c = sliced code c.state (waiting_of t c.inbox)
 
 abbrev pub slice_run : {C : Type 0} → Code C → ℕ → ℕ → Cell C → Cell C
 slice_run code t a c = record c {
   state = state_after c.state (slice_of code t c);
-  images = with_image (who_on t c.entries) c.state c.images;
+  images = images_after (reads_on t c.entries) (who_on t c.entries) c.state c.images;
   entries = if is_done_after code a (slice_of code t c) then map (done_in t) c.entries else c.entries;
   inbox = without_waiting t c.inbox;
   outbox = c.outbox ++ outcomes t (slice_of code t c);
@@ -161,10 +169,15 @@ abbrev pub is_undone_act : Option Act → Bool
 is_undone_act None = false
 is_undone_act (Some x) = is_doomed x.status || is_failure x.result
 
--- the floor that it leaves
-abbrev pub floor_after : ℕ → Option Act → ℕ
-floor_after floor None = floor
-floor_after floor (Some x) = if is_sealed x.status then max floor x.m else floor
+-- the floors that an ACT's before number raises
+abbrev pub raised_floors : Bool → ℕ → FloorPair → FloorPair
+raised_floors true m f = record f { read = max f.read m }
+raised_floors false m f = record f { write = max f.write m }
+
+-- the floors that it leaves
+abbrev pub floors_after : FloorPair → Option Act → FloorPair
+floors_after floors None = floors
+floors_after floors (Some x) = if is_sealed x.status then raised_floors x.reader x.m floors else floors
 
 abbrev pub own_entries : ℕ → List Entry → List Entry
 own_entries t entries = filter (is_act_entry t) entries
@@ -174,7 +187,7 @@ abbrev pub act_left : {C : Type 0} → ℕ → Option Act → Cell C → Cell C
 act_left t x c = record c {
   state = if is_undone_act x then state_from c.state (image_of (OfAct t) c.images) else c.state;
   images = filter (λ i. not (is_who (OfAct t) i.who)) c.images;
-  floor = floor_after c.floor x;
+  floors = floors_after c.floors x;
   entries = filter (λ e. not (is_act_entry t e)) c.entries;
   inbox = inbox_without (own_entries t c.entries) c.inbox;
   outbox = outbox_without (own_entries t c.entries) c.outbox;

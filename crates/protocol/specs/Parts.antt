@@ -47,6 +47,8 @@ pub data Status : Type 0 where
 pub record Act : Type 0 where
   pub tid : ℕ
   pub tx : ℕ
+  -- it only reads
+  pub reader : Bool
   -- the before number: the greatest batch that stands before it
   pub m : ℕ
   -- the after number: the least batch that stands behind it
@@ -178,6 +180,11 @@ pub record Outcome (C : Type 0) : Type 0 where
   pub tid : ℕ
   pub next : Next C
 
+-- the greatest before number of an ACT that left sealed, at first base: of those that are no readers, and of readers
+pub record FloorPair : Type 0 where
+  pub write : ℕ
+  pub read : ℕ
+
 pub record Cell (C : Type 0) : Type 0 where
   pub state : State
   -- in the order in which they were taken
@@ -189,8 +196,7 @@ pub record Cell (C : Type 0) : Type 0 where
   pub last_trimmed : ℕ
   -- the last batch that was placed in this epoch, or 0
   pub tail : ℕ
-  -- the greatest before number of an ACT that left sealed, at first base
-  pub floor : ℕ
+  pub floors : FloorPair
   -- the schedule, in order
   pub entries : List Entry
   pub inbox : List (Waiting C)

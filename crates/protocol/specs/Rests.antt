@@ -50,6 +50,7 @@ facts_of_rests {C} actors code Allowed Fewer Of finish fewer f = record {
   few_visits = f.few_visits;
   one_visit = λ tx c r. f.one_visit tx c (of tx c r);
   visits_fall = λ tx c d s b r q. f.visits_fall tx c d s b (of tx c r) q;
+  readers_leave = λ tx c s e r. f.readers_leave tx c s e (of tx c r);
   only_named_by_tid = f.only_named_by_tid;
   slices_keep_the_meaning = λ tx c world r l. f.slices_keep_the_meaning tx c world (of tx c r) l;
 }

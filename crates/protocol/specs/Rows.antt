@@ -13,11 +13,11 @@ use Rattle.protocol.specs.Fixed.{Fixed}
 use Rattle.protocol.specs.Rivals.{Lock}
 use Rattle.protocol.specs.Parts.{Doomed, Act, Pair, Book, Cascade, Pact, Batch, Desk, Entry, BatchEntry, ActEntry, Cell, Machine}
 use Rattle.protocol.specs.Events.{Event, Arrive, Ask, Abort, Rollback, Finish, Reply}
-use Rattle.protocol.specs.Words.{holds, is_value, is_failure, is_aborted, is_doomed, is_sealed, is_settled, is_ordered, is_open, is_next_to_commit, is_live_act, is_act_entry, has_act, act_of, batch_of, batches_on, greatest, Failure}
+use Rattle.protocol.specs.Words.{holds, is_value, is_failure, is_aborted, is_doomed, is_sealed, is_settled, is_ordered, is_open, is_next_to_commit, is_live_act, is_act_entry, has_act, act_of, batch_of, batches_on, greatest, Failure, lock_of, floor_at}
 use Rattle.protocol.specs.Verdicts.{died, out_of_order, taken_along, verdict}
 use Rattle.protocol.specs.Spread.{stands_behind, reaches, raised}
 use Rattle.protocol.specs.OnBook.{changed_act, lowered, failed_tx, failed_code, tids_on, joins, new_pairs, asked_pairs, met, in_the_way}
-use Rattle.protocol.specs.OnCell.{own_entries, state_before, images_without, inbox_without, outbox_without, is_undone_act, floor_after}
+use Rattle.protocol.specs.OnCell.{own_entries, state_before, images_without, inbox_without, outbox_without, is_undone_act, floors_after}
 use Rattle.protocol.specs.Conditions.{conditions, IsAllowed}
 use Rattle.protocol.specs.Effects.{after, cell_at, puts}
 use Rattle.protocol.specs.Facts.{Alone}
@@ -132,7 +132,7 @@ abbrev pub left_by : {C : Type 0} → ℕ → Option Act → Cell C → Cell C
 left_by t x c = record c {
   state = if is_undone_act x then state_before (own_entries t c.entries) c.state c.images else c.state;
   images = images_without (own_entries t c.entries) c.images;
-  floor = floor_after c.floor x;
+  floors = floors_after c.floors x;
   entries = filter (λ e. not (is_act_entry t e)) c.entries;
   inbox = inbox_without (own_entries t c.entries) c.inbox;
   outbox = outbox_without (own_entries t c.entries) c.outbox;
@@ -172,8 +172,8 @@ as_agreed w (Arrive k a) s = record (after w (Arrive k a) s) {
 }
 as_agreed w (Ask t a) s = record (after w (Ask t a) s) {
   book = record s.book {
-    acts = asks (in_the_way t (cell_at s a).entries) (met t (cell_at s a).entries) t a (max (cell_at s a).last (cell_at s a).floor) s.book;
-    pairs = asked_pairs (in_the_way t (cell_at s a).entries) (met t (cell_at s a).entries) t a s.book;
+    acts = asks (in_the_way (lock_of t s.book.acts) (cell_at s a).entries) (met (lock_of t s.book.acts) (cell_at s a).entries) t a (max (cell_at s a).last (floor_at t s.book.acts (cell_at s a))) s.book;
+    pairs = asked_pairs (in_the_way (lock_of t s.book.acts) (cell_at s a).entries) (met (lock_of t s.book.acts) (cell_at s a).entries) t a s.book;
   };
 }
 as_agreed w (Abort k) s = record (after w (Abort k) s) {
@@ -199,9 +199,9 @@ ConditionsAgree w finish s h = (e : Event) → conditions w e s ≡ conditions_a
 -- Where an ACT is placed, one pass over the ACTs carries numbers through all pairs, and nothing else does.
 abbrev pub RisesAgree : {C : Type 0} → Fixed C → (C → List State → Alone) → Machine C → History → Type 0
 RisesAgree w finish s h =
-    (t a : ℕ) → IsAllowed w (Ask t a) s → in_the_way t (cell_at s a).entries ≡ None
-    → let pairs = s.book.pairs ++ new_pairs t a (met t (cell_at s a).entries) s.book.acts in
-    let acts = changed_act t (joins a (max (cell_at s a).last (cell_at s a).floor)) s.book.acts in
+    (t a : ℕ) → IsAllowed w (Ask t a) s → in_the_way (lock_of t s.book.acts) (cell_at s a).entries ≡ None
+    → let pairs = s.book.pairs ++ new_pairs t a (met (lock_of t s.book.acts) (cell_at s a).entries) s.book.acts in
+    let acts = changed_act t (joins a (max (cell_at s a).last (floor_at t s.book.acts (cell_at s a)))) s.book.acts in
     (ys : List Act) → AreCarried pairs acts ys ↔ (ys ≡ raised pairs acts)
 
 -- A transaction has a verdict exactly where it has ended.

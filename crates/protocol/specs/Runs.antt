@@ -11,7 +11,7 @@ use Rattle.protocol.specs.Effects.{after, no_log}
 -- ---- the opening
 
 abbrev pub new_cell : {C : Type 0} → ℕ → State → Cell C
-new_cell base s = record { state = s; images = []; epoch = 0; last = base; last_trimmed = base; tail = 0; floor = base; entries = []; inbox = []; outbox = [] }
+new_cell base s = record { state = s; images = []; epoch = 0; last = base; last_trimmed = base; tail = 0; floors = record { write = base; read = base }; entries = []; inbox = []; outbox = [] }
 
 abbrev pub opening_ring : {C : Type 0} → Fixed C → Ring
 opening_ring w = record {

@@ -6,7 +6,7 @@ use Rattle.snap_base.specs.declared.transactions.TxResult.TheVariants.{Value, Fa
 use Rattle.protocol.specs.Fixed.{Next, Go, Ended}
 use Rattle.protocol.specs.Records.{LogRecord}
 use Rattle.protocol.specs.Rivals.{Lock, rivals}
-use Rattle.protocol.specs.Parts.{Joined, Status, Live, Doomed, Decided, Sealed, Act, Cascade, Who, OfBatch, OfAct, SubBatch, ControlMessage, Declared, Pact, Stage, Formed, Committing, Settled, Batch, Log, PlacedBatch, Entry, BatchEntry, ActEntry, Image, Waiting, Outcome}
+use Rattle.protocol.specs.Parts.{Joined, Status, Live, Doomed, Decided, Sealed, Act, Cascade, Who, OfBatch, OfAct, SubBatch, ControlMessage, Declared, Pact, Stage, Formed, Committing, Settled, Batch, Log, PlacedBatch, Entry, BatchEntry, ActEntry, Image, Waiting, Outcome, FloorPair, Cell}
 
 -- ---- lists
 
@@ -234,6 +234,11 @@ abbrev pub is_act_who : Who → Bool
 is_act_who (OfBatch k) = false
 is_act_who (OfAct t) = true
 
+-- it is of an ACT that only reads
+abbrev pub is_reader_entry : Entry → Bool
+is_reader_entry (BatchEntry b) = false
+is_reader_entry (ActEntry x) = x.reader
+
 -- what stands ahead of the first entry that is meant
 abbrev pub ahead : (Entry → Bool) → List Entry → List Entry
 ahead meant [] = []
@@ -282,6 +287,18 @@ group_behind seen (ActEntry x ∷ es) = group_behind (seen ++ x ∷ []) es
 -- the locks behind the last batch of the schedule
 abbrev pub tail_group : List Entry → List Lock
 tail_group entries = group_behind [] entries
+
+-- the lock of an ACT, as the book knows it
+abbrev pub lock_of : ℕ → List Act → Lock
+lock_of t acts = record { tid = t; reader = holds (λ x. x.reader) (act_of t acts) }
+
+-- the floor that counts for an ACT: who only reads need not stand behind readers
+abbrev pub floor_for : Bool → FloorPair → ℕ
+floor_for true f = f.write
+floor_for false f = max f.write f.read
+
+abbrev pub floor_at : {C : Type 0} → ℕ → List Act → Cell C → ℕ
+floor_at t acts c = floor_for (lock_of t acts).reader c.floors
 
 -- those of the tail group that the ACT can't stand beside
 abbrev pub rivals_in_tail : Lock → List Entry → List Lock

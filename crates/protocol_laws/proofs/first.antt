@@ -1,4 +1,5 @@
 -- The first laws: frames, footprints, numbers, epochs, settling, pairs, candidates. Nothing here is of method code.
+pub mod Agree
 pub mod Along
 pub mod Candidates
 pub mod CellEpochs

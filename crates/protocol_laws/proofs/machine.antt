@@ -33,6 +33,9 @@ pub mod QueuedKept
 pub mod QueuedText
 pub mod QuietTold
 pub mod Resting
+pub mod ReadersCommit
+pub mod ReadersKept
+pub mod ReadersSee
 pub mod RestsKept
 pub mod RunOwed
 pub mod ShowLists

@@ -2,9 +2,9 @@
 use Rattle.std.specs.Prelude.{◌≡◌, ℕ, Bool, true, false, ◌||◌, if◌then◌else◌, Option, Some, None, List, [], ◌∷◌, ◌++◌}
 use Rattle.std.specs.List.{list_any}
 use Rattle.snap_base.specs.declared.transactions.State.{State}
-use Rattle.protocol.specs.Parts.{Who}
-use Rattle.protocol.specs.Words.{is_who, is_value}
-use Rattle.protocol.specs.History.{View, Done, Slice, Ran, Stands, Gone}
+use Rattle.protocol.specs.Parts.{Act, Who, OfBatch, OfAct}
+use Rattle.protocol.specs.Words.{is_who, is_value, act_of}
+use Rattle.protocol.specs.History.{View, Done, Slice, Ran, Stands, Gone, is_reader_act}
 use Rattle.protocol_laws.specs.Tracks.{keys_in, is_key_among, Linked}
 
 -- ---- the states of what committed, at one actor
@@ -60,6 +60,17 @@ abbrev pub KeptAhead : List Who → Who → List Ran → Type 0
 KeptAhead kept who [] = Unit {0}
 KeptAhead kept who (Stands y c ss ∷ rs) = (is_key_among who (keys_in rs) ≡ true → is_kept y kept ≡ true) × KeptAhead kept who rs
 KeptAhead kept who (Gone y ss ∷ rs) = KeptAhead kept who rs
+
+-- an ACT that only reads
+abbrev pub reads_who : List Act → Who → Bool
+reads_who acts (OfBatch k) = false
+reads_who acts (OfAct t) = is_reader_act (act_of t acts)
+
+-- each that stands ahead of it has committed, or only reads
+abbrev pub KeptOrReads : List Who → List Act → Who → List Ran → Type 0
+KeptOrReads kept acts who [] = Unit {0}
+KeptOrReads kept acts who (Stands y c ss ∷ rs) = (is_key_among who (keys_in rs) ≡ true → (is_kept y kept || reads_who acts y) ≡ true) × KeptOrReads kept acts who rs
+KeptOrReads kept acts who (Gone y ss ∷ rs) = KeptOrReads kept acts who rs
 
 -- At one actor: what committed is the front of the long schedule, and its slices go from the first state to the one
 -- that the last of what committed left.

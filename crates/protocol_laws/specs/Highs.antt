@@ -1,24 +1,28 @@
 -- Only proofs cite this; the rule is `NumbersStand` (Sets).
 -- Before numbers along an actor's long schedule, beside the places of what committed there.
-use Rattle.std.specs.Prelude.{◌≡◌, ℕ, ◌≤◌, ◌==◌, nat_le, Bool, true, not, ◌&&◌, ◌||◌, ◌⊎◌, List, [], ◌∷◌}
+use Rattle.std.specs.Prelude.{◌≡◌, ℕ, ◌≤◌, ◌==◌, nat_le, Bool, true, false, not, ◌&&◌, ◌||◌, ◌⊎◌, List, [], ◌∷◌}
 use Rattle.std.specs.List.{AllByRecursion, list_any}
-use Rattle.protocol.specs.Parts.{Act, Pair, Cascade, Who, OfBatch, OfAct}
+use Rattle.protocol.specs.Parts.{Act, Pair, Cascade, Who, OfBatch, OfAct, FloorPair}
 use Rattle.protocol.specs.Words.{holds, is_among, is_aborted, is_doomed, is_live_status, act_of}
 use Rattle.protocol.specs.OnCell.{is_cut}
 use Rattle.protocol.specs.History.{Ran, Stands, Gone, batches_in}
 
 -- ---- live ACTs are high
 
--- the ACT is not live, or its before number is at least this
-abbrev pub is_over : ℕ → Act → Bool
-is_over high x = not (is_live_status x.status) || nat_le high x.m
+-- It need not have a number as great: it is not live, or it reads and the number is a reader's.
+abbrev pub is_free : Bool → Act → Bool
+is_free r x = (r && x.reader) || not (is_live_status x.status)
+
+-- or its before number is at least this; `r` tells whether that is a reader's
+abbrev pub is_over : Bool → ℕ → Act → Bool
+is_over r high x = is_free r x || nat_le high x.m
 
 -- each live ACT that stands there has a before number at least this
-abbrev pub AllOver : List Act → ℕ → List Ran → Type 0
-AllOver acts high [] = Unit {0}
-AllOver acts high (Stands (OfBatch k) c ss ∷ rs) = AllOver acts high rs
-AllOver acts high (Stands (OfAct t) c ss ∷ rs) = (holds (is_over high) (act_of t acts) ≡ true) × AllOver acts high rs
-AllOver acts high (Gone y ss ∷ rs) = AllOver acts high rs
+abbrev pub AllOver : Bool → List Act → ℕ → List Ran → Type 0
+AllOver r acts high [] = Unit {0}
+AllOver r acts high (Stands (OfBatch k) c ss ∷ rs) = AllOver r acts high rs
+AllOver r acts high (Stands (OfAct t) c ss ∷ rs) = (holds (is_over r high) (act_of t acts) ≡ true) × AllOver r acts high rs
+AllOver r acts high (Gone y ss ∷ rs) = AllOver r acts high rs
 
 -- ---- ACTs with no batch between them are pairs
 
@@ -32,9 +36,15 @@ is_pair a t u p = (p.behind == t) && ((p.ahead == u) && (p.actor == a))
 abbrev pub has_pair : ℕ → ℕ → ℕ → List Pair → Bool
 has_pair a t u ps = list_any (is_pair a t u) ps
 
--- one of them is doomed, or they are a pair
+abbrev pub reads_in : List Act → ℕ → Bool
+reads_in acts t = holds (λ x. x.reader) (act_of t acts)
+
+abbrev pub both_read : List Act → ℕ → ℕ → Bool
+both_read acts u t = reads_in acts u && reads_in acts t
+
+-- both only read, or one of them is doomed, or they are a pair
 abbrev pub is_paired : ℕ → List Pair → List Act → ℕ → ℕ → Bool
-is_paired a ps acts u t = doomed_at acts u || (doomed_at acts t || has_pair a t u ps)
+is_paired a ps acts u t = both_read acts u t || (doomed_at acts u || (doomed_at acts t || has_pair a t u ps))
 
 -- all ACTs up to the next batch are paired with u
 abbrev pub Paired : ℕ → List Pair → List Act → ℕ → List Ran → Type 0
@@ -76,7 +86,12 @@ StandsBelow cs n u (Stands (OfBatch k) c ss ∷ rs) = StandsBelow cs n u rs
 StandsBelow cs n u (Stands (OfAct t) c ss ∷ rs) = ((t ≡ u) × AllByRecursion (λ k. is_above_or_aborted cs n k ≡ true) (batches_in rs)) ⊎ StandsBelow cs n u rs
 StandsBelow cs n u (Gone y ss ∷ rs) = StandsBelow cs n u rs
 
--- a batch is on the long schedule; an ACT stands there, or has raised the floor
+-- the floor that an ACT raises
+abbrev pub own_floor : Bool → FloorPair → ℕ
+own_floor true f = f.read
+own_floor false f = f.write
+
+-- a batch is on the long schedule; an ACT stands there, or has raised its floor
 abbrev pub Shows : List Cascade → ℕ → ℕ → Who → List Ran → Type 0
 Shows cs floor n (OfBatch k) long = (n ≡ k) × (is_among k (batches_in long) ≡ true)
 Shows cs floor n (OfAct u) long = (n ≤ floor) ⊎ StandsBelow cs n u long

@@ -48,6 +48,7 @@ actors_of places = map (λ p. p.actor) places
 pub record ActWent (x y : Act) : Type 0 where
   pub tid : y.tid ≡ x.tid
   pub tx : y.tx ≡ x.tx
+  pub reader : y.reader ≡ x.reader
   pub m : x.m ≤ y.m
   pub actors : IsFront (actors_of x.places) (actors_of y.places)
   pub status : StatusWent x.status y.status
@@ -55,7 +56,8 @@ pub record ActWent (x y : Act) : Type 0 where
 -- ---- cells
 
 pub record CellWent {C : Type 0} (c d : Cell C) : Type 0 where
-  pub floor : c.floor ≤ d.floor
+  pub write_floor : c.floors.write ≤ d.floors.write
+  pub read_floor : c.floors.read ≤ d.floors.read
   pub last_trimmed : c.last_trimmed ≤ d.last_trimmed
   pub epoch : c.epoch ≤ d.epoch
 

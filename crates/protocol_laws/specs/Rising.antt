@@ -1,5 +1,5 @@
 -- Places of what committed: they differ, and on each actor they rise in the order of commits.
-use Rattle.std.specs.Prelude.{◌≡◌, ℕ, ◌<◌, true, Bool, ◌⊎◌, is_some, List, [], ◌∷◌, map, filter}
+use Rattle.std.specs.Prelude.{◌≡◌, ℕ, ◌<◌, true, false, not, Bool, ◌⊎◌, is_some, List, [], ◌∷◌, map, filter}
 use Rattle.std.specs.List.{AllByRecursion}
 use Rattle.protocol.specs.Parts.{Batch}
 use Rattle.protocol.specs.Words.{greatest, is_open}
@@ -17,9 +17,14 @@ visitors a ds = filter (visits a) ds
 abbrev pub number_of : Done → ℕ
 number_of d = d.place.batch.0
 
--- the greatest of those of all that came to the actor
-abbrev pub highest : ℕ → List Done → ℕ
-highest a ds = greatest (map number_of (visitors a ds))
+-- of this kind: readers, or others
+abbrev pub is_as : Bool → Done → Bool
+is_as true d = d.reader
+is_as false d = not d.reader
+
+-- the greatest of those of all of one kind that came to the actor
+abbrev pub highest : Bool → ℕ → List Done → ℕ
+highest r a ds = greatest (map number_of (filter (is_as r) (visitors a ds)))
 
 -- of every two, one place is below the other one
 abbrev pub PlacesDiffer : List Done → Type 0

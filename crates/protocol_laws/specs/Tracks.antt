@@ -1,6 +1,7 @@
 -- Proofs cite this, and `Undo` its `slices_in`; the rule is `OrderHolds` (Order).
 -- The long schedule of an actor: its schedule as if nothing that stays had ever left it.
-use Rattle.std.specs.Prelude.{◌≡◌, Bool, true, false, ◌||◌, List, [], ◌∷◌, ◌++◌}
+use Rattle.std.specs.Prelude.{◌≡◌, ℕ, ◌==◌, Bool, true, false, ◌||◌, List, [], ◌∷◌, ◌++◌}
+use Rattle.std.specs.List.{list_any}
 use Rattle.snap_base.specs.declared.transactions.State.{State}
 use Rattle.protocol.specs.Parts.{Cascade, Who, Entry, Image}
 use Rattle.protocol.specs.Words.{who_of, is_who}
@@ -58,6 +59,16 @@ abbrev pub InOrder : List Ran → Type 0
 InOrder [] = Unit {0}
 InOrder (Stands y c ss ∷ rs) = (c ≡ false → slices_in rs ≡ []) × InOrder rs
 InOrder (Gone y ss ∷ rs) = InOrder rs
+
+-- the reader has run, by these slices of readers
+abbrev pub has_read : List Slice → ℕ → Bool
+has_read reads t = list_any (λ x. x.tid == t) reads
+
+-- where this one stands it has no slices
+abbrev pub Bare : Who → List Ran → Type 0
+Bare who [] = Unit {0}
+Bare who (Stands y c ss ∷ rs) = (is_who y who ≡ true → ss ≡ []) × Bare who rs
+Bare who (Gone y ss ∷ rs) = Bare who rs
 
 -- ---- an actor's long schedule, beside what its cell holds
 

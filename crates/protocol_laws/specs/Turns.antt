@@ -17,7 +17,7 @@ IsPast slots u = (list_any (λ s. s.tid == u) slots ≡ true) × AllByRecursion 
 
 abbrev pub TurnOf : Entry → List Slice → Type 0
 TurnOf (BatchEntry b) ss = Rising 0 ss × AllByRecursion (λ x. IsPast b.slots x.tid) ss × (b.complete ≡ true → AllByRecursion (λ s. s.done ≡ true) b.slots)
-TurnOf (ActEntry x) ss = AllByRecursion (λ z. z.tid ≡ x.tid) ss
+TurnOf (ActEntry x) ss = AllByRecursion (λ z. z.tid ≡ x.tid) ss × (x.reader ≡ true → ss ≡ [])
 
 -- who stands in the long schedule has an entry in the schedule, in the same order
 abbrev pub Turns : List Ran → List Entry → Type 0

@@ -6,7 +6,7 @@ use Rattle.protocol.specs.Fixed.{Fixed}
 use Rattle.protocol.specs.Rivals.{Lock}
 use Rattle.protocol.specs.Parts.{Act, Book, Machine}
 use Rattle.protocol.specs.Events.{Event, Form, Admit, Arrive, Ask, Take, Run, Send, End, Close, Complete, Sync, Note, Commit, Settle, Abort, Rollback, DropSub, DropControl, Prepare, Vouch, Decide, Seal, Finish, Reply, Trim}
-use Rattle.protocol.specs.Words.{act_of, is_open, names_pact}
+use Rattle.protocol.specs.Words.{act_of, is_open, names_pact, lock_of, floor_at}
 use Rattle.protocol.specs.Spread.{raised, is_crossed}
 use Rattle.protocol.specs.Numbers.{flat}
 use Rattle.protocol.specs.Conditions.{IsAllowed, refusal}
@@ -173,7 +173,7 @@ abbrev pub told_txs : {C : Type 0} → Fixed C → Event → Machine C → List 
 told_txs w (Form k) s = map (λ p. p.tx) (next_pacts w.text s.ring)
 told_txs w (Admit t) s = next_act s.ring ∷ []
 told_txs w (Arrive k a) s = crossed_txs (map (lowered k (tids_on (cell_at s a).entries)) s.book.acts)
-told_txs w (Ask t a) s = asked_txs (in_the_way t (cell_at s a).entries) (met t (cell_at s a).entries) t a (max (cell_at s a).last (cell_at s a).floor) s.book
+told_txs w (Ask t a) s = asked_txs (in_the_way (lock_of t s.book.acts) (cell_at s a).entries) (met (lock_of t s.book.acts) (cell_at s a).entries) t a (max (cell_at s a).last (floor_at t s.book.acts (cell_at s a))) s.book
 told_txs w (End t a) s = flat_map (λ b. map (λ p. p.tx) (filter (λ p. p.tid == t) b.pacts)) s.desk.batches ++ txs_named t s.book.acts
 told_txs w (Settle k) s = flat_map (λ b. map (λ p. p.tx) b.pacts) (filter (λ b. b.bid == k) s.desk.batches)
 told_txs w (Decide t) s = txs_named t s.book.acts

@@ -6,7 +6,7 @@ use Rattle.protocol.specs.Records.{LogRecord, is_info, is_complete, is_commit, i
 use Rattle.protocol.specs.Rivals.{Lock}
 use Rattle.protocol.specs.Parts.{Act, Pair, Book, Who, OfBatch, OfAct, Pact, Batch, Log, Machine}
 use Rattle.protocol.specs.Events.{Event, Submit, Pass, Form, Admit, Arrive, Ask, Take, Run, Send, End, Close, Complete, Sync, Note, Commit, Settle, Abort, Rollback, DropSub, DropControl, Prepare, Vouch, Decide, Seal, Finish, Reply, Trim}
-use Rattle.protocol.specs.Words.{is_among, holds, control_of, batch_of, names_pact}
+use Rattle.protocol.specs.Words.{is_among, holds, control_of, batch_of, names_pact, lock_of, floor_at}
 use Rattle.protocol.specs.Spread.{raised, carried, is_crossed}
 use Rattle.protocol.specs.OnRing.{next_pacts}
 use Rattle.protocol.specs.OnPost.{next_act}
@@ -130,7 +130,7 @@ asked_tids None group t a m b = t ∷ spread_tids (b.pairs ++ new_pairs t a grou
 abbrev pub acts_changed : {C : Type 0} → Event → Machine C → List ℕ
 acts_changed (Admit u) s = u ∷ []
 acts_changed (Arrive k a) s = crossed_tids (map (lowered k (tids_on (cell_at s a).entries)) s.book.acts)
-acts_changed (Ask u a) s = asked_tids (in_the_way u (cell_at s a).entries) (met u (cell_at s a).entries) u a (max (cell_at s a).last (cell_at s a).floor) s.book
+acts_changed (Ask u a) s = asked_tids (in_the_way (lock_of u s.book.acts) (cell_at s a).entries) (met (lock_of u s.book.acts) (cell_at s a).entries) u a (max (cell_at s a).last (floor_at u s.book.acts (cell_at s a))) s.book
 acts_changed (End u a) s = u ∷ []
 acts_changed (Decide u) s = u ∷ []
 acts_changed (Seal u) s = u ∷ []
@@ -238,7 +238,7 @@ abbrev pub changes_verdict : {C : Type 0} → Fixed C → Event → Machine C �
 changes_verdict w (Form k) s n = list_any (λ p. p.tx == n) (next_pacts w.text s.ring)
 changes_verdict w (Admit t) s n = next_act s.ring == n
 changes_verdict w (Arrive k a) s n = crosses n (map (lowered k (tids_on (cell_at s a).entries)) s.book.acts)
-changes_verdict w (Ask t a) s n = asked_verdict (in_the_way t (cell_at s a).entries) (met t (cell_at s a).entries) t a (max (cell_at s a).last (cell_at s a).floor) s.book n
+changes_verdict w (Ask t a) s n = asked_verdict (in_the_way (lock_of t s.book.acts) (cell_at s a).entries) (met (lock_of t s.book.acts) (cell_at s a).entries) t a (max (cell_at s a).last (floor_at t s.book.acts (cell_at s a))) s.book n
 changes_verdict w (End t a) s n = has_pact (λ p. (p.tid == t) && (p.tx == n)) s.desk.batches || names_act t n s.book.acts
 changes_verdict w (Settle k) s n = list_any (λ b. (b.bid == k) && list_any (λ p. p.tx == n) b.pacts) s.desk.batches
 changes_verdict w (Decide t) s n = names_act t n s.book.acts

@@ -15,7 +15,9 @@ pub mod Durable
 pub mod DurableKept
 pub mod FrontsKept
 pub mod IsClosedKept
+pub mod KeptAll
 pub mod KeptSure
+pub mod ReadersSure
 pub mod NoneBehind
 pub mod OnLong
 pub mod OnceKept

@@ -1,5 +1,5 @@
 -- What logs that a crash left recover to, over the records of one run, and what every moment owes.
-use Rattle.std.specs.Prelude.{◌≡◌, ℕ, ℤ, ◌<◌, ◌%◌, ◌==◌, Bool, true, false, ◌&&◌, Some, List, [], ◌∷◌, ◌++◌, length, filter}
+use Rattle.std.specs.Prelude.{◌≡◌, ℕ, ℤ, ◌<◌, ◌%◌, ◌==◌, Bool, true, false, ◌&&◌, Some, List, [], ◌∷◌, ◌++◌, length, filter, ◌||◌, is_some}
 use Rattle.std.specs.List.{AllByRecursion, list_any, flat_map}
 use Rattle.snap_base.specs.declared.transactions.State.{State}
 use Rattle.snap_base.specs.declared.transactions.TxResult.TheVariants.{Value}
@@ -108,8 +108,8 @@ pub record HasMember (t : ℕ) (ds : List Done) : Type 0 where
 
 -- what holds of the transactions that are recovered
 pub record CrashStands {C : Type 0} (w : Fixed C) (finish : C → List State → Alone) (es : List Event) (s : Machine C) (h : History) (logs : ℕ → List LogRecord) : Type 0 where
-  -- who is in had committed with a value by then
-  pub all_done : (who : Who) → is_in w.text.logs logs who ≡ true → is_kept who h.kept ≡ true
+  -- who is in had committed with a value by then, a reader or not
+  pub all_done : (who : Who) → is_in w.text.logs logs who ≡ true → (is_kept who h.kept || is_kept who h.kept_readers) ≡ true
   -- with each member all that the whole run places before it, and that committed with a value
   pub closed : IsClosed (λ t. HasMember t (members w.text.logs logs h)) (history w es)
   -- who was told that it committed is a member
@@ -133,6 +133,12 @@ AtEveryMoment {C} P =
     → P w finish es (reached w m.events) (history w m.events) (left_in (reached w m.events) kept)
 
 -- ---- what implies the serial half, at one actor each
+
+-- In the order of commits: behind who came to the actor, committed with a value, is no reader and no member, no member came.
+abbrev pub NoneMissed : ℕ → (Done → Bool) → List Done → Type 0
+NoneMissed a member [] = Unit {0}
+NoneMissed a member (d ∷ ds) =
+    (member d ≡ false → is_some (d.views a) ≡ true → is_value d.result ≡ true → d.reader ≡ false → AllByRecursion (λ e. member e ≡ true → is_some (e.views a) ≡ false) ds) × NoneMissed a member ds
 
 -- the members that came to an actor are a front of those that committed there with a value
 abbrev pub valued : ℕ → List Done → List Done

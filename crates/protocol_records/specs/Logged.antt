@@ -30,7 +30,7 @@ is_written many logs (OfAct t) = logged_at (is_act_commit t) logs (t % many)
 
 -- who has a commit record committed with a value
 unfoldable pub Written : {C : Type 0} → Fixed C → Machine C → History → Type 0
-Written w s h = (y : Who) → is_written w.text.logs s.logs y ≡ true → is_kept y h.kept ≡ true
+Written w s h = (y : Who) → is_written w.text.logs s.logs y ≡ true → (is_kept y h.kept || is_kept y h.kept_readers) ≡ true
 
 -- ---- batches
 
@@ -105,10 +105,10 @@ AllKeptSure w s h = (a : ℕ) → KeptSure (is_sure w.text.logs s.logs) (λ y. i
 
 -- ---- along what committed
 
--- who committed with a value is on each actor that it came to
+-- who committed with a value, and does not only read, is on each actor that it came to
 pub record IsThere (kept : List Who) (long : ℕ → List Ran) (d : Done) : Type 0 where
-  pub known : is_value d.result ≡ true → is_kept d.who kept ≡ true
-  pub there : (a : ℕ) → is_some (d.views a) ≡ true → is_value d.result ≡ true → is_on d.who (long a) ≡ true
+  pub known : is_value d.result ≡ true → d.reader ≡ false → is_kept d.who kept ≡ true
+  pub there : (a : ℕ) → is_some (d.views a) ≡ true → is_value d.result ≡ true → d.reader ≡ false → is_on d.who (long a) ≡ true
 
 unfoldable pub AllThere : History → Type 0
 AllThere h = AllByRecursion (IsThere h.kept h.long) h.committed
@@ -117,10 +117,10 @@ AllThere h = AllByRecursion (IsThere h.kept h.long) h.committed
 abbrev pub came_valued : ℕ → Done → Bool
 came_valued a d = is_some (d.views a) && is_value d.result
 
--- who committed with a value there, and somebody else behind, is sure
+-- who committed with a value there, and somebody else behind, is sure, if it is no reader
 abbrev pub DoneSure : (Who → Bool) → ℕ → List Done → Type 0
 DoneSure sure a [] = Unit {0}
-DoneSure sure a (d ∷ ds) = (came_valued a d ≡ true → list_any (λ e. came_valued a e && not (is_who d.who e.who)) ds ≡ true → sure d.who ≡ true) × DoneSure sure a ds
+DoneSure sure a (d ∷ ds) = (d.reader ≡ false → came_valued a d ≡ true → list_any (λ e. came_valued a e && not (is_who d.who e.who)) ds ≡ true → sure d.who ≡ true) × DoneSure sure a ds
 
 unfoldable pub AllDoneSure : {C : Type 0} → Fixed C → Machine C → History → Type 0
 AllDoneSure w s h = (a : ℕ) → DoneSure (is_sure w.text.logs s.logs) a h.committed
@@ -133,8 +133,8 @@ has_place a x = list_any (λ p. p.actor == a) x.places
 pub record ActStands (long : ℕ → List Ran) (t : ℕ) (x : Act) : Type 0 where
   -- who is vouched for was prepared
   pub first : (a : ℕ) (p : Joined) → joined_of a x ≡ Some p → p.vouched ≡ true → p.prepared ≡ true
-  -- where it is not undone, it is on all its actors
-  pub on : is_doomed x.status ≡ false → is_failure x.result ≡ false → AllByRecursion (λ p. is_on (OfAct t) (long p.actor) ≡ true) x.places
+  -- where it is not undone, and does not only read, it is on all its actors
+  pub on : is_doomed x.status ≡ false → (is_failure x.result || x.reader) ≡ false → AllByRecursion (λ p. is_on (OfAct t) (long p.actor) ≡ true) x.places
 
 unfoldable pub ActsStand : {C : Type 0} → Machine C → History → Type 0
 ActsStand s h = (t : ℕ) (x : Act) → act_of t s.book.acts ≡ Some x → ActStands h.long t x

@@ -9,7 +9,7 @@ use Rattle.protocol.specs.Parts.{Who, OfBatch, OfAct, Machine}
 use Rattle.protocol.specs.Words.{is_who, is_act_who, is_value}
 use Rattle.protocol.specs.Effects.{log_at}
 use Rattle.protocol.specs.History.{Done, History, Slice, Ran, Stands, Gone}
-use Rattle.protocol_laws.specs.Commits.{is_kept, last_state}
+use Rattle.protocol_laws.specs.Commits.{is_kept, last_state, reads_who}
 use Rattle.protocol_records.specs.Logged.{is_on}
 
 pub record One : Type 0 where
@@ -47,12 +47,13 @@ Tells s y st later (Gone z ss ∷ rs) =
     × (is_who z y ≡ false → is_on y rs ≡ true → names z later ≡ false)
     × (is_who z y ≡ false → Tells (end_of s ss) y st later rs)
 
-abbrev pub AllTells : State → List One → List Ran → Type 0
-AllTells s [] long = Unit {0}
-AllTells s (o ∷ os) long = Tells s o.who o.state os long × AllTells s os long
+-- readers aside
+abbrev pub AllTells : (Who → Bool) → State → List One → List Ran → Type 0
+AllTells rd s [] long = Unit {0}
+AllTells rd s (o ∷ os) long = (rd o.who ≡ false → Tells s o.who o.state os long) × AllTells rd s os long
 
 unfoldable pub Telling : {C : Type 0} → Fixed C → Machine C → History → Type 0
-Telling w s h = (a : ℕ) → AllTells (slice_index_or w.text.opening.states a no_state) (told a (log_at s (a % w.text.logs)).records) (h.long a)
+Telling w s h = (a : ℕ) → AllTells (reads_who s.book.acts) (slice_index_or w.text.opening.states a no_state) (told a (log_at s (a % w.text.logs)).records) (h.long a)
 
 -- ---- what a set of those that committed recovers
 

@@ -7,7 +7,7 @@ use Rattle.snap_base.specs.declared.transactions.Tx.{Tx}
 use Rattle.protocol.specs.Fixed.{Next, Go, Ended, IsTxOf, is_pact, root, declared}
 use Rattle.protocol.specs.Facts.{Facts, rest_of, state_in}
 use Rattle.protocol.specs.Words.{is_among}
-use Rattle.protocol_runs.specs.ExampleCode.{Task, Put, Move, Bad, Paying, Paid, Script, scripts, task_of, argument, stands_at, left, stood_at, step, moves, calls, call_fails, field, begun_at, IsElsewhere, IsRestOf, finish_in, finish}
+use Rattle.protocol_runs.specs.ExampleCode.{Task, Put, Move, Bad, Peek, is_peek, Paying, Paid, Script, scripts, task_of, argument, stands_at, left, stood_at, step, moves, calls, call_fails, field, begun_at, IsElsewhere, IsRestOf, finish_in, finish}
 
 -- ---- where a slice goes
 
@@ -79,7 +79,7 @@ calls_right actors tx a to n limited rests s b d None true f g h e = absurd (cc 
 calls_right actors tx a to n limited rests s b d None false f g h e =
     let m = may_call actors (record { task = Move a to n; limited = limited; rests = rests }) to f in
     goes_is (GoesRight actors tx (script (Move a to n) limited rests)) to (record { task = Paying a to n; limited = limited; rests = rests }) b d e (record {
-      rest = record { kind = h.kind; began = h.began; here = m.0; elsewhere = λ q. eqb-false to a g (sym q); rests_here = m.1; rests_there = h.rests_there };
+      rest = record { kind = h.kind; began = h.began; here = m.0; elsewhere = λ q. eqb-false to a g (sym q); reads = λ q. h.reads q; rests_here = m.1; rests_there = h.rests_there };
       there = refl;
       other = λ q. eqb-false to a g q;
       less = refl;
@@ -106,9 +106,10 @@ unfolding script
 right actors tx (Put a n) limited rests s b d h e = absurd (cc e)
 right actors tx (Move a to n) limited rests s b d h e = move_right actors tx a to n limited rests s b d (int_lt (field s) n) h e
 right actors tx (Bad a) limited rests s b d h e = absurd (cc e)
+right actors tx (Peek a) limited rests s b d h e = absurd (cc e)
 right actors tx (Paying a to n) limited rests s b d h e =
     goes_is (GoesRight actors tx (script (Paying a to n) limited rests)) a (record { task = Paid a to (field s +ℤ n); limited = limited; rests = filter (λ x. not (x == to)) rests }) b d e (record {
-      rest = record { kind = h.kind; began = h.began; here = h.began; elsewhere = tt; rests_here = λ q. kept_but a to rests h.elsewhere (h.rests_there q); rests_there = λ q. kept_but a to rests h.elsewhere (h.rests_there q) };
+      rest = record { kind = h.kind; began = h.began; here = h.began; elsewhere = tt; reads = λ q. h.reads q; rests_here = λ q. kept_but a to rests h.elsewhere (h.rests_there q); rests_there = λ q. kept_but a to rests h.elsewhere (h.rests_there q) };
       there = refl;
       other = λ q. h.elsewhere q;
       less = refl;
@@ -120,20 +121,34 @@ right actors tx (Paid a to v) limited rests s b d h e = absurd (cc e)
 -- ---- each task
 
 begins_at : (tx : Tx) → (stands_at (task_of tx.method tx) ≡ root tx) × (begun_at (task_of tx.method tx) ≡ root tx) × IsElsewhere (task_of tx.method tx)
-begins_at tx = by (tx.method == 0) (tx.method == 1)
+begins_at tx = by (tx.method == 0) (tx.method == 1) (tx.method == 3)
   where
-    by : (p q : Bool) → let task = if p then Put (root tx) (argument 0 tx) else (if q then Move (root tx) (nat_abs (argument 0 tx)) (argument 1 tx) else Bad (root tx)) in (stands_at task ≡ root tx) × (begun_at task ≡ root tx) × IsElsewhere task
-    by true q = (refl, refl, tt)
-    by false true = (refl, refl, tt)
-    by false false = (refl, refl, tt)
+    by : (p q r : Bool) → let task = if p then Put (root tx) (argument 0 tx) else (if q then Move (root tx) (nat_abs (argument 0 tx)) (argument 1 tx) else (if r then Peek (root tx) else Bad (root tx))) in (stands_at task ≡ root tx) × (begun_at task ≡ root tx) × IsElsewhere task
+    by true q r = (refl, refl, tt)
+    by false true r = (refl, refl, tt)
+    by false false true = (refl, refl, tt)
+    by false false false = (refl, refl, tt)
 
-begins : {actors : ℕ} (tx : Tx) → IsTxOf actors tx → (task : Task) → (stands_at task ≡ root tx) × (begun_at task ≡ root tx) × IsElsewhere task
+reading : (tx : Tx) → (tx.method == 3) ≡ true → is_peek (task_of tx.method tx) ≡ true
+reading tx e = subst (λ m. is_peek (task_of m tx) ≡ true) (sym (eqb-true tx.method 3 e)) refl
+
+-- who only reads leaves the state
+peeks : (actors : ℕ) (c : Script) (task : Task) (s : State) → is_peek task ≡ true → (step actors c task s).state ≡ s
+peeks actors c (Put a n) s e = absurd (true≢false (sym e))
+peeks actors c (Move a to n) s e = absurd (true≢false (sym e))
+peeks actors c (Bad a) s e = absurd (true≢false (sym e))
+peeks actors c (Peek a) s e = refl
+peeks actors c (Paying a to n) s e = absurd (true≢false (sym e))
+peeks actors c (Paid a to v) s e = absurd (true≢false (sym e))
+
+begins : {actors : ℕ} (tx : Tx) → IsTxOf actors tx → (task : Task) → (stands_at task ≡ root tx) × (begun_at task ≡ root tx) × IsElsewhere task → ((tx.method == 3) ≡ true → is_peek task ≡ true)
     → IsRestOf actors tx (record { task = task; limited = is_pact tx; rests = declared tx })
-begins {actors} tx h task e = record {
+begins {actors} tx h task e r = record {
   kind = refl;
   began = subst (λ z. z < actors) (sym e.1) h.root_exists;
   here = subst (λ z. z < actors) (sym e.0) h.root_exists;
   elsewhere = e.2;
+  reads = r;
   rests_here = λ q. subst (λ z. is_among z (declared tx) ≡ true) (sym e.0) (h.declares_root q);
   rests_there = λ q. subst (λ z. is_among z (declared tx) ≡ true) (sym e.1) (h.declares_root q);
 }
@@ -145,6 +160,7 @@ stands_in : (task : Task) → is_among (stands_at task) (stood_at task) ≡ true
 stands_in (Put a n) = is_first a []
 stands_in (Move a to n) = is_first a []
 stands_in (Bad a) = is_first a []
+stands_in (Peek a) = is_first a []
 stands_in (Paying a to n) = or_right (a == to) (is_among to (to ∷ [])) (is_first to [])
 stands_in (Paid a to v) = is_first a (to ∷ [])
 
@@ -152,6 +168,7 @@ few : (task : Task) → length (stood_at task) ≤ 16
 few (Put a n) = omega arith
 few (Move a to n) = omega arith
 few (Bad a) = omega arith
+few (Peek a) = omega arith
 few (Paying a to n) = omega arith
 few (Paid a to v) = omega arith
 
@@ -159,6 +176,7 @@ at_most_3 : (task : Task) → left task ≤ 127
 at_most_3 (Put a n) = omega arith
 at_most_3 (Move a to n) = omega arith
 at_most_3 (Bad a) = omega arith
+at_most_3 (Peek a) = omega arith
 at_most_3 (Paying a to n) = omega arith
 at_most_3 (Paid a to v) = omega arith
 
@@ -166,6 +184,7 @@ at_least_1 : (task : Task) → 1 ≤ left task
 at_least_1 (Put a n) = omega arith
 at_least_1 (Move a to n) = omega arith
 at_least_1 (Bad a) = omega arith
+at_least_1 (Peek a) = omega arith
 at_least_1 (Paying a to n) = omega arith
 at_least_1 (Paid a to v) = omega arith
 
@@ -192,7 +211,7 @@ meaning actors tx c world h = by (left c.task) refl (step actors c c.task (state
 pub example_facts : (actors : ℕ) → Facts actors (scripts actors) (IsTxOf actors) (IsRestOf actors) (finish actors)
 unfolding script
 example_facts actors = record {
-  starts = λ t tx h. begins tx h (task_of tx.method tx) (begins_at tx);
+  starts = λ t tx h. begins tx h (task_of tx.method tx) (begins_at tx) (reading tx);
   stays = λ tx c d s b h e. (right actors tx c.task c.limited c.rests s b d h e).rest;
   begins_at_root = λ t tx. (begins_at tx).0;
   goes_elsewhere = λ tx c d s b h e. let g = right actors tx c.task c.limited c.rests s b d h e in (g.there, g.other, subst (λ z. z < actors) g.there g.rest.here);
@@ -205,6 +224,7 @@ example_facts actors = record {
   few_visits = λ t tx. at_most_3 (task_of tx.method tx);
   one_visit = λ tx c h. at_least_1 c.task;
   visits_fall = λ tx c d s b h e. omega (arith, (right actors tx c.task c.limited c.rests s b d h e).less);
+  readers_leave = λ tx c s q h. peeks actors c c.task s (h.reads q);
   only_named_by_tid = λ t u tx world. refl;
   slices_keep_the_meaning = λ tx c world h lt. meaning actors tx c world h;
 }

@@ -1,4 +1,4 @@
--- A tiny method language, for worked runs: put, move and bad, on the first field of the actors.
+-- A tiny method language, for worked runs: put, move, bad and peek, on the first field of the actors.
 use Rattle.std.specs.Prelude.{◌≡◌, ◌≢◌, ℕ, zero, suc, ◌<◌, ◌==◌, nat_le, Bool, true, false, not, ◌&&◌, ℤ, pos, ◌+ℤ◌, ◌-ℤ◌, int_lt, nat_abs, if◌then◌else◌, Option, Some, None, List, [], ◌∷◌, filter, replicate, slice_index_or, slice_set}
 use Rattle.snap_base.specs.declared.transactions.Kind.TheVariants as kinds
 use Rattle.snap_base.specs.declared.transactions.State.{State}
@@ -17,6 +17,8 @@ pub data Task : Type 0 where
   Move : (actor : ℕ) (to : ℕ) (n : ℤ) → Task
   -- adds 1 and fails with 9
   Bad : (actor : ℕ) → Task
+  -- gives the field, and only reads
+  Peek : (actor : ℕ) → Task
   -- the second part of a move, on the other actor
   Paying : (actor : ℕ) (to : ℕ) (n : ℤ) → Task
   -- its last part, back on the first actor
@@ -38,12 +40,13 @@ abbrev pub argument : ℕ → Tx → ℤ
 argument i tx = slice_index_or tx.args i (pos 0)
 
 abbrev pub task_of : ℕ → Tx → Task
-task_of method tx = if method == 0 then Put (root tx) (argument 0 tx) else (if method == 1 then Move (root tx) (nat_abs (argument 0 tx)) (argument 1 tx) else Bad (root tx))
+task_of method tx = if method == 0 then Put (root tx) (argument 0 tx) else (if method == 1 then Move (root tx) (nat_abs (argument 0 tx)) (argument 1 tx) else (if method == 3 then Peek (root tx) else Bad (root tx)))
 
 abbrev pub stands_at : Task → ℕ
 stands_at (Put a n) = a
 stands_at (Move a to n) = a
 stands_at (Bad a) = a
+stands_at (Peek a) = a
 stands_at (Paying a to n) = to
 stands_at (Paid a to v) = a
 
@@ -51,6 +54,7 @@ abbrev pub left : Task → ℕ
 left (Put a n) = 1
 left (Move a to n) = 3
 left (Bad a) = 1
+left (Peek a) = 1
 left (Paying a to n) = 2
 left (Paid a to v) = 1
 
@@ -58,6 +62,7 @@ abbrev pub stood_at : Task → List ℕ
 stood_at (Put a n) = a ∷ []
 stood_at (Move a to n) = a ∷ []
 stood_at (Bad a) = a ∷ []
+stood_at (Peek a) = a ∷ []
 stood_at (Paying a to n) = a ∷ to ∷ []
 stood_at (Paid a to v) = a ∷ to ∷ []
 
@@ -88,6 +93,7 @@ abbrev pub step : ℕ → Script → Task → State → Sliced Script
 step actors c (Put a n) s = ends (with_field (field s +ℤ n) s) (Value (field s +ℤ n))
 step actors c (Move a to n) s = moves (int_lt (field s) n) actors c a to n s
 step actors c (Bad a) s = ends (with_field (field s +ℤ pos 1) s) (Fail 9)
+step actors c (Peek a) s = ends s (Value (field s))
 step actors c (Paying a to n) s = goes (with_field (field s +ℤ n) s) a (with_task (Paid a to (field s +ℤ n)) (filter (λ x. not (x == to)) c.rests) c)
 step actors c (Paid a to v) s = ends s (Value v)
 
@@ -100,6 +106,7 @@ scripts actors = record {
   visited = λ c. stood_at c.task;
   visits_left = λ c. left c.task;
   slice = λ c s. step actors c c.task s;
+  only_reads = λ tx. tx.method == 3;
 }
 
 -- ---- what it means
@@ -109,6 +116,7 @@ abbrev pub begun_at : Task → ℕ
 begun_at (Put a n) = a
 begun_at (Move a to n) = a
 begun_at (Bad a) = a
+begun_at (Peek a) = a
 begun_at (Paying a to n) = a
 begun_at (Paid a to v) = a
 
@@ -117,8 +125,18 @@ abbrev pub IsElsewhere : Task → Type 0
 IsElsewhere (Put a n) = Unit {0}
 IsElsewhere (Move a to n) = Unit {0}
 IsElsewhere (Bad a) = Unit {0}
+IsElsewhere (Peek a) = Unit {0}
 IsElsewhere (Paying a to n) = a ≢ to
 IsElsewhere (Paid a to v) = Unit {0}
+
+-- it only reads
+abbrev pub is_peek : Task → Bool
+is_peek (Put a n) = false
+is_peek (Move a to n) = false
+is_peek (Bad a) = false
+is_peek (Peek a) = true
+is_peek (Paying a to n) = false
+is_peek (Paid a to v) = false
 
 -- a script is a rest of a transaction
 pub record IsRestOf (actors : ℕ) (tx : Tx) (c : Script) : Type 0 where
@@ -126,6 +144,7 @@ pub record IsRestOf (actors : ℕ) (tx : Tx) (c : Script) : Type 0 where
   pub began : begun_at c.task < actors
   pub here : stands_at c.task < actors
   pub elsewhere : IsElsewhere c.task
+  pub reads : (tx.method == 3) ≡ true → is_peek c.task ≡ true
   pub rests_here : c.limited ≡ true → is_among (stands_at c.task) c.rests ≡ true
   pub rests_there : c.limited ≡ true → is_among (begun_at c.task) c.rests ≡ true
 

@@ -98,6 +98,10 @@ act_move a to n = act a 1 (pos to ∷ n ∷ [])
 abbrev pub act_bad : ℕ → Tx
 act_bad a = act a 2 []
 
+-- it only reads
+abbrev pub act_peek : ℕ → Tx
+act_peek a = act a 3 []
+
 -- ---- cascades
 
 -- the batches from one to another were taken along by a transaction, which failed with this code; the next commit

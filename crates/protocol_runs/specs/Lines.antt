@@ -29,8 +29,9 @@ pub data Line : Type 0 where
   Fields : (values : List ℤ) → Line
   -- the fields in an actor's images, in the order in which they were taken
   Images : (actor : ℕ) (values : List ℤ) → Line
-  -- an actor's floor, and the last batch that was placed there
+  -- an actor's write floor and its read floor, and the last batch that was placed there
   Floor : (actor : ℕ) (bid : ℕ) → Line
+  ReadFloor : (actor : ℕ) (bid : ℕ) → Line
   Last : (actor : ℕ) (bid : ℕ) → Line
   -- the before number and the after number of an ACT
   Numbers : (tid : ℕ) (m : ℕ) (n : Option ℕ) → Line
@@ -75,7 +76,8 @@ abbrev pub showing : Fixed Script → Line → Machine Script → Line
 showing w (Field a v) s = shown (λ c. Field a (field c.state)) (slice_get s.cells a)
 showing w (Fields vs) s = Fields (fields s)
 showing w (Images a vs) s = shown (λ c. Images a (map (λ i. field i.state) c.images)) (slice_get s.cells a)
-showing w (Floor a k) s = shown (λ c. Floor a c.floor) (slice_get s.cells a)
+showing w (Floor a k) s = shown (λ c. Floor a c.floors.write) (slice_get s.cells a)
+showing w (ReadFloor a k) s = shown (λ c. ReadFloor a c.floors.read) (slice_get s.cells a)
 showing w (Last a k) s = shown (λ c. Last a c.last) (slice_get s.cells a)
 showing w (Numbers t m n) s = shown (λ x. Numbers t x.m x.n) (act_of t s.book.acts)
 showing w (Results k rs) s = shown (λ b. Results k (map (λ p. p.result) b.pacts)) (batch_of k s.desk.batches)

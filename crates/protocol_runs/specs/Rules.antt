@@ -5,8 +5,8 @@ use Rattle.protocol.specs.Records.{ActPrepare, ActDone}
 use Rattle.protocol.specs.Events.{Submit, Form, Admit, Arrive, Ask, Take, Run, Send, End, Close, Complete, Sync, Note, Commit, Settle, Abort, Rollback, Prepare, Vouch, Decide, Seal, Finish, Trim}
 use Rattle.protocol.specs.Verdicts.{died}
 use Rattle.protocol_runs.specs.ExampleCode.{holding}
-use Rattle.protocol_runs.specs.Examples.{text, on_logs, at_most, two_actors, put, move, bad, act_put, act_move, act_bad, committed, coded, batch_coded, cascaded, taken}
-use Rattle.protocol_runs.specs.Lines.{Worked, Does, Refuses, Ends, Field, Fields, Images, Floor, Last, Numbers, Results, Cascades, Records, Verdicts}
+use Rattle.protocol_runs.specs.Examples.{text, on_logs, at_most, two_actors, put, move, bad, act_put, act_move, act_bad, act_peek, committed, coded, batch_coded, cascaded, taken}
+use Rattle.protocol_runs.specs.Lines.{Worked, Does, Refuses, Ends, Field, Fields, Images, Floor, ReadFloor, Last, Numbers, Results, Cascades, Records, Verdicts}
 
 -- An ACT that failed by its own code has its place all the same: the actor's floor rises to its before number.
 abbrev pub floor_of_a_failure : Worked
@@ -230,6 +230,59 @@ live_until_trimmed = record {
       ∷ [];
 }
 
+-- Two ACTs that only read stand on an actor together, and the one behind may run first.
+abbrev pub readers_together : Worked
+readers_together = record {
+  work = text 1 16 (pos 100 ∷ []) (act_peek 0 ∷ act_peek 0 ∷ []);
+  lines =
+      Does (Submit 0 ∷ Submit 1 ∷ Admit 1 ∷ Admit 2 ∷ Ask 2 0 ∷ Ask 1 0 ∷ Run 1 0 ∷ Run 2 0 ∷ [])
+      ∷ Images 0 []
+      ∷ Ends
+      ∷ Verdicts (committed 0 1 1 (pos 100) ∷ committed 0 1 2 (pos 100) ∷ [])
+      ∷ Fields (pos 100 ∷ [])
+      ∷ [];
+}
+
+-- A writer dies of an older reader.
+abbrev pub a_writer_dies : Worked
+a_writer_dies = record {
+  work = text 1 16 (pos 100 ∷ []) (act_peek 0 ∷ act_put 0 (pos 5) ∷ []);
+  lines =
+      Does (Submit 0 ∷ Submit 1 ∷ Admit 1 ∷ Admit 2 ∷ Ask 1 0 ∷ Ask 2 0 ∷ [])
+      ∷ Ends
+      ∷ Verdicts (committed 0 1 1 (pos 100) ∷ Some (died 0 1 2) ∷ [])
+      ∷ Fields (pos 100 ∷ [])
+      ∷ [];
+}
+
+-- A writer waits for the reader ahead of it, and has its number behind the reader's.
+abbrev pub a_writer_waits : Worked
+a_writer_waits = record {
+  work = text 1 16 (pos 100 ∷ []) (act_put 0 (pos 5) ∷ act_peek 0 ∷ []);
+  lines =
+      Does (Submit 0 ∷ Submit 1 ∷ Admit 1 ∷ Admit 2 ∷ Ask 2 0 ∷ Ask 1 0 ∷ [])
+      ∷ Refuses (Run 1 0) 2
+      ∷ Ends
+      ∷ Verdicts (committed 0 1 2 (pos 105) ∷ committed 0 1 1 (pos 100) ∷ [])
+      ∷ Fields (pos 105 ∷ [])
+      ∷ [];
+}
+
+-- A reader raises the read floor, which a reader does not pass and a writer does.
+abbrev pub two_floors : Worked
+two_floors = record {
+  work = text 1 16 two_actors (put 0 (pos 1) (0 ∷ []) ∷ act_peek 0 ∷ act_peek 0 ∷ act_put 0 (pos 7) ∷ []);
+  lines =
+      Does (Submit 0 ∷ Form 1 ∷ Arrive 1 0 ∷ Take 1 0 ∷ Run 1 0 ∷ End 1 0 ∷ Complete 1 0 ∷ Submit 1 ∷ Admit 2 ∷ Ask 2 0 ∷ Run 2 0 ∷ End 2 0 ∷ [])
+      ∷ Does (Sync 0 ∷ Note 1 0 ∷ Commit 1 ∷ Sync 0 ∷ Settle 1 ∷ [])
+      ∷ Floor 0 0
+      ∷ ReadFloor 0 0
+      ∷ Ends
+      ∷ Floor 0 0
+      ∷ ReadFloor 0 1
+      ∷ [];
+}
+
 -- all of them
 abbrev pub rules : List Worked
 rules =
@@ -245,4 +298,8 @@ rules =
     ∷ live_until_finished
     ∷ dead_before_any_actor
     ∷ live_until_trimmed
+    ∷ readers_together
+    ∷ a_writer_dies
+    ∷ a_writer_waits
+    ∷ two_floors
     ∷ []

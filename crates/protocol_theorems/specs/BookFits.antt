@@ -4,9 +4,9 @@ use Rattle.std.specs.Prelude.{◌≡◌, ℕ, ◌≤◌, ◌==◌, Bool, true, f
 use Rattle.std.specs.List.{AllByRecursion}
 use Rattle.snap_base.specs.declared.transactions.State.{State}
 use Rattle.snap_base.specs.declared.verdicts.Verdict.{Verdict}
-use Rattle.protocol.specs.Fixed.{Fixed, Next, Go, Ended, base}
+use Rattle.protocol.specs.Fixed.{Fixed, Next, Go, Ended, base, is_reader}
 use Rattle.protocol.specs.Parts.{Status, Live, Doomed, Decided, Sealed, Act, Book, Outcome, Machine}
-use Rattle.protocol.specs.Words.{holds, act_of, joined_of, has_act, outcome_of, is_decided, is_doomed, is_ordered, is_live_status}
+use Rattle.protocol.specs.Words.{holds, act_of, joined_of, has_act, outcome_of, is_decided, is_doomed, is_ordered, is_live_status, lock_of, floor_at}
 use Rattle.protocol.specs.Numbers.{times}
 use Rattle.protocol.specs.Verdicts.{act_verdict}
 use Rattle.protocol.specs.Events.{Event, Admit, Arrive, Ask, End, Abort, Prepare, Vouch, Decide, Seal, Finish}
@@ -75,9 +75,9 @@ votes_ended t false actors x v = v
 votes_ended t true actors x v = votes_from t actors x v
 
 abbrev pub orders_after : {C : Type 0} → Fixed C → Event → Machine C → Book → Book
-orders_after w (Admit t) s o = act_admitted t (next_act s.ring) (base w.text) o
+orders_after w (Admit t) s o = act_admitted t (next_act s.ring) (is_reader w (next_act s.ring)) (base w.text) o
 orders_after w (Arrive k a) s o = batch_arrived k a (tids_on (cell_at s a).entries) o
-orders_after w (Ask t a) s o = act_asked (in_the_way t (cell_at s a).entries) (met t (cell_at s a).entries) t a (max (cell_at s a).last (cell_at s a).floor) o
+orders_after w (Ask t a) s o = act_asked (in_the_way (lock_of t s.book.acts) (cell_at s a).entries) (met (lock_of t s.book.acts) (cell_at s a).entries) t a (max (cell_at s a).last (floor_at t s.book.acts (cell_at s a))) o
 orders_after w (Abort k) s o = orders_cascaded k (failed_tx (why k s.desk)) o
 orders_after w (Decide t) s o = has_place t o
 orders_after w (Finish t a) s o = act_finished t a o

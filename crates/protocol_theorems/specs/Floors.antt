@@ -1,5 +1,5 @@
 -- Floors: the greatest before number of the ACTs that left an actor sealed.
-use Rattle.std.specs.Prelude.{◌≡◌, ℕ, max, true, Option, Some, None, List, map}
+use Rattle.std.specs.Prelude.{◌≡◌, ℕ, max, not, Bool, true, false, Option, Some, None, List, map}
 use Rattle.std.specs.List.{AllByRecursion}
 use Rattle.protocol.specs.Rivals.{Lock}
 use Rattle.protocol.specs.Parts.{Act}
@@ -12,6 +12,11 @@ number_or_0 (Some x) = x.m
 -- the before number that the book has of it
 abbrev pub number_in : List Act → Lock → ℕ
 number_in acts x = number_or_0 (act_of x.tid acts)
+
+-- of this kind: readers, or others
+abbrev pub is_kind : Bool → Lock → Bool
+is_kind true x = x.reader
+is_kind false x = not x.reader
 
 -- All of these are sealed, and the floor is the greatest of their numbers and the first one.
 pub record FloorIs (first : ℕ) (acts : List Act) (floor : ℕ) (left : List Lock) : Type 0 where

@@ -1,5 +1,5 @@
 -- The order of committed transactions: what every run owes of it.
-use Rattle.std.specs.Prelude.{◌≡◌, ℕ, ℤ, ◌<◌, Some, List, length, map}
+use Rattle.std.specs.Prelude.{◌≡◌, ℕ, ℤ, ◌<◌, true, ◌&&◌, Option, Some, None, List, [], ◌∷◌, ◌++◌, length, map}
 use Rattle.std.specs.List.{AllByRecursion}
 use Rattle.snap_base.specs.declared.transactions.State.{State}
 use Rattle.snap_base.specs.declared.transactions.TxResult.TheVariants.{Value, Fail}
@@ -11,11 +11,23 @@ use Rattle.protocol.specs.Parts.{Machine}
 use Rattle.protocol.specs.Verdicts.{verdict, ended_at}
 use Rattle.protocol.specs.Effects.{cell_at}
 use Rattle.protocol.specs.Runs.{IsQuiet}
-use Rattle.protocol.specs.History.{History}
-use Rattle.protocol.specs.Chains.{chain, by_place, PlacesRise, IsSerial, serial_run}
+use Rattle.protocol.specs.History.{View, Done, History}
+use Rattle.protocol.specs.Chains.{chain, by_place, PlacesRise, RivalsRise, IsSerial, serial_run}
 use Rattle.protocol_laws.specs.Commits.{StatesLink, last_state}
 use Rattle.protocol_laws.specs.Linked.{IsExplained, PlacesDiffer, visitors}
 use Rattle.protocol_laws.specs.Told.{IsAmongDone}
+
+-- ---- readers
+
+-- it left what it found
+abbrev pub LeavesIt : Option View → Type 0
+LeavesIt None = Unit {0}
+LeavesIt (Some v) = v.left ≡ v.found
+
+-- The first list is the second one, in which readers may stand further ahead, past readers alone.
+pub data Shuffled : List Done → List Done → Type 0 where
+  Nobody : (cs us : List Done) → cs ≡ [] → us ≡ [] → Shuffled cs us
+  Put : (cs us front back rest : List Done) (d : Done) → cs ≡ front ++ d ∷ back → us ≡ rest ++ d ∷ [] → AllByRecursion (λ x. (x.reader && d.reader) ≡ true) back → Shuffled (front ++ back) rest → Shuffled cs us
 
 -- ---- the last law
 
@@ -26,8 +38,8 @@ pub record OrderStands {C : Type 0} (w : Fixed C) (finish : C → List State →
   pub explained : AllByRecursion (IsExplained w finish) h.committed
   -- no two places are equal
   pub rise : PlacesRise (by_place h.committed)
-  -- on each actor places rise in the order in which they were placed there, and states link
-  pub chains_rise : (a : ℕ) → a < length w.text.opening.states → PlacesRise (chain a h)
+  -- on each actor places rise in the order in which they were placed there, but for two readers, and states link
+  pub chains_rise : (a : ℕ) → a < length w.text.opening.states → RivalsRise (chain a h)
   pub chains_link : (a : ℕ) → a < length w.text.opening.states → StatesLink a (state_in w.text.opening.states a) (chain a h)
   -- who is told that it committed, or failed by its own code, at a place, is one of them
   pub told_value : (n : ℕ) (p : Place) (v : ℤ) → verdict n s.book s.desk ≡ Some (verdicts.Committed p v) → IsAmongDone n p (Value v) h.committed
@@ -45,12 +57,14 @@ pub record OrderHolds {C : Type 0} (w : Fixed C) (finish : C → List State → 
 pub record OrderFacts {C : Type 0} (w : Fixed C) (finish : C → List State → Alone) (s : Machine C) (h : History) : Type 0 where
   -- what each found explains its result
   pub explained : AllByRecursion (IsExplained w finish) h.committed
-  -- in the order of commits states link on each actor, and places rise
+  -- in the order of commits states link on each actor, and places rise, but for two readers
   pub linked : (a : ℕ) → a < length w.text.opening.states → StatesLink a (state_in w.text.opening.states a) h.committed
-  pub rise : (a : ℕ) → a < length w.text.opening.states → PlacesRise (visitors a h.committed)
+  pub rise : (a : ℕ) → a < length w.text.opening.states → RivalsRise (visitors a h.committed)
+  -- a reader leaves what it finds
+  pub still : (a : ℕ) → AllByRecursion (λ d. d.reader ≡ true → LeavesIt (d.views a)) h.committed
   pub differ : PlacesDiffer h.committed
-  -- the order of placing is the order of commits
-  pub chains : (a : ℕ) → a < length w.text.opening.states → chain a h ≡ visitors a h.committed
+  -- the order of placing is the order of commits, but that a reader may stand ahead of readers that committed before it
+  pub chains : (a : ℕ) → a < length w.text.opening.states → Shuffled (chain a h) (visitors a h.committed)
   -- verdicts are of them
   pub told_value : (n : ℕ) (p : Place) (v : ℤ) → verdict n s.book s.desk ≡ Some (verdicts.Committed p v) → IsAmongDone n p (Value v) h.committed
   pub told_code : (n : ℕ) (p : Place) (c : ℕ) → verdict n s.book s.desk ≡ Some (verdicts.Code p c) → IsAmongDone n p (Fail c) h.committed

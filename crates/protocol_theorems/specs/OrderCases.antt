@@ -1,5 +1,5 @@
 -- The cases of order: who stands behind whom, on an actor's chain and on its schedule, and what their numbers then are.
-use Rattle.std.specs.Prelude.{◌≡◌, ℕ, ◌<◌, ◌≤◌, ◌==◌, Bool, true, false, ◌⊎◌, Some, List, [], ◌∷◌, length}
+use Rattle.std.specs.Prelude.{◌≡◌, ℕ, ◌<◌, ◌≤◌, ◌==◌, Bool, true, false, ◌⊎◌, Some, List, [], ◌∷◌, length, ◌&&◌}
 use Rattle.std.specs.List.{AllByRecursion}
 use Rattle.snap_base.specs.declared.transactions.State.{State}
 use Rattle.protocol.specs.Fixed.{Fixed}
@@ -35,8 +35,9 @@ BatchBehindAct d e = (t k : ℕ) → d.who ≡ OfAct t → e.who ≡ OfBatch k �
 abbrev pub ActBehindBatch : Done → Done → Type 0
 ActBehindBatch d e = (k t : ℕ) → d.who ≡ OfBatch k → e.who ≡ OfAct t → k ≤ number_of e
 
+-- where they do not both only read
 abbrev pub ActBehindAct : Done → Done → Type 0
-ActBehindAct d e = (t u : ℕ) → d.who ≡ OfAct t → e.who ≡ OfAct u → (number_of d ≤ number_of e) × (d.place.order < e.place.order)
+ActBehindAct d e = (t u : ℕ) → d.who ≡ OfAct t → e.who ≡ OfAct u → (d.reader && e.reader) ≡ false → (number_of d ≤ number_of e) × (d.place.order < e.place.order)
 
 -- and in one batch by tid
 abbrev pub BatchBehindBatch : Done → Done → Type 0

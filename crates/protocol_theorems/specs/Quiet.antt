@@ -43,14 +43,20 @@ BehindBatches acts [] = Unit {0}
 BehindBatches acts (ActEntry x ∷ es) = BehindBatches acts es
 BehindBatches acts (BatchEntry b ∷ es) = ((t : ℕ) (y : Act) → has_act t es ≡ true → act_of t acts ≡ Some y → is_doomed y.status ≡ false → b.bid ≤ y.m) × BehindBatches acts es
 
--- of two ACTs on a schedule that are not doomed, the one ahead has a smaller before number, or the same and is younger
+-- of two ACTs on a schedule that are not doomed, and do not both only read, the one ahead has a smaller before number, or the same and is younger
 abbrev pub IsAheadOf : Act → Act → Type 0
 IsAheadOf x y = (x.m < y.m) ⊎ ((x.m ≤ y.m) × (y.tid < x.tid))
 
 abbrev pub ActsInOrder : List Act → List Entry → Type 0
 ActsInOrder acts [] = Unit {0}
 ActsInOrder acts (BatchEntry b ∷ es) = ActsInOrder acts es
-ActsInOrder acts (ActEntry z ∷ es) = ((t : ℕ) (x y : Act) → has_act t es ≡ true → act_of z.tid acts ≡ Some x → act_of t acts ≡ Some y → is_doomed x.status ≡ false → is_doomed y.status ≡ false → IsAheadOf x y) × ActsInOrder acts es
+ActsInOrder acts (ActEntry z ∷ es) = ((t : ℕ) (x y : Act) → has_act t es ≡ true → act_of z.tid acts ≡ Some x → act_of t acts ≡ Some y → is_doomed x.status ≡ false → is_doomed y.status ≡ false → (x.reader && y.reader) ≡ false → IsAheadOf x y) × ActsInOrder acts es
+
+-- an entry tells of its ACT whether it only reads
+abbrev pub EntriesTell : List Act → List Entry → Type 0
+EntriesTell acts [] = Unit {0}
+EntriesTell acts (BatchEntry b ∷ es) = EntriesTell acts es
+EntriesTell acts (ActEntry z ∷ es) = ((x : Act) → act_of z.tid acts ≡ Some x → x.reader ≡ z.reader) × EntriesTell acts es
 
 -- each is below all that follow
 abbrev pub Rises : List ℕ → Type 0
@@ -114,6 +120,7 @@ pub record ActsPlaced {C : Type 0} (w : Fixed C) (s : Machine C) : Type 0 where
   pub before : (a : ℕ) → (cell_at s a).epoch ≡ epoch s.book → BeforeBatches s.book.acts (cell_at s a).entries
   pub behind : (a : ℕ) → (cell_at s a).epoch ≡ epoch s.book → BehindBatches s.book.acts (cell_at s a).entries
   pub in_order : (a : ℕ) → (cell_at s a).epoch ≡ epoch s.book → ActsInOrder s.book.acts (cell_at s a).entries
+  pub tell : (a : ℕ) → EntriesTell s.book.acts (cell_at s a).entries
   -- a before number is base, or a batch's that is not aborted
   pub number : (t : ℕ) (x : Act) → act_of t s.book.acts ≡ Some x → is_doomed x.status ≡ false → (x.m ≤ base w.text) ⊎ (holds (λ b. not b.aborted) (batch_of x.m s.desk.batches) ≡ true)
   pub settled : (k : ℕ) (b : Batch) → batch_of k s.desk.batches ≡ Some b → is_settled b.stage ≡ true → k ≤ s.desk.settled
@@ -179,5 +186,6 @@ pub record StillOwed {C : Type 0} (w : Fixed C) (s : Machine C) : Type 0 where
   pub before : (a : ℕ) → (cell_at s a).epoch ≡ epoch s.book → BeforeBatches s.book.acts (cell_at s a).entries
   pub behind : (a : ℕ) → (cell_at s a).epoch ≡ epoch s.book → BehindBatches s.book.acts (cell_at s a).entries
   pub in_order : (a : ℕ) → (cell_at s a).epoch ≡ epoch s.book → ActsInOrder s.book.acts (cell_at s a).entries
+  pub tell : (a : ℕ) → EntriesTell s.book.acts (cell_at s a).entries
   pub number : (t : ℕ) (x : Act) → act_of t s.book.acts ≡ Some x → is_doomed x.status ≡ false → (x.m ≤ base w.text) ⊎ (holds (λ b. not b.aborted) (batch_of x.m s.desk.batches) ≡ true)
   pub somewhere : (t : ℕ) (x : Act) → act_of t s.book.acts ≡ Some x → is_sealed x.status ≡ true → is_empty x.places ≡ false

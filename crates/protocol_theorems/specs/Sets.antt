@@ -1,5 +1,5 @@
 -- Before and after numbers against the batches that stand before and behind an ACT.
-use Rattle.std.specs.Prelude.{◌≡◌, ℕ, ◌<◌, ◌==◌, max, Bool, true, false, ◌&&◌, ◌||◌, Option, Some, None, List, [], ◌∷◌, length, map}
+use Rattle.std.specs.Prelude.{◌≡◌, ℕ, ◌<◌, ◌==◌, max, Bool, true, false, ◌&&◌, ◌||◌, Option, Some, None, List, [], ◌∷◌, length, map, filter}
 use Rattle.std.specs.List.{AllByRecursion}
 use Rattle.protocol.specs.Parts.{Act, Cascade, OfBatch, OfAct}
 use Rattle.protocol.specs.Words.{greatest, least_of, is_among, is_aborted, is_doomed, is_live_status}
@@ -13,9 +13,9 @@ use Rattle.protocol.specs.Words.{holds, act_of, is_ordered}
 use Rattle.protocol.specs.Spread.{reaches}
 use Rattle.protocol.specs.Effects.{cell_at}
 use Rattle.protocol.specs.History.{History}
-use Rattle.protocol.specs.Chains.{PlacesRise}
-use Rattle.protocol_theorems.specs.Floors.{number_in}
-use Rattle.protocol_laws.specs.Highs.{doomed_at}
+use Rattle.protocol.specs.Chains.{RivalsRise}
+use Rattle.protocol_theorems.specs.Floors.{number_in, is_kind}
+use Rattle.protocol_laws.specs.Highs.{doomed_at, own_floor}
 use Rattle.protocol_laws.specs.Rising.{visitors, PlacesDiffer}
 
 -- the before number of one that is not doomed is the greatest of its set
@@ -67,8 +67,8 @@ pub record NumbersStand {C : Type 0} (w : Fixed C) (finish : C → List State �
   pub placed_below : (t : ℕ) (x : Act) → act_of t s.book.acts ≡ Some x → is_ordered x.status ≡ true → reaches x.m x.n ≡ false
   -- who has its place stands behind doomed ones alone
   pub placed_behind_none : AllByRecursion (λ p. holds (λ x. is_ordered x.status) (act_of p.behind s.book.acts) ≡ true → doomed_at s.book.acts p.ahead ≡ true) s.book.pairs
-  -- an actor's floor is the greatest before number of those that left it sealed
-  pub floors_are : (a : ℕ) → a < length w.text.opening.states → (cell_at s a).floor ≡ max (base w.text) (greatest (map (number_in s.book.acts) (h.left_sealed a)))
-  -- on each actor places rise in the order of commits, and no two places are equal
-  pub places_rise : (a : ℕ) → PlacesRise (visitors a h.committed)
+  -- an actor's floor for readers is the greatest before number of the readers that left it sealed, and its other floor that of the others
+  pub floors_are : (a : ℕ) (r : Bool) → a < length w.text.opening.states → own_floor r (cell_at s a).floors ≡ max (base w.text) (greatest (map (number_in s.book.acts) (filter (is_kind r) (h.left_sealed a))))
+  -- on each actor places rise in the order of commits, readers among themselves aside, and no two places are equal
+  pub places_rise : (a : ℕ) → RivalsRise (visitors a h.committed)
   pub places_differ : PlacesDiffer h.committed

@@ -1,12 +1,13 @@
 -- Who waits for whom. A batch or an ACT that still has something to do waits for another one in five cases, each time for one
 -- that is lower: by number, a batch before an ACT of the same number, and of two such ACTs the younger first. So nobody waits
--- in a circle; and where one waits for nobody, some event is allowed.
+-- in a circle; and where one waits for nobody, some event is allowed. An ACT that only reads does not wait for another such.
 use Rattle.std.specs.Prelude.{◌≡◌, ℕ, ◌<◌, ◌≤◌, ◌==◌, Bool, true, false, ◌&&◌, ◌||◌, ◌⊎◌, is_some, List, [], ◌∷◌, ◌++◌}
 use Rattle.snap_base.specs.declared.transactions.State.{State}
 use Rattle.protocol.specs.Facts.{Alone}
 use Rattle.protocol.specs.Fixed.{Fixed}
+use Rattle.protocol.specs.Rivals.{rivals}
 use Rattle.protocol.specs.Parts.{Who, OfBatch, OfAct, Entry, Machine}
-use Rattle.protocol.specs.Words.{holds, is_among, is_live_status, is_open, is_live_batch, is_who, who_of, act_of, batch_of, has_act, batches_on, waiting_of}
+use Rattle.protocol.specs.Words.{holds, is_among, is_live_status, is_open, is_live_batch, is_who, who_of, act_of, batch_of, lock_of, has_act, batches_on, waiting_of}
 use Rattle.protocol.specs.Conditions.{epoch}
 use Rattle.protocol.specs.Effects.{cell_at}
 use Rattle.protocol.specs.Runs.{IsQuiet}
@@ -43,9 +44,13 @@ pub record StandsAhead {C : Type 0} (s : Machine C) (y x : Who) : Type 0 where
 abbrev pub HasEndedAt : {C : Type 0} → Machine C → ℕ → ℕ → Type 0
 HasEndedAt s t k = holds (λ x. is_live_status x.status && (is_some x.result && (x.m == k))) (act_of t s.book.acts) ≡ true
 
--- an ACT whose control lies in the inbox of an actor runs there once nobody stands ahead of it
+-- an ACT whose control lies in the inbox of an actor runs there once nobody stands ahead of it but ACTs that are no rivals of it
 abbrev pub IsKeptBack : {C : Type 0} → Machine C → ℕ → Who → Type 0
 IsKeptBack s t y = (p : StandsAhead s y (OfAct t)) × (is_some (waiting_of t (cell_at s p.actor).inbox) ≡ true)
+
+-- they can't have an actor together
+abbrev pub AreRivals : {C : Type 0} → Machine C → ℕ → ℕ → Type 0
+AreRivals s u t = rivals (lock_of u s.book.acts) (lock_of t s.book.acts) ≡ true
 
 -- a batch that is formed, and not taken along by a cascade
 abbrev pub IsOpenBatch : {C : Type 0} → Machine C → ℕ → Type 0
@@ -54,8 +59,8 @@ IsOpenBatch s k = holds is_open (batch_of k s.desk.batches) ≡ true
 abbrev pub Waits : {C : Type 0} → Machine C → Who → Who → Type 0
 -- an ACT for the batch of its before number, and for a batch ahead of it
 Waits s (OfAct t) (OfBatch k) = HasEndedAt s t k ⊎ IsKeptBack s t (OfBatch k)
--- for an ACT ahead of it
-Waits s (OfAct t) (OfAct u) = IsKeptBack s t (OfAct u)
+-- for a rival ahead of it
+Waits s (OfAct t) (OfAct u) = IsKeptBack s t (OfAct u) × AreRivals s u t
 -- an open batch for each smaller one
 Waits s (OfBatch k) (OfBatch j) = IsOpenBatch s k × (j < k)
 -- and for an ACT ahead of it

@@ -20,7 +20,7 @@ ghost use Rattle.protocol_theorems.specs.BookFits.{BookFits, HalvesGoOn, HalvesM
 /// any two halves.
 pub fn books_are_of_parts<C>()
     ensures begins { (w : Fixed C) → IsOfHalves (opening_book w) no_orders (no_votes w.text.opening.next_c) }
-    ensures admits { (o v : Book) (cs : List Cascade) (t n m : ℕ) → act_of t v.acts ≡ None → act_admitted t n m (book_of o v cs) ≡ book_of (act_admitted t n m o) v cs }
+    ensures admits { (o v : Book) (cs : List Cascade) (t n : ℕ) (reader : Bool) (m : ℕ) → act_of t v.acts ≡ None → act_admitted t n reader m (book_of o v cs) ≡ book_of (act_admitted t n reader m o) v cs }
     ensures arrives { (o v : Book) (cs : List Cascade) (k a : ℕ) (tids : List ℕ) → batch_arrived k a tids (book_of o v cs) ≡ book_of (batch_arrived k a tids o) v cs }
     ensures dies { (o v : Book) (cs : List Cascade) (older : ℕ) (group : List Lock) (t a m : ℕ) → act_asked (Some older) group t a m (book_of o v cs) ≡ book_of (act_asked (Some older) group t a m o) v cs }
     ensures joins { (o v : Book) (cs : List Cascade) (group : List Lock) (t a m : ℕ) → act_of t v.acts ≡ None → act_asked None group t a m (book_of o v cs) ≡ book_of (act_asked None group t a m o) v cs }

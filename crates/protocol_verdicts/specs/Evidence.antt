@@ -10,7 +10,7 @@ use Rattle.protocol.specs.Fixed.{Fixed}
 use Rattle.protocol.specs.Facts.{Alone}
 use Rattle.protocol.specs.Parts.{Act, Decided, Pact, Batch, Machine}
 use Rattle.protocol.specs.Events.{Event, Arrive, Ask, Settle, Abort, Decide, Seal}
-use Rattle.protocol.specs.Words.{is_among, is_value, is_live_status, act_of, batch_of, tail_group, greatest}
+use Rattle.protocol.specs.Words.{is_among, is_value, is_live_status, act_of, batch_of, greatest, lock_of, rivals_in_tail}
 use Rattle.protocol.specs.Verdicts.{verdict, pact_place, act_place}
 use Rattle.protocol.specs.OnBook.{in_the_way}
 use Rattle.protocol.specs.Effects.{after, cell_at}
@@ -36,19 +36,19 @@ pub record IsLeast (n : ℕ) (ns : List ℕ) : Type 0 where
   pub is_there : is_among n ns ≡ true
   pub least : AllByRecursion (λ k. n ≤ k) ns
 
--- It asked for the actor, and the least tid of the tail group there was older.
+-- It asked for the actor, and the least tid among its rivals of the tail group there was older.
 pub record Dies {C : Type 0} (n a older own : ℕ) (e : Event) (s : Machine C) : Type 0 where
   pub act : Act
   pub event : e ≡ Ask own a
   pub is_act : IsAct n own act s
-  pub least : IsLeast older (map (λ x. x.tid) (tail_group (cell_at s a).entries))
+  pub least : IsLeast older (map (λ x. x.tid) (rivals_in_tail (lock_of own s.book.acts) (cell_at s a).entries))
   pub is_older : older < own
 
 -- ---- its two numbers
 
 -- a batch was placed on the actor, or an ACT with nobody older in its way
 abbrev pub PlacesOn : {C : Type 0} → ℕ → Event → Machine C → Type 0
-PlacesOn a e s = ((k : ℕ) × (e ≡ Arrive k a)) ⊎ ((t : ℕ) × ((e ≡ Ask t a) × (in_the_way t (cell_at s a).entries ≡ None)))
+PlacesOn a e s = ((k : ℕ) × (e ≡ Arrive k a)) ⊎ ((t : ℕ) × ((e ≡ Ask t a) × (in_the_way (lock_of t s.book.acts) (cell_at s a).entries ≡ None)))
 
 -- It was live, and behind the event its after number is not above its before number.
 pub record Crosses {C : Type 0} (w : Fixed C) (n m k a : ℕ) (e : Event) (s : Machine C) : Type 0 where

@@ -6,9 +6,10 @@ use Rattle.std.proofs.lemmas.List.{append-nil}
 use Rattle.std.proofs.lemmas.Bool.{eqb-true, leb-true, ltb-true, and_parts, and_from, or_cases, le-leb, true≢false, cases_lt, cases_Bool}
 use Rattle.snap_base.specs.declared.transactions.State.{State}
 use Rattle.protocol.specs.Fixed.{Fixed, IsText, Code, base}
+use Rattle.protocol.specs.Rivals.{Lock}
 use Rattle.protocol.specs.Parts.{Book, Cascade, SubBatch, Entry, BatchEntry, ActEntry, Cell, Machine}
 use Rattle.protocol.specs.Events.{Event, Form, Arrive, Ask, Take, Run, Send, End, Close, Complete, Abort, Rollback, Finish, Trim}
-use Rattle.protocol.specs.Words.{covers, holds, is_aborted, epoch_of, batches_on, sub_of, is_act_entry, is_batch_entry}
+use Rattle.protocol.specs.Words.{covers, holds, is_aborted, epoch_of, batches_on, sub_of, is_act_entry, is_batch_entry, lock_of}
 use Rattle.protocol.specs.Conditions.{IsAllowed, conditions, epoch}
 use Rattle.protocol.specs.Effects.{after, cell_at, no_cell}
 use Rattle.protocol.specs.Runs.{opening, new_cell, IsRun, reached}
@@ -85,8 +86,8 @@ one_cell {C} cs next s a c k h = all_set (FitsIn cs next) s.cells a c (k (all_ge
 fewer_fits : (cs : List Cascade) (next ep : ℕ) (p : Entry → Bool) (es : List Entry) → CellFits cs next ep (batches_on es) → CellFits cs next ep (batches_on (filter p es))
 fewer_fits cs next ep p es h = record { behind = h.behind; each = on_filter (Fits cs next ep) p es h.each }
 
-ask_fits : (cs : List Cascade) (next ep t : ℕ) (o : Option ℕ) (es : List Entry) → CellFits cs next ep (batches_on es) → CellFits cs next ep (batches_on (es ++ cell.act_entries t o))
-ask_fits cs next ep t None es h = same_batches cs next ep (batches_on es) _ (on_append es (ActEntry (record { tid = t }) ∷ []) ∙ append-nil (batches_on es)) h
+ask_fits : (cs : List Cascade) (next ep : ℕ) (t : Lock) (o : Option ℕ) (es : List Entry) → CellFits cs next ep (batches_on es) → CellFits cs next ep (batches_on (es ++ cell.act_entries t o))
+ask_fits cs next ep t None es h = same_batches cs next ep (batches_on es) _ (on_append es (ActEntry t ∷ []) ∙ append-nil (batches_on es)) h
 ask_fits cs next ep t (Some older) es h = same_batches cs next ep (batches_on es) _ (ap batches_on (append-nil es)) h
 
 run_fits : {C : Type 0} (cs : List Cascade) (next : ℕ) (code : Code C) (t a : ℕ) (c : Cell C) → FitsIn cs next c → FitsIn cs next (cell.slice_run code t a c)
@@ -182,7 +183,7 @@ cells_kept : {C : Type 0} (w : Fixed C) (e : Event) (s : Machine C) → IsAllowe
 unfolding conditions after
 cells_kept w (Form k) s ok h = higher_fits s.book.cascades s.ring.next_bid s.cells h.fits
 cells_kept w (Arrive k a) s ok h = one_cell _ _ s a _ (arrive_fits s.book.cascades s.ring.next_bid k (sub_of k a s.post.subs) (cell_at s a) (λ m e. arrives w k a s m ok e h.agreeing)) h.fits
-cells_kept w (Ask t a) s ok h = one_cell _ _ s a _ (ask_fits s.book.cascades s.ring.next_bid (cell_at s a).epoch t (book.in_the_way t (cell_at s a).entries) (cell_at s a).entries) h.fits
+cells_kept w (Ask t a) s ok h = one_cell _ _ s a _ (ask_fits s.book.cascades s.ring.next_bid (cell_at s a).epoch (lock_of t s.book.acts) (book.in_the_way (lock_of t s.book.acts) (cell_at s a).entries) (cell_at s a).entries) h.fits
 cells_kept w (Take t a) s ok h = one_cell _ _ s a _ (λ g. g) h.fits
 cells_kept w (Run t a) s ok h = one_cell _ _ s a _ (run_fits s.book.cascades s.ring.next_bid w.code t a (cell_at s a)) h.fits
 cells_kept w (Send t a) s ok h = one_cell _ _ s a _ (λ g. g) h.fits

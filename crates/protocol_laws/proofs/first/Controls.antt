@@ -7,7 +7,8 @@ use Rattle.snap_base.specs.declared.transactions.State.{State}
 use Rattle.protocol.specs.Fixed.{Fixed, base, IsText, Code, Next, Go, Ended}
 use Rattle.protocol.specs.Parts.{Pact, Post, ControlMessage, Waiting, Outcome, Entry, Who, OfBatch, Cell, Machine}
 use Rattle.protocol.specs.Events.{Event, Form, Admit, Ask, Take, Run, Send, End, Rollback, DropControl, Finish}
-use Rattle.protocol.specs.Words.{control_of, without_control, outcome_of, who_on, act_of}
+use Rattle.protocol.specs.Rivals.{Lock}
+use Rattle.protocol.specs.Words.{control_of, without_control, outcome_of, who_on, act_of, lock_of}
 use Rattle.protocol.specs.Conditions.{IsAllowed, conditions}
 use Rattle.protocol.specs.Effects.{after, cell_at, puts, no_cell}
 use Rattle.protocol.specs.Runs.{new_cell, opening, IsRun, reached}
@@ -92,11 +93,11 @@ take_local u t cs c =
     rw (Times.map_join (λ x. x.tid) c.inbox (cell.arrived (control_of t cs)))
     (omega (arith, h, Times.times_append u (waiting_tids c.inbox) (waiting_tids (cell.arrived (control_of t cs)))))
 
-ask_local : {C : Type 0} (u t : ℕ) (older : Option ℕ) (cs : List (ControlMessage C)) (c : Cell C) → local u (without_control t cs) (cell.act_placed t older (control_of t cs) c) ≤ local u cs c
+ask_local : {C : Type 0} (u : ℕ) (t : Lock) (older : Option ℕ) (cs : List (ControlMessage C)) (c : Cell C) → local u (without_control t.tid cs) (cell.act_placed t older (control_of t.tid cs) c) ≤ local u cs c
 unfolding local
-ask_local u t None cs c = take_local u t cs c
+ask_local u t None cs c = take_local u t.tid cs c
 ask_local u t (Some older) cs c =
-    rw (append-nil c.inbox) (omega (arith, fewer u (λ m. m.tid) (λ m. not (m.tid == t)) cs))
+    rw (append-nil c.inbox) (omega (arith, fewer u (λ m. m.tid) (λ m. not (m.tid == t.tid)) cs))
 
 run_local : {C : Type 0} (code : Code C) (u t a : ℕ) (cs : List (ControlMessage C)) (c : Cell C) → local u cs (cell.slice_run code t a c) ≤ local u cs c
 unfolding local
@@ -157,7 +158,7 @@ kept w (Form k) s ok h = λ u.
     rw (length_numbered s.ring.next_tid _)
     (posted u s.ring.next_tid _ s.post.controls _ (map (λ c. c.inbox) s.cells) (map (λ c. c.outbox) s.cells) (first_tids w (OfBatch k) (next_pacts w.text s.ring) ∙ numbered_tids s.ring.next_tid _) (h u))
 kept w (Admit t) s ok h = λ u. posted u s.ring.next_tid 1 s.post.controls _ (map (λ c. c.inbox) s.cells) (map (λ c. c.outbox) s.cells) (ap (λ n. n ∷ []) (eqb-true t s.ring.next_tid ok.0)) (h u)
-kept w (Ask t a) s ok h = λ u. below _ _ _ (put_le u s a _ _ (ask_local u t (book.in_the_way t (cell_at s a).entries) s.post.controls (cell_at s a))) (h u)
+kept w (Ask t a) s ok h = λ u. below _ _ _ (put_le u s a _ _ (ask_local u (lock_of t s.book.acts) (book.in_the_way (lock_of t s.book.acts) (cell_at s a).entries) s.post.controls (cell_at s a))) (h u)
 kept w (Take t a) s ok h = λ u. below _ _ _ (put_le u s a _ _ (take_local u t s.post.controls (cell_at s a))) (h u)
 kept w (Run t a) s ok h = λ u. below _ _ _ (put_le u s a _ _ (run_local w.code u t a s.post.controls (cell_at s a))) (h u)
 kept w (Send t a) s ok h = λ u. below _ _ _ (put_le u s a _ _ (send_local u t s.post (cell_at s a))) (h u)

@@ -4,20 +4,21 @@ use Rattle.std.proofs.lemmas.Bool.{true≢false}
 use Rattle.protocol.specs.Fixed.{Fixed}
 use Rattle.protocol.specs.Parts.{Machine}
 use Rattle.protocol.specs.Events.{Arrive, Ask, Take, Run, Send, End, Close, Complete}
-use Rattle.protocol.specs.Words.{who_of}
+use Rattle.protocol.specs.Words.{who_of, is_reader_entry}
 use Rattle.protocol.specs.Spread.{crossed_out}
 use Rattle.protocol.specs.Effects.{after, cell_at}
-use Rattle.protocol.specs.Contents.{Content, Pairs, ActTids, ActTxs, Befores, Afters, ActActors, PreparedMarks, VouchedMarks, FinishedMarks, ActResults, Statuses, Subs, Controls, Bids, BatchActors, BatchTids, BatchTxs, NotedMarks, TrimmedMarks, PactResults, Stages, AbortedMarks, Records, SyncedCounts, States, Images, CellEpochs, LastPlaced, LastTrimmed, Tails, Floors, EntryOwners, EntryTids, DoneMarks, CompleteMarks, Inboxes, Outboxes, slot_tids, slot_marks, complete_mark, IsSame, is_changed}
+use Rattle.protocol.specs.Contents.{Content, Pairs, ActTids, ActTxs, ActReaders, Befores, Afters, ActActors, PreparedMarks, VouchedMarks, FinishedMarks, ActResults, Statuses, Subs, Controls, Bids, BatchActors, BatchTids, BatchTxs, NotedMarks, TrimmedMarks, PactResults, Stages, AbortedMarks, Records, SyncedCounts, States, Images, CellEpochs, LastPlaced, LastTrimmed, Tails, Floors, EntryOwners, EntryTids, EntryReaders, DoneMarks, CompleteMarks, Inboxes, Outboxes, slot_tids, slot_marks, complete_mark, IsSame, is_changed}
 use Rattle.protocol.specs.OnBook as book
 use Rattle.protocol.specs.OnCell as cell
 use Rattle.protocol_laws.proofs.first.Kept.{map_kept, cells_kept, logs_kept}
 use Rattle.std.proofs.Common.{◌∙◌}
-use Rattle.protocol_laws.proofs.first.KeptByEvents.{owner_done, slot_tid_done, complete_done, owner_complete, slot_tid_complete, mark_complete, asked_kept, with_results_kept, ended_act_kept, ended_batch_kept, run_entries_kept}
+use Rattle.protocol_laws.proofs.first.KeptByEvents.{owner_done, slot_tid_done, reader_done, reader_complete, complete_done, owner_complete, slot_tid_complete, mark_complete, asked_kept, with_results_kept, ended_act_kept, ended_batch_kept, run_entries_kept}
 
 pub after_arrive : {C : Type 0} (w : Fixed C) (k a : ℕ) (s : Machine C) (q : Content) → is_changed q (Arrive k a) ≡ false → IsSame q s (after w (Arrive k a) s)
 unfolding after
 after_arrive w k a s ActTids h = map_kept (λ x. x.tid) (crossed_out a) _ (λ x. refl) ∙ map_kept (λ x. x.tid) (book.lowered k _) s.book.acts (λ x. refl)
 after_arrive w k a s ActTxs h = map_kept (λ x. x.tx) (crossed_out a) _ (λ x. refl) ∙ map_kept (λ x. x.tx) (book.lowered k _) s.book.acts (λ x. refl)
+after_arrive w k a s ActReaders h = map_kept (λ x. x.reader) (crossed_out a) _ (λ x. refl) ∙ map_kept (λ x. x.reader) (book.lowered k _) s.book.acts (λ x. refl)
 after_arrive w k a s Befores h = map_kept (λ x. x.m) (crossed_out a) _ (λ x. refl) ∙ map_kept (λ x. x.m) (book.lowered k _) s.book.acts (λ x. refl)
 after_arrive w k a s Afters h = absurd (true≢false h)
 after_arrive w k a s ActActors h = map_kept (λ x. map (λ p. p.actor) x.places) (crossed_out a) _ (λ x. refl) ∙ map_kept (λ x. map (λ p. p.actor) x.places) (book.lowered k _) s.book.acts (λ x. refl)
@@ -33,9 +34,10 @@ after_arrive w k a s CellEpochs h = cells_kept (λ c. c.epoch) s a _ refl
 after_arrive w k a s LastPlaced h = absurd (true≢false h)
 after_arrive w k a s LastTrimmed h = cells_kept (λ c. c.last_trimmed) s a _ refl
 after_arrive w k a s Tails h = absurd (true≢false h)
-after_arrive w k a s Floors h = cells_kept (λ c. c.floor) s a _ refl
+after_arrive w k a s Floors h = cells_kept (λ c. c.floors) s a _ refl
 after_arrive w k a s EntryOwners h = absurd (true≢false h)
 after_arrive w k a s EntryTids h = absurd (true≢false h)
+after_arrive w k a s EntryReaders h = absurd (true≢false h)
 after_arrive w k a s DoneMarks h = absurd (true≢false h)
 after_arrive w k a s CompleteMarks h = absurd (true≢false h)
 after_arrive w k a s Inboxes h = cells_kept (λ c. c.inbox) s a _ refl
@@ -47,6 +49,7 @@ unfolding after
 after_ask w t a s Pairs h = absurd (true≢false h)
 after_ask w t a s ActTids h = asked_kept (λ x. x.tid) _ _ t a _ s.book (λ x st. refl) (λ x m. refl) (λ x m ps. refl)
 after_ask w t a s ActTxs h = asked_kept (λ x. x.tx) _ _ t a _ s.book (λ x st. refl) (λ x m. refl) (λ x m ps. refl)
+after_ask w t a s ActReaders h = asked_kept (λ x. x.reader) _ _ t a _ s.book (λ x st. refl) (λ x m. refl) (λ x m ps. refl)
 after_ask w t a s Befores h = absurd (true≢false h)
 after_ask w t a s Afters h = asked_kept (λ x. x.n) _ _ t a _ s.book (λ x st. refl) (λ x m. refl) (λ x m ps. refl)
 after_ask w t a s ActActors h = absurd (true≢false h)
@@ -62,9 +65,10 @@ after_ask w t a s CellEpochs h = cells_kept (λ c. c.epoch) s a _ refl
 after_ask w t a s LastPlaced h = cells_kept (λ c. c.last) s a _ refl
 after_ask w t a s LastTrimmed h = cells_kept (λ c. c.last_trimmed) s a _ refl
 after_ask w t a s Tails h = cells_kept (λ c. c.tail) s a _ refl
-after_ask w t a s Floors h = cells_kept (λ c. c.floor) s a _ refl
+after_ask w t a s Floors h = cells_kept (λ c. c.floors) s a _ refl
 after_ask w t a s EntryOwners h = absurd (true≢false h)
 after_ask w t a s EntryTids h = absurd (true≢false h)
+after_ask w t a s EntryReaders h = absurd (true≢false h)
 after_ask w t a s DoneMarks h = absurd (true≢false h)
 after_ask w t a s CompleteMarks h = absurd (true≢false h)
 after_ask w t a s Inboxes h = absurd (true≢false h)
@@ -80,9 +84,10 @@ after_take w t a s CellEpochs h = cells_kept (λ c. c.epoch) s a _ refl
 after_take w t a s LastPlaced h = cells_kept (λ c. c.last) s a _ refl
 after_take w t a s LastTrimmed h = cells_kept (λ c. c.last_trimmed) s a _ refl
 after_take w t a s Tails h = cells_kept (λ c. c.tail) s a _ refl
-after_take w t a s Floors h = cells_kept (λ c. c.floor) s a _ refl
+after_take w t a s Floors h = cells_kept (λ c. c.floors) s a _ refl
 after_take w t a s EntryOwners h = cells_kept (λ c. map who_of c.entries) s a _ refl
 after_take w t a s EntryTids h = cells_kept (λ c. map slot_tids c.entries) s a _ refl
+after_take w t a s EntryReaders h = cells_kept (λ c. map is_reader_entry c.entries) s a _ refl
 after_take w t a s DoneMarks h = cells_kept (λ c. map slot_marks c.entries) s a _ refl
 after_take w t a s CompleteMarks h = cells_kept (λ c. map complete_mark c.entries) s a _ refl
 after_take w t a s Inboxes h = absurd (true≢false h)
@@ -97,9 +102,10 @@ after_run w t a s CellEpochs h = cells_kept (λ c. c.epoch) s a _ refl
 after_run w t a s LastPlaced h = cells_kept (λ c. c.last) s a _ refl
 after_run w t a s LastTrimmed h = cells_kept (λ c. c.last_trimmed) s a _ refl
 after_run w t a s Tails h = cells_kept (λ c. c.tail) s a _ refl
-after_run w t a s Floors h = cells_kept (λ c. c.floor) s a _ refl
+after_run w t a s Floors h = cells_kept (λ c. c.floors) s a _ refl
 after_run w t a s EntryOwners h = cells_kept (λ c. map who_of c.entries) s a _ (run_entries_kept who_of w.code t a (cell_at s a) (owner_done t))
 after_run w t a s EntryTids h = cells_kept (λ c. map slot_tids c.entries) s a _ (run_entries_kept slot_tids w.code t a (cell_at s a) (slot_tid_done t))
+after_run w t a s EntryReaders h = cells_kept (λ c. map is_reader_entry c.entries) s a _ (run_entries_kept is_reader_entry w.code t a (cell_at s a) (reader_done t))
 after_run w t a s DoneMarks h = absurd (true≢false h)
 after_run w t a s CompleteMarks h = cells_kept (λ c. map complete_mark c.entries) s a _ (run_entries_kept complete_mark w.code t a (cell_at s a) (complete_done t))
 after_run w t a s Inboxes h = absurd (true≢false h)
@@ -115,9 +121,10 @@ after_send w t a s CellEpochs h = cells_kept (λ c. c.epoch) s a _ refl
 after_send w t a s LastPlaced h = cells_kept (λ c. c.last) s a _ refl
 after_send w t a s LastTrimmed h = cells_kept (λ c. c.last_trimmed) s a _ refl
 after_send w t a s Tails h = cells_kept (λ c. c.tail) s a _ refl
-after_send w t a s Floors h = cells_kept (λ c. c.floor) s a _ refl
+after_send w t a s Floors h = cells_kept (λ c. c.floors) s a _ refl
 after_send w t a s EntryOwners h = cells_kept (λ c. map who_of c.entries) s a _ refl
 after_send w t a s EntryTids h = cells_kept (λ c. map slot_tids c.entries) s a _ refl
+after_send w t a s EntryReaders h = cells_kept (λ c. map is_reader_entry c.entries) s a _ refl
 after_send w t a s DoneMarks h = cells_kept (λ c. map slot_marks c.entries) s a _ refl
 after_send w t a s CompleteMarks h = cells_kept (λ c. map complete_mark c.entries) s a _ refl
 after_send w t a s Inboxes h = cells_kept (λ c. c.inbox) s a _ refl
@@ -128,6 +135,7 @@ pub after_end : {C : Type 0} (w : Fixed C) (t a : ℕ) (s : Machine C) (q : Cont
 unfolding after
 after_end w t a s ActTids h = ended_act_kept (λ x. x.tid) t (cell_at s a) s.book (λ x r. refl)
 after_end w t a s ActTxs h = ended_act_kept (λ x. x.tx) t (cell_at s a) s.book (λ x r. refl)
+after_end w t a s ActReaders h = ended_act_kept (λ x. x.reader) t (cell_at s a) s.book (λ x r. refl)
 after_end w t a s Befores h = ended_act_kept (λ x. x.m) t (cell_at s a) s.book (λ x r. refl)
 after_end w t a s Afters h = ended_act_kept (λ x. x.n) t (cell_at s a) s.book (λ x r. refl)
 after_end w t a s ActActors h = ended_act_kept (λ x. map (λ p. p.actor) x.places) t (cell_at s a) s.book (λ x r. refl)
@@ -151,9 +159,10 @@ after_end w t a s CellEpochs h = cells_kept (λ c. c.epoch) s a _ refl
 after_end w t a s LastPlaced h = cells_kept (λ c. c.last) s a _ refl
 after_end w t a s LastTrimmed h = cells_kept (λ c. c.last_trimmed) s a _ refl
 after_end w t a s Tails h = cells_kept (λ c. c.tail) s a _ refl
-after_end w t a s Floors h = cells_kept (λ c. c.floor) s a _ refl
+after_end w t a s Floors h = cells_kept (λ c. c.floors) s a _ refl
 after_end w t a s EntryOwners h = cells_kept (λ c. map who_of c.entries) s a _ refl
 after_end w t a s EntryTids h = cells_kept (λ c. map slot_tids c.entries) s a _ refl
+after_end w t a s EntryReaders h = cells_kept (λ c. map is_reader_entry c.entries) s a _ refl
 after_end w t a s DoneMarks h = cells_kept (λ c. map slot_marks c.entries) s a _ refl
 after_end w t a s CompleteMarks h = cells_kept (λ c. map complete_mark c.entries) s a _ refl
 after_end w t a s Inboxes h = cells_kept (λ c. c.inbox) s a _ refl
@@ -168,9 +177,10 @@ after_close w t a s CellEpochs h = cells_kept (λ c. c.epoch) s a _ refl
 after_close w t a s LastPlaced h = cells_kept (λ c. c.last) s a _ refl
 after_close w t a s LastTrimmed h = cells_kept (λ c. c.last_trimmed) s a _ refl
 after_close w t a s Tails h = cells_kept (λ c. c.tail) s a _ refl
-after_close w t a s Floors h = cells_kept (λ c. c.floor) s a _ refl
+after_close w t a s Floors h = cells_kept (λ c. c.floors) s a _ refl
 after_close w t a s EntryOwners h = cells_kept (λ c. map who_of c.entries) s a _ (map_kept who_of (cell.done_in t) (cell_at s a).entries (owner_done t))
 after_close w t a s EntryTids h = cells_kept (λ c. map slot_tids c.entries) s a _ (map_kept slot_tids (cell.done_in t) (cell_at s a).entries (slot_tid_done t))
+after_close w t a s EntryReaders h = cells_kept (λ c. map is_reader_entry c.entries) s a _ (map_kept is_reader_entry (cell.done_in t) (cell_at s a).entries (reader_done t))
 after_close w t a s DoneMarks h = absurd (true≢false h)
 after_close w t a s CompleteMarks h = cells_kept (λ c. map complete_mark c.entries) s a _ (map_kept complete_mark (cell.done_in t) (cell_at s a).entries (complete_done t))
 after_close w t a s Inboxes h = cells_kept (λ c. c.inbox) s a _ refl
@@ -187,9 +197,10 @@ after_complete w k a s CellEpochs h = cells_kept (λ c. c.epoch) s a _ refl
 after_complete w k a s LastPlaced h = cells_kept (λ c. c.last) s a _ refl
 after_complete w k a s LastTrimmed h = cells_kept (λ c. c.last_trimmed) s a _ refl
 after_complete w k a s Tails h = cells_kept (λ c. c.tail) s a _ refl
-after_complete w k a s Floors h = cells_kept (λ c. c.floor) s a _ refl
+after_complete w k a s Floors h = cells_kept (λ c. c.floors) s a _ refl
 after_complete w k a s EntryOwners h = cells_kept (λ c. map who_of c.entries) s a _ (map_kept who_of (cell.complete_in k) (cell_at s a).entries (owner_complete k))
 after_complete w k a s EntryTids h = cells_kept (λ c. map slot_tids c.entries) s a _ (map_kept slot_tids (cell.complete_in k) (cell_at s a).entries (slot_tid_complete k))
+after_complete w k a s EntryReaders h = cells_kept (λ c. map is_reader_entry c.entries) s a _ (map_kept is_reader_entry (cell.complete_in k) (cell_at s a).entries (reader_complete k))
 after_complete w k a s DoneMarks h = cells_kept (λ c. map slot_marks c.entries) s a _ (map_kept slot_marks (cell.complete_in k) (cell_at s a).entries (mark_complete k))
 after_complete w k a s CompleteMarks h = absurd (true≢false h)
 after_complete w k a s Inboxes h = cells_kept (λ c. c.inbox) s a _ refl

@@ -5,7 +5,7 @@ use Rattle.protocol.specs.Fixed.{Fixed}
 use Rattle.protocol.specs.Parts.{Machine}
 use Rattle.protocol.specs.Events.{Prepare, Vouch, Decide, Seal, Finish, Reply, Trim}
 use Rattle.protocol.specs.Effects.{after}
-use Rattle.protocol.specs.Contents.{Content, NextC, Pairs, ActTids, ActTxs, Befores, Afters, ActActors, PreparedMarks, VouchedMarks, FinishedMarks, ActResults, Statuses, Bids, BatchActors, BatchTids, BatchTxs, NotedMarks, TrimmedMarks, PactResults, Stages, AbortedMarks, Replied, Records, SyncedCounts, States, Images, CellEpochs, LastPlaced, LastTrimmed, Tails, Floors, EntryOwners, EntryTids, DoneMarks, CompleteMarks, Inboxes, Outboxes, IsSame, is_changed}
+use Rattle.protocol.specs.Contents.{Content, NextC, Pairs, ActTids, ActTxs, ActReaders, Befores, Afters, ActActors, PreparedMarks, VouchedMarks, FinishedMarks, ActResults, Statuses, Bids, BatchActors, BatchTids, BatchTxs, NotedMarks, TrimmedMarks, PactResults, Stages, AbortedMarks, Replied, Records, SyncedCounts, States, Images, CellEpochs, LastPlaced, LastTrimmed, Tails, Floors, EntryOwners, EntryTids, EntryReaders, DoneMarks, CompleteMarks, Inboxes, Outboxes, IsSame, is_changed}
 use Rattle.protocol.specs.OnBook as book
 use Rattle.protocol.specs.OnDesk as desk
 use Rattle.protocol_laws.proofs.first.Kept.{cells_kept, logs_kept, changed_act_kept, marked_kept, changed_batch_kept, batch_marked_kept}
@@ -14,6 +14,7 @@ pub after_prepare : {C : Type 0} (w : Fixed C) (t a : ℕ) (s : Machine C) (q : 
 unfolding after
 after_prepare w t a s ActTids h = changed_act_kept (λ x. x.tid) t (book.marked a book.is_prepared) s.book.acts (λ x. refl)
 after_prepare w t a s ActTxs h = changed_act_kept (λ x. x.tx) t (book.marked a book.is_prepared) s.book.acts (λ x. refl)
+after_prepare w t a s ActReaders h = changed_act_kept (λ x. x.reader) t (book.marked a book.is_prepared) s.book.acts (λ x. refl)
 after_prepare w t a s Befores h = changed_act_kept (λ x. x.m) t (book.marked a book.is_prepared) s.book.acts (λ x. refl)
 after_prepare w t a s Afters h = changed_act_kept (λ x. x.n) t (book.marked a book.is_prepared) s.book.acts (λ x. refl)
 after_prepare w t a s ActActors h = changed_act_kept (λ x. map (λ p. p.actor) x.places) t (book.marked a book.is_prepared) s.book.acts (λ x. marked_kept (λ p. p.actor) a book.is_prepared x (λ p. refl))
@@ -30,6 +31,7 @@ pub after_vouch : {C : Type 0} (w : Fixed C) (t a : ℕ) (s : Machine C) (q : Co
 unfolding after
 after_vouch w t a s ActTids h = changed_act_kept (λ x. x.tid) t (book.marked a book.is_vouched) s.book.acts (λ x. refl)
 after_vouch w t a s ActTxs h = changed_act_kept (λ x. x.tx) t (book.marked a book.is_vouched) s.book.acts (λ x. refl)
+after_vouch w t a s ActReaders h = changed_act_kept (λ x. x.reader) t (book.marked a book.is_vouched) s.book.acts (λ x. refl)
 after_vouch w t a s Befores h = changed_act_kept (λ x. x.m) t (book.marked a book.is_vouched) s.book.acts (λ x. refl)
 after_vouch w t a s Afters h = changed_act_kept (λ x. x.n) t (book.marked a book.is_vouched) s.book.acts (λ x. refl)
 after_vouch w t a s ActActors h = changed_act_kept (λ x. map (λ p. p.actor) x.places) t (book.marked a book.is_vouched) s.book.acts (λ x. marked_kept (λ p. p.actor) a book.is_vouched x (λ p. refl))
@@ -45,6 +47,7 @@ unfolding after
 after_decide w t s NextC h = absurd (true≢false h)
 after_decide w t s ActTids h = changed_act_kept (λ x. x.tid) t (book.decided_as s.book.next_c) s.book.acts (λ x. refl)
 after_decide w t s ActTxs h = changed_act_kept (λ x. x.tx) t (book.decided_as s.book.next_c) s.book.acts (λ x. refl)
+after_decide w t s ActReaders h = changed_act_kept (λ x. x.reader) t (book.decided_as s.book.next_c) s.book.acts (λ x. refl)
 after_decide w t s Befores h = changed_act_kept (λ x. x.m) t (book.decided_as s.book.next_c) s.book.acts (λ x. refl)
 after_decide w t s Afters h = changed_act_kept (λ x. x.n) t (book.decided_as s.book.next_c) s.book.acts (λ x. refl)
 after_decide w t s ActActors h = changed_act_kept (λ x. map (λ p. p.actor) x.places) t (book.decided_as s.book.next_c) s.book.acts (λ x. refl)
@@ -61,6 +64,7 @@ pub after_seal : {C : Type 0} (w : Fixed C) (t : ℕ) (s : Machine C) (q : Conte
 unfolding after
 after_seal w t s ActTids h = changed_act_kept (λ x. x.tid) t book.sealed s.book.acts (λ x. refl)
 after_seal w t s ActTxs h = changed_act_kept (λ x. x.tx) t book.sealed s.book.acts (λ x. refl)
+after_seal w t s ActReaders h = changed_act_kept (λ x. x.reader) t book.sealed s.book.acts (λ x. refl)
 after_seal w t s Befores h = changed_act_kept (λ x. x.m) t book.sealed s.book.acts (λ x. refl)
 after_seal w t s Afters h = changed_act_kept (λ x. x.n) t book.sealed s.book.acts (λ x. refl)
 after_seal w t s ActActors h = changed_act_kept (λ x. map (λ p. p.actor) x.places) t book.sealed s.book.acts (λ x. refl)
@@ -76,6 +80,7 @@ unfolding after
 after_finish w t a s Pairs h = absurd (true≢false h)
 after_finish w t a s ActTids h = changed_act_kept (λ x. x.tid) t (book.marked a book.has_left) s.book.acts (λ x. refl)
 after_finish w t a s ActTxs h = changed_act_kept (λ x. x.tx) t (book.marked a book.has_left) s.book.acts (λ x. refl)
+after_finish w t a s ActReaders h = changed_act_kept (λ x. x.reader) t (book.marked a book.has_left) s.book.acts (λ x. refl)
 after_finish w t a s Befores h = changed_act_kept (λ x. x.m) t (book.marked a book.has_left) s.book.acts (λ x. refl)
 after_finish w t a s Afters h = changed_act_kept (λ x. x.n) t (book.marked a book.has_left) s.book.acts (λ x. refl)
 after_finish w t a s ActActors h = changed_act_kept (λ x. map (λ p. p.actor) x.places) t (book.marked a book.has_left) s.book.acts (λ x. marked_kept (λ p. p.actor) a book.has_left x (λ p. refl))
@@ -93,6 +98,7 @@ after_finish w t a s Tails h = cells_kept (λ c. c.tail) s a _ refl
 after_finish w t a s Floors h = absurd (true≢false h)
 after_finish w t a s EntryOwners h = absurd (true≢false h)
 after_finish w t a s EntryTids h = absurd (true≢false h)
+after_finish w t a s EntryReaders h = absurd (true≢false h)
 after_finish w t a s DoneMarks h = absurd (true≢false h)
 after_finish w t a s CompleteMarks h = absurd (true≢false h)
 after_finish w t a s Inboxes h = absurd (true≢false h)
@@ -121,9 +127,10 @@ after_trim w k a s CellEpochs h = cells_kept (λ c. c.epoch) s a _ refl
 after_trim w k a s LastPlaced h = cells_kept (λ c. c.last) s a _ refl
 after_trim w k a s LastTrimmed h = absurd (true≢false h)
 after_trim w k a s Tails h = cells_kept (λ c. c.tail) s a _ refl
-after_trim w k a s Floors h = cells_kept (λ c. c.floor) s a _ refl
+after_trim w k a s Floors h = cells_kept (λ c. c.floors) s a _ refl
 after_trim w k a s EntryOwners h = absurd (true≢false h)
 after_trim w k a s EntryTids h = absurd (true≢false h)
+after_trim w k a s EntryReaders h = absurd (true≢false h)
 after_trim w k a s DoneMarks h = absurd (true≢false h)
 after_trim w k a s CompleteMarks h = absurd (true≢false h)
 after_trim w k a s Inboxes h = cells_kept (λ c. c.inbox) s a _ refl

@@ -5,7 +5,7 @@ use Rattle.protocol.specs.Fixed.{Fixed}
 use Rattle.protocol.specs.Parts.{Machine}
 use Rattle.protocol.specs.Events.{Sync, Note, Commit, Settle, Abort, Rollback, DropSub, DropControl}
 use Rattle.protocol.specs.Effects.{after}
-use Rattle.protocol.specs.Contents.{Content, RingEpoch, Lasts, Cascades, ActTids, ActTxs, Befores, Afters, ActActors, PreparedMarks, VouchedMarks, FinishedMarks, ActResults, Statuses, Subs, Controls, Bids, BatchActors, BatchTids, BatchTxs, NotedMarks, TrimmedMarks, PactResults, Stages, AbortedMarks, SettledBatch, Records, SyncedCounts, States, Images, CellEpochs, LastPlaced, LastTrimmed, Tails, Floors, EntryOwners, EntryTids, DoneMarks, CompleteMarks, Inboxes, Outboxes, IsSame, is_changed}
+use Rattle.protocol.specs.Contents.{Content, RingEpoch, Lasts, Cascades, ActTids, ActTxs, ActReaders, Befores, Afters, ActActors, PreparedMarks, VouchedMarks, FinishedMarks, ActResults, Statuses, Subs, Controls, Bids, BatchActors, BatchTids, BatchTxs, NotedMarks, TrimmedMarks, PactResults, Stages, AbortedMarks, SettledBatch, Records, SyncedCounts, States, Images, CellEpochs, LastPlaced, LastTrimmed, Tails, Floors, EntryOwners, EntryTids, EntryReaders, DoneMarks, CompleteMarks, Inboxes, Outboxes, IsSame, is_changed}
 use Rattle.protocol.specs.OnDesk as desk
 use Rattle.protocol_laws.proofs.first.Kept.{map_kept, cells_kept, logs_kept, changed_batch_kept, batch_marked_kept}
 
@@ -64,6 +64,7 @@ after_abort w k s Lasts h = absurd (true≢false h)
 after_abort w k s Cascades h = absurd (true≢false h)
 after_abort w k s ActTids h = map_kept (λ x. x.tid) _ s.book.acts (λ x. refl)
 after_abort w k s ActTxs h = map_kept (λ x. x.tx) _ s.book.acts (λ x. refl)
+after_abort w k s ActReaders h = map_kept (λ x. x.reader) _ s.book.acts (λ x. refl)
 after_abort w k s Befores h = map_kept (λ x. x.m) _ s.book.acts (λ x. refl)
 after_abort w k s Afters h = absurd (true≢false h)
 after_abort w k s ActActors h = map_kept (λ x. map (λ p. p.actor) x.places) _ s.book.acts (λ x. refl)
@@ -91,9 +92,10 @@ after_rollback w a s CellEpochs h = absurd (true≢false h)
 after_rollback w a s LastPlaced h = absurd (true≢false h)
 after_rollback w a s LastTrimmed h = cells_kept (λ c. c.last_trimmed) s a _ refl
 after_rollback w a s Tails h = absurd (true≢false h)
-after_rollback w a s Floors h = cells_kept (λ c. c.floor) s a _ refl
+after_rollback w a s Floors h = cells_kept (λ c. c.floors) s a _ refl
 after_rollback w a s EntryOwners h = absurd (true≢false h)
 after_rollback w a s EntryTids h = absurd (true≢false h)
+after_rollback w a s EntryReaders h = absurd (true≢false h)
 after_rollback w a s DoneMarks h = absurd (true≢false h)
 after_rollback w a s CompleteMarks h = absurd (true≢false h)
 after_rollback w a s Inboxes h = absurd (true≢false h)

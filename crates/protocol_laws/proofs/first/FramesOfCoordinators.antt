@@ -5,7 +5,7 @@ use Rattle.protocol.specs.Fixed.{Fixed}
 use Rattle.protocol.specs.Parts.{Machine}
 use Rattle.protocol.specs.Events.{Submit, Pass, Form, Admit}
 use Rattle.protocol.specs.Effects.{after}
-use Rattle.protocol.specs.Contents.{Content, Holder, NextTx, NextTid, NextBid, Lasts, PactQueues, ActQueues, ActTids, ActTxs, Befores, Afters, ActActors, PreparedMarks, VouchedMarks, FinishedMarks, ActResults, Statuses, Subs, Controls, Bids, BatchActors, BatchTids, BatchTxs, NotedMarks, TrimmedMarks, PactResults, Stages, AbortedMarks, Records, SyncedCounts, IsSame, is_changed}
+use Rattle.protocol.specs.Contents.{Content, Holder, NextTx, NextTid, NextBid, Lasts, PactQueues, ActQueues, ActTids, ActTxs, ActReaders, Befores, Afters, ActActors, PreparedMarks, VouchedMarks, FinishedMarks, ActResults, Statuses, Subs, Controls, Bids, BatchActors, BatchTids, BatchTxs, NotedMarks, TrimmedMarks, PactResults, Stages, AbortedMarks, Records, SyncedCounts, IsSame, is_changed}
 use Rattle.protocol_laws.proofs.first.Kept.{logs_kept}
 
 pub after_submit : {C : Type 0} (w : Fixed C) (n : ℕ) (s : Machine C) (q : Content) → is_changed q (Submit n) ≡ false → IsSame q s (after w (Submit n) s)
@@ -47,6 +47,7 @@ after_admit w t s NextTid h = absurd (true≢false h)
 after_admit w t s ActQueues h = absurd (true≢false h)
 after_admit w t s ActTids h = absurd (true≢false h)
 after_admit w t s ActTxs h = absurd (true≢false h)
+after_admit w t s ActReaders h = absurd (true≢false h)
 after_admit w t s Befores h = absurd (true≢false h)
 after_admit w t s Afters h = absurd (true≢false h)
 after_admit w t s ActActors h = absurd (true≢false h)

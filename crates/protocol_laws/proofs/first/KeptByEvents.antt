@@ -4,7 +4,7 @@ use Rattle.snap_base.specs.declared.transactions.TxResult.{TxResult}
 use Rattle.protocol.specs.Fixed.{Code, Next, Go, Ended}
 use Rattle.protocol.specs.Rivals.{Lock}
 use Rattle.protocol.specs.Parts.{Act, Book, Pact, Batch, Desk, Joined, Status, Entry, BatchEntry, ActEntry, Outcome, Cell}
-use Rattle.protocol.specs.Words.{who_of, has_act, outcome_of}
+use Rattle.protocol.specs.Words.{who_of, has_act, outcome_of, is_reader_entry}
 use Rattle.protocol.specs.Spread.{crossed_out}
 use Rattle.protocol.specs.Contents.{slot_tids, slot_marks, complete_mark}
 use Rattle.protocol.specs.OnBook as book
@@ -30,6 +30,14 @@ complete_done t (ActEntry x) = refl
 pub owner_complete : (k : ℕ) (e : Entry) → who_of (cell.complete_in k e) ≡ who_of e
 owner_complete k (BatchEntry b) = refl
 owner_complete k (ActEntry x) = refl
+
+pub reader_done : (t : ℕ) (e : Entry) → is_reader_entry (cell.done_in t e) ≡ is_reader_entry e
+reader_done t (BatchEntry b) = refl
+reader_done t (ActEntry x) = refl
+
+pub reader_complete : (k : ℕ) (e : Entry) → is_reader_entry (cell.complete_in k e) ≡ is_reader_entry e
+reader_complete k (BatchEntry b) = refl
+reader_complete k (ActEntry x) = refl
 
 pub slot_tid_complete : (k : ℕ) (e : Entry) → slot_tids (cell.complete_in k e) ≡ slot_tids e
 slot_tid_complete k (BatchEntry b) = refl

@@ -71,10 +71,10 @@ logs_went w _ s ok = each_same LogGrew same_log s.logs
 -- ---- cells
 
 same_cell : {C : Type 0} (c : Cell C) → CellWent c c
-same_cell c = record { floor = omega arith; last_trimmed = omega arith; epoch = omega arith }
+same_cell c = record { write_floor = omega arith; read_floor = omega arith; last_trimmed = omega arith; epoch = omega arith }
 
 cell_further : {C : Type 0} (b c d : Cell C) → CellWent b c → CellWent c d → CellWent b d
-cell_further b c d f g = record { floor = omega (arith, f.floor, g.floor); last_trimmed = omega (arith, f.last_trimmed, g.last_trimmed); epoch = omega (arith, f.epoch, g.epoch) }
+cell_further b c d f g = record { write_floor = omega (arith, f.write_floor, g.write_floor); read_floor = omega (arith, f.read_floor, g.read_floor); last_trimmed = omega (arith, f.last_trimmed, g.last_trimmed); epoch = omega (arith, f.epoch, g.epoch) }
 
 one_cell : {C : Type 0} (s : Machine C) (a : ℕ) (c : Cell C) → CellWent (cell_at s a) c → EachBecame CellWent s.cells (slice_set s.cells a c)
 one_cell s a c h = each_set CellWent same_cell s.cells a no_cell c h
@@ -86,17 +86,17 @@ is_behind n (c ∷ xs) (suc a) h = is_behind n xs a h
 
 pub cells_went : {C : Type 0} (w : Fixed C) (e : Event) (s : Machine C) → IsAllowed w e s → EachBecame CellWent s.cells (after w e s).cells
 unfolding conditions after
-cells_went w (Arrive k a) s ok = one_cell s a _ (record { floor = omega arith; last_trimmed = omega arith; epoch = omega arith })
-cells_went w (Ask t a) s ok = one_cell s a _ (record { floor = omega arith; last_trimmed = omega arith; epoch = omega arith })
-cells_went w (Take t a) s ok = one_cell s a _ (record { floor = omega arith; last_trimmed = omega arith; epoch = omega arith })
-cells_went w (Run t a) s ok = one_cell s a _ (record { floor = omega arith; last_trimmed = omega arith; epoch = omega arith })
-cells_went w (Send t a) s ok = one_cell s a _ (record { floor = omega arith; last_trimmed = omega arith; epoch = omega arith })
-cells_went w (End t a) s ok = one_cell s a _ (record { floor = omega arith; last_trimmed = omega arith; epoch = omega arith })
-cells_went w (Close t a) s ok = one_cell s a _ (record { floor = omega arith; last_trimmed = omega arith; epoch = omega arith })
-cells_went w (Complete k a) s ok = one_cell s a _ (record { floor = omega arith; last_trimmed = omega arith; epoch = omega arith })
-cells_went w (Rollback a) s ok = one_cell s a _ (record { floor = omega arith; last_trimmed = omega arith; epoch = is_behind (epoch s.book) s.cells a ok.0 })
-cells_went w (Finish t a) s ok = one_cell s a _ (record { floor = floor_rises (cell_at s a).floor (act_of t s.book.acts); last_trimmed = omega arith; epoch = omega arith })
-cells_went w (Trim k a) s ok = one_cell s a _ (record { floor = omega arith; last_trimmed = omega arith; epoch = omega arith })
+cells_went w (Arrive k a) s ok = one_cell s a _ (record { write_floor = omega arith; read_floor = omega arith; last_trimmed = omega arith; epoch = omega arith })
+cells_went w (Ask t a) s ok = one_cell s a _ (record { write_floor = omega arith; read_floor = omega arith; last_trimmed = omega arith; epoch = omega arith })
+cells_went w (Take t a) s ok = one_cell s a _ (record { write_floor = omega arith; read_floor = omega arith; last_trimmed = omega arith; epoch = omega arith })
+cells_went w (Run t a) s ok = one_cell s a _ (record { write_floor = omega arith; read_floor = omega arith; last_trimmed = omega arith; epoch = omega arith })
+cells_went w (Send t a) s ok = one_cell s a _ (record { write_floor = omega arith; read_floor = omega arith; last_trimmed = omega arith; epoch = omega arith })
+cells_went w (End t a) s ok = one_cell s a _ (record { write_floor = omega arith; read_floor = omega arith; last_trimmed = omega arith; epoch = omega arith })
+cells_went w (Close t a) s ok = one_cell s a _ (record { write_floor = omega arith; read_floor = omega arith; last_trimmed = omega arith; epoch = omega arith })
+cells_went w (Complete k a) s ok = one_cell s a _ (record { write_floor = omega arith; read_floor = omega arith; last_trimmed = omega arith; epoch = omega arith })
+cells_went w (Rollback a) s ok = one_cell s a _ (record { write_floor = omega arith; read_floor = omega arith; last_trimmed = omega arith; epoch = is_behind (epoch s.book) s.cells a ok.0 })
+cells_went w (Finish t a) s ok = one_cell s a _ (record { write_floor = (floor_rises (cell_at s a).floors (act_of t s.book.acts)).0; read_floor = (floor_rises (cell_at s a).floors (act_of t s.book.acts)).1; last_trimmed = omega arith; epoch = omega arith })
+cells_went w (Trim k a) s ok = one_cell s a _ (record { write_floor = omega arith; read_floor = omega arith; last_trimmed = omega arith; epoch = omega arith })
 cells_went w _ s ok = each_same CellWent same_cell s.cells
 
 -- ---- cascades and numbers

@@ -9,7 +9,7 @@ use Rattle.protocol.specs.Fixed.{Fixed, Next, Go, Ended}
 use Rattle.protocol.specs.Rivals.{Lock}
 use Rattle.protocol.specs.Parts.{Joined, Status, Live, Doomed, Decided, Sealed, Act, Pair, Book, Outcome, Machine}
 use Rattle.protocol.specs.Events.{Event, Admit, Arrive, Ask, End, Abort, Prepare, Vouch, Decide, Seal, Finish}
-use Rattle.protocol.specs.Words.{is_live_status, is_value, has_act, outcome_of}
+use Rattle.protocol.specs.Words.{is_live_status, is_value, has_act, outcome_of, lock_of, floor_at}
 use Rattle.protocol.specs.Verdicts.{died, out_of_order, taken_along}
 use Rattle.protocol.specs.Spread.{raised, reaches, crossed_out, is_crossed}
 use Rattle.protocol.specs.Effects.{after, cell_at}
@@ -74,12 +74,13 @@ status_further (Decided n) b c (inr f) g = inr (subst (λ z. StatusWent z c) f g
 status_further (Sealed n) b c f g = subst (λ z. StatusWent z c) f g
 
 pub same_act : (x : Act) → ActWent x x
-same_act x = record { tid = refl; tx = refl; m = omega arith; actors = whole (actors_of x.places); status = same_status x.status }
+same_act x = record { tid = refl; tx = refl; reader = refl; m = omega arith; actors = whole (actors_of x.places); status = same_status x.status }
 
 pub act_further : (x y z : Act) → ActWent x y → ActWent y z → ActWent x z
 act_further x y z f g = record {
   tid = g.tid ∙ f.tid;
   tx = g.tx ∙ f.tx;
+  reader = g.reader ∙ f.reader;
   m = omega (arith, f.m, g.m);
   actors = front_further _ _ _ f.actors g.actors;
   status = status_further x.status y.status z.status f.status g.status;
@@ -87,7 +88,7 @@ act_further x y z f g = record {
 
 -- only the status changes
 restated : (x : Act) (st : Status) → StatusWent x.status st → ActWent x (record x { status = st })
-restated x st h = record { tid = refl; tx = refl; m = omega arith; actors = whole (actors_of x.places); status = h }
+restated x st h = record { tid = refl; tx = refl; reader = refl; m = omega arith; actors = whole (actors_of x.places); status = h }
 
 changed_if : (b : Bool) (f : Act → Act) (x : Act) → ActWent x (f x) → ActWent x (book.change_if b f x)
 changed_if true f x h = h
@@ -104,7 +105,7 @@ crossed a xs = each_map ActWent (crossed_out a) (λ x. restated x _ (by x (is_cr
     by x false e = same_status x.status
 
 risen : (x : Act) (m : ℕ) → ActWent x (record x { m = max x.m m })
-risen x m = record { tid = refl; tx = refl; m = omega arith; actors = whole (actors_of x.places); status = same_status x.status }
+risen x m = record { tid = refl; tx = refl; reader = refl; m = omega arith; actors = whole (actors_of x.places); status = same_status x.status }
 
 rising : (pairs : List Pair) (xs : List Act) → EachBecame ActWent xs (raised pairs xs)
 rising pairs [] = tt
@@ -114,19 +115,20 @@ joining : (a m : ℕ) (x : Act) → ActWent x (book.joins a m x)
 joining a m x = record {
   tid = refl;
   tx = refl;
+  reader = refl;
   m = omega arith;
   actors = record { more = a ∷ []; is = Times.map_join (λ p. p.actor) x.places _ };
   status = same_status x.status;
 }
 
 marking : (a : ℕ) (f : Joined → Joined) → ((p : Joined) → (f p).actor ≡ p.actor) → (x : Act) → ActWent x (book.marked a f x)
-marking a f h x = record { tid = refl; tx = refl; m = omega arith; actors = front_same _ _ (marked_kept (λ p. p.actor) a f x h); status = same_status x.status }
+marking a f h x = record { tid = refl; tx = refl; reader = refl; m = omega arith; actors = front_same _ _ (marked_kept (λ p. p.actor) a f x h); status = same_status x.status }
 
 lowering : (k : ℕ) (tids : List ℕ) (x : Act) → ActWent x (book.lowered k tids x)
-lowering k tids x = record { tid = refl; tx = refl; m = omega arith; actors = whole (actors_of x.places); status = same_status x.status }
+lowering k tids x = record { tid = refl; tx = refl; reader = refl; m = omega arith; actors = whole (actors_of x.places); status = same_status x.status }
 
 ending : (r : TxResult) (x : Act) → ActWent x (book.with_result r x)
-ending r x = record { tid = refl; tx = refl; m = omega arith; actors = whole (actors_of x.places); status = same_status x.status }
+ending r x = record { tid = refl; tx = refl; reader = refl; m = omega arith; actors = whole (actors_of x.places); status = same_status x.status }
 
 dying : (v : Verdict) (x : Act) → ActWent x (book.doomed_by v x)
 dying v x = restated x _ (by (is_live_status x.status) refl)
@@ -154,7 +156,7 @@ sealing x = restated x _ (by x.status)
     by (Sealed d) = refl
 
 cascading : (k n : ℕ) (x : Act) → ActWent x (book.cascaded k n x)
-cascading k n x = record { tid = refl; tx = refl; m = omega arith; actors = whole (actors_of x.places); status = by x.status }
+cascading k n x = record { tid = refl; tx = refl; reader = refl; m = omega arith; actors = whole (actors_of x.places); status = by x.status }
   where
     by : (st : Status) → StatusWent st (if is_live_status st && nat_le k x.m then Doomed (taken_along k n) else st)
     by Live = tt
@@ -191,7 +193,7 @@ pub acts_went : {C : Type 0} (w : Fixed C) (e : Event) (s : Machine C) → EachB
 unfolding after
 acts_went w (Admit t) s = each_more ActWent same_act s.book.acts _
 acts_went w (Arrive k a) s = arriving k a (book.tids_on (cell_at s a).entries) s.book
-acts_went w (Ask t a) s = asking (book.in_the_way t (cell_at s a).entries) (book.met t (cell_at s a).entries) t a (max (cell_at s a).last (cell_at s a).floor) s.book
+acts_went w (Ask t a) s = asking (book.in_the_way (lock_of t s.book.acts) (cell_at s a).entries) (book.met (lock_of t s.book.acts) (cell_at s a).entries) t a (max (cell_at s a).last (floor_at t s.book.acts (cell_at s a))) s.book
 acts_went w (End t a) s = act_ends t (has_act t (cell_at s a).entries) (outcome_of t (cell_at s a).outbox) s.book
 acts_went w (Abort k) s = each_map ActWent _ (cascading k _) s.book.acts
 acts_went w (Prepare t a) s = changed t _ s.book.acts (marking a book.is_prepared (λ p. refl))

@@ -7,7 +7,7 @@ use Rattle.protocol.specs.Fixed.{Fixed, base, Next, Go, Ended}
 use Rattle.protocol.specs.Rivals.{Lock, rivals}
 use Rattle.protocol.specs.Parts.{Act, Pair, Book, Entry, BatchEntry, ActEntry, Outcome, Cell, Machine}
 use Rattle.protocol.specs.Events.{Event, Admit, Arrive, Ask, End, Abort, Prepare, Vouch, Decide, Seal, Finish}
-use Rattle.protocol.specs.Words.{has_act, group_behind, tail_group, least_older, least_of, outcome_of, holds}
+use Rattle.protocol.specs.Words.{has_act, group_behind, tail_group, least_older, least_of, outcome_of, holds, lock_of, floor_at}
 use Rattle.protocol.specs.Spread.{raised, crossed_out}
 use Rattle.protocol.specs.Conditions.{IsAllowed, conditions}
 use Rattle.protocol.specs.Effects.{after, cell_at, no_cell}
@@ -43,8 +43,8 @@ both t (x ∷ xs) h k = (strictly x.tid h.0 k.0, both t xs h.1 k.1)
     strictly : (u : ℕ) → t ≤ u → u ≢ t → t < u
     strictly u p q = elim (cases_lt t u) [ inl a ↦ a | inr b ↦ absurd (q (omega (arith, p, b))) ]
 
-younger : {C : Type 0} (t : ℕ) (c : Cell C) → has_act t c.entries ≡ false → book.in_the_way t c.entries ≡ None → AllByRecursion (λ x. t < x.tid) (book.met t c.entries)
-younger t c h e = both t (book.met t c.entries) (none_older t (book.met t c.entries) e) (all_filter (λ x. x.tid ≢ t) (rivals (record { tid = t })) (tail_group c.entries) (not_there t [] c.entries h tt))
+younger : {C : Type 0} (t : ℕ) (acts : List Act) (c : Cell C) → has_act t c.entries ≡ false → book.in_the_way (lock_of t acts) c.entries ≡ None → AllByRecursion (λ x. t < x.tid) (book.met (lock_of t acts) c.entries)
+younger t acts c h e = both t (book.met (lock_of t acts) c.entries) (none_older t (book.met (lock_of t acts) c.entries) e) (all_filter (λ x. x.tid ≢ t) (rivals (lock_of t acts)) (tail_group c.entries) (not_there t [] c.entries h tt))
 
 new_older : (t a : ℕ) (group : List Lock) (acts : List Act) → AllByRecursion (λ x. t < x.tid) group → AllByRecursion IsOlder (book.new_pairs t a group acts)
 new_older t a group acts h = all_map (λ x. t < x.tid) IsOlder (λ x. record { behind = t; ahead = x.tid; actor = a }) (filter (λ x. not (book.is_doomed_act acts x)) group) (λ x k. k) (all_filter (λ x. t < x.tid) (λ x. not (book.is_doomed_act acts x)) group h)
@@ -68,18 +68,18 @@ mapped n f acts ps k h = record {
 }
 
 asked : {C : Type 0} (n : ℕ) (o : Option ℕ) (group : List Lock) (t a : ℕ) (c : Cell C) (b : Book) → (o ≡ None → AllByRecursion (λ x. t < x.tid) group)
-    → Stands n b.acts b.pairs → Stands n (book.asked_acts o group t a (max c.last c.floor) b) (book.asked_pairs o group t a b)
+    → Stands n b.acts b.pairs → Stands n (book.asked_acts o group t a (max c.last (floor_at t b.acts c)) b) (book.asked_pairs o group t a b)
 asked n (Some older) group t a c b k h = mapped n _ b.acts b.pairs (pairs.changed_keeps t _ (pairs.doomed_keeps _)) h
 asked n None group t a c b k h =
     let ps = b.pairs ++ book.new_pairs t a group b.acts in
-    let joined = book.changed_act t (book.joins a (max c.last c.floor)) b.acts in
+    let joined = book.changed_act t (book.joins a (max c.last (floor_at t b.acts c))) b.acts in
     mapped n (crossed_out a) (raised ps joined) ps (pairs.crossed_keeps a) (record {
       older = all_join IsOlder b.pairs _ h.older (new_older t a group b.acts (k refl));
       carried = pairs.raised_carries ps joined;
       based = pairs.based_raised n ps joined (pairs.based_map n _ b.acts (λ x e. joins_based (x.tid == t) x e) h.based);
     })
   where
-    joins_based : (q : Bool) (x : Act) → n ≤ x.m → n ≤ (book.change_if q (book.joins a (max c.last c.floor)) x).m
+    joins_based : (q : Bool) (x : Act) → n ≤ x.m → n ≤ (book.change_if q (book.joins a (max c.last (floor_at t b.acts c))) x).m
     joins_based true x e = omega (arith, e)
     joins_based false x e = e
 
@@ -105,7 +105,7 @@ kept w (Admit t) s ok h = record {
   based = pairs.based_more (base w.text) s.book.acts _ (omega arith) h.based;
 }
 kept w (Arrive k a) s ok h = mapped _ (crossed_out a) _ _ (pairs.crossed_keeps a) (mapped _ (book.lowered k (book.tids_on (cell_at s a).entries)) _ _ (pairs.lowered_keeps k _) h)
-kept w (Ask t a) s ok h = asked (base w.text) (book.in_the_way t (cell_at s a).entries) (book.met t (cell_at s a).entries) t a (cell_at s a) s.book (younger t (cell_at s a) (no_entry t s.cells a ok.1.1.0)) h
+kept w (Ask t a) s ok h = asked (base w.text) (book.in_the_way (lock_of t s.book.acts) (cell_at s a).entries) (book.met (lock_of t s.book.acts) (cell_at s a).entries) t a (cell_at s a) s.book (younger t s.book.acts (cell_at s a) (no_entry t s.cells a ok.1.1.0)) h
 kept w (End t a) s ok h = ended (base w.text) t (has_act t (cell_at s a).entries) (outcome_of t (cell_at s a).outbox) s.book.acts s.book.pairs h
 kept w (Abort k) s ok h = mapped _ _ _ _ (pairs.cascaded_keeps k _) h
 kept w (Prepare t a) s ok h = mapped _ _ _ _ (pairs.changed_keeps t _ (pairs.marked_keeps a book.is_prepared)) h

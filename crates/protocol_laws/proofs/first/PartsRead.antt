@@ -126,7 +126,7 @@ reads_ask w i a s t p q some h =
     let ep = post_is s t h.1.0 in
     let cg = cell_is s t w.text.logs a p q h.1.1.0 in
     let ca = at_get s.cells t.cells a no_cell cg in
-    record { asks = rw (ep, eb, cg) refl; parts = (rw (eb, ca) refl, (rw (ep) refl, (cell_after (after w (Ask i a) s) (after w (Ask i a) t) w.text.logs a p q (set_same s.cells t.cells a _ _ cg (rw (ep, ca) refl)), tt))) }
+    record { asks = rw (ep, eb, cg) refl; parts = (rw (eb, ca) refl, (rw (ep) refl, (cell_after (after w (Ask i a) s) (after w (Ask i a) t) w.text.logs a p q (set_same s.cells t.cells a _ _ cg (rw (ep, eb, ca) refl)), tt))) }
 
 reads_take : {C : Type 0} (w : Fixed C) (i a : ℕ) (s t : Machine C) → HasLogs w s → HasLogs w t → 1 ≤ w.text.logs → SameOn (footprint w.text.logs (Take i a)) s t → ReadsItsParts w (Take i a) s t
 unfolding conditions after

@@ -5,9 +5,10 @@ use Rattle.std.proofs.Common.{arith, subst}
 use Rattle.std.proofs.lemmas.Bool.{eqb-true, and_parts}
 use Rattle.snap_base.specs.declared.transactions.State.{State}
 use Rattle.protocol.specs.Fixed.{Fixed, Code, Next, Go, Ended, base}
+use Rattle.protocol.specs.Rivals.{Lock}
 use Rattle.protocol.specs.Parts.{Cascade, Who, OfBatch, SubBatch, ControlMessage, Pact, Entry, BatchEntry, ActEntry, Waiting, Outcome, Cell, Machine}
 use Rattle.protocol.specs.Events.{Event, Form, Admit, Arrive, Ask, Take, Run, Send, End, Close, Complete, Rollback, DropSub, DropControl, Finish, Trim}
-use Rattle.protocol.specs.Words.{is_aborted, sub_of, control_of, waiting_of, outcome_of, batches_on, who_on}
+use Rattle.protocol.specs.Words.{is_aborted, sub_of, control_of, waiting_of, outcome_of, batches_on, who_on, lock_of}
 use Rattle.protocol.specs.Conditions.{IsAllowed, conditions, queue}
 use Rattle.protocol.specs.Effects.{after, cell_at, no_cell}
 use Rattle.protocol.specs.Runs.{opening, new_cell}
@@ -117,7 +118,7 @@ fewer tid tids bid bids c d p q e f g h = record {
   batches = g;
 }
 
-asked_on : (bid bids t : ℕ) (o : Option ℕ) (es : List Entry) → AllByRecursion (IsWithin bid bids) (batches_on es) → AllByRecursion (IsWithin bid bids) (batches_on (es ++ cell.act_entries t o))
+asked_on : (bid bids : ℕ) (t : Lock) (o : Option ℕ) (es : List Entry) → AllByRecursion (IsWithin bid bids) (batches_on es) → AllByRecursion (IsWithin bid bids) (batches_on (es ++ cell.act_entries t o))
 asked_on bid bids t None es h = on_more _ es (cell.act_entries t None) h tt
 asked_on bid bids t (Some older) es h = on_more _ es [] h tt
 
@@ -195,9 +196,9 @@ kept w (Arrive k a) s ok n h = at_actor w s a _ _ _ (all_filter _ _ s.post.subs 
     (λ g. record { inbox = g.inbox; outbox = g.outbox; batches = on_more _ (cell_at s a).entries _ g.batches (batch_placed _ _ _ k a s.post.subs (sub_of k a s.post.subs) h.subs_lie refl) }) h.cells_lie
 kept w (Ask t a) s ok n h = at_actor w s a _ _ _ h.subs_lie (all_filter _ _ s.post.controls h.controls_lie)
     (λ g. record {
-      inbox = all_join _ (cell_at s a).inbox _ g.inbox (came_or_not _ _ t (book.in_the_way t (cell_at s a).entries) s.post.controls h.controls_lie);
+      inbox = all_join _ (cell_at s a).inbox _ g.inbox (came_or_not _ _ t (book.in_the_way (lock_of t s.book.acts) (cell_at s a).entries) s.post.controls h.controls_lie);
       outbox = g.outbox;
-      batches = asked_on _ _ t (book.in_the_way t (cell_at s a).entries) (cell_at s a).entries g.batches;
+      batches = asked_on _ _ (lock_of t s.book.acts) (book.in_the_way (lock_of t s.book.acts) (cell_at s a).entries) (cell_at s a).entries g.batches;
     }) h.cells_lie
 kept w (Take t a) s ok n h = at_actor w s a _ _ _ h.subs_lie (all_filter _ _ s.post.controls h.controls_lie)
     (λ g. record { inbox = all_join _ (cell_at s a).inbox _ g.inbox (came _ _ t s.post.controls (control_of t s.post.controls) h.controls_lie refl); outbox = g.outbox; batches = g.batches }) h.cells_lie

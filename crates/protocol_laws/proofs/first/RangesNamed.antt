@@ -8,7 +8,7 @@ use Rattle.protocol.specs.Fixed.{Fixed}
 use Rattle.protocol.specs.Rivals.{Lock}
 use Rattle.protocol.specs.Parts.{Joined, Act, Pair, Book, Cell, Machine}
 use Rattle.protocol.specs.Events.{Event, Form, Admit, Arrive, Ask, Take, Run, Send, End, Close, Complete, Abort, Rollback, Finish, Reply, Trim}
-use Rattle.protocol.specs.Words.{below, holds}
+use Rattle.protocol.specs.Words.{below, holds, lock_of, floor_at}
 use Rattle.protocol.specs.Numbers.{from}
 use Rattle.protocol.specs.Spread.{raised, crossed_out}
 use Rattle.protocol.specs.Conditions.{IsAllowed, conditions}
@@ -157,7 +157,7 @@ asked w t a s ok n h =
     let joined : AllByRecursion (JoinedIn actors) s.book.acts = all_unmapped (JoinedIn actors) _ (λ x. actors_of x.places) s.book.acts (λ x g. g) h.joined_in in
     let within : a < actors = omega (arith, n, exists _ s.cells a ok.1.1.0) in
     all_map (JoinedIn actors) _ (λ x. actors_of x.places) _ (λ x g. g)
-    (all_asked actors (book.in_the_way t (cell_at s a).entries) (book.met t (cell_at s a).entries) t a (max (cell_at s a).last (cell_at s a).floor) s.book within joined)
+    (all_asked actors (book.in_the_way (lock_of t s.book.acts) (cell_at s a).entries) (book.met (lock_of t s.book.acts) (cell_at s a).entries) t a (max (cell_at s a).last (floor_at t s.book.acts (cell_at s a))) s.book within joined)
 
 pub kept : {C : Type 0} (w : Fixed C) (e : Event) (s : Machine C) → IsAllowed w e s → length s.cells ≡ length w.text.opening.states → Named w s → Named w (after w e s)
 unfolding Named conditions after

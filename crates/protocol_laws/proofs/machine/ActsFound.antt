@@ -4,10 +4,10 @@ use Rattle.std.proofs.Common.{arith, sym, ap, subst, ◌∙◌}
 use Rattle.std.proofs.lemmas.Bool.{true≢false, eqb-true, cases_Bool}
 use Rattle.snap_base.specs.declared.transactions.TxResult.{TxResult}
 use Rattle.snap_base.specs.declared.verdicts.Verdict.{Verdict}
-use Rattle.protocol.specs.Fixed.{Fixed, base, Next, Go, Ended}
+use Rattle.protocol.specs.Fixed.{Fixed, base, Next, Go, Ended, is_reader}
 use Rattle.protocol.specs.Parts.{Act, Joined, Book, Pair, Doomed, Outcome, Cell, Machine}
 use Rattle.protocol.specs.Events.{Event, Admit, Arrive, Ask, End, Abort, Prepare, Vouch, Decide, Seal, Finish}
-use Rattle.protocol.specs.Words.{is_live_status, act_of, outcome_of, has_act, is_ordered}
+use Rattle.protocol.specs.Words.{is_live_status, act_of, outcome_of, has_act, is_ordered, lock_of, floor_at}
 use Rattle.protocol.specs.Spread.{raised, carried, crossed_out, is_crossed, doomed_by_order}
 use Rattle.protocol.specs.Effects.{after, cell_at}
 use Rattle.protocol.specs.OnPost.{next_act}
@@ -133,8 +133,8 @@ taken P t k n x c p = by (is_live_status x.status) (nat_le k x.m) refl _
 
 -- what events owe of the ACT that they are of; it joins where none is in its way
 unfoldable pub ReadyAll : {C : Type 0} → Fixed C → Event → Machine C → (ℕ → Act → Type 0) → Type 0
-ReadyAll w (Admit t) s P = act_of t s.book.acts ≡ None → P t (book.new_act t (next_act s.ring) (base w.text))
-ReadyAll w (Ask t a) s P = book.in_the_way t (cell_at s a).entries ≡ None → (x : Act) → act_of t s.book.acts ≡ Some x → P t x → P t (book.joins a (max (cell_at s a).last (cell_at s a).floor) x)
+ReadyAll w (Admit t) s P = act_of t s.book.acts ≡ None → P t (book.new_act t (next_act s.ring) (is_reader w (next_act s.ring)) (base w.text))
+ReadyAll w (Ask t a) s P = book.in_the_way (lock_of t s.book.acts) (cell_at s a).entries ≡ None → (x : Act) → act_of t s.book.acts ≡ Some x → P t x → P t (book.joins a (max (cell_at s a).last (floor_at t s.book.acts (cell_at s a))) x)
 ReadyAll w (End t a) s P = (x : Act) (r : TxResult) → act_of t s.book.acts ≡ Some x → P t x → P t (book.with_result r x)
 ReadyAll w (Decide t) s P = (x : Act) → act_of t s.book.acts ≡ Some x → P t x → P t (book.decided_as s.book.next_c x)
 ReadyAll w (Prepare t a) s P = (x : Act) → act_of t s.book.acts ≡ Some x → P t x → P t (book.marked a book.is_prepared x)
@@ -145,8 +145,8 @@ ReadyAll w _ s P = Unit {0}
 
 -- where votes and seals leave the fact
 unfoldable pub ReadyToo : {C : Type 0} → Fixed C → Event → Machine C → (ℕ → Act → Type 0) → Type 0
-ReadyToo w (Admit t) s P = act_of t s.book.acts ≡ None → P t (book.new_act t (next_act s.ring) (base w.text))
-ReadyToo w (Ask t a) s P = book.in_the_way t (cell_at s a).entries ≡ None → (x : Act) → act_of t s.book.acts ≡ Some x → P t x → P t (book.joins a (max (cell_at s a).last (cell_at s a).floor) x)
+ReadyToo w (Admit t) s P = act_of t s.book.acts ≡ None → P t (book.new_act t (next_act s.ring) (is_reader w (next_act s.ring)) (base w.text))
+ReadyToo w (Ask t a) s P = book.in_the_way (lock_of t s.book.acts) (cell_at s a).entries ≡ None → (x : Act) → act_of t s.book.acts ≡ Some x → P t x → P t (book.joins a (max (cell_at s a).last (floor_at t s.book.acts (cell_at s a))) x)
 ReadyToo w (End t a) s P = (x : Act) (r : TxResult) → act_of t s.book.acts ≡ Some x → P t x → P t (book.with_result r x)
 ReadyToo w (Decide t) s P = (x : Act) → act_of t s.book.acts ≡ Some x → P t x → P t (book.decided_as s.book.next_c x)
 ReadyToo w (Finish t a) s P = (x : Act) → act_of t s.book.acts ≡ Some x → P t x → P t (book.marked a book.has_left x)
@@ -154,8 +154,8 @@ ReadyToo w _ s P = Unit {0}
 
 -- where an ACT may be marked as having left
 unfoldable pub Ready : {C : Type 0} → Fixed C → Event → Machine C → (ℕ → Act → Type 0) → Type 0
-Ready w (Admit t) s P = act_of t s.book.acts ≡ None → P t (book.new_act t (next_act s.ring) (base w.text))
-Ready w (Ask t a) s P = (x : Act) → act_of t s.book.acts ≡ Some x → P t x → P t (book.joins a (max (cell_at s a).last (cell_at s a).floor) x)
+Ready w (Admit t) s P = act_of t s.book.acts ≡ None → P t (book.new_act t (next_act s.ring) (is_reader w (next_act s.ring)) (base w.text))
+Ready w (Ask t a) s P = (x : Act) → act_of t s.book.acts ≡ Some x → P t x → P t (book.joins a (max (cell_at s a).last (floor_at t s.book.acts (cell_at s a))) x)
 Ready w (End t a) s P = (x : Act) (r : TxResult) → act_of t s.book.acts ≡ Some x → P t x → P t (book.with_result r x)
 Ready w (Decide t) s P = (x : Act) → act_of t s.book.acts ≡ Some x → P t x → P t (book.decided_as s.book.next_c x)
 Ready w _ s P = Unit {0}
@@ -176,18 +176,18 @@ each_more P n xs k h = λ t y e. in_list t y xs (λ i q. subst (λ z. P z n) i (
         at true k g e r = g e
         at false k g e r = r k g e
 
-pub none_in_way : {C : Type 0} (P : ℕ → Act → Type 0) (t a : ℕ) (c : Cell C) (b : Book) → HoldsAnyway P → EachAct P (book.changed_act t (book.joins a (max c.last c.floor)) b.acts) → EachAct P (book.asked_acts None (book.met t c.entries) t a (max c.last c.floor) b)
+pub none_in_way : {C : Type 0} (P : ℕ → Act → Type 0) (t a : ℕ) (c : Cell C) (b : Book) → HoldsAnyway P → EachAct P (book.changed_act t (book.joins a (max c.last (floor_at t b.acts c))) b.acts) → EachAct P (book.asked_acts None (book.met (lock_of t b.acts) c.entries) t a (max c.last (floor_at t b.acts c)) b)
 none_in_way P t a c b k h = each_by_order P a _ k (each_raised P _ _ k h)
 
-pub asked : {C : Type 0} (P : ℕ → Act → Type 0) (t a : ℕ) (o : Option ℕ) (c : Cell C) (b : Book) → HoldsAnyway P → (o ≡ None → (x : Act) → act_of t b.acts ≡ Some x → P t x → P t (book.joins a (max c.last c.floor) x)) → EachAct P b.acts → EachAct P (book.asked_acts o (book.met t c.entries) t a (max c.last c.floor) b)
+pub asked : {C : Type 0} (P : ℕ → Act → Type 0) (t a : ℕ) (o : Option ℕ) (c : Cell C) (b : Book) → HoldsAnyway P → (o ≡ None → (x : Act) → act_of t b.acts ≡ Some x → P t x → P t (book.joins a (max c.last (floor_at t b.acts c)) x)) → EachAct P b.acts → EachAct P (book.asked_acts o (book.met (lock_of t b.acts) c.entries) t a (max c.last (floor_at t b.acts c)) b)
 asked P t a (Some older) c b k own h = changed_same P t (book.doomed_by (Rattle.protocol.specs.Verdicts.died a older t)) b.acts (λ x. refl) (λ x e p. given_up P t x _ k p) h
-asked P t a None c b k own h = none_in_way P t a c b k (changed_same P t (book.joins a (max c.last c.floor)) b.acts (λ x. refl) (own refl) h)
+asked P t a None c b k own h = none_in_way P t a c b k (changed_same P t (book.joins a (max c.last (floor_at t b.acts c))) b.acts (λ x. refl) (own refl) h)
 
 pub acts_change : {C : Type 0} (w : Fixed C) (e : Event) (s : Machine C) (P : ℕ → Act → Type 0) → HoldsAnyway P → ReadyAll w e s P → EachAct P s.book.acts → EachAct P (after w e s).book.acts
 unfolding after ReadyAll
-acts_change w (Admit t) s P c r h = each_more P (book.new_act t (next_act s.ring) (base w.text)) s.book.acts r h
+acts_change w (Admit t) s P c r h = each_more P (book.new_act t (next_act s.ring) (is_reader w (next_act s.ring)) (base w.text)) s.book.acts r h
 acts_change w (Arrive k a) s P c r h = each_by_order P a _ c (each_map P P (book.lowered k (book.tids_on (cell_at s a).entries)) s.book.acts (λ x. refl) (λ t x e p. c.numbered t x _ p) h)
-acts_change w (Ask t a) s P c r h = asked P t a (book.in_the_way t (cell_at s a).entries) (cell_at s a) s.book c r h
+acts_change w (Ask t a) s P c r h = asked P t a (book.in_the_way (lock_of t s.book.acts) (cell_at s a).entries) (cell_at s a) s.book c r h
 acts_change {C} w (End t a) s P c r h = by (has_act t (cell_at s a).entries) (outcome_of t (cell_at s a).outbox)
   where
     next : (x : Next C) → EachAct P (book.noted_for t x s.book.acts)

@@ -1,10 +1,10 @@
 -- What each ACT of the book is, event by event: its tid is no PACT's, its actors exist, and what its status tells.
-use Rattle.std.specs.Prelude.{◌≡◌, refl, ℕ, ◌+◌, ◌≤◌, ◌<◌, ◌==◌, nat_le, max, Bool, true, false, ◌&&◌, ◌||◌, if◌then◌else◌, Some, None, is_some, List, [], ◌∷◌, ◌++◌, length, map}
+use Rattle.std.specs.Prelude.{◌≡◌, refl, ℕ, ◌+◌, ◌≤◌, ◌<◌, ◌==◌, nat_le, max, not, Bool, true, false, ◌&&◌, ◌||◌, if◌then◌else◌, Some, None, is_some, List, [], ◌∷◌, ◌++◌, length, map}
 use Rattle.std.specs.List.{AllByRecursion}
 use Rattle.std.proofs.Common.{arith, sym, ap, subst, ◌∙◌}
 use Rattle.std.proofs.lemmas.List.{append-nil}
 use Rattle.std.proofs.lemmas.Bool.{true≢false, eqb-true, leb-true, eq-eqb, ne_eqb, and_parts, or_cases, false_from_ne_true}
-use Rattle.protocol.specs.Fixed.{Fixed, base}
+use Rattle.protocol.specs.Fixed.{Fixed, base, is_reader}
 use Rattle.protocol.specs.Parts.{Act, Joined, Batch, Pact, Who, OfBatch, OfAct, Status, Live, Doomed, Decided, Sealed, Machine}
 use Rattle.protocol.specs.Events.{Event, Admit, Ask, End, Commit, Settle, Decide}
 use Rattle.protocol.specs.Words.{holds, is_who, is_value, is_live_status, is_decided, is_sealed, act_of, is_ended, is_ordered}
@@ -36,10 +36,10 @@ pub record ActIs (next actors settled : ℕ) (bs : List Batch) (kept : List Who)
   -- no PACT has its tid
   pub apart : EachPact (λ u r. u ≡ t → ⊥) bs
   pub exist : AllByRecursion (λ p. p.actor < actors) x.places
-  -- one with a place has a result, its before number is settled, and it is kept where that is a value
+  -- one with a place has a result, its before number is settled, and it is kept where that is a value and it is no reader
   pub ended : is_ordered x.status ≡ true → is_some x.result ≡ true
   pub settles : is_ordered x.status ≡ true → x.m ≤ settled
-  pub known : is_kept (OfAct t) kept ≡ (is_ordered x.status && is_value x.result)
+  pub known : is_kept (OfAct t) kept ≡ (is_ordered x.status && (is_value x.result && not x.reader))
 
 unfoldable pub Acts : {C : Type 0} → Machine C → History → Type 0
 Acts s h = EachAct (ActIs s.ring.next_tid (length s.cells) s.desk.settled s.desk.batches h.kept) s.book.acts
@@ -68,9 +68,9 @@ holds_is next actors settled bs kept = record {
     exist = p.exist;
     ended = λ e. p.ended (sym (ordered_sealed x.status) ∙ e);
     settles = λ e. p.settles (sym (ordered_sealed x.status) ∙ e);
-    known = p.known ∙ ap (λ z. z && is_value x.result) (sym (ordered_sealed x.status));
+    known = p.known ∙ ap (λ z. z && (is_value x.result && not x.reader)) (sym (ordered_sealed x.status));
   };
-  doomed = λ t x v l p. record { drawn = p.drawn; apart = p.apart; exist = p.exist; ended = λ e. absurd (true≢false (sym e)); settles = λ e. absurd (true≢false (sym e)); known = p.known ∙ ap (λ z. z && is_value x.result) (live_unordered x.status l) };
+  doomed = λ t x v l p. record { drawn = p.drawn; apart = p.apart; exist = p.exist; ended = λ e. absurd (true≢false (sym e)); settles = λ e. absurd (true≢false (sym e)); known = p.known ∙ ap (λ z. z && (is_value x.result && not x.reader)) (live_unordered x.status l) };
   rises = λ t k x l p. record { drawn = p.drawn; apart = p.apart; exist = p.exist; ended = p.ended; settles = λ e. absurd (true≢false (sym e ∙ l)); known = p.known };
 }
 
@@ -137,21 +137,23 @@ not_own next t (b ∷ bs) l h = (pacts b.pacts h.0, not_own next t bs l h.1)
 
 -- what is kept after an ACT got its place
 kept_by : (t u : ℕ) (x : Act) (kept : List Who) → x.tid ≡ t → (u ≡ t → ⊥) → is_kept (OfAct u) (kept ++ kept_act (Some x)) ≡ is_kept (OfAct u) kept
-kept_by t u x kept e d = by (is_value x.result)
+kept_by t u x kept e d = by (is_value x.result && not x.reader)
   where
     by : (b : Bool) → is_kept (OfAct u) (kept ++ (if b then OfAct x.tid ∷ [] else [])) ≡ is_kept (OfAct u) kept
     by true = kept_more u (OfAct x.tid) kept (ne_eqb x.tid u (λ q. d (sym q ∙ e)))
     by false = rw (append-nil kept) refl
 
-kept_now : (t c : ℕ) (x : Act) (kept : List Who) → x.tid ≡ t → is_live_status x.status ≡ true → is_kept (OfAct t) kept ≡ false → is_kept (OfAct t) (kept ++ kept_act (Some x)) ≡ (is_ordered (book.decided_as c x).status && is_value (book.decided_as c x).result)
-kept_now t c x kept e l n = subst (λ z. is_kept (OfAct z) (kept ++ kept_act (Some x)) ≡ (is_ordered (book.decided_as c x).status && is_value x.result)) e (by (is_value x.result) x.status l (subst (λ z. is_kept (OfAct z) kept ≡ false) (sym e) n))
+kept_now : (t c : ℕ) (x : Act) (kept : List Who) → x.tid ≡ t → is_live_status x.status ≡ true → is_kept (OfAct t) kept ≡ false → is_kept (OfAct t) (kept ++ kept_act (Some x)) ≡ (is_ordered (book.decided_as c x).status && (is_value (book.decided_as c x).result && not x.reader))
+kept_now t c x kept e l n = subst (λ z. is_kept (OfAct z) (kept ++ kept_act (Some x)) ≡ (is_ordered (book.decided_as c x).status && (is_value x.result && not x.reader))) e (by (is_value x.result) (is_value x.result && not x.reader) x.status l (subst (λ z. is_kept (OfAct z) kept ≡ false) (sym e) n))
   where
-    by : (b : Bool) (st : Status) → is_live_status st ≡ true → is_kept (OfAct x.tid) kept ≡ false → is_kept (OfAct x.tid) (kept ++ (if b then OfAct x.tid ∷ [] else [])) ≡ (is_ordered (book.decided_status c b st) && b)
-    by true Live l n = kept_too (OfAct x.tid) kept (eq-eqb x.tid x.tid refl)
-    by false Live l n = rw (append-nil kept) n
-    by b (Doomed v) l n = absurd (true≢false (sym l))
-    by b (Decided d) l n = absurd (true≢false (sym l))
-    by b (Sealed d) l n = absurd (true≢false (sym l))
+    by : (v b : Bool) (st : Status) → is_live_status st ≡ true → is_kept (OfAct x.tid) kept ≡ false → is_kept (OfAct x.tid) (kept ++ (if b then OfAct x.tid ∷ [] else [])) ≡ (is_ordered (book.decided_status c v st) && b)
+    by true true Live l n = kept_too (OfAct x.tid) kept (eq-eqb x.tid x.tid refl)
+    by true false Live l n = rw (append-nil kept) n
+    by false true Live l n = kept_too (OfAct x.tid) kept (eq-eqb x.tid x.tid refl)
+    by false false Live l n = rw (append-nil kept) n
+    by v b (Doomed q) l n = absurd (true≢false (sym l))
+    by v b (Decided d) l n = absurd (true≢false (sym l))
+    by v b (Sealed d) l n = absurd (true≢false (sym l))
 
 pub acts_kept : {C : Type 0} (w : Fixed C) (e : Event) (s : Machine C) (h : History) → IsAllowed w e s → settling.Settling w s → base w.text ≤ s.desk.settled → resting.Drawn s → AllControls (NoneActed s) s → KnownActs s h → Acts s h → Acts (after w e s) (grown w e s h)
 unfolding Acts KnownActs resting.Drawn conditions acts.Ready after grown
@@ -159,7 +161,7 @@ acts_kept w (Admit t) s h ok g b d n k i =
     let j : t ≡ s.ring.next_tid = eqb-true t s.ring.next_tid ok.0 in
     acts.acts_keep w (Admit t) s _ (holds_is _ _ _ _ _) (λ e. own j e) (around w (Admit t) s h tt ok g i)
   where
-    own : t ≡ s.ring.next_tid → act_of t s.book.acts ≡ None → ActIs (after w (Admit t) s).ring.next_tid (length (after w (Admit t) s).cells) (after w (Admit t) s).desk.settled (after w (Admit t) s).desk.batches (grown w (Admit t) s h).kept t (book.new_act t (post.next_act s.ring) (base w.text))
+    own : t ≡ s.ring.next_tid → act_of t s.book.acts ≡ None → ActIs (after w (Admit t) s).ring.next_tid (length (after w (Admit t) s).cells) (after w (Admit t) s).desk.settled (after w (Admit t) s).desk.batches (grown w (Admit t) s h).kept t (book.new_act t (post.next_act s.ring) (is_reader w (post.next_act s.ring)) (base w.text))
     own j e = record {
       drawn = omega (arith, j);
       apart = not_own s.ring.next_tid t s.desk.batches (omega (arith, j)) d;
@@ -186,7 +188,7 @@ acts_kept w (End t a) s h ok g b d n k i =
       exist = p.exist;
       ended = λ z. absurd (true≢false (sym z ∙ q));
       settles = λ z. absurd (true≢false (sym z ∙ q));
-      known = p.known ∙ (ap (λ z. z && is_value x.result) q ∙ ap (λ z. z && is_value (Some v)) (sym q));
+      known = p.known ∙ (ap (λ z. z && (is_value x.result && not x.reader)) q ∙ ap (λ z. z && (is_value (Some v) && not x.reader)) (sym q));
     }) (around w (End t a) s h tt ok g i)
 acts_kept w (Decide t) s h ok g b d n k i = decided (one_is (λ x. is_some x.result && is_live_status x.status) (act_of t s.book.acts) ok.0)
   where
@@ -199,6 +201,6 @@ acts_kept w (Decide t) s h ok g b d n k i = decided (one_is (λ x. is_some x.res
           exist = p.exist;
           ended = λ q. v.0;
           settles = λ q. omega (arith, b, leb-true x.m (max s.desk.settled (base w.text)) (some_of (λ x. nat_le x.m (max s.desk.settled (base w.text))) (act_of t s.book.acts) x f ok.1.1.0));
-          known = ap (λ z. is_kept (OfAct t) (h.kept ++ kept_act z)) f ∙ kept_now t s.book.next_c x h.kept (acts.found_tid t x s.book.acts f) v.1 (p.known ∙ ap (λ z. z && is_value x.result) (live_unordered x.status v.1));
+          known = ap (λ z. is_kept (OfAct t) (h.kept ++ kept_act z)) f ∙ kept_now t s.book.next_c x h.kept (acts.found_tid t x s.book.acts f) v.1 (p.known ∙ ap (λ z. z && (is_value x.result && not x.reader)) (live_unordered x.status v.1));
         }) i
 acts_kept w e s h ok g b d n k i = acts.acts_keep w e s _ (holds_is _ _ _ _ _) tt (around w e s h tt ok g i)

@@ -93,7 +93,7 @@ told_holds ds = record {
 }
 
 decides : (c t : ℕ) (h : History) (x : Act) → x.tid ≡ t → AmongDone (OfAct t) t x.tx (act_place x.m c) x.result (done_act c h (Some x))
-decides c t h x e = record { done = record { who = OfAct x.tid; tid = x.tid; tx = x.tx; place = act_place x.m c; result = x.result; views = λ a. Rattle.protocol.specs.History.view_in x.tid (Rattle.protocol.specs.History.slices_of (OfAct x.tid) (h.long a)) }; front = []; rest = []; splits = refl; who = ap OfAct e; tid = e; tx = refl; place = refl; result = refl }
+decides c t h x e = record { done = record { who = OfAct x.tid; tid = x.tid; tx = x.tx; place = act_place x.m c; result = x.result; reader = x.reader; views = Rattle.protocol.specs.History.act_view h x }; front = []; rest = []; splits = refl; who = ap OfAct e; tid = e; tx = refl; place = refl; result = refl }
 
 pub told_kept : {C : Type 0} (w : Fixed C) (e : Event) (s : Machine C) (h : History) → IsAllowed w e s → AllControls (NoneActed s) s → Acts s h → ActsTold s h → ActsTold (after w e s) (grown w e s h)
 unfolding ActsTold acts.Ready conditions after grown
@@ -176,7 +176,7 @@ from_kept {C} w (Decide t) s h ok n i g = all_join _ h.committed _ (stays_from w
     )
       where
         d : Done
-        d = record { who = OfAct x.tid; tid = x.tid; tx = x.tx; place = act_place x.m s.book.next_c; result = x.result; views = λ a. Rattle.protocol.specs.History.view_in x.tid (Rattle.protocol.specs.History.slices_of (OfAct x.tid) (h.long a)) }
+        d = record { who = OfAct x.tid; tid = x.tid; tx = x.tx; place = act_place x.m s.book.next_c; result = x.result; reader = x.reader; views = Rattle.protocol.specs.History.act_view h x }
 
         placed : (u : ℕ) → u ≡ t → EachAct (λ v y. v ≡ u → IsDone d y) (after w (Decide t) s).book.acts
         placed u f = placed_now w s t x d e (and_parts (is_some x.result) (is_live_status x.status) q).1 refl refl refl refl u f

@@ -1,8 +1,8 @@
 -- All of it over every run, with nothing owed.
-use Rattle.std.specs.Prelude.{◌≡◌, refl, ℕ, zero, suc, ◌<◌, ◌==◌, nat_lt, not, Bool, true, false, ◌&&◌, Some, is_some, List, [], ◌∷◌, length, map, replicate, slice_get}
+use Rattle.std.specs.Prelude.{◌≡◌, refl, ℕ, zero, suc, ◌<◌, ◌==◌, nat_lt, not, Bool, true, false, ◌&&◌, ◌||◌, if◌then◌else◌, Some, is_some, List, [], ◌∷◌, length, map, replicate, slice_get, slice_index_or}
 use Rattle.std.specs.List.{AllByRecursion, list_all}
-use Rattle.std.proofs.Common.{arith, sym, ap, subst, ◌∙◌}
-use Rattle.std.proofs.lemmas.Bool.{true≢false, and_parts, ltb-true}
+use Rattle.std.proofs.Common.{arith, sym, ap, subst, inl, inr, ◌∙◌}
+use Rattle.std.proofs.lemmas.Bool.{cases_Bool, true≢false, and_parts, ltb-true}
 use Rattle.snap_base.specs.declared.transactions.State.{State}
 use Rattle.snap_base.specs.declared.transactions.Tx.{Tx}
 use Rattle.protocol.specs.Facts.{Alone}
@@ -53,6 +53,23 @@ use Rattle.protocol.specs.Footprints.{HasLogs}
 use Rattle.protocol.specs.Verdicts.{ended_at}
 use Rattle.std.proofs.lemmas.List.{length-replicate}
 use Rattle.protocol_laws.proofs.machine.ActsOwed as owed
+use Rattle.protocol.specs.Parts.{OfAct}
+use Rattle.protocol.specs.Fixed.{no_state}
+use Rattle.protocol.specs.OnCell as cell
+use Rattle.protocol.specs.History.{is_reader_act, without_standing, left_for_good}
+use Rattle.protocol_laws.specs.Tracks.{Bare, Linked, slices_in}
+use Rattle.protocol_laws.proofs.machine.TracksKept as tracks
+use Rattle.protocol_laws.proofs.machine.TracksKept.{Tracked}
+use Rattle.protocol_laws.proofs.machine.TurnsKept.{Turned}
+use Rattle.protocol_laws.proofs.machine.PlacesKept as places
+use Rattle.protocol_laws.proofs.machine.PlacesKept.{Placed}
+use Rattle.protocol_laws.proofs.machine.PlaceLists
+use Rattle.protocol_laws.proofs.machine.CommitLists.{linked_one}
+use Rattle.protocol_laws.proofs.machine.ReadersCommit.{ReadersOf, readers_of_kept}
+use Rattle.protocol_laws.proofs.machine.ReadersKept as readers
+use Rattle.protocol_laws.proofs.machine.ReadersKept.{Locks, ActReads}
+use Rattle.protocol_laws.proofs.machine.ReadersSee as see
+use Rattle.protocol_laws.proofs.machine.ReadersSee.{ReadBy, AllSee}
 
 -- Everything that is kept.
 pub record AllGood {C : Type 0} (w : Fixed C) (Of : Tx → C → Type 0) (finish : C → List State → Alone) (s : Machine C) (h : History) : Type 0 where
@@ -82,27 +99,64 @@ pub record AllGood {C : Type 0} (w : Fixed C) (Of : Tx → C → Type 0) (finish
   pub logs : HasLogs w s
   pub acts_recorded : ActsRecorded w s
   pub batches_recorded : BatchesRecorded w s
+  -- readers
+  pub locks : Locks s
+  pub act_reads : ActReads w s h
+  pub read_by : ReadBy s h
+  pub readers_of : ReadersOf s h
+  pub see : AllSee s h
 
 pub drawn : {C : Type 0} (s : Machine C) (h : History) → Acts s h → ActsDrawn s.ring.next_tid s.book.acts
 unfolding Acts
 drawn s h i = λ t x e. (i t x e).drawn
 
+bare_there : {C : Type 0} (s : Machine C) (h : History) (t a : ℕ) → Turned s h → Locks s → is_reader_act (act_of t s.book.acts) ≡ true → Bare (OfAct t) (h.long a)
+unfolding Turned Locks
+bare_there s h t a u l r = readers.bare s.book.acts t (h.long a) (cell_at s a).entries (u a) (l a) r
+
 -- What an event owes holds.
-pub owes : {C : Type 0} (w : Fixed C) (Of : Tx → C → Type 0) (finish : C → List State → Alone) (e : Event) (s : Machine C) (h : History) → IsAllowed w e s → AllGood w Of finish s h → whole.Owed w e s h
+pub owes : {C : Type 0} (w : Fixed C) (Of : Tx → C → Type 0) (finish : C → List State → Alone) (e : Event) (s : Machine C) (h : History) → Given w Of finish → IsAllowed w e s → AllGood w Of finish s h → whole.Owed w e s h
 unfolding whole.Owed conditions
-owes w Of finish (Run t a) s h ok g =
+owes w Of finish (Run t a) s h v ok g =
     let q : is_some (waiting_of t (cell_at s a).inbox) ≡ true = held (λ c. is_some (waiting_of t c.inbox)) s.cells a no_cell ok.0 in
     let n = owed.not_kept s h t g.acts g.known (results.waiting_none t a s q g.none) in
-    (n, λ p. owed.act_runs w Of finish t a s h q p g.good g.of_pacts n)
-owes w Of finish (Ask t a) s h ok g = owed.not_kept s h t g.acts g.known (results.posted_none t a s ok.0 g.none)
-owes w Of finish (Finish t a) s h ok g = (owed.finish_exists w t a s h ok g.acts, owed.finish_kept w t a s h ok g.acts, owed.finish_firm w t a s h ok g.acts g.good.numbers g.behind)
-owes w Of finish (Trim k a) s h ok g = owed.trim_exists w k a s ok g.sizes
-owes w Of finish (Decide t) s h ok g = owed.may_decide w t s h ok g.good.settling g.good.marked g.good.tracked g.good.turned g.good.from_desk g.good.numbers g.none g.acts g.sizes g.behind g.started
-owes w Of finish e s h ok g = tt
+    (n, (λ p. owed.act_runs w Of finish t a s h q p g.good g.of_pacts n), readers.leaves w Of finish t a _ s h v.facts ok g.good.told g.locks g.act_reads)
+owes w Of finish (Ask t a) s h v ok g = owed.not_kept s h t g.acts g.known (results.posted_none t a s ok.0 g.none)
+owes w Of finish (Finish t a) s h v ok g = (owed.finish_exists w t a s h ok g.acts, owed.finish_kept w t a s h ok g.acts, owed.finish_firm w t a s h ok g.acts g.good.numbers g.behind, bare_there s h t a g.good.turned g.locks)
+owes w Of finish (Trim k a) s h v ok g = owed.trim_exists w k a s ok g.sizes
+owes w Of finish (Decide t) s h v ok g = owed.may_decide w t s h ok g.good.settling g.good.marked g.good.tracked g.good.turned g.good.from_desk g.good.numbers g.none g.acts g.sizes g.behind g.started g.left g.standing g.locks g.read_by g.see
+owes w Of finish e s h v ok g = tt
+
+placed_firm : {C : Type 0} (w : Fixed C) (s : Machine C) (h : History) (a : ℕ) → Placed w s h → Rattle.protocol_laws.specs.Places.FirmUpToGone s.desk.settled s.book.cascades (h.long a)
+unfolding Placed
+placed_firm w s h a p = (p a).firm
+
+-- what it owes of readers
+owes_see : {C : Type 0} (w : Fixed C) (Of : Tx → C → Type 0) (finish : C → List State → Alone) (e : Event) (s : Machine C) (h : History) → Given w Of finish → IsAllowed w e s → AllGood w Of finish s h → see.Owed w e s h
+unfolding see.Owed Tracked Turned AllSee places.Owed tracks.Assumed conditions
+owes_see w Of finish (Ask t a) s h v ok g = owed.asks_unread w t a s h ok g.none g.acts g.left g.standing g.read_by
+owes_see w Of finish (Run t a) s h v ok g = let p = whole.for_places w Of finish (Run t a) s h v ok (owes w Of finish (Run t a) s h v ok g) g.good in (p.1, p.0, (g.good.tracked a).differ)
+owes_see w Of finish (Rollback a) s h v ok g = λ r.
+    let cut = PlaceLists.cut_is_end s.desk.settled s.book.cascades (h.long a) (placed_firm w s h a g.good.placed) in
+    let new = tracks.rollback w a s.book (cell_at s a) (h.long a) cut (g.good.tracked a) in
+    let same = see.rollback_same s.book.cascades (h.reads a) (h.long a) (cell_at s a).entries (see.lined (h.long a) (cell_at s a).entries (g.good.turned a) (g.good.tracked a).stands) (g.good.tracked a).in_order r in
+    linked_one _ _ _ (slices_in (h.long a)) (subst (λ z. Linked (slice_index_or w.text.opening.states a no_state) z (cell.rolled_back s.book.cascades (cell_at s a)).state) same new.links) (g.good.tracked a).links
+owes_see w Of finish (Finish t a) s h v ok g =
+    let o = owes w Of finish (Finish t a) s h v ok g in
+    let p = whole.for_places w Of finish (Finish t a) s h v ok o g.good in
+    (p.0, λ r. elim (cases_Bool (cell.is_undone_act (act_of t s.book.acts))) [
+      | inr q ↦ rw q refl
+      | inl q ↦
+          let new = tracks.finish w t a s.book (cell_at s a) (h.long a) p.2 (g.good.tracked a) in
+          let same = see.finish_same t (cell_at s a).state (h.reads a) (h.long a) (cell_at s a).entries (see.lined (h.long a) (cell_at s a).entries (g.good.turned a) (g.good.tracked a).stands) (g.good.tracked a).in_order (g.see a) r in
+          linked_one _ _ _ (slices_in (h.long a)) (subst (λ z. Linked (slice_index_or w.text.opening.states a no_state) z (cell.act_left t (act_of t s.book.acts) (cell_at s a)).state) same (subst (λ b. Linked (slice_index_or w.text.opening.states a no_state) (slices_in (if b || is_reader_act (act_of t s.book.acts) then without_standing (OfAct t) (h.long a) else map (left_for_good (OfAct t)) (h.long a))) (cell.act_left t (act_of t s.book.acts) (cell_at s a)).state) q new.links)) (g.good.tracked a).links
+    ])
+owes_see w Of finish (Trim k a) s h v ok g = owed.trim_exists w k a s ok g.sizes
+owes_see w Of finish e s h v ok g = tt
 
 pub kept : {C : Type 0} (w : Fixed C) (Of : Tx → C → Type 0) (finish : C → List State → Alone) (e : Event) (s : Machine C) (h : History) → Given w Of finish → IsAllowed w e s → AllGood w Of finish s h → AllGood w Of finish (after w e s) (grown w e s h)
 kept w Of finish e s h v ok g = record {
-  good = whole.kept w Of finish e s h v ok (owes w Of finish e s h ok g) g.good;
+  good = whole.kept w Of finish e s h v ok (owes w Of finish e s h v ok g) g.good;
   none = results.results_kept w e s ok g.good.held (drawn s h g.acts) g.none;
   acts = acts.acts_kept w e s h ok g.good.settling g.sizes.based g.good.drawn g.none g.known g.acts;
   known = queued.known_kept w e s h g.known;
@@ -123,12 +177,17 @@ kept w Of finish e s h v ok g = record {
   acts_recorded = records.acts_recorded w e s h v.text g.logs ok g.none g.acts g.acts_recorded;
   batches_recorded = records.batches_recorded w e s v.text g.logs ok g.batches_recorded;
   started = starts.kept w e s h ok (λ t a q. owed.finish_exists w t a s h (subst (λ z. IsAllowed w z s) q ok) g.acts) (λ k a q. owed.trim_exists w k a s (subst (λ z. IsAllowed w z s) q ok) g.sizes) g.acts g.good.numbers g.good.tracked g.good.from_desk g.started;
+  locks = readers.locks_kept w e s ok g.locks;
+  act_reads = readers.act_reads_kept w e s h ok g.acts g.act_reads;
+  read_by = see.read_by_kept w e s h g.locks g.opened g.read_by;
+  readers_of = readers_of_kept w e s h ok g.none g.readers_of;
+  see = see.see_kept w e s h ok (owes_see w Of finish e s h v ok g) g.see;
 }
 
 -- ---- the opening
 
 pub opened : {C : Type 0} (w : Fixed C) (Of : Tx → C → Type 0) (finish : C → List State → Alone) → Given w Of finish → AllGood w Of finish (opening w) no_history
-unfolding Acts KnownActs OfPacts AllBehind Started ActsTold AllFrom Left Opened Standing PactsTold NoPlaces PactsFrom ActsRecorded BatchesRecorded
+unfolding Acts KnownActs OfPacts AllBehind Started ActsTold AllFrom Left Opened Standing PactsTold NoPlaces PactsFrom ActsRecorded BatchesRecorded Locks ActReads ReadBy ReadersOf AllSee
 opened {C} w Of finish v = record {
   good = whole.opened w Of finish v;
   none = nowhere w (NoneActed (opening w));
@@ -151,6 +210,11 @@ opened {C} w Of finish v = record {
   logs = length-replicate w.text.logs no_log;
   acts_recorded = λ t x e. absurd (cc e);
   batches_recorded = λ k b e. absurd (cc e);
+  locks = λ b. subst (AllByRecursion (readers.LockOf [])) (sym (whole.no_entries C (base w.text) w.text.opening.states b)) tt;
+  act_reads = λ t x e. absurd (cc e);
+  read_by = λ a. tt;
+  readers_of = tt;
+  see = λ b. subst (see.SeesAt (cell_at (opening w) b).state []) (sym (whole.no_entries C (base w.text) w.text.opening.states b)) tt;
 }
 
 -- ---- over every run

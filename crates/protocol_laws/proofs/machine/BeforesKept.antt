@@ -7,18 +7,19 @@ use Rattle.std.proofs.lemmas.Bool.{eqb-true, leb-true, le-leb, and_parts, or_cas
 use Rattle.protocol.specs.Fixed.{Fixed, Next, Go, Ended}
 use Rattle.protocol.specs.Parts.{Act, Book, Pair, Cascade, Status, Live, Doomed, Decided, Sealed, OfBatch, OfAct, Who, Entry, BatchEntry, ActEntry, Outcome, Cell, Machine}
 use Rattle.protocol.specs.Events.{Event, Admit, Arrive, Ask, Take, Run, Send, End, Close, Complete, Abort, Rollback, Prepare, Vouch, Decide, Seal, Finish, Trim}
-use Rattle.protocol.specs.Words.{holds, greatest, is_doomed, is_live_status, is_value, is_who, act_of, batches_on, outcome_of, has_act, epoch_of, sub_of}
+use Rattle.protocol.specs.Words.{holds, greatest, is_doomed, is_live_status, is_value, is_who, act_of, batches_on, outcome_of, has_act, epoch_of, sub_of, lock_of, floor_at}
 use Rattle.protocol.specs.Spread.{raised, carried, crossed_out, is_crossed, doomed_by_order}
 use Rattle.protocol.specs.Conditions.{IsAllowed, conditions, epoch}
 use Rattle.protocol.specs.Effects.{after, cell_at}
 use Rattle.protocol.specs.OnBook as book
 use Rattle.protocol.specs.OnCell as cell
 use Rattle.protocol.specs.OnCell.{is_cut}
-use Rattle.protocol.specs.History.{History, Slice, Ran, Stands, Gone, grown, not_run, ran_in, completed, left_for_good, without_standing, long_staying, asks, batches_in, batch_in}
+use Rattle.protocol.specs.History.{History, Slice, Ran, Stands, Gone, grown, not_run, ran_in, completed, left_for_good, without_standing, long_staying, asks, batches_in, batch_in, is_traceless}
 use Rattle.protocol_laws.specs.Turns.{Turns}
 use Rattle.protocol_laws.specs.Places.{Fits}
 use Rattle.protocol_laws.specs.Befores.{gone_in, LastIs, is_above, Befores}
 use Rattle.protocol_laws.proofs.first.EpochsKept as epochs
+use Rattle.protocol_laws.proofs.machine.TrackLists
 use Rattle.protocol_laws.proofs.machine.TracksKept.{beside, beside_same, in_range, arrives}
 use Rattle.protocol_laws.proofs.machine.TurnLists
 use Rattle.protocol_laws.proofs.machine.TurnsKept.{Turned}
@@ -85,15 +86,15 @@ cascade_doomed : (v : Bool) (s d : Status) → is_doomed s ≡ true → is_doome
 cascade_doomed true s d h e = e
 cascade_doomed false s d h e = h
 
-asked_above : {C : Type 0} (top u t a : ℕ) (o : Option ℕ) (c : Cell C) (b : Book) → holds (is_above top) (act_of u b.acts) ≡ true → holds (is_above top) (act_of u (book.asked_acts o (book.met t c.entries) t a (max c.last c.floor) b)) ≡ true
+asked_above : {C : Type 0} (top u t a : ℕ) (o : Option ℕ) (c : Cell C) (b : Book) → holds (is_above top) (act_of u b.acts) ≡ true → holds (is_above top) (act_of u (book.asked_acts o (book.met (lock_of t b.acts) c.entries) t a (max c.last (floor_at t b.acts c)) b)) ≡ true
 asked_above top u t a (Some older) c b h = changed top u t _ b.acts (λ x. refl) (λ x q. above_more top x (book.doomed_by (Rattle.protocol.specs.Verdicts.died a older t) x) (omega arith) (λ p. doomed_still x.status _ p) q) h
-asked_above top u t a None c b h = by_order top u a _ (raised_above top u _ _ (changed top u t _ b.acts (λ x. refl) (λ x q. above_more top x (book.joins a (max c.last c.floor) x) (omega arith) (λ p. p) q) h))
+asked_above top u t a None c b h = by_order top u a _ (raised_above top u _ _ (changed top u t _ b.acts (λ x. refl) (λ x q. above_more top x (book.joins a (max c.last (floor_at t b.acts c)) x) (omega arith) (λ p. p) q) h))
 
 pub book_stays : {C : Type 0} (w : Fixed C) (e : Event) (s : Machine C) (top t : ℕ) → holds (is_above top) (act_of t s.book.acts) ≡ true → holds (is_above top) (act_of t (after w e s).book.acts) ≡ true
 unfolding after
 book_stays w (Admit u) s top t h = holds_more top t _ s.book.acts h
 book_stays w (Arrive k a) s top t h = by_order top t a _ (holds_map top (book.lowered k (book.tids_on (cell_at s a).entries)) (λ x. refl) (λ x q. q) t s.book.acts h)
-book_stays w (Ask u a) s top t h = asked_above top t u a (book.in_the_way u (cell_at s a).entries) (cell_at s a) s.book h
+book_stays w (Ask u a) s top t h = asked_above top t u a (book.in_the_way (lock_of u s.book.acts) (cell_at s a).entries) (cell_at s a) s.book h
 book_stays {C} w (End u a) s top t h = by (has_act u (cell_at s a).entries) (outcome_of u (cell_at s a).outbox)
   where
     next : (n : Next C) → holds (is_above top) (act_of t (book.noted_for u n s.book.acts)) ≡ true
@@ -194,16 +195,16 @@ roll_back acts top cs (Gone (OfBatch k) ss ∷ rs) h = roll_back acts (max top k
 roll_back acts top cs (Gone (OfAct t) ss ∷ rs) h = roll_back acts top cs rs h
 
 -- an ACT that is placed has a number at least as great as the last batch
-asked_own : {C : Type 0} (t a : ℕ) (c : Cell C) (b : Book) → holds (λ x. true) (act_of t b.acts) ≡ true → holds (is_above c.last) (act_of t (book.asked_acts None (book.met t c.entries) t a (max c.last c.floor) b)) ≡ true
+asked_own : {C : Type 0} (t a : ℕ) (c : Cell C) (b : Book) → holds (λ x. true) (act_of t b.acts) ≡ true → holds (is_above c.last) (act_of t (book.asked_acts None (book.met (lock_of t b.acts) c.entries) t a (max c.last (floor_at t b.acts c)) b)) ≡ true
 asked_own t a c b h = by_order c.last t a _ (raised_above c.last t _ _ (joined t b.acts h))
   where
-    joined : (t : ℕ) (xs : List Act) → holds (λ x. true) (act_of t xs) ≡ true → holds (is_above c.last) (act_of t (book.changed_act t (book.joins a (max c.last c.floor)) xs)) ≡ true
+    joined : (t : ℕ) (xs : List Act) → holds (λ x. true) (act_of t xs) ≡ true → holds (is_above c.last) (act_of t (book.changed_act t (book.joins a (max c.last (floor_at t b.acts c))) xs)) ≡ true
     joined t [] h = absurd (true≢false (sym h))
     joined t (x ∷ xs) h = by (x.tid == t) refl h (joined t xs)
       where
-        by : (v : Bool) → (x.tid == t) ≡ v → holds (λ x. true) (if v then Some x else act_of t xs) ≡ true → (holds (λ x. true) (act_of t xs) ≡ true → holds (is_above c.last) (act_of t (book.changed_act t (book.joins a (max c.last c.floor)) xs)) ≡ true)
-            → holds (is_above c.last) (act_of t (book.change_if v (book.joins a (max c.last c.floor)) x ∷ book.changed_act t (book.joins a (max c.last c.floor)) xs)) ≡ true
-        by true e h r = rw e (or_right (is_doomed x.status) _ (le-leb c.last (max x.m (max c.last c.floor)) (omega arith)))
+        by : (v : Bool) → (x.tid == t) ≡ v → holds (λ x. true) (if v then Some x else act_of t xs) ≡ true → (holds (λ x. true) (act_of t xs) ≡ true → holds (is_above c.last) (act_of t (book.changed_act t (book.joins a (max c.last (floor_at t b.acts c))) xs)) ≡ true)
+            → holds (is_above c.last) (act_of t (book.change_if v (book.joins a (max c.last (floor_at t b.acts c))) x ∷ book.changed_act t (book.joins a (max c.last (floor_at t b.acts c))) xs)) ≡ true
+        by true e h r = rw e (or_right (is_doomed x.status) _ (le-leb c.last (max x.m (max c.last (floor_at t b.acts c))) (omega arith)))
         by false e h r = rw e (r h)
 
 -- ---- the last batch of an actor
@@ -300,9 +301,9 @@ lasts_kept w (Arrive k a) s h ok x ag p t g =
   where
     less : (j k : ℕ) (cs : List Cascade) (ep tail next : ℕ) → epoch_of k cs ≡ ep → tail < k → Fits next cs ep tail j → j ≤ k
     less j k cs ep tail next e m f = elim (cases_lt j k) [ inl l ↦ omega (arith, l) | inr l ↦ absurd (omega (arith, l, m, f.is_last (omega (arith, f.placed, e, PlaceLists.epoch_mono k j cs l)))) ]
-lasts_kept w (Ask u a) s h ok x ag p t g = beside AtLast s.cells a _ _ h.long (in_range _ s.cells a ok.1.1.0) (ask_last (cell_at s a).last (cell_at s a).last_trimmed u (book.in_the_way u (cell_at s a).entries) (h.long a)) g
+lasts_kept w (Ask u a) s h ok x ag p t g = beside AtLast s.cells a _ _ h.long (in_range _ s.cells a ok.1.1.0) (ask_last (cell_at s a).last (cell_at s a).last_trimmed u (book.in_the_way (lock_of u s.book.acts) (cell_at s a).entries) (h.long a)) g
 lasts_kept w (Take u a) s h ok x ag p t g = beside_same AtLast s.cells a _ h.long (in_range _ s.cells a ok.1.0) (λ y. y) g
-lasts_kept w (Run u a) s h ok x ag p t g = beside AtLast s.cells a _ _ h.long (in_range _ s.cells a ok.0) (λ y. same (cell_at s a).last (cell_at s a).last_trimmed (h.long a) _ (PlaceLists.batches_ran _ _ (h.long a)) (gone_ran _ _ (h.long a)) y) g
+lasts_kept w (Run u a) s h ok x ag p t g = beside AtLast s.cells a _ _ h.long (in_range _ s.cells a ok.0) (TrackLists.on_reads (LastIs (cell_at s a).last (cell_at s a).last_trimmed) (cell.reads_on u (cell_at s a).entries) _ _ (h.long a) (λ y. same (cell_at s a).last (cell_at s a).last_trimmed (h.long a) _ (PlaceLists.batches_ran _ _ (h.long a)) (gone_ran _ _ (h.long a)) y)) g
 lasts_kept w (Send u a) s h ok x ag p t g = beside_same AtLast s.cells a _ h.long (in_range _ s.cells a ok.0) (λ y. y) g
 lasts_kept w (End u a) s h ok x ag p t g = beside_same AtLast s.cells a _ h.long (in_range _ s.cells a ok.0) (λ y. y) g
 lasts_kept w (Close u a) s h ok x ag p t g = beside_same AtLast s.cells a _ h.long (in_range _ s.cells a ok.1.0) (λ y. y) g
@@ -311,7 +312,7 @@ lasts_kept w (Rollback a) s h ok x ag p t g = beside AtLast s.cells a _ _ h.long
   placed = standing_at_most (cell_at s a).last_trimmed (long_staying s.book.cascades (h.long a)) (cell.staying s.book.cascades (cell_at s a).entries) (TurnLists.roll_back s.book.cascades (h.long a) (cell_at s a).entries (t a)) (gone_staying _ s.book.cascades (h.long a) y.gone);
   gone = gone_staying _ s.book.cascades (h.long a) y.gone;
 }) g
-lasts_kept w (Finish u a) s h ok x ag p t g = beside AtLast s.cells a _ _ h.long x (finish_last (cell_at s a).last (cell_at s a).last_trimmed u (cell.is_undone_act (act_of u s.book.acts)) (h.long a)) g
+lasts_kept w (Finish u a) s h ok x ag p t g = beside AtLast s.cells a _ _ h.long x (finish_last (cell_at s a).last (cell_at s a).last_trimmed u (is_traceless (act_of u s.book.acts)) (h.long a)) g
 lasts_kept w (Trim k a) s h ok x ag p t g = beside AtLast s.cells a _ _ h.long x (λ y. record {
   placed = rw (PlaceLists.batches_left (OfBatch k) (h.long a)) y.placed;
   gone = gone_left (max (cell_at s a).last_trimmed k) (OfBatch k) (h.long a) (omega arith, tt) (weaker _ _ (gone_in (h.long a)) (λ j l. omega (arith, l)) y.gone);
@@ -329,9 +330,9 @@ pub held_act : (p : Act → Bool) (o : Option Act) → holds p o ≡ true → ho
 held_act p None h = h
 held_act p (Some x) h = refl
 
-ask_number : {C : Type 0} (t a : ℕ) (o : Option ℕ) (c : Cell C) (b : Book) (rs : List Ran) → holds (λ x. true) (act_of t b.acts) ≡ true → AllByRecursion (λ k. k ≤ c.last) (batches_in rs) → Befores (book.asked_acts o (book.met t c.entries) t a (max c.last c.floor) b) 0 rs
-    → Befores (book.asked_acts o (book.met t c.entries) t a (max c.last c.floor) b) 0 (rs ++ map not_run (asks t o))
-ask_number t a None c b rs e l h = more_act (book.asked_acts None (book.met t c.entries) t a (max c.last c.floor) b) 0 c.last t rs (omega arith) l (asked_own t a c b e) h
+ask_number : {C : Type 0} (t a : ℕ) (o : Option ℕ) (c : Cell C) (b : Book) (rs : List Ran) → holds (λ x. true) (act_of t b.acts) ≡ true → AllByRecursion (λ k. k ≤ c.last) (batches_in rs) → Befores (book.asked_acts o (book.met (lock_of t b.acts) c.entries) t a (max c.last (floor_at t b.acts c)) b) 0 rs
+    → Befores (book.asked_acts o (book.met (lock_of t b.acts) c.entries) t a (max c.last (floor_at t b.acts c)) b) 0 (rs ++ map not_run (asks t o))
+ask_number t a None c b rs e l h = more_act (book.asked_acts None (book.met (lock_of t b.acts) c.entries) t a (max c.last (floor_at t b.acts c)) b) 0 c.last t rs (omega arith) l (asked_own t a c b e) h
 ask_number t a (Some x) c b rs e l h = rw (append-nil rs) h
 
 finish_number : (acts : List Act) (t : ℕ) (q : Bool) (rs : List Ran) → Befores acts 0 rs → Befores acts 0 (if q then without_standing (OfAct t) rs else map (left_for_good (OfAct t)) rs)
@@ -341,11 +342,11 @@ finish_number acts t false rs h = leave acts 0 (OfAct t) rs h
 numbers_kept : {C : Type 0} (w : Fixed C) (e : Event) (s : Machine C) (h : History) → IsAllowed w e s → Lasts s h → ((a : ℕ) → Befores (after w e s).book.acts 0 (h.long a)) → Numbers (after w e s) (grown w e s h)
 unfolding Numbers Lasts conditions after grown
 numbers_kept w (Arrive k a) s h ok l g = beside_carried (λ b rs. Befores (after w (Arrive k a) s).book.acts 0 rs) a _ h.long (more_batch _ 0 k (h.long a)) g
-numbers_kept w (Ask t a) s h ok l g = beside_carried (λ b rs. Befores (after w (Ask t a) s).book.acts 0 rs) a _ h.long (ask_number t a (book.in_the_way t (cell_at s a).entries) (cell_at s a) s.book (h.long a) (held_act _ (act_of t s.book.acts) ok.1.0) (l a).placed) g
-numbers_kept w (Run t a) s h ok l g = beside_carried (λ b rs. Befores s.book.acts 0 rs) a _ h.long (ran s.book.acts 0 _ _ (h.long a)) g
+numbers_kept w (Ask t a) s h ok l g = beside_carried (λ b rs. Befores (after w (Ask t a) s).book.acts 0 rs) a _ h.long (ask_number t a (book.in_the_way (lock_of t s.book.acts) (cell_at s a).entries) (cell_at s a) s.book (h.long a) (held_act _ (act_of t s.book.acts) ok.1.0) (l a).placed) g
+numbers_kept w (Run t a) s h ok l g = beside_carried (λ b rs. Befores s.book.acts 0 rs) a _ h.long (TrackLists.on_reads (Befores s.book.acts 0) (cell.reads_on t (cell_at s a).entries) _ _ (h.long a) (ran s.book.acts 0 _ _ (h.long a))) g
 numbers_kept w (Complete k a) s h ok l g = beside_carried (λ b rs. Befores s.book.acts 0 rs) a _ h.long (complete s.book.acts 0 k (h.long a)) g
 numbers_kept w (Rollback a) s h ok l g = beside_carried (λ b rs. Befores s.book.acts 0 rs) a _ h.long (roll_back s.book.acts 0 s.book.cascades (h.long a)) g
-numbers_kept w (Finish t a) s h ok l g = beside_carried (λ b rs. Befores (after w (Finish t a) s).book.acts 0 rs) a _ h.long (finish_number _ t (cell.is_undone_act (act_of t s.book.acts)) (h.long a)) g
+numbers_kept w (Finish t a) s h ok l g = beside_carried (λ b rs. Befores (after w (Finish t a) s).book.acts 0 rs) a _ h.long (finish_number _ t (is_traceless (act_of t s.book.acts)) (h.long a)) g
 numbers_kept w (Trim k a) s h ok l g = beside_carried (λ b rs. Befores s.book.acts 0 rs) a _ h.long (leave s.book.acts 0 (OfBatch k) (h.long a)) g
 numbers_kept w e s h ok l g = g
 

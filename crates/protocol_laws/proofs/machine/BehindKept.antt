@@ -7,19 +7,21 @@ use Rattle.std.proofs.lemmas.Bool.{true≢false, eqb-true, leb-true, ltb-true, l
 use Rattle.protocol.specs.Fixed.{Fixed}
 use Rattle.protocol.specs.Parts.{Act, Cascade, Status, Live, Doomed, Decided, Sealed, Who, OfBatch, OfAct, Machine}
 use Rattle.protocol.specs.Events.{Event, Admit, Arrive, Ask, Run, End, Complete, Abort, Rollback, Decide, Finish, Trim}
-use Rattle.protocol.specs.Words.{holds, covers, is_aborted, is_doomed, is_live_status, is_value, is_who, act_of, epoch_of, is_ordered}
+use Rattle.protocol.specs.Words.{holds, covers, is_aborted, is_doomed, is_live_status, is_value, is_who, act_of, epoch_of, is_ordered, lock_of}
 use Rattle.protocol.specs.Conditions.{IsAllowed, conditions, epoch}
 use Rattle.protocol.specs.Effects.{after, cell_at, no_cell}
 use Rattle.protocol.specs.OnBook as book
 use Rattle.protocol.specs.OnCell as cell
 use Rattle.protocol.specs.OnCell.{is_cut}
-use Rattle.protocol.specs.History.{History, Slice, Ran, Stands, Gone, grown, not_run, ran_in, completed, left_for_good, without_standing, long_staying, asks, batches_in}
+use Rattle.protocol.specs.History.{History, Slice, Ran, Stands, Gone, grown, not_run, ran_in, completed, left_for_good, without_standing, long_staying, asks, batches_in, is_traceless}
 use Rattle.protocol_laws.specs.Told.{EachAct}
 use Rattle.protocol_laws.specs.Places.{Fits}
+use Rattle.protocol_laws.specs.Tracks.{keys_in, is_key_among}
 use Rattle.protocol_laws.specs.Befores.{is_above, Befores}
 use Rattle.protocol_laws.proofs.first.EpochsKept as epochs
 use Rattle.protocol_laws.proofs.first.SettlingKept as settling
 use Rattle.protocol_laws.proofs.first.SettlingKeys as keys
+use Rattle.protocol_laws.proofs.machine.TrackLists
 use Rattle.protocol_laws.proofs.machine.TracksKept.{held}
 use Rattle.protocol_laws.proofs.machine.PlacesKept.{Placed}
 use Rattle.protocol_laws.proofs.machine.BeforesKept.{Numbers}
@@ -220,8 +222,8 @@ unfolding AllBehind Placed Numbers Acts conditions after grown
 behind_moves w (Arrive k a) s h ok z p n i g f = beside_carried (λ b rs. Behind (after w (Arrive k a) s).book.acts s.book.cascades false rs) a _ h.long (more_batch _ s.book.cascades false k (h.long a)) f
 behind_moves w (Ask t a) s h ok z p n i g f =
     let e : (cell_at s a).epoch ≡ length s.book.cascades = eqb-true (cell_at s a).epoch (epoch s.book) (held (λ c. c.epoch == epoch s.book) s.cells a no_cell ok.1.1.1.0) in
-    beside_carried (λ b rs. Behind (after w (Ask t a) s).book.acts s.book.cascades false rs) a _ h.long (ask _ s.book.cascades t (book.in_the_way t (cell_at s a).entries) (h.long a) (clean s.ring.next_bid s.book.cascades (cell_at s a).epoch (cell_at s a).tail (batches_in (h.long a)) e (p a).fit)) f
-behind_moves w (Run t a) s h ok z p n i g f = beside_carried (λ b rs. Behind s.book.acts s.book.cascades false rs) a _ h.long (ran s.book.acts s.book.cascades false _ _ (h.long a)) f
+    beside_carried (λ b rs. Behind (after w (Ask t a) s).book.acts s.book.cascades false rs) a _ h.long (ask _ s.book.cascades t (book.in_the_way (lock_of t s.book.acts) (cell_at s a).entries) (h.long a) (clean s.ring.next_bid s.book.cascades (cell_at s a).epoch (cell_at s a).tail (batches_in (h.long a)) e (p a).fit)) f
+behind_moves w (Run t a) s h ok z p n i g f = beside_carried (λ b rs. Behind s.book.acts s.book.cascades false rs) a _ h.long (TrackLists.on_reads (Behind s.book.acts s.book.cascades false) (cell.reads_on t (cell_at s a).entries) _ _ (h.long a) (ran s.book.acts s.book.cascades false _ _ (h.long a))) f
 behind_moves w (Complete k a) s h ok z p n i g f = beside_carried (λ b rs. Behind s.book.acts s.book.cascades false rs) a _ h.long (complete s.book.acts s.book.cascades false k (h.long a)) f
 behind_moves w (Abort k) s h ok z p n i g f = λ a. cascade s.book.acts (after w (Abort k) s).book.acts s.book.cascades (record { first = k; upto = s.ring.next_bid - 1; by = book.failed_tx (book.why k s.desk); at = s.book.next_c; code = book.failed_code (book.why k s.desk) }) 0 false false (h.long a)
     (λ t q. out_stays w (Abort k) s t q)
@@ -230,9 +232,20 @@ behind_moves w (Abort k) s h ok z p n i g f = λ a. cascade s.book.acts (after w
     (λ u x e v j. taken_along k (book.failed_tx (book.why k s.desk)) s.desk.settled x (settling.aborts_above w s k ok z) v.0 (above_less k m x l (v.1 j))) (λ u x e. ((i u x e).settles, holds_to_each (is_above m) t s.book.acts q u x e))))
     (λ e. absurd (true≢false (sym e))) (n a) (g a)
 behind_moves w (Rollback a) s h ok z p n i g f = beside_carried (λ b rs. Behind s.book.acts s.book.cascades false rs) a _ h.long (roll_back s.book.acts s.book.cascades false s.book.cascades (h.long a)) f
-behind_moves w (Finish t a) s h ok z p n i g f = beside_carried (λ b rs. Behind (after w (Finish t a) s).book.acts s.book.cascades false rs) a _ h.long (finish _ s.book.cascades t (cell.is_undone_act (act_of t s.book.acts)) (h.long a)) f
+behind_moves w (Finish t a) s h ok z p n i g f = beside_carried (λ b rs. Behind (after w (Finish t a) s).book.acts s.book.cascades false rs) a _ h.long (finish _ s.book.cascades t (is_traceless (act_of t s.book.acts)) (h.long a)) f
 behind_moves w (Trim k a) s h ok z p n i g f = beside_carried (λ b rs. Behind s.book.acts s.book.cascades false rs) a _ h.long (leave s.book.acts s.book.cascades false (OfBatch k) (h.long a)) f
 behind_moves w e s h ok z p n i g f = f
 
 pub behind_kept : {C : Type 0} (w : Fixed C) (e : Event) (s : Machine C) (h : History) → IsAllowed w e s → settling.Settling w s → Placed w s h → Numbers s h → Acts s h → AllBehind s h → AllBehind (after w e s) (grown w e s h)
 behind_kept w e s h ok z p n i g = behind_moves w e s h ok z p n i g (behind_before w e s h g)
+
+-- who stands behind an aborted batch is doomed
+pub none_bad : (acts : List Act) (cs : List Cascade) (bad : Bool) (t : ℕ) (x : Act) (rs : List Ran) → act_of t acts ≡ Some x → is_doomed x.status ≡ false → Behind acts cs bad rs → is_key_among (OfAct t) (keys_in rs) ≡ true → bad ≡ true → ⊥
+none_bad acts cs bad t x [] f d h e b = true≢false (sym e)
+none_bad acts cs bad t x (Stands (OfBatch k) c ss ∷ rs) f d h e b = none_bad acts cs (bad || is_aborted k cs) t x rs f d h e (or_left bad _ b)
+none_bad acts cs bad t x (Stands (OfAct u) c ss ∷ rs) f d h e b = elim (or_cases (u == t) (is_key_among (OfAct t) (keys_in rs)) e) [
+  | inl q ↦ true≢false (sym (subst (λ z. holds is_out z ≡ true) (ap (λ z. act_of z acts) (eqb-true u t q) ∙ f) (h.0 b)) ∙ d)
+  | inr q ↦ none_bad acts cs bad t x rs f d h.1 q b
+]
+none_bad acts cs bad t x (Gone (OfBatch k) ss ∷ rs) f d h e b = none_bad acts cs (bad || is_aborted k cs) t x rs f d h e (or_left bad _ b)
+none_bad acts cs bad t x (Gone (OfAct u) ss ∷ rs) f d h e b = none_bad acts cs bad t x rs f d h e b

@@ -1,5 +1,5 @@
 -- What committed along a long schedule, event by event.
-use Rattle.std.specs.Prelude.{◌≡◌, refl, ℕ, ◌+◌, ◌<◌, ◌≤◌, ◌==◌, Bool, true, false, ◌||◌, if◌then◌else◌, Some, None, List, [], ◌∷◌, ◌++◌, map}
+use Rattle.std.specs.Prelude.{◌≡◌, refl, ℕ, ◌+◌, ◌<◌, ◌≤◌, ◌==◌, Bool, true, false, ◌||◌, if◌then◌else◌, Option, Some, None, is_some, List, [], ◌∷◌, ◌++◌, map}
 use Rattle.std.specs.List.{AllByRecursion}
 use Rattle.std.proofs.Common.{arith, sym, ap, subst, inl, inr, ◌∙◌}
 use Rattle.std.proofs.lemmas.List.{append-nil, append_assoc}
@@ -8,10 +8,10 @@ use Rattle.snap_base.specs.declared.transactions.State.{State}
 use Rattle.protocol.specs.Parts.{Cascade, Who, OfBatch, Pact}
 use Rattle.protocol.specs.Words.{is_among, is_who, is_value}
 use Rattle.protocol.specs.OnCell.{is_cut}
-use Rattle.protocol.specs.History.{Done, History, done_pact, Slice, Ran, Stands, Gone, not_run, ran_in, completed, left_for_good, without_standing, long_staying, slices_of, view_in, last_left}
+use Rattle.protocol.specs.History.{Done, View, History, done_pact, Slice, Ran, Stands, Gone, not_run, ran_in, completed, left_for_good, without_standing, long_staying, slices_of, view_in, last_left}
 use Rattle.protocol_laws.specs.Told.{PactsAscend}
 use Rattle.protocol_laws.specs.Tracks.{keys_in, is_key_among, Differ, slices_in, Linked}
-use Rattle.protocol_laws.specs.Commits.{Finds, left_by, left_of, StatesLink, last_state, is_kept, has_kept, KeptFront, kept_slices, KeptAhead, Commits}
+use Rattle.protocol_laws.specs.Commits.{Finds, left_by, left_as, left_of, StatesLink, last_state, is_kept, has_kept, KeptFront, kept_slices, KeptAhead, Commits}
 use Rattle.protocol_laws.specs.Turns.{Rising}
 use Rattle.protocol_laws.proofs.machine.TrackLists
 use Rattle.protocol_laws.proofs.machine.TrackLists.{linked_parts, linked_join, is_who_true, is_who_refl}
@@ -327,6 +327,42 @@ fails a first now kept committed long who d e df g l v f h =
       ends = subst (Linked first (kept_slices kept long)) (sym (last_more a first committed (d ∷ []) ∙ rw v refl)) h.ends;
       links = links_more a first committed (d ∷ []) h.links (f (last_state a first committed) o.to o.links, tt);
     }
+
+-- ---- a reader
+
+-- a view that found the state, and left it
+abbrev pub Sees : State → Option View → Type 0
+Sees s None = Unit {0}
+Sees s (Some v) = (v.found ≡ s) × (v.left ≡ s)
+
+sees_finds : (s : State) (o : Option View) → Sees s o → Finds o s
+sees_finds s None h = tt
+sees_finds s (Some v) h = h.0
+
+sees_left : (b : Bool) (s : State) (o : Option View) → Sees s o → left_as b o s ≡ s
+sees_left true s None h = refl
+sees_left true s (Some v) h = h.1
+sees_left false s o h = refl
+
+-- Where all that ran on the actor committed, the state that the actor has is the one that the last of them left.
+pub now_last : (first now last : State) (kept : List Who) (rs : List Ran) → KeptFront kept rs → rest_slices kept rs ≡ [] → Linked first (kept_slices kept rs) last → Linked first (slices_in rs) now → now ≡ last
+now_last first now last kept rs f e l all = linked_one first now last (kept_slices kept rs) (subst (λ z. Linked first z now) (in_two kept rs f ∙ (ap (λ z. kept_slices kept rs ++ z) e ∙ append-nil (kept_slices kept rs))) all) l
+
+-- it found this state, and left it
+pub reads : (a : ℕ) (first now : State) (kept : List Who) (committed : List Done) (long : List Ran) (d : Done) → Sees now (d.views a) → (is_some (d.views a) ≡ true → rest_slices kept long ≡ []) → Linked first (slices_in long) now
+    → Commits a first kept committed long → Commits a first kept (committed ++ d ∷ []) long
+reads a first now kept committed long d v k l h =
+    let last = last_state a first committed in
+    let here : Sees last (d.views a) = at (d.views a) k v in
+    record {
+      front = h.front;
+      ends = subst (Linked first (kept_slices kept long)) (sym (last_more a first committed (d ∷ []) ∙ sees_left (is_value d.result) last (d.views a) here)) h.ends;
+      links = links_more a first committed (d ∷ []) h.links (sees_finds last (d.views a) here, tt);
+    }
+  where
+    at : (o : Option View) → (is_some o ≡ true → rest_slices kept long ≡ []) → Sees now o → Sees (last_state a first committed) o
+    at None k v = tt
+    at (Some x) k v = subst (λ z. Sees z (Some x)) (now_last first now (last_state a first committed) kept long h.front (k refl) h.ends l) v
 
 -- ---- one transaction's slices
 

@@ -1,25 +1,28 @@
 -- What committed along all long schedules, event by event.
-use Rattle.std.specs.Prelude.{◌≡◌, refl, ℕ, ◌==◌, not, Bool, true, false, if◌then◌else◌, Option, Some, None, List, [], ◌∷◌, ◌++◌, map, slice_index_or}
+use Rattle.std.specs.Prelude.{◌≡◌, refl, ℕ, ◌==◌, not, Bool, true, false, ◌&&◌, if◌then◌else◌, Option, Some, None, is_some, List, [], ◌∷◌, ◌++◌, map, slice_index_or}
 use Rattle.std.specs.List.{AllByRecursion}
 use Rattle.std.proofs.Common.{sym, subst, inl, inr}
 use Rattle.std.proofs.lemmas.List.{append-nil}
 use Rattle.std.proofs.lemmas.Bool.{eqb-true, cases_Bool}
+use Rattle.snap_base.specs.declared.transactions.State.{State}
 use Rattle.protocol.specs.Fixed.{Fixed, no_state}
 use Rattle.protocol.specs.Parts.{Act, Batch, Pact, Who, OfBatch, OfAct, Cell, Machine}
 use Rattle.protocol.specs.Events.{Event, Arrive, Ask, Run, Complete, Commit, Rollback, Decide, Finish, Trim}
-use Rattle.protocol.specs.Words.{is_among, is_value, who_on, act_of, batch_of}
+use Rattle.protocol.specs.Words.{is_among, is_value, who_on, act_of, batch_of, lock_of}
 use Rattle.protocol.specs.Conditions.{IsAllowed, conditions}
 use Rattle.protocol.specs.Effects.{after, cell_at}
 use Rattle.protocol.specs.OnBook as book
 use Rattle.protocol.specs.OnCell as cell
 use Rattle.protocol.specs.OnCell.{is_cut}
-use Rattle.protocol.specs.History.{with_at, History, Done, Ran, grown, not_run, left_for_good, without_standing, asks, slices_of, view_in, done_pact, done_act, done_batch, kept_act}
+use Rattle.protocol.specs.History.{with_at, History, Done, View, Ran, grown, not_run, left_for_good, without_standing, asks, slices_of, slices_for, act_view, view_in, done_pact, done_act, done_batch, kept_act, is_traceless}
 use Rattle.protocol_laws.specs.Told.{PactsAscend}
-use Rattle.protocol_laws.specs.Tracks.{key_of, Differ, Tracks}
+use Rattle.protocol_laws.specs.Tracks.{key_of, keys_in, is_key_among, Differ, Tracks}
 use Rattle.protocol_laws.specs.Turns.{Rising}
-use Rattle.protocol_laws.specs.Commits.{is_kept, KeptAhead, Commits}
+use Rattle.protocol_laws.specs.Commits.{is_kept, KeptAhead, KeptOrReads, Commits}
+use Rattle.protocol_laws.proofs.machine.TrackLists
 use Rattle.protocol_laws.proofs.machine.TracksKept.{Tracked}
 use Rattle.protocol_laws.proofs.machine.CommitLists
+use Rattle.protocol_laws.proofs.machine.HighLists
 
 -- what is carried of one actor changes
 pub beside_carried : {X : Type 0} (P : ℕ → X → Type 0) (a : ℕ) (new : X) (long : ℕ → X) → (P a (long a) → P a new) → ((b : ℕ) → P b (long b)) → (b : ℕ) → P b (with_at a new long b)
@@ -44,13 +47,26 @@ pub record MayCommit {C : Type 0} (s : Machine C) (h : History) (k : ℕ) (b : B
   pub rising : (a : ℕ) → Rising 0 (slices_of (OfBatch k) (h.long a))
   pub of_it : (a : ℕ) → AllByRecursion (λ x. is_among x.tid (map (λ p. p.tid) b.pacts) ≡ true) (slices_of (OfBatch k) (h.long a))
 
+-- What a reader read on an actor is the state that the actor has, and nothing there ran but what committed.
+pub record Reads (kept : List Who) (now : State) (view : Option View) (long : List Ran) : Type 0 where
+  pub sees : CommitLists.Sees now view
+  pub all_kept : is_some view ≡ true → CommitLists.rest_slices kept long ≡ []
+
 -- an ACT may get its place
 pub record MayDecide {C : Type 0} (s : Machine C) (h : History) (t : ℕ) (x : Act) : Type 0 where
   pub is_it : act_of t s.book.acts ≡ Some x
   pub tid : x.tid ≡ t
   pub fresh : is_kept (OfAct t) h.kept ≡ false
-  pub ahead : (a : ℕ) → KeptAhead h.kept (OfAct t) (h.long a)
+  pub ahead : x.reader ≡ false → (a : ℕ) → KeptAhead h.kept (OfAct t) (h.long a)
   pub of_it : (a : ℕ) → AllByRecursion (λ z. z.tid ≡ t) (slices_of (OfAct t) (h.long a))
+  -- where it came it stands
+  pub there : (a : ℕ) → is_some (act_view h x a) ≡ true → is_key_among (OfAct t) (keys_in (h.long a)) ≡ true
+  -- ahead of a reader that came there are readers, and who is not live
+  pub readers_ahead : x.reader ≡ true → (a : ℕ) → is_some (act_view h x a) ≡ true → HighLists.FreeAhead true s.book.acts t (h.long a)
+  -- and what has committed
+  pub around : x.reader ≡ true → (a : ℕ) → is_some (act_view h x a) ≡ true → KeptOrReads h.kept s.book.acts (OfAct t) (h.long a)
+  pub seen : x.reader ≡ true → (a : ℕ) → AllByRecursion (λ z. z.tid ≡ t → (z.found ≡ (cell_at s a).state) × (z.left ≡ (cell_at s a).state)) (h.reads a)
+  pub reads : x.reader ≡ true → (a : ℕ) → Reads h.kept (cell_at s a).state (view_in t (h.reads a)) (h.long a)
 
 unfoldable pub Assumed : {C : Type 0} → Event → Machine C → History → Type 0
 Assumed (Arrive k a) s h = is_kept (OfBatch k) h.kept ≡ false
@@ -59,7 +75,7 @@ Assumed (Run t a) s h = is_kept (who_on t (cell_at s a).entries) h.kept ≡ fals
 Assumed (Commit k) s h = (b : Batch) × MayCommit s h k b
 Assumed (Rollback a) s h = (y : Who) → is_cut s.book.cascades y ≡ true → is_kept y h.kept ≡ false
 Assumed (Decide t) s h = (x : Act) × MayDecide s h t x
-Assumed (Finish t a) s h = is_kept (OfAct t) h.kept ≡ not (cell.is_undone_act (act_of t s.book.acts))
+Assumed (Finish t a) s h = is_kept (OfAct t) h.kept ≡ not (is_traceless (act_of t s.book.acts))
 Assumed (Trim k a) s h = is_kept (OfBatch k) h.kept ≡ true
 Assumed _ s h = Unit {0}
 
@@ -82,28 +98,33 @@ commit w s h k a o b c e m t g = rw e
     (CommitLists.commits a _ c.state h.kept h.committed (h.long a) (OfBatch k) (map (done_pact k h) b.pacts) m.fresh (subst Differ t.stands t.differ) (m.ahead a) t.links
     (λ last to l. CommitLists.batch_explains k a 0 h last to b.pacts (slices_of (OfBatch k) (h.long a)) m.ascend (m.rising a) (m.of_it a) m.values (all_views k a h b.pacts) l) g)
 
-decide : {C : Type 0} (w : Fixed C) (s : Machine C) (h : History) (n t a : ℕ) (o : Option Act) (x : Act) (c : Cell C) → o ≡ Some x → MayDecide s h t x → Tracks (slice_index_or w.text.opening.states a no_state) (map key_of c.entries) c.images c.state (h.long a)
+decide : {C : Type 0} (w : Fixed C) (s : Machine C) (h : History) (n t a : ℕ) (o : Option Act) (x : Act) (c : Cell C) → o ≡ Some x → c.state ≡ (cell_at s a).state → MayDecide s h t x → Tracks (slice_index_or w.text.opening.states a no_state) (map key_of c.entries) c.images c.state (h.long a)
     → At w h.kept h.committed a (h.long a) → At w (h.kept ++ kept_act o) (h.committed ++ done_act n h o) a (h.long a)
-decide w s h n t a o x c e m r g = rw (e, m.tid) (by (is_value x.result) refl)
+decide w s h n t a o x c e now m r g = rw (e, m.tid) (by (is_value x.result) refl x.reader refl)
   where
-    unit : Done
-    unit = record { who = OfAct t; tid = t; tx = x.tx; place = Rattle.protocol.specs.Verdicts.act_place x.m n; result = x.result; views = λ a. view_in t (slices_of (OfAct t) (h.long a)) }
+    unit : Bool → Done
+    unit v = record { who = OfAct t; tid = t; tx = x.tx; place = Rattle.protocol.specs.Verdicts.act_place x.m n; result = x.result; reader = v; views = λ a. view_in t (slices_for v t (h.reads a) (h.long a)) }
 
-    by : (b : Bool) → is_value x.result ≡ b → At w (h.kept ++ (if b then OfAct t ∷ [] else [])) (h.committed ++ unit ∷ []) a (h.long a)
-    by true v = CommitLists.commits a _ c.state h.kept h.committed (h.long a) (OfAct t) (unit ∷ []) m.fresh (subst Differ r.stands r.differ) (m.ahead a) r.links
-        (λ last to l. CommitLists.act_explains a unit t (slices_of (OfAct t) (h.long a)) last to refl v (m.of_it a) l) g
-    by false v = rw (append-nil h.kept) (CommitLists.fails a _ c.state h.kept h.committed (h.long a) (OfAct t) unit m.fresh (subst Differ r.stands r.differ) (m.ahead a) r.links v
+    sees : Reads h.kept (cell_at s a).state (view_in t (h.reads a)) (h.long a) → CommitLists.Sees c.state (view_in t (h.reads a))
+    sees k = subst (λ z. CommitLists.Sees z (view_in t (h.reads a))) (sym now) k.sees
+
+    by : (b : Bool) → is_value x.result ≡ b → (v : Bool) → x.reader ≡ v → At w (h.kept ++ (if b && not v then OfAct t ∷ [] else [])) (h.committed ++ unit v ∷ []) a (h.long a)
+    by true v false q = CommitLists.commits a _ c.state h.kept h.committed (h.long a) (OfAct t) (unit false ∷ []) m.fresh (subst Differ r.stands r.differ) (m.ahead q a) r.links
+        (λ last to l. CommitLists.act_explains a (unit false) t (slices_of (OfAct t) (h.long a)) last to refl v (m.of_it a) l) g
+    by false v false q = rw (append-nil h.kept) (CommitLists.fails a _ c.state h.kept h.committed (h.long a) (OfAct t) (unit false) m.fresh (subst Differ r.stands r.differ) (m.ahead q a) r.links v
         (λ last to l. (CommitLists.one_links t (slices_of (OfAct t) (h.long a)) last to (m.of_it a) l).0) g)
+    by true v true q = rw (append-nil h.kept) (CommitLists.reads a _ c.state h.kept h.committed (h.long a) (unit true) (sees (m.reads q a)) (λ i. (m.reads q a).all_kept i) r.links g)
+    by false v true q = rw (append-nil h.kept) (CommitLists.reads a _ c.state h.kept h.committed (h.long a) (unit true) (sees (m.reads q a)) (λ i. (m.reads q a).all_kept i) r.links g)
 
 pub kept : {C : Type 0} (w : Fixed C) (e : Event) (s : Machine C) (h : History) → IsAllowed w e s → Assumed e s h → Tracked w s h → Committed w h → Committed w (grown w e s h)
 unfolding Committed Tracked Assumed conditions after grown
 kept w (Arrive k a) s h ok more d g = beside_carried (At w h.kept h.committed) a _ h.long (λ x. CommitLists.more a _ _ _ (h.long a) (OfBatch k) more x) g
-kept w (Ask t a) s h ok more d g = beside_carried (At w h.kept h.committed) a _ h.long (ask w h.kept h.committed t a (book.in_the_way t (cell_at s a).entries) (h.long a) more) g
-kept w (Run t a) s h ok more d g = beside_carried (At w h.kept h.committed) a _ h.long (λ x. CommitLists.ran a _ _ _ (h.long a) _ _ more x) g
+kept w (Ask t a) s h ok more d g = beside_carried (At w h.kept h.committed) a _ h.long (ask w h.kept h.committed t a (book.in_the_way (lock_of t s.book.acts) (cell_at s a).entries) (h.long a) more) g
+kept w (Run t a) s h ok more d g = beside_carried (At w h.kept h.committed) a _ h.long (TrackLists.on_reads (At w h.kept h.committed a) (cell.reads_on t (cell_at s a).entries) _ _ (h.long a) (λ x. CommitLists.ran a _ _ _ (h.long a) _ _ more x)) g
 kept w (Complete k a) s h ok more d g = beside_carried (At w h.kept h.committed) a _ h.long (λ x. CommitLists.complete a _ _ _ (h.long a) k x) g
 kept w (Commit k) s h ok more d g = λ a. commit w s h k a (batch_of k s.desk.batches) more.0 (cell_at s a) more.1.is_it more.1 (d a) (g a)
 kept w (Rollback a) s h ok more d g = beside_carried (At w h.kept h.committed) a _ h.long (λ x. CommitLists.roll_back a _ _ _ (h.long a) s.book.cascades more x) g
-kept w (Decide t) s h ok more d g = λ a. decide w s h s.book.next_c t a (act_of t s.book.acts) more.0 (cell_at s a) more.1.is_it more.1 (d a) (g a)
-kept w (Finish t a) s h ok more d g = beside_carried (At w h.kept h.committed) a _ h.long (finish w h.kept h.committed t a (cell.is_undone_act (act_of t s.book.acts)) (h.long a) more) g
+kept w (Decide t) s h ok more d g = λ a. decide w s h s.book.next_c t a (act_of t s.book.acts) more.0 (cell_at s a) more.1.is_it refl more.1 (d a) (g a)
+kept w (Finish t a) s h ok more d g = beside_carried (At w h.kept h.committed) a _ h.long (finish w h.kept h.committed t a (is_traceless (act_of t s.book.acts)) (h.long a) more) g
 kept w (Trim k a) s h ok more d g = beside_carried (At w h.kept h.committed) a _ h.long (λ x. CommitLists.leave a _ _ _ (h.long a) (OfBatch k) more x) g
 kept w e s h ok more d g = g

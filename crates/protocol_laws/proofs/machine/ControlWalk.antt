@@ -7,7 +7,7 @@ use Rattle.snap_base.specs.declared.transactions.State.{State}
 use Rattle.protocol.specs.Fixed.{Fixed, Next, Go, Ended, Code, tx_at, root, base}
 use Rattle.protocol.specs.Parts.{Pact, ControlMessage, Waiting, Outcome, Who, OfBatch, Cell, Machine}
 use Rattle.protocol.specs.Events.{Event, Form, Admit, Arrive, Ask, Take, Run, Send, End, Close, Complete, Rollback, DropControl, Finish, Trim}
-use Rattle.protocol.specs.Words.{holds, control_of, waiting_of, without_waiting, outcome_of, who_on}
+use Rattle.protocol.specs.Words.{holds, control_of, waiting_of, without_waiting, outcome_of, who_on, lock_of}
 use Rattle.protocol.specs.Conditions.{IsAllowed, conditions}
 use Rattle.protocol.specs.Effects.{after, cell_at, puts, no_cell}
 use Rattle.protocol.specs.Numbers.{flat, times, waiting_tids, controls_in}
@@ -94,7 +94,7 @@ moves w (Admit t) s P ok r h = record { posted = all_join _ s.post.controls _ h.
 moves w (Arrive k a) s P ok r h = record { posted = h.posted; inboxes = in_same P s a _ refl h; outboxes = out_same P s a _ refl h }
 moves w (Ask t a) s P ok r h = record {
   posted = all_filter _ _ s.post.controls h.posted;
-  inboxes = one_cell (In P) s.cells a _ (λ g. all_join _ (cell_at s a).inbox _ g (asked P a (book.in_the_way t (cell_at s a).entries) (control_of t s.post.controls) (came P t a s.post.controls (control_of t s.post.controls) refl ok.0 h.posted))) h.inboxes;
+  inboxes = one_cell (In P) s.cells a _ (λ g. all_join _ (cell_at s a).inbox _ g (asked P a (book.in_the_way (lock_of t s.book.acts) (cell_at s a).entries) (control_of t s.post.controls) (came P t a s.post.controls (control_of t s.post.controls) refl ok.0 h.posted))) h.inboxes;
   outboxes = out_same P s a _ refl h;
 }
 moves w (Take t a) s P ok r h = record {

@@ -5,7 +5,7 @@ use Rattle.std.proofs.lemmas.Bool.{true≢false, and_parts}
 use Rattle.protocol.specs.Fixed.{Fixed, Next, Go, Ended}
 use Rattle.protocol.specs.Parts.{Act, Book, Pair, Status, Live, Doomed, Decided, Sealed, Outcome, Cell, Machine}
 use Rattle.protocol.specs.Events.{Event, Admit, Arrive, Ask, End, Abort, Prepare, Vouch, Decide, Seal, Finish}
-use Rattle.protocol.specs.Words.{holds, is_live_status, is_decided, is_sealed, is_value, act_of, outcome_of, has_act, is_ordered}
+use Rattle.protocol.specs.Words.{holds, is_live_status, is_decided, is_sealed, is_value, act_of, outcome_of, has_act, is_ordered, lock_of, floor_at}
 use Rattle.protocol.specs.Spread.{raised, carried, crossed_out, doomed_by_order}
 use Rattle.protocol.specs.Effects.{after, cell_at}
 use Rattle.protocol.specs.OnBook as book
@@ -72,16 +72,16 @@ by_order : (n t a : ℕ) (xs : List Act) → holds (is_fixed n) (act_of t xs) �
 by_order n t a xs h = holds_map (is_fixed n) (crossed_out a) (λ x. refl) (crossed_fixed n a) t xs h
 
 -- an ACT that has a control is live
-asked_fixed : {C : Type 0} (n u t a : ℕ) (o : Option ℕ) (c : Cell C) (b : Book) → (u ≡ t → ⊥) → holds (is_fixed n) (act_of u b.acts) ≡ true → holds (is_fixed n) (act_of u (book.asked_acts o (book.met t c.entries) t a (max c.last c.floor) b)) ≡ true
+asked_fixed : {C : Type 0} (n u t a : ℕ) (o : Option ℕ) (c : Cell C) (b : Book) → (u ≡ t → ⊥) → holds (is_fixed n) (act_of u b.acts) ≡ true → holds (is_fixed n) (act_of u (book.asked_acts o (book.met (lock_of t b.acts) c.entries) t a (max c.last (floor_at t b.acts c)) b)) ≡ true
 asked_fixed n u t a (Some older) c b d h = changed n u t (book.doomed_by (Rattle.protocol.specs.Verdicts.died a older t)) b.acts (λ x. refl) (λ x q. live_only n x (book.doomed_by (Rattle.protocol.specs.Verdicts.died a older t) x) (λ e. rw e refl) q) h
 asked_fixed n u t a None c b d h = by_order n u a _ (raised_fixed n u _ _ (others u b.acts d h))
   where
-    others : (u : ℕ) (xs : List Act) → (u ≡ t → ⊥) → holds (is_fixed n) (act_of u xs) ≡ true → holds (is_fixed n) (act_of u (book.changed_act t (book.joins a (max c.last c.floor)) xs)) ≡ true
+    others : (u : ℕ) (xs : List Act) → (u ≡ t → ⊥) → holds (is_fixed n) (act_of u xs) ≡ true → holds (is_fixed n) (act_of u (book.changed_act t (book.joins a (max c.last (floor_at t b.acts c))) xs)) ≡ true
     others u [] d h = h
     others u (x ∷ xs) d h = by (x.tid == t) refl (x.tid == u) refl h (others u xs d)
       where
-        by : (v : Bool) → (x.tid == t) ≡ v → (q : Bool) → (x.tid == u) ≡ q → holds (is_fixed n) (if q then Some x else act_of u xs) ≡ true → (holds (is_fixed n) (act_of u xs) ≡ true → holds (is_fixed n) (act_of u (book.changed_act t (book.joins a (max c.last c.floor)) xs)) ≡ true)
-            → holds (is_fixed n) (act_of u (book.change_if v (book.joins a (max c.last c.floor)) x ∷ book.changed_act t (book.joins a (max c.last c.floor)) xs)) ≡ true
+        by : (v : Bool) → (x.tid == t) ≡ v → (q : Bool) → (x.tid == u) ≡ q → holds (is_fixed n) (if q then Some x else act_of u xs) ≡ true → (holds (is_fixed n) (act_of u xs) ≡ true → holds (is_fixed n) (act_of u (book.changed_act t (book.joins a (max c.last (floor_at t b.acts c))) xs)) ≡ true)
+            → holds (is_fixed n) (act_of u (book.change_if v (book.joins a (max c.last (floor_at t b.acts c))) x ∷ book.changed_act t (book.joins a (max c.last (floor_at t b.acts c))) xs)) ≡ true
         by true e true f h r = absurd (d (sym (Rattle.std.proofs.lemmas.Bool.eqb-true x.tid u f) ∙ Rattle.std.proofs.lemmas.Bool.eqb-true x.tid t e))
         by true e false f h r = rw f (r h)
         by false e true f h r = rw f h
@@ -114,7 +114,7 @@ pub stays_decided : {C : Type 0} (w : Fixed C) (e : Event) (s : Machine C) (n t 
 unfolding after
 stays_decided w (Admit u) s n t d h = holds_more (is_fixed n) t _ s.book.acts h
 stays_decided w (Arrive k a) s n t d h = by_order n t a _ (holds_map (is_fixed n) (book.lowered k (book.tids_on (cell_at s a).entries)) (λ x. refl) (λ x q. q) t s.book.acts h)
-stays_decided w (Ask u a) s n t d h = asked_fixed n t u a (book.in_the_way u (cell_at s a).entries) (cell_at s a) s.book d h
+stays_decided w (Ask u a) s n t d h = asked_fixed n t u a (book.in_the_way (lock_of u s.book.acts) (cell_at s a).entries) (cell_at s a) s.book d h
 stays_decided {C} w (End u a) s n t d h = by (has_act u (cell_at s a).entries) (outcome_of u (cell_at s a).outbox)
   where
     next : (x : Next C) → holds (is_fixed n) (act_of t (book.noted_for u x s.book.acts)) ≡ true

@@ -5,9 +5,10 @@ use Rattle.std.proofs.Common.{sym, ap, subst, inl, inr, ◌∙◌}
 use Rattle.std.proofs.lemmas.List.{get_or-set_same, get_or-set_other}
 use Rattle.std.proofs.lemmas.Bool.{true≢false, eqb-true, eq-eqb, ne_eqb, eqb-false, or_cases, or_left, or_right, cases_Bool, false_from_ne_true}
 use Rattle.protocol.specs.Fixed.{Fixed}
+use Rattle.protocol.specs.Rivals.{Lock}
 use Rattle.protocol.specs.Parts.{Act, Joined, Cascade, Status, Live, Doomed, Decided, Sealed, Who, OfBatch, OfAct, SubBatch, Entry, Cell, Machine}
 use Rattle.protocol.specs.Events.{Event, Admit, Arrive, Ask, Take, Run, Send, End, Close, Complete, Rollback, Decide, Finish, Trim}
-use Rattle.protocol.specs.Words.{holds, is_doomed, is_sealed, is_decided, is_live_status, is_value, is_who, act_of, joined_of, is_act_entry, is_batch_entry, sub_of, is_ordered}
+use Rattle.protocol.specs.Words.{holds, is_doomed, is_sealed, is_decided, is_live_status, is_value, is_who, act_of, joined_of, is_act_entry, is_batch_entry, sub_of, is_ordered, lock_of, floor_at}
 use Rattle.protocol.specs.Conditions.{IsAllowed, conditions}
 use Rattle.protocol.specs.Effects.{after, cell_at, no_cell}
 use Rattle.protocol.specs.OnBook as book
@@ -27,7 +28,7 @@ use Rattle.protocol_laws.proofs.machine.ActResults.{NoneActed, NoActResult}
 use Rattle.protocol_laws.proofs.machine.ActsKept.{Acts}
 use Rattle.protocol_laws.proofs.machine.QueuedKept.{in_book, found_some}
 use Rattle.protocol_laws.proofs.machine.BehindKept.{Behind, AllBehind, each_to_holds, holds_to_each, holds_some}
-use Rattle.protocol_laws.proofs.machine.ActsOwed.{none_bad}
+use Rattle.protocol_laws.proofs.machine.BehindKept.{none_bad}
 use Rattle.protocol_laws.proofs.first.Lists.{all_join, weaker}
 use Rattle.protocol_laws.proofs.first.Statuses.{not_doomed_decided, sealed_doomed}
 
@@ -236,15 +237,15 @@ none_left w s h t a x ok n i l e = weaker _ _ x.places (λ p k. false_from_ne_tr
     not_through (Decided c) d p q = true≢false (sym q)
     not_through (Sealed c) d p q = p refl
 
-joined_open : {C : Type 0} (w : Fixed C) (s : Machine C) (h : History) (t a : ℕ) → IsAllowed w (Ask t a) s → AllControls (NoneActed s) s → Acts s h → Left s → (o : Option ℕ) → o ≡ None → is_some (act_of t s.book.acts) ≡ true → is_some (act_of t (book.asked_acts o (book.met t (cell_at s a).entries) t a (max (cell_at s a).last (cell_at s a).floor) s.book)) ≡ true
-    → holds (open_at a) (act_of t (book.asked_acts o (book.met t (cell_at s a).entries) t a (max (cell_at s a).last (cell_at s a).floor) s.book)) ≡ true
+joined_open : {C : Type 0} (w : Fixed C) (s : Machine C) (h : History) (t a : ℕ) → IsAllowed w (Ask t a) s → AllControls (NoneActed s) s → Acts s h → Left s → (o : Option ℕ) → o ≡ None → is_some (act_of t s.book.acts) ≡ true → is_some (act_of t (book.asked_acts o (book.met (lock_of t s.book.acts) (cell_at s a).entries) t a (max (cell_at s a).last (floor_at t s.book.acts (cell_at s a))) s.book)) ≡ true
+    → holds (open_at a) (act_of t (book.asked_acts o (book.met (lock_of t s.book.acts) (cell_at s a).entries) t a (max (cell_at s a).last (floor_at t s.book.acts (cell_at s a))) s.book)) ≡ true
 joined_open w s h t a ok n i l (Some y) q e f = absurd (cc q)
 joined_open w s h t a ok n i l None q e f = each_to_holds (open_at a) t _ f
     (acts.none_in_way (λ u x. u ≡ t → open_at a x ≡ true) t a (cell_at s a) s.book (acts.anyway _ (open_holds t a))
-    (acts.each_changed (λ u x. Unit {0}) (λ u x. u ≡ t → open_at a x ≡ true) t (book.joins a (max (cell_at s a).last (cell_at s a).floor)) s.book.acts (λ x. refl) (λ u x d k p j. absurd (d j))
+    (acts.each_changed (λ u x. Unit {0}) (λ u x. u ≡ t → open_at a x ≡ true) t (book.joins a (max (cell_at s a).last (floor_at t s.book.acts (cell_at s a)))) s.book.acts (λ x. refl) (λ u x d k p j. absurd (d j))
     (λ x k p j. open_new a _ x.places refl refl (none_left w s h t a x ok n i l k)) (λ u x k. tt)))
 
-ask_keys : (a t : ℕ) (xs : List Act) (o : Option ℕ) (es : List Entry) → (o ≡ None → holds (open_at a) (act_of t xs) ≡ true) → KeysOpen a xs (map key_of es) → KeysOpen a xs (map key_of (es ++ cell.act_entries t o))
+ask_keys : (a : ℕ) (t : Lock) (xs : List Act) (o : Option ℕ) (es : List Entry) → (o ≡ None → holds (open_at a) (act_of t.tid xs) ≡ true) → KeysOpen a xs (map key_of es) → KeysOpen a xs (map key_of (es ++ cell.act_entries t o))
 ask_keys a t xs None es k h = keys_more a xs es _ h (k refl, tt)
 ask_keys a t xs (Some y) es k h = keys_more a xs es [] h tt
 
@@ -285,7 +286,7 @@ unfolding Opened conditions after
 opened_kept w (Arrive k a) s h ok r n i l g = one_cell (Here (after w (Arrive k a) s).book.acts) s.cells a _ (λ z. keys_more a _ (cell_at s a).entries _ z (keys_batch a _ k (sub_of k a s.post.subs))) (before_keys w (Arrive k a) s (λ t b. tt) g)
 opened_kept w (Ask t a) s h ok r n i l g =
     let e = found_some _ (act_of t s.book.acts) ok.1.0 in
-    one_cell (Here (after w (Ask t a) s).book.acts) s.cells a _ (λ z. ask_keys a t _ (book.in_the_way t (cell_at s a).entries) (cell_at s a).entries (λ q. joined_open w s h t a ok n i l (book.in_the_way t (cell_at s a).entries) q e (in_book w (Ask t a) s t e)) z) (before_keys w (Ask t a) s (λ t b. tt) g)
+    one_cell (Here (after w (Ask t a) s).book.acts) s.cells a _ (λ z. ask_keys a (lock_of t s.book.acts) _ (book.in_the_way (lock_of t s.book.acts) (cell_at s a).entries) (cell_at s a).entries (λ q. joined_open w s h t a ok n i l (book.in_the_way (lock_of t s.book.acts) (cell_at s a).entries) q e (in_book w (Ask t a) s t e)) z) (before_keys w (Ask t a) s (λ t b. tt) g)
 opened_kept w (Take t a) s h ok r n i l g = one_cell (Here s.book.acts) s.cells a _ (λ z. z) g
 opened_kept w (Run t a) s h ok r n i l g = one_cell (Here s.book.acts) s.cells a _ (λ z. run_keys a s.book.acts (cell.is_done_after w.code a (cell.slice_of w.code t (cell_at s a))) t (cell_at s a).entries z) g
 opened_kept w (Send t a) s h ok r n i l g = one_cell (Here s.book.acts) s.cells a _ (λ z. z) g
@@ -384,9 +385,9 @@ stand_holds s = record {
 stand_around : {C : Type 0} (w : Fixed C) (e : Event) (s : Machine C) (h : History) → ((t b : ℕ) → NotLeaving e t b) → Tracked w s h → AllBehind s h → EachAct (Stand s) s.book.acts → EachAct (Stand (after w e s)) s.book.acts
 stand_around w e s h n tr be g = λ t x f d b o. has_stays w e s h t b x (n t b) f d tr be (g t x f d b o)
 
-asks_has : {C : Type 0} (w : Fixed C) (t a : ℕ) (s : Machine C) → a < length s.cells → book.in_the_way t (cell_at s a).entries ≡ None → Has t (cell_at (after w (Ask t a) s) a)
+asks_has : {C : Type 0} (w : Fixed C) (t a : ℕ) (s : Machine C) → a < length s.cells → book.in_the_way (lock_of t s.book.acts) (cell_at s a).entries ≡ None → Has t (cell_at (after w (Ask t a) s) a)
 unfolding after
-asks_has w t a s r n = rw (get_or-set_same s.cells a (cell.act_placed t (book.in_the_way t (cell_at s a).entries) (Rattle.protocol.specs.Words.control_of t s.post.controls) (cell_at s a)) no_cell r, n)
+asks_has w t a s r n = rw (get_or-set_same s.cells a (cell.act_placed (lock_of t s.book.acts) (book.in_the_way (lock_of t s.book.acts) (cell_at s a).entries) (Rattle.protocol.specs.Words.control_of t s.post.controls) (cell_at s a)) no_cell r, n)
     (ap (is_key_among (OfAct t)) (TrackLists.entries_join (cell_at s a).entries _) ∙ (TrackLists.among_join (OfAct t) (map key_of (cell_at s a).entries) _ ∙ or_right (is_key_among (OfAct t) (map key_of (cell_at s a).entries)) _ (or_left (t == t) _ (eq-eqb t t refl))))
 
 finish_standing : {C : Type 0} (w : Fixed C) (t a : ℕ) (s : Machine C) (h : History) → Tracked w s h → AllBehind s h → EachAct (Stand s) s.book.acts → EachAct (Stand (after w (Finish t a) s)) (after w (Finish t a) s).book.acts

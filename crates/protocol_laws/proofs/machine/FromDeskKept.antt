@@ -6,9 +6,10 @@ use Rattle.std.proofs.lemmas.List.{append-nil}
 use Rattle.std.proofs.lemmas.Bool.{eqb-true, eq-eqb, ne_eqb, and_parts, or_cases, or_parts, or_left, or_right, true≢false}
 use Rattle.snap_base.specs.declared.transactions.TxResult.{TxResult}
 use Rattle.protocol.specs.Fixed.{Fixed, Next, Go, Ended}
+use Rattle.protocol.specs.Rivals.{Lock}
 use Rattle.protocol.specs.Parts.{Ring, Desk, Cascade, OfBatch, OfAct, Batch, Pact, Declared, Committing, Settled, Slot, SubBatch, Entry, BatchEntry, ActEntry, Outcome, Cell, Machine}
 use Rattle.protocol.specs.Events.{Event, Form, Arrive, Ask, Take, Run, Send, Close, Complete, End, Note, Commit, Settle, Abort, Rollback, DropSub, Finish, Trim}
-use Rattle.protocol.specs.Words.{holds, is_among, batch_of, declared_of, names_pact, is_who, who_of, is_complete_batch, is_batch_entry, ahead, has_act, outcome_of, sub_of}
+use Rattle.protocol.specs.Words.{holds, is_among, batch_of, declared_of, names_pact, is_who, who_of, is_complete_batch, is_batch_entry, ahead, has_act, outcome_of, sub_of, lock_of}
 use Rattle.protocol.specs.Contents.{complete_mark}
 use Rattle.protocol.specs.Conditions.{IsAllowed, conditions}
 use Rattle.protocol.specs.Effects.{after, cell_at, no_cell}
@@ -295,11 +296,11 @@ run_order : (t : ℕ) (b : Bool) (es : List Entry) → CompleteInOrder es → Co
 run_order t true es h = order_done t es h
 run_order t false es h = h
 
-ask_of : (a t : ℕ) (bs : List Batch) (o : Option ℕ) (es : List Entry) → AllByRecursion (EntryOf a bs) es → AllByRecursion (EntryOf a bs) (es ++ cell.act_entries t o)
+ask_of : (a : ℕ) (t : Lock) (bs : List Batch) (o : Option ℕ) (es : List Entry) → AllByRecursion (EntryOf a bs) es → AllByRecursion (EntryOf a bs) (es ++ cell.act_entries t o)
 ask_of a t bs None es h = all_join (EntryOf a bs) es _ h (tt, tt)
 ask_of a t bs (Some x) es h = rw (append-nil es) h
 
-ask_order : (t : ℕ) (o : Option ℕ) (es : List Entry) → CompleteInOrder es → CompleteInOrder (es ++ cell.act_entries t o)
+ask_order : (t : Lock) (o : Option ℕ) (es : List Entry) → CompleteInOrder es → CompleteInOrder (es ++ cell.act_entries t o)
 ask_order t None es h = order_more _ es refl h
 ask_order t (Some x) es h = rw (append-nil es) h
 
@@ -310,7 +311,7 @@ arrive_order k (Some m) es h = order_more _ es refl h
 entries_kept : {C : Type 0} (w : Fixed C) (e : Event) (s : Machine C) → FromDesk s → (a : ℕ) → AllByRecursion (EntryOf a s.desk.batches) (cell_at (after w e s) a).entries
 unfolding after
 entries_kept w (Arrive k a) s h = one_cell (Of s) s.cells a _ (arrive k a s.desk.batches s.post.subs (cell_at s a) h.subs) h.entries
-entries_kept w (Ask t a) s h = one_cell (Of s) s.cells a _ (ask_of a t s.desk.batches (book.in_the_way t (cell_at s a).entries) (cell_at s a).entries) h.entries
+entries_kept w (Ask t a) s h = one_cell (Of s) s.cells a _ (ask_of a (lock_of t s.book.acts) s.desk.batches (book.in_the_way (lock_of t s.book.acts) (cell_at s a).entries) (cell_at s a).entries) h.entries
 entries_kept w (Take t a) s h = one_cell (Of s) s.cells a _ (λ x. x) h.entries
 entries_kept w (Run t a) s h = one_cell (Of s) s.cells a _ (run_of a t s.desk.batches (cell.is_done_after w.code a (cell.slice_of w.code t (cell_at s a))) (cell_at s a).entries) h.entries
 entries_kept w (Send t a) s h = one_cell (Of s) s.cells a _ (λ x. x) h.entries
@@ -325,7 +326,7 @@ entries_kept w e s h = h.entries
 order_kept : {C : Type 0} (w : Fixed C) (e : Event) (s : Machine C) → IsAllowed w e s → ((a : ℕ) → Differ (map key_of (cell_at s a).entries)) → FromDesk s → (a : ℕ) → CompleteInOrder (cell_at (after w e s) a).entries
 unfolding conditions after
 order_kept w (Arrive k a) s ok d h = one_cell Ord s.cells a _ (arrive_order k (sub_of k a s.post.subs) (cell_at s a).entries) h.in_order
-order_kept w (Ask t a) s ok d h = one_cell Ord s.cells a _ (ask_order t (book.in_the_way t (cell_at s a).entries) (cell_at s a).entries) h.in_order
+order_kept w (Ask t a) s ok d h = one_cell Ord s.cells a _ (ask_order (lock_of t s.book.acts) (book.in_the_way (lock_of t s.book.acts) (cell_at s a).entries) (cell_at s a).entries) h.in_order
 order_kept w (Take t a) s ok d h = one_cell Ord s.cells a _ (λ x. x) h.in_order
 order_kept w (Run t a) s ok d h = one_cell Ord s.cells a _ (run_order t (cell.is_done_after w.code a (cell.slice_of w.code t (cell_at s a))) (cell_at s a).entries) h.in_order
 order_kept w (Send t a) s ok d h = one_cell Ord s.cells a _ (λ x. x) h.in_order

@@ -9,9 +9,8 @@ use Rattle.protocol.specs.Words.{who_on, is_entry_of, act_of, waiting_of}
 use Rattle.protocol.specs.Conditions.{IsAllowed, conditions}
 use Rattle.protocol.specs.Effects.{after, cell_at, no_cell}
 use Rattle.protocol.specs.Runs.{opening, new_cell}
-use Rattle.protocol.specs.OnCell as cell
-use Rattle.protocol.specs.History.{History, no_history, grown}
-use Rattle.protocol_laws.specs.Tracks.{key_of, Differ}
+use Rattle.protocol.specs.History.{History, no_history, grown, is_traceless, is_reader_act}
+use Rattle.protocol_laws.specs.Tracks.{key_of, Differ, Bare}
 use Rattle.protocol_laws.specs.Turns.{NotDone}
 use Rattle.protocol_laws.specs.Places.{FirmUpTo}
 use Rattle.protocol_laws.specs.Commits.{is_kept}
@@ -48,11 +47,11 @@ RunOwed t a s h = ((e : Entry) → find (is_entry_of t) (cell_at s a).entries �
 
 unfoldable pub Owed : {C : Type 0} → Fixed C → Event → Machine C → History → Type 0
 -- a control in the inbox is of no ACT that committed; of an ACT, its entry is no sub-batch
-Owed w (Run t a) s h = (is_kept (OfAct t) h.kept ≡ false) × (is_pact (tx_at w.text (h.trails t).tx) ≡ false → RunOwed t a s h)
+Owed w (Run t a) s h = (is_kept (OfAct t) h.kept ≡ false) × (is_pact (tx_at w.text (h.trails t).tx) ≡ false → RunOwed t a s h) × tracks.LeavesIt w t a s
 -- an ACT with a control did not commit
 Owed w (Ask t a) s h = is_kept (OfAct t) h.kept ≡ false
 -- an ACT that leaves committed with a value, or is undone; where it committed, the batches ahead of it are firm
-Owed w (Finish t a) s h = (a < length s.cells) × (is_kept (OfAct t) h.kept ≡ not (cell.is_undone_act (act_of t s.book.acts))) × (cell.is_undone_act (act_of t s.book.acts) ≡ false → FirmUpTo s.desk.settled s.book.cascades (OfAct t) (h.long a))
+Owed w (Finish t a) s h = (a < length s.cells) × (is_kept (OfAct t) h.kept ≡ not (is_traceless (act_of t s.book.acts))) × (is_traceless (act_of t s.book.acts) ≡ false → FirmUpTo s.desk.settled s.book.cascades (OfAct t) (h.long a)) × (is_reader_act (act_of t s.book.acts) ≡ true → Bare (OfAct t) (h.long a))
 Owed w (Trim k a) s h = a < length s.cells
 -- an ACT that is decided has only committed ones ahead
 Owed w (Decide t) s h = (x : Act) × MayDecide s h t x
@@ -100,8 +99,8 @@ run_owed {C} w Of finish t a s h v ok o g = elim (cases_Bool (is_pact (tx_at w.t
 
 pub for_places : {C : Type 0} (w : Fixed C) (Of : Tx → C → Type 0) (finish : C → List State → Alone) (e : Event) (s : Machine C) (h : History) → Given w Of finish → IsAllowed w e s → Owed w e s h → Good w Of finish s h → places.Owed w e s h
 unfolding Owed places.Owed turns.Turned
-for_places w Of finish (Run t a) s h v ok o g = let r = run_owed w Of finish t a s h v ok o g in λ e f. TurnLists.not_complete t e (h.long a) (cell_at s a).entries f (r.0 e f) (g.turned a)
-for_places w Of finish (Finish t a) s h v ok o g = (o.0, o.2)
+for_places w Of finish (Run t a) s h v ok o g = let r = run_owed w Of finish t a s h v ok o g in ((λ e f. TurnLists.not_complete t e (h.long a) (cell_at s a).entries f (r.0 e f) (g.turned a)), o.2)
+for_places w Of finish (Finish t a) s h v ok o g = (o.0, o.2, o.3)
 for_places w Of finish (Trim k a) s h v ok o g = o
 for_places w Of finish e s h v ok o g = tt
 

@@ -12,26 +12,32 @@ use Rattle.protocol_laws.specs.Tracks.{keys_in, is_key_among}
 use Rattle.protocol_laws.specs.Turns.{Turns}
 use Rattle.protocol_laws.specs.Commits.{is_kept, KeptAhead, KeptFront, has_kept}
 use Rattle.protocol_laws.specs.Befores.{is_above, Befores}
-use Rattle.protocol_laws.specs.Highs.{is_over, AllOver, doomed_at, is_pair, has_pair, is_paired, Paired, Grouped, AllDoomed, TakenAlong, is_above_or_aborted, StandsBelow}
+use Rattle.protocol_laws.specs.Highs.{is_free, is_over, reads_in, both_read, AllOver, doomed_at, is_pair, has_pair, is_paired, Paired, Grouped, AllDoomed, TakenAlong, is_above_or_aborted, StandsBelow}
 use Rattle.protocol_laws.proofs.machine.ActsGrow.{Later, Grows, grown_holds}
 
 -- ---- live ACTs are high
 
-over_later : (high : ℕ) (x y : Act) → Later x y → is_over high x ≡ true → is_over high y ≡ true
-over_later high x y k h = by (is_live_status y.status) refl
+free_later : (kd : Bool) (x y : Act) → Later x y → is_free kd x ≡ true → is_free kd y ≡ true
+free_later kd x y k h = elim (or_cases (kd && x.reader) (not (is_live_status x.status)) h) [
+  | inl q ↦ or_left (kd && y.reader) _ (subst (λ z. (kd && z) ≡ true) (sym k.reader) q)
+  | inr q ↦ or_right (kd && y.reader) _ (by (is_live_status y.status) refl q)
+]
   where
-    by : (b : Bool) → is_live_status y.status ≡ b → (not b || nat_le high y.m) ≡ true
-    by false e = refl
-    by true e = elim (or_cases (not (is_live_status x.status)) (nat_le high x.m) h) [
-      | inl q ↦ absurd (true≢false (sym q ∙ ap not (k.live e)))
-      | inr q ↦ le-leb high y.m (omega (arith, leb-true high x.m q, k.rises))
-    ]
+    by : (b : Bool) → is_live_status y.status ≡ b → not (is_live_status x.status) ≡ true → not b ≡ true
+    by false e q = refl
+    by true e q = absurd (true≢false (sym q ∙ ap not (k.live e)))
 
-pub over_grow : (acts acts' : List Act) (high : ℕ) (rs : List Ran) → Grows acts acts' → AllOver acts high rs → AllOver acts' high rs
-over_grow acts acts' high [] g h = tt
-over_grow acts acts' high (Stands (OfBatch k) c ss ∷ rs) g h = over_grow acts acts' high rs g h
-over_grow acts acts' high (Stands (OfAct t) c ss ∷ rs) g h = (grown_holds (is_over high) acts acts' t (over_later high) g h.0, over_grow acts acts' high rs g h.1)
-over_grow acts acts' high (Gone y ss ∷ rs) g h = over_grow acts acts' high rs g h
+over_later : (kd : Bool) (high : ℕ) (x y : Act) → Later x y → is_over kd high x ≡ true → is_over kd high y ≡ true
+over_later kd high x y k h = elim (or_cases (is_free kd x) (nat_le high x.m) h) [
+  | inl q ↦ or_left (is_free kd y) _ (free_later kd x y k q)
+  | inr q ↦ or_right (is_free kd y) (nat_le high y.m) (le-leb high y.m (omega (arith, leb-true high x.m q, k.rises)))
+]
+
+pub over_grow : (kd : Bool) (acts acts' : List Act) (high : ℕ) (rs : List Ran) → Grows acts acts' → AllOver kd acts high rs → AllOver kd acts' high rs
+over_grow kd acts acts' high [] g h = tt
+over_grow kd acts acts' high (Stands (OfBatch k) c ss ∷ rs) g h = over_grow kd acts acts' high rs g h
+over_grow kd acts acts' high (Stands (OfAct t) c ss ∷ rs) g h = (grown_holds (is_over kd high) acts acts' t (over_later kd high) g h.0, over_grow kd acts acts' high rs g h.1)
+over_grow kd acts acts' high (Gone y ss ∷ rs) g h = over_grow kd acts acts' high rs g h
 
 -- from one test to another, at one that is there
 holds_to : (p q : Act → Bool) (o : Option Act) → ((x : Act) → p x ≡ true → q x ≡ true) → holds p o ≡ true → holds q o ≡ true
@@ -42,143 +48,150 @@ holds_two : (p q r : Act → Bool) (o : Option Act) → ((x : Act) → p x ≡ t
 holds_two p q r None k h g = h
 holds_two p q r (Some x) k h g = k x h g
 
-less_over : (low high : ℕ) (x : Act) → low ≤ high → is_over high x ≡ true → is_over low x ≡ true
-less_over low high x l h = elim (or_cases (not (is_live_status x.status)) (nat_le high x.m) h) [ inl q ↦ or_left (not (is_live_status x.status)) _ q | inr q ↦ or_right (not (is_live_status x.status)) (nat_le low x.m) (le-leb low x.m (omega (arith, l, leb-true high x.m q))) ]
+less_over : (kd : Bool) (low high : ℕ) (x : Act) → low ≤ high → is_over kd high x ≡ true → is_over kd low x ≡ true
+less_over kd low high x l h = elim (or_cases (is_free kd x) (nat_le high x.m) h) [ inl q ↦ or_left (is_free kd x) _ q | inr q ↦ or_right (is_free kd x) (nat_le low x.m) (le-leb low x.m (omega (arith, l, leb-true high x.m q))) ]
 
-pub over_less : (acts : List Act) (low high : ℕ) (rs : List Ran) → low ≤ high → AllOver acts high rs → AllOver acts low rs
-over_less acts low high [] l h = tt
-over_less acts low high (Stands (OfBatch k) c ss ∷ rs) l h = over_less acts low high rs l h
-over_less acts low high (Stands (OfAct t) c ss ∷ rs) l h = (holds_to (is_over high) (is_over low) (act_of t acts) (λ x. less_over low high x l) h.0, over_less acts low high rs l h.1)
-over_less acts low high (Gone y ss ∷ rs) l h = over_less acts low high rs l h
+pub over_less : (kd : Bool) (acts : List Act) (low high : ℕ) (rs : List Ran) → low ≤ high → AllOver kd acts high rs → AllOver kd acts low rs
+over_less kd acts low high [] l h = tt
+over_less kd acts low high (Stands (OfBatch k) c ss ∷ rs) l h = over_less kd acts low high rs l h
+over_less kd acts low high (Stands (OfAct t) c ss ∷ rs) l h = (holds_to (is_over kd high) (is_over kd low) (act_of t acts) (λ x. less_over kd low high x l) h.0, over_less kd acts low high rs l h.1)
+over_less kd acts low high (Gone y ss ∷ rs) l h = over_less kd acts low high rs l h
 
-pub over_batch : (acts : List Act) (high k : ℕ) (rs : List Ran) → AllOver acts high rs → AllOver acts high (rs ++ not_run (OfBatch k) ∷ [])
-over_batch acts high k [] h = tt
-over_batch acts high k (Stands (OfBatch j) c ss ∷ rs) h = over_batch acts high k rs h
-over_batch acts high k (Stands (OfAct t) c ss ∷ rs) h = (h.0, over_batch acts high k rs h.1)
-over_batch acts high k (Gone y ss ∷ rs) h = over_batch acts high k rs h
+pub over_batch : (kd : Bool) (acts : List Act) (high k : ℕ) (rs : List Ran) → AllOver kd acts high rs → AllOver kd acts high (rs ++ not_run (OfBatch k) ∷ [])
+over_batch kd acts high k [] h = tt
+over_batch kd acts high k (Stands (OfBatch j) c ss ∷ rs) h = over_batch kd acts high k rs h
+over_batch kd acts high k (Stands (OfAct t) c ss ∷ rs) h = (h.0, over_batch kd acts high k rs h.1)
+over_batch kd acts high k (Gone y ss ∷ rs) h = over_batch kd acts high k rs h
 
-pub over_act : (acts : List Act) (high t : ℕ) (rs : List Ran) → holds (is_over high) (act_of t acts) ≡ true → AllOver acts high rs → AllOver acts high (rs ++ not_run (OfAct t) ∷ [])
-over_act acts high t [] q h = (q, tt)
-over_act acts high t (Stands (OfBatch j) c ss ∷ rs) q h = over_act acts high t rs q h
-over_act acts high t (Stands (OfAct u) c ss ∷ rs) q h = (h.0, over_act acts high t rs q h.1)
-over_act acts high t (Gone y ss ∷ rs) q h = over_act acts high t rs q h
+pub over_act : (kd : Bool) (acts : List Act) (high t : ℕ) (rs : List Ran) → holds (is_over kd high) (act_of t acts) ≡ true → AllOver kd acts high rs → AllOver kd acts high (rs ++ not_run (OfAct t) ∷ [])
+over_act kd acts high t [] q h = (q, tt)
+over_act kd acts high t (Stands (OfBatch j) c ss ∷ rs) q h = over_act kd acts high t rs q h
+over_act kd acts high t (Stands (OfAct u) c ss ∷ rs) q h = (h.0, over_act kd acts high t rs q h.1)
+over_act kd acts high t (Gone y ss ∷ rs) q h = over_act kd acts high t rs q h
 
-pub over_ran : (acts : List Act) (high : ℕ) (who : Who) (x : Slice) (rs : List Ran) → AllOver acts high rs → AllOver acts high (map (ran_in who x) rs)
-over_ran acts high who x [] h = tt
-over_ran acts high who x (Stands (OfBatch j) c ss ∷ rs) h = over_ran acts high who x rs h
-over_ran acts high who x (Stands (OfAct u) c ss ∷ rs) h = (h.0, over_ran acts high who x rs h.1)
-over_ran acts high who x (Gone y ss ∷ rs) h = over_ran acts high who x rs h
+pub over_ran : (kd : Bool) (acts : List Act) (high : ℕ) (who : Who) (x : Slice) (rs : List Ran) → AllOver kd acts high rs → AllOver kd acts high (map (ran_in who x) rs)
+over_ran kd acts high who x [] h = tt
+over_ran kd acts high who x (Stands (OfBatch j) c ss ∷ rs) h = over_ran kd acts high who x rs h
+over_ran kd acts high who x (Stands (OfAct u) c ss ∷ rs) h = (h.0, over_ran kd acts high who x rs h.1)
+over_ran kd acts high who x (Gone y ss ∷ rs) h = over_ran kd acts high who x rs h
 
-pub over_completed : (acts : List Act) (high k : ℕ) (rs : List Ran) → AllOver acts high rs → AllOver acts high (map (completed k) rs)
-over_completed acts high k [] h = tt
-over_completed acts high k (Stands (OfBatch j) c ss ∷ rs) h = over_completed acts high k rs h
-over_completed acts high k (Stands (OfAct u) c ss ∷ rs) h = (h.0, over_completed acts high k rs h.1)
-over_completed acts high k (Gone y ss ∷ rs) h = over_completed acts high k rs h
+pub over_completed : (kd : Bool) (acts : List Act) (high k : ℕ) (rs : List Ran) → AllOver kd acts high rs → AllOver kd acts high (map (completed k) rs)
+over_completed kd acts high k [] h = tt
+over_completed kd acts high k (Stands (OfBatch j) c ss ∷ rs) h = over_completed kd acts high k rs h
+over_completed kd acts high k (Stands (OfAct u) c ss ∷ rs) h = (h.0, over_completed kd acts high k rs h.1)
+over_completed kd acts high k (Gone y ss ∷ rs) h = over_completed kd acts high k rs h
 
-pub over_left : (acts : List Act) (high : ℕ) (who : Who) (rs : List Ran) → AllOver acts high rs → AllOver acts high (map (left_for_good who) rs)
-over_left acts high who [] h = tt
-over_left acts high who (Stands (OfBatch j) c ss ∷ rs) h = by (is_who (OfBatch j) who) (over_left acts high who rs h)
+pub over_left : (kd : Bool) (acts : List Act) (high : ℕ) (who : Who) (rs : List Ran) → AllOver kd acts high rs → AllOver kd acts high (map (left_for_good who) rs)
+over_left kd acts high who [] h = tt
+over_left kd acts high who (Stands (OfBatch j) c ss ∷ rs) h = by (is_who (OfBatch j) who) (over_left kd acts high who rs h)
   where
-    by : (b : Bool) → AllOver acts high (map (left_for_good who) rs) → AllOver acts high ((if b then Gone (OfBatch j) ss else Stands (OfBatch j) c ss) ∷ map (left_for_good who) rs)
+    by : (b : Bool) → AllOver kd acts high (map (left_for_good who) rs) → AllOver kd acts high ((if b then Gone (OfBatch j) ss else Stands (OfBatch j) c ss) ∷ map (left_for_good who) rs)
     by true g = g
     by false g = g
-over_left acts high who (Stands (OfAct u) c ss ∷ rs) h = by (is_who (OfAct u) who) (over_left acts high who rs h.1)
+over_left kd acts high who (Stands (OfAct u) c ss ∷ rs) h = by (is_who (OfAct u) who) (over_left kd acts high who rs h.1)
   where
-    by : (b : Bool) → AllOver acts high (map (left_for_good who) rs) → AllOver acts high ((if b then Gone (OfAct u) ss else Stands (OfAct u) c ss) ∷ map (left_for_good who) rs)
+    by : (b : Bool) → AllOver kd acts high (map (left_for_good who) rs) → AllOver kd acts high ((if b then Gone (OfAct u) ss else Stands (OfAct u) c ss) ∷ map (left_for_good who) rs)
     by true g = g
     by false g = (h.0, g)
-over_left acts high who (Gone y ss ∷ rs) h = over_left acts high who rs h
+over_left kd acts high who (Gone y ss ∷ rs) h = over_left kd acts high who rs h
 
-pub over_without : (acts : List Act) (high t : ℕ) (rs : List Ran) → AllOver acts high rs → AllOver acts high (without_standing (OfAct t) rs)
-over_without acts high t [] h = tt
-over_without acts high t (Stands (OfBatch j) c ss ∷ rs) h = over_without acts high t rs h
-over_without acts high t (Stands (OfAct u) c ss ∷ rs) h = by (u == t) (over_without acts high t rs h.1)
+pub over_without : (kd : Bool) (acts : List Act) (high t : ℕ) (rs : List Ran) → AllOver kd acts high rs → AllOver kd acts high (without_standing (OfAct t) rs)
+over_without kd acts high t [] h = tt
+over_without kd acts high t (Stands (OfBatch j) c ss ∷ rs) h = over_without kd acts high t rs h
+over_without kd acts high t (Stands (OfAct u) c ss ∷ rs) h = by (u == t) (over_without kd acts high t rs h.1)
   where
-    by : (b : Bool) → AllOver acts high (without_standing (OfAct t) rs) → AllOver acts high (if b then without_standing (OfAct t) rs else Stands (OfAct u) c ss ∷ without_standing (OfAct t) rs)
+    by : (b : Bool) → AllOver kd acts high (without_standing (OfAct t) rs) → AllOver kd acts high (if b then without_standing (OfAct t) rs else Stands (OfAct u) c ss ∷ without_standing (OfAct t) rs)
     by true g = g
     by false g = (h.0, g)
-over_without acts high t (Gone y ss ∷ rs) h = over_without acts high t rs h
+over_without kd acts high t (Gone y ss ∷ rs) h = over_without kd acts high t rs h
 
-pub over_staying : (acts : List Act) (high : ℕ) (cs : List Cascade) (rs : List Ran) → AllOver acts high rs → AllOver acts high (long_staying cs rs)
-over_staying acts high cs [] h = tt
-over_staying acts high cs (Stands (OfBatch j) c ss ∷ rs) h = by (is_aborted j cs) (over_staying acts high cs rs h)
+pub over_staying : (kd : Bool) (acts : List Act) (high : ℕ) (cs : List Cascade) (rs : List Ran) → AllOver kd acts high rs → AllOver kd acts high (long_staying cs rs)
+over_staying kd acts high cs [] h = tt
+over_staying kd acts high cs (Stands (OfBatch j) c ss ∷ rs) h = by (is_aborted j cs) (over_staying kd acts high cs rs h)
   where
-    by : (b : Bool) → AllOver acts high (long_staying cs rs) → AllOver acts high (if b then [] else Stands (OfBatch j) c ss ∷ long_staying cs rs)
+    by : (b : Bool) → AllOver kd acts high (long_staying cs rs) → AllOver kd acts high (if b then [] else Stands (OfBatch j) c ss ∷ long_staying cs rs)
     by true g = tt
     by false g = g
-over_staying acts high cs (Stands (OfAct u) c ss ∷ rs) h = (h.0, over_staying acts high cs rs h.1)
-over_staying acts high cs (Gone y ss ∷ rs) h = over_staying acts high cs rs h
+over_staying kd acts high cs (Stands (OfAct u) c ss ∷ rs) h = (h.0, over_staying kd acts high cs rs h.1)
+over_staying kd acts high cs (Gone y ss ∷ rs) h = over_staying kd acts high cs rs h
 
 -- ---- higher
 
-both_over : (top high k : ℕ) (x : Act) → k ≤ top → is_above top x ≡ true → is_over high x ≡ true → is_over (max high k) x ≡ true
-both_over top high k x l a o = by (is_live_status x.status) refl
+doomed_free : (kd : Bool) (x : Act) → is_doomed x.status ≡ true → is_free kd x ≡ true
+doomed_free kd x d = or_right (kd && x.reader) _ (by x.status d)
   where
-    undoomed : (st : Rattle.protocol.specs.Parts.Status) → is_live_status st ≡ true → is_doomed st ≡ false
-    undoomed Rattle.protocol.specs.Parts.Live e = refl
-    undoomed (Rattle.protocol.specs.Parts.Doomed v) e = absurd (true≢false (sym e))
-    undoomed (Rattle.protocol.specs.Parts.Decided d) e = refl
-    undoomed (Rattle.protocol.specs.Parts.Sealed d) e = refl
+    by : (st : Rattle.protocol.specs.Parts.Status) → is_doomed st ≡ true → not (is_live_status st) ≡ true
+    by Rattle.protocol.specs.Parts.Live e = absurd (true≢false (sym e))
+    by (Rattle.protocol.specs.Parts.Doomed v) e = refl
+    by (Rattle.protocol.specs.Parts.Decided d) e = refl
+    by (Rattle.protocol.specs.Parts.Sealed d) e = refl
 
-    by : (b : Bool) → is_live_status x.status ≡ b → (not b || nat_le (max high k) x.m) ≡ true
-    by false e = refl
-    by true e = elim (or_cases (not (is_live_status x.status)) (nat_le high x.m) o) [
-      | inl q ↦ absurd (true≢false (sym q ∙ ap not e))
-      | inr q ↦ elim (or_cases (is_doomed x.status) (nat_le top x.m) a) [
-        | inl d ↦ absurd (true≢false (sym d ∙ undoomed x.status e))
-        | inr d ↦ le-leb (max high k) x.m (omega (arith, leb-true high x.m q, leb-true top x.m d, l))
-      ]
-    ]
+both_over : (kd : Bool) (top high k : ℕ) (x : Act) → k ≤ top → is_above top x ≡ true → is_over kd high x ≡ true → is_over kd (max high k) x ≡ true
+both_over kd top high k x l a o = elim (or_cases (is_free kd x) (nat_le high x.m) o) [
+  | inl q ↦ or_left (is_free kd x) _ q
+  | inr q ↦ elim (or_cases (is_doomed x.status) (nat_le top x.m) a) [
+    | inl d ↦ or_left (is_free kd x) _ (doomed_free kd x d)
+    | inr d ↦ or_right (is_free kd x) _ (le-leb (max high k) x.m (omega (arith, leb-true high x.m q, leb-true top x.m d, l)))
+  ]
+]
 
 -- behind a batch that is at least so great
-pub over_top : (acts : List Act) (top high n : ℕ) (rs : List Ran) → n ≤ top → Befores acts top rs → AllOver acts high rs → AllOver acts (max high n) rs
-over_top acts top high n [] l b h = tt
-over_top acts top high n (Stands (OfBatch k) c ss ∷ rs) l b h = over_top acts (max top k) high n rs (omega (arith, l)) b h
-over_top acts top high n (Stands (OfAct t) c ss ∷ rs) l b h = (holds_two (is_above top) (is_over high) (is_over (max high n)) (act_of t acts) (λ x. both_over top high n x l) b.0 h.0, over_top acts top high n rs l b.1 h.1)
-over_top acts top high n (Gone (OfBatch k) ss ∷ rs) l b h = over_top acts (max top k) high n rs (omega (arith, l)) b h
-over_top acts top high n (Gone (OfAct t) ss ∷ rs) l b h = over_top acts top high n rs l b h
+pub over_top : (kd : Bool) (acts : List Act) (top high n : ℕ) (rs : List Ran) → n ≤ top → Befores acts top rs → AllOver kd acts high rs → AllOver kd acts (max high n) rs
+over_top kd acts top high n [] l b h = tt
+over_top kd acts top high n (Stands (OfBatch k) c ss ∷ rs) l b h = over_top kd acts (max top k) high n rs (omega (arith, l)) b h
+over_top kd acts top high n (Stands (OfAct t) c ss ∷ rs) l b h = (holds_two (is_above top) (is_over kd high) (is_over kd (max high n)) (act_of t acts) (λ x. both_over kd top high n x l) b.0 h.0, over_top kd acts top high n rs l b.1 h.1)
+over_top kd acts top high n (Gone (OfBatch k) ss ∷ rs) l b h = over_top kd acts (max top k) high n rs (omega (arith, l)) b h
+over_top kd acts top high n (Gone (OfAct t) ss ∷ rs) l b h = over_top kd acts top high n rs l b h
 
 abbrev pub NotLive : List Act → ℕ → Type 0
 NotLive acts t = holds (λ x. not (is_live_status x.status)) (act_of t acts) ≡ true
 
-not_live_over : (acts : List Act) (high t : ℕ) → NotLive acts t → holds (is_over high) (act_of t acts) ≡ true
-not_live_over acts high t h = holds_to (λ x. not (is_live_status x.status)) (is_over high) (act_of t acts) (λ x q. or_left (not (is_live_status x.status)) _ q) h
+pub not_live_over : (kd : Bool) (acts : List Act) (high t : ℕ) → NotLive acts t → holds (is_over kd high) (act_of t acts) ≡ true
+not_live_over kd acts high t h = holds_to (λ x. not (is_live_status x.status)) (is_over kd high) (act_of t acts) (λ x q. or_left (is_free kd x) _ (or_right (kd && x.reader) _ q)) h
+
+-- it need not be over
+abbrev pub FreeAt : Bool → List Act → ℕ → Type 0
+FreeAt kd acts t = holds (is_free kd) (act_of t acts) ≡ true
+
+free_over : (kd : Bool) (acts : List Act) (high t : ℕ) → FreeAt kd acts t → holds (is_over kd high) (act_of t acts) ≡ true
+free_over kd acts high t h = holds_to (is_free kd) (is_over kd high) (act_of t acts) (λ x q. or_left (is_free kd x) _ q) h
+
+-- all ACTs ahead of this one need not be over
+abbrev pub FreeAhead : Bool → List Act → ℕ → List Ran → Type 0
+FreeAhead kd acts u [] = Unit {0}
+FreeAhead kd acts u (Stands (OfBatch k) c ss ∷ rs) = FreeAhead kd acts u rs
+FreeAhead kd acts u (Stands (OfAct t) c ss ∷ rs) = (is_key_among (OfAct u) (keys_in rs) ≡ true → FreeAt kd acts t) × FreeAhead kd acts u rs
+FreeAhead kd acts u (Gone y ss ∷ rs) = FreeAhead kd acts u rs
 
 -- a batch commits: what is ahead of it committed, and what is behind it is high
-pub over_commit : (acts : List Act) (kept : List Who) (k top high : ℕ) (rs : List Ran) → ((t : ℕ) → is_kept (OfAct t) kept ≡ true → NotLive acts t) → is_key_among (OfBatch k) (keys_in rs) ≡ true → KeptAhead kept (OfBatch k) rs → Befores acts top rs → AllOver acts high rs → AllOver acts (max high k) rs
-over_commit acts kept k top high [] n i q b h = absurd (true≢false (sym i))
-over_commit acts kept k top high (Stands (OfBatch j) c ss ∷ rs) n i q b h = by (j == k) refl i (λ v. over_commit acts kept k (max top j) high rs n v q.1 b h)
+pub over_commit : (kd : Bool) (acts : List Act) (kept : List Who) (k top high : ℕ) (rs : List Ran) → ((t : ℕ) → is_kept (OfAct t) kept ≡ true → NotLive acts t) → is_key_among (OfBatch k) (keys_in rs) ≡ true → KeptAhead kept (OfBatch k) rs → Befores acts top rs → AllOver kd acts high rs → AllOver kd acts (max high k) rs
+over_commit kd acts kept k top high [] n i q b h = absurd (true≢false (sym i))
+over_commit kd acts kept k top high (Stands (OfBatch j) c ss ∷ rs) n i q b h = by (j == k) refl i (λ v. over_commit kd acts kept k (max top j) high rs n v q.1 b h)
   where
-    by : (v : Bool) → (j == k) ≡ v → (v || is_key_among (OfBatch k) (keys_in rs)) ≡ true → (is_key_among (OfBatch k) (keys_in rs) ≡ true → AllOver acts (max high k) rs) → AllOver acts (max high k) rs
-    by true e i r = over_top acts (max top j) high k rs (omega (arith, eqb-true j k e)) b h
+    by : (v : Bool) → (j == k) ≡ v → (v || is_key_among (OfBatch k) (keys_in rs)) ≡ true → (is_key_among (OfBatch k) (keys_in rs) ≡ true → AllOver kd acts (max high k) rs) → AllOver kd acts (max high k) rs
+    by true e i r = over_top kd acts (max top j) high k rs (omega (arith, eqb-true j k e)) b h
     by false e i r = r i
-over_commit acts kept k top high (Stands (OfAct t) c ss ∷ rs) n i q b h = (not_live_over acts (max high k) t (n t (q.0 i)), over_commit acts kept k top high rs n i q.1 b.1 h.1)
-over_commit acts kept k top high (Gone (OfBatch j) ss ∷ rs) n i q b h = over_commit acts kept k (max top j) high rs n i q b h
-over_commit acts kept k top high (Gone (OfAct t) ss ∷ rs) n i q b h = over_commit acts kept k top high rs n i q b h
+over_commit kd acts kept k top high (Stands (OfAct t) c ss ∷ rs) n i q b h = (not_live_over kd acts (max high k) t (n t (q.0 i)), over_commit kd acts kept k top high rs n i q.1 b.1 h.1)
+over_commit kd acts kept k top high (Gone (OfBatch j) ss ∷ rs) n i q b h = over_commit kd acts kept k (max top j) high rs n i q b h
+over_commit kd acts kept k top high (Gone (OfAct t) ss ∷ rs) n i q b h = over_commit kd acts kept k top high rs n i q b h
 
-doomed_over : (acts : List Act) (high : ℕ) (rs : List Ran) → AllDoomed acts rs → AllOver acts high rs
-doomed_over acts high [] h = tt
-doomed_over acts high (Stands (OfBatch k) c ss ∷ rs) h = doomed_over acts high rs h
-doomed_over acts high (Stands (OfAct t) c ss ∷ rs) h = (holds_to (λ x. is_doomed x.status) (is_over high) (act_of t acts) (λ x q. or_left (not (is_live_status x.status)) _ (not_live x.status q)) h.0, doomed_over acts high rs h.1)
-  where
-    not_live : (st : Rattle.protocol.specs.Parts.Status) → is_doomed st ≡ true → not (is_live_status st) ≡ true
-    not_live Rattle.protocol.specs.Parts.Live e = absurd (true≢false (sym e))
-    not_live (Rattle.protocol.specs.Parts.Doomed v) e = refl
-    not_live (Rattle.protocol.specs.Parts.Decided d) e = refl
-    not_live (Rattle.protocol.specs.Parts.Sealed d) e = refl
-doomed_over acts high (Gone y ss ∷ rs) h = doomed_over acts high rs h
+doomed_over : (kd : Bool) (acts : List Act) (high : ℕ) (rs : List Ran) → AllDoomed acts rs → AllOver kd acts high rs
+doomed_over kd acts high [] h = tt
+doomed_over kd acts high (Stands (OfBatch k) c ss ∷ rs) h = doomed_over kd acts high rs h
+doomed_over kd acts high (Stands (OfAct t) c ss ∷ rs) h = (holds_to (λ x. is_doomed x.status) (is_over kd high) (act_of t acts) (λ x q. or_left (is_free kd x) _ (doomed_free kd x q)) h.0, doomed_over kd acts high rs h.1)
+doomed_over kd acts high (Gone y ss ∷ rs) h = doomed_over kd acts high rs h
 
 -- behind an ACT that gets its place with the number n: its pairs, and then what is behind a batch
-over_behind : (acts : List Act) (kept : List Who) (a : ℕ) (ps : List Pair) (cs : List Cascade) (u n top high : ℕ) (rs : List Ran)
-    → ((t : ℕ) → is_paired a ps acts u t ≡ true → holds (is_over high) (act_of t acts) ≡ true → holds (is_over (max high n)) (act_of t acts) ≡ true)
-    → has_kept kept rs ≡ false → Paired a ps acts u rs → AllByRecursion (λ k. is_above_or_aborted cs n k ≡ true) (batches_in rs) → TakenAlong cs acts rs → Befores acts top rs → AllOver acts high rs → AllOver acts (max high n) rs
-over_behind acts kept a ps cs u n top high [] r e p q x b h = tt
-over_behind acts kept a ps cs u n top high (Stands (OfBatch k) c ss ∷ rs) r e p q x b h = elim (or_cases (is_aborted k cs) (nat_le n k) q.0) [
-  | inl v ↦ doomed_over acts (max high n) rs (x.0 v)
-  | inr v ↦ over_top acts (max top k) high n rs (omega (arith, leb-true n k v)) b h
+over_behind : (kd : Bool) (acts : List Act) (kept : List Who) (a : ℕ) (ps : List Pair) (cs : List Cascade) (u n top high : ℕ) (rs : List Ran)
+    → ((t : ℕ) → is_paired a ps acts u t ≡ true → holds (is_over kd high) (act_of t acts) ≡ true → holds (is_over kd (max high n)) (act_of t acts) ≡ true)
+    → has_kept kept rs ≡ false → Paired a ps acts u rs → AllByRecursion (λ k. is_above_or_aborted cs n k ≡ true) (batches_in rs) → TakenAlong cs acts rs → Befores acts top rs → AllOver kd acts high rs → AllOver kd acts (max high n) rs
+over_behind kd acts kept a ps cs u n top high [] r e p q x b h = tt
+over_behind kd acts kept a ps cs u n top high (Stands (OfBatch k) c ss ∷ rs) r e p q x b h = elim (or_cases (is_aborted k cs) (nat_le n k) q.0) [
+  | inl v ↦ doomed_over kd acts (max high n) rs (x.0 v)
+  | inr v ↦ over_top kd acts (max top k) high n rs (omega (arith, leb-true n k v)) b h
 ]
-over_behind acts kept a ps cs u n top high (Stands (OfAct t) c ss ∷ rs) r e p q x b h = (r t p.0 h.0, over_behind acts kept a ps cs u n top high rs r (or_parts (is_kept (OfAct t) kept) (has_kept kept rs) e).1 p.1 q x.1 b.1 h.1)
-over_behind acts kept a ps cs u n top high (Gone y ss ∷ rs) r e p q x b h = absurd (true≢false e)
+over_behind kd acts kept a ps cs u n top high (Stands (OfAct t) c ss ∷ rs) r e p q x b h = (r t p.0 h.0, over_behind kd acts kept a ps cs u n top high rs r (or_parts (is_kept (OfAct t) kept) (has_kept kept rs) e).1 p.1 q x.1 b.1 h.1)
+over_behind kd acts kept a ps cs u n top high (Gone y ss ∷ rs) r e p q x b h = absurd (true≢false e)
 
 below_among : (cs : List Cascade) (n u : ℕ) (rs : List Ran) → StandsBelow cs n u rs → is_key_among (OfAct u) (keys_in rs) ≡ true
 below_among cs n u [] h = absurd h
@@ -187,24 +200,23 @@ below_among cs n u (Stands (OfAct t) c ss ∷ rs) h = elim h [ inl p ↦ or_left
 below_among cs n u (Gone y ss ∷ rs) h = below_among cs n u rs h
 
 -- an ACT gets its place: what is ahead of it committed, and what is behind it is high
-pub over_decide : (acts : List Act) (kept : List Who) (a : ℕ) (ps : List Pair) (cs : List Cascade) (u n top high : ℕ) (rs : List Ran)
-    → ((t : ℕ) → is_kept (OfAct t) kept ≡ true → NotLive acts t)
-    → ((t : ℕ) → is_paired a ps acts u t ≡ true → holds (is_over high) (act_of t acts) ≡ true → holds (is_over (max high n)) (act_of t acts) ≡ true)
-    → (holds (is_over high) (act_of u acts) ≡ true → holds (is_over (max high n)) (act_of u acts) ≡ true)
-    → is_kept (OfAct u) kept ≡ false → KeptFront kept rs → KeptAhead kept (OfAct u) rs → Grouped a ps acts rs → StandsBelow cs n u rs
-    → TakenAlong cs acts rs → Befores acts top rs → AllOver acts high rs → AllOver acts (max high n) rs
-over_decide acts kept a ps cs u n top high [] l r o f front ahead g st x b h = absurd st
-over_decide acts kept a ps cs u n top high (Stands (OfBatch k) c ss ∷ rs) l r o f front ahead g st x b h = over_decide acts kept a ps cs u n (max top k) high rs l r o f front.1 ahead.1 g st x.1 b h
-over_decide acts kept a ps cs u n top high (Stands (OfAct t) c ss ∷ rs) l r o f front ahead g st x b h = elim st [
+pub over_decide : (kd : Bool) (acts : List Act) (kept : List Who) (a : ℕ) (ps : List Pair) (cs : List Cascade) (u n top high : ℕ) (rs : List Ran)
+    → ((t : ℕ) → is_paired a ps acts u t ≡ true → holds (is_over kd high) (act_of t acts) ≡ true → holds (is_over kd (max high n)) (act_of t acts) ≡ true)
+    → (holds (is_over kd high) (act_of u acts) ≡ true → holds (is_over kd (max high n)) (act_of u acts) ≡ true)
+    → is_kept (OfAct u) kept ≡ false → KeptFront kept rs → FreeAhead kd acts u rs → Grouped a ps acts rs → StandsBelow cs n u rs
+    → TakenAlong cs acts rs → Befores acts top rs → AllOver kd acts high rs → AllOver kd acts (max high n) rs
+over_decide kd acts kept a ps cs u n top high [] q o f front ahead g st x b h = absurd st
+over_decide kd acts kept a ps cs u n top high (Stands (OfBatch k) c ss ∷ rs) q o f front ahead g st x b h = over_decide kd acts kept a ps cs u n (max top k) high rs q o f front.1 ahead g st x.1 b h
+over_decide kd acts kept a ps cs u n top high (Stands (OfAct t) c ss ∷ rs) q o f front ahead g st x b h = elim st [
   | inl p ↦
       let none : has_kept kept rs ≡ false = false_from_ne_true (has_kept kept rs) (λ v. true≢false (sym (front.0 v) ∙ subst (λ z. is_kept (OfAct z) kept ≡ false) (sym p.0) f)) in (
-        subst (λ z. holds (is_over high) (act_of z acts) ≡ true → holds (is_over (max high n)) (act_of z acts) ≡ true) (sym p.0) o h.0,
-        over_behind acts kept a ps cs u n top high rs r none (subst (λ z. Paired a ps acts z rs) p.0 g.0) p.1 x.1 b.1 h.1,
+        subst (λ z. holds (is_over kd high) (act_of z acts) ≡ true → holds (is_over kd (max high n)) (act_of z acts) ≡ true) (sym p.0) o h.0,
+        over_behind kd acts kept a ps cs u n top high rs q none (subst (λ z. Paired a ps acts z rs) p.0 g.0) p.1 x.1 b.1 h.1,
       )
-  | inr q ↦ (not_live_over acts (max high n) t (l t (ahead.0 (below_among cs n u rs q))), over_decide acts kept a ps cs u n top high rs l r o f front.1 ahead.1 g.1 q x.1 b.1 h.1)
+  | inr v ↦ (free_over kd acts (max high n) t (ahead.0 (below_among cs n u rs v)), over_decide kd acts kept a ps cs u n top high rs q o f front.1 ahead.1 g.1 v x.1 b.1 h.1)
 ]
-over_decide acts kept a ps cs u n top high (Gone (OfBatch k) ss ∷ rs) l r o f front ahead g st x b h = over_decide acts kept a ps cs u n (max top k) high rs l r o f front.1 ahead g st x b h
-over_decide acts kept a ps cs u n top high (Gone (OfAct t) ss ∷ rs) l r o f front ahead g st x b h = over_decide acts kept a ps cs u n top high rs l r o f front.1 ahead g st x b h
+over_decide kd acts kept a ps cs u n top high (Gone (OfBatch k) ss ∷ rs) q o f front ahead g st x b h = over_decide kd acts kept a ps cs u n (max top k) high rs q o f front.1 ahead g st x b h
+over_decide kd acts kept a ps cs u n top high (Gone (OfAct t) ss ∷ rs) q o f front ahead g st x b h = over_decide kd acts kept a ps cs u n top high rs q o f front.1 ahead g st x b h
 
 -- ---- ACTs with no batch between them are pairs
 
@@ -217,12 +229,20 @@ paired_to p p' q q' r r' k l m h = elim (or_cases p (q || r) h) [
   | inr e ↦ or_right p' (q' || r') (elim (or_cases q r e) [ inl f ↦ or_left q' _ (l f) | inr f ↦ or_right q' r' (m f) ])
 ]
 
+either : (p p' q q' : Bool) → (p ≡ true → p' ≡ true) → (q ≡ true → q' ≡ true) → (p || q) ≡ true → (p' || q') ≡ true
+either p p' q q' k l h = elim (or_cases p q h) [ inl e ↦ or_left p' _ (k e) | inr e ↦ or_right p' q' (l e) ]
+
+pub both_later : (acts acts' : List Act) (u t : ℕ) → Grows acts acts' → both_read acts u t ≡ true → both_read acts' u t ≡ true
+both_later acts acts' u t g h =
+    let p = and_parts (reads_in acts u) (reads_in acts t) h in
+    and_from (reads_in acts' u) (reads_in acts' t) (grown_holds (λ x. x.reader) acts acts' u (λ x y k q. k.reader ∙ q) g p.0) (grown_holds (λ x. x.reader) acts acts' t (λ x y k q. k.reader ∙ q) g p.1)
+
 -- the book changes: who was doomed is, and what pairs there are stay where they are asked for
 pub paired_change : (a : ℕ) (ps ps' : List Pair) (acts acts' : List Act) (u : ℕ) (rs : List Ran) → Grows acts acts' → ((t : ℕ) → has_pair a t u ps ≡ true → has_pair a t u ps' ≡ true) → Paired a ps acts u rs → Paired a ps' acts' u rs
 paired_change a ps ps' acts acts' u [] g k h = tt
 paired_change a ps ps' acts acts' u (Stands (OfBatch j) c ss ∷ rs) g k h = tt
 paired_change a ps ps' acts acts' u (Stands (OfAct t) c ss ∷ rs) g k h = (
-  paired_to (doomed_at acts u) (doomed_at acts' u) (doomed_at acts t) (doomed_at acts' t) (has_pair a t u ps) (has_pair a t u ps') (grown_holds (λ x. is_doomed x.status) acts acts' u doomed_later g) (grown_holds (λ x. is_doomed x.status) acts acts' t doomed_later g) (k t) h.0,
+  either (both_read acts u t) (both_read acts' u t) _ _ (both_later acts acts' u t g) (paired_to (doomed_at acts u) (doomed_at acts' u) (doomed_at acts t) (doomed_at acts' t) (has_pair a t u ps) (has_pair a t u ps') (grown_holds (λ x. is_doomed x.status) acts acts' u doomed_later g) (grown_holds (λ x. is_doomed x.status) acts acts' t doomed_later g) (k t)) h.0,
   paired_change a ps ps' acts acts' u rs g k h.1,
 )
 paired_change a ps ps' acts acts' u (Gone (OfBatch j) ss ∷ rs) g k h = tt
@@ -372,7 +392,7 @@ paired_other t a b ps acts u rs n h = by rs h
     by : (rs : List Ran) → Paired b ps acts u rs → Paired b (pairs_left t a ps) acts u rs
     by [] h = tt
     by (Stands (OfBatch j) c ss ∷ rs) h = tt
-    by (Stands (OfAct v) c ss ∷ rs) h = (paired_to (doomed_at acts u) (doomed_at acts u) (doomed_at acts v) (doomed_at acts v) (has_pair b v u ps) (has_pair b v u (pairs_left t a ps)) (λ e. e) (λ e. e) (pair_stays t a b v u ps n) h.0, by rs h.1)
+    by (Stands (OfAct v) c ss ∷ rs) h = (either (both_read acts u v) (both_read acts u v) _ _ (λ e. e) (paired_to (doomed_at acts u) (doomed_at acts u) (doomed_at acts v) (doomed_at acts v) (has_pair b v u ps) (has_pair b v u (pairs_left t a ps)) (λ e. e) (λ e. e) (pair_stays t a b v u ps n)) h.0, by rs h.1)
     by (Gone (OfBatch j) ss ∷ rs) h = tt
     by (Gone (OfAct v) ss ∷ rs) h = by rs h
 
@@ -450,9 +470,27 @@ new_pair t a u (x ∷ xs) acts i d = by (book.is_doomed_act acts x) refl (or_cas
     by false e (inl j) r = or_left (is_pair a t u (record { behind = t; ahead = x.tid; actor = a })) _ (and_from (t == t) _ (eq-eqb t t refl) (and_from (x.tid == u) (a == a) j (eq-eqb a a refl)))
     by false e (inr j) r = or_right (is_pair a t u (record { behind = t; ahead = x.tid; actor = a })) _ (r j)
 
-pub all_rivals : (t u : ℕ) (xs : List Lock) → is_lock_among u xs ≡ true → is_lock_among u (filter (rivals (record { tid = t })) xs) ≡ true
-all_rivals t u [] h = h
-all_rivals t u (x ∷ xs) h = elim (or_cases (x.tid == u) (is_lock_among u xs) h) [ inl e ↦ or_left (x.tid == u) _ e | inr e ↦ or_right (x.tid == u) _ (all_rivals t u xs e) ]
+-- of these locks each tells whether its ACT reads
+abbrev pub LocksTell : List Act → List Lock → Type 0
+LocksTell acts xs = AllByRecursion (λ x. x.reader ≡ reads_in acts x.tid) xs
+
+-- one of them that does not share the actor with this one is among its rivals
+pub among_rivals : (l : Lock) (u : ℕ) (acts : List Act) (xs : List Lock) → LocksTell acts xs → (reads_in acts u && l.reader) ≡ false → is_lock_among u xs ≡ true → is_lock_among u (filter (rivals l) xs) ≡ true
+among_rivals l u acts [] k n h = h
+among_rivals l u acts (x ∷ xs) k n h = by (rivals l x) refl (or_cases (x.tid == u) (is_lock_among u xs) h) (λ q. among_rivals l u acts xs k.1 n q)
+  where
+    apart : (p q v : Bool) → p ≡ q → (q && v) ≡ false → not (v && p) ≡ true
+    apart true true true i e = absurd (true≢false e)
+    apart true true false i e = refl
+    apart true false v i e = absurd (true≢false i)
+    apart false q true i e = refl
+    apart false q false i e = refl
+
+    by : (v : Bool) → rivals l x ≡ v → ((x.tid == u) ≡ true) ⊎ (is_lock_among u xs ≡ true) → (is_lock_among u xs ≡ true → is_lock_among u (filter (rivals l) xs) ≡ true) → is_lock_among u (if v then x ∷ filter (rivals l) xs else filter (rivals l) xs) ≡ true
+    by true i (inl e) r = or_left (x.tid == u) _ e
+    by true i (inr e) r = or_right (x.tid == u) _ (r e)
+    by false i (inl e) r = absurd (true≢false (sym (apart x.reader (reads_in acts u) l.reader (k.0 ∙ ap (reads_in acts) (eqb-true x.tid u e)) n) ∙ i))
+    by false i (inr e) r = r e
 
 pub pair_more : (a t u : ℕ) (ps qs : List Pair) → has_pair a t u ps ≡ true → has_pair a t u (ps ++ qs) ≡ true
 pair_more a t u [] qs h = absurd (true≢false (sym h))

@@ -14,8 +14,8 @@ use Rattle.protocol.specs.Conditions.{IsAllowed, conditions}
 use Rattle.protocol.specs.Effects.{after}
 use Rattle.protocol.specs.Runs.{opening, IsRun, reached}
 use Rattle.protocol.specs.Standing.{CarriesNumber}
-use Rattle.protocol.specs.History.{History, Ran, Stands, Gone, no_history, history, grown}
-use Rattle.protocol.specs.Chains.{PlacesRise}
+use Rattle.protocol.specs.History.{History, Ran, Stands, Gone, act_view, no_history, history, grown}
+use Rattle.protocol.specs.Chains.{RivalsRise}
 use Rattle.protocol_laws.specs.Rising.{visitors, PlacesDiffer, OpenAbove}
 use Rattle.protocol_laws.specs.Highs.{AllDoomed, TakenAlong}
 use Rattle.protocol_laws.proofs.machine.TurnsKept.{one_is}
@@ -80,13 +80,13 @@ asks_live w Of finish t a s h ok g =
     by (Decided c) e d p = absurd (p refl)
     by (Sealed c) e d p = absurd (p refl)
 
-pub owed : {C : Type 0} (w : Fixed C) (Of : Tx → C → Type 0) (finish : C → List State → Alone) (e : Event) (s : Machine C) (h : History) → IsAllowed w e s → AllGood w Of finish s h → shows.Owed e s h
+pub owed : {C : Type 0} (w : Fixed C) (Of : Tx → C → Type 0) (finish : C → List State → Alone) (e : Event) (s : Machine C) (h : History) → Given w Of finish → IsAllowed w e s → AllGood w Of finish s h → shows.Owed e s h
 unfolding shows.Owed whole.Owed
-owed w Of finish (Ask t a) s h ok g = asks_live w Of finish t a s h ok g
-owed w Of finish (Decide t) s h ok g = all.owes w Of finish (Decide t) s h ok g
-owed w Of finish (Finish t a) s h ok g = (all.owes w Of finish (Finish t a) s h ok g).0
-owed w Of finish (Trim k a) s h ok g = all.owes w Of finish (Trim k a) s h ok g
-owed w Of finish e s h ok g = tt
+owed w Of finish (Ask t a) s h v ok g = asks_live w Of finish t a s h ok g
+owed w Of finish (Decide t) s h v ok g = all.owes w Of finish (Decide t) s h v ok g
+owed w Of finish (Finish t a) s h v ok g = (all.owes w Of finish (Finish t a) s h v ok g).0
+owed w Of finish (Trim k a) s h v ok g = all.owes w Of finish (Trim k a) s h v ok g
+owed w Of finish e s h v ok g = tt
 
 next : {C : Type 0} (w : Fixed C) (Of : Tx → C → Type 0) (finish : C → List State → Alone) (e : Event) (s : Machine C) (h : History) → IsAllowed w e s → Good w Of finish s h → overs.CommitsNext e s h
 unfolding overs.CommitsNext
@@ -137,16 +137,16 @@ decides_low w e s h ok g x t q i = (places.settled_below w s x.m g.settles (leb-
 -- At a Decide the before number is at least that of each that committed on the ACT's actors.
 before_is_high : {C : Type 0} (w : Fixed C) (e : Event) (s : Machine C) (h : History) → IsAllowed w e s → shows.Owed e s h → overs.Overs s h → places.BeforeIsHigh e s h
 unfolding places.BeforeIsHigh shows.Owed conditions
-before_is_high w (Decide t) s h ok o g = λ x e a v. let i : x ≡ o.0 = one (sym e ∙ o.1.is_it) in overs.high_before s h t a x g e (ap (λ z. z.tid) i ∙ o.1.tid) (shows.live_here t x (act_of t s.book.acts) e ok.0) v
+before_is_high w (Decide t) s h ok o g = λ x e a v. let i : x ≡ o.0 = one (sym e ∙ o.1.is_it) in overs.high_before s h t a x g e (shows.live_here t x (act_of t s.book.acts) e ok.0) (o.1.there a (subst (λ z. is_some (act_view h z a) ≡ true) i v))
   where
     one : {x y : Act} → Some x ≡ Some y → x ≡ y
     one e = cc e
 before_is_high w e s h ok o g = tt
 
-pub kept : {C : Type 0} (w : Fixed C) (Of : Tx → C → Type 0) (finish : C → List State → Alone) (e : Event) (s : Machine C) (h : History) → IsAllowed w e s → AllGood w Of finish s h → Higher w s h → Higher w (after w e s) (grown w e s h)
+pub kept : {C : Type 0} (w : Fixed C) (Of : Tx → C → Type 0) (finish : C → List State → Alone) (e : Event) (s : Machine C) (h : History) → Given w Of finish → IsAllowed w e s → AllGood w Of finish s h → Higher w s h → Higher w (after w e s) (grown w e s h)
 unfolding shows.AllTold
-kept w Of finish e s h ok g i =
-    let o = owed w Of finish e s h ok g in
+kept w Of finish e s h v ok g i =
+    let o = owed w Of finish e s h v ok g in
     let b = beside w Of finish s h g in
     let low = decides_low w e s h ok i.places in
     let p' = pairs.kept w e s ok i.pairs_stand in
@@ -156,12 +156,12 @@ kept w Of finish e s h ok g i =
       places = places.kept w e s h ok (before_is_high w e s h ok o i.high) i.places;
       pairs_stand = p';
       tids = t';
-      grouped = groups.kept w e s h ok g.good.turned i.grouped;
+      grouped = groups.kept w e s h ok g.locks g.good.turned i.grouped;
       told = shows.told_kept w e s h ok o i.told;
       none_live = overs.none_live_kept w e s h ok o i.none_live;
       showing = shows.shows_kept w e s h ok o (fresh w Of finish e s h ok g.good) b low facts i.showing;
       high = overs.overs_kept w e s h ok o (next w Of finish e s h ok g.good)
-          (record { beside = b; placed = g.good.placed; lasts = g.good.lasts; numbers = g.good.numbers; grouped = i.grouped; showing = i.showing; told = i.told; none_live = i.none_live })
+          (record { beside = b; placed = g.good.placed; lasts = g.good.lasts; numbers = g.good.numbers; grouped = i.grouped; showing = i.showing; told = i.told; none_live = i.none_live; locks = g.locks })
           low (carried w s i.tids i.pairs_stand) (carried w (after w e s) t' p') i.high;
     }
 
@@ -175,15 +175,15 @@ opened w Of finish v = record {
   told = tt;
   none_live = λ t e. absurd (true≢false (sym e));
   showing = λ a. tt;
-  high = λ a. tt;
+  high = λ r a. tt;
 }
 
 -- After every run of every accepted text, over code with the facts.
 pub higher : {C : Type 0} (w : Fixed C) (Of : Tx → C → Type 0) (finish : C → List State → Alone) (es : List Event) → Given w Of finish → IsRun w es → Higher w (reached w es) (history w es)
-higher w Of finish es v run = all.along_good w Of finish (Higher w) v (λ e s h ok g i. kept w Of finish e s h ok g i) (opened w Of finish v) es run
+higher w Of finish es v run = all.along_good w Of finish (Higher w) v (λ e s h ok g i. kept w Of finish e s h v ok g i) (opened w Of finish v) es run
 
 -- On each actor the places of what committed rise, in the order of commits.
-pub places_rise : {C : Type 0} (w : Fixed C) (Of : Tx → C → Type 0) (finish : C → List State → Alone) (es : List Event) → Given w Of finish → IsRun w es → (a : ℕ) → PlacesRise (visitors a (history w es).committed)
+pub places_rise : {C : Type 0} (w : Fixed C) (Of : Tx → C → Type 0) (finish : C → List State → Alone) (es : List Event) → Given w Of finish → IsRun w es → (a : ℕ) → RivalsRise (visitors a (history w es).committed)
 places_rise w Of finish es v run = (higher w Of finish es v run).places.rise
 
 -- No two places are equal.

@@ -7,7 +7,7 @@ use Rattle.protocol.specs.Fixed.{Fixed, Next, Go, Ended}
 use Rattle.protocol.specs.Records.{LogRecord, is_complete}
 use Rattle.protocol.specs.Parts.{Act, Desk, Cascade, Who, OfBatch, OfAct, Batch, Declared, Committing, Settled, Entry, BatchEntry, ActEntry, Outcome, Log, Cell, Machine}
 use Rattle.protocol.specs.Events.{Event, Form, Arrive, Ask, Run, Complete, End, Sync, Note, Commit, Settle, Abort, Rollback, Prepare, Decide, Finish, Trim}
-use Rattle.protocol.specs.Words.{holds, who_on, is_who, is_value, is_aborted, is_formed, is_committing, is_durable, batch_of, is_batch_entry, is_complete_batch, has_act, outcome_of, act_of, value_of}
+use Rattle.protocol.specs.Words.{holds, who_on, is_who, is_value, is_aborted, is_formed, is_committing, is_durable, batch_of, is_batch_entry, is_complete_batch, has_act, outcome_of, act_of, value_of, lock_of}
 use Rattle.protocol.specs.Conditions.{IsAllowed, conditions}
 use Rattle.protocol.specs.Effects.{after, cell_at, log_at, no_cell, no_log, added, adds, synced, act_commit}
 use Rattle.protocol.specs.OnRing as ring
@@ -15,7 +15,7 @@ use Rattle.protocol.specs.OnBook as book
 use Rattle.protocol.specs.OnDesk as desk
 use Rattle.protocol.specs.OnCell as cell
 use Rattle.protocol.specs.OnCell.{is_cut}
-use Rattle.protocol.specs.History.{History, Ran, Stands, Gone, grown, with_at, not_run, ran_in, completed, left_for_good, without_standing, long_staying, asks, kept_act, batches_in, batch_in}
+use Rattle.protocol.specs.History.{History, Ran, Stands, Gone, grown, with_at, not_run, ran_in, completed, left_for_good, without_standing, long_staying, asks, kept_act, batches_in, batch_in, is_traceless}
 use Rattle.protocol_laws.specs.Tracks.{key_of, keys_in, is_key_among}
 use Rattle.protocol_laws.specs.Places.{Ascends, Fits, Places}
 use Rattle.protocol_laws.specs.Commits.{is_kept}
@@ -133,8 +133,8 @@ over_finish k cs t false rs h = over_map k cs (left_for_good (OfAct t)) rs (done
 pub over_stays : {C : Type 0} (w : Fixed C) (e : Event) (s : Machine C) (h : History) → Placed w s h → (k a : ℕ) → IsOver k s.book.cascades (h.long a) → IsOver k (after w e s).book.cascades ((grown w e s h).long a)
 unfolding Placed after grown
 over_stays w (Arrive j b) s h p k a o = at_one (λ c long. IsOver k s.book.cascades long) b a _ h.long (over_more k s.book.cascades (h.long b) (map not_run (OfBatch j ∷ []))) o
-over_stays w (Ask t b) s h p k a o = at_one (λ c long. IsOver k s.book.cascades long) b a _ h.long (over_more k s.book.cascades (h.long b) (map not_run (asks t (book.in_the_way t (cell_at s b).entries)))) o
-over_stays w (Run t b) s h p k a o = at_one (λ c long. IsOver k s.book.cascades long) b a _ h.long (over_run k s.book.cascades (who_on t (cell_at s b).entries) (record { tid = t; found = (cell_at s b).state; left = (cell.slice_run w.code t b (cell_at s b)).state }) (h.long b)) o
+over_stays w (Ask t b) s h p k a o = at_one (λ c long. IsOver k s.book.cascades long) b a _ h.long (over_more k s.book.cascades (h.long b) (map not_run (asks t (book.in_the_way (lock_of t s.book.acts) (cell_at s b).entries)))) o
+over_stays w (Run t b) s h p k a o = at_one (λ c long. IsOver k s.book.cascades long) b a _ h.long (TrackLists.on_reads (IsOver k s.book.cascades) (cell.reads_on t (cell_at s b).entries) _ _ (h.long b) (over_run k s.book.cascades (who_on t (cell_at s b).entries) (record { tid = t; found = (cell_at s b).state; left = (cell.slice_run w.code t b (cell_at s b)).state }) (h.long b))) o
 over_stays w (Complete j b) s h p k a o = at_one (λ c long. IsOver k s.book.cascades long) b a _ h.long (over_map k s.book.cascades (completed j) (h.long b) (done_completed k j)) o
 over_stays w (Abort j) s h p k a (inl q) = inl (keys.aborted_more k s.book.cascades _ ∙ or_left (is_aborted k s.book.cascades) _ q)
 over_stays w (Abort j) s h p k a (inr q) = inr q
@@ -143,7 +143,7 @@ over_stays w (Rollback b) s h p k a o = at_one (λ c long. IsOver k s.book.casca
     by : (rs : List Ran) → Places s.ring.next_bid s.desk.settled s.book.cascades (cell_at s b).epoch (cell_at s b).tail rs → IsOver k s.book.cascades rs → IsOver k s.book.cascades (long_staying s.book.cascades rs)
     by rs g (inl q) = inl q
     by rs g (inr q) = done_staying s.ring.next_bid (cell_at s b).epoch (cell_at s b).tail k s.book.cascades rs q g.fit g.ascends
-over_stays w (Finish t b) s h p k a o = at_one (λ c long. IsOver k s.book.cascades long) b a _ h.long (over_finish k s.book.cascades t (cell.is_undone_act (act_of t s.book.acts)) (h.long b)) o
+over_stays w (Finish t b) s h p k a o = at_one (λ c long. IsOver k s.book.cascades long) b a _ h.long (over_finish k s.book.cascades t (is_traceless (act_of t s.book.acts)) (h.long b)) o
 over_stays w (Trim j b) s h p k a o = at_one (λ c long. IsOver k s.book.cascades long) b a _ h.long (over_map k s.book.cascades (left_for_good (OfBatch j)) (h.long b) (done_left k (OfBatch j))) o
 over_stays w e s h p k a o = o
 
@@ -352,7 +352,7 @@ durable p logs l h = let g = held (is_durable p) logs l no_log h in any_take p (
 
 decided_same : (k : ℕ) (kept : List Who) (o : Option Act) → is_kept (OfBatch k) (kept ++ kept_act o) ≡ is_kept (OfBatch k) kept
 decided_same k kept None = ap (is_kept (OfBatch k)) (Rattle.std.proofs.lemmas.List.append-nil kept)
-decided_same k kept (Some x) = by (is_value x.result)
+decided_same k kept (Some x) = by (is_value x.result && not x.reader)
   where
     by : (q : Bool) → is_kept (OfBatch k) (kept ++ (if q then OfAct x.tid ∷ [] else [])) ≡ is_kept (OfBatch k) kept
     by true = kept_end k (OfAct x.tid) kept ∙ or_false (is_kept (OfBatch k) kept)

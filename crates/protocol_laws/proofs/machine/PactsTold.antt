@@ -11,7 +11,7 @@ use Rattle.protocol.specs.Fixed.{Fixed, Next, Go, Ended}
 use Rattle.protocol.specs.Rivals.{Lock}
 use Rattle.protocol.specs.Parts.{Act, Batch, Book, Pact, Committing, Settled, Status, Live, Doomed, Decided, Sealed, Who, OfBatch, OfAct, Outcome, Pair, Cell, Machine}
 use Rattle.protocol.specs.Events.{Event, Form, Admit, Arrive, Ask, End, Note, Commit, Settle, Abort, Prepare, Vouch, Decide, Seal, Finish, Trim}
-use Rattle.protocol.specs.Words.{is_value, is_live_status, is_formed, is_committing, batch_of, has_act, outcome_of}
+use Rattle.protocol.specs.Words.{is_value, is_live_status, is_formed, is_committing, batch_of, has_act, outcome_of, lock_of, floor_at}
 use Rattle.protocol.specs.Verdicts.{verdict, pact_place, act_place, died}
 use Rattle.protocol.specs.Conditions.{IsAllowed, conditions}
 use Rattle.protocol.specs.Effects.{after, cell_at}
@@ -151,7 +151,7 @@ raised_well : (ps : List Pair) (xs : List Act) → AllByRecursion DoomedWell xs 
 raised_well ps [] h = tt
 raised_well ps (x ∷ xs) h = (h.0, raised_well ps xs h.1)
 
-asked_well : {C : Type 0} (o : Option ℕ) (group : List Lock) (t a : ℕ) (c : Cell C) (b : Book) → AllByRecursion DoomedWell b.acts → AllByRecursion DoomedWell (book.asked_acts o group t a (max c.last c.floor) b)
+asked_well : {C : Type 0} (o : Option ℕ) (group : List Lock) (t a : ℕ) (c : Cell C) (b : Book) → AllByRecursion DoomedWell b.acts → AllByRecursion DoomedWell (book.asked_acts o group t a (max c.last (floor_at t b.acts c)) b)
 asked_well (Some older) group t a c b h = all_well _ b.acts (λ x i. if_well (x.tid == t) _ x (died_well a older t x) i) h
 asked_well None group t a c b h = all_well (crossed_out a) _ (crossed_well a) (raised_well _ _ (all_well _ b.acts (λ x i. if_well (x.tid == t) _ x (λ j. j) i) h))
 
@@ -172,7 +172,7 @@ pub no_places : {C : Type 0} (w : Fixed C) (e : Event) (s : Machine C) → NoPla
 unfolding NoPlaces after
 no_places w (Admit t) s i = new_well _ s.book.acts (λ u e. absurd (cc e)) i
 no_places w (Arrive k b) s i = all_well (crossed_out b) _ (crossed_well b) (all_well _ s.book.acts (λ x j. j) i)
-no_places w (Ask t b) s i = asked_well (book.in_the_way t (cell_at s b).entries) (book.met t (cell_at s b).entries) t b (cell_at s b) s.book i
+no_places w (Ask t b) s i = asked_well (book.in_the_way (lock_of t s.book.acts) (cell_at s b).entries) (book.met (lock_of t s.book.acts) (cell_at s b).entries) t b (cell_at s b) s.book i
 no_places w (End t b) s i = ended_well t (has_act t (cell_at s b).entries) (outcome_of t (cell_at s b).outbox) s.book.acts i
 no_places w (Abort k) s i = all_well _ s.book.acts (cascaded_well k _) i
 no_places w (Prepare t b) s i = all_well _ s.book.acts (λ x j. if_well (x.tid == t) (book.marked b book.is_prepared) x (λ l. l) j) i

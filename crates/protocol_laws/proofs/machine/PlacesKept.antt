@@ -6,18 +6,19 @@ use Rattle.std.proofs.lemmas.Bool.{eqb-true, ltb-true, and_parts, true≢false}
 use Rattle.protocol.specs.Fixed.{Fixed}
 use Rattle.protocol.specs.Parts.{SubBatch, OfBatch, OfAct, Entry, Cell, Machine}
 use Rattle.protocol.specs.Events.{Event, Form, Arrive, Ask, Take, Run, Send, End, Close, Complete, Settle, Abort, Rollback, Finish, Trim}
-use Rattle.protocol.specs.Words.{holds, epoch_of, is_entry_of, act_of, sub_of}
+use Rattle.protocol.specs.Words.{holds, epoch_of, is_entry_of, act_of, sub_of, lock_of}
 use Rattle.protocol.specs.Contents.{complete_mark}
 use Rattle.protocol.specs.Conditions.{IsAllowed, conditions, epoch}
 use Rattle.protocol.specs.Effects.{after, cell_at, no_cell}
 use Rattle.protocol.specs.OnBook as book
 use Rattle.protocol.specs.OnCell as cell
-use Rattle.protocol.specs.History.{History, Ran, grown, not_run, left_for_good, without_standing, asks}
-use Rattle.protocol_laws.specs.Tracks.{is_key_among}
+use Rattle.protocol.specs.History.{History, Ran, grown, not_run, left_for_good, without_standing, asks, is_traceless, is_reader_act}
+use Rattle.protocol_laws.specs.Tracks.{is_key_among, Bare}
 use Rattle.protocol_laws.specs.Places.{FirmUpTo, Places}
 use Rattle.protocol_laws.proofs.first.EpochsKept as epochs
 use Rattle.protocol_laws.proofs.first.CellEpochs as cells
 use Rattle.protocol_laws.proofs.first.SettlingKept as settling
+use Rattle.protocol_laws.proofs.machine.TrackLists
 use Rattle.protocol_laws.proofs.machine.TracksKept as tracks
 use Rattle.protocol_laws.proofs.machine.TracksKept.{beside, beside_same, in_range, arrives}
 use Rattle.protocol_laws.proofs.machine.PlaceLists
@@ -26,9 +27,9 @@ use Rattle.protocol_laws.proofs.first.Lists.{all_found}
 -- What is taken from invariants of controls and of ACTs.
 unfoldable pub Owed : {C : Type 0} → Fixed C → Event → Machine C → History → Type 0
 -- a control in the inbox is of an entry that is not complete
-Owed w (Run t a) s h = (e : Entry) → find (is_entry_of t) (cell_at s a).entries ≡ Some e → complete_mark e ≡ false
--- an ACT that leaves sealed has only batches ahead of it that are firm
-Owed w (Finish t a) s h = (a < length s.cells) × (cell.is_undone_act (act_of t s.book.acts) ≡ false → FirmUpTo s.desk.settled s.book.cascades (OfAct t) (h.long a))
+Owed w (Run t a) s h = ((e : Entry) → find (is_entry_of t) (cell_at s a).entries ≡ Some e → complete_mark e ≡ false) × tracks.LeavesIt w t a s
+-- an ACT that leaves sealed has only batches ahead of it that are firm; a reader has nothing there
+Owed w (Finish t a) s h = (a < length s.cells) × (is_traceless (act_of t s.book.acts) ≡ false → FirmUpTo s.desk.settled s.book.cascades (OfAct t) (h.long a)) × (is_reader_act (act_of t s.book.acts) ≡ true → Bare (OfAct t) (h.long a))
 Owed w (Trim k a) s h = a < length s.cells
 Owed w _ s h = Unit {0}
 
@@ -83,10 +84,10 @@ placed_kept w (Form k) s h ok more n g = λ a. PlaceLists.form _ _ _ _ _ (h.long
 placed_kept w (Arrive k a) s h ok more n g =
     let m = message w k a s ok n.agreeing in
     beside (At s) s.cells a _ _ h.long (arrives (epoch s.book) a (λ c. c.epoch == epoch s.book) s.cells (sub_of k a s.post.subs) ok.1.1.0) (λ x. PlaceLists.place_batch _ _ _ _ _ k (h.long a) m.formed m.own m.behind x) g
-placed_kept w (Ask t a) s h ok more n g = beside (At s) s.cells a _ _ h.long (in_range _ s.cells a ok.1.1.0) (ask s t a (book.in_the_way t (cell_at s a).entries) (cell_at s a) (h.long a)) g
+placed_kept w (Ask t a) s h ok more n g = beside (At s) s.cells a _ _ h.long (in_range _ s.cells a ok.1.1.0) (ask s t a (book.in_the_way (lock_of t s.book.acts) (cell_at s a).entries) (cell_at s a) (h.long a)) g
 placed_kept w (Take t a) s h ok more n g = beside_same (At s) s.cells a _ h.long (in_range _ s.cells a ok.1.0) (λ x. x) g
 placed_kept w (Run t a) s h ok more n g =
-    beside (At s) s.cells a _ _ h.long (in_range _ s.cells a ok.0) (λ x. PlaceLists.same_batches _ _ _ _ _ (h.long a) _ (PlaceLists.batches_ran _ _ (h.long a)) (PlaceLists.firm_ran _ _ _ _ (h.long a) x.firm) x) g
+    beside (At s) s.cells a _ _ h.long (in_range _ s.cells a ok.0) (TrackLists.on_reads (At s a (cell_at s a)) (cell.reads_on t (cell_at s a).entries) _ _ (h.long a) (λ x. PlaceLists.same_batches _ _ _ _ _ (h.long a) _ (PlaceLists.batches_ran _ _ (h.long a)) (PlaceLists.firm_ran _ _ _ _ (h.long a) x.firm) x)) g
 placed_kept w (Send t a) s h ok more n g = beside_same (At s) s.cells a _ h.long (in_range _ s.cells a ok.0) (λ x. x) g
 placed_kept w (End t a) s h ok more n g = beside_same (At s) s.cells a _ h.long (in_range _ s.cells a ok.0) (λ x. x) g
 placed_kept w (Close t a) s h ok more n g = beside_same (At s) s.cells a _ h.long (in_range _ s.cells a ok.1.0) (λ x. x) g
@@ -96,7 +97,7 @@ placed_kept w (Settle k) s h ok more n g = λ a. PlaceLists.settle _ _ k _ _ _ (
 placed_kept w (Abort k) s h ok more n g = λ a. PlaceLists.cascade _ _ _ _ _ _ (h.long a) refl (settling.aborts_above w s k ok n.settling) (settling.firsts_at_most w s k ok n.settling) (g a)
 placed_kept w (Rollback a) s h ok more n g =
     beside (At s) s.cells a _ _ h.long (in_range _ s.cells a ok.0) (λ x. PlaceLists.roll_back _ _ _ _ _ (h.long a) (ltb-true _ _ (cells.held (λ c. nat_lt c.epoch (epoch s.book)) s.cells a no_cell ok.0)) x) g
-placed_kept w (Finish t a) s h ok more n g = beside (At s) s.cells a _ _ h.long more.0 (finish s t a (cell.is_undone_act (act_of t s.book.acts)) (cell_at s a) (h.long a) more.1) g
+placed_kept w (Finish t a) s h ok more n g = beside (At s) s.cells a _ _ h.long more.0 (finish s t a (is_traceless (act_of t s.book.acts)) (cell_at s a) (h.long a) more.1) g
 placed_kept w (Trim k a) s h ok more n g =
     let f = settling.trims_settled w s k a ok n.settling in
     beside (At s) s.cells a _ _ h.long more (λ x. PlaceLists.leave_batch _ _ _ _ _ k (h.long a) f.0 f.1 x) g
@@ -118,7 +119,7 @@ owed w (Arrive k a) s h ok more g =
     ap (is_key_among (OfBatch k)) (g.tracked a).stands ∙ PlaceLists.none_among k _ _ _ _ _ (h.long a) m.own m.behind (g.placed a)
 owed w (Run t a) s h ok more g = more
 owed w (Rollback a) s h ok more g = PlaceLists.cut_is_end s.desk.settled s.book.cascades (h.long a) (g.placed a).firm
-owed w (Finish t a) s h ok more g = more.0
+owed w (Finish t a) s h ok more g = (more.0, more.2)
 owed w (Trim k a) s h ok more g = more
 owed w e s h ok more g = tt
 

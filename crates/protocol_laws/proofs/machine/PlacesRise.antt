@@ -15,8 +15,8 @@ use Rattle.protocol.specs.Runs.{opening}
 use Rattle.protocol.specs.Contents.{Bids, BatchTids, Stages, AbortedMarks}
 use Rattle.protocol.specs.OnRing.{numbered}
 use Rattle.protocol.specs.OnDesk.{change_if, changed_batch, with_stage, taken}
-use Rattle.protocol.specs.History.{Done, History, done_pact, done_batch, done_act, slices_of, view_in, grown, no_history}
-use Rattle.protocol.specs.Chains.{is_place_below, IsBelowAll, PlacesRise}
+use Rattle.protocol.specs.History.{Done, History, done_pact, done_batch, done_act, act_view, grown, no_history}
+use Rattle.protocol.specs.Chains.{is_place_below, RivalsRise}
 use Rattle.protocol_laws.specs.Rising.{visits, visitors, number_of, PlacesDiffer, OpenAbove}
 use Rattle.protocol_laws.proofs.first.Frames.{frame}
 use Rattle.protocol_laws.proofs.first.Lists.{all_join, all_map, all_found, all_alike, all_alike3, all_filter, weaker, both_all, join_assoc, join_nil, filter_join}
@@ -61,34 +61,30 @@ act_differs d e m c q k = subst (λ p. (is_place_below d.place p ≡ true) ⊎ (
 -- each of these is above all before it, that came there where this one did
 pub AboveOn : ℕ → List Done → List Done → Type 0
 AboveOn a us [] = Unit {0}
-AboveOn a us (d ∷ ds) = (visits a d ≡ true → AllByRecursion (λ e. is_place_below e.place d.place ≡ true) (visitors a us)) × AboveOn a (us ++ d ∷ []) ds
+AboveOn a us (d ∷ ds) = (visits a d ≡ true → AllByRecursion (λ e. (e.reader && d.reader) ≡ false → is_place_below e.place d.place ≡ true) (visitors a us)) × AboveOn a (us ++ d ∷ []) ds
 
 pub DifferFrom : List Done → List Done → Type 0
 DifferFrom us [] = Unit {0}
 DifferFrom us (d ∷ ds) = AllByRecursion (λ e. Differ e d) us × DifferFrom (us ++ d ∷ []) ds
 
-one_above : (us : List Done) (d : Done) → AllByRecursion (λ e. is_place_below e.place d.place ≡ true) us → PlacesRise us → PlacesRise (us ++ d ∷ [])
+one_above : (us : List Done) (d : Done) → AllByRecursion (λ e. (e.reader && d.reader) ≡ false → is_place_below e.place d.place ≡ true) us → RivalsRise us → RivalsRise (us ++ d ∷ [])
 one_above [] d h r = (tt, tt)
-one_above (u ∷ us) d h r = (below us r.0 h.0, one_above us d h.1 r.1)
-  where
-    below : (xs : List Done) → IsBelowAll u.place xs → is_place_below u.place d.place ≡ true → IsBelowAll u.place (xs ++ d ∷ [])
-    below [] k e = (e, tt)
-    below (x ∷ xs) k e = (k.0, below xs k.1 e)
+one_above (u ∷ us) d h r = (all_join (λ e. (u.reader && e.reader) ≡ false → is_place_below u.place e.place ≡ true) us (d ∷ []) r.0 (h.0, tt), one_above us d h.1 r.1)
 
 one_differs : (us : List Done) (d : Done) → AllByRecursion (λ e. Differ e d) us → PlacesDiffer us → PlacesDiffer (us ++ d ∷ [])
 one_differs [] d h r = (tt, tt)
 one_differs (u ∷ us) d h r = (all_join (λ e. Differ u e) us (d ∷ []) r.0 (h.0, tt), one_differs us d h.1 r.1)
 
-pub rise_more : (a : ℕ) (us ds : List Done) → AboveOn a us ds → PlacesRise (visitors a us) → PlacesRise (visitors a (us ++ ds))
+pub rise_more : (a : ℕ) (us ds : List Done) → AboveOn a us ds → RivalsRise (visitors a us) → RivalsRise (visitors a (us ++ ds))
 unfolding AboveOn
-rise_more a us [] h r = subst (λ xs. PlacesRise (visitors a xs)) (sym (join_nil us)) r
+rise_more a us [] h r = subst (λ xs. RivalsRise (visitors a xs)) (sym (join_nil us)) r
 rise_more a us (d ∷ ds) h r =
-    subst (λ xs. PlacesRise (visitors a xs)) (join_assoc us (d ∷ []) ds)
-    (rise_more a (us ++ d ∷ []) ds h.1 (subst (λ xs. PlacesRise xs) (sym (filter_join (visits a) us (d ∷ []))) (by (visits a d) refl)))
+    subst (λ xs. RivalsRise (visitors a xs)) (join_assoc us (d ∷ []) ds)
+    (rise_more a (us ++ d ∷ []) ds h.1 (subst (λ xs. RivalsRise xs) (sym (filter_join (visits a) us (d ∷ []))) (by (visits a d) refl)))
   where
-    by : (b : Bool) → visits a d ≡ b → PlacesRise (visitors a us ++ (if b then d ∷ [] else []))
+    by : (b : Bool) → visits a d ≡ b → RivalsRise (visitors a us ++ (if b then d ∷ [] else []))
     by true e = one_above (visitors a us) d (h.0 e) r
-    by false e = subst (λ xs. PlacesRise xs) (sym (join_nil (visitors a us))) r
+    by false e = subst (λ xs. RivalsRise xs) (sym (join_nil (visitors a us))) r
 
 pub differ_more : (us ds : List Done) → DifferFrom us ds → PlacesDiffer us → PlacesDiffer (us ++ ds)
 unfolding DifferFrom
@@ -121,7 +117,7 @@ pacts_above k h a low us (p ∷ ps) u t =
     let here = weaker (λ e. (t : ℕ) → low ≤ t → is_place_below e.place (pact_place k t) ≡ true) (λ e. is_place_below e.place (pact_place k p.tid) ≡ true) us (λ e f. f p.tid t.0) u in
     let later = all_join (λ e. (t : ℕ) → p.tid + 1 ≤ t → is_place_below e.place (pact_place k t) ≡ true) us (done_pact k h p ∷ []) (weaker _ _ us (λ e f i l. f i (omega (arith, l, t.0))) u) ((λ i l. by_order (pact_place k p.tid) (pact_place k i) refl refl (omega (arith, l))), tt) in
     let rest = pacts_above k h a (p.tid + 1) (us ++ done_pact k h p ∷ []) ps later t.1 in
-    ((λ e. all_filter _ (visits a) us here, rest.0), (weaker _ _ us (λ e i. inl i) here, rest.1))
+    ((λ e. all_filter _ (visits a) us (weaker _ _ us (λ e i f. i) here), rest.0), (weaker _ _ us (λ e i. inl i) here, rest.1))
 
 -- ---- open batches
 
@@ -189,7 +185,7 @@ settled_below w s m h l =
 -- ---- the premise: an ACT that is decided has a before number at least as great as those of all that committed on its actors
 
 unfoldable pub BeforeIsHigh : {C : Type 0} → Event → Machine C → History → Type 0
-BeforeIsHigh (Decide t) s h = (x : Act) → act_of t s.book.acts ≡ Some x → (a : ℕ) → is_some (view_in x.tid (slices_of (OfAct x.tid) (h.long a))) ≡ true → AllByRecursion (λ e. number_of e ≤ x.m) (visitors a h.committed)
+BeforeIsHigh (Decide t) s h = (x : Act) → act_of t s.book.acts ≡ Some x → (a : ℕ) → is_some (act_view h x a) ≡ true → AllByRecursion (λ e. (e.reader && x.reader) ≡ false → number_of e ≤ x.m) (visitors a h.committed)
 BeforeIsHigh e s h = Unit {0}
 
 -- ---- what is kept
@@ -200,7 +196,7 @@ pub record PlacesStand {C : Type 0} (w : Fixed C) (s : Machine C) (h : History) 
   pub low : AllByRecursion (λ d. (d.place.batch.0 < s.ring.next_bid) × OpenAbove d.place.batch.0 s.desk.batches) h.committed
   pub sided : AllByRecursion (λ d. IsSided s.book.next_c d.place) h.committed
   pub differ : PlacesDiffer h.committed
-  pub rise : (a : ℕ) → PlacesRise (visitors a h.committed)
+  pub rise : (a : ℕ) → RivalsRise (visitors a h.committed)
 
 pub below_open : (n k : ℕ) (bs : List Batch) (b : Batch) → batch_of k bs ≡ Some b → is_open b ≡ true → OpenAbove n bs → n < k
 below_open n k bs b e o h = let f = all_found (λ b. is_open b ≡ true → n < b.bid) (λ b. b.bid == k) bs b h e in omega (arith, f.0 o, eqb-true b.bid k f.1)
@@ -238,16 +234,16 @@ commits w k s h g (Some b) e v =
 -- ---- an ACT is decided
 
 decides : {C : Type 0} (w : Fixed C) (t : ℕ) (s : Machine C) (h : History) → PlacesStand w s h
-    → ((x : Act) → act_of t s.book.acts ≡ Some x → (a : ℕ) → is_some (view_in x.tid (slices_of (OfAct x.tid) (h.long a))) ≡ true → AllByRecursion (λ e. number_of e ≤ x.m) (visitors a h.committed))
+    → ((x : Act) → act_of t s.book.acts ≡ Some x → (a : ℕ) → is_some (act_view h x a) ≡ true → AllByRecursion (λ e. (e.reader && x.reader) ≡ false → number_of e ≤ x.m) (visitors a h.committed))
     → (o : Option Act) → act_of t s.book.acts ≡ o → holds (λ x. nat_le x.m (max s.desk.settled (base w.text))) o ≡ true
     → ((a : ℕ) → AboveOn a h.committed (done_act s.book.next_c h o)) × (DifferFrom h.committed (done_act s.book.next_c h o)
     × (AllByRecursion (λ d. (d.place.batch.0 < s.ring.next_bid) × OpenAbove d.place.batch.0 s.desk.batches) (done_act s.book.next_c h o) × AllByRecursion (λ d. IsSided (s.book.next_c + 1) d.place) (done_act s.book.next_c h o)))
 unfolding AboveOn DifferFrom
 decides w t s h g q None e v = (λ a. tt, (tt, (tt, tt)))
 decides w t s h g q (Some x) e v = (
-  λ a. ((λ i. both_all _ _ _ (visitors a h.committed) (λ d j k. act_above d.place x.m s.book.next_c j k) (q x e a i) (all_filter _ (visits a) h.committed g.sided)), tt),
+  λ a. ((λ i. both_all (λ d. (d.reader && x.reader) ≡ false → number_of d ≤ x.m) (λ d. IsSided s.book.next_c d.place) (λ d. (d.reader && x.reader) ≡ false → is_place_below d.place (act_place x.m s.book.next_c) ≡ true) (visitors a h.committed) (λ d j k f. act_above d.place x.m s.book.next_c (j f) k) (q x e a i) (all_filter _ (visits a) h.committed g.sided)), tt),
   (
-    (weaker _ _ h.committed (λ d k. act_differs d (record { who = OfAct x.tid; tid = x.tid; tx = x.tx; place = act_place x.m s.book.next_c; result = x.result; views = λ a. view_in x.tid (slices_of (OfAct x.tid) (h.long a)) }) x.m s.book.next_c refl k) g.sided, tt),
+    (weaker _ _ h.committed (λ d k. act_differs d (record { who = OfAct x.tid; tid = x.tid; tx = x.tx; place = act_place x.m s.book.next_c; result = x.result; reader = x.reader; views = Rattle.protocol.specs.History.act_view h x }) x.m s.book.next_c refl k) g.sided, tt),
     ((settled_below w s x.m g.settles (leb-true x.m (max s.desk.settled (base w.text)) v), tt), (inr (refl, omega arith), tt)),
   ),
 )

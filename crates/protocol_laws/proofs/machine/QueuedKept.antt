@@ -1,5 +1,5 @@
 -- PACTs of the desk are PACTs of the text, and the actors of batches exist.
-use Rattle.std.specs.Prelude.{◌≡◌, refl, ℕ, zero, suc, ◌+◌, ◌%◌, ◌≤◌, ◌<◌, ◌==◌, Bool, true, false, ◌⊎◌, if◌then◌else◌, Option, Some, None, is_some, List, [], ◌∷◌, ◌++◌, length, map, take, replicate, slice_set}
+use Rattle.std.specs.Prelude.{◌≡◌, refl, ℕ, zero, suc, ◌+◌, ◌%◌, ◌≤◌, ◌<◌, ◌==◌, Bool, true, false, ◌⊎◌, if◌then◌else◌, Option, Some, None, is_some, List, [], ◌∷◌, ◌++◌, length, map, take, replicate, slice_set, ◌&&◌, not}
 use Rattle.std.specs.List.{AllByRecursion}
 use Rattle.std.proofs.Common.{arith, sym, ap, subst, inl, inr, ◌∙◌}
 use Rattle.std.proofs.lemmas.Bool.{true≢false, eqb-true, eq-eqb, ne_eqb, or_cases, le-leb, cases_Bool}
@@ -182,7 +182,7 @@ join_back t (x ∷ xs) ys h = elim (or_cases (is_who x (OfAct t)) (is_kept (OfAc
 
 own_kept : (t u : ℕ) (acts : List Act) (o : Option Act) → act_of u acts ≡ o → is_kept (OfAct t) (kept_act o) ≡ true → is_some (act_of t acts) ≡ true
 own_kept t u acts None e h = absurd (true≢false (sym h))
-own_kept t u acts (Some x) e h = by (is_value x.result) h
+own_kept t u acts (Some x) e h = by (is_value x.result && not x.reader) h
   where
     by : (b : Bool) → is_kept (OfAct t) (if b then OfAct x.tid ∷ [] else []) ≡ true → is_some (act_of t acts) ≡ true
     by true q = elim (or_cases (x.tid == t) false q) [ inl v ↦ subst (λ z. is_some (act_of z acts) ≡ true) (sym (ActsFound.found_tid u x acts e) ∙ eqb-true x.tid t v) (ap is_some e) | inr v ↦ absurd (true≢false (sym v)) ]

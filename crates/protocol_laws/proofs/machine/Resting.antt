@@ -8,9 +8,10 @@ use Rattle.snap_base.specs.declared.transactions.State.{State}
 use Rattle.snap_base.specs.declared.transactions.Tx.{Tx}
 use Rattle.snap_base.specs.declared.transactions.TxResult.{TxResult}
 use Rattle.protocol.specs.Fixed.{Fixed, Next, Go, Ended, is_pact}
+use Rattle.protocol.specs.Rivals.{Lock}
 use Rattle.protocol.specs.Parts.{Pact, Batch, Entry, BatchEntry, ActEntry, Waiting, Outcome, SubBatch, Committing, Settled, Cascade, Cell, Machine}
 use Rattle.protocol.specs.Events.{Event, Form, Admit, Arrive, Ask, Take, Run, Send, End, Close, Complete, Note, Commit, Settle, Abort, Rollback, Finish, Trim}
-use Rattle.protocol.specs.Words.{holds, names_pact, pact_result, result_among, waiting_of, outcome_of, without_outcome, has_act, is_ended, who_of, sub_of}
+use Rattle.protocol.specs.Words.{holds, names_pact, pact_result, result_among, waiting_of, outcome_of, without_outcome, has_act, is_ended, who_of, sub_of, lock_of}
 use Rattle.protocol.specs.Conditions.{IsAllowed, conditions}
 use Rattle.protocol.specs.Effects.{after, cell_at, puts, no_cell}
 use Rattle.protocol.specs.Facts.{Alone, Facts}
@@ -218,7 +219,7 @@ arrive_undone : (u k : ℕ) (o : Option SubBatch) (es : List Entry) → AllByRec
 arrive_undone u k None es h = rw (append-nil es) h
 arrive_undone u k (Some m) es h = all_join (NotDone u) es _ h (new_undone u m.tids, tt)
 
-ask_undone : (u t : ℕ) (o : Option ℕ) (es : List Entry) → AllByRecursion (NotDone u) es → AllByRecursion (NotDone u) (es ++ cell.act_entries t o)
+ask_undone : (u : ℕ) (t : Lock) (o : Option ℕ) (es : List Entry) → AllByRecursion (NotDone u) es → AllByRecursion (NotDone u) (es ++ cell.act_entries t o)
 ask_undone u t None es h = all_join (NotDone u) es _ h (tt, tt)
 ask_undone u t (Some x) es h = rw (append-nil es) h
 
@@ -250,7 +251,7 @@ stay_undone u cs (e ∷ es) h = by (is_cut cs (who_of e)) (stay_undone u cs es h
 pub undone_stays : {C : Type 0} (w : Fixed C) (e : Event) (s : Machine C) (u : ℕ) → Spares e u → (i : ℕ) → (AllByRecursion (NotDone u) (cell_at s i).entries → AllByRecursion (NotDone u) (cell_at (after w e s) i).entries)
 unfolding after
 undone_stays w (Arrive k a) s u d i = one_at u s.cells a _ (arrive_undone u k (sub_of k a s.post.subs) (cell_at s a).entries) i
-undone_stays w (Ask t a) s u d i = one_at u s.cells a _ (ask_undone u t (book.in_the_way t (cell_at s a).entries) (cell_at s a).entries) i
+undone_stays w (Ask t a) s u d i = one_at u s.cells a _ (ask_undone u (lock_of t s.book.acts) (book.in_the_way (lock_of t s.book.acts) (cell_at s a).entries) (cell_at s a).entries) i
 undone_stays w (Take t a) s u d i = one_at u s.cells a _ (λ g. g) i
 undone_stays w (Run t a) s u d i = one_at u s.cells a _ (run_undone u t (cell.is_done_after w.code a (cell.slice_of w.code t (cell_at s a))) (cell_at s a).entries d) i
 undone_stays w (Send t a) s u d i = one_at u s.cells a _ (λ g. g) i

@@ -1,44 +1,50 @@
 -- Where what committed still shows on each actor, event by event.
-use Rattle.std.specs.Prelude.{◌≡◌, refl, ℕ, ◌<◌, ◌≤◌, ◌==◌, nat_le, max, not, Bool, true, false, ◌&&◌, ◌||◌, ◌⊎◌, if◌then◌else◌, Option, Some, None, is_some, List, [], ◌∷◌, ◌++◌, length, map}
+use Rattle.std.specs.Prelude.{◌≡◌, refl, ℕ, ◌<◌, ◌≤◌, ◌==◌, nat_le, not, Bool, true, false, ◌&&◌, ◌||◌, ◌⊎◌, if◌then◌else◌, Option, Some, None, is_some, List, [], ◌∷◌, ◌++◌, length, map}
 use Rattle.std.specs.List.{AllByRecursion}
 use Rattle.std.proofs.Common.{arith, sym, ap, subst, inl, inr, ◌∙◌}
 use Rattle.std.proofs.lemmas.List.{append-nil}
 use Rattle.std.proofs.lemmas.Bool.{eqb-true, eqb-false, leb-true, le-leb, and_parts, and_from, or_cases, or_left, or_right, not-true, true≢false, false_from_ne_true, cases_Bool}
 use Rattle.protocol.specs.Fixed.{Fixed}
-use Rattle.protocol.specs.Parts.{Act, Batch, Pact, Cascade, Who, OfBatch, OfAct, Status, Live, Doomed, Decided, Sealed, SubBatch, Cell, Machine}
+use Rattle.protocol.specs.Parts.{Act, Batch, Pact, Cascade, Who, OfBatch, OfAct, Status, Live, Doomed, Decided, Sealed, SubBatch, FloorPair, Cell, Machine}
 use Rattle.protocol.specs.Events.{Event, Arrive, Ask, Take, Run, Send, End, Close, Complete, Commit, Abort, Rollback, Decide, Finish, Trim}
-use Rattle.protocol.specs.Words.{holds, is_among, is_aborted, is_doomed, is_decided, is_sealed, is_formed, is_live_status, is_open, is_value, is_who, declared_of, act_of, batch_of, sub_of}
+use Rattle.protocol.specs.Words.{holds, is_among, is_aborted, is_doomed, is_decided, is_sealed, is_formed, is_live_status, is_open, is_value, is_who, declared_of, act_of, batch_of, sub_of, lock_of}
 use Rattle.protocol.specs.Conditions.{IsAllowed, conditions, epoch}
 use Rattle.protocol.specs.Effects.{after, cell_at}
 use Rattle.protocol.specs.OnBook as book
 use Rattle.protocol.specs.OnCell as cell
 use Rattle.protocol.specs.OnCell.{is_cut}
 use Rattle.protocol.specs.Verdicts.{act_place}
-use Rattle.protocol.specs.History.{History, Done, Ran, Stands, Gone, grown, with_at, not_run, ran_in, completed, left_for_good, without_standing, long_staying, asks, batches_in, slices_of, view_in, done_pact, done_batch, done_act, kept_act}
+use Rattle.protocol.specs.History.{History, Done, Ran, Stands, Gone, grown, with_at, not_run, ran_in, completed, left_for_good, without_standing, long_staying, asks, batches_in, slices_of, view_in, act_view, done_pact, done_batch, done_act, kept_act, is_traceless}
 use Rattle.protocol_laws.specs.Tracks.{keys_in, is_key_among}
 use Rattle.protocol_laws.specs.Commits.{is_kept, KeptFront}
 use Rattle.protocol_laws.specs.Marks.{Marked, Known}
 use Rattle.protocol_laws.specs.FromDesk.{is_declared, MessageOf, FromDesk}
 use Rattle.protocol_laws.specs.Rising.{visits, visitors, number_of, OpenAbove}
-use Rattle.protocol_laws.specs.Highs.{TakenAlong, is_above_or_aborted, StandsBelow, Shows}
+use Rattle.protocol_laws.specs.Highs.{own_floor, TakenAlong, is_above_or_aborted, StandsBelow, Shows}
 use Rattle.protocol_laws.proofs.machine.DecidedStays.{is_fixed, Spared, stays_decided}
 use Rattle.protocol_laws.proofs.first.SettlingKept as settling
 use Rattle.protocol_laws.proofs.machine.TracksKept.{beside, beside_same, in_range, arrives}
 use Rattle.protocol_laws.proofs.machine.TurnsKept.{one_is, Turned}
 use Rattle.protocol_laws.proofs.machine.CommitsKept.{MayDecide, Committed}
 use Rattle.protocol_laws.proofs.machine.PlaceLists
+use Rattle.protocol_laws.proofs.machine.TrackLists
+use Rattle.protocol_laws.proofs.machine.ActsGrow.{Grows, acts_grow, grown_holds}
+use Rattle.protocol_laws.proofs.first.Agree.{agree, agree_is, agree_same}
 use Rattle.protocol_laws.proofs.machine.ShowLists
 use Rattle.protocol_laws.proofs.first.Lists.{all_filter, all_found, all_join, both_all, filter_join, weaker}
 
 -- ---- what committed is told
 
--- a batch has committed; an ACT is decided, with this number
-abbrev pub IsTold : List Who → List Act → ℕ → Who → Type 0
-IsTold kept acts n (OfBatch k) = is_kept (OfBatch k) kept ≡ true
-IsTold kept acts n (OfAct t) = holds (is_fixed n) (act_of t acts) ≡ true
+-- a batch has committed; an ACT is decided, with this number, and reads or not
+abbrev pub IsTold : List Who → List Act → Bool → ℕ → Who → Type 0
+IsTold kept acts r n (OfBatch k) = is_kept (OfBatch k) kept ≡ true
+IsTold kept acts r n (OfAct t) = (holds (is_fixed n) (act_of t acts) ≡ true) × (holds (λ x. agree x.reader r) (act_of t acts) ≡ true)
 
 abbrev pub ToldOf : List Who → List Act → Done → Type 0
-ToldOf kept acts d = IsTold kept acts (number_of d) d.who
+ToldOf kept acts d = IsTold kept acts d.reader (number_of d) d.who
+
+pub kind_stays : (xs ys : List Act) (t : ℕ) (r : Bool) → Grows xs ys → holds (λ x. agree x.reader r) (act_of t xs) ≡ true → holds (λ x. agree x.reader r) (act_of t ys) ≡ true
+kind_stays xs ys t r g h = grown_holds (λ x. agree x.reader r) xs ys t (λ x y k q. subst (λ v. agree v r ≡ true) (sym k.reader) q) g h
 
 unfoldable pub AllTold : {C : Type 0} → Machine C → History → Type 0
 AllTold s h = AllByRecursion (ToldOf h.kept s.book.acts) h.committed
@@ -94,16 +100,16 @@ kept_last k (x ∷ xs) = or_right (is_who x (OfBatch k)) _ (kept_last k xs)
 told_stays : {C : Type 0} (w : Fixed C) (e : Event) (s : Machine C) (h : History) (more : List Who) → Owed e s h → (d : Done) → ToldOf h.kept s.book.acts d → ToldOf (h.kept ++ more) (after w e s).book.acts d
 told_stays w e s h more o d k = by d.who k
   where
-    by : (y : Who) → IsTold h.kept s.book.acts (number_of d) y → IsTold (h.kept ++ more) (after w e s).book.acts (number_of d) y
+    by : (y : Who) → IsTold h.kept s.book.acts d.reader (number_of d) y → IsTold (h.kept ++ more) (after w e s).book.acts d.reader (number_of d) y
     by (OfBatch j) k = kept_join (OfBatch j) h.kept more k
-    by (OfAct t) k = fixed_stays w e s h (number_of d) t o k
+    by (OfAct t) k = (fixed_stays w e s h (number_of d) t o k.0, kind_stays s.book.acts (after w e s).book.acts t d.reader (acts_grow w e s) k.1)
 
 told_same : {C : Type 0} (w : Fixed C) (e : Event) (s : Machine C) (h : History) → Owed e s h → (d : Done) → ToldOf h.kept s.book.acts d → ToldOf h.kept (after w e s).book.acts d
 told_same w e s h o d k = by d.who k
   where
-    by : (y : Who) → IsTold h.kept s.book.acts (number_of d) y → IsTold h.kept (after w e s).book.acts (number_of d) y
+    by : (y : Who) → IsTold h.kept s.book.acts d.reader (number_of d) y → IsTold h.kept (after w e s).book.acts d.reader (number_of d) y
     by (OfBatch j) k = k
-    by (OfAct t) k = fixed_stays w e s h (number_of d) t o k
+    by (OfAct t) k = (fixed_stays w e s h (number_of d) t o k.0, kind_stays s.book.acts (after w e s).book.acts t d.reader (acts_grow w e s) k.1)
 
 told_pacts : (k : ℕ) (h : History) (kept : List Who) (acts : List Act) (ps : List Pact) → is_kept (OfBatch k) kept ≡ true → AllByRecursion (ToldOf kept acts) (map (done_pact k h) ps)
 told_pacts k h kept acts [] e = tt
@@ -142,15 +148,18 @@ unfolding AllTold Owed conditions after grown
 told_kept w (Commit k) s h ok o g = all_join (ToldOf (h.kept ++ OfBatch k ∷ []) s.book.acts) h.committed _ (weaker _ _ h.committed (told_stays w (Commit k) s h (OfBatch k ∷ []) o) g) (told_batch k h (h.kept ++ OfBatch k ∷ []) s.book.acts (batch_of k s.desk.batches) (kept_last k h.kept))
 told_kept w (Decide t) s h ok o g = all_join (ToldOf (h.kept ++ kept_act (act_of t s.book.acts)) (after w (Decide t) s).book.acts) h.committed _ (weaker _ _ h.committed (told_stays w (Decide t) s h (kept_act (act_of t s.book.acts)) o) g) (own (act_of t s.book.acts) o.1.is_it)
   where
+    same : holds (λ x. agree x.reader o.0.reader) (act_of t (after w (Decide t) s).book.acts) ≡ true
+    same = kind_stays s.book.acts (after w (Decide t) s).book.acts t o.0.reader (acts_grow w (Decide t) s) (subst (λ z. holds (λ x. agree x.reader o.0.reader) z ≡ true) (sym o.1.is_it) (agree_same o.0.reader))
+
     own : (q : Option Act) → q ≡ Some o.0 → AllByRecursion (ToldOf (h.kept ++ kept_act (act_of t s.book.acts)) (after w (Decide t) s).book.acts) (done_act s.book.next_c h q)
     own None e = tt
-    own (Some x) e = let i : x ≡ o.0 = cc e in (rw (i, o.1.tid) (decided_now s.book.next_c t o.0 s.book.acts o.1.is_it (live_here t o.0 (act_of t s.book.acts) o.1.is_it ok.0)), tt)
+    own (Some x) e = let i : x ≡ o.0 = cc e in ((rw (i, o.1.tid) (decided_now s.book.next_c t o.0 s.book.acts o.1.is_it (live_here t o.0 (act_of t s.book.acts) o.1.is_it ok.0)), rw (i, o.1.tid) same), tt)
 told_kept w e s h ok o g = weaker _ _ h.committed (told_same w e s h o) g
 
 -- ---- where it shows
 
 abbrev pub ShowsOn : {C : Type 0} → List Cascade → List Done → ℕ → Cell C → List Ran → Type 0
-ShowsOn cs ds a c long = AllByRecursion (λ d. Shows cs c.floor (number_of d) d.who long) (visitors a ds)
+ShowsOn cs ds a c long = AllByRecursion (λ d. Shows cs (own_floor d.reader c.floors) (number_of d) d.who long) (visitors a ds)
 
 unfoldable pub Showing : {C : Type 0} → Machine C → History → Type 0
 Showing s h = (a : ℕ) → ShowsOn s.book.cascades h.committed a (cell_at s a) (h.long a)
@@ -162,10 +171,10 @@ IsLow next bs d = (number_of d < next) × OpenAbove (number_of d) bs
 abbrev pub FactsOf : List Who → List Act → ℕ → List Batch → Done → Type 0
 FactsOf kept acts next bs d = ToldOf kept acts d × IsLow next bs d
 
-show_change : (P : Done → Type 0) (a : ℕ) (ds : List Done) (cs cs' : List Cascade) (f f' : ℕ) (long long' : List Ran) → AllByRecursion P ds
-    → ((d : Done) → P d → Shows cs f (number_of d) d.who long → Shows cs' f' (number_of d) d.who long')
-    → AllByRecursion (λ d. Shows cs f (number_of d) d.who long) (visitors a ds) → AllByRecursion (λ d. Shows cs' f' (number_of d) d.who long') (visitors a ds)
-show_change P a ds cs cs' f f' long long' p k h = both_all P (λ d. Shows cs f (number_of d) d.who long) (λ d. Shows cs' f' (number_of d) d.who long') (visitors a ds) k (all_filter P (visits a) ds p) h
+show_change : (P : Done → Type 0) (a : ℕ) (ds : List Done) (cs cs' : List Cascade) (f f' : FloorPair) (long long' : List Ran) → AllByRecursion P ds
+    → ((d : Done) → P d → Shows cs (own_floor d.reader f) (number_of d) d.who long → Shows cs' (own_floor d.reader f') (number_of d) d.who long')
+    → AllByRecursion (λ d. Shows cs (own_floor d.reader f) (number_of d) d.who long) (visitors a ds) → AllByRecursion (λ d. Shows cs' (own_floor d.reader f') (number_of d) d.who long') (visitors a ds)
+show_change P a ds cs cs' f f' long long' p k h = both_all P (λ d. Shows cs (own_floor d.reader f) (number_of d) d.who long) (λ d. Shows cs' (own_floor d.reader f') (number_of d) d.who long') (visitors a ds) k (all_filter P (visits a) ds p) h
 
 -- ---- one, at each change
 
@@ -200,42 +209,54 @@ show_cascade : (cs : List Cascade) (c : Cascade) (f n : ℕ) (y : Who) (long : L
 show_cascade cs c f n (OfBatch j) long h = h
 show_cascade cs c f n (OfAct u) long h = elim h [ inl l ↦ inl l | inr b ↦ inr (ShowLists.below_cascade cs c n u long b) ]
 
-show_staying : (cs : List Cascade) (kept : List Who) (acts : List Act) (f n : ℕ) (y : Who) (long : List Ran) → ((y : Who) → is_cut cs y ≡ true → is_kept y kept ≡ false) → KeptFront kept long → TakenAlong cs acts long → IsTold kept acts n y
+show_staying : (cs : List Cascade) (kept : List Who) (acts : List Act) (r : Bool) (f n : ℕ) (y : Who) (long : List Ran) → ((y : Who) → is_cut cs y ≡ true → is_kept y kept ≡ false) → KeptFront kept long → TakenAlong cs acts long → IsTold kept acts r n y
     → Shows cs f n y long → Shows cs f n y (long_staying cs long)
-show_staying cs kept acts f n (OfBatch j) long c k x t h = (h.0, ShowLists.among_staying kept cs j long c k t h.1)
-show_staying cs kept acts f n (OfAct u) long c k x t h = elim h [
+show_staying cs kept acts r f n (OfBatch j) long c k x t h = (h.0, ShowLists.among_staying kept cs j long c k t h.1)
+show_staying cs kept acts r f n (OfAct u) long c k x t h = elim h [
   | inl l ↦ inl l
-  | inr b ↦ inr (ShowLists.below_staying cs acts n u long (λ d. two_of (is_fixed n) (λ x. is_doomed x.status) (act_of u acts) t d (λ x p q. true≢false (sym q ∙ fixed_not_doomed n x p))) x b)
+  | inr b ↦ inr (ShowLists.below_staying cs acts n u long (λ d. two_of (is_fixed n) (λ x. is_doomed x.status) (act_of u acts) t.0 d (λ x p q. true≢false (sym q ∙ fixed_not_doomed n x p))) x b)
 ]
 
--- an ACT that leaves sealed raises the floor
-floor_of : (f n : ℕ) (o : Option Act) → holds (is_fixed n) o ≡ true → holds (λ x. is_doomed x.status || is_sealed x.status) o ≡ true → n ≤ cell.floor_after f o
-floor_of f n None e v = absurd (true≢false (sym e))
-floor_of f n (Some x) e v = by (is_sealed x.status) (or_cases (is_doomed x.status) (is_sealed x.status) v)
+-- an ACT that leaves sealed raises its floor
+floor_of : (r : Bool) (f : FloorPair) (n : ℕ) (o : Option Act) → holds (is_fixed n) o ≡ true → holds (λ x. agree x.reader r) o ≡ true → holds (λ x. is_doomed x.status || is_sealed x.status) o ≡ true → n ≤ own_floor r (cell.floors_after f o)
+floor_of r f n None e i v = absurd (true≢false (sym e))
+floor_of r f n (Some x) e i v = by (is_sealed x.status) (or_cases (is_doomed x.status) (is_sealed x.status) v)
   where
     num : n ≡ x.m
     num = sym (eqb-true x.m n (and_parts (is_decided x.status || is_sealed x.status) (x.m == n) e).1)
 
-    by : (b : Bool) → (is_doomed x.status ≡ true) ⊎ (b ≡ true) → n ≤ (if b then max f x.m else f)
-    by true q = omega (arith, num)
+    raised : (v : Bool) → v ≡ r → n ≤ own_floor r (cell.raised_floors v x.m f)
+    raised true q = subst (λ z. n ≤ own_floor z (cell.raised_floors true x.m f)) q (omega (arith, num))
+    raised false q = subst (λ z. n ≤ own_floor z (cell.raised_floors false x.m f)) q (omega (arith, num))
+
+    by : (b : Bool) → (is_doomed x.status ≡ true) ⊎ (b ≡ true) → n ≤ own_floor r (if b then cell.raised_floors x.reader x.m f else f)
+    by true q = raised x.reader (agree_is x.reader r i)
     by false (inl d) = absurd (true≢false (sym d ∙ fixed_not_doomed n x e))
     by false (inr d) = absurd (true≢false (sym d))
 
-pub floor_rises : (f : ℕ) (o : Option Act) → f ≤ cell.floor_after f o
-floor_rises f None = omega arith
+pub floor_rises : (f : FloorPair) (o : Option Act) → (f.write ≤ (cell.floors_after f o).write) × (f.read ≤ (cell.floors_after f o).read)
+floor_rises f None = (omega arith, omega arith)
 floor_rises f (Some x) = by (is_sealed x.status)
   where
-    by : (b : Bool) → f ≤ (if b then max f x.m else f)
-    by true = omega arith
-    by false = omega arith
+    raised : (v : Bool) → (f.write ≤ (cell.raised_floors v x.m f).write) × (f.read ≤ (cell.raised_floors v x.m f).read)
+    raised true = (omega arith, omega arith)
+    raised false = (omega arith, omega arith)
 
-show_finish : (cs : List Cascade) (kept : List Who) (acts : List Act) (f n t : ℕ) (q : Bool) (y : Who) (long : List Ran) → holds (λ x. is_doomed x.status || is_sealed x.status) (act_of t acts) ≡ true → IsTold kept acts n y
-    → Shows cs f n y long → Shows cs (cell.floor_after f (act_of t acts)) n y (if q then without_standing (OfAct t) long else map (left_for_good (OfAct t)) long)
-show_finish cs kept acts f n t true (OfBatch j) long v k h = (h.0, same_batches j long (without_standing (OfAct t) long) (PlaceLists.batches_without_act t long) h.1)
-show_finish cs kept acts f n t false (OfBatch j) long v k h = (h.0, same_batches j long (map (left_for_good (OfAct t)) long) (PlaceLists.batches_left (OfAct t) long) h.1)
-show_finish cs kept acts f n t q (OfAct u) long v k h = elim (cases_Bool (u == t)) [
-  | inl e ↦ inl (floor_of f n (act_of t acts) (subst (λ z. holds (is_fixed n) (act_of z acts) ≡ true) (eqb-true u t e) k) v)
-  | inr e ↦ elim h [ inl l ↦ inl (omega (arith, l, floor_rises f (act_of t acts))) | inr b ↦ inr (by q e b) ]
+    by : (b : Bool) → (f.write ≤ (if b then cell.raised_floors x.reader x.m f else f).write) × (f.read ≤ (if b then cell.raised_floors x.reader x.m f else f).read)
+    by true = raised x.reader
+    by false = (omega arith, omega arith)
+
+pub own_rises : (r : Bool) (f : FloorPair) (o : Option Act) → own_floor r f ≤ own_floor r (cell.floors_after f o)
+own_rises true f o = (floor_rises f o).1
+own_rises false f o = (floor_rises f o).0
+
+show_finish : (cs : List Cascade) (kept : List Who) (acts : List Act) (r : Bool) (f : FloorPair) (n t : ℕ) (q : Bool) (y : Who) (long : List Ran) → holds (λ x. is_doomed x.status || is_sealed x.status) (act_of t acts) ≡ true → IsTold kept acts r n y
+    → Shows cs (own_floor r f) n y long → Shows cs (own_floor r (cell.floors_after f (act_of t acts))) n y (if q then without_standing (OfAct t) long else map (left_for_good (OfAct t)) long)
+show_finish cs kept acts r f n t true (OfBatch j) long v k h = (h.0, same_batches j long (without_standing (OfAct t) long) (PlaceLists.batches_without_act t long) h.1)
+show_finish cs kept acts r f n t false (OfBatch j) long v k h = (h.0, same_batches j long (map (left_for_good (OfAct t)) long) (PlaceLists.batches_left (OfAct t) long) h.1)
+show_finish cs kept acts r f n t q (OfAct u) long v k h = elim (cases_Bool (u == t)) [
+  | inl e ↦ let i : u ≡ t = eqb-true u t e in inl (floor_of r f n (act_of t acts) (subst (λ z. holds (is_fixed n) (act_of z acts) ≡ true) i k.0) (subst (λ z. holds (λ x. agree x.reader r) (act_of z acts) ≡ true) i k.1) v)
+  | inr e ↦ elim h [ inl l ↦ inl (omega (arith, l, own_rises r f (act_of t acts))) | inr b ↦ inr (by q e b) ]
 ]
   where
     by : (q : Bool) → (u == t) ≡ false → StandsBelow cs n u long → StandsBelow cs n u (if q then without_standing (OfAct t) long else map (left_for_good (OfAct t)) long)
@@ -253,34 +274,34 @@ viewed who t (Stands y c ss ∷ rs) h = by (is_who y who) h (viewed who t rs)
     by false h r = r h
 viewed who t (Gone y ss ∷ rs) h = viewed who t rs h
 
-show_pacts : (cs : List Cascade) (k a f : ℕ) (h : History) (ps : List Pact) → AllByRecursion (λ d. Shows cs f (number_of d) d.who (h.long a)) (visitors a (map (done_pact k h) ps))
+show_pacts : (cs : List Cascade) (k a : ℕ) (f : FloorPair) (h : History) (ps : List Pact) → AllByRecursion (λ d. Shows cs (own_floor d.reader f) (number_of d) d.who (h.long a)) (visitors a (map (done_pact k h) ps))
 show_pacts cs k a f h [] = tt
 show_pacts cs k a f h (p ∷ ps) = by (visits a (done_pact k h p)) refl (show_pacts cs k a f h ps)
   where
-    by : (b : Bool) → visits a (done_pact k h p) ≡ b → AllByRecursion (λ d. Shows cs f (number_of d) d.who (h.long a)) (visitors a (map (done_pact k h) ps))
-        → AllByRecursion (λ d. Shows cs f (number_of d) d.who (h.long a)) (if b then done_pact k h p ∷ visitors a (map (done_pact k h) ps) else visitors a (map (done_pact k h) ps))
+    by : (b : Bool) → visits a (done_pact k h p) ≡ b → AllByRecursion (λ d. Shows cs (own_floor d.reader f) (number_of d) d.who (h.long a)) (visitors a (map (done_pact k h) ps))
+        → AllByRecursion (λ d. Shows cs (own_floor d.reader f) (number_of d) d.who (h.long a)) (if b then done_pact k h p ∷ visitors a (map (done_pact k h) ps) else visitors a (map (done_pact k h) ps))
     by true e r = ((refl, ShowLists.key_among k (h.long a) (viewed (OfBatch k) p.tid (h.long a) e)), r)
     by false e r = r
 
-show_done : (cs : List Cascade) (k a f : ℕ) (h : History) (o : Option Batch) → AllByRecursion (λ d. Shows cs f (number_of d) d.who (h.long a)) (visitors a (done_batch k h o))
+show_done : (cs : List Cascade) (k a : ℕ) (f : FloorPair) (h : History) (o : Option Batch) → AllByRecursion (λ d. Shows cs (own_floor d.reader f) (number_of d) d.who (h.long a)) (visitors a (done_batch k h o))
 show_done cs k a f h None = tt
 show_done cs k a f h (Some b) = show_pacts cs k a f h b.pacts
 
-show_decided : (cs : List Cascade) (c a f : ℕ) (h : History) (o : Option Act) → ((x : Act) → o ≡ Some x → is_key_among (OfAct x.tid) (keys_in (h.long a)) ≡ true → StandsBelow cs x.m x.tid (h.long a))
-    → AllByRecursion (λ d. Shows cs f (number_of d) d.who (h.long a)) (visitors a (done_act c h o))
+show_decided : (cs : List Cascade) (c a : ℕ) (f : FloorPair) (h : History) (o : Option Act) → ((x : Act) → o ≡ Some x → is_some (act_view h x a) ≡ true → StandsBelow cs x.m x.tid (h.long a))
+    → AllByRecursion (λ d. Shows cs (own_floor d.reader f) (number_of d) d.who (h.long a)) (visitors a (done_act c h o))
 show_decided cs c a f h None k = tt
-show_decided cs c a f h (Some x) k = by (is_some (view_in x.tid (slices_of (OfAct x.tid) (h.long a)))) refl
+show_decided cs c a f h (Some x) k = by (is_some (act_view h x a)) refl
   where
     unit : Done
-    unit = record { who = OfAct x.tid; tid = x.tid; tx = x.tx; place = act_place x.m c; result = x.result; views = λ a. view_in x.tid (slices_of (OfAct x.tid) (h.long a)) }
+    unit = record { who = OfAct x.tid; tid = x.tid; tx = x.tx; place = act_place x.m c; result = x.result; reader = x.reader; views = Rattle.protocol.specs.History.act_view h x }
 
-    by : (b : Bool) → is_some (view_in x.tid (slices_of (OfAct x.tid) (h.long a))) ≡ b → AllByRecursion (λ d. Shows cs f (number_of d) d.who (h.long a)) (if b then unit ∷ [] else [])
-    by true e = (inr (k x refl (viewed (OfAct x.tid) x.tid (h.long a) e)), tt)
+    by : (b : Bool) → is_some (act_view h x a) ≡ b → AllByRecursion (λ d. Shows cs (own_floor d.reader f) (number_of d) d.who (h.long a)) (if b then unit ∷ [] else [])
+    by true e = (inr (k x refl e), tt)
     by false e = tt
 
-show_join : (cs : List Cascade) (a f : ℕ) (long : List Ran) (ds es : List Done) → AllByRecursion (λ d. Shows cs f (number_of d) d.who long) (visitors a ds) → AllByRecursion (λ d. Shows cs f (number_of d) d.who long) (visitors a es)
-    → AllByRecursion (λ d. Shows cs f (number_of d) d.who long) (visitors a (ds ++ es))
-show_join cs a f long ds es h k = subst (AllByRecursion (λ d. Shows cs f (number_of d) d.who long)) (sym (filter_join (visits a) ds es)) (all_join (λ d. Shows cs f (number_of d) d.who long) (visitors a ds) (visitors a es) h k)
+show_join : (cs : List Cascade) (a : ℕ) (f : FloorPair) (long : List Ran) (ds es : List Done) → AllByRecursion (λ d. Shows cs (own_floor d.reader f) (number_of d) d.who long) (visitors a ds) → AllByRecursion (λ d. Shows cs (own_floor d.reader f) (number_of d) d.who long) (visitors a es)
+    → AllByRecursion (λ d. Shows cs (own_floor d.reader f) (number_of d) d.who long) (visitors a (ds ++ es))
+show_join cs a f long ds es h k = subst (AllByRecursion (λ d. Shows cs (own_floor d.reader f) (number_of d) d.who long)) (sym (filter_join (visits a) ds es)) (all_join (λ d. Shows cs (own_floor d.reader f) (number_of d) d.who long) (visitors a ds) (visitors a es) h k)
 
 -- ---- open batches
 
@@ -343,39 +364,39 @@ unfolding Showing Owed Committed conditions after grown
 shows_kept w (Arrive k a) s h ok o n b m p g =
     let P = FactsOf h.kept s.book.acts s.ring.next_bid s.desk.batches in
     beside (ShowsOn s.book.cascades h.committed) s.cells a _ _ h.long (arrives (epoch s.book) a (λ c. c.epoch == epoch s.book) s.cells (sub_of k a s.post.subs) ok.1.1.0)
-    (show_change P a h.committed s.book.cascades s.book.cascades (cell_at s a).floor (cell_at s a).floor (h.long a) (h.long a ++ not_run (OfBatch k) ∷ []) p
-    (λ d q x. show_batch s.book.cascades (cell_at s a).floor (number_of d) k d.who (h.long a) (open_or w s h (number_of d) k (λ b. is_some (declared_of a b)) b.settles b.marked q.1.1 (arrives_declared k a s b.from_desk ok.0) n) x)) g
+    (show_change P a h.committed s.book.cascades s.book.cascades (cell_at s a).floors (cell_at s a).floors (h.long a) (h.long a ++ not_run (OfBatch k) ∷ []) p
+    (λ d q x. show_batch s.book.cascades (own_floor d.reader (cell_at s a).floors) (number_of d) k d.who (h.long a) (open_or w s h (number_of d) k (λ b. is_some (declared_of a b)) b.settles b.marked q.1.1 (arrives_declared k a s b.from_desk ok.0) n) x)) g
 shows_kept w (Ask t a) s h ok o n b m p g =
     beside (ShowsOn s.book.cascades h.committed) s.cells a _ _ h.long (in_range _ s.cells a ok.1.1.0)
-    (weaker (λ d. Shows s.book.cascades (cell_at s a).floor (number_of d) d.who (h.long a)) _ (visitors a h.committed) (λ d x. show_act s.book.cascades (cell_at s a).floor (number_of d) t (book.in_the_way t (cell_at s a).entries) d.who (h.long a) x)) g
+    (weaker (λ d. Shows s.book.cascades (own_floor d.reader (cell_at s a).floors) (number_of d) d.who (h.long a)) _ (visitors a h.committed) (λ d x. show_act s.book.cascades (own_floor d.reader (cell_at s a).floors) (number_of d) t (book.in_the_way (lock_of t s.book.acts) (cell_at s a).entries) d.who (h.long a) x)) g
 shows_kept w (Take t a) s h ok o n b m p g = beside_same (ShowsOn s.book.cascades h.committed) s.cells a _ h.long (in_range _ s.cells a ok.1.0) (λ x. x) g
 shows_kept w (Run t a) s h ok o n b m p g =
     beside (ShowsOn s.book.cascades h.committed) s.cells a _ _ h.long (in_range _ s.cells a ok.0)
-    (weaker (λ d. Shows s.book.cascades (cell_at s a).floor (number_of d) d.who (h.long a)) _ (visitors a h.committed) (λ d x. show_ran s.book.cascades (cell_at s a).floor (number_of d) _ _ d.who (h.long a) x)) g
+    (weaker (λ d. Shows s.book.cascades (own_floor d.reader (cell_at s a).floors) (number_of d) d.who (h.long a)) _ (visitors a h.committed) (λ d x. TrackLists.on_reads (Shows s.book.cascades (own_floor d.reader (cell_at s a).floors) (number_of d) d.who) (cell.reads_on t (cell_at s a).entries) _ _ (h.long a) (show_ran s.book.cascades (own_floor d.reader (cell_at s a).floors) (number_of d) _ _ d.who (h.long a)) x)) g
 shows_kept w (Send t a) s h ok o n b m p g = beside_same (ShowsOn s.book.cascades h.committed) s.cells a _ h.long (in_range _ s.cells a ok.0) (λ x. x) g
 shows_kept w (End t a) s h ok o n b m p g = beside_same (ShowsOn s.book.cascades h.committed) s.cells a _ h.long (in_range _ s.cells a ok.0) (λ x. x) g
 shows_kept w (Close t a) s h ok o n b m p g = beside_same (ShowsOn s.book.cascades h.committed) s.cells a _ h.long (in_range _ s.cells a ok.1.0) (λ x. x) g
 shows_kept w (Complete k a) s h ok o n b m p g =
     beside (ShowsOn s.book.cascades h.committed) s.cells a _ _ h.long (in_range _ s.cells a ok.0)
-    (weaker (λ d. Shows s.book.cascades (cell_at s a).floor (number_of d) d.who (h.long a)) _ (visitors a h.committed) (λ d x. show_completed s.book.cascades (cell_at s a).floor (number_of d) k d.who (h.long a) x)) g
-shows_kept w (Commit k) s h ok o n b m p g = λ a. show_join s.book.cascades a (cell_at s a).floor (h.long a) h.committed (done_batch k h (batch_of k s.desk.batches)) (g a) (show_done s.book.cascades k a (cell_at s a).floor h (batch_of k s.desk.batches))
-shows_kept w (Abort k) s h ok o n b m p g = λ a. weaker (λ d. Shows s.book.cascades (cell_at s a).floor (number_of d) d.who (h.long a)) _ (visitors a h.committed) (λ d x. show_cascade s.book.cascades _ (cell_at s a).floor (number_of d) d.who (h.long a) x) (g a)
+    (weaker (λ d. Shows s.book.cascades (own_floor d.reader (cell_at s a).floors) (number_of d) d.who (h.long a)) _ (visitors a h.committed) (λ d x. show_completed s.book.cascades (own_floor d.reader (cell_at s a).floors) (number_of d) k d.who (h.long a) x)) g
+shows_kept w (Commit k) s h ok o n b m p g = λ a. show_join s.book.cascades a (cell_at s a).floors (h.long a) h.committed (done_batch k h (batch_of k s.desk.batches)) (g a) (show_done s.book.cascades k a (cell_at s a).floors h (batch_of k s.desk.batches))
+shows_kept w (Abort k) s h ok o n b m p g = λ a. weaker (λ d. Shows s.book.cascades (own_floor d.reader (cell_at s a).floors) (number_of d) d.who (h.long a)) _ (visitors a h.committed) (λ d x. show_cascade s.book.cascades _ (own_floor d.reader (cell_at s a).floors) (number_of d) d.who (h.long a) x) (g a)
 shows_kept w (Rollback a) s h ok o n b m p g =
     beside (ShowsOn s.book.cascades h.committed) s.cells a _ _ h.long (in_range _ s.cells a ok.0)
-    (show_change (FactsOf h.kept s.book.acts s.ring.next_bid s.desk.batches) a h.committed s.book.cascades s.book.cascades (cell_at s a).floor (cell_at s a).floor (h.long a) (long_staying s.book.cascades (h.long a)) p
-    (λ d q x. show_staying s.book.cascades h.kept s.book.acts (cell_at s a).floor (number_of d) d.who (h.long a) b.cuts ((b.committed a).front) (b.taken a) q.0 x)) g
-shows_kept w (Decide t) s h ok o n b m p g = λ a. show_join s.book.cascades a (cell_at s a).floor (h.long a) h.committed (done_act s.book.next_c h (act_of t s.book.acts)) (g a)
-    (show_decided s.book.cascades s.book.next_c a (cell_at s a).floor h (act_of t s.book.acts)
+    (show_change (FactsOf h.kept s.book.acts s.ring.next_bid s.desk.batches) a h.committed s.book.cascades s.book.cascades (cell_at s a).floors (cell_at s a).floors (h.long a) (long_staying s.book.cascades (h.long a)) p
+    (λ d q x. show_staying s.book.cascades h.kept s.book.acts d.reader (own_floor d.reader (cell_at s a).floors) (number_of d) d.who (h.long a) b.cuts ((b.committed a).front) (b.taken a) q.0 x)) g
+shows_kept w (Decide t) s h ok o n b m p g = λ a. show_join s.book.cascades a (cell_at s a).floors (h.long a) h.committed (done_act s.book.next_c h (act_of t s.book.acts)) (g a)
+    (show_decided s.book.cascades s.book.next_c a (cell_at s a).floors h (act_of t s.book.acts)
     (λ x e q. let i : x ≡ o.0 = one (sym e ∙ o.1.is_it) in let j : x.tid ≡ t = ap (λ z. z.tid) i ∙ o.1.tid in
-    subst (λ z. StandsBelow s.book.cascades x.m z (h.long a)) (sym j) (decided_below w s h t a x.m b (m x t refl e) o.1.fresh (subst (λ z. is_key_among (OfAct z) (keys_in (h.long a)) ≡ true) j q))))
+    subst (λ z. StandsBelow s.book.cascades x.m z (h.long a)) (sym j) (decided_below w s h t a x.m b (m x t refl e) o.1.fresh (o.1.there a (subst (λ z. is_some (act_view h z a) ≡ true) i q)))))
   where
     one : {x y : Act} → Some x ≡ Some y → x ≡ y
     one e = cc e
 shows_kept w (Finish t a) s h ok o n b m p g =
     beside (ShowsOn s.book.cascades h.committed) s.cells a _ _ h.long o
-    (show_change (FactsOf h.kept s.book.acts s.ring.next_bid s.desk.batches) a h.committed s.book.cascades s.book.cascades (cell_at s a).floor (cell.floor_after (cell_at s a).floor (act_of t s.book.acts)) (h.long a) (if cell.is_undone_act (act_of t s.book.acts) then without_standing (OfAct t) (h.long a) else map (left_for_good (OfAct t)) (h.long a)) p
-    (λ d q x. show_finish s.book.cascades h.kept s.book.acts (cell_at s a).floor (number_of d) t (cell.is_undone_act (act_of t s.book.acts)) d.who (h.long a) ok.0 q.0 x)) g
+    (show_change (FactsOf h.kept s.book.acts s.ring.next_bid s.desk.batches) a h.committed s.book.cascades s.book.cascades (cell_at s a).floors (cell.floors_after (cell_at s a).floors (act_of t s.book.acts)) (h.long a) (if is_traceless (act_of t s.book.acts) then without_standing (OfAct t) (h.long a) else map (left_for_good (OfAct t)) (h.long a)) p
+    (λ d q x. show_finish s.book.cascades h.kept s.book.acts d.reader (cell_at s a).floors (number_of d) t (is_traceless (act_of t s.book.acts)) d.who (h.long a) ok.0 q.0 x)) g
 shows_kept w (Trim k a) s h ok o n b m p g =
     beside (ShowsOn s.book.cascades h.committed) s.cells a _ _ h.long o
-    (weaker (λ d. Shows s.book.cascades (cell_at s a).floor (number_of d) d.who (h.long a)) _ (visitors a h.committed) (λ d x. show_trimmed s.book.cascades (cell_at s a).floor (number_of d) k d.who (h.long a) x)) g
+    (weaker (λ d. Shows s.book.cascades (own_floor d.reader (cell_at s a).floors) (number_of d) d.who (h.long a)) _ (visitors a h.committed) (λ d x. show_trimmed s.book.cascades (own_floor d.reader (cell_at s a).floors) (number_of d) k d.who (h.long a) x)) g
 shows_kept w e s h ok o n b m p g = g

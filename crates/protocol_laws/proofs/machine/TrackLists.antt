@@ -1,17 +1,17 @@
 -- What the events do to a long schedule.
-use Rattle.std.specs.Prelude.{◌≡◌, refl, ℕ, ◌==◌, not, Bool, true, false, ◌||◌, ◌⊎◌, if◌then◌else◌, Some, is_some, List, [], ◌∷◌, ◌++◌, map, filter, find}
+use Rattle.std.specs.Prelude.{◌≡◌, refl, ℕ, ◌==◌, not, Bool, true, false, ◌||◌, ◌⊎◌, if◌then◌else◌, Some, None, is_some, List, [], ◌∷◌, ◌++◌, map, filter, find, ◌&&◌}
 use Rattle.std.specs.List.{AllByRecursion, list_all}
 use Rattle.std.proofs.Common.{sym, ap, subst, inl, inr, ◌∙◌}
 use Rattle.std.proofs.lemmas.List.{append-nil, append_assoc}
 use Rattle.std.proofs.lemmas.Bool.{eqb-true, eq-eqb, and_parts, or_parts, or_from, true≢false, cases_Bool, false_from_ne_true}
 use Rattle.snap_base.specs.declared.transactions.State.{State}
 use Rattle.protocol.specs.Parts.{Cascade, Who, OfBatch, OfAct, Entry, BatchEntry, ActEntry, Image}
-use Rattle.protocol.specs.Words.{who_of, who_on, is_who, is_entry_of, is_over_for, is_act_entry, is_batch_entry, ahead, image_of}
+use Rattle.protocol.specs.Words.{who_of, who_on, is_who, is_entry_of, is_over_for, is_act_entry, is_batch_entry, is_reader_entry, ahead, image_of}
 use Rattle.protocol.specs.Contents.{complete_mark}
 use Rattle.protocol.specs.OnCell as cell
 use Rattle.protocol.specs.OnCell.{is_cut, with_image, is_entry_among, state_from}
-use Rattle.protocol.specs.History.{Slice, Ran, Stands, Gone, not_run, ran_in, completed, left_for_good, without_standing, long_staying}
-use Rattle.protocol_laws.specs.Tracks.{Key, key_of, keys_in, is_key_among, Differ, slices_in, first_image, images_in, Linked, InOrder, Tracks, NoneGone, CutIsEnd}
+use Rattle.protocol.specs.History.{Slice, Ran, Stands, Gone, not_run, ran_in, completed, left_for_good, without_standing, long_staying, ran_on}
+use Rattle.protocol_laws.specs.Tracks.{Key, key_of, keys_in, is_key_among, Differ, slices_in, first_image, images_in, Linked, InOrder, Tracks, NoneGone, CutIsEnd, Bare}
 use Rattle.protocol_laws.proofs.first.Lists.{filter_join}
 
 -- ---- who
@@ -31,6 +31,13 @@ is_who_sym x y = elim (cases_Bool (is_who x y)) [
   | inl a ↦ subst (λ z. is_who x z ≡ is_who z x) (is_who_true x y a) refl
   | inr b ↦ b ∙ sym (false_from_ne_true (is_who y x) (λ q. true≢false (sym (subst (λ z. is_who z y ≡ true) (is_who_true y x q) (is_who_refl y)) ∙ b)))
 ]
+
+-- ---- a slice runs, of a reader or not
+
+-- what holds of a long schedule holds of it behind the slice of a reader, which leaves it
+pub on_reads : (P : List Ran → Type 0) (b : Bool) (who : Who) (x : Slice) (rs : List Ran) → (P rs → P (map (ran_in who x) rs)) → P rs → P (ran_on b who x rs)
+on_reads P true who x rs k h = h
+on_reads P false who x rs k h = k h
 
 -- ---- keys
 
@@ -405,22 +412,26 @@ run first keys images now long who x top e h =
       links = subst (λ z. Linked first z x.left) (sym g.slices) (linked_join first now x.left (slices_in long) (x ∷ []) h.links (e, refl));
     }
 
--- the entry of a transaction, where all ahead of it is over and it is not complete itself
-pub top_from : (t : ℕ) (own e : Entry) (es : List Entry) → list_all (is_over_for own) (ahead (is_entry_of t) es) ≡ true → find (is_entry_of t) es ≡ Some e → complete_mark e ≡ false → IsTop (who_on t es) (map key_of es)
-top_from t own e [] h f c = absurd (cc f)
-top_from t own e (x ∷ es) h f c = by (is_entry_of t x) h f (top_from t own e es)
+-- the entry of a transaction that is no reader, where all ahead of it is over and it is not complete itself
+pub top_from : (t : ℕ) (own e : Entry) (es : List Entry) → is_reader_entry own ≡ false → list_all (is_over_for own) (ahead (is_entry_of t) es) ≡ true → find (is_entry_of t) es ≡ Some e → complete_mark e ≡ false → IsTop (who_on t es) (map key_of es)
+top_from t own e [] r h f c = absurd (cc f)
+top_from t own e (x ∷ es) r h f c = by (is_entry_of t x) h f (top_from t own e es r)
   where
-    over : (own x : Entry) → is_over_for own x ≡ true → complete_mark x ≡ true
-    over (BatchEntry b) (BatchEntry d) q = q
-    over (BatchEntry b) (ActEntry y) q = q
-    over (ActEntry b) (BatchEntry d) q = q
-    over (ActEntry b) (ActEntry y) q = q
+    passes : (v z : Bool) → v ≡ false → not (not (v && z)) ≡ true → ⊥
+    passes true z n q = true≢false n
+    passes false z n q = true≢false (sym q)
+
+    over : (own x : Entry) → is_reader_entry own ≡ false → is_over_for own x ≡ true → complete_mark x ≡ true
+    over (BatchEntry b) (BatchEntry d) n q = q
+    over (BatchEntry b) (ActEntry y) n q = q
+    over (ActEntry b) (BatchEntry d) n q = q
+    over (ActEntry b) (ActEntry y) n q = absurd (passes b.reader y.reader n q)
 
     by : (b : Bool) → list_all (is_over_for own) (if b then [] else x ∷ ahead (is_entry_of t) es) ≡ true → (if b then Some x else find (is_entry_of t) es) ≡ Some e
         → (list_all (is_over_for own) (ahead (is_entry_of t) es) ≡ true → find (is_entry_of t) es ≡ Some e → complete_mark e ≡ false → IsTop (who_on t es) (map key_of es))
         → IsTop (if b then who_of x else who_on t es) (key_of x ∷ map key_of es)
     by true q g k = let same : x ≡ e = cc g in inl (refl, ap complete_mark same ∙ c)
-    by false q g k = let p = and_parts (is_over_for own x) (list_all (is_over_for own) (ahead (is_entry_of t) es)) q in inr (over own x p.0, k p.1 g c)
+    by false q g k = let p = and_parts (is_over_for own x) (list_all (is_over_for own) (ahead (is_entry_of t) es)) q in inr (over own x r p.0, k p.1 g c)
 
 -- ---- one is undone
 
@@ -497,6 +508,23 @@ undo first keys images now long who n h = record {
   links = subst (λ z. Linked first (slices_in (without_standing who long)) (state_from now (image_of who z))) (sym h.images_are) (links_undone who first now long (subst (NotComplete who) h.stands n) h.in_order h.links);
 }
 
+-- one without slices has no image
+pub bare_image : (who : Who) (rs : List Ran) → Bare who rs → image_of who (images_in rs) ≡ None
+bare_image who [] h = refl
+bare_image who (Stands y c [] ∷ rs) h = bare_image who rs h.1
+bare_image who (Stands y c (x ∷ xs) ∷ rs) h = rw (is_who_sym who y, false_from_ne_true (is_who y who) (λ q. absurd (cc (h.0 q)))) (bare_image who rs h.1)
+bare_image who (Gone y ss ∷ rs) h = bare_image who rs h
+
+-- and nothing of it is undone
+pub bare_undone : (who : Who) (rs : List Ran) → Bare who rs → slices_in (without_standing who rs) ≡ slices_in rs
+bare_undone who [] h = refl
+bare_undone who (Stands y c ss ∷ rs) h = by (is_who y who) refl (bare_undone who rs h.1)
+  where
+    by : (b : Bool) → is_who y who ≡ b → slices_in (without_standing who rs) ≡ slices_in rs → slices_in (if b then without_standing who rs else Stands y c ss ∷ without_standing who rs) ≡ ss ++ slices_in rs
+    by true e k = rw (h.0 e) k
+    by false e k = ap (λ z. ss ++ z) k
+bare_undone who (Gone y ss ∷ rs) h = ap (λ z. ss ++ z) (bare_undone who rs h)
+
 -- ---- a rollback
 
 abbrev pub goes : List Key → Image → Bool
@@ -540,7 +568,7 @@ stays_found : (ks : List Key) (y : Who) (ss : List Slice) (is : List Image) → 
 stays_found ks y [] is e = refl
 stays_found ks y (x ∷ xs) is e = rw e refl
 
-staying_nothing : (cs : List Cascade) (rs : List Ran) → slices_in rs ≡ [] → slices_in (long_staying cs rs) ≡ []
+pub staying_nothing : (cs : List Cascade) (rs : List Ran) → slices_in rs ≡ [] → slices_in (long_staying cs rs) ≡ []
 staying_nothing cs [] h = refl
 staying_nothing cs (Stands y c [] ∷ rs) h = by (is_cut cs y) (staying_nothing cs rs h)
   where

@@ -4,7 +4,7 @@ use Rattle.std.specs.List.{AllByRecursion, list_any, list_all}
 use Rattle.std.proofs.Common.{arith, sym, ap, subst, inl, inr, ◌∙◌}
 use Rattle.std.proofs.lemmas.Bool.{eqb-true, leb-true, and_parts, or_cases, or_parts, true≢false, cases_lt, false_from_ne_true}
 use Rattle.protocol.specs.Parts.{Cascade, Who, OfBatch, OfAct, Slot, Entry, BatchEntry, ActEntry}
-use Rattle.protocol.specs.Words.{who_of, who_on, is_who, is_entry_of, is_turn_of, is_batch_entry, is_all_done}
+use Rattle.protocol.specs.Words.{who_of, who_on, is_who, is_entry_of, is_turn_of, is_batch_entry, is_all_done, is_reader_entry}
 use Rattle.protocol.specs.Contents.{complete_mark}
 use Rattle.protocol.specs.OnCell as cell
 use Rattle.protocol.specs.OnCell.{is_cut}
@@ -23,7 +23,7 @@ all_end P (x ∷ xs) y h k = (h.0, all_end P xs y h.1 k)
 
 turn_new : (e : Entry) → complete_mark e ≡ false → TurnOf e []
 turn_new (BatchEntry b) h = (tt, tt, λ q. absurd (true≢false (sym q ∙ h)))
-turn_new (ActEntry x) h = tt
+turn_new (ActEntry x) h = (tt, λ q. refl)
 
 pub more : (e : Entry) (rs : List Ran) (es : List Entry) → complete_mark e ≡ false → Turns rs es → Turns (rs ++ not_run (who_of e) ∷ []) (es ++ e ∷ [])
 more e [] [] c h = (refl, turn_new e c, tt)
@@ -163,10 +163,10 @@ turns_past t (s ∷ ss) h =
     let p = and_parts (nat_le t s.tid || s.done) (list_all (λ s. nat_le t s.tid || s.done) ss) h in
     (λ l. elim (or_cases (nat_le t s.tid) s.done p.0) [ inl a ↦ absurd (omega (arith, leb-true t s.tid a, l)) | inr b ↦ b ], turns_past t ss p.1)
 
-turn_runs : (t : ℕ) (e : Entry) (ss : List Slice) (x : Slice) → x.tid ≡ t → is_entry_of t e ≡ true → is_turn_of t e ≡ true → NotDone t e → TurnOf e ss → TurnOf e (ss ++ x ∷ [])
-turn_runs t (BatchEntry b) ss x i o c n h =
+turn_runs : (t : ℕ) (e : Entry) (ss : List Slice) (x : Slice) → is_reader_entry e ≡ false → x.tid ≡ t → is_entry_of t e ≡ true → is_turn_of t e ≡ true → NotDone t e → TurnOf e ss → TurnOf e (ss ++ x ∷ [])
+turn_runs t (BatchEntry b) ss x r i o c n h =
     (rising_end 0 ss x (omega arith) (weaker _ _ ss (λ z p. omega (arith, i, not_past t z.tid b.slots o n p.1)) h.1) h.0, all_end _ ss x h.1 (rw i (o, turns_past t b.slots c)), h.2)
-turn_runs t (ActEntry y) ss x i o c n h = all_end _ ss x h (i ∙ sym (eqb-true y.tid t o))
+turn_runs t (ActEntry y) ss x r i o c n h = (all_end _ ss x h.0 (i ∙ sym (eqb-true y.tid t o)), λ q. absurd (true≢false (sym q ∙ r)))
 
 among_turns : (who : Who) (rs : List Ran) (es : List Entry) → Turns rs es → is_key_among who (keys_in rs) ≡ is_key_among who (map key_of es)
 among_turns who [] [] h = refl
@@ -188,19 +188,19 @@ who_among t own (e ∷ es) f = by (is_entry_of t e) f (who_among t own es)
     by true g k = rw (is_who_refl (who_of e)) refl
     by false g k = rw (k g) (or_true (is_who (who_of e) (who_on t es)))
 
-pub run : (t : ℕ) (own : Entry) (x : Slice) (rs : List Ran) (es : List Entry) → x.tid ≡ t → find (is_entry_of t) es ≡ Some own → is_turn_of t own ≡ true → NotDone t own → Differ (map key_of es) → Turns rs es → Turns (map (ran_in (who_on t es) x) rs) es
-run t own x [] [] i f c n d h = tt
-run t own x [] (e ∷ es) i f c n d h = absurd h
-run t own x (Gone y ss ∷ rs) es i f c n d h = run t own x rs es i f c n d h
-run t own x (Stands y q ss ∷ rs) [] i f c n d h = absurd h
-run t own x (Stands y q ss ∷ rs) (e ∷ es) i f c n d h = by (is_entry_of t e) refl f (λ g. run t own x rs es i g c n d.1 h.2)
+pub run : (t : ℕ) (own : Entry) (x : Slice) (rs : List Ran) (es : List Entry) → is_reader_entry own ≡ false → x.tid ≡ t → find (is_entry_of t) es ≡ Some own → is_turn_of t own ≡ true → NotDone t own → Differ (map key_of es) → Turns rs es → Turns (map (ran_in (who_on t es) x) rs) es
+run t own x [] [] v i f c n d h = tt
+run t own x [] (e ∷ es) v i f c n d h = absurd h
+run t own x (Gone y ss ∷ rs) es v i f c n d h = run t own x rs es v i f c n d h
+run t own x (Stands y q ss ∷ rs) [] v i f c n d h = absurd h
+run t own x (Stands y q ss ∷ rs) (e ∷ es) v i f c n d h = by (is_entry_of t e) refl f (λ g. run t own x rs es v i g c n d.1 h.2)
   where
     by : (b : Bool) → is_entry_of t e ≡ b → (if b then Some e else find (is_entry_of t) es) ≡ Some own → (find (is_entry_of t) es ≡ Some own → Turns (map (ran_in (who_on t es) x) rs) es)
         → (who_of e ≡ y) × TurnOf e (if is_who y (if b then who_of e else who_on t es) then ss ++ x ∷ [] else ss) × Turns (map (ran_in (if b then who_of e else who_on t es) x) rs) es
     by true o g k =
         let same : e ≡ own = cc g in (
           h.0,
-          rw (sym h.0, is_who_refl (who_of e)) (turn_runs t e ss x i o (ap (is_turn_of t) same ∙ c) (subst (NotDone t) (sym same) n) h.1),
+          rw (sym h.0, is_who_refl (who_of e)) (turn_runs t e ss x (ap is_reader_entry same ∙ v) i o (ap (is_turn_of t) same ∙ c) (subst (NotDone t) (sym same) n) h.1),
           rw (TrackLists.ran_free (who_of e) x rs (among_turns (who_of e) rs es h.2 ∙ d.0)) h.2,
         )
     by false o g k =

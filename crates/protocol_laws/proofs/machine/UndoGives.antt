@@ -1,5 +1,5 @@
 -- An undo gives the state before the first run of what is undone, over every run.
-use Rattle.std.specs.Prelude.{◌≡◌, refl, ℕ, zero, suc, Bool, true, false, if◌then◌else◌, List, [], ◌∷◌, ◌++◌, length, map}
+use Rattle.std.specs.Prelude.{◌≡◌, refl, ℕ, zero, suc, Bool, true, false, if◌then◌else◌, List, [], ◌∷◌, ◌++◌, length, map, ◌||◌}
 use Rattle.std.proofs.Common.{arith, sym, ap, subst, ◌∙◌}
 use Rattle.std.proofs.lemmas.Bool.{eq-eqb}
 use Rattle.std.proofs.lemmas.List.{append-nil, append_assoc}
@@ -15,7 +15,7 @@ use Rattle.protocol.specs.Events.{Event, Rollback, Finish}
 use Rattle.protocol.specs.Effects.{after, cell_at}
 use Rattle.protocol.specs.Runs.{IsRun, reached}
 use Rattle.protocol.specs.OnCell as cell
-use Rattle.protocol.specs.History.{Slice, Ran, Stands, Gone, History, history, grown, long_staying, without_standing, left_for_good, slices_of, with_at}
+use Rattle.protocol.specs.History.{Slice, Ran, Stands, Gone, History, history, grown, long_staying, without_standing, left_for_good, slices_of, with_at, is_reader_act}
 use Rattle.protocol_laws.specs.Tracks.{key_of, keys_in, Differ, slices_in, Linked, InOrder, Tracks}
 use Rattle.protocol_laws.specs.Undo.{long_going, first_found, last_left, IsUndone, UndoGives}
 use Rattle.protocol_laws.proofs.machine.TrackLists
@@ -80,7 +80,7 @@ rolled_long w a s h = own_long a (long_staying s.book.cascades (h.long a)) h.lon
 
 left_long : {C : Type 0} (w : Fixed C) (t a : ℕ) (s : Machine C) (h : History) → cell.is_undone_act (act_of t s.book.acts) ≡ true → (grown w (Finish t a) s h).long a ≡ without_standing (OfAct t) (h.long a)
 unfolding grown
-left_long w t a s h e = own_long a _ h.long ∙ ap (λ b. if b then without_standing (OfAct t) (h.long a) else map (left_for_good (OfAct t)) (h.long a)) e
+left_long w t a s h e = own_long a _ h.long ∙ ap (λ b. if b || is_reader_act (act_of t s.book.acts) then without_standing (OfAct t) (h.long a) else map (left_for_good (OfAct t)) (h.long a)) e
 
 undo_of : {C : Type 0} (w : Fixed C) (Of : Tx → C → Type 0) (finish : C → List State → Alone) (s : Machine C) (h : History) → Given w Of finish → AllGood w Of finish s h → UndoGives w finish s h
 undo_of w Of finish s h v g = record {

@@ -3,24 +3,24 @@ use Rattle.std.specs.Prelude.{◌≡◌, refl, ℕ, max, ◌%◌, ◌==◌, not,
 use Rattle.std.specs.List.{AllByRecursion, list_any}
 use Rattle.std.proofs.Common.{sym, ap, subst, inl, inr, ◌∙◌}
 use Rattle.std.proofs.lemmas.List.{append-nil}
-use Rattle.std.proofs.lemmas.Bool.{true≢false, or_cases, or_left, or_right, and_parts, eqb-true, eq-eqb, cases_Bool, false_from_ne_true}
+use Rattle.std.proofs.lemmas.Bool.{true≢false, or_cases, or_left, or_right, and_parts, eqb-true, eq-eqb, cases_Bool, false_from_ne_true, or_from, or_parts}
 use Rattle.protocol.specs.Fixed.{Fixed}
 use Rattle.protocol.specs.Records.{is_prepare}
 use Rattle.protocol.specs.Parts.{Act, Joined, Cascade, Who, OfBatch, OfAct, Machine}
 use Rattle.protocol.specs.Events.{Event, Form, Admit, Arrive, Ask, Run, End, Complete, Sync, Commit, Rollback, Prepare, Vouch, Decide, Seal, Finish, Trim}
-use Rattle.protocol.specs.Words.{holds, is_who, is_value, is_failure, is_doomed, is_live_act, is_ended, is_aborted, outcome_of, joined_of, act_of, value_of}
+use Rattle.protocol.specs.Words.{holds, is_who, is_value, is_failure, is_doomed, is_live_act, is_ended, is_aborted, outcome_of, joined_of, act_of, value_of, lock_of, floor_at, who_on}
 use Rattle.protocol.specs.Conditions.{IsAllowed, conditions}
 use Rattle.protocol.specs.Effects.{after, cell_at, no_cell, act_commit}
 use Rattle.protocol.specs.OnBook as book
 use Rattle.protocol.specs.OnCell as cell
 use Rattle.protocol.specs.OnCell.{is_cut}
-use Rattle.protocol.specs.History.{History, Ran, Stands, Gone, grown, with_at, not_run, completed, left_for_good, without_standing, long_staying, asks}
+use Rattle.protocol.specs.History.{History, Ran, Stands, Gone, grown, with_at, not_run, completed, left_for_good, without_standing, long_staying, asks, is_traceless, ran_on}
 use Rattle.protocol_records.specs.Logged.{is_ran_of, is_on, has_place, ActStands, ActsStand, OnJoined, Prepared}
 use Rattle.protocol_laws.specs.Told.{EachAct}
 use Rattle.protocol_laws.specs.Tracks.{keys_in, is_key_among, NoneGone, CutIsEnd}
 use Rattle.protocol_laws.proofs.machine.PlaceLists
 use Rattle.protocol_laws.proofs.machine.PlacesKept.{Placed}
-use Rattle.protocol_laws.proofs.machine.ActsOwed.{none_bad}
+use Rattle.protocol_laws.proofs.machine.BehindKept.{none_bad}
 use Rattle.protocol_laws.proofs.machine.TracksKept.{held}
 use Rattle.protocol_laws.proofs.machine.TurnsKept.{one_is}
 use Rattle.protocol_laws.proofs.machine.ControlWalk.{AllControls}
@@ -88,26 +88,26 @@ was_at y b a new long k = by (a == b) refl
     by true f h = subst (λ z. is_on y (long z) ≡ true) (sym (eqb-true a b f)) (k h)
     by false f h = h
 
-asked_place : {C : Type 0} (w : Fixed C) (t a : ℕ) (s : Machine C) → is_some (act_of t s.book.acts) ≡ true → book.in_the_way t (cell_at s a).entries ≡ None → holds (has_place a) (act_of t (after w (Ask t a) s).book.acts) ≡ true
+asked_place : {C : Type 0} (w : Fixed C) (t a : ℕ) (s : Machine C) → is_some (act_of t s.book.acts) ≡ true → book.in_the_way (lock_of t s.book.acts) (cell_at s a).entries ≡ None → holds (has_place a) (act_of t (after w (Ask t a) s).book.acts) ≡ true
 unfolding after
 asked_place w t a s q n =
-    let each : EachAct (λ u x. u ≡ t → has_place a x ≡ true) (book.asked_acts (book.in_the_way t (cell_at s a).entries) (book.met t (cell_at s a).entries) t a (max (cell_at s a).last (cell_at s a).floor) s.book) = subst (λ o. EachAct (λ u x. u ≡ t → has_place a x ≡ true) (book.asked_acts o (book.met t (cell_at s a).entries) t a (max (cell_at s a).last (cell_at s a).floor) s.book)) (sym n) start in
+    let each : EachAct (λ u x. u ≡ t → has_place a x ≡ true) (book.asked_acts (book.in_the_way (lock_of t s.book.acts) (cell_at s a).entries) (book.met (lock_of t s.book.acts) (cell_at s a).entries) t a (max (cell_at s a).last (floor_at t s.book.acts (cell_at s a))) s.book) = subst (λ o. EachAct (λ u x. u ≡ t → has_place a x ≡ true) (book.asked_acts o (book.met (lock_of t s.book.acts) (cell_at s a).entries) t a (max (cell_at s a).last (floor_at t s.book.acts (cell_at s a))) s.book)) (sym n) start in
     let y = one_is (λ x. true) (act_of t (after w (Ask t a) s).book.acts) (there_is (act_of t (after w (Ask t a) s).book.acts) (in_book w (Ask t a) s t q)) in
     holds_from (has_place a) (act_of t (after w (Ask t a) s).book.acts) y.0 y.1 (each t y.0 y.1 refl)
   where
     -- it has the place, or is another one
-    start : EachAct (λ u x. u ≡ t → has_place a x ≡ true) (book.asked_acts None (book.met t (cell_at s a).entries) t a (max (cell_at s a).last (cell_at s a).floor) s.book)
-    start = acts.none_in_way (λ u x. u ≡ t → has_place a x ≡ true) t a (cell_at s a) s.book (holds_place t a) (acts.each_changed (λ u x. Unit {0}) (λ u x. u ≡ t → has_place a x ≡ true) t (book.joins a (max (cell_at s a).last (cell_at s a).floor)) s.book.acts (λ x. refl) (λ u x d e p i. absurd (d i)) (λ x e p i. any_back (λ p. p.actor == a) x.places _ (or_left (a == a) false (eq-eqb a a refl))) (λ u x e. tt))
+    start : EachAct (λ u x. u ≡ t → has_place a x ≡ true) (book.asked_acts None (book.met (lock_of t s.book.acts) (cell_at s a).entries) t a (max (cell_at s a).last (floor_at t s.book.acts (cell_at s a))) s.book)
+    start = acts.none_in_way (λ u x. u ≡ t → has_place a x ≡ true) t a (cell_at s a) s.book (holds_place t a) (acts.each_changed (λ u x. Unit {0}) (λ u x. u ≡ t → has_place a x ≡ true) t (book.joins a (max (cell_at s a).last (floor_at t s.book.acts (cell_at s a)))) s.book.acts (λ x. refl) (λ u x d e p i. absurd (d i)) (λ x e p i. any_back (λ p. p.actor == a) x.places _ (or_left (a == a) false (eq-eqb a a refl))) (λ u x e. tt))
 
 pub on_joined : {C : Type 0} (w : Fixed C) (e : Event) (s : Machine C) (h : History) → IsAllowed w e s → OnJoined s h → OnJoined (after w e s) (grown w e s h)
 unfolding OnJoined conditions grown
 on_joined w (Arrive k b) s h ok g = λ t a o. place_stays w (Arrive k b) s t a (g t a (was_at (OfAct t) b a _ h.long (λ q. sym (on_more (OfAct t) (OfBatch k) (h.long b) refl) ∙ q) o))
-on_joined w (Ask u b) s h ok g = λ t a o. by (book.in_the_way u (cell_at s b).entries) refl t a o
+on_joined w (Ask u b) s h ok g = λ t a o. by (book.in_the_way (lock_of u s.book.acts) (cell_at s b).entries) refl t a o
   where
     old : (t a : ℕ) → is_on (OfAct t) (h.long a) ≡ true → holds (has_place a) (act_of t (after w (Ask u b) s).book.acts) ≡ true
     old t a o = place_stays w (Ask u b) s t a (g t a o)
 
-    by : (o : Option ℕ) → book.in_the_way u (cell_at s b).entries ≡ o → (t a : ℕ) → is_on (OfAct t) (with_at b (h.long b ++ map not_run (asks u o)) h.long a) ≡ true → holds (has_place a) (act_of t (after w (Ask u b) s).book.acts) ≡ true
+    by : (o : Option ℕ) → book.in_the_way (lock_of u s.book.acts) (cell_at s b).entries ≡ o → (t a : ℕ) → is_on (OfAct t) (with_at b (h.long b ++ map not_run (asks u o)) h.long a) ≡ true → holds (has_place a) (act_of t (after w (Ask u b) s).book.acts) ≡ true
     by (Some older) e t a o = old t a (was_at (OfAct t) b a _ h.long (λ q. sym (ap (is_on (OfAct t)) (append-nil (h.long b))) ∙ q) o)
     by None e t a o = elim (cases_Bool (a == b)) [
       | inr f ↦ old t a (subst (λ v. is_on (OfAct t) (if v then h.long b ++ not_run (OfAct u) ∷ [] else h.long a) ≡ true) f o)
@@ -117,10 +117,14 @@ on_joined w (Ask u b) s h ok g = λ t a o. by (book.in_the_way u (cell_at s b).e
         | inr i ↦ old t a (was_at (OfAct t) b a _ h.long (λ q. sym (on_more (OfAct t) (OfAct u) (h.long b) i) ∙ q) o)
       ]
     ]
-on_joined w (Run u b) s h ok g = λ t a o. place_stays w (Run u b) s t a (g t a (was_at (OfAct t) b a _ h.long (λ q. sym (on_map (OfAct t) _ (h.long b) (λ r. ran_same (OfAct t) _ _ r)) ∙ q) o))
+on_joined w (Run u b) s h ok g = λ t a o. place_stays w (Run u b) s t a (g t a (was_at (OfAct t) b a _ h.long (λ q. read t (cell.reads_on u (cell_at s b).entries) q) o))
+  where
+    read : (t : ℕ) (v : Bool) → is_on (OfAct t) (ran_on v (who_on u (cell_at s b).entries) (record { tid = u; found = (cell_at s b).state; left = (cell.slice_run w.code u b (cell_at s b)).state }) (h.long b)) ≡ true → is_on (OfAct t) (h.long b) ≡ true
+    read t true q = q
+    read t false q = sym (on_map (OfAct t) _ (h.long b) (λ r. ran_same (OfAct t) _ _ r)) ∙ q
 on_joined w (Complete k b) s h ok g = λ t a o. place_stays w (Complete k b) s t a (g t a (was_at (OfAct t) b a _ h.long (λ q. sym (on_map (OfAct t) (completed k) (h.long b) (completed_same (OfAct t) k)) ∙ q) o))
 on_joined w (Rollback b) s h ok g = λ t a o. place_stays w (Rollback b) s t a (g t a (was_at (OfAct t) b a _ h.long (λ q. on_less_staying (OfAct t) s.book.cascades (h.long b) q) o))
-on_joined w (Finish u b) s h ok g = λ t a o. place_stays w (Finish u b) s t a (g t a (was_at (OfAct t) b a _ h.long (λ q. by t (cell.is_undone_act (act_of u s.book.acts)) q) o))
+on_joined w (Finish u b) s h ok g = λ t a o. place_stays w (Finish u b) s t a (g t a (was_at (OfAct t) b a _ h.long (λ q. by t (is_traceless (act_of u s.book.acts)) q) o))
   where
     by : (t : ℕ) (v : Bool) → is_on (OfAct t) (if v then without_standing (OfAct u) (h.long b) else map (left_for_good (OfAct u)) (h.long b)) ≡ true → is_on (OfAct t) (h.long b) ≡ true
     by t true q = on_less_without (OfAct t) (OfAct u) (h.long b) q
@@ -196,7 +200,7 @@ prepared_kept w e s ok n g = λ t a q. value_stays w e s t a ok n (g t a q)
 all_on : (t : ℕ) (long long' : ℕ → List Ran) (ps : List Joined) → ((a : ℕ) → is_on (OfAct t) (long a) ≡ true → is_on (OfAct t) (long' a) ≡ true) → AllByRecursion (λ p. is_on (OfAct t) (long p.actor) ≡ true) ps → AllByRecursion (λ p. is_on (OfAct t) (long' p.actor) ≡ true) ps
 all_on t long long' ps k h = weaker _ _ ps (λ p q. k p.actor q) h
 
-stands_on : (long long' : ℕ → List Ran) (xs : List Act) → ((t : ℕ) (x : Act) → act_of t xs ≡ Some x → is_doomed x.status ≡ false → is_failure x.result ≡ false → (a : ℕ) → is_on (OfAct t) (long a) ≡ true → is_on (OfAct t) (long' a) ≡ true) → EachAct (ActStands long) xs → EachAct (ActStands long') xs
+stands_on : (long long' : ℕ → List Ran) (xs : List Act) → ((t : ℕ) (x : Act) → act_of t xs ≡ Some x → is_doomed x.status ≡ false → (is_failure x.result || x.reader) ≡ false → (a : ℕ) → is_on (OfAct t) (long a) ≡ true → is_on (OfAct t) (long' a) ≡ true) → EachAct (ActStands long) xs → EachAct (ActStands long') xs
 stands_on long long' xs k h = λ t x e. let p = h t x e in record { first = p.first; on = λ d f. all_on t long long' x.places (k t x e d f) (p.on d f) }
 
 holds_stands : (long : ℕ → List Ran) → HoldsAnyway (ActStands long)
@@ -281,7 +285,7 @@ pub stands_kept : {C : Type 0} (w : Fixed C) (e : Event) (s : Machine C) (h : Hi
 unfolding ActsStand AllBehind Placed acts.ReadyAll conditions after grown
 stands_kept w (Admit t) s h ok na pl b g = acts.acts_change w (Admit t) s (ActStands h.long) (holds_stands h.long) (λ e. record { first = λ a p q. absurd (cc q); on = λ d f. tt }) g
 stands_kept w (Arrive k a) s h ok na pl b g = acts.acts_change w (Arrive k a) s (ActStands _) (holds_stands _) tt (stands_on h.long _ s.book.acts (λ t x e d f c o. on_at (OfAct t) a c _ h.long (on_more (OfAct t) (OfBatch k) (h.long a) refl) ∙ o) g)
-stands_kept {C} w (Ask u a) s h ok na pl b g = by (book.in_the_way u (cell_at s a).entries) refl
+stands_kept {C} w (Ask u a) s h ok na pl b g = by (book.in_the_way (lock_of u s.book.acts) (cell_at s a).entries) refl
   where
     grows : (t : ℕ) (rs : List Ran) → is_on (OfAct t) rs ≡ true → is_on (OfAct t) (rs ++ not_run (OfAct u) ∷ []) ≡ true
     grows t rs o = any_front (is_ran_of (OfAct t)) rs _ o
@@ -295,16 +299,20 @@ stands_kept {C} w (Ask u a) s h ok na pl b g = by (book.in_the_way u (cell_at s 
     there : is_on (OfAct u) (with_at a (h.long a ++ not_run (OfAct u) ∷ []) h.long a) ≡ true
     there = rw (eq-eqb a a refl) (any_back (is_ran_of (OfAct u)) (h.long a) (not_run (OfAct u) ∷ []) (or_left (u == u) false (eq-eqb u u refl)))
 
-    joins : (x : Act) → ActStands (with_at a (h.long a ++ not_run (OfAct u) ∷ []) h.long) u x → ActStands (with_at a (h.long a ++ not_run (OfAct u) ∷ []) h.long) u (book.joins a (max (cell_at s a).last (cell_at s a).floor) x)
+    joins : (x : Act) → ActStands (with_at a (h.long a ++ not_run (OfAct u) ∷ []) h.long) u x → ActStands (with_at a (h.long a ++ not_run (OfAct u) ∷ []) h.long) u (book.joins a (max (cell_at s a).last (floor_at u s.book.acts (cell_at s a))) x)
     joins x p = record {
       first = λ c q e v. elim (more_found c (record { actor = a; prepared = false; vouched = false; finished = false }) q x.places e) [ inl f ↦ p.first c q f v | inr f ↦ absurd (true≢false (sym v ∙ ap (λ z. z.vouched) (sym f))) ];
       on = λ d f. all_join _ x.places _ (p.on d f) (there, tt);
     }
 
-    by : (o : Option ℕ) → book.in_the_way u (cell_at s a).entries ≡ o → EachAct (ActStands (with_at a (h.long a ++ map not_run (asks u o)) h.long)) (book.asked_acts o (book.met u (cell_at s a).entries) u a (max (cell_at s a).last (cell_at s a).floor) s.book)
+    by : (o : Option ℕ) → book.in_the_way (lock_of u s.book.acts) (cell_at s a).entries ≡ o → EachAct (ActStands (with_at a (h.long a ++ map not_run (asks u o)) h.long)) (book.asked_acts o (book.met (lock_of u s.book.acts) (cell_at s a).entries) u a (max (cell_at s a).last (floor_at u s.book.acts (cell_at s a))) s.book)
     by (Some older) e = acts.asked (ActStands _) u a (Some older) (cell_at s a) s.book (holds_stands _) (λ q. absurd (cc q)) (stands_on h.long _ s.book.acts (λ t x e d f c o. on_at (OfAct t) a c _ h.long (ap (is_on (OfAct t)) (append-nil (h.long a))) ∙ o) g)
     by None e = acts.asked (ActStands _) u a None (cell_at s a) s.book (holds_stands _) (λ q x f p. joins x p) (stands_on h.long _ s.book.acts (λ t x e d f c o. at_more t c o) g)
-stands_kept w (Run u a) s h ok na pl b g = stands_on h.long _ s.book.acts (λ t x e d f c o. on_at (OfAct t) a c _ h.long (on_map (OfAct t) _ (h.long a) (λ r. ran_same (OfAct t) _ _ r)) ∙ o) g
+stands_kept w (Run u a) s h ok na pl b g = stands_on h.long _ s.book.acts (λ t x e d f c o. on_at (OfAct t) a c _ h.long (read t (cell.reads_on u (cell_at s a).entries)) ∙ o) g
+  where
+    read : (t : ℕ) (v : Bool) → is_on (OfAct t) (ran_on v (who_on u (cell_at s a).entries) (record { tid = u; found = (cell_at s a).state; left = (cell.slice_run w.code u a (cell_at s a)).state }) (h.long a)) ≡ is_on (OfAct t) (h.long a)
+    read t true = refl
+    read t false = on_map (OfAct t) _ (h.long a) (λ r. ran_same (OfAct t) _ _ r)
 stands_kept w (Complete k a) s h ok na pl b g = stands_on h.long _ s.book.acts (λ t x e d f c o. on_at (OfAct t) a c _ h.long (on_map (OfAct t) (completed k) (h.long a) (completed_same (OfAct t) k)) ∙ o) g
 stands_kept w (Trim k a) s h ok na pl b g = stands_on h.long _ s.book.acts (λ t x e d f c o. on_at (OfAct t) a c _ h.long (on_map (OfAct t) (left_for_good (OfBatch k)) (h.long a) (left_same (OfAct t) (OfBatch k))) ∙ o) g
 stands_kept w (Rollback a) s h ok na pl b g = stands_on h.long _ s.book.acts (λ t x e d f c o. at_staying t x e d c o) g
@@ -314,7 +322,7 @@ stands_kept w (Rollback a) s h ok na pl b g = stands_on h.long _ s.book.acts (λ
       | inl f ↦ rw f (elim (stays_behind s.book.acts s.book.cascades false t x (h.long a) e d (PlaceLists.cut_is_end s.desk.settled s.book.cascades (h.long a) (pl a).firm) (b a) (subst (λ z. is_on (OfAct t) (h.long z) ≡ true) (eqb-true c a f) o)) [ inl v ↦ absurd v | inr v ↦ v ])
       | inr f ↦ rw f o
     ]
-stands_kept w (End u a) s h ok na pl b g = acts.acts_change w (End u a) s (ActStands h.long) (holds_stands h.long) (λ x r e p. record { first = p.first; on = λ d f. p.on d (ap is_failure (results.outcome_none (λ x. is_ended x.next) u a s (held (λ c. holds (λ x. is_ended x.next) (outcome_of u c.outbox)) s.cells a no_cell ok.0) na u x e refl)) }) g
+stands_kept w (End u a) s h ok na pl b g = acts.acts_change w (End u a) s (ActStands h.long) (holds_stands h.long) (λ x r e p. record { first = p.first; on = λ d f. p.on d (or_from (is_failure x.result) x.reader (ap is_failure (results.outcome_none (λ x. is_ended x.next) u a s (held (λ c. holds (λ x. is_ended x.next) (outcome_of u c.outbox)) s.cells a no_cell ok.0) na u x e refl)) (or_parts (is_failure (Some r)) x.reader f).1) }) g
 stands_kept w (Prepare u a) s h ok na pl b g = acts.acts_change w (Prepare u a) s (ActStands h.long) (holds_stands h.long) (λ x e p. record {
   first = λ c q f v. let m = marked_found c a book.is_prepared x.places q (λ p. refl) f in subst (λ z. z.prepared ≡ true) m.2 (prepare_first (m.0.actor == a) m.0 (p.first c m.0 m.1) (subst (λ z. z.vouched ≡ true) (sym m.2) v));
   on = λ d f. mark_on u a book.is_prepared h.long x.places (λ p. refl) (p.on d f);
@@ -337,14 +345,14 @@ stands_kept w (Finish u a) s h ok na pl b g = acts.acts_change w (Finish u a) s 
   on = λ d f. mark_on u a book.has_left (grown w (Finish u a) s h).long x.places (λ p. refl) (p.on d f);
 }) (stands_on h.long _ s.book.acts (λ t x e d f c o. at_left t x e d f c o) g)
   where
-    at_left : (t : ℕ) (x : Act) → act_of t s.book.acts ≡ Some x → is_doomed x.status ≡ false → is_failure x.result ≡ false → (c : ℕ) → is_on (OfAct t) (h.long c) ≡ true → is_on (OfAct t) (with_at a (if cell.is_undone_act (act_of u s.book.acts) then without_standing (OfAct u) (h.long a) else map (left_for_good (OfAct u)) (h.long a)) h.long c) ≡ true
-    at_left t x e d f c o = on_at (OfAct t) a c _ h.long (by (cell.is_undone_act (act_of u s.book.acts)) refl) ∙ o
+    at_left : (t : ℕ) (x : Act) → act_of t s.book.acts ≡ Some x → is_doomed x.status ≡ false → (is_failure x.result || x.reader) ≡ false → (c : ℕ) → is_on (OfAct t) (h.long c) ≡ true → is_on (OfAct t) (with_at a (if is_traceless (act_of u s.book.acts) then without_standing (OfAct u) (h.long a) else map (left_for_good (OfAct u)) (h.long a)) h.long c) ≡ true
+    at_left t x e d f c o = on_at (OfAct t) a c _ h.long (by (is_traceless (act_of u s.book.acts)) refl) ∙ o
       where
-        by : (v : Bool) → cell.is_undone_act (act_of u s.book.acts) ≡ v → is_on (OfAct t) (if v then without_standing (OfAct u) (h.long a) else map (left_for_good (OfAct u)) (h.long a)) ≡ is_on (OfAct t) (h.long a)
+        by : (v : Bool) → is_traceless (act_of u s.book.acts) ≡ v → is_on (OfAct t) (if v then without_standing (OfAct u) (h.long a) else map (left_for_good (OfAct u)) (h.long a)) ≡ is_on (OfAct t) (h.long a)
         by false q = on_map (OfAct t) (left_for_good (OfAct u)) (h.long a) (left_same (OfAct t) (OfAct u))
-        by true q = on_without (OfAct t) (OfAct u) (h.long a) (false_from_ne_true (u == t) (λ i. true≢false (sym q ∙ (ap cell.is_undone_act (ap (λ z. act_of z s.book.acts) (eqb-true u t i) ∙ e) ∙ or_no (is_doomed x.status) (is_failure x.result) d f))))
+        by true q = on_without (OfAct t) (OfAct u) (h.long a) (false_from_ne_true (u == t) (λ i. true≢false (sym q ∙ (ap is_traceless (ap (λ z. act_of z s.book.acts) (eqb-true u t i) ∙ e) ∙ or_no (is_doomed x.status) (is_failure x.result) x.reader d f))))
           where
-            or_no : (x y : Bool) → x ≡ false → y ≡ false → (x || y) ≡ false
-            or_no true y d f = absurd (true≢false d)
-            or_no false y d f = f
+            or_no : (x y z : Bool) → x ≡ false → (y || z) ≡ false → ((x || y) || z) ≡ false
+            or_no true y z d f = absurd (true≢false d)
+            or_no false y z d f = f
 stands_kept w e s h ok na pl b g = acts.acts_change w e s (ActStands h.long) (holds_stands h.long) tt g

@@ -1,8 +1,8 @@
 -- Members that are a front on each actor are serial, and a moment is a cut.
-use Rattle.std.specs.Prelude.{◌≡◌, refl, ℕ, zero, suc, ◌<◌, ◌≤◌, Bool, true, false, ◌&&◌, if◌then◌else◌, Option, List, [], ◌∷◌, ◌++◌, length, filter, replicate, slice_index_or, slice_set}
+use Rattle.std.specs.Prelude.{◌≡◌, refl, ℕ, zero, suc, ◌<◌, ◌≤◌, Bool, true, false, ◌&&◌, if◌then◌else◌, Option, Some, None, is_some, List, [], ◌∷◌, ◌++◌, length, filter, replicate, slice_index_or, slice_set}
 use Rattle.std.specs.List.{AllByRecursion}
 use Rattle.std.proofs.Common.{arith, sym, ap, subst, inl, inr, ◌∙◌}
-use Rattle.std.proofs.lemmas.Bool.{true≢false}
+use Rattle.std.proofs.lemmas.Bool.{cases_Bool, true≢false}
 use Rattle.snap_base.specs.declared.transactions.State.{State}
 use Rattle.snap_base.specs.declared.verdicts.Place.{Place}
 use Rattle.protocol.specs.Fixed.{Fixed}
@@ -15,16 +15,16 @@ use Rattle.protocol.specs.Conditions.{IsAllowed}
 use Rattle.protocol.specs.Effects.{after, log_at, no_log, added}
 use Rattle.protocol.specs.Runs.{opening, EachAllowed, IsRun, reached}
 use Rattle.protocol.specs.History.{View, Done, History}
-use Rattle.protocol.specs.Chains.{by_place, IsBelowAll, PlacesRise, serial_run, IsSerial}
-use Rattle.protocol_laws.specs.Commits.{left_as, left_of, StatesLink, last_state}
-use Rattle.protocol_laws.specs.Linked.{visitors, IsExplained}
-use Rattle.protocol_records.specs.Crash.{valued, IsFrontOn, members, is_in}
+use Rattle.protocol.specs.Chains.{by_place, is_place_below, RivalsRise, serial_run, IsSerial}
+use Rattle.protocol_laws.specs.Commits.{Finds, left_as, left_of, StatesLink, last_state}
+use Rattle.protocol_laws.specs.Linked.{came_to, visitors, IsExplained}
+use Rattle.protocol_records.specs.Crash.{NoneMissed, members, is_in}
 use Rattle.protocol.specs.Moments.{Moment, IsCut, IsLeft}
-use Rattle.protocol_theorems.specs.Order.{OrderFacts}
+use Rattle.protocol_theorems.specs.Order.{LeavesIt, OrderFacts}
 use Rattle.protocol_laws.proofs.first.Along.{along}
 use Rattle.protocol_theorems.proofs.order.ByPlace.{all_sorted}
 use Rattle.protocol_laws.proofs.first.Lists.{all_filter}
-use Rattle.protocol_theorems.proofs.order.OrderImplied.{LinkedFrom, serial_results, serial_states, sorted_links, sorted_last, links_visitors, visitors_link}
+use Rattle.protocol_theorems.proofs.order.OrderImplied.{LinkedFrom, passes, still_left, serial_results, serial_states, sorted_links, sorted_last, links_visitors, visitors_link}
 use Rattle.protocol_laws.proofs.first.Times
 
 -- ---- who has no value leaves nothing
@@ -41,34 +41,59 @@ links_valued a s (d ∷ ds) l = by (is_value d.result) refl (links_valued a (lef
     by true e h = (l.0, h)
     by false e h = subst (λ t. StatesLink a t (filter (λ d. is_value d.result) ds)) (leaves_nothing (is_value d.result) (d.views a) s e) h
 
-links_front : (a : ℕ) (s : State) (xs ys : List Done) → StatesLink a s (xs ++ ys) → StatesLink a s xs
-links_front a s [] ys l = tt
-links_front a s (x ∷ xs) ys l = (l.0, links_front a (left_of a x s) xs ys l.1)
-
 -- a part of what rises rises
-below_filter : (p : Place) (test : Done → Bool) (ds : List Done) → IsBelowAll p ds → IsBelowAll p (filter test ds)
-below_filter p test [] h = tt
-below_filter p test (d ∷ ds) h = by (test d) (below_filter p test ds h.1)
+rise_filter : (test : Done → Bool) (ds : List Done) → RivalsRise ds → RivalsRise (filter test ds)
+rise_filter test [] h = tt
+rise_filter test (d ∷ ds) h = by (test d) (rise_filter test ds h.1)
   where
-    by : (b : Bool) → IsBelowAll p (filter test ds) → IsBelowAll p (if b then d ∷ filter test ds else filter test ds)
-    by true k = (h.0, k)
+    by : (b : Bool) → RivalsRise (filter test ds) → RivalsRise (if b then d ∷ filter test ds else filter test ds)
+    by true k = (all_filter (λ e. (d.reader && e.reader) ≡ false → is_place_below d.place e.place ≡ true) test ds h.0, k)
     by false k = k
 
-rise_filter : (test : Done → Bool) (ds : List Done) → PlacesRise ds → PlacesRise (filter test ds)
-rise_filter test [] h = tt
-rise_filter test (d ∷ ds) h = by (test d) (below_filter d.place test ds h.0) (rise_filter test ds h.1)
+-- who came, of a part
+visitors_filter : (a : ℕ) (test : Done → Bool) (ds : List Done) → visitors a (filter test ds) ≡ filter test (visitors a ds)
+visitors_filter a test [] = refl
+visitors_filter a test (d ∷ ds) = by (test d) refl (came_to a d) refl (visitors_filter a test ds)
   where
-    by : (b : Bool) → IsBelowAll d.place (filter test ds) → PlacesRise (filter test ds) → PlacesRise (if b then d ∷ filter test ds else filter test ds)
-    by true i k = (i, k)
-    by false i k = k
+    by : (b : Bool) → test d ≡ b → (c : Bool) → came_to a d ≡ c → visitors a (filter test ds) ≡ filter test (visitors a ds) → visitors a (if b then d ∷ filter test ds else filter test ds) ≡ filter test (if c then d ∷ visitors a ds else visitors a ds)
+    by true e true f k = rw (e, f) (ap (λ l. d ∷ l) k)
+    by true e false f k = rw f k
+    by false e true f k = rw e k
+    by false e false f k = k
 
-below_front : (p : Place) (xs ys : List Done) → IsBelowAll p (xs ++ ys) → IsBelowAll p xs
-below_front p [] ys h = tt
-below_front p (x ∷ xs) ys h = (h.0, below_front p xs ys h.1)
+-- where none of them came states link
+none_link : (a : ℕ) (s : State) (test : Done → Bool) (ds : List Done) → AllByRecursion (λ e. test e ≡ true → is_some (e.views a) ≡ false) ds → StatesLink a s (filter test ds)
+none_link a s test [] h = tt
+none_link a s test (d ∷ ds) h = by (test d) refl (λ t. none_link a t test ds h.1)
+  where
+    found : (o : Option View) → is_some o ≡ false → Finds o s
+    found None e = tt
+    found (Some v) e = absurd (true≢false e)
 
-rise_front : (xs ys : List Done) → PlacesRise (xs ++ ys) → PlacesRise xs
-rise_front [] ys h = tt
-rise_front (x ∷ xs) ys h = (below_front x.place xs ys h.0, rise_front xs ys h.1)
+    by : (b : Bool) → test d ≡ b → ((t : State) → StatesLink a t (filter test ds)) → StatesLink a s (if b then d ∷ filter test ds else filter test ds)
+    by true e k = (found (d.views a) (h.0 e), k (left_of a d s))
+    by false e k = k s
+
+-- who is left out of what links leaves nothing, or nobody came behind it
+links_members : (a : ℕ) (s : State) (test : Done → Bool) (ds : List Done) → NoneMissed a test ds → AllByRecursion (λ d. d.reader ≡ true → LeavesIt (d.views a)) ds → StatesLink a s ds → StatesLink a s (filter test ds)
+links_members a s test [] m k l = tt
+links_members a s test (d ∷ ds) m k l = by (test d) refl (links_members a (left_of a d s) test ds m.1 k.1 l.1)
+  where
+    out : test d ≡ false → StatesLink a (left_of a d s) (filter test ds) → StatesLink a s (filter test ds)
+    out e h = elim (cases_Bool (came_to a d)) [
+      | inr c ↦ subst (λ t. StatesLink a t (filter test ds)) (passes a d s c) h
+      | inl c ↦ elim (cases_Bool (is_value d.result)) [
+        | inr v ↦ subst (λ t. StatesLink a t (filter test ds)) (leaves_nothing (is_value d.result) (d.views a) s v) h
+        | inl v ↦ elim (cases_Bool d.reader) [
+          | inl r ↦ subst (λ t. StatesLink a t (filter test ds)) (still_left a d s (k.0 r) l.0) h
+          | inr r ↦ none_link a s test ds (m.0 e c v r)
+        ]
+      ]
+    ]
+
+    by : (b : Bool) → test d ≡ b → StatesLink a (left_of a d s) (filter test ds) → StatesLink a s (if b then d ∷ filter test ds else filter test ds)
+    by true e h = (l.0, h)
+    by false e h = out e h
 
 -- all members have values
 all_valued : (ds : List Done) → AllByRecursion (λ d. is_value d.result ≡ true) ds → filter (λ d. is_value d.result) ds ≡ ds
@@ -95,13 +120,13 @@ pub record Members {C : Type 0} (w : Fixed C) (finish : C → List State → Alo
   pub serial : IsSerial w finish ms
   pub states : (a : ℕ) → a < length w.text.opening.states → state_in (serial_run w finish ms).world a ≡ last_state a (state_in w.text.opening.states a) ms
 
--- those with a value that pass a test, a front on each actor
+-- those with a value that pass a test, where nobody is missed
 pub parts_serial : {C : Type 0} (w : Fixed C) (finish : C → List State → Alone) (s : Machine C) (h : History) (test : Who → Bool) → OrderFacts w finish s h
-    → ((a : ℕ) → a < length w.text.opening.states → IsFrontOn a (filter (λ d. test d.who && is_value d.result) h.committed) h.committed) → Members w finish (filter (λ d. test d.who && is_value d.result) h.committed)
+    → ((a : ℕ) → a < length w.text.opening.states → NoneMissed a (λ d. test d.who && is_value d.result) h.committed) → Members w finish (filter (λ d. test d.who && is_value d.result) h.committed)
 unfolding LinkedFrom
-parts_serial {C} w finish s h test f front = record {
+parts_serial {C} w finish s h test f missed = record {
   serial = serial_results w finish (by_place ms) w.text.opening.states refl explained sorted;
-  states = λ a k. serial_states w finish (by_place ms) w.text.opening.states refl explained sorted a k ∙ sorted_last a (state_in w.text.opening.states a) ms (rise a k);
+  states = λ a k. serial_states w finish (by_place ms) w.text.opening.states refl explained sorted a k ∙ sorted_last a (state_in w.text.opening.states a) ms (rise a k) (left a) (linked a k);
 }
   where
     ms : List Done
@@ -110,24 +135,21 @@ parts_serial {C} w finish s h test f front = record {
     explained : AllByRecursion (IsExplained w finish) (by_place ms)
     explained = all_sorted (IsExplained w finish) ms (all_filter (IsExplained w finish) _ h.committed f.explained)
 
-    own : (a : ℕ) → valued a ms ≡ visitors a ms
-    own a = all_valued (visitors a ms) (all_filter (λ d. is_value d.result ≡ true) _ ms (are_valued test h.committed))
+    rise : (a : ℕ) → a < length w.text.opening.states → RivalsRise (visitors a ms)
+    rise a k = subst RivalsRise (sym (visitors_filter a (λ d. test d.who && is_value d.result) h.committed)) (rise_filter (λ d. test d.who && is_value d.result) (visitors a h.committed) (f.rise a k))
 
-    rise : (a : ℕ) → a < length w.text.opening.states → PlacesRise (visitors a ms)
-    rise a k = let q = front a k in subst (λ xs. PlacesRise xs) (own a) (rise_front (valued a ms) q.0 (subst (λ xs. PlacesRise xs) q.1 (rise_filter (λ d. is_value d.result) (visitors a h.committed) (f.rise a k))))
+    left : (a : ℕ) → AllByRecursion (λ d. d.reader ≡ true → LeavesIt (d.views a)) ms
+    left a = all_filter (λ d. d.reader ≡ true → LeavesIt (d.views a)) (λ d. test d.who && is_value d.result) h.committed (f.still a)
 
     linked : (a : ℕ) → a < length w.text.opening.states → StatesLink a (state_in w.text.opening.states a) ms
-    linked a k =
-        let q = front a k in
-        let st = state_in w.text.opening.states a in
-        visitors_link a st ms (subst (λ xs. StatesLink a st xs) (own a) (links_front a st (valued a ms) q.0 (subst (λ xs. StatesLink a st xs) q.1 (links_valued a st (visitors a h.committed) (links_visitors a st h.committed (f.linked a k))))))
+    linked a k = links_members a (state_in w.text.opening.states a) (λ d. test d.who && is_value d.result) h.committed (missed a k) (f.still a) (f.linked a k)
 
     sorted : LinkedFrom w.text.opening.states (by_place ms)
-    sorted = λ a k. sorted_links a (state_in w.text.opening.states a) ms (rise a k) (linked a k)
+    sorted = λ a k. sorted_links a (state_in w.text.opening.states a) ms (rise a k) (left a) (linked a k)
 
 pub members_serial : {C : Type 0} (w : Fixed C) (finish : C → List State → Alone) (s : Machine C) (h : History) (logs : ℕ → List LogRecord) → OrderFacts w finish s h
-    → ((a : ℕ) → a < length w.text.opening.states → IsFrontOn a (members w.text.logs logs h) h.committed) → Members w finish (members w.text.logs logs h)
-members_serial w finish s h logs f front = parts_serial w finish s h (is_in w.text.logs logs) f front
+    → ((a : ℕ) → a < length w.text.opening.states → NoneMissed a (λ d. is_in w.text.logs logs d.who && is_value d.result) h.committed) → Members w finish (members w.text.logs logs h)
+members_serial w finish s h logs f missed = parts_serial w finish s h (is_in w.text.logs logs) f missed
 
 -- ---- a moment is a cut
 

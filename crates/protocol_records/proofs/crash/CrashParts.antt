@@ -1,5 +1,5 @@
 -- All that is kept of records, over every run, and what it says of a cut.
-use Rattle.std.specs.Prelude.{◌≡◌, refl, ℕ, zero, suc, ◌≤◌, ◌<◌, ◌%◌, ◌==◌, Bool, true, false, ◌&&◌, if◌then◌else◌, List, [], ◌∷◌, ◌++◌, length, filter, take, drop, replicate, slice_index_or}
+use Rattle.std.specs.Prelude.{◌≡◌, refl, ℕ, zero, suc, ◌≤◌, ◌<◌, ◌%◌, ◌==◌, Bool, true, false, ◌&&◌, if◌then◌else◌, List, [], ◌∷◌, ◌++◌, length, filter, take, drop, replicate, slice_index_or, ◌||◌}
 use Rattle.std.specs.List.{AllByRecursion, list_any}
 use Rattle.std.proofs.Common.{arith, sym, ap, subst, inl, inr, ◌∙◌}
 use Rattle.std.proofs.lemmas.List.{append-nil}
@@ -14,13 +14,14 @@ use Rattle.protocol.specs.Events.{Event}
 use Rattle.protocol.specs.Conditions.{IsAllowed}
 use Rattle.protocol.specs.Effects.{after, log_at, no_log}
 use Rattle.protocol.specs.Runs.{opening, IsRun, reached}
+use Rattle.protocol.specs.Words.{is_value}
 use Rattle.protocol.specs.History.{History, no_history, history, grown}
 use Rattle.protocol_laws.specs.Commits.{is_kept, last_state}
 use Rattle.protocol.specs.Chains.{serial_run}
 use Rattle.protocol.specs.Moments.{IsCut, left_in}
 use Rattle.protocol_records.specs.Logged.{durable_at, logged_at, is_sure, is_written, Written, BatchesSure, Infos, InfoIs, actors_of, ActsSure, ActCommits, AllGoneSure, AllKeptSure, KeptSure, AllThere, AllDoneSure, ActsStand, OnJoined, Prepared, is_on}
 use Rattle.protocol_records.specs.Telling.{One, told, AllTells, Telling, FrontIn, last_one, Recovers}
-use Rattle.protocol_records.specs.Crash.{is_in, counts, last_told, recovered_state, members, IsFrontOn}
+use Rattle.protocol_records.specs.Crash.{is_in, counts, last_told, recovered_state, members, NoneMissed}
 use Rattle.protocol_laws.proofs.machine.Good.{Given}
 use Rattle.protocol_laws.proofs.machine.AllGood.{AllGood, along_good}
 use Rattle.protocol_theorems.proofs.order.LastLaw.{facts_hold}
@@ -30,7 +31,7 @@ use Rattle.protocol_records.proofs.crash.BatchesSure.{Filled}
 use Rattle.protocol_records.proofs.crash.ActsSure as acts
 use Rattle.protocol_records.proofs.crash.OnLong.{gone_kept}
 use Rattle.protocol_records.proofs.crash.KeptSure.{kept_sure}
-use Rattle.protocol_records.proofs.crash.DonesSure.{there_kept, done_sure, in_front}
+use Rattle.protocol_records.proofs.crash.DonesSure.{there_kept, done_sure, none_missed}
 use Rattle.protocol_records.proofs.crash.ActPlaces.{on_joined, prepared_kept, stands_kept}
 use Rattle.protocol_records.proofs.crash.TellsKept.{telling_kept, told_join}
 use Rattle.protocol_records.proofs.crash.RecoversKept.{recovers_kept}
@@ -49,12 +50,10 @@ pub record Logs {C : Type 0} (w : Fixed C) (s : Machine C) (h : History) : Type 
   pub gone : AllGoneSure w s h
   pub sure : AllKeptSure w s h
   pub there : AllThere h
-  pub done : AllDoneSure w s h
   pub stand : ActsStand s h
   pub joined : OnJoined s h
   pub prepared : Prepared w s
   pub telling : Telling w s h
-  pub recovers : Recovers w s h
 
 pub logs_kept : {C : Type 0} (w : Fixed C) (Of : Tx → C → Type 0) (finish : C → List State → Alone) (e : Event) (s : Machine C) (h : History) → Given w Of finish → IsAllowed w e s → AllGood w Of finish s h → Logs w s h → Logs w (after w e s) (grown w e s h)
 logs_kept w Of finish e s h v ok g l = record {
@@ -67,13 +66,17 @@ logs_kept w Of finish e s h v ok g l = record {
   gone = gone_kept w e s h ok g.acts l.batches l.acts l.gone;
   sure = kept_sure w Of finish e s h v ok g l.batches l.gone l.sure;
   there = there_kept w Of finish e s h v ok g l.there;
-  done = done_sure w Of finish e s h ok g l.batches l.gone l.there l.done;
   stand = stands_kept w e s h ok g.none g.good.placed g.behind l.stand;
   joined = on_joined w e s h ok l.joined;
   prepared = prepared_kept w e s ok g.none l.prepared;
   telling = telling_kept w Of finish e s h v ok g l.acts l.stand l.prepared l.telling;
-  recovers = recovers_kept w Of finish e s h v ok g l.batches l.acts l.stand l.joined l.prepared l.there l.telling l.recovers;
 }
+
+-- and what is told of the states
+pub record Recovering {C : Type 0} (w : Fixed C) (s : Machine C) (h : History) : Type 0 where
+  pub logs : Logs w s h
+  pub done : AllDoneSure w s h
+  pub recovers : Recovers w s h
 
 pub no_records : (n l : ℕ) → (slice_index_or (replicate n no_log) l no_log).records ≡ []
 no_records zero l = refl
@@ -95,12 +98,10 @@ logs_opened w = record {
   gone = λ a. tt;
   sure = λ a. tt;
   there = tt;
-  done = λ a. tt;
   stand = λ t x e. absurd (cc e);
   joined = λ t a e. absurd (true≢false (sym e));
   prepared = λ t a e. absurd (none_logged (is_prepare t a) w.text.logs (a % w.text.logs) e);
-  telling = λ a. subst (λ rs. AllTells (slice_index_or w.text.opening.states a no_state) (told a rs) []) (sym (no_records w.text.logs (a % w.text.logs))) tt;
-  recovers = λ a P f. subst (λ rs. last_one (slice_index_or w.text.opening.states a no_state) (filter (λ o. P o.who && is_kept o.who []) (told a rs)) ≡ slice_index_or w.text.opening.states a no_state) (sym (no_records w.text.logs (a % w.text.logs))) refl;
+  telling = λ a. subst (λ rs. AllTells (Rattle.protocol_laws.specs.Commits.reads_who []) (slice_index_or w.text.opening.states a no_state) (told a rs) []) (sym (no_records w.text.logs (a % w.text.logs))) tt;
 }
   where
     none : (y : Who) → is_written w.text.logs (replicate w.text.logs no_log) y ≡ true → is_kept y [] ≡ true
@@ -127,7 +128,7 @@ sure_in w s kept (OfBatch k) c h = durable_in s kept (is_commit k) (k % w.text.l
 sure_in w s kept (OfAct t) c h = durable_in s kept (is_act_commit t) (t % w.text.logs) c h
 
 -- who is in committed with a value
-pub in_kept : {C : Type 0} (w : Fixed C) (s : Machine C) (h : History) (kept : ℕ → ℕ) (y : Who) → Written w s h → is_in w.text.logs (left_in s kept) y ≡ true → is_kept y h.kept ≡ true
+pub in_kept : {C : Type 0} (w : Fixed C) (s : Machine C) (h : History) (kept : ℕ → ℕ) (y : Who) → Written w s h → is_in w.text.logs (left_in s kept) y ≡ true → (is_kept y h.kept || is_kept y h.kept_readers) ≡ true
 unfolding Written
 in_kept w s h kept (OfBatch k) g e = g (OfBatch k) (any_take (is_commit k) (kept (k % w.text.logs)) (log_at s (k % w.text.logs)).records e)
 in_kept w s h kept (OfAct t) g e = g (OfAct t) (any_take (is_act_commit t) (kept (t % w.text.logs)) (log_at s (t % w.text.logs)).records e)
@@ -201,14 +202,26 @@ recovered_is w s h kept a c l n =
 
 -- ---- the serial half, with the states
 
-pub front_on : {C : Type 0} (w : Fixed C) (s : Machine C) (h : History) (kept : ℕ → ℕ) (a : ℕ) → IsCut s kept → Logs w s h → IsFrontOn a (members w.text.logs (left_in s kept) h) h.committed
+pub none_missed_at : {C : Type 0} (w : Fixed C) (s : Machine C) (h : History) (kept : ℕ → ℕ) (a : ℕ) → IsCut s kept → AllDoneSure w s h → NoneMissed a (λ d. is_in w.text.logs (left_in s kept) d.who && is_value d.result) h.committed
 unfolding AllDoneSure
-front_on w s h kept a c l = in_front (is_in w.text.logs (left_in s kept)) (is_sure w.text.logs s.logs) a h.committed (λ y i. sure_in w s kept y c i) (l.done a)
+none_missed_at w s h kept a c l = none_missed (is_in w.text.logs (left_in s kept)) (is_sure w.text.logs s.logs) a h.committed (λ y i. sure_in w s kept y c i) (l a)
+
+-- along a run
+record Followed {C : Type 0} (w : Fixed C) (s : Machine C) (h : History) : Type 0 where
+  pub logs : Logs w s h
+  pub done : AllDoneSure w s h
+
+done_opened : {C : Type 0} (w : Fixed C) → AllDoneSure w (opening w) no_history
+unfolding AllDoneSure
+done_opened w = λ a. tt
+
+pub done_hold : {C : Type 0} (w : Fixed C) (Of : Tx → C → Type 0) (finish : C → List State → Alone) (es : List Event) → Given w Of finish → IsRun w es → AllDoneSure w (reached w es) (history w es)
+done_hold w Of finish es v run = (along_good w Of finish (Followed w) v (λ e s h ok g l. record { logs = logs_kept w Of finish e s h v ok g l.logs; done = done_sure w Of finish e s h v ok g l.logs.batches l.logs.gone l.logs.there l.done }) (record { logs = logs_opened w; done = done_opened w }) es run).done
 
 -- At every moment of every run members are serial; with nothing of a member behind the cut, what is recovered of each
 -- actor is what they leave.
 pub crash_serial : {C : Type 0} (w : Fixed C) (Of : Tx → C → Type 0) (finish : C → List State → Alone) (es : List Event) (kept : ℕ → ℕ) → Given w Of finish → IsRun w es → IsCut (reached w es) kept → Members w finish (members w.text.logs (left_in (reached w es) kept) (history w es))
-crash_serial w Of finish es kept v run c = members_serial w finish (reached w es) (history w es) (left_in (reached w es) kept) (facts_hold w Of finish es v run) (λ a k. front_on w (reached w es) (history w es) kept a c (logs_hold w Of finish es v run))
+crash_serial w Of finish es kept v run c = members_serial w finish (reached w es) (history w es) (left_in (reached w es) kept) (facts_hold w Of finish es v run) (λ a k. none_missed_at w (reached w es) (history w es) kept a c (done_hold w Of finish es v run))
 
 pub crash_states : {C : Type 0} (w : Fixed C) (Of : Tx → C → Type 0) (finish : C → List State → Alone) (es : List Event) (kept : ℕ → ℕ) (a : ℕ) → Given w Of finish → IsRun w es → IsCut (reached w es) kept → a < length w.text.opening.states → NoneBehind w (reached w es) kept a
     → recovered_state w.text.logs (left_in (reached w es) kept) a (state_in w.text.opening.states a) ≡ state_in (serial_run w finish (members w.text.logs (left_in (reached w es) kept) (history w es))).world a

@@ -24,8 +24,8 @@ use Rattle.protocol_laws.proofs.machine.Good.{Given, for_chain}
 use Rattle.protocol_laws.proofs.machine.AllGood.{AllGood, owes, along_good}
 use Rattle.protocol_records.proofs.crash.DurableKept.{Durable, has_record, any_take}
 use Rattle.protocol_records.proofs.crash.DurableKept as durable
-use Rattle.protocol_records.proofs.crash.FrontsKept.{Fronts, Split}
-use Rattle.protocol_records.proofs.crash.FrontsKept as fronts
+use Rattle.protocol_records.proofs.crash.FrontsKept.{Split}
+use Rattle.protocol_records.proofs.crash.CrashParts.{none_missed_at, done_hold}
 use Rattle.protocol_records.proofs.crash.CrashImplied.{Members, members_serial, moment_is_cut, front_runs}
 use Rattle.protocol_theorems.proofs.order.LastLaw.{all_facts}
 use Rattle.protocol.specs.Rests.{IsRest, IsTxIn, HasFacts}
@@ -34,18 +34,15 @@ use Rattle.protocol.specs.Rests.{IsRest, IsTxIn, HasFacts}
 
 pub record Recovers {C : Type 0} (w : Fixed C) (s : Machine C) (h : History) : Type 0 where
   pub durable : Durable w s h
-  pub fronts : Fronts w s h
 
 pub kept : {C : Type 0} (w : Fixed C) (Of : Tx → C → Type 0) (finish : C → List State → Alone) (e : Event) (s : Machine C) (h : History) → Given w Of finish → IsAllowed w e s → AllGood w Of finish s h → Recovers w s h → Recovers w (after w e s) (grown w e s h)
 kept w Of finish e s h v ok g i = record {
   durable = durable.kept w e s h ok g.acts g.none i.durable;
-  fronts = fronts.kept w Of finish e s h ok (for_chain w Of finish e s h v ok (owes w Of finish e s h ok g) g.good) g i.durable i.fronts;
 }
 
 pub opened : {C : Type 0} (w : Fixed C) → Recovers w (opening w) no_history
 opened w = record {
   durable = record { settled = λ k q. absurd (true≢false (sym q)); sealed = λ t q. absurd (true≢false (sym q)); gone = λ a. tt };
-  fronts = record { there = λ a. tt; split = λ a. record { front = []; last = []; who = OfAct 0; splits = refl; durable = tt; of_it = tt } };
 }
 
 pub recovers : {C : Type 0} (w : Fixed C) (Of : Tx → C → Type 0) (finish : C → List State → Alone) (es : List Event) → Given w Of finish → IsRun w es → Recovers w (reached w es) (history w es)
@@ -123,5 +120,4 @@ pub members_recover : {C : Type 0} (w : Fixed C) (finish : C → List State → 
 members_recover w finish es m left f t run l =
     let early : IsRun w m.events = front_runs w m.events m.later (subst (λ xs. IsRun w xs) m.splits run) in
     members_serial w finish (reached w m.events) (history w m.events) (left_in (reached w m.events) left) (all_facts w (IsRest w.code (IsTxIn w.text)) finish m.events f t early)
-    (λ a k. front_at w (reached w m.events) (history w m.events) left a (moment_is_cut w es m left run l)
-    ((recovers w (IsRest w.code (IsTxIn w.text)) finish m.events (record { text = t; actors = omega (arith, k); facts = f }) early).fronts.split a))
+    (λ a k. none_missed_at w (reached w m.events) (history w m.events) left a (moment_is_cut w es m left run l) (done_hold w (IsRest w.code (IsTxIn w.text)) finish m.events (record { text = t; actors = omega (arith, k); facts = f }) early))

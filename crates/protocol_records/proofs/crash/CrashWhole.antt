@@ -14,6 +14,7 @@ use Rattle.protocol.specs.Effects.{log_at, put_in, ascending}
 use Rattle.protocol.specs.History.{History}
 use Rattle.protocol_laws.specs.Marks.{Known, Marked}
 use Rattle.protocol.specs.Moments.{IsCut, left_in}
+use Rattle.protocol_records.proofs.crash.KeptAll.{batch_kept, act_kept}
 use Rattle.protocol_records.specs.Logged.{durable_at, BatchesSure, Infos, InfoIs, actors_of, ActsSure, ActCommits, CommitIs}
 use Rattle.protocol_records.specs.Crash.{is_in, BatchIsWhole, ActIsWhole}
 use Rattle.protocol_laws.proofs.machine.TurnsKept.{one_is}
@@ -74,7 +75,7 @@ noted_in w s kept k (p ∷ ps) c n h = let v = and_parts p.noted (list_all (λ p
 pub whole_batch : {C : Type 0} (w : Fixed C) (Of : Tx → C → Type 0) (finish : C → List State → Alone) (s : Machine C) (h : History) (kept : ℕ → ℕ) (k : ℕ) → IsCut s kept → AllGood w Of finish s h → Logs w s h → is_in w.text.logs (left_in s kept) (OfBatch k) ≡ true → BatchIsWhole w.text.logs (left_in s kept) k
 unfolding Known Marked BatchesSure Infos
 whole_batch w Of finish s h kept k c g l e =
-    let q = in_kept w s h kept (OfBatch k) l.written e in
+    let q = batch_kept w Of finish s h k g (in_kept w s h kept (OfBatch k) l.written e) in
     let b = one_is (λ x. true) (batch_of k s.desk.batches) (there_is (batch_of k s.desk.batches) (g.good.known k q)) in
     let m = g.good.marked k b.0 b.1 in
     let formed : is_formed b.0.stage ≡ false = not-true (is_formed b.0.stage) (sym m.known ∙ q) in
@@ -106,6 +107,6 @@ whole_act w Of finish s h kept t c g l e =
     let q = in_kept w s h kept (OfAct t) l.written e in
     let i = commit_at t (left_in s kept (t % w.text.logs)) e in
     let f = all_mid (CommitIs s.book.acts) (ActDone t i.m i.c i.v i.actors) i.front i.rest (subst (AllByRecursion (CommitIs s.book.acts)) i.splits (all_take (CommitIs s.book.acts) (kept (t % w.text.logs)) (log_at s (t % w.text.logs)).records (l.commits (t % w.text.logs)))) in
-    let v = and_parts (is_ordered f.0.status) (is_value f.0.result) (sym (g.acts t f.0 f.1).known ∙ q) in
+    let v = act_kept w Of finish s h t f.0 g f.1 q in
     let p = l.acts t f.0 f.1 in
     record { m = i.m; c = i.c; v = i.v; actors = i.actors; front = i.front; rest = i.rest; commit = i.splits; prepares = subst (AllByRecursion (λ a. list_any (is_prepare t a) (left_in s kept (a % w.text.logs)) ≡ true)) f.3 (all_ascending (λ a. list_any (is_prepare t a) (left_in s kept (a % w.text.logs)) ≡ true) (map (λ p. p.actor) f.0.places) (vouched_in w s kept t f.0.places c (p.everywhere v.0 v.1) p.vouched)) }

@@ -1,15 +1,16 @@
 -- What is durable stays so, and what is added is in one log.
-use Rattle.std.specs.Prelude.{◌≡◌, refl, ℕ, zero, suc, ◌%◌, Bool, true, false, ◌⊎◌, if◌then◌else◌, Option, Some, None, List, [], ◌∷◌, ◌++◌, length, map, take, slice_get, slice_index_or, slice_set}
+use Rattle.std.specs.Prelude.{◌≡◌, refl, ℕ, zero, suc, ◌%◌, Bool, true, false, ◌⊎◌, if◌then◌else◌, Option, Some, None, List, [], ◌∷◌, ◌++◌, length, map, take, slice_get, slice_index_or, slice_set, ◌&&◌, ◌||◌, not}
 use Rattle.std.specs.List.{AllByRecursion, list_any}
-use Rattle.std.proofs.Common.{sym, ap, inl, inr, ◌∙◌}
+use Rattle.std.proofs.Common.{sym, ap, inl, inr, ◌∙◌, subst}
 use Rattle.std.proofs.lemmas.Bool.{true≢false, or_cases, or_left, or_right}
+use Rattle.std.proofs.lemmas.List.{append-nil}
 use Rattle.protocol.specs.Fixed.{Fixed}
 use Rattle.protocol.specs.Records.{LogRecord, is_info, is_complete, is_commit, is_prepare, is_act_commit}
 use Rattle.protocol.specs.Parts.{Act, Who, OfBatch, OfAct, Log, Machine}
 use Rattle.protocol.specs.Events.{Event, Form, Complete, Sync, Commit, Prepare, Decide}
 use Rattle.protocol.specs.Words.{is_who, is_value, is_durable, holds, act_of, value_of}
 use Rattle.protocol.specs.Effects.{after, no_log, added, synced, act_commit}
-use Rattle.protocol.specs.History.{History, grown, kept_act}
+use Rattle.protocol.specs.History.{History, grown, kept_act, kept_reader}
 use Rattle.protocol_laws.specs.Commits.{is_kept}
 use Rattle.protocol_records.specs.Logged.{durable_at, logged_at, is_sure, Written}
 use Rattle.protocol_laws.proofs.first.Lists.{any_front, any_join, any_take}
@@ -89,13 +90,18 @@ durable_is p (x ∷ xs) (suc l) h = durable_is p xs l h
 
 -- ---- who has a commit record committed
 
-act_written : (t c : ℕ) (kept : List Who) (o : Option Act) → list_any (is_act_commit t) (act_commit c o) ≡ true → is_kept (OfAct t) (kept ++ kept_act o) ≡ true
-act_written t c kept None h = absurd (true≢false (sym h))
-act_written t c kept (Some x) h = by (is_value x.result) h
+act_written : (t c : ℕ) (kept readers : List Who) (o : Option Act) → list_any (is_act_commit t) (act_commit c o) ≡ true → (is_kept (OfAct t) (kept ++ kept_act o) || is_kept (OfAct t) (readers ++ kept_reader o)) ≡ true
+act_written t c kept readers None h = absurd (true≢false (sym h))
+act_written t c kept readers (Some x) h = by (is_value x.result) x.reader h
   where
-    by : (b : Bool) → list_any (is_act_commit t) (if b then Rattle.protocol.specs.Records.ActDone x.tid x.m c (value_of x.result) (Rattle.protocol.specs.Effects.ascending (map (λ p. p.actor) x.places)) ∷ [] else []) ≡ true → is_kept (OfAct t) (kept ++ (if b then OfAct x.tid ∷ [] else [])) ≡ true
-    by true g = any_back (λ z. is_who z (OfAct t)) kept (OfAct x.tid ∷ []) g
-    by false g = absurd (true≢false (sym g))
+    by : (b v : Bool) → list_any (is_act_commit t) (if b then Rattle.protocol.specs.Records.ActDone x.tid x.m c (value_of x.result) (Rattle.protocol.specs.Effects.ascending (map (λ p. p.actor) x.places)) ∷ [] else []) ≡ true → (is_kept (OfAct t) (kept ++ (if b && not v then OfAct x.tid ∷ [] else [])) || is_kept (OfAct t) (readers ++ (if b && v then OfAct x.tid ∷ [] else []))) ≡ true
+    by true false g = or_left (is_kept (OfAct t) (kept ++ OfAct x.tid ∷ [])) _ (any_back (λ z. is_who z (OfAct t)) kept (OfAct x.tid ∷ []) g)
+    by true true g = or_right (is_kept (OfAct t) (kept ++ [])) _ (any_back (λ z. is_who z (OfAct t)) readers (OfAct x.tid ∷ []) g)
+    by false v g = absurd (true≢false (sym g))
+
+-- who committed stays among those
+kept_grows : (y : Who) (kept readers more extra : List Who) → (is_kept y kept || is_kept y readers) ≡ true → (is_kept y (kept ++ more) || is_kept y (readers ++ extra)) ≡ true
+kept_grows y kept readers more extra h = elim (or_cases (is_kept y kept) (is_kept y readers) h) [ inl q ↦ or_left (is_kept y (kept ++ more)) _ (any_front (λ z. is_who z y) kept more q) | inr q ↦ or_right (is_kept y (kept ++ more)) _ (any_front (λ z. is_who z y) readers extra q) ]
 
 no_batch_in : (k c : ℕ) (o : Option Act) → list_any (is_commit k) (act_commit c o) ≡ true → ⊥
 no_batch_in k c None h = true≢false (sym h)
@@ -113,10 +119,13 @@ written_kept w (Complete k a) s h g (OfBatch j) q = elim (logged_added (is_commi
 written_kept w (Complete k a) s h g (OfAct u) q = elim (logged_added (is_act_commit u) _ s.logs (a % w.text.logs) (u % w.text.logs) q) [ inl v ↦ g (OfAct u) v | inr v ↦ absurd (true≢false (sym v)) ]
 written_kept w (Prepare t a) s h g (OfBatch j) q = elim (logged_added (is_commit j) _ s.logs (a % w.text.logs) (j % w.text.logs) q) [ inl v ↦ g (OfBatch j) v | inr v ↦ absurd (true≢false (sym v)) ]
 written_kept w (Prepare t a) s h g (OfAct u) q = elim (logged_added (is_act_commit u) _ s.logs (a % w.text.logs) (u % w.text.logs) q) [ inl v ↦ g (OfAct u) v | inr v ↦ absurd (true≢false (sym v)) ]
-written_kept w (Commit k) s h g (OfBatch j) q = elim (logged_added (is_commit j) _ s.logs (k % w.text.logs) (j % w.text.logs) q) [ inl v ↦ any_front (λ z. is_who z (OfBatch j)) h.kept _ (g (OfBatch j) v) | inr v ↦ any_back (λ z. is_who z (OfBatch j)) h.kept (OfBatch k ∷ []) v ]
-written_kept w (Commit k) s h g (OfAct u) q = elim (logged_added (is_act_commit u) _ s.logs (k % w.text.logs) (u % w.text.logs) q) [ inl v ↦ any_front (λ z. is_who z (OfAct u)) h.kept _ (g (OfAct u) v) | inr v ↦ absurd (true≢false (sym v)) ]
-written_kept w (Decide t) s h g (OfBatch j) q = elim (logged_added (is_commit j) _ s.logs (t % w.text.logs) (j % w.text.logs) q) [ inl v ↦ any_front (λ z. is_who z (OfBatch j)) h.kept _ (g (OfBatch j) v) | inr v ↦ absurd (no_batch_in j s.book.next_c (act_of t s.book.acts) v) ]
-written_kept w (Decide t) s h g (OfAct u) q = elim (logged_added (is_act_commit u) _ s.logs (t % w.text.logs) (u % w.text.logs) q) [ inl v ↦ any_front (λ z. is_who z (OfAct u)) h.kept _ (g (OfAct u) v) | inr v ↦ act_written u s.book.next_c h.kept (act_of t s.book.acts) v ]
+written_kept w (Commit k) s h g (OfBatch j) q = elim (logged_added (is_commit j) _ s.logs (k % w.text.logs) (j % w.text.logs) q) [ inl v ↦ on_readers (OfBatch j) (kept_grows (OfBatch j) h.kept h.kept_readers (OfBatch k ∷ []) [] (g (OfBatch j) v)) | inr v ↦ or_left (is_kept (OfBatch j) (h.kept ++ OfBatch k ∷ [])) _ (any_back (λ z. is_who z (OfBatch j)) h.kept (OfBatch k ∷ []) v) ]
+  where
+    on_readers : (y : Who) → (is_kept y (h.kept ++ OfBatch k ∷ []) || is_kept y (h.kept_readers ++ [])) ≡ true → (is_kept y (h.kept ++ OfBatch k ∷ []) || is_kept y h.kept_readers) ≡ true
+    on_readers y e = subst (λ z. (is_kept y (h.kept ++ OfBatch k ∷ []) || is_kept y z) ≡ true) (append-nil h.kept_readers) e
+written_kept w (Commit k) s h g (OfAct u) q = elim (logged_added (is_act_commit u) _ s.logs (k % w.text.logs) (u % w.text.logs) q) [ inl v ↦ subst (λ z. (is_kept (OfAct u) (h.kept ++ OfBatch k ∷ []) || is_kept (OfAct u) z) ≡ true) (append-nil h.kept_readers) (kept_grows (OfAct u) h.kept h.kept_readers (OfBatch k ∷ []) [] (g (OfAct u) v)) | inr v ↦ absurd (true≢false (sym v)) ]
+written_kept w (Decide t) s h g (OfBatch j) q = elim (logged_added (is_commit j) _ s.logs (t % w.text.logs) (j % w.text.logs) q) [ inl v ↦ kept_grows (OfBatch j) h.kept h.kept_readers (kept_act (act_of t s.book.acts)) (kept_reader (act_of t s.book.acts)) (g (OfBatch j) v) | inr v ↦ absurd (no_batch_in j s.book.next_c (act_of t s.book.acts) v) ]
+written_kept w (Decide t) s h g (OfAct u) q = elim (logged_added (is_act_commit u) _ s.logs (t % w.text.logs) (u % w.text.logs) q) [ inl v ↦ kept_grows (OfAct u) h.kept h.kept_readers (kept_act (act_of t s.book.acts)) (kept_reader (act_of t s.book.acts)) (g (OfAct u) v) | inr v ↦ act_written u s.book.next_c h.kept h.kept_readers (act_of t s.book.acts) v ]
 written_kept w (Sync l) s h g (OfBatch j) q = g (OfBatch j) (sym (ap (list_any (is_commit j)) (log_synced s.logs l (j % w.text.logs))) ∙ q)
 written_kept w (Sync l) s h g (OfAct u) q = g (OfAct u) (sym (ap (list_any (is_act_commit u)) (log_synced s.logs l (u % w.text.logs))) ∙ q)
 written_kept w e s h g y q = g y q

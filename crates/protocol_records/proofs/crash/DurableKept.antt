@@ -11,15 +11,17 @@ use Rattle.protocol.specs.Fixed.{Fixed, Next, Go, Ended}
 use Rattle.protocol.specs.Records.{LogRecord, is_commit, is_act_commit}
 use Rattle.protocol.specs.Parts.{Act, Batch, Cascade, Who, OfBatch, OfAct, Pair, Status, Live, Doomed, Decided, Sealed, Stage, Formed, Committing, Settled, Log, Outcome, Cell, Machine}
 use Rattle.protocol.specs.Events.{Event, Form, Admit, Arrive, Ask, Run, End, Complete, Sync, Note, Commit, Settle, Abort, Rollback, Prepare, Vouch, Decide, Seal, Finish, Trim}
-use Rattle.protocol.specs.Words.{holds, is_who, is_failure, is_value, is_durable, is_settled, is_sealed, is_doomed, is_live_status, batch_of, act_of, has_act, outcome_of, is_ended, is_ordered}
+use Rattle.protocol.specs.Words.{holds, is_who, is_failure, is_value, is_durable, is_settled, is_sealed, is_doomed, is_live_status, batch_of, act_of, has_act, outcome_of, is_ended, is_ordered, lock_of, floor_at}
 use Rattle.protocol.specs.Spread.{raised, carried, crossed_out, is_crossed, doomed_by_order}
 use Rattle.protocol.specs.Conditions.{IsAllowed, conditions}
 use Rattle.protocol.specs.Effects.{after, cell_at, log_at, no_log, no_cell, added}
 use Rattle.protocol.specs.OnRing as ring
 use Rattle.protocol.specs.OnDesk as desk
 use Rattle.protocol.specs.OnBook as book
-use Rattle.protocol.specs.History.{History, Slice, Ran, Stands, Gone, grown, not_run, ran_in, completed, left_for_good, without_standing, long_staying, asks}
+use Rattle.protocol.specs.History.{History, Slice, Ran, Stands, Gone, grown, not_run, ran_in, completed, left_for_good, without_standing, long_staying, asks, is_traceless}
+use Rattle.protocol.specs.OnCell as cell
 use Rattle.protocol.specs.OnCell.{is_cut, is_undone_act}
+use Rattle.protocol_laws.proofs.machine.TrackLists
 use Rattle.protocol_laws.proofs.machine.TrackLists.{is_who_true}
 use Rattle.protocol_laws.proofs.machine.CommitsKept.{beside_carried}
 use Rattle.protocol_laws.proofs.machine.TracksKept.{held}
@@ -161,9 +163,9 @@ raised_back t ps (x ∷ xs) h = by (x.tid == t) h (raised_back t ps xs)
     by true h r = h
     by false h r = r h
 
-asked_back : {C : Type 0} (u t a : ℕ) (o : Option ℕ) (c : Cell C) (b : Rattle.protocol.specs.Parts.Book) → holds is_sealed_act (act_of u (book.asked_acts o (book.met t c.entries) t a (max c.last c.floor) b)) ≡ true → holds is_sealed_act (act_of u b.acts) ≡ true
+asked_back : {C : Type 0} (u t a : ℕ) (o : Option ℕ) (c : Cell C) (b : Rattle.protocol.specs.Parts.Book) → holds is_sealed_act (act_of u (book.asked_acts o (book.met (lock_of t b.acts) c.entries) t a (max c.last (floor_at t b.acts c)) b)) ≡ true → holds is_sealed_act (act_of u b.acts) ≡ true
 asked_back u t a (Some older) c b h = changed u t (book.doomed_by (Rattle.protocol.specs.Verdicts.died a older t)) b.acts (λ x. refl) (λ x q. doom_sealed (is_live_status x.status) _ x.status x.result q) h
-asked_back u t a None c b h = changed u t (book.joins a (max c.last c.floor)) b.acts (λ x. refl) (λ x q. q) (raised_back u _ _ (by_order u a _ h))
+asked_back u t a None c b h = changed u t (book.joins a (max c.last (floor_at t b.acts c))) b.acts (λ x. refl) (λ x q. q) (raised_back u _ _ (by_order u a _ h))
 
 act_more : (t : ℕ) (n : Act) (xs : List Act) → is_sealed_act n ≡ false → holds is_sealed_act (act_of t (xs ++ n ∷ [])) ≡ true → holds is_sealed_act (act_of t xs) ≡ true
 act_more t n [] e h = by (n.tid == t) h
@@ -226,7 +228,7 @@ sealed_was : {C : Type 0} (w : Fixed C) (e : Event) (s : Machine C) (h : History
 unfolding conditions after
 sealed_was w (Admit u) s h t ok i n q = inl (act_more t _ s.book.acts refl q)
 sealed_was w (Arrive k a) s h t ok i n q = inl (act_back (book.lowered k (book.tids_on (cell_at s a).entries)) (λ x. refl) (λ x q. q) t s.book.acts (by_order t a _ q))
-sealed_was w (Ask u a) s h t ok i n q = inl (asked_back t u a (book.in_the_way u (cell_at s a).entries) (cell_at s a) s.book q)
+sealed_was w (Ask u a) s h t ok i n q = inl (asked_back t u a (book.in_the_way (lock_of u s.book.acts) (cell_at s a).entries) (cell_at s a) s.book q)
 sealed_was {C} w (End u a) s h t ok i n q = inl (by (has_act u (cell_at s a).entries) (outcome_of u (cell_at s a).outbox) q)
   where
     next : (x : Next C) → holds is_sealed_act (act_of t (book.noted_for u x s.book.acts)) ≡ true → holds is_sealed_act (act_of t s.book.acts) ≡ true
@@ -321,11 +323,11 @@ gone_finish P t true rs p h = gone_without P (OfAct t) rs h
 gone_finish P t false rs p h = gone_left P (OfAct t) rs (p refl) h
 
 -- an ACT that leaves and is not undone was sealed with a value
-finishes_sealed : {C : Type 0} (s : Machine C) (h : History) (t : ℕ) → Acts s h → holds (λ x. is_doomed x.status || is_sealed x.status) (act_of t s.book.acts) ≡ true → is_undone_act (act_of t s.book.acts) ≡ false → holds is_sealed_act (act_of t s.book.acts) ≡ true
+finishes_sealed : {C : Type 0} (s : Machine C) (h : History) (t : ℕ) → Acts s h → holds (λ x. is_doomed x.status || is_sealed x.status) (act_of t s.book.acts) ≡ true → is_traceless (act_of t s.book.acts) ≡ false → holds is_sealed_act (act_of t s.book.acts) ≡ true
 unfolding Acts
 finishes_sealed s h t i ok u =
     let x = one_is (λ x. is_doomed x.status || is_sealed x.status) (act_of t s.book.acts) ok in
-    let d = or_parts (is_doomed x.0.status) (is_failure x.0.result) (subst (λ z. is_undone_act z ≡ false) x.1 u) in
+    let d = or_parts (is_doomed x.0.status) (is_failure x.0.result) (or_parts (is_doomed x.0.status || is_failure x.0.result) x.0.reader (subst (λ z. is_traceless z ≡ false) x.1 u)).0 in
     subst (λ o. holds is_sealed_act o ≡ true) (sym x.1) (by x.0.status x.0.result x.2 d.0 d.1 (i t x.0 x.1).ended)
   where
     by : (st : Status) (r : Option TxResult) → (is_doomed st || is_sealed st) ≡ true → is_doomed st ≡ false → is_failure r ≡ false → (is_ordered st ≡ true → is_some r ≡ true) → (is_sealed st && is_value r) ≡ true
@@ -358,11 +360,11 @@ pub gone_before : {C : Type 0} (w : Fixed C) (D : Who → Type 0) (e : Event) (s
     → ((a : ℕ) → AllGone D (h.long a)) → (a : ℕ) → AllGone D ((grown w e s h).long a)
 unfolding conditions grown
 gone_before w D (Arrive k a) s h ok i settled sealed g = beside_carried (λ b rs. AllGone D rs) a _ h.long (λ x. gone_more _ (OfBatch k) (h.long a) x) g
-gone_before w D (Ask t a) s h ok i settled sealed g = beside_carried (λ b rs. AllGone D rs) a _ h.long (λ x. gone_asks _ t (book.in_the_way t (cell_at s a).entries) (h.long a) x) g
-gone_before w D (Run t a) s h ok i settled sealed g = beside_carried (λ b rs. AllGone D rs) a _ h.long (λ x. gone_ran _ _ _ (h.long a) x) g
+gone_before w D (Ask t a) s h ok i settled sealed g = beside_carried (λ b rs. AllGone D rs) a _ h.long (λ x. gone_asks _ t (book.in_the_way (lock_of t s.book.acts) (cell_at s a).entries) (h.long a) x) g
+gone_before w D (Run t a) s h ok i settled sealed g = beside_carried (λ b rs. AllGone D rs) a _ h.long (λ x. TrackLists.on_reads (AllGone D) (cell.reads_on t (cell_at s a).entries) _ _ (h.long a) (λ y. gone_ran _ _ _ (h.long a) y) x) g
 gone_before w D (Complete k a) s h ok i settled sealed g = beside_carried (λ b rs. AllGone D rs) a _ h.long (λ x. gone_completed _ k (h.long a) x) g
 gone_before w D (Rollback a) s h ok i settled sealed g = beside_carried (λ b rs. AllGone D rs) a _ h.long (λ x. gone_staying _ s.book.cascades (h.long a) x) g
-gone_before w D (Finish t a) s h ok i settled sealed g = beside_carried (λ b rs. AllGone D rs) a _ h.long (λ x. gone_finish D t (is_undone_act (act_of t s.book.acts)) (h.long a) (λ u. sealed t (finishes_sealed s h t i ok.0 u)) x) g
+gone_before w D (Finish t a) s h ok i settled sealed g = beside_carried (λ b rs. AllGone D rs) a _ h.long (λ x. gone_finish D t (is_traceless (act_of t s.book.acts)) (h.long a) (λ u. sealed t (finishes_sealed s h t i ok.0 u)) x) g
 gone_before w D (Trim k a) s h ok i settled sealed g = beside_carried (λ b rs. AllGone D rs) a _ h.long (λ x. gone_left D (OfBatch k) (h.long a) (settled k (trims_settled k s.desk.batches _ ok.0)) x) g
 gone_before w D e s h ok i settled sealed g = g
 

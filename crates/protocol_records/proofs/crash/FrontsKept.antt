@@ -7,7 +7,7 @@ use Rattle.std.proofs.lemmas.Bool.{eqb-true, leb-true, and_parts, or_cases, or_l
 use Rattle.protocol.specs.Fixed.{Fixed, base}
 use Rattle.protocol.specs.Parts.{Act, Pact, Batch, Cascade, Who, OfBatch, OfAct, Entry, BatchEntry, ActEntry, Stage, Formed, Committing, Settled, Machine}
 use Rattle.protocol.specs.Events.{Event, Arrive, Ask, Run, Complete, Commit, Rollback, Decide, Finish, Trim}
-use Rattle.protocol.specs.Words.{holds, is_who, is_act_who, is_value, is_aborted, is_open, is_formed, is_settled, is_next_to_commit, is_doomed, is_live_status, batch_of, act_of}
+use Rattle.protocol.specs.Words.{holds, is_who, is_act_who, is_value, is_aborted, is_open, is_formed, is_settled, is_next_to_commit, is_doomed, is_live_status, batch_of, act_of, lock_of}
 use Rattle.protocol.specs.Conditions.{IsAllowed, conditions}
 use Rattle.protocol.specs.Effects.{after, cell_at}
 use Rattle.protocol.specs.OnBook as book
@@ -179,7 +179,7 @@ batch_comes k a h (p ∷ ps) = elim (cases_Bool (came_to a (done_pact k h p))) [
     rest e (NoneCame q) = NoneCame (rw e q)
 
 abbrev pub act_done : ℕ → History → Act → Done
-act_done c h x = record { who = OfAct x.tid; tid = x.tid; tx = x.tx; place = Rattle.protocol.specs.Verdicts.act_place x.m c; result = x.result; views = λ a. view_in x.tid (slices_of (OfAct x.tid) (h.long a)) }
+act_done c h x = record { who = OfAct x.tid; tid = x.tid; tx = x.tx; place = Rattle.protocol.specs.Verdicts.act_place x.m c; result = x.result; reader = x.reader; views = Rattle.protocol.specs.History.act_view h x }
 
 act_comes : (c a : ℕ) (h : History) (x : Act) → Comes a (OfAct x.tid) (h.long a) (act_done c h x ∷ [])
 act_comes c a h x = elim (cases_Bool (came_to a (act_done c h x))) [ inl e ↦ SomeCame x.tid e | inr e ↦ NoneCame (rw e refl) ]
@@ -267,7 +267,7 @@ there_more kept more a ds new rs n h = subst (AllByRecursion (λ d. (is_kept d.w
 pub there_kept : {C : Type 0} (w : Fixed C) (e : Event) (s : Machine C) (h : History) → IsAllowed w e s → chain.Assumed e s h → Committed w h → ((a : ℕ) → ThereAt h.kept h.committed a (h.long a)) → (a : ℕ) → ThereAt (grown w e s h).kept (grown w e s h).committed a ((grown w e s h).long a)
 unfolding chain.Assumed Committed grown
 there_kept w (Arrive k a) s h ok m c g = beside_carried (ThereAt h.kept h.committed) a _ h.long (λ x. there_change h.kept h.committed a (h.long a) _ (λ y k2 e. long_more y (OfBatch k) (h.long a) e) x) g
-there_kept w (Ask t a) s h ok m c g = beside_carried (ThereAt h.kept h.committed) a _ h.long (λ x. there_asks h.kept h.committed a t (book.in_the_way t (cell_at s a).entries) (h.long a) x) g
+there_kept w (Ask t a) s h ok m c g = beside_carried (ThereAt h.kept h.committed) a _ h.long (λ x. there_asks h.kept h.committed a t (book.in_the_way (lock_of t s.book.acts) (cell_at s a).entries) (h.long a) x) g
 there_kept w (Run t a) s h ok m c g = beside_carried (ThereAt h.kept h.committed) a _ h.long (λ x. there_change h.kept h.committed a (h.long a) _ (λ y k e. long_ran y _ _ (h.long a) ∙ e) x) g
 there_kept w (Complete k a) s h ok m c g = beside_carried (ThereAt h.kept h.committed) a _ h.long (λ x. there_change h.kept h.committed a (h.long a) _ (λ y k2 e. long_completed y k (h.long a) ∙ e) x) g
 there_kept w (Rollback a) s h ok m c g = beside_carried (ThereAt h.kept h.committed) a _ h.long (λ x. there_change h.kept h.committed a (h.long a) _ (λ y k e. long_staying_kept h.kept y s.book.cascades (h.long a) k m (c a).front e) x) g

@@ -107,7 +107,7 @@ pub record Both {C : Type 0} (w : Fixed C) (Of : Tx → C → Type 0) (finish : 
 
 pub both : {C : Type 0} (w : Fixed C) (Of : Tx → C → Type 0) (finish : C → List State → Alone) (es : List Event) → Given w Of finish → IsRun w es → Both w Of finish (reached w es) (history w es)
 both w Of finish es v run = along_good w Of finish (Both w Of finish) v
-    (λ e s h ok g i. let am = for_chain w Of finish e s h v ok (owes w Of finish e s h ok g) g.good in record {
+    (λ e s h ok g i. let am = for_chain w Of finish e s h v ok (owes w Of finish e s h v ok g) g.good in record {
       whole = last.kept w Of finish e s h v ok g i.whole;
       owned = tids.kept w e s h ok am (not_done w e s h ok am i.whole.ordered.chained) i.whole.ordered.named i.owned;
     })

@@ -6,6 +6,7 @@ use Rattle.std.proofs.lemmas.List.{append-nil}
 use Rattle.std.proofs.lemmas.Bool.{true≢false, or_cases, or_left, or_right, or_parts, and_parts, eqb-true, leb-true, cases_Bool, false_from_ne_true, not-true}
 use Rattle.snap_base.specs.declared.transactions.Tx.{Tx}
 use Rattle.snap_base.specs.declared.transactions.State.{State}
+use Rattle.protocol_laws.proofs.machine.ReadersSee.{ReadBy, not_read, reads_at}
 use Rattle.protocol.specs.Facts.{Alone}
 use Rattle.protocol.specs.Fixed.{Fixed, base}
 use Rattle.protocol.specs.Parts.{Act, Batch, Stage, Formed, Committing, Settled, Cascade, Who, OfBatch, OfAct, Waiting, Machine}
@@ -13,8 +14,8 @@ use Rattle.protocol.specs.Events.{Event, Commit, Decide}
 use Rattle.protocol.specs.Words.{holds, is_who, is_value, is_doomed, is_live_status, is_settled, is_committing, is_formed, is_open, is_next_to_commit, is_aborted, act_of, batch_of, declared_of, waiting_of}
 use Rattle.protocol.specs.Conditions.{IsAllowed, conditions}
 use Rattle.protocol.specs.Effects.{after, cell_at}
-use Rattle.protocol.specs.History.{History, Ran, Stands, Gone, grown, kept_act}
-use Rattle.protocol_laws.specs.Tracks.{Key, keys_in, is_key_among, InOrder}
+use Rattle.protocol.specs.History.{History, Ran, Stands, Gone, grown, kept_act, is_reader_act}
+use Rattle.protocol_laws.specs.Tracks.{Key, keys_in, is_key_among, InOrder, has_read}
 use Rattle.protocol_laws.specs.Commits.{is_kept, KeptFront}
 use Rattle.protocol_laws.specs.Befores.{Befores}
 use Rattle.protocol_laws.specs.Marks.{is_done, IsOver, Marked, Known}
@@ -43,7 +44,7 @@ use Rattle.protocol_laws.proofs.first.Statuses.{live_not_doomed, live_unordered}
 
 -- ---- along one long schedule
 
-same_who : (P : Who → Bool) (y z : Who) → is_who y z ≡ true → P y ≡ true → P z ≡ true
+pub same_who : (P : Who → Bool) (y z : Who) → is_who y z ≡ true → P y ≡ true → P z ≡ true
 same_who P y z e h = subst (λ v. P v ≡ true) (TrackLists.is_who_true y z e) h
 
 done_marks : (kept : List Who) (k : ℕ) (rs : List Ran) → is_kept (OfBatch k) kept ≡ false → KeptFront kept rs → is_done k rs ≡ true → list_any (λ x. x.complete) (keys_in rs) ≡ true
@@ -75,30 +76,30 @@ ahead_of_batch sure kept k a bs (Stands (OfAct t) c ss ∷ rs) z n b g f d o q i
 ]
 
 -- an ACT that ran, and has not committed
-ahead_of_act : {C : Type 0} (sure : Who → Bool) (acts : List Act) (cs : List Cascade) (bs : List Batch) (kept : List Who) (a top : ℕ) (bad : Bool) (t : ℕ) (x : Act) (xs : List (Waiting C)) (rs : List Ran) (z : Who) → act_of t acts ≡ Some x → is_doomed x.status ≡ false → is_some (waiting_of t xs) ≡ false
-    → ((j : ℕ) → is_declared j a bs ≡ true → j ≤ x.m → is_aborted j cs ≡ false → sure (OfBatch j) ≡ true) → Befores acts top rs → Behind acts cs bad rs → InOrder rs → AllByRecursion (GoodKey a bs) (keys_in rs) → Starts xs rs
+ahead_of_act : {C : Type 0} (sure : Who → Bool) (acts : List Act) (cs : List Cascade) (bs : List Batch) (kept : List Who) (a top : ℕ) (bad : Bool) (t : ℕ) (x : Act) (rd : ℕ → Bool) (xs : List (Waiting C)) (rs : List Ran) (z : Who) → act_of t acts ≡ Some x → is_doomed x.status ≡ false → is_some (waiting_of t xs) ≡ false
+    → ((j : ℕ) → is_declared j a bs ≡ true → j ≤ x.m → is_aborted j cs ≡ false → sure (OfBatch j) ≡ true) → Befores acts top rs → Behind acts cs bad rs → InOrder rs → AllByRecursion (GoodKey a bs) (keys_in rs) → rd t ≡ false → Starts rd xs rs
     → GoneSure sure rs → KeptFront kept rs → is_kept (OfAct t) kept ≡ false → is_key_among (OfAct t) (keys_in rs) ≡ true → is_kept z kept ≡ true → is_on z rs ≡ true → sure z ≡ true
-ahead_of_act sure acts cs bs kept a top bad t x xs [] z e d n j b h o q st g f u m i v = absurd (true≢false (sym v))
-ahead_of_act sure acts cs bs kept a top bad t x xs (Gone (OfBatch k) ss ∷ rs) z e d n j b h o q st g f u m i v = elim (or_cases (is_who (OfBatch k) z) (is_on z rs) v) [
+ahead_of_act sure acts cs bs kept a top bad t x rd xs [] z e d n j b h o q nr st g f u m i v = absurd (true≢false (sym v))
+ahead_of_act sure acts cs bs kept a top bad t x rd xs (Gone (OfBatch k) ss ∷ rs) z e d n j b h o q nr st g f u m i v = elim (or_cases (is_who (OfBatch k) z) (is_on z rs) v) [
   | inl c ↦ same_who sure (OfBatch k) z c g.0
-  | inr c ↦ ahead_of_act sure acts cs bs kept a (max top k) (bad || is_aborted k cs) t x xs rs z e d n j b h o q st g.1 f.1 u m i c
+  | inr c ↦ ahead_of_act sure acts cs bs kept a (max top k) (bad || is_aborted k cs) t x rd xs rs z e d n j b h o q nr st g.1 f.1 u m i c
 ]
-ahead_of_act sure acts cs bs kept a top bad t x xs (Gone (OfAct k) ss ∷ rs) z e d n j b h o q st g f u m i v = elim (or_cases (is_who (OfAct k) z) (is_on z rs) v) [
+ahead_of_act sure acts cs bs kept a top bad t x rd xs (Gone (OfAct k) ss ∷ rs) z e d n j b h o q nr st g f u m i v = elim (or_cases (is_who (OfAct k) z) (is_on z rs) v) [
   | inl c ↦ same_who sure (OfAct k) z c g.0
-  | inr c ↦ ahead_of_act sure acts cs bs kept a top bad t x xs rs z e d n j b h o q st g.1 f.1 u m i c
+  | inr c ↦ ahead_of_act sure acts cs bs kept a top bad t x rd xs rs z e d n j b h o q nr st g.1 f.1 u m i c
 ]
-ahead_of_act sure acts cs bs kept a top bad t x xs (Stands (OfBatch k) true ss ∷ rs) z e d n j b h o q st g f u m i v = elim (or_cases (is_who (OfBatch k) z) (is_on z rs) v) [
+ahead_of_act sure acts cs bs kept a top bad t x rd xs (Stands (OfBatch k) true ss ∷ rs) z e d n j b h o q nr st g f u m i v = elim (or_cases (is_who (OfBatch k) z) (is_on z rs) v) [
   | inl c ↦ same_who sure (OfBatch k) z c (j k q.0.0 (omega (arith, top_at acts t (max top k) x rs e d b m)) (sound_at acts cs bad k t x rs e d h m))
-  | inr c ↦ ahead_of_act sure acts cs bs kept a (max top k) (bad || is_aborted k cs) t x xs rs z e d n j b h o.1 q.1 st g f.1 u m i c
+  | inr c ↦ ahead_of_act sure acts cs bs kept a (max top k) (bad || is_aborted k cs) t x rd xs rs z e d n j b h o.1 q.1 nr st g f.1 u m i c
 ]
-ahead_of_act sure acts cs bs kept a top bad t x xs (Stands (OfBatch k) false ss ∷ rs) z e d n j b h o q st g f u m i v = absurd (ran_there xs t rs n m st (o.0 refl))
-ahead_of_act sure acts cs bs kept a top bad t x xs (Stands (OfAct k) true ss ∷ rs) z e d n j b h o q st g f u m i v = absurd (true≢false (q.0.1 refl))
-ahead_of_act sure acts cs bs kept a top bad t x xs (Stands (OfAct k) false ss ∷ rs) z e d n j b h o q st g f u m i v = elim (or_cases (k == t) (is_key_among (OfAct t) (keys_in rs)) m) [
+ahead_of_act sure acts cs bs kept a top bad t x rd xs (Stands (OfBatch k) false ss ∷ rs) z e d n j b h o q nr st g f u m i v = absurd (ran_there rd xs t rs n nr m st (o.0 refl))
+ahead_of_act sure acts cs bs kept a top bad t x rd xs (Stands (OfAct k) true ss ∷ rs) z e d n j b h o q nr st g f u m i v = absurd (true≢false (q.0.1 refl))
+ahead_of_act sure acts cs bs kept a top bad t x rd xs (Stands (OfAct k) false ss ∷ rs) z e d n j b h o q nr st g f u m i v = elim (or_cases (k == t) (is_key_among (OfAct t) (keys_in rs)) m) [
   | inl c ↦ elim (or_cases (is_who (OfAct k) z) (is_on z rs) v) [
     | inl p ↦ absurd (true≢false (sym (subst (λ y. is_kept y kept ≡ true) (sym (TrackLists.is_who_true (OfAct k) z p)) i) ∙ (ap (λ y. is_kept (OfAct y) kept) (eqb-true k t c) ∙ u)))
     | inr p ↦ absurd (true≢false (sym (f.0 (on_kept kept z rs i p)) ∙ (ap (λ y. is_kept (OfAct y) kept) (eqb-true k t c) ∙ u)))
   ]
-  | inr c ↦ absurd (ran_there xs t rs n c st.1 (o.0 refl))
+  | inr c ↦ absurd (ran_there rd xs t rs n nr c st.1 (o.0 refl))
 ]
 
 -- ---- in the order of commits
@@ -224,7 +225,7 @@ commit_sure w Of finish k a s h ok g b gs on z kz oz =
 
 -- ---- an ACT gets its place
 
-settled_sure : {C : Type 0} (w : Fixed C) (s : Machine C) (k a : ℕ) → settling.Settling w s → BatchesSure w s → is_declared k a s.desk.batches ≡ true → k ≤ s.desk.settled → is_aborted k s.book.cascades ≡ false → is_sure w.text.logs s.logs (OfBatch k) ≡ true
+pub settled_sure : {C : Type 0} (w : Fixed C) (s : Machine C) (k a : ℕ) → settling.Settling w s → BatchesSure w s → is_declared k a s.desk.batches ≡ true → k ≤ s.desk.settled → is_aborted k s.book.cascades ≡ false → is_sure w.text.logs s.logs (OfBatch k) ≡ true
 unfolding BatchesSure
 settled_sure w s k a g b e l n =
     let c = one_is (λ b. is_some (declared_of a b)) (batch_of k s.desk.batches) e in
@@ -256,19 +257,25 @@ at_decide {C} w Of finish t s h ok g =
       has_result = v.0;
       live = v.1;
       low = omega (arith, l, g.sizes.based);
-      fresh = (g.acts t x.0 x.1).known ∙ ap (λ q. q && is_value x.0.result) (live_unordered x.0.status v.1);
+      fresh = (g.acts t x.0 x.1).known ∙ ap (λ q. q && (is_value x.0.result && not x.0.reader)) (live_unordered x.0.status v.1);
       away = λ a. false_from_ne_true (is_some (waiting_of t (cell_at s a).inbox)) (λ q. true≢false (sym v.0 ∙ ap is_some (results.waiting_none t a s q g.none t x.0 x.1 refl)));
     }
 
+-- one that does not only read
 pub decide_sure : {C : Type 0} (w : Fixed C) (Of : Tx → C → Type 0) (finish : C → List State → Alone) (t a : ℕ) (s : Machine C) (h : History) → IsAllowed w (Decide t) s → AllGood w Of finish s h → BatchesSure w s → AllGoneSure w s h
-    → is_on (OfAct t) (h.long a) ≡ true → (z : Who) → is_kept z h.kept ≡ true → is_on z (h.long a) ≡ true → is_sure w.text.logs s.logs z ≡ true
-unfolding Tracked Committed AllGoneSure Numbers AllBehind Started
-decide_sure w Of finish t a s h ok g b gs on z kz oz =
+    → is_reader_act (act_of t s.book.acts) ≡ false → is_on (OfAct t) (h.long a) ≡ true → (z : Who) → is_kept z h.kept ≡ true → is_on z (h.long a) ≡ true → is_sure w.text.logs s.logs z ≡ true
+unfolding Tracked Committed AllGoneSure Numbers AllBehind Started ReadBy
+decide_sure w Of finish t a s h ok g b gs nr on z kz oz =
     let x = at_decide w Of finish t s h ok g in
     let front = (g.good.committed a).front in
-    ahead_of_act (is_sure w.text.logs s.logs) s.book.acts s.book.cascades s.desk.batches h.kept a 0 false t x.act (cell_at s a).inbox (h.long a) z x.found (live_not_doomed x.act.status x.live) (x.away a)
+    ahead_of_act (is_sure w.text.logs s.logs) s.book.acts s.book.cascades s.desk.batches h.kept a 0 false t x.act (has_read (h.reads a)) (cell_at s a).inbox (h.long a) z x.found (live_not_doomed x.act.status x.live) (x.away a)
     (λ j e l n. settled_sure w s j a g.good.settling b e (omega (arith, l, x.low)) n) (g.good.numbers a) (g.behind a) (g.good.tracked a).in_order
-    (subst (AllByRecursion (GoodKey a s.desk.batches)) (g.good.tracked a).stands (good_keys a s.desk.batches (cell_at s a).entries (g.good.from_desk.entries a))) (g.started a) (gs a) front x.fresh (on_key h.kept (OfAct t) (h.long a) x.fresh front on) kz oz
+    (subst (AllByRecursion (GoodKey a s.desk.batches)) (g.good.tracked a).stands (good_keys a s.desk.batches (cell_at s a).entries (g.good.from_desk.entries a))) (not_read a t s.book.acts (h.reads a) (no_reads (act_of t s.book.acts) nr) (g.read_by a)) (g.started a) (gs a) front x.fresh (on_key h.kept (OfAct t) (h.long a) x.fresh front on) kz oz
+
+  where
+    no_reads : (o : Option Act) → is_reader_act o ≡ false → holds (reads_at a) o ≡ false
+    no_reads None r = refl
+    no_reads (Some x) r = rw r refl
 
 -- ---- all events
 
@@ -282,10 +289,11 @@ kept_sure w Of finish (Commit k) s h v ok g b gs q = λ a. kept_same (is_sure w.
 kept_sure w Of finish (Decide t) s h v ok g b gs q = λ a. kept_same (is_sure w.text.logs s.logs) (is_sure w.text.logs (after w (Decide t) s).logs) (λ y. is_on y (h.long a)) (λ y. is_on y (h.long a)) (h.kept ++ kept_act (act_of t s.book.acts)) (h.kept ++ kept_act (act_of t s.book.acts)) (λ y i o. o) (λ y i. sure_stays w (Decide t) s y i) (self _) (one a)
   where
     one : (a : ℕ) → KeptSure (is_sure w.text.logs s.logs) (λ y. is_on y (h.long a)) (h.kept ++ kept_act (act_of t s.book.acts))
-    one a = let x = at_decide w Of finish t s h ok g in subst (λ o. KeptSure (is_sure w.text.logs s.logs) (λ y. is_on y (h.long a)) (h.kept ++ kept_act o)) (sym x.found) (by (is_value x.act.result) x.act.tid x.tid)
+    one a = let x = at_decide w Of finish t s h ok g in subst (λ o. KeptSure (is_sure w.text.logs s.logs) (λ y. is_on y (h.long a)) (h.kept ++ kept_act o)) (sym x.found) (by (is_value x.act.result) x.act.reader (ap is_reader_act x.found) x.act.tid x.tid)
       where
-        by : (c : Bool) (u : ℕ) → u ≡ t → KeptSure (is_sure w.text.logs s.logs) (λ y. is_on y (h.long a)) (h.kept ++ (if c then OfAct u ∷ [] else []))
-        by true u e = kept_more (is_sure w.text.logs s.logs) (λ y. is_on y (h.long a)) h.kept (OfAct u) (λ o z kz oz. decide_sure w Of finish t a s h ok g b gs (subst (λ i. is_on (OfAct i) (h.long a) ≡ true) e o) z kz oz) (q a)
-        by false u e = subst (KeptSure (is_sure w.text.logs s.logs) (λ y. is_on y (h.long a))) (sym (append-nil h.kept)) (q a)
+        by : (c v : Bool) → is_reader_act (act_of t s.book.acts) ≡ v → (u : ℕ) → u ≡ t → KeptSure (is_sure w.text.logs s.logs) (λ y. is_on y (h.long a)) (h.kept ++ (if c && not v then OfAct u ∷ [] else []))
+        by true false r u e = kept_more (is_sure w.text.logs s.logs) (λ y. is_on y (h.long a)) h.kept (OfAct u) (λ o z kz oz. decide_sure w Of finish t a s h ok g b gs r (subst (λ i. is_on (OfAct i) (h.long a) ≡ true) e o) z kz oz) (q a)
+        by true true r u e = subst (KeptSure (is_sure w.text.logs s.logs) (λ y. is_on y (h.long a))) (sym (append-nil h.kept)) (q a)
+        by false v r u e = subst (KeptSure (is_sure w.text.logs s.logs) (λ y. is_on y (h.long a))) (sym (append-nil h.kept)) (q a)
 kept_sure w Of finish e s h v ok g b gs q = λ a. kept_same (is_sure w.text.logs s.logs) (is_sure w.text.logs (after w e s).logs) (λ y. is_on y (h.long a)) (λ y. is_on y ((grown w e s h).long a)) h.kept h.kept
-    (λ y i o. sym (on_stays w e s h a y (whole.for_chain w Of finish e s h v ok (all.owes w Of finish e s h ok g) g.good) g.good.committed i) ∙ o) (λ y i. sure_stays w e s y i) (self h.kept) (q a)
+    (λ y i o. sym (on_stays w e s h a y (whole.for_chain w Of finish e s h v ok (all.owes w Of finish e s h v ok g) g.good) g.good.committed i) ∙ o) (λ y i. sure_stays w e s y i) (self h.kept) (q a)

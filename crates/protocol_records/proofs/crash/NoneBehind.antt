@@ -18,6 +18,7 @@ use Rattle.protocol.specs.History.{History, no_history, history, grown}
 use Rattle.protocol_laws.specs.Tracks.{key_of}
 use Rattle.protocol_laws.specs.Marks.{Known, Marked}
 use Rattle.protocol.specs.Moments.{IsCut, left_in}
+use Rattle.protocol_records.proofs.crash.KeptAll.{batch_kept, act_kept}
 use Rattle.protocol_records.specs.Logged.{logged_at, actors_of, has_place, BatchesSure, ActsSure, Prepared}
 use Rattle.protocol_records.specs.Telling.{told}
 use Rattle.protocol_records.specs.Crash.{is_in}
@@ -89,7 +90,7 @@ none_behind w Of finish s h kept a c g l o = filter_none (λ o. is_in w.text.log
 
     batch_in : (k : ℕ) → list_any (is_complete k a) (drop (kept (a % w.text.logs)) (log_at s (a % w.text.logs)).records) ≡ true → is_in w.text.logs (left_in s kept) (OfBatch k) ≡ true → list_any (is_complete k a) (left_in s kept (a % w.text.logs)) ≡ true
     batch_in k q e =
-        let kk = in_kept w s h kept (OfBatch k) l.written e in
+        let kk = batch_kept w Of finish s h k g (in_kept w s h kept (OfBatch k) l.written e) in
         let b = one_is (λ x. true) (batch_of k s.desk.batches) (there_is (batch_of k s.desk.batches) (g.good.known k kk)) in
         let m = g.good.marked k b.0 b.1 in
         let d = o.declares k a (all_there (is_complete k a) q) in
@@ -105,7 +106,7 @@ none_behind w Of finish s h kept a c g l o = filter_none (λ o. is_in w.text.log
         let kk = in_kept w s h kept (OfAct t) l.written e in
         let x = one_is (λ x. is_value x.result && has_place a x) (act_of t s.book.acts) (l.prepared t a (all_there (is_prepare t a) q)) in
         let u = and_parts (is_value x.0.result) (has_place a x.0) x.2 in
-        let v = and_parts (is_ordered x.0.status) (is_value x.0.result) (sym (g.acts t x.0 x.1).known ∙ kk) in
+        let v = act_kept w Of finish s h t x.0 g x.1 kk in
         all_among (λ a. list_any (is_prepare t a) (left_in s kept (a % w.text.logs)) ≡ true) a (map (λ p. p.actor) x.0.places) (place_among x.0.places u.1) (vouched_in w s kept t x.0.places c ((l.acts t x.0 x.1).everywhere v.0 v.1) (l.acts t x.0 x.1).vouched)
 
 -- ---- over every run

@@ -6,13 +6,13 @@ use Rattle.std.proofs.lemmas.Bool.{true≢false, or_cases, or_left, or_right, or
 use Rattle.protocol.specs.Fixed.{Fixed}
 use Rattle.protocol.specs.Parts.{Cascade, Who, OfBatch, OfAct, Machine}
 use Rattle.protocol.specs.Events.{Event, Arrive, Ask, Run, Complete, Rollback, Finish, Trim}
-use Rattle.protocol.specs.Words.{holds, is_who, is_value, is_failure, is_doomed, is_sealed, is_settled, who_on, act_of, batch_of, declared_of, is_ordered}
+use Rattle.protocol.specs.Words.{holds, is_who, is_value, is_failure, is_doomed, is_sealed, is_settled, who_on, act_of, batch_of, declared_of, is_ordered, lock_of}
 use Rattle.protocol.specs.Conditions.{IsAllowed, conditions}
 use Rattle.protocol.specs.Effects.{after, cell_at}
 use Rattle.protocol.specs.OnBook as book
 use Rattle.protocol.specs.OnCell as cell
 use Rattle.protocol.specs.OnCell.{is_cut}
-use Rattle.protocol.specs.History.{History, Slice, Ran, Stands, Gone, grown, with_at, not_run, ran_in, completed, left_for_good, without_standing, long_staying, asks}
+use Rattle.protocol.specs.History.{History, Slice, Ran, Stands, Gone, grown, with_at, not_run, ran_in, completed, left_for_good, without_standing, long_staying, asks, is_traceless, ran_on}
 use Rattle.protocol_laws.specs.Tracks.{keys_in, is_key_among}
 use Rattle.protocol_laws.specs.Commits.{is_kept, has_kept, KeptFront}
 use Rattle.protocol_records.specs.Logged.{is_sure, is_ran_of, is_on, GoneSure, AllGoneSure, BatchesSure, ActsSure}
@@ -100,15 +100,19 @@ on_at y b a new long k = by (a == b) refl
 pub on_stays : {C : Type 0} (w : Fixed C) (e : Event) (s : Machine C) (h : History) (a : ℕ) (y : Who) → chain.Assumed e s h → Committed w h → is_kept y h.kept ≡ true → is_on y ((grown w e s h).long a) ≡ is_on y (h.long a)
 unfolding chain.Assumed Committed grown
 on_stays w (Arrive k b) s h a y am c q = on_at y b a _ h.long (on_more y (OfBatch k) (h.long b) (differs y (OfBatch k) h.kept q am))
-on_stays w (Ask t b) s h a y am c q = on_at y b a _ h.long (asked (book.in_the_way t (cell_at s b).entries))
+on_stays w (Ask t b) s h a y am c q = on_at y b a _ h.long (asked (book.in_the_way (lock_of t s.book.acts) (cell_at s b).entries))
   where
     asked : (o : Option ℕ) → is_on y (h.long b ++ map not_run (asks t o)) ≡ is_on y (h.long b)
     asked None = on_more y (OfAct t) (h.long b) (differs y (OfAct t) h.kept q am)
     asked (Some older) = ap (is_on y) (append-nil (h.long b))
-on_stays w (Run t b) s h a y am c q = on_at y b a _ h.long (on_map y _ (h.long b) (λ r. ran_same y _ _ r))
+on_stays w (Run t b) s h a y am c q = on_at y b a _ h.long (reads_on_same (cell.reads_on t (cell_at s b).entries))
+  where
+    reads_on_same : (v : Bool) → is_on y (ran_on v (who_on t (cell_at s b).entries) (record { tid = t; found = (cell_at s b).state; left = (cell.slice_run w.code t b (cell_at s b)).state }) (h.long b)) ≡ is_on y (h.long b)
+    reads_on_same true = refl
+    reads_on_same false = on_map y _ (h.long b) (λ r. ran_same y _ _ r)
 on_stays w (Complete k b) s h a y am c q = on_at y b a _ h.long (on_map y (completed k) (h.long b) (completed_same y k))
 on_stays w (Rollback b) s h a y am c q = on_at y b a _ h.long (on_staying h.kept s.book.cascades y (h.long b) am q (c b).front)
-on_stays w (Finish t b) s h a y am c q = on_at y b a _ h.long (finish (cell.is_undone_act (act_of t s.book.acts)) am)
+on_stays w (Finish t b) s h a y am c q = on_at y b a _ h.long (finish (is_traceless (act_of t s.book.acts)) am)
   where
     finish : (v : Bool) → is_kept (OfAct t) h.kept ≡ not v → is_on y (if v then without_standing (OfAct t) (h.long b) else map (left_for_good (OfAct t)) (h.long b)) ≡ is_on y (h.long b)
     finish true e = on_without y (OfAct t) (h.long b) (differs y (OfAct t) h.kept q e)
@@ -173,24 +177,24 @@ value_of (Some (Rattle.snap_base.specs.declared.transactions.TxResult.TheVariant
 pub gone_kept : {C : Type 0} (w : Fixed C) (e : Event) (s : Machine C) (h : History) → IsAllowed w e s → Acts s h → BatchesSure w s → ActsSure w s → AllGoneSure w s h → AllGoneSure w (after w e s) (grown w e s h)
 unfolding AllGoneSure BatchesSure ActsSure Acts conditions after grown
 gone_kept w (Arrive k a) s h ok i b x g = beside_carried (λ c long. GoneSure (is_sure w.text.logs s.logs) long) a _ h.long (gone_more _ (OfBatch k) (h.long a)) g
-gone_kept w (Ask t a) s h ok i b x g = beside_carried (λ c long. GoneSure (is_sure w.text.logs s.logs) long) a _ h.long (asked (book.in_the_way t (cell_at s a).entries)) g
+gone_kept w (Ask t a) s h ok i b x g = beside_carried (λ c long. GoneSure (is_sure w.text.logs s.logs) long) a _ h.long (asked (book.in_the_way (lock_of t s.book.acts) (cell_at s a).entries)) g
   where
     asked : (o : Option ℕ) → GoneSure (is_sure w.text.logs s.logs) (h.long a) → GoneSure (is_sure w.text.logs s.logs) (h.long a ++ map not_run (asks t o))
     asked None z = gone_more _ (OfAct t) (h.long a) z
     asked (Some older) z = subst (GoneSure (is_sure w.text.logs s.logs)) (sym (append-nil (h.long a))) z
-gone_kept w (Run t a) s h ok i b x g = beside_carried (λ c long. GoneSure (is_sure w.text.logs s.logs) long) a _ h.long (gone_ran _ _ _ (h.long a)) g
+gone_kept w (Run t a) s h ok i b x g = beside_carried (λ c long. GoneSure (is_sure w.text.logs s.logs) long) a _ h.long (λ x. TrackLists.on_reads (GoneSure (is_sure w.text.logs s.logs)) (cell.reads_on t (cell_at s a).entries) _ _ (h.long a) (λ y. gone_ran _ _ _ (h.long a) y) x) g
 gone_kept w (Complete k a) s h ok i b x g = λ c. gone_weaker (is_sure w.text.logs s.logs) (is_sure w.text.logs (after w (Complete k a) s).logs) (with_at a (map (completed k) (h.long a)) h.long c) (λ y q. sure_stays w (Complete k a) s y q) (beside_carried (λ c long. GoneSure (is_sure w.text.logs s.logs) long) a (map (completed k) (h.long a)) h.long (gone_complete _ k (h.long a)) g c)
 gone_kept w (Rollback a) s h ok i b x g = beside_carried (λ c long. GoneSure (is_sure w.text.logs s.logs) long) a _ h.long (gone_staying _ s.book.cascades (h.long a)) g
-gone_kept w (Finish t a) s h ok i b x g = beside_carried (λ c long. GoneSure (is_sure w.text.logs s.logs) long) a _ h.long (finish (cell.is_undone_act (act_of t s.book.acts)) refl) g
+gone_kept w (Finish t a) s h ok i b x g = beside_carried (λ c long. GoneSure (is_sure w.text.logs s.logs) long) a _ h.long (finish (is_traceless (act_of t s.book.acts)) refl) g
   where
-    own : cell.is_undone_act (act_of t s.book.acts) ≡ false → is_sure w.text.logs s.logs (OfAct t) ≡ true
+    own : is_traceless (act_of t s.book.acts) ≡ false → is_sure w.text.logs s.logs (OfAct t) ≡ true
     own u =
         let y = one_is (λ x. is_doomed x.status || is_sealed x.status) (act_of t s.book.acts) ok.0 in
-        let d = or_parts (is_doomed y.0.status) (is_failure y.0.result) (sym (ap cell.is_undone_act y.1) ∙ u) in
+        let d = or_parts (is_doomed y.0.status) (is_failure y.0.result) (or_parts (is_doomed y.0.status || is_failure y.0.result) y.0.reader (sym (ap is_traceless y.1) ∙ u)).0 in
         let q : is_sealed y.0.status ≡ true = elim (or_cases (is_doomed y.0.status) (is_sealed y.0.status) y.2) [ inl v ↦ absurd (true≢false (sym v ∙ d.0)) | inr v ↦ v ] in
         (x t y.0 y.1).sealed q (value_of y.0.result ((i t y.0 y.1).ended (or_right (Rattle.protocol.specs.Words.is_decided y.0.status) _ q)) d.1)
 
-    finish : (v : Bool) → cell.is_undone_act (act_of t s.book.acts) ≡ v → GoneSure (is_sure w.text.logs s.logs) (h.long a) → GoneSure (is_sure w.text.logs s.logs) (if v then without_standing (OfAct t) (h.long a) else map (left_for_good (OfAct t)) (h.long a))
+    finish : (v : Bool) → is_traceless (act_of t s.book.acts) ≡ v → GoneSure (is_sure w.text.logs s.logs) (h.long a) → GoneSure (is_sure w.text.logs s.logs) (if v then without_standing (OfAct t) (h.long a) else map (left_for_good (OfAct t)) (h.long a))
     finish true e z = gone_without _ (OfAct t) (h.long a) z
     finish false e z = gone_leave _ (OfAct t) (h.long a) (own e) z
 gone_kept w (Trim k a) s h ok i b x g = beside_carried (λ c long. GoneSure (is_sure w.text.logs s.logs) long) a _ h.long (gone_leave _ (OfBatch k) (h.long a) own) g

@@ -89,7 +89,7 @@ pub batch_new : {C : Type 0} (w : Fixed C) (Of : Tx → C → Type 0) (finish : 
 unfolding conditions Telling Tracked Committed
 batch_new w Of finish k a s h ok g te =
     let u = batch_unmarked k (cell_at s a).entries (held (λ c. holds (λ e. not (is_complete_batch e)) (find (is_batch_entry k) c.entries)) s.cells a no_cell ok.0) (differ_at w s h a g.good.tracked) in
-    told_marked (slice_index_or w.text.opening.states a no_state) (OfBatch k) (told a (log_at s (a % w.text.logs)).records) h.kept (h.long a) refl (keys_at w s h a (OfBatch k) g.good.tracked u.0) (completes_fresh w Of finish k a s h ok g) (g.good.committed a).front
+    told_marked (Rattle.protocol_laws.specs.Commits.reads_who s.book.acts) (slice_index_or w.text.opening.states a no_state) (OfBatch k) (told a (log_at s (a % w.text.logs)).records) h.kept (h.long a) refl refl (keys_at w s h a (OfBatch k) g.good.tracked u.0) (completes_fresh w Of finish k a s h ok g) (g.good.committed a).front
     (key_on (OfBatch k) (h.long a) (subst (λ z. Rattle.protocol_laws.specs.Tracks.is_key_among (OfBatch k) z ≡ true) (g.good.tracked a).stands u.1)) (te a)
   where
     key_on : (y : Who) (rs : List Rattle.protocol.specs.History.Ran) → Rattle.protocol_laws.specs.Tracks.is_key_among y (Rattle.protocol_laws.specs.Tracks.keys_in rs) ≡ true → Rattle.protocol_records.specs.Logged.is_on y rs ≡ true

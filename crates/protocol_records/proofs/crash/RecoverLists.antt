@@ -96,11 +96,11 @@ kept_end y z kept h = elim (any_join (λ v. is_who v z) kept (y ∷ []) h) [ inl
 
 -- ---- the last record of a front that ends with this one
 
-lands : (first : State) (y : Who) (X : State) (kept : List Who) (q : One → Bool) (long : List Ran) (os : List One) (s : State) → is_kept y kept ≡ false → KeptFront kept long → is_on y long ≡ true
+lands : (rd : Who → Bool) (first : State) (y : Who) (X : State) (kept : List Who) (q : One → Bool) (long : List Ran) (os : List One) (s : State) → rd y ≡ false → is_kept y kept ≡ false → KeptFront kept long → is_on y long ≡ true
     → ((st : State) (later : List One) → Tells first y st later long → st ≡ X) → AllByRecursion (λ o. q o ≡ true → (is_kept o.who kept ≡ true) × (is_on o.who long ≡ true) ⊎ (is_who y o.who ≡ true)) os → ((o : One) → is_who y o.who ≡ true → q o ≡ true)
-    → names y os ≡ true → AllTells first os long → last_one s (filter q os) ≡ X
-lands first y X kept q long [] s n f o k al own h t = absurd (true≢false (sym h))
-lands first y X kept q long (x ∷ os) s n f o k al own h t = by (names y os) refl (is_who y x.who) refl (λ s g. lands first y X kept q long os s n f o k al.1 own g t.1)
+    → names y os ≡ true → AllTells rd first os long → last_one s (filter q os) ≡ X
+lands rd first y X kept q long [] s ry n f o k al own h t = absurd (true≢false (sym h))
+lands rd first y X kept q long (x ∷ os) s ry n f o k al own h t = by (names y os) refl (is_who y x.who) refl (λ s g. lands rd first y X kept q long os s ry n f o k al.1 own g t.1)
   where
     start : (b : Bool) → ((s : State) → last_one s (filter q os) ≡ X) → last_one s (if b then x ∷ filter q os else filter q os) ≡ X
     start true r = r x.state
@@ -108,7 +108,7 @@ lands first y X kept q long (x ∷ os) s n f o k al own h t = by (names y os) re
 
     -- behind the last of its records there is none of a kept one
     none : is_who y x.who ≡ true → names y os ≡ false → AllByRecursion (λ o. q o ≡ false) os
-    none e g = all os (λ z kz oz. none_later first y x.state os z kept long n f o kz oz (subst (λ v. Tells first v x.state os long) (sym (TrackLists.is_who_true y x.who e)) t.0)) g al.1
+    none e g = all os (λ z kz oz. none_later first y x.state os z kept long n f o kz oz (subst (λ v. Tells first v x.state os long) (sym (TrackLists.is_who_true y x.who e)) (t.0 (subst (λ v. rd v ≡ false) (TrackLists.is_who_true y x.who e) ry)))) g al.1
       where
         all : (zs : List One) → ((z : Who) → is_kept z kept ≡ true → is_on z long ≡ true → names z zs ≡ false) → names y zs ≡ false → AllByRecursion (λ o. q o ≡ true → (is_kept o.who kept ≡ true) × (is_on o.who long ≡ true) ⊎ (is_who y o.who ≡ true)) zs → AllByRecursion (λ o. q o ≡ false) zs
         all [] r g a = tt
@@ -123,12 +123,12 @@ lands first y X kept q long (x ∷ os) s n f o k al own h t = by (names y os) re
 
     by : (b : Bool) → names y os ≡ b → (c : Bool) → is_who y x.who ≡ c → ((s : State) → names y os ≡ true → last_one s (filter q os) ≡ X) → last_one s (filter q (x ∷ os)) ≡ X
     by true g c e r = start (q x) (λ s. r s g)
-    by false g true e r = rw (own x e, filter_none q os (none e g)) (k x.state os (subst (λ v. Tells first v x.state os long) (sym (TrackLists.is_who_true y x.who e)) t.0))
+    by false g true e r = rw (own x e, filter_none q os (none e g)) (k x.state os (subst (λ v. Tells first v x.state os long) (sym (TrackLists.is_who_true y x.who e)) (t.0 (subst (λ v. rd v ≡ false) (TrackLists.is_who_true y x.who e) ry))))
     by false g false e r = absurd (true≢false (sym h ∙ rw (e, g) refl))
 
 -- ---- one commits with a value
 
-pub record Commits1 (a : ℕ) (first : State) (kept : List Who) (committed ds : List Done) (y : Who) (long : List Ran) (os : List One) : Type 0 where
+pub record Commits1 (a : ℕ) (rd : Who → Bool) (first : State) (kept : List Who) (committed ds : List Done) (y : Who) (long : List Ran) (os : List One) : Type 0 where
   pub fresh : is_kept y kept ≡ false
   pub front : KeptFront kept long
   pub ahead : KeptAhead kept y long
@@ -138,12 +138,13 @@ pub record Commits1 (a : ℕ) (first : State) (kept : List Who) (committed ds : 
   pub own : AllByRecursion (λ d. d.who ≡ y) ds
   pub came : AllByRecursion (λ d. is_some (d.views a) ≡ true → is_on y long ≡ true) ds
   pub values : AllByRecursion (λ d. is_value d.result ≡ true) ds
-  pub tells : AllTells first os long
+  pub tells : AllTells rd first os long
+  pub other : rd y ≡ false
   pub recorded : AllByRecursion (λ o. is_kept o.who (kept ++ y ∷ []) ≡ true → is_on o.who long ≡ true) os
   pub has_record : is_on y long ≡ true → names y os ≡ true
 
-pub recovers_commit : (a : ℕ) (first : State) (kept : List Who) (committed ds : List Done) (y : Who) (long : List Ran) (os : List One) → Commits1 a first kept committed ds y long os → RecoversAt a first kept committed long os → RecoversAt a first (kept ++ y ∷ []) (committed ++ ds) long os
-recovers_commit a first kept committed ds y long os c r P f = elim (cases_Bool (P y && is_on y long)) [ inl e ↦ let v = and_parts (P y) (is_on y long) e in whole v.0 v.1 | inr e ↦ same e ]
+pub recovers_commit : (a : ℕ) (rd : Who → Bool) (first : State) (kept : List Who) (committed ds : List Done) (y : Who) (long : List Ran) (os : List One) → Commits1 a rd first kept committed ds y long os → RecoversAt a first kept committed long os → RecoversAt a first (kept ++ y ∷ []) (committed ++ ds) long os
+recovers_commit a rd first kept committed ds y long os c r P f = elim (cases_Bool (P y && is_on y long)) [ inl e ↦ let v = and_parts (P y) (is_on y long) e in whole v.0 v.1 | inr e ↦ same e ]
   where
     p : Done → Bool
     p d = P d.who && is_value d.result
@@ -156,7 +157,7 @@ recovers_commit a first kept committed ds y long os c r P f = elim (cases_Bool (
 
     whole : P y ≡ true → is_on y long ≡ true → last_one first (filter (λ o. P o.who && is_kept o.who (kept ++ y ∷ [])) os) ≡ last_state a first (filter (λ d. P d.who && is_value d.result) (committed ++ ds))
     whole py oy =
-        lands first y (last_state a first (committed ++ ds)) kept (λ o. P o.who && is_kept o.who (kept ++ y ∷ [])) long os first c.fresh c.front oy
+        lands rd first y (last_state a first (committed ++ ds)) kept (λ o. P o.who && is_kept o.who (kept ++ y ∷ [])) long os first c.other c.fresh c.front oy
         (λ st later t. told_is first y st later kept long oy c.fresh c.front c.ahead t ∙ (ap (end_of first) (sym (slices_commit kept y long c.fresh c.differ c.ahead c.front)) ∙ sym (linked_end first (last_state a first (committed ++ ds)) (kept_slices (kept ++ y ∷ []) long) c.ends)))
         (weaker (λ o. is_kept o.who (kept ++ y ∷ []) ≡ true → is_on o.who long ≡ true) (λ o. (P o.who && is_kept o.who (kept ++ y ∷ [])) ≡ true → (is_kept o.who kept ≡ true) × (is_on o.who long ≡ true) ⊎ (is_who y o.who ≡ true)) os
         (λ o k v. let u = and_parts (P o.who) (is_kept o.who (kept ++ y ∷ [])) v in elim (kept_end y o.who kept u.1) [ inl i ↦ inl (i, k u.1) | inr i ↦ inr i ]) c.recorded)

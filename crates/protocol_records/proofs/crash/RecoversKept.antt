@@ -304,4 +304,4 @@ recovers_kept {C} w Of finish (Decide t) s h v ok g b su st j pr th te r = λ a.
             (λ P f. r a P f ∙ ap (last_state a (first_of w a)) (sym (filter_join (λ d. P d.who && is_value d.result) h.committed (done_act s.book.next_c h (Some x)) ∙ (ap (λ z. filter (λ d. P d.who && is_value d.result) h.committed ++ z) (one_out P _ q) ∙ append-nil (filter (λ d. P d.who && is_value d.result) h.committed)))))
 recovers_kept w Of finish e s h v ok g b su st j pr th te r = λ a.
     still a (first_of w a) h.kept h.committed (h.long a) ((grown w e s h).long a) (told a (log_at s (a % w.text.logs)).records) (told a (log_at (after w e s) (a % w.text.logs)).records)
-    (λ y k. on_stays w e s h a y (whole.for_chain w Of finish e s h v ok (all.owes w Of finish e s h ok g) g.good) g.good.committed k) (told_step w Of finish e s h a ok g su st) (r a)
+    (λ y k. on_stays w e s h a y (whole.for_chain w Of finish e s h v ok (all.owes w Of finish e s h v ok g) g.good) g.good.committed k) (told_step w Of finish e s h a ok g su st) (r a)

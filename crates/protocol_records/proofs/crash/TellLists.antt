@@ -177,13 +177,18 @@ told_act t s now kept (Gone z ss ∷ rs) l o u a n f =
 
 -- ---- all that is told
 
-pub all_tells : (Prem : Who → Type 0) (s : State) (os : List One) (long long' : List Ran) → ((y : Who) (st : State) (later : List One) → Prem y → Tells s y st later long → Tells s y st later long') → AllByRecursion (λ o. Prem o.who) os → AllTells s os long → AllTells s os long'
-all_tells Prem s [] long long' k p h = tt
-all_tells Prem s (o ∷ os) long long' k p h = (k o.who o.state os p.0 h.0, all_tells Prem s os long long' k p.1 h.1)
+pub all_tells : (rd : Who → Bool) (Prem : Who → Type 0) (s : State) (os : List One) (long long' : List Ran) → ((y : Who) (st : State) (later : List One) → Prem y → Tells s y st later long → Tells s y st later long') → AllByRecursion (λ o. Prem o.who) os → AllTells rd s os long → AllTells rd s os long'
+all_tells rd Prem s [] long long' k p h = tt
+all_tells rd Prem s (o ∷ os) long long' k p h = ((λ n. k o.who o.state os p.0 (h.0 n)), all_tells rd Prem s os long long' k p.1 h.1)
 
-pub add_told : (s : State) (os : List One) (n : One) (long long' : List Ran) → ((y : Who) (st : State) (later : List One) → Tells s y st later long → Tells s y st (later ++ n ∷ []) long') → Tells s n.who n.state [] long' → AllTells s os long → AllTells s (os ++ n ∷ []) long'
-add_told s [] n long long' k t h = (t, tt)
-add_told s (o ∷ os) n long long' k t h = (k o.who o.state os h.0, add_told s os n long long' k t h.1)
+-- more of them are known as readers
+pub fewer_tell : (rd rd' : Who → Bool) (s : State) (os : List One) (long : List Ran) → ((y : Who) → rd y ≡ true → rd' y ≡ true) → AllTells rd s os long → AllTells rd' s os long
+fewer_tell rd rd' s [] long k h = tt
+fewer_tell rd rd' s (o ∷ os) long k h = ((λ n. h.0 (false_from_ne_true (rd o.who) (λ q. true≢false (sym (k o.who q) ∙ n)))), fewer_tell rd rd' s os long k h.1)
+
+pub add_told : (rd : Who → Bool) (s : State) (os : List One) (n : One) (long long' : List Ran) → ((y : Who) (st : State) (later : List One) → Tells s y st later long → Tells s y st (later ++ n ∷ []) long') → (rd n.who ≡ false → Tells s n.who n.state [] long') → AllTells rd s os long → AllTells rd s (os ++ n ∷ []) long'
+add_told rd s [] n long long' k t h = (t, tt)
+add_told rd s (o ∷ os) n long long' k t h = ((λ v. k o.who o.state os (h.0 v)), add_told rd s os n long long' k t h.1)
 
 -- ---- when it commits
 

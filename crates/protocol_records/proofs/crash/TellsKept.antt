@@ -6,21 +6,23 @@ use Rattle.std.proofs.lemmas.List.{append-nil}
 use Rattle.std.proofs.lemmas.Bool.{true≢false, or_cases, or_left, or_right, or_parts, and_parts, eqb-true, eq-eqb, cases_Bool, false_from_ne_true, not-true}
 use Rattle.snap_base.specs.declared.transactions.Tx.{Tx}
 use Rattle.snap_base.specs.declared.transactions.State.{State}
+use Rattle.protocol_laws.proofs.machine.ActsGrow.{acts_grow, grown_holds}
+use Rattle.protocol_laws.proofs.machine.ReadersSee.{ReadBy, not_read, reads_at}
 use Rattle.protocol.specs.Facts.{Alone}
 use Rattle.protocol.specs.Fixed.{Fixed, no_state}
 use Rattle.protocol.specs.Records.{LogRecord, BatchInfo, BatchComplete, BatchDone, ActPrepare, ActDone, is_complete, is_prepare}
 use Rattle.protocol.specs.Parts.{Act, Who, OfBatch, OfAct, Entry, BatchEntry, ActEntry, Waiting, Log, Machine}
 use Rattle.protocol.specs.Events.{Event, Form, Arrive, Ask, Run, Complete, Sync, Commit, Rollback, Prepare, Decide, Finish, Trim}
-use Rattle.protocol.specs.Words.{holds, is_who, is_act_who, is_value, is_doomed, is_aborted, who_of, who_on, is_entry_of, is_batch_entry, is_complete_batch, ahead, waiting_of, joined_of, act_of, is_ordered, value_of}
+use Rattle.protocol.specs.Words.{holds, is_who, is_act_who, is_value, is_doomed, is_aborted, who_of, who_on, is_entry_of, is_batch_entry, is_complete_batch, ahead, waiting_of, joined_of, act_of, is_ordered, value_of, lock_of}
 use Rattle.protocol.specs.Contents.{complete_mark}
 use Rattle.protocol.specs.Conditions.{IsAllowed, conditions}
-use Rattle.protocol.specs.Effects.{after, cell_at, no_cell, no_log, added, act_commit}
+use Rattle.protocol.specs.Effects.{after, cell_at, no_cell, no_log, added, act_commit, log_at}
 use Rattle.protocol.specs.OnBook as book
 use Rattle.protocol.specs.OnCell as cell
-use Rattle.protocol.specs.History.{History, Ran, Stands, Gone, grown, with_at, not_run, completed, left_for_good, without_standing, asks, batches_in, batch_in}
-use Rattle.protocol_laws.specs.Tracks.{Key, key_of, keys_in, is_key_among, Differ, InOrder}
+use Rattle.protocol.specs.History.{History, Ran, Stands, Gone, grown, with_at, not_run, completed, left_for_good, without_standing, asks, batches_in, batch_in, is_traceless, is_reader_act, ran_on}
+use Rattle.protocol_laws.specs.Tracks.{Key, key_of, keys_in, is_key_among, Differ, InOrder, has_read}
 use Rattle.protocol_laws.specs.Places.{Ascends, Fits}
-use Rattle.protocol_laws.specs.Commits.{is_kept, KeptFront}
+use Rattle.protocol_laws.specs.Commits.{is_kept, KeptFront, reads_who}
 use Rattle.protocol_laws.specs.Marks.{is_done, IsOver, Recorded}
 use Rattle.protocol_records.specs.Logged.{logged_at, has_place, Prepared, ActsSure, ActsStand}
 use Rattle.protocol_records.specs.Telling.{One, told, AllTells, Telling}
@@ -160,13 +162,13 @@ ahead_done kept who (Stands y c ss ∷ rs) n f h = ((λ q o. h.0 q (on_key kept 
 ahead_done kept who (Gone y ss ∷ rs) n f h = ahead_done kept who rs n f.1 h
 
 -- an ACT that ran
-act_ahead : {C : Type 0} (t : ℕ) (xs : List (Waiting C)) (kept : List Who) (rs : List Ran) → is_some (waiting_of t xs) ≡ false → is_kept (OfAct t) kept ≡ false → KeptFront kept rs → InOrder rs → Starts xs rs → AheadDone (OfAct t) rs
-act_ahead t xs kept [] n k f o s = tt
-act_ahead t xs kept (Gone y ss ∷ rs) n k f o s = act_ahead t xs kept rs n k f.1 o s
-act_ahead t xs kept (Stands (OfBatch j) true ss ∷ rs) n k f o s = ((λ q v. refl), act_ahead t xs kept rs n k f.1 o.1 s)
-act_ahead t xs kept (Stands (OfBatch j) false ss ∷ rs) n k f o s = ((λ q v. absurd (ran_there xs t rs n (on_key kept (OfAct t) rs k f.1 v) s (o.0 refl))), act_ahead t xs kept rs n k f.1 o.1 s)
-act_ahead t xs kept (Stands (OfAct u) true ss ∷ rs) n k f o s = ((λ q v. refl), act_ahead t xs kept rs n k f.1 o.1 s.1)
-act_ahead t xs kept (Stands (OfAct u) false ss ∷ rs) n k f o s = ((λ q v. absurd (ran_there xs t rs n (on_key kept (OfAct t) rs k f.1 v) s.1 (o.0 refl))), act_ahead t xs kept rs n k f.1 o.1 s.1)
+act_ahead : {C : Type 0} (rd : ℕ → Bool) (t : ℕ) (xs : List (Waiting C)) (kept : List Who) (rs : List Ran) → is_some (waiting_of t xs) ≡ false → rd t ≡ false → is_kept (OfAct t) kept ≡ false → KeptFront kept rs → InOrder rs → Starts rd xs rs → AheadDone (OfAct t) rs
+act_ahead rd t xs kept [] n nr k f o s = tt
+act_ahead rd t xs kept (Gone y ss ∷ rs) n nr k f o s = act_ahead rd t xs kept rs n nr k f.1 o s
+act_ahead rd t xs kept (Stands (OfBatch j) true ss ∷ rs) n nr k f o s = ((λ q v. refl), act_ahead rd t xs kept rs n nr k f.1 o.1 s)
+act_ahead rd t xs kept (Stands (OfBatch j) false ss ∷ rs) n nr k f o s = ((λ q v. absurd (ran_there rd xs t rs n nr (on_key kept (OfAct t) rs k f.1 v) s (o.0 refl))), act_ahead rd t xs kept rs n nr k f.1 o.1 s)
+act_ahead rd t xs kept (Stands (OfAct u) true ss ∷ rs) n nr k f o s = ((λ q v. refl), act_ahead rd t xs kept rs n nr k f.1 o.1 s.1)
+act_ahead rd t xs kept (Stands (OfAct u) false ss ∷ rs) n nr k f o s = ((λ q v. absurd (ran_there rd xs t rs n nr (on_key kept (OfAct t) rs k f.1 v) s.1 (o.0 refl))), act_ahead rd t xs kept rs n nr k f.1 o.1 s.1)
 
 -- one that stands there incomplete is not done
 undone_there : (k : ℕ) (rs : List Ran) → NotComplete (OfBatch k) (keys_in rs) → is_key_among (OfBatch k) (keys_in rs) ≡ true → Ascends (batches_in rs) → is_done k rs ≡ true → ⊥
@@ -250,16 +252,20 @@ prepares_fresh w t a s h ok i su st =
     let x = one_is (λ x. holds (λ p. not p.prepared) (joined_of a x)) (act_of t s.book.acts) ok.1.0 in
     let p = one_is (λ p. not p.prepared) (joined_of a x.0) x.2 in
     false_from_ne_true (is_kept (OfAct t) h.kept) (λ q.
-    let v = and_parts (is_ordered x.0.status) (is_value x.0.result) (sym (i t x.0 x.1).known ∙ q) in
-    let vouched : p.0.vouched ≡ true = Rattle.protocol_records.proofs.crash.KeptSure.list_all_at (λ p. p.actor == a) (λ p. p.vouched) p.0 x.0.places p.1 ((su t x.0 x.1).everywhere v.0 v.1) in
+    let v = and_parts (is_ordered x.0.status) (is_value x.0.result && not x.0.reader) (sym (i t x.0 x.1).known ∙ q) in
+    let vouched : p.0.vouched ≡ true = Rattle.protocol_records.proofs.crash.KeptSure.list_all_at (λ p. p.actor == a) (λ p. p.vouched) p.0 x.0.places p.1 ((su t x.0 x.1).everywhere v.0 (and_parts (is_value x.0.result) (not x.0.reader) v.1).0) in
     true≢false (sym ((st t x.0 x.1).first a p.0 p.1 vouched) ∙ not-true p.0.prepared p.2))
 
 marks_of : {C : Type 0} (w : Fixed C) (Of : Tx → C → Type 0) (finish : C → List State → Alone) (t a : ℕ) (s : Machine C) (h : History) → Given w Of finish → IsAllowed w (Run t a) s → AllGood w Of finish s h → (e : Entry) → find (is_entry_of t) (cell_at s a).entries ≡ Some e → complete_mark e ≡ false
 unfolding Rattle.protocol_laws.proofs.machine.PlacesKept.Owed
-marks_of w Of finish t a s h v ok g = whole.for_places w Of finish (Run t a) s h v ok (all.owes w Of finish (Run t a) s h ok g) g.good
+marks_of w Of finish t a s h v ok g = (whole.for_places w Of finish (Run t a) s h v ok (all.owes w Of finish (Run t a) s h v ok g) g.good).0
 
-abbrev pub TellsAt : {C : Type 0} → Fixed C → Machine C → ℕ → List Ran → Type 0
-TellsAt w s a long = AllTells (slice_index_or w.text.opening.states a no_state) (told a (slice_index_or s.logs (a % w.text.logs) no_log).records) long
+no_reads : (a : ℕ) (o : Option Act) → is_reader_act o ≡ false → holds (reads_at a) o ≡ false
+no_reads a None r = refl
+no_reads a (Some x) r = rw r refl
+
+abbrev pub TellsAt : {C : Type 0} → (Who → Bool) → Fixed C → Machine C → ℕ → List Ran → Type 0
+TellsAt rd w s a long = AllTells rd (slice_index_or w.text.opening.states a no_state) (told a (slice_index_or s.logs (a % w.text.logs) no_log).records) long
 
 any_who : {C : Type 0} (w : Fixed C) (s : Machine C) (a : ℕ) → AllByRecursion (λ o. Unit {0}) (told a (slice_index_or s.logs (a % w.text.logs) no_log).records)
 any_who w s a = all (told a (slice_index_or s.logs (a % w.text.logs) no_log).records)
@@ -269,37 +275,37 @@ any_who w s a = all (told a (slice_index_or s.logs (a % w.text.logs) no_log).rec
     all (o ∷ os) = (tt, all os)
 
 -- one long schedule is changed, and no log
-moved : {C : Type 0} (w : Fixed C) (s : Machine C) (h : History) (a : ℕ) (new : List Ran) → (TellsAt w s a (h.long a) → TellsAt w s a new) → ((c : ℕ) → TellsAt w s c (h.long c)) → (c : ℕ) → TellsAt w s c (with_at a new h.long c)
-moved w s h a new k g = chain.beside_carried (TellsAt w s) a new h.long k g
+moved : {C : Type 0} (rd : Who → Bool) (w : Fixed C) (s : Machine C) (h : History) (a : ℕ) (new : List Ran) → (TellsAt rd w s a (h.long a) → TellsAt rd w s a new) → ((c : ℕ) → TellsAt rd w s c (h.long c)) → (c : ℕ) → TellsAt rd w s c (with_at a new h.long c)
+moved rd w s h a new k g = chain.beside_carried (TellsAt rd w s) a new h.long k g
 
-pub telling_kept : {C : Type 0} (w : Fixed C) (Of : Tx → C → Type 0) (finish : C → List State → Alone) (e : Event) (s : Machine C) (h : History) → Given w Of finish → IsAllowed w e s → AllGood w Of finish s h → ActsSure w s → ActsStand s h → Prepared w s → Telling w s h → Telling w (after w e s) (grown w e s h)
-unfolding Telling Tracked Committed Started conditions after grown
-telling_kept w Of finish (Form k) s h v ok g su st pr q = λ c. subst (λ os. AllTells (slice_index_or w.text.opening.states c no_state) os (h.long c)) (sym (told_same c _ s.logs (k % w.text.logs) (c % w.text.logs) refl)) (q c)
-telling_kept w Of finish (Commit k) s h v ok g su st pr q = λ c. subst (λ os. AllTells (slice_index_or w.text.opening.states c no_state) os (h.long c)) (sym (told_same c _ s.logs (k % w.text.logs) (c % w.text.logs) refl)) (q c)
-telling_kept w Of finish (Decide t) s h v ok g su st pr q = λ c. subst (λ os. AllTells (slice_index_or w.text.opening.states c no_state) os (h.long c)) (sym (told_same c _ s.logs (t % w.text.logs) (c % w.text.logs) (told_commit c s.book.next_c (act_of t s.book.acts)))) (q c)
-telling_kept w Of finish (Sync l) s h v ok g su st pr q = λ c. subst (λ rs. AllTells (slice_index_or w.text.opening.states c no_state) (told c rs) (h.long c)) (sym (log_synced s.logs l (c % w.text.logs))) (q c)
-telling_kept w Of finish (Arrive k a) s h v ok g su st pr q = moved w s h a _
-    (λ z. lists.all_tells (λ y. is_who (OfBatch k) y ≡ false) _ _ (h.long a) _ (λ y i later n x. lists.more _ y i later (OfBatch k) (h.long a) n x)
+telling_for : {C : Type 0} (w : Fixed C) (Of : Tx → C → Type 0) (finish : C → List State → Alone) (e : Event) (s : Machine C) (h : History) → Given w Of finish → IsAllowed w e s → AllGood w Of finish s h → ActsSure w s → ActsStand s h → Prepared w s → Telling w s h → (a : ℕ) → AllTells (reads_who s.book.acts) (slice_index_or w.text.opening.states a no_state) (told a (log_at (after w e s) (a % w.text.logs)).records) ((grown w e s h).long a)
+unfolding Telling Tracked Committed Started ReadBy conditions after grown
+telling_for w Of finish (Form k) s h v ok g su st pr q = λ c. subst (λ os. AllTells (reads_who s.book.acts) (slice_index_or w.text.opening.states c no_state) os (h.long c)) (sym (told_same c _ s.logs (k % w.text.logs) (c % w.text.logs) refl)) (q c)
+telling_for w Of finish (Commit k) s h v ok g su st pr q = λ c. subst (λ os. AllTells (reads_who s.book.acts) (slice_index_or w.text.opening.states c no_state) os (h.long c)) (sym (told_same c _ s.logs (k % w.text.logs) (c % w.text.logs) refl)) (q c)
+telling_for w Of finish (Decide t) s h v ok g su st pr q = λ c. subst (λ os. AllTells (reads_who s.book.acts) (slice_index_or w.text.opening.states c no_state) os (h.long c)) (sym (told_same c _ s.logs (t % w.text.logs) (c % w.text.logs) (told_commit c s.book.next_c (act_of t s.book.acts)))) (q c)
+telling_for w Of finish (Sync l) s h v ok g su st pr q = λ c. subst (λ rs. AllTells (reads_who s.book.acts) (slice_index_or w.text.opening.states c no_state) (told c rs) (h.long c)) (sym (log_synced s.logs l (c % w.text.logs))) (q c)
+telling_for w Of finish (Arrive k a) s h v ok g su st pr q = moved (reads_who s.book.acts) w s h a _
+    (λ z. lists.all_tells (reads_who s.book.acts) (λ y. is_who (OfBatch k) y ≡ false) _ _ (h.long a) _ (λ y i later n x. lists.more _ y i later (OfBatch k) (h.long a) n x)
     (told_all (λ y. is_who (OfBatch k) y ≡ false) a (slice_index_or s.logs (a % w.text.logs) no_log).records (λ j r. none_arrives w Of finish k a s h ok g j r) (λ j r. refl)) z) q
-telling_kept w Of finish (Ask t a) s h v ok g su st pr q = moved w s h a _ (by (book.in_the_way t (cell_at s a).entries)) q
+telling_for w Of finish (Ask t a) s h v ok g su st pr q = moved (reads_who s.book.acts) w s h a _ (by (book.in_the_way (lock_of t s.book.acts) (cell_at s a).entries)) q
   where
-    by : (o : Option ℕ) → TellsAt w s a (h.long a) → TellsAt w s a (h.long a ++ map not_run (asks t o))
-    by (Some older) z = subst (TellsAt w s a) (sym (append-nil (h.long a))) z
-    by None z = lists.all_tells (λ y. is_who (OfAct t) y ≡ false) (slice_index_or w.text.opening.states a no_state) (told a (slice_index_or s.logs (a % w.text.logs) no_log).records) (h.long a) (h.long a ++ not_run (OfAct t) ∷ []) (λ y i later n x. lists.more (slice_index_or w.text.opening.states a no_state) y i later (OfAct t) (h.long a) n x)
+    by : (o : Option ℕ) → TellsAt (reads_who s.book.acts) w s a (h.long a) → TellsAt (reads_who s.book.acts) w s a (h.long a ++ map not_run (asks t o))
+    by (Some older) z = subst (TellsAt (reads_who s.book.acts) w s a) (sym (append-nil (h.long a))) z
+    by None z = lists.all_tells (reads_who s.book.acts) (λ y. is_who (OfAct t) y ≡ false) (slice_index_or w.text.opening.states a no_state) (told a (slice_index_or s.logs (a % w.text.logs) no_log).records) (h.long a) (h.long a ++ not_run (OfAct t) ∷ []) (λ y i later n x. lists.more (slice_index_or w.text.opening.states a no_state) y i later (OfAct t) (h.long a) n x)
         (told_all (λ y. is_who (OfAct t) y ≡ false) a (slice_index_or s.logs (a % w.text.logs) no_log).records (λ j r. refl) (λ j r. false_from_ne_true (t == j) (λ e. record_result w s j a pr r (subst (λ u. results.NoActResult u s.book.acts) (eqb-true t j e) (results.posted_none t a s ok.0 g.none))))) z
-telling_kept w Of finish (Run t a) s h v ok g su st pr q = moved w s h a _
-    (λ z. lists.all_tells (λ y. is_who (who_on t (cell_at s a).entries) y ≡ true → is_act_who (who_on t (cell_at s a).entries) ≡ false) _ _ (h.long a) _ (λ y i later n x. lists.ran _ y i later (who_on t (cell_at s a).entries) _ (h.long a) n (keys_at w s h a (who_on t (cell_at s a).entries) g.good.tracked un.0) x)
+telling_for w Of finish (Run t a) s h v ok g su st pr q = moved (reads_who s.book.acts) w s h a _
+    (λ z0. TrackLists.on_reads (TellsAt (reads_who s.book.acts) w s a) (cell.reads_on t (cell_at s a).entries) _ _ (h.long a) (λ z. lists.all_tells (reads_who s.book.acts) (λ y. is_who (who_on t (cell_at s a).entries) y ≡ true → is_act_who (who_on t (cell_at s a).entries) ≡ false) _ _ (h.long a) _ (λ y i later n x. lists.ran _ y i later (who_on t (cell_at s a).entries) _ (h.long a) n (keys_at w s h a (who_on t (cell_at s a).entries) g.good.tracked un.0) x)
     (told_all (λ y. is_who (who_on t (cell_at s a).entries) y ≡ true → is_act_who (who_on t (cell_at s a).entries) ≡ false) a (slice_index_or s.logs (a % w.text.logs) no_log).records
     (λ j r e. ap is_act_who (TrackLists.is_who_true (who_on t (cell_at s a).entries) (OfBatch j) e))
-    (λ j r e. false_from_ne_true (is_act_who (who_on t (cell_at s a).entries)) (λ f. record_result w s j a pr r (subst (λ u. results.NoActResult u s.book.acts) (same t j (who_act t (cell_at s a).entries f) (TrackLists.is_who_true (who_on t (cell_at s a).entries) (OfAct j) e)) (results.waiting_none t a s (held (λ c. is_some (waiting_of t c.inbox)) s.cells a no_cell ok.0) g.none))))) z) q
+    (λ j r e. false_from_ne_true (is_act_who (who_on t (cell_at s a).entries)) (λ f. record_result w s j a pr r (subst (λ u. results.NoActResult u s.book.acts) (same t j (who_act t (cell_at s a).entries f) (TrackLists.is_who_true (who_on t (cell_at s a).entries) (OfAct j) e)) (results.waiting_none t a s (held (λ c. is_some (waiting_of t c.inbox)) s.cells a no_cell ok.0) g.none))))) z) z0) q
   where
     un : NotComplete (who_on t (cell_at s a).entries) (map key_of (cell_at s a).entries) × (is_key_among (who_on t (cell_at s a).entries) (map key_of (cell_at s a).entries) ≡ true)
     un = runs_unmarked t (cell_at s a).entries (clear_found t (cell_at s a).entries (held (λ c. Rattle.protocol.specs.Words.is_clear t c.entries) s.cells a no_cell ok.1.0)) (marks_of w Of finish t a s h v ok g) (differ_at w s h a g.good.tracked)
 
     same : (t j : ℕ) {y : Who} → y ≡ OfAct t → y ≡ OfAct j → t ≡ j
     same t j e f = cc (sym e ∙ f)
-telling_kept w Of finish (Complete k a) s h v ok g su st pr q = λ c. elim (cases_Bool (c == a)) [
-  | inr f ↦ rw f (subst (λ os. AllTells (slice_index_or w.text.opening.states c no_state) os (h.long c)) (sym (told_same c _ s.logs (a % w.text.logs) (c % w.text.logs) (other c f))) (q c))
+telling_for w Of finish (Complete k a) s h v ok g su st pr q = λ c. elim (cases_Bool (c == a)) [
+  | inr f ↦ rw f (subst (λ os. AllTells (reads_who s.book.acts) (slice_index_or w.text.opening.states c no_state) os (h.long c)) (sym (told_same c _ s.logs (a % w.text.logs) (c % w.text.logs) (other c f))) (q c))
   | inl f ↦ rw f (own c (eqb-true c a f))
 ]
   where
@@ -312,13 +318,13 @@ telling_kept w Of finish (Complete k a) s h v ok g su st pr q = λ c. elim (case
     fresh : is_kept (OfBatch k) h.kept ≡ false
     fresh = completes_fresh w Of finish k a s h ok g
 
-    here : AllTells (slice_index_or w.text.opening.states a no_state) (told a (slice_index_or (slice_set s.logs (a % w.text.logs) (added (BatchComplete k a (cell_at s a).state ∷ []) (slice_index_or s.logs (a % w.text.logs) no_log))) (a % w.text.logs) no_log).records) (map (completed k) (h.long a))
+    here : AllTells (reads_who s.book.acts) (slice_index_or w.text.opening.states a no_state) (told a (slice_index_or (slice_set s.logs (a % w.text.logs) (added (BatchComplete k a (cell_at s a).state ∷ []) (slice_index_or s.logs (a % w.text.logs) no_log))) (a % w.text.logs) no_log).records) (map (completed k) (h.long a))
     here = elim (told_added a (BatchComplete k a (cell_at s a).state ∷ []) s.logs (a % w.text.logs) (a % w.text.logs)) [
-      | inl e ↦ subst (λ os. AllTells (slice_index_or w.text.opening.states a no_state) os (map (completed k) (h.long a))) (sym e) (lists.all_tells (λ y. Unit {0}) (slice_index_or w.text.opening.states a no_state) (told a (slice_index_or s.logs (a % w.text.logs) no_log).records) (h.long a) (map (completed k) (h.long a)) (λ y i later n x. lists.complete (slice_index_or w.text.opening.states a no_state) y i later k (h.long a) x) (any_who w s a) (q a))
-      | inr e ↦ subst (λ os. AllTells (slice_index_or w.text.opening.states a no_state) os (map (completed k) (h.long a))) (sym (e ∙ ap (λ z. told a (slice_index_or s.logs (a % w.text.logs) no_log).records ++ z) one))
-          (lists.add_told (slice_index_or w.text.opening.states a no_state) (told a (slice_index_or s.logs (a % w.text.logs) no_log).records) (record { who = OfBatch k; state = (cell_at s a).state }) (h.long a) (map (completed k) (h.long a))
+      | inl e ↦ subst (λ os. AllTells (reads_who s.book.acts) (slice_index_or w.text.opening.states a no_state) os (map (completed k) (h.long a))) (sym e) (lists.all_tells (reads_who s.book.acts) (λ y. Unit {0}) (slice_index_or w.text.opening.states a no_state) (told a (slice_index_or s.logs (a % w.text.logs) no_log).records) (h.long a) (map (completed k) (h.long a)) (λ y i later n x. lists.complete (slice_index_or w.text.opening.states a no_state) y i later k (h.long a) x) (any_who w s a) (q a))
+      | inr e ↦ subst (λ os. AllTells (reads_who s.book.acts) (slice_index_or w.text.opening.states a no_state) os (map (completed k) (h.long a))) (sym (e ∙ ap (λ z. told a (slice_index_or s.logs (a % w.text.logs) no_log).records ++ z) one))
+          (lists.add_told (reads_who s.book.acts) (slice_index_or w.text.opening.states a no_state) (told a (slice_index_or s.logs (a % w.text.logs) no_log).records) (record { who = OfBatch k; state = (cell_at s a).state }) (h.long a) (map (completed k) (h.long a))
           (λ y i later x. lists.complete (slice_index_or w.text.opening.states a no_state) y i (later ++ record { who = OfBatch k; state = (cell_at s a).state } ∷ []) k (h.long a) (lists.later (slice_index_or w.text.opening.states a no_state) y i later (OfBatch k) (cell_at s a).state h.kept (h.long a) (keys_at w s h a (OfBatch k) g.good.tracked u.0) fresh (g.good.committed a).front x))
-          (lists.told_batch k (slice_index_or w.text.opening.states a no_state) (cell_at s a).state h.kept (h.long a) (g.good.tracked a).links (g.good.tracked a).in_order (keys_at w s h a (OfBatch k) g.good.tracked u.0)
+          (λ nr. lists.told_batch k (slice_index_or w.text.opening.states a no_state) (cell_at s a).state h.kept (h.long a) (g.good.tracked a).links (g.good.tracked a).in_order (keys_at w s h a (OfBatch k) g.good.tracked u.0)
           (ahead_done h.kept (OfBatch k) (h.long a) fresh (g.good.committed a).front (subst (AheadKeys (OfBatch k)) (g.good.tracked a).stands (batch_ahead k (cell_at s a).entries (held (λ c. list_all is_complete_batch (ahead (is_batch_entry k) c.entries)) s.cells a no_cell ok.1.0) (differ_at w s h a g.good.tracked)))) fresh (g.good.committed a).front)
           (q a))
     ]
@@ -326,10 +332,10 @@ telling_kept w Of finish (Complete k a) s h v ok g su st pr q = λ c. elim (case
         one : told a (BatchComplete k a (cell_at s a).state ∷ []) ≡ record { who = OfBatch k; state = (cell_at s a).state } ∷ []
         one = rw (eq-eqb a a refl) refl
 
-    own : (c : ℕ) → c ≡ a → AllTells (slice_index_or w.text.opening.states c no_state) (told c (slice_index_or (slice_set s.logs (a % w.text.logs) (added (BatchComplete k a (cell_at s a).state ∷ []) (slice_index_or s.logs (a % w.text.logs) no_log))) (c % w.text.logs) no_log).records) (map (completed k) (h.long a))
-    own c e = subst (λ z. AllTells (slice_index_or w.text.opening.states z no_state) (told z (slice_index_or (slice_set s.logs (a % w.text.logs) (added (BatchComplete k a (cell_at s a).state ∷ []) (slice_index_or s.logs (a % w.text.logs) no_log))) (z % w.text.logs) no_log).records) (map (completed k) (h.long a))) (sym e) here
-telling_kept {C} w Of finish (Prepare t a) s h v ok g su st pr q = λ c. elim (cases_Bool (c == a)) [
-  | inr f ↦ subst (λ os. AllTells (slice_index_or w.text.opening.states c no_state) os (h.long c)) (sym (told_same c _ s.logs (a % w.text.logs) (c % w.text.logs) (other c f))) (q c)
+    own : (c : ℕ) → c ≡ a → AllTells (reads_who s.book.acts) (slice_index_or w.text.opening.states c no_state) (told c (slice_index_or (slice_set s.logs (a % w.text.logs) (added (BatchComplete k a (cell_at s a).state ∷ []) (slice_index_or s.logs (a % w.text.logs) no_log))) (c % w.text.logs) no_log).records) (map (completed k) (h.long a))
+    own c e = subst (λ z. AllTells (reads_who s.book.acts) (slice_index_or w.text.opening.states z no_state) (told z (slice_index_or (slice_set s.logs (a % w.text.logs) (added (BatchComplete k a (cell_at s a).state ∷ []) (slice_index_or s.logs (a % w.text.logs) no_log))) (z % w.text.logs) no_log).records) (map (completed k) (h.long a))) (sym e) here
+telling_for {C} w Of finish (Prepare t a) s h v ok g su st pr q = λ c. elim (cases_Bool (c == a)) [
+  | inr f ↦ subst (λ os. AllTells (reads_who s.book.acts) (slice_index_or w.text.opening.states c no_state) os (h.long c)) (sym (told_same c _ s.logs (a % w.text.logs) (c % w.text.logs) (other c f))) (q c)
   | inl f ↦ own c (eqb-true c a f)
 ]
   where
@@ -347,30 +353,39 @@ telling_kept {C} w Of finish (Prepare t a) s h v ok g su st pr q = λ c. elim (c
         let x = one_is (λ x. is_value x.result && not (is_doomed x.status)) (act_of t s.book.acts) ok.0 in
         false_from_ne_true (is_some (waiting_of t (cell_at s a).inbox)) (λ i. true≢false (sym (and_parts (is_value x.0.result) (not (is_doomed x.0.status)) x.2).0 ∙ ap is_value (results.waiting_none t a s i g.none t x.0 x.1 refl)))
 
-    here : AllTells (slice_index_or w.text.opening.states a no_state) (told a (slice_index_or (slice_set s.logs (a % w.text.logs) (added (ActPrepare t a (cell_at s a).state ∷ []) (slice_index_or s.logs (a % w.text.logs) no_log))) (a % w.text.logs) no_log).records) (h.long a)
+    here : AllTells (reads_who s.book.acts) (slice_index_or w.text.opening.states a no_state) (told a (slice_index_or (slice_set s.logs (a % w.text.logs) (added (ActPrepare t a (cell_at s a).state ∷ []) (slice_index_or s.logs (a % w.text.logs) no_log))) (a % w.text.logs) no_log).records) (h.long a)
     here = elim (told_added a (ActPrepare t a (cell_at s a).state ∷ []) s.logs (a % w.text.logs) (a % w.text.logs)) [
-      | inl e ↦ subst (λ os. AllTells (slice_index_or w.text.opening.states a no_state) os (h.long a)) (sym e) (q a)
-      | inr e ↦ subst (λ os. AllTells (slice_index_or w.text.opening.states a no_state) os (h.long a)) (sym (e ∙ ap (λ z. told a (slice_index_or s.logs (a % w.text.logs) no_log).records ++ z) one))
-          (lists.add_told (slice_index_or w.text.opening.states a no_state) (told a (slice_index_or s.logs (a % w.text.logs) no_log).records) (record { who = OfAct t; state = (cell_at s a).state }) (h.long a) (h.long a)
+      | inl e ↦ subst (λ os. AllTells (reads_who s.book.acts) (slice_index_or w.text.opening.states a no_state) os (h.long a)) (sym e) (q a)
+      | inr e ↦ subst (λ os. AllTells (reads_who s.book.acts) (slice_index_or w.text.opening.states a no_state) os (h.long a)) (sym (e ∙ ap (λ z. told a (slice_index_or s.logs (a % w.text.logs) no_log).records ++ z) one))
+          (lists.add_told (reads_who s.book.acts) (slice_index_or w.text.opening.states a no_state) (told a (slice_index_or s.logs (a % w.text.logs) no_log).records) (record { who = OfAct t; state = (cell_at s a).state }) (h.long a) (h.long a)
           (λ y i later x. lists.later (slice_index_or w.text.opening.states a no_state) y i later (OfAct t) (cell_at s a).state h.kept (h.long a) u fresh (g.good.committed a).front x)
-          (lists.told_act t (slice_index_or w.text.opening.states a no_state) (cell_at s a).state h.kept (h.long a) (g.good.tracked a).links (g.good.tracked a).in_order u
-          (act_ahead t (cell_at s a).inbox h.kept (h.long a) away fresh (g.good.committed a).front (g.good.tracked a).in_order (g.started a)) fresh (g.good.committed a).front)
+          (λ nr. lists.told_act t (slice_index_or w.text.opening.states a no_state) (cell_at s a).state h.kept (h.long a) (g.good.tracked a).links (g.good.tracked a).in_order u
+          (act_ahead (has_read (h.reads a)) t (cell_at s a).inbox h.kept (h.long a) away (not_read a t s.book.acts (h.reads a) (no_reads a (act_of t s.book.acts) nr) (g.read_by a)) fresh (g.good.committed a).front (g.good.tracked a).in_order (g.started a)) fresh (g.good.committed a).front)
           (q a))
     ]
       where
         one : told a (ActPrepare t a (cell_at s a).state ∷ []) ≡ record { who = OfAct t; state = (cell_at s a).state } ∷ []
         one = rw (eq-eqb a a refl) refl
 
-    own : (c : ℕ) → c ≡ a → AllTells (slice_index_or w.text.opening.states c no_state) (told c (slice_index_or (slice_set s.logs (a % w.text.logs) (added (ActPrepare t a (cell_at s a).state ∷ []) (slice_index_or s.logs (a % w.text.logs) no_log))) (c % w.text.logs) no_log).records) (h.long c)
-    own c e = subst (λ z. AllTells (slice_index_or w.text.opening.states z no_state) (told z (slice_index_or (slice_set s.logs (a % w.text.logs) (added (ActPrepare t a (cell_at s a).state ∷ []) (slice_index_or s.logs (a % w.text.logs) no_log))) (z % w.text.logs) no_log).records) (h.long z)) (sym e) here
-telling_kept w Of finish (Rollback a) s h v ok g su st pr q = moved w s h a _ (λ z. lists.all_tells (λ y. Unit {0}) _ _ (h.long a) _ (λ y i later n x. lists.roll_back _ y i later s.book.cascades (h.long a) x) (any_who w s a) z) q
-telling_kept w Of finish (Finish t a) s h v ok g su st pr q = moved w s h a _ (by (cell.is_undone_act (act_of t s.book.acts)) fresh) q
+    own : (c : ℕ) → c ≡ a → AllTells (reads_who s.book.acts) (slice_index_or w.text.opening.states c no_state) (told c (slice_index_or (slice_set s.logs (a % w.text.logs) (added (ActPrepare t a (cell_at s a).state ∷ []) (slice_index_or s.logs (a % w.text.logs) no_log))) (c % w.text.logs) no_log).records) (h.long c)
+    own c e = subst (λ z. AllTells (reads_who s.book.acts) (slice_index_or w.text.opening.states z no_state) (told z (slice_index_or (slice_set s.logs (a % w.text.logs) (added (ActPrepare t a (cell_at s a).state ∷ []) (slice_index_or s.logs (a % w.text.logs) no_log))) (z % w.text.logs) no_log).records) (h.long z)) (sym e) here
+telling_for w Of finish (Rollback a) s h v ok g su st pr q = moved (reads_who s.book.acts) w s h a _ (λ z. lists.all_tells (reads_who s.book.acts) (λ y. Unit {0}) _ _ (h.long a) _ (λ y i later n x. lists.roll_back _ y i later s.book.cascades (h.long a) x) (any_who w s a) z) q
+telling_for w Of finish (Finish t a) s h v ok g su st pr q = moved (reads_who s.book.acts) w s h a _ (by (is_traceless (act_of t s.book.acts)) fresh) q
   where
-    fresh : is_kept (OfAct t) h.kept ≡ not (cell.is_undone_act (act_of t s.book.acts))
+    fresh : is_kept (OfAct t) h.kept ≡ not (is_traceless (act_of t s.book.acts))
     fresh = Rattle.protocol_laws.proofs.machine.ActsOwed.finish_kept w t a s h ok g.acts
 
-    by : (b : Bool) → is_kept (OfAct t) h.kept ≡ not b → TellsAt w s a (h.long a) → TellsAt w s a (if b then without_standing (OfAct t) (h.long a) else map (left_for_good (OfAct t)) (h.long a))
-    by true n z = lists.all_tells (λ y. Unit {0}) (slice_index_or w.text.opening.states a no_state) (told a (slice_index_or s.logs (a % w.text.logs) no_log).records) (h.long a) (without_standing (OfAct t) (h.long a)) (λ y i later m x. lists.undo (slice_index_or w.text.opening.states a no_state) y i later (OfAct t) h.kept (h.long a) (keys_at w s h a (OfAct t) g.good.tracked (TrackLists.acts_not_complete t (cell_at s a).entries)) n (g.good.committed a).front x) (any_who w s a) z
-    by false n z = lists.all_tells (λ y. Unit {0}) (slice_index_or w.text.opening.states a no_state) (told a (slice_index_or s.logs (a % w.text.logs) no_log).records) (h.long a) (map (left_for_good (OfAct t)) (h.long a)) (λ y i later m x. lists.leave (slice_index_or w.text.opening.states a no_state) y i later (OfAct t) (h.long a) x) (any_who w s a) z
-telling_kept w Of finish (Trim k a) s h v ok g su st pr q = moved w s h a _ (λ z. lists.all_tells (λ y. Unit {0}) _ _ (h.long a) _ (λ y i later m x. lists.leave _ y i later (OfBatch k) (h.long a) x) (any_who w s a) z) q
-telling_kept w Of finish e s h v ok g su st pr q = q
+    by : (b : Bool) → is_kept (OfAct t) h.kept ≡ not b → TellsAt (reads_who s.book.acts) w s a (h.long a) → TellsAt (reads_who s.book.acts) w s a (if b then without_standing (OfAct t) (h.long a) else map (left_for_good (OfAct t)) (h.long a))
+    by true n z = lists.all_tells (reads_who s.book.acts) (λ y. Unit {0}) (slice_index_or w.text.opening.states a no_state) (told a (slice_index_or s.logs (a % w.text.logs) no_log).records) (h.long a) (without_standing (OfAct t) (h.long a)) (λ y i later m x. lists.undo (slice_index_or w.text.opening.states a no_state) y i later (OfAct t) h.kept (h.long a) (keys_at w s h a (OfAct t) g.good.tracked (TrackLists.acts_not_complete t (cell_at s a).entries)) n (g.good.committed a).front x) (any_who w s a) z
+    by false n z = lists.all_tells (reads_who s.book.acts) (λ y. Unit {0}) (slice_index_or w.text.opening.states a no_state) (told a (slice_index_or s.logs (a % w.text.logs) no_log).records) (h.long a) (map (left_for_good (OfAct t)) (h.long a)) (λ y i later m x. lists.leave (slice_index_or w.text.opening.states a no_state) y i later (OfAct t) (h.long a) x) (any_who w s a) z
+telling_for w Of finish (Trim k a) s h v ok g su st pr q = moved (reads_who s.book.acts) w s h a _ (λ z. lists.all_tells (reads_who s.book.acts) (λ y. Unit {0}) _ _ (h.long a) _ (λ y i later m x. lists.leave _ y i later (OfBatch k) (h.long a) x) (any_who w s a) z) q
+telling_for w Of finish e s h v ok g su st pr q = q
+
+-- the book's readers stay so
+pub telling_kept : {C : Type 0} (w : Fixed C) (Of : Tx → C → Type 0) (finish : C → List State → Alone) (e : Event) (s : Machine C) (h : History) → Given w Of finish → IsAllowed w e s → AllGood w Of finish s h → ActsSure w s → ActsStand s h → Prepared w s → Telling w s h → Telling w (after w e s) (grown w e s h)
+unfolding Telling
+telling_kept w Of finish e s h v ok g su st pr q = λ a. lists.fewer_tell (reads_who s.book.acts) (reads_who (after w e s).book.acts) (slice_index_or w.text.opening.states a no_state) (told a (log_at (after w e s) (a % w.text.logs)).records) ((grown w e s h).long a) stays (telling_for w Of finish e s h v ok g su st pr q a)
+  where
+    stays : (y : Who) → reads_who s.book.acts y ≡ true → reads_who (after w e s).book.acts y ≡ true
+    stays (OfBatch k) q = q
+    stays (OfAct t) q = grown_holds (λ x. x.reader) s.book.acts (after w e s).book.acts t (λ x y k q. k.reader ∙ q) (acts_grow w e s) q

@@ -45,8 +45,8 @@ tells_marked s y st os kept (Stands z c ss ∷ rs) a u n f o h = by (is_who z y)
     by false e r = r e (elim (or_cases (is_who z y) (is_on y rs) o) [ inl q ↦ absurd (true≢false (sym q ∙ e)) | inr q ↦ q ])
 tells_marked s y st os kept (Gone z ss ∷ rs) a u n f o h = let e = not_gone kept z y f.0 n in tells_marked (end_of s ss) y st os kept rs a u n f.1 (elim (or_cases (is_who z y) (is_on y rs) o) [ inl q ↦ absurd (true≢false (sym q ∙ e)) | inr q ↦ q ]) (h.2 e)
 
-pub told_marked : (s : State) (y : Who) (os : List One) (kept : List Who) (rs : List Ran) → is_act_who y ≡ false → Unmarked y rs → is_kept y kept ≡ false → KeptFront kept rs → is_on y rs ≡ true → AllTells s os rs → names y os ≡ false
-told_marked s y [] kept rs a u n f o h = refl
-told_marked s y (x ∷ os) kept rs a u n f o h =
-    let e : is_who y x.who ≡ false = false_from_ne_true (is_who y x.who) (λ q. tells_marked s y x.state os kept rs a u n f o (subst (λ z. Tells s z x.state os rs) (sym (TrackLists.is_who_true y x.who q)) h.0)) in
-    rw (e, told_marked s y os kept rs a u n f o h.1) refl
+pub told_marked : (rd : Who → Bool) (s : State) (y : Who) (os : List One) (kept : List Who) (rs : List Ran) → rd y ≡ false → is_act_who y ≡ false → Unmarked y rs → is_kept y kept ≡ false → KeptFront kept rs → is_on y rs ≡ true → AllTells rd s os rs → names y os ≡ false
+told_marked rd s y [] kept rs r a u n f o h = refl
+told_marked rd s y (x ∷ os) kept rs r a u n f o h =
+    let e : is_who y x.who ≡ false = false_from_ne_true (is_who y x.who) (λ q. tells_marked s y x.state os kept rs a u n f o (subst (λ z. Tells s z x.state os rs) (sym (TrackLists.is_who_true y x.who q)) (h.0 (subst (λ z. rd z ≡ false) (TrackLists.is_who_true y x.who q) r)))) in
+    rw (e, told_marked rd s y os kept rs r a u n f o h.1) refl

@@ -16,7 +16,7 @@ use Rattle.protocol.specs.Effects.{log_at}
 use Rattle.protocol.specs.Runs.{opening, IsRun, reached}
 use Rattle.protocol.specs.Moments.{left_in}
 use Rattle.protocol.specs.History.{Done, History, no_history, history}
-use Rattle.protocol_records.specs.Crash.{AtEveryMoment, is_in, tids_in, bids_in, cs_in, BatchIsWhole, ActIsWhole, CrashHolds}
+use Rattle.protocol_records.specs.Crash.{AtEveryMoment, is_in, tids_in, bids_in, cs_in, BatchIsWhole, ActIsWhole}
 use Rattle.protocol_laws.specs.Told.{is_at, DoneFrom, IsDonePact, PactFrom}
 use Rattle.protocol_laws.specs.Marks.{Known}
 use Rattle.protocol_laws.specs.Ranges.{IsWithin, BatchInRange, ActInRange, NumbersInRange}
@@ -35,7 +35,9 @@ use Rattle.protocol_laws.proofs.machine.QuietTold.{PactsFrom}
 use Rattle.protocol_laws.proofs.machine.Good.{Given}
 use Rattle.protocol_laws.proofs.machine.AllGood.{all_good, none_allowed}
 use Rattle.protocol_records.proofs.crash.CrashImplied.{front_runs}
-use Rattle.protocol_records.proofs.crash.CrashLaw.{crash_of_every_moment}
+use Rattle.protocol_records.proofs.crash.CrashImplied.{moment_is_cut}
+use Rattle.protocol_records.proofs.crash.CrashParts.{logs_hold}
+use Rattle.protocol_records.proofs.crash.CrashWhole.{whole_batch, whole_act}
 use Rattle.protocol_records.proofs.recording.RecordsHold.{tells_of}
 use Rattle.protocol_records.proofs.recording.NumbersDrawn.{Numbers, commits_drawn, settled_below, of_pact, of_act, any_pact}
 use Rattle.protocol_laws.proofs.first.EpochsKept.{greatest_less}
@@ -216,15 +218,16 @@ tid_low w es run = along w (λ s. w.text.opening.next_tid ≤ s.ring.next_tid) (
 bid_low : {C : Type 0} (w : Fixed C) (es : List Event) → IsRun w es → w.text.opening.next_bid ≤ (reached w es).ring.next_bid
 bid_low w es run = along w (λ s. w.text.opening.next_bid ≤ s.ring.next_bid) (λ e s ok l. omega (arith, l, bid_went w e s)) es (opening w) run (omega arith)
 
-next_stand : {C : Type 0} (w : Fixed C) (Of : Tx → C → Type 0) (finish : C → List State → Alone) (es ds : List Event) (kept : ℕ → ℕ) → Given w Of finish → IsRun w ds → CrashHolds w finish es (reached w ds) (history w ds) (left_in (reached w ds) kept)
+next_stand : {C : Type 0} (w : Fixed C) (Of : Tx → C → Type 0) (finish : C → List State → Alone) (es ds : List Event) (kept : ℕ → ℕ) → Given w Of finish → IsRun w ds
+    → ((k : ℕ) → is_in w.text.logs (left_in (reached w ds) kept) (OfBatch k) ≡ true → BatchIsWhole w.text.logs (left_in (reached w ds) kept) k) → ((t : ℕ) → is_in w.text.logs (left_in (reached w ds) kept) (OfAct t) ≡ true → ActIsWhole w.text.logs (left_in (reached w ds) kept) t)
     → NextNumbersStand w finish es (reached w ds) (history w ds) (left_in (reached w ds) kept)
 unfolding PactsFrom AllFrom
-next_stand {C} w Of finish es ds kept v run c =
+next_stand {C} w Of finish es ds kept v run batches acts =
     let g = all_good w Of finish ds v run in
     let n = numbers_hold w Of finish ds v run in
     let t : (l : ℕ) → AllByRecursion (TellsOf (reached w ds).desk.batches (reached w ds).book.acts) (left_in (reached w ds) kept l) = λ l. all_take (TellsOf (reached w ds).desk.batches (reached w ds).book.acts) (kept l) (log_at (reached w ds) l).records (tells_of w Of finish ds v run l) in
     record {
-      above_members = all_members w finish (reached w ds) (history w ds) (left_in (reached w ds) kept) (history w ds).committed v.text.some_logs n g.good.known g.acts (record { tells = t; whole_batches = c.whole_batches; whole_acts = c.whole_acts }) g.pacts_from g.from;
+      above_members = all_members w finish (reached w ds) (history w ds) (left_in (reached w ds) kept) (history w ds).committed v.text.some_logs n g.good.known g.acts (record { tells = t; whole_batches = batches; whole_acts = acts }) g.pacts_from g.from;
       drawn_tid = is_drawn tids_in w.text.opening.next_tid w.text.logs (reached w ds).ring.next_tid (left_in (reached w ds) kept) v.text.tids (tid_low w ds run) (λ l. weaker (TellsOf (reached w ds).desk.batches (reached w ds).book.acts) (λ r. AllByRecursion (λ n. n < (reached w ds).ring.next_tid) (tids_in r)) (left_in (reached w ds) kept l) (λ r p. tids_drawn w (reached w ds) r n p) (t l));
       drawn_bid = is_drawn bids_in w.text.opening.next_bid w.text.logs (reached w ds).ring.next_bid (left_in (reached w ds) kept) v.text.bids (bid_low w ds run) (λ l. weaker (TellsOf (reached w ds).desk.batches (reached w ds).book.acts) (λ r. AllByRecursion (λ n. n < (reached w ds).ring.next_bid) (bids_in r)) (left_in (reached w ds) kept l) (λ r p. bids_drawn w (reached w ds) (history w ds) r n g.acts p) (t l));
       drawn_c = is_drawn cs_in w.text.opening.next_c w.text.logs (reached w ds).book.next_c (left_in (reached w ds) kept) v.text.cs n.commits.low (λ l. weaker (TellsOf (reached w ds).desk.batches (reached w ds).book.acts) (λ r. AllByRecursion (λ n. n < (reached w ds).book.next_c) (cs_in r)) (left_in (reached w ds) kept l) (λ r p. cs_drawn w (reached w ds) r n p) (t l));
@@ -256,5 +259,11 @@ next_numbers_stand {C} w finish es m kept f text run left = by (length w.text.op
     none (d ∷ ds) l r = absurd (none_allowed w d text l r.0)
 
     by : (n : ℕ) → length w.text.opening.states ≡ n → NextNumbersStand w finish es (reached w m.events) (history w m.events) (left_in (reached w m.events) kept)
-    by (suc n) l = next_stand w (IsRest w.code (IsTxIn w.text)) finish es m.events kept (record { text = text; actors = omega (arith, l); facts = f }) r (crash_of_every_moment w finish es m kept f text run left)
+    by (suc n) l =
+        let Of : Tx → C → Type 0 = IsRest w.code (IsTxIn w.text) in
+        let v : Given w Of finish = record { text = text; actors = omega (arith, l); facts = f } in
+        let c = moment_is_cut w es m kept run left in
+        let g = all_good w Of finish m.events v r in
+        let k = logs_hold w Of finish m.events v r in
+        next_stand w Of finish es m.events kept v r (λ b e. whole_batch w Of finish (reached w m.events) (history w m.events) kept b c g k e) (λ t e. whole_act w Of finish (reached w m.events) (history w m.events) kept t c g k e)
     by zero l = none m.events l r

@@ -14,6 +14,7 @@ use Rattle.protocol.specs.Effects.{log_at}
 use Rattle.protocol.specs.History.{History}
 use Rattle.protocol_laws.specs.Told.{is_at}
 use Rattle.protocol_laws.specs.Marks.{Known, Marked}
+use Rattle.protocol_records.proofs.crash.KeptAll.{batch_kept}
 use Rattle.protocol_records.specs.Logged.{actors_of, has_place, Infos, InfoIs, ActCommits, CommitIs, Prepared}
 use Rattle.protocol_records.specs.RecordLaws.{home, key_of, batch_actors, batch_tids, act_actors, valued, ActCommitted, TellsOf, RecordsTell}
 use Rattle.protocol_laws.proofs.first.Lists.{both_all, some_of, weaker}
@@ -92,7 +93,7 @@ told w Of finish s h g b home kept tids numbers values l = weaker (Facts w.text.
         let d = b.once.declares k a (subst (λ z. list_any (is_complete k a) (log_at s z).records ≡ true) (sym f.home) (f.there (is_complete k a) (and_from (k == k) (a == a) (self k) (self a)))) in
         of_actors a (batch_of k s.desk.batches) d.0 d.1 d.2
     one (BatchDone k vs) f =
-        let q = kept (OfBatch k) l (f.there (is_commit k) (self k)) in
+        let q = batch_kept w Of finish s h k g (kept (OfBatch k) l (f.there (is_commit k) (self k))) in
         let x = one_is (λ x. true) (batch_of k s.desk.batches) (there_is (batch_of k s.desk.batches) (g.good.known k q)) in
         (subst (λ o. holds (λ b. not (is_formed b.stage)) o ≡ true) (sym x.1) (sym (g.good.marked k x.0 x.1).known ∙ q), f.values)
     one (ActPrepare t a st) f =

@@ -22,9 +22,9 @@ use Rattle.protocol_theorems.proofs.halves.VotedActs as voted
 booked : (c : ℕ) (cs : List Cascade) (ps : List Pair) (xs ys : List Act) → xs ≡ ys → let b : Book = record { next_c = c; cascades = cs; acts = xs; pairs = ps } in let d : Book = record { next_c = c; cascades = cs; acts = ys; pairs = ps } in b ≡ d
 booked c cs ps xs ys e = ap (λ xs. let b : Book = record { next_c = c; cascades = cs; acts = xs; pairs = ps } in b) e
 
-pub admits : (o v : Book) (cs : List Cascade) (t n m : ℕ) → act_of t v.acts ≡ None → book.act_admitted t n m (book_of o v cs) ≡ book_of (book.act_admitted t n m o) v cs
-admits o v cs t n m e = booked v.next_c cs o.pairs _ _
-    (ap (λ z. with_votes v.acts o.acts ++ act_by z (book.new_act t n m) ∷ []) (sym e) ∙ sym (Times.map_join (λ x. act_by (act_of x.tid v.acts) x) o.acts (book.new_act t n m ∷ [])))
+pub admits : (o v : Book) (cs : List Cascade) (t n : ℕ) (rd : Bool) (m : ℕ) → act_of t v.acts ≡ None → book.act_admitted t n rd m (book_of o v cs) ≡ book_of (book.act_admitted t n rd m o) v cs
+admits o v cs t n rd m e = booked v.next_c cs o.pairs _ _
+    (ap (λ z. with_votes v.acts o.acts ++ act_by z (book.new_act t n rd m) ∷ []) (sym e) ∙ sym (Times.map_join (λ x. act_by (act_of x.tid v.acts) x) o.acts (book.new_act t n rd m ∷ [])))
 
 crossed_by : (a : ℕ) (v : Option Act) (x : Act) → crossed_out a (act_by v x) ≡ act_by v (crossed_out a x)
 crossed_by a v x = ap (λ st. let y : Act = record (act_by v x) { status = st } in y) (ActWithVotes.doom_if v x.status _ _ _ (ap (λ z. z && reaches x.m x.n) (ActWithVotes.live_by v x.status)))

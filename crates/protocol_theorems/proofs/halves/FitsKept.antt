@@ -24,11 +24,11 @@ use Rattle.protocol_laws.proofs.first.Statuses.{live_unordered, ordered_sealed, 
 
 -- ---- the events on orders
 
-pub admits : (vs xs : List Act) (t n m : ℕ) → act_of t xs ≡ None → act_of t vs ≡ None → OrdersFit vs xs → OrdersFit vs (xs ++ book.new_act t n m ∷ [])
-admits vs xs t n m e f g = record {
-  apart = λ k. subst (λ z. times k z ≤ 1) (sym (Times.map_join (λ x. x.tid) xs (book.new_act t n m ∷ []))) (once k);
+pub admits : (vs xs : List Act) (t n : ℕ) (rd : Bool) (m : ℕ) → act_of t xs ≡ None → act_of t vs ≡ None → OrdersFit vs xs → OrdersFit vs (xs ++ book.new_act t n rd m ∷ [])
+admits vs xs t n rd m e f g = record {
+  apart = λ k. subst (λ z. times k z ≤ 1) (sym (Times.map_join (λ x. x.tid) xs (book.new_act t n rd m ∷ []))) (once k);
   bare = all_join IsOrder xs _ g.bare (record { result = refl; undecided = refl; unvoted = tt; once = λ k. omega arith }, tt);
-  voted = all_join (λ x. IsVotedBy (act_of x.tid vs) x) xs _ g.voted (subst (λ z. IsVotedBy z (book.new_act t n m)) (sym f) refl, tt);
+  voted = all_join (λ x. IsVotedBy (act_of x.tid vs) x) xs _ g.voted (subst (λ z. IsVotedBy z (book.new_act t n rd m)) (sym f) refl, tt);
 }
   where
     zero_times : (ns : List ℕ) → is_among t ns ≡ false → times t ns ≡ 0

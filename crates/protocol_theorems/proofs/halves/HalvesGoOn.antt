@@ -5,13 +5,13 @@ use Rattle.std.proofs.Common.{arith, sym, ap, subst, ◌∙◌}
 use Rattle.std.proofs.lemmas.Bool.{true≢false, eqb-true, and_parts, or_parts}
 use Rattle.snap_base.specs.declared.transactions.State.{State}
 use Rattle.snap_base.specs.declared.transactions.Tx.{Tx}
-use Rattle.protocol.specs.Fixed.{Fixed, Next, Go, Ended, base}
+use Rattle.protocol.specs.Fixed.{Fixed, Next, Go, Ended, base, is_reader}
 use Rattle.protocol.specs.Facts.{Alone}
 use Rattle.protocol.specs.Rests.{IsRest, IsTxIn}
 use Rattle.protocol.specs.Laws.{AfterEveryRunWithHistory}
 use Rattle.protocol.specs.Parts.{Joined, Act, Cascade, Book, Outcome, Machine}
 use Rattle.protocol.specs.Events.{Event, Admit, Arrive, Ask, End, Abort, Prepare, Vouch, Decide, Seal, Finish}
-use Rattle.protocol.specs.Words.{holds, act_of, joined_of, has_act, outcome_of, is_value, is_live_act, is_live_status, is_doomed, is_decided, is_ended}
+use Rattle.protocol.specs.Words.{holds, act_of, joined_of, has_act, outcome_of, is_value, is_live_act, is_live_status, is_doomed, is_decided, is_ended, lock_of, floor_at}
 use Rattle.protocol.specs.Conditions.{IsAllowed, conditions}
 use Rattle.protocol.specs.Effects.{after, cell_at, no_cell}
 use Rattle.protocol.specs.Runs.{IsRun, reached}
@@ -64,16 +64,16 @@ end_fits {C} o v t true (Some x) m f = by (act_of t o.acts) refl (m refl).0
 pub step : {C : Type 0} (w : Fixed C) (e : Event) (s : Machine C) (o v : Book) → IsOfHalves s.book o v → HalvesMeet e s o v → IsOfHalves (after w e s).book (orders_after w e s o) (votes_after e s o v)
 unfolding after
 step w (Admit t) s o v i m = whole _ _ _ s.book.cascades
-    (ap (book.act_admitted t (next_act s.ring) (base w.text)) i.is ∙ equations.admits o v s.book.cascades t (next_act s.ring) (base w.text) m.1)
-    (fits.fits_of (book.act_admitted t (next_act s.ring) (base w.text) o) v (fits.admits v.acts o.acts t (next_act s.ring) (base w.text) m.0 m.1 (fits.orders_of o v i.fits)) (fits.known_more o.acts v.acts _ i.fits.known))
+    (ap (book.act_admitted t (next_act s.ring) (is_reader w (next_act s.ring)) (base w.text)) i.is ∙ equations.admits o v s.book.cascades t (next_act s.ring) (is_reader w (next_act s.ring)) (base w.text) m.1)
+    (fits.fits_of (book.act_admitted t (next_act s.ring) (is_reader w (next_act s.ring)) (base w.text) o) v (fits.admits v.acts o.acts t (next_act s.ring) (is_reader w (next_act s.ring)) (base w.text) m.0 m.1 (fits.orders_of o v i.fits)) (fits.known_more o.acts v.acts _ i.fits.known))
 step w (Arrive k a) s o v i m =
     let tids = book.tids_on (cell_at s a).entries in
     whole _ _ _ s.book.cascades (ap (book.batch_arrived k a tids) i.is ∙ equations.arrives o v s.book.cascades k a tids)
     (order_fits o v (book.batch_arrived k a tids o).acts i.fits (fits.arrives v.acts o.acts k a tids (fits.orders_of o v i.fits)) (fits.arrived_tids k a tids o.acts) (book.batch_arrived k a tids o) refl)
 step w (Ask t a) s o v i m =
-    let older = book.in_the_way t (cell_at s a).entries in
-    let group = book.met t (cell_at s a).entries in
-    let low = Rattle.std.specs.Prelude.max (cell_at s a).last (cell_at s a).floor in
+    let older = book.in_the_way (lock_of t s.book.acts) (cell_at s a).entries in
+    let group = book.met (lock_of t s.book.acts) (cell_at s a).entries in
+    let low = Rattle.std.specs.Prelude.max (cell_at s a).last (floor_at t s.book.acts (cell_at s a)) in
     whole _ _ _ s.book.cascades (ap (book.act_asked older group t a low) i.is ∙ equations.asks o v s.book.cascades older group t a low m.1)
     (order_fits o v (book.asked_acts older group t a low o) i.fits (fits.asks v.acts o.acts o.pairs older group t a low m.0 m.1 (fits.orders_of o v i.fits) o refl) (fits.asked_tids older group t a low o) (book.act_asked older group t a low o) refl)
 step w (End t a) s o v i m =

@@ -195,7 +195,7 @@ seals_some y x h = ap (λ st. let z : Act = record (act_by (Some y) x) { status 
 -- ---- votes begin
 
 abbrev pub first_votes : ℕ → TxResult → List ℕ → Act
-first_votes t r actors = record { tid = t; tx = 0; m = 0; n = None; places = map not_voted actors; result = Some r; status = Live }
+first_votes t r actors = record { tid = t; tx = 0; reader = false; m = 0; n = None; places = map not_voted actors; result = Some r; status = Live }
 
 unmarked : (p : Joined) → (p.prepared || p.vouched) ≡ false → record p { prepared = false; vouched = false } ≡ p
 unmarked p h = let e = or_parts p.prepared p.vouched h in

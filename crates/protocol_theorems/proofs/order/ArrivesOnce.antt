@@ -8,7 +8,7 @@ use Rattle.std.proofs.lemmas.Bool.{ltb-true, or_cases, true≢false, false_from_
 use Rattle.protocol.specs.Fixed.{Fixed}
 use Rattle.protocol.specs.Parts.{Cascade, Who, OfBatch, OfAct, Cell, Machine}
 use Rattle.protocol.specs.Events.{Event, Form, Arrive, Ask, Take, Run, Send, End, Close, Complete, Abort, Rollback, Finish, Trim}
-use Rattle.protocol.specs.Words.{is_who, epoch_of, sub_of}
+use Rattle.protocol.specs.Words.{is_who, epoch_of, sub_of, lock_of}
 use Rattle.protocol.specs.Conditions.{IsAllowed, conditions, epoch}
 use Rattle.protocol.specs.Effects.{after, cell_at, no_cell}
 use Rattle.protocol.specs.OnBook as book
@@ -52,7 +52,7 @@ kept w (Arrive k a) s h ok n p g =
     beside (At s) s.cells a _ _ h.placed (arrives (epoch s.book) a (λ c. c.epoch == epoch s.book) s.cells (sub_of k a s.post.subs) ok.1.1.0)
     (λ x. all_join _ (h.placed a) _ (weaker _ _ (h.placed a) (λ y i. changes _ _ s.book.cascades s.book.cascades _ _ _ k y (λ j q. record { formed = q.formed; earlier = q.earlier; is_last = λ e. omega (arith, q.is_last e, m.behind) }) i) x)
     (record { formed = m.formed; earlier = omega (arith, m.own); is_last = λ e. omega arith }, tt)) g
-kept w (Ask t a) s h ok n p g = beside (At s) s.cells a _ _ h.placed (in_range _ s.cells a ok.1.1.0) (ask s t a (book.in_the_way t (cell_at s a).entries) (cell_at s a) (h.placed a)) g
+kept w (Ask t a) s h ok n p g = beside (At s) s.cells a _ _ h.placed (in_range _ s.cells a ok.1.1.0) (ask s t a (book.in_the_way (lock_of t s.book.acts) (cell_at s a).entries) (cell_at s a) (h.placed a)) g
 kept w (Take t a) s h ok n p g = one_cell (λ b c. At s b c (h.placed b)) s.cells a _ (λ x. x) g
 kept w (Run t a) s h ok n p g = one_cell (λ b c. At s b c (h.placed b)) s.cells a _ (λ x. x) g
 kept w (Send t a) s h ok n p g = one_cell (λ b c. At s b c (h.placed b)) s.cells a _ (λ x. x) g

@@ -6,6 +6,8 @@ use Rattle.std.proofs.lemmas.Bool.{true≢false, eqb-true, ltb-true, and_parts, 
 use Rattle.snap_base.specs.declared.transactions.State.{State}
 use Rattle.snap_base.specs.declared.transactions.Tx.{Tx}
 use Rattle.snap_base.specs.declared.verdicts.Place.{Place}
+use Rattle.protocol_theorems.proofs.order.OrderImplied.{shuffled_all, shuffled_rise}
+use Rattle.protocol_theorems.specs.Order.{Shuffled, Nobody, Put}
 use Rattle.protocol.specs.Fixed.{Fixed}
 use Rattle.protocol.specs.Facts.{Alone}
 use Rattle.protocol.specs.Rests.{IsRest, IsTxIn}
@@ -17,7 +19,7 @@ use Rattle.protocol.specs.Effects.{after}
 use Rattle.protocol.specs.Runs.{IsRun, reached}
 use Rattle.protocol.specs.Verdicts.{pact_place, act_place}
 use Rattle.protocol.specs.History.{Done, History, history, grown, done_pact, done_batch, done_act}
-use Rattle.protocol.specs.Chains.{chain, is_place_below, IsBelowAll, PlacesRise}
+use Rattle.protocol.specs.Chains.{chain, is_place_below, RivalsRise}
 use Rattle.protocol_laws.specs.Told.{is_at, DoneFrom}
 use Rattle.protocol_laws.specs.Rising.{number_of, visitors, visits}
 use Rattle.protocol_theorems.specs.OrderCases.{has_number, OwnPlace, EachBehind, BatchBehindAct, ActBehindBatch, ActBehindAct, BatchBehindBatch, CasesHold}
@@ -38,7 +40,7 @@ abbrev pub OrdersRise : Done → Done → Type 0
 OrdersRise d e = (t u : ℕ) → d.who ≡ OfAct t → e.who ≡ OfAct u → d.place.order < e.place.order
 
 abbrev pub BatchPlace : Done → Type 0
-BatchPlace d = (k : ℕ) → d.who ≡ OfBatch k → d.place ≡ pact_place k d.tid
+BatchPlace d = (k : ℕ) → d.who ≡ OfBatch k → (d.place ≡ pact_place k d.tid) × (d.reader ≡ false)
 
 pub record Orders (next : ℕ) (ds : List Done) : Type 0 where
   pub below : AllByRecursion (OrderBelow next) ds
@@ -60,7 +62,7 @@ batch_no_acts k h (Some b) = pacts_no_acts k h b.pacts
 
 pacts_placed : (k : ℕ) (h : History) (ps : List Pact) → AllByRecursion BatchPlace (map (done_pact k h) ps)
 pacts_placed k h [] = tt
-pacts_placed k h (p ∷ ps) = ((λ j e. let q : k ≡ j = cc e in ap (λ z. pact_place z p.tid) q), pacts_placed k h ps)
+pacts_placed k h (p ∷ ps) = ((λ j e. let q : k ≡ j = cc e in (ap (λ z. pact_place z p.tid) q, refl)), pacts_placed k h ps)
 
 batch_placed : (k : ℕ) (h : History) (o : Option Batch) → AllByRecursion BatchPlace (done_batch k h o)
 batch_placed k h None = tt
@@ -120,7 +122,7 @@ own_place : (xs : List Act) (d : Done) → ((t : ℕ) → d.who ≡ OfAct t → 
 own_place xs d f g = by d.who refl
   where
     by : (y : Who) → d.who ≡ y → OwnPlace xs y d
-    by (OfBatch k) e = g k e
+    by (OfBatch k) e = (g k e).0
     by (OfAct t) e = own_act xs t d (f t e)
 
 pub own_places : {C : Type 0} (s : Machine C) (h : History) → AllFrom s h → AllByRecursion BatchPlace h.committed → AllByRecursion (λ d. OwnPlace s.book.acts d.who d) h.committed
@@ -185,11 +187,11 @@ batch_batch xs d e g h b j k i q =
     ]
 
 -- from places that rise
-each_case : (R : Done → Done → Type 0) (P : Done → Type 0) → ((d e : Done) → P d → P e → is_place_below d.place e.place ≡ true → R d e) → (ds : List Done) → AllByRecursion P ds → PlacesRise ds → EachBehind R ds
+each_case : (R : Done → Done → Type 0) (P : Done → Type 0) → ((d e : Done) → P d → P e → ((d.reader && e.reader) ≡ false → is_place_below d.place e.place ≡ true) → R d e) → (ds : List Done) → AllByRecursion P ds → RivalsRise ds → EachBehind R ds
 each_case R P k [] h r = tt
 each_case R P k (d ∷ ds) h r = (one ds h.1 r.0, each_case R P k ds h.1 r.1)
   where
-    one : (es : List Done) → AllByRecursion P es → IsBelowAll d.place es → AllByRecursion (R d) es
+    one : (es : List Done) → AllByRecursion P es → AllByRecursion (λ e. (d.reader && e.reader) ≡ false → is_place_below d.place e.place ≡ true) es → AllByRecursion (R d) es
     one [] g l = tt
     one (e ∷ es) g l = (k d e h.0 g.0 l.0, one es g.1 l.1)
 
@@ -205,23 +207,66 @@ behind_both : (R S T : Done → Done → Type 0) (ds : List Done) → ((d e : Do
 behind_both R S T [] k h g = tt
 behind_both R S T (d ∷ ds) k h g = (both_all (R d) (S d) (T d) ds (λ e i j. k d e i j) h.0 g.0, behind_both R S T ds k h.1 g.1)
 
-cases_of : {C : Type 0} (w : Fixed C) (finish : C → List State → Alone) (s : Machine C) (h : History) → AllByRecursion (λ d. OwnPlace s.book.acts d.who d) h.committed → EachBehind OrdersRise h.committed
-    → ((a : ℕ) → PlacesRise (visitors a h.committed)) → ((a : ℕ) → a < length w.text.opening.states → chain a h ≡ visitors a h.committed) → CasesHold w finish s h
-cases_of w finish s h own orders rise chains = record {
+all_parts : (P : Done → Type 0) (xs ys : List Done) → AllByRecursion P (xs ++ ys) → AllByRecursion P xs × AllByRecursion P ys
+all_parts P [] ys h = (tt, h)
+all_parts P (x ∷ xs) ys h = let r = all_parts P xs ys h.1 in ((h.0, r.0), r.1)
+
+-- of rivals, in the other order too
+behind_last : (R : Done → Done → Type 0) (ds : List Done) (d : Done) → EachBehind R (ds ++ d ∷ []) → EachBehind R ds × AllByRecursion (λ e. R e d) ds
+behind_last R [] d h = (tt, tt)
+behind_last R (e ∷ ds) d h =
+    let r = behind_last R ds d h.1 in
+    let p = all_parts (R e) ds (d ∷ []) h.0 in
+    ((p.0, r.0), (p.1.0, r.1))
+
+put_behind : (R : Done → Done → Type 0) (front back : List Done) (d : Done) → AllByRecursion (λ x. (x.reader && d.reader) ≡ true) back → AllByRecursion (λ e. R e d) (front ++ back) → EachBehind (λ d e. (d.reader && e.reader) ≡ false → R d e) (front ++ back) → EachBehind (λ d e. (d.reader && e.reader) ≡ false → R d e) (front ++ d ∷ back)
+put_behind R [] back d r k h = (weaker (λ x. (x.reader && d.reader) ≡ true) (λ e. (d.reader && e.reader) ≡ false → R d e) back (λ x q n. absurd (true≢false (sym (swapped x.reader d.reader q) ∙ n))) r, h)
+  where
+    swapped : (b c : Bool) → (b && c) ≡ true → (c && b) ≡ true
+    swapped true true q = refl
+    swapped true false q = q
+    swapped false true q = q
+    swapped false false q = q
+put_behind R (x ∷ front) back d r k h =
+    let p = all_parts (λ e. (x.reader && e.reader) ≡ false → R x e) front back h.0 in
+    (all_join (λ e. (x.reader && e.reader) ≡ false → R x e) front (d ∷ back) p.0 ((λ n. k.0), p.1), put_behind R front back d r k.1 h.1)
+
+shuffled_behind : (R : Done → Done → Type 0) (cs us : List Done) → Shuffled cs us → EachBehind R us → EachBehind (λ d e. (d.reader && e.reader) ≡ false → R d e) cs
+shuffled_behind R cs us (Nobody c u i j) g = subst (EachBehind (λ d e. (d.reader && e.reader) ≡ false → R d e)) (sym i) tt
+shuffled_behind R cs us (Put c u front back rest d i j r h) g =
+    let l = behind_last R rest d (subst (EachBehind R) j g) in
+    subst (EachBehind (λ d e. (d.reader && e.reader) ≡ false → R d e)) (sym i) (put_behind R front back d r (shuffled_all (λ e. R e d) (front ++ back) rest h l.1) (shuffled_behind R (front ++ back) rest h l.0))
+
+cases_of : {C : Type 0} (w : Fixed C) (finish : C → List State → Alone) (s : Machine C) (h : History) → AllByRecursion (λ d. OwnPlace s.book.acts d.who d) h.committed → AllByRecursion BatchPlace h.committed → EachBehind OrdersRise h.committed
+    → ((a : ℕ) → RivalsRise (visitors a h.committed)) → ((a : ℕ) → a < length w.text.opening.states → Shuffled (chain a h) (visitors a h.committed)) → CasesHold w finish s h
+cases_of w finish s h own batches orders rise chains = record {
   own_places = own;
-  batch_behind_act = λ a l. along BatchBehindAct a l (each_case BatchBehindAct P (batch_act s.book.acts) (visitors a h.committed) (all_filter P (visits a) h.committed own) (rise a));
-  act_behind_batch = λ a l. along ActBehindBatch a l (each_case ActBehindBatch P (act_batch s.book.acts) (visitors a h.committed) (all_filter P (visits a) h.committed own) (rise a));
-  act_behind_act = λ a l. along ActBehindAct a l (behind_both (λ d e. number_of d ≤ number_of e) OrdersRise ActBehindAct (visitors a h.committed) (λ d e i j t u p q. (i, j t u p q))
-      (each_case (λ d e. number_of d ≤ number_of e) P (λ d e i j b. not_lower d e b) (visitors a h.committed) (all_filter P (visits a) h.committed own) (rise a))
-      (behind_filter OrdersRise (visits a) h.committed orders));
-  batch_behind_batch = λ a l. along BatchBehindBatch a l (each_case BatchBehindBatch P (batch_batch s.book.acts) (visitors a h.committed) (all_filter P (visits a) h.committed own) (rise a));
+  batch_behind_act = λ a l. each_case BatchBehindAct P (λ d e p q b t k i j. batch_act s.book.acts d e p.0 q.0 (b (no_right d.reader (q.1 k j))) t k i j) (chain a h) (there a l) (risen a l);
+  act_behind_batch = λ a l. each_case ActBehindBatch P (λ d e p q b k t i j. act_batch s.book.acts d e p.0 q.0 (b (no_left e.reader (p.1 k i))) k t i j) (chain a h) (there a l) (risen a l);
+  act_behind_act = λ a l. behind_both (λ d e. (d.reader && e.reader) ≡ false → number_of d ≤ number_of e) (λ d e. (d.reader && e.reader) ≡ false → OrdersRise d e) ActBehindAct (chain a h) (λ d e i j t u p q n. (i n, j n t u p q))
+      (each_case (λ d e. (d.reader && e.reader) ≡ false → number_of d ≤ number_of e) P (λ d e p q b n. not_lower d e (b n)) (chain a h) (there a l) (risen a l))
+      (shuffled_behind OrdersRise (chain a h) (visitors a h.committed) (chains a l) (behind_filter OrdersRise (visits a) h.committed orders));
+  batch_behind_batch = λ a l. each_case BatchBehindBatch P (λ d e p q b j k i g. batch_batch s.book.acts d e p.0 q.0 (b (no_left e.reader (p.1 j i))) j k i g) (chain a h) (there a l) (risen a l);
 }
   where
     P : Done → Type 0
-    P d = OwnPlace s.book.acts d.who d
+    P d = OwnPlace s.book.acts d.who d × ((k : ℕ) → d.who ≡ OfBatch k → d.reader ≡ false)
 
-    along : (R : Done → Done → Type 0) (a : ℕ) → a < length w.text.opening.states → EachBehind R (visitors a h.committed) → EachBehind R (chain a h)
-    along R a l g = subst (EachBehind R) (sym (chains a l)) g
+    no_left : {c : Bool} (b : Bool) → c ≡ false → (c && b) ≡ false
+    no_left b e = rw e refl
+
+    no_right : {b : Bool} (c : Bool) → b ≡ false → (c && b) ≡ false
+    no_right true e = e
+    no_right false e = refl
+
+    both : AllByRecursion P h.committed
+    both = both_all (λ d. OwnPlace s.book.acts d.who d) BatchPlace P h.committed (λ d p q. (p, λ k e. (q k e).1)) own batches
+
+    there : (a : ℕ) → a < length w.text.opening.states → AllByRecursion P (chain a h)
+    there a l = shuffled_all P (chain a h) (visitors a h.committed) (chains a l) (all_filter P (visits a) h.committed both)
+
+    risen : (a : ℕ) → a < length w.text.opening.states → RivalsRise (chain a h)
+    risen a l = shuffled_rise (chain a h) (visitors a h.committed) (chains a l) (rise a)
 
 pub cases_hold : {C : Type 0} → AfterEveryRunWithHistory (CasesHold {C = C})
 cases_hold {C} w finish es f t run = by es run (length w.text.opening.states) refl
@@ -231,6 +276,6 @@ cases_hold {C} w finish es f t run = by es run (length w.text.opening.states) re
         let Of : Tx → C → Type 0 = IsRest w.code (IsTxIn w.text) in
         let v : Given w Of finish = record { text = t; actors = omega (arith, l); facts = f } in
         let o = orders_rise w Of finish es v run in
-        cases_of w finish (reached w es) (history w es) (own_places (reached w es) (history w es) (all_good w Of finish es v run).from o.batches) o.rise (places_rise w Of finish es v run) (facts_hold w Of finish es v run).chains
+        cases_of w finish (reached w es) (history w es) (own_places (reached w es) (history w es) (all_good w Of finish es v run).from o.batches) o.batches o.rise (places_rise w Of finish es v run) (facts_hold w Of finish es v run).chains
     by [] run zero l = record { own_places = tt; batch_behind_act = λ a k. tt; act_behind_batch = λ a k. tt; act_behind_act = λ a k. tt; batch_behind_batch = λ a k. tt }
     by (e ∷ es) run zero l = absurd (none_allowed w e t l run.0)

@@ -1,16 +1,17 @@
 -- Each noted result is explained by its trail, and each committed transaction by its views, event by event.
 use Rattle.std.specs.Prelude.{◌≡◌, refl, ℕ, ◌+◌, ◌<◌, ◌≤◌, ◌==◌, Bool, true, false, ◌&&◌, if◌then◌else◌, Option, Some, None, is_some, List, [], ◌∷◌, length, map, take, slice_index_or}
 use Rattle.std.specs.List.{AllByRecursion, list_any}
-use Rattle.std.proofs.Common.{arith, sym, subst, ◌∙◌}
+use Rattle.std.proofs.Common.{arith, sym, subst, ◌∙◌, ap}
 use Rattle.std.proofs.lemmas.Bool.{eqb-true, eq-eqb, ne_eqb, and_parts, and_from, or_left, or_right, true≢false}
 use Rattle.snap_base.specs.declared.transactions.State.{State}
 use Rattle.snap_base.specs.declared.transactions.Tx.{Tx}
 use Rattle.snap_base.specs.declared.transactions.TxResult.{TxResult}
+use Rattle.protocol_laws.specs.Tracks.{Linked}
 use Rattle.protocol.specs.Fixed.{Fixed, Next, Go, Ended, no_state}
 use Rattle.protocol.specs.Facts.{Alone, Facts}
 use Rattle.protocol.specs.Parts.{Act, Pact, Batch, Who, OfBatch, OfAct, Waiting, Outcome, Machine}
 use Rattle.protocol.specs.Events.{Event, Form, Admit, Run, End, Commit, Decide}
-use Rattle.protocol.specs.Words.{holds, is_value, is_open, is_next_to_commit, is_live_status, names_pact, has_act, waiting_of, outcome_of}
+use Rattle.protocol.specs.Words.{holds, is_value, is_open, is_next_to_commit, is_live_status, names_pact, has_act, waiting_of, outcome_of, act_of}
 use Rattle.protocol.specs.Contents.{ActTids, ActResults}
 use Rattle.protocol.specs.Conditions.{IsAllowed, conditions, queue}
 use Rattle.protocol.specs.Effects.{after, cell_at, no_cell}
@@ -19,7 +20,7 @@ use Rattle.protocol.specs.OnPost as post
 use Rattle.protocol.specs.OnDesk as desk
 use Rattle.protocol.specs.OnBook as book
 use Rattle.protocol.specs.OnCell as cell
-use Rattle.protocol.specs.History.{History, Trail, Step, Slice, grown, with_at, begun, gone_on, slices_of, view_in, done_pact, done_batch, done_act}
+use Rattle.protocol.specs.History.{History, Trail, Step, Slice, grown, with_at, begun, gone_on, slices_of, view_in, done_pact, done_batch, done_act, Done, slices_for, is_reader_act, last_left, View}
 use Rattle.protocol_laws.specs.Turns.{Rising}
 use Rattle.protocol_laws.specs.Trails.{Explained, on_actor}
 use Rattle.protocol_laws.specs.Linked.{IsExplained}
@@ -222,6 +223,47 @@ one_rises : (t low : ℕ) (ss : List Slice) → low ≤ t → AllByRecursion (λ
 one_rises t low [] l h = tt
 one_rises t low (x ∷ xs) l h = (omega (arith, l, h.0), one_rises t x.tid xs (omega (arith, h.0)) h.1)
 
+-- a reader's own slices
+own_twice : (t : ℕ) (zs : List Slice) → own_slices t (own_slices t zs) ≡ own_slices t zs
+own_twice t [] = refl
+own_twice t (z ∷ zs) = by (z.tid == t) refl (own_twice t zs)
+  where
+    by : (b : Bool) → (z.tid == t) ≡ b → own_slices t (own_slices t zs) ≡ own_slices t zs → own_slices t (if b then z ∷ own_slices t zs else own_slices t zs) ≡ (if b then z ∷ own_slices t zs else own_slices t zs)
+    by true e k = rw e (ap (λ y. z ∷ y) k)
+    by false e k = k
+
+own_last : (t : ℕ) (s : State) (zs : List Slice) → last_left t s zs ≡ last_left t s (own_slices t zs)
+own_last t s [] = refl
+own_last t s (z ∷ zs) = by (z.tid == t) refl (λ y. own_last t y zs)
+  where
+    by : (b : Bool) → (z.tid == t) ≡ b → ((y : State) → last_left t y zs ≡ last_left t y (own_slices t zs)) → last_left t (if b then z.left else s) zs ≡ last_left t s (if b then z ∷ own_slices t zs else own_slices t zs)
+    by true e k = k z.left ∙ ap (λ b. last_left t (if b then z.left else s) (own_slices t zs)) (sym e)
+    by false e k = k s
+
+own_view : (t : ℕ) (zs : List Slice) → view_in t zs ≡ view_in t (own_slices t zs)
+own_view t [] = refl
+own_view t (z ∷ zs) = by (z.tid == t) refl (own_view t zs)
+  where
+    by : (b : Bool) → (z.tid == t) ≡ b → view_in t zs ≡ view_in t (own_slices t zs) → (if b then Some (record { found = z.found; left = last_left t z.left zs }) else view_in t zs) ≡ view_in t (if b then z ∷ own_slices t zs else own_slices t zs)
+    by true e k = ap (λ y. Some (record { found = z.found; left = y })) (own_last t z.left zs) ∙ ap (λ b. if b then Some (record { found = z.found; left = last_left t z.left (own_slices t zs) }) else view_in t (own_slices t zs)) (sym e)
+    by false e k = k
+
+own_tids : (t : ℕ) (zs : List Slice) → AllByRecursion (λ z. z.tid ≡ t) (own_slices t zs)
+own_tids t [] = tt
+own_tids t (z ∷ zs) = by (z.tid == t) refl (own_tids t zs)
+  where
+    by : (b : Bool) → (z.tid == t) ≡ b → AllByRecursion (λ z. z.tid ≡ t) (own_slices t zs) → AllByRecursion (λ z. z.tid ≡ t) (if b then z ∷ own_slices t zs else own_slices t zs)
+    by true e k = (eqb-true z.tid t e, k)
+    by false e k = k
+
+own_stays : (now : State) (t : ℕ) (zs : List Slice) → AllByRecursion (λ z. z.tid ≡ t → (z.found ≡ now) × (z.left ≡ now)) zs → Linked now (own_slices t zs) now
+own_stays now t [] h = refl
+own_stays now t (z ∷ zs) h = by (z.tid == t) refl (own_stays now t zs h.1)
+  where
+    by : (b : Bool) → (z.tid == t) ≡ b → Linked now (own_slices t zs) now → Linked now (if b then z ∷ own_slices t zs else own_slices t zs) now
+    by true e k = let p = h.0 (eqb-true z.tid t e) in (p.0, subst (λ y. Linked y (own_slices t zs) now) (sym p.1) k)
+    by false e k = k
+
 pub act_explained : {C : Type 0} (w : Fixed C) (Of : Tx → C → Type 0) (finish : C → List State → Alone) (t c : ℕ) (s : Machine C) (h : History) (x : Act) → Facts (length w.text.opening.states) w.code (IsTxIn w.text) Of finish → is_some x.result ≡ true → is_live_status x.status ≡ true → MayDecide s h t x → Tracked w s h → Named s h → Matched s h → Results w Of finish s h
     → AllByRecursion (IsExplained w finish) (done_act c h (Some x))
 unfolding Tracked Matched
@@ -230,14 +272,35 @@ act_explained w Of finish t c s h x facts some live m tr n g r =
     let ended = all_found (λ x. EndsAs w Of finish h.trails x.tid x.result) (λ x. x.tid == t) s.book.acts x r.acts m.is_it in
     let o = with_result_of x.result some in
     let run : runs s (OfAct x.tid) x.tid ≡ true = subst (λ z. runs s (OfAct z) z ≡ true) (sym m.tid) (rw (eq-eqb t t refl, m.is_it) live) in
-    (views_explain w Of finish _ (h.trails x.tid) x.tid o.0 facts (ended.0 o.0 o.1) o.1 named.0.tx (r.within x.tid) (λ a. tied a (g (OfAct x.tid) x.tid run a)), tt)
+    (views_explain w Of finish _ (h.trails x.tid) x.tid o.0 facts (ended.0 o.0 o.1) o.1 named.0.tx (r.within x.tid) (λ a. tied a (subst (λ v. on_actor a x.tid (h.trails x.tid).steps ≡ own_slices x.tid (if v then h.reads a else slices_of (OfAct x.tid) (h.long a))) kind (g (OfAct x.tid) x.tid run a))), tt)
   where
-    tied : (a : ℕ) → on_actor a x.tid (h.trails x.tid).steps ≡ own_slices x.tid (slices_of (OfAct x.tid) (h.long a))
-        → Tied (record { who = OfAct x.tid; tid = x.tid; tx = x.tx; place = Rattle.protocol.specs.Verdicts.act_place x.m c; result = x.result; views = λ a. view_in x.tid (slices_of (OfAct x.tid) (h.long a)) }) (h.trails x.tid) x.tid a
-    tied a same =
-        let l = own_linked (OfAct x.tid) (slice_index_or w.text.opening.states a no_state) (cell_at s a).state (h.long a) (tr a).links in
-        let own : AllByRecursion (λ z. z.tid ≡ t) (slices_of (OfAct x.tid) (h.long a)) = subst (λ z. AllByRecursion (λ y. y.tid ≡ t) (slices_of (OfAct z) (h.long a))) (sym m.tid) (m.of_it a) in
-        record { slices = slices_of (OfAct x.tid) (h.long a); low = 0; from = l.0; to = l.1.0; same = same; view = refl; rising = one_rises t 0 (slices_of (OfAct x.tid) (h.long a)) (omega arith) own; links = l.1.1 }
+    kind : is_reader_act (act_of x.tid s.book.acts) ≡ x.reader
+    kind = ap (λ z. is_reader_act (act_of z s.book.acts)) m.tid ∙ ap is_reader_act m.is_it
+
+    d : Done
+    d = record { who = OfAct x.tid; tid = x.tid; tx = x.tx; place = Rattle.protocol.specs.Verdicts.act_place x.m c; result = x.result; reader = x.reader; views = Rattle.protocol.specs.History.act_view h x }
+
+    tied : (a : ℕ) → on_actor a x.tid (h.trails x.tid).steps ≡ own_slices x.tid (if x.reader then h.reads a else slices_of (OfAct x.tid) (h.long a)) → Tied d (h.trails x.tid) x.tid a
+    tied a same = by x.reader refl same
+      where
+        viewed : (v : Bool) → x.reader ≡ v → Rattle.protocol.specs.History.act_view h x a ≡ view_in x.tid (slices_for v x.tid (h.reads a) (h.long a))
+        viewed v q = ap (λ z. view_in x.tid (slices_for z x.tid (h.reads a) (h.long a))) q
+
+        by : (v : Bool) → x.reader ≡ v → on_actor a x.tid (h.trails x.tid).steps ≡ own_slices x.tid (if v then h.reads a else slices_of (OfAct x.tid) (h.long a)) → Tied d (h.trails x.tid) x.tid a
+        by false q same =
+            let l = own_linked (OfAct x.tid) (slice_index_or w.text.opening.states a no_state) (cell_at s a).state (h.long a) (tr a).links in
+            let own : AllByRecursion (λ z. z.tid ≡ t) (slices_of (OfAct x.tid) (h.long a)) = subst (λ z. AllByRecursion (λ y. y.tid ≡ t) (slices_of (OfAct z) (h.long a))) (sym m.tid) (m.of_it a) in
+            record { slices = slices_of (OfAct x.tid) (h.long a); low = 0; from = l.0; to = l.1.0; same = same; view = viewed false q; rising = one_rises t 0 (slices_of (OfAct x.tid) (h.long a)) (omega arith) own; links = l.1.1 }
+        by true q same = record {
+          slices = own_slices x.tid (h.reads a);
+          low = 0;
+          from = (cell_at s a).state;
+          to = (cell_at s a).state;
+          same = same ∙ sym (own_twice x.tid (h.reads a));
+          view = viewed true q ∙ own_view x.tid (h.reads a);
+          rising = one_rises x.tid 0 (own_slices x.tid (h.reads a)) (omega arith) (own_tids x.tid (h.reads a));
+          links = own_stays (cell_at s a).state x.tid (h.reads a) (subst (λ z. AllByRecursion (λ y. y.tid ≡ z → (y.found ≡ (cell_at s a).state) × (y.left ≡ (cell_at s a).state)) (h.reads a)) (sym m.tid) (m.seen q a));
+        }
 
 unfoldable pub AllExplained : {C : Type 0} → Fixed C → (C → List State → Alone) → History → Type 0
 AllExplained w finish h = AllByRecursion (IsExplained w finish) h.committed

@@ -12,7 +12,7 @@ use Rattle.protocol.specs.Conditions.{IsAllowed}
 use Rattle.protocol.specs.Effects.{after}
 use Rattle.protocol.specs.Runs.{opening, new_cell, IsRun, reached}
 use Rattle.protocol.specs.History.{History, no_history, history, grown}
-use Rattle.protocol_theorems.specs.Order.{OrderFacts, QuietFacts, OrderStands, OrderHolds}
+use Rattle.protocol_theorems.specs.Order.{Nobody, OrderFacts, QuietFacts, OrderStands, OrderHolds}
 use Rattle.protocol_laws.proofs.machine.Good.{Given}
 use Rattle.protocol_laws.proofs.machine.AllGood.{AllGood, all_good, along_good, none_allowed, verdicts_say}
 use Rattle.protocol_laws.proofs.machine.Higher.{places_rise, places_differ}
@@ -35,7 +35,7 @@ pub record Whole {C : Type 0} (w : Fixed C) (Of : Tx → C → Type 0) (finish :
 pub kept : {C : Type 0} (w : Fixed C) (Of : Tx → C → Type 0) (finish : C → List State → Alone) (e : Event) (s : Machine C) (h : History) → Given w Of finish → IsAllowed w e s → AllGood w Of finish s h → Whole w Of finish s h → Whole w Of finish (after w e s) (grown w e s h)
 kept w Of finish e s h v ok g i = record {
   once = once.kept w e s h ok g.good.agreeing g.good.placed i.once;
-  ordered = order.kept w Of finish e s h v ok (owed w Of finish e s h ok i.once g) g.good i.ordered;
+  ordered = order.kept w Of finish e s h v ok (owed w Of finish e s h v ok i.once g) g.good i.ordered;
 }
 
 pub opened : {C : Type 0} (w : Fixed C) (Of : Tx → C → Type 0) (finish : C → List State → Alone) → Given w Of finish → Whole w Of finish (opening w) no_history
@@ -66,8 +66,9 @@ at_opening w finish = record {
   explained = tt;
   linked = λ a k. tt;
   rise = λ a k. tt;
+  still = λ a. tt;
   differ = tt;
-  chains = λ a k. refl;
+  chains = λ a k. Nobody [] [] refl refl;
   told_value = λ n p v e. absurd (cc e);
   told_code = λ n p c e. absurd (cc e);
 }

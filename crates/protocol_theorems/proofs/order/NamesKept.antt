@@ -4,10 +4,10 @@ use Rattle.std.specs.List.{AllByRecursion, list_any}
 use Rattle.std.proofs.Common.{arith, sym, ap, subst, inl, inr, ◌∙◌}
 use Rattle.std.proofs.lemmas.List.{append-nil}
 use Rattle.std.proofs.lemmas.Bool.{eqb-true, eq-eqb, ne_eqb, or_cases, true≢false}
-use Rattle.protocol.specs.Fixed.{Fixed, base}
+use Rattle.protocol.specs.Fixed.{Fixed, base, is_reader}
 use Rattle.protocol.specs.Parts.{Act, Pact, Batch, Slot, Who, OfBatch, OfAct, Cascade, Entry, BatchEntry, ActEntry, Machine}
 use Rattle.protocol.specs.Events.{Event, Form, Admit, Arrive, Ask, Run, Complete, Rollback, Finish, Trim}
-use Rattle.protocol.specs.Words.{holds, is_who, is_entry_of, names_slot, names_pact, who_on, batch_of, act_of}
+use Rattle.protocol.specs.Words.{holds, is_who, is_entry_of, names_slot, names_pact, who_on, batch_of, act_of, lock_of}
 use Rattle.protocol.specs.Contents.{Bids, BatchTids, BatchTxs, ActTids, ActTxs}
 use Rattle.protocol.specs.Conditions.{IsAllowed, conditions, queue}
 use Rattle.protocol.specs.Effects.{after, cell_at}
@@ -17,10 +17,11 @@ use Rattle.protocol.specs.OnDesk as desk
 use Rattle.protocol.specs.OnPost.{next_act}
 use Rattle.protocol.specs.OnCell as cell
 use Rattle.protocol.specs.OnCell.{is_cut}
-use Rattle.protocol.specs.History.{History, Trail, Slice, Ran, Stands, Gone, grown, with_at, begun, owned_by, not_run, ran_in, completed, left_for_good, without_standing, long_staying, asks}
+use Rattle.protocol.specs.History.{History, Trail, Slice, Ran, Stands, Gone, grown, with_at, begun, owned_by, not_run, ran_in, completed, left_for_good, without_standing, long_staying, asks, is_traceless}
 use Rattle.protocol_laws.specs.Told.{PactsAscend}
 use Rattle.protocol_laws.specs.Tracks.{key_of, keys_in}
 use Rattle.protocol_laws.specs.FromDesk.{is_pact_of, EntryOf}
+use Rattle.protocol_laws.proofs.machine.TrackLists
 use Rattle.protocol_laws.proofs.first.Frames.{frame}
 use Rattle.protocol_laws.proofs.first.Lists.{all_join, weaker, all_alike, all_alike3, all_found}
 use Rattle.protocol_laws.proofs.machine.CommitsKept.{beside_carried}
@@ -207,7 +208,7 @@ kept w (Admit t) s h ok g =
     let own : IsNamed (s.ring.next_tid + 1) (with_at t (OfAct t) h.owners) (with_at t (record { tx = next_act s.ring; steps = [] }) h.trails) (OfAct t) t (next_act s.ring) = record { low = omega (arith, i); owner = rw (eq-eqb t t refl) refl; tx = rw (eq-eqb t t refl) refl } in
     record {
       pacts = pacts_still s.ring.next_tid _ h.owners _ h.trails _ s.desk.batches (omega arith) v g.pacts;
-      acts = all_join (λ x. IsNamed (s.ring.next_tid + 1) (with_at t (OfAct t) h.owners) (with_at t (record { tx = next_act s.ring; steps = [] }) h.trails) (OfAct x.tid) x.tid x.tx) s.book.acts (book.new_act t (next_act s.ring) (base w.text) ∷ [])
+      acts = all_join (λ x. IsNamed (s.ring.next_tid + 1) (with_at t (OfAct t) h.owners) (with_at t (record { tx = next_act s.ring; steps = [] }) h.trails) (OfAct x.tid) x.tid x.tx) s.book.acts (book.new_act t (next_act s.ring) (is_reader w (next_act s.ring)) (base w.text) ∷ [])
           (acts_still s.ring.next_tid (s.ring.next_tid + 1) h.owners (with_at t (OfAct t) h.owners) h.trails (with_at t (record { tx = next_act s.ring; steps = [] }) h.trails) s.book.acts (omega arith) v g.acts) (own, tt);
       standing = λ a. standing_weaker _ _ (h.long a) (λ y p. owns_still s.ring.next_tid _ h.owners _ y (omega arith) v.owner p) (g.standing a);
     }
@@ -219,14 +220,14 @@ kept w (Arrive k a) s h ok g = record {
 kept w (Ask t a) s h ok g = record {
   pacts = g.pacts;
   acts = same_acts s.ring.next_tid h.owners h.trails s.book.acts _ (frame w (Ask t a) s ActTids refl) (frame w (Ask t a) s ActTxs refl) g.acts;
-  standing = beside_carried (λ b rs. AllStanding (OwnsIt s.ring.next_tid h.owners) rs) a _ h.long (λ x. standing_asks _ t (book.in_the_way t (cell_at s a).entries) (h.long a) (act_owns s.ring.next_tid t h.owners h.trails _ s.book.acts ok.1.0 g.acts) x) g.standing;
+  standing = beside_carried (λ b rs. AllStanding (OwnsIt s.ring.next_tid h.owners) rs) a _ h.long (λ x. standing_asks _ t (book.in_the_way (lock_of t s.book.acts) (cell_at s a).entries) (h.long a) (act_owns s.ring.next_tid t h.owners h.trails _ s.book.acts ok.1.0 g.acts) x) g.standing;
 }
 kept w (Run t a) s h ok g =
     let v = leaves_run s.ring.next_tid t h.owners h.trails (Rattle.protocol.specs.History.gone_on (record { actor = a; found = (cell_at s a).state; left = (cell.slice_run w.code t a (cell_at s a)).state }) (h.trails t)) refl in
     record {
       pacts = pacts_still s.ring.next_tid _ h.owners _ h.trails _ s.desk.batches (omega arith) v g.pacts;
       acts = acts_still s.ring.next_tid _ h.owners _ h.trails _ s.book.acts (omega arith) v g.acts;
-      standing = beside_carried (λ b rs. AllStanding (OwnsIt s.ring.next_tid h.owners) rs) a _ h.long (λ x. standing_ran _ _ _ (h.long a) x) g.standing;
+      standing = beside_carried (λ b rs. AllStanding (OwnsIt s.ring.next_tid h.owners) rs) a _ h.long (λ x. TrackLists.on_reads (AllStanding (OwnsIt s.ring.next_tid h.owners)) (cell.reads_on t (cell_at s a).entries) _ _ (h.long a) (λ y. standing_ran _ _ _ (h.long a) y) x) g.standing;
     }
 kept w (Complete k a) s h ok g = record {
   pacts = g.pacts;
@@ -241,7 +242,7 @@ kept w (Rollback a) s h ok g = record {
 kept w (Finish t a) s h ok g = record {
   pacts = g.pacts;
   acts = same_acts s.ring.next_tid h.owners h.trails s.book.acts _ (frame w (Finish t a) s ActTids refl) (frame w (Finish t a) s ActTxs refl) g.acts;
-  standing = beside_carried (λ b rs. AllStanding (OwnsIt s.ring.next_tid h.owners) rs) a _ h.long (λ x. standing_finish _ t (cell.is_undone_act (act_of t s.book.acts)) (h.long a) x) g.standing;
+  standing = beside_carried (λ b rs. AllStanding (OwnsIt s.ring.next_tid h.owners) rs) a _ h.long (λ x. standing_finish _ t (is_traceless (act_of t s.book.acts)) (h.long a) x) g.standing;
 }
 kept w (Trim k a) s h ok g = record {
   pacts = same_pacts s.ring.next_tid h.owners h.trails s.desk.batches _ (frame w (Trim k a) s Bids refl) (frame w (Trim k a) s BatchTids refl) (frame w (Trim k a) s BatchTxs refl) g.pacts;

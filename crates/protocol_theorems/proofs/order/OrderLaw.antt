@@ -1,5 +1,5 @@
 -- The order of committed transactions, of every run, from what is owed at each event and at its end.
-use Rattle.std.specs.Prelude.{◌≡◌, refl, ℕ, ◌<◌, ℤ, Some, List, [], ◌∷◌, ◌++◌, length, slice_index_or}
+use Rattle.std.specs.Prelude.{◌≡◌, refl, ℕ, ◌<◌, ℤ, Some, List, [], ◌∷◌, ◌++◌, length, slice_index_or, Option, None, Bool, true, false, if◌then◌else◌, map}
 use Rattle.std.specs.List.{AllByRecursion}
 use Rattle.std.proofs.Common.{sym, ap, subst, ◌∙◌}
 use Rattle.snap_base.specs.declared.transactions.State.{State}
@@ -7,25 +7,29 @@ use Rattle.snap_base.specs.declared.transactions.Tx.{Tx}
 use Rattle.snap_base.specs.declared.transactions.TxResult.TheVariants.{Value, Fail}
 use Rattle.snap_base.specs.declared.verdicts.Place.{Place}
 use Rattle.snap_base.specs.declared.verdicts.Verdict.TheVariants as verdicts
+use Rattle.protocol_theorems.proofs.order.ViewsExplain.{own_slices}
+use Rattle.protocol_laws.proofs.machine.CommitsKept as committing
+use Rattle.protocol_laws.proofs.machine.ReadersSee.{ReadBy}
+use Rattle.protocol_laws.proofs.machine.ReadersKept.{Locks}
 use Rattle.protocol.specs.Fixed.{Fixed, no_state}
 use Rattle.protocol.specs.Facts.{Alone, state_in}
-use Rattle.protocol.specs.Parts.{Machine}
-use Rattle.protocol.specs.Events.{Event}
+use Rattle.protocol.specs.Parts.{Machine, Pact}
+use Rattle.protocol.specs.Events.{Event, Commit, Decide}
 use Rattle.protocol.specs.Verdicts.{verdict, ended_at}
 use Rattle.protocol.specs.Conditions.{IsAllowed}
 use Rattle.protocol.specs.Effects.{after, cell_at}
 use Rattle.protocol.specs.Runs.{opening, new_cell, IsQuiet}
-use Rattle.protocol.specs.History.{Done, History, no_history, history_after, grown, done_batch, done_act}
-use Rattle.protocol.specs.Chains.{PlacesRise}
+use Rattle.protocol.specs.History.{Done, History, no_history, history_after, grown, done_batch, done_act, View, act_view, view_in, slices_for, done_pact}
+use Rattle.protocol.specs.Chains.{RivalsRise}
 use Rattle.protocol_laws.specs.Commits.{last_state, kept_slices}
 use Rattle.protocol_laws.specs.Tracks.{slices_in, Linked}
 use Rattle.protocol.specs.Words.{batch_of, act_of}
 use Rattle.protocol.specs.Events.{Commit, Decide}
 use Rattle.protocol_laws.specs.Linked.{visitors, PlacesDiffer}
 use Rattle.protocol_laws.specs.Told.{IsAmongDone}
-use Rattle.protocol_theorems.specs.Order.{OrderFacts}
+use Rattle.protocol_theorems.specs.Order.{OrderFacts, LeavesIt, Nobody}
 use Rattle.protocol_laws.proofs.machine.Good.{Good, Given, Owed, for_chain}
-use Rattle.protocol_laws.proofs.machine.CommitLists.{rest_slices, in_two, linked_one}
+use Rattle.protocol_laws.proofs.machine.CommitLists.{rest_slices, in_two, linked_one, Sees}
 use Rattle.protocol_laws.proofs.machine.CommitsKept.{Committed}
 use Rattle.protocol_laws.proofs.machine.TracksKept.{Tracked}
 use Rattle.protocol_theorems.proofs.order.NamesKept.{Named}
@@ -36,7 +40,7 @@ use Rattle.protocol_theorems.proofs.order.ExplainedKept.{Results, NoActResult, A
 use Rattle.protocol_theorems.proofs.order.ExplainedKept as explained
 use Rattle.protocol_theorems.proofs.order.ChainsKept.{Chained, Owes}
 use Rattle.protocol_theorems.proofs.order.ChainsKept as chains
-use Rattle.protocol_laws.proofs.first.Lists.{join_nil, join_assoc}
+use Rattle.protocol_laws.proofs.first.Lists.{join_nil, join_assoc, all_join}
 use Rattle.protocol_laws.proofs.first.Times.{length_map}
 
 -- ---- what is owed at each event
@@ -50,6 +54,31 @@ pub record OwedAt {C : Type 0} (w : Fixed C) (e : Event) (s : Machine C) (h : Hi
   pub live_stay : LiveStay e s
   -- a batch arrives once on an actor; an ACT that asks lives; one that is decided ran wherever it stands
   pub placing : Owes e s h
+  -- readers
+  pub locks : Locks s
+  pub read_by : ReadBy s h
+
+-- ---- a reader leaves what it finds
+
+abbrev pub Stills : History → Type 0
+Stills h = (a : ℕ) → AllByRecursion (λ d. d.reader ≡ true → LeavesIt (d.views a)) h.committed
+
+no_readers : (a k : ℕ) (h : History) (ps : List Pact) → AllByRecursion (λ d. d.reader ≡ true → LeavesIt (d.views a)) (map (done_pact k h) ps)
+no_readers a k h [] = tt
+no_readers a k h (p ∷ ps) = ((λ q. absurd (Rattle.std.proofs.lemmas.Bool.true≢false (sym q))), no_readers a k h ps)
+
+stills_kept : {C : Type 0} (w : Fixed C) (e : Event) (s : Machine C) (h : History) → committing.Assumed e s h → Stills h → Stills (grown w e s h)
+unfolding committing.Assumed grown
+stills_kept w (Commit k) s h am g = λ a. all_join _ h.committed _ (g a) (subst (λ z. AllByRecursion (λ d. d.reader ≡ true → LeavesIt (d.views a)) (done_batch k h z)) (sym am.1.is_it) (no_readers a k h am.0.pacts))
+stills_kept w (Decide t) s h am g = λ a. all_join _ h.committed _ (g a) (subst (λ z. AllByRecursion (λ d. d.reader ≡ true → LeavesIt (d.views a)) (done_act s.book.next_c h z)) (sym am.1.is_it) ((λ q. own a q), tt))
+  where
+    seen : (now : State) (o : Option View) → Sees now o → LeavesIt o
+    seen now None k = tt
+    seen now (Some v) k = k.1 ∙ sym k.0
+
+    own : (a : ℕ) → am.0.reader ≡ true → LeavesIt (act_view h am.0 a)
+    own a q = seen (cell_at s a).state (act_view h am.0 a) (subst (λ v. Sees (cell_at s a).state (view_in am.0.tid (slices_for v am.0.tid (h.reads a) (h.long a)))) (sym q) (subst (λ n. Sees (cell_at s a).state (view_in n (h.reads a))) (sym am.1.tid) (am.1.reads q a).sees))
+stills_kept w e s h am g = g
 
 -- ---- all of it, along a run
 
@@ -59,33 +88,40 @@ pub record Ordered {C : Type 0} (w : Fixed C) (Of : Tx → C → Type 0) (finish
   pub results : Results w Of finish s h
   pub explained : AllExplained w finish h
   pub chained : Chained s h
+  pub stills : Stills h
 
 pub kept : {C : Type 0} (w : Fixed C) (Of : Tx → C → Type 0) (finish : C → List State → Alone) (e : Event) (s : Machine C) (h : History) → Given w Of finish → IsAllowed w e s → OwedAt w e s h → Good w Of finish s h → Ordered w Of finish s h → Ordered w Of finish (after w e s) (grown w e s h)
 kept w Of finish e s h v ok o g i =
     let am = for_chain w Of finish e s h v ok o.schedules g in
     record {
       named = names.kept w e s h ok i.named;
-      matched = slices.kept w e s h ok o.live_stay g.settling g.placed g.tracked g.from_desk i.named i.matched;
+      matched = slices.kept w e s h ok o.live_stay g.settling g.placed g.tracked g.from_desk i.named o.locks o.read_by i.matched;
       results = explained.kept w Of finish e s h ok o.no_result i.named g.drawn g.none g.told i.results;
       explained = explained.explained_kept w Of finish e s h v.facts ok am g.tracked i.named i.matched i.results i.explained;
       chained = chains.kept w e s h ok o.placing o.live_stay am g.settling g.placed g.tracked i.named i.chained;
+      stills = stills_kept w e s h am i.stills;
     }
 
 pub opened : {C : Type 0} (w : Fixed C) (Of : Tx → C → Type 0) (finish : C → List State → Alone) → Given w Of finish → Ordered w Of finish (opening w) no_history
 unfolding Matched AllExplained
 opened {C} w Of finish v = record {
   named = record { pacts = tt; acts = tt; standing = λ a. tt };
-  matched = λ who t r a. refl;
+  matched = λ who t r a. none t (Rattle.protocol_laws.specs.Commits.reads_who [] who);
   results = record { cells = length_map (new_cell _) w.text.opening.states; within = λ t. tt; pacts = tt; acts = tt };
   explained = tt;
-  chained = record { over = tt; drawn = λ a. tt; stands = λ t a l p. absurd (Rattle.std.proofs.lemmas.Bool.true≢false (sym l)); chains = λ a. record { once = tt; in_order = tt; front = tt; chain = refl } };
+  chained = record { over = tt; drawn = λ a. tt; stands = λ t a l p. absurd (Rattle.std.proofs.lemmas.Bool.true≢false (sym l)); chains = λ a. record { once = tt; in_order = tt; front = tt; chain = Nobody [] [] refl refl } };
+  stills = λ a. tt;
 }
+  where
+    none : (t : ℕ) (v : Bool) → [] ≡ own_slices t (if v then [] else [])
+    none t true = refl
+    none t false = refl
 
 -- ---- what is owed at the end
 
 -- of places: any two differ, and on each actor they rise in the order of commits
 pub record PlacesHold {C : Type 0} (w : Fixed C) (h : History) : Type 0 where
-  pub rise : (a : ℕ) → a < length w.text.opening.states → PlacesRise (visitors a h.committed)
+  pub rise : (a : ℕ) → a < length w.text.opening.states → RivalsRise (visitors a h.committed)
   pub differ : PlacesDiffer h.committed
 
 -- of verdicts: who is told a place is one of what committed
@@ -114,6 +150,7 @@ facts w Of finish s h k g p t = record {
   explained = g.explained;
   linked = λ a l. (k.committed a).links;
   rise = p.rise;
+  still = g.stills;
   differ = p.differ;
   chains = λ a k. (g.chained.chains a).chain;
   told_value = t.told_value;

@@ -5,6 +5,10 @@ use Rattle.std.proofs.Common.{sym, ap, subst, inl, inr, ◌∙◌}
 use Rattle.std.proofs.lemmas.Bool.{eqb-true, eq-eqb, and_parts, or_cases, true≢false, false_from_ne_true}
 use Rattle.snap_base.specs.declared.transactions.State.{State}
 use Rattle.snap_base.specs.declared.transactions.Tx.{Tx}
+use Rattle.protocol_laws.proofs.machine.TurnsKept.{Turned}
+use Rattle.protocol_laws.proofs.machine.ReadersSee.{ReadBy, reads_at, not_read}
+use Rattle.protocol_laws.proofs.machine.ReadersKept.{Locks, bare}
+use Rattle.protocol_laws.proofs.machine.Good.{Given}
 use Rattle.protocol.specs.Fixed.{Fixed}
 use Rattle.protocol.specs.Facts.{Alone}
 use Rattle.protocol.specs.Parts.{Act, Status, Live, Doomed, Decided, Sealed, Cascade, OfBatch, OfAct, Waiting, Machine}
@@ -12,8 +16,8 @@ use Rattle.protocol.specs.Events.{Event, Arrive, Ask, Run, Rollback, Decide}
 use Rattle.protocol.specs.Words.{is_empty, holds, is_aborted, is_live_status, is_doomed, act_of, waiting_of}
 use Rattle.protocol.specs.Conditions.{IsAllowed, conditions}
 use Rattle.protocol.specs.Effects.{cell_at, no_cell}
-use Rattle.protocol.specs.History.{History, Slice, Ran, Stands, Gone, slices_of, view_in}
-use Rattle.protocol_laws.specs.Tracks.{keys_in, is_key_among}
+use Rattle.protocol.specs.History.{History, Slice, Ran, Stands, Gone, slices_of, view_in, act_view, slices_for, last_left, is_reader_act}
+use Rattle.protocol_laws.specs.Tracks.{keys_in, is_key_among, Bare, has_read}
 use Rattle.protocol_laws.proofs.machine.TrackLists.{keys_going, among_going}
 use Rattle.protocol_laws.proofs.machine.TracksKept.{Tracked, held}
 use Rattle.protocol_laws.proofs.first.PairsFound.{each_act}
@@ -70,15 +74,15 @@ out_going acts cs t bad (Gone (OfAct u) ss ∷ rs) h e = out_going acts cs t bad
 
 -- ---- who is decided ran wherever it stands
 
-ran_where : {C : Type 0} (t : ℕ) (xs : List (Waiting C)) (rs : List Ran) → Starts xs rs → is_some (waiting_of t xs) ≡ false → is_key_among (OfAct t) (keys_in rs) ≡ true → is_empty (slices_of (OfAct t) rs) ≡ false
-ran_where t xs [] h n e = absurd (true≢false (sym e))
-ran_where t xs (Stands (OfBatch k) c ss ∷ rs) h n e = ran_where t xs rs h n e
-ran_where {C} t xs (Stands (OfAct u) c ss ∷ rs) h n e = by (u == t) refl e (ran_where t xs rs h.1 n)
+ran_where : {C : Type 0} (rd : ℕ → Bool) (t : ℕ) (xs : List (Waiting C)) (rs : List Ran) → rd t ≡ false → Starts rd xs rs → is_some (waiting_of t xs) ≡ false → is_key_among (OfAct t) (keys_in rs) ≡ true → is_empty (slices_of (OfAct t) rs) ≡ false
+ran_where rd t xs [] d h n e = absurd (true≢false (sym e))
+ran_where rd t xs (Stands (OfBatch k) c ss ∷ rs) d h n e = ran_where rd t xs rs d h n e
+ran_where {C} rd t xs (Stands (OfAct u) c ss ∷ rs) d h n e = by (u == t) refl e (ran_where rd t xs rs d h.1 n)
   where
     by : (b : Bool) → (u == t) ≡ b → (b || is_key_among (OfAct t) (keys_in rs)) ≡ true → (is_key_among (OfAct t) (keys_in rs) ≡ true → is_empty (slices_of (OfAct t) rs) ≡ false) → is_empty (if b then ss else slices_of (OfAct t) rs) ≡ false
-    by true q e k = false_from_ne_true (is_empty ss) (λ v. true≢false (sym (subst (λ z. is_some (waiting_of z xs) ≡ true) (eqb-true u t q) (h.0 v)) ∙ n))
+    by true q e k = false_from_ne_true (is_empty ss) (λ v. true≢false (sym (subst (λ z. is_some (waiting_of z xs) ≡ true) (eqb-true u t q) (h.0 v (ap rd (eqb-true u t q) ∙ d))) ∙ n))
     by false q e k = k e
-ran_where t xs (Gone y ss ∷ rs) h n e = ran_where t xs rs h n e
+ran_where rd t xs (Gone y ss ∷ rs) d h n e = ran_where rd t xs rs d h n e
 
 view_there : (t : ℕ) (ss : List Slice) → AllByRecursion (λ z. z.tid ≡ t) ss → is_empty ss ≡ false → is_some (view_in t ss) ≡ true
 view_there t [] a e = absurd (true≢false e)
@@ -97,27 +101,59 @@ live_stay w Of finish (Rollback a) s h g = λ t e. not_out (act_of t s.book.acts
     (ap (λ ks. is_key_among (OfAct t) (keys_going s.book.cascades ks)) (sym (g.good.tracked a).stands) ∙ (sym (among_going s.book.cascades (OfAct t) (cell_at s a).entries) ∙ e)))
 live_stay w Of finish e s h g = tt
 
+-- a reader that stands there without a control has read
+starts_read : {C : Type 0} (rd : ℕ → Bool) (t : ℕ) (xs : List (Waiting C)) (rs : List Ran) → Starts rd xs rs → Bare (OfAct t) rs → is_some (waiting_of t xs) ≡ false → is_key_among (OfAct t) (keys_in rs) ≡ true → rd t ≡ true
+starts_read rd t xs [] h b n e = absurd (true≢false (sym e))
+starts_read rd t xs (Stands (OfBatch k) c ss ∷ rs) h b n e = starts_read rd t xs rs h b.1 n e
+starts_read {C} rd t xs (Stands (OfAct u) c ss ∷ rs) h b n e = by (u == t) refl e (starts_read rd t xs rs h.1 b.1 n)
+  where
+    by : (v : Bool) → (u == t) ≡ v → (v || is_key_among (OfAct t) (keys_in rs)) ≡ true → (is_key_among (OfAct t) (keys_in rs) ≡ true → rd t ≡ true) → rd t ≡ true
+    by true q e k = elim (Rattle.std.proofs.lemmas.Bool.cases_Bool (rd t)) [
+      | inl r ↦ r
+      | inr r ↦ absurd (true≢false (sym (subst (λ z. is_some (waiting_of z xs) ≡ true) (eqb-true u t q) (h.0 (ap is_empty (b.0 q)) (ap rd (eqb-true u t q) ∙ r))) ∙ n))
+    ]
+    by false q e k = k e
+starts_read rd t xs (Gone y ss ∷ rs) h b n e = starts_read rd t xs rs h b n e
+
+read_view : (t : ℕ) (zs : List Slice) → has_read zs t ≡ true → is_some (view_in t zs) ≡ true
+read_view t [] e = absurd (true≢false (sym e))
+read_view t (z ∷ zs) e = by (z.tid == t) e (read_view t zs)
+  where
+    by : (v : Bool) → (v || has_read zs t) ≡ true → (has_read zs t ≡ true → is_some (view_in t zs) ≡ true) → is_some (if v then Some (record { found = z.found; left = last_left t z.left zs }) else view_in t zs) ≡ true
+    by true e k = refl
+    by false e k = k e
+
 decide_ran : {C : Type 0} (w : Fixed C) (Of : Tx → C → Type 0) (finish : C → List State → Alone) (t a : ℕ) (s : Machine C) (h : History) (x : Act) → MayDecide s h t x → is_some x.result ≡ true → AllGood w Of finish s h → is_key_among (OfAct t) (keys_in (h.long a)) ≡ true
-    → is_some (view_in t (slices_of (OfAct t) (h.long a))) ≡ true
-unfolding Started
-decide_ran w Of finish t a s h x m some g e = view_there t (slices_of (OfAct t) (h.long a)) (m.of_it a) (ran_where t (cell_at s a).inbox (h.long a) (g.started a) away e)
+    → is_some (act_view h x a) ≡ true
+unfolding Started Turned Locks ReadBy
+decide_ran {C} w Of finish t a s h x m some g e = by x.reader refl
   where
     away : is_some (waiting_of t (cell_at s a).inbox) ≡ false
     away = false_from_ne_true (is_some (waiting_of t (cell_at s a).inbox)) (λ q. true≢false (sym some ∙ ap is_some (results.waiting_none t a s q g.none t x m.is_it refl)))
+
+    by : (v : Bool) → x.reader ≡ v → is_some (view_in x.tid (slices_for v x.tid (h.reads a) (h.long a))) ≡ true
+    by true q = subst (λ z. is_some (view_in z (h.reads a)) ≡ true) (sym m.tid) (read_view t (h.reads a) (starts_read (has_read (h.reads a)) t (cell_at s a).inbox (h.long a) (g.started a) (bare s.book.acts t (h.long a) (cell_at s a).entries (g.good.turned a) (g.locks a) (ap is_reader_act m.is_it ∙ q)) away e))
+    by false q = subst (λ z. is_some (view_in z (slices_of (OfAct z) (h.long a))) ≡ true) (sym m.tid) (view_there t (slices_of (OfAct t) (h.long a)) (m.of_it a)
+        (ran_where (has_read (h.reads a)) t (cell_at s a).inbox (h.long a) (not_read a t s.book.acts (h.reads a) (subst (λ o. holds (reads_at a) o ≡ false) (sym m.is_it) (none q)) (g.read_by a)) (g.started a) away e))
+      where
+        none : x.reader ≡ false → reads_at a x ≡ false
+        none r = rw r refl
 
 placing : {C : Type 0} (w : Fixed C) (Of : Tx → C → Type 0) (finish : C → List State → Alone) (e : Event) (s : Machine C) (h : History) → IsAllowed w e s → AllPlaced s h → AllGood w Of finish s h → good.Owed w e s h → Owes e s h
 unfolding Owes good.Owed conditions
 placing w Of finish (Arrive k a) s h ok once g o = arrives_once w k a s h ok g.good.agreeing once
 placing w Of finish (Ask t a) s h ok once g o = asks_live w Of finish t a s h ok g
-placing w Of finish (Decide t) s h ok once g o = λ a e. decide_ran w Of finish t a s h o.0 o.1 (and_parts (is_some o.0.result) (is_live_status o.0.status) (subst (λ z. holds (λ x. is_some x.result && is_live_status x.status) z ≡ true) o.1.is_it ok.0)).0 g e
+placing w Of finish (Decide t) s h ok once g o = λ y f a e. let i : o.0 ≡ y = cc (sym o.1.is_it ∙ f) in subst (λ z. is_some (act_view h z a) ≡ true) i (decide_ran w Of finish t a s h o.0 o.1 (and_parts (is_some o.0.result) (is_live_status o.0.status) (subst (λ z. holds (λ x. is_some x.result && is_live_status x.status) z ≡ true) o.1.is_it ok.0)).0 g e)
 placing w Of finish e s h ok once g o = tt
 
-pub owed : {C : Type 0} (w : Fixed C) (Of : Tx → C → Type 0) (finish : C → List State → Alone) (e : Event) (s : Machine C) (h : History) → IsAllowed w e s → AllPlaced s h → AllGood w Of finish s h → OwedAt w e s h
-owed w Of finish e s h ok once g =
-    let o = all.owes w Of finish e s h ok g in
+pub owed : {C : Type 0} (w : Fixed C) (Of : Tx → C → Type 0) (finish : C → List State → Alone) (e : Event) (s : Machine C) (h : History) → Given w Of finish → IsAllowed w e s → AllPlaced s h → AllGood w Of finish s h → OwedAt w e s h
+owed w Of finish e s h v ok once g =
+    let o = all.owes w Of finish e s h v ok g in
     record {
       schedules = o;
       no_result = no_result w Of finish e s h ok g;
       live_stay = live_stay w Of finish e s h g;
       placing = placing w Of finish e s h ok once g o;
+      locks = g.locks;
+      read_by = g.read_by;
     }

@@ -7,7 +7,7 @@ use Rattle.snap_base.specs.declared.transactions.TxResult.{TxResult}
 use Rattle.protocol.specs.Fixed.{Fixed, Next, Go, Ended}
 use Rattle.protocol.specs.Parts.{Act, Pact, Batch, Who, OfBatch, OfAct, Pair, Status, Live, Doomed, Decided, Sealed, Stage, Formed, Committing, Settled, Outcome, Cell, Machine}
 use Rattle.protocol.specs.Events.{Event, Form, Admit, Arrive, Ask, End, Note, Commit, Settle, Abort, Prepare, Vouch, Decide, Seal, Finish, Trim}
-use Rattle.protocol.specs.Words.{holds, is_value, is_open, is_formed, is_live_status, names_pact, batch_of, act_of, has_act, outcome_of}
+use Rattle.protocol.specs.Words.{holds, is_value, is_open, is_formed, is_live_status, names_pact, batch_of, act_of, has_act, outcome_of, lock_of, floor_at}
 use Rattle.protocol.specs.Spread.{raised, carried, crossed_out, is_crossed, doomed_by_order}
 use Rattle.protocol.specs.Effects.{after, cell_at}
 use Rattle.protocol.specs.OnRing as ring
@@ -138,9 +138,9 @@ raised_back t ps (x ∷ xs) h = by (x.tid == t) h (raised_back t ps xs)
     by true h r = h
     by false h r = r h
 
-asked_back : {C : Type 0} (u t a : ℕ) (o : Option ℕ) (c : Cell C) (b : Rattle.protocol.specs.Parts.Book) → holds lives (act_of u (book.asked_acts o (book.met t c.entries) t a (max c.last c.floor) b)) ≡ true → holds lives (act_of u b.acts) ≡ true
+asked_back : {C : Type 0} (u t a : ℕ) (o : Option ℕ) (c : Cell C) (b : Rattle.protocol.specs.Parts.Book) → holds lives (act_of u (book.asked_acts o (book.met (lock_of t b.acts) c.entries) t a (max c.last (floor_at t b.acts c)) b)) ≡ true → holds lives (act_of u b.acts) ≡ true
 asked_back u t a (Some older) c b h = changed u t (book.doomed_by (Rattle.protocol.specs.Verdicts.died a older t)) b.acts (λ x. refl) (λ x q. live_if (is_live_status x.status) _ x.status q) h
-asked_back u t a None c b h = changed u t (book.joins a (max c.last c.floor)) b.acts (λ x. refl) (λ x q. q) (raised_back u _ _ (by_order u a _ h))
+asked_back u t a None c b h = changed u t (book.joins a (max c.last (floor_at t b.acts c))) b.acts (λ x. refl) (λ x q. q) (raised_back u _ _ (by_order u a _ h))
 
 abbrev pub JustAdmitted : Event → ℕ → Type 0
 JustAdmitted (Admit u) t = u ≡ t
@@ -150,7 +150,7 @@ pub act_was : {C : Type 0} (w : Fixed C) (e : Event) (s : Machine C) (t : ℕ) �
 unfolding after
 act_was w (Admit u) s t h = act_more t _ s.book.acts h
 act_was w (Arrive k a) s t h = inl (act_back (book.lowered k (book.tids_on (cell_at s a).entries)) (λ x. refl) (λ x q. q) t s.book.acts (by_order t a _ h))
-act_was w (Ask u a) s t h = inl (asked_back t u a (book.in_the_way u (cell_at s a).entries) (cell_at s a) s.book h)
+act_was w (Ask u a) s t h = inl (asked_back t u a (book.in_the_way (lock_of u s.book.acts) (cell_at s a).entries) (cell_at s a) s.book h)
 act_was {C} w (End u a) s t h = inl (by (has_act u (cell_at s a).entries) (outcome_of u (cell_at s a).outbox) h)
   where
     next : (x : Next C) → holds lives (act_of t (book.noted_for u x s.book.acts)) ≡ true → holds lives (act_of t s.book.acts) ≡ true

@@ -1,21 +1,27 @@
 -- Who may still commit has on each long schedule just the slices of its trail.
-use Rattle.std.specs.Prelude.{◌≡◌, refl, ℕ, ◌<◌, ◌≤◌, ◌==◌, not, Bool, true, false, ◌&&◌, ◌||◌, ◌⊎◌, if◌then◌else◌, Option, Some, None, List, [], ◌∷◌, ◌++◌, map, find}
+use Rattle.std.specs.Prelude.{◌≡◌, refl, ℕ, ◌<◌, ◌≤◌, ◌==◌, not, Bool, true, false, ◌&&◌, ◌||◌, ◌⊎◌, if◌then◌else◌, Option, Some, None, List, [], ◌∷◌, ◌++◌, map, find, ◌+◌}
 use Rattle.std.specs.List.{AllByRecursion, list_any}
 use Rattle.std.proofs.Common.{arith, sym, ap, subst, inl, inr, ◌∙◌}
 use Rattle.std.proofs.lemmas.List.{append-nil}
 use Rattle.std.proofs.lemmas.Bool.{eqb-true, eqb-false, eq-eqb, ne_eqb, and_parts, or_cases, or_parts, true≢false, false_from_ne_true, not-true}
+use Rattle.protocol_laws.proofs.machine.ReadersSee.{ReadBy, reads_at, not_read}
+use Rattle.protocol_laws.proofs.machine.ReadersKept.{LockOf, Locks, reader_of}
+use Rattle.protocol_laws.proofs.machine.ActsGrow.{acts_grow, grown_holds}
+use Rattle.protocol_laws.proofs.first.Agree.{agree, agree_same}
+use Rattle.protocol_laws.specs.Told.{PactsAscend}
+use Rattle.protocol_laws.specs.Commits.{reads_who}
 use Rattle.protocol.specs.Fixed.{Fixed}
-use Rattle.protocol.specs.Parts.{Act, Pact, Batch, Status, Who, OfBatch, OfAct, Cascade, Entry, Cell, Machine}
+use Rattle.protocol.specs.Parts.{Act, Pact, Batch, Status, Who, OfBatch, OfAct, Cascade, Entry, Cell, Machine, BatchEntry, ActEntry}
 use Rattle.protocol.specs.Events.{Event, Form, Admit, Arrive, Ask, Run, Complete, Rollback, Finish, Trim}
-use Rattle.protocol.specs.Words.{holds, is_who, is_open, is_formed, is_settled, is_live_status, is_doomed, is_sealed, is_aborted, is_entry_of, is_turn_of, names_pact, who_of, who_on, batch_of, act_of}
+use Rattle.protocol.specs.Words.{holds, is_who, is_open, is_formed, is_settled, is_live_status, is_doomed, is_sealed, is_aborted, is_entry_of, is_turn_of, names_pact, who_of, who_on, batch_of, act_of, lock_of, is_reader_entry}
 use Rattle.protocol.specs.Conditions.{IsAllowed, conditions}
 use Rattle.protocol.specs.Effects.{after, cell_at, no_cell}
 use Rattle.protocol.specs.OnRing as ring
 use Rattle.protocol.specs.OnBook as book
 use Rattle.protocol.specs.OnCell as cell
 use Rattle.protocol.specs.OnCell.{is_cut, is_entry_among}
-use Rattle.protocol.specs.History.{History, Trail, Step, Slice, Ran, Stands, Gone, grown, with_at, begun, gone_on, not_run, ran_in, completed, left_for_good, without_standing, long_staying, asks, slices_of, batches_in}
-use Rattle.protocol_laws.specs.Tracks.{key_of, keys_in, is_key_among}
+use Rattle.protocol.specs.History.{History, Trail, Step, Slice, Ran, Stands, Gone, grown, with_at, begun, gone_on, not_run, ran_in, completed, left_for_good, without_standing, long_staying, asks, slices_of, batches_in, ran_on, read_on, is_traceless}
+use Rattle.protocol_laws.specs.Tracks.{key_of, keys_in, is_key_among, has_read}
 use Rattle.protocol_laws.specs.Trails.{on_actor}
 use Rattle.protocol_laws.specs.Places.{Fits, Ascends}
 use Rattle.protocol_laws.specs.FromDesk.{FromDesk}
@@ -106,6 +112,11 @@ ran_other who y t x (Stands z c ss ∷ rs) e = by (is_who z who) (is_who z y) (r
     by false q h = h
 ran_other who y t x (Gone z ss ∷ rs) e = ran_other who y t x rs e
 
+-- without a slice it has none of its own
+unread : (t : ℕ) (zs : List Slice) → has_read zs t ≡ false → own_slices t zs ≡ []
+unread t [] e = refl
+unread t (z ∷ zs) e = let p = or_parts (z.tid == t) (has_read zs t) e in rw p.0 (unread t zs p.1)
+
 -- ---- the trail goes on
 
 on_more : (a t : ℕ) (xs : List Step) (x : Step) → on_actor a t (xs ++ x ∷ []) ≡ on_actor a t xs ++ (if x.actor == a then record { tid = t; found = x.found; left = x.left } ∷ [] else [])
@@ -125,11 +136,12 @@ abbrev pub runs : {C : Type 0} → Machine C → Who → ℕ → Bool
 runs s (OfBatch k) t = holds (is_open_with t) (batch_of k s.desk.batches)
 runs s (OfAct u) t = (u == t) && holds lives (act_of u s.book.acts)
 
-abbrev pub Match : Who → ℕ → (ℕ → Trail) → (ℕ → List Ran) → Type 0
-Match who t trails long = (a : ℕ) → on_actor a t (trails t).steps ≡ own_slices t (slices_of who (long a))
+-- of a reader these are not on the long schedule
+abbrev pub Match : Bool → Who → ℕ → (ℕ → Trail) → (ℕ → List Ran) → (ℕ → List Slice) → Type 0
+Match v who t trails long reads = (a : ℕ) → on_actor a t (trails t).steps ≡ own_slices t (if v then reads a else slices_of who (long a))
 
 unfoldable pub Matched : {C : Type 0} → Machine C → History → Type 0
-Matched s h = (who : Who) (t : ℕ) → runs s who t ≡ true → Match who t h.trails h.long
+Matched s h = (who : Who) (t : ℕ) → runs s who t ≡ true → Match (reads_who s.book.acts who) who t h.trails h.long h.reads
 
 -- it is new
 abbrev pub IsNew : {C : Type 0} → Fixed C → Event → Machine C → Who → ℕ → Type 0
@@ -165,49 +177,68 @@ runs_named s h (OfAct u) t g r =
 -- ---- the events
 
 -- on one actor the slices of who stay
-carried : (who : Who) (t a : ℕ) (trails : ℕ → Trail) (long : ℕ → List Ran) (new : List Ran) → slices_of who new ≡ slices_of who (long a) → Match who t trails long → Match who t trails (with_at a new long)
-carried who t a trails long new e m b = by (b == a) refl
+carried : (v : Bool) (who : Who) (t a : ℕ) (trails : ℕ → Trail) (long : ℕ → List Ran) (reads : ℕ → List Slice) (new : List Ran) → slices_of who new ≡ slices_of who (long a) → Match v who t trails long reads → Match v who t trails (with_at a new long) reads
+carried v who t a trails long reads new e m b = by v (b == a) refl (m b)
   where
-    by : (q : Bool) → (b == a) ≡ q → on_actor b t (trails t).steps ≡ own_slices t (slices_of who (if q then new else long b))
-    by true i = let j : b ≡ a = eqb-true b a i in m b ∙ (ap (λ z. own_slices t (slices_of who (long z))) j ∙ ap (own_slices t) (sym e))
-    by false i = m b
+    by : (v q : Bool) → (b == a) ≡ q → on_actor b t (trails t).steps ≡ own_slices t (if v then reads b else slices_of who (long b)) → on_actor b t (trails t).steps ≡ own_slices t (if v then reads b else slices_of who (if q then new else long b))
+    by true q i k = k
+    by false true i k = let j : b ≡ a = eqb-true b a i in k ∙ (ap (λ z. own_slices t (slices_of who (long z))) j ∙ ap (own_slices t) (sym e))
+    by false false i k = k
 
 asks_slices : (who : Who) (t : ℕ) (o : Option ℕ) (rs : List Ran) → slices_of who (rs ++ map not_run (asks t o)) ≡ slices_of who rs
 asks_slices who t None rs = more_slices who (OfAct t) rs
 asks_slices who t (Some older) rs = ap (slices_of who) (append-nil rs)
 
--- a trail that begins, of one that stands nowhere
-fresh : (who : Who) (t : ℕ) (trails : ℕ → Trail) (long : ℕ → List Ran) → (trails t).steps ≡ [] → ((a : ℕ) → is_key_among who (keys_in (long a)) ≡ false) → Match who t trails long
-fresh who t trails long e n a = rw (e, none_of who (long a) (n a)) refl
+-- a trail that begins, of one that stands nowhere and has not read
+fresh : (v : Bool) (who : Who) (t : ℕ) (trails : ℕ → Trail) (long : ℕ → List Ran) (reads : ℕ → List Slice) → (trails t).steps ≡ [] → ((a : ℕ) → is_key_among who (keys_in (long a)) ≡ false) → ((a : ℕ) → has_read (reads a) t ≡ false) → Match v who t trails long reads
+fresh true who t trails long reads e n r a = rw (e, unread t (reads a) (r a)) refl
+fresh false who t trails long reads e n r a = rw (e, none_of who (long a) (n a)) refl
 
 -- a slice runs for its owner
-runs_on : (who y : Who) (t u a : ℕ) (x : Step) (trails : ℕ → Trail) (long : ℕ → List Ran) → x.actor ≡ a → (t ≡ u → (who ≡ y) × (is_key_among y (keys_in (long a)) ≡ true)) → Match who t trails long
-    → Match who t (with_at u (gone_on x (trails u)) trails) (with_at a (map (ran_in y (record { tid = u; found = x.found; left = x.left })) (long a)) long)
-runs_on who y t u a x trails long i o m b = by (t == u) refl (b == a) refl
+runs_on : (v b : Bool) (who y : Who) (t u a : ℕ) (x : Step) (trails : ℕ → Trail) (long : ℕ → List Ran) (reads : ℕ → List Slice) → x.actor ≡ a → (t ≡ u → (who ≡ y) × (is_key_among y (keys_in (long a)) ≡ true) × (v ≡ b)) → Match v who t trails long reads
+    → Match v who t (with_at u (gone_on x (trails u)) trails) (with_at a (ran_on b y (record { tid = u; found = x.found; left = x.left }) (long a)) long) (with_at a (read_on b (record { tid = u; found = x.found; left = x.left }) (reads a)) reads)
+runs_on v w who y t u a x trails long reads i o m b = by (t == u) refl (b == a) refl
   where
     new : Slice
     new = record { tid = u; found = x.found; left = x.left }
 
-    by : (p : Bool) → (t == u) ≡ p → (q : Bool) → (b == a) ≡ q → on_actor b t (if p then gone_on x (trails u) else trails t).steps ≡ own_slices t (slices_of who (if q then map (ran_in y new) (long a) else long b))
+    one : (ss : List Slice) → t ≡ u → own_slices t (ss ++ new ∷ []) ≡ own_slices t ss ++ new ∷ []
+    one ss j = filter_join (λ z. z.tid == t) ss (new ∷ []) ∙ rw (eq-eqb u t (sym j)) refl
+
+    -- its own slice comes to its own
+    mine : (v w : Bool) → t ≡ u → who ≡ y → is_key_among y (keys_in (long a)) ≡ true → v ≡ w → own_slices t (if v then reads a else slices_of who (long a)) ++ new ∷ [] ≡ own_slices t (if v then read_on w new (reads a) else slices_of who (ran_on w y new (long a)))
+    mine true true j p q e = sym (one (reads a) j)
+    mine true false j p q e = absurd (true≢false e)
+    mine false true j p q e = absurd (true≢false (sym e))
+    mine false false j p q e = sym (one (slices_of who (long a)) j) ∙ ap (own_slices t) (sym (subst (λ v. slices_of v (map (ran_in y new) (long a)) ≡ slices_of v (long a) ++ new ∷ []) (sym p) (ran_own y new (long a) q)))
+
+    -- another one's does not count
+    others : (v w : Bool) → (u == t) ≡ false → own_slices t (if v then reads a else slices_of who (long a)) ≡ own_slices t (if v then read_on w new (reads a) else slices_of who (ran_on w y new (long a)))
+    others true true n = sym (not_own t new (reads a) n)
+    others true false n = refl
+    others false true n = refl
+    others false false n = sym (ran_other who y t new (long a) n)
+
+    at : (c : ℕ) → c ≡ a → own_slices t (if v then reads c else slices_of who (long c)) ≡ own_slices t (if v then reads a else slices_of who (long a))
+    at c k = ap (λ z. own_slices t (if v then reads z else slices_of who (long z))) k
+
+    by : (p : Bool) → (t == u) ≡ p → (q : Bool) → (b == a) ≡ q → on_actor b t (if p then gone_on x (trails u) else trails t).steps ≡ own_slices t (if v then (if q then read_on w new (reads a) else reads b) else slices_of who (if q then ran_on w y new (long a) else long b))
     by true e true f =
         let j : t ≡ u = eqb-true t u e in
         let k : b ≡ a = eqb-true b a f in
         let own = o j in
         let here : (x.actor == b) ≡ true = eq-eqb x.actor b (i ∙ sym k) in
-        let one : own_slices t (slices_of who (long a) ++ new ∷ []) ≡ own_slices t (slices_of who (long a)) ++ new ∷ [] = filter_join (λ z. z.tid == t) (slices_of who (long a)) (new ∷ []) ∙ rw (eq-eqb u t (sym j)) refl in
-        let before : on_actor b t (trails t).steps ≡ own_slices t (slices_of who (long a)) = m b ∙ ap (λ z. own_slices t (slices_of who (long z))) k in
         ap (λ z. on_actor b t ((trails z).steps ++ x ∷ [])) (sym j)
         ∙ (on_more b t (trails t).steps x
         ∙ (rw here (ap (λ z. on_actor b t (trails t).steps ++ record { tid = z; found = x.found; left = x.left } ∷ []) j)
-        ∙ (ap (λ z. z ++ new ∷ []) before
-        ∙ (sym one ∙ ap (own_slices t) (sym (subst (λ v. slices_of v (map (ran_in y new) (long a)) ≡ slices_of v (long a) ++ new ∷ []) (sym own.0) (ran_own y new (long a) own.1)))))))
+        ∙ (ap (λ z. z ++ new ∷ []) (m b ∙ at b k) ∙ mine v w j own.0 own.1 own.2)))
     by true e false f =
         let j : t ≡ u = eqb-true t u e in
         let other : (x.actor == b) ≡ false = ne_eqb x.actor b (λ v. eqb-false b a f (sym v ∙ i)) in
         ap (λ z. on_actor b t ((trails z).steps ++ x ∷ [])) (sym j) ∙ (on_more b t (trails t).steps x ∙ (rw other (append-nil (on_actor b t (trails t).steps)) ∙ m b))
     by false e true f =
         let k : b ≡ a = eqb-true b a f in
-        m b ∙ (ap (λ z. own_slices t (slices_of who (long z))) k ∙ sym (ran_other who y t new (long a) (ne_eqb u t (λ v. eqb-false t u e (sym v)))))
+        m b ∙ (at b k ∙ others v w (ne_eqb u t (λ v. eqb-false t u e (sym v))))
     by false e false f = m b
 
 -- ---- the two premises of a rollback: a batch that is not aborted stands ahead of the cut, and so does a live ACT
@@ -319,20 +350,50 @@ who_stands t (e ∷ es) p h = by (is_entry_of t e) h (who_stands t es p)
         or_true true = refl
         or_true false = refl
 
+named_above : (low t : ℕ) (ps : List Pact) → PactsAscend low ps → list_any (λ p. p.tid == t) ps ≡ true → low ≤ t
+named_above low t [] a e = absurd (true≢false (sym e))
+named_above low t (p ∷ ps) a e = elim (or_cases (p.tid == t) (list_any (λ p. p.tid == t) ps) e) [ inl q ↦ omega (arith, a.0, eqb-true p.tid t q) | inr q ↦ omega (arith, a.0, named_above (p.tid + 1) t ps a.1 q) ]
+
+-- one that is not drawn yet has not read
+new_unread : {C : Type 0} (s : Machine C) (h : History) (t : ℕ) → Named s h → ReadBy s h → s.ring.next_tid ≤ t → (a : ℕ) → has_read (h.reads a) t ≡ false
+unfolding ReadBy
+new_unread s h t n rb l a = not_read a t s.book.acts (h.reads a) (false_from_ne_true (holds (reads_at a) (act_of t s.book.acts)) (λ q.
+    let x = one_is (reads_at a) (act_of t s.book.acts) q in
+    let f = all_found (λ x. Rattle.protocol_theorems.proofs.order.NamesKept.IsNamed s.ring.next_tid h.owners h.trails (OfAct x.tid) x.tid x.tx) (λ x. x.tid == t) s.book.acts x.0 n.acts x.1 in
+    omega (arith, f.0.low, eqb-true x.0.tid t f.1, l))) (rb a)
+
+-- who runs there is a reader where its entry is a reader's
+reads_who_on : (acts : List Act) (u : ℕ) (es : List Entry) (p : Entry → Bool) → AllByRecursion (LockOf acts) es → holds p (find (is_entry_of u) es) ≡ true → reads_who acts (who_on u es) ≡ holds is_reader_entry (find (is_entry_of u) es)
+reads_who_on acts u [] p l h = absurd (true≢false (sym h))
+reads_who_on acts u (BatchEntry b ∷ es) p l h = by (is_entry_of u (BatchEntry b)) h (reads_who_on acts u es p l.1)
+  where
+    by : (v : Bool) → holds p (if v then Some (BatchEntry b) else find (is_entry_of u) es) ≡ true → (holds p (find (is_entry_of u) es) ≡ true → reads_who acts (who_on u es) ≡ holds is_reader_entry (find (is_entry_of u) es))
+        → reads_who acts (if v then OfBatch b.bid else who_on u es) ≡ holds is_reader_entry (if v then Some (BatchEntry b) else find (is_entry_of u) es)
+    by true h k = refl
+    by false h k = k h
+reads_who_on acts u (ActEntry x ∷ es) p l h = by (is_entry_of u (ActEntry x)) h (reads_who_on acts u es p l.1)
+  where
+    by : (v : Bool) → holds p (if v then Some (ActEntry x) else find (is_entry_of u) es) ≡ true → (holds p (find (is_entry_of u) es) ≡ true → reads_who acts (who_on u es) ≡ holds is_reader_entry (find (is_entry_of u) es))
+        → reads_who acts (if v then OfAct x.tid else who_on u es) ≡ holds is_reader_entry (if v then Some (ActEntry x) else find (is_entry_of u) es)
+    by true h k = reader_of x.reader (act_of x.tid acts) l.0
+    by false h k = k h
+
 -- ---- over states
 
-pub kept : {C : Type 0} (w : Fixed C) (e : Event) (s : Machine C) (h : History) → IsAllowed w e s → LiveStay e s → settling.Settling w s → Placed w s h → Tracked w s h → FromDesk s → Named s h → Matched s h → Matched (after w e s) (grown w e s h)
-unfolding Matched Placed Tracked conditions grown
-kept w (Form k) s h ok l st p tr d n g = λ who t r. elim (runs_was w (Form k) s who t r) [ inl o ↦ old who t o | inr q ↦ new who t q ]
+-- who runs after the event, as the book has it before or as it has it now
+kept_for : {C : Type 0} (w : Fixed C) (e : Event) (s : Machine C) (h : History) → IsAllowed w e s → LiveStay e s → settling.Settling w s → Placed w s h → Tracked w s h → FromDesk s → Named s h → Locks s → ReadBy s h → Matched s h
+    → (who : Who) (t : ℕ) → runs (after w e s) who t ≡ true → (v : Bool) → (runs s who t ≡ true → v ≡ reads_who s.book.acts who) → Match v who t (grown w e s h).trails (grown w e s h).long (grown w e s h).reads
+unfolding Matched Placed Tracked Locks conditions grown
+kept_for w (Form j) s h ok l st p tr d n lo rb g = λ who t r v k. elim (runs_was w (Form j) s who t r) [ inl o ↦ old who t v o (k o) | inr q ↦ new who t v q ]
   where
-    old : (who : Who) (t : ℕ) → runs s who t ≡ true → Match who t (begun (ring.next_pacts w.text s.ring) h.trails) h.long
-    old who t o = λ a. ap (λ z. on_actor a t z.steps) (begun_below (ring.next_pacts w.text s.ring) s.ring.next_tid t h.trails (new_tids s.ring.next_tid s.ring.next_tid _ (omega arith)) (runs_named s h who t n o).0) ∙ g who t o a
+    old : (who : Who) (t : ℕ) (v : Bool) → runs s who t ≡ true → v ≡ reads_who s.book.acts who → Match v who t (begun (ring.next_pacts w.text s.ring) h.trails) h.long h.reads
+    old who t v o k = λ a. ap (λ z. on_actor a t z.steps) (begun_below (ring.next_pacts w.text s.ring) s.ring.next_tid t h.trails (new_tids s.ring.next_tid s.ring.next_tid _ (omega arith)) (runs_named s h who t n o).0) ∙ subst (λ z. Match z who t h.trails h.long h.reads) (sym k) (g who t o) a
 
-    new : (who : Who) (t : ℕ) → IsNew w (Form k) s who t → Match who t (begun (ring.next_pacts w.text s.ring) h.trails) h.long
-    new (OfAct u) t q = absurd q.1
-    new (OfBatch j) t q = fresh (OfBatch j) t (begun (ring.next_pacts w.text s.ring) h.trails) h.long (begun_steps t (ring.next_pacts w.text s.ring) h.trails q.1)
-        (λ a. not_placed s.ring.next_bid j _ _ s.book.cascades (h.long a) (omega (arith, eqb-true k s.ring.next_bid ok.0, q.0)) (p a).fit)
-kept w (Admit u) s h ok l st p tr d n g = λ who t r. elim (runs_was w (Admit u) s who t r) [ inl o ↦ old who t o | inr q ↦ new who t q ]
+    new : (who : Who) (t : ℕ) (v : Bool) → IsNew w (Form j) s who t → Match v who t (begun (ring.next_pacts w.text s.ring) h.trails) h.long h.reads
+    new (OfAct u) t v q = absurd q.1
+    new (OfBatch i) t v q = fresh v (OfBatch i) t (begun (ring.next_pacts w.text s.ring) h.trails) h.long h.reads (begun_steps t (ring.next_pacts w.text s.ring) h.trails q.1)
+        (λ a. not_placed s.ring.next_bid i _ _ s.book.cascades (h.long a) (omega (arith, eqb-true j s.ring.next_bid ok.0, q.0)) (p a).fit) (new_unread s h t n rb (named_above s.ring.next_tid t (ring.next_pacts w.text s.ring) (new_tids s.ring.next_tid s.ring.next_tid _ (omega arith)) q.1))
+kept_for w (Admit u) s h ok l st p tr d n lo rb g = λ who t r v k. elim (runs_was w (Admit u) s who t r) [ inl o ↦ old who t v o (k o) | inr q ↦ new who t v q ]
   where
     trails : ℕ → Trail
     trails = with_at u (record { tx = Rattle.protocol.specs.OnPost.next_act s.ring; steps = [] }) h.trails
@@ -340,30 +401,30 @@ kept w (Admit u) s h ok l st p tr d n g = λ who t r. elim (runs_was w (Admit u)
     i : u ≡ s.ring.next_tid
     i = eqb-true u s.ring.next_tid ok.0
 
-    old : (who : Who) (t : ℕ) → runs s who t ≡ true → Match who t trails h.long
-    old who t o = λ a. ap (λ z. on_actor a t z.steps) (other t (ne_eqb t u (λ q. omega (arith, q, i, (runs_named s h who t n o).0)))) ∙ g who t o a
+    old : (who : Who) (t : ℕ) (v : Bool) → runs s who t ≡ true → v ≡ reads_who s.book.acts who → Match v who t trails h.long h.reads
+    old who t v o k = λ a. ap (λ z. on_actor a t z.steps) (other t (ne_eqb t u (λ q. omega (arith, q, i, (runs_named s h who t n o).0)))) ∙ subst (λ z. Match z who t h.trails h.long h.reads) (sym k) (g who t o) a
       where
         other : (t : ℕ) → (t == u) ≡ false → trails t ≡ h.trails t
         other t e = rw e refl
 
-    new : (who : Who) (t : ℕ) → IsNew w (Admit u) s who t → Match who t trails h.long
-    new (OfBatch j) t q = absurd q
-    new (OfAct v) t q = fresh (OfAct v) t trails h.long (rw (eq-eqb t u (sym q.1)) refl) (λ a. not_standing s.ring.next_tid v h.owners (h.long a) (omega (arith, i, q.0, q.1)) (n.standing a))
-kept w (Arrive k a) s h ok l st p tr d n g = λ who t r. elim (runs_was w (Arrive k a) s who t r) [ inl o ↦ carried who t a h.trails h.long _ (more_slices who (OfBatch k) (h.long a)) (g who t o) | inr q ↦ absurd (none who t q) ]
+    new : (who : Who) (t : ℕ) (v : Bool) → IsNew w (Admit u) s who t → Match v who t trails h.long h.reads
+    new (OfBatch j) t v q = absurd q
+    new (OfAct y) t v q = fresh v (OfAct y) t trails h.long h.reads (rw (eq-eqb t u (sym q.1)) refl) (λ a. not_standing s.ring.next_tid y h.owners (h.long a) (omega (arith, i, q.0, q.1)) (n.standing a)) (new_unread s h t n rb (omega (arith, i, q.1)))
+kept_for w (Arrive k a) s h ok l st p tr d n lo rb g = λ who t r v same. elim (runs_was w (Arrive k a) s who t r) [ inl o ↦ carried v who t a h.trails h.long h.reads _ (more_slices who (OfBatch k) (h.long a)) (subst (λ z. Match z who t h.trails h.long h.reads) (sym (same o)) (g who t o)) | inr q ↦ absurd (none who t q) ]
   where
     none : (who : Who) (t : ℕ) → IsNew w (Arrive k a) s who t → ⊥
     none (OfBatch j) t q = q
     none (OfAct j) t q = q.1
-kept w (Ask u a) s h ok l st p tr d n g = λ who t r. elim (runs_was w (Ask u a) s who t r) [ inl o ↦ carried who t a h.trails h.long _ (asks_slices who u (book.in_the_way u (cell_at s a).entries) (h.long a)) (g who t o) | inr q ↦ absurd (none who t q) ]
+kept_for w (Ask u a) s h ok l st p tr d n lo rb g = λ who t r v k. elim (runs_was w (Ask u a) s who t r) [ inl o ↦ carried v who t a h.trails h.long h.reads _ (asks_slices who u (book.in_the_way (lock_of u s.book.acts) (cell_at s a).entries) (h.long a)) (subst (λ z. Match z who t h.trails h.long h.reads) (sym (k o)) (g who t o)) | inr q ↦ absurd (none who t q) ]
   where
     none : (who : Who) (t : ℕ) → IsNew w (Ask u a) s who t → ⊥
     none (OfBatch j) t q = q
     none (OfAct j) t q = q.1
-kept w (Run u a) s h ok l st p tr d n g = λ who t r. elim (runs_was w (Run u a) s who t r) [
+kept_for w (Run u a) s h ok l st p tr d n lo rb g = λ who t r v k. elim (runs_was w (Run u a) s who t r) [
   | inl o ↦
-      runs_on who (who_on u (cell_at s a).entries) t u a (record { actor = a; found = (cell_at s a).state; left = (cell.slice_run w.code u a (cell_at s a)).state }) h.trails h.long refl
-      (λ e. (sym (runs_named s h who t n o).1 ∙ (ap h.owners e ∙ runs_for_owner s h u a (is_turn_of u) (tr a).stands (d.entries a) n turn), subst (λ ks. is_key_among (who_on u (cell_at s a).entries) ks ≡ true) (tr a).stands (who_stands u (cell_at s a).entries (is_turn_of u) turn)))
-      (g who t o)
+      runs_on v (cell.reads_on u (cell_at s a).entries) who (who_on u (cell_at s a).entries) t u a (record { actor = a; found = (cell_at s a).state; left = (cell.slice_run w.code u a (cell_at s a)).state }) h.trails h.long h.reads refl
+      (λ e. (is_owner who t e o, subst (λ ks. is_key_among (who_on u (cell_at s a).entries) ks ≡ true) (tr a).stands (who_stands u (cell_at s a).entries (is_turn_of u) turn), k o ∙ (ap (reads_who s.book.acts) (is_owner who t e o) ∙ reads_who_on s.book.acts u (cell_at s a).entries (is_turn_of u) (lo a) turn)))
+      (subst (λ z. Match z who t h.trails h.long h.reads) (sym (k o)) (g who t o))
   | inr q ↦ absurd (none who t q)
 ]
   where
@@ -373,17 +434,20 @@ kept w (Run u a) s h ok l st p tr d n g = λ who t r. elim (runs_was w (Run u a)
 
     turn : holds (is_turn_of u) (find (is_entry_of u) (cell_at s a).entries) ≡ true
     turn = held (λ c. holds (is_turn_of u) (find (is_entry_of u) c.entries)) s.cells a no_cell ok.1.1.0
-kept w (Complete k a) s h ok l st p tr d n g = λ who t r. elim (runs_was w (Complete k a) s who t r) [ inl o ↦ carried who t a h.trails h.long _ (completed_slices who k (h.long a)) (g who t o) | inr q ↦ absurd (none who t q) ]
+
+    is_owner : (who : Who) (t : ℕ) → t ≡ u → runs s who t ≡ true → who ≡ who_on u (cell_at s a).entries
+    is_owner who t e o = sym (runs_named s h who t n o).1 ∙ (ap h.owners e ∙ runs_for_owner s h u a (is_turn_of u) (tr a).stands (d.entries a) n turn)
+kept_for w (Complete k a) s h ok l st p tr d n lo rb g = λ who t r v same. elim (runs_was w (Complete k a) s who t r) [ inl o ↦ carried v who t a h.trails h.long h.reads _ (completed_slices who k (h.long a)) (subst (λ z. Match z who t h.trails h.long h.reads) (sym (same o)) (g who t o)) | inr q ↦ absurd (none who t q) ]
   where
     none : (who : Who) (t : ℕ) → IsNew w (Complete k a) s who t → ⊥
     none (OfBatch j) t q = q
     none (OfAct j) t q = q.1
-kept w (Rollback a) s h ok l st p tr d n g = λ who t r. elim (runs_was w (Rollback a) s who t r) [ inl o ↦ carried who t a h.trails h.long _ (staying_slices who s.book.cascades (h.long a) (stays_ahead w s h who t a st p tr l o)) (g who t o) | inr q ↦ absurd (none who t q) ]
+kept_for w (Rollback a) s h ok l st p tr d n lo rb g = λ who t r v k. elim (runs_was w (Rollback a) s who t r) [ inl o ↦ carried v who t a h.trails h.long h.reads _ (staying_slices who s.book.cascades (h.long a) (stays_ahead w s h who t a st p tr l o)) (subst (λ z. Match z who t h.trails h.long h.reads) (sym (k o)) (g who t o)) | inr q ↦ absurd (none who t q) ]
   where
     none : (who : Who) (t : ℕ) → IsNew w (Rollback a) s who t → ⊥
     none (OfBatch j) t q = q
     none (OfAct j) t q = q.1
-kept w (Finish u a) s h ok l st p tr d n g = λ who t r. elim (runs_was w (Finish u a) s who t r) [ inl o ↦ carried who t a h.trails h.long _ (leaves who (cell.is_undone_act (act_of u s.book.acts)) (finishes_other s u t who ok.0 o)) (g who t o) | inr q ↦ absurd (none who t q) ]
+kept_for w (Finish u a) s h ok l st p tr d n lo rb g = λ who t r v k. elim (runs_was w (Finish u a) s who t r) [ inl o ↦ carried v who t a h.trails h.long h.reads _ (leaves who (is_traceless (act_of u s.book.acts)) (finishes_other s u t who ok.0 o)) (subst (λ z. Match z who t h.trails h.long h.reads) (sym (k o)) (g who t o)) | inr q ↦ absurd (none who t q) ]
   where
     none : (who : Who) (t : ℕ) → IsNew w (Finish u a) s who t → ⊥
     none (OfBatch j) t q = q
@@ -392,13 +456,25 @@ kept w (Finish u a) s h ok l st p tr d n g = λ who t r. elim (runs_was w (Finis
     leaves : (who : Who) (b : Bool) → is_who (OfAct u) who ≡ false → slices_of who (if b then without_standing (OfAct u) (h.long a) else map (left_for_good (OfAct u)) (h.long a)) ≡ slices_of who (h.long a)
     leaves who true e = without_slices who (OfAct u) (h.long a) e
     leaves who false e = left_slices who (OfAct u) (h.long a) e
-kept w (Trim k a) s h ok l st p tr d n g = λ who t r. elim (runs_was w (Trim k a) s who t r) [ inl o ↦ carried who t a h.trails h.long _ (left_slices who (OfBatch k) (h.long a) (trims_other s k t _ who ok.0 o)) (g who t o) | inr q ↦ absurd (none who t q) ]
+kept_for w (Trim k a) s h ok l st p tr d n lo rb g = λ who t r v same. elim (runs_was w (Trim k a) s who t r) [ inl o ↦ carried v who t a h.trails h.long h.reads _ (left_slices who (OfBatch k) (h.long a) (trims_other s k t _ who ok.0 o)) (subst (λ z. Match z who t h.trails h.long h.reads) (sym (same o)) (g who t o)) | inr q ↦ absurd (none who t q) ]
   where
     none : (who : Who) (t : ℕ) → IsNew w (Trim k a) s who t → ⊥
     none (OfBatch j) t q = q
     none (OfAct j) t q = q.1
-kept w e s h ok l st p tr d n g = λ who t r. elim (runs_was w e s who t r) [ inl o ↦ g who t o | inr q ↦ absurd (none who t q) ]
+kept_for w e s h ok l st p tr d n lo rb g = λ who t r v k. elim (runs_was w e s who t r) [ inl o ↦ subst (λ z. Match z who t h.trails h.long h.reads) (sym (k o)) (g who t o) | inr q ↦ absurd (none who t q) ]
   where
     none : (who : Who) (t : ℕ) → IsNew w e s who t → ⊥
     none (OfBatch j) t q = q
     none (OfAct j) t q = q.1
+
+pub kept : {C : Type 0} (w : Fixed C) (e : Event) (s : Machine C) (h : History) → IsAllowed w e s → LiveStay e s → settling.Settling w s → Placed w s h → Tracked w s h → FromDesk s → Named s h → Locks s → ReadBy s h → Matched s h → Matched (after w e s) (grown w e s h)
+unfolding Matched
+kept w e s h ok l st p tr d n lo rb g = λ who t r. kept_for w e s h ok l st p tr d n lo rb g who t r (reads_who (after w e s).book.acts who) (same who t)
+  where
+    same : (who : Who) (t : ℕ) → runs s who t ≡ true → reads_who (after w e s).book.acts who ≡ reads_who s.book.acts who
+    same (OfBatch k) t o = refl
+    same (OfAct u) t o =
+        let x = one_is lives (act_of u s.book.acts) (and_parts (u == t) (holds lives (act_of u s.book.acts)) o).1 in
+        let was : holds (λ y. agree y.reader x.0.reader) (act_of u s.book.acts) ≡ true = subst (λ z. holds (λ y. agree y.reader x.0.reader) z ≡ true) (sym x.1) (agree_same x.0.reader) in
+        reader_of x.0.reader (act_of u (after w e s).book.acts) (grown_holds (λ y. agree y.reader x.0.reader) s.book.acts (after w e s).book.acts u (λ y z k q. subst (λ v. agree v x.0.reader ≡ true) (sym k.reader) q) (acts_grow w e s) was)
+        ∙ sym (reader_of x.0.reader (act_of u s.book.acts) was)

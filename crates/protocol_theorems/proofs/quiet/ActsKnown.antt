@@ -5,12 +5,12 @@ use Rattle.std.proofs.Common.{sym, subst, inl, inr, ◌∙◌}
 use Rattle.std.proofs.lemmas.List.{get_or-set_same}
 use Rattle.std.proofs.lemmas.Bool.{and_parts, or_left, or_right, true≢false, eqb-true, eq-eqb}
 use Rattle.snap_base.specs.declared.verdicts.Verdict.{Verdict}
-use Rattle.protocol.specs.Fixed.{Fixed, Next, Go, Ended, base}
+use Rattle.protocol.specs.Fixed.{Fixed, Next, Go, Ended, base, is_reader}
 use Rattle.protocol.specs.Records.{LogRecord, ActPrepare, is_prepare, is_act_commit}
 use Rattle.protocol.specs.Rivals.{Lock}
 use Rattle.protocol.specs.Parts.{Act, Book, Joined, Pair, Status, Live, Doomed, Decided, Sealed, Outcome, Cell, Machine}
 use Rattle.protocol.specs.Events.{Event, Form, Admit, Arrive, Ask, End, Complete, Sync, Commit, Abort, Prepare, Vouch, Decide, Seal, Finish}
-use Rattle.protocol.specs.Words.{holds, is_empty, is_doomed, is_sealed, is_decided, is_live_status, is_value, is_live_act, act_of, has_act, outcome_of}
+use Rattle.protocol.specs.Words.{holds, is_empty, is_doomed, is_sealed, is_decided, is_live_status, is_value, is_live_act, act_of, has_act, outcome_of, lock_of, floor_at}
 use Rattle.protocol.specs.Spread.{raised, carried, crossed_out, is_crossed}
 use Rattle.protocol.specs.Conditions.{IsAllowed, conditions}
 use Rattle.protocol.specs.Effects.{after, cell_at, log_at, no_log, added, act_commit, synced}
@@ -151,12 +151,12 @@ lowered_fit w s t x m n h = record { ended = h.ended; left = h.left; prepared = 
 joined_fit : {C : Type 0} (w : Fixed C) (s : Machine C) (t a m : ℕ) (x : Act) → Fit w s t x → Fit w s t (book.joins a m x)
 joined_fit w s t a m x h = record { ended = h.ended; left = all_join _ x.places _ h.left (λ e. absurd (true≢false (sym e)), tt); prepared = all_join _ x.places _ h.prepared (λ e. absurd (true≢false (sym e)), tt); committed = h.committed }
 
-asked : {C : Type 0} (w : Fixed C) (s : Machine C) (o : Option ℕ) (group : List Lock) (t a : ℕ) (c : Cell C) (b : Book) → EachAct (Fit w s) b.acts → EachAct (Fit w s) (book.asked_acts o group t a (max c.last c.floor) b)
+asked : {C : Type 0} (w : Fixed C) (s : Machine C) (o : Option ℕ) (group : List Lock) (t a : ℕ) (c : Cell C) (b : Book) → EachAct (Fit w s) b.acts → EachAct (Fit w s) (book.asked_acts o group t a (max c.last (floor_at t b.acts c)) b)
 asked w s (Some older) group t a c b h = each_changed (Fit w s) (Fit w s) t (book.doomed_by (died a older t)) b.acts (λ x. refl) (λ u x p. p) (λ x e p. doom w s t x x.n (is_live_status x.status) (died a older t) p) h
 asked w s None group t a c b h =
     each_map (Fit w s) (Fit w s) (crossed_out a) _ (λ x. refl) (λ u x e p. doom w s u x x.n (is_crossed x) (Rattle.protocol.specs.Verdicts.out_of_order x.m (Rattle.std.specs.Prelude.unwrap_or x.n 0) a) p)
     (each_raised (Fit w s) (b.pairs ++ book.new_pairs t a group b.acts) _ (λ u m x p. lowered_fit w s u x m x.n p)
-    (each_changed (Fit w s) (Fit w s) t (book.joins a (max c.last c.floor)) b.acts (λ x. refl) (λ u x p. p) (λ x e p. joined_fit w s t a (max c.last c.floor) x p) h))
+    (each_changed (Fit w s) (Fit w s) t (book.joins a (max c.last (floor_at t b.acts c))) b.acts (λ x. refl) (λ u x p. p) (λ x e p. joined_fit w s t a (max c.last (floor_at t b.acts c)) x p) h))
 
 noted : {C : Type 0} (w : Fixed C) (s : Machine C) (t : ℕ) (n : Next C) (xs : List Act) → EachAct (Fit w s) xs → EachAct (Fit w s) (book.noted_for t n xs)
 noted w s t (Go b d) xs h = h
@@ -195,11 +195,11 @@ in_logs w s n l e = subst (λ z. n % w.text.logs < z) (sym e) (Rattle.std.proofs
 
 kept : {C : Type 0} (w : Fixed C) (e : Event) (s : Machine C) → 1 ≤ w.text.logs → length s.logs ≡ w.text.logs → IsAllowed w e s → EachAct (Fit w (after w e s)) s.book.acts → AllFit w (after w e s)
 unfolding AllFit conditions after
-kept w (Admit t) s l g ok h = each_more (Fit w (after w (Admit t) s)) s.book.acts (book.new_act t (next_act s.ring) (base w.text)) (record { ended = λ e. absurd (true≢false (sym e)); left = tt; prepared = tt; committed = λ e. absurd (true≢false (sym e)) }) h
+kept w (Admit t) s l g ok h = each_more (Fit w (after w (Admit t) s)) s.book.acts (book.new_act t (next_act s.ring) (is_reader w (next_act s.ring)) (base w.text)) (record { ended = λ e. absurd (true≢false (sym e)); left = tt; prepared = tt; committed = λ e. absurd (true≢false (sym e)) }) h
 kept w (Arrive k a) s l g ok h =
     each_map (Fit w (after w (Arrive k a) s)) (Fit w (after w (Arrive k a) s)) (crossed_out a) _ (λ x. refl) (λ u x e p. doom w (after w (Arrive k a) s) u x x.n (is_crossed x) (Rattle.protocol.specs.Verdicts.out_of_order x.m (Rattle.std.specs.Prelude.unwrap_or x.n 0) a) p)
     (each_map (Fit w (after w (Arrive k a) s)) (Fit w (after w (Arrive k a) s)) (book.lowered k (book.tids_on (cell_at s a).entries)) s.book.acts (λ x. refl) (λ u x e p. lowered_fit w (after w (Arrive k a) s) u x x.m _ p) h)
-kept w (Ask t a) s l g ok h = asked w (after w (Ask t a) s) (book.in_the_way t (cell_at s a).entries) (book.met t (cell_at s a).entries) t a (cell_at s a) s.book h
+kept w (Ask t a) s l g ok h = asked w (after w (Ask t a) s) (book.in_the_way (lock_of t s.book.acts) (cell_at s a).entries) (book.met (lock_of t s.book.acts) (cell_at s a).entries) t a (cell_at s a) s.book h
 kept w (End t a) s l g ok h = ended_acts w (after w (End t a) s) (has_act t (cell_at s a).entries) t (outcome_of t (cell_at s a).outbox) s.book.acts h
 kept w (Abort k) s l g ok h = each_map (Fit w (after w (Abort k) s)) (Fit w (after w (Abort k) s)) (book.cascaded k (book.failed_tx (book.why k s.desk))) s.book.acts (λ x. refl) (λ u x e p. doom w (after w (Abort k) s) u x None _ (Rattle.protocol.specs.Verdicts.taken_along k (book.failed_tx (book.why k s.desk))) p) h
 kept w (Prepare t a) s l g ok h = each_changed (Fit w (after w (Prepare t a) s)) (Fit w (after w (Prepare t a) s)) t (book.marked a book.is_prepared) s.book.acts (λ x. refl) (λ u x p. p) (λ x e p. record {

@@ -5,11 +5,12 @@ use Rattle.std.proofs.Common.{arith, sym, ap, subst, inl, inr, ◌∙◌}
 use Rattle.std.proofs.lemmas.List.{length-replicate}
 use Rattle.std.proofs.lemmas.Bool.{and_parts, or_cases, or_left, or_right, true≢false, eqb-true, eq-eqb, cases_Bool, not-true}
 use Rattle.snap_base.specs.declared.transactions.TxResult.{TxResult}
+use Rattle.protocol.specs.Rivals.{Lock}
 use Rattle.protocol.specs.Fixed.{Fixed, IsText, IsTxOf, Next, Go, Ended, Code, tx_at, no_tx, is_pact, root, declared}
 use Rattle.protocol.specs.Records.{BatchComplete, BatchDone, is_info, is_complete, is_commit}
 use Rattle.protocol.specs.Parts.{Batch, Declared, Stage, Formed, Committing, Settled, PlacedBatch, SubBatch, Cascade, Entry, BatchEntry, ActEntry, Outcome, Machine}
 use Rattle.protocol.specs.Events.{Event, Submit, Form, Arrive, Ask, Take, Run, Send, End, Close, Complete, Note, Commit, Settle, Abort, Rollback, Finish, Trim}
-use Rattle.protocol.specs.Words.{holds, is_empty, values_of, is_among, below, is_open, is_formed, is_settled, is_committing, is_next_to_commit, is_durable, batch_of, declared_of, sub_of, has_act, outcome_of, is_batch_entry, is_act_entry, who_of}
+use Rattle.protocol.specs.Words.{holds, is_empty, values_of, is_among, below, is_open, is_formed, is_settled, is_committing, is_next_to_commit, is_durable, batch_of, declared_of, sub_of, has_act, outcome_of, is_batch_entry, is_act_entry, who_of, lock_of}
 use Rattle.protocol.specs.Conditions.{IsAllowed, conditions, queue}
 use Rattle.protocol.specs.Effects.{after, cell_at, no_cell, no_log, log_at}
 use Rattle.protocol.specs.Numbers.{times, one_if}
@@ -306,7 +307,7 @@ new_written : {C : Type 0} (w : Fixed C) (s : Machine C) (a k : ℕ) (o : Option
 new_written w s a k None = tt
 new_written w s a k (Some m) = (λ d. absurd (true≢false (sym d)), tt)
 
-act_written : {C : Type 0} (w : Fixed C) (s : Machine C) (a t : ℕ) (o : Option ℕ) → AllByRecursion (Written w s a) (cell.act_entries t o)
+act_written : {C : Type 0} (w : Fixed C) (s : Machine C) (a : ℕ) (t : Lock) (o : Option ℕ) → AllByRecursion (Written w s a) (cell.act_entries t o)
 act_written w s a t None = (tt, tt)
 act_written w s a t (Some x) = tt
 
@@ -329,7 +330,7 @@ ran_written w s a t false es h = h
 cells_written : {C : Type 0} (w : Fixed C) (e : Event) (s : Machine C) → 1 ≤ w.text.logs → length s.logs ≡ w.text.logs → ((a : ℕ) → AllByRecursion (Written w (after w e s) a) (cell_at s a).entries) → AllWritten w (after w e s)
 unfolding AllWritten after
 cells_written w (Arrive k a) s l g h = one_of (λ b c. AllByRecursion (Written w (after w (Arrive k a) s) b) c.entries) no_cell s.cells a (cell.batch_placed k (sub_of k a s.post.subs) (cell_at s a)) (λ q. all_join _ (cell_at s a).entries _ q (new_written w (after w (Arrive k a) s) a k (sub_of k a s.post.subs))) h
-cells_written w (Ask t a) s l g h = one_of (λ b c. AllByRecursion (Written w (after w (Ask t a) s) b) c.entries) no_cell s.cells a _ (λ q. all_join _ (cell_at s a).entries _ q (act_written w (after w (Ask t a) s) a t (book.in_the_way t (cell_at s a).entries))) h
+cells_written w (Ask t a) s l g h = one_of (λ b c. AllByRecursion (Written w (after w (Ask t a) s) b) c.entries) no_cell s.cells a _ (λ q. all_join _ (cell_at s a).entries _ q (act_written w (after w (Ask t a) s) a (lock_of t s.book.acts) (book.in_the_way (lock_of t s.book.acts) (cell_at s a).entries))) h
 cells_written w (Take t a) s l g h = one_of (λ b c. AllByRecursion (Written w (after w (Take t a) s) b) c.entries) no_cell s.cells a _ (λ q. q) h
 cells_written w (Run t a) s l g h = one_of (λ b c. AllByRecursion (Written w (after w (Run t a) s) b) c.entries) no_cell s.cells a (cell.slice_run w.code t a (cell_at s a)) (λ q. ran_written w (after w (Run t a) s) a t (cell.is_done_after w.code a (cell.slice_of w.code t (cell_at s a))) (cell_at s a).entries q) h
 cells_written w (Send t a) s l g h = one_of (λ b c. AllByRecursion (Written w (after w (Send t a) s) b) c.entries) no_cell s.cells a _ (λ q. q) h

@@ -4,10 +4,11 @@ use Rattle.std.specs.List.{AllByRecursion, list_any}
 use Rattle.std.proofs.Common.{sym, ap, subst, inl, inr, ◌∙◌}
 use Rattle.std.proofs.lemmas.List.{append-nil}
 use Rattle.std.proofs.lemmas.Bool.{true≢false, eqb-true, eq-eqb, or_cases, or_left, or_right, or_parts, and_parts}
+use Rattle.protocol.specs.Rivals.{Lock}
 use Rattle.protocol.specs.Fixed.{Fixed, Sliced}
 use Rattle.protocol.specs.Parts.{Batch, Pact, Cascade, Slot, ControlMessage, Waiting, Entry, BatchEntry, ActEntry, Cell, Machine, Stage, Formed, Committing, Settled}
 use Rattle.protocol.specs.Events.{Event, Arrive, Ask, Take, Run, Send, End, Close, Complete, Rollback, Finish, Trim}
-use Rattle.protocol.specs.Words.{holds, names_pact, names_slot, is_settled, is_formed, batch_of, declared_of, who_of, is_entry_of, is_act_entry, is_batch_entry, has_entry, control_of, waiting_of, sub_of}
+use Rattle.protocol.specs.Words.{holds, names_pact, names_slot, is_settled, is_formed, batch_of, declared_of, who_of, is_entry_of, is_act_entry, is_batch_entry, has_entry, control_of, waiting_of, sub_of, lock_of}
 use Rattle.protocol.specs.Conditions.{IsAllowed, conditions}
 use Rattle.protocol.specs.Effects.{after, cell_at, no_cell}
 use Rattle.protocol.specs.OnBook as book
@@ -45,9 +46,9 @@ join : (u : ℕ) (es fs : List Entry) → has_entry u es ≡ true → has_entry 
 join u [] fs h = absurd (true≢false (sym h))
 join u (e ∷ es) fs h = elim (or_cases (is_entry_of u e) (has_entry u es) h) [ inl q ↦ or_left (is_entry_of u e) _ q | inr q ↦ or_right (is_entry_of u e) _ (join u es fs q) ]
 
-own : (t : ℕ) (es : List Entry) → has_entry t (es ++ ActEntry (record { tid = t }) ∷ []) ≡ true
-own t [] = or_left (t == t) _ (eq-eqb t t refl)
-own t (e ∷ es) = or_right (is_entry_of t e) _ (own t es)
+own : (t : Lock) (es : List Entry) → has_entry t.tid (es ++ ActEntry t ∷ []) ≡ true
+own t [] = or_left (t.tid == t.tid) _ (eq-eqb t.tid t.tid refl)
+own t (e ∷ es) = or_right (is_entry_of t.tid e) _ (own t es)
 
 slots_done : (u t : ℕ) (ss : List Slot) → list_any (λ s. s.tid == u) (map (cell.done_if t) ss) ≡ list_any (λ s. s.tid == u) ss
 slots_done u t [] = refl
@@ -116,8 +117,8 @@ came {C} es t cs (Some m) e h = (subst (λ z. has_entry z es ≡ true) (sym (tid
         by true q e r = let i : x ≡ m = cc e in subst (λ z. z.tid ≡ t) i (eqb-true x.tid t q)
         by false q e r = r e
 
-ask : {C : Type 0} (t : ℕ) (o : Option ℕ) (es : List Entry) (cs : List (ControlMessage C)) (ins : List (Waiting C)) → In es (λ x. x.tid) ins → In (es ++ cell.act_entries t o) (λ x. x.tid) (ins ++ cell.where_placed o (control_of t cs))
-ask t None es cs ins h = all_join (λ x. has_entry x.tid (es ++ cell.act_entries t None) ≡ true) ins (cell.arrived (control_of t cs)) (in_more es (es ++ cell.act_entries t None) (λ x. x.tid) ins (λ u q. join u es (cell.act_entries t None) q) h) (came (es ++ cell.act_entries t None) t cs (control_of t cs) refl (own t es))
+ask : {C : Type 0} (t : Lock) (o : Option ℕ) (es : List Entry) (cs : List (ControlMessage C)) (ins : List (Waiting C)) → In es (λ x. x.tid) ins → In (es ++ cell.act_entries t o) (λ x. x.tid) (ins ++ cell.where_placed o (control_of t.tid cs))
+ask t None es cs ins h = all_join (λ x. has_entry x.tid (es ++ cell.act_entries t None) ≡ true) ins (cell.arrived (control_of t.tid cs)) (in_more es (es ++ cell.act_entries t None) (λ x. x.tid) ins (λ u q. join u es (cell.act_entries t None) q) h) (came (es ++ cell.act_entries t None) t.tid cs (control_of t.tid cs) refl (own t es))
 ask t (Some older) es cs ins h = rw (append-nil es, append-nil ins) h
 
 out_of : {C : Type 0} (es : List Entry) (t : ℕ) (o : Option (Sliced C)) → has_entry t es ≡ true → In es (λ x. x.tid) (cell.outcomes t o)
@@ -150,7 +151,7 @@ trims w s k a u ok v n p =
 pub boxed_kept : {C : Type 0} (w : Fixed C) (e : Event) (s : Machine C) → IsAllowed w e s → AllControls (NoneNoted s) s → Valued s → FromDesk s → Boxed s → Boxed (after w e s)
 unfolding Boxed after conditions
 boxed_kept w (Arrive k a) s ok n v d g = let new = (cell_at s a).entries ++ cell.batch_entries k (sub_of k a s.post.subs) in one_cell BoxedAt s.cells a _ (λ z. (in_more (cell_at s a).entries new (λ x. x.tid) (cell_at s a).inbox (λ u q. join u (cell_at s a).entries (cell.batch_entries k (sub_of k a s.post.subs)) q) z.0, in_more (cell_at s a).entries new (λ x. x.tid) (cell_at s a).outbox (λ u q. join u (cell_at s a).entries (cell.batch_entries k (sub_of k a s.post.subs)) q) z.1)) g
-boxed_kept w (Ask t a) s ok n v d g = one_cell BoxedAt s.cells a _ (λ z. (ask t (book.in_the_way t (cell_at s a).entries) (cell_at s a).entries s.post.controls (cell_at s a).inbox z.0, in_more (cell_at s a).entries ((cell_at s a).entries ++ cell.act_entries t (book.in_the_way t (cell_at s a).entries)) (λ x. x.tid) (cell_at s a).outbox (λ u q. join u (cell_at s a).entries (cell.act_entries t (book.in_the_way t (cell_at s a).entries)) q) z.1)) g
+boxed_kept w (Ask t a) s ok n v d g = one_cell BoxedAt s.cells a _ (λ z. (ask (lock_of t s.book.acts) (book.in_the_way (lock_of t s.book.acts) (cell_at s a).entries) (cell_at s a).entries s.post.controls (cell_at s a).inbox z.0, in_more (cell_at s a).entries ((cell_at s a).entries ++ cell.act_entries (lock_of t s.book.acts) (book.in_the_way (lock_of t s.book.acts) (cell_at s a).entries)) (λ x. x.tid) (cell_at s a).outbox (λ u q. join u (cell_at s a).entries (cell.act_entries (lock_of t s.book.acts) (book.in_the_way (lock_of t s.book.acts) (cell_at s a).entries)) q) z.1)) g
 boxed_kept w (Take t a) s ok n v d g = one_cell BoxedAt s.cells a _ (λ z. (all_join (λ x. has_entry x.tid (cell_at s a).entries ≡ true) (cell_at s a).inbox _ z.0 (came (cell_at s a).entries t s.post.controls (control_of t s.post.controls) refl (held (λ c. has_entry t c.entries) s.cells a no_cell ok.1.0)), z.1)) g
 boxed_kept w (Run t a) s ok n v d g =
     let q = cell.is_done_after w.code a (cell.slice_of w.code t (cell_at s a)) in

@@ -4,10 +4,11 @@ use Rattle.std.specs.List.{AllByRecursion, list_any}
 use Rattle.std.proofs.Common.{arith, sym, ap, subst, inl, inr, ◌∙◌}
 use Rattle.std.proofs.lemmas.List.{append-nil}
 use Rattle.std.proofs.lemmas.Bool.{true≢false, eqb-true, eq-eqb, or_cases, or_left, or_right, or_parts}
+use Rattle.protocol.specs.Rivals.{Lock}
 use Rattle.protocol.specs.Fixed.{Fixed, Sliced}
 use Rattle.protocol.specs.Parts.{Act, Batch, Cascade, Slot, ControlMessage, Waiting, Outcome, Entry, BatchEntry, ActEntry, Cell, Machine}
 use Rattle.protocol.specs.Events.{Event, Admit, Arrive, Ask, Take, Run, Send, End, Close, Complete, Rollback, Decide, Finish, Trim}
-use Rattle.protocol.specs.Words.{act_of, who_of, is_entry_of, is_act_entry, is_batch_entry, has_act, has_entry, control_of, waiting_of, outcome_of, sub_of}
+use Rattle.protocol.specs.Words.{act_of, who_of, is_entry_of, is_act_entry, is_batch_entry, has_act, has_entry, control_of, waiting_of, outcome_of, sub_of, lock_of}
 use Rattle.protocol.specs.Conditions.{IsAllowed, conditions}
 use Rattle.protocol.specs.Effects.{after, cell_at, no_cell}
 use Rattle.protocol.specs.OnBook as book
@@ -88,9 +89,9 @@ has_join : (u : ℕ) (es fs : List Entry) → has_act u es ≡ true → has_act 
 has_join u [] fs h = absurd (true≢false (sym h))
 has_join u (e ∷ es) fs h = elim (or_cases (is_act_entry u e) (has_act u es) h) [ inl q ↦ or_left (is_act_entry u e) _ q | inr q ↦ or_right (is_act_entry u e) _ (has_join u es fs q) ]
 
-has_last : (t : ℕ) (es : List Entry) → has_act t (es ++ ActEntry (record { tid = t }) ∷ []) ≡ true
-has_last t [] = or_left (t == t) _ (eq-eqb t t refl)
-has_last t (e ∷ es) = or_right (is_act_entry t e) _ (has_last t es)
+has_last : (t : Lock) (es : List Entry) → has_act t.tid (es ++ ActEntry t ∷ []) ≡ true
+has_last t [] = or_left (t.tid == t.tid) _ (eq-eqb t.tid t.tid refl)
+has_last t (e ∷ es) = or_right (is_act_entry t.tid e) _ (has_last t es)
 
 has_done : (u t : ℕ) (es : List Entry) → has_act u (map (cell.done_in t) es) ≡ has_act u es
 has_done u t [] = refl
@@ -148,8 +149,8 @@ came xs es t cs (Some m) e h = (subst (InPlace xs es) (sym (tid_of cs e)) h, tt)
         by true q e r = let i : x ≡ m = cc e in subst (λ z. z.tid ≡ t) i (eqb-true x.tid t q)
         by false q e r = r e
 
-ask : {C : Type 0} (xs : List Act) (t : ℕ) (o : Option ℕ) (es : List Entry) (cs : List (ControlMessage C)) (ins : List (Waiting C)) → Box xs es (λ x. x.tid) ins → Box xs (es ++ cell.act_entries t o) (λ x. x.tid) (ins ++ cell.where_placed o (control_of t cs))
-ask xs t None es cs ins h = all_join (λ x. InPlace xs (es ++ cell.act_entries t None) x.tid) ins (cell.arrived (control_of t cs)) (box_entries xs es (es ++ cell.act_entries t None) (λ x. x.tid) ins (λ u q. has_join u es (cell.act_entries t None) q) h) (came xs (es ++ cell.act_entries t None) t cs (control_of t cs) refl (inr (has_last t es)))
+ask : {C : Type 0} (xs : List Act) (t : Lock) (o : Option ℕ) (es : List Entry) (cs : List (ControlMessage C)) (ins : List (Waiting C)) → Box xs es (λ x. x.tid) ins → Box xs (es ++ cell.act_entries t o) (λ x. x.tid) (ins ++ cell.where_placed o (control_of t.tid cs))
+ask xs t None es cs ins h = all_join (λ x. InPlace xs (es ++ cell.act_entries t None) x.tid) ins (cell.arrived (control_of t.tid cs)) (box_entries xs es (es ++ cell.act_entries t None) (λ x. x.tid) ins (λ u q. has_join u es (cell.act_entries t None) q) h) (came xs (es ++ cell.act_entries t None) t.tid cs (control_of t.tid cs) refl (inr (has_last t es)))
 ask xs t (Some older) es cs ins h = rw (append-nil es, append-nil ins) h
 
 -- whose entry is there is no ACT, or has its own
@@ -191,8 +192,8 @@ entered_kept w (Arrive k a) s h ok one i d g = one_cell (EnteredAt (after w (Arr
   box_entries (after w (Arrive k a) s).book.acts (cell_at s a).entries ((cell_at s a).entries ++ cell.batch_entries k (sub_of k a s.post.subs)) (λ x. x.tid) (cell_at s a).outbox (λ u q. has_join u (cell_at s a).entries (cell.batch_entries k (sub_of k a s.post.subs)) q) z.1,
 )) (booked w (Arrive k a) s ok one g)
 entered_kept w (Ask t a) s h ok one i d g = one_cell (EnteredAt (after w (Ask t a) s).book.acts) s.cells a _ (λ z. (
-  ask (after w (Ask t a) s).book.acts t (book.in_the_way t (cell_at s a).entries) (cell_at s a).entries s.post.controls (cell_at s a).inbox z.0,
-  box_entries (after w (Ask t a) s).book.acts (cell_at s a).entries ((cell_at s a).entries ++ cell.act_entries t (book.in_the_way t (cell_at s a).entries)) (λ x. x.tid) (cell_at s a).outbox (λ u q. has_join u (cell_at s a).entries (cell.act_entries t (book.in_the_way t (cell_at s a).entries)) q) z.1,
+  ask (after w (Ask t a) s).book.acts (lock_of t s.book.acts) (book.in_the_way (lock_of t s.book.acts) (cell_at s a).entries) (cell_at s a).entries s.post.controls (cell_at s a).inbox z.0,
+  box_entries (after w (Ask t a) s).book.acts (cell_at s a).entries ((cell_at s a).entries ++ cell.act_entries (lock_of t s.book.acts) (book.in_the_way (lock_of t s.book.acts) (cell_at s a).entries)) (λ x. x.tid) (cell_at s a).outbox (λ u q. has_join u (cell_at s a).entries (cell.act_entries (lock_of t s.book.acts) (book.in_the_way (lock_of t s.book.acts) (cell_at s a).entries)) q) z.1,
 )) (booked w (Ask t a) s ok one g)
 entered_kept w (Take t a) s h ok one i d g = one_cell (EnteredAt s.book.acts) s.cells a _ (λ z.
     (all_join _ (cell_at s a).inbox _ z.0 (came s.book.acts (cell_at s a).entries t s.post.controls (control_of t s.post.controls) refl (placed s.book.acts a t s.desk.batches (cell_at s a).entries (λ k q. pact_no_act s h t k i q) (d.entries a) (held (λ c. has_entry t c.entries) s.cells a no_cell ok.1.0))), z.1)) g

@@ -9,7 +9,7 @@ use Rattle.protocol.specs.Facts.{Alone}
 use Rattle.protocol.specs.Fixed.{Fixed}
 use Rattle.protocol.specs.Parts.{Act, Pact, Status, Live, Doomed, Decided, Sealed, Who, OfBatch, OfAct, Entry, Machine}
 use Rattle.protocol.specs.Events.{Event, Form, Admit, Ask, Take, Run, Send, End, Rollback, DropControl, Finish}
-use Rattle.protocol.specs.Words.{holds, is_who, who_on, who_of, is_open, is_formed, is_doomed, is_sealed, is_aborted, is_live_status, names_pact, act_of, batch_of, is_entry_of, control_of, has_control_to, waiting_of, outcome_of}
+use Rattle.protocol.specs.Words.{holds, is_who, who_on, who_of, is_open, is_formed, is_doomed, is_sealed, is_aborted, is_live_status, names_pact, act_of, batch_of, is_entry_of, control_of, has_control_to, waiting_of, outcome_of, lock_of, floor_at}
 use Rattle.protocol.specs.Contents.{Controls, Inboxes, Outboxes}
 use Rattle.protocol.specs.Numbers.{times, one_if, tids_in, controls_in}
 use Rattle.protocol.specs.Conditions.{IsAllowed, conditions, is_given_up}
@@ -143,13 +143,13 @@ not_dropped {C} w Of finish s h who t g n i r q =
 -- ---- one event
 
 asks : {C : Type 0} (w : Fixed C) (Of : Tx → C → Type 0) (finish : C → List State → Alone) (s : Machine C) (h : History) (who : Who) (u t a : ℕ) (o : Option ℕ) → IsAllowed w (Ask t a) s → AllGood w Of finish s h → Named s h → runs s who u ≡ true
-    → (u ≡ t → holds lives (act_of t (book.asked_acts o (book.met t (cell_at s a).entries) t a (max (cell_at s a).last (cell_at s a).floor) s.book)) ≡ true) → 1 ≤ times u (controls_in s)
-    → 1 ≤ times u (tids_in (Rattle.protocol.specs.Words.without_control t s.post.controls) (map (λ c. c.inbox) (Rattle.protocol.specs.Effects.puts s a (cell.act_placed t o (control_of t s.post.controls) (cell_at s a)))) (map (λ c. c.outbox) (Rattle.protocol.specs.Effects.puts s a (cell.act_placed t o (control_of t s.post.controls) (cell_at s a)))))
+    → (u ≡ t → holds lives (act_of t (book.asked_acts o (book.met (lock_of t s.book.acts) (cell_at s a).entries) t a (max (cell_at s a).last (floor_at t s.book.acts (cell_at s a))) s.book)) ≡ true) → 1 ≤ times u (controls_in s)
+    → 1 ≤ times u (tids_in (Rattle.protocol.specs.Words.without_control t s.post.controls) (map (λ c. c.inbox) (Rattle.protocol.specs.Effects.puts s a (cell.act_placed (lock_of t s.book.acts) o (control_of t s.post.controls) (cell_at s a)))) (map (λ c. c.outbox) (Rattle.protocol.specs.Effects.puts s a (cell.act_placed (lock_of t s.book.acts) o (control_of t s.post.controls) (cell_at s a)))))
 unfolding conditions
-asks w Of finish s h who u t a None ok g n r l c = counts.comes u t (λ m. m.to == a) s a (cell.act_placed t None (control_of t s.post.controls) (cell_at s a)) (in_range _ s.cells a ok.1.1.0) ok.0 refl refl c
+asks w Of finish s h who u t a None ok g n r l c = counts.comes u t (λ m. m.to == a) s a (cell.act_placed (lock_of t s.book.acts) None (control_of t s.post.controls) (cell_at s a)) (in_range _ s.cells a ok.1.1.0) ok.0 refl refl c
 asks w Of finish s h who u t a (Some older) ok g n r l c = elim (cases_Bool (u == t)) [
   | inl e ↦ absurd (dead t _ s.book.acts (l (eqb-true u t e)))
-  | inr e ↦ counts.leaves_on u a [] (record s { post = post.control_taken t s.post }) (cell.act_placed t (Some older) (control_of t s.post.controls) (cell_at s a)) (in_range _ s.cells a ok.1.1.0) refl (append_all (cell_at s a).inbox) (all_stay (cell_at s a).outbox) (counts.drops_other u t s (eqb-false u t e) c)
+  | inr e ↦ counts.leaves_on u a [] (record s { post = post.control_taken t s.post }) (cell.act_placed (lock_of t s.book.acts) (Some older) (control_of t s.post.controls) (cell_at s a)) (in_range _ s.cells a ok.1.1.0) refl (append_all (cell_at s a).inbox) (all_stay (cell_at s a).outbox) (counts.drops_other u t s (eqb-false u t e) c)
 ]
   where
     all_stay : {X : Type 0} (xs : List X) → xs ≡ filter (λ x. not false) xs
@@ -168,7 +168,7 @@ pub still_one : {C : Type 0} (w : Fixed C) (Of : Tx → C → Type 0) (finish : 
 unfolding conditions after
 still_one w Of finish (Form k) s h who u ok g n i j r l c = inl (counts.moved_post u s.post.controls _ (map (λ c. c.inbox) s.cells) (map (λ c. c.outbox) s.cells) c)
 still_one w Of finish (Admit t) s h who u ok g n i j r l c = inl (counts.moved_post u s.post.controls _ (map (λ c. c.inbox) s.cells) (map (λ c. c.outbox) s.cells) c)
-still_one w Of finish (Ask t a) s h who u ok g n i j r l c = inl (asks w Of finish s h who u t a (book.in_the_way t (cell_at s a).entries) ok g n r (λ e. live_after (after w (Ask t a) s) who u t (act_owner s h (λ x. not (is_doomed x.status)) who t u n r ok.1.0 e) l) c)
+still_one w Of finish (Ask t a) s h who u ok g n i j r l c = inl (asks w Of finish s h who u t a (book.in_the_way (lock_of t s.book.acts) (cell_at s a).entries) ok g n r (λ e. live_after (after w (Ask t a) s) who u t (act_owner s h (λ x. not (is_doomed x.status)) who t u n r ok.1.0 e) l) c)
 still_one w Of finish (Take t a) s h who u ok g n i j r l c = inl (counts.comes u t (λ m. m.to == a) s a (cell.control_came (control_of t s.post.controls) (cell_at s a)) (in_range _ s.cells a ok.1.0) ok.0 refl refl c)
 still_one w Of finish (Run t a) s h who u ok g n i j r l c = inl (counts.runs_on w u t a s (in_range _ s.cells a ok.0) (held (λ c. is_some (waiting_of t c.inbox)) s.cells a no_cell ok.0) c)
 still_one w Of finish (Send t a) s h who u ok g n i j r l c = inl (counts.sends_on u t a s (in_range _ s.cells a ok.0) (held (λ c. holds (λ x. Rattle.protocol.specs.Words.is_going x.next) (outcome_of t c.outbox)) s.cells a no_cell ok.0) c)

@@ -5,11 +5,12 @@ use Rattle.std.proofs.Common.{arith, sym, ap, subst, inl, inr, ◌∙◌}
 use Rattle.std.proofs.lemmas.Bool.{true≢false, eqb-true, eq-eqb, ne_eqb, or_cases, or_left, or_right, and_parts, cases_Bool, cases_lt}
 use Rattle.snap_base.specs.declared.transactions.State.{State}
 use Rattle.snap_base.specs.declared.transactions.Tx.{Tx}
+use Rattle.protocol.specs.Rivals.{Lock}
 use Rattle.protocol.specs.Facts.{Alone, Facts}
 use Rattle.protocol.specs.Fixed.{Fixed, Next, Go, Ended, base, tx_at, root, is_pact, declared}
 use Rattle.protocol.specs.Parts.{Batch, Pact, SubBatch, Slot, Who, OfBatch, OfAct, Waiting, Entry, BatchEntry, ActEntry, Cell, Machine}
 use Rattle.protocol.specs.Events.{Event, Form, Admit, Arrive, Ask, Take, Run, Send, End, Close, Complete, Rollback, DropSub, Finish, Trim}
-use Rattle.protocol.specs.Words.{holds, is_among, below, names_pact, names_slot, batch_of, declared_of, sub_of, control_of, waiting_of}
+use Rattle.protocol.specs.Words.{holds, is_among, below, names_pact, names_slot, batch_of, declared_of, sub_of, control_of, waiting_of, lock_of}
 use Rattle.protocol.specs.Conditions.{IsAllowed, conditions, queue}
 use Rattle.protocol.specs.Effects.{after, cell_at, no_cell}
 use Rattle.protocol.specs.Runs.{opening, IsRun, reached}
@@ -296,7 +297,7 @@ unfolding FullEntry
 full_complete w next owners tr a k (BatchEntry b) h = h
 full_complete w next owners tr a k (ActEntry x) h = tt
 
-full_asked : {C : Type 0} (w : Fixed C) (next : ℕ) (owners : ℕ → Who) (tr : ℕ → Trail) (a t : ℕ) (o : Option ℕ) → AllByRecursion (FullEntry w next owners tr a) (cell.act_entries t o)
+full_asked : {C : Type 0} (w : Fixed C) (next : ℕ) (owners : ℕ → Who) (tr : ℕ → Trail) (a : ℕ) (t : Lock) (o : Option ℕ) → AllByRecursion (FullEntry w next owners tr a) (cell.act_entries t o)
 unfolding FullEntry
 full_asked w next owners tr a t None = (tt, tt)
 full_asked w next owners tr a t (Some x) = tt
@@ -313,7 +314,7 @@ cells_kept : {C : Type 0} (w : Fixed C) (e : Event) (s : Machine C) (h : History
     → (a : ℕ) → AllByRecursion (FullEntry w (after w e s).ring.next_tid (grown w e s h).owners (grown w e s h).trails a) (cell_at (after w e s) a).entries
 unfolding after grown
 cells_kept w (Arrive k a) s h m g = one_cell (At w s.ring.next_tid h.owners h.trails) s.cells a _ (λ z. all_join (FullEntry w s.ring.next_tid h.owners h.trails a) (cell_at s a).entries _ z (arrive_full w s.ring.next_tid h.owners h.trails k a s.post.subs (sub_of k a s.post.subs) refl m)) g
-cells_kept w (Ask t a) s h m g = one_cell (At w s.ring.next_tid h.owners h.trails) s.cells a _ (λ z. all_join (FullEntry w s.ring.next_tid h.owners h.trails a) (cell_at s a).entries _ z (full_asked w s.ring.next_tid h.owners h.trails a t (book.in_the_way t (cell_at s a).entries))) g
+cells_kept w (Ask t a) s h m g = one_cell (At w s.ring.next_tid h.owners h.trails) s.cells a _ (λ z. all_join (FullEntry w s.ring.next_tid h.owners h.trails a) (cell_at s a).entries _ z (full_asked w s.ring.next_tid h.owners h.trails a (lock_of t s.book.acts) (book.in_the_way (lock_of t s.book.acts) (cell_at s a).entries))) g
 cells_kept w (Take t a) s h m g = one_cell (At w s.ring.next_tid h.owners h.trails) s.cells a _ (λ z. z) g
 cells_kept w (Run t a) s h m g = one_cell (At w s.ring.next_tid h.owners (grown w (Run t a) s h).trails) s.cells a (cell.slice_run w.code t a (cell_at s a)) (λ z. full_run w s.ring.next_tid h.owners (grown w (Run t a) s h).trails a t (cell.is_done_after w.code a (cell.slice_of w.code t (cell_at s a))) (cell_at s a).entries z) g
 cells_kept w (Send t a) s h m g = one_cell (At w s.ring.next_tid h.owners h.trails) s.cells a _ (λ z. z) g

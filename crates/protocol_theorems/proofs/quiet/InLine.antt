@@ -5,20 +5,22 @@ use Rattle.std.specs.List.{AllByRecursion, list_any}
 use Rattle.std.proofs.Common.{arith, sym, ap, subst, inl, inr, ◌∙◌}
 use Rattle.std.proofs.lemmas.List.{append-nil}
 use Rattle.std.proofs.lemmas.Bool.{true≢false, eqb-true, eq-eqb, ne_eqb, lt-ltb, le-leb, or_cases, or_left, or_right, or_parts, and_parts, not-true, cases_Bool, cases_lt, false_from_ne_true}
+use Rattle.protocol.specs.Rivals.{Lock}
 use Rattle.protocol.specs.Fixed.{Fixed}
 use Rattle.protocol.specs.Parts.{Batch, Declared, Cascade, Who, OfBatch, OfAct, SubBatch, Entry, BatchEntry, ActEntry, Cell, Machine}
 use Rattle.protocol.specs.Events.{Event, Admit, Arrive, Ask, Take, Run, Send, End, Close, Complete, Abort, Rollback, Finish, Trim}
-use Rattle.protocol.specs.Words.{holds, is_among, is_who, is_act_who, is_aborted, is_settled, covers, act_of, batch_of, declared_of, batches_on, is_batch_entry, is_act_entry, sub_of}
+use Rattle.protocol.specs.Words.{holds, is_among, is_who, is_act_who, is_aborted, is_settled, covers, act_of, batch_of, declared_of, batches_on, is_batch_entry, is_act_entry, sub_of, lock_of}
 use Rattle.protocol.specs.Conditions.{IsAllowed, conditions}
 use Rattle.protocol.specs.Effects.{after, cell_at}
 use Rattle.protocol.specs.OnBook as book
 use Rattle.protocol.specs.OnCell as cell
-use Rattle.protocol.specs.History.{History, Slice, Ran, Stands, Gone, grown, not_run, ran_in, completed, left_for_good, without_standing, long_staying, asks, batches_in, batch_in, behind_too, with_at}
+use Rattle.protocol.specs.History.{History, Slice, Ran, Stands, Gone, grown, not_run, ran_in, completed, left_for_good, without_standing, long_staying, asks, batches_in, batch_in, behind_too, with_at, is_traceless}
 use Rattle.protocol_laws.specs.Tracks.{Key, keys_in, is_key_among}
 use Rattle.protocol_laws.specs.Places.{Ascends}
 use Rattle.protocol_laws.specs.Marks.{is_done}
 use Rattle.protocol_laws.specs.FromDesk.{is_declared}
 use Rattle.protocol_laws.specs.Befores.{gone_in}
+use Rattle.protocol_laws.proofs.machine.TrackLists
 use Rattle.protocol_laws.proofs.machine.TracksKept.{Tracked}
 use Rattle.protocol_laws.proofs.machine.PlacesKept.{Placed}
 use Rattle.protocol_laws.proofs.first.SettlingKept as settling
@@ -183,11 +185,11 @@ trims_none w Of finish s h k a ok g =
 pub free_kept : {C : Type 0} (w : Fixed C) (Of : Rattle.snap_base.specs.declared.transactions.Tx.Tx → C → Type 0) (finish : C → List Rattle.snap_base.specs.declared.transactions.State.State → Rattle.protocol.specs.Facts.Alone) (e : Event) (s : Machine C) (h : History) → IsAllowed w e s → AllGood w Of finish s h → AllFree s h → AllFree (after w e s) (grown w e s h)
 unfolding AllFree grown
 free_kept w Of finish (Arrive k a) s h ok g i = beside_carried (λ b rs. FreeActs rs) a _ h.long (free_more (OfBatch k) (h.long a)) i
-free_kept w Of finish (Ask t a) s h ok g i = beside_carried (λ b rs. FreeActs rs) a _ h.long (free_ask t (book.in_the_way t (cell_at s a).entries) (h.long a)) i
-free_kept w Of finish (Run t a) s h ok g i = beside_carried (λ b rs. FreeActs rs) a _ h.long (free_ran _ _ (h.long a)) i
+free_kept w Of finish (Ask t a) s h ok g i = beside_carried (λ b rs. FreeActs rs) a _ h.long (free_ask t (book.in_the_way (lock_of t s.book.acts) (cell_at s a).entries) (h.long a)) i
+free_kept w Of finish (Run t a) s h ok g i = beside_carried (λ b rs. FreeActs rs) a _ h.long (λ x. TrackLists.on_reads FreeActs (cell.reads_on t (cell_at s a).entries) _ _ (h.long a) (λ y. free_ran _ _ (h.long a) y) x) i
 free_kept w Of finish (Complete k a) s h ok g i = beside_carried (λ b rs. FreeActs rs) a _ h.long (free_completed k (h.long a)) i
 free_kept w Of finish (Rollback a) s h ok g i = beside_carried (λ b rs. FreeActs rs) a _ h.long (free_staying s.book.cascades (h.long a)) i
-free_kept w Of finish (Finish t a) s h ok g i = beside_carried (λ b rs. FreeActs rs) a _ h.long (free_finish t (cell.is_undone_act (act_of t s.book.acts)) (h.long a)) i
+free_kept w Of finish (Finish t a) s h ok g i = beside_carried (λ b rs. FreeActs rs) a _ h.long (free_finish t (is_traceless (act_of t s.book.acts)) (h.long a)) i
 free_kept w Of finish (Trim k a) s h ok g i = beside_carried (λ b rs. FreeActs rs) a _ h.long (free_batch k (h.long a) (trims_none w Of finish s h k a ok g)) i
 free_kept w Of finish e s h ok g i = i
 
@@ -239,7 +241,7 @@ full_arrive f cs k (ActEntry x ∷ es) o m h = (
     only None e = absurd (true≢false (sym e))
     only {j} (Some x) e = elim (or_cases (k == j) false e) [ inl q ↦ eqb-true k j q | inr q ↦ absurd (true≢false (sym q)) ]
 
-full_ask : (f : ℕ → List ℕ) (cs : List Cascade) (t : ℕ) (o : Option ℕ) (es : List Entry) → Full f cs es → Full f cs (es ++ cell.act_entries t o)
+full_ask : (f : ℕ → List ℕ) (cs : List Cascade) (t : Lock) (o : Option ℕ) (es : List Entry) → Full f cs es → Full f cs (es ++ cell.act_entries t o)
 full_ask f cs t None [] h = ((λ k i n. absurd (true≢false (sym i))), tt)
 full_ask f cs t (Some x) [] h = tt
 full_ask f cs t o (BatchEntry b ∷ es) h = full_ask f cs t o es h
@@ -363,7 +365,7 @@ full_kept w (Arrive k a) s h ok o i g =
     one_cell (At (behind_too k (book.tids_on (cell_at s a).entries) h.behind) s.book.cascades) s.cells a _
     (λ z. full_arrive (behind_too k (book.tids_on (cell_at s a).entries) h.behind) s.book.cascades k (cell_at s a).entries (sub_of k a s.post.subs) (λ x q. added_too k (book.tids_on (cell_at s a).entries) h.behind x q) z)
     (λ b. full_sets h.behind (behind_too k (book.tids_on (cell_at s a).entries) h.behind) s.book.cascades s.book.cascades (cell_at s b).entries (λ x j q n. (n, grows_too k (book.tids_on (cell_at s a).entries) h.behind x j)) (g b))
-full_kept w (Ask t a) s h ok o i g = one_cell (At h.behind s.book.cascades) s.cells a _ (λ z. full_ask h.behind s.book.cascades t (book.in_the_way t (cell_at s a).entries) (cell_at s a).entries z) g
+full_kept w (Ask t a) s h ok o i g = one_cell (At h.behind s.book.cascades) s.cells a _ (λ z. full_ask h.behind s.book.cascades (lock_of t s.book.acts) (book.in_the_way (lock_of t s.book.acts) (cell_at s a).entries) (cell_at s a).entries z) g
 full_kept w (Take t a) s h ok o i g = one_cell (At h.behind s.book.cascades) s.cells a _ (λ z. z) g
 full_kept w (Run t a) s h ok o i g = one_cell (At h.behind s.book.cascades) s.cells a _ (λ z. full_run h.behind s.book.cascades (cell.is_done_after w.code a (cell.slice_of w.code t (cell_at s a))) t (cell_at s a).entries z) g
 full_kept w (Send t a) s h ok o i g = one_cell (At h.behind s.book.cascades) s.cells a _ (λ z. z) g

@@ -5,7 +5,7 @@ use Rattle.std.proofs.Common.{arith, sym, ap, subst, ◌∙◌}
 use Rattle.std.proofs.lemmas.Bool.{eqb-true, ne_eqb}
 use Rattle.snap_base.specs.declared.transactions.State.{State}
 use Rattle.snap_base.specs.declared.transactions.Tx.{Tx}
-use Rattle.protocol.specs.Fixed.{Fixed, base, tx_at}
+use Rattle.protocol.specs.Fixed.{Fixed, base, tx_at, is_reader}
 use Rattle.protocol.specs.Facts.{Alone}
 use Rattle.protocol.specs.Parts.{OfAct, Machine}
 use Rattle.protocol.specs.Events.{Event, Admit}
@@ -52,7 +52,7 @@ admit {C} w Of finish t s tids v small g ok same =
     omega (
       arith,
       token.admit_falls w s.ring small.coordinators ok.1.0,
-      total_join act_left s.book.acts (book.new_act t (post.next_act s.ring) (base w.text) ∷ []),
+      total_join act_left s.book.acts (book.new_act t (post.next_act s.ring) (is_reader w (post.next_act s.ring)) (base w.text) ∷ []),
       total_join (control_left w.code tids) s.post.controls (post.first_control w (OfAct t) t (post.next_act s.ring) ∷ []),
       LeftParts.act_costs (is_among t tids) (w.code.visits_left (w.code.start t (tx_at w.text (post.next_act s.ring)))) (v.facts.few_visits t (tx_at w.text (post.next_act s.ring))),
       each_same (λ m. m.tid < s.ring.next_tid) (control_left w.code tids) (control_left w.code (act_tids s)) s.post.controls (λ m l. ap (λ z. visit z * (rest w.code m.control + 1)) (same m.tid l)) below.posted,
@@ -71,7 +71,7 @@ admit {C} w Of finish t s tids v small g ok same =
 pub lowers : {C : Type 0} (w : Fixed C) (Of : Tx → C → Type 0) (finish : C → List State → Alone) (e : Event) (s : Machine C) → Given w Of finish → IsSmall w → Counted w Of s → IsAllowed w e s → left w (after w e s) < left w s
 unfolding conditions after
 lowers w Of finish (Admit t) s v small g ok =
-    let h = admit w Of finish t s (act_tids (after w (Admit t) s)) v small g ok (λ u l. rw (Times.map_join (λ x. x.tid) s.book.acts (book.new_act t (post.next_act s.ring) (base w.text) ∷ [])) (not_new u t (act_tids s) (omega (arith, l, eqb-true t s.ring.next_tid ok.0)))) in
+    let h = admit w Of finish t s (act_tids (after w (Admit t) s)) v small g ok (λ u l. rw (Times.map_join (λ x. x.tid) s.book.acts (book.new_act t (post.next_act s.ring) (is_reader w (post.next_act s.ring)) (base w.text) ∷ [])) (not_new u t (act_tids s) (omega (arith, l, eqb-true t s.ring.next_tid ok.0)))) in
     omega (arith, h)
 lowers w Of finish e s v small g ok = by (act_tids (after w e s)) (frame w e s ActTids refl) (falls w Of finish e s v small g ok)
   where

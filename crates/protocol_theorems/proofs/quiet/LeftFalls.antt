@@ -5,11 +5,11 @@ use Rattle.std.proofs.Common.{arith, sym, ap}
 use Rattle.std.proofs.lemmas.Bool.{and_parts, true≢false, eqb-true, ltb-true}
 use Rattle.snap_base.specs.declared.transactions.State.{State}
 use Rattle.snap_base.specs.declared.transactions.Tx.{Tx}
-use Rattle.protocol.specs.Fixed.{Fixed, Code, Go, base, tx_at}
+use Rattle.protocol.specs.Fixed.{Fixed, Code, Go, base, tx_at, is_reader}
 use Rattle.protocol.specs.Facts.{Alone}
 use Rattle.protocol.specs.Parts.{Act, Joined, Cascade, Batch, Declared, Log, Committing, Settled, SubBatch, ControlMessage, Waiting, Outcome, Entry, Cell, OfAct, OfBatch, Machine}
 use Rattle.protocol.specs.Events.{Event, Submit, Pass, Form, Admit, Arrive, Ask, Take, Run, Send, End, Close, Complete, Sync, Note, Commit, Settle, Abort, Rollback, DropSub, DropControl, Prepare, Vouch, Decide, Seal, Finish, Reply, Trim}
-use Rattle.protocol.specs.Words.{is_empty, holds, is_among, is_value, values_of, is_live_status, is_live_act, is_doomed, is_decided, is_sealed, is_settled, is_committing, is_open, is_next_to_commit, first_failed, act_of, joined_of, batch_of, declared_of, sub_of, control_of, has_control_to, waiting_of, outcome_of, is_going, is_ended, is_batch_entry, is_complete_batch, has_undone, has_act, who_on}
+use Rattle.protocol.specs.Words.{is_empty, holds, is_among, is_value, values_of, is_live_status, is_live_act, is_doomed, is_decided, is_sealed, is_settled, is_committing, is_open, is_next_to_commit, first_failed, act_of, joined_of, batch_of, declared_of, sub_of, control_of, has_control_to, waiting_of, outcome_of, is_going, is_ended, is_batch_entry, is_complete_batch, has_undone, has_act, who_on, lock_of}
 use Rattle.protocol.specs.Conditions.{IsAllowed, conditions, epoch, queue}
 use Rattle.protocol.specs.Effects.{after, cell_at, no_cell, log_at, no_log, act_commit, synced}
 use Rattle.protocol.specs.Numbers.{flat, times, one_if, once_in}
@@ -156,7 +156,7 @@ falls w Of finish (Admit t) s v small g ok =
     omega (
       arith,
       token.admit_falls w s.ring small.coordinators ok.1.0,
-      total_join act_left s.book.acts (book.new_act t (post.next_act s.ring) (base w.text) ∷ []),
+      total_join act_left s.book.acts (book.new_act t (post.next_act s.ring) (is_reader w (post.next_act s.ring)) (base w.text) ∷ []),
       total_join (control_left w.code (act_tids s)) s.post.controls (post.first_control w (OfAct t) t (post.next_act s.ring) ∷ []),
       LeftParts.act_costs (is_among t (act_tids s)) (w.code.visits_left (w.code.start t (tx_at w.text (post.next_act s.ring)))) (v.facts.few_visits t (tx_at w.text (post.next_act s.ring))),
     )
@@ -176,11 +176,11 @@ falls w Of finish (Ask t a) s v small g ok =
     let m = control_of t s.post.controls in
     omega (
       arith,
-      LeftParts.ask_costs w.code (act_tids s) t a (λ m. m.to == a) s.post.controls m (book.in_the_way t c.entries) (book.met t c.entries) c s.book refl ok.0 (LeftLists.found_among (λ x. x.tid) (λ x. not (is_doomed x.status)) t s.book.acts ok.1.0) (act_once w s g.numbers t),
-      one_cell w (act_tids s) (epoch s.book) s a (cell.act_placed t (book.in_the_way t c.entries) m c) (in_range (λ c. c.epoch == epoch s.book) s.cells a ok.1.1.1.0),
-      total_join entry_left c.entries (cell.act_entries t (book.in_the_way t c.entries)),
-      LeftParts.no_entries t (book.in_the_way t c.entries),
-      total_join (waiting_left w.code (act_tids s)) c.inbox (cell.where_placed (book.in_the_way t c.entries) m),
+      LeftParts.ask_costs w.code (act_tids s) t a (λ m. m.to == a) s.post.controls m (book.in_the_way (lock_of t s.book.acts) c.entries) (book.met (lock_of t s.book.acts) c.entries) c s.book refl ok.0 (LeftLists.found_among (λ x. x.tid) (λ x. not (is_doomed x.status)) t s.book.acts ok.1.0) (act_once w s g.numbers t),
+      one_cell w (act_tids s) (epoch s.book) s a (cell.act_placed (lock_of t s.book.acts) (book.in_the_way (lock_of t s.book.acts) c.entries) m c) (in_range (λ c. c.epoch == epoch s.book) s.cells a ok.1.1.1.0),
+      total_join entry_left c.entries (cell.act_entries (lock_of t s.book.acts) (book.in_the_way (lock_of t s.book.acts) c.entries)),
+      LeftParts.no_entries (lock_of t s.book.acts) (book.in_the_way (lock_of t s.book.acts) c.entries),
+      total_join (waiting_left w.code (act_tids s)) c.inbox (cell.where_placed (book.in_the_way (lock_of t s.book.acts) c.entries) m),
     )
 falls w Of finish (Take t a) s v small g ok =
     let c = cell_at s a in

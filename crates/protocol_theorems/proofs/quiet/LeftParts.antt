@@ -12,7 +12,7 @@ use Rattle.protocol.specs.Facts.{Alone, Facts}
 use Rattle.protocol.specs.Records.{LogRecord}
 use Rattle.protocol.specs.Rivals.{Lock}
 use Rattle.protocol.specs.Parts.{Ring, Book, Status, Live, Doomed, Decided, Sealed, Joined, Act, Pair, Who, OfBatch, SubBatch, ControlMessage, Stage, Formed, Committing, Settled, Declared, Pact, Batch, Log, Waiting, Outcome, Cell}
-use Rattle.protocol.specs.Words.{holds, is_among, below, act_of, batch_of, sub_of, control_of, waiting_of, outcome_of, without_sub, without_control, without_waiting, without_outcome, is_going, is_ended, is_live_status, is_decided, is_open, is_formed, is_committing, has_act, value_of}
+use Rattle.protocol.specs.Words.{holds, is_among, below, act_of, batch_of, sub_of, control_of, waiting_of, outcome_of, without_sub, without_control, without_waiting, without_outcome, is_going, is_ended, is_live_status, is_decided, is_open, is_formed, is_committing, has_act, value_of, floor_at}
 use Rattle.protocol.specs.Numbers.{times, one_if}
 use Rattle.protocol.specs.Spread.{raised, crossed_out, is_crossed}
 use Rattle.protocol_laws.specs.Trails.{IsOf}
@@ -86,10 +86,10 @@ joins_if : (a m : ℕ) (b : Bool) (x : Act) → act_left (book.change_if b (book
 joins_if a m true x = omega (arith, total_join joined_left x.places (record { actor = a; prepared = false; vouched = false; finished = false } ∷ []))
 joins_if a m false x = omega arith
 
-pub asked_most : {C : Type 0} (group : List Lock) (t a : ℕ) (c : Cell C) (b : Book) → times t (map (λ x. x.tid) b.acts) ≤ 1 → total act_left (book.asked_acts None group t a (max c.last c.floor) b) ≤ total act_left b.acts + 4
+pub asked_most : {C : Type 0} (group : List Lock) (t a : ℕ) (c : Cell C) (b : Book) → times t (map (λ x. x.tid) b.acts) ≤ 1 → total act_left (book.asked_acts None group t a (max c.last (floor_at t b.acts c)) b) ≤ total act_left b.acts + 4
 asked_most group t a c b l =
-    let more = book.changed_act t (book.joins a (max c.last c.floor)) b.acts in
-    omega (arith, total_map act_left (crossed_out a) (raised (b.pairs ++ book.new_pairs t a group b.acts) more) (crossed_most a), raised_most (b.pairs ++ book.new_pairs t a group b.acts) more, total_rises act_left (λ x. book.change_if (x.tid == t) (book.joins a (max c.last c.floor)) x) (λ x. x.tid) t 4 b.acts (λ x. joins_if a (max c.last c.floor) (x.tid == t) x), l)
+    let more = book.changed_act t (book.joins a (max c.last (floor_at t b.acts c))) b.acts in
+    omega (arith, total_map act_left (crossed_out a) (raised (b.pairs ++ book.new_pairs t a group b.acts) more) (crossed_most a), raised_most (b.pairs ++ book.new_pairs t a group b.acts) more, total_rises act_left (λ x. book.change_if (x.tid == t) (book.joins a (max c.last (floor_at t b.acts c))) x) (λ x. x.tid) t 4 b.acts (λ x. joins_if a (max c.last (floor_at t b.acts c)) (x.tid == t) x), l)
 
 pub decided_most : (c : ℕ) (b : Bool) (st : Status) → status_left (book.decided_status c b st) ≤ status_left st
 decided_most c true Live = omega arith
@@ -260,7 +260,7 @@ take_costs code tids t q xs (Some m) e h = omega (arith, total_out (control_left
 
 pub ask_costs : {C : Type 0} (code : Code C) (tids : List ℕ) (t a : ℕ) (q : ControlMessage C → Bool) (xs : List (ControlMessage C)) (o : Option (ControlMessage C)) (older : Option ℕ) (group : List Lock) (c : Cell C) (b : Book)
     → control_of t xs ≡ o → holds q o ≡ true → is_among t tids ≡ true → times t (map (λ x. x.tid) b.acts) ≤ 1
-    → total (control_left code tids) (without_control t xs) + total (waiting_left code tids) (cell.where_placed older o) + total act_left (book.asked_acts older group t a (max c.last c.floor) b) + 1 ≤ total (control_left code tids) xs + total act_left b.acts
+    → total (control_left code tids) (without_control t xs) + total (waiting_left code tids) (cell.where_placed older o) + total act_left (book.asked_acts older group t a (max c.last (floor_at t b.acts c)) b) + 1 ≤ total (control_left code tids) xs + total act_left b.acts
 ask_costs {C} code tids t a q xs None older group c b e h i l = absurd (true≢false (sym h))
 ask_costs {C} code tids t a q xs (Some m) None group c b e h i l =
     let f = total_out (control_left code tids) (λ m. m.tid == t) m xs e in
@@ -277,7 +277,7 @@ ask_costs {C} code tids t a q xs (Some m) None group c b e h i l =
 ask_costs {C} code tids t a q xs (Some m) (Some older) group c b e h i l =
     omega (arith, total_out (control_left code tids) (λ m. m.tid == t) m xs e, LeftLists.gone_falls (is_among m.tid tids) (rest code m.control), acts_most t (book.doomed_by (Rattle.protocol.specs.Verdicts.died a older t)) b.acts (doomed_most (Rattle.protocol.specs.Verdicts.died a older t)))
 
-pub no_entries : (t : ℕ) (o : Option ℕ) → total entry_left (cell.act_entries t o) ≡ 0
+pub no_entries : (t : Lock) (o : Option ℕ) → total entry_left (cell.act_entries t o) ≡ 0
 no_entries t None = refl
 no_entries t (Some x) = refl
 

@@ -5,11 +5,11 @@ use Rattle.std.proofs.Common.{arith, sym, ap, subst, ◌∙◌}
 use Rattle.std.proofs.lemmas.Bool.{true≢false, and_parts, and_from, eqb-true, ltb-true, not-true}
 use Rattle.snap_base.specs.declared.transactions.State.{State}
 use Rattle.snap_base.specs.declared.transactions.Tx.{Tx}
-use Rattle.protocol.specs.Fixed.{Fixed, Next, Go, Ended, base}
+use Rattle.protocol.specs.Fixed.{Fixed, Next, Go, Ended, base, is_reader}
 use Rattle.protocol.specs.Facts.{Alone}
 use Rattle.protocol.specs.Rivals.{Lock}
 use Rattle.protocol.specs.Parts.{Joined, Status, Live, Doomed, Decided, Sealed, Act, Pair, Book, Declared, Batch, Stage, Committing, Settled, SubBatch, Cascade, Entry, BatchEntry, ActEntry, Image, OfBatch, OfAct, Cell, Outcome, Machine}
-use Rattle.protocol.specs.Words.{holds, count, is_empty, act_of, is_value, is_doomed, is_live_status, is_live_act, is_live_batch, has_act, outcome_of}
+use Rattle.protocol.specs.Words.{holds, count, is_empty, act_of, is_value, is_doomed, is_live_status, is_live_act, is_live_batch, has_act, outcome_of, lock_of, floor_at}
 use Rattle.protocol.specs.Numbers.{one_if}
 use Rattle.protocol.specs.Spread.{raised, crossed_out, is_crossed}
 use Rattle.protocol.specs.Verdicts.{died}
@@ -190,7 +190,7 @@ asker_live w t a s h ok n i l x e =
 pub live_acts : {C : Type 0} (w : Fixed C) (e : Event) (s : Machine C) (h : History) → IsAllowed w e s → AllControls (NoneActed s) s → Acts s h → Left s → TidsAscend s → count is_live_act s.book.acts ≤ w.text.acts → count is_live_act (after w e s).book.acts ≤ w.text.acts
 unfolding conditions after
 live_acts w (Admit t) s h ok n i l g k =
-    let new = book.new_act t (Rattle.protocol.specs.OnPost.next_act s.ring) (base w.text) in
+    let new = book.new_act t (Rattle.protocol.specs.OnPost.next_act s.ring) (is_reader w (Rattle.protocol.specs.OnPost.next_act s.ring)) (base w.text) in
     omega (arith, count_join is_live_act s.book.acts (new ∷ []), count_cons is_live_act new [], one (is_live_act new), ltb-true (count is_live_act s.book.acts) w.text.acts ok.1.1.0)
   where
     one : (b : Bool) → one_if b ≤ 1
@@ -203,7 +203,7 @@ live_acts w (Ask t a) s h ok n i l g k =
     omega (
       arith,
       k,
-      asked_count (book.in_the_way t (cell_at s a).entries) (book.met t (cell_at s a).entries) t a (max (cell_at s a).last (cell_at s a).floor) s.book
+      asked_count (book.in_the_way (lock_of t s.book.acts) (cell_at s a).entries) (book.met (lock_of t s.book.acts) (cell_at s a).entries) t a (max (cell_at s a).last (floor_at t s.book.acts (cell_at s a))) s.book
           (each_act s (λ u x. (u == t) ≡ true → is_live_act x ≡ true) g (λ u x e q. asker_live w t a s h ok n i l x (subst (λ z. act_of z s.book.acts ≡ Some x) (eqb-true u t q) e))),
     )
 live_acts w (End t a) s h ok n i l g k = omega (arith, k, noted_count t (has_act t (cell_at s a).entries) (outcome_of t (cell_at s a).outbox) s.book)

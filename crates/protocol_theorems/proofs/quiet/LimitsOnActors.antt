@@ -5,12 +5,13 @@ use Rattle.std.proofs.Common.{arith, sym, ap, subst, ◌∙◌}
 use Rattle.std.proofs.lemmas.Bool.{true≢false, and_parts, or_parts, or_right, eqb-true, eq-eqb}
 use Rattle.snap_base.specs.declared.transactions.State.{State}
 use Rattle.snap_base.specs.declared.transactions.Tx.{Tx}
+use Rattle.protocol.specs.Rivals.{Lock}
 use Rattle.protocol.specs.Fixed.{Fixed, base}
 use Rattle.protocol.specs.Facts.{Alone}
 use Rattle.protocol.specs.Rests.{IsRest, IsTxIn}
 use Rattle.protocol.specs.Laws.{AfterEveryRunWithHistory}
 use Rattle.protocol.specs.Parts.{Act, SubBatch, Cascade, Entry, BatchEntry, ActEntry, Who, Cell, Machine}
-use Rattle.protocol.specs.Words.{holds, count, is_among, act_of, batch_of, joined_of, declared_of, sub_of, is_aborted, is_live_act, is_live_batch, is_batch_entry, is_act_entry, is_entry_of, is_clear, is_over_for, ahead, is_who, who_of, who_on, image_of, batches_on, acts_on, has_act}
+use Rattle.protocol.specs.Words.{holds, count, is_among, act_of, batch_of, joined_of, declared_of, sub_of, is_aborted, is_live_act, is_live_batch, is_batch_entry, is_act_entry, is_entry_of, is_clear, is_over_for, ahead, is_who, who_of, who_on, image_of, batches_on, acts_on, has_act, lock_of}
 use Rattle.protocol.specs.Numbers.{times, one_if}
 use Rattle.protocol.specs.Events.{Event, Arrive, Ask, Take, Run, Send, End, Close, Complete, Rollback, Finish, Trim}
 use Rattle.protocol.specs.Conditions.{IsAllowed, conditions, epoch}
@@ -77,7 +78,7 @@ few_acts w Of finish s h a g =
 
 -- ---- the batches on an actor
 
-on_act : (t : ℕ) (o : Option ℕ) (es : List Entry) → length (batches_on (es ++ cell.act_entries t o)) ≤ length (batches_on es)
+on_act : (t : Lock) (o : Option ℕ) (es : List Entry) → length (batches_on (es ++ cell.act_entries t o)) ≤ length (batches_on es)
 on_act t None [] = omega arith
 on_act t (Some older) [] = omega arith
 on_act t o (BatchEntry b ∷ es) = omega (arith, on_act t o es)
@@ -171,7 +172,7 @@ pub record Steady {C : Type 0} (w : Fixed C) (s : Machine C) : Type 0 where
 few_kept : {C : Type 0} (w : Fixed C) (e : Event) (s : Machine C) → IsAllowed w e s → Steady w s → Few w s → Few w (after w e s)
 unfolding after
 few_kept {C} w (Arrive k a) s ok g h = one_cell (λ c. length (batches_on c.entries) ≤ w.text.batches) s.cells a _ (λ l. omega (arith, on_batch k (sub_of k a s.post.subs) (cell_at s a).entries, arrives w k a s ok g.known g.cells, g.live)) h
-few_kept {C} w (Ask t a) s ok g h = one_cell (λ c. length (batches_on c.entries) ≤ w.text.batches) s.cells a _ (λ l. omega (arith, l, on_act t (book.in_the_way t (cell_at s a).entries) (cell_at s a).entries)) h
+few_kept {C} w (Ask t a) s ok g h = one_cell (λ c. length (batches_on c.entries) ≤ w.text.batches) s.cells a _ (λ l. omega (arith, l, on_act (lock_of t s.book.acts) (book.in_the_way (lock_of t s.book.acts) (cell_at s a).entries) (cell_at s a).entries)) h
 few_kept {C} w (Take t a) s ok g h = one_cell (λ c. length (batches_on c.entries) ≤ w.text.batches) s.cells a _ (λ l. l) h
 few_kept {C} w (Run t a) s ok g h = one_cell (λ c. length (batches_on c.entries) ≤ w.text.batches) s.cells a _ (λ l. omega (arith, l, on_run (cell.is_done_after w.code a (cell.slice_of w.code t (cell_at s a))) t (cell_at s a).entries)) h
 few_kept {C} w (Send t a) s ok g h = one_cell (λ c. length (batches_on c.entries) ≤ w.text.batches) s.cells a _ (λ l. l) h

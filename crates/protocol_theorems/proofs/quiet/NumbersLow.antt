@@ -7,9 +7,9 @@ use Rattle.snap_base.specs.declared.transactions.Tx.{Tx}
 use Rattle.protocol.specs.Fixed.{Fixed, IsText, base, Next, Go, Ended}
 use Rattle.protocol.specs.Facts.{Alone}
 use Rattle.protocol.specs.Rivals.{Lock}
-use Rattle.protocol.specs.Parts.{Act, Book, Pair, Outcome, OfBatch, OfAct, Entry, BatchEntry, ActEntry, Cell, Machine}
+use Rattle.protocol.specs.Parts.{Act, Book, Pair, Outcome, OfBatch, OfAct, Entry, BatchEntry, ActEntry, FloorPair, Cell, Machine}
 use Rattle.protocol.specs.Events.{Event, Form, Admit, Arrive, Ask, Take, Run, Send, End, Close, Complete, Abort, Rollback, Prepare, Vouch, Decide, Seal, Finish, Trim}
-use Rattle.protocol.specs.Words.{holds, greatest, batches_on, has_act, outcome_of, act_of, sub_of, is_settled, declared_of, is_sealed}
+use Rattle.protocol.specs.Words.{holds, greatest, batches_on, has_act, outcome_of, act_of, sub_of, is_settled, declared_of, is_sealed, lock_of, floor_for, floor_at}
 use Rattle.protocol.specs.Spread.{raised, carries_to, crossed_out}
 use Rattle.protocol.specs.Conditions.{IsAllowed, conditions, epoch}
 use Rattle.protocol.specs.Effects.{after, cell_at, no_cell}
@@ -62,9 +62,9 @@ low_raised : (n : ℕ) (ps : List Pair) (xs : List Act) → 0 < n → AllLow n x
 low_raised n ps [] z h = tt
 low_raised n ps (x ∷ xs) z h = let r = low_raised n ps xs z h.1 in (omega (arith, h.0, low_carried n (carries_to ps x) (raised ps xs) z r), r)
 
-low_asked : {C : Type 0} (n t a : ℕ) (o : Option ℕ) (group : List Lock) (c : Cell C) (b : Book) → 0 < n → c.last < n → c.floor < n → AllLow n b.acts → AllLow n (book.asked_acts o group t a (max c.last c.floor) b)
+low_asked : {C : Type 0} (n t a : ℕ) (o : Option ℕ) (group : List Lock) (c : Cell C) (b : Book) → 0 < n → c.last < n → floor_at t b.acts c < n → AllLow n b.acts → AllLow n (book.asked_acts o group t a (max c.last (floor_at t b.acts c)) b)
 low_asked n t a (Some x) group c b z l f h = low_changed n t _ b.acts (λ x i. i) h
-low_asked n t a None group c b z l f h = low_map n (crossed_out a) (raised (b.pairs ++ book.new_pairs t a group b.acts) (book.changed_act t (book.joins a (max c.last c.floor)) b.acts)) (λ x i. i) (low_raised n _ (book.changed_act t (book.joins a (max c.last c.floor)) b.acts) z (low_changed n t (book.joins a (max c.last c.floor)) b.acts (λ x i. omega (arith, i, l, f)) h))
+low_asked n t a None group c b z l f h = low_map n (crossed_out a) (raised (b.pairs ++ book.new_pairs t a group b.acts) (book.changed_act t (book.joins a (max c.last (floor_at t b.acts c))) b.acts)) (λ x i. i) (low_raised n _ (book.changed_act t (book.joins a (max c.last (floor_at t b.acts c))) b.acts) z (low_changed n t (book.joins a (max c.last (floor_at t b.acts c))) b.acts (λ x i. omega (arith, i, l, f)) h))
 
 low_ended : {C : Type 0} (n t : ℕ) (b : Bool) (o : Option (Outcome C)) (xs : List Act) → AllLow n xs → AllLow n (if b then book.noted_from t o xs else xs)
 low_ended n t false o xs h = h
@@ -75,23 +75,30 @@ low_ended {C} n t true (Some x) xs h = by x.next
     by (Go b c) = h
     by (Ended r) = low_changed n t (book.with_result r) xs (λ x i. i) h
 
-low_floor : (n f t : ℕ) (xs : List Act) → f < n → AllLow n xs → cell.floor_after f (act_of t xs) < n
-low_floor n f t xs l h = by (act_of t xs) refl
+-- the floor that counts for one
+low_for : (n : ℕ) (v : Bool) (f : FloorPair) → f.write < n → f.read < n → floor_for v f < n
+low_for n true f w r = w
+low_for n false f w r = omega (arith, w, r)
+
+low_floors : (n : ℕ) (f : FloorPair) (t : ℕ) (xs : List Act) → f.write < n → f.read < n → AllLow n xs → ((cell.floors_after f (act_of t xs)).write < n) × ((cell.floors_after f (act_of t xs)).read < n)
+low_floors n f t xs w r h = by (act_of t xs) refl
   where
-    by : (o : Option Act) → act_of t xs ≡ o → cell.floor_after f o < n
-    by None e = l
-    by (Some x) e = one (is_sealed x.status) (all_found (λ x. x.m < n) (λ x. x.tid == t) xs x h e).0
+    by : (o : Option Act) → act_of t xs ≡ o → ((cell.floors_after f o).write < n) × ((cell.floors_after f o).read < n)
+    by None e = (w, r)
+    by (Some x) e = one (is_sealed x.status) x.reader (all_found (λ x. x.m < n) (λ x. x.tid == t) xs x h e).0
       where
-        one : (b : Bool) → x.m < n → (if b then max f x.m else f) < n
-        one true i = omega (arith, i, l)
-        one false i = l
+        one : (b v : Bool) → x.m < n → ((if b then cell.raised_floors v x.m f else f).write < n) × ((if b then cell.raised_floors v x.m f else f).read < n)
+        one true true i = (w, omega (arith, i, r))
+        one true false i = (omega (arith, i, w), r)
+        one false v i = (w, r)
 
 -- ---- cells
 
 pub record CellLow {C : Type 0} (n : ℕ) (c : Cell C) : Type 0 where
   pub last : c.last < n
   pub trimmed : c.last_trimmed < n
-  pub floor : c.floor < n
+  pub write : c.floors.write < n
+  pub read : c.floors.read < n
 
 abbrev pub At : {C : Type 0} → ℕ → ℕ → Cell C → Unit {0} → Type 0
 At n a c x = CellLow n c
@@ -120,7 +127,7 @@ pub record Lows {C : Type 0} (w : Fixed C) (s : Machine C) : Type 0 where
   pub cells : (a : ℕ) → CellLow s.ring.next_bid (cell_at s a)
 
 more : {C : Type 0} (n : ℕ) (c : Cell C) → CellLow n c → CellLow (n + 1) c
-more n c h = record { last = omega (arith, h.last); trimmed = omega (arith, h.trimmed); floor = omega (arith, h.floor) }
+more n c h = record { last = omega (arith, h.last); trimmed = omega (arith, h.trimmed); write = omega (arith, h.write); read = omega (arith, h.read) }
 
 trims_low : {C : Type 0} (w : Fixed C) (k a : ℕ) (s : Machine C) → IsAllowed w (Trim k a) s → settling.Settling w s → k < s.ring.next_bid
 unfolding conditions settling.Settling
@@ -131,7 +138,7 @@ unfolding after
 acts_low w (Form k) s b g = weaker (λ x. x.m < s.ring.next_bid) (λ x. x.m < s.ring.next_bid + 1) s.book.acts (λ x i. omega (arith, i)) g.acts
 acts_low w (Admit t) s b g = all_join (λ x. x.m < s.ring.next_bid) s.book.acts _ g.acts (b, tt)
 acts_low w (Arrive k a) s b g = low_map s.ring.next_bid (crossed_out a) _ (λ x i. i) (low_map s.ring.next_bid (book.lowered k (book.tids_on (cell_at s a).entries)) s.book.acts (λ x i. i) g.acts)
-acts_low w (Ask t a) s b g = low_asked s.ring.next_bid t a (book.in_the_way t (cell_at s a).entries) (book.met t (cell_at s a).entries) (cell_at s a) s.book g.some (g.cells a).last (g.cells a).floor g.acts
+acts_low w (Ask t a) s b g = low_asked s.ring.next_bid t a (book.in_the_way (lock_of t s.book.acts) (cell_at s a).entries) (book.met (lock_of t s.book.acts) (cell_at s a).entries) (cell_at s a) s.book g.some (g.cells a).last (low_for s.ring.next_bid (lock_of t s.book.acts).reader (cell_at s a).floors (g.cells a).write (g.cells a).read) g.acts
 acts_low w (End t a) s b g = low_ended s.ring.next_bid t (has_act t (cell_at s a).entries) (outcome_of t (cell_at s a).outbox) s.book.acts g.acts
 acts_low w (Abort k) s b g = low_map s.ring.next_bid _ s.book.acts (λ x i. i) g.acts
 acts_low w (Prepare t a) s b g = low_changed s.ring.next_bid t _ s.book.acts (λ x i. i) g.acts
@@ -144,38 +151,38 @@ acts_low w e s b g = g.acts
 cells_low : {C : Type 0} (w : Fixed C) (e : Event) (s : Machine C) (h : History) → IsAllowed w e s → shows.Owed e s h → epochs.Agreeing s → settling.Settling w s → Placed w s h → Turned s h → Lows w s → (a : ℕ) → CellLow (after w e s).ring.next_bid (cell_at (after w e s) a)
 unfolding shows.Owed Placed Turned conditions after
 cells_low w (Form k) s h ok o ag st p t g = λ a. more s.ring.next_bid (cell_at s a) (g.cells a)
-cells_low w (Arrive k a) s h ok o ag st p t g = beside_same (At s.ring.next_bid) s.cells a _ (λ b. tt) (arrives (epoch s.book) a (λ c. c.epoch == epoch s.book) s.cells (sub_of k a s.post.subs) ok.1.1.0) (λ x. record { last = (message w k a s ok ag).formed; trimmed = x.trimmed; floor = x.floor }) g.cells
-cells_low w (Ask u a) s h ok o ag st p t g = beside_same (At s.ring.next_bid) s.cells a _ (λ b. tt) (in_range _ s.cells a ok.1.1.0) (λ x. record { last = x.last; trimmed = x.trimmed; floor = x.floor }) g.cells
-cells_low w (Take u a) s h ok o ag st p t g = beside_same (At s.ring.next_bid) s.cells a _ (λ b. tt) (in_range _ s.cells a ok.1.0) (λ x. record { last = x.last; trimmed = x.trimmed; floor = x.floor }) g.cells
-cells_low w (Run u a) s h ok o ag st p t g = beside_same (At s.ring.next_bid) s.cells a _ (λ b. tt) (in_range _ s.cells a ok.0) (λ x. record { last = x.last; trimmed = x.trimmed; floor = x.floor }) g.cells
-cells_low w (Send u a) s h ok o ag st p t g = beside_same (At s.ring.next_bid) s.cells a _ (λ b. tt) (in_range _ s.cells a ok.0) (λ x. record { last = x.last; trimmed = x.trimmed; floor = x.floor }) g.cells
-cells_low w (End u a) s h ok o ag st p t g = beside_same (At s.ring.next_bid) s.cells a _ (λ b. tt) (in_range _ s.cells a ok.0) (λ x. record { last = x.last; trimmed = x.trimmed; floor = x.floor }) g.cells
-cells_low w (Close u a) s h ok o ag st p t g = beside_same (At s.ring.next_bid) s.cells a _ (λ b. tt) (in_range _ s.cells a ok.1.0) (λ x. record { last = x.last; trimmed = x.trimmed; floor = x.floor }) g.cells
-cells_low w (Complete k a) s h ok o ag st p t g = beside_same (At s.ring.next_bid) s.cells a _ (λ b. tt) (in_range _ s.cells a ok.0) (λ x. record { last = x.last; trimmed = x.trimmed; floor = x.floor }) g.cells
-cells_low w (Rollback a) s h ok o ag st p t g = beside_same (At s.ring.next_bid) s.cells a _ (λ b. tt) (in_range _ s.cells a ok.0) (λ x. record { last = omega (arith, x.trimmed, roll_low s.ring.next_bid s.book.cascades (cell_at s a).epoch (cell_at s a).tail (h.long a) (cell_at s a).entries g.some (t a) (p a).fit); trimmed = x.trimmed; floor = x.floor }) g.cells
-cells_low w (Finish u a) s h ok o ag st p t g = beside_same (At s.ring.next_bid) s.cells a _ (λ b. tt) o (λ x. record { last = x.last; trimmed = x.trimmed; floor = low_floor s.ring.next_bid (cell_at s a).floor u s.book.acts x.floor g.acts }) g.cells
-cells_low w (Trim k a) s h ok o ag st p t g = beside_same (At s.ring.next_bid) s.cells a _ (λ b. tt) o (λ x. record { last = x.last; trimmed = omega (arith, x.trimmed, trims_low w k a s ok st); floor = x.floor }) g.cells
+cells_low w (Arrive k a) s h ok o ag st p t g = beside_same (At s.ring.next_bid) s.cells a _ (λ b. tt) (arrives (epoch s.book) a (λ c. c.epoch == epoch s.book) s.cells (sub_of k a s.post.subs) ok.1.1.0) (λ x. record { last = (message w k a s ok ag).formed; trimmed = x.trimmed; write = x.write; read = x.read }) g.cells
+cells_low w (Ask u a) s h ok o ag st p t g = beside_same (At s.ring.next_bid) s.cells a _ (λ b. tt) (in_range _ s.cells a ok.1.1.0) (λ x. record { last = x.last; trimmed = x.trimmed; write = x.write; read = x.read }) g.cells
+cells_low w (Take u a) s h ok o ag st p t g = beside_same (At s.ring.next_bid) s.cells a _ (λ b. tt) (in_range _ s.cells a ok.1.0) (λ x. record { last = x.last; trimmed = x.trimmed; write = x.write; read = x.read }) g.cells
+cells_low w (Run u a) s h ok o ag st p t g = beside_same (At s.ring.next_bid) s.cells a _ (λ b. tt) (in_range _ s.cells a ok.0) (λ x. record { last = x.last; trimmed = x.trimmed; write = x.write; read = x.read }) g.cells
+cells_low w (Send u a) s h ok o ag st p t g = beside_same (At s.ring.next_bid) s.cells a _ (λ b. tt) (in_range _ s.cells a ok.0) (λ x. record { last = x.last; trimmed = x.trimmed; write = x.write; read = x.read }) g.cells
+cells_low w (End u a) s h ok o ag st p t g = beside_same (At s.ring.next_bid) s.cells a _ (λ b. tt) (in_range _ s.cells a ok.0) (λ x. record { last = x.last; trimmed = x.trimmed; write = x.write; read = x.read }) g.cells
+cells_low w (Close u a) s h ok o ag st p t g = beside_same (At s.ring.next_bid) s.cells a _ (λ b. tt) (in_range _ s.cells a ok.1.0) (λ x. record { last = x.last; trimmed = x.trimmed; write = x.write; read = x.read }) g.cells
+cells_low w (Complete k a) s h ok o ag st p t g = beside_same (At s.ring.next_bid) s.cells a _ (λ b. tt) (in_range _ s.cells a ok.0) (λ x. record { last = x.last; trimmed = x.trimmed; write = x.write; read = x.read }) g.cells
+cells_low w (Rollback a) s h ok o ag st p t g = beside_same (At s.ring.next_bid) s.cells a _ (λ b. tt) (in_range _ s.cells a ok.0) (λ x. record { last = omega (arith, x.trimmed, roll_low s.ring.next_bid s.book.cascades (cell_at s a).epoch (cell_at s a).tail (h.long a) (cell_at s a).entries g.some (t a) (p a).fit); trimmed = x.trimmed; write = x.write; read = x.read }) g.cells
+cells_low w (Finish u a) s h ok o ag st p t g = beside_same (At s.ring.next_bid) s.cells a _ (λ b. tt) o (λ x. record { last = x.last; trimmed = x.trimmed; write = (low_floors s.ring.next_bid (cell_at s a).floors u s.book.acts x.write x.read g.acts).0; read = (low_floors s.ring.next_bid (cell_at s a).floors u s.book.acts x.write x.read g.acts).1 }) g.cells
+cells_low w (Trim k a) s h ok o ag st p t g = beside_same (At s.ring.next_bid) s.cells a _ (λ b. tt) o (λ x. record { last = x.last; trimmed = omega (arith, x.trimmed, trims_low w k a s ok st); write = x.write; read = x.read }) g.cells
 cells_low w e s h ok o ag st p t g = g.cells
 
 above_base : {C : Type 0} (w : Fixed C) (s : Machine C) → settling.Settling w s → base w.text < s.ring.next_bid
 unfolding settling.Settling
 above_base w s g = omega (arith, g.some, keys.rises_top w.text.opening.next_bid s.ring.next_bid _ g.rises)
 
-pub kept : {C : Type 0} (w : Fixed C) (Of : Tx → C → Type 0) (finish : C → List State → Alone) (e : Event) (s : Machine C) (h : History) → IsAllowed w e s → AllGood w Of finish s h → Lows w s → Lows w (after w e s)
-kept w Of finish e s h ok g i = record {
+pub kept : {C : Type 0} (w : Fixed C) (Of : Tx → C → Type 0) (finish : C → List State → Alone) (e : Event) (s : Machine C) (h : History) → Given w Of finish → IsAllowed w e s → AllGood w Of finish s h → Lows w s → Lows w (after w e s)
+kept w Of finish e s h v ok g i = record {
   some = omega (arith, i.some, bid_went w e s);
   acts = acts_low w e s (above_base w s g.good.settling) i;
-  cells = cells_low w e s h ok (higher.owed w Of finish e s h ok g) g.good.agreeing g.good.settling g.good.placed g.good.turned i;
+  cells = cells_low w e s h ok (higher.owed w Of finish e s h v ok g) g.good.agreeing g.good.settling g.good.placed g.good.turned i;
 }
 
 opened : {C : Type 0} (w : Fixed C) → IsText w.text → Lows w (opening w)
 opened {C} w text = record { some = omega (arith, text.bids); acts = tt; cells = λ a. at w.text.opening.states a }
   where
     at : (states : List State) (a : ℕ) → CellLow w.text.opening.next_bid (slice_index_or (map (new_cell {C = C} (base w.text)) states) a no_cell)
-    at [] a = record { last = omega (arith, text.bids); trimmed = omega (arith, text.bids); floor = omega (arith, text.bids) }
-    at (x ∷ xs) zero = record { last = omega (arith, text.bids); trimmed = omega (arith, text.bids); floor = omega (arith, text.bids) }
+    at [] a = record { last = omega (arith, text.bids); trimmed = omega (arith, text.bids); write = omega (arith, text.bids); read = omega (arith, text.bids) }
+    at (x ∷ xs) zero = record { last = omega (arith, text.bids); trimmed = omega (arith, text.bids); write = omega (arith, text.bids); read = omega (arith, text.bids) }
     at (x ∷ xs) (suc a) = at xs a
 
 -- Over every run each before number is below the next batch, and so are last batches and floors
 pub numbers_low : {C : Type 0} (w : Fixed C) (Of : Tx → C → Type 0) (finish : C → List State → Alone) (es : List Event) → Given w Of finish → IsRun w es → Lows w (reached w es)
-numbers_low w Of finish es v run = all.along_good w Of finish (λ s h. Lows w s) v (λ e s h ok g i. kept w Of finish e s h ok g i) (opened w v.text) es run
+numbers_low w Of finish es v run = all.along_good w Of finish (λ s h. Lows w s) v (λ e s h ok g i. kept w Of finish e s h v ok g i) (opened w v.text) es run

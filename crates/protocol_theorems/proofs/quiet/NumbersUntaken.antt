@@ -8,17 +8,18 @@ use Rattle.snap_base.specs.declared.transactions.Tx.{Tx}
 use Rattle.protocol.specs.Fixed.{Fixed, base, Next, Go, Ended}
 use Rattle.protocol.specs.Facts.{Alone}
 use Rattle.protocol.specs.Rivals.{Lock}
-use Rattle.protocol.specs.Parts.{Act, Pair, Book, Cascade, Status, Live, Doomed, Decided, Sealed, Outcome, Cell, Machine}
+use Rattle.protocol.specs.Parts.{Act, Pair, Book, Cascade, Status, Live, Doomed, Decided, Sealed, Outcome, FloorPair, Cell, Machine}
 use Rattle.protocol.specs.Events.{Event, Admit, Arrive, Ask, End, Abort, Prepare, Vouch, Decide, Seal, Finish}
-use Rattle.protocol.specs.Words.{holds, greatest, covers, is_aborted, is_doomed, is_live_status, is_sealed, is_value, act_of, has_act, outcome_of, is_ordered}
+use Rattle.protocol.specs.Words.{holds, greatest, covers, is_aborted, is_doomed, is_live_status, is_sealed, is_value, act_of, has_act, outcome_of, is_ordered, lock_of, floor_for, floor_at}
 use Rattle.protocol.specs.Spread.{raised, carried, carries_to, crossed_out, is_crossed}
 use Rattle.protocol.specs.Conditions.{IsAllowed, conditions, epoch}
 use Rattle.protocol.specs.Effects.{after, cell_at, no_cell}
 use Rattle.protocol.specs.Runs.{opening, IsRun, reached}
 use Rattle.protocol.specs.OnBook as book
 use Rattle.protocol.specs.History.{History, no_history, grown, batches_in}
-use Rattle.protocol_theorems.specs.Floors.{number_or_0, number_in, FloorIs}
+use Rattle.protocol_theorems.specs.Floors.{number_or_0, number_in, is_kind}
 use Rattle.protocol_laws.specs.Befores.{LastIs}
+use Rattle.protocol_laws.specs.Highs.{own_floor}
 use Rattle.protocol_laws.proofs.first.CellEpochs as cells
 use Rattle.protocol_laws.proofs.first.SettlingKept as settling
 use Rattle.protocol_laws.proofs.first.SettlingKeys as keys
@@ -29,7 +30,7 @@ use Rattle.protocol_laws.proofs.first.PairsFound.{TidsAscend}
 use Rattle.protocol_laws.proofs.machine.ActsKept.{Acts}
 use Rattle.protocol_laws.proofs.machine.BehindKept as behind
 use Rattle.protocol_theorems.proofs.sets.LastsTight.{Tights, Tight}
-use Rattle.protocol_theorems.proofs.sets.FloorsKept.{Floors}
+use Rattle.protocol_theorems.proofs.sets.FloorsKept.{Floors, Both}
 use Rattle.protocol_theorems.proofs.sets.BeforeSets as sets
 use Rattle.protocol_theorems.proofs.sets.BeforeSets.{Less, if_less, dooms}
 use Rattle.protocol_theorems.proofs.sets.BeforeStand as before
@@ -102,11 +103,11 @@ untaken_joined cs t a m xs o h = all_map (IsUntaken cs) (IsUntaken cs) (λ x. bo
     by true x i = λ d. out_max cs x.m m (i d) o
     by false x i = i
 
-untaken_asked : {C : Type 0} (cs : List Cascade) (t a : ℕ) (o : Option ℕ) (group : List Lock) (c : Cell C) (b : Book) → IsOut cs 0 → IsOut cs (max c.last c.floor) → AllByRecursion (IsUntaken cs) b.acts → AllByRecursion (IsUntaken cs) (book.asked_acts o group t a (max c.last c.floor) b)
+untaken_asked : {C : Type 0} (cs : List Cascade) (t a : ℕ) (o : Option ℕ) (group : List Lock) (c : Cell C) (b : Book) → IsOut cs 0 → IsOut cs (max c.last (floor_at t b.acts c)) → AllByRecursion (IsUntaken cs) b.acts → AllByRecursion (IsUntaken cs) (book.asked_acts o group t a (max c.last (floor_at t b.acts c)) b)
 untaken_asked cs t a (Some x) group c b z m h = untaken_changed cs t _ b.acts (λ y. record { tid = refl; m = refl; doomed = dooms (is_live_status y.status) _ y.status }) h
 untaken_asked cs t a None group c b z m h =
-    let joined = book.changed_act t (book.joins a (max c.last c.floor)) b.acts in
-    untaken_map cs (crossed_out a) (raised (b.pairs ++ book.new_pairs t a group b.acts) joined) (λ y. record { tid = refl; m = refl; doomed = dooms (is_crossed y) _ y.status }) (untaken_raised cs (b.pairs ++ book.new_pairs t a group b.acts) joined z (untaken_joined cs t a (max c.last c.floor) b.acts m h))
+    let joined = book.changed_act t (book.joins a (max c.last (floor_at t b.acts c))) b.acts in
+    untaken_map cs (crossed_out a) (raised (b.pairs ++ book.new_pairs t a group b.acts) joined) (λ y. record { tid = refl; m = refl; doomed = dooms (is_crossed y) _ y.status }) (untaken_raised cs (b.pairs ++ book.new_pairs t a group b.acts) joined z (untaken_joined cs t a (max c.last (floor_at t b.acts c)) b.acts m h))
 
 untaken_ended : {C : Type 0} (cs : List Cascade) (t : ℕ) (v : Bool) (o : Option (Outcome C)) (xs : List Act) → AllByRecursion (IsUntaken cs) xs → AllByRecursion (IsUntaken cs) (if v then book.noted_from t o xs else xs)
 untaken_ended cs t false o xs h = h
@@ -149,24 +150,35 @@ aborted cs c k settled tx x f l p h = by x.status refl
 
 -- ---- all events
 
-asked_out : {C : Type 0} (w : Fixed C) (a : ℕ) (s : Machine C) (h : History) (first : ℕ) → ((k : ℕ) → k ≤ first → IsOut s.book.cascades k) → AllByRecursion (λ k. is_aborted k s.book.cascades ≡ false) (batches_in (h.long a))
-    → Tight first (cell_at s a).last (cell_at s a).last_trimmed (h.long a) → LastIs (cell_at s a).last (cell_at s a).last_trimmed (h.long a) → FloorIs first s.book.acts (cell_at s a).floor (h.left_sealed a) → AllByRecursion (IsUntaken s.book.cascades) s.book.acts
-    → IsOut s.book.cascades (max (cell_at s a).last (cell_at s a).floor)
-asked_out w a s h first low none t l f u =
+floor_out : (cs : List Cascade) (acts : List Act) (first : ℕ) (floors : FloorPair) (left : List Lock) (v : Bool) → ((k : ℕ) → k ≤ first → IsOut cs k) → Both first acts floors left → AllByRecursion (IsUntaken cs) acts → IsOut cs (floor_for v floors)
+floor_out cs acts first floors left v low f u = by v
+  where
+    one : (r : Bool) → IsOut cs (own_floor r floors)
+    one r =
+        let n = out_greatest cs (map (number_in acts) (filter (is_kind r) left)) (low 0 (omega arith)) (sealed_out cs acts (filter (is_kind r) left) (f r).sealed u) in
+        out_of_two cs first (greatest (map (number_in acts) (filter (is_kind r) left))) (own_floor r floors) low n (omega (arith, (f r).floor_is)) (omega (arith, (f r).floor_is))
+
+    by : (v : Bool) → IsOut cs (floor_for v floors)
+    by true = one false
+    by false = out_max cs floors.write floors.read (one false) (one true)
+
+asked_out : {C : Type 0} (w : Fixed C) (a : ℕ) (s : Machine C) (h : History) (first : ℕ) (v : Bool) → ((k : ℕ) → k ≤ first → IsOut s.book.cascades k) → AllByRecursion (λ k. is_aborted k s.book.cascades ≡ false) (batches_in (h.long a))
+    → Tight first (cell_at s a).last (cell_at s a).last_trimmed (h.long a) → LastIs (cell_at s a).last (cell_at s a).last_trimmed (h.long a) → Both first s.book.acts (cell_at s a).floors (h.left_sealed a) → AllByRecursion (IsUntaken s.book.cascades) s.book.acts
+    → IsOut s.book.cascades (max (cell_at s a).last (floor_for v (cell_at s a).floors))
+asked_out w a s h first v low none t l f u =
     let cs = s.book.cascades in
     let g = out_greatest cs (batches_in (h.long a)) (low 0 (omega arith)) none in
-    let n = out_greatest cs (map (number_in s.book.acts) (h.left_sealed a)) (low 0 (omega arith)) (sealed_out cs s.book.acts (h.left_sealed a) f.sealed u) in
-    out_max cs (cell_at s a).last (cell_at s a).floor
+    out_max cs (cell_at s a).last (floor_for v (cell_at s a).floors)
     (out_of_two cs first (greatest (batches_in (h.long a))) (cell_at s a).last low g t.placed (omega (arith, sets.greatest_most (cell_at s a).last (batches_in (h.long a)) l.placed)))
-    (out_of_two cs first (greatest (map (number_in s.book.acts) (h.left_sealed a))) (cell_at s a).floor low n (omega (arith, f.floor_is)) (omega (arith, f.floor_is)))
+    (floor_out cs s.book.acts first (cell_at s a).floors (h.left_sealed a) v low f u)
 
 pub untaken_kept : {C : Type 0} (w : Fixed C) (e : Event) (s : Machine C) (h : History) → IsAllowed w e s → settling.Settling w s → Placed w s h → Lasts s h → Tights w s h → Floors w s h → TidsAscend s → Acts s h → Untaken s → Untaken (after w e s)
 unfolding Untaken settling.Settling Placed Lasts Tights Floors TidsAscend Acts conditions after
 untaken_kept w (Admit t) s h ok st p l tg f asc i g = all_join (IsUntaken s.book.cascades) s.book.acts _ g ((λ d. out_low w.text.opening.next_bid s.ring.next_bid (base w.text) s.book.cascades st.ascend (omega (arith, st.some))), tt)
 untaken_kept w (Arrive k a) s h ok st p l tg f asc i g = untaken_map s.book.cascades (crossed_out a) (map (book.lowered k (book.tids_on (cell_at s a).entries)) s.book.acts) (λ x. record { tid = refl; m = refl; doomed = dooms (is_crossed x) _ x.status }) (untaken_map s.book.cascades (book.lowered k (book.tids_on (cell_at s a).entries)) s.book.acts (λ x. record { tid = refl; m = refl; doomed = λ d. d }) g)
 untaken_kept w (Ask t a) s h ok st p l tg f asc i g =
-    untaken_asked s.book.cascades t a (book.in_the_way t (cell_at s a).entries) (book.met t (cell_at s a).entries) (cell_at s a) s.book (out_low w.text.opening.next_bid s.ring.next_bid 0 s.book.cascades st.ascend (omega (arith, st.some)))
-    (asked_out w a s h (base w.text) (λ k q. out_low w.text.opening.next_bid s.ring.next_bid k s.book.cascades st.ascend (omega (arith, q, st.some)))
+    untaken_asked s.book.cascades t a (book.in_the_way (lock_of t s.book.acts) (cell_at s a).entries) (book.met (lock_of t s.book.acts) (cell_at s a).entries) (cell_at s a) s.book (out_low w.text.opening.next_bid s.ring.next_bid 0 s.book.cascades st.ascend (omega (arith, st.some)))
+    (asked_out w a s h (base w.text) (lock_of t s.book.acts).reader (λ k q. out_low w.text.opening.next_bid s.ring.next_bid k s.book.cascades st.ascend (omega (arith, q, st.some)))
     (behind.clean s.ring.next_bid s.book.cascades (cell_at s a).epoch (cell_at s a).tail (batches_in (h.long a)) (eqb-true (cell_at s a).epoch (epoch s.book) (cells.held (λ c. c.epoch == epoch s.book) s.cells a no_cell ok.1.1.1.0)) (p a).fit) (tg a) (l a) (f a) g) g
 untaken_kept w (End t a) s h ok st p l tg f asc i g = untaken_ended s.book.cascades t (has_act t (cell_at s a).entries) (outcome_of t (cell_at s a).outbox) s.book.acts g
 untaken_kept w (Abort k) s h ok st p l tg f asc i g =
@@ -190,13 +202,13 @@ opened : {C : Type 0} (w : Fixed C) (Of : Tx → C → Type 0) (finish : C → L
 unfolding Untaken
 opened w Of finish v = record { before = before.opened w Of finish v; untaken = tt }
 
-step : {C : Type 0} (w : Fixed C) (Of : Tx → C → Type 0) (finish : C → List State → Alone) (e : Event) (s : Machine C) (h : History) → IsAllowed w e s → AllGood w Of finish s h → UntakenStand w s h → UntakenStand w (after w e s) (grown w e s h)
-step w Of finish e s h ok g i = record {
-  before = before.kept w Of finish e s h ok g i.before;
+step : {C : Type 0} (w : Fixed C) (Of : Tx → C → Type 0) (finish : C → List State → Alone) (e : Event) (s : Machine C) (h : History) → Given w Of finish → IsAllowed w e s → AllGood w Of finish s h → UntakenStand w s h → UntakenStand w (after w e s) (grown w e s h)
+step w Of finish e s h v ok g i = record {
+  before = before.kept w Of finish e s h v ok g i.before;
   untaken = untaken_kept w e s h ok g.good.settling g.good.placed g.good.lasts i.before.tights i.before.floors.floors i.before.high.tids g.acts i.untaken;
 }
 
 -- Over every run the before number of an ACT that is not doomed is no aborted batch
 pub m_is_not_aborted : {C : Type 0} (w : Fixed C) (Of : Tx → C → Type 0) (finish : C → List State → Alone) (es : List Event) → Given w Of finish → IsRun w es → (t : ℕ) (x : Act) → act_of t (reached w es).book.acts ≡ Some x → is_doomed x.status ≡ false → is_aborted x.m (reached w es).book.cascades ≡ false
 unfolding Untaken
-m_is_not_aborted w Of finish es v run t x e d = (all_found (IsUntaken (reached w es).book.cascades) (λ y. y.tid == t) (reached w es).book.acts x (all.along_good w Of finish (UntakenStand w) v (λ e s h ok g i. step w Of finish e s h ok g i) (opened w Of finish v) es run).untaken e).0 d
+m_is_not_aborted w Of finish es v run t x e d = (all_found (IsUntaken (reached w es).book.cascades) (λ y. y.tid == t) (reached w es).book.acts x (all.along_good w Of finish (UntakenStand w) v (λ e s h ok g i. step w Of finish e s h v ok g i) (opened w Of finish v) es run).untaken e).0 d

@@ -1,21 +1,23 @@
 -- An ACT that still has to do something waits for the batch of its before number, or for who stands ahead of it, or an event
 -- is allowed.
-use Rattle.std.specs.Prelude.{◌≡◌, refl, ℕ, ◌<◌, ◌≤◌, ◌%◌, ◌==◌, nat_le, max, not, Bool, true, false, ◌&&◌, ◌||◌, if◌then◌else◌, Option, Some, None, is_some, List, [], ◌∷◌, length, find}
-use Rattle.std.specs.List.{list_any, list_all}
+use Rattle.std.specs.Prelude.{◌≡◌, refl, ℕ, ◌<◌, ◌≤◌, ◌%◌, ◌==◌, nat_le, max, not, Bool, true, false, ◌&&◌, ◌||◌, if◌then◌else◌, Option, Some, None, is_some, List, [], ◌∷◌, length, find, ◌⊎◌, ◌++◌}
+use Rattle.std.specs.List.{list_any, list_all, AllByRecursion}
 use Rattle.std.proofs.Common.{arith, sym, ap, subst, inl, inr, ◌∙◌}
 use Rattle.std.proofs.lemmas.Bool.{and_parts, or_cases, true≢false, eqb-true, eq-eqb, le-leb, cases_Bool, cases_lt, not-true}
 use Rattle.snap_base.specs.declared.transactions.TxResult.{TxResult}
 use Rattle.snap_base.specs.declared.transactions.TxResult.TheVariants.{Value, Fail}
+use Rattle.protocol_laws.proofs.first.Lists.{all_join, join_assoc}
+use Rattle.protocol.specs.Rivals.{Lock}
 use Rattle.protocol.specs.Fixed.{Fixed, base}
 use Rattle.protocol.specs.Records.{is_prepare}
-use Rattle.protocol.specs.Parts.{Act, Batch, Status, Live, Doomed, Decided, Sealed, Who, OfBatch, OfAct, Entry, BatchEntry, ActEntry, Machine}
+use Rattle.protocol.specs.Parts.{Act, Batch, Status, Live, Doomed, Decided, Sealed, Who, OfBatch, OfAct, Entry, BatchEntry, ActEntry, Machine, PlacedBatch}
 use Rattle.protocol.specs.Events.{Ask, Take, Run, Prepare, Vouch, Decide}
-use Rattle.protocol.specs.Words.{is_empty, is_among, holds, is_doomed, is_sealed, is_decided, is_value, is_failure, is_live_status, is_live_act, is_live_batch, is_vouched_everywhere, act_of, joined_of, waiting_of, batch_of, is_entry_of, is_clear, is_turn_of, has_entry, has_act, batches_on}
+use Rattle.protocol.specs.Words.{is_empty, is_among, holds, is_doomed, is_sealed, is_decided, is_value, is_failure, is_live_status, is_live_act, is_live_batch, is_vouched_everywhere, act_of, joined_of, waiting_of, batch_of, is_entry_of, is_clear, is_turn_of, has_entry, has_act, batches_on, is_over_for, ahead, is_act_entry, is_who, who_of}
 use Rattle.protocol.specs.Conditions.{conditions, epoch}
 use Rattle.protocol.specs.Effects.{cell_at, log_at, no_cell}
 use Rattle.protocol.specs.Runs.{IsQuiet}
-use Rattle.protocol_theorems.specs.Quiet.{Orderly, IsLiveBatch, IsAt, is_waiting_act}
-use Rattle.protocol_theorems.specs.Waits.{IsPending, is_ahead, HasEndedAt, IsKeptBack, WaitsFor}
+use Rattle.protocol_theorems.specs.Quiet.{Orderly, IsLiveBatch, IsAt, is_waiting_act, EntriesTell}
+use Rattle.protocol_theorems.specs.Waits.{IsPending, is_ahead, is_on, HasEndedAt, IsKeptBack, Waits, WaitsFor}
 use Rattle.protocol_theorems.proofs.quiet.QuietEasy.{passes, passed, there, all_at, list_all_of, false_not, durable, up_to_date, no_outcome, all_left, not_decided}
 use Rattle.protocol_theorems.proofs.quiet.QuietBatch.{open_live, act_stands, trimmed_settled}
 
@@ -79,8 +81,50 @@ act_entry t (ActEntry x ∷ es) h = by (x.tid == t) h (act_entry t es)
     by true g k = refl
     by false g k = k g
 
+-- ---- readers stand ahead of one
+
+abbrev IsPassed : ℕ → Entry → Type 0
+IsPassed t (BatchEntry b) = ⊥
+IsPassed t (ActEntry z) = (z.reader ≡ true) × ((z.tid == t) ≡ false)
+
+batch_mid : (b : PlacedBatch) (seen es : List Entry) → is_among b.bid (batches_on (seen ++ BatchEntry b ∷ es)) ≡ true
+batch_mid b [] es = rw (eq-eqb b.bid b.bid refl) refl
+batch_mid b (BatchEntry x ∷ seen) es = Rattle.std.proofs.lemmas.Bool.or_right (x.bid == b.bid) _ (batch_mid b seen es)
+batch_mid b (ActEntry x ∷ seen) es = batch_mid b seen es
+
+act_mid : (z : Lock) (seen es : List Entry) → has_act z.tid (seen ++ ActEntry z ∷ es) ≡ true
+act_mid z [] es = rw (eq-eqb z.tid z.tid refl) refl
+act_mid z (x ∷ seen) es = Rattle.std.proofs.lemmas.Bool.or_right (is_act_entry z.tid x) _ (act_mid z seen es)
+
+find_mid : (t : ℕ) (z : Lock) (seen es : List Entry) → (z.tid == t) ≡ true → AllByRecursion (IsPassed t) seen → find (is_entry_of t) (seen ++ ActEntry z ∷ es) ≡ Some (ActEntry z)
+find_mid t z [] es u p = rw u refl
+find_mid t z (BatchEntry x ∷ seen) es u p = absurd p.0
+find_mid t z (ActEntry x ∷ seen) es u p = rw (p.0.1) (find_mid t z seen es u p.1)
+
+ahead_mid : (t : ℕ) (z : Lock) (seen es : List Entry) → (z.tid == t) ≡ true → AllByRecursion (IsPassed t) seen → ahead (is_entry_of t) (seen ++ ActEntry z ∷ es) ≡ seen
+ahead_mid t z [] es u p = rw u refl
+ahead_mid t z (BatchEntry x ∷ seen) es u p = absurd p.0
+ahead_mid t z (ActEntry x ∷ seen) es u p = rw (p.0.1) (ap (λ v. ActEntry x ∷ v) (ahead_mid t z seen es u p.1))
+
+all_over : (t : ℕ) (z : Lock) (seen : List Entry) → AllByRecursion (IsPassed t) seen → z.reader ≡ true → list_all (is_over_for (ActEntry z)) seen ≡ true
+all_over t z [] p r = refl
+all_over t z (BatchEntry x ∷ seen) p r = absurd p.0
+all_over t z (ActEntry x ∷ seen) p r = rw (r, p.0.0) (all_over t z seen p.1 r)
+
+clear_mid : (t : ℕ) (z : Lock) (seen es : List Entry) → (z.tid == t) ≡ true → AllByRecursion (IsPassed t) seen → (z.reader ≡ true) ⊎ (seen ≡ []) → is_clear t (seen ++ ActEntry z ∷ es) ≡ true
+clear_mid t z seen es u p k = rw (find_mid t z seen es u p, ahead_mid t z seen es u p) (elim k [ inl r ↦ all_over t z seen p r | inr r ↦ subst (λ v. list_all (is_over_for (ActEntry z)) v ≡ true) (sym r) refl ])
+
+ahead_at : (y x : Who) (e : Entry) (seen es : List Entry) → (is_who (who_of e) y && is_on x es) ≡ true → is_ahead y x (seen ++ e ∷ es) ≡ true
+ahead_at y x e [] es h = rw h refl
+ahead_at y x e (z ∷ seen) es h = Rattle.std.proofs.lemmas.Bool.or_right (is_who (who_of z) y && is_on x (seen ++ e ∷ es)) _ (ahead_at y x e seen es h)
+
+-- who stands ahead of it and does not let it pass
+abbrev KeepsBack : {C : Type 0} → Machine C → ℕ → Who → Type 0
+KeepsBack s t (OfBatch k) = IsKeptBack s t (OfBatch k)
+KeepsBack s t (OfAct u) = Waits s (OfAct t) (OfAct u)
+
 -- without a result it can go on
-goes_on : {C : Type 0} (w : Fixed C) (s : Machine C) (t : ℕ) (y : Act) → IsQuiet w s → Orderly w s → ((x : Who) → IsPending s x → IsKeptBack s t x → ⊥) → act_of t s.book.acts ≡ Some y → is_doomed y.status ≡ false → y.result ≡ None → ⊥
+goes_on : {C : Type 0} (w : Fixed C) (s : Machine C) (t : ℕ) (y : Act) → IsQuiet w s → Orderly w s → ((x : Who) → IsPending s x → KeepsBack s t x → ⊥) → act_of t s.book.acts ≡ Some y → is_doomed y.status ≡ false → y.result ≡ None → ⊥
 unfolding conditions
 goes_on w s t y q o l e d i =
     let c = o.controls.of_act t y e d i in
@@ -91,27 +135,34 @@ goes_on w s t y q o l e d i =
       | inl h ↦ q (Take t a) (m, (there (λ c. has_entry t c.entries) s.cells a no_cell r (act_entry t (cell_at s a).entries h), tt))
       | inr h ↦ q (Ask t a) (m, (passes (λ x. not (is_doomed x.status)) (act_of t s.book.acts) y e (false_not (is_doomed y.status) d), (there (λ c. not (has_act t c.entries)) s.cells a no_cell r (false_not (has_act t (cell_at s a).entries) h), (there (λ c. c.epoch == epoch s.book) s.cells a no_cell r (eq-eqb (cell_at s a).epoch (epoch s.book) (up_to_date w s q a r (o.batches.behind a))), tt))))
     ]
-    by a r (inr m) = first (cell_at s a).entries refl (o.controls.entered t a y e m)
+    by a r (inr m) = first [] (cell_at s a).entries refl tt (inr refl) (o.acts.tell a) (o.controls.entered t a y e m)
       where
         now : (cell_at s a).epoch ≡ epoch s.book
         now = up_to_date w s q a r (o.batches.behind a)
 
-        first : (es : List Entry) → (cell_at s a).entries ≡ es → has_act t es ≡ true → ⊥
-        first [] g h = true≢false (sym h)
-        first (BatchEntry b ∷ es) g h =
-            let on : is_among b.bid (batches_on (cell_at s a).entries) ≡ true = subst (λ z. is_among b.bid (batches_on z) ≡ true) (sym g) (rw (eq-eqb b.bid b.bid refl) refl) in
-            l (OfBatch b.bid) (let v = o.batches.present a b.bid now on in open_live w s o b.bid a v (o.batches.on_schedule b.bid a v on)) (record { actor = a; present = now; ahead = subst (λ v. is_ahead (OfBatch b.bid) (OfAct t) v ≡ true) (sym g) (rw (eq-eqb b.bid b.bid refl, h) refl) }, m)
-        first (ActEntry z ∷ es) g h = elim (or_cases (z.tid == t) (has_act t es) h) [
-          | inl n ↦ q (Run t a) (
+        -- readers stand ahead, where it only reads
+        first : (seen es : List Entry) → (cell_at s a).entries ≡ seen ++ es → AllByRecursion (IsPassed t) seen → (y.reader ≡ true) ⊎ (seen ≡ []) → EntriesTell s.book.acts es → has_act t es ≡ true → ⊥
+        first seen [] g p k n h = true≢false (sym h)
+        first seen (BatchEntry b ∷ es) g p k n h =
+            let on : is_among b.bid (batches_on (cell_at s a).entries) ≡ true = subst (λ z. is_among b.bid (batches_on z) ≡ true) (sym g) (batch_mid b seen es) in
+            l (OfBatch b.bid) (let v = o.batches.present a b.bid now on in open_live w s o b.bid a v (o.batches.on_schedule b.bid a v on)) (record { actor = a; present = now; ahead = subst (λ v. is_ahead (OfBatch b.bid) (OfAct t) v ≡ true) (sym g) (ahead_at (OfBatch b.bid) (OfAct t) (BatchEntry b) seen es (rw (eq-eqb b.bid b.bid refl, h) refl)) }, m)
+        first seen (ActEntry z ∷ es) g p k n h = elim (cases_Bool (z.tid == t)) [
+          | inl u ↦ q (Run t a) (
             there (λ c. is_some (waiting_of t c.inbox)) s.cells a no_cell r m,
             (
-              there (λ c. is_clear t c.entries) s.cells a no_cell r (subst (λ v. is_clear t v ≡ true) (sym g) (rw n refl)),
-              (there (λ c. holds (is_turn_of t) (find (is_entry_of t) c.entries)) s.cells a no_cell r (subst (λ v. holds (is_turn_of t) (find (is_entry_of t) v) ≡ true) (sym g) (rw n refl)), tt),
+              there (λ c. is_clear t c.entries) s.cells a no_cell r (subst (λ v. is_clear t v ≡ true) (sym g) (clear_mid t z seen es u p (elim k [ inl v ↦ inl (sym (n.0 y (ap (λ x. act_of x s.book.acts) (eqb-true z.tid t u) ∙ e)) ∙ v) | inr v ↦ inr v ]))),
+              (there (λ c. holds (is_turn_of t) (find (is_entry_of t) c.entries)) s.cells a no_cell r (subst (λ v. holds (is_turn_of t) (find (is_entry_of t) v) ≡ true) (sym g) (rw (find_mid t z seen es u p) refl)), tt),
             ),
           )
-          | inr n ↦
-              let x = act_stands w s q o z.tid a (subst (λ v. has_act z.tid v ≡ true) (sym g) (rw (eq-eqb z.tid z.tid refl) refl)) in
-              l (OfAct z.tid) (passes is_waiting_act (act_of z.tid s.book.acts) x.0 x.1 x.2) (record { actor = a; present = now; ahead = subst (λ v. is_ahead (OfAct z.tid) (OfAct t) v ≡ true) (sym g) (rw (eq-eqb z.tid z.tid refl, n) refl) }, m)
+          | inr u ↦
+              let behind : has_act t es ≡ true = elim (or_cases (z.tid == t) (has_act t es) h) [ inl v ↦ absurd (true≢false (sym v ∙ u)) | inr v ↦ v ] in
+              let x = act_stands w s q o z.tid a (subst (λ v. has_act z.tid v ≡ true) (sym g) (act_mid z seen es)) in
+              elim (cases_Bool (x.0.reader && y.reader)) [
+                | inr v ↦ l (OfAct z.tid) (passes is_waiting_act (act_of z.tid s.book.acts) x.0 x.1 x.2) ((record { actor = a; present = now; ahead = subst (λ v. is_ahead (OfAct z.tid) (OfAct t) v ≡ true) (sym g) (ahead_at (OfAct z.tid) (OfAct t) (ActEntry z) seen es (rw (eq-eqb z.tid z.tid refl, behind) refl)) }, m), rw (x.1, e, v) refl)
+                | inl v ↦
+                    let both = and_parts x.0.reader y.reader v in
+                    first (seen ++ ActEntry z ∷ []) es (g ∙ sym (join_assoc seen (ActEntry z ∷ []) es)) (all_join (IsPassed t) seen (ActEntry z ∷ []) p ((sym (n.0 x.0 x.1) ∙ both.0, u), tt)) (inl both.1) n.1 behind
+              ]
         ]
 
 -- An ACT that still has to do something waits for somebody.
@@ -123,7 +174,7 @@ no_act w s t y q o n e h =
     waiter : IsPending s (OfAct t)
     waiter = passes is_waiting_act (act_of t s.book.acts) y e h
 
-    kept : (x : Who) → IsPending s x → IsKeptBack s t x → ⊥
+    kept : (x : Who) → IsPending s x → KeepsBack s t x → ⊥
     kept (OfBatch k) v p = n (OfBatch k) (record { waiter = waiter; other = v; waits = inr p })
     kept (OfAct u) v p = n (OfAct u) (record { waiter = waiter; other = v; waits = p })
 

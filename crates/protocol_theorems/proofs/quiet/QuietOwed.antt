@@ -208,6 +208,7 @@ still_owed w Of finish es v run home =
       stands = joins.stands s g.opened;
       before = before;
       behind = λ a q. line.behind s h g.good.turned g.good.numbers a;
+      tell = λ a. line.entries_tell s a g.locks;
       in_order = λ a q. line.in_order w Of finish s h g l (line.pairs_in_line w Of finish es v run) a (before a q);
       number = line.number w Of finish es v run;
       somewhere = joins.somewhere s h g.acts l.arrived;

@@ -131,6 +131,7 @@ orderly w es v l run o =
         before = o.before;
         behind = o.behind;
         in_order = o.in_order;
+        tell = o.tell;
         number = o.number;
         settled = known.settled_most w s g;
         somewhere = o.somewhere;

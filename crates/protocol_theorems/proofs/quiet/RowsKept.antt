@@ -5,10 +5,11 @@ use Rattle.std.proofs.Common.{arith, sym, ap, subst, ◌∙◌}
 use Rattle.std.proofs.lemmas.List.{append-nil}
 use Rattle.std.proofs.lemmas.Bool.{ltb-true, true≢false, not-true}
 use Rattle.snap_base.specs.declared.transactions.State.{State}
+use Rattle.protocol.specs.Rivals.{Lock}
 use Rattle.protocol.specs.Fixed.{Fixed, base}
 use Rattle.protocol.specs.Parts.{SubBatch, Cascade, OfBatch, OfAct, Entry, BatchEntry, ActEntry, Cell, Machine}
 use Rattle.protocol.specs.Events.{Event, Form, Arrive, Ask, Take, Run, Send, End, Close, Complete, Settle, Abort, Rollback, Finish, Trim}
-use Rattle.protocol.specs.Words.{epoch_of, sub_of, who_of, is_batch_entry, is_act_entry, has_act, batches_on}
+use Rattle.protocol.specs.Words.{epoch_of, sub_of, who_of, is_batch_entry, is_act_entry, has_act, batches_on, lock_of}
 use Rattle.protocol.specs.Contents.{complete_mark}
 use Rattle.protocol.specs.Conditions.{IsAllowed, conditions, epoch}
 use Rattle.protocol.specs.Effects.{after, cell_at, no_cell}
@@ -129,11 +130,11 @@ act_key t [] = refl
 act_key t (BatchEntry b ∷ es) = act_key t es
 act_key t (ActEntry x ∷ es) = ap (λ z. (x.tid == t) || z) (act_key t es)
 
-ask : (next n : ℕ) (cs : List Cascade) (ep tail t : ℕ) (es : List Entry) (o : Option ℕ) → has_act t es ≡ false → RowAt next n cs ep tail es → RowAt next n cs ep tail (es ++ cell.act_entries t o)
+ask : (next n : ℕ) (cs : List Cascade) (ep tail : ℕ) (t : Lock) (es : List Entry) (o : Option ℕ) → has_act t.tid es ≡ false → RowAt next n cs ep tail es → RowAt next n cs ep tail (es ++ cell.act_entries t o)
 ask next n cs ep tail t es (Some x) e h = rw (append-nil es) h
 ask next n cs ep tail t es None e h = record {
-  places = rw (row_join es (cell.act_entries t None)) (PlaceLists.place_act next n cs ep tail t (row es) h.places);
-  differ = rw (keys_join es (cell.act_entries t None)) (TrackLists.differ_more (record { who = OfAct t; complete = false }) (map key_of es) (act_key t es ∙ e) h.differ);
+  places = rw (row_join es (cell.act_entries t None)) (PlaceLists.place_act next n cs ep tail t.tid (row es) h.places);
+  differ = rw (keys_join es (cell.act_entries t None)) (TrackLists.differ_more (record { who = OfAct t.tid; complete = false }) (map key_of es) (act_key t.tid es ∙ e) h.differ);
 }
   where
     keys_join : (es fs : List Entry) → map key_of (es ++ fs) ≡ map key_of es ++ map key_of fs
@@ -156,7 +157,7 @@ pub rows_kept : {C : Type 0} (w : Fixed C) (e : Event) (s : Machine C) → IsAll
 unfolding Rows conditions after
 rows_kept w (Form k) s ok g t h = λ a. record { places = PlaceLists.form _ _ _ _ _ _ (h a).places; differ = (h a).differ }
 rows_kept w (Arrive k a) s ok g t h = let m = message w k a s ok g in one_of (λ b c. At s b c) no_cell s.cells a _ (λ x. arrive _ _ _ _ _ k (cell_at s a).entries (sub_of k a s.post.subs) ok.0 m.formed m.own m.behind x) h
-rows_kept w (Ask t a) s ok g u h = one_of (λ b c. At s b c) no_cell s.cells a _ (λ x. ask _ _ _ _ _ t (cell_at s a).entries (book.in_the_way t (cell_at s a).entries) (not-true (has_act t (cell_at s a).entries) (held (λ c. not (has_act t c.entries)) s.cells a no_cell ok.1.1.0)) x) h
+rows_kept w (Ask t a) s ok g u h = one_of (λ b c. At s b c) no_cell s.cells a _ (λ x. ask _ _ _ _ _ (lock_of t s.book.acts) (cell_at s a).entries (book.in_the_way (lock_of t s.book.acts) (cell_at s a).entries) (not-true (has_act t (cell_at s a).entries) (held (λ c. not (has_act t c.entries)) s.cells a no_cell ok.1.1.0)) x) h
 rows_kept w (Take t a) s ok g u h = one_of (λ b c. At s b c) no_cell s.cells a _ (λ x. x) h
 rows_kept w (Run t a) s ok g u h = one_of (λ b c. At s b c) no_cell s.cells a (cell.slice_run w.code t a (cell_at s a)) (λ x. ran _ _ _ _ _ t (cell.is_done_after w.code a (cell.slice_of w.code t (cell_at s a))) (cell_at s a).entries x) h
 rows_kept w (Send t a) s ok g u h = one_of (λ b c. At s b c) no_cell s.cells a _ (λ x. x) h

@@ -197,7 +197,7 @@ cs_kept w e s ok h = omega (arith, h, placed_became s.book.acts (after w e s).bo
 acts_kept : {C : Type 0} (w : Fixed C) (e : Event) (s : Machine C) → length s.book.acts + w.text.opening.next_tid ≤ s.ring.next_tid → length (after w e s).book.acts + w.text.opening.next_tid ≤ (after w e s).ring.next_tid
 unfolding after
 acts_kept w (Form k) s h = omega (arith, h)
-acts_kept w (Admit t) s h = omega (arith, h, Times.length_join s.book.acts (book.new_act t (Rattle.protocol.specs.OnPost.next_act s.ring) (Rattle.protocol.specs.Fixed.base w.text) ∷ []))
+acts_kept w (Admit t) s h = omega (arith, h, Times.length_join s.book.acts (book.new_act t (Rattle.protocol.specs.OnPost.next_act s.ring) (Rattle.protocol.specs.Fixed.is_reader w (Rattle.protocol.specs.OnPost.next_act s.ring)) (Rattle.protocol.specs.Fixed.base w.text) ∷ []))
 acts_kept w e s h = omega (arith, h, as_many, frame w e s NextTid refl)
   where
     as_many : length (after w e s).book.acts ≡ length s.book.acts

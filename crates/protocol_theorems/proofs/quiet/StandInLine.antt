@@ -5,6 +5,8 @@ use Rattle.std.proofs.Common.{arith, sym, ap, subst, inl, inr, ◌∙◌}
 use Rattle.std.proofs.lemmas.Bool.{true≢false, eqb-true, eq-eqb, ne_eqb, lt-ltb, le-leb, leb-true, or_cases, or_left, or_right, or_parts, and_parts, not-true, cases_Bool, cases_lt, false_from_ne_true}
 use Rattle.snap_base.specs.declared.transactions.State.{State}
 use Rattle.snap_base.specs.declared.transactions.Tx.{Tx}
+use Rattle.protocol_laws.proofs.first.Agree.{agree, agree_is}
+use Rattle.protocol_laws.proofs.machine.ReadersKept.{LockOf, Locks}
 use Rattle.protocol.specs.Facts.{Alone}
 use Rattle.protocol.specs.Fixed.{Fixed, base}
 use Rattle.protocol.specs.Numbers.{from}
@@ -23,9 +25,9 @@ use Rattle.protocol_laws.specs.Commits.{is_kept}
 use Rattle.protocol_laws.specs.Marks.{Marked}
 use Rattle.protocol_laws.specs.FromDesk.{is_declared, EntryOf}
 use Rattle.protocol_laws.specs.Befores.{is_above, Befores, gone_in}
-use Rattle.protocol_laws.specs.Highs.{doomed_at, is_pair, has_pair, is_paired, Paired, Grouped}
+use Rattle.protocol_laws.specs.Highs.{doomed_at, is_pair, has_pair, is_paired, Paired, Grouped, both_read}
 use Rattle.protocol_theorems.specs.Sets.{least_in, IsLeast, IsUncrossed}
-use Rattle.protocol_theorems.specs.Quiet.{BeforeBatches, BehindBatches, IsAheadOf, ActsInOrder}
+use Rattle.protocol_theorems.specs.Quiet.{BeforeBatches, BehindBatches, IsAheadOf, ActsInOrder, EntriesTell}
 use Rattle.protocol_laws.proofs.first.SettlingKept as settling
 use Rattle.protocol_laws.proofs.machine.TracksKept.{Tracked}
 use Rattle.protocol_laws.proofs.machine.TurnsKept.{one_is, Turned}
@@ -60,13 +62,13 @@ pub record Line {C : Type 0} (w : Fixed C) (s : Machine C) (h : History) : Type 
   pub full : Fulls s h
   pub afters : AfterStand w s h
 
-line_kept : {C : Type 0} (w : Fixed C) (Of : Tx → C → Type 0) (finish : C → List State → Alone) (e : Event) (s : Machine C) (h : History) → IsAllowed w e s → AllGood w Of finish s h → Line w s h → Line w (after w e s) (grown w e s h)
-line_kept w Of finish e s h ok g i = record {
+line_kept : {C : Type 0} (w : Fixed C) (Of : Tx → C → Type 0) (finish : C → List State → Alone) (e : Event) (s : Machine C) (h : History) → Given w Of finish → IsAllowed w e s → AllGood w Of finish s h → Line w s h → Line w (after w e s) (grown w e s h)
+line_kept w Of finish e s h v ok g i = record {
   joins = joins.joins_kept w e s h ok g.none g.acts g.left g.standing i.joins;
   arrived = joins.arrived_kept w e s g.opened i.arrived;
   free = line.free_kept w Of finish e s h ok g i.free;
   full = line.full_kept w e s h ok g.opened g.acts i.full;
-  afters = afters.kept w Of finish e s h ok g i.afters;
+  afters = afters.kept w Of finish e s h v ok g i.afters;
 }
 
 line_opened : {C : Type 0} (w : Fixed C) (Of : Tx → C → Type 0) (finish : C → List State → Alone) → Given w Of finish → Line w (opening w) no_history
@@ -80,7 +82,7 @@ line_opened {C} w Of finish v = record {
 }
 
 pub line_stands : {C : Type 0} (w : Fixed C) (Of : Tx → C → Type 0) (finish : C → List State → Alone) (es : List Event) → Given w Of finish → IsRun w es → Line w (reached w es) (history w es)
-line_stands w Of finish es v run = all.along_good w Of finish (Line w) v (λ e s h ok g i. line_kept w Of finish e s h ok g i) (line_opened w Of finish v) es run
+line_stands w Of finish es v run = all.along_good w Of finish (Line w) v (λ e s h ok g i. line_kept w Of finish e s h v ok g i) (line_opened w Of finish v) es run
 
 -- ---- a batch behind an ACT is not committed yet
 
@@ -269,17 +271,21 @@ pair_found P a t u (p ∷ ps) h g = elim (or_cases (is_pair a t u p) (has_pair a
 not_doomed : (acts : List Act) (t : ℕ) (x : Act) → act_of t acts ≡ Some x → is_doomed x.status ≡ false → doomed_at acts t ≡ true → ⊥
 not_doomed acts t x e d q = true≢false (sym (subst (λ o. holds (λ x. is_doomed x.status) o ≡ true) e q) ∙ d)
 
+or_second : (p q : Bool) → p ≡ false → (p || q) ≡ true → q ≡ true
+or_second true q e h = absurd (true≢false e)
+or_second false q e h = h
+
 order_one : (a : ℕ) (ps : List Pair) (acts : List Act) (z : ℕ) (es : List Entry) → AllByRecursion (IsInLine acts) ps → PairedOn a ps acts z es → ((k : ℕ) → is_among k (batches_on es) ≡ true → holds (λ y. is_doomed y.status || nat_lt y.m k) (act_of z acts) ≡ true) → BehindBatches acts es
-    → (t : ℕ) (x y : Act) → has_act t es ≡ true → act_of z acts ≡ Some x → act_of t acts ≡ Some y → is_doomed x.status ≡ false → is_doomed y.status ≡ false → IsAheadOf x y
-order_one a ps acts z [] l p b c t x y h e f d g = absurd (true≢false (sym h))
-order_one a ps acts z (BatchEntry k ∷ es) l p b c t x y h e f d g =
+    → (t : ℕ) (x y : Act) → has_act t es ≡ true → act_of z acts ≡ Some x → act_of t acts ≡ Some y → is_doomed x.status ≡ false → is_doomed y.status ≡ false → (x.reader && y.reader) ≡ false → IsAheadOf x y
+order_one a ps acts z [] l p b c t x y h e f d g r = absurd (true≢false (sym h))
+order_one a ps acts z (BatchEntry k ∷ es) l p b c t x y h e f d g r =
     let m = subst (λ o. holds (λ y. is_doomed y.status || nat_lt y.m k.bid) o ≡ true) e (b k.bid (or_left (k.bid == k.bid) _ (eq-eqb k.bid k.bid refl))) in
     let n = c.0 t y h f g in
     elim (or_cases (is_doomed x.status) (nat_lt x.m k.bid) m) [ inl q ↦ absurd (true≢false (sym q ∙ d)) | inr q ↦ inl (omega (arith, n, Rattle.std.proofs.lemmas.Bool.ltb-true x.m k.bid q)) ]
-order_one a ps acts z (ActEntry u ∷ es) l p b c t x y h e f d g = elim (or_cases (u.tid == t) (has_act t es) h) [
+order_one a ps acts z (ActEntry u ∷ es) l p b c t x y h e f d g r = elim (or_cases (u.tid == t) (has_act t es) h) [
   | inl q ↦
       let own : is_paired a ps acts z t ≡ true = subst (λ v. is_paired a ps acts z v ≡ true) (eqb-true u.tid t q) p.0 in
-      elim (or_cases (doomed_at acts z) (doomed_at acts t || has_pair a t z ps) own) [
+      elim (or_cases (doomed_at acts z) (doomed_at acts t || has_pair a t z ps) (or_second (both_read acts z t) (doomed_at acts z || (doomed_at acts t || has_pair a t z ps)) (ap (λ o. holds (λ v. v.reader) o && holds (λ v. v.reader) (act_of t acts)) e ∙ (ap (λ o. x.reader && holds (λ v. v.reader) o) f ∙ r)) own)) [
         | inl v ↦ absurd (not_doomed acts z x e d v)
         | inr v ↦ elim (or_cases (doomed_at acts t) (has_pair a t z ps) v) [
           | inl w ↦ absurd (not_doomed acts t y f g w)
@@ -289,7 +295,7 @@ order_one a ps acts z (ActEntry u ∷ es) l p b c t x y h e f d g = elim (or_cas
               inr (k.0, omega (arith, k.1, r.2, r.3, found_tid z x acts e, found_tid t y acts f))
         ]
       ]
-  | inr q ↦ order_one a ps acts z es l p.1 b c t x y q e f d g
+  | inr q ↦ order_one a ps acts z es l p.1 b c t x y q e f d g r
 ]
 
 order_on : (a : ℕ) (ps : List Pair) (acts : List Act) (es : List Entry) → AllByRecursion (IsInLine acts) ps → GroupedOn a ps acts es → BeforeBatches acts es → BehindBatches acts es → ActsInOrder acts es
@@ -313,6 +319,16 @@ pairs_in_line w Of finish es v run =
     by acts p x y e f d g n (Doomed v) q = absurd (true≢false (sym (ap is_doomed q) ∙ g))
     by acts p x y e f d g n (Decided c) q = absurd (not_doomed acts p.ahead x e d (n (ap is_ordered q)))
     by acts p x y e f d g n (Sealed c) q = absurd (not_doomed acts p.ahead x e d (n (ap is_ordered q)))
+
+-- an entry tells of its ACT whether it only reads
+tell_all : (acts : List Act) (es : List Entry) → AllByRecursion (LockOf acts) es → EntriesTell acts es
+tell_all acts [] h = tt
+tell_all acts (BatchEntry b ∷ es) h = tell_all acts es h.1
+tell_all acts (ActEntry z ∷ es) h = ((λ x e. agree_is x.reader z.reader (subst (λ o. holds (λ y. agree y.reader z.reader) o ≡ true) e h.0)), tell_all acts es h.1)
+
+pub entries_tell : {C : Type 0} (s : Machine C) (a : ℕ) → Locks s → EntriesTell s.book.acts (cell_at s a).entries
+unfolding Locks
+entries_tell s a l = tell_all s.book.acts (cell_at s a).entries (l a)
 
 pub in_order : {C : Type 0} (w : Fixed C) (Of : Tx → C → Type 0) (finish : C → List State → Alone) (s : Machine C) (h : History) → AllGood w Of finish s h → Line w s h → AllByRecursion (IsInLine s.book.acts) s.book.pairs → (a : ℕ) → BeforeBatches s.book.acts (cell_at s a).entries → ActsInOrder s.book.acts (cell_at s a).entries
 unfolding Turned AllFree Groups

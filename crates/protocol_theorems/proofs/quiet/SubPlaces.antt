@@ -5,10 +5,11 @@ use Rattle.std.specs.List.{AllByRecursion, list_any}
 use Rattle.std.proofs.Common.{arith, sym, ap, subst, inl, inr, ◌∙◌}
 use Rattle.std.proofs.lemmas.List.{get_or-set_same, get_or-set_other}
 use Rattle.std.proofs.lemmas.Bool.{eqb-true, eqb-false, eq-eqb, ne_eqb, and_parts, true≢false, cases_Bool, cases_lt}
+use Rattle.protocol.specs.Rivals.{Lock}
 use Rattle.protocol.specs.Fixed.{Fixed, Next, Go, Ended}
 use Rattle.protocol.specs.Parts.{Ring, SubBatch, Cascade, Declared, Batch, Committing, Settled, Entry, BatchEntry, ActEntry, Outcome, Cell, Machine}
 use Rattle.protocol.specs.Events.{Event, Form, Arrive, Ask, Take, Run, Send, End, Close, Complete, Note, Commit, Settle, Abort, Rollback, DropSub, Finish, Trim}
-use Rattle.protocol.specs.Words.{holds, count, is_among, covers, is_aborted, sub_of, without_sub, batch_of, declared_of, is_batch_entry, is_act_entry, has_act, outcome_of, batches_on, below}
+use Rattle.protocol.specs.Words.{holds, count, is_among, covers, is_aborted, sub_of, without_sub, batch_of, declared_of, is_batch_entry, is_act_entry, has_act, outcome_of, batches_on, below, lock_of}
 use Rattle.protocol.specs.Conditions.{IsAllowed, conditions, epoch}
 use Rattle.protocol.specs.Effects.{after, cell_at, no_cell}
 use Rattle.protocol.specs.Numbers.{times, one_if}
@@ -96,7 +97,7 @@ batches_join [] fs = refl
 batches_join (BatchEntry b ∷ es) fs = ap (λ z. b.bid ∷ z) (batches_join es fs)
 batches_join (ActEntry x ∷ es) fs = batches_join es fs
 
-pub acts_only : (t : ℕ) (o : Option ℕ) (es : List Entry) → batches_on (es ++ cell.act_entries t o) ≡ batches_on es
+pub acts_only : (t : Lock) (o : Option ℕ) (es : List Entry) → batches_on (es ++ cell.act_entries t o) ≡ batches_on es
 acts_only t None es = batches_join es (cell.act_entries t None) ∙ Rattle.std.proofs.lemmas.List.append-nil (batches_on es)
 acts_only t (Some x) es = ap batches_on (Rattle.std.proofs.lemmas.List.append-nil es)
 
@@ -359,7 +360,7 @@ one_place_kept w (Arrive k a) s ok more g r h = λ b. elim (cases_Bool (b == a))
       (subst (λ c. OneAt (without_sub k a s.post.subs) s.desk.batches s.book.cascades a c.entries) (sym (get_or-set_same s.cells a (cell.batch_placed k (sub_of k a s.post.subs) (cell_at s a)) no_cell (arrives (epoch s.book) a (λ c. c.epoch == epoch s.book) s.cells (sub_of k a s.post.subs) ok.1.1.0))) (arrive_one s.post.subs s.desk.batches s.book.cascades k a (cell_at s a).entries ok.0 (h a)))
   | inr e ↦ subst (λ c. OneAt (without_sub k a s.post.subs) s.desk.batches s.book.cascades b c.entries) (sym (get_or-set_other s.cells a b (cell.batch_placed k (sub_of k a s.post.subs) (cell_at s a)) no_cell (eqb-false b a e))) (away s.post.subs s.desk.batches s.book.cascades k a b (cell_at s b).entries e (h b))
 ]
-one_place_kept w (Ask t a) s ok more g r h = one_of (λ b c. OneAt s.post.subs s.desk.batches s.book.cascades b c.entries) no_cell s.cells a _ (λ x. same_row s.post.subs s.desk.batches s.book.cascades a (cell_at s a).entries ((cell_at s a).entries ++ cell.act_entries t (book.in_the_way t (cell_at s a).entries)) (acts_only t (book.in_the_way t (cell_at s a).entries) (cell_at s a).entries) x) h
+one_place_kept w (Ask t a) s ok more g r h = one_of (λ b c. OneAt s.post.subs s.desk.batches s.book.cascades b c.entries) no_cell s.cells a _ (λ x. same_row s.post.subs s.desk.batches s.book.cascades a (cell_at s a).entries ((cell_at s a).entries ++ cell.act_entries (lock_of t s.book.acts) (book.in_the_way (lock_of t s.book.acts) (cell_at s a).entries)) (acts_only (lock_of t s.book.acts) (book.in_the_way (lock_of t s.book.acts) (cell_at s a).entries) (cell_at s a).entries) x) h
 one_place_kept w (Take t a) s ok more g r h = one_of (λ b c. OneAt s.post.subs s.desk.batches s.book.cascades b c.entries) no_cell s.cells a _ (λ x. x) h
 one_place_kept w (Run t a) s ok more g r h = one_of (λ b c. OneAt s.post.subs s.desk.batches s.book.cascades b c.entries) no_cell s.cells a (cell.slice_run w.code t a (cell_at s a)) (λ x. ran s.post.subs s.desk.batches s.book.cascades a t (cell.is_done_after w.code a (cell.slice_of w.code t (cell_at s a))) (cell_at s a).entries x) h
 one_place_kept w (Send t a) s ok more g r h = one_of (λ b c. OneAt s.post.subs s.desk.batches s.book.cascades b c.entries) no_cell s.cells a _ (λ x. x) h

@@ -8,7 +8,7 @@ use Rattle.protocol.specs.Fixed.{Fixed}
 use Rattle.protocol.specs.Records.{LogRecord, ActDone, is_complete}
 use Rattle.protocol.specs.Parts.{Act, SubBatch, Declared, Committing, Settled, Stage, Formed, Entry, BatchEntry, ActEntry, Machine}
 use Rattle.protocol.specs.Events.{Event, Form, Arrive, Ask, Take, Run, Send, End, Close, Complete, Sync, Note, Commit, Settle, Abort, Rollback, Prepare, Decide, Finish, Trim}
-use Rattle.protocol.specs.Words.{holds, is_among, is_aborted, is_value, is_formed, is_settled, sub_of, batch_of, declared_of, act_of, is_batch_entry, is_complete_batch, has_act, outcome_of, batches_on, value_of}
+use Rattle.protocol.specs.Words.{holds, is_among, is_aborted, is_value, is_formed, is_settled, sub_of, batch_of, declared_of, act_of, is_batch_entry, is_complete_batch, has_act, outcome_of, batches_on, value_of, lock_of}
 use Rattle.protocol.specs.Conditions.{IsAllowed, conditions}
 use Rattle.protocol.specs.Effects.{after, cell_at, log_at, no_cell, no_log, added, synced, act_commit, ascending}
 use Rattle.protocol.specs.Numbers.{times, one_if}
@@ -80,7 +80,7 @@ arrived j k es o i = omega (arith, SubPlaces.times_arrived j k es o i)
 stands : {C : Type 0} (w : Fixed C) (e : Event) (s : Machine C) (k a : ℕ) → IsAllowed w e s → is_aborted k s.book.cascades ≡ false → rows.Rows s → NotTrim k a e → times k (batches_on (cell_at s a).entries) ≤ times k (batches_on (cell_at (after w e s) a).entries)
 unfolding rows.Rows conditions after
 stands w (Arrive j b) s k a ok n r m = one_of (λ i c. times k (batches_on (cell_at s i).entries) ≤ times k (batches_on c.entries)) no_cell s.cells b (cell.batch_placed j (sub_of j b s.post.subs) (cell_at s b)) (λ x. arrived k j (cell_at s b).entries (sub_of j b s.post.subs) ok.0) (λ i. omega arith) a
-stands w (Ask t b) s k a ok n r m = one_of (λ i c. times k (batches_on (cell_at s i).entries) ≤ times k (batches_on c.entries)) no_cell s.cells b _ (λ x. same (ap (times k) (SubPlaces.acts_only t (book.in_the_way t (cell_at s b).entries) (cell_at s b).entries))) (λ i. omega arith) a
+stands w (Ask t b) s k a ok n r m = one_of (λ i c. times k (batches_on (cell_at s i).entries) ≤ times k (batches_on c.entries)) no_cell s.cells b _ (λ x. same (ap (times k) (SubPlaces.acts_only (lock_of t s.book.acts) (book.in_the_way (lock_of t s.book.acts) (cell_at s b).entries) (cell_at s b).entries))) (λ i. omega arith) a
 stands w (Take t b) s k a ok n r m = one_of (λ i c. times k (batches_on (cell_at s i).entries) ≤ times k (batches_on c.entries)) no_cell s.cells b _ (λ x. x) (λ i. omega arith) a
 stands w (Run t b) s k a ok n r m = one_of (λ i c. times k (batches_on (cell_at s i).entries) ≤ times k (batches_on c.entries)) no_cell s.cells b (cell.slice_run w.code t b (cell_at s b)) (λ x. ran k t (cell.is_done_after w.code b (cell.slice_of w.code t (cell_at s b))) (cell_at s b).entries) (λ i. omega arith) a
 stands w (Send t b) s k a ok n r m = one_of (λ i c. times k (batches_on (cell_at s i).entries) ≤ times k (batches_on c.entries)) no_cell s.cells b _ (λ x. x) (λ i. omega arith) a

@@ -1,10 +1,11 @@
 -- Who is waited for is lower, so nobody waits in a circle.
-use Rattle.std.specs.Prelude.{◌≡◌, ℕ, ◌<◌, ◌≤◌, ◌==◌, nat_lt, true, false, ◌&&◌, ◌||◌, ◌⊎◌, Some, is_some, List, [], ◌∷◌, ◌++◌}
+use Rattle.std.specs.Prelude.{◌≡◌, ℕ, ◌<◌, ◌≤◌, ◌==◌, nat_lt, not, true, false, ◌&&◌, ◌||◌, ◌⊎◌, Some, is_some, List, [], ◌∷◌, ◌++◌}
 use Rattle.std.proofs.Common.{arith, sym, ap, subst, inl, inr, ◌∙◌}
 use Rattle.std.proofs.lemmas.Bool.{and_parts, or_cases, true≢false, eqb-true, ltb-true, not-true, cases_lt}
 use Rattle.protocol.specs.Fixed.{Fixed}
+use Rattle.protocol.specs.Rivals.{rivals}
 use Rattle.protocol.specs.Parts.{Act, Who, OfBatch, OfAct, Entry, BatchEntry, ActEntry, Machine}
-use Rattle.protocol.specs.Words.{holds, is_among, is_doomed, is_live_act, is_live_status, act_of, has_act, batches_on}
+use Rattle.protocol.specs.Words.{holds, is_among, is_doomed, is_live_act, is_live_status, act_of, lock_of, has_act, batches_on}
 use Rattle.protocol.specs.Effects.{cell_at}
 use Rattle.protocol_theorems.specs.Floors.{number_or_0}
 use Rattle.protocol_theorems.specs.Quiet.{Orderly, is_waiting_act, BeforeBatches, BehindBatches, ActsInOrder, IsAheadOf}
@@ -36,12 +37,12 @@ behind_batch acts k t y (BatchEntry b ∷ es) h a e d = elim (or_cases ((b.bid =
   | inr q ↦ behind_batch acts k t y es h.1 q e d
 ]
 
-behind_act : (acts : List Act) (u t : ℕ) (x y : Act) (es : List Entry) → ActsInOrder acts es → is_ahead (OfAct u) (OfAct t) es ≡ true → act_of u acts ≡ Some x → act_of t acts ≡ Some y → is_doomed x.status ≡ false → is_doomed y.status ≡ false → IsAheadOf x y
-behind_act acts u t x y [] h a i j d e = absurd (true≢false (sym a))
-behind_act acts u t x y (BatchEntry b ∷ es) h a i j d e = behind_act acts u t x y es h a i j d e
-behind_act acts u t x y (ActEntry z ∷ es) h a i j d e = elim (or_cases ((z.tid == u) && has_act t es) (is_ahead (OfAct u) (OfAct t) es) a) [
-  | inl q ↦ let v = and_parts (z.tid == u) (has_act t es) q in h.0 t x y v.1 (subst (λ n. act_of n acts ≡ Some x) (sym (eqb-true z.tid u v.0)) i) j d e
-  | inr q ↦ behind_act acts u t x y es h.1 q i j d e
+behind_act : (acts : List Act) (u t : ℕ) (x y : Act) (es : List Entry) → ActsInOrder acts es → is_ahead (OfAct u) (OfAct t) es ≡ true → act_of u acts ≡ Some x → act_of t acts ≡ Some y → is_doomed x.status ≡ false → is_doomed y.status ≡ false → (x.reader && y.reader) ≡ false → IsAheadOf x y
+behind_act acts u t x y [] h a i j d e n = absurd (true≢false (sym a))
+behind_act acts u t x y (BatchEntry b ∷ es) h a i j d e n = behind_act acts u t x y es h a i j d e n
+behind_act acts u t x y (ActEntry z ∷ es) h a i j d e n = elim (or_cases ((z.tid == u) && has_act t es) (is_ahead (OfAct u) (OfAct t) es) a) [
+  | inl q ↦ let v = and_parts (z.tid == u) (has_act t es) q in h.0 t x y v.1 (subst (λ n. act_of n acts ≡ Some x) (sym (eqb-true z.tid u v.0)) i) j d e n
+  | inr q ↦ behind_act acts u t x y es h.1 q i j d e n
 ]
 
 before_batch : (acts : List Act) (u k : ℕ) (x : Act) (es : List Entry) → BeforeBatches acts es → is_ahead (OfAct u) (OfBatch k) es ≡ true → act_of u acts ≡ Some x → is_doomed x.status ≡ false → x.m < k
@@ -57,6 +58,12 @@ before_batch acts u k x (ActEntry z ∷ es) h a i d = elim (or_cases ((z.tid == 
       | inl n ↦ absurd (true≢false (sym n ∙ d))
       | inr n ↦ ltb-true x.m k n
     ]
+
+-- two rivals do not both only read
+not_both : (x y : Act) (acts : List Act) (u t : ℕ) → act_of u acts ≡ Some x → act_of t acts ≡ Some y → rivals (lock_of u acts) (lock_of t acts) ≡ true → (x.reader && y.reader) ≡ false
+not_both x y acts u t e f h =
+    let g = subst (λ o. not (holds (λ z. z.reader) o && holds (λ z. z.reader) (act_of t acts)) ≡ true) e h in
+    not-true (x.reader && y.reader) (subst (λ o. not (x.reader && holds (λ z. z.reader) o) ≡ true) f g)
 
 -- ---- who is waited for is lower
 
@@ -85,8 +92,8 @@ falls w s o (OfAct t) (OfBatch k) h =
 falls w s o (OfAct t) (OfAct u) h =
     let y = pending s t h.waiter in
     let x = pending s u h.other in
-    let p = h.waits.0 in
-    kept_by_act (number_of s u) (number_of s t) u t x.act y.act x.number y.number (found_tid u s.book.acts x.act x.found) (found_tid t s.book.acts y.act y.found) (behind_act s.book.acts u t x.act y.act (cell_at s p.actor).entries (o.acts.in_order p.actor p.present) p.ahead x.found y.found x.lives y.lives)
+    let p = h.waits.0.0 in
+    kept_by_act (number_of s u) (number_of s t) u t x.act y.act x.number y.number (found_tid u s.book.acts x.act x.found) (found_tid t s.book.acts y.act y.found) (behind_act s.book.acts u t x.act y.act (cell_at s p.actor).entries (o.acts.in_order p.actor p.present) p.ahead x.found y.found x.lives y.lives (not_both x.act y.act s.book.acts u t x.found y.found h.waits.1))
 
 -- ---- nobody waits in a circle
 

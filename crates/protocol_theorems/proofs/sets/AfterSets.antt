@@ -8,14 +8,14 @@ use Rattle.protocol.specs.Fixed.{Fixed, Next, Go, Ended}
 use Rattle.protocol.specs.Rivals.{Lock}
 use Rattle.protocol.specs.Parts.{Act, Pair, Book, Batch, Cascade, Status, Live, Doomed, Decided, Sealed, Outcome, Who, OfBatch, OfAct, Entry, BatchEntry, ActEntry, Cell, Machine}
 use Rattle.protocol.specs.Events.{Event, Admit, Arrive, Ask, Run, End, Complete, Abort, Rollback, Prepare, Vouch, Decide, Seal, Finish, Trim}
-use Rattle.protocol.specs.Words.{holds, least_of, is_among, is_aborted, is_doomed, is_live_status, is_sealed, is_settled, is_formed, is_open, is_value, is_next_to_commit, is_who, who_on, act_of, batch_of, declared_of, has_act, outcome_of}
+use Rattle.protocol.specs.Words.{holds, least_of, is_among, is_aborted, is_doomed, is_live_status, is_sealed, is_settled, is_formed, is_open, is_value, is_next_to_commit, is_who, who_on, act_of, batch_of, declared_of, has_act, outcome_of, lock_of, floor_at}
 use Rattle.protocol.specs.Spread.{raised, carried, crossed_out, is_crossed, reaches}
 use Rattle.protocol.specs.Conditions.{IsAllowed, conditions}
 use Rattle.protocol.specs.Effects.{after, cell_at}
 use Rattle.protocol.specs.OnBook as book
 use Rattle.protocol.specs.OnCell as cell
 use Rattle.protocol.specs.OnCell.{is_cut}
-use Rattle.protocol.specs.History.{History, Slice, Ran, Stands, Gone, grown, with_at, not_run, ran_in, completed, left_for_good, without_standing, long_staying, asks, batches_in, behind_too}
+use Rattle.protocol.specs.History.{History, Slice, Ran, Stands, Gone, grown, with_at, not_run, ran_in, completed, left_for_good, without_standing, long_staying, asks, batches_in, behind_too, is_traceless, ran_on}
 use Rattle.protocol_laws.specs.Turns.{Turns}
 use Rattle.protocol_laws.specs.Places.{Fits, Ascends}
 use Rattle.protocol_laws.specs.Commits.{is_kept, KeptFront, has_kept}
@@ -23,6 +23,7 @@ use Rattle.protocol_laws.specs.Marks.{Marked}
 use Rattle.protocol_laws.specs.FromDesk.{is_declared, EntryOf}
 use Rattle.protocol_laws.specs.Highs.{AllDoomed, TakenAlong, doomed_at}
 use Rattle.protocol_theorems.specs.Sets.{least_in, is_ahead, StandsBehind, IsLeast, IsUncrossed}
+use Rattle.protocol_laws.proofs.machine.TrackLists
 use Rattle.protocol_laws.proofs.first.PairsFound.{Ascend, TidsAscend}
 use Rattle.protocol_laws.proofs.machine.PlaceLists
 use Rattle.protocol_laws.proofs.machine.PlacesKept.{Placed}
@@ -79,7 +80,7 @@ uncrossed_ended {C} t true (Some x) xs h = by x.next
     by (Go b c) = h
     by (Ended r) = uncrossed_changed t (book.with_result r) xs (λ x i. i) h
 
-uncrossed_asked : {C : Type 0} (t a : ℕ) (o : Option ℕ) (group : List Lock) (c : Cell C) (b : Book) → AllByRecursion IsUncrossed b.acts → AllByRecursion IsUncrossed (book.asked_acts o group t a (max c.last c.floor) b)
+uncrossed_asked : {C : Type 0} (t a : ℕ) (o : Option ℕ) (group : List Lock) (c : Cell C) (b : Book) → AllByRecursion IsUncrossed b.acts → AllByRecursion IsUncrossed (book.asked_acts o group t a (max c.last (floor_at t b.acts c)) b)
 uncrossed_asked t a None group c b h = all_crossed_gone a _
 uncrossed_asked t a (Some x) group c b h = uncrossed_changed t _ b.acts (λ y i. fewer_crossed y (book.doomed_by (Rattle.protocol.specs.Verdicts.died a x t) y) (record { tid = refl; n = refl; live = live_if (is_live_status y.status) _ y.status }) refl i) h
 
@@ -94,7 +95,7 @@ pub uncrossed_kept : {C : Type 0} (w : Fixed C) (e : Event) (s : Machine C) → 
 unfolding Uncrossed after
 uncrossed_kept w (Admit t) s h = all_join IsUncrossed s.book.acts _ h (refl, tt)
 uncrossed_kept w (Arrive k a) s h = all_crossed_gone a _
-uncrossed_kept w (Ask t a) s h = uncrossed_asked t a (book.in_the_way t (cell_at s a).entries) (book.met t (cell_at s a).entries) (cell_at s a) s.book h
+uncrossed_kept w (Ask t a) s h = uncrossed_asked t a (book.in_the_way (lock_of t s.book.acts) (cell_at s a).entries) (book.met (lock_of t s.book.acts) (cell_at s a).entries) (cell_at s a) s.book h
 uncrossed_kept w (End t a) s h = uncrossed_ended t (has_act t (cell_at s a).entries) (outcome_of t (cell_at s a).outbox) s.book.acts h
 uncrossed_kept w (Abort k) s h = all_map IsUncrossed IsUncrossed _ s.book.acts (λ x i. no_number (is_live_status (book.cascaded k (book.failed_tx (book.why k s.desk)) x).status)) h
 uncrossed_kept w (Prepare t a) s h = uncrossed_changed t _ s.book.acts (λ x i. i) h
@@ -287,11 +288,11 @@ least_raised : (cs : List Cascade) (long : ℕ → List Ran) (b : ℕ → List �
 least_raised cs long b ps [] h = tt
 least_raised cs long b ps (x ∷ xs) h = (fewer_least cs long b x (record x { m = max x.m (carried ps x (raised ps xs)) }) (record { tid = refl; n = refl; live = λ d. d }) h.0, least_raised cs long b ps xs h.1)
 
-least_asked : {C : Type 0} (cs : List Cascade) (long : ℕ → List Ran) (b : ℕ → List ℕ) (t a : ℕ) (o : Option ℕ) (group : List Lock) (c : Cell C) (k : Book) → Leasts cs long b k.acts → Leasts cs long b (book.asked_acts o group t a (max c.last c.floor) k)
+least_asked : {C : Type 0} (cs : List Cascade) (long : ℕ → List Ran) (b : ℕ → List ℕ) (t a : ℕ) (o : Option ℕ) (group : List Lock) (c : Cell C) (k : Book) → Leasts cs long b k.acts → Leasts cs long b (book.asked_acts o group t a (max c.last (floor_at t k.acts c)) k)
 least_asked cs long b t a (Some x) group c k h = least_changed cs long b t _ k.acts (λ y. record { tid = refl; n = refl; live = live_if (is_live_status y.status) _ y.status }) h
 least_asked cs long b t a None group c k h =
-    let joined = book.changed_act t (book.joins a (max c.last c.floor)) k.acts in
-    least_map cs long b (crossed_out a) (raised (k.pairs ++ book.new_pairs t a group k.acts) joined) (λ y. record { tid = refl; n = refl; live = live_if (is_crossed y) _ y.status }) (least_raised cs long b (k.pairs ++ book.new_pairs t a group k.acts) joined (least_changed cs long b t (book.joins a (max c.last c.floor)) k.acts (λ y. record { tid = refl; n = refl; live = λ d. d }) h))
+    let joined = book.changed_act t (book.joins a (max c.last (floor_at t k.acts c))) k.acts in
+    least_map cs long b (crossed_out a) (raised (k.pairs ++ book.new_pairs t a group k.acts) joined) (λ y. record { tid = refl; n = refl; live = live_if (is_crossed y) _ y.status }) (least_raised cs long b (k.pairs ++ book.new_pairs t a group k.acts) joined (least_changed cs long b t (book.joins a (max c.last (floor_at t k.acts c))) k.acts (λ y. record { tid = refl; n = refl; live = λ d. d }) h))
 
 least_ended : {C : Type 0} (cs : List Cascade) (long : ℕ → List Ran) (b : ℕ → List ℕ) (t : ℕ) (v : Bool) (o : Option (Outcome C)) (xs : List Act) → Leasts cs long b xs → Leasts cs long b (if v then book.noted_from t o xs else xs)
 least_ended cs long b t false o xs h = h
@@ -454,14 +455,14 @@ arrived_least w k a s h ok q g =
 
 -- an ACT asks, and nobody is in its way
 pub asked_least : {C : Type 0} (w : Fixed C) (t a : ℕ) (s : Machine C) (h : History) → AfterWith w s h → AfterSets s h
-    → Leasts s.book.cascades (with_at a (h.long a ++ map not_run (asks t (book.in_the_way t (cell_at s a).entries))) h.long) h.behind (raised (s.book.pairs ++ book.new_pairs t a (book.met t (cell_at s a).entries) s.book.acts) (book.changed_act t (book.joins a (max (cell_at s a).last (cell_at s a).floor)) s.book.acts))
+    → Leasts s.book.cascades (with_at a (h.long a ++ map not_run (asks t (book.in_the_way (lock_of t s.book.acts) (cell_at s a).entries))) h.long) h.behind (raised (s.book.pairs ++ book.new_pairs t a (book.met (lock_of t s.book.acts) (cell_at s a).entries) s.book.acts) (book.changed_act t (book.joins a (max (cell_at s a).last (floor_at t s.book.acts (cell_at s a)))) s.book.acts))
 unfolding AfterSets TidsAscend
 asked_least w t a s h q g =
-    let new = h.long a ++ map not_run (asks t (book.in_the_way t (cell_at s a).entries)) in
+    let new = h.long a ++ map not_run (asks t (book.in_the_way (lock_of t s.book.acts) (cell_at s a).entries)) in
     let long' = with_at a new h.long in
-    least_raised s.book.cascades long' h.behind (s.book.pairs ++ book.new_pairs t a (book.met t (cell_at s a).entries) s.book.acts) (book.changed_act t (book.joins a (max (cell_at s a).last (cell_at s a).floor)) s.book.acts)
-    (least_changed s.book.cascades long' h.behind t (book.joins a (max (cell_at s a).last (cell_at s a).floor)) s.book.acts (λ y. record { tid = refl; n = refl; live = λ d. d })
-    (least_long s.book.cascades h.long long' h.behind 0 s.ring.next_tid s.book.acts q.tids (λ x e l j n b i. stays_at x.tid j a new h.long (ask_ahead x.tid j t (book.in_the_way t (cell_at s a).entries) (h.long a)) b i) g))
+    least_raised s.book.cascades long' h.behind (s.book.pairs ++ book.new_pairs t a (book.met (lock_of t s.book.acts) (cell_at s a).entries) s.book.acts) (book.changed_act t (book.joins a (max (cell_at s a).last (floor_at t s.book.acts (cell_at s a)))) s.book.acts)
+    (least_changed s.book.cascades long' h.behind t (book.joins a (max (cell_at s a).last (floor_at t s.book.acts (cell_at s a)))) s.book.acts (λ y. record { tid = refl; n = refl; live = λ d. d })
+    (least_long s.book.cascades h.long long' h.behind 0 s.ring.next_tid s.book.acts q.tids (λ x e l j n b i. stays_at x.tid j a new h.long (ask_ahead x.tid j t (book.in_the_way (lock_of t s.book.acts) (cell_at s a).entries) (h.long a)) b i) g))
 
 pub after_kept : {C : Type 0} (w : Fixed C) (e : Event) (s : Machine C) (h : History) → IsAllowed w e s → AfterWith w s h → AfterSets s h → AfterSets (after w e s) (grown w e s h)
 unfolding AfterSets TidsAscend Placed Turned conditions after grown
@@ -473,13 +474,13 @@ after_kept w (Arrive k a) s h ok q g =
     least_map s.book.cascades (with_at a (h.long a ++ not_run (OfBatch k) ∷ []) h.long) (behind_too k (book.tids_on (cell_at s a).entries) h.behind) (crossed_out a) (map (book.lowered k (book.tids_on (cell_at s a).entries)) s.book.acts) (λ x. record { tid = refl; n = refl; live = live_if (is_crossed x) _ x.status })
     (arrived_least w k a s h ok q g)
 after_kept w (Ask t a) s h ok q g =
-    let new = h.long a ++ map not_run (asks t (book.in_the_way t (cell_at s a).entries)) in
-    least_asked s.book.cascades (with_at a new h.long) h.behind t a (book.in_the_way t (cell_at s a).entries) (book.met t (cell_at s a).entries) (cell_at s a) s.book
-    (least_long s.book.cascades h.long (with_at a new h.long) h.behind 0 s.ring.next_tid s.book.acts q.tids (λ x e l j n b i. stays_at x.tid j a new h.long (ask_ahead x.tid j t (book.in_the_way t (cell_at s a).entries) (h.long a)) b i) g)
+    let new = h.long a ++ map not_run (asks t (book.in_the_way (lock_of t s.book.acts) (cell_at s a).entries)) in
+    least_asked s.book.cascades (with_at a new h.long) h.behind t a (book.in_the_way (lock_of t s.book.acts) (cell_at s a).entries) (book.met (lock_of t s.book.acts) (cell_at s a).entries) (cell_at s a) s.book
+    (least_long s.book.cascades h.long (with_at a new h.long) h.behind 0 s.ring.next_tid s.book.acts q.tids (λ x e l j n b i. stays_at x.tid j a new h.long (ask_ahead x.tid j t (book.in_the_way (lock_of t s.book.acts) (cell_at s a).entries) (h.long a)) b i) g)
 after_kept w (Run t a) s h ok q g =
     let who = who_on t (cell_at s a).entries in
     let z : Slice = record { tid = t; found = (cell_at s a).state; left = (cell.slice_run w.code t a (cell_at s a)).state } in
-    least_long s.book.cascades h.long (with_at a (map (ran_in who z) (h.long a)) h.long) h.behind 0 s.ring.next_tid s.book.acts q.tids (λ x e l j n b i. stays_at x.tid j a (map (ran_in who z) (h.long a)) h.long (ahead_ran x.tid j who z (h.long a)) b i) g
+    least_long s.book.cascades h.long (with_at a (ran_on (cell.reads_on t (cell_at s a).entries) who z (h.long a)) h.long) h.behind 0 s.ring.next_tid s.book.acts q.tids (λ x e l j n b i. stays_at x.tid j a (ran_on (cell.reads_on t (cell_at s a).entries) who z (h.long a)) h.long (λ v. TrackLists.on_reads (λ rs. is_ahead x.tid j rs ≡ true) (cell.reads_on t (cell_at s a).entries) who z (h.long a) (λ y. ahead_ran x.tid j who z (h.long a) y) v) b i) g
 after_kept w (End t a) s h ok q g = least_ended s.book.cascades h.long h.behind t (has_act t (cell_at s a).entries) (outcome_of t (cell_at s a).outbox) s.book.acts g
 after_kept w (Complete k a) s h ok q g = least_long s.book.cascades h.long (with_at a (map (completed k) (h.long a)) h.long) h.behind 0 s.ring.next_tid s.book.acts q.tids (λ x e l j n b i. stays_at x.tid j a (map (completed k) (h.long a)) h.long (ahead_completed x.tid j k (h.long a)) b i) g
 after_kept w (Abort k) s h ok q g = least_aborts s.book.cascades _ h.long h.behind (λ j. nat_lt j k || not (nat_lt j s.ring.next_bid)) _ s.book.acts 0 s.ring.next_tid q.tids (λ x. (refl, refl, live_if _ _ x.status)) (λ x e l j b. taken_all w k s h (next_of (batch_of k s.desk.batches) ok.0) q x e l j b) g
@@ -494,8 +495,8 @@ after_kept w (Vouch t a) s h ok q g = least_changed s.book.cascades h.long h.beh
 after_kept w (Decide t) s h ok q g = least_changed s.book.cascades h.long h.behind t _ s.book.acts (λ x. record { tid = refl; n = refl; live = live_decided s.book.next_c (is_value x.result) x.status }) g
 after_kept w (Seal t) s h ok q g = least_changed s.book.cascades h.long h.behind t _ s.book.acts (λ x. record { tid = refl; n = refl; live = live_sealed x.status }) g
 after_kept w (Finish t a) s h ok q g =
-    let new = if cell.is_undone_act (act_of t s.book.acts) then without_standing (OfAct t) (h.long a) else map (left_for_good (OfAct t)) (h.long a) in
+    let new = if is_traceless (act_of t s.book.acts) then without_standing (OfAct t) (h.long a) else map (left_for_good (OfAct t)) (h.long a) in
     least_changed s.book.cascades (with_at a new h.long) h.behind t _ s.book.acts (λ x. record { tid = refl; n = refl; live = λ d. d })
-    (least_long s.book.cascades h.long (with_at a new h.long) h.behind 0 s.ring.next_tid s.book.acts q.tids (λ x e l j n b i. stays_at x.tid j a new h.long (finish_ahead x.tid j t (cell.is_undone_act (act_of t s.book.acts)) (h.long a) (not_finished s.book.acts x t e l ok.0)) b i) g)
+    (least_long s.book.cascades h.long (with_at a new h.long) h.behind 0 s.ring.next_tid s.book.acts q.tids (λ x e l j n b i. stays_at x.tid j a new h.long (finish_ahead x.tid j t (is_traceless (act_of t s.book.acts)) (h.long a) (not_finished s.book.acts x t e l ok.0)) b i) g)
 after_kept w (Trim k a) s h ok q g = least_long s.book.cascades h.long (with_at a (map (left_for_good (OfBatch k)) (h.long a)) h.long) h.behind 0 s.ring.next_tid s.book.acts q.tids (λ x e l j n b i. stays_at x.tid j a (map (left_for_good (OfBatch k)) (h.long a)) h.long (ahead_left x.tid j (OfBatch k) (h.long a) refl) b i) g
 after_kept w e s h ok q g = g

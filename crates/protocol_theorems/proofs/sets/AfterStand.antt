@@ -29,9 +29,9 @@ pub record AfterStand {C : Type 0} (w : Fixed C) (s : Machine C) (h : History) :
   pub after_sets : sets.AfterSets s h
   pub uncrossed : sets.Uncrossed s
 
-pub kept : {C : Type 0} (w : Fixed C) (Of : Tx → C → Type 0) (finish : C → List State → Alone) (e : Event) (s : Machine C) (h : History) → IsAllowed w e s → AllGood w Of finish s h → AfterStand w s h → AfterStand w (after w e s) (grown w e s h)
-kept w Of finish e s h ok g i = record {
-  high = higher.kept w Of finish e s h ok g i.high;
+pub kept : {C : Type 0} (w : Fixed C) (Of : Tx → C → Type 0) (finish : C → List State → Alone) (e : Event) (s : Machine C) (h : History) → Given w Of finish → IsAllowed w e s → AllGood w Of finish s h → AfterStand w s h → AfterStand w (after w e s) (grown w e s h)
+kept w Of finish e s h v ok g i = record {
+  high = higher.kept w Of finish e s h v ok g i.high;
   after_sets = sets.after_kept w e s h ok (record { beside = higher.beside w Of finish s h g; placed = g.good.placed; tids = i.high.tids; none_live = i.high.none_live }) i.after_sets;
   uncrossed = sets.uncrossed_kept w e s i.uncrossed;
 }
@@ -41,7 +41,7 @@ unfolding sets.AfterSets sets.Uncrossed
 opened w Of finish v = record { high = higher.opened w Of finish v; after_sets = tt; uncrossed = tt }
 
 pub after_stand : {C : Type 0} (w : Fixed C) (Of : Tx → C → Type 0) (finish : C → List State → Alone) (es : List Event) → Given w Of finish → IsRun w es → AfterStand w (reached w es) (history w es)
-after_stand w Of finish es v run = all.along_good w Of finish (AfterStand w) v (λ e s h ok g i. kept w Of finish e s h ok g i) (opened w Of finish v) es run
+after_stand w Of finish es v run = all.along_good w Of finish (AfterStand w) v (λ e s h ok g i. kept w Of finish e s h v ok g i) (opened w Of finish v) es run
 
 -- The after number of a live ACT is the least of its set; each of the set is not aborted, and behind the ACT on some actor
 pub n_is_least : {C : Type 0} (w : Fixed C) (Of : Tx → C → Type 0) (finish : C → List State → Alone) (es : List Event) → Given w Of finish → IsRun w es → (t : ℕ) (x : Act) → act_of t (reached w es).book.acts ≡ Some x → is_live_status x.status ≡ true

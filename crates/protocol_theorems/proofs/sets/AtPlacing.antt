@@ -9,7 +9,7 @@ use Rattle.protocol.specs.Fixed.{Fixed}
 use Rattle.protocol.specs.Facts.{Alone}
 use Rattle.protocol.specs.Parts.{Act, Pair, Cascade, Machine}
 use Rattle.protocol.specs.Events.{Arrive, Ask}
-use Rattle.protocol.specs.Words.{greatest, is_live_status, act_of}
+use Rattle.protocol.specs.Words.{greatest, is_live_status, act_of, lock_of, floor_at}
 use Rattle.protocol.specs.Spread.{raised, carried, crossed_out}
 use Rattle.protocol.specs.Conditions.{IsAllowed}
 use Rattle.protocol.specs.Effects.{after, cell_at}
@@ -21,6 +21,7 @@ use Rattle.protocol_theorems.proofs.sets.AfterSets as afters
 use Rattle.protocol_theorems.proofs.sets.BeforeStand as before_stand
 use Rattle.protocol_theorems.proofs.sets.BeforeStand.{BeforeStand}
 use Rattle.protocol_theorems.proofs.sets.AfterStand.{AfterStand}
+use Rattle.protocol_laws.proofs.machine.Good.{Given}
 use Rattle.protocol_laws.proofs.machine.AllGood.{AllGood}
 use Rattle.protocol_laws.proofs.machine.Higher as higher
 use Rattle.protocol_laws.proofs.machine.ShowsKept as shows
@@ -90,10 +91,10 @@ arrive_ends w Of finish k a t s h x y ok g b f e live there =
     let tids = book.tids_on (cell_at s a).entries in
     let xs = map (book.lowered k tids) s.book.acts in
     let q = crossed_ends s.book.cascades (grown w (Arrive k a) s h).long (grown w (Arrive k a) s h).before (grown w (Arrive k a) s h).behind a t xs y
-    (befores.mapped h.before (book.lowered k tids) s.book.acts (λ x. record { tid = refl; m = refl; doomed = λ d. d }) b.sets)
-    (afters.arrived_least w k a s h ok (record { beside = higher.beside w Of finish s h g; placed = g.good.placed; tids = f.high.tids; none_live = f.high.none_live }) f.after_sets)
-    there
-    (λ z i. let v = found_back (book.lowered k tids) t s.book.acts z (λ x. refl) i in subst (λ (z : Act). is_live_status z.status ≡ true) v.1.1 (same_live x v.0 (act_of t s.book.acts) e live v.1.0)) in
+        (befores.mapped h.before (book.lowered k tids) s.book.acts (λ x. record { tid = refl; m = refl; doomed = λ d. d }) b.sets)
+        (afters.arrived_least w k a s h ok (record { beside = higher.beside w Of finish s h g; placed = g.good.placed; tids = f.high.tids; none_live = f.high.none_live }) f.after_sets)
+        there
+        (λ z i. let v = found_back (book.lowered k tids) t s.book.acts z (λ x. refl) i in subst (λ (z : Act). is_live_status z.status ≡ true) v.1.1 (same_live x v.0 (act_of t s.book.acts) e live v.1.0)) in
     record { m = q.0; n = q.1.0; there = q.1.1 }
 
 -- ---- an ACT asks, and nobody is in its way
@@ -106,23 +107,23 @@ tid_joined : (c : Bool) (a m : ℕ) (x : Act) → (book.change_if c (book.joins 
 tid_joined true a m x = refl
 tid_joined false a m x = refl
 
-pub ask_ends : {C : Type 0} (w : Fixed C) (Of : Tx → C → Type 0) (finish : C → List State → Alone) (u a t : ℕ) (s : Machine C) (h : History) (x y : Act) → IsAllowed w (Ask u a) s → AllGood w Of finish s h → BeforeStand w s h → AfterStand w s h → book.in_the_way u (cell_at s a).entries ≡ None
+pub ask_ends : {C : Type 0} (w : Fixed C) (Of : Tx → C → Type 0) (finish : C → List State → Alone) (u a t : ℕ) (s : Machine C) (h : History) (x y : Act) → Given w Of finish → IsAllowed w (Ask u a) s → AllGood w Of finish s h → BeforeStand w s h → AfterStand w s h → book.in_the_way (lock_of u s.book.acts) (cell_at s a).entries ≡ None
     → act_of t s.book.acts ≡ Some x → is_live_status x.status ≡ true → act_of t (after w (Ask u a) s).book.acts ≡ Some y → AtEnds (after w (Ask u a) s) (grown w (Ask u a) s h) y
 unfolding befores.Sets shows.Owed after grown
-ask_ends w Of finish u a t s h x y ok g b f none e live there =
-    let m = max (cell_at s a).last (cell_at s a).floor in
-    let group = book.met u (cell_at s a).entries in
+ask_ends w Of finish u a t s h x y v ok g b f none e live there =
+    let m = max (cell_at s a).last (floor_at u s.book.acts (cell_at s a)) in
+    let group = book.met (lock_of u s.book.acts) (cell_at s a).entries in
     let joined = book.changed_act u (book.joins a m) s.book.acts in
     let xs = raised (s.book.pairs ++ book.new_pairs u a group s.book.acts) joined in
-    let high' = higher.kept w Of finish (Ask u a) s h ok g b.high in
+    let high' = higher.kept w Of finish (Ask u a) s h v ok g b.high in
     let q = crossed_ends s.book.cascades (grown w (Ask u a) s h).long (asked_before true u a s h) h.behind a t xs y
-    (befores.asks_raised w u a s h (higher.owed w Of finish (Ask u a) s h ok g) (before_stand.sets_with w Of finish (Ask u a) s h ok g b high') b.sets none)
-    (afters.asked_least w u a s h (record { beside = higher.beside w Of finish s h g; placed = g.good.placed; tids = f.high.tids; none_live = f.high.none_live }) f.after_sets)
-    (subst (λ o. act_of t (book.asked_acts o group u a m s.book) ≡ Some y) none there)
-    (λ z i.
-    let v = raised_back (s.book.pairs ++ book.new_pairs u a group s.book.acts) t joined z i in
-    let r = found_back (λ x. book.change_if (x.tid == u) (book.joins a m) x) t s.book.acts v.0 (λ x. tid_joined (x.tid == u) a m x) v.1.0 in
-    let l = same_live x r.0 (act_of t s.book.acts) e live r.1.0 in
-    subst (λ st. is_live_status st ≡ true) (sym v.1.1) (subst (λ (z : Act). is_live_status z.status ≡ true) r.1.1 (subst (λ st. is_live_status st ≡ true) (sym (status_joined (r.0.tid == u) a m r.0)) l))) in
+        (befores.asks_raised w u a s h (higher.owed w Of finish (Ask u a) s h v ok g) (before_stand.sets_with w Of finish (Ask u a) s h ok g b high') b.sets none)
+        (afters.asked_least w u a s h (record { beside = higher.beside w Of finish s h g; placed = g.good.placed; tids = f.high.tids; none_live = f.high.none_live }) f.after_sets)
+        (subst (λ o. act_of t (book.asked_acts o group u a m s.book) ≡ Some y) none there)
+        (λ z i.
+        let q = raised_back (s.book.pairs ++ book.new_pairs u a group s.book.acts) t joined z i in
+        let r = found_back (λ x. book.change_if (x.tid == u) (book.joins a m) x) t s.book.acts q.0 (λ x. tid_joined (x.tid == u) a m x) q.1.0 in
+        let l = same_live x r.0 (act_of t s.book.acts) e live r.1.0 in
+        subst (λ st. is_live_status st ≡ true) (sym q.1.1) (subst (λ (z : Act). is_live_status z.status ≡ true) r.1.1 (subst (λ st. is_live_status st ≡ true) (sym (status_joined (r.0.tid == u) a m r.0)) l))) in
     let same : (grown w (Ask u a) s h).before ≡ asked_before true u a s h = ap (λ o. asked_before (is_none o) u a s h) none in
     record { m = q.0 ∙ ap (λ (f : ℕ → List ℕ). greatest (f y.tid)) (sym same); n = q.1.0; there = q.1.1 }

@@ -5,17 +5,18 @@ use Rattle.std.proofs.Common.{arith, sym, ap, subst, inl, inr, ◌∙◌}
 use Rattle.std.proofs.lemmas.Bool.{eqb-true, eq-eqb, and_parts, or_cases, or_left, or_right, not-true, true≢false, false_from_ne_true}
 use Rattle.protocol.specs.Fixed.{Fixed, base, Next, Go, Ended}
 use Rattle.protocol.specs.Rivals.{Lock, rivals}
-use Rattle.protocol.specs.Parts.{Act, Pair, Status, Live, Doomed, Decided, Sealed, Outcome, Cell, Machine}
+use Rattle.protocol.specs.Parts.{Act, Pair, Status, Live, Doomed, Decided, Sealed, Outcome, FloorPair, Cell, Machine}
 use Rattle.protocol.specs.Events.{Event, Admit, Arrive, Ask, End, Abort, Prepare, Vouch, Decide, Seal, Finish}
-use Rattle.protocol.specs.Words.{holds, greatest, is_doomed, is_live_status, is_sealed, is_value, act_of, has_act, outcome_of, is_ordered}
+use Rattle.protocol.specs.Words.{holds, greatest, is_doomed, is_live_status, is_sealed, is_value, act_of, has_act, outcome_of, is_ordered, lock_of, floor_for, floor_at}
 use Rattle.protocol.specs.Spread.{stands_behind, raised, crossed_out, is_crossed}
 use Rattle.protocol.specs.Conditions.{IsAllowed, conditions}
 use Rattle.protocol.specs.Effects.{after, cell_at}
 use Rattle.protocol.specs.OnBook as book
 use Rattle.protocol.specs.Standing.{IsOlder}
 use Rattle.protocol.specs.History.{History, no_history, history, grown, with_at, is_none, carrying, gained, gains_over, spread_sets, sets_of, asked_set, asked_gains, asked_before, batches_in}
-use Rattle.protocol_theorems.specs.Floors.{number_or_0, number_in, FloorIs}
+use Rattle.protocol_theorems.specs.Floors.{number_or_0, number_in, is_kind}
 use Rattle.protocol_laws.specs.Befores.{LastIs}
+use Rattle.protocol_laws.specs.Highs.{own_floor}
 use Rattle.protocol_theorems.specs.Sets.{IsGreatest}
 use Rattle.protocol_laws.proofs.machine.ActsGrow.{Later}
 use Rattle.protocol_laws.proofs.machine.BeforesKept.{Lasts}
@@ -29,7 +30,7 @@ use Rattle.protocol_theorems.proofs.sets.SpreadSets.{Gain, Gains, NoGain, IsBefo
 use Rattle.protocol_theorems.proofs.sets.GainsKept as gains
 use Rattle.protocol_theorems.proofs.sets.GainsKept.{GainsAre, PairsIn, AllIn, IsIn}
 use Rattle.protocol_theorems.proofs.sets.LastsTight.{Tights, Tight}
-use Rattle.protocol_theorems.proofs.sets.FloorsKept.{Floors}
+use Rattle.protocol_theorems.proofs.sets.FloorsKept.{Floors, Both}
 use Rattle.protocol_theorems.proofs.sets.PairsAhead as ahead
 use Rattle.protocol_laws.proofs.first.Lists.{all_join, all_map, weaker, all_found}
 use Rattle.protocol_laws.proofs.first.Statuses.{live_not_doomed, not_doomed_decided}
@@ -180,9 +181,30 @@ left_sets b acts (x ∷ xs) g q = omega (arith, greatest_join (b x.tid) (sets_of
         let v = all_found (IsGreatest b) (λ z. z.tid == x.tid) acts y.0 g y.1 in
         ap number_or_0 y.1 ∙ (v.0 (unsealed_doom y.0.status y.2) ∙ ap (λ z. greatest (b z)) (eqb-true y.0.tid x.tid v.1))
 
-all_rivals : (t : ℕ) (xs : List Lock) → filter (rivals (record { tid = t })) xs ≡ xs
-all_rivals t [] = refl
-all_rivals t (x ∷ xs) = ap (λ z. x ∷ z) (all_rivals t xs)
+-- the greatest of all is the greatest of one kind or of the other
+kinds_apart : (b : ℕ → List ℕ) (xs : List Lock) → greatest (sets_of b xs) ≡ max (greatest (sets_of b (filter (is_kind true) xs))) (greatest (sets_of b (filter (is_kind false) xs)))
+kinds_apart b [] = refl
+kinds_apart b (x ∷ xs) = by x.reader (kinds_apart b xs)
+  where
+    by : (v : Bool) → greatest (sets_of b xs) ≡ max (greatest (sets_of b (filter (is_kind true) xs))) (greatest (sets_of b (filter (is_kind false) xs)))
+        → greatest (b x.tid ++ sets_of b xs) ≡ max (greatest (sets_of b (if v then x ∷ filter (is_kind true) xs else filter (is_kind true) xs))) (greatest (sets_of b (if not v then x ∷ filter (is_kind false) xs else filter (is_kind false) xs)))
+    by true h = omega (arith, h, greatest_join (b x.tid) (sets_of b xs), greatest_join (b x.tid) (sets_of b (filter (is_kind true) xs)))
+    by false h = omega (arith, h, greatest_join (b x.tid) (sets_of b xs), greatest_join (b x.tid) (sets_of b (filter (is_kind false) xs)))
+
+-- the sets of the rivals that left sealed reach as far as the floor that counts for this one
+left_rivals : (b : ℕ → List ℕ) (first : ℕ) (v : Bool) (acts : List Act) (floors : FloorPair) (xs : List Lock) → AllGreatest b acts → Both first acts floors xs → max first (greatest (sets_of b (filter (λ x. not (v && x.reader)) xs))) ≡ max first (floor_for v floors)
+left_rivals b first v acts floors xs g k = by v
+  where
+    kind : (r : Bool) → max first (greatest (sets_of b (filter (is_kind r) xs))) ≡ max first (own_floor r floors)
+    kind r = ap (λ z. max first z) (left_sets b acts (filter (is_kind r) xs) g (k r).sealed) ∙ sym (k r).floor_is
+
+    all : (ys : List Lock) → filter (λ x. not (false && x.reader)) ys ≡ ys
+    all [] = refl
+    all (y ∷ ys) = ap (λ z. y ∷ z) (all ys)
+
+    by : (r : Bool) → max first (greatest (sets_of b (filter (λ x. not (r && x.reader)) xs))) ≡ max first (floor_for r floors)
+    by true = kind false
+    by false = omega (arith, ap (λ z. greatest (sets_of b z)) (all xs), kinds_apart b xs, kind true, kind false)
 
 -- the spread looks at tids and at who is live
 spread_joined : (gs : List Pair) (t a m : ℕ) (xs : List Act) (b : ℕ → List ℕ) → spread_sets gs (book.changed_act t (book.joins a m) xs) b ≡ spread_sets gs xs b
@@ -271,24 +293,24 @@ greatest_most n [] h = omega arith
 greatest_most n (k ∷ ks) h = omega (arith, h.0, greatest_most n ks h.1)
 
 -- what an Ask needs to know of the actor
-pub record AskedOn (first : ℕ) (acts : List Act) (last trimmed floor : ℕ) (long : List Rattle.protocol.specs.History.Ran) (left : List Lock) : Type 0 where
+pub record AskedOn (first : ℕ) (acts : List Act) (last trimmed : ℕ) (fs : FloorPair) (long : List Rattle.protocol.specs.History.Ran) (left : List Lock) : Type 0 where
   pub tight : Tight first last trimmed long
   pub lasts : LastIs last trimmed long
-  pub floors : FloorIs first acts floor left
+  pub floors : Both first acts fs left
 
 -- before who stands between batches is given up
-pub asked_raised : {C : Type 0} (first t a : ℕ) (s : Machine C) (h : History) → holds (λ x. is_live_status x.status) (act_of t s.book.acts) ≡ true → AskedOn first s.book.acts (cell_at s a).last (cell_at s a).last_trimmed (cell_at s a).floor (h.long a) (h.left_sealed a)
-    → AllByRecursion (λ x. first ≤ x.m) s.book.acts → TidsAscend s → AllByRecursion IsOlder (s.book.pairs ++ book.new_pairs t a (book.met t (cell_at s a).entries) s.book.acts) → AllIn s.book.acts (s.book.pairs ++ book.new_pairs t a (book.met t (cell_at s a).entries) s.book.acts)
+pub asked_raised : {C : Type 0} (first t a : ℕ) (s : Machine C) (h : History) → holds (λ x. is_live_status x.status) (act_of t s.book.acts) ≡ true → AskedOn first s.book.acts (cell_at s a).last (cell_at s a).last_trimmed (cell_at s a).floors (h.long a) (h.left_sealed a)
+    → AllByRecursion (λ x. first ≤ x.m) s.book.acts → TidsAscend s → AllByRecursion IsOlder (s.book.pairs ++ book.new_pairs t a (book.met (lock_of t s.book.acts) (cell_at s a).entries) s.book.acts) → AllIn s.book.acts (s.book.pairs ++ book.new_pairs t a (book.met (lock_of t s.book.acts) (cell_at s a).entries) s.book.acts)
     → AllByRecursion (NoneAhead s.book.acts) s.book.pairs → h.gains ≡ carrying s.book.acts s.book.pairs → AllGreatest h.before s.book.acts
-    → AllGreatest (asked_before true t a s h) (raised (s.book.pairs ++ book.new_pairs t a (book.met t (cell_at s a).entries) s.book.acts) (book.changed_act t (book.joins a (max (cell_at s a).last (cell_at s a).floor)) s.book.acts))
+    → AllGreatest (asked_before true t a s h) (raised (s.book.pairs ++ book.new_pairs t a (book.met (lock_of t s.book.acts) (cell_at s a).entries) s.book.acts) (book.changed_act t (book.joins a (max (cell_at s a).last (floor_at t s.book.acts (cell_at s a)))) s.book.acts))
 unfolding TidsAscend
 asked_raised {C} first t a s h live on based asc older ins none gs sets =
     (subst (λ z. AllGreatest z (raised ps joined)) (spread_joined (asked_gains t a s h) t a m acts b)
     (subst (λ z. AllGreatest (spread_sets z joined b) (raised ps joined)) same
     (SpreadSets.spread_raised ps (carrying joined ps) 0 s.ring.next_tid b joined asc'
-    (gain_each ps joined ps (self_pairs ps ps (λ t u q. q)) older (weaker (λ p. IsIn acts p.ahead) (λ p. IsIn joined p.ahead) ps (λ p q. gains.in_grows acts joined p.ahead (Rattle.protocol_laws.proofs.machine.ActsGrow.changed_grows t (book.joins a m) acts (λ x. record { tid = refl; rises = omega arith; doomed = λ d. d; live = λ d. d; sealed = λ d. d })) q) ins))
+    (gain_each ps joined ps (self_pairs ps ps (λ t u q. q)) older (weaker (λ p. IsIn acts p.ahead) (λ p. IsIn joined p.ahead) ps (λ p q. gains.in_grows acts joined p.ahead (Rattle.protocol_laws.proofs.machine.ActsGrow.changed_grows t (book.joins a m) acts (λ x. record { tid = refl; reader = refl; placed = λ b q. Rattle.protocol_laws.proofs.machine.ActsGrow.more_place b x.places _ q; rises = omega arith; doomed = λ d. d; live = λ d. d; sealed = λ d. d })) q) ins))
     (gains_each 0 s.ring.next_tid ps joined asc')
-    (no_gain 0 s.ring.next_tid joined ps asc' (weaker (NoneAhead acts) (NoneAhead joined) ps (λ p q. none_joined t a m acts p q) (all_join (NoneAhead acts) s.book.pairs new none (new_none t a (book.met t c.entries) acts live))))
+    (no_gain 0 s.ring.next_tid joined ps asc' (weaker (NoneAhead acts) (NoneAhead joined) ps (λ p q. none_joined t a m acts p q) (all_join (NoneAhead acts) s.book.pairs new none (new_none t a (book.met (lock_of t s.book.acts) c.entries) acts live))))
     (befores_joined (carrying joined ps) t a m v h.before acts (λ x i e. subst (λ o. holds (λ x. is_live_status x.status) o ≡ true) e live) 0 s.ring.next_tid asc between sets))))
   where
     acts : List Act
@@ -298,16 +320,16 @@ asked_raised {C} first t a s h live on based asc older ins none gs sets =
     c = cell_at s a
 
     m : ℕ
-    m = max (cell_at s a).last (cell_at s a).floor
+    m = max (cell_at s a).last (floor_at t s.book.acts (cell_at s a))
 
     new : List Pair
-    new = book.new_pairs t a (book.met t (cell_at s a).entries) s.book.acts
+    new = book.new_pairs t a (book.met (lock_of t s.book.acts) (cell_at s a).entries) s.book.acts
 
     ps : List Pair
-    ps = s.book.pairs ++ book.new_pairs t a (book.met t (cell_at s a).entries) s.book.acts
+    ps = s.book.pairs ++ book.new_pairs t a (book.met (lock_of t s.book.acts) (cell_at s a).entries) s.book.acts
 
     joined : List Act
-    joined = book.changed_act t (book.joins a (max (cell_at s a).last (cell_at s a).floor)) s.book.acts
+    joined = book.changed_act t (book.joins a (max (cell_at s a).last (floor_at t s.book.acts (cell_at s a)))) s.book.acts
 
     v : List ℕ
     v = h.before t ++ asked_set t a s h
@@ -315,14 +337,14 @@ asked_raised {C} first t a s h live on based asc older ins none gs sets =
     b : ℕ → List ℕ
     b = with_at t (h.before t ++ asked_set t a s h) h.before
 
-    asc' : Ascend 0 s.ring.next_tid (map (λ x. x.tid) (book.changed_act t (book.joins a (max (cell_at s a).last (cell_at s a).floor)) s.book.acts))
-    asc' = subst (Ascend 0 s.ring.next_tid) (sym (joined_tids t a (max (cell_at s a).last (cell_at s a).floor) s.book.acts)) asc
+    asc' : Ascend 0 s.ring.next_tid (map (λ x. x.tid) (book.changed_act t (book.joins a (max (cell_at s a).last (floor_at t s.book.acts (cell_at s a)))) s.book.acts))
+    asc' = subst (Ascend 0 s.ring.next_tid) (sym (joined_tids t a (max (cell_at s a).last (floor_at t s.book.acts (cell_at s a))) s.book.acts)) asc
 
-    same : carrying (book.changed_act t (book.joins a (max (cell_at s a).last (cell_at s a).floor)) s.book.acts) (s.book.pairs ++ book.new_pairs t a (book.met t (cell_at s a).entries) s.book.acts) ≡ asked_gains t a s h
+    same : carrying (book.changed_act t (book.joins a (max (cell_at s a).last (floor_at t s.book.acts (cell_at s a)))) s.book.acts) (s.book.pairs ++ book.new_pairs t a (book.met (lock_of t s.book.acts) (cell_at s a).entries) s.book.acts) ≡ asked_gains t a s h
     same =
-        gains.same_out s.book.acts (book.changed_act t (book.joins a (max (cell_at s a).last (cell_at s a).floor)) s.book.acts) (s.book.pairs ++ book.new_pairs t a (book.met t (cell_at s a).entries) s.book.acts) (λ p. gains.out_changed t (book.joins a (max (cell_at s a).last (cell_at s a).floor)) s.book.acts p (λ x. refl) (λ x. refl))
-        ∙ (gains.carrying_join s.book.acts s.book.pairs (book.new_pairs t a (book.met t (cell_at s a).entries) s.book.acts)
-        ∙ (ap (λ z. z ++ carrying s.book.acts (book.new_pairs t a (book.met t (cell_at s a).entries) s.book.acts)) (sym gs) ∙ ap (λ z. h.gains ++ z) (new_carried s.book.acts t a (book.met t (cell_at s a).entries))))
+        gains.same_out s.book.acts (book.changed_act t (book.joins a (max (cell_at s a).last (floor_at t s.book.acts (cell_at s a)))) s.book.acts) (s.book.pairs ++ book.new_pairs t a (book.met (lock_of t s.book.acts) (cell_at s a).entries) s.book.acts) (λ p. gains.out_changed t (book.joins a (max (cell_at s a).last (floor_at t s.book.acts (cell_at s a)))) s.book.acts p (λ x. refl) (λ x. refl))
+        ∙ (gains.carrying_join s.book.acts s.book.pairs (book.new_pairs t a (book.met (lock_of t s.book.acts) (cell_at s a).entries) s.book.acts)
+        ∙ (ap (λ z. z ++ carrying s.book.acts (book.new_pairs t a (book.met (lock_of t s.book.acts) (cell_at s a).entries) s.book.acts)) (sym gs) ∙ ap (λ z. h.gains ++ z) (new_carried s.book.acts t a (book.met (lock_of t s.book.acts) (cell_at s a).entries))))
 
     -- its own set reaches down to base
     low : first ≤ greatest (h.before t)
@@ -333,26 +355,26 @@ asked_raised {C} first t a s h live on based asc older ins none gs sets =
         omega (arith, f.0, g.0 (live_not_doomed x.0.status x.2), ap (λ z. greatest (h.before z)) (eqb-true x.0.tid t f.1))
 
     met : List Lock
-    met = filter (λ x. not (book.is_doomed_act s.book.acts x)) (book.met t (cell_at s a).entries)
+    met = filter (λ x. not (book.is_doomed_act s.book.acts x)) (book.met (lock_of t s.book.acts) (cell_at s a).entries)
 
-    in_set : greatest (h.before t ++ asked_set t a s h) ≡ max (greatest (h.before t)) (max (greatest (batches_in (h.long a))) (max (greatest (sets_of h.before (h.left_sealed a))) (greatest (sets_of h.before (filter (λ x. not (book.is_doomed_act s.book.acts x)) (book.met t (cell_at s a).entries))))))
-    in_set = omega (arith, greatest_join (h.before t) (asked_set t a s h), greatest_join (batches_in (h.long a)) (sets_of h.before (filter (rivals (record { tid = t })) (h.left_sealed a)) ++ sets_of h.before (filter (λ x. not (book.is_doomed_act s.book.acts x)) (book.met t (cell_at s a).entries))), greatest_join (sets_of h.before (filter (rivals (record { tid = t })) (h.left_sealed a))) (sets_of h.before (filter (λ x. not (book.is_doomed_act s.book.acts x)) (book.met t (cell_at s a).entries))), ap (λ z. greatest (sets_of h.before z)) (all_rivals t (h.left_sealed a)))
+    in_set : greatest (h.before t ++ asked_set t a s h) ≡ max (greatest (h.before t)) (max (greatest (batches_in (h.long a))) (max (greatest (sets_of h.before (filter (rivals (lock_of t s.book.acts)) (h.left_sealed a)))) (greatest (sets_of h.before (filter (λ x. not (book.is_doomed_act s.book.acts x)) (book.met (lock_of t s.book.acts) (cell_at s a).entries))))))
+    in_set = omega (arith, greatest_join (h.before t) (asked_set t a s h), greatest_join (batches_in (h.long a)) (sets_of h.before (filter (rivals (lock_of t s.book.acts)) (h.left_sealed a)) ++ sets_of h.before (filter (λ x. not (book.is_doomed_act s.book.acts x)) (book.met (lock_of t s.book.acts) (cell_at s a).entries))), greatest_join (sets_of h.before (filter (rivals (lock_of t s.book.acts)) (h.left_sealed a))) (sets_of h.before (filter (λ x. not (book.is_doomed_act s.book.acts x)) (book.met (lock_of t s.book.acts) (cell_at s a).entries))))
 
     back : (xs ys : List Pair) → AllByRecursion IsOlder (xs ++ ys) → AllByRecursion IsOlder ys
     back [] ys o = o
     back (x ∷ xs) ys o = back xs ys o.1
 
-    gained_met : greatest (sets_of h.before (filter (λ x. not (book.is_doomed_act s.book.acts x)) (book.met t (cell_at s a).entries))) ≤ greatest (gained (asked_gains t a s h) t (with_at t (h.before t ++ asked_set t a s h) h.before))
-    gained_met = sets_most h.before (greatest (gained (asked_gains t a s h) t (with_at t (h.before t ++ asked_set t a s h) h.before))) (filter (λ x. not (book.is_doomed_act s.book.acts x)) (book.met t (cell_at s a).entries))
-        (group_gained (asked_gains t a s h) t a h.before (with_at t (h.before t ++ asked_set t a s h) h.before) (filter (λ x. not (book.is_doomed_act s.book.acts x)) (book.met t (cell_at s a).entries)) (λ u n. at_other t u (h.before t ++ asked_set t a s h) h.before n) (λ v u q. behind_last h.gains (book.new_pairs t a (book.met t (cell_at s a).entries) s.book.acts) v u q) (back s.book.pairs (book.new_pairs t a (book.met t (cell_at s a).entries) s.book.acts) older))
+    gained_met : greatest (sets_of h.before (filter (λ x. not (book.is_doomed_act s.book.acts x)) (book.met (lock_of t s.book.acts) (cell_at s a).entries))) ≤ greatest (gained (asked_gains t a s h) t (with_at t (h.before t ++ asked_set t a s h) h.before))
+    gained_met = sets_most h.before (greatest (gained (asked_gains t a s h) t (with_at t (h.before t ++ asked_set t a s h) h.before))) (filter (λ x. not (book.is_doomed_act s.book.acts x)) (book.met (lock_of t s.book.acts) (cell_at s a).entries))
+        (group_gained (asked_gains t a s h) t a h.before (with_at t (h.before t ++ asked_set t a s h) h.before) (filter (λ x. not (book.is_doomed_act s.book.acts x)) (book.met (lock_of t s.book.acts) (cell_at s a).entries)) (λ u n. at_other t u (h.before t ++ asked_set t a s h) h.before n) (λ v u q. behind_last h.gains (book.new_pairs t a (book.met (lock_of t s.book.acts) (cell_at s a).entries) s.book.acts) v u q) (back s.book.pairs (book.new_pairs t a (book.met (lock_of t s.book.acts) (cell_at s a).entries) s.book.acts) older))
 
-    between : (x : Act) → x.tid ≡ t → x.m ≡ greatest (h.before t) → (max x.m (max (cell_at s a).last (cell_at s a).floor) ≤ greatest (h.before t ++ asked_set t a s h))
-        × (greatest (h.before t ++ asked_set t a s h) ≤ max (max x.m (max (cell_at s a).last (cell_at s a).floor)) (greatest (gained (carrying (book.changed_act t (book.joins a (max (cell_at s a).last (cell_at s a).floor)) s.book.acts) (s.book.pairs ++ book.new_pairs t a (book.met t (cell_at s a).entries) s.book.acts)) t (with_at t (h.before t ++ asked_set t a s h) h.before))))
+    between : (x : Act) → x.tid ≡ t → x.m ≡ greatest (h.before t) → (max x.m (max (cell_at s a).last (floor_at t s.book.acts (cell_at s a))) ≤ greatest (h.before t ++ asked_set t a s h))
+        × (greatest (h.before t ++ asked_set t a s h) ≤ max (max x.m (max (cell_at s a).last (floor_at t s.book.acts (cell_at s a)))) (greatest (gained (carrying (book.changed_act t (book.joins a (max (cell_at s a).last (floor_at t s.book.acts (cell_at s a)))) s.book.acts) (s.book.pairs ++ book.new_pairs t a (book.met (lock_of t s.book.acts) (cell_at s a).entries) s.book.acts)) t (with_at t (h.before t ++ asked_set t a s h) h.before))))
     between x i e =
         let gb = greatest_most (cell_at s a).last (batches_in (h.long a)) on.lasts.placed in
-        let gl = left_sets h.before s.book.acts (h.left_sealed a) sets on.floors.sealed in (
-          omega (arith, in_set, e, low, on.tight.placed, gl, on.floors.floor_is),
-          omega (arith, in_set, e, low, gb, gl, on.floors.floor_is, gained_met, ap (λ z. greatest (gained z t (with_at t (h.before t ++ asked_set t a s h) h.before))) same),
+        let gl = left_rivals h.before first (lock_of t s.book.acts).reader s.book.acts (cell_at s a).floors (h.left_sealed a) sets on.floors in (
+          omega (arith, in_set, e, low, on.tight.placed, gl),
+          omega (arith, in_set, e, low, gb, gl, gained_met, ap (λ z. greatest (gained z t (with_at t (h.before t ++ asked_set t a s h) h.before))) same),
         )
 
 -- ---- all events
@@ -366,24 +388,24 @@ pub record SetsWith {C : Type 0} (w : Fixed C) (e : Event) (s : Machine C) (h : 
   pub gains : GainsAre s h
   pub pairs_in : PairsIn s
   pub none_ahead : AllByRecursion (NoneAhead s.book.acts) s.book.pairs
-  pub new_in : (t a : ℕ) → AllIn s.book.acts (book.new_pairs t a (book.met t (cell_at s a).entries) s.book.acts)
+  pub new_in : (t a : ℕ) → AllIn s.book.acts (book.new_pairs t a (book.met (lock_of t s.book.acts) (cell_at s a).entries) s.book.acts)
   pub tights : Tights w s h
   pub lasts : Lasts s h
   pub floors : Floors w s h
 
 -- nobody is in its way, and who stands between batches is not given up yet
-pub asks_raised : {C : Type 0} (w : Fixed C) (t a : ℕ) (s : Machine C) (h : History) → holds (λ x. is_live_status x.status) (act_of t s.book.acts) ≡ true → SetsWith w (Ask t a) s h → AllGreatest h.before s.book.acts → book.in_the_way t (cell_at s a).entries ≡ None
-    → AllGreatest (asked_before true t a s h) (raised (s.book.pairs ++ book.new_pairs t a (book.met t (cell_at s a).entries) s.book.acts) (book.changed_act t (book.joins a (max (cell_at s a).last (cell_at s a).floor)) s.book.acts))
+pub asks_raised : {C : Type 0} (w : Fixed C) (t a : ℕ) (s : Machine C) (h : History) → holds (λ x. is_live_status x.status) (act_of t s.book.acts) ≡ true → SetsWith w (Ask t a) s h → AllGreatest h.before s.book.acts → book.in_the_way (lock_of t s.book.acts) (cell_at s a).entries ≡ None
+    → AllGreatest (asked_before true t a s h) (raised (s.book.pairs ++ book.new_pairs t a (book.met (lock_of t s.book.acts) (cell_at s a).entries) s.book.acts) (book.changed_act t (book.joins a (max (cell_at s a).last (floor_at t s.book.acts (cell_at s a)))) s.book.acts))
 unfolding GainsAre PairsIn Tights Lasts Floors after
 asks_raised w t a s h live k g e = asked_raised (base w.text) t a s h live (record { tight = k.tights a; lasts = k.lasts a; floors = k.floors a }) (found.stand w s k.tids k.pairs_stand).based k.tids
-    (subst (λ o. AllByRecursion IsOlder (book.asked_pairs o (book.met t (cell_at s a).entries) t a s.book)) e (found.stand w (after w (Ask t a) s) k.tids_then k.pairs_then).older)
+    (subst (λ o. AllByRecursion IsOlder (book.asked_pairs o (book.met (lock_of t s.book.acts) (cell_at s a).entries) t a s.book)) e (found.stand w (after w (Ask t a) s) k.tids_then k.pairs_then).older)
     (all_join (λ p. IsIn s.book.acts p.ahead) s.book.pairs _ k.pairs_in (k.new_in t a)) k.none_ahead k.gains g
 
-asks : {C : Type 0} (w : Fixed C) (t a : ℕ) (s : Machine C) (h : History) → holds (λ x. is_live_status x.status) (act_of t s.book.acts) ≡ true → SetsWith w (Ask t a) s h → AllGreatest h.before s.book.acts → (o : Option ℕ) → book.in_the_way t (cell_at s a).entries ≡ o
-    → AllGreatest (asked_before (is_none o) t a s h) (book.asked_acts o (book.met t (cell_at s a).entries) t a (max (cell_at s a).last (cell_at s a).floor) s.book)
+asks : {C : Type 0} (w : Fixed C) (t a : ℕ) (s : Machine C) (h : History) → holds (λ x. is_live_status x.status) (act_of t s.book.acts) ≡ true → SetsWith w (Ask t a) s h → AllGreatest h.before s.book.acts → (o : Option ℕ) → book.in_the_way (lock_of t s.book.acts) (cell_at s a).entries ≡ o
+    → AllGreatest (asked_before (is_none o) t a s h) (book.asked_acts o (book.met (lock_of t s.book.acts) (cell_at s a).entries) t a (max (cell_at s a).last (floor_at t s.book.acts (cell_at s a))) s.book)
 unfolding GainsAre PairsIn Tights Lasts Floors after
 asks w t a s h live k g (Some x) e = changed h.before t (book.doomed_by (Rattle.protocol.specs.Verdicts.died a x t)) s.book.acts (λ x. record { tid = refl; m = refl; doomed = dooms (is_live_status x.status) _ x.status }) g
-asks w t a s h live k g None e = mapped (asked_before true t a s h) (crossed_out a) (raised (s.book.pairs ++ book.new_pairs t a (book.met t (cell_at s a).entries) s.book.acts) (book.changed_act t (book.joins a (max (cell_at s a).last (cell_at s a).floor)) s.book.acts)) (λ x. record { tid = refl; m = refl; doomed = dooms (is_crossed x) _ x.status }) (asks_raised w t a s h live k g e)
+asks w t a s h live k g None e = mapped (asked_before true t a s h) (crossed_out a) (raised (s.book.pairs ++ book.new_pairs t a (book.met (lock_of t s.book.acts) (cell_at s a).entries) s.book.acts) (book.changed_act t (book.joins a (max (cell_at s a).last (floor_at t s.book.acts (cell_at s a)))) s.book.acts)) (λ x. record { tid = refl; m = refl; doomed = dooms (is_crossed x) _ x.status }) (asks_raised w t a s h live k g e)
 
 pub sets_kept : {C : Type 0} (w : Fixed C) (e : Event) (s : Machine C) (h : History) → IsAllowed w e s → shows.Owed e s h → SetsWith w e s h → Sets s h → Sets (after w e s) (grown w e s h)
 unfolding Sets shows.Owed TidsAscend conditions after grown
@@ -391,7 +413,7 @@ sets_kept w (Admit t) s h ok o k g =
     let i : t ≡ s.ring.next_tid = eqb-true t s.ring.next_tid ok.0 in
     all_join (IsGreatest (with_at t (base w.text ∷ []) h.before)) s.book.acts _ (others 0 t (base w.text ∷ []) h.before s.book.acts (subst (λ z. Ascend 0 z (map (λ x. x.tid) s.book.acts)) (sym i) k.tids) g) ((λ d. omega (arith, ap greatest (at_it t (base w.text ∷ []) h.before))), tt)
 sets_kept w (Arrive k a) s h ok o q g = mapped h.before (crossed_out a) (map (book.lowered k (book.tids_on (cell_at s a).entries)) s.book.acts) (λ x. record { tid = refl; m = refl; doomed = dooms (is_crossed x) _ x.status }) (mapped h.before (book.lowered k (book.tids_on (cell_at s a).entries)) s.book.acts (λ x. record { tid = refl; m = refl; doomed = λ d. d }) g)
-sets_kept w (Ask t a) s h ok o k g = asks w t a s h o k g (book.in_the_way t (cell_at s a).entries) refl
+sets_kept w (Ask t a) s h ok o k g = asks w t a s h o k g (book.in_the_way (lock_of t s.book.acts) (cell_at s a).entries) refl
 sets_kept w (End t a) s h ok o k g = ended h.before t (has_act t (cell_at s a).entries) (outcome_of t (cell_at s a).outbox) s.book.acts g
 sets_kept w (Abort j) s h ok o k g = mapped h.before _ s.book.acts (λ x. record { tid = refl; m = refl; doomed = dooms _ _ x.status }) g
 sets_kept w (Prepare t a) s h ok o k g = changed h.before t _ s.book.acts (λ x. record { tid = refl; m = refl; doomed = λ d. d }) g

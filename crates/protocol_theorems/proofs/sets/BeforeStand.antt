@@ -40,7 +40,7 @@ pub record BeforeStand {C : Type 0} (w : Fixed C) (s : Machine C) (h : History) 
   pub gains : gaining.GainsAre s h
   pub pairs_in : gaining.PairsIn s
   pub tights : tight.Tights w s h
-  pub pairs_ahead : ahead.PairsAhead s h
+  pub pairs_ahead : ahead.AheadStand w s h
   pub sets : greatest_sets.Sets s h
   pub closed : Closed s h
 
@@ -71,25 +71,25 @@ sets_with w Of finish e s h ok g i high' = record {
   tids_then = high'.tids;
   gains = i.gains;
   pairs_in = i.pairs_in;
-  none_ahead = ahead.none_ahead s h i.pairs_ahead;
+  none_ahead = ahead.none_ahead s h i.pairs_ahead.ahead;
   new_in = λ t a. gaining.new_in t a (cell_at s a) s.book.acts (h.long a) (g.good.turned a) (g.good.numbers a);
   tights = i.tights;
   lasts = g.good.lasts;
   floors = i.floors.floors;
 }
 
-pub kept : {C : Type 0} (w : Fixed C) (Of : Tx → C → Type 0) (finish : C → List State → Alone) (e : Event) (s : Machine C) (h : History) → IsAllowed w e s → AllGood w Of finish s h → BeforeStand w s h → BeforeStand w (after w e s) (grown w e s h)
+pub kept : {C : Type 0} (w : Fixed C) (Of : Tx → C → Type 0) (finish : C → List State → Alone) (e : Event) (s : Machine C) (h : History) → Given w Of finish → IsAllowed w e s → AllGood w Of finish s h → BeforeStand w s h → BeforeStand w (after w e s) (grown w e s h)
 unfolding Turned Numbers
-kept w Of finish e s h ok g i =
-    let o = higher.owed w Of finish e s h ok g in
-    let high' = higher.kept w Of finish e s h ok g i.high in
+kept w Of finish e s h v ok g i =
+    let o = higher.owed w Of finish e s h v ok g in
+    let high' = higher.kept w Of finish e s h v ok g i.high in
     record {
       high = high';
       floors = record { floors = flooring.floors_kept w e s h ok o i.floors.floors; based = flooring.based_kept w e s h ok o i.floors.based };
       gains = gaining.gains_kept w e s h i.gains;
       pairs_in = gaining.in_kept w e s h g.good.turned g.good.numbers i.pairs_in;
       tights = tight.tights_kept w e s h ok o (trims_done w Of finish e s h ok g) g.good.placed g.good.turned i.tights;
-      pairs_ahead = ahead.step w Of finish e s h ok g i.pairs_ahead;
+      pairs_ahead = ahead.step w Of finish e s h v ok g i.pairs_ahead;
       sets = greatest_sets.sets_kept w e s h ok o (sets_with w Of finish e s h ok g i high') i.sets;
       closed = closing.kept w e s h ok (sets_with w Of finish e s h ok g i high') i.closed;
     }
@@ -108,7 +108,7 @@ opened w Of finish v = record {
 }
 
 pub before_stand : {C : Type 0} (w : Fixed C) (Of : Tx → C → Type 0) (finish : C → List State → Alone) (es : List Event) → Given w Of finish → IsRun w es → BeforeStand w (reached w es) (history w es)
-before_stand w Of finish es v run = all.along_good w Of finish (BeforeStand w) v (λ e s h ok g i. kept w Of finish e s h ok g i) (opened w Of finish v) es run
+before_stand w Of finish es v run = all.along_good w Of finish (BeforeStand w) v (λ e s h ok g i. kept w Of finish e s h v ok g i) (opened w Of finish v) es run
 
 -- Over every run the before number of an ACT that is not doomed is the greatest of its set
 pub m_is_greatest : {C : Type 0} (w : Fixed C) (Of : Tx → C → Type 0) (finish : C → List State → Alone) (es : List Event) → Given w Of finish → IsRun w es → (t : ℕ) (x : Act) → act_of t (reached w es).book.acts ≡ Some x → is_doomed x.status ≡ false → x.m ≡ greatest ((history w es).before x.tid)

@@ -8,7 +8,7 @@ use Rattle.protocol.specs.Fixed.{Fixed, base}
 use Rattle.protocol.specs.Rivals.{Lock}
 use Rattle.protocol.specs.Parts.{Act, Pair, Machine}
 use Rattle.protocol.specs.Events.{Event, Admit, Arrive, Ask, Abort, Finish}
-use Rattle.protocol.specs.Words.{holds, is_among, is_doomed, act_of}
+use Rattle.protocol.specs.Words.{holds, is_among, is_doomed, act_of, lock_of}
 use Rattle.protocol.specs.Spread.{stands_behind}
 use Rattle.protocol.specs.Conditions.{IsAllowed, conditions}
 use Rattle.protocol.specs.Effects.{after, cell_at}
@@ -106,7 +106,7 @@ pub record Closed {C : Type 0} (s : Machine C) (h : History) : Type 0 where
 
 -- what is behind is in the book
 asked_behind : {C : Type 0} (t a : ℕ) (s : Machine C) (h : History) → IsIn s.book.acts t → AllByRecursion (λ p. IsIn s.book.acts p.behind) h.gains → AllByRecursion (λ p. IsIn s.book.acts p.behind) (asked_gains t a s h)
-asked_behind t a s h i g = all_join (λ (p : Pair). IsIn s.book.acts p.behind) h.gains _ g (each (filter (λ x. not (book.is_doomed_act s.book.acts x)) (book.met t (cell_at s a).entries)))
+asked_behind t a s h i g = all_join (λ (p : Pair). IsIn s.book.acts p.behind) h.gains _ g (each (filter (λ x. not (book.is_doomed_act s.book.acts x)) (book.met (lock_of t s.book.acts) (cell_at s a).entries)))
   where
     each : (xs : List Lock) → AllByRecursion (λ (p : Pair). IsIn s.book.acts p.behind) (map (λ (x : Lock). record { behind = t; ahead = x.tid; actor = a }) xs)
     each [] = tt
@@ -125,7 +125,7 @@ asked_in_book t a (Some x) s h i g = g
 behind_kept : {C : Type 0} (w : Fixed C) (e : Event) (s : Machine C) (h : History) → IsAllowed w e s → AllByRecursion (λ p. IsIn s.book.acts p.behind) h.gains → AllByRecursion (λ p. IsIn (after w e s).book.acts p.behind) (grown w e s h).gains
 unfolding conditions grown
 behind_kept w (Arrive k a) s h ok g = still_in w (Arrive k a) s _ (all_filter (λ p. IsIn s.book.acts p.behind) _ h.gains g)
-behind_kept w (Ask t a) s h ok g = still_in w (Ask t a) s _ (all_filter (λ p. IsIn s.book.acts p.behind) _ (gains_after_ask (is_none (book.in_the_way t (cell_at s a).entries)) t a s h) (asked_in_book t a (book.in_the_way t (cell_at s a).entries) s h (live_in t s.book.acts ok.1.0) g))
+behind_kept w (Ask t a) s h ok g = still_in w (Ask t a) s _ (all_filter (λ p. IsIn s.book.acts p.behind) _ (gains_after_ask (is_none (book.in_the_way (lock_of t s.book.acts) (cell_at s a).entries)) t a s h) (asked_in_book t a (book.in_the_way (lock_of t s.book.acts) (cell_at s a).entries) s h (live_in t s.book.acts ok.1.0) g))
 behind_kept w (Abort k) s h ok g = still_in w (Abort k) s _ (all_filter (λ p. IsIn s.book.acts p.behind) _ h.gains g)
 behind_kept w (Finish t a) s h ok g = still_in w (Finish t a) s _ (all_filter (λ p. IsIn s.book.acts p.behind) _ h.gains g)
 behind_kept w e s h ok g = still_in w e s h.gains g
@@ -149,12 +149,12 @@ asked_closed t a s h asc i older g =
     (λ p q o. all_among (asked_before true t a s h p.behind) (asked_before true t a s h p.ahead) (λ k m. spread_closes gs 0 s.ring.next_tid s.book.acts (with_at t (h.before t ++ asked_set t a s h) h.before) p.behind p.ahead k asc q o.0 o.1 m))
     (self_pairs gs gs (λ t u q. q)) (both_all IsOlder (λ p. IsIn s.book.acts p.behind) (λ p. IsOlder p × IsIn s.book.acts p.behind) gs (λ p x y. (x, y)) older (asked_behind t a s h i g))
 
-asks_closed : {C : Type 0} (w : Fixed C) (t a : ℕ) (s : Machine C) (h : History) → IsIn s.book.acts t → SetsWith w (Ask t a) s h → Closed s h → (o : Option ℕ) → book.in_the_way t (cell_at s a).entries ≡ o → ClosedOver (asked_before (is_none o) t a s h) (gains_after_ask (is_none o) t a s h)
+asks_closed : {C : Type 0} (w : Fixed C) (t a : ℕ) (s : Machine C) (h : History) → IsIn s.book.acts t → SetsWith w (Ask t a) s h → Closed s h → (o : Option ℕ) → book.in_the_way (lock_of t s.book.acts) (cell_at s a).entries ≡ o → ClosedOver (asked_before (is_none o) t a s h) (gains_after_ask (is_none o) t a s h)
 unfolding GainsAre after
 asks_closed w t a s h i k g (Some x) e = g.closed
 asks_closed w t a s h i k g None e =
-    let ps = subst (λ o. AllByRecursion IsOlder (book.asked_pairs o (book.met t (cell_at s a).entries) t a s.book)) e (found.stand w (after w (Ask t a) s) k.tids_then k.pairs_then).older in
-    let new = book.new_pairs t a (book.met t (cell_at s a).entries) s.book.acts in
+    let ps = subst (λ o. AllByRecursion IsOlder (book.asked_pairs o (book.met (lock_of t s.book.acts) (cell_at s a).entries) t a s.book)) e (found.stand w (after w (Ask t a) s) k.tids_then k.pairs_then).older in
+    let new = book.new_pairs t a (book.met (lock_of t s.book.acts) (cell_at s a).entries) s.book.acts in
     asked_closed t a s h k.tids i (all_join IsOlder h.gains new (subst (AllByRecursion IsOlder) (sym k.gains) (all_filter IsOlder _ s.book.pairs (first s.book.pairs new ps))) (last s.book.pairs new ps)) g.behind_in
   where
     first : (xs ys : List Pair) → AllByRecursion IsOlder (xs ++ ys) → AllByRecursion IsOlder xs
@@ -174,7 +174,7 @@ pub closed_kept : {C : Type 0} (w : Fixed C) (e : Event) (s : Machine C) (h : Hi
 unfolding GainsAre PairsIn conditions grown
 closed_kept w (Admit t) s h ok k g = admits w t (base w.text ∷ []) s h h.gains (eqb-true t s.ring.next_tid ok.0) k.tids g.behind_in (subst (λ ps. AllByRecursion (λ p. IsIn s.book.acts p.ahead) ps) (sym k.gains) (all_filter (λ p. IsIn s.book.acts p.ahead) _ s.book.pairs k.pairs_in)) g.closed
 closed_kept w (Arrive j a) s h ok k g = over_filter h.before _ h.gains g.closed
-closed_kept w (Ask t a) s h ok k g = over_filter (asked_before (is_none (book.in_the_way t (cell_at s a).entries)) t a s h) _ (gains_after_ask (is_none (book.in_the_way t (cell_at s a).entries)) t a s h) (asks_closed w t a s h (live_in t s.book.acts ok.1.0) k g (book.in_the_way t (cell_at s a).entries) refl)
+closed_kept w (Ask t a) s h ok k g = over_filter (asked_before (is_none (book.in_the_way (lock_of t s.book.acts) (cell_at s a).entries)) t a s h) _ (gains_after_ask (is_none (book.in_the_way (lock_of t s.book.acts) (cell_at s a).entries)) t a s h) (asks_closed w t a s h (live_in t s.book.acts ok.1.0) k g (book.in_the_way (lock_of t s.book.acts) (cell_at s a).entries) refl)
 closed_kept w (Abort j) s h ok k g = over_filter h.before _ h.gains g.closed
 closed_kept w (Finish t a) s h ok k g = over_filter h.before _ h.gains g.closed
 closed_kept w e s h ok k g = g.closed

@@ -1,5 +1,5 @@
 -- Floors on all actors, event by event.
-use Rattle.std.specs.Prelude.{◌≡◌, refl, ℕ, zero, suc, ◌<◌, ◌≤◌, ◌==◌, max, Bool, true, false, ◌&&◌, ◌||◌, if◌then◌else◌, Option, Some, None, List, [], ◌∷◌, ◌++◌, length, map, slice_index_or}
+use Rattle.std.specs.Prelude.{◌≡◌, refl, ℕ, zero, suc, ◌<◌, ◌≤◌, ◌==◌, max, Bool, true, false, ◌&&◌, ◌||◌, if◌then◌else◌, Option, Some, None, List, [], ◌∷◌, ◌++◌, length, map, filter, slice_index_or}
 use Rattle.std.specs.List.{AllByRecursion}
 use Rattle.std.proofs.Common.{arith, sym, ap, subst, ◌∙◌}
 use Rattle.std.proofs.lemmas.List.{append-nil}
@@ -7,7 +7,7 @@ use Rattle.std.proofs.lemmas.Bool.{eqb-true, eq-eqb, and_parts, and_from, or_rig
 use Rattle.snap_base.specs.declared.transactions.State.{State}
 use Rattle.protocol.specs.Fixed.{Fixed, base}
 use Rattle.protocol.specs.Rivals.{Lock}
-use Rattle.protocol.specs.Parts.{Act, Cell, Machine}
+use Rattle.protocol.specs.Parts.{Act, FloorPair, Cell, Machine}
 use Rattle.protocol.specs.Events.{Event, Arrive, Ask, Take, Run, Send, End, Close, Complete, Rollback, Finish, Trim}
 use Rattle.protocol.specs.Words.{holds, greatest, is_decided, is_sealed, act_of, sub_of}
 use Rattle.protocol.specs.Conditions.{IsAllowed, conditions, epoch}
@@ -15,12 +15,13 @@ use Rattle.protocol.specs.Effects.{after, cell_at, no_cell}
 use Rattle.protocol.specs.Runs.{opening, new_cell}
 use Rattle.protocol.specs.OnCell as cell
 use Rattle.protocol.specs.History.{History, no_history, grown, seals}
-use Rattle.protocol_theorems.specs.Floors.{number_or_0, number_in, FloorIs}
+use Rattle.protocol_theorems.specs.Floors.{is_kind, number_or_0, number_in, FloorIs}
+use Rattle.protocol_laws.specs.Highs.{own_floor}
 use Rattle.protocol_laws.proofs.machine.DecidedStays.{is_fixed}
 use Rattle.protocol_laws.proofs.machine.TracksKept.{beside, beside_same, in_range, arrives}
 use Rattle.protocol_laws.proofs.machine.TurnsKept.{one_is}
 use Rattle.protocol_laws.proofs.machine.ShowsKept as shows
-use Rattle.protocol_laws.proofs.first.Lists.{all_join, weaker}
+use Rattle.protocol_laws.proofs.first.Lists.{all_join, filter_join, weaker}
 use Rattle.protocol_laws.proofs.first.EpochsKept.{greatest_more}
 
 -- ---- one that is sealed stays so, with its number
@@ -57,61 +58,81 @@ floor_stays w e s h first floor xs o g = record {
   floor_is = g.floor_is ∙ ap (λ z. max first (greatest z)) (sym (numbers_stay w e s h xs o g.sealed));
 }
 
+-- of both kinds
+abbrev pub Both : ℕ → List Act → FloorPair → List Lock → Type 0
+Both first acts floors xs = (r : Bool) → FloorIs first acts (own_floor r floors) (filter (is_kind r) xs)
+
+both_stay : {C : Type 0} (w : Fixed C) (e : Event) (s : Machine C) (h : History) (first : ℕ) (floors : FloorPair) (xs : List Lock) → shows.Owed e s h → Both first s.book.acts floors xs → Both first (after w e s).book.acts floors xs
+both_stay w e s h first floors xs o g = λ r. floor_stays w e s h first (own_floor r floors) (filter (is_kind r) xs) o (g r)
+
 -- ---- an ACT leaves
 
 map_last : (acts : List Act) (xs : List Lock) (x : Lock) → map (number_in acts) (xs ++ x ∷ []) ≡ map (number_in acts) xs ++ number_in acts x ∷ []
 map_last acts [] x = refl
 map_last acts (y ∷ ys) x = rw (map_last acts ys x) refl
 
+-- those of one kind, with one more
+kind_more : (r : Bool) (xs : List Lock) (x : Lock) → filter (is_kind r) (xs ++ x ∷ []) ≡ filter (is_kind r) xs ++ (if is_kind r x then x ∷ [] else [])
+kind_more r xs x = filter_join (is_kind r) xs (x ∷ [])
+
 -- by the book before it; the numbers are the same after it
-leaves : (first : ℕ) (acts acts' : List Act) (floor t : ℕ) (xs : List Lock) (o : Option Act) → act_of t acts ≡ o → (holds is_sealed_act (act_of t acts) ≡ true → holds is_sealed_act (act_of t acts') ≡ true)
-    → (holds is_sealed_act (act_of t acts) ≡ true → number_or_0 (act_of t acts') ≡ number_or_0 (act_of t acts)) → FloorIs first acts' floor xs → FloorIs first acts' (cell.floor_after floor o) (xs ++ seals t o)
-leaves first acts acts' floor t xs None e k n g = rw (append-nil xs) g
-leaves first acts acts' floor t xs (Some x) e k n g = by (is_sealed x.status) refl
+leaves : (first : ℕ) (acts acts' : List Act) (floors : FloorPair) (t : ℕ) (xs : List Lock) (o : Option Act) → act_of t acts ≡ o → (holds is_sealed_act (act_of t acts) ≡ true → holds is_sealed_act (act_of t acts') ≡ true)
+    → (holds is_sealed_act (act_of t acts) ≡ true → number_or_0 (act_of t acts') ≡ number_or_0 (act_of t acts)) → Both first acts' floors xs → Both first acts' (cell.floors_after floors o) (xs ++ seals t o)
+leaves first acts acts' floors t xs None e k n g = subst (Both first acts' floors) (sym (append-nil xs)) g
+leaves first acts acts' floors t xs (Some x) e k n g = by (is_sealed x.status) refl
   where
-    by : (b : Bool) → is_sealed x.status ≡ b → FloorIs first acts' (if b then max floor x.m else floor) (xs ++ (if b then record { tid = t } ∷ [] else []))
-    by false q = rw (append-nil xs) g
+    one : (r : Bool) → holds is_sealed_act (act_of t acts') ≡ true → number_or_0 (act_of t acts') ≡ x.m → (v : Bool) → FloorIs first acts' (own_floor r (cell.raised_floors v x.m floors)) (filter (is_kind r) xs ++ (if is_kind r (record { tid = t; reader = v }) then record { tid = t; reader = v } ∷ [] else []))
+    one true here num true = record {
+      sealed = all_join _ (filter (is_kind true) xs) (record { tid = t; reader = true } ∷ []) (g true).sealed (here, tt);
+      floor_is = rw (map_last acts' (filter (is_kind true) xs) (record { tid = t; reader = true }), greatest_more (map (number_in acts') (filter (is_kind true) xs)) (number_in acts' (record { tid = t; reader = true }))) (omega (arith, (g true).floor_is, num));
+    }
+    one true here num false = subst (FloorIs first acts' floors.read) (sym (append-nil (filter (is_kind true) xs))) (g true)
+    one false here num true = subst (FloorIs first acts' floors.write) (sym (append-nil (filter (is_kind false) xs))) (g false)
+    one false here num false = record {
+      sealed = all_join _ (filter (is_kind false) xs) (record { tid = t; reader = false } ∷ []) (g false).sealed (here, tt);
+      floor_is = rw (map_last acts' (filter (is_kind false) xs) (record { tid = t; reader = false }), greatest_more (map (number_in acts') (filter (is_kind false) xs)) (number_in acts' (record { tid = t; reader = false }))) (omega (arith, (g false).floor_is, num));
+    }
+
+    by : (b : Bool) → is_sealed x.status ≡ b → Both first acts' (if b then cell.raised_floors x.reader x.m floors else floors) (xs ++ (if b then record { tid = t; reader = x.reader } ∷ [] else []))
+    by false q = subst (Both first acts' floors) (sym (append-nil xs)) g
     by true q =
         let here : holds is_sealed_act (act_of t acts) ≡ true = subst (λ o. holds is_sealed_act o ≡ true) (sym e) q in
         let num : number_or_0 (act_of t acts') ≡ x.m = n here ∙ ap number_or_0 e in
-        record {
-          sealed = all_join _ xs (record { tid = t } ∷ []) g.sealed (k here, tt);
-          floor_is = rw (map_last acts' xs (record { tid = t }), greatest_more (map (number_in acts') xs) (number_in acts' (record { tid = t }))) (omega (arith, g.floor_is, num));
-        }
+        λ r. subst (FloorIs first acts' (own_floor r (cell.raised_floors x.reader x.m floors))) (sym (kind_more r xs (record { tid = t; reader = x.reader }))) (one r (k here) num x.reader)
 
 -- ---- all events
 
 abbrev pub At : {C : Type 0} → ℕ → List Act → ℕ → Cell C → List Lock → Type 0
-At first acts a c left = FloorIs first acts c.floor left
+At first acts a c left = Both first acts c.floors left
 
 unfoldable pub Floors : {C : Type 0} → Fixed C → Machine C → History → Type 0
 Floors w s h = (a : ℕ) → At (base w.text) s.book.acts a (cell_at s a) (h.left_sealed a)
 
 pub floors_kept : {C : Type 0} (w : Fixed C) (e : Event) (s : Machine C) (h : History) → IsAllowed w e s → shows.Owed e s h → Floors w s h → Floors w (after w e s) (grown w e s h)
 unfolding Floors shows.Owed conditions after grown
-floors_kept w (Arrive k a) s h ok o g = beside_same (At (base w.text) (after w (Arrive k a) s).book.acts) s.cells a _ h.left_sealed (arrives (epoch s.book) a (λ c. c.epoch == epoch s.book) s.cells (sub_of k a s.post.subs) ok.1.1.0) (λ x. x) (λ b. floor_stays w (Arrive k a) s h (base w.text) (cell_at s b).floor (h.left_sealed b) o (g b))
-floors_kept w (Ask t a) s h ok o g = beside_same (At (base w.text) (after w (Ask t a) s).book.acts) s.cells a _ h.left_sealed (in_range _ s.cells a ok.1.1.0) (λ x. x) (λ b. floor_stays w (Ask t a) s h (base w.text) (cell_at s b).floor (h.left_sealed b) o (g b))
+floors_kept w (Arrive k a) s h ok o g = beside_same (At (base w.text) (after w (Arrive k a) s).book.acts) s.cells a _ h.left_sealed (arrives (epoch s.book) a (λ c. c.epoch == epoch s.book) s.cells (sub_of k a s.post.subs) ok.1.1.0) (λ x. x) (λ b. both_stay w (Arrive k a) s h (base w.text) (cell_at s b).floors (h.left_sealed b) o (g b))
+floors_kept w (Ask t a) s h ok o g = beside_same (At (base w.text) (after w (Ask t a) s).book.acts) s.cells a _ h.left_sealed (in_range _ s.cells a ok.1.1.0) (λ x. x) (λ b. both_stay w (Ask t a) s h (base w.text) (cell_at s b).floors (h.left_sealed b) o (g b))
 floors_kept w (Take t a) s h ok o g = beside_same (At (base w.text) s.book.acts) s.cells a _ h.left_sealed (in_range _ s.cells a ok.1.0) (λ x. x) g
 floors_kept w (Run t a) s h ok o g = beside_same (At (base w.text) s.book.acts) s.cells a _ h.left_sealed (in_range _ s.cells a ok.0) (λ x. x) g
 floors_kept w (Send t a) s h ok o g = beside_same (At (base w.text) s.book.acts) s.cells a _ h.left_sealed (in_range _ s.cells a ok.0) (λ x. x) g
-floors_kept w (End t a) s h ok o g = beside_same (At (base w.text) (after w (End t a) s).book.acts) s.cells a _ h.left_sealed (in_range _ s.cells a ok.0) (λ x. x) (λ b. floor_stays w (End t a) s h (base w.text) (cell_at s b).floor (h.left_sealed b) o (g b))
+floors_kept w (End t a) s h ok o g = beside_same (At (base w.text) (after w (End t a) s).book.acts) s.cells a _ h.left_sealed (in_range _ s.cells a ok.0) (λ x. x) (λ b. both_stay w (End t a) s h (base w.text) (cell_at s b).floors (h.left_sealed b) o (g b))
 floors_kept w (Close t a) s h ok o g = beside_same (At (base w.text) s.book.acts) s.cells a _ h.left_sealed (in_range _ s.cells a ok.1.0) (λ x. x) g
 floors_kept w (Complete k a) s h ok o g = beside_same (At (base w.text) s.book.acts) s.cells a _ h.left_sealed (in_range _ s.cells a ok.0) (λ x. x) g
 floors_kept w (Rollback a) s h ok o g = beside_same (At (base w.text) s.book.acts) s.cells a _ h.left_sealed (in_range _ s.cells a ok.0) (λ x. x) g
 floors_kept w (Finish t a) s h ok o g =
     beside (At (base w.text) (after w (Finish t a) s).book.acts) s.cells a _ _ h.left_sealed o
-    (leaves (base w.text) s.book.acts (after w (Finish t a) s).book.acts (cell_at s a).floor t (h.left_sealed a) (act_of t s.book.acts) refl (sealed_later w (Finish t a) s t) (number_stays w (Finish t a) s h t o))
-    (λ b. floor_stays w (Finish t a) s h (base w.text) (cell_at s b).floor (h.left_sealed b) o (g b))
+    (leaves (base w.text) s.book.acts (after w (Finish t a) s).book.acts (cell_at s a).floors t (h.left_sealed a) (act_of t s.book.acts) refl (sealed_later w (Finish t a) s t) (number_stays w (Finish t a) s h t o))
+    (λ b. both_stay w (Finish t a) s h (base w.text) (cell_at s b).floors (h.left_sealed b) o (g b))
 floors_kept w (Trim k a) s h ok o g = beside_same (At (base w.text) s.book.acts) s.cells a _ h.left_sealed o (λ x. x) g
-floors_kept w e s h ok o g = λ b. floor_stays w e s h (base w.text) (cell_at s b).floor (h.left_sealed b) o (g b)
+floors_kept w e s h ok o g = λ b. both_stay w e s h (base w.text) (cell_at s b).floors (h.left_sealed b) o (g b)
 
 -- ---- no floor is below the first one
 
 abbrev pub Low : {C : Type 0} → ℕ → ℕ → ℕ → Cell C → Unit {0} → Type 0
-Low n first a c x = a < n → first ≤ c.floor
+Low n first a c x = (r : Bool) → a < n → first ≤ own_floor r c.floors
 
 unfoldable pub Based : {C : Type 0} → Fixed C → Machine C → Type 0
-Based w s = (a : ℕ) → a < length w.text.opening.states → base w.text ≤ (cell_at s a).floor
+Based w s = (a : ℕ) (r : Bool) → a < length w.text.opening.states → base w.text ≤ own_floor r (cell_at s a).floors
 
 pub based_kept : {C : Type 0} (w : Fixed C) (e : Event) (s : Machine C) (h : History) → IsAllowed w e s → shows.Owed e s h → Based w s → Based w (after w e s)
 unfolding Based shows.Owed conditions after
@@ -124,7 +145,7 @@ based_kept w (End t a) s h ok o g = beside_same (Low (length w.text.opening.stat
 based_kept w (Close t a) s h ok o g = beside_same (Low (length w.text.opening.states) (base w.text)) s.cells a _ (λ b. tt) (in_range _ s.cells a ok.1.0) (λ x. x) g
 based_kept w (Complete k a) s h ok o g = beside_same (Low (length w.text.opening.states) (base w.text)) s.cells a _ (λ b. tt) (in_range _ s.cells a ok.0) (λ x. x) g
 based_kept w (Rollback a) s h ok o g = beside_same (Low (length w.text.opening.states) (base w.text)) s.cells a _ (λ b. tt) (in_range _ s.cells a ok.0) (λ x. x) g
-based_kept w (Finish t a) s h ok o g = beside_same (Low (length w.text.opening.states) (base w.text)) s.cells a _ (λ b. tt) o (λ x l. omega (arith, x l, shows.floor_rises (cell_at s a).floor (act_of t s.book.acts))) g
+based_kept w (Finish t a) s h ok o g = beside_same (Low (length w.text.opening.states) (base w.text)) s.cells a _ (λ b. tt) o (λ x r l. omega (arith, x r l, shows.own_rises r (cell_at s a).floors (act_of t s.book.acts))) g
 based_kept w (Trim k a) s h ok o g = beside_same (Low (length w.text.opening.states) (base w.text)) s.cells a _ (λ b. tt) o (λ x. x) g
 based_kept w e s h ok o g = g
 
@@ -136,18 +157,21 @@ pub record FloorsStand {C : Type 0} (w : Fixed C) (s : Machine C) (h : History) 
 
 pub opened : {C : Type 0} (w : Fixed C) → FloorsStand w (opening w) no_history
 unfolding Floors Based
-opened {C} w = record { floors = λ a. record { sealed = tt; floor_is = low w.text.opening.states a }; based = λ a l. high w.text.opening.states a l }
+opened {C} w = record { floors = λ a r. record { sealed = tt; floor_is = low r w.text.opening.states a }; based = λ a r l. high r w.text.opening.states a l }
   where
-    low : (states : List State) (a : ℕ) → max (base w.text) (slice_index_or (map (new_cell {C = C} (base w.text)) states) a no_cell).floor ≡ max (base w.text) 0
-    low [] a = refl
-    low (x ∷ xs) zero = omega arith
-    low (x ∷ xs) (suc a) = low xs a
+    low : (r : Bool) (states : List State) (a : ℕ) → max (base w.text) (own_floor r (slice_index_or (map (new_cell {C = C} (base w.text)) states) a no_cell).floors) ≡ max (base w.text) 0
+    low true [] a = refl
+    low false [] a = refl
+    low true (x ∷ xs) zero = omega arith
+    low false (x ∷ xs) zero = omega arith
+    low r (x ∷ xs) (suc a) = low r xs a
 
-    high : (states : List State) (a : ℕ) → a < length states → base w.text ≤ (slice_index_or (map (new_cell {C = C} (base w.text)) states) a no_cell).floor
-    high [] a l = absurd (omega (arith, l))
-    high (x ∷ xs) zero l = omega arith
-    high (x ∷ xs) (suc a) l = high xs a (omega (arith, l))
+    high : (r : Bool) (states : List State) (a : ℕ) → a < length states → base w.text ≤ own_floor r (slice_index_or (map (new_cell {C = C} (base w.text)) states) a no_cell).floors
+    high r [] a l = absurd (omega (arith, l))
+    high true (x ∷ xs) zero l = omega arith
+    high false (x ∷ xs) zero l = omega arith
+    high r (x ∷ xs) (suc a) l = high r xs a (omega (arith, l))
 
-pub floor_is : {C : Type 0} (w : Fixed C) (s : Machine C) (h : History) → FloorsStand w s h → (a : ℕ) → a < length w.text.opening.states → (cell_at s a).floor ≡ max (base w.text) (greatest (map (number_in s.book.acts) (h.left_sealed a)))
+pub floor_is : {C : Type 0} (w : Fixed C) (s : Machine C) (h : History) → FloorsStand w s h → (a : ℕ) (r : Bool) → a < length w.text.opening.states → own_floor r (cell_at s a).floors ≡ max (base w.text) (greatest (map (number_in s.book.acts) (filter (is_kind r) (h.left_sealed a))))
 unfolding Floors Based
-floor_is w s h g a l = omega (arith, (g.floors a).floor_is, g.based a l)
+floor_is w s h g a r l = omega (arith, (g.floors a r).floor_is, g.based a r l)

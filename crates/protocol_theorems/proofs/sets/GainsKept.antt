@@ -7,11 +7,12 @@ use Rattle.protocol.specs.Fixed.{Fixed, Next, Go, Ended}
 use Rattle.protocol.specs.Rivals.{Lock, rivals}
 use Rattle.protocol.specs.Parts.{Act, Pair, Book, Outcome, OfBatch, OfAct, Entry, BatchEntry, ActEntry, Cell, Machine}
 use Rattle.protocol.specs.Events.{Event, Admit, Arrive, Ask, End, Abort, Prepare, Vouch, Decide, Seal, Finish}
-use Rattle.protocol.specs.Words.{holds, is_doomed, is_value, act_of, has_act, outcome_of, group_behind, tail_group}
+use Rattle.protocol.specs.Words.{holds, is_doomed, is_value, act_of, has_act, outcome_of, group_behind, tail_group, lock_of}
 use Rattle.protocol.specs.Effects.{after, cell_at}
 use Rattle.protocol.specs.OnBook as book
 use Rattle.protocol.specs.History.{History, Ran, Stands, Gone, grown, carrying, is_none, gains_after_ask}
 use Rattle.protocol_laws.specs.Turns.{Turns}
+use Rattle.protocol_laws.specs.Highs.{doomed_at}
 use Rattle.protocol_laws.specs.Befores.{is_above, Befores}
 use Rattle.protocol_laws.proofs.machine.ActsGrow.{Grows, acts_grow, grown_holds}
 use Rattle.protocol_laws.proofs.machine.BeforesKept.{Numbers}
@@ -21,7 +22,7 @@ use Rattle.protocol_laws.proofs.first.Statuses.{decided_doomed, if_tid, sealed_d
 use Rattle.protocol_laws.proofs.machine.QueuedKept.{found_some}
 
 abbrev pub out : List Act → Pair → Bool
-out acts p = book.is_doomed_act acts (record { tid = p.ahead })
+out acts p = doomed_at acts p.ahead
 
 -- ---- who is doomed is so to begin with
 
@@ -106,17 +107,17 @@ swap q acts (p ∷ ps) = by (q p) refl (out acts p) refl (swap q acts ps)
     by false e false f r = rw e r
 
 asked : {C : Type 0} (t a : ℕ) (o : Option ℕ) (s : Machine C) (h : History) (acts' : List Act) → Grows s.book.acts acts' → h.gains ≡ carrying s.book.acts s.book.pairs
-    → carrying acts' (gains_after_ask (is_none o) t a s h) ≡ carrying acts' (book.asked_pairs o (book.met t (cell_at s a).entries) t a s.book)
+    → carrying acts' (gains_after_ask (is_none o) t a s h) ≡ carrying acts' (book.asked_pairs o (book.met (lock_of t s.book.acts) (cell_at s a).entries) t a s.book)
 asked t a (Some x) s h acts' g e = ap (carrying acts') e ∙ twice s.book.acts acts' s.book.pairs (λ p q. out_grows s.book.acts acts' p g q)
 asked t a None s h acts' g e =
-    let new = book.new_pairs t a (book.met t (cell_at s a).entries) s.book.acts in
+    let new = book.new_pairs t a (book.met (lock_of t s.book.acts) (cell_at s a).entries) s.book.acts in
     carrying_join acts' h.gains new ∙ (ap (λ z. z ++ carrying acts' new) (ap (carrying acts') e ∙ twice s.book.acts acts' s.book.pairs (λ p q. out_grows s.book.acts acts' p g q)) ∙ sym (carrying_join acts' s.book.pairs new))
 
 pub gains_kept : {C : Type 0} (w : Fixed C) (e : Event) (s : Machine C) (h : History) → GainsAre s h → GainsAre (after w e s) (grown w e s h)
 unfolding GainsAre after grown
 gains_kept w (Admit t) s h g = g ∙ sym (same_out s.book.acts _ s.book.pairs (λ p. out_more _ s.book.acts p refl))
 gains_kept w (Arrive k a) s h g = ap (carrying (after w (Arrive k a) s).book.acts) g ∙ twice s.book.acts (after w (Arrive k a) s).book.acts s.book.pairs (λ p q. out_grows s.book.acts (after w (Arrive k a) s).book.acts p (acts_grow w (Arrive k a) s) q)
-gains_kept w (Ask t a) s h g = asked t a (book.in_the_way t (cell_at s a).entries) s h (after w (Ask t a) s).book.acts (acts_grow w (Ask t a) s) g
+gains_kept w (Ask t a) s h g = asked t a (book.in_the_way (lock_of t s.book.acts) (cell_at s a).entries) s h (after w (Ask t a) s).book.acts (acts_grow w (Ask t a) s) g
 gains_kept w (End t a) s h g = g ∙ sym (same_out s.book.acts _ s.book.pairs (λ p. ended_out t (has_act t (cell_at s a).entries) (outcome_of t (cell_at s a).outbox) s.book.acts p))
 gains_kept w (Abort k) s h g = ap (carrying (after w (Abort k) s).book.acts) g ∙ twice s.book.acts (after w (Abort k) s).book.acts s.book.pairs (λ p q. out_grows s.book.acts (after w (Abort k) s).book.acts p (acts_grow w (Abort k) s) q)
 gains_kept w (Prepare t a) s h g = g ∙ sym (same_out s.book.acts _ s.book.pairs (λ p. out_changed t _ s.book.acts p (λ x. refl) (λ x. refl)))
@@ -160,16 +161,16 @@ group_in acts top seen (Stands (OfAct u) c ss ∷ rs) (BatchEntry k ∷ es) t b 
 group_in acts top seen (Stands (OfAct u) c ss ∷ rs) (ActEntry x ∷ es) t b h = let i : x.tid ≡ u = cc t.0 in group_in acts top (seen ++ x ∷ []) rs es t.2 b.1 (all_join (λ x. IsIn acts x.tid) seen (x ∷ []) h (subst (IsIn acts) (sym i) (found_some (is_above top) (act_of u acts) b.0), tt))
 
 -- so are those that an Ask pairs with
-pub new_in : {C : Type 0} (t a : ℕ) (c : Cell C) (acts : List Act) (rs : List Ran) → Turns rs c.entries → Befores acts 0 rs → AllIn acts (book.new_pairs t a (book.met t c.entries) acts)
-new_in t a c acts rs r b = all_map (λ x. IsIn acts x.tid) (λ p. IsIn acts p.ahead) (λ x. record { behind = t; ahead = x.tid; actor = a }) (filter (λ x. not (book.is_doomed_act acts x)) (book.met t c.entries)) (λ x h. h)
-    (all_filter (λ x. IsIn acts x.tid) (λ x. not (book.is_doomed_act acts x)) (book.met t c.entries) (all_filter (λ x. IsIn acts x.tid) (rivals (record { tid = t })) (tail_group c.entries) (group_in acts 0 [] rs c.entries r b tt)))
+pub new_in : {C : Type 0} (t a : ℕ) (c : Cell C) (acts : List Act) (rs : List Ran) → Turns rs c.entries → Befores acts 0 rs → AllIn acts (book.new_pairs t a (book.met (lock_of t acts) c.entries) acts)
+new_in t a c acts rs r b = all_map (λ x. IsIn acts x.tid) (λ p. IsIn acts p.ahead) (λ x. record { behind = t; ahead = x.tid; actor = a }) (filter (λ x. not (book.is_doomed_act acts x)) (book.met (lock_of t acts) c.entries)) (λ x h. h)
+    (all_filter (λ x. IsIn acts x.tid) (λ x. not (book.is_doomed_act acts x)) (book.met (lock_of t acts) c.entries) (all_filter (λ x. IsIn acts x.tid) (rivals (lock_of t acts)) (tail_group c.entries) (group_in acts 0 [] rs c.entries r b tt)))
 
-asked_in : {C : Type 0} (t a : ℕ) (o : Option ℕ) (c : Cell C) (b : Book) (rs : List Ran) → Turns rs c.entries → Befores b.acts 0 rs → AllIn b.acts b.pairs → AllIn b.acts (book.asked_pairs o (book.met t c.entries) t a b)
+asked_in : {C : Type 0} (t a : ℕ) (o : Option ℕ) (c : Cell C) (b : Book) (rs : List Ran) → Turns rs c.entries → Befores b.acts 0 rs → AllIn b.acts b.pairs → AllIn b.acts (book.asked_pairs o (book.met (lock_of t b.acts) c.entries) t a b)
 asked_in t a (Some x) c b rs r n h = h
 asked_in t a None c b rs r n h = all_join (λ p. IsIn b.acts p.ahead) b.pairs _ h (new_in t a c b.acts rs r n)
 
 pub in_kept : {C : Type 0} (w : Fixed C) (e : Event) (s : Machine C) (h : History) → Turned s h → Numbers s h → PairsIn s → PairsIn (after w e s)
 unfolding PairsIn Turned Numbers after
-in_kept w (Ask t a) s h r n g = weaker (λ p. IsIn s.book.acts p.ahead) (λ p. IsIn (after w (Ask t a) s).book.acts p.ahead) _ (λ p q. in_grows s.book.acts (after w (Ask t a) s).book.acts p.ahead (acts_grow w (Ask t a) s) q) (asked_in t a (book.in_the_way t (cell_at s a).entries) (cell_at s a) s.book (h.long a) (r a) (n a) g)
+in_kept w (Ask t a) s h r n g = weaker (λ p. IsIn s.book.acts p.ahead) (λ p. IsIn (after w (Ask t a) s).book.acts p.ahead) _ (λ p q. in_grows s.book.acts (after w (Ask t a) s).book.acts p.ahead (acts_grow w (Ask t a) s) q) (asked_in t a (book.in_the_way (lock_of t s.book.acts) (cell_at s a).entries) (cell_at s a) s.book (h.long a) (r a) (n a) g)
 in_kept w (Finish t a) s h r n g = weaker (λ p. IsIn s.book.acts p.ahead) (λ p. IsIn (after w (Finish t a) s).book.acts p.ahead) _ (λ p q. in_grows s.book.acts (after w (Finish t a) s).book.acts p.ahead (acts_grow w (Finish t a) s) q) (all_filter (λ p. IsIn s.book.acts p.ahead) (λ p. not ((p.ahead == t) && (p.actor == a))) s.book.pairs g)
 in_kept w e s h r n g = weaker (λ p. IsIn s.book.acts p.ahead) (λ p. IsIn (after w e s).book.acts p.ahead) s.book.pairs (λ p q. in_grows s.book.acts (after w e s).book.acts p.ahead (acts_grow w e s) q) g

@@ -7,18 +7,19 @@ use Rattle.snap_base.specs.declared.transactions.State.{State}
 use Rattle.protocol.specs.Fixed.{Fixed, base}
 use Rattle.protocol.specs.Parts.{Cascade, OfBatch, OfAct, Who, Entry, BatchEntry, ActEntry, Cell, Machine}
 use Rattle.protocol.specs.Events.{Event, Arrive, Ask, Take, Run, Send, End, Close, Complete, Rollback, Finish, Trim}
-use Rattle.protocol.specs.Words.{greatest, is_who, batches_on, act_of, sub_of}
+use Rattle.protocol.specs.Words.{greatest, is_who, batches_on, act_of, sub_of, lock_of}
 use Rattle.protocol.specs.Conditions.{IsAllowed, conditions, epoch}
 use Rattle.protocol.specs.Effects.{after, cell_at, no_cell}
 use Rattle.protocol.specs.Runs.{opening, new_cell}
 use Rattle.protocol.specs.OnBook as book
 use Rattle.protocol.specs.OnCell as cell
 use Rattle.protocol.specs.OnCell.{is_cut}
-use Rattle.protocol.specs.History.{History, Ran, Stands, Gone, no_history, grown, not_run, ran_in, completed, left_for_good, without_standing, long_staying, asks, batches_in, batch_in}
+use Rattle.protocol.specs.History.{History, Ran, Stands, Gone, no_history, grown, not_run, ran_in, completed, left_for_good, without_standing, long_staying, asks, batches_in, batch_in, is_traceless}
 use Rattle.protocol_laws.specs.Tracks.{NoneGone, CutIsEnd}
 use Rattle.protocol_laws.specs.Turns.{Turns}
 use Rattle.protocol_laws.specs.Marks.{is_done}
 use Rattle.protocol_laws.specs.Befores.{gone_in}
+use Rattle.protocol_laws.proofs.machine.TrackLists
 use Rattle.protocol_laws.proofs.machine.TracksKept.{beside, beside_same, in_range, arrives}
 use Rattle.protocol_laws.proofs.machine.TurnLists
 use Rattle.protocol_laws.proofs.machine.TurnsKept.{Turned}
@@ -124,9 +125,9 @@ tights_kept w (Arrive k a) s h ok o d p t g = beside (At (base w.text)) s.cells 
       placed = omega (arith, ap greatest (PlaceLists.batches_join (h.long a) (not_run (OfBatch k) ∷ [])), greatest_join (batches_in (h.long a)) (k ∷ []));
       gone = omega (arith, ap greatest (befores.gone_more (OfBatch k) (h.long a)), y.gone);
     }) g
-tights_kept w (Ask u a) s h ok o d p t g = beside (At (base w.text)) s.cells a _ _ h.long (in_range _ s.cells a ok.1.1.0) (ask (base w.text) (cell_at s a).last (cell_at s a).last_trimmed u (book.in_the_way u (cell_at s a).entries) (h.long a)) g
+tights_kept w (Ask u a) s h ok o d p t g = beside (At (base w.text)) s.cells a _ _ h.long (in_range _ s.cells a ok.1.1.0) (ask (base w.text) (cell_at s a).last (cell_at s a).last_trimmed u (book.in_the_way (lock_of u s.book.acts) (cell_at s a).entries) (h.long a)) g
 tights_kept w (Take u a) s h ok o d p t g = beside_same (At (base w.text)) s.cells a _ h.long (in_range _ s.cells a ok.1.0) (λ y. y) g
-tights_kept w (Run u a) s h ok o d p t g = beside (At (base w.text)) s.cells a _ _ h.long (in_range _ s.cells a ok.0) (ran (base w.text) (cell_at s a).last (cell_at s a).last_trimmed _ _ (h.long a)) g
+tights_kept w (Run u a) s h ok o d p t g = beside (At (base w.text)) s.cells a _ _ h.long (in_range _ s.cells a ok.0) (λ y. TrackLists.on_reads (Tight (base w.text) (cell_at s a).last (cell_at s a).last_trimmed) (cell.reads_on u (cell_at s a).entries) _ _ (h.long a) (ran (base w.text) (cell_at s a).last (cell_at s a).last_trimmed _ _ (h.long a)) y) g
 tights_kept w (Send u a) s h ok o d p t g = beside_same (At (base w.text)) s.cells a _ h.long (in_range _ s.cells a ok.0) (λ y. y) g
 tights_kept w (End u a) s h ok o d p t g = beside_same (At (base w.text)) s.cells a _ h.long (in_range _ s.cells a ok.0) (λ y. y) g
 tights_kept w (Close u a) s h ok o d p t g = beside_same (At (base w.text)) s.cells a _ h.long (in_range _ s.cells a ok.1.0) (λ y. y) g
@@ -136,7 +137,7 @@ tights_kept w (Rollback a) s h ok o d p t g = beside (At (base w.text)) s.cells 
       placed = omega (arith, y.gone, ap greatest e, gone_within (long_staying s.book.cascades (h.long a)), on_within (long_staying s.book.cascades (h.long a)) (cell.staying s.book.cascades (cell_at s a).entries) (TurnLists.roll_back s.book.cascades (h.long a) (cell_at s a).entries (t a)));
       gone = omega (arith, y.gone, ap greatest e);
     }) g
-tights_kept w (Finish u a) s h ok o d p t g = beside (At (base w.text)) s.cells a _ _ h.long o (finish (base w.text) (cell_at s a).last (cell_at s a).last_trimmed u (cell.is_undone_act (act_of u s.book.acts)) (h.long a)) g
+tights_kept w (Finish u a) s h ok o d p t g = beside (At (base w.text)) s.cells a _ _ h.long o (finish (base w.text) (cell_at s a).last (cell_at s a).last_trimmed u (is_traceless (act_of u s.book.acts)) (h.long a)) g
 tights_kept w (Trim k a) s h ok o d p t g = beside (At (base w.text)) s.cells a _ _ h.long o (λ y. record {
   placed = rw (PlaceLists.batches_left (OfBatch k) (h.long a)) y.placed;
   gone = omega (arith, y.gone, gone_more (OfBatch k) (h.long a), goes k (h.long a) d);

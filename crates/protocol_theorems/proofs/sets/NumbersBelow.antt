@@ -11,7 +11,7 @@ use Rattle.protocol.specs.Facts.{Alone}
 use Rattle.protocol.specs.Rivals.{Lock}
 use Rattle.protocol.specs.Parts.{Act, Pair, Book, Batch, Status, Live, Doomed, Decided, Sealed, Outcome, OfBatch, Cell, Machine}
 use Rattle.protocol.specs.Events.{Event, Admit, Arrive, Ask, End, Abort, Prepare, Vouch, Decide, Seal, Finish}
-use Rattle.protocol.specs.Words.{holds, least_of, is_among, is_live_status, is_value, is_aborted, is_formed, is_open, act_of, batch_of, declared_of, has_act, outcome_of, is_ordered}
+use Rattle.protocol.specs.Words.{holds, least_of, is_among, is_live_status, is_value, is_aborted, is_formed, is_open, act_of, batch_of, declared_of, has_act, outcome_of, is_ordered, lock_of, floor_at}
 use Rattle.protocol.specs.Spread.{raised, carried, crossed_out, is_crossed, reaches}
 use Rattle.protocol.specs.Conditions.{IsAllowed, conditions}
 use Rattle.protocol.specs.Effects.{after, cell_at}
@@ -92,9 +92,9 @@ below_joined t a m (x ∷ xs) l h = (by (x.tid == t) refl, below_joined t a m xs
     by true e = λ p. absurd (true≢false (sym (l.0 e) ∙ ordered_not_live x.status p))
     by false e = h.0
 
-below_asked : {C : Type 0} (t a : ℕ) (o : Option ℕ) (group : List Lock) (c : Cell C) (b : Book) → AllByRecursion (λ x. (x.tid == t) ≡ true → is_live_status x.status ≡ true) b.acts → AllByRecursion IsBelow b.acts → AllByRecursion IsBelow (book.asked_acts o group t a (max c.last c.floor) b)
+below_asked : {C : Type 0} (t a : ℕ) (o : Option ℕ) (group : List Lock) (c : Cell C) (b : Book) → AllByRecursion (λ x. (x.tid == t) ≡ true → is_live_status x.status ≡ true) b.acts → AllByRecursion IsBelow b.acts → AllByRecursion IsBelow (book.asked_acts o group t a (max c.last (floor_at t b.acts c)) b)
 below_asked t a (Some y) group c b l h = below_changed t _ b.acts (λ x i. same_below x (book.doomed_by (Rattle.protocol.specs.Verdicts.died a y t) x) refl refl (placed_if (is_live_status x.status) _ x.status) i) h
-below_asked t a None group c b l h = below_crossed a (raised (b.pairs ++ book.new_pairs t a group b.acts) (book.changed_act t (book.joins a (max c.last c.floor)) b.acts)) (below_raised (b.pairs ++ book.new_pairs t a group b.acts) (book.changed_act t (book.joins a (max c.last c.floor)) b.acts) (below_joined t a (max c.last c.floor) b.acts l h))
+below_asked t a None group c b l h = below_crossed a (raised (b.pairs ++ book.new_pairs t a group b.acts) (book.changed_act t (book.joins a (max c.last (floor_at t b.acts c))) b.acts)) (below_raised (b.pairs ++ book.new_pairs t a group b.acts) (book.changed_act t (book.joins a (max c.last (floor_at t b.acts c))) b.acts) (below_joined t a (max c.last (floor_at t b.acts c)) b.acts l h))
 
 below_ended : {C : Type 0} (t : ℕ) (v : Bool) (o : Option (Outcome C)) (xs : List Act) → AllByRecursion IsBelow xs → AllByRecursion IsBelow (if v then book.noted_from t o xs else xs)
 below_ended t false o xs h = h
@@ -155,7 +155,7 @@ pub below_kept : {C : Type 0} (w : Fixed C) (Of : Tx → C → Type 0) (finish :
 unfolding AllBelow afters.Uncrossed after
 below_kept w Of finish (Admit t) s h ok g i b = all_join IsBelow s.book.acts _ b ((λ p. refl), tt)
 below_kept w Of finish (Arrive k a) s h ok g i b = below_crossed a (map (book.lowered k (book.tids_on (cell_at s a).entries)) s.book.acts) (below_lowered k (book.tids_on (cell_at s a).entries) s.book.acts (arrives_above w Of finish k a s h ok g i.high.tids) b)
-below_kept w Of finish (Ask t a) s h ok g i b = below_asked t a (book.in_the_way t (cell_at s a).entries) (book.met t (cell_at s a).entries) (cell_at s a) s.book (asks_live t s (higher.asks_live w Of finish t a s h ok g) i.high.tids) b
+below_kept w Of finish (Ask t a) s h ok g i b = below_asked t a (book.in_the_way (lock_of t s.book.acts) (cell_at s a).entries) (book.met (lock_of t s.book.acts) (cell_at s a).entries) (cell_at s a) s.book (asks_live t s (higher.asks_live w Of finish t a s h ok g) i.high.tids) b
 below_kept w Of finish (End t a) s h ok g i b = below_ended t (has_act t (cell_at s a).entries) (outcome_of t (cell_at s a).outbox) s.book.acts b
 below_kept w Of finish (Abort k) s h ok g i b = all_map IsBelow IsBelow _ s.book.acts (λ x q p. refl) b
 below_kept w Of finish (Prepare t a) s h ok g i b = below_changed t _ s.book.acts (λ x q. q) b
@@ -173,8 +173,8 @@ below_opened : {C : Type 0} (w : Fixed C) → AllBelow (opening w)
 unfolding AllBelow
 below_opened w = tt
 
-pub below_step : {C : Type 0} (w : Fixed C) (Of : Tx → C → Type 0) (finish : C → List State → Alone) (e : Event) (s : Machine C) (h : History) → IsAllowed w e s → AllGood w Of finish s h → BelowStand w s h → BelowStand w (after w e s) (grown w e s h)
-below_step w Of finish e s h ok g i = record { after_stand = stand.kept w Of finish e s h ok g i.after_stand; below = below_kept w Of finish e s h ok g i.after_stand i.below }
+pub below_step : {C : Type 0} (w : Fixed C) (Of : Tx → C → Type 0) (finish : C → List State → Alone) (e : Event) (s : Machine C) (h : History) → Given w Of finish → IsAllowed w e s → AllGood w Of finish s h → BelowStand w s h → BelowStand w (after w e s) (grown w e s h)
+below_step w Of finish e s h v ok g i = record { after_stand = stand.kept w Of finish e s h v ok g i.after_stand; below = below_kept w Of finish e s h ok g i.after_stand i.below }
 
 pub below_begins : {C : Type 0} (w : Fixed C) (Of : Tx → C → Type 0) (finish : C → List State → Alone) → Given w Of finish → BelowStand w (opening w) no_history
 below_begins w Of finish v = record { after_stand = stand.opened w Of finish v; below = below_opened w }
@@ -183,5 +183,5 @@ below_begins w Of finish v = record { after_stand = stand.opened w Of finish v; 
 pub placed_below_n : {C : Type 0} (w : Fixed C) (Of : Tx → C → Type 0) (finish : C → List State → Alone) (es : List Event) → Given w Of finish → IsRun w es → (t : ℕ) (x : Act) → act_of t (reached w es).book.acts ≡ Some x → is_ordered x.status ≡ true → reaches x.m x.n ≡ false
 unfolding AllBelow
 placed_below_n w Of finish es v run t x e p =
-    let g : BelowStand w (reached w es) (history w es) = all.along_good w Of finish (BelowStand w) v (λ e s h ok g i. below_step w Of finish e s h ok g i) (below_begins w Of finish v) es run in
+    let g : BelowStand w (reached w es) (history w es) = all.along_good w Of finish (BelowStand w) v (λ e s h ok g i. below_step w Of finish e s h v ok g i) (below_begins w Of finish v) es run in
     (all_found IsBelow (λ y. y.tid == t) (reached w es).book.acts x g.below e).0 p

@@ -44,7 +44,7 @@ numbers_stand {C} w finish es f t run = by es run (length w.text.opening.states)
       before_below_after = λ u k x e d n. absurd (cc e);
       placed_below = λ u x e p. absurd (cc e);
       placed_behind_none = tt;
-      floors_are = λ a k. absurd (omega (arith, k, l));
+      floors_are = λ a r k. absurd (omega (arith, k, l));
       places_rise = λ a. tt;
       places_differ = tt;
     }

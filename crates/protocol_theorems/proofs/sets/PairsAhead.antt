@@ -11,17 +11,20 @@ use Rattle.protocol.specs.Facts.{Alone}
 use Rattle.protocol.specs.Rivals.{Lock, rivals}
 use Rattle.protocol.specs.Parts.{Act, Pair, Book, Cascade, Status, Live, Doomed, Decided, Sealed, Who, OfBatch, OfAct, Entry, BatchEntry, ActEntry, Waiting, Cell, Machine}
 use Rattle.protocol.specs.Events.{Event, Admit, Arrive, Ask, Run, End, Complete, Rollback, Decide, Finish, Trim}
-use Rattle.protocol.specs.Words.{is_empty, holds, is_aborted, is_doomed, is_sealed, is_live_status, is_who, is_act_who, who_on, act_of, group_behind, tail_group, waiting_of, is_ordered}
+use Rattle.protocol.specs.Words.{is_empty, holds, is_aborted, is_doomed, is_sealed, is_live_status, is_who, is_act_who, who_on, act_of, group_behind, tail_group, waiting_of, is_ordered, lock_of}
 use Rattle.protocol.specs.Conditions.{IsAllowed, conditions}
 use Rattle.protocol.specs.Effects.{after, cell_at}
 use Rattle.protocol.specs.Runs.{opening, IsRun, reached}
 use Rattle.protocol.specs.OnBook as book
 use Rattle.protocol.specs.OnCell as cell
-use Rattle.protocol.specs.History.{History, Slice, Ran, Stands, Gone, no_history, history, grown, with_at, not_run, ran_in, completed, left_for_good, without_standing, long_staying, asks}
-use Rattle.protocol_laws.specs.Tracks.{Key, key_of, keys_in, is_key_among, slices_in, InOrder}
+use Rattle.protocol.specs.History.{History, Slice, Ran, Stands, Gone, no_history, history, grown, with_at, not_run, ran_in, ran_on, completed, left_for_good, without_standing, long_staying, asks, is_traceless, is_reader_act}
+use Rattle.protocol_laws.specs.Tracks.{Key, key_of, keys_in, is_key_among, slices_in, InOrder, has_read}
 use Rattle.protocol_laws.specs.Turns.{Turns}
 use Rattle.protocol_laws.specs.Highs.{AllDoomed, TakenAlong, doomed_at}
-use Rattle.protocol_laws.proofs.machine.ActsGrow.{acts_grow, grown_holds}
+use Rattle.protocol_laws.proofs.machine.ActsGrow.{Grows, acts_grow, grown_holds}
+use Rattle.protocol_laws.proofs.machine.ReadersKept.{LockOf, Locks}
+use Rattle.protocol_laws.proofs.first.Agree.{agree, agree_is}
+use Rattle.protocol_laws.proofs.machine.ReadersSee.{ReadBy, AllSee, SeesAt, none_has, not_read, reads_at}
 use Rattle.protocol_laws.proofs.machine.ActsFound as acts
 use Rattle.protocol_laws.proofs.machine.ActsFound.{Holds}
 use Rattle.protocol_laws.proofs.machine.ActsKept.{Acts}
@@ -29,6 +32,7 @@ use Rattle.protocol_laws.proofs.machine.ActResults as results
 use Rattle.protocol_laws.proofs.machine.BehindKept as behind
 use Rattle.protocol_laws.proofs.machine.QueuedKept.{in_book}
 use Rattle.protocol_laws.proofs.machine.StartsKept.{Starts, Started}
+use Rattle.protocol_laws.proofs.machine.TrackLists
 use Rattle.protocol_laws.proofs.machine.TracksKept.{Tracked}
 use Rattle.protocol_laws.proofs.machine.TurnsKept.{one_is, Turned}
 use Rattle.protocol_laws.proofs.machine.ShowsKept as shows
@@ -229,23 +233,58 @@ left_empty : (xs ys : List Slice) → xs ++ ys ≡ [] → (is_empty xs ≡ true)
 left_empty [] ys e = (refl, e)
 left_empty (x ∷ xs) ys e = absurd (cc e)
 
-none_ran : {C : Type 0} (t : ℕ) (inbox : List (Waiting C)) (rs : List Ran) → slices_in rs ≡ [] → Starts inbox rs → stands_in t rs ≡ true → is_some (waiting_of t inbox) ≡ true
-none_ran t inbox [] e s h = absurd (true≢false (sym h))
-none_ran t inbox (Stands (OfBatch j) c ss ∷ rs) e s h = none_ran t inbox rs (left_empty ss (slices_in rs) e).1 s h
-none_ran t inbox (Stands (OfAct v) c ss ∷ rs) e s h = elim (or_cases (v == t) (stands_in t rs) h) [
-  | inl q ↦ subst (λ z. is_some (waiting_of z inbox) ≡ true) (eqb-true v t q) (s.0 (left_empty ss (slices_in rs) e).0)
-  | inr q ↦ none_ran t inbox rs (left_empty ss (slices_in rs) e).1 s.1 q
+none_ran : {C : Type 0} (rd : ℕ → Bool) (t : ℕ) (inbox : List (Waiting C)) (rs : List Ran) → slices_in rs ≡ [] → rd t ≡ false → Starts rd inbox rs → stands_in t rs ≡ true → is_some (waiting_of t inbox) ≡ true
+none_ran rd t inbox [] e n s h = absurd (true≢false (sym h))
+none_ran rd t inbox (Stands (OfBatch j) c ss ∷ rs) e n s h = none_ran rd t inbox rs (left_empty ss (slices_in rs) e).1 n s h
+none_ran rd t inbox (Stands (OfAct v) c ss ∷ rs) e n s h = elim (or_cases (v == t) (stands_in t rs) h) [
+  | inl q ↦ subst (λ z. is_some (waiting_of z inbox) ≡ true) (eqb-true v t q) (s.0 (left_empty ss (slices_in rs) e).0 (ap rd (eqb-true v t q) ∙ n))
+  | inr q ↦ none_ran rd t inbox rs (left_empty ss (slices_in rs) e).1 n s.1 q
 ]
-none_ran t inbox (Gone y ss ∷ rs) e s h = none_ran t inbox rs (left_empty ss (slices_in rs) e).1 s h
+none_ran rd t inbox (Gone y ss ∷ rs) e n s h = none_ran rd t inbox rs (left_empty ss (slices_in rs) e).1 n s h
 
-waits_behind : {C : Type 0} (u t : ℕ) (inbox : List (Waiting C)) (rs : List Ran) → InOrder rs → NoActComplete (keys_in rs) → Starts inbox rs → is_act_ahead u t rs ≡ true → is_some (waiting_of t inbox) ≡ true
-waits_behind u t inbox [] o n s h = absurd (true≢false (sym h))
-waits_behind u t inbox (Stands (OfBatch j) c ss ∷ rs) o n s h = waits_behind u t inbox rs o.1 n.1 s h
-waits_behind u t inbox (Stands (OfAct v) c ss ∷ rs) o n s h = elim (or_cases ((v == u) && stands_in t rs) (is_act_ahead u t rs) h) [
-  | inl q ↦ none_ran t inbox rs (o.0 (n.0 refl)) s.1 (and_parts (v == u) (stands_in t rs) q).1
-  | inr q ↦ waits_behind u t inbox rs o.1 n.1 s.1 q
+waits_behind : {C : Type 0} (rd : ℕ → Bool) (u t : ℕ) (inbox : List (Waiting C)) (rs : List Ran) → InOrder rs → NoActComplete (keys_in rs) → rd t ≡ false → Starts rd inbox rs → is_act_ahead u t rs ≡ true → is_some (waiting_of t inbox) ≡ true
+waits_behind rd u t inbox [] o k n s h = absurd (true≢false (sym h))
+waits_behind rd u t inbox (Stands (OfBatch j) c ss ∷ rs) o k n s h = waits_behind rd u t inbox rs o.1 k.1 n s h
+waits_behind rd u t inbox (Stands (OfAct v) c ss ∷ rs) o k n s h = elim (or_cases ((v == u) && stands_in t rs) (is_act_ahead u t rs) h) [
+  | inl q ↦ none_ran rd t inbox rs (o.0 (k.0 refl)) n s.1 (and_parts (v == u) (stands_in t rs) q).1
+  | inr q ↦ waits_behind rd u t inbox rs o.1 k.1 n s.1 q
 ]
-waits_behind u t inbox (Gone y ss ∷ rs) o n s h = waits_behind u t inbox rs o n s h
+waits_behind rd u t inbox (Gone y ss ∷ rs) o k n s h = waits_behind rd u t inbox rs o k n s h
+
+-- ---- a reader that ran has no rival ahead of it
+
+abbrev pub is_other : Act → Bool
+is_other x = not x.reader
+
+turns_key : (t : ℕ) (rs : List Ran) (es : List Entry) → Turns rs es → stands_in t rs ≡ true → is_key_among (OfAct t) (map key_of es) ≡ true
+turns_key t [] es r h = absurd (true≢false (sym h))
+turns_key t (Gone y ss ∷ rs) es r h = turns_key t rs es r h
+turns_key t (Stands y c ss ∷ rs) [] r h = absurd r
+turns_key t (Stands y c ss ∷ rs) (BatchEntry b ∷ es) r h = turns_key t rs es r.2 (subst (λ z. (is_who z (OfAct t) || stands_in t rs) ≡ true) (sym r.0) h)
+turns_key t (Stands y c ss ∷ rs) (ActEntry x ∷ es) r h = elim (or_cases (x.tid == t) (stands_in t rs) (subst (λ z. (is_who z (OfAct t) || stands_in t rs) ≡ true) (sym r.0) h)) [
+  | inl q ↦ or_left (x.tid == t) _ q
+  | inr q ↦ or_right (x.tid == t) _ (turns_key t rs es r.2 q)
+]
+
+not_both : (v : Bool) (o : Option Act) → holds (λ y. agree y.reader v) o ≡ true → holds is_other o ≡ true → v ≡ false
+not_both v None l k = absurd (true≢false (sym l))
+not_both v (Some y) l k = sym (agree_is y.reader v l) ∙ not-true y.reader k
+
+unread_behind : (acts : List Act) (now : State) (u t : ℕ) (zs : List Slice) (rs : List Ran) (es : List Entry) → Turns rs es → AllByRecursion (LockOf acts) es → SeesAt now zs es → holds is_other (act_of u acts) ≡ true → is_reader_act (act_of t acts) ≡ true → is_act_ahead u t rs ≡ true → has_read zs t ≡ false
+unread_behind acts now u t zs [] es r l s k d h = absurd (true≢false (sym h))
+unread_behind acts now u t zs (Gone y ss ∷ rs) es r l s k d h = unread_behind acts now u t zs rs es r l s k d h
+unread_behind acts now u t zs (Stands y c ss ∷ rs) [] r l s k d h = absurd r
+unread_behind acts now u t zs (Stands (OfBatch j) c ss ∷ rs) (BatchEntry b ∷ es) r l s k d h = unread_behind acts now u t zs rs es r.2 l.1 s.2 k d h
+unread_behind acts now u t zs (Stands (OfBatch j) c ss ∷ rs) (ActEntry x ∷ es) r l s k d h = absurd (cc r.0)
+unread_behind acts now u t zs (Stands (OfAct v) c ss ∷ rs) (BatchEntry b ∷ es) r l s k d h = absurd (cc r.0)
+unread_behind acts now u t zs (Stands (OfAct v) c ss ∷ rs) (ActEntry x ∷ es) r l s k d h = elim (or_cases ((v == u) && stands_in t rs) (is_act_ahead u t rs) h) [
+  | inl q ↦
+      let p = and_parts (v == u) (stands_in t rs) q in
+      let i : x.tid ≡ v = cc r.0 in
+      let n : x.reader ≡ false = not_both x.reader (act_of x.tid acts) l.0 (subst (λ z. holds is_other (act_of z acts) ≡ true) (sym (i ∙ eqb-true v u p.0)) k) in
+      none_has acts t zs es l.1 d (turns_key t rs es r.2 p.1) (s.1 (ap not n))
+  | inr q ↦ unread_behind acts now u t zs rs es r.2 l.1 s.2 k d q
+]
 
 -- ---- who has no place has none after an event that does not decide it
 
@@ -295,6 +334,61 @@ pair_step w e s long long' p n k h = elim h [
 at_actor : (u t a b : ℕ) (new : List Ran) (long : ℕ → List Ran) → (is_act_ahead u t (long a) ≡ true → is_act_ahead u t new ≡ true) → is_act_ahead u t (long b) ≡ true → is_act_ahead u t (with_at a new long b) ≡ true
 at_actor u t a b new long k i = Rattle.protocol_laws.proofs.machine.CommitsKept.beside_carried (λ b rs. is_act_ahead u t (long b) ≡ true → is_act_ahead u t rs ≡ true) a new long (λ j. k) (λ b i. i) b i
 
+-- ---- pairs are of rivals
+
+-- one of the two does not only read
+abbrev pub Apart : List Act → Pair → Type 0
+Apart acts p = (holds is_other (act_of p.ahead acts) || holds is_other (act_of p.behind acts)) ≡ true
+
+unfoldable pub OfRivals : {C : Type 0} → Machine C → Type 0
+OfRivals s = AllByRecursion (Apart s.book.acts) s.book.pairs
+
+apart_later : (acts acts' : List Act) (p : Pair) → Grows acts acts' → Apart acts p → Apart acts' p
+apart_later acts acts' p g h = elim (or_cases (holds is_other (act_of p.ahead acts)) (holds is_other (act_of p.behind acts)) h) [
+  | inl q ↦ or_left (holds is_other (act_of p.ahead acts')) _ (grown_holds is_other acts acts' p.ahead (λ x y k i. ap not k.reader ∙ i) g q)
+  | inr q ↦ or_right (holds is_other (act_of p.ahead acts')) _ (grown_holds is_other acts acts' p.behind (λ x y k i. ap not k.reader ∙ i) g q)
+]
+
+tail_locks : (acts : List Act) (seen : List Lock) (es : List Entry) → AllByRecursion (LockOf acts) es → AllByRecursion (λ x. LockOf acts (ActEntry x)) seen → AllByRecursion (λ x. LockOf acts (ActEntry x)) (group_behind seen es)
+tail_locks acts seen [] l h = h
+tail_locks acts seen (BatchEntry b ∷ es) l h = tail_locks acts [] es l.1 tt
+tail_locks acts seen (ActEntry x ∷ es) l h = tail_locks acts (seen ++ x ∷ []) es l.1 (all_join (λ x. LockOf acts (ActEntry x)) seen (x ∷ []) h (l.0, tt))
+
+pub filtered : {X : Type 0} (P Q : X → Type 0) (f : X → Bool) (xs : List X) → ((x : X) → f x ≡ true → P x → Q x) → AllByRecursion P xs → AllByRecursion Q (filter f xs)
+filtered P Q f [] k h = tt
+filtered P Q f (x ∷ xs) k h = by (f x) refl (filtered P Q f xs k h.1)
+  where
+    by : (b : Bool) → f x ≡ b → AllByRecursion Q (filter f xs) → AllByRecursion Q (if b then x ∷ filter f xs else filter f xs)
+    by true e r = (k x e h.0, r)
+    by false e r = r
+
+new_apart : (t a : ℕ) (acts : List Act) (es : List Entry) → holds (λ x. is_live_status x.status) (act_of t acts) ≡ true → AllByRecursion (LockOf acts) es → AllByRecursion (Apart acts) (book.new_pairs t a (book.met (lock_of t acts) es) acts)
+new_apart t a acts es live l = all_map (λ x. (holds is_other (act_of x.tid acts) || holds is_other (act_of t acts)) ≡ true) (Apart acts) (λ x. record { behind = t; ahead = x.tid; actor = a }) (filter (λ x. not (book.is_doomed_act acts x)) (book.met (lock_of t acts) es)) (λ x i. i)
+    (all_filter _ (λ x. not (book.is_doomed_act acts x)) (book.met (lock_of t acts) es) (filtered (λ x. LockOf acts (ActEntry x)) _ (rivals (lock_of t acts)) (tail_group es) (λ x f i. by x.reader (act_of x.tid acts) (act_of t acts) f i live) (tail_locks acts [] es l tt)))
+  where
+    one : (b : Bool) → not (b && true) ≡ true → not b ≡ true
+    one true f = f
+    one false f = refl
+
+    by : (v : Bool) (o p : Option Act) → not (holds (λ y. y.reader) p && v) ≡ true → holds (λ y. agree y.reader v) o ≡ true → holds (λ x. is_live_status x.status) p ≡ true → (holds is_other o || holds is_other p) ≡ true
+    by v None p f i k = absurd (true≢false (sym i))
+    by v (Some y) None f i k = absurd (true≢false (sym k))
+    by false (Some y) (Some z) f i k = or_left (not y.reader) _ (ap not (agree_is y.reader false i))
+    by true (Some y) (Some z) f i k = or_right (not y.reader) (not z.reader) (one z.reader f)
+
+asked_apart : (o : Option ℕ) (group : List Lock) (t a : ℕ) (b : Book) (acts : List Act) → AllByRecursion (Apart acts) b.pairs → AllByRecursion (Apart acts) (book.new_pairs t a group b.acts) → AllByRecursion (Apart acts) (book.asked_pairs o group t a b)
+asked_apart (Some x) group t a b acts h n = h
+asked_apart None group t a b acts h n = all_join (Apart acts) b.pairs _ h n
+
+later : {C : Type 0} (w : Fixed C) (e : Event) (s : Machine C) (ps : List Pair) → AllByRecursion (Apart s.book.acts) ps → AllByRecursion (Apart (after w e s).book.acts) ps
+later w e s ps g = weaker (Apart s.book.acts) (Apart (after w e s).book.acts) ps (λ p. apart_later s.book.acts (after w e s).book.acts p (acts_grow w e s)) g
+
+pub of_rivals_kept : {C : Type 0} (w : Fixed C) (e : Event) (s : Machine C) (h : History) → shows.Owed e s h → Locks s → OfRivals s → OfRivals (after w e s)
+unfolding OfRivals shows.Owed Locks after
+of_rivals_kept w (Ask t a) s h o l g = asked_apart (book.in_the_way (lock_of t s.book.acts) (cell_at s a).entries) (book.met (lock_of t s.book.acts) (cell_at s a).entries) t a s.book (after w (Ask t a) s).book.acts (later w (Ask t a) s s.book.pairs g) (later w (Ask t a) s _ (new_apart t a s.book.acts (cell_at s a).entries o (l a)))
+of_rivals_kept w (Finish t a) s h o l g = all_filter (Apart (after w (Finish t a) s).book.acts) _ s.book.pairs (later w (Finish t a) s s.book.pairs g)
+of_rivals_kept w e s h o l g = later w e s s.book.pairs g
+
 -- ---- all events
 
 unfoldable pub PairsAhead : {C : Type 0} → Machine C → History → Type 0
@@ -305,31 +399,26 @@ pub record AheadWith {C : Type 0} (w : Fixed C) (s : Machine C) (h : History) : 
   pub tracked : Tracked w s h
   pub started : Started s h
   pub taken : (a : ℕ) → TakenAlong s.book.cascades s.book.acts (h.long a)
+  -- the one behind has not read there, unless both only read
+  pub unread : (a u t : ℕ) → (holds is_other (act_of u s.book.acts) || holds is_other (act_of t s.book.acts)) ≡ true → is_act_ahead u t (h.long a) ≡ true → has_read (h.reads a) t ≡ false
+  pub rivals : AllByRecursion (Apart s.book.acts) s.book.pairs
   -- who was decided has no control
   pub away : (t a : ℕ) (x : Act) → act_of t s.book.acts ≡ Some x → is_some x.result ≡ true → is_some (waiting_of t (cell_at s a).inbox) ≡ false
 
 asked_new : {C : Type 0} (t a : ℕ) (c : Cell C) (ac acts' : List Act) (long : ℕ → List Ran) → Turns (long a) c.entries → holds is_unplaced (act_of t acts') ≡ true
-    → AllByRecursion (PairStands acts' (with_at a (long a ++ not_run (OfAct t) ∷ []) long)) (book.new_pairs t a (book.met t c.entries) ac)
-asked_new t a c ac acts' long r un = all_map (λ x. stands_in x.tid (long a) ≡ true) (PairStands acts' (with_at a (long a ++ not_run (OfAct t) ∷ []) long)) (λ x. record { behind = t; ahead = x.tid; actor = a }) (filter (λ x. not (book.is_doomed_act ac x)) (book.met t c.entries))
+    → AllByRecursion (PairStands acts' (with_at a (long a ++ not_run (OfAct t) ∷ []) long)) (book.new_pairs t a (book.met (lock_of t ac) c.entries) ac)
+asked_new t a c ac acts' long r un = all_map (λ x. stands_in x.tid (long a) ≡ true) (PairStands acts' (with_at a (long a ++ not_run (OfAct t) ∷ []) long)) (λ x. record { behind = t; ahead = x.tid; actor = a }) (filter (λ x. not (book.is_doomed_act ac x)) (book.met (lock_of t ac) c.entries))
     (λ x h. inr (un, inr (rw (eq-eqb a a refl) (ahead_last x.tid t (long a) h))))
-    (all_filter (λ x. stands_in x.tid (long a) ≡ true) (λ x. not (book.is_doomed_act ac x)) (book.met t c.entries) (all_filter (λ x. stands_in x.tid (long a) ≡ true) (rivals (record { tid = t })) (tail_group c.entries) (group_stands (long a) [] (long a) c.entries (λ v q. q) r tt)))
+    (all_filter (λ x. stands_in x.tid (long a) ≡ true) (λ x. not (book.is_doomed_act ac x)) (book.met (lock_of t ac) c.entries) (all_filter (λ x. stands_in x.tid (long a) ≡ true) (rivals (lock_of t ac)) (tail_group c.entries) (group_stands (long a) [] (long a) c.entries (λ v q. q) r tt)))
 
 asked_all : {C : Type 0} (t a : ℕ) (o : Option ℕ) (c : Cell C) (b : Book) (acts' : List Act) (long : ℕ → List Ran) → Turns (long a) c.entries → holds is_unplaced (act_of t acts') ≡ true
-    → AllByRecursion (PairStands acts' (with_at a (long a ++ map not_run (asks t o)) long)) b.pairs → AllByRecursion (PairStands acts' (with_at a (long a ++ map not_run (asks t o)) long)) (book.asked_pairs o (book.met t c.entries) t a b)
+    → AllByRecursion (PairStands acts' (with_at a (long a ++ map not_run (asks t o)) long)) b.pairs → AllByRecursion (PairStands acts' (with_at a (long a ++ map not_run (asks t o)) long)) (book.asked_pairs o (book.met (lock_of t b.acts) c.entries) t a b)
 asked_all t a (Some x) c b acts' long r un h = h
 asked_all t a None c b acts' long r un h = all_join (PairStands acts' (with_at a (long a ++ not_run (OfAct t) ∷ []) long)) b.pairs _ h (asked_new t a c b.acts acts' long r un)
 
 ask_ahead : (u t v : ℕ) (o : Option ℕ) (rs : List Ran) → is_act_ahead u t rs ≡ true → is_act_ahead u t (rs ++ map not_run (asks v o)) ≡ true
 ask_ahead u t v None rs h = ahead_join u t rs (not_run (OfAct v) ∷ []) h
 ask_ahead u t v (Some x) rs h = rw (append-nil rs) h
-
-pub filtered : {X : Type 0} (P Q : X → Type 0) (f : X → Bool) (xs : List X) → ((x : X) → f x ≡ true → P x → Q x) → AllByRecursion P xs → AllByRecursion Q (filter f xs)
-filtered P Q f [] k h = tt
-filtered P Q f (x ∷ xs) k h = by (f x) refl (filtered P Q f xs k h.1)
-  where
-    by : (b : Bool) → f x ≡ b → AllByRecursion Q (filter f xs) → AllByRecursion Q (if b then x ∷ filter f xs else filter f xs)
-    by true e r = (k x e h.0, r)
-    by false e r = r
 
 finish_ahead : (u t v : ℕ) (q : Bool) (rs : List Ran) → (u == v) ≡ false → (t == v) ≡ false → is_act_ahead u t rs ≡ true → is_act_ahead u t (if q then without_standing (OfAct v) rs else map (left_for_good (OfAct v)) rs) ≡ true
 finish_ahead u t v true rs d e h = ahead_undone u t v rs d e h
@@ -369,22 +458,26 @@ live_unplaced (Some x) e = by x.status e
     by (Decided c) e = absurd (true≢false (sym e))
     by (Sealed c) e = absurd (true≢false (sym e))
 
+with_both : {X : Type 0} (P Q R : X → Type 0) (xs : List X) → ((x : X) → P x → Q x → R x) → AllByRecursion P xs → AllByRecursion Q xs → AllByRecursion R xs
+with_both P Q R [] k g h = tt
+with_both P Q R (x ∷ xs) k g h = (k x g.0 h.0, with_both P Q R xs k g.1 h.1)
+
 pub ahead_kept : {C : Type 0} (w : Fixed C) (e : Event) (s : Machine C) (h : History) → IsAllowed w e s → shows.Owed e s h → AheadWith w s h → PairsAhead s h → PairsAhead (after w e s) (grown w e s h)
 unfolding PairsAhead shows.Owed Turned Tracked Started conditions after grown
 ahead_kept w (Arrive k a) s h ok o q g = moved w (Arrive k a) s h.long a (h.long a ++ not_run (OfBatch k) ∷ []) tt (λ u t d i. ahead_join u t (h.long a) (not_run (OfBatch k) ∷ []) i) g
 ahead_kept w (Ask t a) s h ok o q g =
-    asked_all t a (book.in_the_way t (cell_at s a).entries) (cell_at s a) s.book (after w (Ask t a) s).book.acts h.long (q.turned a) (unplaced_stays w (Ask t a) s t (no_decide (Ask t a) t tt) (live_unplaced (act_of t s.book.acts) o))
-    (moved w (Ask t a) s h.long a (h.long a ++ map not_run (asks t (book.in_the_way t (cell_at s a).entries))) tt (λ u v d i. ask_ahead u v t (book.in_the_way t (cell_at s a).entries) (h.long a) i) g)
+    asked_all t a (book.in_the_way (lock_of t s.book.acts) (cell_at s a).entries) (cell_at s a) s.book (after w (Ask t a) s).book.acts h.long (q.turned a) (unplaced_stays w (Ask t a) s t (no_decide (Ask t a) t tt) (live_unplaced (act_of t s.book.acts) o))
+    (moved w (Ask t a) s h.long a (h.long a ++ map not_run (asks t (book.in_the_way (lock_of t s.book.acts) (cell_at s a).entries))) tt (λ u v d i. ask_ahead u v t (book.in_the_way (lock_of t s.book.acts) (cell_at s a).entries) (h.long a) i) g)
 ahead_kept w (Run t a) s h ok o q g =
     let who = who_on t (cell_at s a).entries in
     let z : Slice = record { tid = t; found = (cell_at s a).state; left = (cell.slice_run w.code t a (cell_at s a)).state } in
-    moved w (Run t a) s h.long a (map (ran_in who z) (h.long a)) tt (λ u v d i. ahead_ran u v who z (h.long a) i) g
+    moved w (Run t a) s h.long a (ran_on (cell.reads_on t (cell_at s a).entries) who z (h.long a)) tt (λ u v d i. TrackLists.on_reads (λ rs. is_act_ahead u v rs ≡ true) (cell.reads_on t (cell_at s a).entries) who z (h.long a) (λ n. ahead_ran u v who z (h.long a) n) i) g
 ahead_kept w (Complete k a) s h ok o q g = moved w (Complete k a) s h.long a (map (completed k) (h.long a)) tt (λ u v d i. ahead_completed u v k (h.long a) i) g
 ahead_kept w (Rollback a) s h ok o q g = moved w (Rollback a) s h.long a (long_staying s.book.cascades (h.long a)) tt (λ u v d i. ahead_staying s.book.cascades s.book.acts u v (h.long a) d (q.taken a) i) g
-ahead_kept {C} w (Decide t) s h ok o q g = weaker (PairStands s.book.acts h.long) (PairStands (after w (Decide t) s).book.acts h.long) s.book.pairs (λ p i. elim (cases_Bool (p.behind == t)) [
-  | inl e ↦ inl (own p (eqb-true p.behind t e) i)
+ahead_kept {C} w (Decide t) s h ok o q g = with_both (PairStands s.book.acts h.long) (Apart s.book.acts) (PairStands (after w (Decide t) s).book.acts h.long) s.book.pairs (λ p i r. elim (cases_Bool (p.behind == t)) [
+  | inl e ↦ inl (own p (eqb-true p.behind t e) r i)
   | inr e ↦ pair_step w (Decide t) s h.long h.long p (λ v. not_it p e v) (λ u d j. j) i
-]) g
+]) g q.rivals
   where
     x : (y : Act) × (act_of t s.book.acts ≡ Some y) × ((is_some y.result && is_live_status y.status) ≡ true)
     x = one_is (λ x. is_some x.result && is_live_status x.status) (act_of t s.book.acts) ok.0
@@ -398,22 +491,22 @@ ahead_kept {C} w (Decide t) s h ok o q g = weaker (PairStands s.book.acts h.long
     undoomed (Decided c) l d = true≢false (sym l)
     undoomed (Sealed c) l d = true≢false (sym l)
 
-    own : (p : Pair) → p.behind ≡ t → PairStands s.book.acts h.long p → doomed_at (after w (Decide t) s).book.acts p.ahead ≡ true
-    own p e (inl d) = doomed_stays w (Decide t) s p.ahead d
-    own p e (inr (u, inl d)) = let l = (and_parts (is_some x.0.result) (is_live_status x.0.status) x.2).1 in absurd (undoomed x.0.status l (subst (λ o. holds (λ x. is_doomed x.status) o ≡ true) x.1 (subst (λ z. doomed_at s.book.acts z ≡ true) e d)))
-    own p e (inr (u, inr i)) =
+    own : (p : Pair) → p.behind ≡ t → Apart s.book.acts p → PairStands s.book.acts h.long p → doomed_at (after w (Decide t) s).book.acts p.ahead ≡ true
+    own p e k (inl d) = doomed_stays w (Decide t) s p.ahead d
+    own p e k (inr (u, inl d)) = let l = (and_parts (is_some x.0.result) (is_live_status x.0.status) x.2).1 in absurd (undoomed x.0.status l (subst (λ o. holds (λ x. is_doomed x.status) o ≡ true) x.1 (subst (λ z. doomed_at s.book.acts z ≡ true) e d)))
+    own p e k (inr (u, inr i)) =
         let r = (and_parts (is_some x.0.result) (is_live_status x.0.status) x.2).0 in
         let c : Cell C = cell_at s p.actor in
-        absurd (true≢false (sym (waits_behind p.ahead t c.inbox (h.long p.actor) ((q.tracked p.actor).in_order) (subst NoActComplete ((q.tracked p.actor).stands) (keys_of c.entries)) (q.started p.actor) (subst (λ z. is_act_ahead p.ahead z (h.long p.actor) ≡ true) e i)) ∙ q.away t p.actor x.0 x.1 r))
+        absurd (true≢false (sym (waits_behind (has_read (h.reads p.actor)) p.ahead t c.inbox (h.long p.actor) ((q.tracked p.actor).in_order) (subst NoActComplete ((q.tracked p.actor).stands) (keys_of c.entries)) (ap (has_read (h.reads p.actor)) (sym e) ∙ q.unread p.actor p.ahead p.behind k i) (q.started p.actor) (subst (λ z. is_act_ahead p.ahead z (h.long p.actor) ≡ true) e i)) ∙ q.away t p.actor x.0 x.1 r))
 ahead_kept w (Finish v a) s h ok o q g = filtered (PairStands s.book.acts h.long) (PairStands (after w (Finish v a) s).book.acts (with_at a new h.long)) (λ p. not ((p.ahead == v) && (p.actor == a))) s.book.pairs
     (λ p f i. pair_step w (Finish v a) s h.long (with_at a new h.long) p (no_decide (Finish v a) p.behind tt) (λ n d j. one p (not-true ((p.ahead == v) && (p.actor == a)) f) (not_finished s.book.acts p.behind v ok.0 n d) j) i) g
   where
     new : List Ran
-    new = if cell.is_undone_act (act_of v s.book.acts) then without_standing (OfAct v) (h.long a) else map (left_for_good (OfAct v)) (h.long a)
+    new = if is_traceless (act_of v s.book.acts) then without_standing (OfAct v) (h.long a) else map (left_for_good (OfAct v)) (h.long a)
 
-    one : (p : Pair) → ((p.ahead == v) && (p.actor == a)) ≡ false → (p.behind == v) ≡ false → is_act_ahead p.ahead p.behind (h.long p.actor) ≡ true → is_act_ahead p.ahead p.behind (with_at a (if cell.is_undone_act (act_of v s.book.acts) then without_standing (OfAct v) (h.long a) else map (left_for_good (OfAct v)) (h.long a)) h.long p.actor) ≡ true
+    one : (p : Pair) → ((p.ahead == v) && (p.actor == a)) ≡ false → (p.behind == v) ≡ false → is_act_ahead p.ahead p.behind (h.long p.actor) ≡ true → is_act_ahead p.ahead p.behind (with_at a (if is_traceless (act_of v s.book.acts) then without_standing (OfAct v) (h.long a) else map (left_for_good (OfAct v)) (h.long a)) h.long p.actor) ≡ true
     one p f e j = elim (cases_Bool (p.actor == a)) [
-      | inl i ↦ at_actor p.ahead p.behind a p.actor _ h.long (λ z. finish_ahead p.ahead p.behind v (cell.is_undone_act (act_of v s.book.acts)) (h.long a) (false_from_ne_true (p.ahead == v) (λ u. true≢false (sym (and_from (p.ahead == v) (p.actor == a) u i) ∙ f))) e z) j
+      | inl i ↦ at_actor p.ahead p.behind a p.actor _ h.long (λ z. finish_ahead p.ahead p.behind v (is_traceless (act_of v s.book.acts)) (h.long a) (false_from_ne_true (p.ahead == v) (λ u. true≢false (sym (and_from (p.ahead == v) (p.actor == a) u i) ∙ f))) e z) j
       | inr i ↦ rw i j
     ]
 ahead_kept w (Trim k a) s h ok o q g = moved w (Trim k a) s h.long a (map (left_for_good (OfBatch k)) (h.long a)) tt (λ u v d i. ahead_left u v (OfBatch k) (h.long a) refl refl i) g
@@ -424,12 +517,39 @@ ahead_kept w e s h ok o q g = still w e s h.long tt g
 pub away : {C : Type 0} (w : Fixed C) (Of : Tx → C → Type 0) (finish : C → List State → Alone) (s : Machine C) (h : History) → AllGood w Of finish s h → (t a : ℕ) (x : Act) → act_of t s.book.acts ≡ Some x → is_some x.result ≡ true → is_some (waiting_of t (cell_at s a).inbox) ≡ false
 away w Of finish s h g t a x e r = false_from_ne_true (is_some (waiting_of t (cell_at s a).inbox)) (λ q. true≢false (sym r ∙ ap is_some (results.waiting_none t a s q g.none t x e refl)))
 
-pub ahead_opened : {C : Type 0} (w : Fixed C) → PairsAhead (opening w) no_history
-unfolding PairsAhead
-ahead_opened w = tt
+-- pairs, as they are needed from one state to the next
+pub record AheadStand {C : Type 0} (w : Fixed C) (s : Machine C) (h : History) : Type 0 where
+  pub ahead : PairsAhead s h
+  pub rivals : OfRivals s
 
-pub step : {C : Type 0} (w : Fixed C) (Of : Tx → C → Type 0) (finish : C → List State → Alone) (e : Event) (s : Machine C) (h : History) → IsAllowed w e s → AllGood w Of finish s h → PairsAhead s h → PairsAhead (after w e s) (grown w e s h)
-step w Of finish e s h ok g i = ahead_kept w e s h ok (higher.owed w Of finish e s h ok g) (record { turned = g.good.turned; tracked = g.good.tracked; started = g.started; taken = (higher.beside w Of finish s h g).taken; away = away w Of finish s h g }) i
+pub ahead_opened : {C : Type 0} (w : Fixed C) → AheadStand w (opening w) no_history
+unfolding PairsAhead OfRivals
+ahead_opened w = record { ahead = tt; rivals = tt }
+
+-- the one behind has not read, where the one ahead is a rival of it
+pub unread : {C : Type 0} (w : Fixed C) (Of : Tx → C → Type 0) (finish : C → List State → Alone) (s : Machine C) (h : History) → AllGood w Of finish s h → (a u t : ℕ) → (holds is_other (act_of u s.book.acts) || holds is_other (act_of t s.book.acts)) ≡ true → is_act_ahead u t (h.long a) ≡ true → has_read (h.reads a) t ≡ false
+unfolding Turned Locks ReadBy AllSee
+unread w Of finish s h g a u t k i = elim (cases_Bool (is_reader_act (act_of t s.book.acts))) [
+  | inl r ↦ unread_behind s.book.acts (cell_at s a).state u t (h.reads a) (h.long a) (cell_at s a).entries (g.good.turned a) (g.locks a) (g.see a) (elim (or_cases (holds is_other (act_of u s.book.acts)) (holds is_other (act_of t s.book.acts)) k) [ inl q ↦ q | inr q ↦ absurd (not_reader (act_of t s.book.acts) r q) ]) r i
+  | inr r ↦ not_read a t s.book.acts (h.reads a) (no_reads (act_of t s.book.acts) r) (g.read_by a)
+]
+  where
+    not_reader : (o : Option Act) → is_reader_act o ≡ true → holds is_other o ≡ true → ⊥
+    not_reader None r q = true≢false (sym r)
+    not_reader (Some x) r q = true≢false (sym r ∙ not-true x.reader q)
+
+    no_reads : (o : Option Act) → is_reader_act o ≡ false → holds (reads_at a) o ≡ false
+    no_reads None r = refl
+    no_reads (Some x) r = rw r refl
+
+pub step : {C : Type 0} (w : Fixed C) (Of : Tx → C → Type 0) (finish : C → List State → Alone) (e : Event) (s : Machine C) (h : History) → Given w Of finish → IsAllowed w e s → AllGood w Of finish s h → AheadStand w s h → AheadStand w (after w e s) (grown w e s h)
+unfolding OfRivals
+step w Of finish e s h v ok g i =
+    let o = higher.owed w Of finish e s h v ok g in
+    record {
+      ahead = ahead_kept w e s h ok o (record { turned = g.good.turned; tracked = g.good.tracked; started = g.started; taken = (higher.beside w Of finish s h g).taken; unread = unread w Of finish s h g; rivals = i.rivals; away = away w Of finish s h g }) i.ahead;
+      rivals = of_rivals_kept w e s h o g.locks i.rivals;
+    }
 
 -- the one ahead is doomed, or the one behind has no place
 pub none_ahead : {C : Type 0} (s : Machine C) (h : History) → PairsAhead s h → AllByRecursion (λ p. (doomed_at s.book.acts p.ahead ≡ true) ⊎ (holds is_unplaced (act_of p.behind s.book.acts) ≡ true)) s.book.pairs
@@ -437,7 +557,7 @@ unfolding PairsAhead
 none_ahead s h g = weaker (PairStands s.book.acts h.long) (λ p. (doomed_at s.book.acts p.ahead ≡ true) ⊎ (holds is_unplaced (act_of p.behind s.book.acts) ≡ true)) s.book.pairs (λ p i. elim i [ inl d ↦ inl d | inr q ↦ inr q.0 ]) g
 
 pub pairs_ahead : {C : Type 0} (w : Fixed C) (Of : Tx → C → Type 0) (finish : C → List State → Alone) (es : List Event) → Given w Of finish → IsRun w es → PairsAhead (reached w es) (history w es)
-pairs_ahead w Of finish es v run = all.along_good w Of finish PairsAhead v (λ e s h ok g i. step w Of finish e s h ok g i) (ahead_opened w) es run
+pairs_ahead w Of finish es v run = (all.along_good w Of finish (AheadStand w) v (λ e s h ok g i. step w Of finish e s h v ok g i) (ahead_opened w) es run).ahead
 
 -- An ACT that has its place stands behind nobody that is not doomed.
 pub placed_behind_none : {C : Type 0} (w : Fixed C) (Of : Tx → C → Type 0) (finish : C → List State → Alone) (es : List Event) → Given w Of finish → IsRun w es → AllByRecursion (λ p. holds (λ x. is_ordered x.status) (act_of p.behind (reached w es).book.acts) ≡ true → doomed_at (reached w es).book.acts p.ahead ≡ true) (reached w es).book.pairs

@@ -9,7 +9,7 @@ use Rattle.protocol.specs.Facts.{Alone}
 use Rattle.protocol.specs.Fixed.{Fixed}
 use Rattle.protocol.specs.Parts.{Act, Pair, Machine}
 use Rattle.protocol.specs.Events.{Ask}
-use Rattle.protocol.specs.Words.{greatest, is_doomed}
+use Rattle.protocol.specs.Words.{greatest, is_doomed, lock_of, floor_at}
 use Rattle.protocol.specs.Spread.{stands_behind}
 use Rattle.protocol.specs.Standing.{IsOlder}
 use Rattle.protocol.specs.OnBook as book
@@ -156,16 +156,16 @@ pass_carries ps low high xs ys a o =
 
 -- ---- over every run
 
-rises_at : {C : Type 0} (w : Fixed C) (Of : Tx → C → Type 0) (finish : C → List State → Alone) (s : Machine C) (h : History) → AllGood w Of finish s h → RowsStand w s h → RisesAgree w finish s h
+rises_at : {C : Type 0} (w : Fixed C) (Of : Tx → C → Type 0) (finish : C → List State → Alone) (s : Machine C) (h : History) → Given w Of finish → AllGood w Of finish s h → RowsStand w s h → RisesAgree w finish s h
 unfolding after TidsAscend
-rises_at w Of finish s h g i t a ok e =
-    let m = max (cell_at s a).last (cell_at s a).floor in
-    let ps = s.book.pairs ++ book.new_pairs t a (book.met t (cell_at s a).entries) s.book.acts in
+rises_at w Of finish s h v g i t a ok e =
+    let m = max (cell_at s a).last (floor_at t s.book.acts (cell_at s a)) in
+    let ps = s.book.pairs ++ book.new_pairs t a (book.met (lock_of t s.book.acts) (cell_at s a).entries) s.book.acts in
     let xs = book.changed_act t (book.joins a m) s.book.acts in
-    let high = higher.kept w Of finish (Ask t a) s h ok g i.before.high in
-    let o : AllByRecursion IsOlder ps = subst (λ z. AllByRecursion IsOlder (book.asked_pairs z (book.met t (cell_at s a).entries) t a s.book)) e (found.stand w (after w (Ask t a) s) high.tids high.pairs_stand).older in
+    let high = higher.kept w Of finish (Ask t a) s h v ok g i.before.high in
+    let o : AllByRecursion IsOlder ps = subst (λ z. AllByRecursion IsOlder (book.asked_pairs z (book.met (lock_of t s.book.acts) (cell_at s a).entries) t a s.book)) e (found.stand w (after w (Ask t a) s) high.tids high.pairs_stand).older in
     let asc : Ascend 0 s.ring.next_tid (map (λ x. x.tid) xs) = subst (Ascend 0 s.ring.next_tid) (sym (joined_tids t a m s.book.acts)) g.ascend in
-    λ ys. subst (λ z. AreCarried ps xs ys ↔ (ys ≡ z)) (sym (rise_at w Of finish t a m s h ok g i)) (pass_carries ps 0 s.ring.next_tid xs ys asc o)
+    λ ys. subst (λ z. AreCarried ps xs ys ↔ (ys ≡ z)) (sym (rise_at w Of finish t a m s h v ok g i)) (pass_carries ps 0 s.ring.next_tid xs ys asc o)
 
 pub rises_agree : {C : Type 0} (w : Fixed C) (Of : Tx → C → Type 0) (finish : C → List State → Alone) (es : List Event) → Given w Of finish → IsRun w es → RisesAgree w finish (reached w es) (history w es)
-rises_agree w Of finish es v run = rises_at w Of finish (reached w es) (history w es) (all.all_good w Of finish es v run) (rows_stand w Of finish es v run)
+rises_agree w Of finish es v run = rises_at w Of finish (reached w es) (history w es) v (all.all_good w Of finish es v run) (rows_stand w Of finish es v run)

@@ -9,9 +9,9 @@ use Rattle.snap_base.specs.declared.verdicts.Verdict.{Verdict}
 use Rattle.protocol.specs.Fixed.{Fixed}
 use Rattle.protocol.specs.Facts.{Alone}
 use Rattle.protocol.specs.Rivals.{Lock}
-use Rattle.protocol.specs.Parts.{Act, Joined, Pair, Book, Status, Live, Doomed, Decided, Sealed, Cascade, Who, OfBatch, OfAct, Entry, BatchEntry, ActEntry, Image, Waiting, Outcome, Batch, Cell, Machine}
+use Rattle.protocol.specs.Parts.{Act, Joined, Pair, Book, Status, Live, Doomed, Decided, Sealed, Cascade, Who, OfBatch, OfAct, Entry, BatchEntry, ActEntry, Image, FloorPair, Waiting, Outcome, Batch, Cell, Machine}
 use Rattle.protocol.specs.Events.{Event, Arrive, Ask, Abort, Rollback, Finish}
-use Rattle.protocol.specs.Words.{is_empty, holds, greatest, covers, is_aborted, epoch_of, is_live_status, is_doomed, is_sealed, is_ordered, is_live_act, act_of, batch_of, is_act_entry, has_act, is_who, batches_on, Failure}
+use Rattle.protocol.specs.Words.{is_empty, holds, greatest, covers, is_aborted, epoch_of, is_live_status, is_doomed, is_sealed, is_ordered, is_live_act, act_of, batch_of, is_act_entry, has_act, is_who, batches_on, Failure, lock_of, floor_at}
 use Rattle.protocol.specs.Verdicts.{died, out_of_order, taken_along}
 use Rattle.protocol.specs.Spread.{stands_behind, carries_to, raised, reaches, crossed_out}
 use Rattle.protocol.specs.OnBook as book
@@ -422,7 +422,7 @@ abbrev left_with : {C : Type 0} → ℕ → Option Act → Cell C → Option Ima
 left_with t x c found images = record c {
   state = if cell.is_undone_act x then cell.state_from c.state found else c.state;
   images = images;
-  floor = cell.floor_after c.floor x;
+  floors = cell.floors_after c.floors x;
   entries = filter (λ e. not (is_act_entry t e)) c.entries;
   inbox = cell.inbox_without (cell.own_entries t c.entries) c.inbox;
   outbox = cell.outbox_without (cell.own_entries t c.entries) c.outbox;
@@ -456,11 +456,11 @@ none_goes t (ActEntry x ∷ es) h = by (x.tid == t) h (none_goes t es)
     by true e r = absurd (true≢false e)
     by false e r = ap (λ z. ActEntry x ∷ z) (r e)
 
-same_cell : {C : Type 0} (c : Cell C) (state : State) (images : List Image) (floor : ℕ) (entries : List Entry) (inbox : List (Waiting C)) (outbox : List (Outcome C)) → state ≡ c.state → images ≡ c.images → floor ≡ c.floor → entries ≡ c.entries → inbox ≡ c.inbox → outbox ≡ c.outbox
-    → record c { state = state; images = images; floor = floor; entries = entries; inbox = inbox; outbox = outbox } ≡ c
-same_cell c state images floor entries inbox outbox a b d e f g = rw (a, b, d, e, f, g) refl
+same_cell : {C : Type 0} (c : Cell C) (state : State) (images : List Image) (floors : FloorPair) (entries : List Entry) (inbox : List (Waiting C)) (outbox : List (Outcome C)) → state ≡ c.state → images ≡ c.images → floors ≡ c.floors → entries ≡ c.entries → inbox ≡ c.inbox → outbox ≡ c.outbox
+    → record c { state = state; images = images; floors = floors; entries = entries; inbox = inbox; outbox = outbox } ≡ c
+same_cell c state images floors entries inbox outbox a b d e f g = rw (a, b, d, e, f, g) refl
 
-stays_same_without : {C : Type 0} (t : ℕ) (x : Option Act) (c : Cell C) → has_act t c.entries ≡ false → AllByRecursion (λ i. is_key_among i.who (map key_of c.entries) ≡ true) c.images → cell.floor_after c.floor x ≡ c.floor → cell.act_left t x c ≡ c
+stays_same_without : {C : Type 0} (t : ℕ) (x : Option Act) (c : Cell C) → has_act t c.entries ≡ false → AllByRecursion (λ i. is_key_among i.who (map key_of c.entries) ≡ true) c.images → cell.floors_after c.floors x ≡ c.floors → cell.act_left t x c ≡ c
 stays_same_without {C} t x c n h f =
     let others : AllByRecursion (λ i. is_who (OfAct t) i.who ≡ false) c.images = weaker _ _ c.images (λ i k. sym (subst (λ z. (z && is_who (OfAct t) i.who) ≡ is_who (OfAct t) i.who) n (act_image t c.entries i k))) h in
     let state : (if cell.is_undone_act x then cell.state_from c.state (find (λ i. is_who (OfAct t) i.who) c.images) else c.state) ≡ c.state = undone (cell.is_undone_act x) (find_none (λ i. is_who (OfAct t) i.who) c.images others) in
@@ -477,7 +477,7 @@ stays_same_without {C} t x c n h f =
     in_outbox : (xs : List (Outcome C)) → cell.outbox_without (cell.own_entries t c.entries) xs ≡ xs
     in_outbox xs = ap (λ z. cell.outbox_without z xs) (none_own t c.entries n) ∙ filter_whole (λ y. true) xs (all_of _ xs (λ y. refl))
 
-leaves_same : {C : Type 0} (t : ℕ) (x : Option Act) (c : Cell C) → AllByRecursion (λ i. is_key_among i.who (map key_of c.entries) ≡ true) c.images → (has_act t c.entries ≡ false → cell.floor_after c.floor x ≡ c.floor) → cell.act_left t x c ≡ rows.leaves t x c
+leaves_same : {C : Type 0} (t : ℕ) (x : Option Act) (c : Cell C) → AllByRecursion (λ i. is_key_among i.who (map key_of c.entries) ≡ true) c.images → (has_act t c.entries ≡ false → cell.floors_after c.floors x ≡ c.floors) → cell.act_left t x c ≡ rows.leaves t x c
 leaves_same t x c h f = by (has_act t c.entries) refl
   where
     by : (b : Bool) → has_act t c.entries ≡ b → cell.act_left t x c ≡ (if b then rows.left_by t x c else c)
@@ -485,9 +485,9 @@ leaves_same t x c h f = by (has_act t c.entries) refl
     by false e = stays_same_without t x c e h (f e)
 
 -- who is sealed and has not left the actor has its entry there
-floor_stays : {C : Type 0} (w : Fixed C) (t a : ℕ) (s : Machine C) → IsAllowed w (Finish t a) s → Standing s → has_act t (cell_at s a).entries ≡ false → cell.floor_after (cell_at s a).floor (act_of t s.book.acts) ≡ (cell_at s a).floor
+floors_stay : {C : Type 0} (w : Fixed C) (t a : ℕ) (s : Machine C) → IsAllowed w (Finish t a) s → Standing s → has_act t (cell_at s a).entries ≡ false → cell.floors_after (cell_at s a).floors (act_of t s.book.acts) ≡ (cell_at s a).floors
 unfolding conditions Standing
-floor_stays w t a s ok st n = by (act_of t s.book.acts) refl ok.1.0
+floors_stay w t a s ok st n = by (act_of t s.book.acts) refl ok.1.0
   where
     not_doomed : (st : Status) → is_sealed st ≡ true → is_doomed st ≡ false
     not_doomed Live e = refl
@@ -495,11 +495,11 @@ floor_stays w t a s ok st n = by (act_of t s.book.acts) refl ok.1.0
     not_doomed (Decided c) e = refl
     not_doomed (Sealed c) e = refl
 
-    by : (o : Option Act) → act_of t s.book.acts ≡ o → holds (open_at a) o ≡ true → cell.floor_after (cell_at s a).floor o ≡ (cell_at s a).floor
+    by : (o : Option Act) → act_of t s.book.acts ≡ o → holds (open_at a) o ≡ true → cell.floors_after (cell_at s a).floors o ≡ (cell_at s a).floors
     by None e h = refl
     by (Some x) e h = one (is_sealed x.status) refl
       where
-        one : (b : Bool) → is_sealed x.status ≡ b → (if b then max (cell_at s a).floor x.m else (cell_at s a).floor) ≡ (cell_at s a).floor
+        one : (b : Bool) → is_sealed x.status ≡ b → (if b then cell.raised_floors x.reader x.m (cell_at s a).floors else (cell_at s a).floors) ≡ (cell_at s a).floors
         one true q = absurd (true≢false (sym (sym (act_key t (cell_at s a).entries) ∙ st t x e (not_doomed x.status q) a h) ∙ n))
         one false q = refl
 
@@ -510,8 +510,8 @@ pub record RowsStand {C : Type 0} (w : Fixed C) (s : Machine C) (h : History) : 
   pub below : BelowStand w s h
   pub rows : Rows s
 
-stand_kept : {C : Type 0} (w : Fixed C) (Of : Tx → C → Type 0) (finish : C → List State → Alone) (e : Event) (s : Machine C) (h : History) → IsAllowed w e s → AllGood w Of finish s h → RowsStand w s h → RowsStand w (after w e s) (Rattle.protocol.specs.History.grown w e s h)
-stand_kept w Of finish e s h ok g i = record { before = befores.kept w Of finish e s h ok g i.before; below = below_step w Of finish e s h ok g i.below; rows = rows_kept w e s ok g.good.agreeing g.good.settling i.rows }
+stand_kept : {C : Type 0} (w : Fixed C) (Of : Tx → C → Type 0) (finish : C → List State → Alone) (e : Event) (s : Machine C) (h : History) → Given w Of finish → IsAllowed w e s → AllGood w Of finish s h → RowsStand w s h → RowsStand w (after w e s) (Rattle.protocol.specs.History.grown w e s h)
+stand_kept w Of finish e s h v ok g i = record { before = befores.kept w Of finish e s h v ok g i.before; below = below_step w Of finish e s h v ok g i.below; rows = rows_kept w e s ok g.good.agreeing g.good.settling i.rows }
 
 going_all : {C : Type 0} (s : Machine C) → TidsAscend s → Left s → AllByRecursion IsGoing s.book.acts
 unfolding TidsAscend Left
@@ -526,8 +526,8 @@ agree_at w Of finish (Arrive k a) s h ok g i =
 agree_at w Of finish (Ask t a) s h ok g i =
     let c = cell_at s a in
     let live = higher.asks_live w Of finish t a s h ok g in
-    ap (λ acts. record (after w (Ask t a) s) { book = record s.book { acts = acts; pairs = book.asked_pairs (book.in_the_way t c.entries) (book.met t c.entries) t a s.book } })
-    (asks_same t a (max c.last c.floor) (book.in_the_way t c.entries) (book.met t c.entries) s.book h.long 0 s.ring.next_tid g.ascend live (asks_live t s live g.ascend) (going_all s g.ascend g.left) i.before.pairs_ahead (below_kept w Of finish (Ask t a) s h ok g i.below.after_stand i.below.below))
+    ap (λ acts. record (after w (Ask t a) s) { book = record s.book { acts = acts; pairs = book.asked_pairs (book.in_the_way (lock_of t s.book.acts) c.entries) (book.met (lock_of t s.book.acts) c.entries) t a s.book } })
+    (asks_same t a (max c.last (floor_at t s.book.acts c)) (book.in_the_way (lock_of t s.book.acts) c.entries) (book.met (lock_of t s.book.acts) c.entries) s.book h.long 0 s.ring.next_tid g.ascend live (asks_live t s live g.ascend) (going_all s g.ascend g.left) i.before.pairs_ahead.ahead (below_kept w Of finish (Ask t a) s h ok g i.below.after_stand i.below.below))
 agree_at w Of finish (Abort k) s h ok g i =
     let aborted = λ (f : Option Failure). s.book.cascades ++ record { first = k; upto = s.ring.next_bid - 1; by = book.failed_tx f; at = s.book.next_c; code = book.failed_code f } ∷ [] in
     ap (λ acts. record (after w (Abort k) s) { book = record s.book { cascades = aborted (book.why k s.desk); acts = acts } }) (taken_all k (book.failed_tx (book.why k s.desk)) s.book.acts (going_all s g.ascend g.left))
@@ -541,17 +541,17 @@ agree_at w Of finish (Finish t a) s h ok g i =
     let k = g.good.tracked a in
     let owners : AllByRecursion (λ j. is_key_among j.who (map key_of c.entries) ≡ true) c.images =
     subst (λ z. AllByRecursion (λ j. is_key_among j.who (map key_of c.entries) ≡ true) z) (sym k.images_are) (subst (λ z. AllByRecursion (λ j. is_key_among j.who z ≡ true) (images_in (h.long a))) (sym k.stands) (image_owners (h.long a))) in
-    ap (λ z. record (after w (Finish t a) s) { cells = puts s a z }) (leaves_same t (act_of t s.book.acts) c owners (floor_stays w t a s ok g.standing))
+    ap (λ z. record (after w (Finish t a) s) { cells = puts s a z }) (leaves_same t (act_of t s.book.acts) c owners (floors_stay w t a s ok g.standing))
 agree_at w Of finish e s h ok g i = refl
 
 -- the rise at an Ask
-pub rise_at : {C : Type 0} (w : Fixed C) (Of : Tx → C → Type 0) (finish : C → List State → Alone) (t a m : ℕ) (s : Machine C) (h : History) → IsAllowed w (Ask t a) s → AllGood w Of finish s h → RowsStand w s h
-    → let ps = s.book.pairs ++ book.new_pairs t a (book.met t (cell_at s a).entries) s.book.acts in raised ps (book.changed_act t (book.joins a m) s.book.acts) ≡ rows.risen ps (book.changed_act t (book.joins a m) s.book.acts)
+pub rise_at : {C : Type 0} (w : Fixed C) (Of : Tx → C → Type 0) (finish : C → List State → Alone) (t a m : ℕ) (s : Machine C) (h : History) → Given w Of finish → IsAllowed w (Ask t a) s → AllGood w Of finish s h → RowsStand w s h
+    → let ps = s.book.pairs ++ book.new_pairs t a (book.met (lock_of t s.book.acts) (cell_at s a).entries) s.book.acts in raised ps (book.changed_act t (book.joins a m) s.book.acts) ≡ rows.risen ps (book.changed_act t (book.joins a m) s.book.acts)
 unfolding TidsAscend PairsAhead
-rise_at w Of finish t a m s h ok g i = asked_rise t a m (book.met t (cell_at s a).entries) s.book h.long 0 s.ring.next_tid g.ascend (higher.asks_live w Of finish t a s h ok g) i.before.pairs_ahead
+rise_at w Of finish t a m s h v ok g i = asked_rise t a m (book.met (lock_of t s.book.acts) (cell_at s a).entries) s.book h.long 0 s.ring.next_tid g.ascend (higher.asks_live w Of finish t a s h ok g) i.before.pairs_ahead.ahead
 
 pub rows_stand : {C : Type 0} (w : Fixed C) (Of : Tx → C → Type 0) (finish : C → List State → Alone) (es : List Event) → Given w Of finish → IsRun w es → RowsStand w (reached w es) (history w es)
-rows_stand w Of finish es v run = all.along_good w Of finish (RowsStand w) v (λ e s h ok g i. stand_kept w Of finish e s h ok g i) (record { before = befores.opened w Of finish v; below = below_begins w Of finish v; rows = rows_opened w }) es run
+rows_stand w Of finish es v run = all.along_good w Of finish (RowsStand w) v (λ e s h ok g i. stand_kept w Of finish e s h v ok g i) (record { before = befores.opened w Of finish v; below = below_begins w Of finish v; rows = rows_opened w }) es run
 
 pub rows_agree : {C : Type 0} (w : Fixed C) (Of : Tx → C → Type 0) (finish : C → List State → Alone) (es : List Event) → Given w Of finish → IsRun w es → (e : Event) → IsAllowed w e (reached w es) → after w e (reached w es) ≡ as_agreed w e (reached w es)
 rows_agree w Of finish es v run e ok = agree_at w Of finish e (reached w es) (history w es) ok (all.all_good w Of finish es v run) (rows_stand w Of finish es v run)

@@ -6,10 +6,10 @@ use Rattle.snap_base.specs.declared.transactions.TxResult.{TxResult}
 use Rattle.snap_base.specs.declared.transactions.TxResult.TheVariants.{Value, Fail}
 use Rattle.snap_base.specs.declared.verdicts.Verdict.{Verdict}
 use Rattle.snap_base.specs.declared.verdicts.Verdict.TheVariants as verdicts
-use Rattle.protocol.specs.Fixed.{Fixed, base, Next, Go, Ended}
+use Rattle.protocol.specs.Fixed.{Fixed, base, Next, Go, Ended, is_reader}
 use Rattle.protocol.specs.Parts.{Act, Status, Live, Doomed, Decided, Sealed, Outcome, Machine}
 use Rattle.protocol.specs.Events.{Event, Admit, Arrive, Ask, End, Abort, Prepare, Vouch, Decide, Seal, Finish}
-use Rattle.protocol.specs.Words.{holds, is_value, is_live_status, is_decided, act_of, outcome_of, has_act, is_ended, is_ordered}
+use Rattle.protocol.specs.Words.{holds, is_value, is_live_status, is_decided, act_of, outcome_of, has_act, is_ended, is_ordered, lock_of, floor_at}
 use Rattle.protocol.specs.Verdicts.{act_verdict, act_place, died, taken_along, out_of_order}
 use Rattle.protocol.specs.Spread.{raised, crossed_out, is_crossed, reaches}
 use Rattle.protocol.specs.Conditions.{IsAllowed, conditions}
@@ -73,7 +73,7 @@ Cause t x y e s (verdicts.Committed p v) = (c : ℕ) × ((e ≡ Seal t) × ((x.s
 Cause t x y e s (verdicts.Code p c) = (e ≡ Decide t) × ((is_live_status x.status ≡ true) × ((x.result ≡ Some (Fail c)) × (act_place x.m s.book.next_c ≡ p)))
 Cause t x y e s (verdicts.BatchCode k c code) = ⊥
 Cause t x y e s (verdicts.Cascade k by) = (e ≡ Abort k.0) × ((is_live_status x.status ≡ true) × ((k.0 ≤ x.m) × (failed_tx (why k.0 s.desk) ≡ by.0)))
-Cause t x y e s (verdicts.Died a older own) = (e ≡ Ask own.0 a.0) × ((own.0 ≡ t) × ((is_live_status x.status ≡ true) × (in_the_way own.0 (cell_at s a.0).entries ≡ Some older.0)))
+Cause t x y e s (verdicts.Died a older own) = (e ≡ Ask own.0 a.0) × ((own.0 ≡ t) × ((is_live_status x.status ≡ true) × (in_the_way (lock_of own.0 s.book.acts) (cell_at s a.0).entries ≡ Some older.0)))
 Cause t x y e s (verdicts.Order m k a) = PlacesOn a.0 e s × ((is_live_status x.status ≡ true) × ((y.m ≡ m.0) × ((y.n ≡ Some k.0) × (k.0 ≤ m.0))))
 Cause t x y e s (verdicts.Unsure l) = ⊥
 
@@ -165,23 +165,23 @@ joined_result : (b : Bool) (a m : ℕ) (x : Act) → (book.change_if b (book.joi
 joined_result true a m x = refl
 joined_result false a m x = refl
 
-asked : {C : Type 0} (s : Machine C) (u a : ℕ) → holds (λ x. is_live_status x.status) (act_of u s.book.acts) ≡ true → (o : Option ℕ) → in_the_way u (cell_at s a).entries ≡ o
-    → EachAct (MovedFrom (Ask u a) s) (book.asked_acts o (book.met u (cell_at s a).entries) u a (max (cell_at s a).last (cell_at s a).floor) s.book)
+asked : {C : Type 0} (s : Machine C) (u a : ℕ) → holds (λ x. is_live_status x.status) (act_of u s.book.acts) ≡ true → (o : Option ℕ) → in_the_way (lock_of u s.book.acts) (cell_at s a).entries ≡ o
+    → EachAct (MovedFrom (Ask u a) s) (book.asked_acts o (book.met (lock_of u s.book.acts) (cell_at s a).entries) u a (max (cell_at s a).last (floor_at u s.book.acts (cell_at s a))) s.book)
 asked s u a l (Some older) q = changed (Ask u a) s u (book.doomed_by (died a older u)) (λ x. refl) (λ x f. by x (some_of (λ x. is_live_status x.status) (act_of u s.book.acts) x f l))
   where
     by : (x : Act) → is_live_status x.status ≡ true → Moves (Ask u a) s u x (book.doomed_by (died a older u) x)
     by x g = doomed_now (Ask u a) s u x (book.doomed_by (died a older u) x) (died a older u) refl g (rw g refl) (refl, (refl, (g, q)))
 asked s u a l None q = λ t y f.
-    let own = book.changed_act u (book.joins a (max (cell_at s a).last (cell_at s a).floor)) s.book.acts in
-    let g = found_map (crossed_out a) (λ x. refl) t y (raised (s.book.pairs ++ book.new_pairs u a (book.met u (cell_at s a).entries) s.book.acts) own) f in
-    let r = found_raised (s.book.pairs ++ book.new_pairs u a (book.met u (cell_at s a).entries) s.book.acts) t g.from own g.found in
-    let b = found_map (λ x. book.change_if (x.tid == u) (book.joins a (max (cell_at s a).last (cell_at s a).floor)) x) (λ x. if_tid (x.tid == u) (book.joins a (max (cell_at s a).last (cell_at s a).floor)) x refl) t r.from s.book.acts r.found in
+    let own = book.changed_act u (book.joins a (max (cell_at s a).last (floor_at u s.book.acts (cell_at s a)))) s.book.acts in
+    let g = found_map (crossed_out a) (λ x. refl) t y (raised (s.book.pairs ++ book.new_pairs u a (book.met (lock_of u s.book.acts) (cell_at s a).entries) s.book.acts) own) f in
+    let r = found_raised (s.book.pairs ++ book.new_pairs u a (book.met (lock_of u s.book.acts) (cell_at s a).entries) s.book.acts) t g.from own g.found in
+    let b = found_map (λ x. book.change_if (x.tid == u) (book.joins a (max (cell_at s a).last (floor_at u s.book.acts (cell_at s a)))) x) (λ x. if_tid (x.tid == u) (book.joins a (max (cell_at s a).last (floor_at u s.book.acts (cell_at s a)))) x refl) t r.from s.book.acts r.found in
     from (Ask u a) s t b.from y b.found (subst (Moves (Ask u a) s t b.from) g.is_it (subst (λ z. Moves (Ask u a) s t b.from (crossed_out a z)) r.is_it (subst (λ z. Moves (Ask u a) s t b.from (crossed_out a (record z { m = max z.m r.k }))) b.is_it (own_moves t b.from r.k b.found (λ d. r.placed (ap is_ordered (sym (ap (λ z. z.status) b.is_it) ∙ joined_status (b.from.tid == u) a _ b.from) ∙ d))))))
   where
     own_moves : (t : ℕ) (x : Act) (k : ℕ) → act_of t s.book.acts ≡ Some x → (is_ordered x.status ≡ true → k ≡ 0)
-        → Moves (Ask u a) s t x (crossed_out a (record (book.change_if (x.tid == u) (book.joins a (max (cell_at s a).last (cell_at s a).floor)) x) { m = max (book.change_if (x.tid == u) (book.joins a (max (cell_at s a).last (cell_at s a).floor)) x).m k }))
+        → Moves (Ask u a) s t x (crossed_out a (record (book.change_if (x.tid == u) (book.joins a (max (cell_at s a).last (floor_at u s.book.acts (cell_at s a)))) x) { m = max (book.change_if (x.tid == u) (book.joins a (max (cell_at s a).last (floor_at u s.book.acts (cell_at s a)))) x).m k }))
     own_moves t x k f d =
-        let m = max (cell_at s a).last (cell_at s a).floor in
+        let m = max (cell_at s a).last (floor_at u s.book.acts (cell_at s a)) in
         let live = λ (j : (x.tid == u) ≡ true). some_of (λ x. is_live_status x.status) (act_of u s.book.acts) x (subst (λ z. act_of z s.book.acts ≡ Some x) (sym (found_tid t x s.book.acts f) ∙ eqb-true x.tid u j) f) l in
         crossing (Ask u a) s t a x (record (book.change_if (x.tid == u) (book.joins a m) x) { m = max (book.change_if (x.tid == u) (book.joins a m) x).m k })
         (inr (u, (refl, q))) (joined_status (x.tid == u) a m x) (joined_tx (x.tid == u) a m x) (joined_result (x.tid == u) a m x)
@@ -249,17 +249,17 @@ pub became : {C : Type 0} (w : Fixed C) (e : Event) (s : Machine C) (h : History
 unfolding after conditions Acts DecidedHaveValues
 became w (Admit u) s h ok l n i d = λ t y f. by t y s.book.acts (λ g. inl (same (Admit u) s t y g)) (λ j g. inr (record { fresh = g; silent = ap said (sym j) })) f
   where
-    by : (t : ℕ) (y : Act) (zs : List Act) → (act_of t zs ≡ Some y → Became (Admit u) s t y) → (book.new_act u (next_act s.ring) (base w.text) ≡ y → act_of t zs ≡ None → Became (Admit u) s t y) → act_of t (zs ++ book.new_act u (next_act s.ring) (base w.text) ∷ []) ≡ Some y → Became (Admit u) s t y
+    by : (t : ℕ) (y : Act) (zs : List Act) → (act_of t zs ≡ Some y → Became (Admit u) s t y) → (book.new_act u (next_act s.ring) (is_reader w (next_act s.ring)) (base w.text) ≡ y → act_of t zs ≡ None → Became (Admit u) s t y) → act_of t (zs ++ book.new_act u (next_act s.ring) (is_reader w (next_act s.ring)) (base w.text) ∷ []) ≡ Some y → Became (Admit u) s t y
     by t y [] k g f = at (u == t) f
       where
-        at : (b : Bool) → (if b then Some (book.new_act u (next_act s.ring) (base w.text)) else None) ≡ Some y → Became (Admit u) s t y
+        at : (b : Bool) → (if b then Some (book.new_act u (next_act s.ring) (is_reader w (next_act s.ring)) (base w.text)) else None) ≡ Some y → Became (Admit u) s t y
         at true f = g (cc f) refl
         at false f = absurd (cc f)
     by t y (z ∷ zs) k g f = at (z.tid == t) k g f (by t y zs)
       where
-        at : (b : Bool) → ((if b then Some z else act_of t zs) ≡ Some y → Became (Admit u) s t y) → (book.new_act u (next_act s.ring) (base w.text) ≡ y → (if b then Some z else act_of t zs) ≡ None → Became (Admit u) s t y)
-            → (if b then Some z else act_of t (zs ++ book.new_act u (next_act s.ring) (base w.text) ∷ [])) ≡ Some y
-            → ((act_of t zs ≡ Some y → Became (Admit u) s t y) → (book.new_act u (next_act s.ring) (base w.text) ≡ y → act_of t zs ≡ None → Became (Admit u) s t y) → act_of t (zs ++ book.new_act u (next_act s.ring) (base w.text) ∷ []) ≡ Some y → Became (Admit u) s t y) → Became (Admit u) s t y
+        at : (b : Bool) → ((if b then Some z else act_of t zs) ≡ Some y → Became (Admit u) s t y) → (book.new_act u (next_act s.ring) (is_reader w (next_act s.ring)) (base w.text) ≡ y → (if b then Some z else act_of t zs) ≡ None → Became (Admit u) s t y)
+            → (if b then Some z else act_of t (zs ++ book.new_act u (next_act s.ring) (is_reader w (next_act s.ring)) (base w.text) ∷ [])) ≡ Some y
+            → ((act_of t zs ≡ Some y → Became (Admit u) s t y) → (book.new_act u (next_act s.ring) (is_reader w (next_act s.ring)) (base w.text) ≡ y → act_of t zs ≡ None → Became (Admit u) s t y) → act_of t (zs ++ book.new_act u (next_act s.ring) (is_reader w (next_act s.ring)) (base w.text) ∷ []) ≡ Some y → Became (Admit u) s t y) → Became (Admit u) s t y
         at true k g f r = k f
         at false k g f r = r k g f
 became w (Arrive k a) s h ok l n i d = old (Arrive k a) s _ (λ t y f.
@@ -267,7 +267,7 @@ became w (Arrive k a) s h ok l n i d = old (Arrive k a) s _ (λ t y f.
     let b = found_map (book.lowered k (book.tids_on (cell_at s a).entries)) (λ x. refl) t g.from s.book.acts g.found in
     from (Arrive k a) s t b.from y b.found (subst (Moves (Arrive k a) s t b.from) g.is_it (subst (λ z. Moves (Arrive k a) s t b.from (crossed_out a z)) b.is_it
     (crossing (Arrive k a) s t a b.from (book.lowered k (book.tids_on (cell_at s a).entries) b.from) (inl (k, refl)) refl refl refl (λ q. refl)))))
-became w (Ask u a) s h ok l n i d = old (Ask u a) s _ (asked s u a (l u a refl) (in_the_way u (cell_at s a).entries) refl)
+became w (Ask u a) s h ok l n i d = old (Ask u a) s _ (asked s u a (l u a refl) (in_the_way (lock_of u s.book.acts) (cell_at s a).entries) refl)
 became {C} w (End u a) s h ok l n i d = old (End u a) s _ (by (has_act u (cell_at s a).entries) (outcome_of u (cell_at s a).outbox))
   where
     next : (x : Next C) → EachAct (MovedFrom (End u a) s) (book.noted_for u x s.book.acts)

@@ -14,7 +14,7 @@ use Rattle.protocol.specs.Fixed.{Fixed}
 use Rattle.protocol.specs.Facts.{Alone}
 use Rattle.protocol.specs.Parts.{Act, Pact, Batch, Cascade, Status, Live, Doomed, Decided, Sealed, Stage, Formed, Committing, Settled, Machine}
 use Rattle.protocol.specs.Events.{Event, Arrive, Ask, Settle, Abort, Decide, Seal}
-use Rattle.protocol.specs.Words.{holds, is_aborted, is_formed, is_committing, is_settled, is_live_status, act_of, batch_of, covers, is_open, is_next_to_commit}
+use Rattle.protocol.specs.Words.{holds, is_aborted, is_formed, is_committing, is_settled, is_live_status, act_of, batch_of, covers, is_open, is_next_to_commit, lock_of, floor_at}
 use Rattle.protocol.specs.Verdicts.{verdict, pact_place, act_place, act_verdict, pact_verdict, out_of_order, taken_along, died, aborted_by, ended_at}
 use Rattle.protocol.specs.Spread.{raised, crossed_out, is_crossed, reaches}
 use Rattle.protocol.specs.Conditions.{IsAllowed, conditions}
@@ -77,11 +77,11 @@ batch_changed f i k b bs e = batch_map (λ y. desk.change_if (y.bid == k) f y) (
 
 -- ---- an older holder
 
-dies_says : {C : Type 0} (w : Fixed C) (n a u t : ℕ) (x : Act) (s : Machine C) → holds (λ x. is_live_status x.status) (act_of t s.book.acts) ≡ true → IsOnce n (after w (Ask t a) s) → act_of t s.book.acts ≡ Some x → x.tx ≡ n → in_the_way t (cell_at s a).entries ≡ Some u → Says w n (died a u t) (Ask t a) s
+dies_says : {C : Type 0} (w : Fixed C) (n a u t : ℕ) (x : Act) (s : Machine C) → holds (λ x. is_live_status x.status) (act_of t s.book.acts) ≡ true → IsOnce n (after w (Ask t a) s) → act_of t s.book.acts ≡ Some x → x.tx ≡ n → in_the_way (lock_of t s.book.acts) (cell_at s a).entries ≡ Some u → Says w n (died a u t) (Ask t a) s
 unfolding after
 dies_says w n a u t x s l o f i q =
     by_act (after w (Ask t a) s) n t (book.doomed_by (died a u t) x) o
-    (subst (λ z. act_of t (book.asked_acts z (book.met t (cell_at s a).entries) t a (max (cell_at s a).last (cell_at s a).floor) s.book) ≡ Some (book.doomed_by (died a u t) x)) (sym q) (act_changed (book.doomed_by (died a u t)) (λ x. refl) t x s.book.acts f)) i
+    (subst (λ z. act_of t (book.asked_acts z (book.met (lock_of t s.book.acts) (cell_at s a).entries) t a (max (cell_at s a).last (floor_at t s.book.acts (cell_at s a))) s.book) ≡ Some (book.doomed_by (died a u t) x)) (sym q) (act_changed (book.doomed_by (died a u t)) (λ x. refl) t x s.book.acts f)) i
     ∙ said (is_live_status x.status) (some_of (λ x. is_live_status x.status) (act_of t s.book.acts) x f l)
   where
     said : (b : Bool) → b ≡ true → act_verdict (if b then Doomed (died a u t) else x.status) x.m x.result ≡ Some (died a u t)
@@ -117,13 +117,13 @@ crosses_says {C} w n m k a e s o r = by_act (after w e s) n r.tid r.next o r.fou
         let q = same_some (act_of r.tid s.book.acts) b.from r.act b.found r.is_act.found in
         (g.from, (g.is_it, (ap (λ z. z.status) (sym b.is_it) ∙ ap (λ z. z.status) q, ap (λ z. z.tx) (sym b.is_it) ∙ ap (λ z. z.tx) q)))
 
-    asked : (u : ℕ) → in_the_way u (cell_at s a).entries ≡ None → act_of r.tid (after w (Ask u a) s).book.acts ≡ Some r.next → (z : Act) × ((crossed_out a z ≡ r.next) × ((z.status ≡ r.act.status) × (z.tx ≡ r.act.tx)))
+    asked : (u : ℕ) → in_the_way (lock_of u s.book.acts) (cell_at s a).entries ≡ None → act_of r.tid (after w (Ask u a) s).book.acts ≡ Some r.next → (z : Act) × ((crossed_out a z ≡ r.next) × ((z.status ≡ r.act.status) × (z.tx ≡ r.act.tx)))
     asked u i f =
-        let h = subst (λ z. act_of r.tid (book.asked_acts z (book.met u (cell_at s a).entries) u a (max (cell_at s a).last (cell_at s a).floor) s.book) ≡ Some r.next) i f in
-        let own = book.changed_act u (book.joins a (max (cell_at s a).last (cell_at s a).floor)) s.book.acts in
-        let g = found_map (crossed_out a) (λ x. refl) r.tid r.next (raised (s.book.pairs ++ book.new_pairs u a (book.met u (cell_at s a).entries) s.book.acts) own) h in
-        let p = found_raised (s.book.pairs ++ book.new_pairs u a (book.met u (cell_at s a).entries) s.book.acts) r.tid g.from own g.found in
-        let b = found_map (λ x. book.change_if (x.tid == u) (book.joins a (max (cell_at s a).last (cell_at s a).floor)) x) (λ x. if_tid (x.tid == u) (book.joins a (max (cell_at s a).last (cell_at s a).floor)) x refl) r.tid p.from s.book.acts p.found in
+        let h = subst (λ z. act_of r.tid (book.asked_acts z (book.met (lock_of u s.book.acts) (cell_at s a).entries) u a (max (cell_at s a).last (floor_at u s.book.acts (cell_at s a))) s.book) ≡ Some r.next) i f in
+        let own = book.changed_act u (book.joins a (max (cell_at s a).last (floor_at u s.book.acts (cell_at s a)))) s.book.acts in
+        let g = found_map (crossed_out a) (λ x. refl) r.tid r.next (raised (s.book.pairs ++ book.new_pairs u a (book.met (lock_of u s.book.acts) (cell_at s a).entries) s.book.acts) own) h in
+        let p = found_raised (s.book.pairs ++ book.new_pairs u a (book.met (lock_of u s.book.acts) (cell_at s a).entries) s.book.acts) r.tid g.from own g.found in
+        let b = found_map (λ x. book.change_if (x.tid == u) (book.joins a (max (cell_at s a).last (floor_at u s.book.acts (cell_at s a)))) x) (λ x. if_tid (x.tid == u) (book.joins a (max (cell_at s a).last (floor_at u s.book.acts (cell_at s a)))) x refl) r.tid p.from s.book.acts p.found in
         let q = same_some (act_of r.tid s.book.acts) b.from r.act b.found r.is_act.found in (
           g.from,
           (

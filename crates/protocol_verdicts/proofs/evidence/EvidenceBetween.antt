@@ -40,12 +40,12 @@ first_ones w (f ∷ front) e later s run = let r = first_ones w front e later (a
 
 -- ---- at the event
 
-at_event : {C : Type 0} (w : Fixed C) (Of : Tx → C → Type 0) (finish : C → List State → Alone) (a t : ℕ) (e : Event) (s : Machine C) (h : History) (x y : Act) → PlacesOn a e s → IsAllowed w e s → AllGood w Of finish s h → BeforeStand w s h → AfterStand w s h
+at_event : {C : Type 0} (w : Fixed C) (Of : Tx → C → Type 0) (finish : C → List State → Alone) (a t : ℕ) (e : Event) (s : Machine C) (h : History) (x y : Act) → Given w Of finish → PlacesOn a e s → IsAllowed w e s → AllGood w Of finish s h → BeforeStand w s h → AfterStand w s h
     → act_of t s.book.acts ≡ Some x → is_live_status x.status ≡ true → act_of t (after w e s).book.acts ≡ Some y → AtEnds (after w e s) (grown w e s h) y
-at_event w Of finish a t e s h x y (inl p) ok g b f i live j =
+at_event w Of finish a t e s h x y v (inl p) ok g b f i live j =
     subst (λ e. IsAllowed w e s → act_of t (after w e s).book.acts ≡ Some y → AtEnds (after w e s) (grown w e s h) y) (sym p.1) (λ ok j. arrive_ends w Of finish p.0 a t s h x y ok g b f i live j) ok j
-at_event w Of finish a t e s h x y (inr p) ok g b f i live j =
-    subst (λ e. IsAllowed w e s → act_of t (after w e s).book.acts ≡ Some y → AtEnds (after w e s) (grown w e s h) y) (sym p.1.0) (λ ok j. ask_ends w Of finish p.0 a t s h x y ok g b f p.1.1 i live j) ok j
+at_event w Of finish a t e s h x y v (inr p) ok g b f i live j =
+    subst (λ e. IsAllowed w e s → act_of t (after w e s).book.acts ≡ Some y → AtEnds (after w e s) (grown w e s h) y) (sym p.1.0) (λ ok j. ask_ends w Of finish p.0 a t s h x y v ok g b f p.1.1 i live j) ok j
 
 its_tid : (t : ℕ) (xs : List Act) (y : Act) → act_of t xs ≡ Some y → y.tid ≡ t
 its_tid t xs y e = eqb-true y.tid t (all_found (λ x. Unit {0}) (λ x. x.tid == t) xs y (each xs) e).1
@@ -64,7 +64,7 @@ pub stands_between : {C : Type 0} (w : Fixed C) (Of : Tx → C → Type 0) (fini
 stands_between w Of finish n m k a es v run g =
     let c : Crosses w n m k a g.event (reached w g.front) = g.gives in
     let r = first_ones w g.front g.event g.later (opening w) (subst (λ z. EachAllowed w z (opening w)) g.splits run) in
-    let q = at_event w Of finish a c.tid g.event (reached w g.front) (history w g.front) c.act c.next c.event r.1 (all_good w Of finish g.front v r.0) (before_stand w Of finish g.front v r.0) (after_stand w Of finish g.front v r.0) c.is_act.found c.live c.found in
+    let q = at_event w Of finish a c.tid g.event (reached w g.front) (history w g.front) c.act c.next v c.event r.1 (all_good w Of finish g.front v r.0) (before_stand w Of finish g.front v r.0) (after_stand w Of finish g.front v r.0) c.is_act.found c.live c.found in
     let i = its_tid c.tid (after w g.event (reached w g.front)).book.acts c.next c.found in
     let now : reached w (g.front ++ g.event ∷ []) ≡ after w g.event (reached w g.front) = one_more w g.front g.event (opening w) in
     let then : history w (g.front ++ g.event ∷ []) ≡ grown w g.event (reached w g.front) (history w g.front) = one_grown w g.front g.event (opening w) no_history in

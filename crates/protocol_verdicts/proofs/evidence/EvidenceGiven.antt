@@ -1,5 +1,5 @@
 -- What gives a verdict, event by event: a verdict stays, a new one has its row, and each row gives its verdict.
-use Rattle.std.specs.Prelude.{◌≡◌, refl, ℕ, ◌<◌, ◌≤◌, ◌==◌, nat_lt, min, Bool, true, false, ◌⊎◌, if◌then◌else◌, Option, Some, None, is_some, List, [], ◌∷◌, ◌++◌, map, filter}
+use Rattle.std.specs.Prelude.{◌≡◌, refl, ℕ, ◌<◌, ◌≤◌, ◌==◌, nat_lt, min, Bool, true, false, ◌⊎◌, if◌then◌else◌, Option, Some, None, is_some, List, [], ◌∷◌, ◌++◌, map}
 use Rattle.std.specs.List.{AllByRecursion}
 use Rattle.std.proofs.Common.{arith, sym, ap, subst, inl, inr, ◌∙◌}
 use Rattle.std.proofs.lemmas.Bool.{true≢false, eqb-true, ltb-true, ltb-false, eq-eqb, or_cases, or_left, or_right, cases_lt}
@@ -11,10 +11,10 @@ use Rattle.snap_base.specs.declared.verdicts.Verdict.{Verdict}
 use Rattle.snap_base.specs.declared.verdicts.Verdict.TheVariants as verdicts
 use Rattle.protocol.specs.Fixed.{Fixed}
 use Rattle.protocol.specs.Facts.{Alone}
-use Rattle.protocol.specs.Rivals.{Lock, rivals}
+use Rattle.protocol.specs.Rivals.{Lock}
 use Rattle.protocol.specs.Parts.{Act, Pact, Batch, Machine}
 use Rattle.protocol.specs.Events.{Event, Abort}
-use Rattle.protocol.specs.Words.{holds, is_among, is_value, act_of, batch_of, tail_group, least_of, least_older, first_failed, Failure}
+use Rattle.protocol.specs.Words.{holds, is_among, is_value, act_of, batch_of, least_of, least_older, first_failed, Failure, lock_of, rivals_in_tail}
 use Rattle.protocol.specs.Verdicts.{verdict}
 use Rattle.protocol.specs.Conditions.{IsAllowed, conditions}
 use Rattle.protocol.specs.Effects.{after, cell_at}
@@ -75,19 +75,11 @@ one_least : (t u : ℕ) (ns : List ℕ) (o : Option ℕ) → Spec t ns o → IsL
 one_least t u ns None h g l = absurd (omega (arith, l, among_all (λ k. t ≤ k) u ns g.is_there h))
 one_least t u ns (Some v) h g l = let e : v ≡ u = omega (arith, among_all (λ k. u ≤ k) v ns h.0.is_there g.least, among_all (λ k. v ≤ k) u ns g.is_there h.0.least) in ap Some e
 
--- every two are rivals
-all_rivals : (t : Lock) (xs : List Lock) → filter (rivals t) xs ≡ xs
-all_rivals t [] = refl
-all_rivals t (x ∷ xs) = ap (λ l. x ∷ l) (all_rivals t xs)
+in_way : {C : Type 0} (s : Machine C) (t a u : ℕ) → in_the_way (lock_of t s.book.acts) (cell_at s a).entries ≡ Some u → IsLeast u (map (λ x. x.tid) (rivals_in_tail (lock_of t s.book.acts) (cell_at s a).entries)) × (u < t)
+in_way s t a u e = subst (Spec t (map (λ x. x.tid) (rivals_in_tail (lock_of t s.book.acts) (cell_at s a).entries))) e (least_is t (rivals_in_tail (lock_of t s.book.acts) (cell_at s a).entries))
 
-way_is : {C : Type 0} (s : Machine C) (t a : ℕ) → in_the_way t (cell_at s a).entries ≡ least_older t (tail_group (cell_at s a).entries)
-way_is s t a = ap (least_older t) (all_rivals (record { tid = t }) (tail_group (cell_at s a).entries))
-
-in_way : {C : Type 0} (s : Machine C) (t a u : ℕ) → in_the_way t (cell_at s a).entries ≡ Some u → IsLeast u (map (λ x. x.tid) (tail_group (cell_at s a).entries)) × (u < t)
-in_way s t a u e = subst (Spec t (map (λ x. x.tid) (tail_group (cell_at s a).entries))) (sym (way_is s t a) ∙ e) (least_is t (tail_group (cell_at s a).entries))
-
-pub in_way_back : {C : Type 0} (s : Machine C) (t a u : ℕ) → IsLeast u (map (λ x. x.tid) (tail_group (cell_at s a).entries)) → u < t → in_the_way t (cell_at s a).entries ≡ Some u
-in_way_back s t a u h l = way_is s t a ∙ one_least t u _ (least_older t (tail_group (cell_at s a).entries)) (least_is t (tail_group (cell_at s a).entries)) h l
+pub in_way_back : {C : Type 0} (s : Machine C) (t a u : ℕ) → IsLeast u (map (λ x. x.tid) (rivals_in_tail (lock_of t s.book.acts) (cell_at s a).entries)) → u < t → in_the_way (lock_of t s.book.acts) (cell_at s a).entries ≡ Some u
+in_way_back s t a u h l = one_least t u _ (least_older t (rivals_in_tail (lock_of t s.book.acts) (cell_at s a).entries)) (least_is t (rivals_in_tail (lock_of t s.book.acts) (cell_at s a).entries)) h l
 
 -- ---- the first that failed
 

@@ -20,7 +20,8 @@ use Rattle.protocol_laws.specs.Tracks.{keys_in, Differ}
 use Rattle.protocol_laws.specs.Turns.{Rising}
 use Rattle.protocol_laws.specs.Commits.{Finds, left_as, left_of, StatesLink, last_state, is_kept, KeptAhead}
 use Rattle.protocol_laws.specs.Marks.{Marked}
-use Rattle.protocol.specs.Chains.{by_place, put_by_place, is_place_below, txs_of, IsBelowAll, PlacesRise}
+use Rattle.protocol_theorems.specs.Order.{LeavesIt}
+use Rattle.protocol.specs.Chains.{RivalsRise, by_place, put_by_place, is_place_below, txs_of, IsBelowAll, PlacesRise}
 use Rattle.protocol_laws.specs.Linked.{IsExplained, came_to, visitors}
 use Rattle.protocol_laws.specs.Told.{IsAmongDone}
 use Rattle.protocol_theorems.specs.Order.{OrderStands}
@@ -273,25 +274,26 @@ below_filter x p (d ∷ ds) h = by (p d) (below_filter x p ds h.1)
     by true g = (h.0, g)
     by false g = g
 
-rise_filter : (p : Done → Bool) (ds : List Done) → PlacesRise ds → PlacesRise (filter p ds)
+rise_filter : (p : Done → Bool) (ds : List Done) → RivalsRise ds → RivalsRise (filter p ds)
 rise_filter p [] h = tt
 rise_filter p (d ∷ ds) h = by (p d) (rise_filter p ds h.1)
   where
-    by : (b : Bool) → PlacesRise (filter p ds) → PlacesRise (if b then d ∷ filter p ds else filter p ds)
-    by true g = (below_filter d.place p ds h.0, g)
+    by : (b : Bool) → RivalsRise (filter p ds) → RivalsRise (if b then d ∷ filter p ds else filter p ds)
+    by true g = (all_filter (λ e. (d.reader && e.reader) ≡ false → Rattle.protocol.specs.Chains.is_place_below d.place e.place ≡ true) p ds h.0, g)
     by false g = g
 
 before : {C : Type 0} (w : Fixed C) (finish : C → List State → Alone) (k c : ℕ) (ds : List Done) → AllByRecursion (λ d. counts k c d ≡ is_value d.result) ds → AllByRecursion (IsExplained w finish) ds
-    → ((a : ℕ) → PlacesRise (visitors a ds)) → ((a : ℕ) → StatesLink a (state_in w.text.opening.states a) ds) → Before w finish k c ds
+    → ((a : ℕ) → RivalsRise (visitors a ds)) → ((a : ℕ) → AllByRecursion (λ d. d.reader ≡ true → LeavesIt (d.views a)) ds) → ((a : ℕ) → StatesLink a (state_in w.text.opening.states a) ds) → Before w finish k c ds
 unfolding LinkedFrom
-before w finish k c ds cs ex rise links =
+before w finish k c ds cs ex rise still links =
     let own = filter (counts k c) ds in
     let explained = all_sorted (IsExplained w finish) own (all_filter (IsExplained w finish) (counts k c) ds ex) in
     let same = λ (a : ℕ). links_valued a (state_in w.text.opening.states a) (counts k c) ds cs (links a) in
-    let rises = λ (a : ℕ). subst PlacesRise (swapped (counts k c) (came_to a) ds) (rise_filter (counts k c) (visitors a ds) (rise a)) in
+    let left = λ (a : ℕ). all_filter (λ d. d.reader ≡ true → LeavesIt (d.views a)) (counts k c) ds (still a) in
+    let rises = λ (a : ℕ). subst RivalsRise (swapped (counts k c) (came_to a) ds) (rise_filter (counts k c) (visitors a ds) (rise a)) in
     record {
-      as_many = serial_length w finish (counted k c ds) w.text.opening.states refl explained (λ a l. sorted_links a (state_in w.text.opening.states a) own (rises a) (same a).links);
-      states = λ a l. serial_states w finish (counted k c ds) w.text.opening.states refl explained (λ a l. sorted_links a (state_in w.text.opening.states a) own (rises a) (same a).links) a l ∙ (sorted_last a (state_in w.text.opening.states a) own (rises a) ∙ (same a).last);
+      as_many = serial_length w finish (counted k c ds) w.text.opening.states refl explained (λ a l. sorted_links a (state_in w.text.opening.states a) own (rises a) (left a) (same a).links);
+      states = λ a l. serial_states w finish (counted k c ds) w.text.opening.states refl explained (λ a l. sorted_links a (state_in w.text.opening.states a) own (rises a) (left a) (same a).links) a l ∙ (sorted_last a (state_in w.text.opening.states a) own (rises a) (left a) (same a).links ∙ (same a).last);
     }
 
 pub pacts_serial : {C : Type 0} (w : Fixed C) (Of : Tx → C → Type 0) (finish : C → List State → Alone) (k c code : ℕ) (s : Machine C) (h : History) (b : Batch) (front rest : List Pact) (p : Pact) → Facts (length w.text.opening.states) w.code (IsTxIn w.text) Of finish → Good w Of finish s h → Ordered w Of finish s h → PlacesStand w s h → s.book.next_c ≡ c → is_open b ≡ true → is_next_to_commit k s.desk.batches ≡ true → batch_of k s.desk.batches ≡ Some b → b.pacts ≡ front ++ p ∷ rest
@@ -300,7 +302,7 @@ pub pacts_serial : {C : Type 0} (w : Fixed C) (Of : Tx → C → Type 0) (finish
 unfolding LinkedFrom AllExplained Committed Turned
 pacts_serial w Of finish k c code s h b front rest p facts g o i nc opened next is_it splits values fails =
     let cs = both_all _ _ (λ d. counts k c d ≡ is_value d.result) h.committed (λ d x y. side_counts k c d (below_open d.place.batch.0 k s.desk.batches b is_it opened x.1) (subst (λ z. IsSided z d.place) nc y)) i.low i.sided in
-    let bf = before w finish k c h.committed cs o.explained i.rise (λ a. (g.committed a).links) in
+    let bf = before w finish k c h.committed cs o.explained i.rise o.stills (λ a. (g.committed a).links) in
     let rising = λ (a : ℕ). (batch_slices k a s.desk.batches (h.long a) (cell_at s a).entries (g.turned a) (g.from_desk.entries a)).0 in
     let ex = pacts_explained w Of finish k s h b front rest p code facts opened is_it splits values fails rising g.tracked o.named o.matched o.results in
     let all = serial_results w finish (map (done_pact k h) (front ++ p ∷ [])) (world_before w finish k c h.committed) bf.as_many ex

@@ -176,7 +176,7 @@ act_out k c n h None l = refl
 act_out k c n h (Some x) l = by (is_value x.result && nat_lt n c) (and_false (is_value x.result) (nat_lt n c) (le-ltb n c l))
   where
     d : Done
-    d = record { who = OfAct x.tid; tid = x.tid; tx = x.tx; place = Rattle.protocol.specs.Verdicts.act_place x.m n; result = x.result; views = λ a. Rattle.protocol.specs.History.view_in x.tid (Rattle.protocol.specs.History.slices_of (OfAct x.tid) (h.long a)) }
+    d = record { who = OfAct x.tid; tid = x.tid; tx = x.tx; place = Rattle.protocol.specs.Verdicts.act_place x.m n; result = x.result; reader = x.reader; views = Rattle.protocol.specs.History.act_view h x }
 
     by : (b : Bool) → b ≡ false → (if b then d ∷ [] else []) ≡ []
     by true e = absurd (true≢false e)
