@@ -231,7 +231,7 @@ put_behind R (x ∷ front) back d r k h =
     let p = all_parts (λ e. (x.reader && e.reader) ≡ false → R x e) front back h.0 in
     (all_join (λ e. (x.reader && e.reader) ≡ false → R x e) front (d ∷ back) p.0 ((λ n. k.0), p.1), put_behind R front back d r k.1 h.1)
 
-shuffled_behind : (R : Done → Done → Type 0) (cs us : List Done) → Shuffled cs us → EachBehind R us → EachBehind (λ d e. (d.reader && e.reader) ≡ false → R d e) cs
+pub shuffled_behind : (R : Done → Done → Type 0) (cs us : List Done) → Shuffled cs us → EachBehind R us → EachBehind (λ d e. (d.reader && e.reader) ≡ false → R d e) cs
 shuffled_behind R cs us (Nobody c u i j) g = subst (EachBehind (λ d e. (d.reader && e.reader) ≡ false → R d e)) (sym i) tt
 shuffled_behind R cs us (Put c u front back rest d i j r h) g =
     let l = behind_last R rest d (subst (EachBehind R) j g) in
