@@ -13,15 +13,15 @@ pub mod CrashWhole
 pub mod DonesSure
 pub mod Durable
 pub mod DurableKept
-pub mod FrontsKept
 pub mod IsClosedKept
 pub mod KeptAll
 pub mod KeptSure
+pub mod ReadersOver
 pub mod ReadersSure
 pub mod NoneBehind
 pub mod OnLong
 pub mod OnceKept
-pub mod OverFronts
+pub mod OversSure
 pub mod RecordsKept
 pub mod RecoverLists
 pub mod RecoversKept

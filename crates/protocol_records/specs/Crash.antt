@@ -16,7 +16,6 @@ use Rattle.protocol.specs.Runs.{IsRun, reached}
 use Rattle.protocol.specs.History.{Done, History, history}
 use Rattle.protocol.specs.Chains.{IsClosed, IsSerial, serial_run}
 use Rattle.protocol_laws.specs.Commits.{is_kept}
-use Rattle.protocol_laws.specs.Linked.{visitors}
 use Rattle.protocol_laws.specs.Told.{IsAmongDone}
 use Rattle.protocol.specs.Moments.{Moment, IsLeft, left_in}
 use Rattle.protocol.specs.Rests.{HasFacts}
@@ -134,15 +133,9 @@ AtEveryMoment {C} P =
 
 -- ---- what implies the serial half, at one actor each
 
--- In the order of commits: behind who came to the actor, committed with a value, is no reader and no member, no member came.
+-- In the order of commits: behind who came to the actor, committed with a value and is no member, no member came, unless both
+-- only read.
 abbrev pub NoneMissed : ℕ → (Done → Bool) → List Done → Type 0
 NoneMissed a member [] = Unit {0}
 NoneMissed a member (d ∷ ds) =
-    (member d ≡ false → is_some (d.views a) ≡ true → is_value d.result ≡ true → d.reader ≡ false → AllByRecursion (λ e. member e ≡ true → is_some (e.views a) ≡ false) ds) × NoneMissed a member ds
-
--- the members that came to an actor are a front of those that committed there with a value
-abbrev pub valued : ℕ → List Done → List Done
-valued a ds = filter (λ d. is_value d.result) (visitors a ds)
-
-abbrev pub IsFrontOn : ℕ → List Done → List Done → Type 0
-IsFrontOn a ms ds = (rest : List Done) × (valued a ds ≡ valued a ms ++ rest)
+    (member d ≡ false → is_some (d.views a) ≡ true → is_value d.result ≡ true → AllByRecursion (λ e. member e ≡ true → (d.reader && e.reader) ≡ false → is_some (e.views a) ≡ false) ds) × NoneMissed a member ds

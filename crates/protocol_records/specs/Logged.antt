@@ -7,8 +7,9 @@ use Rattle.protocol.specs.Records.{LogRecord, BatchInfo, ActDone, is_info, is_co
 use Rattle.protocol.specs.Parts.{Act, Joined, Who, OfBatch, OfAct, Batch, Log, Machine}
 use Rattle.protocol.specs.Words.{holds, joined_of, is_failure, is_doomed, is_who, is_durable, is_value, is_formed, is_settled, is_decided, is_sealed, batch_of, act_of}
 use Rattle.protocol.specs.Effects.{no_log, ascending}
-use Rattle.protocol.specs.History.{Done, History, Ran, Stands, Gone}
+use Rattle.protocol.specs.History.{Done, History, Slice, Ran, Stands, Gone}
 use Rattle.protocol_laws.specs.Commits.{is_kept}
+use Rattle.protocol_laws.specs.Tracks.{has_read}
 
 -- a durable record of log l
 abbrev pub durable_at : (LogRecord → Bool) → List Log → ℕ → Bool
@@ -105,6 +106,13 @@ AllKeptSure w s h = (a : ℕ) → KeptSure (is_sure w.text.logs s.logs) (λ y. i
 
 -- ---- along what committed
 
+-- a reader is an ACT, and has read where it came
+abbrev pub HasRead : List Slice → ℕ → Done → Type 0
+HasRead reads a d = d.reader ≡ true → (d.who ≡ OfAct d.tid) × (is_some (d.views a) ≡ true → has_read reads d.tid ≡ true)
+
+unfoldable pub AllHaveRead : History → Type 0
+AllHaveRead h = (a : ℕ) → AllByRecursion (HasRead (h.reads a) a) h.committed
+
 -- who committed with a value, and does not only read, is on each actor that it came to
 pub record IsThere (kept : List Who) (long : ℕ → List Ran) (d : Done) : Type 0 where
   pub known : is_value d.result ≡ true → d.reader ≡ false → is_kept d.who kept ≡ true
@@ -117,10 +125,14 @@ AllThere h = AllByRecursion (IsThere h.kept h.long) h.committed
 abbrev pub came_valued : ℕ → Done → Bool
 came_valued a d = is_some (d.views a) && is_value d.result
 
--- who committed with a value there, and somebody else behind, is sure, if it is no reader
+-- and so did another one, and they do not both only read
+abbrev pub came_rival : ℕ → Done → Done → Bool
+came_rival a d e = came_valued a e && (not (is_who d.who e.who) && not (d.reader && e.reader))
+
+-- who committed with a value there, and a rival of it behind, is sure
 abbrev pub DoneSure : (Who → Bool) → ℕ → List Done → Type 0
 DoneSure sure a [] = Unit {0}
-DoneSure sure a (d ∷ ds) = (d.reader ≡ false → came_valued a d ≡ true → list_any (λ e. came_valued a e && not (is_who d.who e.who)) ds ≡ true → sure d.who ≡ true) × DoneSure sure a ds
+DoneSure sure a (d ∷ ds) = (came_valued a d ≡ true → list_any (came_rival a d) ds ≡ true → sure d.who ≡ true) × DoneSure sure a ds
 
 unfoldable pub AllDoneSure : {C : Type 0} → Fixed C → Machine C → History → Type 0
 AllDoneSure w s h = (a : ℕ) → DoneSure (is_sure w.text.logs s.logs) a h.committed

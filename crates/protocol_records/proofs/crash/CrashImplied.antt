@@ -23,7 +23,7 @@ use Rattle.protocol.specs.Moments.{Moment, IsCut, IsLeft}
 use Rattle.protocol_theorems.specs.Order.{LeavesIt, OrderFacts}
 use Rattle.protocol_laws.proofs.first.Along.{along}
 use Rattle.protocol_theorems.proofs.order.ByPlace.{all_sorted}
-use Rattle.protocol_laws.proofs.first.Lists.{all_filter}
+use Rattle.protocol_laws.proofs.first.Lists.{all_filter, weaker}
 use Rattle.protocol_theorems.proofs.order.OrderImplied.{LinkedFrom, passes, still_left, serial_results, serial_states, sorted_links, sorted_last, links_visitors, visitors_link}
 use Rattle.protocol_laws.proofs.first.Times
 
@@ -32,14 +32,6 @@ use Rattle.protocol_laws.proofs.first.Times
 leaves_nothing : (b : Bool) (o : Option View) (s : State) → b ≡ false → left_as b o s ≡ s
 leaves_nothing true o s e = absurd (true≢false e)
 leaves_nothing false o s e = refl
-
-links_valued : (a : ℕ) (s : State) (ds : List Done) → StatesLink a s ds → StatesLink a s (filter (λ d. is_value d.result) ds)
-links_valued a s [] l = tt
-links_valued a s (d ∷ ds) l = by (is_value d.result) refl (links_valued a (left_of a d s) ds l.1)
-  where
-    by : (b : Bool) → is_value d.result ≡ b → StatesLink a (left_of a d s) (filter (λ d. is_value d.result) ds) → StatesLink a s (if b then d ∷ filter (λ d. is_value d.result) ds else filter (λ d. is_value d.result) ds)
-    by true e h = (l.0, h)
-    by false e h = subst (λ t. StatesLink a t (filter (λ d. is_value d.result) ds)) (leaves_nothing (is_value d.result) (d.views a) s e) h
 
 -- a part of what rises rises
 rise_filter : (test : Done → Bool) (ds : List Done) → RivalsRise ds → RivalsRise (filter test ds)
@@ -86,7 +78,7 @@ links_members a s test (d ∷ ds) m k l = by (test d) refl (links_members a (lef
         | inr v ↦ subst (λ t. StatesLink a t (filter test ds)) (leaves_nothing (is_value d.result) (d.views a) s v) h
         | inl v ↦ elim (cases_Bool d.reader) [
           | inl r ↦ subst (λ t. StatesLink a t (filter test ds)) (still_left a d s (k.0 r) l.0) h
-          | inr r ↦ none_link a s test ds (m.0 e c v r)
+          | inr r ↦ none_link a s test ds (weaker (λ e. test e ≡ true → (d.reader && e.reader) ≡ false → is_some (e.views a) ≡ false) (λ e. test e ≡ true → is_some (e.views a) ≡ false) ds (λ e k q. k q (rw r refl)) (m.0 e c v))
         ]
       ]
     ]
@@ -96,14 +88,6 @@ links_members a s test (d ∷ ds) m k l = by (test d) refl (links_members a (lef
     by false e h = out e h
 
 -- all members have values
-all_valued : (ds : List Done) → AllByRecursion (λ d. is_value d.result ≡ true) ds → filter (λ d. is_value d.result) ds ≡ ds
-all_valued [] h = refl
-all_valued (d ∷ ds) h = by (is_value d.result) h.0 (all_valued ds h.1)
-  where
-    by : (b : Bool) → b ≡ true → filter (λ d. is_value d.result) ds ≡ ds → (if b then d ∷ filter (λ d. is_value d.result) ds else filter (λ d. is_value d.result) ds) ≡ d ∷ ds
-    by true e k = ap (λ l. d ∷ l) k
-    by false e k = absurd (true≢false (sym e))
-
 pub are_valued : (test : Who → Bool) (ds : List Done) → AllByRecursion (λ d. is_value d.result ≡ true) (filter (λ d. test d.who && is_value d.result) ds)
 are_valued test [] = tt
 are_valued test (d ∷ ds) = by (test d.who) (is_value d.result) refl (are_valued test ds)

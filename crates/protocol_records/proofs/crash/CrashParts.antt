@@ -19,19 +19,20 @@ use Rattle.protocol.specs.History.{History, no_history, history, grown}
 use Rattle.protocol_laws.specs.Commits.{is_kept, last_state}
 use Rattle.protocol.specs.Chains.{serial_run}
 use Rattle.protocol.specs.Moments.{IsCut, left_in}
-use Rattle.protocol_records.specs.Logged.{durable_at, logged_at, is_sure, is_written, Written, BatchesSure, Infos, InfoIs, actors_of, ActsSure, ActCommits, AllGoneSure, AllKeptSure, KeptSure, AllThere, AllDoneSure, ActsStand, OnJoined, Prepared, is_on}
+use Rattle.protocol_records.specs.Logged.{durable_at, logged_at, is_sure, is_written, Written, BatchesSure, Infos, InfoIs, actors_of, ActsSure, ActCommits, AllGoneSure, AllKeptSure, KeptSure, AllThere, AllHaveRead, AllDoneSure, ActsStand, OnJoined, Prepared, is_on}
 use Rattle.protocol_records.specs.Telling.{One, told, AllTells, Telling, FrontIn, last_one, Recovers}
 use Rattle.protocol_records.specs.Crash.{is_in, counts, last_told, recovered_state, members, NoneMissed}
 use Rattle.protocol_laws.proofs.machine.Good.{Given}
 use Rattle.protocol_laws.proofs.machine.AllGood.{AllGood, along_good}
-use Rattle.protocol_theorems.proofs.order.LastLaw.{facts_hold}
+use Rattle.protocol_theorems.proofs.order.LastLaw.{Whole, facts_hold}
+use Rattle.protocol_theorems.proofs.order.LastLaw as last
 use Rattle.protocol_records.proofs.crash.Durable.{written_kept}
 use Rattle.protocol_records.proofs.crash.BatchesSure as batches
 use Rattle.protocol_records.proofs.crash.BatchesSure.{Filled}
 use Rattle.protocol_records.proofs.crash.ActsSure as acts
 use Rattle.protocol_records.proofs.crash.OnLong.{gone_kept}
-use Rattle.protocol_records.proofs.crash.KeptSure.{kept_sure}
-use Rattle.protocol_records.proofs.crash.DonesSure.{there_kept, done_sure, none_missed}
+use Rattle.protocol_records.proofs.crash.KeptSure.{kept_sure, sure_of}
+use Rattle.protocol_records.proofs.crash.DonesSure.{there_kept, have_read_kept, done_sure, none_missed}
 use Rattle.protocol_records.proofs.crash.ActPlaces.{on_joined, prepared_kept, stands_kept}
 use Rattle.protocol_records.proofs.crash.TellsKept.{telling_kept, told_join}
 use Rattle.protocol_records.proofs.crash.RecoversKept.{recovers_kept}
@@ -64,7 +65,7 @@ logs_kept w Of finish e s h v ok g l = record {
   acts = acts.sure_kept w e s h ok g.none g.acts l.acts;
   commits = acts.commits_kept w e s h ok g.none g.acts l.commits;
   gone = gone_kept w e s h ok g.acts l.batches l.acts l.gone;
-  sure = kept_sure w Of finish e s h v ok g l.batches l.gone l.sure;
+  sure = kept_sure w Of finish e s h v ok g (sure_of w s h l.batches l.acts l.gone) l.sure;
   there = there_kept w Of finish e s h v ok g l.there;
   stand = stands_kept w e s h ok g.none g.good.placed g.behind l.stand;
   joined = on_joined w e s h ok l.joined;
@@ -207,16 +208,29 @@ unfolding AllDoneSure
 none_missed_at w s h kept a c l = none_missed (is_in w.text.logs (left_in s kept)) (is_sure w.text.logs s.logs) a h.committed (λ y i. sure_in w s kept y c i) (l a)
 
 -- along a run
-record Followed {C : Type 0} (w : Fixed C) (s : Machine C) (h : History) : Type 0 where
+record Followed {C : Type 0} (w : Fixed C) (Of : Tx → C → Type 0) (finish : C → List State → Alone) (s : Machine C) (h : History) : Type 0 where
   pub logs : Logs w s h
+  pub whole : Whole w Of finish s h
+  pub read : AllHaveRead h
   pub done : AllDoneSure w s h
+
+pub read_opened : AllHaveRead no_history
+unfolding AllHaveRead
+read_opened = λ a. tt
 
 done_opened : {C : Type 0} (w : Fixed C) → AllDoneSure w (opening w) no_history
 unfolding AllDoneSure
 done_opened w = λ a. tt
 
 pub done_hold : {C : Type 0} (w : Fixed C) (Of : Tx → C → Type 0) (finish : C → List State → Alone) (es : List Event) → Given w Of finish → IsRun w es → AllDoneSure w (reached w es) (history w es)
-done_hold w Of finish es v run = (along_good w Of finish (Followed w) v (λ e s h ok g l. record { logs = logs_kept w Of finish e s h v ok g l.logs; done = done_sure w Of finish e s h v ok g l.logs.batches l.logs.gone l.logs.there l.done }) (record { logs = logs_opened w; done = done_opened w }) es run).done
+done_hold w Of finish es v run = (along_good w Of finish (Followed w Of finish) v
+    (λ e s h ok g l. record {
+      logs = logs_kept w Of finish e s h v ok g l.logs;
+      whole = last.kept w Of finish e s h v ok g l.whole;
+      read = have_read_kept w e s h l.read;
+      done = done_sure w Of finish e s h v ok g l.whole.ordered.chained (sure_of w s h l.logs.batches l.logs.acts l.logs.gone) l.logs.there l.read l.done;
+    })
+    (record { logs = logs_opened w; whole = last.opened w Of finish v; read = read_opened; done = done_opened w }) es run).done
 
 -- At every moment of every run members are serial; with nothing of a member behind the cut, what is recovered of each
 -- actor is what they leave.

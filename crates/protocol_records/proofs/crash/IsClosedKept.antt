@@ -1,8 +1,8 @@
 -- The members of a moment are closed under the order of the whole run.
-use Rattle.std.specs.Prelude.{◌≡◌, refl, ℕ, zero, suc, ◌≤◌, ◌==◌, Bool, true, false, ◌&&◌, ◌||◌, if◌then◌else◌, is_some, List, [], ◌∷◌, ◌++◌, length, filter}
+use Rattle.std.specs.Prelude.{◌≡◌, refl, ℕ, zero, suc, ◌≤◌, ◌==◌, Bool, true, false, ◌&&◌, ◌||◌, ◌⊎◌, if◌then◌else◌, is_some, List, [], ◌∷◌, ◌++◌, length, filter}
 use Rattle.std.specs.List.{AllByRecursion, list_any}
 use Rattle.std.proofs.Common.{arith, sym, ap, subst, inl, inr, ◌∙◌}
-use Rattle.std.proofs.lemmas.Bool.{eqb-true, eq-eqb, or_cases, or_left, or_right, true≢false, and_parts}
+use Rattle.std.proofs.lemmas.Bool.{eqb-true, eq-eqb, or_cases, or_left, or_right, or_from, true≢false, and_parts, cases_Bool, false_from_ne_true}
 use Rattle.snap_base.specs.declared.transactions.State.{State}
 use Rattle.snap_base.specs.declared.transactions.Tx.{Tx}
 use Rattle.protocol.specs.Fixed.{Fixed, IsText}
@@ -16,11 +16,15 @@ use Rattle.protocol.specs.History.{Done, History, no_history, history}
 use Rattle.protocol.specs.Chains.{chain, Precedes, IsClosed}
 use Rattle.protocol_laws.specs.Linked.{came_to, visitors}
 use Rattle.protocol.specs.Moments.{Moment, IsLeft, left_in}
-use Rattle.protocol_records.specs.Crash.{HasMember, is_in, members, valued, IsFrontOn, CrashStands, AtEveryMoment}
-use Rattle.protocol_laws.proofs.first.Lists.{all_back, all_filter, all_mid, filter_join, join_assoc}
+use Rattle.protocol_records.specs.Crash.{HasMember, is_in, members, NoneMissed, CrashStands, AtEveryMoment}
+use Rattle.protocol_laws.proofs.first.Lists.{all_back, all_filter, all_join, all_mid, both_all, weaker}
 use Rattle.protocol_laws.proofs.machine.Good.{Given, for_chain}
 use Rattle.protocol_laws.proofs.machine.AllGood.{owes, along_good, none_allowed}
 use Rattle.protocol_laws.proofs.machine.CommitsKept as committing
+use Rattle.protocol_theorems.specs.Order.{Shuffled}
+use Rattle.protocol_theorems.specs.OrderCases.{EachBehind}
+use Rattle.protocol_theorems.proofs.order.CasesHold.{shuffled_behind}
+use Rattle.protocol_theorems.proofs.order.OrderImplied.{shuffled_all}
 use Rattle.protocol_theorems.proofs.order.ChainsKept.{Chained, IsOver, no_done}
 use Rattle.protocol_theorems.proofs.order.RunsBefore.{lives}
 use Rattle.protocol_records.proofs.crash.TidsDiffer.{TidsDiffer, Owned, NotDone, pairs}
@@ -28,9 +32,9 @@ use Rattle.protocol_records.proofs.crash.TidsDiffer as tids
 use Rattle.protocol_theorems.proofs.order.LastLaw.{Whole, whole}
 use Rattle.protocol_theorems.proofs.order.LastLaw as last
 use Rattle.protocol_theorems.proofs.order.OrderLaw.{committed_grows}
-use Rattle.protocol_records.proofs.crash.FrontsKept.{valued_join}
-use Rattle.protocol_records.proofs.crash.CrashImplied.{moment_is_cut, front_runs, are_valued}
-use Rattle.protocol_records.proofs.crash.CrashSerial.{recovers, front_at, members_recover}
+use Rattle.protocol_records.proofs.crash.CrashImplied.{moment_is_cut, front_runs}
+use Rattle.protocol_records.proofs.crash.CrashParts.{none_missed_at, done_hold}
+use Rattle.protocol_records.proofs.crash.CrashSerial.{members_recover}
 use Rattle.protocol_records.proofs.crash.CrashClosed.{goes_on}
 use Rattle.protocol_records.proofs.crash.Acknowledged.{acknowledged}
 use Rattle.protocol_laws.proofs.machine.AlongHistory
@@ -38,60 +42,116 @@ use Rattle.protocol_records.proofs.crash.RecordsKept.{RecordsAreKept, in_is_kept
 use Rattle.protocol_records.proofs.crash.RecordsKept as records
 use Rattle.protocol.specs.Rests.{HasFacts, IsRest, IsTxIn}
 
--- ---- two lists that are one: what comes before one of the front is of the front
-
-in_front : (t u : ℕ) (xs ys zs ms rs : List Done) (x y : Done) → xs ++ x ∷ (ys ++ y ∷ zs) ≡ ms ++ rs → TidsDiffer (ms ++ rs) → x.tid ≡ t → y.tid ≡ u → list_any (λ d. d.tid == u) ms ≡ true → list_any (λ d. d.tid == t) ms ≡ true
-in_front t u xs ys zs [] rs x y e d i j k = absurd (true≢false (sym k))
-in_front t u [] ys zs (m ∷ ms) rs x y e d i j k = let q : x ≡ m = cc e in or_left (m.tid == t) _ (eq-eqb m.tid t (ap (λ z. z.tid) (sym q) ∙ i))
-in_front t u (f ∷ fs) ys zs (m ∷ ms) rs x y e d i j k =
-    let rest : fs ++ x ∷ (ys ++ y ∷ zs) ≡ ms ++ rs = cc e in
-    elim (or_cases (m.tid == u) (list_any (λ d. d.tid == u) ms) k) [
-      | inl q ↦ absurd (later fs (subst (AllByRecursion (λ e. m.tid ≡ e.tid → ⊥)) (sym rest) d.0) (eqb-true m.tid u q ∙ sym j))
-      | inr q ↦ or_right (m.tid == t) _ (in_front t u fs ys zs ms rs x y rest d.1 i j q)
-    ]
-  where
-    deep : (gs : List Done) → AllByRecursion (λ e. m.tid ≡ e.tid → ⊥) (gs ++ y ∷ zs) → m.tid ≡ y.tid → ⊥
-    deep [] h q = h.0 q
-    deep (g ∷ gs) h q = deep gs h.1 q
-
-    later : (gs : List Done) → AllByRecursion (λ e. m.tid ≡ e.tid → ⊥) (gs ++ x ∷ (ys ++ y ∷ zs)) → m.tid ≡ y.tid → ⊥
-    later [] h q = deep ys h.1 q
-    later (g ∷ gs) h q = later gs h.1 q
+-- ---- who is among the members
 
 any_split : (p : Done → Bool) (front : List Done) (d : Done) (rest : List Done) → p d ≡ true → list_any p (front ++ d ∷ rest) ≡ true
 any_split p [] d rest e = or_left (p d) _ e
 any_split p (x ∷ xs) d rest e = or_right (p x) _ (any_split p xs d rest e)
 
-any_filter : (p q : Done → Bool) (ds : List Done) → list_any p (filter q ds) ≡ true → list_any p ds ≡ true
-any_filter p q [] e = e
-any_filter p q (d ∷ ds) e = by (q d) e (any_filter p q ds)
-  where
-    by : (b : Bool) → list_any p (if b then d ∷ filter q ds else filter q ds) ≡ true → (list_any p (filter q ds) ≡ true → list_any p ds ≡ true) → (p d || list_any p ds) ≡ true
-    by true e k = elim (or_cases (p d) (list_any p (filter q ds)) e) [ inl v ↦ or_left (p d) _ v | inr v ↦ or_right (p d) _ (k v) ]
-    by false e k = or_right (p d) _ (k e)
+-- the one that stands behind is among these, and so is the one ahead, where it has a value
+abbrev WithIt : (Done → Bool) → List Done → Done → Done → Type 0
+WithIt mem ms d e = (d.reader && e.reader) ≡ false → list_any (λ x. x.tid == e.tid) ms ≡ true → is_value d.result ≡ true → list_any (λ x. x.tid == d.tid) ms ≡ true
 
+-- who passes the test is among them
+all_in : (mem : Done → Bool) (ds : List Done) → AllByRecursion (λ d. mem d ≡ true → list_any (λ x. x.tid == d.tid) (filter mem ds) ≡ true) ds
+all_in mem [] = tt
+all_in mem (d ∷ ds) = ((λ e. rw e (or_left (d.tid == d.tid) _ (eq-eqb d.tid d.tid refl))), weaker (λ x. mem x ≡ true → list_any (λ y. y.tid == x.tid) (filter mem ds) ≡ true) (λ x. mem x ≡ true → list_any (λ y. y.tid == x.tid) (filter mem (d ∷ ds)) ≡ true) ds (λ x k e. more x (mem d) (k e)) (all_in mem ds))
+  where
+    more : (x : Done) (b : Bool) → list_any (λ y. y.tid == x.tid) (filter mem ds) ≡ true → list_any (λ y. y.tid == x.tid) (if b then d ∷ filter mem ds else filter mem ds) ≡ true
+    more x true e = or_right (d.tid == x.tid) _ e
+    more x false e = e
+
+-- and who is among them passes it
+is_in_part : (mem : Done → Bool) (x : Done) (ds : List Done) → AllByRecursion (λ d. d.tid ≡ x.tid → d ≡ x) ds → list_any (λ y. y.tid == x.tid) (filter mem ds) ≡ true → mem x ≡ true
+is_in_part mem x [] u e = absurd (true≢false (sym e))
+is_in_part mem x (d ∷ ds) u e = by (mem d) refl e (is_in_part mem x ds u.1)
+  where
+    by : (b : Bool) → mem d ≡ b → list_any (λ y. y.tid == x.tid) (if b then d ∷ filter mem ds else filter mem ds) ≡ true → (list_any (λ y. y.tid == x.tid) (filter mem ds) ≡ true → mem x ≡ true) → mem x ≡ true
+    by true m e k = elim (or_cases (d.tid == x.tid) (list_any (λ y. y.tid == x.tid) (filter mem ds)) e) [ inl q ↦ subst (λ z. mem z ≡ true) (u.0 (eqb-true d.tid x.tid q)) m | inr q ↦ k q ]
+    by false m e k = k e
+
+are_in : (mem : Done → Bool) (ds : List Done) → TidsDiffer ds → AllByRecursion (λ x. list_any (λ y. y.tid == x.tid) (filter mem ds) ≡ true → mem x ≡ true) ds
+are_in mem ds t = weaker (λ x. AllByRecursion (λ d. d.tid ≡ x.tid → d ≡ x) ds) (λ x. list_any (λ y. y.tid == x.tid) (filter mem ds) ≡ true → mem x ≡ true) ds (λ x u e. is_in_part mem x ds u e) (pairs ds t)
+
+front_differ : (xs ys : List Done) → TidsDiffer (xs ++ ys) → TidsDiffer xs
+front_differ [] ys h = tt
+front_differ (x ∷ xs) ys h = (ahead xs h.0, front_differ xs ys h.1)
+  where
+    ahead : (zs : List Done) → AllByRecursion (λ e. x.tid ≡ e.tid → ⊥) (zs ++ ys) → AllByRecursion (λ e. x.tid ≡ e.tid → ⊥) zs
+    ahead [] k = tt
+    ahead (z ∷ zs) k = (k.0, ahead zs k.1)
+
+-- who came later is not among them
+none_new : (mem : Done → Bool) (xs ys : List Done) → TidsDiffer (xs ++ ys) → AllByRecursion (λ e. list_any (λ x. x.tid == e.tid) (filter mem xs) ≡ false) ys
+none_new mem [] ys h = nobody ys
+  where
+    nobody : (zs : List Done) → AllByRecursion (λ e. false ≡ false) zs
+    nobody [] = tt
+    nobody (z ∷ zs) = (refl, nobody zs)
+none_new mem (x ∷ xs) ys h = both_all (λ e. x.tid ≡ e.tid → ⊥) (λ e. list_any (λ x. x.tid == e.tid) (filter mem xs) ≡ false) (λ e. list_any (λ x. x.tid == e.tid) (filter mem (x ∷ xs)) ≡ false) ys (λ e n k. by e (mem x) n k) (all_back (λ e. x.tid ≡ e.tid → ⊥) xs ys h.0) (none_new mem xs ys h.1)
+  where
+    by : (e : Done) (b : Bool) → (x.tid ≡ e.tid → ⊥) → list_any (λ x. x.tid == e.tid) (filter mem xs) ≡ false → list_any (λ x. x.tid == e.tid) (if b then x ∷ filter mem xs else filter mem xs) ≡ false
+    by e true n k = or_from (x.tid == e.tid) _ (false_from_ne_true (x.tid == e.tid) (λ q. n (eqb-true x.tid e.tid q))) k
+    by e false n k = k
+
+-- of those that came to an actor
+came_all : (a : ℕ) (R : Done → Type 0) (ds : List Done) → AllByRecursion (λ e. came_to a e ≡ true → R e) ds → AllByRecursion R (visitors a ds)
+came_all a R [] h = tt
+came_all a R (d ∷ ds) h = by (came_to a d) h.0 (came_all a R ds h.1)
+  where
+    by : (b : Bool) → (b ≡ true → R d) → AllByRecursion R (visitors a ds) → AllByRecursion R (if b then d ∷ visitors a ds else visitors a ds)
+    by true r k = (r refl, k)
+    by false r k = k
+
+with_new : (a : ℕ) (mem : Done → Bool) (ms ys : List Done) → AllByRecursion (λ e. list_any (λ x. x.tid == e.tid) ms ≡ false) ys → EachBehind (WithIt mem ms) (visitors a ys)
+with_new a mem ms [] n = tt
+with_new a mem ms (y ∷ ys) n = by (came_to a y) (came_all a (WithIt mem ms y) ys (weaker (λ e. list_any (λ x. x.tid == e.tid) ms ≡ false) (λ e. came_to a e ≡ true → WithIt mem ms y e) ys (λ e k c r i. absurd (true≢false (sym i ∙ k))) n.1)) (with_new a mem ms ys n.1)
+  where
+    by : (b : Bool) → AllByRecursion (WithIt mem ms y) (visitors a ys) → EachBehind (WithIt mem ms) (visitors a ys) → EachBehind (WithIt mem ms) (if b then y ∷ visitors a ys else visitors a ys)
+    by true r k = (r, k)
+    by false r k = k
+
+every : {P : Done → Type 0} (ds : List Done) → ((d : Done) → P d) → AllByRecursion P ds
+every [] k = tt
+every (d ∷ ds) k = (k d, every ds k)
+
+with_early : (a : ℕ) (mem : Done → Bool) (ms xs ys : List Done) → AllByRecursion (λ d. mem d ≡ true → list_any (λ x. x.tid == d.tid) ms ≡ true) xs → AllByRecursion (λ d. list_any (λ x. x.tid == d.tid) ms ≡ true → mem d ≡ true) xs → AllByRecursion (λ e. list_any (λ x. x.tid == e.tid) ms ≡ false) ys → NoneMissed a mem xs
+    → EachBehind (WithIt mem ms) (visitors a (xs ++ ys))
+with_early a mem ms [] ys i j n m = with_new a mem ms ys n
+with_early a mem ms (x ∷ xs) ys i j n m = by (came_to a x) refl (with_early a mem ms xs ys i.1 j.1 n m.1)
+  where
+    one : came_to a x ≡ true → (e : Done) → (mem x ≡ false → is_value x.result ≡ true → mem e ≡ true → (x.reader && e.reader) ≡ false → is_some (e.views a) ≡ false) → (list_any (λ z. z.tid == e.tid) ms ≡ true → mem e ≡ true) → came_to a e ≡ true → WithIt mem ms x e
+    one c e k q came r in_ms v = elim (cases_Bool (mem x)) [
+      | inl y ↦ i.0 y
+      | inr y ↦ absurd (true≢false (sym came ∙ k y v (q in_ms) r))
+    ]
+
+    ahead : came_to a x ≡ true → AllByRecursion (λ e. came_to a e ≡ true → WithIt mem ms x e) (xs ++ ys)
+    ahead c = all_join (λ e. came_to a e ≡ true → WithIt mem ms x e) xs ys
+        (both_all (λ e. mem x ≡ false → is_value x.result ≡ true → mem e ≡ true → (x.reader && e.reader) ≡ false → is_some (e.views a) ≡ false) (λ e. list_any (λ z. z.tid == e.tid) ms ≡ true → mem e ≡ true) (λ e. came_to a e ≡ true → WithIt mem ms x e) xs (λ e k q. one c e k q) (missing c (cases_Bool (mem x)) (cases_Bool (is_value x.result))) j.1)
+        (weaker (λ e. list_any (λ z. z.tid == e.tid) ms ≡ false) (λ e. came_to a e ≡ true → WithIt mem ms x e) ys (λ e k came r in_ms. absurd (true≢false (sym in_ms ∙ k))) n)
+      where
+        missing : came_to a x ≡ true → (mem x ≡ true) ⊎ (mem x ≡ false) → (is_value x.result ≡ true) ⊎ (is_value x.result ≡ false) → AllByRecursion (λ e. mem x ≡ false → is_value x.result ≡ true → mem e ≡ true → (x.reader && e.reader) ≡ false → is_some (e.views a) ≡ false) xs
+        missing c (inl y) v = every xs (λ e f. absurd (true≢false (sym y ∙ f)))
+        missing c (inr y) (inr v) = every xs (λ e f g. absurd (true≢false (sym g ∙ v)))
+        missing c (inr y) (inl v) = weaker (λ e. mem e ≡ true → (x.reader && e.reader) ≡ false → is_some (e.views a) ≡ false) (λ e. mem x ≡ false → is_value x.result ≡ true → mem e ≡ true → (x.reader && e.reader) ≡ false → is_some (e.views a) ≡ false) xs (λ e k f g. k) (m.0 y c v)
+
+    by : (b : Bool) → came_to a x ≡ b → EachBehind (WithIt mem ms) (visitors a (xs ++ ys)) → EachBehind (WithIt mem ms) (if b then x ∷ visitors a (xs ++ ys) else visitors a (xs ++ ys))
+    by true c k = (came_all a (WithIt mem ms x) (xs ++ ys) (ahead c), k)
+    by false c k = k
+
+each_behind : (R : Done → Done → Type 0) (ds front between rest : List Done) (x y : Done) → ds ≡ front ++ x ∷ (between ++ y ∷ rest) → EachBehind (λ d e. (d.reader && e.reader) ≡ false → R d e) ds → (x.reader && y.reader) ≡ false → R x y
+each_behind R ds front between rest x y e h r = at front (subst (EachBehind (λ d e. (d.reader && e.reader) ≡ false → R d e)) e h)
+  where
+    at : (front : List Done) → EachBehind (λ d e. (d.reader && e.reader) ≡ false → R d e) (front ++ x ∷ (between ++ y ∷ rest)) → R x y
+    at [] k = all_mid (λ e. (x.reader && e.reader) ≡ false → R x e) y between rest k.0 r
+    at (z ∷ zs) k = at zs k.1
 has_member : (t : ℕ) (ds : List Done) → list_any (λ d. d.tid == t) ds ≡ true → HasMember t ds
 has_member t [] e = absurd (true≢false (sym e))
 has_member t (d ∷ ds) e = elim (or_cases (d.tid == t) (list_any (λ d. d.tid == t) ds) e) [
   | inl q ↦ record { done = d; front = []; rest = ds; splits = refl; is_it = eqb-true d.tid t q }
   | inr q ↦ let m = has_member t ds q in record { done = m.done; front = d ∷ m.front; rest = m.rest; splits = ap (λ l. d ∷ l) m.splits; is_it = m.is_it }
 ]
-
-all_tested : (p : Done → Bool) (ds : List Done) → AllByRecursion (λ d. p d ≡ true) (filter p ds)
-all_tested p [] = tt
-all_tested p (d ∷ ds) = by (p d) refl (all_tested p ds)
-  where
-    by : (b : Bool) → p d ≡ b → AllByRecursion (λ d. p d ≡ true) (filter p ds) → AllByRecursion (λ d. p d ≡ true) (if b then d ∷ filter p ds else filter p ds)
-    by true e h = (e, h)
-    by false e h = h
-
-differ_filter : (p : Done → Bool) (ds : List Done) → TidsDiffer ds → TidsDiffer (filter p ds)
-differ_filter p [] h = tt
-differ_filter p (d ∷ ds) h = by (p d) (differ_filter p ds h.1)
-  where
-    by : (b : Bool) → TidsDiffer (filter p ds) → TidsDiffer (if b then d ∷ filter p ds else filter p ds)
-    by true g = (all_filter _ p ds h.0, g)
-    by false g = g
 
 -- ---- tids differ over every run
 
@@ -117,11 +177,10 @@ both w Of finish es v run = along_good w Of finish (Both w Of finish) v
 
 -- With each of them all that the whole run places before it, and that committed with a value.
 pub parts_closed : {C : Type 0} (w : Fixed C) (finish : C → List State → Alone) (es events later : List Event) (test : Who → Bool) → es ≡ events ++ later → HasFacts w finish → IsText w.text → IsRun w es → 1 ≤ length w.text.opening.states
-    → ((a : ℕ) → IsFrontOn a (filter (λ d. test d.who && is_value d.result) (history w events).committed) (history w events).committed)
+    → ((a : ℕ) → NoneMissed a (λ d. test d.who && is_value d.result) (history w events).committed)
     → IsClosed (λ t. HasMember t (filter (λ d. test d.who && is_value d.result) (history w events).committed)) (history w es)
-parts_closed {C} w finish es events later test splits f text run some fronts t u mine before value =
-    has_member t ms (any_filter (λ d. d.tid == t) (came_to a) ms (any_filter (λ d. d.tid == t) (λ d. is_value d.result) (visitors a ms)
-    (in_front t u (vals p.front) (vals p.between) (vals p.rest) (valued a ms) rest p.first p.second parted differ p.is_first p.is_second there)))
+parts_closed {C} w finish es events later test splits f text run some missed t u mine before value =
+    has_member t ms (subst (λ n. list_any (λ d. d.tid == n) ms ≡ true) p.is_first (each_behind (WithIt mem ms) (chain a h) p.front p.between p.rest p.first p.second p.splits behind p.rivals p.rivals there first_value))
   where
     Of : Tx → C → Type 0
     Of = IsRest w.code (IsTxIn w.text)
@@ -132,6 +191,12 @@ parts_closed {C} w finish es events later test splits f text run some fronts t u
     h : History
     h = history w es
 
+    early : List Done
+    early = (history w events).committed
+
+    mem : Done → Bool
+    mem d = test d.who && is_value d.result
+
     ms : List Done
     ms = filter (λ d. test d.who && is_value d.result) (history w events).committed
 
@@ -141,79 +206,34 @@ parts_closed {C} w finish es events later test splits f text run some fronts t u
     p : Precedes t u (chain a h)
     p = before.1
 
-    vals : List Done → List Done
-    vals ds = filter (λ d. is_value d.result) ds
-
     end : Both w Of finish (reached w es) h
     end = both w Of finish es v run
 
     more : (new : List Done) × (h.committed ≡ (history w events).committed ++ new)
     more = let g = committed_grows w later (reached w events) (history w events) in (g.0, ap (λ xs. (history w xs).committed) splits ∙ (ap (λ z. z.committed) (goes_on w events later (opening w) no_history) ∙ g.1))
 
-    along : chain a h ≡ visitors a h.committed
+    along : Shuffled (chain a h) (visitors a h.committed)
     along = (end.whole.ordered.chained.chains a).chain
 
-    first_front : (r : List Done) × (valued a (history w events).committed ≡ valued a ms ++ r)
-    first_front = fronts a
+    differ : TidsDiffer (early ++ more.0)
+    differ = subst TidsDiffer more.1 end.owned.differ
 
-    rest : List Done
-    rest = first_front.0 ++ valued a more.0
-
-    joined : valued a h.committed ≡ valued a ms ++ rest
-    joined = ap (valued a) more.1 ∙ (valued_join a (history w events).committed more.0 ∙ (ap (λ z. z ++ valued a more.0) first_front.1 ∙ join_assoc (valued a ms) first_front.0 (valued a more.0)))
-
-    differ : TidsDiffer (valued a ms ++ rest)
-    differ = subst TidsDiffer joined (differ_filter (λ d. is_value d.result) (visitors a h.committed) (differ_filter (came_to a) h.committed end.owned.differ))
-
-    -- what is said of each that committed is so of both
-    in_chain : (P : Done → Type 0) → AllByRecursion P h.committed → AllByRecursion P (p.front ++ p.first ∷ (p.between ++ p.second ∷ p.rest))
-    in_chain P g = subst (AllByRecursion P) (sym along ∙ p.splits) (all_filter P (came_to a) h.committed g)
-
-    of_first : (P : Done → Type 0) → AllByRecursion P h.committed → P p.first
-    of_first P g = all_mid P p.first p.front (p.between ++ p.second ∷ p.rest) (in_chain P g)
-
-    of_second : (P : Done → Type 0) → AllByRecursion P h.committed → P p.second
-    of_second P g = all_mid P p.second p.between p.rest ((all_back P p.front (p.first ∷ (p.between ++ p.second ∷ p.rest)) (in_chain P g)).1)
+    -- in the order of commits, and so in that of placing
+    behind : EachBehind (λ d e. (d.reader && e.reader) ≡ false → WithIt mem ms d e) (chain a h)
+    behind = shuffled_behind (WithIt mem ms) (chain a h) (visitors a h.committed) along (subst (λ z. EachBehind (WithIt mem ms) (visitors a z)) (sym more.1) (with_early a mem ms early more.0 (all_in mem early) (are_in mem early (front_differ early more.0 differ)) (none_new mem early more.0 differ) (missed a)))
 
     unique : AllByRecursion (λ d. AllByRecursion (λ e. e.tid ≡ d.tid → e ≡ d) h.committed) h.committed
     unique = pairs h.committed end.owned.differ
 
     first_value : is_value p.first.result ≡ true
     first_value =
-        let one = all_mid (λ e. e.tid ≡ p.first.tid → e ≡ p.first) value.done value.front value.rest (subst (AllByRecursion (λ e. e.tid ≡ p.first.tid → e ≡ p.first)) value.splits (of_first (λ d. AllByRecursion (λ e. e.tid ≡ d.tid → e ≡ d) h.committed) unique)) in
+        let all = shuffled_all (λ d. AllByRecursion (λ e. e.tid ≡ d.tid → e ≡ d) h.committed) (chain a h) (visitors a h.committed) along (all_filter (λ d. AllByRecursion (λ e. e.tid ≡ d.tid → e ≡ d) h.committed) (came_to a) h.committed unique) in
+        let own = all_mid (λ d. AllByRecursion (λ e. e.tid ≡ d.tid → e ≡ d) h.committed) p.first p.front (p.between ++ p.second ∷ p.rest) (subst (AllByRecursion (λ d. AllByRecursion (λ e. e.tid ≡ d.tid → e ≡ d) h.committed)) p.splits all) in
+        let one = all_mid (λ e. e.tid ≡ p.first.tid → e ≡ p.first) value.done value.front value.rest (subst (AllByRecursion (λ e. e.tid ≡ p.first.tid → e ≡ p.first)) value.splits own) in
         ap (λ z. is_value z.result) (sym (one (value.is_it ∙ sym p.is_first))) ∙ value.value
 
-    front_all : (P : Done → Type 0) (xs ys : List Done) → AllByRecursion P (xs ++ ys) → AllByRecursion P xs
-    front_all P [] ys g = tt
-    front_all P (x ∷ xs) ys g = (g.0, front_all P xs ys g.1)
-
-    -- the second one is the member
-    same : mine.done ≡ p.second
-    same =
-        let all = of_second (λ d. AllByRecursion (λ e. e.tid ≡ d.tid → e ≡ d) h.committed) unique in
-        let early_ones = front_all (λ e. e.tid ≡ p.second.tid → e ≡ p.second) (history w events).committed more.0 (subst (AllByRecursion (λ e. e.tid ≡ p.second.tid → e ≡ p.second)) more.1 all) in
-        let one = all_mid (λ e. e.tid ≡ p.second.tid → e ≡ p.second) mine.done mine.front mine.rest (subst (AllByRecursion (λ e. e.tid ≡ p.second.tid → e ≡ p.second)) mine.splits (all_filter (λ e. e.tid ≡ p.second.tid → e ≡ p.second) _ (history w events).committed early_ones)) in
-        one (mine.is_it ∙ sym p.is_second)
-
-    second_value : is_value p.second.result ≡ true
-    second_value = ap (λ z. is_value z.result) (sym same) ∙ all_mid (λ d. is_value d.result ≡ true) mine.done mine.front mine.rest (subst (AllByRecursion (λ d. is_value d.result ≡ true)) mine.splits (are_valued test (history w events).committed))
-
-    second_came : came_to a p.second ≡ true
-    second_came = all_mid (λ d. came_to a d ≡ true) p.second p.between p.rest ((all_back (λ d. came_to a d ≡ true) p.front (p.first ∷ (p.between ++ p.second ∷ p.rest)) (subst (AllByRecursion (λ d. came_to a d ≡ true)) (sym along ∙ p.splits) (all_tested (came_to a) h.committed))).1)
-
-    parted : vals p.front ++ p.first ∷ (vals p.between ++ p.second ∷ vals p.rest) ≡ valued a ms ++ rest
-    parted =
-        let tail : vals (p.second ∷ p.rest) ≡ p.second ∷ vals p.rest = rw second_value refl in
-        let mid : vals (p.first ∷ (p.between ++ p.second ∷ p.rest)) ≡ p.first ∷ (vals p.between ++ p.second ∷ vals p.rest) = rw first_value (ap (λ z. p.first ∷ z) (filter_join (λ d. is_value d.result) p.between (p.second ∷ p.rest) ∙ ap (λ z. vals p.between ++ z) tail)) in
-        sym (ap vals (sym along ∙ p.splits) ∙ (filter_join (λ d. is_value d.result) p.front (p.first ∷ (p.between ++ p.second ∷ p.rest)) ∙ ap (λ z. vals p.front ++ z) mid)) ∙ joined
-
-    there : list_any (λ d. d.tid == u) (valued a ms) ≡ true
-    there = subst (λ z. list_any (λ d. d.tid == u) (valued a z) ≡ true) (sym mine.splits) (by second_value second_came)
-      where
-        by : is_value p.second.result ≡ true → came_to a p.second ≡ true → list_any (λ d. d.tid == u) (valued a (mine.front ++ mine.done ∷ mine.rest)) ≡ true
-        by e c =
-            let own : valued a (mine.done ∷ mine.rest) ≡ mine.done ∷ valued a mine.rest = rw (ap (came_to a) same ∙ c, ap (λ z. is_value z.result) same ∙ e) refl in
-            subst (λ z. list_any (λ d. d.tid == u) z ≡ true) (sym (valued_join a mine.front (mine.done ∷ mine.rest) ∙ ap (λ z. valued a mine.front ++ z) own)) (any_split (λ d. d.tid == u) (valued a mine.front) mine.done (valued a mine.rest) (eq-eqb mine.done.tid u mine.is_it))
+    there : list_any (λ d. d.tid == p.second.tid) ms ≡ true
+    there = subst (λ z. list_any (λ d. d.tid == p.second.tid) z ≡ true) (sym mine.splits) (any_split (λ d. d.tid == p.second.tid) mine.front mine.done mine.rest (eq-eqb mine.done.tid p.second.tid (mine.is_it ∙ sym p.is_second)))
 
 -- With each member all that the whole run places before it, and that committed with a value.
 pub members_closed : {C : Type 0} (w : Fixed C) (finish : C → List State → Alone) (es : List Event) (m : Moment w es) (left : ℕ → ℕ) → HasFacts w finish → IsText w.text → IsRun w es → IsLeft w es m left
@@ -221,7 +241,7 @@ pub members_closed : {C : Type 0} (w : Fixed C) (finish : C → List State → A
 members_closed w finish es m left f text run l some =
     let early = front_runs w m.events m.later (subst (λ xs. IsRun w xs) m.splits run) in
     parts_closed w finish es m.events m.later (is_in w.text.logs (left_in (reached w m.events) left)) m.splits f text run some
-    (λ a. front_at w (reached w m.events) (history w m.events) left a (moment_is_cut w es m left run l) ((recovers w (IsRest w.code (IsTxIn w.text)) finish m.events (record { text = text; actors = some; facts = f }) early).fronts.split a))
+    (λ a. none_missed_at w (reached w m.events) (history w m.events) left a (moment_is_cut w es m left run l) (done_hold w (IsRest w.code (IsTxIn w.text)) finish m.events (record { text = text; actors = some; facts = f }) early))
 
 -- ---- what holds of a crash
 

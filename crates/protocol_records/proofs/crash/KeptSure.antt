@@ -1,4 +1,4 @@
--- When a commit record is added, all that committed before it on one of its actors is durable.
+-- When one commits, all that committed before it on one of its actors is sure: it settled, was sealed, or left for good.
 use Rattle.std.specs.Prelude.{◌≡◌, refl, ℕ, ◌+◌, ◌≤◌, ◌<◌, ◌==◌, max, nat_le, not, Bool, true, false, ◌&&◌, ◌||◌, if◌then◌else◌, Option, Some, None, is_some, List, [], ◌∷◌, ◌++◌, length, map}
 use Rattle.std.specs.List.{AllByRecursion, list_any, list_all}
 use Rattle.std.proofs.Common.{arith, sym, ap, subst, inl, inr, ◌∙◌}
@@ -11,7 +11,7 @@ use Rattle.protocol.specs.Facts.{Alone}
 use Rattle.protocol.specs.Fixed.{Fixed, base}
 use Rattle.protocol.specs.Parts.{Act, Batch, Stage, Formed, Committing, Settled, Cascade, Who, OfBatch, OfAct, Waiting, Machine}
 use Rattle.protocol.specs.Events.{Event, Commit, Decide}
-use Rattle.protocol.specs.Words.{holds, is_who, is_value, is_doomed, is_live_status, is_settled, is_committing, is_formed, is_open, is_next_to_commit, is_aborted, act_of, batch_of, declared_of, waiting_of}
+use Rattle.protocol.specs.Words.{holds, is_who, is_value, is_doomed, is_live_status, is_sealed, is_settled, is_committing, is_formed, is_open, is_next_to_commit, is_aborted, act_of, batch_of, declared_of, waiting_of}
 use Rattle.protocol.specs.Conditions.{IsAllowed, conditions}
 use Rattle.protocol.specs.Effects.{after, cell_at}
 use Rattle.protocol.specs.History.{History, Ran, Stands, Gone, grown, kept_act, is_reader_act}
@@ -20,7 +20,7 @@ use Rattle.protocol_laws.specs.Commits.{is_kept, KeptFront}
 use Rattle.protocol_laws.specs.Befores.{Befores}
 use Rattle.protocol_laws.specs.Marks.{is_done, IsOver, Marked, Known}
 use Rattle.protocol_laws.specs.FromDesk.{is_declared}
-use Rattle.protocol_records.specs.Logged.{is_sure, is_on, GoneSure, AllGoneSure, KeptSure, AllKeptSure, BatchesSure}
+use Rattle.protocol_records.specs.Logged.{is_sure, is_on, GoneSure, AllGoneSure, KeptSure, AllKeptSure, BatchesSure, ActsSure}
 use Rattle.protocol_laws.proofs.machine.TrackLists
 use Rattle.protocol_laws.proofs.machine.TracksKept.{Tracked}
 use Rattle.protocol_laws.proofs.machine.TurnsKept.{one_is}
@@ -135,10 +135,25 @@ pub there_is : {X : Type 0} (o : Option X) → is_some o ≡ true → holds (λ 
 there_is None q = absurd (true≢false (sym q))
 there_is (Some x) q = refl
 
+-- What is sure: what settled, what was sealed with a value, and what left for good.
+pub record SureOf {C : Type 0} (sure : Who → Bool) (s : Machine C) (h : History) : Type 0 where
+  pub settled : (k : ℕ) → holds (λ b. is_settled b.stage) (batch_of k s.desk.batches) ≡ true → sure (OfBatch k) ≡ true
+  pub sealed : (t : ℕ) → holds (λ x. is_sealed x.status && is_value x.result) (act_of t s.book.acts) ≡ true → sure (OfAct t) ≡ true
+  pub gone : (a : ℕ) → GoneSure sure (h.long a)
+
+-- as what has a durable commit record is
+pub sure_of : {C : Type 0} (w : Fixed C) (s : Machine C) (h : History) → BatchesSure w s → ActsSure w s → AllGoneSure w s h → SureOf (is_sure w.text.logs s.logs) s h
+unfolding BatchesSure ActsSure AllGoneSure
+sure_of w s h b su gs = record {
+  settled = λ k q. let c = one_is (λ b. is_settled b.stage) (batch_of k s.desk.batches) q in (b k c.0 c.1).settled c.2;
+  sealed = λ t q. let x = one_is (λ x. is_sealed x.status && is_value x.result) (act_of t s.book.acts) q in let v = and_parts (is_sealed x.0.status) (is_value x.0.result) x.2 in (su t x.0 x.1).sealed v.0 v.1;
+  gone = gs;
+}
+
 -- when a batch commits, each batch that committed is settled
-kept_settled : {C : Type 0} (w : Fixed C) (k j : ℕ) (s : Machine C) (h : History) → IsAllowed w (Commit k) s → settling.Settling w s → Known s h → Marked s h → BatchesSure w s → is_kept (OfBatch j) h.kept ≡ true → is_sure w.text.logs s.logs (OfBatch j) ≡ true
-unfolding conditions Known Marked BatchesSure settling.Settling keys.OverBelow
-kept_settled w k j s h ok g n m b q =
+kept_settled : {C : Type 0} (w : Fixed C) (k j : ℕ) (s : Machine C) (h : History) → IsAllowed w (Commit k) s → settling.Settling w s → Known s h → Marked s h → is_kept (OfBatch j) h.kept ≡ true → holds (λ b. is_settled b.stage) (batch_of j s.desk.batches) ≡ true
+unfolding conditions Known Marked settling.Settling keys.OverBelow
+kept_settled w k j s h ok g n m q =
     let c = one_is (λ x. true) (batch_of j s.desk.batches) (there_is (batch_of j s.desk.batches) (n j q)) in
     let formed : is_formed c.0.stage ≡ false = not-true (is_formed c.0.stage) (sym (m j c.0 c.1).known ∙ q) in
     let y = one_is (λ b. is_open b && is_next_to_commit k s.desk.batches) (batch_of k s.desk.batches) ok.0 in
@@ -146,7 +161,7 @@ kept_settled w k j s h ok g n m b q =
     let o = and_parts (is_formed y.0.stage) (not y.0.aborted) v.0 in
     let ky = settling.in_keys y.0 (λ x. x.bid == k) s.desk.batches y.1 in
     let kc = settling.in_keys c.0 (λ x. x.bid == j) s.desk.batches c.1 in
-    (b j c.0 c.1).settled (elim (cases_Bool (is_committing c.0.stage)) [
+    subst (λ o. holds (λ b. is_settled b.stage) o ≡ true) (sym c.1) (elim (cases_Bool (is_committing c.0.stage)) [
       | inr f ↦ stage_cases c.0.stage formed f
       | inl f ↦ absurd (by c.0.stage y.0.stage (below c.0 y.0 kc.0 ky.0 kc.1 ky.1 formed f o.0 (not-true y.0.aborted o.1) v.1))
     ])
@@ -207,10 +222,10 @@ at_commit w k s ok g =
     record { batch = y.0; found = y.1; formed = o.0; sound = sym (settling.mark_is w s k y.0 y.1 g) ∙ not-true y.0.aborted o.1; noted = some_of (λ b. list_all (λ p. p.noted) b.places) (batch_of k s.desk.batches) y.0 y.1 ok.1.1.0 }
 
 -- who is on the actor when a batch that is there commits
-pub commit_sure : {C : Type 0} (w : Fixed C) (Of : Tx → C → Type 0) (finish : C → List State → Alone) (k a : ℕ) (s : Machine C) (h : History) → IsAllowed w (Commit k) s → AllGood w Of finish s h → BatchesSure w s → AllGoneSure w s h
-    → is_on (OfBatch k) (h.long a) ≡ true → (z : Who) → is_kept z h.kept ≡ true → is_on z (h.long a) ≡ true → is_sure w.text.logs s.logs z ≡ true
-unfolding Tracked Marked Committed AllGoneSure
-commit_sure w Of finish k a s h ok g b gs on z kz oz =
+pub commit_sure : {C : Type 0} (w : Fixed C) (Of : Tx → C → Type 0) (finish : C → List State → Alone) (k a : ℕ) (s : Machine C) (h : History) → (sure : Who → Bool) → IsAllowed w (Commit k) s → AllGood w Of finish s h → SureOf sure s h
+    → is_on (OfBatch k) (h.long a) ≡ true → (z : Who) → is_kept z h.kept ≡ true → is_on z (h.long a) ≡ true → sure z ≡ true
+unfolding Tracked Marked Committed
+commit_sure w Of finish k a s h sure ok g su on z kz oz =
     let c = at_commit w k s ok g.good.settling in
     let fresh : is_kept (OfBatch k) h.kept ≡ false = (g.good.marked k c.batch c.found).known ∙ ap not c.formed in
     let front = (g.good.committed a).front in
@@ -220,18 +235,17 @@ commit_sure w Of finish k a s h ok g b gs on z kz oz =
     let over = all_found (λ p. p.noted ≡ true → IsOver k s.book.cascades (h.long p.actor)) (λ p. p.actor == a) c.batch.places p.0 (g.good.marked k c.batch c.found).noted p.1 in
     elim (subst (λ v. IsOver k s.book.cascades (h.long v)) (eqb-true p.0.actor a over.1) (over.0 (list_all_at (λ p. p.actor == a) (λ p. p.noted) p.0 c.batch.places p.1 c.noted))) [
       | inl q ↦ absurd (true≢false (sym q ∙ c.sound))
-      | inr q ↦ ahead_of_batch (is_sure w.text.logs s.logs) h.kept k a s.desk.batches (h.long a) z fresh (λ j e. kept_settled w k j s h ok g.good.settling g.good.known g.good.marked b e) (gs a) front q (subst KeyOrder (g.good.tracked a).stands (key_order (cell_at s a).entries (g.good.from_desk.in_order a))) good kz oz
+      | inr q ↦ ahead_of_batch sure h.kept k a s.desk.batches (h.long a) z fresh (λ j e. su.settled j (kept_settled w k j s h ok g.good.settling g.good.known g.good.marked e)) (su.gone a) front q (subst KeyOrder (g.good.tracked a).stands (key_order (cell_at s a).entries (g.good.from_desk.in_order a))) good kz oz
     ]
 
 -- ---- an ACT gets its place
 
-pub settled_sure : {C : Type 0} (w : Fixed C) (s : Machine C) (k a : ℕ) → settling.Settling w s → BatchesSure w s → is_declared k a s.desk.batches ≡ true → k ≤ s.desk.settled → is_aborted k s.book.cascades ≡ false → is_sure w.text.logs s.logs (OfBatch k) ≡ true
-unfolding BatchesSure
-settled_sure w s k a g b e l n =
+pub settled_low : {C : Type 0} (w : Fixed C) (s : Machine C) (k a : ℕ) → settling.Settling w s → is_declared k a s.desk.batches ≡ true → k ≤ s.desk.settled → is_aborted k s.book.cascades ≡ false → holds (λ b. is_settled b.stage) (batch_of k s.desk.batches) ≡ true
+settled_low w s k a g e l n =
     let c = one_is (λ b. is_some (declared_of a b)) (batch_of k s.desk.batches) e in
     elim (or_cases c.0.aborted (is_settled c.0.stage) (settling.over_settled w s k c.0 c.1 g l)) [
       | inl q ↦ absurd (true≢false (sym q ∙ (settling.mark_is w s k c.0 c.1 g ∙ n)))
-      | inr q ↦ (b k c.0 c.1).settled q
+      | inr q ↦ subst (λ o. holds (λ b. is_settled b.stage) o ≡ true) (sym c.1) q
     ]
 
 pub record AtDecide {C : Type 0} (s : Machine C) (h : History) (t : ℕ) : Type 0 where
@@ -262,15 +276,15 @@ at_decide {C} w Of finish t s h ok g =
     }
 
 -- one that does not only read
-pub decide_sure : {C : Type 0} (w : Fixed C) (Of : Tx → C → Type 0) (finish : C → List State → Alone) (t a : ℕ) (s : Machine C) (h : History) → IsAllowed w (Decide t) s → AllGood w Of finish s h → BatchesSure w s → AllGoneSure w s h
-    → is_reader_act (act_of t s.book.acts) ≡ false → is_on (OfAct t) (h.long a) ≡ true → (z : Who) → is_kept z h.kept ≡ true → is_on z (h.long a) ≡ true → is_sure w.text.logs s.logs z ≡ true
-unfolding Tracked Committed AllGoneSure Numbers AllBehind Started ReadBy
-decide_sure w Of finish t a s h ok g b gs nr on z kz oz =
+pub decide_sure : {C : Type 0} (w : Fixed C) (Of : Tx → C → Type 0) (finish : C → List State → Alone) (t a : ℕ) (s : Machine C) (h : History) (sure : Who → Bool) → IsAllowed w (Decide t) s → AllGood w Of finish s h → SureOf sure s h
+    → is_reader_act (act_of t s.book.acts) ≡ false → is_on (OfAct t) (h.long a) ≡ true → (z : Who) → is_kept z h.kept ≡ true → is_on z (h.long a) ≡ true → sure z ≡ true
+unfolding Tracked Committed Numbers AllBehind Started ReadBy
+decide_sure w Of finish t a s h sure ok g su nr on z kz oz =
     let x = at_decide w Of finish t s h ok g in
     let front = (g.good.committed a).front in
-    ahead_of_act (is_sure w.text.logs s.logs) s.book.acts s.book.cascades s.desk.batches h.kept a 0 false t x.act (has_read (h.reads a)) (cell_at s a).inbox (h.long a) z x.found (live_not_doomed x.act.status x.live) (x.away a)
-    (λ j e l n. settled_sure w s j a g.good.settling b e (omega (arith, l, x.low)) n) (g.good.numbers a) (g.behind a) (g.good.tracked a).in_order
-    (subst (AllByRecursion (GoodKey a s.desk.batches)) (g.good.tracked a).stands (good_keys a s.desk.batches (cell_at s a).entries (g.good.from_desk.entries a))) (not_read a t s.book.acts (h.reads a) (no_reads (act_of t s.book.acts) nr) (g.read_by a)) (g.started a) (gs a) front x.fresh (on_key h.kept (OfAct t) (h.long a) x.fresh front on) kz oz
+    ahead_of_act sure s.book.acts s.book.cascades s.desk.batches h.kept a 0 false t x.act (has_read (h.reads a)) (cell_at s a).inbox (h.long a) z x.found (live_not_doomed x.act.status x.live) (x.away a)
+    (λ j e l n. su.settled j (settled_low w s j a g.good.settling e (omega (arith, l, x.low)) n)) (g.good.numbers a) (g.behind a) (g.good.tracked a).in_order
+    (subst (AllByRecursion (GoodKey a s.desk.batches)) (g.good.tracked a).stands (good_keys a s.desk.batches (cell_at s a).entries (g.good.from_desk.entries a))) (not_read a t s.book.acts (h.reads a) (no_reads (act_of t s.book.acts) nr) (g.read_by a)) (g.started a) (su.gone a) front x.fresh (on_key h.kept (OfAct t) (h.long a) x.fresh front on) kz oz
 
   where
     no_reads : (o : Option Act) → is_reader_act o ≡ false → holds (reads_at a) o ≡ false
@@ -282,18 +296,18 @@ decide_sure w Of finish t a s h ok g b gs nr on z kz oz =
 self : (kept : List Who) (y : Who) → is_kept y kept ≡ true → is_kept y kept ≡ true
 self kept y e = e
 
-pub kept_sure : {C : Type 0} (w : Fixed C) (Of : Tx → C → Type 0) (finish : C → List State → Alone) (e : Event) (s : Machine C) (h : History) → Given w Of finish → IsAllowed w e s → AllGood w Of finish s h → BatchesSure w s → AllGoneSure w s h → AllKeptSure w s h → AllKeptSure w (after w e s) (grown w e s h)
+pub kept_sure : {C : Type 0} (w : Fixed C) (Of : Tx → C → Type 0) (finish : C → List State → Alone) (e : Event) (s : Machine C) (h : History) → Given w Of finish → IsAllowed w e s → AllGood w Of finish s h → SureOf (is_sure w.text.logs s.logs) s h → AllKeptSure w s h → AllKeptSure w (after w e s) (grown w e s h)
 unfolding AllKeptSure grown
-kept_sure w Of finish (Commit k) s h v ok g b gs q = λ a. kept_same (is_sure w.text.logs s.logs) (is_sure w.text.logs (after w (Commit k) s).logs) (λ y. is_on y (h.long a)) (λ y. is_on y (h.long a)) (h.kept ++ OfBatch k ∷ []) (h.kept ++ OfBatch k ∷ []) (λ y i o. o) (λ y i. sure_stays w (Commit k) s y i) (self _)
-    (kept_more (is_sure w.text.logs s.logs) (λ y. is_on y (h.long a)) h.kept (OfBatch k) (λ o z kz oz. commit_sure w Of finish k a s h ok g b gs o z kz oz) (q a))
-kept_sure w Of finish (Decide t) s h v ok g b gs q = λ a. kept_same (is_sure w.text.logs s.logs) (is_sure w.text.logs (after w (Decide t) s).logs) (λ y. is_on y (h.long a)) (λ y. is_on y (h.long a)) (h.kept ++ kept_act (act_of t s.book.acts)) (h.kept ++ kept_act (act_of t s.book.acts)) (λ y i o. o) (λ y i. sure_stays w (Decide t) s y i) (self _) (one a)
+kept_sure w Of finish (Commit k) s h v ok g su q = λ a. kept_same (is_sure w.text.logs s.logs) (is_sure w.text.logs (after w (Commit k) s).logs) (λ y. is_on y (h.long a)) (λ y. is_on y (h.long a)) (h.kept ++ OfBatch k ∷ []) (h.kept ++ OfBatch k ∷ []) (λ y i o. o) (λ y i. sure_stays w (Commit k) s y i) (self _)
+    (kept_more (is_sure w.text.logs s.logs) (λ y. is_on y (h.long a)) h.kept (OfBatch k) (λ o z kz oz. commit_sure w Of finish k a s h (is_sure w.text.logs s.logs) ok g su o z kz oz) (q a))
+kept_sure w Of finish (Decide t) s h v ok g su q = λ a. kept_same (is_sure w.text.logs s.logs) (is_sure w.text.logs (after w (Decide t) s).logs) (λ y. is_on y (h.long a)) (λ y. is_on y (h.long a)) (h.kept ++ kept_act (act_of t s.book.acts)) (h.kept ++ kept_act (act_of t s.book.acts)) (λ y i o. o) (λ y i. sure_stays w (Decide t) s y i) (self _) (one a)
   where
     one : (a : ℕ) → KeptSure (is_sure w.text.logs s.logs) (λ y. is_on y (h.long a)) (h.kept ++ kept_act (act_of t s.book.acts))
     one a = let x = at_decide w Of finish t s h ok g in subst (λ o. KeptSure (is_sure w.text.logs s.logs) (λ y. is_on y (h.long a)) (h.kept ++ kept_act o)) (sym x.found) (by (is_value x.act.result) x.act.reader (ap is_reader_act x.found) x.act.tid x.tid)
       where
         by : (c v : Bool) → is_reader_act (act_of t s.book.acts) ≡ v → (u : ℕ) → u ≡ t → KeptSure (is_sure w.text.logs s.logs) (λ y. is_on y (h.long a)) (h.kept ++ (if c && not v then OfAct u ∷ [] else []))
-        by true false r u e = kept_more (is_sure w.text.logs s.logs) (λ y. is_on y (h.long a)) h.kept (OfAct u) (λ o z kz oz. decide_sure w Of finish t a s h ok g b gs r (subst (λ i. is_on (OfAct i) (h.long a) ≡ true) e o) z kz oz) (q a)
+        by true false r u e = kept_more (is_sure w.text.logs s.logs) (λ y. is_on y (h.long a)) h.kept (OfAct u) (λ o z kz oz. decide_sure w Of finish t a s h (is_sure w.text.logs s.logs) ok g su r (subst (λ i. is_on (OfAct i) (h.long a) ≡ true) e o) z kz oz) (q a)
         by true true r u e = subst (KeptSure (is_sure w.text.logs s.logs) (λ y. is_on y (h.long a))) (sym (append-nil h.kept)) (q a)
         by false v r u e = subst (KeptSure (is_sure w.text.logs s.logs) (λ y. is_on y (h.long a))) (sym (append-nil h.kept)) (q a)
-kept_sure w Of finish e s h v ok g b gs q = λ a. kept_same (is_sure w.text.logs s.logs) (is_sure w.text.logs (after w e s).logs) (λ y. is_on y (h.long a)) (λ y. is_on y ((grown w e s h).long a)) h.kept h.kept
+kept_sure w Of finish e s h v ok g su q = λ a. kept_same (is_sure w.text.logs s.logs) (is_sure w.text.logs (after w e s).logs) (λ y. is_on y (h.long a)) (λ y. is_on y ((grown w e s h).long a)) h.kept h.kept
     (λ y i o. sym (on_stays w e s h a y (whole.for_chain w Of finish e s h v ok (all.owes w Of finish e s h v ok g) g.good) g.good.committed i) ∙ o) (λ y i. sure_stays w e s y i) (self h.kept) (q a)

@@ -1,4 +1,4 @@
--- When a reader gets its place, all that committed on an actor where it came is durable.
+-- When a reader gets its place, all that committed on an actor where it came is sure.
 use Rattle.std.specs.Prelude.{◌≡◌, refl, ℕ, ◌≤◌, ◌==◌, max, not, Bool, true, false, ◌&&◌, ◌||◌, if◌then◌else◌, Option, Some, None, is_some, List, [], ◌∷◌, map}
 use Rattle.std.specs.List.{AllByRecursion, list_any}
 use Rattle.std.proofs.Common.{arith, sym, ap, subst, inl, inr, ◌∙◌}
@@ -17,7 +17,7 @@ use Rattle.protocol_laws.specs.Tracks.{key_of, keys_in, is_key_among, has_read}
 use Rattle.protocol_laws.specs.Commits.{is_kept, KeptFront}
 use Rattle.protocol_laws.specs.Befores.{Befores}
 use Rattle.protocol_laws.specs.FromDesk.{is_declared, EntryOf}
-use Rattle.protocol_records.specs.Logged.{is_sure, is_on, GoneSure, AllGoneSure, BatchesSure}
+use Rattle.protocol_records.specs.Logged.{is_on, GoneSure}
 use Rattle.protocol_laws.proofs.machine.TrackLists
 use Rattle.protocol_laws.proofs.machine.TracksKept.{Tracked}
 use Rattle.protocol_laws.proofs.machine.TurnsKept.{Turned}
@@ -30,7 +30,7 @@ use Rattle.protocol_laws.proofs.machine.ReadersKept.{LockOf, Locks, reader_of}
 use Rattle.protocol_laws.proofs.machine.ReadersSee.{AllSee, SeesAt, Lined, lined, none_has}
 use Rattle.protocol_laws.proofs.machine.AllGood.{AllGood}
 use Rattle.protocol_records.proofs.crash.OnLong.{on_kept}
-use Rattle.protocol_records.proofs.crash.KeptSure.{same_who, settled_sure, at_decide}
+use Rattle.protocol_records.proofs.crash.KeptSure.{SureOf, same_who, settled_low, at_decide}
 use Rattle.protocol_laws.proofs.first.Statuses.{live_not_doomed}
 
 ahead_of_reader : (sure : Who → Bool) (acts : List Act) (cs : List Cascade) (bs : List Batch) (kept : List Who) (a top : ℕ) (bad : Bool) (t : ℕ) (x : Act) (now : State) (zs : List Slice) (rs : List Ran) (es : List Entry) (y : Who) → act_of t acts ≡ Some x → is_doomed x.status ≡ false → x.reader ≡ true → has_read zs t ≡ true
@@ -87,7 +87,7 @@ ahead_of_reader sure acts cs bs kept a top bad t x now zs (Stands (OfAct m) c ss
     ]
 
 -- who reads is not among those that changed a state
-reader_not_kept : {C : Type 0} (s : Machine C) (h : History) (n : ℕ) → Acts s h → is_reader_act (act_of n s.book.acts) ≡ true → is_kept (OfAct n) h.kept ≡ false
+pub reader_not_kept : {C : Type 0} (s : Machine C) (h : History) (n : ℕ) → Acts s h → is_reader_act (act_of n s.book.acts) ≡ true → is_kept (OfAct n) h.kept ≡ false
 unfolding Acts
 reader_not_kept s h n i r = by (act_of n s.book.acts) refl r
   where
@@ -101,11 +101,11 @@ reader_not_kept s h n i r = by (act_of n s.book.acts) refl r
     by None e q = absurd (true≢false (sym q))
     by (Some x) e q = (i n x e).known ∙ last (is_ordered x.status) (is_value x.result) x.reader q
 
-pub reader_sure : {C : Type 0} (w : Fixed C) (Of : Tx → C → Type 0) (finish : C → List State → Alone) (t a : ℕ) (s : Machine C) (h : History) → IsAllowed w (Decide t) s → AllGood w Of finish s h → BatchesSure w s → AllGoneSure w s h
-    → is_reader_act (act_of t s.book.acts) ≡ true → has_read (h.reads a) t ≡ true → is_key_among (OfAct t) (keys_in (h.long a)) ≡ true → (y : Who) → is_kept y h.kept ≡ true → is_on y (h.long a) ≡ true → is_sure w.text.logs s.logs y ≡ true
-unfolding Tracked Turned Committed AllGoneSure Numbers AllBehind Locks AllSee
-reader_sure w Of finish t a s h ok g b gs r z i y ky o =
+pub reader_sure : {C : Type 0} (w : Fixed C) (Of : Tx → C → Type 0) (finish : C → List State → Alone) (t a : ℕ) (s : Machine C) (h : History) (sure : Who → Bool) → IsAllowed w (Decide t) s → AllGood w Of finish s h → SureOf sure s h
+    → is_reader_act (act_of t s.book.acts) ≡ true → has_read (h.reads a) t ≡ true → is_key_among (OfAct t) (keys_in (h.long a)) ≡ true → (y : Who) → is_kept y h.kept ≡ true → is_on y (h.long a) ≡ true → sure y ≡ true
+unfolding Tracked Turned Committed Numbers AllBehind Locks AllSee
+reader_sure w Of finish t a s h sure ok g su r z i y ky o =
     let x = at_decide w Of finish t s h ok g in
-    ahead_of_reader (is_sure w.text.logs s.logs) s.book.acts s.book.cascades s.desk.batches h.kept a 0 false t x.act (cell_at s a).state (h.reads a) (h.long a) (cell_at s a).entries y x.found (live_not_doomed x.act.status x.live) (sym (ap is_reader_act x.found) ∙ r) z
-    (λ j e l n. settled_sure w s j a g.good.settling b e (omega (arith, l, x.low)) n) (λ n q. reader_not_kept s h n g.acts q) (g.good.numbers a) (g.behind a) (g.good.from_desk.entries a) (g.locks a) (g.see a)
-    (lined (h.long a) (cell_at s a).entries (g.good.turned a) (g.good.tracked a).stands) (g.good.tracked a).stands (gs a) (g.good.committed a).front i ky o
+    ahead_of_reader sure s.book.acts s.book.cascades s.desk.batches h.kept a 0 false t x.act (cell_at s a).state (h.reads a) (h.long a) (cell_at s a).entries y x.found (live_not_doomed x.act.status x.live) (sym (ap is_reader_act x.found) ∙ r) z
+    (λ j e l n. su.settled j (settled_low w s j a g.good.settling e (omega (arith, l, x.low)) n)) (λ n q. reader_not_kept s h n g.acts q) (g.good.numbers a) (g.behind a) (g.good.from_desk.entries a) (g.locks a) (g.see a)
+    (lined (h.long a) (cell_at s a).entries (g.good.turned a) (g.good.tracked a).stands) (g.good.tracked a).stands (su.gone a) (g.good.committed a).front i ky o

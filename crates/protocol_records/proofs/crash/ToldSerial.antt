@@ -19,7 +19,7 @@ use Rattle.protocol.specs.Runs.{IsRun, reached}
 use Rattle.protocol.specs.History.{Done, History, history}
 use Rattle.protocol.specs.Rests.{IsRest, IsTxIn}
 use Rattle.protocol_laws.specs.Told.{is_at, ActTold, BatchTold, DoneFrom, PactFrom, FromBatches}
-use Rattle.protocol_records.specs.Crash.{IsFrontOn}
+use Rattle.protocol_records.specs.Crash.{NoneMissed}
 use Rattle.protocol_records.specs.AsTold.{is_over, told, ToldStands}
 use Rattle.protocol_laws.proofs.first.Lists.{both_all, weaker}
 use Rattle.protocol_laws.proofs.first.OnePlace.{transactions_in_one_place}
@@ -35,9 +35,9 @@ use Rattle.protocol_laws.proofs.machine.AllGood.{AllGood, all_good, none_allowed
 use Rattle.protocol_theorems.proofs.order.LastLaw.{all_facts}
 use Rattle.protocol_records.proofs.crash.Acknowledged.{Acked, member}
 use Rattle.protocol_records.proofs.crash.CrashImplied.{parts_serial}
-use Rattle.protocol_records.proofs.crash.CrashSerial.{front_by}
+use Rattle.protocol_records.proofs.crash.DonesSure.{none_missed}
 use Rattle.protocol_records.proofs.crash.IsClosedKept.{parts_closed}
-use Rattle.protocol_records.proofs.crash.OverFronts.{over_fronts}
+use Rattle.protocol_records.proofs.crash.OversSure.{overs_sure}
 
 -- ---- who is told is one of them
 
@@ -101,12 +101,12 @@ told_stand {C} w finish es f t run = by es run (length w.text.opening.states) re
     by : (es : List Event) → IsRun w es → (n : ℕ) → length w.text.opening.states ≡ n → ToldStands w finish (reached w es) (history w es)
     by es run (suc n) l =
         let v : Given w Of finish = record { text = t; actors = omega (arith, l); facts = f } in
-        let fronts : (a : ℕ) → IsFrontOn a (told (reached w es) (history w es)) (history w es).committed = λ a. front_by (is_over (reached w es)) (λ y. is_over (reached w es) y ≡ true) a (history w es).committed (λ y q. q) ((over_fronts w Of finish es v run).split a) in
+        let missed : (a : ℕ) → NoneMissed a (λ d. is_over (reached w es) d.who && is_value d.result) (history w es).committed = λ a. none_missed (is_over (reached w es)) (is_over (reached w es)) a (history w es).committed (λ y q. q) ((overs_sure w Of finish es v run).done a) in
         record {
           among = λ n p v' e. told_at w Of finish (reached w es) (history w es) (all_good w Of finish es v run) n (verdicts.Committed p v') e v' refl;
           are_told = each_told w Of finish (reached w es) (history w es) (all_good w Of finish es v run) (transactions_in_one_place w es t run);
-          closed = parts_closed w finish es es [] (is_over (reached w es)) (sym (append-nil es)) f t run (omega (arith, l)) fronts;
-          serial = (parts_serial w finish (reached w es) (history w es) (is_over (reached w es)) (all_facts w Of finish es f t run) (λ a k. fronts a)).serial;
+          closed = parts_closed w finish es es [] (is_over (reached w es)) (sym (append-nil es)) f t run (omega (arith, l)) missed;
+          serial = (parts_serial w finish (reached w es) (history w es) (is_over (reached w es)) (all_facts w Of finish es f t run) (λ a k. missed a)).serial;
         }
     by [] run zero l = record {
       among = λ n p v e. absurd (cc e);

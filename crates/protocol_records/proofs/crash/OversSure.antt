@@ -1,4 +1,4 @@
--- On each actor all that committed with a value is over, settled or sealed, but for the last one that came there.
+-- On each actor all that committed with a value, and has a rival behind it, is over: settled or sealed.
 use Rattle.std.specs.Prelude.{◌≡◌, refl, ℕ, ◌==◌, Bool, true, false, not, ◌&&◌, if◌then◌else◌, Option, Some, None, List, [], ◌∷◌, ◌++◌, map}
 use Rattle.std.proofs.Common.{sym, ap, subst, ◌∙◌}
 use Rattle.std.proofs.lemmas.Bool.{eqb-true, and_parts, true≢false, false_from_ne_true}
@@ -14,18 +14,20 @@ use Rattle.protocol.specs.Effects.{after, cell_at}
 use Rattle.protocol.specs.OnRing as ring
 use Rattle.protocol.specs.OnDesk as desk
 use Rattle.protocol.specs.Runs.{IsRun, reached}
-use Rattle.protocol.specs.History.{History, history, grown}
+use Rattle.protocol.specs.History.{History, Ran, Stands, Gone, history, grown}
 use Rattle.protocol_laws.specs.OneWay.{EachBecame, StatusWent, ActWent}
-use Rattle.protocol_records.specs.Crash.{valued}
+use Rattle.protocol_records.specs.Logged.{GoneSure, AllThere, AllHaveRead, DoneSure}
 use Rattle.protocol_records.specs.AsTold.{is_over}
 use Rattle.protocol_laws.proofs.first.OneWay.{went_on}
 use Rattle.protocol_laws.proofs.first.Statuses.{if_bid}
-use Rattle.protocol_laws.proofs.machine.Good.{Given, for_chain}
-use Rattle.protocol_laws.proofs.machine.AllGood.{AllGood, owes, along_good}
+use Rattle.protocol_laws.proofs.machine.Good.{Given}
+use Rattle.protocol_laws.proofs.machine.AllGood.{AllGood, along_good}
 use Rattle.protocol_records.proofs.crash.DurableKept.{AllGone, gone_before, gone_weaker, is_settled_batch, is_sealed_act}
-use Rattle.protocol_records.proofs.crash.FrontsKept.{Split, split_kept, split_weaker}
-use Rattle.protocol_records.proofs.crash.CrashSerial.{Recovers}
-use Rattle.protocol_records.proofs.crash.CrashSerial as recovering
+use Rattle.protocol_records.proofs.crash.KeptSure.{SureOf}
+use Rattle.protocol_records.proofs.crash.DonesSure.{there_kept, have_read_kept, done_grows}
+use Rattle.protocol_records.proofs.crash.CrashParts.{read_opened}
+use Rattle.protocol_theorems.proofs.order.LastLaw.{Whole}
+use Rattle.protocol_theorems.proofs.order.LastLaw as last
 
 -- ---- who is settled stays so
 
@@ -107,22 +109,30 @@ with_value (Some x) h = (and_parts (is_sealed x.status) (is_value x.result) h).0
 
 -- ---- along a run
 
-pub record OverFronts {C : Type 0} (w : Fixed C) (s : Machine C) (h : History) : Type 0 where
-  pub recovers : Recovers w s h
-  pub gone : (a : ℕ) → AllGone (λ y. is_over s y ≡ true) (h.long a)
-  pub split : (a : ℕ) → Split (λ y. is_over s y ≡ true) (valued a h.committed)
+over_gone : (test : Who → Bool) (rs : List Ran) → AllGone (λ y. test y ≡ true) rs → GoneSure test rs
+over_gone test [] h = tt
+over_gone test (Stands y c ss ∷ rs) h = over_gone test rs h
+over_gone test (Gone y ss ∷ rs) h = (h.0, over_gone test rs h.1)
 
-kept : {C : Type 0} (w : Fixed C) (Of : Tx → C → Type 0) (finish : C → List State → Alone) (e : Event) (s : Machine C) (h : History) → Given w Of finish → IsAllowed w e s → AllGood w Of finish s h → OverFronts w s h → OverFronts w (after w e s) (grown w e s h)
+pub record OversSure {C : Type 0} (w : Fixed C) (Of : Tx → C → Type 0) (finish : C → List State → Alone) (s : Machine C) (h : History) : Type 0 where
+  pub whole : Whole w Of finish s h
+  pub there : AllThere h
+  pub read : AllHaveRead h
+  pub gone : (a : ℕ) → AllGone (λ y. is_over s y ≡ true) (h.long a)
+  pub done : (a : ℕ) → DoneSure (is_over s) a h.committed
+
+kept : {C : Type 0} (w : Fixed C) (Of : Tx → C → Type 0) (finish : C → List State → Alone) (e : Event) (s : Machine C) (h : History) → Given w Of finish → IsAllowed w e s → AllGood w Of finish s h → OversSure w Of finish s h → OversSure w Of finish (after w e s) (grown w e s h)
 kept w Of finish e s h v ok g i =
-    let am = for_chain w Of finish e s h v ok (owes w Of finish e s h ok g) g.good in
+    let su : SureOf (is_over s) s h = record { settled = λ k q. q; sealed = λ t q. with_value (act_of t s.book.acts) q; gone = λ a. over_gone (is_over s) (h.long a) (i.gone a) } in
     record {
-      recovers = recovering.kept w Of finish e s h v ok g i.recovers;
+      whole = last.kept w Of finish e s h v ok g i.whole;
+      there = there_kept w Of finish e s h v ok g i.there;
+      read = have_read_kept w e s h i.read;
       gone = λ a. gone_weaker (λ y. is_over s y ≡ true) (λ y. is_over (after w e s) y ≡ true) ((grown w e s h).long a) (λ y q. over_stays w e s y ok q)
           (gone_before w (λ y. is_over s y ≡ true) e s h ok g.acts (λ k q. q) (λ t q. with_value (act_of t s.book.acts) q) i.gone a);
-      split = λ a. split_weaker (λ y. is_over s y ≡ true) (λ y. is_over (after w e s) y ≡ true) (valued a (grown w e s h).committed) (λ y q. over_stays w e s y ok q)
-          (split_kept w Of finish (λ y. is_over s y ≡ true) e s h ok am g (λ k q. q) i.gone i.recovers.fronts.there i.split a);
+      done = done_grows w Of finish e s h (is_over s) (is_over (after w e s)) v ok g i.whole.ordered.chained su i.there i.read (λ y q. over_stays w e s y ok q) i.done;
     }
 
-pub over_fronts : {C : Type 0} (w : Fixed C) (Of : Tx → C → Type 0) (finish : C → List State → Alone) (es : List Event) → Given w Of finish → IsRun w es → OverFronts w (reached w es) (history w es)
-over_fronts w Of finish es v run = along_good w Of finish (OverFronts w) v (λ e s h ok g i. kept w Of finish e s h v ok g i)
-    (record { recovers = recovering.opened w; gone = λ a. tt; split = λ a. record { front = []; last = []; who = OfAct 0; splits = refl; durable = tt; of_it = tt } }) es run
+pub overs_sure : {C : Type 0} (w : Fixed C) (Of : Tx → C → Type 0) (finish : C → List State → Alone) (es : List Event) → Given w Of finish → IsRun w es → OversSure w Of finish (reached w es) (history w es)
+unfolding AllThere
+overs_sure w Of finish es v run = along_good w Of finish (OversSure w Of finish) v (λ e s h ok g i. kept w Of finish e s h v ok g i) (record { whole = last.opened w Of finish v; there = tt; read = read_opened; gone = λ a. tt; done = λ a. tt }) es run
