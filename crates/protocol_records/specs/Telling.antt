@@ -1,7 +1,7 @@
 -- Only proofs cite this; the rule is `CrashHolds` (Crash).
 -- What the records of an actor tell of its state, beside its long schedule.
-use Rattle.std.specs.Prelude.{◌≡◌, ℕ, ◌%◌, ◌==◌, Bool, true, false, ◌&&◌, if◌then◌else◌, List, [], ◌∷◌, filter, slice_index_or}
-use Rattle.std.specs.List.{list_any}
+use Rattle.std.specs.Prelude.{◌≡◌, ℕ, ◌%◌, ◌==◌, Bool, true, false, not, ◌&&◌, ◌||◌, if◌then◌else◌, List, [], ◌∷◌, filter, slice_index_or}
+use Rattle.std.specs.List.{AllByRecursion, list_any}
 use Rattle.snap_base.specs.declared.transactions.State.{State}
 use Rattle.protocol.specs.Fixed.{Fixed, no_state}
 use Rattle.protocol.specs.Records.{LogRecord, BatchInfo, BatchComplete, BatchDone, ActPrepare, ActDone}
@@ -10,7 +10,7 @@ use Rattle.protocol.specs.Words.{is_who, is_act_who, is_value}
 use Rattle.protocol.specs.Effects.{log_at}
 use Rattle.protocol.specs.History.{Done, History, Slice, Ran, Stands, Gone}
 use Rattle.protocol_laws.specs.Commits.{is_kept, last_state, reads_who}
-use Rattle.protocol_records.specs.Logged.{is_on}
+use Rattle.protocol_records.specs.Logged.{is_on, is_sure}
 
 pub record One : Type 0 where
   pub who : Who
@@ -66,10 +66,44 @@ abbrev pub last_one : State → List One → State
 last_one s [] = s
 last_one s (o ∷ os) = last_one o.state os
 
--- For each set that is a front on the actor, the last of its records tells the state that its last one left.
+-- it committed with a value, and does not only read
+abbrev pub writes : Done → Bool
+writes d = is_value d.result && not d.reader
+
+-- Readers aside: for each set that is a front on the actor, the last of its records tells the state that its last one left.
 abbrev pub RecoversAt : ℕ → State → List Who → List Done → List Ran → List One → Type 0
 RecoversAt a first kept committed long os =
-    (P : Who → Bool) → FrontIn P (λ y. is_on y long) kept → last_one first (filter (λ o. P o.who && is_kept o.who kept) os) ≡ last_state a first (filter (λ d. P d.who && is_value d.result) committed)
+    (P : Who → Bool) → FrontIn P (λ y. is_on y long) kept → last_one first (filter (λ o. P o.who && is_kept o.who kept) os) ≡ last_state a first (filter (λ d. P d.who && writes d) committed)
 
 unfoldable pub Recovers : {C : Type 0} → Fixed C → Machine C → History → Type 0
 Recovers w s h = (a : ℕ) → RecoversAt a (slice_index_or w.text.opening.states a no_state) h.kept h.committed (h.long a) (told a (log_at s (a % w.text.logs)).records)
+
+-- ---- the records of readers
+
+-- what it has read there is the state that is told
+abbrev pub ToldRead : List Slice → One → Type 0
+ToldRead reads o = AllByRecursion (λ z. is_who o.who (OfAct z.tid) ≡ true → z.found ≡ o.state) reads
+
+unfoldable pub ToldReads : {C : Type 0} → Fixed C → Machine C → History → Type 0
+ToldReads w s h = (a : ℕ) → AllByRecursion (ToldRead (h.reads a)) (told a (log_at s (a % w.text.logs)).records)
+
+-- it is on the actor, has not committed, and does not only read
+abbrev pub is_open : (Who → Bool) → List Who → List Ran → Who → Bool
+is_open rd kept long y = is_on y long && (not (is_kept y kept) && not (rd y))
+
+-- Behind the record of one that is open there, no record is of a reader that committed.
+abbrev pub NoneLater : (Who → Bool) → List Who → List One → Type 0
+NoneLater open_there readers [] = Unit {0}
+NoneLater open_there readers (o ∷ os) = (open_there o.who ≡ true → AllByRecursion (λ v. is_kept v.who readers ≡ false) os) × NoneLater open_there readers os
+
+unfoldable pub AllNoneLater : {C : Type 0} → Fixed C → Machine C → History → Type 0
+AllNoneLater w s h = (a : ℕ) → NoneLater (is_open (reads_who s.book.acts) h.kept (h.long a)) h.kept_readers (told a (log_at s (a % w.text.logs)).records)
+
+-- Of each set that all that is sure is in, the records of readers tell nothing else than the others.
+abbrev pub ReadersAside : (Who → Bool) → State → List Who → List Who → List One → Type 0
+ReadersAside sure first kept readers os =
+    (P : Who → Bool) → ((y : Who) → sure y ≡ true → P y ≡ true)
+    → last_one first (filter (λ o. P o.who && (is_kept o.who kept || is_kept o.who readers)) os) ≡ last_one first (filter (λ o. P o.who && is_kept o.who kept) os)
+
+unfoldable pub AllAside : {C : Type 0} → Fixed C → Machine C → History → Type 0
+AllAside w s h = (a : ℕ) → ReadersAside (is_sure w.text.logs s.logs) (slice_index_or w.text.opening.states a no_state) h.kept h.kept_readers (told a (log_at s (a % w.text.logs)).records)

@@ -57,7 +57,7 @@ crash_of_every_moment {C} w finish es m kept f text run left = by (length w.text
         only (d ∷ ds) r = absurd (none_allowed w d text l r.0)
 
     nobody : (who : Who) → length w.text.opening.states ≡ 0 → is_in w.text.logs (left_in (reached w m.events) kept) who ≡ true → ⊥
-    nobody who l e = true≢false (sym (subst (λ ds. is_kept who (history w ds).kept ≡ true) (none l) (o.all_done who e)))
+    nobody who l e = true≢false (sym (subst (λ ds. (is_kept who (history w ds).kept || is_kept who (history w ds).kept_readers) ≡ true) (none l) (o.all_done who e)))
 
     by : (n : ℕ) → length w.text.opening.states ≡ n → CrashHolds w finish es (reached w m.events) (history w m.events) (left_in (reached w m.events) kept)
     by (suc n) l = crash_law w finish es m kept f text (omega (arith, l)) run left

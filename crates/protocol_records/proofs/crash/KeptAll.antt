@@ -15,12 +15,12 @@ use Rattle.protocol_laws.proofs.machine.ActsKept.{Acts}
 use Rattle.protocol_laws.proofs.machine.AllGood.{AllGood}
 use Rattle.protocol_laws.proofs.machine.ReadersCommit.{ReaderIn, ReadersOf, reads_with_value}
 
-no_batch : (acts : List Act) (k : ℕ) (ys : List Who) → AllByRecursion (ReaderIn acts) ys → is_kept (OfBatch k) ys ≡ true → ⊥
+pub no_batch : (acts : List Act) (k : ℕ) (ys : List Who) → AllByRecursion (ReaderIn acts) ys → is_kept (OfBatch k) ys ≡ true → ⊥
 no_batch acts k [] h e = true≢false (sym e)
 no_batch acts k (OfBatch j ∷ ys) h e = h.0
 no_batch acts k (OfAct t ∷ ys) h e = no_batch acts k ys h.1 e
 
-reader_there : (acts : List Act) (t : ℕ) (ys : List Who) → AllByRecursion (ReaderIn acts) ys → is_kept (OfAct t) ys ≡ true → holds reads_with_value (act_of t acts) ≡ true
+pub reader_there : (acts : List Act) (t : ℕ) (ys : List Who) → AllByRecursion (ReaderIn acts) ys → is_kept (OfAct t) ys ≡ true → holds reads_with_value (act_of t acts) ≡ true
 reader_there acts t [] h e = absurd (true≢false (sym e))
 reader_there acts t (OfBatch j ∷ ys) h e = absurd h.0
 reader_there acts t (OfAct u ∷ ys) h e = elim (or_cases (u == t) (is_kept (OfAct t) ys) e) [

@@ -3,7 +3,7 @@ use Rattle.std.specs.Prelude.{◌≡◌, refl, ℕ, ◌%◌, ◌==◌, not, Bool
 use Rattle.std.specs.List.{AllByRecursion, list_any, list_all}
 use Rattle.std.proofs.Common.{sym, ap, subst, inl, inr, ◌∙◌}
 use Rattle.std.proofs.lemmas.List.{append-nil}
-use Rattle.std.proofs.lemmas.Bool.{true≢false, or_cases, or_left, or_right, and_parts, eqb-true, eq-eqb}
+use Rattle.std.proofs.lemmas.Bool.{true≢false, or_cases, or_left, or_right, or_from, and_parts, eqb-true, eq-eqb, not-true}
 use Rattle.snap_base.specs.declared.transactions.Tx.{Tx}
 use Rattle.snap_base.specs.declared.transactions.State.{State}
 use Rattle.protocol.specs.Facts.{Alone}
@@ -14,12 +14,12 @@ use Rattle.protocol.specs.Events.{Event, Form, Complete, Sync, Commit, Prepare, 
 use Rattle.protocol.specs.Words.{holds, is_who, is_value, is_failure, is_doomed, act_of, batch_of, declared_of, is_ordered}
 use Rattle.protocol.specs.Conditions.{IsAllowed, conditions}
 use Rattle.protocol.specs.Effects.{after, cell_at, log_at, no_log, added}
-use Rattle.protocol.specs.History.{Done, History, Ran, grown, slices_of, view_in, done_pact, done_act, done_batch, kept_act}
+use Rattle.protocol.specs.History.{Done, History, Ran, grown, slices_of, view_in, done_pact, done_act, done_batch, kept_act, slices_for, is_reader_act}
 use Rattle.protocol_laws.specs.Tracks.{keys_in, Differ, Linked}
-use Rattle.protocol_laws.specs.Commits.{is_kept, last_state, kept_slices}
+use Rattle.protocol_laws.specs.Commits.{is_kept, StatesLink, last_state, kept_slices, reads_who}
 use Rattle.protocol_laws.specs.Marks.{is_done, Recorded, Marked}
 use Rattle.protocol_records.specs.Logged.{durable_at, logged_at, is_on, has_place, BatchesSure, ActsSure, ActsStand, OnJoined, Prepared, IsThere, AllThere}
-use Rattle.protocol_records.specs.Telling.{One, told, names, Telling, FrontIn, last_one, RecoversAt, Recovers}
+use Rattle.protocol_records.specs.Telling.{One, told, names, Telling, FrontIn, last_one, writes, RecoversAt, Recovers}
 use Rattle.protocol_laws.proofs.machine.TrackLists
 use Rattle.protocol_laws.proofs.machine.TracksKept.{Tracked}
 use Rattle.protocol_laws.proofs.machine.TurnsKept.{one_is}
@@ -35,12 +35,15 @@ use Rattle.protocol_records.proofs.crash.OnLong.{on_stays, on_key}
 use Rattle.protocol_records.proofs.crash.KeptSure.{declared_at, list_all_at, at_commit, at_decide}
 use Rattle.protocol_laws.proofs.machine.ActsOwed.{good_keys}
 use Rattle.protocol_records.proofs.crash.DonesSure.{view_on, own_batch, own_act}
-use Rattle.protocol_records.proofs.crash.TellsKept.{told_same, told_added, told_commit, told_all, completes_fresh, prepares_fresh}
+use Rattle.protocol_records.proofs.crash.TellsKept.{told_same, told_added, told_commit, told_all, completes_fresh, prepares_fresh, prepares_unread, no_batch_reads}
 use Rattle.protocol_records.proofs.crash.RecoverLists.{Commits1, recovers_commit, kept_end}
 use Rattle.protocol_laws.proofs.first.Lists.{all_found, any_take, filter_join, weaker}
 use Rattle.protocol_laws.proofs.first.Statuses.{live_not_doomed}
 use Rattle.protocol_laws.proofs.machine.MarksKept.{log_synced}
 use Rattle.protocol_records.proofs.crash.ActPlaces.{both}
+use Rattle.protocol_theorems.specs.Order.{LeavesIt}
+use Rattle.protocol_theorems.proofs.order.LastLaw.{Whole}
+use Rattle.protocol_theorems.proofs.order.LastLaw as last
 
 -- ---- nothing commits
 
@@ -58,13 +61,13 @@ front_same P on on' kept (y ∷ ys) k i h =
     ]
 
 -- what is told stays, or one more is told that did not commit
-abbrev pub ToldStep : List Who → List One → List One → Type 0
-ToldStep kept os os' = (os' ≡ os) ⊎ ((n : One) × (os' ≡ os ++ n ∷ []) × (is_kept n.who kept ≡ false))
+abbrev pub ToldStep : List Who → List Who → List One → List One → Type 0
+ToldStep kept readers os os' = (os' ≡ os) ⊎ ((n : One) × (os' ≡ os ++ n ∷ []) × (is_kept n.who kept ≡ false) × (is_kept n.who readers ≡ false))
 
-still : (a : ℕ) (first : State) (kept : List Who) (committed : List Done) (long long' : List Ran) (os os' : List One) → ((y : Who) → is_kept y kept ≡ true → is_on y long' ≡ is_on y long) → ToldStep kept os os' → RecoversAt a first kept committed long os → RecoversAt a first kept committed long' os'
-still a first kept committed long long' os os' k t r P f = same t ∙ r P (front_same P (λ y. is_on y long) (λ y. is_on y long') kept kept k (λ y e. e) f)
+still : (a : ℕ) (first : State) (kept readers : List Who) (committed : List Done) (long long' : List Ran) (os os' : List One) → ((y : Who) → is_kept y kept ≡ true → is_on y long' ≡ is_on y long) → ToldStep kept readers os os' → RecoversAt a first kept committed long os → RecoversAt a first kept committed long' os'
+still a first kept readers committed long long' os os' k t r P f = same t ∙ r P (front_same P (λ y. is_on y long) (λ y. is_on y long') kept kept k (λ y e. e) f)
   where
-    same : ToldStep kept os os' → last_one first (filter (λ o. P o.who && is_kept o.who kept) os') ≡ last_one first (filter (λ o. P o.who && is_kept o.who kept) os)
+    same : ToldStep kept readers os os' → last_one first (filter (λ o. P o.who && is_kept o.who kept) os') ≡ last_one first (filter (λ o. P o.who && is_kept o.who kept) os)
     same (inl e) = ap (λ z. last_one first (filter (λ o. P o.who && is_kept o.who kept) z)) e
     same (inr n) = ap (λ z. last_one first (filter (λ o. P o.who && is_kept o.who kept) z)) n.1
         ∙ (ap (last_one first) (filter_join (λ o. P o.who && is_kept o.who kept) os (n.0 ∷ []))
@@ -74,7 +77,7 @@ still a first kept committed long long' os os' k t r P f = same t ∙ r P (front
         none true e = rw e refl
         none false e = refl
 
-told_step : {C : Type 0} (w : Fixed C) (Of : Tx → C → Type 0) (finish : C → List State → Alone) (e : Event) (s : Machine C) (h : History) (c : ℕ) → IsAllowed w e s → AllGood w Of finish s h → ActsSure w s → ActsStand s h → ToldStep h.kept (told c (log_at s (c % w.text.logs)).records) (told c (log_at (after w e s) (c % w.text.logs)).records)
+pub told_step : {C : Type 0} (w : Fixed C) (Of : Tx → C → Type 0) (finish : C → List State → Alone) (e : Event) (s : Machine C) (h : History) (c : ℕ) → IsAllowed w e s → AllGood w Of finish s h → ActsSure w s → ActsStand s h → ToldStep h.kept h.kept_readers (told c (log_at s (c % w.text.logs)).records) (told c (log_at (after w e s) (c % w.text.logs)).records)
 unfolding after
 told_step w Of finish (Form k) s h c ok g su st = inl (told_same c _ s.logs (k % w.text.logs) (c % w.text.logs) refl)
 told_step w Of finish (Commit k) s h c ok g su st = inl (told_same c _ s.logs (k % w.text.logs) (c % w.text.logs) refl)
@@ -83,14 +86,14 @@ told_step w Of finish (Sync l) s h c ok g su st = inl (ap (told c) (log_synced s
 told_step w Of finish (Complete k a) s h c ok g su st = elim (told_added c (BatchComplete k a (cell_at s a).state ∷ []) s.logs (a % w.text.logs) (c % w.text.logs)) [ inl q ↦ inl q | inr q ↦ by (a == c) q ]
   where
     by : (v : Bool) → told c (slice_index_or (slice_set s.logs (a % w.text.logs) (added (BatchComplete k a (cell_at s a).state ∷ []) (slice_index_or s.logs (a % w.text.logs) no_log))) (c % w.text.logs) no_log).records ≡ told c (slice_index_or s.logs (c % w.text.logs) no_log).records ++ (if v then record { who = OfBatch k; state = (cell_at s a).state } ∷ [] else [])
-        → ToldStep h.kept (told c (slice_index_or s.logs (c % w.text.logs) no_log).records) (told c (slice_index_or (slice_set s.logs (a % w.text.logs) (added (BatchComplete k a (cell_at s a).state ∷ []) (slice_index_or s.logs (a % w.text.logs) no_log))) (c % w.text.logs) no_log).records)
-    by true q = inr (record { who = OfBatch k; state = (cell_at s a).state }, q, completes_fresh w Of finish k a s h ok g)
+        → ToldStep h.kept h.kept_readers (told c (slice_index_or s.logs (c % w.text.logs) no_log).records) (told c (slice_index_or (slice_set s.logs (a % w.text.logs) (added (BatchComplete k a (cell_at s a).state ∷ []) (slice_index_or s.logs (a % w.text.logs) no_log))) (c % w.text.logs) no_log).records)
+    by true q = inr (record { who = OfBatch k; state = (cell_at s a).state }, q, completes_fresh w Of finish k a s h ok g, no_batch_reads w Of finish s h k g)
     by false q = inl (q ∙ append-nil (told c (slice_index_or s.logs (c % w.text.logs) no_log).records))
 told_step w Of finish (Prepare t a) s h c ok g su st = elim (told_added c (ActPrepare t a (cell_at s a).state ∷ []) s.logs (a % w.text.logs) (c % w.text.logs)) [ inl q ↦ inl q | inr q ↦ by (a == c) q ]
   where
     by : (v : Bool) → told c (slice_index_or (slice_set s.logs (a % w.text.logs) (added (ActPrepare t a (cell_at s a).state ∷ []) (slice_index_or s.logs (a % w.text.logs) no_log))) (c % w.text.logs) no_log).records ≡ told c (slice_index_or s.logs (c % w.text.logs) no_log).records ++ (if v then record { who = OfAct t; state = (cell_at s a).state } ∷ [] else [])
-        → ToldStep h.kept (told c (slice_index_or s.logs (c % w.text.logs) no_log).records) (told c (slice_index_or (slice_set s.logs (a % w.text.logs) (added (ActPrepare t a (cell_at s a).state ∷ []) (slice_index_or s.logs (a % w.text.logs) no_log))) (c % w.text.logs) no_log).records)
-    by true q = inr (record { who = OfAct t; state = (cell_at s a).state }, q, prepares_fresh w t a s h ok g.acts su st)
+        → ToldStep h.kept h.kept_readers (told c (slice_index_or s.logs (c % w.text.logs) no_log).records) (told c (slice_index_or (slice_set s.logs (a % w.text.logs) (added (ActPrepare t a (cell_at s a).state ∷ []) (slice_index_or s.logs (a % w.text.logs) no_log))) (c % w.text.logs) no_log).records)
+    by true q = inr (record { who = OfAct t; state = (cell_at s a).state }, q, prepares_fresh w t a s h ok g.acts su st, prepares_unread w Of finish t a s h ok g su st)
     by false q = inl (q ∙ append-nil (told c (slice_index_or s.logs (c % w.text.logs) no_log).records))
 told_step w Of finish e s h c ok g su st = inl refl
 
@@ -117,12 +120,19 @@ placed_sound (Rattle.protocol.specs.Parts.Doomed v) e = absurd (true≢false (sy
 placed_sound (Rattle.protocol.specs.Parts.Decided c) e = refl
 placed_sound (Rattle.protocol.specs.Parts.Sealed c) e = refl
 
-act_record_on : {C : Type 0} (w : Fixed C) (s : Machine C) (h : History) (t a : ℕ) → ActsStand s h → Prepared w s → logged_at (is_prepare t a) s.logs (a % w.text.logs) ≡ true → ((x : Act) → act_of t s.book.acts ≡ Some x → is_doomed x.status ≡ false) → is_on (OfAct t) (h.long a) ≡ true
+-- one that committed, and does not only read
+kept_act_sound : (x : Act) → (is_ordered x.status && (is_value x.result && not x.reader)) ≡ true → (is_doomed x.status ≡ false) × (x.reader ≡ false)
+kept_act_sound x e =
+    let p = and_parts (is_ordered x.status) (is_value x.result && not x.reader) e in
+    (placed_sound x.status p.0, not-true x.reader (and_parts (is_value x.result) (not x.reader) p.1).1)
+
+act_record_on : {C : Type 0} (w : Fixed C) (s : Machine C) (h : History) (t a : ℕ) → ActsStand s h → Prepared w s → logged_at (is_prepare t a) s.logs (a % w.text.logs) ≡ true → ((x : Act) → act_of t s.book.acts ≡ Some x → (is_doomed x.status ≡ false) × (x.reader ≡ false)) → is_on (OfAct t) (h.long a) ≡ true
 unfolding ActsStand Prepared
 act_record_on w s h t a st pr q d =
     let x = one_is (λ x. is_value x.result && has_place a x) (act_of t s.book.acts) (pr t a q) in
     let v = and_parts (is_value x.0.result) (has_place a x.0) x.2 in
-    place_on t a h.long x.0.places v.1 ((st t x.0 x.1).on (d x.0 x.1) (value_fails x.0.result v.0))
+    let e = d x.0 x.1 in
+    place_on t a h.long x.0.places v.1 ((st t x.0 x.1).on e.0 (or_from (is_failure x.0.result) x.0.reader (value_fails x.0.result v.0) e.1))
 
 -- who has a record is named
 pub named_batch : (k a : ℕ) (rs : List LogRecord) → list_any (is_complete k a) rs ≡ true → names (OfBatch k) (told a rs) ≡ true
@@ -163,16 +173,12 @@ named_act t a (Rattle.protocol.specs.Records.ActDone j m c v actors ∷ rs) h = 
 
 -- ---- a batch or an ACT commits
 
-there_at : (kept : List Who) (long : ℕ → List Ran) (a : ℕ) (ds : List Done) → AllByRecursion (IsThere kept long) ds → AllByRecursion (λ d. is_some (d.views a) ≡ true → is_value d.result ≡ true → (is_kept d.who kept ≡ true) × (is_on d.who (long a) ≡ true)) ds
-there_at kept long a ds h = weaker (IsThere kept long) _ ds (λ d p v u. (p.known u, p.there a v u)) h
+pub there_at : (kept : List Who) (long : ℕ → List Ran) (a : ℕ) (ds : List Done) → AllByRecursion (IsThere kept long) ds → AllByRecursion (λ d. is_some (d.views a) ≡ true → writes d ≡ true → (is_kept d.who kept ≡ true) × (is_on d.who (long a) ≡ true)) ds
+there_at kept long a ds h = weaker (IsThere kept long) (λ d. is_some (d.views a) ≡ true → writes d ≡ true → (is_kept d.who kept ≡ true) × (is_on d.who (long a) ≡ true)) ds (λ d p v u. let q = and_parts (is_value d.result) (not d.reader) u in let r = not-true d.reader q.1 in (p.known q.0 r, p.there a v q.0 r)) h
 
 came_batch : (k a : ℕ) (h : History) (ps : List Pact) → AllByRecursion (λ d. is_some (d.views a) ≡ true → is_on (OfBatch k) (h.long a) ≡ true) (map (done_pact k h) ps)
 came_batch k a h [] = tt
 came_batch k a h (p ∷ ps) = ((λ v. view_on p.tid (OfBatch k) (h.long a) v), came_batch k a h ps)
-
-values_batch : (k : ℕ) (h : History) (ps : List Pact) → AllByRecursion (λ p. is_value p.result ≡ true) ps → AllByRecursion (λ d. is_value d.result ≡ true) (map (done_pact k h) ps)
-values_batch k h [] v = tt
-values_batch k h (p ∷ ps) v = (v.0, values_batch k h ps v.1)
 
 -- the record of each actor of a batch that commits
 batch_record : {C : Type 0} (w : Fixed C) (Of : Tx → C → Type 0) (finish : C → List State → Alone) (k a : ℕ) (s : Machine C) (h : History) → IsAllowed w (Commit k) s → AllGood w Of finish s h → BatchesSure w s → is_on (OfBatch k) (h.long a) ≡ true → names (OfBatch k) (told a (log_at s (a % w.text.logs)).records) ≡ true
@@ -208,10 +214,10 @@ differs_at w s h a t = subst Differ (t a).stands (t a).differ
 abbrev pub first_of : {C : Type 0} → Fixed C → ℕ → State
 first_of w a = slice_index_or w.text.opening.states a no_state
 
-one_batch : {C : Type 0} (w : Fixed C) (Of : Tx → C → Type 0) (finish : C → List State → Alone) (k a : ℕ) (s : Machine C) (h : History) → Given w Of finish → IsAllowed w (Commit k) s → AllGood w Of finish s h → BatchesSure w s → ActsStand s h → Prepared w s → AllThere h → Telling w s h
-    → Commits1 a (first_of w a) h.kept h.committed (done_batch k h (batch_of k s.desk.batches)) (OfBatch k) (h.long a) (told a (log_at s (a % w.text.logs)).records)
+pub one_batch : {C : Type 0} (w : Fixed C) (Of : Tx → C → Type 0) (finish : C → List State → Alone) (k a : ℕ) (s : Machine C) (h : History) → Given w Of finish → IsAllowed w (Commit k) s → AllGood w Of finish s h → BatchesSure w s → ActsStand s h → Prepared w s → AllThere h → Telling w s h → Whole w Of finish s h
+    → Commits1 a (reads_who s.book.acts) (first_of w a) h.kept h.committed (done_batch k h (batch_of k s.desk.batches)) (OfBatch k) (h.long a) (told a (log_at s (a % w.text.logs)).records)
 unfolding Committed Telling AllThere Recorded Acts grown chain.Assumed
-one_batch w Of finish k a s h v ok g b st pr th te =
+one_batch w Of finish k a s h v ok g b st pr th te wh =
     let m = commits.may_commit w k s h ok g.good.settling g.good.known g.good.marked g.good.placed g.good.tracked g.good.turned g.good.from_desk g.good.numbered in
     let c = at_commit w k s ok g.good.settling in
     record {
@@ -221,10 +227,12 @@ one_batch w Of finish k a s h v ok g b st pr th te =
       differ = differs_at w s h a g.good.tracked;
       ends = (chain.kept w (Commit k) s h ok m g.good.tracked g.good.committed a).ends;
       there = there_at h.kept h.long a h.committed th;
+      links = (chain.kept w (Commit k) s h ok m g.good.tracked g.good.committed a).links;
+      still = (last.kept w Of finish (Commit k) s h v ok g wh).ordered.stills a;
       own = own_batch k h (batch_of k s.desk.batches);
       came = subst (λ o. AllByRecursion (λ d. is_some (d.views a) ≡ true → is_on (OfBatch k) (h.long a) ≡ true) (done_batch k h o)) (sym m.1.is_it) (came_batch k a h m.0.pacts);
-      values = subst (λ o. AllByRecursion (λ d. is_value d.result ≡ true) (done_batch k h o)) (sym m.1.is_it) (values_batch k h m.0.pacts m.1.values);
       tells = te a;
+      other = refl;
       recorded = told_all (λ y. is_kept y (h.kept ++ OfBatch k ∷ []) ≡ true → is_on y (h.long a) ≡ true) a (log_at s (a % w.text.logs)).records
           (λ j q kk. elim (g.good.recorded j a q) [
             | inr u ↦ done_on j (h.long a) u
@@ -233,75 +241,76 @@ one_batch w Of finish k a s h v ok g b st pr th te =
               | inr i ↦ true≢false (sym u ∙ (ap (λ z. Rattle.protocol.specs.Words.is_aborted z s.book.cascades) (sym (eqb-true k j i)) ∙ c.sound))
             ])
           ])
-          (λ t q kk. act_record_on w s h t a st pr q (λ x e. elim (kept_end (OfBatch k) (OfAct t) h.kept kk) [ inl i ↦ placed_sound x.status (and_parts (is_ordered x.status) (is_value x.result) (sym (g.acts t x e).known ∙ i)).0 | inr i ↦ absurd (true≢false (sym i)) ]));
+          (λ t q kk. act_record_on w s h t a st pr q (λ x e. elim (kept_end (OfBatch k) (OfAct t) h.kept kk) [ inl i ↦ kept_act_sound x (sym (g.acts t x e).known ∙ i) | inr i ↦ absurd (true≢false (sym i)) ]));
       has_record = λ on. batch_record w Of finish k a s h ok g b on;
     }
 
-one_act : {C : Type 0} (w : Fixed C) (Of : Tx → C → Type 0) (finish : C → List State → Alone) (t a : ℕ) (s : Machine C) (h : History) (x : Act) → Given w Of finish → IsAllowed w (Decide t) s → AllGood w Of finish s h → ActsSure w s → ActsStand s h → OnJoined s h → Prepared w s → AllThere h → Telling w s h
-    → act_of t s.book.acts ≡ Some x → x.tid ≡ t → is_value x.result ≡ true → Rattle.protocol.specs.Words.is_live_status x.status ≡ true
-    → Linked (first_of w a) (kept_slices (h.kept ++ OfAct t ∷ []) (h.long a)) (last_state a (first_of w a) (h.committed ++ done_act s.book.next_c h (Some x)))
-    → Commits1 a (first_of w a) h.kept h.committed (done_act s.book.next_c h (Some x)) (OfAct t) (h.long a) (told a (log_at s (a % w.text.logs)).records)
-unfolding Committed Telling AllThere Recorded Acts
-one_act w Of finish t a s h x v ok g su st j pr th te e i vx lx ends =
-    let m = Rattle.protocol_laws.proofs.machine.ActsOwed.may_decide w t s h ok g.good.settling g.good.marked g.good.tracked g.good.turned g.good.from_desk g.good.numbers g.none g.acts g.sizes g.behind g.started in
+pub one_act : {C : Type 0} (w : Fixed C) (Of : Tx → C → Type 0) (finish : C → List State → Alone) (t a : ℕ) (s : Machine C) (h : History) (x : Act) → Given w Of finish → IsAllowed w (Decide t) s → AllGood w Of finish s h → ActsSure w s → ActsStand s h → OnJoined s h → Prepared w s → AllThere h → Telling w s h → Whole w Of finish s h
+    → act_of t s.book.acts ≡ Some x → x.tid ≡ t → is_value x.result ≡ true → x.reader ≡ false → Rattle.protocol.specs.Words.is_live_status x.status ≡ true
+    → Commits1 a (reads_who s.book.acts) (first_of w a) h.kept h.committed (done_act s.book.next_c h (Some x)) (OfAct t) (h.long a) (told a (log_at s (a % w.text.logs)).records)
+unfolding Committed Telling AllThere Recorded Acts grown chain.Assumed
+one_act {C} w Of finish t a s h x v ok g su st j pr th te wh e i vx rx lx =
+    let m = whole.for_chain w Of finish (Decide t) s h v ok (all.owes w Of finish (Decide t) s h v ok g) g.good in
+    let same : m.0 ≡ x = cc (sym m.1.is_it ∙ e) in
+    let c = chain.kept w (Decide t) s h ok m g.good.tracked g.good.committed a in
+    let ks : kept_act (act_of t s.book.acts) ≡ OfAct t ∷ [] = ap kept_act e ∙ rw (vx, rx, i) refl in
     record {
       fresh = m.1.fresh;
       front = (g.good.committed a).front;
-      ahead = m.1.ahead a;
+      ahead = m.1.ahead (ap (λ z. z.reader) same ∙ rx) a;
       differ = differs_at w s h a g.good.tracked;
-      ends = ends;
+      ends = subst (λ o. Linked (first_of w a) (kept_slices (h.kept ++ OfAct t ∷ []) (h.long a)) (last_state a (first_of w a) (h.committed ++ done_act s.book.next_c h o))) e (subst (λ z. Linked (first_of w a) (kept_slices (h.kept ++ z) (h.long a)) (last_state a (first_of w a) (h.committed ++ done_act s.book.next_c h (act_of t s.book.acts)))) ks c.ends);
       there = there_at h.kept h.long a h.committed th;
+      links = subst (λ o. StatesLink a (first_of w a) (h.committed ++ done_act s.book.next_c h o)) e c.links;
+      still = subst (λ o. AllByRecursion (λ d. d.reader ≡ true → LeavesIt (d.views a)) (h.committed ++ done_act s.book.next_c h o)) e ((last.kept w Of finish (Decide t) s h v ok g wh).ordered.stills a);
       own = own_act s.book.next_c t h (Some x) x refl i;
-      came = ((λ u. subst (λ z. is_on (OfAct z) (h.long a) ≡ true) i (view_on x.tid (OfAct x.tid) (h.long a) u)), tt);
-      values = (vx, tt);
+      came = ((λ u. subst (λ z. is_on (OfAct z) (h.long a) ≡ true) i (view_on x.tid (OfAct x.tid) (h.long a) (subst (λ r. is_some (view_in x.tid (slices_for r x.tid (h.reads a) (h.long a))) ≡ true) rx u))), tt);
       tells = te a;
+      other = ap is_reader_act e ∙ rx;
       recorded = told_all (λ y. is_kept y (h.kept ++ OfAct t ∷ []) ≡ true → is_on y (h.long a) ≡ true) a (log_at s (a % w.text.logs)).records
           (λ k q kk. elim (g.good.recorded k a q) [
             | inr u ↦ done_on k (h.long a) u
             | inl u ↦ absurd (elim (kept_end (OfAct t) (OfBatch k) h.kept kk) [ inl p ↦ true≢false (sym p ∙ commits.cuts_fresh w s h g.good.settling g.good.known g.good.marked (OfBatch k) u) | inr p ↦ true≢false (sym p) ])
           ])
           (λ u q kk. act_record_on w s h u a st pr q (λ y f. elim (kept_end (OfAct t) (OfAct u) h.kept kk) [
-            | inl p ↦ placed_sound y.status (and_parts (is_ordered y.status) (is_value y.result) (sym (g.acts u y f).known ∙ p)).0
-            | inr p ↦ let same : x ≡ y = cc (sym e ∙ (ap (λ z. act_of z s.book.acts) (eqb-true t u p) ∙ f)) in ap (λ z. is_doomed z.status) (sym same) ∙ live_not_doomed x.status lx
+            | inl p ↦ kept_act_sound y (sym (g.acts u y f).known ∙ p)
+            | inr p ↦ let same : x ≡ y = cc (sym e ∙ (ap (λ z. act_of z s.book.acts) (eqb-true t u p) ∙ f)) in (ap (λ z. is_doomed z.status) (sym same) ∙ live_not_doomed x.status lx, ap (λ z. z.reader) (sym same) ∙ rx)
           ]));
       has_record = λ on. act_record w t a s h x ok e vx su j on;
     }
 
-one_out : (P : Who → Bool) (d : Done) → is_value d.result ≡ false → filter (λ d. P d.who && is_value d.result) (d ∷ []) ≡ []
-one_out P d e = off (P d.who) (is_value d.result) e
+one_out : (P : Who → Bool) (d : Done) → writes d ≡ false → filter (λ d. P d.who && writes d) (d ∷ []) ≡ []
+one_out P d e = off (P d.who) (writes d) e
   where
     off : (u c : Bool) → c ≡ false → (if u && c then d ∷ [] else []) ≡ []
     off true true e = absurd (true≢false e)
     off true false e = refl
     off false c e = refl
 
-pub recovers_kept : {C : Type 0} (w : Fixed C) (Of : Tx → C → Type 0) (finish : C → List State → Alone) (e : Event) (s : Machine C) (h : History) → Given w Of finish → IsAllowed w e s → AllGood w Of finish s h → BatchesSure w s → ActsSure w s → ActsStand s h → OnJoined s h → Prepared w s → AllThere h → Telling w s h → Recovers w s h → Recovers w (after w e s) (grown w e s h)
+pub recovers_kept : {C : Type 0} (w : Fixed C) (Of : Tx → C → Type 0) (finish : C → List State → Alone) (e : Event) (s : Machine C) (h : History) → Given w Of finish → IsAllowed w e s → AllGood w Of finish s h → BatchesSure w s → ActsSure w s → ActsStand s h → OnJoined s h → Prepared w s → AllThere h → Telling w s h → Whole w Of finish s h → Recovers w s h → Recovers w (after w e s) (grown w e s h)
 unfolding Recovers Committed grown chain.Assumed after
-recovers_kept w Of finish (Commit k) s h v ok g b su st j pr th te r = λ a.
+recovers_kept w Of finish (Commit k) s h v ok g b su st j pr th te wh r = λ a.
     subst (RecoversAt a (first_of w a) (h.kept ++ OfBatch k ∷ []) (h.committed ++ done_batch k h (batch_of k s.desk.batches)) (h.long a)) (sym (told_same a _ s.logs (k % w.text.logs) (a % w.text.logs) refl))
-    (recovers_commit a (first_of w a) h.kept h.committed (done_batch k h (batch_of k s.desk.batches)) (OfBatch k) (h.long a) (told a (log_at s (a % w.text.logs)).records) (one_batch w Of finish k a s h v ok g b st pr th te) (r a))
-recovers_kept {C} w Of finish (Decide t) s h v ok g b su st j pr th te r = λ a.
+    (recovers_commit a (reads_who s.book.acts) (first_of w a) h.kept h.committed (done_batch k h (batch_of k s.desk.batches)) (OfBatch k) (h.long a) (told a (log_at s (a % w.text.logs)).records) (one_batch w Of finish k a s h v ok g b st pr th te wh) (r a))
+recovers_kept {C} w Of finish (Decide t) s h v ok g b su st j pr th te wh r = λ a.
     subst (RecoversAt a (first_of w a) (h.kept ++ kept_act (act_of t s.book.acts)) (h.committed ++ done_act s.book.next_c h (act_of t s.book.acts)) (h.long a)) (sym (told_same a _ s.logs (t % w.text.logs) (a % w.text.logs) (told_commit a s.book.next_c (act_of t s.book.acts)))) (one a)
   where
     one : (a : ℕ) → RecoversAt a (first_of w a) (h.kept ++ kept_act (act_of t s.book.acts)) (h.committed ++ done_act s.book.next_c h (act_of t s.book.acts)) (h.long a) (told a (log_at s (a % w.text.logs)).records)
     one a = let x = at_decide w Of finish t s h ok g in
-        let m = Rattle.protocol_laws.proofs.machine.ActsOwed.may_decide w t s h ok g.good.settling g.good.marked g.good.tracked g.good.turned g.good.from_desk g.good.numbers g.none g.acts g.sizes g.behind g.started in
-        let ends = (chain.kept w (Decide t) s h ok m g.good.tracked g.good.committed a).ends in
-        subst (λ o. RecoversAt a (first_of w a) (h.kept ++ kept_act o) (h.committed ++ done_act s.book.next_c h o) (h.long a) (told a (log_at s (a % w.text.logs)).records)) (sym x.found)
-        (by x.act x.found x.tid x.live (is_value x.act.result) refl (subst (λ o. Linked (first_of w a) (kept_slices (h.kept ++ kept_act o) (h.long a)) (last_state a (first_of w a) (h.committed ++ done_act s.book.next_c h o))) x.found ends))
+        subst (λ o. RecoversAt a (first_of w a) (h.kept ++ kept_act o) (h.committed ++ done_act s.book.next_c h o) (h.long a) (told a (log_at s (a % w.text.logs)).records)) (sym x.found) (by x.act x.found x.tid x.live (is_value x.act.result && not x.act.reader) refl)
       where
-        by : (x : Act) → act_of t s.book.acts ≡ Some x → x.tid ≡ t → Rattle.protocol.specs.Words.is_live_status x.status ≡ true → (c : Bool) → is_value x.result ≡ c
-            → Linked (first_of w a) (kept_slices (h.kept ++ (if is_value x.result then OfAct x.tid ∷ [] else [])) (h.long a)) (last_state a (first_of w a) (h.committed ++ done_act s.book.next_c h (Some x)))
-            → RecoversAt a (first_of w a) (h.kept ++ (if is_value x.result then OfAct x.tid ∷ [] else [])) (h.committed ++ done_act s.book.next_c h (Some x)) (h.long a) (told a (log_at s (a % w.text.logs)).records)
-        by x e i l true q ends =
-            let ks : h.kept ++ (if is_value x.result then OfAct x.tid ∷ [] else []) ≡ h.kept ++ OfAct t ∷ [] = rw (q, i) refl in
+        by : (x : Act) → act_of t s.book.acts ≡ Some x → x.tid ≡ t → Rattle.protocol.specs.Words.is_live_status x.status ≡ true → (c : Bool) → (is_value x.result && not x.reader) ≡ c
+            → RecoversAt a (first_of w a) (h.kept ++ (if is_value x.result && not x.reader then OfAct x.tid ∷ [] else [])) (h.committed ++ done_act s.book.next_c h (Some x)) (h.long a) (told a (log_at s (a % w.text.logs)).records)
+        by x e i l true q =
+            let ks : h.kept ++ (if is_value x.result && not x.reader then OfAct x.tid ∷ [] else []) ≡ h.kept ++ OfAct t ∷ [] = rw (q, i) refl in
+            let p = and_parts (is_value x.result) (not x.reader) q in
             subst (λ z. RecoversAt a (first_of w a) z (h.committed ++ done_act s.book.next_c h (Some x)) (h.long a) (told a (log_at s (a % w.text.logs)).records)) (sym ks)
-            (recovers_commit a (first_of w a) h.kept h.committed (done_act s.book.next_c h (Some x)) (OfAct t) (h.long a) (told a (log_at s (a % w.text.logs)).records)
-            (one_act w Of finish t a s h x v ok g su st j pr th te e i q l (subst (λ z. Linked (first_of w a) (kept_slices z (h.long a)) (last_state a (first_of w a) (h.committed ++ done_act s.book.next_c h (Some x)))) ks ends)) (r a))
-        by x e i l false q ends =
-            let ks : h.kept ++ (if is_value x.result then OfAct x.tid ∷ [] else []) ≡ h.kept = rw q (append-nil h.kept) in
+            (recovers_commit a (reads_who s.book.acts) (first_of w a) h.kept h.committed (done_act s.book.next_c h (Some x)) (OfAct t) (h.long a) (told a (log_at s (a % w.text.logs)).records)
+            (one_act w Of finish t a s h x v ok g su st j pr th te wh e i p.0 (not-true x.reader p.1) l) (r a))
+        by x e i l false q =
+            let ks : h.kept ++ (if is_value x.result && not x.reader then OfAct x.tid ∷ [] else []) ≡ h.kept = rw q (append-nil h.kept) in
             subst (λ z. RecoversAt a (first_of w a) z (h.committed ++ done_act s.book.next_c h (Some x)) (h.long a) (told a (log_at s (a % w.text.logs)).records)) (sym ks)
-            (λ P f. r a P f ∙ ap (last_state a (first_of w a)) (sym (filter_join (λ d. P d.who && is_value d.result) h.committed (done_act s.book.next_c h (Some x)) ∙ (ap (λ z. filter (λ d. P d.who && is_value d.result) h.committed ++ z) (one_out P _ q) ∙ append-nil (filter (λ d. P d.who && is_value d.result) h.committed)))))
-recovers_kept w Of finish e s h v ok g b su st j pr th te r = λ a.
-    still a (first_of w a) h.kept h.committed (h.long a) ((grown w e s h).long a) (told a (log_at s (a % w.text.logs)).records) (told a (log_at (after w e s) (a % w.text.logs)).records)
+            (λ P f. r a P f ∙ ap (last_state a (first_of w a)) (sym (filter_join (λ d. P d.who && writes d) h.committed (done_act s.book.next_c h (Some x)) ∙ (ap (λ z. filter (λ d. P d.who && writes d) h.committed ++ z) (one_out P _ q) ∙ append-nil (filter (λ d. P d.who && writes d) h.committed)))))
+recovers_kept w Of finish e s h v ok g b su st j pr th te wh r = λ a.
+    still a (first_of w a) h.kept h.kept_readers h.committed (h.long a) ((grown w e s h).long a) (told a (log_at s (a % w.text.logs)).records) (told a (log_at (after w e s) (a % w.text.logs)).records)
     (λ y k. on_stays w e s h a y (whole.for_chain w Of finish e s h v ok (all.owes w Of finish e s h v ok g) g.good) g.good.committed k) (told_step w Of finish e s h a ok g su st) (r a)

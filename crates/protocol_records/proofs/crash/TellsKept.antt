@@ -43,6 +43,8 @@ use Rattle.protocol_laws.proofs.machine.Good.{Given, Good}
 use Rattle.protocol_laws.proofs.machine.AllGood.{AllGood}
 use Rattle.protocol_laws.proofs.machine.AllGood as all
 use Rattle.protocol_records.proofs.crash.OnLong.{on_key}
+use Rattle.protocol_records.proofs.crash.KeptAll.{no_batch, reader_there}
+use Rattle.protocol_laws.proofs.machine.ReadersCommit.{ReadersOf, reads_with_value}
 use Rattle.protocol_records.proofs.crash.TellLists as lists
 use Rattle.protocol_records.proofs.crash.TellLists.{Unmarked, AheadDone}
 use Rattle.protocol_laws.proofs.machine.PlaceLists.{ascends_back}
@@ -216,13 +218,13 @@ who_act t (ActEntry x ∷ es) h = by (x.tid == t) refl h (who_act t es)
     by false e h k = k h
 
 -- who has a record has a value, so a result
-record_result : {C : Type 0} (w : Fixed C) (s : Machine C) (t a : ℕ) → Prepared w s → logged_at (is_prepare t a) s.logs (a % w.text.logs) ≡ true → results.NoActResult t s.book.acts → ⊥
+pub record_result : {C : Type 0} (w : Fixed C) (s : Machine C) (t a : ℕ) → Prepared w s → logged_at (is_prepare t a) s.logs (a % w.text.logs) ≡ true → results.NoActResult t s.book.acts → ⊥
 unfolding Prepared
 record_result w s t a p q n =
     let x = one_is (λ x. is_value x.result && has_place a x) (act_of t s.book.acts) (p t a q) in
     true≢false (sym (and_parts (is_value x.0.result) (has_place a x.0) x.2).0 ∙ ap is_value (n t x.0 x.1 refl))
 
-none_arrives : {C : Type 0} (w : Fixed C) (Of : Tx → C → Type 0) (finish : C → List State → Alone) (k a : ℕ) (s : Machine C) (h : History) → IsAllowed w (Arrive k a) s → AllGood w Of finish s h → (j : ℕ) → logged_at (is_complete j a) s.logs (a % w.text.logs) ≡ true → is_who (OfBatch k) (OfBatch j) ≡ false
+pub none_arrives : {C : Type 0} (w : Fixed C) (Of : Tx → C → Type 0) (finish : C → List State → Alone) (k a : ℕ) (s : Machine C) (h : History) → IsAllowed w (Arrive k a) s → AllGood w Of finish s h → (j : ℕ) → logged_at (is_complete j a) s.logs (a % w.text.logs) ≡ true → is_who (OfBatch k) (OfBatch j) ≡ false
 unfolding conditions Recorded Placed
 none_arrives w Of finish k a s h ok g j q = false_from_ne_true (k == j) (λ e. none (subst (λ z. IsOver z s.book.cascades (h.long a)) (sym (eqb-true k j e)) (g.good.recorded j a q)))
   where
@@ -254,6 +256,22 @@ prepares_fresh w t a s h ok i su st =
     false_from_ne_true (is_kept (OfAct t) h.kept) (λ q.
     let v = and_parts (is_ordered x.0.status) (is_value x.0.result && not x.0.reader) (sym (i t x.0 x.1).known ∙ q) in
     let vouched : p.0.vouched ≡ true = Rattle.protocol_records.proofs.crash.KeptSure.list_all_at (λ p. p.actor == a) (λ p. p.vouched) p.0 x.0.places p.1 ((su t x.0 x.1).everywhere v.0 (and_parts (is_value x.0.result) (not x.0.reader) v.1).0) in
+    true≢false (sym ((st t x.0 x.1).first a p.0 p.1 vouched) ∙ not-true p.0.prepared p.2))
+
+-- no batch is among the readers that committed
+pub no_batch_reads : {C : Type 0} (w : Fixed C) (Of : Tx → C → Type 0) (finish : C → List State → Alone) (s : Machine C) (h : History) (k : ℕ) → AllGood w Of finish s h → is_kept (OfBatch k) h.kept_readers ≡ false
+unfolding ReadersOf
+no_batch_reads w Of finish s h k g = false_from_ne_true (is_kept (OfBatch k) h.kept_readers) (λ q. no_batch s.book.acts k h.kept_readers g.readers_of q)
+
+-- nor an ACT whose record is added
+pub prepares_unread : {C : Type 0} (w : Fixed C) (Of : Tx → C → Type 0) (finish : C → List State → Alone) (t a : ℕ) (s : Machine C) (h : History) → IsAllowed w (Prepare t a) s → AllGood w Of finish s h → ActsSure w s → ActsStand s h → is_kept (OfAct t) h.kept_readers ≡ false
+unfolding conditions ActsSure ActsStand ReadersOf
+prepares_unread w Of finish t a s h ok g su st =
+    let x = one_is (λ x. holds (λ p. not p.prepared) (joined_of a x)) (act_of t s.book.acts) ok.1.0 in
+    let p = one_is (λ p. not p.prepared) (joined_of a x.0) x.2 in
+    false_from_ne_true (is_kept (OfAct t) h.kept_readers) (λ q.
+    let v = and_parts (is_ordered x.0.status) (is_value x.0.result && x.0.reader) (subst (λ o. holds reads_with_value o ≡ true) x.1 (reader_there s.book.acts t h.kept_readers g.readers_of q)) in
+    let vouched : p.0.vouched ≡ true = Rattle.protocol_records.proofs.crash.KeptSure.list_all_at (λ p. p.actor == a) (λ p. p.vouched) p.0 x.0.places p.1 ((su t x.0 x.1).everywhere v.0 (and_parts (is_value x.0.result) x.0.reader v.1).0) in
     true≢false (sym ((st t x.0 x.1).first a p.0 p.1 vouched) ∙ not-true p.0.prepared p.2))
 
 marks_of : {C : Type 0} (w : Fixed C) (Of : Tx → C → Type 0) (finish : C → List State → Alone) (t a : ℕ) (s : Machine C) (h : History) → Given w Of finish → IsAllowed w (Run t a) s → AllGood w Of finish s h → (e : Entry) → find (is_entry_of t) (cell_at s a).entries ≡ Some e → complete_mark e ≡ false
