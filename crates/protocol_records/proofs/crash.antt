@@ -3,6 +3,7 @@ pub mod Acknowledged
 pub mod ActPlaces
 pub mod ActsOver
 pub mod ActsSure
+pub mod AsideLists
 pub mod BatchesSure
 pub mod CrashClosed
 pub mod CrashImplied
@@ -16,6 +17,7 @@ pub mod DurableKept
 pub mod IsClosedKept
 pub mod KeptAll
 pub mod KeptSure
+pub mod ReadersAside
 pub mod ReadersOver
 pub mod ReadersSure
 pub mod NoneBehind

@@ -67,7 +67,7 @@ none_link a s test (d ∷ ds) h = by (test d) refl (λ t. none_link a t test ds 
     by false e k = k s
 
 -- who is left out of what links leaves nothing, or nobody came behind it
-links_members : (a : ℕ) (s : State) (test : Done → Bool) (ds : List Done) → NoneMissed a test ds → AllByRecursion (λ d. d.reader ≡ true → LeavesIt (d.views a)) ds → StatesLink a s ds → StatesLink a s (filter test ds)
+pub links_members : (a : ℕ) (s : State) (test : Done → Bool) (ds : List Done) → NoneMissed a test ds → AllByRecursion (λ d. d.reader ≡ true → LeavesIt (d.views a)) ds → StatesLink a s ds → StatesLink a s (filter test ds)
 links_members a s test [] m k l = tt
 links_members a s test (d ∷ ds) m k l = by (test d) refl (links_members a (left_of a d s) test ds m.1 k.1 l.1)
   where

@@ -79,7 +79,7 @@ there_kept w Of finish e s h v ok g q = weaker (IsThere h.kept h.long) (IsThere 
 
 -- ---- where a reader came it has read
 
-has_view : (t a : ℕ) (h : History) (x : Act) → x.tid ≡ t → x.reader ≡ true → is_some (act_view h x a) ≡ true → has_read (h.reads a) t ≡ true
+pub has_view : (t a : ℕ) (h : History) (x : Act) → x.tid ≡ t → x.reader ≡ true → is_some (act_view h x a) ≡ true → has_read (h.reads a) t ≡ true
 has_view t a h x e r q = elim (cases_Bool (has_read (h.reads a) t)) [
   | inl u ↦ u
   | inr u ↦ absurd (true≢false (sym (subst (λ v. is_some (view_in x.tid (slices_for v x.tid (h.reads a) (h.long a))) ≡ true) r q) ∙ ap is_some (no_view x.tid (h.reads a) (subst (λ z. has_read (h.reads a) z ≡ false) (sym e) u))))

@@ -1,6 +1,6 @@
 -- When one that does not only read commits, each reader that committed with a value on one of its actors has been sealed: it
 -- would stand there else, behind the one that commits or ahead of it.
-use Rattle.std.specs.Prelude.{◌≡◌, refl, ℕ, ◌==◌, not, Bool, true, false, ◌&&◌, ◌||◌, ◌⊎◌, if◌then◌else◌, Option, Some, None, is_some, List, [], ◌∷◌, ◌++◌, find}
+use Rattle.std.specs.Prelude.{◌≡◌, refl, ℕ, ◌==◌, not, Bool, true, false, ◌&&◌, ◌||◌, ◌⊎◌, if◌then◌else◌, Option, Some, None, is_some, List, [], ◌∷◌, ◌++◌, find, map}
 use Rattle.std.specs.List.{AllByRecursion, list_any}
 use Rattle.std.proofs.Common.{sym, ap, subst, inl, inr, ◌∙◌}
 use Rattle.std.proofs.lemmas.Bool.{true≢false, or_cases, or_left, or_right, and_parts, and_from, eq-eqb, eqb-true, cases_Bool, false_from_ne_true}
@@ -20,8 +20,9 @@ use Rattle.protocol_laws.specs.Commits.{is_kept, KeptAhead, reads_who}
 use Rattle.protocol_laws.proofs.machine.TrackLists.{is_who_true, is_who_refl}
 use Rattle.protocol_laws.proofs.machine.TracksKept.{Tracked}
 use Rattle.protocol_laws.proofs.machine.ActsGrow.{has_place}
-use Rattle.protocol_laws.proofs.machine.EntriesKept.{Left, Standing, open_in}
+use Rattle.protocol_laws.proofs.machine.EntriesKept.{Left, Standing, is_through, open_in}
 use Rattle.protocol_laws.proofs.machine.ReadersSee.{ReadBy, reads_at, not_read}
+use Rattle.protocol_laws.proofs.first.Lists.{weaker}
 use Rattle.protocol_laws.proofs.machine.AllGood.{AllGood}
 use Rattle.protocol_theorems.specs.Placed.{is_placed, InOrderOf, has_done, is_done_at, DoneFront}
 use Rattle.protocol_theorems.proofs.order.ChainsKept.{Chained}
@@ -96,18 +97,24 @@ open_there a (p ∷ ps) h f = by (p.actor == a) h (λ k. open_there a ps k f.1)
     by true q k = ap not f.0
     by false q k = k q
 
-stands_or_sealed : {C : Type 0} (s : Machine C) (t a c : ℕ) (x : Act) → Left s → Standing s → act_of t s.book.acts ≡ Some x → is_at c x.status ≡ true → has_place a x ≡ true → (is_sealed x.status ≡ true) ⊎ (is_key_among (OfAct t) (Rattle.std.specs.Prelude.map key_of (cell_at s a).entries) ≡ true)
+pub stands_unsealed : {C : Type 0} (s : Machine C) (t a : ℕ) (x : Act) → Left s → Standing s → act_of t s.book.acts ≡ Some x → is_doomed x.status ≡ false → is_sealed x.status ≡ false → has_place a x ≡ true → is_key_among (OfAct t) (map key_of (cell_at s a).entries) ≡ true
 unfolding Left Standing
-stands_or_sealed s t a c x l st e i p = by x.status refl i
+stands_unsealed s t a x l st e d n p = st t x e d a (open_there a x.places p (weaker (λ q. q.finished ≡ true → is_through x.status ≡ true) (λ q. q.finished ≡ false) x.places (λ q k. false_from_ne_true q.finished (λ v. through x.status d n (k v))) (l t x e)))
   where
-    unfinished : (d : ℕ) → x.status ≡ Decided d → AllByRecursion (λ q. q.finished ≡ false) x.places
-    unfinished d f = Rattle.protocol_laws.proofs.first.Lists.weaker _ _ x.places (λ q k. false_from_ne_true q.finished (λ v. true≢false (sym (k v) ∙ ap Rattle.protocol_laws.proofs.machine.EntriesKept.is_through f))) (l t x e)
+    through : (z : Status) → is_doomed z ≡ false → is_sealed z ≡ false → is_through z ≡ true → ⊥
+    through Live d n q = true≢false (sym q)
+    through (Doomed v) d n q = true≢false d
+    through (Decided c) d n q = true≢false (sym q)
+    through (Sealed c) d n q = true≢false n
 
-    by : (z : Status) → x.status ≡ z → is_at c z ≡ true → (is_sealed x.status ≡ true) ⊎ (is_key_among (OfAct t) (Rattle.std.specs.Prelude.map key_of (cell_at s a).entries) ≡ true)
-    by Live f q = absurd (true≢false (sym q))
-    by (Doomed v) f q = absurd (true≢false (sym q))
-    by (Decided d) f q = inr (st t x e (ap is_doomed f) a (open_there a x.places p (unfinished d f)))
-    by (Sealed d) f q = inl (ap is_sealed f)
+stands_or_sealed : {C : Type 0} (s : Machine C) (t a c : ℕ) (x : Act) → Left s → Standing s → act_of t s.book.acts ≡ Some x → is_at c x.status ≡ true → has_place a x ≡ true → (is_sealed x.status ≡ true) ⊎ (is_key_among (OfAct t) (map key_of (cell_at s a).entries) ≡ true)
+stands_or_sealed s t a c x l st e i p = elim (cases_Bool (is_sealed x.status)) [ inl q ↦ inl q | inr q ↦ inr (stands_unsealed s t a x l st e (sound x.status i) q p) ]
+  where
+    sound : (z : Status) → is_at c z ≡ true → is_doomed z ≡ false
+    sound Live q = refl
+    sound (Doomed v) q = absurd (true≢false (sym q))
+    sound (Decided d) q = refl
+    sound (Sealed d) q = refl
 
 -- what is taken of one that commits: it does not only read, stands on the actor, and all ahead of it there have committed
 pub record Commits {C : Type 0} (s : Machine C) (h : History) (a : ℕ) (who : Who) : Type 0 where

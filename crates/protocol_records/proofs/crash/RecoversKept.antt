@@ -126,7 +126,7 @@ kept_act_sound x e =
     let p = and_parts (is_ordered x.status) (is_value x.result && not x.reader) e in
     (placed_sound x.status p.0, not-true x.reader (and_parts (is_value x.result) (not x.reader) p.1).1)
 
-act_record_on : {C : Type 0} (w : Fixed C) (s : Machine C) (h : History) (t a : ℕ) → ActsStand s h → Prepared w s → logged_at (is_prepare t a) s.logs (a % w.text.logs) ≡ true → ((x : Act) → act_of t s.book.acts ≡ Some x → (is_doomed x.status ≡ false) × (x.reader ≡ false)) → is_on (OfAct t) (h.long a) ≡ true
+pub act_record_on : {C : Type 0} (w : Fixed C) (s : Machine C) (h : History) (t a : ℕ) → ActsStand s h → Prepared w s → logged_at (is_prepare t a) s.logs (a % w.text.logs) ≡ true → ((x : Act) → act_of t s.book.acts ≡ Some x → (is_doomed x.status ≡ false) × (x.reader ≡ false)) → is_on (OfAct t) (h.long a) ≡ true
 unfolding ActsStand Prepared
 act_record_on w s h t a st pr q d =
     let x = one_is (λ x. is_value x.result && has_place a x) (act_of t s.book.acts) (pr t a q) in
