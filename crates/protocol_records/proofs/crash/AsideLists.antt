@@ -2,22 +2,22 @@
 use Rattle.std.specs.Prelude.{◌≡◌, refl, ℕ, ◌==◌, not, Bool, true, false, ◌&&◌, ◌||◌, ◌⊎◌, if◌then◌else◌, List, [], ◌∷◌, ◌++◌, filter}
 use Rattle.std.specs.List.{AllByRecursion, list_any}
 use Rattle.std.proofs.Common.{sym, ap, subst, inl, inr, ◌∙◌}
-use Rattle.std.proofs.lemmas.Bool.{true≢false, or_cases, or_left, or_right, or_parts, or_from, and_parts, and_from, eqb-true, eq-eqb, cases_Bool, false_from_ne_true, not-true}
+use Rattle.std.proofs.lemmas.Bool.{true≢false, or_cases, or_left, or_right, or_parts, and_parts, and_from, eqb-true, eq-eqb, cases_Bool, false_from_ne_true, not-true}
 use Rattle.snap_base.specs.declared.transactions.State.{State}
-use Rattle.protocol.specs.Parts.{Act, Who, OfBatch, OfAct}
+use Rattle.protocol.specs.Parts.{Act, Who, OfAct}
 use Rattle.protocol.specs.Words.{is_who}
 use Rattle.protocol.specs.History.{Done, Slice, Ran, Stands, Gone}
 use Rattle.protocol_laws.specs.Tracks.{keys_in, is_key_among, has_read}
 use Rattle.protocol_laws.specs.Commits.{is_kept, KeptFront, KeptOrReads, reads_who}
 use Rattle.protocol_records.specs.Logged.{is_on, KeptSure}
-use Rattle.protocol_records.specs.Telling.{One, FrontIn, names, end_of, Tells, AllTells, last_one, is_open, NoneLater, ReadersAside, ToldRead}
+use Rattle.protocol_records.specs.Telling.{One, FrontIn, names, end_of, Tells, AllTells, last_one, is_open, NoneLater}
 use Rattle.protocol_laws.proofs.machine.TrackLists
 use Rattle.protocol_theorems.proofs.sets.RowsAgree.{filter_same}
 use Rattle.protocol_records.proofs.crash.ActPlaces.{both}
 use Rattle.protocol_records.proofs.crash.Durable.{any_back}
 use Rattle.protocol_records.proofs.crash.RecoverLists.{Commits1, kept_end, same_test, none_behind, tells_it, filter_none}
 use Rattle.protocol_records.proofs.crash.TellLists.{Unmarked}
-use Rattle.protocol_laws.proofs.first.Lists.{all_join, any_front, any_join, both_all, weaker}
+use Rattle.protocol_laws.proofs.first.Lists.{all_join, any_front, both_all, weaker}
 
 -- ---- who is open
 

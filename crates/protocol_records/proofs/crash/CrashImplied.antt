@@ -4,7 +4,6 @@ use Rattle.std.specs.List.{AllByRecursion}
 use Rattle.std.proofs.Common.{arith, sym, ap, subst, inl, inr, ◌∙◌}
 use Rattle.std.proofs.lemmas.Bool.{cases_Bool, true≢false}
 use Rattle.snap_base.specs.declared.transactions.State.{State}
-use Rattle.snap_base.specs.declared.verdicts.Place.{Place}
 use Rattle.protocol.specs.Fixed.{Fixed}
 use Rattle.protocol.specs.Facts.{Alone, state_in}
 use Rattle.protocol.specs.Records.{LogRecord}
@@ -24,7 +23,7 @@ use Rattle.protocol_theorems.specs.Order.{LeavesIt, OrderFacts}
 use Rattle.protocol_laws.proofs.first.Along.{along}
 use Rattle.protocol_theorems.proofs.order.ByPlace.{all_sorted}
 use Rattle.protocol_laws.proofs.first.Lists.{all_filter, weaker}
-use Rattle.protocol_theorems.proofs.order.OrderImplied.{LinkedFrom, passes, still_left, serial_results, serial_states, sorted_links, sorted_last, links_visitors, visitors_link}
+use Rattle.protocol_theorems.proofs.order.OrderImplied.{LinkedFrom, passes, still_left, serial_results, serial_states, sorted_links, sorted_last}
 use Rattle.protocol_laws.proofs.first.Times
 
 -- ---- who has no value leaves nothing

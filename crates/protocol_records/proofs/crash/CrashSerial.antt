@@ -1,8 +1,7 @@
 -- What logs that a crash left recover is serial, at every moment of every run.
-use Rattle.std.specs.Prelude.{◌≡◌, refl, ℕ, zero, suc, ◌<◌, ◌≤◌, ◌%◌, Bool, true, false, ◌&&◌, if◌then◌else◌, List, [], ◌∷◌, ◌++◌, length, filter, replicate, map, slice_index_or}
-use Rattle.std.specs.List.{AllByRecursion, list_any}
-use Rattle.std.proofs.Common.{arith, sym, ap, subst, inl, inr, ◌∙◌}
-use Rattle.std.proofs.lemmas.Bool.{true≢false, cases_Bool}
+use Rattle.std.specs.Prelude.{◌≡◌, ℕ, ◌%◌, true, List}
+use Rattle.std.proofs.Common.{arith, sym, subst}
+use Rattle.std.proofs.lemmas.Bool.{true≢false}
 use Rattle.snap_base.specs.declared.transactions.State.{State}
 use Rattle.snap_base.specs.declared.transactions.Tx.{Tx}
 use Rattle.protocol.specs.Fixed.{Fixed, IsText}
@@ -16,8 +15,8 @@ use Rattle.protocol.specs.Runs.{opening, IsRun, reached}
 use Rattle.protocol.specs.History.{History, no_history, history, grown}
 use Rattle.protocol.specs.Moments.{Moment, IsCut, IsLeft, left_in}
 use Rattle.protocol_records.specs.Crash.{is_in, members}
-use Rattle.protocol_laws.proofs.machine.Good.{Given, for_chain}
-use Rattle.protocol_laws.proofs.machine.AllGood.{AllGood, owes, along_good}
+use Rattle.protocol_laws.proofs.machine.Good.{Given}
+use Rattle.protocol_laws.proofs.machine.AllGood.{AllGood, along_good}
 use Rattle.protocol_records.proofs.crash.DurableKept.{Durable, has_record, any_take}
 use Rattle.protocol_records.proofs.crash.DurableKept as durable
 use Rattle.protocol_records.proofs.crash.CrashParts.{none_missed_at, done_hold}

@@ -9,7 +9,7 @@ use Rattle.protocol.specs.Facts.{Alone}
 use Rattle.protocol.specs.Fixed.{Fixed}
 use Rattle.protocol.specs.Records.{LogRecord, BatchInfo, BatchComplete, BatchDone, ActPrepare, ActDone, is_info, is_complete, is_prepare, is_act_commit}
 use Rattle.protocol.specs.Parts.{Joined, Declared, OfBatch, OfAct, Machine}
-use Rattle.protocol.specs.Words.{is_formed, is_value, batch_of, is_ordered}
+use Rattle.protocol.specs.Words.{is_formed, batch_of}
 use Rattle.protocol.specs.Effects.{log_at, put_in, ascending}
 use Rattle.protocol.specs.History.{History}
 use Rattle.protocol_laws.specs.Marks.{Known, Marked}

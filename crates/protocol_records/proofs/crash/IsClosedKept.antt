@@ -1,5 +1,5 @@
 -- The members of a moment are closed under the order of the whole run.
-use Rattle.std.specs.Prelude.{◌≡◌, refl, ℕ, zero, suc, ◌≤◌, ◌==◌, Bool, true, false, ◌&&◌, ◌||◌, ◌⊎◌, if◌then◌else◌, is_some, List, [], ◌∷◌, ◌++◌, length, filter}
+use Rattle.std.specs.Prelude.{◌≡◌, refl, ℕ, zero, suc, ◌≤◌, ◌==◌, Bool, true, false, ◌&&◌, ◌⊎◌, if◌then◌else◌, is_some, List, [], ◌∷◌, ◌++◌, length, filter}
 use Rattle.std.specs.List.{AllByRecursion, list_any}
 use Rattle.std.proofs.Common.{arith, sym, ap, subst, inl, inr, ◌∙◌}
 use Rattle.std.proofs.lemmas.Bool.{eqb-true, eq-eqb, or_cases, or_left, or_right, or_from, true≢false, and_parts, cases_Bool, false_from_ne_true}
@@ -146,6 +146,7 @@ each_behind R ds front between rest x y e h r = at front (subst (EachBehind (λ 
     at : (front : List Done) → EachBehind (λ d e. (d.reader && e.reader) ≡ false → R d e) (front ++ x ∷ (between ++ y ∷ rest)) → R x y
     at [] k = all_mid (λ e. (x.reader && e.reader) ≡ false → R x e) y between rest k.0 r
     at (z ∷ zs) k = at zs k.1
+
 has_member : (t : ℕ) (ds : List Done) → list_any (λ d. d.tid == t) ds ≡ true → HasMember t ds
 has_member t [] e = absurd (true≢false (sym e))
 has_member t (d ∷ ds) e = elim (or_cases (d.tid == t) (list_any (λ d. d.tid == t) ds) e) [

@@ -1,14 +1,14 @@
 -- Who committed with a value, a reader or not: a batch is kept, and an ACT has its place and a value.
-use Rattle.std.specs.Prelude.{◌≡◌, refl, ℕ, ◌==◌, Bool, true, false, ◌&&◌, ◌||◌, Some, List, [], ◌∷◌}
+use Rattle.std.specs.Prelude.{◌≡◌, ℕ, ◌==◌, true, ◌&&◌, ◌||◌, Some, List, [], ◌∷◌}
 use Rattle.std.specs.List.{AllByRecursion}
-use Rattle.std.proofs.Common.{sym, ap, subst, inl, inr, ◌∙◌}
+use Rattle.std.proofs.Common.{sym, subst, inl, inr, ◌∙◌}
 use Rattle.std.proofs.lemmas.Bool.{true≢false, eqb-true, and_parts, or_cases}
 use Rattle.snap_base.specs.declared.transactions.State.{State}
 use Rattle.snap_base.specs.declared.transactions.Tx.{Tx}
 use Rattle.protocol.specs.Fixed.{Fixed}
 use Rattle.protocol.specs.Facts.{Alone}
 use Rattle.protocol.specs.Parts.{Act, Who, OfBatch, OfAct, Machine}
-use Rattle.protocol.specs.Words.{holds, is_ordered, is_value, is_who, act_of}
+use Rattle.protocol.specs.Words.{holds, is_ordered, is_value, act_of}
 use Rattle.protocol.specs.History.{History}
 use Rattle.protocol_laws.specs.Commits.{is_kept}
 use Rattle.protocol_laws.proofs.machine.ActsKept.{Acts}

@@ -285,7 +285,6 @@ decide_sure w Of finish t a s h sure ok g su nr on z kz oz =
     ahead_of_act sure s.book.acts s.book.cascades s.desk.batches h.kept a 0 false t x.act (has_read (h.reads a)) (cell_at s a).inbox (h.long a) z x.found (live_not_doomed x.act.status x.live) (x.away a)
     (λ j e l n. su.settled j (settled_low w s j a g.good.settling e (omega (arith, l, x.low)) n)) (g.good.numbers a) (g.behind a) (g.good.tracked a).in_order
     (subst (AllByRecursion (GoodKey a s.desk.batches)) (g.good.tracked a).stands (good_keys a s.desk.batches (cell_at s a).entries (g.good.from_desk.entries a))) (not_read a t s.book.acts (h.reads a) (no_reads (act_of t s.book.acts) nr) (g.read_by a)) (g.started a) (su.gone a) front x.fresh (on_key h.kept (OfAct t) (h.long a) x.fresh front on) kz oz
-
   where
     no_reads : (o : Option Act) → is_reader_act o ≡ false → holds (reads_at a) o ≡ false
     no_reads None r = refl

@@ -10,7 +10,7 @@ use Rattle.protocol.specs.Fixed.{Fixed}
 use Rattle.protocol.specs.Records.{LogRecord, is_complete, is_prepare}
 use Rattle.protocol.specs.Parts.{Joined, Declared, OfBatch, OfAct, Machine}
 use Rattle.protocol.specs.Events.{Event, Complete}
-use Rattle.protocol.specs.Words.{holds, is_among, is_formed, is_value, is_complete_batch, is_batch_entry, declared_of, act_of, batch_of, is_ordered}
+use Rattle.protocol.specs.Words.{holds, is_among, is_formed, is_value, is_complete_batch, is_batch_entry, declared_of, act_of, batch_of}
 use Rattle.protocol.specs.Conditions.{IsAllowed, conditions}
 use Rattle.protocol.specs.Effects.{after, cell_at, no_cell, log_at}
 use Rattle.protocol.specs.Runs.{opening, IsRun, reached}

@@ -3,23 +3,23 @@ use Rattle.std.specs.Prelude.{◌≡◌, refl, ℕ, ◌%◌, ◌==◌, not, Bool
 use Rattle.std.specs.List.{AllByRecursion, list_any}
 use Rattle.std.proofs.Common.{sym, ap, subst, inl, inr, ◌∙◌}
 use Rattle.std.proofs.lemmas.List.{append-nil}
-use Rattle.std.proofs.lemmas.Bool.{true≢false, or_cases, or_left, or_right, and_parts, and_from, eqb-true, eq-eqb, cases_Bool, false_from_ne_true, not-true}
+use Rattle.std.proofs.lemmas.Bool.{true≢false, or_right, and_parts, and_from, eqb-true, cases_Bool, false_from_ne_true, not-true}
 use Rattle.snap_base.specs.declared.transactions.Tx.{Tx}
 use Rattle.snap_base.specs.declared.transactions.State.{State}
 use Rattle.protocol.specs.Facts.{Alone}
 use Rattle.protocol.specs.Fixed.{Fixed, no_state}
-use Rattle.protocol.specs.Records.{LogRecord, BatchComplete, ActPrepare, is_complete, is_prepare}
-use Rattle.protocol.specs.Parts.{Act, Status, Live, Doomed, Decided, Sealed, Who, OfBatch, OfAct, Cascade, Machine}
+use Rattle.protocol.specs.Records.{LogRecord, BatchComplete, ActPrepare, is_prepare}
+use Rattle.protocol.specs.Parts.{Act, Status, Live, Doomed, Decided, Sealed, Who, OfBatch, OfAct, Machine}
 use Rattle.protocol.specs.Events.{Event, Form, Arrive, Ask, Run, Complete, Sync, Commit, Rollback, Prepare, Decide, Finish, Trim}
 use Rattle.protocol.specs.Words.{holds, is_who, is_value, is_doomed, is_sealed, is_ordered, who_on, joined_of, act_of, batch_of, lock_of, waiting_of}
 use Rattle.protocol.specs.Conditions.{IsAllowed, conditions}
-use Rattle.protocol.specs.Effects.{after, cell_at, log_at, no_log, no_cell}
+use Rattle.protocol.specs.Effects.{after, cell_at, log_at, no_cell}
 use Rattle.protocol.specs.OnBook as book
 use Rattle.protocol.specs.OnCell as cell
-use Rattle.protocol.specs.History.{Done, History, Slice, Ran, Stands, Gone, View, grown, not_run, completed, left_for_good, without_standing, asks, read_on, ran_on, is_traceless, is_reader_act, kept_act, kept_reader, done_act, done_batch, act_view, slices_for, view_in}
-use Rattle.protocol_laws.specs.Tracks.{key_of, keys_in, is_key_among, has_read}
-use Rattle.protocol_laws.specs.Commits.{is_kept, KeptFront, StatesLink, last_state, reads_who}
-use Rattle.protocol_records.specs.Logged.{is_sure, is_on, logged_at, has_place, BatchesSure, ActsSure, AllKeptSure, ActsStand, OnJoined, Prepared, AllThere}
+use Rattle.protocol.specs.History.{History, Slice, Ran, grown, not_run, completed, left_for_good, without_standing, asks, read_on, is_traceless, is_reader_act, kept_act, kept_reader, done_act, done_batch, act_view, slices_for, view_in}
+use Rattle.protocol_laws.specs.Tracks.{keys_in, is_key_among, has_read}
+use Rattle.protocol_laws.specs.Commits.{is_kept, last_state, reads_who}
+use Rattle.protocol_records.specs.Logged.{is_sure, is_on, has_place, BatchesSure, ActsSure, AllKeptSure, ActsStand, OnJoined, Prepared, AllThere}
 use Rattle.protocol_records.specs.Telling.{One, told, names, AllTells, Telling, last_one, writes, Recovers, ToldRead, ToldReads, is_open, NoneLater, AllNoneLater, ReadersAside, AllAside}
 use Rattle.protocol_laws.proofs.machine.TrackLists
 use Rattle.protocol_laws.proofs.machine.TracksKept.{Tracked, held}
@@ -38,13 +38,12 @@ use Rattle.protocol_laws.proofs.machine.AllGood as all
 use Rattle.protocol_theorems.proofs.order.ChainsKept.{Owes}
 use Rattle.protocol_theorems.proofs.order.OwedHolds.{owed}
 use Rattle.protocol_theorems.proofs.order.LastLaw.{Whole}
-use Rattle.protocol_theorems.proofs.sets.RowsAgree.{filter_same}
 use Rattle.protocol_records.proofs.crash.ActPlaces.{both}
 use Rattle.protocol_records.proofs.crash.AsideLists as lists
 use Rattle.protocol_records.proofs.crash.DonesSure.{has_view}
 use Rattle.protocol_records.proofs.crash.Durable.{sure_stays}
 use Rattle.protocol_records.proofs.crash.KeptSure.{SureOf, AtDecide, at_decide}
-use Rattle.protocol_records.proofs.crash.OnLong.{on_more, on_map, ran_same, completed_same, left_same, on_key}
+use Rattle.protocol_records.proofs.crash.OnLong.{on_more, on_map, ran_same, completed_same, left_same}
 use Rattle.protocol_records.proofs.crash.ReadersOver.{stands_unsealed}
 use Rattle.protocol_records.proofs.crash.ReadersSure.{reader_sure}
 use Rattle.protocol_records.proofs.crash.RecoverLists.{all_in}
@@ -86,8 +85,8 @@ prepared_reads w Of finish t a s h ok g su st = weaker (λ z. z.tid ≡ t → (z
         let p = one_is (λ p. not p.prepared) (joined_of a y.0) y.2 in
         let same : y.0 ≡ x.0 = cc (sym y.1 ∙ x.1) in
         let unsealed : is_sealed x.0.status ≡ false = false_from_ne_true (is_sealed x.0.status) (λ q.
-            let vouched : p.0.vouched ≡ true = Rattle.protocol_records.proofs.crash.KeptSure.list_all_at (λ p. p.actor == a) (λ p. p.vouched) p.0 x.0.places (ap (joined_of a) (sym same) ∙ p.1) ((su t x.0 x.1).everywhere (or_right (Rattle.protocol.specs.Words.is_decided x.0.status) _ q) v.0) in
-            true≢false (sym ((st t x.0 x.1).first a p.0 (ap (joined_of a) (sym same) ∙ p.1) vouched) ∙ not-true p.0.prepared p.2)) in
+        let vouched : p.0.vouched ≡ true = Rattle.protocol_records.proofs.crash.KeptSure.list_all_at (λ p. p.actor == a) (λ p. p.vouched) p.0 x.0.places (ap (joined_of a) (sym same) ∙ p.1) ((su t x.0 x.1).everywhere (or_right (Rattle.protocol.specs.Words.is_decided x.0.status) _ q) v.0) in
+        true≢false (sym ((st t x.0 x.1).first a p.0 (ap (joined_of a) (sym same) ∙ p.1) vouched) ∙ not-true p.0.prepared p.2)) in
         let reads = reads_here x.0 x.1 in
         let u = and_parts x.0.reader (has_place a x.0) reads in
         entry_sees s.book.acts now t (h.reads a) (cell_at s a).entries (g.locks a) (ap is_reader_act x.1 ∙ u.0) (stands_unsealed s t a x.0 g.left g.standing x.1 (not-true (is_doomed x.0.status) v.1) unsealed u.1) (g.see a)

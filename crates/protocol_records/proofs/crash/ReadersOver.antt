@@ -1,23 +1,21 @@
 -- When one that does not only read commits, each reader that committed with a value on one of its actors has been sealed: it
 -- would stand there else, behind the one that commits or ahead of it.
-use Rattle.std.specs.Prelude.{◌≡◌, refl, ℕ, ◌==◌, not, Bool, true, false, ◌&&◌, ◌||◌, ◌⊎◌, if◌then◌else◌, Option, Some, None, is_some, List, [], ◌∷◌, ◌++◌, find, map}
+use Rattle.std.specs.Prelude.{◌≡◌, refl, ℕ, ◌==◌, not, Bool, true, false, ◌&&◌, ◌||◌, ◌⊎◌, if◌then◌else◌, Option, Some, None, is_some, List, [], ◌∷◌, find, map}
 use Rattle.std.specs.List.{AllByRecursion, list_any}
 use Rattle.std.proofs.Common.{sym, ap, subst, inl, inr, ◌∙◌}
-use Rattle.std.proofs.lemmas.Bool.{true≢false, or_cases, or_left, or_right, and_parts, and_from, eq-eqb, eqb-true, cases_Bool, false_from_ne_true}
+use Rattle.std.proofs.lemmas.Bool.{true≢false, or_cases, or_left, or_right, and_parts, and_from, cases_Bool, false_from_ne_true}
 use Rattle.snap_base.specs.declared.transactions.Tx.{Tx}
 use Rattle.snap_base.specs.declared.transactions.State.{State}
-use Rattle.snap_base.specs.declared.transactions.TxResult.{TxResult}
 use Rattle.protocol.specs.Facts.{Alone}
 use Rattle.protocol.specs.Fixed.{Fixed}
-use Rattle.protocol.specs.Parts.{Act, Joined, Status, Live, Doomed, Decided, Sealed, Who, OfBatch, OfAct, Machine}
+use Rattle.protocol.specs.Parts.{Act, Joined, Status, Live, Doomed, Decided, Sealed, Who, OfAct, Machine}
 use Rattle.protocol.specs.Words.{holds, is_who, is_value, is_doomed, is_sealed, act_of}
 use Rattle.protocol.specs.Effects.{cell_at}
-use Rattle.protocol.specs.History.{Done, History, Slice, Ran, Stands, Gone, is_reader_act}
-use Rattle.protocol.specs.Chains.{stands_for}
+use Rattle.protocol.specs.History.{Done, History, Ran, Stands, Gone, is_reader_act}
 use Rattle.protocol_laws.specs.Told.{is_at, DoneFrom}
 use Rattle.protocol_laws.specs.Tracks.{Key, key_of, keys_in, is_key_among, has_read}
 use Rattle.protocol_laws.specs.Commits.{is_kept, KeptAhead, reads_who}
-use Rattle.protocol_laws.proofs.machine.TrackLists.{is_who_true, is_who_refl}
+use Rattle.protocol_laws.proofs.machine.TrackLists.{is_who_true}
 use Rattle.protocol_laws.proofs.machine.TracksKept.{Tracked}
 use Rattle.protocol_laws.proofs.machine.ActsGrow.{has_place}
 use Rattle.protocol_laws.proofs.machine.EntriesKept.{Left, Standing, is_through, open_in}

@@ -1,6 +1,6 @@
 -- When a reader gets its place, all that committed on an actor where it came is sure.
-use Rattle.std.specs.Prelude.{◌≡◌, refl, ℕ, ◌≤◌, ◌==◌, max, not, Bool, true, false, ◌&&◌, ◌||◌, if◌then◌else◌, Option, Some, None, is_some, List, [], ◌∷◌, map}
-use Rattle.std.specs.List.{AllByRecursion, list_any}
+use Rattle.std.specs.Prelude.{◌≡◌, refl, ℕ, ◌≤◌, ◌==◌, max, not, Bool, true, false, ◌&&◌, ◌||◌, Option, Some, None, List, [], ◌∷◌, map}
+use Rattle.std.specs.List.{AllByRecursion}
 use Rattle.std.proofs.Common.{arith, sym, ap, subst, inl, inr, ◌∙◌}
 use Rattle.std.proofs.lemmas.Bool.{true≢false, or_cases, eqb-true, cases_Bool}
 use Rattle.snap_base.specs.declared.transactions.Tx.{Tx}
@@ -8,7 +8,7 @@ use Rattle.snap_base.specs.declared.transactions.State.{State}
 use Rattle.protocol.specs.Facts.{Alone}
 use Rattle.protocol.specs.Fixed.{Fixed}
 use Rattle.protocol.specs.Parts.{Act, Batch, Cascade, Who, OfBatch, OfAct, Entry, BatchEntry, ActEntry, Machine}
-use Rattle.protocol.specs.Events.{Event, Decide}
+use Rattle.protocol.specs.Events.{Decide}
 use Rattle.protocol.specs.Words.{is_who, is_value, is_doomed, is_aborted, is_ordered, act_of}
 use Rattle.protocol.specs.Conditions.{IsAllowed}
 use Rattle.protocol.specs.Effects.{cell_at}

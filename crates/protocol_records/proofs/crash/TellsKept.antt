@@ -19,7 +19,7 @@ use Rattle.protocol.specs.Conditions.{IsAllowed, conditions}
 use Rattle.protocol.specs.Effects.{after, cell_at, no_cell, no_log, added, act_commit, log_at}
 use Rattle.protocol.specs.OnBook as book
 use Rattle.protocol.specs.OnCell as cell
-use Rattle.protocol.specs.History.{History, Ran, Stands, Gone, grown, with_at, not_run, completed, left_for_good, without_standing, asks, batches_in, batch_in, is_traceless, is_reader_act, ran_on}
+use Rattle.protocol.specs.History.{History, Ran, Stands, Gone, grown, with_at, not_run, completed, left_for_good, without_standing, asks, batches_in, batch_in, is_traceless, is_reader_act}
 use Rattle.protocol_laws.specs.Tracks.{Key, key_of, keys_in, is_key_among, Differ, InOrder, has_read}
 use Rattle.protocol_laws.specs.Places.{Ascends, Fits}
 use Rattle.protocol_laws.specs.Commits.{is_kept, KeptFront, reads_who}
