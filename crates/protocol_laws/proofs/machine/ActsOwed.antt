@@ -187,20 +187,26 @@ or_reads acts cs bs kept a top bad t x now zs (Gone (OfAct n) ss ∷ rs) es f d 
 or_reads acts cs bs kept a top bad t x now zs (Stands y c ss ∷ rs) [] f d r z k b h g l v u q = absurd u
 or_reads acts cs bs kept a top bad t x now zs (Stands (OfBatch j) c ss ∷ rs) (ActEntry e ∷ es) f d r z k b h g l v u q = absurd (cc u.0)
 or_reads acts cs bs kept a top bad t x now zs (Stands (OfAct n) c ss ∷ rs) (BatchEntry e ∷ es) f d r z k b h g l v u q = absurd (cc u.0)
-or_reads acts cs bs kept a top bad t x now zs (Stands (OfBatch j) c ss ∷ rs) (BatchEntry e ∷ es) f d r z k b h g l v u q = ((λ i. elim (cases_Bool e.complete) [
-  | inl w ↦ or_left (is_kept (OfBatch j) kept) _ (k j (subst (λ n. is_declared n a bs ≡ true) own g.0.0) (omega (arith, top_at acts t (max top j) x rs f d b i)) (sound_at acts cs bad j t x rs f d h i))
-  | inr w ↦ absurd (true≢false (sym z ∙ none_has acts t zs es l.1 (ap is_reader_act f ∙ r) (subst (λ n. is_key_among (OfAct t) n ≡ true) (sym rest) i) (v.1 (ap not w))))
-]), or_reads acts cs bs kept a (max top j) (bad || is_aborted j cs) t x now zs rs es f d r z k b h g.1 l.1 v.2 u.3 rest)
+or_reads acts cs bs kept a top bad t x now zs (Stands (OfBatch j) c ss ∷ rs) (BatchEntry e ∷ es) f d r z k b h g l v u q = (
+  (λ i. elim (cases_Bool e.complete) [
+    | inl w ↦ or_left (is_kept (OfBatch j) kept) _ (k j (subst (λ n. is_declared n a bs ≡ true) own g.0.0) (omega (arith, top_at acts t (max top j) x rs f d b i)) (sound_at acts cs bad j t x rs f d h i))
+    | inr w ↦ absurd (true≢false (sym z ∙ none_has acts t zs es l.1 (ap is_reader_act f ∙ r) (subst (λ n. is_key_among (OfAct t) n ≡ true) (sym rest) i) (v.1 (ap not w))))
+  ]),
+  or_reads acts cs bs kept a (max top j) (bad || is_aborted j cs) t x now zs rs es f d r z k b h g.1 l.1 v.2 u.3 rest,
+)
   where
     own : e.bid ≡ j
     own = cc u.0
 
     rest : map key_of es ≡ keys_in rs
     rest = cc q
-or_reads acts cs bs kept a top bad t x now zs (Stands (OfAct n) c ss ∷ rs) (ActEntry e ∷ es) f d r z k b h g l v u q = ((λ i. elim (cases_Bool e.reader) [
-  | inl m ↦ or_right (is_kept (OfAct n) kept) _ (subst (λ y. is_reader_act (act_of y acts) ≡ true) same (reader_of e.reader (act_of e.tid acts) l.0 ∙ m))
-  | inr m ↦ absurd (true≢false (sym z ∙ none_has acts t zs es l.1 (ap is_reader_act f ∙ r) (subst (λ y. is_key_among (OfAct t) y ≡ true) (sym rest) i) (v.1 (ap not m))))
-]), or_reads acts cs bs kept a top bad t x now zs rs es f d r z k b.1 h.1 g.1 l.1 v.2 u.3 rest)
+or_reads acts cs bs kept a top bad t x now zs (Stands (OfAct n) c ss ∷ rs) (ActEntry e ∷ es) f d r z k b h g l v u q = (
+  (λ i. elim (cases_Bool e.reader) [
+    | inl m ↦ or_right (is_kept (OfAct n) kept) _ (subst (λ y. is_reader_act (act_of y acts) ≡ true) same (reader_of e.reader (act_of e.tid acts) l.0 ∙ m))
+    | inr m ↦ absurd (true≢false (sym z ∙ none_has acts t zs es l.1 (ap is_reader_act f ∙ r) (subst (λ y. is_key_among (OfAct t) y ≡ true) (sym rest) i) (v.1 (ap not m))))
+  ]),
+  or_reads acts cs bs kept a top bad t x now zs rs es f d r z k b.1 h.1 g.1 l.1 v.2 u.3 rest,
+)
   where
     same : e.tid ≡ n
     same = cc u.0
@@ -215,10 +221,13 @@ free_around acts t x now zs (Gone y ss ∷ rs) es f r z l v u q = free_around ac
 free_around acts t x now zs (Stands y c ss ∷ rs) [] f r z l v u q = absurd u
 free_around acts t x now zs (Stands (OfBatch j) c ss ∷ rs) (e ∷ es) f r z l v u q = free_around acts t x now zs rs es f r z l.1 v.2 u.3 (cc q)
 free_around acts t x now zs (Stands (OfAct n) c ss ∷ rs) (BatchEntry e ∷ es) f r z l v u q = absurd (cc u.0)
-free_around acts t x now zs (Stands (OfAct n) c ss ∷ rs) (ActEntry e ∷ es) f r z l v u q = ((λ i. elim (cases_Bool e.reader) [
-  | inl m ↦ subst (HighLists.FreeAt true acts) same (by (act_of e.tid acts) (reader_of e.reader (act_of e.tid acts) l.0 ∙ m))
-  | inr m ↦ absurd (true≢false (sym z ∙ none_has acts t zs es l.1 (ap is_reader_act f ∙ r) (subst (λ y. is_key_among (OfAct t) y ≡ true) (sym rest) i) (v.1 (ap not m))))
-]), free_around acts t x now zs rs es f r z l.1 v.2 u.3 rest)
+free_around acts t x now zs (Stands (OfAct n) c ss ∷ rs) (ActEntry e ∷ es) f r z l v u q = (
+  (λ i. elim (cases_Bool e.reader) [
+    | inl m ↦ subst (HighLists.FreeAt true acts) same (by (act_of e.tid acts) (reader_of e.reader (act_of e.tid acts) l.0 ∙ m))
+    | inr m ↦ absurd (true≢false (sym z ∙ none_has acts t zs es l.1 (ap is_reader_act f ∙ r) (subst (λ y. is_key_among (OfAct t) y ≡ true) (sym rest) i) (v.1 (ap not m))))
+  ]),
+  free_around acts t x now zs rs es f r z l.1 v.2 u.3 rest,
+)
   where
     same : e.tid ≡ n
     same = cc u.0

@@ -143,14 +143,16 @@ owes_see w Of finish (Rollback a) s h v ok g = λ r.
     linked_one _ _ _ (slices_in (h.long a)) (subst (λ z. Linked (slice_index_or w.text.opening.states a no_state) z (cell.rolled_back s.book.cascades (cell_at s a)).state) same new.links) (g.good.tracked a).links
 owes_see w Of finish (Finish t a) s h v ok g =
     let o = owes w Of finish (Finish t a) s h v ok g in
-    let p = whole.for_places w Of finish (Finish t a) s h v ok o g.good in
-    (p.0, λ r. elim (cases_Bool (cell.is_undone_act (act_of t s.book.acts))) [
-      | inr q ↦ rw q refl
-      | inl q ↦
-          let new = tracks.finish w t a s.book (cell_at s a) (h.long a) p.2 (g.good.tracked a) in
-          let same = see.finish_same t (cell_at s a).state (h.reads a) (h.long a) (cell_at s a).entries (see.lined (h.long a) (cell_at s a).entries (g.good.turned a) (g.good.tracked a).stands) (g.good.tracked a).in_order (g.see a) r in
-          linked_one _ _ _ (slices_in (h.long a)) (subst (λ z. Linked (slice_index_or w.text.opening.states a no_state) z (cell.act_left t (act_of t s.book.acts) (cell_at s a)).state) same (subst (λ b. Linked (slice_index_or w.text.opening.states a no_state) (slices_in (if b || is_reader_act (act_of t s.book.acts) then without_standing (OfAct t) (h.long a) else map (left_for_good (OfAct t)) (h.long a))) (cell.act_left t (act_of t s.book.acts) (cell_at s a)).state) q new.links)) (g.good.tracked a).links
-    ])
+    let p = whole.for_places w Of finish (Finish t a) s h v ok o g.good in (
+      p.0,
+      λ r. elim (cases_Bool (cell.is_undone_act (act_of t s.book.acts))) [
+        | inr q ↦ rw q refl
+        | inl q ↦
+            let new = tracks.finish w t a s.book (cell_at s a) (h.long a) p.2 (g.good.tracked a) in
+            let same = see.finish_same t (cell_at s a).state (h.reads a) (h.long a) (cell_at s a).entries (see.lined (h.long a) (cell_at s a).entries (g.good.turned a) (g.good.tracked a).stands) (g.good.tracked a).in_order (g.see a) r in
+            linked_one _ _ _ (slices_in (h.long a)) (subst (λ z. Linked (slice_index_or w.text.opening.states a no_state) z (cell.act_left t (act_of t s.book.acts) (cell_at s a)).state) same (subst (λ b. Linked (slice_index_or w.text.opening.states a no_state) (slices_in (if b || is_reader_act (act_of t s.book.acts) then without_standing (OfAct t) (h.long a) else map (left_for_good (OfAct t)) (h.long a))) (cell.act_left t (act_of t s.book.acts) (cell_at s a)).state) q new.links)) (g.good.tracked a).links
+      ],
+    )
 owes_see w Of finish (Trim k a) s h v ok g = owed.trim_exists w k a s ok g.sizes
 owes_see w Of finish e s h v ok g = tt
 

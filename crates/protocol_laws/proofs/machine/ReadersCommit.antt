@@ -1,15 +1,14 @@
 -- The readers that committed with a value are ACTs of the book that have their place and a value.
-use Rattle.std.specs.Prelude.{◌≡◌, refl, ℕ, ◌==◌, Bool, true, false, ◌&&◌, if◌then◌else◌, Option, Some, None, is_some, List, [], ◌∷◌, ◌++◌}
+use Rattle.std.specs.Prelude.{◌≡◌, refl, ℕ, ◌==◌, Bool, true, false, ◌&&◌, if◌then◌else◌, Some, is_some, List, [], ◌∷◌}
 use Rattle.std.specs.List.{AllByRecursion}
 use Rattle.std.proofs.Common.{sym, ap, subst, ◌∙◌}
-use Rattle.std.proofs.lemmas.Bool.{true≢false, eqb-true, and_parts, and_from}
-use Rattle.snap_base.specs.declared.transactions.TxResult.{TxResult}
+use Rattle.std.proofs.lemmas.Bool.{true≢false, and_parts, and_from}
 use Rattle.protocol.specs.Fixed.{Fixed}
 use Rattle.protocol.specs.Parts.{Act, Status, Live, Doomed, Decided, Sealed, Who, OfBatch, OfAct, Machine}
 use Rattle.protocol.specs.Events.{Event, Admit, Ask, End, Decide}
 use Rattle.protocol.specs.Words.{holds, is_live_status, is_ordered, is_value, is_ended, act_of, outcome_of}
 use Rattle.protocol.specs.Conditions.{IsAllowed, conditions}
-use Rattle.protocol.specs.Effects.{after, cell_at, no_cell}
+use Rattle.protocol.specs.Effects.{after, no_cell}
 use Rattle.protocol.specs.OnBook as book
 use Rattle.protocol.specs.History.{History, grown, kept_reader}
 use Rattle.protocol_laws.proofs.first.Lists.{all_join, weaker}
@@ -92,8 +91,8 @@ readers_of_kept w (Decide t) s h ok n g = all_join (ReaderIn (after w (Decide t)
         by : (b v : Bool) → is_value x.0.result ≡ b → x.0.reader ≡ v → AllByRecursion (ReaderIn (book.changed_act t (book.decided_as s.book.next_c) s.book.acts)) (if b && v then OfAct x.0.tid ∷ [] else [])
         by true true p q = (
           subst (λ u. holds reads_with_value (act_of u (book.changed_act t (book.decided_as s.book.next_c) s.book.acts)) ≡ true) (sym tid)
-          (subst (λ o. holds reads_with_value o ≡ true) (sym (changed_found t (book.decided_as s.book.next_c) x.0 s.book.acts (λ y. refl) x.1))
-          (and_from (is_ordered (book.decided_status s.book.next_c (is_value x.0.result) x.0.status)) (is_value x.0.result && x.0.reader) (placed (is_value x.0.result) x.0.status (and_parts (is_some x.0.result) (is_live_status x.0.status) x.2).1) (and_from (is_value x.0.result) x.0.reader p q))),
+              (subst (λ o. holds reads_with_value o ≡ true) (sym (changed_found t (book.decided_as s.book.next_c) x.0 s.book.acts (λ y. refl) x.1))
+              (and_from (is_ordered (book.decided_status s.book.next_c (is_value x.0.result) x.0.status)) (is_value x.0.result && x.0.reader) (placed (is_value x.0.result) x.0.status (and_parts (is_some x.0.result) (is_live_status x.0.status) x.2).1) (and_from (is_value x.0.result) x.0.reader p q))),
           tt,
         )
         by true false p q = tt

@@ -153,10 +153,13 @@ ReadersLeave a ds = AllByRecursion (λ d. d.reader ≡ true → LeavesIt (d.view
 each_apart : (a : ℕ) (d : Done) (ds : List Done) → (came_to a d ≡ true → AllByRecursion (λ e. (d.reader && e.reader) ≡ false → is_place_below d.place e.place ≡ true) (visitors a ds)) → (d.reader ≡ true → LeavesIt (d.views a)) → ReadersLeave a ds
     → AllByRecursion (λ x. is_place_below d.place x.place ≡ false → Apart a d x) ds
 each_apart a d [] r k h = tt
-each_apart a d (x ∷ ds) r k h = (elim (cases_Bool (came_to a d)) [
-  | inr e ↦ (λ q. inl e)
-  | inl e ↦ by (came_to a x) refl (r e)
-], each_apart a d ds (λ i. rest (came_to a x) (r i)) k h.1)
+each_apart a d (x ∷ ds) r k h = (
+  elim (cases_Bool (came_to a d)) [
+    | inr e ↦ (λ q. inl e)
+    | inl e ↦ by (came_to a x) refl (r e)
+  ],
+  each_apart a d ds (λ i. rest (came_to a x) (r i)) k h.1,
+)
   where
     rest : (b : Bool) → AllByRecursion (λ e. (d.reader && e.reader) ≡ false → is_place_below d.place e.place ≡ true) (if b then x ∷ visitors a ds else visitors a ds) → AllByRecursion (λ e. (d.reader && e.reader) ≡ false → is_place_below d.place e.place ≡ true) (visitors a ds)
     rest true g = g.1

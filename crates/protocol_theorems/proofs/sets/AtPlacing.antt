@@ -91,10 +91,10 @@ arrive_ends w Of finish k a t s h x y ok g b f e live there =
     let tids = book.tids_on (cell_at s a).entries in
     let xs = map (book.lowered k tids) s.book.acts in
     let q = crossed_ends s.book.cascades (grown w (Arrive k a) s h).long (grown w (Arrive k a) s h).before (grown w (Arrive k a) s h).behind a t xs y
-        (befores.mapped h.before (book.lowered k tids) s.book.acts (λ x. record { tid = refl; m = refl; doomed = λ d. d }) b.sets)
-        (afters.arrived_least w k a s h ok (record { beside = higher.beside w Of finish s h g; placed = g.good.placed; tids = f.high.tids; none_live = f.high.none_live }) f.after_sets)
-        there
-        (λ z i. let v = found_back (book.lowered k tids) t s.book.acts z (λ x. refl) i in subst (λ (z : Act). is_live_status z.status ≡ true) v.1.1 (same_live x v.0 (act_of t s.book.acts) e live v.1.0)) in
+    (befores.mapped h.before (book.lowered k tids) s.book.acts (λ x. record { tid = refl; m = refl; doomed = λ d. d }) b.sets)
+    (afters.arrived_least w k a s h ok (record { beside = higher.beside w Of finish s h g; placed = g.good.placed; tids = f.high.tids; none_live = f.high.none_live }) f.after_sets)
+    there
+    (λ z i. let v = found_back (book.lowered k tids) t s.book.acts z (λ x. refl) i in subst (λ (z : Act). is_live_status z.status ≡ true) v.1.1 (same_live x v.0 (act_of t s.book.acts) e live v.1.0)) in
     record { m = q.0; n = q.1.0; there = q.1.1 }
 
 -- ---- an ACT asks, and nobody is in its way
@@ -117,13 +117,13 @@ ask_ends w Of finish u a t s h x y v ok g b f none e live there =
     let xs = raised (s.book.pairs ++ book.new_pairs u a group s.book.acts) joined in
     let high' = higher.kept w Of finish (Ask u a) s h v ok g b.high in
     let q = crossed_ends s.book.cascades (grown w (Ask u a) s h).long (asked_before true u a s h) h.behind a t xs y
-        (befores.asks_raised w u a s h (higher.owed w Of finish (Ask u a) s h v ok g) (before_stand.sets_with w Of finish (Ask u a) s h ok g b high') b.sets none)
-        (afters.asked_least w u a s h (record { beside = higher.beside w Of finish s h g; placed = g.good.placed; tids = f.high.tids; none_live = f.high.none_live }) f.after_sets)
-        (subst (λ o. act_of t (book.asked_acts o group u a m s.book) ≡ Some y) none there)
-        (λ z i.
-        let q = raised_back (s.book.pairs ++ book.new_pairs u a group s.book.acts) t joined z i in
-        let r = found_back (λ x. book.change_if (x.tid == u) (book.joins a m) x) t s.book.acts q.0 (λ x. tid_joined (x.tid == u) a m x) q.1.0 in
-        let l = same_live x r.0 (act_of t s.book.acts) e live r.1.0 in
-        subst (λ st. is_live_status st ≡ true) (sym q.1.1) (subst (λ (z : Act). is_live_status z.status ≡ true) r.1.1 (subst (λ st. is_live_status st ≡ true) (sym (status_joined (r.0.tid == u) a m r.0)) l))) in
+    (befores.asks_raised w u a s h (higher.owed w Of finish (Ask u a) s h v ok g) (before_stand.sets_with w Of finish (Ask u a) s h ok g b high') b.sets none)
+    (afters.asked_least w u a s h (record { beside = higher.beside w Of finish s h g; placed = g.good.placed; tids = f.high.tids; none_live = f.high.none_live }) f.after_sets)
+    (subst (λ o. act_of t (book.asked_acts o group u a m s.book) ≡ Some y) none there)
+    (λ z i.
+    let q = raised_back (s.book.pairs ++ book.new_pairs u a group s.book.acts) t joined z i in
+    let r = found_back (λ x. book.change_if (x.tid == u) (book.joins a m) x) t s.book.acts q.0 (λ x. tid_joined (x.tid == u) a m x) q.1.0 in
+    let l = same_live x r.0 (act_of t s.book.acts) e live r.1.0 in
+    subst (λ st. is_live_status st ≡ true) (sym q.1.1) (subst (λ (z : Act). is_live_status z.status ≡ true) r.1.1 (subst (λ st. is_live_status st ≡ true) (sym (status_joined (r.0.tid == u) a m r.0)) l))) in
     let same : (grown w (Ask u a) s h).before ≡ asked_before true u a s h = ap (λ o. asked_before (is_none o) u a s h) none in
     record { m = q.0 ∙ ap (λ (f : ℕ → List ℕ). greatest (f y.tid)) (sym same); n = q.1.0; there = q.1.1 }
