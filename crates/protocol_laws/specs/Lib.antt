@@ -8,6 +8,7 @@ pub mod OneWay
 pub mod Places
 pub mod Ranges
 pub mod Rising
+pub mod Sees
 pub mod Told
 pub mod Tracks
 pub mod Trails

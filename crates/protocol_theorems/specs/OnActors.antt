@@ -12,8 +12,9 @@ use Rattle.protocol.specs.Effects.{cell_at}
 use Rattle.protocol.specs.OnCell.{is_entry_among}
 use Rattle.protocol.specs.History.{History}
 use Rattle.protocol_laws.specs.Places.{Ascends}
+use Rattle.protocol_laws.specs.Sees.{SeesAt}
 
--- behind an entry that is no complete batch nothing has run
+-- behind an entry that is no complete batch nothing has run that changes the state, so no image was taken
 abbrev pub HaveRunInOrder : List Entry → List Image → Type 0
 HaveRunInOrder [] images = Unit {0}
 HaveRunInOrder (e ∷ es) images = (is_complete_batch e ≡ false → AllByRecursion (λ i. is_entry_among i.who es ≡ false) images) × HaveRunInOrder es images
@@ -39,6 +40,11 @@ pub record LiesInOrder {C : Type 0} (s : Machine C) (c : Cell C) : Type 0 where
 
 abbrev pub AllLieInOrder : {C : Type 0} → Fixed C → (C → List State → Alone) → Machine C → History → Type 0
 AllLieInOrder w finish s h = (a : ℕ) → LiesInOrder s (cell_at s a)
+
+-- Where an ACT that only reads has run on an actor and still stands there, it found the state that the actor has, and left it
+-- so; and none has run behind a batch that is not complete there, or behind an ACT that does not only read.
+abbrev pub ReadersSee : {C : Type 0} → Fixed C → (C → List State → Alone) → Machine C → History → Type 0
+ReadersSee w finish s h = (a : ℕ) → SeesAt (cell_at s a).state (h.reads a) (cell_at s a).entries
 
 -- How much there is: of what is live, on each actor, and of images before a slice begins a new one.
 pub record LimitsHold {C : Type 0} (w : Fixed C) (finish : C → List State → Alone) (s : Machine C) (h : History) : Type 0 where

@@ -5,9 +5,10 @@ use Rattle.snap_base.specs.declared.transactions.State.{State}
 use Rattle.snap_base.specs.declared.transactions.TxResult.TheVariants.{Value, Fail}
 use Rattle.snap_base.specs.declared.verdicts.Place.{Place}
 use Rattle.snap_base.specs.declared.verdicts.Verdict.TheVariants as verdicts
-use Rattle.protocol.specs.Fixed.{Fixed}
+use Rattle.protocol.specs.Fixed.{Fixed, is_reader}
 use Rattle.protocol.specs.Facts.{Alone, state_in}
 use Rattle.protocol.specs.Parts.{Machine}
+use Rattle.protocol.specs.Words.{is_act_who}
 use Rattle.protocol.specs.Verdicts.{verdict, ended_at}
 use Rattle.protocol.specs.Effects.{cell_at}
 use Rattle.protocol.specs.Runs.{IsQuiet}
@@ -24,6 +25,10 @@ abbrev pub LeavesIt : Option View → Type 0
 LeavesIt None = Unit {0}
 LeavesIt (Some v) = v.left ≡ v.found
 
+-- it is a reader exactly where it is an ACT whose method only reads
+abbrev pub IsReader : {C : Type 0} → Fixed C → Done → Type 0
+IsReader w d = d.reader ≡ (is_act_who d.who && is_reader w d.tx)
+
 -- The first list is the second one, in which readers may stand further ahead, past readers alone.
 pub data Shuffled : List Done → List Done → Type 0 where
   Nobody : (cs us : List Done) → cs ≡ [] → us ≡ [] → Shuffled cs us
@@ -36,6 +41,9 @@ pub record OrderStands {C : Type 0} (w : Fixed C) (finish : C → List State →
   pub serial : IsSerial w finish h.committed
   -- each does alone, on any world with the states that it found, what it did: its result, and what it left on each actor
   pub explained : AllByRecursion (IsExplained w finish) h.committed
+  -- a reader is an ACT whose method only reads, and left on each actor what it found
+  pub readers_are : AllByRecursion (IsReader w) h.committed
+  pub readers_leave : (a : ℕ) → AllByRecursion (λ d. d.reader ≡ true → LeavesIt (d.views a)) h.committed
   -- no two places are equal
   pub rise : PlacesRise (by_place h.committed)
   -- on each actor places rise in the order in which they were placed there, but for two readers, and states link
@@ -60,7 +68,8 @@ pub record OrderFacts {C : Type 0} (w : Fixed C) (finish : C → List State → 
   -- in the order of commits states link on each actor, and places rise, but for two readers
   pub linked : (a : ℕ) → a < length w.text.opening.states → StatesLink a (state_in w.text.opening.states a) h.committed
   pub rise : (a : ℕ) → a < length w.text.opening.states → RivalsRise (visitors a h.committed)
-  -- a reader leaves what it finds
+  -- who is a reader, and that a reader leaves what it finds
+  pub readers : AllByRecursion (IsReader w) h.committed
   pub still : (a : ℕ) → AllByRecursion (λ d. d.reader ≡ true → LeavesIt (d.views a)) h.committed
   pub differ : PlacesDiffer h.committed
   -- the order of placing is the order of commits, but that a reader may stand ahead of readers that committed before it

@@ -1,14 +1,21 @@
 //! What lies on an actor, how much there may be, and that what is new finds its place.
 
 ghost use Rattle.protocol.specs.Laws.{AfterEveryRun, AfterEveryRunWithHistory};
-ghost use Rattle.protocol_theorems.specs.OnActors.{AllLieInOrder, LimitsHold};
+ghost use Rattle.protocol_theorems.specs.OnActors.{AllLieInOrder, LimitsHold, ReadersSee};
 ghost use Rattle.protocol_theorems.specs.Sizes.{AllFindRoom, SizesHold};
 
-/// On every actor batches ascend, each image is of an entry, and nothing has run behind an entry that is no complete batch. A
+/// On every actor batches ascend, each image is of an entry, and nothing has run behind an entry that is no complete batch,
+/// ACTs that only read aside. A
 /// cell that has not seen all cascades holds aborted batches exactly from the first one of the next cascade on, and the ACTs
 /// behind one are doomed; a cell that has seen all of them holds none.
 pub fn actors_lie_in_order<C>()
     ensures { AfterEveryRunWithHistory (AllLieInOrder {C = C}) }
+{}
+
+/// Where an ACT that only reads has run on an actor and still stands there, it found the state that the actor has, and left it
+/// so; and none has run behind a batch that is not complete there, or behind an ACT that does not only read.
+pub fn readers_see_the_state<C>()
+    ensures { AfterEveryRunWithHistory (ReadersSee {C = C}) }
 {}
 
 /// No more batches and ACTs are live than the text allows; no more batches, ACTs and images lie on an actor; and a slice that

@@ -10,7 +10,9 @@ mod cases;
 mod parts;
 mod theorems;
 
-pub use actors::{actors_lie_in_order, limits_hold, sizes_hold, what_is_new_is_not_there};
+pub use actors::{
+    actors_lie_in_order, limits_hold, readers_see_the_state, sizes_hold, what_is_new_is_not_there,
+};
 pub use books::{books_are_asked_by_parts, books_are_of_parts, halves_go_on, halves_stay_fit};
 pub use cases::{cases_of_order, schedules_are_in_order};
 pub use parts::{batches_have_actors, boxes_are_few, controls_are_rests, places_are_few};

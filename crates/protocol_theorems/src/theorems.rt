@@ -11,9 +11,9 @@ ghost use Rattle.protocol_theorems.specs.Sets.{NumbersStand};
 ghost use Rattle.protocol_theorems.specs.Waits.{WaitsEnd};
 
 /// Run one after the other in the order of their places, the transactions that committed give the results that they
-/// had; no two places are equal; on each actor places rise and states link in the order of placing; and who is told
-/// a place is one of them, there, with that result. Where no event is allowed each of them is told so, and the actors
-/// have the states that the serial run leaves.
+/// had; no two places are equal; on each actor states link in the order of placing, and places rise, but for two ACTs that
+/// only read, which left there what they found; and who is told a place is one of them, there, with that result. Where no
+/// event is allowed each of them is told so, and the actors have the states that the serial run leaves.
 pub fn committed_transactions_are_in_order<C>()
     ensures { AfterEveryRunWithHistory (OrderHolds {C = C}) }
 {}
@@ -26,17 +26,18 @@ pub fn runs_that_cannot_go_on_have_answered<C>()
 {}
 
 /// A batch or an ACT that still has something to do waits for another one in five cases: an ACT that has ended, for the
-/// batch of its before number; one that is to run on an actor, for a batch and for an ACT ahead of it there; an open batch,
-/// for each smaller one, and for an ACT ahead of it on an actor. Who is waited for is lower: by number, a batch before an
-/// ACT of the same number, and of two such ACTs the younger first. So nobody waits in a circle; and where one waits for
-/// nobody, some event is allowed.
+/// batch of its before number; one that is to run on an actor, for a batch ahead of it there, and for an ACT, unless both
+/// only read; an open batch, for each smaller one, and for an ACT ahead of it on an actor. Who is waited for is lower: by
+/// number, a batch before an ACT of the same number, and of two such ACTs the younger first. So nobody waits in a circle;
+/// and where one waits for nobody, some event is allowed.
 pub fn nobody_waits_in_a_circle<C>()
     ensures { AfterEveryRunWithHistory (WaitsEnd {C = C}) }
 {}
 
 /// Before and after numbers are the greatest and the least of the batches that stand before and behind an ACT, in sets
-/// that are closed along the pairs that carry, and do not cross; who has its place stands behind nobody that is not doomed; a floor is the greatest before number of
-/// those that left; and on each actor places rise in the order of commits.
+/// that are closed along the pairs that carry, and do not cross; who has its place stands behind nobody that is not doomed; an
+/// actor's two floors are the greatest before numbers of the readers that left it, and of the others; and on each actor places
+/// rise in the order of commits, but for two ACTs that only read.
 pub fn numbers_are_the_ends_of_sets<C>()
     ensures { AfterEveryRunWithHistory (NumbersStand {C = C}) }
 {}

@@ -46,7 +46,8 @@ use Rattle.protocol_laws.proofs.machine.ShowsKept.{viewed}
 use Rattle.protocol_laws.proofs.machine.HighLists
 use Rattle.protocol_laws.specs.Highs.{is_free}
 use Rattle.protocol_laws.proofs.machine.ReadersKept.{LockOf, Locks, reader_of}
-use Rattle.protocol_laws.proofs.machine.ReadersSee.{ReadBy, reads_at, not_read, AllSee, SeesAt, Lined, lined, view_sees, no_view, entry_sees, none_has, none_seen}
+use Rattle.protocol_laws.specs.Sees.{SeesAt}
+use Rattle.protocol_laws.proofs.machine.ReadersSee.{ReadBy, reads_at, not_read, AllSee, Lined, lined, view_sees, no_view, entry_sees, none_has, none_seen}
 use Rattle.protocol_laws.proofs.machine.StartsKept.{Starts, Started, NoPact, no_slot, ran_there}
 use Rattle.protocol_laws.proofs.first.Lists.{all_found, some_of, weaker}
 use Rattle.protocol_laws.proofs.first.Statuses.{live_not_doomed, live_unordered, settled_not_formed}

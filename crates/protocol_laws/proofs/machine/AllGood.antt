@@ -68,6 +68,7 @@ use Rattle.protocol_laws.proofs.machine.CommitLists.{linked_one}
 use Rattle.protocol_laws.proofs.machine.ReadersCommit.{ReadersOf, readers_of_kept}
 use Rattle.protocol_laws.proofs.machine.ReadersKept as readers
 use Rattle.protocol_laws.proofs.machine.ReadersKept.{Locks, ActReads}
+use Rattle.protocol_laws.specs.Sees.{SeesAt}
 use Rattle.protocol_laws.proofs.machine.ReadersSee as see
 use Rattle.protocol_laws.proofs.machine.ReadersSee.{ReadBy, AllSee}
 
@@ -216,7 +217,7 @@ opened {C} w Of finish v = record {
   act_reads = λ t x e. absurd (cc e);
   read_by = λ a. tt;
   readers_of = tt;
-  see = λ b. subst (see.SeesAt (cell_at (opening w) b).state []) (sym (whole.no_entries C (base w.text) w.text.opening.states b)) tt;
+  see = λ b. subst (SeesAt (cell_at (opening w) b).state []) (sym (whole.no_entries C (base w.text) w.text.opening.states b)) tt;
 }
 
 -- ---- over every run

@@ -18,6 +18,7 @@ use Rattle.protocol.specs.OnCell as cell
 use Rattle.protocol.specs.OnCell.{is_cut}
 use Rattle.protocol.specs.History.{History, Slice, Ran, Stands, Gone, grown, with_at, read_on, view_in, last_left, is_reader_act, without_standing, long_staying}
 use Rattle.protocol_laws.specs.Tracks.{key_of, keys_in, is_key_among, Differ, slices_in, InOrder, has_read}
+use Rattle.protocol_laws.specs.Sees.{blocks, HasNotRead, Seen, SeesAt}
 use Rattle.protocol_laws.specs.Turns.{Turns}
 use Rattle.protocol_laws.proofs.first.Lists.{all_filter, all_join, weaker}
 use Rattle.protocol_laws.proofs.machine.TrackLists
@@ -88,23 +89,6 @@ not_read a t acts [] e h = refl
 not_read a t acts (z ∷ zs) e h = or_from (z.tid == t) (has_read zs t) (false_from_ne_true (z.tid == t) (λ q. true≢false (sym h.0 ∙ (ap (λ n. holds (reads_at a) (act_of n acts)) (eqb-true z.tid t q) ∙ e)))) (not_read a t acts zs e h.1)
 
 -- ---- what readers see
-
--- no reader runs behind it
-abbrev pub blocks : Entry → Bool
-blocks (BatchEntry b) = not b.complete
-blocks (ActEntry x) = not x.reader
-
-abbrev pub HasNotRead : List Slice → Entry → Type 0
-HasNotRead reads (BatchEntry b) = Unit {0}
-HasNotRead reads (ActEntry x) = x.reader ≡ true → has_read reads x.tid ≡ false
-
-abbrev pub Seen : State → List Slice → Entry → Type 0
-Seen now reads (BatchEntry b) = Unit {0}
-Seen now reads (ActEntry x) = x.reader ≡ true → AllByRecursion (λ z. z.tid ≡ x.tid → (z.found ≡ now) × (z.left ≡ now)) reads
-
-abbrev pub SeesAt : State → List Slice → List Entry → Type 0
-SeesAt now reads [] = Unit {0}
-SeesAt now reads (e ∷ es) = Seen now reads e × (blocks e ≡ true → AllByRecursion (HasNotRead reads) es) × SeesAt now reads es
 
 unfoldable pub AllSee : {C : Type 0} → Machine C → History → Type 0
 AllSee s h = (a : ℕ) → SeesAt (cell_at s a).state (h.reads a) (cell_at s a).entries

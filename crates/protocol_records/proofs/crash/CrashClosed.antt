@@ -1,5 +1,4 @@
--- On each actor the members of a moment are a front of all that committed there with a value in the whole run, in the order
--- in which it was placed there.
+-- The history of a run goes on from each of its moments.
 use Rattle.std.specs.Prelude.{◌≡◌, refl, List, [], ◌∷◌, ◌++◌}
 use Rattle.protocol.specs.Fixed.{Fixed}
 use Rattle.protocol.specs.Events.{Event}

@@ -27,7 +27,8 @@ use Rattle.protocol_laws.proofs.machine.BehindKept.{Behind, AllBehind}
 use Rattle.protocol_laws.proofs.machine.ActsKept.{Acts}
 use Rattle.protocol_laws.proofs.machine.ActsOwed.{top_at, sound_at}
 use Rattle.protocol_laws.proofs.machine.ReadersKept.{LockOf, Locks, reader_of}
-use Rattle.protocol_laws.proofs.machine.ReadersSee.{AllSee, SeesAt, Lined, lined, none_has}
+use Rattle.protocol_laws.specs.Sees.{SeesAt}
+use Rattle.protocol_laws.proofs.machine.ReadersSee.{AllSee, Lined, lined, none_has}
 use Rattle.protocol_laws.proofs.machine.AllGood.{AllGood}
 use Rattle.protocol_records.proofs.crash.OnLong.{on_kept}
 use Rattle.protocol_records.proofs.crash.KeptSure.{SureOf, same_who, settled_low, at_decide}

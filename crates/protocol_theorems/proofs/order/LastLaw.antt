@@ -66,6 +66,7 @@ at_opening w finish = record {
   explained = tt;
   linked = λ a k. tt;
   rise = λ a k. tt;
+  readers = tt;
   still = λ a. tt;
   differ = tt;
   chains = λ a k. Nobody [] [] refl refl;

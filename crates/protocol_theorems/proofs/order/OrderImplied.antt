@@ -299,6 +299,8 @@ pub order_stands : {C : Type 0} (w : Fixed C) (finish : C → List State → Alo
 order_stands w finish s h f = record {
   serial = serial_results w finish (by_place h.committed) w.text.opening.states refl (explained_sorted w finish s h f) (linked_sorted w finish s h f);
   explained = f.explained;
+  readers_are = f.readers;
+  readers_leave = f.still;
   rise = rises_sorted h.committed f.differ;
   chains_rise = λ a k. shuffled_rise (chain a h) (visitors a h.committed) (f.chains a k) (f.rise a k);
   chains_link = λ a k. shuffled_links a (state_in w.text.opening.states a) (chain a h) (visitors a h.committed) (f.chains a k) (left_visitors a h.committed (f.still a)) (links_visitors a (state_in w.text.opening.states a) h.committed (f.linked a k));

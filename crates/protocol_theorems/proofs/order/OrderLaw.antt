@@ -1,5 +1,5 @@
 -- The order of committed transactions, of every run, from what is owed at each event and at its end.
-use Rattle.std.specs.Prelude.{◌≡◌, refl, ℕ, ◌<◌, ℤ, Some, List, [], ◌∷◌, ◌++◌, length, slice_index_or, Option, None, Bool, true, false, if◌then◌else◌, map}
+use Rattle.std.specs.Prelude.{◌≡◌, refl, ℕ, ◌<◌, ◌==◌, ℤ, Some, List, [], ◌∷◌, ◌++◌, length, slice_index_or, Option, None, Bool, true, false, if◌then◌else◌, map}
 use Rattle.std.specs.List.{AllByRecursion}
 use Rattle.std.proofs.Common.{sym, ap, subst, ◌∙◌}
 use Rattle.snap_base.specs.declared.transactions.State.{State}
@@ -10,10 +10,10 @@ use Rattle.snap_base.specs.declared.verdicts.Verdict.TheVariants as verdicts
 use Rattle.protocol_theorems.proofs.order.ViewsExplain.{own_slices}
 use Rattle.protocol_laws.proofs.machine.CommitsKept as committing
 use Rattle.protocol_laws.proofs.machine.ReadersSee.{ReadBy}
-use Rattle.protocol_laws.proofs.machine.ReadersKept.{Locks}
-use Rattle.protocol.specs.Fixed.{Fixed, no_state}
+use Rattle.protocol_laws.proofs.machine.ReadersKept.{Locks, ActReads}
+use Rattle.protocol.specs.Fixed.{Fixed, is_reader, no_state}
 use Rattle.protocol.specs.Facts.{Alone, state_in}
-use Rattle.protocol.specs.Parts.{Machine, Pact}
+use Rattle.protocol.specs.Parts.{Machine, OfAct, Pact}
 use Rattle.protocol.specs.Events.{Event, Commit, Decide}
 use Rattle.protocol.specs.Verdicts.{verdict, ended_at}
 use Rattle.protocol.specs.Conditions.{IsAllowed}
@@ -27,7 +27,7 @@ use Rattle.protocol.specs.Words.{batch_of, act_of}
 use Rattle.protocol.specs.Events.{Commit, Decide}
 use Rattle.protocol_laws.specs.Linked.{visitors, PlacesDiffer}
 use Rattle.protocol_laws.specs.Told.{IsAmongDone}
-use Rattle.protocol_theorems.specs.Order.{OrderFacts, LeavesIt, Nobody}
+use Rattle.protocol_theorems.specs.Order.{OrderFacts, LeavesIt, IsReader, Nobody}
 use Rattle.protocol_laws.proofs.machine.Good.{Good, Given, Owed, for_chain}
 use Rattle.protocol_laws.proofs.machine.CommitLists.{rest_slices, in_two, linked_one, Sees}
 use Rattle.protocol_laws.proofs.machine.CommitsKept.{Committed}
@@ -40,7 +40,7 @@ use Rattle.protocol_theorems.proofs.order.ExplainedKept.{Results, NoActResult, A
 use Rattle.protocol_theorems.proofs.order.ExplainedKept as explained
 use Rattle.protocol_theorems.proofs.order.ChainsKept.{Chained, Owes}
 use Rattle.protocol_theorems.proofs.order.ChainsKept as chains
-use Rattle.protocol_laws.proofs.first.Lists.{join_nil, join_assoc, all_join}
+use Rattle.protocol_laws.proofs.first.Lists.{all_found, join_nil, join_assoc, all_join}
 use Rattle.protocol_laws.proofs.first.Times.{length_map}
 
 -- ---- what is owed at each event
@@ -57,6 +57,7 @@ pub record OwedAt {C : Type 0} (w : Fixed C) (e : Event) (s : Machine C) (h : Hi
   -- readers
   pub locks : Locks s
   pub read_by : ReadBy s h
+  pub act_reads : ActReads w s h
 
 -- ---- a reader leaves what it finds
 
@@ -80,6 +81,26 @@ stills_kept w (Decide t) s h am g = λ a. all_join _ h.committed _ (g a) (subst 
     own a q = seen (cell_at s a).state (act_view h am.0 a) (subst (λ v. Sees (cell_at s a).state (view_in am.0.tid (slices_for v am.0.tid (h.reads a) (h.long a)))) (sym q) (subst (λ n. Sees (cell_at s a).state (view_in n (h.reads a))) (sym am.1.tid) (am.1.reads q a).sees))
 stills_kept w e s h am g = g
 
+-- ---- who is a reader
+
+unfoldable pub ReadersAre : {C : Type 0} → Fixed C → History → Type 0
+ReadersAre w h = AllByRecursion (IsReader w) h.committed
+
+no_pact_reads : {C : Type 0} (w : Fixed C) (k : ℕ) (h : History) (ps : List Pact) → AllByRecursion (IsReader w) (map (done_pact k h) ps)
+no_pact_reads w k h [] = tt
+no_pact_reads w k h (p ∷ ps) = (refl, no_pact_reads w k h ps)
+
+readers_kept : {C : Type 0} (w : Fixed C) (e : Event) (s : Machine C) (h : History) → committing.Assumed e s h → Named s h → ActReads w s h → ReadersAre w h → ReadersAre w (grown w e s h)
+unfolding committing.Assumed ReadersAre ActReads grown
+readers_kept w (Commit k) s h am n r g = all_join (IsReader w) h.committed _ g (subst (λ z. AllByRecursion (IsReader w) (done_batch k h z)) (sym am.1.is_it) (no_pact_reads w k h am.0.pacts))
+readers_kept w (Decide t) s h am n r g = all_join (IsReader w) h.committed _ g (subst (λ z. AllByRecursion (IsReader w) (done_act s.book.next_c h z)) (sym am.1.is_it) (own, tt))
+  where
+    own : am.0.reader ≡ is_reader w am.0.tx
+    own =
+        let i = all_found (λ x. names.IsNamed s.ring.next_tid h.owners h.trails (OfAct x.tid) x.tid x.tx) (λ x. x.tid == t) s.book.acts am.0 n.acts am.1.is_it in
+        r t am.0 am.1.is_it ∙ ap (is_reader w) (ap (λ u. (h.trails u).tx) (sym am.1.tid) ∙ i.0.tx)
+readers_kept w e s h am n r g = g
+
 -- ---- all of it, along a run
 
 pub record Ordered {C : Type 0} (w : Fixed C) (Of : Tx → C → Type 0) (finish : C → List State → Alone) (s : Machine C) (h : History) : Type 0 where
@@ -89,6 +110,7 @@ pub record Ordered {C : Type 0} (w : Fixed C) (Of : Tx → C → Type 0) (finish
   pub explained : AllExplained w finish h
   pub chained : Chained s h
   pub stills : Stills h
+  pub readers : ReadersAre w h
 
 pub kept : {C : Type 0} (w : Fixed C) (Of : Tx → C → Type 0) (finish : C → List State → Alone) (e : Event) (s : Machine C) (h : History) → Given w Of finish → IsAllowed w e s → OwedAt w e s h → Good w Of finish s h → Ordered w Of finish s h → Ordered w Of finish (after w e s) (grown w e s h)
 kept w Of finish e s h v ok o g i =
@@ -100,10 +122,11 @@ kept w Of finish e s h v ok o g i =
       explained = explained.explained_kept w Of finish e s h v.facts ok am g.tracked i.named i.matched i.results i.explained;
       chained = chains.kept w e s h ok o.placing o.live_stay am g.settling g.placed g.tracked i.named i.chained;
       stills = stills_kept w e s h am i.stills;
+      readers = readers_kept w e s h am i.named o.act_reads i.readers;
     }
 
 pub opened : {C : Type 0} (w : Fixed C) (Of : Tx → C → Type 0) (finish : C → List State → Alone) → Given w Of finish → Ordered w Of finish (opening w) no_history
-unfolding Matched AllExplained
+unfolding Matched AllExplained ReadersAre
 opened {C} w Of finish v = record {
   named = record { pacts = tt; acts = tt; standing = λ a. tt };
   matched = λ who t r a. none t (Rattle.protocol_laws.specs.Commits.reads_who [] who);
@@ -111,6 +134,7 @@ opened {C} w Of finish v = record {
   explained = tt;
   chained = record { over = tt; drawn = λ a. tt; stands = λ t a l p. absurd (Rattle.std.proofs.lemmas.Bool.true≢false (sym l)); chains = λ a. record { once = tt; in_order = tt; front = tt; chain = Nobody [] [] refl refl } };
   stills = λ a. tt;
+  readers = tt;
 }
   where
     none : (t : ℕ) (v : Bool) → [] ≡ own_slices t (if v then [] else [])
@@ -145,11 +169,12 @@ quiet_state w s h a t c e =
 
 -- The facts that imply the order.
 pub facts : {C : Type 0} (w : Fixed C) (Of : Tx → C → Type 0) (finish : C → List State → Alone) (s : Machine C) (h : History) → Good w Of finish s h → Ordered w Of finish s h → PlacesHold w h → Told s h → OrderFacts w finish s h
-unfolding Committed AllExplained
+unfolding Committed AllExplained ReadersAre
 facts w Of finish s h k g p t = record {
   explained = g.explained;
   linked = λ a l. (k.committed a).links;
   rise = p.rise;
+  readers = g.readers;
   still = g.stills;
   differ = p.differ;
   chains = λ a k. (g.chained.chains a).chain;

@@ -156,4 +156,5 @@ owed w Of finish e s h v ok once g =
       placing = placing w Of finish e s h ok once g o;
       locks = g.locks;
       read_by = g.read_by;
+      act_reads = g.act_reads;
     }

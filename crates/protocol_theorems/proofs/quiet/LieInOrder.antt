@@ -22,7 +22,7 @@ use Rattle.protocol_laws.specs.Tracks.{Key, key_of, keys_in, is_key_among, Diffe
 use Rattle.protocol_laws.specs.Turns.{Turns}
 use Rattle.protocol_laws.specs.Places.{Ascends}
 use Rattle.protocol_laws.specs.Highs.{AllDoomed, TakenAlong, doomed_at}
-use Rattle.protocol_theorems.specs.OnActors.{HaveRunInOrder, AreTakenAlong, LiesInOrder, AllLieInOrder}
+use Rattle.protocol_theorems.specs.OnActors.{ReadersSee, HaveRunInOrder, AreTakenAlong, LiesInOrder, AllLieInOrder}
 use Rattle.protocol_laws.proofs.first.Lists.{all_join, both_all, join_nil, weaker}
 use Rattle.protocol_laws.proofs.first.CellEpochs as cells
 use Rattle.protocol_laws.proofs.first.SettlingKept as settling
@@ -31,6 +31,8 @@ use Rattle.protocol_laws.proofs.machine.TracksKept.{Tracked}
 use Rattle.protocol_laws.proofs.machine.TurnsKept.{Turned}
 use Rattle.protocol_laws.proofs.machine.BehindKept.{AllBehind}
 use Rattle.protocol_laws.proofs.machine.Good.{Given}
+use Rattle.protocol_laws.specs.Sees.{SeesAt}
+use Rattle.protocol_laws.proofs.machine.ReadersSee.{AllSee}
 use Rattle.protocol_laws.proofs.machine.AllGood.{all_good, none_allowed}
 use Rattle.protocol_laws.proofs.machine.Higher.{behind_taken}
 use Rattle.protocol_theorems.proofs.quiet.RowsKept as rows
@@ -211,4 +213,13 @@ all_lie {C} w finish es f t run = by es run (length w.text.opening.states) refl
         let g = all_good w Of finish es v run in
         lies w (reached w es) (history w es) a g.good.tracked g.good.turned g.behind (known_after w es t v.actors run).rows (cells.cells_agree w es t run) (settling.batches_settle_in_order w es t run)
     by [] run zero l = λ a. subst (LiesInOrder (opening w)) (sym (no_cell_at (base w.text) w.text.opening.states a l)) (record { ascends = tt; entered = tt; in_order = tt; behind = omega arith; cut = λ x e. tt; present = λ e. tt; taken = tt })
+    by (e ∷ es) run zero l = absurd (none_allowed w e t l run.0)
+
+pub all_see : {C : Type 0} → AfterEveryRunWithHistory (ReadersSee {C = C})
+unfolding AllSee
+all_see {C} w finish es f t run = by es run (length w.text.opening.states) refl
+  where
+    by : (es : List Event) → IsRun w es → (n : ℕ) → length w.text.opening.states ≡ n → ReadersSee w finish (reached w es) (history w es)
+    by es run (suc n) l = (all_good w (IsRest w.code (IsTxIn w.text)) finish es (record { text = t; actors = omega (arith, l); facts = f }) run).see
+    by [] run zero l = λ a. subst (λ c. SeesAt c.state [] c.entries) (sym (no_cell_at (base w.text) w.text.opening.states a l)) tt
     by (e ∷ es) run zero l = absurd (none_allowed w e t l run.0)

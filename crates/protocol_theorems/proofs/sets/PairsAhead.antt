@@ -24,7 +24,8 @@ use Rattle.protocol_laws.specs.Highs.{AllDoomed, TakenAlong, doomed_at}
 use Rattle.protocol_laws.proofs.machine.ActsGrow.{Grows, acts_grow, grown_holds}
 use Rattle.protocol_laws.proofs.machine.ReadersKept.{LockOf, Locks}
 use Rattle.protocol_laws.proofs.first.Agree.{agree, agree_is}
-use Rattle.protocol_laws.proofs.machine.ReadersSee.{ReadBy, AllSee, SeesAt, none_has, not_read, reads_at}
+use Rattle.protocol_laws.specs.Sees.{SeesAt}
+use Rattle.protocol_laws.proofs.machine.ReadersSee.{ReadBy, AllSee, none_has, not_read, reads_at}
 use Rattle.protocol_laws.proofs.machine.ActsFound as acts
 use Rattle.protocol_laws.proofs.machine.ActsFound.{Holds}
 use Rattle.protocol_laws.proofs.machine.ActsKept.{Acts}
