@@ -66,7 +66,7 @@ refusals_play = record {
 
 pub rules_play : AllByRecursion IsAsTold rules
 unfolding conditions refusal after
-rules_play = (refl, (refl, (refl, (refl, (refl, (refl, (refl, (refl, (refl, (refl, (refl, (refl, (refl, (refl, (refl, (refl, tt))))))))))))))))
+rules_play = (refl, (refl, (refl, (refl, (refl, (refl, (refl, (refl, (refl, (refl, (refl, (refl, (refl, (refl, (refl, (refl, (refl, tt)))))))))))))))))
 
 pub paths_play : AllByRecursion IsAsTold paths
 unfolding conditions refusal after

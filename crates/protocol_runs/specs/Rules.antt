@@ -3,9 +3,9 @@ use Rattle.std.specs.Prelude.{pos, None, Some, List, [], ◌∷◌}
 use Rattle.snap_base.specs.declared.transactions.TxResult.TheVariants.{Fail}
 use Rattle.protocol.specs.Records.{ActPrepare, ActDone}
 use Rattle.protocol.specs.Events.{Submit, Form, Admit, Arrive, Ask, Take, Run, Send, End, Close, Complete, Sync, Note, Commit, Settle, Abort, Rollback, Prepare, Vouch, Decide, Seal, Finish, Trim}
-use Rattle.protocol.specs.Verdicts.{died}
+use Rattle.protocol.specs.Verdicts.{died, out_of_order}
 use Rattle.protocol_runs.specs.ExampleCode.{holding}
-use Rattle.protocol_runs.specs.Examples.{text, on_logs, at_most, two_actors, put, move, bad, act_put, act_move, act_bad, act_peek, committed, coded, batch_coded, cascaded, taken}
+use Rattle.protocol_runs.specs.Examples.{text, on_logs, at_most, two_actors, three_actors, put, move, bad, act_put, act_move, act_bad, act_peek, committed, coded, batch_coded, cascaded, taken}
 use Rattle.protocol_runs.specs.Lines.{Worked, Does, Refuses, Ends, Field, Fields, Images, Floor, ReadFloor, Last, Numbers, Results, Cascades, Records, Verdicts}
 
 -- An ACT that failed by its own code has its place all the same: the actor's floor rises to its before number.
@@ -283,6 +283,29 @@ two_floors = record {
       ∷ [];
 }
 
+-- A reader that left sealed has its place behind batch 1, which was never on actor 0. A writer that comes there later stands
+-- behind it all the same.
+abbrev pub a_writer_behind_one_that_read : Worked
+a_writer_behind_one_that_read = record {
+  work = text 1 16 three_actors (put 1 (pos 1) (1 ∷ 2 ∷ []) ∷ act_peek 0 ∷ act_move 0 1 (pos 5) ∷ act_move 1 2 (pos 3) ∷ act_put 0 (pos 7) ∷ []);
+  lines =
+      Does (Submit 0 ∷ Form 1 ∷ Submit 1 ∷ Admit 2 ∷ Submit 2 ∷ Admit 3 ∷ Submit 3 ∷ Admit 4 ∷ Ask 4 1 ∷ Ask 3 0 ∷ Run 3 0 ∷ Send 3 0 ∷ Ask 3 1
+      ∷ Ask 2 0 ∷ Arrive 1 1 ∷ Arrive 1 2 ∷ Run 4 1 ∷ Send 4 1 ∷ Ask 4 2 ∷ [])
+      ∷ Numbers 2 1 None
+      ∷ Does (Finish 4 1 ∷ Finish 4 2 ∷ Finish 3 0 ∷ Finish 3 1 ∷ Run 2 0 ∷ End 2 0 ∷ Prepare 2 0 ∷ Sync 0 ∷ Vouch 2 0 ∷ Take 1 1 ∷ Run 1 1 ∷ End 1 1
+      ∷ Close 1 2 ∷ Complete 1 1 ∷ Complete 1 2 ∷ Sync 0 ∷ Note 1 1 ∷ Note 1 2 ∷ Commit 1 ∷ Sync 0 ∷ Settle 1 ∷ Decide 2 ∷ Sync 0 ∷ Seal 2
+      ∷ Finish 2 0 ∷ [])
+      ∷ Last 0 0
+      ∷ Floor 0 0
+      ∷ ReadFloor 0 1
+      ∷ Does (Submit 4 ∷ Admit 5 ∷ Ask 5 0 ∷ [])
+      ∷ Numbers 5 1 None
+      ∷ Ends
+      ∷ Verdicts (committed 1 0 1 (pos 101) ∷ committed 1 1 1 (pos 100) ∷ Some (out_of_order 1 1 2) ∷ Some (out_of_order 1 1 2) ∷ committed 1 1 2 (pos 107) ∷ [])
+      ∷ Fields (pos 107 ∷ pos 101 ∷ pos 100 ∷ [])
+      ∷ [];
+}
+
 -- all of them
 abbrev pub rules : List Worked
 rules =
@@ -302,4 +325,5 @@ rules =
     ∷ a_writer_dies
     ∷ a_writer_waits
     ∷ two_floors
+    ∷ a_writer_behind_one_that_read
     ∷ []
