@@ -268,7 +268,7 @@ a_writer_waits = record {
       ∷ [];
 }
 
--- A reader raises the read floor, which a reader does not pass and a writer does.
+-- A reader that leaves sealed raises the read floor, and leaves the write floor as it was.
 abbrev pub two_floors : Worked
 two_floors = record {
   work = text 1 16 two_actors (put 0 (pos 1) (0 ∷ []) ∷ act_peek 0 ∷ act_peek 0 ∷ act_put 0 (pos 7) ∷ []);
@@ -284,10 +284,10 @@ two_floors = record {
 }
 
 -- A reader that left sealed has its place behind batch 1, which was never on actor 0. A writer that comes there later stands
--- behind it all the same.
+-- behind it all the same, and a reader need not.
 abbrev pub a_writer_behind_one_that_read : Worked
 a_writer_behind_one_that_read = record {
-  work = text 1 16 three_actors (put 1 (pos 1) (1 ∷ 2 ∷ []) ∷ act_peek 0 ∷ act_move 0 1 (pos 5) ∷ act_move 1 2 (pos 3) ∷ act_put 0 (pos 7) ∷ []);
+  work = text 1 16 three_actors (put 1 (pos 1) (1 ∷ 2 ∷ []) ∷ act_peek 0 ∷ act_move 0 1 (pos 5) ∷ act_move 1 2 (pos 3) ∷ act_put 0 (pos 7) ∷ act_peek 0 ∷ []);
   lines =
       Does (Submit 0 ∷ Form 1 ∷ Submit 1 ∷ Admit 2 ∷ Submit 2 ∷ Admit 3 ∷ Submit 3 ∷ Admit 4 ∷ Ask 4 1 ∷ Ask 3 0 ∷ Run 3 0 ∷ Send 3 0 ∷ Ask 3 1
       ∷ Ask 2 0 ∷ Arrive 1 1 ∷ Arrive 1 2 ∷ Run 4 1 ∷ Send 4 1 ∷ Ask 4 2 ∷ [])
@@ -298,10 +298,11 @@ a_writer_behind_one_that_read = record {
       ∷ Last 0 0
       ∷ Floor 0 0
       ∷ ReadFloor 0 1
-      ∷ Does (Submit 4 ∷ Admit 5 ∷ Ask 5 0 ∷ [])
+      ∷ Does (Submit 4 ∷ Admit 5 ∷ Submit 5 ∷ Admit 6 ∷ Ask 6 0 ∷ Ask 5 0 ∷ [])
+      ∷ Numbers 6 0 None
       ∷ Numbers 5 1 None
       ∷ Ends
-      ∷ Verdicts (committed 1 0 1 (pos 101) ∷ committed 1 1 1 (pos 100) ∷ Some (out_of_order 1 1 2) ∷ Some (out_of_order 1 1 2) ∷ committed 1 1 2 (pos 107) ∷ [])
+      ∷ Verdicts (committed 1 0 1 (pos 101) ∷ committed 1 1 1 (pos 100) ∷ Some (out_of_order 1 1 2) ∷ Some (out_of_order 1 1 2) ∷ committed 1 1 3 (pos 107) ∷ committed 0 1 2 (pos 100) ∷ [])
       ∷ Fields (pos 107 ∷ pos 101 ∷ pos 100 ∷ [])
       ∷ [];
 }
