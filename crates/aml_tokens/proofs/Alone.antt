@@ -13,7 +13,7 @@ use Rattle.std.proofs.lemmas.Str.Parse.{IsNumeralModel, numerals_by_value}
 use Rattle.aml_tokens.specs.declared.tokens.Symbol.{Symbol}
 use Rattle.aml_tokens.specs.declared.tokens.Symbol.TheVariants as symbol
 use Rattle.aml_tokens.specs.declared.limits.TheConstants.{LONGEST_NAME}
-use Rattle.aml_tokens.specs.Token.{Token, Name, Number, Field, Sign, CloseBrace}
+use Rattle.aml_tokens.specs.Token.{Token, Name, Number, Field, Sign, Let, CloseBrace}
 use Rattle.aml_tokens.specs.Bytes.{is_letter, is_digit, is_word_byte, symbol_bytes, keywords}
 use Rattle.aml_tokens.specs.Lexing.{joins, symbol_of, field_of, field_words, is_plain, number_token, word_token, token_in}
 use Rattle.aml_tokens.specs.Names.{IsName, IsToken}
@@ -86,11 +86,13 @@ short_name n h = grind (arith, nat_tests)
 
 name_read : (bytes : List ℕ) → IsName bytes → word_token 1 bytes ≡ Ok (Name (record { name = bytes; line = 1 }))
 name_read bytes h =
+    let free : (bytes_eq (codes "let") bytes || list_any (λ (word : List ℕ). bytes_eq word bytes) (map symbol_bytes keywords ++ field_words)) ≡ false = h.free in
+    let no_let : bytes_eq bytes (codes "let") ≡ false = differ (codes "let") bytes (first_false _ _ free) in
     let apart : (list_any (λ (word : List ℕ). bytes_eq word bytes) (map symbol_bytes keywords) || list_any (λ (word : List ℕ). bytes_eq word bytes) field_words) ≡ false =
-    sym (list_any-append (λ (word : List ℕ). bytes_eq word bytes) (map symbol_bytes keywords) field_words) ∙ h.free in
+    sym (list_any-append (λ (word : List ℕ). bytes_eq word bytes) (map symbol_bytes keywords) field_words) ∙ second_false (bytes_eq (codes "let") bytes) (list_any (λ (word : List ℕ). bytes_eq word bytes) (map symbol_bytes keywords ++ field_words)) free in
     let no_keyword : symbol_of keywords bytes ≡ None = no_symbol keywords bytes (first_false _ _ apart) in
     let no_word : field_of 0 field_words bytes ≡ None = no_field field_words 0 bytes (second_false (list_any (λ (word : List ℕ). bytes_eq word bytes) (map symbol_bytes keywords)) (list_any (λ (word : List ℕ). bytes_eq word bytes) field_words) apart) in
-    rw (no_keyword, no_word, short_name (length bytes) h.short) refl
+    rw (no_let, no_keyword, no_word, short_name (length bytes) h.short) refl
 
 name_alone : (bytes : List ℕ) → IsName bytes → (IsGrown bytes) × (token_in 1 bytes ≡ Ok (Name (record { name = bytes; line = 1 })))
 name_alone [] h = let none : false ≡ true = h.first in absurd (cc none)
@@ -157,29 +159,28 @@ grows_so : (bs front : List ℕ) → grows front bs ≡ true → Grows front bs
 grows_so [] front h = tt
 grows_so (b ∷ bs) front h = (first_true (joins front b) (grows (front ++ b ∷ []) bs) h, grows_so bs (front ++ b ∷ []) (second_true (joins front b) (grows (front ++ b ∷ []) bs) h))
 
-field_alone : (k : ℕ) → k < 16 → IsAlone (Field k)
-field_alone zero h = record { grown = grows_so (codes "0") (codes "f") refl; read = refl }
-field_alone (suc zero) h = record { grown = grows_so (codes "1") (codes "f") refl; read = refl }
-field_alone (suc (suc zero)) h = record { grown = grows_so (codes "2") (codes "f") refl; read = refl }
-field_alone (suc (suc (suc zero))) h = record { grown = grows_so (codes "3") (codes "f") refl; read = refl }
-field_alone (suc (suc (suc (suc zero)))) h = record { grown = grows_so (codes "4") (codes "f") refl; read = refl }
-field_alone (suc (suc (suc (suc (suc zero))))) h = record { grown = grows_so (codes "5") (codes "f") refl; read = refl }
-field_alone (suc (suc (suc (suc (suc (suc zero)))))) h = record { grown = grows_so (codes "6") (codes "f") refl; read = refl }
-field_alone (suc (suc (suc (suc (suc (suc (suc zero))))))) h = record { grown = grows_so (codes "7") (codes "f") refl; read = refl }
-field_alone (suc (suc (suc (suc (suc (suc (suc (suc zero)))))))) h = record { grown = grows_so (codes "8") (codes "f") refl; read = refl }
-field_alone (suc (suc (suc (suc (suc (suc (suc (suc (suc zero))))))))) h = record { grown = grows_so (codes "9") (codes "f") refl; read = refl }
-field_alone (suc (suc (suc (suc (suc (suc (suc (suc (suc (suc zero)))))))))) h = record { grown = grows_so (codes "10") (codes "f") refl; read = refl }
-field_alone (suc (suc (suc (suc (suc (suc (suc (suc (suc (suc (suc zero))))))))))) h = record { grown = grows_so (codes "11") (codes "f") refl; read = refl }
-field_alone (suc (suc (suc (suc (suc (suc (suc (suc (suc (suc (suc (suc zero)))))))))))) h = record { grown = grows_so (codes "12") (codes "f") refl; read = refl }
-field_alone (suc (suc (suc (suc (suc (suc (suc (suc (suc (suc (suc (suc (suc zero))))))))))))) h = record { grown = grows_so (codes "13") (codes "f") refl; read = refl }
-field_alone (suc (suc (suc (suc (suc (suc (suc (suc (suc (suc (suc (suc (suc (suc zero)))))))))))))) h = record { grown = grows_so (codes "14") (codes "f") refl; read = refl }
-field_alone (suc (suc (suc (suc (suc (suc (suc (suc (suc (suc (suc (suc (suc (suc (suc zero))))))))))))))) h = record { grown = grows_so (codes "15") (codes "f") refl; read = refl }
-field_alone (suc (suc (suc (suc (suc (suc (suc (suc (suc (suc (suc (suc (suc (suc (suc (suc k)))))))))))))))) h = absurd (omega (arith, h))
+field_alone : (k line : ℕ) → k < 16 → IsAlone (Field k line)
+field_alone zero line h = record { grown = grows_so (codes "0") (codes "f") refl; read = refl }
+field_alone (suc zero) line h = record { grown = grows_so (codes "1") (codes "f") refl; read = refl }
+field_alone (suc (suc zero)) line h = record { grown = grows_so (codes "2") (codes "f") refl; read = refl }
+field_alone (suc (suc (suc zero))) line h = record { grown = grows_so (codes "3") (codes "f") refl; read = refl }
+field_alone (suc (suc (suc (suc zero)))) line h = record { grown = grows_so (codes "4") (codes "f") refl; read = refl }
+field_alone (suc (suc (suc (suc (suc zero))))) line h = record { grown = grows_so (codes "5") (codes "f") refl; read = refl }
+field_alone (suc (suc (suc (suc (suc (suc zero)))))) line h = record { grown = grows_so (codes "6") (codes "f") refl; read = refl }
+field_alone (suc (suc (suc (suc (suc (suc (suc zero))))))) line h = record { grown = grows_so (codes "7") (codes "f") refl; read = refl }
+field_alone (suc (suc (suc (suc (suc (suc (suc (suc zero)))))))) line h = record { grown = grows_so (codes "8") (codes "f") refl; read = refl }
+field_alone (suc (suc (suc (suc (suc (suc (suc (suc (suc zero))))))))) line h = record { grown = grows_so (codes "9") (codes "f") refl; read = refl }
+field_alone (suc (suc (suc (suc (suc (suc (suc (suc (suc (suc zero)))))))))) line h = record { grown = grows_so (codes "10") (codes "f") refl; read = refl }
+field_alone (suc (suc (suc (suc (suc (suc (suc (suc (suc (suc (suc zero))))))))))) line h = record { grown = grows_so (codes "11") (codes "f") refl; read = refl }
+field_alone (suc (suc (suc (suc (suc (suc (suc (suc (suc (suc (suc (suc zero)))))))))))) line h = record { grown = grows_so (codes "12") (codes "f") refl; read = refl }
+field_alone (suc (suc (suc (suc (suc (suc (suc (suc (suc (suc (suc (suc (suc zero))))))))))))) line h = record { grown = grows_so (codes "13") (codes "f") refl; read = refl }
+field_alone (suc (suc (suc (suc (suc (suc (suc (suc (suc (suc (suc (suc (suc (suc zero)))))))))))))) line h = record { grown = grows_so (codes "14") (codes "f") refl; read = refl }
+field_alone (suc (suc (suc (suc (suc (suc (suc (suc (suc (suc (suc (suc (suc (suc (suc zero))))))))))))))) line h = record { grown = grows_so (codes "15") (codes "f") refl; read = refl }
+field_alone (suc (suc (suc (suc (suc (suc (suc (suc (suc (suc (suc (suc (suc (suc (suc (suc k)))))))))))))))) line h = absurd (omega (arith, h))
 
 sign_alone : (s : Symbol) → IsAlone (Sign s)
 sign_alone symbol.Method = record { grown = grows_so (codes "ethod") (codes "m") refl; read = refl }
 sign_alone symbol.Read = record { grown = grows_so (codes "ead") (codes "r") refl; read = refl }
-sign_alone symbol.Let = record { grown = grows_so (codes "et") (codes "l") refl; read = refl }
 sign_alone symbol.If = record { grown = grows_so (codes "f") (codes "i") refl; read = refl }
 sign_alone symbol.Else = record { grown = grows_so (codes "lse") (codes "e") refl; read = refl }
 sign_alone symbol.While = record { grown = grows_so (codes "hile") (codes "w") refl; read = refl }
@@ -210,6 +211,7 @@ sign_alone symbol.Remainder = record { grown = tt; read = refl }
 pub token_alone : (t : Token) → IsToken t → IsAlone t
 token_alone (Name w) h = let a = name_alone w.name h in record { grown = a.0; read = a.1 }
 token_alone (Number n) h = let a = number_alone n h in record { grown = a.0; read = a.1 }
-token_alone (Field k) h = field_alone k h
+token_alone (Field k line) h = field_alone k line h
 token_alone (Sign s) h = sign_alone s
+token_alone (Let line) h = record { grown = grows_so (codes "et") (codes "l") refl; read = refl }
 token_alone (CloseBrace line) h = record { grown = tt; read = refl }

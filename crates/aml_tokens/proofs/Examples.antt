@@ -2,7 +2,7 @@
 use Rattle.std.proofs.Common.{◌≡◌, ℕ, List, [], ◌∷◌, Some, None, codes, refl}
 use Rattle.aml_tokens.specs.declared.tokens.Symbol.TheVariants as symbol
 use Rattle.aml_tokens.specs.declared.tokens.TextCause.TheVariants as cause
-use Rattle.aml_tokens.specs.Token.{Name, Number, Field, Sign, CloseBrace}
+use Rattle.aml_tokens.specs.Token.{Name, Number, Field, Sign, Let, CloseBrace}
 use Rattle.aml_tokens.specs.Lexing.{tokens, stop, lexed, line_at, column_at}
 
 -- three signs of '=' are two tokens, and '<' before '=' is one with it
@@ -11,7 +11,7 @@ three_equals = refl
 
 -- fields, a name that is none, a keyword, and a comment up to the line's end
 fields_and_words : lexed (codes "f15 f16#x!\n\tself }") ≡ record {
-  tokens = Field 15 ∷ Name (record { name = codes "f16"; line = 1 }) ∷ Sign symbol.Own ∷ CloseBrace 2 ∷ [];
+  tokens = Field 15 1 ∷ Name (record { name = codes "f16"; line = 1 }) ∷ Sign symbol.Own ∷ CloseBrace 2 ∷ [];
   places = 0 ∷ 4 ∷ 12 ∷ 17 ∷ [];
   stop = None;
 }
@@ -31,6 +31,10 @@ too_large = refl
 
 alone : stop (codes "a ! =") ≡ Some (2, cause.BadToken)
 alone = refl
+
+-- `let` and a field tell their lines
+lets_and_fields : tokens (codes "let\nf0 letter") ≡ Let 1 ∷ Field 0 2 ∷ Name (record { name = codes "letter"; line = 2 }) ∷ []
+lets_and_fields = refl
 
 -- a carriage return is no blank
 carriage_return : stop (97 ∷ 13 ∷ 10 ∷ []) ≡ Some (1, cause.BadByte)

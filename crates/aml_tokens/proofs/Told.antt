@@ -9,7 +9,7 @@ use Rattle.std.proofs.lemmas.Str.Parse.{IsNumeralModel, numerals_by_value}
 use Rattle.aml_tokens.specs.declared.tokens.Symbol.{Symbol}
 use Rattle.aml_tokens.specs.declared.tokens.TextCause.{TextCause}
 use Rattle.aml_tokens.specs.declared.tokens.TextCause.TheVariants as cause
-use Rattle.aml_tokens.specs.Token.{Token, Name, Number, Field, Sign, CloseBrace}
+use Rattle.aml_tokens.specs.Token.{Token, Name, Number, Field, Sign, Let, CloseBrace}
 use Rattle.aml_tokens.specs.Bytes.{is_letter, is_digit, symbol_bytes, keywords, signs}
 use Rattle.aml_tokens.specs.Lexing.{symbol_of, field_of, field_words, is_plain, number_token, word_token, sign_token, token_in}
 use Rattle.aml_tokens.specs.Writing.{token_bytes, in_first_line}
@@ -92,34 +92,42 @@ number_told bytes t h = by_plain (is_plain bytes) refl
 -- ---- words
 
 word_told : (line : ℕ) (bytes : List ℕ) (t : Token) → word_token line bytes ≡ Ok t → IsTold bytes (word_token 1 bytes) t
-word_told line bytes t h = by_keyword (symbol_of keywords bytes) refl
+word_told line bytes t h = by_let (bytes_eq bytes (codes "let")) refl
   where
-    by_short : symbol_of keywords bytes ≡ None → field_of 0 field_words bytes ≡ None → (u : Bool) → nat_le (length bytes) 32 ≡ u → IsTold bytes (word_token 1 bytes) t
-    by_short k f true s =
-        let is : word_token line bytes ≡ Ok (Name (record { name = bytes; line = line })) = rw (k, f, s) refl in
+    by_short : bytes_eq bytes (codes "let") ≡ false → symbol_of keywords bytes ≡ None → field_of 0 field_words bytes ≡ None → (u : Bool) → nat_le (length bytes) 32 ≡ u → IsTold bytes (word_token 1 bytes) t
+    by_short e k f true s =
+        let is : word_token line bytes ≡ Ok (Name (record { name = bytes; line = line })) = rw (e, k, f, s) refl in
         let found : ◌≡◌ {A = Result Token TextCause} (Ok (Name (record { name = bytes; line = line }))) (Ok t) = sym is ∙ h in
         let same : Name (record { name = bytes; line = line }) ≡ t = cc in
-        subst (λ (x : Token). IsTold bytes (word_token 1 bytes) x) same (refl, rw (k, f, s) refl)
-    by_short k f false s =
-        let is : word_token line bytes ≡ Err cause.BadToken = rw (k, f, s) refl in
+        subst (λ (x : Token). IsTold bytes (word_token 1 bytes) x) same (refl, rw (e, k, f, s) refl)
+    by_short e k f false s =
+        let is : word_token line bytes ≡ Err cause.BadToken = rw (e, k, f, s) refl in
         absurd (cc (is, h))
 
-    by_field : symbol_of keywords bytes ≡ None → (o : Option ℕ) → field_of 0 field_words bytes ≡ o → IsTold bytes (word_token 1 bytes) t
-    by_field k None f = by_short k f (nat_le (length bytes) 32) refl
-    by_field k (Some n) f =
-        let is : word_token line bytes ≡ Ok (Field n) = rw (k, f) refl in
-        let found : ◌≡◌ {A = Result Token TextCause} (Ok (Field n)) (Ok t) = sym is ∙ h in
-        let same : Field n ≡ t = cc in
+    by_field : bytes_eq bytes (codes "let") ≡ false → symbol_of keywords bytes ≡ None → (o : Option ℕ) → field_of 0 field_words bytes ≡ o → IsTold bytes (word_token 1 bytes) t
+    by_field e k None f = by_short e k f (nat_le (length bytes) 32) refl
+    by_field e k (Some n) f =
+        let is : word_token line bytes ≡ Ok (Field n line) = rw (e, k, f) refl in
+        let found : ◌≡◌ {A = Result Token TextCause} (Ok (Field n line)) (Ok t) = sym is ∙ h in
+        let same : Field n line ≡ t = cc in
         let all : n - 0 ≡ n = omega arith in
-        subst (λ (x : Token). IsTold bytes (word_token 1 bytes) x) same (subst (λ (i : ℕ). bytes ≡ get_or field_words i []) all (field_is field_words 0 bytes n f).1, rw (k, f) refl)
+        subst (λ (x : Token). IsTold bytes (word_token 1 bytes) x) same (subst (λ (i : ℕ). bytes ≡ get_or field_words i []) all (field_is field_words 0 bytes n f).1, rw (e, k, f) refl)
 
-    by_keyword : (o : Option Symbol) → symbol_of keywords bytes ≡ o → IsTold bytes (word_token 1 bytes) t
-    by_keyword None k = by_field k (field_of 0 field_words bytes) refl
-    by_keyword (Some s) k =
-        let is : word_token line bytes ≡ Ok (Sign s) = rw k refl in
+    by_keyword : bytes_eq bytes (codes "let") ≡ false → (o : Option Symbol) → symbol_of keywords bytes ≡ o → IsTold bytes (word_token 1 bytes) t
+    by_keyword e None k = by_field e k (field_of 0 field_words bytes) refl
+    by_keyword e (Some s) k =
+        let is : word_token line bytes ≡ Ok (Sign s) = rw (e, k) refl in
         let found : ◌≡◌ {A = Result Token TextCause} (Ok (Sign s)) (Ok t) = sym is ∙ h in
         let same : Sign s ≡ t = cc in
-        subst (λ (x : Token). IsTold bytes (word_token 1 bytes) x) same (symbol_is keywords bytes s k, rw k refl)
+        subst (λ (x : Token). IsTold bytes (word_token 1 bytes) x) same (symbol_is keywords bytes s k, rw (e, k) refl)
+
+    by_let : (u : Bool) → bytes_eq bytes (codes "let") ≡ u → IsTold bytes (word_token 1 bytes) t
+    by_let true e =
+        let is : word_token line bytes ≡ Ok (Let line) = rw e refl in
+        let found : ◌≡◌ {A = Result Token TextCause} (Ok (Let line)) (Ok t) = sym is ∙ h in
+        let same : Let line ≡ t = cc in
+        subst (λ (x : Token). IsTold bytes (word_token 1 bytes) x) same (same_bytes bytes (codes "let") e, rw e refl)
+    by_let false e = by_keyword e (symbol_of keywords bytes) refl
 
 -- ---- signs
 

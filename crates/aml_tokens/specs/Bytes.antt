@@ -25,7 +25,6 @@ begins_comparison b = (b == 61) || (b == 33) || (b == 60) || (b == 62)
 abbrev pub symbol_bytes : Symbol → List ℕ
 symbol_bytes symbol.Method = codes "method"
 symbol_bytes symbol.Read = codes "read"
-symbol_bytes symbol.Let = codes "let"
 symbol_bytes symbol.If = codes "if"
 symbol_bytes symbol.Else = codes "else"
 symbol_bytes symbol.While = codes "while"
@@ -53,9 +52,10 @@ symbol_bytes symbol.Times = codes "*"
 symbol_bytes symbol.Over = codes "/"
 symbol_bytes symbol.Remainder = codes "%"
 
+-- but for `let`, which is a token of its own, as the closing brace is among the signs
 abbrev pub keywords : List Symbol
 keywords =
-    symbol.Method ∷ symbol.Read ∷ symbol.Let ∷ symbol.If ∷ symbol.Else ∷ symbol.While ∷ symbol.Call ∷ symbol.Fail
+    symbol.Method ∷ symbol.Read ∷ symbol.If ∷ symbol.Else ∷ symbol.While ∷ symbol.Call ∷ symbol.Fail
     ∷ symbol.Return ∷ symbol.Own ∷ symbol.And ∷ symbol.Or ∷ []
 
 abbrev pub signs : List Symbol

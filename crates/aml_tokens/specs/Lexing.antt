@@ -8,7 +8,7 @@ use Rattle.aml_tokens.specs.declared.tokens.Symbol.{Symbol}
 use Rattle.aml_tokens.specs.declared.tokens.TextCause.{TextCause}
 use Rattle.aml_tokens.specs.declared.tokens.TextCause.TheVariants.{BadByte, BadToken, NumberRange, TooMany}
 use Rattle.aml_tokens.specs.Bytes.{is_letter, is_digit, is_word_byte, is_blank, begins_comparison, symbol_bytes, keywords, signs}
-use Rattle.aml_tokens.specs.Token.{Token, Name, Number, Field, Sign, CloseBrace}
+use Rattle.aml_tokens.specs.Token.{Token, Name, Number, Field, Sign, Let, CloseBrace}
 
 -- ---- places
 
@@ -101,8 +101,10 @@ either (Some x) some none = some x
 -- no keyword and no field is a name
 abbrev pub word_token : ℕ → List ℕ → Result Token TextCause
 word_token line bytes =
-    either (symbol_of keywords bytes) (λ s. Ok (Sign s))
-    (either (field_of 0 field_words bytes) (λ k. Ok (Field k))
+    if bytes_eq bytes (codes "let")
+    then Ok (Let line)
+    else either (symbol_of keywords bytes) (λ s. Ok (Sign s))
+    (either (field_of 0 field_words bytes) (λ k. Ok (Field k line))
     (if nat_le (length bytes) LONGEST_NAME then Ok (Name (record { name = bytes; line = line })) else Err BadToken))
 
 abbrev pub sign_token : ℕ → List ℕ → Result Token TextCause

@@ -2,15 +2,16 @@
 use Rattle.std.specs.Prelude.{◌≡◌, ℕ, if◌then◌else◌, List, [], ◌∷◌, ◌++◌, map, None, slice_index, slice_index_or, codes}
 use Rattle.std.specs.Fmt.{decimal}
 use Rattle.std.specs.Str.{IsAscii}
-use Rattle.aml_tokens.specs.Token.{Token, Name, Number, Field, Sign, CloseBrace}
+use Rattle.aml_tokens.specs.Token.{Token, Name, Number, Field, Sign, Let, CloseBrace}
 use Rattle.aml_tokens.specs.Bytes.{symbol_bytes}
 use Rattle.aml_tokens.specs.Lexing.{joins, field_words, stop, tokens}
 
 abbrev pub token_bytes : Token → List ℕ
 token_bytes (Name w) = w.name
 token_bytes (Number n) = decimal n
-token_bytes (Field k) = slice_index_or field_words k []
+token_bytes (Field k line) = slice_index_or field_words k []
 token_bytes (Sign s) = symbol_bytes s
+token_bytes (Let line) = codes "let"
 token_bytes (CloseBrace line) = codes "}"
 
 -- a text, and the piece that was written last
@@ -35,8 +36,9 @@ with_tokens w (t ∷ ts) = with_tokens (with_piece w (token_bytes t)) ts
 abbrev pub in_first_line : Token → Token
 in_first_line (Name w) = Name (record { name = w.name; line = 1 })
 in_first_line (Number n) = Number n
-in_first_line (Field k) = Field k
+in_first_line (Field k line) = Field k 1
 in_first_line (Sign s) = Sign s
+in_first_line (Let line) = Let 1
 in_first_line (CloseBrace line) = CloseBrace 1
 
 -- The text is whole, and has these tokens, with all in the first line.

@@ -11,7 +11,6 @@ pub fn symbol_bytes(symbol: Symbol) -> &'static [u8]
     match symbol {
         Symbol::Method => b"method",
         Symbol::Read => b"read",
-        Symbol::Let => b"let",
         Symbol::If => b"if",
         Symbol::Else => b"else",
         Symbol::While => b"while",

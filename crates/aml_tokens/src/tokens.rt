@@ -30,12 +30,11 @@ pub enum TextCause {
     TooMany,
 }
 
-/// The keywords and the signs, but for the closing brace.
+/// The keywords and the signs, but for `let` and the closing brace.
 #[derive(Clone, Copy, Debug, PartialEq, Eq, Hash)]
 pub enum Symbol {
     Method,
     Read,
-    Let,
     If,
     Else,
     While,
@@ -76,7 +75,8 @@ pub enum Token<'a> {
     /// 0 to 2^63 - 1.
     Number(u64),
     /// 0 to 15.
-    Field(u8),
+    Field { field: u8, line: u32 },
     Symbol(Symbol),
+    Let { line: u32 },
     CloseBrace { line: u32 },
 }

@@ -10,10 +10,9 @@ use crate::bytes::{is_digit, is_letter};
 use crate::spellings::{field_bytes, symbol_bytes};
 use crate::tokens::{Symbol, TextCause, Token};
 
-const KEYWORDS: [Symbol; 12] = [
+const KEYWORDS: [Symbol; 11] = [
     Symbol::Method,
     Symbol::Read,
-    Symbol::Let,
     Symbol::If,
     Symbol::Else,
     Symbol::While,
@@ -109,11 +108,14 @@ fn value(digits: &[u8]) -> u64
 fn word(bytes: &[u8], line: u32) -> Result<Token<'_>, TextCause>
     ensures { as_token result ≡ word_token line bytes.now }
 {
+    if bytes == b"let".as_slice() {
+        return Ok(Token::Let { line });
+    }
     if let Some(symbol) = symbol_in(&KEYWORDS, bytes) {
         return Ok(Token::Symbol(symbol));
     }
     if let Some(field) = field_in(bytes) {
-        return Ok(Token::Field(field));
+        return Ok(Token::Field { field, line });
     }
     if bytes.len() <= LONGEST_NAME {
         Ok(Token::Name { name: bytes, line })

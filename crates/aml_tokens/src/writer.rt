@@ -80,6 +80,12 @@ impl Writer {
         self.piece(symbol_bytes(symbol))
     }
 
+    pub fn let_word(&mut self) -> Result<(), Memory>
+        ensures { OnOk result (self.new ≡ with_piece self.old (codes "let")) }
+    {
+        self.piece(b"let")
+    }
+
     pub fn close_brace(&mut self) -> Result<(), Memory>
         ensures { OnOk result (self.new ≡ with_piece self.old (codes "}")) }
     {
