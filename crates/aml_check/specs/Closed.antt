@@ -11,7 +11,7 @@ use Rattle.aml_check.specs.Names.{method_at, method_names, counted_from}
 abbrev pub IsClosedExpression : ℕ → Expr ℕ → Type 0
 IsClosedExpression n (Number z) = z < 2 ^ 63
 IsClosedExpression n (Variable place) = place < n
-IsClosedExpression n (Field k) = k < FIELDS
+IsClosedExpression n (Field k line) = k < FIELDS
 IsClosedExpression n Own = Unit {0}
 IsClosedExpression n (Group e) = IsClosedExpression n e
 IsClosedExpression n (Negative e) = IsClosedExpression n e
@@ -24,11 +24,11 @@ IsClosedCall p m arguments = (m < length p) × (arguments ≡ length (method_at 
 -- where n variables are visible; a new one has the next place
 abbrev pub IsClosedBlock : List CheckedMethod → ℕ → Code ℕ ℕ → Type 0
 IsClosedBlock p n (End line) = Unit {0}
-IsClosedBlock p n (Let v value rest) = (v ≡ n) × IsClosedExpression n value × IsClosedBlock p (n + 1) rest
-IsClosedBlock p n (Call v target m arguments rest) =
+IsClosedBlock p n (Let line v value rest) = (v ≡ n) × IsClosedExpression n value × IsClosedBlock p (n + 1) rest
+IsClosedBlock p n (Call line v target m arguments rest) =
     (v ≡ n) × IsClosedExpression n target × IsClosedCall p m (length arguments) × AllByRecursion (IsClosedExpression n) arguments × IsClosedBlock p (n + 1) rest
 IsClosedBlock p n (Set v value rest) = (v < n) × IsClosedExpression n value × IsClosedBlock p n rest
-IsClosedBlock p n (SetField k value rest) = (k < FIELDS) × IsClosedExpression n value × IsClosedBlock p n rest
+IsClosedBlock p n (SetField line k value rest) = (k < FIELDS) × IsClosedExpression n value × IsClosedBlock p n rest
 IsClosedBlock p n (If condition first rest) = IsClosedExpression n condition × IsClosedBlock p n first × IsClosedBlock p n rest
 IsClosedBlock p n (IfElse condition first other rest) = IsClosedExpression n condition × IsClosedBlock p n first × IsClosedBlock p n other × IsClosedBlock p n rest
 IsClosedBlock p n (While condition body rest) = IsClosedExpression n condition × IsClosedBlock p n body × IsClosedBlock p n rest
@@ -38,10 +38,10 @@ IsClosedBlock p n (Return value rest) = IsClosedExpression n value × IsClosedBl
 -- how many blocks are open at most, with this one
 abbrev pub nesting : Code ℕ ℕ → ℕ
 nesting (End line) = 1
-nesting (Let v value rest) = nesting rest
-nesting (Call v target m arguments rest) = nesting rest
+nesting (Let line v value rest) = nesting rest
+nesting (Call line v target m arguments rest) = nesting rest
 nesting (Set v value rest) = nesting rest
-nesting (SetField k value rest) = nesting rest
+nesting (SetField line k value rest) = nesting rest
 nesting (If condition first rest) = max (1 + nesting first) (nesting rest)
 nesting (IfElse condition first other rest) = max (max (1 + nesting first) (1 + nesting other)) (nesting rest)
 nesting (While condition body rest) = max (1 + nesting body) (nesting rest)
@@ -53,10 +53,10 @@ nesting (Return value rest) = nesting rest
 -- what holds of a last statement, and else of the rest
 abbrev pub if_last : {V M : Type 0} → Code V M → Bool → Bool → Bool
 if_last (End line) here behind = here
-if_last (Let v value rest) here behind = behind
-if_last (Call v target m arguments rest) here behind = behind
+if_last (Let line v value rest) here behind = behind
+if_last (Call line v target m arguments rest) here behind = behind
 if_last (Set v value rest) here behind = behind
-if_last (SetField k value rest) here behind = behind
+if_last (SetField line k value rest) here behind = behind
 if_last (If condition first rest) here behind = behind
 if_last (IfElse condition first other rest) here behind = behind
 if_last (While condition body rest) here behind = behind
@@ -66,10 +66,10 @@ if_last (Return value rest) here behind = behind
 -- The last statement is a return, a fail, or a choice of two blocks that end so.
 abbrev pub ends : {V M : Type 0} → Code V M → Bool
 ends (End line) = false
-ends (Let v value rest) = ends rest
-ends (Call v target m arguments rest) = ends rest
+ends (Let line v value rest) = ends rest
+ends (Call line v target m arguments rest) = ends rest
 ends (Set v value rest) = ends rest
-ends (SetField k value rest) = ends rest
+ends (SetField line k value rest) = ends rest
 ends (If condition first rest) = ends rest
 ends (IfElse condition first other rest) = if_last rest (ends first && ends other) (ends rest)
 ends (While condition body rest) = ends rest

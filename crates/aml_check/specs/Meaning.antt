@@ -129,7 +129,7 @@ unless_decided None other = other
 abbrev pub value_of : ℕ → List ℤ → State → Expr ℕ → Result ℤ ℕ
 value_of own variables s (Number n) = Ok (pos n)
 value_of own variables s (Variable place) = Ok (slice_index_or variables place (pos 0))
-value_of own variables s (Field k) = Ok (field_at s k)
+value_of own variables s (Field k line) = Ok (field_at s k)
 value_of own variables s Own = Ok (pos own)
 value_of own variables s (Group e) = value_of own variables s e
 value_of own variables s (Negative e) = value_of own variables s e >>= λ x. in_range (pos 0 -ℤ x)
@@ -228,14 +228,14 @@ turns (suc n) own condition body variables r =
 
 abbrev pub block : Caller → ℕ → Code ℕ ℕ → List ℤ → Progress → Result (Exit × Progress) ℕ
 block call own (End line) variables r = Ok (Goes variables, r)
-block call own (Let v value rest) variables r =
+block call own (Let line v value rest) variables r =
     begun r >>= λ r. value_of own variables (state_at r.world own) value >>= λ x. block call own rest (variables ++ x ∷ []) r
-block call own (Call v target m arguments rest) variables r =
+block call own (Call line v target m arguments rest) variables r =
     begun r >>= λ r. value_of own variables (state_at r.world own) target >>= λ a. values_of own variables (state_at r.world own) arguments >>= λ xs.
     call a m xs r >>= λ given. block call own rest (variables ++ given.0 ∷ []) given.1
 block call own (Set v value rest) variables r =
     begun r >>= λ r. value_of own variables (state_at r.world own) value >>= λ x. block call own rest (slice_set variables v x) r
-block call own (SetField k value rest) variables r =
+block call own (SetField line k value rest) variables r =
     begun r >>= λ r. value_of own variables (state_at r.world own) value >>= λ x.
     block call own rest variables (record r { world = slice_set r.world own (with_field (state_at r.world own) k x) })
 block call own (If condition first rest) variables r =

@@ -28,7 +28,7 @@ is_not_less a b e = search (rules, tests)
 attached_tokens : (e : Expr Word) (o : Operator) (x : Expr Word) → spelling (attached e o x) ≡ spelling e ++ token.Sign (sign o) ∷ spelling x
 attached_tokens (Number n) o x = refl
 attached_tokens (Variable v) o x = refl
-attached_tokens (Field k) o x = refl
+attached_tokens (Field k line) o x = refl
 attached_tokens Own o x = refl
 attached_tokens (Group e) o x = refl
 attached_tokens (Negative e) o x = refl
@@ -41,7 +41,7 @@ attached_tokens (Binary p a b) o x = by (nat_lt (level o) (level p)) (attached_t
 attached_marks : (depth : ℕ) (e : Expr Word) (o : Operator) (x : Expr Word) → marks depth (attached e o x) ≡ marks depth e ++ None ∷ marks depth x
 attached_marks depth (Number n) o x = refl
 attached_marks depth (Variable v) o x = refl
-attached_marks depth (Field k) o x = refl
+attached_marks depth (Field k line) o x = refl
 attached_marks depth Own o x = refl
 attached_marks depth (Group e) o x = refl
 attached_marks depth (Negative e) o x = refl
@@ -88,7 +88,7 @@ level_some operator.Remainder = (omega arith, omega arith)
 pub looser : (j k : ℕ) (e : Expr Word) → j ≤ k → IsAt j e → IsAt k e
 looser j k (Number n) le h = h
 looser j k (Variable w) le h = h
-looser j k (Field f) le h = h
+looser j k (Field f line) le h = h
 looser j k Own le h = h
 looser j k (Group e) le h = h
 looser j k (Negative e) le h = h
@@ -99,7 +99,7 @@ abbrev pub has_comparison : Expr Word → Bool
 has_comparison (Binary p a b) = if level p == 3 then true else (if nat_lt 3 (level p) then has_comparison b else false)
 has_comparison (Number n) = false
 has_comparison (Variable w) = false
-has_comparison (Field f) = false
+has_comparison (Field f line) = false
 has_comparison Own = false
 has_comparison (Group e) = false
 has_comparison (Negative e) = false
@@ -138,7 +138,7 @@ no_operator o a b h = absurd (omega (arith, h.0, (level_some o).0))
 operand_has_none : (x : Expr Word) → IsAt 0 x → has_comparison x ≡ false
 operand_has_none (Number n) h = refl
 operand_has_none (Variable w) h = refl
-operand_has_none (Field f) h = refl
+operand_has_none (Field f line) h = refl
 operand_has_none Own h = refl
 operand_has_none (Group e) h = refl
 operand_has_none (Negative e) h = refl
@@ -167,7 +167,7 @@ left_at o p a b (Above x y z lt) le none = rw z le
 pub attached_at : (k : ℕ) (e : Expr Word) (o : Operator) (x : Expr Word) → IsAt k e → level o ≤ k → (level o ≡ 3 → has_comparison e ≡ false) → IsAt 0 x → IsAt k (attached e o x)
 attached_at k (Number n) o x h le none operand = joined_at k (Number n) o x h le operand
 attached_at k (Variable w) o x h le none operand = joined_at k (Variable w) o x h le operand
-attached_at k (Field f) o x h le none operand = joined_at k (Field f) o x h le operand
+attached_at k (Field f line) o x h le none operand = joined_at k (Field f line) o x h le operand
 attached_at k Own o x h le none operand = joined_at k Own o x h le operand
 attached_at k (Group e) o x h le none operand = joined_at k (Group e) o x h le operand
 attached_at k (Negative e) o x h le none operand = joined_at k (Negative e) o x h le operand
@@ -222,7 +222,7 @@ low_has_none p a b (Above u v w lt) less = absurd (omega (arith, less, lt))
 pub attached_has : (e : Expr Word) (o : Operator) (x : Expr Word) → IsAt 0 x → has_comparison (attached e o x) ≡ compares (has_comparison e) o
 attached_has (Number n) o x operand = joined_has (Number n) o x (kind o) operand (λ _. refl)
 attached_has (Variable w) o x operand = joined_has (Variable w) o x (kind o) operand (λ _. refl)
-attached_has (Field f) o x operand = joined_has (Field f) o x (kind o) operand (λ _. refl)
+attached_has (Field f line) o x operand = joined_has (Field f line) o x (kind o) operand (λ _. refl)
 attached_has Own o x operand = joined_has Own o x (kind o) operand (λ _. refl)
 attached_has (Group e) o x operand = joined_has (Group e) o x (kind o) operand (λ _. refl)
 attached_has (Negative e) o x operand = joined_has (Negative e) o x (kind o) operand (λ _. refl)

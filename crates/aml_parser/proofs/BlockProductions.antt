@@ -65,7 +65,7 @@ good_block depth (token.Name w) h = λ us. record {
   marks = λ n. simp (append_assoc, append-nil) refl;
   names = λ n. refl;
 }
-good_block depth (token.Field k) h = λ us. record {
+good_block depth (token.Field k line) h = λ us. record {
   fits = λ fit. (h, fit.1.0.0, fit.1.1.0);
   tokens = simp (append_assoc, append-nil) refl;
   marks = λ n. simp (append_assoc, append-nil) refl;

@@ -92,7 +92,7 @@ value_reads ts depth s names at (Some t) is none =
         ≡ (begun (Expression depth (To fixed.Semicolon)) (Block depth ∷ s) names at (expand (Expression depth (To fixed.Semicolon)) t) (λ p. read (p.items ++ (Block depth ∷ s)) (counted names p.event) (at + 1) (drop (at + 1) ts)) >>= λ vs. Ok (let_value depth s vs))
     by (token.Number n) e = sym (bound_twice (read (More depth false (To fixed.Semicolon) ∷ Block depth ∷ s) names (at + 1) (drop (at + 1) ts)) (λ vs. paired (Expression depth (To fixed.Semicolon)) (Block depth ∷ s) (all_attached (Number n) vs.0.0, vs.0.1) vs.1) (let_value depth s))
     by (token.Name w) e = sym (bound_twice (read (More depth false (To fixed.Semicolon) ∷ Block depth ∷ s) names (at + 1) (drop (at + 1) ts)) (λ vs. paired (Expression depth (To fixed.Semicolon)) (Block depth ∷ s) (all_attached (Variable w) vs.0.0, vs.0.1) vs.1) (let_value depth s))
-    by (token.Field k) e = sym (bound_twice (read (More depth false (To fixed.Semicolon) ∷ Block depth ∷ s) names (at + 1) (drop (at + 1) ts)) (λ vs. paired (Expression depth (To fixed.Semicolon)) (Block depth ∷ s) (all_attached (Field k) vs.0.0, vs.0.1) vs.1) (let_value depth s))
+    by (token.Field k line) e = sym (bound_twice (read (More depth false (To fixed.Semicolon) ∷ Block depth ∷ s) names (at + 1) (drop (at + 1) ts)) (λ vs. paired (Expression depth (To fixed.Semicolon)) (Block depth ∷ s) (all_attached (Field k line) vs.0.0, vs.0.1) vs.1) (let_value depth s))
     by (token.Sign symbol.Own) e = sym (bound_twice (read (More depth false (To fixed.Semicolon) ∷ Block depth ∷ s) names (at + 1) (drop (at + 1) ts)) (λ vs. paired (Expression depth (To fixed.Semicolon)) (Block depth ∷ s) (all_attached Own vs.0.0, vs.0.1) vs.1) (let_value depth s))
     by (token.Sign symbol.Open) e =
         passed_twice (opened depth) at (read (Expression (depth + 1) (To fixed.Close) ∷ More depth false (To fixed.Semicolon) ∷ Block depth ∷ s) names (at + 1) (drop (at + 1) ts))

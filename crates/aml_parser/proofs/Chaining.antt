@@ -19,7 +19,7 @@ links_weight (l ∷ ls) = l.operand + 1 + links_weight ls
 abbrev weight_step : {V : Type 0} → Expression-F V ℕ → ℕ
 weight_step (Expression-F.Number n) = 0
 weight_step (Expression-F.Variable v) = 0
-weight_step (Expression-F.Field k) = 0
+weight_step (Expression-F.Field k line) = 0
 weight_step Expression-F.Own = 0
 weight_step (Expression-F.Group e) = 0
 weight_step (Expression-F.Negative e) = 0

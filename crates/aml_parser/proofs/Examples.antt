@@ -10,14 +10,14 @@ use Rattle.aml_tree.specs.Tree.{Number, Variable, Field, Own, Group, Negative, B
 use Rattle.aml_tree.specs.Grammar.{program_spelling, IsAt}
 use Rattle.aml_tree.specs.Limits.{marks, opened, named, parameter, method, code_mark}
 
-put_text : tokens (codes "method put(n) {\n f0 = f0 + n;\n return f0; }") ≡ program_spelling (record { name = record { name = codes "put"; line = 1 }; parameters = record { name = codes "n"; line = 1 } ∷ []; body = SetField 0 (Binary operator.Plus (Field 0) (Variable (record { name = codes "n"; line = 2 }))) (Return (Field 0) (End 3)) } ∷ [])
+put_text : tokens (codes "method put(n) {\n f0 = f0 + n;\n return f0; }") ≡ program_spelling (record { name = record { name = codes "put"; line = 1 }; parameters = record { name = codes "n"; line = 1 } ∷ []; body = SetField line 0 (Binary operator.Plus (Field 0 line) (Variable (record { name = codes "n"; line = 2 }))) (Return (Field 0 line) (End 3)) } ∷ [])
 put_text = refl
 
 move_text : tokens (codes "method move(to, n) { if f0 < n { fail 7; } else { } let r = call to put(n, -(1)); while not { r = self; } return r; }") ≡ program_spelling (record {
   name = record { name = codes "move"; line = 1 };
   parameters = record { name = codes "to"; line = 1 } ∷ record { name = codes "n"; line = 1 } ∷ [];
-  body = IfElse (Binary operator.Less (Field 0) (Variable (record { name = codes "n"; line = 1 }))) (Fail 7 (End 1)) (End 1)
-      (Call (record { name = codes "r"; line = 1 }) (Variable (record { name = codes "to"; line = 1 })) (record { name = codes "put"; line = 1 }) (Variable (record { name = codes "n"; line = 1 }) ∷ Negative (Group (Number 1)) ∷ [])
+  body = IfElse (Binary operator.Less (Field 0 line) (Variable (record { name = codes "n"; line = 1 }))) (Fail 7 (End 1)) (End 1)
+      (Call line (record { name = codes "r"; line = 1 }) (Variable (record { name = codes "to"; line = 1 })) (record { name = codes "put"; line = 1 }) (Variable (record { name = codes "n"; line = 1 }) ∷ Negative (Group (Number 1)) ∷ [])
       (While (Variable (record { name = codes "not"; line = 1 })) (Set (record { name = codes "r"; line = 1 }) Own (End 1)) (Return (Variable (record { name = codes "r"; line = 1 })) (End 1))));
 } ∷ [])
 move_text = refl

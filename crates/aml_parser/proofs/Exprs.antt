@@ -139,7 +139,7 @@ expression_reads ts depth closer s names at (Some t) is =
         ≡ (begun (Operand depth) (More depth false closer ∷ s) names at (expand (Operand depth) t) (λ p. read (p.items ++ (More depth false closer ∷ s)) (counted names p.event) (at + 1) (drop (at + 1) ts)) >>= λ vs. Ok (chain_value depth closer s vs))
     by (token.Number n) = sym (bound_twice (read (More depth false closer ∷ s) names (at + 1) (drop (at + 1) ts)) (λ vs. paired (Operand depth) (More depth false closer ∷ s) (Number n) vs) (chain_value depth closer s))
     by (token.Name w) = sym (bound_twice (read (More depth false closer ∷ s) names (at + 1) (drop (at + 1) ts)) (λ vs. paired (Operand depth) (More depth false closer ∷ s) (Variable w) vs) (chain_value depth closer s))
-    by (token.Field k) = sym (bound_twice (read (More depth false closer ∷ s) names (at + 1) (drop (at + 1) ts)) (λ vs. paired (Operand depth) (More depth false closer ∷ s) (Field k) vs) (chain_value depth closer s))
+    by (token.Field k line) = sym (bound_twice (read (More depth false closer ∷ s) names (at + 1) (drop (at + 1) ts)) (λ vs. paired (Operand depth) (More depth false closer ∷ s) (Field k line) vs) (chain_value depth closer s))
     by (token.Sign symbol.Own) = sym (bound_twice (read (More depth false closer ∷ s) names (at + 1) (drop (at + 1) ts)) (λ vs. paired (Operand depth) (More depth false closer ∷ s) Own vs) (chain_value depth closer s))
     by (token.Sign symbol.Open) =
         passed_twice (opened depth) at (read (Expression (depth + 1) (To fixed.Close) ∷ More depth false closer ∷ s) names (at + 1) (drop (at + 1) ts)) (λ vs. paired (Operand depth) (More depth false closer ∷ s) (Group vs.0.0) vs.1) (chain_value depth closer s)

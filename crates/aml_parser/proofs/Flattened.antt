@@ -13,7 +13,7 @@ abbrev pub first_operand : Expr Word → Expr Word
 first_operand (Binary o a b) = first_operand a
 first_operand (Number n) = Number n
 first_operand (Variable w) = Variable w
-first_operand (Field f) = Field f
+first_operand (Field f line) = Field f line
 first_operand Own = Own
 first_operand (Group e) = Group e
 first_operand (Negative e) = Negative e
@@ -22,7 +22,7 @@ abbrev pub operators : Expr Word → Links
 operators (Binary o a b) = operators a ++ record { operator = o; operand = first_operand b } ∷ operators b
 operators (Number n) = []
 operators (Variable w) = []
-operators (Field f) = []
+operators (Field f line) = []
 operators Own = []
 operators (Group e) = []
 operators (Negative e) = []
@@ -51,7 +51,7 @@ lean_less o (Above x y z lt) = rw z (omega arith)
 operators_below : (k : ℕ) (e : Expr Word) → IsAt k e → AreBelow (k + 1) (operators e)
 operators_below k (Number n) h = tt
 operators_below k (Variable w) h = tt
-operators_below k (Field f) h = tt
+operators_below k (Field f line) h = tt
 operators_below k Own h = tt
 operators_below k (Group e) h = tt
 operators_below k (Negative e) h = tt
@@ -71,7 +71,7 @@ onto_right (l ∷ ls) o a y h =
 beside : (o : Operator) (a x : Expr Word) → IsAt (lean (level o)) a → attached a o x ≡ Binary o a x
 beside o (Number n) x h = refl
 beside o (Variable w) x h = refl
-beside o (Field f) x h = refl
+beside o (Field f line) x h = refl
 beside o Own x h = refl
 beside o (Group e) x h = refl
 beside o (Negative e) x h = refl
@@ -81,7 +81,7 @@ beside o (Binary p a b) x h =
 pub reattached : (k : ℕ) (e : Expr Word) → IsAt k e → all_attached (first_operand e) (operators e) ≡ e
 reattached k (Number n) h = refl
 reattached k (Variable w) h = refl
-reattached k (Field f) h = refl
+reattached k (Field f line) h = refl
 reattached k Own h = refl
 reattached k (Group e) h = refl
 reattached k (Negative e) h = refl
@@ -95,7 +95,7 @@ reattached k (Binary o a b) h =
 pub first_at : (k : ℕ) (e : Expr Word) → IsAt k e → IsAt 0 (first_operand e)
 first_at k (Number n) h = h
 first_at k (Variable w) h = h
-first_at k (Field f) h = h
+first_at k (Field f line) h = h
 first_at k Own h = h
 first_at k (Group e) h = h
 first_at k (Negative e) h = h
@@ -123,7 +123,7 @@ low o c (Above x y z lt) le = absurd (omega (arith, lt, le))
 flags_low : (k : ℕ) (e : Expr Word) (c : Bool) → IsAt k e → k ≤ 2 → flags c (operators e) ≡ c
 flags_low k (Number n) c h le = refl
 flags_low k (Variable w) c h le = refl
-flags_low k (Field f) c h le = refl
+flags_low k (Field f line) c h le = refl
 flags_low k Own c h le = refl
 flags_low k (Group e) c h le = refl
 flags_low k (Negative e) c h le = refl
@@ -145,7 +145,7 @@ not_low c k j (inr le) a b = absurd (omega (arith, a, b, le))
 pub are_operators : (k : ℕ) (e : Expr Word) (c : Bool) → IsAt k e → (c ≡ false) ⊎ (k ≤ 2) → AreLinks c (operators e)
 are_operators k (Number n) c h side = tt
 are_operators k (Variable w) c h side = tt
-are_operators k (Field f) c h side = tt
+are_operators k (Field f line) c h side = tt
 are_operators k Own c h side = tt
 are_operators k (Group e) c h side = tt
 are_operators k (Negative e) c h side = tt

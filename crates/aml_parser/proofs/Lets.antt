@@ -15,7 +15,7 @@ use Rattle.aml_parser.proofs.Branches.{let_part, let_value_rests, let_value_stop
 -- ---- calls
 
 pub call_reads : (ts : List Token) (depth at named opening start closed end : ℕ) (v m : Word) (target : Expr Word) (es : List (Expr Word)) (g : Onto Word Word) → there is_call (slice_get ts at) ≡ true
-    → ((rest : Code Word Word) → g rest ≡ Call v target m es rest)
+    → ((rest : Code Word Word) → g rest ≡ Call line v target m es rest)
     → ((n : ℕ) → Takes ts (Target depth ∷ []) (target, tt) n (at + 1) n named) → ((n : ℕ) → Takes ts (Called ∷ []) (m, tt) n named n opening)
     → ((n : ℕ) → Takes ts (Opening depth fixed.Open ∷ []) (tt, tt) n opening n start) → ((n : ℕ) → Takes ts (Argued (depth + 1) ∷ []) (es, tt) n start n closed)
     → ((n : ℕ) → Takes ts (Fixed fixed.Semicolon ∷ []) (tt, tt) n closed n end) → (names : ℕ) → TakesLet ts depth v g names at names end
@@ -60,7 +60,7 @@ let_reads ts depth names at behind start after end v g is a b x =
     same_part ts depth names at after end (λ rest. let_of v (x.rest rest)) g x.made
     (let_part ts depth names at (names + 1) start after end v x.rest is (takes_then a (b (names + 1))) x.rests)
 
-pub let_value_reads : (ts : List Token) (depth names at end : ℕ) (v : Word) (e : Expr Word) (g : Onto Word Word) → there is_call (slice_get ts at) ≡ false → ((rest : Code Word Word) → g rest ≡ Let v e rest)
+pub let_value_reads : (ts : List Token) (depth names at end : ℕ) (v : Word) (e : Expr Word) (g : Onto Word Word) → there is_call (slice_get ts at) ≡ false → ((rest : Code Word Word) → g rest ≡ Let line v e rest)
     → ((n : ℕ) → Takes ts (Expression depth (To fixed.Semicolon) ∷ []) ((e, tt), tt) n at n end) → TakesLet ts depth v g names at names end
 let_value_reads ts depth names at end v e g none made x = record { rest = Valued e; made = made; rests = let_value_rests ts depth names at end e none (x names) }
 

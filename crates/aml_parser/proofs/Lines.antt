@@ -25,7 +25,7 @@ use Rattle.aml_tree.specs.Lines.{WordUpTo, ExpressionUpTo, BlockUpTo, MethodUpTo
 abbrev TokenUpTo : ℕ → Token → Type 0
 TokenUpTo most (token.Name w) = w.line ≤ most
 TokenUpTo most (token.Number n) = Unit {0}
-TokenUpTo most (token.Field k) = Unit {0}
+TokenUpTo most (token.Field k line) = Unit {0}
 TokenUpTo most (token.Sign s) = Unit {0}
 TokenUpTo most (token.CloseBrace line) = line ≤ most
 
@@ -48,7 +48,7 @@ word_up_to : (most line : ℕ) (bytes : List ℕ) → line ≤ most → ResultUp
 word_up_to most line bytes h = by (symbol_of keywords bytes) (field_of 0 field_words bytes) (nat_le (length bytes) 32)
   where
     by : (s : Option Symbol) (f : Option ℕ) (t : Bool)
-        → ResultUpTo most (either s (λ s. Ok (token.Sign s)) (either f (λ k. Ok (token.Field k)) (if t then Ok (token.Name (record { name = bytes; line = line })) else Err BadToken)))
+        → ResultUpTo most (either s (λ s. Ok (token.Sign s)) (either f (λ k. Ok (token.Field k line)) (if t then Ok (token.Name (record { name = bytes; line = line })) else Err BadToken)))
     by (Some s) f t = tt
     by None (Some k) t = tt
     by None None true = h
@@ -115,7 +115,7 @@ parts most xs ys h = (front_up_to most xs ys h, back_up_to most xs ys h)
 expression_up_to : (most : ℕ) (e : Expr Word) → TokensUpTo most (spelling e) → ExpressionUpTo most e
 expression_up_to most (Number n) h = tt
 expression_up_to most (Variable w) h = h.0
-expression_up_to most (Field k) h = tt
+expression_up_to most (Field k line) h = tt
 expression_up_to most Own h = tt
 expression_up_to most (Group e) h = expression_up_to most e (parts most (spelling e) _ h.1).0
 expression_up_to most (Negative e) h = expression_up_to most e h.1
@@ -135,15 +135,15 @@ parameters_up_to most (w ∷ v ∷ ws) h = (h.0, parameters_up_to most (v ∷ ws
 
 block_up_to : (most : ℕ) (b : Code Word Word) → TokensUpTo most (block_spelling b) → BlockUpTo most b
 block_up_to most (End line) h = h.0
-block_up_to most (Let v value rest) h =
+block_up_to most (Let line v value rest) h =
     let s = parts most (spelling value) _ h.1.1.1 in (h.1.0, expression_up_to most value s.0, block_up_to most rest s.1.1)
-block_up_to most (Call v target m arguments rest) h =
+block_up_to most (Call line v target m arguments rest) h =
     let s = parts most (spelling target) _ h.1.1.1.1 in
     let t = parts most (listed (map spelling arguments)) _ s.1.1.1 in
     (h.1.0, expression_up_to most target s.0, s.1.0, arguments_up_to most arguments t.0, block_up_to most rest t.1.1.1)
 block_up_to most (Set v value rest) h =
     let s = parts most (spelling value) _ h.1.1 in (h.0, expression_up_to most value s.0, block_up_to most rest s.1.1)
-block_up_to most (SetField k value rest) h =
+block_up_to most (SetField line k value rest) h =
     let s = parts most (spelling value) _ h.1.1 in (expression_up_to most value s.0, block_up_to most rest s.1.1)
 block_up_to most (If condition first rest) h =
     let s = parts most (spelling condition) _ h.1 in

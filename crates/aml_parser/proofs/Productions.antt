@@ -82,7 +82,7 @@ good_failing _ h = tt
 pub primary_at : (e : Expr Word) → IsPrimary e → IsAt 0 e
 primary_at (Number n) h = h
 primary_at (Variable w) h = h
-primary_at (Field f) h = h
+primary_at (Field f line) h = h
 primary_at Own h = h
 primary_at (Group e) h = h
 primary_at (Negative e) h = absurd h
@@ -91,7 +91,7 @@ primary_at (Binary o a b) h = absurd h
 pub good_target : (depth : ℕ) (t : Token) → IsToken t → Good (Target depth) t (target_by depth t)
 good_target depth (token.Number n) h = λ us. record { fits = λ _. h; tokens = refl; marks = λ n. refl; names = λ n. refl }
 good_target depth (token.Name w) h = λ us. record { fits = λ _. h; tokens = refl; marks = λ n. refl; names = λ n. refl }
-good_target depth (token.Field k) h = λ us. record { fits = λ _. h; tokens = refl; marks = λ n. refl; names = λ n. refl }
+good_target depth (token.Field k line) h = λ us. record { fits = λ _. h; tokens = refl; marks = λ n. refl; names = λ n. refl }
 good_target depth (token.Sign symbol.Own) h = λ us. record { fits = λ _. tt; tokens = refl; marks = λ n. refl; names = λ n. refl }
 good_target depth (token.Sign symbol.Open) h = λ us. record {
   fits = λ fit. fit.0.0;

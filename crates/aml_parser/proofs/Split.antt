@@ -118,7 +118,7 @@ operator_found operator.Remainder = refl
 split_target : (depth : ℕ) (e : Expr Word) → Fits (Target depth) e → Split (Target depth) e
 split_target depth (Number n) h = record { token = token.Number n; is_token = h; production = _; found = refl; parts = tt; made = refl; fits = tt; closed = λ s c. c }
 split_target depth (Variable w) h = record { token = token.Name w; is_token = h; production = _; found = refl; parts = tt; made = refl; fits = tt; closed = λ s c. c }
-split_target depth (Field k) h = record { token = token.Field k; is_token = h; production = _; found = refl; parts = tt; made = refl; fits = tt; closed = λ s c. c }
+split_target depth (Field k line) h = record { token = token.Field k line; is_token = h; production = _; found = refl; parts = tt; made = refl; fits = tt; closed = λ s c. c }
 split_target depth Own h = record { token = token.Sign symbol.Own; is_token = tt; production = _; found = refl; parts = tt; made = refl; fits = tt; closed = λ s c. c }
 split_target depth (Group e) h = record { token = token.Sign symbol.Open; is_token = tt; production = _; found = refl; parts = ((e, tt), tt); made = refl; fits = ((h, tt), tt); closed = λ s c. c }
 split_target depth (Negative e) h = absurd h
@@ -127,7 +127,7 @@ split_target depth (Binary o a b) h = absurd h
 split_operand : (depth : ℕ) (e : Expr Word) → IsAt 0 e → Split (Operand depth) e
 split_operand depth (Number n) h = record { token = token.Number n; is_token = h; production = _; found = refl; parts = tt; made = refl; fits = tt; closed = λ s c. c }
 split_operand depth (Variable w) h = record { token = token.Name w; is_token = h; production = _; found = refl; parts = tt; made = refl; fits = tt; closed = λ s c. c }
-split_operand depth (Field k) h = record { token = token.Field k; is_token = h; production = _; found = refl; parts = tt; made = refl; fits = tt; closed = λ s c. c }
+split_operand depth (Field k line) h = record { token = token.Field k line; is_token = h; production = _; found = refl; parts = tt; made = refl; fits = tt; closed = λ s c. c }
 split_operand depth Own h = record { token = token.Sign symbol.Own; is_token = tt; production = _; found = refl; parts = tt; made = refl; fits = tt; closed = λ s c. c }
 split_operand depth (Group e) h = record { token = token.Sign symbol.Open; is_token = tt; production = _; found = refl; parts = ((e, tt), tt); made = refl; fits = ((h, tt), tt); closed = λ s c. c }
 split_operand depth (Negative e) h = record { token = token.Sign symbol.Minus; is_token = tt; production = _; found = refl; parts = (e, tt); made = refl; fits = (h, tt); closed = λ s c. c }
@@ -217,7 +217,7 @@ split_letting depth (Valued e rest) h =
 
 split_block : (depth : ℕ) (b : Value (Block depth)) → Fits (Block depth) b → Split (Block depth) b
 split_block depth (End line) h = record { token = token.CloseBrace line; is_token = tt; production = _; found = refl; parts = tt; made = refl; fits = tt; closed = λ s c. c }
-split_block depth (Let v value rest) h = record {
+split_block depth (Let line v value rest) h = record {
   token = token.Sign symbol.Let;
   is_token = tt;
   production = _;
@@ -227,7 +227,7 @@ split_block depth (Let v value rest) h = record {
   fits = (h.0, (tt, ((h.1, h.2), tt)));
   closed = λ s c. c;
 }
-split_block depth (Call v target m es rest) h = record {
+split_block depth (Call line v target m es rest) h = record {
   token = token.Sign symbol.Let;
   is_token = tt;
   production = _;
@@ -247,8 +247,8 @@ split_block depth (Set v value rest) h = record {
   fits = (tt, ((h.1, tt), (h.2, tt)));
   closed = λ s c. c;
 }
-split_block depth (SetField k value rest) h = record {
-  token = token.Field k;
+split_block depth (SetField line k value rest) h = record {
+  token = token.Field k line;
   is_token = h.0;
   production = _;
   found = refl;

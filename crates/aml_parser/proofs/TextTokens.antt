@@ -149,7 +149,7 @@ good_word line b bs run letter = by (symbol_of keywords (b ∷ bs)) refl (field_
     word_byte = rw letter refl
 
     by : (s : Option Symbol) → symbol_of keywords (b ∷ bs) ≡ s → (f : Option ℕ) → field_of 0 field_words (b ∷ bs) ≡ f → (t : Bool) → nat_le (length (b ∷ bs)) 32 ≡ t
-        → IsGood (either s (λ s. Ok (Sign s)) (either f (λ k. Ok (Field k)) (if t then Ok (Name (record { name = b ∷ bs; line = line })) else Err BadToken)))
+        → IsGood (either s (λ s. Ok (Sign s)) (either f (λ k. Ok (Field k line)) (if t then Ok (Name (record { name = b ∷ bs; line = line })) else Err BadToken)))
     by (Some s) a f x t y = tt
     by None a (Some k) x t y = some_field field_words 0 k (b ∷ bs) x
     by None a None x false y = tt

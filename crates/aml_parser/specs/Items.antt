@@ -23,7 +23,7 @@ abbrev pub attached : {V : Type 0} → Expr V → Operator → Expr V → Expr V
 attached (Binary p a b) o x = if nat_lt (level o) (level p) then Binary p a (attached b o x) else Binary o (Binary p a b) x
 attached (Number n) o x = Binary o (Number n) x
 attached (Variable v) o x = Binary o (Variable v) x
-attached (Field k) o x = Binary o (Field k) x
+attached (Field k line) o x = Binary o (Field k line) x
 attached Own o x = Binary o Own x
 attached (Group e) o x = Binary o (Group e) x
 attached (Negative e) o x = Binary o (Negative e) x
@@ -226,7 +226,7 @@ target_by_sign depth _ = None
 abbrev pub target_by : (depth : ℕ) → Token → Option (Production (Target depth))
 target_by depth (token.Number n) = Some (single Plain (Number n))
 target_by depth (token.Name w) = Some (single Plain (Variable w))
-target_by depth (token.Field k) = Some (single Plain (Field k))
+target_by depth (token.Field k line) = Some (single Plain (Field k line))
 target_by depth (token.Sign s) = target_by_sign depth s
 target_by depth (token.CloseBrace line) = None
 
@@ -278,8 +278,8 @@ letting_by depth t =
     else followed {i = Expression depth (To fixed.Semicolon)} {j = Letting depth} (Block depth ∷ []) (λ e vs. Valued e.0 vs.0) (expression_by depth (To fixed.Semicolon) t)
 
 abbrev pub let_of : Word → LetRest → Code Word Word
-let_of v (Valued value rest) = Let v value rest
-let_of v (Calling target m arguments rest) = Call v target m arguments rest
+let_of v (Valued value rest) = Let line v value rest
+let_of v (Calling target m arguments rest) = Call line v target m arguments rest
 
 abbrev pub if_of : Expr Word → Code Word Word → IfRest → Code Word Word
 if_of condition first (Without rest) = If condition first rest
@@ -298,7 +298,7 @@ block_by_sign depth _ = None
 abbrev pub block_by : (depth : ℕ) → Token → Option (Production (Block depth))
 block_by depth (token.CloseBrace line) = Some (single Plain (End line))
 block_by depth (token.Name w) = Some (record { event = Plain; items = Fixed fixed.Assign ∷ Expression depth (To fixed.Semicolon) ∷ Block depth ∷ []; make = λ vs. Set w vs.1.0.0 vs.1.1.0 })
-block_by depth (token.Field k) = Some (record { event = Plain; items = Fixed fixed.Assign ∷ Expression depth (To fixed.Semicolon) ∷ Block depth ∷ []; make = λ vs. SetField k vs.1.0.0 vs.1.1.0 })
+block_by depth (token.Field k line) = Some (record { event = Plain; items = Fixed fixed.Assign ∷ Expression depth (To fixed.Semicolon) ∷ Block depth ∷ []; make = λ vs. SetField line k vs.1.0.0 vs.1.1.0 })
 block_by depth (token.Sign s) = block_by_sign depth s
 block_by depth (token.Number n) = None
 

@@ -28,10 +28,10 @@ lined e = renamed_expression one e
 
 abbrev block_lined : Code Word Word → Code Word Word
 block_lined (End line) = End 1
-block_lined (Let v value rest) = Let (one v) (lined value) (block_lined rest)
-block_lined (Call v target m arguments rest) = Call (one v) (lined target) (one m) (map lined arguments) (block_lined rest)
+block_lined (Let line v value rest) = Let line (one v) (lined value) (block_lined rest)
+block_lined (Call line v target m arguments rest) = Call line (one v) (lined target) (one m) (map lined arguments) (block_lined rest)
 block_lined (Set v value rest) = Set (one v) (lined value) (block_lined rest)
-block_lined (SetField k value rest) = SetField k (lined value) (block_lined rest)
+block_lined (SetField line k value rest) = SetField line k (lined value) (block_lined rest)
 block_lined (If condition first rest) = If (lined condition) (block_lined first) (block_lined rest)
 block_lined (IfElse condition first other rest) = IfElse (lined condition) (block_lined first) (block_lined other) (block_lined rest)
 block_lined (While condition body rest) = While (lined condition) (block_lined body) (block_lined rest)
@@ -46,7 +46,7 @@ method_lined m = record { name = one m.name; parameters = map one m.parameters; 
 spelling_lined : (e : Expr Word) → spelling (lined e) ≡ map in_first_line (spelling e)
 spelling_lined (Number n) = refl
 spelling_lined (Variable w) = refl
-spelling_lined (Field k) = refl
+spelling_lined (Field k line) = refl
 spelling_lined Own = refl
 spelling_lined (Group e) = rw (spelling_lined e, map-append in_first_line (spelling e) (Sign symbol.Close ∷ [])) refl
 spelling_lined (Negative e) = rw (spelling_lined e) refl
@@ -79,15 +79,15 @@ joined_lined a x b c h k = rw (h, k, map-append in_first_line a b) refl
 
 block_spelling_lined : (c : Code Word Word) → block_spelling (block_lined c) ≡ map in_first_line (block_spelling c)
 block_spelling_lined (End line) = refl
-block_spelling_lined (Let v value rest) =
+block_spelling_lined (Let line v value rest) =
     rw (value_lined value (Sign symbol.Semicolon) (block_spelling rest) (block_spelling (block_lined rest)) (block_spelling_lined rest)) refl
-block_spelling_lined (Call v target m arguments rest) =
+block_spelling_lined (Call line v target m arguments rest) =
     let given : listed (map spelling (map lined arguments)) ++ Sign symbol.Close ∷ Sign symbol.Semicolon ∷ block_spelling (block_lined rest) ≡ map in_first_line (listed (map spelling arguments) ++ Sign symbol.Close ∷ Sign symbol.Semicolon ∷ block_spelling rest) =
     joined_lined (listed (map spelling arguments)) (listed (map spelling (map lined arguments))) (Sign symbol.Close ∷ Sign symbol.Semicolon ∷ block_spelling rest) (Sign symbol.Close ∷ Sign symbol.Semicolon ∷ block_spelling (block_lined rest)) (given_lined arguments) (rw (block_spelling_lined rest) refl) in
     rw (spelling_lined target, given, map-append in_first_line (spelling target) (Name m ∷ Sign symbol.Open ∷ (listed (map spelling arguments) ++ Sign symbol.Close ∷ Sign symbol.Semicolon ∷ block_spelling rest))) refl
 block_spelling_lined (Set v value rest) =
     rw (value_lined value (Sign symbol.Semicolon) (block_spelling rest) (block_spelling (block_lined rest)) (block_spelling_lined rest)) refl
-block_spelling_lined (SetField k value rest) =
+block_spelling_lined (SetField line k value rest) =
     rw (value_lined value (Sign symbol.Semicolon) (block_spelling rest) (block_spelling (block_lined rest)) (block_spelling_lined rest)) refl
 block_spelling_lined (If condition first rest) =
     rw (value_lined condition (Sign symbol.OpenBrace) (block_spelling first ++ block_spelling rest) (block_spelling (block_lined first) ++ block_spelling (block_lined rest))
@@ -121,7 +121,7 @@ program_spelling_lined (m ∷ ms) =
 at_lined : (e : Expr Word) (k : ℕ) → IsAt k e → IsAt k (lined e)
 at_lined (Number n) k h = h
 at_lined (Variable w) k h = h
-at_lined (Field f) k h = h
+at_lined (Field f line) k h = h
 at_lined Own k h = tt
 at_lined (Group e) k h = at_lined e 5 h
 at_lined (Negative e) k h = at_lined e 0 h
@@ -130,7 +130,7 @@ at_lined (Binary o a b) k h = (h.0, at_lined a (lean (level o)) h.1, at_lined b 
 primary_lined : (e : Expr Word) → IsPrimary e → IsPrimary (lined e)
 primary_lined (Number n) h = h
 primary_lined (Variable w) h = h
-primary_lined (Field f) h = h
+primary_lined (Field f line) h = h
 primary_lined Own h = tt
 primary_lined (Group e) h = at_lined e 5 h
 primary_lined (Negative e) h = h
@@ -142,10 +142,10 @@ all_lined (e ∷ es) h = (at_lined e 5 h.0, all_lined es h.1)
 
 is_block_lined : (c : Code Word Word) → IsBlock c → IsBlock (block_lined c)
 is_block_lined (End line) h = tt
-is_block_lined (Let v value rest) h = (h.0, at_lined value 5 h.1, is_block_lined rest h.2)
-is_block_lined (Call v target m arguments rest) h = (h.0, primary_lined target h.1, h.2, all_lined arguments h.3, is_block_lined rest h.4)
+is_block_lined (Let line v value rest) h = (h.0, at_lined value 5 h.1, is_block_lined rest h.2)
+is_block_lined (Call line v target m arguments rest) h = (h.0, primary_lined target h.1, h.2, all_lined arguments h.3, is_block_lined rest h.4)
 is_block_lined (Set v value rest) h = (h.0, at_lined value 5 h.1, is_block_lined rest h.2)
-is_block_lined (SetField k value rest) h = (h.0, at_lined value 5 h.1, is_block_lined rest h.2)
+is_block_lined (SetField line k value rest) h = (h.0, at_lined value 5 h.1, is_block_lined rest h.2)
 is_block_lined (If condition first rest) h = (at_lined condition 5 h.0, is_block_lined first h.1, is_block_lined rest h.2)
 is_block_lined (IfElse condition first other rest) h = (at_lined condition 5 h.0, is_block_lined first h.1, is_block_lined other h.2, is_block_lined rest h.3)
 is_block_lined (While condition body rest) h = (at_lined condition 5 h.0, is_block_lined body h.1, is_block_lined rest h.2)
@@ -165,7 +165,7 @@ methods_lined (m ∷ ms) h = (record { name = h.0.name; parameters = words_lined
 marks_lined : (e : Expr Word) (d : ℕ) → marks d (lined e) ≡ marks d e
 marks_lined (Number n) d = refl
 marks_lined (Variable w) d = refl
-marks_lined (Field k) d = refl
+marks_lined (Field k line) d = refl
 marks_lined Own d = refl
 marks_lined (Group e) d = rw (marks_lined e (d + 1)) refl
 marks_lined (Negative e) d = rw (marks_lined e (d + 1)) refl
@@ -177,10 +177,10 @@ given_marks_lined (e ∷ es) d = rw (marks_lined e d, given_marks_lined es d) re
 
 lets_lined : (c : Code Word Word) → lets (block_lined c) ≡ lets c
 lets_lined (End line) = refl
-lets_lined (Let v value rest) = rw (lets_lined rest) refl
-lets_lined (Call v target m arguments rest) = rw (lets_lined rest) refl
+lets_lined (Let line v value rest) = rw (lets_lined rest) refl
+lets_lined (Call line v target m arguments rest) = rw (lets_lined rest) refl
 lets_lined (Set v value rest) = lets_lined rest
-lets_lined (SetField k value rest) = lets_lined rest
+lets_lined (SetField line k value rest) = lets_lined rest
 lets_lined (If condition first rest) = rw (lets_lined first, lets_lined rest) refl
 lets_lined (IfElse condition first other rest) = rw (lets_lined first, lets_lined other, lets_lined rest) refl
 lets_lined (While condition body rest) = rw (lets_lined body, lets_lined rest) refl
@@ -189,10 +189,10 @@ lets_lined (Return value rest) = lets_lined rest
 
 block_marks_lined : (c : Code Word Word) (d n : ℕ) → block_marks d n (block_lined c) ≡ block_marks d n c
 block_marks_lined (End line) d n = refl
-block_marks_lined (Let v value rest) d n = rw (marks_lined value d, block_marks_lined rest d (n + 1)) refl
-block_marks_lined (Call v target m arguments rest) d n = rw (marks_lined target d, given_marks_lined arguments (d + 1), block_marks_lined rest d (n + 1)) refl
+block_marks_lined (Let line v value rest) d n = rw (marks_lined value d, block_marks_lined rest d (n + 1)) refl
+block_marks_lined (Call line v target m arguments rest) d n = rw (marks_lined target d, given_marks_lined arguments (d + 1), block_marks_lined rest d (n + 1)) refl
 block_marks_lined (Set v value rest) d n = rw (marks_lined value d, block_marks_lined rest d n) refl
-block_marks_lined (SetField k value rest) d n = rw (marks_lined value d, block_marks_lined rest d n) refl
+block_marks_lined (SetField line k value rest) d n = rw (marks_lined value d, block_marks_lined rest d n) refl
 block_marks_lined (If condition first rest) d n = rw (marks_lined condition d, block_marks_lined first (d + 1) n, lets_lined first, block_marks_lined rest d (n + lets first)) refl
 block_marks_lined (IfElse condition first other rest) d n =
     rw (marks_lined condition d, block_marks_lined first (d + 1) n, lets_lined first, lets_lined other, block_marks_lined other (d + 1) (n + lets first), block_marks_lined rest d (n + lets first + lets other)) refl
@@ -224,7 +224,7 @@ program_lined p h = record {
 expression_words : (e : Expr Word) → renamed_expression name_of (lined e) ≡ renamed_expression name_of e
 expression_words (Number n) = refl
 expression_words (Variable w) = refl
-expression_words (Field k) = refl
+expression_words (Field k line) = refl
 expression_words Own = refl
 expression_words (Group e) = rw (expression_words e) refl
 expression_words (Negative e) = rw (expression_words e) refl
@@ -236,10 +236,10 @@ given_words (e ∷ es) = rw (expression_words e, given_words es) refl
 
 block_words : (c : Code Word Word) → without_lines (block_lined c) ≡ without_lines c
 block_words (End line) = refl
-block_words (Let v value rest) = rw (expression_words value, block_words rest) refl
-block_words (Call v target m arguments rest) = rw (expression_words target, given_words arguments, block_words rest) refl
+block_words (Let line v value rest) = rw (expression_words value, block_words rest) refl
+block_words (Call line v target m arguments rest) = rw (expression_words target, given_words arguments, block_words rest) refl
 block_words (Set v value rest) = rw (expression_words value, block_words rest) refl
-block_words (SetField k value rest) = rw (expression_words value, block_words rest) refl
+block_words (SetField line k value rest) = rw (expression_words value, block_words rest) refl
 block_words (If condition first rest) = rw (expression_words condition, block_words first, block_words rest) refl
 block_words (IfElse condition first other rest) = rw (expression_words condition, block_words first, block_words other, block_words rest) refl
 block_words (While condition body rest) = rw (expression_words condition, block_words body, block_words rest) refl

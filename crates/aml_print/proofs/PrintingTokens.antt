@@ -18,7 +18,7 @@ both (x ∷ xs) ys h k = (h.0, both xs ys h.1 k)
 expression : (e : Expr Word) (k : ℕ) → IsAt k e → Are (spelling e)
 expression (Number n) k h = (h, tt)
 expression (Variable w) k h = (h, tt)
-expression (Field f) k h = (h, tt)
+expression (Field f line) k h = (h, tt)
 expression Own k h = (tt, tt)
 expression (Group e) k h = (tt, both (spelling e) _ (expression e 5 h) (tt, tt))
 expression (Negative e) k h = (tt, expression e 0 h)
@@ -27,7 +27,7 @@ expression (Binary o a b) k h = both (spelling a) _ (expression a (lean (level o
 primary : (e : Expr Word) → IsPrimary e → Are (spelling e)
 primary (Number n) h = (h, tt)
 primary (Variable w) h = (h, tt)
-primary (Field f) h = (h, tt)
+primary (Field f line) h = (h, tt)
 primary Own h = (tt, tt)
 primary (Group e) h = (tt, both (spelling e) _ (expression e 5 h) (tt, tt))
 primary (Negative e) h = absurd h
@@ -48,11 +48,11 @@ parameters (w ∷ ws) h = ((h.0, tt), parameters ws h.1)
 
 block : (c : Code Word Word) → IsBlock c → Are (block_spelling c)
 block (End line) h = (tt, tt)
-block (Let v value rest) h = (tt, (h.0, (tt, both (spelling value) _ (expression value 5 h.1) (tt, block rest h.2))))
-block (Call v target m given rest) h =
+block (Let line v value rest) h = (tt, (h.0, (tt, both (spelling value) _ (expression value 5 h.1) (tt, block rest h.2))))
+block (Call line v target m given rest) h =
     (tt, (h.0, (tt, (tt, both (spelling target) _ (primary target h.1) (h.2, (tt, both (listed (map spelling given)) _ (all_listed (map spelling given) (arguments given h.3)) (tt, (tt, block rest h.4))))))))
 block (Set v value rest) h = (h.0, (tt, both (spelling value) _ (expression value 5 h.1) (tt, block rest h.2)))
-block (SetField k value rest) h = (h.0, (tt, both (spelling value) _ (expression value 5 h.1) (tt, block rest h.2)))
+block (SetField line k value rest) h = (h.0, (tt, both (spelling value) _ (expression value 5 h.1) (tt, block rest h.2)))
 block (If condition first rest) h = (tt, both (spelling condition) _ (expression condition 5 h.0) (tt, both (block_spelling first) _ (block first h.1) (block rest h.2)))
 block (IfElse condition first other rest) h =
     (tt, both (spelling condition) _ (expression condition 5 h.0) (tt, both (block_spelling first) _ (block first h.1) (tt, (tt, both (block_spelling other) _ (block other h.2) (block rest h.3)))))

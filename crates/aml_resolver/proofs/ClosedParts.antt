@@ -94,7 +94,7 @@ known_place ns w e =
 pub closed_expression : (ns : List (List ℕ)) (k : ℕ) (e : Expr Word) → IsAt k e → faults ns e ≡ [] → IsClosedExpression (length ns) (checked_expression ns e)
 closed_expression ns k (Number n) rule none = rule
 closed_expression ns k (Variable w) rule none = known_place ns w none
-closed_expression ns k (Field f) rule none = rule
+closed_expression ns k (Field f line) rule none = rule
 closed_expression ns k Own rule none = tt
 closed_expression ns k (Group e) rule none = closed_expression ns 5 e rule none
 closed_expression ns k (Negative e) rule none = closed_expression ns 0 e rule none
@@ -113,7 +113,7 @@ closed_all ns (e ∷ es) rules none = (
 primary_at : (e : Expr Word) → IsPrimary e → IsAt 0 e
 primary_at (Number n) rule = rule
 primary_at (Variable w) rule = rule
-primary_at (Field f) rule = rule
+primary_at (Field f line) rule = rule
 primary_at Own rule = rule
 primary_at (Group e) rule = rule
 primary_at (Negative e) rule = absurd rule
@@ -169,14 +169,14 @@ AllUnmarked ms = AllByRecursion IsUnmarked ms
 
 pub closed_block : (p : List TextMethod) (ns : List (List ℕ)) (d k : ℕ) (b : Code Word Word) → IsBlock b → block_faults p ns b ≡ [] → AllUnmarked (block_marks d k b) → IsClosedBlock (checked_program p) (length ns) (checked_block (method_names p) ns b)
 closed_block p ns d k (End line) rule none free = tt
-closed_block p ns d k (Let v value rest) rule none free =
+closed_block p ns d k (Let line v value rest) rule none free =
     let later = none_right (duplicate ns v) (faults ns value ++ block_faults p (ns ++ v.name ∷ []) rest) none in (
       refl,
       closed_expression ns 5 value rule.1 (none_left (faults ns value) (block_faults p (ns ++ v.name ∷ []) rest) later),
       closed_next (checked_program p) ns v.name (checked_block (method_names p) (ns ++ v.name ∷ []) rest) (closed_block p (ns ++ v.name ∷ []) d (k + 1) rest rule.2 (none_right (faults ns value) (block_faults p (ns ++ v.name ∷ []) rest) later)
           (all_right (marks d value) (None ∷ block_marks d (k + 1) rest) free.1.1.1).1),
     )
-closed_block p ns d k (Call v target m arguments rest) rule none free =
+closed_block p ns d k (Call line v target m arguments rest) rule none free =
     let behind = block_faults p (ns ++ v.name ∷ []) rest in
     let all = flat_map (faults ns) arguments in
     let a = none_right (duplicate ns v) (faults ns target ++ (call_faults p m (length arguments) ++ (all ++ behind))) none in
@@ -197,7 +197,7 @@ closed_block p ns d k (Set v value rest) rule none free =
       closed_expression ns 5 value rule.1 (none_left (faults ns value) (block_faults p ns rest) later),
       closed_block p ns d k rest rule.2 (none_right (faults ns value) (block_faults p ns rest) later) (all_right (marks d value) (None ∷ block_marks d k rest) free.1.1).1,
     )
-closed_block p ns d k (SetField f value rest) rule none free = (
+closed_block p ns d k (SetField line f value rest) rule none free = (
   rule.0,
   closed_expression ns 5 value rule.1 (none_left (faults ns value) (block_faults p ns rest) none),
   closed_block p ns d k rest rule.2 (none_right (faults ns value) (block_faults p ns rest) none) (all_right (marks d value) (None ∷ block_marks d k rest) free.1.1).1,

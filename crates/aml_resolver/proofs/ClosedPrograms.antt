@@ -29,13 +29,13 @@ AllUnmarked ms = AllByRecursion IsUnmarked ms
 
 pub room_of : (d k : ℕ) (b : Code Word Word) → k ≤ 32 → AllUnmarked (block_marks d k b) → k + lets b ≤ 32
 room_of d k (End line) fits free = omega (arith, fits)
-room_of d k (Let v value rest) fits free =
+room_of d k (Let line v value rest) fits free =
     omega (arith, room_of d (k + 1) rest (omega (arith, below k 32 TooMany free.1.0)) (all_right (marks d value) (None ∷ block_marks d (k + 1) rest) free.1.1.1).1)
-room_of d k (Call v target m arguments rest) fits free =
+room_of d k (Call line v target m arguments rest) fits free =
     let after = all_right (marks d target) (None ∷ opened d ∷ (listed_marks (map (marks (d + 1)) arguments) ++ None ∷ None ∷ block_marks d (k + 1) rest)) free.1.1.1.1 in
     omega (arith, room_of d (k + 1) rest (omega (arith, below k 32 TooMany free.1.0)) (all_right (listed_marks (map (marks (d + 1)) arguments)) (None ∷ None ∷ block_marks d (k + 1) rest) after.1.1).1.1)
 room_of d k (Set v value rest) fits free = room_of d k rest fits (all_right (marks d value) (None ∷ block_marks d k rest) free.1.1).1
-room_of d k (SetField f value rest) fits free = room_of d k rest fits (all_right (marks d value) (None ∷ block_marks d k rest) free.1.1).1
+room_of d k (SetField line f value rest) fits free = room_of d k rest fits (all_right (marks d value) (None ∷ block_marks d k rest) free.1.1).1
 room_of d k (If condition first rest) fits free =
     let inside = (all_right (marks d condition) (opened d ∷ (block_marks (d + 1) k first ++ block_marks d (k + lets first) rest)) free.1).1 in
     let one = room_of (d + 1) k first fits (all_left (block_marks (d + 1) k first) (block_marks d (k + lets first) rest) inside) in
@@ -56,12 +56,12 @@ room_of d k (Return value rest) fits free = room_of d k rest fits (all_right (ma
 
 deep_of : (ms ns : List (List ℕ)) (d k : ℕ) (b : Code Word Word) → d ≤ 32 → AllUnmarked (block_marks d k b) → d + nesting (checked_block ms ns b) ≤ 33
 deep_of ms ns d k (End line) fits free = omega (arith, fits)
-deep_of ms ns d k (Let v value rest) fits free = deep_of ms (ns ++ v.name ∷ []) d (k + 1) rest fits (all_right (marks d value) (None ∷ block_marks d (k + 1) rest) free.1.1.1).1
-deep_of ms ns d k (Call v target m arguments rest) fits free =
+deep_of ms ns d k (Let line v value rest) fits free = deep_of ms (ns ++ v.name ∷ []) d (k + 1) rest fits (all_right (marks d value) (None ∷ block_marks d (k + 1) rest) free.1.1.1).1
+deep_of ms ns d k (Call line v target m arguments rest) fits free =
     let after = all_right (marks d target) (None ∷ opened d ∷ (listed_marks (map (marks (d + 1)) arguments) ++ None ∷ None ∷ block_marks d (k + 1) rest)) free.1.1.1.1 in
     deep_of ms (ns ++ v.name ∷ []) d (k + 1) rest fits (all_right (listed_marks (map (marks (d + 1)) arguments)) (None ∷ None ∷ block_marks d (k + 1) rest) after.1.1).1.1
 deep_of ms ns d k (Set v value rest) fits free = deep_of ms ns d k rest fits (all_right (marks d value) (None ∷ block_marks d k rest) free.1.1).1
-deep_of ms ns d k (SetField f value rest) fits free = deep_of ms ns d k rest fits (all_right (marks d value) (None ∷ block_marks d k rest) free.1.1).1
+deep_of ms ns d k (SetField line f value rest) fits free = deep_of ms ns d k rest fits (all_right (marks d value) (None ∷ block_marks d k rest) free.1.1).1
 deep_of ms ns d k (If condition first rest) fits free =
     let inner = all_right (marks d condition) (opened d ∷ (block_marks (d + 1) k first ++ block_marks d (k + lets first) rest)) free.1 in
     let one = deep_of ms ns (d + 1) k first (omega (arith, below d 32 TooDeep inner.0)) (all_left (block_marks (d + 1) k first) (block_marks d (k + lets first) rest) inner.1) in
@@ -84,10 +84,10 @@ deep_of ms ns d k (Return value rest) fits free = deep_of ms ns d k rest fits (a
 
 same_lets : (ms ns : List (List ℕ)) (b : Code Word Word) → lets (checked_block ms ns b) ≡ lets b
 same_lets ms ns (End line) = refl
-same_lets ms ns (Let v value rest) = ap (λ n. 1 + n) (same_lets ms (ns ++ v.name ∷ []) rest)
-same_lets ms ns (Call v target m arguments rest) = ap (λ n. 1 + n) (same_lets ms (ns ++ v.name ∷ []) rest)
+same_lets ms ns (Let line v value rest) = ap (λ n. 1 + n) (same_lets ms (ns ++ v.name ∷ []) rest)
+same_lets ms ns (Call line v target m arguments rest) = ap (λ n. 1 + n) (same_lets ms (ns ++ v.name ∷ []) rest)
 same_lets ms ns (Set v value rest) = same_lets ms ns rest
-same_lets ms ns (SetField f value rest) = same_lets ms ns rest
+same_lets ms ns (SetField line f value rest) = same_lets ms ns rest
 same_lets ms ns (If condition first rest) = omega (arith, same_lets ms ns first, same_lets ms ns rest)
 same_lets ms ns (IfElse condition first other rest) = omega (arith, same_lets ms ns first, same_lets ms ns other, same_lets ms ns rest)
 same_lets ms ns (While condition body rest) = omega (arith, same_lets ms ns body, same_lets ms ns rest)
@@ -96,10 +96,10 @@ same_lets ms ns (Return value rest) = same_lets ms ns rest
 
 same_last : (ms ns : List (List ℕ)) (b : Code Word Word) (x y : Bool) → if_last (checked_block ms ns b) x y ≡ if_last b x y
 same_last ms ns (End line) x y = refl
-same_last ms ns (Let v value rest) x y = refl
-same_last ms ns (Call v target m arguments rest) x y = refl
+same_last ms ns (Let line v value rest) x y = refl
+same_last ms ns (Call line v target m arguments rest) x y = refl
 same_last ms ns (Set v value rest) x y = refl
-same_last ms ns (SetField f value rest) x y = refl
+same_last ms ns (SetField line f value rest) x y = refl
 same_last ms ns (If condition first rest) x y = refl
 same_last ms ns (IfElse condition first other rest) x y = refl
 same_last ms ns (While condition body rest) x y = refl
@@ -108,10 +108,10 @@ same_last ms ns (Return value rest) x y = refl
 
 same_ends : (ms ns : List (List ℕ)) (b : Code Word Word) → ends (checked_block ms ns b) ≡ ends b
 same_ends ms ns (End line) = refl
-same_ends ms ns (Let v value rest) = same_ends ms (ns ++ v.name ∷ []) rest
-same_ends ms ns (Call v target m arguments rest) = same_ends ms (ns ++ v.name ∷ []) rest
+same_ends ms ns (Let line v value rest) = same_ends ms (ns ++ v.name ∷ []) rest
+same_ends ms ns (Call line v target m arguments rest) = same_ends ms (ns ++ v.name ∷ []) rest
 same_ends ms ns (Set v value rest) = same_ends ms ns rest
-same_ends ms ns (SetField f value rest) = same_ends ms ns rest
+same_ends ms ns (SetField line f value rest) = same_ends ms ns rest
 same_ends ms ns (If condition first rest) = same_ends ms ns rest
 same_ends ms ns (IfElse condition first other rest) =
     same_last ms ns rest (ends (checked_block ms ns first) && ends (checked_block ms ns other)) (ends (checked_block ms ns rest))

@@ -15,10 +15,10 @@ abbrev GoesOn : Code Word Word → Type 0
 GoesOn rest = (a b : Bool) → if_last rest a b ≡ b
 
 goes_step : (x : Statement-F Word Word (Onto Word Word)) (rest : Code Word Word) → GoesOn (statement_step x rest)
-goes_step (Statement-F.Let v value) rest a b = refl
-goes_step (Statement-F.Call v target m arguments) rest a b = refl
+goes_step (Statement-F.Let line v value) rest a b = refl
+goes_step (Statement-F.Call line v target m arguments) rest a b = refl
 goes_step (Statement-F.Set v value) rest a b = refl
-goes_step (Statement-F.SetField k value) rest a b = refl
+goes_step (Statement-F.SetField line k value) rest a b = refl
 goes_step (Statement-F.If condition first) rest a b = refl
 goes_step (Statement-F.IfElse condition first other) rest a b = refl
 goes_step (Statement-F.While condition body) rest a b = refl
@@ -29,10 +29,10 @@ goes_on : (s : Statement Word Word) (rest : Code Word Word) → GoesOn (statemen
 goes_on s rest = let l = layer s in rw l.1 (goes_step l.0 rest)
 
 ends_step : (x : Statement-F Word Word (Onto Word Word)) (rest : Code Word Word) → GoesOn rest → ends (statement_step x rest) ≡ ends rest
-ends_step (Statement-F.Let v value) rest goes = refl
-ends_step (Statement-F.Call v target m arguments) rest goes = refl
+ends_step (Statement-F.Let line v value) rest goes = refl
+ends_step (Statement-F.Call line v target m arguments) rest goes = refl
 ends_step (Statement-F.Set v value) rest goes = refl
-ends_step (Statement-F.SetField k value) rest goes = refl
+ends_step (Statement-F.SetField line k value) rest goes = refl
 ends_step (Statement-F.If condition first) rest goes = refl
 ends_step (Statement-F.IfElse condition first other) rest goes = goes _ (ends rest)
 ends_step (Statement-F.While condition body) rest goes = refl
@@ -57,10 +57,10 @@ ends_last ss i s line count is =
     ∙ ends_behind (take i ss) (statement_tree s (End line)) (goes_on s (End line))
 
 line_step : (x : Statement-F Word Word (Onto Word Word)) (rest : Code Word Word) → last_line (statement_step x rest) ≡ last_line rest
-line_step (Statement-F.Let v value) rest = refl
-line_step (Statement-F.Call v target m arguments) rest = refl
+line_step (Statement-F.Let line v value) rest = refl
+line_step (Statement-F.Call line v target m arguments) rest = refl
 line_step (Statement-F.Set v value) rest = refl
-line_step (Statement-F.SetField k value) rest = refl
+line_step (Statement-F.SetField line k value) rest = refl
 line_step (Statement-F.If condition first) rest = refl
 line_step (Statement-F.IfElse condition first other) rest = refl
 line_step (Statement-F.While condition body) rest = refl

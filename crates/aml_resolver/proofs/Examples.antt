@@ -10,15 +10,15 @@ unknown_name : program_faults (record { name = record { name = codes "f"; line =
 unknown_name = refl
 
 -- `if 1 { let a = 1; } a = 2;`: a name is gone behind its block, and the method does not end
-gone_behind_its_block : program_faults (record { name = record { name = codes "f"; line = 1 }; parameters = []; body = If (Number 1) (Let (record { name = codes "a"; line = 2 }) (Number 1) (End 2)) (Set (record { name = codes "a"; line = 3 }) (Number 2) (End 4)) } ∷ []) ≡ record { line = 3; cause = cause.UnknownName } ∷ record { line = 4; cause = cause.NoReturn } ∷ []
+gone_behind_its_block : program_faults (record { name = record { name = codes "f"; line = 1 }; parameters = []; body = If (Number 1) (Let line (record { name = codes "a"; line = 2 }) (Number 1) (End 2)) (Set (record { name = codes "a"; line = 3 }) (Number 2) (End 4)) } ∷ []) ≡ record { line = 3; cause = cause.UnknownName } ∷ record { line = 4; cause = cause.NoReturn } ∷ []
 gone_behind_its_block = refl
 
 -- a second method of the name, and a call with an argument too many
-duplicate_and_count : program_faults (record { name = record { name = codes "f"; line = 1 }; parameters = []; body = Call (record { name = codes "a"; line = 2 }) Own (record { name = codes "f"; line = 2 }) (Number 1 ∷ []) (Return (Number 0) (End 3)) } ∷ record { name = record { name = codes "f"; line = 4 }; parameters = []; body = Fail 7 (End 4) } ∷ [])
+duplicate_and_count : program_faults (record { name = record { name = codes "f"; line = 1 }; parameters = []; body = Call line (record { name = codes "a"; line = 2 }) Own (record { name = codes "f"; line = 2 }) (Number 1 ∷ []) (Return (Number 0) (End 3)) } ∷ record { name = record { name = codes "f"; line = 4 }; parameters = []; body = Fail 7 (End 4) } ∷ [])
     ≡ record { line = 2; cause = cause.ArgCount } ∷ record { line = 4; cause = cause.Duplicate } ∷ []
 duplicate_and_count = refl
 
 -- a variable becomes its place, and a method its own
-places_for_names : checked_program (record { name = record { name = codes "f"; line = 1 }; parameters = record { name = codes "n"; line = 1 } ∷ []; body = Let (record { name = codes "a"; line = 1 }) (Variable (record { name = codes "n"; line = 1 })) (Return (Variable (record { name = codes "a"; line = 1 })) (End 1)) } ∷ [])
-    ≡ record { name = record { name = codes "f"; line = 1 }; parameters = 0 ∷ []; body = Let 1 (Variable 0) (Return (Variable 1) (End 1)) } ∷ []
+places_for_names : checked_program (record { name = record { name = codes "f"; line = 1 }; parameters = record { name = codes "n"; line = 1 } ∷ []; body = Let line (record { name = codes "a"; line = 1 }) (Variable (record { name = codes "n"; line = 1 })) (Return (Variable (record { name = codes "a"; line = 1 })) (End 1)) } ∷ [])
+    ≡ record { name = record { name = codes "f"; line = 1 }; parameters = 0 ∷ []; body = Let line 1 (Variable 0) (Return (Variable 1) (End 1)) } ∷ []
 places_for_names = refl

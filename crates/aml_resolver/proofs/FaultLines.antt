@@ -52,7 +52,7 @@ repeated_up_to most front (w ∷ ws) h =
 expression_up_to : (most : ℕ) (names : List (List ℕ)) (e : Expr Word) → ExpressionUpTo most e → FaultsUpTo most (faults names e)
 expression_up_to most names (Number n) h = tt
 expression_up_to most names (Variable w) h = unknown_up_to most names w h
-expression_up_to most names (Field k) h = tt
+expression_up_to most names (Field k line) h = tt
 expression_up_to most names Own h = tt
 expression_up_to most names (Group e) h = expression_up_to most names e h
 expression_up_to most names (Negative e) h = expression_up_to most names e h
@@ -68,10 +68,10 @@ arguments_up_to most names (e ∷ es) h =
 
 block_up_to : (most : ℕ) (p : List TextMethod) (names : List (List ℕ)) (b : Code Word Word) → BlockUpTo most b → FaultsUpTo most (block_faults p names b)
 block_up_to most p names (End line) h = tt
-block_up_to most p names (Let v value rest) h =
+block_up_to most p names (Let line v value rest) h =
     both_up_to most (duplicate names v) _ (duplicate_up_to most names v h.0)
     (both_up_to most (faults names value) _ (expression_up_to most names value h.1) (block_up_to most p (names ++ v.name ∷ []) rest h.2))
-block_up_to most p names (Call v target m arguments rest) h =
+block_up_to most p names (Call line v target m arguments rest) h =
     both_up_to most (duplicate names v) _ (duplicate_up_to most names v h.0)
     (both_up_to most (faults names target) _ (expression_up_to most names target h.1)
     (both_up_to most (call_faults p m (length arguments)) _ (called_up_to most p m (length arguments) (place_of (method_names p) m.name) h.2)
@@ -79,7 +79,7 @@ block_up_to most p names (Call v target m arguments rest) h =
 block_up_to most p names (Set v value rest) h =
     both_up_to most (unknown names v) _ (unknown_up_to most names v h.0)
     (both_up_to most (faults names value) _ (expression_up_to most names value h.1) (block_up_to most p names rest h.2))
-block_up_to most p names (SetField k value rest) h =
+block_up_to most p names (SetField line k value rest) h =
     both_up_to most (faults names value) _ (expression_up_to most names value h.0) (block_up_to most p names rest h.1)
 block_up_to most p names (If condition first rest) h =
     both_up_to most (faults names condition) _ (expression_up_to most names condition h.0)
@@ -97,10 +97,10 @@ block_up_to most p names (Return value rest) h =
 
 last_up_to : (most : ℕ) (b : Code Word Word) → BlockUpTo most b → last_line b ≤ most
 last_up_to most (End line) h = h
-last_up_to most (Let v value rest) h = last_up_to most rest h.2
-last_up_to most (Call v target m arguments rest) h = last_up_to most rest h.4
+last_up_to most (Let line v value rest) h = last_up_to most rest h.2
+last_up_to most (Call line v target m arguments rest) h = last_up_to most rest h.4
 last_up_to most (Set v value rest) h = last_up_to most rest h.2
-last_up_to most (SetField k value rest) h = last_up_to most rest h.1
+last_up_to most (SetField line k value rest) h = last_up_to most rest h.1
 last_up_to most (If condition first rest) h = last_up_to most rest h.2
 last_up_to most (IfElse condition first other rest) h = last_up_to most rest h.3
 last_up_to most (While condition body rest) h = last_up_to most rest h.2

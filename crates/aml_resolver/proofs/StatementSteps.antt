@@ -34,25 +34,25 @@ take_front xs x = let h : length xs ≤ length xs = omega arith in rw take-appen
 -- ---- statements without blocks
 
 pub let_goes : (p : List TextMethod) (names next : List (List ℕ)) (v : Word) (value : Expr Word) (s : Onto ℕ ℕ) (k : ℕ) (c : Expr ℕ)
-    → duplicate names v ≡ [] → (faults names value ≡ []) × (c ≡ checked_expression names value) → k ≡ length names → next ≡ names ++ v.name ∷ [] → ((rest : Code ℕ ℕ) → s rest ≡ Let k c rest)
-    → Continues p names next (Let v value) s
+    → duplicate names v ≡ [] → (faults names value ≡ []) × (c ≡ checked_expression names value) → k ≡ length names → next ≡ names ++ v.name ∷ [] → ((rest : Code ℕ ℕ) → s rest ≡ Let line k c rest)
+    → Continues p names next (Let line v value) s
 let_goes p names next v value s k c new here place is tree =
-    let P : List (List ℕ) → Type 0 = λ ns. Continues p names ns (Let v value) s in
+    let P : List (List ℕ) → Type 0 = λ ns. Continues p names ns (Let line v value) s in
     subst P (sym is) (record {
       faultless = λ rest. none (duplicate names v) (faults names value ++ block_faults p (names ++ v.name ∷ []) rest) new ∙ none (faults names value) (block_faults p (names ++ v.name ∷ []) rest) here.0;
       placed = λ rest.
           let behind = checked_block (method_names p) (names ++ v.name ∷ []) rest in
-          tree behind ∙ ap (λ j. Let j c behind) place ∙ ap (λ d. Let (length names) d behind) here.1;
+          tree behind ∙ ap (λ j. Let line j c behind) place ∙ ap (λ d. Let line (length names) d behind) here.1;
       kept = take_front names v.name;
       room = λ rest. rw length-append (omega arith);
     })
 
 pub call_goes : (p : List TextMethod) (names next : List (List ℕ)) (v : Word) (target : Expr Word) (m : Word) (values : List (Expr Word)) (s : Onto ℕ ℕ) (k : ℕ) (actor : Expr ℕ) (callee : ℕ) (given : List (Expr ℕ))
     → duplicate names v ≡ [] → (faults names target ≡ []) × (actor ≡ checked_expression names target) → (call_faults p m (length values) ≡ []) × (callee ≡ placed (method_names p) m)
-    → (flat_map (faults names) values ≡ []) × (given ≡ map (checked_expression names) values) → k ≡ length names → next ≡ names ++ v.name ∷ [] → ((rest : Code ℕ ℕ) → s rest ≡ Call k actor callee given rest)
-    → Continues p names next (Call v target m values) s
+    → (flat_map (faults names) values ≡ []) × (given ≡ map (checked_expression names) values) → k ≡ length names → next ≡ names ++ v.name ∷ [] → ((rest : Code ℕ ℕ) → s rest ≡ Call line k actor callee given rest)
+    → Continues p names next (Call line v target m values) s
 call_goes p names next v target m values s k actor callee given new here method all place is tree =
-    let P : List (List ℕ) → Type 0 = λ ns. Continues p names ns (Call v target m values) s in
+    let P : List (List ℕ) → Type 0 = λ ns. Continues p names ns (Call line v target m values) s in
     subst P (sym is) (record {
       faultless = λ rest.
           let behind = block_faults p (names ++ v.name ∷ []) rest in
@@ -63,10 +63,10 @@ call_goes p names next v target m values s k actor callee given new here method 
       placed = λ rest.
           let behind = checked_block (method_names p) (names ++ v.name ∷ []) rest in
           tree behind
-          ∙ ap (λ j. Call j actor callee given behind) place
-          ∙ ap (λ d. Call (length names) d callee given behind) here.1
-          ∙ ap (λ j. Call (length names) (checked_expression names target) j given behind) method.1
-          ∙ ap (λ ds. Call (length names) (checked_expression names target) (placed (method_names p) m) ds behind) all.1;
+          ∙ ap (λ j. Call line j actor callee given behind) place
+          ∙ ap (λ d. Call line (length names) d callee given behind) here.1
+          ∙ ap (λ j. Call line (length names) (checked_expression names target) j given behind) method.1
+          ∙ ap (λ ds. Call line (length names) (checked_expression names target) (placed (method_names p) m) ds behind) all.1;
       kept = take_front names v.name;
       room = λ rest. rw length-append (omega arith);
     })
@@ -84,11 +84,11 @@ set_goes p names v value s k c known here tree = record {
 }
 
 pub field_goes : (p : List TextMethod) (names : List (List ℕ)) (k : ℕ) (value : Expr Word) (s : Onto ℕ ℕ) (c : Expr ℕ)
-    → (faults names value ≡ []) × (c ≡ checked_expression names value) → ((rest : Code ℕ ℕ) → s rest ≡ SetField k c rest)
-    → Continues p names names (SetField k value) s
+    → (faults names value ≡ []) × (c ≡ checked_expression names value) → ((rest : Code ℕ ℕ) → s rest ≡ SetField line k c rest)
+    → Continues p names names (SetField line k value) s
 field_goes p names k value s c here tree = record {
   faultless = λ rest. none (faults names value) (block_faults p names rest) here.0;
-  placed = λ rest. tree (checked_block (method_names p) names rest) ∙ ap (λ d. SetField k d (checked_block (method_names p) names rest)) here.1;
+  placed = λ rest. tree (checked_block (method_names p) names rest) ∙ ap (λ d. SetField line k d (checked_block (method_names p) names rest)) here.1;
   kept = take_whole names;
   room = λ rest. omega arith;
 }

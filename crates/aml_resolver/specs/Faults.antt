@@ -28,7 +28,7 @@ duplicate names w = if is_among names w then at w Duplicate else []
 abbrev pub faults : List (List ℕ) → Expr Word → List CheckFault
 faults names (Number n) = []
 faults names (Variable w) = unknown names w
-faults names (Field k) = []
+faults names (Field k line) = []
 faults names Own = []
 faults names (Group e) = faults names e
 faults names (Negative e) = faults names e
@@ -47,11 +47,11 @@ call_faults p w arguments = call_faults_at p w arguments (place_of (method_names
 -- is visible from behind its statement up to the end of its block.
 abbrev pub block_faults : List TextMethod → List (List ℕ) → Code Word Word → List CheckFault
 block_faults p names (End line) = []
-block_faults p names (Let v value rest) = duplicate names v ++ (faults names value ++ block_faults p (names ++ v.name ∷ []) rest)
-block_faults p names (Call v target m arguments rest) =
+block_faults p names (Let line v value rest) = duplicate names v ++ (faults names value ++ block_faults p (names ++ v.name ∷ []) rest)
+block_faults p names (Call line v target m arguments rest) =
     duplicate names v ++ (faults names target ++ (call_faults p m (length arguments) ++ (flat_map (faults names) arguments ++ block_faults p (names ++ v.name ∷ []) rest)))
 block_faults p names (Set v value rest) = unknown names v ++ (faults names value ++ block_faults p names rest)
-block_faults p names (SetField k value rest) = faults names value ++ block_faults p names rest
+block_faults p names (SetField line k value rest) = faults names value ++ block_faults p names rest
 block_faults p names (If condition first rest) = faults names condition ++ (block_faults p names first ++ block_faults p names rest)
 block_faults p names (IfElse condition first other rest) =
     faults names condition ++ (block_faults p names first ++ (block_faults p names other ++ block_faults p names rest))
@@ -68,10 +68,10 @@ repeated front (w ∷ ws) = duplicate front w ++ repeated (front ++ w.name ∷ [
 
 abbrev pub last_line : {V M : Type 0} → Code V M → ℕ
 last_line (End line) = line
-last_line (Let v value rest) = last_line rest
-last_line (Call v target m arguments rest) = last_line rest
+last_line (Let line v value rest) = last_line rest
+last_line (Call line v target m arguments rest) = last_line rest
 last_line (Set v value rest) = last_line rest
-last_line (SetField k value rest) = last_line rest
+last_line (SetField line k value rest) = last_line rest
 last_line (If condition first rest) = last_line rest
 last_line (IfElse condition first other rest) = last_line rest
 last_line (While condition body rest) = last_line rest

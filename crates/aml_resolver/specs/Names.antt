@@ -31,11 +31,11 @@ checked_expression names e = renamed_expression (placed names) e
 -- a new variable comes behind those that are visible, and is visible up to the end of its block
 abbrev pub checked_block : List (List ℕ) → List (List ℕ) → Code Word Word → Code ℕ ℕ
 checked_block methods names (End line) = End line
-checked_block methods names (Let v value rest) = Let (length names) (checked_expression names value) (checked_block methods (names ++ v.name ∷ []) rest)
-checked_block methods names (Call v target m arguments rest) =
-    Call (length names) (checked_expression names target) (placed methods m) (map (checked_expression names) arguments) (checked_block methods (names ++ v.name ∷ []) rest)
+checked_block methods names (Let line v value rest) = Let line (length names) (checked_expression names value) (checked_block methods (names ++ v.name ∷ []) rest)
+checked_block methods names (Call line v target m arguments rest) =
+    Call line (length names) (checked_expression names target) (placed methods m) (map (checked_expression names) arguments) (checked_block methods (names ++ v.name ∷ []) rest)
 checked_block methods names (Set v value rest) = Set (placed names v) (checked_expression names value) (checked_block methods names rest)
-checked_block methods names (SetField k value rest) = SetField k (checked_expression names value) (checked_block methods names rest)
+checked_block methods names (SetField line k value rest) = SetField line k (checked_expression names value) (checked_block methods names rest)
 checked_block methods names (If condition first rest) = If (checked_expression names condition) (checked_block methods names first) (checked_block methods names rest)
 checked_block methods names (IfElse condition first other rest) =
     IfElse (checked_expression names condition) (checked_block methods names first) (checked_block methods names other) (checked_block methods names rest)

@@ -10,10 +10,10 @@ use Rattle.aml_resume.specs.declared.places.Spot.{Spot}
 use Rattle.aml_resume.specs.Places.{behind_some, HasInner, IsPlace, IsRunnable, after_inner, inner_of, kept}
 
 behind_step : (x : Step) (rest : Code ℕ ℕ) (n : ℕ) → behind_some (suc n) (statement_step x rest) ≡ behind_some n rest
-behind_step (Statement-F.Let v value) rest n = refl
-behind_step (Statement-F.Call v target m arguments) rest n = refl
+behind_step (Statement-F.Let line v value) rest n = refl
+behind_step (Statement-F.Call line v target m arguments) rest n = refl
 behind_step (Statement-F.Set v value) rest n = refl
-behind_step (Statement-F.SetField k value) rest n = refl
+behind_step (Statement-F.SetField line k value) rest n = refl
 behind_step (Statement-F.If condition first) rest n = refl
 behind_step (Statement-F.IfElse condition first other) rest n = refl
 behind_step (Statement-F.While condition body) rest n = refl
@@ -33,10 +33,10 @@ behind_statements (suc n) (s ∷ ss) line = behind_tree s (statements_tree ss (E
 behind_suc : (n : ℕ) (b : Code ℕ ℕ) → behind_some (suc n) b ≡ behind_some 1 (behind_some n b)
 behind_suc zero b = refl
 behind_suc (suc n) (End line) = refl
-behind_suc (suc n) (Let v value rest) = behind_suc n rest
-behind_suc (suc n) (Call v target m arguments rest) = behind_suc n rest
+behind_suc (suc n) (Let line v value rest) = behind_suc n rest
+behind_suc (suc n) (Call line v target m arguments rest) = behind_suc n rest
 behind_suc (suc n) (Set v value rest) = behind_suc n rest
-behind_suc (suc n) (SetField k value rest) = behind_suc n rest
+behind_suc (suc n) (SetField line k value rest) = behind_suc n rest
 behind_suc (suc n) (If condition first rest) = behind_suc n rest
 behind_suc (suc n) (IfElse condition first other rest) = behind_suc n rest
 behind_suc (suc n) (While condition body rest) = behind_suc n rest
@@ -75,10 +75,10 @@ block_here ss line i other s o has is tree =
 deep_some : (n : ℕ) (b : Code ℕ ℕ) → nesting (behind_some n b) ≤ nesting b
 deep_some zero b = omega arith
 deep_some (suc n) (End line) = omega arith
-deep_some (suc n) (Let v value rest) = deep_some n rest
-deep_some (suc n) (Call v target m arguments rest) = deep_some n rest
+deep_some (suc n) (Let line v value rest) = deep_some n rest
+deep_some (suc n) (Call line v target m arguments rest) = deep_some n rest
 deep_some (suc n) (Set v value rest) = deep_some n rest
-deep_some (suc n) (SetField k value rest) = deep_some n rest
+deep_some (suc n) (SetField line k value rest) = deep_some n rest
 deep_some (suc n) (If condition first rest) = omega (arith, deep_some n rest)
 deep_some (suc n) (IfElse condition first other rest) = omega (arith, deep_some n rest)
 deep_some (suc n) (While condition body rest) = omega (arith, deep_some n rest)
@@ -88,14 +88,14 @@ deep_some (suc n) (Return value rest) = deep_some n rest
 inner_deep : (other : Bool) (b : Code ℕ ℕ) → HasInner other b → nesting (inner_of other b) + 1 ≤ nesting b
 inner_deep false (End line) h = absurd h
 inner_deep true (End line) h = absurd h
-inner_deep false (Let v value rest) h = absurd h
-inner_deep true (Let v value rest) h = absurd h
-inner_deep false (Call v target m arguments rest) h = absurd h
-inner_deep true (Call v target m arguments rest) h = absurd h
+inner_deep false (Let line v value rest) h = absurd h
+inner_deep true (Let line v value rest) h = absurd h
+inner_deep false (Call line v target m arguments rest) h = absurd h
+inner_deep true (Call line v target m arguments rest) h = absurd h
 inner_deep false (Set v value rest) h = absurd h
 inner_deep true (Set v value rest) h = absurd h
-inner_deep false (SetField k value rest) h = absurd h
-inner_deep true (SetField k value rest) h = absurd h
+inner_deep false (SetField line k value rest) h = absurd h
+inner_deep true (SetField line k value rest) h = absurd h
 inner_deep false (If condition first rest) h = omega arith
 inner_deep true (If condition first rest) h = absurd h
 inner_deep false (IfElse condition first other rest) h = omega arith

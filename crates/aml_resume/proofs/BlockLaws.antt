@@ -18,10 +18,10 @@ plus_one : (p : List CheckedMethod) (n : ℕ) (b : Code ℕ ℕ) → IsClosedBlo
 plus_one p n b h = let P : ℕ → Type 0 = λ m. IsClosedBlock p m b in subst P (let e : n + 1 ≡ n + (1 + 0) = omega arith in e) h
 
 pub alone_step : (p : List CheckedMethod) (n : ℕ) (x : Step) (rest : Code ℕ ℕ) → IsClosedBlock p n (statement_step x rest) → IsClosedBlock p n (statement_step x (End 0))
-alone_step p n (Statement-F.Let v value) rest h = (h.0, h.1, tt)
-alone_step p n (Statement-F.Call v target m arguments) rest h = (h.0, h.1, h.2, h.3, tt)
+alone_step p n (Statement-F.Let line v value) rest h = (h.0, h.1, tt)
+alone_step p n (Statement-F.Call line v target m arguments) rest h = (h.0, h.1, h.2, h.3, tt)
 alone_step p n (Statement-F.Set v value) rest h = (h.0, h.1, tt)
-alone_step p n (Statement-F.SetField k value) rest h = (h.0, h.1, tt)
+alone_step p n (Statement-F.SetField line k value) rest h = (h.0, h.1, tt)
 alone_step p n (Statement-F.If condition first) rest h = (h.0, h.1, tt)
 alone_step p n (Statement-F.IfElse condition first other) rest h = (h.0, h.1, h.2, tt)
 alone_step p n (Statement-F.While condition body) rest h = (h.0, h.1, tt)
@@ -29,10 +29,10 @@ alone_step p n (Statement-F.Fail code) rest h = (h.0, tt)
 alone_step p n (Statement-F.Return value) rest h = (h.0, tt)
 
 pub rest_step : (p : List CheckedMethod) (n : ℕ) (x : Step) (rest : Code ℕ ℕ) → IsClosedBlock p n (statement_step x rest) → IsClosedBlock p (n + declares (statement_step x (End 0))) rest
-rest_step p n (Statement-F.Let v value) rest h = plus_one p n rest h.2
-rest_step p n (Statement-F.Call v target m arguments) rest h = plus_one p n rest h.4
+rest_step p n (Statement-F.Let line v value) rest h = plus_one p n rest h.2
+rest_step p n (Statement-F.Call line v target m arguments) rest h = plus_one p n rest h.4
 rest_step p n (Statement-F.Set v value) rest h = plus_zero p n rest h.2
-rest_step p n (Statement-F.SetField k value) rest h = plus_zero p n rest h.2
+rest_step p n (Statement-F.SetField line k value) rest h = plus_zero p n rest h.2
 rest_step p n (Statement-F.If condition first) rest h = plus_zero p n rest h.2
 rest_step p n (Statement-F.IfElse condition first other) rest h = plus_zero p n rest h.3
 rest_step p n (Statement-F.While condition body) rest h = plus_zero p n rest h.2
@@ -41,10 +41,10 @@ rest_step p n (Statement-F.Return value) rest h = plus_zero p n rest h.1
 
 pub some_level : (b : Code ℕ ℕ) → 1 ≤ nesting b
 some_level (End line) = omega arith
-some_level (Let v value rest) = some_level rest
-some_level (Call v target m arguments rest) = some_level rest
+some_level (Let line v value rest) = some_level rest
+some_level (Call line v target m arguments rest) = some_level rest
 some_level (Set v value rest) = some_level rest
-some_level (SetField k value rest) = some_level rest
+some_level (SetField line k value rest) = some_level rest
 some_level (If condition first rest) = omega (arith, some_level rest)
 some_level (IfElse condition first other rest) = omega (arith, some_level rest)
 some_level (While condition body rest) = omega (arith, some_level rest)
@@ -56,10 +56,10 @@ pub record IsAsDeep (whole one behind : ℕ) : Type 0 where
   pub rest : behind ≤ whole
 
 pub deep_step : (x : Step) (rest : Code ℕ ℕ) → IsAsDeep (nesting (statement_step x rest)) (nesting (statement_step x (End 0))) (nesting rest)
-deep_step (Statement-F.Let v value) rest = record { alone = some_level rest; rest = omega arith }
-deep_step (Statement-F.Call v target m arguments) rest = record { alone = some_level rest; rest = omega arith }
+deep_step (Statement-F.Let line v value) rest = record { alone = some_level rest; rest = omega arith }
+deep_step (Statement-F.Call line v target m arguments) rest = record { alone = some_level rest; rest = omega arith }
 deep_step (Statement-F.Set v value) rest = record { alone = some_level rest; rest = omega arith }
-deep_step (Statement-F.SetField k value) rest = record { alone = some_level rest; rest = omega arith }
+deep_step (Statement-F.SetField line k value) rest = record { alone = some_level rest; rest = omega arith }
 deep_step (Statement-F.If condition first) rest = record { alone = omega (arith, some_level rest); rest = omega arith }
 deep_step (Statement-F.IfElse condition first other) rest = record { alone = omega (arith, some_level rest); rest = omega arith }
 deep_step (Statement-F.While condition body) rest = record { alone = omega (arith, some_level rest); rest = omega arith }

@@ -74,13 +74,13 @@ turning_placed p (suc f) at own e body b next n fits h on vs s j same =
 
 pub paused_placed : (p : List CheckedMethod) (own : ℕ) (c b : Code ℕ ℕ) (at : ℕ) → behind_some at b ≡ c → (vs : List ℤ) (s : State) (n : ℕ) → IsRunnable p (length vs) c → Placed p b (length vs) (block_pause own at c vs s n)
 paused_placed p own (End line) b at here vs s n h = omega arith
-paused_placed p own (Let v e rest) b at here vs s n h =
+paused_placed p own (Let line v e rest) b at here vs s n h =
     let more : behind_some (at + 1) b ≡ rest = behind_more at b ∙ ap (behind_some 1) here in
     placed_value p b (length vs) s (min (n + 1) 10000) (counted_value own vs s n e) (λ x. block_pause own (at + 1) rest (vs ++ x.0 ∷ []) s x.1) (λ x is.
     let longer : length (vs ++ x.0 ∷ []) ≡ length vs + 1 = length-append vs (x.0 ∷ []) in
     fewer_placed p b (length vs) (length (vs ++ x.0 ∷ [])) (block_pause own (at + 1) rest (vs ++ x.0 ∷ []) s x.1) (omega (arith, longer))
     (paused_placed p own rest b (at + 1) more (vs ++ x.0 ∷ []) s x.1 (subst (λ m. IsRunnable p m rest) (sym longer) (h.0.2, omega (arith, h.1)))))
-paused_placed p own (Call v e m es rest) b at here vs s n h =
+paused_placed p own (Call line v e m es rest) b at here vs s n h =
     let more : behind_some (at + 1) b ≡ rest = behind_more at b ∙ ap (behind_some 1) here in
     placed_value p b (length vs) s (min (n + 1) 10000) (counted_value own vs s n e) (λ x. unless_failed s x.1 (values_of own vs s es) (λ xs. Calling x.0 m xs (record { path = []; next = at + 1; variables = vs }) s x.1)) (λ x is.
     placed_value p b (length vs) s x.1 (values_of own vs s es) (λ xs. Calling x.0 m xs (record { path = []; next = at + 1; variables = vs }) s x.1) (λ xs given.
@@ -91,7 +91,7 @@ paused_placed p own (Set v e rest) b at here vs s n h =
     let same : length (set vs v x.0) ≡ length vs = length-set vs v x.0 in
     fewer_placed p b (length vs) (length (set vs v x.0)) (block_pause own (at + 1) rest (set vs v x.0) s x.1) (omega (arith, same))
     (paused_placed p own rest b (at + 1) more (set vs v x.0) s x.1 (subst (λ m. IsRunnable p m rest) (sym same) (h.0.2, h.1))))
-paused_placed p own (SetField f e rest) b at here vs s n h =
+paused_placed p own (SetField line f e rest) b at here vs s n h =
     let more : behind_some (at + 1) b ≡ rest = behind_more at b ∙ ap (behind_some 1) here in
     placed_value p b (length vs) s (min (n + 1) 10000) (counted_value own vs s n e) (λ x. block_pause own (at + 1) rest vs (with_field s f x.0) x.1) (λ x is.
     paused_placed p own rest b (at + 1) more vs (with_field s f x.0) x.1 (h.0.2, h.1))

@@ -156,12 +156,12 @@ turning_counts (suc f) at own e body next h on vs s n few =
 
 pub paused_counts : (own at : ℕ) (c : Code ℕ ℕ) (vs : List ℤ) (s : State) (n : ℕ) → n ≤ 10000 → IsCounted n (block_pause own at c vs s n)
 paused_counts own at (End line) vs s n few = (omega arith, few)
-paused_counts own at (Let v e rest) vs s n few = counts_on own vs s n e (λ x. block_pause own (at + 1) rest (vs ++ x.0 ∷ []) s x.1) few (λ x. paused_counts own (at + 1) rest (vs ++ x.0 ∷ []) s x.1)
-paused_counts own at (Call v e m es rest) vs s n few =
+paused_counts own at (Let line v e rest) vs s n few = counts_on own vs s n e (λ x. block_pause own (at + 1) rest (vs ++ x.0 ∷ []) s x.1) few (λ x. paused_counts own (at + 1) rest (vs ++ x.0 ∷ []) s x.1)
+paused_counts own at (Call line v e m es rest) vs s n few =
     counts_on own vs s n e (λ x. unless_failed s x.1 (values_of own vs s es) (λ xs. Calling x.0 m xs (record { path = []; next = at + 1; variables = vs }) s x.1)) few (λ x less.
     counts_value x.1 x.1 s (values_of own vs s es) (λ xs. Calling x.0 m xs (record { path = []; next = at + 1; variables = vs }) s x.1) (let same : x.1 ≤ x.1 = omega arith in same) less (λ xs is. (omega arith, less)))
 paused_counts own at (Set v e rest) vs s n few = counts_on own vs s n e (λ x. block_pause own (at + 1) rest (set vs v x.0) s x.1) few (λ x. paused_counts own (at + 1) rest (set vs v x.0) s x.1)
-paused_counts own at (SetField k e rest) vs s n few = counts_on own vs s n e (λ x. block_pause own (at + 1) rest vs (with_field s k x.0) x.1) few (λ x. paused_counts own (at + 1) rest vs (with_field s k x.0) x.1)
+paused_counts own at (SetField line k e rest) vs s n few = counts_on own vs s n e (λ x. block_pause own (at + 1) rest vs (with_field s k x.0) x.1) few (λ x. paused_counts own (at + 1) rest vs (with_field s k x.0) x.1)
 paused_counts own at (If e first rest) vs s n few =
     counts_on own vs s n e (λ x. if holds x.0 then around (spot at false vs) (block_pause own 0 first vs s x.1) (block_pause own (at + 1) rest) else block_pause own (at + 1) rest vs s x.1) few (λ x less.
     counts_test (holds x.0) x.1 (around (spot at false vs) (block_pause own 0 first vs s x.1) (block_pause own (at + 1) rest)) (block_pause own (at + 1) rest vs s x.1)
@@ -281,11 +281,11 @@ by_else false own vs first other rest b call r z x y h k = k
 -- what stands at a place of a block gives what its pause means
 pub pauses : (call : Caller) → Rises call → (own : ℕ) (c b : Code ℕ ℕ) (at : ℕ) → behind_some at b ≡ c → (vs : List ℤ) (s : State) (n : ℕ) (r : Progress) → IsAt own s n r → block call own c vs r ≡ block_goes own b call r (block_pause own at c vs s n)
 pauses call rises own (End line) b at here vs s n r h = ap (λ (z : Progress). let o : R = Ok (Goes vs, z) in o) (sym (moved_same own s n r h))
-pauses call rises own (Let v e rest) b at here vs s n r h =
+pauses call rises own (Let line v e rest) b at here vs s n r h =
     let more : behind_some (at + 1) b ≡ rest = behind_more at b ∙ ap (behind_some 1) here in
     by_value own b call r vs s n e (λ x q. block call own rest (vs ++ x ∷ []) q) (λ x. block_pause own (at + 1) rest (vs ++ x.0 ∷ []) s x.1) h (λ x k is.
     pauses call rises own rest b (at + 1) more (vs ++ x ∷ []) s k (moved own s k r) (at_moved own s s n k r h) ∙ again own b call r s k (block_pause own (at + 1) rest (vs ++ x ∷ []) s k))
-pauses call rises own (Call v e m es rest) b at here vs s n r h =
+pauses call rises own (Call line v e m es rest) b at here vs s n r h =
     let more : behind_some (at + 1) b ≡ rest = behind_more at b ∙ ap (behind_some 1) here in
     by_value own b call r vs s n e (λ a q. values_of own vs (state_at q.world own) es >>= λ xs. call a m xs q >>= λ y. block call own rest (vs ++ y.0 ∷ []) y.1)
     (λ x. unless_failed s x.1 (values_of own vs s es) (λ xs. Calling x.0 m xs (record { path = []; next = at + 1; variables = vs }) s x.1)) h (λ a k is.
@@ -295,7 +295,7 @@ pauses call rises own (Set v e rest) b at here vs s n r h =
     let more : behind_some (at + 1) b ≡ rest = behind_more at b ∙ ap (behind_some 1) here in
     by_value own b call r vs s n e (λ x q. block call own rest (set vs v x) q) (λ x. block_pause own (at + 1) rest (set vs v x.0) s x.1) h (λ x k is.
     pauses call rises own rest b (at + 1) more (set vs v x) s k (moved own s k r) (at_moved own s s n k r h) ∙ again own b call r s k (block_pause own (at + 1) rest (set vs v x) s k))
-pauses call rises own (SetField f e rest) b at here vs s n r h =
+pauses call rises own (SetField line f e rest) b at here vs s n r h =
     let more : behind_some (at + 1) b ≡ rest = behind_more at b ∙ ap (behind_some 1) here in
     by_value own b call r vs s n e (λ x q. block call own rest vs (record q { world = set q.world own (with_field (state_at q.world own) f x) })) (λ x. block_pause own (at + 1) rest vs (with_field s f x.0) x.1) h (λ x k is.
     ap (λ (st : State). block call own rest vs (moved own (with_field st f x) k (moved own s k r))) (at_moved own s s n k r h).state

@@ -78,11 +78,11 @@ turns_rise (suc n) own e body h vs r =
 
 pub block_rises : BlocksRise
 block_rises call rising own (End line) vs r = omega arith
-block_rises call rising own (Let v value rest) vs r =
+block_rises call rising own (Let line v value rest) vs r =
     counts r (λ q. value_of own vs (state_at q.world own) value >>= λ x. block call own rest (vs ++ x ∷ []) q) (λ q k.
     after_any r.statements (value_of own vs (state_at q.world own) value) (λ x. block call own rest (vs ++ x ∷ []) q) (λ x.
     fewer r.statements q.statements (block call own rest (vs ++ x ∷ []) q) k (block_rises call rising own rest (vs ++ x ∷ []) q)))
-block_rises call rising own (Call v target m arguments rest) vs r =
+block_rises call rising own (Call line v target m arguments rest) vs r =
     counts r (λ q. value_of own vs (state_at q.world own) target >>= λ a. values_of own vs (state_at q.world own) arguments >>= λ xs. call a m xs q >>= λ x. block call own rest (vs ++ x.0 ∷ []) x.1) (λ q k.
     after_any r.statements (value_of own vs (state_at q.world own) target) (λ a. values_of own vs (state_at q.world own) arguments >>= λ xs. call a m xs q >>= λ x. block call own rest (vs ++ x.0 ∷ []) x.1) (λ a.
     after_any r.statements (values_of own vs (state_at q.world own) arguments) (λ xs. call a m xs q >>= λ x. block call own rest (vs ++ x.0 ∷ []) x.1) (λ xs.
@@ -91,7 +91,7 @@ block_rises call rising own (Call v target m arguments rest) vs r =
     (λ x l. fewer r.statements x.1.statements (block call own rest (vs ++ x.0 ∷ []) x.1) l (block_rises call rising own rest (vs ++ x.0 ∷ []) x.1)))))
 block_rises call rising own (Set v value rest) vs r =
     counts r _ (λ q k. after_any r.statements (value_of own vs (state_at q.world own) value) _ (λ x. fewer r.statements q.statements _ k (block_rises call rising own rest _ q)))
-block_rises call rising own (SetField k value rest) vs r =
+block_rises call rising own (SetField line k value rest) vs r =
     counts r _ (λ q l. after_any r.statements (value_of own vs (state_at q.world own) value) _ (λ x. fewer r.statements q.statements _ l (block_rises call rising own rest vs _)))
 block_rises call rising own (If condition first rest) vs r =
     counts r _ (λ q k. after_any r.statements (value_of own vs (state_at q.world own) condition) _ (λ x.

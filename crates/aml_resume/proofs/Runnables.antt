@@ -12,10 +12,10 @@ use Rattle.aml_resume.specs.Places.{behind_some, IsRunnable}
 use Rattle.aml_resume.proofs.Behinds.{behind_statements}
 
 declares_step : (x : Step) → declares (statement_step x (End 0)) ≤ lets (statement_step x (End 0))
-declares_step (Statement-F.Let v value) = omega arith
-declares_step (Statement-F.Call v target m arguments) = omega arith
+declares_step (Statement-F.Let line v value) = omega arith
+declares_step (Statement-F.Call line v target m arguments) = omega arith
 declares_step (Statement-F.Set v value) = omega arith
-declares_step (Statement-F.SetField k value) = omega arith
+declares_step (Statement-F.SetField line k value) = omega arith
 declares_step (Statement-F.If condition first) = omega arith
 declares_step (Statement-F.IfElse condition first other) = omega arith
 declares_step (Statement-F.While condition body) = omega arith

@@ -62,14 +62,14 @@ loop_pause (suc more) at own condition body next variables s count =
 
 abbrev pub block_pause : ℕ → ℕ → Code ℕ ℕ → List ℤ → State → ℕ → Pause
 block_pause own at (End line) variables s count = Through variables s count
-block_pause own at (Let v value rest) variables s count =
+block_pause own at (Let line v value rest) variables s count =
     counting own variables s count value (λ x. block_pause own (at + 1) rest (variables ++ x.0 ∷ []) s x.1)
-block_pause own at (Call v target m arguments rest) variables s count =
+block_pause own at (Call line v target m arguments rest) variables s count =
     counting own variables s count target (λ x. unless_failed s x.1 (values_of own variables s arguments) (λ xs.
     Calling x.0 m xs (record { path = []; next = at + 1; variables = variables }) s x.1))
 block_pause own at (Set v value rest) variables s count =
     counting own variables s count value (λ x. block_pause own (at + 1) rest (slice_set variables v x.0) s x.1)
-block_pause own at (SetField k value rest) variables s count =
+block_pause own at (SetField line k value rest) variables s count =
     counting own variables s count value (λ x. block_pause own (at + 1) rest variables (with_field s k x.0) x.1)
 block_pause own at (If condition first rest) variables s count =
     counting own variables s count condition (λ x.

@@ -21,10 +21,10 @@ with_value f v = record f { variables = f.variables ++ v ∷ [] }
 abbrev pub behind_some : ℕ → Code ℕ ℕ → Code ℕ ℕ
 behind_some zero b = b
 behind_some (suc n) (End line) = End line
-behind_some (suc n) (Let v value rest) = behind_some n rest
-behind_some (suc n) (Call v target m arguments rest) = behind_some n rest
+behind_some (suc n) (Let line v value rest) = behind_some n rest
+behind_some (suc n) (Call line v target m arguments rest) = behind_some n rest
 behind_some (suc n) (Set v value rest) = behind_some n rest
-behind_some (suc n) (SetField k value rest) = behind_some n rest
+behind_some (suc n) (SetField line k value rest) = behind_some n rest
 behind_some (suc n) (If condition first rest) = behind_some n rest
 behind_some (suc n) (IfElse condition first other rest) = behind_some n rest
 behind_some (suc n) (While condition body rest) = behind_some n rest

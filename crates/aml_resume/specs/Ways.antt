@@ -28,10 +28,10 @@ pub record StaysReady (capacity n : ℕ) (b : Activation) (after k : ℕ) : Type
 -- how many variables a block has behind it, but for those of blocks in it
 abbrev pub declares : Code ℕ ℕ → ℕ
 declares (End line) = 0
-declares (Let v value rest) = 1 + declares rest
-declares (Call v target m arguments rest) = 1 + declares rest
+declares (Let line v value rest) = 1 + declares rest
+declares (Call line v target m arguments rest) = 1 + declares rest
 declares (Set v value rest) = declares rest
-declares (SetField k value rest) = declares rest
+declares (SetField line k value rest) = declares rest
 declares (If condition first rest) = declares rest
 declares (IfElse condition first other rest) = declares rest
 declares (While condition body rest) = declares rest

@@ -1,6 +1,6 @@
 -- The grammar of the method language, without its limits: how a tree is spelled in tokens, and which
 -- trees a program may be. Groups are part of a tree, so a program has one spelling.
-use Rattle.std.specs.Prelude.{◌≡◌, ℕ, ◌-◌, ◌<◌, ◌≤◌, ◌^◌, ◌==◌, if◌then◌else◌, List, [], ◌∷◌, ◌++◌, length, map}
+use Rattle.std.specs.Prelude.{ℕ, ◌-◌, ◌<◌, ◌≤◌, ◌^◌, ◌==◌, Bool, true, false, if◌then◌else◌, List, [], ◌∷◌, ◌++◌, length, map}
 use Rattle.std.specs.List.{AllByRecursion, flat_map}
 use Rattle.snap_base.specs.declared.transactions.TheConstants.{FIELDS}
 use Rattle.aml_tokens.specs.declared.tokens.Word.{Word}
@@ -33,7 +33,7 @@ sign operator.Remainder = symbol.Remainder
 abbrev pub spelling : Expr Word → List Token
 spelling (Number n) = token.Number n ∷ []
 spelling (Variable w) = token.Name w ∷ []
-spelling (Field k) = token.Field k ∷ []
+spelling (Field k line) = token.Field k line ∷ []
 spelling Own = token.Sign symbol.Own ∷ []
 spelling (Group e) = token.Sign symbol.Open ∷ (spelling e ++ token.Sign symbol.Close ∷ [])
 spelling (Negative e) = token.Sign symbol.Minus ∷ spelling e
@@ -48,13 +48,13 @@ listed (first ∷ next ∷ more) = first ++ token.Sign symbol.Comma ∷ listed (
 -- the statements of a block and its closing brace
 abbrev pub block_spelling : Code Word Word → List Token
 block_spelling (End line) = token.CloseBrace line ∷ []
-block_spelling (Let v value rest) =
-    token.Sign symbol.Let ∷ token.Name v ∷ token.Sign symbol.Assign ∷ (spelling value ++ token.Sign symbol.Semicolon ∷ block_spelling rest)
-block_spelling (Call v target m arguments rest) =
-    token.Sign symbol.Let ∷ token.Name v ∷ token.Sign symbol.Assign ∷ token.Sign symbol.Call ∷ (spelling target ++ token.Name m ∷ token.Sign symbol.Open
+block_spelling (Let line v value rest) =
+    token.Let line ∷ token.Name v ∷ token.Sign symbol.Assign ∷ (spelling value ++ token.Sign symbol.Semicolon ∷ block_spelling rest)
+block_spelling (Call line v target m arguments rest) =
+    token.Let line ∷ token.Name v ∷ token.Sign symbol.Assign ∷ token.Sign symbol.Call ∷ (spelling target ++ token.Name m ∷ token.Sign symbol.Open
     ∷ (listed (map spelling arguments) ++ token.Sign symbol.Close ∷ token.Sign symbol.Semicolon ∷ block_spelling rest))
 block_spelling (Set v value rest) = token.Name v ∷ token.Sign symbol.Assign ∷ (spelling value ++ token.Sign symbol.Semicolon ∷ block_spelling rest)
-block_spelling (SetField k value rest) = token.Field k ∷ token.Sign symbol.Assign ∷ (spelling value ++ token.Sign symbol.Semicolon ∷ block_spelling rest)
+block_spelling (SetField line k value rest) = token.Field k line ∷ token.Sign symbol.Assign ∷ (spelling value ++ token.Sign symbol.Semicolon ∷ block_spelling rest)
 block_spelling (If condition first rest) = token.Sign symbol.If ∷ (spelling condition ++ token.Sign symbol.OpenBrace ∷ (block_spelling first ++ block_spelling rest))
 block_spelling (IfElse condition first other rest) =
     token.Sign symbol.If ∷ (spelling condition ++ token.Sign symbol.OpenBrace ∷ (block_spelling first
@@ -66,9 +66,14 @@ block_spelling (Return value rest) = token.Sign symbol.Return ∷ (spelling valu
 abbrev pub name_spelling : Word → List Token
 name_spelling w = token.Name w ∷ []
 
+-- the word before `method` where there is one
+abbrev pub read_spelling : Bool → List Token
+read_spelling true = token.Sign symbol.Read ∷ []
+read_spelling false = []
+
 abbrev pub method_spelling : TextMethod → List Token
 method_spelling m =
-    token.Sign symbol.Method ∷ token.Name m.name ∷ token.Sign symbol.Open
+    read_spelling m.is_read ++ token.Sign symbol.Method ∷ token.Name m.name ∷ token.Sign symbol.Open
     ∷ (listed (map name_spelling m.parameters) ++ token.Sign symbol.Close ∷ token.Sign symbol.OpenBrace ∷ block_spelling m.body)
 
 abbrev pub program_spelling : List TextMethod → List Token
@@ -106,7 +111,7 @@ lean k = if k == 3 then 2 else k
 abbrev pub IsAt : ℕ → Expr Word → Type 0
 IsAt k (Number n) = n < 2 ^ 63
 IsAt k (Variable w) = IsWord w
-IsAt k (Field f) = f < FIELDS
+IsAt k (Field f line) = f < FIELDS
 IsAt k Own = Unit {0}
 IsAt k (Group e) = IsAt 5 e
 IsAt k (Negative e) = IsAt 0 e
@@ -119,7 +124,7 @@ IsExpression e = IsAt 5 e
 abbrev pub IsPrimary : Expr Word → Type 0
 IsPrimary (Number n) = n < 2 ^ 63
 IsPrimary (Variable w) = IsWord w
-IsPrimary (Field f) = f < FIELDS
+IsPrimary (Field f line) = f < FIELDS
 IsPrimary Own = Unit {0}
 IsPrimary (Group e) = IsAt 5 e
 IsPrimary (Negative e) = ⊥
@@ -127,10 +132,10 @@ IsPrimary (Binary o a b) = ⊥
 
 abbrev pub IsBlock : Code Word Word → Type 0
 IsBlock (End line) = Unit {0}
-IsBlock (Let v value rest) = IsWord v × IsExpression value × IsBlock rest
-IsBlock (Call v target m arguments rest) = IsWord v × IsPrimary target × IsWord m × AllByRecursion IsExpression arguments × IsBlock rest
+IsBlock (Let line v value rest) = IsWord v × IsExpression value × IsBlock rest
+IsBlock (Call line v target m arguments rest) = IsWord v × IsPrimary target × IsWord m × AllByRecursion IsExpression arguments × IsBlock rest
 IsBlock (Set v value rest) = IsWord v × IsExpression value × IsBlock rest
-IsBlock (SetField k value rest) = (k < FIELDS) × IsExpression value × IsBlock rest
+IsBlock (SetField line k value rest) = (k < FIELDS) × IsExpression value × IsBlock rest
 IsBlock (If condition first rest) = IsExpression condition × IsBlock first × IsBlock rest
 IsBlock (IfElse condition first other rest) = IsExpression condition × IsBlock first × IsBlock other × IsBlock rest
 IsBlock (While condition body rest) = IsExpression condition × IsBlock body × IsBlock rest

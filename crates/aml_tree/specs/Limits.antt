@@ -1,6 +1,6 @@
 -- The limits of a program. Beside the spelling of a tree stands, token by token, which limit is passed
 -- with the token, if any: the marks of a tree have the length of its spelling.
-use Rattle.std.specs.Prelude.{ℕ, ◌+◌, nat_lt, nat_le, ◌&&◌, if◌then◌else◌, List, [], ◌∷◌, ◌++◌, length, map, Option, Some, None}
+use Rattle.std.specs.Prelude.{ℕ, ◌+◌, nat_lt, nat_le, ◌&&◌, Bool, true, false, if◌then◌else◌, List, [], ◌∷◌, ◌++◌, length, map, Option, Some, None}
 use Rattle.aml_tokens.specs.declared.tokens.TextCause.{TextCause}
 use Rattle.aml_tokens.specs.declared.tokens.TextCause.TheVariants.{NumberRange, TooDeep, TooMany}
 use Rattle.aml_tree.specs.declared.limits.TheConstants.{GREATEST_CODE, MOST_LEVELS, MOST_METHODS, MOST_NAMES, MOST_PARAMETERS}
@@ -33,7 +33,7 @@ code_mark code = if nat_le 1 code && nat_le code GREATEST_CODE then None else So
 abbrev pub marks : {V : Type 0} → ℕ → Expr V → List Mark
 marks depth (Number n) = None ∷ []
 marks depth (Variable v) = None ∷ []
-marks depth (Field k) = None ∷ []
+marks depth (Field k line) = None ∷ []
 marks depth Own = None ∷ []
 marks depth (Group e) = opened depth ∷ (marks (depth + 1) e ++ None ∷ [])
 marks depth (Negative e) = opened depth ∷ marks (depth + 1) e
@@ -47,10 +47,10 @@ listed_marks (first ∷ next ∷ more) = first ++ None ∷ listed_marks (next �
 -- how many names a block declares, those of its inner blocks too
 abbrev pub lets : {V M : Type 0} → Code V M → ℕ
 lets (End line) = 0
-lets (Let v value rest) = 1 + lets rest
-lets (Call v target m arguments rest) = 1 + lets rest
+lets (Let line v value rest) = 1 + lets rest
+lets (Call line v target m arguments rest) = 1 + lets rest
 lets (Set v value rest) = lets rest
-lets (SetField k value rest) = lets rest
+lets (SetField line k value rest) = lets rest
 lets (If condition first rest) = lets first + lets rest
 lets (IfElse condition first other rest) = lets first + lets other + lets rest
 lets (While condition body rest) = lets body + lets rest
@@ -60,12 +60,12 @@ lets (Return value rest) = lets rest
 -- where so many levels are open in the block, and so many names of the method are declared before it
 abbrev pub block_marks : {V M : Type 0} → ℕ → ℕ → Code V M → List Mark
 block_marks depth names (End line) = None ∷ []
-block_marks depth names (Let v value rest) = None ∷ named names ∷ None ∷ (marks depth value ++ None ∷ block_marks depth (names + 1) rest)
-block_marks depth names (Call v target m arguments rest) =
+block_marks depth names (Let line v value rest) = None ∷ named names ∷ None ∷ (marks depth value ++ None ∷ block_marks depth (names + 1) rest)
+block_marks depth names (Call line v target m arguments rest) =
     None ∷ named names ∷ None ∷ None ∷ (marks depth target ++ None ∷ opened depth
     ∷ (listed_marks (map (marks (depth + 1)) arguments) ++ None ∷ None ∷ block_marks depth (names + 1) rest))
 block_marks depth names (Set v value rest) = None ∷ None ∷ (marks depth value ++ None ∷ block_marks depth names rest)
-block_marks depth names (SetField k value rest) = None ∷ None ∷ (marks depth value ++ None ∷ block_marks depth names rest)
+block_marks depth names (SetField line k value rest) = None ∷ None ∷ (marks depth value ++ None ∷ block_marks depth names rest)
 block_marks depth names (If condition first rest) =
     None ∷ (marks depth condition ++ opened depth ∷ (block_marks (depth + 1) names first ++ block_marks depth (names + lets first) rest))
 block_marks depth names (IfElse condition first other rest) =
@@ -81,10 +81,15 @@ abbrev pub parameter_marks : {V : Type 0} → ℕ → List V → List (List Mark
 parameter_marks before [] = []
 parameter_marks before (v ∷ vs) = (parameter before ∷ []) ∷ parameter_marks (before + 1) vs
 
+-- the words with which a method behind so many begins
+abbrev pub head_marks : Bool → ℕ → List Mark
+head_marks true before = method before ∷ None ∷ []
+head_marks false before = method before ∷ []
+
 -- a method behind so many
 abbrev pub method_marks : ℕ → TextMethod → List Mark
 method_marks before m =
-    method before ∷ None ∷ opened 0 ∷ (listed_marks (parameter_marks 0 m.parameters) ++ None ∷ opened 0 ∷ block_marks 1 (length m.parameters) m.body)
+    head_marks m.is_read before ++ None ∷ opened 0 ∷ (listed_marks (parameter_marks 0 m.parameters) ++ None ∷ opened 0 ∷ block_marks 1 (length m.parameters) m.body)
 
 abbrev pub methods_marks : ℕ → List TextMethod → List Mark
 methods_marks before [] = []

@@ -1,4 +1,5 @@
--- The lines in a program: those of its words and of the braces that close its blocks.
+-- The lines in a program: those of its words and fields, of the statements that have one, and of the braces
+-- that close its blocks.
 use Rattle.std.specs.Prelude.{ℕ, ◌≤◌, List}
 use Rattle.std.specs.List.{AllByRecursion}
 use Rattle.aml_tokens.specs.declared.tokens.Word.{Word}
@@ -10,7 +11,7 @@ WordUpTo most w = w.line ≤ most
 abbrev pub ExpressionUpTo : ℕ → Expr Word → Type 0
 ExpressionUpTo most (Number n) = Unit {0}
 ExpressionUpTo most (Variable w) = WordUpTo most w
-ExpressionUpTo most (Field k) = Unit {0}
+ExpressionUpTo most (Field k line) = line ≤ most
 ExpressionUpTo most Own = Unit {0}
 ExpressionUpTo most (Group e) = ExpressionUpTo most e
 ExpressionUpTo most (Negative e) = ExpressionUpTo most e
@@ -18,11 +19,11 @@ ExpressionUpTo most (Binary o a b) = ExpressionUpTo most a × ExpressionUpTo mos
 
 abbrev pub BlockUpTo : ℕ → Code Word Word → Type 0
 BlockUpTo most (End line) = line ≤ most
-BlockUpTo most (Let v value rest) = WordUpTo most v × ExpressionUpTo most value × BlockUpTo most rest
-BlockUpTo most (Call v target m arguments rest) =
-    WordUpTo most v × ExpressionUpTo most target × WordUpTo most m × AllByRecursion (ExpressionUpTo most) arguments × BlockUpTo most rest
+BlockUpTo most (Let line v value rest) = (line ≤ most) × WordUpTo most v × ExpressionUpTo most value × BlockUpTo most rest
+BlockUpTo most (Call line v target m arguments rest) =
+    (line ≤ most) × WordUpTo most v × ExpressionUpTo most target × WordUpTo most m × AllByRecursion (ExpressionUpTo most) arguments × BlockUpTo most rest
 BlockUpTo most (Set v value rest) = WordUpTo most v × ExpressionUpTo most value × BlockUpTo most rest
-BlockUpTo most (SetField k value rest) = ExpressionUpTo most value × BlockUpTo most rest
+BlockUpTo most (SetField line k value rest) = (line ≤ most) × ExpressionUpTo most value × BlockUpTo most rest
 BlockUpTo most (If condition first rest) = ExpressionUpTo most condition × BlockUpTo most first × BlockUpTo most rest
 BlockUpTo most (IfElse condition first other rest) = ExpressionUpTo most condition × BlockUpTo most first × BlockUpTo most other × BlockUpTo most rest
 BlockUpTo most (While condition body rest) = ExpressionUpTo most condition × BlockUpTo most body × BlockUpTo most rest

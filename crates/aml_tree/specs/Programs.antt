@@ -15,7 +15,7 @@ pub record IsProgram (p : List TextMethod) : Type 0 where
   pub limits : AllByRecursion IsUnmarked (program_marks p)
 
 -- The text is the program's: each piece of it is a token, and the tokens are the program's spelling.
--- So are the lines of names and closing braces, which the tokens have.
+-- So are the lines of names, fields, `let` and closing braces, which the tokens have.
 pub record IsProgramText (text : List ℕ) (p : List TextMethod) : Type 0 where
   pub whole : stop text ≡ None
   pub spelled : tokens text ≡ program_spelling p

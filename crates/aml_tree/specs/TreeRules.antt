@@ -19,17 +19,17 @@ use Rattle.aml_tree.specs.declared.trees.Statement.{Statement}
 pub tree_of_chain : {V : Type 0} (first : Box (Expression V) Global) (rest : Vec (Link (Expression V)) Global) → expression_tree (Chain first rest) ≡ chain_tree (expression_tree first.value) (link_trees rest.items)
 tree_of_chain {V} first rest = ap expression_tree (sym (rolls-Chain {X1 = V} first rest)) ∙ fold-roll-Expression V (Expr V) expression_step (Expression-F.Chain first rest)
 
-pub tree_of_let : {V M : Type 0} (v : V) (value : Expression V) → statement_tree {V = V} {M = M} (variant.Let v value) ≡ Let v (expression_tree value)
-tree_of_let {V} {M} v value = ap statement_tree (sym (rolls-Let {X1 = V} {X2 = M} v value)) ∙ fold-roll-Statement V M (Onto V M) statement_step (Statement-F.Let v value)
+pub tree_of_let : {V M : Type 0} (line : _) (v : V) (value : Expression V) → statement_tree {V = V} {M = M} (variant.Let line v value) ≡ Let line v (expression_tree value)
+tree_of_let {V} {M} line v value = ap statement_tree (sym (rolls-Let {X1 = V} {X2 = M} line v value)) ∙ fold-roll-Statement V M (Onto V M) statement_step (Statement-F.Let line v value)
 
-pub tree_of_call : {V M : Type 0} (v : V) (target : Expression V) (m : M) (arguments : Vec (Expression V) Global) → statement_tree {V = V} {M = M} (variant.Call v target m arguments) ≡ Call v (expression_tree target) m (map expression_tree arguments.items)
-tree_of_call {V} {M} v target m arguments = ap statement_tree (sym (rolls-Call {X1 = V} {X2 = M} v target m arguments)) ∙ fold-roll-Statement V M (Onto V M) statement_step (Statement-F.Call v target m arguments)
+pub tree_of_call : {V M : Type 0} (line : _) (v : V) (target : Expression V) (m : M) (arguments : Vec (Expression V) Global) → statement_tree {V = V} {M = M} (variant.Call line v target m arguments) ≡ Call line v (expression_tree target) m (map expression_tree arguments.items)
+tree_of_call {V} {M} line v target m arguments = ap statement_tree (sym (rolls-Call {X1 = V} {X2 = M} line v target m arguments)) ∙ fold-roll-Statement V M (Onto V M) statement_step (Statement-F.Call line v target m arguments)
 
 pub tree_of_set : {V M : Type 0} (v : V) (value : Expression V) → statement_tree {V = V} {M = M} (variant.Set v value) ≡ Set v (expression_tree value)
 tree_of_set {V} {M} v value = ap statement_tree (sym (rolls-Set {X1 = V} {X2 = M} v value)) ∙ fold-roll-Statement V M (Onto V M) statement_step (Statement-F.Set v value)
 
-pub tree_of_field : {V M : Type 0} (k : _) (value : Expression V) → statement_tree {V = V} {M = M} (variant.SetField k value) ≡ SetField k (expression_tree value)
-tree_of_field {V} {M} k value = ap statement_tree (sym (rolls-SetField {X1 = V} {X2 = M} k value)) ∙ fold-roll-Statement V M (Onto V M) statement_step (Statement-F.SetField k value)
+pub tree_of_field : {V M : Type 0} (line k : _) (value : Expression V) → statement_tree {V = V} {M = M} (variant.SetField line k value) ≡ SetField line k (expression_tree value)
+tree_of_field {V} {M} line k value = ap statement_tree (sym (rolls-SetField {X1 = V} {X2 = M} line k value)) ∙ fold-roll-Statement V M (Onto V M) statement_step (Statement-F.SetField line k value)
 
 pub tree_of_if : {V M : Type 0} (condition : Expression V) (first : Block (Statement V M)) → statement_tree {V = V} {M = M} (variant.If condition first) ≡ If (expression_tree condition) (block_tree first)
 tree_of_if {V} {M} condition first = ap statement_tree (sym (rolls-If {X1 = V} {X2 = M} condition first)) ∙ fold-roll-Statement V M (Onto V M) statement_step (Statement-F.If condition first)
@@ -58,10 +58,10 @@ pub layer : {V M : Type 0} (s : Statement V M) → IsLayer (statement_tree s)
 layer {V} {M} s = (_, fold_out-Statement V M (Onto V M) statement_step s)
 
 lets_step : {V M : Type 0} (x : Statement-F V M (Onto V M)) (rest : Code V M) → lets (statement_step x rest) ≡ lets (statement_step x (End 0)) + lets rest
-lets_step (Statement-F.Let v value) rest = refl
-lets_step (Statement-F.Call v target m arguments) rest = refl
+lets_step (Statement-F.Let line v value) rest = refl
+lets_step (Statement-F.Call line v target m arguments) rest = refl
 lets_step (Statement-F.Set v value) rest = sym (zero-add (lets rest))
-lets_step (Statement-F.SetField k value) rest = sym (zero-add (lets rest))
+lets_step (Statement-F.SetField line k value) rest = sym (zero-add (lets rest))
 lets_step (Statement-F.If condition first) rest = ap (λ n. n + lets rest) (sym (add-zero _))
 lets_step (Statement-F.IfElse condition first other) rest = ap (λ n. n + lets rest) (sym (add-zero _))
 lets_step (Statement-F.While condition body) rest = ap (λ n. n + lets rest) (sym (add-zero _))

@@ -21,11 +21,11 @@ pub fn variable<V: Drop>(variable: V) -> Expression<V>
     Expression::Variable(variable)
 }
 
-/// A field, 0 to 15.
-pub fn field<V: Drop>(k: u8) -> Expression<V>
-    ensures { expression_tree result ≡ Field k }
+/// A field, 0 to 15, in a line.
+pub fn field<V: Drop>(field: u8, line: u32) -> Expression<V>
+    ensures { expression_tree result ≡ Field field line }
 {
-    Expression::Field(k)
+    Expression::Field { field, line }
 }
 
 pub fn own<V: Drop>() -> Expression<V>
@@ -82,21 +82,32 @@ pub fn put_argument<V: Drop>(
     Ok(())
 }
 
-pub fn let_statement<V: Drop, M: Drop>(variable: V, value: Expression<V>) -> Statement<V, M>
-    ensures { (rest : Code V M) → statement_tree result rest ≡ Let variable (expression_tree value) rest }
+/// A statement that begins in the line; so do a call and an assignment to a field.
+pub fn let_statement<V: Drop, M: Drop>(
+    line: u32,
+    variable: V,
+    value: Expression<V>,
+) -> Statement<V, M>
+    ensures { (rest : Code V M) → statement_tree result rest ≡ Let line variable (expression_tree value) rest }
 {
-    Statement::Let { variable, value }
+    Statement::Let {
+        line,
+        variable,
+        value,
+    }
 }
 
 pub fn call_statement<V: Drop, M: Drop>(
+    line: u32,
     variable: V,
     target: Expression<V>,
     method: M,
     arguments: Vec<Expression<V>>,
 ) -> Statement<V, M>
-    ensures { (rest : Code V M) → statement_tree result rest ≡ Call variable (expression_tree target) method (map expression_tree arguments.items) rest }
+    ensures { (rest : Code V M) → statement_tree result rest ≡ Call line variable (expression_tree target) method (map expression_tree arguments.items) rest }
 {
     Statement::Call {
+        line,
         variable,
         target,
         method,
@@ -110,10 +121,14 @@ pub fn set_statement<V: Drop, M: Drop>(variable: V, value: Expression<V>) -> Sta
     Statement::Set { variable, value }
 }
 
-pub fn field_statement<V: Drop, M: Drop>(field: u8, value: Expression<V>) -> Statement<V, M>
-    ensures { (rest : Code V M) → statement_tree result rest ≡ SetField field (expression_tree value) rest }
+pub fn field_statement<V: Drop, M: Drop>(
+    line: u32,
+    field: u8,
+    value: Expression<V>,
+) -> Statement<V, M>
+    ensures { (rest : Code V M) → statement_tree result rest ≡ SetField line field (expression_tree value) rest }
 {
-    Statement::SetField { field, value }
+    Statement::SetField { line, field, value }
 }
 
 pub fn if_statement<V: Drop, M: Drop>(

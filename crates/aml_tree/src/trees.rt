@@ -8,9 +8,12 @@ pub struct Program<V, M> {
     pub methods: Sequence<Method<V, M>>,
 }
 
-/// A method: a name, its parameters, and what it does.
+/// A method: whether it promises only to read, a name, its parameters, and what it does.
 #[derive(Drop)]
 pub struct Method<V, M> {
+    /// Whether the word `read` stands before `method`. A checked program keeps the promise: such a method
+    /// assigns no field and calls only methods that promise the same.
+    pub is_read: bool,
     pub name: Word,
     pub parameters: Sequence<V>,
     pub body: Block<Statement<V, M>>,
@@ -24,16 +27,19 @@ pub struct Block<S> {
     pub last_line: u32,
 }
 
-/// A statement, over what stands for a variable and for a method.
+/// A statement, over what stands for a variable and for a method. Where it has a line, it begins there, from
+/// 1 on.
 #[derive(Drop)]
 pub enum Statement<V, M> {
     /// A new variable takes the value.
     Let {
+        line: u32,
         variable: V,
         value: Expression<V>,
     },
     /// A new variable takes what a method gives that is called on an actor.
     Call {
+        line: u32,
         variable: V,
         target: Expression<V>,
         method: M,
@@ -46,6 +52,7 @@ pub enum Statement<V, M> {
     },
     /// The actor's field `f0` to `f15` takes the value.
     SetField {
+        line: u32,
         field: u8,
         value: Expression<V>,
     },
@@ -81,7 +88,10 @@ pub enum Expression<V> {
     Number(u64),
     Variable(V),
     /// A field of the actor, 0 to 15.
-    Field(u8),
+    Field {
+        field: u8,
+        line: u32,
+    },
     /// The number of the actor on which the method runs.
     Own,
     /// An expression in parentheses.

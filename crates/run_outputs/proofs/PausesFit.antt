@@ -55,13 +55,13 @@ loop_fit (suc more) at own condition body next few small b k = λ vs s n all is.
 
 pub block_fit : (own at : ℕ) (b : Code ℕ ℕ) → own < 2 ^ 63 → Each Small b → FitFrom (block_pause own at b)
 block_fit own at (End line) few small = λ vs s n all is. (all, is)
-block_fit own at (Let v value rest) few small = λ vs s n all is.
+block_fit own at (Let line v value rest) few small = λ vs s n all is.
     counting_fit own vs s n value _ few all is small.0 (λ x fits. block_fit own (at + 1) rest few small.1 (vs ++ x.0 ∷ []) s x.1 (all_push Fits vs x.0 all fits) is)
-block_fit own at (Call v target m arguments rest) few small = λ vs s n all is.
+block_fit own at (Call line v target m arguments rest) few small = λ vs s n all is.
     counting_fit own vs s n target _ few all is small.0 (λ x fits. unless_fit AllFit s x.1 (values_of own vs s arguments) _ is (values_fit own vs s arguments few all is.fields small.1) (λ xs h. (h, all, is)))
 block_fit own at (Set v value rest) few small = λ vs s n all is.
     counting_fit own vs s n value _ few all is small.0 (λ x fits. block_fit own (at + 1) rest few small.1 (slice_set vs v x.0) s x.1 (all_set Fits vs v x.0 fits all) is)
-block_fit own at (SetField k value rest) few small = λ vs s n all is.
+block_fit own at (SetField line k value rest) few small = λ vs s n all is.
     counting_fit own vs s n value _ few all is small.0 (λ x fits. block_fit own (at + 1) rest few small.1 vs (with_field s k x.0) x.1 all (with_field_is_state s k x.0 fits is))
 block_fit own at (If condition first rest) few small = λ vs s n all is.
     counting_fit own vs s n condition _ few all is small.0 (λ x fits.
@@ -81,10 +81,10 @@ block_fit own at (Return value rest) few small = λ vs s n all is. counting_fit 
 behind_small : (n : ℕ) (b : Code ℕ ℕ) → Each Small b → Each Small (behind_some n b)
 behind_small zero b h = h
 behind_small (suc n) (End line) h = h
-behind_small (suc n) (Let v value rest) h = behind_small n rest h.1
-behind_small (suc n) (Call v target m arguments rest) h = behind_small n rest h.2
+behind_small (suc n) (Let line v value rest) h = behind_small n rest h.1
+behind_small (suc n) (Call line v target m arguments rest) h = behind_small n rest h.2
 behind_small (suc n) (Set v value rest) h = behind_small n rest h.1
-behind_small (suc n) (SetField k value rest) h = behind_small n rest h.1
+behind_small (suc n) (SetField line k value rest) h = behind_small n rest h.1
 behind_small (suc n) (If condition first rest) h = behind_small n rest h.2
 behind_small (suc n) (IfElse condition first other rest) h = behind_small n rest h.3
 behind_small (suc n) (While condition body rest) h = behind_small n rest h.2
@@ -97,10 +97,10 @@ inner_small other (While condition body rest) h = h.1
 inner_small true (IfElse condition first second rest) h = h.2
 inner_small false (IfElse condition first second rest) h = h.1
 inner_small other (End line) h = tt
-inner_small other (Let v value rest) h = tt
-inner_small other (Call v target m arguments rest) h = tt
+inner_small other (Let line v value rest) h = tt
+inner_small other (Call line v target m arguments rest) h = tt
 inner_small other (Set v value rest) h = tt
-inner_small other (SetField k value rest) h = tt
+inner_small other (SetField line k value rest) h = tt
 inner_small other (Fail code rest) h = tt
 inner_small other (Return value rest) h = tt
 
@@ -109,10 +109,10 @@ after_small (If condition first rest) h = h.2
 after_small (IfElse condition first second rest) h = h.3
 after_small (While condition body rest) h = h
 after_small (End line) h = tt
-after_small (Let v value rest) h = tt
-after_small (Call v target m arguments rest) h = tt
+after_small (Let line v value rest) h = tt
+after_small (Call line v target m arguments rest) h = tt
 after_small (Set v value rest) h = tt
-after_small (SetField k value rest) h = tt
+after_small (SetField line k value rest) h = tt
 after_small (Fail code rest) h = tt
 after_small (Return value rest) h = tt
 

@@ -54,10 +54,10 @@ all_push P (y ∷ xs) x h p = (h.0, all_push P xs x h.1 p)
 
 abbrev pub Each : (Expr ℕ → Type 0) → Code ℕ ℕ → Type 0
 Each E (End line) = Unit {0}
-Each E (Let v value rest) = E value × Each E rest
-Each E (Call v target m arguments rest) = E target × AllByRecursion E arguments × Each E rest
+Each E (Let line v value rest) = E value × Each E rest
+Each E (Call line v target m arguments rest) = E target × AllByRecursion E arguments × Each E rest
 Each E (Set v value rest) = E value × Each E rest
-Each E (SetField k value rest) = E value × Each E rest
+Each E (SetField line k value rest) = E value × Each E rest
 Each E (If condition first rest) = E condition × Each E first × Each E rest
 Each E (IfElse condition first other rest) = E condition × Each E first × Each E other × Each E rest
 Each E (While condition body rest) = E condition × Each E body × Each E rest
@@ -136,7 +136,7 @@ unless_fits (Some v) other h rest = h
 abbrev pub Small : Expr ℕ → Type 0
 Small (Number n) = n < 2 ^ 63
 Small (Variable place) = Unit {0}
-Small (Field k) = Unit {0}
+Small (Field k line) = Unit {0}
 Small Own = Unit {0}
 Small (Group e) = Small e
 Small (Negative e) = Small e
@@ -145,7 +145,7 @@ Small (Binary o a b) = Small a × Small b
 pub value_fits : (own : ℕ) (vs : List ℤ) (s : State) (e : Expr ℕ) → own < 2 ^ 63 → AllByRecursion Fits vs → AllByRecursion Fits s.0 → Small e → Has Fits (value_of own vs s e)
 value_fits own vs s (Number n) few values fields small = record { sfits = small }
 value_fits own vs s (Variable place) few values fields small = at_any Fits vs place (pos 0) nought_fits values
-value_fits own vs s (Field k) few values fields small = at_any Fits s.0 k (pos 0) nought_fits fields
+value_fits own vs s (Field k line) few values fields small = at_any Fits s.0 k (pos 0) nought_fits fields
 value_fits own vs s Own few values fields small = record { sfits = few }
 value_fits own vs s (Group e) few values fields small = value_fits own vs s e few values fields small
 value_fits own vs s (Negative e) few values fields small =
@@ -181,7 +181,7 @@ with_field_is_state s k v fits is = record { len = length-set s.0 k v ∙ is.len
 closed_small : (n : ℕ) (e : Expr ℕ) → IsClosedExpression n e → Small e
 closed_small n (Number m) closed = closed
 closed_small n (Variable place) closed = tt
-closed_small n (Field k) closed = tt
+closed_small n (Field k line) closed = tt
 closed_small n Own closed = tt
 closed_small n (Group e) closed = closed_small n e closed
 closed_small n (Negative e) closed = closed_small n e closed
@@ -193,10 +193,10 @@ all_small n (e ∷ es) closed = (closed_small n e closed.0, all_small n es close
 
 each_small : (p : List CheckedMethod) (n : ℕ) (b : Code ℕ ℕ) → IsClosedBlock p n b → Each Small b
 each_small p n (End line) c = tt
-each_small p n (Let v value rest) c = (closed_small n value c.1, each_small p (n + 1) rest c.2)
-each_small p n (Call v target m arguments rest) c = (closed_small n target c.1, all_small n arguments c.3, each_small p (n + 1) rest c.4)
+each_small p n (Let line v value rest) c = (closed_small n value c.1, each_small p (n + 1) rest c.2)
+each_small p n (Call line v target m arguments rest) c = (closed_small n target c.1, all_small n arguments c.3, each_small p (n + 1) rest c.4)
 each_small p n (Set v value rest) c = (closed_small n value c.1, each_small p n rest c.2)
-each_small p n (SetField k value rest) c = (closed_small n value c.1, each_small p n rest c.2)
+each_small p n (SetField line k value rest) c = (closed_small n value c.1, each_small p n rest c.2)
 each_small p n (If condition first rest) c = (closed_small n condition c.0, each_small p n first c.1, each_small p n rest c.2)
 each_small p n (IfElse condition first other rest) c = (closed_small n condition c.0, each_small p n first c.1, each_small p n other c.2, each_small p n rest c.3)
 each_small p n (While condition body rest) c = (closed_small n condition c.0, each_small p n body c.1, each_small p n rest c.2)

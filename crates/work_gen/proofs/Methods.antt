@@ -21,7 +21,7 @@ abbrev v : ℕ → Word
 v line = word (codes "v") line
 
 abbrev sum : Expr Word
-sum = Binary operator.Plus (Field 0) (Field 1)
+sum = Binary operator.Plus (Field 0 line) (Field 1 line)
 
 abbrev balance : TextMethod
 balance = record { name = word (codes "balance") 1; parameters = []; body = Return sum (End 1) }
@@ -30,14 +30,14 @@ abbrev deposit : TextMethod
 deposit = record {
   name = word (codes "deposit") 2;
   parameters = v 2 ∷ [];
-  body = SetField 0 (Binary operator.Plus (Field 0) (Variable (v 2))) (Return (Field 0) (End 2));
+  body = SetField line 0 (Binary operator.Plus (Field 0 line) (Variable (v 2))) (Return (Field 0 line) (End 2));
 }
 
 abbrev savings : TextMethod
 savings = record {
   name = word (codes "savings") 3;
   parameters = v 3 ∷ [];
-  body = SetField 1 (Binary operator.Plus (Field 1) (Variable (v 3))) (Return (Field 1) (End 3));
+  body = SetField line 1 (Binary operator.Plus (Field 1 line) (Variable (v 3))) (Return (Field 1 line) (End 3));
 }
 
 abbrev amalgamate : TextMethod
@@ -45,10 +45,10 @@ amalgamate = record {
   name = word (codes "amalgamate") 4;
   parameters = word (codes "b") 4 ∷ [];
   body =
-      Let (word (codes "s") 4) sum
-      (SetField 0 (Number 0)
-      (SetField 1 (Number 0)
-      (Call (word (codes "r") 4) (Variable (word (codes "b") 4)) (word (codes "deposit") 4) (Variable (word (codes "s") 4) ∷ [])
+      Let line (word (codes "s") 4) sum
+      (SetField line 0 (Number 0)
+      (SetField line 1 (Number 0)
+      (Call line (word (codes "r") 4) (Variable (word (codes "b") 4)) (word (codes "deposit") 4) (Variable (word (codes "s") 4) ∷ [])
       (Return (Variable (word (codes "r") 4)) (End 4)))));
 }
 
@@ -58,8 +58,8 @@ check = record {
   parameters = v 5 ∷ [];
   body =
       If (Binary operator.Less sum (Variable (v 5)))
-      (SetField 0 (Binary operator.Minus (Binary operator.Minus (Field 0) (Variable (v 5))) (Number 1)) (Return (Field 0) (End 5)))
-      (SetField 0 (Binary operator.Minus (Field 0) (Variable (v 5))) (Return (Field 0) (End 5)));
+      (SetField line 0 (Binary operator.Minus (Binary operator.Minus (Field 0 line) (Variable (v 5))) (Number 1)) (Return (Field 0 line) (End 5)))
+      (SetField line 0 (Binary operator.Minus (Field 0 line) (Variable (v 5))) (Return (Field 0 line) (End 5)));
 }
 
 abbrev pub methods : List TextMethod
