@@ -1,6 +1,6 @@
 -- Every production of statements, parameters and methods makes what is written as its token and its
 -- items, and so does every production.
-use Rattle.std.proofs.Common.{◌≡◌, ℕ, ◌+◌, List, [], ◌∷◌, ◌++◌, length, map, None, refl, sym, ap, ◌∙◌, append_assoc, arith}
+use Rattle.std.proofs.Common.{◌≡◌, ℕ, ◌+◌, true, false, List, [], ◌∷◌, ◌++◌, length, map, None, refl, sym, ap, ◌∙◌, append_assoc, arith}
 use Rattle.std.proofs.lemmas.List.{append-nil}
 use Rattle.std.proofs.lemmas.List.Concat.{flat_map-cons}
 use Rattle.aml_tokens.specs.Names.{IsToken}
@@ -10,9 +10,9 @@ use Rattle.aml_tokens.specs.Token.{Token}
 use Rattle.aml_tokens.specs.Token as token
 use Rattle.aml_parser.specs.declared.readers.Sign.TheVariants as fixed
 use Rattle.aml_tree.specs.Tree.{Expr, Code, TextMethod}
-use Rattle.aml_tree.specs.Grammar.{spelling, block_spelling, method_spelling, program_spelling, name_spelling, listed, IsExpression, IsBlock}
-use Rattle.aml_tree.specs.Limits.{Mark, method, opened, named, marks, lets, block_marks, method_marks, methods_marks, listed_marks, parameter_marks}
-use Rattle.aml_parser.specs.Items.{Item, Called, New, Parameter, Fixed, Opening, Target, Operand, More, Expression, Argued, Failing, Letting, Block, After, Parameters, MoreParameters, Methods, To, LetRest, Valued, Calling, IfRest, Without, WithElse, expression_by, letting_by, let_of, if_of, block_by, after_by, parameters_by, more_parameters_by, methods_by, expand}
+use Rattle.aml_tree.specs.Grammar.{spelling, block_spelling, read_spelling, method_spelling, program_spelling, name_spelling, listed, IsExpression, IsBlock}
+use Rattle.aml_tree.specs.Limits.{Mark, method, opened, named, marks, lets, block_marks, head_marks, method_marks, methods_marks, listed_marks, parameter_marks}
+use Rattle.aml_parser.specs.Items.{Item, Called, New, Parameter, Fixed, Opening, Target, Operand, More, Expression, Argued, Failing, Letting, Block, After, Parameters, MoreParameters, Methods, To, LetRest, Valued, Calling, IfRest, Without, WithElse, expression_by, letting_by, let_of, if_of, block_by, after_by, parameters_by, more_parameters_by, expand}
 use Rattle.aml_parser.proofs.Written.{let_rest, if_rest, let_marks, if_marks, let_names, if_names, parameters, parameters_marks, method_names, IsLetRest, IsIfRest}
 use Rattle.aml_parser.proofs.Lists.{arguments_listed, arguments_marked, parameters_listed, parameters_marked}
 use Rattle.aml_parser.proofs.Made.{Good, good_renamed, Joins, good_followed}
@@ -20,24 +20,24 @@ use Rattle.aml_parser.proofs.Productions.{good_called, good_new, good_parameter,
 
 -- ---- statements with a rest
 
-let_tokens : (v : Word) (r : LetRest) → block_spelling (let_of v r) ≡ token.Sign symbol.Let ∷ token.Name v ∷ token.Sign symbol.Assign ∷ let_rest r
-let_tokens v (Valued e rest) = refl
-let_tokens v (Calling target m es rest) =
-    ap (λ (ts : List Token). token.Sign symbol.Let ∷ token.Name v ∷ token.Sign symbol.Assign ∷ token.Sign symbol.Call ∷ (spelling target ++ token.Name m ∷ token.Sign symbol.Open ∷ ts))
+let_tokens : (line : ℕ) (v : Word) (r : LetRest) → block_spelling (let_of line v r) ≡ token.Let line ∷ token.Name v ∷ token.Sign symbol.Assign ∷ let_rest r
+let_tokens line v (Valued e rest) = refl
+let_tokens line v (Calling target m es rest) =
+    ap (λ (ts : List Token). token.Let line ∷ token.Name v ∷ token.Sign symbol.Assign ∷ token.Sign symbol.Call ∷ (spelling target ++ token.Name m ∷ token.Sign symbol.Open ∷ ts))
     (arguments_listed es (token.Sign symbol.Semicolon ∷ block_spelling rest))
 
-let_marked : (depth n : ℕ) (v : Word) (r : LetRest) → block_marks depth n (let_of v r) ≡ None ∷ named n ∷ None ∷ let_marks depth (n + 1) r
-let_marked depth n v (Valued e rest) = refl
-let_marked depth n v (Calling target m es rest) =
+let_marked : (depth n line : ℕ) (v : Word) (r : LetRest) → block_marks depth n (let_of line v r) ≡ None ∷ named n ∷ None ∷ let_marks depth (n + 1) r
+let_marked depth n line v (Valued e rest) = refl
+let_marked depth n line v (Calling target m es rest) =
     ap (λ (ms : List Mark). None ∷ named n ∷ None ∷ None ∷ (marks depth target ++ None ∷ opened depth ∷ ms)) (arguments_marked (depth + 1) es (None ∷ block_marks depth (n + 1) rest))
 
-let_named : (n : ℕ) (v : Word) (r : LetRest) → n + lets (let_of v r) ≡ n + 1 + let_names r
-let_named n v (Valued e rest) = omega arith
-let_named n v (Calling target m es rest) = omega arith
+let_named : (n line : ℕ) (v : Word) (r : LetRest) → n + lets (let_of line v r) ≡ n + 1 + let_names r
+let_named n line v (Valued e rest) = omega arith
+let_named n line v (Calling target m es rest) = omega arith
 
-let_fits : (v : Word) (r : LetRest) (h : IsToken (token.Name v)) → IsLetRest r → IsBlock (let_of v r)
-let_fits v (Valued e rest) h fit = (h, fit.0, fit.1)
-let_fits v (Calling target m es rest) h fit = (h, fit.0, fit.1, fit.2, fit.3)
+let_fits : (line : ℕ) (v : Word) (r : LetRest) (h : IsToken (token.Name v)) → IsLetRest r → IsBlock (let_of line v r)
+let_fits line v (Valued e rest) h fit = (h, fit.0, fit.1)
+let_fits line v (Calling target m es rest) h fit = (h, fit.0, fit.1, fit.2, fit.3)
 
 if_tokens : (c : Expr Word) (first : Code Word Word) (r : IfRest) → block_spelling (if_of c first r) ≡ token.Sign symbol.If ∷ (spelling c ++ token.Sign symbol.OpenBrace ∷ (block_spelling first ++ if_rest r))
 if_tokens c first (Without rest) = refl
@@ -71,11 +71,11 @@ good_block depth (token.Field k line) h = λ us. record {
   marks = λ n. simp (append_assoc, append-nil) refl;
   names = λ n. refl;
 }
-good_block depth (token.Sign symbol.Let) h = λ us. record {
-  fits = λ fit. let_fits us.0 us.1.1.0 fit.0 fit.1.1.0;
-  tokens = let_tokens us.0 us.1.1.0 ∙ ap (λ (ts : List Token). token.Sign symbol.Let ∷ token.Name us.0 ∷ token.Sign symbol.Assign ∷ ts) (sym (append-nil (let_rest us.1.1.0)));
-  marks = λ n. let_marked depth n us.0 us.1.1.0 ∙ ap (λ (ms : List Mark). None ∷ named n ∷ None ∷ ms) (sym (append-nil (let_marks depth (n + 1) us.1.1.0)));
-  names = λ n. let_named n us.0 us.1.1.0;
+good_block depth (token.Let line) h = λ us. record {
+  fits = λ fit. let_fits line us.0 us.1.1.0 fit.0 fit.1.1.0;
+  tokens = let_tokens line us.0 us.1.1.0 ∙ ap (λ (ts : List Token). token.Let line ∷ token.Name us.0 ∷ token.Sign symbol.Assign ∷ ts) (sym (append-nil (let_rest us.1.1.0)));
+  marks = λ n. let_marked depth n line us.0 us.1.1.0 ∙ ap (λ (ms : List Mark). None ∷ named n ∷ None ∷ ms) (sym (append-nil (let_marks depth (n + 1) us.1.1.0)));
+  names = λ n. let_named n line us.0 us.1.1.0;
 }
 good_block depth (token.Sign symbol.If) h = λ us. record {
   fits = λ fit. if_fits us.0.0 us.1.0 us.1.1.0 fit.0.0 fit.1.0 fit.1.1.0;
@@ -154,22 +154,36 @@ good_more_parameters (token.Sign symbol.Comma) h = λ us. record {
 good_more_parameters _ h = tt
 
 method_tokens : (m : TextMethod) (rest : List Token)
-    → method_spelling m ++ rest ≡ token.Sign symbol.Method ∷ token.Name m.name ∷ token.Sign symbol.Open ∷ (parameters m.parameters ++ token.Sign symbol.OpenBrace ∷ (block_spelling m.body ++ rest))
+    → method_spelling m ++ rest ≡ read_spelling m.is_read ++ token.Sign symbol.Method ∷ token.Name m.name ∷ token.Sign symbol.Open ∷ (parameters m.parameters ++ token.Sign symbol.OpenBrace ∷ (block_spelling m.body ++ rest))
 method_tokens m rest =
-    ap (λ (ts : List Token). token.Sign symbol.Method ∷ token.Name m.name ∷ token.Sign symbol.Open ∷ ts)
+    append_assoc (read_spelling m.is_read) (token.Sign symbol.Method ∷ token.Name m.name ∷ token.Sign symbol.Open ∷ (listed (map name_spelling m.parameters) ++ token.Sign symbol.Close ∷ token.Sign symbol.OpenBrace ∷ block_spelling m.body)) rest
+    ∙ ap (λ (ts : List Token). read_spelling m.is_read ++ token.Sign symbol.Method ∷ token.Name m.name ∷ token.Sign symbol.Open ∷ ts)
     (append_assoc (listed (map name_spelling m.parameters)) (token.Sign symbol.Close ∷ token.Sign symbol.OpenBrace ∷ block_spelling m.body) rest
     ∙ parameters_listed m.parameters (token.Sign symbol.OpenBrace ∷ (block_spelling m.body ++ rest)))
 
 method_marked : (before : ℕ) (m : TextMethod) (rest : List Mark)
-    → method_marks before m ++ rest ≡ method before ∷ None ∷ opened 0 ∷ (parameters_marks 0 m.parameters ++ opened 0 ∷ (block_marks 1 (length m.parameters) m.body ++ rest))
+    → method_marks before m ++ rest ≡ head_marks m.is_read before ++ None ∷ opened 0 ∷ (parameters_marks 0 m.parameters ++ opened 0 ∷ (block_marks 1 (length m.parameters) m.body ++ rest))
 method_marked before m rest =
-    ap (λ (ms : List Mark). method before ∷ None ∷ opened 0 ∷ ms)
+    append_assoc (head_marks m.is_read before) (None ∷ opened 0 ∷ (listed_marks (parameter_marks 0 m.parameters) ++ None ∷ opened 0 ∷ block_marks 1 (length m.parameters) m.body)) rest
+    ∙ ap (λ (ms : List Mark). head_marks m.is_read before ++ None ∷ opened 0 ∷ ms)
     (append_assoc (listed_marks (parameter_marks 0 m.parameters)) (None ∷ opened 0 ∷ block_marks 1 (length m.parameters) m.body) rest
     ∙ parameters_marked 0 m.parameters (opened 0 ∷ (block_marks 1 (length m.parameters) m.body ++ rest)))
 
-good_methods : (before : ℕ) (t : Token) → Good (Methods before) t (methods_by before t)
+good_methods : (before : ℕ) (t : Token) → Good (Methods before) t (expand (Methods before) t)
+good_methods before (token.Sign symbol.Read) = λ us.
+    let m : TextMethod = record { is_read = true; name = us.1.0; parameters = us.1.1.1.0; body = us.1.1.1.1.1.0 } in
+    let count : length m.parameters ≡ 0 + length m.parameters = omega arith in
+    record {
+      fits = λ fit. (λ _. omega arith, (record { name = fit.1.0; parameters = fit.1.1.1.0; body = fit.1.1.1.1.1.0 }, fit.1.1.1.1.1.1.0.1));
+      tokens = flat_map-cons method_spelling m us.1.1.1.1.1.1.0 ∙ method_tokens m (program_spelling us.1.1.1.1.1.1.0) ∙ simp (append_assoc, append-nil) refl;
+      marks = λ n.
+          method_marked before m (methods_marks (before + 1) us.1.1.1.1.1.1.0)
+          ∙ ap (λ (k : ℕ). method before ∷ None ∷ None ∷ opened 0 ∷ (parameters_marks 0 m.parameters ++ opened 0 ∷ (block_marks 1 k m.body ++ methods_marks (before + 1) us.1.1.1.1.1.1.0))) count
+          ∙ simp (append_assoc, append-nil) refl;
+      names = λ n. ap (λ (k : ℕ). method_names (k + lets m.body) us.1.1.1.1.1.1.0) count;
+    }
 good_methods before (token.Sign symbol.Method) = λ us.
-    let m : TextMethod = record { name = us.0; parameters = us.1.1.0; body = us.1.1.1.1.0 } in
+    let m : TextMethod = record { is_read = false; name = us.0; parameters = us.1.1.0; body = us.1.1.1.1.0 } in
     let count : length m.parameters ≡ 0 + length m.parameters = omega arith in
     record {
       fits = λ fit. (λ _. omega arith, (record { name = fit.0; parameters = fit.1.1.0; body = fit.1.1.1.1.0 }, fit.1.1.1.1.1.0.1));

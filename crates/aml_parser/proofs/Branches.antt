@@ -31,11 +31,11 @@ part_via ts depth names at m mid after end is us j f part make first same x y = 
     put s (Err e) = refl
     put s (Ok ws) = ap fine (same s ws)
 
-pub let_part : (ts : List Token) (depth names at m mid after end : ℕ) (v : Word) (f : Code Word Word → LetRest) → slice_get ts at ≡ Some (token.Sign symbol.Let)
-    → Takes ts (New ∷ Fixed fixed.Assign ∷ []) (v, (tt, tt)) names (at + 1) m mid → Rests ts depth (Letting depth) f m mid after end → TakesPart ts depth (λ rest. let_of v (f rest)) names at after end
-let_part ts depth names at m mid after end v f is x y =
-    part_via ts depth names at m mid after end (New ∷ Fixed fixed.Assign ∷ []) (v, (tt, tt)) (Letting depth) f (λ rest. let_of v (f rest))
-    (λ s vs. paired (Block depth) s (let_of vs.0 vs.1.1.0) vs.1.1.1) (λ s. begins ts (Block depth) s names at (token.Sign symbol.Let) is) (λ s ws. refl) x y
+pub let_part : (ts : List Token) (depth names at line m mid after end : ℕ) (v : Word) (f : Code Word Word → LetRest) → slice_get ts at ≡ Some (token.Let line)
+    → Takes ts (New ∷ Fixed fixed.Assign ∷ []) (v, (tt, tt)) names (at + 1) m mid → Rests ts depth (Letting depth) f m mid after end → TakesPart ts depth (λ rest. let_of line v (f rest)) names at after end
+let_part ts depth names at line m mid after end v f is x y =
+    part_via ts depth names at m mid after end (New ∷ Fixed fixed.Assign ∷ []) (v, (tt, tt)) (Letting depth) f (λ rest. let_of line v (f rest))
+    (λ s vs. paired (Block depth) s (let_of line vs.0 vs.1.1.0) vs.1.1.1) (λ s. begins ts (Block depth) s names at (token.Let line) is) (λ s ws. refl) x y
 
 pub if_part : (ts : List Token) (depth names at m mid after end : ℕ) (c : Expr Word) (first : Code Word Word) (f : Code Word Word → IfRest) → slice_get ts at ≡ Some (token.Sign symbol.If)
     → Takes ts (Expression depth (To fixed.OpenBrace) ∷ Block (depth + 1) ∷ []) ((c, tt), (first, tt)) names (at + 1) m mid → Rests ts depth (After depth) f m mid after end

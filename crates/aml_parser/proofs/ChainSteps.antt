@@ -126,6 +126,7 @@ no_operator fixed.Close symbol.Close e = refl
 no_operator fixed.OpenBrace symbol.OpenBrace e = refl
 no_operator fixed.Semicolon symbol.Semicolon e = refl
 no_operator fixed.Assign symbol.Assign e = refl
+no_operator fixed.Method symbol.Method e = refl
 no_operator _ _ e = absurd cc
 
 sign_found : (depth : ℕ) (c : Bool) (sign : Sign) (u : Symbol) → is_sign sign u ≡ true → expand (More depth c (To sign)) (token.Sign u) ≡ Some (single (closing depth sign) ([], tt))
@@ -138,6 +139,7 @@ may_close_mark depth names fixed.Close e = refl
 may_close_mark depth names fixed.OpenBrace e = rw e refl
 may_close_mark depth names fixed.Semicolon e = refl
 may_close_mark depth names fixed.Assign e = refl
+may_close_mark depth names fixed.Method e = refl
 
 deep_close_mark : (depth names : ℕ) (sign : Sign) → may_close depth sign ≡ false → mark names (closing depth sign) ≡ Some TooDeep
 deep_close_mark depth names fixed.Open e = absurd cc
@@ -145,6 +147,7 @@ deep_close_mark depth names fixed.Close e = absurd cc
 deep_close_mark depth names fixed.OpenBrace e = rw e refl
 deep_close_mark depth names fixed.Semicolon e = absurd cc
 deep_close_mark depth names fixed.Assign e = absurd cc
+deep_close_mark depth names fixed.Method e = absurd cc
 
 counted_close : (depth names : ℕ) (sign : Sign) → counted names (closing depth sign) ≡ names
 counted_close depth names fixed.Open = refl
@@ -152,6 +155,7 @@ counted_close depth names fixed.Close = refl
 counted_close depth names fixed.OpenBrace = refl
 counted_close depth names fixed.Semicolon = refl
 counted_close depth names fixed.Assign = refl
+counted_close depth names fixed.Method = refl
 
 pub sign_ends : (ts : List Token) (depth at end : ℕ) (sign : Sign) (e : Expr Word) (chain : Chained ts depth at e end) → sign_there sign (slice_get ts end) ≡ true → may_close depth sign ≡ true
     → (names : ℕ) → Takes ts (Expression depth (To sign) ∷ []) ((e, tt), tt) names at names (end + 1)

@@ -58,13 +58,12 @@ is_deeper depth e = search (rules, tests)
 
 -- ---- no statement
 
-pub no_keyword : (depth : ℕ) (s : Symbol) → s ≢ symbol.Let → s ≢ symbol.If → s ≢ symbol.While → s ≢ symbol.Fail → s ≢ symbol.Return → block_by_sign depth s ≡ None
-no_keyword depth symbol.Let a b c d e = absurd (a refl)
-no_keyword depth symbol.If a b c d e = absurd (b refl)
-no_keyword depth symbol.While a b c d e = absurd (c refl)
-no_keyword depth symbol.Fail a b c d e = absurd (d refl)
-no_keyword depth symbol.Return a b c d e = absurd (e refl)
-no_keyword depth _ a b c d e = refl
+pub no_keyword : (depth : ℕ) (s : Symbol) → s ≢ symbol.If → s ≢ symbol.While → s ≢ symbol.Fail → s ≢ symbol.Return → block_by_sign depth s ≡ None
+no_keyword depth symbol.If b c d e = absurd (b refl)
+no_keyword depth symbol.While b c d e = absurd (c refl)
+no_keyword depth symbol.Fail b c d e = absurd (d refl)
+no_keyword depth symbol.Return b c d e = absurd (e refl)
+no_keyword depth _ b c d e = refl
 
 pub no_statement : (ts : List Token) (depth names at : ℕ) (t : Token) → slice_get ts at ≡ Some t → block_by depth t ≡ None → Stops ts (Block depth ∷ []) names at (at, Unexpected)
 no_statement ts depth names at t is none = stops_none ts (Block depth) names at (Some t) is none

@@ -1,6 +1,5 @@
 -- Reading statements with `let`, as the functions of the code read them.
 use Rattle.std.proofs.Common.{◌≡◌, ℕ, ◌+◌, true, false, List, [], ◌∷◌, Some, refl, slice_get}
-use Rattle.aml_tokens.specs.declared.tokens.Symbol.TheVariants as symbol
 use Rattle.aml_tokens.specs.declared.tokens.Word.{Word}
 use Rattle.aml_tokens.specs.Token.{Token}
 use Rattle.aml_tokens.specs.Token as token
@@ -14,12 +13,12 @@ use Rattle.aml_parser.proofs.Branches.{let_part, let_value_rests, let_value_stop
 
 -- ---- calls
 
-pub call_reads : (ts : List Token) (depth at named opening start closed end : ℕ) (v m : Word) (target : Expr Word) (es : List (Expr Word)) (g : Onto Word Word) → there is_call (slice_get ts at) ≡ true
+pub call_reads : (ts : List Token) (depth at line named opening start closed end : ℕ) (v m : Word) (target : Expr Word) (es : List (Expr Word)) (g : Onto Word Word) → there is_call (slice_get ts at) ≡ true
     → ((rest : Code Word Word) → g rest ≡ Call line v target m es rest)
     → ((n : ℕ) → Takes ts (Target depth ∷ []) (target, tt) n (at + 1) n named) → ((n : ℕ) → Takes ts (Called ∷ []) (m, tt) n named n opening)
     → ((n : ℕ) → Takes ts (Opening depth fixed.Open ∷ []) (tt, tt) n opening n start) → ((n : ℕ) → Takes ts (Argued (depth + 1) ∷ []) (es, tt) n start n closed)
-    → ((n : ℕ) → Takes ts (Fixed fixed.Semicolon ∷ []) (tt, tt) n closed n end) → (names : ℕ) → TakesLet ts depth v g names at names end
-call_reads ts depth at named opening start closed end v m target es g is made a b c d e names = record {
+    → ((n : ℕ) → Takes ts (Fixed fixed.Semicolon ∷ []) (tt, tt) n closed n end) → (names : ℕ) → TakesLet ts depth line v g names at names end
+call_reads ts depth at line named opening start closed end v m target es g is made a b c d e names = record {
   rest = Calling target m es;
   made = made;
   rests = call_rests ts depth names at end target m es is (takes_then (a names) (takes_then (b names) (takes_then (c names) (takes_then (d names) (e names)))));
@@ -53,31 +52,31 @@ call_end_stops ts depth at named opening start closed m target es fault is a b c
 
 -- ---- variables
 
-pub let_reads : (ts : List Token) (depth names at behind start after end : ℕ) (v : Word) (g : Onto Word Word) → slice_get ts at ≡ Some (token.Sign symbol.Let)
+pub let_reads : (ts : List Token) (depth names at line behind start after end : ℕ) (v : Word) (g : Onto Word Word) → slice_get ts at ≡ Some (token.Let line)
     → Takes ts (New ∷ []) (v, tt) names (at + 1) (names + 1) behind → ((n : ℕ) → Takes ts (Fixed fixed.Assign ∷ []) (tt, tt) n behind n start)
-    → TakesLet ts depth v g (names + 1) start after end → TakesPart ts depth g names at after end
-let_reads ts depth names at behind start after end v g is a b x =
-    same_part ts depth names at after end (λ rest. let_of v (x.rest rest)) g x.made
-    (let_part ts depth names at (names + 1) start after end v x.rest is (takes_then a (b (names + 1))) x.rests)
+    → TakesLet ts depth line v g (names + 1) start after end → TakesPart ts depth g names at after end
+let_reads ts depth names at line behind start after end v g is a b x =
+    same_part ts depth names at after end (λ rest. let_of line v (x.rest rest)) g x.made
+    (let_part ts depth names at line (names + 1) start after end v x.rest is (takes_then a (b (names + 1))) x.rests)
 
-pub let_value_reads : (ts : List Token) (depth names at end : ℕ) (v : Word) (e : Expr Word) (g : Onto Word Word) → there is_call (slice_get ts at) ≡ false → ((rest : Code Word Word) → g rest ≡ Let line v e rest)
-    → ((n : ℕ) → Takes ts (Expression depth (To fixed.Semicolon) ∷ []) ((e, tt), tt) n at n end) → TakesLet ts depth v g names at names end
-let_value_reads ts depth names at end v e g none made x = record { rest = Valued e; made = made; rests = let_value_rests ts depth names at end e none (x names) }
+pub let_value_reads : (ts : List Token) (depth names at line end : ℕ) (v : Word) (e : Expr Word) (g : Onto Word Word) → there is_call (slice_get ts at) ≡ false → ((rest : Code Word Word) → g rest ≡ Let line v e rest)
+    → ((n : ℕ) → Takes ts (Expression depth (To fixed.Semicolon) ∷ []) ((e, tt), tt) n at n end) → TakesLet ts depth line v g names at names end
+let_value_reads ts depth names at line end v e g none made x = record { rest = Valued e; made = made; rests = let_value_rests ts depth names at end e none (x names) }
 
-pub let_name_stops : (ts : List Token) (depth names at : ℕ) (fault : Fault) → slice_get ts at ≡ Some (token.Sign symbol.Let)
+pub let_name_stops : (ts : List Token) (depth names at line : ℕ) (fault : Fault) → slice_get ts at ≡ Some (token.Let line)
     → Stops ts (New ∷ []) names (at + 1) fault → Stops ts (Block depth ∷ []) names at fault
-let_name_stops ts depth names at fault is x = stops_by ts (Block depth) (token.Sign symbol.Let) _ names at fault is refl refl (stops_first x)
+let_name_stops ts depth names at line fault is x = stops_by ts (Block depth) (token.Let line) _ names at fault is refl refl (stops_first x)
 
-pub let_sign_stops : (ts : List Token) (depth names at behind : ℕ) (v : Word) (fault : Fault) → slice_get ts at ≡ Some (token.Sign symbol.Let)
+pub let_sign_stops : (ts : List Token) (depth names at line behind : ℕ) (v : Word) (fault : Fault) → slice_get ts at ≡ Some (token.Let line)
     → Takes ts (New ∷ []) (v, tt) names (at + 1) (names + 1) behind → ((n : ℕ) → Stops ts (Fixed fixed.Assign ∷ []) n behind fault) → Stops ts (Block depth ∷ []) names at fault
-let_sign_stops ts depth names at behind v fault is a x = stops_by ts (Block depth) (token.Sign symbol.Let) _ names at fault is refl refl (stops_then a (stops_first (x (names + 1))))
+let_sign_stops ts depth names at line behind v fault is a x = stops_by ts (Block depth) (token.Let line) _ names at fault is refl refl (stops_then a (stops_first (x (names + 1))))
 
-pub let_rest_stops : (ts : List Token) (depth names at behind start : ℕ) (v : Word) (fault : Fault) → slice_get ts at ≡ Some (token.Sign symbol.Let)
+pub let_rest_stops : (ts : List Token) (depth names at line behind start : ℕ) (v : Word) (fault : Fault) → slice_get ts at ≡ Some (token.Let line)
     → Takes ts (New ∷ []) (v, tt) names (at + 1) (names + 1) behind → ((n : ℕ) → Takes ts (Fixed fixed.Assign ∷ []) (tt, tt) n behind n start)
     → Stops ts (Letting depth ∷ []) (names + 1) start fault → Stops ts (Block depth ∷ []) names at fault
-let_rest_stops ts depth names at behind start v fault is a b x = stops_by ts (Block depth) (token.Sign symbol.Let) _ names at fault is refl refl (stops_then a (stops_then (b (names + 1)) x))
+let_rest_stops ts depth names at line behind start v fault is a b x = stops_by ts (Block depth) (token.Let line) _ names at fault is refl refl (stops_then a (stops_then (b (names + 1)) x))
 
-pub let_end_stops : (ts : List Token) (depth names at behind start : ℕ) (v : Word) (fault : Fault) → slice_get ts at ≡ Some (token.Sign symbol.Let)
+pub let_end_stops : (ts : List Token) (depth names at line behind start : ℕ) (v : Word) (fault : Fault) → slice_get ts at ≡ Some (token.Let line)
     → Takes ts (New ∷ []) (v, tt) names (at + 1) (names + 1) behind → ((n : ℕ) → Takes ts (Fixed fixed.Assign ∷ []) (tt, tt) n behind n start) → there is_call (slice_get ts start) ≡ false
     → ((n : ℕ) → Stops ts (Expression depth (To fixed.Semicolon) ∷ []) n start fault) → Stops ts (Block depth ∷ []) names at fault
-let_end_stops ts depth names at behind start v fault is a b none x = let_rest_stops ts depth names at behind start v fault is a b (let_value_stops ts depth (names + 1) start fault none (x (names + 1)))
+let_end_stops ts depth names at line behind start v fault is a b none x = let_rest_stops ts depth names at line behind start v fault is a b (let_value_stops ts depth (names + 1) start fault none (x (names + 1)))

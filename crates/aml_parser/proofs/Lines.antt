@@ -15,7 +15,7 @@ use Rattle.aml_tokens.specs.Token as token
 use Rattle.aml_tokens.specs.Lexing.{Piece, pieces, symbol_of, field_of, field_words, is_plain, number_token, either, word_token, sign_token, token_in, within, token_at, onto, tokens_in, Tokens, line_at}
 use Rattle.aml_parser.specs.declared.faults.TextFault.{TextFault}
 use Rattle.aml_tree.specs.Tree.{Expr, Number, Variable, Field, Own, Group, Negative, Binary, Code, End, Let, Call, Set, SetField, If, IfElse, While, Fail, Return, TextMethod}
-use Rattle.aml_tree.specs.Grammar.{spelling, listed, block_spelling, name_spelling, method_spelling, program_spelling}
+use Rattle.aml_tree.specs.Grammar.{read_spelling, spelling, listed, block_spelling, name_spelling, method_spelling, program_spelling}
 use Rattle.aml_tree.specs.Programs.{IsProgramText}
 use Rattle.aml_parser.specs.Faults.{IsFirstTextFault}
 use Rattle.aml_tree.specs.Lines.{WordUpTo, ExpressionUpTo, BlockUpTo, MethodUpTo, LinesUpTo}
@@ -25,8 +25,9 @@ use Rattle.aml_tree.specs.Lines.{WordUpTo, ExpressionUpTo, BlockUpTo, MethodUpTo
 abbrev TokenUpTo : ℕ → Token → Type 0
 TokenUpTo most (token.Name w) = w.line ≤ most
 TokenUpTo most (token.Number n) = Unit {0}
-TokenUpTo most (token.Field k line) = Unit {0}
+TokenUpTo most (token.Field k line) = line ≤ most
 TokenUpTo most (token.Sign s) = Unit {0}
+TokenUpTo most (token.Let line) = line ≤ most
 TokenUpTo most (token.CloseBrace line) = line ≤ most
 
 abbrev TokensUpTo : ℕ → List Token → Type 0
@@ -45,14 +46,15 @@ number_up_to most bytes = by (is_plain bytes) (nat_lt (digits_value 10 bytes) (2
     by false t = tt
 
 word_up_to : (most line : ℕ) (bytes : List ℕ) → line ≤ most → ResultUpTo most (word_token line bytes)
-word_up_to most line bytes h = by (symbol_of keywords bytes) (field_of 0 field_words bytes) (nat_le (length bytes) 32)
+word_up_to most line bytes h = by (bytes_eq bytes (codes "let")) (symbol_of keywords bytes) (field_of 0 field_words bytes) (nat_le (length bytes) 32)
   where
-    by : (s : Option Symbol) (f : Option ℕ) (t : Bool)
-        → ResultUpTo most (either s (λ s. Ok (token.Sign s)) (either f (λ k. Ok (token.Field k line)) (if t then Ok (token.Name (record { name = bytes; line = line })) else Err BadToken)))
-    by (Some s) f t = tt
-    by None (Some k) t = tt
-    by None None true = h
-    by None None false = tt
+    by : (l : Bool) (s : Option Symbol) (f : Option ℕ) (t : Bool)
+        → ResultUpTo most (if l then Ok (token.Let line) else either s (λ s. Ok (token.Sign s)) (either f (λ k. Ok (token.Field k line)) (if t then Ok (token.Name (record { name = bytes; line = line })) else Err BadToken)))
+    by true s f t = h
+    by false (Some s) f t = tt
+    by false None (Some k) t = h
+    by false None None true = h
+    by false None None false = tt
 
 sign_up_to : (most line : ℕ) (bytes : List ℕ) → line ≤ most → ResultUpTo most (sign_token line bytes)
 sign_up_to most line bytes h = by (bytes_eq bytes (codes "}")) (symbol_of signs bytes) (bytes_eq bytes (codes "!"))
@@ -115,7 +117,7 @@ parts most xs ys h = (front_up_to most xs ys h, back_up_to most xs ys h)
 expression_up_to : (most : ℕ) (e : Expr Word) → TokensUpTo most (spelling e) → ExpressionUpTo most e
 expression_up_to most (Number n) h = tt
 expression_up_to most (Variable w) h = h.0
-expression_up_to most (Field k line) h = tt
+expression_up_to most (Field k line) h = h.0
 expression_up_to most Own h = tt
 expression_up_to most (Group e) h = expression_up_to most e (parts most (spelling e) _ h.1).0
 expression_up_to most (Negative e) h = expression_up_to most e h.1
@@ -136,15 +138,15 @@ parameters_up_to most (w ∷ v ∷ ws) h = (h.0, parameters_up_to most (v ∷ ws
 block_up_to : (most : ℕ) (b : Code Word Word) → TokensUpTo most (block_spelling b) → BlockUpTo most b
 block_up_to most (End line) h = h.0
 block_up_to most (Let line v value rest) h =
-    let s = parts most (spelling value) _ h.1.1.1 in (h.1.0, expression_up_to most value s.0, block_up_to most rest s.1.1)
+    let s = parts most (spelling value) _ h.1.1.1 in (h.0, h.1.0, expression_up_to most value s.0, block_up_to most rest s.1.1)
 block_up_to most (Call line v target m arguments rest) h =
     let s = parts most (spelling target) _ h.1.1.1.1 in
     let t = parts most (listed (map spelling arguments)) _ s.1.1.1 in
-    (h.1.0, expression_up_to most target s.0, s.1.0, arguments_up_to most arguments t.0, block_up_to most rest t.1.1.1)
+    (h.0, h.1.0, expression_up_to most target s.0, s.1.0, arguments_up_to most arguments t.0, block_up_to most rest t.1.1.1)
 block_up_to most (Set v value rest) h =
     let s = parts most (spelling value) _ h.1.1 in (h.0, expression_up_to most value s.0, block_up_to most rest s.1.1)
 block_up_to most (SetField line k value rest) h =
-    let s = parts most (spelling value) _ h.1.1 in (expression_up_to most value s.0, block_up_to most rest s.1.1)
+    let s = parts most (spelling value) _ h.1.1 in (h.0, expression_up_to most value s.0, block_up_to most rest s.1.1)
 block_up_to most (If condition first rest) h =
     let s = parts most (spelling condition) _ h.1 in
     let t = parts most (block_spelling first) _ s.1.1 in (expression_up_to most condition s.0, block_up_to most first t.0, block_up_to most rest t.1)
@@ -162,8 +164,9 @@ block_up_to most (Return value rest) h =
 
 method_up_to : (most : ℕ) (m : TextMethod) → TokensUpTo most (method_spelling m) → MethodUpTo most m
 method_up_to most m h =
-    let s = parts most (listed (map name_spelling m.parameters)) _ h.1.1.1 in
-    record { name = h.1.0; parameters = parameters_up_to most m.parameters s.0; body = block_up_to most m.body s.1.1.1 }
+    let b = (parts most (read_spelling m.is_read) _ h).1 in
+    let s = parts most (listed (map name_spelling m.parameters)) _ b.1.1.1 in
+    record { name = b.1.0; parameters = parameters_up_to most m.parameters s.0; body = block_up_to most m.body s.1.1.1 }
 
 program_up_to : (most : ℕ) (p : List TextMethod) → TokensUpTo most (program_spelling p) → LinesUpTo most p
 program_up_to most [] h = tt

@@ -82,9 +82,9 @@ set_part ts depth names at end w e is x =
     part_of ts depth names at names end (Fixed fixed.Assign ∷ Expression depth (To fixed.Semicolon) ∷ []) (tt, ((e, tt), tt)) names (Set w e)
     (λ s vs. paired (Block depth) s (Set w vs.1.0.0 vs.1.1.0) vs.1.1.1) (λ s. begins ts (Block depth) s names at (token.Name w) is) (λ s ws. refl) x
 
-pub set_field_part : (ts : List Token) (depth names at end k : ℕ) (e : Expr Word) → slice_get ts at ≡ Some (token.Field k line)
+pub set_field_part : (ts : List Token) (depth names at end k line : ℕ) (e : Expr Word) → slice_get ts at ≡ Some (token.Field k line)
     → Takes ts (Fixed fixed.Assign ∷ Expression depth (To fixed.Semicolon) ∷ []) (tt, ((e, tt), tt)) names (at + 1) names end → TakesPart ts depth (SetField line k e) names at names end
-set_field_part ts depth names at end k e is x =
+set_field_part ts depth names at end k line e is x =
     part_of ts depth names at names end (Fixed fixed.Assign ∷ Expression depth (To fixed.Semicolon) ∷ []) (tt, ((e, tt), tt)) names (SetField line k e)
     (λ s vs. paired (Block depth) s (SetField line k vs.1.0.0 vs.1.1.0) vs.1.1.1) (λ s. begins ts (Block depth) s names at (token.Field k line) is) (λ s ws. refl) x
 
@@ -127,9 +127,9 @@ pub set_reads : (ts : List Token) (depth names at start end : ℕ) (w : Word) (e
     → ((n : ℕ) → Takes ts (Fixed fixed.Assign ∷ []) (tt, tt) n (at + 1) n start) → ((n : ℕ) → Takes ts (Expression depth (To fixed.Semicolon) ∷ []) ((e, tt), tt) n start n end) → TakesPart ts depth g names at names end
 set_reads ts depth names at start end w e g is made a b = same_part ts depth names at names end (Set w e) g made (set_part ts depth names at end w e is (takes_then (a names) (b names)))
 
-pub set_field_reads : (ts : List Token) (depth names at start end k : ℕ) (e : Expr Word) (g : Onto Word Word) → slice_get ts at ≡ Some (token.Field k line) → ((rest : Code Word Word) → g rest ≡ SetField line k e rest)
+pub set_field_reads : (ts : List Token) (depth names at start end k line : ℕ) (e : Expr Word) (g : Onto Word Word) → slice_get ts at ≡ Some (token.Field k line) → ((rest : Code Word Word) → g rest ≡ SetField line k e rest)
     → ((n : ℕ) → Takes ts (Fixed fixed.Assign ∷ []) (tt, tt) n (at + 1) n start) → ((n : ℕ) → Takes ts (Expression depth (To fixed.Semicolon) ∷ []) ((e, tt), tt) n start n end) → TakesPart ts depth g names at names end
-set_field_reads ts depth names at start end k e g is made a b = same_part ts depth names at names end (SetField line k e) g made (set_field_part ts depth names at end k e is (takes_then (a names) (b names)))
+set_field_reads ts depth names at start end k line e g is made a b = same_part ts depth names at names end (SetField line k e) g made (set_field_part ts depth names at end k line e is (takes_then (a names) (b names)))
 
 pub return_reads : (ts : List Token) (depth names at end : ℕ) (e : Expr Word) (g : Onto Word Word) → slice_get ts at ≡ Some (token.Sign symbol.Return) → ((rest : Code Word Word) → g rest ≡ Return e rest)
     → ((n : ℕ) → Takes ts (Expression depth (To fixed.Semicolon) ∷ []) ((e, tt), tt) n (at + 1) n end) → TakesPart ts depth g names at names end
@@ -148,13 +148,13 @@ pub set_value_stops : (ts : List Token) (depth names at start : ℕ) (w : Word) 
     → ((n : ℕ) → Stops ts (Expression depth (To fixed.Semicolon) ∷ []) n start fault) → Stops ts (Block depth ∷ []) names at fault
 set_value_stops ts depth names at start w fault is a x = stops_by ts (Block depth) (token.Name w) _ names at fault is refl refl (stops_then (a names) (stops_first (x names)))
 
-pub set_field_sign_stops : (ts : List Token) (depth names at k : ℕ) (fault : Fault) → slice_get ts at ≡ Some (token.Field k line)
+pub set_field_sign_stops : (ts : List Token) (depth names at k line : ℕ) (fault : Fault) → slice_get ts at ≡ Some (token.Field k line)
     → ((n : ℕ) → Stops ts (Fixed fixed.Assign ∷ []) n (at + 1) fault) → Stops ts (Block depth ∷ []) names at fault
-set_field_sign_stops ts depth names at k fault is x = stops_by ts (Block depth) (token.Field k line) _ names at fault is refl refl (stops_first (x names))
+set_field_sign_stops ts depth names at k line fault is x = stops_by ts (Block depth) (token.Field k line) _ names at fault is refl refl (stops_first (x names))
 
-pub set_field_value_stops : (ts : List Token) (depth names at start k : ℕ) (fault : Fault) → slice_get ts at ≡ Some (token.Field k line) → ((n : ℕ) → Takes ts (Fixed fixed.Assign ∷ []) (tt, tt) n (at + 1) n start)
+pub set_field_value_stops : (ts : List Token) (depth names at start k line : ℕ) (fault : Fault) → slice_get ts at ≡ Some (token.Field k line) → ((n : ℕ) → Takes ts (Fixed fixed.Assign ∷ []) (tt, tt) n (at + 1) n start)
     → ((n : ℕ) → Stops ts (Expression depth (To fixed.Semicolon) ∷ []) n start fault) → Stops ts (Block depth ∷ []) names at fault
-set_field_value_stops ts depth names at start k fault is a x = stops_by ts (Block depth) (token.Field k line) _ names at fault is refl refl (stops_then (a names) (stops_first (x names)))
+set_field_value_stops ts depth names at start k line fault is a x = stops_by ts (Block depth) (token.Field k line) _ names at fault is refl refl (stops_then (a names) (stops_first (x names)))
 
 pub fail_reads : (ts : List Token) (depth names at start end k : ℕ) (g : Onto Word Word) → slice_get ts at ≡ Some (token.Sign symbol.Fail) → ((rest : Code Word Word) → g rest ≡ Fail k rest)
     → ((n : ℕ) → Takes ts (Failing ∷ []) (k, tt) n (at + 1) n start) → ((n : ℕ) → Takes ts (Fixed fixed.Semicolon ∷ []) (tt, tt) n start n end) → TakesPart ts depth g names at names end

@@ -26,6 +26,7 @@ sign_is fixed.Close symbol.Close e = refl
 sign_is fixed.OpenBrace symbol.OpenBrace e = refl
 sign_is fixed.Semicolon symbol.Semicolon e = refl
 sign_is fixed.Assign symbol.Assign e = refl
+sign_is fixed.Method symbol.Method e = refl
 sign_is _ _ e = absurd cc
 
 abbrev IsSign : Symbol → Option Operator → Type 0
@@ -129,6 +130,7 @@ closing_is depth n fixed.Close = refl
 closing_is depth n fixed.OpenBrace = refl
 closing_is depth n fixed.Semicolon = refl
 closing_is depth n fixed.Assign = refl
+closing_is depth n fixed.Method = refl
 
 closing_names : (depth n : ℕ) (s : Sign) → n ≡ counted n (closing depth s)
 closing_names depth n fixed.Open = refl
@@ -136,6 +138,7 @@ closing_names depth n fixed.Close = refl
 closing_names depth n fixed.OpenBrace = refl
 closing_names depth n fixed.Semicolon = refl
 closing_names depth n fixed.Assign = refl
+closing_names depth n fixed.Method = refl
 
 good_ending : (depth : ℕ) (compared : Bool) (closer : Closer) (u : Symbol) → Good (More depth compared closer) (token.Sign u) (ending_by depth compared closer u)
 good_ending depth compared (To s) u =

@@ -1,5 +1,5 @@
 -- Reading methods and programs, as the functions of the code read them.
-use Rattle.std.proofs.Common.{◌≡◌, ℕ, zero, suc, ◌+◌, ◌<◌, ◌≤◌, nat_lt, true, false, List, [], ◌∷◌, ◌++◌, drop, length, Option, Some, None, Result, Ok, Err, refl, sym, ap, subst, ◌∙◌, append_assoc, slice_get, rules, tests, arith}
+use Rattle.std.proofs.Common.{◌≡◌, ℕ, zero, suc, ◌+◌, ◌<◌, ◌≤◌, nat_lt, Bool, true, false, List, [], ◌∷◌, ◌++◌, drop, length, Option, Some, None, Result, Ok, Err, refl, sym, ap, subst, ◌∙◌, append_assoc, slice_get, rules, tests, arith}
 use Rattle.std.proofs.lemmas.List.{append-nil}
 use Rattle.aml_tokens.specs.declared.tokens.Symbol.TheVariants as symbol
 use Rattle.aml_tokens.specs.declared.tokens.TextCause.TheVariants.{Unexpected, TooMany}
@@ -9,17 +9,17 @@ use Rattle.aml_tokens.specs.Token as token
 use Rattle.aml_parser.specs.declared.readers.Sign.TheVariants as fixed
 use Rattle.aml_tree.specs.Tree.{TextMethod}
 use Rattle.aml_tree.specs.Limits.{Mark, method}
-use Rattle.aml_parser.specs.Items.{Called, Opening, Parameters, Block, Methods, Values, is_method, joined_values, expand}
-use Rattle.aml_parser.specs.Reading.{Fault, ◌>>=◌, passing, read, program, Takes, Stops, TakesMethod, method_items, there}
+use Rattle.aml_parser.specs.Items.{Item, Called, Fixed, Opening, Parameters, Block, Methods, Values, is_method, is_read, joined_values, expand}
+use Rattle.aml_parser.specs.Reading.{Fault, ◌>>=◌, passing, read, program, Takes, Stops, TakesHead, TakesMethod, begin_method, method_items, there}
 use Rattle.aml_parser.proofs.ReadLaws.{fine}
 use Rattle.aml_parser.proofs.Steps.{bound_twice, drop_none, begins, stops_none, takes_then, stops_then, stops_first, paired}
 
 -- ---- one method
 
-pub method_takes : (ts : List Token) (at opening start closed first count after end : ℕ) (m : TextMethod)
-    → ((n : ℕ) → Takes ts (Called ∷ []) (m.name, tt) n at n opening) → ((n : ℕ) → Takes ts (Opening 0 fixed.Open ∷ []) (tt, tt) n opening n start) → Takes ts (Parameters ∷ []) (m.parameters, tt) 0 start count closed
-    → ((n : ℕ) → Takes ts (Opening 0 fixed.OpenBrace ∷ []) (tt, tt) n closed n first) → Takes ts (Block 1 ∷ []) (m.body, tt) count first after end → TakesMethod ts m at end
-method_takes ts at opening start closed first count after end m a b c d e = record { after = after; takes = takes_then (a 0) (takes_then (b 0) (takes_then c (takes_then (d count) e))) }
+pub method_takes : (ts : List Token) (is_read : Bool) (at opening start closed first count after end : ℕ) (m : TextMethod)
+    → m.is_read ≡ is_read → ((n : ℕ) → Takes ts (Called ∷ []) (m.name, tt) n at n opening) → ((n : ℕ) → Takes ts (Opening 0 fixed.Open ∷ []) (tt, tt) n opening n start) → Takes ts (Parameters ∷ []) (m.parameters, tt) 0 start count closed
+    → ((n : ℕ) → Takes ts (Opening 0 fixed.OpenBrace ∷ []) (tt, tt) n closed n first) → Takes ts (Block 1 ∷ []) (m.body, tt) count first after end → TakesMethod ts is_read m at end
+method_takes ts is_read at opening start closed first count after end m p a b c d e = record { promise = p; after = after; takes = takes_then (a 0) (takes_then (b 0) (takes_then c (takes_then (d count) e))) }
 
 pub method_name_stops : (ts : List Token) (at : ℕ) (fault : Fault) → ((n : ℕ) → Stops ts (Called ∷ []) n at fault) → Stops ts method_items 0 at fault
 method_name_stops ts at fault x = stops_first (x 0)
@@ -58,13 +58,15 @@ listing_begins ts = record { names = 0; goes = put (read (Methods 0 ∷ []) 0 0 
     put (Err f) = refl
     put (Ok vs) = refl
 
-abbrev pub begin_method : (before : ℕ) → Values (method_items ++ (Methods (before + 1) ∷ [])) → Values (Methods before ∷ [])
-begin_method before vs = paired (Methods before) [] (record { name = vs.0; parameters = vs.1.1.0; body = vs.1.1.1.1.0 } ∷ vs.1.1.1.1.1.0) tt
-
 method_is : (o : Option Token) → there is_method o ≡ true → o ≡ Some (token.Sign symbol.Method)
 method_is None e = absurd cc
 method_is (Some (token.Sign symbol.Method)) e = refl
 method_is (Some _) e = absurd cc
+
+read_is : (o : Option Token) → there is_read o ≡ true → o ≡ Some (token.Sign symbol.Read)
+read_is None e = absurd cc
+read_is (Some (token.Sign symbol.Read)) e = refl
+read_is (Some _) e = absurd cc
 
 few_methods : (before : ℕ) → before < 64 → method before ≡ None
 few_methods before lt = let e : nat_lt before 64 ≡ true = search (rules, tests) in rw e refl
@@ -72,31 +74,100 @@ few_methods before lt = let e : nat_lt before 64 ≡ true = search (rules, tests
 many_methods : (before : ℕ) → 64 ≤ before → method before ≡ Some TooMany
 many_methods before le = let e : nat_lt before 64 ≡ false = search (rules, tests) in rw e refl
 
+-- ---- the words with which a method begins
+
+-- what stands behind them, and the methods behind it
+abbrev Behind : ℕ → List Item
+Behind before = method_items ++ (Methods (before + 1) ∷ [])
+
 method_begins : (ts : List Token) (before names at : ℕ) → there is_method (slice_get ts at) ≡ true
-    → read (Methods before ∷ []) names at (drop at ts) ≡ passing (method before) at (read (method_items ++ (Methods (before + 1) ∷ [])) 0 (at + 1) (drop (at + 1) ts) >>= λ vs. Ok (begin_method before vs))
+    → read (Methods before ∷ []) names at (drop at ts) ≡ passing (method before) at (read (Behind before) 0 (at + 1) (drop (at + 1) ts) >>= λ vs. Ok (begin_method false before vs))
 method_begins ts before names at is = begins ts (Methods before) [] names at (token.Sign symbol.Method) (method_is (slice_get ts at) is)
 
-method_runs : (ts : List Token) (before names at : ℕ) → there is_method (slice_get ts at) ≡ true → before < 64
-    → read (Methods before ∷ []) names at (drop at ts) ≡ (read (method_items ++ (Methods (before + 1) ∷ [])) 0 (at + 1) (drop (at + 1) ts) >>= λ vs. Ok (begin_method before vs))
-method_runs ts before names at is lt =
+pub head_method : (ts : List Token) (before at : ℕ) → there is_method (slice_get ts at) ≡ true → before < 64 → TakesHead ts before false at (at + 1)
+head_method ts before at is lt = record {
+  goes = λ names.
+      method_begins ts before names at is
+      ∙ ap (λ (m : Mark). passing m at (read (Behind before) 0 (at + 1) (drop (at + 1) ts) >>= λ vs. Ok (begin_method false before vs))) (few_methods before lt);
+}
+
+pub head_method_many : (ts : List Token) (before names at : ℕ) → there is_method (slice_get ts at) ≡ true → 64 ≤ before → read (Methods before ∷ []) names at (drop at ts) ≡ Err (at, TooMany)
+head_method_many ts before names at is le =
     method_begins ts before names at is
-    ∙ ap (λ (m : Mark). passing m at (read (method_items ++ (Methods (before + 1) ∷ [])) 0 (at + 1) (drop (at + 1) ts) >>= λ vs. Ok (begin_method before vs))) (few_methods before lt)
+    ∙ ap (λ (m : Mark). passing m at (read (Behind before) 0 (at + 1) (drop (at + 1) ts) >>= λ vs. Ok (begin_method false before vs))) (many_methods before le)
+
+abbrev begin_reader : (before : ℕ) → Values (Fixed fixed.Method ∷ Behind before) → Values (Methods before ∷ [])
+begin_reader before vs = begin_method true before vs.1
+
+read_begins : (ts : List Token) (before names at : ℕ) → there is_read (slice_get ts at) ≡ true
+    → read (Methods before ∷ []) names at (drop at ts) ≡ passing (method before) at (read (Fixed fixed.Method ∷ Behind before) 0 (at + 1) (drop (at + 1) ts) >>= λ vs. Ok (begin_reader before vs))
+read_begins ts before names at is = begins ts (Methods before) [] names at (token.Sign symbol.Read) (read_is (slice_get ts at) is)
+
+read_runs : (ts : List Token) (before names at : ℕ) → there is_read (slice_get ts at) ≡ true → before < 64
+    → read (Methods before ∷ []) names at (drop at ts) ≡ (read (Fixed fixed.Method ∷ Behind before) 0 (at + 1) (drop (at + 1) ts) >>= λ vs. Ok (begin_reader before vs))
+read_runs ts before names at is lt =
+    read_begins ts before names at is
+    ∙ ap (λ (m : Mark). passing m at (read (Fixed fixed.Method ∷ Behind before) 0 (at + 1) (drop (at + 1) ts) >>= λ vs. Ok (begin_reader before vs))) (few_methods before lt)
+
+pub head_read : (ts : List Token) (before at start : ℕ) → there is_read (slice_get ts at) ≡ true → before < 64 → ((n : ℕ) → Takes ts (Fixed fixed.Method ∷ []) (tt, tt) n (at + 1) n start) → TakesHead ts before true at start
+head_read ts before at start is lt word = record {
+  goes = λ names.
+      read_runs ts before names at is lt
+      ∙ ap (λ (r : Result (Values (Fixed fixed.Method ∷ Behind before)) Fault). r >>= λ vs. Ok (begin_reader before vs)) ((word 0).goes (Behind before))
+      ∙ bound_twice (read (Behind before) 0 start (drop start ts)) (joined_values (Fixed fixed.Method ∷ []) (Behind before) (tt, tt)) (begin_reader before);
+}
+
+pub head_read_many : (ts : List Token) (before names at : ℕ) → there is_read (slice_get ts at) ≡ true → 64 ≤ before → read (Methods before ∷ []) names at (drop at ts) ≡ Err (at, TooMany)
+head_read_many ts before names at is le =
+    read_begins ts before names at is
+    ∙ ap (λ (m : Mark). passing m at (read (Fixed fixed.Method ∷ Behind before) 0 (at + 1) (drop (at + 1) ts) >>= λ vs. Ok (begin_reader before vs))) (many_methods before le)
+
+pub head_word_stops : (ts : List Token) (before names at : ℕ) (fault : Fault) → there is_read (slice_get ts at) ≡ true → before < 64 → ((n : ℕ) → Stops ts (Fixed fixed.Method ∷ []) n (at + 1) fault)
+    → read (Methods before ∷ []) names at (drop at ts) ≡ Err fault
+head_word_stops ts before names at fault is lt word =
+    read_runs ts before names at is lt
+    ∙ ap (λ (r : Result (Values (Fixed fixed.Method ∷ Behind before)) Fault). r >>= λ vs. Ok (begin_reader before vs)) ((word 0).goes (Behind before))
+
+-- no method, where the text does not end behind one
+pub head_none : (ts : List Token) (before names at : ℕ) (o : Option Token) → slice_get ts at ≡ o → there is_method o ≡ false → there is_read o ≡ false → (0 < before → at < length ts)
+    → read (Methods before ∷ []) names at (drop at ts) ≡ Err (at, Unexpected)
+unfolding read
+head_none ts zero names at None is none no_read more = ap (read (Methods zero ∷ []) names at) (drop_none ts at is)
+head_none ts (suc before) names at None is none no_read more = let lt = more (search (rules, tests)) in let le = past ts at is in absurd (omega (arith, lt, le))
+  where
+    past : (ts : List Token) (at : ℕ) → slice_get ts at ≡ None → length ts ≤ at
+    past [] at e = search (rules, tests)
+    past (t ∷ ts) zero e = absurd cc
+    past (t ∷ ts) (suc at) e = let le = past ts at e in omega (arith, le)
+head_none ts before names at (Some t) is none no_read more = (stops_none ts (Methods before) names at (Some t) is (by t none no_read)).goes []
+  where
+    by : (t : Token) → is_method t ≡ false → is_read t ≡ false → expand (Methods before) t ≡ None
+    by (token.Sign symbol.Method) e f = absurd cc
+    by (token.Sign symbol.Read) e f = absurd cc
+    by _ e f = refl
+
+-- ---- methods one after the other
 
 length_after : (ms : List TextMethod) (m : TextMethod) → length (ms ++ m ∷ []) ≡ length ms + 1
 length_after [] m = refl
 length_after (x ∷ xs) m = let e = length_after xs m in omega (arith, e)
 
-pub listing_goes : (ts : List Token) (end behind : ℕ) (ms new : List TextMethod) (m : TextMethod) → Listing ts ms end → there is_method (slice_get ts end) ≡ true → length ms < 64 → TakesMethod ts m (end + 1) behind → new ≡ ms ++ m ∷ []
+-- the words of the method behind so many
+pub head_so_far : (ts : List Token) (before end start : ℕ) (ms : List TextMethod) (is_read : Bool) → before ≡ length ms → TakesHead ts before is_read end start → TakesHead ts (length ms) is_read end start
+head_so_far ts before end start ms is_read same head = subst (λ (n : ℕ). TakesHead ts n is_read end start) same head
+
+pub listing_goes : (ts : List Token) (end start behind : ℕ) (ms new : List TextMethod) (is_read : Bool) (m : TextMethod) → Listing ts ms end → TakesHead ts (length ms) is_read end start → TakesMethod ts is_read m start behind → new ≡ ms ++ m ∷ []
     → Listing ts new behind
-listing_goes ts end behind ms new m so_far is lt x pushed =
+listing_goes ts end start behind ms new is_read m so_far given x pushed =
+    let head : TakesHead ts (length ms) m.is_read end start = subst (λ (b : Bool). TakesHead ts (length ms) b end start) (sym x.promise) given in
     subst (λ (ns : List TextMethod). Listing ts ns behind) (sym pushed) (record {
       names = x.after;
       goes =
           so_far.goes
           ∙ ap (λ (r : Result (Values (Methods (length ms) ∷ [])) Fault). r >>= λ vs. Ok (behind_methods (length ms) ms vs))
-          (method_runs ts (length ms) so_far.names end is lt
-          ∙ ap (λ (r : Result (Values (method_items ++ (Methods (length ms + 1) ∷ []))) Fault). r >>= λ vs. Ok (begin_method (length ms) vs)) (x.takes.goes (Methods (length ms + 1) ∷ []))
-          ∙ bound_twice (read (Methods (length ms + 1) ∷ []) x.after behind (drop behind ts)) (joined_values method_items (Methods (length ms + 1) ∷ []) (m.name, (tt, (m.parameters, (tt, (m.body, tt)))))) (begin_method (length ms)))
+          (head.goes so_far.names
+          ∙ ap (λ (r : Result (Values (Behind (length ms))) Fault). r >>= λ vs. Ok (begin_method m.is_read (length ms) vs)) (x.takes.goes (Methods (length ms + 1) ∷ []))
+          ∙ bound_twice (read (Methods (length ms + 1) ∷ []) x.after behind (drop behind ts)) (joined_values method_items (Methods (length ms + 1) ∷ []) (m.name, (tt, (m.parameters, (tt, (m.body, tt)))))) (begin_method m.is_read (length ms)))
           ∙ bound_twice (read (Methods (length ms + 1) ∷ []) x.after behind (drop behind ts)) (λ vs. paired (Methods (length ms)) [] (m ∷ vs.0) tt) (behind_methods (length ms) ms)
           ∙ put (length ms + 1) (read (Methods (length ms + 1) ∷ []) x.after behind (drop behind ts))
           ∙ counts (length_after ms m);
@@ -124,36 +195,14 @@ listing_halts : (ts : List Token) (end : ℕ) (ms : List TextMethod) (fault : Fa
 listing_halts ts end ms fault so_far e =
     program_of ts (stopped_at 0 fault) (so_far.goes ∙ ap (λ (r : Result (Values (Methods (length ms) ∷ [])) Fault). r >>= λ vs. Ok (behind_methods (length ms) ms vs)) e)
 
-pub listing_stops : (ts : List Token) (end : ℕ) (ms : List TextMethod) (fault : Fault) → Listing ts ms end → there is_method (slice_get ts end) ≡ true → length ms < 64 → Stops ts method_items 0 (end + 1) fault → program ts ≡ Err fault
-listing_stops ts end ms fault so_far is lt x =
+pub listing_headless : (ts : List Token) (before end : ℕ) (ms : List TextMethod) (fault : Fault) → Listing ts ms end → before ≡ length ms → ((names : ℕ) → read (Methods before ∷ []) names end (drop end ts) ≡ Err fault) → program ts ≡ Err fault
+listing_headless ts before end ms fault so_far same none =
+    listing_halts ts end ms fault so_far (subst (λ (n : ℕ). read (Methods n ∷ []) so_far.names end (drop end ts) ≡ stopped_at n fault) same (none so_far.names))
+
+pub listing_stops : (ts : List Token) (end start : ℕ) (ms : List TextMethod) (is_read : Bool) (fault : Fault) → Listing ts ms end → TakesHead ts (length ms) is_read end start → Stops ts method_items 0 start fault → program ts ≡ Err fault
+listing_stops ts end start ms is_read fault so_far head x =
     listing_halts ts end ms fault so_far
-    (method_runs ts (length ms) so_far.names end is lt
-    ∙ ap (λ (r : Result (Values (method_items ++ (Methods (length ms + 1) ∷ []))) Fault). r >>= λ vs. Ok (begin_method (length ms) vs)) (x.goes (Methods (length ms + 1) ∷ [])))
-
-pub listing_many : (ts : List Token) (end : ℕ) (ms : List TextMethod) → Listing ts ms end → there is_method (slice_get ts end) ≡ true → 64 ≤ length ms → program ts ≡ Err (end, TooMany)
-listing_many ts end ms so_far is le =
-    listing_halts ts end ms (end, TooMany) so_far
-    (method_begins ts (length ms) so_far.names end is
-    ∙ ap (λ (m : Mark). passing m end (read (method_items ++ (Methods (length ms + 1) ∷ [])) 0 (end + 1) (drop (end + 1) ts) >>= λ vs. Ok (begin_method (length ms) vs))) (many_methods (length ms) le))
-
--- no method, where the text does not end behind one
-no_method : (ts : List Token) (before names at : ℕ) (o : Option Token) → slice_get ts at ≡ o → there is_method o ≡ false → (0 < before → at < length ts) → read (Methods before ∷ []) names at (drop at ts) ≡ Err (at, Unexpected)
-unfolding read
-no_method ts zero names at None is none more = ap (read (Methods zero ∷ []) names at) (drop_none ts at is)
-no_method ts (suc before) names at None is none more = let lt = more (search (rules, tests)) in let le = past ts at is in absurd (omega (arith, lt, le))
-  where
-    past : (ts : List Token) (at : ℕ) → slice_get ts at ≡ None → length ts ≤ at
-    past [] at e = search (rules, tests)
-    past (t ∷ ts) zero e = absurd cc
-    past (t ∷ ts) (suc at) e = let le = past ts at e in omega (arith, le)
-no_method ts before names at (Some t) is none more = (stops_none ts (Methods before) names at (Some t) is (by t none)).goes []
-  where
-    by : (t : Token) → is_method t ≡ false → expand (Methods before) t ≡ None
-    by (token.Sign symbol.Method) e = absurd cc
-    by _ e = refl
-
-pub listing_none : (ts : List Token) (end : ℕ) (ms : List TextMethod) → Listing ts ms end → there is_method (slice_get ts end) ≡ false → (0 < length ms → end < length ts) → program ts ≡ Err (end, Unexpected)
-listing_none ts end ms so_far none more = listing_halts ts end ms (end, Unexpected) so_far (no_method ts (length ms) so_far.names end (slice_get ts end) refl none more)
+    (head.goes so_far.names ∙ ap (λ (r : Result (Values (Behind (length ms))) Fault). r >>= λ vs. Ok (begin_method is_read (length ms) vs)) (x.goes (Methods (length ms + 1) ∷ [])))
 
 drop_past : (ts : List Token) (at : ℕ) → length ts ≤ at → drop at ts ≡ []
 drop_past [] zero le = refl

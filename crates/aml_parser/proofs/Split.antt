@@ -90,6 +90,7 @@ sign_found fixed.Close = refl
 sign_found fixed.OpenBrace = refl
 sign_found fixed.Semicolon = refl
 sign_found fixed.Assign = refl
+sign_found fixed.Method = refl
 
 sign_no_operator : (s : Sign) → operator_of (symbol_of s) ≡ None
 sign_no_operator fixed.Open = refl
@@ -97,6 +98,7 @@ sign_no_operator fixed.Close = refl
 sign_no_operator fixed.OpenBrace = refl
 sign_no_operator fixed.Semicolon = refl
 sign_no_operator fixed.Assign = refl
+sign_no_operator fixed.Method = refl
 
 operator_found : (o : Operator) → operator_of (sign o) ≡ Some o
 operator_found operator.Or = refl
@@ -218,7 +220,7 @@ split_letting depth (Valued e rest) h =
 split_block : (depth : ℕ) (b : Value (Block depth)) → Fits (Block depth) b → Split (Block depth) b
 split_block depth (End line) h = record { token = token.CloseBrace line; is_token = tt; production = _; found = refl; parts = tt; made = refl; fits = tt; closed = λ s c. c }
 split_block depth (Let line v value rest) h = record {
-  token = token.Sign symbol.Let;
+  token = token.Let line;
   is_token = tt;
   production = _;
   found = refl;
@@ -228,7 +230,7 @@ split_block depth (Let line v value rest) h = record {
   closed = λ s c. c;
 }
 split_block depth (Call line v target m es rest) h = record {
-  token = token.Sign symbol.Let;
+  token = token.Let line;
   is_token = tt;
   production = _;
   found = refl;
@@ -338,16 +340,29 @@ split_more_parameters [] h = record { token = token.Sign symbol.Close; is_token 
 split_more_parameters (w ∷ ws) h = record { token = token.Sign symbol.Comma; is_token = tt; production = _; found = refl; parts = (w, (ws, tt)); made = refl; fits = (h.0, (h.1, tt)); closed = λ s c. c }
 
 split_methods : (before : ℕ) (m : TextMethod) (ms : List TextMethod) → Fits (Methods before) (m ∷ ms) → Split (Methods before) (m ∷ ms)
-split_methods before m ms h = record {
-  token = token.Sign symbol.Method;
-  is_token = tt;
-  production = _;
-  found = refl;
-  parts = (m.name, (tt, (m.parameters, (tt, (m.body, (ms, tt))))));
-  made = refl;
-  fits = (h.1.0.name, (tt, (h.1.0.parameters, (tt, (h.1.0.body, ((λ e. absurd (omega (arith, e)), h.1.1), tt))))));
-  closed = λ s c. c;
-}
+split_methods before m ms h = by m.is_read refl
+  where
+    by : (b : Bool) → m.is_read ≡ b → Split (Methods before) (m ∷ ms)
+    by false is = record {
+      token = token.Sign symbol.Method;
+      is_token = tt;
+      production = _;
+      found = refl;
+      parts = (m.name, (tt, (m.parameters, (tt, (m.body, (ms, tt))))));
+      made = ap (λ (b : Bool). record { is_read = b; name = m.name; parameters = m.parameters; body = m.body } ∷ ms) is;
+      fits = (h.1.0.name, (tt, (h.1.0.parameters, (tt, (h.1.0.body, ((λ e. absurd (omega (arith, e)), h.1.1), tt))))));
+      closed = λ s c. c;
+    }
+    by true is = record {
+      token = token.Sign symbol.Read;
+      is_token = tt;
+      production = _;
+      found = refl;
+      parts = (tt, (m.name, (tt, (m.parameters, (tt, (m.body, (ms, tt)))))));
+      made = ap (λ (b : Bool). record { is_read = b; name = m.name; parameters = m.parameters; body = m.body } ∷ ms) is;
+      fits = (tt, (h.1.0.name, (tt, (h.1.0.parameters, (tt, (h.1.0.body, ((λ e. absurd (omega (arith, e)), h.1.1), tt)))))));
+      closed = λ s c. c;
+    }
 
 -- ---- every value
 

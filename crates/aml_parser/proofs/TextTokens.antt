@@ -10,7 +10,7 @@ use Rattle.aml_tokens.specs.declared.tokens.Symbol.{Symbol}
 use Rattle.aml_tokens.specs.declared.tokens.TextCause.{TextCause}
 use Rattle.aml_tokens.specs.declared.tokens.TextCause.TheVariants.{BadByte, BadToken, NumberRange, TooMany}
 use Rattle.aml_tokens.specs.Bytes.{is_letter, is_digit, is_word_byte, is_blank, begins_comparison, symbol_bytes, keywords, signs}
-use Rattle.aml_tokens.specs.Token.{Token, Name, Number, Field, Sign, CloseBrace}
+use Rattle.aml_tokens.specs.Token.{Token, Name, Number, Field, Sign, Let, CloseBrace}
 use Rattle.aml_tokens.specs.Lexing.{Piece, joins, ended, pieces_from, pieces, without_comments, symbol_of, field_of, field_words, is_plain, number_token, either, word_token, sign_token, token_in, within, token_at, onto, tokens_in, tokens, places, Tokens, line_at}
 
 -- ---- tests
@@ -143,22 +143,23 @@ or_true : (t : Bool) → t ≡ true → (t || false) ≡ true
 or_true t e = rw e refl
 
 good_word : (line b : ℕ) (bs : List ℕ) → IsRun (b ∷ bs) → is_letter b ≡ true → IsGood (word_token line (b ∷ bs))
-good_word line b bs run letter = by (symbol_of keywords (b ∷ bs)) refl (field_of 0 field_words (b ∷ bs)) refl (nat_le (length (b ∷ bs)) 32) refl
+good_word line b bs run letter = by (bytes_eq (b ∷ bs) (codes "let")) refl (symbol_of keywords (b ∷ bs)) refl (field_of 0 field_words (b ∷ bs)) refl (nat_le (length (b ∷ bs)) 32) refl
   where
     word_byte : is_word_byte b ≡ true
     word_byte = rw letter refl
 
-    by : (s : Option Symbol) → symbol_of keywords (b ∷ bs) ≡ s → (f : Option ℕ) → field_of 0 field_words (b ∷ bs) ≡ f → (t : Bool) → nat_le (length (b ∷ bs)) 32 ≡ t
-        → IsGood (either s (λ s. Ok (Sign s)) (either f (λ k. Ok (Field k line)) (if t then Ok (Name (record { name = b ∷ bs; line = line })) else Err BadToken)))
-    by (Some s) a f x t y = tt
-    by None a (Some k) x t y = some_field field_words 0 k (b ∷ bs) x
-    by None a None x false y = tt
-    by None a None x true y = record {
+    by : (l : Bool) → bytes_eq (b ∷ bs) (codes "let") ≡ l → (s : Option Symbol) → symbol_of keywords (b ∷ bs) ≡ s → (f : Option ℕ) → field_of 0 field_words (b ∷ bs) ≡ f → (t : Bool) → nat_le (length (b ∷ bs)) 32 ≡ t
+        → IsGood (if l then Ok (Let line) else either s (λ s. Ok (Sign s)) (either f (λ k. Ok (Field k line)) (if t then Ok (Name (record { name = b ∷ bs; line = line })) else Err BadToken)))
+    by true l s a f x t y = tt
+    by false l (Some s) a f x t y = tt
+    by false l None a (Some k) x t y = some_field field_words 0 k (b ∷ bs) x
+    by false l None a None x false y = tt
+    by false l None a None x true y = record {
       first = or_true (is_letter b) letter;
       bytes = run (rw letter refl);
       short = search (rules, tests);
-      free = list_any-append (λ (word : List ℕ). bytes_eq word (b ∷ bs)) (map symbol_bytes keywords) field_words
-          ∙ neither (list_any (λ (word : List ℕ). bytes_eq word (b ∷ bs)) (map symbol_bytes keywords)) (list_any (λ (word : List ℕ). bytes_eq word (b ∷ bs)) field_words) (no_keyword keywords (b ∷ bs) a) (no_field 0 field_words (b ∷ bs) x);
+      free = rw (differ (b ∷ bs) (codes "let") l) (list_any-append (λ (word : List ℕ). bytes_eq word (b ∷ bs)) (map symbol_bytes keywords) field_words
+          ∙ neither (list_any (λ (word : List ℕ). bytes_eq word (b ∷ bs)) (map symbol_bytes keywords)) (list_any (λ (word : List ℕ). bytes_eq word (b ∷ bs)) field_words) (no_keyword keywords (b ∷ bs) a) (no_field 0 field_words (b ∷ bs) x));
     }
 
 good_sign : (line : ℕ) (bytes : List ℕ) → IsGood (sign_token line bytes)

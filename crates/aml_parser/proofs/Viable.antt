@@ -1,6 +1,6 @@
 -- Where reading stops, values of the grammar begin with the tokens up to there and pass no limit in
 -- them, and they go on with the next one where that passes a limit.
-use Rattle.std.proofs.Common.{◌≡◌, ℕ, suc, ◌+◌, ◌<◌, ◌≤◌, codes, List, [], ◌∷◌, ◌++◌, length, take, Some, None, Err, refl, sym, ap, subst, ◌∙◌, inl, inr, ◌⊎◌, slice_get, arith}
+use Rattle.std.proofs.Common.{false, ◌≡◌, ℕ, suc, ◌+◌, ◌<◌, ◌≤◌, codes, List, [], ◌∷◌, ◌++◌, length, take, Some, None, Err, refl, sym, ap, subst, ◌∙◌, inl, inr, ◌⊎◌, slice_get, arith}
 use Rattle.std.specs.List.{AllByRecursion}
 use Rattle.aml_tokens.specs.Names.{IsToken}
 use Rattle.aml_tokens.specs.declared.tokens.TextCause.{TextCause}
@@ -50,7 +50,7 @@ any (Block depth) = End 0
 any (After depth) = Without (End 0)
 any Parameters = []
 any MoreParameters = []
-any (Methods before) = record { name = any_word; parameters = []; body = End 0 } ∷ []
+any (Methods before) = record { is_read = false; name = any_word; parameters = []; body = End 0 } ∷ []
 
 any_fits : (i : Item) → Fits i (any i)
 any_fits Called = is_any_word

@@ -22,6 +22,7 @@ symbol_of fixed.Close = symbol.Close
 symbol_of fixed.OpenBrace = symbol.OpenBrace
 symbol_of fixed.Semicolon = symbol.Semicolon
 symbol_of fixed.Assign = symbol.Assign
+symbol_of fixed.Method = symbol.Method
 
 -- ---- tokens of values
 

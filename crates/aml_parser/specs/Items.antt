@@ -178,6 +178,7 @@ is_sign fixed.Close symbol.Close = true
 is_sign fixed.OpenBrace symbol.OpenBrace = true
 is_sign fixed.Semicolon symbol.Semicolon = true
 is_sign fixed.Assign symbol.Assign = true
+is_sign fixed.Method symbol.Method = true
 is_sign _ _ = false
 
 -- the level that a sign opens at the end of an expression
@@ -228,6 +229,7 @@ target_by depth (token.Number n) = Some (single Plain (Number n))
 target_by depth (token.Name w) = Some (single Plain (Variable w))
 target_by depth (token.Field k line) = Some (single Plain (Field k line))
 target_by depth (token.Sign s) = target_by_sign depth s
+target_by depth (token.Let line) = None
 target_by depth (token.CloseBrace line) = None
 
 abbrev pub is_minus : Token → Bool
@@ -277,16 +279,15 @@ letting_by depth t =
     })
     else followed {i = Expression depth (To fixed.Semicolon)} {j = Letting depth} (Block depth ∷ []) (λ e vs. Valued e.0 vs.0) (expression_by depth (To fixed.Semicolon) t)
 
-abbrev pub let_of : Word → LetRest → Code Word Word
-let_of v (Valued value rest) = Let line v value rest
-let_of v (Calling target m arguments rest) = Call line v target m arguments rest
+abbrev pub let_of : ℕ → Word → LetRest → Code Word Word
+let_of line v (Valued value rest) = Let line v value rest
+let_of line v (Calling target m arguments rest) = Call line v target m arguments rest
 
 abbrev pub if_of : Expr Word → Code Word Word → IfRest → Code Word Word
 if_of condition first (Without rest) = If condition first rest
 if_of condition first (WithElse other rest) = IfElse condition first other rest
 
 abbrev pub block_by_sign : (depth : ℕ) → Symbol → Option (Production (Block depth))
-block_by_sign depth symbol.Let = Some (record { event = Plain; items = New ∷ Fixed fixed.Assign ∷ Letting depth ∷ []; make = λ vs. let_of vs.0 vs.1.1.0 })
 block_by_sign depth symbol.If =
     Some (record { event = Plain; items = Expression depth (To fixed.OpenBrace) ∷ Block (depth + 1) ∷ After depth ∷ []; make = λ vs. if_of vs.0.0 vs.1.0 vs.1.1.0 })
 block_by_sign depth symbol.While =
@@ -300,6 +301,7 @@ block_by depth (token.CloseBrace line) = Some (single Plain (End line))
 block_by depth (token.Name w) = Some (record { event = Plain; items = Fixed fixed.Assign ∷ Expression depth (To fixed.Semicolon) ∷ Block depth ∷ []; make = λ vs. Set w vs.1.0.0 vs.1.1.0 })
 block_by depth (token.Field k line) = Some (record { event = Plain; items = Fixed fixed.Assign ∷ Expression depth (To fixed.Semicolon) ∷ Block depth ∷ []; make = λ vs. SetField line k vs.1.0.0 vs.1.1.0 })
 block_by depth (token.Sign s) = block_by_sign depth s
+block_by depth (token.Let line) = Some (record { event = Plain; items = New ∷ Fixed fixed.Assign ∷ Letting depth ∷ []; make = λ vs. let_of line vs.0 vs.1.1.0 })
 block_by depth (token.Number n) = None
 
 abbrev pub is_else : Token → Bool
@@ -332,13 +334,24 @@ abbrev pub is_method : Token → Bool
 is_method (token.Sign symbol.Method) = true
 is_method _ = false
 
-abbrev pub methods_by : (before : ℕ) → Token → Option (Production (Methods before))
-methods_by before t =
-    on_test (is_method t) (record {
+abbrev pub is_read : Token → Bool
+is_read (token.Sign symbol.Read) = true
+is_read _ = false
+
+abbrev pub methods_by_sign : (before : ℕ) → Symbol → Option (Production (Methods before))
+methods_by_sign before symbol.Method =
+    Some (record {
       event = Begins before;
       items = Called ∷ Opening 0 fixed.Open ∷ Parameters ∷ Opening 0 fixed.OpenBrace ∷ Block 1 ∷ Methods (before + 1) ∷ [];
-      make = λ vs. record { name = vs.0; parameters = vs.1.1.0; body = vs.1.1.1.1.0 } ∷ vs.1.1.1.1.1.0;
+      make = λ vs. record { is_read = false; name = vs.0; parameters = vs.1.1.0; body = vs.1.1.1.1.0 } ∷ vs.1.1.1.1.1.0;
     })
+methods_by_sign before symbol.Read =
+    Some (record {
+      event = Begins before;
+      items = Fixed fixed.Method ∷ Called ∷ Opening 0 fixed.Open ∷ Parameters ∷ Opening 0 fixed.OpenBrace ∷ Block 1 ∷ Methods (before + 1) ∷ [];
+      make = λ vs. record { is_read = true; name = vs.1.0; parameters = vs.1.1.1.0; body = vs.1.1.1.1.1.0 } ∷ vs.1.1.1.1.1.1.0;
+    })
+methods_by_sign before _ = None
 
 -- what an item's first token is followed by
 abbrev pub expand : (i : Item) → Token → Option (Production i)
@@ -358,4 +371,4 @@ expand (Block depth) t = block_by depth t
 expand (After depth) t = after_by depth t
 expand Parameters t = parameters_by t
 expand MoreParameters t = more_parameters_by t
-expand (Methods before) t = methods_by before t
+expand (Methods before) t = on_sign (methods_by_sign before) t

@@ -129,14 +129,14 @@ may_close depth _ = true
 pub record Rests (ts : List Token) (depth : ℕ) (j : Item) (f : Code Word Word → Value j) (names at after end : ℕ) : Type 0 where
   pub goes : (s : List Item) → read (j ∷ s) names at (drop at ts) ≡ (read (Block depth ∷ s) after end (drop end ts) >>= λ vs. Ok (f vs.0, vs.1))
 
--- what stands behind `let`, the variable and `=`, up to the rest of the block
-pub record TakesLet (ts : List Token) (depth : ℕ) (v : Word) (part : Onto Word Word) (names at after end : ℕ) : Type 0 where
+-- what stands behind `let`, in a line, the variable and `=`, up to the rest of the block
+pub record TakesLet (ts : List Token) (depth line : ℕ) (v : Word) (part : Onto Word Word) (names at after end : ℕ) : Type 0 where
   pub rest : Code Word Word → LetRest
-  pub made : (code : Code Word Word) → part code ≡ let_of v (rest code)
+  pub made : (code : Code Word Word) → part code ≡ let_of line v (rest code)
   pub rests : Rests ts depth (Letting depth) rest names at after end
 
-abbrev pub ReadsLet : {X : Type 0} → (ts : List Token) → ℕ → Word → (X → Onto Word Word) → (X → ℕ) → ℕ → Result X ReadNo → Type 0
-ReadsLet ts depth v view end at result = Reads (λ x. (names : ℕ) → TakesLet ts depth v (view x) names at names (end x)) (λ fault. (names : ℕ) → Stops ts (Letting depth ∷ []) names at fault) result
+abbrev pub ReadsLet : {X : Type 0} → (ts : List Token) → ℕ → ℕ → Word → (X → Onto Word Word) → (X → ℕ) → ℕ → Result X ReadNo → Type 0
+ReadsLet ts depth line v view end at result = Reads (λ x. (names : ℕ) → TakesLet ts depth line v (view x) names at names (end x)) (λ fault. (names : ℕ) → Stops ts (Letting depth ∷ []) names at fault) result
 
 -- an item from a number of names on up to another, a part of a block, and an item that ends with the
 -- block's rest
@@ -146,16 +146,28 @@ ReadsFrom ts i view after end names at result = Reads (λ x. Takes ts (i ∷ [])
 abbrev pub ReadsPart : {X : Type 0} → (ts : List Token) → ℕ → (X → Onto Word Word) → (X → ℕ) → (X → ℕ) → ℕ → ℕ → Result X ReadNo → Type 0
 ReadsPart ts depth view after end names at result = Reads (λ x. TakesPart ts depth (view x) names at (after x) (end x)) (λ fault. Stops ts (Block depth ∷ []) names at fault) result
 
--- a method behind the word `method`, where names are counted anew, up to some number of them
+-- a method behind the words with which it begins, where names are counted anew, up to some number of them
 abbrev pub method_items : List Item
 method_items = Called ∷ Opening 0 fixed.Open ∷ Parameters ∷ Opening 0 fixed.OpenBrace ∷ Block 1 ∷ []
 
-pub record TakesMethod (ts : List Token) (m : TextMethod) (at end : ℕ) : Type 0 where
+pub record TakesMethod (ts : List Token) (is_read : Bool) (m : TextMethod) (at end : ℕ) : Type 0 where
+  pub promise : m.is_read ≡ is_read
   pub after : ℕ
   pub takes : Takes ts method_items (m.name, (tt, (m.parameters, (tt, (m.body, tt))))) 0 at after end
 
-abbrev pub ReadsMethod : {X : Type 0} → (ts : List Token) → (X → TextMethod) → (X → ℕ) → ℕ → Result X ReadNo → Type 0
-ReadsMethod ts view end at result = Reads (λ x. TakesMethod ts (view x) at (end x)) (λ fault. Stops ts method_items 0 at fault) result
+abbrev pub ReadsMethod : {X : Type 0} → (ts : List Token) → Bool → (X → TextMethod) → (X → ℕ) → ℕ → Result X ReadNo → Type 0
+ReadsMethod ts is_read view end at result = Reads (λ x. TakesMethod ts is_read (view x) at (end x)) (λ fault. Stops ts method_items 0 at fault) result
+
+-- the value that a method's parts make, with that of the methods behind it
+abbrev pub begin_method : (is_read : Bool) → (before : ℕ) → Values (method_items ++ (Methods (before + 1) ∷ [])) → Values (Methods before ∷ [])
+begin_method is_read before vs = (record { is_read = is_read; name = vs.0; parameters = vs.1.1.0; body = vs.1.1.1.1.0 } ∷ vs.1.1.1.1.1.0, tt)
+
+-- the words with which a method begins behind so many others, from a place up to another
+pub record TakesHead (ts : List Token) (before : ℕ) (is_read : Bool) (at start : ℕ) : Type 0 where
+  pub goes : (names : ℕ) → read (Methods before ∷ []) names at (drop at ts) ≡ (read (method_items ++ (Methods (before + 1) ∷ [])) 0 start (drop start ts) >>= λ vs. Ok (begin_method is_read before vs))
+
+abbrev pub ReadsHead : {X : Type 0} → (ts : List Token) → ℕ → (X → Bool) → (X → ℕ) → ℕ → Result X ReadNo → Type 0
+ReadsHead ts before view start at result = Reads (λ x. TakesHead ts before (view x) at (start x)) (λ fault. (names : ℕ) → read (Methods before ∷ []) names at (drop at ts) ≡ Err fault) result
 
 -- a name, whatever item it is
 abbrev pub is_name : Token → Bool

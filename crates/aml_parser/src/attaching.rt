@@ -29,7 +29,9 @@ pub(crate) fn attach(
         Expression::Variable(variable) => {
             joined(alloc, Expression::Variable(variable), operator, operand)
         }
-        Expression::Field(field) => joined(alloc, Expression::Field(field), operator, operand),
+        Expression::Field { field, line } => {
+            joined(alloc, Expression::Field { field, line }, operator, operand)
+        }
         Expression::Own => joined(alloc, Expression::Own, operator, operand),
         Expression::Group(inner) => joined(alloc, Expression::Group(inner), operator, operand),
         Expression::Negative(inner) => {

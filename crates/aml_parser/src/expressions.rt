@@ -34,8 +34,9 @@ pub(crate) fn primary(
         Some(Token::Name { name, line }) => {
             Ok((makers::variable(word(alloc, name, line)?), at + 1))
         }
-        Some(Token::Field(field)) => Ok((makers::field(field), at + 1)),
+        Some(Token::Field { field, line }) => Ok((makers::field(field, line), at + 1)),
         Some(Token::Symbol(symbol)) => primary_by(alloc, tokens, depth, at, symbol),
+        Some(Token::Let { line: _ }) => Err(unexpected(at)),
         Some(Token::CloseBrace { line: _ }) => Err(unexpected(at)),
         None => Err(unexpected(at)),
     }

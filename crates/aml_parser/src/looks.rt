@@ -3,7 +3,7 @@
 ghost use Rattle.std.specs.Prelude.{◌≡◌, true, ◌<◌, length, IfOk, IsSome, option_map, slice_get};
 ghost use Rattle.aml_tokens.specs.Token.{token_of, tokens_of};
 ghost use Rattle.aml_tree.specs.Grammar.{level};
-ghost use Rattle.aml_parser.specs.Items.{allowed, compares, is_call, is_close, is_comma, is_else, is_method, is_minus, is_sign, operator_of};
+ghost use Rattle.aml_parser.specs.Items.{allowed, compares, is_call, is_close, is_comma, is_else, is_method, is_minus, is_read, is_sign, operator_of};
 ghost use Rattle.aml_parser.specs.Reading.{if_allowed, operator_there, sign_there, there};
 
 use crate::readers::{ReadNo, Sign};
@@ -75,6 +75,7 @@ fn is_sign(sign: Sign, symbol: Symbol) -> bool
         Sign::OpenBrace => symbol == Symbol::OpenBrace,
         Sign::Semicolon => symbol == Symbol::Semicolon,
         Sign::Assign => symbol == Symbol::Assign,
+        Sign::Method => symbol == Symbol::Method,
     }
 }
 
@@ -128,6 +129,13 @@ pub(crate) fn is_method_at(tokens: &[Token<'_>], at: usize) -> bool
     ensures within { result ≡ true → at < length tokens.now }
 {
     matches!(token_at(tokens, at), Some(Token::Symbol(Symbol::Method)))
+}
+
+pub(crate) fn is_read_at(tokens: &[Token<'_>], at: usize) -> bool
+    ensures sign { result ≡ there is_read (slice_get (tokens_of tokens.now) at) }
+    ensures within { result ≡ true → at < length tokens.now }
+{
+    matches!(token_at(tokens, at), Some(Token::Symbol(Symbol::Read)))
 }
 
 // ---- operators

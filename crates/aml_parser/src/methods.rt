@@ -4,12 +4,11 @@ ghost use Rattle.std.specs.Prelude.{◌≡◌, true, false, ℕ, ◌+◌, ◌<�
 ghost use Rattle.aml_tokens.specs.Token.{tokens_of};
 ghost use Rattle.aml_tree.specs.Tree.{method_tree};
 ghost use Rattle.aml_parser.specs.Items as item;
-ghost use Rattle.aml_parser.specs.Items.{is_method};
-ghost use Rattle.aml_parser.specs.Reading.{ReadsFrom, ReadsMethod, Reads, there, program};
+ghost use Rattle.aml_parser.specs.Reading.{ReadsFrom, ReadsHead, ReadsMethod, Reads, program};
 
-use crate::looks::{is_close_at, is_comma_at, is_method_at, too_many, unexpected};
+use crate::looks::{is_close_at, is_comma_at, is_method_at, is_read_at, too_many, unexpected};
 use crate::readers::{ReadNo, Sign};
-use crate::signs::{called_at, open, parameter_at};
+use crate::signs::{called_at, open, parameter_at, skip};
 use crate::statements::block;
 use aml_tokens::{Token, Word};
 use aml_tree::{MOST_METHODS, Method};
@@ -45,13 +44,38 @@ fn parameters(
     }
 }
 
-/// A method behind the word `method`.
+/// The words with which a method begins behind so many others: whether `read` is among them, and the place
+/// behind them.
+fn head(tokens: &[Token<'_>], before: usize, at: usize) -> Result<(bool, usize), ReadNo>
+    requires { 0 < before → at < length tokens.now }
+    ensures reads { ReadsHead (tokens_of tokens.now) before (λ x. x.0) (λ x. x.1) at result }
+    ensures onward { IfOk result (λ x. at < x.1) }
+    ensures within { IfOk result (λ _. at < length tokens.now) }
+{
+    if is_method_at(tokens, at) {
+        if before >= MOST_METHODS {
+            return Err(too_many(at));
+        }
+        return Ok((false, at + 1));
+    }
+    if !is_read_at(tokens, at) {
+        return Err(unexpected(at));
+    }
+    if before >= MOST_METHODS {
+        return Err(too_many(at));
+    }
+    let start = skip(tokens, Sign::Method, at + 1)?;
+    Ok((true, start))
+}
+
+/// A method behind the words with which it begins.
 fn method(
     alloc: Global,
     tokens: &[Token<'_>],
+    is_read: bool,
     at: usize,
 ) -> Result<(Method<Word, Word>, usize), ReadNo>
-    ensures reads { ReadsMethod (tokens_of tokens.now) (λ x. method_tree x.0) (λ x. x.1) at result }
+    ensures reads { ReadsMethod (tokens_of tokens.now) is_read (λ x. method_tree x.0) (λ x. x.1) at result }
     ensures onward { IfOk result (λ x. at < x.1) }
 {
     let (name, opening) = called_at(alloc, tokens, at)?;
@@ -60,6 +84,7 @@ fn method(
     let first = open(tokens, 0, Sign::OpenBrace, closed)?;
     let (body, _, end) = block(alloc, tokens, 1, count, first)?;
     let method = Method {
+        is_read,
         name,
         parameters: Sequence::from_vec(words),
         body,
@@ -89,13 +114,8 @@ pub(crate) fn methods(
         if may_end(tokens, before, end) {
             return Ok(methods);
         }
-        if !is_method_at(tokens, end) {
-            return Err(unexpected(end));
-        }
-        if before >= MOST_METHODS {
-            return Err(too_many(end));
-        }
-        let (method, behind) = method(alloc, tokens, end + 1)?;
+        let (is_read, start) = head(tokens, before, end)?;
+        let (method, behind) = method(alloc, tokens, is_read, start)?;
         put_method(&mut methods, method)?;
         end = behind;
     }

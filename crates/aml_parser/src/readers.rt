@@ -9,7 +9,7 @@ pub(crate) enum ReadNo {
     Memory,
 }
 
-/// A sign that a rule of the grammar names.
+/// A sign or a word that a rule of the grammar names.
 #[derive(Clone, Copy)]
 pub(crate) enum Sign {
     Open,
@@ -17,6 +17,8 @@ pub(crate) enum Sign {
     OpenBrace,
     Semicolon,
     Assign,
+    /// The word `method` behind `read`.
+    Method,
 }
 
 impl From<Memory> for ReadNo {

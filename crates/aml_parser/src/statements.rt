@@ -44,16 +44,17 @@ fn set_field_at(
     names: usize,
     at: usize,
     field: u8,
+    line: u32,
 ) -> Result<(Statement<Word, Word>, usize, usize), ReadNo>
     requires deep { depth ≤ MOST_LEVELS }
     requires within { at < length tokens.now }
-    requires there { slice_get (tokens_of tokens.now) at ≡ Some (spec_token.Field field) }
+    requires there { slice_get (tokens_of tokens.now) at ≡ Some (spec_token.Field field line) }
     ensures reads { ReadsPart (tokens_of tokens.now) depth (λ x. statement_tree x.0) (λ x. x.1) (λ x. x.2) names at result }
     ensures onward { IfOk result (λ x. at < x.2) }
 {
     let start = skip(tokens, Sign::Assign, at + 1)?;
     let (value, end) = expression(alloc, tokens, depth, Sign::Semicolon, start)?;
-    Ok((makers::field_statement(field, value), names, end))
+    Ok((makers::field_statement(line, field, value), names, end))
 }
 
 /// The end of the method with a value; `return` stands at the place.
@@ -91,18 +92,19 @@ fn fail_at(
     Ok((makers::fail_statement(code), names, end))
 }
 
-/// A call whose answer a new variable takes; `call` stands at the place.
+/// A call whose answer a new variable takes, in a statement that begins in a line; `call` stands at the place.
 fn call_at(
     alloc: Global,
     tokens: &[Token<'_>],
     depth: usize,
     at: usize,
+    line: u32,
     variable: Word,
 ) -> Result<(Statement<Word, Word>, usize), ReadNo>
     requires deep { depth ≤ MOST_LEVELS }
     requires within { at < length tokens.now }
     requires there { there is_call (slice_get (tokens_of tokens.now) at) ≡ true }
-    ensures reads { ReadsLet (tokens_of tokens.now) depth variable (λ x. statement_tree x.0) (λ x. x.1) at result }
+    ensures reads { ReadsLet (tokens_of tokens.now) depth line variable (λ x. statement_tree x.0) (λ x. x.1) at result }
     ensures onward { IfOk result (λ x. at < x.1) }
 {
     let (target, named) = primary(alloc, tokens, depth, at + 1)?;
@@ -111,7 +113,7 @@ fn call_at(
     let (values, closed) = arguments(alloc, tokens, depth + 1, start)?;
     let end = skip(tokens, Sign::Semicolon, closed)?;
     Ok((
-        makers::call_statement(variable, target, method, values),
+        makers::call_statement(line, variable, target, method, values),
         end,
     ))
 }
@@ -123,21 +125,22 @@ fn let_at(
     depth: usize,
     names: usize,
     at: usize,
+    line: u32,
 ) -> Result<(Statement<Word, Word>, usize, usize), ReadNo>
     requires deep { depth ≤ MOST_LEVELS }
     requires within { at < length tokens.now }
-    requires there { slice_get (tokens_of tokens.now) at ≡ Some (spec_token.Sign Symbol.Let) }
+    requires there { slice_get (tokens_of tokens.now) at ≡ Some (spec_token.Let line) }
     ensures reads { ReadsPart (tokens_of tokens.now) depth (λ x. statement_tree x.0) (λ x. x.1) (λ x. x.2) names at result }
     ensures onward { IfOk result (λ x. at < x.2) }
 {
     let (variable, behind) = new_at(alloc, tokens, names, at + 1)?;
     let start = skip(tokens, Sign::Assign, behind)?;
     if is_call_at(tokens, start) {
-        let (statement, end) = call_at(alloc, tokens, depth, start, variable)?;
+        let (statement, end) = call_at(alloc, tokens, depth, start, line, variable)?;
         return Ok((statement, names + 1, end));
     }
     let (value, end) = expression(alloc, tokens, depth, Sign::Semicolon, start)?;
-    Ok((makers::let_statement(variable, value), names + 1, end))
+    Ok((makers::let_statement(line, variable, value), names + 1, end))
 }
 
 /// A loop; `while` stands at the place.
@@ -206,7 +209,6 @@ fn by_keyword(
     ensures onward { IfOk result (λ x. at < x.2) }
 {
     match symbol {
-        Symbol::Let => let_at(alloc, tokens, depth, names, at),
         Symbol::If => if_at(alloc, tokens, depth, names, at),
         Symbol::While => while_at(alloc, tokens, depth, names, at),
         Symbol::Fail => fail_at(tokens, depth, names, at),
@@ -234,7 +236,10 @@ fn statement(
         Some(Token::Name { name, line }) => {
             set_at(alloc, tokens, depth, names, at, word(alloc, name, line)?)
         }
-        Some(Token::Field(field)) => set_field_at(alloc, tokens, depth, names, at, field),
+        Some(Token::Field { field, line }) => {
+            set_field_at(alloc, tokens, depth, names, at, field, line)
+        }
+        Some(Token::Let { line }) => let_at(alloc, tokens, depth, names, at, line),
         Some(Token::Symbol(symbol)) => by_keyword(alloc, tokens, depth, names, at, symbol),
         Some(Token::Number(_)) => Err(unexpected(at)),
         Some(Token::CloseBrace { line: _ }) => Err(unexpected(at)),

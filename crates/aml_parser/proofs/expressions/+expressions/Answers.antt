@@ -96,7 +96,7 @@ primary-returns-in-Some-Number-clause-reads t c =
 pub primary-returns-in-Some-Field-clause-reads : goal.primary-returns-in-Some-Field-clause-reads
 primary-returns-in-Some-Field-clause-reads t c =
     let there = rw c.in-Some-Field.field-0-is at c.in-Some-Field.ensures.token in
-    rw c.field.ensures (target_one (tokens_of c.args.tokens.now) c.args.depth c.args.at (token.Field c.in-Some-Field.field) _ (sym there) refl)
+    rw c.field.ensures (target_one (tokens_of c.args.tokens.now) c.args.depth c.args.at (token.Field c.in-Some-Field.field c.in-Some-Field.line) _ (sym there) refl)
 
 pub primary-returns-in_ok-word-in-Some-Name-clause-reads : goal.primary-returns-in_ok-word-in-Some-Name-clause-reads
 primary-returns-in_ok-word-in-Some-Name-clause-reads t c =
@@ -104,10 +104,15 @@ primary-returns-in_ok-word-in-Some-Name-clause-reads t c =
     rw (c.variable.ensures, c.in_ok-word-in-Some-Name.ensures)
     (target_one (tokens_of c.args.tokens.now) c.args.depth c.args.at (token.Name (record { name = c.in-Some-Name.name.now; line = c.in-Some-Name.line })) _ (sym there) refl)
 
+pub primary-returns-in-Some-Let-clause-reads : goal.primary-returns-in-Some-Let-clause-reads
+primary-returns-in-Some-Let-clause-reads t c =
+    let there = rw c.in-Some-Let.field-0-is at c.in-Some-Let.ensures.token in
+    rw c.unexpected.ensures (target_none (tokens_of c.args.tokens.now) c.args.depth c.args.at (Some (token.Let c.in-Some-Let.field-0-0)) (sym there) refl)
+
 pub primary-returns-in-Some-CloseBrace-clause-reads : goal.primary-returns-in-Some-CloseBrace-clause-reads
 primary-returns-in-Some-CloseBrace-clause-reads t c =
     let there = rw c.in-Some-CloseBrace.field-0-is at c.in-Some-CloseBrace.ensures.token in
-    rw c.unexpected.ensures (target_none (tokens_of c.args.tokens.now) c.args.depth c.args.at (Some (token.CloseBrace c.in-Some-CloseBrace.field-0-0)) (sym there) refl)
+    rw c.unexpected-in-Some-CloseBrace.ensures (target_none (tokens_of c.args.tokens.now) c.args.depth c.args.at (Some (token.CloseBrace c.in-Some-CloseBrace.field-0-0)) (sym there) refl)
 
 pub primary-returns-in-None-clause-reads : goal.primary-returns-in-None-clause-reads
 primary-returns-in-None-clause-reads t c =

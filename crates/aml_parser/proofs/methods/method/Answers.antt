@@ -1,3 +1,4 @@
+use Rattle.std.proofs.Common.{refl}
 use Rattle.std.proofs.lemmas.Result.{err_from_is_err_and}
 use Rattle.aml_tokens.specs.Token.{tokens_of}
 use Rattle.aml_tree.specs.Tree.{block_tree}
@@ -39,6 +40,6 @@ returns-in_err-body-clause-reads c =
 pub returns-clause-reads : goal.returns-clause-reads
 returns-clause-reads c =
     rw c.from_vec.ensures
-    (method_takes (tokens_of c.args.tokens.now) c.args.at c.in_ok-name.opening c.in_ok-start.start c.in_ok-words.closed c.in_ok-first.first c.in_ok-words.count _ c.in_ok-body.end
-    (record { name = c.in_ok-name.name; parameters = c.in_ok-words.words.items; body = block_tree c.in_ok-body.body })
-    c.in_ok-name.ensures.reads c.in_ok-start.ensures.reads c.in_ok-words.ensures.reads c.in_ok-first.ensures.reads c.in_ok-body.ensures.reads)
+    (method_takes (tokens_of c.args.tokens.now) c.args.is_read c.args.at c.in_ok-name.opening c.in_ok-start.start c.in_ok-words.closed c.in_ok-first.first c.in_ok-words.count _ c.in_ok-body.end
+    (record { is_read = c.args.is_read; name = c.in_ok-name.name; parameters = c.in_ok-words.words.items; body = block_tree c.in_ok-body.body })
+    refl c.in_ok-name.ensures.reads c.in_ok-start.ensures.reads c.in_ok-words.ensures.reads c.in_ok-first.ensures.reads c.in_ok-body.ensures.reads)

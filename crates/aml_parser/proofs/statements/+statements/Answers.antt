@@ -70,7 +70,7 @@ if_at-returns-clause-reads t c =
 pub by_keyword-returns-in_default-clause-reads : goal.by_keyword-returns-in_default-clause-reads
 by_keyword-returns-in_default-clause-reads t c =
     rw c.unexpected.ensures
-    (no_statement (tokens_of c.args.tokens.now) c.args.depth c.args.names c.args.at _ c.requires.there (no_keyword c.args.depth c.args.symbol c.in_default.not-Let c.in_default.not-If c.in_default.not-While c.in_default.not-Fail c.in_default.not-Return))
+    (no_statement (tokens_of c.args.tokens.now) c.args.depth c.args.names c.args.at _ c.requires.there (no_keyword c.args.depth c.args.symbol c.in_default.not-If c.in_default.not-While c.in_default.not-Fail c.in_default.not-Return))
 
 pub statement-returns-in-Some-Number-clause-reads : goal.statement-returns-in-Some-Number-clause-reads
 statement-returns-in-Some-Number-clause-reads t c =

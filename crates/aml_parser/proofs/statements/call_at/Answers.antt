@@ -39,5 +39,5 @@ returns-in_err-end-clause-reads c =
 
 pub returns-clause-reads : goal.returns-clause-reads
 returns-clause-reads c =
-    call_reads (tokens_of c.args.tokens.now) c.args.depth c.args.at c.in_ok-target.named c.in_ok-method.opening c.in_ok-start.start c.in_ok-values.closed c.in_ok-end.end c.args.variable c.in_ok-method.method (expression_tree c.in_ok-target.target)
+    call_reads (tokens_of c.args.tokens.now) c.args.depth c.args.at c.args.line c.in_ok-target.named c.in_ok-method.opening c.in_ok-start.start c.in_ok-values.closed c.in_ok-end.end c.args.variable c.in_ok-method.method (expression_tree c.in_ok-target.target)
     (map expression_tree c.in_ok-values.values.items) (statement_tree c.call_statement.result) c.requires.there c.call_statement.ensures c.in_ok-target.ensures.reads c.in_ok-method.ensures.reads c.in_ok-start.ensures.reads c.in_ok-values.ensures.reads c.in_ok-end.ensures.reads
