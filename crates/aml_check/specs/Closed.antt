@@ -35,6 +35,19 @@ IsClosedBlock p n (While condition body rest) = IsClosedExpression n condition �
 IsClosedBlock p n (Fail code rest) = ((1 ≤ code) × (code ≤ GREATEST_CODE)) × IsClosedBlock p n rest
 IsClosedBlock p n (Return value rest) = IsClosedExpression n value × IsClosedBlock p n rest
 
+-- it assigns no field, and each method that it calls promises only to read
+abbrev pub OnlyReads : List CheckedMethod → Code ℕ ℕ → Type 0
+OnlyReads p (End line) = Unit {0}
+OnlyReads p (Let line v value rest) = OnlyReads p rest
+OnlyReads p (Call line v target m arguments rest) = IsTrue (method_at p m).is_read × OnlyReads p rest
+OnlyReads p (Set v value rest) = OnlyReads p rest
+OnlyReads p (SetField line k value rest) = ⊥
+OnlyReads p (If condition first rest) = OnlyReads p first × OnlyReads p rest
+OnlyReads p (IfElse condition first other rest) = OnlyReads p first × OnlyReads p other × OnlyReads p rest
+OnlyReads p (While condition body rest) = OnlyReads p body × OnlyReads p rest
+OnlyReads p (Fail code rest) = OnlyReads p rest
+OnlyReads p (Return value rest) = OnlyReads p rest
+
 -- how many blocks are open at most, with this one
 abbrev pub nesting : Code ℕ ℕ → ℕ
 nesting (End line) = 1
@@ -85,6 +98,7 @@ pub record IsClosedMethod (p : List CheckedMethod) (m : CheckedMethod) : Type 0 
   pub deep : nesting m.body ≤ MOST_LEVELS
   pub body : IsClosedBlock p (length m.parameters) m.body
   pub ended : IsTrue (ends m.body)
+  pub promise : IsTrue m.is_read → OnlyReads p m.body
 
 -- no two are the same
 abbrev pub AreDistinct : List (List ℕ) → Type 0

@@ -74,6 +74,16 @@ impl Checked {
         methods[method as usize].parameters.len() as u8
     }
 
+    /// Whether a method promises only to read. Where it does, its body keeps the promise, as of every checked
+    /// program.
+    pub fn is_read(&self, method: u16) -> bool
+        requires { method < length (methods_of self.now) }
+        ensures { result ≡ (method_at (methods_of self.now) method).is_read }
+    {
+        let methods = self.program.methods.as_slice();
+        methods[method as usize].is_read
+    }
+
     /// What a method does.
     pub fn body(&self, method: u16) -> &Block<Statement<u8, u16>>
         requires { method < length (methods_of self.now) }

@@ -1,5 +1,5 @@
 -- A program with all in the first line: its tokens, its grammar, its limits and its words.
-use Rattle.std.proofs.Common.{◌≡◌, ℕ, ◌+◌, ◌-◌, ◌<◌, ◌≤◌, None, List, [], ◌∷◌, ◌++◌, length, map, refl, sym, ap, subst, ◌∙◌}
+use Rattle.std.proofs.Common.{◌≡◌, ℕ, ◌+◌, ◌-◌, ◌<◌, ◌≤◌, Bool, true, false, None, List, [], ◌∷◌, ◌++◌, length, map, refl, sym, ap, subst, ◌∙◌}
 use Rattle.std.specs.List.{AllByRecursion}
 use Rattle.std.proofs.lemmas.List.{map-append, length-map}
 use Rattle.std.proofs.lemmas.List.Concat.{flat_map-cons}
@@ -10,8 +10,8 @@ use Rattle.aml_tokens.specs.Token.{Token, Name, Sign}
 use Rattle.aml_tokens.specs.Lexing.{stop, tokens}
 use Rattle.aml_tokens.specs.Names.{IsToken}
 use Rattle.aml_tokens.specs.Writing.{nothing_written, with_tokens, in_first_line, IsReadBack}
-use Rattle.aml_tree.specs.Tree.{Expr, Number, Variable, Field, Own, Group, Negative, Binary, Code, End, Let, Call, Set, SetField, If, IfElse, While, Fail, Return, TextMethod, renamed_expression, without_lines, bare}
-use Rattle.aml_tree.specs.Grammar.{sign, spelling, listed, block_spelling, name_spelling, method_spelling, program_spelling, IsWord, IsAt, IsExpression, IsPrimary, IsBlock, IsMethod, level, lean}
+use Rattle.aml_tree.specs.Tree.{Expr, Number, Variable, Field, Own, Group, Negative, Binary, Code, End, Let, Call, Set, SetField, If, IfElse, While, Fail, Return, TextMethod, bare_expression, without_lines, bare}
+use Rattle.aml_tree.specs.Grammar.{sign, spelling, listed, block_spelling, name_spelling, read_spelling, method_spelling, program_spelling, IsWord, IsAt, IsExpression, IsPrimary, IsBlock, IsMethod, level, lean}
 use Rattle.aml_tree.specs.Limits.{Mark, marks, lets, block_marks, parameter_marks, method_marks, methods_marks}
 use Rattle.aml_tree.specs.Programs.{IsUnmarked, IsProgram, IsProgramText, IsTextOf}
 use Rattle.aml_print.specs.Printing.{after}
@@ -24,14 +24,20 @@ abbrev name_of : Word → List ℕ
 name_of w = w.name
 
 abbrev lined : Expr Word → Expr Word
-lined e = renamed_expression one e
+lined (Number n) = Number n
+lined (Variable w) = Variable (one w)
+lined (Field k line) = Field k 1
+lined Own = Own
+lined (Group e) = Group (lined e)
+lined (Negative e) = Negative (lined e)
+lined (Binary o a b) = Binary o (lined a) (lined b)
 
 abbrev block_lined : Code Word Word → Code Word Word
 block_lined (End line) = End 1
-block_lined (Let line v value rest) = Let line (one v) (lined value) (block_lined rest)
-block_lined (Call line v target m arguments rest) = Call line (one v) (lined target) (one m) (map lined arguments) (block_lined rest)
+block_lined (Let line v value rest) = Let 1 (one v) (lined value) (block_lined rest)
+block_lined (Call line v target m arguments rest) = Call 1 (one v) (lined target) (one m) (map lined arguments) (block_lined rest)
 block_lined (Set v value rest) = Set (one v) (lined value) (block_lined rest)
-block_lined (SetField line k value rest) = SetField line k (lined value) (block_lined rest)
+block_lined (SetField line k value rest) = SetField 1 k (lined value) (block_lined rest)
 block_lined (If condition first rest) = If (lined condition) (block_lined first) (block_lined rest)
 block_lined (IfElse condition first other rest) = IfElse (lined condition) (block_lined first) (block_lined other) (block_lined rest)
 block_lined (While condition body rest) = While (lined condition) (block_lined body) (block_lined rest)
@@ -39,7 +45,7 @@ block_lined (Fail code rest) = Fail code (block_lined rest)
 block_lined (Return value rest) = Return (lined value) (block_lined rest)
 
 abbrev method_lined : TextMethod → TextMethod
-method_lined m = record { name = one m.name; parameters = map one m.parameters; body = block_lined m.body }
+method_lined m = record { is_read = m.is_read; name = one m.name; parameters = map one m.parameters; body = block_lined m.body }
 
 -- ---- tokens
 
@@ -105,9 +111,17 @@ block_spelling_lined (Fail code rest) = rw (block_spelling_lined rest) refl
 block_spelling_lined (Return value rest) =
     rw (value_lined value (Sign symbol.Semicolon) (block_spelling rest) (block_spelling (block_lined rest)) (block_spelling_lined rest)) refl
 
+read_lined : (b : Bool) → read_spelling b ≡ map in_first_line (read_spelling b)
+read_lined true = refl
+read_lined false = refl
+
 method_spelling_lined : (m : TextMethod) → method_spelling (method_lined m) ≡ map in_first_line (method_spelling m)
 method_spelling_lined m =
-    rw (joined_lined (listed (map name_spelling m.parameters)) (listed (map name_spelling (map one m.parameters))) (Sign symbol.Close ∷ Sign symbol.OpenBrace ∷ block_spelling m.body) (Sign symbol.Close ∷ Sign symbol.OpenBrace ∷ block_spelling (block_lined m.body)) (parameters_lined m.parameters) (rw (block_spelling_lined m.body) refl)) refl
+    joined_lined (read_spelling m.is_read) (read_spelling m.is_read)
+    (Sign symbol.Method ∷ Name m.name ∷ Sign symbol.Open ∷ (listed (map name_spelling m.parameters) ++ Sign symbol.Close ∷ Sign symbol.OpenBrace ∷ block_spelling m.body))
+    (Sign symbol.Method ∷ Name (one m.name) ∷ Sign symbol.Open ∷ (listed (map name_spelling (map one m.parameters)) ++ Sign symbol.Close ∷ Sign symbol.OpenBrace ∷ block_spelling (block_lined m.body)))
+    (read_lined m.is_read)
+    (rw (joined_lined (listed (map name_spelling m.parameters)) (listed (map name_spelling (map one m.parameters))) (Sign symbol.Close ∷ Sign symbol.OpenBrace ∷ block_spelling m.body) (Sign symbol.Close ∷ Sign symbol.OpenBrace ∷ block_spelling (block_lined m.body)) (parameters_lined m.parameters) (rw (block_spelling_lined m.body) refl)) refl)
 
 program_spelling_lined : (p : List TextMethod) → program_spelling (map method_lined p) ≡ map in_first_line (program_spelling p)
 program_spelling_lined [] = refl
@@ -221,7 +235,7 @@ program_lined p h = record {
 
 -- ---- words
 
-expression_words : (e : Expr Word) → renamed_expression name_of (lined e) ≡ renamed_expression name_of e
+expression_words : (e : Expr Word) → bare_expression (lined e) ≡ bare_expression e
 expression_words (Number n) = refl
 expression_words (Variable w) = refl
 expression_words (Field k line) = refl
@@ -230,7 +244,7 @@ expression_words (Group e) = rw (expression_words e) refl
 expression_words (Negative e) = rw (expression_words e) refl
 expression_words (Binary o a b) = rw (expression_words a, expression_words b) refl
 
-given_words : (es : List (Expr Word)) → map (renamed_expression name_of) (map lined es) ≡ map (renamed_expression name_of) es
+given_words : (es : List (Expr Word)) → map bare_expression (map lined es) ≡ map bare_expression es
 given_words [] = refl
 given_words (e ∷ es) = rw (expression_words e, given_words es) refl
 

@@ -1,12 +1,12 @@
 -- The tokens of a program's tree are tokens that a text may have.
-use Rattle.std.proofs.Common.{ℕ, ◌-◌, List, [], ◌∷◌, ◌++◌, map, subst, sym}
+use Rattle.std.proofs.Common.{ℕ, ◌-◌, Bool, true, false, List, [], ◌∷◌, ◌++◌, map, subst, sym}
 use Rattle.std.specs.List.{AllByRecursion}
 use Rattle.std.proofs.lemmas.List.Concat.{flat_map-cons}
 use Rattle.aml_tokens.specs.declared.tokens.Word.{Word}
 use Rattle.aml_tokens.specs.Token.{Token}
 use Rattle.aml_tokens.specs.Names.{IsToken}
 use Rattle.aml_tree.specs.Tree.{Expr, Number, Variable, Field, Own, Group, Negative, Binary, Code, End, Let, Call, Set, SetField, If, IfElse, While, Fail, Return, TextMethod}
-use Rattle.aml_tree.specs.Grammar.{spelling, listed, block_spelling, name_spelling, method_spelling, program_spelling, IsWord, IsAt, IsExpression, IsPrimary, IsBlock, IsMethod, level, lean}
+use Rattle.aml_tree.specs.Grammar.{spelling, listed, block_spelling, name_spelling, read_spelling, method_spelling, program_spelling, IsWord, IsAt, IsExpression, IsPrimary, IsBlock, IsMethod, level, lean}
 
 abbrev Are : List Token → Type 0
 Are ts = AllByRecursion IsToken ts
@@ -60,8 +60,12 @@ block (While condition body rest) h = (tt, both (spelling condition) _ (expressi
 block (Fail code rest) h = (tt, (h.0, (tt, block rest h.1)))
 block (Return value rest) h = (tt, both (spelling value) _ (expression value 5 h.0) (tt, block rest h.1))
 
+read_word : (b : Bool) → Are (read_spelling b)
+read_word true = (tt, tt)
+read_word false = tt
+
 method : (m : TextMethod) → IsMethod m → Are (method_spelling m)
-method m h = (tt, (h.name, (tt, both (listed (map name_spelling m.parameters)) _ (all_listed (map name_spelling m.parameters) (parameters m.parameters h.parameters)) (tt, (tt, block m.body h.body)))))
+method m h = both (read_spelling m.is_read) _ (read_word m.is_read) (tt, (h.name, (tt, both (listed (map name_spelling m.parameters)) _ (all_listed (map name_spelling m.parameters) (parameters m.parameters h.parameters)) (tt, (tt, block m.body h.body)))))
 
 pub program_tokens : (p : List TextMethod) → AllByRecursion IsMethod p → AllByRecursion IsToken (program_spelling p)
 program_tokens [] h = tt

@@ -39,8 +39,13 @@ fn write_statement(
     ensures { OnOk result (Writes writer.old writer.new (statement_tree statement.now)) }
 {
     match statement {
-        Statement::Let { variable, value } => write_let(alloc, writer, variable, value),
+        Statement::Let {
+            line,
+            variable,
+            value,
+        } => write_let(alloc, writer, *line, variable, value),
         Statement::Call {
+            line,
             variable,
             target,
             method,
@@ -48,13 +53,16 @@ fn write_statement(
         } => write_call(
             alloc,
             writer,
+            *line,
             variable,
             target,
             method,
             arguments.as_slice(),
         ),
         Statement::Set { variable, value } => write_set(alloc, writer, variable, value),
-        Statement::SetField { field, value } => write_set_field(alloc, writer, *field, value),
+        Statement::SetField { line, field, value } => {
+            write_set_field(alloc, writer, *line, *field, value)
+        }
         Statement::If { condition, first } => {
             write_head(alloc, writer, Symbol::If, condition)?;
             write_block(alloc, writer, first)?;

@@ -22,7 +22,7 @@ pub(crate) fn write_expression(
     match expression {
         Expression::Number(number) => write_number(alloc, writer, *number),
         Expression::Variable(word) => write_word(writer, word),
-        Expression::Field(field) => write_field(writer, *field),
+        Expression::Field { field, line } => write_field(writer, *field, *line),
         Expression::Own => write_symbol(writer, Symbol::Own),
         Expression::Group(inner) => {
             write_symbol(writer, Symbol::Open)?;

@@ -7,7 +7,7 @@ ghost use Rattle.aml_tree.specs.Programs.{IsProgram, IsProgramText, IsTextOf};
 ghost use Rattle.aml_print.specs.Printing.{after};
 
 use crate::blocks::write_block;
-use crate::tokens::{write_comma, write_symbol, write_word};
+use crate::tokens::{write_comma, write_read, write_symbol, write_word};
 use aml_tokens::{LONGEST_PROGRAM, Symbol, Word, Writer, tokens_are_read, written_is_read};
 use aml_tree::{Method, Program};
 use snap_base::Memory;
@@ -60,6 +60,7 @@ fn write_method(
 ) -> Result<(), Memory>
     ensures { OnOk result (writer.new ≡ after writer.old (method_spelling (method_tree method.now))) }
 {
+    write_read(writer, method.is_read)?;
     write_symbol(writer, Symbol::Method)?;
     write_word(writer, &method.name)?;
     write_symbol(writer, Symbol::Open)?;

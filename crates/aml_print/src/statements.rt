@@ -8,7 +8,7 @@ ghost use Rattle.aml_tree.specs.Grammar.{spelling};
 ghost use Rattle.aml_print.specs.Printing.{after, Writes};
 
 use crate::expressions::{write_arguments, write_expression};
-use crate::tokens::{write_field, write_number, write_symbol, write_word};
+use crate::tokens::{write_field, write_let_word, write_number, write_symbol, write_word};
 use aml_tokens::{Symbol, Word, Writer};
 use aml_tree::Expression;
 use snap_base::Memory;
@@ -17,12 +17,13 @@ use std::alloc::Global;
 pub(crate) fn write_let(
     alloc: Global,
     writer: &mut Writer,
+    line: u32,
     variable: &Word,
     value: &Expression<Word>,
 ) -> Result<(), Memory>
-    ensures { OnOk result (Writes writer.old writer.new (Let variable.now (expression_tree value.now))) }
+    ensures { OnOk result (Writes writer.old writer.new (Let line variable.now (expression_tree value.now))) }
 {
-    write_symbol(writer, Symbol::Let)?;
+    write_let_word(writer, line)?;
     write_word(writer, variable)?;
     write_symbol(writer, Symbol::Assign)?;
     write_value(alloc, writer, value)?;
@@ -32,14 +33,15 @@ pub(crate) fn write_let(
 pub(crate) fn write_call(
     alloc: Global,
     writer: &mut Writer,
+    line: u32,
     variable: &Word,
     target: &Expression<Word>,
     method: &Word,
     arguments: &[Expression<Word>],
 ) -> Result<(), Memory>
-    ensures { OnOk result (Writes writer.old writer.new (Call variable.now (expression_tree target.now) method.now (map expression_tree arguments.now))) }
+    ensures { OnOk result (Writes writer.old writer.new (Call line variable.now (expression_tree target.now) method.now (map expression_tree arguments.now))) }
 {
-    write_symbol(writer, Symbol::Let)?;
+    write_let_word(writer, line)?;
     write_word(writer, variable)?;
     write_symbol(writer, Symbol::Assign)?;
     write_symbol(writer, Symbol::Call)?;
@@ -69,12 +71,13 @@ pub(crate) fn write_set(
 pub(crate) fn write_set_field(
     alloc: Global,
     writer: &mut Writer,
+    line: u32,
     field: u8,
     value: &Expression<Word>,
 ) -> Result<(), Memory>
-    ensures { OnOk result (Writes writer.old writer.new (SetField field (expression_tree value.now))) }
+    ensures { OnOk result (Writes writer.old writer.new (SetField line field (expression_tree value.now))) }
 {
-    write_field(writer, field)?;
+    write_field(writer, field, line)?;
     write_symbol(writer, Symbol::Assign)?;
     write_value(alloc, writer, value)?;
     Ok(())

@@ -1,7 +1,8 @@
 //! Single tokens.
 
 ghost use Rattle.std.specs.Prelude.{◌≡◌, ◌∷◌, [], OnOk};
-ghost use Rattle.aml_tokens.specs.Token.{Name, Number, Field, Sign, CloseBrace};
+ghost use Rattle.aml_tokens.specs.Token.{Name, Number, Field, Sign, Let, CloseBrace};
+ghost use Rattle.aml_tree.specs.Grammar.{read_spelling};
 ghost use Rattle.aml_print.specs.Printing.{after, comma_before};
 
 use aml_tokens::{Symbol, Word, Writer};
@@ -32,11 +33,21 @@ pub(crate) fn write_number(alloc: Global, writer: &mut Writer, number: u64) -> R
     Ok(())
 }
 
+/// Writes a field, whatever its line was.
 #[tactic(auto, unfolding(crate::specs::Printing::after))]
-pub(crate) fn write_field(writer: &mut Writer, field: u8) -> Result<(), Memory>
-    ensures { OnOk result (writer.new ≡ after writer.old (Field field ∷ [])) }
+pub(crate) fn write_field(writer: &mut Writer, field: u8, _line: u32) -> Result<(), Memory>
+    ensures { OnOk result (writer.new ≡ after writer.old (Field field _line ∷ [])) }
 {
     writer.field(field)?;
+    Ok(())
+}
+
+/// Writes `let`, whatever its line was.
+#[tactic(auto, unfolding(crate::specs::Printing::after))]
+pub(crate) fn write_let_word(writer: &mut Writer, _line: u32) -> Result<(), Memory>
+    ensures { OnOk result (writer.new ≡ after writer.old (Let _line ∷ [])) }
+{
+    writer.let_word()?;
     Ok(())
 }
 
@@ -46,6 +57,17 @@ pub(crate) fn write_close_brace(writer: &mut Writer, _line: u32) -> Result<(), M
     ensures { OnOk result (writer.new ≡ after writer.old (CloseBrace _line ∷ [])) }
 {
     writer.close_brace()?;
+    Ok(())
+}
+
+/// Writes `read` where a method has that word.
+#[tactic(auto, unfolding(crate::specs::Printing::after))]
+pub(crate) fn write_read(writer: &mut Writer, is_read: bool) -> Result<(), Memory>
+    ensures { OnOk result (writer.new ≡ after writer.old (read_spelling is_read)) }
+{
+    if is_read {
+        writer.symbol(Symbol::Read)?;
+    }
     Ok(())
 }
 

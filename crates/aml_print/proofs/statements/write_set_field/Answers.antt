@@ -12,6 +12,6 @@ returns c = λ rest.
     let behind = words ++ Sign symbol.Semicolon ∷ block_spelling rest in
     let w1 = c.write_field.new.writer in
     let w2 = c.write_symbol.new.writer in
-    goes c.args.writer.now w1 (Field c.args.field ∷ []) (Sign symbol.Assign ∷ behind) c.in_ok-write_field.ensures
+    goes c.args.writer.now w1 (Field c.args.field c.args.line ∷ []) (Sign symbol.Assign ∷ behind) c.in_ok-write_field.ensures
     ∙ goes w1 w2 (Sign symbol.Assign ∷ []) behind c.in_ok-write_symbol.ensures
     ∙ goes_past w2 c.write_value.new.writer words (Sign symbol.Semicolon) (block_spelling rest) c.in_ok-write_value.ensures
