@@ -17,7 +17,7 @@ use Rattle.aml_resolver.specs.declared.faults.CheckFault.{CheckFault}
 use Rattle.aml_resolver.specs.declared.faults.CheckCause.TheVariants.{UnknownName, ArgCount}
 use Rattle.aml_resolver.specs.Names.{place_from, place_of, placed, checked_expression, checked_block, checked_method, checked_program}
 use Rattle.aml_check.specs.Names.{method_names, method_at, no_method, counted_from}
-use Rattle.aml_resolver.specs.Faults.{at, unknown, duplicate, faults, call_faults_at, call_faults, block_faults}
+use Rattle.aml_resolver.specs.Faults.{at, unknown, duplicate, faults, call_faults_at, call_faults, is_writer, promise_faults, block_faults}
 use Rattle.aml_check.specs.Closed.{IsClosedExpression, IsClosedCall, IsClosedBlock}
 use Rattle.aml_resolver.proofs.Lookup.{among_from}
 
@@ -69,7 +69,7 @@ place_by : (b : Bool) (k n : ℕ) (o : Option ℕ) → IfSome o (λ j. j < (k + 
 place_by true k n o h = omega arith
 place_by false k n o h = if_later k n o h
 
-place_in : (k : ℕ) (ns : List (List ℕ)) (name : List ℕ) → IfSome (place_from k ns name) (λ j. j < k + length ns)
+pub place_in : (k : ℕ) (ns : List (List ℕ)) (name : List ℕ) → IfSome (place_from k ns name) (λ j. j < k + length ns)
 place_in k [] name = tt
 place_in k (n ∷ ns) name =
     let P : ℕ → Type 0 = λ m. IfSome (place_from k (n ∷ ns) name) (λ j. j < k + m) in
@@ -167,19 +167,20 @@ closed_next c ns x b closed =
 abbrev AllUnmarked : List Mark → Type 0
 AllUnmarked ms = AllByRecursion IsUnmarked ms
 
-pub closed_block : (p : List TextMethod) (ns : List (List ℕ)) (d k : ℕ) (b : Code Word Word) → IsBlock b → block_faults p ns b ≡ [] → AllUnmarked (block_marks d k b) → IsClosedBlock (checked_program p) (length ns) (checked_block (method_names p) ns b)
-closed_block p ns d k (End line) rule none free = tt
-closed_block p ns d k (Let line v value rest) rule none free =
-    let later = none_right (duplicate ns v) (faults ns value ++ block_faults p (ns ++ v.name ∷ []) rest) none in (
+pub closed_block : (p : List TextMethod) (r : Bool) (ns : List (List ℕ)) (d k : ℕ) (b : Code Word Word) → IsBlock b → block_faults p r ns b ≡ [] → AllUnmarked (block_marks d k b) → IsClosedBlock (checked_program p) (length ns) (checked_block (method_names p) ns b)
+closed_block p r ns d k (End line) rule none free = tt
+closed_block p r ns d k (Let line v value rest) rule none free =
+    let later = none_right (duplicate ns v) (faults ns value ++ block_faults p r (ns ++ v.name ∷ []) rest) none in (
       refl,
-      closed_expression ns 5 value rule.1 (none_left (faults ns value) (block_faults p (ns ++ v.name ∷ []) rest) later),
-      closed_next (checked_program p) ns v.name (checked_block (method_names p) (ns ++ v.name ∷ []) rest) (closed_block p (ns ++ v.name ∷ []) d (k + 1) rest rule.2 (none_right (faults ns value) (block_faults p (ns ++ v.name ∷ []) rest) later)
+      closed_expression ns 5 value rule.1 (none_left (faults ns value) (block_faults p r (ns ++ v.name ∷ []) rest) later),
+      closed_next (checked_program p) ns v.name (checked_block (method_names p) (ns ++ v.name ∷ []) rest) (closed_block p r (ns ++ v.name ∷ []) d (k + 1) rest rule.2 (none_right (faults ns value) (block_faults p r (ns ++ v.name ∷ []) rest) later)
           (all_right (marks d value) (None ∷ block_marks d (k + 1) rest) free.1.1.1).1),
     )
-closed_block p ns d k (Call line v target m arguments rest) rule none free =
-    let behind = block_faults p (ns ++ v.name ∷ []) rest in
+closed_block p r ns d k (Call line v target m arguments rest) rule none free =
+    let behind = block_faults p r (ns ++ v.name ∷ []) rest in
     let all = flat_map (faults ns) arguments in
-    let a = none_right (duplicate ns v) (faults ns target ++ (call_faults p m (length arguments) ++ (all ++ behind))) none in
+    let promised = none_right (promise_faults (r && is_writer p m) line) (duplicate ns v ++ (faults ns target ++ (call_faults p m (length arguments) ++ (all ++ behind)))) none in
+    let a = none_right (duplicate ns v) (faults ns target ++ (call_faults p m (length arguments) ++ (all ++ behind))) promised in
     let b = none_right (faults ns target) (call_faults p m (length arguments) ++ (all ++ behind)) a in
     let c = none_right (call_faults p m (length arguments)) (all ++ behind) b in
     let free_after = all_right (marks d target) (None ∷ opened d ∷ (listed_marks (map (marks (d + 1)) arguments) ++ None ∷ None ∷ block_marks d (k + 1) rest)) free.1.1.1.1 in
@@ -188,47 +189,48 @@ closed_block p ns d k (Call line v target m arguments rest) rule none free =
       closed_expression ns 0 target (primary_at target rule.1) (none_left (faults ns target) (call_faults p m (length arguments) ++ (all ++ behind)) a),
       subst P (sym (length-map arguments (checked_expression ns))) (closed_call p m (length arguments) (none_left (call_faults p m (length arguments)) (all ++ behind) b)),
       closed_all ns arguments rule.3 (none_left all behind c),
-      closed_next (checked_program p) ns v.name (checked_block (method_names p) (ns ++ v.name ∷ []) rest) (closed_block p (ns ++ v.name ∷ []) d (k + 1) rest rule.4 (none_right all behind c)
+      closed_next (checked_program p) ns v.name (checked_block (method_names p) (ns ++ v.name ∷ []) rest) (closed_block p r (ns ++ v.name ∷ []) d (k + 1) rest rule.4 (none_right all behind c)
           (all_right (listed_marks (map (marks (d + 1)) arguments)) (None ∷ None ∷ block_marks d (k + 1) rest) free_after.1.1).1.1),
     )
-closed_block p ns d k (Set v value rest) rule none free =
-    let later = none_right (unknown ns v) (faults ns value ++ block_faults p ns rest) none in (
-      known_place ns v (none_left (unknown ns v) (faults ns value ++ block_faults p ns rest) none),
-      closed_expression ns 5 value rule.1 (none_left (faults ns value) (block_faults p ns rest) later),
-      closed_block p ns d k rest rule.2 (none_right (faults ns value) (block_faults p ns rest) later) (all_right (marks d value) (None ∷ block_marks d k rest) free.1.1).1,
+closed_block p r ns d k (Set v value rest) rule none free =
+    let later = none_right (unknown ns v) (faults ns value ++ block_faults p r ns rest) none in (
+      known_place ns v (none_left (unknown ns v) (faults ns value ++ block_faults p r ns rest) none),
+      closed_expression ns 5 value rule.1 (none_left (faults ns value) (block_faults p r ns rest) later),
+      closed_block p r ns d k rest rule.2 (none_right (faults ns value) (block_faults p r ns rest) later) (all_right (marks d value) (None ∷ block_marks d k rest) free.1.1).1,
     )
-closed_block p ns d k (SetField line f value rest) rule none free = (
-  rule.0,
-  closed_expression ns 5 value rule.1 (none_left (faults ns value) (block_faults p ns rest) none),
-  closed_block p ns d k rest rule.2 (none_right (faults ns value) (block_faults p ns rest) none) (all_right (marks d value) (None ∷ block_marks d k rest) free.1.1).1,
-)
-closed_block p ns d k (If condition first rest) rule none free =
-    let later = none_right (faults ns condition) (block_faults p ns first ++ block_faults p ns rest) none in
+closed_block p r ns d k (SetField line f value rest) rule none free =
+    let promised = none_right (promise_faults r line) (faults ns value ++ block_faults p r ns rest) none in (
+      rule.0,
+      closed_expression ns 5 value rule.1 (none_left (faults ns value) (block_faults p r ns rest) promised),
+      closed_block p r ns d k rest rule.2 (none_right (faults ns value) (block_faults p r ns rest) promised) (all_right (marks d value) (None ∷ block_marks d k rest) free.1.1).1,
+    )
+closed_block p r ns d k (If condition first rest) rule none free =
+    let later = none_right (faults ns condition) (block_faults p r ns first ++ block_faults p r ns rest) none in
     let inside = (all_right (marks d condition) (opened d ∷ (block_marks (d + 1) k first ++ block_marks d (k + lets first) rest)) free.1).1 in (
-      closed_expression ns 5 condition rule.0 (none_left (faults ns condition) (block_faults p ns first ++ block_faults p ns rest) none),
-      closed_block p ns (d + 1) k first rule.1 (none_left (block_faults p ns first) (block_faults p ns rest) later) (all_left (block_marks (d + 1) k first) (block_marks d (k + lets first) rest) inside),
-      closed_block p ns d (k + lets first) rest rule.2 (none_right (block_faults p ns first) (block_faults p ns rest) later) (all_right (block_marks (d + 1) k first) (block_marks d (k + lets first) rest) inside),
+      closed_expression ns 5 condition rule.0 (none_left (faults ns condition) (block_faults p r ns first ++ block_faults p r ns rest) none),
+      closed_block p r ns (d + 1) k first rule.1 (none_left (block_faults p r ns first) (block_faults p r ns rest) later) (all_left (block_marks (d + 1) k first) (block_marks d (k + lets first) rest) inside),
+      closed_block p r ns d (k + lets first) rest rule.2 (none_right (block_faults p r ns first) (block_faults p r ns rest) later) (all_right (block_marks (d + 1) k first) (block_marks d (k + lets first) rest) inside),
     )
-closed_block p ns d k (IfElse condition first other rest) rule none free =
-    let one = none_right (faults ns condition) (block_faults p ns first ++ (block_faults p ns other ++ block_faults p ns rest)) none in
-    let two = none_right (block_faults p ns first) (block_faults p ns other ++ block_faults p ns rest) one in
+closed_block p r ns d k (IfElse condition first other rest) rule none free =
+    let one = none_right (faults ns condition) (block_faults p r ns first ++ (block_faults p r ns other ++ block_faults p r ns rest)) none in
+    let two = none_right (block_faults p r ns first) (block_faults p r ns other ++ block_faults p r ns rest) one in
     let ends_marks = block_marks (d + 1) (k + lets first) other ++ block_marks d (k + lets first + lets other) rest in
     let inside = (all_right (marks d condition) (opened d ∷ (block_marks (d + 1) k first ++ None ∷ opened d ∷ ends_marks)) free.1).1 in
     let last = (all_right (block_marks (d + 1) k first) (None ∷ opened d ∷ ends_marks) inside).1.1 in (
-      closed_expression ns 5 condition rule.0 (none_left (faults ns condition) (block_faults p ns first ++ (block_faults p ns other ++ block_faults p ns rest)) none),
-      closed_block p ns (d + 1) k first rule.1 (none_left (block_faults p ns first) (block_faults p ns other ++ block_faults p ns rest) one) (all_left (block_marks (d + 1) k first) (None ∷ opened d ∷ ends_marks) inside),
-      closed_block p ns (d + 1) (k + lets first) other rule.2 (none_left (block_faults p ns other) (block_faults p ns rest) two) (all_left (block_marks (d + 1) (k + lets first) other) (block_marks d (k + lets first + lets other) rest) last),
-      closed_block p ns d (k + lets first + lets other) rest rule.3 (none_right (block_faults p ns other) (block_faults p ns rest) two) (all_right (block_marks (d + 1) (k + lets first) other) (block_marks d (k + lets first + lets other) rest) last),
+      closed_expression ns 5 condition rule.0 (none_left (faults ns condition) (block_faults p r ns first ++ (block_faults p r ns other ++ block_faults p r ns rest)) none),
+      closed_block p r ns (d + 1) k first rule.1 (none_left (block_faults p r ns first) (block_faults p r ns other ++ block_faults p r ns rest) one) (all_left (block_marks (d + 1) k first) (None ∷ opened d ∷ ends_marks) inside),
+      closed_block p r ns (d + 1) (k + lets first) other rule.2 (none_left (block_faults p r ns other) (block_faults p r ns rest) two) (all_left (block_marks (d + 1) (k + lets first) other) (block_marks d (k + lets first + lets other) rest) last),
+      closed_block p r ns d (k + lets first + lets other) rest rule.3 (none_right (block_faults p r ns other) (block_faults p r ns rest) two) (all_right (block_marks (d + 1) (k + lets first) other) (block_marks d (k + lets first + lets other) rest) last),
     )
-closed_block p ns d k (While condition body rest) rule none free =
-    let later = none_right (faults ns condition) (block_faults p ns body ++ block_faults p ns rest) none in
+closed_block p r ns d k (While condition body rest) rule none free =
+    let later = none_right (faults ns condition) (block_faults p r ns body ++ block_faults p r ns rest) none in
     let inside = (all_right (marks d condition) (opened d ∷ (block_marks (d + 1) k body ++ block_marks d (k + lets body) rest)) free.1).1 in (
-      closed_expression ns 5 condition rule.0 (none_left (faults ns condition) (block_faults p ns body ++ block_faults p ns rest) none),
-      closed_block p ns (d + 1) k body rule.1 (none_left (block_faults p ns body) (block_faults p ns rest) later) (all_left (block_marks (d + 1) k body) (block_marks d (k + lets body) rest) inside),
-      closed_block p ns d (k + lets body) rest rule.2 (none_right (block_faults p ns body) (block_faults p ns rest) later) (all_right (block_marks (d + 1) k body) (block_marks d (k + lets body) rest) inside),
+      closed_expression ns 5 condition rule.0 (none_left (faults ns condition) (block_faults p r ns body ++ block_faults p r ns rest) none),
+      closed_block p r ns (d + 1) k body rule.1 (none_left (block_faults p r ns body) (block_faults p r ns rest) later) (all_left (block_marks (d + 1) k body) (block_marks d (k + lets body) rest) inside),
+      closed_block p r ns d (k + lets body) rest rule.2 (none_right (block_faults p r ns body) (block_faults p r ns rest) later) (all_right (block_marks (d + 1) k body) (block_marks d (k + lets body) rest) inside),
     )
-closed_block p ns d k (Fail code rest) rule none free = (in_bounds code 1 999 NumberRange free.1.0, closed_block p ns d k rest rule.1 none free.1.1.1)
-closed_block p ns d k (Return value rest) rule none free = (
-  closed_expression ns 5 value rule.0 (none_left (faults ns value) (block_faults p ns rest) none),
-  closed_block p ns d k rest rule.1 (none_right (faults ns value) (block_faults p ns rest) none) (all_right (marks d value) (None ∷ block_marks d k rest) free.1).1,
+closed_block p r ns d k (Fail code rest) rule none free = (in_bounds code 1 999 NumberRange free.1.0, closed_block p r ns d k rest rule.1 none free.1.1.1)
+closed_block p r ns d k (Return value rest) rule none free = (
+  closed_expression ns 5 value rule.0 (none_left (faults ns value) (block_faults p r ns rest) none),
+  closed_block p r ns d k rest rule.1 (none_right (faults ns value) (block_faults p r ns rest) none) (all_right (marks d value) (None ∷ block_marks d k rest) free.1).1,
 )

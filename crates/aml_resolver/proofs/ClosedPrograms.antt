@@ -11,7 +11,7 @@ use Rattle.aml_tokens.specs.declared.tokens.Word.{Word}
 use Rattle.aml_tokens.specs.declared.tokens.TextCause.TheVariants.{TooDeep, TooMany}
 use Rattle.aml_tree.specs.declared.trees.Method as code
 use Rattle.aml_tree.specs.Tree.{method_tree, block_tree, Code, End, Let, Call, Set, SetField, If, IfElse, While, Fail, Return, TextMethod, CheckedMethod}
-use Rattle.aml_tree.specs.Limits.{Mark, opened, marks, listed_marks, lets, block_marks, parameter_marks, method_marks, methods_marks}
+use Rattle.aml_tree.specs.Limits.{Mark, opened, marks, listed_marks, lets, block_marks, parameter_marks, head_marks, method_marks, methods_marks}
 use Rattle.aml_tree.specs.Programs.{IsUnmarked, IsProgram}
 use Rattle.aml_tree.specs.Grammar.{IsMethod}
 use Rattle.aml_resolver.specs.declared.faults.CheckCause.TheVariants.{Duplicate, NoReturn}
@@ -21,6 +21,7 @@ use Rattle.aml_check.specs.Names.{method_names, counted_from}
 use Rattle.aml_resolver.specs.Faults.{at, is_among, duplicate, repeated, block_faults, last_line, end_faults, method_faults, faults_behind, program_faults, IsCheckedProgram}
 use Rattle.aml_check.specs.Closed.{IsClosedBlock, nesting, IsClosedMethod, AreDistinct, IsClosedProgram, if_last, ends}
 use Rattle.aml_resolver.proofs.ClosedParts.{none_left, none_right, all_left, all_right, below, counted_length, closed_block}
+use Rattle.aml_resolver.proofs.Promises.{keeps_promise}
 
 abbrev AllUnmarked : List Mark → Type 0
 AllUnmarked ms = AllByRecursion IsUnmarked ms
@@ -140,18 +141,23 @@ pub record IsWithin (m : TextMethod) : Type 0 where
 
 within_limits : (i : ℕ) (m : TextMethod) → AllUnmarked (method_marks i m) → IsWithin m
 within_limits i m free =
+    let behind = all_right (head_marks m.is_read i) (None ∷ opened 0 ∷ (listed_marks (parameter_marks 0 m.parameters) ++ None ∷ opened 0 ∷ block_marks 1 (length m.parameters) m.body)) free in
     let ps = listed_marks (parameter_marks 0 m.parameters) in
     let body = block_marks 1 (length m.parameters) m.body in
     record {
-      parameters = omega (arith, parameter_count 0 m.parameters (omega arith) (all_left ps (None ∷ opened 0 ∷ body) free.1.1.1));
-      body = (all_right ps (None ∷ opened 0 ∷ body) free.1.1.1).1.1;
+      parameters = omega (arith, parameter_count 0 m.parameters (omega arith) (all_left ps (None ∷ opened 0 ∷ body) behind.1.1));
+      body = (all_right ps (None ∷ opened 0 ∷ body) behind.1.1).1.1;
     }
+
+head_count : (b : Bool) (i : ℕ) (behind : List Mark) → AllUnmarked (head_marks b i ++ behind) → i < 64
+head_count true i behind free = below i 64 TooMany free.0
+head_count false i behind free = below i 64 TooMany free.0
 
 pub method_count : (i : ℕ) (p : List TextMethod) → i ≤ 64 → AllUnmarked (methods_marks i p) → i + length p ≤ 64
 method_count i [] fits free = omega (arith, fits)
 method_count i (m ∷ ms) fits free =
     let here = all_left (method_marks i m) (methods_marks (i + 1) ms) free in
-    omega (arith, method_count (i + 1) ms (omega (arith, below i 64 TooMany here.0)) (all_right (method_marks i m) (methods_marks (i + 1) ms) free))
+    omega (arith, method_count (i + 1) ms (omega (arith, head_count m.is_read i _ here)) (all_right (method_marks i m) (methods_marks (i + 1) ms) free))
 
 abbrev no_return : ℕ → List CheckFault
 no_return line = record { line = line; cause = NoReturn } ∷ []
@@ -164,8 +170,8 @@ closed_method : (p : List TextMethod) (front : List (List ℕ)) (i : ℕ) (m : T
 closed_method p front i m rule none free =
     let ns = names_of m.parameters in
     let within = within_limits i m free in
-    let a = none_right (duplicate front m.name) (repeated [] m.parameters ++ (block_faults p ns m.body ++ end_faults m.body)) none in
-    let b = none_right (repeated [] m.parameters) (block_faults p ns m.body ++ end_faults m.body) a in
+    let a = none_right (duplicate front m.name) (repeated [] m.parameters ++ (block_faults p m.is_read ns m.body ++ end_faults m.body)) none in
+    let b = none_right (repeated [] m.parameters) (block_faults p m.is_read ns m.body ++ end_faults m.body) a in
     let counted = counted_length 0 m.parameters in
     let P : ℕ → Type 0 = λ n. IsClosedBlock (checked_program p) n (checked_block (method_names p) ns m.body) in
     record {
@@ -173,8 +179,9 @@ closed_method p front i m rule none free =
       parameters = omega (arith, counted, within.parameters);
       variables = omega (arith, counted, same_lets (method_names p) ns m.body, room_of 1 (length m.parameters) m.body (omega (arith, within.parameters)) within.body);
       deep = omega (arith, deep_of (method_names p) ns 1 (length m.parameters) m.body (omega arith) within.body);
-      body = subst P (length-map m.parameters (λ (w : Word). w.name) ∙ sym counted) (closed_block p ns 1 (length m.parameters) m.body rule.body (none_left (block_faults p ns m.body) (end_faults m.body) b) within.body);
-      ended = same_ends (method_names p) ns m.body ∙ by_end (ends m.body) (last_line m.body) (none_right (block_faults p ns m.body) (end_faults m.body) b);
+      body = subst P (length-map m.parameters (λ (w : Word). w.name) ∙ sym counted) (closed_block p m.is_read ns 1 (length m.parameters) m.body rule.body (none_left (block_faults p m.is_read ns m.body) (end_faults m.body) b) within.body);
+      promise = λ yes. keeps_promise p ns m.body (subst (λ (r : Bool). block_faults p r ns m.body ≡ []) yes (none_left (block_faults p m.is_read ns m.body) (end_faults m.body) b));
+      ended = same_ends (method_names p) ns m.body ∙ by_end (ends m.body) (last_line m.body) (none_right (block_faults p m.is_read ns m.body) (end_faults m.body) b);
     }
 
 closed_methods : (p : List TextMethod) (front : List (List ℕ)) (i : ℕ) (ms : List TextMethod) → AllByRecursion IsMethod ms → faults_behind p front ms ≡ [] → AllUnmarked (methods_marks i ms) → AllByRecursion (IsClosedMethod (checked_program p)) (map (checked_method (method_names p)) ms)
@@ -218,7 +225,7 @@ distinct_all p front [] d none = subst AreDistinct (sym (append-nil front)) d
 distinct_all p front (m ∷ ms) d none =
     let ns = names_of m.parameters in
     let here = none_left (method_faults p front m) (faults_behind p (front ++ m.name.name ∷ []) ms) none in
-    let new = by_new (is_among front m.name) m.name (none_left (duplicate front m.name) (repeated [] m.parameters ++ (block_faults p ns m.body ++ end_faults m.body)) here) in
+    let new = by_new (is_among front m.name) m.name (none_left (duplicate front m.name) (repeated [] m.parameters ++ (block_faults p m.is_read ns m.body ++ end_faults m.body)) here) in
     subst AreDistinct (append_assoc front (m.name.name ∷ []) (method_names ms)) (distinct_all p (front ++ m.name.name ∷ []) ms (distinct_push front m.name d new) (none_right (method_faults p front m) (faults_behind p (front ++ m.name.name ∷ []) ms) none))
 
 same_names : (methods : List (List ℕ)) (ms : List TextMethod) → method_names (map (checked_method methods) ms) ≡ method_names ms

@@ -1,5 +1,5 @@
--- Lines of faults: each is that of a word of the program, or of a brace that closes a block.
-use Rattle.std.proofs.Common.{ℕ, ◌≤◌, ◌==◌, Bool, true, false, if◌then◌else◌, Option, Some, None, List, [], ◌∷◌, ◌++◌, length, subst}
+-- Lines of faults: each is that of a word of the program, of a statement, or of a brace that closes a block.
+use Rattle.std.proofs.Common.{ℕ, ◌≤◌, ◌==◌, ◌&&◌, Bool, true, false, if◌then◌else◌, Option, Some, None, List, [], ◌∷◌, ◌++◌, length, subst}
 use Rattle.std.specs.List.{AllByRecursion, flat_map}
 use Rattle.aml_tokens.specs.declared.tokens.Word.{Word}
 use Rattle.aml_tree.specs.Lines.{WordUpTo, ExpressionUpTo, BlockUpTo, MethodUpTo, LinesUpTo}
@@ -8,7 +8,7 @@ use Rattle.aml_resolver.specs.declared.faults.CheckCause.TheVariants.{UnknownNam
 use Rattle.aml_resolver.specs.declared.faults.CheckFault.{CheckFault}
 use Rattle.aml_resolver.specs.Names.{names_of, place_of}
 use Rattle.aml_check.specs.Names.{method_names, method_at}
-use Rattle.aml_resolver.specs.Faults.{at, is_among, unknown, duplicate, faults, call_faults_at, call_faults, block_faults, repeated, last_line, end_faults, method_faults, faults_behind, IsFirstCheckFault}
+use Rattle.aml_resolver.specs.Faults.{at, is_among, unknown, duplicate, faults, call_faults_at, call_faults, is_writer, promise_faults, block_faults, repeated, last_line, end_faults, method_faults, faults_behind, IsFirstCheckFault}
 use Rattle.aml_check.specs.Closed.{ends}
 
 abbrev FaultsUpTo : ℕ → List CheckFault → Type 0
@@ -47,6 +47,10 @@ repeated_up_to most front [] h = tt
 repeated_up_to most front (w ∷ ws) h =
     both_up_to most (duplicate front w) (repeated (front ++ w.name ∷ []) ws) (duplicate_up_to most front w h.0) (repeated_up_to most (front ++ w.name ∷ []) ws h.1)
 
+promise_up_to : (most : ℕ) (breaks : Bool) (line : ℕ) → line ≤ most → FaultsUpTo most (promise_faults breaks line)
+promise_up_to most true line h = (h, tt)
+promise_up_to most false line h = tt
+
 -- ---- expressions
 
 expression_up_to : (most : ℕ) (names : List (List ℕ)) (e : Expr Word) → ExpressionUpTo most e → FaultsUpTo most (faults names e)
@@ -66,41 +70,43 @@ arguments_up_to most names (e ∷ es) h =
 
 -- ---- blocks
 
-block_up_to : (most : ℕ) (p : List TextMethod) (names : List (List ℕ)) (b : Code Word Word) → BlockUpTo most b → FaultsUpTo most (block_faults p names b)
-block_up_to most p names (End line) h = tt
-block_up_to most p names (Let line v value rest) h =
-    both_up_to most (duplicate names v) _ (duplicate_up_to most names v h.0)
-    (both_up_to most (faults names value) _ (expression_up_to most names value h.1) (block_up_to most p (names ++ v.name ∷ []) rest h.2))
-block_up_to most p names (Call line v target m arguments rest) h =
-    both_up_to most (duplicate names v) _ (duplicate_up_to most names v h.0)
-    (both_up_to most (faults names target) _ (expression_up_to most names target h.1)
-    (both_up_to most (call_faults p m (length arguments)) _ (called_up_to most p m (length arguments) (place_of (method_names p) m.name) h.2)
-    (both_up_to most (flat_map (faults names) arguments) _ (arguments_up_to most names arguments h.3) (block_up_to most p (names ++ v.name ∷ []) rest h.4))))
-block_up_to most p names (Set v value rest) h =
+block_up_to : (most : ℕ) (p : List TextMethod) (r : Bool) (names : List (List ℕ)) (b : Code Word Word) → BlockUpTo most b → FaultsUpTo most (block_faults p r names b)
+block_up_to most p r names (End line) h = tt
+block_up_to most p r names (Let line v value rest) h =
+    both_up_to most (duplicate names v) _ (duplicate_up_to most names v h.1)
+    (both_up_to most (faults names value) _ (expression_up_to most names value h.2) (block_up_to most p r (names ++ v.name ∷ []) rest h.3))
+block_up_to most p r names (Call line v target m arguments rest) h =
+    both_up_to most (promise_faults (r && is_writer p m) line) _ (promise_up_to most (r && is_writer p m) line h.0)
+    (both_up_to most (duplicate names v) _ (duplicate_up_to most names v h.1)
+    (both_up_to most (faults names target) _ (expression_up_to most names target h.2)
+    (both_up_to most (call_faults p m (length arguments)) _ (called_up_to most p m (length arguments) (place_of (method_names p) m.name) h.3)
+    (both_up_to most (flat_map (faults names) arguments) _ (arguments_up_to most names arguments h.4) (block_up_to most p r (names ++ v.name ∷ []) rest h.5)))))
+block_up_to most p r names (Set v value rest) h =
     both_up_to most (unknown names v) _ (unknown_up_to most names v h.0)
-    (both_up_to most (faults names value) _ (expression_up_to most names value h.1) (block_up_to most p names rest h.2))
-block_up_to most p names (SetField line k value rest) h =
-    both_up_to most (faults names value) _ (expression_up_to most names value h.0) (block_up_to most p names rest h.1)
-block_up_to most p names (If condition first rest) h =
+    (both_up_to most (faults names value) _ (expression_up_to most names value h.1) (block_up_to most p r names rest h.2))
+block_up_to most p r names (SetField line k value rest) h =
+    both_up_to most (promise_faults r line) _ (promise_up_to most r line h.0)
+    (both_up_to most (faults names value) _ (expression_up_to most names value h.1) (block_up_to most p r names rest h.2))
+block_up_to most p r names (If condition first rest) h =
     both_up_to most (faults names condition) _ (expression_up_to most names condition h.0)
-    (both_up_to most (block_faults p names first) _ (block_up_to most p names first h.1) (block_up_to most p names rest h.2))
-block_up_to most p names (IfElse condition first other rest) h =
+    (both_up_to most (block_faults p r names first) _ (block_up_to most p r names first h.1) (block_up_to most p r names rest h.2))
+block_up_to most p r names (IfElse condition first other rest) h =
     both_up_to most (faults names condition) _ (expression_up_to most names condition h.0)
-    (both_up_to most (block_faults p names first) _ (block_up_to most p names first h.1)
-    (both_up_to most (block_faults p names other) _ (block_up_to most p names other h.2) (block_up_to most p names rest h.3)))
-block_up_to most p names (While condition body rest) h =
+    (both_up_to most (block_faults p r names first) _ (block_up_to most p r names first h.1)
+    (both_up_to most (block_faults p r names other) _ (block_up_to most p r names other h.2) (block_up_to most p r names rest h.3)))
+block_up_to most p r names (While condition body rest) h =
     both_up_to most (faults names condition) _ (expression_up_to most names condition h.0)
-    (both_up_to most (block_faults p names body) _ (block_up_to most p names body h.1) (block_up_to most p names rest h.2))
-block_up_to most p names (Fail code rest) h = block_up_to most p names rest h
-block_up_to most p names (Return value rest) h =
-    both_up_to most (faults names value) _ (expression_up_to most names value h.0) (block_up_to most p names rest h.1)
+    (both_up_to most (block_faults p r names body) _ (block_up_to most p r names body h.1) (block_up_to most p r names rest h.2))
+block_up_to most p r names (Fail code rest) h = block_up_to most p r names rest h
+block_up_to most p r names (Return value rest) h =
+    both_up_to most (faults names value) _ (expression_up_to most names value h.0) (block_up_to most p r names rest h.1)
 
 last_up_to : (most : ℕ) (b : Code Word Word) → BlockUpTo most b → last_line b ≤ most
 last_up_to most (End line) h = h
-last_up_to most (Let line v value rest) h = last_up_to most rest h.2
-last_up_to most (Call line v target m arguments rest) h = last_up_to most rest h.4
+last_up_to most (Let line v value rest) h = last_up_to most rest h.3
+last_up_to most (Call line v target m arguments rest) h = last_up_to most rest h.5
 last_up_to most (Set v value rest) h = last_up_to most rest h.2
-last_up_to most (SetField line k value rest) h = last_up_to most rest h.1
+last_up_to most (SetField line k value rest) h = last_up_to most rest h.2
 last_up_to most (If condition first rest) h = last_up_to most rest h.2
 last_up_to most (IfElse condition first other rest) h = last_up_to most rest h.3
 last_up_to most (While condition body rest) h = last_up_to most rest h.2
@@ -120,7 +126,7 @@ method_up_to : (most : ℕ) (p : List TextMethod) (names : List (List ℕ)) (m :
 method_up_to most p names m h =
     both_up_to most (duplicate names m.name) _ (duplicate_up_to most names m.name h.name)
     (both_up_to most (repeated [] m.parameters) _ (repeated_up_to most [] m.parameters h.parameters)
-    (both_up_to most (block_faults p (names_of m.parameters) m.body) (end_faults m.body) (block_up_to most p (names_of m.parameters) m.body h.body) (end_up_to most m.body h.body)))
+    (both_up_to most (block_faults p m.is_read (names_of m.parameters) m.body) (end_faults m.body) (block_up_to most p m.is_read (names_of m.parameters) m.body h.body) (end_up_to most m.body h.body)))
 
 behind_up_to : (most : ℕ) (p : List TextMethod) (names : List (List ℕ)) (ms : List TextMethod) → LinesUpTo most ms → FaultsUpTo most (faults_behind p names ms)
 behind_up_to most p names [] h = tt

@@ -4,5 +4,6 @@ pub mod StatementSteps
 pub mod Endings
 pub mod FaultLines
 pub mod ClosedParts
+pub mod Promises
 pub mod ClosedPrograms
 pub mod Examples

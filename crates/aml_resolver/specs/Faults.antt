@@ -1,11 +1,11 @@
--- The faults of a program's names and ends, all of them, in the order of the text.
-use Rattle.std.specs.Prelude.{◌≡◌, ℕ, ◌==◌, Bool, if◌then◌else◌, List, [], ◌∷◌, ◌++◌, length, Option, Some, None}
+-- The faults of a program's names, promises and ends, all of them, in the order of the text.
+use Rattle.std.specs.Prelude.{◌≡◌, ℕ, ◌==◌, ◌&&◌, Bool, true, false, if◌then◌else◌, List, [], ◌∷◌, ◌++◌, length, Option, Some, None}
 use Rattle.std.specs.List.{flat_map, list_any}
 use Rattle.std.specs.Str.{bytes_eq}
 use Rattle.aml_tokens.specs.declared.tokens.Word.{Word}
 use Rattle.aml_tree.specs.Tree.{Expr, Number, Variable, Field, Own, Group, Negative, Binary, Code, End, Let, Call, Set, SetField, If, IfElse, While, Fail, Return, TextMethod, CheckedMethod}
 use Rattle.aml_resolver.specs.declared.faults.CheckCause.{CheckCause}
-use Rattle.aml_resolver.specs.declared.faults.CheckCause.TheVariants.{UnknownName, Duplicate, ArgCount, NoReturn}
+use Rattle.aml_resolver.specs.declared.faults.CheckCause.TheVariants.{UnknownName, Duplicate, ArgCount, NoReturn, ReadWrites}
 use Rattle.aml_resolver.specs.declared.faults.CheckFault.{CheckFault}
 use Rattle.aml_resolver.specs.Names.{names_of, place_of, checked_program}
 use Rattle.aml_check.specs.Names.{method_names, method_at}
@@ -43,21 +43,36 @@ call_faults_at p w arguments (Some place) = if length (method_at p place).parame
 abbrev pub call_faults : List TextMethod → Word → ℕ → List CheckFault
 call_faults p w arguments = call_faults_at p w arguments (place_of (method_names p) w.name)
 
--- A name stands before the value that it takes, and the called method before its arguments. A variable
--- is visible from behind its statement up to the end of its block.
-abbrev pub block_faults : List TextMethod → List (List ℕ) → Code Word Word → List CheckFault
-block_faults p names (End line) = []
-block_faults p names (Let line v value rest) = duplicate names v ++ (faults names value ++ block_faults p (names ++ v.name ∷ []) rest)
-block_faults p names (Call line v target m arguments rest) =
-    duplicate names v ++ (faults names target ++ (call_faults p m (length arguments) ++ (flat_map (faults names) arguments ++ block_faults p (names ++ v.name ∷ []) rest)))
-block_faults p names (Set v value rest) = unknown names v ++ (faults names value ++ block_faults p names rest)
-block_faults p names (SetField line k value rest) = faults names value ++ block_faults p names rest
-block_faults p names (If condition first rest) = faults names condition ++ (block_faults p names first ++ block_faults p names rest)
-block_faults p names (IfElse condition first other rest) =
-    faults names condition ++ (block_faults p names first ++ (block_faults p names other ++ block_faults p names rest))
-block_faults p names (While condition body rest) = faults names condition ++ (block_faults p names body ++ block_faults p names rest)
-block_faults p names (Fail code rest) = block_faults p names rest
-block_faults p names (Return value rest) = faults names value ++ block_faults p names rest
+-- whether a name is that of a method, the first one of the name, that makes no promise only to read
+abbrev pub is_writer_at : List TextMethod → Option ℕ → Bool
+is_writer_at p None = false
+is_writer_at p (Some place) = if (method_at p place).is_read then false else true
+
+abbrev pub is_writer : List TextMethod → Word → Bool
+is_writer p w = is_writer_at p (place_of (method_names p) w.name)
+
+-- a statement that begins in a line and breaks the promise only to read, or does not
+abbrev pub promise_faults : Bool → ℕ → List CheckFault
+promise_faults true line = record { line = line; cause = ReadWrites } ∷ []
+promise_faults false line = []
+
+-- Of a method that promises only to read, or does not. A statement begins before all that is in it, a name stands
+-- before the value that it takes, and the called method before its arguments. A variable is visible from behind
+-- its statement up to the end of its block.
+abbrev pub block_faults : List TextMethod → Bool → List (List ℕ) → Code Word Word → List CheckFault
+block_faults p is_read names (End line) = []
+block_faults p is_read names (Let line v value rest) = duplicate names v ++ (faults names value ++ block_faults p is_read (names ++ v.name ∷ []) rest)
+block_faults p is_read names (Call line v target m arguments rest) =
+    promise_faults (is_read && is_writer p m) line
+    ++ (duplicate names v ++ (faults names target ++ (call_faults p m (length arguments) ++ (flat_map (faults names) arguments ++ block_faults p is_read (names ++ v.name ∷ []) rest))))
+block_faults p is_read names (Set v value rest) = unknown names v ++ (faults names value ++ block_faults p is_read names rest)
+block_faults p is_read names (SetField line k value rest) = promise_faults is_read line ++ (faults names value ++ block_faults p is_read names rest)
+block_faults p is_read names (If condition first rest) = faults names condition ++ (block_faults p is_read names first ++ block_faults p is_read names rest)
+block_faults p is_read names (IfElse condition first other rest) =
+    faults names condition ++ (block_faults p is_read names first ++ (block_faults p is_read names other ++ block_faults p is_read names rest))
+block_faults p is_read names (While condition body rest) = faults names condition ++ (block_faults p is_read names body ++ block_faults p is_read names rest)
+block_faults p is_read names (Fail code rest) = block_faults p is_read names rest
+block_faults p is_read names (Return value rest) = faults names value ++ block_faults p is_read names rest
 
 -- each word whose name one before it has, behind those in front
 abbrev pub repeated : List (List ℕ) → List Word → List CheckFault
@@ -86,7 +101,7 @@ end_faults body = if ends body then [] else record { line = last_line body; caus
 -- a method of the program p behind others that have the names
 abbrev pub method_faults : List TextMethod → List (List ℕ) → TextMethod → List CheckFault
 method_faults p names m =
-    duplicate names m.name ++ (repeated [] m.parameters ++ (block_faults p (names_of m.parameters) m.body ++ end_faults m.body))
+    duplicate names m.name ++ (repeated [] m.parameters ++ (block_faults p m.is_read (names_of m.parameters) m.body ++ end_faults m.body))
 
 abbrev pub faults_behind : List TextMethod → List (List ℕ) → List TextMethod → List CheckFault
 faults_behind p names [] = []

@@ -44,7 +44,7 @@ checked_block methods names (Fail code rest) = Fail code (checked_block methods 
 checked_block methods names (Return value rest) = Return (checked_expression names value) (checked_block methods names rest)
 
 abbrev pub checked_method : List (List ℕ) → TextMethod → CheckedMethod
-checked_method methods m = record { name = m.name; parameters = counted_from 0 m.parameters; body = checked_block methods (names_of m.parameters) m.body }
+checked_method methods m = record { is_read = m.is_read; name = m.name; parameters = counted_from 0 m.parameters; body = checked_block methods (names_of m.parameters) m.body }
 
 abbrev pub checked_program : List TextMethod → List CheckedMethod
 checked_program p = map (checked_method (method_names p)) p

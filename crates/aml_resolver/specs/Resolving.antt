@@ -1,7 +1,7 @@
 -- Only private contracts cite this; the rules are Names.antt and Faults.antt.
 -- What checking a part of a program gives: the part with its names resolved where it has no fault, and
 -- else its first fault.
-use Rattle.std.specs.Prelude.{◌≡◌, ℕ, ◌+◌, ◌≤◌, Result, Ok, Err, List, [], ◌∷◌, length, take, map}
+use Rattle.std.specs.Prelude.{◌≡◌, ℕ, ◌+◌, ◌≤◌, Bool, Result, Ok, Err, List, [], ◌∷◌, length, take, map}
 use Rattle.std.specs.List.{flat_map}
 use Rattle.aml_tokens.specs.declared.tokens.Word.{Word}
 use Rattle.aml_tree.specs.declared.trees.Link.{Link}
@@ -42,14 +42,15 @@ checked_links names ls = map (λ (l : Link (Expr Word)). record { operator = l.o
 
 -- ---- statements, each as what it makes of the rest of its block
 
--- A statement without a fault, and the same with its names resolved: behind it the next names are
+-- A statement without a fault, in a method that promises only to read or does not, and the same with its
+-- names resolved: behind it the next names are
 -- visible, the old ones first, and no more are new than the statement declares.
-pub record Continues (p : List TextMethod) (names next : List (List ℕ)) (statement : Onto Word Word) (resolved : Onto ℕ ℕ) : Type 0 where
-  pub faultless : (rest : Code Word Word) → block_faults p names (statement rest) ≡ block_faults p next rest
+pub record Continues (p : List TextMethod) (is_read : Bool) (names next : List (List ℕ)) (statement : Onto Word Word) (resolved : Onto ℕ ℕ) : Type 0 where
+  pub faultless : (rest : Code Word Word) → block_faults p is_read names (statement rest) ≡ block_faults p is_read next rest
   pub placed : (rest : Code Word Word) → resolved (checked_block (method_names p) next rest) ≡ checked_block (method_names p) names (statement rest)
   pub kept : take (length names) next ≡ names
   pub room : (rest : Code Word Word) → length next + lets rest ≤ length names + lets (statement rest)
 
-abbrev pub Steps : List TextMethod → List (List ℕ) → List (List ℕ) → Onto Word Word → Result (Statement ℕ ℕ) CheckNo → Type 0
-Steps p names next statement (Ok c) = Continues p names next statement (statement_tree c)
-Steps p names next statement (Err e) = (rest : Code Word Word) → Refuses (block_faults p names (statement rest)) e
+abbrev pub Steps : List TextMethod → Bool → List (List ℕ) → List (List ℕ) → Onto Word Word → Result (Statement ℕ ℕ) CheckNo → Type 0
+Steps p is_read names next statement (Ok c) = Continues p is_read names next statement (statement_tree c)
+Steps p is_read names next statement (Err e) = (rest : Code Word Word) → Refuses (block_faults p is_read names (statement rest)) e

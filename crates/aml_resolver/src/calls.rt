@@ -2,7 +2,7 @@
 
 ghost use Rattle.std.specs.Prelude.{◌≡◌, ℕ, ◌<◌, ◌≤◌, length, map, IfSome};
 ghost use Rattle.aml_tree.specs.Tree.{method_tree};
-ghost use Rattle.aml_resolver.specs.Faults.{call_faults};
+ghost use Rattle.aml_resolver.specs.Faults.{call_faults, is_writer};
 ghost use Rattle.aml_check.specs.Names.{method_names};
 ghost use Rattle.aml_resolver.specs.Names.{place_of, placed};
 ghost use Rattle.aml_resolver.specs.Resolving.{Resolves};
@@ -23,6 +23,16 @@ pub(crate) fn first_named(methods: &[Method<Word, Word>], name: &[u8]) -> Option
         }
     }
     None
+}
+
+/// Whether a name is that of a method that makes no promise only to read.
+pub(crate) fn is_writer(methods: &[Method<Word, Word>], word: &Word) -> bool
+    ensures { result ≡ is_writer (map method_tree methods.now) word.now }
+{
+    match first_named(methods, word.name.as_slice()) {
+        Some(place) => !methods[place].is_read,
+        None => false,
+    }
 }
 
 /// The place of a method that is called with so many arguments.

@@ -37,10 +37,12 @@ fn ends_with(last: &Statement<Word, Word>) -> bool
             other,
         } => ends(first) && ends(other),
         Statement::Let {
+            line: _,
             variable: _,
             value: _,
         } => false,
         Statement::Call {
+            line: _,
             variable: _,
             target: _,
             method: _,
@@ -50,7 +52,11 @@ fn ends_with(last: &Statement<Word, Word>) -> bool
             variable: _,
             value: _,
         } => false,
-        Statement::SetField { field: _, value: _ } => false,
+        Statement::SetField {
+            line: _,
+            field: _,
+            value: _,
+        } => false,
         Statement::If {
             condition: _,
             first: _,

@@ -26,7 +26,7 @@ pub(crate) fn expression(
     match e {
         Expression::Number(number) => Ok(Expression::Number(*number)),
         Expression::Variable(word) => Ok(Expression::Variable(variable(names, word)?)),
-        Expression::Field(field) => Ok(Expression::Field(*field)),
+        Expression::Field { field, line } => Ok(makers::field(*field, *line)),
         Expression::Own => Ok(Expression::Own),
         Expression::Group(inner) => {
             let group = expression(alloc, names, inner)?;

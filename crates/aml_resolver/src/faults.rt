@@ -1,6 +1,6 @@
 use snap_base::Memory;
 
-/// What is wrong with a program's names and ends.
+/// What is wrong with a program's names, promises and ends.
 #[derive(Clone, Copy, Debug, PartialEq, Eq, Hash)]
 pub enum CheckCause {
     /// No variable of the name is visible, or no method has it.
@@ -11,12 +11,14 @@ pub enum CheckCause {
     ArgCount,
     /// A method may come to its last brace without a value.
     NoReturn,
+    /// A method that promises only to read assigns a field, or calls a method that makes no such promise.
+    ReadWrites,
 }
 
 /// What is wrong with a program: the first fault in the order of the text.
 #[derive(Clone, Copy, Debug, PartialEq, Eq)]
 pub struct CheckFault {
-    /// The line of the name, or of the method's last brace, from 1 on.
+    /// The line of the name, of the statement that breaks a promise, or of the method's last brace, from 1 on.
     pub line: u32,
     pub cause: CheckCause,
 }

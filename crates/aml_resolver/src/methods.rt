@@ -64,11 +64,12 @@ pub(crate) fn method(
 {
     new_name(before, &one.name)?;
     let mut names = parameters(alloc, one.parameters.as_slice())?;
-    let body = block(alloc, methods, &mut names, &one.body)?;
+    let body = block(alloc, methods, one.is_read, &mut names, &one.body)?;
     ended(&one.body)?;
     let name = copied(alloc, &one.name)?;
     let places = numbered(alloc, one.parameters.as_slice())?;
     Ok(Method {
+        is_read: one.is_read,
         name,
         parameters: places,
         body,

@@ -35,7 +35,7 @@ pub enum Limit {
 pub enum ProgramCause {
     /// It is no text of a program; the column is that of the byte in its line, from 1 on.
     Text { cause: TextCause, column: u32 },
-    /// Its names or ends are wrong.
+    /// Its names, ends or promises are wrong.
     Check(CheckCause),
 }
 
