@@ -11,3 +11,4 @@ pub mod Pauses
 pub mod PausesFrom
 pub mod PausedPlaces
 pub mod RunningOn
+pub mod Leaving

@@ -22,21 +22,21 @@ has_tree ss line i other s t o here same tree = subst (HasInner other) (as_tree 
 
 -- ---- statements without an inner block
 
-none_in_let : (other : Bool) (v : ℕ) (e : Expr ℕ) (rest : Code ℕ ℕ) → HasInner other (Let line v e rest) → ⊥
-none_in_let true v e rest h = h
-none_in_let false v e rest h = h
+none_in_let : (other : Bool) (line v : ℕ) (e : Expr ℕ) (rest : Code ℕ ℕ) → HasInner other (Let line v e rest) → ⊥
+none_in_let true line v e rest h = h
+none_in_let false line v e rest h = h
 
-none_in_call : (other : Bool) (v : ℕ) (e : Expr ℕ) (m : ℕ) (es : List (Expr ℕ)) (rest : Code ℕ ℕ) → HasInner other (Call line v e m es rest) → ⊥
-none_in_call true v e m es rest h = h
-none_in_call false v e m es rest h = h
+none_in_call : (other : Bool) (line v : ℕ) (e : Expr ℕ) (m : ℕ) (es : List (Expr ℕ)) (rest : Code ℕ ℕ) → HasInner other (Call line v e m es rest) → ⊥
+none_in_call true line v e m es rest h = h
+none_in_call false line v e m es rest h = h
 
 none_in_set : (other : Bool) (v : ℕ) (e : Expr ℕ) (rest : Code ℕ ℕ) → HasInner other (Set v e rest) → ⊥
 none_in_set true v e rest h = h
 none_in_set false v e rest h = h
 
-none_in_field : (other : Bool) (k : ℕ) (e : Expr ℕ) (rest : Code ℕ ℕ) → HasInner other (SetField line k e rest) → ⊥
-none_in_field true k e rest h = h
-none_in_field false k e rest h = h
+none_in_field : (other : Bool) (line k : ℕ) (e : Expr ℕ) (rest : Code ℕ ℕ) → HasInner other (SetField line k e rest) → ⊥
+none_in_field true line k e rest h = h
+none_in_field false line k e rest h = h
 
 none_in_fail : (other : Bool) (k : ℕ) (rest : Code ℕ ℕ) → HasInner other (Fail k rest) → ⊥
 none_in_fail true k rest h = h
@@ -48,18 +48,18 @@ none_in_return false e rest h = h
 
 abbrev pub IsPlain : Statement ℕ ℕ → Type 0
 IsPlain s =
-    ((v : ℕ) × (e : Expression ℕ) × (s ≡ variant.Let line v e))
-    ⊎ (((v : ℕ) × (e : Expression ℕ) × (m : ℕ) × (es : Vec (Expression ℕ) Global) × (s ≡ variant.Call line v e m es))
+    ((at : ℕ) × (v : ℕ) × (e : Expression ℕ) × (s ≡ variant.Let at v e))
+    ⊎ (((at : ℕ) × (v : ℕ) × (e : Expression ℕ) × (m : ℕ) × (es : Vec (Expression ℕ) Global) × (s ≡ variant.Call at v e m es))
     ⊎ (((v : ℕ) × (e : Expression ℕ) × (s ≡ variant.Set v e))
-    ⊎ (((k : ℕ) × (e : Expression ℕ) × (s ≡ variant.SetField line k e))
+    ⊎ (((at : ℕ) × (k : ℕ) × (e : Expression ℕ) × (s ≡ variant.SetField at k e))
     ⊎ (((k : ℕ) × (s ≡ variant.Fail k))
     ⊎ ((e : Expression ℕ) × (s ≡ variant.Return e))))))
 
 pub not_plain : (ss : List (Statement ℕ ℕ)) (line i : ℕ) (other : Bool) (s : Statement ℕ ℕ) → Here ss line i other s → IsPlain s → ⊥
-not_plain ss line i other s here (inl x) = none_in_let other x.0 (expression_tree x.1) _ (has_tree ss line i other s (variant.Let line x.0 x.1) _ here x.2 (tree_of_let x.0 x.1))
-not_plain ss line i other s here (inr (inl x)) = none_in_call other x.0 (expression_tree x.1) x.2 (map expression_tree x.3.items) _ (has_tree ss line i other s (variant.Call line x.0 x.1 x.2 x.3) _ here x.4 (tree_of_call x.0 x.1 x.2 x.3))
+not_plain ss line i other s here (inl x) = none_in_let other x.0 x.1 (expression_tree x.2) _ (has_tree ss line i other s (variant.Let x.0 x.1 x.2) _ here x.3 (tree_of_let x.0 x.1 x.2))
+not_plain ss line i other s here (inr (inl x)) = none_in_call other x.0 x.1 (expression_tree x.2) x.3 (map expression_tree x.4.items) _ (has_tree ss line i other s (variant.Call x.0 x.1 x.2 x.3 x.4) _ here x.5 (tree_of_call x.0 x.1 x.2 x.3 x.4))
 not_plain ss line i other s here (inr (inr (inl x))) = none_in_set other x.0 (expression_tree x.1) _ (has_tree ss line i other s (variant.Set x.0 x.1) _ here x.2 (tree_of_set x.0 x.1))
-not_plain ss line i other s here (inr (inr (inr (inl x)))) = none_in_field other x.0 (expression_tree x.1) _ (has_tree ss line i other s (variant.SetField line x.0 x.1) _ here x.2 (tree_of_field x.0 x.1))
+not_plain ss line i other s here (inr (inr (inr (inl x)))) = none_in_field other x.0 x.1 (expression_tree x.2) _ (has_tree ss line i other s (variant.SetField x.0 x.1 x.2) _ here x.3 (tree_of_field x.0 x.1 x.2))
 not_plain ss line i other s here (inr (inr (inr (inr (inl x))))) = none_in_fail other x.0 _ (has_tree ss line i other s (variant.Fail x.0) _ here x.1 (tree_of_fail x.0))
 not_plain ss line i other s here (inr (inr (inr (inr (inr x))))) = none_in_return other (expression_tree x.0) _ (has_tree ss line i other s (variant.Return x.0) _ here x.1 (tree_of_return x.0))
 

@@ -2,4 +2,5 @@ pub mod Places
 pub mod Pausing
 pub mod Resuming
 pub mod Rooms
+pub mod Reading
 pub mod Ways

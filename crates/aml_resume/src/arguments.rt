@@ -70,7 +70,7 @@ pub(crate) fn ask(
     requires target { IsClosedExpression (length activation.old.variables.items) (expression_tree target.now) }
     requires method { IsClosedCall (methods_of program.now) method (length (map expression_tree es.now)) }
     requires arguments { AllByRecursion (IsClosedExpression (length activation.old.variables.items)) (map expression_tree es.now) }
-    ensures runs { (v : ℕ) → Runs own at (Call v (expression_tree target.now) method (map expression_tree es.now)) activation.old.variables.items state.now statements.old (standing_of activation.new) arguments.new.items state.now statements.new result }
+    ensures runs { (line v : ℕ) → Runs own at (Call line v (expression_tree target.now) method (map expression_tree es.now)) activation.old.variables.items state.now statements.old (standing_of activation.new) arguments.new.items state.now statements.new result }
     ensures path { activation.new.path.items ≡ [] }
     ensures goes { IfGoes result ⊥ }
     ensures keeps { StaysReady (vec_capacity arguments.old) statements.old activation.new (vec_capacity arguments.new) statements.new }

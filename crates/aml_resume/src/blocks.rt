@@ -115,10 +115,13 @@ fn statement(
     ensures keeps { StaysReady (vec_capacity arguments.old) statements.old activation.new (vec_capacity arguments.new) statements.new }
 {
     match one {
-        Statement::Let { variable: _, value } => {
-            let_value(own, &mut activation.variables, state, statements, value)
-        }
+        Statement::Let {
+            line: _,
+            variable: _,
+            value,
+        } => let_value(own, &mut activation.variables, state, statements, value),
         Statement::Call {
+            line: _,
             variable: _,
             target,
             method,
@@ -134,7 +137,11 @@ fn statement(
             *variable,
             value,
         ),
-        Statement::SetField { field, value } => set_field(
+        Statement::SetField {
+            line: _,
+            field,
+            value,
+        } => set_field(
             own,
             activation.variables.as_slice(),
             state,

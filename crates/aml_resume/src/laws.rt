@@ -1,5 +1,6 @@
 //! What follows for a caller who runs a method on from pause to pause. Each is called to cite it.
 
+ghost use Rattle.aml_resume.specs.Reading.{ReadingLeaves};
 ghost use Rattle.aml_resume.specs.Resuming.{BlocksRise, CallsRise, CountsRise, PausesAsMeant, PausesWhereAllowed};
 
 /// A method gives, from where it stands on, what its pause goes on to.
@@ -17,4 +18,10 @@ pub fn counts_rise()
     ensures pauses { CountsRise }
     ensures blocks { BlocksRise }
     ensures calls { CallsRise }
+{}
+
+/// A method that assigns no field and calls only methods that promise only to read leaves the actor's state, from
+/// wherever it stands.
+pub fn reading_leaves()
+    ensures { ReadingLeaves }
 {}

@@ -2,7 +2,8 @@
 //! statements and no reference, so it can lie beside other values until the call has given its value.
 //! Running takes no memory. How a method is left, its pause, is a function of where it stands and of the
 //! actor's state (`specs/Pausing.antt`); what a pause means, whatever calls give and whatever the states
-//! of other actors are, is a law (`specs/Resuming.antt`).
+//! of other actors are, is a law (`specs/Resuming.antt`). A method that only reads leaves the state
+//! (`specs/Reading.antt`).
 #![tactic(auto)]
 
 mod activations;
@@ -17,6 +18,6 @@ mod ways;
 
 pub use activations::Activation;
 pub use exits::Exit;
-pub use laws::{counts_rise, pauses_as_meant, pauses_where_allowed};
+pub use laws::{counts_rise, pauses_as_meant, pauses_where_allowed, reading_leaves};
 pub use places::Spot;
 pub use resumes::resume;

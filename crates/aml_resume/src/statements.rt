@@ -63,7 +63,7 @@ pub(crate) fn let_value(
     requires count { statements.old ≤ MOST_STATEMENTS }
     requires room { length variables.old.items < vec_capacity variables.old }
     requires closed { IsClosedExpression (length variables.old.items) (expression_tree e.now) }
-    ensures runs { (v : ℕ) → RunsPlainly own (Let v (expression_tree e.now)) variables.old.items state.now statements.old variables.new.items state.now statements.new result }
+    ensures runs { (line v : ℕ) → RunsPlainly own (Let line v (expression_tree e.now)) variables.old.items state.now statements.old variables.new.items state.now statements.new result }
     ensures goes { IfGoes result (length variables.new.items ≡ length variables.old.items + 1) }
     ensures asks { IfAsks result ⊥ }
     ensures risen { (statements.old ≤ statements.new) × (statements.new ≤ MOST_STATEMENTS) }
@@ -118,7 +118,7 @@ pub(crate) fn set_field(
     requires count { statements.old ≤ MOST_STATEMENTS }
     requires field { field < FIELDS }
     requires closed { IsClosedExpression (length variables.now) (expression_tree e.now) }
-    ensures runs { RunsPlainly own (SetField field (expression_tree e.now)) variables.now state.old statements.old variables.now state.new statements.new result }
+    ensures runs { (line : ℕ) → RunsPlainly own (SetField line field (expression_tree e.now)) variables.now state.old statements.old variables.now state.new statements.new result }
     ensures asks { IfAsks result ⊥ }
     ensures risen { (statements.old ≤ statements.new) × (statements.new ≤ MOST_STATEMENTS) }
 {

@@ -106,7 +106,7 @@ pub fn value(own: usize, variables: &[i64], state: &State, e: &Expression<u8>) -
     match e {
         Expression::Number(number) => Ok(*number as i64),
         Expression::Variable(place) => Ok(variables[*place as usize]),
-        Expression::Field(field) => Ok(state.0[*field as usize]),
+        Expression::Field { field, line: _ } => Ok(state.0[*field as usize]),
         Expression::Own => Ok(own as i64),
         Expression::Group(inner) => value(own, variables, state, inner),
         Expression::Negative(inner) => {

@@ -4,7 +4,7 @@ use Rattle.std.proofs.lemmas.Result.{err_from_is_err_and}
 use Rattle.aml_tree.specs.Tree.{End, Onto, expression_tree, block_tree}
 use Rattle.aml_check.specs.Checked.{methods_of}
 use Rattle.aml_check.specs.Meaning.{holds}
-use Rattle.aml_tree.specs.TreeRules.{tree_of_let, tree_of_call, tree_of_if, tree_of_if_else, tree_of_fail, tree_of_return}
+use Rattle.aml_tree.specs.TreeRules.{tree_of_let, tree_of_call, tree_of_field, tree_of_if, tree_of_if_else, tree_of_fail, tree_of_return}
 use Rattle.aml_resume.specs.declared.ways.Way.TheVariants as way
 use Rattle.aml_resume.specs.Places.{behind_some}
 use Rattle.aml_resume.specs.Pausing.{block_pause}
@@ -167,12 +167,17 @@ repeat-returns-in-Asks-clause-runs t c =
 pub statement-returns-in-Let-clause-runs : goal.statement-returns-in-Let-clause-runs
 statement-returns-in-Let-clause-runs t c =
     let P : Onto ℕ ℕ → Type 0 = λ o. Runs c.args.own c.args.at o c.args.activation.now.variables.items c.args.state.now c.args.statements.now (record { path = reverse c.args.activation.now.path.items; next = c.args.activation.now.next; variables = c.let_value.new.variables.items }) c.args.arguments.now.items c.args.state.now c.let_value.new.statements c.let_value.result in
-    rw c.in-Let.is (subst P (sym (tree_of_let c.in-Let.variable c.in-Let.value)) (c.let_value.ensures.runs c.in-Let.variable c.args.at c.args.activation.now.next (reverse c.args.activation.now.path.items) c.args.arguments.now.items))
+    rw c.in-Let.is (subst P (sym (tree_of_let c.in-Let.line c.in-Let.variable c.in-Let.value)) (c.let_value.ensures.runs c.in-Let.line c.in-Let.variable c.args.at c.args.activation.now.next (reverse c.args.activation.now.path.items) c.args.arguments.now.items))
 
 pub statement-returns-in-Call-clause-runs : goal.statement-returns-in-Call-clause-runs
 statement-returns-in-Call-clause-runs t c =
     let P : Onto ℕ ℕ → Type 0 = λ o. Runs c.args.own c.args.at o c.args.activation.now.variables.items c.args.state.now c.args.statements.now (standing_of c.ask.new.activation) c.ask.new.arguments.items c.args.state.now c.ask.new.statements c.ask.result in
-    rw c.in-Call.is (subst P (sym (tree_of_call c.in-Call.variable c.in-Call.target c.in-Call.method c.in-Call.es)) (rw c.deref.ensures.value at (c.ask.ensures.runs c.in-Call.variable)))
+    rw c.in-Call.is (subst P (sym (tree_of_call c.in-Call.line c.in-Call.variable c.in-Call.target c.in-Call.method c.in-Call.es)) (rw c.deref.ensures.value at (c.ask.ensures.runs c.in-Call.line c.in-Call.variable)))
+
+pub statement-returns-in-SetField-clause-runs : goal.statement-returns-in-SetField-clause-runs
+statement-returns-in-SetField-clause-runs t c =
+    let P : Onto ℕ ℕ → Type 0 = λ o. Runs c.args.own c.args.at o c.args.activation.now.variables.items c.args.state.now c.args.statements.now (record { path = reverse c.args.activation.now.path.items; next = c.args.activation.now.next; variables = c.args.activation.now.variables.items }) c.args.arguments.now.items c.set_field.new.state c.set_field.new.statements c.set_field.result in
+    rw c.in-SetField.is (subst P (sym (tree_of_field c.in-SetField.line c.in-SetField.field c.in-SetField.value)) (rw c.as_slice.ensures.value at (c.set_field.ensures.runs c.in-SetField.line c.args.at c.args.activation.now.next (reverse c.args.activation.now.path.items) c.args.arguments.now.items)))
 
 pub statement-returns-in-If-clause-runs : goal.statement-returns-in-If-clause-runs
 statement-returns-in-If-clause-runs t c =
