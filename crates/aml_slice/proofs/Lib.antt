@@ -19,3 +19,4 @@ pub mod SlicedMoves
 pub mod ExactMoves
 pub mod ExactStarts
 pub mod Finished
+pub mod ReadersLeave

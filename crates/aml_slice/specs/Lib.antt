@@ -1,4 +1,5 @@
 pub mod Controls
+pub mod Readers
 pub mod Slicing
 pub mod Wholes
 pub mod Moments

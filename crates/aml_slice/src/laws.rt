@@ -1,6 +1,6 @@
 //! What follows for whoever runs transactions in slices. Each is called to cite it.
 
-ghost use Rattle.std.specs.Prelude.{◌≡◌, ◌<◌, ℕ, List, length};
+ghost use Rattle.std.specs.Prelude.{◌≡◌, ◌<◌, ℕ, IsTrue, List, length};
 ghost use Rattle.snap_base.specs.declared.ids.Tid.{Tid};
 ghost use Rattle.snap_base.specs.declared.transactions.State.{State};
 ghost use Rattle.snap_base.specs.declared.transactions.Tx.{Tx};
@@ -8,9 +8,11 @@ ghost use Rattle.snap_base.specs.declared.transactions.TxResult.{TxResult};
 ghost use Rattle.aml_check.specs.Checked.{methods_of};
 ghost use Rattle.aml_check.specs.Closed.{IsClosedProgram};
 ghost use Rattle.aml_check.specs.Meaning.{alone, state_at};
+ghost use Rattle.aml_check.specs.Names.{method_at};
 ghost use Rattle.aml_check.specs.Transactions.{IsTransaction};
 ghost use Rattle.aml_resume.specs.Resuming.{BlocksRise, CallsRise, CountsRise, PausesAsMeant, PausesWhereAllowed};
 ghost use Rattle.aml_slice.specs.Controls.{Rest, IsRest};
+ghost use Rattle.aml_slice.specs.Readers.{AllReading, HandsOnReading};
 ghost use Rattle.aml_slice.specs.declared.slices.Next.{Next};
 ghost use Rattle.aml_slice.specs.Slicing.{slice_end, started};
 ghost use Rattle.aml_slice.specs.Wholes.{Begins, Cut, IsRestKept, RunsInSlices, world_after};
@@ -18,7 +20,7 @@ ghost use Rattle.aml_slice.specs.Moments.{IsHandedOn, IsMoment, IsSameEnd, IsSam
 ghost use Rattle.aml_slice.specs.Finishing.{after_slice, finished};
 
 use aml_check::Checked;
-use aml_resume::{counts_rise, pauses_as_meant, pauses_where_allowed};
+use aml_resume::{counts_rise, pauses_as_meant, pauses_where_allowed, reading_leaves};
 
 /// At its beginning all of a transaction is left.
 pub fn transactions_begin(program: &Checked)
@@ -57,6 +59,17 @@ pub fn slices_finish(program: &Checked)
     ensures alone { (count : ℕ) (tid : Tid) (tx : Tx) (w : List State) → IsTransaction (methods_of program.now) count tx → length w ≡ count → alone (methods_of program.now) w tx ≡ record { result = (finished (methods_of program.now) count (started tid tx) w).result; world = world_after (finished (methods_of program.now) count (started tid tx) w).result w (finished (methods_of program.now) count (started tid tx) w).world } }
 {
     known(program);
+}
+
+/// A transaction whose root promises only to read leaves the state of each actor that it comes to: all its calls are
+/// of methods that promise the same, at its beginning and behind each slice, and each slice leaves the state.
+pub fn readers_leave(program: &Checked)
+    ensures begins { (tid : Tid) (tx : Tx) → IsTrue (method_at (methods_of program.now) tx.method).is_read → AllReading (methods_of program.now) (started tid tx) }
+    ensures state { (count : ℕ) (c : Rest) (s : State) → AllReading (methods_of program.now) c → (slice_end (methods_of program.now) count c s).state ≡ s }
+    ensures handed_on { (count : ℕ) (c : Rest) (s : State) → AllReading (methods_of program.now) c → HandsOnReading (methods_of program.now) (slice_end (methods_of program.now) count c s).next }
+{
+    known(program);
+    reading_leaves();
 }
 
 /// What is known of every checked program, and of its methods that are run on.

@@ -3,7 +3,7 @@
 //! Controls hold no reference, so they can be sent from actor to actor, and all the memory that they will
 //! ever need. Contracts see one as the rest of its transaction (`specs/Controls.antt`); how it begins and
 //! what a slice makes of it are functions (`specs/Slicing.antt`), and what these mean are laws
-//! (`specs/Wholes.antt`, `specs/Moments.antt`).
+//! (`specs/Wholes.antt`, `specs/Moments.antt`; of transactions that only read, `specs/Readers.antt`).
 #![tactic(auto)]
 
 mod allowances;
@@ -15,5 +15,7 @@ mod slices;
 mod starts;
 
 pub use controls::Control;
-pub use laws::{each_slice, one_moment, slices_add_up, slices_finish, transactions_begin};
+pub use laws::{
+    each_slice, one_moment, readers_leave, slices_add_up, slices_finish, transactions_begin,
+};
 pub use slices::{Next, slice};
