@@ -1,5 +1,6 @@
 -- The facts that the machine uses, from what the sliced executor promises of beginnings and slices.
 use Rattle.std.proofs.Common.{◌≡◌, ℕ, ◌<◌, inl, true, Some, unwrap_or, List, set, refl, ◌∙◌, subst, arith}
+use Rattle.std.specs.Prelude.{IsTrue}
 use Rattle.snap_base.specs.declared.ids.ActorId.{ActorId}
 use Rattle.snap_base.specs.declared.ids.Tid.{Tid}
 use Rattle.snap_base.specs.declared.transactions.Kind.{Kind}
@@ -11,7 +12,9 @@ use Rattle.aml_check.specs.Meaning.{state_at, declaration, used}
 use Rattle.aml_check.specs.Transactions.{IsTransaction}
 use Rattle.aml_slice.specs.declared.slices.Next as slices
 use Rattle.aml_slice.specs.declared.slices.Next.TheVariants as slice
+use Rattle.aml_check.specs.Names.{method_at}
 use Rattle.aml_slice.specs.Controls.{Rest, IsRest}
+use Rattle.aml_slice.specs.Readers.{AllReading, HandsOnReading}
 use Rattle.aml_slice.specs.Slicing.{actor_id, slice_end, started, root_used}
 use Rattle.aml_slice.specs.Wholes.{Begins}
 use Rattle.aml_slice.specs.Moments.{HandsOn, IsHandedOn}
@@ -26,6 +29,8 @@ use Rattle.machine_code.proofs.Naming.{only_named}
 pub record Promises (p : List CheckedMethod) (count : ℕ) : Type 0 where
   pub begins : (tid : Tid) (tx : Tx) → IsTransaction p count tx → Begins p tid tx (started tid tx)
   pub hands_on : (c : Rest) (s : State) → IsRest p count c → IsHandedOn p count c (slice_end p count c s).next
+  pub begins_reading : (tid : Tid) (tx : Tx) → IsTrue (method_at p tx.method).is_read → AllReading p (started tid tx)
+  pub hands_on_reading : (c : Rest) (s : State) → AllReading p c → HandsOnReading p (slice_end p count c s).next
   pub keeps : (c : Rest) (w : List State) → IsRest p count c → finished p count c w ≡ after_slice (finished p count) c w (slice_end p count c (state_at w c.top.actor))
 
 -- a PACT has a declaration
@@ -50,6 +55,13 @@ handed_by p count c b d (slice.Ended r) on is = absurd cc
 handed : (p : List CheckedMethod) (count : ℕ) (tx : Tx) (c d : Rest) (s : State) (b : ℕ) → Promises p count → IsRestOf p count tx c → as_next (slice_end p count c s).next ≡ Go b d → HandsOn p count c (actor_id b) d
 handed p count tx c d s b promises is e = handed_by p count c b d (slice_end p count c s).next (promises.hands_on c s is.rest) e
 
+-- of a transaction that only reads, so does what was handed on
+reading_by : (p : List CheckedMethod) (b : ℕ) (d : Rest) (next : slices.Next) → HandsOnReading p next → as_next next ≡ Go b d → AllReading p d
+reading_by p b d (slice.Go e f) on is =
+    let same : f ≡ d = cc in
+    subst (AllReading p) same on
+reading_by p b d (slice.Ended r) on is = absurd cc
+
 -- what becomes of a transaction behind a slice
 finish_behind : (p : List CheckedMethod) (count : ℕ) (w : List State) (next : slices.Next) → goes_on (finished p count) w next ≡ rest_of (finish p count) (as_next next) w
 finish_behind p count w (slice.Go b d) = refl
@@ -57,10 +69,14 @@ finish_behind p count w (slice.Ended r) = refl
 
 pub machine_facts : (p : List CheckedMethod) (count : ℕ) → Promises p count → Facts count (method_code p count) (IsTransaction p count) (IsRestOf p count) (finish p count)
 machine_facts p count promises = record {
-  starts = λ t tx is. record { rest = (promises.begins (tid_of t) tx is).rest count is.actor; declares = λ pact. declares_some tx.kind tx.uses tx.actor.0 pact };
+  starts = λ t tx is. record { rest = (promises.begins (tid_of t) tx is).rest count is.actor; declares = λ pact. declares_some tx.kind tx.uses tx.actor.0 pact; reads = λ reader. promises.begins_reading (tid_of t) tx reader };
   stays = λ tx c d s b is e. (
       let on = handed p count tx c d s b promises is e in
-      record { rest = on.rest; declares = λ pact. (let uses = is.declares pact in on.declares uses.0 uses.1) });
+      record {
+        rest = on.rest;
+        declares = λ pact. (let uses = is.declares pact in on.declares uses.0 uses.1);
+        reads = λ reader. reading_by p b d (slice_end p count c s).next (promises.hands_on_reading c s (is.reads reader)) e;
+      });
   begins_at_root = λ t tx. refl;
   goes_elsewhere = λ tx c d s b is e. (
       let on = handed p count tx c d s b promises is e in

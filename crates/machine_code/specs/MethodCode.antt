@@ -9,7 +9,9 @@ use Rattle.snap_base.specs.declared.transactions.Tx.{Tx}
 use Rattle.aml_tree.specs.Tree.{CheckedMethod}
 use Rattle.aml_slice.specs.declared.slices.Next as slices
 use Rattle.aml_slice.specs.declared.slices.Next.TheVariants as slice
+use Rattle.aml_check.specs.Names.{method_at}
 use Rattle.aml_slice.specs.Controls.{Frame, Rest, IsRest, moves_left}
+use Rattle.aml_slice.specs.Readers.{AllReading}
 use Rattle.aml_slice.specs.Slicing.{SliceEnd, slice_end, started}
 use Rattle.aml_slice.specs.Finishing.{finished}
 use Rattle.protocol.specs.Fixed.{Next, Go, Ended, Sliced, Code, is_pact}
@@ -53,10 +55,16 @@ method_code p count = record {
 
 -- ---- of which transaction a control is a rest, and what becomes of it
 
--- a rest of the transaction; one of a PACT has what is left of its declaration
+-- whether the root of the transaction is a method that promises only to read
+abbrev pub only_reads : List CheckedMethod → Tx → Bool
+only_reads p tx = (method_at p tx.method).is_read
+
+-- a rest of the transaction; one of a PACT has what is left of its declaration, and one that only reads stands in
+-- methods that do
 pub record IsRestOf (p : List CheckedMethod) (count : ℕ) (tx : Tx) (c : Rest) : Type 0 where
   pub rest : IsRest p count c
   pub declares : is_pact tx ≡ true → (uses : List (ActorId × ℕ)) × (c.left ≡ Some uses)
+  pub reads : only_reads p tx ≡ true → AllReading p c
 
 -- what becomes of a control where nobody else changes the world
 abbrev pub finish : List CheckedMethod → ℕ → Rest → List State → Alone

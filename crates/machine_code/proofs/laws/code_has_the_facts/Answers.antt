@@ -7,5 +7,7 @@ returns c count =
     machine_facts (methods_of c.args.program.now) count (record {
       begins = c.transactions_begin.ensures count;
       hands_on = c.each_slice.ensures.handed_on count;
+      begins_reading = c.readers_leave.ensures.begins;
+      hands_on_reading = c.readers_leave.ensures.handed_on count;
       keeps = c.slices_finish.ensures.keeps count;
     })
