@@ -3,7 +3,7 @@ use Rattle.std.proofs.Common.{◌≡◌, ℕ, ◌+◌, max, List, [], ◌∷◌,
 use Rattle.std.specs.Prelude.{if◌then◌else◌}
 use Rattle.protocol.specs.Rivals.{Lock}
 use Rattle.protocol.specs.Parts.{Entry, BatchEntry, ActEntry}
-use Rattle.protocol.specs.Words.{acts_on, group_behind, tail_group, batches_on, greatest}
+use Rattle.protocol.specs.Words.{group_behind, tail_group, batches_on, greatest}
 use Rattle.hybrid_schedule.specs.Schedules.{is_act}
 
 -- how many ACTs stand behind the last batch, after so many
@@ -18,19 +18,6 @@ length-group_behind seen (ActEntry x ∷ es) = length-group_behind (seen ++ x �
 
 pub tail_counted : (es : List Entry) → length (tail_group es) ≡ tail_count 0 es
 tail_counted es = length-group_behind [] es
-
--- how many ACTs there are, after so many
-abbrev pub act_count : ℕ → List Entry → ℕ
-act_count n [] = n
-act_count n (e ∷ es) = act_count (if is_act e then n + 1 else n) es
-
-act_count_from : (n : ℕ) (es : List Entry) → act_count n es ≡ n + length (acts_on es)
-act_count_from n [] = omega arith
-act_count_from n (BatchEntry b ∷ es) = act_count_from n es
-act_count_from n (ActEntry x ∷ es) = let step = act_count_from (n + 1) es in omega (arith, step)
-
-pub acts_counted : (es : List Entry) → length (acts_on es) ≡ act_count 0 es
-acts_counted es = let all = act_count_from 0 es in omega (arith, all)
 
 pub greatest_more : (e : Entry) (es : List Entry) → greatest (batches_on (e ∷ es)) ≡ max (greatest (batches_on (e ∷ []))) (greatest (batches_on es))
 greatest_more (BatchEntry b) es = omega arith

@@ -1,9 +1,10 @@
 -- A walk along a list, up to the first element that is meant.
-use Rattle.std.proofs.Common.{◌≡◌, ℕ, Bool, true, false, not, ◌&&◌, Option, Some, None, List, [], ◌∷◌, refl, ap, ◌∙◌, find}
+use Rattle.std.proofs.Common.{◌≡◌, ℕ, Bool, true, false, not, ◌&&◌, ◌||◌, Option, Some, None, List, [], ◌∷◌, refl, sym, ap, ◌∙◌, find}
 use Rattle.std.specs.Prelude.{if◌then◌else◌}
 use Rattle.std.specs.List.{list_all}
+use Rattle.std.proofs.lemmas.Bool.{true≢false}
 use Rattle.protocol.specs.Parts.{Entry, BatchEntry, ActEntry, Who}
-use Rattle.protocol.specs.Words.{is_empty, holds, is_batch_entry, is_entry_of, is_clear, is_complete_batch, is_over_for, ahead, acts_on, who_of, who_on}
+use Rattle.protocol.specs.Words.{is_empty, holds, is_batch_entry, is_entry_of, is_clear, is_reader_entry, is_complete_batch, is_over_for, ahead, acts_on, who_of, who_on}
 use Rattle.hybrid_schedule.specs.Schedules.{is_act, is_next, is_behind_no_act}
 
 -- all that stands ahead of the first one that is meant passes; where none is, this is answered
@@ -37,29 +38,98 @@ no_act_ahead meant (ActEntry x ∷ es) =
 pub is_behind_no_act_walk : (k : ℕ) (es : List Entry) → is_behind_no_act k es ≡ reaches (is_batch_entry k) is_no_act true es
 is_behind_no_act_walk k es = no_act_ahead (is_batch_entry k) es
 
--- no two ACTs can have the actor together: whoever waits, waits for what is not complete
-over_is_complete : (own e : Entry) → is_over_for own e ≡ is_complete_batch e
-over_is_complete (BatchEntry b) e = refl
-over_is_complete (ActEntry x) (BatchEntry c) = refl
-over_is_complete (ActEntry x) (ActEntry y) = refl
+-- a walk up to an entry that is meant: from the first reader on nothing but a reader goes through
+abbrev pub clears : (Entry → Bool) → Bool → List Entry → Bool
+clears meant behind [] = false
+clears meant behind (e ∷ es) = if meant e then (not behind || is_reader_entry e) else (if is_reader_entry e then clears meant true es else (is_complete_batch e && clears meant behind es))
+
+twice_not : (b : Bool) → not (not (b && true)) ≡ b
+twice_not true = refl
+twice_not false = refl
+
+never : (b : Bool) → not (not (b && false)) ≡ false
+never true = refl
+never false = refl
+
+-- a reader is in the way of all but readers
+over_reader : (own e : Entry) → is_reader_entry e ≡ true → is_over_for own e ≡ is_reader_entry own
+over_reader own (BatchEntry c) h = absurd (true≢false (sym h))
+over_reader (BatchEntry b) (ActEntry y) h = refl
+over_reader (ActEntry x) (ActEntry y) h = ap (λ b. not (not (x.reader && b))) h ∙ twice_not x.reader
+
+-- anything else lets pass where it is complete
+over_other : (own e : Entry) → is_reader_entry e ≡ false → is_over_for own e ≡ is_complete_batch e
+over_other (BatchEntry b) e h = refl
+over_other (ActEntry x) (BatchEntry c) h = refl
+over_other (ActEntry x) (ActEntry y) h = ap (λ b. not (not (x.reader && b))) h ∙ never x.reader
+
+same_holds : (f g : Entry → Bool) → ((own : Entry) → f own ≡ g own) → (o : Option Entry) → holds f o ≡ holds g o
+same_holds f g h None = refl
+same_holds f g h (Some own) = h own
 
 and_none : (b : Bool) → false ≡ (b && false)
 and_none true = refl
 and_none false = refl
 
-first_passes : (e : Entry) (es : List Entry) (o : Option Entry) → holds (λ own. list_all (is_over_for own) (e ∷ es)) o ≡ (is_complete_batch e && holds (λ own. list_all (is_over_for own) es) o)
-first_passes e es None = and_none (is_complete_batch e)
-first_passes e es (Some own) = ap (λ b. b && list_all (is_over_for own) es) (over_is_complete own e)
+holds_and : (c : Bool) (f : Entry → Bool) (o : Option Entry) → holds (λ own. c && f own) o ≡ (c && holds f o)
+holds_and c f None = and_none c
+holds_and c f (Some own) = refl
 
-clear_ahead : (meant : Entry → Bool) (es : List Entry) → holds (λ own. list_all (is_over_for own) (ahead meant es)) (find meant es) ≡ reaches meant is_complete_batch false es
-clear_ahead meant [] = refl
-clear_ahead meant (e ∷ es) =
-    let step = first_passes e (ahead meant es) (find meant es) ∙ ap (λ b. is_complete_batch e && b) (clear_ahead meant es) in
-    elim (meant e) as (λ b. holds (λ own. list_all (is_over_for own) (if b then [] else e ∷ ahead meant es)) (if b then Some e else find meant es) ≡ (if b then true else (is_complete_batch e && reaches meant is_complete_batch false es)))
-    [ true ↦ refl | false ↦ step ]
+behind_reader : (behind r l : Bool) → ((not behind || r) && (r && l)) ≡ (r && l)
+behind_reader true r l = by r
+  where
+    by : (b : Bool) → (b && (b && l)) ≡ (b && l)
+    by true = refl
+    by false = refl
+behind_reader false r l = refl
 
-pub is_clear_walk : (t : ℕ) (es : List Entry) → is_clear t es ≡ reaches (is_entry_of t) is_complete_batch false es
-is_clear_walk t es = clear_ahead (is_entry_of t) es
+and_first : (p c l : Bool) → (p && (c && l)) ≡ (c && (p && l))
+and_first true c l = refl
+and_first false c l = and_none c
+
+and_true : (b : Bool) → (b && true) ≡ b
+and_true true = refl
+and_true false = refl
+
+-- all ahead is over for it, and where readers stood there before, it is one
+abbrev goes_through : (Entry → Bool) → Bool → List Entry → Entry → Bool
+goes_through meant behind es own = (not behind || is_reader_entry own) && list_all (is_over_for own) (ahead meant es)
+
+past_reader : (meant : Entry → Bool) (behind : Bool) (e : Entry) (es : List Entry) → is_reader_entry e ≡ true
+    → holds (λ own. (not behind || is_reader_entry own) && (is_over_for own e && list_all (is_over_for own) (ahead meant es))) (find meant es) ≡ holds (goes_through meant true es) (find meant es)
+past_reader meant behind e es q =
+    same_holds _ _ (λ own.
+    ap (λ b. (not behind || is_reader_entry own) && (b && list_all (is_over_for own) (ahead meant es))) (over_reader own e q)
+    ∙ behind_reader behind (is_reader_entry own) (list_all (is_over_for own) (ahead meant es))) (find meant es)
+
+past_other : (meant : Entry → Bool) (behind : Bool) (e : Entry) (es : List Entry) → is_reader_entry e ≡ false
+    → holds (λ own. (not behind || is_reader_entry own) && (is_over_for own e && list_all (is_over_for own) (ahead meant es))) (find meant es) ≡ (is_complete_batch e && holds (goes_through meant behind es) (find meant es))
+past_other meant behind e es q =
+    same_holds _ _ (λ own.
+    ap (λ b. (not behind || is_reader_entry own) && (b && list_all (is_over_for own) (ahead meant es))) (over_other own e q)
+    ∙ and_first (not behind || is_reader_entry own) (is_complete_batch e) (list_all (is_over_for own) (ahead meant es))) (find meant es)
+    ∙ holds_and (is_complete_batch e) (goes_through meant behind es) (find meant es)
+
+clear_ahead : (meant : Entry → Bool) (behind : Bool) (es : List Entry) → holds (goes_through meant behind es) (find meant es) ≡ clears meant behind es
+clear_ahead meant behind [] = refl
+clear_ahead meant behind (e ∷ es) =
+    let read = clear_ahead meant true es in
+    let other = clear_ahead meant behind es in
+    elim (meant e) as (λ b.
+    holds (λ own. (not behind || is_reader_entry own) && list_all (is_over_for own) (if b then [] else e ∷ ahead meant es)) (if b then Some e else find meant es)
+    ≡ (if b then (not behind || is_reader_entry e) else (if is_reader_entry e then clears meant true es else (is_complete_batch e && clears meant behind es))))
+    [ true ↦ and_true (not behind || is_reader_entry e) | false ↦ by (is_reader_entry e) refl read other ]
+  where
+    by : (b : Bool) → is_reader_entry e ≡ b
+        → holds (goes_through meant true es) (find meant es) ≡ clears meant true es
+        → holds (goes_through meant behind es) (find meant es) ≡ clears meant behind es
+        → holds (λ own. (not behind || is_reader_entry own) && (is_over_for own e && list_all (is_over_for own) (ahead meant es))) (find meant es)
+        ≡ (if b then clears meant true es else (is_complete_batch e && clears meant behind es))
+    by true q read other = past_reader meant behind e es q ∙ read
+    by false q read other = past_other meant behind e es q ∙ ap (λ b. is_complete_batch e && b) other
+
+pub is_clear_walk : (t : ℕ) (es : List Entry) → is_clear t es ≡ clears (is_entry_of t) false es
+is_clear_walk t es = clear_ahead (is_entry_of t) false es
 
 -- whose the first entry is that is meant, else this
 abbrev pub owner_in : Who → Option Entry → Who

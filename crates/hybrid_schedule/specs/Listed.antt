@@ -1,5 +1,5 @@
 -- What stands on a schedule and is not over, listed.
-use Rattle.std.specs.Prelude.{ℕ, not, if◌then◌else◌, List, [], ◌∷◌, map, filter}
+use Rattle.std.specs.Prelude.{ℕ, Bool, not, ◌&&◌, if◌then◌else◌, List, [], ◌∷◌, map, filter}
 use Rattle.std.specs.List.{flat_map}
 use Rattle.protocol.specs.Parts.{Slot, Entry, BatchEntry, ActEntry}
 
@@ -23,3 +23,12 @@ undone_of (ActEntry x) = []
 -- those of all sub-batches, in order
 abbrev pub undone_on : List Entry → List ℕ
 undone_on entries = flat_map undone_of entries
+
+-- the ACT, where one that comes, which reads or not, can't stand beside it
+abbrev pub rival_of : Bool → Entry → List ℕ
+rival_of reader (BatchEntry b) = []
+rival_of reader (ActEntry x) = if reader && x.reader then [] else x.tid ∷ []
+
+-- those of all, in order
+abbrev pub rivals_among : Bool → List Entry → List ℕ
+rivals_among reader entries = flat_map (rival_of reader) entries

@@ -2,10 +2,9 @@
 use Rattle.std.specs.Prelude.{Bool, List}
 use Rattle.snap_base.specs.declared.transactions.Who.{Who}
 use Rattle.snap_base.specs.declared.transactions.Who.TheVariants.{Batch, Act}
-use Rattle.protocol.specs.Rivals.{lock_of}
 use Rattle.protocol.specs.Parts.{Slot, Entry, BatchEntry, ActEntry}
 
--- the entry of this one: a batch has slots and may be complete, an ACT is its lock
-abbrev pub placed : Who → List Slot → Bool → Entry
-placed (Batch bid) slots complete = BatchEntry (record { bid = bid.0; slots = slots; complete = complete })
-placed (Act tid) slots complete = ActEntry (lock_of tid.0)
+-- the entry of this one: a batch has slots and may be complete, an ACT may be a reader
+abbrev pub placed : Who → List Slot → Bool → Bool → Entry
+placed (Batch bid) slots complete reader = BatchEntry (record { bid = bid.0; slots = slots; complete = complete })
+placed (Act tid) slots complete reader = ActEntry (record { tid = tid.0; reader = reader })

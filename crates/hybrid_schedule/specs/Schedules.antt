@@ -1,5 +1,5 @@
 -- What a schedule begins with, and what it is asked for beyond the machine's own words.
-use Rattle.std.specs.Prelude.{ℕ, ◌&&◌, Bool, true, false, not, List, [], map, find}
+use Rattle.std.specs.Prelude.{ℕ, ◌&&◌, Bool, true, false, not, List, [], map, filter, find}
 use Rattle.std.specs.List.{list_all}
 use Rattle.protocol.specs.Parts.{Entry, BatchEntry, ActEntry}
 use Rattle.protocol.specs.Words.{is_empty, holds, is_batch_entry, is_entry_of, is_clear, is_turn_of, is_complete_batch, is_all_done, ahead, tail_group, acts_on}
@@ -9,9 +9,9 @@ use Rattle.protocol.specs.CellParts.{HybridSchedule}
 abbrev pub opened : ℕ → HybridSchedule
 opened base = record { entries = []; epoch = 0; last = base; last_trimmed = base; tail = 0 }
 
--- the ACTs behind the last batch
-abbrev pub tail_tids : List Entry → List ℕ
-tail_tids entries = map (λ x. x.tid) (tail_group entries)
+-- Of the ACTs behind the last batch those that an ACT which comes can't stand beside: a reader, or one that is none.
+abbrev pub rival_tids : Bool → List Entry → List ℕ
+rival_tids reader entries = map (λ x. x.tid) (filter (λ x. not (reader && x.reader)) (tail_group entries))
 
 -- in its sub-batch it is the transaction's turn
 abbrev pub has_turn : ℕ → List Entry → Bool

@@ -1,7 +1,9 @@
 //! What a list of entries is asked. Each walks it once.
-ghost use Rattle.std.specs.Prelude.{◌≡◌, ℕ, max, not, find, take_while, length, option_copied};
+ghost use Rattle.std.specs.Prelude.{◌≡◌, ℕ, max, not, find, take_while, length, map, option_copied};
 ghost use Rattle.std.specs.List.{list_any, list_all};
-ghost use Rattle.protocol.specs.Words.{is_batch_entry, is_act_entry, is_entry_of, is_clear, is_turn_of, has_undone, has_act, has_entry, who_on, is_complete_batch, is_all_done, ahead, batches_on, acts_on, greatest, tail_group};
+ghost use Rattle.protocol.specs.Parts.{ActEntry};
+ghost use Rattle.protocol.specs.Words.{is_batch_entry, is_act_entry, is_entry_of, is_clear, is_turn_of, has_undone, has_act, has_entry, who_on, is_complete_batch, is_all_done, ahead, batches_on, greatest, tail_group};
+ghost use Rattle.protocol.specs.OnCell.{reads_on};
 ghost use Rattle.machine_words.specs.Meant.{who_meant};
 ghost use Rattle.hybrid_schedule.specs.Schedules.{has_turn, is_incomplete, is_next, is_done, is_behind_no_act};
 ghost use Rattle.hybrid_schedule.specs.Cuts.{staying_below, is_cut_off};
@@ -51,19 +53,33 @@ pub fn who_on(entries: &[Entry], t: Tid) -> Who
     }
 }
 
-/// Whether the transaction has an entry, and all ahead of it is complete.
+/// Whether the transaction has an entry, and nothing ahead of it is in its way: all there is complete, or of ACTs that
+/// only read, where it is of one itself.
 pub fn is_clear(entries: &[Entry], t: Tid) -> bool
     ensures { result ≡ is_clear t.0 entries.now }
 {
+    let mut behind_reader = false;
     for place in entries {
         if place.is_entry_of(t) {
-            return true;
+            return !behind_reader || place.is_reader();
         }
-        if !place.is_complete() {
+        if place.is_reader() {
+            behind_reader = true;
+        } else if !place.is_complete() {
             return false;
         }
     }
     false
+}
+
+/// Whether the transaction's entry is of an ACT that only reads.
+pub fn is_reader(entries: &[Entry], t: Tid) -> bool
+    ensures { result ≡ reads_on t.0 entries.now }
+{
+    match entry_of(entries, t) {
+        Some(own) => own.is_reader(),
+        None => false,
+    }
 }
 
 pub fn has_turn(entries: &[Entry], t: Tid) -> bool
@@ -125,7 +141,7 @@ pub fn is_behind_no_act(entries: &[Entry], k: Bid) -> bool
 
 /// How many ACTs stand behind the last batch.
 #[tactic(auto, using(crate::proofs::Counting::tail_counted))]
-pub fn tail_length(entries: &[Entry]) -> usize
+fn tail_length(entries: &[Entry]) -> usize
     ensures { result ≡ length (tail_group entries.now) }
 {
     let mut count = 0;
@@ -139,17 +155,13 @@ pub fn tail_length(entries: &[Entry]) -> usize
     count
 }
 
-#[tactic(auto, using(crate::proofs::Counting::acts_counted))]
-pub fn count_acts(entries: &[Entry]) -> usize
-    ensures { result ≡ length (acts_on entries.now) }
+/// The ACTs behind the last batch.
+#[tactic(auto, using(crate::proofs::OfActs::tail_fits))]
+pub fn tail(entries: &[Entry]) -> &[Entry]
+    ensures { result.now ≡ map ActEntry (tail_group entries.now) }
 {
-    let mut count = 0;
-    for e in entries {
-        if e.is_act() {
-            count += 1;
-        }
-    }
-    count
+    let length = tail_length(entries);
+    &entries[entries.len() - length..]
 }
 
 /// How many entries stand ahead of the first batch that is not below this one.

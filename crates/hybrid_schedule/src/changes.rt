@@ -1,8 +1,7 @@
 //! What changes within a schedule's lists.
-ghost use Rattle.std.specs.Prelude.{◌≡◌, ℕ, ◌+◌, ◌<◌, ◌≤◌, ◌==◌, [], ◌∷◌, ◌++◌, not, map, filter, OnOk, OnErr, IfOk, IsOk, vec_len, vec_capacity};
+ghost use Rattle.std.specs.Prelude.{◌≡◌, ℕ, ◌+◌, ◌<◌, ◌≤◌, [], ◌∷◌, ◌++◌, not, map, filter, OnOk, OnErr, IfOk, IsOk, vec_len, vec_capacity};
 ghost use Rattle.protocol.specs.Words.{is_batch_entry, is_act_entry};
 ghost use Rattle.protocol.specs.OnCell.{done_in, complete_in};
-ghost use Rattle.machine_words.specs.Meant.{tid_number};
 
 use crate::entries::Entry;
 use crate::slots::Slot;
@@ -66,14 +65,6 @@ pub fn remove_batch(entries: &mut Vec<Entry>, k: Bid)
     ensures fewer { vec_len entries.new ≤ vec_len entries.old }
 {
     entries.retain(|e| !e.is_batch(k));
-}
-
-pub fn remove_tid(acts: &mut Vec<Tid>, t: Tid)
-    ensures items { map tid_number acts.new.items ≡ filter (λ u. not (u == t.0)) (map tid_number acts.old.items) }
-    ensures capacity { vec_capacity acts.new ≡ vec_capacity acts.old }
-    ensures fewer { vec_len acts.new ≤ vec_len acts.old }
-{
-    acts.retain(|u| u.0 != t.0);
 }
 
 /// Memory for the slots of a sub-batch with so many tids, the one that lies ready where it is enough, and room for

@@ -1,13 +1,12 @@
 ghost use Rattle.std.specs.Prelude.{◌≡◌, ℕ, ◌-◌, ◌^◌, nat_lt, min, max, Bool, false, ◌∷◌, ◌++◌, [], not, map, OnOk};
 ghost use Rattle.protocol.specs.Left.{entry_left};
-ghost use Rattle.protocol.specs.Rivals.{lock_of};
 ghost use Rattle.protocol.specs.Parts.{BatchEntry, ActEntry};
-ghost use Rattle.protocol.specs.Words.{is_batch_entry, is_act_entry, is_entry_of, who_of, is_complete_batch, is_turn_of, is_undone, is_all_done, batches_on, greatest};
+ghost use Rattle.protocol.specs.Words.{is_batch_entry, is_act_entry, is_entry_of, who_of, is_reader_entry, is_complete_batch, is_turn_of, is_undone, is_all_done, batches_on, greatest};
 ghost use Rattle.protocol.specs.OnCell.{done_in, complete_in};
 ghost use Rattle.machine_words.specs.Meant.{tid_number, who_meant};
 ghost use Rattle.hybrid_schedule.specs.Schedules.{is_act};
 ghost use Rattle.hybrid_schedule.specs.Cuts.{is_from};
-ghost use Rattle.hybrid_schedule.specs.Listed.{incomplete_of, undone_of};
+ghost use Rattle.hybrid_schedule.specs.Listed.{incomplete_of, rival_of, undone_of};
 
 use crate::slots::Slots;
 use machine_words::unless;
@@ -22,6 +21,8 @@ pub struct Entry {
     owner: Who,
     slots: Slots,
     complete: bool,
+    /// Whether it is of an ACT that only reads.
+    reader: bool,
 }
 
 impl Model for Entry {
@@ -30,7 +31,7 @@ impl Model for Entry {
 
     ghost Value = { protocol.Entry };
 
-    ghost view = { λ e. placed e.owner e.slots e.complete };
+    ghost view = { λ e. placed e.owner e.slots e.complete e.reader };
 }
 
 impl Entry {
@@ -42,16 +43,19 @@ impl Entry {
             owner: Who::Batch(bid),
             slots,
             complete: false,
+            reader: false,
         }
     }
 
-    pub fn act(alloc: Global, t: Tid) -> Self
-        ensures { result ≡ ActEntry (lock_of t.0) }
+    /// An ACT, which only reads or not.
+    pub fn act(alloc: Global, t: Tid, reader: bool) -> Self
+        ensures { result ≡ ActEntry (record { tid = t.0; reader = reader }) }
     {
         Entry {
             owner: Who::Act(t),
             slots: Slots::none(alloc),
             complete: false,
+            reader,
         }
     }
 
@@ -106,6 +110,16 @@ impl Entry {
         match self.owner {
             Who::Batch(_) => false,
             Who::Act(_) => true,
+        }
+    }
+
+    /// Whether it is of an ACT that only reads.
+    pub fn is_reader(&self) -> bool
+        ensures { result ≡ is_reader_entry self.now }
+    {
+        match self.owner {
+            Who::Batch(_) => false,
+            Who::Act(_) => self.reader,
         }
     }
 
@@ -205,6 +219,21 @@ impl Entry {
         match self.owner {
             Who::Batch(_) => self.slots.list_undone(tids),
             Who::Act(_) => Ok(()),
+        }
+    }
+
+    /// Adds the ACT, where one that comes, which only reads or not, can't stand beside it.
+    pub fn list_rival(&self, reader: bool, tids: &mut Vec<Tid>) -> Result<(), Memory>
+        ensures { OnOk result (map tid_number tids.new.items ≡ map tid_number tids.old.items ++ rival_of reader self.now) }
+    {
+        match self.owner {
+            Who::Batch(_) => Ok(()),
+            Who::Act(tid) => {
+                if !(reader && self.reader) {
+                    tids.push(tid)?;
+                }
+                Ok(())
+            }
         }
     }
 }

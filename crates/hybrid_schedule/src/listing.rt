@@ -1,8 +1,11 @@
-//! What stands on a schedule and is not over, listed. Each walks what stands there once.
+//! What stands on a schedule, listed. Each walks what stands there once.
 ghost use Rattle.std.specs.Prelude.{◌≡◌, map, IfOk};
+ghost use Rattle.protocol.specs.OnBook.{tids_on};
 ghost use Rattle.machine_words.specs.Meant.{tid_number};
-ghost use Rattle.hybrid_schedule.specs.Listed.{incomplete_on, undone_on};
+ghost use Rattle.hybrid_schedule.specs.Listed.{incomplete_on, rivals_among, undone_on};
+ghost use Rattle.hybrid_schedule.specs.Schedules.{rival_tids};
 
+use crate::askings;
 use crate::entries::Entry;
 use crate::schedule::Schedule;
 use snap_base::{Bid, Memory, Tid};
@@ -22,6 +25,23 @@ impl Schedule {
     {
         undone_among(alloc, &self.entries)
     }
+
+    /// All ACTs, in order.
+    #[tactic(auto, using(crate::proofs::OfActs::all_are_rivals))]
+    pub fn acts(&self, alloc: Global) -> Result<Vec<Tid>, Memory>
+        ensures { IfOk result (λ acts. map tid_number acts.items ≡ tids_on self.now.schedule.entries) }
+    {
+        rivals_among(alloc, &self.entries, false)
+    }
+
+    /// Of the ACTs behind the last sub-batch those that an ACT which comes can't stand beside, in order. Of a `reader`
+    /// these are the ones that do not only read, and else they are all.
+    #[tactic(auto, using(crate::proofs::OfActs::rivals_of_locks))]
+    pub fn rivals(&self, alloc: Global, reader: bool) -> Result<Vec<Tid>, Memory>
+        ensures { IfOk result (λ tids. map tid_number tids.items ≡ rival_tids reader self.now.schedule.entries) }
+    {
+        rivals_among(alloc, askings::tail(&self.entries), reader)
+    }
 }
 
 fn incomplete_among(alloc: Global, entries: &[Entry]) -> Result<Vec<Bid>, Memory>
@@ -40,6 +60,17 @@ fn undone_among(alloc: Global, entries: &[Entry]) -> Result<Vec<Tid>, Memory>
     let mut tids = Vec::new(alloc);
     for entry in entries {
         entry.list_undone(&mut tids)?;
+    }
+    Ok(tids)
+}
+
+/// The ACTs that one which comes, which only reads or not, can't stand beside.
+fn rivals_among(alloc: Global, entries: &[Entry], reader: bool) -> Result<Vec<Tid>, Memory>
+    ensures { IfOk result (λ tids. map tid_number tids.items ≡ rivals_among reader entries.now) }
+{
+    let mut tids = Vec::new(alloc);
+    for entry in entries {
+        entry.list_rival(reader, &mut tids)?;
     }
     Ok(tids)
 }

@@ -1,10 +1,10 @@
-ghost use Rattle.std.specs.Prelude.{◌≡◌, ℕ, ◌+◌, ◌≤◌, ◌<◌, nat_lt, Bool, Some, None, map, length, MatchResult, IfOk, OnOk, OnErr, IfErr, IsOk};
+ghost use Rattle.std.specs.Prelude.{◌≡◌, ℕ, ◌+◌, ◌≤◌, ◌<◌, nat_lt, Bool, Some, None, length, MatchResult, IfOk, OnOk, OnErr, IfErr, IsOk};
 ghost use Rattle.protocol.specs.Words.{has_act, has_entry, has_undone, is_clear, who_on};
-ghost use Rattle.protocol.specs.OnBook.{tids_on};
+ghost use Rattle.protocol.specs.OnCell.{reads_on};
 ghost use Rattle.protocol.specs.CellParts.{with_batch, with_act, with_done, with_complete, without_act, without_batch};
-ghost use Rattle.machine_words.specs.Meant.{tid_number, sub_batch, who_meant};
+ghost use Rattle.machine_words.specs.Meant.{sub_batch, who_meant};
 ghost use Rattle.hybrid_schedule.specs.Room.{KeepsRoom};
-ghost use Rattle.hybrid_schedule.specs.Schedules.{opened, tail_tids, has_turn, can_run, is_incomplete, is_next, is_done, can_complete, is_behind_no_act};
+ghost use Rattle.hybrid_schedule.specs.Schedules.{opened, has_turn, can_run, is_incomplete, is_next, is_done, can_complete, is_behind_no_act};
 ghost use Rattle.hybrid_schedule.specs.Cuts.{cut_from, is_cut_off};
 ghost use Rattle.hybrid_schedule.specs.Arrivals.{refusal, MatchRefusal};
 
@@ -24,8 +24,6 @@ const FIRST_ENTRIES: usize = 4;
 #[derive(Drop)]
 pub struct Schedule {
     pub(crate) entries: Vec<Entry>,
-    /// The ACTs among them, in order. The last ones are the tail group, which is lent to whoever asks.
-    acts: Vec<Tid>,
     /// Empty: memory for the slots of the next sub-batch.
     ready: Vec<Slot>,
     epoch: u64,
@@ -35,20 +33,18 @@ pub struct Schedule {
 }
 
 impl Model for Schedule {
-    ghost use Rattle.std.specs.Prelude.{◌≡◌, ◌-◌, min, map, [], vec_len, vec_capacity};
-    ghost use Rattle.protocol.specs.OnBook.{tids_on};
-    ghost use Rattle.machine_words.specs.Meant.{tid_number};
+    ghost use Rattle.std.specs.Prelude.{◌≡◌, ◌-◌, [], vec_len, vec_capacity};
     ghost use Rattle.hybrid_schedule.specs.Room.{Roomed};
 
     ghost Value = { Roomed };
 
     ghost view = { λ s. record {
       schedule = record { entries = s.entries.items; epoch = s.epoch; last = s.last.0; last_trimmed = s.last_trimmed.0; tail = s.tail.0 };
-      spare_entries = min (vec_capacity s.entries - vec_len s.entries) (vec_capacity s.acts - vec_len s.acts);
+      spare_entries = vec_capacity s.entries - vec_len s.entries;
       spare_tids = vec_capacity s.ready;
     } };
 
-    ghost invariant = { λ s. (map tid_number s.acts.items ≡ tids_on s.entries.items) × (s.ready.items ≡ []) };
+    ghost invariant = { λ s. s.ready.items ≡ [] };
 }
 
 impl Schedule {
@@ -57,10 +53,8 @@ impl Schedule {
         ensures { IfOk result (λ s. s.schedule ≡ opened base.0) }
     {
         let entries = Vec::with_capacity(alloc, FIRST_ENTRIES)?;
-        let acts = Vec::with_capacity(alloc, FIRST_ENTRIES)?;
         Ok(Schedule {
             entries,
-            acts,
             ready: Vec::new(alloc),
             epoch: 0,
             last: base,
@@ -77,7 +71,6 @@ impl Schedule {
         ensures no_less { KeepsRoom self.old self.new }
     {
         self.entries.reserve(1)?;
-        self.acts.reserve(1)?;
         if self.ready.capacity() < tids {
             self.ready = Vec::with_capacity(alloc, tids)?;
         }
@@ -120,36 +113,17 @@ impl Schedule {
         }
     }
 
-    /// Places an ACT at the end. It takes the room of one entry.
-    pub fn place_act(&mut self, alloc: Global, t: Tid) -> Result<(), Memory>
-        ensures ok { OnOk result (self.new.schedule ≡ with_act t.0 None self.old.schedule) }
+    /// Places an ACT at the end, which only reads or not. It takes the room of one entry.
+    pub fn place_act(&mut self, alloc: Global, t: Tid, reader: bool) -> Result<(), Memory>
+        ensures ok { OnOk result (self.new.schedule ≡ with_act (record { tid = t.0; reader = reader }) None self.old.schedule) }
         ensures err { OnErr result (self.new ≡ self.old) }
         ensures has_room { 1 ≤ self.old.spare_entries → IsOk result }
         ensures entries { self.old.spare_entries ≤ self.new.spare_entries + 1 }
         ensures tids { self.old.spare_tids ≤ self.new.spare_tids }
     {
         self.entries.reserve(1)?;
-        self.acts.reserve(1)?;
-        changes::push_in_room(&mut self.entries, Entry::act(alloc, t));
-        changes::push_in_room(&mut self.acts, t);
+        changes::push_in_room(&mut self.entries, Entry::act(alloc, t, reader));
         Ok(())
-    }
-
-    /// The ACTs behind the last sub-batch, in order.
-    #[tactic(auto, using(crate::proofs::OfActs::tail_fits))]
-    pub fn tail(&self) -> &[Tid]
-        ensures { map tid_number result.now ≡ tail_tids self.now.schedule.entries }
-    {
-        let length = askings::tail_length(&self.entries);
-        let acts = self.acts.as_slice();
-        &acts[acts.len() - length..]
-    }
-
-    /// All ACTs, in order.
-    pub fn acts(&self, alloc: Global) -> Result<Vec<Tid>, Memory>
-        ensures { IfOk result (λ acts. map tid_number acts.items ≡ tids_on self.now.schedule.entries) }
-    {
-        Ok(Vec::from_slice(alloc, &self.acts)?)
     }
 
     /// The greatest batch that was placed and not rolled back, or the one that it began with.
@@ -208,11 +182,19 @@ impl Schedule {
         askings::who_on(&self.entries, t)
     }
 
-    /// Whether the transaction has its place, and all ahead of it is complete.
+    /// Whether the transaction has its place, and nothing ahead of it is in its way: all there is complete, or of ACTs
+    /// that only read, where it is of one itself.
     pub fn is_clear(&self, t: Tid) -> bool
         ensures { result ≡ is_clear t.0 self.now.schedule.entries }
     {
         askings::is_clear(&self.entries, t)
+    }
+
+    /// Whether the transaction's place is that of an ACT which only reads.
+    pub fn is_reader(&self, t: Tid) -> bool
+        ensures { result ≡ reads_on t.0 self.now.schedule.entries }
+    {
+        askings::is_reader(&self.entries, t)
     }
 
     /// Whether the transaction has its place, and in its sub-batch all smaller tids are done.
@@ -281,7 +263,6 @@ impl Schedule {
         ensures room { KeepsRoom self.old self.new }
     {
         changes::remove_act(&mut self.entries, t);
-        changes::remove_tid(&mut self.acts, t);
     }
 
     /// Whether no ACT stands ahead of the sub-batch.
@@ -300,15 +281,13 @@ impl Schedule {
 
     /// A rollback: the schedule is cut at its first batch that is not below this one, with all ACTs behind it, and
     /// is of this epoch from now on.
-    #[tactic(auto, using(crate::proofs::OfActs::acts_of_front, crate::proofs::Cutting::staying_is_front))]
+    #[tactic(auto, using(crate::proofs::Cutting::staying_is_front))]
     pub fn drop_aborted(&mut self, bid: Bid, epoch: u64)
         ensures cut { self.new.schedule ≡ cut_from bid.0 epoch self.old.schedule }
         ensures room { KeepsRoom self.old self.new }
     {
         let staying = askings::count_below(&self.entries, bid);
         self.entries.truncate(staying);
-        let acts = askings::count_acts(&self.entries);
-        self.acts.truncate(acts);
         self.epoch = epoch;
         self.last = Bid(askings::greatest_batch(&self.entries, self.last_trimmed.0));
         self.tail = Bid(0);
