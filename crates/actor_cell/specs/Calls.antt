@@ -1,8 +1,8 @@
 -- What the calls of a cell do to its store, where the machine has no word for it.
-use Rattle.std.specs.Prelude.{ℕ, nat_le, max, Bool, not, if◌then◌else◌, Some, filter, find}
+use Rattle.std.specs.Prelude.{ℕ, nat_le, Bool, not, if◌then◌else◌, Some, filter, find}
 use Rattle.machine_words.specs.Meant.{who_meant}
 use Rattle.protocol.specs.CellParts.{Store}
-use Rattle.protocol.specs.OnCell.{state_from, is_undone_act}
+use Rattle.protocol.specs.OnCell.{state_from, is_undone_act, raised_floors}
 use Rattle.protocol.specs.Parts.{Act, Who, OfBatch, OfAct}
 use Rattle.protocol.specs.Words.{is_who, is_sealed, image_of}
 use Rattle.actor_cell.specs.declared.meant.Meant.{Meant}
@@ -30,11 +30,12 @@ restored who s = record s { state = state_from s.state (image_of who s.images) }
 abbrev pub finished : Who → Store → Store
 finished who s = record s { images = filter (λ i. not (is_who who i.who)) s.images }
 
-abbrev pub raised : ℕ → Store → Store
-raised m s = record s { floor = max s.floor m }
+-- the floor of one that only reads, or of others, rises to this number
+abbrev pub raised : Bool → ℕ → Store → Store
+raised reader m s = record s { floors = raised_floors reader m s.floors }
 
 -- an ACT leaves by these calls
 abbrev pub left_by : ℕ → Act → Store → Store
 left_by t x s =
     let ended = finished (OfAct t) (if is_undone_act (Some x) then restored (OfAct t) s else s) in
-    if is_sealed x.status then raised x.m ended else ended
+    if is_sealed x.status then raised x.reader x.m ended else ended

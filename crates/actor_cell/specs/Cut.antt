@@ -18,7 +18,7 @@ AreAbortedFrom k cascades entries = AllByRecursion (λ j. is_aborted j cascades 
 abbrev pub NoneIsAborted : List Cascade → List Entry → Type 0
 NoneIsAborted cascades entries = AllByRecursion (λ j. is_aborted j cascades ≡ false) (batches_on entries)
 
--- behind an entry that is no complete batch, nothing has run
+-- behind an entry that is no complete batch, nothing has an image: there nobody ran but who only reads
 abbrev pub HaveRunInOrder : List Entry → List Image → Type 0
 HaveRunInOrder [] images = Unit {0}
 HaveRunInOrder (e ∷ es) images = (is_complete_batch e ≡ false → AllByRecursion (λ i. is_entry_among i.who es ≡ false) images) × HaveRunInOrder es images

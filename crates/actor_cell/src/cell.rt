@@ -1,8 +1,8 @@
-ghost use Rattle.std.specs.Prelude.{◌≡◌, ◌<◌, max, false, [], length, not, is_some, filter, IfOk};
+ghost use Rattle.std.specs.Prelude.{◌≡◌, ◌<◌, false, [], length, not, is_some, filter, IfOk};
 ghost use Rattle.machine_words.specs.Meant.{who_meant};
 ghost use Rattle.protocol.specs.CellParts.{without_image};
-ghost use Rattle.protocol.specs.OnCell.{with_image, state_from};
-ghost use Rattle.protocol.specs.Words.{image_of, is_who};
+ghost use Rattle.protocol.specs.OnCell.{with_image, raised_floors, state_from};
+ghost use Rattle.protocol.specs.Words.{floor_for, image_of, is_who};
 ghost use Rattle.actor_cell.specs.Calls.{undone_from};
 
 use crate::images::{Images, MOST_IMAGES};
@@ -11,14 +11,17 @@ use snap_base::{Bid, Memory, State, Who};
 use std::alloc::Global;
 use std::marker::Model;
 
-/// One actor: its state, the images of it that entries have, and its floor. Contracts see the machine's `Store`.
+/// One actor: its state, the images of it that entries have, and its two floors. Contracts see the machine's `Store`.
 ///
 /// All memory is taken by `new`. A cell that is let go spends its images.
 #[derive(Drop)]
 pub struct Cell {
     state: State,
     images: Images,
-    floor: Bid,
+    /// The greatest batch that stands before an ACT which left for good, at first `base`: here of those that write.
+    write_floor: Bid,
+    /// And of those that only read.
+    read_floor: Bid,
 }
 
 impl Model for Cell {
@@ -26,22 +29,23 @@ impl Model for Cell {
 
     ghost Value = { Store };
 
-    ghost view = { λ c. record { state = c.state; images = c.images; floor = c.floor.0 } };
+    ghost view = { λ c. record { state = c.state; images = c.images; floors = record { write = c.write_floor.0; read = c.read_floor.0 } } };
 }
 
 impl Cell {
     ghost use Rattle.std.specs.Borrow.{sem};
     ghost use Rattle.actor_cell.specs.Lending.{LendsState};
 
-    /// A cell with this state, without an image, and with `base` as its floor. `Memory` where the room for its images
+    /// A cell with this state, without an image, and with `base` as both its floors. `Memory` where the room for its images
     /// cannot be allocated.
     pub fn new(alloc: Global, state: State, base: Bid) -> Result<Cell, Memory>
-        ensures { IfOk result (λ cell. cell ≡ record { state = state; images = []; floor = base.0 }) }
+        ensures { IfOk result (λ cell. cell ≡ record { state = state; images = []; floors = record { write = base.0; read = base.0 } }) }
     {
         Ok(Cell {
             state,
             images: Images::new(alloc)?,
-            floor: base,
+            write_floor: base,
+            read_floor: base,
         })
     }
 
@@ -99,17 +103,27 @@ impl Cell {
         self.finish_entry(Who::Batch(bid));
     }
 
-    /// The greatest batch that stands before an ACT which left for good, at first `base`: it stands before whoever comes.
-    pub fn floor(&self) -> Bid
-        ensures { result.0 ≡ self.now.floor }
+    /// The floor that counts for an ACT that comes: this batch stands before it. Behind those that wrote and left for good
+    /// stands whoever comes; behind those that only read, whoever does not only read.
+    pub fn floor(&self, reader: bool) -> Bid
+        ensures { result.0 ≡ floor_for reader self.now.floors }
     {
-        self.floor
+        if reader {
+            self.write_floor
+        } else {
+            Bid(self.write_floor.0.max(self.read_floor.0))
+        }
     }
 
-    /// The floor becomes the greater of itself and `m`, the batch before an ACT that leaves for good.
-    pub fn raise_floor(&mut self, m: Bid)
-        ensures { self.new ≡ record self.old { floor = max self.old.floor m.0 } }
+    /// The floor of its kind becomes the greater of itself and `m`, the batch before an ACT that leaves for good and that
+    /// only reads or not. The other floor stays.
+    pub fn raise_floor(&mut self, m: Bid, reader: bool)
+        ensures { self.new ≡ record self.old { floors = raised_floors reader m.0 self.old.floors } }
     {
-        self.floor = Bid(self.floor.0.max(m.0));
+        if reader {
+            self.read_floor = Bid(self.read_floor.0.max(m.0));
+        } else {
+            self.write_floor = Bid(self.write_floor.0.max(m.0));
+        }
     }
 }

@@ -24,14 +24,14 @@ pub fn what_stays_is_ahead()
     ensures { (k : ℕ) (cascades : List Cascade) (entries : List Entry) → Ascends (batches_on entries) → AreAbortedFrom k cascades entries → is_among k (batches_on entries) ≡ true → staying cascades entries ≡ ahead (is_batch_entry k) entries }
 {}
 
-/// Where nothing runs behind an entry that is no complete batch, and an ACT is ahead of where a schedule is cut, nothing
-/// that goes has run.
+/// Where nothing has an image behind an entry that is no complete batch, and an ACT is ahead of where a schedule is cut,
+/// nothing that goes has one.
 pub fn nothing_behind_an_act_has_run()
     ensures { (cascades : List Cascade) (entries : List Entry) (images : List Image) → HaveRunInOrder entries images → is_empty (acts_on (staying cascades entries)) ≡ false → AllByRecursion (λ i. is_entry_among i.who (going cascades entries) ≡ false) images }
 {}
 
 /// An ACT that leaves has its entry restored where it is doomed or failed, and finished, and where it is sealed the floor
-/// is raised to its before number.
+/// of its kind is raised to its before number.
 pub fn parting_is_restoring_and_finishing()
     ensures { (t : ℕ) (x : Act) (s : Store) → left_by t x s ≡ parted t (Some x) s }
 {}

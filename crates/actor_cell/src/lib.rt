@@ -1,8 +1,9 @@
-//! What an actor has: its state, images of what the state was when entries first ran, and a floor for who comes.
+//! What an actor has: its state, images of what the state was when entries first ran, and two floors for who comes.
 //!
 //! A `Cell` is one actor's. Contracts see the machine's `Store`: the state, the images in the order in which they were
-//! taken, and the floor. What is done to it goes by whose an image is, a batch's or an ACT's; the schedule of the actor,
-//! which knows who stands where, is another value. The core calls it, at Run, Finish, Rollback and Trim.
+//! taken, and the floors, of ACTs that only read and of others. What is done to it goes by whose an image is, a batch's or
+//! an ACT's; the schedule of the actor, which knows who stands where and who only reads, is another value. The core calls
+//! it, at Run, Finish, Rollback and Trim: at a Run of an ACT that only reads it asks for no image.
 #![tactic(auto)]
 
 mod cell;
