@@ -42,7 +42,8 @@ enum Step {
     Write(i64),
     Undo(u64, bool),
     Trim(u64),
-    Raise(u64),
+    /// By an ACT that only reads, or by another.
+    Raise(u64, bool),
 }
 
 /// A cell, and how often an image of it was asked for.
@@ -66,11 +67,12 @@ impl Model for Cells {
 impl Stepped for Cells {
     type Step = Step;
 
-    /// It answers the first field and the floor.
+    /// It answers the first field, and the floors of who comes: of an ACT that only reads, and of another.
     fn step(&mut self, alloc: Global, step: Step) -> Result<String, Memory> {
         self.make(step);
-        let (first, floor) = (self.cell.state().0[0], self.cell.floor());
-        Ok(format!(in alloc; "{first} {floor}")?)
+        let first = self.cell.state().0[0];
+        let (reader, writer) = (self.cell.floor(true), self.cell.floor(false));
+        Ok(format!(in alloc; "{first} {reader} {writer}")?)
     }
 }
 
@@ -83,7 +85,7 @@ impl Cells {
             Step::Write(first) => self.cell.state_mut().0[0] = first,
             Step::Undo(bid, acts) => self.cell.undo_from(Bid(bid), acts),
             Step::Trim(bid) => self.cell.trim(Bid(bid)),
-            Step::Raise(m) => self.cell.raise_floor(Bid(m)),
+            Step::Raise(m, reader) => self.cell.raise_floor(Bid(m), reader),
         }
     }
 
@@ -113,39 +115,49 @@ const ACT: Who = Who::Act(Tid(9));
 
 /// Batch 1 did not run here, and an ACT behind it wrote: with the batch it is undone.
 const BEHIND: [(Step, &str); 4] = [
-    (Step::Start(ACT), "50 0"),
-    (Step::Write(57), "57 0"),
-    (Step::Undo(1, false), "57 0"),
-    (Step::Undo(1, true), "50 0"),
+    (Step::Start(ACT), "50 0 0"),
+    (Step::Write(57), "57 0 0"),
+    (Step::Undo(1, false), "57 0 0"),
+    (Step::Undo(1, true), "50 0 0"),
 ];
 
 /// Three batches, and an ACT between the last two. Each keeps its first image.
 const BATCHES: [(Step, &str); 16] = [
-    (Step::Start(FIRST), "50 0"),
-    (Step::Write(60), "60 0"),
-    (Step::Start(FIRST), "60 0"),
-    (Step::Write(61), "61 0"),
-    (Step::Start(SECOND), "61 0"),
-    (Step::Write(70), "70 0"),
-    (Step::Start(ACT), "70 0"),
-    (Step::Write(77), "77 0"),
-    (Step::Restore(ACT), "70 0"),
-    (Step::Write(78), "78 0"),
-    (Step::Finish(ACT), "78 0"),
-    (Step::Start(THIRD), "78 0"),
-    (Step::Write(80), "80 0"),
-    (Step::Trim(1), "80 0"),
-    (Step::Undo(3, true), "78 0"),
-    (Step::Undo(1, true), "61 0"),
+    (Step::Start(FIRST), "50 0 0"),
+    (Step::Write(60), "60 0 0"),
+    (Step::Start(FIRST), "60 0 0"),
+    (Step::Write(61), "61 0 0"),
+    (Step::Start(SECOND), "61 0 0"),
+    (Step::Write(70), "70 0 0"),
+    (Step::Start(ACT), "70 0 0"),
+    (Step::Write(77), "77 0 0"),
+    (Step::Restore(ACT), "70 0 0"),
+    (Step::Write(78), "78 0 0"),
+    (Step::Finish(ACT), "78 0 0"),
+    (Step::Start(THIRD), "78 0 0"),
+    (Step::Write(80), "80 0 0"),
+    (Step::Trim(1), "80 0 0"),
+    (Step::Undo(3, true), "78 0 0"),
+    (Step::Undo(1, true), "61 0 0"),
 ];
 
-/// What has no image stays, and a floor does not sink.
-const NOTHING: [(Step, &str); 5] = [
-    (Step::Restore(ACT), "61 0"),
-    (Step::Undo(0, true), "61 0"),
-    (Step::Finish(SECOND), "61 0"),
-    (Step::Raise(3), "61 3"),
-    (Step::Raise(2), "61 3"),
+/// What has no image stays.
+const NOTHING: [(Step, &str); 3] = [
+    (Step::Restore(ACT), "61 0 0"),
+    (Step::Undo(0, true), "61 0 0"),
+    (Step::Finish(SECOND), "61 0 0"),
+];
+
+/// No floor sinks. One that an ACT raised which only reads holds for others alone, and what another raised for all.
+const FLOORS: [(Step, &str); 8] = [
+    (Step::Raise(3, false), "61 3 3"),
+    (Step::Raise(2, false), "61 3 3"),
+    (Step::Raise(2, true), "61 3 3"),
+    (Step::Raise(5, true), "61 3 5"),
+    (Step::Raise(4, true), "61 3 5"),
+    (Step::Raise(4, false), "61 4 5"),
+    (Step::Raise(7, false), "61 7 7"),
+    (Step::Raise(6, true), "61 7 7"),
 ];
 
 #[test]
@@ -156,5 +168,6 @@ fn images_bring_states_back(rt: HostRuntime) -> Result<(), Fail> {
     assert_eq!(rt; differences(alloc, &mut cell, &BEHIND)?.as_str(), "");
     assert_eq!(rt; differences(alloc, &mut cell, &BATCHES)?.as_str(), "");
     assert_eq!(rt; differences(alloc, &mut cell, &NOTHING)?.as_str(), "");
+    assert_eq!(rt; differences(alloc, &mut cell, &FLOORS)?.as_str(), "");
     Ok(())
 }
