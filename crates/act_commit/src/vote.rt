@@ -1,4 +1,4 @@
-ghost use Rattle.std.specs.Prelude.{◌≡◌, ℕ, ◌==◌, not, ◌&&◌, None, Some, map, IsTrue, IfOk};
+ghost use Rattle.std.specs.Prelude.{◌≡◌, ℕ, ◌==◌, not, ◌&&◌, false, None, Some, map, IsTrue, IfOk};
 ghost use Rattle.protocol.specs.BookParts.{not_voted};
 ghost use Rattle.protocol.specs.Parts.{Live};
 ghost use Rattle.protocol.specs.OnBook.{marked, decided_as, sealed};
@@ -34,13 +34,13 @@ pub(crate) struct Vote {
 }
 
 impl Model for Vote {
-    ghost use Rattle.std.specs.Prelude.{Some, None};
+    ghost use Rattle.std.specs.Prelude.{false, Some, None};
     ghost use Rattle.protocol.specs.Parts.{Act};
     ghost use Rattle.act_commit.specs.Stages.{status_of, IsReadyIfDecided};
 
     ghost Value = { Act };
 
-    ghost view = { λ v. record { tid = v.tid.0; tx = 0; m = 0; n = None; places = v.seats.items; result = Some v.result; status = status_of v.stage } };
+    ghost view = { λ v. record { tid = v.tid.0; tx = 0; reader = false; m = 0; n = None; places = v.seats.items; result = Some v.result; status = status_of v.stage } };
 
     ghost invariant = { λ v. IsReadyIfDecided (status_of v.stage) v.result v.seats.items };
 }
@@ -53,7 +53,7 @@ impl Vote {
         outcome: TxResult,
         actors: &[ActorId],
     ) -> Result<Vote, Memory>
-        ensures { IfOk result (λ v. v ≡ record { tid = tid.0; tx = 0; m = 0; n = None; places = map not_voted (actor_numbers actors.now); result = Some outcome; status = Live }) }
+        ensures { IfOk result (λ v. v ≡ record { tid = tid.0; tx = 0; reader = false; m = 0; n = None; places = map not_voted (actor_numbers actors.now); result = Some outcome; status = Live }) }
     {
         Ok(Vote {
             tid,
