@@ -1,4 +1,5 @@
 pub mod Oldest
+pub mod Locks
 pub mod Rows
 pub mod Finding
 pub mod Counting

@@ -70,14 +70,14 @@ registered_forgotten acts new tids by_tx live r e = subst (λ (zs : List Act). I
 
 -- ---- one more ACT
 
-pub registered_pushed : (t n m : ℕ) (acts new : List Act) (tids : List ℕ) (by_tx more : List (Option ℕ)) (live : ℕ) → IsRegistered acts tids by_tx live
-    → All (λ (x : Act). x.tid < t) acts → new ≡ acts ++ new_act t n m ∷ []
+pub registered_pushed : (t n : ℕ) (reader : Bool) (m : ℕ) (acts new : List Act) (tids : List ℕ) (by_tx more : List (Option ℕ)) (live : ℕ) → IsRegistered acts tids by_tx live
+    → All (λ (x : Act). x.tid < t) acts → new ≡ acts ++ new_act t n reader m ∷ []
     → ((k : ℕ) → get_or more k None ≡ first_of (get_or by_tx k None) (n == k) t) → IsRegistered new (tids ++ t ∷ []) more (live + 1)
-registered_pushed t n m acts new tids by_tx more live r below e noted = subst (λ (zs : List Act). IsRegistered zs (tids ++ t ∷ []) more (live + 1)) (sym e) (record {
-  listed = ap (λ (ns : List ℕ). ns ++ t ∷ []) r.listed ∙ sym (map_push (λ (x : Act). x.tid) acts (new_act t n m));
+registered_pushed t n reader m acts new tids by_tx more live r below e noted = subst (λ (zs : List Act). IsRegistered zs (tids ++ t ∷ []) more (live + 1)) (sym e) (record {
+  listed = ap (λ (ns : List ℕ). ns ++ t ∷ []) r.listed ∙ sym (map_push (λ (x : Act). x.tid) acts (new_act t n reader m));
   rising = rising_push tids t r.rising (subst (AllByRecursion (λ k. k < t)) (sym r.listed) (tids_below t acts (recursion_from_All (λ (x : Act). x.tid < t) acts below)));
-  found = λ k. noted k ∙ (ap (λ (o : Option ℕ). first_of o (n == k) t) (r.found k) ∙ sym (found_push k acts (new_act t n m)));
-  counted = ap (λ (k : ℕ). k + 1) r.counted ∙ sym (count_push is_live_act acts (new_act t n m) refl);
+  found = λ k. noted k ∙ (ap (λ (o : Option ℕ). first_of o (n == k) t) (r.found k) ∙ sym (found_push k acts (new_act t n reader m)));
+  counted = ap (λ (k : ℕ). k + 1) r.counted ∙ sym (count_push is_live_act acts (new_act t n reader m) refl);
 })
 
 pub none_more : (xs : List (Option ℕ)) (n : ℕ) → get_or (xs ++ None ∷ []) n None ≡ get_or xs n None

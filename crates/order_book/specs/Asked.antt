@@ -1,27 +1,32 @@
 -- What the book is asked.
-use Rattle.std.specs.Prelude.{ℕ, Option, Some, None, List, [], ◌∷◌, map}
+use Rattle.std.specs.Prelude.{◌≡◌, ℕ, false, Option, Some, None, List, [], ◌∷◌, map}
 use Rattle.snap_base.specs.declared.ids.Tid.{Tid}
 use Rattle.snap_base.specs.declared.verdicts.Verdict.{Verdict}
 use Rattle.machine_words.specs.Meant.{tid_number}
-use Rattle.protocol.specs.Rivals.{Lock, lock_of}
+use Rattle.protocol.specs.Rivals.{Lock}
 use Rattle.protocol.specs.Parts.{Joined, Status, Live, Doomed, Decided, Sealed, Act}
 use Rattle.order_book.specs.declared.answer.Answer.{Answer}
 use Rattle.order_book.specs.declared.answer.Answer.TheVariants.{Free, Die, Wait}
 
 -- ---- wait-die
 
--- the locks of the ACTs with these tids
+-- These are the tids of the locks, in their order. The answer and the pairs depend on them alone, whoever of the ACTs
+-- only reads.
+abbrev pub AreLocksOf : List Tid → List Lock → Type 0
+AreLocksOf tids locks = map (λ x. x.tid) locks ≡ map tid_number tids
+
+-- the locks with these tids, as of ACTs that write
 abbrev pub locks_of : List Tid → List Lock
-locks_of tids = map lock_of (map tid_number tids)
+locks_of tids = map (λ t. record { tid = t; reader = false }) (map tid_number tids)
 
 abbrev pub free_or_wait : List Tid → Answer
 free_or_wait [] = Free
 free_or_wait (t ∷ ts) = Wait
 
--- who meets an older one gives way to the oldest
+-- who meets an older rival gives way to the oldest
 abbrev pub answered : Option ℕ → List Tid → Answer
-answered (Some older) tail = Die (record { 0 = older })
-answered None tail = free_or_wait tail
+answered (Some older) rivals = Die (record { 0 = older })
+answered None rivals = free_or_wait rivals
 
 -- ---- an ACT, where there is one
 

@@ -22,6 +22,8 @@ use std::marker::Model;
 pub struct Act {
     tid: Tid,
     tx: TxNo,
+    /// It only reads.
+    reader: bool,
     before: Bid,
     after: Option<Bid>,
     under: u64,
@@ -37,17 +39,18 @@ impl Model for Act {
 
     ghost Value = { Kept };
 
-    ghost view = { λ a. record { act = record { tid = a.tid.0; tx = a.tx.0; m = a.before.0; n = option_map bid_number a.after; places = a.marks.items; result = None; status = status_of a.fate }; under = a.under } };
+    ghost view = { λ a. record { act = record { tid = a.tid.0; tx = a.tx.0; reader = a.reader; m = a.before.0; n = option_map bid_number a.after; places = a.marks.items; result = None; status = status_of a.fate }; under = a.under } };
 }
 
 impl Act {
     /// An ACT that begins, on no actor yet.
-    pub(crate) fn new(alloc: Global, tid: Tid, tx: TxNo, base: Bid) -> Self
-        ensures { result ≡ record { act = new_act tid.0 tx.0 base.0; under = 0 } }
+    pub(crate) fn new(alloc: Global, tid: Tid, tx: TxNo, reader: bool, base: Bid) -> Self
+        ensures { result ≡ record { act = new_act tid.0 tx.0 reader base.0; under = 0 } }
     {
         Act {
             tid,
             tx,
+            reader,
             before: base,
             after: None,
             under: 0,
@@ -118,6 +121,12 @@ impl Act {
         ensures { result.0 ≡ self.now.act.tx }
     {
         self.tx
+    }
+
+    pub(crate) fn is_reader(&self) -> bool
+        ensures { result ≡ self.now.act.reader }
+    {
+        self.reader
     }
 
     pub(crate) fn before(&self) -> Bid

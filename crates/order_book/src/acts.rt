@@ -66,12 +66,13 @@ impl Acts {
         alloc: Global,
         tid: Tid,
         tx: TxNo,
+        reader: bool,
         base: Bid,
     ) -> Result<(), Memory>
-        ensures ok { OnOk result (self.new ≡ self.old ++ new_act tid.0 tx.0 base.0 ∷ []) }
+        ensures ok { OnOk result (self.new ≡ self.old ++ new_act tid.0 tx.0 reader base.0 ∷ []) }
         ensures err { OnErr result (self.new ≡ self.old) }
     {
-        self.rows.push(Act::new(alloc, tid, tx, base))?;
+        self.rows.push(Act::new(alloc, tid, tx, reader, base))?;
         Ok(())
     }
 
@@ -116,6 +117,15 @@ impl Acts {
         ensures { result ≡ is_some (slice_get self.now at) }
     {
         at < self.rows.len()
+    }
+
+    pub(crate) fn is_reader(&self, at: usize) -> bool
+        ensures { result ≡ holds (λ x. x.reader) (slice_get self.now at) }
+    {
+        match self.rows.get(at) {
+            Some(row) => row.is_reader(),
+            None => false,
+        }
     }
 
     pub(crate) fn is_live(&self, at: usize) -> bool

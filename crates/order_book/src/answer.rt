@@ -1,39 +1,41 @@
-ghost use Rattle.std.specs.Prelude.{◌≡◌, nat_lt, if◌then◌else◌};
+ghost use Rattle.std.specs.Prelude.{◌≡◌, nat_lt, if◌then◌else◌, List};
 ghost use Rattle.std.specs.Option.{option_map};
 ghost use Rattle.machine_words.specs.Meant.{tid_number};
+ghost use Rattle.protocol.specs.Rivals.{Lock};
 ghost use Rattle.protocol.specs.Words.{least_of, least_older};
-ghost use Rattle.order_book.specs.Asked.{locks_of, answered};
+ghost use Rattle.order_book.specs.Asked.{AreLocksOf, locks_of, answered};
 
 use snap_base::Tid;
 
 /// What an ACT is told that asks for an actor.
 #[derive(Clone, Copy, Debug, PartialEq, Eq)]
 pub enum Answer {
-    /// Nobody holds the actor or waits for it: it has it at once.
+    /// No rival holds the actor or waits for it.
     Free,
-    /// It gives way to the oldest of those that are older than itself.
+    /// It gives way to the oldest of the rivals that are older than itself.
     Die(Tid),
-    /// All that hold the actor or wait for it are younger: it waits behind them.
+    /// All rivals that hold the actor or wait for it are younger: it waits behind them.
     Wait,
 }
 
-/// The answer of wait-die to `me`, where `tail` has the ACTs that hold the actor or wait for it behind its last batch.
-pub fn ask(tail: &[Tid], me: Tid) -> Answer
-    ensures { result ≡ answered (least_older me.0 (locks_of tail.now)) tail.now }
+/// The answer of wait-die to `me`, where `rivals` has its rivals that hold the actor or wait for it behind the last batch
+/// there.
+pub fn ask(rivals: &[Tid], me: Tid) -> Answer
+    ensures { (locks : List Lock) → AreLocksOf rivals.now locks → result ≡ answered (least_older me.0 locks) rivals.now }
 {
-    match oldest_before(tail, me) {
+    match oldest_before(rivals, me) {
         Some(older) => Answer::Die(older),
-        None if tail.is_empty() => Answer::Free,
+        None if rivals.is_empty() => Answer::Free,
         None => Answer::Wait,
     }
 }
 
-/// The least tid of the tail that is below this one.
-fn oldest_before(tail: &[Tid], me: Tid) -> Option<Tid>
-    ensures { option_map tid_number result ≡ least_older me.0 (locks_of tail.now) }
+/// The least tid of the rivals that is below this one.
+fn oldest_before(rivals: &[Tid], me: Tid) -> Option<Tid>
+    ensures { option_map tid_number result ≡ least_older me.0 (locks_of rivals.now) }
 {
     let mut least: Option<Tid> = None;
-    for t in tail {
+    for t in rivals {
         least = older_of(least, *t, me);
     }
     least

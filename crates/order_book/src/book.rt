@@ -2,11 +2,12 @@ ghost use Rattle.std.specs.Prelude.{◌≡◌, ℕ, ◌<◌, ◌==◌, not, max,
 ghost use Rattle.std.specs.List.{All};
 ghost use Rattle.std.specs.Option.{option_map};
 ghost use Rattle.machine_words.specs.Meant.{tid_number};
+ghost use Rattle.protocol.specs.Rivals.{Lock};
 ghost use Rattle.protocol.specs.Words.{act_of, count, holds, is_doomed, is_live_act, is_live_status, is_ordered, joined_of};
 ghost use Rattle.protocol.specs.Verdicts.{died};
 ghost use Rattle.protocol.specs.OnBook.{act_admitted, act_asked, act_finished, batch_arrived, changed_act, doomed_by};
 ghost use Rattle.protocol.specs.BookParts.{no_orders, has_place, orders_cascaded};
-ghost use Rattle.order_book.specs.Asked.{locks_of, doom_of, before_of, after_of, tx_of, joined_in, tid_of};
+ghost use Rattle.order_book.specs.Asked.{AreLocksOf, doom_of, before_of, after_of, tx_of, joined_in, tid_of};
 ghost use Rattle.order_book.specs.Fates.{bid_number, tx_number};
 ghost use Rattle.order_book.specs.Kept.{seen};
 
@@ -56,37 +57,45 @@ impl Book {
         }
     }
 
-    /// Transaction `tx` begins as ACT `t`, which is above all others. Batch `base` and those up to it stand before it. For
-    /// want of memory the book is as before.
-    pub fn admit(&mut self, alloc: Global, t: Tid, tx: TxNo, base: Bid) -> Result<(), Memory>
+    /// Transaction `tx` begins as ACT `t`, a reader or not, which is above all others. Batch `base` and those up to it
+    /// stand before it. For want of memory the book is as before.
+    pub fn admit(
+        &mut self,
+        alloc: Global,
+        t: Tid,
+        tx: TxNo,
+        reader: bool,
+        base: Bid,
+    ) -> Result<(), Memory>
         requires { All (λ x. x.tid < t.0) self.old.acts }
-        ensures ok { OnOk result (self.new ≡ act_admitted t.0 tx.0 base.0 self.old) }
+        ensures ok { OnOk result (self.new ≡ act_admitted t.0 tx.0 reader base.0 self.old) }
         ensures err { OnErr result (self.new ≡ self.old) }
     {
         self.walked.reserve(1)?;
         let at = self.register.len();
-        self.register.push(alloc, t, tx, base)?;
+        self.register.push(alloc, t, tx, reader, base)?;
         let _walked = self.walked.push(at);
         Ok(())
     }
 
-    /// ACT `t` joins actor `a`, behind the last batch there, its floor, and those `ahead` of it that are not doomed:
-    /// numbers rise along the pairs, and whose numbers then cross is given up. For want of memory the book is as before.
+    /// ACT `t` joins actor `a`, behind the last batch there, the floor that counts for it, and those of its `rivals` ahead
+    /// that are not doomed: numbers rise along the pairs, and whose numbers then cross is given up. For want of memory the
+    /// book is as before.
     pub fn place(
         &mut self,
         alloc: Global,
         t: Tid,
-        ahead: &[Tid],
+        rivals: &[Tid],
         last: Bid,
         floor: Bid,
         a: ActorId,
     ) -> Result<(), Memory>
         requires { IsTrue (holds (λ x. not (is_doomed x.status)) (act_of t.0 self.old.acts)) }
-        ensures ok { OnOk result (self.new ≡ act_asked None (locks_of ahead.now) t.0 a.0 (max last.0 floor.0) self.old) }
+        ensures ok { OnOk result ((locks : List Lock) → AreLocksOf rivals.now locks → self.new ≡ act_asked None locks t.0 a.0 (max last.0 floor.0) self.old) }
         ensures err { OnErr result (self.new ≡ self.old) }
     {
         let behind = Bid(last.0.max(floor.0));
-        let made = new_pairs(alloc, &self.register, t, ahead, a)?;
+        let made = new_pairs(alloc, &self.register, t, rivals, a)?;
         let at = self.register.place_of(t);
         join(&mut self.register, &mut self.pairs, at, made, behind, a)?;
         spread(
@@ -181,6 +190,14 @@ impl Book {
     {
         let at = self.register.place_of(t);
         self.register.acts().is_act(at)
+    }
+
+    /// Whether ACT `t` only reads.
+    pub fn is_reader(&self, t: Tid) -> bool
+        ensures { result ≡ holds (λ x. x.reader) (act_of t.0 self.now.acts) }
+    {
+        let at = self.register.place_of(t);
+        self.register.acts().is_reader(at)
     }
 
     /// The transaction of ACT `t`; `None` where there is no such ACT.

@@ -2,7 +2,7 @@
 //! is given up for it, and who has its place in the serial order.
 //!
 //! A `Book` is the machine's book as orders: it knows no results, no votes and no commit numbers. The machine asks it at
-//! each event that moves an ACT, and the answer of wait-die, `ask`, is computed here from the locks alone.
+//! each event that moves an ACT, and the answer of wait-die, `ask`, is computed here from the tids of its rivals alone.
 #![tactic(auto)]
 
 mod act;

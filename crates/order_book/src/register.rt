@@ -2,9 +2,8 @@ ghost use Rattle.std.specs.Prelude.{◌≡◌, ◌<◌, ◌≤◌, ◌+◌, ◌=
 ghost use Rattle.std.specs.List.{All, position_or_len};
 ghost use Rattle.std.specs.Option.{option_map};
 ghost use Rattle.machine_words.specs.Meant.{tid_number};
-ghost use Rattle.protocol.specs.Words.{act_of, count, is_live_act};
-ghost use Rattle.protocol.specs.Rivals.{lock_of};
-ghost use Rattle.protocol.specs.OnBook.{new_act, joins, is_doomed_act};
+ghost use Rattle.protocol.specs.Words.{act_of, count, holds, is_doomed, is_live_act};
+ghost use Rattle.protocol.specs.OnBook.{new_act, joins};
 ghost use Rattle.order_book.specs.Asked.{tid_of};
 ghost use Rattle.order_book.specs.Kept.{forgotten};
 ghost use Rattle.order_book.specs.Changes.{changed_by, changed_at, carried_at};
@@ -81,7 +80,7 @@ impl Register {
 
     /// Whether ACT `t` is given up.
     pub(crate) fn is_given_up(&self, t: Tid) -> bool
-        ensures { result ≡ is_doomed_act self.now (lock_of t.0) }
+        ensures { result ≡ holds (λ x. is_doomed x.status) (act_of t.0 self.now) }
     {
         let at = self.place_of(t);
         self.acts.is_given_up(at)
@@ -103,13 +102,20 @@ impl Register {
     }
 
     /// One more ACT, above all others. For want of memory all is as before.
-    pub(crate) fn push(&mut self, alloc: Global, t: Tid, tx: TxNo, base: Bid) -> Result<(), Memory>
+    pub(crate) fn push(
+        &mut self,
+        alloc: Global,
+        t: Tid,
+        tx: TxNo,
+        reader: bool,
+        base: Bid,
+    ) -> Result<(), Memory>
         requires { All (λ x. x.tid < t.0) self.old }
-        ensures ok { OnOk result (self.new ≡ self.old ++ new_act t.0 tx.0 base.0 ∷ []) }
+        ensures ok { OnOk result (self.new ≡ self.old ++ new_act t.0 tx.0 reader base.0 ∷ []) }
         ensures err { OnErr result (self.new ≡ self.old) }
     {
         make_room(&mut self.tids, &mut self.by_tx, tx)?;
-        self.acts.push(alloc, t, tx, base)?;
+        self.acts.push(alloc, t, tx, reader, base)?;
         let _listed = self.tids.push(t.0);
         note(&mut self.by_tx, tx, t);
         self.live += 1;

@@ -15,5 +15,5 @@ invariant_of-self-2 c =
     ∙ (cond-true (is_ok c.push-walked.result) (c.reserve.new.self.items ++ c.len-at.result ∷ []) c.reserve.new.self.items pushed
     ∙ (ap (λ (ats : List ℕ). ats ++ c.len-at.result ∷ []) (c.in_ok-reserve.ensures.items ∙ c.self.invariant)
     ∙ (ap (λ (n : ℕ). places_of (is_walked c.self.inside.pairs.items) 0 c.self.inside.register ++ n ∷ []) (sym at)
-    ∙ (sym (places_push (is_walked c.self.inside.pairs.items) 0 c.self.inside.register (new_act c.args.t.0 c.args.tx.0 c.args.base.0) refl)
+    ∙ (sym (places_push (is_walked c.self.inside.pairs.items) 0 c.self.inside.register (new_act c.args.t.0 c.args.tx.0 c.args.reader c.args.base.0) refl)
     ∙ ap (λ (zs : List Act). places_of (is_walked c.self.inside.pairs.items) 0 zs) (sym c.in_ok-push.ensures.ok)))))

@@ -18,6 +18,6 @@ invariant_of-self-2 c =
     c.push-listed.ensures.items ∙ (cond-true (is_ok c.push-listed.result) (c.make_room.new.tids.items ++ c.args.t.0 ∷ []) c.make_room.new.tids.items pushed
     ∙ ap (λ (ns : List ℕ). ns ++ c.args.t.0 ∷ []) c.in_ok-make_room.ensures.tids) in
     rw listed
-    (registered_pushed c.args.t.0 c.args.tx.0 c.args.base.0 c.self.inside.acts c.push.new.self c.self.inside.tids.items c.self.inside.by_tx.items c.note.new.by_tx.items c.self.inside.live
+    (registered_pushed c.args.t.0 c.args.tx.0 c.args.reader c.args.base.0 c.self.inside.acts c.push.new.self c.self.inside.tids.items c.self.inside.by_tx.items c.note.new.by_tx.items c.self.inside.live
     c.self.invariant (subst (All (λ x. x.tid < c.args.t.0)) (sym c.self.view_is) c.requires) c.in_ok-push.ensures.ok
     (λ k. c.note.ensures k ∙ ap (λ (o : Option ℕ). first_of o (c.args.tx.0 == k) c.args.t.0) (c.in_ok-make_room.ensures.same k)))
