@@ -146,6 +146,7 @@ check_cause_text check.UnknownName = codes "UnknownName"
 check_cause_text check.Duplicate = codes "Duplicate"
 check_cause_text check.ArgCount = codes "ArgCount"
 check_cause_text check.NoReturn = codes "NoReturn"
+check_cause_text check.ReadWrites = codes "ReadWrites"
 
 -- of a program's cause, the name of what is wrong with the program
 abbrev pub program_cause_text : ProgramCause → List ℕ

@@ -134,6 +134,7 @@ fn check_cause_name(cause: CheckCause) -> &'static str
         CheckCause::Duplicate => "Duplicate",
         CheckCause::ArgCount => "ArgCount",
         CheckCause::NoReturn => "NoReturn",
+        CheckCause::ReadWrites => "ReadWrites",
     }
 }
 
