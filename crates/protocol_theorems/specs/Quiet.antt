@@ -43,7 +43,8 @@ BehindBatches acts [] = Unit {0}
 BehindBatches acts (ActEntry x ∷ es) = BehindBatches acts es
 BehindBatches acts (BatchEntry b ∷ es) = ((t : ℕ) (y : Act) → has_act t es ≡ true → act_of t acts ≡ Some y → is_doomed y.status ≡ false → b.bid ≤ y.m) × BehindBatches acts es
 
--- of two ACTs on a schedule that are not doomed, and do not both only read, the one ahead has a smaller before number, or the same and is younger
+-- of two ACTs on a schedule that are not doomed, unless both only read, the one ahead has a smaller before number, or the same
+-- and is younger
 abbrev pub IsAheadOf : Act → Act → Type 0
 IsAheadOf x y = (x.m < y.m) ⊎ ((x.m ≤ y.m) × (y.tid < x.tid))
 

@@ -5,9 +5,8 @@ ghost use Rattle.protocol_theorems.specs.OnActors.{AllLieInOrder, LimitsHold, Re
 ghost use Rattle.protocol_theorems.specs.Sizes.{AllFindRoom, SizesHold};
 
 /// On every actor batches ascend, each image is of an entry, and nothing has run behind an entry that is no complete batch,
-/// ACTs that only read aside. A
-/// cell that has not seen all cascades holds aborted batches exactly from the first one of the next cascade on, and the ACTs
-/// behind one are doomed; a cell that has seen all of them holds none.
+/// ACTs that only read aside. A cell that has not seen all cascades holds aborted batches exactly from the first one of the
+/// next cascade on, and the ACTs behind one are doomed; a cell that has seen all of them holds none.
 pub fn actors_lie_in_order<C>()
     ensures { AfterEveryRunWithHistory (AllLieInOrder {C = C}) }
 {}
