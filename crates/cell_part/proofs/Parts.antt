@@ -1,16 +1,14 @@
 -- A cell from its parts.
-use Rattle.std.proofs.Common.{◌≡◌, ℕ, ◌==◌, nat_le, Bool, false, List, [], ◌∷◌, length, map, filter, refl, ap, ◌∙◌, arith}
+use Rattle.std.proofs.Common.{◌≡◌, ℕ, ◌==◌, nat_le, Bool, false, List, [], ◌∷◌, length, refl, ap, ◌∙◌, arith}
 use Rattle.std.proofs.lemmas.Bool.{cond-false, cond_both}
 use Rattle.hybrid_schedule.specs.Cuts.{staying_below, going_from, cut_from}
-use Rattle.hybrid_schedule.specs.Schedules.{is_behind_no_act, tail_tids}
+use Rattle.hybrid_schedule.specs.Schedules.{is_behind_no_act}
 use Rattle.actor_cell.specs.Calls.{undone_from}
 use Rattle.cell_part.specs.Cutting.{cut_back}
 use Rattle.protocol.specs.CellParts.{Store, HybridSchedule, Boxes, cell_of, cleared, cut_at, with_undone}
-use Rattle.protocol.specs.OnBook.{met}
 use Rattle.protocol.specs.OnCell.{going, staying, rolled_back}
 use Rattle.protocol.specs.Parts.{Cascade, Entry, BatchEntry, ActEntry, Waiting, Outcome}
-use Rattle.protocol.specs.Rivals.{Lock, lock_of, rivals}
-use Rattle.protocol.specs.Words.{ahead, acts_on, is_batch_entry, is_empty, tail_group}
+use Rattle.protocol.specs.Words.{ahead, acts_on, is_batch_entry, is_empty}
 
 pub boxes_of : {C : Type 0} {ws vs : List (Waiting C)} {xs ys : List (Outcome C)} → ws ≡ vs → xs ≡ ys
     → ◌≡◌ {A = Boxes C} (record { inbox = ws; outbox = xs }) (record { inbox = vs; outbox = ys })
@@ -49,11 +47,3 @@ pub cut_is_rollback : {C : Type 0} (cascades : List Cascade) (k epoch : ℕ) (s 
 cut_is_rollback cascades k epoch s h b seen cut gone undone =
     let stays : staying_below k h.entries ≡ staying cascades h.entries = ap (λ x. x.entries) cut in
     cells_of (ap (λ es. undone_from k (is_empty (acts_on es)) s) stays ∙ undone) (ap (λ n. cut_from k n h) seen ∙ cut) (ap (λ es. cleared es b) gone)
-
-locks_of_tids : (l : Lock) (xs : List Lock) → map lock_of (map (λ (x : Lock). x.tid) xs) ≡ filter (rivals l) xs
-locks_of_tids l [] = refl
-locks_of_tids l (x ∷ xs) = ap (λ ys. x ∷ ys) (locks_of_tids l xs)
-
--- who are in the tail group, are met with their locks
-pub locks_met : (t : ℕ) (entries : List Entry) (tids : List ℕ) → tids ≡ tail_tids entries → map lock_of tids ≡ met t entries
-locks_met t entries tids e = ap (λ ns. map lock_of ns) e ∙ locks_of_tids (lock_of t) (tail_group entries)

@@ -9,7 +9,7 @@ use Rattle.protocol.specs.Words.{acts_on, is_empty}
 
 module _ {C : Type 0} where
   abbrev pub store_in : Cell C → Store
-  store_in c = record { state = c.state; images = c.images; floor = c.floor }
+  store_in c = record { state = c.state; images = c.images; floors = c.floors }
 
   abbrev pub schedule_in : Cell C → HybridSchedule
   schedule_in c = record { entries = c.entries; epoch = c.epoch; last = c.last; last_trimmed = c.last_trimmed; tail = c.tail }

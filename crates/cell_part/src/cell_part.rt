@@ -2,14 +2,13 @@ ghost use Rattle.std.specs.Prelude.{◌≡◌, ℕ, ◌+◌, ◌<◌, ◌≤◌,
 ghost use Rattle.std.specs.List.{list_all};
 ghost use Rattle.std.specs.Option.{option_map, option_and_then};
 ghost use Rattle.actor_cell.specs.Cut.{IsCutFrom};
-ghost use Rattle.hybrid_schedule.specs.Schedules.{tail_tids, has_turn, is_incomplete, is_next, is_done};
+ghost use Rattle.hybrid_schedule.specs.Schedules.{has_turn, is_incomplete, is_next, is_done};
 ghost use Rattle.machine_words.specs.Meant.{sub_batch, tid_number, who_meant};
 ghost use Rattle.protocol.specs.OnBook.{met, tids_on};
-ghost use Rattle.protocol.specs.OnCell.{act_left, act_placed, batch_completed, batch_left, batch_placed, control_came, is_undone_act, outcome_taken, pact_closed, rolled_back, staying};
+ghost use Rattle.protocol.specs.OnCell.{act_left, act_placed, batch_completed, batch_left, batch_placed, control_came, is_undone_act, outcome_taken, pact_closed, reads_on, rolled_back, staying};
 ghost use Rattle.protocol.specs.Parts.{Act, Cascade, ControlMessage};
-ghost use Rattle.protocol.specs.Rivals.{lock_of};
 ghost use Rattle.protocol.specs.Runs.{new_cell};
-ghost use Rattle.protocol.specs.Words.{acts_on, has_act, has_entry, has_undone, holds, image_of, is_clear, is_empty, is_ended, is_going, is_sealed, outcome_of, waiting_of, who_on};
+ghost use Rattle.protocol.specs.Words.{acts_on, floor_for, has_act, has_entry, has_undone, holds, image_of, is_clear, is_empty, is_ended, is_going, is_sealed, outcome_of, waiting_of, who_on};
 ghost use Rattle.cell_part.specs.Contents.{next_meant, outcome_next, outcome_result, waiting_control};
 ghost use Rattle.cell_part.specs.Cutting.{cut_back};
 ghost use Rattle.cell_part.specs.Room.{KeepsRoom, KeepsRoomBut};
@@ -96,15 +95,15 @@ impl<C: Drop> CellPart<C> {
         let _placed = self.schedule.arrive(alloc, s);
     }
 
-    /// Ask, where no older ACT is in the way: the ACT is placed at the end of the schedule, and its control arrives. There
-    /// is room for both.
-    pub fn ask(&mut self, alloc: Global, t: Tid, control: C)
+    /// Ask, where no older rival is in the way: the ACT, which only reads or not, is placed at the end of the schedule, and
+    /// its control arrives. There is room for both.
+    pub fn ask(&mut self, alloc: Global, t: Tid, reader: bool, control: C)
         requires entry { 1 ≤ self.old.spare_entries }
         requires control { 1 ≤ self.old.spare_controls }
-        ensures placed { (m : ControlMessage C) → m.tid ≡ t.0 → m.control ≡ control → self.new.cell ≡ act_placed t.0 None (Some m) self.old.cell }
+        ensures placed { (m : ControlMessage C) → m.tid ≡ t.0 → m.control ≡ control → self.new.cell ≡ act_placed (record { tid = t.0; reader = reader }) None (Some m) self.old.cell }
         ensures room { KeepsRoomBut 1 1 self.old self.new }
     {
-        let _placed = self.schedule.place_act(alloc, t);
+        let _placed = self.schedule.place_act(alloc, t, reader);
         self.boxes.put_control(t, control);
     }
 
@@ -118,17 +117,20 @@ impl<C: Drop> CellPart<C> {
     }
 
     /// Run, before the slice: the control of a transaction that waits is taken out, and where its entry has no image yet,
-    /// one of the state is taken. `end` has room for the outcome.
+    /// one of the state is taken. For an ACT that only reads none is taken. `end` has room for the outcome.
     pub fn begin(&mut self, t: Tid) -> C
         requires waits { is_some (waiting_of t.0 self.old.cell.inbox) ≡ true }
-        requires images { is_some (image_of (who_on t.0 self.old.cell.entries) self.old.cell.images) ≡ false → length self.old.cell.images < MOST_IMAGES }
+        requires images { reads_on t.0 self.old.cell.entries ≡ false → is_some (image_of (who_on t.0 self.old.cell.entries) self.old.cell.images) ≡ false → length self.old.cell.images < MOST_IMAGES }
         ensures control { Some result ≡ option_map waiting_control (waiting_of t.0 self.old.cell.inbox) }
         ensures begun { self.new.cell ≡ begun t.0 self.old.cell }
         ensures room { 1 ≤ self.new.spare_outcomes }
         ensures no_less { KeepsRoom self.old self.new }
     {
-        let who = self.schedule.who_on(t);
-        self.store.start_entry(who);
+        let reads = self.schedule.is_reader(t);
+        if !reads {
+            let who = self.schedule.who_on(t);
+            self.store.start_entry(who);
+        }
         self.boxes.take_control(t).unwrap()
     }
 
@@ -199,16 +201,16 @@ impl<C: Drop> CellPart<C> {
         self.store.undo_from(first, acts);
     }
 
-    /// Finish: an ACT leaves. What it did here is undone where it is doomed or failed, and where it is sealed, the batch
-    /// `m` before it raises the floor.
-    pub fn finish(&mut self, t: Tid, undone: bool, sealed: bool, m: Bid)
-        ensures left { (x : Act) → is_undone_act (Some x) ≡ undone → is_sealed x.status ≡ sealed → x.m ≡ m.0
+    /// Finish: an ACT leaves, which only reads or not. What it did here is undone where it is doomed or failed, and where it
+    /// is sealed, the batch `m` before it raises the floor of its kind.
+    pub fn finish(&mut self, t: Tid, undone: bool, sealed: bool, m: Bid, reader: bool)
+        ensures left { (x : Act) → is_undone_act (Some x) ≡ undone → is_sealed x.status ≡ sealed → x.m ≡ m.0 → x.reader ≡ reader
             → self.new.cell ≡ act_left t.0 (Some x) self.old.cell }
         ensures no_less { KeepsRoom self.old self.new }
     {
         leave_boxes(&mut self.boxes, &self.schedule, t);
         self.schedule.remove_act(t);
-        leave_store(&mut self.store, t, undone, sealed, m);
+        leave_store(&mut self.store, t, undone, sealed, m, reader);
     }
 
     /// Trim: a settled batch leaves.
@@ -248,11 +250,12 @@ impl<C: Drop> CellPart<C> {
         self.schedule.last()
     }
 
-    /// The greatest batch that stands before an ACT which left for good.
-    pub fn floor(&self) -> Bid
-        ensures { result.0 ≡ self.now.cell.floor }
+    /// The floor that counts for an ACT which only reads, or for another: the greatest batch that stands before an ACT which
+    /// left for good. For who only reads, those do not count that only read too.
+    pub fn floor(&self, reader: bool) -> Bid
+        ensures { result.0 ≡ floor_for reader self.now.cell.floors }
     {
-        self.store.floor()
+        self.store.floor(reader)
     }
 
     /// Whether the actor has seen fewer cascades than these.
@@ -262,12 +265,12 @@ impl<C: Drop> CellPart<C> {
         self.schedule.is_behind(epoch)
     }
 
-    /// The ACTs behind the last sub-batch, in order. An ACT that asks meets their locks.
-    pub fn tail(&self) -> &[Tid]
-        ensures tids { map tid_number result.now ≡ tail_tids self.now.cell.entries }
-        ensures locks { (t : ℕ) → map lock_of (map tid_number result.now) ≡ met t self.now.cell.entries }
+    /// The ACTs behind the last sub-batch that an ACT which only reads, or another, can't stand beside, in order. An ACT
+    /// that asks meets them.
+    pub fn rivals(&self, alloc: Global, reader: bool) -> Result<Vec<Tid>, Memory>
+        ensures { (t : ℕ) → IfOk result (λ tids. map tid_number tids.items ≡ map (λ x. x.tid) (met (record { tid = t; reader = reader }) self.now.cell.entries)) }
     {
-        self.schedule.tail()
+        self.schedule.rivals(alloc, reader)
     }
 
     /// All ACTs on the schedule, in order.
@@ -305,7 +308,8 @@ impl<C: Drop> CellPart<C> {
         self.boxes.has_waiting(t)
     }
 
-    /// Whether the transaction has its place, and all ahead of it is complete.
+    /// Whether the transaction has its place, and nothing ahead of it is in its way: no batch that is not complete, and no
+    /// ACT but where both only read.
     pub fn is_clear(&self, t: Tid) -> bool
         ensures { result ≡ is_clear t.0 self.now.cell.entries }
     {

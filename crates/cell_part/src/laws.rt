@@ -4,6 +4,7 @@ ghost use Rattle.std.specs.Prelude.{◌≡◌, ℕ, List, Option, Some};
 ghost use Rattle.protocol.specs.Fixed.{Code};
 ghost use Rattle.protocol.specs.OnCell.{act_placed, slice_run, is_through};
 ghost use Rattle.protocol.specs.Parts.{Cell, ControlMessage, Outcome, SubBatch, Waiting};
+ghost use Rattle.protocol.specs.Rivals.{Lock};
 ghost use Rattle.protocol.specs.Words.{control_of, outcome_of, sub_of, waiting_of};
 ghost use Rattle.cell_part.specs.Running.{begun, written, ended};
 
@@ -16,7 +17,7 @@ pub fn run_is_begin_slice_end<C>()
 
 /// An ACT that gives way to an older one leaves the cell as it is.
 pub fn who_gives_way_is_not_placed<C>()
-    ensures { (t older : ℕ) (m : Option (ControlMessage C)) (c : Cell C) → act_placed t (Some older) m c ≡ c }
+    ensures { (x : Lock) (older : ℕ) (m : Option (ControlMessage C)) (c : Cell C) → act_placed x (Some older) m c ≡ c }
 {}
 
 /// What is found by a number has this number: a control on its way and an outcome are of their transaction, and a

@@ -22,15 +22,22 @@ pub(crate) fn leave_boxes<C: Drop>(boxes: &mut Boxes<C>, schedule: &Schedule, t:
     }
 }
 
-/// What the ACT did is undone or stays, its image goes back, and its before number may raise the floor.
-pub(crate) fn leave_store(store: &mut Cell, t: Tid, undone: bool, sealed: bool, m: Bid)
-    ensures { (x : Act) → is_undone_act (Some x) ≡ undone → is_sealed x.status ≡ sealed → x.m ≡ m.0 → store.new ≡ parted t.0 (Some x) store.old }
+/// What the ACT did is undone or stays, its image goes back, and its before number may raise the floor of its kind.
+pub(crate) fn leave_store(
+    store: &mut Cell,
+    t: Tid,
+    undone: bool,
+    sealed: bool,
+    m: Bid,
+    reader: bool,
+)
+    ensures { (x : Act) → is_undone_act (Some x) ≡ undone → is_sealed x.status ≡ sealed → x.m ≡ m.0 → x.reader ≡ reader → store.new ≡ parted t.0 (Some x) store.old }
 {
     if undone {
         store.restore_entry(Who::Act(t));
     }
     store.finish_entry(Who::Act(t));
     if sealed {
-        store.raise_floor(m);
+        store.raise_floor(m, reader);
     }
 }
