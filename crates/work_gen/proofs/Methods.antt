@@ -20,46 +20,50 @@ word name line = record { name = name; line = line }
 abbrev v : ℕ → Word
 v line = word (codes "v") line
 
-abbrev sum : Expr Word
-sum = Binary operator.Plus (Field 0 line) (Field 1 line)
+abbrev sum : ℕ → Expr Word
+sum line = Binary operator.Plus (Field 0 line) (Field 1 line)
 
 abbrev balance : TextMethod
-balance = record { name = word (codes "balance") 1; parameters = []; body = Return sum (End 1) }
+balance = record { is_read = false; name = word (codes "balance") 1; parameters = []; body = Return (sum 1) (End 1) }
 
 abbrev deposit : TextMethod
 deposit = record {
+  is_read = false;
   name = word (codes "deposit") 2;
   parameters = v 2 ∷ [];
-  body = SetField line 0 (Binary operator.Plus (Field 0 line) (Variable (v 2))) (Return (Field 0 line) (End 2));
+  body = SetField 2 0 (Binary operator.Plus (Field 0 2) (Variable (v 2))) (Return (Field 0 2) (End 2));
 }
 
 abbrev savings : TextMethod
 savings = record {
+  is_read = false;
   name = word (codes "savings") 3;
   parameters = v 3 ∷ [];
-  body = SetField line 1 (Binary operator.Plus (Field 1 line) (Variable (v 3))) (Return (Field 1 line) (End 3));
+  body = SetField 3 1 (Binary operator.Plus (Field 1 3) (Variable (v 3))) (Return (Field 1 3) (End 3));
 }
 
 abbrev amalgamate : TextMethod
 amalgamate = record {
+  is_read = false;
   name = word (codes "amalgamate") 4;
   parameters = word (codes "b") 4 ∷ [];
   body =
-      Let line (word (codes "s") 4) sum
-      (SetField line 0 (Number 0)
-      (SetField line 1 (Number 0)
-      (Call line (word (codes "r") 4) (Variable (word (codes "b") 4)) (word (codes "deposit") 4) (Variable (word (codes "s") 4) ∷ [])
+      Let 4 (word (codes "s") 4) (sum 4)
+      (SetField 4 0 (Number 0)
+      (SetField 4 1 (Number 0)
+      (Call 4 (word (codes "r") 4) (Variable (word (codes "b") 4)) (word (codes "deposit") 4) (Variable (word (codes "s") 4) ∷ [])
       (Return (Variable (word (codes "r") 4)) (End 4)))));
 }
 
 abbrev check : TextMethod
 check = record {
+  is_read = false;
   name = word (codes "check") 5;
   parameters = v 5 ∷ [];
   body =
-      If (Binary operator.Less sum (Variable (v 5)))
-      (SetField line 0 (Binary operator.Minus (Binary operator.Minus (Field 0 line) (Variable (v 5))) (Number 1)) (Return (Field 0 line) (End 5)))
-      (SetField line 0 (Binary operator.Minus (Field 0 line) (Variable (v 5))) (Return (Field 0 line) (End 5)));
+      If (Binary operator.Less (sum 5) (Variable (v 5)))
+      (SetField 5 0 (Binary operator.Minus (Binary operator.Minus (Field 0 5) (Variable (v 5))) (Number 1)) (Return (Field 0 5) (End 5)))
+      (SetField 5 0 (Binary operator.Minus (Field 0 5) (Variable (v 5))) (Return (Field 0 5) (End 5)));
 }
 
 abbrev pub methods : List TextMethod
@@ -105,11 +109,11 @@ name_s = record { first = refl; bytes = refl; short = omega arith; free = refl }
 name_r : IsWord (word (codes "r") 4)
 name_r = record { first = refl; bytes = refl; short = omega arith; free = refl }
 
-sum_at : (k : ℕ) → 2 ≤ k → IsAt k sum
-sum_at k le = (le, omega arith, omega arith)
+sum_at : (k line : ℕ) → 2 ≤ k → IsAt k (sum line)
+sum_at k line le = (le, omega arith, omega arith)
 
 of_balance : IsMethod balance
-of_balance = record { name = name_balance; parameters = tt; body = (sum_at 5 (omega arith), tt) }
+of_balance = record { name = name_balance; parameters = tt; body = (sum_at 5 1 (omega arith), tt) }
 
 of_deposit : IsMethod deposit
 of_deposit = record { name = name_deposit 2; parameters = (name_v 2, tt); body = (omega arith, (omega arith, omega arith, name_v 2), (omega arith, tt)) }
@@ -121,7 +125,7 @@ of_amalgamate : IsMethod amalgamate
 of_amalgamate = record {
   name = name_amalgamate;
   parameters = (name_b, tt);
-  body = (name_s, sum_at 5 (omega arith), (omega arith, omega arith, (omega arith, omega arith, (name_r, name_b, name_deposit 4, (name_s, tt), (name_r, tt)))));
+  body = (name_s, sum_at 5 4 (omega arith), (omega arith, omega arith, (omega arith, omega arith, (name_r, name_b, name_deposit 4, (name_s, tt), (name_r, tt)))));
 }
 
 of_check : IsMethod check
@@ -129,7 +133,7 @@ of_check = record {
   name = name_check;
   parameters = (name_v 5, tt);
   body = (
-    (omega arith, sum_at 2 (omega arith), name_v 5),
+    (omega arith, sum_at 2 5 (omega arith), name_v 5),
     (omega arith, (omega arith, (omega arith, omega arith, name_v 5), omega arith), (omega arith, tt)),
     (omega arith, (omega arith, omega arith, name_v 5), (omega arith, tt)),
   );
