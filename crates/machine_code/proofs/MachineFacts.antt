@@ -30,6 +30,7 @@ pub record Promises (p : List CheckedMethod) (count : ℕ) : Type 0 where
   pub begins : (tid : Tid) (tx : Tx) → IsTransaction p count tx → Begins p tid tx (started tid tx)
   pub hands_on : (c : Rest) (s : State) → IsRest p count c → IsHandedOn p count c (slice_end p count c s).next
   pub begins_reading : (tid : Tid) (tx : Tx) → IsTrue (method_at p tx.method).is_read → AllReading p (started tid tx)
+  pub leaves : (c : Rest) (s : State) → AllReading p c → (slice_end p count c s).state ≡ s
   pub hands_on_reading : (c : Rest) (s : State) → AllReading p c → HandsOnReading p (slice_end p count c s).next
   pub keeps : (c : Rest) (w : List State) → IsRest p count c → finished p count c w ≡ after_slice (finished p count) c w (slice_end p count c (state_at w c.top.actor))
 
@@ -93,6 +94,7 @@ machine_facts p count promises = record {
   few_visits = λ t tx. omega arith;
   one_visit = λ tx c is. omega arith;
   visits_fall = λ tx c d s b is e. (let on = handed p count tx c d s b promises is e in omega (arith, on.fewer));
+  readers_leave = λ tx c s reader is. promises.leaves c s (is.reads reader);
   only_named_by_tid = λ t u tx w. only_named (tid_of t) p count (started (tid_of u) tx) w;
   slices_keep_the_meaning = λ tx c w is here.
       promises.keeps c w is.rest

@@ -42,6 +42,10 @@ as_next (slice.Ended r) = Ended r
 abbrev pub as_sliced : SliceEnd → Sliced Rest
 as_sliced x = record { state = x.state; next = as_next x.next }
 
+-- whether the root of the transaction is a method that promises only to read
+abbrev pub only_reads : List CheckedMethod → Tx → Bool
+only_reads p tx = (method_at p tx.method).is_read
+
 -- the code of a program's methods, over so many actors
 abbrev pub method_code : List CheckedMethod → ℕ → Code Rest
 method_code p count = record {
@@ -51,13 +55,10 @@ method_code p count = record {
   visited = λ c. c.actors;
   visits_left = λ c. moves_left c + 1;
   slice = λ c s. as_sliced (slice_end p count c s);
+  only_reads = λ tx. only_reads p tx;
 }
 
 -- ---- of which transaction a control is a rest, and what becomes of it
-
--- whether the root of the transaction is a method that promises only to read
-abbrev pub only_reads : List CheckedMethod → Tx → Bool
-only_reads p tx = (method_at p tx.method).is_read
 
 -- a rest of the transaction; one of a PACT has what is left of its declaration, and one that only reads stands in
 -- methods that do

@@ -8,7 +8,7 @@ ghost use Rattle.aml_check.specs.Transactions.{IsTransaction};
 ghost use Rattle.aml_slice.specs.Controls.{Rest, RestsOn};
 ghost use Rattle.protocol.specs.Facts.{Facts, alone, serial};
 ghost use Rattle.protocol.specs.Words.{is_among};
-ghost use Rattle.machine_code.specs.MethodCode.{finish, IsRestOf, method_code, only_reads, rests_on};
+ghost use Rattle.machine_code.specs.MethodCode.{finish, IsRestOf, method_code, rests_on};
 
 use aml_check::Checked;
 use aml_slice::{each_slice, readers_leave, slices_finish, transactions_begin};
@@ -21,14 +21,6 @@ pub fn code_has_the_facts(program: &Checked)
     transactions_begin(program);
     each_slice(program);
     slices_finish(program);
-    readers_leave(program);
-}
-
-/// A slice of a transaction whose root promises only to read leaves the state, at every actor that the transaction
-/// comes to.
-pub fn reading_code_leaves(program: &Checked)
-    ensures { (count : ℕ) (tx : Tx) (c : Rest) (s : State) → only_reads (methods_of program.now) tx ≡ true → IsRestOf (methods_of program.now) count tx c → ((method_code (methods_of program.now) count).slice c s).state ≡ s }
-{
     readers_leave(program);
 }
 

@@ -7,7 +7,4 @@
 
 mod laws;
 
-pub use laws::{
-    alone_as_meant, askings_are_the_controls, code_has_the_facts, reading_code_leaves,
-    serial_as_meant,
-};
+pub use laws::{alone_as_meant, askings_are_the_controls, code_has_the_facts, serial_as_meant};

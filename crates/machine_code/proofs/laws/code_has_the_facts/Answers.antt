@@ -8,6 +8,7 @@ returns c count =
       begins = c.transactions_begin.ensures count;
       hands_on = c.each_slice.ensures.handed_on count;
       begins_reading = c.readers_leave.ensures.begins;
+      leaves = c.readers_leave.ensures.state count;
       hands_on_reading = c.readers_leave.ensures.handed_on count;
       keeps = c.slices_finish.ensures.keeps count;
     })
