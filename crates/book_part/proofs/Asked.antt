@@ -15,6 +15,9 @@ use Rattle.act_commit.specs.Words.{is_ready}
 use Rattle.book_part.specs.Halves.{Halves, Shows}
 use Rattle.book_part.proofs.Shown.{IsAt, answers, stands}
 
+reader : (x y : Option Act) → IsAt x y → holds (λ z. z.reader) (option_map (act_by y) x) ≡ holds (λ z. z.reader) x
+reader x y e = holds_map (λ z. z.reader) (act_by y) x (λ z. refl)
+
 undoomed : (x y : Option Act) → IsAt x y → holds (λ z. not (is_doomed z.status)) (option_map (act_by y) x) ≡ holds (λ z. not (is_doomed z.status)) x
 undoomed x y e = holds_map (λ z. not (is_doomed z.status)) (act_by y) x (λ z. ap not (doomed_by y z.status))
 
@@ -131,6 +134,9 @@ before None y e = refl
 before (Some x) y e = refl
 
 -- ---- of a book that halves h show, where the code has its own, k
+
+pub reader_shown : (k h : Halves) → k ≡ h → (b : Book) (t : ℕ) → Shows h b → (holds (λ z. z.reader) (act_of t k.orders.acts)) ≡ holds (λ z. z.reader) (act_of t b.acts)
+reader_shown = answers (λ o. holds (λ z. z.reader) o) (λ x y. holds (λ z. z.reader) x) reader
 
 pub undoomed_shown : (k h : Halves) → k ≡ h → (b : Book) (t : ℕ) → Shows h b → (holds (λ z. not (is_doomed z.status)) (act_of t k.orders.acts)) ≡ holds (λ z. not (is_doomed z.status)) (act_of t b.acts)
 undoomed_shown = answers (λ o. holds (λ z. not (is_doomed z.status)) o) (λ x y. holds (λ z. not (is_doomed z.status)) x) undoomed

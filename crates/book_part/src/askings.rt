@@ -7,7 +7,7 @@ ghost use Rattle.protocol.specs.Effects.{act_commit};
 ghost use Rattle.protocol.specs.OnCell.{is_undone_act};
 ghost use Rattle.protocol.specs.Parts.{Book};
 ghost use Rattle.protocol.specs.Verdicts.{aborted_by, verdict_of_act};
-ghost use Rattle.protocol.specs.Words.{act_of, count, covers, holds, is_aborted, is_decided, is_doomed, is_failure, is_live_act, is_live_status, is_sealed, is_value, is_vouched_everywhere, joined_of};
+ghost use Rattle.protocol.specs.Words.{act_of, count, covers, holds, is_aborted, is_decided, is_doomed, is_failure, is_live_act, is_live_status, is_sealed, is_value, is_vouched_everywhere, joined_of, lock_of};
 ghost use Rattle.order_book.specs.Asked.{before_of};
 ghost use Rattle.book_part.specs.Commits.{records_of};
 ghost use Rattle.book_part.specs.Halves.{Shows};
@@ -77,6 +77,13 @@ impl BookPart {
         ensures { (b : Book) → Shows self.now b → result ≡ holds (λ x. not (is_doomed x.status)) (act_of t.0 b.acts) }
     {
         self.orders.is_undoomed(t)
+    }
+
+    /// Whether ACT `t` only reads, as its lock tells.
+    pub fn is_reader(&self, t: Tid) -> bool
+        ensures { (b : Book) → Shows self.now b → result ≡ (lock_of t.0 b.acts).reader }
+    {
+        self.orders.is_reader(t)
     }
 
     /// Whether ACT `t` ended with a value and is not given up.

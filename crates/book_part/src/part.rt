@@ -4,9 +4,10 @@ ghost use Rattle.std.specs.Option.{option_map};
 ghost use Rattle.machine_words.specs.Meant.{tid_number};
 ghost use Rattle.protocol.specs.BookParts.{has_place, no_orders, no_votes, orders_cascaded, votes_begin};
 ghost use Rattle.protocol.specs.OnBook.{act_admitted, act_asked, act_decided, act_finished, act_prepared, act_sealed, act_vouched, batch_arrived};
+ghost use Rattle.protocol.specs.Rivals.{Lock};
 ghost use Rattle.protocol.specs.Words.{act_of, holds, is_doomed, least_older};
 ghost use Rattle.protocol_theorems.specs.BookFits.{actors_at};
-ghost use Rattle.order_book.specs.Asked.{locks_of};
+ghost use Rattle.order_book.specs.Asked.{AreLocksOf};
 ghost use Rattle.act_commit.specs.Words.{is_ready};
 ghost use Rattle.book_part.specs.After.{with_cascade};
 
@@ -58,14 +59,21 @@ impl BookPart {
         })
     }
 
-    /// Transaction `tx` begins as ACT `t`, which is above all others, behind batch `base`. For want of memory all is as
-    /// before.
-    pub fn admit(&mut self, alloc: Global, t: Tid, tx: TxNo, base: Bid) -> Result<(), Memory>
+    /// Transaction `tx` begins as ACT `t`, a reader or not, which is above all others, behind batch `base`. For want of
+    /// memory all is as before.
+    pub fn admit(
+        &mut self,
+        alloc: Global,
+        t: Tid,
+        tx: TxNo,
+        reader: bool,
+        base: Bid,
+    ) -> Result<(), Memory>
         requires { All (λ x. x.tid < t.0) self.old.orders.acts }
-        ensures ok { OnOk result (self.new ≡ record self.old { orders = act_admitted t.0 tx.0 base.0 self.old.orders }) }
+        ensures ok { OnOk result (self.new ≡ record self.old { orders = act_admitted t.0 tx.0 reader base.0 self.old.orders }) }
         ensures err { OnErr result (self.new ≡ self.old) }
     {
-        self.orders.admit(alloc, t, tx, base)
+        self.orders.admit(alloc, t, tx, reader, base)
     }
 
     /// Batch `bid` arrives on actor `a`, behind these ACTs.
@@ -75,31 +83,31 @@ impl BookPart {
         self.orders.lower(acts, bid, a);
     }
 
-    /// ACT `t`, which is not given up, asked for actor `a`, where `tail` has those that hold it or wait for it behind the
-    /// last batch there. Where one of these is older, `t` gives way to the oldest, which is the result. Else it joins the
-    /// actor, behind that batch, the actor's floor, and those of the tail that are not given up. For want of memory all is
-    /// as before.
+    /// ACT `t`, which is not given up, asked for actor `a`, where `rivals` has its rivals that hold it or wait for it behind
+    /// the last batch there. Where one of these is older, `t` gives way to the oldest, which is the result. Else it joins the
+    /// actor, behind that batch, the floor that counts for it, and those rivals that are not given up. For want of memory all
+    /// is as before.
     pub fn ask(
         &mut self,
         alloc: Global,
         t: Tid,
-        tail: &[Tid],
+        rivals: &[Tid],
         last: Bid,
         floor: Bid,
         a: ActorId,
     ) -> Result<Option<Tid>, Memory>
         requires { IsTrue (holds (λ x. not (is_doomed x.status)) (act_of t.0 self.old.orders.acts)) }
-        ensures ok { OnOk result (self.new ≡ record self.old { orders = act_asked (least_older t.0 (locks_of tail.now)) (locks_of tail.now) t.0 a.0 (max last.0 floor.0) self.old.orders }) }
-        ensures older { IfOk result (λ older. option_map tid_number older ≡ least_older t.0 (locks_of tail.now)) }
+        ensures ok { OnOk result ((locks : List Lock) → AreLocksOf rivals.now locks → self.new ≡ record self.old { orders = act_asked (least_older t.0 locks) locks t.0 a.0 (max last.0 floor.0) self.old.orders }) }
+        ensures older { IfOk result (λ older. (locks : List Lock) → AreLocksOf rivals.now locks → option_map tid_number older ≡ least_older t.0 locks) }
         ensures err { OnErr result (self.new ≡ self.old) }
     {
-        match ask(tail, t) {
+        match ask(rivals, t) {
             Answer::Die(older) => {
                 self.orders.die(t, older, a);
                 Ok(Some(older))
             }
             Answer::Free | Answer::Wait => {
-                self.orders.place(alloc, t, tail, last, floor, a)?;
+                self.orders.place(alloc, t, rivals, last, floor, a)?;
                 Ok(None)
             }
         }
