@@ -1,5 +1,5 @@
 -- A method that promises only to read and has no fault keeps the promise.
-use Rattle.std.proofs.Common.{◌≡◌, ℕ, ◌<◌, ◌+◌, Bool, true, false, if◌then◌else◌, Option, Some, None, IfSome, unwrap_or, List, [], ◌∷◌, ◌++◌, length, map, refl, sym, ap, ◌∙◌, arith}
+use Rattle.std.proofs.Common.{◌≡◌, ℕ, ◌<◌, ◌+◌, Bool, true, false, if◌then◌else◌, Option, Some, None, IfSome, unwrap_or, List, [], ◌∷◌, ◌++◌, length, refl, ap, ◌∙◌, arith}
 use Rattle.std.specs.Prelude.{IsTrue}
 use Rattle.std.specs.List.{flat_map}
 use Rattle.std.proofs.lemmas.List.{get_or-map, length-map}

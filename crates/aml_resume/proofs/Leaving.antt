@@ -1,5 +1,5 @@
 -- A body that only reads leaves the actor's state at each of its pauses, and calls only methods that promise only to read.
-use Rattle.std.proofs.Common.{◌≡◌, ℕ, zero, suc, ◌+◌, ◌-◌, min, Bool, true, false, ℤ, Result, Ok, Err, List, [], ◌∷◌, ◌++◌, take, set, refl, subst}
+use Rattle.std.proofs.Common.{ℕ, zero, suc, ◌+◌, ◌-◌, min, Bool, true, false, ℤ, Result, Ok, Err, List, [], ◌∷◌, ◌++◌, take, set, refl, subst}
 use Rattle.std.specs.Prelude.{if◌then◌else◌}
 use Rattle.snap_base.specs.declared.transactions.State.{State}
 use Rattle.aml_tree.specs.Tree.{Expr, Code, End, Let, Call, Set, SetField, If, IfElse, While, Fail, Return, CheckedMethod}

@@ -1,6 +1,6 @@
 -- A slice of a control all of whose frames are of methods that promise only to read leaves the state, and what it hands on
 -- has such frames alone.
-use Rattle.std.proofs.Common.{◌≡◌, ℕ, zero, suc, ◌+◌, ◌<◌, ◌≤◌, nat_lt, ◌==◌, Bool, true, false, if◌then◌else◌, ℤ, pos, Result, Ok, Err, List, [], ◌∷◌, length, get_or, inl, inr, refl, sym, ap, ◌∙◌, subst}
+use Rattle.std.proofs.Common.{◌≡◌, ℕ, zero, suc, ◌+◌, nat_lt, ◌==◌, Bool, true, false, if◌then◌else◌, ℤ, pos, Result, Ok, Err, List, [], ◌∷◌, length, inl, inr, refl, sym, ◌∙◌, subst}
 use Rattle.std.specs.Prelude.{IsTrue}
 use Rattle.std.specs.List.{AllByRecursion}
 use Rattle.std.proofs.lemmas.Bool.{cases_lt}
@@ -12,12 +12,12 @@ use Rattle.snap_base.specs.declared.transactions.Tx.{Tx}
 use Rattle.snap_base.specs.declared.transactions.TxResult.TheVariants as result
 use Rattle.aml_tree.specs.Tree.{CheckedMethod}
 use Rattle.aml_check.specs.Closed.{IsClosedMethod, IsClosedProgram, OnlyReads}
-use Rattle.aml_check.specs.Meaning.{Progress, actor_of, admitted, too_deep}
+use Rattle.aml_check.specs.Meaning.{actor_of, admitted, too_deep}
 use Rattle.aml_check.specs.Names.{method_at, no_method}
 use Rattle.aml_resume.specs.Places.{Standing}
 use Rattle.aml_resume.specs.Pausing.{Pause, Through, Returned, Calling, Failed, method_pause}
 use Rattle.aml_resume.specs.Reading.{LeavesState, ReadingLeaves}
-use Rattle.aml_slice.specs.declared.slices.Next.TheVariants.{Go, Ended}
+use Rattle.aml_slice.specs.declared.slices.Next.TheVariants.{Go}
 use Rattle.aml_slice.specs.Controls.{Frame, Rest, progress_in, most_waiting, moves_left}
 use Rattle.aml_slice.specs.Readers.{IsReading, AllReading, HandsOnReading}
 use Rattle.aml_slice.specs.Slicing.{Move, To, Out, unless_refused, returned, entered, called_on, moved_by, move, SliceEnd, actor_id, after_move, slice_end_in, slice_end, started}

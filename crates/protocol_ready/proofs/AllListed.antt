@@ -11,7 +11,7 @@ use Rattle.protocol.specs.Words.{holds, below, is_who, control_of, act_of, joine
 use Rattle.protocol.specs.Conditions.{AllTrue, IsAllowed, conditions}
 use Rattle.protocol.specs.Effects.{after}
 use Rattle.protocol_ready.specs.Touched
-use Rattle.protocol_ready.specs.Touched.{IsSound, is_touched, is_abort, reads_changed, changes_who, changes_act}
+use Rattle.protocol_ready.specs.Touched.{IsSound, is_touched, reads_changed, changes_who, changes_act}
 use Rattle.protocol_ready.specs.Ready
 use Rattle.protocol_ready.specs.Lying.{all_groups, live, of_batch, coordinators, on_entries, on_marks, on_boxes, on_epoch, comings, arrivals, runs_on, on_control, drops, of_act, on_stage, on_settled}
 use Rattle.protocol_ready.specs.Ready.{groups, by_changes}

@@ -10,7 +10,7 @@ use Rattle.snap_base.specs.declared.ids.Tid.{Tid}
 use Rattle.protocol.specs.Fixed.{Fixed, base}
 use Rattle.protocol.specs.Numbers.{from}
 use Rattle.protocol.specs.Records as machine
-use Rattle.protocol.specs.Records.{LogRecord, is_info, is_complete, is_commit, is_prepare, is_act_commit}
+use Rattle.protocol.specs.Records.{LogRecord, is_commit}
 use Rattle.protocol.specs.Parts.{Act, Status, Batch, Pact, OfBatch, OfAct, Machine}
 use Rattle.protocol.specs.Words.{holds, is_formed, value_of, act_of, batch_of}
 use Rattle.protocol_laws.specs.Told.{is_at}

@@ -7,7 +7,6 @@ use Rattle.protocol.specs.Fixed.{Fixed}
 use Rattle.protocol.specs.Records.{LogRecord}
 use Rattle.protocol.specs.Parts.{Machine}
 use Rattle.protocol_records.specs.Crash as crash
-use Rattle.protocol_records.specs.Crash.{is_in, recovered_state, BatchIsWhole, ActIsWhole}
 use Rattle.txn_records.specs.declared.records.Record.{Record}
 use Rattle.txn_records.specs.declared.records.Record.TheVariants.{Genesis}
 use Rattle.snap_recover.specs.declared.openings.Opening.{Opening}

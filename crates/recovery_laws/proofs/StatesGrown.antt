@@ -6,7 +6,7 @@ use Rattle.std.proofs.lemmas.Bool.{true≢false, and_parts, and_from, eqb-true, 
 use Rattle.snap_base.specs.declared.transactions.State.{State}
 use Rattle.protocol.specs.Fixed.{Fixed}
 use Rattle.protocol.specs.Records as machine
-use Rattle.protocol.specs.Records.{LogRecord, is_info, is_complete, is_commit, is_prepare, is_act_commit}
+use Rattle.protocol.specs.Records.{LogRecord}
 use Rattle.protocol.specs.Parts.{OfBatch, OfAct, Machine}
 use Rattle.protocol_records.specs.Crash.{is_in, recovered_state}
 use Rattle.protocol_records.specs.SeveralRuns.{recovered_from}

@@ -1,7 +1,7 @@
 -- A fact of each ACT that is found in the book, as events change ACTs.
 use Rattle.std.specs.Prelude.{◌≡◌, refl, ℕ, max, ◌==◌, Bool, true, false, ◌&&◌, if◌then◌else◌, nat_le, Option, Some, None, List, [], ◌∷◌, ◌++◌, map}
 use Rattle.std.proofs.Common.{arith, sym, ap, subst, ◌∙◌}
-use Rattle.std.proofs.lemmas.Bool.{true≢false, eqb-true, cases_Bool}
+use Rattle.std.proofs.lemmas.Bool.{true≢false, eqb-true}
 use Rattle.snap_base.specs.declared.transactions.TxResult.{TxResult}
 use Rattle.snap_base.specs.declared.verdicts.Verdict.{Verdict}
 use Rattle.protocol.specs.Fixed.{Fixed, base, Next, Go, Ended, is_reader}

@@ -3,11 +3,11 @@ use Rattle.std.specs.Prelude.{◌≡◌, refl, ℕ, ◌+◌, ◌≤◌, ◌<◌,
 use Rattle.std.specs.List.{AllByRecursion}
 use Rattle.std.proofs.Common.{arith, sym, ap, subst, ◌∙◌}
 use Rattle.std.proofs.lemmas.List.{append-nil}
-use Rattle.std.proofs.lemmas.Bool.{true≢false, eqb-true, leb-true, eq-eqb, ne_eqb, and_parts, or_cases, false_from_ne_true}
+use Rattle.std.proofs.lemmas.Bool.{true≢false, eqb-true, leb-true, eq-eqb, ne_eqb, and_parts, false_from_ne_true}
 use Rattle.protocol.specs.Fixed.{Fixed, base, is_reader}
 use Rattle.protocol.specs.Parts.{Act, Joined, Batch, Pact, Who, OfBatch, OfAct, Status, Live, Doomed, Decided, Sealed, Machine}
 use Rattle.protocol.specs.Events.{Event, Admit, Ask, End, Commit, Settle, Decide}
-use Rattle.protocol.specs.Words.{holds, is_who, is_value, is_live_status, is_decided, is_sealed, act_of, is_ended, is_ordered}
+use Rattle.protocol.specs.Words.{holds, is_who, is_value, is_live_status, act_of, is_ended, is_ordered}
 use Rattle.protocol.specs.Conditions.{IsAllowed, conditions}
 use Rattle.protocol.specs.Effects.{after, no_cell}
 use Rattle.protocol.specs.OnRing as ring
@@ -25,7 +25,7 @@ use Rattle.protocol_laws.proofs.machine.Resting.{EachPact}
 use Rattle.protocol_laws.proofs.machine.ActsFound as acts
 use Rattle.protocol_laws.proofs.machine.ActsFound.{Holds}
 use Rattle.protocol_laws.proofs.machine.ActResults as results
-use Rattle.protocol_laws.proofs.machine.ActResults.{NoneActed, NoActResult}
+use Rattle.protocol_laws.proofs.machine.ActResults.{NoneActed}
 use Rattle.protocol_laws.proofs.first.Lists.{some_of}
 use Rattle.protocol_laws.proofs.first.Statuses.{live_unordered, ordered_sealed}
 use Rattle.protocol_laws.proofs.first.OneWay.{tid_went}

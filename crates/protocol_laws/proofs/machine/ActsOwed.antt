@@ -11,7 +11,7 @@ use Rattle.protocol.specs.Facts.{Alone}
 use Rattle.protocol.specs.Fixed.{Fixed, Go, base, tx_at, is_pact}
 use Rattle.protocol.specs.Parts.{Act, Joined, Batch, Pact, Cascade, Status, Live, Doomed, Decided, Sealed, Who, OfBatch, OfAct, Entry, BatchEntry, ActEntry, Waiting, Machine}
 use Rattle.protocol.specs.Events.{Ask, Decide, Finish, Trim}
-use Rattle.protocol.specs.Words.{holds, is_doomed, is_sealed, is_live_status, is_value, is_failure, is_aborted, is_formed, is_settled, is_who, is_act_who, who_of, who_on, is_entry_of, act_of, joined_of, batch_of, declared_of, waiting_of, is_ordered, has_act}
+use Rattle.protocol.specs.Words.{holds, is_doomed, is_sealed, is_live_status, is_value, is_failure, is_aborted, is_settled, is_who, is_entry_of, act_of, joined_of, batch_of, declared_of, waiting_of, is_ordered, has_act}
 use Rattle.protocol.specs.Conditions.{IsAllowed, conditions}
 use Rattle.protocol.specs.Effects.{cell_at, no_cell}
 use Rattle.protocol.specs.History.{History, Slice, Ran, Stands, Gone, slices_of, slices_for, act_view, view_in, is_traceless, is_reader_act}

@@ -4,7 +4,7 @@ use Rattle.std.specs.List.{AllByRecursion, list_any, list_all}
 use Rattle.std.proofs.Common.{arith, sym, ap, subst, inl, inr, ◌∙◌}
 use Rattle.std.proofs.lemmas.Bool.{eqb-true, leb-true, and_parts, or_cases, or_parts, or_left, or_right, true≢false, cases_Bool, false_from_ne_true, not-true}
 use Rattle.protocol.specs.Fixed.{Fixed, Next, Go, Ended}
-use Rattle.protocol.specs.Parts.{Cascade, Who, OfBatch, OfAct, Batch, Pact, Committing, Settled, Declared, SubBatch, Entry, BatchEntry, ActEntry, Cell, Outcome, Machine}
+use Rattle.protocol.specs.Parts.{Cascade, Who, OfBatch, OfAct, Batch, Pact, Committing, Settled, Declared, SubBatch, Entry, BatchEntry, ActEntry, Outcome, Machine}
 use Rattle.protocol.specs.Events.{Event, Form, Arrive, End, Note, Commit, Settle, Abort, Trim}
 use Rattle.protocol.specs.Words.{holds, is_among, is_value, is_aborted, is_formed, is_settled, is_open, is_next_to_commit, is_who, is_act_who, batch_of, declared_of, names_pact, sub_of, has_act, outcome_of}
 use Rattle.protocol.specs.Contents.{complete_mark}

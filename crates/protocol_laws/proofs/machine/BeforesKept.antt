@@ -3,7 +3,7 @@ use Rattle.std.specs.Prelude.{◌≡◌, refl, ℕ, ◌≤◌, ◌<◌, ◌==◌
 use Rattle.std.specs.List.{AllByRecursion}
 use Rattle.std.proofs.Common.{arith, sym, subst, inl, inr, ◌∙◌}
 use Rattle.std.proofs.lemmas.List.{append-nil}
-use Rattle.std.proofs.lemmas.Bool.{eqb-true, leb-true, le-leb, and_parts, or_cases, or_left, or_right, true≢false, cases_lt}
+use Rattle.std.proofs.lemmas.Bool.{eqb-true, leb-true, le-leb, or_cases, or_left, or_right, true≢false, cases_lt}
 use Rattle.protocol.specs.Fixed.{Fixed, Next, Go, Ended}
 use Rattle.protocol.specs.Parts.{Act, Book, Pair, Cascade, Status, Live, Doomed, Decided, Sealed, OfBatch, OfAct, Who, Entry, BatchEntry, ActEntry, Outcome, Cell, Machine}
 use Rattle.protocol.specs.Events.{Event, Admit, Arrive, Ask, Take, Run, Send, End, Close, Complete, Abort, Rollback, Prepare, Vouch, Decide, Seal, Finish, Trim}

@@ -14,7 +14,7 @@ use Rattle.protocol_laws.specs.Tracks.{keys_in, is_key_among, Differ, slices_in,
 use Rattle.protocol_laws.specs.Commits.{Finds, left_by, left_as, left_of, StatesLink, last_state, is_kept, has_kept, KeptFront, kept_slices, KeptAhead, Commits}
 use Rattle.protocol_laws.specs.Turns.{Rising}
 use Rattle.protocol_laws.proofs.machine.TrackLists
-use Rattle.protocol_laws.proofs.machine.TrackLists.{linked_parts, linked_join, is_who_true, is_who_refl}
+use Rattle.protocol_laws.proofs.machine.TrackLists.{linked_parts, is_who_true}
 use Rattle.protocol_laws.proofs.first.Lists.{or_true}
 
 pub or_false : (b : Bool) → (b || false) ≡ b

@@ -8,7 +8,7 @@ use Rattle.protocol.specs.Fixed.{Fixed}
 use Rattle.protocol.specs.Rivals.{Lock}
 use Rattle.protocol.specs.Parts.{Act, Joined, Cascade, Status, Live, Doomed, Decided, Sealed, Who, OfBatch, OfAct, SubBatch, Entry, Cell, Machine}
 use Rattle.protocol.specs.Events.{Event, Admit, Arrive, Ask, Take, Run, Send, End, Close, Complete, Rollback, Decide, Finish, Trim}
-use Rattle.protocol.specs.Words.{holds, is_doomed, is_sealed, is_decided, is_live_status, is_value, is_who, act_of, joined_of, is_act_entry, is_batch_entry, sub_of, is_ordered, lock_of, floor_at}
+use Rattle.protocol.specs.Words.{holds, is_doomed, is_sealed, is_value, is_who, act_of, joined_of, sub_of, is_ordered, lock_of, floor_at}
 use Rattle.protocol.specs.Conditions.{IsAllowed, conditions}
 use Rattle.protocol.specs.Effects.{after, cell_at, no_cell}
 use Rattle.protocol.specs.OnBook as book
@@ -24,7 +24,7 @@ use Rattle.protocol_laws.proofs.machine.ControlWalk.{AllControls}
 use Rattle.protocol_laws.proofs.machine.ActsFound as acts
 use Rattle.protocol_laws.proofs.machine.ActsFound.{HoldsOpen}
 use Rattle.protocol_laws.proofs.machine.ActResults as results
-use Rattle.protocol_laws.proofs.machine.ActResults.{NoneActed, NoActResult}
+use Rattle.protocol_laws.proofs.machine.ActResults.{NoneActed}
 use Rattle.protocol_laws.proofs.machine.ActsKept.{Acts}
 use Rattle.protocol_laws.proofs.machine.QueuedKept.{in_book, found_some}
 use Rattle.protocol_laws.proofs.machine.BehindKept.{Behind, AllBehind, each_to_holds, holds_to_each, holds_some}

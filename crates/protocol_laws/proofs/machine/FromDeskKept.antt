@@ -7,7 +7,7 @@ use Rattle.std.proofs.lemmas.Bool.{eqb-true, eq-eqb, ne_eqb, and_parts, or_cases
 use Rattle.snap_base.specs.declared.transactions.TxResult.{TxResult}
 use Rattle.protocol.specs.Fixed.{Fixed, Next, Go, Ended}
 use Rattle.protocol.specs.Rivals.{Lock}
-use Rattle.protocol.specs.Parts.{Ring, Desk, Cascade, OfBatch, OfAct, Batch, Pact, Declared, Committing, Settled, Slot, SubBatch, Entry, BatchEntry, ActEntry, Outcome, Cell, Machine}
+use Rattle.protocol.specs.Parts.{Ring, Cascade, OfBatch, Batch, Pact, Declared, Committing, Settled, SubBatch, Entry, BatchEntry, ActEntry, Outcome, Cell, Machine}
 use Rattle.protocol.specs.Events.{Event, Form, Arrive, Ask, Take, Run, Send, Close, Complete, End, Note, Commit, Settle, Abort, Rollback, DropSub, Finish, Trim}
 use Rattle.protocol.specs.Words.{holds, is_among, batch_of, declared_of, names_pact, is_who, who_of, is_complete_batch, is_batch_entry, ahead, has_act, outcome_of, sub_of, lock_of}
 use Rattle.protocol.specs.Contents.{complete_mark}

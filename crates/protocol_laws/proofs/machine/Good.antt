@@ -1,6 +1,6 @@
 -- All of it, over every run, from what is owed of controls and of ACTs.
 use Rattle.std.specs.Prelude.{◌≡◌, refl, ℕ, zero, suc, ◌<◌, ◌≤◌, ◌%◌, replicate, not, true, false, Option, Some, None, is_some, List, [], ◌∷◌, length, map, find, slice_index_or}
-use Rattle.std.proofs.Common.{sym, ap, subst, inl, inr, ◌∙◌}
+use Rattle.std.proofs.Common.{sym, subst, inl, inr}
 use Rattle.snap_base.specs.declared.transactions.State.{State}
 use Rattle.protocol.specs.Fixed.{Fixed, IsText, no_state, base, tx_at, is_pact}
 use Rattle.protocol.specs.Parts.{Act, OfAct, Entry, Waiting, Machine}

@@ -2,19 +2,18 @@
 use Rattle.std.specs.Prelude.{◌≡◌, refl, ℕ, zero, suc, ◌<◌, ◌%◌, ◌==◌, not, Bool, true, false, ◌&&◌, ◌||◌, ◌⊎◌, if◌then◌else◌, Option, Some, None, is_some, List, [], ◌∷◌, ◌++◌, map, find, slice_get, slice_index_or, slice_set}
 use Rattle.std.specs.List.{AllByRecursion, list_any, list_all}
 use Rattle.std.proofs.Common.{arith, sym, ap, subst, inl, inr, ◌∙◌}
-use Rattle.std.proofs.lemmas.Bool.{eqb-true, eqb-false, and_parts, or_cases, or_parts, or_left, or_right, true≢false, cases_Bool, false_from_ne_true}
+use Rattle.std.proofs.lemmas.Bool.{eqb-true, and_parts, or_cases, or_left, or_right, true≢false, cases_Bool, false_from_ne_true}
 use Rattle.protocol.specs.Fixed.{Fixed, Next, Go, Ended}
 use Rattle.protocol.specs.Records.{LogRecord, is_complete}
 use Rattle.protocol.specs.Parts.{Act, Desk, Cascade, Who, OfBatch, OfAct, Batch, Declared, Committing, Settled, Entry, BatchEntry, ActEntry, Outcome, Log, Cell, Machine}
 use Rattle.protocol.specs.Events.{Event, Form, Arrive, Ask, Run, Complete, End, Sync, Note, Commit, Settle, Abort, Rollback, Prepare, Decide, Finish, Trim}
 use Rattle.protocol.specs.Words.{holds, who_on, is_who, is_value, is_aborted, is_formed, is_committing, is_durable, batch_of, is_batch_entry, is_complete_batch, has_act, outcome_of, act_of, value_of, lock_of}
 use Rattle.protocol.specs.Conditions.{IsAllowed, conditions}
-use Rattle.protocol.specs.Effects.{after, cell_at, log_at, no_cell, no_log, added, adds, synced, act_commit}
+use Rattle.protocol.specs.Effects.{after, cell_at, log_at, no_cell, no_log, added, synced, act_commit}
 use Rattle.protocol.specs.OnRing as ring
 use Rattle.protocol.specs.OnBook as book
 use Rattle.protocol.specs.OnDesk as desk
 use Rattle.protocol.specs.OnCell as cell
-use Rattle.protocol.specs.OnCell.{is_cut}
 use Rattle.protocol.specs.History.{History, Ran, Stands, Gone, grown, with_at, not_run, ran_in, completed, left_for_good, without_standing, long_staying, asks, kept_act, batches_in, batch_in, is_traceless}
 use Rattle.protocol_laws.specs.Tracks.{key_of, keys_in, is_key_among}
 use Rattle.protocol_laws.specs.Places.{Ascends, Fits, Places}

@@ -3,7 +3,7 @@ use Rattle.std.specs.Prelude.{◌≡◌, refl, ℕ, ◌<◌, ◌≤◌, ◌==◌
 use Rattle.std.specs.List.{AllByRecursion}
 use Rattle.std.proofs.Common.{arith, sym, ap, subst, inl, inr, ◌∙◌}
 use Rattle.std.proofs.lemmas.List.{append-nil}
-use Rattle.std.proofs.lemmas.Bool.{or_parts, eqb-true, eqb-false, leb-true, le-leb, ltb-false, and_parts, and_from, or_cases, or_left, or_right, not-true, true≢false, false_from_ne_true, cases_Bool}
+use Rattle.std.proofs.lemmas.Bool.{or_parts, eqb-true, leb-true, le-leb, and_parts, or_cases, or_left, or_right, not-true, true≢false, false_from_ne_true, cases_Bool}
 use Rattle.protocol.specs.Fixed.{Fixed}
 use Rattle.protocol.specs.Rivals.{Lock}
 use Rattle.protocol.specs.Parts.{Act, Book, Batch, Pact, Cascade, Who, OfBatch, OfAct, Status, Live, Doomed, Decided, Sealed, Entry, BatchEntry, ActEntry, FloorPair, Cell, Machine}
@@ -14,7 +14,7 @@ use Rattle.protocol.specs.Effects.{after, cell_at, no_cell}
 use Rattle.protocol.specs.OnBook as book
 use Rattle.protocol.specs.OnCell as cell
 use Rattle.protocol.specs.Standing.{CarriesNumber}
-use Rattle.protocol.specs.History.{History, Done, Ran, Stands, Gone, grown, not_run, left_for_good, without_standing, asks, batches_in, slices_of, view_in, done_pact, done_batch, done_act, kept_act, is_traceless}
+use Rattle.protocol.specs.History.{History, Done, Ran, Stands, Gone, grown, not_run, left_for_good, without_standing, asks, batches_in, done_pact, done_batch, done_act, kept_act, is_traceless}
 use Rattle.protocol_laws.specs.Tracks.{keys_in, is_key_among}
 use Rattle.protocol_laws.specs.Turns.{Turns}
 use Rattle.protocol_laws.specs.Places.{Fits}

@@ -2,7 +2,7 @@
 use Rattle.std.specs.Prelude.{◌≡◌, refl, ℕ, zero, suc, ◌+◌, ◌%◌, ◌≤◌, ◌<◌, ◌==◌, Bool, true, false, ◌⊎◌, if◌then◌else◌, Option, Some, None, is_some, List, [], ◌∷◌, ◌++◌, length, map, take, replicate, slice_set, ◌&&◌, not}
 use Rattle.std.specs.List.{AllByRecursion}
 use Rattle.std.proofs.Common.{arith, sym, ap, subst, inl, inr, ◌∙◌}
-use Rattle.std.proofs.lemmas.Bool.{true≢false, eqb-true, eq-eqb, ne_eqb, or_cases, le-leb, cases_Bool}
+use Rattle.std.proofs.lemmas.Bool.{true≢false, eqb-true, eq-eqb, ne_eqb, or_cases, le-leb}
 use Rattle.snap_base.specs.declared.transactions.TxResult.{TxResult}
 use Rattle.protocol.specs.Fixed.{Fixed, base, tx_at, is_pact, Next, Go, Ended}
 use Rattle.protocol.specs.Parts.{Act, Declared, Pact, Batch, Committing, Settled, Who, OfBatch, OfAct, Outcome, Machine}
@@ -12,9 +12,9 @@ use Rattle.protocol.specs.Conditions.{IsAllowed, conditions, queue}
 use Rattle.protocol.specs.Effects.{after, cell_at}
 use Rattle.protocol.specs.Runs.{opening, new_cell}
 use Rattle.protocol.specs.OnRing as ring
-use Rattle.protocol.specs.OnRing.{joined_at, left_at}
+use Rattle.protocol.specs.OnRing.{joined_at}
 use Rattle.protocol.specs.OnDesk as desk
-use Rattle.protocol.specs.History.{History, Trail, grown, begun, kept_act, with_at}
+use Rattle.protocol.specs.History.{History, Trail, grown, begun, kept_act}
 use Rattle.protocol_laws.specs.Told.{PactsAscend}
 use Rattle.protocol_laws.specs.Commits.{is_kept}
 use Rattle.protocol_laws.specs.Befores.{is_above}

@@ -1,5 +1,5 @@
 -- Where a reader ran and still stands it sees the state that the actor has, and what it stands behind is over.
-use Rattle.std.specs.Prelude.{◌≡◌, refl, ℕ, ◌<◌, ◌==◌, not, Bool, true, false, ◌&&◌, ◌||◌, ◌⊎◌, if◌then◌else◌, Option, Some, None, is_some, List, [], ◌∷◌, ◌++◌, map, filter, find, slice_index_or, slice_set}
+use Rattle.std.specs.Prelude.{◌≡◌, refl, ℕ, ◌<◌, ◌==◌, not, Bool, true, false, ◌&&◌, ◌||◌, ◌⊎◌, if◌then◌else◌, Option, Some, None, List, [], ◌∷◌, ◌++◌, map, filter, find}
 use Rattle.std.specs.List.{AllByRecursion, list_any, list_all}
 use Rattle.std.proofs.Common.{sym, ap, subst, inl, inr, ◌∙◌}
 use Rattle.std.proofs.lemmas.List.{append-nil}
@@ -22,7 +22,7 @@ use Rattle.protocol_laws.specs.Sees.{blocks, HasNotRead, Seen, SeesAt}
 use Rattle.protocol_laws.specs.Turns.{Turns}
 use Rattle.protocol_laws.proofs.first.Lists.{all_filter, all_join, weaker}
 use Rattle.protocol_laws.proofs.machine.TrackLists
-use Rattle.protocol_laws.proofs.machine.TrackLists.{is_who_true, is_who_refl, without_nothing}
+use Rattle.protocol_laws.proofs.machine.TrackLists.{without_nothing}
 use Rattle.protocol_laws.proofs.machine.TracksKept.{beside, beside_same, in_range, held, arrives}
 use Rattle.protocol_laws.proofs.machine.TurnsKept.{one_is}
 use Rattle.protocol_laws.proofs.machine.CommitLists.{Sees}

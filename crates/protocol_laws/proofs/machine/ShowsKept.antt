@@ -3,7 +3,7 @@ use Rattle.std.specs.Prelude.{◌≡◌, refl, ℕ, ◌<◌, ◌≤◌, ◌==◌
 use Rattle.std.specs.List.{AllByRecursion}
 use Rattle.std.proofs.Common.{arith, sym, ap, subst, inl, inr, ◌∙◌}
 use Rattle.std.proofs.lemmas.List.{append-nil}
-use Rattle.std.proofs.lemmas.Bool.{eqb-true, eqb-false, leb-true, le-leb, and_parts, and_from, or_cases, or_left, or_right, not-true, true≢false, false_from_ne_true, cases_Bool}
+use Rattle.std.proofs.lemmas.Bool.{eqb-true, le-leb, and_parts, and_from, or_cases, or_left, or_right, true≢false, cases_Bool}
 use Rattle.protocol.specs.Fixed.{Fixed}
 use Rattle.protocol.specs.Parts.{Act, Batch, Pact, Cascade, Who, OfBatch, OfAct, Status, Live, Doomed, Decided, Sealed, SubBatch, FloorPair, Cell, Machine}
 use Rattle.protocol.specs.Events.{Event, Arrive, Ask, Take, Run, Send, End, Close, Complete, Commit, Abort, Rollback, Decide, Finish, Trim}
@@ -14,7 +14,7 @@ use Rattle.protocol.specs.OnBook as book
 use Rattle.protocol.specs.OnCell as cell
 use Rattle.protocol.specs.OnCell.{is_cut}
 use Rattle.protocol.specs.Verdicts.{act_place}
-use Rattle.protocol.specs.History.{History, Done, Ran, Stands, Gone, grown, with_at, not_run, ran_in, completed, left_for_good, without_standing, long_staying, asks, batches_in, slices_of, view_in, act_view, done_pact, done_batch, done_act, kept_act, is_traceless}
+use Rattle.protocol.specs.History.{History, Done, Ran, Stands, Gone, grown, not_run, ran_in, completed, left_for_good, without_standing, long_staying, asks, batches_in, slices_of, view_in, act_view, done_pact, done_batch, done_act, kept_act, is_traceless}
 use Rattle.protocol_laws.specs.Tracks.{keys_in, is_key_among}
 use Rattle.protocol_laws.specs.Commits.{is_kept, KeptFront}
 use Rattle.protocol_laws.specs.Marks.{Marked, Known}

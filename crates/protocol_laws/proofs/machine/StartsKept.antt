@@ -7,14 +7,14 @@ use Rattle.std.proofs.lemmas.Bool.{cases_Bool, eqb-false, true≢false, eqb-true
 use Rattle.protocol.specs.Fixed.{Fixed}
 use Rattle.protocol.specs.Parts.{Act, Batch, Pact, Slot, Cascade, Who, OfBatch, OfAct, Entry, BatchEntry, ActEntry, Waiting, ControlMessage, Cell, Machine}
 use Rattle.protocol.specs.Events.{Event, Arrive, Ask, Take, Run, Send, End, Close, Complete, Rollback, Finish, Trim}
-use Rattle.protocol.specs.Words.{is_empty, holds, is_who, who_of, who_on, act_of, is_entry_of, is_act_entry, names_pact, names_slot, batch_of, waiting_of, without_waiting, control_of, has_control_to, lock_of}
+use Rattle.protocol.specs.Words.{is_empty, holds, is_who, who_of, who_on, act_of, names_pact, batch_of, waiting_of, without_waiting, control_of, lock_of}
 use Rattle.protocol.specs.Conditions.{IsAllowed, conditions, epoch}
 use Rattle.protocol.specs.Effects.{after, cell_at, no_cell}
 use Rattle.protocol.specs.OnBook as book
 use Rattle.protocol.specs.OnCell as cell
 use Rattle.protocol.specs.OnCell.{is_cut, is_tid_among}
 use Rattle.protocol.specs.History.{History, Slice, Ran, Stands, Gone, grown, with_at, not_run, ran_in, ran_on, read_on, completed, left_for_good, without_standing, long_staying, asks, is_traceless}
-use Rattle.protocol_laws.specs.Tracks.{Key, key_of, keys_in, is_key_among, Differ, Tracks, has_read}
+use Rattle.protocol_laws.specs.Tracks.{key_of, keys_in, is_key_among, Differ, Tracks, has_read}
 use Rattle.protocol_laws.specs.Befores.{is_above, Befores}
 use Rattle.protocol_laws.specs.FromDesk.{is_pact_of, EntryOf, FromDesk}
 use Rattle.protocol_laws.proofs.machine.TrackLists

@@ -15,7 +15,7 @@ use Rattle.protocol.specs.Conditions.{IsAllowed, conditions, epoch}
 use Rattle.protocol.specs.Effects.{after, cell_at, no_cell}
 use Rattle.protocol.specs.OnBook as book
 use Rattle.protocol.specs.OnCell as cell
-use Rattle.protocol.specs.OnCell.{with_image, is_entry_among, state_from}
+use Rattle.protocol.specs.OnCell.{is_entry_among, state_from}
 use Rattle.protocol.specs.History.{History, Ran, grown, with_at, not_run, ran_on, left_for_good, without_standing, long_staying, asks, Slice, is_reader_act, is_traceless}
 use Rattle.protocol_laws.specs.Tracks.{Key, key_of, is_key_among, Tracks, CutIsEnd, Bare}
 use Rattle.protocol_laws.proofs.machine.TrackLists

@@ -3,7 +3,7 @@ use Rattle.std.specs.Prelude.{◌≡◌, refl, ℕ, ◌<◌, ◌≤◌, ◌==◌
 use Rattle.std.specs.List.{AllByRecursion, list_any, list_all}
 use Rattle.std.proofs.Common.{arith, sym, ap, subst, inl, inr, ◌∙◌}
 use Rattle.std.proofs.lemmas.Bool.{eqb-true, leb-true, and_parts, or_cases, or_parts, true≢false, cases_lt, false_from_ne_true}
-use Rattle.protocol.specs.Parts.{Cascade, Who, OfBatch, OfAct, Slot, Entry, BatchEntry, ActEntry}
+use Rattle.protocol.specs.Parts.{Cascade, Who, OfBatch, Slot, Entry, BatchEntry, ActEntry}
 use Rattle.protocol.specs.Words.{who_of, who_on, is_who, is_entry_of, is_turn_of, is_batch_entry, is_all_done, is_reader_entry}
 use Rattle.protocol.specs.Contents.{complete_mark}
 use Rattle.protocol.specs.OnCell as cell
@@ -12,7 +12,7 @@ use Rattle.protocol.specs.History.{Slice, Ran, Stands, Gone, not_run, ran_in, co
 use Rattle.protocol_laws.specs.Tracks.{key_of, keys_in, is_key_among, Differ}
 use Rattle.protocol_laws.specs.Turns.{Rising, TurnOf, Turns, NotDone}
 use Rattle.protocol_laws.proofs.machine.TrackLists
-use Rattle.protocol_laws.proofs.machine.TrackLists.{is_who_true, is_who_refl, is_who_sym}
+use Rattle.protocol_laws.proofs.machine.TrackLists.{is_who_true, is_who_refl}
 use Rattle.protocol_laws.proofs.first.Lists.{all_map, weaker}
 
 all_end : {X : Type 0} (P : X → Type 0) (xs : List X) (y : X) → AllByRecursion P xs → P y → AllByRecursion P (xs ++ y ∷ [])

@@ -13,7 +13,6 @@ use Rattle.protocol.specs.Conditions.{IsAllowed, conditions}
 use Rattle.protocol.specs.Effects.{after, cell_at, no_cell, act_commit}
 use Rattle.protocol.specs.OnBook as book
 use Rattle.protocol.specs.OnCell as cell
-use Rattle.protocol.specs.OnCell.{is_cut}
 use Rattle.protocol.specs.History.{History, Ran, Stands, Gone, grown, with_at, not_run, completed, left_for_good, without_standing, long_staying, asks, is_traceless, ran_on}
 use Rattle.protocol_records.specs.Logged.{is_ran_of, is_on, has_place, ActStands, ActsStand, OnJoined, Prepared}
 use Rattle.protocol_laws.specs.Told.{EachAct}
@@ -27,7 +26,7 @@ use Rattle.protocol_laws.proofs.machine.ControlWalk.{AllControls}
 use Rattle.protocol_laws.proofs.machine.ActsFound as acts
 use Rattle.protocol_laws.proofs.machine.ActsFound.{HoldsAnyway}
 use Rattle.protocol_laws.proofs.machine.ActResults as results
-use Rattle.protocol_laws.proofs.machine.ActResults.{NoneActed, NoActResult}
+use Rattle.protocol_laws.proofs.machine.ActResults.{NoneActed}
 use Rattle.protocol_laws.proofs.machine.BehindKept.{Behind, AllBehind}
 use Rattle.protocol_laws.proofs.machine.QueuedKept.{in_book}
 use Rattle.protocol_records.proofs.crash.OnLong.{on_at, on_more, on_map, ran_same, completed_same, left_same, on_without}

@@ -1,6 +1,6 @@
 -- What is vouched for is durable, what is sealed too; each commit record of an ACT has its actors.
-use Rattle.std.specs.Prelude.{◌≡◌, refl, ℕ, zero, suc, max, ◌%◌, ◌<◌, ◌==◌, not, Bool, true, false, ◌&&◌, ◌||◌, ◌⊎◌, if◌then◌else◌, Option, Some, None, is_some, List, [], ◌∷◌, ◌++◌, length, map, slice_get, slice_index_or, slice_set}
-use Rattle.std.specs.List.{AllByRecursion, list_any, list_all}
+use Rattle.std.specs.Prelude.{◌≡◌, refl, ℕ, ◌%◌, ◌==◌, Bool, true, false, ◌&&◌, ◌||◌, if◌then◌else◌, Option, Some, None, is_some, List, [], ◌∷◌, ◌++◌, map}
+use Rattle.std.specs.List.{AllByRecursion}
 use Rattle.std.proofs.Common.{sym, ap, subst, inl, inr, ◌∙◌}
 use Rattle.std.proofs.lemmas.Bool.{true≢false, or_cases, eqb-true, and_parts}
 use Rattle.snap_base.specs.declared.transactions.TxResult.{TxResult}
@@ -23,7 +23,7 @@ use Rattle.protocol_laws.proofs.machine.ActsFound as acts
 use Rattle.protocol_laws.proofs.machine.ActsFound.{HoldsAnyway}
 use Rattle.protocol_laws.proofs.machine.ActsKept.{Acts}
 use Rattle.protocol_laws.proofs.machine.ActResults as results
-use Rattle.protocol_laws.proofs.machine.ActResults.{NoneActed, NoActResult}
+use Rattle.protocol_laws.proofs.machine.ActResults.{NoneActed}
 use Rattle.protocol_laws.proofs.machine.QueuedKept.{in_book}
 use Rattle.protocol_records.proofs.crash.Durable.{durable_stays, durable_is, all_added}
 use Rattle.protocol_laws.proofs.first.Lists.{all_map, list_all_mapped, some_of, weaker}

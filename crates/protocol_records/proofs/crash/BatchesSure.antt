@@ -1,16 +1,16 @@
 -- A fact of each batch, event by event: what is noted is durable, and so on.
-use Rattle.std.specs.Prelude.{◌≡◌, refl, ℕ, zero, suc, ◌%◌, ◌+◌, ◌<◌, ◌≤◌, ◌==◌, not, Bool, true, false, ◌&&◌, ◌||◌, ◌⊎◌, if◌then◌else◌, Option, Some, None, is_some, List, [], ◌∷◌, ◌++◌, length, map, slice_get, slice_index_or, slice_set}
-use Rattle.std.specs.List.{AllByRecursion, list_any, list_all}
+use Rattle.std.specs.Prelude.{◌≡◌, refl, ℕ, zero, suc, ◌%◌, ◌+◌, ◌<◌, ◌≤◌, ◌==◌, not, Bool, true, false, ◌&&◌, if◌then◌else◌, Option, Some, None, List, [], ◌∷◌, ◌++◌, map}
+use Rattle.std.specs.List.{AllByRecursion}
 use Rattle.std.proofs.Common.{arith, sym, ap, subst, inl, inr, ◌∙◌}
-use Rattle.std.proofs.lemmas.Bool.{true≢false, or_cases, or_left, or_right, eqb-true}
+use Rattle.std.proofs.lemmas.Bool.{true≢false, eqb-true}
 use Rattle.snap_base.specs.declared.transactions.TxResult.{TxResult}
 use Rattle.protocol.specs.Fixed.{Fixed, Next, Go, Ended}
 use Rattle.protocol.specs.Records.{LogRecord, BatchInfo, BatchComplete, BatchDone, ActPrepare, ActDone, is_info, is_complete, is_commit}
 use Rattle.protocol.specs.Parts.{Act, Pact, Batch, Declared, Stage, Committing, Settled, Outcome, Log, Machine}
 use Rattle.protocol.specs.Events.{Event, Form, End, Complete, Sync, Note, Commit, Settle, Abort, Prepare, Decide, Trim}
-use Rattle.protocol.specs.Words.{is_value, is_durable, holds, act_of, batch_of, has_act, outcome_of, is_settled, is_formed, value_of}
+use Rattle.protocol.specs.Words.{is_value, act_of, batch_of, has_act, outcome_of, is_formed, value_of}
 use Rattle.protocol.specs.Conditions.{IsAllowed, conditions, queue}
-use Rattle.protocol.specs.Effects.{after, cell_at, no_log, added, synced, act_commit}
+use Rattle.protocol.specs.Effects.{after, cell_at, act_commit}
 use Rattle.protocol.specs.OnRing as ring
 use Rattle.protocol.specs.OnDesk as desk
 use Rattle.protocol_records.specs.Logged.{durable_at, BatchSure, EachBatch, BatchesSure, actors_of, InfoIs, Infos}

@@ -20,7 +20,7 @@ use Rattle.protocol_laws.specs.Commits.{is_kept, StatesLink, last_state}
 use Rattle.protocol_theorems.specs.Order.{LeavesIt}
 use Rattle.protocol.specs.Chains.{serial_run}
 use Rattle.protocol.specs.Moments.{IsCut, left_in}
-use Rattle.protocol_records.specs.Logged.{durable_at, logged_at, is_sure, is_written, Written, BatchesSure, Infos, InfoIs, actors_of, ActsSure, ActCommits, AllGoneSure, AllKeptSure, KeptSure, AllThere, AllHaveRead, AllDoneSure, ActsStand, OnJoined, Prepared, is_on}
+use Rattle.protocol_records.specs.Logged.{durable_at, logged_at, is_sure, is_written, Written, BatchesSure, Infos, InfoIs, ActsSure, ActCommits, AllGoneSure, AllKeptSure, AllThere, AllHaveRead, AllDoneSure, ActsStand, OnJoined, Prepared, is_on}
 use Rattle.protocol_records.specs.Telling.{One, told, AllTells, Telling, last_one, writes, Recovers, ToldRead, ToldReads, is_open, NoneLater, AllNoneLater, AllAside}
 use Rattle.protocol_records.specs.Crash.{is_in, counts, last_told, recovered_state, members, NoneMissed}
 use Rattle.protocol_laws.proofs.machine.Good.{Given}

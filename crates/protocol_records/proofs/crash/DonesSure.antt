@@ -2,7 +2,7 @@
 use Rattle.std.specs.Prelude.{◌≡◌, refl, ℕ, ◌==◌, not, Bool, true, false, ◌&&◌, ◌||◌, if◌then◌else◌, Option, Some, None, is_some, List, [], ◌∷◌, ◌++◌, map}
 use Rattle.std.specs.List.{AllByRecursion, list_any}
 use Rattle.std.proofs.Common.{sym, ap, subst, inl, inr, ◌∙◌}
-use Rattle.std.proofs.lemmas.Bool.{true≢false, or_cases, or_left, or_right, and_parts, and_from, or_from, eqb-true, eq-eqb, cases_Bool, false_from_ne_true, not-true}
+use Rattle.std.proofs.lemmas.Bool.{true≢false, or_cases, or_left, or_right, and_parts, and_from, or_from, eq-eqb, cases_Bool, false_from_ne_true, not-true}
 use Rattle.snap_base.specs.declared.transactions.Tx.{Tx}
 use Rattle.snap_base.specs.declared.transactions.State.{State}
 use Rattle.protocol.specs.Facts.{Alone}
@@ -27,7 +27,7 @@ use Rattle.protocol_theorems.specs.Placed.{has_done}
 use Rattle.protocol_theorems.proofs.order.ChainsKept.{Chained, IsOver, no_done}
 use Rattle.protocol_theorems.proofs.order.RunsBefore.{lives}
 use Rattle.protocol_laws.proofs.machine.Good as whole
-use Rattle.protocol_laws.proofs.machine.Good.{Given, Good}
+use Rattle.protocol_laws.proofs.machine.Good.{Given}
 use Rattle.protocol_laws.proofs.machine.AllGood.{AllGood}
 use Rattle.protocol_laws.proofs.machine.AllGood as all
 use Rattle.protocol_records.proofs.crash.OnLong.{on_stays, on_key}

@@ -5,7 +5,7 @@ use Rattle.std.proofs.Common.{sym, ap, inl, inr, ◌∙◌, subst}
 use Rattle.std.proofs.lemmas.Bool.{true≢false, or_cases, or_left, or_right}
 use Rattle.std.proofs.lemmas.List.{append-nil}
 use Rattle.protocol.specs.Fixed.{Fixed}
-use Rattle.protocol.specs.Records.{LogRecord, is_info, is_complete, is_commit, is_prepare, is_act_commit}
+use Rattle.protocol.specs.Records.{LogRecord, is_commit, is_act_commit}
 use Rattle.protocol.specs.Parts.{Act, Who, OfBatch, OfAct, Log, Machine}
 use Rattle.protocol.specs.Events.{Event, Form, Complete, Sync, Commit, Prepare, Decide}
 use Rattle.protocol.specs.Words.{is_who, is_value, is_durable, holds, act_of, value_of}

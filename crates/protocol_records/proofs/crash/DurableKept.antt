@@ -9,7 +9,7 @@ use Rattle.snap_base.specs.declared.transactions.TxResult.TheVariants.{Value, Fa
 use Rattle.snap_base.specs.declared.verdicts.Verdict.{Verdict}
 use Rattle.protocol.specs.Fixed.{Fixed, Next, Go, Ended}
 use Rattle.protocol.specs.Records.{LogRecord, is_commit, is_act_commit}
-use Rattle.protocol.specs.Parts.{Act, Batch, Cascade, Who, OfBatch, OfAct, Pair, Status, Live, Doomed, Decided, Sealed, Stage, Formed, Committing, Settled, Log, Outcome, Cell, Machine}
+use Rattle.protocol.specs.Parts.{Act, Batch, Cascade, Who, OfBatch, OfAct, Pair, Status, Live, Doomed, Decided, Sealed, Committing, Settled, Log, Outcome, Cell, Machine}
 use Rattle.protocol.specs.Events.{Event, Form, Admit, Arrive, Ask, Run, End, Complete, Sync, Note, Commit, Settle, Abort, Rollback, Prepare, Vouch, Decide, Seal, Finish, Trim}
 use Rattle.protocol.specs.Words.{holds, is_who, is_failure, is_value, is_durable, is_settled, is_sealed, is_doomed, is_live_status, batch_of, act_of, has_act, outcome_of, is_ended, is_ordered, lock_of, floor_at}
 use Rattle.protocol.specs.Spread.{raised, carried, crossed_out, is_crossed, doomed_by_order}
@@ -20,7 +20,7 @@ use Rattle.protocol.specs.OnDesk as desk
 use Rattle.protocol.specs.OnBook as book
 use Rattle.protocol.specs.History.{History, Slice, Ran, Stands, Gone, grown, not_run, ran_in, completed, left_for_good, without_standing, long_staying, asks, is_traceless}
 use Rattle.protocol.specs.OnCell as cell
-use Rattle.protocol.specs.OnCell.{is_cut, is_undone_act}
+use Rattle.protocol.specs.OnCell.{is_cut}
 use Rattle.protocol_laws.proofs.machine.TrackLists
 use Rattle.protocol_laws.proofs.machine.TrackLists.{is_who_true}
 use Rattle.protocol_laws.proofs.machine.CommitsKept.{beside_carried}

@@ -1,9 +1,9 @@
 -- When one commits, all that committed before it on one of its actors is sure: it settled, was sealed, or left for good.
-use Rattle.std.specs.Prelude.{◌≡◌, refl, ℕ, ◌+◌, ◌≤◌, ◌<◌, ◌==◌, max, nat_le, not, Bool, true, false, ◌&&◌, ◌||◌, if◌then◌else◌, Option, Some, None, is_some, List, [], ◌∷◌, ◌++◌, length, map}
+use Rattle.std.specs.Prelude.{◌≡◌, refl, ℕ, ◌+◌, ◌≤◌, ◌==◌, max, nat_le, not, Bool, true, false, ◌&&◌, ◌||◌, if◌then◌else◌, Option, Some, None, is_some, List, [], ◌∷◌, ◌++◌, map}
 use Rattle.std.specs.List.{AllByRecursion, list_any, list_all}
 use Rattle.std.proofs.Common.{arith, sym, ap, subst, inl, inr, ◌∙◌}
 use Rattle.std.proofs.lemmas.List.{append-nil}
-use Rattle.std.proofs.lemmas.Bool.{true≢false, or_cases, or_left, or_right, or_parts, and_parts, eqb-true, leb-true, cases_Bool, false_from_ne_true, not-true}
+use Rattle.std.proofs.lemmas.Bool.{true≢false, or_cases, or_left, or_right, and_parts, eqb-true, leb-true, cases_Bool, false_from_ne_true, not-true}
 use Rattle.snap_base.specs.declared.transactions.Tx.{Tx}
 use Rattle.snap_base.specs.declared.transactions.State.{State}
 use Rattle.protocol_laws.proofs.machine.ReadersSee.{ReadBy, not_read, reads_at}
@@ -34,7 +34,7 @@ use Rattle.protocol_laws.proofs.machine.StartsKept.{Starts, Started, ran_there}
 use Rattle.protocol_laws.proofs.machine.ActResults as results
 use Rattle.protocol_laws.proofs.machine.ActsOwed.{top_at, sound_at, good_keys}
 use Rattle.protocol_laws.proofs.machine.Good as whole
-use Rattle.protocol_laws.proofs.machine.Good.{Given, Good}
+use Rattle.protocol_laws.proofs.machine.Good.{Given}
 use Rattle.protocol_laws.proofs.machine.AllGood.{AllGood}
 use Rattle.protocol_laws.proofs.machine.AllGood as all
 use Rattle.protocol_records.proofs.crash.OnLong.{on_kept, on_key, on_stays}

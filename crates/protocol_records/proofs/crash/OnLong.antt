@@ -6,7 +6,7 @@ use Rattle.std.proofs.lemmas.Bool.{true≢false, or_cases, or_left, or_right, or
 use Rattle.protocol.specs.Fixed.{Fixed}
 use Rattle.protocol.specs.Parts.{Cascade, Who, OfBatch, OfAct, Machine}
 use Rattle.protocol.specs.Events.{Event, Arrive, Ask, Run, Complete, Rollback, Finish, Trim}
-use Rattle.protocol.specs.Words.{holds, is_who, is_value, is_failure, is_doomed, is_sealed, is_settled, who_on, act_of, batch_of, declared_of, is_ordered, lock_of}
+use Rattle.protocol.specs.Words.{holds, is_who, is_value, is_failure, is_doomed, is_sealed, is_settled, who_on, act_of, batch_of, declared_of, lock_of}
 use Rattle.protocol.specs.Conditions.{IsAllowed, conditions}
 use Rattle.protocol.specs.Effects.{after, cell_at}
 use Rattle.protocol.specs.OnBook as book

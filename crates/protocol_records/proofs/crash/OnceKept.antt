@@ -13,10 +13,10 @@ use Rattle.protocol.specs.Parts.{Act, Joined, Who, OfBatch, OfAct, Machine}
 use Rattle.protocol.specs.Events.{Event, Form, Admit, Ask, End, Complete, Sync, Commit, Prepare, Vouch, Decide, Seal, Finish}
 use Rattle.protocol.specs.Words.{holds, is_among, is_complete_batch, is_batch_entry, joined_of, act_of, batch_of, value_of}
 use Rattle.protocol.specs.Conditions.{IsAllowed, conditions}
-use Rattle.protocol.specs.Effects.{after, cell_at, no_cell, log_at, no_log, added, act_commit}
+use Rattle.protocol.specs.Effects.{after, cell_at, no_cell, log_at, act_commit}
 use Rattle.protocol.specs.OnBook as book
-use Rattle.protocol.specs.History.{History, grown}
-use Rattle.protocol_records.specs.Logged.{logged_at, actors_of, ActsSure, ActsStand}
+use Rattle.protocol.specs.History.{History}
+use Rattle.protocol_records.specs.Logged.{logged_at, actors_of, ActsSure}
 use Rattle.protocol_records.specs.Telling.{One, told, names, Telling}
 use Rattle.protocol_laws.proofs.machine.ActsFound as acts
 use Rattle.protocol_laws.proofs.machine.ActsFound.{HoldsAnyway}

@@ -11,7 +11,7 @@ use Rattle.protocol.specs.Fixed.{Fixed, no_state}
 use Rattle.protocol.specs.Records.{LogRecord, BatchComplete, ActPrepare, is_prepare}
 use Rattle.protocol.specs.Parts.{Act, Status, Live, Doomed, Decided, Sealed, Who, OfBatch, OfAct, Machine}
 use Rattle.protocol.specs.Events.{Event, Form, Arrive, Ask, Run, Complete, Sync, Commit, Rollback, Prepare, Decide, Finish, Trim}
-use Rattle.protocol.specs.Words.{holds, is_who, is_value, is_doomed, is_sealed, is_ordered, who_on, joined_of, act_of, batch_of, lock_of, waiting_of}
+use Rattle.protocol.specs.Words.{holds, is_who, is_value, is_doomed, is_sealed, joined_of, act_of, batch_of, lock_of, waiting_of}
 use Rattle.protocol.specs.Conditions.{IsAllowed, conditions}
 use Rattle.protocol.specs.Effects.{after, cell_at, log_at, no_cell}
 use Rattle.protocol.specs.OnBook as book
@@ -20,7 +20,7 @@ use Rattle.protocol.specs.History.{History, Slice, Ran, grown, not_run, complete
 use Rattle.protocol_laws.specs.Tracks.{keys_in, is_key_among, has_read}
 use Rattle.protocol_laws.specs.Commits.{is_kept, last_state, reads_who}
 use Rattle.protocol_records.specs.Logged.{is_sure, is_on, has_place, BatchesSure, ActsSure, AllKeptSure, ActsStand, OnJoined, Prepared, AllThere}
-use Rattle.protocol_records.specs.Telling.{One, told, names, AllTells, Telling, last_one, writes, Recovers, ToldRead, ToldReads, is_open, NoneLater, AllNoneLater, ReadersAside, AllAside}
+use Rattle.protocol_records.specs.Telling.{One, told, names, AllTells, Telling, last_one, writes, Recovers, ToldRead, ToldReads, is_open, NoneLater, AllNoneLater, AllAside}
 use Rattle.protocol_laws.proofs.machine.TrackLists
 use Rattle.protocol_laws.proofs.machine.TracksKept.{Tracked, held}
 use Rattle.protocol_laws.proofs.machine.TurnsKept.{one_is}
@@ -32,7 +32,7 @@ use Rattle.protocol_laws.proofs.machine.CommitLists
 use Rattle.protocol_laws.proofs.machine.CommitsKept.{Committed, MayDecide, beside_carried}
 use Rattle.protocol_laws.proofs.machine.CommitsKept as chain
 use Rattle.protocol_laws.proofs.machine.Good as whole
-use Rattle.protocol_laws.proofs.machine.Good.{Given, Good}
+use Rattle.protocol_laws.proofs.machine.Good.{Given}
 use Rattle.protocol_laws.proofs.machine.AllGood.{AllGood}
 use Rattle.protocol_laws.proofs.machine.AllGood as all
 use Rattle.protocol_theorems.proofs.order.ChainsKept.{Owes}

@@ -8,7 +8,7 @@ use Rattle.protocol.specs.Records.{LogRecord, BatchInfo, BatchComplete, BatchDon
 use Rattle.protocol.specs.Parts.{Act, Who, OfBatch, OfAct, Log, Machine}
 use Rattle.protocol.specs.Events.{Event, Form, Complete, Sync, Commit, Prepare, Decide}
 use Rattle.protocol.specs.Words.{is_who, is_value, act_of, batch_of, value_of, values_of}
-use Rattle.protocol.specs.Effects.{after, log_at, no_log, added, act_commit, cell_at}
+use Rattle.protocol.specs.Effects.{after, log_at, no_log, added, act_commit}
 use Rattle.protocol.specs.Runs.{opening}
 use Rattle.protocol.specs.History.{History, no_history, grown, kept_act, kept_reader}
 use Rattle.protocol_laws.specs.Commits.{is_kept}

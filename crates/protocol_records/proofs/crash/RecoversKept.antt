@@ -9,12 +9,12 @@ use Rattle.snap_base.specs.declared.transactions.State.{State}
 use Rattle.protocol.specs.Facts.{Alone}
 use Rattle.protocol.specs.Fixed.{Fixed, no_state}
 use Rattle.protocol.specs.Records.{LogRecord, BatchComplete, ActPrepare, is_complete, is_prepare}
-use Rattle.protocol.specs.Parts.{Act, Joined, Batch, Pact, Who, OfBatch, OfAct, Log, Machine}
+use Rattle.protocol.specs.Parts.{Act, Joined, Pact, Who, OfBatch, OfAct, Log, Machine}
 use Rattle.protocol.specs.Events.{Event, Form, Complete, Sync, Commit, Prepare, Decide}
-use Rattle.protocol.specs.Words.{holds, is_who, is_value, is_failure, is_doomed, act_of, batch_of, declared_of, is_ordered}
+use Rattle.protocol.specs.Words.{is_who, is_value, is_failure, is_doomed, act_of, batch_of, declared_of, is_ordered}
 use Rattle.protocol.specs.Conditions.{IsAllowed, conditions}
 use Rattle.protocol.specs.Effects.{after, cell_at, log_at, no_log, added}
-use Rattle.protocol.specs.History.{Done, History, Ran, grown, slices_of, view_in, done_pact, done_act, done_batch, kept_act, slices_for, is_reader_act}
+use Rattle.protocol.specs.History.{Done, History, Ran, grown, view_in, done_pact, done_act, done_batch, kept_act, slices_for, is_reader_act}
 use Rattle.protocol_laws.specs.Tracks.{keys_in, Differ, Linked}
 use Rattle.protocol_laws.specs.Commits.{is_kept, StatesLink, last_state, kept_slices, reads_who}
 use Rattle.protocol_laws.specs.Marks.{is_done, Recorded, Marked}
@@ -23,12 +23,12 @@ use Rattle.protocol_records.specs.Telling.{One, told, names, Telling, FrontIn, l
 use Rattle.protocol_laws.proofs.machine.TrackLists
 use Rattle.protocol_laws.proofs.machine.TracksKept.{Tracked}
 use Rattle.protocol_laws.proofs.machine.TurnsKept.{one_is}
-use Rattle.protocol_laws.proofs.machine.CommitsKept.{Committed, MayCommit, MayDecide}
+use Rattle.protocol_laws.proofs.machine.CommitsKept.{Committed}
 use Rattle.protocol_laws.proofs.machine.CommitsKept as chain
 use Rattle.protocol_laws.proofs.machine.BatchesCommit as commits
 use Rattle.protocol_laws.proofs.machine.ActsKept.{Acts}
 use Rattle.protocol_laws.proofs.machine.Good as whole
-use Rattle.protocol_laws.proofs.machine.Good.{Given, Good}
+use Rattle.protocol_laws.proofs.machine.Good.{Given}
 use Rattle.protocol_laws.proofs.machine.AllGood.{AllGood}
 use Rattle.protocol_laws.proofs.machine.AllGood as all
 use Rattle.protocol_records.proofs.crash.OnLong.{on_stays, on_key}

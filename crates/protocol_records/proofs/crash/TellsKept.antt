@@ -39,7 +39,7 @@ use Rattle.protocol_laws.proofs.machine.StartsKept.{Starts, Started, ran_there}
 use Rattle.protocol_laws.proofs.machine.ActsKept.{Acts}
 use Rattle.protocol_laws.proofs.machine.ActResults as results
 use Rattle.protocol_laws.proofs.machine.Good as whole
-use Rattle.protocol_laws.proofs.machine.Good.{Given, Good}
+use Rattle.protocol_laws.proofs.machine.Good.{Given}
 use Rattle.protocol_laws.proofs.machine.AllGood.{AllGood}
 use Rattle.protocol_laws.proofs.machine.AllGood as all
 use Rattle.protocol_records.proofs.crash.OnLong.{on_key}

@@ -1,5 +1,5 @@
 -- No two records of all logs have the same key.
-use Rattle.std.specs.Prelude.{◌≡◌, refl, ℕ, ◌+◌, ◌≤◌, ◌%◌, ◌==◌, not, Bool, true, false, ◌&&◌, if◌then◌else◌, Option, Some, None, is_some, option_map, List, [], ◌∷◌, length, map, filter, find, slice_index_or, slice_set}
+use Rattle.std.specs.Prelude.{◌≡◌, refl, ℕ, ◌+◌, ◌≤◌, ◌%◌, ◌==◌, not, Bool, true, false, ◌&&◌, if◌then◌else◌, Some, None, is_some, option_map, List, [], ◌∷◌, length, map, slice_index_or, slice_set}
 use Rattle.std.specs.List.{AllByRecursion, list_any}
 use Rattle.std.proofs.Common.{arith, sym, ap, subst, ◌∙◌}
 use Rattle.std.proofs.lemmas.Bool.{true≢false, and_parts, eqb-true, not-true}

@@ -9,7 +9,7 @@ use Rattle.protocol.specs.Facts.{Alone}
 use Rattle.protocol.specs.Fixed.{Fixed, base}
 use Rattle.protocol.specs.Parts.{Act, Batch, Pact, OfBatch, OfAct, Machine}
 use Rattle.protocol.specs.Events.{Event, Admit, Ask, End, Decide}
-use Rattle.protocol.specs.Words.{greatest, is_settled, is_live_status, is_ended, is_ordered, act_of, batch_of, outcome_of}
+use Rattle.protocol.specs.Words.{is_settled, is_live_status, is_ended, act_of, batch_of, outcome_of}
 use Rattle.protocol.specs.Conditions.{IsAllowed, conditions}
 use Rattle.protocol.specs.Effects.{after, no_cell}
 use Rattle.protocol.specs.OnBook as book

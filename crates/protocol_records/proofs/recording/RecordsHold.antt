@@ -1,6 +1,5 @@
 -- All of it over every run.
-use Rattle.std.specs.Prelude.{◌≡◌, refl, ℕ, zero, suc, ◌+◌, ◌≤◌, true, List, [], ◌∷◌, length, slice_index_or, replicate}
-use Rattle.std.specs.List.{AllByRecursion, list_any}
+use Rattle.std.specs.Prelude.{◌≡◌, refl, ℕ, zero, suc, ◌≤◌, List, [], ◌∷◌, length, replicate}
 use Rattle.std.proofs.Common.{arith}
 use Rattle.snap_base.specs.declared.transactions.Tx.{Tx}
 use Rattle.snap_base.specs.declared.transactions.State.{State}

@@ -2,7 +2,7 @@
 use Rattle.std.specs.Prelude.{◌≡◌, refl, ℕ, ℤ, ◌==◌, not, Bool, true, ◌&&◌, Option, Some, None, option_map, List, [], ◌∷◌, map}
 use Rattle.std.specs.List.{AllByRecursion, list_any}
 use Rattle.std.proofs.Common.{sym, subst, inl, inr, ◌∙◌}
-use Rattle.std.proofs.lemmas.Bool.{true≢false, or_cases, or_left, or_right, and_parts, and_from, eq-eqb}
+use Rattle.std.proofs.lemmas.Bool.{or_cases, or_left, or_right, and_parts, and_from, eq-eqb}
 use Rattle.snap_base.specs.declared.transactions.Tx.{Tx}
 use Rattle.snap_base.specs.declared.transactions.State.{State}
 use Rattle.protocol.specs.Facts.{Alone}
@@ -16,7 +16,7 @@ use Rattle.protocol_laws.specs.Told.{is_at}
 use Rattle.protocol_laws.specs.Marks.{Known, Marked}
 use Rattle.protocol_records.proofs.crash.KeptAll.{batch_kept}
 use Rattle.protocol_records.specs.Logged.{actors_of, has_place, Infos, InfoIs, ActCommits, CommitIs, Prepared}
-use Rattle.protocol_records.specs.RecordLaws.{home, key_of, batch_actors, batch_tids, act_actors, valued, ActCommitted, TellsOf, RecordsTell}
+use Rattle.protocol_records.specs.RecordLaws.{home, key_of, batch_actors, act_actors, valued, TellsOf, RecordsTell}
 use Rattle.protocol_laws.proofs.first.Lists.{both_all, some_of, weaker}
 use Rattle.protocol_laws.proofs.machine.TurnsKept.{one_is}
 use Rattle.protocol_laws.proofs.machine.AllGood.{AllGood}

@@ -24,7 +24,7 @@ use Rattle.protocol_laws.proofs.machine.ControlWalk.{AllControls}
 use Rattle.protocol_laws.proofs.machine.TracksKept.{held}
 use Rattle.protocol_laws.proofs.machine.TurnsKept.{one_is}
 use Rattle.protocol_laws.proofs.machine.ActResults as results
-use Rattle.protocol_laws.proofs.machine.ActResults.{NoneActed, NoActResult}
+use Rattle.protocol_laws.proofs.machine.ActResults.{NoneActed}
 use Rattle.protocol_laws.proofs.machine.ActsKept.{Acts}
 use Rattle.protocol_laws.proofs.machine.ActsFound as acts
 use Rattle.protocol_records.proofs.crash.ActPlaces.{fact_stays}

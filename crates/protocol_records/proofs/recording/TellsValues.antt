@@ -26,7 +26,7 @@ use Rattle.protocol_laws.proofs.machine.TurnsKept.{one_is}
 use Rattle.protocol_laws.proofs.machine.Resting.{NoResult, NoneNoted}
 use Rattle.protocol_laws.proofs.machine.RunOwed.{found_all}
 use Rattle.protocol_laws.proofs.machine.ActResults as results
-use Rattle.protocol_laws.proofs.machine.ActResults.{NoneActed, NoActResult}
+use Rattle.protocol_laws.proofs.machine.ActResults.{NoneActed}
 use Rattle.protocol_laws.proofs.machine.ActsKept.{Acts}
 use Rattle.protocol_laws.proofs.machine.ActsFound as acts
 use Rattle.protocol_laws.proofs.machine.ActsFound.{HoldsAnyway}

@@ -1,6 +1,6 @@
 -- The order of placing is the order of commits, event by event.
-use Rattle.std.specs.Prelude.{◌≡◌, refl, ℕ, zero, suc, ◌+◌, ◌<◌, ◌≤◌, ◌==◌, not, Bool, true, false, ◌&&◌, ◌||◌, if◌then◌else◌, Option, Some, None, is_some, List, [], ◌∷◌, ◌++◌, length, map, filter, find, slice_get}
-use Rattle.std.specs.List.{AllByRecursion, list_any}
+use Rattle.std.specs.Prelude.{◌≡◌, refl, ℕ, ◌+◌, ◌<◌, ◌≤◌, ◌==◌, not, Bool, true, false, ◌&&◌, ◌||◌, if◌then◌else◌, Option, Some, None, is_some, List, [], ◌∷◌, ◌++◌, map, filter}
+use Rattle.std.specs.List.{AllByRecursion}
 use Rattle.std.proofs.Common.{arith, sym, ap, subst, inl, inr, ◌∙◌}
 use Rattle.std.proofs.lemmas.List.{append-nil}
 use Rattle.std.proofs.lemmas.Bool.{eqb-true, eq-eqb, and_parts, or_cases, or_from, or_left, or_right, true≢false, cases_Bool, false_from_ne_true}
@@ -26,7 +26,7 @@ use Rattle.protocol_laws.proofs.machine.TrackLists.{keys_without, keys_staying, 
 use Rattle.protocol_laws.proofs.machine.TracksKept.{Tracked, held, act_not_among}
 use Rattle.protocol_laws.proofs.machine.PlacesKept.{Placed}
 use Rattle.protocol_laws.proofs.machine.CommitLists.{none_of}
-use Rattle.protocol_laws.proofs.machine.CommitsKept.{beside_carried, MayCommit, MayDecide}
+use Rattle.protocol_laws.proofs.machine.CommitsKept.{beside_carried, MayDecide}
 use Rattle.protocol_laws.proofs.machine.CommitsKept as chain
 use Rattle.protocol_laws.proofs.machine.TurnsKept.{one_is}
 use Rattle.protocol_laws.proofs.first.Lists.{all_join, weaker, all_found}

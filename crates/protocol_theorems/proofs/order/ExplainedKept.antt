@@ -20,7 +20,7 @@ use Rattle.protocol.specs.OnPost as post
 use Rattle.protocol.specs.OnDesk as desk
 use Rattle.protocol.specs.OnBook as book
 use Rattle.protocol.specs.OnCell as cell
-use Rattle.protocol.specs.History.{History, Trail, Step, Slice, grown, with_at, begun, gone_on, slices_of, view_in, done_pact, done_batch, done_act, Done, slices_for, is_reader_act, last_left, View}
+use Rattle.protocol.specs.History.{History, Trail, Step, Slice, grown, with_at, begun, gone_on, slices_of, view_in, done_pact, done_batch, done_act, Done, slices_for, is_reader_act, last_left}
 use Rattle.protocol_laws.specs.Turns.{Rising}
 use Rattle.protocol_laws.specs.Trails.{Explained, on_actor}
 use Rattle.protocol_laws.specs.Linked.{IsExplained}

@@ -19,7 +19,7 @@ use Rattle.protocol_laws.proofs.machine.Higher.{places_rise, places_differ}
 use Rattle.protocol_theorems.proofs.order.ArrivesOnce.{AllPlaced}
 use Rattle.protocol_theorems.proofs.order.ArrivesOnce as once
 use Rattle.protocol_theorems.proofs.order.OwedHolds.{owed}
-use Rattle.protocol_theorems.proofs.order.OrderLaw.{Ordered, Told, PlacesHold, WhenQuiet, facts, quiet_state}
+use Rattle.protocol_theorems.proofs.order.OrderLaw.{Ordered, Told, WhenQuiet, facts, quiet_state}
 use Rattle.protocol_theorems.proofs.order.OrderLaw as order
 use Rattle.protocol_theorems.proofs.order.OrderImplied.{order_stands, order_holds}
 use Rattle.protocol.specs.Rests.{IsRest, IsTxIn, HasFacts}

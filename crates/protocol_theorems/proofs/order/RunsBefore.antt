@@ -5,7 +5,7 @@ use Rattle.std.proofs.Common.{sym, ap, subst, inl, inr, ◌∙◌}
 use Rattle.std.proofs.lemmas.Bool.{true≢false, and_parts, and_from, eqb-true}
 use Rattle.snap_base.specs.declared.transactions.TxResult.{TxResult}
 use Rattle.protocol.specs.Fixed.{Fixed, Next, Go, Ended}
-use Rattle.protocol.specs.Parts.{Act, Pact, Batch, Who, OfBatch, OfAct, Pair, Status, Live, Doomed, Decided, Sealed, Stage, Formed, Committing, Settled, Outcome, Cell, Machine}
+use Rattle.protocol.specs.Parts.{Act, Pact, Batch, Pair, Stage, Committing, Settled, Outcome, Cell, Machine}
 use Rattle.protocol.specs.Events.{Event, Form, Admit, Arrive, Ask, End, Note, Commit, Settle, Abort, Prepare, Vouch, Decide, Seal, Finish, Trim}
 use Rattle.protocol.specs.Words.{holds, is_value, is_open, is_formed, is_live_status, names_pact, batch_of, act_of, has_act, outcome_of, lock_of, floor_at}
 use Rattle.protocol.specs.Spread.{raised, carried, crossed_out, is_crossed, doomed_by_order}

@@ -11,7 +11,7 @@ use Rattle.protocol_laws.proofs.first.Agree.{agree, agree_same}
 use Rattle.protocol_laws.specs.Told.{PactsAscend}
 use Rattle.protocol_laws.specs.Commits.{reads_who}
 use Rattle.protocol.specs.Fixed.{Fixed}
-use Rattle.protocol.specs.Parts.{Act, Pact, Batch, Status, Who, OfBatch, OfAct, Cascade, Entry, Cell, Machine, BatchEntry, ActEntry}
+use Rattle.protocol.specs.Parts.{Act, Pact, Batch, Status, Who, OfBatch, OfAct, Cascade, Entry, Machine, BatchEntry, ActEntry}
 use Rattle.protocol.specs.Events.{Event, Form, Admit, Arrive, Ask, Run, Complete, Rollback, Finish, Trim}
 use Rattle.protocol.specs.Words.{holds, is_who, is_open, is_formed, is_settled, is_live_status, is_doomed, is_sealed, is_aborted, is_entry_of, is_turn_of, names_pact, who_of, who_on, batch_of, act_of, lock_of, is_reader_entry}
 use Rattle.protocol.specs.Conditions.{IsAllowed, conditions}

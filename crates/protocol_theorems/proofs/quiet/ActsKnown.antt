@@ -1,5 +1,5 @@
 -- Facts of each ACT that is found by its tid, and of each record that is there, event by event.
-use Rattle.std.specs.Prelude.{◌≡◌, refl, ℕ, zero, suc, ◌+◌, ◌<◌, ◌≤◌, ◌%◌, ◌==◌, max, not, Bool, true, false, ◌&&◌, ◌||◌, if◌then◌else◌, ◌⊎◌, Option, Some, None, is_some, List, [], ◌∷◌, ◌++◌, length, map, filter, find, slice_get, slice_index_or, slice_set}
+use Rattle.std.specs.Prelude.{◌≡◌, refl, ℕ, zero, suc, ◌+◌, ◌<◌, ◌≤◌, ◌%◌, ◌==◌, max, not, Bool, true, false, ◌&&◌, ◌||◌, if◌then◌else◌, ◌⊎◌, Option, Some, None, is_some, List, [], ◌∷◌, ◌++◌, length, map, slice_index_or, slice_set}
 use Rattle.std.specs.List.{AllByRecursion, list_any, list_all}
 use Rattle.std.proofs.Common.{sym, subst, inl, inr, ◌∙◌}
 use Rattle.std.proofs.lemmas.List.{get_or-set_same}
@@ -18,7 +18,6 @@ use Rattle.protocol.specs.Runs.{opening}
 use Rattle.protocol.specs.OnPost.{next_act}
 use Rattle.protocol.specs.OnBook as book
 use Rattle.protocol.specs.Verdicts.{died}
-use Rattle.protocol_theorems.proofs.quiet.QuietEasy.{passed}
 use Rattle.protocol_laws.proofs.first.Lists.{all_join, any_front, weaker}
 use Rattle.protocol_laws.proofs.first.Statuses.{if_tid}
 use Rattle.protocol_laws.proofs.machine.ActsFound.{found_tid}

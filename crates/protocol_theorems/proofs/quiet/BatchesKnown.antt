@@ -3,10 +3,10 @@ use Rattle.std.specs.Prelude.{◌≡◌, refl, ℕ, zero, suc, ◌<◌, ◌≤�
 use Rattle.std.specs.List.{AllByRecursion, list_any, list_all}
 use Rattle.std.proofs.Common.{arith, sym, ap, subst, inl, inr, ◌∙◌}
 use Rattle.std.proofs.lemmas.List.{length-replicate}
-use Rattle.std.proofs.lemmas.Bool.{and_parts, or_cases, or_left, or_right, true≢false, eqb-true, eq-eqb, cases_Bool, not-true}
+use Rattle.std.proofs.lemmas.Bool.{and_parts, or_cases, true≢false, eqb-true, eq-eqb, cases_Bool}
 use Rattle.snap_base.specs.declared.transactions.TxResult.{TxResult}
 use Rattle.protocol.specs.Rivals.{Lock}
-use Rattle.protocol.specs.Fixed.{Fixed, IsText, IsTxOf, Next, Go, Ended, Code, tx_at, no_tx, is_pact, root, declared}
+use Rattle.protocol.specs.Fixed.{Fixed, IsText, IsTxOf, Next, Go, Ended, tx_at, no_tx, is_pact, root, declared}
 use Rattle.protocol.specs.Records.{BatchComplete, BatchDone, is_info, is_complete, is_commit}
 use Rattle.protocol.specs.Parts.{Batch, Declared, Stage, Formed, Committing, Settled, PlacedBatch, SubBatch, Cascade, Entry, BatchEntry, ActEntry, Outcome, Machine}
 use Rattle.protocol.specs.Events.{Event, Submit, Form, Arrive, Ask, Take, Run, Send, End, Close, Complete, Note, Commit, Settle, Abort, Rollback, Finish, Trim}

@@ -10,7 +10,7 @@ use Rattle.protocol.specs.Facts.{Alone}
 use Rattle.protocol.specs.Fixed.{Fixed, Next, Go, Ended, Code}
 use Rattle.protocol.specs.Parts.{Act, Batch, Pact, Slot, Who, OfBatch, OfAct, ControlMessage, Waiting, Outcome, Entry, BatchEntry, ActEntry, Cell, Machine}
 use Rattle.protocol.specs.Events.{Event, Form, Admit, Ask, Take, Send, End, DropControl, Decide}
-use Rattle.protocol.specs.Words.{holds, is_who, who_on, who_of, is_open, is_formed, is_doomed, is_sealed, is_aborted, is_going, is_ended, names_pact, act_of, batch_of, is_entry_of, has_act, control_of, without_control, waiting_of, without_waiting, outcome_of, without_outcome}
+use Rattle.protocol.specs.Words.{holds, who_on, is_open, is_formed, is_going, is_ended, names_pact, act_of, batch_of, has_act, control_of, without_control, waiting_of, outcome_of}
 use Rattle.protocol.specs.Numbers.{flat, times, one_if, waiting_tids, outcome_tids, tids_in, controls_in}
 use Rattle.protocol.specs.Conditions.{IsAllowed, conditions, queue}
 use Rattle.protocol.specs.Effects.{after, cell_at, puts, no_cell}
@@ -31,7 +31,7 @@ use Rattle.protocol_laws.proofs.machine.FromDeskKept as desks
 use Rattle.protocol_laws.proofs.machine.ActsFound as acts
 use Rattle.protocol_laws.proofs.machine.ActsFound.{Holds}
 use Rattle.protocol_theorems.proofs.order.NamesKept as names
-use Rattle.protocol_theorems.proofs.order.NamesKept.{Named, OwnsIt}
+use Rattle.protocol_theorems.proofs.order.NamesKept.{Named}
 use Rattle.protocol_theorems.proofs.order.RunsBefore.{lives, is_open_with}
 use Rattle.protocol_theorems.proofs.order.SlicesKept.{runs}
 use Rattle.protocol_laws.proofs.machine.AllGood.{AllGood}

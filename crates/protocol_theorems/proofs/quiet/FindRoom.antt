@@ -4,7 +4,7 @@ use Rattle.std.specs.List.{list_any}
 use Rattle.std.proofs.Common.{arith, sym, ap, ◌∙◌}
 use Rattle.std.proofs.lemmas.Bool.{true≢false, and_parts, eqb-true, not-true}
 use Rattle.protocol.specs.Fixed.{Fixed}
-use Rattle.protocol.specs.Parts.{SubBatch, ControlMessage, Outcome, Batch, Stage, Formed, Committing, Settled, Machine}
+use Rattle.protocol.specs.Parts.{ControlMessage, Outcome, Batch, Stage, Formed, Committing, Settled, Machine}
 use Rattle.protocol.specs.Words.{holds, below, is_formed, is_settled, is_open, is_next_to_commit, is_going, is_aborted, control_of, outcome_of, batch_of, act_of}
 use Rattle.protocol.specs.Numbers.{times, one_if, outcome_tids, controls_in, ControlsInOnePlace}
 use Rattle.protocol.specs.Epochs.{EpochsAgree, NamesItsPlace}

@@ -9,7 +9,7 @@ use Rattle.protocol.specs.Facts.{Alone}
 use Rattle.protocol.specs.Fixed.{Fixed}
 use Rattle.protocol.specs.Parts.{Act, Pact, Status, Live, Doomed, Decided, Sealed, Who, OfBatch, OfAct, Entry, Machine}
 use Rattle.protocol.specs.Events.{Event, Form, Admit, Ask, Take, Run, Send, End, Rollback, DropControl, Finish}
-use Rattle.protocol.specs.Words.{holds, is_who, who_on, who_of, is_open, is_formed, is_doomed, is_sealed, is_aborted, is_live_status, names_pact, act_of, batch_of, is_entry_of, control_of, has_control_to, waiting_of, outcome_of, lock_of, floor_at}
+use Rattle.protocol.specs.Words.{holds, is_who, who_on, who_of, is_open, is_formed, is_doomed, is_sealed, is_aborted, is_live_status, names_pact, act_of, batch_of, is_entry_of, control_of, waiting_of, outcome_of, lock_of, floor_at}
 use Rattle.protocol.specs.Contents.{Controls, Inboxes, Outboxes}
 use Rattle.protocol.specs.Numbers.{times, one_if, tids_in, controls_in}
 use Rattle.protocol.specs.Conditions.{IsAllowed, conditions, is_given_up}

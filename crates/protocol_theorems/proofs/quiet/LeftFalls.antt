@@ -1,15 +1,14 @@
 -- Every event lowers what is left, and at the opening it is at most 1,024 for each transaction.
-use Rattle.std.specs.Prelude.{◌≡◌, refl, ℕ, zero, suc, ◌+◌, ◌-◌, ◌*◌, ◌%◌, ◌<◌, ◌≤◌, ◌==◌, nat_lt, nat_le, max, not, Bool, true, false, ◌||◌, ◌&&◌, if◌then◌else◌, Option, Some, None, is_some, List, [], ◌∷◌, ◌++◌, length, map, filter, find, take, replicate, slice_get, slice_index_or, slice_set}
-use Rattle.std.specs.List.{AllByRecursion, list_any, list_all}
+use Rattle.std.specs.Prelude.{◌≡◌, refl, ℕ, zero, suc, ◌+◌, ◌-◌, ◌%◌, ◌<◌, ◌≤◌, ◌==◌, nat_lt, nat_le, not, Bool, true, false, ◌||◌, ◌&&◌, if◌then◌else◌, Option, Some, None, is_some, List, [], ◌∷◌, ◌++◌, length, map, find, take, slice_get, slice_set}
 use Rattle.std.proofs.Common.{arith, sym, ap}
 use Rattle.std.proofs.lemmas.Bool.{and_parts, true≢false, eqb-true, ltb-true}
 use Rattle.snap_base.specs.declared.transactions.State.{State}
 use Rattle.snap_base.specs.declared.transactions.Tx.{Tx}
 use Rattle.protocol.specs.Fixed.{Fixed, Code, Go, base, tx_at, is_reader}
 use Rattle.protocol.specs.Facts.{Alone}
-use Rattle.protocol.specs.Parts.{Act, Joined, Cascade, Batch, Declared, Log, Committing, Settled, SubBatch, ControlMessage, Waiting, Outcome, Entry, Cell, OfAct, OfBatch, Machine}
+use Rattle.protocol.specs.Parts.{Joined, Cascade, Committing, Settled, SubBatch, Entry, Cell, OfAct, OfBatch, Machine}
 use Rattle.protocol.specs.Events.{Event, Submit, Pass, Form, Admit, Arrive, Ask, Take, Run, Send, End, Close, Complete, Sync, Note, Commit, Settle, Abort, Rollback, DropSub, DropControl, Prepare, Vouch, Decide, Seal, Finish, Reply, Trim}
-use Rattle.protocol.specs.Words.{is_empty, holds, is_among, is_value, values_of, is_live_status, is_live_act, is_doomed, is_decided, is_sealed, is_settled, is_committing, is_open, is_next_to_commit, first_failed, act_of, joined_of, batch_of, declared_of, sub_of, control_of, has_control_to, waiting_of, outcome_of, is_going, is_ended, is_batch_entry, is_complete_batch, has_undone, has_act, who_on, lock_of}
+use Rattle.protocol.specs.Words.{holds, is_among, is_value, values_of, is_live_status, is_live_act, is_doomed, is_decided, is_settled, is_committing, is_open, is_next_to_commit, act_of, joined_of, batch_of, declared_of, sub_of, control_of, waiting_of, outcome_of, is_going, is_ended, is_batch_entry, is_complete_batch, has_undone, has_act, who_on, lock_of}
 use Rattle.protocol.specs.Conditions.{IsAllowed, conditions, epoch, queue}
 use Rattle.protocol.specs.Effects.{after, cell_at, no_cell, log_at, no_log, act_commit, synced}
 use Rattle.protocol.specs.Numbers.{flat, times, one_if, once_in}
@@ -18,7 +17,7 @@ use Rattle.protocol.specs.OnPost as post
 use Rattle.protocol.specs.OnBook as book
 use Rattle.protocol.specs.OnDesk as desk
 use Rattle.protocol.specs.OnCell as cell
-use Rattle.protocol.specs.Left.{total, unless, visit, rest, ring_left, act_left, joined_left, status_left, control_left, waiting_left, outcome_left, sub_left, entry_left, declared_left, batch_left, reply_left, log_left, cell_left, act_tids, left_as, left}
+use Rattle.protocol.specs.Left.{total, unless, act_left, joined_left, control_left, waiting_left, outcome_left, sub_left, entry_left, batch_left, reply_left, log_left, cell_left, act_tids, left_as}
 use Rattle.protocol_theorems.specs.Left.{IsSmall}
 use Rattle.protocol_laws.proofs.first.Times
 use Rattle.protocol_laws.proofs.first.Drawn as drawn
@@ -27,7 +26,7 @@ use Rattle.protocol_laws.proofs.machine.ControlWalk.{AllControls}
 use Rattle.protocol_laws.proofs.machine.TracksKept.{held, in_range}
 use Rattle.protocol_laws.proofs.machine.Good.{Given}
 use Rattle.protocol_theorems.proofs.quiet.LeftLists
-use Rattle.protocol_theorems.proofs.quiet.LeftLists.{total_join, total_filter, total_map, total_falls, total_set, total_set_most, total_same, total_each, total_at}
+use Rattle.protocol_theorems.proofs.quiet.LeftLists.{total_join, total_filter, total_map, total_falls, total_set, total_set_most, total_each}
 use Rattle.protocol_theorems.proofs.quiet.LeftParts
 use Rattle.protocol_theorems.proofs.quiet.LeftParts.{RestOf}
 use Rattle.protocol_theorems.proofs.quiet.LeftRing as token

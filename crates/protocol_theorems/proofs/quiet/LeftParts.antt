@@ -1,8 +1,8 @@
 -- How the shares of acts, batches, controls and logs change.
-use Rattle.std.specs.Prelude.{◌≡◌, refl, ℕ, zero, suc, ◌+◌, ◌-◌, ◌*◌, ◌<◌, ◌≤◌, ◌==◌, nat_lt, nat_le, max, not, Bool, true, false, ◌||◌, ◌&&◌, if◌then◌else◌, Option, Some, None, is_some, List, [], ◌∷◌, ◌++◌, length, map, filter, find, take, slice_get, slice_index_or, slice_set}
-use Rattle.std.specs.List.{AllByRecursion, list_any, list_all}
+use Rattle.std.specs.Prelude.{◌≡◌, refl, ℕ, zero, suc, ◌+◌, ◌-◌, ◌*◌, ◌≤◌, ◌==◌, nat_le, max, not, Bool, true, false, ◌||◌, ◌&&◌, if◌then◌else◌, Option, Some, None, is_some, List, [], ◌∷◌, ◌++◌, length, map, filter, find, slice_index_or, slice_set}
+use Rattle.std.specs.List.{AllByRecursion, list_any}
 use Rattle.std.proofs.Common.{arith, sym, ap, subst, inl, inr, ◌∙◌}
-use Rattle.std.proofs.lemmas.Bool.{and_parts, true≢false, eqb-true, cases_Bool, not-true}
+use Rattle.std.proofs.lemmas.Bool.{and_parts, true≢false, eqb-true, cases_Bool}
 use Rattle.snap_base.specs.declared.transactions.State.{State}
 use Rattle.snap_base.specs.declared.transactions.Tx.{Tx}
 use Rattle.snap_base.specs.declared.transactions.TxResult.{TxResult}
@@ -12,7 +12,7 @@ use Rattle.protocol.specs.Facts.{Alone, Facts}
 use Rattle.protocol.specs.Records.{LogRecord}
 use Rattle.protocol.specs.Rivals.{Lock}
 use Rattle.protocol.specs.Parts.{Ring, Book, Status, Live, Doomed, Decided, Sealed, Joined, Act, Pair, Who, OfBatch, SubBatch, ControlMessage, Stage, Formed, Committing, Settled, Declared, Pact, Batch, Log, Waiting, Outcome, Cell}
-use Rattle.protocol.specs.Words.{holds, is_among, below, act_of, batch_of, sub_of, control_of, waiting_of, outcome_of, without_sub, without_control, without_waiting, without_outcome, is_going, is_ended, is_live_status, is_decided, is_open, is_formed, is_committing, has_act, value_of, floor_at}
+use Rattle.protocol.specs.Words.{holds, is_among, below, act_of, batch_of, sub_of, control_of, waiting_of, outcome_of, without_sub, without_control, without_waiting, without_outcome, is_going, is_ended, is_live_status, is_decided, is_open, is_formed, is_committing, value_of, floor_at}
 use Rattle.protocol.specs.Numbers.{times, one_if}
 use Rattle.protocol.specs.Spread.{raised, crossed_out, is_crossed}
 use Rattle.protocol_laws.specs.Trails.{IsOf}
@@ -24,7 +24,7 @@ use Rattle.protocol.specs.OnCell as cell
 use Rattle.protocol.specs.Effects as effects
 use Rattle.protocol.specs.Left.{total, unless, visit, rest, status_left, joined_left, act_left, control_left, waiting_left, next_left, outcome_left, sub_left, entry_left, stage_left, declared_left, batch_left, log_left}
 use Rattle.protocol_theorems.proofs.quiet.LeftLists
-use Rattle.protocol_theorems.proofs.quiet.LeftLists.{total_join, total_filter, total_out, total_map, total_falls, total_rises, total_set, total_set_most, unless_most}
+use Rattle.protocol_theorems.proofs.quiet.LeftLists.{total_join, total_out, total_map, total_falls, total_rises, total_set_most, unless_most}
 use Rattle.protocol_laws.proofs.first.Times
 use Rattle.protocol.specs.Rests.{IsTxIn}
 use Rattle.protocol_laws.proofs.first.Lists.{all_get}

@@ -2,7 +2,7 @@
 use Rattle.std.specs.Prelude.{◌≡◌, refl, ℕ, suc, ◌+◌, ◌≤◌, ◌==◌, Bool, true, false, not, ◌&&◌, if◌then◌else◌, Some, List, [], ◌∷◌, length, map, filter, find}
 use Rattle.std.specs.List.{AllByRecursion, list_all}
 use Rattle.std.proofs.Common.{arith, sym, ap, subst, ◌∙◌}
-use Rattle.std.proofs.lemmas.Bool.{true≢false, and_parts, and_from, or_parts, or_right, eqb-true, eqb-false, eq-eqb, ne_eqb, ltb-true, not-true, not-false, or_cases}
+use Rattle.std.proofs.lemmas.Bool.{true≢false, or_parts, eqb-true, eqb-false, eq-eqb, ne_eqb, not-true}
 use Rattle.protocol.specs.Parts.{Joined, Act, Declared, Batch, Entry, BatchEntry, ActEntry, OfBatch, OfAct}
 use Rattle.protocol.specs.Words.{holds, count, is_empty, joined_of, declared_of, is_doomed, is_live_act, is_live_batch, batches_on, acts_on}
 use Rattle.protocol.specs.Numbers.{times, one_if}

@@ -8,7 +8,7 @@ use Rattle.snap_base.specs.declared.transactions.Tx.{Tx}
 use Rattle.protocol.specs.Fixed.{Fixed, Next, Go, Ended, base, is_reader}
 use Rattle.protocol.specs.Facts.{Alone}
 use Rattle.protocol.specs.Rivals.{Lock}
-use Rattle.protocol.specs.Parts.{Joined, Status, Live, Doomed, Decided, Sealed, Act, Pair, Book, Declared, Batch, Stage, Committing, Settled, SubBatch, Cascade, Entry, BatchEntry, ActEntry, Image, OfBatch, OfAct, Cell, Outcome, Machine}
+use Rattle.protocol.specs.Parts.{Joined, Status, Doomed, Act, Pair, Book, Declared, Batch, Committing, Settled, Outcome, Machine}
 use Rattle.protocol.specs.Words.{holds, count, is_empty, act_of, is_value, is_doomed, is_live_status, is_live_act, is_live_batch, has_act, outcome_of, lock_of, floor_at}
 use Rattle.protocol.specs.Numbers.{one_if}
 use Rattle.protocol.specs.Spread.{raised, crossed_out, is_crossed}

@@ -18,7 +18,7 @@ use Rattle.protocol.specs.Runs.{IsQuiet}
 use Rattle.protocol_theorems.specs.Quiet.{Orderly, Whole, AllAnswered, is_over_batch, is_over_act}
 use Rattle.protocol_laws.proofs.first.Times
 use Rattle.protocol_theorems.proofs.quiet.QuietEasy
-use Rattle.protocol_theorems.proofs.quiet.QuietEasy.{passes, passed, there, all_at, list_all_of, false_not, not_false, synced, up_to_date, no_aborted_sub, all_left, doomed_is_over}
+use Rattle.protocol_theorems.proofs.quiet.QuietEasy.{passes, all_at, list_all_of, false_not, synced, up_to_date, no_aborted_sub, all_left, doomed_is_over}
 use Rattle.protocol_theorems.proofs.quiet.QuietBatch.{open_live, act_stands, trimmed_settled}
 use Rattle.protocol_theorems.proofs.quiet.QuietOrder.{no_live_batch, no_waiting_act}
 

@@ -1,5 +1,5 @@
 -- Where a run cannot go on, all is answered and the order is whole: of every run, with nothing owed.
-use Rattle.std.specs.Prelude.{◌≡◌, refl, ℕ, zero, suc, ◌<◌, ◌≤◌, Bool, true, List, [], ◌∷◌, length, map, replicate, slice_get, slice_index_or}
+use Rattle.std.specs.Prelude.{◌≡◌, refl, ℕ, zero, suc, ◌≤◌, true, List, [], ◌∷◌, length, replicate, slice_index_or}
 use Rattle.std.specs.List.{AllByRecursion, list_all}
 use Rattle.std.proofs.Common.{arith, sym, ap, subst}
 use Rattle.snap_base.specs.declared.transactions.State.{State}

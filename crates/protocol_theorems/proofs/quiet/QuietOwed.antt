@@ -9,7 +9,7 @@ use Rattle.protocol.specs.Facts.{Alone}
 use Rattle.protocol.specs.Fixed.{Fixed, Go, base}
 use Rattle.protocol.specs.Parts.{Act, Batch, Pact, PlacedBatch, Status, Live, Doomed, Decided, Sealed, Who, OfBatch, OfAct, Entry, BatchEntry, Cell, Machine}
 use Rattle.protocol.specs.Events.{Event}
-use Rattle.protocol.specs.Words.{holds, is_open, is_formed, is_doomed, is_aborted, names_pact, names_slot, pact_result, act_of, batch_of, control_of, waiting_of, outcome_of, is_ordered}
+use Rattle.protocol.specs.Words.{holds, is_formed, is_doomed, is_aborted, names_pact, names_slot, pact_result, act_of, batch_of, control_of, is_ordered}
 use Rattle.protocol.specs.Numbers.{flat, times, one_if, waiting_tids, controls_in}
 use Rattle.protocol.specs.Conditions.{IsAllowed, epoch}
 use Rattle.protocol.specs.Effects.{after, cell_at, no_cell}

@@ -6,7 +6,7 @@ use Rattle.std.proofs.lemmas.List.{length-replicate}
 use Rattle.protocol.specs.Fixed.{Fixed, IsText, base}
 use Rattle.protocol.specs.Parts.{Declared, Machine}
 use Rattle.protocol.specs.Events.{Event}
-use Rattle.protocol.specs.Words.{act_of, batch_of, declared_of, joined_of}
+use Rattle.protocol.specs.Words.{declared_of}
 use Rattle.protocol.specs.Conditions.{IsAllowed}
 use Rattle.protocol.specs.Effects.{after, no_log}
 use Rattle.protocol_laws.specs.FromDesk.{EntryOf, FromDesk}

@@ -4,12 +4,12 @@ use Rattle.std.specs.Prelude.{◌≡◌, refl, ℕ, zero, suc, ◌+◌, ◌-◌,
 use Rattle.std.specs.List.{AllByRecursion}
 use Rattle.std.proofs.Common.{arith, sym, ap, subst, inl, inr, ◌∙◌}
 use Rattle.std.proofs.lemmas.List.{get_or-set_same, get_or-set_other}
-use Rattle.std.proofs.lemmas.Bool.{eqb-true, eqb-false, eq-eqb, ne_eqb, ltb-true, lt-ltb, and_parts, or_cases, true≢false, not-true, cases_Bool, cases_lt}
+use Rattle.std.proofs.lemmas.Bool.{eqb-true, eqb-false, eq-eqb, ne_eqb, ltb-true, lt-ltb, and_parts, or_cases, true≢false, cases_Bool, cases_lt}
 use Rattle.snap_base.specs.declared.transactions.State.{State}
 use Rattle.protocol.specs.Fixed.{Fixed, IsText, Next, Go, Ended, base}
 use Rattle.protocol.specs.Parts.{SubBatch, Cascade, Declared, Batch, Committing, Settled, Outcome, Cell, Machine}
 use Rattle.protocol.specs.Events.{Event, Form, Arrive, Ask, Take, Run, Send, End, Close, Complete, Note, Commit, Settle, Abort, Rollback, DropSub, Finish, Trim}
-use Rattle.protocol.specs.Words.{holds, count, is_among, greatest, covers, is_aborted, epoch_of, sub_of, without_sub, batch_of, declared_of, has_act, outcome_of, batches_on, act_of}
+use Rattle.protocol.specs.Words.{holds, is_among, greatest, is_aborted, epoch_of, sub_of, without_sub, batch_of, declared_of, has_act, outcome_of, batches_on, act_of}
 use Rattle.protocol.specs.Conditions.{IsAllowed, conditions, epoch}
 use Rattle.protocol.specs.Effects.{after, cell_at, no_cell}
 use Rattle.protocol.specs.Epochs.{is_of}

@@ -3,7 +3,7 @@ use Rattle.std.specs.Prelude.{◌≡◌, refl, ℕ, ◌+◌, ◌<◌, ◌≤◌,
 use Rattle.std.specs.List.{AllByRecursion}
 use Rattle.std.proofs.Common.{arith, sym, ap, subst, inl, inr, ◌∙◌}
 use Rattle.std.proofs.lemmas.List.{append-nil}
-use Rattle.std.proofs.lemmas.Bool.{eqb-true, eqb-false, eq-eqb, leb-true, ltb-true, le-leb, lt-ltb, and_parts, and_from, or_cases, or_left, or_right, or_parts, not-true, true≢false, false_from_ne_true, cases_Bool}
+use Rattle.std.proofs.lemmas.Bool.{eqb-true, eq-eqb, leb-true, ltb-true, le-leb, lt-ltb, and_parts, and_from, or_cases, or_left, or_right, not-true, true≢false, false_from_ne_true, cases_Bool}
 use Rattle.protocol.specs.Fixed.{Fixed, Next, Go, Ended}
 use Rattle.protocol.specs.Rivals.{Lock}
 use Rattle.protocol.specs.Parts.{Act, Pair, Book, Batch, Cascade, Status, Live, Doomed, Decided, Sealed, Outcome, Who, OfBatch, OfAct, Entry, BatchEntry, ActEntry, Cell, Machine}
@@ -14,7 +14,6 @@ use Rattle.protocol.specs.Conditions.{IsAllowed, conditions}
 use Rattle.protocol.specs.Effects.{after, cell_at}
 use Rattle.protocol.specs.OnBook as book
 use Rattle.protocol.specs.OnCell as cell
-use Rattle.protocol.specs.OnCell.{is_cut}
 use Rattle.protocol.specs.History.{History, Slice, Ran, Stands, Gone, grown, with_at, not_run, ran_in, completed, left_for_good, without_standing, long_staying, asks, batches_in, behind_too, is_traceless, ran_on}
 use Rattle.protocol_laws.specs.Turns.{Turns}
 use Rattle.protocol_laws.specs.Places.{Fits, Ascends}

@@ -13,12 +13,11 @@ use Rattle.protocol.specs.Conditions.{IsAllowed, conditions}
 use Rattle.protocol.specs.Effects.{after, cell_at}
 use Rattle.protocol.specs.OnBook as book
 use Rattle.protocol.specs.Standing.{IsOlder}
-use Rattle.protocol.specs.History.{History, no_history, history, grown, with_at, is_none, carrying, gained, gains_over, spread_sets, sets_of, asked_set, asked_gains, asked_before, batches_in}
+use Rattle.protocol.specs.History.{History, grown, with_at, is_none, carrying, gained, spread_sets, sets_of, asked_set, asked_gains, asked_before, batches_in}
 use Rattle.protocol_theorems.specs.Floors.{number_or_0, number_in, is_kind}
 use Rattle.protocol_laws.specs.Befores.{LastIs}
 use Rattle.protocol_laws.specs.Highs.{own_floor}
 use Rattle.protocol_theorems.specs.Sets.{IsGreatest}
-use Rattle.protocol_laws.proofs.machine.ActsGrow.{Later}
 use Rattle.protocol_laws.proofs.machine.BeforesKept.{Lasts}
 use Rattle.protocol_laws.proofs.first.PairsKept as pairs
 use Rattle.protocol_laws.proofs.first.PairsFound as found
@@ -26,7 +25,7 @@ use Rattle.protocol_laws.proofs.first.PairsFound.{Ascend, TidsAscend, same_pair}
 use Rattle.protocol_laws.proofs.machine.TurnsKept.{one_is}
 use Rattle.protocol_laws.proofs.machine.ShowsKept as shows
 use Rattle.protocol_theorems.proofs.sets.SpreadSets
-use Rattle.protocol_theorems.proofs.sets.SpreadSets.{Gain, Gains, NoGain, IsBefore, Before, if_live, at_it, at_other}
+use Rattle.protocol_theorems.proofs.sets.SpreadSets.{Gain, Gains, NoGain, IsBefore, at_it, at_other}
 use Rattle.protocol_theorems.proofs.sets.GainsKept as gains
 use Rattle.protocol_theorems.proofs.sets.GainsKept.{GainsAre, PairsIn, AllIn, IsIn}
 use Rattle.protocol_theorems.proofs.sets.LastsTight.{Tights, Tight}

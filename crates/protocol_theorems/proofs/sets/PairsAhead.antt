@@ -28,7 +28,6 @@ use Rattle.protocol_laws.specs.Sees.{SeesAt}
 use Rattle.protocol_laws.proofs.machine.ReadersSee.{ReadBy, AllSee, none_has, not_read, reads_at}
 use Rattle.protocol_laws.proofs.machine.ActsFound as acts
 use Rattle.protocol_laws.proofs.machine.ActsFound.{Holds}
-use Rattle.protocol_laws.proofs.machine.ActsKept.{Acts}
 use Rattle.protocol_laws.proofs.machine.ActResults as results
 use Rattle.protocol_laws.proofs.machine.BehindKept as behind
 use Rattle.protocol_laws.proofs.machine.QueuedKept.{in_book}

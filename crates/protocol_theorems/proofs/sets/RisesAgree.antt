@@ -14,7 +14,7 @@ use Rattle.protocol.specs.Spread.{stands_behind}
 use Rattle.protocol.specs.Standing.{IsOlder}
 use Rattle.protocol.specs.OnBook as book
 use Rattle.protocol.specs.Rows as rows
-use Rattle.protocol.specs.Rows.{IsCarriedOn, IsCarried, AreCarried, RisesAgree}
+use Rattle.protocol.specs.Rows.{IsCarried, AreCarried, RisesAgree}
 use Rattle.protocol.specs.Effects.{after, cell_at}
 use Rattle.protocol.specs.Events.{Event}
 use Rattle.protocol.specs.Runs.{IsRun, reached}

@@ -21,7 +21,7 @@ use Rattle.protocol.specs.Rows.{as_agreed}
 use Rattle.protocol.specs.Conditions.{IsAllowed, conditions}
 use Rattle.protocol.specs.Effects.{after, cell_at, puts}
 use Rattle.protocol.specs.Runs.{IsRun, reached}
-use Rattle.protocol.specs.History.{Ran, Stands, Gone, Slice, History, no_history, history}
+use Rattle.protocol.specs.History.{Ran, Stands, Gone, Slice, History, history}
 use Rattle.protocol_laws.specs.Tracks.{key_of, keys_in, is_key_among, first_image, images_in}
 use Rattle.protocol_laws.specs.Highs.{doomed_at}
 use Rattle.protocol_laws.specs.Places.{Ascends, Fits}

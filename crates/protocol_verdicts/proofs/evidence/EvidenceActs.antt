@@ -23,7 +23,7 @@ use Rattle.protocol_laws.specs.Told.{EachAct}
 use Rattle.protocol_laws.proofs.machine.ControlWalk.{AllControls}
 use Rattle.protocol_laws.proofs.machine.TracksKept.{held}
 use Rattle.protocol_laws.proofs.machine.ActsFound as acts
-use Rattle.protocol_laws.proofs.machine.ActsFound.{Holds, MappedFrom, RaisedFrom, found_map, found_raised, found_tid}
+use Rattle.protocol_laws.proofs.machine.ActsFound.{Holds, found_map, found_raised, found_tid}
 use Rattle.protocol_laws.proofs.machine.ActResults as results
 use Rattle.protocol_laws.proofs.machine.ActResults.{NoneActed, NoActResult}
 use Rattle.protocol_laws.proofs.machine.ActsKept.{Acts, not_placed}

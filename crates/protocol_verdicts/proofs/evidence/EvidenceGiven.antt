@@ -34,7 +34,7 @@ use Rattle.protocol_laws.proofs.machine.AllGood.{AllGood}
 use Rattle.protocol_verdicts.proofs.evidence.EvidenceActs as acts
 use Rattle.protocol_verdicts.proofs.evidence.EvidenceActs.{DecidedHaveValues}
 use Rattle.protocol_verdicts.proofs.evidence.EvidencePacts as pacts
-use Rattle.protocol_verdicts.proofs.evidence.EvidencePacts.{BatchesHaveValues, named, tells, Values}
+use Rattle.protocol_verdicts.proofs.evidence.EvidencePacts.{BatchesHaveValues, named, Values}
 use Rattle.protocol_verdicts.proofs.evidence.EvidenceSaid.{IsOnce, Speaks, ActSays, PactSays, speaks, spoken, by_act, by_pact}
 
 -- ---- the least that is older

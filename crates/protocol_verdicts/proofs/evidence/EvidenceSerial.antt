@@ -21,7 +21,7 @@ use Rattle.protocol_laws.specs.Turns.{Rising}
 use Rattle.protocol_laws.specs.Commits.{Finds, left_as, left_of, StatesLink, last_state, is_kept, KeptAhead}
 use Rattle.protocol_laws.specs.Marks.{Marked}
 use Rattle.protocol_theorems.specs.Order.{LeavesIt}
-use Rattle.protocol.specs.Chains.{RivalsRise, by_place, put_by_place, is_place_below, txs_of, IsBelowAll, PlacesRise}
+use Rattle.protocol.specs.Chains.{RivalsRise, by_place, put_by_place, is_place_below, txs_of, IsBelowAll}
 use Rattle.protocol_laws.specs.Linked.{IsExplained, came_to, visitors}
 use Rattle.protocol_laws.specs.Told.{IsAmongDone}
 use Rattle.protocol_theorems.specs.Order.{OrderStands}

@@ -2,10 +2,10 @@ use Rattle.std.proofs.Common.{◌≡◌, ℕ, ◌≤◌, List, length, ap, ◌�
 use Rattle.std.specs.Str.{IsUtf8}
 use Rattle.std.proofs.lemmas.Str.{IsUtf8-from_ascii}
 use Rattle.aml_tokens.specs.declared.limits.TheConstants.{LONGEST_PROGRAM}
-use Rattle.aml_tokens.specs.Writing.{Written, nothing_written}
+use Rattle.aml_tokens.specs.Writing.{Written}
 use Rattle.aml_tree.specs.Tree.{program_tree}
 use Rattle.aml_tree.specs.Grammar.{program_spelling}
-use Rattle.aml_tree.specs.Programs.{IsProgram, IsProgramText, IsTextOf}
+use Rattle.aml_tree.specs.Programs.{IsProgram, IsTextOf}
 use Rattle.aml_print.specs.Printing.{after}
 use Rattle.aml_print.proofs.PrintingLines.{line_of, after_is, printed, printed_again}
 use Rattle.aml_print.proofs.PrintingTokens.{program_tokens}
