@@ -19,8 +19,8 @@ pub fn halves_go_on(program: &Checked)
 }
 
 /// Along each actor's chain a batch behind an ACT has a number above the ACT's before number; an ACT behind a batch has a before
-/// number at least the batch's; an ACT behind an ACT has one that is not smaller, and a larger number of its commit; and PACTs
-/// behind PACTs are of a later batch, or of the same one with a larger tid.
+/// number at least the batch's; an ACT behind an ACT has one that is not smaller, and a larger number of its commit, unless
+/// both only read; and PACTs behind PACTs are of a later batch, or of the same one with a larger tid.
 pub fn cases_of_order(program: &Checked)
     ensures { AfterEveryRunOf (methods_of program.now) CasesHold }
 {

@@ -21,9 +21,9 @@ use aml_slice::Control;
 use machine_code::{alone_as_meant, code_has_the_facts, serial_as_meant};
 
 /// Run one after the other in the order of their places, the transactions that committed give the results that they
-/// had; no two places are equal; on each actor places rise and states link in the order of placing; and who is told
-/// a place is one of them, there, with that result. Where no event is allowed each of them is told so, and the actors
-/// have the states that the serial run leaves.
+/// had; no two places are equal; on each actor states link in the order of placing, and places rise, but for two ACTs that
+/// only read, which left there what they found; and who is told a place is one of them, there, with that result. Where no
+/// event is allowed each of them is told so, and the actors have the states that the serial run leaves.
 pub fn committed_transactions_are_in_order(program: &Checked)
     ensures { AfterEveryRunOf (methods_of program.now) OrderHolds }
 {
@@ -33,7 +33,9 @@ pub fn committed_transactions_are_in_order(program: &Checked)
 
 /// At every moment, whatever the logs are left with, the transactions whose commit records are there had committed;
 /// run one after the other in the order of their places they give the results that they had; with each of them is all
-/// that the run places before it; and who was told that it committed is one of them.
+/// that the run places before it; who was told that it committed is one of them; and the states that the records tell are
+/// those that they leave. Of two ACTs that only read, neither is placed before the other: one may be there without one that
+/// came earlier to the same actor.
 pub fn recovered_transactions_are_in_order(program: &Checked)
     ensures { AtEveryMomentOf (methods_of program.now) CrashHolds }
 {
@@ -43,7 +45,8 @@ pub fn recovered_transactions_are_in_order(program: &Checked)
 
 /// After every run, also one that stopped early: who is told that it committed is a PACT of a batch that settled, or an ACT
 /// that is sealed with a value; with each of these is all that committed with a value and was placed before it; and run one
-/// after the other in the order of their places, with nobody else, they give the results that they had.
+/// after the other in the order of their places, with nobody else, they give the results that they had. Of two ACTs that
+/// only read, neither is placed before the other.
 pub fn told_transactions_are_in_order(program: &Checked)
     ensures { AfterEveryRunOf (methods_of program.now) ToldStands }
 {
@@ -87,8 +90,9 @@ pub fn every_run_ends(program: &Checked)
 }
 
 /// Before and after numbers are the greatest and the least of the batches that stand before and behind an ACT, and
-/// do not cross; who has its place stands behind nobody that is not doomed; a floor is the greatest before number of
-/// those that left; and on each actor places rise in the order of commits.
+/// do not cross; who has its place stands behind nobody that is not doomed; an actor's two floors are the greatest before
+/// numbers of the readers that left it, and of the others; and on each actor places rise in the order of commits, but for two
+/// ACTs that only read.
 pub fn numbers_are_the_ends_of_sets(program: &Checked)
     ensures { AfterEveryRunOf (methods_of program.now) NumbersStand }
 {
@@ -138,8 +142,8 @@ pub fn who_has_ended_has_a_verdict(program: &Checked)
 }
 
 /// A batch or an ACT that still has something to do waits for one that is lower: by number, a batch before an ACT of the
-/// same number, and of two such ACTs the younger first. So nobody waits in a circle; and where one waits for nobody, some
-/// event is allowed.
+/// same number, and of two such ACTs the younger first. Of two ACTs on an actor that only read neither waits for the other.
+/// So nobody waits in a circle; and where one waits for nobody, some event is allowed.
 pub fn nobody_waits_in_a_circle(program: &Checked)
     ensures { AfterEveryRunOf (methods_of program.now) WaitsEnd }
 {

@@ -10,7 +10,7 @@ mod laws;
 mod records;
 mod texts;
 
-pub use actors::{actors_lie_in_order, controls_may_run, limits_hold};
+pub use actors::{actors_lie_in_order, controls_may_run, limits_hold, readers_see_the_state};
 pub use cases::{
     cases_of_order, halves_go_on, schedules_are_in_order, undo_gives_the_state_before,
 };
