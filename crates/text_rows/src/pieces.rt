@@ -46,10 +46,11 @@ pub const RUNS: &str = "\
     alone|method put(n) { f0 = f0 + n; fail 9; }\nmethod move(to, n) { f0 = f0 - n; let r = call to put(n); return r; }|actors 2\nactor 0 100\nactor 1 50|pact 0 move 1 30 uses 0:1 1:1|Fail(9) then 100 50@\
     list|method put(n) { f0 = f0 + n; return f0; }|actors 2\nactor 0 100\nactor 1 50||then 100 50@\
     list|method put(n) { f0 = f0 + n; return f0; }\nmethod move(to, n) { f0 = f0 - n; let r = call to put(n); return r; }\nmethod bad() { f0 = f0 + 1; fail 9; }\nmethod via(to) { f0 = 1; let r = call to bad(); return r; }|actors 2\nactor 0 100\nactor 1 50|pact 0 move 1 30 uses 0:1 1:1\npact 0 via 1 uses 0:1 1:1\npact 1 move 0 80 uses 0:1 1:1|Value(80) Fail(9) Value(150) then 150 0@\
-    list|method a(b) { f0 = f0 + b; if f0 < 3 { let c = call self a(1); } return f0; }|actors 1\nactor 0 1|pact 0 a 1 uses 0:1\npact 0 a 1 uses 0:2|Fail(1001) Value(3) then 3";
+    list|method a(b) { f0 = f0 + b; if f0 < 3 { let c = call self a(1); } return f0; }|actors 1\nactor 0 1|pact 0 a 1 uses 0:1\npact 0 a 1 uses 0:2|Fail(1001) Value(3) then 3@\
+    list|read method peek() { return f0; }\nread method sum(a, b) { let x = call a peek(); let y = call b peek(); return x + y; }\nmethod put(n) { let s = call self sum(0, 1); f0 = n; return s; }|actors 2\nactor 0 100\nactor 1 50|act 0 sum 0 1\npact 1 sum 1 0 uses 0:1 1:2\nact 0 put 7\nact 1 sum 0 0|Value(150) Value(150) Value(150) Value(14) then 7 50";
 
-/// A text, and its tokens, each behind the place of its first byte; a name and a closing brace tell their line. Then
-/// `end`, or the place of the first piece that is no token, and why.
+/// A text, and its tokens, each behind the place of its first byte; a name, a field, `let` and a closing brace tell
+/// their line. Then `end`, or the place of the first piece that is no token, and why.
 pub const TOKENS: &str = "\
     |end@\
     \x20\t\n# only # a comment|end@\
@@ -65,12 +66,13 @@ pub const TOKENS: &str = "\
     99999999999999999999x|0 BadToken@\
     9223372036854775808|0 NumberRange@\
     184467440737095516160000000000000000000000000000|0 NumberRange@\
-    method read let if else while call fail return self and or|0 Method 7 Read 12 Let 16 If 19 Else 24 While 30 Call 35 Fail 40 Return 47 Own 52 And 56 Or end@\
-    f0 f9 f10 f15 f16 f01 f f1x Self _ a1_B|0 f0 3 f9 6 f10 10 f15 14 f16:1 18 f01:1 22 f:1 24 f1x:1 28 Self:1 33 _:1 35 a1_B:1 end@\
+    method read let if else while call fail return self and or|0 Method 7 Read 12 let:1 16 If 19 Else 24 While 30 Call 35 Fail 40 Return 47 Own 52 And 56 Or end@\
+    f0 f9 f10 f15 f16 f01 f f1x Self _ a1_B|0 f0:1 3 f9:1 6 f10:1 10 f15:1 14 f16:1 18 f01:1 22 f:1 24 f1x:1 28 Self:1 33 _:1 35 a1_B:1 end@\
     abcdefghijklmnopqrstuvwxyz012345|0 abcdefghijklmnopqrstuvwxyz012345:1 end@\
     abcdefghijklmnopqrstuvwxyz0123456|0 BadToken@\
     a\n\tb#c ! é\n}#|0 a:1 3 b:2 12 }:3 end@\
     a#\n=|0 a:1 3 Assign end@\
+    let\n\nlet f3\nf3 lets reads|0 let:1 5 let:3 9 f3:3 12 f3:4 15 lets:4 20 reads:4 end@\
     a\r\n|0 a:1 1 BadByte@\
     a.b|0 a:1 1 BadByte@\
     é|0 BadByte@\
@@ -93,6 +95,11 @@ pub const FAULTS: &str = "\
     method m() { fail 0; }|1:19 NumberRange@\
     method m() { fail 1000; }|1:19 NumberRange@\
     method m() {\n return 01; }|2:9 BadToken@\
+    read|1:5 Unexpected@\
+    read\n m() { }|2:2 Unexpected@\
+    read read method m() { }|1:6 Unexpected@\
+    method read() { }|1:8 Unexpected@\
+    method m() { read; }|1:14 Unexpected@\
     method m() {\n\n return $; }|3:9 BadByte@\
     method m() { } $|1:16 BadByte@\
     method m() { fail 0; $ }|1:19 NumberRange@\
@@ -103,6 +110,7 @@ pub const FAULTS: &str = "\
 /// A text of a program, and the text that its tree is printed as; the last is five methods over accounts.
 pub const PRINTED: &str = "\
     method\tm ( ) { }|method m(){}@\
+    read\n\tmethod m() { }\nmethod n() { let\n a = call f0 m(); }\n|read method m(){}method n(){let a=call f0 m();}@\
     # every construct\nmethod one() { }\nmethod all(to, n) {\n  let a = 1 - 2 - 3 * 4 / 5 % 6 + f0; # from the left\n  let b = call self put();\n  let c = call (to) put(-n, - -1, ((2)));\n  a = a == 1 or a != 2 and a < 3 or a <= 4 and a > 5 or a >= 6;\n  f15 = (-1) * (a or b);\n  if a { }\n  if n < 9223372036854775807 { fail 999; } else { fail 1; }\n  while (a) { n = n - 1; }\n  return self;\n}\n|\
     method one(){}method all(to,n){let a=1-2-3*4/5%6+f0;let b=call self put();let c=call(to)put(-n,--1,((2)));a=a==1 or a!=2 and a<3 or a<=4 and a>5 or a>=6;f15=(-1)*(a or b);if a{}if n<9223372036854775807{fail 999;}else{fail 1;}while(a){n=n-1;}return self;}@\
     method move(to, n) {\n if f0 < n { fail 7; } else { }\n let r = call to put(n, -(1));\n while not { r = self; }\n f15 = r * 2 + 1;\n return r;\n}\nmethod put() { }|\

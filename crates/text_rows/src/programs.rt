@@ -40,7 +40,14 @@ pub const TEXT_FAULTS: &str = "\
     method f0() { return 1; }|8:8 Unexpected@\
     method self() { return 1; }|8:8 Unexpected@\
     method 7() { return 1; }|8:8 Unexpected@\
-    read method f() { return 1; }|8:1 Unexpected@\
+    read|9:1 Unexpected@\
+    read f() { return 1; }|8:6 Unexpected@\
+    read { return 1; }|8:6 Unexpected@\
+    read read method f() { return 1; }|8:6 Unexpected@\
+    method read f() { return 1; }|8:8 Unexpected@\
+    method f() { return read; }|8:21 Unexpected@\
+    method f() { let read = 1; return 1; }|8:18 Unexpected@\
+    method f() { return 1; } read|9:1 Unexpected@\
     method f{ return 1; }|8:9 Unexpected@\
     method f(,) { return 1; }|8:10 Unexpected@\
     method f(a,) { return a; }|8:12 Unexpected@\
@@ -109,6 +116,10 @@ pub const TEXT_FAULTS: &str = "\
 pub const LIMITS: &str = "\
     |method m(){return 1;}\n|64||||9 Duplicate@\
     |method m(){}|65||||8:769 TooMany@\
+    |read method m(){}|65||||8:1089 TooMany@\
+    |method m(){}|64|||read method m(){}|8:769 TooMany@\
+    |read method m(){}|64|||read m(){}|8:1089 TooMany@\
+    |read method m(){return 1;}\n|64||||9 Duplicate@\
     method f(p){|if 1{let a=1;}|31|||return 1;}method g(p){return 1;}|good@\
     method f(p){|if 1{let a=1;}|32|||return 1;}|8:456 TooMany@\
     method f(p){|if 1{let a=call 0 f(1);}|32|||return 1;}|8:766 TooMany@\

@@ -46,8 +46,9 @@ fn token_told(alloc: Global, token: Token<'_>) -> Result<String, Memory> {
     match token {
         Token::Name { name, line } => name_told(alloc, name, line),
         Token::Number(number) => Ok(format!(in alloc; "{number}")?),
-        Token::Field(field) => Ok(format!(in alloc; "f{field}")?),
+        Token::Field { field, line } => Ok(format!(in alloc; "f{field}:{line}")?),
         Token::Symbol(symbol) => Ok(format!(in alloc; "{symbol:?}")?),
+        Token::Let { line } => Ok(format!(in alloc; "let:{line}")?),
         Token::CloseBrace { line } => Ok(format!(in alloc; "}}:{line}")?),
     }
 }
