@@ -111,6 +111,31 @@ pub const TEXT_FAULTS: &str = "\
     method f() { return 1; }\n end\n# end|9:2 Unexpected@\
     method f() { return 1; }\nend\r|9:1 Unexpected";
 
+/// The program, and the line and the cause of its first fault where it is one of a promise only to read, or stands before or
+/// beside one; or `good`.
+pub const PROMISES: &str = "\
+    read method peek() { f0 = 1; return f0; }|8 ReadWrites@\
+    read\nmethod f() {\n f0\n = 1; return 1; }|10 ReadWrites@\
+    read method f() { return 1;\n f0 = 1; return 1; }|9 ReadWrites@\
+    read method f() { if 1 { while 1 {\n f0 = 1; } } return 1; }|9 ReadWrites@\
+    read method f() { if 1 { return 1; } else {\n f0 = a; } return 1; }|9 ReadWrites@\
+    read method f() {\n let\n a = call 0 g(); return a; }\nmethod g() { return 1; }|9 ReadWrites@\
+    read method f(a) {\n let\n a = call 0 g(); return a; }\nmethod g() { return 1; }|9 ReadWrites@\
+    read method f() {\n let a = call 0\n g(1); return a; }\nmethod g() { return 1; }|9 ReadWrites@\
+    read method f() { let a = call 0 g(); return a; }\nmethod g() { return 1; }\nread method g() { return 1; }|8 ReadWrites@\
+    read method f() { let a = call 0 g(); return a; }\nread method g() { return 1; }\nmethod g() { return 1; }|10 Duplicate@\
+    read method f() {\n let a = call 0\n g(); return a; }|10 UnknownName@\
+    read method f(a) {\n let\n a = call 0 g(); return a; }|10 Duplicate@\
+    read method f() { let a = call 0 g(); return a; }\nread method g() { let a = call 0 h(); return a; }\nmethod h() { return 1; }|9 ReadWrites@\
+    read method f() {\n let a = 1; f0 = a; }|9 ReadWrites@\
+    read method f() {\n let a = 1;\n}|10 NoReturn@\
+    method f() { let a = call 0 g(); return a; }\nread method g() {\n f0 = 1; return 1; }|10 ReadWrites@\
+    read method f() { return f0; }|good@\
+    read method f(n) { let a = 1; while a < n { a = a + 1; } if a { let b = call self f(n); return b; } fail 7; }|good@\
+    read method f() { let a = call 1 g(); return a; }\nread method g() { return f1; }|good@\
+    method f() { let a = call 1 g(); f0 = a; return a; }\nread method g() { return f1; }|good@\
+    read\n# which reads\nmethod f() { return 1; }|good";
+
 /// A front, a part and how often it stands behind it, what stands between, what closes as often, what stands behind,
 /// and the fault: the limits of a program, each reached and passed.
 pub const LIMITS: &str = "\

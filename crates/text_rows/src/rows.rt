@@ -7,7 +7,7 @@ ghost use Rattle.snap_work.specs.Works.{work_of};
 
 use crate::lines::{LINE_LIMITS, TRANSACTIONS, WORKS};
 use crate::pieces::{BASE, FAULTS, NUMBERS, PRINTED, RUNS, TOKENS};
-use crate::programs::{LIMITS, TEXT_FAULTS};
+use crate::programs::{LIMITS, PROMISES, TEXT_FAULTS};
 use aml_parser::{TextNo, parse_program};
 use aml_print::print_program;
 use aml_serial::{run_alone, run_list};
@@ -334,7 +334,7 @@ fn told(alloc: Global, piece: Piece, asked: &str) -> Result<String, Memory> {
 }
 
 /// The pieces and the tables of their rows.
-const TABLES: [(Piece, &str); 10] = [
+const TABLES: [(Piece, &str); 11] = [
     (Piece::Number, NUMBERS),
     (Piece::Tokens, TOKENS),
     (Piece::Program, FAULTS),
@@ -342,6 +342,7 @@ const TABLES: [(Piece, &str); 10] = [
     (Piece::Text, LINE_LIMITS),
     (Piece::Text, TEXT_FAULTS),
     (Piece::Text, LIMITS),
+    (Piece::Text, PROMISES),
     (Piece::Text, TRANSACTIONS),
     (Piece::Work, WORKS),
     (Piece::Transactions, RUNS),
