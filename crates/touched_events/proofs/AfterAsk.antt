@@ -6,11 +6,11 @@ use Rattle.std.proofs.lemmas.Bool.{true≢false, and_parts, or_cases, or_right, 
 use Rattle.aml_slice.specs.Controls.{Rest}
 use Rattle.snap_base.specs.declared.verdicts.Verdict.{Verdict}
 use Rattle.protocol.specs.Conditions.{IsAllowed, conditions, refusal}
-use Rattle.protocol.specs.Effects.{after, cell_at}
+use Rattle.protocol.specs.Effects.{after}
 use Rattle.protocol.specs.Events.{Event, Arrive, Ask, Prepare, Vouch, Decide, Seal, Finish}
 use Rattle.protocol.specs.Fixed.{Fixed, base}
 use Rattle.protocol.specs.Numbers.{times}
-use Rattle.protocol.specs.OnBook.{asked_acts, change_if, changed_act, doomed_by, joins, new_pairs, met, in_the_way}
+use Rattle.protocol.specs.OnBook.{asked_acts, change_if, changed_act, doomed_by, joins, new_pairs}
 use Rattle.protocol.specs.Parts.{Act, Book, Doomed, Machine}
 use Rattle.protocol.specs.Rivals.{Lock}
 use Rattle.protocol.specs.Spread.{raised, is_crossed, crossed_out}
@@ -20,6 +20,7 @@ use Rattle.protocol_ready.proofs.TouchedListed.{no}
 use Rattle.touched_events.specs.InBook.{has_begun}
 use Rattle.touched_events.specs.New.{is_new}
 use Rattle.touched_events.proofs.AfterRuns.{Holding}
+use Rattle.touched_events.proofs.Asking.{group_at, older_at}
 use Rattle.touched_events.proofs.InBook.{Besides, NewAfter, Unbegun, are_out, is_out, there, out_prepares, out_vouches, out_decides, out_seals, prepares_begun, vouches_begun, decides_begun, seals_begun, finishes_begun}
 use Rattle.touched_events.proofs.InPost.{holds_back, raised_back, changed_back}
 use Rattle.touched_events.proofs.PostTold.{asks_of}
@@ -77,39 +78,39 @@ module _ (w : Fixed Rest) (u a : ℕ) (s : Machine Rest) (t : ℕ) (other : (u =
   prepare_back : (c : ℕ) → IsAllowed w (Prepare t c) (after w (Ask u a) s) → IsAllowed w (Prepare t c) s
   unfolding conditions after
   prepare_back c h = (
-    other_back (λ x. is_value x.result && not (is_doomed x.status)) (crossed_undone (λ x. is_value x.result && not (is_doomed x.status)) (λ x v g. no (and_parts (is_value x.result) false g).1)) (λ x k g. g) (in_the_way u (cell_at s a).entries) (met u (cell_at s a).entries) u a _ t s.book other h.0,
-    (other_back (λ x. holds (λ p. not p.prepared) (joined_of c x)) (λ a x g. g) (λ x k g. g) (in_the_way u (cell_at s a).entries) (met u (cell_at s a).entries) u a _ t s.book other h.1.0, tt),
+    other_back (λ x. is_value x.result && not (is_doomed x.status)) (crossed_undone (λ x. is_value x.result && not (is_doomed x.status)) (λ x v g. no (and_parts (is_value x.result) false g).1)) (λ x k g. g) (older_at u a s) (group_at u a s) u a _ t s.book other h.0,
+    (other_back (λ x. holds (λ p. not p.prepared) (joined_of c x)) (λ a x g. g) (λ x k g. g) (older_at u a s) (group_at u a s) u a _ t s.book other h.1.0, tt),
   )
 
   vouch_back : (c : ℕ) → IsAllowed w (Vouch t c) (after w (Ask u a) s) → IsAllowed w (Vouch t c) s
   unfolding conditions after
   vouch_back c h =
       let p : Act → Bool = λ x. is_live_act x && (not (is_doomed x.status) && holds (λ p. p.prepared && not p.vouched) (joined_of c x)) in (
-        other_back p (crossed_undone p (λ x v g. no (and_parts (is_live_act (record x { status = Doomed v })) false g).1)) (λ x k g. g) (in_the_way u (cell_at s a).entries) (met u (cell_at s a).entries) u a _ t s.book other h.0,
+        other_back p (crossed_undone p (λ x v g. no (and_parts (is_live_act (record x { status = Doomed v })) false g).1)) (λ x k g. g) (older_at u a s) (group_at u a s) u a _ t s.book other h.0,
         h.1,
       )
 
   decide_back : IsAllowed w (Decide t) (after w (Ask u a) s) → IsAllowed w (Decide t) s
   unfolding conditions after
   decide_back h = (
-    other_back (λ x. is_some x.result && is_live_status x.status) (crossed_undone (λ x. is_some x.result && is_live_status x.status) (λ x v g. no (and_parts (is_some x.result) false g).1)) (λ x k g. g) (in_the_way u (cell_at s a).entries) (met u (cell_at s a).entries) u a _ t s.book other h.0,
+    other_back (λ x. is_some x.result && is_live_status x.status) (crossed_undone (λ x. is_some x.result && is_live_status x.status) (λ x v g. no (and_parts (is_some x.result) false g).1)) (λ x k g. g) (older_at u a s) (group_at u a s) u a _ t s.book other h.0,
     (
-      other_back (λ x. is_failure x.result || is_vouched_everywhere x) (λ a x g. g) (λ x k g. g) (in_the_way u (cell_at s a).entries) (met u (cell_at s a).entries) u a _ t s.book other h.1.0,
-      (other_back (λ x. nat_le x.m (max s.desk.settled (base w.text))) (λ a x g. g) (λ x k g. low_back x.m k (max s.desk.settled (base w.text)) g) (in_the_way u (cell_at s a).entries) (met u (cell_at s a).entries) u a _ t s.book other h.1.1.0, tt),
+      other_back (λ x. is_failure x.result || is_vouched_everywhere x) (λ a x g. g) (λ x k g. g) (older_at u a s) (group_at u a s) u a _ t s.book other h.1.0,
+      (other_back (λ x. nat_le x.m (max s.desk.settled (base w.text))) (λ a x g. g) (λ x k g. low_back x.m k (max s.desk.settled (base w.text)) g) (older_at u a s) (group_at u a s) u a _ t s.book other h.1.1.0, tt),
     ),
   )
 
   seal_back : IsAllowed w (Seal t) (after w (Ask u a) s) → IsAllowed w (Seal t) s
   unfolding conditions after
-  seal_back h = (other_back (λ x. is_decided x.status) (crossed_undone (λ x. is_decided x.status) (λ x v g. no g)) (λ x k g. g) (in_the_way u (cell_at s a).entries) (met u (cell_at s a).entries) u a _ t s.book other h.0, h.1)
+  seal_back h = (other_back (λ x. is_decided x.status) (crossed_undone (λ x. is_decided x.status) (λ x v g. no g)) (λ x k g. g) (older_at u a s) (group_at u a s) u a _ t s.book other h.0, h.1)
 
   -- of one that is not given up
   finish_back : (c : ℕ) → (holds is_out (act_of t (after w (Ask u a) s).book.acts) ≡ true → ⊥) → IsAllowed w (Finish t c) (after w (Ask u a) s) → IsAllowed w (Finish t c) s
   unfolding conditions after
   finish_back c stays h = (
     there (λ x. is_sealed x.status) (λ x. is_doomed x.status || is_sealed x.status) (act_of t s.book.acts) (λ x g. or_right (is_doomed x.status) (is_sealed x.status) g)
-        (other_back (λ x. is_sealed x.status) (crossed_undone (λ x. is_sealed x.status) (λ x v g. no g)) (λ x k g. g) (in_the_way u (cell_at s a).entries) (met u (cell_at s a).entries) u a _ t s.book other (is_over _ stays h.0)),
-    (other_back (λ x. holds (λ p. not p.finished) (joined_of c x)) (λ a x g. g) (λ x k g. g) (in_the_way u (cell_at s a).entries) (met u (cell_at s a).entries) u a _ t s.book other h.1.0, tt),
+        (other_back (λ x. is_sealed x.status) (crossed_undone (λ x. is_sealed x.status) (λ x v g. no g)) (λ x k g. g) (older_at u a s) (group_at u a s) u a _ t s.book other (is_over _ stays h.0)),
+    (other_back (λ x. holds (λ p. not p.finished) (joined_of c x)) (λ a x g. g) (λ x k g. g) (older_at u a s) (group_at u a s) u a _ t s.book other h.1.0, tt),
   )
     where
       is_over : (o : Option Act) → (holds is_out o ≡ true → ⊥) → holds (λ x. is_doomed x.status || is_sealed x.status) o ≡ true → holds (λ x. is_sealed x.status) o ≡ true
@@ -120,7 +121,7 @@ module _ (w : Fixed Rest) (u a : ℕ) (s : Machine Rest) (t : ℕ) (other : (u =
 
 still_unended : (w : Fixed Rest) (u a : ℕ) (s : Machine Rest) → Holding w s → IsAllowed w (Ask u a) s → holds (λ x. is_some x.result) (act_of u (after w (Ask u a) s).book.acts) ≡ true → ⊥
 unfolding conditions after
-still_unended w u a s before allowed h = before.none u a allowed.0 (result_back (in_the_way u (cell_at s a).entries) (met u (cell_at s a).entries) u a _ u s.book h)
+still_unended w u a s before allowed h = before.none u a allowed.0 (result_back (older_at u a s) (group_at u a s) u a _ u s.book h)
 
 module _ (w : Fixed Rest) (u a : ℕ) (s : Machine Rest) (before : Holding w s) (allowed : IsAllowed w (Ask u a) s) (ruled : (w : Fixed Rest) (e : Event) (s : Machine Rest) → (refusal w e s ≡ 0) ↔ IsAllowed w e s) (fresh : Unbegun (after w (Ask u a) s).book) where
   -- of one that has begun and is not given up nothing is new that it could not do before

@@ -1,5 +1,5 @@
 -- What is listed of replies tells what is new there.
-use Rattle.std.specs.Prelude.{◌≡◌, refl, ℕ, ◌+◌, ◌-◌, ◌≤◌, ◌==◌, nat_le, max, not, Bool, true, false, ◌&&◌, ◌||◌, is_some, Option, Some, None, List, [], ◌∷◌, ◌++◌, length, map, slice_get, Contains}
+use Rattle.std.specs.Prelude.{◌≡◌, refl, ℕ, ◌+◌, ◌-◌, ◌≤◌, ◌==◌, nat_le, not, Bool, true, false, ◌&&◌, ◌||◌, is_some, Option, Some, None, List, [], ◌∷◌, ◌++◌, length, map, slice_get, Contains}
 use Rattle.std.specs.List.{list_any}
 use Rattle.std.proofs.Common.{arith, sym, ap, subst, inl, inr, ◌∙◌}
 use Rattle.std.proofs.lemmas.Bool.{false≢true, and_parts, or_cases, or_left, or_right, eqb-true, eq-eqb, leb-true}
@@ -25,6 +25,7 @@ use Rattle.order_book.specs.Asked.{tx_of}
 use Rattle.touched_events.specs.InAnswers.{of_tx, of_txs, of_given_up, of_later, of_batches, of_acts, by_answers}
 use Rattle.touched_events.specs.New.{is_new}
 use Rattle.touched_events.proofs.AfterRuns.{Holding, on_schedule}
+use Rattle.touched_events.proofs.Asking.{behind_at, group_at, older_at}
 use Rattle.touched_events.proofs.Common.{Among, new_is_touched}
 use Rattle.touched_events.proofs.Cascading.{cascade_tells, is_above, is_cut, is_from, is_within}
 use Rattle.touched_events.proofs.GivenUp.{Known, arrival_listed, ask_listed, fallen_listed}
@@ -64,9 +65,9 @@ asked_as None group t a m n b c known e once v =
 asked_told : (w : Fixed Rest) (s : Machine Rest) (t a n : ℕ) → Holding w s → ((u : ℕ) → times u (map (λ y. y.tid) (after w (Ask t a) s).book.acts) ≤ 1) → is_touched w (Ask t a) s (Reply n) ≡ true → Contains (of_tx (after w (Ask t a) s).book t ++ of_given_up (after w (Ask t a) s).book) (Reply n)
 unfolding after
 asked_told w s t a n h once touched =
-    let older = book.in_the_way t (cell_at s a).entries in
-    let group = book.met t (cell_at s a).entries in
-    let m = max (cell_at s a).last (cell_at s a).floor in
+    let older = older_at t a s in
+    let group = group_at t a s in
+    let m = behind_at t a s in
     asked_as older group t a m n s.book (book.act_asked older group t a m s.book) h.known refl once touched
 
 -- ---- a cascade

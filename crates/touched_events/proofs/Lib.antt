@@ -5,6 +5,7 @@ pub mod InDesk
 pub mod InBook
 pub mod Replies
 pub mod NewReplies
+pub mod Asking
 pub mod OffActors
 pub mod Cascading
 pub mod GivenUp

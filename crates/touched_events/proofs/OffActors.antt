@@ -14,6 +14,7 @@ use Rattle.protocol.specs.Runs.{EachAllowed, IsRun, opening, reached, state_afte
 use Rattle.protocol.specs.Spread.{raised, carried, carries_to, crossed_out, stands_behind}
 use Rattle.protocol.specs.Verdicts.{died}
 use Rattle.protocol.specs.Words.{act_of, greatest, has_act, holds, is_doomed, is_empty, is_ordered, outcome_of}
+use Rattle.touched_events.proofs.Asking.{behind_at, group_at, older_at}
 
 no : {X : Type 0} → false ≡ true → X
 no h = absurd (false≢true h)
@@ -279,7 +280,7 @@ kept : {C : Type 0} (w : Fixed C) (e : Event) (s : Machine C) → IsAllowed w e 
 unfolding conditions after
 kept w (Admit t) s ok h = admitted (base w.text) _ s.book.acts s.book.pairs refl h
 kept w (Arrive k a) s ok h = mapped (crossed_out a) (λ x. refl) _ _ _ (λ x. refl) (λ x. refl) (mapped (book.lowered k (book.tids_on (cell_at s a).entries)) (λ x. refl) _ _ _ (λ x. refl) (λ x. refl) h)
-kept w (Ask t a) s ok h = asked (base w.text) (book.in_the_way t (cell_at s a).entries) (book.met t (cell_at s a).entries) t a (max (cell_at s a).last (cell_at s a).floor) s.book ok.1.0 h
+kept w (Ask t a) s ok h = asked (base w.text) (older_at t a s) (group_at t a s) t a (behind_at t a s) s.book ok.1.0 h
 kept w (End t a) s ok h = ended (base w.text) t (has_act t (cell_at s a).entries) (outcome_of t (cell_at s a).outbox) s.book.acts s.book.pairs h
 kept w (Abort k) s ok h = mapped (book.cascaded k (book.failed_tx (book.why k s.desk))) (λ x. refl) _ _ _ (λ x. refl) (λ x. refl) h
 kept w (Prepare t a) s ok h = marks (base w.text) t a book.is_prepared s.book.acts s.book.pairs h

@@ -1,5 +1,5 @@
 -- By each event, what is listed of what is under way tells what is new there.
-use Rattle.std.specs.Prelude.{◌≡◌, ◌↔◌, refl, ℕ, zero, suc, ◌≤◌, ◌==◌, max, not, Bool, true, false, ◌&&◌, ◌||◌, if◌then◌else◌, is_some, Option, Some, None, List, [], ◌∷◌, ◌++◌, map, filter, slice_get, slice_set, slice_index_or, Contains}
+use Rattle.std.specs.Prelude.{◌≡◌, ◌↔◌, refl, ℕ, zero, suc, ◌≤◌, ◌==◌, not, Bool, true, false, ◌&&◌, ◌||◌, if◌then◌else◌, is_some, Option, Some, None, List, [], ◌∷◌, ◌++◌, map, filter, slice_get, slice_set, slice_index_or, Contains}
 use Rattle.std.specs.List.{list_any, AllByRecursion}
 use Rattle.std.proofs.Common.{sym, ap, subst, inl, inr, ◌∙◌}
 use Rattle.std.proofs.lemmas.Bool.{true≢false, and_parts, eqb-true, eq-eqb, or_cases, cases_Bool}
@@ -9,7 +9,7 @@ use Rattle.protocol.specs.Conditions.{IsAllowed, conditions, epoch, is_given_up,
 use Rattle.protocol.specs.Effects.{after, cell_at, no_cell}
 use Rattle.protocol.specs.Events.{Event, Submit, Pass, Form, Admit, Arrive, Ask, Take, Run, Send, End, Close, Complete, Sync, Note, Commit, Settle, Abort, Rollback, DropSub, DropControl, Prepare, Vouch, Decide, Seal, Finish, Reply, Trim}
 use Rattle.protocol.specs.Fixed.{Fixed}
-use Rattle.protocol.specs.OnBook.{asked_acts, batch_arrived, change_if, changed_act, doomed_by, has_left, joins, lowered, marked, new_pairs, tids_on, met, in_the_way}
+use Rattle.protocol.specs.OnBook.{asked_acts, batch_arrived, change_if, changed_act, doomed_by, has_left, joins, lowered, marked, new_pairs, tids_on}
 use Rattle.protocol.specs.OnCell.{act_entries, act_left, act_placed, batch_entries, batch_left, batch_placed}
 use Rattle.protocol.specs.Numbers.{times}
 use Rattle.protocol.specs.Parts.{Act, Book, Doomed, Entry, BatchEntry, ActEntry, Who, OfBatch, OfAct, SubBatch, ControlMessage, Post, Cell, Machine}
@@ -17,7 +17,7 @@ use Rattle.protocol.specs.Rivals.{Lock}
 use Rattle.protocol.specs.Spread.{raised}
 use Rattle.protocol.specs.Verdicts.{died}
 use Rattle.snap_base.specs.declared.verdicts.Verdict.{Verdict}
-use Rattle.protocol.specs.Words.{act_of, control_of, has_control_to, has_entry, holds, is_act_entry, is_batch_entry, is_entry_of, is_doomed, is_live_status, sub_of, without_control, without_sub, has_act}
+use Rattle.protocol.specs.Words.{act_of, control_of, has_control_to, has_entry, holds, is_act_entry, is_batch_entry, is_entry_of, is_doomed, is_live_status, lock_of, sub_of, without_control, without_sub, has_act}
 use Rattle.protocol_ready.specs.Telling.{PostTells}
 use Rattle.protocol_ready.specs.Touched.{is_touched, changes_who, changes_doom}
 use Rattle.protocol_ready.proofs.Listing.{held, found_in}
@@ -29,6 +29,7 @@ use Rattle.hand_offers.specs.Listed.{on_post}
 use Rattle.hand_offers.proofs.Lists.{first_of_all}
 use Rattle.touched_events.proofs.Common.{Among, new_is_touched, new_is_allowed, new_was_refused}
 use Rattle.touched_events.proofs.AfterRuns.{Holding, IsOwn, on_schedule}
+use Rattle.touched_events.proofs.Asking.{behind_at, group_at, older_at}
 use Rattle.touched_events.proofs.GivenUp.{Known, arrival_fallen, ask_fallen}
 use Rattle.touched_events.proofs.InPost.{left_or, find_gone, nowhere, nothing, arrival_in, coming_in, in_control, drop_in_control, all_subs, all_controls, all_drops, holds_back, crossed_back, raised_back, changed_back}
 use Rattle.touched_events.proofs.NewDrops.{IsGivenUp, all_are, crossed_found, fallen_dropped, joined_doom, lowered_doom}
@@ -113,7 +114,7 @@ arrive_asks w k b s t a c = (c.0, (lowered_back k (tids_on (cell_at s b).entries
 
 ask_asks : (w : Fixed Rest) (u b : ℕ) (s : Machine Rest) (t a : ℕ) → IsAllowed w (Ask t a) (after w (Ask u b) s) → IsAllowed w (Ask t a) s
 unfolding conditions after
-ask_asks w u b s t a c = (taken_back u t a s.post.controls c.0, (asked_back (in_the_way u (cell_at s b).entries) (met u (cell_at s b).entries) u b _ s.book t c.1.0, (set_back (λ c. not (has_act t c.entries)) s.cells a b (act_placed u (in_the_way u (cell_at s b).entries) (control_of u s.post.controls) (cell_at s b)) (front_none (is_act_entry t) (cell_at s b).entries (act_entries u (in_the_way u (cell_at s b).entries))) c.1.1.0, (set_back (λ c. c.epoch == epoch s.book) s.cells a b (act_placed u (in_the_way u (cell_at s b).entries) (control_of u s.post.controls) (cell_at s b)) (λ g. g) c.1.1.1.0, tt))))
+ask_asks w u b s t a c = (taken_back u t a s.post.controls c.0, (asked_back (older_at u b s) (group_at u b s) u b _ s.book t c.1.0, (set_back (λ c. not (has_act t c.entries)) s.cells a b (act_placed (lock_of u s.book.acts) (older_at u b s) (control_of u s.post.controls) (cell_at s b)) (front_none (is_act_entry t) (cell_at s b).entries (act_entries (lock_of u s.book.acts) (older_at u b s))) c.1.1.0, (set_back (λ c. c.epoch == epoch s.book) s.cells a b (act_placed (lock_of u s.book.acts) (older_at u b s) (control_of u s.post.controls) (cell_at s b)) (λ g. g) c.1.1.1.0, tt))))
 
 -- ---- a control that may be taken, and an ACT that may ask, where entries come or go
 
@@ -144,13 +145,13 @@ none_filter p q (x ∷ xs) keeps h = by (q x) refl (p x) refl h (none_filter p q
     by false e true f g i = absurd (true≢false (sym (keeps x f) ∙ e))
     by false e false f g i = i g
 
-other_act : (u t : ℕ) (older : Option ℕ) → (u == t) ≡ false → list_any (is_entry_of t) (act_entries u older) ≡ false
-other_act u t None e = rw e refl
-other_act u t (Some o) e = refl
+other_act : (x : Lock) (t : ℕ) (older : Option ℕ) → (x.tid == t) ≡ false → list_any (is_entry_of t) (act_entries x older) ≡ false
+other_act x t None e = rw e refl
+other_act x t (Some o) e = refl
 
 ask_takes : (w : Fixed Rest) (u b : ℕ) (s : Machine Rest) (t a : ℕ) → (u == t) ≡ false → IsAllowed w (Take t a) (after w (Ask u b) s) → IsAllowed w (Take t a) s
 unfolding conditions after
-ask_takes w u b s t a e c = (taken_back u t a s.post.controls c.0, (set_back (λ c. has_entry t c.entries) s.cells a b (act_placed u (in_the_way u (cell_at s b).entries) (control_of u s.post.controls) (cell_at s b)) (any_front (is_entry_of t) (cell_at s b).entries (act_entries u (in_the_way u (cell_at s b).entries)) (other_act u t (in_the_way u (cell_at s b).entries) e)) c.1.0, tt))
+ask_takes w u b s t a e c = (taken_back u t a s.post.controls c.0, (set_back (λ c. has_entry t c.entries) s.cells a b (act_placed (lock_of u s.book.acts) (older_at u b s) (control_of u s.post.controls) (cell_at s b)) (any_front (is_entry_of t) (cell_at s b).entries (act_entries (lock_of u s.book.acts) (older_at u b s)) (other_act (lock_of u s.book.acts) t (older_at u b s) e)) c.1.0, tt))
 
 finish_takes : (w : Fixed Rest) (u b : ℕ) (s : Machine Rest) (t a : ℕ) → IsAllowed w (Take t a) (after w (Finish u b) s) → IsAllowed w (Take t a) s
 unfolding conditions after
@@ -264,9 +265,9 @@ asked_dropped None group u a m t b c known e once other d n =
 ask_dropped : (asked : Event → Bool) (w : Fixed Rest) (s : Machine Rest) (u b t : ℕ) → Holding w s → Holding w (after w (Ask u b) s) → Asks asked w s (Ask u b) → asked (DropControl t) ≡ true → (u == t) ≡ false → Contains (given_up_drops (after w (Ask u b) s).book) (DropControl t)
 unfolding after
 ask_dropped asked w s u b t before later g q other =
-    let older = in_the_way u (cell_at s b).entries in
-    let group = met u (cell_at s b).entries in
-    let m = max (cell_at s b).last (cell_at s b).floor in
+    let older = older_at u b s in
+    let group = group_at u b s in
+    let m = behind_at u b s in
     let touched = either_way (u == t) _ (g.touched (DropControl t) q) (λ e. absurd (true≢false (sym e ∙ other))) (λ x. x) in
     let v = newly_given_up asked w s (Ask u b) t before.own g q (others_stay u t s.post.controls other) touched in
     asked_dropped older group u b m t s.book (after w (Ask u b) s).book before.known refl later.known.once other v.0 v.1
