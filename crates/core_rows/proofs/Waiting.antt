@@ -84,8 +84,10 @@ told_first w s t r P ok shows o told on =
     by None e h = absurd (cc e)
     by (Some y) e h = h
 
-pub admitted_halves : (h : Halves) (t n m u k j : ℕ) → t ≡ u → n ≡ k → m ≡ j → record h { orders = act_admitted t n m h.orders } ≡ record h { orders = act_admitted u k j h.orders }
-admitted_halves h t n m u k j p q r =
-    ap (λ x. record h { orders = act_admitted x n m h.orders }) p
-    ∙ (ap (λ x. record h { orders = act_admitted u x m h.orders }) q
-    ∙ ap (λ x. record h { orders = act_admitted u k x h.orders }) r)
+pub admitted_halves : (h : Halves) (t n m u k j : ℕ) (reads only : Bool) → t ≡ u → n ≡ k → reads ≡ only → m ≡ j
+    → record h { orders = act_admitted t n reads m h.orders } ≡ record h { orders = act_admitted u k only j h.orders }
+admitted_halves h t n m u k j reads only p q b r =
+    ap (λ x. record h { orders = act_admitted x n reads m h.orders }) p
+    ∙ (ap (λ x. record h { orders = act_admitted u x reads m h.orders }) q
+    ∙ (ap (λ x. record h { orders = act_admitted u k x m h.orders }) b
+    ∙ ap (λ x. record h { orders = act_admitted u k only x h.orders }) r))

@@ -7,7 +7,7 @@ ghost use Rattle.protocol.specs.OnPost.{next_act};
 ghost use Rattle.protocol.specs.Parts.{Machine};
 ghost use Rattle.core_rows.specs.OnRuns.{HasRun};
 ghost use Rattle.core_rows.specs.Showing.{ShowsBook, ShowsPost, ShowsRing, ShowsTxs};
-ghost use Rattle.core_rows.specs.Starts.{MayStart, Starts};
+ghost use Rattle.core_rows.specs.Starts.{MayStart, Starts, TellsReader};
 ghost use Rattle.core_rows.specs.Taken.{IsOfRun, IsTaken, IsRefusal, IsNo};
 
 use crate::StepNo;
@@ -42,7 +42,8 @@ fn next_act_is_of_the_text<C>()
 }
 
 /// Admit: the ACT that waits first at the holder begins as ACT `t`, behind batch `first`, the last one of earlier runs. The
-/// book has it, and its first control, as `start` gives it, is posted. So many ACTs may be live at one time.
+/// book has it, and its first control, as `start` gives it, is posted. So many ACTs may be live at one time. `reader` tells
+/// whether the ACT only reads, and where none waits it may be either.
 pub fn admit<C: Drop, F: Fn(Tid, &Tx) -> Result<C, Memory>>(
     alloc: Global,
     txs: &[Tx],
@@ -53,10 +54,11 @@ pub fn admit<C: Drop, F: Fn(Tid, &Tx) -> Result<C, Memory>>(
     acts: u32,
     first: Bid,
     t: Tid,
+    reader: bool,
 ) -> Result<(), StepNo>
     requires may { MayStart (F.pre start.now) txs.now }
     requires run { IsOfRun {C = C} (λ w s. ShowsTxs txs.now w × Starts (F.post start.now) w × (w.text.acts ≡ acts) × (base w.text ≡ first.0) × ShowsRing ring.old s × ShowsBook book.old s × ShowsPost post.old s) }
-    ensures ok { OnOk result (IsTaken {C = C} (Admit t.0) (λ w s. ShowsTxs txs.now w × Starts (F.post start.entry.now) w × (w.text.acts ≡ acts) × (base w.text ≡ first.0) × ShowsRing ring.old s × ShowsBook book.old s × ShowsPost post.old s) (λ w s. ShowsRing ring.new s × ShowsBook book.new s × ShowsPost post.new s)) }
+    ensures ok { OnOk result (IsTaken {C = C} (Admit t.0) (λ w s. ShowsTxs txs.now w × Starts (F.post start.entry.now) w × TellsReader reader ring.old w × (w.text.acts ≡ acts) × (base w.text ≡ first.0) × ShowsRing ring.old s × ShowsBook book.old s × ShowsPost post.old s) (λ w s. ShowsRing ring.new s × ShowsBook book.new s × ShowsPost post.new s)) }
     ensures room { book.new.most ≡ book.old.most }
     ensures no { IfErr result (IsNo {C = C} (Admit t.0) (λ w s. ShowsTxs txs.now w × Starts (F.post start.entry.now) w × (w.text.acts ≡ acts) × (base w.text ≡ first.0) × ShowsRing ring.old s × ShowsBook book.old s × ShowsPost post.old s)) }
     ensures ring { OnErr result (ring.new ≡ ring.old) }
@@ -73,7 +75,7 @@ pub fn admit<C: Drop, F: Fn(Tid, &Tx) -> Result<C, Memory>>(
     let (tid, n) = ring.next_act().unwrap();
     let control = first_control(start, txs, tid, n)?;
     post.room(alloc, 0, 1)?;
-    book.admit(alloc, tid, n, first)?;
+    book.admit(alloc, tid, n, reader, first)?;
     let _admitted = ring.admit();
     post_first(alloc, post, Who::Act(tid), control);
     Ok(())

@@ -42,7 +42,8 @@ pub fn finish<C: Drop>(
     let undone = book.is_undone(t);
     let sealed = book.is_sealed(t);
     let before = book.before(t);
+    let reader = book.is_reader(t);
     book.finish(t, a);
-    cell.finish(t, undone, sealed, before);
+    cell.finish(t, undone, sealed, before, reader);
     Ok(())
 }

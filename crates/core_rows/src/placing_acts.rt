@@ -32,7 +32,8 @@ pub fn ask_refusal<C: Drop>(
     first_no(&[under_way, undoomed, !placed, seen == epoch])
 }
 
-/// Ask: the ACT is placed on the actor with its control, or gives way to an older one there.
+/// Ask: the ACT is placed on the actor with its control, or gives way to an older one there that it can't stand beside: two
+/// that only read stand beside one another.
 pub fn ask<C: Drop>(
     alloc: Global,
     book: &mut BookPart,
@@ -57,13 +58,15 @@ pub fn ask<C: Drop>(
     if rule != 0 {
         return Err(StepNo::NotNow { rule });
     }
+    let reader = book.is_reader(t);
     cell.room(alloc, 0)?;
+    let rivals = cell.rivals(alloc, reader)?;
     let last = cell.last();
-    let floor = cell.floor();
-    let older = book.ask(alloc, t, cell.tail(), last, floor, a)?;
+    let floor = cell.floor(reader);
+    let older = book.ask(alloc, t, &rivals, last, floor, a)?;
     let control = post.take_control(t).unwrap();
     if older.is_none() {
-        cell.ask(alloc, t, control);
+        cell.ask(alloc, t, reader, control);
     }
     Ok(())
 }

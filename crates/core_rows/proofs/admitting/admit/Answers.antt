@@ -62,18 +62,19 @@ post_first-requires-clause-fresh g c =
 pub returns-clause-ok : goal.returns-clause-ok
 unfolding after
 returns-clause-ok g c w s r h =
-    let ok = allowed_where w (Admit c.args.t.0) s (c.admit_refusal-rule.ensures w s r (h.2, h.4, h.5) ∙ c.if-rule-ne0.false) in
-    let numbers = admitted_is w s c.args.t.0 c.args.ring.now c.next_act.result c.unwrap.result ok h.4 c.next_act.ensures c.unwrap.ensures in
+    let ok = allowed_where w (Admit c.args.t.0) s (c.admit_refusal-rule.ensures w s r (h.3, h.5, h.6) ∙ c.if-rule-ne0.false) in
+    let numbers = admitted_is w s c.args.t.0 c.args.ring.now c.next_act.result c.unwrap.result ok h.5 c.next_act.ensures c.unwrap.ensures in
+    let reads = h.2 (record { 0 = c.args.t.0 }) (record { 0 = post.next_act s.ring }) (first_waits w s c.args.t.0 c.args.ring.now ok h.5) (c.next_act_is_of_the_text.ensures w s c.args.t.0 r ok) in
     let first = c.in_ok-control.ensures w (OfAct c.unwrap.result.0.0) h.0 h.1
     ∙ (ap (λ t. first_control w (OfAct t) t c.unwrap.result.1.0) numbers.0
     ∙ ap (λ n. first_control w (OfAct c.args.t.0) c.args.t.0 n) numbers.1) in (
       ok,
       (
-        ap admitted h.4 ∙ sym (told_first w s c.args.t.0 c.args.ring.now _ ok h.4 c.admit-admitted.result c.admit-admitted.ensures.value c.admit-admitted.ensures.some),
+        ap admitted h.5 ∙ sym (told_first w s c.args.t.0 c.args.ring.now _ ok h.5 c.admit-admitted.result c.admit-admitted.ensures.value c.admit-admitted.ensures.some),
         subst (λ x. Shows x (after w (Admit c.args.t.0) s).book)
-            (sym (c.in_ok-admit.ensures.ok ∙ admitted_halves c.args.book.now _ _ _ _ _ _ numbers.0 numbers.1 (sym h.3)))
-            (c.books_go_on.ensures w (Admit c.args.t.0) s c.args.book.now r h.5 ok),
-        ap (control_posted (first_control w (OfAct c.args.t.0) c.args.t.0 (post.next_act s.ring))) (h.6 ∙ sym c.room.ensures.messages)
+            (sym (c.in_ok-admit.ensures.ok ∙ admitted_halves c.args.book.now _ _ _ _ _ _ _ _ numbers.0 numbers.1 (sym reads) (sym h.4)))
+            (c.books_go_on.ensures w (Admit c.args.t.0) s c.args.book.now r h.6 ok),
+        ap (control_posted (first_control w (OfAct c.args.t.0) c.args.t.0 (post.next_act s.ring))) (h.7 ∙ sym c.room.ensures.messages)
             ∙ (ap (λ m. control_posted m c.room.new.self.messages) (sym first) ∙ sym c.post_first.ensures.messages),
       ),
     )

@@ -19,7 +19,8 @@ returns-clause-ok g c w s r shows =
     let left = c.finish-2.ensures.left x.0
     (ap is_undone_act (sym x.1) ∙ sym (c.is_undone-undone.ensures s.book shows.0))
     (ap (holds (λ y. is_sealed y.status)) (sym x.1) ∙ sym (c.is_sealed-sealed.ensures s.book shows.0))
-    (ap before_of (sym x.1) ∙ sym (c.before-before.ensures s.book shows.0)) in (
+    (ap before_of (sym x.1) ∙ sym (c.before-before.ensures s.book shows.0))
+    (ap (holds (λ y. y.reader)) (sym x.1) ∙ sym (c.is_reader-reader.ensures s.book shows.0)) in (
       ok,
       (
         subst (λ h. Shows h (after w (Finish c.args.t.0 c.args.a.0) s).book) (sym c.finish.ensures) (c.books_go_on.ensures w (Finish c.args.t.0 c.args.a.0) s c.args.book.now r shows.0 ok),

@@ -3,7 +3,7 @@ use Rattle.std.specs.Option.{option_map}
 use Rattle.protocol.specs.Events.{Run}
 use Rattle.protocol.specs.Conditions.{conditions}
 use Rattle.protocol.specs.Effects.{after}
-use Rattle.protocol.specs.OnCell.{slice_run}
+use Rattle.protocol.specs.OnCell.{reads_on, slice_run}
 use Rattle.protocol.specs.Words.{holds, image_of, waiting_of, who_on}
 use Rattle.cell_part.specs.Contents.{waiting_control}
 use Rattle.core_rows.proofs.Rules.{allowed_where}
@@ -21,8 +21,8 @@ begin-control-requires-clause-waits g c =
 pub begin-control-requires-clause-images : goal.begin-control-requires-clause-images
 begin-control-requires-clause-images g c =
     let ok = allowed_where c.requires.of_run.text (Run c.args.t.0 c.args.a.0) c.requires.of_run.state (c.run_refusal-rule.ensures c.requires.of_run.text c.requires.of_run.state c.requires.of_run.run c.requires.of_run.shows ∙ c.if-rule-ne0.false) in
-    subst (λ y. is_some (image_of (who_on c.args.t.0 y.entries) y.images) ≡ false → length y.images < 64) (is_at c.requires.of_run.state c.args.a.0 c.args.cell.now.cell c.requires.of_run.shows)
-    ((c.rows_may.ensures c.requires.of_run.text c.requires.of_run.state c.requires.of_run.run).runs_image c.args.t.0 c.args.a.0 ok)
+    subst (λ y. reads_on c.args.t.0 y.entries ≡ false → is_some (image_of (who_on c.args.t.0 y.entries) y.images) ≡ false → length y.images < 64) (is_at c.requires.of_run.state c.args.a.0 c.args.cell.now.cell c.requires.of_run.shows)
+    (λ writes. (c.rows_may.ensures c.requires.of_run.text c.requires.of_run.state c.requires.of_run.run).runs_image c.args.t.0 c.args.a.0 ok)
 
 pub returns-clause-ok : goal.returns-clause-ok
 unfolding conditions after
