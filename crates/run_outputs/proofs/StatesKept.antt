@@ -116,6 +116,11 @@ imaged who s images is h = by (is_some (image_of who images))
     by true = h
     by false = all_join (λ i. IsState i.state) images (record { who = who; state = s } ∷ []) h (is, tt)
 
+-- one that only reads takes no image
+images_left : (reads : Bool) (who : Who) (s : State) (images : List Image) → IsState s → AllByRecursion (λ i. IsState i.state) images → AllByRecursion (λ i. IsState i.state) (cell.images_after reads who s images)
+images_left true who s images is h = h
+images_left false who s images is h = imaged who s images is h
+
 state_sliced : {C : Type 0} (w : Fixed C) (Met : C → Type 0) (s : State) (o : Option (Waiting C)) → LeavesStates w Met → IsState s → If (λ x. Met x.control) o → IsState (cell.state_after s (cell.sliced w.code s o))
 state_sliced w Met s None l is h = is
 state_sliced w Met s (Some x) l is h = l.leaves x.control s h is
@@ -129,7 +134,7 @@ run_keeps w Met t a c l h =
     let waits = all_found (λ x. Met x.control) (λ x. x.tid == t) c.inbox h.inbox in
     record {
       state = state_sliced w Met c.state (waiting_of t c.inbox) l h.state waits;
-      images = imaged _ c.state c.images h.state h.images;
+      images = images_left (cell.reads_on t c.entries) _ c.state c.images h.state h.images;
       inbox = all_filter (λ x. Met x.control) _ c.inbox h.inbox;
       outbox = all_join (λ x. MetNext Met x.next) c.outbox _ h.outbox (next_sliced w Met t c.state (waiting_of t c.inbox) l h.state waits);
     }
