@@ -60,10 +60,12 @@ pub fn ask<C: Drop>(
     }
     let reader = book.is_reader(t);
     cell.room(alloc, 0)?;
-    let rivals = cell.rivals(alloc, reader)?;
     let last = cell.last();
     let floor = cell.floor(reader);
-    let older = book.ask(alloc, t, &rivals, last, floor, a)?;
+    let older = {
+        let rivals = cell.rivals(alloc, reader)?;
+        book.ask(alloc, t, &rivals, last, floor, a)?
+    };
     let control = post.take_control(t).unwrap();
     if older.is_none() {
         cell.ask(alloc, t, reader, control);

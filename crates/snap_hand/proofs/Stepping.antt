@@ -14,6 +14,11 @@ use Rattle.snap_hand.specs.Steps.{OnSomeRun, IsTakenOn, IsRefusalOn, may_want, I
 pub of_run : (w : Fixed Rest) (h : Parts) (Old : Fixed Rest → Machine Rest → Type 0) → ((s : Machine Rest) → Fits h s → Old w s) → OnSomeRun w h → IsOfRun {C = Rest} Old
 of_run w h Old shows r = record { text = w; state = r.state; run = r.run; shows = shows r.state r.fits }
 
+-- what a taken row says, said in other words
+pub on_ok_to : {A B : Type 0} (r : Result (Unit {0}) StepNo) → OnOk r A → (A → B) → OnOk r B
+on_ok_to (Ok x) a f = f a
+on_ok_to (Err e) a f = a
+
 no_on : (w : Fixed Rest) (e : Event) (h : Parts) (Old : Fixed Rest → Machine Rest → Type 0) → ((s : Machine Rest) → Fits h s → Old w s) → may_want e ≡ true → (n : StepNo) → IsNo e Old n → IsNoOn w e h n
 no_on w e h Old shows may (NotNow rule) p = (p.0, λ s r f. p.1 w s r (shows s f))
 no_on w e h Old shows may Memory p = may

@@ -2,6 +2,7 @@
 ghost use Rattle.std.specs.Prelude.{◌≡◌, ◌%◌, OnOk, OnErr, IfErr};
 ghost use Rattle.aml_slice.specs.Controls.{Rest};
 ghost use Rattle.core_rows.specs.Showing.{ShowsBook, ShowsDesk, ShowsLogAt, ShowsPost, ShowsRing};
+ghost use Rattle.core_rows.specs.Starts.{TellsReader};
 ghost use Rattle.core_rows.specs.Taken.{IsOfRun, IsTaken, IsNo};
 ghost use Rattle.protocol.specs.Events as event;
 ghost use Rattle.snap_hand.specs.Steps.{MayBeAsked, IsRefusalOn, IsStep};
@@ -79,7 +80,22 @@ pub(crate) fn admit_refusal(tables: &Tables, hand: &Hand, t: Tid) -> u8
     core_rows::admit_refusal::<Control>(hand.ring(), hand.book(), tables.work.acts as u32, t)
 }
 
-/// Admit, on the parts of its footprint: the program starts the ACT.
+/// Whether the ACT that is admitted next only reads, as its root method promises. Where none waits, or the text has no
+/// such transaction, it does not.
+fn next_act_reads(tables: &Tables, ring: &Ring) -> bool
+    requires { AreTables tables.now }
+    ensures { TellsReader result ring.now (fixed_of tables.now) }
+{
+    let Some((_tid, n)) = ring.next_act() else {
+        return false;
+    };
+    match tables.work.txs.get(n.0 as usize) {
+        Some(tx) => tables.work.program.is_read(tx.method),
+        None => false,
+    }
+}
+
+/// Admit, on the parts of its footprint: the program starts the ACT, and tells whether it only reads.
 fn admit_on(
     alloc: Global,
     tables: &Tables,
@@ -98,7 +114,9 @@ fn admit_on(
     let start = |t: Tid, tx: &Tx| Control::start(alloc, &tables.work.program, t, tx);
     let txs = tables.work.txs.as_slice();
     let acts = tables.work.acts as u32;
-    core_rows::admit(alloc, txs, &start, ring, book, post, acts, base(tables), t)
+    let first = base(tables);
+    let reader = next_act_reads(tables, ring);
+    core_rows::admit(alloc, txs, &start, ring, book, post, acts, first, t, reader)
 }
 
 /// Admit.

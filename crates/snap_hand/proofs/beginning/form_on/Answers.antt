@@ -1,11 +1,7 @@
-use Rattle.std.proofs.Common.{◌≡◌, rules, Result, Ok, Err, OnOk, sym, ap, ◌∙◌}
+use Rattle.std.proofs.Common.{◌≡◌, rules, sym, ap, ◌∙◌}
 use Rattle.aml_slice.specs.Slicing.{started}
-use Rattle.core_rows.specs.declared.step_no.StepNo.{StepNo}
+use Rattle.snap_hand.proofs.Stepping.{on_ok_to}
 use Rattle.snap_hand.proofs.beginning.form_on.Goals as goal
-
-on_ok_to : {A B : Type 0} (r : Result (Unit {0}) StepNo) → OnOk r A → (A → B) → OnOk r B
-on_ok_to (Ok x) a f = f a
-on_ok_to (Err e) a f = a
 
 pub returns-clause-ok : goal.returns-clause-ok
 returns-clause-ok c =
