@@ -13,7 +13,8 @@ use Rattle.book_part.specs.Halves.{Shows}
 use Rattle.core_rows.proofs.Rules.{allowed_where}
 use Rattle.core_rows.proofs.Placing.{is_at, put_there}
 use Rattle.core_rows.proofs.Found.{held, is_there}
-use Rattle.core_rows.proofs.Older.{asked_halves, nobody, rivals_met, somebody}
+use Rattle.order_book.specs.Asked.{locks_of}
+use Rattle.core_rows.proofs.Older.{asked_halves, nobody, rivals_met, same_tids, somebody}
 use Rattle.core_rows.proofs.placing_acts.ask.Goals as goal
 
 pub ask-requires : goal.ask-requires
@@ -94,3 +95,11 @@ returns-else-is_none-clause-ok g c w s r shows =
             ∙ ap (λ o. act_placed lock o (control_of c.args.t.0 s.post.controls) c.args.cell.now.cell) (sym way))),
       ),
     )
+
+pub returns-then-is_none-clause-room : goal.returns-then-is_none-clause-room
+returns-then-is_none-clause-room g c =
+    let rivals = c.deref.result.now in ap (λ h. h.most) (c.in_ok-older.ensures.ok (locks_of rivals) (same_tids rivals))
+
+pub returns-else-is_none-clause-room : goal.returns-else-is_none-clause-room
+returns-else-is_none-clause-room g c =
+    let rivals = c.deref.result.now in ap (λ h. h.most) (c.in_ok-older.ensures.ok (locks_of rivals) (same_tids rivals))
