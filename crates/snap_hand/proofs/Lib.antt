@@ -8,7 +8,6 @@ pub mod AtActors
 pub mod Nowhere
 pub mod LogSteps
 pub mod Begins
-pub mod NextAct
 pub mod Opens
 pub mod Waiting
 pub mod TablesHold
