@@ -1,3 +1,5 @@
+//! What the code of a checked program is to the machine, for all transactions that may be asked of the program.
+
 ghost use Rattle.std.specs.Prelude.{◌≡◌, ◌↔◌, ℕ, true, List, length, Contains};
 ghost use Rattle.std.specs.List.{AllByRecursion};
 ghost use Rattle.snap_base.specs.declared.transactions.State.{State};

@@ -50,7 +50,8 @@ pub record CommittedAsMeant (p : List CheckedMethod) (w : Fixed Rest) (finish : 
   pub results : IsAsMeant p w h.committed
   -- each of them did what the language means of it alone, where it found what it found
   pub explained : AllByRecursion (MeansWhatItDid p w) h.committed
-  -- so do those that are told that they committed, where a run has stopped early, with nobody else
+  -- those that are told that they committed, also where a run has stopped early, gave what the language means of them with
+  -- nobody else
   pub told : IsAsMeant p w (told s h)
   -- in a quiet state the actors have the states that this leaves
   pub states : IsQuiet w s → map (λ c. c.state) s.cells ≡ (meant_run p w h.committed).world
@@ -103,7 +104,7 @@ pub record FailedAsMeant (p : List CheckedMethod) (w : Fixed Rest) (n k c code :
   pub next_c : (reached w front).book.next_c ≡ c
   pub there : FailsAsMeant p w n k c code (reached w front) (history w es).committed
 
--- ---- who is told a place, with a value or a code, is told what it means there; and so is who failed with its batch
+-- ---- who is told a place, with a value or a code, and who is told that it failed with its batch, is told what it means there
 
 pub record VerdictsAsMeant (p : List CheckedMethod) (w : Fixed Rest) (finish : Rest → List State → Alone) (es : List Event) : Type 0 where
   pub value : (n : ℕ) (at : Place) (v : ℤ) → verdict n (reached w es).book (reached w es).desk ≡ Some (verdicts.Committed at v) → HasMeantResult p w n at (Value v) (history w es).committed

@@ -43,7 +43,7 @@ AfterEveryRunOf p P =
     (w : Text) (es : List Event) → IsTextOf p w → IsRun (with_code p w) es
     → P (with_code p w) (finish_of p w) (reached (with_code p w) es) (history (with_code p w) es)
 
--- The same of the events of the run.
+-- Of every run of every text of the program P holds of its events.
 abbrev pub OfEveryRunOf : List CheckedMethod → (Fixed Rest → (Rest → List State → Alone) → List Event → Type 0) → Type 0
 OfEveryRunOf p P = (w : Text) (es : List Event) → IsTextOf p w → IsRun (with_code p w) es → P (with_code p w) (finish_of p w) es
 

@@ -18,9 +18,10 @@ pub fn halves_go_on(program: &Checked)
     protocol_theorems::halves_go_on::<Control>();
 }
 
-/// Along each actor's chain a batch behind an ACT has a number above the ACT's before number; an ACT behind a batch has a before
-/// number at least the batch's; an ACT behind an ACT has one that is not smaller, and a larger number of its commit, unless
-/// both only read; and PACTs behind PACTs are of a later batch, or of the same one with a larger tid.
+/// Along each actor's chain of transactions that committed: a batch behind an ACT has a number above the ACT's before number;
+/// an ACT behind a batch has a before number at least the batch's; an ACT behind an ACT, unless both only read, has a before
+/// number that is not smaller, and a larger number of its commit; and a PACT behind a PACT is of a later batch, or of the same
+/// batch with a larger tid.
 pub fn cases_of_order(program: &Checked)
     ensures { AfterEveryRunOf (methods_of program.now) CasesHold }
 {
@@ -28,7 +29,9 @@ pub fn cases_of_order(program: &Checked)
     protocol_theorems::cases_of_order::<Control>();
 }
 
-/// The same of all that stand on an actor of the present epoch, committed or not, ACTs that are doomed aside.
+/// On the schedule of an actor of the present epoch, of any two entries, committed or not, neither of which is a doomed ACT: a
+/// batch behind an ACT has a number above the ACT's before number; an ACT behind a batch has a before number at least the
+/// batch's; and an ACT behind an ACT, unless both only read, has a greater before number, or the same one and is older.
 pub fn schedules_are_in_order(program: &Checked)
     ensures { AfterEveryRunOf (methods_of program.now) SchedulesInOrder }
 {
@@ -36,8 +39,9 @@ pub fn schedules_are_in_order(program: &Checked)
     protocol_theorems::schedules_are_in_order::<Control>();
 }
 
-/// A rollback gives the state before the first run on the actor of what it takes away, and so does the leaving of an ACT that
-/// is doomed or failed. It is the state that the last run of what stays left.
+/// A rollback gives back the state that the actor had before the first run of what is taken away. The leaving of an ACT that
+/// is doomed or failed gives back the state before the ACT's first run there. In both cases it is the state that the last run
+/// of what stays left.
 pub fn undo_gives_the_state_before(program: &Checked)
     ensures { AfterEveryRunOf (methods_of program.now) UndoGives }
 {

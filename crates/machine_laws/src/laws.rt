@@ -62,9 +62,9 @@ pub fn verdicts_have_evidence(program: &Checked)
     protocol_verdicts::verdicts_have_evidence::<Control>();
 }
 
-/// Who is told a place gives what it is told there in the serial run of what committed; who failed with its batch
-/// does so, behind the settled batches below it and the ACTs with a value below the number that it is told; and who
-/// was taken along is told who failed.
+/// Who is told a place gives what it is told there in the serial run of what committed; who is told that it failed with its
+/// batch fails so in a serial run behind the settled batches below it and the ACTs with a value below the number that it is
+/// told; and who was taken along is told who failed.
 pub fn verdicts_tell_of_serial_runs(program: &Checked)
     ensures { OfEveryRunOf (methods_of program.now) VerdictsTell }
 {
@@ -72,8 +72,9 @@ pub fn verdicts_tell_of_serial_runs(program: &Checked)
     protocol_verdicts::verdicts_tell_of_serial_runs::<Control>();
 }
 
-/// Where a run cannot go on, all is answered: every transaction is submitted and replied to, and no message, control,
-/// entry or outcome is left.
+/// Where a run cannot go on, all is answered: every transaction is submitted and replied to, each batch is aborted, or settled
+/// and trimmed everywhere, each ACT is given up or sealed and has left its actors, the logs are synced, and no message,
+/// control, entry or outcome is left.
 pub fn runs_that_cannot_go_on_have_answered(program: &Checked)
     ensures { AfterEveryRunOf (methods_of program.now) AnsweredWhenQuiet }
 {
@@ -116,7 +117,9 @@ pub fn rows_are_as_agreed(program: &Checked)
     protocol_theorems::rows_are_as_agreed::<Control>();
 }
 
-/// Each condition of each event holds exactly where the agreed one does.
+/// Each condition of each event holds exactly where the agreed one does: an Abort is for a PACT that failed where all smaller
+/// tids of its batch ended with a value, and a Reply is to a transaction whose batch is settled or aborted, or whose ACT is
+/// doomed or sealed.
 pub fn conditions_are_as_agreed(program: &Checked)
     ensures { AfterEveryRunOf (methods_of program.now) ConditionsAgree }
 {
@@ -124,7 +127,9 @@ pub fn conditions_are_as_agreed(program: &Checked)
     protocol_theorems::conditions_are_as_agreed::<Control>();
 }
 
-/// Where an ACT is placed, one pass over the ACTs carries before numbers through all pairs, and nothing else does.
+/// Where an ACT is placed, one pass over the ACTs carries before numbers through all pairs: along each pair whose ACT ahead is
+/// not doomed the one behind has a number at least as great, no number is greater than this forces, and there is one such list
+/// alone.
 pub fn numbers_are_carried_through_all_pairs(program: &Checked)
     ensures { AfterEveryRunOf (methods_of program.now) RisesAgree }
 {
@@ -152,8 +157,9 @@ pub fn nobody_waits_in_a_circle(program: &Checked)
 }
 
 /// The transactions that committed, run one after the other in the order of their places as the language means each of
-/// them, give the results that they had, and so do those of them that are told so, with nobody else; each alone, where it
-/// found what it found, means what it did; and where no event is allowed the actors have the states that this leaves.
+/// them, give the results that they had. Those of them that are told that they committed, run with nobody else, give these
+/// results, too. Each alone, where it found what it found, means what it did; and where no event is allowed the actors have
+/// the states that the serial run leaves.
 pub fn committed_transactions_are_as_meant(program: &Checked)
     ensures { AfterEveryRunOf (methods_of program.now) (CommittedAsMeant (methods_of program.now)) }
 {
@@ -167,7 +173,7 @@ pub fn committed_transactions_are_as_meant(program: &Checked)
 
 /// At every moment, whatever the logs are left with, the transactions whose commit records are there, run one after the
 /// other in the order of their places as the language means each of them, give the results that they had; and the states
-/// that are recovered are those that this leaves.
+/// that are recovered are those that this serial run leaves.
 pub fn recovered_transactions_are_as_meant(program: &Checked)
     ensures { AtEveryMomentOf (methods_of program.now) (RecoveredAsMeant (methods_of program.now)) }
 {

@@ -1,4 +1,4 @@
-//! The laws. A run of theirs begins on logs that recover to its opening, whatever earlier runs left there.
+//! What logs recover to, of every program. A run begins on logs that recover to its opening, whatever earlier runs left there.
 
 ghost use Rattle.std.specs.Prelude.{List, map};
 ghost use Rattle.aml_check.specs.Checked.{methods_of};
@@ -14,9 +14,10 @@ use machine_laws::{
     recovered_transactions_are_as_meant, recovered_transactions_are_in_order, texts_have_the_facts,
 };
 
-/// At every moment of every run, whatever each log is left with, recovery refuses nothing. Of the opening that it gives the
-/// states are those that the members leave, the batches and the undeclared transactions are those of earlier runs and behind
-/// them the members, in the order of their places, and the next numbers are above all.
+/// At every moment of every run, whatever each log is left with, recovery refuses nothing. The members are the transactions
+/// whose commit records are there. Of the opening that recovery gives the states are those that the members leave, the batches
+/// and the undeclared transactions are those of earlier runs and behind them the members, in the order of their places, and
+/// the next numbers are above all.
 pub fn logs_recover_to_the_members(program: &Checked)
     ensures { AtEveryMomentOnLogsOf (methods_of program.now) RecoversToMembers }
 {
@@ -24,8 +25,9 @@ pub fn logs_recover_to_the_members(program: &Checked)
     recovery_laws::logs_recover_to_the_members::<Control>();
 }
 
-/// The members, one after the other in the order of their places as the language means each of them, give the results that
-/// they had, which are the values that recovery gives; and the states of the opening to which the logs recover are those that this
+/// At every moment of every run, whatever each log is left with: the transactions whose commit records are there, run one
+/// after the other in the order of their places as the language means each of them, give the results that they had, which are
+/// the values that recovery gives; and the states of the opening to which the logs recover are those that this serial run
 /// leaves.
 pub fn logs_recover_as_meant(program: &Checked)
     ensures { AtEveryMomentOnLogsOf (methods_of program.now) (RecoversAsMeant (methods_of program.now)) }

@@ -1,3 +1,5 @@
+//! A batch that is formed, as the ring hands it to the desk and the post.
+
 use snap_base::{Bid, SubBatch, Tid, TxNo};
 use std::marker::Model;
 

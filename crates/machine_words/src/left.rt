@@ -17,16 +17,16 @@ pub trait Visits<C> {
     /// The tids of the ACTs.
     ghost acts: { Self → List ℕ };
 
-    /// What one visit of the transaction's control may cost.
+    /// How many events one visit of the transaction's control to an actor may still bring.
     fn cost(&self, tid: Tid) -> u64
         ensures { result ≡ left.visit (is_among tid.0 (acts self.now)) };
 
-    /// What the visits that are left to the transaction's control behind this one may cost.
+    /// How many events the visits that are left to the transaction's control behind this one may still bring.
     fn cost_behind(&self, tid: Tid, control: &C) -> u64
         ensures { result ≡ left.visit (is_among tid.0 (acts self.now)) * left.rest (code self.now) control.now };
 }
 
-/// So many, unless it is done.
+/// The count, or 0 where it is done.
 pub fn unless(done: bool, count: u64) -> u64
     ensures value { result ≡ left.unless done count }
     ensures within { result ≤ count }

@@ -34,7 +34,7 @@ pub record Code (C : Type 0) : Type 0 where
   pub visits_left : C → ℕ
   -- runs on the state of the actor on which the control stands, until it leaves the actor or ends
   pub slice : C → State → Sliced C
-  -- the transaction's method only reads: so does each that it calls
+  -- the transaction's method only reads, and each method that it calls only reads, too
   pub only_reads : Tx → Bool
 
 -- ---- the text, its limits, and what earlier runs left

@@ -25,8 +25,8 @@ HasLogs w s = length s.logs ≡ w.text.logs
 abbrev pub LeavesOthers : {C : Type 0} → Fixed C → Event → Machine C → Type 0
 LeavesOthers w e s = (i : ℕ) → is_among i (footprint w.text.logs e) ≡ false → part (after w e s) i ≡ part s i
 
--- Where two states have the same parts in an event's footprint, its conditions are the same in both, and so are
--- these parts after it.
+-- Where two states have the same parts in an event's footprint, the event's conditions are the same in both, and the parts
+-- in its footprint are the same after it.
 pub record ReadsItsParts {C : Type 0} (w : Fixed C) (e : Event) (s t : Machine C) : Type 0 where
   pub asks : conditions w e s ≡ conditions w e t
   pub parts : SameOn (footprint w.text.logs e) (after w e s) (after w e t)

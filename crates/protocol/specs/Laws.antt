@@ -19,7 +19,7 @@ AfterEveryRunWithHistory {C} P =
     (w : Fixed C) (finish : C → List State → Alone) (es : List Event)
     → HasFacts w finish → IsText w.text → IsRun w es → P w finish (reached w es) (history w es)
 
--- The same of the events of the run.
+-- Of every run of every accepted text, over code with the facts, P holds of its events.
 abbrev pub OfEveryRun : {C : Type 0} → (Fixed C → (C → List State → Alone) → List Event → Type 0) → Type 0
 OfEveryRun {C} P =
     (w : Fixed C) (finish : C → List State → Alone) (es : List Event)

@@ -21,7 +21,7 @@ pub fn allowed_events_are_candidates<C>()
     ensures { (w : Fixed C) (es : List Event) (e : Event) → IsText w.text → IsRun w es → IsAllowed w e (reached w es) → Contains (candidates w (reached w es)) e }
 {}
 
-/// After a run the candidates that are allowed are all events that are, in the order of kinds, then of the first
+/// After a run the candidates that are allowed are all events that are allowed, in the order of kinds, then of the first
 /// number, then of the second.
 pub fn allowed_candidates_are_enabled<C>()
     ensures { (w : Fixed C) (es : List Event) → IsText w.text → IsRun w es → IsEnabled w (reached w es) (allowed_candidates w (reached w es)) }

@@ -19,12 +19,15 @@ pub fn events_go_one_way<C>()
     ensures { (w : Fixed C) (e : Event) (s : Machine C) → IsAllowed w e s → WentOn s (after w e s) }
 {}
 
-/// The same of any number of events, one after the other, each of them allowed.
+/// In every state: any number of events, one after the other, each of them allowed where it comes, add records at the end of
+/// logs, and what is durable stays so; a cascade stays, and who was taken along was taken along by that one; an ACT keeps its
+/// tid, its transaction and the actors that it joined, its before number never falls, and its status goes from Live to
+/// Doomed, Decided or Sealed, and from Decided to Sealed alone; floors, epochs and the numbers that are drawn never fall.
 pub fn runs_go_one_way<C>()
     ensures { (w : Fixed C) (es : List Event) (s : Machine C) → EachAllowed w es s → WentOn s (state_after w es s) }
 {}
 
-/// What committed only grows, at its end.
+/// An event adds to the list of the transactions that committed at its end alone, and takes none out.
 pub fn committed_grows_at_its_end<C>()
     ensures { (w : Fixed C) (e : Event) (s : Machine C) (h : History) → IsFront h.committed (grown w e s h).committed }
 {}
@@ -34,8 +37,8 @@ pub fn settled_never_falls<C>()
     ensures { (w : Fixed C) (es : List Event) (e : Event) → IsText w.text → IsRun w es → IsAllowed w e (reached w es) → (reached w es).desk.settled ≤ (after w e (reached w es)).desk.settled }
 {}
 
-/// Over code that has the facts, whoever has its place in the serial order keeps it, with its before number. That a
-/// verdict stays is in `verdicts_have_evidence`.
+/// After every run over code that has the facts: whoever has its place in the serial order keeps it, with its before number,
+/// whatever event comes next. That a verdict stays is in `verdicts_have_evidence`.
 pub fn places_stay<C>()
     ensures { AfterEveryRunWithHistory (PlacesStay {C = C}) }
 {}

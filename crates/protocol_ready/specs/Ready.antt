@@ -246,8 +246,8 @@ looked w e s = touched w e s s ++ touched w e s (after w e s)
 abbrev pub AreEnough : {C : Type 0} → Fixed C → Event → Machine C → List Event → Type 0
 AreEnough w e s es = (f : Event) → is_touched w e s f ≡ true → Contains (looked w e s) f → IsAllowed w f s ⊎ IsAllowed w f (after w e s) → Contains es f
 
--- The same for a host that lists only after the event: it looks again at what it had among the allowed ones, and at what
--- is listed now.
+-- Some events are enough to look at for a host that lists only after an event, where each that the event touches is among
+-- them if the host had it among the allowed ones, and if it is listed for it after it and is allowed after it.
 pub record AreRenewed {C : Type 0} (w : Fixed C) (e : Event) (s : Machine C) (all es : List Event) : Type 0 where
   pub had : (f : Event) → Contains all f → is_touched w e s f ≡ true → Contains es f
   pub listed : (f : Event) → is_touched w e s f ≡ true → Contains (touched w e s (after w e s)) f → IsAllowed w f (after w e s) → Contains es f

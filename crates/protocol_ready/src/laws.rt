@@ -1,4 +1,4 @@
-//! The laws.
+//! Which events an event leaves as they were, and how the allowed ones are kept and found. `C` is the type of controls.
 
 ghost use Rattle.std.specs.Prelude.{◌≡◌, ◌↔◌, Bool, true, Contains, List, []};
 ghost use Rattle.protocol.specs.Conditions.{IsAllowed};
@@ -50,7 +50,9 @@ pub fn enabled_is_kept<C>()
     numbers_are_drawn_once::<C>();
 }
 
-/// The same of a host that lists only after the event, and looks again at what it had among the allowed ones.
+/// After every run, for a host that lists only after an event, and looks again at what it had among the allowed ones and at
+/// what it lists: all allowed events, in order, are after the event what becomes of them when these are looked at again, each
+/// put in where it is allowed, and else taken out.
 pub fn enabled_is_renewed<C>()
     ensures { (w : Fixed C) (es : List Event) (e : Event) (again all : List Event) → IsText w.text → IsRun w es → IsAllowed w e (reached w es) → AreRenewed w e (reached w es) all again → IsEnabled w (reached w es) all → IsEnabled w (after w e (reached w es)) (revised w (after w e (reached w es)) again all) }
 {

@@ -1,4 +1,4 @@
-//! The order of events, and what putting in and taking out leave. Each is called to cite it.
+//! The order of events, and what putting one in and taking one out leave. Each law is called to cite it.
 
 ghost use Rattle.std.specs.Prelude.{◌≡◌, ◌↔◌, ◌⊎◌, true, false, Contains, List};
 ghost use Rattle.protocol.specs.Events.{Event};
@@ -19,12 +19,12 @@ pub fn events_stay_in_order()
     ensures without { (e : Event) (es : List Event) → Ascends es → Ascends (without e es) }
 {}
 
-/// With an event put in there is just that one more.
+/// A list into which an event is put has just that one more.
 pub fn one_is_put()
     ensures { (e : Event) (es : List Event) (f : Event) → Contains (put e es) f ↔ ((f ≡ e) ⊎ Contains es f) }
 {}
 
-/// With an event taken out there are just the others.
+/// A list out of which an event is taken has just the others.
 pub fn one_is_taken()
     ensures others { (e : Event) (es : List Event) (f : Event) → Contains (without e es) f → Contains es f × (f ≡ e → ⊥) }
     ensures kept { (e : Event) (es : List Event) (f : Event) → Contains es f → Contains (without e es) f ⊎ (f ≡ e) }

@@ -1,4 +1,4 @@
-//! What an event may refuse.
+//! Which allowed events another one may refuse. `C` is the type of controls.
 
 ghost use Rattle.protocol.specs.Laws.{OfEveryRun};
 ghost use Rattle.protocol_ready.specs.Refusing.{KeepsOthers, RenewedAreEnabled};
@@ -16,8 +16,8 @@ pub fn out_of_reach_stay<C>()
     verdicts_have_evidence::<C>();
 }
 
-/// After every run: all allowed events, in order, are so after one more event when of those that it may refuse each that is
-/// refused is taken out, and each is put in that it has made allowed.
+/// After every run: the list of all allowed events, in order, is the list of all allowed events after one more event when each
+/// of those that it may refuse, and that is refused, is taken out, and each is put in that it has made allowed.
 pub fn renewed_are_enabled<C>()
     ensures { OfEveryRun (RenewedAreEnabled {C = C}) }
 {

@@ -57,7 +57,7 @@ Telling w s h = (a : ℕ) → AllTells (reads_who s.book.acts) (slice_index_or w
 
 -- ---- what a set of those that committed recovers
 
--- who is on the actor, ahead of one on it that is in the set, is in it
+-- a set is closed on the actor: who is on the actor, ahead of one on it that is in the set, is in it
 abbrev pub FrontIn : (Who → Bool) → (Who → Bool) → List Who → Type 0
 FrontIn P on [] = Unit {0}
 FrontIn P on (y ∷ ys) = (on y ≡ true → list_any (λ z. on z && P z) ys ≡ true → P y ≡ true) × FrontIn P on ys
@@ -70,7 +70,8 @@ last_one s (o ∷ os) = last_one o.state os
 abbrev pub writes : Done → Bool
 writes d = is_value d.result && not d.reader
 
--- Readers aside: for each set that is a front on the actor, the last of its records tells the state that its last one left.
+-- Readers aside: for each closed set of members, which has with each of them who is on the actor ahead of it, the last of its
+-- records tells the state that its last one left.
 abbrev pub RecoversAt : ℕ → State → List Who → List Done → List Ran → List One → Type 0
 RecoversAt a first kept committed long os =
     (P : Who → Bool) → FrontIn P (λ y. is_on y long) kept → last_one first (filter (λ o. P o.who && is_kept o.who kept) os) ≡ last_state a first (filter (λ d. P d.who && writes d) committed)

@@ -137,7 +137,7 @@ two_batches = text 1 1 (pos 0 ∷ []) (put 0 (pos 1) (0 ∷ []) ∷ put 0 (pos 2
 abbrev pub two_batches_formed : List Event
 two_batches_formed = Submit 0 ∷ Submit 1 ∷ Form 1 ∷ Form 2 ∷ []
 
--- the same with two coordinators, between which the token goes
+-- two batches on one actor, formed by two coordinators between which the token goes
 abbrev pub two_coordinators : Fixed Script
 two_coordinators = text 2 1 (pos 0 ∷ []) (put 0 (pos 1) (0 ∷ []) ∷ put 0 (pos 2) (0 ∷ []) ∷ [])
 

@@ -13,17 +13,17 @@ ghost use Rattle.protocol_runs.specs.Seeds.{SeedsPlay};
 ghost use Rattle.protocol_schedule.specs.Draw.{schedule_of};
 ghost use Rattle.protocol_runs.specs.Examples.{BatchesPlay, ActsPlay, CascadesPlay, RefusalsPlay};
 
-/// Declared transactions come out as they should.
+/// Worked runs of batches of declared transactions end in the outcomes that stand beside them.
 pub fn batches_play()
     ensures { BatchesPlay }
 {}
 
-/// Transactions under locks come out as they should.
+/// Worked runs of ACTs, which take locks as they go, end in the outcomes that stand beside them.
 pub fn acts_play()
     ensures { ActsPlay }
 {}
 
-/// Cascades come out as they should.
+/// Worked runs in which a failed batch takes others along end in the outcomes that stand beside them.
 pub fn cascades_play()
     ensures { CascadesPlay }
 {}

@@ -1,4 +1,4 @@
-//! The schedule of a seed, computed.
+//! The schedule of a seed, computed. `C` is the type of controls.
 
 ghost use Rattle.std.specs.Prelude.{ℕ};
 ghost use Rattle.protocol.specs.Fixed.{Fixed, IsText};

@@ -1,4 +1,4 @@
-//! The laws. `C` is the type of controls.
+//! What verdicts rest on and what they tell, over every run. `C` is the type of controls.
 
 ghost use Rattle.protocol.specs.Laws.{OfEveryRun};
 ghost use Rattle.protocol_verdicts.specs.Evidence.{VerdictsStand};
@@ -9,9 +9,9 @@ pub fn verdicts_have_evidence<C>()
     ensures { OfEveryRun (VerdictsStand {C = C}) }
 {}
 
-/// Who is told a place gives what it is told there in the serial run of what committed; who failed with its batch
-/// does so, behind the settled batches below it and the ACTs with a value below the number that it is told; and who
-/// was taken along is told who failed.
+/// Who is told a place gives what it is told there in the serial run of what committed; who is told that it failed with its
+/// batch fails so in a serial run behind the settled batches below it and the ACTs with a value below the number that it is
+/// told; and who was taken along is told who failed.
 pub fn verdicts_tell_of_serial_runs<C>()
     ensures { OfEveryRun (VerdictsTell {C = C}) }
 {}

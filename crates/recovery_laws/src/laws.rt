@@ -1,4 +1,4 @@
-//! The laws. `C` is the type of controls.
+//! What logs recover to that a crash left, over every run. `C` is the type of controls.
 
 ghost use Rattle.std.specs.Prelude.{List};
 ghost use Rattle.txn_records.specs.declared.records.Record.{Record};
@@ -19,9 +19,9 @@ use protocol_theorems::sizes_hold;
 use snap_recover::refused_is_not_recovered;
 
 /// At every moment of every run on logs that recover to the run's opening, whatever each log is left with, recovery refuses
-/// nothing. Of the opening that it gives the states are those that the members leave, the batches and the undeclared
-/// transactions are those of earlier runs and behind them the members, in the order of their places, each with the result
-/// that it has alone, and the next numbers are above all.
+/// nothing. The members are the transactions whose commit records are there. Of the opening that recovery gives the states are
+/// those that the members leave, the batches and the undeclared transactions are those of earlier runs and behind them the
+/// members, in the order of their places, each with the result that it has alone, and the next numbers are above all.
 pub fn logs_recover_to_the_members<C>()
     ensures { AtEveryMomentOnLogs (RecoversToMembers {C = C}) }
 {
@@ -47,8 +47,9 @@ pub fn logs_recover_behind_each_run<C>()
     logs_recover_to_the_members::<C>();
 }
 
-/// Of such runs, whatever the logs held before the first of them: recovery gives the members of each with their values, and
-/// these are their results alone, one after the other from the states with which the run began.
+/// Of runs one after the other, each cut off at any moment, whatever its logs are left with and whatever they held before the
+/// first run: recovery gives the members of each run, the transactions whose commit records are there, with their values; and
+/// these are the results that the members have alone, one after the other from the states with which the run began.
 pub fn values_are_results<C>()
     ensures { (earlier : List (List Record)) (o : Opening) (xs : List (CutRun C)) → IsRecovered earlier o → GoOnLogs earlier o xs → ValuesAreResults earlier o xs }
 {

@@ -211,7 +211,7 @@ aside_reads first now kept readers t os P last tells r = elim (cases_Bool (P t &
             same true f = f ∙ sym (elim (kept_end t o.who readers f) [ inl i ↦ i | inr i ↦ absurd (true≢false (sym i ∙ e)) ])
             same false f = f ∙ sym (false_from_ne_true (is_kept o.who readers) (λ q. true≢false (sym (more o.who q) ∙ f)))
 
--- ---- fronts
+-- ---- closed sets of members
 
 pub front_of : (sure P on : Who → Bool) (ys : List Who) → ((y : Who) → sure y ≡ true → P y ≡ true) → KeptSure sure on ys → FrontIn P on ys
 front_of sure P on [] k h = tt

@@ -87,7 +87,7 @@ pub filter_none : {X : Type 0} (p : X → Bool) (xs : List X) → AllByRecursion
 filter_none p [] h = refl
 filter_none p (x ∷ xs) h = rw h.0 (filter_none p xs h.1)
 
--- ---- fronts
+-- ---- closed sets of members
 
 pub front_part : (P on : Who → Bool) (xs : List Who) (y : Who) → FrontIn P on (xs ++ y ∷ []) → FrontIn P on xs
 front_part P on [] y h = tt
@@ -103,7 +103,7 @@ front_all P on (x ∷ xs) y z h o p k oz = elim (or_cases (is_who x z) (is_kept 
 pub kept_end : (y z : Who) (kept : List Who) → is_kept z (kept ++ y ∷ []) ≡ true → (is_kept z kept ≡ true) ⊎ (is_who y z ≡ true)
 kept_end y z kept h = elim (any_join (λ v. is_who v z) kept (y ∷ []) h) [ inl q ↦ inl q | inr q ↦ elim (or_cases (is_who y z) false q) [ inl v ↦ inr v | inr v ↦ absurd (true≢false (sym v)) ] ]
 
--- ---- the last record of a front that ends with this one
+-- ---- the last record of a closed set whose last member is this one
 
 -- behind the last record of one that commits there is none of one that committed before
 pub none_behind : (first : State) (y : Who) (st : State) (kept : List Who) (q : One → Bool) (long : List Ran) (os : List One) → is_kept y kept ≡ false → KeptFront kept long → is_on y long ≡ true → Tells first y st os long
