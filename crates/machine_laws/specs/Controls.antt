@@ -1,5 +1,5 @@
 -- What the controls under way are in the executor's words: a slice of each may run on the actor where it stands.
-use Rattle.std.specs.Prelude.{◌≡◌, ℕ, List, length}
+use Rattle.std.specs.Prelude.{◌≡◌, ℕ, List, length, ⊤}
 use Rattle.std.specs.List.{AllByRecursion}
 use Rattle.snap_base.specs.declared.transactions.State.{State}
 use Rattle.aml_tree.specs.Tree.{CheckedMethod}
@@ -17,7 +17,7 @@ MayRunOn p w a c = IsRest p (length w.text.opening.states) c × (c.top.actor ≡
 -- what goes on may run where it goes
 abbrev pub MayGoOn : List CheckedMethod → Fixed Rest → Next Rest → Type 0
 MayGoOn p w (Go a c) = MayRunOn p w a c
-MayGoOn p w (Ended r) = Unit {0}
+MayGoOn p w (Ended r) = ⊤
 
 pub record ControlsMayRun (p : List CheckedMethod) (w : Fixed Rest) (finish : Rest → List State → Alone) (s : Machine Rest) (h : History) : Type 0 where
   pub posted : AllByRecursion (λ m. MayRunOn p w m.to m.control) s.post.controls

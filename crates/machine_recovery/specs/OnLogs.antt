@@ -1,6 +1,6 @@
 -- A program's runs on logs that hold the records of earlier runs, and the shapes of laws over all of them. No premise on
 -- code is left: the code is the program's own.
-use Rattle.std.specs.Prelude.{◌≡◌, ℕ, ◌<◌, Some, List, [], ◌∷◌, length, map, Contains}
+use Rattle.std.specs.Prelude.{◌≡◌, ℕ, ◌<◌, Some, List, [], ◌∷◌, length, map, Contains, ⊤}
 use Rattle.std.specs.List.{flat_map}
 use Rattle.snap_base.specs.declared.transactions.State.{State}
 use Rattle.aml_tree.specs.Tree.{CheckedMethod}
@@ -66,7 +66,7 @@ pub record MayBeOf (ps : List (List CheckedMethod)) (x : CutRunOf) : Type 0 wher
 
 -- Each run goes on with what its logs recover to, on as many logs.
 abbrev pub GoOnLogsOf : List (List CheckedMethod) → List (List Record) → Opening → List CutRunOf → Type 0
-GoOnLogsOf ps earlier o [] = Unit {0}
+GoOnLogsOf ps earlier o [] = ⊤
 GoOnLogsOf ps earlier o (x ∷ xs) =
     (MayBeOf ps x × (length earlier ≡ x.text.logs) × BeginsWith x.text o)
     × GoOnLogsOf ps (grown earlier (logs_left (as_cut_run x))) (opening_after (with_code x.program x.text) o (reached (with_code x.program x.text) x.moment.events) (logs_left (as_cut_run x))) xs

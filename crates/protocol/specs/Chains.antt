@@ -1,6 +1,6 @@
 -- The order in which what committed was placed, the sets of transactions that this order closes, and the serial
 -- order of places.
-use Rattle.std.specs.Prelude.{◌≡◌, ℕ, ◌==◌, nat_lt, Bool, true, false, ◌&&◌, ◌||◌, if◌then◌else◌, is_some, Some, List, [], ◌∷◌, ◌++◌, map, filter}
+use Rattle.std.specs.Prelude.{◌≡◌, ℕ, ◌==◌, nat_lt, Bool, true, false, ◌&&◌, ◌||◌, if◌then◌else◌, is_some, Some, List, [], ◌∷◌, ◌++◌, map, filter, ⊤}
 use Rattle.std.specs.List.{AllByRecursion, flat_map}
 use Rattle.snap_base.specs.declared.transactions.State.{State}
 use Rattle.snap_base.specs.declared.transactions.Tx.{Tx}
@@ -67,17 +67,17 @@ by_place [] = []
 by_place (d ∷ ds) = put_by_place d (by_place ds)
 
 abbrev pub IsBelowAll : Place → List Done → Type 0
-IsBelowAll p [] = Unit {0}
+IsBelowAll p [] = ⊤
 IsBelowAll p (d ∷ ds) = (is_place_below p d.place ≡ true) × IsBelowAll p ds
 
 -- each place is below every one that follows it
 abbrev pub PlacesRise : List Done → Type 0
-PlacesRise [] = Unit {0}
+PlacesRise [] = ⊤
 PlacesRise (d ∷ ds) = IsBelowAll d.place ds × PlacesRise ds
 
 -- of each and one that follows it, but for two readers, the place is below
 abbrev pub RivalsRise : List Done → Type 0
-RivalsRise [] = Unit {0}
+RivalsRise [] = ⊤
 RivalsRise (d ∷ ds) = AllByRecursion (λ e. (d.reader && e.reader) ≡ false → is_place_below d.place e.place ≡ true) ds × RivalsRise ds
 
 -- ---- the serial run of what committed

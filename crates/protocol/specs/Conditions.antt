@@ -1,6 +1,6 @@
 -- When each event is allowed: its conditions, in the order of their numbers, from 1 on. A condition on
 -- something that does not exist is false.
-use Rattle.std.specs.Prelude.{◌≡◌, ℕ, ◌+◌, ◌%◌, ◌==◌, nat_lt, nat_le, max, Bool, true, not, ◌&&◌, ◌||◌, if◌then◌else◌, is_some, List, [], ◌∷◌, length, find, slice_get, slice_index_or}
+use Rattle.std.specs.Prelude.{◌≡◌, ℕ, ◌+◌, ◌%◌, ◌==◌, nat_lt, nat_le, max, Bool, true, not, ◌&&◌, ◌||◌, if◌then◌else◌, is_some, List, [], ◌∷◌, length, find, slice_get, slice_index_or, ⊤}
 use Rattle.std.specs.List.{list_all}
 use Rattle.protocol.specs.Fixed.{Fixed, base}
 use Rattle.protocol.specs.Records.{is_info, is_complete, is_commit, is_prepare, is_act_commit}
@@ -125,7 +125,7 @@ conditions w (Trim k a) s =
 -- ---- allowed, or the rule that refuses
 
 abbrev pub AllTrue : List Bool → Type 0
-AllTrue [] = Unit {0}
+AllTrue [] = ⊤
 AllTrue (b ∷ bs) = (b ≡ true) × AllTrue bs
 
 abbrev pub IsAllowed : {C : Type 0} → Fixed C → Event → Machine C → Type 0

@@ -1,5 +1,5 @@
 -- What a footprint promises: an event reads and changes its parts, and no others.
-use Rattle.std.specs.Prelude.{◌≡◌, ℕ, suc, ◌≤◌, false, List, [], ◌∷◌, length}
+use Rattle.std.specs.Prelude.{◌≡◌, ℕ, suc, ◌≤◌, false, List, [], ◌∷◌, length, ⊤}
 use Rattle.std.specs.List.{AllByRecursion}
 use Rattle.protocol.specs.Fixed.{Fixed}
 use Rattle.protocol.specs.Parts.{Machine}
@@ -10,7 +10,7 @@ use Rattle.protocol.specs.Effects.{after}
 
 -- the numbers ascend strictly, from this one on
 abbrev pub Ascends : ℕ → List ℕ → Type 0
-Ascends low [] = Unit {0}
+Ascends low [] = ⊤
 Ascends low (i ∷ is) = (low ≤ i) × Ascends (suc i) is
 
 -- two states have the same parts at these numbers

@@ -1,5 +1,5 @@
 -- The moments of a crash: how far the events are gone, and how far each log is.
-use Rattle.std.specs.Prelude.{◌≡◌, ℕ, ◌≤◌, Bool, true, false, ◌⊎◌, List, [], ◌∷◌, ◌++◌, length, take}
+use Rattle.std.specs.Prelude.{◌≡◌, ℕ, ◌≤◌, Bool, true, false, ◌⊎◌, List, [], ◌∷◌, ◌++◌, length, take, ⊤}
 use Rattle.protocol.specs.Fixed.{Fixed}
 use Rattle.protocol.specs.Records.{LogRecord}
 use Rattle.protocol.specs.Parts.{Machine}
@@ -10,7 +10,7 @@ use Rattle.protocol.specs.Runs.{reached}
 
 -- none of these events has the log in its footprint
 abbrev pub NoneTouches : ℕ → ℕ → List Event → Type 0
-NoneTouches logs l [] = Unit {0}
+NoneTouches logs l [] = ⊤
 NoneTouches logs l (e ∷ es) = (is_among (log l) (footprint logs e) ≡ false) × NoneTouches logs l es
 
 -- The append that is under way is that of the log's next Sync: until that event nothing touches the log, and

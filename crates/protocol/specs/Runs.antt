@@ -1,6 +1,6 @@
 -- A run: a list of events from the opening, each allowed in the state that the ones before it leave. Any
 -- message that lies in the post may be taken next, so every delay and every order of messages is some run.
-use Rattle.std.specs.Prelude.{ℕ, false, List, [], ◌∷◌, length, map, replicate}
+use Rattle.std.specs.Prelude.{ℕ, false, List, [], ◌∷◌, length, map, replicate, ⊤}
 use Rattle.snap_base.specs.declared.transactions.State.{State}
 use Rattle.protocol.specs.Fixed.{Fixed, base}
 use Rattle.protocol.specs.Parts.{Ring, Book, Desk, Cell, Machine}
@@ -49,7 +49,7 @@ state_after w [] s = s
 state_after w (e ∷ es) s = state_after w es (after w e s)
 
 abbrev pub EachAllowed : {C : Type 0} → Fixed C → List Event → Machine C → Type 0
-EachAllowed w [] s = Unit {0}
+EachAllowed w [] s = ⊤
 EachAllowed w (e ∷ es) s = IsAllowed w e s × EachAllowed w es (after w e s)
 
 abbrev pub IsRun : {C : Type 0} → Fixed C → List Event → Type 0

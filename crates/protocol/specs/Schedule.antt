@@ -1,5 +1,5 @@
 -- The schedule of a host with one thread: which of the allowed events it takes.
-use Rattle.std.specs.Prelude.{◌≡◌, ℕ, ◌+◌, ◌%◌, ◌==◌, nat_lt, Bool, true, ◌&&◌, ◌||◌, Some, List, [], ◌∷◌, length, slice_get, ◌↔◌, Contains}
+use Rattle.std.specs.Prelude.{◌≡◌, ℕ, ◌+◌, ◌%◌, ◌==◌, nat_lt, Bool, true, ◌&&◌, ◌||◌, Some, List, [], ◌∷◌, length, slice_get, ◌↔◌, Contains, ⊤}
 use Rattle.protocol.specs.Fixed.{Fixed}
 use Rattle.protocol.specs.Parts.{Machine}
 use Rattle.protocol.specs.Events.{Event, Submit, Pass, Form, Admit, Arrive, Ask, Take, Run, Send, End, Close, Complete, Sync, Note, Commit, Settle, Abort, Rollback, DropSub, DropControl, Prepare, Vouch, Decide, Seal, Finish, Reply, Trim}
@@ -50,11 +50,11 @@ abbrev pub is_rank_below : Rank → Rank → Bool
 is_rank_below x y = nat_lt x.kind y.kind || ((x.kind == y.kind) && (nat_lt x.first y.first || ((x.first == y.first) && nat_lt x.second y.second)))
 
 abbrev pub IsBelowEach : Rank → List Event → Type 0
-IsBelowEach r [] = Unit {0}
+IsBelowEach r [] = ⊤
 IsBelowEach r (e ∷ es) = (is_rank_below r (rank e) ≡ true) × IsBelowEach r es
 
 abbrev pub Ascends : List Event → Type 0
-Ascends [] = Unit {0}
+Ascends [] = ⊤
 Ascends (e ∷ es) = IsBelowEach (rank e) es × Ascends es
 
 -- all allowed events, in order
@@ -77,7 +77,7 @@ pick (Drawn words) step many = words step % many
 
 -- The events are those that the schedule takes, from this step on.
 abbrev pub Follows : {C : Type 0} → Fixed C → Draw → ℕ → List Event → Machine C → Type 0
-Follows w draw step [] s = Unit {0}
+Follows w draw step [] s = ⊤
 Follows w draw step (e ∷ es) s =
     ((all : List Event) × IsEnabled w s all × (slice_get all (pick draw step (length all)) ≡ Some e)) × Follows w draw (step + 1) es (after w e s)
 

@@ -1,5 +1,5 @@
 -- Batches settle in the order of their numbers, and cascades take the rest along.
-use Rattle.std.specs.Prelude.{◌≡◌, ℕ, ◌+◌, ◌<◌, ◌≤◌, max, true, ◌||◌, List, [], ◌∷◌, map, filter}
+use Rattle.std.specs.Prelude.{◌≡◌, ℕ, ◌+◌, ◌<◌, ◌≤◌, max, true, ◌||◌, List, [], ◌∷◌, map, filter, ⊤}
 use Rattle.std.specs.List.{AllByRecursion}
 use Rattle.protocol.specs.Fixed.{Fixed, base}
 use Rattle.protocol.specs.Parts.{Cascade, Batch, Machine}
@@ -11,7 +11,7 @@ AllOverBelow k batches = AllByRecursion (λ b. b.bid < k → (b.aborted || is_se
 
 -- from a number on, each cascade begins above the one before it ended
 abbrev pub CascadesAscend : ℕ → List Cascade → Type 0
-CascadesAscend low [] = Unit {0}
+CascadesAscend low [] = ⊤
 CascadesAscend low (c ∷ cs) = (low ≤ c.first) × (c.first ≤ c.upto) × CascadesAscend (c.upto + 1) cs
 
 pub record BatchesSettleInOrder {C : Type 0} (w : Fixed C) (s : Machine C) : Type 0 where

@@ -1,6 +1,6 @@
 -- Only proofs cite this; the rule is `NumbersStand` (Sets).
 -- The last batch of an actor, and before numbers along its long schedule.
-use Rattle.std.specs.Prelude.{◌≡◌, ℕ, nat_le, max, Bool, true, ◌||◌, ◌≤◌, List, [], ◌∷◌, ◌++◌}
+use Rattle.std.specs.Prelude.{◌≡◌, ℕ, nat_le, max, Bool, true, ◌||◌, ◌≤◌, List, [], ◌∷◌, ◌++◌, ⊤}
 use Rattle.std.specs.List.{AllByRecursion}
 use Rattle.protocol.specs.Parts.{Act, OfBatch, OfAct}
 use Rattle.protocol.specs.Words.{holds, is_doomed, act_of}
@@ -22,7 +22,7 @@ is_above top x = is_doomed x.status || nat_le top x.m
 
 -- An ACT that stands behind batches has a before number at least as great, or is doomed.
 abbrev pub Befores : List Act → ℕ → List Ran → Type 0
-Befores acts top [] = Unit {0}
+Befores acts top [] = ⊤
 Befores acts top (Stands (OfBatch k) c ss ∷ rs) = Befores acts (max top k) rs
 Befores acts top (Stands (OfAct t) c ss ∷ rs) = (holds (is_above top) (act_of t acts) ≡ true) × Befores acts top rs
 Befores acts top (Gone (OfBatch k) ss ∷ rs) = Befores acts (max top k) rs

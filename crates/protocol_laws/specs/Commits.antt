@@ -1,5 +1,5 @@
 -- What committed along an actor's long schedule, and how its states link.
-use Rattle.std.specs.Prelude.{◌≡◌, ℕ, Bool, true, false, ◌||◌, if◌then◌else◌, Option, Some, None, List, [], ◌∷◌, ◌++◌}
+use Rattle.std.specs.Prelude.{◌≡◌, ℕ, Bool, true, false, ◌||◌, if◌then◌else◌, Option, Some, None, List, [], ◌∷◌, ◌++◌, ⊤}
 use Rattle.std.specs.List.{list_any}
 use Rattle.snap_base.specs.declared.transactions.State.{State}
 use Rattle.protocol.specs.Parts.{Act, Who, OfBatch, OfAct}
@@ -10,7 +10,7 @@ use Rattle.protocol_laws.specs.Tracks.{keys_in, is_key_among, Linked}
 -- ---- the states of what committed, at one actor
 
 abbrev pub Finds : Option View → State → Type 0
-Finds None s = Unit {0}
+Finds None s = ⊤
 Finds (Some v) s = v.found ≡ s
 
 abbrev pub left_by : Option View → State → State
@@ -27,7 +27,7 @@ left_of a d s = left_as (is_value d.result) (d.views a) s
 
 -- each found what the last one with a value before it left
 abbrev pub StatesLink : ℕ → State → List Done → Type 0
-StatesLink a s [] = Unit {0}
+StatesLink a s [] = ⊤
 StatesLink a s (d ∷ ds) = Finds (d.views a) s × StatesLink a (left_of a d s) ds
 
 abbrev pub last_state : ℕ → State → List Done → State
@@ -46,7 +46,7 @@ has_kept kept (Gone y ss ∷ rs) = true
 
 -- ahead of what committed all committed; what left for good did
 abbrev pub KeptFront : List Who → List Ran → Type 0
-KeptFront kept [] = Unit {0}
+KeptFront kept [] = ⊤
 KeptFront kept (Stands y c ss ∷ rs) = (has_kept kept rs ≡ true → is_kept y kept ≡ true) × KeptFront kept rs
 KeptFront kept (Gone y ss ∷ rs) = (is_kept y kept ≡ true) × KeptFront kept rs
 
@@ -57,7 +57,7 @@ kept_slices kept (Gone y ss ∷ rs) = ss ++ kept_slices kept rs
 
 -- all ahead of one that stands there committed
 abbrev pub KeptAhead : List Who → Who → List Ran → Type 0
-KeptAhead kept who [] = Unit {0}
+KeptAhead kept who [] = ⊤
 KeptAhead kept who (Stands y c ss ∷ rs) = (is_key_among who (keys_in rs) ≡ true → is_kept y kept ≡ true) × KeptAhead kept who rs
 KeptAhead kept who (Gone y ss ∷ rs) = KeptAhead kept who rs
 
@@ -68,7 +68,7 @@ reads_who acts (OfAct t) = is_reader_act (act_of t acts)
 
 -- each that stands ahead of it has committed, or only reads
 abbrev pub KeptOrReads : List Who → List Act → Who → List Ran → Type 0
-KeptOrReads kept acts who [] = Unit {0}
+KeptOrReads kept acts who [] = ⊤
 KeptOrReads kept acts who (Stands y c ss ∷ rs) = (is_key_among who (keys_in rs) ≡ true → (is_kept y kept || reads_who acts y) ≡ true) × KeptOrReads kept acts who rs
 KeptOrReads kept acts who (Gone y ss ∷ rs) = KeptOrReads kept acts who rs
 

@@ -1,6 +1,6 @@
 -- Only proofs cite this; the rule is `AnsweredWhenQuiet` (Quiet).
 -- Sub-batches under way and on schedules are of the desk's batches, and a batch is complete only behind complete ones.
-use Rattle.std.specs.Prelude.{◌≡◌, ℕ, Bool, true, is_some, List, [], ◌∷◌}
+use Rattle.std.specs.Prelude.{◌≡◌, ℕ, Bool, true, is_some, List, [], ◌∷◌, ⊤}
 use Rattle.std.specs.List.{AllByRecursion, list_any}
 use Rattle.protocol.specs.Parts.{Batch, SubBatch, Entry, BatchEntry, ActEntry, Machine}
 use Rattle.protocol.specs.Words.{holds, batch_of, declared_of, names_pact}
@@ -19,11 +19,11 @@ pub record MessageOf (bs : List Batch) (m : SubBatch) : Type 0 where
 
 abbrev pub EntryOf : ℕ → List Batch → Entry → Type 0
 EntryOf a bs (BatchEntry b) = (is_declared b.bid a bs ≡ true) × AllByRecursion (λ s. is_pact_of s.tid b.bid bs ≡ true) b.slots
-EntryOf a bs (ActEntry x) = Unit {0}
+EntryOf a bs (ActEntry x) = ⊤
 
 -- behind one that is not complete none is
 abbrev pub CompleteInOrder : List Entry → Type 0
-CompleteInOrder [] = Unit {0}
+CompleteInOrder [] = ⊤
 CompleteInOrder (e ∷ es) = (list_any complete_mark es ≡ true → complete_mark e ≡ true) × CompleteInOrder es
 
 pub record FromDesk {C : Type 0} (s : Machine C) : Type 0 where

@@ -1,6 +1,6 @@
 -- Only proofs cite this; the rule is `NumbersStand` (Sets).
 -- Before numbers along an actor's long schedule, beside the places of what committed there.
-use Rattle.std.specs.Prelude.{◌≡◌, ℕ, ◌≤◌, ◌==◌, nat_le, Bool, true, false, not, ◌&&◌, ◌||◌, ◌⊎◌, List, [], ◌∷◌}
+use Rattle.std.specs.Prelude.{◌≡◌, ℕ, ◌≤◌, ◌==◌, nat_le, Bool, true, false, not, ◌&&◌, ◌||◌, ◌⊎◌, List, [], ◌∷◌, ⊤}
 use Rattle.std.specs.List.{AllByRecursion, list_any}
 use Rattle.protocol.specs.Parts.{Act, Pair, Cascade, Who, OfBatch, OfAct, FloorPair}
 use Rattle.protocol.specs.Words.{holds, is_among, is_aborted, is_doomed, is_live_status, act_of}
@@ -19,7 +19,7 @@ is_over r high x = is_free r x || nat_le high x.m
 
 -- each live ACT that stands there has a before number at least this
 abbrev pub AllOver : Bool → List Act → ℕ → List Ran → Type 0
-AllOver r acts high [] = Unit {0}
+AllOver r acts high [] = ⊤
 AllOver r acts high (Stands (OfBatch k) c ss ∷ rs) = AllOver r acts high rs
 AllOver r acts high (Stands (OfAct t) c ss ∷ rs) = (holds (is_over r high) (act_of t acts) ≡ true) × AllOver r acts high rs
 AllOver r acts high (Gone y ss ∷ rs) = AllOver r acts high rs
@@ -48,14 +48,14 @@ is_paired a ps acts u t = both_read acts u t || (doomed_at acts u || (doomed_at 
 
 -- all ACTs up to the next batch are paired with u
 abbrev pub Paired : ℕ → List Pair → List Act → ℕ → List Ran → Type 0
-Paired a ps acts u [] = Unit {0}
-Paired a ps acts u (Stands (OfBatch k) c ss ∷ rs) = Unit {0}
+Paired a ps acts u [] = ⊤
+Paired a ps acts u (Stands (OfBatch k) c ss ∷ rs) = ⊤
 Paired a ps acts u (Stands (OfAct t) c ss ∷ rs) = (is_paired a ps acts u t ≡ true) × Paired a ps acts u rs
-Paired a ps acts u (Gone (OfBatch k) ss ∷ rs) = Unit {0}
+Paired a ps acts u (Gone (OfBatch k) ss ∷ rs) = ⊤
 Paired a ps acts u (Gone (OfAct t) ss ∷ rs) = Paired a ps acts u rs
 
 abbrev pub Grouped : ℕ → List Pair → List Act → List Ran → Type 0
-Grouped a ps acts [] = Unit {0}
+Grouped a ps acts [] = ⊤
 Grouped a ps acts (Stands (OfBatch k) c ss ∷ rs) = Grouped a ps acts rs
 Grouped a ps acts (Stands (OfAct u) c ss ∷ rs) = Paired a ps acts u rs × Grouped a ps acts rs
 Grouped a ps acts (Gone y ss ∷ rs) = Grouped a ps acts rs
@@ -63,13 +63,13 @@ Grouped a ps acts (Gone y ss ∷ rs) = Grouped a ps acts rs
 -- ---- behind an aborted batch all ACTs are doomed
 
 abbrev pub AllDoomed : List Act → List Ran → Type 0
-AllDoomed acts [] = Unit {0}
+AllDoomed acts [] = ⊤
 AllDoomed acts (Stands (OfBatch k) c ss ∷ rs) = AllDoomed acts rs
 AllDoomed acts (Stands (OfAct t) c ss ∷ rs) = (doomed_at acts t ≡ true) × AllDoomed acts rs
 AllDoomed acts (Gone y ss ∷ rs) = AllDoomed acts rs
 
 abbrev pub TakenAlong : List Cascade → List Act → List Ran → Type 0
-TakenAlong cs acts [] = Unit {0}
+TakenAlong cs acts [] = ⊤
 TakenAlong cs acts (Stands y c ss ∷ rs) = (is_cut cs y ≡ true → AllDoomed acts rs) × TakenAlong cs acts rs
 TakenAlong cs acts (Gone y ss ∷ rs) = TakenAlong cs acts rs
 

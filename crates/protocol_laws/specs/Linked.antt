@@ -1,7 +1,7 @@
 -- Only proofs cite this; the rule is `OrderHolds` (Order).
 -- Committed transactions that link: who came to an actor, worlds that agree with what a transaction found, and what
 -- explains it.
-use Rattle.std.specs.Prelude.{◌≡◌, ℕ, ◌<◌, ◌⊎◌, true, Some, is_some, Option, Bool, List, [], ◌∷◌, length, filter}
+use Rattle.std.specs.Prelude.{◌≡◌, ℕ, ◌<◌, ◌⊎◌, true, Some, is_some, Option, Bool, List, [], ◌∷◌, length, filter, ⊤}
 use Rattle.std.specs.List.{AllByRecursion}
 use Rattle.snap_base.specs.declared.transactions.State.{State}
 use Rattle.protocol.specs.Fixed.{Fixed, tx_at}
@@ -38,5 +38,5 @@ IsExplained w finish d = (world : List State) → length world ≡ length w.text
 
 -- of every two, one place is below the other one
 abbrev pub PlacesDiffer : List Done → Type 0
-PlacesDiffer [] = Unit {0}
+PlacesDiffer [] = ⊤
 PlacesDiffer (d ∷ ds) = AllByRecursion (λ e. (is_place_below d.place e.place ≡ true) ⊎ (is_place_below e.place d.place ≡ true)) ds × PlacesDiffer ds

@@ -1,5 +1,5 @@
 -- What no event takes back: records, cascades, dooms and places in the order, numbers, floors, and what committed.
-use Rattle.std.specs.Prelude.{◌≡◌, ℕ, ◌==◌, ◌&&◌, ◌≤◌, Bool, true, ◌⊎◌, Some, List, [], ◌∷◌, ◌++◌, map, find}
+use Rattle.std.specs.Prelude.{◌≡◌, ℕ, ◌==◌, ◌&&◌, ◌≤◌, Bool, true, ◌⊎◌, Some, List, [], ◌∷◌, ◌++◌, map, find, ⊤}
 use Rattle.protocol.specs.Records.{LogRecord}
 use Rattle.protocol.specs.Parts.{Joined, Status, Live, Doomed, Decided, Sealed, Act, Cascade, Log, Cell, Machine}
 use Rattle.protocol.specs.Words.{covers, holds, act_of, is_ordered, is_durable}
@@ -20,7 +20,7 @@ pub record IsFront {X : Type 0} (xs ys : List X) : Type 0 where
 
 -- Each element of the first list has become the one at its place in the second, which may go on behind it.
 abbrev pub EachBecame : {X : Type 0} → (X → X → Type 0) → List X → List X → Type 0
-EachBecame R [] ys = Unit {0}
+EachBecame R [] ys = ⊤
 EachBecame R (x ∷ xs) [] = ⊥
 EachBecame R (x ∷ xs) (y ∷ ys) = R x y × EachBecame R xs ys
 
@@ -37,7 +37,7 @@ pub record LogGrew (g h : Log) : Type 0 where
 -- Who is live may become anything. A doom stays, with its reason; who is decided keeps the number, and becomes
 -- sealed; who is sealed stays so.
 abbrev pub StatusWent : Status → Status → Type 0
-StatusWent Live st = Unit {0}
+StatusWent Live st = ⊤
 StatusWent (Doomed v) st = st ≡ Doomed v
 StatusWent (Decided c) st = (st ≡ Decided c) ⊎ (st ≡ Sealed c)
 StatusWent (Sealed c) st = st ≡ Sealed c

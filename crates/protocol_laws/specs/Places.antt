@@ -1,6 +1,6 @@
 -- Proofs cite this, and `OnActors` its `Ascends`; the rule is `OrderHolds` (Order).
 -- Batches along an actor's long schedule.
-use Rattle.std.specs.Prelude.{◌≡◌, ℕ, ◌<◌, ◌≤◌, Bool, true, false, ◌||◌, List, [], ◌∷◌, length}
+use Rattle.std.specs.Prelude.{◌≡◌, ℕ, ◌<◌, ◌≤◌, Bool, true, false, ◌||◌, List, [], ◌∷◌, length, ⊤}
 use Rattle.std.specs.List.{AllByRecursion}
 use Rattle.protocol.specs.Parts.{Cascade, Who, OfBatch, OfAct}
 use Rattle.protocol.specs.Words.{is_aborted, epoch_of, is_who}
@@ -9,7 +9,7 @@ use Rattle.protocol_laws.specs.Tracks.{keys_in, is_key_among}
 
 -- each is below all that follow
 abbrev pub Ascends : List ℕ → Type 0
-Ascends [] = Unit {0}
+Ascends [] = ⊤
 Ascends (k ∷ ks) = AllByRecursion (λ j. k < j) ks × Ascends ks
 
 abbrev pub has_gone : List Ran → Bool
@@ -20,17 +20,17 @@ has_gone (Gone y ss ∷ rs) = true
 -- a batch that no cascade will take: it is not above the last settled one, and none has taken it
 abbrev pub IsFirm : ℕ → List Cascade → Who → Type 0
 IsFirm settled cs (OfBatch k) = (k ≤ settled) × (is_aborted k cs ≡ false)
-IsFirm settled cs (OfAct t) = Unit {0}
+IsFirm settled cs (OfAct t) = ⊤
 
 -- what left for good, and all batches ahead of it, are firm
 abbrev pub FirmUpToGone : ℕ → List Cascade → List Ran → Type 0
-FirmUpToGone settled cs [] = Unit {0}
+FirmUpToGone settled cs [] = ⊤
 FirmUpToGone settled cs (Stands y c ss ∷ rs) = (has_gone rs ≡ true → IsFirm settled cs y) × FirmUpToGone settled cs rs
 FirmUpToGone settled cs (Gone y ss ∷ rs) = IsFirm settled cs y × FirmUpToGone settled cs rs
 
 -- all batches up to one that stands there are firm
 abbrev pub FirmUpTo : ℕ → List Cascade → Who → List Ran → Type 0
-FirmUpTo settled cs who [] = Unit {0}
+FirmUpTo settled cs who [] = ⊤
 FirmUpTo settled cs who (Stands y c ss ∷ rs) = ((is_who y who || is_key_among who (keys_in rs)) ≡ true → IsFirm settled cs y) × FirmUpTo settled cs who rs
 FirmUpTo settled cs who (Gone y ss ∷ rs) = FirmUpTo settled cs who rs
 

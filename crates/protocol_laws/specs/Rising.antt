@@ -1,5 +1,5 @@
 -- Places of what committed: they differ, and on each actor they rise in the order of commits.
-use Rattle.std.specs.Prelude.{◌≡◌, ℕ, ◌<◌, true, false, not, Bool, ◌⊎◌, is_some, List, [], ◌∷◌, map, filter}
+use Rattle.std.specs.Prelude.{◌≡◌, ℕ, ◌<◌, true, false, not, Bool, ◌⊎◌, is_some, List, [], ◌∷◌, map, filter, ⊤}
 use Rattle.std.specs.List.{AllByRecursion}
 use Rattle.protocol.specs.Parts.{Batch}
 use Rattle.protocol.specs.Words.{greatest, is_open}
@@ -28,7 +28,7 @@ highest r a ds = greatest (map number_of (filter (is_as r) (visitors a ds)))
 
 -- of every two, one place is below the other one
 abbrev pub PlacesDiffer : List Done → Type 0
-PlacesDiffer [] = Unit {0}
+PlacesDiffer [] = ⊤
 PlacesDiffer (d ∷ ds) = AllByRecursion (λ e. (is_place_below d.place e.place ≡ true) ⊎ (is_place_below e.place d.place ≡ true)) ds × PlacesDiffer ds
 
 -- every batch that may still commit is above the number

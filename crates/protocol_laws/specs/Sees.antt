@@ -1,5 +1,5 @@
 -- What ACTs that only read have seen on an actor, beside who stands there. The slices are those of readers there, in order.
-use Rattle.std.specs.Prelude.{◌≡◌, not, Bool, true, false, List, [], ◌∷◌}
+use Rattle.std.specs.Prelude.{◌≡◌, not, Bool, true, false, List, [], ◌∷◌, ⊤}
 use Rattle.std.specs.List.{AllByRecursion}
 use Rattle.snap_base.specs.declared.transactions.State.{State}
 use Rattle.protocol.specs.Parts.{Entry, BatchEntry, ActEntry}
@@ -12,14 +12,14 @@ blocks (BatchEntry b) = not b.complete
 blocks (ActEntry x) = not x.reader
 
 abbrev pub HasNotRead : List Slice → Entry → Type 0
-HasNotRead reads (BatchEntry b) = Unit {0}
+HasNotRead reads (BatchEntry b) = ⊤
 HasNotRead reads (ActEntry x) = x.reader ≡ true → has_read reads x.tid ≡ false
 
 -- each slice of a reader that stands here found this state, and left it so
 abbrev pub Seen : State → List Slice → Entry → Type 0
-Seen now reads (BatchEntry b) = Unit {0}
+Seen now reads (BatchEntry b) = ⊤
 Seen now reads (ActEntry x) = x.reader ≡ true → AllByRecursion (λ z. z.tid ≡ x.tid → (z.found ≡ now) × (z.left ≡ now)) reads
 
 abbrev pub SeesAt : State → List Slice → List Entry → Type 0
-SeesAt now reads [] = Unit {0}
+SeesAt now reads [] = ⊤
 SeesAt now reads (e ∷ es) = Seen now reads e × (blocks e ≡ true → AllByRecursion (HasNotRead reads) es) × SeesAt now reads es

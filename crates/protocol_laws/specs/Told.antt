@@ -1,5 +1,5 @@
 -- What committed, beside the batches and the ACTs: each of them has its place exactly where it is among those that committed.
-use Rattle.std.specs.Prelude.{◌≡◌, ℕ, ◌+◌, ◌≤◌, ◌==◌, Bool, true, false, ◌⊎◌, Option, Some, is_some, List, [], ◌∷◌, ◌++◌}
+use Rattle.std.specs.Prelude.{◌≡◌, ℕ, ◌+◌, ◌≤◌, ◌==◌, Bool, true, false, ◌⊎◌, Option, Some, is_some, List, [], ◌∷◌, ◌++◌, ⊤}
 use Rattle.std.specs.List.{AllByRecursion}
 use Rattle.snap_base.specs.declared.transactions.TxResult.{TxResult}
 use Rattle.snap_base.specs.declared.verdicts.Place.{Place}
@@ -93,7 +93,7 @@ FromBatches bs kept ds = AllByRecursion (λ d. (k : ℕ) → d.who ≡ OfBatch k
 -- ---- what is known of them
 
 abbrev pub PactsAscend : ℕ → List Pact → Type 0
-PactsAscend low [] = Unit {0}
+PactsAscend low [] = ⊤
 PactsAscend low (p ∷ ps) = (low ≤ p.tid) × PactsAscend (p.tid + 1) ps
 
 -- what committed of a batch has a value

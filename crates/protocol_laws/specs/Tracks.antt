@@ -1,6 +1,6 @@
 -- Proofs cite this, and `Undo` its `slices_in`; the rule is `OrderHolds` (Order).
 -- The long schedule of an actor: its schedule as if nothing that stays had ever left it.
-use Rattle.std.specs.Prelude.{◌≡◌, ℕ, ◌==◌, Bool, true, false, ◌||◌, List, [], ◌∷◌, ◌++◌}
+use Rattle.std.specs.Prelude.{◌≡◌, ℕ, ◌==◌, Bool, true, false, ◌||◌, List, [], ◌∷◌, ◌++◌, ⊤}
 use Rattle.std.specs.List.{list_any}
 use Rattle.snap_base.specs.declared.transactions.State.{State}
 use Rattle.protocol.specs.Parts.{Cascade, Who, Entry, Image}
@@ -29,7 +29,7 @@ is_key_among who (k ∷ ks) = is_who k.who who || is_key_among who ks
 
 -- nobody stands there twice
 abbrev pub Differ : List Key → Type 0
-Differ [] = Unit {0}
+Differ [] = ⊤
 Differ (k ∷ ks) = (is_key_among k.who ks ≡ false) × Differ ks
 
 -- ---- what ran
@@ -56,7 +56,7 @@ Linked first (x ∷ xs) last = (x.found ≡ first) × Linked x.left xs last
 
 -- behind one that stands and is no complete batch nothing ran
 abbrev pub InOrder : List Ran → Type 0
-InOrder [] = Unit {0}
+InOrder [] = ⊤
 InOrder (Stands y c ss ∷ rs) = (c ≡ false → slices_in rs ≡ []) × InOrder rs
 InOrder (Gone y ss ∷ rs) = InOrder rs
 
@@ -66,7 +66,7 @@ has_read reads t = list_any (λ x. x.tid == t) reads
 
 -- where this one stands it has no slices
 abbrev pub Bare : Who → List Ran → Type 0
-Bare who [] = Unit {0}
+Bare who [] = ⊤
 Bare who (Stands y c ss ∷ rs) = (is_who y who ≡ true → ss ≡ []) × Bare who rs
 Bare who (Gone y ss ∷ rs) = Bare who rs
 
@@ -84,12 +84,12 @@ pub record Tracks (first : State) (keys : List Key) (images : List Image) (now :
 -- ---- where a rollback cuts
 
 abbrev pub NoneGone : List Ran → Type 0
-NoneGone [] = Unit {0}
+NoneGone [] = ⊤
 NoneGone (Stands y c ss ∷ rs) = NoneGone rs
 NoneGone (Gone y ss ∷ rs) = ⊥
 
 -- nothing behind an aborted batch has left for good
 abbrev pub CutIsEnd : List Cascade → List Ran → Type 0
-CutIsEnd cascades [] = Unit {0}
+CutIsEnd cascades [] = ⊤
 CutIsEnd cascades (Stands y c ss ∷ rs) = (is_cut cascades y ≡ true → NoneGone rs) × CutIsEnd cascades rs
 CutIsEnd cascades (Gone y ss ∷ rs) = CutIsEnd cascades rs

@@ -1,6 +1,6 @@
 -- Only proofs cite this; the rule is `OrderHolds` (Order).
 -- The slices of a transaction so far explain it, in every world in which they run.
-use Rattle.std.specs.Prelude.{◌≡◌, ℕ, ◌<◌, ◌==◌, if◌then◌else◌, List, [], ◌∷◌, length, slice_set}
+use Rattle.std.specs.Prelude.{◌≡◌, ℕ, ◌<◌, ◌==◌, if◌then◌else◌, List, [], ◌∷◌, length, slice_set, ⊤}
 use Rattle.snap_base.specs.declared.transactions.State.{State}
 use Rattle.snap_base.specs.declared.transactions.Tx.{Tx}
 use Rattle.protocol.specs.Fixed.{Fixed, Next, Go, Ended, tx_at}
@@ -9,7 +9,7 @@ use Rattle.protocol.specs.History.{Step, Trail, Slice}
 
 -- in this world each step finds what it found
 abbrev pub Walks : List Step → List State → Type 0
-Walks [] world = Unit {0}
+Walks [] world = ⊤
 Walks (x ∷ xs) world = (state_in world x.actor ≡ x.found) × Walks xs (slice_set world x.actor x.left)
 
 abbrev pub walked : List Step → List State → List State
@@ -19,7 +19,7 @@ walked (x ∷ xs) world = walked xs (slice_set world x.actor x.left)
 -- a rest of this transaction, that stands where it goes
 abbrev pub IsOf : {C : Type 0} → Fixed C → (Tx → C → Type 0) → Tx → Next C → Type 0
 IsOf w Of tx (Go b c) = Of tx c × (w.code.at c ≡ b) × (b < length w.text.opening.states)
-IsOf w Of tx (Ended r) = Unit {0}
+IsOf w Of tx (Ended r) = ⊤
 
 pub record Explained {C : Type 0} (w : Fixed C) (Of : Tx → C → Type 0) (finish : C → List State → Alone) (trail : Trail) (t : ℕ) (n : Next C) : Type 0 where
   pub of_it : IsOf w Of (tx_at w.text trail.tx) n

@@ -1,6 +1,6 @@
 -- Only proofs cite this; the rule is `OrderHolds` (Order).
 -- In which order a batch's PACTs run on an actor.
-use Rattle.std.specs.Prelude.{◌≡◌, ℕ, ◌<◌, ◌≤◌, ◌==◌, true, false, List, [], ◌∷◌}
+use Rattle.std.specs.Prelude.{◌≡◌, ℕ, ◌<◌, ◌≤◌, ◌==◌, true, false, List, [], ◌∷◌, ⊤}
 use Rattle.std.specs.List.{AllByRecursion, list_any}
 use Rattle.protocol.specs.Parts.{Slot, Entry, BatchEntry, ActEntry}
 use Rattle.protocol.specs.Words.{who_of}
@@ -8,7 +8,7 @@ use Rattle.protocol.specs.History.{Slice, Ran, Stands, Gone}
 
 -- tids never fall, from one on
 abbrev pub Rising : ℕ → List Slice → Type 0
-Rising low [] = Unit {0}
+Rising low [] = ⊤
 Rising low (x ∷ xs) = (low ≤ x.tid) × Rising x.tid xs
 
 -- the PACT is of the sub-batch, and all smaller ones are done there
@@ -21,7 +21,7 @@ TurnOf (ActEntry x) ss = AllByRecursion (λ z. z.tid ≡ x.tid) ss × (x.reader 
 
 -- who stands in the long schedule has an entry in the schedule, in the same order
 abbrev pub Turns : List Ran → List Entry → Type 0
-Turns [] [] = Unit {0}
+Turns [] [] = ⊤
 Turns [] (e ∷ es) = ⊥
 Turns (Gone y ss ∷ rs) es = Turns rs es
 Turns (Stands y c ss ∷ rs) [] = ⊥
@@ -30,4 +30,4 @@ Turns (Stands y c ss ∷ rs) (e ∷ es) = (who_of e ≡ y) × TurnOf e ss × Tur
 -- the transaction is not done in its entry
 abbrev pub NotDone : ℕ → Entry → Type 0
 NotDone t (BatchEntry b) = AllByRecursion (λ s. s.tid ≡ t → s.done ≡ false) b.slots
-NotDone t (ActEntry x) = Unit {0}
+NotDone t (ActEntry x) = ⊤

@@ -1,5 +1,5 @@
 -- What logs that a crash left recover to, over the records of one run, and what every moment owes.
-use Rattle.std.specs.Prelude.{◌≡◌, ℕ, ℤ, ◌<◌, ◌%◌, ◌==◌, Bool, true, false, ◌&&◌, Some, List, [], ◌∷◌, ◌++◌, length, filter, ◌||◌, is_some}
+use Rattle.std.specs.Prelude.{◌≡◌, ℕ, ℤ, ◌<◌, ◌%◌, ◌==◌, Bool, true, false, ◌&&◌, Some, List, [], ◌∷◌, ◌++◌, length, filter, ◌||◌, is_some, ⊤}
 use Rattle.std.specs.List.{AllByRecursion, list_any, flat_map}
 use Rattle.snap_base.specs.declared.transactions.State.{State}
 use Rattle.snap_base.specs.declared.transactions.TxResult.TheVariants.{Value}
@@ -136,6 +136,6 @@ AtEveryMoment {C} P =
 -- In the order of commits: behind who came to the actor, committed with a value and is no member, no member came, unless both
 -- only read.
 abbrev pub NoneMissed : ℕ → (Done → Bool) → List Done → Type 0
-NoneMissed a member [] = Unit {0}
+NoneMissed a member [] = ⊤
 NoneMissed a member (d ∷ ds) =
     (member d ≡ false → is_some (d.views a) ≡ true → is_value d.result ≡ true → AllByRecursion (λ e. member e ≡ true → (d.reader && e.reader) ≡ false → is_some (e.views a) ≡ false) ds) × NoneMissed a member ds

@@ -1,6 +1,6 @@
 -- Only proofs cite this; the rule is `CrashHolds` (Crash).
 -- What the records of the logs tell of batches and ACTs, and what of it is durable.
-use Rattle.std.specs.Prelude.{◌≡◌, ℕ, ◌%◌, ◌==◌, Bool, true, false, ◌&&◌, ◌||◌, Option, Some, None, is_some, not, List, [], ◌∷◌, map, slice_index_or}
+use Rattle.std.specs.Prelude.{◌≡◌, ℕ, ◌%◌, ◌==◌, Bool, true, false, ◌&&◌, ◌||◌, Option, Some, None, is_some, not, List, [], ◌∷◌, map, slice_index_or, ⊤}
 use Rattle.std.specs.List.{AllByRecursion, list_any, list_all}
 use Rattle.protocol.specs.Fixed.{Fixed}
 use Rattle.protocol.specs.Records.{LogRecord, BatchInfo, ActDone, is_info, is_complete, is_commit, is_prepare, is_act_commit}
@@ -54,7 +54,7 @@ actors_of (Some b) = Some (map (λ p. p.actor) b.places)
 -- a record of a batch that was formed has its actors
 abbrev pub InfoIs : List Batch → LogRecord → Type 0
 InfoIs bs (BatchInfo k actors tids) = actors_of (batch_of k bs) ≡ Some actors
-InfoIs bs _ = Unit {0}
+InfoIs bs _ = ⊤
 
 unfoldable pub Infos : {C : Type 0} → Machine C → Type 0
 Infos s = (l : ℕ) → AllByRecursion (InfoIs s.desk.batches) (slice_index_or s.logs l no_log).records
@@ -72,7 +72,7 @@ ActsSure w s = (t : ℕ) (x : Act) → act_of t s.book.acts ≡ Some x → ActSu
 -- the commit record of an ACT has its actors
 abbrev pub CommitIs : List Act → LogRecord → Type 0
 CommitIs acts (ActDone t m c v actors) = (x : Act) × (act_of t acts ≡ Some x) × ((is_decided x.status || is_sealed x.status) ≡ true) × (ascending (map (λ p. p.actor) x.places) ≡ actors)
-CommitIs acts _ = Unit {0}
+CommitIs acts _ = ⊤
 
 unfoldable pub ActCommits : {C : Type 0} → Machine C → Type 0
 ActCommits s = (l : ℕ) → AllByRecursion (CommitIs s.book.acts) (slice_index_or s.logs l no_log).records
@@ -89,7 +89,7 @@ is_on y rs = list_any (is_ran_of y) rs
 
 -- what left for good is sure
 abbrev pub GoneSure : (Who → Bool) → List Ran → Type 0
-GoneSure sure [] = Unit {0}
+GoneSure sure [] = ⊤
 GoneSure sure (Stands y c ss ∷ rs) = GoneSure sure rs
 GoneSure sure (Gone y ss ∷ rs) = (sure y ≡ true) × GoneSure sure rs
 
@@ -98,7 +98,7 @@ AllGoneSure w s h = (a : ℕ) → GoneSure (is_sure w.text.logs s.logs) (h.long 
 
 -- In the order of commits, who is on the actor with one on it behind is sure.
 abbrev pub KeptSure : (Who → Bool) → (Who → Bool) → List Who → Type 0
-KeptSure sure on [] = Unit {0}
+KeptSure sure on [] = ⊤
 KeptSure sure on (y ∷ ys) = (on y ≡ true → list_any on ys ≡ true → sure y ≡ true) × KeptSure sure on ys
 
 unfoldable pub AllKeptSure : {C : Type 0} → Fixed C → Machine C → History → Type 0
@@ -131,7 +131,7 @@ came_rival a d e = came_valued a e && (not (is_who d.who e.who) && not (d.reader
 
 -- who committed with a value there, and a rival of it behind, is sure
 abbrev pub DoneSure : (Who → Bool) → ℕ → List Done → Type 0
-DoneSure sure a [] = Unit {0}
+DoneSure sure a [] = ⊤
 DoneSure sure a (d ∷ ds) = (came_valued a d ≡ true → list_any (came_rival a d) ds ≡ true → sure d.who ≡ true) × DoneSure sure a ds
 
 unfoldable pub AllDoneSure : {C : Type 0} → Fixed C → Machine C → History → Type 0

@@ -1,5 +1,5 @@
 -- Several runs, one after the other, each cut off by a crash at some moment, and each on what the logs were left with.
-use Rattle.std.specs.Prelude.{◌≡◌, ℕ, ◌+◌, true, List, [], ◌∷◌}
+use Rattle.std.specs.Prelude.{◌≡◌, ℕ, ◌+◌, true, List, [], ◌∷◌, ⊤}
 use Rattle.std.specs.List.{AllByRecursion}
 use Rattle.snap_base.specs.declared.transactions.State.{State}
 use Rattle.protocol.specs.Fixed.{Opening, Fixed, IsText}
@@ -53,19 +53,19 @@ opening_left x = record {
 
 -- each begins from what the one before it left, the first from this opening
 abbrev pub GoOn : {C : Type 0} → Opening → List (CutRun C) → Type 0
-GoOn o [] = Unit {0}
+GoOn o [] = ⊤
 GoOn o (x ∷ xs) = MayBe x × (x.fixed.text.opening ≡ o) × GoOn (opening_left x) xs
 
 -- each of these is below each member of these runs
 abbrev pub AreBelow : {C : Type 0} → List Done → List (CutRun C) → Type 0
-AreBelow ds [] = Unit {0}
+AreBelow ds [] = ⊤
 AreBelow ds (x ∷ xs) = AllByRecursion (λ d. AllByRecursion (λ e. is_place_below d.place e.place ≡ true) (members_of x)) ds × AreBelow ds xs
 
 -- What holds of each run holds on what the ones before it left: its members are closed and serial from there, hold all who
 -- were told, and leave the states from which the next one begins. And the places of its members are below those of all later
 -- runs.
 abbrev pub RunsStand : {C : Type 0} → List (CutRun C) → Type 0
-RunsStand [] = Unit {0}
+RunsStand [] = ⊤
 RunsStand (x ∷ xs) =
     CrashHolds x.fixed x.finish x.events (reached x.fixed x.moment.events) (history x.fixed x.moment.events) (logs_left x)
     × NextNumbersStand x.fixed x.finish x.events (reached x.fixed x.moment.events) (history x.fixed x.moment.events) (logs_left x)

@@ -1,6 +1,6 @@
 -- Only proofs cite this; the rule is `CrashHolds` (Crash).
 -- What the records of an actor tell of its state, beside its long schedule.
-use Rattle.std.specs.Prelude.{◌≡◌, ℕ, ◌%◌, ◌==◌, Bool, true, false, not, ◌&&◌, ◌||◌, if◌then◌else◌, List, [], ◌∷◌, filter, slice_index_or}
+use Rattle.std.specs.Prelude.{◌≡◌, ℕ, ◌%◌, ◌==◌, Bool, true, false, not, ◌&&◌, ◌||◌, if◌then◌else◌, List, [], ◌∷◌, filter, slice_index_or, ⊤}
 use Rattle.std.specs.List.{AllByRecursion, list_any}
 use Rattle.snap_base.specs.declared.transactions.State.{State}
 use Rattle.protocol.specs.Fixed.{Fixed, no_state}
@@ -36,7 +36,7 @@ end_of s (x ∷ xs) = end_of x.left xs
 -- Where this one is on the long schedule, the state told is the one after it, all that stand ahead of it are complete
 -- batches, and nobody ahead of it is told later.
 abbrev pub Tells : State → Who → State → List One → List Ran → Type 0
-Tells s y st later [] = Unit {0}
+Tells s y st later [] = ⊤
 Tells s y st later (Stands z c ss ∷ rs) =
     (is_who z y ≡ true → st ≡ end_of s ss)
     × (is_who z y ≡ true → is_act_who z ≡ false → c ≡ true)
@@ -49,7 +49,7 @@ Tells s y st later (Gone z ss ∷ rs) =
 
 -- readers aside
 abbrev pub AllTells : (Who → Bool) → State → List One → List Ran → Type 0
-AllTells rd s [] long = Unit {0}
+AllTells rd s [] long = ⊤
 AllTells rd s (o ∷ os) long = (rd o.who ≡ false → Tells s o.who o.state os long) × AllTells rd s os long
 
 unfoldable pub Telling : {C : Type 0} → Fixed C → Machine C → History → Type 0
@@ -59,7 +59,7 @@ Telling w s h = (a : ℕ) → AllTells (reads_who s.book.acts) (slice_index_or w
 
 -- a set is closed on the actor: who is on the actor, ahead of one on it that is in the set, is in it
 abbrev pub FrontIn : (Who → Bool) → (Who → Bool) → List Who → Type 0
-FrontIn P on [] = Unit {0}
+FrontIn P on [] = ⊤
 FrontIn P on (y ∷ ys) = (on y ≡ true → list_any (λ z. on z && P z) ys ≡ true → P y ≡ true) × FrontIn P on ys
 
 abbrev pub last_one : State → List One → State
@@ -94,7 +94,7 @@ is_open rd kept long y = is_on y long && (not (is_kept y kept) && not (rd y))
 
 -- Behind the record of one that is open there, no record is of a reader that committed.
 abbrev pub NoneLater : (Who → Bool) → List Who → List One → Type 0
-NoneLater open_there readers [] = Unit {0}
+NoneLater open_there readers [] = ⊤
 NoneLater open_there readers (o ∷ os) = (open_there o.who ≡ true → AllByRecursion (λ v. is_kept v.who readers ≡ false) os) × NoneLater open_there readers os
 
 unfoldable pub AllNoneLater : {C : Type 0} → Fixed C → Machine C → History → Type 0

@@ -1,5 +1,5 @@
 -- A tiny method language, for worked runs: put, move, bad and peek, on the first field of the actors.
-use Rattle.std.specs.Prelude.{◌≡◌, ◌≢◌, ℕ, zero, suc, ◌<◌, ◌==◌, nat_le, Bool, true, false, not, ◌&&◌, ℤ, pos, ◌+ℤ◌, ◌-ℤ◌, int_lt, nat_abs, if◌then◌else◌, Option, Some, None, List, [], ◌∷◌, filter, replicate, slice_index_or, slice_set}
+use Rattle.std.specs.Prelude.{◌≡◌, ◌≢◌, ℕ, zero, suc, ◌<◌, ◌==◌, nat_le, Bool, true, false, not, ◌&&◌, ℤ, pos, ◌+ℤ◌, ◌-ℤ◌, int_lt, nat_abs, if◌then◌else◌, Option, Some, None, List, [], ◌∷◌, filter, replicate, slice_index_or, slice_set, ⊤}
 use Rattle.snap_base.specs.declared.transactions.Kind.TheVariants as kinds
 use Rattle.snap_base.specs.declared.transactions.State.{State}
 use Rattle.snap_base.specs.declared.transactions.Tx.{Tx}
@@ -122,12 +122,12 @@ begun_at (Paid a to v) = a
 
 -- the second part of a move is on another actor
 abbrev pub IsElsewhere : Task → Type 0
-IsElsewhere (Put a n) = Unit {0}
-IsElsewhere (Move a to n) = Unit {0}
-IsElsewhere (Bad a) = Unit {0}
-IsElsewhere (Peek a) = Unit {0}
+IsElsewhere (Put a n) = ⊤
+IsElsewhere (Move a to n) = ⊤
+IsElsewhere (Bad a) = ⊤
+IsElsewhere (Peek a) = ⊤
 IsElsewhere (Paying a to n) = a ≢ to
-IsElsewhere (Paid a to v) = Unit {0}
+IsElsewhere (Paid a to v) = ⊤
 
 -- it only reads
 abbrev pub is_peek : Task → Bool

@@ -1,6 +1,6 @@
 -- The halves of the book beside each other: what holds of orders and votes on every run, what an event makes of each of
 -- them, and which of them answers what.
-use Rattle.std.specs.Prelude.{◌≡◌, ℕ, ◌≤◌, ◌==◌, Bool, true, false, ◌||◌, max, Option, Some, None, is_some, List, [], map, find}
+use Rattle.std.specs.Prelude.{◌≡◌, ℕ, ◌≤◌, ◌==◌, Bool, true, false, ◌||◌, max, Option, Some, None, is_some, List, [], map, find, ⊤}
 use Rattle.std.specs.List.{AllByRecursion}
 use Rattle.snap_base.specs.declared.transactions.State.{State}
 use Rattle.snap_base.specs.declared.verdicts.Verdict.{Verdict}
@@ -103,7 +103,7 @@ HalvesMeet (Prepare t a) s o v = is_some (act_of t v.acts) ≡ true
 HalvesMeet (Vouch t a) s o v = is_some (act_of t v.acts) ≡ true
 HalvesMeet (Decide t) s o v = (is_some (act_of t v.acts) ≡ true) × (holds (λ x. is_live_status x.status) (act_of t o.acts) ≡ true)
 HalvesMeet (Seal t) s o v = holds (λ x. is_decided x.status) (act_of t v.acts) ≡ true
-HalvesMeet _ s o v = Unit {0}
+HalvesMeet _ s o v = ⊤
 
 -- An allowed event finds this in the halves of the book, and they go on as the halves of the book after it.
 abbrev pub HalvesGoOn : {C : Type 0} → Fixed C → (C → List State → Alone) → Machine C → History → Type 0

@@ -1,5 +1,5 @@
 -- What the controls under way are: rests of transactions of the text.
-use Rattle.std.specs.Prelude.{◌≡◌, ℕ, ◌<◌, List, length}
+use Rattle.std.specs.Prelude.{◌≡◌, ℕ, ◌<◌, List, length, ⊤}
 use Rattle.std.specs.List.{AllByRecursion}
 use Rattle.snap_base.specs.declared.transactions.State.{State}
 use Rattle.snap_base.specs.declared.transactions.Tx.{Tx}
@@ -20,7 +20,7 @@ pub record IsRestOn {C : Type 0} (w : Fixed C) (a : ℕ) (c : C) : Type 0 where
 -- what goes on goes on as such a rest
 abbrev pub GoesOnAsRest : {C : Type 0} → Fixed C → Next C → Type 0
 GoesOnAsRest w (Go a c) = IsRestOn w a c
-GoesOnAsRest w (Ended r) = Unit {0}
+GoesOnAsRest w (Ended r) = ⊤
 
 -- Each control is a rest that stands where it goes, or where it lies.
 pub record ControlsAreRests {C : Type 0} (w : Fixed C) (finish : C → List State → Alone) (s : Machine C) (h : History) : Type 0 where

@@ -1,5 +1,5 @@
 -- What lies on an actor, and how much: what a rollback finds there, and the limits of what is live.
-use Rattle.std.specs.Prelude.{◌≡◌, ℕ, ◌+◌, ◌<◌, ◌≤◌, nat_le, true, false, Some, is_some, List, [], ◌∷◌, length, slice_get}
+use Rattle.std.specs.Prelude.{◌≡◌, ℕ, ◌+◌, ◌<◌, ◌≤◌, nat_le, true, false, Some, is_some, List, [], ◌∷◌, length, slice_get, ⊤}
 use Rattle.std.specs.List.{AllByRecursion}
 use Rattle.snap_base.specs.declared.transactions.State.{State}
 use Rattle.protocol.specs.Fixed.{Fixed}
@@ -16,12 +16,12 @@ use Rattle.protocol_laws.specs.Sees.{SeesAt}
 
 -- behind an entry that is no complete batch nothing has run that changes the state, so no image was taken
 abbrev pub HaveRunInOrder : List Entry → List Image → Type 0
-HaveRunInOrder [] images = Unit {0}
+HaveRunInOrder [] images = ⊤
 HaveRunInOrder (e ∷ es) images = (is_complete_batch e ≡ false → AllByRecursion (λ i. is_entry_among i.who es ≡ false) images) × HaveRunInOrder es images
 
 -- behind an aborted batch all ACTs are doomed
 abbrev pub AreTakenAlong : List Cascade → List Act → List Entry → Type 0
-AreTakenAlong cascades acts [] = Unit {0}
+AreTakenAlong cascades acts [] = ⊤
 AreTakenAlong cascades acts (BatchEntry b ∷ es) = (is_aborted b.bid cascades ≡ true → AllByRecursion (λ x. holds (λ y. is_doomed y.status) (act_of x.tid acts) ≡ true) (acts_on es)) × AreTakenAlong cascades acts es
 AreTakenAlong cascades acts (ActEntry x ∷ es) = AreTakenAlong cascades acts es
 

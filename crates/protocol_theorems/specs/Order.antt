@@ -1,5 +1,5 @@
 -- The order of committed transactions: what every run owes of it.
-use Rattle.std.specs.Prelude.{◌≡◌, ℕ, ℤ, ◌<◌, true, ◌&&◌, Option, Some, None, List, [], ◌∷◌, ◌++◌, length, map}
+use Rattle.std.specs.Prelude.{◌≡◌, ℕ, ℤ, ◌<◌, true, ◌&&◌, Option, Some, None, List, [], ◌∷◌, ◌++◌, length, map, ⊤}
 use Rattle.std.specs.List.{AllByRecursion}
 use Rattle.snap_base.specs.declared.transactions.State.{State}
 use Rattle.snap_base.specs.declared.transactions.TxResult.TheVariants.{Value, Fail}
@@ -22,7 +22,7 @@ use Rattle.protocol_laws.specs.Told.{IsAmongDone}
 
 -- it left what it found
 abbrev pub LeavesIt : Option View → Type 0
-LeavesIt None = Unit {0}
+LeavesIt None = ⊤
 LeavesIt (Some v) = v.left ≡ v.found
 
 -- it is a reader exactly where it is an ACT whose method only reads

@@ -1,5 +1,5 @@
 -- The cases of order: who stands behind whom, on an actor's chain and on its schedule, and what their numbers then are.
-use Rattle.std.specs.Prelude.{◌≡◌, ℕ, ◌<◌, ◌≤◌, ◌==◌, Bool, true, false, ◌⊎◌, Some, List, [], ◌∷◌, length, ◌&&◌}
+use Rattle.std.specs.Prelude.{◌≡◌, ℕ, ◌<◌, ◌≤◌, ◌==◌, Bool, true, false, ◌⊎◌, Some, List, [], ◌∷◌, length, ◌&&◌, ⊤}
 use Rattle.std.specs.List.{AllByRecursion}
 use Rattle.snap_base.specs.declared.transactions.State.{State}
 use Rattle.protocol.specs.Fixed.{Fixed}
@@ -45,7 +45,7 @@ BatchBehindBatch d e = (j k : ℕ) → d.who ≡ OfBatch j → e.who ≡ OfBatch
 
 -- of each, and each that stands behind it
 abbrev pub EachBehind : (Done → Done → Type 0) → List Done → Type 0
-EachBehind R [] = Unit {0}
+EachBehind R [] = ⊤
 EachBehind R (d ∷ ds) = AllByRecursion (R d) ds × EachBehind R ds
 
 -- ---- of every run

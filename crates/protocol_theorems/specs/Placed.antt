@@ -1,6 +1,6 @@
 -- Only proofs cite this; the rule is `OrderHolds` (Order).
 -- Who was placed on an actor, in which order, beside who stands there and what committed.
-use Rattle.std.specs.Prelude.{◌≡◌, ◌⊎◌, ℕ, Bool, true, false, ◌||◌, List, [], ◌∷◌, filter, ◌&&◌, not}
+use Rattle.std.specs.Prelude.{◌≡◌, ◌⊎◌, ℕ, Bool, true, false, ◌||◌, List, [], ◌∷◌, filter, ◌&&◌, not, ⊤}
 use Rattle.std.specs.List.{list_any, flat_map}
 use Rattle.protocol.specs.Parts.{Who}
 use Rattle.protocol.specs.Words.{is_who}
@@ -16,14 +16,14 @@ is_placed who placed = list_any (λ y. is_who y who) placed
 
 -- nobody twice
 abbrev pub PlacedOnce : List Who → Type 0
-PlacedOnce [] = Unit {0}
+PlacedOnce [] = ⊤
 PlacedOnce (y ∷ ys) = (is_placed y ys ≡ false) × PlacedOnce ys
 
 -- who stands there was placed, in the same order
 abbrev pub InOrderOf : List Who → List Key → Type 0
-InOrderOf [] [] = Unit {0}
+InOrderOf [] [] = ⊤
 InOrderOf [] (k ∷ ks) = ⊥
-InOrderOf (y ∷ ys) [] = Unit {0}
+InOrderOf (y ∷ ys) [] = ⊤
 InOrderOf (y ∷ ys) (k ∷ ks) = ((k.who ≡ y) × InOrderOf ys ks) ⊎ InOrderOf ys (k ∷ ks)
 
 -- it is one of what committed
@@ -41,7 +41,7 @@ is_other_at a ds who = list_any (λ d. stands_for a who d && not d.reader) ds
 -- Ahead of one that committed and came there, each one that stands there has committed or only reads; and where the one behind
 -- does not only read, each has committed.
 abbrev pub DoneFront : ℕ → (Who → Bool) → List Who → List Done → List Key → List Who → Type 0
-DoneFront a rd kept ds keys [] = Unit {0}
+DoneFront a rd kept ds keys [] = ⊤
 DoneFront a rd kept ds keys (y ∷ ys) =
     (list_any (is_done_at a ds) ys ≡ true → is_key_among y keys ≡ true → ((is_kept y kept || has_done ds y) || rd y) ≡ true)
     × (list_any (is_other_at a ds) ys ≡ true → is_key_among y keys ≡ true → (is_kept y kept || has_done ds y) ≡ true) × DoneFront a rd kept ds keys ys

@@ -1,5 +1,5 @@
 -- What is used of a state to show that, where no event is allowed in it, all is answered.
-use Rattle.std.specs.Prelude.{◌≡◌, ℕ, ◌<◌, ◌≤◌, ◌%◌, ◌==◌, nat_lt, not, Bool, true, false, ◌&&◌, ◌||◌, ◌⊎◌, Some, None, is_some, List, [], ◌∷◌, length}
+use Rattle.std.specs.Prelude.{◌≡◌, ℕ, ◌<◌, ◌≤◌, ◌%◌, ◌==◌, nat_lt, not, Bool, true, false, ◌&&◌, ◌||◌, ◌⊎◌, Some, None, is_some, List, [], ◌∷◌, length, ⊤}
 use Rattle.std.specs.List.{AllByRecursion, list_any, list_all}
 use Rattle.protocol.specs.Fixed.{Fixed, IsText, base}
 use Rattle.protocol.specs.Numbers.{TransactionsInOnePlace}
@@ -33,13 +33,13 @@ HasControl t s = (a : ℕ) × (a < length s.cells) × (IsAt t a s ⊎ (is_some (
 
 -- along a schedule, an ACT that is not doomed and stands ahead of a batch has a before number below it
 abbrev pub BeforeBatches : List Act → List Entry → Type 0
-BeforeBatches acts [] = Unit {0}
+BeforeBatches acts [] = ⊤
 BeforeBatches acts (BatchEntry b ∷ es) = BeforeBatches acts es
 BeforeBatches acts (ActEntry x ∷ es) = ((k : ℕ) → is_among k (batches_on es) ≡ true → holds (λ y. is_doomed y.status || nat_lt y.m k) (act_of x.tid acts) ≡ true) × BeforeBatches acts es
 
 -- an ACT that stands behind a batch has a before number at least as great
 abbrev pub BehindBatches : List Act → List Entry → Type 0
-BehindBatches acts [] = Unit {0}
+BehindBatches acts [] = ⊤
 BehindBatches acts (ActEntry x ∷ es) = BehindBatches acts es
 BehindBatches acts (BatchEntry b ∷ es) = ((t : ℕ) (y : Act) → has_act t es ≡ true → act_of t acts ≡ Some y → is_doomed y.status ≡ false → b.bid ≤ y.m) × BehindBatches acts es
 
@@ -49,19 +49,19 @@ abbrev pub IsAheadOf : Act → Act → Type 0
 IsAheadOf x y = (x.m < y.m) ⊎ ((x.m ≤ y.m) × (y.tid < x.tid))
 
 abbrev pub ActsInOrder : List Act → List Entry → Type 0
-ActsInOrder acts [] = Unit {0}
+ActsInOrder acts [] = ⊤
 ActsInOrder acts (BatchEntry b ∷ es) = ActsInOrder acts es
 ActsInOrder acts (ActEntry z ∷ es) = ((t : ℕ) (x y : Act) → has_act t es ≡ true → act_of z.tid acts ≡ Some x → act_of t acts ≡ Some y → is_doomed x.status ≡ false → is_doomed y.status ≡ false → (x.reader && y.reader) ≡ false → IsAheadOf x y) × ActsInOrder acts es
 
 -- an entry tells of its ACT whether it only reads
 abbrev pub EntriesTell : List Act → List Entry → Type 0
-EntriesTell acts [] = Unit {0}
+EntriesTell acts [] = ⊤
 EntriesTell acts (BatchEntry b ∷ es) = EntriesTell acts es
 EntriesTell acts (ActEntry z ∷ es) = ((x : Act) → act_of z.tid acts ≡ Some x → x.reader ≡ z.reader) × EntriesTell acts es
 
 -- each is below all that follow
 abbrev pub Rises : List ℕ → Type 0
-Rises [] = Unit {0}
+Rises [] = ⊤
 Rises (k ∷ ks) = ((j : ℕ) → is_among j ks ≡ true → k < j) × Rises ks
 
 -- ---- what is used

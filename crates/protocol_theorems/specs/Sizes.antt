@@ -1,5 +1,5 @@
 -- How many of each there are, how far numbers are, and what an event that makes something new finds.
-use Rattle.std.specs.Prelude.{◌≡◌, ℕ, ◌+◌, ◌-◌, ◌<◌, ◌≤◌, None, length}
+use Rattle.std.specs.Prelude.{◌≡◌, ℕ, ◌+◌, ◌-◌, ◌<◌, ◌≤◌, None, length, ⊤}
 use Rattle.std.specs.List.{AllByRecursion}
 use Rattle.protocol.specs.Fixed.{Fixed}
 use Rattle.protocol.specs.Numbers.{times}
@@ -31,7 +31,7 @@ FindsRoom w (Form k) s = ((a : ℕ) → sub_of k a s.post.subs ≡ None) × (((n
 FindsRoom w (Admit t) s = AllByRecursion (λ x. x.tid < t) s.book.acts × (control_of t s.post.controls ≡ None)
 FindsRoom w (Send t a) s = control_of t s.post.controls ≡ None
 FindsRoom w (Abort k) s = AllByRecursion (λ c. c.upto < k) s.book.cascades × (k ≤ s.ring.next_bid - 1)
-FindsRoom w _ s = Unit {0}
+FindsRoom w _ s = ⊤
 
 abbrev pub AllFindRoom : {C : Type 0} → Fixed C → Machine C → Type 0
 AllFindRoom w s = (e : Event) → IsAllowed w e s → FindsRoom w e s

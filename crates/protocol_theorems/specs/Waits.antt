@@ -1,7 +1,7 @@
 -- Who waits for whom. A batch or an ACT that still has something to do waits for another one in five cases, each time for one
 -- that is lower: by number, a batch before an ACT of the same number, and of two such ACTs the younger first. So nobody waits
 -- in a circle; and where one waits for nobody, some event is allowed. An ACT that only reads does not wait for another such.
-use Rattle.std.specs.Prelude.{◌≡◌, ℕ, ◌<◌, ◌≤◌, ◌==◌, Bool, true, false, ◌&&◌, ◌||◌, ◌⊎◌, is_some, List, [], ◌∷◌, ◌++◌}
+use Rattle.std.specs.Prelude.{◌≡◌, ℕ, ◌<◌, ◌≤◌, ◌==◌, Bool, true, false, ◌&&◌, ◌||◌, ◌⊎◌, is_some, List, [], ◌∷◌, ◌++◌, ⊤}
 use Rattle.snap_base.specs.declared.transactions.State.{State}
 use Rattle.protocol.specs.Facts.{Alone}
 use Rattle.protocol.specs.Fixed.{Fixed}
@@ -88,7 +88,7 @@ IsLower s (OfAct u) (OfAct t) = (number_of s u < number_of s t) ⊎ ((number_of 
 
 -- the first waits for the second, the second for the third, and so on
 abbrev pub WaitsAlong : {C : Type 0} → Machine C → Who → List Who → Type 0
-WaitsAlong s x [] = Unit {0}
+WaitsAlong s x [] = ⊤
 WaitsAlong s x (y ∷ ys) = WaitsFor s x y × WaitsAlong s y ys
 
 pub record WaitsEnd {C : Type 0} (w : Fixed C) (finish : C → List State → Alone) (s : Machine C) (h : History) : Type 0 where

@@ -1,5 +1,5 @@
 -- Evidence: for each verdict the event of a run that gives it, and what held there. s is the state before the event.
-use Rattle.std.specs.Prelude.{◌≡◌, ◌≢◌, ◌⊎◌, ◌↔◌, ℕ, ℤ, ◌<◌, ◌≤◌, ◌==◌, true, Some, None, List, [], ◌∷◌, ◌++◌, map, find}
+use Rattle.std.specs.Prelude.{◌≡◌, ◌≢◌, ◌⊎◌, ◌↔◌, ℕ, ℤ, ◌<◌, ◌≤◌, ◌==◌, true, Some, None, List, [], ◌∷◌, ◌++◌, map, find, ⊤}
 use Rattle.std.specs.List.{AllByRecursion}
 use Rattle.snap_base.specs.declared.transactions.State.{State}
 use Rattle.snap_base.specs.declared.transactions.TxResult.TheVariants.{Value, Fail}
@@ -177,22 +177,22 @@ pub record StandsBetween {C : Type 0} (w : Fixed C) (n m k a : ℕ) (es : List E
 
 -- A PACT commits, or fails with its batch, or is taken along.
 abbrev pub IsOfPact : Verdict → Type 0
-IsOfPact (verdicts.Committed p v) = Unit {0}
+IsOfPact (verdicts.Committed p v) = ⊤
 IsOfPact (verdicts.Code p c) = ⊥
-IsOfPact (verdicts.BatchCode k c code) = Unit {0}
-IsOfPact (verdicts.Cascade k by) = Unit {0}
+IsOfPact (verdicts.BatchCode k c code) = ⊤
+IsOfPact (verdicts.Cascade k by) = ⊤
 IsOfPact (verdicts.Died a older own) = ⊥
 IsOfPact (verdicts.Order m k a) = ⊥
 IsOfPact (verdicts.Unsure l) = ⊥
 
 -- An ACT commits, fails alone, is taken along, or is given up for an older one or for its two numbers.
 abbrev pub IsOfAct : Verdict → Type 0
-IsOfAct (verdicts.Committed p v) = Unit {0}
-IsOfAct (verdicts.Code p c) = Unit {0}
+IsOfAct (verdicts.Committed p v) = ⊤
+IsOfAct (verdicts.Code p c) = ⊤
 IsOfAct (verdicts.BatchCode k c code) = ⊥
-IsOfAct (verdicts.Cascade k by) = Unit {0}
-IsOfAct (verdicts.Died a older own) = Unit {0}
-IsOfAct (verdicts.Order m k a) = Unit {0}
+IsOfAct (verdicts.Cascade k by) = ⊤
+IsOfAct (verdicts.Died a older own) = ⊤
+IsOfAct (verdicts.Order m k a) = ⊤
 IsOfAct (verdicts.Unsure l) = ⊥
 
 -- Each verdict has its evidence, and stays, and is one that such a transaction may have.

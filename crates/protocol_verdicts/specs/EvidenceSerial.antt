@@ -1,5 +1,5 @@
 -- What a verdict tells of serial runs: that of all that committed, and those before a batch that failed.
-use Rattle.std.specs.Prelude.{◌≡◌, ◌⊎◌, ℕ, ℤ, ◌+◌, ◌≤◌, ◌==◌, nat_lt, Bool, true, false, ◌&&◌, if◌then◌else◌, Some, List, [], ◌∷◌, ◌++◌, map, filter}
+use Rattle.std.specs.Prelude.{◌≡◌, ◌⊎◌, ℕ, ℤ, ◌+◌, ◌≤◌, ◌==◌, nat_lt, Bool, true, false, ◌&&◌, if◌then◌else◌, Some, List, [], ◌∷◌, ◌++◌, map, filter, ⊤}
 use Rattle.std.specs.List.{AllByRecursion, list_any}
 use Rattle.snap_base.specs.declared.transactions.State.{State}
 use Rattle.snap_base.specs.declared.transactions.TxResult.{TxResult}
@@ -45,7 +45,7 @@ world_before w finish k c ds = (serial w.code finish w.text.opening.states (txs_
 
 -- tids rise, from one on
 abbrev pub ByTid : ℕ → List Pact → Type 0
-ByTid low [] = Unit {0}
+ByTid low [] = ⊤
 ByTid low (p ∷ ps) = (low ≤ p.tid) × ByTid (p.tid + 1) ps
 
 -- Behind what counts of what committed, the batch's PACTs, run by tid, give a value each up to transaction n, and n fails

@@ -1,5 +1,5 @@
 -- Whatever a crash leaves of the logs of a run, recovery takes it, and gives what the laws of the machine speak of.
-use Rattle.std.specs.Prelude.{◌≡◌, ◌≢◌, ℕ, ◌<◌, Some, List, [], ◌∷◌, ◌++◌, length, map}
+use Rattle.std.specs.Prelude.{◌≡◌, ◌≢◌, ℕ, ◌<◌, Some, List, [], ◌∷◌, ◌++◌, length, map, ⊤}
 use Rattle.std.specs.List.{AllByRecursion, flat_map}
 use Rattle.snap_base.specs.declared.transactions.State.{State}
 use Rattle.protocol.specs.Fixed.{Fixed, IsText}
@@ -49,7 +49,7 @@ AtEveryMomentOnLogs {C} P =
 
 -- Each run goes on with what its logs recover to, on as many logs.
 abbrev pub GoOnLogs : {C : Type 0} → List (List Record) → Opening → List (CutRun C) → Type 0
-GoOnLogs earlier o [] = Unit {0}
+GoOnLogs earlier o [] = ⊤
 GoOnLogs earlier o (x ∷ xs) =
     (MayBe x × (length earlier ≡ x.fixed.text.logs) × BeginsWith x.fixed.text o)
     × GoOnLogs (grown earlier (logs_left x)) (opening_after x.fixed o (reached x.fixed x.moment.events) (logs_left x)) xs
