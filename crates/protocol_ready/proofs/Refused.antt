@@ -32,36 +32,36 @@ use Rattle.protocol_ready.proofs.TouchedVerdicts.{next_stays}
 abbrev pub are_left : List Bool → Status → Bool
 are_left marks st = if is_empty marks then is_doomed st else list_all (λ b. b) marks
 
-all_marks : {X : Type 0} (f : X → Bool) (xs : List X) → list_all f xs ≡ list_all (λ b. b) (map f xs)
+pub all_marks : {X : Type 0} (f : X → Bool) (xs : List X) → list_all f xs ≡ list_all (λ b. b) (map f xs)
 all_marks f [] = refl
 all_marks f (x ∷ xs) = rw (all_marks f xs) refl
 
-finished_as : (x : Act) → is_finished_everywhere x ≡ are_left (map (λ p. p.finished) x.places) x.status
+pub finished_as : (x : Act) → is_finished_everywhere x ≡ are_left (map (λ p. p.finished) x.places) x.status
 finished_as x = by x.places
   where
     by : (ps : List Joined) → (if is_empty ps then is_doomed x.status else list_all (λ p. p.finished) ps) ≡ are_left (map (λ p. p.finished) ps) x.status
     by [] = refl
     by (p ∷ ps) = rw (all_marks (λ p. p.finished) ps) refl
 
-act_as : (x y : Act) → map (λ p. p.finished) y.places ≡ map (λ p. p.finished) x.places → y.status ≡ x.status → is_live_act y ≡ is_live_act x
+pub act_as : (x y : Act) → map (λ p. p.finished) y.places ≡ map (λ p. p.finished) x.places → y.status ≡ x.status → is_live_act y ≡ is_live_act x
 act_as x y e f = ap not (finished_as y ∙ rw (e, f) refl ∙ sym (finished_as x))
 
-batch_as : (x y : Batch) → map (λ p. p.trimmed) y.places ≡ map (λ p. p.trimmed) x.places → y.aborted ≡ x.aborted → is_live_batch y ≡ is_live_batch x
+pub batch_as : (x y : Batch) → map (λ p. p.trimmed) y.places ≡ map (λ p. p.trimmed) x.places → y.aborted ≡ x.aborted → is_live_batch y ≡ is_live_batch x
 batch_as x y e f = rw (f, all_marks (λ p. p.trimmed) y.places, all_marks (λ p. p.trimmed) x.places, e) refl
 
-one_more : {X : Type 0} (p q : Bool) (x y : X) (xs ys : List X) → q ≡ p → length ys ≡ length xs → length (if q then y ∷ ys else ys) ≡ length (if p then x ∷ xs else xs)
+pub one_more : {X : Type 0} (p q : Bool) (x y : X) (xs ys : List X) → q ≡ p → length ys ≡ length xs → length (if q then y ∷ ys else ys) ≡ length (if p then x ∷ xs else xs)
 one_more true true x y xs ys e f = ap suc f
 one_more false false x y xs ys e f = f
 one_more true false x y xs ys e f = absurd (true≢false (sym e))
 one_more false true x y xs ys e f = absurd (true≢false e)
 
-live_acts : (xs ys : List Act) → map (λ x. map (λ p. p.finished) x.places) ys ≡ map (λ x. map (λ p. p.finished) x.places) xs → map (λ x. x.status) ys ≡ map (λ x. x.status) xs → count is_live_act ys ≡ count is_live_act xs
+pub live_acts : (xs ys : List Act) → map (λ x. map (λ p. p.finished) x.places) ys ≡ map (λ x. map (λ p. p.finished) x.places) xs → map (λ x. x.status) ys ≡ map (λ x. x.status) xs → count is_live_act ys ≡ count is_live_act xs
 live_acts [] [] e f = refl
 live_acts [] (y ∷ ys) e f = absurd (cc e)
 live_acts (x ∷ xs) [] e f = absurd (cc e)
 live_acts (x ∷ xs) (y ∷ ys) e f = one_more (is_live_act x) (is_live_act y) x y (filter is_live_act xs) (filter is_live_act ys) (act_as x y (cc e) (cc f)) (live_acts xs ys (cc e) (cc f))
 
-live_batches : (xs ys : List Batch) → map (λ b. map (λ p. p.trimmed) b.places) ys ≡ map (λ b. map (λ p. p.trimmed) b.places) xs → map (λ b. b.aborted) ys ≡ map (λ b. b.aborted) xs → count is_live_batch ys ≡ count is_live_batch xs
+pub live_batches : (xs ys : List Batch) → map (λ b. map (λ p. p.trimmed) b.places) ys ≡ map (λ b. map (λ p. p.trimmed) b.places) xs → map (λ b. b.aborted) ys ≡ map (λ b. b.aborted) xs → count is_live_batch ys ≡ count is_live_batch xs
 live_batches [] [] e f = refl
 live_batches [] (y ∷ ys) e f = absurd (cc e)
 live_batches (x ∷ xs) [] e f = absurd (cc e)
