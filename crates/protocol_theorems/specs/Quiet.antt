@@ -6,7 +6,7 @@ use Rattle.protocol.specs.Numbers.{TransactionsInOnePlace}
 use Rattle.protocol.specs.Records.{is_info, is_complete, is_commit, is_prepare, is_act_commit}
 use Rattle.protocol.specs.Parts.{Act, SubBatch, Batch, PlacedBatch, Entry, BatchEntry, ActEntry, Machine}
 use Rattle.protocol.specs.Words.{is_empty, is_among, holds, is_aborted, is_doomed, is_sealed, is_decided, is_live_act, act_of, joined_of, sub_of, control_of, waiting_of, outcome_of, batch_of, declared_of, names_pact, pact_result, is_settled, is_formed, is_committing, is_live_batch, names_slot, batches_on, has_act}
-use Rattle.protocol.specs.Conditions.{epoch, is_idle}
+use Rattle.protocol.specs.Conditions.{epoch, is_idle, has_not_left}
 use Rattle.protocol.specs.Effects.{cell_at, log_at}
 use Rattle.protocol_laws.specs.FromDesk.{is_declared, is_pact_of}
 use Rattle.protocol.specs.Facts.{Alone}
@@ -84,6 +84,20 @@ pub record Written {C : Type 0} (w : Fixed C) (s : Machine C) : Type 0 where
   pub prepare : (t : ℕ) (x : Act) → act_of t s.book.acts ≡ Some x → AllByRecursion (λ p. p.prepared ≡ true → list_any (is_prepare t p.actor) (log_at s (p.actor % w.text.logs)).records ≡ true) x.places
   pub act_commit : (t : ℕ) (x : Act) → act_of t s.book.acts ≡ Some x → is_decided x.status ≡ true → list_any (is_act_commit t) (log_at s (t % w.text.logs)).records ≡ true
 
+-- the actor is one of the batch's, and the batch is not trimmed there
+abbrev pub is_untrimmed : ℕ → ℕ → List Batch → Bool
+is_untrimmed k a batches = holds (λ b. holds (λ p. not p.trimmed) (declared_of a b)) (batch_of k batches)
+
+-- The sub-batch m of batch k is the next one that may come to actor a.
+pub record IsNextTo {C : Type 0} (s : Machine C) (k a : ℕ) (m : SubBatch) : Type 0 where
+  pub under_way : sub_of k a s.post.subs ≡ Some m
+  pub not_aborted : is_aborted k s.book.cascades ≡ false
+  -- it is of the present epoch, and so is the actor's cell
+  pub of_epoch : m.epoch ≡ epoch s.book
+  pub present : (cell_at s a).epoch ≡ epoch s.book
+  -- of the smaller batches none but aborted ones are on their way there
+  pub first : (j : ℕ) → j < k → is_some (sub_of j a s.post.subs) ≡ true → is_aborted j s.book.cascades ≡ true
+
 -- where batches are
 pub record BatchesPlaced {C : Type 0} (w : Fixed C) (s : Machine C) : Type 0 where
   pub marked : (k : ℕ) (b : Batch) → batch_of k s.desk.batches ≡ Some b → b.aborted ≡ is_aborted k s.book.cascades
@@ -95,12 +109,12 @@ pub record BatchesPlaced {C : Type 0} (w : Fixed C) (s : Machine C) : Type 0 whe
   pub trimmed : (k : ℕ) (b : Batch) → batch_of k s.desk.batches ≡ Some b → AllByRecursion (λ p. p.trimmed ≡ true → is_settled b.stage ≡ true) b.places
   pub somewhere : (k : ℕ) (b : Batch) → batch_of k s.desk.batches ≡ Some b → is_empty b.places ≡ false
   -- on each of its actors where it is not trimmed it is on its way or on the schedule, and only there
-  pub placed : (k a : ℕ) → is_aborted k s.book.cascades ≡ false → holds (λ b. holds (λ p. not p.trimmed) (declared_of a b)) (batch_of k s.desk.batches) ≡ true → (is_some (sub_of k a s.post.subs) ≡ true) ⊎ (is_among k (batches_on (cell_at s a).entries) ≡ true)
-  pub on_way : (k a : ℕ) → is_aborted k s.book.cascades ≡ false → is_some (sub_of k a s.post.subs) ≡ true → holds (λ b. holds (λ p. not p.trimmed) (declared_of a b)) (batch_of k s.desk.batches) ≡ true
-  pub on_schedule : (k a : ℕ) → is_aborted k s.book.cascades ≡ false → is_among k (batches_on (cell_at s a).entries) ≡ true → holds (λ b. holds (λ p. not p.trimmed) (declared_of a b)) (batch_of k s.desk.batches) ≡ true
-  -- who is not settled is of the present epoch, and the first on its way to an actor of that epoch is the next one there
+  pub placed : (k a : ℕ) → is_aborted k s.book.cascades ≡ false → is_untrimmed k a s.desk.batches ≡ true → (is_some (sub_of k a s.post.subs) ≡ true) ⊎ (is_among k (batches_on (cell_at s a).entries) ≡ true)
+  pub on_way : (k a : ℕ) → is_aborted k s.book.cascades ≡ false → is_some (sub_of k a s.post.subs) ≡ true → is_untrimmed k a s.desk.batches ≡ true
+  pub on_schedule : (k a : ℕ) → is_aborted k s.book.cascades ≡ false → is_among k (batches_on (cell_at s a).entries) ≡ true → is_untrimmed k a s.desk.batches ≡ true
+  -- who is not settled is of the present epoch, and a sub-batch that is next to an actor names the last batch that came there
   pub epochs : (k a : ℕ) (m : SubBatch) → sub_of k a s.post.subs ≡ Some m → holds (λ b. is_formed b.stage && not b.aborted) (batch_of k s.desk.batches) ≡ true → m.epoch ≡ epoch s.book
-  pub next : (k a : ℕ) (m : SubBatch) → sub_of k a s.post.subs ≡ Some m → is_aborted k s.book.cascades ≡ false → m.epoch ≡ epoch s.book → (cell_at s a).epoch ≡ epoch s.book → ((j : ℕ) → j < k → is_some (sub_of j a s.post.subs) ≡ true → is_aborted j s.book.cascades ≡ true) → m.prev ≡ (cell_at s a).tail
+  pub next : (k a : ℕ) (m : SubBatch) → IsNextTo s k a m → m.prev ≡ (cell_at s a).tail
   -- all slots are of the batch's PACTs
   pub slots : (a : ℕ) (e : PlacedBatch) (es : List Entry) → (cell_at s a).entries ≡ BatchEntry e ∷ es → AllByRecursion (λ x. is_pact_of x.tid e.bid s.desk.batches ≡ true) e.slots
 
@@ -117,7 +131,7 @@ pub record ControlsPlaced {C : Type 0} (w : Fixed C) (s : Machine C) : Type 0 wh
 -- where ACTs stand
 pub record ActsPlaced {C : Type 0} (w : Fixed C) (s : Machine C) : Type 0 where
   -- who stands on an actor has not left it
-  pub stands : (t a : ℕ) → has_act t (cell_at s a).entries ≡ true → holds (λ x. holds (λ p. not p.finished) (joined_of a x)) (act_of t s.book.acts) ≡ true
+  pub stands : (t a : ℕ) → has_act t (cell_at s a).entries ≡ true → has_not_left t a s.book.acts ≡ true
   pub before : (a : ℕ) → (cell_at s a).epoch ≡ epoch s.book → BeforeBatches s.book.acts (cell_at s a).entries
   pub behind : (a : ℕ) → (cell_at s a).epoch ≡ epoch s.book → BehindBatches s.book.acts (cell_at s a).entries
   pub in_order : (a : ℕ) → (cell_at s a).epoch ≡ epoch s.book → ActsInOrder s.book.acts (cell_at s a).entries
@@ -183,7 +197,7 @@ pub record StillOwed {C : Type 0} (w : Fixed C) (s : Machine C) : Type 0 where
   pub joined : (t : ℕ) (x : Act) → act_of t s.book.acts ≡ Some x → AllByRecursion (λ p. joined_of p.actor x ≡ Some p) x.places
   pub controls : ControlsPlaced w s
   -- ACTs
-  pub stands : (t a : ℕ) → has_act t (cell_at s a).entries ≡ true → holds (λ x. holds (λ p. not p.finished) (joined_of a x)) (act_of t s.book.acts) ≡ true
+  pub stands : (t a : ℕ) → has_act t (cell_at s a).entries ≡ true → has_not_left t a s.book.acts ≡ true
   pub before : (a : ℕ) → (cell_at s a).epoch ≡ epoch s.book → BeforeBatches s.book.acts (cell_at s a).entries
   pub behind : (a : ℕ) → (cell_at s a).epoch ≡ epoch s.book → BehindBatches s.book.acts (cell_at s a).entries
   pub in_order : (a : ℕ) → (cell_at s a).epoch ≡ epoch s.book → ActsInOrder s.book.acts (cell_at s a).entries

@@ -129,7 +129,7 @@ not_on_way w s k a b q o l r e p h = by (sub_of k a s.post.subs) refl h
     by None i g = true≢false (sym g)
     by (Some m) i g =
         let t = o.batches.epochs k a m i (passes (λ b. is_formed b.stage && not b.aborted) (batch_of k s.desk.batches) b e p) in
-        let n = o.batches.next k a m i fresh t now smaller in
+        let n = o.batches.next k a m (record { under_way = i; not_aborted = fresh; of_epoch = t; present = now; first = smaller }) in
         q (Arrive k a) (
           h,
           (

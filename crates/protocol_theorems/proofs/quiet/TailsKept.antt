@@ -20,6 +20,7 @@ use Rattle.protocol.specs.OnRing as ring
 use Rattle.protocol.specs.OnDesk as desk
 use Rattle.protocol.specs.OnCell as cell
 use Rattle.protocol_laws.specs.Places.{Fits}
+use Rattle.protocol_theorems.specs.Quiet.{IsNextTo}
 use Rattle.protocol_laws.proofs.first.EpochsKept as epochs
 use Rattle.protocol_laws.proofs.first.SettlingKept as settling
 use Rattle.protocol_laws.proofs.machine.TracksKept.{arrives, held}
@@ -491,19 +492,19 @@ tails_opened {C} w v = λ a. empty_tail (opening w) a (cell_at (opening w) a).ep
     zero_tail (x ∷ xs) (suc a) = zero_tail xs a
 
 -- the first on its way to an actor is the next one there
-pub next_there : {C : Type 0} (s : Machine C) → epochs.Agreeing s → Found s.desk.batches → FromDesk s → Tails s → (k a : ℕ) (m : SubBatch) → sub_of k a s.post.subs ≡ Some m → is_aborted k s.book.cascades ≡ false → m.epoch ≡ epoch s.book → (cell_at s a).epoch ≡ epoch s.book → ((j : ℕ) → j < k → is_some (sub_of j a s.post.subs) ≡ true → is_aborted j s.book.cascades ≡ true) → m.prev ≡ (cell_at s a).tail
+pub next_there : {C : Type 0} (s : Machine C) → epochs.Agreeing s → Found s.desk.batches → FromDesk s → Tails s → (k a : ℕ) (m : SubBatch) → IsNextTo s k a m → m.prev ≡ (cell_at s a).tail
 unfolding epochs.Agreeing Tails
-next_there s g f d h k a m e fresh now here smaller =
-    let n = all_found (epochs.Names s.ring.next_bid s.book.cascades (map (λ b. b.bid) s.desk.batches) (map (λ b. map (λ p. p.actor) b.places) s.desk.batches)) (λ x. (x.bid == k) && (x.actor == a)) s.post.subs m g.names e in
-    let x = all_found (MessageOf s.desk.batches) (λ x. (x.bid == k) && (x.actor == a)) s.post.subs m d.subs e in
+next_there s g f d h k a m c =
+    let n = all_found (epochs.Names s.ring.next_bid s.book.cascades (map (λ b. b.bid) s.desk.batches) (map (λ b. map (λ p. p.actor) b.places) s.desk.batches)) (λ x. (x.bid == k) && (x.actor == a)) s.post.subs m g.names c.under_way in
+    let x = all_found (MessageOf s.desk.batches) (λ x. (x.bid == k) && (x.actor == a)) s.post.subs m d.subs c.under_way in
     let ids = and_parts (m.bid == k) (m.actor == a) n.1 in
     let i : m.bid ≡ k = eqb-true m.bid k ids.0 in
     let j : m.actor ≡ a = eqb-true m.actor a ids.1 in
-    let own : epoch_of k s.book.cascades ≡ length s.book.cascades = ap (λ z. epoch_of z s.book.cascades) (sym i) ∙ (sym n.0.epoch ∙ now) in
-    let t = (h a).tail_is here in
+    let own : epoch_of k s.book.cascades ≡ length s.book.cascades = ap (λ z. epoch_of z s.book.cascades) (sym i) ∙ (sym n.0.epoch ∙ c.of_epoch) in
+    let t = (h a).tail_is c.present in
     let dk : is_declared k a s.desk.batches ≡ true = subst (λ z. is_declared z a s.desk.batches ≡ true) i (subst (λ z. is_declared m.bid z s.desk.batches ≡ true) j x.0.declared) in
-    let l = t.ahead k dk own (rw e refl) in
-    n.0.prev ∙ (ap greatest (sym (epochs.two_lists m.bid m.epoch m.actor s.book.cascades s.desk.batches)) ∙ ((ap (λ z. greatest (map (λ b. b.bid) (filter (is_of z m.epoch m.actor s.book.cascades) s.desk.batches))) i) ∙ ((ap (λ z. greatest (map (λ b. b.bid) (filter (is_of k z m.actor s.book.cascades) s.desk.batches))) now) ∙ (ap (λ z. greatest (map (λ b. b.bid) (filter (is_of k (length s.book.cascades) z s.book.cascades) s.desk.batches))) j ∙ last_is_tail k a (cell_at s a).tail s.ring.next_bid s.book.cascades s.desk.batches s.post.subs f t l none))))
+    let l = t.ahead k dk own (rw c.under_way refl) in
+    n.0.prev ∙ (ap greatest (sym (epochs.two_lists m.bid m.epoch m.actor s.book.cascades s.desk.batches)) ∙ ((ap (λ z. greatest (map (λ b. b.bid) (filter (is_of z m.epoch m.actor s.book.cascades) s.desk.batches))) i) ∙ ((ap (λ z. greatest (map (λ b. b.bid) (filter (is_of k z m.actor s.book.cascades) s.desk.batches))) c.of_epoch) ∙ (ap (λ z. greatest (map (λ b. b.bid) (filter (is_of k (length s.book.cascades) z s.book.cascades) s.desk.batches))) j ∙ last_is_tail k a (cell_at s a).tail s.ring.next_bid s.book.cascades s.desk.batches s.post.subs f t l none))))
   where
     none : (y : ℕ) → y < k → is_declared y a s.desk.batches ≡ true → epoch_of y s.book.cascades ≡ length s.book.cascades → is_some (sub_of y a s.post.subs) ≡ false
-    none y l dy ey = elim (cases_Bool (is_some (sub_of y a s.post.subs))) [ inl p ↦ absurd (omega (arith, aborted_low y s.book.cascades (smaller y l p), ey)) | inr p ↦ p ]
+    none y l dy ey = elim (cases_Bool (is_some (sub_of y a s.post.subs))) [ inl p ↦ absurd (omega (arith, aborted_low y s.book.cascades (c.first y l p), ey)) | inr p ↦ p ]
