@@ -71,29 +71,30 @@ finish_behind p count w (slice.Ended r) = refl
 pub machine_facts : (p : List CheckedMethod) (count : ℕ) → Promises p count → Facts count (method_code p count) (IsTransaction p count) (IsRestOf p count) (finish p count)
 machine_facts p count promises = record {
   starts = λ t tx is. record { rest = (promises.begins (tid_of t) tx is).rest count is.actor; declares = λ pact. declares_some tx.kind tx.uses tx.actor.0 pact; reads = λ reader. promises.begins_reading (tid_of t) tx reader };
-  stays = λ tx c d s b is e. (
-      let on = handed p count tx c d s b promises is e in
+  stays = λ tx c d b x. (
+      let is = x.of_it in
+      let on = handed p count tx c d x.from b promises is x.goes in
       record {
         rest = on.rest;
         declares = λ pact. (let uses = is.declares pact in on.declares uses.0 uses.1);
-        reads = λ reader. reading_by p b d (slice_end p count c s).next (promises.hands_on_reading c s (is.reads reader)) e;
+        reads = λ reader. reading_by p b d (slice_end p count c x.from).next (promises.hands_on_reading c x.from (is.reads reader)) x.goes;
       });
   begins_at_root = λ t tx. refl;
-  goes_elsewhere = λ tx c d s b is e. (
-      let on = handed p count tx c d s b promises is e in
+  goes_elsewhere = λ tx c d b x. (
+      let on = handed p count tx c d x.from b promises x.of_it x.goes in
       (on.at, on.other, subst (λ z. z < count) on.at on.rest.top.known));
   rests_where_it_stands = λ tx c pact is. rests_tells c c.top.actor (inl (inl refl));
   rests_on_declared = λ t tx a is pact on. among_tells a (declared tx) ((promises.begins (tid_of t) tx is).declared (pact_kind tx.kind pact) a (rests_told (started (tid_of t) tx) a on));
-  rests_no_further = λ tx c d s a b pact is e rests. (
-      let on = handed p count tx c d s b promises is e in
-      let uses = is.declares pact in
+  rests_no_further = λ tx c d a b pact x rests. (
+      let on = handed p count tx c d x.from b promises x.of_it x.goes in
+      let uses = x.of_it.declares pact in
       rests_tells c a (on.rests uses.0 uses.1 a (rests_told d a rests)));
   stood_here = λ tx c is. among_tells c.top.actor c.actors is.rest.visited;
-  stood_before = λ tx c d s a b is e stood. among_tells a d.actors ((handed p count tx c d s b promises is e).visited a (among_told a c.actors stood));
+  stood_before = λ tx c d a b x stood. among_tells a d.actors ((handed p count tx c d x.from b promises x.of_it x.goes).visited a (among_told a c.actors stood));
   few_actors = λ tx c is. is.rest.actors;
   few_visits = λ t tx. omega arith;
   one_visit = λ tx c is. omega arith;
-  visits_fall = λ tx c d s b is e. (let on = handed p count tx c d s b promises is e in omega (arith, on.fewer));
+  visits_fall = λ tx c d b x. (let on = handed p count tx c d x.from b promises x.of_it x.goes in omega (arith, on.fewer));
   readers_leave = λ tx c s reader is. promises.leaves c s (is.reads reader);
   only_named_by_tid = λ t u tx w. only_named (tid_of t) p count (started (tid_of u) tx) w;
   slices_keep_the_meaning = λ tx c w is here.

@@ -21,7 +21,7 @@ use Rattle.machine_laws.proofs.Instances.{HaveFacts, may_be_asked}
 leads_to : (p : List CheckedMethod) (count : ℕ) (tx : Tx) → Facts count (method_code p count) (IsTransaction p count) (IsRestOf p count) (finish p count)
     → (c : Rest) (ss : List State) (d : Rest) → IsRestOf p count tx c → Leads (method_code p count) c ss d → IsRestOf p count tx d
 leads_to p count tx f c [] d is l = subst (IsRestOf p count tx) l is
-leads_to p count tx f c (s ∷ ss) d is l = leads_to p count tx f l.1.0 ss d (f.stays tx c l.1.0 s l.0 is l.1.1.0) l.1.1.1
+leads_to p count tx f c (s ∷ ss) d is l = leads_to p count tx f l.1.0 ss d (f.stays tx c l.1.0 l.0 (record { from = s; of_it = is; goes = l.1.1.0 })) l.1.1.1
 
 module _ (p : List CheckedMethod) (w : Text) (facts : HaveFacts p) (is : IsTextOf p w) where
   may_run_on : (a : ℕ) (c : Rest) → IsRestOn (with_code p w) a c → MayRunOn p (with_code p w) a c

@@ -41,25 +41,32 @@ abbrev pub rest_of : {C : Type 0} → (C → List State → Alone) → Next C �
 rest_of finish (Go b control) world = finish control world
 rest_of finish (Ended r) world = record { result = r; world = world }
 
+-- A step of a transaction: from some state a slice of its control c goes on to actor b, with control d. `Of` tells of which
+-- transaction a control is a rest.
+pub record Steps {C : Type 0} (code : Code C) (Of : Tx → C → Type 0) (tx : Tx) (c : C) (b : ℕ) (d : C) : Type 0 where
+  pub from : State
+  pub of_it : Of tx c
+  pub goes : (code.slice c from).next ≡ Go b d
+
 -- Over so many actors. `Allowed` tells which transactions are begun, and `Of` of which transaction a control is a rest.
 pub record Facts {C : Type 0} (actors : ℕ) (code : Code C) (Allowed : Tx → Type 0) (Of : Tx → C → Type 0) (finish : C → List State → Alone) : Type 0 where
   pub starts : (t : ℕ) (tx : Tx) → Allowed tx → Of tx (code.start t tx)
-  pub stays : (tx : Tx) (c d : C) (s : State) (b : ℕ) → Of tx c → (code.slice c s).next ≡ Go b d → Of tx d
+  pub stays : (tx : Tx) (c d : C) (b : ℕ) → Steps code Of tx c b d → Of tx d
   -- where it stands
   pub begins_at_root : (t : ℕ) (tx : Tx) → code.at (code.start t tx) ≡ root tx
-  pub goes_elsewhere : (tx : Tx) (c d : C) (s : State) (b : ℕ) → Of tx c → (code.slice c s).next ≡ Go b d → (code.at d ≡ b) × (b ≢ code.at c) × (b < actors)
+  pub goes_elsewhere : (tx : Tx) (c d : C) (b : ℕ) → Steps code Of tx c b d → (code.at d ≡ b) × (b ≢ code.at c) × (b < actors)
   -- what a PACT rests on
   pub rests_where_it_stands : (tx : Tx) (c : C) → is_pact tx ≡ true → Of tx c → code.rests_on c (code.at c) ≡ true
   pub rests_on_declared : (t : ℕ) (tx : Tx) (a : ℕ) → Allowed tx → is_pact tx ≡ true → code.rests_on (code.start t tx) a ≡ true → is_among a (declared tx) ≡ true
-  pub rests_no_further : (tx : Tx) (c d : C) (s : State) (a b : ℕ) → is_pact tx ≡ true → Of tx c → (code.slice c s).next ≡ Go b d → code.rests_on d a ≡ true → code.rests_on c a ≡ true
+  pub rests_no_further : (tx : Tx) (c d : C) (a b : ℕ) → is_pact tx ≡ true → Steps code Of tx c b d → code.rests_on d a ≡ true → code.rests_on c a ≡ true
   -- where it has been
   pub stood_here : (tx : Tx) (c : C) → Of tx c → is_among (code.at c) (code.visited c) ≡ true
-  pub stood_before : (tx : Tx) (c d : C) (s : State) (a b : ℕ) → Of tx c → (code.slice c s).next ≡ Go b d → is_among a (code.visited c) ≡ true → is_among a (code.visited d) ≡ true
+  pub stood_before : (tx : Tx) (c d : C) (a b : ℕ) → Steps code Of tx c b d → is_among a (code.visited c) ≡ true → is_among a (code.visited d) ≡ true
   pub few_actors : (tx : Tx) (c : C) → Of tx c → length (code.visited c) ≤ 16
   -- how far it may go
   pub few_visits : (t : ℕ) (tx : Tx) → code.visits_left (code.start t tx) ≤ 127
   pub one_visit : (tx : Tx) (c : C) → Of tx c → 1 ≤ code.visits_left c
-  pub visits_fall : (tx : Tx) (c d : C) (s : State) (b : ℕ) → Of tx c → (code.slice c s).next ≡ Go b d → code.visits_left d < code.visits_left c
+  pub visits_fall : (tx : Tx) (c d : C) (b : ℕ) → Steps code Of tx c b d → code.visits_left d < code.visits_left c
   -- what it leaves: a slice of a reader gives back the state that it got
   pub readers_leave : (tx : Tx) (c : C) (s : State) → code.only_reads tx ≡ true → Of tx c → (code.slice c s).state ≡ s
   -- what it means

@@ -4,7 +4,7 @@ use Rattle.std.proofs.Common.{sym, subst}
 use Rattle.snap_base.specs.declared.transactions.State.{State}
 use Rattle.snap_base.specs.declared.transactions.Tx.{Tx}
 use Rattle.protocol.specs.Fixed.{Text, Fixed, Code, Go, tx_at}
-use Rattle.protocol.specs.Facts.{Alone, Facts}
+use Rattle.protocol.specs.Facts.{Alone, Steps, Facts}
 
 -- slices on these states, one after the other, lead from one control to another one
 abbrev pub Leads : {C : Type 0} → Code C → C → List State → C → Type 0
@@ -33,23 +33,23 @@ leads_more code c (r ∷ rs) d e s b l q = let m = leads_more code l.1.0 rs d e 
 
 leads_of : {C : Type 0} (actors : ℕ) (code : Code C) (Allowed : Tx → Type 0) (Of : Tx → C → Type 0) (finish : C → List State → Alone) (tx : Tx) → Facts actors code Allowed Of finish → (c : C) (ss : List State) (d : C) → Of tx c → Leads code c ss d → Of tx d
 leads_of actors code Allowed Of finish tx f c [] d o l = subst (λ x. Of tx x) l o
-leads_of actors code Allowed Of finish tx f c (s ∷ ss) d o l = leads_of actors code Allowed Of finish tx f l.1.0 ss d (f.stays tx c l.1.0 s l.0 o l.1.1.0) l.1.1.1
+leads_of actors code Allowed Of finish tx f c (s ∷ ss) d o l = leads_of actors code Allowed Of finish tx f l.1.0 ss d (f.stays tx c l.1.0 l.0 (record { from = s; of_it = o; goes = l.1.1.0 })) l.1.1.1
 
 pub facts_of_rests : {C : Type 0} (actors : ℕ) (code : Code C) (Allowed Fewer : Tx → Type 0) (Of : Tx → C → Type 0) (finish : C → List State → Alone) → ((tx : Tx) → Fewer tx → Allowed tx) → Facts actors code Allowed Of finish → Facts actors code Fewer (IsRest code Fewer) finish
 facts_of_rests {C} actors code Allowed Fewer Of finish fewer f = record {
   starts = λ t tx is. (is, (t, ([], refl)));
-  stays = λ tx c d s b r q. let m = leads_more code (code.start r.1.0 tx) r.1.1.0 c d s b r.1.1.1 q in (r.0, (r.1.0, m));
+  stays = λ tx c d b x. let r = x.of_it in let m = leads_more code (code.start r.1.0 tx) r.1.1.0 c d x.from b r.1.1.1 x.goes in (r.0, (r.1.0, m));
   begins_at_root = f.begins_at_root;
-  goes_elsewhere = λ tx c d s b r q. f.goes_elsewhere tx c d s b (of tx c r) q;
+  goes_elsewhere = λ tx c d b x. f.goes_elsewhere tx c d b (step tx c d b x);
   rests_where_it_stands = λ tx c p r. f.rests_where_it_stands tx c p (of tx c r);
   rests_on_declared = λ t tx a is. f.rests_on_declared t tx a (fewer tx is);
-  rests_no_further = λ tx c d s a b p r q. f.rests_no_further tx c d s a b p (of tx c r) q;
+  rests_no_further = λ tx c d a b p x. f.rests_no_further tx c d a b p (step tx c d b x);
   stood_here = λ tx c r. f.stood_here tx c (of tx c r);
-  stood_before = λ tx c d s a b r q. f.stood_before tx c d s a b (of tx c r) q;
+  stood_before = λ tx c d a b x. f.stood_before tx c d a b (step tx c d b x);
   few_actors = λ tx c r. f.few_actors tx c (of tx c r);
   few_visits = f.few_visits;
   one_visit = λ tx c r. f.one_visit tx c (of tx c r);
-  visits_fall = λ tx c d s b r q. f.visits_fall tx c d s b (of tx c r) q;
+  visits_fall = λ tx c d b x. f.visits_fall tx c d b (step tx c d b x);
   readers_leave = λ tx c s e r. f.readers_leave tx c s e (of tx c r);
   only_named_by_tid = f.only_named_by_tid;
   slices_keep_the_meaning = λ tx c world r l. f.slices_keep_the_meaning tx c world (of tx c r) l;
@@ -57,3 +57,6 @@ facts_of_rests {C} actors code Allowed Fewer Of finish fewer f = record {
   where
     of : (tx : Tx) (c : C) → IsRest code Fewer tx c → Of tx c
     of tx c r = leads_of actors code Allowed Of finish tx f (code.start r.1.0 tx) r.1.1.0 c (f.starts r.1.0 tx (fewer tx r.0)) r.1.1.1
+
+    step : (tx : Tx) (c d : C) (b : ℕ) → Steps code (IsRest code Fewer) tx c b d → Steps code Of tx c b d
+    step tx c d b x = record { from = x.from; of_it = of tx c x.of_it; goes = x.goes }

@@ -212,18 +212,18 @@ pub example_facts : (actors : ℕ) → Facts actors (scripts actors) (IsTxOf act
 unfolding script
 example_facts actors = record {
   starts = λ t tx h. begins tx h (task_of tx.method tx) (begins_at tx) (reading tx);
-  stays = λ tx c d s b h e. (right actors tx c.task c.limited c.rests s b d h e).rest;
+  stays = λ tx c d b x. (right actors tx c.task c.limited c.rests x.from b d x.of_it x.goes).rest;
   begins_at_root = λ t tx. (begins_at tx).0;
-  goes_elsewhere = λ tx c d s b h e. let g = right actors tx c.task c.limited c.rests s b d h e in (g.there, g.other, subst (λ z. z < actors) g.there g.rest.here);
+  goes_elsewhere = λ tx c d b x. let g = right actors tx c.task c.limited c.rests x.from b d x.of_it x.goes in (g.there, g.other, subst (λ z. z < actors) g.there g.rest.here);
   rests_where_it_stands = λ tx c p h. h.rests_here (h.kind ∙ p);
   rests_on_declared = λ t tx a allowed p h. h;
-  rests_no_further = λ tx c d s a b p h e q. (right actors tx c.task c.limited c.rests s b d h e).rests a q;
+  rests_no_further = λ tx c d a b p x q. (right actors tx c.task c.limited c.rests x.from b d x.of_it x.goes).rests a q;
   stood_here = λ tx c h. stands_in c.task;
-  stood_before = λ tx c d s a b h e q. (right actors tx c.task c.limited c.rests s b d h e).stood a q;
+  stood_before = λ tx c d a b x q. (right actors tx c.task c.limited c.rests x.from b d x.of_it x.goes).stood a q;
   few_actors = λ tx c h. few c.task;
   few_visits = λ t tx. at_most_3 (task_of tx.method tx);
   one_visit = λ tx c h. at_least_1 c.task;
-  visits_fall = λ tx c d s b h e. omega (arith, (right actors tx c.task c.limited c.rests s b d h e).less);
+  visits_fall = λ tx c d b x. omega (arith, (right actors tx c.task c.limited c.rests x.from b d x.of_it x.goes).less);
   readers_leave = λ tx c s q h. peeks actors c c.task s (h.reads q);
   only_named_by_tid = λ t u tx world. refl;
   slices_keep_the_meaning = λ tx c world h lt. meaning actors tx c world h;

@@ -270,8 +270,8 @@ pub goes_on_undone : {C : Type 0} (w : Fixed C) (Of : Tx → C → Type 0) (fini
     → (i : ℕ) → w.code.rests_on d i ≡ true → AllByRecursion (NotDone t) (cell_at (after w (Run t a) s) i).entries
 unfolding after
 goes_on_undone {C} w Of finish tx t a c d b x s f p o q e n h i r = elim (cases_Bool (a == i)) [
-  | inl g ↦ let j : a ≡ i = eqb-true a i g in one_at t s.cells a _ (own (subst (λ z. w.code.rests_on d z ≡ true) (sym j) r)) i (h i (f.rests_no_further tx c d (cell_at s a).state i b p o n r))
-  | inr g ↦ rw (Rattle.std.proofs.lemmas.List.get_or-set_other s.cells a i (cell.slice_run w.code t a (cell_at s a)) no_cell (λ v. Rattle.std.proofs.lemmas.Bool.eqb-false a i g (sym v))) (h i (f.rests_no_further tx c d (cell_at s a).state i b p o n r))
+  | inl g ↦ let j : a ≡ i = eqb-true a i g in one_at t s.cells a _ (own (subst (λ z. w.code.rests_on d z ≡ true) (sym j) r)) i (h i (f.rests_no_further tx c d i b p (record { from = (cell_at s a).state; of_it = o; goes = n }) r))
+  | inr g ↦ rw (Rattle.std.proofs.lemmas.List.get_or-set_other s.cells a i (cell.slice_run w.code t a (cell_at s a)) no_cell (λ v. Rattle.std.proofs.lemmas.Bool.eqb-false a i g (sym v))) (h i (f.rests_no_further tx c d i b p (record { from = (cell_at s a).state; of_it = o; goes = n }) r))
 ]
   where
     own : w.code.rests_on d a ≡ true → AllByRecursion (NotDone t) (cell_at s a).entries → AllByRecursion (NotDone t) (cell.slice_run w.code t a (cell_at s a)).entries

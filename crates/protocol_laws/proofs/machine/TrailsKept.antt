@@ -12,7 +12,7 @@ use Rattle.protocol.specs.Events.{Event, Form, Admit, Run}
 use Rattle.protocol.specs.Words.{waiting_of}
 use Rattle.protocol.specs.Conditions.{IsAllowed, conditions, queue}
 use Rattle.protocol.specs.Effects.{after, cell_at, no_cell}
-use Rattle.protocol.specs.Facts.{Alone, Facts, state_in, rest_of}
+use Rattle.protocol.specs.Facts.{Alone, Steps, Facts, state_in, rest_of}
 use Rattle.protocol.specs.Numbers.{times, once_in, controls_in}
 use Rattle.protocol.specs.OnRing as ring
 use Rattle.protocol.specs.OnPost as post
@@ -50,7 +50,9 @@ pub step : {C : Type 0} (w : Fixed C) (Of : Tx → C → Type 0) (finish : C →
 step {C} w Of finish r t a c s f e = record { of_it = next (w.code.slice c s).next refl; meaning = mean }
   where
     next : (n : Next C) → (w.code.slice c s).next ≡ n → IsOf w Of (tx_at w.text r.tx) n
-    next (Go b d) q = let g = f.goes_elsewhere (tx_at w.text r.tx) c d s b e.of_it.0 q in (f.stays (tx_at w.text r.tx) c d s b e.of_it.0 q, g.0, g.2)
+    next (Go b d) q =
+        let x : Steps w.code Of (tx_at w.text r.tx) c b d = record { from = s; of_it = e.of_it.0; goes = q } in
+        let g = f.goes_elsewhere (tx_at w.text r.tx) c d b x in (f.stays (tx_at w.text r.tx) c d b x, g.0, g.2)
     next (Ended x) q = tt
 
     mean : (world : List State) → length world ≡ length w.text.opening.states → Walks (r.steps ++ record { actor = a; found = s; left = (w.code.slice c s).state } ∷ []) world

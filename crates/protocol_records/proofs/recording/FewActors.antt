@@ -170,7 +170,7 @@ visited_kept {C} w Of finish (Run t a) s h v ok g r = ControlWalk.moves w (Run t
         on (tx_at w.text (h.trails x.tid).tx) (subst (λ z. EachAct (Within z (w.code.visited x.control)) s.book.acts) (eqb-true x.tid t old.1) old.0) told.0.of_it.0 (w.code.slice x.control (cell_at s a).state).next refl
       where
         on : (tx : Tx) → EachAct (Within t (w.code.visited x.control)) s.book.acts → Of tx x.control → (n : Next C) → (w.code.slice x.control (cell_at s a).state).next ≡ n → Visited w s.book.acts t n
-        on tx p o (Go b d) q = λ u y f i. weaker (λ n. is_among n (w.code.visited x.control) ≡ true) (λ n. is_among n (w.code.visited d) ≡ true) (map (λ p. p.actor) y.places) (λ n k. v.facts.stood_before tx x.control d (cell_at s a).state n b o q k) (p u y f i)
+        on tx p o (Go b d) q = λ u y f i. weaker (λ n. is_among n (w.code.visited x.control) ≡ true) (λ n. is_among n (w.code.visited d) ≡ true) (map (λ p. p.actor) y.places) (λ n k. v.facts.stood_before tx x.control d n b (record { from = (cell_at s a).state; of_it = o; goes = q }) k) (p u y f i)
         on tx p o (Ended z) q = tt
 visited_kept {C} w Of finish (Ask t a) s h v ok g r = ControlWalk.both (λ u n. Visited w s.book.acts u n × OnVisited w u n) (IsAt t a m.0.control) (Visited w (after w (Ask t a) s).book.acts) (after w (Ask t a) s) (λ u n p q. one u n p.0 p.1 q)
     (ControlWalk.moves w (Ask t a) s (λ u n. Visited w s.book.acts u n × OnVisited w u n) ok tt (ControlWalk.both (Visited w s.book.acts) (OnVisited w) (λ u n. Visited w s.book.acts u n × OnVisited w u n) s (λ u n p q. (p, q)) r (on_visited w Of finish s h v g.good.told)))

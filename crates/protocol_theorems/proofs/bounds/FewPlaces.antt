@@ -173,7 +173,7 @@ ran_seen {C} w Of finish h xs v b c st g told seen = by (w.code.slice c st).next
   where
     by : (n : Next C) → (w.code.slice c st).next ≡ n → Seen w xs v n
     by (Ended r) e = tt
-    by (Go d k) e = λ t x f i. in_further (w.code.visited c) (w.code.visited k) x.places (λ z q. g.facts.stood_before (tx_at w.text (h.trails v).tx) c k st z d told.of_it.0 e q) (seen t x f i)
+    by (Go d k) e = λ t x f i. in_further (w.code.visited c) (w.code.visited k) x.places (λ z q. g.facts.stood_before (tx_at w.text (h.trails v).tx) c k z d (record { from = st; of_it = told.of_it.0; goes = e }) q) (seen t x f i)
 
 run_own : {C : Type 0} (w : Fixed C) (Of : Tx → C → Type 0) (finish : C → List State → Alone) (t a : ℕ) (s : Machine C) (h : History) → Given w Of finish → AllGood w Of finish s h → AllControls (Seen w s.book.acts) s
     → (x : Waiting C) → waiting_of t (cell_at s a).inbox ≡ Some x → Seen w (after w (Run t a) s).book.acts t (w.code.slice x.control (cell_at s a).state).next

@@ -101,7 +101,7 @@ declares_kept {C} w Of finish (Run t a) s h f ok queued one told g = by (waiting
       where
         next : (m : Next C) → (w.code.slice x.control (cell_at s a).state).next ≡ m → DeclaredBy w (h.trails t).tx (Go a x.control) → Of (tx_at w.text (h.trails t).tx) x.control → DeclaredBy w (h.trails t).tx m
         next (Ended r) v d o = tt
-        next (Go b c) v d o = λ p k r. d p k (f.rests_no_further (tx_at w.text (h.trails t).tx) x.control c (cell_at s a).state k b p o v r)
+        next (Go b c) v d o = λ p k r. d p k (f.rests_no_further (tx_at w.text (h.trails t).tx) x.control c k b p (record { from = (cell_at s a).state; of_it = o; goes = v }) r)
 declares_kept w Of finish e s h f ok queued one told g = ControlWalk.moves w e s (Declares w h) ok tt g
 
 -- ---- the new ones of a batch

@@ -316,7 +316,7 @@ slice_costs {C} w Of finish tids t a s xs (Some x) f e q k =
     omega (arith, total_out (waiting_left w.code tids) (λ x. x.tid == t) x xs e, c, j)
   where
     by : (tx : Tx) → Of tx x.control → (n : Next C) → (w.code.slice x.control s).next ≡ n → next_left w.code (visit (is_among t tids)) n + 1 ≤ visit (is_among t tids) * rest w.code x.control + 2
-    by tx p (Go b d) g = LeftLists.run_falls (is_among t tids) (rest w.code x.control) (rest w.code d) (omega (arith, f.visits_fall tx x.control d s b p g, f.one_visit tx d (f.stays tx x.control d s b p g)))
+    by tx p (Go b d) g = LeftLists.run_falls (is_among t tids) (rest w.code x.control) (rest w.code d) (omega (arith, f.visits_fall tx x.control d b (record { from = s; of_it = p; goes = g }), f.one_visit tx d (f.stays tx x.control d b (record { from = s; of_it = p; goes = g }))))
     by tx p (Ended r) g = omega arith
 
 pub outbox_join : {C : Type 0} (code : Code C) (tids : List ℕ) (xs ys : List (Outcome C)) → total (outcome_left code tids) (xs ++ ys) ≡ total (outcome_left code tids) xs + total (outcome_left code tids) ys
