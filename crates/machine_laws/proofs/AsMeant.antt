@@ -20,7 +20,7 @@ use Rattle.protocol.specs.Chains.{is_place_below, put_by_place, by_place, txs_of
 use Rattle.protocol_laws.specs.Commits.{left_of}
 use Rattle.protocol_laws.specs.Linked.{IsExplained}
 use Rattle.protocol_theorems.specs.Order.{OrderHolds}
-use Rattle.protocol_records.specs.AsTold.{told, ToldStands}
+use Rattle.protocol_records.specs.AsTold.{told_committed, ToldStands}
 use Rattle.protocol_records.specs.Crash.{CrashHolds, members}
 use Rattle.machine_code.specs.MethodCode.{finish, method_code}
 use Rattle.machine_laws.specs.Programs.{IsTextOf, with_code, finish_of}
@@ -91,11 +91,11 @@ all_did p w (d ∷ ds) meant is there e = (did_meant p w d meant is there.0 e.0,
 
 pub committed_meant : (p : List CheckedMethod) (w : Text) (s : Machine Rest) (h : History) → AloneMeant p → SerialMeant p → IsTextOf p w → AreThere w h.committed → OrderHolds (with_code p w) (finish_of p w) s h → ToldStands (with_code p w) (finish_of p w) s h → CommittedAsMeant p (with_code p w) (finish_of p w) s h
 committed_meant p w s h one meant is there order ts =
-    let same_told = run_meant p w (told s h) meant is (all_filter (λ d. d.tx < length w.txs) _ h.committed there) in
+    let same_told = run_meant p w (told_committed s h) meant is (all_filter (λ d. d.tx < length w.txs) _ h.committed there) in
     let same = run_meant p w h.committed meant is there in
     record {
       results = subst (λ (x : Serial). map Some x.results ≡ map (λ d. d.result) (by_place h.committed)) same order.stands.serial;
-      told = subst (λ (x : Serial). map Some x.results ≡ map (λ d. d.result) (by_place (told s h))) same_told ts.serial;
+      told = subst (λ (x : Serial). map Some x.results ≡ map (λ d. d.result) (by_place (told_committed s h))) same_told ts.serial;
       explained = all_did p w h.committed one is there order.stands.explained;
       states = λ quiet. order.last_states quiet ∙ ap (λ (x : Serial). x.world) same;
     }

@@ -1,4 +1,4 @@
--- Who is told a place is told what the language means there.
+-- Who is told_committed a place is told_committed what the language means there.
 use Rattle.std.specs.Prelude.{◌≡◌, refl, ℕ, ◌<◌, Some, List, [], ◌∷◌, ◌++◌, length, map}
 use Rattle.std.specs.List.{AllByRecursion}
 use Rattle.std.proofs.Common.{sym, subst, ◌∙◌, ap}
@@ -20,7 +20,7 @@ use Rattle.protocol.specs.Events.{Event, Abort}
 use Rattle.protocol.specs.History.{Done, history}
 use Rattle.protocol.specs.Chains.{by_place, txs_of, IsSerial}
 use Rattle.protocol_laws.specs.Told.{IsAmongDone}
-use Rattle.protocol_records.specs.AsTold.{told, ToldStands}
+use Rattle.protocol_records.specs.AsTold.{told_committed, ToldStands}
 use Rattle.protocol_verdicts.proofs.evidence.EvidenceSerial.{SplitAt, sorted_at}
 use Rattle.protocol_verdicts.specs.EvidenceSerial.{HasResultThere, FailedAt, counts, counted, VerdictsTell}
 use Rattle.machine_laws.specs.Meant.{IsAsMeant, HasMeantResult, FailedAsMeant, VerdictsAsMeant}
@@ -162,7 +162,7 @@ failed_meant p w n k c code es meant is there pacts h =
 
 pub verdicts_meant : (p : List CheckedMethod) (w : Text) (es : List Event) → SerialMeant p → IsTextOf p w → AreThere w (history (with_code p w) es).committed
     → ((front later : List Event) → es ≡ front ++ later → (k : ℕ) (b : Batch) → batch_of k (reached (with_code p w) front).desk.batches ≡ Some b → AllByRecursion (λ (q : Pact). q.tx < length w.txs) b.pacts)
-    → IsSerial (with_code p w) (finish_of p w) (history (with_code p w) es).committed → IsAsMeant p (with_code p w) (history (with_code p w) es).committed → IsAsMeant p (with_code p w) (told (reached (with_code p w) es) (history (with_code p w) es)) → ToldStands (with_code p w) (finish_of p w) (reached (with_code p w) es) (history (with_code p w) es)
+    → IsSerial (with_code p w) (finish_of p w) (history (with_code p w) es).committed → IsAsMeant p (with_code p w) (history (with_code p w) es).committed → IsAsMeant p (with_code p w) (told_committed (reached (with_code p w) es) (history (with_code p w) es)) → ToldStands (with_code p w) (finish_of p w) (reached (with_code p w) es) (history (with_code p w) es)
     → VerdictsTell (with_code p w) (finish_of p w) es → VerdictsAsMeant p (with_code p w) (finish_of p w) es
 verdicts_meant p w es meant is there pacts runs means means_told ts tells = record {
   value = λ n at v q. result_meant p (with_code p w) (finish_of p w) n at _ (history (with_code p w) es).committed runs means (tells.value n at v q);

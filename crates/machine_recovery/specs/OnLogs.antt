@@ -18,7 +18,7 @@ use Rattle.protocol_records.specs.SeveralRuns.{CutRun, logs_left}
 use Rattle.txn_records.specs.declared.records.Record.{Record}
 use Rattle.snap_recover.specs.declared.openings.Opening.{Opening}
 use Rattle.snap_recover.specs.Opening.{IsRecovered}
-use Rattle.recovery_laws.specs.Grown.{grown, Answer, answers_of, all_in, BeginsWith, opening_after}
+use Rattle.recovery_laws.specs.Grown.{grown, PlacedResult, answers_of, all_in, BeginsWith, opening_after}
 use Rattle.machine_laws.specs.Meant.{IsAsMeant, meant_run}
 use Rattle.machine_laws.specs.Programs.{IsTextOf, with_code, finish_of}
 
@@ -34,7 +34,7 @@ AtEveryMomentOnLogsOf p P =
 -- other in the order of their places, the values that recovery gives are these results, and the states are those that this leaves.
 pub record RecoversAsMeant (p : List CheckedMethod) (w : Fixed Rest) (finish : Rest → List State → Alone) (earlier : List (List Record)) (o : Opening) (s : Machine Rest) (h : History) (logs : ℕ → List LogRecord) : Type 0 where
   pub results : IsAsMeant p w (members w.text.logs logs h)
-  pub values : map (λ (x : Answer). x.2) (flat_map answers_of (all_in w.text.logs logs s)) ≡ map Some (meant_run p w (members w.text.logs logs h)).results
+  pub values : map (λ (x : PlacedResult). x.2) (flat_map answers_of (all_in w.text.logs logs s)) ≡ map Some (meant_run p w (members w.text.logs logs h)).results
   pub states : (a : ℕ) → a < length w.text.opening.states → state_in (opening_after w o s logs).states a ≡ state_in (meant_run p w (members w.text.logs logs h)).world a
 
 -- ---- several runs

@@ -49,8 +49,8 @@ pub record HasValue (t : ℕ) (h : History) : Type 0 where
   pub value : is_value done.result ≡ true
 
 -- Who is in the set has with it all that committed with a value and was placed before it.
-abbrev pub IsClosed : (ℕ → Type 0) → History → Type 0
-IsClosed In h = (t u : ℕ) → In u → IsBefore t u h → HasValue t h → In t
+abbrev pub IsClosedSet : (ℕ → Type 0) → History → Type 0
+IsClosedSet In h = (t u : ℕ) → In u → IsBefore t u h → HasValue t h → In t
 
 -- ---- the order of places: batch, then side, then order
 

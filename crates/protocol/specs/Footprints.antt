@@ -9,9 +9,9 @@ use Rattle.protocol.specs.Conditions.{conditions}
 use Rattle.protocol.specs.Effects.{after}
 
 -- the numbers ascend strictly, from this one on
-abbrev pub Ascends : ℕ → List ℕ → Type 0
-Ascends low [] = ⊤
-Ascends low (i ∷ is) = (low ≤ i) × Ascends (suc i) is
+abbrev pub AscendsFrom : ℕ → List ℕ → Type 0
+AscendsFrom low [] = ⊤
+AscendsFrom low (i ∷ is) = (low ≤ i) × AscendsFrom (suc i) is
 
 -- two states have the same parts at these numbers
 abbrev pub SameOn : {C : Type 0} → List ℕ → Machine C → Machine C → Type 0
@@ -33,4 +33,4 @@ pub record ReadsItsParts {C : Type 0} (w : Fixed C) (e : Event) (s t : Machine C
 
 pub record IsFootprint (logs : ℕ) (e : Event) : Type 0 where
   pub few : length (footprint logs e) ≤ 4
-  pub ascends : Ascends 0 (footprint logs e)
+  pub ascends : AscendsFrom 0 (footprint logs e)

@@ -110,12 +110,12 @@ cell_left code tids e c = (e - c.epoch) + (total entry_left c.entries + (total (
 abbrev pub act_tids : {C : Type 0} → Machine C → List ℕ
 act_tids s = map (λ x. x.tid) s.book.acts
 
-abbrev pub left_as : {C : Type 0} → Fixed C → List ℕ → Machine C → ℕ
-left_as w tids s =
+abbrev pub left_with_acts : {C : Type 0} → Fixed C → List ℕ → Machine C → ℕ
+left_with_acts w tids s =
     ring_left w s.ring + (total act_left s.book.acts
     + (total sub_left s.post.subs + (total (control_left w.code tids) s.post.controls
     + (total batch_left s.desk.batches + (total reply_left s.desk.replied
     + (total log_left s.logs + total (cell_left w.code tids (epoch s.book)) s.cells))))))
 
 abbrev pub left : {C : Type 0} → Fixed C → Machine C → ℕ
-left w s = left_as w (act_tids s) s
+left w s = left_with_acts w (act_tids s) s

@@ -66,12 +66,12 @@ abbrev pub outcome_tids : {C : Type 0} → List (Outcome C) → List ℕ
 outcome_tids outbox = map (λ x. x.tid) outbox
 
 -- whose controls lie in the post, in these inboxes and in these outboxes
-abbrev pub tids_in : {C : Type 0} → List (ControlMessage C) → List (List (Waiting C)) → List (List (Outcome C)) → List ℕ
-tids_in controls inboxes outboxes = map (λ m. m.tid) controls ++ (flat (map waiting_tids inboxes) ++ flat (map outcome_tids outboxes))
+abbrev pub tids_of_controls : {C : Type 0} → List (ControlMessage C) → List (List (Waiting C)) → List (List (Outcome C)) → List ℕ
+tids_of_controls controls inboxes outboxes = map (λ m. m.tid) controls ++ (flat (map waiting_tids inboxes) ++ flat (map outcome_tids outboxes))
 
 -- where a control may be: the post, an inbox, or an outbox
 abbrev pub controls_in : {C : Type 0} → Machine C → List ℕ
-controls_in s = tids_in s.post.controls (map (λ c. c.inbox) s.cells) (map (λ c. c.outbox) s.cells)
+controls_in s = tids_of_controls s.post.controls (map (λ c. c.inbox) s.cells) (map (λ c. c.outbox) s.cells)
 
 -- The batches have the numbers from the opening's on, in order, and each tid from the opening's on that was drawn
 -- is one batch's or one ACT's.

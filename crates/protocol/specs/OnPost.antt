@@ -35,9 +35,9 @@ going_on who t (Go b control) = record { tid = t; who = who; to = b; control = c
 going_on who t (Ended r) = []
 
 -- what goes on from an outcome
-abbrev pub going : {C : Type 0} → Who → Option (Outcome C) → List (ControlMessage C)
-going who None = []
-going who (Some x) = going_on who x.tid x.next
+abbrev pub handed_on : {C : Type 0} → Who → Option (Outcome C) → List (ControlMessage C)
+handed_on who None = []
+handed_on who (Some x) = going_on who x.tid x.next
 
 abbrev pub sent : {C : Type 0} → Who → Option (Outcome C) → Post C → Post C
-sent who x p = record p { controls = p.controls ++ going who x }
+sent who x p = record p { controls = p.controls ++ handed_on who x }

@@ -43,14 +43,14 @@ pub record IsCarried (pairs : List Pair) (acts : List Act) (number : ℕ → ℕ
   pub on : IsCarriedOn pairs acts number
   pub least : (other : ℕ → ℕ) → IsCarriedOn pairs acts other → AllByRecursion (λ x. number x.tid ≤ other x.tid) acts
 
-abbrev pub numbered : (ℕ → ℕ) → Act → Act
-numbered number x = record x { m = number x.tid }
+abbrev pub renumbered : (ℕ → ℕ) → Act → Act
+renumbered number x = record x { m = number x.tid }
 
 -- these are the ACTs once their numbers are carried through all pairs
 pub record AreCarried (pairs : List Pair) (acts risen : List Act) : Type 0 where
   pub number : ℕ → ℕ
   pub is_carried : IsCarried pairs acts number
-  pub are : risen ≡ map (numbered number) acts
+  pub are : risen ≡ map (renumbered number) acts
 
 -- ---- doom: of each that has not left all its actors, is not doomed, and whose numbers cross
 
@@ -128,8 +128,8 @@ rolls_back cascades c = record c {
 
 -- ---- an ACT leaves: by what its own entry took
 
-abbrev pub left_by : {C : Type 0} → ℕ → Option Act → Cell C → Cell C
-left_by t x c = record c {
+abbrev pub left_by_act : {C : Type 0} → ℕ → Option Act → Cell C → Cell C
+left_by_act t x c = record c {
   state = if is_undone_act x then state_before (own_entries t c.entries) c.state c.images else c.state;
   images = images_without (own_entries t c.entries) c.images;
   floors = floors_after c.floors x;
@@ -140,7 +140,7 @@ left_by t x c = record c {
 
 -- where it has no entry the cell stays as it is
 abbrev pub leaves : {C : Type 0} → ℕ → Option Act → Cell C → Cell C
-leaves t x c = if has_act t c.entries then left_by t x c else c
+leaves t x c = if has_act t c.entries then left_by_act t x c else c
 
 -- ---- a reply: to who has ended
 

@@ -14,14 +14,14 @@ abbrev pub is_free : Bool → Act → Bool
 is_free r x = (r && x.reader) || not (is_live_status x.status)
 
 -- or its before number is at least this; `r` tells whether that is a reader's
-abbrev pub is_over : Bool → ℕ → Act → Bool
-is_over r high x = is_free r x || nat_le high x.m
+abbrev pub is_free_or_above : Bool → ℕ → Act → Bool
+is_free_or_above r high x = is_free r x || nat_le high x.m
 
 -- each live ACT that stands there has a before number at least this
 abbrev pub AllOver : Bool → List Act → ℕ → List Ran → Type 0
 AllOver r acts high [] = ⊤
 AllOver r acts high (Stands (OfBatch k) c ss ∷ rs) = AllOver r acts high rs
-AllOver r acts high (Stands (OfAct t) c ss ∷ rs) = (holds (is_over r high) (act_of t acts) ≡ true) × AllOver r acts high rs
+AllOver r acts high (Stands (OfAct t) c ss ∷ rs) = (holds (is_free_or_above r high) (act_of t acts) ≡ true) × AllOver r acts high rs
 AllOver r acts high (Gone y ss ∷ rs) = AllOver r acts high rs
 
 -- ---- ACTs with no batch between them are pairs
@@ -92,6 +92,6 @@ own_floor true f = f.read
 own_floor false f = f.write
 
 -- a batch is on the long schedule; an ACT stands there, or has raised its floor
-abbrev pub Shows : List Cascade → ℕ → ℕ → Who → List Ran → Type 0
-Shows cs floor n (OfBatch k) long = (n ≡ k) × (is_among k (batches_in long) ≡ true)
-Shows cs floor n (OfAct u) long = (n ≤ floor) ⊎ StandsBelow cs n u long
+abbrev pub ShowsNumber : List Cascade → ℕ → ℕ → Who → List Ran → Type 0
+ShowsNumber cs floor n (OfBatch k) long = (n ≡ k) × (is_among k (batches_in long) ≡ true)
+ShowsNumber cs floor n (OfAct u) long = (n ≤ floor) ⊎ StandsBelow cs n u long

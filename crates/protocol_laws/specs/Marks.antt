@@ -18,16 +18,16 @@ is_done_as k (Gone y ss) = is_who y (OfBatch k)
 abbrev pub is_done : ℕ → List Ran → Bool
 is_done k rs = list_any (is_done_as k) rs
 
-abbrev pub IsOver : ℕ → List Cascade → List Ran → Type 0
-IsOver k cs rs = (is_aborted k cs ≡ true) ⊎ (is_done k rs ≡ true)
+abbrev pub IsAbortedOrDone : ℕ → List Cascade → List Ran → Type 0
+IsAbortedOrDone k cs rs = (is_aborted k cs ≡ true) ⊎ (is_done k rs ≡ true)
 
 pub record Marks (cs : List Cascade) (long : ℕ → List Ran) (kept : List Who) (k : ℕ) (b : Batch) : Type 0 where
-  pub noted : AllByRecursion (λ p. p.noted ≡ true → IsOver k cs (long p.actor)) b.places
+  pub noted : AllByRecursion (λ p. p.noted ≡ true → IsAbortedOrDone k cs (long p.actor)) b.places
   pub all_noted : is_formed b.stage ≡ false → list_all (λ p. p.noted) b.places ≡ true
   pub known : is_kept (OfBatch k) kept ≡ not (is_formed b.stage)
 
 unfoldable pub Recorded : {C : Type 0} → Fixed C → Machine C → History → Type 0
-Recorded w s h = (k a : ℕ) → list_any (is_complete k a) (log_at s (a % w.text.logs)).records ≡ true → IsOver k s.book.cascades (h.long a)
+Recorded w s h = (k a : ℕ) → list_any (is_complete k a) (log_at s (a % w.text.logs)).records ≡ true → IsAbortedOrDone k s.book.cascades (h.long a)
 
 unfoldable pub Marked : {C : Type 0} → Machine C → History → Type 0
 Marked s h = (k : ℕ) (b : Batch) → batch_of k s.desk.batches ≡ Some b → Marks s.book.cascades h.long h.kept k b

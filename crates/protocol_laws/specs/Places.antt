@@ -36,7 +36,7 @@ FirmUpTo settled cs who (Gone y ss ∷ rs) = FirmUpTo settled cs who rs
 
 -- a batch was formed, is not of a later epoch than its cell, and of just that one where it is aborted; where it is
 -- of the cell's epoch it is not above the tail
-pub record Fits (next : ℕ) (cs : List Cascade) (epoch tail k : ℕ) : Type 0 where
+pub record FitsCell (next : ℕ) (cs : List Cascade) (epoch tail k : ℕ) : Type 0 where
   pub formed : k < next
   pub placed : epoch_of k cs ≤ epoch
   pub aborted : is_aborted k cs ≡ true → epoch_of k cs ≡ epoch
@@ -44,6 +44,6 @@ pub record Fits (next : ℕ) (cs : List Cascade) (epoch tail k : ℕ) : Type 0 w
 
 pub record Places (next settled : ℕ) (cs : List Cascade) (epoch tail : ℕ) (long : List Ran) : Type 0 where
   pub behind : epoch ≤ length cs
-  pub fit : AllByRecursion (Fits next cs epoch tail) (batches_in long)
+  pub fit : AllByRecursion (FitsCell next cs epoch tail) (batches_in long)
   pub ascends : Ascends (batches_in long)
   pub firm : FirmUpToGone settled cs long

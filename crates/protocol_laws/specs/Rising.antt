@@ -14,8 +14,8 @@ abbrev pub visitors : ℕ → List Done → List Done
 visitors a ds = filter (visits a) ds
 
 -- the first number of its place: of a PACT its batch, of an ACT its before number
-abbrev pub number_of : Done → ℕ
-number_of d = d.place.batch.0
+abbrev pub first_number_of : Done → ℕ
+first_number_of d = d.place.batch.0
 
 -- of this kind: readers, or others
 abbrev pub is_as : Bool → Done → Bool
@@ -24,7 +24,7 @@ is_as false d = not d.reader
 
 -- the greatest of those of all of one kind that came to the actor
 abbrev pub highest : Bool → ℕ → List Done → ℕ
-highest r a ds = greatest (map number_of (filter (is_as r) (visitors a ds)))
+highest r a ds = greatest (map first_number_of (filter (is_as r) (visitors a ds)))
 
 -- of every two, one place is below the other one
 abbrev pub PlacesDiffer : List Done → Type 0

@@ -7,9 +7,9 @@ use Rattle.protocol.specs.History.{Slice}
 use Rattle.protocol_laws.specs.Tracks.{has_read}
 
 -- no reader runs behind it: a batch that is not complete, or an ACT that does not only read
-abbrev pub blocks : Entry → Bool
-blocks (BatchEntry b) = not b.complete
-blocks (ActEntry x) = not x.reader
+abbrev pub blocks_readers : Entry → Bool
+blocks_readers (BatchEntry b) = not b.complete
+blocks_readers (ActEntry x) = not x.reader
 
 abbrev pub HasNotRead : List Slice → Entry → Type 0
 HasNotRead reads (BatchEntry b) = ⊤
@@ -22,4 +22,4 @@ Seen now reads (ActEntry x) = x.reader ≡ true → AllByRecursion (λ z. z.tid 
 
 abbrev pub SeesAt : State → List Slice → List Entry → Type 0
 SeesAt now reads [] = ⊤
-SeesAt now reads (e ∷ es) = Seen now reads e × (blocks e ≡ true → AllByRecursion (HasNotRead reads) es) × SeesAt now reads es
+SeesAt now reads (e ∷ es) = Seen now reads e × (blocks_readers e ≡ true → AllByRecursion (HasNotRead reads) es) × SeesAt now reads es

@@ -43,14 +43,14 @@ pub record IsAmongDone (n : ℕ) (p : Place) (r : TxResult) (ds : List Done) : T
   pub result : done.result ≡ Some r
 
 -- it is decided or sealed, as this number of the commits of ACTs
-abbrev pub is_at : ℕ → Status → Bool
-is_at c Live = false
-is_at c (Doomed v) = false
-is_at c (Decided d) = d == c
-is_at c (Sealed d) = d == c
+abbrev pub has_number : ℕ → Status → Bool
+has_number c Live = false
+has_number c (Doomed v) = false
+has_number c (Decided d) = d == c
+has_number c (Sealed d) = d == c
 
 abbrev pub ActTold : List Done → ℕ → Act → Type 0
-ActTold ds t x = (c : ℕ) → is_at c x.status ≡ true → AmongDone (OfAct t) t x.tx (act_place x.m c) x.result ds
+ActTold ds t x = (c : ℕ) → has_number c x.status ≡ true → AmongDone (OfAct t) t x.tx (act_place x.m c) x.result ds
 
 abbrev pub PactTold : List Done → ℕ → Pact → Type 0
 PactTold ds k p = AmongDone (OfBatch k) p.tid p.tx (pact_place k p.tid) p.result ds × (is_some p.result ≡ true)
@@ -60,9 +60,9 @@ BatchTold ds k b = is_formed b.stage ≡ false → AllByRecursion (PactTold ds k
 
 -- ---- and the other way round
 
-pub record IsDone (d : Done) (x : Act) : Type 0 where
+pub record IsDoneOfAct (d : Done) (x : Act) : Type 0 where
   pub c : ℕ
-  pub at : is_at c x.status ≡ true
+  pub at : has_number c x.status ≡ true
   pub tid : d.tid ≡ x.tid
   pub tx : d.tx ≡ x.tx
   pub place : d.place ≡ act_place x.m c
@@ -70,7 +70,7 @@ pub record IsDone (d : Done) (x : Act) : Type 0 where
 
 pub record DoneFrom (acts : List Act) (t : ℕ) (d : Done) : Type 0 where
   pub there : is_some (act_of t acts) ≡ true
-  pub is_it : EachAct (λ u x. u ≡ t → IsDone d x) acts
+  pub is_it : EachAct (λ u x. u ≡ t → IsDoneOfAct d x) acts
 
 pub record IsDonePact (k : ℕ) (d : Done) (p : Pact) : Type 0 where
   pub tid : d.tid ≡ p.tid

@@ -23,17 +23,17 @@ abbrev pub first_found : State → List Slice → State
 first_found s [] = s
 first_found s (x ∷ xs) = x.found
 
--- what the last of them left, from this state on
-abbrev pub last_left : State → List Slice → State
-last_left s [] = s
-last_left s (x ∷ xs) = last_left x.left xs
+-- the state that these slices lead to from this one: what the last of them left
+abbrev pub end_state : State → List Slice → State
+end_state s [] = s
+end_state s (x ∷ xs) = end_state x.left xs
 
 -- All slices of an actor are those that stay, and then those that are undone. The state after the undo is the one that the
 -- first of these found, and so the one that the last of those left.
 pub record IsUndone (opening before after : State) (all stay gone : List Slice) : Type 0 where
   pub splits : all ≡ stay ++ gone
   pub found : after ≡ first_found before gone
-  pub left : after ≡ last_left opening stay
+  pub left : after ≡ end_state opening stay
 
 -- at a rollback, and where an ACT leaves that is doomed or failed
 pub record UndoGives {C : Type 0} (w : Fixed C) (finish : C → List State → Alone) (s : Machine C) (h : History) : Type 0 where

@@ -13,7 +13,7 @@ use Rattle.protocol.specs.Effects.{after}
 use Rattle.protocol_ready.specs.Touched
 use Rattle.protocol_ready.specs.Touched.{IsSound, is_touched, reads_changed, changes_who, changes_act}
 use Rattle.protocol_ready.specs.Ready
-use Rattle.protocol_ready.specs.Lying.{all_groups, live, of_batch, coordinators, on_entries, on_marks, on_boxes, on_epoch, comings, arrivals, runs_on, on_control, drops, of_act, on_stage, on_settled}
+use Rattle.protocol_ready.specs.Lying.{live_groups, live, of_batch, next_of_ring, on_entries, on_marks, on_boxes, on_epoch, comings, arrivals, runs_on, on_control, drops, of_act, on_stage, on_settled}
 use Rattle.protocol_ready.specs.Ready.{groups, by_changes}
 use Rattle.protocol_ready.proofs.Cited.{Framed}
 use Rattle.protocol_ready.proofs.Listing.{Has, has_below, is_within, has_left, has_right, has_map, has_filter, has_flat_map, has_at, held, found_in}
@@ -94,10 +94,10 @@ drop_control w e s t u same h g = by (Touched.changes_control w e s u) refl g
 
 pub listed_all : {C : Type 0} (w : Fixed C) (e : Event) (s t : Machine C) → HasControls w e s t → (f : Event) → IsAllowed w f t → reads_changed w e s f ≡ true → Has (by_changes w e s t) f
 unfolding conditions
-listed_all w e s t same (Submit n) ok h = at w e s t 0 (coordinators w t) _ refl (inl (ap Submit (sym (eqb-true n _ (and_parts (n == t.ring.next_tx) _ ok.0).0))))
-listed_all w e s t same (Pass c) ok h = at w e s t 0 (coordinators w t) _ refl (inr (inl (ap Pass (sym (eqb-true c _ ok.0)))))
-listed_all w e s t same (Form k) ok h = at w e s t 0 (coordinators w t) _ refl (inr (inr (inl (ap Form (sym (eqb-true k _ ok.0))))))
-listed_all w e s t same (Admit u) ok h = at w e s t 0 (coordinators w t) _ refl (inr (inr (inr (inl (ap Admit (sym (eqb-true u _ ok.0)))))))
+listed_all w e s t same (Submit n) ok h = at w e s t 0 (next_of_ring w t) _ refl (inl (ap Submit (sym (eqb-true n _ (and_parts (n == t.ring.next_tx) _ ok.0).0))))
+listed_all w e s t same (Pass c) ok h = at w e s t 0 (next_of_ring w t) _ refl (inr (inl (ap Pass (sym (eqb-true c _ ok.0)))))
+listed_all w e s t same (Form k) ok h = at w e s t 0 (next_of_ring w t) _ refl (inr (inr (inl (ap Form (sym (eqb-true k _ ok.0))))))
+listed_all w e s t same (Admit u) ok h = at w e s t 0 (next_of_ring w t) _ refl (inr (inr (inr (inl (ap Admit (sym (eqb-true u _ ok.0)))))))
 listed_all w e s t same (Arrive k a) ok h =
     either _ _ h
     (λ x. either (Touched.changes_subs e k) (Touched.changes_sub e k a) x
@@ -223,8 +223,8 @@ listed_all w e s t same (Trim k a) ok h =
 
 -- ---- after a cascade, and at the opening
 
-at_all : {C : Type 0} (w : Fixed C) (t : Machine C) (n : ℕ) (xs : List Event) (f : Event) → slice_get (all_groups w t) n ≡ Some xs → Has xs f → Has (live w t) f
-at_all w t n xs f h g = has_at (all_groups w t) n xs f h g
+at_all : {C : Type 0} (w : Fixed C) (t : Machine C) (n : ℕ) (xs : List Event) (f : Event) → slice_get (live_groups w t) n ≡ Some xs → Has xs f → Has (live w t) f
+at_all w t n xs f h g = has_at (live_groups w t) n xs f h g
 
 on_cell : {C : Type 0} (w : Fixed C) (t : Machine C) (a : ℕ) (f : Event) → a < length t.cells → Has (on_boxes a t ++ (on_epoch a t ++ on_entries a t)) f → Has (live w t) f
 on_cell w t a f h g = at_all w t 1 _ f refl (has_flat_map (λ a. on_boxes a t ++ (on_epoch a t ++ on_entries a t)) (below (length t.cells)) a f (has_below a (length t.cells) h) g)

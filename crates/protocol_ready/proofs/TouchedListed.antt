@@ -114,8 +114,8 @@ logs w _ l h = no h
 
 pub records : {C : Type 0} (e : Event) (s : Machine C) (test : LogRecord → Bool) (l : ℕ) (f : Event) → ((r : LogRecord) → test r ≡ true → Has (of_record r) f) → Touched.makes_durable e s test l ≡ true → Has (by_fresh e s) f
 records (Sync m) s test l f g h =
-    let r = any_of test (Touched.fresh (log_at s m)) (and_parts (m == l) _ h).1 in
-    has_flat_map of_record (Touched.fresh (log_at s m)) r.it f r.has (g r.it r.does)
+    let r = any_of test (Touched.made_durable (log_at s m)) (and_parts (m == l) _ h).1 in
+    has_flat_map of_record (Touched.made_durable (log_at s m)) r.it f r.has (g r.it r.does)
 records _ s test l f g h = no h
 
 pub of_info : (k : ℕ) (r : LogRecord) → is_info k r ≡ true → Has (of_record r) (Commit k)
@@ -211,7 +211,7 @@ named t n xs h =
     let q = and_parts (x.it.tid == t) (x.it.tx == n) x.does in
     subst (Has (txs_named t xs)) (eqb-true x.it.tx n q.1) (has_map (λ x. x.tx) (filter (λ x. x.tid == t) xs) x.it (has_filter (λ x. x.tid == t) xs x.it x.has q.0))
 
-crossed : (n : ℕ) (xs : List Act) → Touched.crosses n xs ≡ true → Has (crossed_txs xs) n
+crossed : (n : ℕ) (xs : List Act) → Touched.has_crossed_act n xs ≡ true → Has (crossed_txs xs) n
 crossed n xs h =
     let x = any_of (λ x. is_crossed x && (x.tx == n)) xs h in
     let q = and_parts (is_crossed x.it) (x.it.tx == n) x.does in
@@ -235,9 +235,9 @@ told w (Form k) s n h = in_pacts n (next_pacts w.text s.ring) h
 told w (Admit t) s n h = inl (eqb-true _ n h)
 told w (Arrive k a) s n h = crossed n (map (lowered k (tids_on (cell_at s a).entries)) s.book.acts) h
 told w (Ask t a) s n h = asked n _ _ t a _ s.book h
-told w (End t a) s n h = elim (or_cases (Touched.has_pact (λ p. (p.tid == t) && (p.tx == n)) s.desk.batches) _ h) [ inl x ↦ pact x | inr y ↦ has_right _ _ n (named t n s.book.acts y) ]
+told w (End t a) s n h = elim (or_cases (Touched.has_pact_with (λ p. (p.tid == t) && (p.tx == n)) s.desk.batches) _ h) [ inl x ↦ pact x | inr y ↦ has_right _ _ n (named t n s.book.acts y) ]
   where
-    pact : Touched.has_pact (λ p. (p.tid == t) && (p.tx == n)) s.desk.batches ≡ true → Has (told_txs w (End t a) s) n
+    pact : Touched.has_pact_with (λ p. (p.tid == t) && (p.tx == n)) s.desk.batches ≡ true → Has (told_txs w (End t a) s) n
     pact x =
         let b = any_of (λ b. list_any (λ p. (p.tid == t) && (p.tx == n)) b.pacts) s.desk.batches x in
         has_left _ _ n (has_flat_map (λ b. map (λ p. p.tx) (filter (λ p. p.tid == t) b.pacts)) s.desk.batches b.it n b.has (in_some_pacts t n b.it.pacts b.does))

@@ -12,7 +12,7 @@ use Rattle.protocol.specs.Effects.{after, cell_at, log_at, no_cell, no_log, puts
 use Rattle.protocol.specs.OnRing.{next_pacts, next_actors, first_sub}
 use Rattle.protocol.specs.OnPost as post
 use Rattle.protocol.specs.OnCell as cell
-use Rattle.protocol_ready.specs.Touched.{changes_inbox, changes_outbox, changes_entries, changes_done, changes_marks, changes_epoch, changes_tail, changes_log, changes_boxes, changes_subs, changes_sub, changes_control, makes_durable, fresh}
+use Rattle.protocol_ready.specs.Touched.{changes_inbox, changes_outbox, changes_entries, changes_done, changes_marks, changes_epoch, changes_tail, changes_log, changes_boxes, changes_subs, changes_sub, changes_control, makes_durable, made_durable}
 use Rattle.protocol_ready.proofs.Listing.{get_other}
 
 -- ---- logs
@@ -48,7 +48,7 @@ take_all (x ∷ xs) = rw (take_all xs) refl
 added_durable : (test : LogRecord → Bool) (rs : List LogRecord) (g : Log) → IsSyncedWithin g → is_durable test (added rs g) ≡ is_durable test g
 added_durable test rs g h = rw (take_append g.synced g.records rs h) refl
 
-synced_durable : (test : LogRecord → Bool) (g : Log) → list_any test (fresh g) ≡ false → is_durable test (synced g) ≡ is_durable test g
+synced_durable : (test : LogRecord → Bool) (g : Log) → list_any test (made_durable g) ≡ false → is_durable test (synced g) ≡ is_durable test g
 synced_durable test g h = rw (take_all g.records) (any_parts test g.synced g.records h)
 
 -- a test that cannot tell the new element from the one in its place
@@ -78,7 +78,7 @@ durable_stays w (Prepare t a) s test l ok h = adds_durable s test l (a % w.text.
 durable_stays w (Decide t) s test l ok h = adds_durable s test l (t % w.text.logs) _ ok
 durable_stays w (Sync m) s test l ok h = by (m == l) refl h
   where
-    by : (b : Bool) → (m == l) ≡ b → (b && list_any test (fresh (log_at s m))) ≡ false → holds (is_durable test) (slice_get (slice_set s.logs m (synced (log_at s m))) l) ≡ holds (is_durable test) (slice_get s.logs l)
+    by : (b : Bool) → (m == l) ≡ b → (b && list_any test (made_durable (log_at s m))) ≡ false → holds (is_durable test) (slice_get (slice_set s.logs m (synced (log_at s m))) l) ≡ holds (is_durable test) (slice_get s.logs l)
     by true e q = set_holds (is_durable test) s.logs l m no_log _ (synced_durable test (log_at s m) q)
     by false e q = ap (holds (is_durable test)) (get_other s.logs l m _ (eqb-false m l e))
 durable_stays w _ s test l ok h = refl
@@ -153,7 +153,7 @@ without_other key t u xs h = find_filter (λ x. key x == t) (λ x. not (key x ==
 control_other : {C : Type 0} (t u : ℕ) (controls : List (ControlMessage C)) → (u == t) ≡ false → control_of t (without_control u controls) ≡ control_of t controls
 control_other t u controls h = without_other (λ m. m.tid) t u controls h
 
-going_other : {C : Type 0} (t u : ℕ) (who : Who) (outbox : List (Outcome C)) → (u == t) ≡ false → list_any (λ m. m.tid == t) (post.going who (outcome_of u outbox)) ≡ false
+going_other : {C : Type 0} (t u : ℕ) (who : Who) (outbox : List (Outcome C)) → (u == t) ≡ false → list_any (λ m. m.tid == t) (post.handed_on who (outcome_of u outbox)) ≡ false
 going_other {C} t u who [] h = refl
 going_other {C} t u who (x ∷ xs) h = by (x.tid == u) refl (going_other t u who xs h)
   where
@@ -161,7 +161,7 @@ going_other {C} t u who (x ∷ xs) h = by (x.tid == u) refl (going_other t u who
     on (Go b control) f = rw f refl
     on (Ended r) f = refl
 
-    by : (b : Bool) → (x.tid == u) ≡ b → list_any (λ m. m.tid == t) (post.going who (outcome_of u xs)) ≡ false → list_any (λ m. m.tid == t) (post.going who (if b then Some x else outcome_of u xs)) ≡ false
+    by : (b : Bool) → (x.tid == u) ≡ b → list_any (λ m. m.tid == t) (post.handed_on who (outcome_of u xs)) ≡ false → list_any (λ m. m.tid == t) (post.handed_on who (if b then Some x else outcome_of u xs)) ≡ false
     by true e r = on x.next (subst (λ n. (n == t) ≡ false) (sym (eqb-true x.tid u e)) h)
     by false e r = r
 

@@ -19,7 +19,7 @@ use Rattle.protocol.specs.OnBook as book
 use Rattle.protocol.specs.Effects.{after, cell_at}
 use Rattle.protocol.specs.Contents.{Content, Bids, Stages, AbortedMarks, IsSame, is_changed}
 use Rattle.protocol.specs.Numbers.{from}
-use Rattle.protocol_ready.specs.Touched.{changes_next, changes_verdict, crosses, names_act, asked_verdict, has_pact, is_abort}
+use Rattle.protocol_ready.specs.Touched.{changes_next, changes_verdict, has_crossed_act, names_act, asked_verdict, has_pact_with, is_abort}
 use Rattle.protocol_ready.proofs.TouchedBatches.{noted_same, cascades_stay}
 
 -- ---- a batch that commits is the only one of its number, and is not settled
@@ -195,7 +195,7 @@ pact_settled cs n j (b ∷ bs) h =
     by true e r = rw (r, in_batch_unnamed cs n b b.pacts e, in_batch_unnamed cs n (desk.with_stage Settled b) b.pacts e) refl
     by false e r = rw r refl
 
-pact_results : (cs : List Cascade) (n t : ℕ) (r : TxResult) (bs : List Batch) → has_pact (λ p. (p.tid == t) && (p.tx == n)) bs ≡ false → verdict_of_pact cs n (map (desk.with_results t r) bs) ≡ verdict_of_pact cs n bs
+pact_results : (cs : List Cascade) (n t : ℕ) (r : TxResult) (bs : List Batch) → has_pact_with (λ p. (p.tid == t) && (p.tx == n)) bs ≡ false → verdict_of_pact cs n (map (desk.with_results t r) bs) ≡ verdict_of_pact cs n bs
 pact_results cs n t r [] h = refl
 pact_results cs n t r (b ∷ bs) h =
     let o = or_parts (list_any (λ p. (p.tid == t) && (p.tx == n)) b.pacts) _ h in
@@ -210,7 +210,7 @@ pacts_stay : {C : Type 0} (w : Fixed C) (e : Event) (s : Machine C) (cs : List C
     → verdict_of_pact cs n (after w e s).desk.batches ≡ verdict_of_pact cs n s.desk.batches
 unfolding after
 pacts_stay w (Form j) s cs n bids ok z h = pact_append cs n _ s.desk.batches h
-pacts_stay w (End t a) s cs n bids ok z h = noted_same (verdict_of_pact cs n) t (has_act t (cell_at s a).entries) (outcome_of t (cell_at s a).outbox) s.desk.batches (λ r. pact_results cs n t r s.desk.batches (or_parts (has_pact (λ p. (p.tid == t) && (p.tx == n)) s.desk.batches) _ h).0)
+pacts_stay w (End t a) s cs n bids ok z h = noted_same (verdict_of_pact cs n) t (has_act t (cell_at s a).entries) (outcome_of t (cell_at s a).outbox) s.desk.batches (λ r. pact_results cs n t r s.desk.batches (or_parts (has_pact_with (λ p. (p.tid == t) && (p.tx == n)) s.desk.batches) _ h).0)
 pacts_stay w (Note j a) s cs n bids ok z h = pact_kept cs n j _ s.desk.batches (λ b. refl) (λ b. refl) (λ b. refl)
 pacts_stay w (Trim j a) s cs n bids ok z h = pact_kept cs n j _ s.desk.batches (λ b. refl) (λ b. refl) (λ b. refl)
 pacts_stay w (Commit j) s cs n bids ok z h = pact_committing cs n j s.desk.batches (commits_unsettled w j s bids ok)
@@ -250,9 +250,9 @@ told_raised : (n : ℕ) (pairs : List Pair) (xs : List Act) → told n (raised p
 told_raised n pairs [] = refl
 told_raised n pairs (x ∷ xs) = some_if (x.tx == n) _ _ _ _ (act_some x.status (max x.m (carried pairs x (raised pairs xs))) x.m x.result) (told_raised n pairs xs)
 
-told_crossed : (n a : ℕ) (xs : List Act) → crosses n xs ≡ false → told n (doomed_by_order a xs) ≡ told n xs
+told_crossed : (n a : ℕ) (xs : List Act) → has_crossed_act n xs ≡ false → told n (doomed_by_order a xs) ≡ told n xs
 told_crossed n a [] h = refl
-told_crossed n a (x ∷ xs) h = let o = or_parts (is_crossed x && (x.tx == n)) (crosses n xs) h in by (is_crossed x) refl o.0 (told_crossed n a xs o.1)
+told_crossed n a (x ∷ xs) h = let o = or_parts (is_crossed x && (x.tx == n)) (has_crossed_act n xs) h in by (is_crossed x) refl o.0 (told_crossed n a xs o.1)
   where
     by : (q : Bool) → is_crossed x ≡ q → (q && (x.tx == n)) ≡ false → told n (doomed_by_order a xs) ≡ told n xs → told n (crossed_out a x ∷ doomed_by_order a xs) ≡ told n (x ∷ xs)
     by true e f i = rw f i
@@ -288,7 +288,7 @@ unfolding after
 acts_stay w (Admit u) s n z h = told_append n _ s.book.acts h
 acts_stay w (Arrive k a) s n z h = told_crossed n a _ h ∙ told_lowered n k _ s.book.acts
 acts_stay w (Ask u a) s n z h = told_asked n _ _ u a _ s.book h
-acts_stay w (End u a) s n z h = told_ended n u (has_act u (cell_at s a).entries) (outcome_of u (cell_at s a).outbox) s.book.acts (or_parts (has_pact (λ p. (p.tid == u) && (p.tx == n)) s.desk.batches) _ h).1
+acts_stay w (End u a) s n z h = told_ended n u (has_act u (cell_at s a).entries) (outcome_of u (cell_at s a).outbox) s.book.acts (or_parts (has_pact_with (λ p. (p.tid == u) && (p.tx == n)) s.desk.batches) _ h).1
 acts_stay w (Prepare u a) s n z h = told_kept n u (book.marked a book.is_prepared) s.book.acts (λ x. refl) (λ x. refl) (λ x. refl)
 acts_stay w (Vouch u a) s n z h = told_kept n u (book.marked a book.is_vouched) s.book.acts (λ x. refl) (λ x. refl) (λ x. refl)
 acts_stay w (Finish u a) s n z h = told_kept n u (book.marked a book.has_left) s.book.acts (λ x. refl) (λ x. refl) (λ x. refl)

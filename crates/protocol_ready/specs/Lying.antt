@@ -135,13 +135,13 @@ of_record (ActDone t m c v actors) = Seal t ∷ []
 -- ---- all that there is
 
 -- what the ring has next
-abbrev pub coordinators : {C : Type 0} → Fixed C → Machine C → List Event
-coordinators w t = Submit t.ring.next_tx ∷ Pass ((t.ring.holder + 1) % w.text.coordinators) ∷ Form t.ring.next_bid ∷ Admit t.ring.next_tid ∷ []
+abbrev pub next_of_ring : {C : Type 0} → Fixed C → Machine C → List Event
+next_of_ring w t = Submit t.ring.next_tx ∷ Pass ((t.ring.holder + 1) % w.text.coordinators) ∷ Form t.ring.next_bid ∷ Admit t.ring.next_tid ∷ []
 
 -- the ring, the actors, the two kinds of messages, the ACTs, the batches, the logs, and the transactions of the text
-abbrev pub all_groups : {C : Type 0} → Fixed C → Machine C → List (List Event)
-all_groups w t =
-    coordinators w t
+abbrev pub live_groups : {C : Type 0} → Fixed C → Machine C → List (List Event)
+live_groups w t =
+    next_of_ring w t
     ∷ flat_map (λ a. on_boxes a t ++ (on_epoch a t ++ on_entries a t)) (below (length t.cells))
     ∷ flat_map (λ m. on_sub m.bid m.actor) t.post.subs
     ∷ flat_map (λ m. DropControl m.tid ∷ []) t.post.controls
@@ -151,4 +151,4 @@ all_groups w t =
     ∷ map Reply (below (length t.desk.replied)) ∷ []
 
 abbrev pub live : {C : Type 0} → Fixed C → Machine C → List Event
-live w t = flat (all_groups w t)
+live w t = flat (live_groups w t)

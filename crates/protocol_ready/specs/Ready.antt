@@ -16,8 +16,8 @@ use Rattle.protocol.specs.OnCell.{is_done_after, slice_of}
 use Rattle.protocol.specs.OnBook.{changed_act, joins, lowered, tids_on, new_pairs, met, in_the_way}
 use Rattle.protocol.specs.Effects.{after, cell_at, log_at}
 use Rattle.protocol.specs.Schedule.{rank, is_rank_below}
-use Rattle.protocol_ready.specs.Touched.{fresh, acts_changed, doomed_changed, is_touched}
-use Rattle.protocol_ready.specs.Lying.{on_boxes, arrivals, on_entries, on_marks, on_epoch, on_control, on_sub, on_subs, vouches_of, on_act, on_doom, on_settled, on_stage, ends_of, on_result, of_record, coordinators, live}
+use Rattle.protocol_ready.specs.Touched.{made_durable, acts_changed, doomed_changed, is_touched}
+use Rattle.protocol_ready.specs.Lying.{on_boxes, arrivals, on_entries, on_marks, on_epoch, on_control, on_sub, on_subs, vouches_of, on_act, on_doom, on_settled, on_stage, ends_of, on_result, of_record, next_of_ring, live}
 
 -- ---- what is listed, by what the event e changes; s is the state before it, and t the one in which it is listed
 
@@ -97,7 +97,7 @@ by_log w _ = []
 
 -- what becomes durable
 abbrev pub by_fresh : {C : Type 0} → Event → Machine C → List Event
-by_fresh (Sync m) s = flat_map of_record (fresh (log_at s m))
+by_fresh (Sync m) s = flat_map of_record (made_durable (log_at s m))
 by_fresh _ s = []
 
 -- ACTs, but for their marks on actors
@@ -187,7 +187,7 @@ by_verdict w e s = map Reply (told_txs w e s)
 -- all of these, one after the other
 abbrev pub groups : {C : Type 0} → Fixed C → Event → Machine C → Machine C → List (List Event)
 groups w e s t =
-    coordinators w t
+    next_of_ring w t
     ∷ by_boxes e t
     ∷ by_inbox e
     ∷ by_outbox e

@@ -102,12 +102,12 @@ changes_log w (Decide t) l = t % w.text.logs == l
 changes_log w _ l = false
 
 -- what a sync makes durable
-abbrev pub fresh : Log → List LogRecord
-fresh g = drop g.synced g.records
+abbrev pub made_durable : Log → List LogRecord
+made_durable g = drop g.synced g.records
 
 -- a record of log l that the test holds of becomes durable
 abbrev pub makes_durable : {C : Type 0} → Event → Machine C → (LogRecord → Bool) → ℕ → Bool
-makes_durable (Sync m) s test l = (m == l) && list_any test (fresh (log_at s m))
+makes_durable (Sync m) s test l = (m == l) && list_any test (made_durable (log_at s m))
 makes_durable _ s test l = false
 
 -- ---- ACTs, but for their after numbers, which no condition reads
@@ -219,27 +219,27 @@ changes_settled _ = false
 
 -- ---- verdicts
 
-abbrev pub has_pact : (Pact → Bool) → List Batch → Bool
-has_pact test batches = list_any (λ b. list_any test b.pacts) batches
+abbrev pub has_pact_with : (Pact → Bool) → List Batch → Bool
+has_pact_with test batches = list_any (λ b. list_any test b.pacts) batches
 
 -- the ACT of transaction n has this tid
 abbrev pub names_act : ℕ → ℕ → List Act → Bool
 names_act t n acts = list_any (λ x. (x.tid == t) && (x.tx == n)) acts
 
-abbrev pub crosses : ℕ → List Act → Bool
-crosses n acts = list_any (λ x. is_crossed x && (x.tx == n)) acts
+abbrev pub has_crossed_act : ℕ → List Act → Bool
+has_crossed_act n acts = list_any (λ x. is_crossed x && (x.tx == n)) acts
 
 abbrev pub asked_verdict : Option ℕ → List Lock → ℕ → ℕ → ℕ → Book → ℕ → Bool
 asked_verdict (Some older) group t a m b n = names_act t n b.acts
-asked_verdict None group t a m b n = crosses n (raised (b.pairs ++ new_pairs t a group b.acts) (changed_act t (joins a m) b.acts))
+asked_verdict None group t a m b n = has_crossed_act n (raised (b.pairs ++ new_pairs t a group b.acts) (changed_act t (joins a m) b.acts))
 
 -- whether transaction n has one
 abbrev pub changes_verdict : {C : Type 0} → Fixed C → Event → Machine C → ℕ → Bool
 changes_verdict w (Form k) s n = list_any (λ p. p.tx == n) (next_pacts w.text s.ring)
 changes_verdict w (Admit t) s n = next_act s.ring == n
-changes_verdict w (Arrive k a) s n = crosses n (map (lowered k (tids_on (cell_at s a).entries)) s.book.acts)
+changes_verdict w (Arrive k a) s n = has_crossed_act n (map (lowered k (tids_on (cell_at s a).entries)) s.book.acts)
 changes_verdict w (Ask t a) s n = asked_verdict (in_the_way (lock_of t s.book.acts) (cell_at s a).entries) (met (lock_of t s.book.acts) (cell_at s a).entries) t a (max (cell_at s a).last (floor_at t s.book.acts (cell_at s a))) s.book n
-changes_verdict w (End t a) s n = has_pact (λ p. (p.tid == t) && (p.tx == n)) s.desk.batches || names_act t n s.book.acts
+changes_verdict w (End t a) s n = has_pact_with (λ p. (p.tid == t) && (p.tx == n)) s.desk.batches || names_act t n s.book.acts
 changes_verdict w (Settle k) s n = list_any (λ b. (b.bid == k) && list_any (λ p. p.tx == n) b.pacts) s.desk.batches
 changes_verdict w (Decide t) s n = names_act t n s.book.acts
 changes_verdict w (Seal t) s n = names_act t n s.book.acts

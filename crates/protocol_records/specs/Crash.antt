@@ -14,7 +14,7 @@ use Rattle.protocol.specs.Words.{is_value}
 use Rattle.protocol.specs.Verdicts.{verdict}
 use Rattle.protocol.specs.Runs.{IsRun, reached}
 use Rattle.protocol.specs.History.{Done, History, history}
-use Rattle.protocol.specs.Chains.{IsClosed, IsSerial, serial_run}
+use Rattle.protocol.specs.Chains.{IsClosedSet, IsSerial, serial_run}
 use Rattle.protocol_laws.specs.Commits.{is_kept}
 use Rattle.protocol_laws.specs.Told.{IsAmongDone}
 use Rattle.protocol.specs.Moments.{Moment, IsLeft, left_in}
@@ -28,12 +28,12 @@ is_in many logs (OfBatch k) = list_any (is_commit k) (logs (k % many))
 is_in many logs (OfAct t) = list_any (is_act_commit t) (logs (t % many))
 
 -- a record that tells a state of the actor, of one that is in
-abbrev pub counts : ℕ → (ℕ → List LogRecord) → ℕ → LogRecord → Bool
-counts many logs a (BatchInfo bid actors tids) = false
-counts many logs a (BatchComplete bid actor state) = (actor == a) && is_in many logs (OfBatch bid)
-counts many logs a (BatchDone bid vs) = false
-counts many logs a (ActPrepare tid actor state) = (actor == a) && is_in many logs (OfAct tid)
-counts many logs a (ActDone tid m c v actors) = false
+abbrev pub tells_member_state : ℕ → (ℕ → List LogRecord) → ℕ → LogRecord → Bool
+tells_member_state many logs a (BatchInfo bid actors tids) = false
+tells_member_state many logs a (BatchComplete bid actor state) = (actor == a) && is_in many logs (OfBatch bid)
+tells_member_state many logs a (BatchDone bid vs) = false
+tells_member_state many logs a (ActPrepare tid actor state) = (actor == a) && is_in many logs (OfAct tid)
+tells_member_state many logs a (ActDone tid m c v actors) = false
 
 abbrev pub state_told : State → LogRecord → State
 state_told s (BatchInfo bid actors tids) = s
@@ -46,9 +46,9 @@ abbrev pub last_told : State → List LogRecord → State
 last_told s [] = s
 last_told s (r ∷ rs) = last_told (state_told s r) rs
 
--- the state of an actor: that of the last record that counts, or the first one
+-- the state of an actor: that of the last record that tells_member_state, or the first one
 abbrev pub recovered_state : ℕ → (ℕ → List LogRecord) → ℕ → State → State
-recovered_state many logs a first = last_told first (filter (counts many logs a) (logs (a % many)))
+recovered_state many logs a first = last_told first (filter (tells_member_state many logs a) (logs (a % many)))
 
 -- what commit records rest on is there
 pub record BatchIsWhole (many : ℕ) (logs : ℕ → List LogRecord) (k : ℕ) : Type 0 where
@@ -110,7 +110,7 @@ pub record CrashStands {C : Type 0} (w : Fixed C) (finish : C → List State →
   -- who is in had committed with a value by then, a reader or not
   pub all_done : (who : Who) → is_in w.text.logs logs who ≡ true → (is_kept who h.kept || is_kept who h.kept_readers) ≡ true
   -- with each member all that the whole run places before it, and that committed with a value
-  pub closed : IsClosed (λ t. HasMember t (members w.text.logs logs h)) (history w es)
+  pub closed : IsClosedSet (λ t. HasMember t (members w.text.logs logs h)) (history w es)
   -- who was told that it committed is a member
   pub acknowledged : (n : ℕ) (p : Place) (v : ℤ) → verdict n s.book s.desk ≡ Some (verdicts.Committed p v) → IsAmongDone n p (Value v) (members w.text.logs logs h)
   -- one after the other in the order of places the members give their results

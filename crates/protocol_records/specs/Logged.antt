@@ -9,6 +9,7 @@ use Rattle.protocol.specs.Words.{holds, joined_of, is_failure, is_doomed, is_who
 use Rattle.protocol.specs.Effects.{no_log, ascending}
 use Rattle.protocol.specs.History.{Done, History, Slice, Ran, Stands, Gone}
 use Rattle.protocol_laws.specs.Commits.{is_kept}
+pub use Rattle.protocol_laws.specs.Told.{EachBatch}
 use Rattle.protocol_laws.specs.Tracks.{has_read}
 
 -- a durable record of log l
@@ -40,20 +41,17 @@ pub record BatchSure (many : ℕ) (logs : List Log) (k : ℕ) (b : Batch) : Type
   pub info : is_formed b.stage ≡ false → durable_at (is_info k) logs (k % many) ≡ true
   pub settled : is_settled b.stage ≡ true → durable_at (is_commit k) logs (k % many) ≡ true
 
-abbrev pub EachBatch : (ℕ → Batch → Type 0) → List Batch → Type 0
-EachBatch P batches = (k : ℕ) (b : Batch) → batch_of k batches ≡ Some b → P k b
-
 unfoldable pub BatchesSure : {C : Type 0} → Fixed C → Machine C → Type 0
 BatchesSure w s = EachBatch (BatchSure w.text.logs s.logs) s.desk.batches
 
 -- the actors of a batch
-abbrev pub actors_of : Option Batch → Option (List ℕ)
-actors_of None = None
-actors_of (Some b) = Some (map (λ p. p.actor) b.places)
+abbrev pub actors_of_batch : Option Batch → Option (List ℕ)
+actors_of_batch None = None
+actors_of_batch (Some b) = Some (map (λ p. p.actor) b.places)
 
 -- a record of a batch that was formed has its actors
 abbrev pub InfoIs : List Batch → LogRecord → Type 0
-InfoIs bs (BatchInfo k actors tids) = actors_of (batch_of k bs) ≡ Some actors
+InfoIs bs (BatchInfo k actors tids) = actors_of_batch (batch_of k bs) ≡ Some actors
 InfoIs bs _ = ⊤
 
 unfoldable pub Infos : {C : Type 0} → Machine C → Type 0
@@ -139,8 +137,8 @@ AllDoneSure w s h = (a : ℕ) → DoneSure (is_sure w.text.logs s.logs) a h.comm
 
 -- ---- ACTs and their places
 
-abbrev pub has_place : ℕ → Act → Bool
-has_place a x = list_any (λ p. p.actor == a) x.places
+abbrev pub has_joined : ℕ → Act → Bool
+has_joined a x = list_any (λ p. p.actor == a) x.places
 
 pub record ActStands (long : ℕ → List Ran) (t : ℕ) (x : Act) : Type 0 where
   -- who is vouched for was prepared
@@ -153,8 +151,8 @@ ActsStand s h = (t : ℕ) (x : Act) → act_of t s.book.acts ≡ Some x → ActS
 
 -- who is on an actor joined it
 unfoldable pub OnJoined : {C : Type 0} → Machine C → History → Type 0
-OnJoined s h = (t a : ℕ) → is_on (OfAct t) (h.long a) ≡ true → holds (has_place a) (act_of t s.book.acts) ≡ true
+OnJoined s h = (t a : ℕ) → is_on (OfAct t) (h.long a) ≡ true → holds (has_joined a) (act_of t s.book.acts) ≡ true
 
 -- who has a record there has a value, and joined the actor
 unfoldable pub Prepared : {C : Type 0} → Fixed C → Machine C → Type 0
-Prepared w s = (t a : ℕ) → logged_at (is_prepare t a) s.logs (a % w.text.logs) ≡ true → holds (λ x. is_value x.result && has_place a x) (act_of t s.book.acts) ≡ true
+Prepared w s = (t a : ℕ) → logged_at (is_prepare t a) s.logs (a % w.text.logs) ≡ true → holds (λ x. is_value x.result && has_joined a x) (act_of t s.book.acts) ≡ true

@@ -12,7 +12,7 @@ use Rattle.protocol.specs.Words.{act_of, greatest, below}
 use Rattle.protocol.specs.History.{Done, History}
 use Rattle.protocol_records.specs.Crash.{tids_in, bids_in, cs_in, members}
 use Rattle.protocol_laws.specs.Ranges.{IsWithin}
-use Rattle.protocol_laws.specs.Told.{is_at}
+use Rattle.protocol_laws.specs.Told.{has_number}
 
 -- the numbers of a kind that the records of so many logs name
 abbrev pub numbers_in : (LogRecord → List ℕ) → ℕ → (ℕ → List LogRecord) → List ℕ
@@ -54,10 +54,10 @@ pub record NextNumbersStand {C : Type 0} (w : Fixed C) (finish : C → List Stat
 -- ---- the numbers of places
 
 -- its commit number is of this run, and the batch before it was drawn
-pub record IsPlaced (low high bid : ℕ) (x : Act) (c : ℕ) : Type 0 where
+pub record IsPlacedInRun (low high bid : ℕ) (x : Act) (c : ℕ) : Type 0 where
   pub reached : low ≤ c
   pub below : c < high
   pub behind : x.m < bid
 
 abbrev pub ActsDrawn : {C : Type 0} → Fixed C → Machine C → Type 0
-ActsDrawn w s = (t : ℕ) (x : Act) → act_of t s.book.acts ≡ Some x → (c : ℕ) → is_at c x.status ≡ true → IsPlaced w.text.opening.next_c s.book.next_c s.ring.next_bid x c
+ActsDrawn w s = (t : ℕ) (x : Act) → act_of t s.book.acts ≡ Some x → (c : ℕ) → has_number c x.status ≡ true → IsPlacedInRun w.text.opening.next_c s.book.next_c s.ring.next_bid x c

@@ -11,7 +11,7 @@ use Rattle.protocol.specs.Parts.{Act, Batch, Log, Machine}
 use Rattle.protocol.specs.Words.{holds, is_among, is_value, is_formed, is_settled, is_ordered, is_sealed, is_durable, act_of, batch_of, count}
 use Rattle.protocol.specs.Effects.{log_at, ascending}
 use Rattle.protocol.specs.History.{History}
-use Rattle.protocol_laws.specs.Told.{is_at}
+use Rattle.protocol_laws.specs.Told.{has_number}
 
 -- ---- what a record is about, and where it lies
 
@@ -22,12 +22,12 @@ pub data RecordKey : Type 0 where
   OfPrepare : (tid : ℕ) (actor : ℕ) → RecordKey
   OfActCommit : (tid : ℕ) → RecordKey
 
-abbrev pub key_of : LogRecord → RecordKey
-key_of (BatchInfo k actors tids) = OfInfo k
-key_of (BatchComplete k a state) = OfComplete k a
-key_of (BatchDone k vs) = OfCommit k
-key_of (ActPrepare t a state) = OfPrepare t a
-key_of (ActDone t m c v actors) = OfActCommit t
+abbrev pub record_key : LogRecord → RecordKey
+record_key (BatchInfo k actors tids) = OfInfo k
+record_key (BatchComplete k a state) = OfComplete k a
+record_key (BatchDone k vs) = OfCommit k
+record_key (ActPrepare t a state) = OfPrepare t a
+record_key (ActDone t m c v actors) = OfActCommit t
 
 abbrev pub has_key : RecordKey → LogRecord → Bool
 has_key (OfInfo k) r = is_info k r
@@ -51,7 +51,7 @@ all_records (l ∷ ls) = l.records ++ all_records ls
 
 -- Each record lies in its log, and no two in all logs have the same key.
 pub record RecordsAddedOnce {C : Type 0} (w : Fixed C) (finish : C → List State → Alone) (s : Machine C) (h : History) : Type 0 where
-  pub at_home : (l : ℕ) → AllByRecursion (λ r. home w.text.logs (key_of r) ≡ l) (log_at s l).records
+  pub at_home : (l : ℕ) → AllByRecursion (λ r. home w.text.logs (record_key r) ≡ l) (log_at s l).records
   pub once : (k : RecordKey) → count (has_key k) (all_records s.logs) ≤ 1
 
 -- ---- what a record tells
@@ -77,7 +77,7 @@ pub record ActCommitted (acts : List Act) (t m c : ℕ) (v : ℤ) (actors : List
   pub act : Act
   pub found : act_of t acts ≡ Some act
   pub m_is : act.m ≡ m
-  pub c_is : is_at c act.status ≡ true
+  pub c_is : has_number c act.status ≡ true
   pub result_is : act.result ≡ valued v
   pub actors_are : ascending (act_actors act) ≡ actors
 

@@ -1,26 +1,21 @@
 -- The cases of order: who stands behind whom, on an actor's chain and on its schedule, and what their numbers then are.
-use Rattle.std.specs.Prelude.{◌≡◌, ℕ, ◌<◌, ◌≤◌, ◌==◌, Bool, true, false, ◌⊎◌, Some, List, [], ◌∷◌, length, ◌&&◌, ⊤}
+use Rattle.std.specs.Prelude.{◌≡◌, ℕ, ◌<◌, ◌≤◌, true, false, ◌⊎◌, Some, List, [], ◌∷◌, length, ◌&&◌, ⊤}
 use Rattle.std.specs.List.{AllByRecursion}
 use Rattle.snap_base.specs.declared.transactions.State.{State}
 use Rattle.protocol.specs.Fixed.{Fixed}
 use Rattle.protocol.specs.Facts.{Alone}
-use Rattle.protocol.specs.Parts.{Act, Status, Live, Doomed, Decided, Sealed, Who, OfBatch, OfAct, Machine}
+use Rattle.protocol.specs.Parts.{Act, Who, OfBatch, OfAct, Machine}
 use Rattle.protocol.specs.Words.{act_of}
 use Rattle.protocol.specs.Conditions.{epoch}
 use Rattle.protocol.specs.Effects.{cell_at}
 use Rattle.protocol.specs.Verdicts.{pact_place, act_place}
 use Rattle.protocol.specs.History.{Done, History}
 use Rattle.protocol.specs.Chains.{chain}
-use Rattle.protocol_laws.specs.Rising.{number_of}
+use Rattle.protocol_laws.specs.Rising.{first_number_of}
+use Rattle.protocol_laws.specs.Told.{has_number}
 use Rattle.protocol_theorems.specs.Quiet.{BeforeBatches, BehindBatches, ActsInOrder}
 
 -- ---- what the numbers of a place are
-
-abbrev pub has_number : ℕ → Status → Bool
-has_number c Live = false
-has_number c (Doomed why) = false
-has_number c (Decided d) = d == c
-has_number c (Sealed d) = d == c
 
 -- A PACT's are its batch and its tid. An ACT's are its before number and the number of its commit, as the book has them.
 abbrev pub OwnPlace : List Act → Who → Done → Type 0
@@ -30,14 +25,14 @@ OwnPlace acts (OfAct t) d = (x : Act) × ((act_of t acts ≡ Some x) × ((d.tid 
 -- ---- the cases, of one and one that stands behind it
 
 abbrev pub BatchBehindAct : Done → Done → Type 0
-BatchBehindAct d e = (t k : ℕ) → d.who ≡ OfAct t → e.who ≡ OfBatch k → number_of d < k
+BatchBehindAct d e = (t k : ℕ) → d.who ≡ OfAct t → e.who ≡ OfBatch k → first_number_of d < k
 
 abbrev pub ActBehindBatch : Done → Done → Type 0
-ActBehindBatch d e = (k t : ℕ) → d.who ≡ OfBatch k → e.who ≡ OfAct t → k ≤ number_of e
+ActBehindBatch d e = (k t : ℕ) → d.who ≡ OfBatch k → e.who ≡ OfAct t → k ≤ first_number_of e
 
 -- where they do not both only read
 abbrev pub ActBehindAct : Done → Done → Type 0
-ActBehindAct d e = (t u : ℕ) → d.who ≡ OfAct t → e.who ≡ OfAct u → (d.reader && e.reader) ≡ false → (number_of d ≤ number_of e) × (d.place.order < e.place.order)
+ActBehindAct d e = (t u : ℕ) → d.who ≡ OfAct t → e.who ≡ OfAct u → (d.reader && e.reader) ≡ false → (first_number_of d ≤ first_number_of e) × (d.place.order < e.place.order)
 
 -- and in one batch by tid
 abbrev pub BatchBehindBatch : Done → Done → Type 0

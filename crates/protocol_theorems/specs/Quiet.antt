@@ -24,12 +24,12 @@ abbrev pub IsLiveBatch : {C : Type 0} → Machine C → ℕ → Type 0
 IsLiveBatch s k = holds is_live_batch (batch_of k s.desk.batches) ≡ true
 
 -- a control on its way to the actor, or in its inbox
-abbrev pub IsAt : {C : Type 0} → ℕ → ℕ → Machine C → Type 0
-IsAt t a s = (holds (λ m. m.to == a) (control_of t s.post.controls) ≡ true) ⊎ (is_some (waiting_of t (cell_at s a).inbox) ≡ true)
+abbrev pub ControlIsAt : {C : Type 0} → ℕ → ℕ → Machine C → Type 0
+ControlIsAt t a s = (holds (λ m. m.to == a) (control_of t s.post.controls) ≡ true) ⊎ (is_some (waiting_of t (cell_at s a).inbox) ≡ true)
 
 -- it is somewhere
 abbrev pub HasControl : {C : Type 0} → ℕ → Machine C → Type 0
-HasControl t s = (a : ℕ) × (a < length s.cells) × (IsAt t a s ⊎ (is_some (outcome_of t (cell_at s a).outbox) ≡ true))
+HasControl t s = (a : ℕ) × (a < length s.cells) × (ControlIsAt t a s ⊎ (is_some (outcome_of t (cell_at s a).outbox) ≡ true))
 
 -- along a schedule, an ACT that is not doomed and stands ahead of a batch has a before number below it
 abbrev pub BeforeBatches : List Act → List Entry → Type 0
@@ -60,9 +60,9 @@ EntriesTell acts (BatchEntry b ∷ es) = EntriesTell acts es
 EntriesTell acts (ActEntry z ∷ es) = ((x : Act) → act_of z.tid acts ≡ Some x → x.reader ≡ z.reader) × EntriesTell acts es
 
 -- each is below all that follow
-abbrev pub Rises : List ℕ → Type 0
-Rises [] = ⊤
-Rises (k ∷ ks) = ((j : ℕ) → is_among j ks ≡ true → k < j) × Rises ks
+abbrev pub BatchesRise : List ℕ → Type 0
+BatchesRise [] = ⊤
+BatchesRise (k ∷ ks) = ((j : ℕ) → is_among j ks ≡ true → k < j) × BatchesRise ks
 
 -- ---- what is used
 
@@ -104,7 +104,7 @@ pub record BatchesPlaced {C : Type 0} (w : Fixed C) (s : Machine C) : Type 0 whe
   -- a cell is not ahead of the cascades, and one that is not behind has no aborted batch
   pub behind : (a : ℕ) → (cell_at s a).epoch ≤ epoch s.book
   pub present : (a k : ℕ) → (cell_at s a).epoch ≡ epoch s.book → is_among k (batches_on (cell_at s a).entries) ≡ true → is_aborted k s.book.cascades ≡ false
-  pub rises : (a : ℕ) → Rises (batches_on (cell_at s a).entries)
+  pub rises : (a : ℕ) → BatchesRise (batches_on (cell_at s a).entries)
   -- who is trimmed somewhere is settled, and each has an actor
   pub trimmed : (k : ℕ) (b : Batch) → batch_of k s.desk.batches ≡ Some b → AllByRecursion (λ p. p.trimmed ≡ true → is_settled b.stage ≡ true) b.places
   pub somewhere : (k : ℕ) (b : Batch) → batch_of k s.desk.batches ≡ Some b → is_empty b.places ≡ false
@@ -123,8 +123,8 @@ pub record ControlsPlaced {C : Type 0} (w : Fixed C) (s : Machine C) : Type 0 wh
   pub of_pact : (t k : ℕ) → is_pact_of t k s.desk.batches ≡ true → is_aborted k s.book.cascades ≡ false → pact_result t s.desk.batches ≡ None → HasControl t s
   pub of_act : (t : ℕ) (x : Act) → act_of t s.book.acts ≡ Some x → is_doomed x.status ≡ false → x.result ≡ None → HasControl t s
   -- a PACT's is at an actor that it declares
-  pub declared : (t k a : ℕ) → is_pact_of t k s.desk.batches ≡ true → is_aborted k s.book.cascades ≡ false → IsAt t a s → is_declared k a s.desk.batches ≡ true
-  pub named : (t a : ℕ) (e : PlacedBatch) (es : List Entry) → is_pact_of t e.bid s.desk.batches ≡ true → is_aborted e.bid s.book.cascades ≡ false → IsAt t a s → (cell_at s a).entries ≡ BatchEntry e ∷ es → names_slot t e ≡ true
+  pub declared : (t k a : ℕ) → is_pact_of t k s.desk.batches ≡ true → is_aborted k s.book.cascades ≡ false → ControlIsAt t a s → is_declared k a s.desk.batches ≡ true
+  pub named : (t a : ℕ) (e : PlacedBatch) (es : List Entry) → is_pact_of t e.bid s.desk.batches ≡ true → is_aborted e.bid s.book.cascades ≡ false → ControlIsAt t a s → (cell_at s a).entries ≡ BatchEntry e ∷ es → names_slot t e ≡ true
   -- an ACT in an inbox has its entry there
   pub entered : (t a : ℕ) (x : Act) → act_of t s.book.acts ≡ Some x → is_some (waiting_of t (cell_at s a).inbox) ≡ true → has_act t (cell_at s a).entries ≡ true
 

@@ -41,8 +41,8 @@ abbrev pub StandsBehind : List Cascade → (ℕ → List Ran) → ℕ → ℕ �
 StandsBehind cs long t k = (is_aborted k cs ≡ false) × ((a : ℕ) × (is_ahead t k (long a) ≡ true))
 
 -- the after number of a live one is the least of its set, and that holds batches behind it
-abbrev pub IsLeast : List Cascade → (ℕ → List Ran) → (ℕ → List ℕ) → Act → Type 0
-IsLeast cs long behind x = is_live_status x.status ≡ true → (x.n ≡ least_in (behind x.tid)) × AllByRecursion (StandsBehind cs long x.tid) (behind x.tid)
+abbrev pub AfterIsLeast : List Cascade → (ℕ → List Ran) → (ℕ → List ℕ) → Act → Type 0
+AfterIsLeast cs long behind x = is_live_status x.status ≡ true → (x.n ≡ least_in (behind x.tid)) × AllByRecursion (StandsBehind cs long x.tid) (behind x.tid)
 
 -- no live ACT has numbers that cross: its before number is below its after number
 abbrev pub IsUncrossed : Act → Type 0

@@ -24,13 +24,13 @@ IsPending s (OfAct t) = holds is_waiting_act (act_of t s.book.acts) ≡ true
 
 -- ---- who stands ahead of whom on an actor
 
-abbrev pub is_on : Who → List Entry → Bool
-is_on (OfBatch k) es = is_among k (batches_on es)
-is_on (OfAct t) es = has_act t es
+abbrev pub is_on_schedule : Who → List Entry → Bool
+is_on_schedule (OfBatch k) es = is_among k (batches_on es)
+is_on_schedule (OfAct t) es = has_act t es
 
 abbrev pub is_ahead : Who → Who → List Entry → Bool
 is_ahead y x [] = false
-is_ahead y x (e ∷ es) = (is_who (who_of e) y && is_on x es) || is_ahead y x es
+is_ahead y x (e ∷ es) = (is_who (who_of e) y && is_on_schedule x es) || is_ahead y x es
 
 -- y stands ahead of x on an actor, whose cell has seen every cascade
 pub record StandsAhead {C : Type 0} (s : Machine C) (y x : Who) : Type 0 where
@@ -75,14 +75,14 @@ pub record WaitsFor {C : Type 0} (s : Machine C) (x y : Who) : Type 0 where
 -- ---- the order
 
 -- the before number of an ACT
-abbrev pub number_of : {C : Type 0} → Machine C → ℕ → ℕ
-number_of s t = number_or_0 (act_of t s.book.acts)
+abbrev pub before_number_of : {C : Type 0} → Machine C → ℕ → ℕ
+before_number_of s t = number_or_0 (act_of t s.book.acts)
 
 abbrev pub IsLower : {C : Type 0} → Machine C → Who → Who → Type 0
 IsLower s (OfBatch j) (OfBatch k) = j < k
-IsLower s (OfBatch j) (OfAct t) = j ≤ number_of s t
-IsLower s (OfAct u) (OfBatch k) = number_of s u < k
-IsLower s (OfAct u) (OfAct t) = (number_of s u < number_of s t) ⊎ ((number_of s u ≡ number_of s t) × (t < u))
+IsLower s (OfBatch j) (OfAct t) = j ≤ before_number_of s t
+IsLower s (OfAct u) (OfBatch k) = before_number_of s u < k
+IsLower s (OfAct u) (OfAct t) = (before_number_of s u < before_number_of s t) ⊎ ((before_number_of s u ≡ before_number_of s t) × (t < u))
 
 -- ---- the law
 

@@ -13,7 +13,7 @@ use Rattle.protocol.specs.Records as machine
 use Rattle.protocol.specs.Records.{LogRecord, is_commit}
 use Rattle.protocol.specs.Parts.{Act, Status, Batch, Pact, OfBatch, OfAct, Machine}
 use Rattle.protocol.specs.Words.{holds, is_formed, value_of, act_of, batch_of}
-use Rattle.protocol_laws.specs.Told.{is_at}
+use Rattle.protocol_laws.specs.Told.{has_number}
 use Rattle.protocol_records.specs.Crash.{is_in}
 use Rattle.protocol_records.specs.RecordLaws.{batch_tids, batch_results, valued, ActCommitted, TellsOf}
 use Rattle.txn_records.specs.declared.records.Record.{Record}
@@ -28,7 +28,7 @@ use Rattle.snap_recover.proofs.Lists.{all_append, all_weaker, all_both, contains
 use Rattle.snap_recover.proofs.Greatest.{each_below}
 use Rattle.protocol_laws.proofs.Lemmas.{found_bid, found_tid}
 use Rattle.record_words.specs.Told.{bid_of, tid_of, tids_of, actors_of}
-use Rattle.recovery_laws.specs.Grown.{grown, kept_batch, number_of, told_value, kept_act, batches_in, all_in}
+use Rattle.recovery_laws.specs.Grown.{grown, recovered_batch, commit_number_of, told_value, recovered_act, recovered_batches, all_in}
 use Rattle.recovery_laws.proofs.KnownLogs.{Apart, Known, all_at, old_low, in_old, in_cases, in_stays, in_new, old_acts_low, act_cases}
 use Rattle.recovery_laws.proofs.WholesGrown.{info_stays, info_new, done_stays, done_new, commit_stays, commit_new}
 use Rattle.recovery_laws.proofs.WrittenLists.{DoneAt, done_at}
@@ -56,7 +56,7 @@ pub found_acts : (xs : List Act) → Apart xs → AllByRecursion (λ x. act_of x
 found_acts [] a = tt
 found_acts (x ∷ xs) a = (rw (eq-eqb x.tid x.tid refl) refl, all_both (λ y. y.tid ≢ x.tid) (λ y. act_of y.tid xs ≡ Some y) (λ y. act_of y.tid (x ∷ xs) ≡ Some y) xs (λ y n e. rw (ne_eqb x.tid y.tid (λ q. n (sym q))) e) a.0 (found_acts xs a.1))
 
-batches_rise : (many : ℕ) (logs : ℕ → List LogRecord) (n c : ℕ) (bs : List Batch) → map (λ b. b.bid) bs ≡ from n (length bs) → AllByRecursion (IsNew n c) (batches_in many logs bs) × Rises (batches_in many logs bs)
+batches_rise : (many : ℕ) (logs : ℕ → List LogRecord) (n c : ℕ) (bs : List Batch) → map (λ b. b.bid) bs ≡ from n (length bs) → AllByRecursion (IsNew n c) (recovered_batches many logs bs) × Rises (recovered_batches many logs bs)
 batches_rise many logs n c [] e = (tt, tt)
 batches_rise many logs n c (x ∷ xs) e = by (is_in many logs (OfBatch x.bid)) (batches_rise many logs (n + 1) c xs (cc e))
   where
@@ -67,24 +67,24 @@ batches_rise many logs n c (x ∷ xs) e = by (is_in many logs (OfBatch x.bid)) (
     lower (kept.Batch b tids bv) q = omega (arith, q)
     lower (kept.Act t m d x1) q = (omega (arith, q.0), q.1)
 
-    before : (bs : List Batch) → AllByRecursion (IsNew (n + 1) c) (batches_in many logs bs) → AllByRecursion (ComesBefore (kept_batch x)) (batches_in many logs bs)
-    before bs h = all_weaker (IsNew (n + 1) c) (ComesBefore (kept_batch x)) (batches_in many logs bs) one h
+    before : (bs : List Batch) → AllByRecursion (IsNew (n + 1) c) (recovered_batches many logs bs) → AllByRecursion (ComesBefore (recovered_batch x)) (recovered_batches many logs bs)
+    before bs h = all_weaker (IsNew (n + 1) c) (ComesBefore (recovered_batch x)) (recovered_batches many logs bs) one h
       where
-        one : (y : Kept) → IsNew (n + 1) c y → ComesBefore (kept_batch x) y
+        one : (y : Kept) → IsNew (n + 1) c y → ComesBefore (recovered_batch x) y
         one (kept.Batch b tids bv) q = omega (arith, q, i)
         one (kept.Act t m d x1) q = omega (arith, q.0, i)
 
-    by : (v : Bool) → AllByRecursion (IsNew (n + 1) c) (batches_in many logs xs) × Rises (batches_in many logs xs)
-        → AllByRecursion (IsNew n c) (if v then kept_batch x ∷ batches_in many logs xs else batches_in many logs xs) × Rises (if v then kept_batch x ∷ batches_in many logs xs else batches_in many logs xs)
-    by true h = ((omega (arith, i), all_weaker (IsNew (n + 1) c) (IsNew n c) (batches_in many logs xs) lower h.0), (before xs h.0, h.1))
-    by false h = (all_weaker (IsNew (n + 1) c) (IsNew n c) (batches_in many logs xs) lower h.0, h.1)
+    by : (v : Bool) → AllByRecursion (IsNew (n + 1) c) (recovered_batches many logs xs) × Rises (recovered_batches many logs xs)
+        → AllByRecursion (IsNew n c) (if v then recovered_batch x ∷ recovered_batches many logs xs else recovered_batches many logs xs) × Rises (if v then recovered_batch x ∷ recovered_batches many logs xs else recovered_batches many logs xs)
+    by true h = ((omega (arith, i), all_weaker (IsNew (n + 1) c) (IsNew n c) (recovered_batches many logs xs) lower h.0), (before xs h.0, h.1))
+    by false h = (all_weaker (IsNew (n + 1) c) (IsNew n c) (recovered_batches many logs xs) lower h.0, h.1)
 
 -- a batch is no ACT
-batches_other : (many : ℕ) (logs : ℕ → List LogRecord) (n : ℕ) (bs : List Batch) → AllByRecursion (IsOther n) (batches_in many logs bs)
+batches_other : (many : ℕ) (logs : ℕ → List LogRecord) (n : ℕ) (bs : List Batch) → AllByRecursion (IsOther n) (recovered_batches many logs bs)
 batches_other many logs n [] = tt
 batches_other many logs n (x ∷ xs) = by (is_in many logs (OfBatch x.bid)) (batches_other many logs n xs)
   where
-    by : (v : Bool) → AllByRecursion (IsOther n) (batches_in many logs xs) → AllByRecursion (IsOther n) (if v then kept_batch x ∷ batches_in many logs xs else batches_in many logs xs)
+    by : (v : Bool) → AllByRecursion (IsOther n) (recovered_batches many logs xs) → AllByRecursion (IsOther n) (if v then recovered_batch x ∷ recovered_batches many logs xs else recovered_batches many logs xs)
     by true h = (tt, h)
     by false h = h
 
@@ -150,11 +150,11 @@ valued_grown {C} w earlier o s logs b g h = elim (in_cases w earlier o s logs b 
           fits = as_long y.0.pacts d.at.values r ∙ (ap length y.2 ∙ sym (tids_long x.tids));
         }
 
-new_kept : {C : Type 0} (w : Fixed C) (earlier : List (List Record)) (o : Opening) (s : Machine C) (logs : ℕ → List LogRecord) (bs : List Batch) → Known w earlier o s logs → AllByRecursion (λ b. batch_of b.bid s.desk.batches ≡ Some b) bs → AllByRecursion (IsKept (grown earlier logs)) (batches_in w.text.logs logs bs)
+new_kept : {C : Type 0} (w : Fixed C) (earlier : List (List Record)) (o : Opening) (s : Machine C) (logs : ℕ → List LogRecord) (bs : List Batch) → Known w earlier o s logs → AllByRecursion (λ b. batch_of b.bid s.desk.batches ≡ Some b) bs → AllByRecursion (IsKept (grown earlier logs)) (recovered_batches w.text.logs logs bs)
 new_kept w earlier o s logs [] g h = tt
 new_kept {C} w earlier o s logs (b ∷ bs) g h = by (is_in w.text.logs logs (OfBatch b.bid)) refl (new_kept w earlier o s logs bs g h.1)
   where
-    by : (v : Bool) → is_in w.text.logs logs (OfBatch b.bid) ≡ v → AllByRecursion (IsKept (grown earlier logs)) (batches_in w.text.logs logs bs) → AllByRecursion (IsKept (grown earlier logs)) (if v then kept_batch b ∷ batches_in w.text.logs logs bs else batches_in w.text.logs logs bs)
+    by : (v : Bool) → is_in w.text.logs logs (OfBatch b.bid) ≡ v → AllByRecursion (IsKept (grown earlier logs)) (recovered_batches w.text.logs logs bs) → AllByRecursion (IsKept (grown earlier logs)) (if v then recovered_batch b ∷ recovered_batches w.text.logs logs bs else recovered_batches w.text.logs logs bs)
     by true e r =
         let x = g.whole b.bid e in
         let t = middle (TellsOf s.desk.batches s.book.acts) (machine.BatchInfo b.bid x.actors x.tids) x.front x.rest (subst (AllByRecursion (TellsOf s.desk.batches s.book.acts)) x.info (g.tells (b.bid % w.text.logs))) in
@@ -170,7 +170,7 @@ new_kept {C} w earlier o s logs (b ∷ bs) g h = by (is_in w.text.logs logs (OfB
         )
     by false e r = r
 
-pub number_is : (c : ℕ) (st : Status) → is_at c st ≡ true → number_of st ≡ c
+pub number_is : (c : ℕ) (st : Status) → has_number c st ≡ true → commit_number_of st ≡ c
 number_is c Rattle.protocol.specs.Parts.Live e = absurd (true≢false (sym e))
 number_is c (Rattle.protocol.specs.Parts.Doomed v) e = absurd (true≢false (sym e))
 number_is c (Rattle.protocol.specs.Parts.Decided d) e = eqb-true d c e
@@ -183,17 +183,17 @@ act_told w earlier o s logs t g e =
     middle (TellsOf s.desk.batches s.book.acts) (machine.ActDone t y.m y.c y.v y.actors) y.front y.rest (subst (AllByRecursion (TellsOf s.desk.batches s.book.acts)) y.commit (g.tells (t % w.text.logs)))
 
 act_kept : {C : Type 0} (w : Fixed C) (earlier : List (List Record)) (o : Opening) (s : Machine C) (logs : ℕ → List LogRecord) (x : Act) → Known w earlier o s logs → act_of x.tid s.book.acts ≡ Some x → base w.text ≤ x.m → is_in w.text.logs logs (OfAct x.tid) ≡ true
-    → IsKept (grown earlier logs) (kept_act x) × IsNew w.text.opening.next_bid w.text.opening.next_c (kept_act x)
+    → IsKept (grown earlier logs) (recovered_act x) × IsNew w.text.opening.next_bid w.text.opening.next_c (recovered_act x)
 act_kept w earlier o s logs x g f l e =
     let y = g.whole_acts x.tid e in
     let t = act_told w earlier o s logs x.tid g e in
     let same : t.act ≡ x = (let q : Some t.act ≡ Some x = sym t.found ∙ f in cc q) in
     let m : x.m ≡ y.m = ap (λ z. z.m) (sym same) ∙ t.m_is in
-    let n : is_at y.c x.status ≡ true = subst (λ z. is_at y.c z.status ≡ true) same t.c_is in
-    let c : number_of x.status ≡ y.c = number_is y.c x.status n in
+    let n : has_number y.c x.status ≡ true = subst (λ z. has_number y.c z.status ≡ true) same t.c_is in
+    let c : commit_number_of x.status ≡ y.c = number_is y.c x.status n in
     let commits : IsActOf (grown earlier logs) (tid_of x.tid) (bid_of y.m) y.c (Some y.v) (actors_of y.actors) = commit_new w earlier o s logs x.tid y.m y.c y.v y.actors y.front y.rest g y.commit in
     let value : told_value x.result ≡ Some y.v = ap (λ z. told_value z.result) (sym same) ∙ ap told_value t.result_is in (
-      (actors_of y.actors, subst (λ z. IsActOf (grown earlier logs) (tid_of x.tid) (bid_of z) (number_of x.status) (told_value x.result) (actors_of y.actors)) (sym m) (subst (λ z. IsActOf (grown earlier logs) (tid_of x.tid) (bid_of y.m) z (told_value x.result) (actors_of y.actors)) (sym c) (subst (λ z. IsActOf (grown earlier logs) (tid_of x.tid) (bid_of y.m) y.c z (actors_of y.actors)) (sym value) commits))),
+      (actors_of y.actors, subst (λ z. IsActOf (grown earlier logs) (tid_of x.tid) (bid_of z) (commit_number_of x.status) (told_value x.result) (actors_of y.actors)) (sym m) (subst (λ z. IsActOf (grown earlier logs) (tid_of x.tid) (bid_of y.m) z (told_value x.result) (actors_of y.actors)) (sym c) (subst (λ z. IsActOf (grown earlier logs) (tid_of x.tid) (bid_of y.m) y.c z (actors_of y.actors)) (sym value) commits))),
       (l, omega (arith, c, g.numbered x.tid x f y.c n)),
     )
 
@@ -229,19 +229,19 @@ old_kept w earlier o s logs (kept.Act t m c v ∷ ks) g h =
     let l = commit_of_act w earlier o s logs t m c v h.0.0 g h.0.1 in
     (((h.0.0, commit_stays w earlier o s logs t m c v h.0.0 g l.0 h.0.1), r.0), ((l.1, l.2), r.1))
 
-pub has_batch : {Y : Type 0} (f : Kept → Y) (many : ℕ) (logs : ℕ → List LogRecord) (k : ℕ) (b : Batch) (bs : List Batch) → batch_of k bs ≡ Some b → is_in many logs (OfBatch k) ≡ true → Contains (map f (batches_in many logs bs)) (f (kept_batch b))
+pub has_batch : {Y : Type 0} (f : Kept → Y) (many : ℕ) (logs : ℕ → List LogRecord) (k : ℕ) (b : Batch) (bs : List Batch) → batch_of k bs ≡ Some b → is_in many logs (OfBatch k) ≡ true → Contains (map f (recovered_batches many logs bs)) (f (recovered_batch b))
 has_batch f many logs k b [] e h = absurd (cc e)
 has_batch f many logs k b (x ∷ xs) e h = by (x.bid == k) refl e (has_batch f many logs k b xs)
   where
-    skip : (v : Bool) → Contains (map f (batches_in many logs xs)) (f (kept_batch b)) → Contains (map f (if v then kept_batch x ∷ batches_in many logs xs else batches_in many logs xs)) (f (kept_batch b))
-    skip true r = contains_there (f (kept_batch x)) (f (kept_batch b)) (map f (batches_in many logs xs)) r
+    skip : (v : Bool) → Contains (map f (recovered_batches many logs xs)) (f (recovered_batch b)) → Contains (map f (if v then recovered_batch x ∷ recovered_batches many logs xs else recovered_batches many logs xs)) (f (recovered_batch b))
+    skip true r = contains_there (f (recovered_batch x)) (f (recovered_batch b)) (map f (recovered_batches many logs xs)) r
     skip false r = r
 
-    here : (v : Bool) → x ≡ b → v ≡ true → Contains (map f (if v then kept_batch x ∷ batches_in many logs xs else batches_in many logs xs)) (f (kept_batch b))
-    here true i q = subst (λ z. Contains (f (kept_batch x) ∷ map f (batches_in many logs xs)) (f (kept_batch z))) i (contains_here (f (kept_batch x)) (map f (batches_in many logs xs)))
+    here : (v : Bool) → x ≡ b → v ≡ true → Contains (map f (if v then recovered_batch x ∷ recovered_batches many logs xs else recovered_batches many logs xs)) (f (recovered_batch b))
+    here true i q = subst (λ z. Contains (f (recovered_batch x) ∷ map f (recovered_batches many logs xs)) (f (recovered_batch z))) i (contains_here (f (recovered_batch x)) (map f (recovered_batches many logs xs)))
     here false i q = absurd (true≢false (sym q))
 
-    by : (v : Bool) → (x.bid == k) ≡ v → (if v then Some x else batch_of k xs) ≡ Some b → (batch_of k xs ≡ Some b → is_in many logs (OfBatch k) ≡ true → Contains (map f (batches_in many logs xs)) (f (kept_batch b))) → Contains (map f (batches_in many logs (x ∷ xs))) (f (kept_batch b))
+    by : (v : Bool) → (x.bid == k) ≡ v → (if v then Some x else batch_of k xs) ≡ Some b → (batch_of k xs ≡ Some b → is_in many logs (OfBatch k) ≡ true → Contains (map f (recovered_batches many logs xs)) (f (recovered_batch b))) → Contains (map f (recovered_batches many logs (x ∷ xs))) (f (recovered_batch b))
     by true q e r = let i : x ≡ b = cc e in here (is_in many logs (OfBatch x.bid)) i (subst (λ z. is_in many logs (OfBatch z) ≡ true) (sym (eqb-true x.bid k q)) h)
     by false q e r = skip (is_in many logs (OfBatch x.bid)) (r e h)
 
@@ -260,16 +260,16 @@ known_commit bs xs k (machine.ActDone t m c v actors ∷ rs) h e = known_commit 
 -- what is in: each is kept, is of this run, and they rise
 pub new_kept_all : {C : Type 0} (w : Fixed C) (earlier : List (List Record)) (o : Opening) (s : Machine C) (logs : ℕ → List LogRecord) → Known w earlier o s logs → AllByRecursion (IsKept (grown earlier logs)) (all_in w.text.logs logs s) × AllByRecursion (IsNew w.text.opening.next_bid w.text.opening.next_c) (all_in w.text.logs logs s) × Rises (all_in w.text.logs logs s)
 new_kept_all {C} w earlier o s logs g = (
-  acts_all (IsKept (grown earlier logs)) w.text.logs logs s.book.acts (batches_in w.text.logs logs s.desk.batches) (all_weaker Both (λ x. is_in w.text.logs logs (OfAct x.tid) ≡ true → IsKept (grown earlier logs) (kept_act x)) s.book.acts (λ x p e. (p e).0) each)
+  acts_all (IsKept (grown earlier logs)) w.text.logs logs s.book.acts (recovered_batches w.text.logs logs s.desk.batches) (all_weaker Both (λ x. is_in w.text.logs logs (OfAct x.tid) ≡ true → IsKept (grown earlier logs) (recovered_act x)) s.book.acts (λ x p e. (p e).0) each)
       (new_kept w earlier o s logs s.desk.batches g (all_weaker (λ b. (w.text.opening.next_bid ≤ b.bid) × (batch_of b.bid s.desk.batches ≡ Some b)) (λ b. batch_of b.bid s.desk.batches ≡ Some b) s.desk.batches (λ b h. h.1) (found_at w.text.opening.next_bid s.desk.batches g.bids))),
-  acts_all (IsNew w.text.opening.next_bid w.text.opening.next_c) w.text.logs logs s.book.acts (batches_in w.text.logs logs s.desk.batches) (all_weaker Both (λ x. is_in w.text.logs logs (OfAct x.tid) ≡ true → IsNew w.text.opening.next_bid w.text.opening.next_c (kept_act x)) s.book.acts (λ x p e. (p e).1) each) rise.0,
-  acts_rise w.text.logs logs s.book.acts (batches_in w.text.logs logs s.desk.batches) g.apart (λ n. batches_other w.text.logs logs n s.desk.batches) rise.1,
+  acts_all (IsNew w.text.opening.next_bid w.text.opening.next_c) w.text.logs logs s.book.acts (recovered_batches w.text.logs logs s.desk.batches) (all_weaker Both (λ x. is_in w.text.logs logs (OfAct x.tid) ≡ true → IsNew w.text.opening.next_bid w.text.opening.next_c (recovered_act x)) s.book.acts (λ x p e. (p e).1) each) rise.0,
+  acts_rise w.text.logs logs s.book.acts (recovered_batches w.text.logs logs s.desk.batches) g.apart (λ n. batches_other w.text.logs logs n s.desk.batches) rise.1,
 )
   where
     Both : Act → Type 0
-    Both x = is_in w.text.logs logs (OfAct x.tid) ≡ true → IsKept (grown earlier logs) (kept_act x) × IsNew w.text.opening.next_bid w.text.opening.next_c (kept_act x)
+    Both x = is_in w.text.logs logs (OfAct x.tid) ≡ true → IsKept (grown earlier logs) (recovered_act x) × IsNew w.text.opening.next_bid w.text.opening.next_c (recovered_act x)
 
-    rise : AllByRecursion (IsNew w.text.opening.next_bid w.text.opening.next_c) (batches_in w.text.logs logs s.desk.batches) × Rises (batches_in w.text.logs logs s.desk.batches)
+    rise : AllByRecursion (IsNew w.text.opening.next_bid w.text.opening.next_c) (recovered_batches w.text.logs logs s.desk.batches) × Rises (recovered_batches w.text.logs logs s.desk.batches)
     rise = batches_rise w.text.logs logs w.text.opening.next_bid w.text.opening.next_c s.desk.batches g.bids
 
     each : AllByRecursion Both s.book.acts
@@ -296,10 +296,10 @@ committed_grown {C} w earlier o s logs g =
     batch_there : (b : Bid) → is_in w.text.logs logs (OfBatch b.0) ≡ true → Contains (map commit_of (all_in w.text.logs logs s)) (keys.Commit b)
     batch_there b q =
         let x = one_is (λ b. not (is_formed b.stage)) (batch_of b.0 s.desk.batches) (known_commit s.desk.batches s.book.acts b.0 (logs (b.0 % w.text.logs)) (g.tells (b.0 % w.text.logs)) q) in
-        let there = acts_keep commit_of w.text.logs logs s.book.acts (batches_in w.text.logs logs s.desk.batches) (keys.Commit (bid_of x.0.bid)) (has_batch commit_of w.text.logs logs b.0 x.0 s.desk.batches x.1 q) in
+        let there = acts_keep commit_of w.text.logs logs s.book.acts (recovered_batches w.text.logs logs s.desk.batches) (keys.Commit (bid_of x.0.bid)) (has_batch commit_of w.text.logs logs b.0 x.0 s.desk.batches x.1 q) in
         subst (λ z. Contains (map commit_of (all_in w.text.logs logs s)) (keys.Commit (bid_of z))) (eqb-true x.0.bid b.0 (found_bid b.0 x.0 s.desk.batches x.1)) there
 
     act_there : (t : Tid) → is_in w.text.logs logs (OfAct t.0) ≡ true → Contains (map commit_of (all_in w.text.logs logs s)) (keys.Act t)
     act_there t q =
         let x = act_told w earlier o s logs t.0 g q in
-        subst (λ z. Contains (map commit_of (all_in w.text.logs logs s)) (keys.Act (tid_of z))) (found_tid t.0 x.act s.book.acts x.found) (acts_have commit_of w.text.logs logs t.0 x.act s.book.acts (batches_in w.text.logs logs s.desk.batches) x.found q)
+        subst (λ z. Contains (map commit_of (all_in w.text.logs logs s)) (keys.Act (tid_of z))) (found_tid t.0 x.act s.book.acts x.found) (acts_have commit_of w.text.logs logs t.0 x.act s.book.acts (recovered_batches w.text.logs logs s.desk.batches) x.found q)

@@ -14,7 +14,7 @@ use Rattle.snap_recover.specs.declared.openings.Kept.TheVariants as kept
 use Rattle.snap_recover.specs.Opening.{ComesBefore}
 use Rattle.snap_recover.proofs.Lists.{all_append, all_weaker, contains_cases, contains_here, contains_there}
 use Rattle.record_words.specs.Told.{bid_of, tid_of}
-use Rattle.recovery_laws.specs.Grown.{comes_before, put_in, number_of, told_value, kept_act, with_acts}
+use Rattle.recovery_laws.specs.Grown.{comes_before, put_recovered, commit_number_of, told_value, recovered_act, with_acts}
 use Rattle.recovery_laws.proofs.KnownLogs.{Apart}
 
 -- ---- lists that rise
@@ -127,15 +127,15 @@ one_of_two t m c x1 (kept.Act u n d x2) h = by (three_ways m.0 n.0) (three_ways 
 
 -- ---- one that is put in
 
-put_all : (P : Kept → Type 0) (k : Kept) (xs : List Kept) → P k → AllByRecursion P xs → AllByRecursion P (put_in k xs)
+put_all : (P : Kept → Type 0) (k : Kept) (xs : List Kept) → P k → AllByRecursion P xs → AllByRecursion P (put_recovered k xs)
 put_all P k [] p h = (p, tt)
 put_all P k (x ∷ xs) p h = by (comes_before k x) (put_all P k xs p h.1)
   where
-    by : (v : Bool) → AllByRecursion P (put_in k xs) → AllByRecursion P (if v then k ∷ x ∷ xs else x ∷ put_in k xs)
+    by : (v : Bool) → AllByRecursion P (put_recovered k xs) → AllByRecursion P (if v then k ∷ x ∷ xs else x ∷ put_recovered k xs)
     by true r = (p, h)
     by false r = (h.0, r)
 
-put_rises : (k : Kept) (xs : List Kept) → AllByRecursion (λ y. ComesBefore k y ⊎ ComesBefore y k) xs → Rises xs → Rises (put_in k xs)
+put_rises : (k : Kept) (xs : List Kept) → AllByRecursion (λ y. ComesBefore k y ⊎ ComesBefore y k) xs → Rises xs → Rises (put_recovered k xs)
 put_rises k [] h r = (tt, tt)
 put_rises k (x ∷ xs) h r = by (comes_before k x) refl (put_rises k xs h.1 r.1)
   where
@@ -143,37 +143,37 @@ put_rises k (x ∷ xs) h r = by (comes_before k x) refl (put_rises k xs h.1 r.1)
     behind (inl a) e = absurd (true≢false (sym (before_is k x a) ∙ e))
     behind (inr a) e = a
 
-    by : (v : Bool) → comes_before k x ≡ v → Rises (put_in k xs) → Rises (if v then k ∷ x ∷ xs else x ∷ put_in k xs)
+    by : (v : Bool) → comes_before k x ≡ v → Rises (put_recovered k xs) → Rises (if v then k ∷ x ∷ xs else x ∷ put_recovered k xs)
     by true e q = ((before_true k x e, all_weaker (ComesBefore x) (ComesBefore k) xs (λ y p. goes_on k x y (before_true k x e) p) r.0), r)
     by false e q = (put_all (ComesBefore x) k xs (behind h.0 e) r.0, q)
 
-put_here : {Y : Type 0} (f : Kept → Y) (k : Kept) (xs : List Kept) → Contains (map f (put_in k xs)) (f k)
+put_here : {Y : Type 0} (f : Kept → Y) (k : Kept) (xs : List Kept) → Contains (map f (put_recovered k xs)) (f k)
 put_here f k [] = contains_here (f k) []
 put_here f k (x ∷ xs) = by (comes_before k x) (put_here f k xs)
   where
-    by : (v : Bool) → Contains (map f (put_in k xs)) (f k) → Contains (map f (if v then k ∷ x ∷ xs else x ∷ put_in k xs)) (f k)
+    by : (v : Bool) → Contains (map f (put_recovered k xs)) (f k) → Contains (map f (if v then k ∷ x ∷ xs else x ∷ put_recovered k xs)) (f k)
     by true r = contains_here (f k) (map f (x ∷ xs))
-    by false r = contains_there (f x) (f k) (map f (put_in k xs)) r
+    by false r = contains_there (f x) (f k) (map f (put_recovered k xs)) r
 
-put_there : {Y : Type 0} (f : Kept → Y) (k : Kept) (c : Y) (xs : List Kept) → Contains (map f xs) c → Contains (map f (put_in k xs)) c
+put_there : {Y : Type 0} (f : Kept → Y) (k : Kept) (c : Y) (xs : List Kept) → Contains (map f xs) c → Contains (map f (put_recovered k xs)) c
 put_there f k c [] h = contains_there (f k) c [] h
 put_there f k c (x ∷ xs) h = by (comes_before k x) (put_there f k c xs)
   where
-    by : (v : Bool) → (Contains (map f xs) c → Contains (map f (put_in k xs)) c) → Contains (map f (if v then k ∷ x ∷ xs else x ∷ put_in k xs)) c
+    by : (v : Bool) → (Contains (map f xs) c → Contains (map f (put_recovered k xs)) c) → Contains (map f (if v then k ∷ x ∷ xs else x ∷ put_recovered k xs)) c
     by true r = contains_there (f k) c (map f (x ∷ xs)) h
     by false r = elim (contains_cases (f x) c (map f xs) h) [
-      | inl e ↦ subst (λ z. Contains (f x ∷ map f (put_in k xs)) z) e (contains_here (f x) (map f (put_in k xs)))
-      | inr q ↦ contains_there (f x) c (map f (put_in k xs)) (r q)
+      | inl e ↦ subst (λ z. Contains (f x ∷ map f (put_recovered k xs)) z) e (contains_here (f x) (map f (put_recovered k xs)))
+      | inr q ↦ contains_there (f x) c (map f (put_recovered k xs)) (r q)
     ]
 
 -- ---- ACTs that are put in
 
-pub acts_all : (P : Kept → Type 0) (many : ℕ) (logs : ℕ → List LogRecord) (xs : List Act) (ks : List Kept) → AllByRecursion (λ x. is_in many logs (OfAct x.tid) ≡ true → P (kept_act x)) xs → AllByRecursion P ks → AllByRecursion P (with_acts many logs xs ks)
+pub acts_all : (P : Kept → Type 0) (many : ℕ) (logs : ℕ → List LogRecord) (xs : List Act) (ks : List Kept) → AllByRecursion (λ x. is_in many logs (OfAct x.tid) ≡ true → P (recovered_act x)) xs → AllByRecursion P ks → AllByRecursion P (with_acts many logs xs ks)
 acts_all P many logs [] ks h k = k
 acts_all P many logs (x ∷ xs) ks h k = by (is_in many logs (OfAct x.tid)) refl (acts_all P many logs xs ks h.1 k)
   where
-    by : (v : Bool) → is_in many logs (OfAct x.tid) ≡ v → AllByRecursion P (with_acts many logs xs ks) → AllByRecursion P (if v then put_in (kept_act x) (with_acts many logs xs ks) else with_acts many logs xs ks)
-    by true e r = put_all P (kept_act x) (with_acts many logs xs ks) (h.0 e) r
+    by : (v : Bool) → is_in many logs (OfAct x.tid) ≡ v → AllByRecursion P (with_acts many logs xs ks) → AllByRecursion P (if v then put_recovered (recovered_act x) (with_acts many logs xs ks) else with_acts many logs xs ks)
+    by true e r = put_all P (recovered_act x) (with_acts many logs xs ks) (h.0 e) r
     by false e r = r
 
 pub acts_rise : (many : ℕ) (logs : ℕ → List LogRecord) (xs : List Act) (ks : List Kept) → Apart xs → ((n : ℕ) → AllByRecursion (IsOther n) ks) → Rises ks → Rises (with_acts many logs xs ks)
@@ -181,33 +181,33 @@ acts_rise many logs [] ks a o r = r
 acts_rise many logs (x ∷ xs) ks a o r = by (is_in many logs (OfAct x.tid)) (acts_rise many logs xs ks a.1 o r)
   where
     others : AllByRecursion (IsOther x.tid) (with_acts many logs xs ks)
-    others = acts_all (IsOther x.tid) many logs xs ks (all_weaker (λ y. y.tid ≢ x.tid) (λ y. is_in many logs (OfAct y.tid) ≡ true → IsOther x.tid (kept_act y)) xs (λ y q e. q) a.0) (o x.tid)
+    others = acts_all (IsOther x.tid) many logs xs ks (all_weaker (λ y. y.tid ≢ x.tid) (λ y. is_in many logs (OfAct y.tid) ≡ true → IsOther x.tid (recovered_act y)) xs (λ y q e. q) a.0) (o x.tid)
 
-    by : (v : Bool) → Rises (with_acts many logs xs ks) → Rises (if v then put_in (kept_act x) (with_acts many logs xs ks) else with_acts many logs xs ks)
-    by true q = put_rises (kept_act x) (with_acts many logs xs ks) (all_weaker (IsOther x.tid) (λ y. ComesBefore (kept_act x) y ⊎ ComesBefore y (kept_act x)) (with_acts many logs xs ks) (λ y p. one_of_two (tid_of x.tid) (bid_of x.m) (number_of x.status) (told_value x.result) y p) others) q
+    by : (v : Bool) → Rises (with_acts many logs xs ks) → Rises (if v then put_recovered (recovered_act x) (with_acts many logs xs ks) else with_acts many logs xs ks)
+    by true q = put_rises (recovered_act x) (with_acts many logs xs ks) (all_weaker (IsOther x.tid) (λ y. ComesBefore (recovered_act x) y ⊎ ComesBefore y (recovered_act x)) (with_acts many logs xs ks) (λ y p. one_of_two (tid_of x.tid) (bid_of x.m) (commit_number_of x.status) (told_value x.result) y p) others) q
     by false q = q
 
 pub acts_keep : {Y : Type 0} (f : Kept → Y) (many : ℕ) (logs : ℕ → List LogRecord) (xs : List Act) (ks : List Kept) (c : Y) → Contains (map f ks) c → Contains (map f (with_acts many logs xs ks)) c
 acts_keep f many logs [] ks c h = h
 acts_keep f many logs (x ∷ xs) ks c h = by (is_in many logs (OfAct x.tid)) (acts_keep f many logs xs ks c h)
   where
-    by : (v : Bool) → Contains (map f (with_acts many logs xs ks)) c → Contains (map f (if v then put_in (kept_act x) (with_acts many logs xs ks) else with_acts many logs xs ks)) c
-    by true q = put_there f (kept_act x) c (with_acts many logs xs ks) q
+    by : (v : Bool) → Contains (map f (with_acts many logs xs ks)) c → Contains (map f (if v then put_recovered (recovered_act x) (with_acts many logs xs ks) else with_acts many logs xs ks)) c
+    by true q = put_there f (recovered_act x) c (with_acts many logs xs ks) q
     by false q = q
 
-pub acts_have : {Y : Type 0} (f : Kept → Y) (many : ℕ) (logs : ℕ → List LogRecord) (t : ℕ) (y : Act) (xs : List Act) (ks : List Kept) → act_of t xs ≡ Some y → is_in many logs (OfAct t) ≡ true → Contains (map f (with_acts many logs xs ks)) (f (kept_act y))
+pub acts_have : {Y : Type 0} (f : Kept → Y) (many : ℕ) (logs : ℕ → List LogRecord) (t : ℕ) (y : Act) (xs : List Act) (ks : List Kept) → act_of t xs ≡ Some y → is_in many logs (OfAct t) ≡ true → Contains (map f (with_acts many logs xs ks)) (f (recovered_act y))
 acts_have f many logs t y [] ks e h = absurd (cc e)
 acts_have f many logs t y (x ∷ xs) ks e h = by (x.tid == t) refl e (acts_have f many logs t y xs ks)
   where
-    skip : (v : Bool) → Contains (map f (with_acts many logs xs ks)) (f (kept_act y)) → Contains (map f (if v then put_in (kept_act x) (with_acts many logs xs ks) else with_acts many logs xs ks)) (f (kept_act y))
-    skip true r = put_there f (kept_act x) (f (kept_act y)) (with_acts many logs xs ks) r
+    skip : (v : Bool) → Contains (map f (with_acts many logs xs ks)) (f (recovered_act y)) → Contains (map f (if v then put_recovered (recovered_act x) (with_acts many logs xs ks) else with_acts many logs xs ks)) (f (recovered_act y))
+    skip true r = put_there f (recovered_act x) (f (recovered_act y)) (with_acts many logs xs ks) r
     skip false r = r
 
-    here : (v : Bool) → x ≡ y → v ≡ true → Contains (map f (if v then put_in (kept_act x) (with_acts many logs xs ks) else with_acts many logs xs ks)) (f (kept_act y))
-    here true i q = subst (λ z. Contains (map f (put_in (kept_act x) (with_acts many logs xs ks))) (f (kept_act z))) i (put_here f (kept_act x) (with_acts many logs xs ks))
+    here : (v : Bool) → x ≡ y → v ≡ true → Contains (map f (if v then put_recovered (recovered_act x) (with_acts many logs xs ks) else with_acts many logs xs ks)) (f (recovered_act y))
+    here true i q = subst (λ z. Contains (map f (put_recovered (recovered_act x) (with_acts many logs xs ks))) (f (recovered_act z))) i (put_here f (recovered_act x) (with_acts many logs xs ks))
     here false i q = absurd (true≢false (sym q))
 
-    by : (v : Bool) → (x.tid == t) ≡ v → (if v then Some x else act_of t xs) ≡ Some y → (act_of t xs ≡ Some y → is_in many logs (OfAct t) ≡ true → Contains (map f (with_acts many logs xs ks)) (f (kept_act y))) → Contains (map f (with_acts many logs (x ∷ xs) ks)) (f (kept_act y))
+    by : (v : Bool) → (x.tid == t) ≡ v → (if v then Some x else act_of t xs) ≡ Some y → (act_of t xs ≡ Some y → is_in many logs (OfAct t) ≡ true → Contains (map f (with_acts many logs xs ks)) (f (recovered_act y))) → Contains (map f (with_acts many logs (x ∷ xs) ks)) (f (recovered_act y))
     by true q e r = let i : x ≡ y = cc e in here (is_in many logs (OfAct x.tid)) i (subst (λ z. is_in many logs (OfAct z) ≡ true) (sym (eqb-true x.tid t q)) h)
     by false q e r = skip (is_in many logs (OfAct x.tid)) (r e h)
 

@@ -9,7 +9,7 @@ use Rattle.protocol.specs.Numbers.{from}
 use Rattle.protocol.specs.Records.{LogRecord}
 use Rattle.protocol.specs.Parts.{Act, OfBatch, OfAct, Machine}
 use Rattle.protocol.specs.Words.{count, act_of}
-use Rattle.protocol_laws.specs.Told.{is_at}
+use Rattle.protocol_laws.specs.Told.{has_number}
 use Rattle.protocol_records.specs.Crash.{is_in, BatchIsWhole, ActIsWhole}
 use Rattle.protocol_records.specs.RecordLaws.{RecordKey, has_key, TellsOf}
 use Rattle.txn_records.specs.declared.records.Record.{Record}
@@ -49,7 +49,7 @@ pub record Known {C : Type 0} (w : Fixed C) (earlier : List (List Record)) (o : 
   -- no two ACTs have one tid, none has its place before earlier runs, and its commit number is of this run
   pub apart : Apart s.book.acts
   pub based : AllByRecursion (λ x. base w.text ≤ x.m) s.book.acts
-  pub numbered : (t : ℕ) (x : Act) → act_of t s.book.acts ≡ Some x → (c : ℕ) → is_at c x.status ≡ true → w.text.opening.next_c ≤ c
+  pub numbered : (t : ℕ) (x : Act) → act_of t s.book.acts ≡ Some x → (c : ℕ) → has_number c x.status ≡ true → w.text.opening.next_c ≤ c
 
 -- ---- where records stand
 

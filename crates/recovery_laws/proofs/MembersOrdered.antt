@@ -14,7 +14,7 @@ use Rattle.protocol.specs.Verdicts.{pact_place, act_place}
 use Rattle.protocol.specs.History.{Done, History}
 use Rattle.protocol.specs.Chains.{is_place_below, put_by_place, by_place}
 use Rattle.protocol_records.specs.Crash.{is_in, members}
-use Rattle.protocol_laws.specs.Told.{AmongDone, is_at, PactTold, DoneFrom, IsDonePact, AnyPact, PactFrom, Valued, CommittedTold}
+use Rattle.protocol_laws.specs.Told.{AmongDone, has_number, PactTold, DoneFrom, IsDonePact, AnyPact, PactFrom, Valued, CommittedTold}
 use Rattle.protocol_laws.specs.Linked.{PlacesDiffer}
 use Rattle.protocol_laws.proofs.Lemmas.{all_filter, found_bid}
 use Rattle.protocol_theorems.proofs.Lemmas.{all_sorted, rises_sorted}
@@ -22,7 +22,7 @@ use Rattle.txn_records.specs.declared.records.Record.{Record}
 use Rattle.snap_recover.specs.declared.openings.Kept.{Kept}
 use Rattle.snap_recover.specs.declared.openings.Opening.{Opening}
 use Rattle.snap_recover.proofs.Lists.{all_both, all_weaker, all_map, all_contains, contains_cases, contains_here, contains_there, contains_none, contains_map, contains_middle}
-use Rattle.recovery_laws.specs.Grown.{number_of, told_value, answer_of, kept_batch, kept_act, batches_in, all_in, answers_of, answer_at}
+use Rattle.recovery_laws.specs.Grown.{commit_number_of, told_value, answer_of, recovered_batch, recovered_act, recovered_batches, all_in, answers_of, answer_at}
 use Rattle.recovery_laws.proofs.InOrder.{acts_all, acts_keep, acts_have}
 use Rattle.recovery_laws.proofs.KnownLogs.{Known}
 use Rattle.recovery_laws.proofs.CommittedGrown.{number_is, found_at, found_acts, one_is, known_commit, act_told, has_batch, new_kept_all}
@@ -97,11 +97,11 @@ member_spot many logs h y t n p r a i v =
 
 -- ---- from what is in to the members
 
-batches_all : (P : Kept → Type 0) (many : ℕ) (logs : ℕ → List LogRecord) (bs : List Batch) → AllByRecursion (λ b. is_in many logs (OfBatch b.bid) ≡ true → P (kept_batch b)) bs → AllByRecursion P (batches_in many logs bs)
+batches_all : (P : Kept → Type 0) (many : ℕ) (logs : ℕ → List LogRecord) (bs : List Batch) → AllByRecursion (λ b. is_in many logs (OfBatch b.bid) ≡ true → P (recovered_batch b)) bs → AllByRecursion P (recovered_batches many logs bs)
 batches_all P many logs [] h = tt
 batches_all P many logs (b ∷ bs) h = by (is_in many logs (OfBatch b.bid)) refl (batches_all P many logs bs h.1)
   where
-    by : (v : Bool) → is_in many logs (OfBatch b.bid) ≡ v → AllByRecursion P (batches_in many logs bs) → AllByRecursion P (if v then kept_batch b ∷ batches_in many logs bs else batches_in many logs bs)
+    by : (v : Bool) → is_in many logs (OfBatch b.bid) ≡ v → AllByRecursion P (recovered_batches many logs bs) → AllByRecursion P (if v then recovered_batch b ∷ recovered_batches many logs bs else recovered_batches many logs bs)
     by true e r = (h.0 e, r)
     by false e r = r
 
@@ -132,13 +132,13 @@ pacts_spots many logs h k (p ∷ ps) v i t =
     let back : p.result ≡ answer_of (Some (value_of p.result)) = value_back p.result (ap is_value (sym a.result) ∙ value) in
     (subst (λ z. Contains (map spot_of (by_place (members many logs h))) (pact_place k p.tid, p.tid, z)) back (member_spot many logs h (OfBatch k) p.tid p.tx (pact_place k p.tid) p.result a i value), pacts_spots many logs h k ps v i t.1)
 
-number_at : (c : ℕ) (st : Status) → is_at c st ≡ true → (is_at (number_of st) st ≡ true)
+number_at : (c : ℕ) (st : Status) → has_number c st ≡ true → (has_number (commit_number_of st) st ≡ true)
 number_at c Live e = absurd (true≢false (sym e))
 number_at c (Doomed v) e = absurd (true≢false (sym e))
 number_at c (Decided d) e = Rattle.std.proofs.lemmas.Bool.eq-eqb d d refl
 number_at c (Sealed d) e = Rattle.std.proofs.lemmas.Bool.eq-eqb d d refl
 
-batch_of_members : {C : Type 0} (w : Fixed C) (earlier : List (List Record)) (o : Opening) (s : Machine C) (h : History) (logs : ℕ → List LogRecord) (b : Batch) → Known w earlier o s logs → CommittedTold s h → batch_of b.bid s.desk.batches ≡ Some b → is_in w.text.logs logs (OfBatch b.bid) ≡ true → IsOfMembers w.text.logs logs h (kept_batch b)
+batch_of_members : {C : Type 0} (w : Fixed C) (earlier : List (List Record)) (o : Opening) (s : Machine C) (h : History) (logs : ℕ → List LogRecord) (b : Batch) → Known w earlier o s logs → CommittedTold s h → batch_of b.bid s.desk.batches ≡ Some b → is_in w.text.logs logs (OfBatch b.bid) ≡ true → IsOfMembers w.text.logs logs h (recovered_batch b)
 batch_of_members w earlier o s h logs b g t f e =
     let c = known_commit s.desk.batches s.book.acts b.bid (logs (b.bid % w.text.logs)) (g.tells (b.bid % w.text.logs)) e in
     let n : not (is_formed b.stage) ≡ true = subst (λ z. Rattle.protocol.specs.Words.holds (λ b. not (is_formed b.stage)) z ≡ true) f c in
@@ -154,21 +154,21 @@ batch_of_members w earlier o s h logs b g t f e =
 valued_too : (p q : Option TxResult) → p ≡ q → is_value q ≡ true → is_value p ≡ true
 valued_too p q e v = ap is_value e ∙ v
 
-act_of_members : {C : Type 0} (w : Fixed C) (earlier : List (List Record)) (o : Opening) (s : Machine C) (h : History) (logs : ℕ → List LogRecord) (x : Act) → Known w earlier o s logs → CommittedTold s h → act_of x.tid s.book.acts ≡ Some x → is_in w.text.logs logs (OfAct x.tid) ≡ true → IsOfMembers w.text.logs logs h (kept_act x)
+act_of_members : {C : Type 0} (w : Fixed C) (earlier : List (List Record)) (o : Opening) (s : Machine C) (h : History) (logs : ℕ → List LogRecord) (x : Act) → Known w earlier o s logs → CommittedTold s h → act_of x.tid s.book.acts ≡ Some x → is_in w.text.logs logs (OfAct x.tid) ≡ true → IsOfMembers w.text.logs logs h (recovered_act x)
 act_of_members w earlier o s h logs x g t f e =
     let y = act_told w earlier o s logs x.tid g e in
     let same : y.act ≡ x = (let q : Some y.act ≡ Some x = sym y.found ∙ f in cc q) in
-    let n : is_at (number_of x.status) x.status ≡ true = subst (λ z. is_at (number_of z.status) z.status ≡ true) same (number_at (g.whole_acts x.tid e).c y.act.status y.c_is) in
-    let a = t.acts_told x.tid x f (number_of x.status) n in
+    let n : has_number (commit_number_of x.status) x.status ≡ true = subst (λ z. has_number (commit_number_of z.status) z.status ≡ true) same (number_at (g.whole_acts x.tid e).c y.act.status y.c_is) in
+    let a = t.acts_told x.tid x f (commit_number_of x.status) n in
     let value : is_value x.result ≡ true = ap (λ z. is_value z.result) (sym same) ∙ ap is_value y.result_is in
     let v : is_value a.done.result ≡ true = valued_too a.done.result x.result a.result value in
-    ((tt, tt), (subst (λ z. Contains (map spot_of (by_place (members w.text.logs logs h))) (act_place x.m (number_of x.status), x.tid, z)) (told_back x.result value) (member_spot w.text.logs logs h (OfAct x.tid) x.tid x.tx (act_place x.m (number_of x.status)) x.result a e v), tt))
+    ((tt, tt), (subst (λ z. Contains (map spot_of (by_place (members w.text.logs logs h))) (act_place x.m (commit_number_of x.status), x.tid, z)) (told_back x.result value) (member_spot w.text.logs logs h (OfAct x.tid) x.tid x.tx (act_place x.m (commit_number_of x.status)) x.result a e v), tt))
 
 of_members : {C : Type 0} (w : Fixed C) (earlier : List (List Record)) (o : Opening) (s : Machine C) (h : History) (logs : ℕ → List LogRecord) → Known w earlier o s logs → CommittedTold s h → AllByRecursion (IsOfMembers w.text.logs logs h) (all_in w.text.logs logs s)
-of_members w earlier o s h logs g t = acts_all (IsOfMembers w.text.logs logs h) w.text.logs logs s.book.acts (batches_in w.text.logs logs s.desk.batches)
-    (all_weaker (λ x. act_of x.tid s.book.acts ≡ Some x) (λ x. is_in w.text.logs logs (OfAct x.tid) ≡ true → IsOfMembers w.text.logs logs h (kept_act x)) s.book.acts (λ x f e. act_of_members w earlier o s h logs x g t f e) (found_acts s.book.acts g.apart))
+of_members w earlier o s h logs g t = acts_all (IsOfMembers w.text.logs logs h) w.text.logs logs s.book.acts (recovered_batches w.text.logs logs s.desk.batches)
+    (all_weaker (λ x. act_of x.tid s.book.acts ≡ Some x) (λ x. is_in w.text.logs logs (OfAct x.tid) ≡ true → IsOfMembers w.text.logs logs h (recovered_act x)) s.book.acts (λ x f e. act_of_members w earlier o s h logs x g t f e) (found_acts s.book.acts g.apart))
     (batches_all (IsOfMembers w.text.logs logs h) w.text.logs logs s.desk.batches
-    (all_weaker (λ b. (w.text.opening.next_bid ≤ b.bid) × (batch_of b.bid s.desk.batches ≡ Some b)) (λ b. is_in w.text.logs logs (OfBatch b.bid) ≡ true → IsOfMembers w.text.logs logs h (kept_batch b)) s.desk.batches (λ b f e. batch_of_members w earlier o s h logs b g t f.1 e) (found_at w.text.opening.next_bid s.desk.batches g.bids)))
+    (all_weaker (λ b. (w.text.opening.next_bid ≤ b.bid) × (batch_of b.bid s.desk.batches ≡ Some b)) (λ b. is_in w.text.logs logs (OfBatch b.bid) ≡ true → IsOfMembers w.text.logs logs h (recovered_batch b)) s.desk.batches (λ b f e. batch_of_members w earlier o s h logs b g t f.1 e) (found_at w.text.opening.next_bid s.desk.batches g.bids)))
 
 -- ---- from the members to what is in
 
@@ -183,10 +183,10 @@ any_spot k d (p ∷ ps) v (inl q) =
     moved (first ∷ rest) d.place (pact_place k p.tid) d.tid p.tid d.result (answer_of (Some (value_of p.result))) q.place q.tid (q.result ∙ value_back p.result (ap is_value (sym q.result) ∙ v)) (contains_here first rest)
 any_spot k d (p ∷ ps) v (inr q) = contains_there {X = Spot} (pact_place k p.tid, p.tid, answer_of (Some (value_of p.result))) (spot_of d) (pact_answers k ps) (any_spot k d ps v q)
 
-act_spot : (d : Done) (x : Act) (c : ℕ) → is_value d.result ≡ true → d.place ≡ act_place x.m c → d.tid ≡ x.tid → d.result ≡ x.result → number_of x.status ≡ c → Contains (answers_of (kept_act x)) (spot_of d)
+act_spot : (d : Done) (x : Act) (c : ℕ) → is_value d.result ≡ true → d.place ≡ act_place x.m c → d.tid ≡ x.tid → d.result ≡ x.result → commit_number_of x.status ≡ c → Contains (answers_of (recovered_act x)) (spot_of d)
 act_spot d x c v p t r n =
-    let first : Spot = (act_place x.m (number_of x.status), x.tid, answer_of (told_value x.result)) in
-    moved (answers_of (kept_act x)) d.place (act_place x.m (number_of x.status)) d.tid x.tid d.result (answer_of (told_value x.result)) (p ∙ ap (act_place x.m) (sym n)) t (r ∙ told_back x.result (ap is_value (sym r) ∙ v)) (contains_here first [])
+    let first : Spot = (act_place x.m (commit_number_of x.status), x.tid, answer_of (told_value x.result)) in
+    moved (answers_of (recovered_act x)) d.place (act_place x.m (commit_number_of x.status)) d.tid x.tid d.result (answer_of (told_value x.result)) (p ∙ ap (act_place x.m) (sym n)) t (r ∙ told_back x.result (ap is_value (sym r) ∙ v)) (contains_here first [])
 
 done_there : {C : Type 0} (w : Fixed C) (earlier : List (List Record)) (o : Opening) (s : Machine C) (h : History) (logs : ℕ → List LogRecord) (d : Done) (y : Who) → Known w earlier o s logs → ((k : ℕ) → d.who ≡ OfBatch k → PactFrom s.desk.batches h.kept k d) → ((t : ℕ) → d.who ≡ OfAct t → DoneFrom s.book.acts t d) → d.who ≡ y → is_in w.text.logs logs y ≡ true → is_value d.result ≡ true
     → Contains (flat_map answers_of (all_in w.text.logs logs s)) (spot_of d)
@@ -194,11 +194,11 @@ done_there w earlier o s h logs d (OfBatch k) g p q i e v =
     let x = one_is (λ b. not (is_formed b.stage)) (batch_of k s.desk.batches) (known_commit s.desk.batches s.book.acts k (logs (k % w.text.logs)) (g.tells (k % w.text.logs)) e) in
     let same : x.0.bid ≡ k = eqb-true x.0.bid k (found_bid k x.0 s.desk.batches x.1) in
     let spot = subst (λ z. Contains (pact_answers z x.0.pacts) (spot_of d)) (sym same) (any_spot k d x.0.pacts v ((p k i).is_it k x.0 x.1 refl)) in
-    spot_there (all_in w.text.logs logs s) (answers_of (kept_batch x.0)) (spot_of d) (acts_keep answers_of w.text.logs logs s.book.acts (batches_in w.text.logs logs s.desk.batches) (answers_of (kept_batch x.0)) (has_batch answers_of w.text.logs logs k x.0 s.desk.batches x.1 e)) spot
+    spot_there (all_in w.text.logs logs s) (answers_of (recovered_batch x.0)) (spot_of d) (acts_keep answers_of w.text.logs logs s.book.acts (recovered_batches w.text.logs logs s.desk.batches) (answers_of (recovered_batch x.0)) (has_batch answers_of w.text.logs logs k x.0 s.desk.batches x.1 e)) spot
 done_there w earlier o s h logs d (OfAct t) g p q i e v =
     let x = act_told w earlier o s logs t g e in
     let k = (q t i).is_it t x.act x.found refl in
-    spot_there (all_in w.text.logs logs s) (answers_of (kept_act x.act)) (spot_of d) (acts_have answers_of w.text.logs logs t x.act s.book.acts (batches_in w.text.logs logs s.desk.batches) x.found e) (act_spot d x.act k.c v k.place k.tid k.result (number_is k.c x.act.status k.at))
+    spot_there (all_in w.text.logs logs s) (answers_of (recovered_act x.act)) (spot_of d) (acts_have answers_of w.text.logs logs t x.act s.book.acts (recovered_batches w.text.logs logs s.desk.batches) x.found e) (act_spot d x.act k.c v k.place k.tid k.result (number_is k.c x.act.status k.at))
 
 members_there : {C : Type 0} (w : Fixed C) (earlier : List (List Record)) (o : Opening) (s : Machine C) (h : History) (logs : ℕ → List LogRecord) → Known w earlier o s logs → CommittedTold s h → AllByRecursion (λ d. Contains (flat_map answers_of (all_in w.text.logs logs s)) (spot_of d)) (members w.text.logs logs h)
 members_there w earlier o s h logs g t = all_filtered (λ d. Contains (flat_map answers_of (all_in w.text.logs logs s)) (spot_of d)) (λ d. is_in w.text.logs logs d.who && is_value d.result) h.committed

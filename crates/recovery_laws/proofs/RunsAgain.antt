@@ -10,7 +10,7 @@ use Rattle.protocol_records.specs.SeveralRuns.{CutRun, logs_left}
 use Rattle.txn_records.specs.declared.records.Record.{Record}
 use Rattle.snap_recover.specs.declared.openings.Opening.{Opening}
 use Rattle.snap_recover.specs.Opening.{IsRecovered}
-use Rattle.recovery_laws.specs.Grown.{grown, Answer, answers_of, answer_at, all_in, opening_after}
+use Rattle.recovery_laws.specs.Grown.{grown, PlacedResult, answers_of, answer_at, all_in, opening_after}
 use Rattle.recovery_laws.specs.Joined.{AtEveryMomentOnLogs, RecoversToMembers, GoOnLogs, RecoverAgain, answers_in, ValuesAreResults}
 
 pub again : {C : Type 0} → AtEveryMomentOnLogs (RecoversToMembers {C = C}) → (earlier : List (List Record)) (o : Opening) (xs : List (CutRun C)) → IsRecovered earlier o → GoOnLogs earlier o xs → RecoverAgain earlier o xs
@@ -22,7 +22,7 @@ again law earlier o (x ∷ xs) h g =
 
 -- ---- what they answer
 
-results_at : (ds : List Done) → map (λ (x : Answer). x.2) (map answer_at ds) ≡ map (λ d. d.result) ds
+results_at : (ds : List Done) → map (λ (x : PlacedResult). x.2) (map answer_at ds) ≡ map (λ d. d.result) ds
 results_at [] = refl
 results_at (d ∷ ds) = ap (λ z. d.result ∷ z) (results_at ds)
 
@@ -37,8 +37,8 @@ values_are_results {C} law earlier o (x ∷ xs) h g =
     record {
       recovered = rest.recovered;
       answers = rest.answers ∙ (ap (λ z. z ++ flat_map answers_in xs) own ∙ append_assoc (flat_map answers_of o.committed) (answers_in x) (flat_map answers_in xs));
-      alone = (ap (map (λ (y : Answer). y.2)) (sym r.ordered) ∙ r.alone, rest.alone);
+      alone = (ap (map (λ (y : PlacedResult). y.2)) (sym r.ordered) ∙ r.alone, rest.alone);
     }
 
-pub alone_of : (answers : List Answer) (ds : List Done) (rs : List Rattle.snap_base.specs.declared.transactions.TxResult.TxResult) → answers ≡ map answer_at ds → map Some rs ≡ map (λ d. d.result) ds → map (λ (x : Answer). x.2) answers ≡ map Some rs
-alone_of answers ds rs e f = ap (map (λ (x : Answer). x.2)) e ∙ (results_at ds ∙ sym f)
+pub alone_of : (answers : List PlacedResult) (ds : List Done) (rs : List Rattle.snap_base.specs.declared.transactions.TxResult.TxResult) → answers ≡ map answer_at ds → map Some rs ≡ map (λ d. d.result) ds → map (λ (x : PlacedResult). x.2) answers ≡ map Some rs
+alone_of answers ds rs e f = ap (map (λ (x : PlacedResult). x.2)) e ∙ (results_at ds ∙ sym f)

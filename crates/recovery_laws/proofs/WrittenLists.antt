@@ -198,9 +198,9 @@ commit_from (machine.ActDone t m c v actors ∷ rs) low k h e = commit_from rs l
 -- what counts, as it is written
 abbrev pub Counted : (Record → Type 0) → ℕ → (ℕ → List LogRecord) → ℕ → LogRecord → Type 0
 Counted P many logs a (machine.BatchInfo k actors tids) = Unit {0}
-Counted P many logs a (machine.BatchComplete k c st) = (crash.counts many logs a (machine.BatchComplete k c st) ≡ true → P (BatchComplete (bid_of k) (actor_of c) st)) × (crash.counts many logs a (machine.BatchComplete k c st) ≡ false → ¬ P (BatchComplete (bid_of k) (record { 0 = c }) st))
+Counted P many logs a (machine.BatchComplete k c st) = (crash.tells_member_state many logs a (machine.BatchComplete k c st) ≡ true → P (BatchComplete (bid_of k) (actor_of c) st)) × (crash.tells_member_state many logs a (machine.BatchComplete k c st) ≡ false → ¬ P (BatchComplete (bid_of k) (record { 0 = c }) st))
 Counted P many logs a (machine.BatchDone k vs) = Unit {0}
-Counted P many logs a (machine.ActPrepare t c st) = (crash.counts many logs a (machine.ActPrepare t c st) ≡ true → P (ActPrepare (tid_of t) (actor_of c) st)) × (crash.counts many logs a (machine.ActPrepare t c st) ≡ false → ¬ P (ActPrepare (tid_of t) (actor_of c) st))
+Counted P many logs a (machine.ActPrepare t c st) = (crash.tells_member_state many logs a (machine.ActPrepare t c st) ≡ true → P (ActPrepare (tid_of t) (actor_of c) st)) × (crash.tells_member_state many logs a (machine.ActPrepare t c st) ≡ false → ¬ P (ActPrepare (tid_of t) (actor_of c) st))
 Counted P many logs a (machine.ActDone t m c v actors) = Unit {0}
 
 -- infos and commits tell no state
@@ -211,31 +211,31 @@ pub record IsOfStates (P : Record → Type 0) : Type 0 where
 
 -- a record that tells a state, where it counts and where it does not
 over_told : (P : Record → Type 0) (many a : ℕ) (logs : ℕ → List LogRecord) (first : State) (m : LogRecord) (rs : List LogRecord) (r : Record) (st : State) (front : List Record) (s : State) → states_in r ≡ st ∷ [] → ((x : State) → crash.state_told x m ≡ st)
-    → (crash.counts many logs a m ≡ true → P r) → (crash.counts many logs a m ≡ false → ¬ P r)
-    → ((f : List Record) (t : State) → StateOver P f first t → StateOver P (f ++ all_told rs) first (crash.last_told t (filter (crash.counts many logs a) rs)))
-    → StateOver P front first s → StateOver P (front ++ r ∷ all_told rs) first (crash.last_told s (filter (crash.counts many logs a) (m ∷ rs)))
-over_told P many a logs first m rs r st front s tells leaves counted not_counted go o = by (crash.counts many logs a m) refl
+    → (crash.tells_member_state many logs a m ≡ true → P r) → (crash.tells_member_state many logs a m ≡ false → ¬ P r)
+    → ((f : List Record) (t : State) → StateOver P f first t → StateOver P (f ++ all_told rs) first (crash.last_told t (filter (crash.tells_member_state many logs a) rs)))
+    → StateOver P front first s → StateOver P (front ++ r ∷ all_told rs) first (crash.last_told s (filter (crash.tells_member_state many logs a) (m ∷ rs)))
+over_told P many a logs first m rs r st front s tells leaves counted not_counted go o = by (crash.tells_member_state many logs a m) refl
   where
-    by : (v : Bool) → crash.counts many logs a m ≡ v → StateOver P (front ++ r ∷ all_told rs) first (crash.last_told s (if v then m ∷ filter (crash.counts many logs a) rs else filter (crash.counts many logs a) rs))
-    by true e = subst (λ z. StateOver P z first (crash.last_told (crash.state_told s m) (filter (crash.counts many logs a) rs))) (append_assoc front (r ∷ []) (all_told rs))
+    by : (v : Bool) → crash.tells_member_state many logs a m ≡ v → StateOver P (front ++ r ∷ all_told rs) first (crash.last_told s (if v then m ∷ filter (crash.tells_member_state many logs a) rs else filter (crash.tells_member_state many logs a) rs))
+    by true e = subst (λ z. StateOver P z first (crash.last_told (crash.state_told s m) (filter (crash.tells_member_state many logs a) rs))) (append_assoc front (r ∷ []) (all_told rs))
         (go (front ++ r ∷ []) (crash.state_told s m) (subst (λ z. StateOver P (front ++ r ∷ []) first z) (sym (leaves s)) (over_counts P front r first st tells (counted e))))
-    by false e = subst (λ z. StateOver P z first (crash.last_told s (filter (crash.counts many logs a) rs))) (append_assoc front (r ∷ []) (all_told rs))
+    by false e = subst (λ z. StateOver P z first (crash.last_told s (filter (crash.tells_member_state many logs a) rs))) (append_assoc front (r ∷ []) (all_told rs))
         (go (front ++ r ∷ []) s (over_quiet P front (r ∷ []) first s (not_counted e, tt) o))
 
 pub over_written : (P : Record → Type 0) (many a : ℕ) (logs : ℕ → List LogRecord) (first : State) (rs : List LogRecord) (front : List Record) (s : State) → IsOfStates P → AllByRecursion (Counted P many logs a) rs → StateOver P front first s
-    → StateOver P (front ++ all_told rs) first (crash.last_told s (filter (crash.counts many logs a) rs))
+    → StateOver P (front ++ all_told rs) first (crash.last_told s (filter (crash.tells_member_state many logs a) rs))
 over_written P many a logs first [] front s i h o = subst (λ z. StateOver P z first s) (sym (append-nil front)) o
 over_written P many a logs first (machine.BatchInfo k actors tids ∷ rs) front s i h o =
     let r = BatchInfo (bid_of k) (actors_of actors) (tids_of tids) in
-    subst (λ z. StateOver P z first (crash.last_told s (filter (crash.counts many logs a) rs))) (append_assoc front (r ∷ []) (all_told rs))
+    subst (λ z. StateOver P z first (crash.last_told s (filter (crash.tells_member_state many logs a) rs))) (append_assoc front (r ∷ []) (all_told rs))
     (over_written P many a logs first rs (front ++ r ∷ []) s i h.1 (over_quiet P front (r ∷ []) first s (i.infos (bid_of k) (actors_of actors) (tids_of tids), tt) o))
 over_written P many a logs first (machine.BatchDone k vs ∷ rs) front s i h o =
     let r = BatchDone (bid_of k) vs in
-    subst (λ z. StateOver P z first (crash.last_told s (filter (crash.counts many logs a) rs))) (append_assoc front (r ∷ []) (all_told rs))
+    subst (λ z. StateOver P z first (crash.last_told s (filter (crash.tells_member_state many logs a) rs))) (append_assoc front (r ∷ []) (all_told rs))
     (over_written P many a logs first rs (front ++ r ∷ []) s i h.1 (over_quiet P front (r ∷ []) first s (i.commits (bid_of k) vs, tt) o))
 over_written P many a logs first (machine.ActDone t m c v actors ∷ rs) front s i h o =
     let r = ActDone (tid_of t) (bid_of m) c v (actors_of actors) in
-    subst (λ z. StateOver P z first (crash.last_told s (filter (crash.counts many logs a) rs))) (append_assoc front (r ∷ []) (all_told rs))
+    subst (λ z. StateOver P z first (crash.last_told s (filter (crash.tells_member_state many logs a) rs))) (append_assoc front (r ∷ []) (all_told rs))
     (over_written P many a logs first rs (front ++ r ∷ []) s i h.1 (over_quiet P front (r ∷ []) first s (i.acts (tid_of t) (bid_of m) c v (actors_of actors), tt) o))
 over_written P many a logs first (machine.BatchComplete k c st ∷ rs) front s i h o = over_told P many a logs first (machine.BatchComplete k c st) rs (BatchComplete (bid_of k) (actor_of c) st) st front s refl (λ x. refl) h.0.0 h.0.1 (λ f t x. over_written P many a logs first rs f t i h.1 x) o
 over_written P many a logs first (machine.ActPrepare t c st ∷ rs) front s i h o = over_told P many a logs first (machine.ActPrepare t c st) rs (ActPrepare (tid_of t) (actor_of c) st) st front s refl (λ x. refl) h.0.0 h.0.1 (λ f t x. over_written P many a logs first rs f t i h.1 x) o

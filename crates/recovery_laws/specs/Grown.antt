@@ -37,19 +37,19 @@ comes_before (kept.Act t m c v) (kept.Batch b tids vs) = nat_lt m.0 b.0
 comes_before (kept.Act t m c v) (kept.Act t' m' c' v') = nat_lt m.0 m'.0 || ((m.0 == m'.0) && (nat_lt c c' || ((c == c') && nat_lt t.0 t'.0)))
 
 -- before the first one that it comes before
-abbrev pub put_in : Kept → List Kept → List Kept
-put_in k [] = k ∷ []
-put_in k (x ∷ xs) = if comes_before k x then k ∷ x ∷ xs else x ∷ put_in k xs
+abbrev pub put_recovered : Kept → List Kept → List Kept
+put_recovered k [] = k ∷ []
+put_recovered k (x ∷ xs) = if comes_before k x then k ∷ x ∷ xs else x ∷ put_recovered k xs
 
-abbrev pub kept_batch : Batch → Kept
-kept_batch b = kept.Batch (bid_of b.bid) (tids_of (map (λ p. p.tid) b.pacts)) (map (λ p. value_of p.result) b.pacts)
+abbrev pub recovered_batch : Batch → Kept
+recovered_batch b = kept.Batch (bid_of b.bid) (tids_of (map (λ p. p.tid) b.pacts)) (map (λ p. value_of p.result) b.pacts)
 
 -- the commit number of an ACT that has one
-abbrev pub number_of : Status → ℕ
-number_of Live = 0
-number_of (Doomed v) = 0
-number_of (Decided c) = c
-number_of (Sealed c) = c
+abbrev pub commit_number_of : Status → ℕ
+commit_number_of Live = 0
+commit_number_of (Doomed v) = 0
+commit_number_of (Decided c) = c
+commit_number_of (Sealed c) = c
 
 -- the value that a commit tells of this result
 abbrev pub told_value : Option TxResult → Option ℤ
@@ -57,21 +57,21 @@ told_value (Some (Value v)) = Some v
 told_value (Some (Fail code)) = None
 told_value None = None
 
-abbrev pub kept_act : Act → Kept
-kept_act x = kept.Act (tid_of x.tid) (bid_of x.m) (number_of x.status) (told_value x.result)
+abbrev pub recovered_act : Act → Kept
+recovered_act x = kept.Act (tid_of x.tid) (bid_of x.m) (commit_number_of x.status) (told_value x.result)
 
 -- the batches that are in
-abbrev pub batches_in : ℕ → (ℕ → List LogRecord) → List Batch → List Kept
-batches_in many logs [] = []
-batches_in many logs (b ∷ bs) = if is_in many logs (OfBatch b.bid) then kept_batch b ∷ batches_in many logs bs else batches_in many logs bs
+abbrev pub recovered_batches : ℕ → (ℕ → List LogRecord) → List Batch → List Kept
+recovered_batches many logs [] = []
+recovered_batches many logs (b ∷ bs) = if is_in many logs (OfBatch b.bid) then recovered_batch b ∷ recovered_batches many logs bs else recovered_batches many logs bs
 
 -- the ACTs that are in, each put in its place among these
 abbrev pub with_acts : ℕ → (ℕ → List LogRecord) → List Act → List Kept → List Kept
 with_acts many logs [] ks = ks
-with_acts many logs (x ∷ xs) ks = if is_in many logs (OfAct x.tid) then put_in (kept_act x) (with_acts many logs xs ks) else with_acts many logs xs ks
+with_acts many logs (x ∷ xs) ks = if is_in many logs (OfAct x.tid) then put_recovered (recovered_act x) (with_acts many logs xs ks) else with_acts many logs xs ks
 
 abbrev pub all_in : {C : Type 0} → ℕ → (ℕ → List LogRecord) → Machine C → List Kept
-all_in many logs s = with_acts many logs s.book.acts (batches_in many logs s.desk.batches)
+all_in many logs s = with_acts many logs s.book.acts (recovered_batches many logs s.desk.batches)
 
 -- the result that a value is; where it is not known there is none
 abbrev pub answer_of : Option ℤ → Option TxResult
@@ -79,21 +79,21 @@ answer_of None = None
 answer_of (Some v) = Some (Value v)
 
 -- a place, whose it is, and the result there
-abbrev pub Answer : Type 0
-Answer = Place × ℕ × Option TxResult
+abbrev pub PlacedResult : Type 0
+PlacedResult = Place × ℕ × Option TxResult
 
 -- the answers of a batch's transactions; those without a value have an unknown one
-abbrev pub batch_answers : ℕ → List Tid → List ℤ → List Answer
+abbrev pub batch_answers : ℕ → List Tid → List ℤ → List PlacedResult
 batch_answers k [] vs = []
 batch_answers k (t ∷ ts) [] = (pact_place k t.0, t.0, None) ∷ batch_answers k ts []
 batch_answers k (t ∷ ts) (v ∷ vs) = (pact_place k t.0, t.0, answer_of (Some v)) ∷ batch_answers k ts vs
 
 -- the places of its transactions, each with its tid and its result
-abbrev pub answers_of : Kept → List Answer
+abbrev pub answers_of : Kept → List PlacedResult
 answers_of (kept.Batch b tids vs) = batch_answers b.0 tids vs
 answers_of (kept.Act t m c v) = (act_place m.0 c, t.0, answer_of v) ∷ []
 
-abbrev pub answer_at : Done → Answer
+abbrev pub answer_at : Done → PlacedResult
 answer_at d = (d.place, d.tid, d.result)
 
 -- ---- what they recover to

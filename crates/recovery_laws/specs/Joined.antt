@@ -21,7 +21,7 @@ use Rattle.snap_recover.specs.declared.refusals.RecoverNo.{RecoverNo}
 use Rattle.snap_recover.specs.declared.refusals.RecoverNo.TheVariants.{Memory}
 use Rattle.snap_recover.specs.Opening.{IsRecovered}
 use Rattle.snap_recover.specs.Refusals.{IsRefused}
-use Rattle.recovery_laws.specs.Grown.{grown, Answer, answers_of, answer_at, all_in, BeginsWith, opening_after}
+use Rattle.recovery_laws.specs.Grown.{grown, PlacedResult, answers_of, answer_at, all_in, BeginsWith, opening_after}
 
 -- Behind the records of earlier runs, what the logs hold of this run recovers to the members.
 pub record RecoversToMembers {C : Type 0} (w : Fixed C) (finish : C → List State → Alone) (earlier : List (List Record)) (o : Opening) (s : Machine C) (h : History) (logs : ℕ → List LogRecord) : Type 0 where
@@ -31,7 +31,7 @@ pub record RecoversToMembers {C : Type 0} (w : Fixed C) (finish : C → List Sta
   -- what it gives of this run is the members, in the order of their places, each with its result
   pub ordered : flat_map answers_of (all_in w.text.logs logs s) ≡ map answer_at (by_place (members w.text.logs logs h))
   -- and these are the results that they have alone, one after the other in the order of places from the opening's states
-  pub alone : map (λ (x : Answer). x.2) (flat_map answers_of (all_in w.text.logs logs s)) ≡ map Some (serial_run w finish (members w.text.logs logs h)).results
+  pub alone : map (λ (x : PlacedResult). x.2) (flat_map answers_of (all_in w.text.logs logs s)) ≡ map Some (serial_run w finish (members w.text.logs logs h)).results
   -- and its next numbers are above theirs
   pub above : AllByRecursion (IsNumberedWithin w (opening_after w o s logs).next_tid.0 (opening_after w o s logs).next_bid.0 (opening_after w o s logs).next_c) (members w.text.logs logs h)
   -- the states are those that the members leave, one after the other in the order of places from the opening's states
@@ -74,12 +74,12 @@ opening_behind o [] = o
 opening_behind o (x ∷ xs) = opening_behind (opening_after x.fixed o (reached x.fixed x.moment.events) (logs_left x)) xs
 
 -- the members of a run in the order of their places, each with its result
-abbrev pub answers_in : {C : Type 0} → CutRun C → List Answer
+abbrev pub answers_in : {C : Type 0} → CutRun C → List PlacedResult
 answers_in x = map answer_at (by_place (members_of x))
 
 -- the results of its members are those that they have alone, one after the other from the states with which the run began
 abbrev pub AnswersAlone : {C : Type 0} → CutRun C → Type 0
-AnswersAlone x = map (λ (y : Answer). y.2) (answers_in x) ≡ map Some (serial_run x.fixed x.finish (members_of x)).results
+AnswersAlone x = map (λ (y : PlacedResult). y.2) (answers_in x) ≡ map Some (serial_run x.fixed x.finish (members_of x)).results
 
 -- Behind all of the runs recovery gives what it gave before them, and behind that the members of each run with their results.
 pub record ValuesAreResults {C : Type 0} (earlier : List (List Record)) (o : Opening) (xs : List (CutRun C)) : Type 0 where

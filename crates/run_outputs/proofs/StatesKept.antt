@@ -88,7 +88,7 @@ firsts : {C : Type 0} (w : Fixed C) (Met : C → Type 0) (k : ℕ) (ps : List Pa
 firsts w Met k [] l = tt
 firsts w Met k (p ∷ ps) l = (l.starts p.tid p.tx, firsts w Met k ps l)
 
-goes : {C : Type 0} (Met : C → Type 0) (who : Who) (x : Option (Outcome C)) → If (λ x. MetNext Met x.next) x → AllByRecursion (λ m. Met m.control) (post.going who x)
+goes : {C : Type 0} (Met : C → Type 0) (who : Who) (x : Option (Outcome C)) → If (λ x. MetNext Met x.next) x → AllByRecursion (λ m. Met m.control) (post.handed_on who x)
 goes Met who None h = tt
 goes {C} Met who (Some x) h = by x.next h
   where

@@ -8,7 +8,7 @@ use Rattle.protocol.specs.Chains.{by_place}
 use Rattle.protocol.specs.Events as machine
 use Rattle.protocol.specs.History.{Done}
 use Rattle.protocol.specs.Moments.{Moment}
-use Rattle.recovery_laws.specs.Grown.{Answer, answer_at, answers_of}
+use Rattle.recovery_laws.specs.Grown.{PlacedResult, answer_at, answers_of}
 use Rattle.run_opening.specs.Begins.{AreOfRuns, Begins}
 use Rattle.run_recovery.specs.Beginnings.{BeginsAgain, CrashBefore, HoldEach, KeepsOrBegins}
 use Rattle.run_recovery.specs.Crashes.{CrashOn, Recovers}
@@ -82,7 +82,7 @@ abbrev pub AddsMembers : (x : CutOff) → Crash x.run.devices x.images → List 
 AddsMembers x (Early crash) more = more ≡ []
 AddsMembers x (Within m crash) more =
     (ds : List Done) × (flat_map answers_of more ≡ map answer_at (by_place ds))
-    × (map (λ (y : Answer). y.2) (flat_map answers_of more) ≡ map Some (meant_run x.work.program (machine_of x.work x.opening) ds).results)
+    × (map (λ (y : PlacedResult). y.2) (flat_map answers_of more) ≡ map Some (meant_run x.work.program (machine_of x.work x.opening) ds).results)
 
 -- The records with which the crash left the logs, those with which the calls behind it left them, and the opening with which alone a
 -- run of the same states begins on these. What was committed before the run stands first in it. They are as runs leave them, where

@@ -33,7 +33,7 @@ use Rattle.protocol_theorems.proofs.quiet.NoControls.{InBook, Own, all_known}
 use Rattle.protocol_theorems.proofs.quiet.QuietKnown.{numbered, settled_results}
 use Rattle.protocol_theorems.proofs.sets.NumbersStand.{numbers_stand}
 use Rattle.protocol_ready.proofs.Listing.{held}
-use Rattle.protocol_records.specs.Logged.{is_on, has_place, OnJoined}
+use Rattle.protocol_records.specs.Logged.{is_on, has_joined, OnJoined}
 use Rattle.protocol_records.proofs.crash.ActsOver.{acts_end_whole}
 use Rattle.protocol_records.proofs.crash.CrashParts.{logs_hold}
 use Rattle.touched_events.proofs.GivenUp.{Known}
@@ -63,8 +63,8 @@ some_behind : (cs : List Cascade) (long : ℕ → List Ran) (t j : ℕ) (n : Opt
 some_behind cs long t j n [] e h g = absurd (none_some j (sym e ∙ g))
 some_behind cs long t j n (k ∷ ks) e h g = (h.0.1.0, ahead_on t k (long h.0.1.0) h.0.1.1)
 
-placed : (a : ℕ) (o : Option Act) (x : Act) → o ≡ Some x → holds (has_place a) o ≡ true → is_empty x.places ≡ false
-placed a o x e h = some_place (λ p. p.actor == a) x.places (subst (λ z. holds (has_place a) z ≡ true) e h)
+placed : (a : ℕ) (o : Option Act) (x : Act) → o ≡ Some x → holds (has_joined a) o ≡ true → is_empty x.places ≡ false
+placed a o x e h = some_place (λ p. p.actor == a) x.places (subst (λ z. holds (has_joined a) z ≡ true) e h)
 
 module _ (w : Fixed Rest) (finish : Rest → List State → Alone) (s : Machine Rest) (h : History) (numbers : NumbersStand w finish s h) (joined : OnJoined s h) where
   pub numbered_known : (t j : ℕ) (x : Act) → act_of t s.book.acts ≡ Some x → is_live_status x.status ≡ true → x.n ≡ Some j → (x.m < j) × (is_empty x.places ≡ false)
@@ -73,7 +73,7 @@ module _ (w : Fixed Rest) (finish : Rest → List State → Alone) (s : Machine 
       let least = numbers.after_is_least t x found live in
       let on = some_behind s.book.cascades h.long x.tid j x.n (h.behind x.tid) least.0 least.1 e in
       let tid : x.tid ≡ t = found_tid t x s.book.acts found in
-      let place : holds (has_place on.0) (act_of t s.book.acts) ≡ true = subst (λ u. holds (has_place on.0) (act_of u s.book.acts) ≡ true) tid (joined x.tid on.0 on.1) in
+      let place : holds (has_joined on.0) (act_of t s.book.acts) ≡ true = subst (λ u. holds (has_joined on.0) (act_of u s.book.acts) ≡ true) tid (joined x.tid on.0 on.1) in
       (numbers.before_below_after t j x found live e, placed on.0 (act_of t s.book.acts) x found place)
 
 -- ---- an ACT's control is its own

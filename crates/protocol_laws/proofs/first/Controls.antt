@@ -13,7 +13,7 @@ use Rattle.protocol.specs.Conditions.{IsAllowed, conditions}
 use Rattle.protocol.specs.Effects.{after, cell_at, puts, no_cell}
 use Rattle.protocol.specs.Runs.{new_cell, opening, IsRun, reached}
 use Rattle.protocol.specs.Contents.{NextTid, Controls, Inboxes, Outboxes}
-use Rattle.protocol.specs.Numbers.{from, flat, times, one_if, once_in, waiting_tids, outcome_tids, tids_in, controls_in, ControlsInOnePlace}
+use Rattle.protocol.specs.Numbers.{from, flat, times, one_if, once_in, waiting_tids, outcome_tids, tids_of_controls, controls_in, ControlsInOnePlace}
 use Rattle.protocol.specs.OnPost as post
 use Rattle.protocol.specs.OnBook as book
 use Rattle.protocol.specs.OnCell as cell
@@ -55,7 +55,7 @@ set_le n (xs ∷ xss) (suc i) ys = omega (arith, Times.times_append n xs (flat x
 -- ---- the sum over the three places
 
 pub parted : {C : Type 0} (u : ℕ) (controls : List (ControlMessage C)) (ins : List (List (Waiting C))) (outs : List (List (Outcome C)))
-    → times u (tids_in controls ins outs) ≡ times u (map (λ m. m.tid) controls) + times u (flat (map waiting_tids ins)) + times u (flat (map outcome_tids outs))
+    → times u (tids_of_controls controls ins outs) ≡ times u (map (λ m. m.tid) controls) + times u (flat (map waiting_tids ins)) + times u (flat (map outcome_tids outs))
 parted u controls ins outs = omega (arith, Times.times_append u (map (λ m. m.tid) controls) (flat (map waiting_tids ins) ++ flat (map outcome_tids outs)), Times.times_append u (flat (map waiting_tids ins)) (flat (map outcome_tids outs)))
 
 -- one cell becomes another one
@@ -76,7 +76,7 @@ local : {C : Type 0} → ℕ → List (ControlMessage C) → Cell C → ℕ
 local u controls c = times u (map (λ m. m.tid) controls) + times u (waiting_tids c.inbox) + times u (outcome_tids c.outbox)
 
 put_le : {C : Type 0} (u : ℕ) (s : Machine C) (a : ℕ) (controls : List (ControlMessage C)) (c : Cell C) → local u controls c ≤ local u s.post.controls (cell_at s a)
-    → times u (tids_in controls (map (λ c. c.inbox) (puts s a c)) (map (λ c. c.outbox) (puts s a c))) ≤ times u (controls_in s)
+    → times u (tids_of_controls controls (map (λ c. c.inbox) (puts s a c)) (map (λ c. c.outbox) (puts s a c))) ≤ times u (controls_in s)
 unfolding local
 put_le u s a controls c h =
     omega (arith, h, parted u controls (map (λ c. c.inbox) (puts s a c)) (map (λ c. c.outbox) (puts s a c)), parted u s.post.controls (map (λ c. c.inbox) s.cells) (map (λ c. c.outbox) s.cells), inbox_put u s a c, outbox_put u s a c)
@@ -113,9 +113,9 @@ goes_on u t n who (Ended r) e = omega arith
 send_local : {C : Type 0} (u t : ℕ) (p : Post C) (c : Cell C) → local u (post.sent (who_on t c.entries) (outcome_of t c.outbox) p).controls (cell.outcome_taken t c) ≤ local u p.controls c
 unfolding local
 send_local u t p c =
-    let h = moved u t (λ x. x.tid) (λ m. m.tid) (post.going (who_on t c.entries)) c.outbox refl (λ x e. goes_on u t x.tid (who_on t c.entries) x.next e) in
-    rw (Times.map_join (λ m. m.tid) p.controls (post.going (who_on t c.entries) (outcome_of t c.outbox)))
-    (omega (arith, h, Times.times_append u (map (λ m. m.tid) p.controls) (map (λ m. m.tid) (post.going (who_on t c.entries) (outcome_of t c.outbox)))))
+    let h = moved u t (λ x. x.tid) (λ m. m.tid) (post.handed_on (who_on t c.entries)) c.outbox refl (λ x e. goes_on u t x.tid (who_on t c.entries) x.next e) in
+    rw (Times.map_join (λ m. m.tid) p.controls (post.handed_on (who_on t c.entries) (outcome_of t c.outbox)))
+    (omega (arith, h, Times.times_append u (map (λ m. m.tid) p.controls) (map (λ m. m.tid) (post.handed_on (who_on t c.entries) (outcome_of t c.outbox)))))
 
 end_local : {C : Type 0} (u t : ℕ) (cs : List (ControlMessage C)) (c : Cell C) → local u cs (cell.outcome_taken t c) ≤ local u cs c
 unfolding local
@@ -133,14 +133,14 @@ first_tids w who [] = refl
 first_tids w who (p ∷ ps) = rw (first_tids w who ps) refl
 
 posted : {C : Type 0} (u nt few : ℕ) (cs new : List (ControlMessage C)) (ins : List (List (Waiting C))) (outs : List (List (Outcome C))) → map (λ m. m.tid) new ≡ from nt few
-    → times u (tids_in cs ins outs) ≤ once_in 0 nt u → times u (tids_in (cs ++ new) ins outs) ≤ once_in 0 (nt + few) u
+    → times u (tids_of_controls cs ins outs) ≤ once_in 0 nt u → times u (tids_of_controls (cs ++ new) ins outs) ≤ once_in 0 (nt + few) u
 posted u nt few cs new ins outs e h =
     omega (arith, h, parted u cs ins outs, parted u (cs ++ new) ins outs, ap (times u) (Times.map_join (λ m. m.tid) cs new), Times.times_append u (map (λ m. m.tid) cs) (map (λ m. m.tid) new), ap (times u) e, Times.times_from nt few u, Times.once_joined 0 nt (nt + few) u (omega arith) (omega arith))
 
 -- ---- over states
 
 unfoldable pub Held : {C : Type 0} → ℕ → List (ControlMessage C) → List (List (Waiting C)) → List (List (Outcome C)) → Type 0
-Held next controls ins outs = (u : ℕ) → times u (tids_in controls ins outs) ≤ once_in 0 next u
+Held next controls ins outs = (u : ℕ) → times u (tids_of_controls controls ins outs) ≤ once_in 0 next u
 
 unfoldable pub HeldIn : {C : Type 0} → Machine C → Type 0
 HeldIn s = Held s.ring.next_tid s.post.controls (map (λ c. c.inbox) s.cells) (map (λ c. c.outbox) s.cells)

@@ -9,7 +9,7 @@ use Rattle.protocol.specs.Events.{Event, Submit, Pass, Form, Admit, Arrive, Ask,
 use Rattle.protocol.specs.Words.{is_among}
 use Rattle.protocol.specs.Effects.{after, no_log}
 use Rattle.protocol.specs.Runs.{opening, IsRun, reached}
-use Rattle.protocol.specs.Footprints.{HasLogs, LeavesOthers, Ascends}
+use Rattle.protocol.specs.Footprints.{HasLogs, LeavesOthers, AscendsFrom}
 use Rattle.protocol_laws.proofs.first.Along.{along}
 use Rattle.protocol_laws.proofs.first.PartsByNumber.{part_log, part_cell}
 use Rattle.protocol_laws.proofs.first.OutsideFootprint.{SameOutside, outside}
@@ -76,7 +76,7 @@ four_at_most logs (Finish t a) = omega arith
 four_at_most logs (Reply n) = omega arith
 four_at_most logs (Trim k a) = omega arith
 
-pub ascends : (logs : ℕ) → 1 ≤ logs → (e : Event) → Ascends 0 (footprint logs e)
+pub ascends : (logs : ℕ) → 1 ≤ logs → (e : Event) → AscendsFrom 0 (footprint logs e)
 ascends logs h (Submit n) = (omega arith, tt)
 ascends logs h (Pass c) = (omega arith, tt)
 ascends logs h (Form k) = (omega arith, (omega arith, (omega arith, (omega (arith, mod-lt k h), tt))))

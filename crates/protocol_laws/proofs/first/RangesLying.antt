@@ -105,7 +105,7 @@ goes : {C : Type 0} (tid tids t : ℕ) (who : Who) (n : Next C) → IsWithin tid
 goes tid tids t who (Go b control) h = (h, tt)
 goes tid tids t who (Ended r) h = tt
 
-went : {C : Type 0} (tid tids t : ℕ) (who : Who) (outbox : List (Outcome C)) (o : Option (Outcome C)) → AllByRecursion (λ x. IsWithin tid tids x.tid) outbox → outcome_of t outbox ≡ o → AllByRecursion (λ m. IsWithin tid tids m.tid) (post.going who o)
+went : {C : Type 0} (tid tids t : ℕ) (who : Who) (outbox : List (Outcome C)) (o : Option (Outcome C)) → AllByRecursion (λ x. IsWithin tid tids x.tid) outbox → outcome_of t outbox ≡ o → AllByRecursion (λ m. IsWithin tid tids m.tid) (post.handed_on who o)
 went tid tids t who outbox None h e = tt
 went tid tids t who outbox (Some x) h e = goes tid tids x.tid who x.next (all_found (λ x. IsWithin tid tids x.tid) (λ x. x.tid == t) outbox x h e).0
 

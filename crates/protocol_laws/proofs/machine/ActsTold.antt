@@ -14,7 +14,7 @@ use Rattle.protocol.specs.Conditions.{IsAllowed, conditions}
 use Rattle.protocol.specs.Effects.{after, no_cell}
 use Rattle.protocol.specs.OnBook as book
 use Rattle.protocol.specs.History.{History, Done, grown, done_pact, done_batch, done_act}
-use Rattle.protocol_laws.specs.Told.{EachAct, AmongDone, is_at, ActTold, IsDone, DoneFrom}
+use Rattle.protocol_laws.specs.Told.{EachAct, AmongDone, has_number, ActTold, IsDoneOfAct, DoneFrom}
 use Rattle.protocol_laws.proofs.machine.ControlWalk.{AllControls}
 use Rattle.protocol_laws.proofs.machine.TracksKept.{held}
 use Rattle.protocol_laws.proofs.machine.ActsFound as acts
@@ -35,38 +35,38 @@ among_behind y t n p r us ds h = record { done = h.done; front = us ++ h.front; 
 
 -- ---- statuses
 
-pub at_placed : (c : ℕ) (st : Status) → is_at c st ≡ true → is_ordered st ≡ true
+pub at_placed : (c : ℕ) (st : Status) → has_number c st ≡ true → is_ordered st ≡ true
 at_placed c Live e = e
 at_placed c (Doomed v) e = e
 at_placed c (Decided d) e = refl
 at_placed c (Sealed d) e = refl
 
-pub at_live : (c : ℕ) (st : Status) → is_live_status st ≡ true → is_at c st ≡ true → ⊥
+pub at_live : (c : ℕ) (st : Status) → is_live_status st ≡ true → has_number c st ≡ true → ⊥
 at_live c Live l e = true≢false (sym e)
 at_live c (Doomed v) l e = true≢false (sym e)
 at_live c (Decided d) l e = true≢false (sym l)
 at_live c (Sealed d) l e = true≢false (sym l)
 
-pub at_sealed : (c : ℕ) (st : Status) → is_at c (book.sealed_status st) ≡ is_at c st
+pub at_sealed : (c : ℕ) (st : Status) → has_number c (book.sealed_status st) ≡ has_number c st
 at_sealed c Live = refl
 at_sealed c (Doomed v) = refl
 at_sealed c (Decided d) = refl
 at_sealed c (Sealed d) = refl
 
-pub at_decided : (c d : ℕ) (b : Bool) (st : Status) → is_at c st ≡ true → is_at c (book.decided_status d b st) ≡ true
+pub at_decided : (c d : ℕ) (b : Bool) (st : Status) → has_number c st ≡ true → has_number c (book.decided_status d b st) ≡ true
 at_decided c d b Live e = absurd (true≢false (sym e))
 at_decided c d b (Doomed v) e = e
 at_decided c d b (Decided f) e = e
 at_decided c d b (Sealed f) e = e
 
-pub at_now : (c d : ℕ) (b : Bool) (st : Status) → is_live_status st ≡ true → is_at c (book.decided_status d b st) ≡ true → d ≡ c
+pub at_now : (c d : ℕ) (b : Bool) (st : Status) → is_live_status st ≡ true → has_number c (book.decided_status d b st) ≡ true → d ≡ c
 at_now c d true Live l e = eqb-true d c e
 at_now c d false Live l e = eqb-true d c e
 at_now c d b (Doomed v) l e = absurd (true≢false (sym l))
 at_now c d b (Decided f) l e = absurd (true≢false (sym l))
 at_now c d b (Sealed f) l e = absurd (true≢false (sym l))
 
-pub now_at : (d : ℕ) (b : Bool) (st : Status) → is_live_status st ≡ true → is_at d (book.decided_status d b st) ≡ true
+pub now_at : (d : ℕ) (b : Bool) (st : Status) → is_live_status st ≡ true → has_number d (book.decided_status d b st) ≡ true
 now_at d true Live l = eq-eqb d d refl
 now_at d false Live l = eq-eqb d d refl
 now_at d b (Doomed v) l = absurd (true≢false (sym l))
@@ -74,7 +74,7 @@ now_at d b (Decided f) l = absurd (true≢false (sym l))
 now_at d b (Sealed f) l = absurd (true≢false (sym l))
 
 -- who has a control has no place
-pub unplaced : {C : Type 0} (s : Machine C) (h : History) (t c : ℕ) (x : Act) → Acts s h → NoActResult t s.book.acts → act_of t s.book.acts ≡ Some x → is_at c x.status ≡ true → ⊥
+pub unplaced : {C : Type 0} (s : Machine C) (h : History) (t c : ℕ) (x : Act) → Acts s h → NoActResult t s.book.acts → act_of t s.book.acts ≡ Some x → has_number c x.status ≡ true → ⊥
 unfolding Acts
 unplaced s h t c x i n e a = true≢false (sym ((i t x e).ended (at_placed c x.status a)) ∙ ap is_some (n t x e refl))
 
@@ -115,7 +115,7 @@ told_kept w e s h ok n i g = acts.acts_keep w e s (ActTold h.committed) (told_ho
 unfoldable pub AllFrom : {C : Type 0} → Machine C → History → Type 0
 AllFrom s h = AllByRecursion (λ d. (t : ℕ) → d.who ≡ OfAct t → DoneFrom s.book.acts t d) h.committed
 
-done_holds : (t : ℕ) (d : Done) → Holds (λ u x. u ≡ t → IsDone d x)
+done_holds : (t : ℕ) (d : Done) → Holds (λ u x. u ≡ t → IsDoneOfAct d x)
 done_holds t d = record {
   numbered = λ u x n p i. let k = p i in record { c = k.c; at = k.at; tid = k.tid; tx = k.tx; place = k.place; result = k.result };
   marked = λ u a x f j p i. let k = p i in record { c = k.c; at = k.at; tid = k.tid; tx = k.tx; place = k.place; result = k.result };
@@ -124,7 +124,7 @@ done_holds t d = record {
   rises = λ u n x l p i. let k = p i in absurd (true≢false (sym (at_placed k.c x.status k.at) ∙ l));
 }
 
-stays_ready : {C : Type 0} (w : Fixed C) (e : Event) (s : Machine C) (h : History) (t : ℕ) (d : Done) → IsAllowed w e s → AllControls (NoneActed s) s → Acts s h → is_some (act_of t s.book.acts) ≡ true → acts.Ready w e s (λ u x. u ≡ t → IsDone d x)
+stays_ready : {C : Type 0} (w : Fixed C) (e : Event) (s : Machine C) (h : History) (t : ℕ) (d : Done) → IsAllowed w e s → AllControls (NoneActed s) s → Acts s h → is_some (act_of t s.book.acts) ≡ true → acts.Ready w e s (λ u x. u ≡ t → IsDoneOfAct d x)
 unfolding acts.Ready conditions
 stays_ready w (Admit u) s h t d ok n i e = λ q j. absurd (true≢false (sym e ∙ ap is_some (ap (λ z. act_of z s.book.acts) (sym j) ∙ q)))
 stays_ready w (Ask u a) s h t d ok n i e = λ x f p j. let k = p j in absurd (unplaced s h u k.c x i (results.posted_none u a s ok.0 n) f k.at)
@@ -134,7 +134,7 @@ stays_ready w e s h t d ok n i q = tt
 
 stays_from : {C : Type 0} (w : Fixed C) (e : Event) (s : Machine C) (h : History) (ds : List Done) → IsAllowed w e s → AllControls (NoneActed s) s → Acts s h → AllByRecursion (λ d. (t : ℕ) → d.who ≡ OfAct t → DoneFrom s.book.acts t d) ds → AllByRecursion (λ d. (t : ℕ) → d.who ≡ OfAct t → DoneFrom (after w e s).book.acts t d) ds
 stays_from w e s h [] ok n i g = tt
-stays_from w e s h (d ∷ ds) ok n i g = ((λ t q. let k = g.0 t q in record { there = in_book w e s t k.there; is_it = acts.acts_keep w e s (λ u x. u ≡ t → IsDone d x) (done_holds t d) (stays_ready w e s h t d ok n i k.there) k.is_it }), stays_from w e s h ds ok n i g.1)
+stays_from w e s h (d ∷ ds) ok n i g = ((λ t q. let k = g.0 t q in record { there = in_book w e s t k.there; is_it = acts.acts_keep w e s (λ u x. u ≡ t → IsDoneOfAct d x) (done_holds t d) (stays_ready w e s h t d ok n i k.there) k.is_it }), stays_from w e s h ds ok n i g.1)
 
 no_acts : (k : ℕ) (h : History) (acts : List Act) (ps : List Pact) → AllByRecursion (λ d. (t : ℕ) → d.who ≡ OfAct t → DoneFrom acts t d) (map (done_pact k h) ps)
 no_acts k h acts [] = tt
@@ -151,11 +151,11 @@ same_act : (t : ℕ) (x y : Act) (xs : List Act) → act_of t xs ≡ Some x → 
 same_act t x y xs e f = cc (sym e ∙ f)
 
 placed_now : {C : Type 0} (w : Fixed C) (s : Machine C) (t : ℕ) (x : Act) (d : Done) → act_of t s.book.acts ≡ Some x → is_live_status x.status ≡ true → d.tid ≡ x.tid → d.tx ≡ x.tx → d.place ≡ act_place x.m s.book.next_c → d.result ≡ x.result
-    → (u : ℕ) → u ≡ t → EachAct (λ v y. v ≡ u → IsDone d y) (after w (Decide t) s).book.acts
+    → (u : ℕ) → u ≡ t → EachAct (λ v y. v ≡ u → IsDoneOfAct d y) (after w (Decide t) s).book.acts
 unfolding after
-placed_now w s t x d e l a b c r u f = acts.each_changed (λ v y. Unit {0}) (λ v y. v ≡ u → IsDone d y) t (book.decided_as s.book.next_c) s.book.acts (λ y. refl)
+placed_now w s t x d e l a b c r u f = acts.each_changed (λ v y. Unit {0}) (λ v y. v ≡ u → IsDoneOfAct d y) t (book.decided_as s.book.next_c) s.book.acts (λ y. refl)
     (λ v y n k p j. absurd (n (j ∙ f)))
-    (λ y k p j. subst (λ z. IsDone d (book.decided_as s.book.next_c z)) (same_act t x y s.book.acts e k) (record { c = s.book.next_c; at = now_at s.book.next_c (is_value x.result) x.status l; tid = a; tx = b; place = c; result = r }))
+    (λ y k p j. subst (λ z. IsDoneOfAct d (book.decided_as s.book.next_c z)) (same_act t x y s.book.acts e k) (record { c = s.book.next_c; at = now_at s.book.next_c (is_value x.result) x.status l; tid = a; tx = b; place = c; result = r }))
     (λ v y k. tt)
 
 pub from_kept : {C : Type 0} (w : Fixed C) (e : Event) (s : Machine C) (h : History) → IsAllowed w e s → AllControls (NoneActed s) s → Acts s h → AllFrom s h → AllFrom (after w e s) (grown w e s h)
@@ -178,6 +178,6 @@ from_kept {C} w (Decide t) s h ok n i g = all_join _ h.committed _ (stays_from w
         d : Done
         d = record { who = OfAct x.tid; tid = x.tid; tx = x.tx; place = act_place x.m s.book.next_c; result = x.result; reader = x.reader; views = Rattle.protocol.specs.History.act_view h x }
 
-        placed : (u : ℕ) → u ≡ t → EachAct (λ v y. v ≡ u → IsDone d y) (after w (Decide t) s).book.acts
+        placed : (u : ℕ) → u ≡ t → EachAct (λ v y. v ≡ u → IsDoneOfAct d y) (after w (Decide t) s).book.acts
         placed u f = placed_now w s t x d e (and_parts (is_some x.result) (is_live_status x.status) q).1 refl refl refl refl u f
 from_kept w e s h ok n i g = stays_from w e s h h.committed ok n i g

@@ -16,9 +16,9 @@ use Rattle.protocol.specs.History.{History, Slice, Ran, Stands, Gone, slices_of,
 use Rattle.protocol_laws.specs.Told.{PactsAscend}
 use Rattle.protocol_laws.specs.Tracks.{Key, key_of, keys_in, is_key_among}
 use Rattle.protocol_laws.specs.Turns.{Rising, IsPast, Turns}
-use Rattle.protocol_laws.specs.Places.{Ascends, Fits}
+use Rattle.protocol_laws.specs.Places.{Ascends, FitsCell}
 use Rattle.protocol_laws.specs.Commits.{is_kept, KeptAhead}
-use Rattle.protocol_laws.specs.Marks.{is_done, IsOver, Marked, Known}
+use Rattle.protocol_laws.specs.Marks.{is_done, IsAbortedOrDone, Marked, Known}
 use Rattle.protocol_laws.specs.FromDesk.{is_declared, is_pact_of, MessageOf, EntryOf, CompleteInOrder, FromDesk}
 use Rattle.protocol_laws.proofs.first.EpochsKept as epochs
 use Rattle.protocol_laws.proofs.first.SettlingKept as settling
@@ -96,7 +96,7 @@ not_false : (b : Bool) → not b ≡ true → b ≡ false
 not_false b h = not-true b h
 
 -- a batch that committed has its noted places, and is over there
-pub kept_over : {C : Type 0} (s : Machine C) (h : History) (k a : ℕ) → Known s h → Marked s h → is_kept (OfBatch k) h.kept ≡ true → is_declared k a s.desk.batches ≡ true → IsOver k s.book.cascades (h.long a)
+pub kept_over : {C : Type 0} (s : Machine C) (h : History) (k a : ℕ) → Known s h → Marked s h → is_kept (OfBatch k) h.kept ≡ true → is_declared k a s.desk.batches ≡ true → IsAbortedOrDone k s.book.cascades (h.long a)
 unfolding Known Marked
 kept_over s h k a n m q d =
     let b = one_is (λ b. true) (batch_of k s.desk.batches) (some_holds (batch_of k s.desk.batches) (n k q)) in
@@ -107,12 +107,12 @@ kept_over s h k a n m q d =
     some_holds None h = absurd (true≢false (sym h))
     some_holds (Some x) h = refl
 
-    over_at : (k a : ℕ) (cs : List Cascade) (long : ℕ → List Ran) (b : Batch) → is_some (declared_of a b) ≡ true → list_all (λ p. p.noted) b.places ≡ true → AllByRecursion (λ p. p.noted ≡ true → IsOver k cs (long p.actor)) b.places → IsOver k cs (long a)
+    over_at : (k a : ℕ) (cs : List Cascade) (long : ℕ → List Ran) (b : Batch) → is_some (declared_of a b) ≡ true → list_all (λ p. p.noted) b.places ≡ true → AllByRecursion (λ p. p.noted ≡ true → IsAbortedOrDone k cs (long p.actor)) b.places → IsAbortedOrDone k cs (long a)
     over_at k a cs long b d n o = by (declared_of a b) refl d
       where
-        by : (x : Option Declared) → declared_of a b ≡ x → is_some x ≡ true → IsOver k cs (long a)
+        by : (x : Option Declared) → declared_of a b ≡ x → is_some x ≡ true → IsAbortedOrDone k cs (long a)
         by None e d = absurd (true≢false (sym d))
-        by (Some p) e d = let f = all_found _ (λ p. p.actor == a) b.places p o e in subst (λ z. IsOver k cs (long z)) (eqb-true p.actor a f.1) (f.0 (list_all_at (λ p. p.actor == a) (λ p. p.noted) p b.places e n))
+        by (Some p) e d = let f = all_found _ (λ p. p.actor == a) b.places p o e in subst (λ z. IsAbortedOrDone k cs (long z)) (eqb-true p.actor a f.1) (f.0 (list_all_at (λ p. p.actor == a) (λ p. p.noted) p b.places e n))
 
 pub arrives_fresh : {C : Type 0} (w : Fixed C) (k a : ℕ) (s : Machine C) (h : History) → IsAllowed w (Arrive k a) s → epochs.Agreeing s → Known s h → Marked s h → Placed w s h → FromDesk s → is_kept (OfBatch k) h.kept ≡ false
 unfolding conditions Placed
@@ -125,9 +125,9 @@ arrives_fresh w k a s h ok ag n m p d = false_from_ne_true (is_kept (OfBatch k) 
         let v = and_parts (x.bid == k) (x.actor == a) f.1 in
         subst (λ z. is_declared z a s.desk.batches ≡ true) (eqb-true x.bid k v.0) (subst (λ z. is_declared x.bid z s.desk.batches ≡ true) (eqb-true x.actor a v.1) f.0.declared)
 
-    none : IsOver k s.book.cascades (h.long a) → ⊥
+    none : IsAbortedOrDone k s.book.cascades (h.long a) → ⊥
     none (inl q) = true≢false (sym q ∙ not_false (is_aborted k s.book.cascades) ok.1.0)
-    none (inr q) = let g = message w k a s ok ag in omega (arith, g.behind, (marks.at_done (Fits s.ring.next_bid s.book.cascades (cell_at s a).epoch (cell_at s a).tail) k (h.long a) q (p a).fit).is_last g.own)
+    none (inr q) = let g = message w k a s ok ag in omega (arith, g.behind, (marks.at_done (FitsCell s.ring.next_bid s.book.cascades (cell_at s a).epoch (cell_at s a).tail) k (h.long a) q (p a).fit).is_last g.own)
 
 settled_not_formed : (st : Rattle.protocol.specs.Parts.Stage) → is_settled st ≡ true → is_formed st ≡ false
 settled_not_formed Settled e = refl
@@ -206,11 +206,11 @@ done_complete k (Stands y c ss ∷ rs) d e a = elim (or_cases (c && is_who y (Of
 ]
 
 pub ahead_kept : (kept : List Who) (k a next ep tail : ℕ) (cs : List Cascade) (bs : List Batch) (rs : List Ran) → is_aborted k cs ≡ false → ((j : ℕ) → is_declared j a bs ≡ true → j < k → is_aborted j cs ≡ false → is_kept (OfBatch j) kept ≡ true)
-    → is_done k rs ≡ true → KeyOrder (keys_in rs) → AllByRecursion (GoodKey a bs) (keys_in rs) → AllByRecursion (Fits next cs ep tail) (batches_in rs) → Ascends (batches_in rs) → KeptAhead kept (OfBatch k) rs
+    → is_done k rs ≡ true → KeyOrder (keys_in rs) → AllByRecursion (GoodKey a bs) (keys_in rs) → AllByRecursion (FitsCell next cs ep tail) (batches_in rs) → Ascends (batches_in rs) → KeptAhead kept (OfBatch k) rs
 ahead_kept kept k a next ep tail cs bs [] n f d o g ft asc = tt
 ahead_kept kept k a next ep tail cs bs (Gone y ss ∷ rs) n f d o g ft asc = elim (or_cases (is_who y (OfBatch k)) (is_done k rs) d) [
   | inl q ↦ not_among_ahead kept (OfBatch k) rs (not_again k rs (own_above y k (batches_in rs) q asc))
-  | inr q ↦ ahead_kept kept k a next ep tail cs bs rs n f q o g (all_back (Fits next cs ep tail) (batch_in y) (batches_in rs) ft) (ascends_back (batch_in y) (batches_in rs) asc)
+  | inr q ↦ ahead_kept kept k a next ep tail cs bs rs n f q o g (all_back (FitsCell next cs ep tail) (batch_in y) (batches_in rs) ft) (ascends_back (batch_in y) (batches_in rs) asc)
 ]
 ahead_kept kept k a next ep tail cs bs (Stands (OfAct t) c ss ∷ rs) n f d o g ft asc = elim (or_cases (c && false) (is_done k rs) d) [
   | inl q ↦ absurd (true≢false (sym (and_parts c false q).1))
@@ -223,7 +223,7 @@ ahead_kept kept k a next ep tail cs bs (Stands (OfBatch x) c ss ∷ rs) n f d o 
       (λ v. absurd (true≢false (sym v ∙ none)), not_among_ahead kept (OfBatch k) rs none)
   | inr q ↦
       let l : x < k = marks.at_done (λ j. x < j) k rs q asc.0 in
-      let m = marks.at_done (Fits next cs ep tail) k rs q ft.1 in (
+      let m = marks.at_done (FitsCell next cs ep tail) k rs q ft.1 in (
         λ v. f x g.0.0 l (false_from_ne_true (is_aborted x cs) (λ b. true≢false (sym (PlaceLists.suffix x k cs b (omega (arith, l)) (omega (arith, ft.0.aborted b, m.placed))) ∙ n))),
         ahead_kept kept k a next ep tail cs bs rs n f q o.1 g.1 ft.1 asc.1,
       )
@@ -304,12 +304,12 @@ may_commit w k s h ok g n m p t u d nu =
     some_of q None h = absurd (true≢false (sym h))
     some_of q (Some x) h = refl
 
-    at_place : (a : ℕ) (b : Batch) → is_some (declared_of a b) ≡ true → list_all (λ p. p.noted) b.places ≡ true → AllByRecursion (λ p. p.noted ≡ true → IsOver k s.book.cascades (h.long p.actor)) b.places → IsOver k s.book.cascades (h.long a)
+    at_place : (a : ℕ) (b : Batch) → is_some (declared_of a b) ≡ true → list_all (λ p. p.noted) b.places ≡ true → AllByRecursion (λ p. p.noted ≡ true → IsAbortedOrDone k s.book.cascades (h.long p.actor)) b.places → IsAbortedOrDone k s.book.cascades (h.long a)
     at_place a b q n o = by (declared_of a b) refl q
       where
-        by : (x : Option Declared) → declared_of a b ≡ x → is_some x ≡ true → IsOver k s.book.cascades (h.long a)
+        by : (x : Option Declared) → declared_of a b ≡ x → is_some x ≡ true → IsAbortedOrDone k s.book.cascades (h.long a)
         by None e d = absurd (true≢false (sym d))
-        by (Some p) e d = let f = all_found _ (λ p. p.actor == a) b.places p o e in subst (λ z. IsOver k s.book.cascades (h.long z)) (eqb-true p.actor a f.1) (f.0 (list_all_at (λ p. p.actor == a) (λ p. p.noted) p b.places e n))
+        by (Some p) e d = let f = all_found _ (λ p. p.actor == a) b.places p o e in subst (λ z. IsAbortedOrDone k s.book.cascades (h.long z)) (eqb-true p.actor a f.1) (f.0 (list_all_at (λ p. p.actor == a) (λ p. p.noted) p b.places e n))
 
     declared : (a : ℕ) (ks : List Key) → is_key_among (OfBatch k) ks ≡ true → AllByRecursion (GoodKey a s.desk.batches) ks → is_declared k a s.desk.batches ≡ true
     declared a [] e f = absurd (true≢false (sym e))
@@ -323,7 +323,7 @@ may_commit w k s h ok g n m p t u d nu =
           | inl x ↦ over good (at_place a b (subst (λ z. holds (λ b. is_some (declared_of a b)) z ≡ true) f (declared a (keys_in (h.long a)) x good)) q (m k b f).noted)
         ]
       where
-        over : AllByRecursion (GoodKey a s.desk.batches) (keys_in (h.long a)) → IsOver k s.book.cascades (h.long a) → KeptAhead h.kept (OfBatch k) (h.long a)
+        over : AllByRecursion (GoodKey a s.desk.batches) (keys_in (h.long a)) → IsAbortedOrDone k s.book.cascades (h.long a) → KeptAhead h.kept (OfBatch k) (h.long a)
         over good (inl y) = absurd (true≢false (sym y ∙ e))
         over good (inr y) = ahead_kept h.kept k a s.ring.next_bid (cell_at s a).epoch (cell_at s a).tail s.book.cascades s.desk.batches (h.long a) e (λ j x l z. next j v l z (batch_of j s.desk.batches) refl (some_of _ (batch_of j s.desk.batches) x)) y
             (subst KeyOrder (t a).stands (key_order (cell_at s a).entries (d.in_order a))) good (p a).fit (p a).ascends

@@ -16,7 +16,7 @@ use Rattle.protocol.specs.OnCell as cell
 use Rattle.protocol.specs.OnCell.{is_cut}
 use Rattle.protocol.specs.History.{History, Slice, Ran, Stands, Gone, grown, not_run, ran_in, completed, left_for_good, without_standing, long_staying, asks, batches_in, batch_in, is_traceless}
 use Rattle.protocol_laws.specs.Turns.{Turns}
-use Rattle.protocol_laws.specs.Places.{Fits}
+use Rattle.protocol_laws.specs.Places.{FitsCell}
 use Rattle.protocol_laws.specs.Befores.{gone_in, LastIs, is_above, Befores}
 use Rattle.protocol_laws.proofs.first.EpochsKept as epochs
 use Rattle.protocol_laws.proofs.machine.TrackLists
@@ -299,7 +299,7 @@ lasts_kept w (Arrive k a) s h ok x ag p t g =
       gone = rw (gone_more (OfBatch k) (h.long a)) y.gone;
     }) g
   where
-    less : (j k : ℕ) (cs : List Cascade) (ep tail next : ℕ) → epoch_of k cs ≡ ep → tail < k → Fits next cs ep tail j → j ≤ k
+    less : (j k : ℕ) (cs : List Cascade) (ep tail next : ℕ) → epoch_of k cs ≡ ep → tail < k → FitsCell next cs ep tail j → j ≤ k
     less j k cs ep tail next e m f = elim (cases_lt j k) [ inl l ↦ omega (arith, l) | inr l ↦ absurd (omega (arith, l, m, f.is_last (omega (arith, f.placed, e, PlaceLists.epoch_mono k j cs l)))) ]
 lasts_kept w (Ask u a) s h ok x ag p t g = beside AtLast s.cells a _ _ h.long (in_range _ s.cells a ok.1.1.0) (ask_last (cell_at s a).last (cell_at s a).last_trimmed u (book.in_the_way (lock_of u s.book.acts) (cell_at s a).entries) (h.long a)) g
 lasts_kept w (Take u a) s h ok x ag p t g = beside_same AtLast s.cells a _ h.long (in_range _ s.cells a ok.1.0) (λ y. y) g

@@ -15,7 +15,7 @@ use Rattle.protocol.specs.OnCell as cell
 use Rattle.protocol.specs.OnCell.{is_cut}
 use Rattle.protocol.specs.History.{History, Slice, Ran, Stands, Gone, grown, not_run, ran_in, completed, left_for_good, without_standing, long_staying, asks, batches_in, is_traceless}
 use Rattle.protocol_laws.specs.Told.{EachAct}
-use Rattle.protocol_laws.specs.Places.{Fits}
+use Rattle.protocol_laws.specs.Places.{FitsCell}
 use Rattle.protocol_laws.specs.Tracks.{keys_in, is_key_among}
 use Rattle.protocol_laws.specs.Befores.{is_above, Befores}
 use Rattle.protocol_laws.proofs.first.EpochsKept as epochs
@@ -185,7 +185,7 @@ covered_is_less k (d ∷ ds) q = by (covers k d) (nat_lt d.upto k) refl refl q (
     by false false f g q r = omega (arith, r q)
 
 -- an actor of the present epoch has no aborted batch
-pub clean : (next : ℕ) (cs : List Cascade) (ep tail : ℕ) (ks : List ℕ) → ep ≡ length cs → AllByRecursion (Fits next cs ep tail) ks → AllByRecursion (λ k. is_aborted k cs ≡ false) ks
+pub clean : (next : ℕ) (cs : List Cascade) (ep tail : ℕ) (ks : List ℕ) → ep ≡ length cs → AllByRecursion (FitsCell next cs ep tail) ks → AllByRecursion (λ k. is_aborted k cs ≡ false) ks
 clean next cs ep tail [] e h = tt
 clean next cs ep tail (k ∷ ks) e h = (elim (cases_Bool (is_aborted k cs)) [ inl a ↦ absurd (omega (arith, covered_is_less k cs a, h.0.aborted a, e)) | inr b ↦ b ], clean next cs ep tail ks e h.1)
 

@@ -67,7 +67,7 @@ goes : {C : Type 0} (P : ℕ → Next C → Type 0) (who : Who) (t : ℕ) (n : N
 goes P who t (Go b c) h = (h, tt)
 goes P who t (Ended r) h = tt
 
-sent : {C : Type 0} (P : ℕ → Next C → Type 0) (t : ℕ) (who : Who) (xs : List (Outcome C)) (o : Option (Outcome C)) → outcome_of t xs ≡ o → AllByRecursion (λ x. P x.tid x.next) xs → AllByRecursion (λ m. P m.tid (Go m.to m.control)) (post.going who o)
+sent : {C : Type 0} (P : ℕ → Next C → Type 0) (t : ℕ) (who : Who) (xs : List (Outcome C)) (o : Option (Outcome C)) → outcome_of t xs ≡ o → AllByRecursion (λ x. P x.tid x.next) xs → AllByRecursion (λ m. P m.tid (Go m.to m.control)) (post.handed_on who o)
 sent P t who xs None e h = tt
 sent P t who xs (Some x) e h = goes P who x.tid x.next (all_found (λ x. P x.tid x.next) (λ x. x.tid == t) xs x h e).0
 

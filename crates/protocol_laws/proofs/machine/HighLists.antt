@@ -12,7 +12,7 @@ use Rattle.protocol_laws.specs.Tracks.{keys_in, is_key_among}
 use Rattle.protocol_laws.specs.Turns.{Turns}
 use Rattle.protocol_laws.specs.Commits.{is_kept, KeptAhead, KeptFront, has_kept}
 use Rattle.protocol_laws.specs.Befores.{is_above, Befores}
-use Rattle.protocol_laws.specs.Highs.{is_free, is_over, reads_in, both_read, AllOver, doomed_at, is_pair, has_pair, is_paired, Paired, Grouped, AllDoomed, TakenAlong, is_above_or_aborted, StandsBelow}
+use Rattle.protocol_laws.specs.Highs.{is_free, is_free_or_above, reads_in, both_read, AllOver, doomed_at, is_pair, has_pair, is_paired, Paired, Grouped, AllDoomed, TakenAlong, is_above_or_aborted, StandsBelow}
 use Rattle.protocol_laws.proofs.machine.ActsGrow.{Later, Grows, grown_holds}
 
 -- ---- live ACTs are high
@@ -27,7 +27,7 @@ free_later kd x y k h = elim (or_cases (kd && x.reader) (not (is_live_status x.s
     by false e q = refl
     by true e q = absurd (true≢false (sym q ∙ ap not (k.live e)))
 
-over_later : (kd : Bool) (high : ℕ) (x y : Act) → Later x y → is_over kd high x ≡ true → is_over kd high y ≡ true
+over_later : (kd : Bool) (high : ℕ) (x y : Act) → Later x y → is_free_or_above kd high x ≡ true → is_free_or_above kd high y ≡ true
 over_later kd high x y k h = elim (or_cases (is_free kd x) (nat_le high x.m) h) [
   | inl q ↦ or_left (is_free kd y) _ (free_later kd x y k q)
   | inr q ↦ or_right (is_free kd y) (nat_le high y.m) (le-leb high y.m (omega (arith, leb-true high x.m q, k.rises)))
@@ -36,7 +36,7 @@ over_later kd high x y k h = elim (or_cases (is_free kd x) (nat_le high x.m) h) 
 pub over_grow : (kd : Bool) (acts acts' : List Act) (high : ℕ) (rs : List Ran) → Grows acts acts' → AllOver kd acts high rs → AllOver kd acts' high rs
 over_grow kd acts acts' high [] g h = tt
 over_grow kd acts acts' high (Stands (OfBatch k) c ss ∷ rs) g h = over_grow kd acts acts' high rs g h
-over_grow kd acts acts' high (Stands (OfAct t) c ss ∷ rs) g h = (grown_holds (is_over kd high) acts acts' t (over_later kd high) g h.0, over_grow kd acts acts' high rs g h.1)
+over_grow kd acts acts' high (Stands (OfAct t) c ss ∷ rs) g h = (grown_holds (is_free_or_above kd high) acts acts' t (over_later kd high) g h.0, over_grow kd acts acts' high rs g h.1)
 over_grow kd acts acts' high (Gone y ss ∷ rs) g h = over_grow kd acts acts' high rs g h
 
 -- from one test to another, at one that is there
@@ -48,13 +48,13 @@ holds_two : (p q r : Act → Bool) (o : Option Act) → ((x : Act) → p x ≡ t
 holds_two p q r None k h g = h
 holds_two p q r (Some x) k h g = k x h g
 
-less_over : (kd : Bool) (low high : ℕ) (x : Act) → low ≤ high → is_over kd high x ≡ true → is_over kd low x ≡ true
+less_over : (kd : Bool) (low high : ℕ) (x : Act) → low ≤ high → is_free_or_above kd high x ≡ true → is_free_or_above kd low x ≡ true
 less_over kd low high x l h = elim (or_cases (is_free kd x) (nat_le high x.m) h) [ inl q ↦ or_left (is_free kd x) _ q | inr q ↦ or_right (is_free kd x) (nat_le low x.m) (le-leb low x.m (omega (arith, l, leb-true high x.m q))) ]
 
 pub over_less : (kd : Bool) (acts : List Act) (low high : ℕ) (rs : List Ran) → low ≤ high → AllOver kd acts high rs → AllOver kd acts low rs
 over_less kd acts low high [] l h = tt
 over_less kd acts low high (Stands (OfBatch k) c ss ∷ rs) l h = over_less kd acts low high rs l h
-over_less kd acts low high (Stands (OfAct t) c ss ∷ rs) l h = (holds_to (is_over kd high) (is_over kd low) (act_of t acts) (λ x. less_over kd low high x l) h.0, over_less kd acts low high rs l h.1)
+over_less kd acts low high (Stands (OfAct t) c ss ∷ rs) l h = (holds_to (is_free_or_above kd high) (is_free_or_above kd low) (act_of t acts) (λ x. less_over kd low high x l) h.0, over_less kd acts low high rs l h.1)
 over_less kd acts low high (Gone y ss ∷ rs) l h = over_less kd acts low high rs l h
 
 pub over_batch : (kd : Bool) (acts : List Act) (high k : ℕ) (rs : List Ran) → AllOver kd acts high rs → AllOver kd acts high (rs ++ not_run (OfBatch k) ∷ [])
@@ -63,7 +63,7 @@ over_batch kd acts high k (Stands (OfBatch j) c ss ∷ rs) h = over_batch kd act
 over_batch kd acts high k (Stands (OfAct t) c ss ∷ rs) h = (h.0, over_batch kd acts high k rs h.1)
 over_batch kd acts high k (Gone y ss ∷ rs) h = over_batch kd acts high k rs h
 
-pub over_act : (kd : Bool) (acts : List Act) (high t : ℕ) (rs : List Ran) → holds (is_over kd high) (act_of t acts) ≡ true → AllOver kd acts high rs → AllOver kd acts high (rs ++ not_run (OfAct t) ∷ [])
+pub over_act : (kd : Bool) (acts : List Act) (high t : ℕ) (rs : List Ran) → holds (is_free_or_above kd high) (act_of t acts) ≡ true → AllOver kd acts high rs → AllOver kd acts high (rs ++ not_run (OfAct t) ∷ [])
 over_act kd acts high t [] q h = (q, tt)
 over_act kd acts high t (Stands (OfBatch j) c ss ∷ rs) q h = over_act kd acts high t rs q h
 over_act kd acts high t (Stands (OfAct u) c ss ∷ rs) q h = (h.0, over_act kd acts high t rs q h.1)
@@ -126,7 +126,7 @@ doomed_free kd x d = or_right (kd && x.reader) _ (by x.status d)
     by (Rattle.protocol.specs.Parts.Decided d) e = refl
     by (Rattle.protocol.specs.Parts.Sealed d) e = refl
 
-both_over : (kd : Bool) (top high k : ℕ) (x : Act) → k ≤ top → is_above top x ≡ true → is_over kd high x ≡ true → is_over kd (max high k) x ≡ true
+both_over : (kd : Bool) (top high k : ℕ) (x : Act) → k ≤ top → is_above top x ≡ true → is_free_or_above kd high x ≡ true → is_free_or_above kd (max high k) x ≡ true
 both_over kd top high k x l a o = elim (or_cases (is_free kd x) (nat_le high x.m) o) [
   | inl q ↦ or_left (is_free kd x) _ q
   | inr q ↦ elim (or_cases (is_doomed x.status) (nat_le top x.m) a) [
@@ -139,22 +139,22 @@ both_over kd top high k x l a o = elim (or_cases (is_free kd x) (nat_le high x.m
 pub over_top : (kd : Bool) (acts : List Act) (top high n : ℕ) (rs : List Ran) → n ≤ top → Befores acts top rs → AllOver kd acts high rs → AllOver kd acts (max high n) rs
 over_top kd acts top high n [] l b h = tt
 over_top kd acts top high n (Stands (OfBatch k) c ss ∷ rs) l b h = over_top kd acts (max top k) high n rs (omega (arith, l)) b h
-over_top kd acts top high n (Stands (OfAct t) c ss ∷ rs) l b h = (holds_two (is_above top) (is_over kd high) (is_over kd (max high n)) (act_of t acts) (λ x. both_over kd top high n x l) b.0 h.0, over_top kd acts top high n rs l b.1 h.1)
+over_top kd acts top high n (Stands (OfAct t) c ss ∷ rs) l b h = (holds_two (is_above top) (is_free_or_above kd high) (is_free_or_above kd (max high n)) (act_of t acts) (λ x. both_over kd top high n x l) b.0 h.0, over_top kd acts top high n rs l b.1 h.1)
 over_top kd acts top high n (Gone (OfBatch k) ss ∷ rs) l b h = over_top kd acts (max top k) high n rs (omega (arith, l)) b h
 over_top kd acts top high n (Gone (OfAct t) ss ∷ rs) l b h = over_top kd acts top high n rs l b h
 
 abbrev pub NotLive : List Act → ℕ → Type 0
 NotLive acts t = holds (λ x. not (is_live_status x.status)) (act_of t acts) ≡ true
 
-pub not_live_over : (kd : Bool) (acts : List Act) (high t : ℕ) → NotLive acts t → holds (is_over kd high) (act_of t acts) ≡ true
-not_live_over kd acts high t h = holds_to (λ x. not (is_live_status x.status)) (is_over kd high) (act_of t acts) (λ x q. or_left (is_free kd x) _ (or_right (kd && x.reader) _ q)) h
+pub not_live_over : (kd : Bool) (acts : List Act) (high t : ℕ) → NotLive acts t → holds (is_free_or_above kd high) (act_of t acts) ≡ true
+not_live_over kd acts high t h = holds_to (λ x. not (is_live_status x.status)) (is_free_or_above kd high) (act_of t acts) (λ x q. or_left (is_free kd x) _ (or_right (kd && x.reader) _ q)) h
 
 -- it need not be over
 abbrev pub FreeAt : Bool → List Act → ℕ → Type 0
 FreeAt kd acts t = holds (is_free kd) (act_of t acts) ≡ true
 
-free_over : (kd : Bool) (acts : List Act) (high t : ℕ) → FreeAt kd acts t → holds (is_over kd high) (act_of t acts) ≡ true
-free_over kd acts high t h = holds_to (is_free kd) (is_over kd high) (act_of t acts) (λ x q. or_left (is_free kd x) _ q) h
+free_over : (kd : Bool) (acts : List Act) (high t : ℕ) → FreeAt kd acts t → holds (is_free_or_above kd high) (act_of t acts) ≡ true
+free_over kd acts high t h = holds_to (is_free kd) (is_free_or_above kd high) (act_of t acts) (λ x q. or_left (is_free kd x) _ q) h
 
 -- all ACTs ahead of this one need not be over
 abbrev pub FreeAhead : Bool → List Act → ℕ → List Ran → Type 0
@@ -178,12 +178,12 @@ over_commit kd acts kept k top high (Gone (OfAct t) ss ∷ rs) n i q b h = over_
 doomed_over : (kd : Bool) (acts : List Act) (high : ℕ) (rs : List Ran) → AllDoomed acts rs → AllOver kd acts high rs
 doomed_over kd acts high [] h = tt
 doomed_over kd acts high (Stands (OfBatch k) c ss ∷ rs) h = doomed_over kd acts high rs h
-doomed_over kd acts high (Stands (OfAct t) c ss ∷ rs) h = (holds_to (λ x. is_doomed x.status) (is_over kd high) (act_of t acts) (λ x q. or_left (is_free kd x) _ (doomed_free kd x q)) h.0, doomed_over kd acts high rs h.1)
+doomed_over kd acts high (Stands (OfAct t) c ss ∷ rs) h = (holds_to (λ x. is_doomed x.status) (is_free_or_above kd high) (act_of t acts) (λ x q. or_left (is_free kd x) _ (doomed_free kd x q)) h.0, doomed_over kd acts high rs h.1)
 doomed_over kd acts high (Gone y ss ∷ rs) h = doomed_over kd acts high rs h
 
 -- behind an ACT that gets its place with the number n: its pairs, and then what is behind a batch
 over_behind : (kd : Bool) (acts : List Act) (kept : List Who) (a : ℕ) (ps : List Pair) (cs : List Cascade) (u n top high : ℕ) (rs : List Ran)
-    → ((t : ℕ) → is_paired a ps acts u t ≡ true → holds (is_over kd high) (act_of t acts) ≡ true → holds (is_over kd (max high n)) (act_of t acts) ≡ true)
+    → ((t : ℕ) → is_paired a ps acts u t ≡ true → holds (is_free_or_above kd high) (act_of t acts) ≡ true → holds (is_free_or_above kd (max high n)) (act_of t acts) ≡ true)
     → has_kept kept rs ≡ false → Paired a ps acts u rs → AllByRecursion (λ k. is_above_or_aborted cs n k ≡ true) (batches_in rs) → TakenAlong cs acts rs → Befores acts top rs → AllOver kd acts high rs → AllOver kd acts (max high n) rs
 over_behind kd acts kept a ps cs u n top high [] r e p q x b h = tt
 over_behind kd acts kept a ps cs u n top high (Stands (OfBatch k) c ss ∷ rs) r e p q x b h = elim (or_cases (is_aborted k cs) (nat_le n k) q.0) [
@@ -201,8 +201,8 @@ below_among cs n u (Gone y ss ∷ rs) h = below_among cs n u rs h
 
 -- an ACT gets its place: what is ahead of it committed, and what is behind it is high
 pub over_decide : (kd : Bool) (acts : List Act) (kept : List Who) (a : ℕ) (ps : List Pair) (cs : List Cascade) (u n top high : ℕ) (rs : List Ran)
-    → ((t : ℕ) → is_paired a ps acts u t ≡ true → holds (is_over kd high) (act_of t acts) ≡ true → holds (is_over kd (max high n)) (act_of t acts) ≡ true)
-    → (holds (is_over kd high) (act_of u acts) ≡ true → holds (is_over kd (max high n)) (act_of u acts) ≡ true)
+    → ((t : ℕ) → is_paired a ps acts u t ≡ true → holds (is_free_or_above kd high) (act_of t acts) ≡ true → holds (is_free_or_above kd (max high n)) (act_of t acts) ≡ true)
+    → (holds (is_free_or_above kd high) (act_of u acts) ≡ true → holds (is_free_or_above kd (max high n)) (act_of u acts) ≡ true)
     → is_kept (OfAct u) kept ≡ false → KeptFront kept rs → FreeAhead kd acts u rs → Grouped a ps acts rs → StandsBelow cs n u rs
     → TakenAlong cs acts rs → Befores acts top rs → AllOver kd acts high rs → AllOver kd acts (max high n) rs
 over_decide kd acts kept a ps cs u n top high [] q o f front ahead g st x b h = absurd st
@@ -210,7 +210,7 @@ over_decide kd acts kept a ps cs u n top high (Stands (OfBatch k) c ss ∷ rs) q
 over_decide kd acts kept a ps cs u n top high (Stands (OfAct t) c ss ∷ rs) q o f front ahead g st x b h = elim st [
   | inl p ↦
       let none : has_kept kept rs ≡ false = false_from_ne_true (has_kept kept rs) (λ v. true≢false (sym (front.0 v) ∙ subst (λ z. is_kept (OfAct z) kept ≡ false) (sym p.0) f)) in (
-        subst (λ z. holds (is_over kd high) (act_of z acts) ≡ true → holds (is_over kd (max high n)) (act_of z acts) ≡ true) (sym p.0) o h.0,
+        subst (λ z. holds (is_free_or_above kd high) (act_of z acts) ≡ true → holds (is_free_or_above kd (max high n)) (act_of z acts) ≡ true) (sym p.0) o h.0,
         over_behind kd acts kept a ps cs u n top high rs q none (subst (λ z. Paired a ps acts z rs) p.0 g.0) p.1 x.1 b.1 h.1,
       )
   | inr v ↦ (free_over kd acts (max high n) t (ahead.0 (below_among cs n u rs v)), over_decide kd acts kept a ps cs u n top high rs q o f front.1 ahead.1 g.1 v x.1 b.1 h.1)

@@ -16,9 +16,9 @@ use Rattle.protocol.specs.OnDesk as desk
 use Rattle.protocol.specs.OnCell as cell
 use Rattle.protocol.specs.History.{History, Ran, Stands, Gone, grown, with_at, not_run, ran_in, completed, left_for_good, without_standing, long_staying, asks, kept_act, batches_in, batch_in, is_traceless}
 use Rattle.protocol_laws.specs.Tracks.{key_of, keys_in, is_key_among}
-use Rattle.protocol_laws.specs.Places.{Ascends, Fits, Places}
+use Rattle.protocol_laws.specs.Places.{Ascends, FitsCell, Places}
 use Rattle.protocol_laws.specs.Commits.{is_kept}
-use Rattle.protocol_laws.specs.Marks.{is_done_as, is_done, IsOver, Marks, Recorded, Marked, Known}
+use Rattle.protocol_laws.specs.Marks.{is_done_as, is_done, IsAbortedOrDone, Marks, Recorded, Marked, Known}
 use Rattle.protocol_laws.proofs.first.SettlingKeys as keys
 use Rattle.protocol_laws.proofs.machine.TrackLists
 use Rattle.protocol_laws.proofs.machine.TracksKept.{held, Tracked}
@@ -88,11 +88,11 @@ at_done P k (Gone y ss ∷ rs) e h = elim (or_cases (is_who y (OfBatch k)) (is_d
   | inr q ↦ at_done P k rs q (all_back P (batch_in y) (batches_in rs) h)
 ]
 
-done_staying : (next ep tail k : ℕ) (cs : List Cascade) (rs : List Ran) → is_done k rs ≡ true → AllByRecursion (Fits next cs ep tail) (batches_in rs) → Ascends (batches_in rs) → IsOver k cs (long_staying cs rs)
+done_staying : (next ep tail k : ℕ) (cs : List Cascade) (rs : List Ran) → is_done k rs ≡ true → AllByRecursion (FitsCell next cs ep tail) (batches_in rs) → Ascends (batches_in rs) → IsAbortedOrDone k cs (long_staying cs rs)
 done_staying next ep tail k cs [] e f a = inr e
 done_staying next ep tail k cs (Gone y ss ∷ rs) e f a = elim (or_cases (is_who y (OfBatch k)) (is_done k rs) e) [
   | inl q ↦ inr (or_left (is_who y (OfBatch k)) _ q)
-  | inr q ↦ elim (done_staying next ep tail k cs rs q (all_back (Fits next cs ep tail) (batch_in y) (batches_in rs) f) (ascends_back (batch_in y) (batches_in rs) a)) [ inl v ↦ inl v | inr v ↦ inr (or_right (is_who y (OfBatch k)) _ v) ]
+  | inr q ↦ elim (done_staying next ep tail k cs rs q (all_back (FitsCell next cs ep tail) (batch_in y) (batches_in rs) f) (ascends_back (batch_in y) (batches_in rs) a)) [ inl v ↦ inl v | inr v ↦ inr (or_right (is_who y (OfBatch k)) _ v) ]
 ]
 done_staying next ep tail k cs (Stands (OfAct t) c ss ∷ rs) e f a = elim (or_cases (c && false) (is_done k rs) e) [
   | inl q ↦ absurd (true≢false (sym (and_parts c false q).1))
@@ -100,11 +100,11 @@ done_staying next ep tail k cs (Stands (OfAct t) c ss ∷ rs) e f a = elim (or_c
 ]
 done_staying next ep tail k cs (Stands (OfBatch x) c ss ∷ rs) e f a = by (is_aborted x cs) refl (λ q. done_staying next ep tail k cs rs q f.1 a.1)
   where
-    by : (b : Bool) → is_aborted x cs ≡ b → (is_done k rs ≡ true → IsOver k cs (long_staying cs rs)) → IsOver k cs (if b then [] else Stands (OfBatch x) c ss ∷ long_staying cs rs)
+    by : (b : Bool) → is_aborted x cs ≡ b → (is_done k rs ≡ true → IsAbortedOrDone k cs (long_staying cs rs)) → IsAbortedOrDone k cs (if b then [] else Stands (OfBatch x) c ss ∷ long_staying cs rs)
     by true g r = elim (or_cases (c && (x == k)) (is_done k rs) e) [
       | inl q ↦ inl (ap (λ z. is_aborted z cs) (sym (eqb-true x k (and_parts c (x == k) q).1)) ∙ g)
       | inr q ↦
-          let m = at_done (Fits next cs ep tail) k rs q f.1 in
+          let m = at_done (FitsCell next cs ep tail) k rs q f.1 in
           inl (PlaceLists.suffix x k cs g (omega (arith, at_done (λ j. x < j) k rs q a.0)) (omega (arith, f.0.aborted g, m.placed)))
     ]
     by false g r = elim (or_cases (c && (x == k)) (is_done k rs) e) [
@@ -112,38 +112,38 @@ done_staying next ep tail k cs (Stands (OfBatch x) c ss ∷ rs) e f a = by (is_a
       | inr q ↦ elim (r q) [ inl v ↦ inl v | inr v ↦ inr (or_right (c && (x == k)) _ v) ]
     ]
 
-over_still : (k : ℕ) (cs : List Cascade) (rs rs' : List Ran) → (is_done k rs ≡ true → is_done k rs' ≡ true) → IsOver k cs rs → IsOver k cs rs'
+over_still : (k : ℕ) (cs : List Cascade) (rs rs' : List Ran) → (is_done k rs ≡ true → is_done k rs' ≡ true) → IsAbortedOrDone k cs rs → IsAbortedOrDone k cs rs'
 over_still k cs rs rs' f (inl a) = inl a
 over_still k cs rs rs' f (inr d) = inr (f d)
 
-over_more : (k : ℕ) (cs : List Cascade) (rs ys : List Ran) → IsOver k cs rs → IsOver k cs (rs ++ ys)
+over_more : (k : ℕ) (cs : List Cascade) (rs ys : List Ran) → IsAbortedOrDone k cs rs → IsAbortedOrDone k cs (rs ++ ys)
 over_more k cs rs ys h = over_still k cs rs (rs ++ ys) (any_front (is_done_as k) rs ys) h
 
-over_map : (k : ℕ) (cs : List Cascade) (f : Ran → Ran) (rs : List Ran) → ((r : Ran) → is_done_as k r ≡ true → is_done_as k (f r) ≡ true) → IsOver k cs rs → IsOver k cs (map f rs)
+over_map : (k : ℕ) (cs : List Cascade) (f : Ran → Ran) (rs : List Ran) → ((r : Ran) → is_done_as k r ≡ true → is_done_as k (f r) ≡ true) → IsAbortedOrDone k cs rs → IsAbortedOrDone k cs (map f rs)
 over_map k cs f rs g h = over_still k cs rs (map f rs) (any_map (is_done_as k) f rs g) h
 
-over_run : (k : ℕ) (cs : List Cascade) (who : Who) (x : Rattle.protocol.specs.History.Slice) (rs : List Ran) → IsOver k cs rs → IsOver k cs (map (ran_in who x) rs)
+over_run : (k : ℕ) (cs : List Cascade) (who : Who) (x : Rattle.protocol.specs.History.Slice) (rs : List Ran) → IsAbortedOrDone k cs rs → IsAbortedOrDone k cs (map (ran_in who x) rs)
 over_run k cs who x rs h = over_map k cs (ran_in who x) rs (done_ran k who x) h
 
-over_finish : (k : ℕ) (cs : List Cascade) (t : ℕ) (q : Bool) (rs : List Ran) → IsOver k cs rs → IsOver k cs (if q then without_standing (OfAct t) rs else map (left_for_good (OfAct t)) rs)
+over_finish : (k : ℕ) (cs : List Cascade) (t : ℕ) (q : Bool) (rs : List Ran) → IsAbortedOrDone k cs rs → IsAbortedOrDone k cs (if q then without_standing (OfAct t) rs else map (left_for_good (OfAct t)) rs)
 over_finish k cs t true rs h = over_still k cs rs (without_standing (OfAct t) rs) (done_without k t rs) h
 over_finish k cs t false rs h = over_map k cs (left_for_good (OfAct t)) rs (done_left k (OfAct t)) h
 
-pub over_stays : {C : Type 0} (w : Fixed C) (e : Event) (s : Machine C) (h : History) → Placed w s h → (k a : ℕ) → IsOver k s.book.cascades (h.long a) → IsOver k (after w e s).book.cascades ((grown w e s h).long a)
+pub over_stays : {C : Type 0} (w : Fixed C) (e : Event) (s : Machine C) (h : History) → Placed w s h → (k a : ℕ) → IsAbortedOrDone k s.book.cascades (h.long a) → IsAbortedOrDone k (after w e s).book.cascades ((grown w e s h).long a)
 unfolding Placed after grown
-over_stays w (Arrive j b) s h p k a o = at_one (λ c long. IsOver k s.book.cascades long) b a _ h.long (over_more k s.book.cascades (h.long b) (map not_run (OfBatch j ∷ []))) o
-over_stays w (Ask t b) s h p k a o = at_one (λ c long. IsOver k s.book.cascades long) b a _ h.long (over_more k s.book.cascades (h.long b) (map not_run (asks t (book.in_the_way (lock_of t s.book.acts) (cell_at s b).entries)))) o
-over_stays w (Run t b) s h p k a o = at_one (λ c long. IsOver k s.book.cascades long) b a _ h.long (TrackLists.on_reads (IsOver k s.book.cascades) (cell.reads_on t (cell_at s b).entries) _ _ (h.long b) (over_run k s.book.cascades (who_on t (cell_at s b).entries) (record { tid = t; found = (cell_at s b).state; left = (cell.slice_run w.code t b (cell_at s b)).state }) (h.long b))) o
-over_stays w (Complete j b) s h p k a o = at_one (λ c long. IsOver k s.book.cascades long) b a _ h.long (over_map k s.book.cascades (completed j) (h.long b) (done_completed k j)) o
+over_stays w (Arrive j b) s h p k a o = at_one (λ c long. IsAbortedOrDone k s.book.cascades long) b a _ h.long (over_more k s.book.cascades (h.long b) (map not_run (OfBatch j ∷ []))) o
+over_stays w (Ask t b) s h p k a o = at_one (λ c long. IsAbortedOrDone k s.book.cascades long) b a _ h.long (over_more k s.book.cascades (h.long b) (map not_run (asks t (book.in_the_way (lock_of t s.book.acts) (cell_at s b).entries)))) o
+over_stays w (Run t b) s h p k a o = at_one (λ c long. IsAbortedOrDone k s.book.cascades long) b a _ h.long (TrackLists.on_reads (IsAbortedOrDone k s.book.cascades) (cell.reads_on t (cell_at s b).entries) _ _ (h.long b) (over_run k s.book.cascades (who_on t (cell_at s b).entries) (record { tid = t; found = (cell_at s b).state; left = (cell.slice_run w.code t b (cell_at s b)).state }) (h.long b))) o
+over_stays w (Complete j b) s h p k a o = at_one (λ c long. IsAbortedOrDone k s.book.cascades long) b a _ h.long (over_map k s.book.cascades (completed j) (h.long b) (done_completed k j)) o
 over_stays w (Abort j) s h p k a (inl q) = inl (keys.aborted_more k s.book.cascades _ ∙ or_left (is_aborted k s.book.cascades) _ q)
 over_stays w (Abort j) s h p k a (inr q) = inr q
-over_stays w (Rollback b) s h p k a o = at_one (λ c long. IsOver k s.book.cascades long) b a _ h.long (by (h.long b) (p b)) o
+over_stays w (Rollback b) s h p k a o = at_one (λ c long. IsAbortedOrDone k s.book.cascades long) b a _ h.long (by (h.long b) (p b)) o
   where
-    by : (rs : List Ran) → Places s.ring.next_bid s.desk.settled s.book.cascades (cell_at s b).epoch (cell_at s b).tail rs → IsOver k s.book.cascades rs → IsOver k s.book.cascades (long_staying s.book.cascades rs)
+    by : (rs : List Ran) → Places s.ring.next_bid s.desk.settled s.book.cascades (cell_at s b).epoch (cell_at s b).tail rs → IsAbortedOrDone k s.book.cascades rs → IsAbortedOrDone k s.book.cascades (long_staying s.book.cascades rs)
     by rs g (inl q) = inl q
     by rs g (inr q) = done_staying s.ring.next_bid (cell_at s b).epoch (cell_at s b).tail k s.book.cascades rs q g.fit g.ascends
-over_stays w (Finish t b) s h p k a o = at_one (λ c long. IsOver k s.book.cascades long) b a _ h.long (over_finish k s.book.cascades t (is_traceless (act_of t s.book.acts)) (h.long b)) o
-over_stays w (Trim j b) s h p k a o = at_one (λ c long. IsOver k s.book.cascades long) b a _ h.long (over_map k s.book.cascades (left_for_good (OfBatch j)) (h.long b) (done_left k (OfBatch j))) o
+over_stays w (Finish t b) s h p k a o = at_one (λ c long. IsAbortedOrDone k s.book.cascades long) b a _ h.long (over_finish k s.book.cascades t (is_traceless (act_of t s.book.acts)) (h.long b)) o
+over_stays w (Trim j b) s h p k a o = at_one (λ c long. IsAbortedOrDone k s.book.cascades long) b a _ h.long (over_map k s.book.cascades (left_for_good (OfBatch j)) (h.long b) (done_left k (OfBatch j))) o
 over_stays w e s h p k a o = o
 
 -- ---- records
@@ -206,8 +206,8 @@ recorded_kept w (Complete j b) s h ok p t r k a q = elim (log_added (is_complete
     self : (n : ℕ) → (n == n) ≡ true
     self n = Rattle.std.proofs.lemmas.Bool.eq-eqb n n refl
 
-    new : j ≡ k → b ≡ a → IsOver k s.book.cascades (with_at b (map (completed j) (h.long b)) h.long a)
-    new e f = subst (λ z. IsOver k s.book.cascades (with_at b (map (completed j) (h.long b)) h.long z)) f (rw (self b) (subst (λ z. IsOver z s.book.cascades (map (completed j) (h.long b))) e
+    new : j ≡ k → b ≡ a → IsAbortedOrDone k s.book.cascades (with_at b (map (completed j) (h.long b)) h.long a)
+    new e f = subst (λ z. IsAbortedOrDone k s.book.cascades (with_at b (map (completed j) (h.long b)) h.long z)) f (rw (self b) (subst (λ z. IsAbortedOrDone z s.book.cascades (map (completed j) (h.long b))) e
         (inr (now_done j (h.long b) (ap (is_key_among (OfBatch j)) (sym (t b).stands) ∙ batch_among j (λ e. not (is_complete_batch e)) (cell_at s b).entries (held (λ c. holds (λ e. not (is_complete_batch e)) (find (is_batch_entry j) c.entries)) s.cells b no_cell ok.0))))))
 recorded_kept w e s h ok p t r k a q = over_stays w e s h p k a (r k a q)
 
@@ -260,14 +260,14 @@ some_more k n (x ∷ bs) h = by (x.bid == k) h (some_more k n bs)
 -- ---- marks
 
 -- another state of the long schedules and of who is kept
-pub carried : (cs ds : List Cascade) (long long' : ℕ → List Ran) (kept kept' : List Who) (k : ℕ) (b : Batch) → ((a : ℕ) → IsOver k cs (long a) → IsOver k ds (long' a)) → is_kept (OfBatch k) kept' ≡ is_kept (OfBatch k) kept → Marks cs long kept k b → Marks ds long' kept' k b
+pub carried : (cs ds : List Cascade) (long long' : ℕ → List Ran) (kept kept' : List Who) (k : ℕ) (b : Batch) → ((a : ℕ) → IsAbortedOrDone k cs (long a) → IsAbortedOrDone k ds (long' a)) → is_kept (OfBatch k) kept' ≡ is_kept (OfBatch k) kept → Marks cs long kept k b → Marks ds long' kept' k b
 carried cs ds long long' kept kept' k b f e h = record { noted = weaker _ _ b.places (λ p g n. f p.actor (g n)) h.noted; all_noted = h.all_noted; known = e ∙ h.known }
 
 -- a batch with the same places and stage
 same_batch : (cs : List Cascade) (long : ℕ → List Ran) (kept : List Who) (k : ℕ) (b c : Batch) → c.places ≡ b.places → c.stage ≡ b.stage → Marks cs long kept k b → Marks cs long kept k c
 same_batch cs long kept k b c e f h = record { noted = rw e h.noted; all_noted = λ q. rw e (h.all_noted (sym (ap is_formed f) ∙ q)); known = h.known ∙ sym (ap (λ z. not (is_formed z)) f) }
 
-new_places : (cs : List Cascade) (long : ℕ → List Ran) (k : ℕ) (xs : List ℕ) → AllByRecursion (λ p. p.noted ≡ true → IsOver k cs (long p.actor)) (map desk.new_declared xs)
+new_places : (cs : List Cascade) (long : ℕ → List Ran) (k : ℕ) (xs : List ℕ) → AllByRecursion (λ p. p.noted ≡ true → IsAbortedOrDone k cs (long p.actor)) (map desk.new_declared xs)
 new_places cs long k [] = tt
 new_places cs long k (x ∷ xs) = (λ q. absurd (true≢false (sym q)), new_places cs long k xs)
 
@@ -288,15 +288,15 @@ settling : (cs : List Cascade) (long : ℕ → List Ran) (kept : List Who) (j k 
 settling cs long kept j k b true e n h = let f = n (eqb-true k j e) in record { noted = h.noted; all_noted = λ q. h.all_noted f; known = h.known ∙ ap not f }
 settling cs long kept j k b false e n h = h
 
-note_one : (cs : List Cascade) (long : ℕ → List Ran) (j a : ℕ) (q : Bool) (p : Declared) → (p.actor == a) ≡ q → IsOver j cs (long a) → (p.noted ≡ true → IsOver j cs (long p.actor)) → ((desk.mark_if q desk.is_noted p).noted ≡ true → IsOver j cs (long (desk.mark_if q desk.is_noted p).actor))
-note_one cs long j a true p e o h = λ v. subst (λ z. IsOver j cs (long z)) (sym (eqb-true p.actor a e)) o
+note_one : (cs : List Cascade) (long : ℕ → List Ran) (j a : ℕ) (q : Bool) (p : Declared) → (p.actor == a) ≡ q → IsAbortedOrDone j cs (long a) → (p.noted ≡ true → IsAbortedOrDone j cs (long p.actor)) → ((desk.mark_if q desk.is_noted p).noted ≡ true → IsAbortedOrDone j cs (long (desk.mark_if q desk.is_noted p).actor))
+note_one cs long j a true p e o h = λ v. subst (λ z. IsAbortedOrDone j cs (long z)) (sym (eqb-true p.actor a e)) o
 note_one cs long j a false p e o h = h
 
 noted_more : (q : Bool) (p : Declared) → p.noted ≡ true → (desk.mark_if q desk.is_noted p).noted ≡ true
 noted_more true p h = refl
 noted_more false p h = h
 
-noting : (cs : List Cascade) (long : ℕ → List Ran) (kept : List Who) (j k a : ℕ) (b : Batch) (q : Bool) → (k == j) ≡ q → (k ≡ j → IsOver j cs (long a)) → Marks cs long kept j b → Marks cs long kept j (desk.change_if q (desk.marked a desk.is_noted) b)
+noting : (cs : List Cascade) (long : ℕ → List Ran) (kept : List Who) (j k a : ℕ) (b : Batch) (q : Bool) → (k == j) ≡ q → (k ≡ j → IsAbortedOrDone j cs (long a)) → Marks cs long kept j b → Marks cs long kept j (desk.change_if q (desk.marked a desk.is_noted) b)
 noting cs long kept j k a b true e o h = record {
   noted = all_map _ _ _ b.places (λ p g. note_one cs long j a (p.actor == a) p refl (o (eqb-true k j e)) g) h.noted;
   all_noted = λ q. list_all_mapped (λ p. p.noted) _ b.places (λ p g. noted_more (p.actor == a) p g) (h.all_noted q);
@@ -304,7 +304,7 @@ noting cs long kept j k a b true e o h = record {
 }
 noting cs long kept j k a b false e o h = h
 
-trim_one : (cs : List Cascade) (long : ℕ → List Ran) (j : ℕ) (q : Bool) (p : Declared) → (p.noted ≡ true → IsOver j cs (long p.actor)) → ((desk.mark_if q desk.is_trimmed p).noted ≡ true → IsOver j cs (long (desk.mark_if q desk.is_trimmed p).actor))
+trim_one : (cs : List Cascade) (long : ℕ → List Ran) (j : ℕ) (q : Bool) (p : Declared) → (p.noted ≡ true → IsAbortedOrDone j cs (long p.actor)) → ((desk.mark_if q desk.is_trimmed p).noted ≡ true → IsAbortedOrDone j cs (long (desk.mark_if q desk.is_trimmed p).actor))
 trim_one cs long j true p h = h
 trim_one cs long j false p h = h
 

@@ -17,11 +17,11 @@ use Rattle.protocol.specs.Standing.{CarriesNumber}
 use Rattle.protocol.specs.History.{History, Done, Ran, Stands, Gone, grown, not_run, left_for_good, without_standing, asks, batches_in, done_pact, done_batch, done_act, kept_act, is_traceless}
 use Rattle.protocol_laws.specs.Tracks.{keys_in, is_key_among}
 use Rattle.protocol_laws.specs.Turns.{Turns}
-use Rattle.protocol_laws.specs.Places.{Fits}
+use Rattle.protocol_laws.specs.Places.{FitsCell}
 use Rattle.protocol_laws.specs.Commits.{is_kept, KeptAhead}
 use Rattle.protocol_laws.specs.Befores.{Befores}
-use Rattle.protocol_laws.specs.Rising.{visits, visitors, number_of, is_as, highest, OpenAbove}
-use Rattle.protocol_laws.specs.Highs.{is_free, is_over, own_floor, reads_in, both_read, AllOver, doomed_at, has_pair, is_paired, is_above_or_aborted, StandsBelow, Shows}
+use Rattle.protocol_laws.specs.Rising.{visits, visitors, first_number_of, is_as, highest, OpenAbove}
+use Rattle.protocol_laws.specs.Highs.{is_free, is_free_or_above, own_floor, reads_in, both_read, AllOver, doomed_at, has_pair, is_paired, is_above_or_aborted, StandsBelow, ShowsNumber}
 use Rattle.protocol_laws.proofs.machine.TrackLists
 use Rattle.protocol_laws.proofs.machine.ActsGrow.{Later, Grows, acts_grow, grown_holds}
 use Rattle.protocol_laws.proofs.machine.DecidedStays.{is_fixed}
@@ -47,18 +47,18 @@ pub greatest_join : (xs ys : List ℕ) → greatest (xs ++ ys) ≡ max (greatest
 greatest_join [] ys = omega arith
 greatest_join (x ∷ xs) ys = omega (arith, greatest_join xs ys)
 
-map_join : (ds es : List Done) → map number_of (ds ++ es) ≡ map number_of ds ++ map number_of es
+map_join : (ds es : List Done) → map first_number_of (ds ++ es) ≡ map first_number_of ds ++ map first_number_of es
 map_join [] es = refl
 map_join (d ∷ ds) es = rw (map_join ds es) refl
 
 pub highest_join : (r : Bool) (a : ℕ) (ds es : List Done) → highest r a (ds ++ es) ≡ max (highest r a ds) (highest r a es)
-highest_join r a ds es = ap (λ z. greatest (map number_of (filter (is_as r) z))) (filter_join (visits a) ds es) ∙ (ap (λ z. greatest (map number_of z)) (filter_join (is_as r) (visitors a ds) (visitors a es)) ∙ (ap greatest (map_join (filter (is_as r) (visitors a ds)) (filter (is_as r) (visitors a es))) ∙ greatest_join (map number_of (filter (is_as r) (visitors a ds))) (map number_of (filter (is_as r) (visitors a es)))))
+highest_join r a ds es = ap (λ z. greatest (map first_number_of (filter (is_as r) z))) (filter_join (visits a) ds es) ∙ (ap (λ z. greatest (map first_number_of z)) (filter_join (is_as r) (visitors a ds) (visitors a es)) ∙ (ap greatest (map_join (filter (is_as r) (visitors a ds)) (filter (is_as r) (visitors a es))) ∙ greatest_join (map first_number_of (filter (is_as r) (visitors a ds))) (map first_number_of (filter (is_as r) (visitors a es)))))
 
 highest_batch : (r : Bool) (a k : ℕ) (h : History) (ps : List Pact) → highest r a (map (done_pact k h) ps) ≤ k
 highest_batch r a k h [] = omega arith
 highest_batch r a k h (p ∷ ps) = by (visits a (done_pact k h p)) (is_as r (done_pact k h p)) refl (highest_batch r a k h ps)
   where
-    by : (b v : Bool) → is_as r (done_pact k h p) ≡ v → highest r a (map (done_pact k h) ps) ≤ k → greatest (map number_of (filter (is_as r) (if b then done_pact k h p ∷ visitors a (map (done_pact k h) ps) else visitors a (map (done_pact k h) ps)))) ≤ k
+    by : (b v : Bool) → is_as r (done_pact k h p) ≡ v → highest r a (map (done_pact k h) ps) ≤ k → greatest (map first_number_of (filter (is_as r) (if b then done_pact k h p ∷ visitors a (map (done_pact k h) ps) else visitors a (map (done_pact k h) ps)))) ≤ k
     by true true e q = rw e (omega (arith, q))
     by true false e q = rw e q
     by false v e q = q
@@ -68,24 +68,24 @@ none_came : (r : Bool) (a k : ℕ) (h : History) (ps : List Pact) → is_key_amo
 none_came r a k h [] e = refl
 none_came r a k h (p ∷ ps) e = by (visits a (done_pact k h p)) refl (none_came r a k h ps e)
   where
-    by : (b : Bool) → visits a (done_pact k h p) ≡ b → highest r a (map (done_pact k h) ps) ≡ 0 → greatest (map number_of (filter (is_as r) (if b then done_pact k h p ∷ visitors a (map (done_pact k h) ps) else visitors a (map (done_pact k h) ps)))) ≡ 0
+    by : (b : Bool) → visits a (done_pact k h p) ≡ b → highest r a (map (done_pact k h) ps) ≡ 0 → greatest (map first_number_of (filter (is_as r) (if b then done_pact k h p ∷ visitors a (map (done_pact k h) ps) else visitors a (map (done_pact k h) ps)))) ≡ 0
     by true q v = absurd (true≢false (sym (shows.viewed (OfBatch k) p.tid (h.long a) q) ∙ e))
     by false q v = v
 
 -- over each of them, so over the greatest
-over_each : (r : Bool) (o : Option Act) (ds : List Done) → holds (λ x. true) o ≡ true → AllByRecursion (λ d. holds (is_over r (number_of d)) o ≡ true) ds → holds (is_over r (greatest (map number_of ds))) o ≡ true
+over_each : (r : Bool) (o : Option Act) (ds : List Done) → holds (λ x. true) o ≡ true → AllByRecursion (λ d. holds (is_free_or_above r (first_number_of d)) o ≡ true) ds → holds (is_free_or_above r (greatest (map first_number_of ds))) o ≡ true
 over_each r None ds e h = absurd (true≢false (sym e))
 over_each r (Some x) [] e h = or_right (is_free r x) _ (le-leb 0 x.m (omega arith))
-over_each r (Some x) (d ∷ ds) e h = elim (or_cases (is_free r x) (nat_le (number_of d) x.m) h.0) [
+over_each r (Some x) (d ∷ ds) e h = elim (or_cases (is_free r x) (nat_le (first_number_of d) x.m) h.0) [
   | inl q ↦ or_left (is_free r x) _ q
-  | inr q ↦ elim (or_cases (is_free r x) (nat_le (greatest (map number_of ds)) x.m) (over_each r (Some x) ds e h.1)) [
+  | inr q ↦ elim (or_cases (is_free r x) (nat_le (greatest (map first_number_of ds)) x.m) (over_each r (Some x) ds e h.1)) [
     | inl v ↦ or_left (is_free r x) _ v
-    | inr v ↦ or_right (is_free r x) _ (le-leb (max (number_of d) (greatest (map number_of ds))) x.m (omega (arith, leb-true (number_of d) x.m q, leb-true (greatest (map number_of ds)) x.m v)))
+    | inr v ↦ or_right (is_free r x) _ (le-leb (max (first_number_of d) (greatest (map first_number_of ds))) x.m (omega (arith, leb-true (first_number_of d) x.m q, leb-true (greatest (map first_number_of ds)) x.m v)))
   ]
 ]
 
 -- and the other way
-pub each_most : (ds : List Done) (m : ℕ) → greatest (map number_of ds) ≤ m → AllByRecursion (λ d. number_of d ≤ m) ds
+pub each_most : (ds : List Done) (m : ℕ) → greatest (map first_number_of ds) ≤ m → AllByRecursion (λ d. first_number_of d ≤ m) ds
 each_most [] m l = tt
 each_most (d ∷ ds) m l = (omega (arith, l), each_most ds m (omega (arith, l)))
 
@@ -164,8 +164,8 @@ aborted_low k (c ∷ cs) h = by (nat_lt c.upto k) refl (or_cases (covers k c) (i
     by true e (inr v) r = omega (arith, r v)
     by false e v r = omega (arith, most cs)
 
-none_aborted : (next : ℕ) (cs : List Cascade) (ep tail : ℕ) (ks : List ℕ) → ep ≡ length cs → AllByRecursion (Fits next cs ep tail) ks → AllByRecursion (λ k. is_aborted k cs ≡ false) ks
-none_aborted next cs ep tail ks e h = weaker (Fits next cs ep tail) (λ k. is_aborted k cs ≡ false) ks (λ k f. false_from_ne_true (is_aborted k cs) (λ q. omega (arith, aborted_low k cs q, f.aborted q, e))) h
+none_aborted : (next : ℕ) (cs : List Cascade) (ep tail : ℕ) (ks : List ℕ) → ep ≡ length cs → AllByRecursion (FitsCell next cs ep tail) ks → AllByRecursion (λ k. is_aborted k cs ≡ false) ks
+none_aborted next cs ep tail ks e h = weaker (FitsCell next cs ep tail) (λ k. is_aborted k cs ≡ false) ks (λ k f. false_from_ne_true (is_aborted k cs) (λ q. omega (arith, aborted_low k cs q, f.aborted q, e))) h
 
 -- a committed ACT that stands there: a batch is behind it, or it is in the last group
 below_or_tail : (cs : List Cascade) (n u last : ℕ) (seen : List Lock) (rs : List Ran) (es : List Entry) → Turns rs es → AllByRecursion (λ k. is_aborted k cs ≡ false) (batches_in rs) → AllByRecursion (λ k. k ≤ last) (batches_in rs) → StandsBelow cs n u rs
@@ -213,26 +213,26 @@ pub record Asked (acts : List Act) (b' : Book) (t a last floor : ℕ) (floors : 
   pub fixed : (u n : ℕ) → holds (is_fixed n) (act_of u acts) ≡ true → holds (is_fixed n) (act_of u b'.acts) ≡ true
   pub kinds : (u : ℕ) (r : Bool) → holds (λ x. agree x.reader r) (act_of u acts) ≡ true → reads_in b'.acts u ≡ r
 
-over_low : (r : Bool) (b' : Book) (t m n : ℕ) → n ≤ m → holds (λ x. nat_le m x.m) (act_of t b'.acts) ≡ true → holds (is_over r n) (act_of t b'.acts) ≡ true
+over_low : (r : Bool) (b' : Book) (t m n : ℕ) → n ≤ m → holds (λ x. nat_le m x.m) (act_of t b'.acts) ≡ true → holds (is_free_or_above r n) (act_of t b'.acts) ≡ true
 over_low r b' t m n l h = by (act_of t b'.acts) h
   where
-    by : (o : Option Act) → holds (λ x. nat_le m x.m) o ≡ true → holds (is_over r n) o ≡ true
+    by : (o : Option Act) → holds (λ x. nat_le m x.m) o ≡ true → holds (is_free_or_above r n) o ≡ true
     by None h = h
     by (Some x) h = or_right (is_free r x) _ (le-leb n x.m (omega (arith, l, leb-true m x.m h)))
 
 -- two readers
-over_reads : (r : Bool) (o : Option Act) (n : ℕ) → holds (λ x. true) o ≡ true → (r && holds (λ x. x.reader) o) ≡ true → holds (is_over r n) o ≡ true
+over_reads : (r : Bool) (o : Option Act) (n : ℕ) → holds (λ x. true) o ≡ true → (r && holds (λ x. x.reader) o) ≡ true → holds (is_free_or_above r n) o ≡ true
 over_reads r None n e q = absurd (true≢false (sym e))
 over_reads r (Some x) n e q = or_left (is_free r x) _ (or_left (r && x.reader) _ q)
 
 -- through its pair
-over_paired : (r : Bool) (b' : Book) (t a u n : ℕ) → AllByRecursion (CarriesNumber b') b'.pairs → holds (λ x. true) (act_of t b'.acts) ≡ true → holds (is_fixed n) (act_of u b'.acts) ≡ true → both_read b'.acts u t ≡ false → is_paired a b'.pairs b'.acts u t ≡ true → holds (is_over r n) (act_of t b'.acts) ≡ true
+over_paired : (r : Bool) (b' : Book) (t a u n : ℕ) → AllByRecursion (CarriesNumber b') b'.pairs → holds (λ x. true) (act_of t b'.acts) ≡ true → holds (is_fixed n) (act_of u b'.acts) ≡ true → both_read b'.acts u t ≡ false → is_paired a b'.pairs b'.acts u t ≡ true → holds (is_free_or_above r n) (act_of t b'.acts) ≡ true
 over_paired r b' t a u n k e f c p =
     let y = one_is (is_fixed n) (act_of u b'.acts) f in
     let x = one_is (λ x. true) (act_of t b'.acts) e in
     let num : y.0.m ≡ n = eqb-true y.0.m n (and_parts (is_decided y.0.status || is_sealed y.0.status) (y.0.m == n) y.2).1 in
     let ahead : doomed_at b'.acts u ≡ false = subst (λ o. holds (λ x. is_doomed x.status) o ≡ false) (sym y.1) (shows.fixed_not_doomed n y.0 y.2) in
-    subst (λ o. holds (is_over r n) o ≡ true) (sym x.1) (elim (cases_Bool (is_live_status x.0.status)) [
+    subst (λ o. holds (is_free_or_above r n) o ≡ true) (sym x.1) (elim (cases_Bool (is_live_status x.0.status)) [
       | inr d ↦ or_left (is_free r x.0) _ (or_right (r && x.0.reader) _ (rw d refl))
       | inl l ↦ elim (or_cases (both_read b'.acts u t) (doomed_at b'.acts u || (doomed_at b'.acts t || has_pair a t u b'.pairs)) p) [
         | inl d ↦ absurd (true≢false (sym d ∙ c))
@@ -259,7 +259,7 @@ among_most k last (j ∷ js) h l = elim (or_cases (j == k) (is_among k js) h) [ 
 -- one that committed there
 asked_one : {C : Type 0} (kept : List Who) (acts : List Act) (b' : Book) (cs : List Cascade) (t a floor : ℕ) (c : Cell C) (long : List Ran) (r : Bool) (n : ℕ) (y : Who) → Asked acts b' t a c.last floor c.floors (tail_group c.entries)
     → Turns long c.entries → AllByRecursion (λ k. is_aborted k cs ≡ false) (batches_in long) → AllByRecursion (λ k. k ≤ c.last) (batches_in long)
-    → shows.IsTold kept acts r n y → Shows cs (own_floor r c.floors) n y long → holds (is_over r n) (act_of t b'.acts) ≡ true
+    → shows.IsTold kept acts r n y → ShowsNumber cs (own_floor r c.floors) n y long → holds (is_free_or_above r n) (act_of t b'.acts) ≡ true
 asked_one kept acts b' cs t a floor c long r n (OfBatch k) q i f l told h = over_low r b' t (max c.last floor) n (omega (arith, h.0, among_most k c.last (batches_in long) h.1 l)) q.high
 asked_one kept acts b' cs t a floor c long r n (OfAct u) q i f l told h = elim (cases_Bool (r && reads_in b'.acts t)) [
   | inl v ↦ over_reads r (act_of t b'.acts) n (held_act (λ x. nat_le (max c.last floor) x.m) (act_of t b'.acts) q.high) v
@@ -286,11 +286,11 @@ all_as P r (d ∷ ds) h = by (is_as r d) refl (all_as P r ds h.1)
 
 asked_all : {C : Type 0} (kept : List Who) (acts : List Act) (b' : Book) (cs : List Cascade) (t a floor : ℕ) (c : Cell C) (long : List Ran) (ds : List Done) → Asked acts b' t a c.last floor c.floors (tail_group c.entries)
     → Turns long c.entries → AllByRecursion (λ k. is_aborted k cs ≡ false) (batches_in long) → AllByRecursion (λ k. k ≤ c.last) (batches_in long)
-    → AllByRecursion (shows.ToldOf kept acts) ds → AllByRecursion (λ d. Shows cs (own_floor d.reader c.floors) (number_of d) d.who long) (visitors a ds) → (r : Bool) → holds (is_over r (highest r a ds)) (act_of t b'.acts) ≡ true
+    → AllByRecursion (shows.ToldOf kept acts) ds → AllByRecursion (λ d. ShowsNumber cs (own_floor d.reader c.floors) (first_number_of d) d.who long) (visitors a ds) → (r : Bool) → holds (is_free_or_above r (highest r a ds)) (act_of t b'.acts) ≡ true
 asked_all kept acts b' cs t a floor c long ds q i f l told h r =
     over_each r (act_of t b'.acts) (filter (is_as r) (visitors a ds)) (held_act (λ x. nat_le (max c.last floor) x.m) (act_of t b'.acts) q.high)
-    (weaker _ (λ d. holds (is_over r (number_of d)) (act_of t b'.acts) ≡ true) (filter (is_as r) (visitors a ds)) (λ d p. subst (λ z. holds (is_over z (number_of d)) (act_of t b'.acts) ≡ true) p.1 p.0) (all_as (λ d. holds (is_over d.reader (number_of d)) (act_of t b'.acts) ≡ true) r (visitors a ds)
-    (both_all (shows.ToldOf kept acts) (λ d. Shows cs (own_floor d.reader c.floors) (number_of d) d.who long) (λ d. holds (is_over d.reader (number_of d)) (act_of t b'.acts) ≡ true) (visitors a ds) (λ d u v. asked_one kept acts b' cs t a floor c long d.reader (number_of d) d.who q i f l u v) (all_filter (shows.ToldOf kept acts) (visits a) ds told) h)))
+    (weaker _ (λ d. holds (is_free_or_above r (first_number_of d)) (act_of t b'.acts) ≡ true) (filter (is_as r) (visitors a ds)) (λ d p. subst (λ z. holds (is_free_or_above z (first_number_of d)) (act_of t b'.acts) ≡ true) p.1 p.0) (all_as (λ d. holds (is_free_or_above d.reader (first_number_of d)) (act_of t b'.acts) ≡ true) r (visitors a ds)
+    (both_all (shows.ToldOf kept acts) (λ d. ShowsNumber cs (own_floor d.reader c.floors) (first_number_of d) d.who long) (λ d. holds (is_free_or_above d.reader (first_number_of d)) (act_of t b'.acts) ≡ true) (visitors a ds) (λ d u v. asked_one kept acts b' cs t a floor c long d.reader (first_number_of d) d.who q i f l u v) (all_filter (shows.ToldOf kept acts) (visits a) ds told) h)))
 
 -- ---- event by event
 
@@ -397,15 +397,15 @@ decide w t a s h x live may low g k (Some y) e r v = let i : y ≡ x = cc e in s
     unit : Done
     unit = record { who = OfAct x.tid; tid = x.tid; tx = x.tx; place = Rattle.protocol.specs.Verdicts.act_place x.m s.book.next_c; result = x.result; reader = x.reader; views = Rattle.protocol.specs.History.act_view h x }
 
-    one_most : (r : Bool) (b : Bool) → greatest (map number_of (filter (is_as r) (if b then unit ∷ [] else []))) ≤ x.m
+    one_most : (r : Bool) (b : Bool) → greatest (map first_number_of (filter (is_as r) (if b then unit ∷ [] else []))) ≤ x.m
     one_most r true = by (is_as r unit)
       where
-        by : (v : Bool) → greatest (map number_of (if v then unit ∷ [] else [])) ≤ x.m
+        by : (v : Bool) → greatest (map first_number_of (if v then unit ∷ [] else [])) ≤ x.m
         by true = omega arith
         by false = omega arith
     one_most r false = omega arith
 
-    none_most : (r b v : Bool) → is_as r unit ≡ v → (b && v) ≡ false → greatest (map number_of (filter (is_as r) (if b then unit ∷ [] else []))) ≡ 0
+    none_most : (r b v : Bool) → is_as r unit ≡ v → (b && v) ≡ false → greatest (map first_number_of (filter (is_as r) (if b then unit ∷ [] else []))) ≡ 0
     none_most r true true e q = absurd (true≢false q)
     none_most r true false e q = rw e refl
     none_most r false v e q = refl
@@ -416,7 +416,7 @@ decide w t a s h x live may low g k (Some y) e r v = let i : y ≡ x = cc e in s
     undoomed (Decided c) l = refl
     undoomed (Sealed c) l = refl
 
-    raise : (r : Bool) (n : ℕ) (z : Act) → (is_live_status z.status ≡ true → (r && z.reader) ≡ false → n ≤ z.m) → is_over r (highest r a h.committed) z ≡ true → is_over r (max (highest r a h.committed) n) z ≡ true
+    raise : (r : Bool) (n : ℕ) (z : Act) → (is_live_status z.status ≡ true → (r && z.reader) ≡ false → n ≤ z.m) → is_free_or_above r (highest r a h.committed) z ≡ true → is_free_or_above r (max (highest r a h.committed) n) z ≡ true
     raise r n z l o = elim (or_cases (is_free r z) (nat_le (highest r a h.committed) z.m) o) [
       | inl d ↦ or_left (is_free r z) _ d
       | inr d ↦ elim (cases_Bool (is_free r z)) [
@@ -429,16 +429,16 @@ decide w t a s h x live may low g k (Some y) e r v = let i : y ≡ x = cc e in s
         not_not true e = refl
         not_not false e = absurd (true≢false e)
 
-    own : (r : Bool) → holds (is_over r (highest r a h.committed)) (act_of t s.book.acts) ≡ true → holds (is_over r (max (highest r a h.committed) x.m)) (act_of t s.book.acts) ≡ true
-    own r o = subst (λ z. holds (is_over r (max (highest r a h.committed) x.m)) z ≡ true) (sym may.is_it) (raise r x.m x (λ l f. omega arith) (subst (λ z. holds (is_over r (highest r a h.committed)) z ≡ true) may.is_it o))
+    own : (r : Bool) → holds (is_free_or_above r (highest r a h.committed)) (act_of t s.book.acts) ≡ true → holds (is_free_or_above r (max (highest r a h.committed) x.m)) (act_of t s.book.acts) ≡ true
+    own r o = subst (λ z. holds (is_free_or_above r (max (highest r a h.committed) x.m)) z ≡ true) (sym may.is_it) (raise r x.m x (λ l f. omega arith) (subst (λ z. holds (is_free_or_above r (highest r a h.committed)) z ≡ true) may.is_it o))
 
     reads : reads_in s.book.acts t ≡ x.reader
     reads = ap (holds (λ x. x.reader)) may.is_it
 
-    paired : (r : Bool) → x.reader ≡ r → (v : ℕ) → is_paired a s.book.pairs s.book.acts t v ≡ true → holds (is_over r (highest r a h.committed)) (act_of v s.book.acts) ≡ true → holds (is_over r (max (highest r a h.committed) x.m)) (act_of v s.book.acts) ≡ true
+    paired : (r : Bool) → x.reader ≡ r → (v : ℕ) → is_paired a s.book.pairs s.book.acts t v ≡ true → holds (is_free_or_above r (highest r a h.committed)) (act_of v s.book.acts) ≡ true → holds (is_free_or_above r (max (highest r a h.committed) x.m)) (act_of v s.book.acts) ≡ true
     paired r kind v p o =
-        let z = one_is (is_over r (highest r a h.committed)) (act_of v s.book.acts) o in
-        subst (λ o. holds (is_over r (max (highest r a h.committed) x.m)) o ≡ true) (sym z.1) (raise r x.m z.0 (λ l f. elim (or_cases (both_read s.book.acts t v) (doomed_at s.book.acts t || (doomed_at s.book.acts v || has_pair a v t s.book.pairs)) p) [
+        let z = one_is (is_free_or_above r (highest r a h.committed)) (act_of v s.book.acts) o in
+        subst (λ o. holds (is_free_or_above r (max (highest r a h.committed) x.m)) o ≡ true) (sym z.1) (raise r x.m z.0 (λ l f. elim (or_cases (both_read s.book.acts t v) (doomed_at s.book.acts t || (doomed_at s.book.acts v || has_pair a v t s.book.pairs)) p) [
           | inl b ↦ absurd (true≢false (sym b ∙ (ap (λ q. q && reads_in s.book.acts v) (reads ∙ kind) ∙ (ap (λ o. r && holds (λ x. x.reader) o) z.1 ∙ f))))
           | inr p ↦ elim (or_cases (doomed_at s.book.acts t) (doomed_at s.book.acts v || has_pair a v t s.book.pairs) p) [
             | inl d ↦ absurd (true≢false (sym (subst (λ o. holds (λ x. is_doomed x.status) o ≡ true) may.is_it d) ∙ undoomed x.status live))
@@ -479,10 +479,10 @@ overs_kept w e s h ok o n b m p p' g = booked w e s h g
 
 -- ---- what it says of an ACT that gets its place
 
-standing_over : (r : Bool) (acts : List Act) (high t : ℕ) (rs : List Ran) → is_key_among (OfAct t) (keys_in rs) ≡ true → AllOver r acts high rs → holds (is_over r high) (act_of t acts) ≡ true
+standing_over : (r : Bool) (acts : List Act) (high t : ℕ) (rs : List Ran) → is_key_among (OfAct t) (keys_in rs) ≡ true → AllOver r acts high rs → holds (is_free_or_above r high) (act_of t acts) ≡ true
 standing_over r acts high t [] e h = absurd (true≢false (sym e))
 standing_over r acts high t (Stands (OfBatch k) c ss ∷ rs) e h = standing_over r acts high t rs e h
-standing_over r acts high t (Stands (OfAct u) c ss ∷ rs) e h = elim (or_cases (u == t) (is_key_among (OfAct t) (keys_in rs)) e) [ inl i ↦ subst (λ z. holds (is_over r high) (act_of z acts) ≡ true) (eqb-true u t i) h.0 | inr i ↦ standing_over r acts high t rs i h.1 ]
+standing_over r acts high t (Stands (OfAct u) c ss ∷ rs) e h = elim (or_cases (u == t) (is_key_among (OfAct t) (keys_in rs)) e) [ inl i ↦ subst (λ z. holds (is_free_or_above r high) (act_of z acts) ≡ true) (eqb-true u t i) h.0 | inr i ↦ standing_over r acts high t rs i h.1 ]
 standing_over r acts high t (Gone y ss ∷ rs) e h = standing_over r acts high t rs e h
 
 -- of the ones of each kind a fact, so of all
@@ -503,11 +503,11 @@ from_kinds P (d ∷ ds) h = ((subst (λ v. AllByRecursion P (if v then d ∷ fil
 
 -- all that committed on an actor where a live ACT came have numbers at most its own, but for readers where it reads
 pub high_before : {C : Type 0} (s : Machine C) (h : History) (t a : ℕ) (x : Act) → Overs s h → act_of t s.book.acts ≡ Some x → is_live_status x.status ≡ true → is_key_among (OfAct t) (keys_in (h.long a)) ≡ true
-    → AllByRecursion (λ d. (d.reader && x.reader) ≡ false → number_of d ≤ x.m) (visitors a h.committed)
+    → AllByRecursion (λ d. (d.reader && x.reader) ≡ false → first_number_of d ≤ x.m) (visitors a h.committed)
 unfolding Overs
-high_before s h t a x g e l v = from_kinds (λ d. (d.reader && x.reader) ≡ false → number_of d ≤ x.m) (visitors a h.committed) (λ r. kind r (or_cases (is_free r x) (nat_le (highest r a h.committed) x.m) (subst (λ o. holds (is_over r (highest r a h.committed)) o ≡ true) e (standing_over r s.book.acts (highest r a h.committed) t (h.long a) v (g r a)))))
+high_before s h t a x g e l v = from_kinds (λ d. (d.reader && x.reader) ≡ false → first_number_of d ≤ x.m) (visitors a h.committed) (λ r. kind r (or_cases (is_free r x) (nat_le (highest r a h.committed) x.m) (subst (λ o. holds (is_free_or_above r (highest r a h.committed)) o ≡ true) e (standing_over r s.book.acts (highest r a h.committed) t (h.long a) v (g r a)))))
   where
-    kind : (r : Bool) → (is_free r x ≡ true) ⊎ (nat_le (highest r a h.committed) x.m ≡ true) → AllByRecursion (λ d. (d.reader && x.reader) ≡ false → number_of d ≤ x.m) (filter (is_as r) (visitors a h.committed))
+    kind : (r : Bool) → (is_free r x ≡ true) ⊎ (nat_le (highest r a h.committed) x.m ≡ true) → AllByRecursion (λ d. (d.reader && x.reader) ≡ false → first_number_of d ≤ x.m) (filter (is_as r) (visitors a h.committed))
     kind r (inr q) = weaker _ _ (filter (is_as r) (visitors a h.committed)) (λ d k f. k) (each_most (filter (is_as r) (visitors a h.committed)) x.m (leb-true (highest r a h.committed) x.m q))
     kind r (inl q) = elim (or_cases (r && x.reader) (not (is_live_status x.status)) q) [
       | inl b ↦ weaker _ _ (filter (is_as r) (visitors a h.committed)) (λ d k f. absurd (true≢false (sym b ∙ (ap (λ z. z && x.reader) (sym k.1) ∙ f)))) (all_as (λ d. Unit {0}) r (visitors a h.committed) (units (visitors a h.committed)))

@@ -19,7 +19,7 @@ use Rattle.protocol.specs.OnDesk as desk
 use Rattle.protocol.specs.OnBook as book
 use Rattle.protocol.specs.Spread.{raised, crossed_out, is_crossed}
 use Rattle.protocol.specs.History.{History, Done, grown, done_pact, done_batch}
-use Rattle.protocol_laws.specs.Told.{EachBatch, AmongDone, is_at, ActTold, PactTold, BatchTold}
+use Rattle.protocol_laws.specs.Told.{EachBatch, AmongDone, has_number, ActTold, PactTold, BatchTold}
 use Rattle.protocol_laws.proofs.first.SettlingKept as settling
 use Rattle.protocol_laws.proofs.machine.MarksKept as marks
 use Rattle.protocol_laws.proofs.first.PairsFound.{TidsAscend, each_act}
@@ -192,4 +192,4 @@ pub verdict_says : {C : Type 0} (w : Fixed C) (n : ℕ) (s : Machine C) (h : His
 unfolding PactsTold ActsTold NoPlaces
 verdict_says w n s h v g a p i d e = verdicts.verdict_says n (λ p r. IsAmongDone n p r h.committed) s v
     (weaker _ _ s.desk.batches (λ b k f. weaker _ _ b.pacts (λ p j q r o. among (OfBatch b.bid) p.tid p.tx n (pact_place b.bid p.tid) p.result r h.committed j.0 q o) (k (ap is_formed f))) (settling.each_batch w s (BatchTold h.committed) g p))
-    (weaker _ _ s.book.acts (λ x k q c f r o. among (OfAct x.tid) x.tid x.tx n (act_place x.m c) x.result r h.committed (k c (ap (is_at c) f ∙ eq-eqb c c refl)) q o) (each_act s (ActTold h.committed) a i)) d e
+    (weaker _ _ s.book.acts (λ x k q c f r o. among (OfAct x.tid) x.tid x.tx n (act_place x.m c) x.result r h.committed (k c (ap (has_number c) f ∙ eq-eqb c c refl)) q o) (each_act s (ActTold h.committed) a i)) d e

@@ -9,7 +9,7 @@ use Rattle.protocol.specs.Words.{covers, is_aborted, epoch_of, is_who}
 use Rattle.protocol.specs.OnCell.{is_cut}
 use Rattle.protocol.specs.History.{Slice, Ran, Stands, Gone, batches_in, batch_in, not_run, ran_in, completed, left_for_good, without_standing, long_staying}
 use Rattle.protocol_laws.specs.Tracks.{keys_in, is_key_among, NoneGone, CutIsEnd}
-use Rattle.protocol_laws.specs.Places.{Ascends, has_gone, IsFirm, FirmUpToGone, FirmUpTo, Fits, Places}
+use Rattle.protocol_laws.specs.Places.{Ascends, has_gone, IsFirm, FirmUpToGone, FirmUpTo, FitsCell, Places}
 use Rattle.protocol_laws.proofs.first.EpochsKept as epochs
 use Rattle.protocol_laws.proofs.first.SettlingKeys as keys
 use Rattle.protocol_laws.proofs.first.Times
@@ -254,7 +254,7 @@ at_key P k (Stands y c ss ∷ rs) e h = elim (or_cases (is_who y (OfBatch k)) (i
 ]
 at_key P k (Gone y ss ∷ rs) e h = at_key P k rs e (all_back P (batch_in y) (batches_in rs) h)
 
-pub firm_up_to : (next n : ℕ) (cs : List Cascade) (ep tail k : ℕ) (rs : List Ran) → k ≤ n → is_aborted k cs ≡ false → AllByRecursion (Fits next cs ep tail) (batches_in rs) → Ascends (batches_in rs) → FirmUpTo n cs (OfBatch k) rs
+pub firm_up_to : (next n : ℕ) (cs : List Cascade) (ep tail k : ℕ) (rs : List Ran) → k ≤ n → is_aborted k cs ≡ false → AllByRecursion (FitsCell next cs ep tail) (batches_in rs) → Ascends (batches_in rs) → FirmUpTo n cs (OfBatch k) rs
 firm_up_to next n cs ep tail k [] l a f h = tt
 firm_up_to next n cs ep tail k (Stands (OfAct t) c ss ∷ rs) l a f h = (λ e. tt, firm_up_to next n cs ep tail k rs l a f h)
 firm_up_to next n cs ep tail k (Stands (OfBatch x) c ss ∷ rs) l a f h = (own, firm_up_to next n cs ep tail k rs l a f.1 h.1)
@@ -264,7 +264,7 @@ firm_up_to next n cs ep tail k (Stands (OfBatch x) c ss ∷ rs) l a f h = (own, 
       | inl q ↦ let g : x ≡ k = eqb-true x k q in (omega (arith, g, l), rw g a)
       | inr q ↦
           let g : x < k = at_key (λ j. x < j) k rs q h.0 in
-          let m = at_key (Fits next cs ep tail) k rs q f.1 in
+          let m = at_key (FitsCell next cs ep tail) k rs q f.1 in
           (omega (arith, g, l), false_from_ne_true (is_aborted x cs) (λ b. true≢false (sym (suffix x k cs b (omega (arith, g)) (omega (arith, f.0.aborted b, m.placed))) ∙ a)))
     ]
 firm_up_to next n cs ep tail k (Gone (OfAct t) ss ∷ rs) l a f h = firm_up_to next n cs ep tail k rs l a f h
@@ -281,27 +281,27 @@ place_act next n cs ep tail t rs h = same_batches next n cs ep tail rs _ (batche
 -- a batch of the cell's epoch, behind the tail
 pub place_batch : (next n : ℕ) (cs : List Cascade) (ep tail k : ℕ) (rs : List Ran) → k < next → epoch_of k cs ≡ ep → tail < k → Places next n cs ep tail rs → Places next n cs ep k (rs ++ not_run (OfBatch k) ∷ [])
 place_batch next n cs ep tail k rs l e m h =
-    let below : AllByRecursion (λ j. j < k) (batches_in rs) = weaker (Fits next cs ep tail) (λ j. j < k) (batches_in rs) (λ j f. less j f) h.fit in
+    let below : AllByRecursion (λ j. j < k) (batches_in rs) = weaker (FitsCell next cs ep tail) (λ j. j < k) (batches_in rs) (λ j f. less j f) h.fit in
     record {
       behind = h.behind;
-      fit = rw (batches_join rs (not_run (OfBatch k) ∷ [])) (all_join (Fits next cs ep k) (batches_in rs) (k ∷ []) (keys_all (batches_in rs) h.fit) (record { formed = l; placed = omega (arith, e); aborted = λ q. e; is_last = λ q. omega arith }, tt));
+      fit = rw (batches_join rs (not_run (OfBatch k) ∷ [])) (all_join (FitsCell next cs ep k) (batches_in rs) (k ∷ []) (keys_all (batches_in rs) h.fit) (record { formed = l; placed = omega (arith, e); aborted = λ q. e; is_last = λ q. omega arith }, tt));
       ascends = rw (batches_join rs (not_run (OfBatch k) ∷ [])) (ascends_more k (batches_in rs) below h.ascends);
       firm = firm_more n cs (OfBatch k) rs h.firm;
     }
   where
-    less : (j : ℕ) → Fits next cs ep tail j → j < k
+    less : (j : ℕ) → FitsCell next cs ep tail j → j < k
     less j f = elim (cases_lt j k) [ inl a ↦ a | inr b ↦ absurd (omega (arith, b, m, f.is_last (omega (arith, f.placed, e, epoch_mono k j cs b)))) ]
 
-    keys_all : (ks : List ℕ) → AllByRecursion (Fits next cs ep tail) ks → AllByRecursion (Fits next cs ep k) ks
-    keys_all ks g = weaker (Fits next cs ep tail) (Fits next cs ep k) ks (λ j f. record { formed = f.formed; placed = f.placed; aborted = f.aborted; is_last = λ q. omega (arith, m, f.is_last q) }) g
+    keys_all : (ks : List ℕ) → AllByRecursion (FitsCell next cs ep tail) ks → AllByRecursion (FitsCell next cs ep k) ks
+    keys_all ks g = weaker (FitsCell next cs ep tail) (FitsCell next cs ep k) ks (λ j f. record { formed = f.formed; placed = f.placed; aborted = f.aborted; is_last = λ q. omega (arith, m, f.is_last q) }) g
 
 -- where no aborted one stays
-stay_fits : (next n : ℕ) (cs : List Cascade) (ep tail : ℕ) (rs : List Ran) → ep < length cs → AllByRecursion (Fits next cs ep tail) (batches_in rs) → FirmUpToGone n cs rs → AllByRecursion (Fits next cs (length cs) 0) (batches_in (long_staying cs rs))
+stay_fits : (next n : ℕ) (cs : List Cascade) (ep tail : ℕ) (rs : List Ran) → ep < length cs → AllByRecursion (FitsCell next cs ep tail) (batches_in rs) → FirmUpToGone n cs rs → AllByRecursion (FitsCell next cs (length cs) 0) (batches_in (long_staying cs rs))
 stay_fits next n cs ep tail [] l f h = tt
 stay_fits next n cs ep tail (Stands (OfAct t) c ss ∷ rs) l f h = stay_fits next n cs ep tail rs l f h.1
 stay_fits next n cs ep tail (Stands (OfBatch k) c ss ∷ rs) l f h = by (is_aborted k cs) refl (stay_fits next n cs ep tail rs l f.1 h.1)
   where
-    by : (b : Bool) → is_aborted k cs ≡ b → AllByRecursion (Fits next cs (length cs) 0) (batches_in (long_staying cs rs)) → AllByRecursion (Fits next cs (length cs) 0) (batches_in (if b then [] else Stands (OfBatch k) c ss ∷ long_staying cs rs))
+    by : (b : Bool) → is_aborted k cs ≡ b → AllByRecursion (FitsCell next cs (length cs) 0) (batches_in (long_staying cs rs)) → AllByRecursion (FitsCell next cs (length cs) 0) (batches_in (if b then [] else Stands (OfBatch k) c ss ∷ long_staying cs rs))
     by true e g = tt
     by false e g = (record { formed = f.0.formed; placed = epochs.epoch_most k cs; aborted = λ q. absurd (true≢false (sym q ∙ e)); is_last = λ q. absurd (omega (arith, q, l, f.0.placed)) }, g)
 stay_fits next n cs ep tail (Gone (OfAct t) ss ∷ rs) l f h = stay_fits next n cs ep tail rs l f h.1
@@ -324,12 +324,12 @@ leave_batch next n cs ep tail k rs l a h =
 pub cascade : (next n : ℕ) (cs : List Cascade) (c : Cascade) (ep tail : ℕ) (rs : List Ran) → c.upto ≡ next - 1 → n < c.first → AllByRecursion (λ d. d.first ≤ c.first) cs → Places next n cs ep tail rs → Places next n (cs ++ c ∷ []) ep tail rs
 cascade next n cs c ep tail rs u l firsts h = record {
   behind = omega (arith, h.behind, Times.length_join cs (c ∷ []));
-  fit = weaker (Fits next cs ep tail) (Fits next (cs ++ c ∷ []) ep tail) (batches_in rs) (λ k f. one k f) h.fit;
+  fit = weaker (FitsCell next cs ep tail) (FitsCell next (cs ++ c ∷ []) ep tail) (batches_in rs) (λ k f. one k f) h.fit;
   ascends = h.ascends;
   firm = firm_each n n cs (cs ++ c ∷ []) rs (λ k f. (f.0, keys.aborted_more k cs c ∙ or_from (is_aborted k cs) (covers k c) f.1 (and_left (nat_le c.first k) (nat_le k c.upto) (lt-leb c.first k (omega (arith, f.0, l)))))) h.firm;
 }
   where
-    one : (k : ℕ) → Fits next cs ep tail k → Fits next (cs ++ c ∷ []) ep tail k
+    one : (k : ℕ) → FitsCell next cs ep tail k → FitsCell next (cs ++ c ∷ []) ep tail k
     one k f =
         let e : epoch_of k (cs ++ c ∷ []) ≡ epoch_of k cs = epochs.epoch_more k cs c (omega (arith, u, f.formed)) in
         record {
@@ -357,10 +357,10 @@ settle next n m cs ep tail rs l h = record { behind = h.behind; fit = h.fit; asc
 pub form : (next n : ℕ) (cs : List Cascade) (ep tail : ℕ) (rs : List Ran) → Places next n cs ep tail rs → Places (next + 1) n cs ep tail rs
 form next n cs ep tail rs h = record {
   behind = h.behind;
-  fit = weaker (Fits next cs ep tail) (Fits (next + 1) cs ep tail) (batches_in rs) (λ k f. record { formed = omega (arith, f.formed); placed = f.placed; aborted = f.aborted; is_last = f.is_last }) h.fit;
+  fit = weaker (FitsCell next cs ep tail) (FitsCell (next + 1) cs ep tail) (batches_in rs) (λ k f. record { formed = omega (arith, f.formed); placed = f.placed; aborted = f.aborted; is_last = f.is_last }) h.fit;
   ascends = h.ascends;
   firm = h.firm;
 }
 
 pub none_among : (k : ℕ) (next n : ℕ) (cs : List Cascade) (ep tail : ℕ) (rs : List Ran) → epoch_of k cs ≡ ep → tail < k → Places next n cs ep tail rs → is_key_among (OfBatch k) (keys_in rs) ≡ false
-none_among k next n cs ep tail rs e m h = false_from_ne_true (is_key_among (OfBatch k) (keys_in rs)) (λ q. omega (arith, m, (at_key (Fits next cs ep tail) k rs q h.fit).is_last e))
+none_among k next n cs ep tail rs e m h = false_from_ne_true (is_key_among (OfBatch k) (keys_in rs)) (λ q. omega (arith, m, (at_key (FitsCell next cs ep tail) k rs q h.fit).is_last e))

@@ -17,7 +17,7 @@ use Rattle.protocol.specs.OnRing.{numbered}
 use Rattle.protocol.specs.OnDesk.{change_if, changed_batch, with_stage, taken}
 use Rattle.protocol.specs.History.{Done, History, done_pact, done_batch, done_act, act_view, grown, no_history}
 use Rattle.protocol.specs.Chains.{is_place_below, RivalsRise}
-use Rattle.protocol_laws.specs.Rising.{visits, visitors, number_of, PlacesDiffer, OpenAbove}
+use Rattle.protocol_laws.specs.Rising.{visits, visitors, first_number_of, PlacesDiffer, OpenAbove}
 use Rattle.protocol_laws.proofs.first.Frames.{frame}
 use Rattle.protocol_laws.proofs.first.Lists.{all_join, all_map, all_found, all_alike, all_alike3, all_filter, weaker, both_all, join_assoc, join_nil, filter_join}
 use Rattle.protocol_laws.proofs.first.SettlingKept as settling
@@ -185,7 +185,7 @@ settled_below w s m h l =
 -- ---- the premise: an ACT that is decided has a before number at least as great as those of all that committed on its actors
 
 unfoldable pub BeforeIsHigh : {C : Type 0} → Event → Machine C → History → Type 0
-BeforeIsHigh (Decide t) s h = (x : Act) → act_of t s.book.acts ≡ Some x → (a : ℕ) → is_some (act_view h x a) ≡ true → AllByRecursion (λ e. (e.reader && x.reader) ≡ false → number_of e ≤ x.m) (visitors a h.committed)
+BeforeIsHigh (Decide t) s h = (x : Act) → act_of t s.book.acts ≡ Some x → (a : ℕ) → is_some (act_view h x a) ≡ true → AllByRecursion (λ e. (e.reader && x.reader) ≡ false → first_number_of e ≤ x.m) (visitors a h.committed)
 BeforeIsHigh e s h = Unit {0}
 
 -- ---- what is kept
@@ -234,14 +234,14 @@ commits w k s h g (Some b) e v =
 -- ---- an ACT is decided
 
 decides : {C : Type 0} (w : Fixed C) (t : ℕ) (s : Machine C) (h : History) → PlacesStand w s h
-    → ((x : Act) → act_of t s.book.acts ≡ Some x → (a : ℕ) → is_some (act_view h x a) ≡ true → AllByRecursion (λ e. (e.reader && x.reader) ≡ false → number_of e ≤ x.m) (visitors a h.committed))
+    → ((x : Act) → act_of t s.book.acts ≡ Some x → (a : ℕ) → is_some (act_view h x a) ≡ true → AllByRecursion (λ e. (e.reader && x.reader) ≡ false → first_number_of e ≤ x.m) (visitors a h.committed))
     → (o : Option Act) → act_of t s.book.acts ≡ o → holds (λ x. nat_le x.m (max s.desk.settled (base w.text))) o ≡ true
     → ((a : ℕ) → AboveOn a h.committed (done_act s.book.next_c h o)) × (DifferFrom h.committed (done_act s.book.next_c h o)
     × (AllByRecursion (λ d. (d.place.batch.0 < s.ring.next_bid) × OpenAbove d.place.batch.0 s.desk.batches) (done_act s.book.next_c h o) × AllByRecursion (λ d. IsSided (s.book.next_c + 1) d.place) (done_act s.book.next_c h o)))
 unfolding AboveOn DifferFrom
 decides w t s h g q None e v = (λ a. tt, (tt, (tt, tt)))
 decides w t s h g q (Some x) e v = (
-  λ a. ((λ i. both_all (λ d. (d.reader && x.reader) ≡ false → number_of d ≤ x.m) (λ d. IsSided s.book.next_c d.place) (λ d. (d.reader && x.reader) ≡ false → is_place_below d.place (act_place x.m s.book.next_c) ≡ true) (visitors a h.committed) (λ d j k f. act_above d.place x.m s.book.next_c (j f) k) (q x e a i) (all_filter _ (visits a) h.committed g.sided)), tt),
+  λ a. ((λ i. both_all (λ d. (d.reader && x.reader) ≡ false → first_number_of d ≤ x.m) (λ d. IsSided s.book.next_c d.place) (λ d. (d.reader && x.reader) ≡ false → is_place_below d.place (act_place x.m s.book.next_c) ≡ true) (visitors a h.committed) (λ d j k f. act_above d.place x.m s.book.next_c (j f) k) (q x e a i) (all_filter _ (visits a) h.committed g.sided)), tt),
   (
     (weaker _ _ h.committed (λ d k. act_differs d (record { who = OfAct x.tid; tid = x.tid; tx = x.tx; place = act_place x.m s.book.next_c; result = x.result; reader = x.reader; views = Rattle.protocol.specs.History.act_view h x }) x.m s.book.next_c refl k) g.sided, tt),
     ((settled_below w s x.m g.settles (leb-true x.m (max s.desk.settled (base w.text)) v), tt), (inr (refl, omega arith), tt)),

@@ -18,7 +18,7 @@ use Rattle.protocol.specs.Effects.{after, cell_at, no_cell}
 use Rattle.protocol.specs.OnDesk as desk
 use Rattle.protocol.specs.Runs.{IsQuiet}
 use Rattle.protocol.specs.History.{History, Done, grown, done_pact, done_batch, done_act}
-use Rattle.protocol_laws.specs.Told.{EachBatch, is_at, IsDonePact, AnyPact, PactFrom, FromBatches}
+use Rattle.protocol_laws.specs.Told.{EachBatch, has_number, IsDonePact, AnyPact, PactFrom, FromBatches}
 use Rattle.protocol_laws.specs.Commits.{is_kept}
 use Rattle.protocol_laws.specs.Marks.{Marked, Known}
 use Rattle.protocol_laws.proofs.first.Times
@@ -254,7 +254,7 @@ told_settled Formed k t r e = absurd (true≢false (sym e))
 told_settled Committing k t r e = absurd (true≢false (sym e))
 told_settled Settled k t r e = refl
 
-told_sealed : (c m : ℕ) (st : Status) (r : Option TxResult) → is_at c st ≡ true → is_decided st ≡ false → act_verdict st m r ≡ ended_at (act_place m c) r
+told_sealed : (c m : ℕ) (st : Status) (r : Option TxResult) → has_number c st ≡ true → is_decided st ≡ false → act_verdict st m r ≡ ended_at (act_place m c) r
 told_sealed c m Live r a n = absurd (true≢false (sym a))
 told_sealed c m (Doomed v) r a n = absurd (true≢false (sym a))
 told_sealed c m (Decided d) r a n = absurd (true≢false n)
@@ -282,14 +282,14 @@ abbrev pub IsTold : {C : Type 0} → Machine C → Done → Type 0
 IsTold s d = verdict d.tx s.book s.desk ≡ ended_at d.place d.result
 
 -- an ACT that is not only decided
-pub act_told : {C : Type 0} (w : Fixed C) (s : Machine C) (t : ℕ) (d : Done) (x : Act) → TransactionsInOnePlace w s → is_decided x.status ≡ false → act_of t s.book.acts ≡ Some x → Rattle.protocol_laws.specs.Told.IsDone d x → IsTold s d
+pub act_told : {C : Type 0} (w : Fixed C) (s : Machine C) (t : ℕ) (d : Done) (x : Act) → TransactionsInOnePlace w s → is_decided x.status ≡ false → act_of t s.book.acts ≡ Some x → Rattle.protocol_laws.specs.Told.IsDoneOfAct d x → IsTold s d
 act_told w s t d x o sealed e i =
     let l = sum_of w x.tx s o in
     let m = at_least_one t x s.book.acts e in
     ap (λ z. verdict z s.book s.desk) i.tx ∙ (or_none (verdict_of_pact s.book.cascades x.tx s.desk.batches) (verdict_of_act x.tx s.book.acts) (none_of_pacts s.book.cascades x.tx s.desk.batches (omega (arith, l, m)))
     ∙ (act_is_told t x s.book.acts e (omega (arith, l)) ∙ (told_sealed i.c x.m x.status x.result i.at sealed ∙ (ap (λ z. ended_at z x.result) (sym i.place) ∙ ap (ended_at d.place) (sym i.result)))))
 
-quiet_sealed : {C : Type 0} (w : Fixed C) (s : Machine C) (t : ℕ) (d : Done) (x : Act) → IsQuiet w s → ActsRecorded w s → act_of t s.book.acts ≡ Some x → Rattle.protocol_laws.specs.Told.IsDone d x → is_decided x.status ≡ false
+quiet_sealed : {C : Type 0} (w : Fixed C) (s : Machine C) (t : ℕ) (d : Done) (x : Act) → IsQuiet w s → ActsRecorded w s → act_of t s.book.acts ≡ Some x → Rattle.protocol_laws.specs.Told.IsDoneOfAct d x → is_decided x.status ≡ false
 unfolding ActsRecorded
 quiet_sealed w s t d x q r e i = false_from_ne_true (is_decided x.status) (λ f. q (Seal t) (seal_allowed w t s x e f (records.quiet_durable w s (is_act_commit t) (t % w.text.logs) q ((r t x e).0 (at_placed i.c x.status i.at) ((r t x e).1 f)))))
 

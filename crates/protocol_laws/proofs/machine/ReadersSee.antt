@@ -18,7 +18,7 @@ use Rattle.protocol.specs.OnCell as cell
 use Rattle.protocol.specs.OnCell.{is_cut}
 use Rattle.protocol.specs.History.{History, Slice, Ran, Stands, Gone, grown, with_at, read_on, view_in, last_left, is_reader_act, without_standing, long_staying}
 use Rattle.protocol_laws.specs.Tracks.{key_of, keys_in, is_key_among, Differ, slices_in, InOrder, has_read}
-use Rattle.protocol_laws.specs.Sees.{blocks, HasNotRead, Seen, SeesAt}
+use Rattle.protocol_laws.specs.Sees.{blocks_readers, HasNotRead, Seen, SeesAt}
 use Rattle.protocol_laws.specs.Turns.{Turns}
 use Rattle.protocol_laws.proofs.first.Lists.{all_filter, all_join, weaker}
 use Rattle.protocol_laws.proofs.machine.TrackLists
@@ -147,7 +147,7 @@ staying now reads cs (e ∷ es) h = by (is_cut cs (who_of e)) (staying now reads
 
 -- marks: what does not block goes on not blocking
 abbrev IsMark : (Entry → Entry) → Type 0
-IsMark f = (e : Entry) → ((reads : List Slice) → HasNotRead reads e → HasNotRead reads (f e)) × ((now : State) (reads : List Slice) → Seen now reads e → Seen now reads (f e)) × (blocks (f e) ≡ true → blocks e ≡ true)
+IsMark f = (e : Entry) → ((reads : List Slice) → HasNotRead reads e → HasNotRead reads (f e)) × ((now : State) (reads : List Slice) → Seen now reads e → Seen now reads (f e)) × (blocks_readers (f e) ≡ true → blocks_readers e ≡ true)
 
 none_marked : (reads : List Slice) (f : Entry → Entry) (es : List Entry) → IsMark f → AllByRecursion (HasNotRead reads) es → AllByRecursion (HasNotRead reads) (map f es)
 none_marked reads f [] k h = tt
@@ -196,7 +196,7 @@ others now zs x (y ∷ es) f l e h =
     let p = or_parts (is_who (who_of y) (OfAct x.tid)) (is_key_among (OfAct x.tid) (map key_of es)) e in
     (seen_more now zs x y f l h.0, (λ q. none_others zs x es p.1 (h.1 q)), others now zs x es f l p.1 h.2)
 
-over_reader : (own y : Entry) → is_reader_entry own ≡ true → is_over_for own y ≡ true → blocks y ≡ false
+over_reader : (own y : Entry) → is_reader_entry own ≡ true → is_over_for own y ≡ true → blocks_readers y ≡ false
 over_reader (BatchEntry b) y r h = absurd (true≢false (sym r))
 over_reader (ActEntry x) (BatchEntry d) r h = ap not h
 over_reader (ActEntry x) (ActEntry z) r h = by x.reader z.reader r h
@@ -211,7 +211,7 @@ reader_runs : (now : State) (zs : List Slice) (x : Slice) (own : Entry) (es : Li
 reader_runs now zs x own [] f l d i r o h = tt
 reader_runs now zs x own (y ∷ es) f l d i r o h = by (is_entry_of x.tid y) refl i o (λ j p. reader_runs now zs x own es f l d.1 j r p h.2)
   where
-    at : (y : Entry) → is_entry_of x.tid y ≡ true → is_reader_entry y ≡ true → (blocks y ≡ false) × (who_of y ≡ OfAct x.tid)
+    at : (y : Entry) → is_entry_of x.tid y ≡ true → is_reader_entry y ≡ true → (blocks_readers y ≡ false) × (who_of y ≡ OfAct x.tid)
     at (BatchEntry b) e v = absurd (true≢false (sym v))
     at (ActEntry z) e v = (ap not v, ap OfAct (eqb-true z.tid x.tid e))
 
@@ -240,7 +240,7 @@ other_runs : (now : State) (zs : List Slice) (t : ℕ) (own : Entry) (es : List 
 other_runs now zs t own [] i r c o h = tt
 other_runs now zs t own (y ∷ es) i r c o h = by (is_entry_of t y) refl i o (λ j p. other_runs now zs t own es j r c p h.2)
   where
-    at : (y : Entry) → is_reader_entry y ≡ false → complete_mark y ≡ false → HasNotRead zs y × (blocks y ≡ true)
+    at : (y : Entry) → is_reader_entry y ≡ false → complete_mark y ≡ false → HasNotRead zs y × (blocks_readers y ≡ true)
     at (BatchEntry b) v q = (tt, ap not q)
     at (ActEntry z) v q = ((λ e. absurd (true≢false (sym e ∙ v))), ap not v)
 
@@ -326,7 +326,7 @@ finish_same t now zs (Stands y c ss ∷ rs) (e ∷ es) l o g h = by (is_act_entr
     own (BatchEntry b) = refl
     own (ActEntry x) = refl
 
-    reads_or : (e : Entry) → is_act_entry t e ≡ true → (is_reader_entry e ≡ true) ⊎ (blocks e ≡ true)
+    reads_or : (e : Entry) → is_act_entry t e ≡ true → (is_reader_entry e ≡ true) ⊎ (blocks_readers e ≡ true)
     reads_or (BatchEntry b) q = absurd (true≢false (sym q))
     reads_or (ActEntry x) q = elim (cases_Bool x.reader) [ inl r ↦ inl r | inr r ↦ inr (ap not r) ]
 

@@ -19,8 +19,8 @@ use Rattle.protocol_laws.specs.Tracks.{keys_in, is_key_among}
 use Rattle.protocol_laws.specs.Commits.{is_kept, KeptFront}
 use Rattle.protocol_laws.specs.Marks.{Marked, Known}
 use Rattle.protocol_laws.specs.FromDesk.{is_declared, MessageOf, FromDesk}
-use Rattle.protocol_laws.specs.Rising.{visits, visitors, number_of, OpenAbove}
-use Rattle.protocol_laws.specs.Highs.{own_floor, TakenAlong, is_above_or_aborted, StandsBelow, Shows}
+use Rattle.protocol_laws.specs.Rising.{visits, visitors, first_number_of, OpenAbove}
+use Rattle.protocol_laws.specs.Highs.{own_floor, TakenAlong, is_above_or_aborted, StandsBelow, ShowsNumber}
 use Rattle.protocol_laws.proofs.machine.DecidedStays.{is_fixed, Spared, stays_decided}
 use Rattle.protocol_laws.proofs.first.SettlingKept as settling
 use Rattle.protocol_laws.proofs.machine.TracksKept.{beside, beside_same, in_range, arrives}
@@ -41,7 +41,7 @@ IsTold kept acts r n (OfBatch k) = is_kept (OfBatch k) kept ≡ true
 IsTold kept acts r n (OfAct t) = (holds (is_fixed n) (act_of t acts) ≡ true) × (holds (λ x. agree x.reader r) (act_of t acts) ≡ true)
 
 abbrev pub ToldOf : List Who → List Act → Done → Type 0
-ToldOf kept acts d = IsTold kept acts d.reader (number_of d) d.who
+ToldOf kept acts d = IsTold kept acts d.reader (first_number_of d) d.who
 
 pub kind_stays : (xs ys : List Act) (t : ℕ) (r : Bool) → Grows xs ys → holds (λ x. agree x.reader r) (act_of t xs) ≡ true → holds (λ x. agree x.reader r) (act_of t ys) ≡ true
 kind_stays xs ys t r g h = grown_holds (λ x. agree x.reader r) xs ys t (λ x y k q. subst (λ v. agree v r ≡ true) (sym k.reader) q) g h
@@ -100,16 +100,16 @@ kept_last k (x ∷ xs) = or_right (is_who x (OfBatch k)) _ (kept_last k xs)
 told_stays : {C : Type 0} (w : Fixed C) (e : Event) (s : Machine C) (h : History) (more : List Who) → Owed e s h → (d : Done) → ToldOf h.kept s.book.acts d → ToldOf (h.kept ++ more) (after w e s).book.acts d
 told_stays w e s h more o d k = by d.who k
   where
-    by : (y : Who) → IsTold h.kept s.book.acts d.reader (number_of d) y → IsTold (h.kept ++ more) (after w e s).book.acts d.reader (number_of d) y
+    by : (y : Who) → IsTold h.kept s.book.acts d.reader (first_number_of d) y → IsTold (h.kept ++ more) (after w e s).book.acts d.reader (first_number_of d) y
     by (OfBatch j) k = kept_join (OfBatch j) h.kept more k
-    by (OfAct t) k = (fixed_stays w e s h (number_of d) t o k.0, kind_stays s.book.acts (after w e s).book.acts t d.reader (acts_grow w e s) k.1)
+    by (OfAct t) k = (fixed_stays w e s h (first_number_of d) t o k.0, kind_stays s.book.acts (after w e s).book.acts t d.reader (acts_grow w e s) k.1)
 
 told_same : {C : Type 0} (w : Fixed C) (e : Event) (s : Machine C) (h : History) → Owed e s h → (d : Done) → ToldOf h.kept s.book.acts d → ToldOf h.kept (after w e s).book.acts d
 told_same w e s h o d k = by d.who k
   where
-    by : (y : Who) → IsTold h.kept s.book.acts d.reader (number_of d) y → IsTold h.kept (after w e s).book.acts d.reader (number_of d) y
+    by : (y : Who) → IsTold h.kept s.book.acts d.reader (first_number_of d) y → IsTold h.kept (after w e s).book.acts d.reader (first_number_of d) y
     by (OfBatch j) k = k
-    by (OfAct t) k = (fixed_stays w e s h (number_of d) t o k.0, kind_stays s.book.acts (after w e s).book.acts t d.reader (acts_grow w e s) k.1)
+    by (OfAct t) k = (fixed_stays w e s h (first_number_of d) t o k.0, kind_stays s.book.acts (after w e s).book.acts t d.reader (acts_grow w e s) k.1)
 
 told_pacts : (k : ℕ) (h : History) (kept : List Who) (acts : List Act) (ps : List Pact) → is_kept (OfBatch k) kept ≡ true → AllByRecursion (ToldOf kept acts) (map (done_pact k h) ps)
 told_pacts k h kept acts [] e = tt
@@ -159,22 +159,22 @@ told_kept w e s h ok o g = weaker _ _ h.committed (told_same w e s h o) g
 -- ---- where it shows
 
 abbrev pub ShowsOn : {C : Type 0} → List Cascade → List Done → ℕ → Cell C → List Ran → Type 0
-ShowsOn cs ds a c long = AllByRecursion (λ d. Shows cs (own_floor d.reader c.floors) (number_of d) d.who long) (visitors a ds)
+ShowsOn cs ds a c long = AllByRecursion (λ d. ShowsNumber cs (own_floor d.reader c.floors) (first_number_of d) d.who long) (visitors a ds)
 
 unfoldable pub Showing : {C : Type 0} → Machine C → History → Type 0
 Showing s h = (a : ℕ) → ShowsOn s.book.cascades h.committed a (cell_at s a) (h.long a)
 
 -- what is known of each: it is told, and open batches are above it
 abbrev pub IsLow : ℕ → List Batch → Done → Type 0
-IsLow next bs d = (number_of d < next) × OpenAbove (number_of d) bs
+IsLow next bs d = (first_number_of d < next) × OpenAbove (first_number_of d) bs
 
 abbrev pub FactsOf : List Who → List Act → ℕ → List Batch → Done → Type 0
 FactsOf kept acts next bs d = ToldOf kept acts d × IsLow next bs d
 
 show_change : (P : Done → Type 0) (a : ℕ) (ds : List Done) (cs cs' : List Cascade) (f f' : FloorPair) (long long' : List Ran) → AllByRecursion P ds
-    → ((d : Done) → P d → Shows cs (own_floor d.reader f) (number_of d) d.who long → Shows cs' (own_floor d.reader f') (number_of d) d.who long')
-    → AllByRecursion (λ d. Shows cs (own_floor d.reader f) (number_of d) d.who long) (visitors a ds) → AllByRecursion (λ d. Shows cs' (own_floor d.reader f') (number_of d) d.who long') (visitors a ds)
-show_change P a ds cs cs' f f' long long' p k h = both_all P (λ d. Shows cs (own_floor d.reader f) (number_of d) d.who long) (λ d. Shows cs' (own_floor d.reader f') (number_of d) d.who long') (visitors a ds) k (all_filter P (visits a) ds p) h
+    → ((d : Done) → P d → ShowsNumber cs (own_floor d.reader f) (first_number_of d) d.who long → ShowsNumber cs' (own_floor d.reader f') (first_number_of d) d.who long')
+    → AllByRecursion (λ d. ShowsNumber cs (own_floor d.reader f) (first_number_of d) d.who long) (visitors a ds) → AllByRecursion (λ d. ShowsNumber cs' (own_floor d.reader f') (first_number_of d) d.who long') (visitors a ds)
+show_change P a ds cs cs' f f' long long' p k h = both_all P (λ d. ShowsNumber cs (own_floor d.reader f) (first_number_of d) d.who long) (λ d. ShowsNumber cs' (own_floor d.reader f') (first_number_of d) d.who long') (visitors a ds) k (all_filter P (visits a) ds p) h
 
 -- ---- one, at each change
 
@@ -184,33 +184,33 @@ join_batches k long xs h = subst (λ z. is_among k z ≡ true) (sym (PlaceLists.
 same_batches : (k : ℕ) (long long' : List Ran) → batches_in long' ≡ batches_in long → is_among k (batches_in long) ≡ true → is_among k (batches_in long') ≡ true
 same_batches k long long' e h = rw e h
 
-show_batch : (cs : List Cascade) (f n k : ℕ) (y : Who) (long : List Ran) → is_above_or_aborted cs n k ≡ true → Shows cs f n y long → Shows cs f n y (long ++ not_run (OfBatch k) ∷ [])
+show_batch : (cs : List Cascade) (f n k : ℕ) (y : Who) (long : List Ran) → is_above_or_aborted cs n k ≡ true → ShowsNumber cs f n y long → ShowsNumber cs f n y (long ++ not_run (OfBatch k) ∷ [])
 show_batch cs f n k (OfBatch j) long e h = (h.0, join_batches j long (not_run (OfBatch k) ∷ []) h.1)
 show_batch cs f n k (OfAct u) long e h = elim h [ inl l ↦ inl l | inr b ↦ inr (ShowLists.below_more cs n u long (not_run (OfBatch k) ∷ []) (e, tt) b) ]
 
-show_act : (cs : List Cascade) (f n t : ℕ) (o : Option ℕ) (y : Who) (long : List Ran) → Shows cs f n y long → Shows cs f n y (long ++ map not_run (asks t o))
+show_act : (cs : List Cascade) (f n t : ℕ) (o : Option ℕ) (y : Who) (long : List Ran) → ShowsNumber cs f n y long → ShowsNumber cs f n y (long ++ map not_run (asks t o))
 show_act cs f n t (Some x) y long h = rw (append-nil long) h
 show_act cs f n t None (OfBatch j) long h = (h.0, join_batches j long (not_run (OfAct t) ∷ []) h.1)
 show_act cs f n t None (OfAct u) long h = elim h [ inl l ↦ inl l | inr b ↦ inr (ShowLists.below_more cs n u long (not_run (OfAct t) ∷ []) tt b) ]
 
-show_ran : (cs : List Cascade) (f n : ℕ) (who : Who) (x : Rattle.protocol.specs.History.Slice) (y : Who) (long : List Ran) → Shows cs f n y long → Shows cs f n y (map (ran_in who x) long)
+show_ran : (cs : List Cascade) (f n : ℕ) (who : Who) (x : Rattle.protocol.specs.History.Slice) (y : Who) (long : List Ran) → ShowsNumber cs f n y long → ShowsNumber cs f n y (map (ran_in who x) long)
 show_ran cs f n who x (OfBatch j) long h = (h.0, same_batches j long (map (ran_in who x) long) (PlaceLists.batches_ran who x long) h.1)
 show_ran cs f n who x (OfAct u) long h = elim h [ inl l ↦ inl l | inr b ↦ inr (ShowLists.below_ran cs n u who x long b) ]
 
-show_completed : (cs : List Cascade) (f n k : ℕ) (y : Who) (long : List Ran) → Shows cs f n y long → Shows cs f n y (map (completed k) long)
+show_completed : (cs : List Cascade) (f n k : ℕ) (y : Who) (long : List Ran) → ShowsNumber cs f n y long → ShowsNumber cs f n y (map (completed k) long)
 show_completed cs f n k (OfBatch j) long h = (h.0, same_batches j long (map (completed k) long) (PlaceLists.batches_completed k long) h.1)
 show_completed cs f n k (OfAct u) long h = elim h [ inl l ↦ inl l | inr b ↦ inr (ShowLists.below_completed cs n u k long b) ]
 
-show_trimmed : (cs : List Cascade) (f n k : ℕ) (y : Who) (long : List Ran) → Shows cs f n y long → Shows cs f n y (map (left_for_good (OfBatch k)) long)
+show_trimmed : (cs : List Cascade) (f n k : ℕ) (y : Who) (long : List Ran) → ShowsNumber cs f n y long → ShowsNumber cs f n y (map (left_for_good (OfBatch k)) long)
 show_trimmed cs f n k (OfBatch j) long h = (h.0, same_batches j long (map (left_for_good (OfBatch k)) long) (PlaceLists.batches_left (OfBatch k) long) h.1)
 show_trimmed cs f n k (OfAct u) long h = elim h [ inl l ↦ inl l | inr b ↦ inr (ShowLists.below_left cs n u (OfBatch k) long refl b) ]
 
-show_cascade : (cs : List Cascade) (c : Cascade) (f n : ℕ) (y : Who) (long : List Ran) → Shows cs f n y long → Shows (cs ++ c ∷ []) f n y long
+show_cascade : (cs : List Cascade) (c : Cascade) (f n : ℕ) (y : Who) (long : List Ran) → ShowsNumber cs f n y long → ShowsNumber (cs ++ c ∷ []) f n y long
 show_cascade cs c f n (OfBatch j) long h = h
 show_cascade cs c f n (OfAct u) long h = elim h [ inl l ↦ inl l | inr b ↦ inr (ShowLists.below_cascade cs c n u long b) ]
 
 show_staying : (cs : List Cascade) (kept : List Who) (acts : List Act) (r : Bool) (f n : ℕ) (y : Who) (long : List Ran) → ((y : Who) → is_cut cs y ≡ true → is_kept y kept ≡ false) → KeptFront kept long → TakenAlong cs acts long → IsTold kept acts r n y
-    → Shows cs f n y long → Shows cs f n y (long_staying cs long)
+    → ShowsNumber cs f n y long → ShowsNumber cs f n y (long_staying cs long)
 show_staying cs kept acts r f n (OfBatch j) long c k x t h = (h.0, ShowLists.among_staying kept cs j long c k t h.1)
 show_staying cs kept acts r f n (OfAct u) long c k x t h = elim h [
   | inl l ↦ inl l
@@ -251,7 +251,7 @@ own_rises true f o = (floor_rises f o).1
 own_rises false f o = (floor_rises f o).0
 
 show_finish : (cs : List Cascade) (kept : List Who) (acts : List Act) (r : Bool) (f : FloorPair) (n t : ℕ) (q : Bool) (y : Who) (long : List Ran) → holds (λ x. is_doomed x.status || is_sealed x.status) (act_of t acts) ≡ true → IsTold kept acts r n y
-    → Shows cs (own_floor r f) n y long → Shows cs (own_floor r (cell.floors_after f (act_of t acts))) n y (if q then without_standing (OfAct t) long else map (left_for_good (OfAct t)) long)
+    → ShowsNumber cs (own_floor r f) n y long → ShowsNumber cs (own_floor r (cell.floors_after f (act_of t acts))) n y (if q then without_standing (OfAct t) long else map (left_for_good (OfAct t)) long)
 show_finish cs kept acts r f n t true (OfBatch j) long v k h = (h.0, same_batches j long (without_standing (OfAct t) long) (PlaceLists.batches_without_act t long) h.1)
 show_finish cs kept acts r f n t false (OfBatch j) long v k h = (h.0, same_batches j long (map (left_for_good (OfAct t)) long) (PlaceLists.batches_left (OfAct t) long) h.1)
 show_finish cs kept acts r f n t q (OfAct u) long v k h = elim (cases_Bool (u == t)) [
@@ -274,34 +274,34 @@ viewed who t (Stands y c ss ∷ rs) h = by (is_who y who) h (viewed who t rs)
     by false h r = r h
 viewed who t (Gone y ss ∷ rs) h = viewed who t rs h
 
-show_pacts : (cs : List Cascade) (k a : ℕ) (f : FloorPair) (h : History) (ps : List Pact) → AllByRecursion (λ d. Shows cs (own_floor d.reader f) (number_of d) d.who (h.long a)) (visitors a (map (done_pact k h) ps))
+show_pacts : (cs : List Cascade) (k a : ℕ) (f : FloorPair) (h : History) (ps : List Pact) → AllByRecursion (λ d. ShowsNumber cs (own_floor d.reader f) (first_number_of d) d.who (h.long a)) (visitors a (map (done_pact k h) ps))
 show_pacts cs k a f h [] = tt
 show_pacts cs k a f h (p ∷ ps) = by (visits a (done_pact k h p)) refl (show_pacts cs k a f h ps)
   where
-    by : (b : Bool) → visits a (done_pact k h p) ≡ b → AllByRecursion (λ d. Shows cs (own_floor d.reader f) (number_of d) d.who (h.long a)) (visitors a (map (done_pact k h) ps))
-        → AllByRecursion (λ d. Shows cs (own_floor d.reader f) (number_of d) d.who (h.long a)) (if b then done_pact k h p ∷ visitors a (map (done_pact k h) ps) else visitors a (map (done_pact k h) ps))
+    by : (b : Bool) → visits a (done_pact k h p) ≡ b → AllByRecursion (λ d. ShowsNumber cs (own_floor d.reader f) (first_number_of d) d.who (h.long a)) (visitors a (map (done_pact k h) ps))
+        → AllByRecursion (λ d. ShowsNumber cs (own_floor d.reader f) (first_number_of d) d.who (h.long a)) (if b then done_pact k h p ∷ visitors a (map (done_pact k h) ps) else visitors a (map (done_pact k h) ps))
     by true e r = ((refl, ShowLists.key_among k (h.long a) (viewed (OfBatch k) p.tid (h.long a) e)), r)
     by false e r = r
 
-show_done : (cs : List Cascade) (k a : ℕ) (f : FloorPair) (h : History) (o : Option Batch) → AllByRecursion (λ d. Shows cs (own_floor d.reader f) (number_of d) d.who (h.long a)) (visitors a (done_batch k h o))
+show_done : (cs : List Cascade) (k a : ℕ) (f : FloorPair) (h : History) (o : Option Batch) → AllByRecursion (λ d. ShowsNumber cs (own_floor d.reader f) (first_number_of d) d.who (h.long a)) (visitors a (done_batch k h o))
 show_done cs k a f h None = tt
 show_done cs k a f h (Some b) = show_pacts cs k a f h b.pacts
 
 show_decided : (cs : List Cascade) (c a : ℕ) (f : FloorPair) (h : History) (o : Option Act) → ((x : Act) → o ≡ Some x → is_some (act_view h x a) ≡ true → StandsBelow cs x.m x.tid (h.long a))
-    → AllByRecursion (λ d. Shows cs (own_floor d.reader f) (number_of d) d.who (h.long a)) (visitors a (done_act c h o))
+    → AllByRecursion (λ d. ShowsNumber cs (own_floor d.reader f) (first_number_of d) d.who (h.long a)) (visitors a (done_act c h o))
 show_decided cs c a f h None k = tt
 show_decided cs c a f h (Some x) k = by (is_some (act_view h x a)) refl
   where
     unit : Done
     unit = record { who = OfAct x.tid; tid = x.tid; tx = x.tx; place = act_place x.m c; result = x.result; reader = x.reader; views = Rattle.protocol.specs.History.act_view h x }
 
-    by : (b : Bool) → is_some (act_view h x a) ≡ b → AllByRecursion (λ d. Shows cs (own_floor d.reader f) (number_of d) d.who (h.long a)) (if b then unit ∷ [] else [])
+    by : (b : Bool) → is_some (act_view h x a) ≡ b → AllByRecursion (λ d. ShowsNumber cs (own_floor d.reader f) (first_number_of d) d.who (h.long a)) (if b then unit ∷ [] else [])
     by true e = (inr (k x refl e), tt)
     by false e = tt
 
-show_join : (cs : List Cascade) (a : ℕ) (f : FloorPair) (long : List Ran) (ds es : List Done) → AllByRecursion (λ d. Shows cs (own_floor d.reader f) (number_of d) d.who long) (visitors a ds) → AllByRecursion (λ d. Shows cs (own_floor d.reader f) (number_of d) d.who long) (visitors a es)
-    → AllByRecursion (λ d. Shows cs (own_floor d.reader f) (number_of d) d.who long) (visitors a (ds ++ es))
-show_join cs a f long ds es h k = subst (AllByRecursion (λ d. Shows cs (own_floor d.reader f) (number_of d) d.who long)) (sym (filter_join (visits a) ds es)) (all_join (λ d. Shows cs (own_floor d.reader f) (number_of d) d.who long) (visitors a ds) (visitors a es) h k)
+show_join : (cs : List Cascade) (a : ℕ) (f : FloorPair) (long : List Ran) (ds es : List Done) → AllByRecursion (λ d. ShowsNumber cs (own_floor d.reader f) (first_number_of d) d.who long) (visitors a ds) → AllByRecursion (λ d. ShowsNumber cs (own_floor d.reader f) (first_number_of d) d.who long) (visitors a es)
+    → AllByRecursion (λ d. ShowsNumber cs (own_floor d.reader f) (first_number_of d) d.who long) (visitors a (ds ++ es))
+show_join cs a f long ds es h k = subst (AllByRecursion (λ d. ShowsNumber cs (own_floor d.reader f) (first_number_of d) d.who long)) (sym (filter_join (visits a) ds es)) (all_join (λ d. ShowsNumber cs (own_floor d.reader f) (first_number_of d) d.who long) (visitors a ds) (visitors a es) h k)
 
 -- ---- open batches
 
@@ -365,26 +365,26 @@ shows_kept w (Arrive k a) s h ok o n b m p g =
     let P = FactsOf h.kept s.book.acts s.ring.next_bid s.desk.batches in
     beside (ShowsOn s.book.cascades h.committed) s.cells a _ _ h.long (arrives (epoch s.book) a (λ c. c.epoch == epoch s.book) s.cells (sub_of k a s.post.subs) ok.1.1.0)
     (show_change P a h.committed s.book.cascades s.book.cascades (cell_at s a).floors (cell_at s a).floors (h.long a) (h.long a ++ not_run (OfBatch k) ∷ []) p
-    (λ d q x. show_batch s.book.cascades (own_floor d.reader (cell_at s a).floors) (number_of d) k d.who (h.long a) (open_or w s h (number_of d) k (λ b. is_some (declared_of a b)) b.settles b.marked q.1.1 (arrives_declared k a s b.from_desk ok.0) n) x)) g
+    (λ d q x. show_batch s.book.cascades (own_floor d.reader (cell_at s a).floors) (first_number_of d) k d.who (h.long a) (open_or w s h (first_number_of d) k (λ b. is_some (declared_of a b)) b.settles b.marked q.1.1 (arrives_declared k a s b.from_desk ok.0) n) x)) g
 shows_kept w (Ask t a) s h ok o n b m p g =
     beside (ShowsOn s.book.cascades h.committed) s.cells a _ _ h.long (in_range _ s.cells a ok.1.1.0)
-    (weaker (λ d. Shows s.book.cascades (own_floor d.reader (cell_at s a).floors) (number_of d) d.who (h.long a)) _ (visitors a h.committed) (λ d x. show_act s.book.cascades (own_floor d.reader (cell_at s a).floors) (number_of d) t (book.in_the_way (lock_of t s.book.acts) (cell_at s a).entries) d.who (h.long a) x)) g
+    (weaker (λ d. ShowsNumber s.book.cascades (own_floor d.reader (cell_at s a).floors) (first_number_of d) d.who (h.long a)) _ (visitors a h.committed) (λ d x. show_act s.book.cascades (own_floor d.reader (cell_at s a).floors) (first_number_of d) t (book.in_the_way (lock_of t s.book.acts) (cell_at s a).entries) d.who (h.long a) x)) g
 shows_kept w (Take t a) s h ok o n b m p g = beside_same (ShowsOn s.book.cascades h.committed) s.cells a _ h.long (in_range _ s.cells a ok.1.0) (λ x. x) g
 shows_kept w (Run t a) s h ok o n b m p g =
     beside (ShowsOn s.book.cascades h.committed) s.cells a _ _ h.long (in_range _ s.cells a ok.0)
-    (weaker (λ d. Shows s.book.cascades (own_floor d.reader (cell_at s a).floors) (number_of d) d.who (h.long a)) _ (visitors a h.committed) (λ d x. TrackLists.on_reads (Shows s.book.cascades (own_floor d.reader (cell_at s a).floors) (number_of d) d.who) (cell.reads_on t (cell_at s a).entries) _ _ (h.long a) (show_ran s.book.cascades (own_floor d.reader (cell_at s a).floors) (number_of d) _ _ d.who (h.long a)) x)) g
+    (weaker (λ d. ShowsNumber s.book.cascades (own_floor d.reader (cell_at s a).floors) (first_number_of d) d.who (h.long a)) _ (visitors a h.committed) (λ d x. TrackLists.on_reads (ShowsNumber s.book.cascades (own_floor d.reader (cell_at s a).floors) (first_number_of d) d.who) (cell.reads_on t (cell_at s a).entries) _ _ (h.long a) (show_ran s.book.cascades (own_floor d.reader (cell_at s a).floors) (first_number_of d) _ _ d.who (h.long a)) x)) g
 shows_kept w (Send t a) s h ok o n b m p g = beside_same (ShowsOn s.book.cascades h.committed) s.cells a _ h.long (in_range _ s.cells a ok.0) (λ x. x) g
 shows_kept w (End t a) s h ok o n b m p g = beside_same (ShowsOn s.book.cascades h.committed) s.cells a _ h.long (in_range _ s.cells a ok.0) (λ x. x) g
 shows_kept w (Close t a) s h ok o n b m p g = beside_same (ShowsOn s.book.cascades h.committed) s.cells a _ h.long (in_range _ s.cells a ok.1.0) (λ x. x) g
 shows_kept w (Complete k a) s h ok o n b m p g =
     beside (ShowsOn s.book.cascades h.committed) s.cells a _ _ h.long (in_range _ s.cells a ok.0)
-    (weaker (λ d. Shows s.book.cascades (own_floor d.reader (cell_at s a).floors) (number_of d) d.who (h.long a)) _ (visitors a h.committed) (λ d x. show_completed s.book.cascades (own_floor d.reader (cell_at s a).floors) (number_of d) k d.who (h.long a) x)) g
+    (weaker (λ d. ShowsNumber s.book.cascades (own_floor d.reader (cell_at s a).floors) (first_number_of d) d.who (h.long a)) _ (visitors a h.committed) (λ d x. show_completed s.book.cascades (own_floor d.reader (cell_at s a).floors) (first_number_of d) k d.who (h.long a) x)) g
 shows_kept w (Commit k) s h ok o n b m p g = λ a. show_join s.book.cascades a (cell_at s a).floors (h.long a) h.committed (done_batch k h (batch_of k s.desk.batches)) (g a) (show_done s.book.cascades k a (cell_at s a).floors h (batch_of k s.desk.batches))
-shows_kept w (Abort k) s h ok o n b m p g = λ a. weaker (λ d. Shows s.book.cascades (own_floor d.reader (cell_at s a).floors) (number_of d) d.who (h.long a)) _ (visitors a h.committed) (λ d x. show_cascade s.book.cascades _ (own_floor d.reader (cell_at s a).floors) (number_of d) d.who (h.long a) x) (g a)
+shows_kept w (Abort k) s h ok o n b m p g = λ a. weaker (λ d. ShowsNumber s.book.cascades (own_floor d.reader (cell_at s a).floors) (first_number_of d) d.who (h.long a)) _ (visitors a h.committed) (λ d x. show_cascade s.book.cascades _ (own_floor d.reader (cell_at s a).floors) (first_number_of d) d.who (h.long a) x) (g a)
 shows_kept w (Rollback a) s h ok o n b m p g =
     beside (ShowsOn s.book.cascades h.committed) s.cells a _ _ h.long (in_range _ s.cells a ok.0)
     (show_change (FactsOf h.kept s.book.acts s.ring.next_bid s.desk.batches) a h.committed s.book.cascades s.book.cascades (cell_at s a).floors (cell_at s a).floors (h.long a) (long_staying s.book.cascades (h.long a)) p
-    (λ d q x. show_staying s.book.cascades h.kept s.book.acts d.reader (own_floor d.reader (cell_at s a).floors) (number_of d) d.who (h.long a) b.cuts ((b.committed a).front) (b.taken a) q.0 x)) g
+    (λ d q x. show_staying s.book.cascades h.kept s.book.acts d.reader (own_floor d.reader (cell_at s a).floors) (first_number_of d) d.who (h.long a) b.cuts ((b.committed a).front) (b.taken a) q.0 x)) g
 shows_kept w (Decide t) s h ok o n b m p g = λ a. show_join s.book.cascades a (cell_at s a).floors (h.long a) h.committed (done_act s.book.next_c h (act_of t s.book.acts)) (g a)
     (show_decided s.book.cascades s.book.next_c a (cell_at s a).floors h (act_of t s.book.acts)
     (λ x e q. let i : x ≡ o.0 = one (sym e ∙ o.1.is_it) in let j : x.tid ≡ t = ap (λ z. z.tid) i ∙ o.1.tid in
@@ -395,8 +395,8 @@ shows_kept w (Decide t) s h ok o n b m p g = λ a. show_join s.book.cascades a (
 shows_kept w (Finish t a) s h ok o n b m p g =
     beside (ShowsOn s.book.cascades h.committed) s.cells a _ _ h.long o
     (show_change (FactsOf h.kept s.book.acts s.ring.next_bid s.desk.batches) a h.committed s.book.cascades s.book.cascades (cell_at s a).floors (cell.floors_after (cell_at s a).floors (act_of t s.book.acts)) (h.long a) (if is_traceless (act_of t s.book.acts) then without_standing (OfAct t) (h.long a) else map (left_for_good (OfAct t)) (h.long a)) p
-    (λ d q x. show_finish s.book.cascades h.kept s.book.acts d.reader (cell_at s a).floors (number_of d) t (is_traceless (act_of t s.book.acts)) d.who (h.long a) ok.0 q.0 x)) g
+    (λ d q x. show_finish s.book.cascades h.kept s.book.acts d.reader (cell_at s a).floors (first_number_of d) t (is_traceless (act_of t s.book.acts)) d.who (h.long a) ok.0 q.0 x)) g
 shows_kept w (Trim k a) s h ok o n b m p g =
     beside (ShowsOn s.book.cascades h.committed) s.cells a _ _ h.long o
-    (weaker (λ d. Shows s.book.cascades (own_floor d.reader (cell_at s a).floors) (number_of d) d.who (h.long a)) _ (visitors a h.committed) (λ d x. show_trimmed s.book.cascades (own_floor d.reader (cell_at s a).floors) (number_of d) k d.who (h.long a) x)) g
+    (weaker (λ d. ShowsNumber s.book.cascades (own_floor d.reader (cell_at s a).floors) (first_number_of d) d.who (h.long a)) _ (visitors a h.committed) (λ d x. show_trimmed s.book.cascades (own_floor d.reader (cell_at s a).floors) (first_number_of d) k d.who (h.long a) x)) g
 shows_kept w e s h ok o n b m p g = g

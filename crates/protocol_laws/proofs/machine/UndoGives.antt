@@ -17,7 +17,7 @@ use Rattle.protocol.specs.Runs.{IsRun, reached}
 use Rattle.protocol.specs.OnCell as cell
 use Rattle.protocol.specs.History.{Slice, Ran, Stands, Gone, History, history, grown, long_staying, without_standing, left_for_good, slices_of, with_at, is_reader_act}
 use Rattle.protocol_laws.specs.Tracks.{key_of, keys_in, Differ, slices_in, Linked, InOrder, Tracks}
-use Rattle.protocol_laws.specs.Undo.{long_going, first_found, last_left, IsUndone, UndoGives}
+use Rattle.protocol_laws.specs.Undo.{long_going, first_found, end_state, IsUndone, UndoGives}
 use Rattle.protocol_laws.proofs.machine.TrackLists
 use Rattle.protocol_laws.proofs.machine.TrackLists.{without_nothing, linked_parts}
 use Rattle.protocol_laws.proofs.machine.TracksKept.{Tracked}
@@ -26,7 +26,7 @@ use Rattle.protocol_laws.proofs.machine.AllGood.{AllGood, all_good, kept, none_a
 
 -- ---- slices that link
 
-pub ends_at : (first last : State) (xs : List Slice) → Linked first xs last → last ≡ last_left first xs
+pub ends_at : (first last : State) (xs : List Slice) → Linked first xs last → last ≡ end_state first xs
 ends_at first last [] h = sym h
 ends_at first last (x ∷ xs) h = ends_at x.left last xs h.1
 

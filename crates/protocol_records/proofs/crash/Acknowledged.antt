@@ -17,7 +17,7 @@ use Rattle.protocol.specs.Words.{holds, is_value, is_formed, is_settled}
 use Rattle.protocol.specs.Verdicts.{verdict, pact_place, act_place}
 use Rattle.protocol.specs.Runs.{IsRun, reached}
 use Rattle.protocol.specs.History.{Done, History, history}
-use Rattle.protocol_laws.specs.Told.{AmongDone, is_at, ActTold, BatchTold}
+use Rattle.protocol_laws.specs.Told.{AmongDone, has_number, ActTold, BatchTold}
 use Rattle.protocol_laws.specs.Told.{IsAmongDone}
 use Rattle.protocol.specs.Moments.{Moment, IsCut, IsLeft, left_in}
 use Rattle.protocol_records.specs.Crash.{is_in, members}
@@ -65,7 +65,7 @@ batch_member w s h left n b c d t f = weaker _ _ b.pacts
     (t (ap is_formed f))
 
 act_member : {C : Type 0} (w : Fixed C) (s : Machine C) (h : History) (left : ℕ → ℕ) (n : ℕ) (x : Act) → IsCut s left → (is_sealed_act x ≡ true → has_record w s (OfAct x.tid) ≡ true) → ActTold h.committed x.tid x → ActSays n (Acked n (members w.text.logs (left_in s left) h)) x
-act_member w s h left n x c d t q k f r o v j = member (is_in w.text.logs (left_in s left)) h (OfAct x.tid) x.tid x.tx n (act_place x.m k) x.result r (t k (ap (is_at k) f ∙ eq-eqb k k refl)) (is_left w s left (OfAct x.tid) c (d (rw (f, o, j) refl))) q o v j
+act_member w s h left n x c d t q k f r o v j = member (is_in w.text.logs (left_in s left)) h (OfAct x.tid) x.tid x.tx n (act_place x.m k) x.result r (t k (ap (has_number k) f ∙ eq-eqb k k refl)) (is_left w s left (OfAct x.tid) c (d (rw (f, o, j) refl))) q o v j
 
 -- Where a verdict says that it committed with a value, it is a member.
 acknowledged_at : {C : Type 0} (w : Fixed C) (Of : Tx → C → Type 0) (finish : C → List State → Alone) (s : Machine C) (h : History) (left : ℕ → ℕ) → IsCut s left → AllGood w Of finish s h → Durable w s h

@@ -14,7 +14,7 @@ use Rattle.protocol.specs.Effects.{after, cell_at, no_cell, act_commit}
 use Rattle.protocol.specs.OnBook as book
 use Rattle.protocol.specs.OnCell as cell
 use Rattle.protocol.specs.History.{History, Ran, Stands, Gone, grown, with_at, not_run, completed, left_for_good, without_standing, long_staying, asks, is_traceless, ran_on}
-use Rattle.protocol_records.specs.Logged.{is_ran_of, is_on, has_place, ActStands, ActsStand, OnJoined, Prepared}
+use Rattle.protocol_records.specs.Logged.{is_ran_of, is_on, has_joined, ActStands, ActsStand, OnJoined, Prepared}
 use Rattle.protocol_laws.specs.Told.{EachAct}
 use Rattle.protocol_laws.specs.Tracks.{keys_in, is_key_among, NoneGone, CutIsEnd}
 use Rattle.protocol_laws.proofs.machine.PlaceLists
@@ -46,10 +46,10 @@ any_actor a b f (p ∷ ps) i = rw (any_actor a b f ps i, by (p.actor == b)) refl
     by true = i p
     by false = refl
 
-holds_place : (t a : ℕ) → HoldsAnyway (λ u x. u ≡ t → has_place a x ≡ true)
+holds_place : (t a : ℕ) → HoldsAnyway (λ u x. u ≡ t → has_joined a x ≡ true)
 holds_place t a = record { numbered = λ u x n p. p; doomed = λ u x v l p. p; rises = λ u k x l p. p }
 
-ready_place : {C : Type 0} (w : Fixed C) (e : Event) (s : Machine C) (t a : ℕ) → is_some (act_of t s.book.acts) ≡ true → acts.ReadyAll w e s (λ u x. u ≡ t → has_place a x ≡ true)
+ready_place : {C : Type 0} (w : Fixed C) (e : Event) (s : Machine C) (t a : ℕ) → is_some (act_of t s.book.acts) ≡ true → acts.ReadyAll w e s (λ u x. u ≡ t → has_joined a x ≡ true)
 unfolding acts.ReadyAll
 ready_place w (Admit u) s t a q = λ e f. absurd (true≢false (sym q ∙ ap is_some (ap (λ z. act_of z s.book.acts) (sym f) ∙ e)))
 ready_place w (Ask u b) s t a q = λ o x e p f. any_front (λ p. p.actor == a) x.places _ (p f)
@@ -75,8 +75,8 @@ fact_stays w e s t q k r h =
     let y = one_is (λ x. true) (act_of t (after w e s).book.acts) (there_is (act_of t (after w e s).book.acts) (in_book w e s t (some_held q (act_of t s.book.acts) h))) in
     holds_from q (act_of t (after w e s).book.acts) y.0 y.1 (each t y.0 y.1 refl)
 
-pub place_stays : {C : Type 0} (w : Fixed C) (e : Event) (s : Machine C) (t a : ℕ) → holds (has_place a) (act_of t s.book.acts) ≡ true → holds (has_place a) (act_of t (after w e s).book.acts) ≡ true
-place_stays w e s t a h = fact_stays w e s t (has_place a) (holds_place t a) (ready_place w e s t a (some_held (has_place a) (act_of t s.book.acts) h)) h
+pub place_stays : {C : Type 0} (w : Fixed C) (e : Event) (s : Machine C) (t a : ℕ) → holds (has_joined a) (act_of t s.book.acts) ≡ true → holds (has_joined a) (act_of t (after w e s).book.acts) ≡ true
+place_stays w e s t a h = fact_stays w e s t (has_joined a) (holds_place t a) (ready_place w e s t a (some_held (has_joined a) (act_of t s.book.acts) h)) h
 
 -- ---- who is on an actor joined it
 
@@ -87,32 +87,32 @@ was_at y b a new long k = by (a == b) refl
     by true f h = subst (λ z. is_on y (long z) ≡ true) (sym (eqb-true a b f)) (k h)
     by false f h = h
 
-asked_place : {C : Type 0} (w : Fixed C) (t a : ℕ) (s : Machine C) → is_some (act_of t s.book.acts) ≡ true → book.in_the_way (lock_of t s.book.acts) (cell_at s a).entries ≡ None → holds (has_place a) (act_of t (after w (Ask t a) s).book.acts) ≡ true
+asked_place : {C : Type 0} (w : Fixed C) (t a : ℕ) (s : Machine C) → is_some (act_of t s.book.acts) ≡ true → book.in_the_way (lock_of t s.book.acts) (cell_at s a).entries ≡ None → holds (has_joined a) (act_of t (after w (Ask t a) s).book.acts) ≡ true
 unfolding after
 asked_place w t a s q n =
-    let each : EachAct (λ u x. u ≡ t → has_place a x ≡ true) (book.asked_acts (book.in_the_way (lock_of t s.book.acts) (cell_at s a).entries) (book.met (lock_of t s.book.acts) (cell_at s a).entries) t a (max (cell_at s a).last (floor_at t s.book.acts (cell_at s a))) s.book) = subst (λ o. EachAct (λ u x. u ≡ t → has_place a x ≡ true) (book.asked_acts o (book.met (lock_of t s.book.acts) (cell_at s a).entries) t a (max (cell_at s a).last (floor_at t s.book.acts (cell_at s a))) s.book)) (sym n) start in
+    let each : EachAct (λ u x. u ≡ t → has_joined a x ≡ true) (book.asked_acts (book.in_the_way (lock_of t s.book.acts) (cell_at s a).entries) (book.met (lock_of t s.book.acts) (cell_at s a).entries) t a (max (cell_at s a).last (floor_at t s.book.acts (cell_at s a))) s.book) = subst (λ o. EachAct (λ u x. u ≡ t → has_joined a x ≡ true) (book.asked_acts o (book.met (lock_of t s.book.acts) (cell_at s a).entries) t a (max (cell_at s a).last (floor_at t s.book.acts (cell_at s a))) s.book)) (sym n) start in
     let y = one_is (λ x. true) (act_of t (after w (Ask t a) s).book.acts) (there_is (act_of t (after w (Ask t a) s).book.acts) (in_book w (Ask t a) s t q)) in
-    holds_from (has_place a) (act_of t (after w (Ask t a) s).book.acts) y.0 y.1 (each t y.0 y.1 refl)
+    holds_from (has_joined a) (act_of t (after w (Ask t a) s).book.acts) y.0 y.1 (each t y.0 y.1 refl)
   where
     -- it has the place, or is another one
-    start : EachAct (λ u x. u ≡ t → has_place a x ≡ true) (book.asked_acts None (book.met (lock_of t s.book.acts) (cell_at s a).entries) t a (max (cell_at s a).last (floor_at t s.book.acts (cell_at s a))) s.book)
-    start = acts.none_in_way (λ u x. u ≡ t → has_place a x ≡ true) t a (cell_at s a) s.book (holds_place t a) (acts.each_changed (λ u x. Unit {0}) (λ u x. u ≡ t → has_place a x ≡ true) t (book.joins a (max (cell_at s a).last (floor_at t s.book.acts (cell_at s a)))) s.book.acts (λ x. refl) (λ u x d e p i. absurd (d i)) (λ x e p i. any_back (λ p. p.actor == a) x.places _ (or_left (a == a) false (eq-eqb a a refl))) (λ u x e. tt))
+    start : EachAct (λ u x. u ≡ t → has_joined a x ≡ true) (book.asked_acts None (book.met (lock_of t s.book.acts) (cell_at s a).entries) t a (max (cell_at s a).last (floor_at t s.book.acts (cell_at s a))) s.book)
+    start = acts.none_in_way (λ u x. u ≡ t → has_joined a x ≡ true) t a (cell_at s a) s.book (holds_place t a) (acts.each_changed (λ u x. Unit {0}) (λ u x. u ≡ t → has_joined a x ≡ true) t (book.joins a (max (cell_at s a).last (floor_at t s.book.acts (cell_at s a)))) s.book.acts (λ x. refl) (λ u x d e p i. absurd (d i)) (λ x e p i. any_back (λ p. p.actor == a) x.places _ (or_left (a == a) false (eq-eqb a a refl))) (λ u x e. tt))
 
 pub on_joined : {C : Type 0} (w : Fixed C) (e : Event) (s : Machine C) (h : History) → IsAllowed w e s → OnJoined s h → OnJoined (after w e s) (grown w e s h)
 unfolding OnJoined conditions grown
 on_joined w (Arrive k b) s h ok g = λ t a o. place_stays w (Arrive k b) s t a (g t a (was_at (OfAct t) b a _ h.long (λ q. sym (on_more (OfAct t) (OfBatch k) (h.long b) refl) ∙ q) o))
 on_joined w (Ask u b) s h ok g = λ t a o. by (book.in_the_way (lock_of u s.book.acts) (cell_at s b).entries) refl t a o
   where
-    old : (t a : ℕ) → is_on (OfAct t) (h.long a) ≡ true → holds (has_place a) (act_of t (after w (Ask u b) s).book.acts) ≡ true
+    old : (t a : ℕ) → is_on (OfAct t) (h.long a) ≡ true → holds (has_joined a) (act_of t (after w (Ask u b) s).book.acts) ≡ true
     old t a o = place_stays w (Ask u b) s t a (g t a o)
 
-    by : (o : Option ℕ) → book.in_the_way (lock_of u s.book.acts) (cell_at s b).entries ≡ o → (t a : ℕ) → is_on (OfAct t) (with_at b (h.long b ++ map not_run (asks u o)) h.long a) ≡ true → holds (has_place a) (act_of t (after w (Ask u b) s).book.acts) ≡ true
+    by : (o : Option ℕ) → book.in_the_way (lock_of u s.book.acts) (cell_at s b).entries ≡ o → (t a : ℕ) → is_on (OfAct t) (with_at b (h.long b ++ map not_run (asks u o)) h.long a) ≡ true → holds (has_joined a) (act_of t (after w (Ask u b) s).book.acts) ≡ true
     by (Some older) e t a o = old t a (was_at (OfAct t) b a _ h.long (λ q. sym (ap (is_on (OfAct t)) (append-nil (h.long b))) ∙ q) o)
     by None e t a o = elim (cases_Bool (a == b)) [
       | inr f ↦ old t a (subst (λ v. is_on (OfAct t) (if v then h.long b ++ not_run (OfAct u) ∷ [] else h.long a) ≡ true) f o)
       | inl f ↦ elim (cases_Bool (u == t)) [
         | inl i ↦ let j : a ≡ b = eqb-true a b f in let l : u ≡ t = eqb-true u t i in
-            subst (λ z. holds (has_place z) (act_of t (after w (Ask u b) s).book.acts) ≡ true) (sym j) (subst (λ z. holds (has_place b) (act_of z (after w (Ask u b) s).book.acts) ≡ true) l (asked_place w u b s (some_held (λ x. not (is_doomed x.status)) (act_of u s.book.acts) ok.1.0) e))
+            subst (λ z. holds (has_joined z) (act_of t (after w (Ask u b) s).book.acts) ≡ true) (sym j) (subst (λ z. holds (has_joined b) (act_of z (after w (Ask u b) s).book.acts) ≡ true) l (asked_place w u b s (some_held (λ x. not (is_doomed x.status)) (act_of u s.book.acts) ok.1.0) e))
         | inr i ↦ old t a (was_at (OfAct t) b a _ h.long (λ q. sym (on_more (OfAct t) (OfAct u) (h.long b) i) ∙ q) o)
       ]
     ]
@@ -133,27 +133,27 @@ on_joined w e s h ok g = λ t a o. place_stays w e s t a (g t a o)
 
 -- ---- who has a record
 
-holds_value : (t a : ℕ) → HoldsAnyway (λ u x. u ≡ t → (is_value x.result && has_place a x) ≡ true)
+holds_value : (t a : ℕ) → HoldsAnyway (λ u x. u ≡ t → (is_value x.result && has_joined a x) ≡ true)
 holds_value t a = record { numbered = λ u x n p. p; doomed = λ u x v l p. p; rises = λ u k x l p. p }
 
 pub both : (x y : Bool) → x ≡ true → y ≡ true → (x && y) ≡ true
 both true y e f = f
 both false y e f = absurd (true≢false (sym e))
 
-ready_value : {C : Type 0} (w : Fixed C) (e : Event) (s : Machine C) (t a : ℕ) → IsAllowed w e s → AllControls (NoneActed s) s → holds (λ x. is_value x.result && has_place a x) (act_of t s.book.acts) ≡ true → acts.ReadyAll w e s (λ u x. u ≡ t → (is_value x.result && has_place a x) ≡ true)
+ready_value : {C : Type 0} (w : Fixed C) (e : Event) (s : Machine C) (t a : ℕ) → IsAllowed w e s → AllControls (NoneActed s) s → holds (λ x. is_value x.result && has_joined a x) (act_of t s.book.acts) ≡ true → acts.ReadyAll w e s (λ u x. u ≡ t → (is_value x.result && has_joined a x) ≡ true)
 unfolding acts.ReadyAll conditions
-ready_value w (Admit u) s t a ok n q = λ e f. absurd (true≢false (sym (some_held (λ x. is_value x.result && has_place a x) (act_of t s.book.acts) q) ∙ ap is_some (ap (λ z. act_of z s.book.acts) (sym f) ∙ e)))
-ready_value w (Ask u b) s t a ok n q = λ o x e p f. let v = and_parts (is_value x.result) (has_place a x) (p f) in both (is_value x.result) _ v.0 (any_front (λ p. p.actor == a) x.places _ v.1)
-ready_value w (End u b) s t a ok n q = λ x r e p f. absurd (true≢false (sym (value_some x.result (and_parts (is_value x.result) (has_place a x) (p f)).0) ∙ ap is_some (results.outcome_none (λ x. is_ended x.next) u b s (held (λ c. holds (λ x. is_ended x.next) (outcome_of u c.outbox)) s.cells b no_cell ok.0) n u x e refl)))
+ready_value w (Admit u) s t a ok n q = λ e f. absurd (true≢false (sym (some_held (λ x. is_value x.result && has_joined a x) (act_of t s.book.acts) q) ∙ ap is_some (ap (λ z. act_of z s.book.acts) (sym f) ∙ e)))
+ready_value w (Ask u b) s t a ok n q = λ o x e p f. let v = and_parts (is_value x.result) (has_joined a x) (p f) in both (is_value x.result) _ v.0 (any_front (λ p. p.actor == a) x.places _ v.1)
+ready_value w (End u b) s t a ok n q = λ x r e p f. absurd (true≢false (sym (value_some x.result (and_parts (is_value x.result) (has_joined a x) (p f)).0) ∙ ap is_some (results.outcome_none (λ x. is_ended x.next) u b s (held (λ c. holds (λ x. is_ended x.next) (outcome_of u c.outbox)) s.cells b no_cell ok.0) n u x e refl)))
 ready_value w (Decide u) s t a ok n q = λ x e p f. p f
-ready_value w (Prepare u b) s t a ok n q = λ x e p f. let v = and_parts (is_value x.result) (has_place a x) (p f) in both (is_value x.result) _ v.0 (any_actor a b book.is_prepared x.places (λ p. refl) ∙ v.1)
-ready_value w (Vouch u b) s t a ok n q = λ x e p f. let v = and_parts (is_value x.result) (has_place a x) (p f) in both (is_value x.result) _ v.0 (any_actor a b book.is_vouched x.places (λ p. refl) ∙ v.1)
+ready_value w (Prepare u b) s t a ok n q = λ x e p f. let v = and_parts (is_value x.result) (has_joined a x) (p f) in both (is_value x.result) _ v.0 (any_actor a b book.is_prepared x.places (λ p. refl) ∙ v.1)
+ready_value w (Vouch u b) s t a ok n q = λ x e p f. let v = and_parts (is_value x.result) (has_joined a x) (p f) in both (is_value x.result) _ v.0 (any_actor a b book.is_vouched x.places (λ p. refl) ∙ v.1)
 ready_value w (Seal u) s t a ok n q = λ x e p f. p f
-ready_value w (Finish u b) s t a ok n q = λ x e p f. let v = and_parts (is_value x.result) (has_place a x) (p f) in both (is_value x.result) _ v.0 (any_actor a b book.has_left x.places (λ p. refl) ∙ v.1)
+ready_value w (Finish u b) s t a ok n q = λ x e p f. let v = and_parts (is_value x.result) (has_joined a x) (p f) in both (is_value x.result) _ v.0 (any_actor a b book.has_left x.places (λ p. refl) ∙ v.1)
 ready_value w e s t a ok n q = tt
 
-value_stays : {C : Type 0} (w : Fixed C) (e : Event) (s : Machine C) (t a : ℕ) → IsAllowed w e s → AllControls (NoneActed s) s → holds (λ x. is_value x.result && has_place a x) (act_of t s.book.acts) ≡ true → holds (λ x. is_value x.result && has_place a x) (act_of t (after w e s).book.acts) ≡ true
-value_stays w e s t a ok n h = fact_stays w e s t (λ x. is_value x.result && has_place a x) (holds_value t a) (ready_value w e s t a ok n h) h
+value_stays : {C : Type 0} (w : Fixed C) (e : Event) (s : Machine C) (t a : ℕ) → IsAllowed w e s → AllControls (NoneActed s) s → holds (λ x. is_value x.result && has_joined a x) (act_of t s.book.acts) ≡ true → holds (λ x. is_value x.result && has_joined a x) (act_of t (after w e s).book.acts) ≡ true
+value_stays w e s t a ok n h = fact_stays w e s t (λ x. is_value x.result && has_joined a x) (holds_value t a) (ready_value w e s t a ok n h) h
 
 found_place : (a : ℕ) (ps : List Joined) (q : Joined → Bool) → holds q (find (λ p. p.actor == a) ps) ≡ true → list_any (λ p. p.actor == a) ps ≡ true
 found_place a [] q h = absurd (true≢false (sym h))
@@ -181,16 +181,16 @@ prepared_kept w (Sync l) s ok n g = λ t a q. value_stays w (Sync l) s t a ok n 
 prepared_kept w (Prepare u b) s ok n g = λ t a q. value_stays w (Prepare u b) s t a ok n (elim (logged_added (is_prepare t a) _ s.logs (b % w.text.logs) (a % w.text.logs) q) [
   | inl v ↦ g t a v
   | inr v ↦ elim (or_cases ((u == t) && (b == a)) false v) [
-    | inl i ↦ let j = and_parts (u == t) (b == a) i in subst (λ z. holds (λ x. is_value x.result && has_place z x) (act_of t s.book.acts) ≡ true) (eqb-true b a j.1) (subst (λ z. holds (λ x. is_value x.result && has_place b x) (act_of z s.book.acts) ≡ true) (eqb-true u t j.0) own)
+    | inl i ↦ let j = and_parts (u == t) (b == a) i in subst (λ z. holds (λ x. is_value x.result && has_joined z x) (act_of t s.book.acts) ≡ true) (eqb-true b a j.1) (subst (λ z. holds (λ x. is_value x.result && has_joined b x) (act_of z s.book.acts) ≡ true) (eqb-true u t j.0) own)
     | inr i ↦ absurd (true≢false (sym i))
   ]
 ])
   where
-    own : holds (λ x. is_value x.result && has_place b x) (act_of u s.book.acts) ≡ true
+    own : holds (λ x. is_value x.result && has_joined b x) (act_of u s.book.acts) ≡ true
     own =
         let x = one_is (λ x. is_value x.result && not (is_doomed x.status)) (act_of u s.book.acts) ok.0 in
-        holds_from (λ x. is_value x.result && has_place b x) (act_of u s.book.acts) x.0 x.1
-        (both (is_value x.0.result) (has_place b x.0) (and_parts (is_value x.0.result) (not (is_doomed x.0.status)) x.2).0
+        holds_from (λ x. is_value x.result && has_joined b x) (act_of u s.book.acts) x.0 x.1
+        (both (is_value x.0.result) (has_joined b x.0) (and_parts (is_value x.0.result) (not (is_doomed x.0.status)) x.2).0
         (found_place b x.0.places (λ p. not p.prepared) (some_of (λ x. holds (λ p. not p.prepared) (joined_of b x)) (act_of u s.book.acts) x.0 x.1 ok.1.0)))
 prepared_kept w e s ok n g = λ t a q. value_stays w e s t a ok n (g t a q)
 

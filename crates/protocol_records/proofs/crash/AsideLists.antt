@@ -10,7 +10,7 @@ use Rattle.protocol.specs.History.{Done, Slice, Ran, Stands, Gone}
 use Rattle.protocol_laws.specs.Tracks.{keys_in, is_key_among, has_read}
 use Rattle.protocol_laws.specs.Commits.{is_kept, KeptFront, KeptOrReads, reads_who}
 use Rattle.protocol_records.specs.Logged.{is_on, KeptSure}
-use Rattle.protocol_records.specs.Telling.{One, FrontIn, names, end_of, Tells, AllTells, last_one, is_open, NoneLater}
+use Rattle.protocol_records.specs.Telling.{One, FrontIn, names, end_state, TellsState, AllTells, last_one, is_uncommitted_writer, NoneLater}
 use Rattle.protocol_laws.proofs.machine.TrackLists
 use Rattle.protocol_theorems.proofs.sets.RowsAgree.{filter_same}
 use Rattle.protocol_records.proofs.crash.ActPlaces.{both}
@@ -21,7 +21,7 @@ use Rattle.protocol_laws.proofs.first.Lists.{all_join, any_front, both_all, weak
 
 -- ---- who is open
 
-pub open_less : (rd rd' : Who → Bool) (kept kept' : List Who) (long long' : List Ran) (y : Who) → (is_on y long' ≡ true → is_on y long ≡ true) → (is_kept y kept ≡ true → is_kept y kept' ≡ true) → (rd y ≡ true → rd' y ≡ true) → is_open rd' kept' long' y ≡ true → is_open rd kept long y ≡ true
+pub open_less : (rd rd' : Who → Bool) (kept kept' : List Who) (long long' : List Ran) (y : Who) → (is_on y long' ≡ true → is_on y long ≡ true) → (is_kept y kept ≡ true → is_kept y kept' ≡ true) → (rd y ≡ true → rd' y ≡ true) → is_uncommitted_writer rd' kept' long' y ≡ true → is_uncommitted_writer rd kept long y ≡ true
 open_less rd rd' kept kept' long long' y o k r h =
     let p = and_parts (is_on y long') (not (is_kept y kept') && not (rd' y)) h in
     let q = and_parts (not (is_kept y kept')) (not (rd' y)) p.1 in
@@ -58,11 +58,11 @@ pub reader_commits : (f : Who → Bool) (t : Who) (readers : List Who) (os : Lis
 reader_commits f t readers os k h = elim (cases_Bool (names t os)) [ inl e ↦ none_open f (readers ++ t ∷ []) os (k e) | inr e ↦ none_named f t readers os e h ]
 
 -- Where a reader stands, and all ahead of it committed or read, none that has a record there is open.
-pub none_is_open : (acts : List Act) (kept : List Who) (t y : Who) (s : State) (st : State) (later : List One) (rs : List Ran) → is_who t y ≡ false → KeptFront kept rs → Unmarked t rs → KeptOrReads kept acts t rs → is_key_among t (keys_in rs) ≡ true → Tells s y st later rs → is_on y rs ≡ true → is_kept y kept ≡ false → reads_who acts y ≡ false → ⊥
+pub none_is_open : (acts : List Act) (kept : List Who) (t y : Who) (s : State) (st : State) (later : List One) (rs : List Ran) → is_who t y ≡ false → KeptFront kept rs → Unmarked t rs → KeptOrReads kept acts t rs → is_key_among t (keys_in rs) ≡ true → TellsState s y st later rs → is_on y rs ≡ true → is_kept y kept ≡ false → reads_who acts y ≡ false → ⊥
 none_is_open acts kept t y s st later [] n f u k i h o ky ry = true≢false (sym o)
 none_is_open acts kept t y s st later (Gone z ss ∷ rs) n f u k i h o ky ry =
     let e : is_who z y ≡ false = false_from_ne_true (is_who z y) (λ q. true≢false (sym (subst (λ v. is_kept v kept ≡ true) (TrackLists.is_who_true z y q) f.0) ∙ ky)) in
-    none_is_open acts kept t y (end_of s ss) st later rs n f.1 u k i (h.2 e) (elim (or_cases (is_who z y) (is_on y rs) o) [ inl q ↦ absurd (true≢false (sym q ∙ e)) | inr q ↦ q ]) ky ry
+    none_is_open acts kept t y (end_state s ss) st later rs n f.1 u k i (h.2 e) (elim (or_cases (is_who z y) (is_on y rs) o) [ inl q ↦ absurd (true≢false (sym q ∙ e)) | inr q ↦ q ]) ky ry
 none_is_open acts kept t y s st later (Stands z c ss ∷ rs) n f u k i h o ky ry = elim (cases_Bool (is_who z y)) [
   | inl q ↦
       let j : z ≡ y = TrackLists.is_who_true z y q in
@@ -78,7 +78,7 @@ none_is_open acts kept t y s st later (Stands z c ss ∷ rs) n f u k i h o ky ry
       let oy : is_on y rs ≡ true = elim (or_cases (is_who z y) (is_on y rs) o) [ inl v ↦ absurd (true≢false (sym v ∙ q)) | inr v ↦ v ] in
       elim (or_cases (is_who z t) (is_key_among t (keys_in rs)) i) [
         | inl v ↦ true≢false (sym (h.2 q oy).0 ∙ u.0 v)
-        | inr v ↦ none_is_open acts kept t y (end_of s ss) st later rs n f.1 u.1 k.1 v (h.3 q) oy ky ry
+        | inr v ↦ none_is_open acts kept t y (end_state s ss) st later rs n f.1 u.1 k.1 v (h.3 q) oy ky ry
       ]
 ]
 

@@ -13,7 +13,7 @@ use Rattle.protocol.specs.Conditions.{IsAllowed, conditions, queue}
 use Rattle.protocol.specs.Effects.{after, cell_at, act_commit}
 use Rattle.protocol.specs.OnRing as ring
 use Rattle.protocol.specs.OnDesk as desk
-use Rattle.protocol_records.specs.Logged.{durable_at, BatchSure, EachBatch, BatchesSure, actors_of, InfoIs, Infos}
+use Rattle.protocol_records.specs.Logged.{durable_at, BatchSure, EachBatch, BatchesSure, actors_of_batch, InfoIs, Infos}
 use Rattle.protocol_laws.proofs.machine.MarksKept as marks
 use Rattle.protocol_laws.proofs.first.EpochsKept as epochs
 use Rattle.protocol_records.proofs.crash.Durable.{durable_stays, durable_is, all_added}
@@ -127,11 +127,11 @@ sure_kept w e s ok g = batches_keep w e s (BatchSure w.text.logs (after w e s).l
 
 -- ---- records of batches have their actors
 
-same_actors : (f : Batch → Batch) (bs : List Batch) → ((b : Batch) → (f b).bid ≡ b.bid) → ((b : Batch) → map (λ p. p.actor) (f b).places ≡ map (λ p. p.actor) b.places) → (k : ℕ) → actors_of (batch_of k (map f bs)) ≡ actors_of (batch_of k bs)
+same_actors : (f : Batch → Batch) (bs : List Batch) → ((b : Batch) → (f b).bid ≡ b.bid) → ((b : Batch) → map (λ p. p.actor) (f b).places ≡ map (λ p. p.actor) b.places) → (k : ℕ) → actors_of_batch (batch_of k (map f bs)) ≡ actors_of_batch (batch_of k bs)
 same_actors f [] i j k = refl
-same_actors f (x ∷ bs) i j k = subst (λ z. actors_of (if z == k then Some (f x) else batch_of k (map f bs)) ≡ actors_of (if x.bid == k then Some x else batch_of k bs)) (sym (i x)) (by (x.bid == k) (same_actors f bs i j k))
+same_actors f (x ∷ bs) i j k = subst (λ z. actors_of_batch (if z == k then Some (f x) else batch_of k (map f bs)) ≡ actors_of_batch (if x.bid == k then Some x else batch_of k bs)) (sym (i x)) (by (x.bid == k) (same_actors f bs i j k))
   where
-    by : (q : Bool) → actors_of (batch_of k (map f bs)) ≡ actors_of (batch_of k bs) → actors_of (if q then Some (f x) else batch_of k (map f bs)) ≡ actors_of (if q then Some x else batch_of k bs)
+    by : (q : Bool) → actors_of_batch (batch_of k (map f bs)) ≡ actors_of_batch (batch_of k bs) → actors_of_batch (if q then Some (f x) else batch_of k (map f bs)) ≡ actors_of_batch (if q then Some x else batch_of k bs)
     by true h = ap Some (j x)
     by false h = h
 
@@ -142,27 +142,27 @@ if_actors : (v : Bool) (f : Batch → Batch) (b : Batch) → map (λ p. p.actor)
 if_actors true f b h = h
 if_actors false f b h = refl
 
-changed_actors : (k j : ℕ) (f : Batch → Batch) (bs : List Batch) → ((b : Batch) → (f b).bid ≡ b.bid) → ((b : Batch) → map (λ p. p.actor) (f b).places ≡ map (λ p. p.actor) b.places) → actors_of (batch_of j (desk.changed_batch k f bs)) ≡ actors_of (batch_of j bs)
+changed_actors : (k j : ℕ) (f : Batch → Batch) (bs : List Batch) → ((b : Batch) → (f b).bid ≡ b.bid) → ((b : Batch) → map (λ p. p.actor) (f b).places ≡ map (λ p. p.actor) b.places) → actors_of_batch (batch_of j (desk.changed_batch k f bs)) ≡ actors_of_batch (batch_of j bs)
 changed_actors k j f bs i e = same_actors (λ b. desk.change_if (b.bid == k) f b) bs (λ b. if_bid (b.bid == k) f b (i b)) (λ b. if_actors (b.bid == k) f b (e b)) j
 
-more_actors : (k : ℕ) (n : Batch) (bs : List Batch) (xs : List ℕ) → actors_of (batch_of k bs) ≡ Some xs → actors_of (batch_of k (bs ++ n ∷ [])) ≡ Some xs
+more_actors : (k : ℕ) (n : Batch) (bs : List Batch) (xs : List ℕ) → actors_of_batch (batch_of k bs) ≡ Some xs → actors_of_batch (batch_of k (bs ++ n ∷ [])) ≡ Some xs
 more_actors k n [] xs h = absurd (cc h)
 more_actors k n (x ∷ bs) xs h = by (x.bid == k) h (more_actors k n bs xs)
   where
-    by : (q : Bool) → actors_of (if q then Some x else batch_of k bs) ≡ Some xs → (actors_of (batch_of k bs) ≡ Some xs → actors_of (batch_of k (bs ++ n ∷ [])) ≡ Some xs) → actors_of (if q then Some x else batch_of k (bs ++ n ∷ [])) ≡ Some xs
+    by : (q : Bool) → actors_of_batch (if q then Some x else batch_of k bs) ≡ Some xs → (actors_of_batch (batch_of k bs) ≡ Some xs → actors_of_batch (batch_of k (bs ++ n ∷ [])) ≡ Some xs) → actors_of_batch (if q then Some x else batch_of k (bs ++ n ∷ [])) ≡ Some xs
     by true h r = h
     by false h r = r h
 
-pub actors_stay : {C : Type 0} (w : Fixed C) (e : Event) (s : Machine C) (j : ℕ) (xs : List ℕ) → actors_of (batch_of j s.desk.batches) ≡ Some xs → actors_of (batch_of j (after w e s).desk.batches) ≡ Some xs
+pub actors_stay : {C : Type 0} (w : Fixed C) (e : Event) (s : Machine C) (j : ℕ) (xs : List ℕ) → actors_of_batch (batch_of j s.desk.batches) ≡ Some xs → actors_of_batch (batch_of j (after w e s).desk.batches) ≡ Some xs
 unfolding after
 actors_stay w (Form k) s j xs h = more_actors j _ s.desk.batches xs h
 actors_stay {C} w (End t a) s j xs h = by (has_act t (cell_at s a).entries) (outcome_of t (cell_at s a).outbox)
   where
-    next : (x : Next C) → actors_of (batch_of j (desk.noted_for t x s.desk.batches)) ≡ Some xs
+    next : (x : Next C) → actors_of_batch (batch_of j (desk.noted_for t x s.desk.batches)) ≡ Some xs
     next (Go b x) = h
     next (Ended v) = same_actors (desk.with_results t v) s.desk.batches (λ b. refl) (λ b. refl) j ∙ h
 
-    by : (v : Bool) (o : Option (Outcome C)) → actors_of (batch_of j (if v then s.desk.batches else desk.noted_from t o s.desk.batches)) ≡ Some xs
+    by : (v : Bool) (o : Option (Outcome C)) → actors_of_batch (batch_of j (if v then s.desk.batches else desk.noted_from t o s.desk.batches)) ≡ Some xs
     by true o = h
     by false None = h
     by false (Some x) = next x.next
@@ -209,8 +209,8 @@ infos_kept w (Form k) s ok ag g = λ l. all_added _ _ s.logs (k % w.text.logs) l
     new : Batch
     new = desk.new_batch k (ring.next_actors w.text s.ring) (ring.next_pacts w.text s.ring)
 
-    own : actors_of (batch_of k (s.desk.batches ++ desk.new_batch k (ring.next_actors w.text s.ring) (ring.next_pacts w.text s.ring) ∷ [])) ≡ Some (ring.next_actors w.text s.ring)
-    own = ap actors_of (none_there k new s.desk.batches refl (subst (λ z. AllByRecursion (λ j. j < z) (map (λ b. b.bid) s.desk.batches)) (sym (eqb-true k s.ring.next_bid ok.0)) (epochs.bids_below s ag))) ∙ ap Some (new_actors (ring.next_actors w.text s.ring))
+    own : actors_of_batch (batch_of k (s.desk.batches ++ desk.new_batch k (ring.next_actors w.text s.ring) (ring.next_pacts w.text s.ring) ∷ [])) ≡ Some (ring.next_actors w.text s.ring)
+    own = ap actors_of_batch (none_there k new s.desk.batches refl (subst (λ z. AllByRecursion (λ j. j < z) (map (λ b. b.bid) s.desk.batches)) (sym (eqb-true k s.ring.next_bid ok.0)) (epochs.bids_below s ag))) ∙ ap Some (new_actors (ring.next_actors w.text s.ring))
 infos_kept w (Complete k a) s ok ag g = λ l. all_added _ _ s.logs (a % w.text.logs) l (tt, tt) (infos_stay w (Complete k a) s _ (g l))
 infos_kept w (Commit k) s ok ag g = λ l. all_added _ _ s.logs (k % w.text.logs) l (tt, tt) (infos_stay w (Commit k) s _ (g l))
 infos_kept w (Prepare t a) s ok ag g = λ l. all_added _ _ s.logs (a % w.text.logs) l (tt, tt) (infos_stay w (Prepare t a) s _ (g l))

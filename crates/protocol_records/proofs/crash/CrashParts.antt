@@ -21,8 +21,8 @@ use Rattle.protocol_theorems.specs.Order.{LeavesIt}
 use Rattle.protocol.specs.Chains.{serial_run}
 use Rattle.protocol.specs.Moments.{IsCut, left_in}
 use Rattle.protocol_records.specs.Logged.{durable_at, logged_at, is_sure, is_written, Written, BatchesSure, Infos, InfoIs, ActsSure, ActCommits, AllGoneSure, AllKeptSure, AllThere, AllHaveRead, AllDoneSure, ActsStand, OnJoined, Prepared, is_on}
-use Rattle.protocol_records.specs.Telling.{One, told, AllTells, Telling, last_one, writes, Recovers, ToldRead, ToldReads, is_open, NoneLater, AllNoneLater, AllAside}
-use Rattle.protocol_records.specs.Crash.{is_in, counts, last_told, recovered_state, members, NoneMissed}
+use Rattle.protocol_records.specs.Telling.{One, told_states, AllTells, Telling, last_one, writes, Recovers, ToldRead, ToldReads, is_uncommitted_writer, NoneLater, AllNoneLater, AllAside}
+use Rattle.protocol_records.specs.Crash.{is_in, tells_member_state, last_told, recovered_state, members, NoneMissed}
 use Rattle.protocol_laws.proofs.machine.Good.{Given}
 use Rattle.protocol_laws.proofs.machine.AllGood.{AllGood, all_good, along_good}
 use Rattle.protocol_laws.proofs.machine.CommitsKept.{Committed}
@@ -101,7 +101,7 @@ logs_opened w = record {
   stand = λ t x e. absurd (cc e);
   joined = λ t a e. absurd (true≢false (sym e));
   prepared = λ t a e. absurd (none_logged (is_prepare t a) w.text.logs (a % w.text.logs) e);
-  telling = λ a. subst (λ rs. AllTells (Rattle.protocol_laws.specs.Commits.reads_who []) (slice_index_or w.text.opening.states a no_state) (told a rs) []) (sym (no_records w.text.logs (a % w.text.logs))) tt;
+  telling = λ a. subst (λ rs. AllTells (Rattle.protocol_laws.specs.Commits.reads_who []) (slice_index_or w.text.opening.states a no_state) (told_states a rs) []) (sym (no_records w.text.logs (a % w.text.logs))) tt;
 }
   where
     none : (y : Who) → is_written w.text.logs (replicate w.text.logs no_log) y ≡ true → is_kept y [] ≡ true
@@ -135,21 +135,21 @@ in_kept w s h kept (OfAct t) g e = g (OfAct t) (any_take (is_act_commit t) (kept
 
 -- ---- what is recovered of an actor
 
-counted : (many a : ℕ) (logs : ℕ → List LogRecord) (first : State) (rs : List LogRecord) → last_told first (filter (counts many logs a) rs) ≡ last_one first (filter (λ o. is_in many logs o.who) (told a rs))
+counted : (many a : ℕ) (logs : ℕ → List LogRecord) (first : State) (rs : List LogRecord) → last_told first (filter (tells_member_state many logs a) rs) ≡ last_one first (filter (λ o. is_in many logs o.who) (told_states a rs))
 counted many a logs first [] = refl
 counted many a logs first (BatchInfo k actors tids ∷ rs) = counted many a logs first rs
 counted many a logs first (BatchComplete k b st ∷ rs) = by (b == a) (is_in many logs (OfBatch k)) refl (λ s. counted many a logs s rs)
   where
-    by : (v u : Bool) → is_in many logs (OfBatch k) ≡ u → ((s : State) → last_told s (filter (counts many logs a) rs) ≡ last_one s (filter (λ o. is_in many logs o.who) (told a rs)))
-        → last_told first (if v && u then BatchComplete k b st ∷ filter (counts many logs a) rs else filter (counts many logs a) rs) ≡ last_one first (filter (λ o. is_in many logs o.who) (if v then record { who = OfBatch k; state = st } ∷ told a rs else told a rs))
+    by : (v u : Bool) → is_in many logs (OfBatch k) ≡ u → ((s : State) → last_told s (filter (tells_member_state many logs a) rs) ≡ last_one s (filter (λ o. is_in many logs o.who) (told_states a rs)))
+        → last_told first (if v && u then BatchComplete k b st ∷ filter (tells_member_state many logs a) rs else filter (tells_member_state many logs a) rs) ≡ last_one first (filter (λ o. is_in many logs o.who) (if v then record { who = OfBatch k; state = st } ∷ told_states a rs else told_states a rs))
     by true true e r = rw e (r st)
     by true false e r = rw e (r first)
     by false u e r = r first
 counted many a logs first (BatchDone k vs ∷ rs) = counted many a logs first rs
 counted many a logs first (ActPrepare t b st ∷ rs) = by (b == a) (is_in many logs (OfAct t)) refl (λ s. counted many a logs s rs)
   where
-    by : (v u : Bool) → is_in many logs (OfAct t) ≡ u → ((s : State) → last_told s (filter (counts many logs a) rs) ≡ last_one s (filter (λ o. is_in many logs o.who) (told a rs)))
-        → last_told first (if v && u then ActPrepare t b st ∷ filter (counts many logs a) rs else filter (counts many logs a) rs) ≡ last_one first (filter (λ o. is_in many logs o.who) (if v then record { who = OfAct t; state = st } ∷ told a rs else told a rs))
+    by : (v u : Bool) → is_in many logs (OfAct t) ≡ u → ((s : State) → last_told s (filter (tells_member_state many logs a) rs) ≡ last_one s (filter (λ o. is_in many logs o.who) (told_states a rs)))
+        → last_told first (if v && u then ActPrepare t b st ∷ filter (tells_member_state many logs a) rs else filter (tells_member_state many logs a) rs) ≡ last_one first (filter (λ o. is_in many logs o.who) (if v then record { who = OfAct t; state = st } ∷ told_states a rs else told_states a rs))
     by true true e r = rw e (r st)
     by true false e r = rw e (r first)
     by false u e r = r first
@@ -166,7 +166,7 @@ filter_weaker p q (o ∷ os) k = rw (k o, filter_weaker p q os k) refl
 
 -- What is still assumed of a cut: no record of a state of a member lies behind it.
 unfoldable pub NoneBehind : {C : Type 0} → Fixed C → Machine C → (ℕ → ℕ) → ℕ → Type 0
-NoneBehind w s kept a = filter (λ o. is_in w.text.logs (left_in s kept) o.who) (told a (drop (kept (a % w.text.logs)) (log_at s (a % w.text.logs)).records)) ≡ []
+NoneBehind w s kept a = filter (λ o. is_in w.text.logs (left_in s kept) o.who) (told_states a (drop (kept (a % w.text.logs)) (log_at s (a % w.text.logs)).records)) ≡ []
 
 -- ---- what is sure of what committed
 
@@ -238,9 +238,9 @@ recovering_opened : {C : Type 0} (w : Fixed C) (Of : Tx → C → Type 0) (finis
 unfolding Recovers ToldReads AllNoneLater AllAside
 recovering_opened w Of finish v = record {
   followed = followed_opened w Of finish v;
-  recovers = λ a P f. ap (last_one (slice_index_or w.text.opening.states a no_state)) (none_counted (λ o. P o.who && false) (told a (slice_index_or (replicate w.text.logs no_log) (a % w.text.logs) no_log).records) (λ o. in_nobody (P o.who)));
-  reads = λ a. subst (λ rs. AllByRecursion (ToldRead []) (told a rs)) (sym (no_records w.text.logs (a % w.text.logs))) tt;
-  none_later = λ a. subst (λ rs. NoneLater (is_open (Rattle.protocol_laws.specs.Commits.reads_who []) [] []) [] (told a rs)) (sym (no_records w.text.logs (a % w.text.logs))) tt;
+  recovers = λ a P f. ap (last_one (slice_index_or w.text.opening.states a no_state)) (none_counted (λ o. P o.who && false) (told_states a (slice_index_or (replicate w.text.logs no_log) (a % w.text.logs) no_log).records) (λ o. in_nobody (P o.who)));
+  reads = λ a. subst (λ rs. AllByRecursion (ToldRead []) (told_states a rs)) (sym (no_records w.text.logs (a % w.text.logs))) tt;
+  none_later = λ a. subst (λ rs. NoneLater (is_uncommitted_writer (Rattle.protocol_laws.specs.Commits.reads_who []) [] []) [] (told_states a rs)) (sym (no_records w.text.logs (a % w.text.logs))) tt;
   aside = λ a P up. refl;
 }
 
@@ -279,9 +279,9 @@ recovered_is : {C : Type 0} (w : Fixed C) (Of : Tx → C → Type 0) (finish : C
 unfolding NoneBehind AllKeptSure Recovers AllAside Committed
 recovered_is w Of finish s h kept a c g l n =
     counted w.text.logs a (left_in s kept) first (left_in s kept (a % w.text.logs))
-    ∙ (ap (last_one first) (sym (append-nil (filter inside (told a (left_in s kept (a % w.text.logs))))) ∙ (ap (λ z. filter inside (told a (left_in s kept (a % w.text.logs))) ++ z) (sym n) ∙ (sym (filter_join inside (told a (left_in s kept (a % w.text.logs))) (told a (drop (kept (a % w.text.logs)) (log_at s (a % w.text.logs)).records)))
-    ∙ ap (filter inside) (sym (told_join a (left_in s kept (a % w.text.logs)) (drop (kept (a % w.text.logs)) (log_at s (a % w.text.logs)).records)) ∙ ap (told a) (sym (take_drop (kept (a % w.text.logs)) (log_at s (a % w.text.logs)).records))))))
-    ∙ (ap (last_one first) (filter_weaker inside (λ o. is_in w.text.logs (left_in s kept) o.who && (is_kept o.who h.kept || is_kept o.who h.kept_readers)) (told a (log_at s (a % w.text.logs)).records) (λ o. same o.who))
+    ∙ (ap (last_one first) (sym (append-nil (filter inside (told_states a (left_in s kept (a % w.text.logs))))) ∙ (ap (λ z. filter inside (told_states a (left_in s kept (a % w.text.logs))) ++ z) (sym n) ∙ (sym (filter_join inside (told_states a (left_in s kept (a % w.text.logs))) (told_states a (drop (kept (a % w.text.logs)) (log_at s (a % w.text.logs)).records)))
+    ∙ ap (filter inside) (sym (told_join a (left_in s kept (a % w.text.logs)) (drop (kept (a % w.text.logs)) (log_at s (a % w.text.logs)).records)) ∙ ap (told_states a) (sym (take_drop (kept (a % w.text.logs)) (log_at s (a % w.text.logs)).records))))))
+    ∙ (ap (last_one first) (filter_weaker inside (λ o. is_in w.text.logs (left_in s kept) o.who && (is_kept o.who h.kept || is_kept o.who h.kept_readers)) (told_states a (log_at s (a % w.text.logs)).records) (λ o. same o.who))
     ∙ (l.aside a (is_in w.text.logs (left_in s kept)) (λ y i. sure_in w s kept y c i)
     ∙ (l.recovers a (is_in w.text.logs (left_in s kept)) (front_of (is_sure w.text.logs s.logs) (is_in w.text.logs (left_in s kept)) (λ y. is_on y (h.long a)) h.kept (λ y i. sure_in w s kept y c i) (l.followed.logs.sure a))
     ∙ with_readers a first (is_in w.text.logs (left_in s kept)) h.committed (none_missed_at w s h kept a c l.followed.done) (l.followed.whole.ordered.stills a) (g.good.committed a).links))))

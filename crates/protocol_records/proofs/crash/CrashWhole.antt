@@ -15,7 +15,7 @@ use Rattle.protocol.specs.History.{History}
 use Rattle.protocol_laws.specs.Marks.{Known, Marked}
 use Rattle.protocol.specs.Moments.{IsCut, left_in}
 use Rattle.protocol_records.proofs.crash.KeptAll.{batch_kept, act_kept}
-use Rattle.protocol_records.specs.Logged.{durable_at, BatchesSure, Infos, InfoIs, actors_of, ActsSure, ActCommits, CommitIs}
+use Rattle.protocol_records.specs.Logged.{durable_at, BatchesSure, Infos, InfoIs, actors_of_batch, ActsSure, ActCommits, CommitIs}
 use Rattle.protocol_records.specs.Crash.{is_in, BatchIsWhole, ActIsWhole}
 use Rattle.protocol_laws.proofs.machine.TurnsKept.{one_is}
 use Rattle.protocol_laws.proofs.machine.AllGood.{AllGood}
@@ -82,7 +82,7 @@ whole_batch w Of finish s h kept k c g l e =
     let p = l.batches k b.0 b.1 in
     let i = info_at k (left_in s kept (k % w.text.logs)) (durable_in s kept (is_info k) (k % w.text.logs) c (p.info formed)) in
     let t = all_mid (InfoIs s.desk.batches) (BatchInfo k i.actors i.tids) i.front i.rest (subst (AllByRecursion (InfoIs s.desk.batches)) i.splits (all_take (InfoIs s.desk.batches) (kept (k % w.text.logs)) (log_at s (k % w.text.logs)).records (l.infos (k % w.text.logs)))) in
-    let same : map (λ p. p.actor) b.0.places ≡ i.actors = some_is (map (λ p. p.actor) b.0.places) i.actors (sym (ap actors_of b.1) ∙ t) in
+    let same : map (λ p. p.actor) b.0.places ≡ i.actors = some_is (map (λ p. p.actor) b.0.places) i.actors (sym (ap actors_of_batch b.1) ∙ t) in
     record { actors = i.actors; tids = i.tids; front = i.front; rest = i.rest; info = i.splits; completes = subst (AllByRecursion (λ a. list_any (is_complete k a) (left_in s kept (a % w.text.logs)) ≡ true)) same (noted_in w s kept k b.0.places c (m.all_noted formed) p.noted) }
 
 pub vouched_in : {C : Type 0} (w : Fixed C) (s : Machine C) (kept : ℕ → ℕ) (t : ℕ) (ps : List Joined) → IsCut s kept → list_all (λ p. p.vouched) ps ≡ true → AllByRecursion (λ p. p.vouched ≡ true → durable_at (is_prepare t p.actor) s.logs (p.actor % w.text.logs) ≡ true) ps → AllByRecursion (λ a. list_any (is_prepare t a) (left_in s kept (a % w.text.logs)) ≡ true) (map (λ p. p.actor) ps)

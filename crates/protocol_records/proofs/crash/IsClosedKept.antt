@@ -13,7 +13,7 @@ use Rattle.protocol.specs.Words.{holds, is_value, is_live_status}
 use Rattle.protocol.specs.Conditions.{IsAllowed, conditions}
 use Rattle.protocol.specs.Runs.{opening, IsRun, reached}
 use Rattle.protocol.specs.History.{Done, History, no_history, history}
-use Rattle.protocol.specs.Chains.{chain, Precedes, IsClosed}
+use Rattle.protocol.specs.Chains.{chain, Precedes, IsClosedSet}
 use Rattle.protocol_laws.specs.Linked.{came_to, visitors}
 use Rattle.protocol.specs.Moments.{Moment, IsLeft, left_in}
 use Rattle.protocol_records.specs.Crash.{HasMember, is_in, members, NoneMissed, CrashStands, AtEveryMoment}
@@ -179,7 +179,7 @@ both w Of finish es v run = along_good w Of finish (Both w Of finish) v
 -- With each of them all that the whole run places before it, and that committed with a value.
 pub parts_closed : {C : Type 0} (w : Fixed C) (finish : C → List State → Alone) (es events later : List Event) (test : Who → Bool) → es ≡ events ++ later → HasFacts w finish → IsText w.text → IsRun w es → 1 ≤ length w.text.opening.states
     → ((a : ℕ) → NoneMissed a (λ d. test d.who && is_value d.result) (history w events).committed)
-    → IsClosed (λ t. HasMember t (filter (λ d. test d.who && is_value d.result) (history w events).committed)) (history w es)
+    → IsClosedSet (λ t. HasMember t (filter (λ d. test d.who && is_value d.result) (history w events).committed)) (history w es)
 parts_closed {C} w finish es events later test splits f text run some missed t u mine before value =
     has_member t ms (subst (λ n. list_any (λ d. d.tid == n) ms ≡ true) p.is_first (each_behind (WithIt mem ms) (chain a h) p.front p.between p.rest p.first p.second p.splits behind p.rivals p.rivals there first_value))
   where
@@ -238,7 +238,7 @@ parts_closed {C} w finish es events later test splits f text run some missed t u
 
 -- With each member all that the whole run places before it, and that committed with a value.
 pub members_closed : {C : Type 0} (w : Fixed C) (finish : C → List State → Alone) (es : List Event) (m : Moment w es) (left : ℕ → ℕ) → HasFacts w finish → IsText w.text → IsRun w es → IsLeft w es m left
-    → 1 ≤ length w.text.opening.states → IsClosed (λ t. HasMember t (members w.text.logs (left_in (reached w m.events) left) (history w m.events))) (history w es)
+    → 1 ≤ length w.text.opening.states → IsClosedSet (λ t. HasMember t (members w.text.logs (left_in (reached w m.events) left) (history w m.events))) (history w es)
 members_closed w finish es m left f text run l some =
     let early = front_runs w m.events m.later (subst (λ xs. IsRun w xs) m.splits run) in
     parts_closed w finish es m.events m.later (is_in w.text.logs (left_in (reached w m.events) left)) m.splits f text run some
@@ -262,7 +262,7 @@ crash_stands {C} w finish es m left f text run l = record {
   serial = (members_recover w finish es m left f text run l).serial;
 }
   where
-    closed : (es : List Event) (m : Moment w es) → IsRun w es → IsLeft w es m left → (n : ℕ) → length w.text.opening.states ≡ n → IsClosed (λ t. HasMember t (members w.text.logs (left_in (reached w m.events) left) (history w m.events))) (history w es)
+    closed : (es : List Event) (m : Moment w es) → IsRun w es → IsLeft w es m left → (n : ℕ) → length w.text.opening.states ≡ n → IsClosedSet (λ t. HasMember t (members w.text.logs (left_in (reached w m.events) left) (history w m.events))) (history w es)
     closed es m run l (suc n) q = members_closed w finish es m left f text run l (omega (arith, q))
     closed [] m run l zero q = λ t u mine before value. let p = before.1 in absurd (no_chain p.front p.between p.rest p.first p.second p.splits)
     closed (x ∷ xs) m run l zero q = absurd (none_allowed w x text q run.0)

@@ -18,7 +18,7 @@ use Rattle.protocol.specs.History.{History, Ran, Stands, Gone, grown, kept_act, 
 use Rattle.protocol_laws.specs.Tracks.{Key, keys_in, is_key_among, InOrder, has_read}
 use Rattle.protocol_laws.specs.Commits.{is_kept, KeptFront}
 use Rattle.protocol_laws.specs.Befores.{Befores}
-use Rattle.protocol_laws.specs.Marks.{is_done, IsOver, Marked, Known}
+use Rattle.protocol_laws.specs.Marks.{is_done, IsAbortedOrDone, Marked, Known}
 use Rattle.protocol_laws.specs.FromDesk.{is_declared}
 use Rattle.protocol_records.specs.Logged.{is_sure, is_on, GoneSure, AllGoneSure, KeptSure, AllKeptSure, BatchesSure, ActsSure}
 use Rattle.protocol_laws.proofs.machine.TrackLists
@@ -232,8 +232,8 @@ commit_sure w Of finish k a s h sure ok g su on z kz oz =
     let good : AllByRecursion (GoodKey a s.desk.batches) (keys_in (h.long a)) = subst (AllByRecursion (GoodKey a s.desk.batches)) (g.good.tracked a).stands (good_keys a s.desk.batches (cell_at s a).entries (g.good.from_desk.entries a)) in
     let d : is_declared k a s.desk.batches ≡ true = declared_at a k s.desk.batches (keys_in (h.long a)) (on_key h.kept (OfBatch k) (h.long a) fresh front on) good in
     let p = one_is (λ x. true) (declared_of a c.batch) (there_is (declared_of a c.batch) (some_of (λ b. is_some (declared_of a b)) (batch_of k s.desk.batches) c.batch c.found d)) in
-    let over = all_found (λ p. p.noted ≡ true → IsOver k s.book.cascades (h.long p.actor)) (λ p. p.actor == a) c.batch.places p.0 (g.good.marked k c.batch c.found).noted p.1 in
-    elim (subst (λ v. IsOver k s.book.cascades (h.long v)) (eqb-true p.0.actor a over.1) (over.0 (list_all_at (λ p. p.actor == a) (λ p. p.noted) p.0 c.batch.places p.1 c.noted))) [
+    let over = all_found (λ p. p.noted ≡ true → IsAbortedOrDone k s.book.cascades (h.long p.actor)) (λ p. p.actor == a) c.batch.places p.0 (g.good.marked k c.batch c.found).noted p.1 in
+    elim (subst (λ v. IsAbortedOrDone k s.book.cascades (h.long v)) (eqb-true p.0.actor a over.1) (over.0 (list_all_at (λ p. p.actor == a) (λ p. p.noted) p.0 c.batch.places p.1 c.noted))) [
       | inl q ↦ absurd (true≢false (sym q ∙ c.sound))
       | inr q ↦ ahead_of_batch sure h.kept k a s.desk.batches (h.long a) z fresh (λ j e. su.settled j (kept_settled w k j s h ok g.good.settling g.good.known g.good.marked e)) (su.gone a) front q (subst KeyOrder (g.good.tracked a).stands (key_order (cell_at s a).entries (g.good.from_desk.in_order a))) good kz oz
     ]

@@ -16,8 +16,8 @@ use Rattle.protocol.specs.Conditions.{IsAllowed, conditions}
 use Rattle.protocol.specs.Effects.{after, cell_at, no_cell, log_at, act_commit}
 use Rattle.protocol.specs.OnBook as book
 use Rattle.protocol.specs.History.{History}
-use Rattle.protocol_records.specs.Logged.{logged_at, actors_of, ActsSure}
-use Rattle.protocol_records.specs.Telling.{One, told, names, Telling}
+use Rattle.protocol_records.specs.Logged.{logged_at, actors_of_batch, ActsSure}
+use Rattle.protocol_records.specs.Telling.{One, told_states, names, Telling}
 use Rattle.protocol_laws.proofs.machine.ActsFound as acts
 use Rattle.protocol_laws.proofs.machine.ActsFound.{HoldsAnyway}
 use Rattle.protocol_laws.proofs.machine.TracksKept.{held, Tracked}
@@ -80,16 +80,16 @@ ready_marked w e s t a q = tt
 marked_stays : {C : Type 0} (w : Fixed C) (e : Event) (s : Machine C) (t a : ℕ) → holds (is_prepared_at a) (act_of t s.book.acts) ≡ true → holds (is_prepared_at a) (act_of t (after w e s).book.acts) ≡ true
 marked_stays w e s t a h = fact_stays w e s t (is_prepared_at a) (holds_marked t a) (ready_marked w e s t a h) h
 
--- nobody is told twice
+-- nobody is told_states twice
 unfoldable pub AllOnce : {C : Type 0} → Fixed C → Machine C → Type 0
-AllOnce w s = (a : ℕ) → OnceTold (told a (log_at s (a % w.text.logs)).records)
+AllOnce w s = (a : ℕ) → OnceTold (told_states a (log_at s (a % w.text.logs)).records)
 
--- a batch that becomes complete was not told there
-pub batch_new : {C : Type 0} (w : Fixed C) (Of : Tx → C → Type 0) (finish : C → List State → Alone) (k a : ℕ) (s : Machine C) (h : History) → IsAllowed w (Complete k a) s → AllGood w Of finish s h → Telling w s h → names (OfBatch k) (told a (log_at s (a % w.text.logs)).records) ≡ false
+-- a batch that becomes complete was not told_states there
+pub batch_new : {C : Type 0} (w : Fixed C) (Of : Tx → C → Type 0) (finish : C → List State → Alone) (k a : ℕ) (s : Machine C) (h : History) → IsAllowed w (Complete k a) s → AllGood w Of finish s h → Telling w s h → names (OfBatch k) (told_states a (log_at s (a % w.text.logs)).records) ≡ false
 unfolding conditions Telling Tracked Committed
 batch_new w Of finish k a s h ok g te =
     let u = batch_unmarked k (cell_at s a).entries (held (λ c. holds (λ e. not (is_complete_batch e)) (find (is_batch_entry k) c.entries)) s.cells a no_cell ok.0) (differ_at w s h a g.good.tracked) in
-    told_marked (Rattle.protocol_laws.specs.Commits.reads_who s.book.acts) (slice_index_or w.text.opening.states a no_state) (OfBatch k) (told a (log_at s (a % w.text.logs)).records) h.kept (h.long a) refl refl (keys_at w s h a (OfBatch k) g.good.tracked u.0) (completes_fresh w Of finish k a s h ok g) (g.good.committed a).front
+    told_marked (Rattle.protocol_laws.specs.Commits.reads_who s.book.acts) (slice_index_or w.text.opening.states a no_state) (OfBatch k) (told_states a (log_at s (a % w.text.logs)).records) h.kept (h.long a) refl refl (keys_at w s h a (OfBatch k) g.good.tracked u.0) (completes_fresh w Of finish k a s h ok g) (g.good.committed a).front
     (key_on (OfBatch k) (h.long a) (subst (λ z. Rattle.protocol_laws.specs.Tracks.is_key_among (OfBatch k) z ≡ true) (g.good.tracked a).stands u.1)) (te a)
   where
     key_on : (y : Who) (rs : List Rattle.protocol.specs.History.Ran) → Rattle.protocol_laws.specs.Tracks.is_key_among y (Rattle.protocol_laws.specs.Tracks.keys_in rs) ≡ true → Rattle.protocol_records.specs.Logged.is_on y rs ≡ true
@@ -98,9 +98,9 @@ batch_new w Of finish k a s h ok g te =
     key_on y (Rattle.protocol.specs.History.Gone z ss ∷ rs) e = or_right (Rattle.protocol.specs.Words.is_who z y) _ (key_on y rs e)
 
 -- nor an ACT whose record is added
-pub act_new : {C : Type 0} (w : Fixed C) (t a : ℕ) (s : Machine C) → IsAllowed w (Prepare t a) s → MarkedPrepared w s → names (OfAct t) (told a (log_at s (a % w.text.logs)).records) ≡ false
+pub act_new : {C : Type 0} (w : Fixed C) (t a : ℕ) (s : Machine C) → IsAllowed w (Prepare t a) s → MarkedPrepared w s → names (OfAct t) (told_states a (log_at s (a % w.text.logs)).records) ≡ false
 unfolding conditions MarkedPrepared
-act_new w t a s ok m = all (told a (log_at s (a % w.text.logs)).records) (told_all (λ y. Rattle.protocol.specs.Words.is_who (OfAct t) y ≡ false) a (log_at s (a % w.text.logs)).records (λ k q. refl) (λ u q. false_from_ne_true (t == u) (λ i. none (subst (λ z. holds (is_prepared_at a) (act_of z s.book.acts) ≡ true) (sym (eqb-true t u i)) (m u a q)))))
+act_new w t a s ok m = all (told_states a (log_at s (a % w.text.logs)).records) (told_all (λ y. Rattle.protocol.specs.Words.is_who (OfAct t) y ≡ false) a (log_at s (a % w.text.logs)).records (λ k q. refl) (λ u q. false_from_ne_true (t == u) (λ i. none (subst (λ z. holds (is_prepared_at a) (act_of z s.book.acts) ≡ true) (sym (eqb-true t u i)) (m u a q)))))
   where
     all : (os : List One) → AllByRecursion (λ o. Rattle.protocol.specs.Words.is_who (OfAct t) o.who ≡ false) os → names (OfAct t) os ≡ false
     all [] h = refl
@@ -116,7 +116,7 @@ act_new w t a s ok m = all (told a (log_at s (a % w.text.logs)).records) (told_a
 
 -- a record of a batch is of one of its actors
 unfoldable pub Declares : {C : Type 0} → Fixed C → Machine C → Type 0
-Declares w s = (k a : ℕ) → logged_at (is_complete k a) s.logs (a % w.text.logs) ≡ true → (xs : List ℕ) × (actors_of (batch_of k s.desk.batches) ≡ Some xs) × (is_among a xs ≡ true)
+Declares w s = (k a : ℕ) → logged_at (is_complete k a) s.logs (a % w.text.logs) ≡ true → (xs : List ℕ) × (actors_of_batch (batch_of k s.desk.batches) ≡ Some xs) × (is_among a xs ≡ true)
 
 pub record Once {C : Type 0} (w : Fixed C) (s : Machine C) : Type 0 where
   pub once : AllOnce w s
@@ -148,17 +148,17 @@ unfolding AllOnce after
 once_step w Of finish (Form k) s h ok g te m q = λ c. subst OnceTold (sym (told_same c _ s.logs (k % w.text.logs) (c % w.text.logs) refl)) (q c)
 once_step w Of finish (Commit k) s h ok g te m q = λ c. subst OnceTold (sym (told_same c _ s.logs (k % w.text.logs) (c % w.text.logs) refl)) (q c)
 once_step w Of finish (Decide t) s h ok g te m q = λ c. subst OnceTold (sym (told_same c _ s.logs (t % w.text.logs) (c % w.text.logs) (told_commit c s.book.next_c (act_of t s.book.acts)))) (q c)
-once_step w Of finish (Sync l) s h ok g te m q = λ c. subst (λ rs. OnceTold (told c rs)) (sym (log_synced s.logs l (c % w.text.logs))) (q c)
+once_step w Of finish (Sync l) s h ok g te m q = λ c. subst (λ rs. OnceTold (told_states c rs)) (sym (log_synced s.logs l (c % w.text.logs))) (q c)
 once_step w Of finish (Complete k a) s h ok g te m q = λ c. elim (told_added c (BatchComplete k a (cell_at s a).state ∷ []) s.logs (a % w.text.logs) (c % w.text.logs)) [ inl e ↦ subst OnceTold (sym e) (q c) | inr e ↦ subst OnceTold (sym e) (by c (a == c) refl) ]
   where
-    by : (c : ℕ) (v : Bool) → (a == c) ≡ v → OnceTold (told c (log_at s (c % w.text.logs)).records ++ (if v then record { who = OfBatch k; state = (cell_at s a).state } ∷ [] else []))
-    by c true f = once_more (told c (log_at s (c % w.text.logs)).records) (record { who = OfBatch k; state = (cell_at s a).state }) (subst (λ z. names (OfBatch k) (told z (log_at s (z % w.text.logs)).records) ≡ false) (eqb-true a c f) (batch_new w Of finish k a s h ok g te)) (q c)
-    by c false f = subst OnceTold (sym (append-nil (told c (log_at s (c % w.text.logs)).records))) (q c)
+    by : (c : ℕ) (v : Bool) → (a == c) ≡ v → OnceTold (told_states c (log_at s (c % w.text.logs)).records ++ (if v then record { who = OfBatch k; state = (cell_at s a).state } ∷ [] else []))
+    by c true f = once_more (told_states c (log_at s (c % w.text.logs)).records) (record { who = OfBatch k; state = (cell_at s a).state }) (subst (λ z. names (OfBatch k) (told_states z (log_at s (z % w.text.logs)).records) ≡ false) (eqb-true a c f) (batch_new w Of finish k a s h ok g te)) (q c)
+    by c false f = subst OnceTold (sym (append-nil (told_states c (log_at s (c % w.text.logs)).records))) (q c)
 once_step w Of finish (Prepare t a) s h ok g te m q = λ c. elim (told_added c (ActPrepare t a (cell_at s a).state ∷ []) s.logs (a % w.text.logs) (c % w.text.logs)) [ inl e ↦ subst OnceTold (sym e) (q c) | inr e ↦ subst OnceTold (sym e) (by c (a == c) refl) ]
   where
-    by : (c : ℕ) (v : Bool) → (a == c) ≡ v → OnceTold (told c (log_at s (c % w.text.logs)).records ++ (if v then record { who = OfAct t; state = (cell_at s a).state } ∷ [] else []))
-    by c true f = once_more (told c (log_at s (c % w.text.logs)).records) (record { who = OfAct t; state = (cell_at s a).state }) (subst (λ z. names (OfAct t) (told z (log_at s (z % w.text.logs)).records) ≡ false) (eqb-true a c f) (act_new w t a s ok m)) (q c)
-    by c false f = subst OnceTold (sym (append-nil (told c (log_at s (c % w.text.logs)).records))) (q c)
+    by : (c : ℕ) (v : Bool) → (a == c) ≡ v → OnceTold (told_states c (log_at s (c % w.text.logs)).records ++ (if v then record { who = OfAct t; state = (cell_at s a).state } ∷ [] else []))
+    by c true f = once_more (told_states c (log_at s (c % w.text.logs)).records) (record { who = OfAct t; state = (cell_at s a).state }) (subst (λ z. names (OfAct t) (told_states z (log_at s (z % w.text.logs)).records) ≡ false) (eqb-true a c f) (act_new w t a s ok m)) (q c)
+    by c false f = subst OnceTold (sym (append-nil (told_states c (log_at s (c % w.text.logs)).records))) (q c)
 once_step w Of finish e s h ok g te m q = q
 
 marked_prepared : {C : Type 0} (w : Fixed C) (t a : ℕ) (s : Machine C) → IsAllowed w (Prepare t a) s → holds (is_prepared_at a) (act_of t (after w (Prepare t a) s).book.acts) ≡ true

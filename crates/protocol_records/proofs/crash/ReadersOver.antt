@@ -12,7 +12,7 @@ use Rattle.protocol.specs.Parts.{Act, Joined, Status, Live, Doomed, Decided, Sea
 use Rattle.protocol.specs.Words.{holds, is_who, is_value, is_doomed, is_sealed, act_of}
 use Rattle.protocol.specs.Effects.{cell_at}
 use Rattle.protocol.specs.History.{Done, History, Ran, Stands, Gone, is_reader_act}
-use Rattle.protocol_laws.specs.Told.{is_at, DoneFrom}
+use Rattle.protocol_laws.specs.Told.{has_number, DoneFrom}
 use Rattle.protocol_laws.specs.Tracks.{Key, key_of, keys_in, is_key_among, has_read}
 use Rattle.protocol_laws.specs.Commits.{is_kept, KeptAhead, reads_who}
 use Rattle.protocol_laws.proofs.machine.TrackLists.{is_who_true}
@@ -105,10 +105,10 @@ stands_unsealed s t a x l st e d n p = st t x e d a (open_there a x.places p (we
     through (Decided c) d n q = true≢false (sym q)
     through (Sealed c) d n q = true≢false n
 
-stands_or_sealed : {C : Type 0} (s : Machine C) (t a c : ℕ) (x : Act) → Left s → Standing s → act_of t s.book.acts ≡ Some x → is_at c x.status ≡ true → has_place a x ≡ true → (is_sealed x.status ≡ true) ⊎ (is_key_among (OfAct t) (map key_of (cell_at s a).entries) ≡ true)
+stands_or_sealed : {C : Type 0} (s : Machine C) (t a c : ℕ) (x : Act) → Left s → Standing s → act_of t s.book.acts ≡ Some x → has_number c x.status ≡ true → has_place a x ≡ true → (is_sealed x.status ≡ true) ⊎ (is_key_among (OfAct t) (map key_of (cell_at s a).entries) ≡ true)
 stands_or_sealed s t a c x l st e i p = elim (cases_Bool (is_sealed x.status)) [ inl q ↦ inl q | inr q ↦ inr (stands_unsealed s t a x l st e (sound x.status i) q p) ]
   where
-    sound : (z : Status) → is_at c z ≡ true → is_doomed z ≡ false
+    sound : (z : Status) → has_number c z ≡ true → is_doomed z ≡ false
     sound Live q = refl
     sound (Doomed v) q = absurd (true≢false (sym q))
     sound (Decided d) q = refl

@@ -10,7 +10,7 @@ use Rattle.protocol.specs.History.{View, Done, Slice, Ran, Stands, Gone, slices_
 use Rattle.protocol_laws.specs.Tracks.{keys_in, Linked, Differ}
 use Rattle.protocol_laws.specs.Commits.{left_as, left_of, StatesLink, last_state, is_kept, has_kept, KeptFront, KeptAhead, kept_slices}
 use Rattle.protocol_records.specs.Logged.{is_on}
-use Rattle.protocol_records.specs.Telling.{One, names, end_of, Tells, AllTells, FrontIn, last_one, writes, RecoversAt}
+use Rattle.protocol_records.specs.Telling.{One, names, end_state, TellsState, AllTells, FrontIn, last_one, writes, RecoversAt}
 use Rattle.protocol_laws.proofs.machine.TrackLists
 use Rattle.protocol_laws.proofs.machine.CommitLists.{slices_commit, last_more, none_kept}
 use Rattle.protocol_records.proofs.crash.OnLong.{on_key}
@@ -24,15 +24,15 @@ use Rattle.protocol_theorems.proofs.order.OrderImplied.{passes, still_left}
 
 -- ---- the state that is told when it commits
 
-pub end_join : (s : State) (xs ys : List Slice) → end_of s (xs ++ ys) ≡ end_of (end_of s xs) ys
+pub end_join : (s : State) (xs ys : List Slice) → end_state s (xs ++ ys) ≡ end_state (end_state s xs) ys
 end_join s [] ys = refl
 end_join s (x ∷ xs) ys = end_join x.left xs ys
 
-pub told_is : (s : State) (y : Who) (st : State) (os : List One) (kept : List Who) (rs : List Ran) → is_on y rs ≡ true → is_kept y kept ≡ false → KeptFront kept rs → KeptAhead kept y rs → Tells s y st os rs → st ≡ end_of s (kept_slices kept rs ++ slices_of y rs)
+pub told_is : (s : State) (y : Who) (st : State) (os : List One) (kept : List Who) (rs : List Ran) → is_on y rs ≡ true → is_kept y kept ≡ false → KeptFront kept rs → KeptAhead kept y rs → TellsState s y st os rs → st ≡ end_state s (kept_slices kept rs ++ slices_of y rs)
 told_is s y st os kept [] o n f a h = absurd (true≢false (sym o))
-told_is s y st os kept (Stands x c ss ∷ rs) o n f a h = by (is_who x y) refl (λ e i. told_is (end_of s ss) y st os kept rs i n f.1 a.1 (h.3 e))
+told_is s y st os kept (Stands x c ss ∷ rs) o n f a h = by (is_who x y) refl (λ e i. told_is (end_state s ss) y st os kept rs i n f.1 a.1 (h.3 e))
   where
-    by : (b : Bool) → is_who x y ≡ b → (is_who x y ≡ false → is_on y rs ≡ true → st ≡ end_of (end_of s ss) (kept_slices kept rs ++ slices_of y rs)) → st ≡ end_of s ((if is_kept x kept then ss ++ kept_slices kept rs else kept_slices kept rs) ++ (if b then ss else slices_of y rs))
+    by : (b : Bool) → is_who x y ≡ b → (is_who x y ≡ false → is_on y rs ≡ true → st ≡ end_state (end_state s ss) (kept_slices kept rs ++ slices_of y rs)) → st ≡ end_state s ((if is_kept x kept then ss ++ kept_slices kept rs else kept_slices kept rs) ++ (if b then ss else slices_of y rs))
     by true e r =
         let u : is_kept x kept ≡ false = ap (λ z. is_kept z kept) (TrackLists.is_who_true x y e) ∙ n in
         let g : has_kept kept rs ≡ false = false_from_ne_true (has_kept kept rs) (λ q. true≢false (sym (f.0 q) ∙ u)) in
@@ -40,11 +40,11 @@ told_is s y st os kept (Stands x c ss ∷ rs) o n f a h = by (is_who x y) refl (
     by false e r =
         let i : is_on y rs ≡ true = elim (or_cases (is_who x y) (is_on y rs) o) [ inl q ↦ absurd (true≢false (sym q ∙ e)) | inr q ↦ q ] in
         let u : is_kept x kept ≡ true = a.0 (on_key kept y rs n f.1 i) in
-        rw u (r e i ∙ (sym (end_join s ss (kept_slices kept rs ++ slices_of y rs)) ∙ ap (end_of s) (sym (join_assoc ss (kept_slices kept rs) (slices_of y rs)))))
+        rw u (r e i ∙ (sym (end_join s ss (kept_slices kept rs ++ slices_of y rs)) ∙ ap (end_state s) (sym (join_assoc ss (kept_slices kept rs) (slices_of y rs)))))
 told_is s y st os kept (Gone x ss ∷ rs) o n f a h =
     let e : is_who x y ≡ false = not_gone kept x y f.0 n in
     let i : is_on y rs ≡ true = elim (or_cases (is_who x y) (is_on y rs) o) [ inl q ↦ absurd (true≢false (sym q ∙ e)) | inr q ↦ q ] in
-    told_is (end_of s ss) y st os kept rs i n f.1 a (h.2 e) ∙ (sym (end_join s ss (kept_slices kept rs ++ slices_of y rs)) ∙ ap (end_of s) (sym (join_assoc ss (kept_slices kept rs) (slices_of y rs))))
+    told_is (end_state s ss) y st os kept rs i n f.1 a (h.2 e) ∙ (sym (end_join s ss (kept_slices kept rs ++ slices_of y rs)) ∙ ap (end_state s) (sym (join_assoc ss (kept_slices kept rs) (slices_of y rs))))
 
 -- ---- filters
 
@@ -106,7 +106,7 @@ kept_end y z kept h = elim (any_join (λ v. is_who v z) kept (y ∷ []) h) [ inl
 -- ---- the last record of a closed set whose last member is this one
 
 -- behind the last record of one that commits there is none of one that committed before
-pub none_behind : (first : State) (y : Who) (st : State) (kept : List Who) (q : One → Bool) (long : List Ran) (os : List One) → is_kept y kept ≡ false → KeptFront kept long → is_on y long ≡ true → Tells first y st os long
+pub none_behind : (first : State) (y : Who) (st : State) (kept : List Who) (q : One → Bool) (long : List Ran) (os : List One) → is_kept y kept ≡ false → KeptFront kept long → is_on y long ≡ true → TellsState first y st os long
     → AllByRecursion (λ o. q o ≡ true → (is_kept o.who kept ≡ true) × (is_on o.who long ≡ true) ⊎ (is_who y o.who ≡ true)) os → names y os ≡ false → AllByRecursion (λ o. q o ≡ false) os
 none_behind first y st kept q long os n f o t al g = all os (λ z kz oz. none_later first y st os z kept long n f o kz oz t) g al
   where
@@ -122,11 +122,11 @@ none_behind first y st kept q long os n f o t al g = all os (λ z kz oz. none_la
         )
 
 -- what is told of one that is no reader
-pub tells_it : (rd : Who → Bool) (first : State) (y : Who) (x : One) (os : List One) (long : List Ran) → rd y ≡ false → is_who y x.who ≡ true → AllTells rd first (x ∷ os) long → Tells first y x.state os long
-tells_it rd first y x os long ry e t = subst (λ v. Tells first v x.state os long) (sym (TrackLists.is_who_true y x.who e)) (t.0 (subst (λ v. rd v ≡ false) (TrackLists.is_who_true y x.who e) ry))
+pub tells_it : (rd : Who → Bool) (first : State) (y : Who) (x : One) (os : List One) (long : List Ran) → rd y ≡ false → is_who y x.who ≡ true → AllTells rd first (x ∷ os) long → TellsState first y x.state os long
+tells_it rd first y x os long ry e t = subst (λ v. TellsState first v x.state os long) (sym (TrackLists.is_who_true y x.who e)) (t.0 (subst (λ v. rd v ≡ false) (TrackLists.is_who_true y x.who e) ry))
 
 lands : (rd : Who → Bool) (first : State) (y : Who) (X : State) (kept : List Who) (q : One → Bool) (long : List Ran) (os : List One) (s : State) → rd y ≡ false → is_kept y kept ≡ false → KeptFront kept long → is_on y long ≡ true
-    → ((st : State) (later : List One) → Tells first y st later long → st ≡ X) → AllByRecursion (λ o. q o ≡ true → (is_kept o.who kept ≡ true) × (is_on o.who long ≡ true) ⊎ (is_who y o.who ≡ true)) os → ((o : One) → is_who y o.who ≡ true → q o ≡ true)
+    → ((st : State) (later : List One) → TellsState first y st later long → st ≡ X) → AllByRecursion (λ o. q o ≡ true → (is_kept o.who kept ≡ true) × (is_on o.who long ≡ true) ⊎ (is_who y o.who ≡ true)) os → ((o : One) → is_who y o.who ≡ true → q o ≡ true)
     → names y os ≡ true → AllTells rd first os long → last_one s (filter q os) ≡ X
 lands rd first y X kept q long [] s ry n f o k al own h t = absurd (true≢false (sym h))
 lands rd first y X kept q long (x ∷ os) s ry n f o k al own h t = by (names y os) refl (is_who y x.who) refl (λ s g. lands rd first y X kept q long os s ry n f o k al.1 own g t.1)
@@ -187,7 +187,7 @@ recovers_commit a rd first kept committed ds y long os c r P f = elim (cases_Boo
     whole : P y ≡ true → is_on y long ≡ true → last_one first (filter (λ o. P o.who && is_kept o.who (kept ++ y ∷ [])) os) ≡ last_state a first (filter (λ d. P d.who && writes d) (committed ++ ds))
     whole py oy =
         lands rd first y (last_state a first (committed ++ ds)) kept (λ o. P o.who && is_kept o.who (kept ++ y ∷ [])) long os first c.other c.fresh c.front oy
-        (λ st later t. told_is first y st later kept long oy c.fresh c.front c.ahead t ∙ (ap (end_of first) (sym (slices_commit kept y long c.fresh c.differ c.ahead c.front)) ∙ sym (linked_end first (last_state a first (committed ++ ds)) (kept_slices (kept ++ y ∷ []) long) c.ends)))
+        (λ st later t. told_is first y st later kept long oy c.fresh c.front c.ahead t ∙ (ap (end_state first) (sym (slices_commit kept y long c.fresh c.differ c.ahead c.front)) ∙ sym (linked_end first (last_state a first (committed ++ ds)) (kept_slices (kept ++ y ∷ []) long) c.ends)))
         (weaker (λ o. is_kept o.who (kept ++ y ∷ []) ≡ true → is_on o.who long ≡ true) (λ o. (P o.who && is_kept o.who (kept ++ y ∷ [])) ≡ true → (is_kept o.who kept ≡ true) × (is_on o.who long ≡ true) ⊎ (is_who y o.who ≡ true)) os
         (λ o k v. let u = and_parts (P o.who) (is_kept o.who (kept ++ y ∷ [])) v in elim (kept_end y o.who kept u.1) [ inl i ↦ inl (i, k u.1) | inr i ↦ inr i ]) c.recorded)
         (λ o e. let j = TrackLists.is_who_true y o.who e in both (P o.who) _ (subst (λ z. P z ≡ true) j py) (subst (λ z. is_kept z (kept ++ y ∷ []) ≡ true) j self_kept))

@@ -18,8 +18,8 @@ use Rattle.protocol.specs.History.{Done, History, Ran, grown, view_in, done_pact
 use Rattle.protocol_laws.specs.Tracks.{keys_in, Differ, Linked}
 use Rattle.protocol_laws.specs.Commits.{is_kept, StatesLink, last_state, kept_slices, reads_who}
 use Rattle.protocol_laws.specs.Marks.{is_done, Recorded, Marked}
-use Rattle.protocol_records.specs.Logged.{durable_at, logged_at, is_on, has_place, BatchesSure, ActsSure, ActsStand, OnJoined, Prepared, IsThere, AllThere}
-use Rattle.protocol_records.specs.Telling.{One, told, names, Telling, FrontIn, last_one, writes, RecoversAt, Recovers}
+use Rattle.protocol_records.specs.Logged.{durable_at, logged_at, is_on, has_joined, BatchesSure, ActsSure, ActsStand, OnJoined, Prepared, IsThere, AllThere}
+use Rattle.protocol_records.specs.Telling.{One, told_states, names, Telling, FrontIn, last_one, writes, RecoversAt, Recovers}
 use Rattle.protocol_laws.proofs.machine.TrackLists
 use Rattle.protocol_laws.proofs.machine.TracksKept.{Tracked}
 use Rattle.protocol_laws.proofs.machine.TurnsKept.{one_is}
@@ -60,7 +60,7 @@ front_same P on on' kept (y ∷ ys) k i h =
       | inr v ↦ or_right (on' z && P z) _ (any zs (λ x g. j x (or_right (is_who z x) _ g)) v)
     ]
 
--- what is told stays, or one more is told that did not commit
+-- what is told_states stays, or one more is told_states that did not commit
 abbrev pub ToldStep : List Who → List Who → List One → List One → Type 0
 ToldStep kept readers os os' = (os' ≡ os) ⊎ ((n : One) × (os' ≡ os ++ n ∷ []) × (is_kept n.who kept ≡ false) × (is_kept n.who readers ≡ false))
 
@@ -77,24 +77,24 @@ still a first kept readers committed long long' os os' k t r P f = same t ∙ r 
         none true e = rw e refl
         none false e = refl
 
-pub told_step : {C : Type 0} (w : Fixed C) (Of : Tx → C → Type 0) (finish : C → List State → Alone) (e : Event) (s : Machine C) (h : History) (c : ℕ) → IsAllowed w e s → AllGood w Of finish s h → ActsSure w s → ActsStand s h → ToldStep h.kept h.kept_readers (told c (log_at s (c % w.text.logs)).records) (told c (log_at (after w e s) (c % w.text.logs)).records)
+pub told_step : {C : Type 0} (w : Fixed C) (Of : Tx → C → Type 0) (finish : C → List State → Alone) (e : Event) (s : Machine C) (h : History) (c : ℕ) → IsAllowed w e s → AllGood w Of finish s h → ActsSure w s → ActsStand s h → ToldStep h.kept h.kept_readers (told_states c (log_at s (c % w.text.logs)).records) (told_states c (log_at (after w e s) (c % w.text.logs)).records)
 unfolding after
 told_step w Of finish (Form k) s h c ok g su st = inl (told_same c _ s.logs (k % w.text.logs) (c % w.text.logs) refl)
 told_step w Of finish (Commit k) s h c ok g su st = inl (told_same c _ s.logs (k % w.text.logs) (c % w.text.logs) refl)
 told_step w Of finish (Decide t) s h c ok g su st = inl (told_same c _ s.logs (t % w.text.logs) (c % w.text.logs) (told_commit c s.book.next_c (act_of t s.book.acts)))
-told_step w Of finish (Sync l) s h c ok g su st = inl (ap (told c) (log_synced s.logs l (c % w.text.logs)))
+told_step w Of finish (Sync l) s h c ok g su st = inl (ap (told_states c) (log_synced s.logs l (c % w.text.logs)))
 told_step w Of finish (Complete k a) s h c ok g su st = elim (told_added c (BatchComplete k a (cell_at s a).state ∷ []) s.logs (a % w.text.logs) (c % w.text.logs)) [ inl q ↦ inl q | inr q ↦ by (a == c) q ]
   where
-    by : (v : Bool) → told c (slice_index_or (slice_set s.logs (a % w.text.logs) (added (BatchComplete k a (cell_at s a).state ∷ []) (slice_index_or s.logs (a % w.text.logs) no_log))) (c % w.text.logs) no_log).records ≡ told c (slice_index_or s.logs (c % w.text.logs) no_log).records ++ (if v then record { who = OfBatch k; state = (cell_at s a).state } ∷ [] else [])
-        → ToldStep h.kept h.kept_readers (told c (slice_index_or s.logs (c % w.text.logs) no_log).records) (told c (slice_index_or (slice_set s.logs (a % w.text.logs) (added (BatchComplete k a (cell_at s a).state ∷ []) (slice_index_or s.logs (a % w.text.logs) no_log))) (c % w.text.logs) no_log).records)
+    by : (v : Bool) → told_states c (slice_index_or (slice_set s.logs (a % w.text.logs) (added (BatchComplete k a (cell_at s a).state ∷ []) (slice_index_or s.logs (a % w.text.logs) no_log))) (c % w.text.logs) no_log).records ≡ told_states c (slice_index_or s.logs (c % w.text.logs) no_log).records ++ (if v then record { who = OfBatch k; state = (cell_at s a).state } ∷ [] else [])
+        → ToldStep h.kept h.kept_readers (told_states c (slice_index_or s.logs (c % w.text.logs) no_log).records) (told_states c (slice_index_or (slice_set s.logs (a % w.text.logs) (added (BatchComplete k a (cell_at s a).state ∷ []) (slice_index_or s.logs (a % w.text.logs) no_log))) (c % w.text.logs) no_log).records)
     by true q = inr (record { who = OfBatch k; state = (cell_at s a).state }, q, completes_fresh w Of finish k a s h ok g, no_batch_reads w Of finish s h k g)
-    by false q = inl (q ∙ append-nil (told c (slice_index_or s.logs (c % w.text.logs) no_log).records))
+    by false q = inl (q ∙ append-nil (told_states c (slice_index_or s.logs (c % w.text.logs) no_log).records))
 told_step w Of finish (Prepare t a) s h c ok g su st = elim (told_added c (ActPrepare t a (cell_at s a).state ∷ []) s.logs (a % w.text.logs) (c % w.text.logs)) [ inl q ↦ inl q | inr q ↦ by (a == c) q ]
   where
-    by : (v : Bool) → told c (slice_index_or (slice_set s.logs (a % w.text.logs) (added (ActPrepare t a (cell_at s a).state ∷ []) (slice_index_or s.logs (a % w.text.logs) no_log))) (c % w.text.logs) no_log).records ≡ told c (slice_index_or s.logs (c % w.text.logs) no_log).records ++ (if v then record { who = OfAct t; state = (cell_at s a).state } ∷ [] else [])
-        → ToldStep h.kept h.kept_readers (told c (slice_index_or s.logs (c % w.text.logs) no_log).records) (told c (slice_index_or (slice_set s.logs (a % w.text.logs) (added (ActPrepare t a (cell_at s a).state ∷ []) (slice_index_or s.logs (a % w.text.logs) no_log))) (c % w.text.logs) no_log).records)
+    by : (v : Bool) → told_states c (slice_index_or (slice_set s.logs (a % w.text.logs) (added (ActPrepare t a (cell_at s a).state ∷ []) (slice_index_or s.logs (a % w.text.logs) no_log))) (c % w.text.logs) no_log).records ≡ told_states c (slice_index_or s.logs (c % w.text.logs) no_log).records ++ (if v then record { who = OfAct t; state = (cell_at s a).state } ∷ [] else [])
+        → ToldStep h.kept h.kept_readers (told_states c (slice_index_or s.logs (c % w.text.logs) no_log).records) (told_states c (slice_index_or (slice_set s.logs (a % w.text.logs) (added (ActPrepare t a (cell_at s a).state ∷ []) (slice_index_or s.logs (a % w.text.logs) no_log))) (c % w.text.logs) no_log).records)
     by true q = inr (record { who = OfAct t; state = (cell_at s a).state }, q, prepares_fresh w t a s h ok g.acts su st, prepares_unread w Of finish t a s h ok g su st)
-    by false q = inl (q ∙ append-nil (told c (slice_index_or s.logs (c % w.text.logs) no_log).records))
+    by false q = inl (q ∙ append-nil (told_states c (slice_index_or s.logs (c % w.text.logs) no_log).records))
 told_step w Of finish e s h c ok g su st = inl refl
 
 -- ---- who has a record
@@ -129,18 +129,18 @@ kept_act_sound x e =
 pub act_record_on : {C : Type 0} (w : Fixed C) (s : Machine C) (h : History) (t a : ℕ) → ActsStand s h → Prepared w s → logged_at (is_prepare t a) s.logs (a % w.text.logs) ≡ true → ((x : Act) → act_of t s.book.acts ≡ Some x → (is_doomed x.status ≡ false) × (x.reader ≡ false)) → is_on (OfAct t) (h.long a) ≡ true
 unfolding ActsStand Prepared
 act_record_on w s h t a st pr q d =
-    let x = one_is (λ x. is_value x.result && has_place a x) (act_of t s.book.acts) (pr t a q) in
-    let v = and_parts (is_value x.0.result) (has_place a x.0) x.2 in
+    let x = one_is (λ x. is_value x.result && has_joined a x) (act_of t s.book.acts) (pr t a q) in
+    let v = and_parts (is_value x.0.result) (has_joined a x.0) x.2 in
     let e = d x.0 x.1 in
     place_on t a h.long x.0.places v.1 ((st t x.0 x.1).on e.0 (or_from (is_failure x.0.result) x.0.reader (value_fails x.0.result v.0) e.1))
 
 -- who has a record is named
-pub named_batch : (k a : ℕ) (rs : List LogRecord) → list_any (is_complete k a) rs ≡ true → names (OfBatch k) (told a rs) ≡ true
+pub named_batch : (k a : ℕ) (rs : List LogRecord) → list_any (is_complete k a) rs ≡ true → names (OfBatch k) (told_states a rs) ≡ true
 named_batch k a [] h = h
 named_batch k a (Rattle.protocol.specs.Records.BatchInfo j actors tids ∷ rs) h = named_batch k a rs h
 named_batch k a (BatchComplete j b st ∷ rs) h = by (b == a) refl (or_cases ((j == k) && (b == a)) _ h) (named_batch k a rs)
   where
-    by : (v : Bool) → (b == a) ≡ v → (((j == k) && (b == a)) ≡ true) ⊎ (list_any (is_complete k a) rs ≡ true) → (list_any (is_complete k a) rs ≡ true → names (OfBatch k) (told a rs) ≡ true) → names (OfBatch k) (if v then record { who = OfBatch j; state = st } ∷ told a rs else told a rs) ≡ true
+    by : (v : Bool) → (b == a) ≡ v → (((j == k) && (b == a)) ≡ true) ⊎ (list_any (is_complete k a) rs ≡ true) → (list_any (is_complete k a) rs ≡ true → names (OfBatch k) (told_states a rs) ≡ true) → names (OfBatch k) (if v then record { who = OfBatch j; state = st } ∷ told_states a rs else told_states a rs) ≡ true
     by true e (inl q) r = or_left (k == j) _ (eq-eqb k j (sym (eqb-true j k (and_parts (j == k) (b == a) q).0)))
     by true e (inr q) r = or_right (k == j) _ (r q)
     by false e (inl q) r = absurd (true≢false (sym (and_parts (j == k) (b == a) q).1 ∙ e))
@@ -148,23 +148,23 @@ named_batch k a (BatchComplete j b st ∷ rs) h = by (b == a) refl (or_cases ((j
 named_batch k a (Rattle.protocol.specs.Records.BatchDone j vs ∷ rs) h = named_batch k a rs h
 named_batch k a (ActPrepare t b st ∷ rs) h = by (b == a) (named_batch k a rs h)
   where
-    by : (v : Bool) → names (OfBatch k) (told a rs) ≡ true → names (OfBatch k) (if v then record { who = OfAct t; state = st } ∷ told a rs else told a rs) ≡ true
+    by : (v : Bool) → names (OfBatch k) (told_states a rs) ≡ true → names (OfBatch k) (if v then record { who = OfAct t; state = st } ∷ told_states a rs else told_states a rs) ≡ true
     by true r = r
     by false r = r
 named_batch k a (Rattle.protocol.specs.Records.ActDone t m c v actors ∷ rs) h = named_batch k a rs h
 
-pub named_act : (t a : ℕ) (rs : List LogRecord) → list_any (is_prepare t a) rs ≡ true → names (OfAct t) (told a rs) ≡ true
+pub named_act : (t a : ℕ) (rs : List LogRecord) → list_any (is_prepare t a) rs ≡ true → names (OfAct t) (told_states a rs) ≡ true
 named_act t a [] h = h
 named_act t a (Rattle.protocol.specs.Records.BatchInfo j actors tids ∷ rs) h = named_act t a rs h
 named_act t a (BatchComplete k b st ∷ rs) h = by (b == a) (named_act t a rs h)
   where
-    by : (v : Bool) → names (OfAct t) (told a rs) ≡ true → names (OfAct t) (if v then record { who = OfBatch k; state = st } ∷ told a rs else told a rs) ≡ true
+    by : (v : Bool) → names (OfAct t) (told_states a rs) ≡ true → names (OfAct t) (if v then record { who = OfBatch k; state = st } ∷ told_states a rs else told_states a rs) ≡ true
     by true r = r
     by false r = r
 named_act t a (Rattle.protocol.specs.Records.BatchDone j vs ∷ rs) h = named_act t a rs h
 named_act t a (ActPrepare j b st ∷ rs) h = by (b == a) refl (or_cases ((j == t) && (b == a)) _ h) (named_act t a rs)
   where
-    by : (v : Bool) → (b == a) ≡ v → (((j == t) && (b == a)) ≡ true) ⊎ (list_any (is_prepare t a) rs ≡ true) → (list_any (is_prepare t a) rs ≡ true → names (OfAct t) (told a rs) ≡ true) → names (OfAct t) (if v then record { who = OfAct j; state = st } ∷ told a rs else told a rs) ≡ true
+    by : (v : Bool) → (b == a) ≡ v → (((j == t) && (b == a)) ≡ true) ⊎ (list_any (is_prepare t a) rs ≡ true) → (list_any (is_prepare t a) rs ≡ true → names (OfAct t) (told_states a rs) ≡ true) → names (OfAct t) (if v then record { who = OfAct j; state = st } ∷ told_states a rs else told_states a rs) ≡ true
     by true e (inl q) r = or_left (t == j) _ (eq-eqb t j (sym (eqb-true j t (and_parts (j == t) (b == a) q).0)))
     by true e (inr q) r = or_right (t == j) _ (r q)
     by false e (inl q) r = absurd (true≢false (sym (and_parts (j == t) (b == a) q).1 ∙ e))
@@ -181,7 +181,7 @@ came_batch k a h [] = tt
 came_batch k a h (p ∷ ps) = ((λ v. view_on p.tid (OfBatch k) (h.long a) v), came_batch k a h ps)
 
 -- the record of each actor of a batch that commits
-batch_record : {C : Type 0} (w : Fixed C) (Of : Tx → C → Type 0) (finish : C → List State → Alone) (k a : ℕ) (s : Machine C) (h : History) → IsAllowed w (Commit k) s → AllGood w Of finish s h → BatchesSure w s → is_on (OfBatch k) (h.long a) ≡ true → names (OfBatch k) (told a (log_at s (a % w.text.logs)).records) ≡ true
+batch_record : {C : Type 0} (w : Fixed C) (Of : Tx → C → Type 0) (finish : C → List State → Alone) (k a : ℕ) (s : Machine C) (h : History) → IsAllowed w (Commit k) s → AllGood w Of finish s h → BatchesSure w s → is_on (OfBatch k) (h.long a) ≡ true → names (OfBatch k) (told_states a (log_at s (a % w.text.logs)).records) ≡ true
 unfolding BatchesSure Tracked Marked Committed
 batch_record w Of finish k a s h ok g b on =
     let c = at_commit w k s ok g.good.settling in
@@ -200,10 +200,10 @@ all_places many logs t a (p ∷ ps) e v h = let u = and_parts p.vouched (list_al
   | inr q ↦ all_places many logs t a ps q u.1 h.1
 ]
 
-act_record : {C : Type 0} (w : Fixed C) (t a : ℕ) (s : Machine C) (h : History) (x : Act) → IsAllowed w (Decide t) s → act_of t s.book.acts ≡ Some x → is_value x.result ≡ true → ActsSure w s → OnJoined s h → is_on (OfAct t) (h.long a) ≡ true → names (OfAct t) (told a (log_at s (a % w.text.logs)).records) ≡ true
+act_record : {C : Type 0} (w : Fixed C) (t a : ℕ) (s : Machine C) (h : History) (x : Act) → IsAllowed w (Decide t) s → act_of t s.book.acts ≡ Some x → is_value x.result ≡ true → ActsSure w s → OnJoined s h → is_on (OfAct t) (h.long a) ≡ true → names (OfAct t) (told_states a (log_at s (a % w.text.logs)).records) ≡ true
 unfolding conditions ActsSure OnJoined
 act_record w t a s h x ok e v su j on =
-    let place = Rattle.protocol_laws.proofs.first.Lists.some_of (has_place a) (act_of t s.book.acts) x e (j t a on) in
+    let place = Rattle.protocol_laws.proofs.first.Lists.some_of (has_joined a) (act_of t s.book.acts) x e (j t a on) in
     let vouched : list_all (λ p. p.vouched) x.places ≡ true = elim (or_cases (is_failure x.result) (Rattle.protocol.specs.Words.is_vouched_everywhere x) (Rattle.protocol_laws.proofs.first.Lists.some_of (λ x. is_failure x.result || Rattle.protocol.specs.Words.is_vouched_everywhere x) (act_of t s.book.acts) x e ok.1.0)) [ inl f ↦ absurd (true≢false (sym f ∙ value_fails x.result v)) | inr f ↦ f ] in
     named_act t a (log_at s (a % w.text.logs)).records (any_take (is_prepare t a) (log_at s (a % w.text.logs)).synced (log_at s (a % w.text.logs)).records (all_places w.text.logs s.logs t a x.places place vouched (su t x e).vouched))
 
@@ -215,7 +215,7 @@ abbrev pub first_of : {C : Type 0} → Fixed C → ℕ → State
 first_of w a = slice_index_or w.text.opening.states a no_state
 
 pub one_batch : {C : Type 0} (w : Fixed C) (Of : Tx → C → Type 0) (finish : C → List State → Alone) (k a : ℕ) (s : Machine C) (h : History) → Given w Of finish → IsAllowed w (Commit k) s → AllGood w Of finish s h → BatchesSure w s → ActsStand s h → Prepared w s → AllThere h → Telling w s h → Whole w Of finish s h
-    → Commits1 a (reads_who s.book.acts) (first_of w a) h.kept h.committed (done_batch k h (batch_of k s.desk.batches)) (OfBatch k) (h.long a) (told a (log_at s (a % w.text.logs)).records)
+    → Commits1 a (reads_who s.book.acts) (first_of w a) h.kept h.committed (done_batch k h (batch_of k s.desk.batches)) (OfBatch k) (h.long a) (told_states a (log_at s (a % w.text.logs)).records)
 unfolding Committed Telling AllThere Recorded Acts grown chain.Assumed
 one_batch w Of finish k a s h v ok g b st pr th te wh =
     let m = commits.may_commit w k s h ok g.good.settling g.good.known g.good.marked g.good.placed g.good.tracked g.good.turned g.good.from_desk g.good.numbered in
@@ -247,7 +247,7 @@ one_batch w Of finish k a s h v ok g b st pr th te wh =
 
 pub one_act : {C : Type 0} (w : Fixed C) (Of : Tx → C → Type 0) (finish : C → List State → Alone) (t a : ℕ) (s : Machine C) (h : History) (x : Act) → Given w Of finish → IsAllowed w (Decide t) s → AllGood w Of finish s h → ActsSure w s → ActsStand s h → OnJoined s h → Prepared w s → AllThere h → Telling w s h → Whole w Of finish s h
     → act_of t s.book.acts ≡ Some x → x.tid ≡ t → is_value x.result ≡ true → x.reader ≡ false → Rattle.protocol.specs.Words.is_live_status x.status ≡ true
-    → Commits1 a (reads_who s.book.acts) (first_of w a) h.kept h.committed (done_act s.book.next_c h (Some x)) (OfAct t) (h.long a) (told a (log_at s (a % w.text.logs)).records)
+    → Commits1 a (reads_who s.book.acts) (first_of w a) h.kept h.committed (done_act s.book.next_c h (Some x)) (OfAct t) (h.long a) (told_states a (log_at s (a % w.text.logs)).records)
 unfolding Committed Telling AllThere Recorded Acts grown chain.Assumed
 one_act {C} w Of finish t a s h x v ok g su st j pr th te wh e i vx rx lx =
     let m = whole.for_chain w Of finish (Decide t) s h v ok (all.owes w Of finish (Decide t) s h v ok g) g.good in
@@ -291,26 +291,26 @@ pub recovers_kept : {C : Type 0} (w : Fixed C) (Of : Tx → C → Type 0) (finis
 unfolding Recovers Committed grown chain.Assumed after
 recovers_kept w Of finish (Commit k) s h v ok g b su st j pr th te wh r = λ a.
     subst (RecoversAt a (first_of w a) (h.kept ++ OfBatch k ∷ []) (h.committed ++ done_batch k h (batch_of k s.desk.batches)) (h.long a)) (sym (told_same a _ s.logs (k % w.text.logs) (a % w.text.logs) refl))
-    (recovers_commit a (reads_who s.book.acts) (first_of w a) h.kept h.committed (done_batch k h (batch_of k s.desk.batches)) (OfBatch k) (h.long a) (told a (log_at s (a % w.text.logs)).records) (one_batch w Of finish k a s h v ok g b st pr th te wh) (r a))
+    (recovers_commit a (reads_who s.book.acts) (first_of w a) h.kept h.committed (done_batch k h (batch_of k s.desk.batches)) (OfBatch k) (h.long a) (told_states a (log_at s (a % w.text.logs)).records) (one_batch w Of finish k a s h v ok g b st pr th te wh) (r a))
 recovers_kept {C} w Of finish (Decide t) s h v ok g b su st j pr th te wh r = λ a.
     subst (RecoversAt a (first_of w a) (h.kept ++ kept_act (act_of t s.book.acts)) (h.committed ++ done_act s.book.next_c h (act_of t s.book.acts)) (h.long a)) (sym (told_same a _ s.logs (t % w.text.logs) (a % w.text.logs) (told_commit a s.book.next_c (act_of t s.book.acts)))) (one a)
   where
-    one : (a : ℕ) → RecoversAt a (first_of w a) (h.kept ++ kept_act (act_of t s.book.acts)) (h.committed ++ done_act s.book.next_c h (act_of t s.book.acts)) (h.long a) (told a (log_at s (a % w.text.logs)).records)
+    one : (a : ℕ) → RecoversAt a (first_of w a) (h.kept ++ kept_act (act_of t s.book.acts)) (h.committed ++ done_act s.book.next_c h (act_of t s.book.acts)) (h.long a) (told_states a (log_at s (a % w.text.logs)).records)
     one a = let x = at_decide w Of finish t s h ok g in
-        subst (λ o. RecoversAt a (first_of w a) (h.kept ++ kept_act o) (h.committed ++ done_act s.book.next_c h o) (h.long a) (told a (log_at s (a % w.text.logs)).records)) (sym x.found) (by x.act x.found x.tid x.live (is_value x.act.result && not x.act.reader) refl)
+        subst (λ o. RecoversAt a (first_of w a) (h.kept ++ kept_act o) (h.committed ++ done_act s.book.next_c h o) (h.long a) (told_states a (log_at s (a % w.text.logs)).records)) (sym x.found) (by x.act x.found x.tid x.live (is_value x.act.result && not x.act.reader) refl)
       where
         by : (x : Act) → act_of t s.book.acts ≡ Some x → x.tid ≡ t → Rattle.protocol.specs.Words.is_live_status x.status ≡ true → (c : Bool) → (is_value x.result && not x.reader) ≡ c
-            → RecoversAt a (first_of w a) (h.kept ++ (if is_value x.result && not x.reader then OfAct x.tid ∷ [] else [])) (h.committed ++ done_act s.book.next_c h (Some x)) (h.long a) (told a (log_at s (a % w.text.logs)).records)
+            → RecoversAt a (first_of w a) (h.kept ++ (if is_value x.result && not x.reader then OfAct x.tid ∷ [] else [])) (h.committed ++ done_act s.book.next_c h (Some x)) (h.long a) (told_states a (log_at s (a % w.text.logs)).records)
         by x e i l true q =
             let ks : h.kept ++ (if is_value x.result && not x.reader then OfAct x.tid ∷ [] else []) ≡ h.kept ++ OfAct t ∷ [] = rw (q, i) refl in
             let p = and_parts (is_value x.result) (not x.reader) q in
-            subst (λ z. RecoversAt a (first_of w a) z (h.committed ++ done_act s.book.next_c h (Some x)) (h.long a) (told a (log_at s (a % w.text.logs)).records)) (sym ks)
-            (recovers_commit a (reads_who s.book.acts) (first_of w a) h.kept h.committed (done_act s.book.next_c h (Some x)) (OfAct t) (h.long a) (told a (log_at s (a % w.text.logs)).records)
+            subst (λ z. RecoversAt a (first_of w a) z (h.committed ++ done_act s.book.next_c h (Some x)) (h.long a) (told_states a (log_at s (a % w.text.logs)).records)) (sym ks)
+            (recovers_commit a (reads_who s.book.acts) (first_of w a) h.kept h.committed (done_act s.book.next_c h (Some x)) (OfAct t) (h.long a) (told_states a (log_at s (a % w.text.logs)).records)
             (one_act w Of finish t a s h x v ok g su st j pr th te wh e i p.0 (not-true x.reader p.1) l) (r a))
         by x e i l false q =
             let ks : h.kept ++ (if is_value x.result && not x.reader then OfAct x.tid ∷ [] else []) ≡ h.kept = rw q (append-nil h.kept) in
-            subst (λ z. RecoversAt a (first_of w a) z (h.committed ++ done_act s.book.next_c h (Some x)) (h.long a) (told a (log_at s (a % w.text.logs)).records)) (sym ks)
+            subst (λ z. RecoversAt a (first_of w a) z (h.committed ++ done_act s.book.next_c h (Some x)) (h.long a) (told_states a (log_at s (a % w.text.logs)).records)) (sym ks)
             (λ P f. r a P f ∙ ap (last_state a (first_of w a)) (sym (filter_join (λ d. P d.who && writes d) h.committed (done_act s.book.next_c h (Some x)) ∙ (ap (λ z. filter (λ d. P d.who && writes d) h.committed ++ z) (one_out P _ q) ∙ append-nil (filter (λ d. P d.who && writes d) h.committed)))))
 recovers_kept w Of finish e s h v ok g b su st j pr th te wh r = λ a.
-    still a (first_of w a) h.kept h.kept_readers h.committed (h.long a) ((grown w e s h).long a) (told a (log_at s (a % w.text.logs)).records) (told a (log_at (after w e s) (a % w.text.logs)).records)
+    still a (first_of w a) h.kept h.kept_readers h.committed (h.long a) ((grown w e s h).long a) (told_states a (log_at s (a % w.text.logs)).records) (told_states a (log_at (after w e s) (a % w.text.logs)).records)
     (λ y k. on_stays w e s h a y (whole.for_chain w Of finish e s h v ok (all.owes w Of finish e s h v ok g) g.good) g.good.committed k) (told_step w Of finish e s h a ok g su st) (r a)

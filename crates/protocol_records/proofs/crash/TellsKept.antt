@@ -21,11 +21,11 @@ use Rattle.protocol.specs.OnBook as book
 use Rattle.protocol.specs.OnCell as cell
 use Rattle.protocol.specs.History.{History, Ran, Stands, Gone, grown, with_at, not_run, completed, left_for_good, without_standing, asks, batches_in, batch_in, is_traceless, is_reader_act}
 use Rattle.protocol_laws.specs.Tracks.{Key, key_of, keys_in, is_key_among, Differ, InOrder, has_read}
-use Rattle.protocol_laws.specs.Places.{Ascends, Fits}
+use Rattle.protocol_laws.specs.Places.{Ascends, FitsCell}
 use Rattle.protocol_laws.specs.Commits.{is_kept, KeptFront, reads_who}
-use Rattle.protocol_laws.specs.Marks.{is_done, IsOver, Recorded}
-use Rattle.protocol_records.specs.Logged.{logged_at, has_place, Prepared, ActsSure, ActsStand}
-use Rattle.protocol_records.specs.Telling.{One, told, AllTells, Telling}
+use Rattle.protocol_laws.specs.Marks.{is_done, IsAbortedOrDone, Recorded}
+use Rattle.protocol_records.specs.Logged.{logged_at, has_joined, Prepared, ActsSure, ActsStand}
+use Rattle.protocol_records.specs.Telling.{One, told_states, AllTells, Telling}
 use Rattle.protocol_laws.proofs.machine.TrackLists
 use Rattle.protocol_laws.proofs.machine.TrackLists.{NotComplete}
 use Rattle.protocol_laws.proofs.machine.TracksKept.{Tracked, held}
@@ -50,58 +50,58 @@ use Rattle.protocol_records.proofs.crash.TellLists.{Unmarked, AheadDone}
 use Rattle.protocol_laws.proofs.machine.PlaceLists.{ascends_back}
 use Rattle.protocol_laws.proofs.machine.MarksKept.{log_synced}
 
--- ---- what is told
+-- ---- what is told_states
 
-pub told_join : (a : ℕ) (xs ys : List LogRecord) → told a (xs ++ ys) ≡ told a xs ++ told a ys
+pub told_join : (a : ℕ) (xs ys : List LogRecord) → told_states a (xs ++ ys) ≡ told_states a xs ++ told_states a ys
 told_join a [] ys = refl
 told_join a (BatchInfo k actors tids ∷ xs) ys = told_join a xs ys
 told_join a (BatchComplete k b st ∷ xs) ys = by (b == a) (told_join a xs ys)
   where
-    by : (v : Bool) → told a (xs ++ ys) ≡ told a xs ++ told a ys → (if v then record { who = OfBatch k; state = st } ∷ told a (xs ++ ys) else told a (xs ++ ys)) ≡ (if v then record { who = OfBatch k; state = st } ∷ told a xs else told a xs) ++ told a ys
+    by : (v : Bool) → told_states a (xs ++ ys) ≡ told_states a xs ++ told_states a ys → (if v then record { who = OfBatch k; state = st } ∷ told_states a (xs ++ ys) else told_states a (xs ++ ys)) ≡ (if v then record { who = OfBatch k; state = st } ∷ told_states a xs else told_states a xs) ++ told_states a ys
     by true e = ap (λ l. record { who = OfBatch k; state = st } ∷ l) e
     by false e = e
 told_join a (BatchDone k vs ∷ xs) ys = told_join a xs ys
 told_join a (ActPrepare t b st ∷ xs) ys = by (b == a) (told_join a xs ys)
   where
-    by : (v : Bool) → told a (xs ++ ys) ≡ told a xs ++ told a ys → (if v then record { who = OfAct t; state = st } ∷ told a (xs ++ ys) else told a (xs ++ ys)) ≡ (if v then record { who = OfAct t; state = st } ∷ told a xs else told a xs) ++ told a ys
+    by : (v : Bool) → told_states a (xs ++ ys) ≡ told_states a xs ++ told_states a ys → (if v then record { who = OfAct t; state = st } ∷ told_states a (xs ++ ys) else told_states a (xs ++ ys)) ≡ (if v then record { who = OfAct t; state = st } ∷ told_states a xs else told_states a xs) ++ told_states a ys
     by true e = ap (λ l. record { who = OfAct t; state = st } ∷ l) e
     by false e = e
 told_join a (ActDone t m c v actors ∷ xs) ys = told_join a xs ys
 
 pub told_added : (a : ℕ) (rs : List LogRecord) (logs : List Log) (l m : ℕ)
-    → (told a (slice_index_or (slice_set logs l (added rs (slice_index_or logs l no_log))) m no_log).records ≡ told a (slice_index_or logs m no_log).records)
-    ⊎ (told a (slice_index_or (slice_set logs l (added rs (slice_index_or logs l no_log))) m no_log).records ≡ told a (slice_index_or logs m no_log).records ++ told a rs)
+    → (told_states a (slice_index_or (slice_set logs l (added rs (slice_index_or logs l no_log))) m no_log).records ≡ told_states a (slice_index_or logs m no_log).records)
+    ⊎ (told_states a (slice_index_or (slice_set logs l (added rs (slice_index_or logs l no_log))) m no_log).records ≡ told_states a (slice_index_or logs m no_log).records ++ told_states a rs)
 told_added a rs [] l m = inl refl
 told_added a rs (x ∷ xs) zero zero = inr (told_join a x.records rs)
 told_added a rs (x ∷ xs) zero (suc m) = inl refl
 told_added a rs (x ∷ xs) (suc l) zero = inl refl
 told_added a rs (x ∷ xs) (suc l) (suc m) = told_added a rs xs l m
 
--- nothing is told of the actor
-pub told_same : (a : ℕ) (rs : List LogRecord) (logs : List Log) (l m : ℕ) → told a rs ≡ [] → told a (slice_index_or (slice_set logs l (added rs (slice_index_or logs l no_log))) m no_log).records ≡ told a (slice_index_or logs m no_log).records
-told_same a rs logs l m e = elim (told_added a rs logs l m) [ inl q ↦ q | inr q ↦ q ∙ (ap (λ z. told a (slice_index_or logs m no_log).records ++ z) e ∙ append-nil (told a (slice_index_or logs m no_log).records)) ]
+-- nothing is told_states of the actor
+pub told_same : (a : ℕ) (rs : List LogRecord) (logs : List Log) (l m : ℕ) → told_states a rs ≡ [] → told_states a (slice_index_or (slice_set logs l (added rs (slice_index_or logs l no_log))) m no_log).records ≡ told_states a (slice_index_or logs m no_log).records
+told_same a rs logs l m e = elim (told_added a rs logs l m) [ inl q ↦ q | inr q ↦ q ∙ (ap (λ z. told_states a (slice_index_or logs m no_log).records ++ z) e ∙ append-nil (told_states a (slice_index_or logs m no_log).records)) ]
 
-pub told_commit : (a c : ℕ) (o : Option Act) → told a (act_commit c o) ≡ []
+pub told_commit : (a c : ℕ) (o : Option Act) → told_states a (act_commit c o) ≡ []
 told_commit a c None = refl
 told_commit a c (Some x) = by (is_value x.result)
   where
-    by : (b : Bool) → told a (if b then ActDone x.tid x.m c (value_of x.result) (Rattle.protocol.specs.Effects.ascending (map (λ p. p.actor) x.places)) ∷ [] else []) ≡ []
+    by : (b : Bool) → told_states a (if b then ActDone x.tid x.m c (value_of x.result) (Rattle.protocol.specs.Effects.ascending (map (λ p. p.actor) x.places)) ∷ [] else []) ≡ []
     by true = refl
     by false = refl
 
--- who is told has a record
-pub told_all : (P : Who → Type 0) (a : ℕ) (rs : List LogRecord) → ((k : ℕ) → list_any (is_complete k a) rs ≡ true → P (OfBatch k)) → ((t : ℕ) → list_any (is_prepare t a) rs ≡ true → P (OfAct t)) → AllByRecursion (λ o. P o.who) (told a rs)
+-- who is told_states has a record
+pub told_all : (P : Who → Type 0) (a : ℕ) (rs : List LogRecord) → ((k : ℕ) → list_any (is_complete k a) rs ≡ true → P (OfBatch k)) → ((t : ℕ) → list_any (is_prepare t a) rs ≡ true → P (OfAct t)) → AllByRecursion (λ o. P o.who) (told_states a rs)
 told_all P a [] f g = tt
 told_all P a (BatchInfo k actors tids ∷ rs) f g = told_all P a rs f g
 told_all P a (BatchComplete k b st ∷ rs) f g = by (b == a) refl (told_all P a rs (λ j q. f j (or_right ((k == j) && (b == a)) _ q)) g)
   where
-    by : (v : Bool) → (b == a) ≡ v → AllByRecursion (λ o. P o.who) (told a rs) → AllByRecursion (λ o. P o.who) (if v then record { who = OfBatch k; state = st } ∷ told a rs else told a rs)
+    by : (v : Bool) → (b == a) ≡ v → AllByRecursion (λ o. P o.who) (told_states a rs) → AllByRecursion (λ o. P o.who) (if v then record { who = OfBatch k; state = st } ∷ told_states a rs else told_states a rs)
     by true e h = (f k (or_left ((k == k) && (b == a)) _ (rw (eq-eqb k k refl, e) refl)), h)
     by false e h = h
 told_all P a (BatchDone k vs ∷ rs) f g = told_all P a rs f g
 told_all P a (ActPrepare t b st ∷ rs) f g = by (b == a) refl (told_all P a rs f (λ j q. g j (or_right ((t == j) && (b == a)) _ q)))
   where
-    by : (v : Bool) → (b == a) ≡ v → AllByRecursion (λ o. P o.who) (told a rs) → AllByRecursion (λ o. P o.who) (if v then record { who = OfAct t; state = st } ∷ told a rs else told a rs)
+    by : (v : Bool) → (b == a) ≡ v → AllByRecursion (λ o. P o.who) (told_states a rs) → AllByRecursion (λ o. P o.who) (if v then record { who = OfAct t; state = st } ∷ told_states a rs else told_states a rs)
     by true e h = (g t (or_left ((t == t) && (b == a)) _ (rw (eq-eqb t t refl, e) refl)), h)
     by false e h = h
 told_all P a (ActDone t m c v actors ∷ rs) f g = told_all P a rs f g
@@ -221,16 +221,16 @@ who_act t (ActEntry x ∷ es) h = by (x.tid == t) refl h (who_act t es)
 pub record_result : {C : Type 0} (w : Fixed C) (s : Machine C) (t a : ℕ) → Prepared w s → logged_at (is_prepare t a) s.logs (a % w.text.logs) ≡ true → results.NoActResult t s.book.acts → ⊥
 unfolding Prepared
 record_result w s t a p q n =
-    let x = one_is (λ x. is_value x.result && has_place a x) (act_of t s.book.acts) (p t a q) in
-    true≢false (sym (and_parts (is_value x.0.result) (has_place a x.0) x.2).0 ∙ ap is_value (n t x.0 x.1 refl))
+    let x = one_is (λ x. is_value x.result && has_joined a x) (act_of t s.book.acts) (p t a q) in
+    true≢false (sym (and_parts (is_value x.0.result) (has_joined a x.0) x.2).0 ∙ ap is_value (n t x.0 x.1 refl))
 
 pub none_arrives : {C : Type 0} (w : Fixed C) (Of : Tx → C → Type 0) (finish : C → List State → Alone) (k a : ℕ) (s : Machine C) (h : History) → IsAllowed w (Arrive k a) s → AllGood w Of finish s h → (j : ℕ) → logged_at (is_complete j a) s.logs (a % w.text.logs) ≡ true → is_who (OfBatch k) (OfBatch j) ≡ false
 unfolding conditions Recorded Placed
-none_arrives w Of finish k a s h ok g j q = false_from_ne_true (k == j) (λ e. none (subst (λ z. IsOver z s.book.cascades (h.long a)) (sym (eqb-true k j e)) (g.good.recorded j a q)))
+none_arrives w Of finish k a s h ok g j q = false_from_ne_true (k == j) (λ e. none (subst (λ z. IsAbortedOrDone z s.book.cascades (h.long a)) (sym (eqb-true k j e)) (g.good.recorded j a q)))
   where
-    none : IsOver k s.book.cascades (h.long a) → ⊥
+    none : IsAbortedOrDone k s.book.cascades (h.long a) → ⊥
     none (inl q) = true≢false (sym q ∙ not-true (is_aborted k s.book.cascades) ok.1.0)
-    none (inr q) = let m = message w k a s ok g.good.agreeing in omega (arith, m.behind, (marks.at_done (Fits s.ring.next_bid s.book.cascades (cell_at s a).epoch (cell_at s a).tail) k (h.long a) q (g.good.placed a).fit).is_last m.own)
+    none (inr q) = let m = message w k a s ok g.good.agreeing in omega (arith, m.behind, (marks.at_done (FitsCell s.ring.next_bid s.book.cascades (cell_at s a).epoch (cell_at s a).tail) k (h.long a) q (g.good.placed a).fit).is_last m.own)
 
 -- a batch that becomes complete did not commit
 pub completes_fresh : {C : Type 0} (w : Fixed C) (Of : Tx → C → Type 0) (finish : C → List State → Alone) (k a : ℕ) (s : Machine C) (h : History) → IsAllowed w (Complete k a) s → AllGood w Of finish s h → is_kept (OfBatch k) h.kept ≡ false
@@ -243,7 +243,7 @@ completes_fresh w Of finish k a s h ok g = false_from_ne_true (is_kept (OfBatch 
     declared : Rattle.protocol_laws.specs.FromDesk.is_declared k a s.desk.batches ≡ true
     declared = Rattle.protocol_records.proofs.crash.KeptSure.declared_at a k s.desk.batches (map key_of (cell_at s a).entries) u.1 (Rattle.protocol_laws.proofs.machine.ActsOwed.good_keys a s.desk.batches (cell_at s a).entries (g.good.from_desk.entries a))
 
-    none : is_kept (OfBatch k) h.kept ≡ true → IsOver k s.book.cascades (h.long a) → ⊥
+    none : is_kept (OfBatch k) h.kept ≡ true → IsAbortedOrDone k s.book.cascades (h.long a) → ⊥
     none q (inl v) = true≢false (sym q ∙ commits.cuts_fresh w s h g.good.settling g.good.known g.good.marked (OfBatch k) v)
     none q (inr v) = undone_there k (h.long a) (subst (NotComplete (OfBatch k)) (g.good.tracked a).stands u.0) (subst (λ z. is_key_among (OfBatch k) z ≡ true) (g.good.tracked a).stands u.1) (g.good.placed a).ascends v
 
@@ -283,10 +283,10 @@ no_reads a None r = refl
 no_reads a (Some x) r = rw r refl
 
 abbrev pub TellsAt : {C : Type 0} → (Who → Bool) → Fixed C → Machine C → ℕ → List Ran → Type 0
-TellsAt rd w s a long = AllTells rd (slice_index_or w.text.opening.states a no_state) (told a (slice_index_or s.logs (a % w.text.logs) no_log).records) long
+TellsAt rd w s a long = AllTells rd (slice_index_or w.text.opening.states a no_state) (told_states a (slice_index_or s.logs (a % w.text.logs) no_log).records) long
 
-any_who : {C : Type 0} (w : Fixed C) (s : Machine C) (a : ℕ) → AllByRecursion (λ o. Unit {0}) (told a (slice_index_or s.logs (a % w.text.logs) no_log).records)
-any_who w s a = all (told a (slice_index_or s.logs (a % w.text.logs) no_log).records)
+any_who : {C : Type 0} (w : Fixed C) (s : Machine C) (a : ℕ) → AllByRecursion (λ o. Unit {0}) (told_states a (slice_index_or s.logs (a % w.text.logs) no_log).records)
+any_who w s a = all (told_states a (slice_index_or s.logs (a % w.text.logs) no_log).records)
   where
     all : (os : List One) → AllByRecursion (λ o. Unit {0}) os
     all [] = tt
@@ -296,12 +296,12 @@ any_who w s a = all (told a (slice_index_or s.logs (a % w.text.logs) no_log).rec
 moved : {C : Type 0} (rd : Who → Bool) (w : Fixed C) (s : Machine C) (h : History) (a : ℕ) (new : List Ran) → (TellsAt rd w s a (h.long a) → TellsAt rd w s a new) → ((c : ℕ) → TellsAt rd w s c (h.long c)) → (c : ℕ) → TellsAt rd w s c (with_at a new h.long c)
 moved rd w s h a new k g = chain.beside_carried (TellsAt rd w s) a new h.long k g
 
-telling_for : {C : Type 0} (w : Fixed C) (Of : Tx → C → Type 0) (finish : C → List State → Alone) (e : Event) (s : Machine C) (h : History) → Given w Of finish → IsAllowed w e s → AllGood w Of finish s h → ActsSure w s → ActsStand s h → Prepared w s → Telling w s h → (a : ℕ) → AllTells (reads_who s.book.acts) (slice_index_or w.text.opening.states a no_state) (told a (log_at (after w e s) (a % w.text.logs)).records) ((grown w e s h).long a)
+telling_for : {C : Type 0} (w : Fixed C) (Of : Tx → C → Type 0) (finish : C → List State → Alone) (e : Event) (s : Machine C) (h : History) → Given w Of finish → IsAllowed w e s → AllGood w Of finish s h → ActsSure w s → ActsStand s h → Prepared w s → Telling w s h → (a : ℕ) → AllTells (reads_who s.book.acts) (slice_index_or w.text.opening.states a no_state) (told_states a (log_at (after w e s) (a % w.text.logs)).records) ((grown w e s h).long a)
 unfolding Telling Tracked Committed Started ReadBy conditions after grown
 telling_for w Of finish (Form k) s h v ok g su st pr q = λ c. subst (λ os. AllTells (reads_who s.book.acts) (slice_index_or w.text.opening.states c no_state) os (h.long c)) (sym (told_same c _ s.logs (k % w.text.logs) (c % w.text.logs) refl)) (q c)
 telling_for w Of finish (Commit k) s h v ok g su st pr q = λ c. subst (λ os. AllTells (reads_who s.book.acts) (slice_index_or w.text.opening.states c no_state) os (h.long c)) (sym (told_same c _ s.logs (k % w.text.logs) (c % w.text.logs) refl)) (q c)
 telling_for w Of finish (Decide t) s h v ok g su st pr q = λ c. subst (λ os. AllTells (reads_who s.book.acts) (slice_index_or w.text.opening.states c no_state) os (h.long c)) (sym (told_same c _ s.logs (t % w.text.logs) (c % w.text.logs) (told_commit c s.book.next_c (act_of t s.book.acts)))) (q c)
-telling_for w Of finish (Sync l) s h v ok g su st pr q = λ c. subst (λ rs. AllTells (reads_who s.book.acts) (slice_index_or w.text.opening.states c no_state) (told c rs) (h.long c)) (sym (log_synced s.logs l (c % w.text.logs))) (q c)
+telling_for w Of finish (Sync l) s h v ok g su st pr q = λ c. subst (λ rs. AllTells (reads_who s.book.acts) (slice_index_or w.text.opening.states c no_state) (told_states c rs) (h.long c)) (sym (log_synced s.logs l (c % w.text.logs))) (q c)
 telling_for w Of finish (Arrive k a) s h v ok g su st pr q = moved (reads_who s.book.acts) w s h a _
     (λ z. lists.all_tells (reads_who s.book.acts) (λ y. is_who (OfBatch k) y ≡ false) _ _ (h.long a) _ (λ y i later n x. lists.more _ y i later (OfBatch k) (h.long a) n x)
     (told_all (λ y. is_who (OfBatch k) y ≡ false) a (slice_index_or s.logs (a % w.text.logs) no_log).records (λ j r. none_arrives w Of finish k a s h ok g j r) (λ j r. refl)) z) q
@@ -309,7 +309,7 @@ telling_for w Of finish (Ask t a) s h v ok g su st pr q = moved (reads_who s.boo
   where
     by : (o : Option ℕ) → TellsAt (reads_who s.book.acts) w s a (h.long a) → TellsAt (reads_who s.book.acts) w s a (h.long a ++ map not_run (asks t o))
     by (Some older) z = subst (TellsAt (reads_who s.book.acts) w s a) (sym (append-nil (h.long a))) z
-    by None z = lists.all_tells (reads_who s.book.acts) (λ y. is_who (OfAct t) y ≡ false) (slice_index_or w.text.opening.states a no_state) (told a (slice_index_or s.logs (a % w.text.logs) no_log).records) (h.long a) (h.long a ++ not_run (OfAct t) ∷ []) (λ y i later n x. lists.more (slice_index_or w.text.opening.states a no_state) y i later (OfAct t) (h.long a) n x)
+    by None z = lists.all_tells (reads_who s.book.acts) (λ y. is_who (OfAct t) y ≡ false) (slice_index_or w.text.opening.states a no_state) (told_states a (slice_index_or s.logs (a % w.text.logs) no_log).records) (h.long a) (h.long a ++ not_run (OfAct t) ∷ []) (λ y i later n x. lists.more (slice_index_or w.text.opening.states a no_state) y i later (OfAct t) (h.long a) n x)
         (told_all (λ y. is_who (OfAct t) y ≡ false) a (slice_index_or s.logs (a % w.text.logs) no_log).records (λ j r. refl) (λ j r. false_from_ne_true (t == j) (λ e. record_result w s j a pr r (subst (λ u. results.NoActResult u s.book.acts) (eqb-true t j e) (results.posted_none t a s ok.0 g.none))))) z
 telling_for w Of finish (Run t a) s h v ok g su st pr q = moved (reads_who s.book.acts) w s h a _
     (λ z0. TrackLists.on_reads (TellsAt (reads_who s.book.acts) w s a) (cell.reads_on t (cell_at s a).entries) _ _ (h.long a) (λ z. lists.all_tells (reads_who s.book.acts) (λ y. is_who (who_on t (cell_at s a).entries) y ≡ true → is_act_who (who_on t (cell_at s a).entries) ≡ false) _ _ (h.long a) _ (λ y i later n x. lists.ran _ y i later (who_on t (cell_at s a).entries) _ (h.long a) n (keys_at w s h a (who_on t (cell_at s a).entries) g.good.tracked un.0) x)
@@ -327,7 +327,7 @@ telling_for w Of finish (Complete k a) s h v ok g su st pr q = λ c. elim (cases
   | inl f ↦ rw f (own c (eqb-true c a f))
 ]
   where
-    other : (c : ℕ) → (c == a) ≡ false → told c (BatchComplete k a (cell_at s a).state ∷ []) ≡ []
+    other : (c : ℕ) → (c == a) ≡ false → told_states c (BatchComplete k a (cell_at s a).state ∷ []) ≡ []
     other c f = let i : (a == c) ≡ false = Rattle.std.proofs.lemmas.Bool.ne_eqb a c (λ j. true≢false (sym (eq-eqb c a (sym j)) ∙ f)) in rw i refl
 
     u : NotComplete (OfBatch k) (map key_of (cell_at s a).entries) × (is_key_among (OfBatch k) (map key_of (cell_at s a).entries) ≡ true)
@@ -336,28 +336,28 @@ telling_for w Of finish (Complete k a) s h v ok g su st pr q = λ c. elim (cases
     fresh : is_kept (OfBatch k) h.kept ≡ false
     fresh = completes_fresh w Of finish k a s h ok g
 
-    here : AllTells (reads_who s.book.acts) (slice_index_or w.text.opening.states a no_state) (told a (slice_index_or (slice_set s.logs (a % w.text.logs) (added (BatchComplete k a (cell_at s a).state ∷ []) (slice_index_or s.logs (a % w.text.logs) no_log))) (a % w.text.logs) no_log).records) (map (completed k) (h.long a))
+    here : AllTells (reads_who s.book.acts) (slice_index_or w.text.opening.states a no_state) (told_states a (slice_index_or (slice_set s.logs (a % w.text.logs) (added (BatchComplete k a (cell_at s a).state ∷ []) (slice_index_or s.logs (a % w.text.logs) no_log))) (a % w.text.logs) no_log).records) (map (completed k) (h.long a))
     here = elim (told_added a (BatchComplete k a (cell_at s a).state ∷ []) s.logs (a % w.text.logs) (a % w.text.logs)) [
-      | inl e ↦ subst (λ os. AllTells (reads_who s.book.acts) (slice_index_or w.text.opening.states a no_state) os (map (completed k) (h.long a))) (sym e) (lists.all_tells (reads_who s.book.acts) (λ y. Unit {0}) (slice_index_or w.text.opening.states a no_state) (told a (slice_index_or s.logs (a % w.text.logs) no_log).records) (h.long a) (map (completed k) (h.long a)) (λ y i later n x. lists.complete (slice_index_or w.text.opening.states a no_state) y i later k (h.long a) x) (any_who w s a) (q a))
-      | inr e ↦ subst (λ os. AllTells (reads_who s.book.acts) (slice_index_or w.text.opening.states a no_state) os (map (completed k) (h.long a))) (sym (e ∙ ap (λ z. told a (slice_index_or s.logs (a % w.text.logs) no_log).records ++ z) one))
-          (lists.add_told (reads_who s.book.acts) (slice_index_or w.text.opening.states a no_state) (told a (slice_index_or s.logs (a % w.text.logs) no_log).records) (record { who = OfBatch k; state = (cell_at s a).state }) (h.long a) (map (completed k) (h.long a))
+      | inl e ↦ subst (λ os. AllTells (reads_who s.book.acts) (slice_index_or w.text.opening.states a no_state) os (map (completed k) (h.long a))) (sym e) (lists.all_tells (reads_who s.book.acts) (λ y. Unit {0}) (slice_index_or w.text.opening.states a no_state) (told_states a (slice_index_or s.logs (a % w.text.logs) no_log).records) (h.long a) (map (completed k) (h.long a)) (λ y i later n x. lists.complete (slice_index_or w.text.opening.states a no_state) y i later k (h.long a) x) (any_who w s a) (q a))
+      | inr e ↦ subst (λ os. AllTells (reads_who s.book.acts) (slice_index_or w.text.opening.states a no_state) os (map (completed k) (h.long a))) (sym (e ∙ ap (λ z. told_states a (slice_index_or s.logs (a % w.text.logs) no_log).records ++ z) one))
+          (lists.add_told (reads_who s.book.acts) (slice_index_or w.text.opening.states a no_state) (told_states a (slice_index_or s.logs (a % w.text.logs) no_log).records) (record { who = OfBatch k; state = (cell_at s a).state }) (h.long a) (map (completed k) (h.long a))
           (λ y i later x. lists.complete (slice_index_or w.text.opening.states a no_state) y i (later ++ record { who = OfBatch k; state = (cell_at s a).state } ∷ []) k (h.long a) (lists.later (slice_index_or w.text.opening.states a no_state) y i later (OfBatch k) (cell_at s a).state h.kept (h.long a) (keys_at w s h a (OfBatch k) g.good.tracked u.0) fresh (g.good.committed a).front x))
           (λ nr. lists.told_batch k (slice_index_or w.text.opening.states a no_state) (cell_at s a).state h.kept (h.long a) (g.good.tracked a).links (g.good.tracked a).in_order (keys_at w s h a (OfBatch k) g.good.tracked u.0)
           (ahead_done h.kept (OfBatch k) (h.long a) fresh (g.good.committed a).front (subst (AheadKeys (OfBatch k)) (g.good.tracked a).stands (batch_ahead k (cell_at s a).entries (held (λ c. list_all is_complete_batch (ahead (is_batch_entry k) c.entries)) s.cells a no_cell ok.1.0) (differ_at w s h a g.good.tracked)))) fresh (g.good.committed a).front)
           (q a))
     ]
       where
-        one : told a (BatchComplete k a (cell_at s a).state ∷ []) ≡ record { who = OfBatch k; state = (cell_at s a).state } ∷ []
+        one : told_states a (BatchComplete k a (cell_at s a).state ∷ []) ≡ record { who = OfBatch k; state = (cell_at s a).state } ∷ []
         one = rw (eq-eqb a a refl) refl
 
-    own : (c : ℕ) → c ≡ a → AllTells (reads_who s.book.acts) (slice_index_or w.text.opening.states c no_state) (told c (slice_index_or (slice_set s.logs (a % w.text.logs) (added (BatchComplete k a (cell_at s a).state ∷ []) (slice_index_or s.logs (a % w.text.logs) no_log))) (c % w.text.logs) no_log).records) (map (completed k) (h.long a))
-    own c e = subst (λ z. AllTells (reads_who s.book.acts) (slice_index_or w.text.opening.states z no_state) (told z (slice_index_or (slice_set s.logs (a % w.text.logs) (added (BatchComplete k a (cell_at s a).state ∷ []) (slice_index_or s.logs (a % w.text.logs) no_log))) (z % w.text.logs) no_log).records) (map (completed k) (h.long a))) (sym e) here
+    own : (c : ℕ) → c ≡ a → AllTells (reads_who s.book.acts) (slice_index_or w.text.opening.states c no_state) (told_states c (slice_index_or (slice_set s.logs (a % w.text.logs) (added (BatchComplete k a (cell_at s a).state ∷ []) (slice_index_or s.logs (a % w.text.logs) no_log))) (c % w.text.logs) no_log).records) (map (completed k) (h.long a))
+    own c e = subst (λ z. AllTells (reads_who s.book.acts) (slice_index_or w.text.opening.states z no_state) (told_states z (slice_index_or (slice_set s.logs (a % w.text.logs) (added (BatchComplete k a (cell_at s a).state ∷ []) (slice_index_or s.logs (a % w.text.logs) no_log))) (z % w.text.logs) no_log).records) (map (completed k) (h.long a))) (sym e) here
 telling_for {C} w Of finish (Prepare t a) s h v ok g su st pr q = λ c. elim (cases_Bool (c == a)) [
   | inr f ↦ subst (λ os. AllTells (reads_who s.book.acts) (slice_index_or w.text.opening.states c no_state) os (h.long c)) (sym (told_same c _ s.logs (a % w.text.logs) (c % w.text.logs) (other c f))) (q c)
   | inl f ↦ own c (eqb-true c a f)
 ]
   where
-    other : (c : ℕ) → (c == a) ≡ false → told c (ActPrepare t a (cell_at s a).state ∷ []) ≡ []
+    other : (c : ℕ) → (c == a) ≡ false → told_states c (ActPrepare t a (cell_at s a).state ∷ []) ≡ []
     other c f = let i : (a == c) ≡ false = Rattle.std.proofs.lemmas.Bool.ne_eqb a c (λ j. true≢false (sym (eq-eqb c a (sym j)) ∙ f)) in rw i refl
 
     fresh : is_kept (OfAct t) h.kept ≡ false
@@ -371,22 +371,22 @@ telling_for {C} w Of finish (Prepare t a) s h v ok g su st pr q = λ c. elim (ca
         let x = one_is (λ x. is_value x.result && not (is_doomed x.status)) (act_of t s.book.acts) ok.0 in
         false_from_ne_true (is_some (waiting_of t (cell_at s a).inbox)) (λ i. true≢false (sym (and_parts (is_value x.0.result) (not (is_doomed x.0.status)) x.2).0 ∙ ap is_value (results.waiting_none t a s i g.none t x.0 x.1 refl)))
 
-    here : AllTells (reads_who s.book.acts) (slice_index_or w.text.opening.states a no_state) (told a (slice_index_or (slice_set s.logs (a % w.text.logs) (added (ActPrepare t a (cell_at s a).state ∷ []) (slice_index_or s.logs (a % w.text.logs) no_log))) (a % w.text.logs) no_log).records) (h.long a)
+    here : AllTells (reads_who s.book.acts) (slice_index_or w.text.opening.states a no_state) (told_states a (slice_index_or (slice_set s.logs (a % w.text.logs) (added (ActPrepare t a (cell_at s a).state ∷ []) (slice_index_or s.logs (a % w.text.logs) no_log))) (a % w.text.logs) no_log).records) (h.long a)
     here = elim (told_added a (ActPrepare t a (cell_at s a).state ∷ []) s.logs (a % w.text.logs) (a % w.text.logs)) [
       | inl e ↦ subst (λ os. AllTells (reads_who s.book.acts) (slice_index_or w.text.opening.states a no_state) os (h.long a)) (sym e) (q a)
-      | inr e ↦ subst (λ os. AllTells (reads_who s.book.acts) (slice_index_or w.text.opening.states a no_state) os (h.long a)) (sym (e ∙ ap (λ z. told a (slice_index_or s.logs (a % w.text.logs) no_log).records ++ z) one))
-          (lists.add_told (reads_who s.book.acts) (slice_index_or w.text.opening.states a no_state) (told a (slice_index_or s.logs (a % w.text.logs) no_log).records) (record { who = OfAct t; state = (cell_at s a).state }) (h.long a) (h.long a)
+      | inr e ↦ subst (λ os. AllTells (reads_who s.book.acts) (slice_index_or w.text.opening.states a no_state) os (h.long a)) (sym (e ∙ ap (λ z. told_states a (slice_index_or s.logs (a % w.text.logs) no_log).records ++ z) one))
+          (lists.add_told (reads_who s.book.acts) (slice_index_or w.text.opening.states a no_state) (told_states a (slice_index_or s.logs (a % w.text.logs) no_log).records) (record { who = OfAct t; state = (cell_at s a).state }) (h.long a) (h.long a)
           (λ y i later x. lists.later (slice_index_or w.text.opening.states a no_state) y i later (OfAct t) (cell_at s a).state h.kept (h.long a) u fresh (g.good.committed a).front x)
           (λ nr. lists.told_act t (slice_index_or w.text.opening.states a no_state) (cell_at s a).state h.kept (h.long a) (g.good.tracked a).links (g.good.tracked a).in_order u
           (act_ahead (has_read (h.reads a)) t (cell_at s a).inbox h.kept (h.long a) away (not_read a t s.book.acts (h.reads a) (no_reads a (act_of t s.book.acts) nr) (g.read_by a)) fresh (g.good.committed a).front (g.good.tracked a).in_order (g.started a)) fresh (g.good.committed a).front)
           (q a))
     ]
       where
-        one : told a (ActPrepare t a (cell_at s a).state ∷ []) ≡ record { who = OfAct t; state = (cell_at s a).state } ∷ []
+        one : told_states a (ActPrepare t a (cell_at s a).state ∷ []) ≡ record { who = OfAct t; state = (cell_at s a).state } ∷ []
         one = rw (eq-eqb a a refl) refl
 
-    own : (c : ℕ) → c ≡ a → AllTells (reads_who s.book.acts) (slice_index_or w.text.opening.states c no_state) (told c (slice_index_or (slice_set s.logs (a % w.text.logs) (added (ActPrepare t a (cell_at s a).state ∷ []) (slice_index_or s.logs (a % w.text.logs) no_log))) (c % w.text.logs) no_log).records) (h.long c)
-    own c e = subst (λ z. AllTells (reads_who s.book.acts) (slice_index_or w.text.opening.states z no_state) (told z (slice_index_or (slice_set s.logs (a % w.text.logs) (added (ActPrepare t a (cell_at s a).state ∷ []) (slice_index_or s.logs (a % w.text.logs) no_log))) (z % w.text.logs) no_log).records) (h.long z)) (sym e) here
+    own : (c : ℕ) → c ≡ a → AllTells (reads_who s.book.acts) (slice_index_or w.text.opening.states c no_state) (told_states c (slice_index_or (slice_set s.logs (a % w.text.logs) (added (ActPrepare t a (cell_at s a).state ∷ []) (slice_index_or s.logs (a % w.text.logs) no_log))) (c % w.text.logs) no_log).records) (h.long c)
+    own c e = subst (λ z. AllTells (reads_who s.book.acts) (slice_index_or w.text.opening.states z no_state) (told_states z (slice_index_or (slice_set s.logs (a % w.text.logs) (added (ActPrepare t a (cell_at s a).state ∷ []) (slice_index_or s.logs (a % w.text.logs) no_log))) (z % w.text.logs) no_log).records) (h.long z)) (sym e) here
 telling_for w Of finish (Rollback a) s h v ok g su st pr q = moved (reads_who s.book.acts) w s h a _ (λ z. lists.all_tells (reads_who s.book.acts) (λ y. Unit {0}) _ _ (h.long a) _ (λ y i later n x. lists.roll_back _ y i later s.book.cascades (h.long a) x) (any_who w s a) z) q
 telling_for w Of finish (Finish t a) s h v ok g su st pr q = moved (reads_who s.book.acts) w s h a _ (by (is_traceless (act_of t s.book.acts)) fresh) q
   where
@@ -394,15 +394,15 @@ telling_for w Of finish (Finish t a) s h v ok g su st pr q = moved (reads_who s.
     fresh = Rattle.protocol_laws.proofs.machine.ActsOwed.finish_kept w t a s h ok g.acts
 
     by : (b : Bool) → is_kept (OfAct t) h.kept ≡ not b → TellsAt (reads_who s.book.acts) w s a (h.long a) → TellsAt (reads_who s.book.acts) w s a (if b then without_standing (OfAct t) (h.long a) else map (left_for_good (OfAct t)) (h.long a))
-    by true n z = lists.all_tells (reads_who s.book.acts) (λ y. Unit {0}) (slice_index_or w.text.opening.states a no_state) (told a (slice_index_or s.logs (a % w.text.logs) no_log).records) (h.long a) (without_standing (OfAct t) (h.long a)) (λ y i later m x. lists.undo (slice_index_or w.text.opening.states a no_state) y i later (OfAct t) h.kept (h.long a) (keys_at w s h a (OfAct t) g.good.tracked (TrackLists.acts_not_complete t (cell_at s a).entries)) n (g.good.committed a).front x) (any_who w s a) z
-    by false n z = lists.all_tells (reads_who s.book.acts) (λ y. Unit {0}) (slice_index_or w.text.opening.states a no_state) (told a (slice_index_or s.logs (a % w.text.logs) no_log).records) (h.long a) (map (left_for_good (OfAct t)) (h.long a)) (λ y i later m x. lists.leave (slice_index_or w.text.opening.states a no_state) y i later (OfAct t) (h.long a) x) (any_who w s a) z
+    by true n z = lists.all_tells (reads_who s.book.acts) (λ y. Unit {0}) (slice_index_or w.text.opening.states a no_state) (told_states a (slice_index_or s.logs (a % w.text.logs) no_log).records) (h.long a) (without_standing (OfAct t) (h.long a)) (λ y i later m x. lists.undo (slice_index_or w.text.opening.states a no_state) y i later (OfAct t) h.kept (h.long a) (keys_at w s h a (OfAct t) g.good.tracked (TrackLists.acts_not_complete t (cell_at s a).entries)) n (g.good.committed a).front x) (any_who w s a) z
+    by false n z = lists.all_tells (reads_who s.book.acts) (λ y. Unit {0}) (slice_index_or w.text.opening.states a no_state) (told_states a (slice_index_or s.logs (a % w.text.logs) no_log).records) (h.long a) (map (left_for_good (OfAct t)) (h.long a)) (λ y i later m x. lists.leave (slice_index_or w.text.opening.states a no_state) y i later (OfAct t) (h.long a) x) (any_who w s a) z
 telling_for w Of finish (Trim k a) s h v ok g su st pr q = moved (reads_who s.book.acts) w s h a _ (λ z. lists.all_tells (reads_who s.book.acts) (λ y. Unit {0}) _ _ (h.long a) _ (λ y i later m x. lists.leave _ y i later (OfBatch k) (h.long a) x) (any_who w s a) z) q
 telling_for w Of finish e s h v ok g su st pr q = q
 
 -- the book's readers stay so
 pub telling_kept : {C : Type 0} (w : Fixed C) (Of : Tx → C → Type 0) (finish : C → List State → Alone) (e : Event) (s : Machine C) (h : History) → Given w Of finish → IsAllowed w e s → AllGood w Of finish s h → ActsSure w s → ActsStand s h → Prepared w s → Telling w s h → Telling w (after w e s) (grown w e s h)
 unfolding Telling
-telling_kept w Of finish e s h v ok g su st pr q = λ a. lists.fewer_tell (reads_who s.book.acts) (reads_who (after w e s).book.acts) (slice_index_or w.text.opening.states a no_state) (told a (log_at (after w e s) (a % w.text.logs)).records) ((grown w e s h).long a) stays (telling_for w Of finish e s h v ok g su st pr q a)
+telling_kept w Of finish e s h v ok g su st pr q = λ a. lists.fewer_tell (reads_who s.book.acts) (reads_who (after w e s).book.acts) (slice_index_or w.text.opening.states a no_state) (told_states a (log_at (after w e s) (a % w.text.logs)).records) ((grown w e s h).long a) stays (telling_for w Of finish e s h v ok g su st pr q a)
   where
     stays : (y : Who) → reads_who s.book.acts y ≡ true → reads_who (after w e s).book.acts y ≡ true
     stays (OfBatch k) q = q

@@ -1,4 +1,4 @@
--- Who is told that it committed is serial, and closed, over every run.
+-- Who is told_committed that it committed is serial, and closed, over every run.
 use Rattle.std.specs.Prelude.{◌≡◌, refl, ℕ, zero, suc, Bool, true, false, ◌&&◌, if◌then◌else◌, Option, Some, None, List, [], ◌∷◌, ◌++◌, length, filter}
 use Rattle.std.specs.List.{AllByRecursion}
 use Rattle.std.proofs.Common.{arith, sym, ap, subst, ◌∙◌}
@@ -18,9 +18,9 @@ use Rattle.protocol.specs.Verdicts.{verdict, pact_place, act_place, ended_at}
 use Rattle.protocol.specs.Runs.{IsRun, reached}
 use Rattle.protocol.specs.History.{Done, History, history}
 use Rattle.protocol.specs.Rests.{IsRest, IsTxIn}
-use Rattle.protocol_laws.specs.Told.{is_at, ActTold, BatchTold, DoneFrom, PactFrom, FromBatches}
+use Rattle.protocol_laws.specs.Told.{has_number, ActTold, BatchTold, DoneFrom, PactFrom, FromBatches}
 use Rattle.protocol_records.specs.Crash.{NoneMissed}
-use Rattle.protocol_records.specs.AsTold.{is_over, told, ToldStands}
+use Rattle.protocol_records.specs.AsTold.{is_over, told_committed, ToldStands}
 use Rattle.protocol_laws.proofs.first.Lists.{both_all, weaker}
 use Rattle.protocol_laws.proofs.first.OnePlace.{transactions_in_one_place}
 use Rattle.protocol_laws.proofs.first.PairsFound.{each_act}
@@ -39,24 +39,24 @@ use Rattle.protocol_records.proofs.crash.DonesSure.{none_missed}
 use Rattle.protocol_records.proofs.crash.IsClosedKept.{parts_closed}
 use Rattle.protocol_records.proofs.crash.OversSure.{overs_sure}
 
--- ---- who is told is one of them
+-- ---- who is told_committed is one of them
 
-batch_told : {C : Type 0} (s : Machine C) (h : History) (n : ℕ) (b : Batch) → (is_settled b.stage ≡ true → is_over s (OfBatch b.bid) ≡ true) → BatchTold h.committed b.bid b → BatchSays n (Acked n (told s h)) b
+batch_told : {C : Type 0} (s : Machine C) (h : History) (n : ℕ) (b : Batch) → (is_settled b.stage ≡ true → is_over s (OfBatch b.bid) ≡ true) → BatchTold h.committed b.bid b → BatchSays n (Acked n (told_committed s h)) b
 batch_told s h n b d t f = weaker _ _ b.pacts
     (λ p i q r o. member (is_over s) h (OfBatch b.bid) p.tid p.tx n (pact_place b.bid p.tid) p.result r i.0 (d (ap is_settled f)) q o)
     (t (ap is_formed f))
 
-act_told : {C : Type 0} (s : Machine C) (h : History) (n : ℕ) (x : Act) → (is_sealed x.status ≡ true → is_over s (OfAct x.tid) ≡ true) → ActTold h.committed x.tid x → ActSays n (Acked n (told s h)) x
-act_told s h n x d t q k f r o v j = member (is_over s) h (OfAct x.tid) x.tid x.tx n (act_place x.m k) x.result r (t k (ap (is_at k) f ∙ eq-eqb k k refl)) (d (ap is_sealed f)) q o v j
+act_told : {C : Type 0} (s : Machine C) (h : History) (n : ℕ) (x : Act) → (is_sealed x.status ≡ true → is_over s (OfAct x.tid) ≡ true) → ActTold h.committed x.tid x → ActSays n (Acked n (told_committed s h)) x
+act_told s h n x d t q k f r o v j = member (is_over s) h (OfAct x.tid) x.tid x.tx n (act_place x.m k) x.result r (t k (ap (has_number k) f ∙ eq-eqb k k refl)) (d (ap is_sealed f)) q o v j
 
 told_at : {C : Type 0} (w : Fixed C) (Of : Tx → C → Type 0) (finish : C → List State → Alone) (s : Machine C) (h : History) → AllGood w Of finish s h
-    → (n : ℕ) (v : Rattle.snap_base.specs.declared.verdicts.Verdict.Verdict) → verdict n s.book s.desk ≡ Some v → Says (Acked n (told s h)) v
+    → (n : ℕ) (v : Rattle.snap_base.specs.declared.verdicts.Verdict.Verdict) → verdict n s.book s.desk ≡ Some v → Says (Acked n (told_committed s h)) v
 unfolding ActsTold PactsTold NoPlaces
-told_at w Of finish s h g n v e = verdict_says n (Acked n (told s h)) s v
+told_at w Of finish s h g n v e = verdict_says n (Acked n (told_committed s h)) s v
     (both_all _ _ _ s.desk.batches (λ b p q. batch_told s h n b p q) (each_batch w s (λ k b. is_settled b.stage ≡ true → is_over s (OfBatch k) ≡ true) g.good.settling (λ k b f q. subst (λ z. holds (λ b. is_settled b.stage) z ≡ true) (sym f) q)) (each_batch w s (BatchTold h.committed) g.good.settling g.pacts_told))
     (both_all _ _ _ s.book.acts (λ x p q. act_told s h n x p q) (each_act s (λ t x. is_sealed x.status ≡ true → is_over s (OfAct t) ≡ true) g.ascend (λ t x f q. subst (λ z. holds (λ x. is_sealed x.status) z ≡ true) (sym f) q)) (each_act s (ActTold h.committed) g.ascend g.told)) g.no_places e
 
--- ---- and each of them is told so
+-- ---- and each of them is told_committed so
 
 some_act : (o : Option Act) → holds (λ x. is_sealed x.status) o ≡ true → (x : Act) × ((o ≡ Some x) × (is_decided x.status ≡ false))
 some_act None e = absurd (true≢false (sym e))
@@ -72,7 +72,7 @@ some_batch : (o : Option Batch) → holds (λ b. is_settled b.stage) o ≡ true 
 some_batch None e = absurd (true≢false (sym e))
 some_batch (Some b) e = (b, (refl, e))
 
-each_told : {C : Type 0} (w : Fixed C) (Of : Tx → C → Type 0) (finish : C → List State → Alone) (s : Machine C) (h : History) → AllGood w Of finish s h → TransactionsInOnePlace w s → AllByRecursion (λ d. verdict d.tx s.book s.desk ≡ ended_at d.place d.result) (told s h)
+each_told : {C : Type 0} (w : Fixed C) (Of : Tx → C → Type 0) (finish : C → List State → Alone) (s : Machine C) (h : History) → AllGood w Of finish s h → TransactionsInOnePlace w s → AllByRecursion (λ d. verdict d.tx s.book s.desk ≡ ended_at d.place d.result) (told_committed s h)
 unfolding AllFrom PactsFrom
 each_told {C} w Of finish s h g o = each h.committed g.from g.pacts_from
   where

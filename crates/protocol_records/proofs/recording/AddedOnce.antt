@@ -17,8 +17,8 @@ use Rattle.protocol.specs.OnRing as ring
 use Rattle.protocol.specs.OnDesk as desk
 use Rattle.protocol.specs.History.{History}
 use Rattle.protocol_laws.proofs.machine.ActsTold.{at_live}
-use Rattle.protocol_laws.specs.Told.{is_at}
-use Rattle.protocol_records.specs.RecordLaws.{RecordKey, OfInfo, OfComplete, OfCommit, OfPrepare, OfActCommit, home, key_of, has_key, all_records, batch_actors, TellsOf, RecordsTell}
+use Rattle.protocol_laws.specs.Told.{has_number}
+use Rattle.protocol_records.specs.RecordLaws.{RecordKey, OfInfo, OfComplete, OfCommit, OfPrepare, OfActCommit, home, record_key, has_key, all_records, batch_actors, TellsOf, RecordsTell}
 use Rattle.protocol_laws.proofs.first.EpochsKept as epochs
 use Rattle.protocol_laws.proofs.first.Lists.{some_of}
 use Rattle.protocol_laws.proofs.machine.TurnsKept.{one_is}
@@ -70,16 +70,16 @@ live_has_none bs xs j x (BatchDone k vs) f l t e = true≢false (sym e)
 live_has_none bs xs j x (ActPrepare u a st) f l t e = true≢false (sym e)
 live_has_none bs xs j x (ActDone u m c v actors) f l t e =
     let i : t.act ≡ x = cc (sym t.found ∙ (ap (λ z. act_of z xs) (eqb-true u j e) ∙ f)) in
-    at_live c x.status l (subst (λ z. is_at c z.status ≡ true) i t.c_is)
+    at_live c x.status l (subst (λ z. has_number c z.status ≡ true) i t.c_is)
 
-home_complete : (many j b l : ℕ) (r : LogRecord) → home many (key_of r) ≡ l → is_complete j b r ≡ true → l ≡ b % many
+home_complete : (many j b l : ℕ) (r : LogRecord) → home many (record_key r) ≡ l → is_complete j b r ≡ true → l ≡ b % many
 home_complete many j b l (BatchInfo k actors tids) h e = absurd (true≢false (sym e))
 home_complete many j b l (BatchComplete k a st) h e = sym h ∙ ap (λ z. z % many) (eqb-true a b (and_parts (k == j) (a == b) e).1)
 home_complete many j b l (BatchDone k vs) h e = absurd (true≢false (sym e))
 home_complete many j b l (ActPrepare u a st) h e = absurd (true≢false (sym e))
 home_complete many j b l (ActDone u m c v actors) h e = absurd (true≢false (sym e))
 
-home_prepare : (many j b l : ℕ) (r : LogRecord) → home many (key_of r) ≡ l → is_prepare j b r ≡ true → l ≡ b % many
+home_prepare : (many j b l : ℕ) (r : LogRecord) → home many (record_key r) ≡ l → is_prepare j b r ≡ true → l ≡ b % many
 home_prepare many j b l (BatchInfo k actors tids) h e = absurd (true≢false (sym e))
 home_prepare many j b l (BatchComplete k a st) h e = absurd (true≢false (sym e))
 home_prepare many j b l (BatchDone k vs) h e = absurd (true≢false (sym e))
@@ -113,7 +113,7 @@ once_kept w Of finish (Complete k a) s h ok g b home tells q = λ key. add_one k
     fresh (OfInfo j) e l i = true≢false (sym e)
     fresh (OfComplete j c) e l i =
         let v = and_parts (k == j) (a == c) e in
-        let m : l ≡ a % w.text.logs = of_any (λ r. Rattle.protocol_records.specs.RecordLaws.home w.text.logs (key_of r) ≡ l) (is_complete j c) (l ≡ a % w.text.logs) (log_at s l).records (home l) (λ r t u. home_complete w.text.logs j c l r t u ∙ ap (λ z. z % w.text.logs) (sym (eqb-true a c v.1))) i in
+        let m : l ≡ a % w.text.logs = of_any (λ r. Rattle.protocol_records.specs.RecordLaws.home w.text.logs (record_key r) ≡ l) (is_complete j c) (l ≡ a % w.text.logs) (log_at s l).records (home l) (λ r t u. home_complete w.text.logs j c l r t u ∙ ap (λ z. z % w.text.logs) (sym (eqb-true a c v.1))) i in
         none (subst (λ z. list_any (is_complete k z) (log_at s (a % w.text.logs)).records ≡ true) (sym (eqb-true a c v.1)) (subst (λ z. list_any (is_complete z c) (log_at s (a % w.text.logs)).records ≡ true) (sym (eqb-true k j v.0)) (subst (λ z. list_any (is_complete j c) (log_at s z).records ≡ true) m i)))
     fresh (OfCommit j) e l i = true≢false (sym e)
     fresh (OfPrepare u c) e l i = true≢false (sym e)
@@ -142,7 +142,7 @@ once_kept w Of finish (Prepare t a) s h ok g b home tells q = λ key. add_one ke
     fresh (OfCommit j) e l i = true≢false (sym e)
     fresh (OfPrepare j c) e l i =
         let v = and_parts (t == j) (a == c) e in
-        let m : l ≡ a % w.text.logs = of_any (λ r. Rattle.protocol_records.specs.RecordLaws.home w.text.logs (key_of r) ≡ l) (is_prepare j c) (l ≡ a % w.text.logs) (log_at s l).records (home l) (λ r x u. home_prepare w.text.logs j c l r x u ∙ ap (λ z. z % w.text.logs) (sym (eqb-true a c v.1))) i in
+        let m : l ≡ a % w.text.logs = of_any (λ r. Rattle.protocol_records.specs.RecordLaws.home w.text.logs (record_key r) ≡ l) (is_prepare j c) (l ≡ a % w.text.logs) (log_at s l).records (home l) (λ r x u. home_prepare w.text.logs j c l r x u ∙ ap (λ z. z % w.text.logs) (sym (eqb-true a c v.1))) i in
         none (subst (λ z. list_any (is_prepare t z) (log_at s (a % w.text.logs)).records ≡ true) (sym (eqb-true a c v.1)) (subst (λ z. list_any (is_prepare z c) (log_at s (a % w.text.logs)).records ≡ true) (sym (eqb-true t j v.0)) (subst (λ z. list_any (is_prepare j c) (log_at s z).records ≡ true) m i)))
     fresh (OfActCommit u) e l i = true≢false (sym e)
 once_kept {C} w Of finish (Decide t) s h ok g b home tells q = λ key. subst (λ o. count (has_key key) (all_records (slice_set s.logs (t % w.text.logs) (added (act_commit s.book.next_c o) (log_at s (t % w.text.logs))))) ≤ 1) (sym x.1) (by key (is_value x.0.result))

@@ -17,7 +17,7 @@ use Rattle.protocol.specs.Runs.{opening, IsRun, reached}
 use Rattle.protocol.specs.Moments.{left_in}
 use Rattle.protocol.specs.History.{Done, History, no_history, history}
 use Rattle.protocol_records.specs.Crash.{AtEveryMoment, is_in, tids_in, bids_in, cs_in, BatchIsWhole, ActIsWhole}
-use Rattle.protocol_laws.specs.Told.{is_at, DoneFrom, IsDonePact, PactFrom}
+use Rattle.protocol_laws.specs.Told.{has_number, DoneFrom, IsDonePact, PactFrom}
 use Rattle.protocol_laws.specs.Marks.{Known}
 use Rattle.protocol_laws.specs.Ranges.{IsWithin, BatchInRange, ActInRange, NumbersInRange}
 use Rattle.protocol_records.specs.RecordLaws.{batch_actors, batch_tids, act_actors, TellsOf}
@@ -156,7 +156,7 @@ member_pact w finish s h logs k d some n kn f p i e =
       place = subst (λ z. IsPlaceWithin w (next_bid_of w logs) (next_c_of w logs) z d.place) (sym i) (place.0, place.1, record { reached = place.2.reached; below = bids.0 });
     }
 
-same_c : (c d : ℕ) (st : Rattle.protocol.specs.Parts.Status) → is_at c st ≡ true → is_at d st ≡ true → c ≡ d
+same_c : (c d : ℕ) (st : Rattle.protocol.specs.Parts.Status) → has_number c st ≡ true → has_number d st ≡ true → c ≡ d
 same_c c d Rattle.protocol.specs.Parts.Live e f = absurd (true≢false (sym e))
 same_c c d (Rattle.protocol.specs.Parts.Doomed v) e f = absurd (true≢false (sym e))
 same_c c d (Rattle.protocol.specs.Parts.Decided x) e f = sym (eqb-true x c e) ∙ eqb-true x d f

@@ -17,7 +17,7 @@ use Rattle.protocol.specs.Runs.{IsRun, reached}
 use Rattle.protocol.specs.Settling.{BatchesSettleInOrder}
 use Rattle.protocol.specs.Standing.{PairsStand}
 use Rattle.protocol.specs.History.{Done, History}
-use Rattle.protocol_laws.specs.Told.{EachAct, is_at, DoneFrom, IsDonePact, AnyPact, PactFrom}
+use Rattle.protocol_laws.specs.Told.{EachAct, has_number, DoneFrom, IsDonePact, AnyPact, PactFrom}
 use Rattle.protocol_laws.specs.Ranges.{IsWithin, BatchInRange, ActInRange, NumbersInRange}
 use Rattle.protocol_records.specs.NextNumbers.{IsPlaceWithin, IsNumberedWithin}
 use Rattle.protocol_laws.proofs.first.Lists.{all_found, all_filter, weaker, some_of}
@@ -40,7 +40,7 @@ use Rattle.protocol_laws.proofs.first.EpochsKept.{greatest_less}
 -- ---- commit numbers
 
 abbrev pub NumberedC : ℕ → ℕ → ℕ → Act → Type 0
-NumberedC low high t x = (c : ℕ) → is_at c x.status ≡ true → IsWithin low high c
+NumberedC low high t x = (c : ℕ) → has_number c x.status ≡ true → IsWithin low high c
 
 pub record CommitsDrawn {C : Type 0} (w : Fixed C) (s : Machine C) : Type 0 where
   pub low : w.text.opening.next_c ≤ s.book.next_c

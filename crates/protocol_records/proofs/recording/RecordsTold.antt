@@ -12,11 +12,11 @@ use Rattle.protocol.specs.Parts.{Act, Joined, Batch, OfBatch, Machine}
 use Rattle.protocol.specs.Words.{holds, is_among, is_value, is_formed, act_of, batch_of}
 use Rattle.protocol.specs.Effects.{log_at}
 use Rattle.protocol.specs.History.{History}
-use Rattle.protocol_laws.specs.Told.{is_at}
+use Rattle.protocol_laws.specs.Told.{has_number}
 use Rattle.protocol_laws.specs.Marks.{Known, Marked}
 use Rattle.protocol_records.proofs.crash.KeptAll.{batch_kept}
-use Rattle.protocol_records.specs.Logged.{actors_of, has_place, Infos, InfoIs, ActCommits, CommitIs, Prepared}
-use Rattle.protocol_records.specs.RecordLaws.{home, key_of, batch_actors, act_actors, valued, TellsOf, RecordsTell}
+use Rattle.protocol_records.specs.Logged.{actors_of_batch, has_joined, Infos, InfoIs, ActCommits, CommitIs, Prepared}
+use Rattle.protocol_records.specs.RecordLaws.{home, record_key, batch_actors, act_actors, valued, TellsOf, RecordsTell}
 use Rattle.protocol_laws.proofs.first.Lists.{both_all, some_of, weaker}
 use Rattle.protocol_laws.proofs.machine.TurnsKept.{one_is}
 use Rattle.protocol_laws.proofs.machine.AllGood.{AllGood}
@@ -36,11 +36,11 @@ all_there : (rs : List LogRecord) → AllByRecursion (IsThere rs) rs
 all_there [] = tt
 all_there (r ∷ rs) = ((λ p e. or_left (p r) _ e), weaker (IsThere rs) (IsThere (r ∷ rs)) rs (λ x k p e. or_right (p r) _ (k p e)) (all_there rs))
 
-same_actors : (o : Option Batch) (xs : List ℕ) → actors_of o ≡ Some xs → option_map batch_actors o ≡ Some xs
+same_actors : (o : Option Batch) (xs : List ℕ) → actors_of_batch o ≡ Some xs → option_map batch_actors o ≡ Some xs
 same_actors None xs e = absurd (cc e)
 same_actors (Some b) xs e = e
 
-of_actors : (a : ℕ) (o : Option Batch) (xs : List ℕ) → actors_of o ≡ Some xs → is_among a xs ≡ true → holds (λ b. is_among a (batch_actors b)) o ≡ true
+of_actors : (a : ℕ) (o : Option Batch) (xs : List ℕ) → actors_of_batch o ≡ Some xs → is_among a xs ≡ true → holds (λ b. is_among a (batch_actors b)) o ≡ true
 of_actors a None xs e i = absurd (cc e)
 of_actors a (Some b) xs e i = let q : xs ≡ map (λ p. p.actor) b.places = cc (sym e) in subst (λ z. is_among a z ≡ true) q i
 
@@ -55,7 +55,7 @@ place_among a (p ∷ ps) e = elim (or_cases (p.actor == a) _ e) [ inl q ↦ or_l
 -- what is known of one record of log l
 record Facts (many : ℕ) (bs : List Batch) (xs : List Act) (rs : List LogRecord) (l : ℕ) (r : LogRecord) : Type 0 where
   there : IsThere rs r
-  home : home many (key_of r) ≡ l
+  home : home many (record_key r) ≡ l
   info : InfoIs bs r
   tids : TidsAre bs r
   commit : CommitIs xs r
@@ -64,7 +64,7 @@ record Facts (many : ℕ) (bs : List Batch) (xs : List Act) (rs : List LogRecord
 
 facts : {C : Type 0} (w : Fixed C) (s : Machine C) (h : History) (l : ℕ) → AtHome w s → InfoTids s → CommitNumbers s → CommitValues s → Both w s h → AllByRecursion (Facts w.text.logs s.desk.batches s.book.acts (log_at s l).records l) (log_at s l).records
 unfolding AtHome InfoTids CommitNumbers CommitValues Infos ActCommits
-facts w s h l home tids numbers values b = both_all _ _ _ rs (λ r (p : IsThere rs r × (Rattle.protocol_records.specs.RecordLaws.home w.text.logs (key_of r) ≡ l)) (q : (InfoIs bs r × TidsAre bs r) × (CommitIs xs r × (NumbersAre xs r × ValuesAre bs xs r))). record { there = p.0; home = p.1; info = q.0.0; tids = q.0.1; commit = q.1.0; numbers = q.1.1.0; values = q.1.1.1 })
+facts w s h l home tids numbers values b = both_all _ _ _ rs (λ r (p : IsThere rs r × (Rattle.protocol_records.specs.RecordLaws.home w.text.logs (record_key r) ≡ l)) (q : (InfoIs bs r × TidsAre bs r) × (CommitIs xs r × (NumbersAre xs r × ValuesAre bs xs r))). record { there = p.0; home = p.1; info = q.0.0; tids = q.0.1; commit = q.1.0; numbers = q.1.1.0; values = q.1.1.1 })
     (both_all _ _ _ rs (λ r p q. (p, q)) (all_there rs) (home l))
     (both_all _ _ _ rs (λ r p q. (p, q)) (both_all _ _ _ rs (λ r p q. (p, q)) (b.logs.infos l) (tids l)) (both_all _ _ _ rs (λ r p q. (p, q)) (b.logs.commits l) (both_all _ _ _ rs (λ r p q. (p, q)) (numbers l) (values l))))
   where
@@ -98,11 +98,11 @@ told w Of finish s h g b home kept tids numbers values l = weaker (Facts w.text.
         (subst (λ o. holds (λ b. not (is_formed b.stage)) o ≡ true) (sym x.1) (sym (g.good.marked k x.0 x.1).known ∙ q), f.values)
     one (ActPrepare t a st) f =
         let p = b.logs.prepared t a (subst (λ z. list_any (is_prepare t a) (log_at s z).records ≡ true) (sym f.home) (f.there (is_prepare t a) (and_from (t == t) (a == a) (self t) (self a)))) in
-        holds_weaker (λ x. is_value x.result && has_place a x) (λ x. is_value x.result && is_among a (act_actors x)) (act_of t s.book.acts) (λ x e. let v = and_parts (is_value x.result) (has_place a x) e in and_from (is_value x.result) (is_among a (act_actors x)) v.0 (place_among a x.places v.1)) p
+        holds_weaker (λ x. is_value x.result && has_joined a x) (λ x. is_value x.result && is_among a (act_actors x)) (act_of t s.book.acts) (λ x e. let v = and_parts (is_value x.result) (has_joined a x) e in and_from (is_value x.result) (is_among a (act_actors x)) v.0 (place_among a x.places v.1)) p
     one (ActDone t m c v actors) f =
         let x = f.commit in
         let n = some_of (is_placed m c) (act_of t s.book.acts) x.0 x.1 f.numbers in
-        let v = and_parts (x.0.m == m) (is_at c x.0.status) n in
+        let v = and_parts (x.0.m == m) (has_number c x.0.status) n in
         record {
           act = x.0;
           found = x.1;

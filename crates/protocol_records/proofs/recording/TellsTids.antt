@@ -16,8 +16,8 @@ use Rattle.protocol.specs.OnDesk as desk
 use Rattle.protocol.specs.OnBook as book
 use Rattle.protocol.specs.History.{History}
 use Rattle.protocol_laws.proofs.machine.ActsTold.{at_placed, at_live, at_sealed, at_decided, now_at}
-use Rattle.protocol_laws.specs.Told.{is_at}
-use Rattle.protocol_records.specs.RecordLaws.{key_of, home, batch_tids}
+use Rattle.protocol_laws.specs.Told.{has_number}
+use Rattle.protocol_records.specs.RecordLaws.{record_key, home, batch_tids}
 use Rattle.protocol_laws.proofs.first.EpochsKept as epochs
 use Rattle.protocol_laws.proofs.first.Frames.{frame}
 use Rattle.protocol_laws.proofs.machine.ControlWalk.{AllControls}
@@ -39,24 +39,24 @@ use Rattle.protocol_laws.proofs.machine.CommitRecords.{not_placed}
 -- ---- where records lie
 
 unfoldable pub AtHome : {C : Type 0} → Fixed C → Machine C → Type 0
-AtHome w s = (l : ℕ) → AllByRecursion (λ r. home w.text.logs (key_of r) ≡ l) (log_at s l).records
+AtHome w s = (l : ℕ) → AllByRecursion (λ r. home w.text.logs (record_key r) ≡ l) (log_at s l).records
 
-commit_home : (many t c : ℕ) (o : Option Act) → ((x : Act) → o ≡ Some x → x.tid ≡ t) → AllByRecursion (λ r. home many (key_of r) ≡ t % many) (act_commit c o)
+commit_home : (many t c : ℕ) (o : Option Act) → ((x : Act) → o ≡ Some x → x.tid ≡ t) → AllByRecursion (λ r. home many (record_key r) ≡ t % many) (act_commit c o)
 commit_home many t c None k = tt
 commit_home many t c (Some x) k = by (is_value x.result)
   where
-    by : (b : Bool) → AllByRecursion (λ r. home many (key_of r) ≡ t % many) (if b then ActDone x.tid x.m c (value_of x.result) (ascending (map (λ p. p.actor) x.places)) ∷ [] else [])
+    by : (b : Bool) → AllByRecursion (λ r. home many (record_key r) ≡ t % many) (if b then ActDone x.tid x.m c (value_of x.result) (ascending (map (λ p. p.actor) x.places)) ∷ [] else [])
     by true = (ap (λ z. z % many) (k x refl), tt)
     by false = tt
 
 pub home_kept : {C : Type 0} (w : Fixed C) (e : Event) (s : Machine C) → AtHome w s → AtHome w (after w e s)
 unfolding AtHome after
-home_kept w (Form k) s h = each_added (λ l r. home w.text.logs (key_of r) ≡ l) _ s.logs (k % w.text.logs) (refl, tt) h
-home_kept w (Complete k a) s h = each_added (λ l r. home w.text.logs (key_of r) ≡ l) _ s.logs (a % w.text.logs) (refl, tt) h
-home_kept w (Commit k) s h = each_added (λ l r. home w.text.logs (key_of r) ≡ l) _ s.logs (k % w.text.logs) (refl, tt) h
-home_kept w (Prepare t a) s h = each_added (λ l r. home w.text.logs (key_of r) ≡ l) _ s.logs (a % w.text.logs) (refl, tt) h
-home_kept w (Decide t) s h = each_added (λ l r. home w.text.logs (key_of r) ≡ l) _ s.logs (t % w.text.logs) (commit_home w.text.logs t s.book.next_c (act_of t s.book.acts) (λ x e. acts.found_tid t x s.book.acts e)) h
-home_kept w (Sync i) s h = each_synced (λ l r. home w.text.logs (key_of r) ≡ l) s.logs i h
+home_kept w (Form k) s h = each_added (λ l r. home w.text.logs (record_key r) ≡ l) _ s.logs (k % w.text.logs) (refl, tt) h
+home_kept w (Complete k a) s h = each_added (λ l r. home w.text.logs (record_key r) ≡ l) _ s.logs (a % w.text.logs) (refl, tt) h
+home_kept w (Commit k) s h = each_added (λ l r. home w.text.logs (record_key r) ≡ l) _ s.logs (k % w.text.logs) (refl, tt) h
+home_kept w (Prepare t a) s h = each_added (λ l r. home w.text.logs (record_key r) ≡ l) _ s.logs (a % w.text.logs) (refl, tt) h
+home_kept w (Decide t) s h = each_added (λ l r. home w.text.logs (record_key r) ≡ l) _ s.logs (t % w.text.logs) (commit_home w.text.logs t s.book.next_c (act_of t s.book.acts) (λ x e. acts.found_tid t x s.book.acts e)) h
+home_kept w (Sync i) s h = each_synced (λ l r. home w.text.logs (record_key r) ≡ l) s.logs i h
 home_kept w e s h = h
 
 pub home_opened : (many : ℕ) (P : ℕ → LogRecord → Type 0) (n l : ℕ) → AllByRecursion (P l) (slice_index_or (replicate n no_log) l no_log).records
@@ -114,7 +114,7 @@ tids_kept w e s ok ag g = λ l. infos_stay w e s _ (g l)
 -- ---- the numbers of an ACT that committed
 
 abbrev pub is_placed : ℕ → ℕ → Act → Bool
-is_placed m c x = (x.m == m) && is_at c x.status
+is_placed m c x = (x.m == m) && has_number c x.status
 
 abbrev pub NumbersAre : List Act → LogRecord → Type 0
 NumbersAre xs (BatchInfo k actors tids) = Unit {0}
@@ -127,15 +127,15 @@ unfoldable pub CommitNumbers : {C : Type 0} → Machine C → Type 0
 CommitNumbers s = (l : ℕ) → AllByRecursion (NumbersAre s.book.acts) (log_at s l).records
 
 placed_ordered : (m c : ℕ) (x : Act) → is_placed m c x ≡ true → is_ordered x.status ≡ true
-placed_ordered m c x e = at_placed c x.status (and_parts (x.m == m) (is_at c x.status) e).1
+placed_ordered m c x e = at_placed c x.status (and_parts (x.m == m) (has_number c x.status) e).1
 
-placed_again : (m c : ℕ) (x : Act) (st : Status) → (is_at c x.status ≡ true → is_at c st ≡ true) → is_placed m c x ≡ true → is_placed m c (record x { status = st }) ≡ true
-placed_again m c x st k e = let v = and_parts (x.m == m) (is_at c x.status) e in and_from (x.m == m) (is_at c st) v.0 (k v.1)
+placed_again : (m c : ℕ) (x : Act) (st : Status) → (has_number c x.status ≡ true → has_number c st ≡ true) → is_placed m c x ≡ true → is_placed m c (record x { status = st }) ≡ true
+placed_again m c x st k e = let v = and_parts (x.m == m) (has_number c x.status) e in and_from (x.m == m) (has_number c st) v.0 (k v.1)
 
 holds_placed : (t m c : ℕ) → HoldsAnyway (λ u x. u ≡ t → is_placed m c x ≡ true)
 holds_placed t m c = record {
   numbered = λ u x n p e. p e;
-  doomed = λ u x v l p e. absurd (at_live c x.status l (and_parts (x.m == m) (is_at c x.status) (p e)).1);
+  doomed = λ u x v l p e. absurd (at_live c x.status l (and_parts (x.m == m) (has_number c x.status) (p e)).1);
   rises = λ u k x l p e. absurd (true≢false (sym (placed_ordered m c x (p e)) ∙ l));
 }
 
@@ -175,7 +175,7 @@ numbers_kept w (Decide t) s h ok n i g = each_added (λ l. NumbersAre (after w (
     by : (x : Act) → act_of t s.book.acts ≡ Some x → is_live_status x.status ≡ true → (b : Bool) → AllByRecursion (NumbersAre (book.changed_act t (book.decided_as s.book.next_c) s.book.acts)) (if b then ActDone x.tid x.m s.book.next_c (value_of x.result) (ascending (map (λ p. p.actor) x.places)) ∷ [] else [])
     by x e l true = (
       subst (λ o. holds (is_placed x.m s.book.next_c) o ≡ true) (sym (ap (λ z. act_of z (book.changed_act t (book.decided_as s.book.next_c) s.book.acts)) (acts.found_tid t x s.book.acts e) ∙ found_changed t (book.decided_as s.book.next_c) x s.book.acts (λ x. refl) e))
-          (and_from (x.m == x.m) (is_at s.book.next_c (book.decided_status s.book.next_c (is_value x.result) x.status)) (eq-eqb x.m x.m refl) (now_at s.book.next_c (is_value x.result) x.status l)),
+          (and_from (x.m == x.m) (has_number s.book.next_c (book.decided_status s.book.next_c (is_value x.result) x.status)) (eq-eqb x.m x.m refl) (now_at s.book.next_c (is_value x.result) x.status l)),
       tt,
     )
     by x e l false = tt

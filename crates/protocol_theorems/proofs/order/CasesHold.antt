@@ -12,7 +12,7 @@ use Rattle.protocol.specs.Fixed.{Fixed}
 use Rattle.protocol.specs.Facts.{Alone}
 use Rattle.protocol.specs.Rests.{IsRest, IsTxIn}
 use Rattle.protocol.specs.Laws.{AfterEveryRunWithHistory}
-use Rattle.protocol.specs.Parts.{Act, Status, Live, Doomed, Decided, Sealed, Pact, Batch, Who, OfBatch, OfAct, Machine}
+use Rattle.protocol.specs.Parts.{Act, Pact, Batch, Who, OfBatch, OfAct, Machine}
 use Rattle.protocol.specs.Words.{act_of, batch_of}
 use Rattle.protocol.specs.Events.{Event, Commit, Decide}
 use Rattle.protocol.specs.Effects.{after}
@@ -20,9 +20,9 @@ use Rattle.protocol.specs.Runs.{IsRun, reached}
 use Rattle.protocol.specs.Verdicts.{pact_place, act_place}
 use Rattle.protocol.specs.History.{Done, History, history, grown, done_pact, done_batch, done_act}
 use Rattle.protocol.specs.Chains.{chain, is_place_below, RivalsRise}
-use Rattle.protocol_laws.specs.Told.{is_at, DoneFrom}
-use Rattle.protocol_laws.specs.Rising.{number_of, visitors, visits}
-use Rattle.protocol_theorems.specs.OrderCases.{has_number, OwnPlace, EachBehind, BatchBehindAct, ActBehindBatch, ActBehindAct, BatchBehindBatch, CasesHold}
+use Rattle.protocol_laws.specs.Told.{has_number, DoneFrom}
+use Rattle.protocol_laws.specs.Rising.{first_number_of, visitors, visits}
+use Rattle.protocol_theorems.specs.OrderCases.{OwnPlace, EachBehind, BatchBehindAct, ActBehindBatch, ActBehindAct, BatchBehindBatch, CasesHold}
 use Rattle.protocol_laws.proofs.first.Lists.{all_join, all_filter, weaker, both_all}
 use Rattle.protocol_laws.proofs.machine.ActsFound as acts
 use Rattle.protocol_laws.proofs.machine.ActsTold.{AllFrom}
@@ -102,12 +102,6 @@ orders_rise w Of finish es v run = along_good w Of finish (λ s h. Orders s.book
 
 -- ---- each has its own place
 
-at_number : (c : ℕ) (st : Status) → is_at c st ≡ true → has_number c st ≡ true
-at_number c Live e = e
-at_number c (Doomed why) e = e
-at_number c (Decided d) e = e
-at_number c (Sealed d) e = e
-
 own_act : (xs : List Act) (t : ℕ) (d : Done) → DoneFrom xs t d → OwnPlace xs (OfAct t) d
 own_act xs t d f = by (act_of t xs) refl f.there
   where
@@ -116,7 +110,7 @@ own_act xs t d f = by (act_of t xs) refl f.there
     by (Some x) e h =
         let k = f.is_it t x e refl in
         let o : d.place.order ≡ k.c = ap (λ p. p.order) k.place in
-        (x, (e, (k.tid ∙ acts.found_tid t x xs e, (subst (λ c. has_number c x.status ≡ true) (sym o) (at_number k.c x.status k.at), k.place ∙ ap (act_place x.m) (sym o)))))
+        (x, (e, (k.tid ∙ acts.found_tid t x xs e, (subst (λ c. has_number c x.status ≡ true) (sym o) k.at, k.place ∙ ap (act_place x.m) (sym o)))))
 
 own_place : (xs : List Act) (d : Done) → ((t : ℕ) → d.who ≡ OfAct t → DoneFrom xs t d) → BatchPlace d → OwnPlace xs d.who d
 own_place xs d f g = by d.who refl
@@ -168,7 +162,7 @@ act_batch xs d e g h b k t i j =
     let n : d.place.batch.0 ≡ k = ap (λ p. p.batch.0) (batch_is xs d k g i) in
     elim (below_is d.place e.place b) [ inl l ↦ omega (arith, l, n) | inr r ↦ omega (arith, r.0, n) ]
 
-not_lower : (d e : Done) → is_place_below d.place e.place ≡ true → number_of d ≤ number_of e
+not_lower : (d e : Done) → is_place_below d.place e.place ≡ true → first_number_of d ≤ first_number_of e
 not_lower d e b = elim (below_is d.place e.place b) [ inl l ↦ omega (arith, l) | inr r ↦ omega (arith, r.0) ]
 
 batch_batch : (xs : List Act) (d e : Done) → OwnPlace xs d.who d → OwnPlace xs e.who e → is_place_below d.place e.place ≡ true → BatchBehindBatch d e
@@ -243,8 +237,8 @@ cases_of w finish s h own batches orders rise chains = record {
   own_places = own;
   batch_behind_act = λ a l. each_case BatchBehindAct P (λ d e p q b t k i j. batch_act s.book.acts d e p.0 q.0 (b (no_right d.reader (q.1 k j))) t k i j) (chain a h) (there a l) (risen a l);
   act_behind_batch = λ a l. each_case ActBehindBatch P (λ d e p q b k t i j. act_batch s.book.acts d e p.0 q.0 (b (no_left e.reader (p.1 k i))) k t i j) (chain a h) (there a l) (risen a l);
-  act_behind_act = λ a l. behind_both (λ d e. (d.reader && e.reader) ≡ false → number_of d ≤ number_of e) (λ d e. (d.reader && e.reader) ≡ false → OrdersRise d e) ActBehindAct (chain a h) (λ d e i j t u p q n. (i n, j n t u p q))
-      (each_case (λ d e. (d.reader && e.reader) ≡ false → number_of d ≤ number_of e) P (λ d e p q b n. not_lower d e (b n)) (chain a h) (there a l) (risen a l))
+  act_behind_act = λ a l. behind_both (λ d e. (d.reader && e.reader) ≡ false → first_number_of d ≤ first_number_of e) (λ d e. (d.reader && e.reader) ≡ false → OrdersRise d e) ActBehindAct (chain a h) (λ d e i j t u p q n. (i n, j n t u p q))
+      (each_case (λ d e. (d.reader && e.reader) ≡ false → first_number_of d ≤ first_number_of e) P (λ d e p q b n. not_lower d e (b n)) (chain a h) (there a l) (risen a l))
       (shuffled_behind OrdersRise (chain a h) (visitors a h.committed) (chains a l) (behind_filter OrdersRise (visits a) h.committed orders));
   batch_behind_batch = λ a l. each_case BatchBehindBatch P (λ d e p q b j k i g. batch_batch s.book.acts d e p.0 q.0 (b (no_left e.reader (p.1 j i))) j k i g) (chain a h) (there a l) (risen a l);
 }

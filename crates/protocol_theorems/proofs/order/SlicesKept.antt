@@ -23,7 +23,7 @@ use Rattle.protocol.specs.OnCell.{is_cut, is_entry_among}
 use Rattle.protocol.specs.History.{History, Trail, Step, Slice, Ran, Stands, Gone, grown, with_at, begun, gone_on, not_run, ran_in, completed, left_for_good, without_standing, long_staying, asks, slices_of, batches_in, ran_on, read_on, is_traceless}
 use Rattle.protocol_laws.specs.Tracks.{key_of, keys_in, is_key_among, has_read}
 use Rattle.protocol_laws.specs.Trails.{on_actor}
-use Rattle.protocol_laws.specs.Places.{Fits, Ascends}
+use Rattle.protocol_laws.specs.Places.{FitsCell, Ascends}
 use Rattle.protocol_laws.specs.FromDesk.{FromDesk}
 use Rattle.protocol_laws.proofs.first.SettlingKept as settling
 use Rattle.protocol_laws.proofs.machine.TrackLists
@@ -244,7 +244,7 @@ runs_on v w who y t u a x trails long reads i o m b = by (t == u) refl (b == a) 
 -- ---- the two premises of a rollback: a batch that is not aborted stands ahead of the cut, and so does a live ACT
 
 -- all batches behind an aborted one are aborted
-going_aborted : (next ep tail k : ℕ) (cs : List Cascade) (rs : List Ran) → AllByRecursion (Fits next cs ep tail) (batches_in rs) → Ascends (batches_in rs) → is_key_among (OfBatch k) (TrackLists.keys_going cs (keys_in rs)) ≡ true → is_aborted k cs ≡ true
+going_aborted : (next ep tail k : ℕ) (cs : List Cascade) (rs : List Ran) → AllByRecursion (FitsCell next cs ep tail) (batches_in rs) → Ascends (batches_in rs) → is_key_among (OfBatch k) (TrackLists.keys_going cs (keys_in rs)) ≡ true → is_aborted k cs ≡ true
 going_aborted next ep tail k cs [] f asc e = absurd (true≢false (sym e))
 going_aborted next ep tail k cs (Stands (OfAct t) c ss ∷ rs) f asc e = going_aborted next ep tail k cs rs f asc e
 going_aborted next ep tail k cs (Stands (OfBatch x) c ss ∷ rs) f asc e = by (is_aborted x cs) refl e (going_aborted next ep tail k cs rs f.1 asc.1)
@@ -255,7 +255,7 @@ going_aborted next ep tail k cs (Stands (OfBatch x) c ss ∷ rs) f asc e = by (i
       | inl q ↦ subst (λ z. is_aborted z cs ≡ true) (eqb-true x k q) a
       | inr q ↦
           let l : x < k = PlaceLists.at_key (λ j. x < j) k rs q asc.0 in
-          let m = PlaceLists.at_key (Fits next cs ep tail) k rs q f.1 in
+          let m = PlaceLists.at_key (FitsCell next cs ep tail) k rs q f.1 in
           PlaceLists.suffix x k cs a (omega (arith, l)) (omega (arith, f.0.aborted a, m.placed))
     ]
 going_aborted next ep tail k cs (Gone (OfAct t) ss ∷ rs) f asc e = going_aborted next ep tail k cs rs f asc e
@@ -334,8 +334,8 @@ not_standing next t owners (Stands (OfAct u) c ss ∷ rs) l h = rw (ne_eqb u t (
 not_standing next t owners (Gone y ss ∷ rs) l h = not_standing next t owners rs l h
 
 -- nor does a batch that was not formed
-not_placed : (next k ep tail : ℕ) (cs : List Cascade) (rs : List Ran) → next ≤ k → AllByRecursion (Fits next cs ep tail) (batches_in rs) → is_key_among (OfBatch k) (keys_in rs) ≡ false
-not_placed next k ep tail cs rs l f = false_from_ne_true (is_key_among (OfBatch k) (keys_in rs)) (λ q. omega (arith, l, (PlaceLists.at_key (Fits next cs ep tail) k rs q f).formed))
+not_placed : (next k ep tail : ℕ) (cs : List Cascade) (rs : List Ran) → next ≤ k → AllByRecursion (FitsCell next cs ep tail) (batches_in rs) → is_key_among (OfBatch k) (keys_in rs) ≡ false
+not_placed next k ep tail cs rs l f = false_from_ne_true (is_key_among (OfBatch k) (keys_in rs)) (λ q. omega (arith, l, (PlaceLists.at_key (FitsCell next cs ep tail) k rs q f).formed))
 
 who_stands : (t : ℕ) (es : List Entry) (p : Entry → Bool) → holds p (find (is_entry_of t) es) ≡ true → is_key_among (who_on t es) (map key_of es) ≡ true
 who_stands t [] p h = absurd (true≢false (sym h))

@@ -11,7 +11,7 @@ use Rattle.protocol.specs.Fixed.{Fixed, Next, Go, Ended, Code}
 use Rattle.protocol.specs.Parts.{Act, Batch, Pact, Slot, Who, OfBatch, OfAct, ControlMessage, Waiting, Outcome, Entry, BatchEntry, ActEntry, Cell, Machine}
 use Rattle.protocol.specs.Events.{Event, Form, Admit, Ask, Take, Send, End, DropControl, Decide}
 use Rattle.protocol.specs.Words.{holds, who_on, is_open, is_formed, is_going, is_ended, names_pact, act_of, batch_of, has_act, control_of, without_control, waiting_of, outcome_of}
-use Rattle.protocol.specs.Numbers.{flat, times, one_if, waiting_tids, outcome_tids, tids_in, controls_in}
+use Rattle.protocol.specs.Numbers.{flat, times, one_if, waiting_tids, outcome_tids, tids_of_controls, controls_in}
 use Rattle.protocol.specs.Conditions.{IsAllowed, conditions, queue}
 use Rattle.protocol.specs.Effects.{after, cell_at, puts, no_cell}
 use Rattle.protocol.specs.OnRing as ring
@@ -77,7 +77,7 @@ who_is s h a t (ActEntry x ∷ es) g d = by (x.tid == t) refl (who_is s h a t es
     by true e r = inl (ap OfAct (eqb-true x.tid t e))
     by false e r = r
 
-sends : {C : Type 0} (owners : ℕ → Who) (t : ℕ) (who : Who) (xs : List (Outcome C)) (o : Option (Outcome C)) → outcome_of t xs ≡ o → (who ≡ OfAct t) ⊎ (who ≡ owners t) → AllByRecursion (IsWhose owners) (post.going who o)
+sends : {C : Type 0} (owners : ℕ → Who) (t : ℕ) (who : Who) (xs : List (Outcome C)) (o : Option (Outcome C)) → outcome_of t xs ≡ o → (who ≡ OfAct t) ⊎ (who ≡ owners t) → AllByRecursion (IsWhose owners) (post.handed_on who o)
 sends owners t who xs None e h = tt
 sends {C} owners t who xs (Some x) e h = by x.next
   where
@@ -158,22 +158,22 @@ local u cs c = times u (map (λ m. m.tid) cs) + times u (waiting_tids c.inbox) +
 
 -- where the post and a cell become others, and there is no less there
 no_less : {C : Type 0} (u : ℕ) (s : Machine C) (a : ℕ) (cs : List (ControlMessage C)) (c : Cell C) → a < length s.cells → local u s.post.controls (cell_at s a) ≤ local u cs c → 1 ≤ times u (controls_in s)
-    → 1 ≤ times u (tids_in cs (map (λ c. c.inbox) (puts s a c)) (map (λ c. c.outbox) (puts s a c)))
+    → 1 ≤ times u (tids_of_controls cs (map (λ c. c.inbox) (puts s a c)) (map (λ c. c.outbox) (puts s a c)))
 unfolding local
 no_less u s a cs c r l h =
     omega (arith, l, h, controls.parted u cs (map (λ c. c.inbox) (puts s a c)) (map (λ c. c.outbox) (puts s a c)), controls.parted u s.post.controls (map (λ c. c.inbox) s.cells) (map (λ c. c.outbox) s.cells), inbox_set u s a c r, outbox_set u s a c r)
 
 -- or one is there now
 one_here : {C : Type 0} (u : ℕ) (s : Machine C) (a : ℕ) (cs : List (ControlMessage C)) (c : Cell C) → a < length s.cells → 1 ≤ local u cs c
-    → 1 ≤ times u (tids_in cs (map (λ c. c.inbox) (puts s a c)) (map (λ c. c.outbox) (puts s a c)))
+    → 1 ≤ times u (tids_of_controls cs (map (λ c. c.inbox) (puts s a c)) (map (λ c. c.outbox) (puts s a c)))
 unfolding local
 one_here u s a cs c r l =
     omega (arith, l, controls.parted u cs (map (λ c. c.inbox) (puts s a c)) (map (λ c. c.outbox) (puts s a c)), inbox_set u s a c r, outbox_set u s a c r, inbox_in u s a, outbox_in u s a)
 
-pub moved_post : {C : Type 0} (u : ℕ) (cs new : List (ControlMessage C)) (ins : List (List (Waiting C))) (outs : List (List (Outcome C))) → 1 ≤ times u (tids_in cs ins outs) → 1 ≤ times u (tids_in (cs ++ new) ins outs)
+pub moved_post : {C : Type 0} (u : ℕ) (cs new : List (ControlMessage C)) (ins : List (List (Waiting C))) (outs : List (List (Outcome C))) → 1 ≤ times u (tids_of_controls cs ins outs) → 1 ≤ times u (tids_of_controls (cs ++ new) ins outs)
 moved_post u cs new ins outs h = omega (arith, h, controls.parted u cs ins outs, controls.parted u (cs ++ new) ins outs, ap (times u) (Times.map_join (λ m. m.tid) cs new), Times.times_append u (map (λ m. m.tid) cs) (map (λ m. m.tid) new))
 
-pub new_post : {C : Type 0} (u : ℕ) (cs new : List (ControlMessage C)) (ins : List (List (Waiting C))) (outs : List (List (Outcome C))) → 1 ≤ times u (map (λ m. m.tid) new) → 1 ≤ times u (tids_in (cs ++ new) ins outs)
+pub new_post : {C : Type 0} (u : ℕ) (cs new : List (ControlMessage C)) (ins : List (List (Waiting C))) (outs : List (List (Outcome C))) → 1 ≤ times u (map (λ m. m.tid) new) → 1 ≤ times u (tids_of_controls (cs ++ new) ins outs)
 new_post u cs new ins outs h = omega (arith, h, controls.parted u (cs ++ new) ins outs, ap (times u) (Times.map_join (λ m. m.tid) cs new), Times.times_append u (map (λ m. m.tid) cs) (map (λ m. m.tid) new))
 
 -- ---- a control arrives, runs, is sent
@@ -187,7 +187,7 @@ found_one t p (m ∷ cs) h = by (m.tid == t) refl h (found_one t p cs)
     by false e h r = r h
 
 pub comes : {C : Type 0} (u t : ℕ) (p : ControlMessage C → Bool) (s : Machine C) (a : ℕ) (c : Cell C) → a < length s.cells → holds p (control_of t s.post.controls) ≡ true → c.inbox ≡ (cell_at s a).inbox ++ cell.arrived (control_of t s.post.controls) → c.outbox ≡ (cell_at s a).outbox → 1 ≤ times u (controls_in s)
-    → 1 ≤ times u (tids_in (without_control t s.post.controls) (map (λ c. c.inbox) (puts s a c)) (map (λ c. c.outbox) (puts s a c)))
+    → 1 ≤ times u (tids_of_controls (without_control t s.post.controls) (map (λ c. c.inbox) (puts s a c)) (map (λ c. c.outbox) (puts s a c)))
 unfolding local
 comes u t p s a c r q e f h = elim (cases_Bool (u == t)) [
   | inl i ↦
@@ -217,7 +217,7 @@ ran_one {C} code t st xs h = by (waiting_of t xs) h
     by (Some x) h = one_there t t refl
 
 pub runs_on : {C : Type 0} (w : Fixed C) (u t a : ℕ) (s : Machine C) → a < length s.cells → is_some (waiting_of t (cell_at s a).inbox) ≡ true → 1 ≤ times u (controls_in s)
-    → 1 ≤ times u (tids_in s.post.controls (map (λ c. c.inbox) (puts s a (cell.slice_run w.code t a (cell_at s a)))) (map (λ c. c.outbox) (puts s a (cell.slice_run w.code t a (cell_at s a)))))
+    → 1 ≤ times u (tids_of_controls s.post.controls (map (λ c. c.inbox) (puts s a (cell.slice_run w.code t a (cell_at s a)))) (map (λ c. c.outbox) (puts s a (cell.slice_run w.code t a (cell_at s a)))))
 unfolding local
 runs_on w u t a s r q h =
     let c = cell.slice_run w.code t a (cell_at s a) in
@@ -239,7 +239,7 @@ runs_on w u t a s r q h =
       )) h
     ]
 
-going_one : {C : Type 0} (t : ℕ) (who : Who) (xs : List (Outcome C)) → holds (λ x. is_going x.next) (outcome_of t xs) ≡ true → times t (map (λ m. m.tid) (post.going who (outcome_of t xs))) ≡ 1
+going_one : {C : Type 0} (t : ℕ) (who : Who) (xs : List (Outcome C)) → holds (λ x. is_going x.next) (outcome_of t xs) ≡ true → times t (map (λ m. m.tid) (post.handed_on who (outcome_of t xs))) ≡ 1
 going_one t who [] h = absurd (true≢false (sym h))
 going_one {C} t who (x ∷ xs) h = by (x.tid == t) refl h (going_one t who xs)
   where
@@ -247,17 +247,17 @@ going_one {C} t who (x ∷ xs) h = by (x.tid == t) refl h (going_one t who xs)
     at (Go b c) e h = one_there t x.tid e
     at (Ended r) e h = absurd (true≢false (sym h))
 
-    by : (v : Bool) → (x.tid == t) ≡ v → holds (λ x. is_going x.next) (if v then Some x else outcome_of t xs) ≡ true → (holds (λ x. is_going x.next) (outcome_of t xs) ≡ true → times t (map (λ m. m.tid) (post.going who (outcome_of t xs))) ≡ 1)
-        → times t (map (λ m. m.tid) (post.going who (if v then Some x else outcome_of t xs))) ≡ 1
+    by : (v : Bool) → (x.tid == t) ≡ v → holds (λ x. is_going x.next) (if v then Some x else outcome_of t xs) ≡ true → (holds (λ x. is_going x.next) (outcome_of t xs) ≡ true → times t (map (λ m. m.tid) (post.handed_on who (outcome_of t xs))) ≡ 1)
+        → times t (map (λ m. m.tid) (post.handed_on who (if v then Some x else outcome_of t xs))) ≡ 1
     by true e h r = at x.next (eqb-true x.tid t e) h
     by false e h r = r h
 
 pub sends_on : {C : Type 0} (u t a : ℕ) (s : Machine C) → a < length s.cells → holds (λ x. is_going x.next) (outcome_of t (cell_at s a).outbox) ≡ true → 1 ≤ times u (controls_in s)
-    → 1 ≤ times u (tids_in (post.sent (who_on t (cell_at s a).entries) (outcome_of t (cell_at s a).outbox) s.post).controls (map (λ c. c.inbox) (puts s a (cell.outcome_taken t (cell_at s a)))) (map (λ c. c.outbox) (puts s a (cell.outcome_taken t (cell_at s a)))))
+    → 1 ≤ times u (tids_of_controls (post.sent (who_on t (cell_at s a).entries) (outcome_of t (cell_at s a).outbox) s.post).controls (map (λ c. c.inbox) (puts s a (cell.outcome_taken t (cell_at s a)))) (map (λ c. c.outbox) (puts s a (cell.outcome_taken t (cell_at s a)))))
 unfolding local
 sends_on u t a s r q h =
     let c = cell.outcome_taken t (cell_at s a) in
-    let new = post.going (who_on t (cell_at s a).entries) (outcome_of t (cell_at s a).outbox) in
+    let new = post.handed_on (who_on t (cell_at s a).entries) (outcome_of t (cell_at s a).outbox) in
     elim (cases_Bool (u == t)) [
       | inl i ↦
           let j : u ≡ t = eqb-true u t i in
@@ -275,19 +275,19 @@ sends_on u t a s r q h =
       )) h
     ]
 
-pub ends_other : {C : Type 0} (u t a : ℕ) (s : Machine C) → a < length s.cells → (u ≡ t → ⊥) → 1 ≤ times u (controls_in s) → 1 ≤ times u (tids_in s.post.controls (map (λ c. c.inbox) (puts s a (cell.outcome_taken t (cell_at s a)))) (map (λ c. c.outbox) (puts s a (cell.outcome_taken t (cell_at s a)))))
+pub ends_other : {C : Type 0} (u t a : ℕ) (s : Machine C) → a < length s.cells → (u ≡ t → ⊥) → 1 ≤ times u (controls_in s) → 1 ≤ times u (tids_of_controls s.post.controls (map (λ c. c.inbox) (puts s a (cell.outcome_taken t (cell_at s a)))) (map (λ c. c.outbox) (puts s a (cell.outcome_taken t (cell_at s a)))))
 unfolding local
 ends_other u t a s r n h = no_less u s a s.post.controls (cell.outcome_taken t (cell_at s a)) r (omega (arith, others u t (λ x. x.tid) (cell_at s a).outbox n)) h
 
 pub leaves_on : {C : Type 0} (u a : ℕ) (gone : List Entry) (s : Machine C) (c : Cell C) → a < length s.cells → cell.is_tid_among u gone ≡ false → c.inbox ≡ cell.inbox_without gone (cell_at s a).inbox → c.outbox ≡ cell.outbox_without gone (cell_at s a).outbox → 1 ≤ times u (controls_in s)
-    → 1 ≤ times u (tids_in s.post.controls (map (λ c. c.inbox) (puts s a c)) (map (λ c. c.outbox) (puts s a c)))
+    → 1 ≤ times u (tids_of_controls s.post.controls (map (λ c. c.inbox) (puts s a c)) (map (λ c. c.outbox) (puts s a c)))
 unfolding local
 leaves_on u a gone s c r n e f h = no_less u s a s.post.controls c r (omega (arith, ap (λ z. times u (waiting_tids z)) e, ap (λ z. times u (outcome_tids z)) f, spared u gone (λ x. x.tid) (cell_at s a).inbox n, spared u gone (λ x. x.tid) (cell_at s a).outbox n)) h
 
-pub drops_other : {C : Type 0} (u t : ℕ) (s : Machine C) → (u ≡ t → ⊥) → 1 ≤ times u (controls_in s) → 1 ≤ times u (tids_in (without_control t s.post.controls) (map (λ c. c.inbox) s.cells) (map (λ c. c.outbox) s.cells))
+pub drops_other : {C : Type 0} (u t : ℕ) (s : Machine C) → (u ≡ t → ⊥) → 1 ≤ times u (controls_in s) → 1 ≤ times u (tids_of_controls (without_control t s.post.controls) (map (λ c. c.inbox) s.cells) (map (λ c. c.outbox) s.cells))
 drops_other u t s n h = omega (arith, h, others u t (λ m. m.tid) s.post.controls n, controls.parted u s.post.controls (map (λ c. c.inbox) s.cells) (map (λ c. c.outbox) s.cells), controls.parted u (without_control t s.post.controls) (map (λ c. c.inbox) s.cells) (map (λ c. c.outbox) s.cells))
 
-pub same_places : {C : Type 0} (u : ℕ) (cs cs' : List (ControlMessage C)) (ins ins' : List (List (Waiting C))) (outs outs' : List (List (Outcome C))) → cs' ≡ cs → ins' ≡ ins → outs' ≡ outs → 1 ≤ times u (tids_in cs ins outs) → 1 ≤ times u (tids_in cs' ins' outs')
+pub same_places : {C : Type 0} (u : ℕ) (cs cs' : List (ControlMessage C)) (ins ins' : List (List (Waiting C))) (outs outs' : List (List (Outcome C))) → cs' ≡ cs → ins' ≡ ins → outs' ≡ outs → 1 ≤ times u (tids_of_controls cs ins outs) → 1 ≤ times u (tids_of_controls cs' ins' outs')
 same_places u cs cs' ins ins' outs outs' a b c h = rw (a, b, c) h
 
 -- ---- results stay

@@ -11,7 +11,7 @@ use Rattle.protocol.specs.Parts.{Act, Pact, Status, Live, Doomed, Decided, Seale
 use Rattle.protocol.specs.Events.{Event, Form, Admit, Ask, Take, Run, Send, End, Rollback, DropControl, Finish}
 use Rattle.protocol.specs.Words.{holds, is_who, who_on, who_of, is_open, is_formed, is_doomed, is_sealed, is_aborted, is_live_status, names_pact, act_of, batch_of, is_entry_of, control_of, waiting_of, outcome_of, lock_of, floor_at}
 use Rattle.protocol.specs.Contents.{Controls, Inboxes, Outboxes}
-use Rattle.protocol.specs.Numbers.{times, one_if, tids_in, controls_in}
+use Rattle.protocol.specs.Numbers.{times, one_if, tids_of_controls, controls_in}
 use Rattle.protocol.specs.Conditions.{IsAllowed, conditions, is_given_up}
 use Rattle.protocol.specs.Effects.{after, cell_at, no_cell}
 use Rattle.protocol.specs.OnRing as ring
@@ -144,7 +144,7 @@ not_dropped {C} w Of finish s h who t g n i r q =
 
 asks : {C : Type 0} (w : Fixed C) (Of : Tx → C → Type 0) (finish : C → List State → Alone) (s : Machine C) (h : History) (who : Who) (u t a : ℕ) (o : Option ℕ) → IsAllowed w (Ask t a) s → AllGood w Of finish s h → Named s h → runs s who u ≡ true
     → (u ≡ t → holds lives (act_of t (book.asked_acts o (book.met (lock_of t s.book.acts) (cell_at s a).entries) t a (max (cell_at s a).last (floor_at t s.book.acts (cell_at s a))) s.book)) ≡ true) → 1 ≤ times u (controls_in s)
-    → 1 ≤ times u (tids_in (Rattle.protocol.specs.Words.without_control t s.post.controls) (map (λ c. c.inbox) (Rattle.protocol.specs.Effects.puts s a (cell.act_placed (lock_of t s.book.acts) o (control_of t s.post.controls) (cell_at s a)))) (map (λ c. c.outbox) (Rattle.protocol.specs.Effects.puts s a (cell.act_placed (lock_of t s.book.acts) o (control_of t s.post.controls) (cell_at s a)))))
+    → 1 ≤ times u (tids_of_controls (Rattle.protocol.specs.Words.without_control t s.post.controls) (map (λ c. c.inbox) (Rattle.protocol.specs.Effects.puts s a (cell.act_placed (lock_of t s.book.acts) o (control_of t s.post.controls) (cell_at s a)))) (map (λ c. c.outbox) (Rattle.protocol.specs.Effects.puts s a (cell.act_placed (lock_of t s.book.acts) o (control_of t s.post.controls) (cell_at s a)))))
 unfolding conditions
 asks w Of finish s h who u t a None ok g n r l c = counts.comes u t (λ m. m.to == a) s a (cell.act_placed (lock_of t s.book.acts) None (control_of t s.post.controls) (cell_at s a)) (in_range _ s.cells a ok.1.1.0) ok.0 refl refl c
 asks w Of finish s h who u t a (Some older) ok g n r l c = elim (cases_Bool (u == t)) [

@@ -22,7 +22,7 @@ use Rattle.protocol.specs.OnCell as cell
 use Rattle.protocol.specs.History.{History, Trail, Step, no_history, history, grown, with_at, begun, owned_by, gone_on}
 use Rattle.protocol_laws.specs.Told.{PactsAscend}
 use Rattle.protocol_laws.specs.FromDesk.{is_declared, is_pact_of, MessageOf, EntryOf, FromDesk}
-use Rattle.protocol_theorems.specs.Quiet.{IsAt}
+use Rattle.protocol_theorems.specs.Quiet.{ControlIsAt}
 use Rattle.protocol_laws.proofs.first.Controls as controls
 use Rattle.protocol_laws.proofs.machine.ControlWalk
 use Rattle.protocol_laws.proofs.machine.ControlWalk.{AllControls, Ready, nowhere}
@@ -390,7 +390,7 @@ record There {C : Type 0} (w : Fixed C) (Of : Tx → C → Type 0) (s : Machine 
   declares : DeclaredBy w (h.trails t).tx (Go a control)
   low : t < s.ring.next_tid
 
-there : {C : Type 0} (w : Fixed C) (Of : Tx → C → Type 0) (finish : C → List State → Alone) (s : Machine C) (h : History) (t a : ℕ) → AllGood w Of finish s h → AllControls (Declares w h) s → IsAt t a s → There w Of s h t a
+there : {C : Type 0} (w : Fixed C) (Of : Tx → C → Type 0) (finish : C → List State → Alone) (s : Machine C) (h : History) (t a : ℕ) → AllGood w Of finish s h → AllControls (Declares w h) s → ControlIsAt t a s → There w Of s h t a
 there {C} w Of finish s h t a g d (inl q) =
     let m = one_is (λ m. m.to == a) (control_of t s.post.controls) q in
     let f = all_found (λ m. Told w Of finish h m.tid (Go m.to m.control)) (λ m. m.tid == t) s.post.controls m.0 g.good.told.posted m.1 in

@@ -17,7 +17,7 @@ use Rattle.protocol.specs.History.{History, no_history, grown}
 use Rattle.protocol.specs.Runs.{opening, new_cell, EachAllowed, state_after, IsRun, reached}
 use Rattle.protocol.specs.OnPost as post
 use Rattle.protocol.specs.OnBook as book
-use Rattle.protocol.specs.Left.{total, visit, rest, act_left, control_left, waiting_left, outcome_left, next_left, reply_left, log_left, cell_left, act_tids, left_as, left}
+use Rattle.protocol.specs.Left.{total, visit, rest, act_left, control_left, waiting_left, outcome_left, next_left, reply_left, log_left, cell_left, act_tids, left_with_acts, left}
 use Rattle.protocol_theorems.specs.Left.{IsSmall}
 use Rattle.protocol_laws.proofs.first.Frames.{frame}
 use Rattle.protocol_laws.proofs.first.Times
@@ -45,7 +45,7 @@ not_new u t [] l = rw (ne_eqb t u (λ q. omega (arith, q, l))) refl
 not_new u t (x ∷ tids) l = ap (λ z. (x == u) || z) (not_new u t tids l)
 
 admit : {C : Type 0} (w : Fixed C) (Of : Tx → C → Type 0) (finish : C → List State → Alone) (t : ℕ) (s : Machine C) (tids : List ℕ) → Given w Of finish → IsSmall w → Counted w Of s → IsAllowed w (Admit t) s
-    → ((u : ℕ) → u < s.ring.next_tid → is_among u tids ≡ is_among u (act_tids s)) → left_as w tids (after w (Admit t) s) + 1 ≤ left_as w (act_tids s) s
+    → ((u : ℕ) → u < s.ring.next_tid → is_among u tids ≡ is_among u (act_tids s)) → left_with_acts w tids (after w (Admit t) s) + 1 ≤ left_with_acts w (act_tids s) s
 unfolding conditions after
 admit {C} w Of finish t s tids v small g ok same =
     let below = trails.drawn s g.held in
@@ -75,8 +75,8 @@ lowers w Of finish (Admit t) s v small g ok =
     omega (arith, h)
 lowers w Of finish e s v small g ok = by (act_tids (after w e s)) (frame w e s ActTids refl) (falls w Of finish e s v small g ok)
   where
-    by : (tids : List ℕ) → tids ≡ act_tids s → left_as w (act_tids s) (after w e s) + 1 ≤ left_as w (act_tids s) s → left_as w tids (after w e s) < left_as w (act_tids s) s
-    by tids i h = subst (λ z. left_as w z (after w e s) < left_as w (act_tids s) s) (sym i) (omega (arith, h))
+    by : (tids : List ℕ) → tids ≡ act_tids s → left_with_acts w (act_tids s) (after w e s) + 1 ≤ left_with_acts w (act_tids s) s → left_with_acts w tids (after w e s) < left_with_acts w (act_tids s) s
+    by tids i h = subst (λ z. left_with_acts w z (after w e s) < left_with_acts w (act_tids s) s) (sym i) (omega (arith, h))
 
 -- ---- what is known along a run
 

@@ -17,7 +17,7 @@ use Rattle.protocol.specs.OnPost as post
 use Rattle.protocol.specs.OnBook as book
 use Rattle.protocol.specs.OnDesk as desk
 use Rattle.protocol.specs.OnCell as cell
-use Rattle.protocol.specs.Left.{total, unless, act_left, joined_left, control_left, waiting_left, outcome_left, sub_left, entry_left, batch_left, reply_left, log_left, cell_left, act_tids, left_as}
+use Rattle.protocol.specs.Left.{total, unless, act_left, joined_left, control_left, waiting_left, outcome_left, sub_left, entry_left, batch_left, reply_left, log_left, cell_left, act_tids, left_with_acts}
 use Rattle.protocol_theorems.specs.Left.{IsSmall}
 use Rattle.protocol_laws.proofs.first.Times
 use Rattle.protocol_laws.proofs.first.Drawn as drawn
@@ -130,7 +130,7 @@ cell_there e a (Some m) cs h = in_range (λ c. c.epoch == e) cs a (and_parts (m.
 -- ---- every event
 
 -- with the ACTs' tids as they were
-pub falls : {C : Type 0} (w : Fixed C) (Of : Tx → C → Type 0) (finish : C → List State → Alone) (e : Event) (s : Machine C) → Given w Of finish → IsSmall w → Counted w Of s → IsAllowed w e s → left_as w (act_tids s) (after w e s) + 1 ≤ left_as w (act_tids s) s
+pub falls : {C : Type 0} (w : Fixed C) (Of : Tx → C → Type 0) (finish : C → List State → Alone) (e : Event) (s : Machine C) → Given w Of finish → IsSmall w → Counted w Of s → IsAllowed w e s → left_with_acts w (act_tids s) (after w e s) + 1 ≤ left_with_acts w (act_tids s) s
 unfolding conditions after
 falls w Of finish (Submit n) s v small g ok = omega (arith, token.submit_falls w n s.ring small.coordinators (first ok.0))
   where
@@ -204,7 +204,7 @@ falls w Of finish (Send t a) s v small g ok =
     omega (
       arith,
       LeftParts.send_costs w.code (act_tids s) t (who_on t c.entries) c.outbox (outcome_of t c.outbox) refl (held (λ c. holds (λ x. is_going x.next) (outcome_of t c.outbox)) s.cells a no_cell ok.0),
-      total_join (control_left w.code (act_tids s)) s.post.controls (post.going (who_on t c.entries) (outcome_of t c.outbox)),
+      total_join (control_left w.code (act_tids s)) s.post.controls (post.handed_on (who_on t c.entries) (outcome_of t c.outbox)),
       one_cell w (act_tids s) (epoch s.book) s a (cell.outcome_taken t c) (in_range (λ c. holds (λ x. is_going x.next) (outcome_of t c.outbox)) s.cells a ok.0),
     )
 falls w Of finish (End t a) s v small g ok =

@@ -282,7 +282,7 @@ no_entries t None = refl
 no_entries t (Some x) = refl
 
 pub send_costs : {C : Type 0} (code : Code C) (tids : List ℕ) (t : ℕ) (who : Who) (xs : List (Outcome C)) (o : Option (Outcome C)) → outcome_of t xs ≡ o → holds (λ x. is_going x.next) o ≡ true
-    → total (control_left code tids) (post.going who o) + total (outcome_left code tids) (without_outcome t xs) + 1 ≤ total (outcome_left code tids) xs
+    → total (control_left code tids) (post.handed_on who o) + total (outcome_left code tids) (without_outcome t xs) + 1 ≤ total (outcome_left code tids) xs
 send_costs code tids t who xs None e q = absurd (true≢false (sym q))
 send_costs {C} code tids t who xs (Some x) e q = let h = by x.next q in omega (arith, total_out (outcome_left code tids) (λ x. x.tid == t) x xs e, h)
   where

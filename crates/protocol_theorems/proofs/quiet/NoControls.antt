@@ -91,7 +91,7 @@ new_own : {C : Type 0} (w : Fixed C) (k t : ℕ) (ns : List ℕ) (f g : ℕ → 
 new_own w k t [] f g e = tt
 new_own w k t (n ∷ ns) f g e = (sym (e t (omega arith) ∙ rw (eq-eqb t t refl) refl), new_own w k (t + 1) ns f g (λ u q. e u (omega (arith, q)) ∙ rw (ne_eqb u t (λ v. omega (arith, v, q))) refl))
 
-sends : {C : Type 0} (owners : ℕ → Who) (es : List Entry) (t : ℕ) (who : Who) (xs : List (Outcome C)) (o : Option (Outcome C)) → outcome_of t xs ≡ o → In es (λ x. x.tid) xs → (has_entry t es ≡ true → who ≡ owners t) → AllByRecursion (λ m. m.who ≡ owners m.tid) (post.going who o)
+sends : {C : Type 0} (owners : ℕ → Who) (es : List Entry) (t : ℕ) (who : Who) (xs : List (Outcome C)) (o : Option (Outcome C)) → outcome_of t xs ≡ o → In es (λ x. x.tid) xs → (has_entry t es ≡ true → who ≡ owners t) → AllByRecursion (λ m. m.who ≡ owners m.tid) (post.handed_on who o)
 sends owners es t who xs None e h k = tt
 sends {C} owners es t who xs (Some x) e h k = by x.next
   where

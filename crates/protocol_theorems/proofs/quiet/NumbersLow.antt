@@ -18,7 +18,7 @@ use Rattle.protocol.specs.OnBook as book
 use Rattle.protocol.specs.OnCell as cell
 use Rattle.protocol.specs.History.{History, Ran, Stands, Gone, long_staying, batches_in}
 use Rattle.protocol_laws.specs.Turns.{Turns}
-use Rattle.protocol_laws.specs.Places.{Fits}
+use Rattle.protocol_laws.specs.Places.{FitsCell}
 use Rattle.protocol_laws.proofs.first.EpochsKept as epochs
 use Rattle.protocol_laws.proofs.first.SettlingKept as settling
 use Rattle.protocol_laws.proofs.first.SettlingKeys as keys
@@ -118,8 +118,8 @@ greatest_less : (n : ℕ) (ks : List ℕ) → 0 < n → AllByRecursion (λ k. k 
 greatest_less n [] z h = z
 greatest_less n (k ∷ ks) z h = omega (arith, h.0, greatest_less n ks z h.1)
 
-roll_low : (n : ℕ) (cs : List Rattle.protocol.specs.Parts.Cascade) (ep tail : ℕ) (rs : List Ran) (es : List Entry) → 0 < n → Turns rs es → AllByRecursion (Fits n cs ep tail) (batches_in rs) → greatest (batches_on (cell.staying cs es)) < n
-roll_low n cs ep tail rs es z t h = greatest_less n _ z (on_entries (λ k. k < n) (long_staying cs rs) (cell.staying cs es) (TurnLists.roll_back cs rs es t) (ShowLists.stay_all (λ k. k < n) cs rs (weaker (Fits n cs ep tail) (λ k. k < n) (batches_in rs) (λ k f. f.formed) h)))
+roll_low : (n : ℕ) (cs : List Rattle.protocol.specs.Parts.Cascade) (ep tail : ℕ) (rs : List Ran) (es : List Entry) → 0 < n → Turns rs es → AllByRecursion (FitsCell n cs ep tail) (batches_in rs) → greatest (batches_on (cell.staying cs es)) < n
+roll_low n cs ep tail rs es z t h = greatest_less n _ z (on_entries (λ k. k < n) (long_staying cs rs) (cell.staying cs es) (TurnLists.roll_back cs rs es t) (ShowLists.stay_all (λ k. k < n) cs rs (weaker (FitsCell n cs ep tail) (λ k. k < n) (batches_in rs) (λ k f. f.formed) h)))
 
 pub record Lows {C : Type 0} (w : Fixed C) (s : Machine C) : Type 0 where
   pub some : 0 < s.ring.next_bid

@@ -16,8 +16,8 @@ use Rattle.protocol.specs.Words.{is_empty, is_among, holds, is_doomed, is_sealed
 use Rattle.protocol.specs.Conditions.{conditions, epoch}
 use Rattle.protocol.specs.Effects.{cell_at, log_at, no_cell}
 use Rattle.protocol.specs.Runs.{IsQuiet}
-use Rattle.protocol_theorems.specs.Quiet.{Orderly, IsLiveBatch, IsAt, is_waiting_act, EntriesTell}
-use Rattle.protocol_theorems.specs.Waits.{IsPending, is_ahead, is_on, HasEndedAt, IsKeptBack, Waits, WaitsFor}
+use Rattle.protocol_theorems.specs.Quiet.{Orderly, IsLiveBatch, ControlIsAt, is_waiting_act, EntriesTell}
+use Rattle.protocol_theorems.specs.Waits.{IsPending, is_ahead, is_on_schedule, HasEndedAt, IsKeptBack, Waits, WaitsFor}
 use Rattle.protocol_theorems.proofs.quiet.QuietEasy.{passes, passed, there, all_at, list_all_of, false_not, durable, up_to_date, no_outcome, all_left, not_decided}
 use Rattle.protocol_theorems.proofs.quiet.QuietBatch.{open_live, act_stands, trimmed_settled}
 
@@ -114,9 +114,9 @@ all_over t z (ActEntry x ∷ seen) p r = rw (r, p.0.0) (all_over t z seen p.1 r)
 clear_mid : (t : ℕ) (z : Lock) (seen es : List Entry) → (z.tid == t) ≡ true → AllByRecursion (IsPassed t) seen → (z.reader ≡ true) ⊎ (seen ≡ []) → is_clear t (seen ++ ActEntry z ∷ es) ≡ true
 clear_mid t z seen es u p k = rw (find_mid t z seen es u p, ahead_mid t z seen es u p) (elim k [ inl r ↦ all_over t z seen p r | inr r ↦ subst (λ v. list_all (is_over_for (ActEntry z)) v ≡ true) (sym r) refl ])
 
-ahead_at : (y x : Who) (e : Entry) (seen es : List Entry) → (is_who (who_of e) y && is_on x es) ≡ true → is_ahead y x (seen ++ e ∷ es) ≡ true
+ahead_at : (y x : Who) (e : Entry) (seen es : List Entry) → (is_who (who_of e) y && is_on_schedule x es) ≡ true → is_ahead y x (seen ++ e ∷ es) ≡ true
 ahead_at y x e [] es h = rw h refl
-ahead_at y x e (z ∷ seen) es h = Rattle.std.proofs.lemmas.Bool.or_right (is_who (who_of z) y && is_on x (seen ++ e ∷ es)) _ (ahead_at y x e seen es h)
+ahead_at y x e (z ∷ seen) es h = Rattle.std.proofs.lemmas.Bool.or_right (is_who (who_of z) y && is_on_schedule x (seen ++ e ∷ es)) _ (ahead_at y x e seen es h)
 
 -- who stands ahead of it and does not let it pass
 abbrev KeepsBack : {C : Type 0} → Machine C → ℕ → Who → Type 0
@@ -130,7 +130,7 @@ goes_on w s t y q o l e d i =
     let c = o.controls.of_act t y e d i in
     elim c.2 [ inl h ↦ by c.0 c.1 h | inr h ↦ no_outcome w s q t c.0 c.1 h ]
   where
-    by : (a : ℕ) → a < length s.cells → IsAt t a s → ⊥
+    by : (a : ℕ) → a < length s.cells → ControlIsAt t a s → ⊥
     by a r (inl m) = elim (cases_Bool (has_act t (cell_at s a).entries)) [
       | inl h ↦ q (Take t a) (m, (there (λ c. has_entry t c.entries) s.cells a no_cell r (act_entry t (cell_at s a).entries h), tt))
       | inr h ↦ q (Ask t a) (m, (passes (λ x. not (is_doomed x.status)) (act_of t s.book.acts) y e (false_not (is_doomed y.status) d), (there (λ c. not (has_act t c.entries)) s.cells a no_cell r (false_not (has_act t (cell_at s a).entries) h), (there (λ c. c.epoch == epoch s.book) s.cells a no_cell r (eq-eqb (cell_at s a).epoch (epoch s.book) (up_to_date w s q a r (o.batches.behind a))), tt))))

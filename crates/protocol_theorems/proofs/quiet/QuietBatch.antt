@@ -14,7 +14,7 @@ use Rattle.protocol.specs.Conditions.{conditions, epoch}
 use Rattle.protocol.specs.Effects.{cell_at, log_at, no_cell}
 use Rattle.protocol.specs.Runs.{IsQuiet}
 use Rattle.protocol_laws.specs.FromDesk.{is_pact_of}
-use Rattle.protocol_theorems.specs.Quiet.{Orderly, IsLiveBatch, IsAt, is_waiting_act, Rises}
+use Rattle.protocol_theorems.specs.Quiet.{Orderly, IsLiveBatch, ControlIsAt, is_waiting_act, BatchesRise}
 use Rattle.protocol_theorems.specs.Waits.{IsPending, is_ahead, StandsAhead, IsOpenBatch, WaitsFor}
 use Rattle.protocol_theorems.proofs.quiet.QuietEasy.{passes, passed, there, all_at, any_at, all_in, list_all_of, found_at, false_not, durable, up_to_date, no_outcome, no_aborted_sub, has_left, not_committing, settled_is_trimmed}
 
@@ -100,7 +100,7 @@ first_of w s k a q o l r h = by (cell_at s a).entries refl h
     by (BatchEntry b ∷ es) e g = elim (or_cases (b.bid == k) (is_among k (batches_on es)) g) [
       | inl i ↦ (b, es, e, eqb-true b.bid k i)
       | inr i ↦
-          let rises = subst (λ z. Rises (batches_on z)) e (o.batches.rises a) in
+          let rises = subst (λ z. BatchesRise (batches_on z)) e (o.batches.rises a) in
           let on : is_among b.bid (batches_on (cell_at s a).entries) ≡ true = subst (λ z. is_among b.bid (batches_on z) ≡ true) (sym e) (rw (eq-eqb b.bid b.bid refl) refl) in
           absurd (l.batches b.bid (rises.0 k i) (let v = o.batches.present a b.bid now on in open_live w s o b.bid a v (o.batches.on_schedule b.bid a v on)))
     ]
@@ -195,7 +195,7 @@ one_result {C} w s k t b q o l e f p before none =
     fresh : is_aborted k s.book.cascades ≡ false
     fresh = sym (o.batches.marked k b e) ∙ not-true b.aborted (and_parts (is_formed b.stage) (not b.aborted) f).1
 
-    by : (a : ℕ) → IsAt t a s → ⊥
+    by : (a : ℕ) → ControlIsAt t a s → ⊥
     by a h =
         let d = passed (λ b. is_some (declared_of a b)) (batch_of k s.desk.batches) (o.controls.declared t k a p fresh h) in
         let i : d.0 ≡ b = same d.0 (d.1) in
@@ -210,7 +210,7 @@ one_result {C} w s k t b q o l e f p before none =
         some None j = absurd (true≢false (sym j))
         some (Some p) j = (p, refl)
 
-        there_is : (a : ℕ) → IsAt t a s → a < length s.cells → (x : PlacedBatch) (es : List Entry) → (cell_at s a).entries ≡ BatchEntry x ∷ es → x.bid ≡ k → ⊥
+        there_is : (a : ℕ) → ControlIsAt t a s → a < length s.cells → (x : PlacedBatch) (es : List Entry) → (cell_at s a).entries ≡ BatchEntry x ∷ es → x.bid ≡ k → ⊥
         there_is a h r x es g j =
             let n : names_slot t x ≡ true = o.controls.named t a x es (subst (λ z. is_pact_of t z s.desk.batches ≡ true) (sym j) p) (subst (λ z. is_aborted z s.book.cascades ≡ false) (sym j) fresh) h g in
             elim h [

@@ -9,7 +9,7 @@ use Rattle.protocol.specs.Words.{act_of}
 use Rattle.protocol.specs.Runs.{IsQuiet}
 use Rattle.protocol_theorems.specs.Quiet.{Orderly, IsLiveBatch, is_waiting_act, IsAheadOf}
 use Rattle.protocol_theorems.specs.Floors.{number_or_0}
-use Rattle.protocol_theorems.specs.Waits.{WaitsFor, number_of}
+use Rattle.protocol_theorems.specs.Waits.{WaitsFor, before_number_of}
 use Rattle.protocol_theorems.proofs.quiet.QuietBatch.{no_batch}
 use Rattle.protocol_theorems.proofs.quiet.QuietAct.{no_act}
 use Rattle.protocol_theorems.proofs.quiet.WaitsFall.{falls, pending}
@@ -32,7 +32,7 @@ act_free w s t y o e b a (OfAct u) h =
     let x = pending s u h.other in
     a u x.act x.found x.waiting (by x.act.m x.act.tid x.number (found_tid u s.book.acts x.act x.found) (falls w s o (OfAct t) (OfAct u) h))
   where
-    by : (m v : ℕ) → number_of s u ≡ m → v ≡ u → (number_of s u < number_of s t) ⊎ ((number_of s u ≡ number_of s t) × (t < u)) → (m < y.m) ⊎ ((m ≤ y.m) × (y.tid < v))
+    by : (m v : ℕ) → before_number_of s u ≡ m → v ≡ u → (before_number_of s u < before_number_of s t) ⊎ ((before_number_of s u ≡ before_number_of s t) × (t < u)) → (m < y.m) ⊎ ((m ≤ y.m) × (y.tid < v))
     by m v i j (inl k) = inl (omega (arith, i, k, ap number_or_0 e))
     by m v i j (inr k) = inr (omega (arith, i, k.0, ap number_or_0 e), omega (arith, j, k.1, found_tid t s.book.acts y e))
 

@@ -17,7 +17,7 @@ use Rattle.protocol.specs.Runs.{opening, new_cell, IsRun, IsQuiet, reached}
 use Rattle.protocol.specs.History.{History, Ran, Stands, Gone, no_history, history, grown}
 use Rattle.protocol_laws.specs.Tracks.{key_of, keys_in}
 use Rattle.protocol_laws.specs.FromDesk.{is_declared, is_pact_of}
-use Rattle.protocol_theorems.specs.Quiet.{IsAt, HasControl, StillOwed, AllAnswered}
+use Rattle.protocol_theorems.specs.Quiet.{ControlIsAt, HasControl, StillOwed, AllAnswered}
 use Rattle.protocol_laws.proofs.first.Times
 use Rattle.protocol_laws.proofs.first.Drawn as drawn
 use Rattle.protocol_laws.proofs.first.Controls as controls
@@ -184,8 +184,8 @@ of_act w Of finish es v run t x e d n =
 -- ---- together, with where the controls of PACTs lie
 
 pub record PactsAtHome {C : Type 0} (w : Fixed C) (s : Machine C) : Type 0 where
-  pub declared : (t k a : ℕ) → is_pact_of t k s.desk.batches ≡ true → is_aborted k s.book.cascades ≡ false → IsAt t a s → is_declared k a s.desk.batches ≡ true
-  pub named : (t a : ℕ) (e : PlacedBatch) (es : List Entry) → is_pact_of t e.bid s.desk.batches ≡ true → is_aborted e.bid s.book.cascades ≡ false → IsAt t a s → (cell_at s a).entries ≡ BatchEntry e ∷ es → names_slot t e ≡ true
+  pub declared : (t k a : ℕ) → is_pact_of t k s.desk.batches ≡ true → is_aborted k s.book.cascades ≡ false → ControlIsAt t a s → is_declared k a s.desk.batches ≡ true
+  pub named : (t a : ℕ) (e : PlacedBatch) (es : List Entry) → is_pact_of t e.bid s.desk.batches ≡ true → is_aborted e.bid s.book.cascades ≡ false → ControlIsAt t a s → (cell_at s a).entries ≡ BatchEntry e ∷ es → names_slot t e ≡ true
 
 pub still_owed : {C : Type 0} (w : Fixed C) (Of : Tx → C → Type 0) (finish : C → List State → Alone) (es : List Event) → Given w Of finish → IsRun w es → PactsAtHome w (reached w es) → StillOwed w (reached w es)
 still_owed w Of finish es v run home =

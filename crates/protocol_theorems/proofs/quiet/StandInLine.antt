@@ -26,7 +26,7 @@ use Rattle.protocol_laws.specs.Marks.{Marked}
 use Rattle.protocol_laws.specs.FromDesk.{is_declared, EntryOf}
 use Rattle.protocol_laws.specs.Befores.{is_above, Befores, gone_in}
 use Rattle.protocol_laws.specs.Highs.{doomed_at, is_pair, has_pair, is_paired, Paired, Grouped, both_read}
-use Rattle.protocol_theorems.specs.Sets.{least_in, IsLeast, IsUncrossed}
+use Rattle.protocol_theorems.specs.Sets.{least_in, AfterIsLeast, IsUncrossed}
 use Rattle.protocol_theorems.specs.Quiet.{BeforeBatches, BehindBatches, IsAheadOf, ActsInOrder, EntriesTell}
 use Rattle.protocol_laws.proofs.first.SettlingKept as settling
 use Rattle.protocol_laws.proofs.machine.TracksKept.{Tracked}
@@ -149,7 +149,7 @@ before_one w Of finish s h x t k g i e l q = by x.status refl
 
     live : is_live_status x.status ≡ true → (is_doomed x.status || nat_lt x.m k) ≡ true
     live v =
-        let n : x.n ≡ least_in (h.behind x.tid) = ((all_found (IsLeast s.book.cascades h.long h.behind) (λ y. y.tid == t) s.book.acts x i.afters.after_sets e).0 v).0 in
+        let n : x.n ≡ least_in (h.behind x.tid) = ((all_found (AfterIsLeast s.book.cascades h.long h.behind) (λ y. y.tid == t) s.book.acts x i.afters.after_sets e).0 v).0 in
         let r = least_most k (h.behind t) q in
         let u = (all_found IsUncrossed (λ y. y.tid == t) s.book.acts x i.afters.uncrossed e).0 in
         let m = crossed (is_live_status x.status) x.n r.0 v (n ∙ (ap (λ z. least_in (h.behind z)) tid ∙ r.1)) u in

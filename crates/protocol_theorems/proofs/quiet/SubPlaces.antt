@@ -17,7 +17,7 @@ use Rattle.protocol.specs.OnBook as book
 use Rattle.protocol.specs.OnRing as ring
 use Rattle.protocol.specs.OnDesk as desk
 use Rattle.protocol.specs.OnCell as cell
-use Rattle.protocol_laws.specs.Places.{Ascends, Fits}
+use Rattle.protocol_laws.specs.Places.{Ascends, FitsCell}
 use Rattle.protocol_laws.proofs.first.Times
 use Rattle.protocol_laws.proofs.first.EpochsKept as epochs
 use Rattle.protocol_laws.proofs.first.SettlingKeys as keys
@@ -132,7 +132,7 @@ all_each2 P Q R [] f h g = tt
 all_each2 P Q R (k ∷ ks) f h g = (f k h.0 g.0, all_each2 P Q R ks f h.1 g.1)
 
 -- behind an aborted batch all are aborted: who is not aborted stays
-pub times_staying : (next : ℕ) (cs : List Cascade) (ep tail k : ℕ) (es : List Entry) → is_aborted k cs ≡ false → AllByRecursion (Fits next cs ep tail) (batches_on es) → Ascends (batches_on es) → times k (batches_on (cell.staying cs es)) ≡ times k (batches_on es)
+pub times_staying : (next : ℕ) (cs : List Cascade) (ep tail k : ℕ) (es : List Entry) → is_aborted k cs ≡ false → AllByRecursion (FitsCell next cs ep tail) (batches_on es) → Ascends (batches_on es) → times k (batches_on (cell.staying cs es)) ≡ times k (batches_on es)
 times_staying next cs ep tail k [] n f a = refl
 times_staying next cs ep tail k (ActEntry x ∷ es) n f a = times_staying next cs ep tail k es n f a
 times_staying next cs ep tail k (BatchEntry b ∷ es) n f a = by (is_aborted b.bid cs) refl (times_staying next cs ep tail k es n f.1 a.1)
@@ -141,7 +141,7 @@ times_staying next cs ep tail k (BatchEntry b ∷ es) n f a = by (is_aborted b.b
     by false e h = omega (arith, h, Times.times_cons k b.bid (batches_on es), Times.times_cons k b.bid (batches_on (cell.staying cs es)))
     by true e h = sym (none_times k (b.bid ∷ batches_on es) (
       λ q. true≢false (sym (subst (λ z. is_aborted z cs ≡ true) q e) ∙ n),
-      all_each2 (λ j. b.bid < j) (Fits next cs ep tail) (λ j. j ≡ k → ⊥) (batches_on es) (λ j l g q. true≢false (sym (subst (λ z. is_aborted z cs ≡ true) q (PlaceLists.suffix b.bid j cs e (omega (arith, l)) (omega (arith, f.0.aborted e, g.placed)))) ∙ n)) a.0 f.1,
+      all_each2 (λ j. b.bid < j) (FitsCell next cs ep tail) (λ j. j ≡ k → ⊥) (batches_on es) (λ j l g q. true≢false (sym (subst (λ z. is_aborted z cs ≡ true) q (PlaceLists.suffix b.bid j cs e (omega (arith, l)) (omega (arith, f.0.aborted e, g.placed)))) ∙ n)) a.0 f.1,
     ))
 
 -- ---- the desk

@@ -16,7 +16,7 @@ use Rattle.protocol.specs.Runs.{opening}
 use Rattle.protocol.specs.OnBook as book
 use Rattle.protocol.specs.OnDesk as desk
 use Rattle.protocol.specs.OnCell as cell
-use Rattle.protocol_laws.specs.Places.{Ascends, Fits}
+use Rattle.protocol_laws.specs.Places.{Ascends, FitsCell}
 use Rattle.protocol_laws.proofs.first.Times
 use Rattle.protocol_laws.proofs.first.EpochsKept as epochs
 use Rattle.protocol_laws.proofs.first.SettlingKept as settling
@@ -156,7 +156,7 @@ unfolding rows.Rows conditions
 completed_here w (Complete j b) s k a ok r h =
     let p = and_parts (j == k) (b == a) h in
     let o : 1 ≤ times j (batches_on (cell_at s b).entries) = completes j (λ e. not (is_complete_batch e)) (cell_at s b).entries (held (λ c. holds (λ e. not (is_complete_batch e)) (find (is_batch_entry j) c.entries)) s.cells b no_cell ok.0) in
-    let f = fits_all (Fits s.ring.next_bid s.book.cascades (cell_at s b).epoch (cell_at s b).tail) j (batches_on (cell_at s b).entries) o (subst (AllByRecursion (Fits s.ring.next_bid s.book.cascades (cell_at s b).epoch (cell_at s b).tail)) (rows.row_batches (cell_at s b).entries) (r b).places.fit) in
+    let f = fits_all (FitsCell s.ring.next_bid s.book.cascades (cell_at s b).epoch (cell_at s b).tail) j (batches_on (cell_at s b).entries) o (subst (AllByRecursion (FitsCell s.ring.next_bid s.book.cascades (cell_at s b).epoch (cell_at s b).tail)) (rows.row_batches (cell_at s b).entries) (r b).places.fit) in
     let g = subst (λ z. 1 ≤ times z (batches_on (cell_at s b).entries)) (eqb-true j k p.0) o in
     (subst (λ z. z < s.ring.next_bid) (eqb-true j k p.0) f.formed, subst (λ z. 1 ≤ times k (batches_on (cell_at s z).entries)) (eqb-true b a p.1) g)
 completed_here w e s k a ok r h = absurd h

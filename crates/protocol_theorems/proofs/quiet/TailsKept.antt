@@ -19,7 +19,7 @@ use Rattle.protocol.specs.Runs.{opening, new_cell}
 use Rattle.protocol.specs.OnRing as ring
 use Rattle.protocol.specs.OnDesk as desk
 use Rattle.protocol.specs.OnCell as cell
-use Rattle.protocol_laws.specs.Places.{Fits}
+use Rattle.protocol_laws.specs.Places.{FitsCell}
 use Rattle.protocol_theorems.specs.Quiet.{IsNextTo}
 use Rattle.protocol_laws.proofs.first.EpochsKept as epochs
 use Rattle.protocol_laws.proofs.first.SettlingKept as settling
@@ -384,7 +384,7 @@ trim_tail w k b s ok g u r f p a h = carry s (after w (Trim k b) s) a (cell_at s
         let q = and_parts (not b'.0.aborted) (holds (λ p. not p.trimmed) (declared_of b b'.0)) (and_parts (Rattle.protocol.specs.Words.is_settled b'.0.stage) (not b'.0.aborted && holds (λ p. not p.trimmed) (declared_of b b'.0)) b'.2).1 in
         let v : SubPlaces.waits_at k b s.desk.batches ≡ true = rw b'.1 q.1 in
         let o : 1 ≤ times k (batches_on (cell_at s b).entries) = omega (arith, p.one b k n, ap one_if v, none z) in
-        (subs.fits_all (Fits s.ring.next_bid s.book.cascades (cell_at s b).epoch (cell_at s b).tail) k (batches_on (cell_at s b).entries) o (subst (AllByRecursion (Fits s.ring.next_bid s.book.cascades (cell_at s b).epoch (cell_at s b).tail)) (rows.row_batches (cell_at s b).entries) (r b).places.fit)).placed
+        (subs.fits_all (FitsCell s.ring.next_bid s.book.cascades (cell_at s b).epoch (cell_at s b).tail) k (batches_on (cell_at s b).entries) o (subst (AllByRecursion (FitsCell s.ring.next_bid s.book.cascades (cell_at s b).epoch (cell_at s b).tail)) (rows.row_batches (cell_at s b).entries) (r b).places.fit)).placed
       where
         none : sub_of k b s.post.subs ≡ None → SubPlaces.on_post k b s.post.subs ≡ 0
         none z = elim (cases_lt 0 (SubPlaces.on_post k b s.post.subs)) [ inl l ↦ absurd (true≢false (sym (SubPlaces.found_count (SubPlaces.is_to k b) s.post.subs (omega (arith, l))) ∙ ap is_some z)) | inr l ↦ omega (arith, l) ]
@@ -421,7 +421,7 @@ roll_tail w a s l g r p h = record {
       | inl v ↦
           let fresh : is_aborted j s.book.cascades ≡ false = elim (cases_Bool (is_aborted j s.book.cascades)) [ inl y ↦ absurd (omega (arith, aborted_low j s.book.cascades y, f)) | inr y ↦ y ] in
           let o : 1 ≤ times j (batches_on (cell_at s a).entries) = omega (arith, p.one a j fresh, ap one_if v, zero_post) in
-          let x = subs.fits_all (Fits s.ring.next_bid s.book.cascades (cell_at s a).epoch (cell_at s a).tail) j (batches_on (cell_at s a).entries) o (subst (AllByRecursion (Fits s.ring.next_bid s.book.cascades (cell_at s a).epoch (cell_at s a).tail)) (rows.row_batches (cell_at s a).entries) (r a).places.fit) in
+          let x = subs.fits_all (FitsCell s.ring.next_bid s.book.cascades (cell_at s a).epoch (cell_at s a).tail) j (batches_on (cell_at s a).entries) o (subst (AllByRecursion (FitsCell s.ring.next_bid s.book.cascades (cell_at s a).epoch (cell_at s a).tail)) (rows.row_batches (cell_at s a).entries) (r a).places.fit) in
           omega (arith, x.placed, f, l)
     ]
       where

@@ -9,7 +9,7 @@ use Rattle.protocol.specs.Words.{holds, is_among, is_doomed, is_live_act, is_liv
 use Rattle.protocol.specs.Effects.{cell_at}
 use Rattle.protocol_theorems.specs.Floors.{number_or_0}
 use Rattle.protocol_theorems.specs.Quiet.{Orderly, is_waiting_act, BeforeBatches, BehindBatches, ActsInOrder, IsAheadOf}
-use Rattle.protocol_theorems.specs.Waits.{IsPending, is_ahead, WaitsFor, IsLower, number_of, WaitsAlong}
+use Rattle.protocol_theorems.specs.Waits.{IsPending, is_ahead, WaitsFor, IsLower, before_number_of, WaitsAlong}
 use Rattle.protocol_laws.proofs.first.PairsFound.{found_tid}
 use Rattle.protocol_theorems.proofs.quiet.QuietEasy.{passed}
 
@@ -20,7 +20,7 @@ pub record Pending {C : Type 0} (s : Machine C) (t : ℕ) : Type 0 where
   pub found : act_of t s.book.acts ≡ Some act
   pub waiting : is_waiting_act act ≡ true
   pub lives : is_doomed act.status ≡ false
-  pub number : number_of s t ≡ act.m
+  pub number : before_number_of s t ≡ act.m
 
 pub pending : {C : Type 0} (s : Machine C) (t : ℕ) → IsPending s (OfAct t) → Pending s t
 pending s t h =
@@ -93,7 +93,7 @@ falls w s o (OfAct t) (OfAct u) h =
     let y = pending s t h.waiter in
     let x = pending s u h.other in
     let p = h.waits.0.0 in
-    kept_by_act (number_of s u) (number_of s t) u t x.act y.act x.number y.number (found_tid u s.book.acts x.act x.found) (found_tid t s.book.acts y.act y.found) (behind_act s.book.acts u t x.act y.act (cell_at s p.actor).entries (o.acts.in_order p.actor p.present) p.ahead x.found y.found x.lives y.lives (not_both x.act y.act s.book.acts u t x.found y.found h.waits.1))
+    kept_by_act (before_number_of s u) (before_number_of s t) u t x.act y.act x.number y.number (found_tid u s.book.acts x.act x.found) (found_tid t s.book.acts y.act y.found) (behind_act s.book.acts u t x.act y.act (cell_at s p.actor).entries (o.acts.in_order p.actor p.present) p.ahead x.found y.found x.lives y.lives (not_both x.act y.act s.book.acts u t x.found y.found h.waits.1))
 
 -- ---- nobody waits in a circle
 

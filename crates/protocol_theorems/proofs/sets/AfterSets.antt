@@ -16,12 +16,12 @@ use Rattle.protocol.specs.OnBook as book
 use Rattle.protocol.specs.OnCell as cell
 use Rattle.protocol.specs.History.{History, Slice, Ran, Stands, Gone, grown, with_at, not_run, ran_in, completed, left_for_good, without_standing, long_staying, asks, batches_in, behind_too, is_traceless, ran_on}
 use Rattle.protocol_laws.specs.Turns.{Turns}
-use Rattle.protocol_laws.specs.Places.{Fits, Ascends}
+use Rattle.protocol_laws.specs.Places.{FitsCell, Ascends}
 use Rattle.protocol_laws.specs.Commits.{is_kept, KeptFront, has_kept}
 use Rattle.protocol_laws.specs.Marks.{Marked}
 use Rattle.protocol_laws.specs.FromDesk.{is_declared, EntryOf}
 use Rattle.protocol_laws.specs.Highs.{AllDoomed, TakenAlong, doomed_at}
-use Rattle.protocol_theorems.specs.Sets.{least_in, is_ahead, StandsBehind, IsLeast, IsUncrossed}
+use Rattle.protocol_theorems.specs.Sets.{least_in, is_ahead, StandsBehind, AfterIsLeast, IsUncrossed}
 use Rattle.protocol_laws.proofs.machine.TrackLists
 use Rattle.protocol_laws.proofs.first.PairsFound.{Ascend, TidsAscend}
 use Rattle.protocol_laws.proofs.machine.PlaceLists
@@ -182,14 +182,14 @@ ahead_undone t k u (Stands (OfAct v) c ss ∷ rs) e h = by (v == u) refl (or_cas
 ahead_undone t k u (Gone y ss ∷ rs) e h = ahead_undone t k u rs e h
 
 -- a batch that is not aborted is not cut
-unaborted : (next : ℕ) (cs : List Cascade) (ep tail k x : ℕ) (ks : List ℕ) → is_aborted x cs ≡ true → Fits next cs ep tail x → AllByRecursion (λ j. x < j) ks → AllByRecursion (Fits next cs ep tail) ks → is_among k ks ≡ true → is_aborted k cs ≡ true
+unaborted : (next : ℕ) (cs : List Cascade) (ep tail k x : ℕ) (ks : List ℕ) → is_aborted x cs ≡ true → FitsCell next cs ep tail x → AllByRecursion (λ j. x < j) ks → AllByRecursion (FitsCell next cs ep tail) ks → is_among k ks ≡ true → is_aborted k cs ≡ true
 unaborted next cs ep tail k x [] a f l g h = absurd (true≢false (sym h))
 unaborted next cs ep tail k x (j ∷ js) a f l g h = elim (or_cases (j == k) (is_among k js) h) [
   | inl e ↦ subst (λ z. is_aborted z cs ≡ true) (eqb-true j k e) (PlaceLists.suffix x j cs a (omega (arith, l.0)) (omega (arith, g.0.placed, f.aborted a)))
   | inr e ↦ unaborted next cs ep tail k x js a f l.1 g.1 e
 ]
 
-among_staying : (next : ℕ) (cs : List Cascade) (ep tail k : ℕ) (rs : List Ran) → is_aborted k cs ≡ false → AllByRecursion (Fits next cs ep tail) (batches_in rs) → Ascends (batches_in rs) → is_among k (batches_in rs) ≡ true → is_among k (batches_in (long_staying cs rs)) ≡ true
+among_staying : (next : ℕ) (cs : List Cascade) (ep tail k : ℕ) (rs : List Ran) → is_aborted k cs ≡ false → AllByRecursion (FitsCell next cs ep tail) (batches_in rs) → Ascends (batches_in rs) → is_among k (batches_in rs) ≡ true → is_among k (batches_in (long_staying cs rs)) ≡ true
 among_staying next cs ep tail k [] n f a h = h
 among_staying next cs ep tail k (Stands (OfBatch j) c ss ∷ rs) n f a h = by (is_aborted j cs) refl (or_cases (j == k) (is_among k (batches_in rs)) h) (among_staying next cs ep tail k rs n f.1 a.1)
   where
@@ -209,7 +209,7 @@ none_ahead acts t k (Stands (OfBatch j) c ss ∷ rs) d a h = none_ahead acts t k
 none_ahead acts t k (Stands (OfAct u) c ss ∷ rs) d a h = elim (or_cases ((u == t) && is_among k (batches_in rs)) (is_ahead t k rs) h) [ inl q ↦ d (subst (λ z. doomed_at acts z ≡ true) (eqb-true u t (and_parts (u == t) (is_among k (batches_in rs)) q).0) a.0) | inr q ↦ none_ahead acts t k rs d a.1 q ]
 none_ahead acts t k (Gone y ss ∷ rs) d a h = none_ahead acts t k rs d a h
 
-ahead_staying : (next : ℕ) (cs : List Cascade) (ep tail : ℕ) (acts : List Act) (t k : ℕ) (rs : List Ran) → is_aborted k cs ≡ false → (doomed_at acts t ≡ true → ⊥) → TakenAlong cs acts rs → AllByRecursion (Fits next cs ep tail) (batches_in rs) → Ascends (batches_in rs)
+ahead_staying : (next : ℕ) (cs : List Cascade) (ep tail : ℕ) (acts : List Act) (t k : ℕ) (rs : List Ran) → is_aborted k cs ≡ false → (doomed_at acts t ≡ true → ⊥) → TakenAlong cs acts rs → AllByRecursion (FitsCell next cs ep tail) (batches_in rs) → Ascends (batches_in rs)
     → is_ahead t k rs ≡ true → is_ahead t k (long_staying cs rs) ≡ true
 ahead_staying next cs ep tail acts t k [] n d x f a h = h
 ahead_staying next cs ep tail acts t k (Stands (OfBatch j) c ss ∷ rs) n d x f a h = by (is_aborted j cs) refl (ahead_staying next cs ep tail acts t k rs n d x.1 f.1 a.1 h)
@@ -263,18 +263,18 @@ least_last k (j ∷ js) = rw (least_last k js) (by (least_in js))
     by (Some x) = ap (λ z. Some z) (omega arith)
 
 abbrev pub Leasts : List Cascade → (ℕ → List Ran) → (ℕ → List ℕ) → List Act → Type 0
-Leasts cs long behind acts = AllByRecursion (IsLeast cs long behind) acts
+Leasts cs long behind acts = AllByRecursion (AfterIsLeast cs long behind) acts
 
 unfoldable pub AfterSets : {C : Type 0} → Machine C → History → Type 0
 AfterSets s h = Leasts s.book.cascades h.long h.behind s.book.acts
 
 -- ---- ACTs change
 
-fewer_least : (cs : List Cascade) (long : ℕ → List Ran) (b : ℕ → List ℕ) (x y : Act) → Fewer x y → IsLeast cs long b x → IsLeast cs long b y
+fewer_least : (cs : List Cascade) (long : ℕ → List Ran) (b : ℕ → List ℕ) (x y : Act) → Fewer x y → AfterIsLeast cs long b x → AfterIsLeast cs long b y
 fewer_least cs long b x y k h = λ l. let q = h (k.live l) in (k.n ∙ (q.0 ∙ ap (λ z. least_in (b z)) (sym k.tid)), subst (λ z. AllByRecursion (StandsBehind cs long z) (b z)) (sym k.tid) q.1)
 
 least_map : (cs : List Cascade) (long : ℕ → List Ran) (b : ℕ → List ℕ) (f : Act → Act) (xs : List Act) → ((x : Act) → Fewer x (f x)) → Leasts cs long b xs → Leasts cs long b (map f xs)
-least_map cs long b f xs k h = all_map (IsLeast cs long b) (IsLeast cs long b) f xs (λ x i. fewer_least cs long b x (f x) (k x) i) h
+least_map cs long b f xs k h = all_map (AfterIsLeast cs long b) (AfterIsLeast cs long b) f xs (λ x i. fewer_least cs long b x (f x) (k x) i) h
 
 if_fewer : (v : Bool) (f : Act → Act) (x : Act) → Fewer x (f x) → Fewer x (book.change_if v f x)
 if_fewer true f x h = h
@@ -310,7 +310,7 @@ Stays acts cs long long' = (x : Act) → act_of x.tid acts ≡ Some x → is_liv
 
 least_long : (cs : List Cascade) (long long' : ℕ → List Ran) (b : ℕ → List ℕ) (low high : ℕ) (acts : List Act) → Ascend low high (map (λ x. x.tid) acts) → Stays acts cs long long' → Leasts cs long b acts → Leasts cs long' b acts
 least_long cs long long' b low high acts asc k h =
-    both_all (λ x. act_of x.tid acts ≡ Some x) (IsLeast cs long b) (IsLeast cs long' b) acts
+    both_all (λ x. act_of x.tid acts ≡ Some x) (AfterIsLeast cs long b) (AfterIsLeast cs long' b) acts
     (λ x e i l. let q = i l in (q.0, weaker (StandsBehind cs long x.tid) (StandsBehind cs long' x.tid) (b x.tid) (λ j s. (s.0, (s.1.0, k x e l j s.0 s.1.0 s.1.1))) q.1))
     (find_self low high acts asc (λ x. act_of x.tid acts ≡ Some x) (λ x e. e)) h
 
@@ -349,7 +349,7 @@ finish_ahead t k u false rs e h = ahead_left t k (OfAct u) rs e h
 
 least_arrives : (cs : List Cascade) (long : ℕ → List Ran) (b : ℕ → List ℕ) (k : ℕ) (tids : List ℕ) (xs : List Act) → is_aborted k cs ≡ false → ((t : ℕ) → is_among t tids ≡ true → (a : ℕ) × (is_ahead t k (long a) ≡ true))
     → Leasts cs long b xs → Leasts cs long (behind_too k tids b) (map (book.lowered k tids) xs)
-least_arrives cs long b k tids xs n p h = all_map (IsLeast cs long b) (IsLeast cs long (behind_too k tids b)) (book.lowered k tids) xs (λ x i l. by x (i l) (is_among x.tid tids) refl) h
+least_arrives cs long b k tids xs n p h = all_map (AfterIsLeast cs long b) (AfterIsLeast cs long (behind_too k tids b)) (book.lowered k tids) xs (λ x i l. by x (i l) (is_among x.tid tids) refl) h
   where
     by : (x : Act) → (x.n ≡ least_in (b x.tid)) × AllByRecursion (StandsBehind cs long x.tid) (b x.tid) → (c : Bool) → is_among x.tid tids ≡ c
         → ((if c then Some (least_of k x.n) else x.n) ≡ least_in (if c then b x.tid ++ k ∷ [] else b x.tid)) × AllByRecursion (StandsBehind cs long x.tid) (if c then b x.tid ++ k ∷ [] else b x.tid)
@@ -366,13 +366,13 @@ least_aborts : (cs cs' : List Cascade) (long : ℕ → List Ran) (b : ℕ → Li
     → ((x : Act) → ((f x).tid ≡ x.tid) × ((f x).n ≡ None) × (is_live_status (f x).status ≡ true → is_live_status x.status ≡ true))
     → ((x : Act) → act_of x.tid acts ≡ Some x → is_live_status x.status ≡ true → (j : ℕ) → StandsBehind cs long x.tid j → keep j ≡ false) → Leasts cs long b acts → Leasts cs' long (λ t. filter keep (b t)) (map f acts)
 least_aborts cs cs' long b keep f acts low high asc k r h =
-    all_map (λ x. (act_of x.tid acts ≡ Some x) × IsLeast cs long b x) (IsLeast cs' long (λ t. filter keep (b t))) f acts
+    all_map (λ x. (act_of x.tid acts ≡ Some x) × AfterIsLeast cs long b x) (AfterIsLeast cs' long (λ t. filter keep (b t))) f acts
     (λ x p l.
     let live = (k x).2 l in
     let q = p.1 live in
     let none : filter keep (b (f x).tid) ≡ [] = subst (λ z. filter keep (b z) ≡ []) (sym (k x).0) (filter_none keep (b x.tid) (weaker (StandsBehind cs long x.tid) (λ j. keep j ≡ false) (b x.tid) (λ j s. r x p.0 live j s) q.1)) in
     ((k x).1 ∙ sym (ap least_in none), subst (AllByRecursion (StandsBehind cs' long (f x).tid)) (sym none) tt))
-    (both_all (λ x. act_of x.tid acts ≡ Some x) (IsLeast cs long b) (λ x. (act_of x.tid acts ≡ Some x) × IsLeast cs long b x) acts (λ x e i. (e, i)) (find_self low high acts asc (λ x. act_of x.tid acts ≡ Some x) (λ x e. e)) h)
+    (both_all (λ x. act_of x.tid acts ≡ Some x) (AfterIsLeast cs long b) (λ x. (act_of x.tid acts ≡ Some x) × AfterIsLeast cs long b x) acts (λ x e i. (e, i)) (find_self low high acts asc (λ x. act_of x.tid acts ≡ Some x) (λ x e. e)) h)
 
 -- a batch that has not committed is aborted, or not below one that is next
 next_or : {C : Type 0} (w : Fixed C) (s : Machine C) (h : History) (k j : ℕ) (test : Batch → Bool) → settling.Settling w s → Marked s h → is_next_to_commit k s.desk.batches ≡ true → holds test (batch_of j s.desk.batches) ≡ true → is_kept (OfBatch j) h.kept ≡ false → Rattle.protocol_laws.specs.Highs.is_above_or_aborted s.book.cascades k j ≡ true
@@ -432,7 +432,7 @@ taken_all : {C : Type 0} (w : Fixed C) (k : ℕ) (s : Machine C) (h : History) �
 unfolding Placed Turned Committed
 taken_all w k s h o g x e l j q =
     let a = q.1.0 in
-    let f : Fits s.ring.next_bid s.book.cascades (cell_at s a).epoch (cell_at s a).tail j = among_all (Fits s.ring.next_bid s.book.cascades (cell_at s a).epoch (cell_at s a).tail) j (batches_in (h.long a)) (ahead_among x.tid j (h.long a) q.1.1) ((g.placed a).fit) in
+    let f : FitsCell s.ring.next_bid s.book.cascades (cell_at s a).epoch (cell_at s a).tail j = among_all (FitsCell s.ring.next_bid s.book.cascades (cell_at s a).epoch (cell_at s a).tail) j (batches_in (h.long a)) (ahead_among x.tid j (h.long a) q.1.1) ((g.placed a).fit) in
     let r = behind_open h.kept s.book.cascades s.desk.batches a k x.tid j (h.long a) (cell_at s a).entries (λ i d n. next_or w s h k i (λ b. is_some (declared_of a b)) g.beside.settles g.beside.marked o d n) (live_not_kept s h x g.none_live e l) ((g.beside.committed a).front) (g.beside.turned a) (g.beside.from_desk.entries a) q.1.1 in
     elim (or_cases (is_aborted j s.book.cascades) (nat_le k j) r) [
       | inl v ↦ absurd (true≢false (sym v ∙ q.0))
@@ -467,7 +467,7 @@ pub after_kept : {C : Type 0} (w : Fixed C) (e : Event) (s : Machine C) (h : His
 unfolding AfterSets TidsAscend Placed Turned conditions after grown
 after_kept w (Admit t) s h ok k g =
     let i : t ≡ s.ring.next_tid = eqb-true t s.ring.next_tid ok.0 in
-    all_join (IsLeast s.book.cascades h.long (with_at t [] h.behind)) s.book.acts _ (others_least s.book.cascades h.long h.behind t 0 [] s.book.acts (subst (λ z. Ascend 0 z (map (λ x. x.tid) s.book.acts)) (sym i) k.tids) g)
+    all_join (AfterIsLeast s.book.cascades h.long (with_at t [] h.behind)) s.book.acts _ (others_least s.book.cascades h.long h.behind t 0 [] s.book.acts (subst (λ z. Ascend 0 z (map (λ x. x.tid) s.book.acts)) (sym i) k.tids) g)
     ((λ l. (ap least_in (sym (at_it t [] h.behind)), subst (AllByRecursion (StandsBehind s.book.cascades h.long t)) (sym (at_it t [] h.behind)) tt)), tt)
 after_kept w (Arrive k a) s h ok q g =
     least_map s.book.cascades (with_at a (h.long a ++ not_run (OfBatch k) ∷ []) h.long) (behind_too k (book.tids_on (cell_at s a).entries) h.behind) (crossed_out a) (map (book.lowered k (book.tids_on (cell_at s a).entries)) s.book.acts) (λ x. record { tid = refl; n = refl; live = live_if (is_crossed x) _ x.status })

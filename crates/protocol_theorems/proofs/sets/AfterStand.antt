@@ -15,7 +15,7 @@ use Rattle.protocol.specs.Conditions.{IsAllowed}
 use Rattle.protocol.specs.Effects.{after}
 use Rattle.protocol.specs.Runs.{opening, IsRun, reached}
 use Rattle.protocol.specs.History.{History, no_history, history, grown}
-use Rattle.protocol_theorems.specs.Sets.{least_in, StandsBehind, IsLeast, IsUncrossed}
+use Rattle.protocol_theorems.specs.Sets.{least_in, StandsBehind, AfterIsLeast, IsUncrossed}
 use Rattle.protocol_theorems.proofs.sets.AfterSets as sets
 use Rattle.protocol_laws.proofs.machine.Good.{Given}
 use Rattle.protocol_laws.proofs.machine.AllGood as all
@@ -47,7 +47,7 @@ after_stand w Of finish es v run = all.along_good w Of finish (AfterStand w) v (
 pub n_is_least : {C : Type 0} (w : Fixed C) (Of : Tx → C → Type 0) (finish : C → List State → Alone) (es : List Event) → Given w Of finish → IsRun w es → (t : ℕ) (x : Act) → act_of t (reached w es).book.acts ≡ Some x → is_live_status x.status ≡ true
     → (x.n ≡ least_in ((history w es).behind x.tid)) × AllByRecursion (StandsBehind (reached w es).book.cascades (history w es).long x.tid) ((history w es).behind x.tid)
 unfolding sets.AfterSets
-n_is_least w Of finish es v run t x e l = (all_found (IsLeast (reached w es).book.cascades (history w es).long (history w es).behind) (λ y. y.tid == t) (reached w es).book.acts x (after_stand w Of finish es v run).after_sets e).0 l
+n_is_least w Of finish es v run t x e l = (all_found (AfterIsLeast (reached w es).book.cascades (history w es).long (history w es).behind) (λ y. y.tid == t) (reached w es).book.acts x (after_stand w Of finish es v run).after_sets e).0 l
 
 -- No live ACT has a before number that reaches its after number
 pub m_below_n : {C : Type 0} (w : Fixed C) (Of : Tx → C → Type 0) (finish : C → List State → Alone) (es : List Event) → Given w Of finish → IsRun w es → (t k : ℕ) (x : Act) → act_of t (reached w es).book.acts ≡ Some x → is_live_status x.status ≡ true → x.n ≡ Some k → x.m < k

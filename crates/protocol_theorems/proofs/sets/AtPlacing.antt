@@ -15,7 +15,7 @@ use Rattle.protocol.specs.Conditions.{IsAllowed}
 use Rattle.protocol.specs.Effects.{after, cell_at}
 use Rattle.protocol.specs.OnBook as book
 use Rattle.protocol.specs.History.{History, Ran, grown, is_none, asked_before}
-use Rattle.protocol_theorems.specs.Sets.{least_in, StandsBehind, IsLeast, IsGreatest}
+use Rattle.protocol_theorems.specs.Sets.{least_in, StandsBehind, AfterIsLeast, IsGreatest}
 use Rattle.protocol_theorems.proofs.sets.BeforeSets as befores
 use Rattle.protocol_theorems.proofs.sets.AfterSets as afters
 use Rattle.protocol_theorems.proofs.sets.BeforeStand as before_stand
@@ -64,12 +64,12 @@ raised_back ps t (x ∷ xs) y e = by (x.tid == t) e (raised_back ps t xs y)
 abbrev Ends : List Cascade → (ℕ → List Ran) → (ℕ → List ℕ) → (ℕ → List ℕ) → Act → Type 0
 Ends cs long before behind x = (x.m ≡ greatest (before x.tid)) × ((x.n ≡ least_in (behind x.tid)) × AllByRecursion (StandsBehind cs long x.tid) (behind x.tid))
 
-both_ends : (cs : List Cascade) (long : ℕ → List Ran) (before behind : ℕ → List ℕ) (t : ℕ) (xs : List Act) (z : Act) → AllByRecursion (IsGreatest before) xs → AllByRecursion (IsLeast cs long behind) xs → act_of t xs ≡ Some z → is_live_status z.status ≡ true → Ends cs long before behind z
+both_ends : (cs : List Cascade) (long : ℕ → List Ran) (before behind : ℕ → List ℕ) (t : ℕ) (xs : List Act) (z : Act) → AllByRecursion (IsGreatest before) xs → AllByRecursion (AfterIsLeast cs long behind) xs → act_of t xs ≡ Some z → is_live_status z.status ≡ true → Ends cs long before behind z
 both_ends cs long before behind t xs z g l e live =
-    ((all_found (IsGreatest before) (λ x. x.tid == t) xs z g e).0 (live_not_doomed z.status live), (all_found (IsLeast cs long behind) (λ x. x.tid == t) xs z l e).0 live)
+    ((all_found (IsGreatest before) (λ x. x.tid == t) xs z g e).0 (live_not_doomed z.status live), (all_found (AfterIsLeast cs long behind) (λ x. x.tid == t) xs z l e).0 live)
 
 -- and stay so behind it
-crossed_ends : (cs : List Cascade) (long : ℕ → List Ran) (before behind : ℕ → List ℕ) (a t : ℕ) (xs : List Act) (y : Act) → AllByRecursion (IsGreatest before) xs → AllByRecursion (IsLeast cs long behind) xs → act_of t (map (crossed_out a) xs) ≡ Some y
+crossed_ends : (cs : List Cascade) (long : ℕ → List Ran) (before behind : ℕ → List ℕ) (a t : ℕ) (xs : List Act) (y : Act) → AllByRecursion (IsGreatest before) xs → AllByRecursion (AfterIsLeast cs long behind) xs → act_of t (map (crossed_out a) xs) ≡ Some y
     → ((z : Act) → act_of t xs ≡ Some z → is_live_status z.status ≡ true) → Ends cs long before behind y
 crossed_ends cs long before behind a t xs y g l e live =
     let z = found_back (crossed_out a) t xs y (λ x. refl) e in

@@ -51,38 +51,38 @@ own ps x xs = rw (eq-eqb x.tid x.tid refl) refl
 past : (ps : List Pair) (x : Act) (xs : List Act) → AllByRecursion (λ y. x.tid + 1 ≤ y.tid) xs → AllByRecursion (λ y. given ps (x ∷ xs) y.tid ≡ given ps xs y.tid) xs
 past ps x xs l = weaker (λ y. x.tid + 1 ≤ y.tid) (λ y. given ps (x ∷ xs) y.tid ≡ given ps xs y.tid) xs (λ y k. rw (ne_eqb x.tid y.tid (λ q. omega (arith, k, q))) refl) l
 
-same_numbers : (f g : ℕ → ℕ) (xs : List Act) → AllByRecursion (λ x. f x.tid ≡ g x.tid) xs → map (rows.numbered f) xs ≡ map (rows.numbered g) xs
+same_numbers : (f g : ℕ → ℕ) (xs : List Act) → AllByRecursion (λ x. f x.tid ≡ g x.tid) xs → map (rows.renumbered f) xs ≡ map (rows.renumbered g) xs
 same_numbers f g [] h = refl
 same_numbers f g (x ∷ xs) h = rw (h.0, same_numbers f g xs h.1) refl
 
-risen_are : (ps : List Pair) (low high : ℕ) (xs : List Act) → Ascend low high (map (λ x. x.tid) xs) → rows.risen ps xs ≡ map (rows.numbered (given ps xs)) xs
+risen_are : (ps : List Pair) (low high : ℕ) (xs : List Act) → Ascend low high (map (λ x. x.tid) xs) → rows.risen ps xs ≡ map (rows.renumbered (given ps xs)) xs
 unfolding Ascend
 risen_are ps low high [] a = refl
 risen_are ps low high (x ∷ xs) a =
     let later = above (x.tid + 1) high xs a.1 in
     ap (λ n. record x { m = n } ∷ rows.risen ps xs) (sym (own ps x xs))
-    ∙ ap (λ zs. rows.numbered (given ps (x ∷ xs)) x ∷ zs) (risen_are ps (x.tid + 1) high xs a.1 ∙ sym (same_numbers (given ps (x ∷ xs)) (given ps xs) xs (past ps x xs later)))
+    ∙ ap (λ zs. rows.renumbered (given ps (x ∷ xs)) x ∷ zs) (risen_are ps (x.tid + 1) high xs a.1 ∙ sym (same_numbers (given ps (x ∷ xs)) (given ps xs) xs (past ps x xs later)))
 
 -- ---- they are carried through all pairs
 
-at_most : (ps : List Pair) (x : Act) (g : ℕ → ℕ) (us : List Act) → AllByRecursion (λ u. rows.carries ps x u ≡ true → g u.tid ≤ greatest (map (λ u. u.m) (filter (rows.carries ps x) (map (rows.numbered g) us)))) us
+at_most : (ps : List Pair) (x : Act) (g : ℕ → ℕ) (us : List Act) → AllByRecursion (λ u. rows.carries ps x u ≡ true → g u.tid ≤ greatest (map (λ u. u.m) (filter (rows.carries ps x) (map (rows.renumbered g) us)))) us
 at_most ps x g [] = tt
 at_most ps x g (u ∷ us) = by (rows.carries ps x u) refl (at_most ps x g us)
   where
     rest : ℕ
-    rest = greatest (map (λ u. u.m) (filter (rows.carries ps x) (map (rows.numbered g) us)))
+    rest = greatest (map (λ u. u.m) (filter (rows.carries ps x) (map (rows.renumbered g) us)))
 
     by : (b : Bool) → rows.carries ps x u ≡ b → AllByRecursion (λ u. rows.carries ps x u ≡ true → g u.tid ≤ rest) us
-        → (rows.carries ps x u ≡ true → g u.tid ≤ greatest (map (λ u. u.m) (if b then rows.numbered g u ∷ filter (rows.carries ps x) (map (rows.numbered g) us) else filter (rows.carries ps x) (map (rows.numbered g) us))))
-        × AllByRecursion (λ v. rows.carries ps x v ≡ true → g v.tid ≤ greatest (map (λ u. u.m) (if b then rows.numbered g u ∷ filter (rows.carries ps x) (map (rows.numbered g) us) else filter (rows.carries ps x) (map (rows.numbered g) us)))) us
+        → (rows.carries ps x u ≡ true → g u.tid ≤ greatest (map (λ u. u.m) (if b then rows.renumbered g u ∷ filter (rows.carries ps x) (map (rows.renumbered g) us) else filter (rows.carries ps x) (map (rows.renumbered g) us))))
+        × AllByRecursion (λ v. rows.carries ps x v ≡ true → g v.tid ≤ greatest (map (λ u. u.m) (if b then rows.renumbered g u ∷ filter (rows.carries ps x) (map (rows.renumbered g) us) else filter (rows.carries ps x) (map (rows.renumbered g) us)))) us
     by true e h = ((λ c. omega arith), weaker (λ v. rows.carries ps x v ≡ true → g v.tid ≤ rest) (λ v. rows.carries ps x v ≡ true → g v.tid ≤ max (g u.tid) rest) us (λ v k c. omega (arith, k c)) h)
     by false e h = ((λ c. absurd (true≢false (sym c ∙ e))), h)
 
-within : (ps : List Pair) (x : Act) (g : ℕ → ℕ) (n : ℕ) (us : List Act) → AllByRecursion (λ u. rows.carries ps x u ≡ true → g u.tid ≤ n) us → greatest (map (λ u. u.m) (filter (rows.carries ps x) (map (rows.numbered g) us))) ≤ n
+within : (ps : List Pair) (x : Act) (g : ℕ → ℕ) (n : ℕ) (us : List Act) → AllByRecursion (λ u. rows.carries ps x u ≡ true → g u.tid ≤ n) us → greatest (map (λ u. u.m) (filter (rows.carries ps x) (map (rows.renumbered g) us))) ≤ n
 within ps x g n [] h = omega arith
 within ps x g n (u ∷ us) h = by (rows.carries ps x u) refl (within ps x g n us h.1)
   where
-    by : (b : Bool) → rows.carries ps x u ≡ b → greatest (map (λ u. u.m) (filter (rows.carries ps x) (map (rows.numbered g) us))) ≤ n → greatest (map (λ u. u.m) (if b then rows.numbered g u ∷ filter (rows.carries ps x) (map (rows.numbered g) us) else filter (rows.carries ps x) (map (rows.numbered g) us))) ≤ n
+    by : (b : Bool) → rows.carries ps x u ≡ b → greatest (map (λ u. u.m) (filter (rows.carries ps x) (map (rows.renumbered g) us))) ≤ n → greatest (map (λ u. u.m) (if b then rows.renumbered g u ∷ filter (rows.carries ps x) (map (rows.renumbered g) us) else filter (rows.carries ps x) (map (rows.renumbered g) us))) ≤ n
     by true e r = omega (arith, r, h.0 e)
     by false e r = r
 

@@ -24,7 +24,7 @@ use Rattle.protocol.specs.Runs.{IsRun, reached}
 use Rattle.protocol.specs.History.{Ran, Stands, Gone, Slice, History, history}
 use Rattle.protocol_laws.specs.Tracks.{key_of, keys_in, is_key_among, first_image, images_in}
 use Rattle.protocol_laws.specs.Highs.{doomed_at}
-use Rattle.protocol_laws.specs.Places.{Ascends, Fits}
+use Rattle.protocol_laws.specs.Places.{Ascends, FitsCell}
 use Rattle.protocol_laws.specs.Told.{PactsAscend}
 use Rattle.protocol_laws.proofs.first.Lists.{all_join, all_of, weaker}
 use Rattle.protocol_laws.proofs.machine.Good.{Given}
@@ -317,11 +317,11 @@ IsCutThere cs [] = Unit {0}
 IsCutThere cs (BatchEntry b ∷ es) = (is_aborted b.bid cs ≡ true → AllByRecursion (λ k. is_aborted k cs ≡ true) (batches_on es)) × IsCutThere cs es
 IsCutThere cs (ActEntry x ∷ es) = IsCutThere cs es
 
-all_taken : (next epoch tail k : ℕ) (cs : List Cascade) (ks : List ℕ) → AllByRecursion (λ j. k < j) ks → AllByRecursion (Fits next cs epoch tail) ks → is_aborted k cs ≡ true → epoch_of k cs ≡ epoch → AllByRecursion (λ j. is_aborted j cs ≡ true) ks
+all_taken : (next epoch tail k : ℕ) (cs : List Cascade) (ks : List ℕ) → AllByRecursion (λ j. k < j) ks → AllByRecursion (FitsCell next cs epoch tail) ks → is_aborted k cs ≡ true → epoch_of k cs ≡ epoch → AllByRecursion (λ j. is_aborted j cs ≡ true) ks
 all_taken next epoch tail k cs [] a f h e = tt
 all_taken next epoch tail k cs (j ∷ ks) a f h e = (taken_too k j cs a.0 h (omega (arith, f.0.placed, e)), all_taken next epoch tail k cs ks a.1 f.1 h e)
 
-cut_there : (next epoch tail : ℕ) (cs : List Cascade) (es : List Entry) → Ascends (batches_on es) → AllByRecursion (Fits next cs epoch tail) (batches_on es) → IsCutThere cs es
+cut_there : (next epoch tail : ℕ) (cs : List Cascade) (es : List Entry) → Ascends (batches_on es) → AllByRecursion (FitsCell next cs epoch tail) (batches_on es) → IsCutThere cs es
 cut_there next epoch tail cs [] a f = tt
 cut_there next epoch tail cs (BatchEntry b ∷ es) a f = ((λ h. all_taken next epoch tail b.bid cs (batches_on es) a.0 f.1 h (f.0.aborted h)), cut_there next epoch tail cs es a.1 f.1)
 cut_there next epoch tail cs (ActEntry x ∷ es) a f = cut_there next epoch tail cs es a f
@@ -428,7 +428,7 @@ left_with t x c found images = record c {
   outbox = cell.outbox_without (cell.own_entries t c.entries) c.outbox;
 }
 
-left_same : {C : Type 0} (t : ℕ) (x : Option Act) (c : Cell C) → AllByRecursion (λ i. is_key_among i.who (map key_of c.entries) ≡ true) c.images → cell.act_left t x c ≡ rows.left_by t x c
+left_same : {C : Type 0} (t : ℕ) (x : Option Act) (c : Cell C) → AllByRecursion (λ i. is_key_among i.who (map key_of c.entries) ≡ true) c.images → cell.act_left t x c ≡ rows.left_by_act t x c
 left_same t x c h =
     let own = λ (i : Image). is_who (OfAct t) i.who in
     let gone = λ (i : Image). cell.is_entry_among i.who (cell.own_entries t c.entries) in
@@ -480,7 +480,7 @@ stays_same_without {C} t x c n h f =
 leaves_same : {C : Type 0} (t : ℕ) (x : Option Act) (c : Cell C) → AllByRecursion (λ i. is_key_among i.who (map key_of c.entries) ≡ true) c.images → (has_act t c.entries ≡ false → cell.floors_after c.floors x ≡ c.floors) → cell.act_left t x c ≡ rows.leaves t x c
 leaves_same t x c h f = by (has_act t c.entries) refl
   where
-    by : (b : Bool) → has_act t c.entries ≡ b → cell.act_left t x c ≡ (if b then rows.left_by t x c else c)
+    by : (b : Bool) → has_act t c.entries ≡ b → cell.act_left t x c ≡ (if b then rows.left_by_act t x c else c)
     by true e = left_same t x c h
     by false e = stays_same_without t x c e h (f e)
 
@@ -535,7 +535,7 @@ agree_at w Of finish (Abort k) s h ok g i =
 agree_at w Of finish (Rollback a) s h ok g i =
     let c = cell_at s a in
     let r = i.rows a in
-    ap (λ z. record s { cells = puts s a z }) (rollback_same s.book.cascades c (cut_there s.ring.next_bid c.epoch c.tail s.book.cascades c.entries (subst Ascends (row_batches c.entries) r.places.ascends) (subst (AllByRecursion (Fits s.ring.next_bid s.book.cascades c.epoch c.tail)) (row_batches c.entries) r.places.fit)))
+    ap (λ z. record s { cells = puts s a z }) (rollback_same s.book.cascades c (cut_there s.ring.next_bid c.epoch c.tail s.book.cascades c.entries (subst Ascends (row_batches c.entries) r.places.ascends) (subst (AllByRecursion (FitsCell s.ring.next_bid s.book.cascades c.epoch c.tail)) (row_batches c.entries) r.places.fit)))
 agree_at w Of finish (Finish t a) s h ok g i =
     let c = cell_at s a in
     let k = g.good.tracked a in

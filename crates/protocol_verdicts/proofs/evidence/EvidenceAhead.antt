@@ -10,7 +10,7 @@ use Rattle.protocol.specs.History.{History, Slice, Ran, Stands, Gone, slices_of,
 use Rattle.protocol_laws.specs.Told.{PactsAscend}
 use Rattle.protocol_laws.specs.Tracks.{keys_in, is_key_among, slices_in, InOrder, Linked}
 use Rattle.protocol_laws.specs.Turns.{Rising}
-use Rattle.protocol_laws.specs.Places.{Ascends, Fits}
+use Rattle.protocol_laws.specs.Places.{Ascends, FitsCell}
 use Rattle.protocol_laws.specs.Commits.{is_kept, KeptAhead, StatesLink, left_of}
 use Rattle.protocol_laws.specs.FromDesk.{is_declared}
 use Rattle.protocol_laws.proofs.machine.PlaceLists
@@ -37,10 +37,10 @@ behind_one : (y who : Who) (ss : List Slice) (rs : List Ran) → is_who y who �
 behind_one y who ss rs e n q = n (rw e q)
 
 pub ahead_ran : (kept : List Who) (k a next ep tail : ℕ) (cs : List Cascade) (bs : List Batch) (rs : List Ran) → is_aborted k cs ≡ false → ((j : ℕ) → is_declared j a bs ≡ true → j < k → is_aborted j cs ≡ false → is_kept (OfBatch j) kept ≡ true)
-    → (slices_of (OfBatch k) rs ≡ [] → ⊥) → InOrder rs → AllByRecursion (GoodKey a bs) (keys_in rs) → AllByRecursion (Fits next cs ep tail) (batches_in rs) → Ascends (batches_in rs) → KeptAhead kept (OfBatch k) rs
+    → (slices_of (OfBatch k) rs ≡ [] → ⊥) → InOrder rs → AllByRecursion (GoodKey a bs) (keys_in rs) → AllByRecursion (FitsCell next cs ep tail) (batches_in rs) → Ascends (batches_in rs) → KeptAhead kept (OfBatch k) rs
 ahead_ran kept k a next ep tail cs bs [] n f d o g ft asc = tt
 ahead_ran kept k a next ep tail cs bs (Gone y ss ∷ rs) n f d o g ft asc =
-    ahead_ran kept k a next ep tail cs bs rs n f d o g (all_back (Fits next cs ep tail) (batch_in y) (batches_in rs) ft) (ascends_back (batch_in y) (batches_in rs) asc)
+    ahead_ran kept k a next ep tail cs bs rs n f d o g (all_back (FitsCell next cs ep tail) (batch_in y) (batches_in rs) ft) (ascends_back (batch_in y) (batches_in rs) asc)
 ahead_ran kept k a next ep tail cs bs (Stands (OfAct t) c ss ∷ rs) n f d o g ft asc = (λ v. absurd (by c o.0 g.0.1), ahead_ran kept k a next ep tail cs bs rs n f d o.1 g.1 ft asc)
   where
     by : (b : Bool) → (b ≡ false → slices_in rs ≡ []) → (b ≡ true → true ≡ false) → ⊥
@@ -55,7 +55,7 @@ ahead_ran kept k a next ep tail cs bs (Stands (OfBatch x) c ss ∷ rs) n f d o g
     by false q r = (
       λ v.
           let l : x < k = PlaceLists.at_key (λ j. x < j) k rs v asc.0 in
-          let m = PlaceLists.at_key (Fits next cs ep tail) k rs v ft.1 in
+          let m = PlaceLists.at_key (FitsCell next cs ep tail) k rs v ft.1 in
           f x g.0.0 l (false_from_ne_true (is_aborted x cs) (λ b. true≢false (sym (PlaceLists.suffix x k cs b (omega (arith, l)) (omega (arith, ft.0.aborted b, m.placed))) ∙ n))),
       r q,
     )

@@ -15,7 +15,7 @@ use Rattle.protocol.specs.Verdicts.{act_place}
 use Rattle.protocol.specs.Effects.{after}
 use Rattle.protocol.specs.Runs.{IsRun, reached}
 use Rattle.protocol.specs.History.{History, Done, history, grown, done_pact, done_batch, done_act}
-use Rattle.protocol_laws.specs.Told.{is_at, DoneFrom}
+use Rattle.protocol_laws.specs.Told.{has_number, DoneFrom}
 use Rattle.protocol_laws.specs.Marks.{Marked}
 use Rattle.protocol_laws.specs.Commits.{is_kept}
 use Rattle.protocol_verdicts.specs.EvidenceSerial.{IsCommittedPact, IsCommittedAct}
@@ -85,7 +85,7 @@ both w Of finish es v run = along_good w Of finish Both v (λ e s h ok g i. reco
 
 -- ---- what committed is
 
-at_status : (c : ℕ) (st : Status) → is_at c st ≡ true → (st ≡ Decided c) ⊎ (st ≡ Sealed c)
+at_status : (c : ℕ) (st : Status) → has_number c st ≡ true → (st ≡ Decided c) ⊎ (st ≡ Sealed c)
 at_status c Live e = absurd (true≢false (sym e))
 at_status c (Doomed v) e = absurd (true≢false (sym e))
 at_status c (Decided d) e = inl (ap Decided (eqb-true d c e))
@@ -114,7 +114,7 @@ one_is w Of finish s h d g kept (inr x) from = inr (at (act_of x.1.0 s.book.acts
     at (Some y) e f =
         let i = (from x.1.0 x.1.1).is_it x.1.0 y e refl in
         let c : i.c ≡ d.place.order = ap (λ z. z.order) (sym i.place) in
-        record { tid = x.1.0; act = y; side = x.0; found = e; decided = at_status d.place.order y.status (subst (λ z. is_at z y.status ≡ true) c i.at); tx = i.tx; place = i.place ∙ ap (act_place y.m) c; result = i.result }
+        record { tid = x.1.0; act = y; side = x.0; found = e; decided = at_status d.place.order y.status (subst (λ z. has_number z y.status ≡ true) c i.at); tx = i.tx; place = i.place ∙ ap (act_place y.m) c; result = i.result }
 
 pub committed_is : {C : Type 0} (w : Fixed C) (Of : Tx → C → Type 0) (finish : C → List State → Alone) (es : List Event) → Given w Of finish → IsRun w es → AllByRecursion (λ d. d.place.side ≡ 0 → is_kept (OfBatch d.place.batch.0) (history w es).kept ≡ true) (history w es).committed
     → AllByRecursion (λ d. IsCommittedPact (reached w es) d ⊎ IsCommittedAct (reached w es) d) (history w es).committed

@@ -19,7 +19,7 @@ use Rattle.protocol.specs.Conditions.{IsAllowed, conditions}
 use Rattle.protocol.specs.Effects.{after}
 use Rattle.protocol.specs.Runs.{opening, state_after, EachAllowed, IsRun, reached}
 use Rattle.protocol.specs.History.{History, Done, no_history, history, history_after, grown, done_pact, done_batch, done_act, kept_act}
-use Rattle.protocol_laws.specs.Told.{is_at, PactTold}
+use Rattle.protocol_laws.specs.Told.{has_number, PactTold}
 use Rattle.protocol_laws.specs.Commits.{is_kept}
 use Rattle.protocol_laws.specs.Marks.{Marked, Known}
 use Rattle.protocol_laws.specs.Told.{IsAmongDone}
@@ -276,9 +276,9 @@ unfolding ActsTold
 acts_told w Of finish es v run t c x r e q i =
     among (OfAct t) t x.tx x.tx (act_place x.m c) x.result r (history w es).committed ((all_good w Of finish es v run).told t x e c (at q)) refl i
   where
-    at : (x.status ≡ Decided c) ⊎ (x.status ≡ Sealed c) → is_at c x.status ≡ true
-    at (inl f) = ap (is_at c) f ∙ Rattle.std.proofs.lemmas.Bool.eq-eqb c c refl
-    at (inr f) = ap (is_at c) f ∙ Rattle.std.proofs.lemmas.Bool.eq-eqb c c refl
+    at : (x.status ≡ Decided c) ⊎ (x.status ≡ Sealed c) → has_number c x.status ≡ true
+    at (inl f) = ap (has_number c) f ∙ Rattle.std.proofs.lemmas.Bool.eq-eqb c c refl
+    at (inr f) = ap (has_number c) f ∙ Rattle.std.proofs.lemmas.Bool.eq-eqb c c refl
 
 -- Of every run of every accepted text.
 pub verdicts_tell : {C : Type 0} → OfEveryRun (VerdictsTell {C = C})
