@@ -1,8 +1,8 @@
 -- What committed are transactions of the text.
-use Rattle.std.specs.Prelude.{◌≡◌, refl, ℕ, ◌<◌, ◌≤◌, ◌==◌, nat_le, nat_lt, Bool, true, false, ◌&&◌, ◌||◌, if◌then◌else◌, ◌⊎◌, Some, List, [], ◌∷◌, ◌++◌, length, map, filter, find}
+use Rattle.std.specs.Prelude.{◌≡◌, refl, ℕ, ◌<◌, ◌≤◌, ◌==◌, nat_lt, Bool, true, false, ◌&&◌, ◌||◌, if◌then◌else◌, ◌⊎◌, Some, List, [], ◌∷◌, ◌++◌, length, map, filter, find}
 use Rattle.std.specs.List.{AllByRecursion, list_any}
 use Rattle.std.proofs.Common.{arith, sym, subst, inl, inr}
-use Rattle.std.proofs.lemmas.Bool.{and_parts, ltb-true, eqb-true, eq-eqb, le-ltb, cases_lt}
+use Rattle.std.proofs.lemmas.Bool.{and_parts, ltb-true, eqb-true, eq-eqb, cases_lt}
 use Rattle.protocol.specs.Fixed.{Fixed}
 use Rattle.protocol.specs.Parts.{Pact, Batch, Machine}
 use Rattle.protocol.specs.Events.{Event, Submit}
@@ -10,8 +10,9 @@ use Rattle.protocol.specs.Conditions.{IsAllowed, conditions}
 use Rattle.protocol.specs.Effects.{after}
 use Rattle.protocol.specs.Runs.{EachAllowed, IsRun, opening, reached, state_after}
 use Rattle.protocol.specs.Words.{batch_of}
-use Rattle.protocol.specs.Numbers.{flat, times, one_if, once_in, TransactionsInOnePlace}
+use Rattle.protocol.specs.Numbers.{flat, times, TransactionsInOnePlace}
 use Rattle.protocol.specs.History.{Done, history}
+use Rattle.protocol_laws.proofs.Lemmas.{once_from}
 use Rattle.protocol_verdicts.specs.EvidenceSerial.{IsCommittedPact, IsCommittedAct}
 
 -- ---- no more are submitted than the text has
@@ -52,13 +53,6 @@ all_below next (x ∷ xs) h = (by (cases_lt x next), all_below next xs (λ n l. 
     by : (x < next) ⊎ (next ≤ x) → x < next
     by (inl l) = l
     by (inr l) = absurd (omega (arith, h x l, own x xs))
-
-once_from : (low high n : ℕ) → high ≤ n → once_in low high n ≡ 0
-once_from low high n h = rw (le-ltb n high h) (by (nat_le low n))
-  where
-    by : (b : Bool) → one_if (b && false) ≡ 0
-    by true = refl
-    by false = refl
 
 -- ---- from a list to who is in it
 

@@ -20,6 +20,7 @@ use Rattle.protocol.specs.Events.{Event, Abort}
 use Rattle.protocol.specs.History.{Done, history}
 use Rattle.protocol.specs.Chains.{by_place, txs_of, IsSerial}
 use Rattle.protocol_laws.specs.Told.{IsAmongDone}
+use Rattle.protocol_laws.proofs.Lemmas.{all_join}
 use Rattle.protocol_records.specs.AsTold.{told_committed, ToldStands}
 use Rattle.protocol_verdicts.proofs.evidence.EvidenceSerial.{SplitAt, sorted_at}
 use Rattle.protocol_verdicts.specs.EvidenceSerial.{HasResultThere, FailedAt, counts, counted, VerdictsTell}
@@ -102,10 +103,6 @@ meant_join p world (x ∷ xs) ys = ap (λ rs. (meaning.alone p world x).result �
 same_rest : (xs ys zs : List TxResult) → xs ++ ys ≡ xs ++ zs → ys ≡ zs
 same_rest [] ys zs e = e
 same_rest (x ∷ xs) ys zs e = same_rest xs ys zs (cc e)
-
-all_join : {X : Type 0} (P : X → Type 0) (xs ys : List X) → AllByRecursion P xs → AllByRecursion P ys → AllByRecursion P (xs ++ ys)
-all_join P [] ys h k = k
-all_join P (x ∷ xs) ys h k = (h.0, all_join P xs ys h.1 k)
 
 -- what runs behind others means there what the machine has it give there
 behind_meant : (p : List CheckedMethod) (w : Text) (xs ys : List Tx) → SerialMeant p → AllByRecursion (IsTransaction p (length w.opening.states)) xs → AllByRecursion (IsTransaction p (length w.opening.states)) ys

@@ -6,6 +6,7 @@ use Rattle.std.proofs.lemmas.Bool.{eq-eqb}
 use Rattle.protocol.specs.Fixed.{Fixed}
 use Rattle.protocol.specs.Numbers.{flat, times, one_if, NumbersDrawnOnce}
 use Rattle.protocol.specs.Parts.{Act, Machine}
+use Rattle.protocol_laws.proofs.Lemmas.{at_most_one}
 use Rattle.recovery_laws.proofs.KnownLogs.{Apart}
 use Rattle.recovery_laws.proofs.WholesGrown.{count_cons, count_behind}
 
@@ -24,10 +25,6 @@ apart_from (x ∷ xs) h = (
   none_has x.tid xs (omega (arith, h x.tid, count_cons (λ n. n == x.tid) x.tid (map (λ x. x.tid) xs) (eq-eqb x.tid x.tid refl))),
   apart_from xs (λ t. omega (arith, h t, count_behind (λ n. n == t) (x.tid ∷ []) (map (λ x. x.tid) xs))),
 )
-
-at_most_one : (b : Bool) → one_if b ≤ 1
-at_most_one true = omega arith
-at_most_one false = omega arith
 
 pub acts_apart : {C : Type 0} (w : Fixed C) (s : Machine C) → NumbersDrawnOnce w s → Apart s.book.acts
 acts_apart w s d = apart_from s.book.acts (λ t. omega (

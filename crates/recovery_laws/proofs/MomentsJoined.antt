@@ -18,6 +18,7 @@ use Rattle.protocol.specs.Runs.{EachAllowed, IsRun, opening}
 use Rattle.protocol.specs.Moments.{Moment, left_in}
 use Rattle.protocol.specs.History.{History}
 use Rattle.protocol_records.specs.Crash.{recovered_state, CrashHolds}
+use Rattle.protocol_laws.proofs.Lemmas.{all_take}
 use Rattle.protocol_laws.specs.Ranges.{IsWithin, BatchInRange, ActInRange, NumbersInRange}
 use Rattle.protocol_records.specs.RecordLaws.{has_key, all_records, batch_actors, batch_tids, act_actors, TellsOf, RecordsTell, RecordsAddedOnce}
 use Rattle.txn_records.specs.declared.records.Record.{Record}
@@ -44,11 +45,6 @@ pub front_runs : {C : Type 0} (w : Fixed C) (es : List Event) (m : Moment w es) 
 front_runs w es m run = front_allowed w m.events m.later (opening w) (subst (λ z. IsRun w z) m.splits run)
 
 -- ---- what is left of a log
-
-all_take : {X : Type 0} (P : X → Type 0) (n : ℕ) (xs : List X) → AllByRecursion P xs → AllByRecursion P (take n xs)
-all_take P zero xs h = tt
-all_take P (suc n) [] h = tt
-all_take P (suc n) (x ∷ xs) h = (h.0, all_take P n xs h.1)
 
 count_take : {X : Type 0} (p : X → Bool) (n : ℕ) (xs : List X) → count p (take n xs) ≤ count p xs
 count_take p zero xs = omega arith

@@ -2,7 +2,7 @@
 use Rattle.std.specs.Prelude.{◌≡◌, refl, ℕ, ℤ, Option, Some, None, ◌+◌, ◌<◌, ◌≤◌, ◌==◌, nat_lt, ◌⊎◌, Bool, true, false, ◌&&◌, ◌||◌, List, [], ◌∷◌, ◌++◌, map, Contains}
 use Rattle.std.specs.List.{AllByRecursion, flat_map}
 use Rattle.std.proofs.Common.{arith, ap, sym, subst, inl, inr, ◌∙◌}
-use Rattle.std.proofs.lemmas.Bool.{or_cases, or_left, or_right, and_parts, and_from, eq-eqb, ltb-true, lt-ltb}
+use Rattle.std.proofs.lemmas.Bool.{or_cases, and_parts, ltb-true}
 use Rattle.snap_base.specs.declared.ids.Tid.{Tid}
 use Rattle.snap_base.specs.declared.transactions.TxResult.{TxResult}
 use Rattle.snap_base.specs.declared.verdicts.Place.{Place}
@@ -12,6 +12,7 @@ use Rattle.protocol.specs.Verdicts.{pact_place, act_place}
 use Rattle.protocol.specs.History.{Done}
 use Rattle.protocol.specs.Chains.{is_place_below, IsBelowAll, PlacesRise}
 use Rattle.protocol_laws.specs.Told.{PactsAscend}
+use Rattle.protocol_laws.proofs.Lemmas.{by_batch, by_side, by_order}
 use Rattle.protocol_theorems.proofs.Lemmas.{before_trans}
 use Rattle.snap_recover.specs.declared.openings.Kept.{Kept}
 use Rattle.snap_recover.specs.declared.openings.Kept.TheVariants as kept
@@ -33,15 +34,6 @@ SpotsRise [] = Unit {0}
 SpotsRise (x ∷ xs) = AllByRecursion (Lower x) xs × SpotsRise xs
 
 -- ---- places
-
-by_batch : (p q : Place) → p.batch.0 < q.batch.0 → is_place_below p q ≡ true
-by_batch p q l = or_left (nat_lt p.batch.0 q.batch.0) _ (lt-ltb p.batch.0 q.batch.0 l)
-
-by_side : (p q : Place) → p.batch.0 ≡ q.batch.0 → p.side < q.side → is_place_below p q ≡ true
-by_side p q e l = or_right (nat_lt p.batch.0 q.batch.0) _ (and_from (p.batch.0 == q.batch.0) _ (eq-eqb p.batch.0 q.batch.0 e) (or_left (nat_lt p.side q.side) _ (lt-ltb p.side q.side l)))
-
-by_order : (p q : Place) → p.batch.0 ≡ q.batch.0 → p.side ≡ q.side → p.order < q.order → is_place_below p q ≡ true
-by_order p q e f l = or_right (nat_lt p.batch.0 q.batch.0) _ (and_from (p.batch.0 == q.batch.0) _ (eq-eqb p.batch.0 q.batch.0 e) (or_right (nat_lt p.side q.side) _ (and_from (p.side == q.side) _ (eq-eqb p.side q.side f) (lt-ltb p.order q.order l))))
 
 pact_before_act : (k t m c : ℕ) → k ≤ m → is_place_below (pact_place k t) (act_place m c) ≡ true
 pact_before_act k t m c l = by (nat_lt k m) refl

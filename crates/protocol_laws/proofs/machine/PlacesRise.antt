@@ -28,10 +28,10 @@ use Rattle.protocol_laws.proofs.first.SettlingKeys as keys
 pub by_batch : (p q : Place) → p.batch.0 < q.batch.0 → is_place_below p q ≡ true
 by_batch p q l = or_left (nat_lt p.batch.0 q.batch.0) _ (lt-ltb p.batch.0 q.batch.0 l)
 
-by_side : (p q : Place) → p.batch.0 ≡ q.batch.0 → p.side < q.side → is_place_below p q ≡ true
+pub by_side : (p q : Place) → p.batch.0 ≡ q.batch.0 → p.side < q.side → is_place_below p q ≡ true
 by_side p q e l = or_right (nat_lt p.batch.0 q.batch.0) _ (and_from (p.batch.0 == q.batch.0) _ (eq-eqb p.batch.0 q.batch.0 e) (or_left (nat_lt p.side q.side) _ (lt-ltb p.side q.side l)))
 
-by_order : (p q : Place) → p.batch.0 ≡ q.batch.0 → p.side ≡ q.side → p.order < q.order → is_place_below p q ≡ true
+pub by_order : (p q : Place) → p.batch.0 ≡ q.batch.0 → p.side ≡ q.side → p.order < q.order → is_place_below p q ≡ true
 by_order p q e f l = or_right (nat_lt p.batch.0 q.batch.0) _ (and_from (p.batch.0 == q.batch.0) _ (eq-eqb p.batch.0 q.batch.0 e) (or_right (nat_lt p.side q.side) _ (and_from (p.side == q.side) _ (eq-eqb p.side q.side f) (lt-ltb p.order q.order l))))
 
 -- it is a PACT's, or an ACT's with a number below this one

@@ -23,7 +23,7 @@ use Rattle.protocol_laws.specs.Ranges.{IsWithin, BatchInRange, ActInRange, Numbe
 use Rattle.protocol_records.specs.RecordLaws.{batch_actors, batch_tids, act_actors, TellsOf}
 use Rattle.protocol_records.specs.NextNumbers.{numbers_in, next_number, next_tid_of, next_bid_of, next_c_of, IsPlaceWithin, IsNumberedWithin, NextNumbersStand}
 use Rattle.protocol_laws.proofs.first.Along.{along}
-use Rattle.protocol_laws.proofs.first.Lists.{all_join, all_front, all_back, all_mid, all_found, weaker}
+use Rattle.protocol_laws.proofs.first.Lists.{all_join, all_front, all_back, all_mid, all_take, all_found, weaker}
 use Rattle.protocol_laws.proofs.first.OneWay.{tid_went, bid_went}
 use Rattle.protocol_laws.proofs.first.PairsFound.{pairs_stand}
 use Rattle.protocol_laws.proofs.first.Ranges.{numbers_in_range}
@@ -123,11 +123,6 @@ cs_drawn w s (BatchComplete k a st) n t = tt
 cs_drawn w s (BatchDone k vs) n t = tt
 cs_drawn w s (ActPrepare u a st) n t = tt
 cs_drawn w s (ActDone u m c v actors) n t = ((n.commits.each u t.act t.found c t.c_is).below, tt)
-
-all_take : {X : Type 0} (P : X → Type 0) (n : ℕ) (xs : List X) → AllByRecursion P xs → AllByRecursion P (take n xs)
-all_take P zero xs h = tt
-all_take P (suc n) [] h = tt
-all_take P (suc n) (x ∷ xs) h = (h.0, all_take P n xs h.1)
 
 -- ---- members
 
