@@ -1,4 +1,4 @@
--- Who is told_committed a place is told_committed what the language means there.
+-- Who is told a place is told what the language means there.
 use Rattle.std.specs.Prelude.{◌≡◌, refl, ℕ, ◌<◌, Some, List, [], ◌∷◌, ◌++◌, length, map}
 use Rattle.std.specs.List.{AllByRecursion}
 use Rattle.std.proofs.Common.{sym, subst, ◌∙◌, ap}

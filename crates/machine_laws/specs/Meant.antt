@@ -50,7 +50,7 @@ pub record CommittedAsMeant (p : List CheckedMethod) (w : Fixed Rest) (finish : 
   pub results : IsAsMeant p w h.committed
   -- each of them did what the language means of it alone, where it found what it found
   pub explained : AllByRecursion (MeansWhatItDid p w) h.committed
-  -- those that are told_committed that they committed, also where a run has stopped early, gave what the language means of them with
+  -- those that are told that they committed, also where a run has stopped early, gave what the language means of them with
   -- nobody else
   pub told : IsAsMeant p w (told_committed s h)
   -- in a quiet state the actors have the states that this leaves
@@ -104,11 +104,11 @@ pub record FailedAsMeant (p : List CheckedMethod) (w : Fixed Rest) (n k c code :
   pub next_c : (reached w front).book.next_c ≡ c
   pub there : FailsAsMeant p w n k c code (reached w front) (history w es).committed
 
--- ---- who is told_committed a place, with a value or a code, and who is told_committed that it failed with its batch, is told_committed what it means there
+-- ---- who is told a place, with a value or a code, and who is told that it failed with its batch, is told what it means there
 
 pub record VerdictsAsMeant (p : List CheckedMethod) (w : Fixed Rest) (finish : Rest → List State → Alone) (es : List Event) : Type 0 where
   pub value : (n : ℕ) (at : Place) (v : ℤ) → verdict n (reached w es).book (reached w es).desk ≡ Some (verdicts.Committed at v) → HasMeantResult p w n at (Value v) (history w es).committed
   pub code : (n : ℕ) (at : Place) (c : ℕ) → verdict n (reached w es).book (reached w es).desk ≡ Some (verdicts.Code at c) → HasMeantResult p w n at (Fail c) (history w es).committed
-  -- with nobody else than those that are told_committed that they committed too
+  -- with nobody else than those that are told that they committed too
   pub value_told : (n : ℕ) (at : Place) (v : ℤ) → verdict n (reached w es).book (reached w es).desk ≡ Some (verdicts.Committed at v) → HasMeantResult p w n at (Value v) (told_committed (reached w es) (history w es))
   pub batch_code : (n k c code : ℕ) → verdict n (reached w es).book (reached w es).desk ≡ Some (verdicts.BatchCode (record { 0 = k }) c code) → FailedAsMeant p w n k c code es

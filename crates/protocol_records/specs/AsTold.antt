@@ -1,4 +1,4 @@
--- Who is told_committed that it committed: each PACT of a batch that settled, and each ACT that is sealed with a value. It is what a run
+-- Who is told that it committed: each PACT of a batch that settled, and each ACT that is sealed with a value. It is what a run
 -- that stopped early has committed; others may have a place already, and it is not sure yet.
 use Rattle.std.specs.Prelude.{◌≡◌, ℕ, ℤ, Bool, ◌&&◌, Some, List, filter}
 use Rattle.std.specs.List.{AllByRecursion}
@@ -28,9 +28,9 @@ told_committed s h = filter (λ d. is_over s d.who && is_value d.result) h.commi
 -- ---- what every run owes
 
 pub record ToldStands {C : Type 0} (w : Fixed C) (finish : C → List State → Alone) (s : Machine C) (h : History) : Type 0 where
-  -- who is told_committed that it committed is one of them, at that place, with that value
+  -- who is told that it committed is one of them, at that place, with that value
   pub among : (n : ℕ) (p : Place) (v : ℤ) → verdict n s.book s.desk ≡ Some (verdicts.Committed p v) → IsAmongDone n p (Value v) (told_committed s h)
-  -- and each of them is told_committed so
+  -- and each of them is told so
   pub are_told : AllByRecursion (λ d. verdict d.tx s.book s.desk ≡ ended_at d.place d.result) (told_committed s h)
   -- with each of them is all that committed with a value and was placed before it
   pub closed : IsClosedSet (λ t. HasMember t (told_committed s h)) h

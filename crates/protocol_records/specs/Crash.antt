@@ -46,7 +46,7 @@ abbrev pub last_told : State → List LogRecord → State
 last_told s [] = s
 last_told s (r ∷ rs) = last_told (state_told s r) rs
 
--- the state of an actor: that of the last record that tells_member_state, or the first one
+-- the state of an actor: that of the last record that counts, or the first one
 abbrev pub recovered_state : ℕ → (ℕ → List LogRecord) → ℕ → State → State
 recovered_state many logs a first = last_told first (filter (tells_member_state many logs a) (logs (a % many)))
 

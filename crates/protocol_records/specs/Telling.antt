@@ -29,8 +29,8 @@ told_states a (ActDone t m c v actors ∷ rs) = told_states a rs
 abbrev pub names : Who → List One → Bool
 names y os = list_any (λ o. is_who y o.who) os
 
--- Where this one is on the long schedule, the state told_states is the one after it, all that stand ahead of it are complete
--- batches, and nobody ahead of it is told_states later.
+-- Where this one is on the long schedule, the state told is the one after it, all that stand ahead of it are complete
+-- batches, and nobody ahead of it is told later.
 abbrev pub TellsState : State → Who → State → List One → List Ran → Type 0
 TellsState s y st later [] = ⊤
 TellsState s y st later (Stands z c ss ∷ rs) =
@@ -77,7 +77,7 @@ Recovers w s h = (a : ℕ) → RecoversAt a (slice_index_or w.text.opening.state
 
 -- ---- the records of readers
 
--- what it has read there is the state that is told_states
+-- what it has read there is the state that is told
 abbrev pub ToldRead : List Slice → One → Type 0
 ToldRead reads o = AllByRecursion (λ z. is_who o.who (OfAct z.tid) ≡ true → z.found ≡ o.state) reads
 

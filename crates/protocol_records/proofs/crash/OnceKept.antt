@@ -80,11 +80,11 @@ ready_marked w e s t a q = tt
 marked_stays : {C : Type 0} (w : Fixed C) (e : Event) (s : Machine C) (t a : ℕ) → holds (is_prepared_at a) (act_of t s.book.acts) ≡ true → holds (is_prepared_at a) (act_of t (after w e s).book.acts) ≡ true
 marked_stays w e s t a h = fact_stays w e s t (is_prepared_at a) (holds_marked t a) (ready_marked w e s t a h) h
 
--- nobody is told_states twice
+-- nobody is told twice
 unfoldable pub AllOnce : {C : Type 0} → Fixed C → Machine C → Type 0
 AllOnce w s = (a : ℕ) → OnceTold (told_states a (log_at s (a % w.text.logs)).records)
 
--- a batch that becomes complete was not told_states there
+-- a batch that becomes complete was not told there
 pub batch_new : {C : Type 0} (w : Fixed C) (Of : Tx → C → Type 0) (finish : C → List State → Alone) (k a : ℕ) (s : Machine C) (h : History) → IsAllowed w (Complete k a) s → AllGood w Of finish s h → Telling w s h → names (OfBatch k) (told_states a (log_at s (a % w.text.logs)).records) ≡ false
 unfolding conditions Telling Tracked Committed
 batch_new w Of finish k a s h ok g te =

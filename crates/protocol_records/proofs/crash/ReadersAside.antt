@@ -68,7 +68,7 @@ new_batch : (zs : List Slice) (k : ℕ) (st : State) (v : Bool) → AllByRecursi
 new_batch zs k st true = (every zs (λ z e. absurd (true≢false (sym e))), tt)
 new_batch zs k st false = tt
 
--- the state that a reader has seen is the one that it is told_states of
+-- the state that a reader has seen is the one that it is told of
 prepared_reads : {C : Type 0} (w : Fixed C) (Of : Tx → C → Type 0) (finish : C → List State → Alone) (t a : ℕ) (s : Machine C) (h : History) → IsAllowed w (Prepare t a) s → AllGood w Of finish s h → ActsSure w s → ActsStand s h → ToldRead (h.reads a) (record { who = OfAct t; state = (cell_at s a).state })
 unfolding conditions ActsSure ActsStand ReadBy AllSee Locks
 prepared_reads w Of finish t a s h ok g su st = weaker (λ z. z.tid ≡ t → (z.found ≡ now) × (z.left ≡ now)) (λ z. (t == z.tid) ≡ true → z.found ≡ now) (h.reads a) (λ z k q. (k (sym (eqb-true t z.tid q))).0) (seen (cases_Bool (has_read (h.reads a) t)))

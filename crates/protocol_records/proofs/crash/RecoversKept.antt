@@ -60,7 +60,7 @@ front_same P on on' kept (y ∷ ys) k i h =
       | inr v ↦ or_right (on' z && P z) _ (any zs (λ x g. j x (or_right (is_who z x) _ g)) v)
     ]
 
--- what is told_states stays, or one more is told_states that did not commit
+-- what is told stays, or one more is told that did not commit
 abbrev pub ToldStep : List Who → List Who → List One → List One → Type 0
 ToldStep kept readers os os' = (os' ≡ os) ⊎ ((n : One) × (os' ≡ os ++ n ∷ []) × (is_kept n.who kept ≡ false) × (is_kept n.who readers ≡ false))
 

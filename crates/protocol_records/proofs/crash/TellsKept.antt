@@ -50,7 +50,7 @@ use Rattle.protocol_records.proofs.crash.TellLists.{Unmarked, AheadDone}
 use Rattle.protocol_laws.proofs.machine.PlaceLists.{ascends_back}
 use Rattle.protocol_laws.proofs.machine.MarksKept.{log_synced}
 
--- ---- what is told_states
+-- ---- what is told
 
 pub told_join : (a : ℕ) (xs ys : List LogRecord) → told_states a (xs ++ ys) ≡ told_states a xs ++ told_states a ys
 told_join a [] ys = refl
@@ -77,7 +77,7 @@ told_added a rs (x ∷ xs) zero (suc m) = inl refl
 told_added a rs (x ∷ xs) (suc l) zero = inl refl
 told_added a rs (x ∷ xs) (suc l) (suc m) = told_added a rs xs l m
 
--- nothing is told_states of the actor
+-- nothing is told of the actor
 pub told_same : (a : ℕ) (rs : List LogRecord) (logs : List Log) (l m : ℕ) → told_states a rs ≡ [] → told_states a (slice_index_or (slice_set logs l (added rs (slice_index_or logs l no_log))) m no_log).records ≡ told_states a (slice_index_or logs m no_log).records
 told_same a rs logs l m e = elim (told_added a rs logs l m) [ inl q ↦ q | inr q ↦ q ∙ (ap (λ z. told_states a (slice_index_or logs m no_log).records ++ z) e ∙ append-nil (told_states a (slice_index_or logs m no_log).records)) ]
 
@@ -89,7 +89,7 @@ told_commit a c (Some x) = by (is_value x.result)
     by true = refl
     by false = refl
 
--- who is told_states has a record
+-- who is told has a record
 pub told_all : (P : Who → Type 0) (a : ℕ) (rs : List LogRecord) → ((k : ℕ) → list_any (is_complete k a) rs ≡ true → P (OfBatch k)) → ((t : ℕ) → list_any (is_prepare t a) rs ≡ true → P (OfAct t)) → AllByRecursion (λ o. P o.who) (told_states a rs)
 told_all P a [] f g = tt
 told_all P a (BatchInfo k actors tids ∷ rs) f g = told_all P a rs f g

@@ -1,4 +1,4 @@
--- Who is told_committed that it committed is serial, and closed, over every run.
+-- Who is told that it committed is serial, and closed, over every run.
 use Rattle.std.specs.Prelude.{◌≡◌, refl, ℕ, zero, suc, Bool, true, false, ◌&&◌, if◌then◌else◌, Option, Some, None, List, [], ◌∷◌, ◌++◌, length, filter}
 use Rattle.std.specs.List.{AllByRecursion}
 use Rattle.std.proofs.Common.{arith, sym, ap, subst, ◌∙◌}
@@ -39,7 +39,7 @@ use Rattle.protocol_records.proofs.crash.DonesSure.{none_missed}
 use Rattle.protocol_records.proofs.crash.IsClosedKept.{parts_closed}
 use Rattle.protocol_records.proofs.crash.OversSure.{overs_sure}
 
--- ---- who is told_committed is one of them
+-- ---- who is told is one of them
 
 batch_told : {C : Type 0} (s : Machine C) (h : History) (n : ℕ) (b : Batch) → (is_settled b.stage ≡ true → is_over s (OfBatch b.bid) ≡ true) → BatchTold h.committed b.bid b → BatchSays n (Acked n (told_committed s h)) b
 batch_told s h n b d t f = weaker _ _ b.pacts
@@ -56,7 +56,7 @@ told_at w Of finish s h g n v e = verdict_says n (Acked n (told_committed s h)) 
     (both_all _ _ _ s.desk.batches (λ b p q. batch_told s h n b p q) (each_batch w s (λ k b. is_settled b.stage ≡ true → is_over s (OfBatch k) ≡ true) g.good.settling (λ k b f q. subst (λ z. holds (λ b. is_settled b.stage) z ≡ true) (sym f) q)) (each_batch w s (BatchTold h.committed) g.good.settling g.pacts_told))
     (both_all _ _ _ s.book.acts (λ x p q. act_told s h n x p q) (each_act s (λ t x. is_sealed x.status ≡ true → is_over s (OfAct t) ≡ true) g.ascend (λ t x f q. subst (λ z. holds (λ x. is_sealed x.status) z ≡ true) (sym f) q)) (each_act s (ActTold h.committed) g.ascend g.told)) g.no_places e
 
--- ---- and each of them is told_committed so
+-- ---- and each of them is told so
 
 some_act : (o : Option Act) → holds (λ x. is_sealed x.status) o ≡ true → (x : Act) × ((o ≡ Some x) × (is_decided x.status ≡ false))
 some_act None e = absurd (true≢false (sym e))
