@@ -1,5 +1,5 @@
--- Only proofs cite this; the rule is `NumbersStand` (Sets).
 -- The last batch of an actor, and before numbers along its long schedule.
+-- Only proofs cite this; the rule is `NumbersStand` (Sets).
 use Rattle.std.specs.Prelude.{◌≡◌, ℕ, nat_le, max, Bool, true, ◌||◌, ◌≤◌, List, [], ◌∷◌, ◌++◌, ⊤}
 use Rattle.std.specs.List.{AllByRecursion}
 use Rattle.protocol.specs.Parts.{Act, OfBatch, OfAct}

@@ -1,5 +1,5 @@
--- Only proofs cite this; the rule is `AnsweredWhenQuiet` (Quiet).
 -- Sub-batches under way and on schedules are of the desk's batches, and a batch is complete only behind complete ones.
+-- Only proofs cite this; the rule is `AnsweredWhenQuiet` (Quiet).
 use Rattle.std.specs.Prelude.{◌≡◌, ℕ, Bool, true, is_some, List, [], ◌∷◌, ⊤}
 use Rattle.std.specs.List.{AllByRecursion, list_any}
 use Rattle.protocol.specs.Parts.{Batch, SubBatch, Entry, BatchEntry, ActEntry, Machine}

@@ -1,5 +1,5 @@
--- Only proofs cite this; the rule is `NumbersStand` (Sets).
 -- Before numbers along an actor's long schedule, beside the places of what committed there.
+-- Only proofs cite this; the rule is `NumbersStand` (Sets).
 use Rattle.std.specs.Prelude.{◌≡◌, ℕ, ◌≤◌, ◌==◌, nat_le, Bool, true, false, not, ◌&&◌, ◌||◌, ◌⊎◌, List, [], ◌∷◌, ⊤}
 use Rattle.std.specs.List.{AllByRecursion, list_any}
 use Rattle.protocol.specs.Parts.{Act, Pair, Cascade, Who, OfBatch, OfAct, FloorPair}

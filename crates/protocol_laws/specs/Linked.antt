@@ -1,6 +1,6 @@
--- Only proofs cite this; the rule is `OrderHolds` (Order).
 -- Committed transactions that link: who came to an actor, worlds that agree with what a transaction found, and what
 -- explains it.
+-- Only proofs cite this; the rule is `OrderHolds` (Order).
 use Rattle.std.specs.Prelude.{◌≡◌, ℕ, ◌<◌, ◌⊎◌, true, Some, is_some, Option, Bool, List, [], ◌∷◌, length, filter, ⊤}
 use Rattle.std.specs.List.{AllByRecursion}
 use Rattle.snap_base.specs.declared.transactions.State.{State}
@@ -30,7 +30,7 @@ pub record Explains {C : Type 0} (w : Fixed C) (finish : C → List State → Al
   pub as_many : length (alone w.code finish world (tx_at w.text d.tx)).world ≡ length world
   pub leaves : (a : ℕ) → a < length world → state_in (alone w.code finish world (tx_at w.text d.tx)).world a ≡ left_of a d (state_in world a)
 
--- So it does on any world with the states that it found.
+-- The transaction is explained on any world with the states that it found.
 abbrev pub IsExplained : {C : Type 0} → Fixed C → (C → List State → Alone) → Done → Type 0
 IsExplained w finish d = (world : List State) → length world ≡ length w.text.opening.states → Agrees d.views world → Explains w finish d world
 

@@ -1,5 +1,5 @@
--- Only proofs cite this; the rule is `OrderHolds` (Order).
 -- What the marks and records of a batch tell of the long schedules.
+-- Only proofs cite this; the rule is `OrderHolds` (Order).
 use Rattle.std.specs.Prelude.{◌≡◌, ℕ, ◌%◌, Bool, true, false, not, ◌&&◌, ◌⊎◌, Some, is_some, List}
 use Rattle.std.specs.List.{AllByRecursion, list_any, list_all}
 use Rattle.protocol.specs.Fixed.{Fixed}

@@ -1,5 +1,5 @@
--- Proofs cite this, and `OnActors` its `Ascends`; the rule is `OrderHolds` (Order).
 -- Batches along an actor's long schedule.
+-- Proofs cite this, and `OnActors` its `Ascends`; the rule is `OrderHolds` (Order).
 use Rattle.std.specs.Prelude.{◌≡◌, ℕ, ◌<◌, ◌≤◌, Bool, true, false, ◌||◌, List, [], ◌∷◌, length, ⊤}
 use Rattle.std.specs.List.{AllByRecursion}
 use Rattle.protocol.specs.Parts.{Cascade, Who, OfBatch, OfAct}

@@ -1,5 +1,5 @@
--- Proofs cite this, and `Undo` its `slices_in`; the rule is `OrderHolds` (Order).
 -- The long schedule of an actor: its schedule as if nothing that stays had ever left it.
+-- Proofs cite this, and `Undo` its `slices_in`; the rule is `OrderHolds` (Order).
 use Rattle.std.specs.Prelude.{◌≡◌, ℕ, ◌==◌, Bool, true, false, ◌||◌, List, [], ◌∷◌, ◌++◌, ⊤}
 use Rattle.std.specs.List.{list_any}
 use Rattle.snap_base.specs.declared.transactions.State.{State}

@@ -1,5 +1,5 @@
--- Only proofs cite this; the rule is `OrderHolds` (Order).
 -- The slices of a transaction so far explain it, in every world in which they run.
+-- Only proofs cite this; the rule is `OrderHolds` (Order).
 use Rattle.std.specs.Prelude.{◌≡◌, ℕ, ◌<◌, ◌==◌, if◌then◌else◌, List, [], ◌∷◌, length, slice_set, ⊤}
 use Rattle.snap_base.specs.declared.transactions.State.{State}
 use Rattle.snap_base.specs.declared.transactions.Tx.{Tx}

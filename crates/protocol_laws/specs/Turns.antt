@@ -1,5 +1,5 @@
--- Only proofs cite this; the rule is `OrderHolds` (Order).
 -- In which order a batch's PACTs run on an actor.
+-- Only proofs cite this; the rule is `OrderHolds` (Order).
 use Rattle.std.specs.Prelude.{◌≡◌, ℕ, ◌<◌, ◌≤◌, ◌==◌, true, false, List, [], ◌∷◌, ⊤}
 use Rattle.std.specs.List.{AllByRecursion, list_any}
 use Rattle.protocol.specs.Parts.{Slot, Entry, BatchEntry, ActEntry}

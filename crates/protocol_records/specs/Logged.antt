@@ -1,5 +1,5 @@
--- Only proofs cite this; the rule is `CrashHolds` (Crash).
 -- What the records of the logs tell of batches and ACTs, and what of it is durable.
+-- Only proofs cite this; the rule is `CrashHolds` (Crash).
 use Rattle.std.specs.Prelude.{◌≡◌, ℕ, ◌%◌, ◌==◌, Bool, true, false, ◌&&◌, ◌||◌, Option, Some, None, is_some, not, List, [], ◌∷◌, map, slice_index_or, ⊤}
 use Rattle.std.specs.List.{AllByRecursion, list_any, list_all}
 use Rattle.protocol.specs.Fixed.{Fixed}
@@ -123,7 +123,7 @@ AllThere h = AllByRecursion (IsThere h.kept h.long) h.committed
 abbrev pub came_valued : ℕ → Done → Bool
 came_valued a d = is_some (d.views a) && is_value d.result
 
--- and so did another one, and they do not both only read
+-- another one came to the actor, too, and committed with a value, and they do not both only read
 abbrev pub came_rival : ℕ → Done → Done → Bool
 came_rival a d e = came_valued a e && (not (is_who d.who e.who) && not (d.reader && e.reader))
 

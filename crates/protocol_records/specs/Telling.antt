@@ -1,5 +1,5 @@
--- Only proofs cite this; the rule is `CrashHolds` (Crash).
 -- What the records of an actor tell of its state, beside its long schedule.
+-- Only proofs cite this; the rule is `CrashHolds` (Crash).
 use Rattle.std.specs.Prelude.{◌≡◌, ℕ, ◌%◌, ◌==◌, Bool, true, false, not, ◌&&◌, ◌||◌, if◌then◌else◌, List, [], ◌∷◌, filter, slice_index_or, ⊤}
 use Rattle.std.specs.List.{AllByRecursion, list_any}
 use Rattle.snap_base.specs.declared.transactions.State.{State}

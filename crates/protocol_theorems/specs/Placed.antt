@@ -1,5 +1,5 @@
--- Only proofs cite this; the rule is `OrderHolds` (Order).
 -- Who was placed on an actor, in which order, beside who stands there and what committed.
+-- Only proofs cite this; the rule is `OrderHolds` (Order).
 use Rattle.std.specs.Prelude.{◌≡◌, ◌⊎◌, ℕ, Bool, true, false, ◌||◌, List, [], ◌∷◌, filter, ◌&&◌, not, ⊤}
 use Rattle.std.specs.List.{list_any, flat_map}
 use Rattle.protocol.specs.Parts.{Who}
