@@ -45,11 +45,11 @@ grown_little (r ∷ s ∷ rs) before after may one empty grown = absurd (omega (
 
 -- ---- the states that it begins with
 
-enumerated : (n : ℕ) (states : List State) → length (enumerate_from n states) ≡ length states
+pub enumerated : (n : ℕ) (states : List State) → length (enumerate_from n states) ≡ length states
 enumerated n [] = refl
 enumerated n (s ∷ ss) = omega (arith, enumerated (n + 1) ss)
 
-zip_long : {A B : Type 0} (R : A → B → Type 0) (xs : List A) (ys : List B) → AllZip R xs ys → length xs ≡ length ys
+pub zip_long : {A B : Type 0} (R : A → B → Type 0) (xs : List A) (ys : List B) → AllZip R xs ys → length xs ≡ length ys
 zip_long R [] [] all = refl
 zip_long R [] (y ∷ ys) all = absurd all
 zip_long R (x ∷ xs) [] all = absurd all
