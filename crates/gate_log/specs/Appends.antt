@@ -29,7 +29,7 @@ end_behind end (item ∷ items) = end + 5 + length (items_bytes (item ∷ items)
 abbrev pub upgrade_ops : List DevOp
 upgrade_ops = Write 7 (MARK_2 ∷ []) ∷ Sync ∷ []
 
--- those that make a log with these bytes one of format 2: none where it is one
+-- the operations that make a log with these bytes one of format 2: none where it is one
 abbrev pub upgrading_ops : List ℕ → List DevOp
 upgrading_ops bytes = if format_in bytes == 1 then upgrade_ops else []
 

@@ -9,7 +9,7 @@ use Rattle.gate_log.specs.declared.limits.TheConstants.{LONGEST_ITEM, NEW_LOG_SI
 abbrev pub magic : List ℕ
 magic = codes "SNAPLOG"
 
--- and with its mark
+-- the first eight bytes of a log with this mark
 abbrev pub header : ℕ → List ℕ
 header mark = magic ++ mark ∷ []
 

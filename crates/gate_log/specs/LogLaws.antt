@@ -23,7 +23,7 @@ OneList = (bytes : List ℕ) (xs ys : List (List ℕ)) → IsLog bytes xs → Is
 abbrev pub LogAtIsLog : Type 0
 LogAtIsLog = (bytes : List ℕ) (end : ℕ) (items : List (List ℕ)) → IsLogAt bytes end items → IsLog bytes items
 
--- so does one in which the places of the items are known
+-- a log in which the places of the items are known stands for those items, at its closed gate
 abbrev pub PlacedIsLogAt : Type 0
 PlacedIsLogAt = (bytes : List ℕ) (end : ℕ) (found : List LogItem) → IsPlacedLogAt bytes end found → IsLogAt bytes end (bytes_of found)
 
@@ -56,13 +56,13 @@ OpeningGives =
     (h : History) (new : Option History) (end : ℕ) (found : List LogItem) → Opened (Some h) new end found
     → DeviceLog (with_ops h (opening_ops (content h))) end (bytes_of found)
 
--- whatever a crash leaves while they are made has the items that were there
+-- whatever a crash leaves while opening's operations are made has the items that were there
 abbrev pub OpeningKeeps : Type 0
 OpeningKeeps =
     (h : History) (items : List (List ℕ)) → disk h ≡ settled (content h) → IsLog (content h) items
     → EachMoment (disk h) (opening_ops (content h)) (λ image. IsLog image items)
 
--- they leave the format that the bytes stand for
+-- opening's operations leave the format that the bytes stand for
 abbrev pub OpeningKeepsFormat : Type 0
 OpeningKeepsFormat =
     (h : History) (new : Option History) (end : ℕ) (found : List LogItem) → Opened (Some h) new end found
@@ -76,13 +76,13 @@ AppendGives =
     (h : History) (end : ℕ) (items added : List (List ℕ)) → MayAppend end added → DeviceLog h end items
     → DeviceLog (with_ops h (append_ops end added)) (end_behind end added) (items ++ added)
 
--- whatever a crash leaves while they are made has the items from before, or these and all that are added
+-- whatever a crash leaves while an append's operations are made has the items from before, or these and all that are added
 abbrev pub AppendKeeps : Type 0
 AppendKeeps =
     (h : History) (end : ℕ) (items added : List (List ℕ)) → MayAppend end added → DeviceLog h end items
     → EachMoment (disk h) (append_ops end added) (λ image. IsLog image items ⊎ IsLog image (items ++ added))
 
--- it leaves the mark, and so the format
+-- an append leaves the mark, and so the format
 abbrev pub AppendKeepsFormat : Type 0
 AppendKeepsFormat =
     (h : History) (end : ℕ) (items added : List (List ℕ)) → MayAppend end added → DeviceLog h end items
@@ -96,23 +96,23 @@ UpgradeGives =
     (h : History) (end : ℕ) (items : List (List ℕ)) → DeviceLog h end items
     → DeviceLog (with_ops h upgrade_ops) end items × (marked_format (content (with_ops h upgrade_ops)) ≡ 2)
 
--- whatever a crash leaves while they are made has the items that were there
+-- whatever a crash leaves while an upgrade's operations are made has the items that were there
 abbrev pub UpgradeKeeps : Type 0
 UpgradeKeeps = (h : History) (end : ℕ) (items : List (List ℕ)) → DeviceLog h end items → EachMoment (disk h) upgrade_ops (λ image. IsLog image items)
 
--- what is marked so is of format 2, however long it is
+-- bytes with a mark of format 2 are of format 2, however long they are
 abbrev pub MarkedIsSecond : Type 0
 MarkedIsSecond = (bytes : List ℕ) → marked_format bytes ≡ 2 → format_in bytes ≡ 2
 
 -- ---- a beginning: an opening, and an upgrade where the log is of format 1
 
--- behind its operations the device holds the log that was found, or made
+-- behind the operations of a beginning the device holds the log that was found, or made
 abbrev pub BeginningGives : Type 0
 BeginningGives =
     (h : History) (new : Option History) (end : ℕ) (found : List LogItem) → Opened (Some h) new end found
     → DeviceLog (with_ops h (beginning_ops (content h))) end (bytes_of found)
 
--- whatever a crash leaves while they are made has the items that were there
+-- whatever a crash leaves while a beginning's operations are made has the items that were there
 abbrev pub BeginningKeeps : Type 0
 BeginningKeeps =
     (h : History) (items : List (List ℕ)) → disk h ≡ settled (content h) → IsLog (content h) items

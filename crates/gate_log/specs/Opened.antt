@@ -54,7 +54,7 @@ abbrev pub MadeSafely : Option History → Option History → Type 0
 MadeSafely old new =
     IfSome old (λ h. length (content h) ≤ NEW_LOG_SIZE → (ops : List DevOp) × AddsAll old new ops × EachMoment (disk h) ops (λ image. IsLog image []))
 
--- the same of a device that is longer than a new log
+-- Why a device that is longer than a new log was not opened, and what it did to the device.
 abbrev pub RefusedLong : Option History → Option History → OpenNo → Type 0
 RefusedLong old new (NotALog offset) = (new ≡ old) × IfSome old (λ h. DiffersAt (content h) offset)
 RefusedLong old new (Damage offset) = (new ≡ old) × IfSome old (λ h. IsDamagedAt (content h) offset)

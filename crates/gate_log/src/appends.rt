@@ -1,3 +1,4 @@
+//! The device calls of an append and of an upgrade, in their order.
 ghost use Rattle.std.specs.Prelude.{◌≡◌, ◌+◌, ◌-◌, ◌<◌, ◌^◌, length, IsSome, OnOk, OnErr};
 ghost use Rattle.std.specs.Option.{ForSome};
 ghost use Rattle.snap_outside.specs.Causes.{HasCause};

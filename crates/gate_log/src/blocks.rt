@@ -1,3 +1,4 @@
+//! The bytes that an append writes behind the closed gate.
 ghost use Rattle.std.specs.Prelude.{◌≡◌, ◌+◌, ◌<◌, ◌≤◌, ◌^◌, [], ◌∷◌, ◌++◌, length, IfOk, OnOk};
 ghost use Rattle.std.specs.List.{AllByRecursion};
 ghost use Rattle.gate_log.specs.Bytes.{IsItem, item_bytes, items_bytes, group_bytes};

@@ -1,3 +1,4 @@
+//! Laws of every log: its one reading, and what a crash leaves of an opening, an append and an upgrade.
 ghost use Rattle.gate_log.specs.LogLaws.{OneReading, OneList, LogAtIsLog, PlacedIsLogAt, DamageIsNoLog, OneDamage, DifferenceIsNoLog, DifferenceIsNoDamage, OneDifference, OpeningAdds, RefusalAdds, OpeningGives, OpeningKeeps, OpeningKeepsFormat, AppendGives, AppendKeeps, AppendKeepsFormat, UpgradeGives, UpgradeKeeps, MarkedIsSecond, BeginningGives, BeginningKeeps};
 
 /// Bytes are a log in one way at most: with one closed gate and one list of items.
@@ -51,14 +52,14 @@ pub fn append_is_whole()
     ensures format { AppendKeepsFormat }
 {}
 
-/// Those of an upgrade make the log one of format 2, and lose no item.
+/// The operations of an upgrade make the log one of format 2. A crash at any moment of them loses no item.
 pub fn upgrade_is_safe()
     ensures gives { UpgradeGives }
     ensures keeps { UpgradeKeeps }
     ensures second { MarkedIsSecond }
 {}
 
-/// Nor do an opening and an upgrade, one behind the other.
+/// An opening and the upgrade behind it leave the log that was found. A crash at any moment of them loses no item.
 pub fn beginning_is_safe()
     ensures gives { BeginningGives }
     ensures keeps { BeginningKeeps }

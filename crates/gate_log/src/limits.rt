@@ -1,3 +1,5 @@
+//! The sizes of items, groups and logs.
+
 /// The most bytes that an item may have: two bytes tell its length.
 pub const LONGEST_ITEM: usize = 65_535;
 

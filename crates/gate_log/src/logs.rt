@@ -1,3 +1,4 @@
+//! A log on a device: its appends, its format and its upgrade.
 ghost use Rattle.std.specs.Prelude.{◌≡◌, ◌↔◌, ◌≤◌, [], true, false, IsOk, IsErr, IsTrue, OnOk, IsErrOf, MatchResult};
 ghost use Rattle.snap_outside.specs.Causes.{Rose};
 ghost use Rattle.snap_outside.specs.Disk.{AddsAll};
@@ -17,7 +18,7 @@ use std::marker::Model;
 pub enum AppendNo {
     /// The device failed. The log is shut from now on: a crash leaves the list with the group or without it.
     Device,
-    /// An earlier call met a failing device.
+    /// An earlier call met a failing device, so the log is shut. No call of the device was made.
     Shut,
     /// There was no memory. No call of the device was made.
     Memory,
@@ -69,7 +70,9 @@ impl<D: LogDev> Log<D> {
         }
     }
 
-    /// Appends the items as one group. Nothing is written for an empty list.
+    /// Appends the items as one group, which is durable then. Nothing is written for an empty list. `Memory` and `Shut`
+    /// leave the log and its device as they were; `Device` shuts the log, and a crash leaves the list with the group or
+    /// without it.
     pub fn append(&mut self, alloc: Global, items: &[Sequence<u8>]) -> Result<(), AppendNo>
         requires items { MayAppend self.old.end items.now }
         requires format { self.old.format ≡ 2 }
@@ -126,7 +129,8 @@ impl<D: LogDev> Log<D> {
         self.format
     }
 
-    /// Makes the log one of format 2, with the items that it has. It takes no memory.
+    /// Makes the log one of format 2, with the items that it has. It takes no memory. `Shut` leaves the log and its
+    /// device as they were; `Device` shuts the log, and a crash leaves its items in one of the two formats.
     pub fn upgrade(&mut self) -> Result<(), AppendNo>
         ensures upgraded { OnOk result (Upgraded self.old.told self.new.told self.old.end) }
 
@@ -160,7 +164,7 @@ impl<D: LogDev> Log<D> {
         Ok(())
     }
 
-    /// The device.
+    /// The log's device. The log is given up.
     pub fn into_dev(self) -> D
         ensures told { D.told result ≡ self.told }
         ensures faults { D.faults result ≡ self.faults }

@@ -1,3 +1,4 @@
+//! Opening a device as a log: a short one is made a new log, and a longer one is read.
 ghost use Rattle.std.specs.Prelude.{◌≡◌, ◌⊎◌, ℕ, ◌<◌, ◌≤◌, ◌^◌, List, [], ◌∷◌, length, Some, IsSome, IfSome, IfOk, IfErr, OnOk, MatchResult, false};
 ghost use Rattle.std.specs.Option.{ForSome};
 ghost use Rattle.snap_outside.specs.Causes.{Rose, HasCause};

@@ -1,3 +1,4 @@
+//! Reading a log's bytes: its items with their places, its closed gate and its format.
 ghost use Rattle.std.specs.Prelude.{◌≡◌, ℕ, ◌+◌, ◌<◌, ◌≤◌, ◌^◌, length, take, slice_index, IfOk, MatchOption, MatchResult, ◌++◌, ◌∷◌, [], ◌-◌};
 ghost use Rattle.gate_log.specs.Bytes.{magic, format_of, DiffersAt, IsPlacedLogAt};
 ghost use Rattle.gate_log.specs.Reading.{BeginsItem, BeginsNoItem, AreItems, BeginsPiece, BeginsNoPiece, BeginsGroup, IsNoGroup, IsNoLog};

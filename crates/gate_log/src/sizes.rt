@@ -1,3 +1,4 @@
+//! The size of a group of items, where they may be appended.
 ghost use Rattle.std.specs.Prelude.{◌≡◌, ◌≤◌, ◌^◌, length, IfSome, IfNone};
 ghost use Rattle.std.specs.List.{AllByRecursion};
 ghost use Rattle.gate_log.specs.Bytes.{IsItem, items_bytes};

@@ -1,3 +1,4 @@
+//! Logs as bytes: what opening finds in each row, and what it refuses.
 use crate::logs::{ITEM, WITH_ITEM, append, grown, has_items, is_refused, open_bytes, open_image};
 use gate_log::{Log, OpenNo};
 use snap_base::Memory;

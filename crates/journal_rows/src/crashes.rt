@@ -1,3 +1,4 @@
+//! What every crash inside an opening and two appends leaves, whichever device call fails.
 use crate::logs::{Answer, grown, has_items, open_image};
 use snap_base::Memory;
 use snap_outside::MemLog;
@@ -50,7 +51,7 @@ fn wrong_after(alloc: Global, dev: &MemLog) -> Result<Option<(usize, u8)>, Memor
     Ok(None)
 }
 
-/// The same where the device call with this number fails.
+/// After how many operations a crash does not leave whole groups, where the device call with this number fails.
 fn wrong_with(alloc: Global, failing: u64) -> Result<Option<(usize, u8)>, Memory> {
     let fails = vec![in alloc; failing]?;
     let (dev, _is_grown) = grown(alloc, fails, &GROUPS)?;

@@ -73,6 +73,7 @@ fn is_done(given: Result<(), Failed>, answer: Answer) -> bool {
     }
 }
 
+/// Whether all bytes are 0.
 pub fn are_zeros(bytes: &[u8]) -> bool {
     for byte in bytes {
         if *byte != 0 {

@@ -1,3 +1,4 @@
+//! Logs in memory that the rows open, append to and cut off.
 use gate_log::{AppendNo, Log, LogItem, OpenNo};
 use snap_base::{Memory, Sequence};
 use snap_outside::MemLog;

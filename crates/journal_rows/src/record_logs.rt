@@ -113,7 +113,7 @@ fn grown_by_two(alloc: Global, log: Log<MemLog>) -> (MemLog, Option<AppendNo>)
     (log.into_dev(), first.err().or(second.err()))
 }
 
-/// The same of a new log on a device of which some calls may fail.
+/// The device of a new log to which both were appended, some of its calls failing, and the first refusal of the two.
 fn grown(alloc: Global, fails: Vec<u64>) -> Result<(MemLog, Option<AppendNo>), Memory> {
     let dev = MemLog::new(alloc, Vec::new(alloc), fails)?;
     Ok(match Log::open(alloc, dev) {

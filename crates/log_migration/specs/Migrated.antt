@@ -19,7 +19,7 @@ pub record AreMigrated (before after : List Device) (count : ℕ) : Type 0 where
   pub begun : AreBegun (length logs) before after
   pub old : AreOld (take (length logs) before) count
 
--- They recover, and the upgrade of this log failed.
+-- The logs hold records that recover, and the upgrade of this log failed.
 pub record FailsMigration (before after : List Device) (log : ℕ) : Type 0 where
   pub logs : List (List Record)
   pub opening : Opening
@@ -27,7 +27,7 @@ pub record FailsMigration (before after : List Device) (log : ℕ) : Type 0 wher
   pub recovered : IsRecovered logs opening
   pub fails : FailsBeginning (length logs) before after log
 
--- There was no memory for what is to be told: they recover, and are only opened.
+-- There was no memory for what is to be told: the logs recover, and are only opened.
 pub record LacksWords (before after : List Device) : Type 0 where
   pub logs : List (List Record)
   pub opening : Opening
@@ -35,7 +35,7 @@ pub record LacksWords (before after : List Device) : Type 0 where
   pub recovered : IsRecovered logs opening
   pub opened : AreOpened (length logs) before after
 
--- Why they are not migrated. Nothing is upgraded but where an upgrade failed.
+-- Why logs are not migrated. Nothing is upgraded but where an upgrade failed.
 abbrev pub IsMigrateNo : List Device → List Device → LogsNo → Type 0
 IsMigrateNo before after (ending.Device log) = IsLogsNo before after (ending.Device log) ⊎ FailsMigration before after log
 IsMigrateNo before after ending.Memory = IsLogsNo before after ending.Memory ⊎ LacksWords before after

@@ -1,3 +1,4 @@
+//! Upgrading the logs of format 1 on four devices, once what they hold is recovered.
 ghost use Rattle.std.specs.Prelude.{◌≡◌, ◌+◌, ◌≤◌, ◌++◌, ℕ, List, [], length, map, take, IfErr, IfOk, MatchResult, string_bytes, vec_len, vec_capacity};
 ghost use Rattle.std.specs.List.{AllZip};
 ghost use Rattle.log_migration.specs.Migrated.{AreMigrated, IsMigrateNo, IsNotTold};
@@ -33,7 +34,7 @@ pub fn migrate<D: LogDev>(alloc: Global, devices: &mut Vec<D>) -> Result<String,
     answer
 }
 
-/// The same on logs that are opened here and stay open.
+/// Opens the logs, recovers what they hold and upgrades those of format 1. All that were opened stay open.
 fn recover_and_upgrade<D: LogDev>(
     alloc: Global,
     devices: &mut Vec<D>,

@@ -66,15 +66,15 @@ LacksMemory Asked before after =
 abbrev pub IsOld : List ℕ → Type 0
 IsOld bytes = (items : List (List ℕ)) × IsLogOf bytes 1 items × (items ≢ [])
 
--- the device holds such a log, if it tells what it holds
+-- the device holds a log of format 1 with an item, if it tells what it holds
 abbrev pub HoldsOld : Device → Type 0
 HoldsOld d = IfSome d.told (λ h. IsOld (content h))
 
--- it holds none, if it tells what it holds
+-- the device holds no log of format 1 with an item, if it tells what it holds
 abbrev pub HoldsNoOld : Device → Type 0
 HoldsNoOld d = IfSome d.told (λ h. ¬ IsOld (content h))
 
--- none of the first devices, so many, holds one
+-- none of the first devices, so many, holds a log of format 1 with an item
 abbrev pub HoldNoOld : ℕ → List Device → Type 0
 HoldNoOld count before = AllByRecursion HoldsNoOld (take count before)
 
@@ -82,15 +82,16 @@ HoldNoOld count before = AllByRecursion HoldsNoOld (take count before)
 abbrev pub Begun : Option History → Option History → ℕ → List LogItem → Type 0
 Begun old new end found = (opened : Option History) × Opened old opened end found × AddsAll opened new (upgrading_of old)
 
+-- A device was opened, and its log made one of format 2, where it was of format 1; at some end, with some items.
 abbrev pub IsBegun : Device → Device → Type 0
 IsBegun before after = (end : ℕ) × (found : List LogItem) × Begun before.told after.told end found
 
--- So many devices are opened so, from the first one on, and the others got no call.
+-- So many devices are opened, from the first one on, and their logs made ones of format 2. The others got no call.
 pub record AreBegun (count : ℕ) (before after : List Device) : Type 0 where
   pub begun : AllZip IsBegun (take count before) (take count after)
   pub others : drop count after ≡ drop count before
 
--- the same operations, but where there are items
+-- what makes a log of format 1 one of format 2, where it has no item; and nothing where it has some
 abbrev pub preparing_of : Option History → List LogItem → List DevOp
 preparing_of old [] = upgrading_of old
 preparing_of old (item ∷ found) = []
@@ -102,7 +103,7 @@ Prepared old new end found = (opened : Option History) × Opened old opened end 
 abbrev pub IsPrepared : Device → Device → Type 0
 IsPrepared before after = (end : ℕ) × (found : List LogItem) × Prepared before.told after.told end found
 
--- It was opened, its log was of format 1 and had no item, and the upgrade met a fault.
+-- A device was opened, its log was of format 1 and had no item, and the upgrade met a fault.
 abbrev pub IsUpgradeCutOff : Device → Device → Type 0
 IsUpgradeCutOff before after =
     (end : ℕ) × (opened : Option History) × Opened before.told opened end [] × IfSome before.told (λ h. format_in (content h) ≡ 1)

@@ -51,7 +51,7 @@ pub record IsClosed (before after : devices.Device) (no : OpenNo) : Type 0 where
   pub failed : no ≡ refusal.Device → Rose before.faults after.faults
   pub safe : IsKeptSafe before after
 
--- opened at most, with all that it held
+-- the device got no call but those of opening, and holds all that it held
 pub record IsTouched (before after : devices.Device) : Type 0 where
   pub opened : devices.IsOpenedAtMost before after
   pub safe : IsKeptSafe before after
@@ -62,7 +62,7 @@ pub record IsBegunOn (before after : devices.Device) (items : List LogItem) : Ty
   pub placed : ArePlaced items
   pub safe : IsKeptSafe before after
 
--- got no call but those of opening and of an upgrade, with all that it held
+-- the device got no call but those of opening and of an upgrade, and holds all that it held
 pub record IsHandled (before after : devices.Device) : Type 0 where
   pub prepared : devices.IsPreparedAtMost before after
   pub safe : IsKeptSafe before after
@@ -76,7 +76,7 @@ AreFound [] after (items ∷ found) = ⊥
 AreFound (b ∷ before) [] (items ∷ found) = ⊥
 AreFound (b ∷ before) (a ∷ after) (items ∷ found) = IsFoundOn b a items × AreFound before after found
 
--- the same, and their logs are of format 2 now
+-- These items were found on the first devices, a list on each, and their logs are of format 2 now. The others got no call.
 abbrev pub AreBegunOn : List devices.Device → List devices.Device → List (List LogItem) → Type 0
 AreBegunOn before after [] = after ≡ before
 AreBegunOn [] after (items ∷ found) = ⊥
@@ -89,7 +89,7 @@ pub record IsStoppedAt (log : ℕ) (before after : List devices.Device) (no : Op
       × AreFound before mid found × (log ≡ length found) × (log < length mid) × (after ≡ slice_set mid log new)
       × IsClosed (devices.device_at mid log) new no
 
--- the same refusal of a log's opening, in the words of this crate
+-- why this log was not opened, as `LogsNo` tells it
 abbrev pub no_of_opening : ℕ → OpenNo → LogsNo
 no_of_opening log (refusal.NotALog offset) = ending.Refused log offset cause.NotALog
 no_of_opening log (refusal.Damage offset) = ending.Refused log offset cause.Damage
@@ -134,7 +134,7 @@ IsRecoveryCause logs log (cause.Values k u v) = IsRefused logs (recover.Values k
 IsRecoveryCause logs log (cause.Spent number) = ⊥
 IsRecoveryCause logs log (cause.Differs what kept text) = ⊥
 
--- the same, in the words of this crate
+-- why the records of all logs recover to nothing, as `LogsNo` tells it
 abbrev pub IsNoRecovery : List (List Record) → LogsNo → Type 0
 IsNoRecovery logs (ending.Refused log offset c) = (offset ≡ 0) × IsRecoveryCause logs log c
 IsNoRecovery logs (ending.Device log) = ⊥

@@ -54,6 +54,7 @@ IsDecoded before after log =
     ⊎ ((first : List Record) × (others : List (List Record)) × (log ≡ length others + 1) × AllZip Holds (take log before) (first ∷ others)
     × (log < logs_said first) × devices.AreOpened (logs_said first) before after)
 
+-- What this log holds is refused, for this cause: it was not opened, or not decoded; or the records of all recover to nothing.
 abbrev pub AreRefused : List devices.Device → List devices.Device → ℕ → ℕ → LogCause → Type 0
 AreRefused before after log offset cause.NotALog =
     IsAsked before log × Refused (devices.device_at before log).told (devices.device_at after log).told (refusal.NotALog offset)

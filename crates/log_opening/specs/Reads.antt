@@ -34,7 +34,7 @@ pub record AreOpen (before after : List Device) (logs : List LogState) (found : 
   pub are_found : AreFound before after found
   pub ready : AllZip IsReadyLog logs found
 
--- so the logs are open, and what was found there recovers to the opening
+-- all logs are open, and what was found there recovers to the opening
 pub record IsOpenOn (before after : List Device) (logs : List LogState) (found : List (List LogItem)) (o : Opening) : Type 0 where
   pub records : List (List Record)
   pub read : AreRead before after records

@@ -26,7 +26,7 @@ pub record IsUpgraded (old new : LogState) : Type 0 where
   pub ready : new.shut ≡ false
   pub later : old.faults ≤ new.faults
 
--- its device failed
+-- the upgrade of the log met a failing device, and no item is lost
 pub record IsUpgradeFailed (old new : LogState) : Type 0 where
   pub adds : AddsUpToFault old.told new.told upgrade_ops
   pub safe : UpgradesSafely old.told new.told old.end
@@ -39,7 +39,7 @@ pub record IsUpgradeFailed (old new : LogState) : Type 0 where
 abbrev pub IsMadeReady : LogState → LogState → List LogItem → Type 0
 IsMadeReady old new items = ((new ≡ old) × ((old.format ≢ 1) ⊎ (items ≢ []))) ⊎ ((items ≡ []) × (old.format ≡ 1) × IsUpgraded old new)
 
--- it was to be upgraded, and its device failed
+-- the log was to be upgraded, and its device failed
 abbrev pub IsNotMadeReady : LogState → LogState → List LogItem → Type 0
 IsNotMadeReady old new items = (items ≡ []) × (old.format ≡ 1) × IsUpgradeFailed old new
 
@@ -55,7 +55,7 @@ pub record AreReadyBelow (n : ℕ) (old new : List LogState) (found : List (List
   pub below : (l : ℕ) → l < n → IsMadeReady (log_at old l) (log_at new l) (items_at found l)
   pub above : (l : ℕ) → n ≤ l → log_at new l ≡ log_at old l
 
--- all are, and each is of format 2
+-- all logs are made ready, and each is of format 2
 pub record AreReady (old new : List LogState) (found : List (List LogItem)) : Type 0 where
   pub all : AreReadyBelow (length old) old new found
   pub second : (l : ℕ) → l < length old → (log_at new l).format ≡ 2
@@ -68,14 +68,14 @@ pub record IsStopped (n : ℕ) (old new : List LogState) (found : List (List Log
   pub failed : IsNotMadeReady (log_at old n) (log_at new n) (items_at found n)
   pub above : (l : ℕ) → n < l → log_at new l ≡ log_at old l
 
--- All are made ready, but this one is of format 1, and is the least such.
+-- All logs are made ready, but this one is of format 1, and is the least such.
 pub record IsLeftOld (n : ℕ) (old new : List LogState) (found : List (List LogItem)) : Type 0 where
   pub asked : n < length old
   pub all : AreReadyBelow (length old) old new found
   pub old_format : (log_at new n).format ≡ 1
   pub least : (l : ℕ) → l < n → (log_at new l).format ≡ 2
 
--- why they are not ready
+-- why the logs are not ready for appends
 abbrev pub AreNotReady : List LogState → List LogState → List (List LogItem) → LogsNo → Type 0
 AreNotReady old new found (ending.Refused log offset cause.OldFormat) = (offset ≡ 0) × IsLeftOld log old new found
 AreNotReady old new found (ending.Refused log offset c) = ⊥
@@ -101,7 +101,7 @@ IsCutOff before after =
     (end : ℕ) × (found : List LogItem) × (opened : Option History) × Opened before.told opened end found × IfSome before.told (λ h. format_in (content h) ≡ 1)
     × AddsUpToFault opened after.told upgrade_ops
 
--- So many are opened. The upgrade of this log failed; those below it are of format 2, and those above it are only opened.
+-- So many devices are opened. The upgrade of this log failed; those below it are of format 2, and those above it are only opened.
 pub record FailsBeginning (count : ℕ) (before after : List Device) (log : ℕ) : Type 0 where
   pub asked : log < count
   pub there : log < length before
@@ -111,7 +111,7 @@ pub record FailsBeginning (count : ℕ) (before after : List Device) (log : ℕ)
   pub above : AllZip IsOpened (drop (log + 1) (take count before)) (drop (log + 1) (take count after))
   pub others : drop count after ≡ drop count before
 
--- why not all are of format 2, of so many
+-- why not all of so many logs are of format 2
 abbrev pub IsNotBegun : ℕ → List Device → List Device → LogsNo → Type 0
 IsNotBegun count before after (ending.Device log) = FailsBeginning count before after log
 IsNotBegun count before after (ending.Refused log offset c) = ⊥

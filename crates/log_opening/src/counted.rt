@@ -1,3 +1,4 @@
+//! Opening as many logs as the caller says, ready for appends, with their records.
 ghost use Rattle.std.specs.Prelude.{◌≡◌, ◌+◌, ◌-◌, ◌≤◌, [], length, drop, vec_len, vec_capacity, OnOk, MatchResult};
 ghost use Rattle.std.specs.List.{AllZip};
 ghost use Rattle.log_opening.specs.Devices.{devices_now};

@@ -1,3 +1,4 @@
+//! How many logs the records of log 0 say that there are.
 ghost use Rattle.std.specs.Prelude.{◌≡◌};
 ghost use Rattle.log_opening.specs.Kept.{logs_said};
 

@@ -1,3 +1,4 @@
+//! The records of opened logs, and what they recover to.
 ghost use Rattle.std.specs.Prelude.{◌≡◌, ◌≤◌, ℕ, List, [], ◌∷◌, ◌++◌, length, take, MatchResult};
 ghost use Rattle.std.specs.List.{AllByRecursion, AllZip};
 ghost use Rattle.txn_records.specs.declared.records.Record.{Record};
@@ -14,7 +15,7 @@ use snap_recover::{LogCause, Opening, recover};
 use std::alloc::Global;
 use txn_records::Record;
 
-/// The records that the items of this log are.
+/// The records that the items of this log are; `BadRecord` tells the first byte at which no record goes on.
 pub fn read_log(alloc: Global, items: &[LogItem], log: u8) -> Result<Sequence<Record>, LogsNo>
     requires { ArePlaced items.now }
     ensures { MatchResult result (λ rs. AreItemsOf items.now rs) (λ no. IsNoReading items.now log no) }
@@ -79,7 +80,7 @@ pub(crate) fn read_logs(
     Ok(logs)
 }
 
-/// What the records of the logs recover to.
+/// What the records of the logs recover to; or the log and the cause for which they recover to nothing.
 pub fn recover_records(alloc: Global, logs: &[Sequence<Record>]) -> Result<Opening, LogsNo>
     ensures { MatchResult result (λ o. IsRecovered logs.now o) (λ no. IsNoRecovery logs.now no) }
 {

@@ -1,3 +1,4 @@
+//! Opening devices one after the other, and handing them back.
 ghost use Rattle.std.specs.Prelude.{◌≡◌, ◌+◌, ◌-◌, ◌<◌, ◌≤◌, List, [], ◌∷◌, ◌++◌, length, take, drop, vec_len, vec_capacity, IfOk, OnOk, IfErr, MatchResult};
 ghost use Rattle.std.specs.List.{insert, AllZip};
 ghost use Rattle.gate_log.specs.declared.logs.LogItem.{LogItem};
@@ -125,7 +126,7 @@ fn open_device<D: LogDev>(alloc: Global, dev: D) -> Result<(Log<D>, Sequence<Log
     }
 }
 
-/// Puts the devices of open logs before these, for which there is room.
+/// Hands the devices of open logs back: they are put before these, in the order of the logs. There is room for them.
 pub fn close<D: LogDev>(logs: Vec<Log<D>>, devices: &mut Vec<D>)
     requires { vec_len logs + vec_len devices.old ≤ vec_capacity devices.old }
     ensures len { vec_len devices.new ≡ vec_len logs + vec_len devices.old }

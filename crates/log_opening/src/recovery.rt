@@ -1,3 +1,4 @@
+//! What the logs on four devices recover to, where log 0 says how many there are.
 ghost use Rattle.std.specs.Prelude.{◌≡◌, ◌+◌, ◌≤◌, ℕ, List, [], length, vec_len, vec_capacity, IfOk, IfErr, OnOk, MatchResult};
 ghost use Rattle.std.specs.List.{AllZip};
 ghost use Rattle.txn_records.specs.declared.limits.TheConstants.{MOST_LISTED};
@@ -43,7 +44,8 @@ pub fn recover_kept<D: LogDev>(alloc: Global, devices: &mut Vec<D>) -> Result<Op
     }
 }
 
-/// The same on logs that are opened here and stay open, also where nothing is recovered.
+/// What the logs on these devices recover to. Log 0 is opened and decoded whole; it says how many there are; the others
+/// are opened and then decoded. All that were opened stay open, also where nothing is recovered.
 pub fn open_and_recover<D: LogDev>(
     alloc: Global,
     devices: &mut Vec<D>,

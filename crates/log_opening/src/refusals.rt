@@ -1,3 +1,4 @@
+//! Why logs are not opened, or give no opening.
 ghost use Rattle.std.specs.Prelude.{◌≡◌, List};
 ghost use Rattle.txn_records.specs.declared.records.Record.{Record};
 ghost use Rattle.snap_recover.specs.Refusals.{IsRefused};
@@ -25,7 +26,7 @@ pub enum LogsNo {
     Memory,
 }
 
-/// The opening of this log is refused.
+/// Why logs are not opened, where the opening of this one is refused.
 pub fn of_opening(no: OpenNo, log: u8) -> LogsNo
     ensures { result ≡ no_of_opening log no }
 {
@@ -45,7 +46,7 @@ pub fn of_opening(no: OpenNo, log: u8) -> LogsNo
     }
 }
 
-/// The records of the logs recover to nothing.
+/// Why logs give no opening, where their records recover to nothing.
 pub(crate) fn of_recovery(no: RecoverNo) -> LogsNo
     ensures { (logs : List (List Record)) → IsRefused logs no → IsNoRecovery logs result }
 {

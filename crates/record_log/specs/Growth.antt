@@ -96,7 +96,8 @@ pub record LeavesGroups (end : ℕ) (rs : List Record) (groups : List (List Reco
   pub next : IsNext (end_behind_groups end whole) later begun
   pub holds : HoldsWhole (rs ++ all_records whole) later begun image
 
--- The same from the first operation of opening on: until the log may be appended to it leaves the earlier records.
+-- Once these operations are made, from the first one of opening on, a crash leaves this: the earlier records, until the log
+-- may be appended to, and from then on whole groups.
 abbrev pub Leaves : List ℕ → ℕ → List Record → List (List Record) → List DevOp → List ℕ → Type 0
 Leaves bytes end rs groups made image =
     (IsCutShort made (beginning_ops bytes) × HoldsRecords image rs)

@@ -1,3 +1,4 @@
+//! Appending records to a log, as one group.
 ghost use Rattle.std.specs.Prelude.{◌≡◌, ◌≢◌, ◌+◌, ◌≤◌, ◌⊎◌, [], length, true, false, IsOk, IsErr, OnOk, IsErrOf, IfOk, MatchResult};
 ghost use Rattle.std.specs.List.{AllByRecursion};
 ghost use Rattle.snap_outside.specs.Causes.{Rose};
@@ -15,7 +16,9 @@ use snap_outside::{LogDev, images_of_settled};
 use std::alloc::Global;
 use txn_records::{Record, encode};
 
-/// Appends the records as one group. Nothing is written for an empty list.
+/// Appends the records as one group, which is durable then. Nothing is written for an empty list. `Memory` and `Shut`
+/// leave the log and its device as they were; `Device` shuts the log, and a crash leaves the records with the group or
+/// without it.
 #[tactic(auto, using(crate::proofs::Appending::appends_at, crate::proofs::Appending::crashes_at))]
 pub fn append_records<D: LogDev>(
     alloc: Global,

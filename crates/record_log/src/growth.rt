@@ -1,3 +1,4 @@
+//! Laws of a log that grows by groups of records: how its history grows, and what a crash leaves.
 ghost use Rattle.record_log.specs.GrowthLaws.{OpeningGrows, GroupGrows, FaultGrows, EndGrows, GrowthGives, MomentKeeps, GrowthKeeps};
 
 use gate_log::{append_is_whole, beginning_is_safe, logs_are_lists, one_list, opening_is_safe};
@@ -14,8 +15,8 @@ pub fn history_grows()
     opening_is_safe();
 }
 
-/// A log whose history grew so holds the earlier records and those of the groups; and at each moment of it a crash
-/// leaves whole groups.
+/// A log whose history grew by an opening and whole appends holds the earlier records and those of the groups. A crash
+/// at any moment of a history that grew by appends leaves whole groups.
 pub fn groups_are_whole()
     ensures gives { GrowthGives }
     ensures moment { MomentKeeps }

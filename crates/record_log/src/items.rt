@@ -1,3 +1,4 @@
+//! The records that the items of a log are, or the first byte at which none goes on.
 ghost use Rattle.std.specs.Prelude.{ℕ, ◌≤◌, List, IfOk, IfErr, MatchResult};
 ghost use Rattle.gate_log.specs.Bytes.{IsPlacedLogAt};
 ghost use Rattle.record_log.specs.Reading.{IsNear, IsNoItem};
@@ -28,7 +29,7 @@ impl From<Memory> for ItemsNo {
     }
 }
 
-/// The records that the items of a log are, in order.
+/// The records that the items of a log are, in order; or the place of the first byte at which no record goes on.
 #[tactic(auto, using(crate::proofs::Reading::records_more, crate::proofs::Reading::stops_at))]
 pub fn records_of(alloc: Global, items: &[LogItem]) -> Result<Sequence<Record>, ItemsNo>
     // The items are ones that a log was found to have.

@@ -1,3 +1,4 @@
+//! Laws of every log of records: its one list, and what opening, refusing and upgrading keep.
 ghost use Rattle.record_log.specs.RecordLogLaws.{OneListOfRecords, RecordsAreNotForeign, RecordsAreNotDamaged, NoRecordIsBad, OpenedHeld, OpenedHolds, ItemsAreRecords, RecordLogHolds, OpeningKeepsRecords, RefusalKeepsRecords, UpgradeKeepsRecords, FewMayBeAppended, FewTakeLittle};
 
 use gate_log::{damage_is_no_log, logs_are_lists, one_difference, one_list};
@@ -32,7 +33,7 @@ pub fn opened_holds()
     logs_are_lists();
 }
 
-/// What items are read as is records, and what a log of records holds is they.
+/// Items are read as records that may be written. A device with a log of records holds just those records.
 pub fn records_are_held()
     ensures items { ItemsAreRecords }
     ensures log { RecordLogHolds }
@@ -47,14 +48,14 @@ pub fn opening_keeps()
     images_of_settled();
 }
 
-/// Nor does an opening that is refused.
+/// An opening that is refused loses no record, whatever a crash leaves.
 pub fn refused_keeps()
     ensures { RefusalKeepsRecords }
 {
     images_of_settled();
 }
 
-/// Nor does an upgrade of what was opened.
+/// An upgrade of a log that was opened loses no record, whatever a crash leaves.
 pub fn upgrade_keeps()
     ensures { UpgradeKeepsRecords }
 {

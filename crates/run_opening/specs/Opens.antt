@@ -43,7 +43,7 @@ abbrev pub with_first : List (List Record) → List Record → List (List Record
 with_first [] added = []
 with_first (rs ∷ logs) added = (rs ++ added) ∷ logs
 
--- as one group, where there is anything
+-- the records as one group, where there are any
 abbrev pub as_groups : List Record → List (List Record)
 as_groups [] = []
 as_groups (r ∷ rs) = (r ∷ rs) ∷ []

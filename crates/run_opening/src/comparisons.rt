@@ -1,3 +1,4 @@
+//! What of an opening is too large to begin with, and what of two texts' states differs first.
 ghost use Rattle.std.specs.Prelude.{◌≡◌, ◌≤◌, length, MatchOption};
 ghost use Rattle.txn_records.specs.declared.limits.TheConstants.{MOST_LISTED};
 ghost use Rattle.run_opening.specs.Begins.{IsUnspent, IsFirstSpent, IsDifference, IsFieldDifference};
@@ -5,7 +6,7 @@ ghost use Rattle.run_opening.specs.Begins.{IsUnspent, IsFirstSpent, IsDifference
 use snap_base::{ActorId, FIELDS, State};
 use snap_recover::{GREATEST_NUMBER, Opening, What};
 
-/// So many transactions, batches or commits may be numbered by a run, whatever the next number is that it begins with.
+/// How many transactions, batches or commits a run may number, whatever the next number is that it begins with.
 pub const ROOM_TO_BEGIN: u64 = 1 << 20;
 
 /// The greatest number with which a run begins.

@@ -1,3 +1,4 @@
+//! Laws of a run's beginning: it begins again alike, and other devices get no call.
 ghost use Rattle.std.specs.Prelude.{◌≡◌, ℕ, ◌≤◌, List, length, drop};
 ghost use Rattle.snap_base.specs.declared.transactions.State.{State};
 ghost use Rattle.txn_records.specs.declared.records.Record.{Record};

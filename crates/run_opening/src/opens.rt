@@ -1,3 +1,4 @@
+//! Opening the logs of a run on their devices, and writing Genesis where they hold no record.
 ghost use Rattle.std.specs.Prelude.{◌≡◌, ◌+◌, ◌-◌, ◌<◌, ◌≤◌, ℕ, List, [], length, drop, vec_len, vec_capacity, false, OnOk, OnErr, IfOk, IfErr, MatchResult};
 ghost use Rattle.std.specs.List.{AllByRecursion, AllZip};
 ghost use Rattle.txn_records.specs.declared.limits.TheConstants.{MOST_LISTED};
@@ -29,9 +30,9 @@ const FIRST: u8 = 0;
 
 /// Opens the logs of a run whose text says that there are so many, and gives the actors these states. All are opened,
 /// from log 0 on; those of format 1 that have no item are upgraded, and the first other one is refused; then all are decoded;
-/// then what they hold is recovered and compared with the text; then Genesis is written to log 0, where no log holds a record. The logs are ready for the run's records. Their devices are the first
-/// ones of these and leave them; `close` of `log_opening` puts them back. Where no run begins they are back already, and
-/// each device is in its place.
+/// then what they hold is recovered and compared with the text; then Genesis is written to log 0, where no log holds a
+/// record. The logs are ready for the run's records. Their devices are the first ones of these and leave them; `close` of
+/// `log_opening` puts them back. Where no run begins they are back already, and each device is in its place.
 pub fn open_run<D: LogDev>(
     alloc: Global,
     devices: &mut Vec<D>,
@@ -90,7 +91,7 @@ pub fn open_run<D: LogDev>(
     }
 }
 
-/// The same on logs that are opened here and stay open, also where no run begins.
+/// Opens the logs of a run and writes Genesis where they hold no record. The logs stay open, also where no run begins.
 fn begin_on<D: LogDev>(
     alloc: Global,
     devices: &mut Vec<D>,

@@ -1,3 +1,4 @@
+//! What a run begins with, from the records of its logs.
 ghost use Rattle.std.specs.Prelude.{◌≡◌, ◌≤◌, [], ◌∷◌, length, IsTrue, ◌↔◌, IfOk, MatchOption, MatchResult};
 ghost use Rattle.txn_records.specs.declared.limits.TheConstants.{MOST_LISTED};
 ghost use Rattle.snap_recover.specs.Opening.{IsRecovered};
@@ -20,7 +21,8 @@ pub struct Start {
     pub added: Sequence<Record>,
 }
 
-/// What a run of a text with these states begins with, on logs of these records.
+/// What a run of a text with these states begins with, on logs of these records; or the log and the cause for which it does
+/// not begin.
 pub fn start_from(
     alloc: Global,
     logs: &[Sequence<Record>],

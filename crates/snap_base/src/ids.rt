@@ -1,3 +1,4 @@
+//! The numbers by which transactions, batches and actors are named.
 use std::fmt;
 
 /// A transaction's identifier: the number that it draws when it is admitted, from 1 on.

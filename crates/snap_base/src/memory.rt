@@ -1,3 +1,4 @@
+//! The error of a call that found no memory.
 use std::alloc::{AllocError, AllocFailed};
 use std::error::Error;
 use std::fmt;

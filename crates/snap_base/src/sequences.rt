@@ -1,3 +1,4 @@
+//! A list that contracts see as its elements alone.
 ghost use Rattle.std.specs.Prelude.{◌≡◌, ℕ, ◌+◌, ◌<◌, List, [], ◌∷◌, ◌++◌, length, if◌then◌else◌, is_ok, slice_get, option_copied};
 
 use crate::Memory;
@@ -34,12 +35,14 @@ impl<T> Sequence<T> {
         Sequence { items }
     }
 
+    /// How many elements the list has.
     pub fn len(&self) -> usize
         ensures { result ≡ length self.now }
     {
         self.items.len()
     }
 
+    /// All elements, in order.
     pub fn as_slice(&self) -> &[T]
         ensures { result.now ≡ self.now }
     {

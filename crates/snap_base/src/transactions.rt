@@ -1,3 +1,4 @@
+//! Transactions as a work text asks for them, the states of actors, and what an actor is told of a batch.
 use crate::{ActorId, Bid, Sequence, Tid};
 
 /// How many fields an actor has.
@@ -10,9 +11,9 @@ pub struct State(pub [i64; FIELDS]);
 /// Whether a transaction declares its actors.
 #[derive(Clone, Copy, Debug, PartialEq, Eq, Hash)]
 pub enum Kind {
-    /// It declares the actors that it calls, and how often it calls each: batches run it.
+    /// A PACT declares the actors that it calls, and how often it calls each: batches run it.
     Pact,
-    /// It declares nothing: locks run it.
+    /// An ACT declares nothing: locks run it.
     Act,
 }
 

@@ -1,3 +1,4 @@
+//! Places in the serial order, and what became of a transaction, with their texts.
 use crate::{ActorId, Bid, Tid, TxNo};
 use std::fmt;
 
@@ -15,7 +16,7 @@ pub struct Place {
 /// What became of a transaction.
 #[derive(Clone, Copy, Debug, PartialEq, Eq, Hash)]
 pub enum Verdict {
-    /// It committed with a value.
+    /// The transaction committed with a value.
     Committed {
         place: Place,
         value: i64,

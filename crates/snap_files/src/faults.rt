@@ -1,3 +1,4 @@
+//! Errors of the system, counted and told as failures of the outside.
 ghost use Rattle.std.specs.Prelude.{◌≡◌, Ok, IfOk, IsErr, OnOk, OnErr};
 ghost use Rattle.snap_outside.specs.Causes.{HasCause, CountsLate};
 

@@ -1,3 +1,4 @@
+//! A file that is opened by the first call that needs it.
 use std::fs::OpenOptions;
 use std::io;
 use std::rt::Files;

@@ -1,3 +1,4 @@
+//! A file as a device that holds a log.
 ghost use Rattle.std.specs.Prelude.{◌≡◌, ◌+◌, ◌-◌, min, max, length, IfOk, OnOk};
 
 use crate::faults::counted;
@@ -21,6 +22,7 @@ pub struct FileLog<'a, R: Files> {
 impl<'a, R: Files> FileLog<'a, R> {
     ghost use Rattle.std.specs.Prelude.{◌≡◌, None};
 
+    /// The log in the file at this path. Nothing is opened or made before its first call, and no call is counted yet.
     pub fn new(rt: &'a R, path: String) -> Self
         ensures untold { result.length ≡ None }
         ensures faults { result.faults ≡ 0 }

@@ -1,3 +1,4 @@
+//! A file as a sink, and a write of at least one byte.
 ghost use Rattle.std.specs.Prelude.{◌<◌, ◌≤◌, length, IfOk};
 
 use crate::faults::Calls;
@@ -19,6 +20,7 @@ pub struct FileSink<'a, R: Files> {
 impl<'a, R: Files> FileSink<'a, R> {
     ghost use Rattle.std.specs.Prelude.{◌≡◌};
 
+    /// A sink into the file at this path. Nothing is made or emptied before its first call, and no call is counted yet.
     pub fn new(rt: &'a R, path: String) -> Self
         ensures calls { result.calls ≡ record { faults = 0; late = 0 } }
     {

@@ -1,3 +1,4 @@
+//! The standard input as a source, and the standard output as a sink.
 use crate::faults::Calls;
 use crate::sinks::write_some;
 use snap_outside::{Failed, Sink, Source};
@@ -14,6 +15,7 @@ pub struct StdinSource<R> {
 impl<R: BufRead> StdinSource<R> {
     ghost use Rattle.std.specs.Prelude.{◌≡◌};
 
+    /// The standard input as a source, of which no call is counted yet.
     pub fn new<I: Input<Reader = R>>(rt: &I) -> Self
         ensures calls { result.calls ≡ record { faults = 0; late = 0 } }
     {
@@ -55,6 +57,7 @@ pub struct StdoutSink<'a, P> {
 impl<'a, P: Print> StdoutSink<'a, P> {
     ghost use Rattle.std.specs.Prelude.{◌≡◌};
 
+    /// The standard output as a sink, of which no call is counted yet.
     pub fn new(rt: &'a P) -> Self
         ensures calls { result.calls ≡ record { faults = 0; late = 0 } }
     {

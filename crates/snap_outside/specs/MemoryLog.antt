@@ -8,7 +8,7 @@ use Rattle.snap_outside.specs.declared.memory.MemLog.{MemLog}
 abbrev pub history_of : MemLog → History
 history_of d = record { first = d.first; ops = d.ops.items }
 
--- its disk after so many of its operations
+-- the device's disk after so many of its operations
 abbrev pub disk_at : MemLog → ℕ → Disk
 disk_at d n = disk_after (take n d.ops.items) (settled d.first)
 

@@ -1,3 +1,4 @@
+//! The trait of a device that holds a log, and the operations that its history lists.
 ghost use Rattle.std.specs.Prelude.{◌≡◌, ℕ, ◌+◌, ◌-◌, ◌≤◌, min, max, length, take, drop, Option, Some, IsSome, IfSome, IfOk, OnOk, OnErr, MatchResult};
 ghost use Rattle.std.specs.Option.{ForSome};
 ghost use Rattle.snap_outside.specs.Causes.{HasCause};

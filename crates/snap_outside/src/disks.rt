@@ -1,3 +1,4 @@
+//! The disk that a list of operations leaves, played again over its first bytes.
 ghost use Rattle.std.specs.Prelude.{◌≡◌, ◌+◌, ◌≤◌, max, reverse, length, vec_len, IfOk, OnOk, OnErr};
 ghost use Rattle.snap_outside.specs.Disk.{Disk, settled, written, op_done, disk_after};
 ghost use Rattle.snap_outside.specs.Images.{filled, filled_image};

@@ -1,7 +1,9 @@
+//! The trait of a gate before slices, and the gate that is always open.
 use snap_base::ActorId;
 
 /// What is passed before a worker runs a slice on an actor. A test may wait here.
 pub trait Gate {
+    /// Passes the gate before a slice on this actor.
     fn enter(&self, actor: ActorId);
 }
 
@@ -10,6 +12,7 @@ pub trait Gate {
 pub struct FreeGate;
 
 impl FreeGate {
+    /// A gate through which every slice passes at once.
     pub fn new() -> Self {
         FreeGate
     }

@@ -1,3 +1,4 @@
+//! What a crash leaves of a device on which all is durable.
 ghost use Rattle.std.specs.Prelude.{◌≡◌, ℕ, List};
 ghost use Rattle.snap_outside.specs.Disk.{settled, IsImage};
 

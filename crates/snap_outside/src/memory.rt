@@ -1,3 +1,4 @@
+//! A device in memory, which tells its operations and what a crash after each of them may leave.
 ghost use Rattle.std.specs.Prelude.{◌≡◌, ◌+◌, ◌-◌, ◌≤◌, max, ◌++◌, [], ◌∷◌, length, vec_len, OnOk, OnErr};
 ghost use Rattle.snap_outside.specs.Disk.{content_of, written};
 ghost use Rattle.snap_outside.specs.declared.devices.DevOp.TheVariants as operation;

@@ -1,3 +1,4 @@
+//! The error of a call of the outside, and which calls of a fake in memory fail.
 ghost use Rattle.std.specs.Prelude.{◌≡◌, ℕ, ◌+◌, ◌-◌, ◌^◌, ◌≤◌, ◌↔◌, min, IsErr, OnOk, Contains};
 ghost use Rattle.snap_outside.specs.Causes.{Rose, HasCause, CountsLate};
 

@@ -1,3 +1,4 @@
+//! The trait of what takes output, a sink in memory, and one that keeps nothing.
 ghost use Rattle.std.specs.Prelude.{◌≡◌, ℕ, ◌<◌, ◌≤◌, List, length, Option, IfOk, OnOk};
 ghost use Rattle.std.specs.Io.KnownBytes.{WriteAppends};
 ghost use Rattle.snap_outside.specs.Causes.{HasCause, CountsLate};
@@ -116,6 +117,7 @@ impl Sink for MemSink {
 pub struct NullSink;
 
 impl NullSink {
+    /// A sink that takes all bytes, keeps none and never fails.
     pub fn new() -> Self {
         NullSink
     }

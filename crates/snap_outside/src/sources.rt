@@ -1,3 +1,4 @@
+//! The trait of what gives input, and a source in memory.
 ghost use Rattle.std.specs.Prelude.{◌≡◌, ℕ, ◌≤◌, min, List, length, take, Option, IfOk, OnOk};
 ghost use Rattle.std.specs.Io.KnownBytes.{ReadConsumes};
 ghost use Rattle.snap_outside.specs.Causes.{HasCause, CountsLate};

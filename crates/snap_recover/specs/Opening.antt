@@ -27,11 +27,11 @@ IsIn logs bid = Has (log_of logs bid.0) (keys.Commit bid)
 abbrev pub IsInfoOf : List (List Record) → Bid → List ActorId → List Tid → Type 0
 IsInfoOf logs bid actors tids = IsLastOf (λ r. key r ≡ keys.Info bid) (log_of logs bid.0) (BatchInfo bid actors tids)
 
--- its commit; of two the last counts
+-- the record is the batch's commit; of two the last counts
 abbrev pub IsCommitOf : List (List Record) → Bid → Record → Type 0
 IsCommitOf logs bid r = IsLastOf (λ x. key x ≡ keys.Commit bid) (log_of logs bid.0) r
 
--- where it tells values, it tells one for each of these transactions
+-- a commit that tells values tells one for each of these transactions
 abbrev pub FitsTids : Record → List Tid → Type 0
 FitsTids (Genesis count states) tids = Unit {0}
 FitsTids (BatchInfo bid actors tids') tids = Unit {0}

@@ -54,12 +54,12 @@ abbrev pub commit_key : Kind → ℕ → Key
 commit_key kinds.Batch n = keys.Commit (bid_at n)
 commit_key kinds.Act n = keys.Act (tid_at n)
 
--- the key of an actor's part of it
+-- the key of an actor's part of the batch, or the ACT
 abbrev pub part_key : Kind → ℕ × ℕ → Key
 part_key kinds.Batch x = keys.Complete (bid_at x.0) (actor_at x.1)
 part_key kinds.Act x = keys.Prepare (tid_at x.0) (actor_at x.1)
 
--- the key of what tells its actors
+-- the key of what tells the actors of the batch, or the ACT
 abbrev pub info_key : Kind → ℕ → Key
 info_key kinds.Batch n = keys.Info (bid_at n)
 info_key kinds.Act n = keys.Act (tid_at n)
@@ -80,13 +80,13 @@ AddsParts kind log logs rs old new = Adds (λ (x : ℕ × ℕ). x.1 % logs ≡ l
 abbrev pub IsLastPlace : Key → List Record → ℕ → Type 0
 IsLastPlace k rs place = (front behind : List Record) × (r : Record) × (rs ≡ front ++ r ∷ behind) × (place ≡ length front) × (key r ≡ k) × AllByRecursion (λ x. key x ≢ k) behind
 
--- it has the place of the last record with its key among these, and where there is none it is as it was
+-- what was kept of a key is now the place of the last of these records with the key, and where there is none it is as it was
 abbrev pub IsPlaced : Key → List Record → Option ℕ → Option ℕ → Type 0
 IsPlaced k rs old new =
     ((place : ℕ) × (new ≡ Some place) × IsLastPlace k rs place)
     ⊎ (AllByRecursion (λ r. key r ≢ k) rs × (new ≡ old))
 
--- it has the place of the record, where that has its key
+-- what was kept of a key is now the place of this record, where that has the key, and else it is as it was
 abbrev pub IsPlacedBy : Key → ℕ → Record → Option ℕ → Option ℕ → Type 0
 IsPlacedBy k at r old new = ((key r ≡ k) × (new ≡ Some at)) ⊎ ((key r ≢ k) × (new ≡ old))
 
@@ -146,12 +146,12 @@ abbrev pub MemberLacks : Kind → List (List Record) → ℕ → Key → ℕ →
 MemberLacks kinds.Batch logs n k log = LacksInfo logs (bid_at n) k log ⊎ LacksComplete logs (bid_at n) k log
 MemberLacks kinds.Act logs n k log = LacksPrepare logs (tid_at n) k log
 
--- its actors, as the last record with its key tells them
+-- the actors of the batch, or the ACT, as the last record with its key tells them
 abbrev pub TellsActors : Kind → ℕ → List Record → List ActorId → Type 0
 TellsActors kinds.Batch n rs actors = (tids : List Tid) × IsLastOf (λ r. key r ≡ keys.Info (bid_at n)) rs (BatchInfo (bid_at n) actors tids)
 TellsActors kinds.Act n rs actors = (m : Bid) × (c : ℕ) × (value : Option ℤ) × IsLastOf (λ r. key r ≡ keys.Act (tid_at n)) rs (act_record (tid_at n) m c value actors)
 
--- the answer tells what it lacks
+-- the answer tells what the batch, or the ACT, lacks
 abbrev pub IsLackOf : Kind → List (List Record) → ℕ → RecoverNo → Type 0
 IsLackOf kind logs n NoGenesis = ⊥
 IsLackOf kind logs n TwoGenesis = ⊥

@@ -46,7 +46,7 @@ IsFirstBatchLacking logs k log =
     (bid : Bid) × IsIn logs bid × ((b : Bid) → b.0 < bid.0 → IsIn logs b → IsWhole logs b)
     × (LacksInfo logs bid k log ⊎ LacksComplete logs bid k log)
 
--- the same of ACTs, by their tids
+-- the first key that is lacking of ACTs, by their tids, and the log in which it should be
 abbrev pub IsFirstActLacking : List (List Record) → Key → ℕ → Type 0
 IsFirstActLacking logs k log =
     (tid : Tid) × IsActIn logs tid × ((t : Tid) → t.0 < tid.0 → IsActIn logs t → IsActWhole logs t)
@@ -66,7 +66,7 @@ LacksValues logs bid k log count found =
     × (count ≡ length tids) × (found ≡ length values) × (count ≢ found)
     × (k ≡ keys.Commit bid) × (log ≡ bid.0 % length logs)
 
--- the first such batch, by the numbers
+-- the first batch whose commit tells values, and not one for each of its transactions, by the numbers
 abbrev pub IsFirstLackingValues : List (List Record) → Key → ℕ → ℕ → ℕ → Type 0
 IsFirstLackingValues logs k log count found =
     (bid : Bid) × IsIn logs bid × ((b : Bid) → b.0 < bid.0 → IsIn logs b → HasItsValues logs b)

@@ -1,3 +1,4 @@
+//! Why what a log holds is refused, as whoever opens the logs tells it.
 use snap_base::ActorId;
 use txn_records::Key;
 
@@ -14,7 +15,7 @@ pub enum LogCause {
     BadRecord,
     /// No log has a Genesis.
     NoGenesis,
-    /// The logs have more than one.
+    /// The logs have more than one Genesis.
     TwoGenesis,
     /// Genesis says that there are `kept` logs, and `found` are here.
     LogCount { kept: u64, found: u64 },

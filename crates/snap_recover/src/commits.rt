@@ -1,3 +1,4 @@
+//! Where the last commit of each batch stands.
 ghost use Rattle.std.specs.Prelude.{◌≡◌, ◌<◌, length, IfOk, OnOk};
 ghost use Rattle.snap_recover.specs.declared.kinds.Kind.TheVariants as kinds;
 ghost use Rattle.snap_recover.specs.Passes.{commit_key, AddsInfo, AddsInfos, HasInfos};

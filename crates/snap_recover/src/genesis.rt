@@ -1,3 +1,4 @@
+//! The Geneses of the logs: the first one, and how many there are.
 ghost use Rattle.std.specs.Prelude.{◌≡◌, ℕ, ◌+◌, ◌≤◌, min, List, [], ◌∷◌, length, filter, IsTrue, ◌↔◌, MatchOption};
 ghost use Rattle.txn_records.specs.declared.records.Record.{Record};
 ghost use Rattle.txn_records.specs.declared.records.Record.TheVariants.{Genesis};
@@ -6,7 +7,7 @@ ghost use Rattle.snap_recover.specs.Logs.{is_genesis, geneses};
 use snap_base::{Sequence, State};
 use txn_records::Record;
 
-/// The number of logs and the states of the first Genesis.
+/// The number of logs and the states of the first Genesis, log by log; `None` where no log has one.
 pub fn first_genesis(logs: &[Sequence<Record>]) -> Option<(u8, &Sequence<State>)>
     ensures { MatchOption result (geneses logs.now ≡ []) (λ g. (rest : List Record) × (geneses logs.now ≡ Genesis g.0 g.1.now ∷ rest)) }
 {

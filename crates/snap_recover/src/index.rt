@@ -1,3 +1,4 @@
+//! What is committed of one kind, its parts, and where its actors are told, by one pass over each log.
 ghost use Rattle.std.specs.Prelude.{◌≡◌, ◌≢◌, ℕ, ◌+◌, ◌%◌, ◌<◌, [], ◌∷◌, length, MatchOption, OnOk, IfOk};
 ghost use Rattle.txn_records.specs.Records.{key};
 ghost use Rattle.snap_recover.specs.declared.kinds.Kind.TheVariants as kinds;
@@ -13,7 +14,7 @@ use txn_records::Record;
 /// in the log to which its batch or transaction, or of a part its actor, writes, and nowhere else.
 #[derive(Drop)]
 pub(crate) struct Index {
-    /// Those that are in.
+    /// The numbers of those that are in.
     pub committed: BTreeSet<u64>,
     /// Which actors have done their parts of which of them: pairs of one of them and an actor.
     pub parts: BTreeSet<(u64, u16)>,

@@ -1,3 +1,4 @@
+//! What the record at a known place tells of its batch or transaction.
 ghost use Rattle.std.specs.Prelude.{◌≡◌, ℕ, ◌%◌, ◌<◌, length, MatchOption, IfOk};
 ghost use Rattle.snap_base.specs.declared.ids.ActorId.{ActorId};
 ghost use Rattle.txn_records.specs.declared.records.Record.{Record};

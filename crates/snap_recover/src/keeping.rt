@@ -1,3 +1,4 @@
+//! The list of what is committed, in the order of the places.
 ghost use Rattle.std.specs.Prelude.{◌≡◌, ◌≢◌, ℕ, ◌<◌, List, length, IfOk, OnOk};
 ghost use Rattle.snap_base.specs.declared.ids.ActorId.{ActorId};
 ghost use Rattle.txn_records.specs.declared.records.Record.{Record};

@@ -1,3 +1,5 @@
+//! The two kinds of what logs commit.
+
 /// The two kinds of what is committed.
 #[derive(Clone, Copy)]
 pub(crate) enum Kind {

@@ -1,3 +1,4 @@
+//! Laws of recovery: one opening, one refusal, and what Genesis alone recovers to.
 ghost use Rattle.std.specs.Prelude.{◌≡◌, ◌≢◌, ℕ, ◌+◌, ◌≤◌, List, [], ◌∷◌, ◌++◌, length};
 ghost use Rattle.std.specs.List.{AllByRecursion};
 ghost use Rattle.txn_records.specs.declared.limits.TheConstants.{MOST_LISTED};
@@ -16,12 +17,12 @@ pub fn one_opening()
     ensures { (logs : List (List Record)) (o p : Opening) → IsRecovered logs o → IsRecovered logs p → o ≡ p }
 {}
 
-/// They are refused with one answer at most, want of memory aside.
+/// Logs are refused with one answer at most, want of memory aside.
 pub fn one_refusal()
     ensures { (logs : List (List Record)) (x y : RecoverNo) → x ≢ Memory → y ≢ Memory → IsRefused logs x → IsRefused logs y → x ≡ y }
 {}
 
-/// No logs are refused that recover to an opening.
+/// Logs that are refused recover to no opening, want of memory aside.
 pub fn refused_is_not_recovered()
     ensures { (logs : List (List Record)) (no : RecoverNo) (o : Opening) → no ≢ Memory → IsRefused logs no → ¬ IsRecovered logs o }
 {}
@@ -32,13 +33,15 @@ pub fn recovered_states()
     ensures few { (logs : List (List Record)) (o : Opening) → AllByRecursion (AllByRecursion IsRecord) logs → IsRecovered logs o → length o.states ≤ MOST_LISTED }
 {}
 
-/// Genesis alone recovers to what the first run begins with.
+/// One log that holds Genesis alone recovers to what the first run begins with: the states of Genesis, nothing committed,
+/// and all numbers from 1 on.
 pub fn begun_is_recovered()
     ensures { (states : List State) → IsRecovered ((Genesis 1 states ∷ []) ∷ [])
         (record { states = states; committed = []; next_tid = record { 0 = 1 }; next_bid = record { 0 = 1 }; next_c = 1 }) }
 {}
 
-/// So does Genesis in log 0 of several logs, where the others have no record.
+/// Logs of which log 0 holds Genesis alone, and the others no record, recover to what the first run begins with: the states
+/// of Genesis, nothing committed, and all numbers from 1 on.
 pub fn begun_logs_are_recovered()
     ensures { (count : ℕ) (others : List (List Record)) (states : List State) → count ≡ length others + 1 → AllByRecursion (λ (rs : List Record). rs ≡ []) others
         → IsRecovered ((Genesis count states ∷ []) ∷ others) (record { states = states; committed = []; next_tid = record { 0 = 1 }; next_bid = record { 0 = 1 }; next_c = 1 }) }

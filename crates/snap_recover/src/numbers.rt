@@ -1,3 +1,4 @@
+//! The next numbers of batches, transactions and commits: one above all that occur.
 ghost use Rattle.std.specs.Prelude.{◌≡◌, ◌+◌, ◌≤◌, max, length};
 ghost use Rattle.std.specs.List.{AllByRecursion, flat_map};
 ghost use Rattle.txn_records.specs.Records.{tid_numbers};

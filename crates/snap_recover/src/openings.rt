@@ -1,3 +1,4 @@
+//! What a run begins with, and what is kept of the earlier ones.
 ghost use Rattle.std.specs.Prelude.{◌≡◌, [], IfOk};
 
 use snap_base::{Bid, Memory, Sequence, State, Tid};

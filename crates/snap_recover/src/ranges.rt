@@ -1,3 +1,4 @@
+//! Whether the actors and the numbers of records are in range.
 ghost use Rattle.std.specs.Prelude.{◌≡◌, ℕ, ◌+◌, ◌<◌, ◌≤◌, List, ◌∷◌, ◌++◌, length, IsTrue, ◌↔◌, MatchOption, MatchResult};
 ghost use Rattle.std.specs.List.{AllByRecursion};
 ghost use Rattle.txn_records.specs.declared.keys.Key.{Key};

@@ -1,3 +1,4 @@
+//! Recovery: its checks, in the order in which a refusal is told, and the opening.
 ghost use Rattle.std.specs.Prelude.{◌<◌, length, IfOk, IfErr, MatchResult};
 ghost use Rattle.snap_recover.specs.Opening.{IsBegun, IsRecovered};
 ghost use Rattle.snap_recover.specs.Refusals.{IsRefused};
@@ -18,7 +19,8 @@ use snap_base::{Sequence, State};
 use std::alloc::Global;
 use txn_records::Record;
 
-/// What the records of the logs, one list for each log, recover to.
+/// What the records of the logs, one list for each log, recover to. Of the causes for which they are refused the first in
+/// the order of `RecoverNo` is told.
 pub fn recover(alloc: Global, logs: &[Sequence<Record>]) -> Result<Opening, RecoverNo>
     ensures recovered { IfOk result (λ o. IsRecovered logs.now o) }
     ensures refused { IfErr result (λ no. IsRefused logs.now no) }

@@ -1,3 +1,4 @@
+//! Why records recover to no opening.
 use snap_base::Memory;
 use std::alloc::AllocError;
 use txn_records::Key;
@@ -7,7 +8,7 @@ use txn_records::Key;
 pub enum RecoverNo {
     /// No log has a Genesis.
     NoGenesis,
-    /// The logs have more than one.
+    /// The logs have more than one Genesis.
     TwoGenesis,
     /// Genesis says that there are `kept` logs, and `found` are here.
     LogCount {

@@ -1,3 +1,4 @@
+//! The actors' states after the records that count.
 ghost use Rattle.std.specs.Prelude.{◌≡◌, ℕ, ◌%◌, ◌<◌, [], ◌∷◌, length, MatchOption, IfOk};
 ghost use Rattle.std.specs.List.{AllByRecursion};
 ghost use Rattle.snap_recover.specs.declared.kinds.Kind.TheVariants as kinds;

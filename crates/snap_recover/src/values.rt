@@ -1,3 +1,4 @@
+//! Whether each committed batch has one value for each of its transactions, where it tells values.
 ghost use Rattle.std.specs.Prelude.{◌≡◌, ℕ, ◌%◌, ◌<◌, length, MatchResult};
 ghost use Rattle.txn_records.specs.declared.records.Record.{Record};
 ghost use Rattle.snap_recover.specs.declared.kinds.Kind.TheVariants as kinds;
@@ -35,7 +36,7 @@ pub(crate) fn check_values(
     Ok(())
 }
 
-/// The same of one batch that is in.
+/// That a batch that is in has one value for each of its transactions, or none is told.
 fn check_batch(
     logs: &[Sequence<Record>],
     number: u64,

@@ -1,3 +1,4 @@
+//! Whether what is committed has all its records.
 ghost use Rattle.std.specs.Prelude.{◌≡◌, ℕ, ◌%◌, ◌<◌, List, ◌∷◌, ◌++◌, length, MatchOption, MatchResult, IfOk};
 ghost use Rattle.std.specs.List.{AllByRecursion};
 ghost use Rattle.std.specs.List.Sorted.{IsStrictlySortedBy};

@@ -1,3 +1,4 @@
+//! The lines of replies, of actors, of a run's end, and of what logs recover to.
 ghost use Rattle.std.specs.Prelude.{◌≡◌, ◌<◌, ◌≤◌, IfOk, string_bytes, length, take, count_by};
 ghost use Rattle.snap_report.specs.Lines.{reply_text, actor_text, end_text, recovered_text, kept_text, migrated_text, shown_fields, is_batch, is_act};
 
@@ -6,14 +7,14 @@ use snap_recover::{Kept, Opening};
 use std::alloc::Global;
 use std::fmt::Write;
 
-/// The reply to a transaction.
+/// The line of a reply to a transaction.
 pub fn reply_line(alloc: Global, tx: TxNo, verdict: &Verdict) -> Result<String, Memory>
     ensures { IfOk result (λ s. string_bytes s ≡ reply_text tx.0 verdict.now) }
 {
     Ok(format!(in alloc; "tx {tx} {verdict}\n")?)
 }
 
-/// An actor's fields up to the last that is not 0, and at least one.
+/// The line of an actor: its fields up to the last that is not 0, and at least one.
 pub fn actor_line(alloc: Global, actor: ActorId, state: &State) -> Result<String, Memory>
     ensures { IfOk result (λ s. string_bytes s ≡ actor_text actor.0 state.now) }
 {
@@ -42,7 +43,7 @@ fn shown(fields: &[i64]) -> usize
     count
 }
 
-/// The end of a run: how many transactions committed, how many had another reply, and how many batches
+/// The line of a run's end: how many transactions committed, how many had another reply, and how many batches
 /// were settled.
 pub fn end_line(alloc: Global, committed: u32, aborted: u32, batches: u32) -> Result<String, Memory>
     ensures { IfOk result (λ s. string_bytes s ≡ end_text committed aborted batches) }
@@ -50,7 +51,7 @@ pub fn end_line(alloc: Global, committed: u32, aborted: u32, batches: u32) -> Re
     Ok(format!(in alloc; "end committed {committed} aborted {aborted} batches {batches}\n")?)
 }
 
-/// What the logs recover to, behind the lines of the actors: how many batches and how many transactions
+/// The line of what logs recover to, behind the lines of the actors: how many batches and how many transactions
 /// outside of batches are committed, and the next transaction's, batch's and commit's number.
 pub fn recovered_line(alloc: Global, opening: &Opening) -> Result<String, Memory>
     ensures { IfOk result (λ s. string_bytes s ≡ recovered_text opening.now) }
@@ -61,7 +62,7 @@ pub fn recovered_line(alloc: Global, opening: &Opening) -> Result<String, Memory
     Ok(format!(in alloc; "recovered batches {batches} acts {acts} next {tid} {bid} {c}\n")?)
 }
 
-/// A transaction that is kept, by its place: the value that it was committed with, where that is known.
+/// The line of a transaction that is kept: its place, and the value that it was committed with, where that is known.
 pub fn kept_line(alloc: Global, place: Place, value: Option<i64>) -> Result<String, Memory>
     ensures { IfOk result (λ s. string_bytes s ≡ kept_text place value) }
 {
@@ -71,7 +72,7 @@ pub fn kept_line(alloc: Global, place: Place, value: Option<i64>) -> Result<Stri
     }
 }
 
-/// How many logs were made ones of format 2.
+/// The line of a migration: how many logs were made ones of format 2.
 pub fn migrated_line(alloc: Global, logs: u8) -> Result<String, Memory>
     ensures { IfOk result (λ s. string_bytes s ≡ migrated_text logs) }
 {

@@ -1,3 +1,4 @@
+//! How a call ended, and the line that the program writes of it.
 ghost use Rattle.std.specs.Prelude.{◌≡◌, IfOk, string_bytes};
 ghost use Rattle.snap_report.specs.Lines.{text_cause_text, check_cause_text, program_cause_text, cause_text, log_cause_text, status_text};
 
@@ -138,7 +139,7 @@ fn check_cause_name(cause: CheckCause) -> &'static str
     }
 }
 
-/// The cause's name, as it is written in the code.
+/// The name of a log's cause, as it is written in the code.
 fn log_cause_name(cause: LogCause) -> &'static str
     ensures { result.now ≡ log_cause_text cause }
 {

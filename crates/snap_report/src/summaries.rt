@@ -1,3 +1,4 @@
+//! A run's summary, as a line of JSON.
 ghost use Rattle.std.specs.Int.{w128};
 ghost use Rattle.std.specs.Prelude.{◌≡◌, FitsSigned, IfOk, OnOk, string_bytes};
 ghost use Rattle.serde_json.specs.Data.{number, unsigned, put as with_member};

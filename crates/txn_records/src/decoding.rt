@@ -1,3 +1,4 @@
+//! Bytes to a record, or to the first byte at which none goes on.
 ghost use Rattle.std.specs.Prelude.{◌≡◌, IfOk, IfErr, MatchResult};
 ghost use Rattle.txn_records.specs.Records.{record_bytes, IsRecord};
 ghost use Rattle.txn_records.specs.Faults.{IsNoRecord};

@@ -1,3 +1,4 @@
+//! A record to its bytes, kind by kind.
 ghost use Rattle.std.specs.Prelude.{◌≡◌, ◌<◌, ◌≤◌, ◌^◌, ◌++◌, length, map, IfOk, OnOk};
 ghost use Rattle.std.specs.Int.{to_be_bytes, w16, w64};
 ghost use Rattle.std.specs.List.{flat_map};

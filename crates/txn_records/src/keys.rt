@@ -1,3 +1,4 @@
+//! What a record is about.
 ghost use Rattle.std.specs.Prelude.{◌≡◌};
 ghost use Rattle.txn_records.specs.Records.{key};
 

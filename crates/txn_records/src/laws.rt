@@ -1,3 +1,4 @@
+//! Laws of every record: one spelling, few bytes, and room for every state and value.
 ghost use Rattle.std.specs.Prelude.{FitsSigned};
 ghost use Rattle.std.specs.List.{AllByRecursion};
 ghost use Rattle.std.specs.Int.{w64};
@@ -25,7 +26,7 @@ pub fn states_fit(state: &State)
     }
 }
 
-/// So may every list of values.
+/// Every list of values may stand in a record. What bounds the values is their type, so the body reads them.
 pub fn values_fit(values: &[i64])
     ensures { AllByRecursion (FitsSigned w64) values.now }
 {

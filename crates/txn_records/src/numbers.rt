@@ -1,3 +1,4 @@
+//! Reading a number of one, two or eight bytes between two bounds.
 ghost use Rattle.std.specs.Prelude.{◌≡◌, ℕ, suc, ◌+◌, ◌*◌, ◌<◌, ◌≤◌, ◌^◌, ◌++◌, length, take, MatchResult};
 ghost use Rattle.std.specs.Int.{to_be_bytes, from_be_bytes, w16, w64};
 ghost use Rattle.txn_records.specs.Stops.{Fails, Any, Seq};

@@ -1,3 +1,4 @@
+//! Reading a record, kind by kind and field by field.
 ghost use Rattle.std.specs.Prelude.{◌≡◌, ℕ, ◌+◌, ◌<◌, ◌≤◌, ◌^◌, List, [], ◌∷◌, ◌++◌, length, take, FitsSigned, MatchResult};
 ghost use Rattle.std.specs.Int.{to_be_bytes, w16, w64};
 ghost use Rattle.txn_records.specs.Stops.{Fails, Any, Nil, Seq};

@@ -1,3 +1,4 @@
+//! The kinds of records and their fields.
 use snap_base::{ActorId, Bid, Sequence, State, Tid};
 
 /// What is written down of transactions.
