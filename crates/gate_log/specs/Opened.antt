@@ -1,5 +1,5 @@
 -- What opening finds on a device, and what it does to it.
-use Rattle.std.specs.Prelude.{◌≡◌, ℕ, ◌<◌, ◌≤◌, nat_le, if◌then◌else◌, ◌⊎◌, List, [], ◌∷◌, ◌++◌, length, map, Option, None, Some, IfSome}
+use Rattle.std.specs.Prelude.{◌≡◌, ℕ, ◌<◌, ◌≤◌, nat_le, if◌then◌else◌, ◌⊎◌, List, [], ◌∷◌, ◌++◌, length, map, Option, None, Some, IfSome, ⊤}
 use Rattle.snap_outside.specs.declared.devices.DevOp.{DevOp}
 use Rattle.snap_outside.specs.declared.devices.DevOp.TheVariants.{Write, Sync}
 use Rattle.snap_outside.specs.Disk.{History, disk, content, with_op, EachMoment, AddsAll}
@@ -66,4 +66,4 @@ abbrev pub IsNoRead : ℕ → ℕ → OpenNo → Type 0
 IsNoRead before now (NotALog offset) = ⊥
 IsNoRead before now (Damage offset) = ⊥
 IsNoRead before now Device = Rose before now
-IsNoRead before now Memory = Unit {0}
+IsNoRead before now Memory = ⊤

@@ -1,6 +1,6 @@
 -- Only private contracts cite this; the rule is Bytes.antt.
 -- What each step of reading a log's bytes finds.
-use Rattle.std.specs.Prelude.{◌≡◌, ◌≢◌, ℕ, ◌+◌, ◌<◌, ◌^◌, Bool, true, false, List, ◌∷◌, ◌++◌, length}
+use Rattle.std.specs.Prelude.{◌≡◌, ◌≢◌, ℕ, ◌+◌, ◌<◌, ◌^◌, Bool, true, false, List, ◌∷◌, ◌++◌, length, ⊤}
 use Rattle.std.specs.List.{AllByRecursion}
 use Rattle.std.specs.Int.{Width, to_be_bytes, w32}
 use Rattle.gate_log.specs.declared.logs.LogItem.{LogItem}
@@ -61,7 +61,7 @@ abbrev pub IsNoGroup : ℕ → List ℕ → OpenNo → Type 0
 IsNoGroup place bytes (NotALog offset) = ⊥
 IsNoGroup place bytes (Damage offset) = (offset ≡ place) × BeginsNoGroup bytes
 IsNoGroup place bytes Device = ⊥
-IsNoGroup place bytes Memory = Unit {0}
+IsNoGroup place bytes Memory = ⊤
 
 -- ---- the whole
 
@@ -79,4 +79,4 @@ abbrev pub IsNoLog : List ℕ → OpenNo → Type 0
 IsNoLog bytes (NotALog offset) = DiffersAt bytes offset
 IsNoLog bytes (Damage offset) = IsDamagedAt bytes offset
 IsNoLog bytes Device = ⊥
-IsNoLog bytes Memory = Unit {0}
+IsNoLog bytes Memory = ⊤

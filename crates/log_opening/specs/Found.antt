@@ -1,5 +1,5 @@
 -- What opening devices one after the other finds, and what decoding finds then.
-use Rattle.std.specs.Prelude.{◌≡◌, false, IfSome, ℕ, ◌<◌, ◌≤◌, ◌⊎◌, List, [], ◌∷◌, ◌++◌, length, take, slice_index_or, slice_set}
+use Rattle.std.specs.Prelude.{◌≡◌, false, IfSome, ℕ, ◌<◌, ◌≤◌, ◌⊎◌, List, [], ◌∷◌, ◌++◌, length, take, slice_index_or, slice_set, ⊤}
 use Rattle.std.specs.List.{AllZip}
 use Rattle.snap_outside.specs.Causes.{Rose}
 use Rattle.gate_log.specs.declared.limits.TheConstants.{FARTHEST_END}
@@ -108,7 +108,7 @@ abbrev pub IsNoReading : List LogItem → ℕ → LogsNo → Type 0
 IsNoReading items log (ending.Refused l offset cause.BadRecord) = (l ≡ log) × IsFirstBadIn items offset
 IsNoReading items log (ending.Refused l offset c) = ⊥
 IsNoReading items log (ending.Device l) = ⊥
-IsNoReading items log ending.Memory = Unit {0}
+IsNoReading items log ending.Memory = ⊤
 
 -- why the items of the logs behind the first ones, which have these records, are no records
 abbrev pub IsNoDecoding : List (List LogItem) → List (List Record) → LogsNo → Type 0
@@ -117,7 +117,7 @@ IsNoDecoding found known (ending.Refused log offset cause.BadRecord) =
     × IsFirstBadIn (slice_index_or found log []) offset
 IsNoDecoding found known (ending.Refused log offset c) = ⊥
 IsNoDecoding found known (ending.Device log) = ⊥
-IsNoDecoding found known ending.Memory = Unit {0}
+IsNoDecoding found known ending.Memory = ⊤
 
 -- why the records of all logs recover to nothing, and the log that is named
 abbrev pub IsRecoveryCause : List (List Record) → ℕ → LogCause → Type 0
@@ -138,4 +138,4 @@ IsRecoveryCause logs log (cause.Differs what kept text) = ⊥
 abbrev pub IsNoRecovery : List (List Record) → LogsNo → Type 0
 IsNoRecovery logs (ending.Refused log offset c) = (offset ≡ 0) × IsRecoveryCause logs log c
 IsNoRecovery logs (ending.Device log) = ⊥
-IsNoRecovery logs ending.Memory = Unit {0}
+IsNoRecovery logs ending.Memory = ⊤

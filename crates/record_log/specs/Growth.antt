@@ -1,5 +1,5 @@
 -- How the history of a device grows while groups of records are appended to its log, and what a crash leaves of it.
-use Rattle.std.specs.Prelude.{◌≡◌, ◌≢◌, ℕ, ◌⊎◌, List, [], ◌∷◌, ◌++◌, Option, None, Some}
+use Rattle.std.specs.Prelude.{◌≡◌, ◌≢◌, ℕ, ◌⊎◌, List, [], ◌∷◌, ◌++◌, Option, None, Some, ⊤}
 use Rattle.std.specs.List.{AllByRecursion, flat_map}
 use Rattle.snap_outside.specs.declared.devices.DevOp.{DevOp}
 use Rattle.snap_outside.specs.Disk.{History, content, AddsAll, IsCutShort}
@@ -30,7 +30,7 @@ pub record MayAppendGroup (end : ℕ) (group : List Record) : Type 0 where
 
 -- each group may be appended behind those before it
 abbrev pub MayAppendGroups : ℕ → List (List Record) → Type 0
-MayAppendGroups end [] = Unit {0}
+MayAppendGroups end [] = ⊤
 MayAppendGroups end (group ∷ groups) = MayAppendGroup end group × MayAppendGroups (end_behind end (spelled group)) groups
 
 -- ---- how a history grew

@@ -1,5 +1,5 @@
 -- What reading one item finds.
-use Rattle.std.specs.Prelude.{◌≡◌, ℕ, ◌+◌, ◌≤◌, length}
+use Rattle.std.specs.Prelude.{◌≡◌, ℕ, ◌+◌, ◌≤◌, length, ⊤}
 use Rattle.gate_log.specs.declared.limits.TheConstants.{LONGEST_ITEM, FARTHEST_END}
 use Rattle.gate_log.specs.declared.logs.LogItem.{LogItem}
 use Rattle.txn_records.specs.Faults.{IsFirstBad}
@@ -14,4 +14,4 @@ pub record IsNear (item : LogItem) : Type 0 where
 -- why the item is no record
 abbrev pub IsNoItem : LogItem → ItemsNo → Type 0
 IsNoItem item (BadRecord offset) = (bad : ℕ) × IsFirstBad item.bytes bad × (offset ≡ item.at + bad)
-IsNoItem item Memory = Unit {0}
+IsNoItem item Memory = ⊤

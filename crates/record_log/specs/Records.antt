@@ -1,5 +1,5 @@
 -- A log whose items are records: as bytes, on a device, and after a crash.
-use Rattle.std.specs.Prelude.{◌≡◌, ℕ, ◌+◌, ◌⊎◌, List, [], ◌∷◌, ◌++◌, map, Option, IfSome}
+use Rattle.std.specs.Prelude.{◌≡◌, ℕ, ◌+◌, ◌⊎◌, List, [], ◌∷◌, ◌++◌, map, Option, IfSome, ⊤}
 use Rattle.std.specs.List.{AllByRecursion}
 use Rattle.snap_outside.specs.declared.devices.DevOp.{DevOp}
 use Rattle.snap_outside.specs.Disk.{History, disk, content, settled, EachMoment, AddsAll}
@@ -45,7 +45,7 @@ IsFirstBadIn items offset =
 
 abbrev pub AreNoRecords : List LogItem → ItemsNo → Type 0
 AreNoRecords items (BadRecord offset) = IsFirstBadIn items offset
-AreNoRecords items Memory = Unit {0}
+AreNoRecords items Memory = ⊤
 
 -- ---- crashes
 

@@ -1,5 +1,5 @@
 -- What is written before a run, and why there is none.
-use Rattle.std.specs.Prelude.{◌≡◌, ◌⊎◌, ℕ, List, [], ◌∷◌, length}
+use Rattle.std.specs.Prelude.{◌≡◌, ◌⊎◌, ℕ, List, [], ◌∷◌, length, ⊤}
 use Rattle.snap_base.specs.declared.transactions.State.{State}
 use Rattle.txn_records.specs.declared.records.Record.{Record}
 use Rattle.txn_records.specs.declared.records.Record.TheVariants.{Genesis}
@@ -21,4 +21,4 @@ IsStart logs states o added =
 abbrev pub IsNoStart : List (List Record) → List State → LogsNo → Type 0
 IsNoStart logs states (ending.Refused log offset c) = (offset ≡ 0) × (¬ AreEmpty logs) × IsCause logs states log c
 IsNoStart logs states (ending.Device log) = ⊥
-IsNoStart logs states ending.Memory = Unit {0}
+IsNoStart logs states ending.Memory = ⊤

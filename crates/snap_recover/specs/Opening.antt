@@ -1,6 +1,6 @@
 -- What logs recover to: which batches and undeclared transactions are in, the state of each actor, and the next
 -- numbers. An undeclared transaction is called an ACT.
-use Rattle.std.specs.Prelude.{◌≡◌, ℕ, ℤ, ◌+◌, ◌<◌, ◌≤◌, ◌⊎◌, max, Option, Some, None, List, [], ◌∷◌, ◌++◌, length, map, Contains}
+use Rattle.std.specs.Prelude.{◌≡◌, ℕ, ℤ, ◌+◌, ◌<◌, ◌≤◌, ◌⊎◌, max, Option, Some, None, List, [], ◌∷◌, ◌++◌, length, map, Contains, ⊤}
 use Rattle.std.specs.List.{AllByRecursion, AllZip, AllPairs, flat_map, enumerate_from}
 use Rattle.snap_base.specs.declared.ids.ActorId.{ActorId}
 use Rattle.snap_base.specs.declared.ids.Bid.{Bid}
@@ -33,14 +33,14 @@ IsCommitOf logs bid r = IsLastOf (λ x. key x ≡ keys.Commit bid) (log_of logs 
 
 -- a commit that tells values tells one for each of these transactions
 abbrev pub FitsTids : Record → List Tid → Type 0
-FitsTids (Genesis count states) tids = Unit {0}
-FitsTids (BatchInfo bid actors tids') tids = Unit {0}
-FitsTids (BatchComplete bid actor state) tids = Unit {0}
-FitsTids (BatchCommit bid) tids = Unit {0}
-FitsTids (ActPrepare tid actor state) tids = Unit {0}
-FitsTids (ActCommit tid m c actors) tids = Unit {0}
+FitsTids (Genesis count states) tids = ⊤
+FitsTids (BatchInfo bid actors tids') tids = ⊤
+FitsTids (BatchComplete bid actor state) tids = ⊤
+FitsTids (BatchCommit bid) tids = ⊤
+FitsTids (ActPrepare tid actor state) tids = ⊤
+FitsTids (ActCommit tid m c actors) tids = ⊤
 FitsTids (BatchDone bid values) tids = length values ≡ length tids
-FitsTids (ActDone tid m c value actors) tids = Unit {0}
+FitsTids (ActDone tid m c value actors) tids = ⊤
 
 -- a batch has as many values as transactions, or its commit tells none
 pub record HasItsValues (logs : List (List Record)) (bid : Bid) : Type 0 where

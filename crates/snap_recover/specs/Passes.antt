@@ -1,6 +1,6 @@
 -- Only private contracts cite this; the rule is specs/Opening.antt.
 -- What a pass over one log gives. The log is number `log` of `logs`.
-use Rattle.std.specs.Prelude.{◌≡◌, ◌≢◌, ℕ, ℤ, ◌%◌, ◌<◌, ◌⊎◌, Option, Some, None, List, [], ◌∷◌, ◌++◌, length, slice_index_or, Contains, IsTrue, ◌↔◌}
+use Rattle.std.specs.Prelude.{◌≡◌, ◌≢◌, ℕ, ℤ, ◌%◌, ◌<◌, ◌⊎◌, Option, Some, None, List, [], ◌∷◌, ◌++◌, length, slice_index_or, Contains, IsTrue, ◌↔◌, ⊤}
 use Rattle.std.specs.List.{AllByRecursion}
 use Rattle.std.specs.declared.cmp.Ordering.{Ordering}
 use Rattle.std.specs.Ordering.{nat_cmp, ordering_then}
@@ -159,7 +159,7 @@ IsLackOf kind logs n (LogCount count found) = ⊥
 IsLackOf kind logs n (Range k log) = ⊥
 IsLackOf kind logs n (Missing k log) = MemberLacks kind logs n k log
 IsLackOf kind logs n (Values k log count found) = ⊥
-IsLackOf kind logs n Memory = Unit {0}
+IsLackOf kind logs n Memory = ⊤
 
 abbrev pub IsFirstLackingOf : Kind → List (List Record) → Key → ℕ → Type 0
 IsFirstLackingOf kinds.Batch logs k log = IsFirstBatchLacking logs k log
@@ -173,7 +173,7 @@ IsFirstLackOfKind kind logs (LogCount count found) = ⊥
 IsFirstLackOfKind kind logs (Range k log) = ⊥
 IsFirstLackOfKind kind logs (Missing k log) = IsFirstLackingOf kind logs k log
 IsFirstLackOfKind kind logs (Values k log count found) = ⊥
-IsFirstLackOfKind kind logs Memory = Unit {0}
+IsFirstLackOfKind kind logs Memory = ⊤
 
 -- the answer tells the first key that is lacking
 abbrev pub IsFirstLackOf : List (List Record) → RecoverNo → Type 0
@@ -183,7 +183,7 @@ IsFirstLackOf logs (LogCount count found) = ⊥
 IsFirstLackOf logs (Range k log) = ⊥
 IsFirstLackOf logs (Missing k log) = IsFirstLacking logs k log
 IsFirstLackOf logs (Values k log count found) = ⊥
-IsFirstLackOf logs Memory = Unit {0}
+IsFirstLackOf logs Memory = ⊤
 
 -- nothing is lacking of this kind
 abbrev pub AllWhole : Kind → List (List Record) → Type 0
@@ -202,7 +202,7 @@ IsValuesLackOf logs n (LogCount count found) = ⊥
 IsValuesLackOf logs n (Range k log) = ⊥
 IsValuesLackOf logs n (Missing k log) = ⊥
 IsValuesLackOf logs n (Values k log count found) = LacksValues logs (bid_at n) k log count found
-IsValuesLackOf logs n Memory = Unit {0}
+IsValuesLackOf logs n Memory = ⊤
 
 -- the answer tells the first batch whose values are lacking
 abbrev pub IsFirstValuesLackOf : List (List Record) → RecoverNo → Type 0
@@ -212,7 +212,7 @@ IsFirstValuesLackOf logs (LogCount count found) = ⊥
 IsFirstValuesLackOf logs (Range k log) = ⊥
 IsFirstValuesLackOf logs (Missing k log) = ⊥
 IsFirstValuesLackOf logs (Values k log count found) = IsFirstLackingValues logs k log count found
-IsFirstValuesLackOf logs Memory = Unit {0}
+IsFirstValuesLackOf logs Memory = ⊤
 
 -- each batch that is in has its values
 abbrev pub AllValued : List (List Record) → Type 0
@@ -226,7 +226,7 @@ IsLackOfBegun logs (LogCount count found) = ⊥
 IsLackOfBegun logs (Range k log) = ⊥
 IsLackOfBegun logs (Missing k log) = IsFirstLacking logs k log
 IsLackOfBegun logs (Values k log count found) = IsAllWhole logs × IsFirstLackingValues logs k log count found
-IsLackOfBegun logs Memory = Unit {0}
+IsLackOfBegun logs Memory = ⊤
 
 -- ---- the order of what is kept
 

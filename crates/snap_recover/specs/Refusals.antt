@@ -1,5 +1,5 @@
 -- Why logs recover to nothing. The causes stand in the order in which they are asked.
-use Rattle.std.specs.Prelude.{◌≡◌, ◌≢◌, ℕ, ℤ, Option, ◌%◌, ◌<◌, ◌≤◌, ◌⊎◌, List, [], ◌∷◌, ◌++◌, length}
+use Rattle.std.specs.Prelude.{◌≡◌, ◌≢◌, ℕ, ℤ, Option, ◌%◌, ◌<◌, ◌≤◌, ◌⊎◌, List, [], ◌∷◌, ◌++◌, length, ⊤}
 use Rattle.std.specs.List.{AllByRecursion}
 use Rattle.snap_base.specs.declared.ids.ActorId.{ActorId}
 use Rattle.snap_base.specs.declared.ids.Bid.{Bid}
@@ -87,4 +87,4 @@ IsRefused logs (Range k log) =
 IsRefused logs (Missing k log) = (first : List State) × IsBegun logs first × IsFirstLacking logs k log
 IsRefused logs (Values k log count found) =
     (first : List State) × IsBegun logs first × NoneMissing logs × IsFirstLackingValues logs k log count found
-IsRefused logs Memory = Unit {0}
+IsRefused logs Memory = ⊤

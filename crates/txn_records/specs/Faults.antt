@@ -1,5 +1,5 @@
 -- The first offset at which no record goes on.
-use Rattle.std.specs.Prelude.{◌≡◌, ℕ, ◌+◌, ◌<◌, ◌≤◌, List, ◌++◌, length, take}
+use Rattle.std.specs.Prelude.{◌≡◌, ℕ, ◌+◌, ◌<◌, ◌≤◌, List, ◌++◌, length, take, ⊤}
 use Rattle.txn_records.specs.declared.records.Record.{Record}
 use Rattle.txn_records.specs.declared.decoding.DecodeNo.{DecodeNo}
 use Rattle.txn_records.specs.declared.decoding.DecodeNo.TheVariants.{Bad, Memory}
@@ -20,4 +20,4 @@ pub record IsFirstBad (bytes : List ℕ) (offset : ℕ) : Type 0 where
 -- why no record was read
 abbrev pub IsNoRecord : List ℕ → DecodeNo → Type 0
 IsNoRecord bytes (Bad offset) = IsFirstBad bytes offset
-IsNoRecord bytes Memory = Unit {0}
+IsNoRecord bytes Memory = ⊤

@@ -1,5 +1,5 @@
 -- What a record is, as bytes, and what is no record.
-use Rattle.std.specs.Prelude.{◌≡◌, ℕ, ℤ, ◌+◌, ◌<◌, ◌≤◌, ◌^◌, List, [], ◌∷◌, ◌++◌, length, map, FitsSigned}
+use Rattle.std.specs.Prelude.{◌≡◌, ℕ, ℤ, ◌+◌, ◌<◌, ◌≤◌, ◌^◌, List, [], ◌∷◌, ◌++◌, length, map, FitsSigned, ⊤}
 use Rattle.std.specs.List.{AllByRecursion, flat_map}
 use Rattle.std.specs.Int.{to_be_bytes, cast_unsigned, w16, w64}
 use Rattle.txn_records.specs.declared.limits.TheConstants.{MOST_ACT_ACTORS, MOST_LISTED, MOST_LOGS}
@@ -83,7 +83,7 @@ pub record IsState (s : State) : Type 0 where
 
 -- the numbers ascend strictly, from `low` on, and stay below `limit`
 abbrev pub Ascend : ℕ → ℕ → List ℕ → Type 0
-Ascend low limit [] = Unit {0}
+Ascend low limit [] = ⊤
 Ascend low limit (n ∷ ns) = (low ≤ n) × (n < limit) × Ascend (n + 1) limit ns
 
 abbrev pub actor_numbers : List ActorId → List ℕ

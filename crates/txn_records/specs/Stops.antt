@@ -1,5 +1,5 @@
 -- Where bytes stop being the front of any text of a language.
-use Rattle.std.specs.Prelude.{◌≡◌, ◌≢◌, ℕ, List, [], ◌++◌, length, take}
+use Rattle.std.specs.Prelude.{◌≡◌, ◌≢◌, ℕ, List, [], ◌++◌, length, take, ⊤}
 use Rattle.txn_records.specs.declared.numbers.Stop.{Stop}
 use Rattle.txn_records.specs.declared.numbers.Stop.TheVariants.{Left, Memory}
 
@@ -15,7 +15,7 @@ pub record Stops (F : List ℕ → Type 0) (bytes : List ℕ) (left : ℕ) : Typ
 
 -- anything
 abbrev pub Any : List ℕ → Type 0
-Any f = Unit {0}
+Any f = ⊤
 
 -- nothing
 abbrev pub Nil : List ℕ → Type 0
@@ -28,4 +28,4 @@ Seq {X} Is spell G f = (x : X) × (g : List ℕ) × Is x × G x g × (f ≡ spel
 -- why nothing was read
 abbrev pub Fails : (List ℕ → Type 0) → List ℕ → Stop → Type 0
 Fails F bytes (Left left) = Stops F bytes left
-Fails F bytes Memory = Unit {0}
+Fails F bytes Memory = ⊤
