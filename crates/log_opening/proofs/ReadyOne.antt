@@ -29,6 +29,10 @@ pub record ReadyLaws : Type 0 where
   pub format : OpeningKeepsFormat
   pub keeps : UpgradeKeepsRecords
 
+-- as the laws of these names promise it, which each call that makes logs ready calls
+pub ready_laws : PlacedIsLogAt → OneList → OpeningAdds → OpeningKeepsFormat → UpgradeKeepsRecords → ReadyLaws
+ready_laws placed lists adds format keeps = record { placed = placed; lists = lists; adds = adds; format = format; keeps = keeps }
+
 -- ---- formats
 
 chosen : ℕ → List DevOp

@@ -10,6 +10,7 @@ use Rattle.gate_log.specs.LogLaws.{OpeningAdds, OpeningKeepsFormat}
 use Rattle.gate_log.specs.State.{LogState}
 use Rattle.log_opening.specs.Devices.{Device, as_device, device_at, AreBegun, IsBegun}
 use Rattle.log_opening.specs.Found.{AreFound, IsKeptSafe, IsReadyLog}
+use Rattle.log_opening.specs.Reads.{AreOpen}
 use Rattle.log_opening.specs.Upgrades.{AreOld, AreReady, AreReadyBelow, FailsBeginning, IsCutOff, IsLeftOld, IsMadeReady, IsNotMadeReady, IsStopped, items_at, log_at, old_count}
 use Rattle.log_opening.proofs.Opening.{untouched}
 use Rattle.log_opening.proofs.ReadyOne.{ReadyLaws, begun_on, cut_off_at, failed_safe, format_was, has_risen, kept_safe}
@@ -130,7 +131,7 @@ module _ (laws : ReadyLaws) where
       let is = begun_on laws b l k f are.0 ready.0 [] here.0 here.1 in
       ((is.begun.0, f, is.begun.1), first_begun n bs others ls ks fs (omega (arith, le)) are.1 ready.1 (omega (arith, many)) (λ i lt. made (suc i) (omega (arith, lt))))
 
-  pub all_upgraded : (before others : List Device) (old new : List LogState) (found : List (List LogItem)) → AreFound before (with_logs old others) found → AllZip IsReadyLog old found
+  all_upgraded : (before others : List Device) (old new : List LogState) (found : List (List LogItem)) → AreFound before (with_logs old others) found → AllZip IsReadyLog old found
       → AreReadyBelow (length old) old new [] → AreBegun (length found) before (with_logs new others) × AllZip IsKeptSafe before (with_logs new others)
   all_upgraded before others old new found are ready all = (
     begun_all before (with_logs new others) found
@@ -141,6 +142,12 @@ module _ (laws : ReadyLaws) where
     where
       made : (l : ℕ) → l < length old → IsMadeReady (log_at old l) (log_at new l) []
       made l lt = made_at old new l (all.below l lt)
+
+  -- the logs are open and no items were listed, so all are upgraded
+  pub all_begun_safely : (before others : List Device) (old new : List LogState) (found listed : List (List LogItem)) → AreOpen before (with_logs old others) old found → listed ≡ []
+      → AreReadyBelow (length old) old new listed → AreBegun (length found) before (with_logs new others) × AllZip IsKeptSafe before (with_logs new others)
+  all_begun_safely before others old new found listed is none ready =
+      all_upgraded before others old new found is.are_found is.ready (subst (λ (fs : List (List LogItem)). AreReadyBelow (length old) old new fs) none ready)
 
   cut_off_there : (n : ℕ) (before others : List Device) (old new : List LogState) (found : List (List LogItem)) → n < length found → AreFound before (with_logs old others) found → AllZip IsReadyLog old found
       → length new ≡ length old → IsNotMadeReady (log_at old n) (log_at new n) []
@@ -155,7 +162,7 @@ module _ (laws : ReadyLaws) where
       let is = cut_off_there n bs others ls ks fs (omega (arith, lt)) are.1 ready.1 (omega (arith, many)) not in
       (omega (arith, is.0), is.1, is.2)
 
-  pub not_upgraded : (before others : List Device) (old new : List LogState) (found : List (List LogItem)) (n : ℕ) → AreFound before (with_logs old others) found → AllZip IsReadyLog old found
+  not_upgraded : (before others : List Device) (old new : List LogState) (found : List (List LogItem)) (n : ℕ) → AreFound before (with_logs old others) found → AllZip IsReadyLog old found
       → IsStopped n old new [] → FailsBeginning (length found) before (with_logs new others) n × AllZip IsKeptSafe before (with_logs new others)
   not_upgraded before others old new found n are ready stopped = (
     record {
@@ -186,3 +193,9 @@ module _ (laws : ReadyLaws) where
       went l (inl lt) = inl (made l lt)
       went l (inr (inl same)) = inr (inl (subst (λ (i : ℕ). IsNotMadeReady (log_at old i) (log_at new i) []) (sym same) failed))
       went l (inr (inr gt)) = inr (inr (stopped.above l gt))
+
+  -- the logs are open and no items were listed, so the others but the one whose device failed are upgraded or as they were
+  pub fails_safely : (before others : List Device) (old new : List LogState) (found listed : List (List LogItem)) (n : ℕ) → AreOpen before (with_logs old others) old found → listed ≡ []
+      → IsStopped n old new listed → FailsBeginning (length found) before (with_logs new others) n × AllZip IsKeptSafe before (with_logs new others)
+  fails_safely before others old new found listed n is none stopped =
+      not_upgraded before others old new found n is.are_found is.ready (subst (λ (fs : List (List LogItem)). IsStopped n old new fs) none stopped)

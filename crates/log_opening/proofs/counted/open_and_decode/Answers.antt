@@ -7,7 +7,7 @@ use Rattle.log_opening.proofs.Opening.{none_found, none_ready}
 use Rattle.log_opening.proofs.Reading.{found_placed}
 use Rattle.log_opening.proofs.Counting.{halted_read, opened_handled, read_from, none_known}
 use Rattle.log_opening.proofs.ReadyAll.{are_ready, not_ready}
-use Rattle.log_opening.proofs.ReadyOne.{ReadyLaws}
+use Rattle.log_opening.proofs.ReadyOne.{ready_laws}
 use Rattle.log_opening.proofs.counted.open_and_decode.Goals as goal
 
 pub make_ready-requires-clause-ready : goal.make_ready-requires-clause-ready
@@ -38,13 +38,7 @@ returns-in-Ok-make_ready-clause-read g c =
     let are : AreFound before mid found = c.in-Ok.ensures.found before (none_found before c.args.opened.now.found c.requires.none.0) in
     let ready : AllZip IsReadyLog old found = c.in-Ok.ensures.ready (none_ready c.args.opened.now.logs.items c.args.opened.now.found (search rules) c.requires.none.0) in
     let as_many : length found ≡ length old = search rules in
-    let laws : ReadyLaws = record {
-      placed = c.logs_are_lists.ensures.placed;
-      lists = c.one_list.ensures;
-      adds = c.opening_is_safe.ensures.adds;
-      format = c.opening_is_safe.ensures.format;
-      keeps = c.upgrade_keeps.ensures;
-    } in
+    let laws = ready_laws c.logs_are_lists.ensures.placed c.one_list.ensures c.opening_is_safe.ensures.adds c.opening_is_safe.ensures.format c.upgrade_keeps.ensures in
     let all = are_ready laws before others old new found as_many are ready c.in-Ok-make_ready.ensures.ready in
     rw c.in-Ok-make_ready.ensures.found
     (read_from c.opened_holds.ensures.before c.records_are_held.ensures.items c.args.count before mid after new found
@@ -62,13 +56,7 @@ returns-in-Err-make_ready-clause-read g c =
     let are : AreFound before mid found = c.in-Ok.ensures.found before (none_found before c.args.opened.now.found c.requires.none.0) in
     let ready : AllZip IsReadyLog old found = c.in-Ok.ensures.ready (none_ready c.args.opened.now.logs.items c.args.opened.now.found (search rules) c.requires.none.0) in
     let as_many : length found ≡ length old = search rules in
-    let laws : ReadyLaws = record {
-      placed = c.logs_are_lists.ensures.placed;
-      lists = c.one_list.ensures;
-      adds = c.opening_is_safe.ensures.adds;
-      format = c.opening_is_safe.ensures.format;
-      keeps = c.upgrade_keeps.ensures;
-    } in
+    let laws = ready_laws c.logs_are_lists.ensures.placed c.one_list.ensures c.opening_is_safe.ensures.adds c.opening_is_safe.ensures.format c.upgrade_keeps.ensures in
     not_ready laws c.args.count before others old c.make_ready.new.opened.logs.items found c.in-Err-make_ready.no c.in-Ok.ensures.count.0 as_many are ready c.in-Err-make_ready.ensures.ready
 
 pub returns-in-Err-clause-read : goal.returns-in-Err-clause-read
