@@ -1,8 +1,9 @@
 -- What stands beside the shares that a crew begins with and ends with, and what it made of the journals and the output.
-use Rattle.std.specs.Prelude.{◌≡◌, ℕ, ◌<◌, true, if◌then◌else◌, Option, None, Some, List, [], length, slice_get, slice_index_or}
+use Rattle.std.specs.Prelude.{◌≡◌, ℕ, ◌<◌, true, if◌then◌else◌, Option, None, Some, List, length, slice_get}
 use Rattle.aml_slice.specs.Controls.{Rest}
 use Rattle.crew_parts.specs.Crews.{Begins, HasCome}
 use Rattle.crew_parts.specs.Shares.{OutputState, ShareState}
+pub use Rattle.gate_log.specs.State.{log_at}
 use Rattle.gate_log.specs.State.{LogState}
 use Rattle.protocol.specs.Conditions.{IsAllowed}
 use Rattle.protocol.specs.Events.{Event, Sync, desk, log}
@@ -27,9 +28,6 @@ pub record IsSomeEnd (w : Fixed Rest) (now : List ShareState) : Type 0 where
   pub come : HasCome w start events now
 
 -- ---- what became of the journals
-
-abbrev pub log_at : List LogState → ℕ → LogState
-log_at logs n = slice_index_or logs n (record { told = None; end = 0; format = 2; shut = true; found = []; faults = 0 })
 
 -- the group whose append met a fault, where the journal is shut
 abbrev pub tried_on : Fixed Rest → ℕ → List Event → LogState → Option (List Record)

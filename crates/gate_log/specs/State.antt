@@ -1,5 +1,5 @@
 -- What contracts see of a log.
-use Rattle.std.specs.Prelude.{◌≡◌, ℕ, Bool, List, Option}
+use Rattle.std.specs.Prelude.{◌≡◌, ℕ, Bool, true, List, [], Option, None, slice_index_or}
 use Rattle.gate_log.specs.declared.logs.LogItem.{LogItem}
 use Rattle.snap_outside.specs.Disk.{History}
 
@@ -15,6 +15,10 @@ pub record LogState : Type 0 where
   pub found : List LogItem
   -- the device's faults
   pub faults : ℕ
+
+-- the log with this number, from 0 on; past the last one a log that is shut, on a device that tells nothing
+abbrev pub log_at : List LogState → ℕ → LogState
+log_at logs n = slice_index_or logs n (record { told = None; end = 0; format = 2; shut = true; found = []; faults = 0 })
 
 -- the device, the gate and the shutter are as before
 pub record IsUntouched (before after : LogState) : Type 0 where

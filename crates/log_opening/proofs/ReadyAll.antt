@@ -4,14 +4,14 @@ use Rattle.std.specs.Prelude.{◌⊎◌}
 use Rattle.std.specs.List.{AllByRecursion, AllZip}
 use Rattle.snap_outside.specs.Causes.{Rose}
 use Rattle.gate_log.specs.declared.logs.LogItem.{LogItem}
-use Rattle.gate_log.specs.State.{LogState}
+use Rattle.gate_log.specs.State.{LogState, log_at}
 use Rattle.snap_recover.specs.declared.causes.LogCause.TheVariants as cause
 use Rattle.log_opening.specs.declared.refusals.LogsNo.{LogsNo}
 use Rattle.log_opening.specs.declared.refusals.LogsNo.TheVariants as ending
 use Rattle.log_opening.specs.Counted.{AreNotRead, FailsUpgrade, HasOldFormat}
 use Rattle.log_opening.specs.Devices.{Device, as_device, device_at, AreBegun, HoldNoOld, HoldsOld, IsBegun, IsOpened, IsPrepared, IsUpgradeCutOff}
 use Rattle.log_opening.specs.Found.{AreBegunOn, AreFound, IsHandled, IsReadyLog}
-use Rattle.log_opening.specs.Upgrades.{AreNotReady, AreReady, IsLeftOld, IsMadeReady, IsNotMadeReady, IsStopped, items_at, log_at}
+use Rattle.log_opening.specs.Upgrades.{AreNotReady, AreReady, IsLeftOld, IsMadeReady, IsNotMadeReady, IsStopped, items_at}
 use Rattle.log_opening.proofs.Opening.{found_zip, untouched}
 use Rattle.log_opening.proofs.ReadyOne.{ReadyLaws, begun_on, still_ready, no_old, is_old, prepared, handled, cut_off, handled_failed, has_risen}
 

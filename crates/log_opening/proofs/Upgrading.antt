@@ -7,11 +7,11 @@ use Rattle.snap_outside.specs.Disk.{History, content}
 use Rattle.gate_log.specs.declared.logs.LogItem.{LogItem}
 use Rattle.gate_log.specs.Bytes.{format_in}
 use Rattle.gate_log.specs.LogLaws.{OpeningAdds, OpeningKeepsFormat}
-use Rattle.gate_log.specs.State.{LogState}
+use Rattle.gate_log.specs.State.{LogState, log_at}
 use Rattle.log_opening.specs.Devices.{Device, as_device, device_at, AreBegun, IsBegun}
 use Rattle.log_opening.specs.Found.{AreFound, IsKeptSafe, IsReadyLog}
 use Rattle.log_opening.specs.Reads.{AreOpen}
-use Rattle.log_opening.specs.Upgrades.{AreOld, AreReady, AreReadyBelow, FailsBeginning, IsCutOff, IsLeftOld, IsMadeReady, IsNotMadeReady, IsStopped, items_at, log_at, old_count}
+use Rattle.log_opening.specs.Upgrades.{AreOld, AreReady, AreReadyBelow, FailsBeginning, IsCutOff, IsLeftOld, IsMadeReady, IsNotMadeReady, IsStopped, items_at, old_count}
 use Rattle.log_opening.proofs.Opening.{untouched}
 use Rattle.log_opening.proofs.ReadyOne.{ReadyLaws, begun_on, cut_off_at, failed_safe, format_was, has_risen, kept_safe}
 use Rattle.log_opening.proofs.ReadyAll.{with_logs, three, EachLog, each_log, all_second, all_begun, above_opened, rest_same, begun_all}

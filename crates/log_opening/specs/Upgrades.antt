@@ -1,5 +1,5 @@
 -- What upgrading open logs leaves of them.
-use Rattle.std.specs.Prelude.{◌≡◌, ◌≢◌, ℕ, ◌+◌, ◌==◌, ◌<◌, ◌≤◌, ◌⊎◌, if◌then◌else◌, Bool, false, Option, None, IfSome, List, [], ◌∷◌, length, take, drop, slice_index_or}
+use Rattle.std.specs.Prelude.{◌≡◌, ◌≢◌, ℕ, ◌+◌, ◌==◌, ◌<◌, ◌≤◌, ◌⊎◌, if◌then◌else◌, Bool, false, Option, IfSome, List, [], ◌∷◌, length, take, drop, slice_index_or}
 use Rattle.std.specs.List.{AllZip}
 use Rattle.snap_outside.specs.Causes.{Rose}
 use Rattle.snap_outside.specs.Disk.{History, content, AddsAll, AddsUpToFault}
@@ -8,7 +8,7 @@ use Rattle.gate_log.specs.Appends.{upgrade_ops}
 use Rattle.gate_log.specs.Bytes.{format_in}
 use Rattle.gate_log.specs.Device.{Upgraded, UpgradesSafely}
 use Rattle.gate_log.specs.Opened.{Opened}
-use Rattle.gate_log.specs.State.{LogState}
+use Rattle.gate_log.specs.State.{LogState, log_at}
 use Rattle.snap_recover.specs.declared.causes.LogCause.TheVariants as cause
 use Rattle.log_opening.specs.Devices.{Device, device_at, IsBegun, IsOpened}
 use Rattle.log_opening.specs.declared.refusals.LogsNo.{LogsNo}
@@ -42,9 +42,6 @@ IsMadeReady old new items = ((new ≡ old) × ((old.format ≢ 1) ⊎ (items ≢
 -- the log was to be upgraded, and its device failed
 abbrev pub IsNotMadeReady : LogState → LogState → List LogItem → Type 0
 IsNotMadeReady old new items = (items ≡ []) × (old.format ≡ 1) × IsUpgradeFailed old new
-
-abbrev pub log_at : List LogState → ℕ → LogState
-log_at logs n = slice_index_or logs n (record { told = None; end = 0; format = 2; shut = false; found = []; faults = 0 })
 
 abbrev pub items_at : List (List LogItem) → ℕ → List LogItem
 items_at found n = slice_index_or found n []

@@ -5,7 +5,8 @@ ghost use Rattle.gate_log.specs.declared.logs.LogItem.{LogItem};
 ghost use Rattle.log_opening.specs.Devices.{Device, AreBegun, as_device};
 ghost use Rattle.log_opening.specs.Found.{IsKeptSafe, IsReadyLog};
 ghost use Rattle.log_opening.specs.Reads.{AreOpen};
-ghost use Rattle.log_opening.specs.Upgrades.{AreNotReady, AreOld, AreReady, AreReadyBelow, IsMadeReady, IsNotBegun, IsNotMadeReady, IsStopped, IsUpgraded, IsUpgradeFailed, items_at, log_at, old_count};
+ghost use Rattle.gate_log.specs.State.{log_at};
+ghost use Rattle.log_opening.specs.Upgrades.{AreNotReady, AreOld, AreReady, AreReadyBelow, IsMadeReady, IsNotBegun, IsNotMadeReady, IsStopped, IsUpgraded, IsUpgradeFailed, items_at, old_count};
 
 use crate::LogsNo;
 use crate::openings::OpenLogs;

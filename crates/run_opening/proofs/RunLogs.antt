@@ -10,7 +10,7 @@ use Rattle.gate_log.specs.Appends.{append_ops, end_behind, upgrading_ops}
 use Rattle.gate_log.specs.Device.{DeviceLog}
 use Rattle.gate_log.specs.LogLaws.{OneReading, OpeningAdds, BeginningGives}
 use Rattle.gate_log.specs.Opened.{bytes_of, opening_ops, beginning_ops, Opened}
-use Rattle.gate_log.specs.State.{LogState, IsUntouched}
+use Rattle.gate_log.specs.State.{LogState, IsUntouched, log_at}
 use Rattle.txn_records.specs.declared.records.Record.{Record}
 use Rattle.record_log.specs.Growth.{all_records, MayAppendGroup, GrewBy, upgrading_of}
 use Rattle.record_log.specs.GrowthLaws.{OpeningGrows, GroupGrows, FaultGrows}
@@ -18,7 +18,7 @@ use Rattle.record_log.specs.Records.{spelled, HoldsRecords, RecordLog, AreItemsO
 use Rattle.record_log.specs.RecordLogLaws.{OneListOfRecords, OpenedHeld, OpenedHolds}
 use Rattle.log_opening.specs.Devices.{Device, device_at, as_device}
 use Rattle.log_opening.specs.Found.{IsBegunOn, IsReadyLog, AreBegunOn}
-use Rattle.run_opening.specs.Opens.{IsRunLog, log_at, records_at, as_groups, KeepsOrAdds}
+use Rattle.run_opening.specs.Opens.{IsRunLog, records_at, as_groups, KeepsOrAdds}
 use Rattle.run_opening.specs.Writes.{IsWritten}
 
 -- what the logs promise

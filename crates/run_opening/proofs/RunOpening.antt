@@ -9,7 +9,7 @@ use Rattle.snap_outside.specs.Disk.{History, AddsUpToFault}
 use Rattle.gate_log.specs.declared.limits.TheConstants.{FARTHEST_END}
 use Rattle.gate_log.specs.declared.logs.LogItem.{LogItem}
 use Rattle.gate_log.specs.Appends.{append_ops}
-use Rattle.gate_log.specs.State.{LogState, IsUntouched}
+use Rattle.gate_log.specs.State.{LogState, IsUntouched, log_at}
 use Rattle.txn_records.specs.declared.records.Record.{Record}
 use Rattle.txn_records.specs.declared.records.Record.TheVariants.{Genesis}
 use Rattle.txn_records.specs.Records.{IsRecord, IsState}
@@ -27,7 +27,7 @@ use Rattle.log_opening.specs.Counted.{AreOpenWith, AreNotRead}
 use Rattle.run_opening.specs.declared.limits.TheConstants.{LARGEST_START}
 use Rattle.run_opening.specs.Begins.{AreEmpty, fresh_opening, IsUnspent, Begins}
 use Rattle.run_opening.specs.Starts.{first_record, IsStart, IsNoStart}
-use Rattle.run_opening.specs.Opens.{HasRoom, IsRunLog, FailsFirst, IsNoRun, KeepsOrAdds, AreSafe, with_first, first_groups, log_at, records_at}
+use Rattle.run_opening.specs.Opens.{HasRoom, IsRunLog, FailsFirst, IsNoRun, KeepsOrAdds, AreSafe, with_first, first_groups, records_at}
 use Rattle.run_opening.specs.Writes.{IsWritten, IsNotWritten, HasBegun, HasNotBegun}
 use Rattle.run_opening.proofs.RunLogs.{LogLaws, run_logs, written_log, written_safely, nothing_added}
 use Rattle.run_opening.proofs.Starting.{StatesRecovered, starts_with_states, added_are}

@@ -9,14 +9,13 @@ use Rattle.gate_log.specs.declared.logs.AppendNo.{AppendNo}
 use Rattle.gate_log.specs.declared.logs.AppendNo.TheVariants as append
 use Rattle.gate_log.specs.Appends.{append_ops, end_behind, AddsRefused}
 use Rattle.gate_log.specs.Bytes.{items_bytes}
-use Rattle.gate_log.specs.State.{LogState, IsUntouched}
+use Rattle.gate_log.specs.State.{LogState, IsUntouched, log_at}
 use Rattle.txn_records.specs.declared.records.Record.{Record}
 use Rattle.txn_records.specs.Records.{IsRecord}
 use Rattle.record_log.specs.Growth.{MayAppendGroup}
 use Rattle.record_log.specs.Records.{spelled, AppendsRecords, CrashesRecords}
 use Rattle.record_log.specs.RecordLogLaws.{FewMayBeAppended}
 use Rattle.log_opening.specs.declared.refusals.LogsNo.{LogsNo}
-use Rattle.run_opening.specs.Opens.{log_at}
 use Rattle.run_opening.specs.Writes.{IsWritten, IsNotWritten, no_of_append}
 use Rattle.run_opening.proofs.Starting.{grown_little}
 

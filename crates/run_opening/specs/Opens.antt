@@ -1,6 +1,6 @@
 -- What opening the logs of a run leaves, and why no run begins on them. The devices are all that there are; the run's logs,
 -- so many as its text says, lie on the first ones.
-use Rattle.std.specs.Prelude.{◌≡◌, ℕ, zero, suc, ◌+◌, ◌<◌, ◌≤◌, ◌⊎◌, true, List, [], ◌∷◌, ◌++◌, length, take, drop, slice_index_or, Option, None, Some, IfSome, false}
+use Rattle.std.specs.Prelude.{◌≡◌, ℕ, zero, suc, ◌+◌, ◌<◌, ◌≤◌, ◌⊎◌, List, [], ◌∷◌, ◌++◌, length, take, drop, slice_index_or, Option, None, Some, IfSome, false}
 use Rattle.std.specs.List.{AllByRecursion, AllZip}
 use Rattle.snap_base.specs.declared.transactions.State.{State}
 use Rattle.snap_outside.specs.Causes.{Rose}
@@ -9,7 +9,7 @@ use Rattle.snap_outside.specs.Disk.{History, disk, content, settled, EachMoment,
 use Rattle.gate_log.specs.declared.limits.TheConstants.{FARTHEST_END}
 use Rattle.gate_log.specs.declared.logs.LogItem.{LogItem}
 use Rattle.gate_log.specs.Opened.{Opened}
-use Rattle.gate_log.specs.State.{LogState}
+use Rattle.gate_log.specs.State.{LogState, log_at}
 use Rattle.txn_records.specs.declared.records.Record.{Record}
 use Rattle.txn_records.specs.Records.{IsRecord}
 use Rattle.record_log.specs.Growth.{all_records, end_behind_groups, GrewBy}
@@ -52,9 +52,6 @@ as_groups (r ∷ rs) = (r ∷ rs) ∷ []
 abbrev pub first_groups : ℕ → List Record → List (List Record)
 first_groups zero added = as_groups added
 first_groups (suc n) added = []
-
-abbrev pub log_at : List LogState → ℕ → LogState
-log_at logs n = slice_index_or logs n (record { told = None; end = 0; format = 2; shut = true; found = []; faults = 0 })
 
 abbrev pub records_at : List (List Record) → ℕ → List Record
 records_at logs n = slice_index_or logs n []

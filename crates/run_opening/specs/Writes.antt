@@ -9,7 +9,7 @@ use Rattle.gate_log.specs.declared.logs.AppendNo.{AppendNo}
 use Rattle.gate_log.specs.declared.logs.AppendNo.TheVariants as append
 use Rattle.gate_log.specs.Appends.{append_ops, end_behind}
 use Rattle.gate_log.specs.declared.limits.TheConstants.{FARTHEST_END}
-use Rattle.gate_log.specs.State.{LogState, IsUntouched}
+use Rattle.gate_log.specs.State.{LogState, IsUntouched, log_at}
 use Rattle.txn_records.specs.declared.records.Record.{Record}
 use Rattle.txn_records.specs.Records.{IsState}
 use Rattle.record_log.specs.Growth.{MayAppendGroup}
@@ -19,7 +19,7 @@ use Rattle.log_opening.specs.Devices.{Device}
 use Rattle.log_opening.specs.declared.refusals.LogsNo.{LogsNo}
 use Rattle.log_opening.specs.declared.refusals.LogsNo.TheVariants as ending
 use Rattle.run_opening.specs.declared.limits.TheConstants.{LARGEST_START}
-use Rattle.run_opening.specs.Opens.{HasRoom, OpensRun, IsNoRun, AreSafe, log_at}
+use Rattle.run_opening.specs.Opens.{HasRoom, OpensRun, IsNoRun, AreSafe}
 
 -- the records are written, as one group
 pub record IsWritten (before after : LogState) (added : List Record) : Type 0 where

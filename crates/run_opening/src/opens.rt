@@ -6,7 +6,8 @@ ghost use Rattle.txn_records.specs.declared.records.Record.{Record};
 ghost use Rattle.txn_records.specs.Records.{IsState, IsRecord};
 ghost use Rattle.snap_recover.specs.declared.openings.Opening.{Opening};
 ghost use Rattle.log_opening.specs.Devices.{Device, devices_of, devices_now};
-ghost use Rattle.run_opening.specs.Opens.{HasRoom, OpensRun, IsNoRun, AreSafe, MayOpen, log_at};
+ghost use Rattle.gate_log.specs.State.{log_at};
+ghost use Rattle.run_opening.specs.Opens.{HasRoom, OpensRun, IsNoRun, AreSafe, MayOpen};
 ghost use Rattle.run_opening.specs.Writes.{IsWritten, IsNotWritten, HasBegun, HasNotBegun, no_of_append};
 
 use crate::limits::LARGEST_START;

@@ -1,11 +1,11 @@
 -- What a run leaves on its devices: what opening left on its open logs, and what a host made of these, log by log.
 use Rattle.std.proofs.Common.{◌≡◌, ℕ, ◌<◌, ◌≤◌, zero, suc, List, [], ◌∷◌, ◌++◌, length, map, drop, refl, sym, ◌∙◌, ap, subst, arith, Bool, Option}
 use Rattle.std.specs.List.{AllByRecursion}
-use Rattle.gate_log.specs.State.{LogState}
+use Rattle.gate_log.specs.State.{LogState, log_at}
 use Rattle.log_opening.specs.Devices.{Device, HoldNoOld, as_device, device_at}
 use Rattle.protocol.specs.Events as machine
 use Rattle.record_log.specs.Growth.{GrewBy}
-use Rattle.run_opening.specs.Opens.{HasRoom, OpensRun, IsRunLog, first_groups, log_at, records_at}
+use Rattle.run_opening.specs.Opens.{HasRoom, OpensRun, IsRunLog, first_groups, records_at}
 use Rattle.run_opening.specs.Starts.{IsStart}
 use Rattle.run_outputs.specs.Groups.{groups_of, group_behind}
 use Rattle.run_recovery.specs.Runs.{IsRunDevice, HasRun, tried_on, machine_of}

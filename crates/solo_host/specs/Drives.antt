@@ -1,7 +1,8 @@
 -- What one thread makes of a core, its logs and its output.
-use Rattle.std.specs.Prelude.{◌≡◌, ℕ, ◌<◌, ◌==◌, if◌then◌else◌, true, Option, None, Some, List, [], ◌∷◌, ◌++◌, length, slice_index_or}
+use Rattle.std.specs.Prelude.{◌≡◌, ℕ, ◌<◌, ◌==◌, if◌then◌else◌, Option, None, Some, List, [], ◌∷◌, ◌++◌, length}
 use Rattle.std.specs.Io.KnownBytes.{Appends}
 use Rattle.aml_slice.specs.Controls.{Rest}
+pub use Rattle.gate_log.specs.State.{log_at}
 use Rattle.gate_log.specs.State.{LogState}
 use Rattle.protocol.specs.Events.{Event, Sync, Reply}
 use Rattle.protocol.specs.Fixed.{Fixed}
@@ -16,9 +17,6 @@ use Rattle.run_journals.specs.declared.stops.Stop.TheVariants as stop
 use Rattle.txn_records.specs.declared.records.Record.{Record}
 
 -- ---- the logs
-
-abbrev pub log_at : List LogState → ℕ → LogState
-log_at logs n = slice_index_or logs n (record { told = None; end = 0; format = 2; shut = true; found = []; faults = 0 })
 
 -- the append that met a fault on log l
 abbrev pub tried_on : Fixed Rest → ℕ → List Event → Stop → Option (List Record)

@@ -1,5 +1,5 @@
 use Rattle.std.proofs.Common.{◌≢◌, ◌<◌, ◌≤◌, ℕ, length}
-use Rattle.log_opening.specs.Upgrades.{log_at}
+use Rattle.gate_log.specs.State.{log_at}
 use Rattle.log_opening.proofs.upgrades.first_old.Given as goal
 
 abbrev pub invariant-loop-number : goal.invariant-loop-number

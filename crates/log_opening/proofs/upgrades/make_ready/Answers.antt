@@ -1,7 +1,7 @@
 use Rattle.std.proofs.Common.{◌≡◌, ◌≢◌, ◌<◌, ℕ, List, length, refl, subst}
 use Rattle.gate_log.specs.declared.logs.LogItem.{LogItem}
-use Rattle.gate_log.specs.State.{LogState}
-use Rattle.log_opening.specs.Upgrades.{AreReadyBelow, log_at}
+use Rattle.gate_log.specs.State.{LogState, log_at}
+use Rattle.log_opening.specs.Upgrades.{AreReadyBelow}
 use Rattle.log_opening.proofs.Upgrading.{all_open, are_second, left_first}
 use Rattle.log_opening.proofs.upgrades.make_ready.Goals as goal
 

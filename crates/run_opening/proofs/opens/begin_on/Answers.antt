@@ -4,7 +4,7 @@ use Rattle.txn_records.specs.declared.records.Record.{Record}
 use Rattle.txn_records.specs.Records.{IsRecord}
 use Rattle.log_opening.specs.Devices.{Device, devices_of, devices_now}
 use Rattle.run_opening.specs.Starts.{IsStart, IsNoStart}
-use Rattle.run_opening.specs.Opens.{log_at}
+use Rattle.gate_log.specs.State.{log_at}
 use Rattle.run_opening.specs.Writes.{IsWritten, IsNotWritten}
 use Rattle.run_opening.proofs.RunLogs.{LogLaws}
 use Rattle.run_opening.proofs.RunOpening.{Laws, as_many, first_ready, first_second, added_records, has_begun, not_read, not_started, has_not_begun}
