@@ -29,7 +29,7 @@ use Rattle.log_opening.specs.Kept.{Holds}
 use Rattle.log_opening.specs.Counted.{AreNotRead}
 use Rattle.run_opening.specs.Begins.{IsUnspent, IsFirstSpent, GoesOn, Begins, IsFieldDifference, IsDifference, IsCause}
 use Rattle.run_opening.specs.Starts.{IsNoStart}
-use Rattle.run_opening.specs.Opens.{AreNoStart, IsNoRun, Tells, MayOpen, records_at}
+use Rattle.run_opening.specs.Opens.{AreNoStart, IsNoRun, TellsRecords, MayOpen, records_at}
 
 pub record Laws : Type 0 where
   pub one_list : OneListOfRecords
@@ -101,11 +101,11 @@ no_start laws logs states o ending.Memory begins why = refl
 
 -- ---- logs that hold records are not refused
 
-same_records : Laws → (d : Device) (rs xs : List Record) → Tells d rs → Holds d xs → xs ≡ rs
+same_records : Laws → (d : Device) (rs xs : List Record) → TellsRecords d rs → Holds d xs → xs ≡ rs
 same_records laws d rs xs tells holds =
     laws.one_list (content tells.0) xs rs (subst (λ (m : Option History). IfSome m (λ h. HoldsRecords (content h) xs)) tells.1 holds) tells.2
 
-all_same : Laws → (ds : List Device) (logs others : List (List Record)) → AllZip Tells ds logs → AllZip Holds ds others → others ≡ logs
+all_same : Laws → (ds : List Device) (logs others : List (List Record)) → AllZip TellsRecords ds logs → AllZip Holds ds others → others ≡ logs
 all_same laws [] [] [] tells holds = refl
 all_same laws [] (l ∷ logs) others tells holds = absurd tells
 all_same laws [] [] (x ∷ others) tells holds = absurd holds
@@ -116,24 +116,24 @@ all_same laws (d ∷ ds) (l ∷ logs) (x ∷ others) tells holds =
     let tail = all_same laws ds logs others tells.1 holds.1 in
     cc
 
-tells_at : (count n : ℕ) (ds : List Device) (logs : List (List Record)) → n < count → n < length ds → AllZip Tells (take count ds) logs → Tells (device_at ds n) (records_at logs n)
+tells_at : (count n : ℕ) (ds : List Device) (logs : List (List Record)) → n < count → n < length ds → AllZip TellsRecords (take count ds) logs → TellsRecords (device_at ds n) (records_at logs n)
 tells_at zero n ds logs lt in_ds tells = absurd (omega (arith, lt))
 tells_at (suc count) n [] logs lt in_ds tells = absurd (omega (arith, in_ds))
 tells_at (suc count) n (d ∷ ds) [] lt in_ds tells = absurd tells
 tells_at (suc count) zero (d ∷ ds) (l ∷ logs) lt in_ds tells = tells.0
 tells_at (suc count) (suc n) (d ∷ ds) (l ∷ logs) lt in_ds tells = tells_at count n ds logs (omega (arith, lt)) (omega (arith, in_ds)) tells.1
 
-opens_well : Laws → (d : Device) (new : Option History) (rs : List Record) (offset : ℕ) → Tells d rs → Refused d.told new (refusal.NotALog offset) → ⊥
+opens_well : Laws → (d : Device) (new : Option History) (rs : List Record) (offset : ℕ) → TellsRecords d rs → Refused d.told new (refusal.NotALog offset) → ⊥
 opens_well laws d new rs offset tells refused =
     let x = subst (λ (m : Option History). Refused m new (refusal.NotALog offset)) tells.1 refused in
     laws.foreign (content tells.0) rs offset x.1.0 tells.2 x.1.1
 
-opens_whole : Laws → (d : Device) (new : Option History) (rs : List Record) (offset : ℕ) → Tells d rs → Refused d.told new (refusal.Damage offset) → ⊥
+opens_whole : Laws → (d : Device) (new : Option History) (rs : List Record) (offset : ℕ) → TellsRecords d rs → Refused d.told new (refusal.Damage offset) → ⊥
 opens_whole laws d new rs offset tells refused =
     let x = subst (λ (m : Option History). Refused m new (refusal.Damage offset)) tells.1 refused in
     laws.damaged (content tells.0) rs offset x.1.0 tells.2 x.1.1
 
-decodes : Laws → (d : Device) (new : Option History) (rs : List Record) (end offset : ℕ) (items : List LogItem) → Tells d rs → Opened d.told new end items → IsFirstBadIn items offset → ⊥
+decodes : Laws → (d : Device) (new : Option History) (rs : List Record) (end offset : ℕ) (items : List LogItem) → TellsRecords d rs → Opened d.told new end items → IsFirstBadIn items offset → ⊥
 decodes laws d new rs end offset items tells opened bad =
     laws.bad tells.0 new end offset items rs (subst (λ (m : Option History). Opened m new end items) tells.1 opened) tells.2 bad
 
@@ -143,13 +143,13 @@ recent_at (suc count) n [] lt in_ds all = absurd (omega (arith, in_ds))
 recent_at (suc count) zero (d ∷ ds) lt in_ds all = all.0
 recent_at (suc count) (suc n) (d ∷ ds) lt in_ds all = recent_at count n ds (omega (arith, lt)) (omega (arith, in_ds)) all.1
 
-never_old : (d : Device) (rs : List Record) → Tells d rs → HoldsNoOld d → HoldsOld d → ⊥
+never_old : (d : Device) (rs : List Record) → TellsRecords d rs → HoldsNoOld d → HoldsOld d → ⊥
 never_old d rs tells none old =
     let no : ¬ IsOld (content tells.0) = subst (λ (m : Option History). IfSome m (λ h. ¬ IsOld (content h))) tells.1 none in
     no (subst (λ (m : Option History). IfSome m (λ h. IsOld (content h))) tells.1 old)
 
 module _ (laws : Laws) (count : ℕ) (states : List State) (before after : List Device) (records : List (List Record)) (o : Opening) (few : count ≤ length before) (may : MayOpen count states before after records o) where
-  told : (n : ℕ) → n < count → Tells (device_at before n) (records_at records n)
+  told : (n : ℕ) → n < count → TellsRecords (device_at before n) (records_at records n)
   told n lt = tells_at count n before records lt (omega (arith, lt, few)) may.told
 
   read_well : (answer : LogsNo) → AreNotRead count before after answer → answer ≡ ending.Memory

@@ -27,8 +27,8 @@ use Rattle.log_opening.specs.Counted.{AreOpenWith, AreNotRead}
 use Rattle.run_opening.specs.declared.limits.TheConstants.{LARGEST_START}
 use Rattle.run_opening.specs.Begins.{AreEmpty, fresh_opening, IsUnspent, Begins}
 use Rattle.run_opening.specs.Starts.{first_record, IsStart, IsNoStart}
-use Rattle.run_opening.specs.Opens.{HasRoom, IsRunLog, FailsFirst, IsNoRun, KeepsOrAdds, AreSafe, with_first, first_groups, records_at}
-use Rattle.run_opening.specs.Writes.{IsWritten, IsNotWritten, HasBegun, HasNotBegun}
+use Rattle.run_opening.specs.Opens.{HasRoomToBegin, IsRunLog, FailsFirst, IsNoRun, KeepsOrAdds, AreSafe, with_first, first_groups, records_at}
+use Rattle.run_opening.specs.Writes.{IsWritten, IsNotWritten, HasOpenedRun, HasOpenedNoRun}
 use Rattle.run_opening.proofs.RunLogs.{LogLaws, run_logs, written_log, written_safely, nothing_added}
 use Rattle.run_opening.proofs.Starting.{StatesRecovered, starts_with_states, added_are}
 
@@ -77,7 +77,7 @@ begins_written law (rs ∷ logs) states o added some (inr on) =
 
 -- ---- the numbers
 
-unspent_room : (o : Opening) → IsUnspent o → 1 ≤ o.next_tid.0 → 1 ≤ o.next_bid.0 → 1 ≤ o.next_c → HasRoom o
+unspent_room : (o : Opening) → IsUnspent o → 1 ≤ o.next_tid.0 → 1 ≤ o.next_bid.0 → 1 ≤ o.next_c → HasRoomToBegin o
 unspent_room o unspent tid bid c = record {
   some_tid = tid;
   some_bid = bid;
@@ -87,9 +87,9 @@ unspent_room o unspent tid bid c = record {
   cs = omega (arith, unspent.c);
 }
 
-pub start_room : (logs : List (List Record)) (states : List State) (o : Opening) (added : List Record) → IsStart logs states o added → HasRoom o
+pub start_room : (logs : List (List Record)) (states : List State) (o : Opening) (added : List Record) → IsStart logs states o added → HasRoomToBegin o
 start_room logs states o added (inl new) =
-    subst HasRoom (sym new.1) (record { some_tid = omega arith; some_bid = omega arith; some_c = omega arith; tids = omega arith; bids = omega arith; cs = omega arith })
+    subst HasRoomToBegin (sym new.1) (record { some_tid = omega arith; some_bid = omega arith; some_c = omega arith; tids = omega arith; bids = omega arith; cs = omega arith })
 start_room logs states o added (inr on) =
     unspent_room o on.0.unspent (omega (arith, on.0.recovered.next_tid)) (omega (arith, on.0.recovered.next_bid)) (omega (arith, on.0.recovered.next_c))
 
@@ -177,7 +177,7 @@ begun_ends laws b bs l k ls others f fs rs rss added lie first w (suc n) lt =
 begun_first : Laws → (count : ℕ) (states : List State) (b : Device) (bs : List Device) (l k : LogState) (ls : List LogState) (others : List Device) (f : List LogItem) (fs : List (List LogItem))
     (rs : List Record) (rss : List (List Record)) (o : Opening) (added : List Record) → suc (length fs) ≡ count
     → AreOpenWith (b ∷ bs) (all_devices (l ∷ ls) others) (l ∷ ls) (f ∷ fs) (rs ∷ rss) → AllByRecursion IsState states
-    → IsStart (rs ∷ rss) states o added → IsWritten l k added → HasBegun count states (b ∷ bs) (all_devices (k ∷ ls) others) (k ∷ ls) o
+    → IsStart (rs ∷ rss) states o added → IsWritten l k added → HasOpenedRun count states (b ∷ bs) (all_devices (k ∷ ls) others) (k ∷ ls) o
 begun_first laws count states b bs l k ls others f fs rs rss o added size lie are start w =
     let logs : List (List Record) = rs ∷ rss in
     let as_found : length logs ≡ length (f ∷ fs) = AllZip-long AreItemsOf (f ∷ fs) logs lie.items in
@@ -215,7 +215,7 @@ begun_first laws count states b bs l k ls others f fs rs rss o added size lie ar
 
 pub has_begun : Laws → (count : ℕ) (states : List State) (before : List Device) (logs written : List LogState) (others : List Device) (found : List (List LogItem)) (records : List (List Record)) (o : Opening)
     (added : List Record) → length found ≡ count → 1 ≤ count → AreOpenWith before (all_devices logs others) logs found records → AllByRecursion IsState states → IsStart records states o added
-    → length written ≡ length logs → drop 1 written ≡ drop 1 logs → IsWritten (log_at logs 0) (log_at written 0) added → HasBegun count states before (all_devices written others) written o
+    → length written ≡ length logs → drop 1 written ≡ drop 1 logs → IsWritten (log_at logs 0) (log_at written 0) added → HasOpenedRun count states before (all_devices written others) written o
 has_begun laws count states before logs written others [] records o added size some lie are start long rest w = absurd (omega (arith, size, some))
 has_begun laws count states before logs written others (f ∷ fs) [] o added size some lie are start long rest w = absurd lie.items
 has_begun laws count states before [] written others (f ∷ fs) (rs ∷ rss) o added size some lie are start long rest w = absurd lie.ready
@@ -223,17 +223,17 @@ has_begun laws count states [] (l ∷ ls) written others (f ∷ fs) (rs ∷ rss)
 has_begun laws count states (b ∷ bs) (l ∷ ls) [] others (f ∷ fs) (rs ∷ rss) o added size some lie are start long rest w = absurd (omega (arith, long))
 has_begun laws count states (b ∷ bs) (l ∷ ls) (k ∷ ks) others (f ∷ fs) (rs ∷ rss) o added size some lie are start long rest w =
     let same : ks ≡ ls = rest in
-    subst (λ (x : List LogState). HasBegun count states (b ∷ bs) (all_devices (k ∷ x) others) (k ∷ x) o) (sym same)
+    subst (λ (x : List LogState). HasOpenedRun count states (b ∷ bs) (all_devices (k ∷ x) others) (k ∷ x) o) (sym same)
     (begun_first laws count states b bs l k ls others f fs rs rss o added size lie are start w)
 
 -- ---- no run begins
 
 pub not_read : (count : ℕ) (states : List State) (before after : List Device) (answer : LogsNo) → AreNotRead count before after answer → AllZip IsHandled before after
-    → HasNotBegun count states before after answer
+    → HasOpenedNoRun count states before after answer
 not_read count states before after answer reason touched = record { why = inl (inl reason, touched); safe = inl (handled_keeps before after touched); later = handled_later before after touched }
 
 pub not_started : (count : ℕ) (states : List State) (before after : List Device) (logs : List LogState) (found : List (List LogItem)) (records : List (List Record)) (answer : LogsNo) → length found ≡ count
-    → AreOpenWith before after logs found records → IsNoStart records states answer → HasNotBegun count states before after answer
+    → AreOpenWith before after logs found records → IsNoStart records states answer → HasOpenedNoRun count states before after answer
 not_started count states before after logs found records answer size lie reason =
     let many : length records ≡ count = AllZip-long AreItemsOf found records lie.items ∙ size in
     record {
@@ -279,7 +279,7 @@ not_written count states b bs l k ms answer first others recent begun is same =
 not_first : Laws → (count : ℕ) (states : List State) (b : Device) (bs : List Device) (l k : LogState) (ls : List LogState) (others : List Device) (f : List LogItem) (fs : List (List LogItem))
     (rs : List Record) (rss : List (List Record)) (o : Opening) (added : List Record) (answer : LogsNo) → suc (length fs) ≡ count
     → AreOpenWith (b ∷ bs) (all_devices (l ∷ ls) others) (l ∷ ls) (f ∷ fs) (rs ∷ rss) → IsStart (rs ∷ rss) states o added → IsNotWritten l k added answer
-    → HasNotBegun count states (b ∷ bs) (all_devices (k ∷ ls) others) answer
+    → HasOpenedNoRun count states (b ∷ bs) (all_devices (k ∷ ls) others) answer
 not_first laws count states b bs l k ls others f fs rs rss o added answer size lie start w =
     let logs : List (List Record) = rs ∷ rss in
     let many : length logs ≡ count = AllZip-long AreItemsOf (f ∷ fs) logs lie.items ∙ size in
@@ -297,7 +297,7 @@ not_first laws count states b bs l k ls others f fs rs rss o added answer size l
 
 pub has_not_begun : Laws → (count : ℕ) (states : List State) (before : List Device) (logs written : List LogState) (others : List Device) (found : List (List LogItem)) (records : List (List Record)) (o : Opening)
     (added : List Record) (answer : LogsNo) → length found ≡ count → 1 ≤ count → AreOpenWith before (all_devices logs others) logs found records → IsStart records states o added
-    → length written ≡ length logs → drop 1 written ≡ drop 1 logs → IsNotWritten (log_at logs 0) (log_at written 0) added answer → HasNotBegun count states before (all_devices written others) answer
+    → length written ≡ length logs → drop 1 written ≡ drop 1 logs → IsNotWritten (log_at logs 0) (log_at written 0) added answer → HasOpenedNoRun count states before (all_devices written others) answer
 has_not_begun laws count states before logs written others [] records o added answer size some lie start long rest w = absurd (omega (arith, size, some))
 has_not_begun laws count states before logs written others (f ∷ fs) [] o added answer size some lie start long rest w = absurd lie.items
 has_not_begun laws count states before [] written others (f ∷ fs) (rs ∷ rss) o added answer size some lie start long rest w = absurd lie.ready
@@ -305,7 +305,7 @@ has_not_begun laws count states [] (l ∷ ls) written others (f ∷ fs) (rs ∷ 
 has_not_begun laws count states (b ∷ bs) (l ∷ ls) [] others (f ∷ fs) (rs ∷ rss) o added answer size some lie start long rest w = absurd (omega (arith, long))
 has_not_begun laws count states (b ∷ bs) (l ∷ ls) (k ∷ ks) others (f ∷ fs) (rs ∷ rss) o added answer size some lie start long rest w =
     let same : ks ≡ ls = rest in
-    subst (λ (x : List LogState). HasNotBegun count states (b ∷ bs) (all_devices (k ∷ x) others) answer) (sym same)
+    subst (λ (x : List LogState). HasOpenedNoRun count states (b ∷ bs) (all_devices (k ∷ x) others) answer) (sym same)
     (not_first laws count states b bs l k ls others f fs rs rss o added answer size lie start w)
 
 -- ---- as it is said of the devices alone
@@ -317,7 +317,7 @@ all_handled [] (m ∷ ms) all = absurd all
 all_handled (b ∷ bs) [] all = absurd all
 all_handled (b ∷ bs) (m ∷ ms) all = (record { prepared = inl all.0.opened; safe = all.0.safe }, all_handled bs ms all.1)
 
-pub nothing_done : ((ds : List Device) → AllZip IsTouched ds ds) → (count : ℕ) (states : List State) (ds : List Device) → HasNotBegun count states ds ds ending.Memory
+pub nothing_done : ((ds : List Device) → AllZip IsTouched ds ds) → (count : ℕ) (states : List State) (ds : List Device) → HasOpenedNoRun count states ds ds ending.Memory
 nothing_done law count states ds = not_read count states ds ds ending.Memory (inl (inl (0, (λ log lt. absurd (omega (arith, lt))), record { opened = tt; others = refl }))) (all_handled ds ds (law ds))
 
 pub devices_long : {D : Type 0} (told : D → Option History) (faults : D → ℕ) (xs : List D) → length (devices_of told faults xs) ≡ length xs

@@ -30,7 +30,7 @@ use Rattle.run_opening.specs.Starts.{first_record, IsStart, IsNoStart}
 -- ---- a run begins
 
 -- Each next number is at least 1, and a run that draws fewer than so many draws none that a record cannot have.
-pub record HasRoom (o : Opening) : Type 0 where
+pub record HasRoomToBegin (o : Opening) : Type 0 where
   pub some_tid : 1 ≤ o.next_tid.0
   pub some_bid : 1 ≤ o.next_bid.0
   pub some_c : 1 ≤ o.next_c
@@ -130,12 +130,12 @@ AreSafe count states before after =
 -- ---- nothing stands in the way
 
 -- the device tells that it holds these records
-abbrev pub Tells : Device → List Record → Type 0
-Tells d rs = (h : History) × (d.told ≡ Some h) × HoldsRecords (content h) rs
+abbrev pub TellsRecords : Device → List Record → Type 0
+TellsRecords d rs = (h : History) × (d.told ≡ Some h) × HoldsRecords (content h) rs
 
 -- The devices tell records on which a run of the text begins, none of them in format 1, and no count of theirs rises.
 pub record MayOpen (count : ℕ) (states : List State) (before after : List Device) (records : List (List Record)) (o : Opening) : Type 0 where
-  pub told : AllZip Tells (take count before) records
+  pub told : AllZip TellsRecords (take count before) records
   pub recent : HoldNoOld count before
   pub begins : Begins records states o
   pub quiet : (log : ℕ) → log < count → ¬ Rose (device_at before log).faults (device_at after log).faults

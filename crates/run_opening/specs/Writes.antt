@@ -19,7 +19,7 @@ use Rattle.log_opening.specs.Devices.{Device}
 use Rattle.log_opening.specs.declared.refusals.LogsNo.{LogsNo}
 use Rattle.log_opening.specs.declared.refusals.LogsNo.TheVariants as ending
 use Rattle.run_opening.specs.declared.limits.TheConstants.{LARGEST_START}
-use Rattle.run_opening.specs.Opens.{HasRoom, OpensRun, IsNoRun, AreSafe}
+use Rattle.run_opening.specs.Opens.{HasRoomToBegin, OpensRun, IsNoRun, AreSafe}
 
 -- the records are written, as one group
 pub record IsWritten (before after : LogState) (added : List Record) : Type 0 where
@@ -49,9 +49,9 @@ pub record IsNotWritten (before after : LogState) (added : List Record) (no : Lo
   pub later : before.faults ≤ after.faults
 
 -- The run begins on these open logs.
-pub record HasBegun (count : ℕ) (states : List State) (before after : List Device) (logs : List LogState) (o : Opening) : Type 0 where
+pub record HasOpenedRun (count : ℕ) (states : List State) (before after : List Device) (logs : List LogState) (o : Opening) : Type 0 where
   pub opens : (records : List (List Record)) × (added : List Record) × (length records ≡ count) × OpensRun before logs states o records added
-  pub room : HasRoom o
+  pub room : HasRoomToBegin o
   pub actors : length o.states ≡ length states
   pub kept : AllByRecursion IsState o.states
   pub ends : (n : ℕ) → n < count → (log_at logs n).end ≤ FARTHEST_END + LARGEST_START
@@ -59,7 +59,7 @@ pub record HasBegun (count : ℕ) (states : List State) (before after : List Dev
   pub later : AllZip (λ (b a : Device). b.faults ≤ a.faults) before after
 
 -- No run begins.
-pub record HasNotBegun (count : ℕ) (states : List State) (before after : List Device) (no : LogsNo) : Type 0 where
+pub record HasOpenedNoRun (count : ℕ) (states : List State) (before after : List Device) (no : LogsNo) : Type 0 where
   pub why : IsNoRun count states before after no
   pub safe : AreSafe count states before after
   pub later : AllZip (λ (b a : Device). b.faults ≤ a.faults) before after

@@ -7,8 +7,8 @@ ghost use Rattle.txn_records.specs.Records.{IsState, IsRecord};
 ghost use Rattle.snap_recover.specs.declared.openings.Opening.{Opening};
 ghost use Rattle.log_opening.specs.Devices.{Device, devices_of, devices_now};
 ghost use Rattle.gate_log.specs.State.{log_at};
-ghost use Rattle.run_opening.specs.Opens.{HasRoom, OpensRun, IsNoRun, AreSafe, MayOpen};
-ghost use Rattle.run_opening.specs.Writes.{IsWritten, IsNotWritten, HasBegun, HasNotBegun, no_of_append};
+ghost use Rattle.run_opening.specs.Opens.{HasRoomToBegin, OpensRun, IsNoRun, AreSafe, MayOpen};
+ghost use Rattle.run_opening.specs.Writes.{IsWritten, IsNotWritten, HasOpenedRun, HasOpenedNoRun, no_of_append};
 
 use crate::limits::LARGEST_START;
 use crate::starts::{Start, start_from};
@@ -49,7 +49,7 @@ pub fn open_run<D: LogDev>(
     // The run begins with what the records of its logs recover to, or with the text's states.
     ensures opens { IfOk result (λ x. (records : List (List Record)) × (added : List Record) × (length records ≡ count)
         × OpensRun (devices_of D.told D.faults devices.old.items) x.0.items states.now x.1 records added) }
-    ensures room { IfOk result (λ x. HasRoom x.1) }
+    ensures room { IfOk result (λ x. HasRoomToBegin x.1) }
     ensures actors { IfOk result (λ x. length x.1.states ≡ length states.now) }
     ensures kept { IfOk result (λ x. AllByRecursion IsState x.1.states) }
     ensures ends { IfOk result (λ x. (n : ℕ) → n < count → (log_at x.0.items n).end ≤ FARTHEST_END + LARGEST_START) }
@@ -109,8 +109,8 @@ fn begin_on<D: LogDev>(
     requires few { length states.now ≤ MOST_LISTED }
     requires states { AllByRecursion IsState states.now }
     ensures begun { MatchResult result
-        (λ o. HasBegun count states.now (devices_now D.told D.faults opened.old.logs.items devices.old.items) (devices_now D.told D.faults opened.new.logs.items devices.new.items) opened.new.logs.items o)
-        (λ no. HasNotBegun count states.now (devices_now D.told D.faults opened.old.logs.items devices.old.items) (devices_now D.told D.faults opened.new.logs.items devices.new.items) no) }
+        (λ o. HasOpenedRun count states.now (devices_now D.told D.faults opened.old.logs.items devices.old.items) (devices_now D.told D.faults opened.new.logs.items devices.new.items) opened.new.logs.items o)
+        (λ no. HasOpenedNoRun count states.now (devices_now D.told D.faults opened.old.logs.items devices.old.items) (devices_now D.told D.faults opened.new.logs.items devices.new.items) no) }
     ensures len { vec_len opened.new.logs + vec_len devices.new ≡ 4 }
     ensures back { vec_capacity devices.new ≡ vec_capacity devices.old }
     ensures rest { drop (count - vec_len opened.new.logs) devices.new.items ≡ drop count devices.old.items }

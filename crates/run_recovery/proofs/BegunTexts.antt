@@ -14,7 +14,7 @@ use Rattle.machine_laws.specs.Programs.{IsTextOf}
 use Rattle.protocol.specs.Fixed.{is_pact_kind, IsTxOf, IsUse, HasFewUses, IsText}
 use Rattle.recovery_laws.specs.Grown.{BeginsWith}
 use Rattle.run_opening.specs.Begins.{BeganWith, fresh_opening}
-use Rattle.run_opening.specs.Opens.{HasRoom, with_first}
+use Rattle.run_opening.specs.Opens.{HasRoomToBegin, with_first}
 use Rattle.run_opening.specs.Starts.{IsStart}
 use Rattle.snap_recover.specs.declared.openings.Opening.{Opening}
 use Rattle.snap_recover.specs.Opening.{IsRecovered}
@@ -125,7 +125,7 @@ begins_with w o = record { states = refl; next_tid = refl; next_bid = refl; next
 
 -- ---- the text
 
-text_accepted : (w : Work) (o : Opening) → KeepsLimits w → HasRoom o → length o.states ≡ length w.states
+text_accepted : (w : Work) (o : Opening) → KeepsLimits w → HasRoomToBegin o → length o.states ≡ length w.states
     → AllByRecursion (asked.IsTransaction w.program (length o.states)) w.txs → IsText (text_of w o)
 text_accepted w o kept room actors asks = record {
   some_coordinators = kept.coordinators.0;
@@ -150,7 +150,7 @@ text_accepted w o kept room actors asks = record {
   cs_fit = omega (arith, room.cs);
 }
 
-pub text_begins : (w : Work) (o : Opening) → KeepsLimits w → HasRoom o → length o.states ≡ length w.states → IsTextOf w.program (text_of w o)
+pub text_begins : (w : Work) (o : Opening) → KeepsLimits w → HasRoomToBegin o → length o.states ≡ length w.states → IsTextOf w.program (text_of w o)
 text_begins w o kept room actors =
     let asks = subst (λ (count : ℕ). AllByRecursion (asked.IsTransaction w.program count) w.txs) (sym actors) kept.transactions in
     record { accepted = text_accepted w o kept room actors asks; asks = asks }

@@ -9,7 +9,7 @@ use Rattle.protocol.specs.Events as machine
 use Rattle.protocol.specs.Moments.{Moment}
 use Rattle.record_log.specs.Records.{HoldsRecords}
 use Rattle.run_opening.specs.Begins.{AreEmpty, AreOfRuns, Begins}
-use Rattle.run_opening.specs.Opens.{Tells, records_at}
+use Rattle.run_opening.specs.Opens.{TellsRecords, records_at}
 use Rattle.run_recovery.specs.Beginnings.{BeginsAgain, HoldEach}
 use Rattle.run_recovery.specs.Crashes.{Recovers}
 use Rattle.run_recovery.specs.Next.{GoesOnFrom, opening_left, records_left}
@@ -23,12 +23,12 @@ use Rattle.txn_records.specs.declared.records.Record.{Record}
 use Rattle.run_recovery.proofs.SeveralRuns.{kept_long}
 
 -- the devices that tell their records lie on the first ones
-tell_all : (logs : List (List Record)) (ds : List Device) → ((l : ℕ) → l < length logs → Tells (device_at ds l) (records_at logs l)) → AllZip Tells (take (length logs) ds) logs
+tell_all : (logs : List (List Record)) (ds : List Device) → ((l : ℕ) → l < length logs → TellsRecords (device_at ds l) (records_at logs l)) → AllZip TellsRecords (take (length logs) ds) logs
 tell_all [] ds each = tt
 tell_all (rs ∷ logs) [] each = let none = (each 0 (omega arith)).1 in absurd (cc none)
 tell_all (rs ∷ logs) (d ∷ ds) each = (each 0 (omega arith), tell_all logs ds (λ l lt. each (suc l) (omega (arith, lt))))
 
-tell_each : (logs : ℕ) (ds : List Device) (images : ℕ → List ℕ) (records : List (List Record)) → length records ≡ logs → HoldEach logs images records → TellBytes logs ds images → AllZip Tells (take (length records) ds) records
+tell_each : (logs : ℕ) (ds : List Device) (images : ℕ → List ℕ) (records : List (List Record)) → length records ≡ logs → HoldEach logs images records → TellBytes logs ds images → AllZip TellsRecords (take (length records) ds) records
 tell_each logs ds images records as_many holds tell =
     tell_all records ds (λ l lt.
     let here : l < logs = omega (arith, lt, as_many) in

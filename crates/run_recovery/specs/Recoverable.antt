@@ -3,7 +3,7 @@ use Rattle.std.specs.Prelude.{◌≡◌, ℕ, ◌<◌, List, length, take, Some}
 use Rattle.std.specs.List.{AllZip}
 use Rattle.log_opening.specs.Devices.{Device, device_at}
 use Rattle.log_opening.specs.Kept.{IsSaid}
-use Rattle.run_opening.specs.Opens.{Tells}
+use Rattle.run_opening.specs.Opens.{TellsRecords}
 use Rattle.snap_outside.specs.Disk.{History, content}
 use Rattle.snap_recover.specs.declared.openings.Opening.{Opening}
 use Rattle.snap_recover.specs.Opening.{IsRecovered}
@@ -13,7 +13,7 @@ use Rattle.txn_records.specs.declared.records.Record.{Record}
 -- recover to the opening.
 pub record AreRecoverable (devices : List Device) (logs : List (List Record)) (o : Opening) : Type 0 where
   pub said : IsSaid logs
-  pub told : AllZip Tells (take (length logs) devices) logs
+  pub told : AllZip TellsRecords (take (length logs) devices) logs
   pub recovered : IsRecovered logs o
 
 -- the devices of so many logs tell these bytes

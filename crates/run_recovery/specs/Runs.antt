@@ -15,7 +15,7 @@ use Rattle.protocol.specs.Fixed.{Text, Fixed}
 use Rattle.protocol.specs.Runs.{IsQuiet, reached}
 use Rattle.protocol_schedule.specs.Draw.{IsFrontOfSeed}
 use Rattle.record_log.specs.Growth.{GrewBy}
-use Rattle.run_opening.specs.Opens.{HasRoom, first_groups, records_at}
+use Rattle.run_opening.specs.Opens.{HasRoomToBegin, first_groups, records_at}
 use Rattle.run_opening.specs.Starts.{IsStart}
 use Rattle.run_outputs.specs.Groups.{groups_of, group_behind}
 use Rattle.run_recovery.specs.Schedules.{Schedule, seeded, free, IsTakenBy}
@@ -90,7 +90,7 @@ pub record AreRunDevices (w : Work) (o : Opening) (es : List machine.Event) (fai
 
 -- A run of the work began with the opening and took these events, by the schedule.
 pub record HasRun (w : Work) (schedule : Schedule) (o : Opening) (es : List machine.Event) (failed : ℕ → Bool) (before after : List Device) : Type 0 where
-  pub room : HasRoom o
+  pub room : HasRoomToBegin o
   pub front : IsTakenBy (machine_of w o) schedule es
   pub devices : AreRunDevices w o es failed before after
 

@@ -4,7 +4,7 @@ use Rattle.gate_log.specs.State.{LogState}
 use Rattle.log_opening.specs.Devices.{Device, as_device}
 use Rattle.log_opening.specs.declared.refusals.LogsNo.{LogsNo}
 use Rattle.log_opening.specs.declared.refusals.LogsNo.TheVariants as ending
-use Rattle.run_opening.specs.Opens.{AreSafe, HasRoom, IsNoRun, MayOpen, OpensRun}
+use Rattle.run_opening.specs.Opens.{AreSafe, HasRoomToBegin, IsNoRun, MayOpen, OpensRun}
 use Rattle.run_recovery.specs.Runs.{meant}
 use Rattle.run_recovery.specs.Schedules.{Schedule}
 use Rattle.run_work.proofs.Hosting.{made_as}
@@ -19,7 +19,7 @@ use Rattle.snap_work.specs.Works.{Work}
 use Rattle.txn_records.specs.declared.records.Record.{Record}
 
 pub hosted_on : (p : Printing) (w : Work) (schedule : Schedule) (o : Opening) (before after others : List Device) (old new : List LogState) (replies : Writing) (h : Hosted)
-    → (states : List State) (records : List (List Record)) (added : List Record) → states ≡ w.states → OpensRun before old states o records added → length records ≡ w.logs → HasRoom o
+    → (states : List State) (records : List (List Record)) (added : List Record) → states ≡ w.states → OpensRun before old states o records added → length records ≡ w.logs → HasRoomToBegin o
     → after ≡ map as_device new ++ others → others ≡ drop w.logs before → IsHostedOn p w schedule o old new replies h → IsHosted p w schedule before after replies h
 hosted_on p w schedule o before after others old new replies h states records added texts opens as_many room same rest is =
     let es = meant h.kept.items in

@@ -5,7 +5,7 @@ use Rattle.gate_log.specs.State.{LogState, log_at}
 use Rattle.log_opening.specs.Devices.{Device, HoldNoOld, as_device, device_at}
 use Rattle.protocol.specs.Events as machine
 use Rattle.record_log.specs.Growth.{GrewBy}
-use Rattle.run_opening.specs.Opens.{HasRoom, OpensRun, IsRunLog, first_groups, records_at}
+use Rattle.run_opening.specs.Opens.{HasRoomToBegin, OpensRun, IsRunLog, first_groups, records_at}
 use Rattle.run_opening.specs.Starts.{IsStart}
 use Rattle.run_outputs.specs.Groups.{groups_of, group_behind}
 use Rattle.run_recovery.specs.Runs.{IsRunDevice, HasRun, tried_on, machine_of}
@@ -62,7 +62,7 @@ run_device b a old new end records first groups tried is driven same = record {
 module _
     (w : Work) (schedule : Schedule) (o : Opening) (es : List machine.Event) (failed : ℕ → Bool) (before after others : List Device) (old new : List LogState)
     (states : List State) (records : List (List Record)) (added : List Record)
-    (texts : states ≡ w.states) (opens : OpensRun before old states o records added) (as_many : length records ≡ w.logs) (room : HasRoom o)
+    (texts : states ≡ w.states) (opens : OpensRun before old states o records added) (as_many : length records ≡ w.logs) (room : HasRoomToBegin o)
     (driven : HasDriven w schedule o es old new failed) (same : after ≡ map as_device new ++ others) (rest : others ≡ drop w.logs before)
   where
     old_many : length old ≡ w.logs

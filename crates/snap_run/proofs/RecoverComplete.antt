@@ -23,7 +23,7 @@ use Rattle.snap_report.specs.declared.statuses.Status.TheVariants as status
 use Rattle.log_opening.specs.Devices.{Device, device_at}
 use Rattle.log_opening.specs.Found.{IsRecoveryCause}
 use Rattle.log_opening.specs.Kept.{logs_said, Holds, AreGiven, IsAsked, AreRefused}
-use Rattle.run_opening.specs.Opens.{Tells}
+use Rattle.run_opening.specs.Opens.{TellsRecords}
 use Rattle.run_recovery.specs.Recoverable.{AreRecoverable}
 use Rattle.snap_run.specs.Uses.{Use}
 use Rattle.snap_run.specs.Answers.{IsAnswer}
@@ -58,17 +58,17 @@ recovers_not_refused never logs o log (cause.Differs what kept text) on x = x
 
 -- ---- what the devices hold
 
-told_at : (n : ℕ) (before : List Device) (logs : List (List Record)) (log : ℕ) → AllZip Tells (take n before) logs → log < length logs → Tells (device_at before log) (get_or logs log [])
+told_at : (n : ℕ) (before : List Device) (logs : List (List Record)) (log : ℕ) → AllZip TellsRecords (take n before) logs → log < length logs → TellsRecords (device_at before log) (get_or logs log [])
 told_at n before [] log all lt = absurd (omega (arith, lt))
 told_at zero before (l ∷ ls) log all lt = absurd all
 told_at (suc n) [] (l ∷ ls) log all lt = absurd all
 told_at (suc n) (b ∷ bs) (l ∷ ls) zero all lt = all.0
 told_at (suc n) (b ∷ bs) (l ∷ ls) (suc log) all lt = told_at n bs ls log all.1 (omega (arith, lt))
 
-same_records : OneListOfRecords → (d : Device) (rs xs : List Record) → Tells d rs → Holds d xs → xs ≡ rs
+same_records : OneListOfRecords → (d : Device) (rs xs : List Record) → TellsRecords d rs → Holds d xs → xs ≡ rs
 same_records one d rs xs tells holds = one (content tells.0) xs rs (subst (λ o. IfSome o (λ h. HoldsRecords (content h) xs)) tells.1 holds) tells.2
 
-same_logs : OneListOfRecords → (ds : List Device) (xs logs : List (List Record)) → AllZip Holds ds xs → AllZip Tells ds logs → xs ≡ logs
+same_logs : OneListOfRecords → (ds : List Device) (xs logs : List (List Record)) → AllZip Holds ds xs → AllZip TellsRecords ds logs → xs ≡ logs
 same_logs one [] [] [] holds tells = refl
 same_logs one [] (x ∷ xs) logs holds tells = absurd holds
 same_logs one [] [] (l ∷ logs) holds tells = absurd tells

@@ -1,7 +1,7 @@
 use Rattle.std.proofs.Common.{List, sym, subst, arith}
 use Rattle.gate_log.specs.State.{LogState}
 use Rattle.log_opening.specs.Devices.{Device, devices_of, devices_now}
-use Rattle.run_opening.specs.Writes.{HasBegun, HasNotBegun}
+use Rattle.run_opening.specs.Writes.{HasOpenedRun, HasOpenedNoRun}
 use Rattle.run_opening.proofs.RunOpening.{nothing_done, devices_long, rest_behind}
 use Rattle.run_opening.proofs.Completing as completing
 use Rattle.run_opening.proofs.opens.open_run.Goals as goal
@@ -33,8 +33,8 @@ returns-in-Ok-begin_on-clause-opens g c =
     let faults = g.D.LogDev.faults in
     let logs = c.begin_on.new.opened.logs.items in
     let after : List Device = devices_now told faults logs c.begin_on.new.devices.items in
-    let begun : HasBegun c.args.count c.args.states.now (devices_of told faults c.args.devices.now.items) after logs c.in-Ok-begin_on.opening =
-    subst (λ (l : List LogState). HasBegun c.args.count c.args.states.now (devices_now told faults l c.args.devices.now.items) after logs c.in-Ok-begin_on.opening)
+    let begun : HasOpenedRun c.args.count c.args.states.now (devices_of told faults c.args.devices.now.items) after logs c.in-Ok-begin_on.opening =
+    subst (λ (l : List LogState). HasOpenedRun c.args.count c.args.states.now (devices_now told faults l c.args.devices.now.items) after logs c.in-Ok-begin_on.opening)
     c.in-Ok.ensures.logs c.in-Ok-begin_on.ensures.begun in
     begun.opens
 
@@ -44,8 +44,8 @@ returns-in-Ok-begin_on-clause-room g c =
     let faults = g.D.LogDev.faults in
     let logs = c.begin_on.new.opened.logs.items in
     let after : List Device = devices_now told faults logs c.begin_on.new.devices.items in
-    let begun : HasBegun c.args.count c.args.states.now (devices_of told faults c.args.devices.now.items) after logs c.in-Ok-begin_on.opening =
-    subst (λ (l : List LogState). HasBegun c.args.count c.args.states.now (devices_now told faults l c.args.devices.now.items) after logs c.in-Ok-begin_on.opening)
+    let begun : HasOpenedRun c.args.count c.args.states.now (devices_of told faults c.args.devices.now.items) after logs c.in-Ok-begin_on.opening =
+    subst (λ (l : List LogState). HasOpenedRun c.args.count c.args.states.now (devices_now told faults l c.args.devices.now.items) after logs c.in-Ok-begin_on.opening)
     c.in-Ok.ensures.logs c.in-Ok-begin_on.ensures.begun in
     begun.room
 
@@ -55,8 +55,8 @@ returns-in-Ok-begin_on-clause-actors g c =
     let faults = g.D.LogDev.faults in
     let logs = c.begin_on.new.opened.logs.items in
     let after : List Device = devices_now told faults logs c.begin_on.new.devices.items in
-    let begun : HasBegun c.args.count c.args.states.now (devices_of told faults c.args.devices.now.items) after logs c.in-Ok-begin_on.opening =
-    subst (λ (l : List LogState). HasBegun c.args.count c.args.states.now (devices_now told faults l c.args.devices.now.items) after logs c.in-Ok-begin_on.opening)
+    let begun : HasOpenedRun c.args.count c.args.states.now (devices_of told faults c.args.devices.now.items) after logs c.in-Ok-begin_on.opening =
+    subst (λ (l : List LogState). HasOpenedRun c.args.count c.args.states.now (devices_now told faults l c.args.devices.now.items) after logs c.in-Ok-begin_on.opening)
     c.in-Ok.ensures.logs c.in-Ok-begin_on.ensures.begun in
     begun.actors
 
@@ -66,8 +66,8 @@ returns-in-Ok-begin_on-clause-kept g c =
     let faults = g.D.LogDev.faults in
     let logs = c.begin_on.new.opened.logs.items in
     let after : List Device = devices_now told faults logs c.begin_on.new.devices.items in
-    let begun : HasBegun c.args.count c.args.states.now (devices_of told faults c.args.devices.now.items) after logs c.in-Ok-begin_on.opening =
-    subst (λ (l : List LogState). HasBegun c.args.count c.args.states.now (devices_now told faults l c.args.devices.now.items) after logs c.in-Ok-begin_on.opening)
+    let begun : HasOpenedRun c.args.count c.args.states.now (devices_of told faults c.args.devices.now.items) after logs c.in-Ok-begin_on.opening =
+    subst (λ (l : List LogState). HasOpenedRun c.args.count c.args.states.now (devices_now told faults l c.args.devices.now.items) after logs c.in-Ok-begin_on.opening)
     c.in-Ok.ensures.logs c.in-Ok-begin_on.ensures.begun in
     begun.kept
 
@@ -77,8 +77,8 @@ returns-in-Ok-begin_on-clause-ends g c =
     let faults = g.D.LogDev.faults in
     let logs = c.begin_on.new.opened.logs.items in
     let after : List Device = devices_now told faults logs c.begin_on.new.devices.items in
-    let begun : HasBegun c.args.count c.args.states.now (devices_of told faults c.args.devices.now.items) after logs c.in-Ok-begin_on.opening =
-    subst (λ (l : List LogState). HasBegun c.args.count c.args.states.now (devices_now told faults l c.args.devices.now.items) after logs c.in-Ok-begin_on.opening)
+    let begun : HasOpenedRun c.args.count c.args.states.now (devices_of told faults c.args.devices.now.items) after logs c.in-Ok-begin_on.opening =
+    subst (λ (l : List LogState). HasOpenedRun c.args.count c.args.states.now (devices_now told faults l c.args.devices.now.items) after logs c.in-Ok-begin_on.opening)
     c.in-Ok.ensures.logs c.in-Ok-begin_on.ensures.begun in
     begun.ends
 
@@ -88,8 +88,8 @@ returns-in-Ok-begin_on-clause-safe g c =
     let faults = g.D.LogDev.faults in
     let logs = c.begin_on.new.opened.logs.items in
     let after : List Device = devices_now told faults logs c.begin_on.new.devices.items in
-    let begun : HasBegun c.args.count c.args.states.now (devices_of told faults c.args.devices.now.items) after logs c.in-Ok-begin_on.opening =
-    subst (λ (l : List LogState). HasBegun c.args.count c.args.states.now (devices_now told faults l c.args.devices.now.items) after logs c.in-Ok-begin_on.opening)
+    let begun : HasOpenedRun c.args.count c.args.states.now (devices_of told faults c.args.devices.now.items) after logs c.in-Ok-begin_on.opening =
+    subst (λ (l : List LogState). HasOpenedRun c.args.count c.args.states.now (devices_now told faults l c.args.devices.now.items) after logs c.in-Ok-begin_on.opening)
     c.in-Ok.ensures.logs c.in-Ok-begin_on.ensures.begun in
     begun.safe
 
@@ -99,8 +99,8 @@ returns-in-Ok-begin_on-clause-later g c =
     let faults = g.D.LogDev.faults in
     let logs = c.begin_on.new.opened.logs.items in
     let after : List Device = devices_now told faults logs c.begin_on.new.devices.items in
-    let begun : HasBegun c.args.count c.args.states.now (devices_of told faults c.args.devices.now.items) after logs c.in-Ok-begin_on.opening =
-    subst (λ (l : List LogState). HasBegun c.args.count c.args.states.now (devices_now told faults l c.args.devices.now.items) after logs c.in-Ok-begin_on.opening)
+    let begun : HasOpenedRun c.args.count c.args.states.now (devices_of told faults c.args.devices.now.items) after logs c.in-Ok-begin_on.opening =
+    subst (λ (l : List LogState). HasOpenedRun c.args.count c.args.states.now (devices_now told faults l c.args.devices.now.items) after logs c.in-Ok-begin_on.opening)
     c.in-Ok.ensures.logs c.in-Ok-begin_on.ensures.begun in
     begun.later
 
@@ -110,9 +110,9 @@ returns-in-Err-clause-refused g c =
     let faults = g.D.LogDev.faults in
     let before : List Device = devices_of told faults c.args.devices.now.items in
     let after : List Device = devices_now told faults c.begin_on.new.opened.logs.items c.begin_on.new.devices.items in
-    let ended : HasNotBegun c.args.count c.args.states.now before (devices_of told faults c.close.new.devices.items) c.in-Err.no =
-    subst (λ (l : List Device). HasNotBegun c.args.count c.args.states.now before l c.in-Err.no) (sym c.close.ensures.devices)
-    (subst (λ (l : List LogState). HasNotBegun c.args.count c.args.states.now (devices_now told faults l c.args.devices.now.items) after c.in-Err.no)
+    let ended : HasOpenedNoRun c.args.count c.args.states.now before (devices_of told faults c.close.new.devices.items) c.in-Err.no =
+    subst (λ (l : List Device). HasOpenedNoRun c.args.count c.args.states.now before l c.in-Err.no) (sym c.close.ensures.devices)
+    (subst (λ (l : List LogState). HasOpenedNoRun c.args.count c.args.states.now (devices_now told faults l c.args.devices.now.items) after c.in-Err.no)
     c.in-Ok.ensures.logs c.in-Err.ensures.begun) in
     ended.why
 
@@ -122,9 +122,9 @@ returns-in-Err-clause-safe g c =
     let faults = g.D.LogDev.faults in
     let before : List Device = devices_of told faults c.args.devices.now.items in
     let after : List Device = devices_now told faults c.begin_on.new.opened.logs.items c.begin_on.new.devices.items in
-    let ended : HasNotBegun c.args.count c.args.states.now before (devices_of told faults c.close.new.devices.items) c.in-Err.no =
-    subst (λ (l : List Device). HasNotBegun c.args.count c.args.states.now before l c.in-Err.no) (sym c.close.ensures.devices)
-    (subst (λ (l : List LogState). HasNotBegun c.args.count c.args.states.now (devices_now told faults l c.args.devices.now.items) after c.in-Err.no)
+    let ended : HasOpenedNoRun c.args.count c.args.states.now before (devices_of told faults c.close.new.devices.items) c.in-Err.no =
+    subst (λ (l : List Device). HasOpenedNoRun c.args.count c.args.states.now before l c.in-Err.no) (sym c.close.ensures.devices)
+    (subst (λ (l : List LogState). HasOpenedNoRun c.args.count c.args.states.now (devices_now told faults l c.args.devices.now.items) after c.in-Err.no)
     c.in-Ok.ensures.logs c.in-Err.ensures.begun) in
     ended.safe
 
@@ -134,9 +134,9 @@ returns-in-Err-clause-later g c =
     let faults = g.D.LogDev.faults in
     let before : List Device = devices_of told faults c.args.devices.now.items in
     let after : List Device = devices_now told faults c.begin_on.new.opened.logs.items c.begin_on.new.devices.items in
-    let ended : HasNotBegun c.args.count c.args.states.now before (devices_of told faults c.close.new.devices.items) c.in-Err.no =
-    subst (λ (l : List Device). HasNotBegun c.args.count c.args.states.now before l c.in-Err.no) (sym c.close.ensures.devices)
-    (subst (λ (l : List LogState). HasNotBegun c.args.count c.args.states.now (devices_now told faults l c.args.devices.now.items) after c.in-Err.no)
+    let ended : HasOpenedNoRun c.args.count c.args.states.now before (devices_of told faults c.close.new.devices.items) c.in-Err.no =
+    subst (λ (l : List Device). HasOpenedNoRun c.args.count c.args.states.now before l c.in-Err.no) (sym c.close.ensures.devices)
+    (subst (λ (l : List LogState). HasOpenedNoRun c.args.count c.args.states.now (devices_now told faults l c.args.devices.now.items) after c.in-Err.no)
     c.in-Ok.ensures.logs c.in-Err.ensures.begun) in
     ended.later
 
@@ -146,9 +146,9 @@ returns-in-Err-clause-complete g c =
     let faults = g.D.LogDev.faults in
     let before : List Device = devices_of told faults c.args.devices.now.items in
     let after : List Device = devices_now told faults c.begin_on.new.opened.logs.items c.begin_on.new.devices.items in
-    let ended : HasNotBegun c.args.count c.args.states.now before (devices_of told faults c.close.new.devices.items) c.in-Err.no =
-    subst (λ (l : List Device). HasNotBegun c.args.count c.args.states.now before l c.in-Err.no) (sym c.close.ensures.devices)
-    (subst (λ (l : List LogState). HasNotBegun c.args.count c.args.states.now (devices_now told faults l c.args.devices.now.items) after c.in-Err.no)
+    let ended : HasOpenedNoRun c.args.count c.args.states.now before (devices_of told faults c.close.new.devices.items) c.in-Err.no =
+    subst (λ (l : List Device). HasOpenedNoRun c.args.count c.args.states.now before l c.in-Err.no) (sym c.close.ensures.devices)
+    (subst (λ (l : List LogState). HasOpenedNoRun c.args.count c.args.states.now (devices_now told faults l c.args.devices.now.items) after c.in-Err.no)
     c.in-Ok.ensures.logs c.in-Err.ensures.begun) in
     let laws : completing.Laws = record {
       one_list = c.one_list_of_records.ensures;
