@@ -18,7 +18,7 @@ use Rattle.protocol.specs.Moments.{IsUnderWay, Moment, NoneTouches}
 use Rattle.protocol.specs.Parts.{Machine}
 use Rattle.protocol.specs.Runs.{IsRun, reached}
 use Rattle.protocol.specs.Words.{holds, is_among}
-use Rattle.record_log.specs.Growth.{GrewBy, IsBegun, begun_groups, end_behind_groups}
+use Rattle.record_log.specs.Growth.{GrewBy, IsNextBegun, begun_groups, end_behind_groups}
 use Rattle.run_outputs.specs.Groups.{group_behind, group_by, groups_of, waiting}
 use Rattle.protocol.specs.Effects.{log_at}
 use Rattle.snap_outside.specs.Disk.{History, content, with_ops}
@@ -357,10 +357,10 @@ module _ (w : Fixed Rest) (crew : Crew w) where
           begun_groups_on first (groups_of w l (kept all)) (tried l) ∙ (ap (λ gs. first ++ gs) gets.splits ∙ sym (append_assoc first (groups_of w l (kept acts)) gets.later))
 
       next_begun : (told : Option History) (b : Bool) (gets : Gets l b) (h : History) (gate : ℕ) (first : List (List Record)) (tells : Tells h gate first (groups_of w l (kept acts)) (group_behind w l (kept acts)) b told)
-          → IsBegun (end_behind_groups gate (first ++ groups_of w l (kept acts))) gets.later tells.begun
-      next_begun told true gets h gate first tells = subst (λ gs. IsBegun (end_behind_groups gate (first ++ groups_of w l (kept acts))) gs tells.begun) (sym (gets.is refl).1) (tells.left, tells.front)
+          → IsNextBegun (end_behind_groups gate (first ++ groups_of w l (kept acts))) gets.later tells.begun
+      next_begun told true gets h gate first tells = subst (λ gs. IsNextBegun (end_behind_groups gate (first ++ groups_of w l (kept acts))) gs tells.begun) (sym (gets.is refl).1) (tells.left, tells.front)
       next_begun told false gets h gate first tells =
-          subst (IsBegun (end_behind_groups gate (first ++ groups_of w l (kept acts))) gets.later) (sym (tells.waits refl)) (none_begun (end_behind_groups gate (first ++ groups_of w l (kept acts))) gets.later)
+          subst (IsNextBegun (end_behind_groups gate (first ++ groups_of w l (kept acts))) gets.later) (sym (tells.waits refl)) (none_begun (end_behind_groups gate (first ++ groups_of w l (kept acts))) gets.later)
 
       -- so it stands at a moment at which this is said of the log
       stands : (told : Option History) (b : Bool) → Gets l b → (has_begun : ℕ → Bool) (under : (k : ℕ) → has_begun k ≡ true → IsUnderWay w.text.logs k (kept coming)) → has_begun l ≡ b

@@ -5,7 +5,7 @@ use Rattle.crew_parts.specs.Devices.{GrowsThrough}
 use Rattle.gate_log.specs.Appends.{append_ops}
 use Rattle.gate_log.specs.Opened.{beginning_ops}
 use Rattle.record_log.proofs.Growing.{ops_more}
-use Rattle.record_log.specs.Growth.{GrewBy, IsBegun, begun_groups, end_behind_groups, groups_ops}
+use Rattle.record_log.specs.Growth.{GrewBy, IsNextBegun, begun_groups, end_behind_groups, groups_ops}
 use Rattle.record_log.specs.Records.{spelled}
 use Rattle.snap_outside.specs.Disk.{History, AddsAll, content, with_ops}
 use Rattle.snap_outside.specs.declared.devices.DevOp.{DevOp}
@@ -31,7 +31,7 @@ between h xs ys told through =
     let same : h.ops ++ ys ≡ h.ops ++ ((xs ++ made) ++ left) = ap (λ (g : History). g.ops) (same_some (with_ops h ys) (with_ops (with_ops h (xs ++ made)) left) behind) ∙ append_assoc h.ops (xs ++ made) left in
     (made, left, is, append_cancel_left h.ops ys ((xs ++ made) ++ left) same)
 
-pub none_begun : (end : ℕ) (later : List (List Record)) → IsBegun end later []
+pub none_begun : (end : ℕ) (later : List (List Record)) → IsNextBegun end later []
 none_begun end [] = refl
 none_begun end (group ∷ groups) = (append_ops end (spelled group), refl)
 

@@ -7,7 +7,7 @@ use Rattle.gate_log.specs.Bytes.{header, item_bytes, items_bytes, group_bytes, b
 use Rattle.txn_records.specs.declared.records.Record.{Record}
 use Rattle.record_log.specs.declared.items.ItemsNo.{ItemsNo}
 use Rattle.record_log.specs.declared.items.ItemsNo.TheVariants.{BadRecord, Memory}
-use Rattle.record_log.specs.Reading.{IsNear, IsNoItem}
+use Rattle.record_log.specs.Reading.{IsNearItem, IsNoItem}
 use Rattle.record_log.specs.Records.{IsItemOf, AreItemsOf, AreNoRecords}
 
 -- ---- where the items of a log lie
@@ -21,32 +21,32 @@ all_at P [] i d are lt = absurd (omega (arith, lt))
 all_at P (x ∷ xs) zero d are lt = are.0
 all_at P (x ∷ xs) (suc i) d are lt = all_at P xs i d are.1 (omega (arith, lt))
 
-items_near : (place : ℕ) (items : List (List ℕ)) → AllByRecursion IsItem items → place + length (items_bytes items) ≤ 2 ^ 63 → AllByRecursion IsNear (placed_items place items)
+items_near : (place : ℕ) (items : List (List ℕ)) → AllByRecursion IsItem items → place + length (items_bytes items) ≤ 2 ^ 63 → AllByRecursion IsNearItem (placed_items place items)
 items_near place [] are low = tt
 items_near place (item ∷ items) are low =
     let size = length-append (item_bytes item) (items_bytes items) in
     let first : length (item_bytes item) ≡ 2 + length item = omega arith in
     (record { short = are.0.short; low = omega (arith, low, size, first) }, items_near (place + 2 + length item) items are.1 (omega (arith, low, size, first)))
 
-groups_near : (place : ℕ) (groups : List (List (List ℕ))) → AllByRecursion IsGroup groups → place + length (blocks groups) ≤ 2 ^ 63 → AllByRecursion IsNear (placed place groups)
+groups_near : (place : ℕ) (groups : List (List (List ℕ))) → AllByRecursion IsGroup groups → place + length (blocks groups) ≤ 2 ^ 63 → AllByRecursion IsNearItem (placed place groups)
 groups_near place [] are low = tt
 groups_near place (group ∷ groups) are low =
     let size = length-append (1 ∷ group_bytes group) (blocks groups) in
     let first : length (1 ∷ group_bytes group) ≡ 5 + length (items_bytes group) = omega arith in
-    all_append IsNear (placed_items (place + 5) group) (placed (place + 5 + length (items_bytes group)) groups)
+    all_append IsNearItem (placed_items (place + 5) group) (placed (place + 5 + length (items_bytes group)) groups)
     (items_near (place + 5) group are.0.items (omega (arith, low, size, first)))
     (groups_near (place + 5 + length (items_bytes group)) groups are.1 (omega (arith, low, size, first)))
 
-log_near : (bytes : List ℕ) (end : ℕ) (items : List LogItem) → IsPlacedLogAt bytes end items → end ≤ 2 ^ 63 → AllByRecursion IsNear items
+log_near : (bytes : List ℕ) (end : ℕ) (items : List LogItem) → IsPlacedLogAt bytes end items → end ≤ 2 ^ 63 → AllByRecursion IsNearItem items
 log_near bytes end items log low =
     let p = log.parts in
     let size : end ≡ 8 + length (blocks p.0) = p.6 ∙ length-append (header log.mark) (blocks p.0) in
-    subst (λ (found : List LogItem). AllByRecursion IsNear found) (sym p.7) (groups_near 8 p.0 p.3 (omega (arith, size, low)))
+    subst (λ (found : List LogItem). AllByRecursion IsNearItem found) (sym p.7) (groups_near 8 p.0 p.3 (omega (arith, size, low)))
 
 pub near_at : (bytes : List ℕ) (end : ℕ) (items : List LogItem) (i : ℕ) (item : LogItem) → IsPlacedLogAt bytes end items → end ≤ 2 ^ 63
-    → i < length items → item ≡ get_or items i item → IsNear item
+    → i < length items → item ≡ get_or items i item → IsNearItem item
 near_at bytes end items i item log low within is =
-    subst (λ (x : LogItem). IsNear x) (sym is) (all_at IsNear items i item (log_near bytes end items log low) within)
+    subst (λ (x : LogItem). IsNearItem x) (sym is) (all_at IsNearItem items i item (log_near bytes end items log low) within)
 
 -- ---- the records so far
 

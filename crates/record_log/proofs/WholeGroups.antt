@@ -10,7 +10,7 @@ use Rattle.gate_log.specs.Device.{DeviceLog}
 use Rattle.gate_log.specs.LogLaws.{OneList, LogAtIsLog, PlacedIsLogAt, AppendGives, AppendKeeps, BeginningGives, BeginningKeeps}
 use Rattle.gate_log.specs.Opened.{bytes_of, beginning_ops, Opened}
 use Rattle.txn_records.specs.declared.records.Record.{Record}
-use Rattle.record_log.specs.Growth.{all_records, groups_ops, end_behind_groups, MayAppendGroup, MayAppendGroups, IsGrowth, begun_groups, IsBegun, HoldsWhole, LeavesGroups, Leaves}
+use Rattle.record_log.specs.Growth.{all_records, groups_ops, end_behind_groups, MayAppendGroup, MayAppendGroups, IsGrowth, begun_groups, IsNextBegun, HoldsWhole, LeavesGroups, Leaves}
 use Rattle.record_log.specs.Records.{spelled, HoldsRecords, RecordLog}
 use Rattle.record_log.proofs.Appending.{either_holds}
 use Rattle.record_log.proofs.Growing.{left_out}
@@ -72,7 +72,7 @@ module _ (gives : AppendGives) (keeps : AppendKeeps) (log_at : LogAtIsLog) (imag
       ]
 
   next_leaves : (h : History) (end : ℕ) (rs : List Record) (later : List (List Record)) (begun : List DevOp) → MayAppendGroups end later → RecordLog h end rs
-      → IsBegun end later begun → (image : List ℕ) → IsImage (disk_after begun (disk h)) image → HoldsWhole rs later begun image
+      → IsNextBegun end later begun → (image : List ℕ) → IsImage (disk_after begun (disk h)) image → HoldsWhole rs later begun image
   next_leaves h end rs [] begun may log next image is =
       inl (quiet_holds h end rs log image (subst (λ (made : List DevOp). IsImage (disk_after made (disk h)) image) next is))
   next_leaves h end rs (group ∷ groups) begun may log next image is = under_way h end rs group begun next.0 may.0 log next.1 image is
@@ -132,7 +132,7 @@ module _ (gives : AppendGives) (keeps : AppendKeeps) (log_at : LogAtIsLog) (imag
 
   -- at a moment that is named by what is whole and what is begun
   whole_leave : (h : History) (end : ℕ) (rs : List Record) (whole later : List (List Record)) (begun : List DevOp) → MayAppendGroups end (whole ++ later) → RecordLog h end rs
-      → IsBegun (end_behind_groups end whole) later begun → (image : List ℕ) → IsImage (disk_after (groups_ops end whole ++ begun) (disk h)) image
+      → IsNextBegun (end_behind_groups end whole) later begun → (image : List ℕ) → IsImage (disk_after (groups_ops end whole ++ begun) (disk h)) image
       → HoldsWhole (rs ++ all_records whole) later begun image
   whole_leave h end rs whole later begun may log next image is =
       let appends = groups_ops end whole in
@@ -162,7 +162,7 @@ module _ (gives : AppendGives) (keeps : AppendKeeps) (log_at : LogAtIsLog) (imag
         (groups_give (with_ops h beginning) end rs groups growth.may (opened_gives h opened end found rs is held))
 
     pub moment_keeps : (h : History) (opened : Option History) (end : ℕ) (found : List LogItem) (rs : List Record) (whole later : List (List Record)) (begun : List DevOp)
-        → Opened (Some h) opened end found → HoldsRecords (content h) rs → MayAppendGroups end (whole ++ later) → IsBegun (end_behind_groups end whole) later begun
+        → Opened (Some h) opened end found → HoldsRecords (content h) rs → MayAppendGroups end (whole ++ later) → IsNextBegun (end_behind_groups end whole) later begun
         → (image : List ℕ) → IsImage (disk_after (beginning_ops (content h) ++ (groups_ops end whole ++ begun)) (disk h)) image
         → HoldsWhole (rs ++ all_records whole) later begun image
     moment_keeps h opened end found rs whole later begun opens held may next image is =

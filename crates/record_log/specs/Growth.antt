@@ -67,14 +67,14 @@ begun_groups groups (Some group) = groups ++ group ∷ []
 -- ---- what a crash leaves
 
 -- these operations are a front of the next group's append, and not all of it
-abbrev pub IsNext : ℕ → List (List Record) → List DevOp → Type 0
-IsNext end [] begun = begun ≡ []
-IsNext end (group ∷ groups) begun = IsCutShort begun (append_ops end (spelled group))
+abbrev pub IsNextCutShort : ℕ → List (List Record) → List DevOp → Type 0
+IsNextCutShort end [] begun = begun ≡ []
+IsNextCutShort end (group ∷ groups) begun = IsCutShort begun (append_ops end (spelled group))
 
 -- these operations are a front of the next group's append, or all of it
-abbrev pub IsBegun : ℕ → List (List Record) → List DevOp → Type 0
-IsBegun end [] begun = begun ≡ []
-IsBegun end (group ∷ groups) begun = (left : List DevOp) × (append_ops end (spelled group) ≡ begun ++ left)
+abbrev pub IsNextBegun : ℕ → List (List Record) → List DevOp → Type 0
+IsNextBegun end [] begun = begun ≡ []
+IsNextBegun end (group ∷ groups) begun = (left : List DevOp) × (append_ops end (spelled group) ≡ begun ++ left)
 
 -- the records, and those of the first of the groups
 abbrev pub HoldsOneMore : List ℕ → List Record → List (List Record) → Type 0
@@ -93,7 +93,7 @@ pub record LeavesGroups (end : ℕ) (rs : List Record) (groups : List (List Reco
   pub begun : List DevOp
   pub splits : groups ≡ whole ++ later
   pub so_far : made ≡ groups_ops end whole ++ begun
-  pub next : IsNext (end_behind_groups end whole) later begun
+  pub next : IsNextCutShort (end_behind_groups end whole) later begun
   pub holds : HoldsWhole (rs ++ all_records whole) later begun image
 
 -- Once these operations are made, from the first one of opening on, a crash leaves this: the earlier records, until the log

@@ -7,7 +7,7 @@ use Rattle.gate_log.specs.declared.logs.LogItem.{LogItem}
 use Rattle.gate_log.specs.Appends.{append_ops, end_behind}
 use Rattle.gate_log.specs.Opened.{beginning_ops, Opened}
 use Rattle.txn_records.specs.declared.records.Record.{Record}
-use Rattle.record_log.specs.Growth.{all_records, groups_ops, end_behind_groups, MayAppendGroup, MayAppendGroups, IsGrowth, GrewBy, upgrading_of, begun_groups, IsBegun, HoldsWhole, Leaves}
+use Rattle.record_log.specs.Growth.{all_records, groups_ops, end_behind_groups, MayAppendGroup, MayAppendGroups, IsGrowth, GrewBy, upgrading_of, begun_groups, IsNextBegun, HoldsWhole, Leaves}
 use Rattle.record_log.specs.Records.{spelled, HoldsRecords, RecordLog}
 
 -- ---- how a history comes to have grown so
@@ -50,7 +50,7 @@ GrowthGives =
 abbrev pub MomentKeeps : Type 0
 MomentKeeps =
     (h : History) (opened : Option History) (end : ℕ) (found : List LogItem) (rs : List Record) (whole later : List (List Record)) (begun : List DevOp)
-    → Opened (Some h) opened end found → HoldsRecords (content h) rs → MayAppendGroups end (whole ++ later) → IsBegun (end_behind_groups end whole) later begun
+    → Opened (Some h) opened end found → HoldsRecords (content h) rs → MayAppendGroups end (whole ++ later) → IsNextBegun (end_behind_groups end whole) later begun
     → (image : List ℕ) → IsImage (disk_after (beginning_ops (content h) ++ (groups_ops end whole ++ begun)) (disk h)) image
     → HoldsWhole (rs ++ all_records whole) later begun image
 

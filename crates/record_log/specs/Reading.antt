@@ -7,7 +7,7 @@ use Rattle.record_log.specs.declared.items.ItemsNo.{ItemsNo}
 use Rattle.record_log.specs.declared.items.ItemsNo.TheVariants.{BadRecord, Memory}
 
 -- an item whose bytes, and the end behind them, lie in a file that offsets can name
-pub record IsNear (item : LogItem) : Type 0 where
+pub record IsNearItem (item : LogItem) : Type 0 where
   pub short : length item.bytes ≤ LONGEST_ITEM
   pub low : item.at + length item.bytes ≤ FARTHEST_END
 

@@ -1,7 +1,7 @@
 //! The records that the items of a log are, or the first byte at which none goes on.
 ghost use Rattle.std.specs.Prelude.{ℕ, ◌≤◌, List, IfOk, IfErr, MatchResult};
 ghost use Rattle.gate_log.specs.Bytes.{IsPlacedLogAt};
-ghost use Rattle.record_log.specs.Reading.{IsNear, IsNoItem};
+ghost use Rattle.record_log.specs.Reading.{IsNearItem, IsNoItem};
 ghost use Rattle.record_log.specs.Records.{IsItemOf, AreItemsOf, AreNoRecords};
 
 use gate_log::{FARTHEST_END, LogItem};
@@ -49,7 +49,7 @@ pub fn records_of(alloc: Global, items: &[LogItem]) -> Result<Sequence<Record>, 
 
 /// The record that an item is.
 fn record_of(alloc: Global, item: &LogItem) -> Result<Record, ItemsNo>
-    requires { IsNear item.now }
+    requires { IsNearItem item.now }
     ensures { MatchResult result (IsItemOf item.now) (IsNoItem item.now) }
 {
     match decode(alloc, item.bytes.as_slice()) {

@@ -4,7 +4,7 @@ use Rattle.gate_log.specs.Opened.{beginning_ops}
 use Rattle.protocol.specs.Events.{Event}
 use Rattle.protocol.specs.Fixed.{Fixed}
 use Rattle.protocol.specs.Moments.{Moment}
-use Rattle.record_log.specs.Growth.{end_behind_groups, groups_ops, IsBegun}
+use Rattle.record_log.specs.Growth.{end_behind_groups, groups_ops, IsNextBegun}
 use Rattle.run_outputs.specs.Groups.{groups_of}
 use Rattle.snap_outside.specs.declared.devices.DevOp.{DevOp}
 use Rattle.txn_records.specs.declared.records.Record.{Record}
@@ -18,5 +18,5 @@ pub record IsMade {C : Type 0} {w : Fixed C} {es : List Event} (m : Moment w es)
   pub begun : List DevOp
   pub splits : all ≡ (first ++ groups_of w l m.events) ++ later
   pub so_far : made ≡ beginning_ops bytes ++ (groups_ops end (first ++ groups_of w l m.events) ++ begun)
-  pub next : IsBegun (end_behind_groups end (first ++ groups_of w l m.events)) later begun
+  pub next : IsNextBegun (end_behind_groups end (first ++ groups_of w l m.events)) later begun
   pub waits : m.has_begun l ≡ false → begun ≡ []
