@@ -23,7 +23,7 @@ use Rattle.snap_recover.specs.declared.openings.Kept.{Kept}
 use Rattle.snap_recover.specs.declared.openings.Kept.TheVariants as kept
 use Rattle.snap_recover.specs.declared.openings.Opening.{Opening}
 use Rattle.snap_recover.specs.Logs.{all_of, tids_in, bids_in, commits_in}
-use Rattle.snap_recover.specs.Opening.{IsIn, IsInfoOf, HasItsValues, IsActOf, act_record, commit_of, IsKept, ComesBefore, IsCommitted}
+use Rattle.snap_recover.specs.Opening.{IsIn, IsInfoOf, HasItsValues, IsActOf, act_record, commit_of, IsKeptIn, ComesBefore, IsCommitted}
 use Rattle.snap_recover.proofs.Lists.{all_append, all_weaker, all_both, contains_here, contains_there, contains_left, contains_right}
 use Rattle.snap_recover.proofs.Greatest.{each_below}
 use Rattle.protocol_laws.proofs.Lemmas.{found_bid, found_tid}
@@ -150,11 +150,11 @@ valued_grown {C} w earlier o s logs b g h = elim (in_cases w earlier o s logs b 
           fits = as_long y.0.pacts d.at.values r ∙ (ap length y.2 ∙ sym (tids_long x.tids));
         }
 
-new_kept : {C : Type 0} (w : Fixed C) (earlier : List (List Record)) (o : Opening) (s : Machine C) (logs : ℕ → List LogRecord) (bs : List Batch) → Known w earlier o s logs → AllByRecursion (λ b. batch_of b.bid s.desk.batches ≡ Some b) bs → AllByRecursion (IsKept (grown earlier logs)) (recovered_batches w.text.logs logs bs)
+new_kept : {C : Type 0} (w : Fixed C) (earlier : List (List Record)) (o : Opening) (s : Machine C) (logs : ℕ → List LogRecord) (bs : List Batch) → Known w earlier o s logs → AllByRecursion (λ b. batch_of b.bid s.desk.batches ≡ Some b) bs → AllByRecursion (IsKeptIn (grown earlier logs)) (recovered_batches w.text.logs logs bs)
 new_kept w earlier o s logs [] g h = tt
 new_kept {C} w earlier o s logs (b ∷ bs) g h = by (is_in w.text.logs logs (OfBatch b.bid)) refl (new_kept w earlier o s logs bs g h.1)
   where
-    by : (v : Bool) → is_in w.text.logs logs (OfBatch b.bid) ≡ v → AllByRecursion (IsKept (grown earlier logs)) (recovered_batches w.text.logs logs bs) → AllByRecursion (IsKept (grown earlier logs)) (if v then recovered_batch b ∷ recovered_batches w.text.logs logs bs else recovered_batches w.text.logs logs bs)
+    by : (v : Bool) → is_in w.text.logs logs (OfBatch b.bid) ≡ v → AllByRecursion (IsKeptIn (grown earlier logs)) (recovered_batches w.text.logs logs bs) → AllByRecursion (IsKeptIn (grown earlier logs)) (if v then recovered_batch b ∷ recovered_batches w.text.logs logs bs else recovered_batches w.text.logs logs bs)
     by true e r =
         let x = g.whole b.bid e in
         let t = middle (TellsOf s.desk.batches s.book.acts) (machine.BatchInfo b.bid x.actors x.tids) x.front x.rest (subst (AllByRecursion (TellsOf s.desk.batches s.book.acts)) x.info (g.tells (b.bid % w.text.logs))) in
@@ -183,7 +183,7 @@ act_told w earlier o s logs t g e =
     middle (TellsOf s.desk.batches s.book.acts) (machine.ActDone t y.m y.c y.v y.actors) y.front y.rest (subst (AllByRecursion (TellsOf s.desk.batches s.book.acts)) y.commit (g.tells (t % w.text.logs)))
 
 act_kept : {C : Type 0} (w : Fixed C) (earlier : List (List Record)) (o : Opening) (s : Machine C) (logs : ℕ → List LogRecord) (x : Act) → Known w earlier o s logs → act_of x.tid s.book.acts ≡ Some x → base w.text ≤ x.m → is_in w.text.logs logs (OfAct x.tid) ≡ true
-    → IsKept (grown earlier logs) (recovered_act x) × IsNew w.text.opening.next_bid w.text.opening.next_c (recovered_act x)
+    → IsKeptIn (grown earlier logs) (recovered_act x) × IsNew w.text.opening.next_bid w.text.opening.next_c (recovered_act x)
 act_kept w earlier o s logs x g f l e =
     let y = g.whole_acts x.tid e in
     let t = act_told w earlier o s logs x.tid g e in
@@ -218,7 +218,7 @@ commit_of_act w earlier o s logs t m c value actors g (front, behind, e, p, quie
       (all_at (λ r. AllByRecursion (λ x. x < w.text.opening.next_c) (commits_in r)) earlier (t.0 % length earlier) (each_below commits_in (all_of earlier) w.text.opening.next_c (omega (arith, g.before.next_c, g.begins.next_c))))))).0,
 )
 
-old_kept : {C : Type 0} (w : Fixed C) (earlier : List (List Record)) (o : Opening) (s : Machine C) (logs : ℕ → List LogRecord) (ks : List Kept) → Known w earlier o s logs → AllByRecursion (IsKept earlier) ks → AllByRecursion (IsKept (grown earlier logs)) ks × AllByRecursion (IsOld w.text.opening.next_bid w.text.opening.next_c) ks
+old_kept : {C : Type 0} (w : Fixed C) (earlier : List (List Record)) (o : Opening) (s : Machine C) (logs : ℕ → List LogRecord) (ks : List Kept) → Known w earlier o s logs → AllByRecursion (IsKeptIn earlier) ks → AllByRecursion (IsKeptIn (grown earlier logs)) ks × AllByRecursion (IsOld w.text.opening.next_bid w.text.opening.next_c) ks
 old_kept w earlier o s logs [] g h = (tt, tt)
 old_kept w earlier o s logs (kept.Batch b tids vs ∷ ks) g h =
     let r = old_kept w earlier o s logs ks g h.1 in
@@ -258,16 +258,16 @@ known_commit bs xs k (machine.ActPrepare t a st ∷ rs) h e = known_commit bs xs
 known_commit bs xs k (machine.ActDone t m c v actors ∷ rs) h e = known_commit bs xs k rs h.1 e
 
 -- what is in: each is kept, is of this run, and they rise
-pub new_kept_all : {C : Type 0} (w : Fixed C) (earlier : List (List Record)) (o : Opening) (s : Machine C) (logs : ℕ → List LogRecord) → Known w earlier o s logs → AllByRecursion (IsKept (grown earlier logs)) (all_in w.text.logs logs s) × AllByRecursion (IsNew w.text.opening.next_bid w.text.opening.next_c) (all_in w.text.logs logs s) × Rises (all_in w.text.logs logs s)
+pub new_kept_all : {C : Type 0} (w : Fixed C) (earlier : List (List Record)) (o : Opening) (s : Machine C) (logs : ℕ → List LogRecord) → Known w earlier o s logs → AllByRecursion (IsKeptIn (grown earlier logs)) (all_in w.text.logs logs s) × AllByRecursion (IsNew w.text.opening.next_bid w.text.opening.next_c) (all_in w.text.logs logs s) × Rises (all_in w.text.logs logs s)
 new_kept_all {C} w earlier o s logs g = (
-  acts_all (IsKept (grown earlier logs)) w.text.logs logs s.book.acts (recovered_batches w.text.logs logs s.desk.batches) (all_weaker Both (λ x. is_in w.text.logs logs (OfAct x.tid) ≡ true → IsKept (grown earlier logs) (recovered_act x)) s.book.acts (λ x p e. (p e).0) each)
+  acts_all (IsKeptIn (grown earlier logs)) w.text.logs logs s.book.acts (recovered_batches w.text.logs logs s.desk.batches) (all_weaker Both (λ x. is_in w.text.logs logs (OfAct x.tid) ≡ true → IsKeptIn (grown earlier logs) (recovered_act x)) s.book.acts (λ x p e. (p e).0) each)
       (new_kept w earlier o s logs s.desk.batches g (all_weaker (λ b. (w.text.opening.next_bid ≤ b.bid) × (batch_of b.bid s.desk.batches ≡ Some b)) (λ b. batch_of b.bid s.desk.batches ≡ Some b) s.desk.batches (λ b h. h.1) (found_at w.text.opening.next_bid s.desk.batches g.bids))),
   acts_all (IsNew w.text.opening.next_bid w.text.opening.next_c) w.text.logs logs s.book.acts (recovered_batches w.text.logs logs s.desk.batches) (all_weaker Both (λ x. is_in w.text.logs logs (OfAct x.tid) ≡ true → IsNew w.text.opening.next_bid w.text.opening.next_c (recovered_act x)) s.book.acts (λ x p e. (p e).1) each) rise.0,
   acts_rise w.text.logs logs s.book.acts (recovered_batches w.text.logs logs s.desk.batches) g.apart (λ n. batches_other w.text.logs logs n s.desk.batches) rise.1,
 )
   where
     Both : Act → Type 0
-    Both x = is_in w.text.logs logs (OfAct x.tid) ≡ true → IsKept (grown earlier logs) (recovered_act x) × IsNew w.text.opening.next_bid w.text.opening.next_c (recovered_act x)
+    Both x = is_in w.text.logs logs (OfAct x.tid) ≡ true → IsKeptIn (grown earlier logs) (recovered_act x) × IsNew w.text.opening.next_bid w.text.opening.next_c (recovered_act x)
 
     rise : AllByRecursion (IsNew w.text.opening.next_bid w.text.opening.next_c) (recovered_batches w.text.logs logs s.desk.batches) × Rises (recovered_batches w.text.logs logs s.desk.batches)
     rise = batches_rise w.text.logs logs w.text.opening.next_bid w.text.opening.next_c s.desk.batches g.bids
@@ -282,7 +282,7 @@ committed_grown {C} w earlier o s logs g =
     let many = w.text.logs in
     record {
       ascend = rises_from (o.committed ++ all_in w.text.logs logs s) (rises_join w.text.opening.next_bid w.text.opening.next_c o.committed (all_in w.text.logs logs s) g.some_bid (rises_to o.committed g.before.committed.ascend) old.1 new.1 new.2);
-      each = all_append (IsKept (grown earlier logs)) o.committed (all_in w.text.logs logs s) old.0 new.0;
+      each = all_append (IsKeptIn (grown earlier logs)) o.committed (all_in w.text.logs logs s) old.0 new.0;
       all_batches = λ b h. subst (λ z. Contains z (keys.Commit b)) (sym (map-append commit_of o.committed (all_in w.text.logs logs s))) (elim (in_cases w earlier o s logs b g h) [
         | inl q ↦ contains_left (map commit_of o.committed) (map commit_of (all_in w.text.logs logs s)) (keys.Commit b) (g.before.committed.all_batches b q)
         | inr q ↦ contains_right (map commit_of o.committed) (map commit_of (all_in w.text.logs logs s)) (keys.Commit b) (batch_there b q)

@@ -17,7 +17,7 @@ use Rattle.txn_records.specs.declared.records.Record.TheVariants.{Genesis, Batch
 use Rattle.txn_records.specs.declared.keys.Key.TheVariants as keys
 use Rattle.txn_records.specs.Records.{key}
 use Rattle.snap_recover.specs.declared.openings.Opening.{Opening}
-use Rattle.snap_recover.specs.Logs.{Has, all_of, log_of, tids_in, bids_in}
+use Rattle.snap_recover.specs.Logs.{HasKey, all_of, log_of, tids_in, bids_in}
 use Rattle.snap_recover.specs.Opening.{IsIn, IsActIn, IsInRange, IsRecovered}
 use Rattle.snap_recover.proofs.Lists.{all_left, all_right, all_contains, contains_unmap}
 use Rattle.snap_recover.proofs.Growing.{has_left, has_right, has_cases}
@@ -82,16 +82,16 @@ pub in_old : {C : Type 0} (w : Fixed C) (earlier : List (List Record)) (o : Open
 in_old w earlier o s logs b g h = let r = contains_unmap key (log_of earlier b.0) (keys.Commit b) h in commit_low r.0 b w.text.opening.next_bid r.2 (all_contains (λ r. AllByRecursion (λ x. x < w.text.opening.next_bid) (bids_in r)) (log_of earlier b.0) r.0 (old_low w earlier o s logs b.0 g) r.1)
 
 pub in_cases : {C : Type 0} (w : Fixed C) (earlier : List (List Record)) (o : Opening) (s : Machine C) (logs : ℕ → List LogRecord) (b : Bid) → Known w earlier o s logs → IsIn (grown earlier logs) b → IsIn earlier b ⊎ (is_in w.text.logs logs (OfBatch b.0) ≡ true)
-in_cases w earlier o s logs b g h = elim (has_cases (log_of earlier b.0) (all_told (logs (b.0 % w.text.logs))) (keys.Commit b) (subst (λ z. Has z (keys.Commit b)) (log_grown w earlier o s logs b.0 g) h)) [
+in_cases w earlier o s logs b g h = elim (has_cases (log_of earlier b.0) (all_told (logs (b.0 % w.text.logs))) (keys.Commit b) (subst (λ z. HasKey z (keys.Commit b)) (log_grown w earlier o s logs b.0 g) h)) [
   | inl q ↦ inl q
   | inr q ↦ inr (has_commit (logs (b.0 % w.text.logs)) b q)
 ]
 
 pub in_stays : {C : Type 0} (w : Fixed C) (earlier : List (List Record)) (o : Opening) (s : Machine C) (logs : ℕ → List LogRecord) (b : Bid) → Known w earlier o s logs → IsIn earlier b → IsIn (grown earlier logs) b
-in_stays w earlier o s logs b g h = subst (λ z. Has z (keys.Commit b)) (sym (log_grown w earlier o s logs b.0 g)) (has_left (log_of earlier b.0) (all_told (logs (b.0 % w.text.logs))) (keys.Commit b) h)
+in_stays w earlier o s logs b g h = subst (λ z. HasKey z (keys.Commit b)) (sym (log_grown w earlier o s logs b.0 g)) (has_left (log_of earlier b.0) (all_told (logs (b.0 % w.text.logs))) (keys.Commit b) h)
 
 pub in_new : {C : Type 0} (w : Fixed C) (earlier : List (List Record)) (o : Opening) (s : Machine C) (logs : ℕ → List LogRecord) (k : ℕ) → Known w earlier o s logs → is_in w.text.logs logs (OfBatch k) ≡ true → IsIn (grown earlier logs) (bid_of k)
-in_new w earlier o s logs k g h = subst (λ z. Has z (keys.Commit (bid_of k))) (sym (log_grown w earlier o s logs k g)) (has_right (log_of earlier k) (all_told (logs (k % w.text.logs))) (keys.Commit (bid_of k)) (commit_has (logs (k % w.text.logs)) k h))
+in_new w earlier o s logs k g h = subst (λ z. HasKey z (keys.Commit (bid_of k))) (sym (log_grown w earlier o s logs k g)) (has_right (log_of earlier k) (all_told (logs (k % w.text.logs))) (keys.Commit (bid_of k)) (commit_has (logs (k % w.text.logs)) k h))
 
 pub new_low : {C : Type 0} (w : Fixed C) (earlier : List (List Record)) (o : Opening) (s : Machine C) (logs : ℕ → List LogRecord) (k : ℕ) → Known w earlier o s logs → is_in w.text.logs logs (OfBatch k) ≡ true → w.text.opening.next_bid ≤ k
 new_low w earlier o s logs k g h = commit_from (logs (k % w.text.logs)) w.text.opening.next_bid k (g.low (k % w.text.logs)) h
@@ -116,16 +116,16 @@ pub act_old : {C : Type 0} (w : Fixed C) (earlier : List (List Record)) (o : Ope
 act_old w earlier o s logs t g h = let r = contains_unmap key (log_of earlier t.0) (keys.Act t) h in act_low r.0 t w.text.opening.next_tid r.2 (all_contains (λ r. AllByRecursion (λ x. x < w.text.opening.next_tid) (tids_in r)) (log_of earlier t.0) r.0 (old_acts_low w earlier o s logs t.0 g) r.1)
 
 pub act_cases : {C : Type 0} (w : Fixed C) (earlier : List (List Record)) (o : Opening) (s : Machine C) (logs : ℕ → List LogRecord) (t : Tid) → Known w earlier o s logs → IsActIn (grown earlier logs) t → IsActIn earlier t ⊎ (is_in w.text.logs logs (OfAct t.0) ≡ true)
-act_cases w earlier o s logs t g h = elim (has_cases (log_of earlier t.0) (all_told (logs (t.0 % w.text.logs))) (keys.Act t) (subst (λ z. Has z (keys.Act t)) (log_grown w earlier o s logs t.0 g) h)) [
+act_cases w earlier o s logs t g h = elim (has_cases (log_of earlier t.0) (all_told (logs (t.0 % w.text.logs))) (keys.Act t) (subst (λ z. HasKey z (keys.Act t)) (log_grown w earlier o s logs t.0 g) h)) [
   | inl q ↦ inl q
   | inr q ↦ inr (has_act (logs (t.0 % w.text.logs)) t q)
 ]
 
 pub act_stays : {C : Type 0} (w : Fixed C) (earlier : List (List Record)) (o : Opening) (s : Machine C) (logs : ℕ → List LogRecord) (t : Tid) → Known w earlier o s logs → IsActIn earlier t → IsActIn (grown earlier logs) t
-act_stays w earlier o s logs t g h = subst (λ z. Has z (keys.Act t)) (sym (log_grown w earlier o s logs t.0 g)) (has_left (log_of earlier t.0) (all_told (logs (t.0 % w.text.logs))) (keys.Act t) h)
+act_stays w earlier o s logs t g h = subst (λ z. HasKey z (keys.Act t)) (sym (log_grown w earlier o s logs t.0 g)) (has_left (log_of earlier t.0) (all_told (logs (t.0 % w.text.logs))) (keys.Act t) h)
 
 pub act_new : {C : Type 0} (w : Fixed C) (earlier : List (List Record)) (o : Opening) (s : Machine C) (logs : ℕ → List LogRecord) (t : ℕ) → Known w earlier o s logs → is_in w.text.logs logs (OfAct t) ≡ true → IsActIn (grown earlier logs) (tid_of t)
-act_new w earlier o s logs t g h = subst (λ z. Has z (keys.Act (tid_of t))) (sym (log_grown w earlier o s logs t g)) (has_right (log_of earlier t) (all_told (logs (t % w.text.logs))) (keys.Act (tid_of t)) (act_has (logs (t % w.text.logs)) t h))
+act_new w earlier o s logs t g h = subst (λ z. HasKey z (keys.Act (tid_of t))) (sym (log_grown w earlier o s logs t g)) (has_right (log_of earlier t) (all_told (logs (t % w.text.logs))) (keys.Act (tid_of t)) (act_has (logs (t % w.text.logs)) t h))
 
 pub new_act_low : {C : Type 0} (w : Fixed C) (earlier : List (List Record)) (o : Opening) (s : Machine C) (logs : ℕ → List LogRecord) (t : ℕ) → Known w earlier o s logs → is_in w.text.logs logs (OfAct t) ≡ true → w.text.opening.next_tid ≤ t
 new_act_low w earlier o s logs t g h = act_from (logs (t % w.text.logs)) w.text.opening.next_tid t (g.low_acts (t % w.text.logs)) h

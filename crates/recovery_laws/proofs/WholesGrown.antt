@@ -17,8 +17,8 @@ use Rattle.txn_records.specs.declared.records.Record.TheVariants.{BatchInfo, Bat
 use Rattle.txn_records.specs.declared.keys.Key.TheVariants as keys
 use Rattle.txn_records.specs.Records.{key}
 use Rattle.snap_recover.specs.declared.openings.Opening.{Opening}
-use Rattle.snap_recover.specs.Logs.{Has, log_of}
-use Rattle.snap_recover.specs.Opening.{IsIn, IsInfoOf, IsCommitOf, HasCompleted, IsWhole, IsActIn, IsActOf, act_record, HasPrepared, IsActWhole}
+use Rattle.snap_recover.specs.Logs.{HasKey, log_of}
+use Rattle.snap_recover.specs.Opening.{IsIn, IsInfoOf, IsCommitOf, HasCompleted, IsBatchWhole, IsActIn, IsActOf, act_record, HasPrepared, IsActWhole}
 use Rattle.snap_recover.proofs.Lists.{all_append, all_weaker}
 use Rattle.snap_recover.proofs.Growing.{has_left, has_right}
 use Rattle.record_words.specs.Told.{bid_of, tid_of, actor_of, tids_of, actors_of, all_told}
@@ -29,7 +29,7 @@ use Rattle.recovery_laws.proofs.KnownLogs.{Known, log_grown, in_old, in_cases, n
 -- ---- what was there stays
 
 pub completed_stays : {C : Type 0} (w : Fixed C) (earlier : List (List Record)) (o : Opening) (s : Machine C) (logs : ℕ → List LogRecord) (b : Bid) (a : ActorId) → Known w earlier o s logs → HasCompleted earlier b a → HasCompleted (grown earlier logs) b a
-completed_stays w earlier o s logs b a g h = subst (λ z. Has z (keys.Complete b a)) (sym (log_grown w earlier o s logs a.0 g)) (has_left (log_of earlier a.0) (all_told (logs (a.0 % w.text.logs))) (keys.Complete b a) h)
+completed_stays w earlier o s logs b a g h = subst (λ z. HasKey z (keys.Complete b a)) (sym (log_grown w earlier o s logs a.0 g)) (has_left (log_of earlier a.0) (all_told (logs (a.0 % w.text.logs))) (keys.Complete b a) h)
 
 pub info_stays : {C : Type 0} (w : Fixed C) (earlier : List (List Record)) (o : Opening) (s : Machine C) (logs : ℕ → List LogRecord) (b : Bid) (actors : List ActorId) (tids : List Tid) → Known w earlier o s logs → b.0 < w.text.opening.next_bid → IsInfoOf earlier b actors tids → IsInfoOf (grown earlier logs) b actors tids
 info_stays w earlier o s logs b actors tids g l (front, behind, e, p, quiet) =
@@ -88,14 +88,14 @@ done_new w earlier o s logs k values front rest g e =
 completed_new : {C : Type 0} (w : Fixed C) (earlier : List (List Record)) (o : Opening) (s : Machine C) (logs : ℕ → List LogRecord) (k : ℕ) (as' : List ℕ) → Known w earlier o s logs → AllByRecursion (λ a. list_any (is_complete k a) (logs (a % w.text.logs)) ≡ true) as' → AllByRecursion (HasCompleted (grown earlier logs) (bid_of k)) (actors_of as')
 completed_new w earlier o s logs k [] g h = tt
 completed_new w earlier o s logs k (a ∷ as') g h = (
-  subst (λ z. Has z (keys.Complete (bid_of k) (record { 0 = a }))) (sym (log_grown w earlier o s logs a g)) (has_right (log_of earlier a) (all_told (logs (a % w.text.logs))) (keys.Complete (bid_of k) (record { 0 = a })) (complete_has (logs (a % w.text.logs)) k a h.0)),
+  subst (λ z. HasKey z (keys.Complete (bid_of k) (record { 0 = a }))) (sym (log_grown w earlier o s logs a g)) (has_right (log_of earlier a) (all_told (logs (a % w.text.logs))) (keys.Complete (bid_of k) (record { 0 = a })) (complete_has (logs (a % w.text.logs)) k a h.0)),
   completed_new w earlier o s logs k as' g h.1,
 )
 
 same_bid : (b : Bid) → bid_of b.0 ≡ b
 same_bid b = refl
 
-pub whole_grown : {C : Type 0} (w : Fixed C) (earlier : List (List Record)) (o : Opening) (s : Machine C) (logs : ℕ → List LogRecord) (b : Bid) → Known w earlier o s logs → IsIn (grown earlier logs) b → IsWhole (grown earlier logs) b
+pub whole_grown : {C : Type 0} (w : Fixed C) (earlier : List (List Record)) (o : Opening) (s : Machine C) (logs : ℕ → List LogRecord) (b : Bid) → Known w earlier o s logs → IsIn (grown earlier logs) b → IsBatchWhole (grown earlier logs) b
 whole_grown w earlier o s logs b g h = elim (in_cases w earlier o s logs b g h) [
   | inl q ↦ let x = g.before.whole b q in (x.0, x.1, info_stays w earlier o s logs b x.0 x.1 g (in_old w earlier o s logs b g q) x.2, all_weaker (HasCompleted earlier b) (HasCompleted (grown earlier logs) b) x.0 (λ a k. completed_stays w earlier o s logs b a g k) x.3)
   | inr q ↦ let x = g.whole b.0 q in (actors_of x.actors, tids_of x.tids, info_new w earlier o s logs b.0 x.actors x.tids x.front x.rest g x.info, completed_new w earlier o s logs b.0 x.actors g x.completes)
@@ -104,7 +104,7 @@ whole_grown w earlier o s logs b g h = elim (in_cases w earlier o s logs b g h) 
 -- ---- ACTs
 
 prepared_stays : {C : Type 0} (w : Fixed C) (earlier : List (List Record)) (o : Opening) (s : Machine C) (logs : ℕ → List LogRecord) (t : Tid) (a : ActorId) → Known w earlier o s logs → HasPrepared earlier t a → HasPrepared (grown earlier logs) t a
-prepared_stays w earlier o s logs t a g h = subst (λ z. Has z (keys.Prepare t a)) (sym (log_grown w earlier o s logs a.0 g)) (has_left (log_of earlier a.0) (all_told (logs (a.0 % w.text.logs))) (keys.Prepare t a) h)
+prepared_stays w earlier o s logs t a g h = subst (λ z. HasKey z (keys.Prepare t a)) (sym (log_grown w earlier o s logs a.0 g)) (has_left (log_of earlier a.0) (all_told (logs (a.0 % w.text.logs))) (keys.Prepare t a) h)
 
 pub commit_stays : {C : Type 0} (w : Fixed C) (earlier : List (List Record)) (o : Opening) (s : Machine C) (logs : ℕ → List LogRecord) (t : Tid) (m : Bid) (c : ℕ) (value : Option ℤ) (actors : List ActorId) → Known w earlier o s logs → t.0 < w.text.opening.next_tid → IsActOf earlier t m c value actors → IsActOf (grown earlier logs) t m c value actors
 commit_stays w earlier o s logs t m c value actors g l (front, behind, e, p, quiet) =
@@ -124,7 +124,7 @@ commit_new w earlier o s logs t m c value actors front rest g e =
 prepared_new : {C : Type 0} (w : Fixed C) (earlier : List (List Record)) (o : Opening) (s : Machine C) (logs : ℕ → List LogRecord) (t : ℕ) (as' : List ℕ) → Known w earlier o s logs → AllByRecursion (λ a. list_any (is_prepare t a) (logs (a % w.text.logs)) ≡ true) as' → AllByRecursion (HasPrepared (grown earlier logs) (tid_of t)) (actors_of as')
 prepared_new w earlier o s logs t [] g h = tt
 prepared_new w earlier o s logs t (a ∷ as') g h = (
-  subst (λ z. Has z (keys.Prepare (tid_of t) (actor_of a))) (sym (log_grown w earlier o s logs a g)) (has_right (log_of earlier a) (all_told (logs (a % w.text.logs))) (keys.Prepare (tid_of t) (actor_of a)) (prepare_has (logs (a % w.text.logs)) t a h.0)),
+  subst (λ z. HasKey z (keys.Prepare (tid_of t) (actor_of a))) (sym (log_grown w earlier o s logs a g)) (has_right (log_of earlier a) (all_told (logs (a % w.text.logs))) (keys.Prepare (tid_of t) (actor_of a)) (prepare_has (logs (a % w.text.logs)) t a h.0)),
   prepared_new w earlier o s logs t as' g h.1,
 )
 

@@ -16,7 +16,7 @@ use Rattle.txn_records.specs.declared.records.Record.{Record}
 use Rattle.txn_records.specs.declared.records.Record.TheVariants.{BatchInfo, BatchComplete, BatchDone, ActPrepare, ActDone}
 use Rattle.txn_records.specs.declared.keys.Key.TheVariants as keys
 use Rattle.txn_records.specs.Records.{key, actor_numbers, tid_numbers}
-use Rattle.snap_recover.specs.Logs.{Has, all_of, tids_in, bids_in, commits_in, states_in, is_genesis, geneses}
+use Rattle.snap_recover.specs.Logs.{HasKey, all_of, tids_in, bids_in, commits_in, states_in, is_genesis, geneses}
 use Rattle.snap_recover.specs.Opening.{greatest}
 use Rattle.snap_recover.specs.Passes.{StateOver}
 use Rattle.snap_recover.proofs.Lists.{contains_here, contains_there, contains_cases, contains_none, all_append}
@@ -36,7 +36,7 @@ written_join (x ∷ xs) ys = ap (λ z. told x ∷ z) (written_join xs ys)
 commit_bid : (k : ℕ) (b : Bid) → keys.Commit (bid_of k) ≡ keys.Commit b → k ≡ b.0
 commit_bid k b e = let s : bid_of k ≡ b = cc e in ap (λ z. z.0) s
 
-pub has_commit : (rs : List LogRecord) (b : Bid) → Has (all_told rs) (keys.Commit b) → list_any (is_commit b.0) rs ≡ true
+pub has_commit : (rs : List LogRecord) (b : Bid) → HasKey (all_told rs) (keys.Commit b) → list_any (is_commit b.0) rs ≡ true
 has_commit [] b h = absurd (contains_none (keys.Commit b) h)
 has_commit (machine.BatchInfo k actors tids ∷ rs) b h = elim (contains_cases (keys.Info (bid_of k)) (keys.Commit b) (map key (all_told rs)) h) [ inl e ↦ absurd (cc e) | inr g ↦ has_commit rs b g ]
 has_commit (machine.BatchComplete k a st ∷ rs) b h = elim (contains_cases (keys.Complete (bid_of k) (record { 0 = a })) (keys.Commit b) (map key (all_told rs)) h) [ inl e ↦ absurd (cc e) | inr g ↦ has_commit rs b g ]
@@ -44,7 +44,7 @@ has_commit (machine.BatchDone k vs ∷ rs) b h = elim (contains_cases (keys.Comm
 has_commit (machine.ActPrepare t a st ∷ rs) b h = elim (contains_cases (keys.Prepare (tid_of t) (actor_of a)) (keys.Commit b) (map key (all_told rs)) h) [ inl e ↦ absurd (cc e) | inr g ↦ has_commit rs b g ]
 has_commit (machine.ActDone t m c v actors ∷ rs) b h = elim (contains_cases (keys.Act (tid_of t)) (keys.Commit b) (map key (all_told rs)) h) [ inl e ↦ absurd (cc e) | inr g ↦ has_commit rs b g ]
 
-pub commit_has : (rs : List LogRecord) (k : ℕ) → list_any (is_commit k) rs ≡ true → Has (all_told rs) (keys.Commit (bid_of k))
+pub commit_has : (rs : List LogRecord) (k : ℕ) → list_any (is_commit k) rs ≡ true → HasKey (all_told rs) (keys.Commit (bid_of k))
 commit_has [] k h = absurd (true≢false (sym h))
 commit_has (machine.BatchInfo j actors tids ∷ rs) k h = contains_there (keys.Info (bid_of j)) (keys.Commit (bid_of k)) (map key (all_told rs)) (commit_has rs k h)
 commit_has (machine.BatchComplete j a st ∷ rs) k h = contains_there (keys.Complete (bid_of j) (record { 0 = a })) (keys.Commit (bid_of k)) (map key (all_told rs)) (commit_has rs k h)
@@ -55,7 +55,7 @@ commit_has (machine.BatchDone j vs ∷ rs) k h = elim (or_cases (j == k) _ h) [
 commit_has (machine.ActPrepare t a st ∷ rs) k h = contains_there (keys.Prepare (tid_of t) (actor_of a)) (keys.Commit (bid_of k)) (map key (all_told rs)) (commit_has rs k h)
 commit_has (machine.ActDone t m c v actors ∷ rs) k h = contains_there (keys.Act (tid_of t)) (keys.Commit (bid_of k)) (map key (all_told rs)) (commit_has rs k h)
 
-pub complete_has : (rs : List LogRecord) (k c : ℕ) → list_any (is_complete k c) rs ≡ true → Has (all_told rs) (keys.Complete (bid_of k) (record { 0 = c }))
+pub complete_has : (rs : List LogRecord) (k c : ℕ) → list_any (is_complete k c) rs ≡ true → HasKey (all_told rs) (keys.Complete (bid_of k) (record { 0 = c }))
 complete_has [] k c h = absurd (true≢false (sym h))
 complete_has (machine.BatchInfo j actors tids ∷ rs) k c h = contains_there (keys.Info (bid_of j)) (keys.Complete (bid_of k) (record { 0 = c })) (map key (all_told rs)) (complete_has rs k c h)
 complete_has (machine.BatchComplete j a st ∷ rs) k c h = elim (or_cases ((j == k) && (a == c)) _ h) [
@@ -73,7 +73,7 @@ complete_has (machine.ActDone t m d v actors ∷ rs) k c h = contains_there (key
 act_tid : (t : ℕ) (u : Tid) → keys.Act (tid_of t) ≡ keys.Act u → t ≡ u.0
 act_tid t u e = let s : tid_of t ≡ u = cc e in ap (λ z. z.0) s
 
-pub has_act : (rs : List LogRecord) (u : Tid) → Has (all_told rs) (keys.Act u) → list_any (is_act_commit u.0) rs ≡ true
+pub has_act : (rs : List LogRecord) (u : Tid) → HasKey (all_told rs) (keys.Act u) → list_any (is_act_commit u.0) rs ≡ true
 has_act [] u h = absurd (contains_none (keys.Act u) h)
 has_act (machine.BatchInfo k actors tids ∷ rs) u h = elim (contains_cases (keys.Info (bid_of k)) (keys.Act u) (map key (all_told rs)) h) [ inl e ↦ absurd (cc e) | inr g ↦ has_act rs u g ]
 has_act (machine.BatchComplete k a st ∷ rs) u h = elim (contains_cases (keys.Complete (bid_of k) (actor_of a)) (keys.Act u) (map key (all_told rs)) h) [ inl e ↦ absurd (cc e) | inr g ↦ has_act rs u g ]
@@ -81,7 +81,7 @@ has_act (machine.BatchDone k vs ∷ rs) u h = elim (contains_cases (keys.Commit 
 has_act (machine.ActPrepare t a st ∷ rs) u h = elim (contains_cases (keys.Prepare (tid_of t) (actor_of a)) (keys.Act u) (map key (all_told rs)) h) [ inl e ↦ absurd (cc e) | inr g ↦ has_act rs u g ]
 has_act (machine.ActDone t m c v actors ∷ rs) u h = elim (contains_cases (keys.Act (tid_of t)) (keys.Act u) (map key (all_told rs)) h) [ inl e ↦ or_left (t == u.0) _ (eq-eqb t u.0 (act_tid t u e)) | inr g ↦ or_right (t == u.0) _ (has_act rs u g) ]
 
-pub act_has : (rs : List LogRecord) (u : ℕ) → list_any (is_act_commit u) rs ≡ true → Has (all_told rs) (keys.Act (tid_of u))
+pub act_has : (rs : List LogRecord) (u : ℕ) → list_any (is_act_commit u) rs ≡ true → HasKey (all_told rs) (keys.Act (tid_of u))
 act_has [] u h = absurd (true≢false (sym h))
 act_has (machine.BatchInfo j actors tids ∷ rs) u h = contains_there (keys.Info (bid_of j)) (keys.Act (tid_of u)) (map key (all_told rs)) (act_has rs u h)
 act_has (machine.BatchComplete j a st ∷ rs) u h = contains_there (keys.Complete (bid_of j) (actor_of a)) (keys.Act (tid_of u)) (map key (all_told rs)) (act_has rs u h)
@@ -92,7 +92,7 @@ act_has (machine.ActDone t m c v actors ∷ rs) u h = elim (or_cases (t == u) _ 
   | inr g ↦ contains_there (keys.Act (tid_of t)) (keys.Act (tid_of u)) (map key (all_told rs)) (act_has rs u g)
 ]
 
-pub prepare_has : (rs : List LogRecord) (u c : ℕ) → list_any (is_prepare u c) rs ≡ true → Has (all_told rs) (keys.Prepare (tid_of u) (actor_of c))
+pub prepare_has : (rs : List LogRecord) (u c : ℕ) → list_any (is_prepare u c) rs ≡ true → HasKey (all_told rs) (keys.Prepare (tid_of u) (actor_of c))
 prepare_has [] u c h = absurd (true≢false (sym h))
 prepare_has (machine.BatchInfo j actors tids ∷ rs) u c h = contains_there (keys.Info (bid_of j)) (keys.Prepare (tid_of u) (actor_of c)) (map key (all_told rs)) (prepare_has rs u c h)
 prepare_has (machine.BatchComplete j a st ∷ rs) u c h = contains_there (keys.Complete (bid_of j) (actor_of a)) (keys.Prepare (tid_of u) (actor_of c)) (map key (all_told rs)) (prepare_has rs u c h)

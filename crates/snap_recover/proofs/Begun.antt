@@ -8,7 +8,7 @@ use Rattle.snap_base.specs.declared.transactions.State.{State}
 use Rattle.txn_records.specs.declared.records.Record.{Record}
 use Rattle.txn_records.specs.declared.records.Record.TheVariants.{Genesis}
 use Rattle.txn_records.specs.declared.keys.Key.TheVariants as keys
-use Rattle.snap_recover.specs.Logs.{log_of, Has}
+use Rattle.snap_recover.specs.Logs.{log_of, HasKey}
 use Rattle.snap_recover.specs.Opening.{IsIn, IsActIn, Counts, IsStateOf, IsRecovered}
 use Rattle.snap_recover.proofs.Lists.{contains_cases, contains_none}
 
@@ -18,12 +18,12 @@ log_one rs n = rw mod-one
 
 genesis_commits : (states : List State) (b : Bid) → ¬ IsIn ((Genesis 1 states ∷ []) ∷ []) b
 genesis_commits states b h =
-    let here : Has (Genesis 1 states ∷ []) (keys.Commit b) = subst (λ (z : List Record). Has z (keys.Commit b)) (log_one (Genesis 1 states ∷ []) b.0) h in
+    let here : HasKey (Genesis 1 states ∷ []) (keys.Commit b) = subst (λ (z : List Record). HasKey z (keys.Commit b)) (log_one (Genesis 1 states ∷ []) b.0) h in
     elim (contains_cases keys.Genesis (keys.Commit b) [] here) [ inl e ↦ absurd (cc) | inr g ↦ contains_none (keys.Commit b) g ]
 
 genesis_acts : (states : List State) (t : Tid) → ¬ IsActIn ((Genesis 1 states ∷ []) ∷ []) t
 genesis_acts states t h =
-    let here : Has (Genesis 1 states ∷ []) (keys.Act t) = subst (λ (z : List Record). Has z (keys.Act t)) (log_one (Genesis 1 states ∷ []) t.0) h in
+    let here : HasKey (Genesis 1 states ∷ []) (keys.Act t) = subst (λ (z : List Record). HasKey z (keys.Act t)) (log_one (Genesis 1 states ∷ []) t.0) h in
     elim (contains_cases keys.Genesis (keys.Act t) [] here) [ inl e ↦ absurd (cc) | inr g ↦ contains_none (keys.Act t) g ]
 
 begun_states : (states all : List State) (n : ℕ) → AllZip (λ (x : ℕ × State) s. IsStateOf ((Genesis 1 all ∷ []) ∷ []) x.0 x.1 s) (enumerate_from n states) states

@@ -9,7 +9,7 @@ use Rattle.txn_records.specs.declared.records.Record.{Record}
 use Rattle.txn_records.specs.declared.records.Record.TheVariants.{Genesis}
 use Rattle.txn_records.specs.declared.keys.Key.{Key}
 use Rattle.txn_records.specs.declared.keys.Key.TheVariants as keys
-use Rattle.snap_recover.specs.Logs.{all_of, log_of, Has, tids_in, bids_in, commits_in, is_genesis, geneses}
+use Rattle.snap_recover.specs.Logs.{all_of, log_of, HasKey, tids_in, bids_in, commits_in, is_genesis, geneses}
 use Rattle.snap_recover.specs.Opening.{IsInRange, IsIn, IsActIn, Counts, IsStateOf, IsRecovered, greatest, next_of}
 use Rattle.snap_recover.proofs.Lists.{contains_cases, contains_none}
 
@@ -48,8 +48,8 @@ module _ (count : ℕ) (others : List (List Record)) (states : List State) (size
   all = (first ∷ []) ∷ others
 
   -- a key that is none of Genesis stands in no log
-  has_none : (k : Key) (n : ℕ) → ¬ (k ≡ keys.Genesis) → ¬ Has (log_of all n) k
-  has_none k n other = in_log first others empty (λ rs. ¬ Has rs k) n
+  has_none : (k : Key) (n : ℕ) → ¬ (k ≡ keys.Genesis) → ¬ HasKey (log_of all n) k
+  has_none k n other = in_log first others empty (λ rs. ¬ HasKey rs k) n
       (λ here. elim (contains_cases keys.Genesis k [] here) [ inl e ↦ other (sym e) | inr g ↦ contains_none k g ])
       (λ here. contains_none k here)
 

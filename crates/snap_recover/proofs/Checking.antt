@@ -17,9 +17,9 @@ use Rattle.snap_recover.specs.declared.kinds.Kind.{Kind}
 use Rattle.snap_recover.specs.declared.kinds.Kind.TheVariants as kinds
 use Rattle.snap_recover.specs.declared.refusals.RecoverNo.{RecoverNo}
 use Rattle.snap_recover.specs.declared.refusals.RecoverNo.TheVariants.{NoGenesis, TwoGenesis, LogCount, Range, Missing, Values, Memory}
-use Rattle.snap_recover.specs.Logs.{Has, log_of}
+use Rattle.snap_recover.specs.Logs.{HasKey, log_of}
 use Rattle.snap_recover.specs.Opening.{IsInfoOf, HasCompleted, IsActOf, HasPrepared}
-use Rattle.snap_recover.specs.Passes.{bid_at, tid_at, InPair, commit_key, part_key, info_key, HasCommitted, HasAllParts, IsPlaced, TellsActors, MemberWhole, MemberLacks, IsLackOf, IsFirstLackOfKind, IsFirstLackOf, AllWhole, IsAllWhole, HasIn}
+use Rattle.snap_recover.specs.Passes.{bid_at, tid_at, InPair, commit_key, part_key, info_key, HasCommitted, HasAllParts, IsLastPlaced, TellsActors, MemberWhole, MemberLacks, IsLackOf, IsFirstLackOfKind, IsFirstLackOf, AllWhole, IsAllWhole, HasIn}
 use Rattle.snap_recover.proofs.Lists.{all_weaker, all_contains, contains_here, contains_there}
 use Rattle.snap_recover.proofs.Homes.{at_log, at_true, at_same}
 use Rattle.snap_recover.proofs.Placing.{placed_some}
@@ -27,7 +27,7 @@ use Rattle.snap_recover.proofs.Steps.{all_step, all_end}
 
 -- ---- one of them
 
-pub lacks_info : (kind : Kind) (logs : List (List Record)) (n : ℕ) (now : Option ℕ) → now ≡ None → IsPlaced (info_key kind n) (log_of logs n) None now → Has (log_of logs n) (commit_key kind n)
+pub lacks_info : (kind : Kind) (logs : List (List Record)) (n : ℕ) (now : Option ℕ) → now ≡ None → IsLastPlaced (info_key kind n) (log_of logs n) None now → HasKey (log_of logs n) (commit_key kind n)
     → MemberLacks kind logs n (info_key kind n) (n % length logs)
 lacks_info kinds.Batch logs n now e p i = inl (refl, refl, λ h. placed_some (keys.Info (bid_at n)) (log_of logs n) now e p h)
 lacks_info kinds.Act logs n now e p i = absurd (placed_some (keys.Act (tid_at n)) (log_of logs n) now e p i)
@@ -100,8 +100,8 @@ keys_in cmp one (y ∷ ys) x h = elim (or_cases (is_at (cmp x) y) (list_any (is_
 -- the numbers are those of all that are in, ascending
 pub record AreNumbers (kind : Kind) (logs : List (List Record)) (numbers : List ℕ) : Type 0 where
   pub ascend : IsStrictlySortedBy nat_cmp numbers
-  pub are_in : (n : ℕ) → Contains numbers n → Has (log_of logs n) (commit_key kind n)
-  pub all : (n : ℕ) → Has (log_of logs n) (commit_key kind n) → Contains numbers n
+  pub are_in : (n : ℕ) → Contains numbers n → HasKey (log_of logs n) (commit_key kind n)
+  pub all : (n : ℕ) → HasKey (log_of logs n) (commit_key kind n) → Contains numbers n
 
 pub are_numbers : (kind : Kind) (logs : List (List Record)) (set : BTreeSet ℕ) (numbers : List ℕ) → numbers ≡ set.keys → IsStrictlySortedBy nat_cmp set.keys → HasCommitted kind logs set → AreNumbers kind logs numbers
 are_numbers kind logs set numbers e sorted has = record {
@@ -115,7 +115,7 @@ all_of_contained P [] f = tt
 all_of_contained P (x ∷ xs) f = (f x (contains_here x xs), all_of_contained P xs (λ y m. f y (contains_there x y xs m)))
 
 pub numbers_in : (kind : Kind) (logs : List (List Record)) (numbers : List ℕ) → AreNumbers kind logs numbers → HasIn kind logs numbers
-numbers_in kind logs numbers are = all_of_contained (λ n. Has (log_of logs n) (commit_key kind n)) numbers are.are_in
+numbers_in kind logs numbers are = all_of_contained (λ n. HasKey (log_of logs n) (commit_key kind n)) numbers are.are_in
 
 -- ---- so many of them
 
@@ -124,7 +124,7 @@ WholeThrough kind logs numbers i = AllByRecursion (MemberWhole kind logs) (take 
 
 -- all that are in with a smaller number have the property
 pub below_all : (P : ℕ → Type 0) (kind : Kind) (logs : List (List Record)) (numbers : List ℕ) (i n : ℕ) → i < length numbers → n ≡ get_or numbers i n → AreNumbers kind logs numbers → AllByRecursion P (take i numbers)
-    → (b : ℕ) → b < n → Has (log_of logs b) (commit_key kind b) → P b
+    → (b : ℕ) → b < n → HasKey (log_of logs b) (commit_key kind b) → P b
 below_all P kind logs numbers i n l at are h b low is_in =
     let p = are.all b is_in in
     let j : ℕ = p.0 in
@@ -142,10 +142,10 @@ below_all P kind logs numbers i n l at are h b low is_in =
     ]
 
 below_whole : (kind : Kind) (logs : List (List Record)) (numbers : List ℕ) (i n : ℕ) → i < length numbers → n ≡ get_or numbers i n → AreNumbers kind logs numbers → WholeThrough kind logs numbers i
-    → (b : ℕ) → b < n → Has (log_of logs b) (commit_key kind b) → MemberWhole kind logs b
+    → (b : ℕ) → b < n → HasKey (log_of logs b) (commit_key kind b) → MemberWhole kind logs b
 below_whole kind logs numbers i n l at are h b low is_in = below_all (MemberWhole kind logs) kind logs numbers i n l at are h b low is_in
 
-first_lack : (kind : Kind) (logs : List (List Record)) (n : ℕ) (no : RecoverNo) → Has (log_of logs n) (commit_key kind n) → ((b : ℕ) → b < n → Has (log_of logs b) (commit_key kind b) → MemberWhole kind logs b)
+first_lack : (kind : Kind) (logs : List (List Record)) (n : ℕ) (no : RecoverNo) → HasKey (log_of logs n) (commit_key kind n) → ((b : ℕ) → b < n → HasKey (log_of logs b) (commit_key kind b) → MemberWhole kind logs b)
     → IsLackOf kind logs n no → IsFirstLackOfKind kind logs no
 first_lack kind logs n NoGenesis i low h = h
 first_lack kind logs n TwoGenesis i low h = h
@@ -160,7 +160,7 @@ pub check_refused : (kind : Kind) (logs : List (List Record)) (numbers : List �
     → IsLackOf kind logs n answer → IsFirstLackOfKind kind logs answer
 check_refused kind logs numbers i n answer l at are h lack = first_lack kind logs n answer (are.are_in n (i, l, sym at)) (below_whole kind logs numbers i n l at are h) lack
 
-pub number_in : (kind : Kind) (logs : List (List Record)) (numbers : List ℕ) (i n : ℕ) → i < length numbers → n ≡ get_or numbers i n → AreNumbers kind logs numbers → Has (log_of logs n) (commit_key kind n)
+pub number_in : (kind : Kind) (logs : List (List Record)) (numbers : List ℕ) (i n : ℕ) → i < length numbers → n ≡ get_or numbers i n → AreNumbers kind logs numbers → HasKey (log_of logs n) (commit_key kind n)
 number_in kind logs numbers i n l at are = are.are_in n (i, l, sym at)
 
 pub check_step : (kind : Kind) (logs : List (List Record)) (numbers : List ℕ) (i n : ℕ) → i < length numbers → n ≡ get_or numbers i n → MemberWhole kind logs n → WholeThrough kind logs numbers i → WholeThrough kind logs numbers (i + 1)

@@ -14,7 +14,7 @@ use Rattle.snap_recover.specs.declared.openings.Opening.{Opening}
 use Rattle.snap_recover.specs.declared.openings.Kept.{Kept}
 use Rattle.snap_recover.specs.declared.openings.Kept.TheVariants as kept
 use Rattle.snap_recover.specs.Logs.{log_of, states_in, values_in, geneses}
-use Rattle.snap_recover.specs.Opening.{IsInfoOf, IsCommitOf, IsActIn, IsActOf, act_record, Counts, IsStateOf, AreStates, commit_of, IsKept, ComesBefore, IsCommitted, IsRecovered}
+use Rattle.snap_recover.specs.Opening.{IsInfoOf, IsCommitOf, IsActIn, IsActOf, act_record, Counts, IsStateOf, AreStatesOf, commit_of, IsKeptIn, ComesBefore, IsCommitted, IsRecovered}
 use Rattle.snap_recover.proofs.Lists.{one_last, all_middle, zip_one, contains_cases, contains_here, all_contains, contains_none, contains_there, contains_middle, contains_map, contains_unmap}
 
 pub one_info : (logs : List (List Record)) (bid : Bid) (a b : List ActorId) (t u : List Tid) → IsInfoOf logs bid a t → IsInfoOf logs bid b u → (a ≡ b) × (t ≡ u)
@@ -63,7 +63,7 @@ same_bid a b e = ap (λ (n : ℕ). let t : Bid = record { 0 = n } in t) e
 pub same_tid : (a b : Tid) → a.0 ≡ b.0 → a ≡ b
 same_tid a b e = ap (λ (n : ℕ). let t : Tid = record { 0 = n } in t) e
 
-one_kept : (logs : List (List Record)) (a b : Kept) → IsKept logs a → IsKept logs b → commit_of a ≡ commit_of b → a ≡ b
+one_kept : (logs : List (List Record)) (a b : Kept) → IsKeptIn logs a → IsKeptIn logs b → commit_of a ≡ commit_of b → a ≡ b
 one_kept logs (kept.Batch k t v) (kept.Batch j u w) p q e =
     let same : k ≡ j = cc in
     let info : IsInfoOf logs j p.1.0 t = subst (λ (z : Bid). IsInfoOf logs z p.1.0 t) same p.1.1 in
@@ -133,15 +133,15 @@ one_committed (x ∷ xs) (y ∷ ys) p q f g =
     let rest : xs ≡ ys = one_committed xs ys (tail_ascends x xs p) (tail_ascends y ys q) (tails_within x y xs ys p first f) (tails_within y x ys xs q (sym first) g) in
     cc
 
-kept_listed : (logs : List (List Record)) (ys : List Kept) (x : Kept) → IsCommitted logs ys → IsKept logs x → Contains (map commit_of ys) (commit_of x)
+kept_listed : (logs : List (List Record)) (ys : List Kept) (x : Kept) → IsCommitted logs ys → IsKeptIn logs x → Contains (map commit_of ys) (commit_of x)
 kept_listed logs ys (kept.Batch k t v) q h = q.all_batches k h.0
 kept_listed logs ys (kept.Act t m c v) q h = q.all_acts t (act_is_in logs t m c v h.0 h.1)
 
 pub committed_within : (logs : List (List Record)) (xs ys : List Kept) → IsCommitted logs xs → IsCommitted logs ys → Within xs ys
 committed_within logs xs ys p q b m =
-    let here : IsKept logs b = all_contains (IsKept logs) xs b p.each m in
+    let here : IsKeptIn logs b = all_contains (IsKeptIn logs) xs b p.each m in
     let r = contains_unmap commit_of ys (commit_of b) (kept_listed logs ys b q here) in
-    let there : IsKept logs r.0 = all_contains (IsKept logs) ys r.0 q.each r.1 in
+    let there : IsKeptIn logs r.0 = all_contains (IsKeptIn logs) ys r.0 q.each r.1 in
     subst (Contains ys) (one_kept logs r.0 b there here r.2) r.1
 
 pub one_first_states : (logs : List (List Record)) (s t : List State) → geneses logs ≡ Genesis (length logs) s ∷ [] → geneses logs ≡ Genesis (length logs) t ∷ [] → s ≡ t
@@ -150,7 +150,7 @@ one_first_states logs s t p q = let same : Genesis (length logs) s ∷ [] ≡ Ge
 pub one_opening : (logs : List (List Record)) (o p : Opening) → IsRecovered logs o → IsRecovered logs p → o ≡ p
 one_opening logs o p h k =
     let first : h.begun.0 ≡ k.begun.0 = one_first_states logs h.begun.0 k.begun.0 h.begun.1.one k.begun.1.one in
-    let there : AreStates logs k.begun.0 o.states = subst (λ (z : List State). AreStates logs z o.states) first h.begun.2 in
+    let there : AreStatesOf logs k.begun.0 o.states = subst (λ (z : List State). AreStatesOf logs z o.states) first h.begun.2 in
     let states : o.states ≡ p.states =
     zip_one (λ (x : ℕ × State) s. IsStateOf logs x.0 x.1 s) (enumerate_from 0 k.begun.0) o.states p.states (λ x s t a b. one_state logs x.0 x.1 s t a b) there k.begun.2 in
     let committed : o.committed ≡ p.committed =

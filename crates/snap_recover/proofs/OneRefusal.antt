@@ -15,8 +15,8 @@ use Rattle.txn_records.specs.Records.{key}
 use Rattle.snap_recover.specs.declared.openings.Opening.{Opening}
 use Rattle.snap_recover.specs.declared.refusals.RecoverNo.{RecoverNo}
 use Rattle.snap_recover.specs.declared.refusals.RecoverNo.TheVariants.{NoGenesis, TwoGenesis, LogCount, Range, Missing, Values, Memory}
-use Rattle.snap_recover.specs.Logs.{all_of, log_of, Has, geneses}
-use Rattle.snap_recover.specs.Opening.{IsInfoOf, FitsTids, HasItsValues, HasCompleted, IsWhole, HasPrepared, IsActWhole, IsInRange, IsBegun, IsRecovered}
+use Rattle.snap_recover.specs.Logs.{all_of, log_of, HasKey, geneses}
+use Rattle.snap_recover.specs.Opening.{IsInfoOf, FitsTids, HasItsValues, HasCompleted, IsBatchWhole, HasPrepared, IsActWhole, IsInRange, AreBegunWith, IsRecovered}
 use Rattle.snap_recover.specs.Refusals.{IsFirstOutOfRange, LacksInfo, LacksComplete, LacksPrepare, LacksValues, IsFirstLackingValues, NoneMissing, IsFirstBatchLacking, IsFirstActLacking, IsFirstLacking, IsRefused}
 use Rattle.snap_recover.proofs.Lists.{one_first, all_left, all_right, all_middle, contains_map, contains_middle}
 use Rattle.snap_recover.proofs.OneOpening.{one_info, one_commit, one_act, same_bid, same_tid, one_first_states}
@@ -54,7 +54,7 @@ in_range_all n logs r k (b, a, f, h, e, ek, i, o) all =
 
 -- ---- the key that is lacking
 
-pub info_is_there : (logs : List (List Record)) (bid : Bid) (actors : List ActorId) (tids : List Tid) → IsInfoOf logs bid actors tids → Has (log_of logs bid.0) (keys.Info bid)
+pub info_is_there : (logs : List (List Record)) (bid : Bid) (actors : List ActorId) (tids : List Tid) → IsInfoOf logs bid actors tids → HasKey (log_of logs bid.0) (keys.Info bid)
 info_is_there logs bid actors tids p =
     let here : Contains (p.0 ++ BatchInfo bid actors tids ∷ p.1) (BatchInfo bid actors tids) = contains_middle p.0 (BatchInfo bid actors tids) p.1 in
     contains_map key (log_of logs bid.0) (BatchInfo bid actors tids) (subst (λ (z : List Record). Contains z (BatchInfo bid actors tids)) (sym p.2) here)
@@ -65,17 +65,17 @@ Lacks logs bid k log = LacksInfo logs bid k log ⊎ LacksComplete logs bid k log
 one_lacking : (logs : List (List Record)) (bid : Bid) (k j : Key) (l m : ℕ) → Lacks logs bid k l → Lacks logs bid j m → (k ≡ j) × (l ≡ m)
 one_lacking logs bid k j l m (inl p) (inl q) = (p.0 ∙ sym q.0, p.1 ∙ sym q.1)
 one_lacking logs bid k j l m (inl p) (inr (f, b, a, t, i, w, e, el, out)) =
-    absurd (p.2 (subst (λ (z : Key). Has (log_of logs bid.0) z) (sym p.0) (info_is_there logs bid (f ++ a ∷ b) t i)))
+    absurd (p.2 (subst (λ (z : Key). HasKey (log_of logs bid.0) z) (sym p.0) (info_is_there logs bid (f ++ a ∷ b) t i)))
 one_lacking logs bid k j l m (inr (f, b, a, t, i, w, e, el, out)) (inl q) =
-    absurd (q.2 (subst (λ (z : Key). Has (log_of logs bid.0) z) (sym q.0) (info_is_there logs bid (f ++ a ∷ b) t i)))
+    absurd (q.2 (subst (λ (z : Key). HasKey (log_of logs bid.0) z) (sym q.0) (info_is_there logs bid (f ++ a ∷ b) t i)))
 one_lacking logs bid k j l m (inr (f, b, a, t, i, w, e, el, out)) (inr (f', b', a', t', i', w', e', el', out')) =
     let infos = one_info logs bid (f ++ a ∷ b) (f' ++ a' ∷ b') t t' i i' in
     let same : a ≡ a' = (one_first (HasCompleted logs bid) f b f' b' a a' infos.0 w w' out out').1 in
     (e ∙ ap (λ (z : ActorId). keys.Complete bid z) same ∙ sym e', el ∙ ap (λ (z : ActorId). z.0 % length logs) same ∙ sym el')
 
-pub lacks_is_not_whole : (logs : List (List Record)) (bid : Bid) (k : Key) (l : ℕ) → Lacks logs bid k l → ¬ IsWhole logs bid
+pub lacks_is_not_whole : (logs : List (List Record)) (bid : Bid) (k : Key) (l : ℕ) → Lacks logs bid k l → ¬ IsBatchWhole logs bid
 lacks_is_not_whole logs bid k l (inl p) w =
-    p.2 (subst (λ (z : Key). Has (log_of logs bid.0) z) (sym p.0) (info_is_there logs bid w.0 w.1 w.2))
+    p.2 (subst (λ (z : Key). HasKey (log_of logs bid.0) z) (sym p.0) (info_is_there logs bid w.0 w.1 w.2))
 lacks_is_not_whole logs bid k l (inr (f, b, a, t, i, c, e, el, out)) w =
     let infos = one_info logs bid w.0 (f ++ a ∷ b) w.1 t w.2 i in
     out (all_middle (HasCompleted logs bid) f a b (subst (λ (z : List ActorId). AllByRecursion (HasCompleted logs bid) z) infos.0 w.3))
@@ -165,7 +165,7 @@ none_is_two : (logs : List (List Record)) → geneses logs ≡ [] → 2 ≤ leng
 none_is_two logs p q = let none' : length (geneses logs) ≡ 0 = ap (λ (z : List Record). length z) p in omega (arith, none', q)
 
 -- what is asked after Range holds of logs whose records are all in range
-range_is_not_begun : (logs : List (List Record)) (k : Key) (l : ℕ) (first : List State) → IsRefused logs (Range k l) → ¬ IsBegun logs first
+range_is_not_begun : (logs : List (List Record)) (k : Key) (l : ℕ) (first : List State) → IsRefused logs (Range k l) → ¬ AreBegunWith logs first
 range_is_not_begun logs k l first (s, r, e, p, ek) b =
     in_range_all (length first) logs r l (subst (λ (z : List State). IsFirstOutOfRange (length z) logs r l) (one_first_states logs s first e b.one) p) b.range
 

@@ -15,13 +15,13 @@ use Rattle.txn_records.specs.declared.keys.Key.{Key}
 use Rattle.txn_records.specs.Records.{key}
 use Rattle.snap_recover.specs.declared.kinds.Kind.{Kind}
 use Rattle.snap_recover.specs.declared.kinds.Kind.TheVariants as kinds
-use Rattle.snap_recover.specs.Logs.{Has, log_of}
-use Rattle.snap_recover.specs.Passes.{IsPlaced, IsPlacedBy, AddsInfo, AddsInfos, HasInfos, info_key, commit_key, bid_at, tid_at}
+use Rattle.snap_recover.specs.Logs.{HasKey, log_of}
+use Rattle.snap_recover.specs.Passes.{IsLastPlaced, IsPlacedBy, AddsInfo, AddsInfos, HasInfos, info_key, commit_key, bid_at, tid_at}
 use Rattle.snap_recover.proofs.Lists.{all_append, all_contains, contains_unmap}
 use Rattle.snap_recover.proofs.Homes.{at_log, below_cases, at_same}
 use Rattle.snap_recover.proofs.Steps.{taken}
 
-placed_quiet : (k : Key) (rs : List Record) (r : Record) (old new : Option ℕ) → key r ≢ k → IsPlaced k rs old new → IsPlaced k (rs ++ r ∷ []) old new
+placed_quiet : (k : Key) (rs : List Record) (r : Record) (old new : Option ℕ) → key r ≢ k → IsLastPlaced k rs old new → IsLastPlaced k (rs ++ r ∷ []) old new
 placed_quiet k rs r old new h (inl (place, e, (front, behind, x, is, at, it, quiet))) =
     inl (
       place,
@@ -38,7 +38,7 @@ placed_quiet k rs r old new h (inl (place, e, (front, behind, x, is, at, it, qui
     )
 placed_quiet k rs r old new h (inr (quiet, e)) = inr (all_append (λ y. key y ≢ k) rs (r ∷ []) quiet (h, tt), e)
 
-placed_here : (k : Key) (place : ℕ) (rs : List Record) (r : Record) (old : Option ℕ) → key r ≡ k → place ≡ length rs → IsPlaced k (rs ++ r ∷ []) old (Some place)
+placed_here : (k : Key) (place : ℕ) (rs : List Record) (r : Record) (old : Option ℕ) → key r ≡ k → place ≡ length rs → IsLastPlaced k (rs ++ r ∷ []) old (Some place)
 placed_here k place rs r old it at = inl (place, refl, (rs, [], r, refl, at, it, tt))
 
 pub infos_apart : (kind : Kind) (n m : ℕ) → info_key kind n ≡ info_key kind m → n ≡ m
@@ -76,9 +76,9 @@ info_here key_at apart log logs at k r old new home is u n = (
 )
 
 -- a record more
-placed_more : (k : Key) (at : ℕ) (rs : List Record) (r : Record) (old mid new : Option ℕ) → at ≡ length rs → IsPlaced k rs old mid → IsPlacedBy k at r mid new → IsPlaced k (rs ++ r ∷ []) old new
-placed_more k at rs r old mid new len h (inl (is, e)) = subst (λ (z : Option ℕ). IsPlaced k (rs ++ r ∷ []) old z) (sym e) (placed_here k at rs r old is len)
-placed_more k at rs r old mid new len h (inr (other, e)) = subst (λ (z : Option ℕ). IsPlaced k (rs ++ r ∷ []) old z) (sym e) (placed_quiet k rs r old mid other h)
+placed_more : (k : Key) (at : ℕ) (rs : List Record) (r : Record) (old mid new : Option ℕ) → at ≡ length rs → IsLastPlaced k rs old mid → IsPlacedBy k at r mid new → IsLastPlaced k (rs ++ r ∷ []) old new
+placed_more k at rs r old mid new len h (inl (is, e)) = subst (λ (z : Option ℕ). IsLastPlaced k (rs ++ r ∷ []) old z) (sym e) (placed_here k at rs r old is len)
+placed_more k at rs r old mid new len h (inr (other, e)) = subst (λ (z : Option ℕ). IsLastPlaced k (rs ++ r ∷ []) old z) (sym e) (placed_quiet k rs r old mid other h)
 
 pub infos_step : (key_at : ℕ → Key) (log logs : ℕ) (rs : List Record) (i : ℕ) (r : Record) (old mid new : BTreeMap ℕ ℕ) → i < length rs → r ≡ get_or rs i r
     → AddsInfos key_at log logs (take i rs) old mid → AddsInfo key_at log logs i r mid new → AddsInfos key_at log logs (take (i + 1) rs) old new
@@ -93,7 +93,7 @@ infos_step key_at log logs rs i r old mid new l at h g =
 
 abbrev pub InfosThrough : (ℕ → Key) → List (List Record) → ℕ → BTreeMap ℕ ℕ → Type 0
 InfosThrough key_at logs i places = (n : ℕ) →
-    ((n % length logs < i → IsPlaced (key_at n) (log_of logs n) None (tree.get nat_cmp places n)) × (i ≤ n % length logs → tree.get nat_cmp places n ≡ None))
+    ((n % length logs < i → IsLastPlaced (key_at n) (log_of logs n) None (tree.get nat_cmp places n)) × (i ≤ n % length logs → tree.get nat_cmp places n ≡ None))
 
 pub infos_begin : (key_at : ℕ → Key) (logs : List (List Record)) (places : BTreeMap ℕ ℕ) → places.entries ≡ [] → InfosThrough key_at logs 0 places
 infos_begin key_at logs places e n = (λ l. absurd (omega arith), λ l. ap (λ (z : List (ℕ × ℕ)). lookup (is_at (nat_cmp n)) z) e)
@@ -102,11 +102,11 @@ pub infos_through : (key_at : ℕ → Key) (logs : List (List Record)) (i : ℕ)
     → AddsInfos key_at i (length logs) rs old new → InfosThrough key_at logs i old → InfosThrough key_at logs (i + 1) new
 infos_through key_at logs i rs old new l at adds h n = (
   λ low. elim (below_cases (n % length logs) i low) [
-    | inl less ↦ subst (λ (z : Option ℕ). IsPlaced (key_at n) (log_of logs n) None z) (sym ((adds n).1 (omega arith))) ((h n).0 less)
+    | inl less ↦ subst (λ (z : Option ℕ). IsLastPlaced (key_at n) (log_of logs n) None z) (sym ((adds n).1 (omega arith))) ((h n).0 less)
     | inr e ↦
         let none : tree.get nat_cmp old n ≡ None = (h n).1 (omega arith) in
-        subst (λ (z : List Record). IsPlaced (key_at n) z None (tree.get nat_cmp new n)) (sym (at_log logs n i rs l at e))
-        (subst (λ (z : Option ℕ). IsPlaced (key_at n) rs z (tree.get nat_cmp new n)) none ((adds n).0 e))
+        subst (λ (z : List Record). IsLastPlaced (key_at n) z None (tree.get nat_cmp new n)) (sym (at_log logs n i rs l at e))
+        (subst (λ (z : Option ℕ). IsLastPlaced (key_at n) rs z (tree.get nat_cmp new n)) none ((adds n).0 e))
   ],
   λ high. (adds n).1 (omega arith) ∙ (h n).1 (omega arith),
 )
@@ -115,6 +115,6 @@ pub infos_end : (key_at : ℕ → Key) (logs : List (List Record)) (i : ℕ) (pl
 infos_end key_at logs i places some l h n = (h n).0 (let low = mod-lt n some in omega (arith, low))
 
 -- what stands in its log has a place
-pub placed_some : (k : Key) (rs : List Record) (now : Option ℕ) → now ≡ None → IsPlaced k rs None now → ¬ Has rs k
+pub placed_some : (k : Key) (rs : List Record) (now : Option ℕ) → now ≡ None → IsLastPlaced k rs None now → ¬ HasKey rs k
 placed_some k rs now e (inl (place, is, at)) h = let bad : Some place ≡ None = sym is ∙ e in absurd (cc)
 placed_some k rs now e (inr (quiet, is)) h = let r = contains_unmap key rs k h in all_contains (λ x. key x ≢ k) rs r.0 quiet r.1 r.2

@@ -22,7 +22,7 @@ use Rattle.txn_records.specs.declared.keys.Key.TheVariants as keys
 use Rattle.snap_recover.specs.declared.kinds.Kind.TheVariants as kinds
 use Rattle.snap_recover.specs.declared.openings.Kept.{Kept}
 use Rattle.snap_recover.specs.declared.openings.Kept.TheVariants as kept
-use Rattle.snap_recover.specs.Opening.{IsIn, IsActIn, IsActOf, commit_of, IsKept, ComesBefore, IsCommitted}
+use Rattle.snap_recover.specs.Opening.{IsIn, IsActIn, IsActOf, commit_of, IsKeptIn, ComesBefore, IsCommitted}
 use Rattle.snap_recover.specs.Passes.{bid_at, tid_at, Spot, spot_cmp, InSpots, spot_of, IsBatchSpot, IsActSpot, AddsSpots, IsSpotIn, HasSpots, IsKeptAt, IsAllWhole}
 use Rattle.snap_recover.proofs.Lists.{all_append, all_weaker, contains_here, contains_left, contains_right, contains_append, contains_cases, contains_none, contains_map, contains_unmap}
 use Rattle.snap_recover.proofs.Homes.{Inserts}
@@ -201,7 +201,7 @@ are_spots logs set spots e sorted has = record {
 
 pub record KeptThrough (logs : List (List Record)) (spots : List Spot) (i : ℕ) (ks : List Kept) : Type 0 where
   pub are : map spot_of ks ≡ take i spots
-  pub each : AllByRecursion (IsKept logs) ks
+  pub each : AllByRecursion (IsKeptIn logs) ks
 
 pub kept_begin : (logs : List (List Record)) (spots : List Spot) → KeptThrough logs spots 0 []
 kept_begin logs spots = record { are = refl; each = tt }
@@ -210,7 +210,7 @@ pub kept_step : (logs : List (List Record)) (spots : List Spot) (i : ℕ) (x : S
     → KeptThrough logs spots i ks → KeptThrough logs spots (i + 1) (ks ++ k ∷ [])
 kept_step logs spots i x ks k l at w h = record {
   are = map-append spot_of ks (k ∷ []) ∙ ap (λ (z : List Spot). z ++ spot_of k ∷ []) h.are ∙ ap (λ (z : Spot). take i spots ++ z ∷ []) w.at ∙ sym (taken spots i x l at);
-  each = all_append (IsKept logs) ks (k ∷ []) h.each (w.is_kept, tt);
+  each = all_append (IsKeptIn logs) ks (k ∷ []) h.each (w.is_kept, tt);
 }
 
 pub spot_in : (logs : List (List Record)) (spots : List Spot) (i : ℕ) (x : Spot) → i < length spots → x ≡ get_or spots i x → AreSpots logs spots → IsSpotIn logs x

@@ -8,7 +8,7 @@ use Rattle.txn_records.specs.declared.records.Record.TheVariants.{BatchCommit, B
 use Rattle.snap_recover.specs.declared.kinds.Kind.TheVariants as kinds
 use Rattle.snap_recover.specs.declared.refusals.RecoverNo.{RecoverNo}
 use Rattle.snap_recover.specs.declared.refusals.RecoverNo.TheVariants.{NoGenesis, TwoGenesis, LogCount, Range, Missing, Values, Memory}
-use Rattle.snap_recover.specs.Logs.{Has, log_of}
+use Rattle.snap_recover.specs.Logs.{HasKey, log_of}
 use Rattle.snap_recover.specs.Opening.{IsInfoOf, IsCommitOf, HasItsValues}
 use Rattle.snap_recover.specs.Passes.{bid_at, commit_key, AllValued, IsValuesLackOf, IsFirstValuesLackOf}
 use Rattle.snap_recover.proofs.Lists.{all_contains}
@@ -24,7 +24,7 @@ untold_valued logs n actors tids i m = record { actors = actors; tids = tids; co
 pub told_valued : (logs : List (List Record)) (n : ℕ) (actors : List ActorId) (tids : List Tid) (values : List ℤ) → length values ≡ length tids → IsInfoOf logs (bid_at n) actors tids → IsCommitOf logs (bid_at n) (BatchDone (bid_at n) values) → HasItsValues logs (bid_at n)
 told_valued logs n actors tids values e i m = record { actors = actors; tids = tids; commit = BatchDone (bid_at n) values; info_is = i; commit_is = m; fits = e }
 
-first_values : (logs : List (List Record)) (n : ℕ) (no : RecoverNo) → Has (log_of logs n) (commit_key kinds.Batch n) → ((b : ℕ) → b < n → Has (log_of logs b) (commit_key kinds.Batch b) → HasItsValues logs (bid_at b))
+first_values : (logs : List (List Record)) (n : ℕ) (no : RecoverNo) → HasKey (log_of logs n) (commit_key kinds.Batch n) → ((b : ℕ) → b < n → HasKey (log_of logs b) (commit_key kinds.Batch b) → HasItsValues logs (bid_at b))
     → IsValuesLackOf logs n no → IsFirstValuesLackOf logs no
 first_values logs n NoGenesis i low h = h
 first_values logs n TwoGenesis i low h = h

@@ -7,7 +7,7 @@ use Rattle.snap_recover.specs.declared.refusals.RecoverNo.{RecoverNo}
 use Rattle.snap_recover.specs.declared.ranges.TheConstants.{GREATEST_NUMBER}
 use Rattle.snap_recover.specs.declared.refusals.RecoverNo.TheVariants.{NoGenesis, TwoGenesis, LogCount, Range, Missing, Values, Memory}
 use Rattle.snap_recover.specs.Logs.{all_of, bids_in, tids_in, commits_in, geneses}
-use Rattle.snap_recover.specs.Opening.{IsInRange, IsBegun, greatest}
+use Rattle.snap_recover.specs.Opening.{IsInRange, AreBegunWith, greatest}
 use Rattle.snap_recover.specs.Refusals.{IsRefused}
 use Rattle.snap_recover.specs.Passes.{IsFirstLackOf, IsFirstValuesLackOf, IsLackOfBegun, IsAllWhole}
 use Rattle.snap_recover.proofs.Lists.{all_weaker, all_left, all_right}
@@ -58,7 +58,7 @@ begun_values_lack logs (Missing k l) w h = absurd h
 begun_values_lack logs (Values k l u v) w h = (w, h)
 begun_values_lack logs Memory w h = tt
 
-pub lack_is_refused : (logs : List (List Record)) (first : List State) (answer : RecoverNo) → IsBegun logs first → IsLackOfBegun logs answer → IsRefused logs answer
+pub lack_is_refused : (logs : List (List Record)) (first : List State) (answer : RecoverNo) → AreBegunWith logs first → IsLackOfBegun logs answer → IsRefused logs answer
 lack_is_refused logs first NoGenesis b h = absurd h
 lack_is_refused logs first TwoGenesis b h = absurd h
 lack_is_refused logs first (LogCount c f) b h = absurd h

@@ -17,8 +17,8 @@ abbrev pub log_of : List (List Record) → ℕ → List Record
 log_of logs n = slice_index_or logs (n % length logs) []
 
 -- some record has the key
-abbrev pub Has : List Record → Key → Type 0
-Has rs k = Contains (map key rs) k
+abbrev pub HasKey : List Record → Key → Type 0
+HasKey rs k = Contains (map key rs) k
 
 -- r is the last one that has P
 abbrev pub IsLastOf : (Record → Type 0) → List Record → Record → Type 0

@@ -15,13 +15,13 @@ use Rattle.snap_recover.specs.declared.openings.Opening.{Opening}
 use Rattle.snap_recover.specs.declared.ranges.TheConstants.{GREATEST_NUMBER}
 use Rattle.snap_recover.specs.declared.openings.Kept.{Kept}
 use Rattle.snap_recover.specs.declared.openings.Kept.TheVariants as kept
-use Rattle.snap_recover.specs.Logs.{all_of, log_of, Has, IsLastOf, actors_in, tids_in, bids_in, commits_in, states_in, values_in, geneses}
+use Rattle.snap_recover.specs.Logs.{all_of, log_of, HasKey, IsLastOf, actors_in, tids_in, bids_in, commits_in, states_in, values_in, geneses}
 
 -- ---- batches
 
 -- A batch is in where its log has its commit.
 abbrev pub IsIn : List (List Record) → Bid → Type 0
-IsIn logs bid = Has (log_of logs bid.0) (keys.Commit bid)
+IsIn logs bid = HasKey (log_of logs bid.0) (keys.Commit bid)
 
 -- what its log says of a batch: its actors and its transactions; where it says so twice, the last counts
 abbrev pub IsInfoOf : List (List Record) → Bid → List ActorId → List Tid → Type 0
@@ -53,17 +53,17 @@ pub record HasItsValues (logs : List (List Record)) (bid : Bid) : Type 0 where
 
 -- the actor's log says that it has run its part of the batch
 abbrev pub HasCompleted : List (List Record) → Bid → ActorId → Type 0
-HasCompleted logs bid actor = Has (log_of logs actor.0) (keys.Complete bid actor)
+HasCompleted logs bid actor = HasKey (log_of logs actor.0) (keys.Complete bid actor)
 
 -- nothing is lacking of a batch
-abbrev pub IsWhole : List (List Record) → Bid → Type 0
-IsWhole logs bid = (actors : List ActorId) × (tids : List Tid) × IsInfoOf logs bid actors tids × AllByRecursion (HasCompleted logs bid) actors
+abbrev pub IsBatchWhole : List (List Record) → Bid → Type 0
+IsBatchWhole logs bid = (actors : List ActorId) × (tids : List Tid) × IsInfoOf logs bid actors tids × AllByRecursion (HasCompleted logs bid) actors
 
 -- ---- ACTs
 
 -- An ACT is in where its log has its commit.
 abbrev pub IsActIn : List (List Record) → Tid → Type 0
-IsActIn logs tid = Has (log_of logs tid.0) (keys.Act tid)
+IsActIn logs tid = HasKey (log_of logs tid.0) (keys.Act tid)
 
 -- the commit of an ACT: format 2 tells its value
 abbrev pub act_record : Tid → Bid → ℕ → Option ℤ → List ActorId → Record
@@ -77,7 +77,7 @@ IsActOf logs tid m c value actors = IsLastOf (λ r. key r ≡ keys.Act tid) (log
 
 -- the actor's log has the state that the ACT gave it
 abbrev pub HasPrepared : List (List Record) → Tid → ActorId → Type 0
-HasPrepared logs tid actor = Has (log_of logs actor.0) (keys.Prepare tid actor)
+HasPrepared logs tid actor = HasKey (log_of logs actor.0) (keys.Prepare tid actor)
 
 -- nothing is lacking of an ACT
 abbrev pub IsActWhole : List (List Record) → Tid → Type 0
@@ -103,8 +103,8 @@ IsStateOf logs a first s =
     ⊎ (AllByRecursion (λ r. ¬ Counts logs a r) (log_of logs a) × (s ≡ first))
 
 -- the states of the actors, which began with these
-abbrev pub AreStates : List (List Record) → List State → List State → Type 0
-AreStates logs first states = AllZip (λ (x : ℕ × State) s. IsStateOf logs x.0 x.1 s) (enumerate_from 0 first) states
+abbrev pub AreStatesOf : List (List Record) → List State → List State → Type 0
+AreStatesOf logs first states = AllZip (λ (x : ℕ × State) s. IsStateOf logs x.0 x.1 s) (enumerate_from 0 first) states
 
 -- ---- what is committed
 
@@ -113,9 +113,9 @@ abbrev pub commit_of : Kept → Key
 commit_of (kept.Batch bid tids values) = keys.Commit bid
 commit_of (kept.Act tid m c value) = keys.Act tid
 
-abbrev pub IsKept : List (List Record) → Kept → Type 0
-IsKept logs (kept.Batch bid tids values) = IsIn logs bid × ((actors : List ActorId) × IsInfoOf logs bid actors tids) × ((r : Record) × IsCommitOf logs bid r × (values ≡ values_in r))
-IsKept logs (kept.Act tid m c value) = (actors : List ActorId) × IsActOf logs tid m c value actors
+abbrev pub IsKeptIn : List (List Record) → Kept → Type 0
+IsKeptIn logs (kept.Batch bid tids values) = IsIn logs bid × ((actors : List ActorId) × IsInfoOf logs bid actors tids) × ((r : Record) × IsCommitOf logs bid r × (values ≡ values_in r))
+IsKeptIn logs (kept.Act tid m c value) = (actors : List ActorId) × IsActOf logs tid m c value actors
 
 -- The order of the places: batches by their numbers, and ACTs behind the batch of their m and before all later
 -- ones, by their commit numbers and then by their tids.
@@ -128,7 +128,7 @@ ComesBefore (kept.Act tid m c value) (kept.Act tid' m' c' value') = (m.0 < m'.0)
 -- the batches and the ACTs that are in, in the order of their places
 pub record IsCommitted (logs : List (List Record)) (committed : List Kept) : Type 0 where
   pub ascend : AllPairs ComesBefore committed
-  pub each : AllByRecursion (IsKept logs) committed
+  pub each : AllByRecursion (IsKeptIn logs) committed
   pub all_batches : (bid : Bid) → IsIn logs bid → Contains (map commit_of committed) (keys.Commit bid)
   pub all_acts : (tid : Tid) → IsActIn logs tid → Contains (map commit_of committed) (keys.Act tid)
 
@@ -150,13 +150,13 @@ pub record IsInRange (actors : ℕ) (r : Record) : Type 0 where
   pub numbers_below : AllByRecursion (λ n. n ≤ GREATEST_NUMBER) (bids_in r ++ (commits_in r ++ tids_in r))
 
 -- The logs have one Genesis, which tells their number and the first states, and their records are in range.
-pub record IsBegun (logs : List (List Record)) (first : List State) : Type 0 where
+pub record AreBegunWith (logs : List (List Record)) (first : List State) : Type 0 where
   pub one : geneses logs ≡ Genesis (length logs) first ∷ []
   pub range : AllByRecursion (IsInRange (length first)) (all_of logs)
 
 pub record IsRecovered (logs : List (List Record)) (o : Opening) : Type 0 where
-  pub begun : (first : List State) × IsBegun logs first × AreStates logs first o.states
-  pub whole : (bid : Bid) → IsIn logs bid → IsWhole logs bid
+  pub begun : (first : List State) × AreBegunWith logs first × AreStatesOf logs first o.states
+  pub whole : (bid : Bid) → IsIn logs bid → IsBatchWhole logs bid
   pub acts_whole : (tid : Tid) → IsActIn logs tid → IsActWhole logs tid
   pub valued : (bid : Bid) → IsIn logs bid → HasItsValues logs bid
   pub committed : IsCommitted logs o.committed

@@ -17,14 +17,14 @@ use Rattle.txn_records.specs.declared.records.Record.TheVariants.{Genesis, Batch
 use Rattle.txn_records.specs.declared.keys.Key.{Key}
 use Rattle.txn_records.specs.declared.keys.Key.TheVariants as keys
 use Rattle.txn_records.specs.Records.{key}
-use Rattle.snap_recover.specs.Logs.{Has, IsLastOf, log_of, states_in}
+use Rattle.snap_recover.specs.Logs.{HasKey, IsLastOf, log_of, states_in}
 use Rattle.snap_recover.specs.declared.kinds.Kind.{Kind}
 use Rattle.snap_recover.specs.declared.kinds.Kind.TheVariants as kinds
 use Rattle.snap_recover.specs.declared.openings.Kept.{Kept}
 use Rattle.snap_recover.specs.declared.openings.Kept.TheVariants as kept
 use Rattle.snap_recover.specs.declared.refusals.RecoverNo.{RecoverNo}
 use Rattle.snap_recover.specs.declared.refusals.RecoverNo.TheVariants.{NoGenesis, TwoGenesis, LogCount, Range, Missing, Values, Memory}
-use Rattle.snap_recover.specs.Opening.{IsWhole, IsIn, IsActIn, IsActWhole, IsActOf, HasItsValues, act_record, IsKept}
+use Rattle.snap_recover.specs.Opening.{IsBatchWhole, IsIn, IsActIn, IsActWhole, IsActOf, HasItsValues, act_record, IsKeptIn}
 use Rattle.snap_recover.specs.Refusals.{LacksInfo, LacksComplete, LacksPrepare, LacksValues, IsFirstBatchLacking, IsFirstActLacking, IsFirstLacking, IsFirstLackingValues}
 
 abbrev pub bid_at : ℕ → Bid
@@ -65,24 +65,24 @@ info_key kinds.Batch n = keys.Info (bid_at n)
 info_key kinds.Act n = keys.Act (tid_at n)
 
 -- what the records have the key of, where it is at home in this log, is added
-abbrev pub Adds : {X : Type 0} → (X → Type 0) → (X → Key) → List Record → (X → Type 0) → (X → Type 0) → Type 0
-Adds {X} AtHome key_at rs Old New = (x : X) → New x ↔ (Old x ⊎ (AtHome x × Has rs (key_at x)))
+abbrev pub AddsKeyed : {X : Type 0} → (X → Type 0) → (X → Key) → List Record → (X → Type 0) → (X → Type 0) → Type 0
+AddsKeyed {X} AtHome key_at rs Old New = (x : X) → New x ↔ (Old x ⊎ (AtHome x × HasKey rs (key_at x)))
 
 -- the numbers of the batches, or the ACTs, whose commits stand in their log are added
 abbrev pub AddsCommits : Kind → ℕ → ℕ → List Record → BTreeSet ℕ → BTreeSet ℕ → Type 0
-AddsCommits kind log logs rs old new = Adds (λ n. n % logs ≡ log) (commit_key kind) rs (In old) (In new)
+AddsCommits kind log logs rs old new = AddsKeyed (λ n. n % logs ≡ log) (commit_key kind) rs (In old) (In new)
 
 -- the parts that stand in their actor's log are added
 abbrev pub AddsParts : Kind → ℕ → ℕ → List Record → BTreeSet (ℕ × ℕ) → BTreeSet (ℕ × ℕ) → Type 0
-AddsParts kind log logs rs old new = Adds (λ (x : ℕ × ℕ). x.1 % logs ≡ log) (part_key kind) rs (InPair old) (InPair new)
+AddsParts kind log logs rs old new = AddsKeyed (λ (x : ℕ × ℕ). x.1 % logs ≡ log) (part_key kind) rs (InPair old) (InPair new)
 
 -- the place of the last record with the key
 abbrev pub IsLastPlace : Key → List Record → ℕ → Type 0
 IsLastPlace k rs place = (front behind : List Record) × (r : Record) × (rs ≡ front ++ r ∷ behind) × (place ≡ length front) × (key r ≡ k) × AllByRecursion (λ x. key x ≢ k) behind
 
 -- what was kept of a key is now the place of the last of these records with the key, and where there is none it is as it was
-abbrev pub IsPlaced : Key → List Record → Option ℕ → Option ℕ → Type 0
-IsPlaced k rs old new =
+abbrev pub IsLastPlaced : Key → List Record → Option ℕ → Option ℕ → Type 0
+IsLastPlaced k rs old new =
     ((place : ℕ) × (new ≡ Some place) × IsLastPlace k rs place)
     ⊎ (AllByRecursion (λ r. key r ≢ k) rs × (new ≡ old))
 
@@ -98,31 +98,31 @@ AddsInfo key_at log logs at r old new = (n : ℕ) →
 -- the places of the records with these keys that stand in their log are added
 abbrev pub AddsInfos : (ℕ → Key) → ℕ → ℕ → List Record → BTreeMap ℕ ℕ → BTreeMap ℕ ℕ → Type 0
 AddsInfos key_at log logs rs old new = (n : ℕ) →
-    ((n % logs ≡ log → IsPlaced (key_at n) rs (tree.get nat_cmp old n) (tree.get nat_cmp new n)) × (n % logs ≢ log → tree.get nat_cmp new n ≡ tree.get nat_cmp old n))
+    ((n % logs ≡ log → IsLastPlaced (key_at n) rs (tree.get nat_cmp old n) (tree.get nat_cmp new n)) × (n % logs ≢ log → tree.get nat_cmp new n ≡ tree.get nat_cmp old n))
 
 -- ---- over all logs
 
 abbrev pub HasCommitted : Kind → List (List Record) → BTreeSet ℕ → Type 0
-HasCommitted kind logs set = (n : ℕ) → In set n ↔ Has (log_of logs n) (commit_key kind n)
+HasCommitted kind logs set = (n : ℕ) → In set n ↔ HasKey (log_of logs n) (commit_key kind n)
 
 abbrev pub HasAllParts : Kind → List (List Record) → BTreeSet (ℕ × ℕ) → Type 0
-HasAllParts kind logs set = (x : ℕ × ℕ) → InPair set x ↔ Has (log_of logs x.1) (part_key kind x)
+HasAllParts kind logs set = (x : ℕ × ℕ) → InPair set x ↔ HasKey (log_of logs x.1) (part_key kind x)
 
 abbrev pub HasInfos : (ℕ → Key) → List (List Record) → BTreeMap ℕ ℕ → Type 0
-HasInfos key_at logs places = (n : ℕ) → IsPlaced (key_at n) (log_of logs n) None (tree.get nat_cmp places n)
+HasInfos key_at logs places = (n : ℕ) → IsLastPlaced (key_at n) (log_of logs n) None (tree.get nat_cmp places n)
 
 -- ---- states
 
 -- a record that tells a state of the actor, of one of these batches or of these ACTs
-abbrev pub Tells : (ℕ → Type 0) → (ℕ → Type 0) → ℕ → Record → Type 0
-Tells Batches Acts a (Genesis count states) = ⊥
-Tells Batches Acts a (BatchInfo bid actors tids) = ⊥
-Tells Batches Acts a (BatchComplete bid actor state) = (actor.0 ≡ a) × Batches bid.0
-Tells Batches Acts a (BatchCommit bid) = ⊥
-Tells Batches Acts a (ActPrepare tid actor state) = (actor.0 ≡ a) × Acts tid.0
-Tells Batches Acts a (ActCommit tid m c actors) = ⊥
-Tells Batches Acts a (BatchDone bid values) = ⊥
-Tells Batches Acts a (ActDone tid m c value actors) = ⊥
+abbrev pub TellsState : (ℕ → Type 0) → (ℕ → Type 0) → ℕ → Record → Type 0
+TellsState Batches Acts a (Genesis count states) = ⊥
+TellsState Batches Acts a (BatchInfo bid actors tids) = ⊥
+TellsState Batches Acts a (BatchComplete bid actor state) = (actor.0 ≡ a) × Batches bid.0
+TellsState Batches Acts a (BatchCommit bid) = ⊥
+TellsState Batches Acts a (ActPrepare tid actor state) = (actor.0 ≡ a) × Acts tid.0
+TellsState Batches Acts a (ActCommit tid m c actors) = ⊥
+TellsState Batches Acts a (BatchDone bid values) = ⊥
+TellsState Batches Acts a (ActDone tid m c value actors) = ⊥
 
 -- the state of the last record that has P, and where none has it the first one
 abbrev pub StateOver : (Record → Type 0) → List Record → State → State → Type 0
@@ -133,13 +133,13 @@ StateOver P rs first s =
 -- the states of the actors whose log this is are those that it tells, and the others are as they were
 pub record Replays (log logs : ℕ) (Batches Acts : ℕ → Type 0) (rs : List Record) (old new : List State) : Type 0 where
   pub long : length new ≡ length old
-  pub here : (a : ℕ) (d : State) → a < length old → a % logs ≡ log → StateOver (Tells Batches Acts a) rs (slice_index_or old a d) (slice_index_or new a d)
+  pub here : (a : ℕ) (d : State) → a < length old → a % logs ≡ log → StateOver (TellsState Batches Acts a) rs (slice_index_or old a d) (slice_index_or new a d)
   pub elsewhere : (a : ℕ) (d : State) → a < length old → a % logs ≢ log → slice_index_or new a d ≡ slice_index_or old a d
 
 -- ---- what is whole
 
 abbrev pub MemberWhole : Kind → List (List Record) → ℕ → Type 0
-MemberWhole kinds.Batch logs n = IsWhole logs (bid_at n)
+MemberWhole kinds.Batch logs n = IsBatchWhole logs (bid_at n)
 MemberWhole kinds.Act logs n = IsActWhole logs (tid_at n)
 
 abbrev pub MemberLacks : Kind → List (List Record) → ℕ → Key → ℕ → Type 0
@@ -187,11 +187,11 @@ IsFirstLackOf logs Memory = ⊤
 
 -- nothing is lacking of this kind
 abbrev pub AllWhole : Kind → List (List Record) → Type 0
-AllWhole kind logs = (n : ℕ) → Has (log_of logs n) (commit_key kind n) → MemberWhole kind logs n
+AllWhole kind logs = (n : ℕ) → HasKey (log_of logs n) (commit_key kind n) → MemberWhole kind logs n
 
 -- nothing is lacking
 pub record IsAllWhole (logs : List (List Record)) : Type 0 where
-  pub batches : (bid : Bid) → IsIn logs bid → IsWhole logs bid
+  pub batches : (bid : Bid) → IsIn logs bid → IsBatchWhole logs bid
   pub acts : (tid : Tid) → IsActIn logs tid → IsActWhole logs tid
 
 -- the answer tells which values of this batch are lacking
@@ -216,7 +216,7 @@ IsFirstValuesLackOf logs Memory = ⊤
 
 -- each batch that is in has its values
 abbrev pub AllValued : List (List Record) → Type 0
-AllValued logs = (n : ℕ) → Has (log_of logs n) (commit_key kinds.Batch n) → HasItsValues logs (bid_at n)
+AllValued logs = (n : ℕ) → HasKey (log_of logs n) (commit_key kinds.Batch n) → HasItsValues logs (bid_at n)
 
 -- the answer tells what the logs lack, where they are begun
 abbrev pub IsLackOfBegun : List (List Record) → RecoverNo → Type 0
@@ -239,7 +239,7 @@ spot_cmp x y = ordering_then (ordering_then (ordering_then (nat_cmp x.0 y.0) (na
 
 -- all of the numbers are in
 abbrev pub HasIn : Kind → List (List Record) → List ℕ → Type 0
-HasIn kind logs numbers = AllByRecursion (λ n. Has (log_of logs n) (commit_key kind n)) numbers
+HasIn kind logs numbers = AllByRecursion (λ n. HasKey (log_of logs n) (commit_key kind n)) numbers
 
 abbrev pub InSpots : BTreeSet Spot → Spot → Type 0
 InSpots set x = IsTrue (bag.contains spot_cmp set x)
@@ -271,4 +271,4 @@ HasSpots logs set = (x : Spot) → InSpots set x ↔ IsSpotIn logs x
 -- what is kept at the spot
 pub record IsKeptAt (logs : List (List Record)) (x : Spot) (k : Kept) : Type 0 where
   pub at : spot_of k ≡ x
-  pub is_kept : IsKept logs k
+  pub is_kept : IsKeptIn logs k

@@ -12,8 +12,8 @@ use Rattle.txn_records.specs.declared.keys.Key.TheVariants as keys
 use Rattle.txn_records.specs.Records.{key}
 use Rattle.snap_recover.specs.declared.refusals.RecoverNo.{RecoverNo}
 use Rattle.snap_recover.specs.declared.refusals.RecoverNo.TheVariants.{NoGenesis, TwoGenesis, LogCount, Range, Missing, Values, Memory}
-use Rattle.snap_recover.specs.Logs.{all_of, log_of, Has, geneses}
-use Rattle.snap_recover.specs.Opening.{IsIn, IsInfoOf, IsCommitOf, HasItsValues, HasCompleted, IsWhole, IsActIn, IsActOf, HasPrepared, IsActWhole, IsInRange, IsBegun}
+use Rattle.snap_recover.specs.Logs.{all_of, log_of, HasKey, geneses}
+use Rattle.snap_recover.specs.Opening.{IsIn, IsInfoOf, IsCommitOf, HasItsValues, HasCompleted, IsBatchWhole, IsActIn, IsActOf, HasPrepared, IsActWhole, IsInRange, AreBegunWith}
 
 -- the first record, log by log, that is not in range, and the log in which it stands
 abbrev pub IsFirstOutOfRange : ℕ → List (List Record) → Record → ℕ → Type 0
@@ -24,7 +24,7 @@ IsFirstOutOfRange actors logs r log =
 
 -- a batch lacks its info
 abbrev pub LacksInfo : List (List Record) → Bid → Key → ℕ → Type 0
-LacksInfo logs bid k log = (k ≡ keys.Info bid) × (log ≡ bid.0 % length logs) × ¬ Has (log_of logs bid.0) k
+LacksInfo logs bid k log = (k ≡ keys.Info bid) × (log ≡ bid.0 % length logs) × ¬ HasKey (log_of logs bid.0) k
 
 -- an actor of the batch has not completed it, and all before it have
 abbrev pub LacksComplete : List (List Record) → Bid → Key → ℕ → Type 0
@@ -43,7 +43,7 @@ LacksPrepare logs tid k log =
 -- the first key that is lacking of batches, by their numbers, and the log in which it should be
 abbrev pub IsFirstBatchLacking : List (List Record) → Key → ℕ → Type 0
 IsFirstBatchLacking logs k log =
-    (bid : Bid) × IsIn logs bid × ((b : Bid) → b.0 < bid.0 → IsIn logs b → IsWhole logs b)
+    (bid : Bid) × IsIn logs bid × ((b : Bid) → b.0 < bid.0 → IsIn logs b → IsBatchWhole logs b)
     × (LacksInfo logs bid k log ⊎ LacksComplete logs bid k log)
 
 -- the first key that is lacking of ACTs, by their tids, and the log in which it should be
@@ -56,7 +56,7 @@ IsFirstActLacking logs k log =
 abbrev pub IsFirstLacking : List (List Record) → Key → ℕ → Type 0
 IsFirstLacking logs k log =
     IsFirstBatchLacking logs k log
-    ⊎ (((bid : Bid) → IsIn logs bid → IsWhole logs bid) × IsFirstActLacking logs k log)
+    ⊎ (((bid : Bid) → IsIn logs bid → IsBatchWhole logs bid) × IsFirstActLacking logs k log)
 
 -- the commit of a batch tells values, and not one for each of its transactions
 abbrev pub LacksValues : List (List Record) → Bid → Key → ℕ → ℕ → ℕ → Type 0
@@ -74,7 +74,7 @@ IsFirstLackingValues logs k log count found =
 
 -- nothing is lacking
 abbrev pub NoneMissing : List (List Record) → Type 0
-NoneMissing logs = ((bid : Bid) → IsIn logs bid → IsWhole logs bid) × ((tid : Tid) → IsActIn logs tid → IsActWhole logs tid)
+NoneMissing logs = ((bid : Bid) → IsIn logs bid → IsBatchWhole logs bid) × ((tid : Tid) → IsActIn logs tid → IsActWhole logs tid)
 
 abbrev pub IsRefused : List (List Record) → RecoverNo → Type 0
 IsRefused logs NoGenesis = geneses logs ≡ []
@@ -84,7 +84,7 @@ IsRefused logs (LogCount count found) =
 IsRefused logs (Range k log) =
     (first : List State) × (r : Record) × (geneses logs ≡ Genesis (length logs) first ∷ [])
     × IsFirstOutOfRange (length first) logs r log × (k ≡ key r)
-IsRefused logs (Missing k log) = (first : List State) × IsBegun logs first × IsFirstLacking logs k log
+IsRefused logs (Missing k log) = (first : List State) × AreBegunWith logs first × IsFirstLacking logs k log
 IsRefused logs (Values k log count found) =
-    (first : List State) × IsBegun logs first × NoneMissing logs × IsFirstLackingValues logs k log count found
+    (first : List State) × AreBegunWith logs first × NoneMissing logs × IsFirstLackingValues logs k log count found
 IsRefused logs Memory = ⊤

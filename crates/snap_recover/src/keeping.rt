@@ -5,7 +5,7 @@ ghost use Rattle.txn_records.specs.declared.records.Record.{Record};
 ghost use Rattle.std.specs.List.Sorted.{IsStrictlySortedBy};
 ghost use Rattle.snap_recover.specs.declared.kinds.Kind.TheVariants as kinds;
 ghost use Rattle.snap_recover.specs.Logs.{values_in};
-ghost use Rattle.snap_recover.specs.Opening.{IsIn, IsWhole, IsActIn, IsActOf, IsInfoOf, IsCommitOf, IsCommitted};
+ghost use Rattle.snap_recover.specs.Opening.{IsIn, IsBatchWhole, IsActIn, IsActOf, IsInfoOf, IsCommitOf, IsCommitted};
 ghost use Rattle.snap_recover.specs.Passes.{Spot, spot_cmp, info_key, commit_key, HasCommitted, HasInfos, IsAllWhole, IsBatchSpot, IsActSpot, IsSpotIn, AddsSpots, HasSpots, IsKeptAt, HasIn, bid_at, tid_at};
 
 use crate::Kept;
@@ -192,7 +192,7 @@ fn keep_batch(
     commits: &BTreeMap<u64, usize>,
 ) -> Result<Kept, Memory>
     requires some { 0 < length logs.now }
-    requires whole { IsWhole logs.now (bid_at bid) }
+    requires whole { IsBatchWhole logs.now (bid_at bid) }
     requires is_in { IsIn logs.now (bid_at bid) }
     requires infos { HasInfos (info_key kinds.Batch) logs.now infos.now }
     requires commits { HasInfos (commit_key kinds.Batch) logs.now commits.now }
@@ -215,7 +215,7 @@ fn tids_of(
     infos: &BTreeMap<u64, usize>,
 ) -> Result<Sequence<Tid>, Memory>
     requires some { 0 < length logs.now }
-    requires whole { IsWhole logs.now (bid_at bid) }
+    requires whole { IsBatchWhole logs.now (bid_at bid) }
     requires infos { HasInfos (info_key kinds.Batch) logs.now infos.now }
     ensures { IfOk result (λ tids. (actors : List ActorId) × IsInfoOf logs.now (bid_at bid) actors tids) }
 {

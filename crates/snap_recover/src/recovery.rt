@@ -1,6 +1,6 @@
 //! Recovery: its checks, in the order in which a refusal is told, and the opening.
 ghost use Rattle.std.specs.Prelude.{◌<◌, length, IfOk, IfErr, MatchResult};
-ghost use Rattle.snap_recover.specs.Opening.{IsBegun, IsRecovered};
+ghost use Rattle.snap_recover.specs.Opening.{AreBegunWith, IsRecovered};
 ghost use Rattle.snap_recover.specs.Refusals.{IsRefused};
 ghost use Rattle.snap_recover.specs.Passes.{IsLackOfBegun};
 
@@ -45,7 +45,7 @@ pub fn recover(alloc: Global, logs: &[Sequence<Record>]) -> Result<Opening, Reco
 fn opening(alloc: Global, logs: &[Sequence<Record>], first: &[State]) -> Result<Opening, RecoverNo>
     requires some { 0 < length logs.now }
     requires few { length logs.now < 256 }
-    requires begun { IsBegun logs.now first.now }
+    requires begun { AreBegunWith logs.now first.now }
     ensures { MatchResult result (λ o. IsRecovered logs.now o) (λ no. IsLackOfBegun logs.now no) }
 {
     let batches = index_of(alloc, Kind::Batch, logs)?;

@@ -3,8 +3,8 @@ ghost use Rattle.std.specs.Prelude.{◌≡◌, ℕ, ◌%◌, ◌<◌, [], ◌∷
 ghost use Rattle.std.specs.List.{AllByRecursion};
 ghost use Rattle.snap_recover.specs.declared.kinds.Kind.TheVariants as kinds;
 ghost use Rattle.snap_recover.specs.Logs.{all_of, states_in};
-ghost use Rattle.snap_recover.specs.Opening.{IsInRange, AreStates};
-ghost use Rattle.snap_recover.specs.Passes.{In, HasCommitted, Tells, Replays};
+ghost use Rattle.snap_recover.specs.Opening.{IsInRange, AreStatesOf};
+ghost use Rattle.snap_recover.specs.Passes.{In, HasCommitted, TellsState, Replays};
 
 use snap_base::{Memory, Sequence, State};
 use std::alloc::Global;
@@ -24,7 +24,7 @@ pub(crate) fn states_after(
     requires range { AllByRecursion (IsInRange (length first.now)) (all_of logs.now) }
     requires batches { HasCommitted kinds.Batch logs.now batches.now }
     requires acts { HasCommitted kinds.Act logs.now acts.now }
-    ensures { IfOk result (λ states. AreStates logs.now first.now states.items) }
+    ensures { IfOk result (λ states. AreStatesOf logs.now first.now states.items) }
 {
     let mut states = Vec::from_slice(alloc, first)?;
     let count = logs.len() as u64;
@@ -72,7 +72,7 @@ fn state_here(
     acts: &BTreeSet<u64>,
 ) -> Option<(usize, State)>
     requires some { 0 < logs }
-    ensures { MatchOption result ((a : ℕ) → a % logs ≡ log → ¬ Tells (In batches.now) (In acts.now) a r.now) (λ x. (x.0 % logs ≡ log) × (states_in r.now ≡ x.1 ∷ []) × Tells (In batches.now) (In acts.now) x.0 r.now) }
+    ensures { MatchOption result ((a : ℕ) → a % logs ≡ log → ¬ TellsState (In batches.now) (In acts.now) a r.now) (λ x. (x.0 % logs ≡ log) × (states_in r.now ≡ x.1 ∷ []) × TellsState (In batches.now) (In acts.now) x.0 r.now) }
 {
     match r {
         Record::BatchComplete { bid, actor, state } => {

@@ -2,7 +2,7 @@
 ghost use Rattle.std.specs.Prelude.{◌≡◌, ℕ, ◌%◌, ◌<◌, length, MatchResult};
 ghost use Rattle.txn_records.specs.declared.records.Record.{Record};
 ghost use Rattle.snap_recover.specs.declared.kinds.Kind.TheVariants as kinds;
-ghost use Rattle.snap_recover.specs.Opening.{IsIn, IsWhole, HasItsValues};
+ghost use Rattle.snap_recover.specs.Opening.{IsIn, IsBatchWhole, HasItsValues};
 ghost use Rattle.snap_recover.specs.Passes.{bid_at, info_key, commit_key, HasCommitted, HasInfos, AllWhole, AllValued, IsValuesLackOf, IsFirstValuesLackOf};
 
 use crate::RecoverNo;
@@ -46,7 +46,7 @@ fn check_batch(
     requires some { 0 < length logs.now }
     requires few { length logs.now < 256 }
     requires is_in { IsIn logs.now (bid_at number) }
-    requires whole { IsWhole logs.now (bid_at number) }
+    requires whole { IsBatchWhole logs.now (bid_at number) }
     requires infos { HasInfos (info_key kinds.Batch) logs.now infos.now }
     requires commits { HasInfos (commit_key kinds.Batch) logs.now commits.now }
     ensures { MatchResult result (λ t. HasItsValues logs.now (bid_at number)) (λ no. IsValuesLackOf logs.now number no) }

@@ -6,7 +6,7 @@ ghost use Rattle.std.specs.Ordering.{nat_cmp};
 ghost use Rattle.snap_base.specs.declared.ids.ActorId.{ActorId};
 ghost use Rattle.txn_records.specs.declared.records.Record.{Record};
 ghost use Rattle.snap_recover.specs.declared.kinds.Kind.TheVariants as kinds;
-ghost use Rattle.snap_recover.specs.Logs.{Has, log_of};
+ghost use Rattle.snap_recover.specs.Logs.{HasKey, log_of};
 ghost use Rattle.snap_recover.specs.Passes.{info_key, part_key, commit_key, InPair, HasCommitted, HasAllParts, HasInfos, IsLastPlace, TellsActors, MemberWhole, IsLackOf, IsFirstLackOfKind, IsFirstLackOf, AllWhole, IsAllWhole};
 
 use crate::RecoverNo;
@@ -95,7 +95,7 @@ fn check(
 ) -> Result<(), RecoverNo>
     requires some { 0 < length logs.now }
     requires few { length logs.now < 256 }
-    requires is_in { Has (log_of logs.now number) (commit_key kind number) }
+    requires is_in { HasKey (log_of logs.now number) (commit_key kind number) }
     requires parts { HasAllParts kind logs.now parts.now }
     requires infos { HasInfos (info_key kind) logs.now infos.now }
     ensures { MatchResult result (λ t. MemberWhole kind logs.now number) (λ no. IsLackOf kind logs.now number no) }
