@@ -11,7 +11,7 @@ use Rattle.log_opening.specs.declared.refusals.LogsNo.{LogsNo}
 use Rattle.log_opening.specs.declared.refusals.LogsNo.TheVariants as ending
 use Rattle.log_opening.specs.Devices.{Device, AreBegun, AreOpened, as_device}
 use Rattle.log_opening.specs.Found.{IsKeptSafe, IsTouched}
-use Rattle.log_opening.specs.Reads.{AreOpen, IsEnded, IsOpenOn}
+use Rattle.log_opening.specs.Reads.{AreOpenOn, IsEnded, IsOpenOn}
 use Rattle.log_opening.specs.Upgrades.{AreOld, FailsBeginning}
 use Rattle.log_migration.specs.Migrated.{AreMigrated, IsMigrateNo, IsNotTold}
 
@@ -59,9 +59,9 @@ touched_kept (b ∷ before) (a ∷ after) all = (all.0.safe, touched_kept before
 
 pub told_migrated : {S : Type 0} (bytes : S → List ℕ) (before others : List Device) (old new : List LogState) (found : List (List LogItem)) (o : Opening) (r : Result S LogsNo)
     → IsOpenOn before (map as_device old ++ others) old found o
-    → IfOk r (λ line. (count : ℕ) × (bytes line ≡ migrated_text count) × ((start rest : List Device) → AreOpen start (map as_device old ++ rest) old found
+    → IfOk r (λ line. (count : ℕ) × (bytes line ≡ migrated_text count) × ((start rest : List Device) → AreOpenOn start (map as_device old ++ rest) old found
     → AreOld (take (length found) start) count × AreBegun (length found) start (map as_device new ++ rest)))
-    → IfErr r (λ why. (start rest : List Device) → AreOpen start (map as_device old ++ rest) old found → IsNotTold (length found) start (map as_device new ++ rest) why)
+    → IfErr r (λ why. (start rest : List Device) → AreOpenOn start (map as_device old ++ rest) old found → IsNotTold (length found) start (map as_device new ++ rest) why)
     → MatchResult r (λ line. (count : ℕ) × (bytes line ≡ migrated_text count) × AreMigrated before (map as_device new ++ others) count) (λ why. IsMigrateNo before (map as_device new ++ others) why)
 told_migrated bytes before others old new found o (Ok line) is told failed =
     let both = told.2 before others is.open_logs in

@@ -4,7 +4,7 @@ ghost use Rattle.std.specs.List.{AllZip};
 ghost use Rattle.log_migration.specs.Migrated.{AreMigrated, IsMigrateNo, IsNotTold};
 ghost use Rattle.log_opening.specs.Devices.{Device, AreBegun, as_device, devices_of, devices_now};
 ghost use Rattle.log_opening.specs.Found.{IsKeptSafe, IsReadyLog};
-ghost use Rattle.log_opening.specs.Reads.{AreOpen};
+ghost use Rattle.log_opening.specs.Reads.{AreOpenOn};
 ghost use Rattle.log_opening.specs.Upgrades.{AreOld};
 ghost use Rattle.record_log.specs.Records.{KeepsRecords};
 ghost use Rattle.snap_report.specs.Lines.{migrated_text};
@@ -62,11 +62,11 @@ fn tell_and_upgrade<D: LogDev>(alloc: Global, opened: &mut OpenLogs<D>) -> Resul
     requires few { vec_len opened.old.logs ≤ 4 }
     requires ready { AllZip IsReadyLog opened.old.logs.items opened.old.found }
     ensures told { IfOk result (λ line. (count : ℕ) × (string_bytes line ≡ migrated_text count) × ((before others : List Device)
-        → AreOpen before (map as_device opened.old.logs.items ++ others) opened.old.logs.items opened.old.found
+        → AreOpenOn before (map as_device opened.old.logs.items ++ others) opened.old.logs.items opened.old.found
         → AreOld (take (length opened.old.found) before) count × AreBegun (length opened.old.found) before (map as_device opened.new.logs.items ++ others))) }
-    ensures failed { IfErr result (λ no. (before others : List Device) → AreOpen before (map as_device opened.old.logs.items ++ others) opened.old.logs.items opened.old.found
+    ensures failed { IfErr result (λ no. (before others : List Device) → AreOpenOn before (map as_device opened.old.logs.items ++ others) opened.old.logs.items opened.old.found
         → IsNotTold (length opened.old.found) before (map as_device opened.new.logs.items ++ others) no) }
-    ensures safe { (before others : List Device) → AreOpen before (map as_device opened.old.logs.items ++ others) opened.old.logs.items opened.old.found
+    ensures safe { (before others : List Device) → AreOpenOn before (map as_device opened.old.logs.items ++ others) opened.old.logs.items opened.old.found
         → AllZip IsKeptSafe before (map as_device opened.new.logs.items ++ others) }
     ensures len { vec_len opened.new.logs ≡ vec_len opened.old.logs }
 {

@@ -17,7 +17,7 @@ use Rattle.log_opening.specs.declared.refusals.LogsNo.TheVariants as ending
 use Rattle.log_opening.specs.Devices.{Device, device_at, AreOpened}
 use Rattle.log_opening.specs.Found.{AreFound, IsHalted, IsReadyLog, IsNoReading, IsNoDecoding, IsNoRecovery}
 use Rattle.log_opening.specs.Kept.{logs_said, Holds, IsLogsNo}
-use Rattle.log_opening.specs.Reads.{AreOpen, IsEnded, IsFirstRead, IsOpenOn, AreRead}
+use Rattle.log_opening.specs.Reads.{AreOpenOn, IsEnded, IsFirstRead, IsOpenOn, AreRead}
 use Rattle.log_opening.proofs.Opening.{found_opened, found_touched, all_untouched}
 use Rattle.log_opening.proofs.Reading.{said_range, zip_holds, zip_first, each_record, given}
 use Rattle.log_opening.proofs.Refusing.{halted_no, asked_first, reading_no, decoding_no, recovery_no}
@@ -81,7 +81,7 @@ read_many found known (Ok logs) said = AllZip-long AreItemsOf found logs said.0
 read_many found known (Err a) said = tt
 
 pub open_then : (before after : List Device) (logs : List LogState) (found : List (List LogItem)) (r : Result (List (List Record)) LogsNo) → AreFound before after found → AllZip IsReadyLog logs found
-    → OnOk r (AreOpen before after logs found)
+    → OnOk r (AreOpenOn before after logs found)
 open_then before after logs found (Ok rs) are ready = record { are_found = are; ready = ready }
 open_then before after logs found (Err a) are ready = tt
 
@@ -106,7 +106,7 @@ read_refused before after logs (Err a) read said = recovery_no before after logs
 
 -- the logs stay open
 pub recovered_open : (before after : List Device) (logs : List LogState) (found : List (List LogItem)) (rs : List (List Record)) (r : Result Opening LogsNo) → AreRead before after rs → length rs ≡ length found
-    → AreOpen before after logs found → MatchResult r (λ o. IsRecovered rs o) (λ a. IsNoRecovery rs a) → IfOk r (λ o. IsOpenOn before after logs found o)
+    → AreOpenOn before after logs found → MatchResult r (λ o. IsRecovered rs o) (λ a. IsNoRecovery rs a) → IfOk r (λ o. IsOpenOn before after logs found o)
 recovered_open before after logs found rs (Ok o) read many open_logs said = record { records = rs; read = read; recovered = said; as_many = many; open_logs = open_logs }
 recovered_open before after logs found rs (Err a) read many open_logs said = tt
 

@@ -19,7 +19,7 @@ use Rattle.log_opening.specs.declared.refusals.LogsNo.{LogsNo}
 use Rattle.log_opening.specs.declared.refusals.LogsNo.TheVariants as ending
 use Rattle.log_opening.specs.Devices.{Device, as_device, device_at, IsOpenedAtMost, IsOpened, AreOpened, IsReached}
 use Rattle.log_opening.proofs.Places.{zip_weaker}
-use Rattle.log_opening.specs.Found.{IsFoundOn, IsReadyLog, IsClosed, IsTouched, AreFound, IsHalted, no_of_opening}
+use Rattle.log_opening.specs.Found.{IsFoundOn, IsReadyLog, IsLeftClosed, IsTouched, AreFound, IsHalted, no_of_opening}
 
 -- ---- a log that is opened
 
@@ -125,7 +125,7 @@ closed_at_most b a (refusal.Damage offset) refused = inl refused.0
 closed_at_most b a refusal.Device refused = inr (inr refused)
 closed_at_most b a refusal.Memory refused = inl refused
 
-pub closed_touched : (b a : Device) (answer : OpenNo) → IsClosed b a answer → IsTouched b a
+pub closed_touched : (b a : Device) (answer : OpenNo) → IsLeftClosed b a answer → IsTouched b a
 closed_touched b a answer closed = record { opened = closed_at_most b a answer closed.refused; safe = closed.safe }
 
 pub found_touched : (before after : List Device) (found : List (List LogItem)) → AreFound before after found → AllZip IsTouched before after
@@ -152,19 +152,19 @@ pub halted_for_memory : (count : ℕ) (before after : List Device) (found : List
 halted_for_memory count before after found few are = record { touched = found_touched before after found are; why = inl (refl, (length found, few, found_opened before after found are)) }
 
 halted_here : (before mid : List Device) (found : List (List LogItem)) (new : Device) (why : OpenNo) → AreFound before mid found → length found < length mid
-    → IsClosed (device_at mid (length found)) new why → IsHalted (length found + 1) before (set mid (length found) new) (no_of_opening (length found) why)
+    → IsLeftClosed (device_at mid (length found)) new why → IsHalted (length found + 1) before (set mid (length found) new) (no_of_opening (length found) why)
 halted_here before mid found new why are lt closed = record {
   touched = stopped_touched before mid found new are lt (closed_touched (device_at mid (length found)) new why closed);
   why = inr (length found, why, omega arith, record { parts = (mid, found, new, are, refl, lt, refl, closed) }, refl);
 }
 
 pub halted_at : (before mid after : List Device) (found : List (List LogItem)) (at : ℕ) (new : Device) (why : OpenNo) (answer : LogsNo) → at ≡ length found → at < length mid
-    → after ≡ set mid at new → IsClosed (device_at mid at) new why → answer ≡ no_of_opening at why → AreFound before mid found → IsHalted (length found + 1) before after answer
+    → after ≡ set mid at new → IsLeftClosed (device_at mid at) new why → answer ≡ no_of_opening at why → AreFound before mid found → IsHalted (length found + 1) before after answer
 halted_at before mid after found at new why answer here lt same closed is are =
     subst (λ (l : List Device). IsHalted (length found + 1) before l answer) (sym same)
     (subst (λ (a : LogsNo). IsHalted (length found + 1) before (set mid at new) a) (sym is)
     (subst (λ (n : ℕ). IsHalted (length found + 1) before (set mid n new) (no_of_opening n why)) (sym here)
-    (halted_here before mid found new why are (omega (arith, lt, here)) (subst (λ (n : ℕ). IsClosed (device_at mid n) new why) here closed))))
+    (halted_here before mid found new why are (omega (arith, lt, here)) (subst (λ (n : ℕ). IsLeftClosed (device_at mid n) new why) here closed))))
 
 pub one_more : (before mid after : List Device) (found : List (List LogItem)) (at : ℕ) (new : Device) (items : List LogItem) → at ≡ length found → at < length mid
     → after ≡ set mid at new → IsFoundOn (device_at mid at) new items → AreFound before mid found → AreFound before after (found ++ items ∷ [])

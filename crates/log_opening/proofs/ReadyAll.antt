@@ -11,7 +11,7 @@ use Rattle.log_opening.specs.declared.refusals.LogsNo.TheVariants as ending
 use Rattle.log_opening.specs.Counted.{AreNotRead, FailsUpgrade, HasOldFormat}
 use Rattle.log_opening.specs.Devices.{Device, as_device, device_at, AreBegun, HoldNoOld, HoldsOld, IsBegun, IsOpened, IsPrepared, IsUpgradeCutOff}
 use Rattle.log_opening.specs.Found.{AreBegunOn, AreFound, IsHandled, IsReadyLog}
-use Rattle.log_opening.specs.Upgrades.{AreNotReady, AreReady, IsLeftOld, IsMadeReady, IsNotMadeReady, IsStopped, items_at}
+use Rattle.log_opening.specs.Upgrades.{AreNotReady, AreAllReady, IsLeftOld, IsMadeReady, IsNotMadeReady, IsStopped, items_at}
 use Rattle.log_opening.proofs.Opening.{found_zip, untouched}
 use Rattle.log_opening.proofs.ReadyOne.{ReadyLaws, begun_on, still_ready, no_old, is_old, prepared, handled, cut_off, handled_failed, has_risen}
 
@@ -261,7 +261,7 @@ module _ (laws : ReadyLaws) where
   -- ---- all are ready
 
   pub are_ready : (before others : List Device) (old new : List LogState) (found : List (List LogItem)) → length found ≡ length old → AreFound before (with_logs old others) found
-      → AllZip IsReadyLog old found → AreReady old new found → AllReady before (with_logs new others) new found
+      → AllZip IsReadyLog old found → AreAllReady old new found → AllReady before (with_logs new others) new found
   are_ready before others old new found as_many are ready is =
       let made = each_log IsMadeReady old new found is.all.many as_many is.all.below in
       let second : Second new = all_second new (λ l lt. is.second l (omega (arith, lt, is.all.many))) in

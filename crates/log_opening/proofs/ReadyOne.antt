@@ -19,7 +19,7 @@ use Rattle.record_log.specs.RecordLogLaws.{UpgradeKeepsRecords}
 use Rattle.record_log.specs.Records.{KeepsRecords}
 use Rattle.log_opening.specs.Devices.{Device, as_device, preparing_of, Begun, HoldsNoOld, HoldsOld, IsPrepared, IsUpgradeCutOff}
 use Rattle.log_opening.specs.Found.{IsBegunOn, IsFoundOn, IsHandled, IsKeptSafe, IsReadyLog}
-use Rattle.log_opening.specs.Upgrades.{IsCutOff, IsMadeReady, IsNotMadeReady, IsUpgraded}
+use Rattle.log_opening.specs.Upgrades.{IsBeginningCutOff, IsMadeReady, IsNotMadeReady, IsUpgraded}
 
 -- what the logs promise
 pub record ReadyLaws : Type 0 where
@@ -204,5 +204,5 @@ module _ (laws : ReadyLaws) (b : Device) (l k : LogState) (items : List LogItem)
   has_risen listed not = omega (arith, on.safe.later, not.2.rose)
 
   -- where it may have items
-  pub cut_off_at : (listed : List LogItem) → IsNotMadeReady l k listed → IsCutOff b (as_device k)
+  pub cut_off_at : (listed : List LogItem) → IsNotMadeReady l k listed → IsBeginningCutOff b (as_device k)
   cut_off_at listed not = (on.opened.0, items, l.told, on.opened.1, is_first not.1, not.2.adds)

@@ -14,7 +14,7 @@ use Rattle.log_opening.specs.declared.refusals.LogsNo.{LogsNo}
 use Rattle.log_opening.specs.declared.refusals.LogsNo.TheVariants as ending
 use Rattle.log_opening.specs.Devices as devices
 use Rattle.log_opening.specs.Devices.{device_at, AreOpened, IsReached}
-use Rattle.log_opening.specs.Found.{IsClosed, AreFound, IsStoppedAt, IsHalted, no_of_opening, IsNoReading, IsNoDecoding, IsNoRecovery}
+use Rattle.log_opening.specs.Found.{IsLeftClosed, AreFound, IsStoppedAt, IsHalted, no_of_opening, IsNoReading, IsNoDecoding, IsNoRecovery}
 use Rattle.log_opening.specs.Kept.{logs_said, Holds, AreGiven, IsAsked, IsLogsNo}
 use Rattle.log_opening.proofs.Opening.{found_length, found_next, found_opened, found_reached}
 use Rattle.log_opening.proofs.Reading.{zip_holds, zip_first, found_opened_at}
@@ -29,12 +29,12 @@ pub record Stop (log : ℕ) (before after : List devices.Device) (why : OpenNo) 
   pub reached : IsReached log before after
 
 stop_of : (before mid : List devices.Device) (found : List (List LogItem)) (new : devices.Device) (why : OpenNo) → AreFound before mid found → length found < length mid
-    → IsClosed (device_at mid (length found)) new why → Stop (length found) before (set mid (length found) new) why
+    → IsLeftClosed (device_at mid (length found)) new why → Stop (length found) before (set mid (length found) new) why
 stop_of before mid found new why are lt closed =
     let was : device_at mid (length found) ≡ device_at before (length found) = found_next before mid found are in
     let is : new ≡ device_at (set mid (length found) new) (length found) = sym (get_or-set_same mid (length found) new _ lt) in
-    let here : IsClosed (device_at before (length found)) (device_at (set mid (length found) new) (length found)) why =
-    subst (λ (d : devices.Device). IsClosed (device_at before (length found)) d why) is (subst (λ (d : devices.Device). IsClosed d new why) was closed) in
+    let here : IsLeftClosed (device_at before (length found)) (device_at (set mid (length found) new) (length found)) why =
+    subst (λ (d : devices.Device). IsLeftClosed (device_at before (length found)) d why) is (subst (λ (d : devices.Device). IsLeftClosed d new why) was closed) in
     record {
       below = omega (arith, lt, found_length before mid found are);
       refused = here.refused;
@@ -46,7 +46,7 @@ pub stopped : (log : ℕ) (before after : List devices.Device) (why : OpenNo) �
 stopped log before after why at =
     let p = at.parts in
     let lt : length p.1 < length p.0 = omega (arith, p.4, p.5) in
-    let closed : IsClosed (device_at p.0 (length p.1)) p.2 why = subst (λ (n : ℕ). IsClosed (device_at p.0 n) p.2 why) p.4 p.7 in
+    let closed : IsLeftClosed (device_at p.0 (length p.1)) p.2 why = subst (λ (n : ℕ). IsLeftClosed (device_at p.0 n) p.2 why) p.4 p.7 in
     let after_is : after ≡ set p.0 (length p.1) p.2 = p.6 ∙ ap (λ (n : ℕ). set p.0 n p.2) p.4 in
     subst (λ (n : ℕ). Stop n before after why) (sym p.4) (subst (λ (l : List devices.Device). Stop (length p.1) before l why) (sym after_is) (stop_of before p.0 p.1 p.2 why p.3 lt closed))
 

@@ -10,8 +10,8 @@ use Rattle.gate_log.specs.LogLaws.{OpeningAdds, OpeningKeepsFormat}
 use Rattle.gate_log.specs.State.{LogState, log_at}
 use Rattle.log_opening.specs.Devices.{Device, as_device, device_at, AreBegun, IsBegun}
 use Rattle.log_opening.specs.Found.{AreFound, IsKeptSafe, IsReadyLog}
-use Rattle.log_opening.specs.Reads.{AreOpen}
-use Rattle.log_opening.specs.Upgrades.{AreOld, AreReady, AreReadyBelow, FailsBeginning, IsCutOff, IsLeftOld, IsMadeReady, IsNotMadeReady, IsStopped, items_at, old_count}
+use Rattle.log_opening.specs.Reads.{AreOpenOn}
+use Rattle.log_opening.specs.Upgrades.{AreOld, AreAllReady, AreReadyBelow, FailsBeginning, IsBeginningCutOff, IsLeftOld, IsMadeReady, IsNotMadeReady, IsStopped, items_at, old_count}
 use Rattle.log_opening.proofs.Opening.{untouched}
 use Rattle.log_opening.proofs.ReadyOne.{ReadyLaws, begun_on, cut_off_at, failed_safe, format_was, has_risen, kept_safe}
 use Rattle.log_opening.proofs.ReadyAll.{with_logs, three, EachLog, each_log, all_second, all_begun, above_opened, rest_same, begun_all}
@@ -46,7 +46,7 @@ second_at old new found listed n lt ready (inl same) other =
 second_at old new found listed n lt ready (inr up) other = up.2.second
 
 pub are_second : (old new : List LogState) (found : List (List LogItem)) → AllZip IsReadyLog old found → AreReadyBelow (length old) old new found
-    → ((l : ℕ) → l < length new → (log_at new l).format ≢ 1) → AreReady old new found
+    → ((l : ℕ) → l < length new → (log_at new l).format ≢ 1) → AreAllReady old new found
 are_second old new found ready all none = record {
   all = all;
   second = λ l lt. second_at old new found found l lt ready (all.below l lt) (none l (omega (arith, lt, all.many)));
@@ -144,14 +144,14 @@ module _ (laws : ReadyLaws) where
       made l lt = made_at old new l (all.below l lt)
 
   -- the logs are open and no items were listed, so all are upgraded
-  pub all_begun_safely : (before others : List Device) (old new : List LogState) (found listed : List (List LogItem)) → AreOpen before (with_logs old others) old found → listed ≡ []
+  pub all_begun_safely : (before others : List Device) (old new : List LogState) (found listed : List (List LogItem)) → AreOpenOn before (with_logs old others) old found → listed ≡ []
       → AreReadyBelow (length old) old new listed → AreBegun (length found) before (with_logs new others) × AllZip IsKeptSafe before (with_logs new others)
   all_begun_safely before others old new found listed is none ready =
       all_upgraded before others old new found is.are_found is.ready (subst (λ (fs : List (List LogItem)). AreReadyBelow (length old) old new fs) none ready)
 
   cut_off_there : (n : ℕ) (before others : List Device) (old new : List LogState) (found : List (List LogItem)) → n < length found → AreFound before (with_logs old others) found → AllZip IsReadyLog old found
       → length new ≡ length old → IsNotMadeReady (log_at old n) (log_at new n) []
-      → (n < length before) × IsCutOff (device_at before n) (device_at (with_logs new others) n) × Rose (device_at before n).faults (device_at (with_logs new others) n).faults
+      → (n < length before) × IsBeginningCutOff (device_at before n) (device_at (with_logs new others) n) × Rose (device_at before n).faults (device_at (with_logs new others) n).faults
   cut_off_there n before others old new [] lt are ready many not = absurd (omega (arith, lt))
   cut_off_there n before others [] new (f ∷ fs) lt are ready many not = absurd ready
   cut_off_there n before others (l ∷ ls) [] (f ∷ fs) lt are ready many not = absurd (omega (arith, many))
@@ -186,7 +186,7 @@ module _ (laws : ReadyLaws) where
       failed : IsNotMadeReady (log_at old n) (log_at new n) []
       failed = subst (λ (xs : List LogItem). IsNotMadeReady (log_at old n) (log_at new n) xs) (no_items n) stopped.failed
 
-      here : (n < length before) × IsCutOff (device_at before n) (device_at (with_logs new others) n) × Rose (device_at before n).faults (device_at (with_logs new others) n).faults
+      here : (n < length before) × IsBeginningCutOff (device_at before n) (device_at (with_logs new others) n) × Rose (device_at before n).faults (device_at (with_logs new others) n).faults
       here = cut_off_there n before others old new found asked are ready stopped.many failed
 
       went : (l : ℕ) → (l < n) ⊎ ((l ≡ n) ⊎ (n < l)) → Tried (log_at old l) (log_at new l)
@@ -195,7 +195,7 @@ module _ (laws : ReadyLaws) where
       went l (inr (inr gt)) = inr (inr (stopped.above l gt))
 
   -- the logs are open and no items were listed, so the others but the one whose device failed are upgraded or as they were
-  pub fails_safely : (before others : List Device) (old new : List LogState) (found listed : List (List LogItem)) (n : ℕ) → AreOpen before (with_logs old others) old found → listed ≡ []
+  pub fails_safely : (before others : List Device) (old new : List LogState) (found listed : List (List LogItem)) (n : ℕ) → AreOpenOn before (with_logs old others) old found → listed ≡ []
       → IsStopped n old new listed → FailsBeginning (length found) before (with_logs new others) n × AllZip IsKeptSafe before (with_logs new others)
   fails_safely before others old new found listed n is none stopped =
       not_upgraded before others old new found n is.are_found is.ready (subst (λ (fs : List (List LogItem)). IsStopped n old new fs) none stopped)

@@ -46,7 +46,7 @@ pub record IsReadyLog (log : LogState) (items : List LogItem) : Type 0 where
   pub ready : log.shut ≡ false
 
 -- why the device was not opened
-pub record IsClosed (before after : devices.Device) (no : OpenNo) : Type 0 where
+pub record IsLeftClosed (before after : devices.Device) (no : OpenNo) : Type 0 where
   pub refused : Refused before.told after.told no
   pub failed : no ≡ refusal.Device → Rose before.faults after.faults
   pub safe : IsKeptSafe before after
@@ -87,7 +87,7 @@ AreBegunOn (b ∷ before) (a ∷ after) (items ∷ found) = IsBegunOn b a items 
 pub record IsStoppedAt (log : ℕ) (before after : List devices.Device) (no : OpenNo) : Type 0 where
   pub parts : (mid : List devices.Device) × (found : List (List LogItem)) × (new : devices.Device)
       × AreFound before mid found × (log ≡ length found) × (log < length mid) × (after ≡ slice_set mid log new)
-      × IsClosed (devices.device_at mid log) new no
+      × IsLeftClosed (devices.device_at mid log) new no
 
 -- why this log was not opened, as `LogsNo` tells it
 abbrev pub no_of_opening : ℕ → OpenNo → LogsNo

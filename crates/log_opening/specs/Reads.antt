@@ -30,7 +30,7 @@ pub record AreRead (before after : List Device) (logs : List (List Record)) : Ty
   pub touched : AllZip IsTouched before after
 
 -- these items were found on the first devices, whose logs are open
-pub record AreOpen (before after : List Device) (logs : List LogState) (found : List (List LogItem)) : Type 0 where
+pub record AreOpenOn (before after : List Device) (logs : List LogState) (found : List (List LogItem)) : Type 0 where
   pub are_found : AreFound before after found
   pub ready : AllZip IsReadyLog logs found
 
@@ -40,4 +40,4 @@ pub record IsOpenOn (before after : List Device) (logs : List LogState) (found :
   pub read : AreRead before after records
   pub recovered : IsRecovered records o
   pub as_many : length records ≡ length found
-  pub open_logs : AreOpen before after logs found
+  pub open_logs : AreOpenOn before after logs found

@@ -53,7 +53,7 @@ pub record AreReadyBelow (n : ℕ) (old new : List LogState) (found : List (List
   pub above : (l : ℕ) → n ≤ l → log_at new l ≡ log_at old l
 
 -- all logs are made ready, and each is of format 2
-pub record AreReady (old new : List LogState) (found : List (List LogItem)) : Type 0 where
+pub record AreAllReady (old new : List LogState) (found : List (List LogItem)) : Type 0 where
   pub all : AreReadyBelow (length old) old new found
   pub second : (l : ℕ) → l < length old → (log_at new l).format ≡ 2
 
@@ -93,8 +93,8 @@ AreOld (d ∷ devices) count =
     (others : ℕ) × (old : Bool) × AreOld devices others × (count ≡ (if old then 1 else 0) + others) × IfSome d.told (λ h. old ≡ (format_in (content h) == 1))
 
 -- The device was opened, its log was of format 1, and the upgrade met a fault.
-abbrev pub IsCutOff : Device → Device → Type 0
-IsCutOff before after =
+abbrev pub IsBeginningCutOff : Device → Device → Type 0
+IsBeginningCutOff before after =
     (end : ℕ) × (found : List LogItem) × (opened : Option History) × Opened before.told opened end found × IfSome before.told (λ h. format_in (content h) ≡ 1)
     × AddsUpToFault opened after.told upgrade_ops
 
@@ -102,7 +102,7 @@ IsCutOff before after =
 pub record FailsBeginning (count : ℕ) (before after : List Device) (log : ℕ) : Type 0 where
   pub asked : log < count
   pub there : log < length before
-  pub cut_off : IsCutOff (device_at before log) (device_at after log)
+  pub cut_off : IsBeginningCutOff (device_at before log) (device_at after log)
   pub rose : Rose (device_at before log).faults (device_at after log).faults
   pub below : AllZip IsBegun (take log before) (take log after)
   pub above : AllZip IsOpened (drop (log + 1) (take count before)) (drop (log + 1) (take count after))

@@ -3,7 +3,7 @@ ghost use Rattle.std.specs.Prelude.{◌≡◌, ◌+◌, ◌-◌, ◌<◌, ◌≤
 ghost use Rattle.std.specs.List.{insert, AllZip};
 ghost use Rattle.gate_log.specs.declared.logs.LogItem.{LogItem};
 ghost use Rattle.log_opening.specs.Devices.{Device, devices_of, devices_now, as_device};
-ghost use Rattle.log_opening.specs.Found.{IsFoundOn, IsReadyLog, IsClosed, AreFound, IsHalted};
+ghost use Rattle.log_opening.specs.Found.{IsFoundOn, IsReadyLog, IsLeftClosed, AreFound, IsHalted};
 
 use crate::LogsNo;
 use crate::refusals::of_opening;
@@ -112,7 +112,7 @@ fn open_next<D: LogDev>(
 fn open_device<D: LogDev>(alloc: Global, dev: D) -> Result<(Log<D>, Sequence<LogItem>), (D, OpenNo)>
     ensures { let old : Device = record { told = D.told dev; faults = D.faults dev } in
         MatchResult result (λ x. IsFoundOn old (as_device x.0) x.1 × IsReadyLog x.0 x.1)
-        (λ no. IsClosed old (record { told = D.told no.0; faults = D.faults no.0 }) no.1) }
+        (λ no. IsLeftClosed old (record { told = D.told no.0; faults = D.faults no.0 }) no.1) }
 {
     opening_keeps();
     refused_keeps();

@@ -8,7 +8,7 @@ ghost use Rattle.snap_recover.specs.Opening.{IsRecovered};
 ghost use Rattle.log_opening.specs.Devices.{Device, devices_of, devices_now, device_at, IsOpenedAtMost, AreOpened};
 ghost use Rattle.log_opening.specs.Found.{IsReadyLog};
 ghost use Rattle.log_opening.specs.Kept.{logs_said, Holds, AreGiven, IsLogsNo};
-ghost use Rattle.log_opening.specs.Reads.{AreOpen, AreRead, IsEnded, IsFirstRead, IsOpenOn};
+ghost use Rattle.log_opening.specs.Reads.{AreOpenOn, AreRead, IsEnded, IsFirstRead, IsOpenOn};
 
 use crate::LogsNo;
 use crate::counts::logs_said;
@@ -99,7 +99,7 @@ fn open_and_read<D: LogDev>(
         (λ logs. AreRead (devices_now D.told D.faults opened.old.logs.items devices.old.items) (devices_now D.told D.faults opened.new.logs.items devices.new.items) logs)
         (λ no. IsEnded (devices_now D.told D.faults opened.old.logs.items devices.old.items) (devices_now D.told D.faults opened.new.logs.items devices.new.items) no) }
     ensures many { IfOk result (λ logs. length logs ≡ length opened.new.found) }
-    ensures open { OnOk result (AreOpen (devices_now D.told D.faults opened.old.logs.items devices.old.items) (devices_now D.told D.faults opened.new.logs.items devices.new.items) opened.new.logs.items opened.new.found) }
+    ensures open { OnOk result (AreOpenOn (devices_now D.told D.faults opened.old.logs.items devices.old.items) (devices_now D.told D.faults opened.new.logs.items devices.new.items) opened.new.logs.items opened.new.found) }
     ensures four { vec_len opened.new.logs + vec_len devices.new ≡ 4 }
     ensures room { 4 ≤ vec_capacity devices.new }
 {

@@ -4,9 +4,9 @@ ghost use Rattle.std.specs.List.{AllByRecursion, AllZip};
 ghost use Rattle.gate_log.specs.declared.logs.LogItem.{LogItem};
 ghost use Rattle.log_opening.specs.Devices.{Device, AreBegun, as_device};
 ghost use Rattle.log_opening.specs.Found.{IsKeptSafe, IsReadyLog};
-ghost use Rattle.log_opening.specs.Reads.{AreOpen};
+ghost use Rattle.log_opening.specs.Reads.{AreOpenOn};
 ghost use Rattle.gate_log.specs.State.{log_at};
-ghost use Rattle.log_opening.specs.Upgrades.{AreNotReady, AreOld, AreReady, AreReadyBelow, IsMadeReady, IsNotBegun, IsNotMadeReady, IsStopped, IsUpgraded, IsUpgradeFailed, items_at, old_count};
+ghost use Rattle.log_opening.specs.Upgrades.{AreNotReady, AreOld, AreAllReady, AreReadyBelow, IsMadeReady, IsNotBegun, IsNotMadeReady, IsStopped, IsUpgraded, IsUpgradeFailed, items_at, old_count};
 
 use crate::LogsNo;
 use crate::openings::OpenLogs;
@@ -23,7 +23,7 @@ pub(crate) fn make_ready<D: LogDev>(opened: &mut OpenLogs<D>) -> Result<(), Logs
     requires few { vec_len opened.old.logs ≤ 4 }
     requires ready { AllZip IsReadyLog opened.old.logs.items opened.old.found }
     ensures ready { MatchResult result
-        (λ _. AreReady opened.old.logs.items opened.new.logs.items opened.old.found)
+        (λ _. AreAllReady opened.old.logs.items opened.new.logs.items opened.old.found)
         (λ no. AreNotReady opened.old.logs.items opened.new.logs.items opened.old.found no) }
     ensures found { opened.new.found ≡ opened.old.found }
     ensures len { vec_len opened.new.logs ≡ vec_len opened.old.logs }
@@ -47,11 +47,11 @@ pub(crate) fn make_ready<D: LogDev>(opened: &mut OpenLogs<D>) -> Result<(), Logs
 pub fn upgrade_all<D: LogDev>(alloc: Global, opened: &mut OpenLogs<D>) -> Result<(), LogsNo>
     requires few { vec_len opened.old.logs ≤ 4 }
     requires ready { AllZip IsReadyLog opened.old.logs.items opened.old.found }
-    ensures begun { OnOk result ((before others : List Device) → AreOpen before (map as_device opened.old.logs.items ++ others) opened.old.logs.items opened.old.found
+    ensures begun { OnOk result ((before others : List Device) → AreOpenOn before (map as_device opened.old.logs.items ++ others) opened.old.logs.items opened.old.found
         → AreBegun (length opened.old.found) before (map as_device opened.new.logs.items ++ others)) }
-    ensures failed { IfErr result (λ no. (before others : List Device) → AreOpen before (map as_device opened.old.logs.items ++ others) opened.old.logs.items opened.old.found
+    ensures failed { IfErr result (λ no. (before others : List Device) → AreOpenOn before (map as_device opened.old.logs.items ++ others) opened.old.logs.items opened.old.found
         → IsNotBegun (length opened.old.found) before (map as_device opened.new.logs.items ++ others) no) }
-    ensures safe { (before others : List Device) → AreOpen before (map as_device opened.old.logs.items ++ others) opened.old.logs.items opened.old.found
+    ensures safe { (before others : List Device) → AreOpenOn before (map as_device opened.old.logs.items ++ others) opened.old.logs.items opened.old.found
         → AllZip IsKeptSafe before (map as_device opened.new.logs.items ++ others) }
     ensures len { vec_len opened.new.logs ≡ vec_len opened.old.logs }
     ensures room { vec_capacity opened.new.logs ≡ vec_capacity opened.old.logs }
@@ -70,7 +70,7 @@ pub fn upgrade_all<D: LogDev>(alloc: Global, opened: &mut OpenLogs<D>) -> Result
 /// How many open logs are of format 1.
 pub fn count_old<D: LogDev>(logs: &[Log<D>]) -> u8
     requires { length logs.now ≤ 4 }
-    ensures { (before others : List Device) (found : List (List LogItem)) → AreOpen before (map as_device logs.now ++ others) logs.now found → AreOld (take (length found) before) result }
+    ensures { (before others : List Device) (found : List (List LogItem)) → AreOpenOn before (map as_device logs.now ++ others) logs.now found → AreOld (take (length found) before) result }
 {
     opening_is_safe();
     old_logs(logs)

@@ -1,7 +1,7 @@
 use Rattle.std.proofs.Common.{rules, ◌≡◌, ◌+◌, ◌<◌, ◌++◌, arith, length-append, ◌∷◌, [], length, List, subst, sym, ◌∙◌, ap}
 use Rattle.std.specs.List.{AllZip, insert}
 use Rattle.log_opening.specs.Devices.{Device, devices_now, as_device}
-use Rattle.log_opening.specs.Found.{AreFound, IsReadyLog, IsFoundOn, IsClosed, no_of_opening}
+use Rattle.log_opening.specs.Found.{AreFound, IsReadyLog, IsFoundOn, IsLeftClosed, no_of_opening}
 use Rattle.log_opening.proofs.Opening.{one_more, halted_for_memory, halted_at}
 use Rattle.log_opening.proofs.Places.{now_at, now_long, now_opened, now_back, zip_last}
 use Rattle.log_opening.proofs.openings.open_next.Goals as goal
@@ -60,5 +60,5 @@ returns-in-Err-clause-halted g c = λ before are.
     halted_at before (devices_now told faults logs xs) (devices_now told faults logs c.put-in-Err.new.objects.items)
     c.args.opened.now.found (length logs) new c.in-Err.no c.of_opening.result (sym same) (now_long told faults logs xs lt)
     (now_back told faults logs c.in-Err.dev xs c.remove-dev.new.self.items c.put-in-Err.new.objects.items lt c.remove-dev.ensures.items c.put-in-Err.ensures.items)
-    (subst (λ (d : Device). IsClosed d new c.in-Err.no) (now_at told faults logs xs c.remove-dev.result lt c.remove-dev.ensures.value) c.in-Err.ensures)
+    (subst (λ (d : Device). IsLeftClosed d new c.in-Err.no) (now_at told faults logs xs c.remove-dev.result lt c.remove-dev.ensures.value) c.in-Err.ensures)
     (c.of_opening.ensures ∙ ap (λ n. no_of_opening n c.in-Err.no) (at ∙ same)) are
