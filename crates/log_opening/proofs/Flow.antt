@@ -16,7 +16,7 @@ use Rattle.log_opening.specs.declared.refusals.LogsNo.{LogsNo}
 use Rattle.log_opening.specs.declared.refusals.LogsNo.TheVariants as ending
 use Rattle.log_opening.specs.Devices.{Device, device_at, AreOpened}
 use Rattle.log_opening.specs.Found.{AreFound, IsHalted, IsReadyLog, IsNoReading, IsNoDecoding, IsNoRecovery}
-use Rattle.log_opening.specs.Kept.{logs_said, Holds, IsLogsNo}
+use Rattle.log_opening.specs.Kept.{logs_said, DeviceHolds, IsLogsNo}
 use Rattle.log_opening.specs.Reads.{AreOpenOn, IsEnded, IsFirstRead, IsOpenOn, AreRead}
 use Rattle.log_opening.proofs.Opening.{found_opened, found_touched, all_untouched}
 use Rattle.log_opening.proofs.Reading.{said_range, zip_holds, zip_first, each_record, given}
@@ -49,7 +49,7 @@ first_here before mid found all first read kept =
 -- ---- the others
 
 -- log 0 held them
-pub first_holds : OpenedHeld → (before mid : List Device) (found : List (List LogItem)) (first : List Record) → IsFirstRead before mid found first → Holds (device_at before 0) first
+pub first_holds : OpenedHeld → (before mid : List Device) (found : List (List LogItem)) (first : List Record) → IsFirstRead before mid found first → DeviceHolds (device_at before 0) first
 first_holds law before mid found first read =
     zip_first (length found) before first []
     (zip_holds law (length found) before mid found (first ∷ []) (omega arith) read.are_found
@@ -62,7 +62,7 @@ others_ended law before mid after found first a read halted = record {
   touched = halted.touched;
 }
 
-pub others_read : OpenedHeld → ItemsAreRecords → (before after : List Device) (all : List (List LogItem)) (first : List Record) (r : Result (List (List Record)) LogsNo) → Holds (device_at before 0) first
+pub others_read : OpenedHeld → ItemsAreRecords → (before after : List Device) (all : List (List LogItem)) (first : List Record) (r : Result (List (List Record)) LogsNo) → DeviceHolds (device_at before 0) first
     → AreFound before after all → length all ≡ logs_said first
     → MatchResult r (λ logs. AllZip AreItemsOf all logs × ((others : List (List Record)) × (logs ≡ first ∷ others))) (λ a. IsNoDecoding all (first ∷ []) a)
     → MatchResult r (λ logs. AreRead before after logs) (λ a. IsEnded before after a)

@@ -19,7 +19,7 @@ use Rattle.log_opening.specs.declared.refusals.LogsNo.{LogsNo}
 use Rattle.log_opening.specs.declared.refusals.LogsNo.TheVariants as ending
 use Rattle.log_opening.specs.Devices.{Device, device_at}
 use Rattle.log_opening.specs.Found.{IsFoundOn, ArePlaced, AreFound, IsNoReading, IsNoDecoding}
-use Rattle.log_opening.specs.Kept.{logs_said, Holds, AreGiven}
+use Rattle.log_opening.specs.Kept.{logs_said, DeviceHolds, AreGiven}
 
 -- ---- how many logs there are
 
@@ -66,11 +66,11 @@ holds_told : OpenedHeld → (old new : Option History) (end : ℕ) (items : List
 holds_told held None new end items rs opened are = tt
 holds_told held (Some h) new end items rs opened are = held h new end items rs opened are
 
-pub holds_of : OpenedHeld → (b a : Device) (items : List LogItem) (rs : List Record) → IsFoundOn b a items → AreItemsOf items rs → Holds b rs
+pub holds_of : OpenedHeld → (b a : Device) (items : List LogItem) (rs : List Record) → IsFoundOn b a items → AreItemsOf items rs → DeviceHolds b rs
 holds_of held b a items rs on are = holds_told held b.told a.told on.opened.0 items rs on.opened.1 are
 
 pub zip_holds : OpenedHeld → (n : ℕ) (before after : List Device) (found : List (List LogItem)) (logs : List (List Record)) → n ≤ length found → AreFound before after found
-    → AllZip AreItemsOf (take n found) logs → AllZip Holds (take n before) logs
+    → AllZip AreItemsOf (take n found) logs → AllZip DeviceHolds (take n before) logs
 zip_holds held zero before after found [] le are all = tt
 zip_holds held zero before after found (l ∷ ls) le are all = absurd all
 zip_holds held (suc n) before after [] logs le are all = absurd (omega (arith, le))
@@ -79,7 +79,7 @@ zip_holds held (suc n) (b ∷ bs) [] (i ∷ is) logs le are all = absurd are
 zip_holds held (suc n) (b ∷ bs) (a ∷ more) (i ∷ is) [] le are all = absurd all
 zip_holds held (suc n) (b ∷ bs) (a ∷ more) (i ∷ is) (l ∷ ls) le are all = (holds_of held b a i l are.0 all.0, zip_holds held n bs more is ls (omega (arith, le)) are.1 all.1)
 
-pub zip_first : (n : ℕ) (before : List Device) (first : List Record) (others : List (List Record)) → AllZip Holds (take n before) (first ∷ others) → Holds (device_at before 0) first
+pub zip_first : (n : ℕ) (before : List Device) (first : List Record) (others : List (List Record)) → AllZip DeviceHolds (take n before) (first ∷ others) → DeviceHolds (device_at before 0) first
 zip_first zero before first others all = absurd all
 zip_first (suc n) [] first others all = absurd all
 zip_first (suc n) (b ∷ bs) first others all = all.0
@@ -115,9 +115,9 @@ pub given : OpenedHeld → ItemsAreRecords → (before after : List Device) (fou
     → AllZip AreItemsOf found logs → logs ≡ first ∷ others → length found ≡ logs_said first → AreGiven before logs
 given law each before after found first others logs are all same said =
     let len : length logs ≡ length found = AllZip-long AreItemsOf found logs all in
-    let held : AllZip Holds (take (length found) before) logs = zip_holds law (length found) before after found logs (omega arith) are
+    let held : AllZip DeviceHolds (take (length found) before) logs = zip_holds law (length found) before after found logs (omega arith) are
     (subst (λ (l : List (List LogItem)). AllZip AreItemsOf l logs) (sym (take_all (length found) found (omega arith))) all) in
-    (first, others, same, len ∙ said, each_record each found logs all, subst (λ (n : ℕ). AllZip Holds (take n before) logs) (sym len) held)
+    (first, others, same, len ∙ said, each_record each found logs all, subst (λ (n : ℕ). AllZip DeviceHolds (take n before) logs) (sym len) held)
 
 -- the items of one more log are records
 zip_next : (found : List (List LogItem)) (logs : List (List Record)) (log : ℕ) (rs : List Record) → log < length found → AllZip AreItemsOf (take log found) logs

@@ -15,7 +15,7 @@ use Rattle.log_opening.specs.declared.refusals.LogsNo.TheVariants as ending
 use Rattle.log_opening.specs.Devices as devices
 use Rattle.log_opening.specs.Devices.{device_at, AreOpened, IsReached}
 use Rattle.log_opening.specs.Found.{IsLeftClosed, AreFound, IsStoppedAt, IsHalted, no_of_opening, IsNoReading, IsNoDecoding, IsNoRecovery}
-use Rattle.log_opening.specs.Kept.{logs_said, Holds, AreGiven, IsAsked, IsLogsNo}
+use Rattle.log_opening.specs.Kept.{logs_said, DeviceHolds, AreGiven, IsLogAsked, IsLogsNo}
 use Rattle.log_opening.proofs.Opening.{found_length, found_next, found_opened, found_reached}
 use Rattle.log_opening.proofs.Reading.{zip_holds, zip_first, found_opened_at}
 
@@ -50,19 +50,19 @@ stopped log before after why at =
     let after_is : after ≡ set p.0 (length p.1) p.2 = p.6 ∙ ap (λ (n : ℕ). set p.0 n p.2) p.4 in
     subst (λ (n : ℕ). Stop n before after why) (sym p.4) (subst (λ (l : List devices.Device). Stop (length p.1) before l why) (sym after_is) (stop_of before p.0 p.1 p.2 why p.3 lt closed))
 
-stop_no : (log : ℕ) (before after : List devices.Device) (why : OpenNo) → IsAsked before log → Stop log before after why → IsLogsNo before after (no_of_opening log why)
+stop_no : (log : ℕ) (before after : List devices.Device) (why : OpenNo) → IsLogAsked before log → Stop log before after why → IsLogsNo before after (no_of_opening log why)
 stop_no log before after (refusal.NotALog offset) asked stop = (asked, stop.refused, stop.reached)
 stop_no log before after (refusal.Damage offset) asked stop = (asked, stop.refused, stop.reached)
 stop_no log before after refusal.Device asked stop = (stop.below, stop.rose refl, asked, stop.refused, stop.reached)
 stop_no log before after refusal.Memory asked stop = inr (log, asked, stop.refused, stop.reached)
 
-pub halted_no : (count : ℕ) (before after : List devices.Device) (answer : LogsNo) → ((log : ℕ) → log < count → IsAsked before log) → IsHalted count before after answer → IsLogsNo before after answer
+pub halted_no : (count : ℕ) (before after : List devices.Device) (answer : LogsNo) → ((log : ℕ) → log < count → IsLogAsked before log) → IsHalted count before after answer → IsLogsNo before after answer
 halted_no count before after answer asked halted = elim (halted.why) [
   | inl memory ↦ subst (λ (n : LogsNo). IsLogsNo before after n) (sym memory.0) (inl (memory.1.0, (λ log lt. asked log (omega (arith, lt, memory.1.1))), memory.1.2))
   | inr at ↦ subst (λ (n : LogsNo). IsLogsNo before after n) (sym at.4) (stop_no at.0 before after at.1 (asked at.0 at.2) (stopped at.0 before after at.1 at.3))
 ]
 
-pub asked_first : (before : List devices.Device) (log : ℕ) → log < 1 → IsAsked before log
+pub asked_first : (before : List devices.Device) (log : ℕ) → log < 1 → IsLogAsked before log
 asked_first before log lt = inl (omega (arith, lt))
 
 -- ---- decoding
@@ -88,14 +88,14 @@ reading_no before after found (ending.Refused log offset (cause.Differs w k t)) 
 reading_no before after found (ending.Device log) one are why = absurd why
 reading_no before after found ending.Memory one are why = inl (1, asked_first before, subst (λ (n : ℕ). AreOpened n before after) one (found_opened before after found are))
 
-pub decoding_no : OpenedHeld → (before after : List devices.Device) (found : List (List LogItem)) (first : List Record) (answer : LogsNo) → Holds (device_at before 0) first → length found ≡ logs_said first
+pub decoding_no : OpenedHeld → (before after : List devices.Device) (found : List (List LogItem)) (first : List Record) (answer : LogsNo) → DeviceHolds (device_at before 0) first → length found ≡ logs_said first
     → AreFound before after found → IsNoDecoding found (first ∷ []) answer → IsLogsNo before after answer
 decoding_no law before after found first (ending.Refused log offset cause.NotALog) held said are why = absurd why
 decoding_no law before after found first (ending.Refused log offset cause.Damage) held said are why = absurd why
 decoding_no law before after found first (ending.Refused log offset cause.OldFormat) held said are why = absurd why
 decoding_no law before after found first (ending.Refused log offset cause.BadRecord) held said are why =
     let at = found_opened_at before after found log are why.2 in
-    let all : AllZip Holds (take log before) (first ∷ why.0) = zip_holds law log before after found (first ∷ why.0) (omega (arith, why.2)) are why.3 in
+    let all : AllZip DeviceHolds (take log before) (first ∷ why.0) = zip_holds law log before after found (first ∷ why.0) (omega (arith, why.2)) are why.3 in
     let lt : log < logs_said first = omega (arith, why.2, said) in
     let opened : AreOpened (logs_said first) before after = subst (λ (n : ℕ). AreOpened n before after) said (found_opened before after found are) in
     (inr (first, held, lt), (at.0, get_or found log [], at.1, why.4), inr (first, why.0, omega (arith, why.1), all, lt, opened))
@@ -114,9 +114,9 @@ decoding_no law before after found first ending.Memory held said are why =
 -- ---- recovering
 
 -- the logs that are given are those that log 0 says
-pub given_asked : (before : List devices.Device) (logs : List (List Record)) → AreGiven before logs → (log : ℕ) → log < length logs → IsAsked before log
+pub given_asked : (before : List devices.Device) (logs : List (List Record)) → AreGiven before logs → (log : ℕ) → log < length logs → IsLogAsked before log
 given_asked before logs given log lt =
-    let held : AllZip Holds (take (length logs) before) (given.0 ∷ given.1) = subst (λ (l : List (List Record)). AllZip Holds (take (length logs) before) l) given.2 given.5 in
+    let held : AllZip DeviceHolds (take (length logs) before) (given.0 ∷ given.1) = subst (λ (l : List (List Record)). AllZip DeviceHolds (take (length logs) before) l) given.2 given.5 in
     inr (given.0, zip_first (length logs) before given.0 given.1 held, omega (arith, lt, given.3))
 
 pub recovery_no : (before after : List devices.Device) (logs : List (List Record)) (answer : LogsNo) → AreGiven before logs → AreOpened (length logs) before after

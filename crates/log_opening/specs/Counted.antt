@@ -16,7 +16,7 @@ use Rattle.log_opening.specs.declared.refusals.LogsNo.{LogsNo}
 use Rattle.log_opening.specs.declared.refusals.LogsNo.TheVariants as ending
 use Rattle.log_opening.specs.Devices as devices
 use Rattle.log_opening.specs.Found.{IsReadyLog, IsHandled, AreBegunOn}
-use Rattle.log_opening.specs.Kept.{Holds}
+use Rattle.log_opening.specs.Kept.{DeviceHolds}
 
 -- These logs are open, from the first device on, and of format 2, and these items were found on each. None of them was of format 1
 -- with an item. The items are these records, which the devices held. The other devices got no call.
@@ -27,7 +27,7 @@ pub record AreOpenWith (before after : List devices.Device) (logs : List LogStat
   pub recent : devices.HoldNoOld (length found) before
   pub items : AllZip AreItemsOf found records
   pub each : AllByRecursion (AllByRecursion IsRecord) records
-  pub held : AllZip Holds (take (length found) before) records
+  pub held : AllZip DeviceHolds (take (length found) before) records
   pub begun : devices.AreBegun (length found) before after
   pub handled : AllZip IsHandled before after
 
@@ -58,7 +58,7 @@ pub record FailsUpgrade (count : ℕ) (before after : List devices.Device) (log 
 pub record HasBadRecord (count : ℕ) (before after : List devices.Device) (log offset : ℕ) : Type 0 where
   pub asked : log < count
   pub bad : (end : ℕ) × (found : List LogItem) × devices.Begun (devices.device_at before log).told (devices.device_at after log).told end found × IsFirstBadIn found offset
-  pub below : (records : List (List Record)) × (log ≡ length records) × AllZip Holds (take log before) records
+  pub below : (records : List (List Record)) × (log ≡ length records) × AllZip DeviceHolds (take log before) records
   pub recent : devices.HoldNoOld count before
   pub begun : devices.AreBegun count before after
 

@@ -34,49 +34,49 @@ abbrev pub IsSaid : List (List Record) → Type 0
 IsSaid logs = (first : List Record) × (others : List (List Record)) × (logs ≡ first ∷ others) × (length logs ≡ logs_said first)
 
 -- what a device holds, where it tells it
-abbrev pub Holds : devices.Device → List Record → Type 0
-Holds d rs = IfSome d.told (λ h. HoldsRecords (content h) rs)
+abbrev pub DeviceHolds : devices.Device → List Record → Type 0
+DeviceHolds d rs = IfSome d.told (λ h. HoldsRecords (content h) rs)
 
 -- these are the records of all logs
 abbrev pub AreGiven : List devices.Device → List (List Record) → Type 0
 AreGiven before logs =
     (first : List Record) × (others : List (List Record)) × (logs ≡ first ∷ others) × (length logs ≡ logs_said first)
-    × AllByRecursion (AllByRecursion IsRecord) logs × AllZip Holds (take (length logs) before) logs
+    × AllByRecursion (AllByRecursion IsRecord) logs × AllZip DeviceHolds (take (length logs) before) logs
 
 -- the log is log 0, or one below the number that log 0 says
-abbrev pub IsAsked : List devices.Device → ℕ → Type 0
-IsAsked before log = (log ≡ 0) ⊎ ((first : List Record) × Holds (devices.device_at before 0) first × (log < logs_said first))
+abbrev pub IsLogAsked : List devices.Device → ℕ → Type 0
+IsLogAsked before log = (log ≡ 0) ⊎ ((first : List Record) × DeviceHolds (devices.device_at before 0) first × (log < logs_said first))
 
 -- Log 0 is decoded when it alone is opened. The others are decoded in order, when all that log 0 says are opened.
 abbrev pub IsDecoded : List devices.Device → List devices.Device → ℕ → Type 0
 IsDecoded before after log =
     ((log ≡ 0) × devices.AreOpened 1 before after)
-    ⊎ ((first : List Record) × (others : List (List Record)) × (log ≡ length others + 1) × AllZip Holds (take log before) (first ∷ others)
+    ⊎ ((first : List Record) × (others : List (List Record)) × (log ≡ length others + 1) × AllZip DeviceHolds (take log before) (first ∷ others)
     × (log < logs_said first) × devices.AreOpened (logs_said first) before after)
 
 -- What this log holds is refused, for this cause: it was not opened, or not decoded; or the records of all recover to nothing.
-abbrev pub AreRefused : List devices.Device → List devices.Device → ℕ → ℕ → LogCause → Type 0
-AreRefused before after log offset cause.NotALog =
-    IsAsked before log × Refused (devices.device_at before log).told (devices.device_at after log).told (refusal.NotALog offset)
+abbrev pub IsLogRefused : List devices.Device → List devices.Device → ℕ → ℕ → LogCause → Type 0
+IsLogRefused before after log offset cause.NotALog =
+    IsLogAsked before log × Refused (devices.device_at before log).told (devices.device_at after log).told (refusal.NotALog offset)
     × devices.IsReached log before after
-AreRefused before after log offset cause.Damage =
-    IsAsked before log × Refused (devices.device_at before log).told (devices.device_at after log).told (refusal.Damage offset)
+IsLogRefused before after log offset cause.Damage =
+    IsLogAsked before log × Refused (devices.device_at before log).told (devices.device_at after log).told (refusal.Damage offset)
     × devices.IsReached log before after
-AreRefused before after log offset cause.BadRecord =
-    IsAsked before log × ((end : ℕ) × (found : List LogItem)
+IsLogRefused before after log offset cause.BadRecord =
+    IsLogAsked before log × ((end : ℕ) × (found : List LogItem)
     × Opened (devices.device_at before log).told (devices.device_at after log).told end found × IsFirstBadIn found offset)
     × IsDecoded before after log
-AreRefused before after log offset c =
+IsLogRefused before after log offset c =
     (offset ≡ 0) × ((logs : List (List Record)) × AreGiven before logs × IsRecoveryCause logs log c × devices.AreOpened (length logs) before after)
 
 -- the device of a log that is asked failed, and the devices behind it got no call
-abbrev pub HasFailed : List devices.Device → List devices.Device → ℕ → Type 0
-HasFailed before after log =
-    (log < length before) × Rose (devices.device_at before log).faults (devices.device_at after log).faults × IsAsked before log
+abbrev pub HasFailedDevice : List devices.Device → List devices.Device → ℕ → Type 0
+HasFailedDevice before after log =
+    (log < length before) × Rose (devices.device_at before log).faults (devices.device_at after log).faults × IsLogAsked before log
     × Refused (devices.device_at before log).told (devices.device_at after log).told refusal.Device × devices.IsReached log before after
 
 -- why nothing is recovered, from the devices before and after
 abbrev pub IsLogsNo : List devices.Device → List devices.Device → LogsNo → Type 0
-IsLogsNo before after (ending.Refused log offset c) = AreRefused before after log offset c
-IsLogsNo before after (ending.Device log) = HasFailed before after log
-IsLogsNo before after ending.Memory = devices.LacksMemory (λ log. IsAsked before log) before after
+IsLogsNo before after (ending.Refused log offset c) = IsLogRefused before after log offset c
+IsLogsNo before after (ending.Device log) = HasFailedDevice before after log
+IsLogsNo before after ending.Memory = devices.LacksMemory (λ log. IsLogAsked before log) before after

@@ -7,7 +7,7 @@ ghost use Rattle.record_log.specs.Records.{KeepsRecords};
 ghost use Rattle.snap_recover.specs.Opening.{IsRecovered};
 ghost use Rattle.log_opening.specs.Devices.{Device, devices_of, devices_now, device_at, IsOpenedAtMost, AreOpened};
 ghost use Rattle.log_opening.specs.Found.{IsReadyLog};
-ghost use Rattle.log_opening.specs.Kept.{logs_said, Holds, AreGiven, IsLogsNo};
+ghost use Rattle.log_opening.specs.Kept.{logs_said, DeviceHolds, AreGiven, IsLogsNo};
 ghost use Rattle.log_opening.specs.Reads.{AreOpenOn, AreRead, IsEnded, IsFirstRead, IsOpenOn};
 
 use crate::LogsNo;

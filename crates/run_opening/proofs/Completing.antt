@@ -25,7 +25,7 @@ use Rattle.log_opening.specs.declared.refusals.LogsNo.{LogsNo}
 use Rattle.log_opening.specs.declared.refusals.LogsNo.TheVariants as ending
 use Rattle.log_opening.specs.Devices.{Device, device_at, HoldNoOld, HoldsNoOld, HoldsOld, IsOld}
 use Rattle.log_opening.specs.Found.{IsRecoveryCause}
-use Rattle.log_opening.specs.Kept.{Holds}
+use Rattle.log_opening.specs.Kept.{DeviceHolds}
 use Rattle.log_opening.specs.Counted.{AreNotRead}
 use Rattle.run_opening.specs.Begins.{IsUnspent, IsFirstSpent, GoesOn, Begins, IsFieldDifference, IsDifference, IsCause}
 use Rattle.run_opening.specs.Starts.{IsNoStart}
@@ -101,11 +101,11 @@ no_start laws logs states o ending.Memory begins why = refl
 
 -- ---- logs that hold records are not refused
 
-same_records : Laws → (d : Device) (rs xs : List Record) → TellsRecords d rs → Holds d xs → xs ≡ rs
+same_records : Laws → (d : Device) (rs xs : List Record) → TellsRecords d rs → DeviceHolds d xs → xs ≡ rs
 same_records laws d rs xs tells holds =
     laws.one_list (content tells.0) xs rs (subst (λ (m : Option History). IfSome m (λ h. HoldsRecords (content h) xs)) tells.1 holds) tells.2
 
-all_same : Laws → (ds : List Device) (logs others : List (List Record)) → AllZip TellsRecords ds logs → AllZip Holds ds others → others ≡ logs
+all_same : Laws → (ds : List Device) (logs others : List (List Record)) → AllZip TellsRecords ds logs → AllZip DeviceHolds ds others → others ≡ logs
 all_same laws [] [] [] tells holds = refl
 all_same laws [] (l ∷ logs) others tells holds = absurd tells
 all_same laws [] [] (x ∷ others) tells holds = absurd holds

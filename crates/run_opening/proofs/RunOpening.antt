@@ -22,7 +22,7 @@ use Rattle.log_opening.specs.declared.refusals.LogsNo.{LogsNo}
 use Rattle.log_opening.specs.declared.refusals.LogsNo.TheVariants as ending
 use Rattle.log_opening.specs.Devices.{Device, device_at, devices_of, as_device, AreBegun, HoldNoOld, IsBegun}
 use Rattle.log_opening.specs.Found.{IsReadyLog, IsTouched, IsHandled}
-use Rattle.log_opening.specs.Kept.{Holds}
+use Rattle.log_opening.specs.Kept.{DeviceHolds}
 use Rattle.log_opening.specs.Counted.{AreOpenWith, AreNotRead}
 use Rattle.run_opening.specs.declared.limits.TheConstants.{LARGEST_START}
 use Rattle.run_opening.specs.Begins.{AreEmpty, fresh_opening, IsUnspent, Begins}
@@ -114,14 +114,14 @@ handled_later (b ∷ bs) [] all = absurd all
 handled_later (b ∷ bs) (m ∷ ms) all = (all.0.safe.later, handled_later bs ms all.1)
 
 -- where no log has a record each device holds none
-held_empty : (bs : List Device) (logs : List (List Record)) → AllZip Holds bs logs → AreEmpty logs → AllByRecursion (λ (d : Device). Holds d []) bs
+held_empty : (bs : List Device) (logs : List (List Record)) → AllZip DeviceHolds bs logs → AreEmpty logs → AllByRecursion (λ (d : Device). DeviceHolds d []) bs
 held_empty [] logs held empty = tt
 held_empty (b ∷ bs) [] held empty = absurd held
-held_empty (b ∷ bs) (rs ∷ logs) held empty = (subst (λ (l : List Record). Holds b l) empty.0 held.0, held_empty bs logs held.1 empty.1)
+held_empty (b ∷ bs) (rs ∷ logs) held empty = (subst (λ (l : List Record). DeviceHolds b l) empty.0 held.0, held_empty bs logs held.1 empty.1)
 
 -- log 0 keeps its records or has Genesis besides, and the others keep theirs
 safe_with : (count : ℕ) (states : List State) (b a : Device) (bs ms : List Device) (logs : List (List Record)) (o : Opening) (added : List Record) → length logs ≡ count
-    → AllZip Holds (take count (b ∷ bs)) logs → IsStart logs states o added → KeepsOrAdds b.told a.told added → AllZip IsHandled bs ms → AreSafe count states (b ∷ bs) (a ∷ ms)
+    → AllZip DeviceHolds (take count (b ∷ bs)) logs → IsStart logs states o added → KeepsOrAdds b.told a.told added → AllZip IsHandled bs ms → AreSafe count states (b ∷ bs) (a ∷ ms)
 safe_with count states b a bs ms logs o added size held (inl new) keeps others =
     let is : added ≡ first_record count states ∷ [] = subst (λ (n : ℕ). added ≡ first_record n states ∷ []) size new.2 in
     inr (held_empty (take count (b ∷ bs)) logs held new.0, subst (λ (l : List Record). KeepsOrAdds b.told a.told l) is keeps, handled_keeps bs ms others)
@@ -183,7 +183,7 @@ begun_first laws count states b bs l k ls others f fs rs rss o added size lie ar
     let as_found : length logs ≡ length (f ∷ fs) = AllZip-long AreItemsOf (f ∷ fs) logs lie.items in
     let as_ready : length (f ∷ fs) ≡ length (l ∷ ls) = AllZip-long IsReadyLog (l ∷ ls) (f ∷ fs) lie.ready in
     let many : length logs ≡ count = as_found ∙ size in
-    let held : AllZip Holds (take (length logs) (b ∷ bs)) logs = subst (λ (n : ℕ). AllZip Holds (take n (b ∷ bs)) logs) (sym as_found) lie.held in
+    let held : AllZip DeviceHolds (take (length logs) (b ∷ bs)) logs = subst (λ (n : ℕ). AllZip DeviceHolds (take n (b ∷ bs)) logs) (sym as_found) lie.held in
     let first : IsRunLog b l l.end rs [] = run_logs laws.logs (b ∷ bs) others (l ∷ ls) (f ∷ fs) logs lie.are_begun lie.ready lie.second lie.items 0 (omega arith) in
     let log : (n : ℕ) → n < length logs → (end : ℕ) × IsRunLog (device_at (b ∷ bs) n) (log_at (k ∷ ls) n) end (records_at logs n) (first_groups n added) =
     begun_logs laws.logs b bs l k ls others f fs rs rss added lie first w in
@@ -208,7 +208,7 @@ begun_first laws count states b bs l k ls others f fs rs rss o added size lie ar
       kept = states_are.1;
       ends = λ n lt. begun_ends laws.logs b bs l k ls others f fs rs rss added lie first w n (omega (arith, lt, many));
       safe = safe_with count states b (as_device k) bs (map as_device ls ++ others) logs o added many
-          (subst (λ (n : ℕ). AllZip Holds (take n (b ∷ bs)) logs) many held) start
+          (subst (λ (n : ℕ). AllZip DeviceHolds (take n (b ∷ bs)) logs) many held) start
           (written_safely laws.logs b l l.end rs added k.told first lie.handled.0.safe.records w.crashes) lie.handled.1;
       later = (omega (arith, first.later, w.later), handled_later bs (map as_device ls ++ others) lie.handled.1);
     }
@@ -239,7 +239,7 @@ not_started count states before after logs found records answer size lie reason 
     record {
       why = inl (
         inr (record {
-          records = (records, many, subst (λ (n : ℕ). AllZip Holds (take n before) records) size lie.held, reason);
+          records = (records, many, subst (λ (n : ℕ). AllZip DeviceHolds (take n before) records) size lie.held, reason);
           recent = subst (λ (n : ℕ). HoldNoOld n before) size lie.recent;
           begun = subst (λ (n : ℕ). AreBegun n before after) size lie.begun;
         }),
@@ -257,7 +257,7 @@ fails_first laws count states b bs l k ls others f fs rs rss o added size many l
 fails_first laws count states b bs l k ls others f fs rs rss o added size many lie first (inl new) some may rose fault =
     let is : added ≡ first_record count states ∷ [] = subst (λ (n : ℕ). added ≡ first_record n states ∷ []) many new.2 in
     record {
-      empty = held_empty (take count (b ∷ bs)) (rs ∷ rss) (subst (λ (n : ℕ). AllZip Holds (take n (b ∷ bs)) (rs ∷ rss)) size lie.held) new.0;
+      empty = held_empty (take count (b ∷ bs)) (rs ∷ rss) (subst (λ (n : ℕ). AllZip DeviceHolds (take n (b ∷ bs)) (rs ∷ rss)) size lie.held) new.0;
       rose = rose_before b.faults l.faults k.faults first.later rose;
       grew = (
         l.end,
@@ -290,7 +290,7 @@ not_first laws count states b bs l k ls others f fs rs rss o added answer size l
             (subst (λ (n : ℕ). HoldNoOld n (b ∷ bs)) size lie.recent) (subst (λ (n : ℕ). AreBegun n (b ∷ bs) (all_devices (l ∷ ls) others)) size lie.begun) memory.0 memory.1
         | inr device ↦ inr (device.0, fails_first laws count states b bs l k ls others f fs rs rss o added size many lie first start device.1 w.may device.2 device.3)
       ];
-      safe = safe_with count states b (as_device k) bs (all_devices ls others) logs o added many (subst (λ (n : ℕ). AllZip Holds (take n (b ∷ bs)) logs) size lie.held) start
+      safe = safe_with count states b (as_device k) bs (all_devices ls others) logs o added many (subst (λ (n : ℕ). AllZip DeviceHolds (take n (b ∷ bs)) logs) size lie.held) start
           (written_safely laws.logs b l l.end rs added k.told first lie.handled.0.safe.records w.crashes) lie.handled.1;
       later = (omega (arith, first.later, w.later), handled_later bs (all_devices ls others) lie.handled.1);
     }

@@ -21,7 +21,7 @@ use Rattle.log_opening.specs.declared.refusals.LogsNo.{LogsNo}
 use Rattle.log_opening.specs.declared.refusals.LogsNo.TheVariants as ending
 use Rattle.log_opening.specs.Devices.{Device, device_at, AreBegun, HoldNoOld, IsBegun}
 use Rattle.log_opening.specs.Found.{IsHandled}
-use Rattle.log_opening.specs.Kept.{Holds}
+use Rattle.log_opening.specs.Kept.{DeviceHolds}
 use Rattle.log_opening.specs.Counted.{AreNotRead}
 use Rattle.run_opening.specs.declared.comparisons.TheConstants.{ROOM_TO_BEGIN}
 use Rattle.run_opening.specs.Begins.{Begins}
@@ -61,7 +61,7 @@ records_at logs n = slice_index_or logs n []
 pub record IsRunLog (before : Device) (log : LogState) (end : ℕ) (records : List Record) (groups : List (List Record)) : Type 0 where
   pub opened : (mid : Option History) × (found : List LogItem) × Opened before.told mid end found
   pub low : end ≤ FARTHEST_END
-  pub held : Holds before records
+  pub held : DeviceHolds before records
   pub grew : GrewBy before.told log.told end groups None
   pub gate : log.end ≡ end_behind_groups end groups
   pub holds : IfSome log.told (λ g. RecordLog g log.end (records ++ all_records groups))
@@ -74,7 +74,7 @@ pub record IsRunLog (before : Device) (log : LogState) (end : ℕ) (records : Li
 pub record OpensRun (before : List Device) (logs : List LogState) (states : List State) (o : Opening) (records : List (List Record)) (added : List Record) : Type 0 where
   pub start : IsStart records states o added
   pub each : AllByRecursion (AllByRecursion IsRecord) records
-  pub held : AllZip Holds (take (length records) before) records
+  pub held : AllZip DeviceHolds (take (length records) before) records
   pub recent : HoldNoOld (length records) before
   pub as_many : length logs ≡ length records
   pub log : (n : ℕ) → n < length records → (end : ℕ) × IsRunLog (device_at before n) (log_at logs n) end (records_at records n) (first_groups n added)
@@ -85,13 +85,13 @@ pub record OpensRun (before : List Device) (logs : List LogState) (states : List
 
 -- What the logs hold gives no run of the text. All are opened, and of format 2.
 pub record AreNoStart (count : ℕ) (states : List State) (before after : List Device) (no : LogsNo) : Type 0 where
-  pub records : (logs : List (List Record)) × (length logs ≡ count) × AllZip Holds (take count before) logs × IsNoStart logs states no
+  pub records : (logs : List (List Record)) × (length logs ≡ count) × AllZip DeviceHolds (take count before) logs × IsNoStart logs states no
   pub recent : HoldNoOld count before
   pub begun : AreBegun count before after
 
 -- no log of the run holds a record
 abbrev pub AreHeldEmpty : ℕ → List Device → Type 0
-AreHeldEmpty count before = AllByRecursion (λ (d : Device). Holds d []) (take count before)
+AreHeldEmpty count before = AllByRecursion (λ (d : Device). DeviceHolds d []) (take count before)
 
 -- No log held a record, and log 0's device failed when Genesis was written. All are opened, and of format 2.
 pub record FailsFirst (count : ℕ) (states : List State) (before after : List Device) : Type 0 where

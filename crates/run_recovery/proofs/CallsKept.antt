@@ -4,7 +4,7 @@ use Rattle.std.specs.List.{AllByRecursion, AllZip}
 use Rattle.std.proofs.Common.{inl, inr, arith, sym, ap, subst, ◌∙◌}
 use Rattle.std.proofs.lemmas.List.{append_cancel_left}
 use Rattle.log_opening.specs.Devices.{Device, device_at}
-use Rattle.log_opening.specs.Kept.{Holds}
+use Rattle.log_opening.specs.Kept.{DeviceHolds}
 use Rattle.record_log.specs.RecordLogLaws.{OneListOfRecords}
 use Rattle.record_log.specs.Records.{HoldsRecords, KeepsRecords}
 use Rattle.run_opening.specs.Begins.{AreEmpty, AreOfRuns, Begins, fresh_opening}
@@ -36,7 +36,7 @@ told_behind R (b ∷ bs) [] l h all told = told_at R bs [] l h all told
 told_behind R (b ∷ bs) (m ∷ ms) l h all told = told_at R bs ms l h all told
 
 -- a device that holds no record
-empty_at : (count : ℕ) (bs : List Device) (l : ℕ) (h : History) → AllByRecursion (λ (d : Device). Holds d []) (take count bs) → l < count → (device_at bs l).told ≡ Some h → HoldsRecords (content h) []
+empty_at : (count : ℕ) (bs : List Device) (l : ℕ) (h : History) → AllByRecursion (λ (d : Device). DeviceHolds d []) (take count bs) → l < count → (device_at bs l).told ≡ Some h → HoldsRecords (content h) []
 empty_at zero bs l h all lt told = absurd (omega (arith, lt))
 empty_at (suc count) [] l h all lt told = absurd (cc)
 empty_at (suc count) (b ∷ bs) zero h all lt told = subst (λ (t : Option History). IfSome t (λ g. HoldsRecords (content g) [])) told all.0

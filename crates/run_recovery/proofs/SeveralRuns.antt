@@ -5,7 +5,7 @@ use Rattle.std.proofs.Common.{inl, inr, append_assoc, arith, sym, ap, subst, ◌
 use Rattle.std.proofs.lemmas.List.{append-nil, take_all, take_more}
 use Rattle.aml_tree.specs.Tree.{CheckedMethod}
 use Rattle.log_opening.specs.Devices.{Device, device_at}
-use Rattle.log_opening.specs.Kept.{Holds}
+use Rattle.log_opening.specs.Kept.{DeviceHolds}
 use Rattle.protocol.specs.Events as machine
 use Rattle.protocol.specs.Moments.{Moment, left_in}
 use Rattle.protocol.specs.History.{history}
@@ -171,7 +171,7 @@ same_lists_at (x ∷ xs) [] e same = absurd (omega (arith, e))
 same_lists_at (x ∷ xs) (y ∷ ys) e same =
     ap (λ (z : List Record). z ∷ xs) (same 0 (omega arith)) ∙ ap (λ (zs : List (List Record)). y ∷ zs) (same_lists_at xs ys (omega (arith, e)) (λ l lt. same (suc l) (omega (arith, lt))))
 
-held_there : (d : Device) (h : History) (image : List ℕ) (rs : List Record) → d.told ≡ Some h → content h ≡ image → Holds d rs → HoldsRecords image rs
+held_there : (d : Device) (h : History) (image : List ℕ) (rs : List Record) → d.told ≡ Some h → content h ≡ image → DeviceHolds d rs → HoldsRecords image rs
 held_there d h image rs told is held = subst (λ (bytes : List ℕ). HoldsRecords bytes rs) is (subst (λ (t : Option History). IfSome t (λ h. HoldsRecords (content h) rs)) told held)
 
 start_begins : (logs : List (List Record)) (states : List State) (o : Opening) (added : List Record) → IsStart logs states o added → Begins logs states o

@@ -7,7 +7,7 @@ use Rattle.gate_log.specs.declared.limits.TheConstants.{FARTHEST_END}
 use Rattle.gate_log.specs.declared.logs.LogItem.{LogItem}
 use Rattle.gate_log.specs.Opened.{Opened}
 use Rattle.log_opening.specs.Devices.{Device, device_at, HoldNoOld}
-use Rattle.log_opening.specs.Kept.{Holds}
+use Rattle.log_opening.specs.Kept.{DeviceHolds}
 use Rattle.machine_laws.specs.Programs.{with_code}
 use Rattle.protocol.specs.Conditions.{IsAllowed}
 use Rattle.protocol.specs.Events as machine
@@ -64,7 +64,7 @@ pub record IsLeastOf (failed : ℕ → Bool) (log : ℕ) : Type 0 where
 -- The device held these records and was opened, and its log upgraded where it was of format 1; since then it got these groups, one
 -- append for each, and a front of the append of one more that met a fault, where one did, and nothing else.
 pub record IsRunDevice (before after : Device) (records : List Record) (groups : List (List Record)) (tried : Option (List Record)) : Type 0 where
-  pub held : Holds before records
+  pub held : DeviceHolds before records
   pub end : ℕ
   pub opened : (mid : Option History) × (found : List LogItem) × Opened before.told mid end found
   pub low : end ≤ FARTHEST_END

@@ -22,7 +22,7 @@ use Rattle.snap_report.specs.declared.statuses.Status.{Status}
 use Rattle.snap_report.specs.declared.statuses.Status.TheVariants as status
 use Rattle.log_opening.specs.Devices.{Device, device_at}
 use Rattle.log_opening.specs.Found.{IsRecoveryCause}
-use Rattle.log_opening.specs.Kept.{logs_said, Holds, AreGiven, IsAsked, AreRefused}
+use Rattle.log_opening.specs.Kept.{logs_said, DeviceHolds, AreGiven, IsLogAsked, IsLogRefused}
 use Rattle.run_opening.specs.Opens.{TellsRecords}
 use Rattle.run_recovery.specs.Recoverable.{AreRecoverable}
 use Rattle.snap_run.specs.Uses.{Use}
@@ -65,10 +65,10 @@ told_at (suc n) [] (l ∷ ls) log all lt = absurd all
 told_at (suc n) (b ∷ bs) (l ∷ ls) zero all lt = all.0
 told_at (suc n) (b ∷ bs) (l ∷ ls) (suc log) all lt = told_at n bs ls log all.1 (omega (arith, lt))
 
-same_records : OneListOfRecords → (d : Device) (rs xs : List Record) → TellsRecords d rs → Holds d xs → xs ≡ rs
+same_records : OneListOfRecords → (d : Device) (rs xs : List Record) → TellsRecords d rs → DeviceHolds d xs → xs ≡ rs
 same_records one d rs xs tells holds = one (content tells.0) xs rs (subst (λ o. IfSome o (λ h. HoldsRecords (content h) xs)) tells.1 holds) tells.2
 
-same_logs : OneListOfRecords → (ds : List Device) (xs logs : List (List Record)) → AllZip Holds ds xs → AllZip TellsRecords ds logs → xs ≡ logs
+same_logs : OneListOfRecords → (ds : List Device) (xs logs : List (List Record)) → AllZip DeviceHolds ds xs → AllZip TellsRecords ds logs → xs ≡ logs
 same_logs one [] [] [] holds tells = refl
 same_logs one [] (x ∷ xs) logs holds tells = absurd holds
 same_logs one [] [] (l ∷ logs) holds tells = absurd tells
@@ -79,11 +79,11 @@ same_logs one (d ∷ ds) (x ∷ xs) (l ∷ logs) holds tells =
     let others : xs ≡ logs = same_logs one ds xs logs holds.1 tells.1 in
     cc
 
-holds_first : (n : ℕ) (before : List Device) (xs others : List (List Record)) (first : List Record) → xs ≡ first ∷ others → AllZip Holds (take n before) xs → Holds (device_at before 0) first
+holds_first : (n : ℕ) (before : List Device) (xs others : List (List Record)) (first : List Record) → xs ≡ first ∷ others → AllZip DeviceHolds (take n before) xs → DeviceHolds (device_at before 0) first
 holds_first n before [] others first is all = absurd (cc)
 holds_first zero before (x ∷ xs) others first is all = absurd all
 holds_first (suc n) [] (x ∷ xs) others first is all = absurd all
-holds_first (suc n) (b ∷ bs) (x ∷ xs) others first is all = let same : x ≡ first = cc in subst (λ (rs : List Record). Holds b rs) same all.0
+holds_first (suc n) (b ∷ bs) (x ∷ xs) others first is all = let same : x ≡ first = cc in subst (λ (rs : List Record). DeviceHolds b rs) same all.0
 
 -- ---- as many logs as log 0 says
 
@@ -96,26 +96,26 @@ module _ (one : OneCommand) (laws : RecordLaws) (never : NeverBoth) (u : Use) (l
     some = omega (arith, ap (λ (l : List (List Record)). length l) recovers.1.said.2)
 
     -- what log 0 holds says how many there are
-    said : (first : List Record) → Holds (device_at u.devices_before 0) first → logs_said first ≡ length logs
+    said : (first : List Record) → DeviceHolds (device_at u.devices_before 0) first → logs_said first ≡ length logs
     said first holds =
         let here = same_records laws.one_list (device_at u.devices_before 0) (get_or logs 0 []) first (told_at (length logs) u.devices_before logs 0 recovers.1.told some) holds in
         let same : first ≡ recovers.1.said.0 = here ∙ ap (λ (l : List (List Record)). get_or l 0 []) recovers.1.said.2 in
         ap (λ (rs : List Record). logs_said rs) same ∙ sym recovers.1.said.3
 
-    asked_below : (log : ℕ) → IsAsked u.devices_before log → log < length logs
+    asked_below : (log : ℕ) → IsLogAsked u.devices_before log → log < length logs
     asked_below log (inl zero_is) = omega (arith, some, zero_is)
     asked_below log (inr named) = omega (arith, named.2, said named.0 named.1)
 
     given_same : (xs : List (List Record)) → AreGiven u.devices_before xs → xs ≡ logs
     given_same xs given =
         let many : length xs ≡ length logs = given.3 ∙ said given.0 (holds_first (length xs) u.devices_before xs given.1 given.0 given.2 given.5) in
-        same_logs laws.one_list (take (length logs) u.devices_before) xs logs (subst (λ (n : ℕ). AllZip Holds (take n u.devices_before) xs) many given.5) recovers.1.told
+        same_logs laws.one_list (take (length logs) u.devices_before) xs logs (subst (λ (n : ℕ). AllZip DeviceHolds (take n u.devices_before) xs) many given.5) recovers.1.told
 
     given_not_refused : (xs : List (List Record)) (log : ℕ) (c : LogCause) → AreGiven u.devices_before xs → IsRecoveryCause xs log c → ⊥
     given_not_refused xs log c given why =
         recovers_not_refused never logs recovers.0 log c recovers.1.recovered (subst (λ (l : List (List Record)). IsRecoveryCause l log c) (given_same xs given) why)
 
-    none_refused : (after : List Device) (log offset : ℕ) (c : LogCause) → AreRefused u.devices_before after log offset c → ⊥
+    none_refused : (after : List Device) (log offset : ℕ) (c : LogCause) → IsLogRefused u.devices_before after log offset c → ⊥
     none_refused after log offset cause.NotALog x =
         let tells = told_at (length logs) u.devices_before logs log recovers.1.told (asked_below log x.0) in
         let why = subst (λ o. Refused o (device_at after log).told (refusal.NotALog offset)) tells.1 x.1 in

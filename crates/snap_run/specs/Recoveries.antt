@@ -9,7 +9,7 @@ use Rattle.snap_report.specs.Lines.{actors_text, all_kept_text, recovered_text}
 use Rattle.snap_report.specs.declared.statuses.Status.{Status}
 use Rattle.snap_report.specs.declared.statuses.Status.TheVariants as status
 use Rattle.log_opening.specs.Devices.{Device, device_at, AreOpened, LacksMemory}
-use Rattle.log_opening.specs.Kept.{AreGiven, IsAsked, AreRefused, HasFailed}
+use Rattle.log_opening.specs.Kept.{AreGiven, IsLogAsked, IsLogRefused, HasFailedDevice}
 use Rattle.snap_run.specs.Uses.{Use}
 use Rattle.run_work.specs.Writings.{Writing, WritesNothing, Writes, WritesFront}
 use Rattle.command_words.specs.Words.{IsRecover}
@@ -23,10 +23,10 @@ IsRecoverAnswer before after out status.Done =
     (logs : List (List Record)) × (o : Opening) × AreGiven before logs × IsRecovered logs o × AreOpened (length logs) before after × Writes out (recovered_report o)
 IsRecoverAnswer before after out (status.Usage place) = ⊥
 IsRecoverAnswer before after out (status.Input line cause) = ⊥
-IsRecoverAnswer before after out (status.Logs log offset c) = AreRefused before after log offset c × WritesNothing out
-IsRecoverAnswer before after out status.Memory = LacksMemory (λ log. IsAsked before log) before after × WritesNothing out
+IsRecoverAnswer before after out (status.Logs log offset c) = IsLogRefused before after log offset c × WritesNothing out
+IsRecoverAnswer before after out status.Memory = LacksMemory (λ log. IsLogAsked before log) before after × WritesNothing out
 IsRecoverAnswer before after out status.ReadFault = ⊥
-IsRecoverAnswer before after out (status.LogFault log) = HasFailed before after log × WritesNothing out
+IsRecoverAnswer before after out (status.LogFault log) = HasFailedDevice before after log × WritesNothing out
 IsRecoverAnswer before after out status.OutFault =
     (logs : List (List Record)) × (o : Opening) × AreGiven before logs × IsRecovered logs o × AreOpened (length logs) before after × WritesFront out (recovered_report o)
     × Rose out.faults_before out.faults_after
