@@ -5,7 +5,7 @@ use Rattle.std.proofs.lemmas.Grind.{same_number_lists}
 use Rattle.std.proofs.lemmas.Bool.{cases_eq, cases_lt}
 use Rattle.snap_outside.specs.declared.devices.DevOp.{DevOp}
 use Rattle.snap_outside.specs.declared.devices.DevOp.TheVariants.{Write, Sync}
-use Rattle.snap_outside.specs.Disk.{Disk, settled, written, op_done, disk_after, IsImage, EachMoment}
+use Rattle.snap_outside.specs.Disk.{Disk, settled, overwritten, op_done, disk_after, IsImage, EachMoment}
 use Rattle.gate_log.specs.Appends.{block_ops}
 
 -- a settled disk leaves its bytes
@@ -31,7 +31,7 @@ module _ (front : List ℕ) (gate end : ℕ) (at : length front ≡ end) where
 
   -- behind the gate a write changes what follows it
   written_behind : (piece rest : List ℕ)
-      → written (front ++ gate ∷ rest) (end + 1) piece ≡ front ++ gate ∷ (piece ++ drop (end + 1 + length piece) (front ++ gate ∷ rest))
+      → overwritten (front ++ gate ∷ rest) (end + 1) piece ≡ front ++ gate ∷ (piece ++ drop (end + 1 + length piece) (front ++ gate ∷ rest))
   written_behind piece rest =
       let after = piece ++ drop (end + 1 + length piece) (front ++ gate ∷ rest) in
       let head : take (end + 1) (front ++ gate ∷ rest) ≡ front ++ gate ∷ [] =
@@ -39,7 +39,7 @@ module _ (front : List ℕ) (gate end : ℕ) (at : length front ≡ end) where
       ap (λ (l : List ℕ). l ++ after) head ∙ append_assoc front (gate ∷ []) after
 
   -- a write of one byte at the gate changes the gate
-  pub written_gate : (new : ℕ) (tail : List ℕ) → written (front ++ gate ∷ tail) end (new ∷ []) ≡ front ++ new ∷ tail
+  pub written_gate : (new : ℕ) (tail : List ℕ) → overwritten (front ++ gate ∷ tail) end (new ∷ []) ≡ front ++ new ∷ tail
   written_gate new tail =
       let head : take end (front ++ gate ∷ tail) ≡ front = take_at front (gate ∷ tail) end at in
       let after : drop (end + 1) (front ++ gate ∷ tail) ≡ tail =
@@ -96,7 +96,7 @@ module _ (front : List ℕ) (gate end : ℕ) (at : length front ≡ end) where
   pub append_end : (piece rest : List ℕ) → disk_after (block_ops end piece) (settled (front ++ gate ∷ rest))
       ≡ settled (front ++ 1 ∷ (piece ++ drop (end + 1 + length piece) (front ++ gate ∷ rest)))
   append_end piece rest =
-      ap (λ (bytes : List ℕ). settled (written bytes end (1 ∷ []))) (written_behind piece rest)
+      ap (λ (bytes : List ℕ). settled (overwritten bytes end (1 ∷ []))) (written_behind piece rest)
       ∙ ap (λ (bytes : List ℕ). settled bytes) (written_gate 1 (piece ++ drop (end + 1 + length piece) (front ++ gate ∷ rest)))
 
   module _ (piece rest : List ℕ) (P : List ℕ → Type 0) (closed : gate ≢ 1)
@@ -115,7 +115,7 @@ module _ (front : List ℕ) (gate end : ℕ) (at : length front ≡ end) where
     opened =
         let tail = piece ++ after in
         let done = written_gate 1 tail in
-        let long : length (written (front ++ gate ∷ tail) end (1 ∷ [])) ≡ length (front ++ gate ∷ tail) =
+        let long : length (overwritten (front ++ gate ∷ tail) end (1 ∷ [])) ≡ length (front ++ gate ∷ tail) =
         ap (λ (l : List ℕ). length l) done ∙ omega (arith, length-append front (1 ∷ tail), length-append front (gate ∷ tail)) in (
           (λ image left. subst P (sym (settled_image _ image left)) (old gate tail closed)),
           (

@@ -12,7 +12,7 @@ use Rattle.snap_outside.specs.Disk.{History, Disk, settled, disk, disk_after, co
 use Rattle.snap_outside.specs.Moments.{disk_join, adds_nothing}
 use Rattle.gate_log.specs.Appends.{group_block, block_ops, append_ops, end_behind}
 use Rattle.gate_log.specs.Bytes.{items_bytes, group_bytes, marked_format, IsLog, IsLogAt}
-use Rattle.gate_log.specs.Device.{DeviceLog, HasFormat, IsReady, MayAppend, Appended, Crashes}
+use Rattle.gate_log.specs.Device.{DeviceLog, HasFormat, IsReadyDevice, MayAppend, Appended, Crashes}
 use Rattle.gate_log.proofs.AppendBytes.{log_of}
 use Rattle.gate_log.proofs.AppendDisks.{settled_image, moments_front}
 use Rattle.gate_log.proofs.AppendLogs.{IsEither, log_moments, log_grown, mark_stays}
@@ -203,9 +203,9 @@ format_again (Some h) new end format added adds log has two =
 
 -- and the log is ready again
 pub ready_at : (told new : Option History) (length_before length_after : Option ℕ) (may_end end n format : ℕ) (added : List (List ℕ)) (piece : List ℕ)
-    → IsReady told length_before end format → format ≡ 2 → end ≡ may_end → piece ≡ group_block added → length piece ≡ n → MayAppend may_end added
+    → IsReadyDevice told length_before end format → format ≡ 2 → end ≡ may_end → piece ≡ group_block added → length piece ≡ n → MayAppend may_end added
     → AddsAll told new (block_ops end piece) → IsSome length_after → ForSome length_after (λ len. end + length piece < len)
-    → IsReady new length_after (end + n) format
+    → IsReadyDevice new length_after (end + n) format
 ready_at told new length_before length_after may_end end n format added piece ready two same_end same_piece size may adds known lies =
     let may_here = subst (λ (e : ℕ). MayAppend e added) (sym same_end) may in
     let all = subst (λ (l : List ℕ). AddsAll told new (block_ops end l)) same_piece adds in

@@ -2,7 +2,7 @@
 use Rattle.std.proofs.Common.{◌≡◌, ℕ, ◌≤◌, List, [], ◌∷◌, length, Option, Some, None, refl, ap, inl, inr, arith}
 use Rattle.snap_outside.specs.declared.devices.DevOp.{DevOp}
 use Rattle.snap_outside.specs.declared.devices.DevOp.TheVariants.{Write, Sync}
-use Rattle.snap_outside.specs.Disk.{History, Disk, disk, content, written, op_done, IsImage, EachMoment, AddsAll}
+use Rattle.snap_outside.specs.Disk.{History, Disk, disk, content, overwritten, op_done, IsImage, EachMoment, AddsAll}
 use Rattle.snap_outside.specs.Moments.{adds_nothing}
 use Rattle.gate_log.specs.declared.logs.LogItem.{LogItem}
 use Rattle.gate_log.specs.declared.opens.OpenNo.{OpenNo}
@@ -14,7 +14,7 @@ use Rattle.gate_log.proofs.OpenDisks.{written_over}
 short_image : (d : Disk) (image : List ℕ) → length d.now ≤ 9 → IsImage d image → IsLog image []
 short_image d image short left = inl (omega (arith, left.no_longer), refl)
 
-short_written : (old : List ℕ) → length old ≤ 9 → length (written old 0 new_log) ≤ 9
+short_written : (old : List ℕ) → length old ≤ 9 → length (overwritten old 0 new_log) ≤ 9
 short_written old short = omega (arith, ap length (written_over old new_log short))
 
 write_moments : (d : Disk) → length d.now ≤ 9 → EachMoment d (Write 0 new_log ∷ []) (λ image. IsLog image [])

@@ -6,12 +6,12 @@ use Rattle.std.proofs.lemmas.Bool.{lt-leb}
 use Rattle.std.proofs.lemmas.List.{append-nil, nil_from_length, length-append, length-take, drop_all, map-append}
 use Rattle.snap_outside.specs.declared.devices.DevOp.{DevOp}
 use Rattle.snap_outside.specs.declared.devices.DevOp.TheVariants.{Write, Sync}
-use Rattle.snap_outside.specs.Disk.{History, Disk, disk, content, settled, written, Adds, MayAdd, AddsAll}
+use Rattle.snap_outside.specs.Disk.{History, Disk, disk, content, settled, overwritten, Adds, MayAdd, AddsAll}
 use Rattle.snap_outside.specs.Moments.{disk_join}
 use Rattle.gate_log.specs.declared.logs.LogItem.{LogItem}
 use Rattle.gate_log.specs.declared.limits.TheConstants.{NEW_LOG_SIZE}
-use Rattle.gate_log.specs.Bytes.{header, marked_format, format_in, items_bytes, blocks, items_of, placed_items, placed, IsLogAt, IsPlacedLogAt}
-use Rattle.gate_log.specs.Device.{DeviceLog, HasFormat, IsReady}
+use Rattle.gate_log.specs.Bytes.{header, marked_format, format_in, items_bytes, blocks, items_of, placed_items, placed_groups, IsLogAt, IsPlacedLogAt}
+use Rattle.gate_log.specs.Device.{DeviceLog, HasFormat, IsReadyDevice}
 use Rattle.gate_log.specs.Opened.{bytes_of, new_log}
 
 -- ---- what the calls add
@@ -34,7 +34,7 @@ settled_log h bytes end items e l = record {
 }
 
 -- a piece that is written over all there is
-pub written_over : (old piece : List ℕ) → length old ≤ length piece → written old 0 piece ≡ piece
+pub written_over : (old piece : List ℕ) → length old ≤ length piece → overwritten old 0 piece ≡ piece
 written_over old piece le =
     let front : take 0 old ≡ [] = nil_from_length (take 0 old) (omega (arith, length-take 0 old)) in
     let behind : drop (0 + length piece) old ≡ [] = drop_all (0 + length piece) old (omega arith) in
@@ -62,11 +62,11 @@ bytes_of-placed_items : (place : ℕ) (items : List (List ℕ)) → bytes_of (pl
 bytes_of-placed_items place [] = refl
 bytes_of-placed_items place (i ∷ is) = ap (λ (xs : List (List ℕ)). i ∷ xs) (bytes_of-placed_items (place + 2 + length i) is)
 
-bytes_of-placed : (place : ℕ) (groups : List (List (List ℕ))) → bytes_of (placed place groups) ≡ items_of groups
+bytes_of-placed : (place : ℕ) (groups : List (List (List ℕ))) → bytes_of (placed_groups place groups) ≡ items_of groups
 bytes_of-placed place [] = refl
 bytes_of-placed place (g ∷ gs) =
     let first : List LogItem = placed_items (place + 5) g in
-    let others : List LogItem = placed (place + 5 + length (items_bytes g)) gs in
+    let others : List LogItem = placed_groups (place + 5 + length (items_bytes g)) gs in
     map-append (λ (i : LogItem). i.bytes) first others ∙ ap (λ (xs : List (List ℕ)). xs ++ bytes_of others) (bytes_of-placed_items (place + 5) g)
     ∙ ap (λ (xs : List (List ℕ)). g ++ xs) (bytes_of-placed (place + 5 + length (items_bytes g)) gs)
 
@@ -111,12 +111,12 @@ synced_format (Some h) new format has adds =
 -- ---- what appending needs
 
 pub is_ready : (told : Option History) (told_length : Option ℕ) (end format : ℕ) (items : List (List ℕ)) → IfSome told (λ h. DeviceLog h end items) → HasFormat told format → 8 ≤ end
-    → IsSome told_length → ForSome told_length (λ len. end < len) → IsReady told told_length end format
+    → IsSome told_length → ForSome told_length (λ len. end < len) → IsReadyDevice told told_length end format
 is_ready None told_length end format items log formatted begun known within = record { log = tt; formatted = tt; begun = begun; known = known; within = within }
 is_ready (Some h) told_length end format items log formatted begun known within = record { log = (items, log); formatted = formatted; begun = begun; known = known; within = within }
 
 ready_at : (told : Option History) (told_length : Option ℕ) (len end format : ℕ) (items : List (List ℕ)) → IfSome told (λ h. DeviceLog h end items) → HasFormat told format → 8 ≤ end
-    → told_length ≡ Some len → end < len → IsReady told told_length end format
+    → told_length ≡ Some len → end < len → IsReadyDevice told told_length end format
 ready_at told told_length len end format items log formatted begun e lt =
     is_ready told told_length end format items log formatted begun (subst (λ (o : Option ℕ). IsSome o) (sym e) refl)
     (λ n f. let same : len ≡ n = cc in subst (λ (m : ℕ). end < m) same lt)
@@ -127,7 +127,7 @@ begun_at bytes end found p = omega (arith, p.parts.6, length-append (header p.ma
 
 pub found_ready : {E : Type 0} (old told : Option History) (told_length : Option ℕ) (len : ℕ) (r : Result (ℕ × List LogItem × ℕ) E) → IfOk r (λ log. IfSome told (λ g. DeviceLog g log.0 (bytes_of log.1)))
     → IfOk r (λ log. HasFormat old log.2) → IfOk r (λ log. (bytes : List ℕ) × IsPlacedLogAt bytes log.0 log.1) → OnOk r (AddsAll old told (Sync ∷ []))
-    → told_length ≡ Some len → IfOk r (λ log. (log.0 < len) × (log.0 < 2 ^ 63)) → IfOk r (λ log. IsReady told told_length log.0 log.2)
+    → told_length ≡ Some len → IfOk r (λ log. (log.0 < len) × (log.0 < 2 ^ 63)) → IfOk r (λ log. IsReadyDevice told told_length log.0 log.2)
 found_ready old told told_length len (Ok log) d formatted placed adds e within =
     ready_at told told_length len log.0 log.2 (bytes_of log.1) d (synced_format old told log.2 formatted adds) (begun_at placed.0 log.0 log.1 placed.1) e within.0
 found_ready old told told_length len (Err e) d formatted placed adds f within = tt

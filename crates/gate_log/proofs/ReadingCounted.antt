@@ -3,7 +3,7 @@ use Rattle.std.proofs.Common.{◌≡◌, ℕ, ◌^◌, ◌<◌, ◌≤◌, List,
 use Rattle.std.specs.Int.{Width, w16, w32, byte_len, from_be_bytes, to_be_bytes}
 use Rattle.std.proofs.lemmas.List.{take_at, drop_at, length-append}
 use Rattle.std.proofs.lemmas.Nat.{from_be_bytes-to_be_bytes_2, from_be_bytes-to_be_bytes_4}
-use Rattle.gate_log.specs.Reading.{counted}
+use Rattle.gate_log.specs.Reading.{counted_piece}
 
 -- numbers below the limit are those that the width holds
 pub record IsWide (w : Width) (limit : ℕ) : Type 0 where
@@ -23,7 +23,7 @@ wide32 = record {
 }
 
 -- where a piece stands behind its length, this is what is read
-pub counted_read : (w : Width) (limit : ℕ) → IsWide w limit → (piece rest bytes : List ℕ) → length piece < limit → bytes ≡ counted w piece ++ rest
+pub counted_read : (w : Width) (limit : ℕ) → IsWide w limit → (piece rest bytes : List ℕ) → length piece < limit → bytes ≡ counted_piece w piece ++ rest
     → (byte_len w ≤ length bytes) × (from_be_bytes w (take (byte_len w) bytes) ≡ length piece) × (drop (byte_len w) bytes ≡ piece ++ rest)
 counted_read w limit wide piece rest bytes lt e =
     let front : List ℕ = to_be_bytes w (length piece) in
@@ -42,8 +42,8 @@ same_front a x b y len e = (
 )
 
 -- bytes begin with one counted piece
-pub counted_same : (w : Width) (limit : ℕ) → IsWide w limit → (a x b y : List ℕ) → length a < limit → length b < limit → counted w a ++ x ≡ counted w b ++ y → (a ≡ b) × (x ≡ y)
+pub counted_same : (w : Width) (limit : ℕ) → IsWide w limit → (a x b y : List ℕ) → length a < limit → length b < limit → counted_piece w a ++ x ≡ counted_piece w b ++ y → (a ≡ b) × (x ≡ y)
 counted_same w limit wide a x b y la lb e =
-    let p = counted_read w limit wide a x (counted w a ++ x) la refl in
-    let q = counted_read w limit wide b y (counted w a ++ x) lb e in
+    let p = counted_read w limit wide a x (counted_piece w a ++ x) la refl in
+    let q = counted_read w limit wide b y (counted_piece w a ++ x) lb e in
     same_front a x b y (sym p.1 ∙ q.1) (sym p.2 ∙ q.2)

@@ -6,7 +6,7 @@ use Rattle.std.proofs.Math.Seq.{drop-cons}
 use Rattle.std.proofs.lemmas.List.{length-append, append-nil, take_all, take-append-drop, length-drop}
 use Rattle.std.proofs.lemmas.List.Concat.{flat_map-append}
 use Rattle.gate_log.specs.declared.logs.LogItem.{LogItem}
-use Rattle.gate_log.specs.Bytes.{magic, header, IsGroup, items_bytes, group_bytes, blocks, placed_items, placed, IsLogAt, IsDamagedAt}
+use Rattle.gate_log.specs.Bytes.{magic, header, IsGroup, items_bytes, group_bytes, blocks, placed_items, placed_groups, IsLogAt, IsDamagedAt}
 use Rattle.gate_log.specs.Reading.{BeginsGroup, GroupsSoFar}
 use Rattle.gate_log.proofs.ReadingCounted.{wide32, counted_same}
 use Rattle.gate_log.proofs.ReadingItems.{items_same, AllByRecursion-push}
@@ -31,12 +31,12 @@ length-group_begins place bytes rest old new h = omega (arith, ap length h.parts
 blocks-push : (groups : List (List (List ℕ))) (group : List (List ℕ)) → blocks (groups ++ group ∷ []) ≡ blocks groups ++ 1 ∷ group_bytes group
 blocks-push groups group = flat_map-append (λ (g : List (List ℕ)). 1 ∷ group_bytes g) groups (group ∷ []) ∙ ap (λ (x : List ℕ). blocks groups ++ 1 ∷ x) (append-nil (group_bytes group))
 
-placed-push : (place : ℕ) (groups : List (List (List ℕ))) (group : List (List ℕ)) → placed place (groups ++ group ∷ []) ≡ placed place groups ++ placed_items (place + length (blocks groups) + 5) group
+placed-push : (place : ℕ) (groups : List (List (List ℕ))) (group : List (List ℕ)) → placed_groups place (groups ++ group ∷ []) ≡ placed_groups place groups ++ placed_items (place + length (blocks groups) + 5) group
 placed-push place [] group = append-nil (placed_items (place + 5) group) ∙ ap (λ (n : ℕ). placed_items n group) (omega arith)
 placed-push place (g ∷ gs) group =
     let here : place + 5 + length (items_bytes g) + length (blocks gs) + 5 ≡ place + length (blocks (g ∷ gs)) + 5 = omega (arith, length-append (1 ∷ group_bytes g) (blocks gs), length-group_bytes g) in
-    ap (λ (xs : List LogItem). placed_items (place + 5) g ++ xs) (placed-push (place + 5 + length (items_bytes g)) gs group ∙ ap (λ (n : ℕ). placed (place + 5 + length (items_bytes g)) gs ++ placed_items n group) here)
-    ∙ sym (append_assoc (placed_items (place + 5) g) (placed (place + 5 + length (items_bytes g)) gs) (placed_items (place + length (blocks (g ∷ gs)) + 5) group))
+    ap (λ (xs : List LogItem). placed_items (place + 5) g ++ xs) (placed-push (place + 5 + length (items_bytes g)) gs group ∙ ap (λ (n : ℕ). placed_groups (place + 5 + length (items_bytes g)) gs ++ placed_items n group) here)
+    ∙ sym (append_assoc (placed_items (place + 5) g) (placed_groups (place + 5 + length (items_bytes g)) gs) (placed_items (place + length (blocks (g ∷ gs)) + 5) group))
 
 -- one more group, over any front in the header's place
 grown : (front : List ℕ) (bytes rest tail behind : List ℕ) (groups : List (List (List ℕ))) (group : List (List ℕ))
@@ -74,9 +74,9 @@ groups_more bytes place rest found tail behind newer so_far gate begins =
     let s = so_far.parts in
     let b = begins.parts in
     let g = grown (header so_far.mark) bytes rest tail behind s.0 b.0 s.2 gate b.2 in
-    let items : newer ≡ placed 8 (s.0 ++ b.0 ∷ []) =
+    let items : newer ≡ placed_groups 8 (s.0 ++ b.0 ∷ []) =
     b.3 ∙ ap (λ (xs : List LogItem). xs ++ placed_items (place + 5) b.0) s.4
-    ∙ ap (λ (n : ℕ). placed 8 s.0 ++ placed_items (n + 5) b.0) (s.3 ∙ length-append (header so_far.mark) (blocks s.0))
+    ∙ ap (λ (n : ℕ). placed_groups 8 s.0 ++ placed_items (n + 5) b.0) (s.3 ∙ length-append (header so_far.mark) (blocks s.0))
     ∙ sym (placed-push 8 s.0 b.0) in
     record {
       some = begins.some;

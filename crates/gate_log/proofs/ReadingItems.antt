@@ -6,7 +6,7 @@ use Rattle.std.proofs.lemmas.List.{length-append, append-nil}
 use Rattle.std.proofs.lemmas.List.Concat.{flat_map-append}
 use Rattle.gate_log.specs.declared.logs.LogItem.{LogItem}
 use Rattle.gate_log.specs.Bytes.{IsItem, item_bytes, items_bytes, placed_items}
-use Rattle.gate_log.specs.Reading.{counted, BeginsItem, BeginsNoItem, FillsNoItems}
+use Rattle.gate_log.specs.Reading.{counted_piece, BeginsItem, BeginsNoItem, FillsNoItems}
 use Rattle.gate_log.proofs.ReadingCounted.{IsWide, wide16, counted_same}
 
 -- ---- items
@@ -14,14 +14,14 @@ use Rattle.gate_log.proofs.ReadingCounted.{IsWide, wide16, counted_same}
 item_same : (a x b y : List ℕ) → IsItem a → IsItem b → item_bytes a ++ x ≡ item_bytes b ++ y → (a ≡ b) × (x ≡ y)
 item_same a x b y p q e = counted_same w16 (2 ^ 16) wide16 a x b y (omega (arith, p.short)) (omega (arith, q.short)) e
 
-item_bytes-some : (w : Width) (limit : ℕ) → IsWide w limit → (item rest : List ℕ) → 0 < length item → 0 < length (counted w item ++ rest)
+item_bytes-some : (w : Width) (limit : ℕ) → IsWide w limit → (item rest : List ℕ) → 0 < length item → 0 < length (counted_piece w item ++ rest)
 item_bytes-some w limit wide item rest some = omega (arith, length-append (to_be_bytes w (length item) ++ item) rest, length-append (to_be_bytes w (length item)) item)
 
 not_empty : (bytes : List ℕ) → 0 < length bytes → bytes ≢ []
 not_empty bytes some e = omega (arith, ap length e)
 
 item_not_empty : (item rest : List ℕ) → IsItem item → item_bytes item ++ rest ≢ []
-item_not_empty item rest ok e = not_empty (counted w16 item ++ rest) (item_bytes-some w16 (2 ^ 16) wide16 item rest (omega (arith, ok.some))) e
+item_not_empty item rest ok e = not_empty (counted_piece w16 item ++ rest) (item_bytes-some w16 (2 ^ 16) wide16 item rest (omega (arith, ok.some))) e
 
 -- the items of the one list begin the other
 pub record Continues (items others : List (List ℕ)) (rest : List ℕ) : Type 0 where

@@ -8,7 +8,7 @@ use Rattle.snap_outside.specs.Disk.{History, disk, content, with_ops, EachMoment
 use Rattle.snap_outside.specs.Moments.{adds_nothing}
 use Rattle.gate_log.specs.Appends.{upgrade_ops}
 use Rattle.gate_log.specs.Bytes.{IsLog}
-use Rattle.gate_log.specs.Device.{DeviceLog, HasFormat, IsReady, Upgraded, UpgradesSafely}
+use Rattle.gate_log.specs.Device.{DeviceLog, HasFormat, IsReadyDevice, Upgraded, UpgradesSafely}
 use Rattle.gate_log.proofs.AppendDisks.{moments_front}
 use Rattle.gate_log.proofs.AppendExits.{adds_more, may_add_more, adds_same, up_to}
 use Rattle.gate_log.proofs.Upgrades.{second, upgrade_gives, upgrade_keeps}
@@ -83,13 +83,13 @@ safely_done old told new end same adds = safely old new end upgrade_ops [] refl 
 pub safely_failed : (old told new : Option History) (end : ℕ) → told ≡ old → AddsUpToFault told new upgrade_ops → UpgradesSafely old new end
 safely_failed old told new end same adds = let here = failed_ops old told new same adds in safely old new end here.0 here.1.left here.1.whole here.2
 
-pub upgraded : (old told new : Option History) (length_before : Option ℕ) (old_end end format : ℕ) → told ≡ old → end ≡ old_end → IsReady told length_before end format
+pub upgraded : (old told new : Option History) (length_before : Option ℕ) (old_end end format : ℕ) → told ≡ old → end ≡ old_end → IsReadyDevice told length_before end format
     → AddsAll told new upgrade_ops → Upgraded old new old_end
 upgraded old told new length_before old_end end format same same_end ready adds =
     (same_items old new old_end (done_ops old told new same adds), second_now told new end adds ready.log)
 
-pub upgraded_ready : (told new : Option History) (length_before length_after : Option ℕ) (end format : ℕ) → IsReady told length_before end format
-    → AddsAll told new upgrade_ops → length_after ≡ length_before → IsReady new length_after end 2
+pub upgraded_ready : (told new : Option History) (length_before length_after : Option ℕ) (end format : ℕ) → IsReadyDevice told length_before end format
+    → AddsAll told new upgrade_ops → length_after ≡ length_before → IsReadyDevice new length_after end 2
 upgraded_ready told new length_before length_after end format ready adds same = record {
   log = log_stays told new end adds ready.log;
   formatted = second_now told new end adds ready.log;
@@ -99,5 +99,5 @@ upgraded_ready told new length_before length_after end format ready adds same = 
 }
 
 -- the mark lies in the device
-pub mark_within : (told : Option History) (told_length : Option ℕ) (end format : ℕ) → IsReady told told_length end format → ForSome told_length (λ len. 8 < len)
+pub mark_within : (told : Option History) (told_length : Option ℕ) (end format : ℕ) → IsReadyDevice told told_length end format → ForSome told_length (λ len. 8 < len)
 mark_within told told_length end format ready = λ len is. omega (arith, ready.begun, ready.within len is)

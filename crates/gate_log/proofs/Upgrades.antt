@@ -3,7 +3,7 @@ use Rattle.std.proofs.Common.{◌≡◌, ℕ, Bool, true, false, List, [], ◌�
 use Rattle.std.specs.Prelude.{nat_le, if◌then◌else◌}
 use Rattle.std.proofs.lemmas.List.{append-nil}
 use Rattle.snap_outside.specs.declared.devices.DevOp.{DevOp}
-use Rattle.snap_outside.specs.Disk.{History, Disk, settled, disk, disk_after, content, written, EachMoment, with_ops}
+use Rattle.snap_outside.specs.Disk.{History, Disk, settled, disk, disk_after, content, overwritten, EachMoment, with_ops}
 use Rattle.snap_outside.specs.Moments.{disk_join}
 use Rattle.gate_log.specs.declared.limits.TheConstants.{NEW_LOG_SIZE}
 use Rattle.gate_log.specs.Appends.{append_ops, upgrade_ops}
@@ -20,11 +20,11 @@ use Rattle.gate_log.proofs.OpenDisks.{settled_log}
 mark_moments : (mark : ℕ) (tail : List ℕ) (P : List ℕ → Type 0) → ((x : ℕ) → P (magic ++ x ∷ tail)) → EachMoment (settled (magic ++ mark ∷ tail)) upgrade_ops P
 mark_moments mark tail P all =
     let done = written_gate magic mark 7 refl 50 tail in
-    let long : length (written (magic ++ mark ∷ tail) 7 (50 ∷ [])) ≡ length (magic ++ mark ∷ tail) = ap (λ (l : List ℕ). length l) done in (
+    let long : length (overwritten (magic ++ mark ∷ tail) 7 (50 ∷ [])) ≡ length (magic ++ mark ∷ tail) = ap (λ (l : List ℕ). length l) done in (
       (λ image left. subst P (sym (settled_image (magic ++ mark ∷ tail) image left)) (all mark)),
       (
-        (λ image left. subst P (sym (opening_image magic mark 7 refl tail (written (magic ++ mark ∷ tail) 7 (50 ∷ [])) image long left)) (all (get_or image 7 0))),
-        (λ image left. subst P (sym (settled_image (written (magic ++ mark ∷ tail) 7 (50 ∷ [])) image left ∙ done)) (all 50)),
+        (λ image left. subst P (sym (opening_image magic mark 7 refl tail (overwritten (magic ++ mark ∷ tail) 7 (50 ∷ [])) image long left)) (all (get_or image 7 0))),
+        (λ image left. subst P (sym (settled_image (overwritten (magic ++ mark ∷ tail) 7 (50 ∷ [])) image left ∙ done)) (all 50)),
       ),
     )
 

@@ -106,9 +106,9 @@ placed_items offset [] = []
 placed_items offset (item ∷ items) = record { at = offset + 2; bytes = item } ∷ placed_items (offset + 2 + length item) items
 
 -- the items of groups the first of whose gates stands at an offset
-abbrev pub placed : ℕ → List (List (List ℕ)) → List LogItem
-placed offset [] = []
-placed offset (group ∷ groups) = placed_items (offset + 5) group ++ placed (offset + 5 + length (items_bytes group)) groups
+abbrev pub placed_groups : ℕ → List (List (List ℕ)) → List LogItem
+placed_groups offset [] = []
+placed_groups offset (group ∷ groups) = placed_items (offset + 5) group ++ placed_groups (offset + 5 + length (items_bytes group)) groups
 
 -- the bytes are a log at `end` with these items at their places
 pub record IsPlacedLogAt (bytes : List ℕ) (end : ℕ) (found : List LogItem) : Type 0 where
@@ -117,4 +117,4 @@ pub record IsPlacedLogAt (bytes : List ℕ) (end : ℕ) (found : List LogItem) :
       × AllByRecursion IsGroup groups × (gate ≢ 1)
       × (bytes ≡ (header mark ++ blocks groups) ++ gate ∷ rest)
       × (end ≡ length (header mark ++ blocks groups))
-      × (found ≡ placed 8 groups)
+      × (found ≡ placed_groups 8 groups)

@@ -46,7 +46,7 @@ Upgraded old new end = IfSome old (λ h. IfSome new (λ g. (items : List (List �
 
 -- Where a log is not shut: if the device tells its history, it holds a log at `end` of this format; its length is known, and
 -- the closed gate lies in the device.
-pub record IsReady (told : Option History) (told_length : Option ℕ) (end format : ℕ) : Type 0 where
+pub record IsReadyDevice (told : Option History) (told_length : Option ℕ) (end format : ℕ) : Type 0 where
   pub log : IfSome told (λ h. (items : List (List ℕ)) × DeviceLog h end items)
   pub formatted : HasFormat told format
   pub begun : 8 ≤ end

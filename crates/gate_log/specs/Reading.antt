@@ -6,11 +6,11 @@ use Rattle.std.specs.Int.{Width, to_be_bytes, w32}
 use Rattle.gate_log.specs.declared.logs.LogItem.{LogItem}
 use Rattle.gate_log.specs.declared.opens.OpenNo.{OpenNo}
 use Rattle.gate_log.specs.declared.opens.OpenNo.TheVariants.{NotALog, Damage, Device, Memory}
-use Rattle.gate_log.specs.Bytes.{header, item_bytes, items_bytes, group_bytes, blocks, IsItem, IsGroup, DiffersAt, IsDamagedAt, placed_items, placed}
+use Rattle.gate_log.specs.Bytes.{header, item_bytes, items_bytes, group_bytes, blocks, IsItem, IsGroup, DiffersAt, IsDamagedAt, placed_items, placed_groups}
 
 -- a piece behind its length
-abbrev pub counted : Width → List ℕ → List ℕ
-counted w piece = to_be_bytes w (length piece) ++ piece
+abbrev pub counted_piece : Width → List ℕ → List ℕ
+counted_piece w piece = to_be_bytes w (length piece) ++ piece
 
 -- ---- an item
 
@@ -43,10 +43,10 @@ AreItems false place bytes old new = FillsNoItems bytes
 pub record BeginsPiece (bytes piece rest : List ℕ) : Type 0 where
   pub short : length piece < 2 ^ 32
   pub some : 0 < length rest
-  pub parts : bytes ≡ counted w32 piece ++ rest
+  pub parts : bytes ≡ counted_piece w32 piece ++ rest
 
 pub record BeginsNoPiece (bytes : List ℕ) : Type 0 where
-  pub none : (piece more : List ℕ) (gate : ℕ) → length piece < 2 ^ 32 → bytes ≢ counted w32 piece ++ gate ∷ more
+  pub none : (piece more : List ℕ) (gate : ℕ) → length piece < 2 ^ 32 → bytes ≢ counted_piece w32 piece ++ gate ∷ more
 
 -- behind the open gate at `place` stands a group, whose items are added to those found, and a gate behind it
 pub record BeginsGroup (place : ℕ) (bytes rest : List ℕ) (old new : List LogItem) : Type 0 where
@@ -72,7 +72,7 @@ pub record GroupsSoFar (bytes : List ℕ) (place : ℕ) (rest : List ℕ) (found
   pub parts : (groups : List (List (List ℕ))) × AllByRecursion IsGroup groups
       × (bytes ≡ (header mark ++ blocks groups) ++ rest)
       × (place ≡ length (header mark ++ blocks groups))
-      × (found ≡ placed 8 groups)
+      × (found ≡ placed_groups 8 groups)
 
 -- why the bytes are no log
 abbrev pub IsNoLog : List ℕ → OpenNo → Type 0

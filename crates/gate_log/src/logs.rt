@@ -44,13 +44,13 @@ pub struct Log<D: LogDev> {
 impl<D: LogDev> Model for Log<D> {
     ghost use Rattle.std.specs.Prelude.{◌≡◌, false};
     ghost use Rattle.gate_log.specs.State.{LogState};
-    ghost use Rattle.gate_log.specs.Device.{IsReady};
+    ghost use Rattle.gate_log.specs.Device.{IsReadyDevice};
 
     ghost Value = { LogState };
 
     ghost view = { λ l. record { told = D.told l.dev; end = l.end; format = l.format; shut = l.shut; found = l.found; faults = D.faults l.dev } };
 
-    ghost invariant = { λ l. l.shut ≡ false → IsReady (D.told l.dev) (D.told_length l.dev) l.end l.format };
+    ghost invariant = { λ l. l.shut ≡ false → IsReadyDevice (D.told l.dev) (D.told_length l.dev) l.end l.format };
 }
 
 impl<D: LogDev> Log<D> {

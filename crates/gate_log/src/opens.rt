@@ -5,7 +5,7 @@ ghost use Rattle.snap_outside.specs.Causes.{Rose, HasCause};
 ghost use Rattle.snap_outside.specs.Disk.{content, AddsAll, MayAdd};
 ghost use Rattle.snap_outside.specs.declared.devices.DevOp.TheVariants as operation;
 ghost use Rattle.gate_log.specs.Bytes.{DiffersAt, IsLogAt, IsDamagedAt, IsPlacedLogAt};
-ghost use Rattle.gate_log.specs.Device.{DeviceLog, HasFormat, IsReady};
+ghost use Rattle.gate_log.specs.Device.{DeviceLog, HasFormat, IsReadyDevice};
 ghost use Rattle.gate_log.specs.declared.limits.TheConstants.{NEW_LOG_SIZE};
 ghost use Rattle.gate_log.specs.Opened.{bytes_of, new_log, Opened, Refused, MadeSafely, RefusedLong, IsNoRead};
 
@@ -111,7 +111,7 @@ fn find_log<D: LogDev>(alloc: Global, dev: &mut D) -> Result<(u64, Sequence<LogI
     ensures opened { IfOk result (λ log. Opened (D.told dev.old) (D.told dev.new) log.0 log.1) }
     ensures log { IfOk result (λ log. IfSome (D.told dev.new) (λ h. DeviceLog h log.0 (bytes_of log.1))) }
     ensures placed { IfOk result (λ log. (bytes : List ℕ) × IsPlacedLogAt bytes log.0 log.1) }
-    ensures ready { IfOk result (λ log. IsReady (D.told dev.new) (D.told_length dev.new) log.0 log.2) }
+    ensures ready { IfOk result (λ log. IsReadyDevice (D.told dev.new) (D.told_length dev.new) log.0 log.2) }
     ensures formats { IfOk result (λ log. ((log.2 ≡ 1) ⊎ (log.2 ≡ 2)) × (IfSome (D.told dev.old) (λ h. length (content h) ≤ NEW_LOG_SIZE → log.2 ≡ 2))) }
     ensures end { IfOk result (λ log. log.0 ≤ FARTHEST_END) }
     ensures refused { IfErr result (Refused (D.told dev.old) (D.told dev.new)) }

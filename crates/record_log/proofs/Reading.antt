@@ -3,7 +3,7 @@ use Rattle.std.proofs.Common.{◌≡◌, ℕ, zero, suc, ◌+◌, ◌<◌, ◌�
 use Rattle.std.proofs.lemmas.List.{length-append, take-append-drop, take_more}
 use Rattle.std.specs.List.{AllByRecursion}
 use Rattle.gate_log.specs.declared.logs.LogItem.{LogItem}
-use Rattle.gate_log.specs.Bytes.{header, item_bytes, items_bytes, group_bytes, blocks, placed_items, placed, IsItem, IsGroup, IsPlacedLogAt}
+use Rattle.gate_log.specs.Bytes.{header, item_bytes, items_bytes, group_bytes, blocks, placed_items, placed_groups, IsItem, IsGroup, IsPlacedLogAt}
 use Rattle.txn_records.specs.declared.records.Record.{Record}
 use Rattle.record_log.specs.declared.items.ItemsNo.{ItemsNo}
 use Rattle.record_log.specs.declared.items.ItemsNo.TheVariants.{BadRecord, Memory}
@@ -28,12 +28,12 @@ items_near place (item ∷ items) are low =
     let first : length (item_bytes item) ≡ 2 + length item = omega arith in
     (record { short = are.0.short; low = omega (arith, low, size, first) }, items_near (place + 2 + length item) items are.1 (omega (arith, low, size, first)))
 
-groups_near : (place : ℕ) (groups : List (List (List ℕ))) → AllByRecursion IsGroup groups → place + length (blocks groups) ≤ 2 ^ 63 → AllByRecursion IsNearItem (placed place groups)
+groups_near : (place : ℕ) (groups : List (List (List ℕ))) → AllByRecursion IsGroup groups → place + length (blocks groups) ≤ 2 ^ 63 → AllByRecursion IsNearItem (placed_groups place groups)
 groups_near place [] are low = tt
 groups_near place (group ∷ groups) are low =
     let size = length-append (1 ∷ group_bytes group) (blocks groups) in
     let first : length (1 ∷ group_bytes group) ≡ 5 + length (items_bytes group) = omega arith in
-    all_append IsNearItem (placed_items (place + 5) group) (placed (place + 5 + length (items_bytes group)) groups)
+    all_append IsNearItem (placed_items (place + 5) group) (placed_groups (place + 5 + length (items_bytes group)) groups)
     (items_near (place + 5) group are.0.items (omega (arith, low, size, first)))
     (groups_near (place + 5 + length (items_bytes group)) groups are.1 (omega (arith, low, size, first)))
 

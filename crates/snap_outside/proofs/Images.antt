@@ -2,20 +2,20 @@
 use Rattle.std.proofs.Common.{◌≡◌, ℕ, ◌+◌, ◌-◌, ◌<◌, ◌≤◌, ◌⊎◌, inl, inr, min, List, [], ◌∷◌, ◌++◌, length, get_or, take, drop, replicate, refl, ap, ◌∙◌, arith}
 use Rattle.std.proofs.lemmas.List.{length-append, length-take, length-drop, length-replicate, get_or_append_left, get_or-append_right, get_or-take, get_or-drop}
 use Rattle.std.proofs.lemmas.Grind.{same_number_lists}
-use Rattle.snap_outside.specs.Disk.{Disk, settled, written, op_done, disk_after, IsFixed, IsImage}
+use Rattle.snap_outside.specs.Disk.{Disk, settled, overwritten, op_done, disk_after, IsFixed, IsImage}
 use Rattle.snap_outside.specs.Images.{filled, all_filled, filled_image}
 use Rattle.snap_outside.specs.declared.devices.DevOp.{DevOp}
 use Rattle.snap_outside.specs.declared.devices.DevOp.TheVariants.{Write, Sync}
 
-pub length-written : (old : List ℕ) (at : ℕ) (piece : List ℕ) → length (written old at piece) ≡ min at (length old) + (length piece + (length old - (at + length piece)))
+pub length-written : (old : List ℕ) (at : ℕ) (piece : List ℕ) → length (overwritten old at piece) ≡ min at (length old) + (length piece + (length old - (at + length piece)))
 length-written old at piece = simp (length-append, length-take, length-drop)
 
-pub no_shorter_written : (old : List ℕ) (at : ℕ) (piece : List ℕ) → length old ≤ length (written old at piece)
+pub no_shorter_written : (old : List ℕ) (at : ℕ) (piece : List ℕ) → length old ≤ length (overwritten old at piece)
 no_shorter_written old at piece = omega (arith, length-written old at piece)
 
 -- a place outside of the piece keeps its byte
 pub get_or-written : (old : List ℕ) (at : ℕ) (piece : List ℕ) (i : ℕ) → i < length old → (i < at) ⊎ (at + length piece ≤ i)
-    → get_or (written old at piece) i 0 ≡ get_or old i 0
+    → get_or (overwritten old at piece) i 0 ≡ get_or old i 0
 get_or-written old at piece i within outside = elim outside [
   | inl before ↦
       let front : i < length (take at old) = omega (arith, length-take at old) in

@@ -19,11 +19,11 @@ abbrev pub settled : List ℕ → Disk
 settled bytes = record { synced = bytes; now = bytes; loose = [] }
 
 -- bytes with a piece written over them, or past their end, from a place on
-abbrev pub written : List ℕ → ℕ → List ℕ → List ℕ
-written old at piece = take at old ++ (piece ++ drop (at + length piece) old)
+abbrev pub overwritten : List ℕ → ℕ → List ℕ → List ℕ
+overwritten old at piece = take at old ++ (piece ++ drop (at + length piece) old)
 
 abbrev pub op_done : DevOp → Disk → Disk
-op_done (Write at piece) d = record { synced = d.synced; now = written d.now at piece; loose = record { 0 = at; 1 = length piece } ∷ d.loose }
+op_done (Write at piece) d = record { synced = d.synced; now = overwritten d.now at piece; loose = record { 0 = at; 1 = length piece } ∷ d.loose }
 op_done Sync d = settled d.now
 
 -- the disk after operations, one after the other

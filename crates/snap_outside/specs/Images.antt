@@ -1,11 +1,11 @@
 -- Three of the things that a crash may leave of a disk: what the sync fixed, what a read gives, and what a
 -- read gives with each place that is not fixed filled with one byte. The first two are fields of the disk.
 use Rattle.std.specs.Prelude.{ℕ, ◌-◌, min, List, [], ◌∷◌, length, replicate}
-use Rattle.snap_outside.specs.Disk.{Disk, written}
+use Rattle.snap_outside.specs.Disk.{Disk, overwritten}
 
 -- bytes with a range of them filled, as far as they go: from where, how long
 abbrev pub filled : ℕ → (ℕ × ℕ) → List ℕ → List ℕ
-filled byte range old = written old range.0 (replicate (min range.1 (length old - range.0)) byte)
+filled byte range old = overwritten old range.0 (replicate (min range.1 (length old - range.0)) byte)
 
 abbrev pub all_filled : ℕ → List (ℕ × ℕ) → List ℕ → List ℕ
 all_filled byte [] old = old

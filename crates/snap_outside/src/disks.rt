@@ -1,6 +1,6 @@
 //! The disk that a list of operations leaves, played again over its first bytes.
 ghost use Rattle.std.specs.Prelude.{◌≡◌, ◌+◌, ◌≤◌, max, reverse, length, vec_len, IfOk, OnOk, OnErr};
-ghost use Rattle.snap_outside.specs.Disk.{Disk, settled, written, op_done, disk_after};
+ghost use Rattle.snap_outside.specs.Disk.{Disk, settled, overwritten, op_done, disk_after};
 ghost use Rattle.snap_outside.specs.Images.{filled, filled_image};
 ghost use Rattle.snap_outside.specs.declared.devices.DevOp.TheVariants as operation;
 
@@ -104,7 +104,7 @@ impl Replay {
 /// Writes a piece over what is there and past the end. For want of memory all stays as it was.
 pub(crate) fn overwrite(to: &mut Vec<u8>, at: usize, piece: &[u8]) -> Result<(), Memory>
     requires { at ≤ vec_len to.old }
-    ensures written { OnOk result (to.new.items ≡ written to.old.items at piece.now) }
+    ensures written { OnOk result (to.new.items ≡ overwritten to.old.items at piece.now) }
     ensures length { OnOk result (vec_len to.new ≡ max (vec_len to.old) (at + length piece.now)) }
     ensures same { OnErr result (to.new.items ≡ to.old.items) }
 {

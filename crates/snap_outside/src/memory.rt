@@ -1,6 +1,6 @@
 //! A device in memory, which tells its operations and what a crash after each of them may leave.
 ghost use Rattle.std.specs.Prelude.{◌≡◌, ◌+◌, ◌-◌, ◌≤◌, max, ◌++◌, [], ◌∷◌, length, vec_len, OnOk, OnErr};
-ghost use Rattle.snap_outside.specs.Disk.{content_of, written};
+ghost use Rattle.snap_outside.specs.Disk.{content_of, overwritten};
 ghost use Rattle.snap_outside.specs.declared.devices.DevOp.TheVariants as operation;
 
 use crate::devices::{DevOp, LogDev};
@@ -109,7 +109,7 @@ fn write_kept(
     piece: &[u8],
 ) -> Result<(), Memory>
     requires { at ≤ vec_len bytes.old }
-    ensures written { OnOk result (bytes.new.items ≡ written bytes.old.items at piece.now) }
+    ensures written { OnOk result (bytes.new.items ≡ overwritten bytes.old.items at piece.now) }
     ensures kept { OnOk result (ops.new.items ≡ ops.old.items ++ operation.Write at piece.now ∷ []) }
     ensures length { OnOk result (vec_len bytes.new ≡ max (vec_len bytes.old) (at + length piece.now)) }
     ensures same_bytes { OnErr result (bytes.new.items ≡ bytes.old.items) }

@@ -6,15 +6,15 @@ use Rattle.txn_records.specs.declared.decoding.DecodeNo.TheVariants.{Bad, Memory
 use Rattle.txn_records.specs.Records.{record_bytes, IsRecord}
 
 -- some record's bytes begin so
-abbrev pub Continues : List ℕ → Type 0
-Continues front = (r : Record) × (rest : List ℕ) × IsRecord r × (record_bytes r ≡ front ++ rest)
+abbrev pub BeginsRecord : List ℕ → Type 0
+BeginsRecord front = (r : Record) × (rest : List ℕ) × IsRecord r × (record_bytes r ≡ front ++ rest)
 
 -- Some record begins with the bytes before the offset. None begins with these and the byte at it, and where
 -- there is none, no record's bytes are these.
 pub record IsFirstBad (bytes : List ℕ) (offset : ℕ) : Type 0 where
   pub within : offset ≤ length bytes
-  pub goes : Continues (take offset bytes)
-  pub stops : offset < length bytes → Continues (take (offset + 1) bytes) → ⊥
+  pub goes : BeginsRecord (take offset bytes)
+  pub stops : offset < length bytes → BeginsRecord (take (offset + 1) bytes) → ⊥
   pub ends : offset ≡ length bytes → (r : Record) → IsRecord r → record_bytes r ≡ bytes → ⊥
 
 -- why no record was read
