@@ -1,12 +1,9 @@
 -- What is asked of the votes.
 use Rattle.std.specs.Prelude.{ℕ, nat_le, Bool, ◌&&◌, ◌||◌, is_some, Option, Some, None, List, [], map}
-use Rattle.snap_base.specs.declared.ids.ActorId.{ActorId}
+pub use Rattle.snap_base.specs.States.{actor_numbers}
 use Rattle.protocol.specs.Parts.{Status, Live, Doomed, Decided, Sealed, Act, Book}
 use Rattle.protocol.specs.Words.{is_failure, is_live_status, is_vouched_everywhere, act_of, holds}
 use Rattle.protocol.specs.Effects.{ascending}
-
-abbrev pub actor_numbers : List ActorId → List ℕ
-actor_numbers actors = map (λ (a : ActorId). a.0) actors
 
 -- the number of an ACT's commit, once it has one
 abbrev pub number_of : Status → Option ℕ

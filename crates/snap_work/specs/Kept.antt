@@ -1,18 +1,11 @@
 -- What each work keeps that a text stands for.
-use Rattle.std.specs.Prelude.{◌≡◌, ◌≤◌, length, FitsSigned}
+use Rattle.std.specs.Prelude.{◌≤◌, length}
 use Rattle.std.specs.List.{AllByRecursion}
-use Rattle.std.specs.Int.{w64}
-use Rattle.snap_base.specs.declared.transactions.TheConstants.{FIELDS}
-use Rattle.snap_base.specs.declared.transactions.State.{State}
+use Rattle.snap_base.specs.States.{IsState}
 use Rattle.aml_check.specs.Closed.{IsClosedProgram}
 use Rattle.aml_check.specs.Transactions.{IsTransaction}
 use Rattle.snap_work.specs.declared.limits.TheConstants.{MOST_ACTORS, MOST_ACTS, MOST_BATCHES, MOST_COORDINATORS, MOST_IN_A_BATCH, MOST_LOGS, MOST_TRANSACTIONS}
 use Rattle.snap_work.specs.Works.{Work}
-
--- a value of signed 64 bits for each field
-pub record IsState (s : State) : Type 0 where
-  pub fields : length s.0 ≡ FIELDS
-  pub values : AllByRecursion (FitsSigned w64) s.0
 
 -- The program is closed, the transactions may be asked of the states, and each number is within its limits.
 pub record KeepsLimits (w : Work) : Type 0 where

@@ -1,9 +1,9 @@
 -- What a record is, as bytes, and what is no record.
-use Rattle.std.specs.Prelude.{◌≡◌, ℕ, ℤ, ◌+◌, ◌<◌, ◌≤◌, ◌^◌, List, [], ◌∷◌, ◌++◌, length, map, FitsSigned, ⊤}
+use Rattle.std.specs.Prelude.{ℕ, ℤ, ◌+◌, ◌<◌, ◌≤◌, ◌^◌, List, [], ◌∷◌, ◌++◌, length, FitsSigned, ⊤}
 use Rattle.std.specs.List.{AllByRecursion, flat_map}
 use Rattle.std.specs.Int.{to_be_bytes, cast_unsigned, w16, w64}
 use Rattle.txn_records.specs.declared.limits.TheConstants.{MOST_ACT_ACTORS, MOST_LISTED, MOST_LOGS}
-use Rattle.snap_base.specs.declared.transactions.TheConstants.{FIELDS}
+pub use Rattle.snap_base.specs.States.{IsState, actor_numbers, tid_numbers}
 use Rattle.snap_base.specs.declared.ids.ActorId.{ActorId}
 use Rattle.snap_base.specs.declared.ids.Bid.{Bid}
 use Rattle.snap_base.specs.declared.ids.Tid.{Tid}
@@ -76,21 +76,10 @@ record_bytes (ActDone tid m c value actors) = act_done_bytes tid m c value actor
 abbrev pub IsCount : ℕ → Type 0
 IsCount n = (1 ≤ n) × (n ≤ MOST_LISTED)
 
--- sixteen numbers of 64 bits with a sign
-pub record IsState (s : State) : Type 0 where
-  pub len : length s.0 ≡ FIELDS
-  pub fields : AllByRecursion (FitsSigned w64) s.0
-
 -- the numbers ascend strictly, from `low` on, and stay below `limit`
 abbrev pub Ascend : ℕ → ℕ → List ℕ → Type 0
 Ascend low limit [] = ⊤
 Ascend low limit (n ∷ ns) = (low ≤ n) × (n < limit) × Ascend (n + 1) limit ns
-
-abbrev pub actor_numbers : List ActorId → List ℕ
-actor_numbers actors = map (λ (a : ActorId). a.0) actors
-
-abbrev pub tid_numbers : List Tid → List ℕ
-tid_numbers tids = map (λ (t : Tid). t.0) tids
 
 pub record IsGenesis (logs : ℕ) (states : List State) : Type 0 where
   pub some_logs : 1 ≤ logs

@@ -22,7 +22,8 @@ use Rattle.work_text.specs.Actors.{Named, actor, state_with, state_in, states_in
 use Rattle.work_text.specs.Transactions.{AreUses, DeclaresRoot, transaction}
 use Rattle.snap_work.specs.Works.{Work}
 use Rattle.work_text.specs.Reads.{line, exactly, program_lines, first_is_actor, transactions, tail, Setup, work_with, reads_lines, IsWork}
-use Rattle.snap_work.specs.Kept.{IsState, KeepsLimits}
+use Rattle.snap_base.specs.States.{IsState}
+use Rattle.snap_work.specs.Kept.{KeepsLimits}
 use Rattle.work_text.proofs.OneOf.{ok_parts, ok_same}
 use Rattle.work_text.proofs.OneText.{AreClosed, in_range, closed_lines}
 use Rattle.work_text.proofs.StateLines.{length-states_in}
@@ -99,8 +100,8 @@ fits_append (x ∷ xs) ys h g = (h.0, fits_append xs ys h.1 g)
 
 named_state : (values : List ℤ) → length values ≤ FIELDS → AllByRecursion (FitsSigned w64) values → IsState (state_with values)
 named_state values few fits = record {
-  fields = omega (arith, few, length-append values (replicate (FIELDS - length values) (pos 0)), length-replicate (FIELDS - length values) (pos 0));
-  values = fits_append values _ fits (noughts_fit (FIELDS - length values));
+  len = omega (arith, few, length-append values (replicate (FIELDS - length values) (pos 0)), length-replicate (FIELDS - length values) (pos 0));
+  fields = fits_append values _ fits (noughts_fit (FIELDS - length values));
 }
 
 either_state : (b : Bool) (x y : State) → IsState x → IsState y → IsState (if b then x else y)
