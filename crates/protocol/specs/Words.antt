@@ -1,6 +1,7 @@
 -- Words computed from a state. Each looks at some contents of some parts, and at nothing else.
 use Rattle.std.specs.Prelude.{ℕ, zero, suc, ℤ, pos, ◌==◌, nat_lt, nat_le, min, max, Bool, true, false, not, ◌&&◌, ◌||◌, if◌then◌else◌, Option, Some, None, List, [], ◌∷◌, ◌++◌, length, map, filter, find, take}
 use Rattle.std.specs.List.{list_any, list_all}
+pub use Rattle.snap_base.specs.Numbers.{greatest}
 use Rattle.snap_base.specs.declared.transactions.TxResult.{TxResult}
 use Rattle.snap_base.specs.declared.transactions.TxResult.TheVariants.{Value, Fail}
 use Rattle.protocol.specs.Fixed.{Next, Go, Ended}
@@ -21,10 +22,6 @@ is_among n ns = list_any (λ x. x == n) ns
 abbrev pub holds : {X : Type 0} → (X → Bool) → Option X → Bool
 holds test None = false
 holds test (Some x) = test x
-
-abbrev pub greatest : List ℕ → ℕ
-greatest [] = 0
-greatest (n ∷ ns) = max n (greatest ns)
 
 -- the numbers below n, ascending
 abbrev pub below : ℕ → List ℕ

@@ -1,7 +1,8 @@
 -- What logs recover to: which batches and undeclared transactions are in, the state of each actor, and the next
 -- numbers. An undeclared transaction is called an ACT.
-use Rattle.std.specs.Prelude.{◌≡◌, ℕ, ℤ, ◌+◌, ◌<◌, ◌≤◌, ◌⊎◌, max, Option, Some, None, List, [], ◌∷◌, ◌++◌, length, map, Contains, ⊤}
+use Rattle.std.specs.Prelude.{◌≡◌, ℕ, ℤ, ◌+◌, ◌<◌, ◌≤◌, ◌⊎◌, Option, Some, None, List, [], ◌∷◌, ◌++◌, length, map, Contains, ⊤}
 use Rattle.std.specs.List.{AllByRecursion, AllZip, AllPairs, flat_map, enumerate_from}
+pub use Rattle.snap_base.specs.Numbers.{greatest}
 use Rattle.snap_base.specs.declared.ids.ActorId.{ActorId}
 use Rattle.snap_base.specs.declared.ids.Bid.{Bid}
 use Rattle.snap_base.specs.declared.ids.Tid.{Tid}
@@ -133,10 +134,6 @@ pub record IsCommitted (logs : List (List Record)) (committed : List Kept) : Typ
   pub all_acts : (tid : Tid) → IsActIn logs tid → Contains (map commit_of committed) (keys.Act tid)
 
 -- ---- next numbers
-
-abbrev pub greatest : List ℕ → ℕ
-greatest [] = 0
-greatest (n ∷ ns) = max n (greatest ns)
 
 -- one above all numbers that occur, and at least 1
 abbrev pub next_of : (Record → List ℕ) → List (List Record) → ℕ
