@@ -75,7 +75,9 @@ pub record IsLogAt (bytes : List ℕ) (end : ℕ) (items : List (List ℕ)) : Ty
 
 -- a file that is no longer than a new log holds no block, and stands for no item
 abbrev pub IsLog : List ℕ → List (List ℕ) → Type 0
-IsLog bytes items = ((length bytes ≤ NEW_LOG_SIZE) × (items ≡ [])) ⊎ ((NEW_LOG_SIZE < length bytes) × ((end : ℕ) × IsLogAt bytes end items))
+IsLog bytes items =
+    ((length bytes ≤ NEW_LOG_SIZE) × (items ≡ []))
+    ⊎ ((NEW_LOG_SIZE < length bytes) × ((end : ℕ) × IsLogAt bytes end items))
 
 -- the bytes are a log of this format with these items
 abbrev pub IsLogOf : List ℕ → ℕ → List (List ℕ) → Type 0

@@ -42,7 +42,9 @@ UpgradesSafely old new end =
 
 -- The device held a log; now it holds the same in format 2.
 abbrev pub Upgraded : Option History → Option History → ℕ → Type 0
-Upgraded old new end = IfSome old (λ h. IfSome new (λ g. (items : List (List ℕ)) → DeviceLog h end items → DeviceLog g end items)) × HasFormat new 2
+Upgraded old new end =
+    IfSome old (λ h. IfSome new (λ g. (items : List (List ℕ)) → DeviceLog h end items → DeviceLog g end items))
+    × HasFormat new 2
 
 -- Where a log is not shut: if the device tells its history, it holds a log at `end` of this format; its length is known, and
 -- the closed gate lies in the device.

@@ -45,10 +45,14 @@ OneDifference = (bytes : List ℕ) (offset other : ℕ) → DiffersAt bytes offs
 -- ---- opening
 
 abbrev pub OpeningAdds : Type 0
-OpeningAdds = (h : History) (new : Option History) (end : ℕ) (found : List LogItem) → Opened (Some h) new end found → AddsAll (Some h) new (opening_ops (content h))
+OpeningAdds =
+    (h : History) (new : Option History) (end : ℕ) (found : List LogItem) → Opened (Some h) new end found
+    → AddsAll (Some h) new (opening_ops (content h))
 
 abbrev pub RefusalAdds : Type 0
-RefusalAdds = (h : History) (new : Option History) (why : OpenNo) → Refused (Some h) new why → AddsUpToFault (Some h) new (opening_ops (content h))
+RefusalAdds =
+    (h : History) (new : Option History) (why : OpenNo) → Refused (Some h) new why
+    → AddsUpToFault (Some h) new (opening_ops (content h))
 
 -- behind opening's operations the device holds the log that was found, or made
 abbrev pub OpeningGives : Type 0
@@ -98,7 +102,9 @@ UpgradeGives =
 
 -- whatever a crash leaves while an upgrade's operations are made has the items that were there
 abbrev pub UpgradeKeeps : Type 0
-UpgradeKeeps = (h : History) (end : ℕ) (items : List (List ℕ)) → DeviceLog h end items → EachMoment (disk h) upgrade_ops (λ image. IsLog image items)
+UpgradeKeeps =
+    (h : History) (end : ℕ) (items : List (List ℕ)) → DeviceLog h end items
+    → EachMoment (disk h) upgrade_ops (λ image. IsLog image items)
 
 -- bytes with a mark of format 2 are of format 2, however long they are
 abbrev pub MarkedIsSecond : Type 0

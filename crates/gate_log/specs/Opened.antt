@@ -37,6 +37,10 @@ abbrev pub Opened : Option History → Option History → ℕ → List LogItem �
 Opened None new end found = new ≡ None
 Opened (Some h) new end found = OpenedOn h new end found
 
+-- the log's format is 1 or 2, and it is 2 where the device, as it told itself before, is made a new log
+abbrev pub HasOpenedFormat : Option History → ℕ → Type 0
+HasOpenedFormat old format = ((format ≡ 1) ⊎ (format ≡ 2)) × IfSome old (λ h. length (content h) ≤ NEW_LOG_SIZE → format ≡ 2)
+
 -- a device that failed may have been made a new log, where it was no longer than one
 abbrev pub MayBeMade : Option History → Option History → Type 0
 MayBeMade None new = new ≡ None
@@ -52,7 +56,8 @@ Refused old new Memory = new ≡ old
 -- Whatever a crash leaves at any moment of the call of a device that is no longer than a new log holds no item.
 abbrev pub MadeSafely : Option History → Option History → Type 0
 MadeSafely old new =
-    IfSome old (λ h. length (content h) ≤ NEW_LOG_SIZE → (ops : List DevOp) × AddsAll old new ops × EachMoment (disk h) ops (λ image. IsLog image []))
+    IfSome old (λ h. length (content h) ≤ NEW_LOG_SIZE
+    → (ops : List DevOp) × AddsAll old new ops × EachMoment (disk h) ops (λ image. IsLog image []))
 
 -- Why a device that is longer than a new log was not opened, and what it did to the device.
 abbrev pub RefusedLong : Option History → Option History → OpenNo → Type 0

@@ -7,7 +7,7 @@ ghost use Rattle.snap_outside.specs.declared.devices.DevOp.TheVariants as operat
 ghost use Rattle.gate_log.specs.Bytes.{DiffersAt, IsLogAt, IsDamagedAt, IsPlacedLogAt};
 ghost use Rattle.gate_log.specs.Device.{DeviceLog, HasFormat, IsReadyDevice};
 ghost use Rattle.gate_log.specs.declared.limits.TheConstants.{NEW_LOG_SIZE};
-ghost use Rattle.gate_log.specs.Opened.{bytes_of, new_log, Opened, Refused, MadeSafely, RefusedLong, IsNoRead};
+ghost use Rattle.gate_log.specs.Opened.{bytes_of, new_log, HasOpenedFormat, Opened, Refused, MadeSafely, RefusedLong, IsNoRead};
 
 use crate::limits::{FARTHEST_END, NEW_LOG_SIZE};
 use crate::reads::{format_at, read_log};
@@ -76,7 +76,7 @@ impl<D: LogDev> Log<D> {
         ensures open { IfOk result (λ log. log.shut ≡ false) }
         ensures format { IfOk result (λ log. HasFormat log.told log.format) }
         // Its format is 1 or 2, and a device that was made a log has format 2.
-        ensures formats { IfOk result (λ log. ((log.format ≡ 1) ⊎ (log.format ≡ 2)) × (IfSome (D.told dev) (λ h. length (content h) ≤ NEW_LOG_SIZE → log.format ≡ 2))) }
+        ensures formats { IfOk result (λ log. HasOpenedFormat (D.told dev) log.format) }
         ensures crashes { MatchResult result (λ log. MadeSafely (D.told dev) log.told) (λ no. MadeSafely (D.told dev) (D.told no.0)) }
         ensures end { IfOk result (λ log. log.end ≤ FARTHEST_END) }
         ensures refused { IfErr result (λ no. Refused (D.told dev) (D.told no.0) no.1) }
@@ -112,7 +112,7 @@ fn find_log<D: LogDev>(alloc: Global, dev: &mut D) -> Result<(u64, Sequence<LogI
     ensures log { IfOk result (λ log. IfSome (D.told dev.new) (λ h. DeviceLog h log.0 (bytes_of log.1))) }
     ensures placed { IfOk result (λ log. (bytes : List ℕ) × IsPlacedLogAt bytes log.0 log.1) }
     ensures ready { IfOk result (λ log. IsReadyDevice (D.told dev.new) (D.told_length dev.new) log.0 log.2) }
-    ensures formats { IfOk result (λ log. ((log.2 ≡ 1) ⊎ (log.2 ≡ 2)) × (IfSome (D.told dev.old) (λ h. length (content h) ≤ NEW_LOG_SIZE → log.2 ≡ 2))) }
+    ensures formats { IfOk result (λ log. HasOpenedFormat (D.told dev.old) log.2) }
     ensures end { IfOk result (λ log. log.0 ≤ FARTHEST_END) }
     ensures refused { IfErr result (Refused (D.told dev.old) (D.told dev.new)) }
     ensures device { IfErr result (λ no. no ≡ OpenNo.Device → Rose (D.faults dev.old) (D.faults dev.new)) }

@@ -57,14 +57,17 @@ pub record FailsUpgrade (count : ℕ) (before after : List devices.Device) (log 
 -- All are opened, and of format 2. The first byte at which no record goes on is here; the logs below hold records.
 pub record HasBadRecord (count : ℕ) (before after : List devices.Device) (log offset : ℕ) : Type 0 where
   pub asked : log < count
-  pub bad : (end : ℕ) × (found : List LogItem) × devices.Begun (devices.device_at before log).told (devices.device_at after log).told end found × IsFirstBadIn found offset
+  pub bad : (end : ℕ) × (found : List LogItem)
+      × devices.Begun (devices.device_at before log).told (devices.device_at after log).told end found × IsFirstBadIn found offset
   pub below : (records : List (List Record)) × (log ≡ length records) × AllZip DeviceHolds (take log before) records
   pub recent : devices.HoldNoOld count before
   pub begun : devices.AreBegun count before after
 
 -- There was no memory: while they were opened, or when all were opened and of format 2.
 abbrev pub LacksMemory : ℕ → List devices.Device → List devices.Device → Type 0
-LacksMemory count before after = devices.LacksMemory (λ log. log < count) before after ⊎ (devices.HoldNoOld count before × devices.AreBegun count before after)
+LacksMemory count before after =
+    devices.LacksMemory (λ log. log < count) before after
+    ⊎ (devices.HoldNoOld count before × devices.AreBegun count before after)
 
 -- why so many logs are not opened and decoded, from the devices before and after
 abbrev pub AreNotRead : ℕ → List devices.Device → List devices.Device → LogsNo → Type 0

@@ -96,10 +96,19 @@ no_of_opening log (refusal.Damage offset) = ending.Refused log offset cause.Dama
 no_of_opening log refusal.Device = ending.Device log
 no_of_opening log refusal.Memory = ending.Memory
 
+-- only the first devices are opened, so many at most
+abbrev pub AreOpenedInPart : ℕ → List devices.Device → List devices.Device → Type 0
+AreOpenedInPart count before after = (n : ℕ) × (n ≤ count) × devices.AreOpened n before after
+
+-- one of the first devices, so many, was not opened, for a cause that is told so
+abbrev pub IsStoppedBelow : ℕ → List devices.Device → List devices.Device → LogsNo → Type 0
+IsStoppedBelow count before after no =
+    (log : ℕ) × (why : OpenNo) × (log < count) × IsStoppedAt log before after why × (no ≡ no_of_opening log why)
+
 -- Not so many devices were opened, and why: there was no memory behind the opening of one of them, or one was not opened.
 pub record IsHalted (count : ℕ) (before after : List devices.Device) (no : LogsNo) : Type 0 where
   pub touched : AllZip IsTouched before after
-  pub why : ((no ≡ ending.Memory) × ((n : ℕ) × (n ≤ count) × devices.AreOpened n before after)) ⊎ ((log : ℕ) × (why : OpenNo) × (log < count) × IsStoppedAt log before after why × (no ≡ no_of_opening log why))
+  pub why : ((no ≡ ending.Memory) × AreOpenedInPart count before after) ⊎ IsStoppedBelow count before after no
 
 -- ---- records
 

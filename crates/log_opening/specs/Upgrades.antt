@@ -37,7 +37,9 @@ pub record IsUpgradeFailed (old new : LogState) : Type 0 where
 
 -- The log is as it was, since it is not of format 1 or these are some items; or it is upgraded.
 abbrev pub IsMadeReady : LogState → LogState → List LogItem → Type 0
-IsMadeReady old new items = ((new ≡ old) × ((old.format ≢ 1) ⊎ (items ≢ []))) ⊎ ((items ≡ []) × (old.format ≡ 1) × IsUpgraded old new)
+IsMadeReady old new items =
+    ((new ≡ old) × ((old.format ≢ 1) ⊎ (items ≢ [])))
+    ⊎ ((items ≡ []) × (old.format ≡ 1) × IsUpgraded old new)
 
 -- the log was to be upgraded, and its device failed
 abbrev pub IsNotMadeReady : LogState → LogState → List LogItem → Type 0
@@ -90,12 +92,14 @@ old_count (l ∷ logs) = (if l.format == 1 then 1 else 0) + old_count logs
 abbrev pub AreOld : List Device → ℕ → Type 0
 AreOld [] count = count ≡ 0
 AreOld (d ∷ devices) count =
-    (others : ℕ) × (old : Bool) × AreOld devices others × (count ≡ (if old then 1 else 0) + others) × IfSome d.told (λ h. old ≡ (format_in (content h) == 1))
+    (others : ℕ) × (old : Bool) × AreOld devices others × (count ≡ (if old then 1 else 0) + others)
+    × IfSome d.told (λ h. old ≡ (format_in (content h) == 1))
 
 -- The device was opened, its log was of format 1, and the upgrade met a fault.
 abbrev pub IsBeginningCutOff : Device → Device → Type 0
 IsBeginningCutOff before after =
-    (end : ℕ) × (found : List LogItem) × (opened : Option History) × Opened before.told opened end found × IfSome before.told (λ h. format_in (content h) ≡ 1)
+    (end : ℕ) × (found : List LogItem) × (opened : Option History) × Opened before.told opened end found
+    × IfSome before.told (λ h. format_in (content h) ≡ 1)
     × AddsUpToFault opened after.told upgrade_ops
 
 -- So many devices are opened. The upgrade of this log failed; those below it are of format 2, and those above it are only opened.

@@ -15,7 +15,8 @@ use Rattle.record_log.specs.Records.{spelled, HoldsRecords, RecordLog}
 -- the device is opened, and its log upgraded where it is of format 1
 abbrev pub OpeningGrows : Type 0
 OpeningGrows =
-    (old opened new : Option History) (end : ℕ) (found : List LogItem) → Opened old opened end found → AddsAll opened new (upgrading_of old) → GrewBy old new end [] None
+    (old opened new : Option History) (end : ℕ) (found : List LogItem)
+    → Opened old opened end found → AddsAll opened new (upgrading_of old) → GrewBy old new end [] None
 
 -- one more append is whole
 abbrev pub GroupGrows : Type 0
@@ -49,8 +50,10 @@ GrowthGives =
 -- holds the earlier records with those of these appends, or, only where one more has begun, with those of one more.
 abbrev pub MomentKeeps : Type 0
 MomentKeeps =
-    (h : History) (opened : Option History) (end : ℕ) (found : List LogItem) (rs : List Record) (whole later : List (List Record)) (begun : List DevOp)
-    → Opened (Some h) opened end found → HoldsRecords (content h) rs → MayAppendGroups end (whole ++ later) → IsNextBegun (end_behind_groups end whole) later begun
+    (h : History) (opened : Option History) (end : ℕ) (found : List LogItem)
+    (rs : List Record) (whole later : List (List Record)) (begun : List DevOp)
+    → Opened (Some h) opened end found → HoldsRecords (content h) rs
+    → MayAppendGroups end (whole ++ later) → IsNextBegun (end_behind_groups end whole) later begun
     → (image : List ℕ) → IsImage (disk_after (beginning_ops (content h) ++ (groups_ops end whole ++ begun)) (disk h)) image
     → HoldsWhole (rs ++ all_records whole) later begun image
 
@@ -58,7 +61,9 @@ MomentKeeps =
 -- those of one more that has begun.
 abbrev pub GrowthKeeps : Type 0
 GrowthKeeps =
-    (h : History) (opened : Option History) (end : ℕ) (found : List LogItem) (rs : List Record) (groups : List (List Record)) (tried : Option (List Record)) (ops : List DevOp)
-    → Opened (Some h) opened end found → disk h ≡ settled (content h) → HoldsRecords (content h) rs → IsGrowth (content h) end groups tried ops
+    (h : History) (opened : Option History) (end : ℕ) (found : List LogItem)
+    (rs : List Record) (groups : List (List Record)) (tried : Option (List Record)) (ops : List DevOp)
+    → Opened (Some h) opened end found → disk h ≡ settled (content h) → HoldsRecords (content h) rs
+    → IsGrowth (content h) end groups tried ops
     → (made left : List DevOp) → ops ≡ made ++ left → (image : List ℕ) → IsImage (disk_after made (disk h)) image
     → Leaves (content h) end rs (begun_groups groups tried) made image

@@ -20,10 +20,12 @@ abbrev pub OneListOfRecords : Type 0
 OneListOfRecords = (bytes : List ℕ) (rs xs : List Record) → HoldsRecords bytes rs → HoldsRecords bytes xs → rs ≡ xs
 
 abbrev pub RecordsAreNotForeign : Type 0
-RecordsAreNotForeign = (bytes : List ℕ) (rs : List Record) (offset : ℕ) → NEW_LOG_SIZE < length bytes → HoldsRecords bytes rs → ¬ DiffersAt bytes offset
+RecordsAreNotForeign =
+    (bytes : List ℕ) (rs : List Record) (offset : ℕ) → NEW_LOG_SIZE < length bytes → HoldsRecords bytes rs → ¬ DiffersAt bytes offset
 
 abbrev pub RecordsAreNotDamaged : Type 0
-RecordsAreNotDamaged = (bytes : List ℕ) (rs : List Record) (offset : ℕ) → NEW_LOG_SIZE < length bytes → HoldsRecords bytes rs → ¬ IsDamagedAt bytes offset
+RecordsAreNotDamaged =
+    (bytes : List ℕ) (rs : List Record) (offset : ℕ) → NEW_LOG_SIZE < length bytes → HoldsRecords bytes rs → ¬ IsDamagedAt bytes offset
 
 abbrev pub NoRecordIsBad : Type 0
 NoRecordIsBad =
@@ -33,10 +35,14 @@ NoRecordIsBad =
 -- ---- a device
 
 abbrev pub OpenedHeld : Type 0
-OpenedHeld = (h : History) (new : Option History) (end : ℕ) (items : List LogItem) (rs : List Record) → Opened (Some h) new end items → AreItemsOf items rs → HoldsRecords (content h) rs
+OpenedHeld =
+    (h : History) (new : Option History) (end : ℕ) (items : List LogItem) (rs : List Record)
+    → Opened (Some h) new end items → AreItemsOf items rs → HoldsRecords (content h) rs
 
 abbrev pub OpenedHolds : Type 0
-OpenedHolds = (g : History) (end : ℕ) (items : List LogItem) (rs : List Record) → DeviceLog g end (bytes_of items) → AreItemsOf items rs → RecordLog g end rs
+OpenedHolds =
+    (g : History) (end : ℕ) (items : List LogItem) (rs : List Record)
+    → DeviceLog g end (bytes_of items) → AreItemsOf items rs → RecordLog g end rs
 
 abbrev pub ItemsAreRecords : Type 0
 ItemsAreRecords = (items : List LogItem) (rs : List Record) → AreItemsOf items rs → AllByRecursion IsRecord rs
@@ -45,7 +51,9 @@ abbrev pub RecordLogHolds : Type 0
 RecordLogHolds = (h : History) (end : ℕ) (rs : List Record) → RecordLog h end rs → HoldsRecords (content h) rs
 
 abbrev pub OpeningKeepsRecords : Type 0
-OpeningKeepsRecords = (old new : Option History) (end : ℕ) (items : List LogItem) → Opened old new end items → MadeSafely old new → KeepsRecords old new
+OpeningKeepsRecords =
+    (old new : Option History) (end : ℕ) (items : List LogItem)
+    → Opened old new end items → MadeSafely old new → KeepsRecords old new
 
 abbrev pub RefusalKeepsRecords : Type 0
 RefusalKeepsRecords = (old new : Option History) (no : OpenNo) → Refused old new no → MadeSafely old new → KeepsRecords old new
@@ -53,13 +61,17 @@ RefusalKeepsRecords = (old new : Option History) (no : OpenNo) → Refused old n
 -- whatever the upgrade of an opened log comes to
 abbrev pub UpgradeKeepsRecords : Type 0
 UpgradeKeepsRecords =
-    (old opened new : Option History) (found_end end : ℕ) (items : List LogItem) → Opened old opened found_end items → IfSome opened (λ g. DeviceLog g end (bytes_of items))
+    (old opened new : Option History) (found_end end : ℕ) (items : List LogItem)
+    → Opened old opened found_end items → IfSome opened (λ g. DeviceLog g end (bytes_of items))
     → KeepsRecords old opened → UpgradesSafely opened new end → KeepsRecords old new
 
 -- ---- sizes
 
 abbrev pub FewMayBeAppended : Type 0
-FewMayBeAppended = (end : ℕ) (rs : List Record) → AllByRecursion IsRecord rs → length rs ≤ MOST_RECORDS → end ≤ FARTHEST_APPEND → MayAppend end (spelled rs)
+FewMayBeAppended =
+    (end : ℕ) (rs : List Record)
+    → AllByRecursion IsRecord rs → length rs ≤ MOST_RECORDS → end ≤ FARTHEST_APPEND → MayAppend end (spelled rs)
 
 abbrev pub FewTakeLittle : Type 0
-FewTakeLittle = (rs : List Record) → AllByRecursion IsRecord rs → length rs ≤ MOST_RECORDS → length (items_bytes (spelled rs)) ≤ LARGEST_GROUP
+FewTakeLittle =
+    (rs : List Record) → AllByRecursion IsRecord rs → length rs ≤ MOST_RECORDS → length (items_bytes (spelled rs)) ≤ LARGEST_GROUP

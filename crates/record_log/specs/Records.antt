@@ -53,7 +53,8 @@ AreNoRecords items Memory = ⊤
 abbrev pub KeepsRecords : Option History → Option History → Type 0
 KeepsRecords old new =
     IfSome old (λ h. (ops : List DevOp) × AddsAll old new ops
-    × (disk h ≡ settled (content h) → (rs : List Record) → HoldsRecords (content h) rs → EachMoment (disk h) ops (λ image. HoldsRecords image rs)))
+    × (disk h ≡ settled (content h) → (rs : List Record) → HoldsRecords (content h) rs
+    → EachMoment (disk h) ops (λ image. HoldsRecords image rs)))
 
 -- The device held these records; now it holds the same with some added.
 abbrev pub AppendsRecords : Option History → Option History → ℕ → ℕ → List Record → Type 0

@@ -61,7 +61,8 @@ IsFirstSpent o n =
 -- the first field that differs
 abbrev pub IsFieldDifference : List ℤ → List ℤ → ℕ → ℤ → ℤ → Type 0
 IsFieldDifference kept text field k t =
-    (same kept_rest text_rest : List ℤ) × (kept ≡ same ++ k ∷ kept_rest) × (text ≡ same ++ t ∷ text_rest) × (field ≡ length same) × (k ≢ t)
+    (same kept_rest text_rest : List ℤ) × (kept ≡ same ++ k ∷ kept_rest) × (text ≡ same ++ t ∷ text_rest)
+    × (field ≡ length same) × (k ≢ t)
 
 -- what differs first between the states that the log began with and the text's
 abbrev pub IsDifference : List State → List State → What → ℤ → ℤ → Type 0
@@ -75,7 +76,8 @@ IsDifference kept text (Field actor field) k t =
 abbrev pub IsCause : List (List Record) → List State → ℕ → LogCause → Type 0
 IsCause logs states log (cause.Spent number) = (log ≡ 0) × ((o : Opening) × IsRecovered logs o × IsFirstSpent o number)
 IsCause logs states log (cause.Differs what kept text) =
-    (log ≡ 0) × ((o : Opening) × (first : List State) × IsRecovered logs o × IsUnspent o × BeganWith logs first × IsDifference first states what kept text)
+    (log ≡ 0) × ((o : Opening) × (first : List State)
+    × IsRecovered logs o × IsUnspent o × BeganWith logs first × IsDifference first states what kept text)
 IsCause logs states log cause.NotALog = ⊥
 IsCause logs states log cause.Damage = ⊥
 IsCause logs states log cause.OldFormat = ⊥

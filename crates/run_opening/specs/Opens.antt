@@ -77,7 +77,8 @@ pub record OpensRun (before : List Device) (logs : List LogState) (states : List
   pub held : AllZip DeviceHolds (take (length records) before) records
   pub recent : HoldNoOld (length records) before
   pub as_many : length logs ≡ length records
-  pub log : (n : ℕ) → n < length records → (end : ℕ) × IsRunLog (device_at before n) (log_at logs n) end (records_at records n) (first_groups n added)
+  pub log : (n : ℕ) → n < length records
+      → (end : ℕ) × IsRunLog (device_at before n) (log_at logs n) end (records_at records n) (first_groups n added)
   -- what they hold now recovers to the opening
   pub recovers : IsRecovered (with_first records added) o
 
@@ -103,8 +104,8 @@ pub record FailsFirst (count : ℕ) (states : List State) (before after : List D
   pub others : drop count after ≡ drop count before
 
 -- Why no run of a text with these states begins on so many logs: they are not opened, made ready and decoded, or what they hold
--- gives no run, and the devices got the operations of opening and of an upgrade at most; or Genesis was begun and is not written. Whatever the answer,
--- the devices behind them got no call (`others_get_no_call`).
+-- gives no run, and the devices got the operations of opening and of an upgrade at most; or Genesis was begun and is not
+-- written. Whatever the answer, the devices behind them got no call (`others_get_no_call`).
 abbrev pub IsNoRun : ℕ → List State → List Device → List Device → LogsNo → Type 0
 IsNoRun count states before after answer =
     ((AreNotRead count before after answer ⊎ AreNoStart count states before after answer) × AllZip IsHandled before after)

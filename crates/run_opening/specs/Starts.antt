@@ -15,7 +15,8 @@ first_record logs states = Genesis logs states
 -- The run begins with the opening, and these are to be written to log 0 before it: Genesis where no log has a record.
 abbrev pub IsStart : List (List Record) → List State → Opening → List Record → Type 0
 IsStart logs states o added =
-    (AreEmpty logs × (o ≡ fresh_opening states) × (added ≡ first_record (length logs) states ∷ [])) ⊎ (GoesOn logs states o × (added ≡ []))
+    (AreEmpty logs × (o ≡ fresh_opening states) × (added ≡ first_record (length logs) states ∷ []))
+    ⊎ (GoesOn logs states o × (added ≡ []))
 
 -- why a run does not go on from the records of these logs
 abbrev pub IsNoStart : List (List Record) → List State → LogsNo → Type 0

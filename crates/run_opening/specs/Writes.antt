@@ -44,7 +44,8 @@ no_of_append append.Memory = ending.Memory
 pub record IsNotWritten (before after : LogState) (added : List Record) (no : LogsNo) : Type 0 where
   pub may : MayAppendGroup before.end added
   pub why : ((no ≡ ending.Memory) × IsUntouched before after)
-      ⊎ ((no ≡ ending.Device 0) × (added ≢ []) × Rose before.faults after.faults × AddsUpToFault before.told after.told (append_ops before.end (spelled added)))
+      ⊎ ((no ≡ ending.Device 0) × (added ≢ []) × Rose before.faults after.faults
+      × AddsUpToFault before.told after.told (append_ops before.end (spelled added)))
   pub crashes : CrashesRecords before.told after.told before.end added
   pub later : before.faults ≤ after.faults
 

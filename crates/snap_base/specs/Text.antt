@@ -13,6 +13,8 @@ verdict_text (Committed place value) = codes "committed " ++ (place_text place +
 verdict_text (Code place code) = codes "code " ++ (place_text place ++ (codes " " ++ decimal code))
 verdict_text (BatchCode batch at code) = codes "batchcode " ++ (decimal batch.0 ++ (codes " " ++ (decimal at ++ (codes " " ++ decimal code))))
 verdict_text (Cascade batch by) = codes "cascade " ++ (decimal batch.0 ++ (codes " " ++ decimal by.0))
-verdict_text (Died actor older own) = codes "died actor " ++ (decimal actor.0 ++ (codes " older " ++ (decimal older.0 ++ (codes " own " ++ decimal own.0))))
-verdict_text (Order before after actor) = codes "order before " ++ (decimal before.0 ++ (codes " after " ++ (decimal after.0 ++ (codes " actor " ++ decimal actor.0))))
+verdict_text (Died actor older own) =
+    codes "died actor " ++ (decimal actor.0 ++ (codes " older " ++ (decimal older.0 ++ (codes " own " ++ decimal own.0))))
+verdict_text (Order before after actor) =
+    codes "order before " ++ (decimal before.0 ++ (codes " after " ++ (decimal after.0 ++ (codes " actor " ++ decimal actor.0))))
 verdict_text (Unsure log) = codes "unsure " ++ decimal log

@@ -16,7 +16,8 @@ abbrev pub LogFailsNext : MemLog → Type 0
 LogFailsNext d = FailsNext d.schedule
 
 -- the length is that of what a read gives
-pub length_is : (d : MemLog) (h : History) (n : ℕ) → Some (history_of d) ≡ Some h → Some (vec_len d.bytes) ≡ Some n → n ≡ length (content h)
+pub length_is : (d : MemLog) (h : History) (n : ℕ)
+    → Some (history_of d) ≡ Some h → Some (vec_len d.bytes) ≡ Some n → n ≡ length (content h)
 length_is d h n told told_length =
     let same : history_of d ≡ h = cc told in
     let counted : vec_len d.bytes ≡ n = cc told_length in

@@ -12,7 +12,8 @@ disk_join [] ys d = refl
 disk_join (x ∷ xs) ys d = disk_join xs ys (op_done x d)
 
 -- what holds while the first are made, and then while the others are, holds while all are
-pub moments_join : (d : Disk) (xs ys : List DevOp) (P : List ℕ → Type 0) → EachMoment d xs P → EachMoment (disk_after xs d) ys P → EachMoment d (xs ++ ys) P
+pub moments_join : (d : Disk) (xs ys : List DevOp) (P : List ℕ → Type 0)
+    → EachMoment d xs P → EachMoment (disk_after xs d) ys P → EachMoment d (xs ++ ys) P
 moments_join d [] ys P before after = after
 moments_join d (x ∷ xs) ys P before after = (before.0, moments_join (op_done x d) xs ys P before.1 after)
 
@@ -22,7 +23,8 @@ moment_between d [] [] P all = all
 moment_between d [] (y ∷ ys) P all = all.0
 moment_between d (x ∷ xs) ys P all = moment_between (op_done x d) xs ys P all.1
 
-pub moments_weaker : (P Q : List ℕ → Type 0) → ((image : List ℕ) → P image → Q image) → (d : Disk) (ops : List DevOp) → EachMoment d ops P → EachMoment d ops Q
+pub moments_weaker : (P Q : List ℕ → Type 0) → ((image : List ℕ) → P image → Q image)
+    → (d : Disk) (ops : List DevOp) → EachMoment d ops P → EachMoment d ops Q
 moments_weaker P Q then d [] all = λ image left. then image (all image left)
 moments_weaker P Q then d (op ∷ ops) all = ((λ image left. then image (all.0 image left)), moments_weaker P Q then (op_done op d) ops all.1)
 
@@ -32,7 +34,8 @@ pub adds_nothing : (old new : Option History) → new ≡ old → AddsAll old ne
 adds_nothing None new same = same
 adds_nothing (Some h) new same = same ∙ ap (λ (ops : List DevOp). Some (record { first = h.first; ops = ops })) (sym (append-nil h.ops))
 
-pub adds_join : (old between new : Option History) (xs ys : List DevOp) → AddsAll old between xs → AddsAll between new ys → AddsAll old new (xs ++ ys)
+pub adds_join : (old between new : Option History) (xs ys : List DevOp)
+    → AddsAll old between xs → AddsAll between new ys → AddsAll old new (xs ++ ys)
 adds_join None between new xs ys first second = subst (λ (t : Option History). AddsAll t new ys) first second
 adds_join (Some h) between new xs ys first second =
     subst (λ (t : Option History). AddsAll t new ys) first second

@@ -82,7 +82,9 @@ HasPrepared logs tid actor = HasKey (log_of logs actor.0) (keys.Prepare tid acto
 
 -- nothing is lacking of an ACT
 abbrev pub IsActWhole : List (List Record) → Tid → Type 0
-IsActWhole logs tid = (m : Bid) × (c : ℕ) × (value : Option ℤ) × (actors : List ActorId) × IsActOf logs tid m c value actors × AllByRecursion (HasPrepared logs tid) actors
+IsActWhole logs tid =
+    (m : Bid) × (c : ℕ) × (value : Option ℤ) × (actors : List ActorId)
+    × IsActOf logs tid m c value actors × AllByRecursion (HasPrepared logs tid) actors
 
 -- ---- states
 
@@ -115,7 +117,9 @@ commit_of (kept.Batch bid tids values) = keys.Commit bid
 commit_of (kept.Act tid m c value) = keys.Act tid
 
 abbrev pub IsKeptIn : List (List Record) → Kept → Type 0
-IsKeptIn logs (kept.Batch bid tids values) = IsIn logs bid × ((actors : List ActorId) × IsInfoOf logs bid actors tids) × ((r : Record) × IsCommitOf logs bid r × (values ≡ values_in r))
+IsKeptIn logs (kept.Batch bid tids values) =
+    IsIn logs bid × ((actors : List ActorId) × IsInfoOf logs bid actors tids)
+    × ((r : Record) × IsCommitOf logs bid r × (values ≡ values_in r))
 IsKeptIn logs (kept.Act tid m c value) = (actors : List ActorId) × IsActOf logs tid m c value actors
 
 -- The order of the places: batches by their numbers, and ACTs behind the batch of their m and before all later
@@ -124,7 +128,8 @@ abbrev pub ComesBefore : Kept → Kept → Type 0
 ComesBefore (kept.Batch bid tids values) (kept.Batch bid' tids' values') = bid.0 < bid'.0
 ComesBefore (kept.Batch bid tids values) (kept.Act tid m c value) = bid.0 ≤ m.0
 ComesBefore (kept.Act tid m c value) (kept.Batch bid tids values) = m.0 < bid.0
-ComesBefore (kept.Act tid m c value) (kept.Act tid' m' c' value') = (m.0 < m'.0) ⊎ ((m.0 ≡ m'.0) × ((c < c') ⊎ ((c ≡ c') × (tid.0 < tid'.0))))
+ComesBefore (kept.Act tid m c value) (kept.Act tid' m' c' value') =
+    (m.0 < m'.0) ⊎ ((m.0 ≡ m'.0) × ((c < c') ⊎ ((c ≡ c') × (tid.0 < tid'.0))))
 
 -- the batches and the ACTs that are in, in the order of their places
 pub record IsCommitted (logs : List (List Record)) (committed : List Kept) : Type 0 where

@@ -78,7 +78,9 @@ AddsParts kind log logs rs old new = AddsKeyed (λ (x : ℕ × ℕ). x.1 % logs 
 
 -- the place of the last record with the key
 abbrev pub IsLastPlace : Key → List Record → ℕ → Type 0
-IsLastPlace k rs place = (front behind : List Record) × (r : Record) × (rs ≡ front ++ r ∷ behind) × (place ≡ length front) × (key r ≡ k) × AllByRecursion (λ x. key x ≢ k) behind
+IsLastPlace k rs place =
+    (front behind : List Record) × (r : Record) × (rs ≡ front ++ r ∷ behind)
+    × (place ≡ length front) × (key r ≡ k) × AllByRecursion (λ x. key x ≢ k) behind
 
 -- what was kept of a key is now the place of the last of these records with the key, and where there is none it is as it was
 abbrev pub IsLastPlaced : Key → List Record → Option ℕ → Option ℕ → Type 0
@@ -93,12 +95,14 @@ IsPlacedBy k at r old new = ((key r ≡ k) × (new ≡ Some at)) ⊎ ((key r ≢
 -- the place of the record is added under the number of its key, where it has one and stands in its log
 abbrev pub AddsInfo : (ℕ → Key) → ℕ → ℕ → ℕ → Record → BTreeMap ℕ ℕ → BTreeMap ℕ ℕ → Type 0
 AddsInfo key_at log logs at r old new = (n : ℕ) →
-    ((n % logs ≡ log → IsPlacedBy (key_at n) at r (tree.get nat_cmp old n) (tree.get nat_cmp new n)) × (n % logs ≢ log → tree.get nat_cmp new n ≡ tree.get nat_cmp old n))
+    ((n % logs ≡ log → IsPlacedBy (key_at n) at r (tree.get nat_cmp old n) (tree.get nat_cmp new n))
+    × (n % logs ≢ log → tree.get nat_cmp new n ≡ tree.get nat_cmp old n))
 
 -- the places of the records with these keys that stand in their log are added
 abbrev pub AddsInfos : (ℕ → Key) → ℕ → ℕ → List Record → BTreeMap ℕ ℕ → BTreeMap ℕ ℕ → Type 0
 AddsInfos key_at log logs rs old new = (n : ℕ) →
-    ((n % logs ≡ log → IsLastPlaced (key_at n) rs (tree.get nat_cmp old n) (tree.get nat_cmp new n)) × (n % logs ≢ log → tree.get nat_cmp new n ≡ tree.get nat_cmp old n))
+    ((n % logs ≡ log → IsLastPlaced (key_at n) rs (tree.get nat_cmp old n) (tree.get nat_cmp new n))
+    × (n % logs ≢ log → tree.get nat_cmp new n ≡ tree.get nat_cmp old n))
 
 -- ---- over all logs
 
@@ -133,7 +137,8 @@ StateOver P rs first s =
 -- the states of the actors whose log this is are those that it tells, and the others are as they were
 pub record Replays (log logs : ℕ) (Batches Acts : ℕ → Type 0) (rs : List Record) (old new : List State) : Type 0 where
   pub long : length new ≡ length old
-  pub here : (a : ℕ) (d : State) → a < length old → a % logs ≡ log → StateOver (TellsState Batches Acts a) rs (slice_index_or old a d) (slice_index_or new a d)
+  pub here : (a : ℕ) (d : State) → a < length old → a % logs ≡ log
+      → StateOver (TellsState Batches Acts a) rs (slice_index_or old a d) (slice_index_or new a d)
   pub elsewhere : (a : ℕ) (d : State) → a < length old → a % logs ≢ log → slice_index_or new a d ≡ slice_index_or old a d
 
 -- ---- what is whole
@@ -148,8 +153,11 @@ MemberLacks kinds.Act logs n k log = LacksPrepare logs (tid_at n) k log
 
 -- the actors of the batch, or the ACT, as the last record with its key tells them
 abbrev pub TellsActors : Kind → ℕ → List Record → List ActorId → Type 0
-TellsActors kinds.Batch n rs actors = (tids : List Tid) × IsLastOf (λ r. key r ≡ keys.Info (bid_at n)) rs (BatchInfo (bid_at n) actors tids)
-TellsActors kinds.Act n rs actors = (m : Bid) × (c : ℕ) × (value : Option ℤ) × IsLastOf (λ r. key r ≡ keys.Act (tid_at n)) rs (act_record (tid_at n) m c value actors)
+TellsActors kinds.Batch n rs actors =
+    (tids : List Tid) × IsLastOf (λ r. key r ≡ keys.Info (bid_at n)) rs (BatchInfo (bid_at n) actors tids)
+TellsActors kinds.Act n rs actors =
+    (m : Bid) × (c : ℕ) × (value : Option ℤ)
+    × IsLastOf (λ r. key r ≡ keys.Act (tid_at n)) rs (act_record (tid_at n) m c value actors)
 
 -- the answer tells what the batch, or the ACT, lacks
 abbrev pub IsLackOf : Kind → List (List Record) → ℕ → RecoverNo → Type 0
@@ -253,7 +261,9 @@ IsBatchSpot n x = x ≡ (n, 0, 0, 0)
 
 -- the spot of this ACT, as its commit tells it
 abbrev pub IsActSpot : List (List Record) → ℕ → Spot → Type 0
-IsActSpot logs n x = (m : Bid) × (c : ℕ) × (value : Option ℤ) × (actors : List ActorId) × IsActOf logs (tid_at n) m c value actors × (x ≡ (m.0, 1, c, n))
+IsActSpot logs n x =
+    (m : Bid) × (c : ℕ) × (value : Option ℤ) × (actors : List ActorId)
+    × IsActOf logs (tid_at n) m c value actors × (x ≡ (m.0, 1, c, n))
 
 -- the spots of these numbers are added
 abbrev pub AddsSpots : (ℕ → Spot → Type 0) → List ℕ → BTreeSet Spot → BTreeSet Spot → Type 0

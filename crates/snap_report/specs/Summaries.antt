@@ -9,7 +9,8 @@ use Rattle.snap_report.specs.declared.summaries.Summary.{Summary}
 abbrev pub summary_object : Summary → List ℕ
 summary_object s =
     codes "{\"aborted\":" ++ (decimal s.aborted ++ (codes ",\"batches\":" ++ (decimal s.batches ++ (codes ",\"committed\":" ++ (decimal s.committed
-    ++ (codes ",\"events\":" ++ (decimal s.events ++ (codes ",\"total\":\"" ++ (signed_decimal s.total ++ (codes "\",\"transactions\":" ++ (decimal s.transactions ++ codes "}")))))))))))
+    ++ (codes ",\"events\":" ++ (decimal s.events ++ (codes ",\"total\":\"" ++ (signed_decimal s.total
+    ++ (codes "\",\"transactions\":" ++ (decimal s.transactions ++ codes "}")))))))))))
 
 abbrev pub summary_text : Summary → List ℕ
 summary_text s = summary_object s ++ line_end

@@ -36,7 +36,8 @@ genesis_bytes logs states = (1 ∷ logs ∷ []) ++ (to_be_bytes w16 (length stat
 
 abbrev pub info_bytes : Bid → List ActorId → List Tid → List ℕ
 info_bytes bid actors tids =
-    (2 ∷ []) ++ (to_be_bytes w64 bid.0 ++ (to_be_bytes w16 (length actors) ++ (actors_bytes actors ++ (to_be_bytes w16 (length tids) ++ tids_bytes tids))))
+    (2 ∷ []) ++ (to_be_bytes w64 bid.0
+    ++ (to_be_bytes w16 (length actors) ++ (actors_bytes actors ++ (to_be_bytes w16 (length tids) ++ tids_bytes tids))))
 
 abbrev pub complete_bytes : Bid → ActorId → State → List ℕ
 complete_bytes bid actor state = (3 ∷ []) ++ (to_be_bytes w64 bid.0 ++ (to_be_bytes w16 actor.0 ++ state_bytes state))
@@ -59,7 +60,8 @@ done_bytes bid values = (7 ∷ []) ++ (to_be_bytes w64 bid.0 ++ (to_be_bytes w16
 
 abbrev pub act_done_bytes : Tid → Bid → ℕ → ℤ → List ActorId → List ℕ
 act_done_bytes tid m c value actors =
-    (8 ∷ []) ++ (to_be_bytes w64 tid.0 ++ (to_be_bytes w64 m.0 ++ (to_be_bytes w64 c ++ (field_bytes value ++ (to_be_bytes w16 (length actors) ++ actors_bytes actors)))))
+    (8 ∷ []) ++ (to_be_bytes w64 tid.0 ++ (to_be_bytes w64 m.0 ++ (to_be_bytes w64 c
+    ++ (field_bytes value ++ (to_be_bytes w16 (length actors) ++ actors_bytes actors)))))
 
 abbrev pub record_bytes : Record → List ℕ
 record_bytes (Genesis logs states) = genesis_bytes logs states
