@@ -40,6 +40,7 @@ format_in bytes = if nat_le (length bytes) NEW_LOG_SIZE then 2 else marked_forma
 abbrev pub item_bytes : List ℕ → List ℕ
 item_bytes item = to_be_bytes w16 (length item) ++ item
 
+-- the items, one behind the other
 abbrev pub items_bytes : List (List ℕ) → List ℕ
 items_bytes items = flat_map item_bytes items
 
@@ -55,10 +56,12 @@ blocks groups = flat_map (λ group. 1 ∷ group_bytes group) groups
 abbrev pub items_of : List (List (List ℕ)) → List (List ℕ)
 items_of groups = flat_map (λ (group : List (List ℕ)). group) groups
 
+-- an item has some bytes, and no more than two bytes can count
 pub record IsItem (item : List ℕ) : Type 0 where
   pub some : 1 ≤ length item
   pub short : length item ≤ LONGEST_ITEM
 
+-- a group of items whose bytes four bytes can count
 pub record IsGroup (group : List (List ℕ)) : Type 0 where
   pub items : AllByRecursion IsItem group
   pub short : length (items_bytes group) < 2 ^ 32

@@ -27,28 +27,35 @@ LogAtIsLog = (bytes : List ℕ) (end : ℕ) (items : List (List ℕ)) → IsLogA
 abbrev pub PlacedIsLogAt : Type 0
 PlacedIsLogAt = (bytes : List ℕ) (end : ℕ) (found : List LogItem) → IsPlacedLogAt bytes end found → IsLogAt bytes end (bytes_of found)
 
+-- damaged bytes are no log
 abbrev pub DamageIsNoLog : Type 0
 DamageIsNoLog = (bytes : List ℕ) (offset end : ℕ) (items : List (List ℕ)) → IsDamagedAt bytes offset → IsLogAt bytes end items → ⊥
 
+-- bytes are damaged at one gate alone
 abbrev pub OneDamage : Type 0
 OneDamage = (bytes : List ℕ) (offset other : ℕ) → IsDamagedAt bytes offset → IsDamagedAt bytes other → offset ≡ other
 
+-- bytes that do not begin as each log does are no log
 abbrev pub DifferenceIsNoLog : Type 0
 DifferenceIsNoLog = (bytes : List ℕ) (offset end : ℕ) (items : List (List ℕ)) → DiffersAt bytes offset → IsLogAt bytes end items → ⊥
 
+-- bytes that do not begin as each log does are not damaged
 abbrev pub DifferenceIsNoDamage : Type 0
 DifferenceIsNoDamage = (bytes : List ℕ) (offset gate : ℕ) → DiffersAt bytes offset → IsDamagedAt bytes gate → ⊥
 
+-- one byte is the first that differs
 abbrev pub OneDifference : Type 0
 OneDifference = (bytes : List ℕ) (offset other : ℕ) → DiffersAt bytes offset → DiffersAt bytes other → offset ≡ other
 
 -- ---- opening
 
+-- a device that is opened gets opening's operations
 abbrev pub OpeningAdds : Type 0
 OpeningAdds =
     (h : History) (new : Option History) (end : ℕ) (found : List LogItem) → Opened (Some h) new end found
     → AddsAll (Some h) new (opening_ops (content h))
 
+-- a device whose opening is refused gets a front of opening's operations
 abbrev pub RefusalAdds : Type 0
 RefusalAdds =
     (h : History) (new : Option History) (why : OpenNo) → Refused (Some h) new why

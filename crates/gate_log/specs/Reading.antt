@@ -33,6 +33,7 @@ pub record FillsItems (place : ℕ) (bytes : List ℕ) (old new : List LogItem) 
 pub record FillsNoItems (bytes : List ℕ) : Type 0 where
   pub none : (items : List (List ℕ)) → AllByRecursion IsItem items → bytes ≢ items_bytes items
 
+-- whether the bytes are items, and what is found then
 abbrev pub AreItems : Bool → ℕ → List ℕ → List LogItem → List LogItem → Type 0
 AreItems true place bytes old new = FillsItems place bytes old new
 AreItems false place bytes old new = FillsNoItems bytes
@@ -45,6 +46,7 @@ pub record BeginsPiece (bytes piece rest : List ℕ) : Type 0 where
   pub some : 0 < length rest
   pub parts : bytes ≡ counted_piece w32 piece ++ rest
 
+-- the bytes are no piece behind its length with more behind it
 pub record BeginsNoPiece (bytes : List ℕ) : Type 0 where
   pub none : (piece more : List ℕ) (gate : ℕ) → length piece < 2 ^ 32 → bytes ≢ counted_piece w32 piece ++ gate ∷ more
 
@@ -53,6 +55,7 @@ pub record BeginsGroup (place : ℕ) (bytes rest : List ℕ) (old new : List Log
   pub some : 0 < length rest
   pub parts : (group : List (List ℕ)) × IsGroup group × (bytes ≡ group_bytes group ++ rest) × (new ≡ old ++ placed_items (place + 5) group)
 
+-- the bytes are no group with a gate behind it
 pub record BeginsNoGroup (bytes : List ℕ) : Type 0 where
   pub none : (group : List (List ℕ)) (gate : ℕ) (more : List ℕ) → IsGroup group → bytes ≢ group_bytes group ++ gate ∷ more
 

@@ -3,7 +3,9 @@ use Rattle.std.specs.Prelude.{◌≡◌, ℕ, Bool, true, List, [], Option, None
 use Rattle.gate_log.specs.declared.logs.LogItem.{LogItem}
 use Rattle.snap_outside.specs.Disk.{History}
 
+-- an open log
 pub record LogState : Type 0 where
+  -- the device's history, where it tells it
   pub told : Option History
   -- the offset of the closed gate
   pub end : ℕ

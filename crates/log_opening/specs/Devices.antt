@@ -28,6 +28,7 @@ as_device log = record { told = log.told; faults = log.faults }
 abbrev pub devices_now : {D : Type 0} → (D → Option History) → (D → ℕ) → List LogState → List D → List Device
 devices_now told faults logs others = map as_device logs ++ devices_of told faults others
 
+-- the device with this number, from 0 on; past the last one a device that tells nothing
 abbrev pub device_at : List Device → ℕ → Device
 device_at devices log = slice_index_or devices log (record { told = None; faults = 0 })
 

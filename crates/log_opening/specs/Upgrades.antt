@@ -45,6 +45,7 @@ IsMadeReady old new items =
 abbrev pub IsNotMadeReady : LogState → LogState → List LogItem → Type 0
 IsNotMadeReady old new items = (items ≡ []) × (old.format ≡ 1) × IsUpgradeFailed old new
 
+-- the items that are listed for a log, and none past the last list
 abbrev pub items_at : List (List LogItem) → ℕ → List LogItem
 items_at found n = slice_index_or found n []
 

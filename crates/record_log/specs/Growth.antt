@@ -24,6 +24,7 @@ abbrev pub end_behind_groups : ℕ → List (List Record) → ℕ
 end_behind_groups end [] = end
 end_behind_groups end (group ∷ groups) = end_behind_groups (end_behind end (spelled group)) groups
 
+-- the records may be appended as one group at `end`
 pub record MayAppendGroup (end : ℕ) (group : List Record) : Type 0 where
   pub records : AllByRecursion IsRecord group
   pub may : MayAppend end (spelled group)

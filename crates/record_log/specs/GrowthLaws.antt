@@ -32,6 +32,7 @@ FaultGrows =
     → GrewBy old between end groups None → MayAppendGroup (end_behind_groups end groups) group
     → AddsUpToFault between new (append_ops (end_behind_groups end groups) (spelled group)) → GrewBy old new end groups (Some group)
 
+-- the closed gate moves on behind one more group
 abbrev pub EndGrows : Type 0
 EndGrows =
     (end : ℕ) (groups : List (List Record)) (group : List Record)

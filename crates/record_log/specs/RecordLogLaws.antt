@@ -16,17 +16,21 @@ use Rattle.record_log.specs.Records.{spelled, HoldsRecords, RecordLog, AreItemsO
 
 -- ---- bytes
 
+-- bytes hold one list of records at most
 abbrev pub OneListOfRecords : Type 0
 OneListOfRecords = (bytes : List ℕ) (rs xs : List Record) → HoldsRecords bytes rs → HoldsRecords bytes xs → rs ≡ xs
 
+-- bytes that hold records begin as each log does
 abbrev pub RecordsAreNotForeign : Type 0
 RecordsAreNotForeign =
     (bytes : List ℕ) (rs : List Record) (offset : ℕ) → NEW_LOG_SIZE < length bytes → HoldsRecords bytes rs → ¬ DiffersAt bytes offset
 
+-- bytes that hold records are not damaged
 abbrev pub RecordsAreNotDamaged : Type 0
 RecordsAreNotDamaged =
     (bytes : List ℕ) (rs : List Record) (offset : ℕ) → NEW_LOG_SIZE < length bytes → HoldsRecords bytes rs → ¬ IsDamagedAt bytes offset
 
+-- on a device that holds records no item is found that is no record
 abbrev pub NoRecordIsBad : Type 0
 NoRecordIsBad =
     (h : History) (new : Option History) (end offset : ℕ) (items : List LogItem) (rs : List Record)
@@ -34,31 +38,37 @@ NoRecordIsBad =
 
 -- ---- a device
 
+-- a device that was opened held the records that the found items are
 abbrev pub OpenedHeld : Type 0
 OpenedHeld =
     (h : History) (new : Option History) (end : ℕ) (items : List LogItem) (rs : List Record)
     → Opened (Some h) new end items → AreItemsOf items rs → HoldsRecords (content h) rs
 
+-- a device with a log of these items has a log of the records that they are
 abbrev pub OpenedHolds : Type 0
 OpenedHolds =
     (g : History) (end : ℕ) (items : List LogItem) (rs : List Record)
     → DeviceLog g end (bytes_of items) → AreItemsOf items rs → RecordLog g end rs
 
+-- what items are read as may be written
 abbrev pub ItemsAreRecords : Type 0
 ItemsAreRecords = (items : List LogItem) (rs : List Record) → AreItemsOf items rs → AllByRecursion IsRecord rs
 
+-- a device with a log of records holds them
 abbrev pub RecordLogHolds : Type 0
 RecordLogHolds = (h : History) (end : ℕ) (rs : List Record) → RecordLog h end rs → HoldsRecords (content h) rs
 
+-- opening loses no record, whatever a crash leaves
 abbrev pub OpeningKeepsRecords : Type 0
 OpeningKeepsRecords =
     (old new : Option History) (end : ℕ) (items : List LogItem)
     → Opened old new end items → MadeSafely old new → KeepsRecords old new
 
+-- an opening that is refused loses no record, whatever a crash leaves
 abbrev pub RefusalKeepsRecords : Type 0
 RefusalKeepsRecords = (old new : Option History) (no : OpenNo) → Refused old new no → MadeSafely old new → KeepsRecords old new
 
--- whatever the upgrade of an opened log comes to
+-- the upgrade of an opened log loses no record, whatever it comes to and whatever a crash leaves
 abbrev pub UpgradeKeepsRecords : Type 0
 UpgradeKeepsRecords =
     (old opened new : Option History) (found_end end : ℕ) (items : List LogItem)
@@ -67,11 +77,13 @@ UpgradeKeepsRecords =
 
 -- ---- sizes
 
+-- a few records may be appended to a log that is not near the end of offsets
 abbrev pub FewMayBeAppended : Type 0
 FewMayBeAppended =
     (end : ℕ) (rs : List Record)
     → AllByRecursion IsRecord rs → length rs ≤ MOST_RECORDS → end ≤ FARTHEST_APPEND → MayAppend end (spelled rs)
 
+-- the items of a few records are few bytes
 abbrev pub FewTakeLittle : Type 0
 FewTakeLittle =
     (rs : List Record) → AllByRecursion IsRecord rs → length rs ≤ MOST_RECORDS → length (items_bytes (spelled rs)) ≤ LARGEST_GROUP

@@ -28,6 +28,7 @@ pub record RecordLog (h : History) (end : ℕ) (rs : List Record) : Type 0 where
 
 -- ---- items that are records
 
+-- the item is the record's bytes
 abbrev pub IsItemOf : LogItem → Record → Type 0
 IsItemOf item r = IsRecord r × (item.bytes ≡ record_bytes r)
 
@@ -43,6 +44,7 @@ IsFirstBadIn items offset =
     × (items ≡ front ++ item ∷ behind) × ((rs : List Record) × AreItemsOf front rs)
     × IsFirstBad item.bytes bad × (offset ≡ item.at + bad)
 
+-- why the items are no records
 abbrev pub AreNoRecords : List LogItem → ItemsNo → Type 0
 AreNoRecords items (BadRecord offset) = IsFirstBadIn items offset
 AreNoRecords items Memory = ⊤

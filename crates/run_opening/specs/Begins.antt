@@ -21,6 +21,7 @@ use Rattle.run_opening.specs.declared.comparisons.TheConstants.{GREATEST_TO_BEGI
 abbrev pub fresh_opening : List State → Opening
 fresh_opening states = record { states = states; committed = []; next_tid = record { 0 = 1 }; next_bid = record { 0 = 1 }; next_c = 1 }
 
+-- no next number is too large to begin with
 pub record IsUnspent (o : Opening) : Type 0 where
   pub tid : o.next_tid.0 ≤ GREATEST_TO_BEGIN
   pub bid : o.next_bid.0 ≤ GREATEST_TO_BEGIN

@@ -53,6 +53,7 @@ abbrev pub first_groups : ℕ → List Record → List (List Record)
 first_groups zero added = as_groups added
 first_groups (suc n) added = []
 
+-- the records of the log with this number, and none past the last one
 abbrev pub records_at : List (List Record) → ℕ → List Record
 records_at logs n = slice_index_or logs n []
 

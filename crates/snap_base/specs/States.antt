@@ -12,8 +12,10 @@ pub record IsState (s : State) : Type 0 where
   pub len : length s.0 ≡ FIELDS
   pub fields : AllByRecursion (FitsSigned w64) s.0
 
+-- the numbers of the actors, in order
 abbrev pub actor_numbers : List ActorId → List ℕ
 actor_numbers actors = map (λ (a : ActorId). a.0) actors
 
+-- the numbers of the transactions, in order
 abbrev pub tid_numbers : List Tid → List ℕ
 tid_numbers tids = map (λ (t : Tid). t.0) tids

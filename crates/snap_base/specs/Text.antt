@@ -5,9 +5,11 @@ use Rattle.snap_base.specs.declared.verdicts.Place.{Place}
 use Rattle.snap_base.specs.declared.verdicts.Verdict.{Verdict}
 use Rattle.snap_base.specs.declared.verdicts.Verdict.TheVariants.{Committed, Code, BatchCode, Cascade, Died, Order, Unsure}
 
+-- a place: its batch, its side and its order, with points between them
 abbrev pub place_text : Place → List ℕ
 place_text p = decimal p.batch.0 ++ (codes "." ++ (decimal p.side ++ (codes "." ++ decimal p.order)))
 
+-- what became of a transaction, as its reply tells it
 abbrev pub verdict_text : Verdict → List ℕ
 verdict_text (Committed place value) = codes "committed " ++ (place_text place ++ (codes " " ++ signed_decimal value))
 verdict_text (Code place code) = codes "code " ++ (place_text place ++ (codes " " ++ decimal code))

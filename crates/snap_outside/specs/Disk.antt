@@ -22,6 +22,7 @@ settled bytes = record { synced = bytes; now = bytes; loose = [] }
 abbrev pub overwritten : List ℕ → ℕ → List ℕ → List ℕ
 overwritten old at piece = take at old ++ (piece ++ drop (at + length piece) old)
 
+-- the disk after one operation: a write makes its range loose, and a sync fixes all
 abbrev pub op_done : DevOp → Disk → Disk
 op_done (Write at piece) d = record { synced = d.synced; now = overwritten d.now at piece; loose = record { 0 = at; 1 = length piece } ∷ d.loose }
 op_done Sync d = settled d.now
@@ -31,6 +32,7 @@ abbrev pub disk_after : List DevOp → Disk → Disk
 disk_after [] d = d
 disk_after (op ∷ ops) d = disk_after ops (op_done op d)
 
+-- the disk of a device with this history, whose first bytes were all fixed
 abbrev pub disk : History → Disk
 disk h = disk_after h.ops (settled h.first)
 
@@ -38,6 +40,7 @@ disk h = disk_after h.ops (settled h.first)
 abbrev pub content : History → List ℕ
 content h = (disk h).now
 
+-- what a read of all bytes gives after these operations on a device that began with these bytes
 abbrev pub content_of : List ℕ → List DevOp → List ℕ
 content_of first ops = content (record { first = first; ops = ops })
 
@@ -64,9 +67,11 @@ EachMoment d (op ∷ ops) P = EachImage d P × EachMoment (op_done op d) ops P
 
 -- ---- what a call does to a device's history, where it is told
 
+-- the history with one operation more
 abbrev pub with_op : History → DevOp → History
 with_op h op = record { first = h.first; ops = h.ops ++ op ∷ [] }
 
+-- the history with these operations more
 abbrev pub with_ops : History → List DevOp → History
 with_ops h ops = record { first = h.first; ops = h.ops ++ ops }
 

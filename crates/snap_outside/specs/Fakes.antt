@@ -12,11 +12,14 @@ FailsNext s = Contains s.fails.items (min (s.calls + 1) (2 ^ 64 - 1))
 abbrev pub OneCall : Schedule → Schedule → Type 0
 OneCall before now = (now.fails ≡ before.fails) × (now.calls ≡ min (before.calls + 1) (2 ^ 64 - 1))
 
+-- the bytes that the source has not given yet
 abbrev pub source_left : MemSource → List ℕ
 source_left s = drop s.at s.bytes.items
 
+-- the source's next call is one of those that are to fail
 abbrev pub SourceFailsNext : MemSource → Type 0
 SourceFailsNext s = FailsNext s.schedule
 
+-- the sink's next call is one of those that are to fail
 abbrev pub SinkFailsNext : MemSink → Type 0
 SinkFailsNext s = FailsNext s.schedule

@@ -7,6 +7,7 @@ use Rattle.snap_outside.specs.Disk.{Disk, overwritten}
 abbrev pub filled : ℕ → (ℕ × ℕ) → List ℕ → List ℕ
 filled byte range old = overwritten old range.0 (replicate (min range.1 (length old - range.0)) byte)
 
+-- bytes with each of the ranges filled
 abbrev pub all_filled : ℕ → List (ℕ × ℕ) → List ℕ → List ℕ
 all_filled byte [] old = old
 all_filled byte (range ∷ ranges) old = filled byte range (all_filled byte ranges old)

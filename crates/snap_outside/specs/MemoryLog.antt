@@ -5,6 +5,7 @@ use Rattle.snap_outside.specs.Disk.{History, Disk, settled, disk_after, content}
 use Rattle.snap_outside.specs.Fakes.{FailsNext}
 use Rattle.snap_outside.specs.declared.memory.MemLog.{MemLog}
 
+-- the device's history: the bytes that it began with, and its operations since
 abbrev pub history_of : MemLog → History
 history_of d = record { first = d.first; ops = d.ops.items }
 
@@ -12,6 +13,7 @@ history_of d = record { first = d.first; ops = d.ops.items }
 abbrev pub disk_at : MemLog → ℕ → Disk
 disk_at d n = disk_after (take n d.ops.items) (settled d.first)
 
+-- the device's next call is one of those that are to fail
 abbrev pub LogFailsNext : MemLog → Type 0
 LogFailsNext d = FailsNext d.schedule
 

@@ -7,6 +7,7 @@ use Rattle.snap_outside.specs.Disk.{History, Disk, op_done, disk_after, EachImag
 
 -- ---- disks
 
+-- the disk after two lists of operations is that after the second on that after the first
 pub disk_join : (xs ys : List DevOp) (d : Disk) → disk_after (xs ++ ys) d ≡ disk_after ys (disk_after xs d)
 disk_join [] ys d = refl
 disk_join (x ∷ xs) ys d = disk_join xs ys (op_done x d)
@@ -23,6 +24,7 @@ moment_between d [] [] P all = all
 moment_between d [] (y ∷ ys) P all = all.0
 moment_between d (x ∷ xs) ys P all = moment_between (op_done x d) xs ys P all.1
 
+-- where P gives Q, what has P at each moment has Q at each moment
 pub moments_weaker : (P Q : List ℕ → Type 0) → ((image : List ℕ) → P image → Q image)
     → (d : Disk) (ops : List DevOp) → EachMoment d ops P → EachMoment d ops Q
 moments_weaker P Q then d [] all = λ image left. then image (all image left)
@@ -30,10 +32,12 @@ moments_weaker P Q then d (op ∷ ops) all = ((λ image left. then image (all.0 
 
 -- ---- histories
 
+-- a history that is as it was has no operations added
 pub adds_nothing : (old new : Option History) → new ≡ old → AddsAll old new []
 adds_nothing None new same = same
 adds_nothing (Some h) new same = same ∙ ap (λ (ops : List DevOp). Some (record { first = h.first; ops = ops })) (sym (append-nil h.ops))
 
+-- operations that are added, and then others, are all added
 pub adds_join : (old between new : Option History) (xs ys : List DevOp)
     → AddsAll old between xs → AddsAll between new ys → AddsAll old new (xs ++ ys)
 adds_join None between new xs ys first second = subst (λ (t : Option History). AddsAll t new ys) first second

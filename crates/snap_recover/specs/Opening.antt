@@ -116,6 +116,7 @@ abbrev pub commit_of : Kept → Key
 commit_of (kept.Batch bid tids values) = keys.Commit bid
 commit_of (kept.Act tid m c value) = keys.Act tid
 
+-- the batch, or the ACT, is in, and what is kept of it is what its last records tell
 abbrev pub IsKeptIn : List (List Record) → Kept → Type 0
 IsKeptIn logs (kept.Batch bid tids values) =
     IsIn logs bid × ((actors : List ActorId) × IsInfoOf logs bid actors tids)
@@ -156,6 +157,8 @@ pub record AreBegunWith (logs : List (List Record)) (first : List State) : Type 
   pub one : geneses logs ≡ Genesis (length logs) first ∷ []
   pub range : AllByRecursion (IsInRange (length first)) (all_of logs)
 
+-- The logs recover to the opening: nothing is lacking of what is in, and the opening has the states, what is committed, and the
+-- next numbers.
 pub record IsRecovered (logs : List (List Record)) (o : Opening) : Type 0 where
   pub begun : (first : List State) × AreBegunWith logs first × AreStatesOf logs first o.states
   pub whole : (bid : Bid) → IsIn logs bid → IsBatchWhole logs bid

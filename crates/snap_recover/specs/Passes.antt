@@ -106,12 +106,15 @@ AddsInfos key_at log logs rs old new = (n : ℕ) →
 
 -- ---- over all logs
 
+-- the set has the numbers of the batches, or the ACTs, that are in
 abbrev pub HasCommitted : Kind → List (List Record) → BTreeSet ℕ → Type 0
 HasCommitted kind logs set = (n : ℕ) → In set n ↔ HasKey (log_of logs n) (commit_key kind n)
 
+-- the set has the parts of batches, or ACTs, that stand in their actor's log
 abbrev pub HasAllParts : Kind → List (List Record) → BTreeSet (ℕ × ℕ) → Type 0
 HasAllParts kind logs set = (x : ℕ × ℕ) → InPair set x ↔ HasKey (log_of logs x.1) (part_key kind x)
 
+-- the map has the place of the last record with each key in its log
 abbrev pub HasInfos : (ℕ → Key) → List (List Record) → BTreeMap ℕ ℕ → Type 0
 HasInfos key_at logs places = (n : ℕ) → IsLastPlaced (key_at n) (log_of logs n) None (tree.get nat_cmp places n)
 
@@ -143,10 +146,12 @@ pub record Replays (log logs : ℕ) (Batches Acts : ℕ → Type 0) (rs : List R
 
 -- ---- what is whole
 
+-- nothing is lacking of the batch, or the ACT, with this number
 abbrev pub MemberWhole : Kind → List (List Record) → ℕ → Type 0
 MemberWhole kinds.Batch logs n = IsBatchWhole logs (bid_at n)
 MemberWhole kinds.Act logs n = IsActWhole logs (tid_at n)
 
+-- the batch, or the ACT, with this number lacks the key in this log
 abbrev pub MemberLacks : Kind → List (List Record) → ℕ → Key → ℕ → Type 0
 MemberLacks kinds.Batch logs n k log = LacksInfo logs (bid_at n) k log ⊎ LacksComplete logs (bid_at n) k log
 MemberLacks kinds.Act logs n k log = LacksPrepare logs (tid_at n) k log
@@ -169,6 +174,7 @@ IsLackOf kind logs n (Missing k log) = MemberLacks kind logs n k log
 IsLackOf kind logs n (Values k log count found) = ⊥
 IsLackOf kind logs n Memory = ⊤
 
+-- the first key that is lacking of this kind, and its log
 abbrev pub IsFirstLackingOf : Kind → List (List Record) → Key → ℕ → Type 0
 IsFirstLackingOf kinds.Batch logs k log = IsFirstBatchLacking logs k log
 IsFirstLackingOf kinds.Act logs k log = IsFirstActLacking logs k log
@@ -252,6 +258,7 @@ HasIn kind logs numbers = AllByRecursion (λ n. HasKey (log_of logs n) (commit_k
 abbrev pub InSpots : BTreeSet Spot → Spot → Type 0
 InSpots set x = IsTrue (bag.contains spot_cmp set x)
 
+-- where something kept stands
 abbrev pub spot_of : Kept → Spot
 spot_of (kept.Batch bid tids values) = (bid.0, 0, 0, 0)
 spot_of (kept.Act tid m c value) = (m.0, 1, c, tid.0)
@@ -275,6 +282,7 @@ IsSpotIn logs x =
     ((n : ℕ) × IsIn logs (bid_at n) × IsBatchSpot n x)
     ⊎ ((n : ℕ) × IsActIn logs (tid_at n) × IsActSpot logs n x)
 
+-- the set has the spots of all that is in
 abbrev pub HasSpots : List (List Record) → BTreeSet Spot → Type 0
 HasSpots logs set = (x : Spot) → InSpots set x ↔ IsSpotIn logs x
 

@@ -76,6 +76,7 @@ IsFirstLackingValues logs k log count found =
 abbrev pub NoneMissing : List (List Record) → Type 0
 NoneMissing logs = ((bid : Bid) → IsIn logs bid → IsBatchWhole logs bid) × ((tid : Tid) → IsActIn logs tid → IsActWhole logs tid)
 
+-- The logs are refused for this cause. A cause holds only where none that stands before it does. Memory says nothing of the logs.
 abbrev pub IsRefused : List (List Record) → RecoverNo → Type 0
 IsRefused logs NoGenesis = geneses logs ≡ []
 IsRefused logs TwoGenesis = 2 ≤ length (geneses logs)

@@ -24,11 +24,13 @@ use Rattle.snap_recover.specs.declared.causes.LogCause.TheVariants as cause
 use Rattle.snap_report.specs.declared.statuses.Status.{Status}
 use Rattle.snap_report.specs.declared.statuses.Status.TheVariants as status
 
+-- a line feed
 abbrev pub line_end : List ℕ
 line_end = 10 ∷ []
 
 -- ---- replies
 
+-- the line of a reply to the transaction at this place of the text
 abbrev pub reply_text : ℕ → Verdict → List ℕ
 reply_text tx verdict = codes "tx " ++ (decimal tx ++ (codes " " ++ (verdict_text verdict ++ line_end)))
 
@@ -54,6 +56,7 @@ abbrev pub shown_fields : List ℤ → List ℤ
 shown_fields [] = []
 shown_fields (z ∷ zs) = z ∷ without_last_zeros zs
 
+-- the line of an actor
 abbrev pub actor_text : ℕ → State → List ℕ
 actor_text actor s = codes "actor " ++ (decimal actor ++ (flat_map (λ z. codes " " ++ signed_decimal z) (shown_fields s.0) ++ line_end))
 
@@ -64,6 +67,7 @@ actors_text actor (s ∷ states) = actor_text actor s ++ actors_text (actor + 1)
 
 -- ---- the end
 
+-- the line of a run's end
 abbrev pub end_text : ℕ → ℕ → ℕ → List ℕ
 end_text committed aborted batches =
     codes "end committed " ++ (decimal committed ++ (codes " aborted " ++ (decimal aborted ++ (codes " batches " ++ (decimal batches ++ line_end)))))
@@ -89,6 +93,7 @@ abbrev pub value_text : Option ℤ → List ℕ
 value_text None = codes "unknown"
 value_text (Some value) = signed_decimal value
 
+-- the line of a transaction that is kept
 abbrev pub kept_text : Place → Option ℤ → List ℕ
 kept_text place value = codes "kept " ++ (place_text place ++ (codes " " ++ (value_text value ++ line_end)))
 
@@ -176,6 +181,7 @@ log_cause_text (cause.Values k kept found) = codes "Values"
 log_cause_text (cause.Spent number) = codes "Spent"
 log_cause_text (cause.Differs what kept text) = codes "Differs"
 
+-- the line of a status on standard error, and nothing for `Done`
 abbrev pub status_text : Status → List ℕ
 status_text status.Done = []
 status_text (status.Usage word) = codes "snapper: usage: word " ++ (decimal word ++ line_end)

@@ -12,6 +12,7 @@ summary_object s =
     ++ (codes ",\"events\":" ++ (decimal s.events ++ (codes ",\"total\":\"" ++ (signed_decimal s.total
     ++ (codes "\",\"transactions\":" ++ (decimal s.transactions ++ codes "}")))))))))))
 
+-- the line of a summary
 abbrev pub summary_text : Summary → List ℕ
 summary_text s = summary_object s ++ line_end
 
