@@ -1,3 +1,5 @@
+//! The place of a method among those of a program.
+
 ghost use Rattle.std.specs.Prelude.{◌≡◌, ℕ, ◌<◌, ◌≢◌, length, IfSome, IfNone, slice_index_or};
 ghost use Rattle.aml_tree.specs.declared.trees.Method.{Method};
 

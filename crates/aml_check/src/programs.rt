@@ -1,3 +1,5 @@
+//! Programs whose names are resolved, and what may be asked of one.
+
 use crate::places::place_of_method;
 use aml_tree::{Block, Program, Statement};
 use std::marker::Model;

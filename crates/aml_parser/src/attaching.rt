@@ -53,7 +53,7 @@ fn joined(
     makers::chain(alloc, first, rest)
 }
 
-/// The same of a chain.
+/// A chain with an operator and its operand behind it.
 #[cycle(attaching)]
 fn attach_chain(
     alloc: Global,
@@ -71,7 +71,7 @@ fn attach_chain(
     }
 }
 
-/// The same of a chain whose last link is apart.
+/// A chain whose last link is apart, with an operator and its operand behind it.
 #[cycle(attaching)]
 fn attach_last(
     alloc: Global,

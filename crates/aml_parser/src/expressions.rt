@@ -42,7 +42,7 @@ pub(crate) fn primary(
     }
 }
 
-/// The same by the sign or keyword that it begins with.
+/// An operand that begins with a sign or a keyword, which stands at the place.
 #[cycle(expressions)]
 fn primary_by(
     alloc: Global,

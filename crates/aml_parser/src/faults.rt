@@ -1,3 +1,5 @@
+//! What is wrong with a text, and where.
+
 use aml_tokens::TextCause;
 use snap_base::Memory;
 
@@ -6,7 +8,7 @@ use snap_base::Memory;
 pub struct TextFault {
     /// The line, from 1 on.
     pub line: u32,
-    /// The byte in its line, from 1 on.
+    /// The byte's place in that line, from 1 on.
     pub column: u32,
     pub cause: TextCause,
 }

@@ -29,7 +29,8 @@ pub fn faults_stand_in_the_text(_text: &[u8])
     ensures { (f : TextFault) → IsFirstTextFault _text.now f → f.line ≤ 1 + length _text.now }
 {}
 
-/// So does each word and each closing brace of the program that a text spells.
+/// Each word and each closing brace of the program that a text spells stands in one of the text's lines, of which there are
+/// no more than bytes and one.
 pub fn lines_stand_in_the_text(_text: &[u8])
     ensures { (p : List TextMethod) → IsProgramText _text.now p → LinesUpTo (1 + length _text.now) p }
 {}

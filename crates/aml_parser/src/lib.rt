@@ -1,5 +1,5 @@
 //! The reader of the method language: a program's text as the tree that it spells, or the text's first
-//! fault, with its line and column.
+//! fault, with the line and the column where it stands.
 //!
 //! Its callers are those that have a text: the reader of work texts, and tests. What stands on programs alone
 //! stands on `aml_tree`, which has the trees, the grammar and the limits. The first fault of a text that is no

@@ -1,3 +1,5 @@
+//! A text as a program, or its first fault.
+
 ghost use Rattle.std.specs.Prelude.{◌≡◌, Ok, Err, map, IfOk, IsErrOf, slice_get};
 ghost use Rattle.aml_tokens.specs.Lexing.{tokens, places, stop, line_at, column_at};
 ghost use Rattle.aml_tree.specs.Tree.{method_tree, program_tree};
@@ -13,7 +15,7 @@ use aml_tree::{Method, Program};
 use snap_base::Sequence;
 use std::alloc::Global;
 
-/// Reads the text of a program.
+/// The program that a text spells, or the text's first fault, with the line and the column where it stands.
 pub fn parse_program(alloc: Global, text: &str) -> Result<Program<Word, Word>, TextNo>
     // What is read is the program that the text spells.
     ensures found { IfOk result (λ p. IsProgramText text.now (program_tree p)) }
@@ -23,7 +25,7 @@ pub fn parse_program(alloc: Global, text: &str) -> Result<Program<Word, Word>, T
     parse_program_bytes(alloc, text.as_bytes())
 }
 
-/// The same of a text that is given by its bytes.
+/// The program that the bytes of a text spell, or the text's first fault, with the line and the column where it stands.
 pub fn parse_program_bytes(alloc: Global, text: &[u8]) -> Result<Program<Word, Word>, TextNo>
     ensures found { IfOk result (λ p. IsProgramText text.now (program_tree p)) }
     ensures fault { (fault : TextFault) → IsErrOf result (TextNo.Fault fault) → IsFirstTextFault text.now fault }

@@ -1,3 +1,5 @@
+//! What a reader of tokens asks for, and why it gives no tree.
+
 use aml_tokens::TextCause;
 use snap_base::Memory;
 

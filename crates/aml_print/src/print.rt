@@ -1,3 +1,5 @@
+//! A program, its methods and their parameters as a text.
+
 ghost use Rattle.std.specs.Prelude.{◌≡◌, ℕ, ◌≤◌, List, IfOk, OnOk, length, map, string_bytes};
 ghost use Rattle.std.specs.Str.{IsUtf8};
 ghost use Rattle.aml_tokens.specs.Writing.{nothing_written, with_tokens};

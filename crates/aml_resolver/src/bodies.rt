@@ -20,7 +20,7 @@ use std::alloc::Global;
 // In each function `methods` are the program's, `is_read` says whether the method promises only to read, and
 // `names` are the visible variables.
 
-/// Resolves a block. Behind it the same variables are visible as before.
+/// Resolves a block. Behind it those variables are visible that were visible before it.
 #[cycle(bodies)]
 pub(crate) fn block(
     alloc: Global,

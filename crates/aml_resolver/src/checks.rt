@@ -1,3 +1,5 @@
+//! A program with its names resolved, or its first fault.
+
 ghost use Rattle.std.specs.Prelude.{◌≡◌, [], ◌∷◌, ◌++◌, map, IfOk, IsErrOf};
 ghost use Rattle.aml_tree.specs.Tree.{method_tree, program_tree};
 ghost use Rattle.aml_tree.specs.Programs.{IsProgram};
@@ -13,7 +15,9 @@ use aml_tree::{Method, Program};
 use snap_base::{Memory, Sequence};
 use std::alloc::Global;
 
-/// Resolves the names of a program.
+/// The program with each name resolved to a place, or its first fault in the order of the text: a name that is unknown or
+/// taken, a wrong number of arguments, a broken promise only to read, or a method that may end without a value. The tree is
+/// consumed, also where it is refused.
 pub fn check(alloc: Global, program: Program<Word, Word>) -> Result<Checked, CheckNo>
     // The program is one that a text may spell, so the places fit.
     requires { IsProgram (program_tree program) }

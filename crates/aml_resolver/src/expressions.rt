@@ -44,7 +44,7 @@ pub(crate) fn expression(
     }
 }
 
-/// The same of further operands and the operators before them.
+/// Resolves the further operands of a chain, each behind its operator.
 #[cycle(expressions)]
 fn links(
     alloc: Global,

@@ -1,3 +1,5 @@
+//! What is wrong with names, promises and ends, and where.
+
 use snap_base::Memory;
 
 /// What is wrong with a program's names, promises and ends.

@@ -1,3 +1,5 @@
+//! A method between two statements: its variables and its place.
+
 use crate::Spot;
 
 /// Where a method stands, and its variables.

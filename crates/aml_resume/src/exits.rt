@@ -1,3 +1,5 @@
+//! Why the run of a method has ended.
+
 /// Why a method's run has ended.
 #[derive(Clone, Copy, Debug, PartialEq, Eq)]
 pub enum Exit {

@@ -1,3 +1,5 @@
+//! A statement whose inner block is open.
+
 /// A statement whose inner block is open.
 #[derive(Clone, Copy, Debug, PartialEq, Eq)]
 pub struct Spot {

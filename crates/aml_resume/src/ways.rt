@@ -1,3 +1,5 @@
+//! How a block is left.
+
 /// How a block, or a part of it, is left.
 #[derive(Clone, Copy, Debug, PartialEq, Eq)]
 pub(crate) enum Way {

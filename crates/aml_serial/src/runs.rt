@@ -1,3 +1,5 @@
+//! One transaction alone, and transactions one after the other.
+
 ghost use Rattle.std.specs.Prelude.{◌≡◌, ◌<◌, ℕ, ◌≤◌, length, take, IfOk, OnErr};
 ghost use Rattle.std.specs.List.{AllByRecursion};
 ghost use Rattle.aml_check.specs.Checked.{methods_of};
@@ -53,7 +55,7 @@ fn has_value(outcome: &Result<TxResult, Memory>) -> bool
     matches!(outcome, Ok(TxResult::Value(_)))
 }
 
-/// Runs one transaction. A failure leaves the world as it was, and so does want of memory. A world of
+/// Runs one transaction. A failure and want of memory leave the world as it was. A world of
 /// more than 65,535 actors, which is more than a slice counts and no text has, is told as want of memory.
 pub fn run_alone(
     alloc: Global,

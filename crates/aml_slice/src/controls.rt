@@ -1,3 +1,5 @@
+//! What is left of a transaction, and what may be asked of it.
+
 use crate::running::Running;
 use aml_check::MOST_CALLS;
 use snap_base::{ActorId, Tid};

@@ -1,3 +1,5 @@
+//! An open call.
+
 use aml_resume::Activation;
 
 /// A call that is open: the actor on which its method runs, and where the method stands.

@@ -30,7 +30,7 @@ pub fn transactions_begin(program: &Checked)
 }
 
 /// A slice ends at the first moment at which its transaction calls or returns to another actor, or ends; it
-/// keeps what the rest of the transaction gives, and hands on a rest of the same transaction.
+/// keeps what the rest of the transaction gives, and hands on a rest of that transaction.
 pub fn each_slice(program: &Checked)
     ensures moment { (count : ℕ) (c : Rest) (s : State) → IsRest (methods_of program.now) count c → IsMoment (methods_of program.now) count c s (slice_end (methods_of program.now) count c s).state (slice_end (methods_of program.now) count c s).next }
     ensures kept { (count : ℕ) (c : Rest) (s : State) → IsRest (methods_of program.now) count c → IsRestKept (methods_of program.now) count c s (slice_end (methods_of program.now) count c s).state (slice_end (methods_of program.now) count c s).next }
@@ -62,7 +62,7 @@ pub fn slices_finish(program: &Checked)
 }
 
 /// A transaction whose root promises only to read leaves the state of each actor that it comes to: all its calls are
-/// of methods that promise the same, at its beginning and behind each slice, and each slice leaves the state.
+/// of methods that promise only to read, at its beginning and behind each slice, and each slice leaves the state.
 pub fn readers_leave(program: &Checked)
     ensures begins { (tid : Tid) (tx : Tx) → IsTrue (method_at (methods_of program.now) tx.method).is_read → AllReading (methods_of program.now) (started tid tx) }
     ensures state { (count : ℕ) (c : Rest) (s : State) → AllReading (methods_of program.now) c → (slice_end (methods_of program.now) count c s).state ≡ s }

@@ -74,7 +74,7 @@ fn allowance(alloc: Global, kind: Kind, uses: &Sequence<(ActorId, u8)>) -> Resul
     })
 }
 
-/// The same once the root is called, which is never refused.
+/// What a transaction may call once its root is called. That call is never refused.
 fn with_root(alloc: Global, tx: &Tx) -> Result<Allowance, Memory>
     requires { (p : List CheckedMethod) × (actors : ℕ) × IsTransaction p actors tx.now }
     ensures admitted { IfOk result (λ a. (w : List State) → admitted tx.now.actor.0 (beginning w tx.now) ≡ Ok (progress_with a 0 w)) }

@@ -1,3 +1,5 @@
+//! Which bytes make words, blanks and comparisons, and which byte goes on with the piece before it.
+
 ghost use Rattle.std.specs.Prelude.{◌≡◌};
 ghost use Rattle.aml_tokens.specs.Bytes.{is_letter, is_digit, is_word_byte, is_blank, begins_comparison};
 ghost use Rattle.aml_tokens.specs.Lexing.{joins};
@@ -9,6 +11,7 @@ pub fn is_letter(byte: u8) -> bool
     byte.is_ascii_alphabetic() || byte == b'_'
 }
 
+/// One of `0` to `9`.
 pub fn is_digit(byte: u8) -> bool
     ensures { result ≡ is_digit byte }
 {

@@ -15,7 +15,8 @@ pub fn written_is_read()
     ensures { (source : List ℕ) → stop source ≡ None → IsReadBack (with_tokens nothing_written (tokens source)).text (tokens source) }
 {}
 
-/// So are any tokens that a text may have, where the line is not too long; its bytes are ASCII in any case.
+/// Any tokens that a text may have are read back where they are written in one line that is not too long. The line's bytes are
+/// ASCII, however long it is.
 pub fn tokens_are_read()
     ensures ascii { (ts : List Token) → AllByRecursion IsToken ts → IsAscii (with_tokens nothing_written ts).text }
     ensures read { (ts : List Token) → AllByRecursion IsToken ts → length (with_tokens nothing_written ts).text ≤ LONGEST_PROGRAM → IsReadBack (with_tokens nothing_written ts).text ts }

@@ -1,3 +1,5 @@
+//! The tokens of a text, their places, and where the first piece stands that is no token.
+
 ghost use Rattle.std.specs.Prelude.{◌≡◌, ℕ, ◌+◌, IfOk, length};
 ghost use Rattle.aml_tokens.specs.Token.{tokens_of};
 ghost use Rattle.aml_tokens.specs.Lexing.{Piece, within, token_in, tokens, places, stop};

@@ -1,3 +1,5 @@
+//! Where a piece of a text begins and where it ends, past blanks and comments.
+
 ghost use Rattle.std.specs.Prelude.{◌≡◌, ◌≢◌, ◌<◌, ◌≤◌, false, ◌∷◌, length, slice_index};
 ghost use Rattle.std.specs.List.{between};
 ghost use Rattle.aml_tokens.specs.Bytes.{is_blank};

@@ -1,3 +1,5 @@
+//! The line and the column of a place in a text.
+
 ghost use Rattle.std.specs.Prelude.{◌≡◌, ◌==◌, ◌≤◌, length};
 ghost use Rattle.std.specs.List.{count_by};
 ghost use Rattle.aml_tokens.specs.Lexing.{told, line_at, column_at, behind_line_feed};
@@ -22,6 +24,7 @@ pub fn told(n: usize) -> u32
     n.min(u32::MAX as usize) as u32
 }
 
+/// How many line feeds stand in the bytes.
 pub fn line_feeds(bytes: &[u8]) -> usize
     ensures count { result ≡ count_by (λ b. b == 10) bytes.now }
     ensures within { result ≤ length bytes.now }

@@ -1,3 +1,5 @@
+//! How keywords, signs and fields are written.
+
 ghost use Rattle.std.specs.Prelude.{◌≡◌, [], slice_index_or};
 ghost use Rattle.aml_tokens.specs.Bytes.{symbol_bytes};
 ghost use Rattle.aml_tokens.specs.Lexing.{field_words};

@@ -1,3 +1,5 @@
+//! Tokens, the names and words that trees keep of them, and what may be wrong with a text.
+
 use snap_base::Sequence;
 
 /// A name of a method or a variable, as its bytes: a letter or `_`, then letters, digits and `_`.
@@ -68,7 +70,7 @@ pub enum Symbol {
     Remainder,
 }
 
-/// A token, which has its line where a tree keeps it.
+/// A token. Where a tree keeps a token's line, the token has it, from 1 on.
 #[derive(Clone, Copy)]
 pub enum Token<'a> {
     Name { name: &'a [u8], line: u32 },

@@ -1,3 +1,5 @@
+//! A text in one line that tokens are written to.
+
 ghost use Rattle.std.specs.Prelude.{◌≡◌, ◌≤◌, [], ◌∷◌, ◌++◌, OnOk, length, drop, slice_index, if◌then◌else◌};
 ghost use Rattle.aml_tokens.specs.Lexing.{joins};
 
@@ -9,7 +11,7 @@ use std::alloc::Global;
 use std::marker::Model;
 
 /// A text that tokens are written to, all in one line, with a blank only where two of them would make
-/// one piece. So it is no longer than any text of the same tokens.
+/// one piece. It is no longer than any other text of these tokens.
 #[derive(Drop)]
 pub struct Writer {
     text: Vec<u8>,
@@ -53,13 +55,14 @@ impl Writer {
         text
     }
 
-    /// Writes the bytes of a name. For want of memory, here and below, nothing is said of the text.
+    /// Writes the bytes of a name. Want of memory leaves an unknown text.
     pub fn name(&mut self, name: &[u8]) -> Result<(), Memory>
         ensures { OnOk result (self.new ≡ with_piece self.old name.now) }
     {
         self.piece(name)
     }
 
+    /// Writes a number in decimal. Want of memory leaves an unknown text.
     pub fn number(&mut self, alloc: Global, number: u64) -> Result<(), Memory>
         ensures { OnOk result (self.new ≡ with_piece self.old (decimal number)) }
     {
@@ -67,25 +70,28 @@ impl Writer {
         self.piece(digits.as_bytes())
     }
 
-    /// Writes a field, 0 to 15.
+    /// Writes a field, 0 to 15. Want of memory leaves an unknown text.
     pub fn field(&mut self, field: u8) -> Result<(), Memory>
         ensures { OnOk result (self.new ≡ with_piece self.old (slice_index_or field_words field [])) }
     {
         self.piece(field_bytes(field))
     }
 
+    /// Writes a keyword or a sign. Want of memory leaves an unknown text.
     pub fn symbol(&mut self, symbol: Symbol) -> Result<(), Memory>
         ensures { OnOk result (self.new ≡ with_piece self.old (symbol_bytes symbol)) }
     {
         self.piece(symbol_bytes(symbol))
     }
 
+    /// Writes the word `let`. Want of memory leaves an unknown text.
     pub fn let_word(&mut self) -> Result<(), Memory>
         ensures { OnOk result (self.new ≡ with_piece self.old (codes "let")) }
     {
         self.piece(b"let")
     }
 
+    /// Writes the brace that closes a block. Want of memory leaves an unknown text.
     pub fn close_brace(&mut self) -> Result<(), Memory>
         ensures { OnOk result (self.new ≡ with_piece self.old (codes "}")) }
     {

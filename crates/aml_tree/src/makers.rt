@@ -15,6 +15,7 @@ pub fn number<V: Drop>(n: u64) -> Expression<V>
     Expression::Number(n)
 }
 
+/// A variable.
 pub fn variable<V: Drop>(variable: V) -> Expression<V>
     ensures { expression_tree result ≡ Variable variable }
 {
@@ -28,26 +29,28 @@ pub fn field<V: Drop>(field: u8, line: u32) -> Expression<V>
     Expression::Field { field, line }
 }
 
+/// The number of the actor on which the method runs, `self`.
 pub fn own<V: Drop>() -> Expression<V>
     ensures { expression_tree result ≡ Own }
 {
     Expression::Own
 }
 
-/// An expression in parentheses.
+/// An expression in parentheses. Want of memory gives up the expression.
 pub fn group<V: Drop>(alloc: Global, inner: Expression<V>) -> Result<Expression<V>, Memory>
     ensures { IfOk result (λ e. expression_tree e ≡ Group (expression_tree inner)) }
 {
     Ok(Expression::Group(Box::new(alloc, inner)?))
 }
 
+/// The negative of an expression. Want of memory gives up the expression.
 pub fn negative<V: Drop>(alloc: Global, inner: Expression<V>) -> Result<Expression<V>, Memory>
     ensures { IfOk result (λ e. expression_tree e ≡ Negative (expression_tree inner)) }
 {
     Ok(Expression::Negative(Box::new(alloc, inner)?))
 }
 
-/// An operand and further ones that operators join to it from the left.
+/// An operand and further ones that operators join to it from the left. Want of memory gives them up.
 pub fn chain<V: Drop>(
     alloc: Global,
     first: Expression<V>,
@@ -61,6 +64,8 @@ pub fn chain<V: Drop>(
     })
 }
 
+/// Puts an operator and the operand behind it at the end of a chain. Want of memory gives up the operand and leaves unknown
+/// links.
 pub fn put_link<V: Drop>(
     rest: &mut Vec<Link<Expression<V>>>,
     operator: Operator,
@@ -72,6 +77,7 @@ pub fn put_link<V: Drop>(
     Ok(())
 }
 
+/// Puts a value at the end of the arguments of a call. Want of memory gives up the value and leaves unknown arguments.
 pub fn put_argument<V: Drop>(
     arguments: &mut Vec<Expression<V>>,
     value: Expression<V>,
@@ -82,7 +88,7 @@ pub fn put_argument<V: Drop>(
     Ok(())
 }
 
-/// A statement that begins in the line; so do a call and an assignment to a field.
+/// `let`: a new variable takes the value. The statement begins in the line, which counts from 1 on.
 pub fn let_statement<V: Drop, M: Drop>(
     line: u32,
     variable: V,
@@ -97,6 +103,8 @@ pub fn let_statement<V: Drop, M: Drop>(
     }
 }
 
+/// A new variable takes what a method gives that is called on an actor. The statement begins in the line, which counts from 1
+/// on.
 pub fn call_statement<V: Drop, M: Drop>(
     line: u32,
     variable: V,
@@ -115,12 +123,14 @@ pub fn call_statement<V: Drop, M: Drop>(
     }
 }
 
+/// A variable that there is takes the value.
 pub fn set_statement<V: Drop, M: Drop>(variable: V, value: Expression<V>) -> Statement<V, M>
     ensures { (rest : Code V M) → statement_tree result rest ≡ Set variable (expression_tree value) rest }
 {
     Statement::Set { variable, value }
 }
 
+/// The actor's field, 0 to 15, takes the value. The statement begins in the line, which counts from 1 on.
 pub fn field_statement<V: Drop, M: Drop>(
     line: u32,
     field: u8,
@@ -131,6 +141,7 @@ pub fn field_statement<V: Drop, M: Drop>(
     Statement::SetField { line, field, value }
 }
 
+/// The block where the condition holds.
 pub fn if_statement<V: Drop, M: Drop>(
     condition: Expression<V>,
     first: Block<Statement<V, M>>,
@@ -140,6 +151,7 @@ pub fn if_statement<V: Drop, M: Drop>(
     Statement::If { condition, first }
 }
 
+/// The first block where the condition holds, and else the other.
 pub fn if_else_statement<V: Drop, M: Drop>(
     condition: Expression<V>,
     first: Block<Statement<V, M>>,
@@ -154,6 +166,7 @@ pub fn if_else_statement<V: Drop, M: Drop>(
     }
 }
 
+/// The block as long as the condition holds.
 pub fn while_statement<V: Drop, M: Drop>(
     condition: Expression<V>,
     body: Block<Statement<V, M>>,
@@ -163,19 +176,21 @@ pub fn while_statement<V: Drop, M: Drop>(
     Statement::While { condition, body }
 }
 
+/// The transaction fails with the code, 1 to 999.
 pub fn fail_statement<V: Drop, M: Drop>(code: u16) -> Statement<V, M>
     ensures { (rest : Code V M) → statement_tree result rest ≡ Fail code rest }
 {
     Statement::Fail { code }
 }
 
+/// The method ends with the value.
 pub fn return_statement<V: Drop, M: Drop>(value: Expression<V>) -> Statement<V, M>
     ensures { (rest : Code V M) → statement_tree result rest ≡ Return (expression_tree value) rest }
 {
     Statement::Return { value }
 }
 
-/// Puts a statement at the end of a block.
+/// Puts a statement at the end of a block. Want of memory gives up the statement and leaves an unknown block.
 pub fn put_statement<V: Drop, M: Drop>(
     block: &mut Vec<Statement<V, M>>,
     statement: Statement<V, M>,

@@ -1,3 +1,5 @@
+//! The types of a tree: programs, methods, blocks, statements and expressions.
+
 use aml_tokens::Word;
 use snap_base::Sequence;
 
@@ -12,7 +14,7 @@ pub struct Program<V, M> {
 #[derive(Drop)]
 pub struct Method<V, M> {
     /// Whether the word `read` stands before `method`. A checked program keeps the promise: such a method
-    /// assigns no field and calls only methods that promise the same.
+    /// assigns no field and calls only methods that promise only to read.
     pub is_read: bool,
     pub name: Word,
     pub parameters: Sequence<V>,
@@ -82,6 +84,7 @@ pub enum Statement<V, M> {
     },
 }
 
+/// An expression, over what stands for a variable. Where it has a line, it stands there, from 1 on.
 #[derive(Drop)]
 pub enum Expression<V> {
     /// A number from 0 to 2^63 - 1.

@@ -1,3 +1,5 @@
+//! What a command line may ask for.
+
 /// What the words of a command line ask for.
 #[derive(Clone, Copy, Debug, PartialEq, Eq)]
 pub enum Command {

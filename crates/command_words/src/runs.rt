@@ -111,7 +111,7 @@ fn read_no_workers(words: &[String], seed: u64) -> Result<Command, u32>
     read_last_zero(rest, seed)
 }
 
-/// The words behind these and `--workers`: 0, and nothing else.
+/// The words behind `run --seed`, its number and `--workers`: 0, and nothing else.
 fn read_last_zero(words: &[String], seed: u64) -> Result<Command, u32>
     ensures { MatchResult result
         (IsCommand (codes "run" ∷ codes "--seed" ∷ decimal seed ∷ codes "--workers" ∷ map string_bytes words.now))

@@ -97,7 +97,7 @@ fn read_bench_workers(words: &[String], count: u32, seed: u64) -> Result<Command
     read_last_workers(rest, count, seed)
 }
 
-/// The words behind these and `--workers`.
+/// The words behind `bench`, its two numbers and `--workers`.
 fn read_last_workers(words: &[String], count: u32, seed: u64) -> Result<Command, u32>
     requires { count ≤ MOST_TRANSACTIONS }
     ensures { MatchResult result

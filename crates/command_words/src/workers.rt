@@ -1,3 +1,5 @@
+//! How many workers a command line asks for.
+
 ghost use Rattle.std.specs.Prelude.{map, string_bytes};
 ghost use Rattle.command_words.specs.Workers.{AskFor};
 

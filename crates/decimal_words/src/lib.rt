@@ -42,7 +42,7 @@ fn is_plain(word: &[u8]) -> bool
     !word.is_empty() && word[0] != b'+' && (word.len() == 1 || word[0] != b'0')
 }
 
-// The same, where a '-' may stand before what is not zero.
+// No '+' stands first, no zero before other bytes, and a '-' only before what is not zero.
 fn is_signed_plain(word: &[u8]) -> bool
     ensures { IsTrue result ↔ IsSignedPlain word.now }
 {

@@ -1,3 +1,5 @@
+//! What is wrong with a work text, and where.
+
 ghost use Rattle.std.specs.Prelude.{◌≡◌};
 ghost use Rattle.snap_work.specs.declared.faults.WorkNo.TheVariants.{Memory};
 
@@ -33,7 +35,7 @@ pub enum Limit {
 /// What is wrong with the program of a work text.
 #[derive(Clone, Copy, Debug, PartialEq, Eq, Hash)]
 pub enum ProgramCause {
-    /// It is no text of a program; the column is that of the byte in its line, from 1 on.
+    /// It is no text of a program; the column is the byte's place in the fault's line, from 1 on.
     Text { cause: TextCause, column: u32 },
     /// Its names, ends or promises are wrong.
     Check(CheckCause),

@@ -1,3 +1,5 @@
+//! The work that a run is asked for.
+
 use aml_check::Checked;
 use snap_base::{Sequence, State, Tx};
 

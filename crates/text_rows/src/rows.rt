@@ -121,7 +121,7 @@ fn with_lines(
     Ok(text)
 }
 
-/// The same with one line.
+/// The base text with one line, counted from 1, replaced by bytes.
 fn with_line(alloc: Global, number: usize, bytes: &[u8]) -> Result<Vec<u8>, AllocError> {
     with_lines(alloc, (number, bytes), (0, b""))
 }

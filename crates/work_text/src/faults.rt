@@ -1,3 +1,5 @@
+//! A fault at a line.
+
 ghost use Rattle.std.specs.Prelude.{◌≡◌};
 ghost use Rattle.snap_work.specs.declared.faults.WorkNo.TheVariants as no;
 

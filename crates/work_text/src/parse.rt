@@ -1,3 +1,5 @@
+//! A text as a work, or its first fault; whether it is too long, and whether it is UTF-8, is asked first.
+
 ghost use Rattle.std.specs.Prelude.{◌≡◌, ◌≤◌, ◌+◌, ◌==◌, length, take, IfOk, IsErrOf};
 ghost use Rattle.std.specs.List.{count_by};
 ghost use Rattle.snap_work.specs.Works.{work_of};
@@ -10,7 +12,7 @@ use crate::texts::Cursor;
 use snap_work::{LONGEST_WORK, Limit, Work, WorkCause, WorkFault, WorkNo};
 use std::alloc::Global;
 
-/// Reads a work text.
+/// The work that a text stands for, or the text's first fault, with the line where it stands (0 where the text is too long).
 pub fn parse_work(alloc: Global, bytes: &[u8]) -> Result<Work, WorkNo>
     // What is read is what the text stands for.
     ensures found { IfOk result (λ w. IsWork bytes.now (work_of w)) }

@@ -1,3 +1,5 @@
+//! Lines of a text, and what of a text lies ahead.
+
 /// A line of a text and its number, from 1 on.
 #[derive(Clone, Copy)]
 pub(crate) struct Line<'a> {

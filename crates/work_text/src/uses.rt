@@ -38,7 +38,7 @@ fn use_of(actors: u16, word: &[u8]) -> Option<(ActorId, u8)>
     declared(actors, actor, calls)
 }
 
-// The same by what stands before the ':' and behind it.
+// The actor and the number of calls that two words declare: what stands before the ':', and what stands behind it.
 fn declared(actors: u16, actor: &[u8], calls: &[u8]) -> Option<(ActorId, u8)>
     ensures found { IfSome result (λ u. (actor.now ≡ decimal u.0.0) × (calls.now ≡ decimal u.1) × IsUse actors u) }
     ensures only { (u : ActorId × ℕ) → actor.now ≡ decimal u.0.0 → calls.now ≡ decimal u.1 → IsUse actors u → result ≡ Some u }
