@@ -24,7 +24,7 @@ use snap_work::{
 use std::alloc::Global;
 
 // The transactions that lines ask for.
-fn asked(
+fn transactions(
     alloc: Global,
     program: &Checked,
     actors: u16,
@@ -56,7 +56,7 @@ fn tail(
 {
     let count = actors as u16;
     let (states, behind) = states(alloc, count, cursor)?;
-    let txs = asked(alloc, program, count, behind)?;
+    let txs = transactions(alloc, program, count, behind)?;
     Ok((Sequence::from_vec(states), txs))
 }
 

@@ -3,7 +3,7 @@ use Rattle.aml_check.specs.Checked.{methods_of}
 use Rattle.work_text.specs.Lines.{said}
 use Rattle.work_text.specs.Cursors.{ahead, IsShort}
 use Rattle.work_text.proofs.AskedLines.{AreAsked}
-use Rattle.work_text.proofs.reading.asked.Given as goal
+use Rattle.work_text.proofs.reading.transactions.Given as goal
 
 abbrev pub invariant-loop-line : goal.invariant-loop-line
 invariant-loop-line l = record {

@@ -5,7 +5,7 @@ use Rattle.work_text.specs.Lines.{said}
 use Rattle.work_text.specs.Cursors.{ahead, line_of}
 use Rattle.work_text.proofs.AskedLines.{one_asked, all_asked, none_more}
 use Rattle.work_text.proofs.EndLines.{said_found, said_none}
-use Rattle.work_text.proofs.reading.asked.Goals as goal
+use Rattle.work_text.proofs.reading.transactions.Goals as goal
 
 pub returns-in_err-tx : goal.returns-in_err-tx
 returns-in_err-tx c =
