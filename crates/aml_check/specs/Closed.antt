@@ -1,5 +1,5 @@
 -- What every checked program keeps.
-use Rattle.std.specs.Prelude.{◌≡◌, ℕ, ◌+◌, ◌<◌, ◌≤◌, ◌^◌, max, ◌&&◌, Bool, true, false, IsTrue, List, [], length, slice_index_or}
+use Rattle.std.specs.Prelude.{◌≡◌, ℕ, ◌+◌, ◌<◌, ◌≤◌, ◌^◌, max, ◌&&◌, Bool, true, false, IsTrue, List, [], length, slice_index_or, ⊤}
 use Rattle.std.specs.List.{AllByRecursion}
 use Rattle.snap_base.specs.declared.transactions.TheConstants.{FIELDS}
 use Rattle.aml_tree.specs.Tree.{Expr, Number, Variable, Field, Own, Group, Negative, Binary, Code, End, Let, Call, Set, SetField, If, IfElse, While, Fail, Return, CheckedMethod}
@@ -12,7 +12,7 @@ abbrev pub IsClosedExpression : ℕ → Expr ℕ → Type 0
 IsClosedExpression n (Number z) = z < 2 ^ 63
 IsClosedExpression n (Variable place) = place < n
 IsClosedExpression n (Field k line) = k < FIELDS
-IsClosedExpression n Own = Unit {0}
+IsClosedExpression n Own = ⊤
 IsClosedExpression n (Group e) = IsClosedExpression n e
 IsClosedExpression n (Negative e) = IsClosedExpression n e
 IsClosedExpression n (Binary o a b) = IsClosedExpression n a × IsClosedExpression n b
@@ -23,7 +23,7 @@ IsClosedCall p m arguments = (m < length p) × (arguments ≡ length (method_at 
 
 -- where n variables are visible; a new one has the next place
 abbrev pub IsClosedBlock : List CheckedMethod → ℕ → Code ℕ ℕ → Type 0
-IsClosedBlock p n (End line) = Unit {0}
+IsClosedBlock p n (End line) = ⊤
 IsClosedBlock p n (Let line v value rest) = (v ≡ n) × IsClosedExpression n value × IsClosedBlock p (n + 1) rest
 IsClosedBlock p n (Call line v target m arguments rest) =
     (v ≡ n) × IsClosedExpression n target × IsClosedCall p m (length arguments) × AllByRecursion (IsClosedExpression n) arguments × IsClosedBlock p (n + 1) rest
@@ -37,7 +37,7 @@ IsClosedBlock p n (Return value rest) = IsClosedExpression n value × IsClosedBl
 
 -- it assigns no field, and each method that it calls promises only to read
 abbrev pub OnlyReads : List CheckedMethod → Code ℕ ℕ → Type 0
-OnlyReads p (End line) = Unit {0}
+OnlyReads p (End line) = ⊤
 OnlyReads p (Let line v value rest) = OnlyReads p rest
 OnlyReads p (Call line v target m arguments rest) = IsTrue (method_at p m).is_read × OnlyReads p rest
 OnlyReads p (Set v value rest) = OnlyReads p rest

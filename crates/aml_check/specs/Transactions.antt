@@ -1,5 +1,5 @@
 -- Which transactions may be asked of a program and a world of so many actors.
-use Rattle.std.specs.Prelude.{◌≡◌, ℕ, ◌<◌, ◌≤◌, List, [], ◌∷◌, length, map, Contains, FitsSigned}
+use Rattle.std.specs.Prelude.{◌≡◌, ℕ, ◌<◌, ◌≤◌, List, [], ◌∷◌, length, map, Contains, FitsSigned, ⊤}
 use Rattle.std.specs.List.{AllByRecursion}
 use Rattle.std.specs.Int.{w64}
 use Rattle.snap_base.specs.declared.ids.ActorId.{ActorId}
@@ -12,8 +12,8 @@ use Rattle.aml_check.specs.Names.{method_at}
 
 -- each actor is above the one before it
 abbrev pub AreAscending : List (ActorId × ℕ) → Type 0
-AreAscending [] = Unit {0}
-AreAscending (u ∷ []) = Unit {0}
+AreAscending [] = ⊤
+AreAscending (u ∷ []) = ⊤
 AreAscending (u ∷ v ∷ us) = (u.0.0 < v.0.0) × AreAscending (v ∷ us)
 
 -- one call or more of an actor that there is

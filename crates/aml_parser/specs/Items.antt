@@ -1,7 +1,7 @@
 -- Only private contracts cite this; the rule is Grammar.antt, with Limits.antt.
 -- What is still to come in a text: items, and the values that are read of them. Each item begins with
 -- a token, and its first token alone tells which items stand behind it.
-use Rattle.std.specs.Prelude.{ℕ, ◌+◌, nat_lt, ◌==◌, Bool, true, false, if◌then◌else◌, List, [], ◌∷◌, ◌++◌, Option, Some, None}
+use Rattle.std.specs.Prelude.{ℕ, ◌+◌, nat_lt, ◌==◌, Bool, true, false, if◌then◌else◌, List, [], ◌∷◌, ◌++◌, Option, Some, None, ⊤}
 use Rattle.aml_tokens.specs.declared.tokens.Symbol.{Symbol}
 use Rattle.aml_tokens.specs.declared.tokens.Symbol.TheVariants as symbol
 use Rattle.aml_tokens.specs.declared.tokens.Word.{Word}
@@ -89,15 +89,15 @@ Links = List (Link (Expr Word))
 
 -- the further arguments, where arguments are read
 abbrev pub Ending : Closer → Type 0
-Ending (To s) = Unit {0}
+Ending (To s) = ⊤
 Ending Arguments = List (Expr Word)
 
 abbrev pub Value : Item → Type 0
 Value Called = Word
 Value New = Word
 Value Parameter = Word
-Value (Fixed s) = Unit {0}
-Value (Opening depth s) = Unit {0}
+Value (Fixed s) = ⊤
+Value (Opening depth s) = ⊤
 Value (Target depth) = Expr Word
 Value (Operand depth) = Expr Word
 Value (More depth compared closer) = Links × Ending closer
@@ -112,7 +112,7 @@ Value MoreParameters = List Word
 Value (Methods before) = List TextMethod
 
 abbrev pub Values : List Item → Type 0
-Values [] = Unit {0}
+Values [] = ⊤
 Values (i ∷ is) = Value i × Values is
 
 -- values of items and of those behind them

@@ -1,7 +1,7 @@
 -- Only private contracts cite this; the rules are Programs.antt and Faults.antt.
 -- Reading tokens from left to right: what the items to come are, or the first token with which nothing
 -- goes on or which passes a limit.
-use Rattle.std.specs.Prelude.{◌≡◌, ℕ, suc, ◌+◌, nat_lt, Bool, true, false, if◌then◌else◌, slice_get, List, [], ◌∷◌, ◌++◌, drop, Option, Some, None, Result, Ok, Err}
+use Rattle.std.specs.Prelude.{◌≡◌, ℕ, suc, ◌+◌, nat_lt, Bool, true, false, if◌then◌else◌, slice_get, List, [], ◌∷◌, ◌++◌, drop, Option, Some, None, Result, Ok, Err, ⊤}
 use Rattle.aml_tokens.specs.declared.tokens.TextCause.{TextCause}
 use Rattle.aml_tokens.specs.declared.tokens.TextCause.TheVariants.{Unexpected}
 use Rattle.aml_tokens.specs.declared.tokens.Word.{Word}
@@ -69,7 +69,7 @@ pub record TakesPart (ts : List Token) (depth : ℕ) (part : Onto Word Word) (na
 
 -- What a function returned is read there, or it is not there, unless memory ran out.
 abbrev pub Fails : (Fault → Type 0) → ReadNo → Type 0
-Fails stops no.Memory = Unit {0}
+Fails stops no.Memory = ⊤
 Fails stops (no.At place cause) = stops (place, cause)
 
 abbrev pub Reads : {X : Type 0} → (X → Type 0) → (Fault → Type 0) → Result X ReadNo → Type 0

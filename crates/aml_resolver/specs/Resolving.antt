@@ -1,7 +1,7 @@
 -- Only private contracts cite this; the rules are Names.antt and Faults.antt.
 -- What checking a part of a program gives: the part with its names resolved where it has no fault, and
 -- else its first fault.
-use Rattle.std.specs.Prelude.{◌≡◌, ℕ, ◌+◌, ◌≤◌, Bool, Result, Ok, Err, List, [], ◌∷◌, length, take, map}
+use Rattle.std.specs.Prelude.{◌≡◌, ℕ, ◌+◌, ◌≤◌, Bool, Result, Ok, Err, List, [], ◌∷◌, length, take, map, ⊤}
 use Rattle.std.specs.List.{flat_map}
 use Rattle.aml_tokens.specs.declared.tokens.Word.{Word}
 use Rattle.aml_tree.specs.declared.trees.Link.{Link}
@@ -21,7 +21,7 @@ IsFirstOf faults f = (more : List CheckFault) × (faults ≡ f ∷ more)
 
 abbrev pub Refuses : List CheckFault → CheckNo → Type 0
 Refuses faults (Fault f) = IsFirstOf faults f
-Refuses faults Memory = Unit {0}
+Refuses faults Memory = ⊤
 
 -- the view of what is given is this
 abbrev pub Resolves : {T A : Type 0} → (T → A) → List CheckFault → A → Result T CheckNo → Type 0

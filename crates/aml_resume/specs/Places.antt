@@ -1,5 +1,5 @@
 -- Where a method stands between two statements, and what is left of it from there.
-use Rattle.std.specs.Prelude.{ℕ, zero, suc, ◌+◌, ◌≤◌, Bool, true, false, ℤ, List, [], ◌∷◌, ◌++◌}
+use Rattle.std.specs.Prelude.{ℕ, zero, suc, ◌+◌, ◌≤◌, Bool, true, false, ℤ, List, [], ◌∷◌, ◌++◌, ⊤}
 use Rattle.aml_tree.specs.Tree.{Code, End, Let, Call, Set, SetField, If, IfElse, While, Fail, Return, CheckedMethod}
 use Rattle.aml_tree.specs.declared.limits.TheConstants.{MOST_NAMES}
 use Rattle.aml_tree.specs.Limits.{lets}
@@ -33,9 +33,9 @@ behind_some (suc n) (Return value rest) = behind_some n rest
 
 -- a block begins with a statement that has an inner block; the one behind `else`, or the first
 abbrev pub HasInner : Bool → Code ℕ ℕ → Type 0
-HasInner false (If condition first rest) = Unit {0}
-HasInner false (While condition body rest) = Unit {0}
-HasInner other (IfElse condition first second rest) = Unit {0}
+HasInner false (If condition first rest) = ⊤
+HasInner false (While condition body rest) = ⊤
+HasInner other (IfElse condition first second rest) = ⊤
 HasInner other _ = ⊥
 
 -- the inner block of its first statement

@@ -1,6 +1,6 @@
 -- What a pause means: a method gives, from where it stands on, what its pause goes on to, whatever calls give, and
 -- whatever else the world holds.
-use Rattle.std.specs.Prelude.{◌≡◌, ℕ, ◌+◌, ◌<◌, ◌≤◌, ℤ, pos, Result, Ok, Err, List, [], ◌∷◌, length, take, slice_set}
+use Rattle.std.specs.Prelude.{◌≡◌, ℕ, ◌+◌, ◌<◌, ◌≤◌, ℤ, pos, Result, Ok, Err, List, [], ◌∷◌, length, take, slice_set, ⊤}
 use Rattle.snap_base.specs.declared.transactions.State.{State}
 use Rattle.aml_tree.specs.Tree.{Code, CheckedMethod}
 use Rattle.aml_check.specs.declared.limits.TheConstants.{MOST_STATEMENTS}
@@ -60,10 +60,10 @@ PausesAsMeant =
 
 -- a call that the program allows, at a place of the body once the value is there
 abbrev pub IsAllowed : List CheckedMethod → Code ℕ ℕ → Pause → Type 0
-IsAllowed p body (Through variables s n) = Unit {0}
-IsAllowed p body (Returned v s n) = Unit {0}
+IsAllowed p body (Through variables s n) = ⊤
+IsAllowed p body (Returned v s n) = ⊤
 IsAllowed p body (Calling target m arguments standing s n) = IsPlace p (length standing.variables + 1) body standing.path standing.next × IsClosedCall p m (length arguments)
-IsAllowed p body (Failed code s n) = Unit {0}
+IsAllowed p body (Failed code s n) = ⊤
 
 abbrev pub PausesWhereAllowed : Type 0
 PausesWhereAllowed =
@@ -82,7 +82,7 @@ CountsRise = (own : ℕ) (body : Code ℕ ℕ) (f : Standing) (s : State) (n : �
 -- a result with a run of so many statements at least
 abbrev pub AtLeast : {A : Type 0} → ℕ → Result (A × Progress) ℕ → Type 0
 AtLeast n (Ok x) = n ≤ x.1.statements
-AtLeast n (Err code) = Unit {0}
+AtLeast n (Err code) = ⊤
 
 -- a block takes no statements back, if its calls take none back
 abbrev pub BlocksRise : Type 0

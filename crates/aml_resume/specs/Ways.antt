@@ -1,5 +1,5 @@
 -- Only private contracts cite this; the rule is Pausing.
-use Rattle.std.specs.Prelude.{◌≡◌, ℕ, ◌+◌, ◌≤◌, ℤ, Result, Ok, Err, List}
+use Rattle.std.specs.Prelude.{◌≡◌, ℕ, ◌+◌, ◌≤◌, ℤ, Result, Ok, Err, List, ⊤}
 use Rattle.snap_base.specs.declared.transactions.State.{State}
 use Rattle.aml_tree.specs.Tree.{Code, Onto, End, Let, Call, Set, SetField, If, IfElse, While, Fail, Return}
 use Rattle.aml_tree.specs.declared.limits.TheConstants.{MOST_PARAMETERS}
@@ -47,15 +47,15 @@ IsMeant view meant (Err code) = meant ≡ Err code
 
 abbrev pub IfGoes : Result Way ℕ → Type 0 → Type 0
 IfGoes (Ok way.Goes) P = P
-IfGoes (Ok (way.Gives v)) P = Unit {0}
-IfGoes (Ok (way.Asks target m)) P = Unit {0}
-IfGoes (Err code) P = Unit {0}
+IfGoes (Ok (way.Gives v)) P = ⊤
+IfGoes (Ok (way.Asks target m)) P = ⊤
+IfGoes (Err code) P = ⊤
 
 abbrev pub IfAsks : Result Way ℕ → Type 0 → Type 0
-IfAsks (Ok way.Goes) P = Unit {0}
-IfAsks (Ok (way.Gives v)) P = Unit {0}
+IfAsks (Ok way.Goes) P = ⊤
+IfAsks (Ok (way.Gives v)) P = ⊤
 IfAsks (Ok (way.Asks target m)) P = P
-IfAsks (Err code) P = Unit {0}
+IfAsks (Err code) P = ⊤
 
 -- what becomes of a block of which a part has run, and what goes on behind the part
 abbrev pub then_on : Result Way ℕ → Standing → List ℤ → State → ℕ → (List ℤ → State → ℕ → Pause) → Pause

@@ -1,7 +1,7 @@
 -- When a slice ends: at the first moment at which its transaction calls or returns to another actor, or ends. The
 -- rest of a transaction is seen as from the actor on which it stands, whatever other actors make of it: the
 -- meaning in which calls of other actors, and values that are returned to them, are left open.
-use Rattle.std.specs.Prelude.{◌≡◌, ◌≢◌, ℕ, zero, suc, ◌+◌, ◌-◌, ◌≤◌, ◌⊎◌, ◌==◌, if◌then◌else◌, ℤ, Result, Ok, Err, Some, List, [], ◌∷◌, length, slice_set, Contains}
+use Rattle.std.specs.Prelude.{◌≡◌, ◌≢◌, ℕ, zero, suc, ◌+◌, ◌-◌, ◌≤◌, ◌⊎◌, ◌==◌, if◌then◌else◌, ℤ, Result, Ok, Err, Some, List, [], ◌∷◌, length, slice_set, Contains, ⊤}
 use Rattle.snap_base.specs.declared.ids.ActorId.{ActorId}
 use Rattle.snap_base.specs.declared.transactions.State.{State}
 use Rattle.snap_base.specs.declared.transactions.TxResult.{TxResult}
@@ -115,7 +115,7 @@ pub record HandsOn (p : List CheckedMethod) (count : ℕ) (c : Rest) (b : ActorI
 
 abbrev pub IsHandedOn : List CheckedMethod → ℕ → Rest → Next → Type 0
 IsHandedOn p count c (Go b d) = HandsOn p count c b d
-IsHandedOn p count c (Ended r) = Unit {0}
+IsHandedOn p count c (Ended r) = ⊤
 
 -- ---- two ends of one slice
 
@@ -130,4 +130,4 @@ IsSameEnd (Ended r) (Ended q) = r ≡ q
 abbrev pub IsSameState : Next → State → State → Type 0
 IsSameState (Go b d) t u = (k : ℕ) → field_at t k ≡ field_at u k
 IsSameState (Ended (result.Value v)) t u = (k : ℕ) → field_at t k ≡ field_at u k
-IsSameState (Ended (result.Fail code)) t u = Unit {0}
+IsSameState (Ended (result.Fail code)) t u = ⊤

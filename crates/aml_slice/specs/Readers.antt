@@ -1,5 +1,5 @@
 -- A transaction all of whose open calls are of methods that promise only to read.
-use Rattle.std.specs.Prelude.{IsTrue, List, ◌∷◌}
+use Rattle.std.specs.Prelude.{IsTrue, List, ◌∷◌, ⊤}
 use Rattle.std.specs.List.{AllByRecursion}
 use Rattle.aml_tree.specs.Tree.{CheckedMethod}
 use Rattle.aml_check.specs.Names.{method_at}
@@ -16,4 +16,4 @@ AllReading p c = AllByRecursion (IsReading p) (c.top ∷ c.waiting)
 -- so is what a slice hands on
 abbrev pub HandsOnReading : List CheckedMethod → Next → Type 0
 HandsOnReading p (Go b d) = AllReading p d
-HandsOnReading p (Ended r) = Unit {0}
+HandsOnReading p (Ended r) = ⊤

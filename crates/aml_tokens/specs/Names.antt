@@ -1,5 +1,5 @@
 -- Which words are names, and which tokens a text may have.
-use Rattle.std.specs.Prelude.{◌≡◌, ℕ, ◌<◌, ◌≤◌, ◌^◌, IsTrue, false, List, ◌∷◌, ◌++◌, length, take, map, codes}
+use Rattle.std.specs.Prelude.{◌≡◌, ℕ, ◌<◌, ◌≤◌, ◌^◌, IsTrue, false, List, ◌∷◌, ◌++◌, length, take, map, codes, ⊤}
 use Rattle.std.specs.List.{list_all, list_any}
 use Rattle.std.specs.Str.{bytes_eq}
 use Rattle.aml_tokens.specs.declared.limits.TheConstants.{LONGEST_NAME}
@@ -23,6 +23,6 @@ abbrev pub IsToken : Token → Type 0
 IsToken (Name w) = IsName w.name
 IsToken (Number n) = n < 2 ^ 63
 IsToken (Field k line) = k < length field_words
-IsToken (Sign s) = Unit {0}
-IsToken (Let line) = Unit {0}
-IsToken (CloseBrace line) = Unit {0}
+IsToken (Sign s) = ⊤
+IsToken (Let line) = ⊤
+IsToken (CloseBrace line) = ⊤

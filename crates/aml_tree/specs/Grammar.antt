@@ -1,6 +1,6 @@
 -- The grammar of the method language, without its limits: how a tree is spelled in tokens, and which
 -- trees a program may be. Groups are part of a tree, so a program has one spelling.
-use Rattle.std.specs.Prelude.{ℕ, ◌-◌, ◌<◌, ◌≤◌, ◌^◌, ◌==◌, Bool, true, false, if◌then◌else◌, List, [], ◌∷◌, ◌++◌, length, map}
+use Rattle.std.specs.Prelude.{ℕ, ◌-◌, ◌<◌, ◌≤◌, ◌^◌, ◌==◌, Bool, true, false, if◌then◌else◌, List, [], ◌∷◌, ◌++◌, length, map, ⊤}
 use Rattle.std.specs.List.{AllByRecursion, flat_map}
 use Rattle.snap_base.specs.declared.transactions.TheConstants.{FIELDS}
 use Rattle.aml_tokens.specs.declared.tokens.Word.{Word}
@@ -112,7 +112,7 @@ abbrev pub IsAt : ℕ → Expr Word → Type 0
 IsAt k (Number n) = n < 2 ^ 63
 IsAt k (Variable w) = IsWord w
 IsAt k (Field f line) = f < FIELDS
-IsAt k Own = Unit {0}
+IsAt k Own = ⊤
 IsAt k (Group e) = IsAt 5 e
 IsAt k (Negative e) = IsAt 0 e
 IsAt k (Binary o a b) = (level o ≤ k) × IsAt (lean (level o)) a × IsAt (level o - 1) b
@@ -125,13 +125,13 @@ abbrev pub IsPrimary : Expr Word → Type 0
 IsPrimary (Number n) = n < 2 ^ 63
 IsPrimary (Variable w) = IsWord w
 IsPrimary (Field f line) = f < FIELDS
-IsPrimary Own = Unit {0}
+IsPrimary Own = ⊤
 IsPrimary (Group e) = IsAt 5 e
 IsPrimary (Negative e) = ⊥
 IsPrimary (Binary o a b) = ⊥
 
 abbrev pub IsBlock : Code Word Word → Type 0
-IsBlock (End line) = Unit {0}
+IsBlock (End line) = ⊤
 IsBlock (Let line v value rest) = IsWord v × IsExpression value × IsBlock rest
 IsBlock (Call line v target m arguments rest) = IsWord v × IsPrimary target × IsWord m × AllByRecursion IsExpression arguments × IsBlock rest
 IsBlock (Set v value rest) = IsWord v × IsExpression value × IsBlock rest

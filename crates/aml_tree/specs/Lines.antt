@@ -1,6 +1,6 @@
 -- The lines in a program: those of its words and fields, of the statements that have one, and of the braces
 -- that close its blocks.
-use Rattle.std.specs.Prelude.{ℕ, ◌≤◌, List}
+use Rattle.std.specs.Prelude.{ℕ, ◌≤◌, List, ⊤}
 use Rattle.std.specs.List.{AllByRecursion}
 use Rattle.aml_tokens.specs.declared.tokens.Word.{Word}
 use Rattle.aml_tree.specs.Tree.{Expr, Number, Variable, Field, Own, Group, Negative, Binary, Code, End, Let, Call, Set, SetField, If, IfElse, While, Fail, Return, TextMethod}
@@ -9,10 +9,10 @@ abbrev pub WordUpTo : ℕ → Word → Type 0
 WordUpTo most w = w.line ≤ most
 
 abbrev pub ExpressionUpTo : ℕ → Expr Word → Type 0
-ExpressionUpTo most (Number n) = Unit {0}
+ExpressionUpTo most (Number n) = ⊤
 ExpressionUpTo most (Variable w) = WordUpTo most w
 ExpressionUpTo most (Field k line) = line ≤ most
-ExpressionUpTo most Own = Unit {0}
+ExpressionUpTo most Own = ⊤
 ExpressionUpTo most (Group e) = ExpressionUpTo most e
 ExpressionUpTo most (Negative e) = ExpressionUpTo most e
 ExpressionUpTo most (Binary o a b) = ExpressionUpTo most a × ExpressionUpTo most b

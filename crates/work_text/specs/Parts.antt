@@ -1,6 +1,6 @@
 -- Only private contracts cite this; the rules are Reads.antt, Actors.antt and Transactions.antt.
 -- The parts of a line, each as the reader takes it from the others.
-use Rattle.std.specs.Prelude.{◌≡◌, ℕ, ℤ, ◌+◌, ◌<◌, ◌≤◌, ◌==◌, false, List, length, map, codes, slice_index_or, [], Option, IfSome, FitsSigned}
+use Rattle.std.specs.Prelude.{◌≡◌, ℕ, ℤ, ◌+◌, ◌<◌, ◌≤◌, ◌==◌, false, List, length, map, codes, slice_index_or, [], Option, IfSome, FitsSigned, ⊤}
 use Rattle.std.specs.List.{AllByRecursion}
 use Rattle.std.specs.Int.{w64}
 use Rattle.std.specs.Fmt.{decimal, signed_decimal}
@@ -58,7 +58,7 @@ IsFaultBehind before line cause no.Memory = ⊥
 -- a fault whose line behind another one is a line of a text that is not too long
 abbrev pub IsNear : ℕ → TextNo → Type 0
 IsNear before (text_no.Fault f) = before + f.line ≤ 1 + LONGEST_WORK
-IsNear before text_no.Memory = Unit {0}
+IsNear before text_no.Memory = ⊤
 
 -- what is wrong with a program's text, with its line in the whole text
 abbrev pub IsTextNo : ℕ → TextNo → WorkNo → Type 0

@@ -1,6 +1,6 @@
 -- What a part of a text is read as: a value, or the first fault. A reading is the relation that holds of
 -- what the part is read as. Readings follow one another: the first fault ends them.
-use Rattle.std.specs.Prelude.{◌≡◌, ℕ, Bool, true, false, Result, Ok, Err}
+use Rattle.std.specs.Prelude.{◌≡◌, ℕ, Bool, true, false, Result, Ok, Err, ⊤}
 use Rattle.snap_work.specs.declared.faults.WorkCause.{WorkCause}
 use Rattle.snap_work.specs.declared.faults.WorkFault.{WorkFault}
 use Rattle.snap_work.specs.declared.faults.WorkNo.{WorkNo}
@@ -42,7 +42,7 @@ whether false first other = other
 -- why there is no value is a fault that the part is read as, or want of memory
 abbrev pub IsNo : {A : Type 0} → Reading A → WorkNo → Type 0
 IsNo reading (no.Fault f) = reading (Err f)
-IsNo reading no.Memory = Unit {0}
+IsNo reading no.Memory = ⊤
 
 -- what a reader answers, seen by a view, is what the part is read as
 abbrev pub Is : {A B : Type 0} → (A → B) → Result A WorkNo → Reading B → Type 0

@@ -1,5 +1,5 @@
 -- Lines that ask for transactions.
-use Rattle.std.specs.Prelude.{◌≡◌, ℕ, ◌+◌, ◌<◌, ◌≤◌, List, [], ◌∷◌, ◌++◌, length, map, codes, Contains, FitsSigned, Ok, Err}
+use Rattle.std.specs.Prelude.{◌≡◌, ℕ, ◌+◌, ◌<◌, ◌≤◌, List, [], ◌∷◌, ◌++◌, length, map, codes, Contains, FitsSigned, Ok, Err, ⊤}
 use Rattle.std.specs.List.{AllByRecursion}
 use Rattle.std.specs.Int.{w64}
 use Rattle.std.specs.Fmt.{decimal, signed_decimal}
@@ -56,7 +56,7 @@ pub record Asks (p : List CheckedMethod) (actors : ℕ) (line : List ℕ) (tx : 
 -- an ACT, or a PACT that declares its own actor
 abbrev pub DeclaresRoot : Kind → ℕ → List (ActorId × ℕ) → Type 0
 DeclaresRoot Pact root uses = Contains (map (λ (u : ActorId × ℕ). u.0.0) uses) root
-DeclaresRoot Act root uses = Unit {0}
+DeclaresRoot Act root uses = ⊤
 
 -- The causes in their order: what is no transaction, too many actors, one transaction too many, and an
 -- own actor that is not declared. So many transactions come before.
