@@ -7,12 +7,6 @@ use Rattle.aml_tree.specs.declared.trees.Expression.{Expression}
 use Rattle.aml_tree.specs.Tree.{expression_tree}
 use Rattle.aml_check.specs.Meaning.{◌>>=◌, value_of, values_of}
 
--- what holds of every element's view holds of one's
-pub view_at : {A B : Type 0} (P : B → Type 0) (f : A → B) (xs : List A) (i : ℕ) (x : A) → i < length xs → x ≡ get_or xs i x → AllByRecursion P (map f xs) → P (f x)
-view_at P f [] i x h is all = absurd (omega (arith, h))
-view_at P f (y ∷ ys) zero x h is all = let Q : _ → Type 0 = λ z. P (f z) in subst Q (sym is) all.0
-view_at P f (y ∷ ys) (suc i) x h is all = view_at P f ys i x (omega (arith, h)) is all.1
-
 values_here : (own : ℕ) (vs : List ℤ) (s : State) (es : List (Expression ℕ)) (i : ℕ) (e : Expression ℕ) → i < length es → e ≡ get_or es i e → values_of own vs s (map expression_tree (drop i es)) ≡ (value_of own vs s (expression_tree e) >>= λ v. values_of own vs s (map expression_tree (drop (i + 1) es)) >>= λ xs. Ok (v ∷ xs))
 values_here own vs s es i e h is =
     ap (λ ks. values_of own vs s (map expression_tree ks)) (drop_more es i e h ∙ ap (λ k. k ∷ drop (i + 1) es) (sym is))

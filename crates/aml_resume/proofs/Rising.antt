@@ -158,7 +158,7 @@ called_by p more rising target m arguments r =
     after_run r.statements (admitted a r) _ (admitted_reaches a r) (λ q k.
     fewer r.statements q.statements _ k (given_rises q.statements _ (block_rises (called p more) rising a (method_at p m).body arguments q))))
 
-refused_by : (o : Result ℕ ℕ) (code : ℕ) (v : ℤ) (q : Progress) (n : ℕ) → (let refused : Result (ℤ × Progress) ℕ = (o >>= λ a. Err code) in refused ≡ Ok (v, q)) → n ≤ q.statements
+pub refused_by : (o : Result ℕ ℕ) (code : ℕ) (v : ℤ) (q : Progress) (n : ℕ) → (let refused : Result (ℤ × Progress) ℕ = (o >>= λ a. Err code) in refused ≡ Ok (v, q)) → n ≤ q.statements
 refused_by (Ok a) code v q n e = absurd cc
 refused_by (Err c) code v q n e = absurd cc
 

@@ -6,6 +6,7 @@ use Rattle.aml_check.specs.Meaning.{◌>>=◌, Progress, Exit, Goes, Gives, Call
 use Rattle.aml_resume.specs.declared.places.Spot.{Spot}
 use Rattle.aml_resume.specs.Places.{behind_some, inner_of, after_inner}
 use Rattle.aml_resume.specs.Resuming.{AtLeast, BlocksRise, CallsRise, keeping, resumed, Rises}
+use Rattle.aml_resume.proofs.Rising.{by_equation, of_equation, fewer, after_any, after_both, given_rises, refused_by}
 use Rattle.aml_slice.specs.Controls.{Frame, with_given}
 use Rattle.aml_slice.specs.Wholes.{Callers, frame_gives, value_to}
 use Rattle.aml_slice.specs.Moments.{Others, Rise, near, as_meant}
@@ -13,35 +14,10 @@ use Rattle.aml_slice.proofs.Admissions.{admits}
 
 -- ---- by parts
 
-by_equation : {A : Type 0} (n : ℕ) (o : Result (A × Progress) ℕ) → ((v : A) (q : Progress) → o ≡ Ok (v, q) → n ≤ q.statements) → AtLeast n o
-by_equation n (Ok x) h = h x.0 x.1 refl
-by_equation n (Err code) h = tt
-
-of_equation : {A : Type 0} (n : ℕ) (o : Result (A × Progress) ℕ) (v : A) (q : Progress) → AtLeast n o → o ≡ Ok (v, q) → n ≤ q.statements
-of_equation n (Ok x) v q h e = let same : x.1.statements ≡ q.statements = cc in omega (arith, same, h)
-of_equation n (Err code) v q h e = absurd cc
-
-fewer : {A : Type 0} (m n : ℕ) (o : Result (A × Progress) ℕ) → m ≤ n → AtLeast n o → AtLeast m o
-fewer m n (Ok x) less h = omega (arith, less, h)
-fewer m n (Err code) less h = tt
-
-after_any : {A B : Type 0} (n : ℕ) (o : Result A ℕ) (f : A → Result (B × Progress) ℕ) → ((x : A) → AtLeast n (f x)) → AtLeast n (o >>= f)
-after_any n (Ok x) f h = h x
-after_any n (Err code) f h = tt
-
-after_both : {A B : Type 0} (n : ℕ) (o : Result (A × Progress) ℕ) (f : A × Progress → Result (B × Progress) ℕ) → AtLeast n o → ((x : A × Progress) → n ≤ x.1.statements → AtLeast n (f x)) → AtLeast n (o >>= f)
-after_both n (Ok x) f r h = h x r
-after_both n (Err code) f r h = tt
-
 -- a call that is admitted counts no statement
 after_admission : {B : Type 0} (a : ℕ) (r : Progress) (f : Progress → Result (B × Progress) ℕ) → ((q : Progress) → r.statements ≤ q.statements → AtLeast r.statements (f q)) → (o : Result Progress ℕ) → admitted a r ≡ o → AtLeast r.statements (o >>= f)
 after_admission a r f h (Ok q) e = h q (let same = (admits a r q e).statements in omega (arith, same))
 after_admission a r f h (Err code) e = tt
-
-given_rises : (n : ℕ) (o : Result (Exit × Progress) ℕ) → AtLeast n o → AtLeast n (given o)
-given_rises n (Ok (Goes variables, r)) h = h
-given_rises n (Ok (Gives v, r)) h = h
-given_rises n (Err code) h = h
 
 -- ---- rests
 
@@ -76,10 +52,6 @@ as_meant_rise blocks calls p fs = record {
       of_equation r.statements _ v q (given_rises r.statements (block (called p more) a (method_at p m).body arguments r) (blocks (called p more) (calls p more) a (method_at p m).body arguments r)) e;
   back = λ x r q v e. of_equation r.statements (value_to (called p) p fs x r) v q (value_rises blocks (called p) (calls p) p fs x r) e;
 }
-
-refused_by : (o : Result ℕ ℕ) (code : ℕ) (v : ℤ) (q : Progress) (n : ℕ) → (let refused : Result (ℤ × Progress) ℕ = (o >>= λ a. Err code) in refused ≡ Ok (v, q)) → n ≤ q.statements
-refused_by (Ok a) code v q n e = absurd cc
-refused_by (Err c) code v q n e = absurd cc
 
 by_actor_rises : BlocksRise → (p : List CheckedMethod) (own : ℕ) (o : Others) → Rise o → (inside : Caller) → Rises inside → (more a m : ℕ) (arguments : List ℤ) (r : Progress) (b : Bool)
     → AtLeast r.statements (if b then given (block inside a (method_at p m).body arguments r) else o.call more a m arguments r)

@@ -66,7 +66,7 @@ no_minus_decimal : (n : ℕ) → n < 2 ^ 64 → get_or (decimal n) 0 0 ≢ 45
 no_minus_decimal zero small = rw (decimal_digit 0 (omega arith)) (λ e. omega arith)
 no_minus_decimal (suc n) small = let first : 48 < get_or (decimal (suc n)) 0 0 = first_decimal (suc n) (omega arith) small in λ e. omega arith
 
-magnitude : (z : ℤ) → FitsSigned w64 z → mag z < 2 ^ 63
+pub magnitude : (z : ℤ) → FitsSigned w64 z → mag z < 2 ^ 63
 magnitude (pos n) fits = omega (arith, fits)
 magnitude (negsuc n) fits = omega (arith, fits)
 

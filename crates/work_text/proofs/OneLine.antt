@@ -8,6 +8,7 @@ use Rattle.std.specs.Str.{bytes_eq}
 use Rattle.std.proofs.lemmas.List.{append_cancel_left}
 use Rattle.std.proofs.lemmas.Fmt.{decimal_injective, signed_decimal_injective}
 use lib.Signed.{mag}
+use Rattle.decimal_words.proofs.Spellings.{magnitude}
 use Rattle.snap_work.specs.declared.faults.WorkFault.{WorkFault}
 use Rattle.snap_work.specs.declared.faults.WorkCause.{WorkCause}
 use Rattle.snap_work.specs.declared.faults.WorkCause.TheVariants as cause
@@ -65,10 +66,6 @@ pub one_exactly : (bytes : List ℕ) (l : Line) → IsOne (exactly bytes l)
 one_exactly bytes l = one_only (bytes_eq l.bytes bytes) l.number cause.BadHeader (gives l.number) (one_gives l.number)
 
 -- ---- values
-
-magnitude : (z : ℤ) → FitsSigned w64 z → mag z < 2 ^ 63
-magnitude (pos n) fits = omega (arith, fits)
-magnitude (negsuc n) fits = omega (arith, fits)
 
 pub numbers_one : (xs ys : List ℤ) → map signed_decimal xs ≡ map signed_decimal ys → AllByRecursion (FitsSigned w64) xs → AllByRecursion (FitsSigned w64) ys → xs ≡ ys
 numbers_one [] [] e f g = refl

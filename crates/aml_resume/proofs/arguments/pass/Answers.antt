@@ -3,7 +3,8 @@ use Rattle.std.proofs.lemmas.Int.{to_z-of_z}
 use Rattle.std.proofs.lemmas.List.{length-append}
 use Rattle.aml_tree.specs.Tree.{expression_tree}
 use Rattle.aml_check.specs.Closed.{IsClosedExpression}
-use Rattle.aml_resume.proofs.Passing.{view_at, values_next}
+use Rattle.aml_values.proofs.ChainValues.{view_at}
+use Rattle.aml_resume.proofs.Passing.{values_next}
 use Rattle.aml_resume.proofs.arguments.pass.Goals as goal
 
 pub value-requires-clause-closed : goal.value-requires-clause-closed
