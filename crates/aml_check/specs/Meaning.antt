@@ -82,16 +82,16 @@ truth true = pos 1
 truth false = pos 0
 
 -- what is not 0 holds
-abbrev pub holds : ℤ → Bool
-holds z = if int_eq z (pos 0) then false else true
+abbrev pub is_nonzero : ℤ → Bool
+is_nonzero z = if int_eq z (pos 0) then false else true
 
 -- by a divisor: the quotient is cut towards 0, the remainder has the sign of the dividend, and neither is had where the quotient is out of range
 abbrev pub divided : ℤ → ℤ → Result ℤ ℕ
 divided a b = if int_eq b (pos 0) then Err zero_divisor else in_range (int_div a b)
 
 abbrev pub joined : Operator → ℤ → ℤ → Result ℤ ℕ
-joined operator.Or a b = Ok (truth (holds a || holds b))
-joined operator.And a b = Ok (truth (if holds a then holds b else false))
+joined operator.Or a b = Ok (truth (is_nonzero a || is_nonzero b))
+joined operator.And a b = Ok (truth (if is_nonzero a then is_nonzero b else false))
 joined operator.Equal a b = Ok (truth (int_eq a b))
 joined operator.NotEqual a b = Ok (truth (if int_eq a b then false else true))
 joined operator.Less a b = Ok (truth (int_lt a b))
@@ -106,8 +106,8 @@ joined operator.Remainder a b = divided a b >>= λ _. Ok (int_rem a b)
 
 -- where the left side decides, its truth; `or` is decided by what holds, `and` by what does not
 abbrev pub decided : Operator → ℤ → Option ℤ
-decided operator.Or a = if holds a then Some (pos 1) else None
-decided operator.And a = if holds a then None else Some (pos 0)
+decided operator.Or a = if is_nonzero a then Some (pos 1) else None
+decided operator.And a = if is_nonzero a then None else Some (pos 0)
 decided operator.Equal a = None
 decided operator.NotEqual a = None
 decided operator.Less a = None
@@ -153,8 +153,8 @@ pub record Progress : Type 0 where
   pub left : Option (List (ActorId × ℕ))
 
 -- each statement counts before it runs
-abbrev pub begun : Progress → Result Progress ℕ
-begun r = if nat_lt r.statements MOST_STATEMENTS then Ok (record r { statements = r.statements + 1 }) else Err too_many_statements
+abbrev pub statement_begun : Progress → Result Progress ℕ
+statement_begun r = if nat_lt r.statements MOST_STATEMENTS then Ok (record r { statements = r.statements + 1 }) else Err too_many_statements
 
 -- the actor that a value is the number of
 abbrev pub actor_of : ℕ → ℤ → Result ℕ ℕ
@@ -223,32 +223,32 @@ Caller = ℤ → ℕ → List ℤ → Progress → Result (ℤ × Progress) ℕ
 abbrev pub turns : ℕ → ℕ → Expr ℕ → (List ℤ → Progress → Result (Exit × Progress) ℕ) → List ℤ → Progress → Result (Exit × Progress) ℕ
 turns zero own condition body variables r = Err too_many_statements
 turns (suc n) own condition body variables r =
-    begun r >>= λ r. value_of own variables (state_at r.world own) condition >>= λ v.
-    if holds v then behind variables (body variables r) (turns n own condition body) else Ok (Goes variables, r)
+    statement_begun r >>= λ r. value_of own variables (state_at r.world own) condition >>= λ v.
+    if is_nonzero v then behind variables (body variables r) (turns n own condition body) else Ok (Goes variables, r)
 
 abbrev pub block : Caller → ℕ → Code ℕ ℕ → List ℤ → Progress → Result (Exit × Progress) ℕ
 block call own (End line) variables r = Ok (Goes variables, r)
 block call own (Let line v value rest) variables r =
-    begun r >>= λ r. value_of own variables (state_at r.world own) value >>= λ x. block call own rest (variables ++ x ∷ []) r
+    statement_begun r >>= λ r. value_of own variables (state_at r.world own) value >>= λ x. block call own rest (variables ++ x ∷ []) r
 block call own (Call line v target m arguments rest) variables r =
-    begun r >>= λ r. value_of own variables (state_at r.world own) target >>= λ a. values_of own variables (state_at r.world own) arguments >>= λ xs.
+    statement_begun r >>= λ r. value_of own variables (state_at r.world own) target >>= λ a. values_of own variables (state_at r.world own) arguments >>= λ xs.
     call a m xs r >>= λ given. block call own rest (variables ++ given.0 ∷ []) given.1
 block call own (Set v value rest) variables r =
-    begun r >>= λ r. value_of own variables (state_at r.world own) value >>= λ x. block call own rest (slice_set variables v x) r
+    statement_begun r >>= λ r. value_of own variables (state_at r.world own) value >>= λ x. block call own rest (slice_set variables v x) r
 block call own (SetField line k value rest) variables r =
-    begun r >>= λ r. value_of own variables (state_at r.world own) value >>= λ x.
+    statement_begun r >>= λ r. value_of own variables (state_at r.world own) value >>= λ x.
     block call own rest variables (record r { world = slice_set r.world own (with_field (state_at r.world own) k x) })
 block call own (If condition first rest) variables r =
-    begun r >>= λ r. value_of own variables (state_at r.world own) condition >>= λ x.
-    behind variables (if holds x then block call own first variables r else Ok (Goes variables, r)) (block call own rest)
+    statement_begun r >>= λ r. value_of own variables (state_at r.world own) condition >>= λ x.
+    behind variables (if is_nonzero x then block call own first variables r else Ok (Goes variables, r)) (block call own rest)
 block call own (IfElse condition first other rest) variables r =
-    begun r >>= λ r. value_of own variables (state_at r.world own) condition >>= λ x.
-    behind variables (if holds x then block call own first variables r else block call own other variables r) (block call own rest)
+    statement_begun r >>= λ r. value_of own variables (state_at r.world own) condition >>= λ x.
+    behind variables (if is_nonzero x then block call own first variables r else block call own other variables r) (block call own rest)
 block call own (While condition body rest) variables r =
     behind variables (turns (1 + MOST_STATEMENTS - r.statements) own condition (block call own body) variables r) (block call own rest)
-block call own (Fail code rest) variables r = begun r >>= λ r. Err code
+block call own (Fail code rest) variables r = statement_begun r >>= λ r. Err code
 block call own (Return value rest) variables r =
-    begun r >>= λ r. value_of own variables (state_at r.world own) value >>= λ x. Ok (Gives x, r)
+    statement_begun r >>= λ r. value_of own variables (state_at r.world own) value >>= λ x. Ok (Gives x, r)
 
 -- ---- calls
 
@@ -266,9 +266,9 @@ called p (suc more) target m arguments r =
 
 -- ---- transactions
 
-abbrev pub ended : List State → Result (ℤ × Progress) ℕ → Alone
-ended world (Ok (v, r)) = record { result = result.Value v; world = r.world }
-ended world (Err code) = record { result = result.Fail code; world = world }
+abbrev pub ended_alone : List State → Result (ℤ × Progress) ℕ → Alone
+ended_alone world (Ok (v, r)) = record { result = result.Value v; world = r.world }
+ended_alone world (Err code) = record { result = result.Fail code; world = world }
 
 -- a PACT has its declaration to use, an ACT needs none
 abbrev pub declaration : Kind → List (ActorId × ℕ) → Option (List (ActorId × ℕ))
@@ -281,7 +281,7 @@ beginning world tx = record { world = world; statements = 0; calls = 0; actors =
 -- A transaction alone: a value and the new world, or a failure and the world as it was. Its root is the
 -- first of the calls that are open at a time.
 abbrev pub alone : List CheckedMethod → List State → Tx → Alone
-alone p world tx = ended world (called p MOST_OPEN_CALLS (pos tx.actor.0) tx.method tx.args (beginning world tx))
+alone p world tx = ended_alone world (called p MOST_OPEN_CALLS (pos tx.actor.0) tx.method tx.args (beginning world tx))
 
 -- A serial execution: one transaction alone after the other.
 abbrev pub serial : List CheckedMethod → List State → List Tx → Serial

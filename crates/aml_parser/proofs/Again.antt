@@ -5,8 +5,8 @@ use Rattle.aml_tokens.specs.declared.tokens.TextCause.{TextCause}
 use Rattle.aml_tokens.specs.declared.tokens.TextCause.TheVariants.{Unexpected, NumberRange, TooDeep, TooMany}
 use Rattle.aml_tokens.specs.Token.{Token}
 use Rattle.aml_tree.specs.Limits.{Mark}
-use Rattle.aml_parser.specs.Items.{Item, Methods, Value, Values, Production, Event, Plain, Opens, Names, Parametrizes, Begins, Codes, mark, counted, front, joined_values, expand}
-use Rattle.aml_parser.specs.Reading.{Fault, ◌>>=◌, passing, begun, read}
+use Rattle.aml_parser.specs.Items.{Item, Methods, Value, Values, Production, CountedEvent, Plain, Opens, Names, Parametrizes, Begins, Codes, mark, counted, front, joined_values, expand}
+use Rattle.aml_parser.specs.Reading.{Fault, ◌>>=◌, passing, production_begun, read}
 use Rattle.aml_parser.proofs.Written.{spelled, all_marked, AllFit}
 use Rattle.aml_parser.proofs.Split.{Closed, Split, Over, split, front_joined, back_joined, fit_joined}
 use Rattle.aml_parser.proofs.ReadLaws.{gathered, made_by, gathered_tokens, gathered_marks, passing_all, passing_all_map, over_again}
@@ -19,7 +19,7 @@ limit_test : (b : Bool) (c : TextCause) → c ≢ Unexpected → IsLimit (cond b
 limit_test true c h e = absurd cc
 limit_test false c h e = h cc
 
-mark_limit : (names : ℕ) (event : Event) → IsLimit (mark names event)
+mark_limit : (names : ℕ) (event : CountedEvent) → IsLimit (mark names event)
 mark_limit names Plain e = absurd cc
 mark_limit names (Opens depth) e = limit_test (nat_lt depth 32) TooDeep (λ e. absurd cc) e
 mark_limit names Names e = limit_test (nat_lt names 32) TooMany (λ e. absurd cc) e
@@ -65,7 +65,7 @@ first_again t ts i s names at v vs x e fits closed others =
     ap (λ (w : Values (i ∷ s)). all_marked (i ∷ s) names w) (parted i s v vs x) ∙ gathered_marks i s x.token p names behind made in
     record {
       reads =
-          ap (λ (o : Option (Production i)). begun i s names at o (λ p. read (p.items ++ s) (counted names p.event) (at + 1) ts)) found
+          ap (λ (o : Option (Production i)). production_begun i s names at o (λ p. read (p.items ++ s) (counted names p.event) (at + 1) ts)) found
           ∙ ap (λ (r : Result (Values (p.items ++ s)) Fault). passing (mark names p.event) at (r >>= λ vs. Ok (gathered i s p vs))) more.reads
           ∙ ap (λ (r : Result (Values (i ∷ s)) Fault). passing (mark names p.event) at r) (passing_all_map (all_marked (p.items ++ s) (counted names p.event) behind) (at + 1) behind (gathered i s p))
           ∙ ap (λ (ms : List Mark). passing_all ms at (Ok (gathered i s p behind))) (sym marked)

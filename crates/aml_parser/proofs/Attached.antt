@@ -7,7 +7,7 @@ use Rattle.aml_tokens.specs.Token as token
 use Rattle.aml_tree.specs.declared.trees.Operator.{Operator}
 use Rattle.aml_tree.specs.declared.trees.Operator.TheVariants as operator
 use Rattle.aml_tree.specs.Tree.{Expr, Number, Variable, Field, Own, Group, Negative, Binary}
-use Rattle.aml_tree.specs.Grammar.{sign, spelling, level, lean, IsAt}
+use Rattle.aml_tree.specs.Grammar.{sign, spelling, level, lean, IsAtLevel}
 use Rattle.aml_tree.specs.Limits.{Mark, marks}
 use Rattle.aml_parser.specs.Items.{attached, all_attached, allowed, compares, Links}
 use Rattle.aml_parser.proofs.Written.{links, link_marks, AreLinks}
@@ -85,7 +85,7 @@ level_some operator.Over = (omega arith, omega arith)
 level_some operator.Remainder = (omega arith, omega arith)
 
 -- an operand of a rule is one of each looser rule
-pub looser : (j k : ℕ) (e : Expr Word) → j ≤ k → IsAt j e → IsAt k e
+pub looser : (j k : ℕ) (e : Expr Word) → j ≤ k → IsAtLevel j e → IsAtLevel k e
 looser j k (Number n) le h = h
 looser j k (Variable w) le h = h
 looser j k (Field f line) le h = h
@@ -132,10 +132,10 @@ pub not_less_is : (a b : ℕ) → b ≤ a → nat_lt a b ≡ false
 not_less_is a b h = search (rules, tests)
 
 -- an operand has no operator
-pub no_operator : (o : Operator) (a b : Expr Word) → ¬ IsAt 0 (Binary o a b)
+pub no_operator : (o : Operator) (a b : Expr Word) → ¬ IsAtLevel 0 (Binary o a b)
 no_operator o a b h = absurd (omega (arith, h.0, (level_some o).0))
 
-operand_has_none : (x : Expr Word) → IsAt 0 x → has_comparison x ≡ false
+operand_has_none : (x : Expr Word) → IsAtLevel 0 x → has_comparison x ≡ false
 operand_has_none (Number n) h = refl
 operand_has_none (Variable w) h = refl
 operand_has_none (Field f line) h = refl
@@ -151,7 +151,7 @@ has_first p a b (There is) none = absurd (cc (sym none ∙ ap (λ (k : ℕ). if 
 has_first p a b (Above x y z lt) none =
     let there : has_comparison (Binary p a b) ≡ has_comparison b = rw (x, y) refl in inr (lt, sym there ∙ none)
 
-joined_at : (k : ℕ) (e : Expr Word) (o : Operator) (x : Expr Word) → IsAt (lean (level o)) e → level o ≤ k → IsAt 0 x → IsAt k (Binary o e x)
+joined_at : (k : ℕ) (e : Expr Word) (o : Operator) (x : Expr Word) → IsAtLevel (lean (level o)) e → level o ≤ k → IsAtLevel 0 x → IsAtLevel k (Binary o e x)
 joined_at k e o x h le operand = (le, h, looser 0 (level o - 1) x (omega arith) operand)
 
 left_at : (o p : Operator) (a b : Expr Word) → Kind (level o) → level p ≤ level o → (level o ≡ 3 → has_comparison (Binary p a b) ≡ false) → level p ≤ lean (level o)
@@ -164,7 +164,7 @@ left_at o p a b (There is) le none =
     ]
 left_at o p a b (Above x y z lt) le none = rw z le
 
-pub attached_at : (k : ℕ) (e : Expr Word) (o : Operator) (x : Expr Word) → IsAt k e → level o ≤ k → (level o ≡ 3 → has_comparison e ≡ false) → IsAt 0 x → IsAt k (attached e o x)
+pub attached_at : (k : ℕ) (e : Expr Word) (o : Operator) (x : Expr Word) → IsAtLevel k e → level o ≤ k → (level o ≡ 3 → has_comparison e ≡ false) → IsAtLevel 0 x → IsAtLevel k (attached e o x)
 attached_at k (Number n) o x h le none operand = joined_at k (Number n) o x h le operand
 attached_at k (Variable w) o x h le none operand = joined_at k (Variable w) o x h le operand
 attached_at k (Field f line) o x h le none operand = joined_at k (Field f line) o x h le operand
@@ -173,7 +173,7 @@ attached_at k (Group e) o x h le none operand = joined_at k (Group e) o x h le o
 attached_at k (Negative e) o x h le none operand = joined_at k (Negative e) o x h le operand
 attached_at k (Binary p a b) o x h le none operand = by (nat_lt (level o) (level p)) refl (λ lt none'. attached_at (level p - 1) b o x h.2 (omega (arith, lt)) none' operand)
   where
-    by : (t : Bool) → nat_lt (level o) (level p) ≡ t → (level o < level p → (level o ≡ 3 → has_comparison b ≡ false) → IsAt (level p - 1) (attached b o x)) → IsAt k (cond t (Binary p a (attached b o x)) (Binary o (Binary p a b) x))
+    by : (t : Bool) → nat_lt (level o) (level p) ≡ t → (level o < level p → (level o ≡ 3 → has_comparison b ≡ false) → IsAtLevel (level p - 1) (attached b o x)) → IsAtLevel k (cond t (Binary p a (attached b o x)) (Binary o (Binary p a b) x))
     by true e more =
         let lt = is_less (level o) (level p) e in (
           h.0,
@@ -194,7 +194,7 @@ compares_there c o e = ap (λ (k : ℕ). if k == 3 then true else (if nat_lt 3 k
 pub compares_high : (c : Bool) (o : Operator) → (level o == 3) ≡ false → nat_lt 3 (level o) ≡ true → compares c o ≡ false
 compares_high c o a b = rw (a, b) refl
 
-joined_has : (e : Expr Word) (o : Operator) (x : Expr Word) → Kind (level o) → IsAt 0 x → (level o < 3 → has_comparison e ≡ false) → has_comparison (Binary o e x) ≡ compares (has_comparison e) o
+joined_has : (e : Expr Word) (o : Operator) (x : Expr Word) → Kind (level o) → IsAtLevel 0 x → (level o < 3 → has_comparison e ≡ false) → has_comparison (Binary o e x) ≡ compares (has_comparison e) o
 joined_has e o x (Below a b c lt) operand low = rw (a, b) (sym (low lt))
 joined_has e o x (There is) operand low = ap (λ (k : ℕ). if k == 3 then true else (if nat_lt 3 k then has_comparison x else false)) is ∙ sym (compares_there (has_comparison e) o is)
 joined_has e o x (Above a b c lt) operand low = rw (a, b) (operand_has_none x operand)
@@ -219,7 +219,7 @@ low_has_none p a b (Below u v w lt) less = rw (u, v) refl
 low_has_none p a b (There is) less = absurd (omega (arith, less, is))
 low_has_none p a b (Above u v w lt) less = absurd (omega (arith, less, lt))
 
-pub attached_has : (e : Expr Word) (o : Operator) (x : Expr Word) → IsAt 0 x → has_comparison (attached e o x) ≡ compares (has_comparison e) o
+pub attached_has : (e : Expr Word) (o : Operator) (x : Expr Word) → IsAtLevel 0 x → has_comparison (attached e o x) ≡ compares (has_comparison e) o
 attached_has (Number n) o x operand = joined_has (Number n) o x (kind o) operand (λ _. refl)
 attached_has (Variable w) o x operand = joined_has (Variable w) o x (kind o) operand (λ _. refl)
 attached_has (Field f line) o x operand = joined_has (Field f line) o x (kind o) operand (λ _. refl)
@@ -237,7 +237,7 @@ allowed_none : (c : Bool) (o : Operator) → allowed c o ≡ true → level o �
 allowed_none false o ok is = refl
 allowed_none true o ok is = absurd (cc (sym ok ∙ ap (λ (k : ℕ). if k == 3 then false else true) is))
 
-pub all_attached_at : (ls : Links) (c : Bool) (e : Expr Word) → IsAt 5 e → has_comparison e ≡ c → AreLinks c ls → IsAt 5 (all_attached e ls)
+pub all_attached_at : (ls : Links) (c : Bool) (e : Expr Word) → IsAtLevel 5 e → has_comparison e ≡ c → AreLinks c ls → IsAtLevel 5 (all_attached e ls)
 all_attached_at [] c e h has are = h
 all_attached_at (l ∷ ls) c e h has are =
     all_attached_at ls (compares c l.operator) (attached e l.operator l.operand)
@@ -245,5 +245,5 @@ all_attached_at (l ∷ ls) c e h has are =
     (attached_has e l.operator l.operand are.1 ∙ ap (λ (b : Bool). compares b l.operator) has) are.2
 
 -- an operand with its operators, from the start
-pub read_at : (x : Expr Word) (ls : Links) → IsAt 0 x → AreLinks false ls → IsAt 5 (all_attached x ls)
+pub read_at : (x : Expr Word) (ls : Links) → IsAtLevel 0 x → AreLinks false ls → IsAtLevel 5 (all_attached x ls)
 read_at x ls operand are = all_attached_at ls false x (looser 0 5 x (omega arith) operand) (operand_has_none x operand) are

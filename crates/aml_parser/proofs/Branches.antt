@@ -8,7 +8,7 @@ use Rattle.aml_parser.specs.declared.readers.Sign.TheVariants as fixed
 use Rattle.aml_tree.specs.Tree.{Expr, Code, Onto, Number, Variable, Field, Own, Group, Negative}
 use Rattle.aml_tree.specs.Limits.{opened}
 use Rattle.aml_parser.specs.Items.{Item, Called, New, Fixed, Opening, Target, Operand, More, Expression, Argued, Letting, Block, After, To, LetRest, Valued, Calling, IfRest, Without, WithElse, Value, Values, counted, is_else, is_call, joined_values, let_of, if_of, all_attached, expand}
-use Rattle.aml_parser.specs.Reading.{Fault, ◌>>=◌, begun, read, Takes, Stops, TakesPart, Rests, there}
+use Rattle.aml_parser.specs.Reading.{Fault, ◌>>=◌, production_begun, read, Takes, Stops, TakesPart, Rests, there}
 use Rattle.aml_parser.proofs.ReadLaws.{fine}
 use Rattle.aml_parser.proofs.Steps.{bound_twice, passed_twice, drop_none, begins, stops_by, paired}
 use Rattle.aml_parser.proofs.Exprs.{Same, renamed_reads}
@@ -88,8 +88,8 @@ value_reads ts depth s names at (Some t) is none =
     ∙ ap (λ (r : Result (Values (Expression depth (To fixed.Semicolon) ∷ Block depth ∷ s)) Fault). r >>= λ vs. Ok (let_value depth s vs)) (sym (begins ts (Expression depth (To fixed.Semicolon)) (Block depth ∷ s) names at t is))
   where
     by : (t : Token) → is_call t ≡ false
-        → begun (Letting depth) s names at (expand (Letting depth) t) (λ p. read (p.items ++ s) (counted names p.event) (at + 1) (drop (at + 1) ts))
-        ≡ (begun (Expression depth (To fixed.Semicolon)) (Block depth ∷ s) names at (expand (Expression depth (To fixed.Semicolon)) t) (λ p. read (p.items ++ (Block depth ∷ s)) (counted names p.event) (at + 1) (drop (at + 1) ts)) >>= λ vs. Ok (let_value depth s vs))
+        → production_begun (Letting depth) s names at (expand (Letting depth) t) (λ p. read (p.items ++ s) (counted names p.event) (at + 1) (drop (at + 1) ts))
+        ≡ (production_begun (Expression depth (To fixed.Semicolon)) (Block depth ∷ s) names at (expand (Expression depth (To fixed.Semicolon)) t) (λ p. read (p.items ++ (Block depth ∷ s)) (counted names p.event) (at + 1) (drop (at + 1) ts)) >>= λ vs. Ok (let_value depth s vs))
     by (token.Number n) e = sym (bound_twice (read (More depth false (To fixed.Semicolon) ∷ Block depth ∷ s) names (at + 1) (drop (at + 1) ts)) (λ vs. paired (Expression depth (To fixed.Semicolon)) (Block depth ∷ s) (all_attached (Number n) vs.0.0, vs.0.1) vs.1) (let_value depth s))
     by (token.Name w) e = sym (bound_twice (read (More depth false (To fixed.Semicolon) ∷ Block depth ∷ s) names (at + 1) (drop (at + 1) ts)) (λ vs. paired (Expression depth (To fixed.Semicolon)) (Block depth ∷ s) (all_attached (Variable w) vs.0.0, vs.0.1) vs.1) (let_value depth s))
     by (token.Field k line) e = sym (bound_twice (read (More depth false (To fixed.Semicolon) ∷ Block depth ∷ s) names (at + 1) (drop (at + 1) ts)) (λ vs. paired (Expression depth (To fixed.Semicolon)) (Block depth ∷ s) (all_attached (Field k line) vs.0.0, vs.0.1) vs.1) (let_value depth s))

@@ -12,7 +12,7 @@ use Rattle.aml_parser.specs.declared.readers.Sign.TheVariants as fixed
 use Rattle.aml_tree.specs.declared.trees.Operator.{Operator}
 use Rattle.aml_tree.specs.Tree.{Expr}
 use Rattle.aml_parser.specs.Items.{Item, Operand, More, Expression, Closer, To, Ending, Links, Values, Plain, mark, counted, closing, single, attached, all_attached, allowed, compares, is_sign, operator_of, more_by, expand, on_test}
-use Rattle.aml_parser.specs.Reading.{Fault, ◌>>=◌, begun, read, Takes, Stops, there, sign_there, if_allowed, operator_there, Chains, Chained, may_close}
+use Rattle.aml_parser.specs.Reading.{Fault, ◌>>=◌, production_begun, read, Takes, Stops, there, sign_there, if_allowed, operator_there, Chains, Chained, may_close}
 use Rattle.aml_parser.proofs.Flattened.{all_attached-append}
 use Rattle.aml_parser.proofs.ReadLaws.{fine}
 use Rattle.aml_parser.proofs.Steps.{bound_twice, begins, takes_none, takes_by, stops_limit, stops_none, NoBegin, paired}
@@ -45,8 +45,8 @@ more_reads : (ts : List Token) (depth : ℕ) (c : Bool) (o : Operator) (closer :
     → read (More depth c closer ∷ s) names at (drop at ts) ≡ (read (Operand depth ∷ More depth (compares c o) closer ∷ s) names (at + 1) (drop (at + 1) ts) >>= λ vs. Ok (linked depth c o closer s vs))
 more_reads ts depth c o closer s names at x =
     begins ts (More depth c closer) s names at (token.Sign x.sign) x.is
-    ∙ ap (λ (q : Option Operator). begun (More depth c closer) s names at (more_by depth c closer x.sign q) (λ p. read (p.items ++ s) (counted names p.event) (at + 1) (drop (at + 1) ts))) x.operator
-    ∙ ap (λ (b : Bool). begun (More depth c closer) s names at
+    ∙ ap (λ (q : Option Operator). production_begun (More depth c closer) s names at (more_by depth c closer x.sign q) (λ p. read (p.items ++ s) (counted names p.event) (at + 1) (drop (at + 1) ts))) x.operator
+    ∙ ap (λ (b : Bool). production_begun (More depth c closer) s names at
     (on_test b (record { event = Plain; items = Operand depth ∷ More depth (compares c o) closer ∷ []; make = λ vs. (record { operator = o; operand = vs.0 } ∷ vs.1.0.0, vs.1.0.1) }))
     (λ p. read (p.items ++ s) (counted names p.event) (at + 1) (drop (at + 1) ts))) x.ok
 

@@ -8,7 +8,7 @@ use Rattle.aml_tokens.specs.Token.{Token, Sign}
 use Rattle.aml_tokens.specs.Lexing.{tokens, places, column_at}
 use Rattle.aml_tree.specs.declared.trees.Operator.TheVariants as operator
 use Rattle.aml_tree.specs.Tree.{Number, Variable, Field, Own, Group, Negative, Binary, End, Call, Set, SetField, IfElse, While, Fail, Return, TextMethod}
-use Rattle.aml_tree.specs.Grammar.{program_spelling, read_spelling, IsAt}
+use Rattle.aml_tree.specs.Grammar.{program_spelling, read_spelling, IsAtLevel}
 use Rattle.aml_tree.specs.Limits.{marks, opened, named, parameter, method, code_mark}
 
 put_text : tokens (codes "method put(n) {\n f0 = f0 + n;\n return f0; }") ≡ program_spelling (record { is_read = false; name = record { name = codes "put"; line = 1 }; parameters = record { name = codes "n"; line = 1 } ∷ []; body = SetField 2 0 (Binary operator.Plus (Field 0 2) (Variable (record { name = codes "n"; line = 2 }))) (Return (Field 0 3) (End 3)) } ∷ [])
@@ -33,13 +33,13 @@ return_for_semicolon : (slice_get (places (codes "method put(n) { f0 = f0 + n re
 return_for_semicolon = (refl, refl)
 
 -- minus joins from the left, and comparisons make no chain
-from_the_left : IsAt 5 (Binary operator.Minus (Binary operator.Minus (Number 7) (Number 2)) (Number 1))
+from_the_left : IsAtLevel 5 (Binary operator.Minus (Binary operator.Minus (Number 7) (Number 2)) (Number 1))
 from_the_left = search arith
 
-not_from_the_right : ¬ IsAt 5 (Binary operator.Minus (Number 7) (Binary operator.Minus (Number 2) (Number 1)))
+not_from_the_right : ¬ IsAtLevel 5 (Binary operator.Minus (Number 7) (Binary operator.Minus (Number 2) (Number 1)))
 not_from_the_right h = absurd (omega (arith, h.2.0))
 
-no_chain : ¬ IsAt 5 (Binary operator.Less (Binary operator.Less (Number 1) (Number 2)) (Number 3))
+no_chain : ¬ IsAtLevel 5 (Binary operator.Less (Binary operator.Less (Number 1) (Number 2)) (Number 3))
 no_chain h = absurd (omega (arith, h.1.0))
 
 last_and_first_beyond : (opened 31 ≡ None) × (opened 32 ≡ Some cause.TooDeep) × (parameter 7 ≡ None) × (parameter 8 ≡ Some cause.TooMany) × (named 31 ≡ None) × (named 32 ≡ Some cause.TooMany)

@@ -12,19 +12,19 @@ use Rattle.aml_parser.specs.declared.readers.Sign.TheVariants as fixed
 use Rattle.aml_tree.specs.Tree.{Expr, Number, Variable, Field, Own, Group, Negative}
 use Rattle.aml_tree.specs.Limits.{opened}
 use Rattle.aml_parser.specs.Items.{Item, Target, Operand, More, Expression, Closer, To, Value, Values, Production, Plain, mark, counted, single, all_attached, is_minus, target_by, renamed, expand}
-use Rattle.aml_parser.specs.Reading.{Fault, ◌>>=◌, begun, ended, read, Takes, Stops, there, Chains, ReadsItem}
+use Rattle.aml_parser.specs.Reading.{Fault, ◌>>=◌, production_begun, text_ended, read, Takes, Stops, there, Chains, ReadsItem}
 use Rattle.aml_parser.proofs.ReadLaws.{gathered}
 use Rattle.aml_parser.proofs.Steps.{bound_twice, passed_twice, drop_none, begins, takes_none, takes_by, stops_by, stops_limit, stops_none, paired}
 
 -- ---- one item read as another
 
 abbrev pub Same : (j i : Item) (f : Value i → Value j) → Option Token → Type 0
-Same j i f None = (s : List Item) (at : ℕ) → (ended j s at ≡ Err (at, Unexpected)) × (ended i s at ≡ Err (at, Unexpected))
+Same j i f None = (s : List Item) (at : ℕ) → (text_ended j s at ≡ Err (at, Unexpected)) × (text_ended i s at ≡ Err (at, Unexpected))
 Same j i f (Some t) = expand j t ≡ renamed f (expand i t)
 
 renamed_begun : (j i : Item) (f : Value i → Value j) (s : List Item) (names at : ℕ) (rest : List Token) (o : Option (Production i))
-    → begun j s names at (renamed f o) (λ p. read (p.items ++ s) (counted names p.event) (at + 1) rest)
-    ≡ (begun i s names at o (λ p. read (p.items ++ s) (counted names p.event) (at + 1) rest) >>= λ vs. Ok (paired j s (f vs.0) vs.1))
+    → production_begun j s names at (renamed f o) (λ p. read (p.items ++ s) (counted names p.event) (at + 1) rest)
+    ≡ (production_begun i s names at o (λ p. read (p.items ++ s) (counted names p.event) (at + 1) rest) >>= λ vs. Ok (paired j s (f vs.0) vs.1))
 renamed_begun j i f s names at rest None = refl
 renamed_begun j i f s names at rest (Some p) =
     passed_twice (mark names p.event) at (read (p.items ++ s) (counted names p.event) (at + 1) rest) (gathered i s p) (λ vs. paired j s (f vs.0) vs.1)
@@ -38,7 +38,7 @@ renamed_reads ts j i f s names at None is same =
     ∙ sym (ap (λ (us : List Token). read (i ∷ s) names at us >>= λ vs. Ok (paired j s (f vs.0) vs.1)) none ∙ ap (λ (r : Result (Values (i ∷ s)) Fault). r >>= λ vs. Ok (paired j s (f vs.0) vs.1)) (same s at).1)
 renamed_reads ts j i f s names at (Some t) is same =
     begins ts j s names at t is
-    ∙ ap (λ (o : Option (Production j)). begun j s names at o (λ p. read (p.items ++ s) (counted names p.event) (at + 1) (drop (at + 1) ts))) same
+    ∙ ap (λ (o : Option (Production j)). production_begun j s names at o (λ p. read (p.items ++ s) (counted names p.event) (at + 1) (drop (at + 1) ts))) same
     ∙ renamed_begun j i f s names at (drop (at + 1) ts) (expand i t)
     ∙ ap (λ (r : Result (Values (i ∷ s)) Fault). r >>= λ vs. Ok (paired j s (f vs.0) vs.1)) (sym (begins ts i s names at t is))
 
@@ -135,8 +135,8 @@ expression_reads ts depth closer s names at (Some t) is =
     ∙ ap (λ (r : Result (Values (Operand depth ∷ More depth false closer ∷ s)) Fault). r >>= λ vs. Ok (chain_value depth closer s vs)) (sym (begins ts (Operand depth) (More depth false closer ∷ s) names at t is))
   where
     by : (t : Token)
-        → begun (Expression depth closer) s names at (expand (Expression depth closer) t) (λ p. read (p.items ++ s) (counted names p.event) (at + 1) (drop (at + 1) ts))
-        ≡ (begun (Operand depth) (More depth false closer ∷ s) names at (expand (Operand depth) t) (λ p. read (p.items ++ (More depth false closer ∷ s)) (counted names p.event) (at + 1) (drop (at + 1) ts)) >>= λ vs. Ok (chain_value depth closer s vs))
+        → production_begun (Expression depth closer) s names at (expand (Expression depth closer) t) (λ p. read (p.items ++ s) (counted names p.event) (at + 1) (drop (at + 1) ts))
+        ≡ (production_begun (Operand depth) (More depth false closer ∷ s) names at (expand (Operand depth) t) (λ p. read (p.items ++ (More depth false closer ∷ s)) (counted names p.event) (at + 1) (drop (at + 1) ts)) >>= λ vs. Ok (chain_value depth closer s vs))
     by (token.Number n) = sym (bound_twice (read (More depth false closer ∷ s) names (at + 1) (drop (at + 1) ts)) (λ vs. paired (Operand depth) (More depth false closer ∷ s) (Number n) vs) (chain_value depth closer s))
     by (token.Name w) = sym (bound_twice (read (More depth false closer ∷ s) names (at + 1) (drop (at + 1) ts)) (λ vs. paired (Operand depth) (More depth false closer ∷ s) (Variable w) vs) (chain_value depth closer s))
     by (token.Field k line) = sym (bound_twice (read (More depth false closer ∷ s) names (at + 1) (drop (at + 1) ts)) (λ vs. paired (Operand depth) (More depth false closer ∷ s) (Field k line) vs) (chain_value depth closer s))

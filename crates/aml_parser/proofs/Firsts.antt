@@ -10,7 +10,7 @@ use Rattle.aml_tree.specs.Tree.{TextMethod}
 use Rattle.aml_tree.specs.Grammar.{program_spelling, IsGrammatical}
 use Rattle.aml_tree.specs.Limits.{Mark, program_marks}
 use Rattle.aml_tree.specs.Programs.{IsUnmarked}
-use Rattle.aml_parser.specs.Faults.{Begins, IsDeadEnd, IsClear, IsUnexpected, PassesLimit}
+use Rattle.aml_parser.specs.Faults.{BeginsProgram, IsDeadEnd, IsClear, IsUnexpected, PassesLimit}
 use Rattle.aml_parser.specs.Items.{Methods, Values}
 use Rattle.aml_parser.specs.Reading.{Fault, ◌>>=◌, read, program}
 use Rattle.aml_parser.proofs.ReadLaws.{fine, halt, ok_same, err_same, bound_is, bound_err, passing_all, sound, steady}
@@ -131,10 +131,10 @@ stops_read ts fault e = ap (λ (r : Result (Values (Methods 0 ∷ [])) Fault). r
 pub program_cut : (ts : List Token) (fault : Fault) → AllByRecursion IsToken ts → program ts ≡ Err fault → Cut (Methods 0 ∷ []) 0 0 ts fault
 program_cut ts fault h e = viable ts (Methods 0 ∷ []) 0 0 fault h (read_stops ts fault e)
 
-pub cut_begins : (ts : List Token) (fault : Fault) (x : Cut (Methods 0 ∷ []) 0 0 ts fault) → Begins (take x.gone ts) x.values.0
+pub cut_begins : (ts : List Token) (fault : Fault) (x : Cut (Methods 0 ∷ []) 0 0 ts fault) → BeginsProgram (take x.gone ts) x.values.0
 cut_begins ts fault x = record { grammar = record { some = x.fits.0.0 refl; methods = x.fits.0.1 }; goes = (x.more, sym (append-nil (program_spelling x.values.0)) ∙ x.goes) }
 
-pub limit_begins : (ts : List Token) (fault : Fault) (x : Cut (Methods 0 ∷ []) 0 0 ts fault) → Passes (Methods 0 ∷ []) 0 ts x.gone fault.1 x.values → Begins (take (suc x.gone) ts) x.values.0
+pub limit_begins : (ts : List Token) (fault : Fault) (x : Cut (Methods 0 ∷ []) 0 0 ts fault) → Passes (Methods 0 ∷ []) 0 ts x.gone fault.1 x.values → BeginsProgram (take (suc x.gone) ts) x.values.0
 limit_begins ts fault x l = record { grammar = record { some = x.fits.0.0 refl; methods = x.fits.0.1 }; goes = (l.more, sym (append-nil (program_spelling x.values.0)) ∙ l.goes) }
 
 pub clear_there : (ts : List Token) (fault : Fault) → AllByRecursion IsToken ts → program ts ≡ Err fault → (fault.0 ≤ length ts) × IsClear ts fault.0
@@ -174,7 +174,7 @@ wrong_there ts k c h e lt =
         within = lt;
         passes = (
           x.values.0,
-          subst (λ (n : ℕ). Begins (take n ts) x.values.0) next (limit_begins ts (k, c) x limit),
+          subst (λ (n : ℕ). BeginsProgram (take n ts) x.values.0) next (limit_begins ts (k, c) x limit),
           ap (λ (n : ℕ). slice_get (program_marks x.values.0) n) (sym place) ∙ ap (λ (ms : List Mark). slice_get ms x.gone) (sym (append-nil (program_marks x.values.0))) ∙ limit.marked,
         );
       })

@@ -4,7 +4,7 @@ use Rattle.aml_tokens.specs.declared.tokens.Word.{Word}
 use Rattle.aml_tree.specs.declared.trees.Operator.{Operator}
 use Rattle.aml_tree.specs.declared.trees.Link.{Link}
 use Rattle.aml_tree.specs.Tree.{Expr, Number, Variable, Field, Own, Group, Negative, Binary}
-use Rattle.aml_tree.specs.Grammar.{level, lean, IsAt}
+use Rattle.aml_tree.specs.Grammar.{level, lean, IsAtLevel}
 use Rattle.aml_parser.specs.Items.{attached, all_attached, allowed, compares, Links}
 use Rattle.aml_parser.proofs.Written.{AreLinks}
 use Rattle.aml_parser.proofs.Attached.{less_is, not_less_is, level_some, Kind, Below, There, Above, kind, compares_low, compares_high}
@@ -48,7 +48,7 @@ lean_less o (Below x y z lt) = rw z (omega arith)
 lean_less o (There is) = let two : lean (level o) ≡ 2 = ap lean is in omega (arith, two, is)
 lean_less o (Above x y z lt) = rw z (omega arith)
 
-operators_below : (k : ℕ) (e : Expr Word) → IsAt k e → AreBelow (k + 1) (operators e)
+operators_below : (k : ℕ) (e : Expr Word) → IsAtLevel k e → AreBelow (k + 1) (operators e)
 operators_below k (Number n) h = tt
 operators_below k (Variable w) h = tt
 operators_below k (Field f line) h = tt
@@ -68,7 +68,7 @@ onto_right (l ∷ ls) o a y h =
     ap (λ (t : Bool). all_attached (if t then Binary o a (attached y l.operator l.operand) else Binary l.operator (Binary o a y) l.operand) ls) (less_is (level l.operator) (level o) h.0)
     ∙ onto_right ls o a (attached y l.operator l.operand) h.1
 
-beside : (o : Operator) (a x : Expr Word) → IsAt (lean (level o)) a → attached a o x ≡ Binary o a x
+beside : (o : Operator) (a x : Expr Word) → IsAtLevel (lean (level o)) a → attached a o x ≡ Binary o a x
 beside o (Number n) x h = refl
 beside o (Variable w) x h = refl
 beside o (Field f line) x h = refl
@@ -78,7 +78,7 @@ beside o (Negative e) x h = refl
 beside o (Binary p a b) x h =
     ap (λ (t : Bool). if t then Binary p a (attached b o x) else Binary o (Binary p a b) x) (not_less_is (level o) (level p) (omega (arith, h.0, lean_less o (kind o))))
 
-pub reattached : (k : ℕ) (e : Expr Word) → IsAt k e → all_attached (first_operand e) (operators e) ≡ e
+pub reattached : (k : ℕ) (e : Expr Word) → IsAtLevel k e → all_attached (first_operand e) (operators e) ≡ e
 reattached k (Number n) h = refl
 reattached k (Variable w) h = refl
 reattached k (Field f line) h = refl
@@ -92,7 +92,7 @@ reattached k (Binary o a b) h =
     ∙ onto_right (operators b) o a (first_operand b) (below_more (level o - 1 + 1) (level o) (operators b) (omega (arith, (level_some o).0)) (operators_below (level o - 1) b h.2))
     ∙ ap (Binary o a) (reattached (level o - 1) b h.2)
 
-pub first_at : (k : ℕ) (e : Expr Word) → IsAt k e → IsAt 0 (first_operand e)
+pub first_at : (k : ℕ) (e : Expr Word) → IsAtLevel k e → IsAtLevel 0 (first_operand e)
 first_at k (Number n) h = h
 first_at k (Variable w) h = h
 first_at k (Field f line) h = h
@@ -120,7 +120,7 @@ low o c (Below x y z lt) le = compares_low c o y x
 low o c (There is) le = absurd (omega (arith, is, le))
 low o c (Above x y z lt) le = absurd (omega (arith, lt, le))
 
-flags_low : (k : ℕ) (e : Expr Word) (c : Bool) → IsAt k e → k ≤ 2 → flags c (operators e) ≡ c
+flags_low : (k : ℕ) (e : Expr Word) (c : Bool) → IsAtLevel k e → k ≤ 2 → flags c (operators e) ≡ c
 flags_low k (Number n) c h le = refl
 flags_low k (Variable w) c h le = refl
 flags_low k (Field f line) c h le = refl
@@ -142,7 +142,7 @@ not_low : (c : Bool) (k j : ℕ) → (c ≡ false) ⊎ (k ≤ 2) → 3 ≤ j →
 not_low c k j (inl e) a b = e
 not_low c k j (inr le) a b = absurd (omega (arith, a, b, le))
 
-pub are_operators : (k : ℕ) (e : Expr Word) (c : Bool) → IsAt k e → (c ≡ false) ⊎ (k ≤ 2) → AreLinks c (operators e)
+pub are_operators : (k : ℕ) (e : Expr Word) (c : Bool) → IsAtLevel k e → (c ≡ false) ⊎ (k ≤ 2) → AreLinks c (operators e)
 are_operators k (Number n) c h side = tt
 are_operators k (Variable w) c h side = tt
 are_operators k (Field f line) c h side = tt

@@ -7,7 +7,7 @@ use Rattle.aml_tokens.specs.Token.{Token}
 use Rattle.aml_tokens.specs.Token as token
 use Rattle.aml_tree.specs.Limits.{parameter}
 use Rattle.aml_parser.specs.Items.{Item, Parameter, Parameters, MoreParameters, Values, Plain, single, counted, is_close, is_comma, expand}
-use Rattle.aml_parser.specs.Reading.{Fault, ◌>>=◌, begun, read, Takes, Stops, there}
+use Rattle.aml_parser.specs.Reading.{Fault, ◌>>=◌, production_begun, read, Takes, Stops, there}
 use Rattle.aml_parser.proofs.ReadLaws.{fine}
 use Rattle.aml_parser.proofs.Steps.{bound_twice, passed_twice, drop_none, begins, takes_none, takes_by, stops_none, NoBegin, paired}
 use Rattle.aml_parser.proofs.ArgumentSteps.{close_is, comma_is}
@@ -33,8 +33,8 @@ first_reads ts s names at (Some t) is none =
     ∙ ap (λ (r : Result (Values (Parameter ∷ MoreParameters ∷ s)) Fault). r >>= λ vs. Ok (behind_names s [] vs)) (sym (begins ts Parameter (MoreParameters ∷ s) names at t is))
   where
     by : (t : Token) → is_close t ≡ false
-        → begun Parameters s names at (expand Parameters t) (λ p. read (p.items ++ s) (counted names p.event) (at + 1) (drop (at + 1) ts))
-        ≡ (begun Parameter (MoreParameters ∷ s) names at (expand Parameter t) (λ p. read (p.items ++ (MoreParameters ∷ s)) (counted names p.event) (at + 1) (drop (at + 1) ts)) >>= λ vs. Ok (behind_names s [] vs))
+        → production_begun Parameters s names at (expand Parameters t) (λ p. read (p.items ++ s) (counted names p.event) (at + 1) (drop (at + 1) ts))
+        ≡ (production_begun Parameter (MoreParameters ∷ s) names at (expand Parameter t) (λ p. read (p.items ++ (MoreParameters ∷ s)) (counted names p.event) (at + 1) (drop (at + 1) ts)) >>= λ vs. Ok (behind_names s [] vs))
     by (token.Name w) e =
         passed_twice (parameter names) at (read (MoreParameters ∷ s) (names + 1) (at + 1) (drop (at + 1) ts)) (λ vs. paired Parameter (MoreParameters ∷ s) w vs) (behind_names s [])
     by (token.Sign symbol.Close) e = absurd cc

@@ -11,7 +11,7 @@ use Rattle.aml_parser.specs.declared.readers.Sign.{Sign}
 use Rattle.aml_parser.specs.declared.readers.Sign.TheVariants as fixed
 use Rattle.aml_tree.specs.declared.trees.Operator.{Operator}
 use Rattle.aml_tree.specs.Tree.{Expr, Number, Variable, Field, Own, Group, Negative, Binary}
-use Rattle.aml_tree.specs.Grammar.{sign, spelling, IsAt, IsPrimary}
+use Rattle.aml_tree.specs.Grammar.{sign, spelling, IsAtLevel, IsPrimary}
 use Rattle.aml_tree.specs.Limits.{Mark, opened, marks}
 use Rattle.aml_parser.specs.Items.{Called, New, Parameter, Fixed, Opening, Target, Operand, More, Expression, Argued, Failing, Closer, To, Arguments, Plain, Opens, mark, counted, all_attached, allowed, compares, closing, single, is_sign, operator_of, target_by, operand_by, expression_by, ending_by, more_by, argued_by, expand}
 use Rattle.aml_parser.proofs.Written.{symbol_of, closing_mark, further, ending, ending_marks, links, link_marks}
@@ -80,7 +80,7 @@ good_failing _ h = tt
 
 -- ---- expressions
 
-pub primary_at : (e : Expr Word) → IsPrimary e → IsAt 0 e
+pub primary_at : (e : Expr Word) → IsPrimary e → IsAtLevel 0 e
 primary_at (Number n) h = h
 primary_at (Variable w) h = h
 primary_at (Field f line) h = h

@@ -9,7 +9,7 @@ use Rattle.aml_tokens.specs.Token.{Token}
 use Rattle.aml_tree.specs.Limits.{Mark}
 use Rattle.aml_tree.specs.Programs.{IsUnmarked}
 use Rattle.aml_parser.specs.Items.{Item, Methods, Value, Values, Production, mark, counted, front, back, expand}
-use Rattle.aml_parser.specs.Reading.{Fault, ◌>>=◌, passing, begun, ended, read}
+use Rattle.aml_parser.specs.Reading.{Fault, ◌>>=◌, passing, production_begun, text_ended, read}
 use Rattle.aml_parser.proofs.Written.{spelled, all_marked, then_named, AllFit}
 use Rattle.aml_parser.proofs.Made.{Made, Good, spelled_parts, marked_parts, fit_front, fit_back}
 use Rattle.aml_parser.proofs.BlockProductions.{good}
@@ -59,7 +59,7 @@ ok_same x y e = cc
 pub err_same : (A : Type 0) (x y : Fault) → halt A x ≡ halt A y → x ≡ y
 err_same A x y e = cc
 
-ended_is : (i : Item) (s : List Item) (names at : ℕ) (vs : Values (i ∷ s)) → ended i s at ≡ Ok vs → Whole (i ∷ s) names [] vs
+ended_is : (i : Item) (s : List Item) (names at : ℕ) (vs : Values (i ∷ s)) → text_ended i s at ≡ Ok vs → Whole (i ∷ s) names [] vs
 ended_is (Methods (suc before)) [] names at vs e =
     subst (λ (vs : Values (Methods (suc before) ∷ [])). Whole (Methods (suc before) ∷ []) names [] vs) (ok_same ([], tt) vs e)
     (record { fits = ((λ e. absurd (omega (arith, e)), tt), tt); tokens = refl; unmarked = tt })
@@ -81,7 +81,7 @@ record Began (i : Item) (s : List Item) (names : ℕ) (o : Option (Production i)
   reads : go p ≡ Ok behind
   made : gathered i s p behind ≡ vs
 
-began : (i : Item) (s : List Item) (names at : ℕ) (o : Option (Production i)) (go : (p : Production i) → Result (Values (p.items ++ s)) Fault) (vs : Values (i ∷ s)) → begun i s names at o go ≡ Ok vs → Began i s names o go vs
+began : (i : Item) (s : List Item) (names at : ℕ) (o : Option (Production i)) (go : (p : Production i) → Result (Values (p.items ++ s)) Fault) (vs : Values (i ∷ s)) → production_begun i s names at o go ≡ Ok vs → Began i s names o go vs
 began i s names at None go vs e = absurd cc
 began i s names at (Some p) go vs e =
     let passed = passed_is (mark names p.event) at (go p >>= λ vs. Ok (gathered i s p vs)) vs e in
@@ -106,7 +106,7 @@ sound (t ∷ ts) (i ∷ s) names at vs h e =
 
 -- ---- where reading stops
 
-pub ended_not : (i : Item) (s : List Item) (at : ℕ) (fault : Fault) → ended i s at ≡ Err fault → (at, Unexpected) ≡ fault
+pub ended_not : (i : Item) (s : List Item) (at : ℕ) (fault : Fault) → text_ended i s at ≡ Err fault → (at, Unexpected) ≡ fault
 ended_not (Methods (suc before)) [] at fault e = absurd cc
 ended_not _ _ at fault e = cc
 
@@ -124,7 +124,7 @@ pub bound_err : {A B : Type 0} (r : Result A Fault) (f : A → B) (fault : Fault
 bound_err (Ok x) f fault e = absurd cc
 bound_err {A} {B} (Err other) f fault e = ap (λ (x : Fault). halt A x) (err_same B other fault e)
 
-pub halted : (i : Item) (s : List Item) (names at : ℕ) (o : Option (Production i)) (go : (p : Production i) → Result (Values (p.items ++ s)) Fault) (fault : Fault) → begun i s names at o go ≡ Err fault → Halts i s names at o go fault
+pub halted : (i : Item) (s : List Item) (names at : ℕ) (o : Option (Production i)) (go : (p : Production i) → Result (Values (p.items ++ s)) Fault) (fault : Fault) → production_begun i s names at o go ≡ Err fault → Halts i s names at o go fault
 halted i s names at None go fault e = inl (refl, err_same (Values (i ∷ s)) (at, Unexpected) fault e)
 halted i s names at (Some p) go fault e =
     elim (passing_err (mark names p.event) at (go p >>= λ vs. Ok (gathered i s p vs)) fault e) [
@@ -152,7 +152,7 @@ later (t ∷ ts) (i ∷ s) names at fault e =
 -- ---- no token behind the stop is seen
 
 go_stops : (i : Item) (s : List Item) (names at : ℕ) (o : Option (Production i)) (go other : (p : Production i) → Result (Values (p.items ++ s)) Fault) (fault : Fault)
-    → ((p : Production i) → go p ≡ Err fault → other p ≡ Err fault) → begun i s names at o go ≡ Err fault → begun i s names at o other ≡ Err fault
+    → ((p : Production i) → go p ≡ Err fault → other p ≡ Err fault) → production_begun i s names at o go ≡ Err fault → production_begun i s names at o other ≡ Err fault
 go_stops i s names at None go other fault more e = e
 go_stops i s names at (Some p) go other fault more e =
     elim (passing_err (mark names p.event) at (go p >>= λ vs. Ok (gathered i s p vs)) fault e) [

@@ -10,7 +10,7 @@ use Rattle.aml_parser.specs.declared.readers.Sign.TheVariants as fixed
 use Rattle.aml_tree.specs.declared.trees.Operator.{Operator}
 use Rattle.aml_tree.specs.declared.trees.Operator.TheVariants as operator
 use Rattle.aml_tree.specs.Tree.{Expr, Number, Variable, Field, Own, Group, Negative, Binary, End, Let, Call, Set, SetField, If, IfElse, While, Fail, Return, TextMethod}
-use Rattle.aml_tree.specs.Grammar.{sign, IsAt, IsExpression}
+use Rattle.aml_tree.specs.Grammar.{sign, IsAtLevel, IsExpression}
 use Rattle.aml_parser.specs.Items.{Item, Called, New, Parameter, Fixed, Opening, Target, Operand, More, Expression, Argued, Failing, Letting, Block, After, Parameters, MoreParameters, Methods, Closer, To, Arguments, LetRest, Valued, Calling, IfRest, Without, WithElse, Value, Values, Production, Plain, Opens, single, closing, all_attached, compares, front, back, joined_values, Ending, Links, renamed, followed, on_test, is_sign, operator_of, expand, expression_by, is_close, is_call, is_else, block_by, letting_by, after_by}
 use Rattle.aml_parser.proofs.Written.{symbol_of, Fits, AllFit, AreLinks, IsEnding}
 use Rattle.aml_parser.proofs.Attached.{no_operator}
@@ -126,7 +126,7 @@ split_target depth (Group e) h = record { token = token.Sign symbol.Open; is_tok
 split_target depth (Negative e) h = absurd h
 split_target depth (Binary o a b) h = absurd h
 
-split_operand : (depth : ℕ) (e : Expr Word) → IsAt 0 e → Split (Operand depth) e
+split_operand : (depth : ℕ) (e : Expr Word) → IsAtLevel 0 e → Split (Operand depth) e
 split_operand depth (Number n) h = record { token = token.Number n; is_token = h; production = _; found = refl; parts = tt; made = refl; fits = tt; closed = λ s c. c }
 split_operand depth (Variable w) h = record { token = token.Name w; is_token = h; production = _; found = refl; parts = tt; made = refl; fits = tt; closed = λ s c. c }
 split_operand depth (Field k line) h = record { token = token.Field k line; is_token = h; production = _; found = refl; parts = tt; made = refl; fits = tt; closed = λ s c. c }

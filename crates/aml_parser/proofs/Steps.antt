@@ -10,7 +10,7 @@ use Rattle.aml_tree.specs.Limits.{Mark}
 use Rattle.aml_tree.specs.Tree.{Code, Onto}
 use Rattle.aml_parser.specs.Items.{Item, Block, Value, Values, Production, mark, counted, front, back, joined_values, expand}
 use Rattle.aml_parser.proofs.ReadLaws.{fine, gathered}
-use Rattle.aml_parser.specs.Reading.{Fault, ◌>>=◌, passing, begun, ended, read, Takes, Stops, TakesPart, Fails}
+use Rattle.aml_parser.specs.Reading.{Fault, ◌>>=◌, passing, production_begun, text_ended, read, Takes, Stops, TakesPart, Fails}
 
 -- ---- results one after the other
 
@@ -41,12 +41,12 @@ drop_none (x ∷ xs) (suc at) e = drop_none xs at e
 
 -- an item that begins with the token at a place
 pub begins : (ts : List Token) (i : Item) (s : List Item) (names at : ℕ) (t : Token) → slice_get ts at ≡ Some t
-    → read (i ∷ s) names (at) (drop at ts) ≡ begun i s names at (expand i t) (λ p. read (p.items ++ s) (counted names p.event) (at + 1) (drop (at + 1) ts))
+    → read (i ∷ s) names (at) (drop at ts) ≡ production_begun i s names at (expand i t) (λ p. read (p.items ++ s) (counted names p.event) (at + 1) (drop (at + 1) ts))
 unfolding read
 begins ts i s names at t e =
     let next : suc at ≡ at + 1 = omega arith in
     ap (read (i ∷ s) names at) (drop_some ts at t e)
-    ∙ ap (λ (n : ℕ). begun i s names at (expand i t) (λ p. read (p.items ++ s) (counted names p.event) (at + 1) (drop n ts))) next
+    ∙ ap (λ (n : ℕ). production_begun i s names at (expand i t) (λ p. read (p.items ++ s) (counted names p.event) (at + 1) (drop n ts))) next
 
 -- ---- items one after the other
 
@@ -93,7 +93,7 @@ pub takes_by : (ts : List Token) (i : Item) (t : Token) (p : Production i) (us :
 takes_by ts i t p us names at after end there found unmarked x = record {
   goes = λ s.
       begins ts i s names at t there
-      ∙ ap (λ (o : Option (Production i)). begun i s names at o (λ p. read (p.items ++ s) (counted names p.event) (at + 1) (drop (at + 1) ts))) found
+      ∙ ap (λ (o : Option (Production i)). production_begun i s names at o (λ p. read (p.items ++ s) (counted names p.event) (at + 1) (drop (at + 1) ts))) found
       ∙ ap (λ (m : Mark). passing m at (read (p.items ++ s) (counted names p.event) (at + 1) (drop (at + 1) ts) >>= λ vs. Ok (p.make (front p.items s vs), back p.items s vs))) unmarked
       ∙ ap (λ (r : Result (Values (p.items ++ s)) Fault). r >>= λ vs. Ok (p.make (front p.items s vs), back p.items s vs)) (x.goes s)
       ∙ gathered_joined i s p us (read s after end (drop end ts));
@@ -104,7 +104,7 @@ pub stops_by : (ts : List Token) (i : Item) (t : Token) (p : Production i) (name
 stops_by ts i t p names at fault there found unmarked x = record {
   goes = λ s.
       begins ts i s names at t there
-      ∙ ap (λ (o : Option (Production i)). begun i s names at o (λ p. read (p.items ++ s) (counted names p.event) (at + 1) (drop (at + 1) ts))) found
+      ∙ ap (λ (o : Option (Production i)). production_begun i s names at o (λ p. read (p.items ++ s) (counted names p.event) (at + 1) (drop (at + 1) ts))) found
       ∙ ap (λ (m : Mark). passing m at (read (p.items ++ s) (counted names p.event) (at + 1) (drop (at + 1) ts) >>= λ vs. Ok (p.make (front p.items s vs), back p.items s vs))) unmarked
       ∙ ap (λ (r : Result (Values (p.items ++ s)) Fault). r >>= λ vs. Ok (p.make (front p.items s vs), back p.items s vs)) (x.goes s);
 }
@@ -113,13 +113,13 @@ pub stops_limit : (ts : List Token) (i : Item) (t : Token) (p : Production i) (n
 stops_limit ts i t p names at c there found marked = record {
   goes = λ s.
       begins ts i s names at t there
-      ∙ ap (λ (o : Option (Production i)). begun i s names at o (λ p. read (p.items ++ s) (counted names p.event) (at + 1) (drop (at + 1) ts))) found
+      ∙ ap (λ (o : Option (Production i)). production_begun i s names at o (λ p. read (p.items ++ s) (counted names p.event) (at + 1) (drop (at + 1) ts))) found
       ∙ ap (λ (m : Mark). passing m at (read (p.items ++ s) (counted names p.event) (at + 1) (drop (at + 1) ts) >>= λ vs. Ok (p.make (front p.items s vs), back p.items s vs))) marked;
 }
 
 -- an item does not begin with what stands there, if anything does
 abbrev pub NoBegin : (i : Item) → Option Token → Type 0
-NoBegin i None = (s : List Item) (at : ℕ) → ended i s at ≡ Err (at, Unexpected)
+NoBegin i None = (s : List Item) (at : ℕ) → text_ended i s at ≡ Err (at, Unexpected)
 NoBegin i (Some t) = expand i t ≡ None
 
 pub stops_none : (ts : List Token) (i : Item) (names at : ℕ) (o : Option Token) → slice_get ts at ≡ o → NoBegin i o → Stops ts (i ∷ []) names at (at, Unexpected)
@@ -128,7 +128,7 @@ stops_none ts i names at None there no_end = record { goes = λ s. ap (read (i �
 stops_none ts i names at (Some t) there none = record {
   goes = λ s.
       begins ts i s names at t there
-      ∙ ap (λ (o : Option (Production i)). begun i s names at o (λ p. read (p.items ++ s) (counted names p.event) (at + 1) (drop (at + 1) ts))) none;
+      ∙ ap (λ (o : Option (Production i)). production_begun i s names at o (λ p. read (p.items ++ s) (counted names p.event) (at + 1) (drop (at + 1) ts))) none;
 }
 
 -- ---- parts of blocks

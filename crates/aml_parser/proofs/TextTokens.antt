@@ -11,7 +11,7 @@ use Rattle.aml_tokens.specs.declared.tokens.TextCause.{TextCause}
 use Rattle.aml_tokens.specs.declared.tokens.TextCause.TheVariants.{BadByte, BadToken, NumberRange, TooMany}
 use Rattle.aml_tokens.specs.Bytes.{is_letter, is_digit, is_word_byte, is_blank, begins_comparison, symbol_bytes, keywords, signs}
 use Rattle.aml_tokens.specs.Token.{Token, Name, Number, Field, Sign, Let, CloseBrace}
-use Rattle.aml_tokens.specs.Lexing.{Piece, joins, ended, pieces_from, pieces, without_comments, symbol_of, field_of, field_words, is_plain, number_token, either, word_token, sign_token, token_in, within, token_at, onto, tokens_in, tokens, places, Tokens, line_at}
+use Rattle.aml_tokens.specs.Lexing.{Piece, joins, piece_ended, pieces_from, pieces, without_comments, symbol_of, field_of, field_words, is_plain, number_token, either, word_token, sign_token, token_in, within, token_at, onto, tokens_in, tokens, places, Tokens, line_at}
 
 -- ---- tests
 
@@ -72,7 +72,7 @@ joined_run (c ∷ d ∷ bs) b run e = λ h.
 abbrev AreRuns : List Piece → Type 0
 AreRuns ps = AllByRecursion (λ (p : Piece). IsRun p.bytes) ps
 
-ended_runs : (at : ℕ) (bs : List ℕ) (ps : List Piece) → IsRun bs → AreRuns ps → AreRuns (ended at bs ps)
+ended_runs : (at : ℕ) (bs : List ℕ) (ps : List Piece) → IsRun bs → AreRuns ps → AreRuns (piece_ended at bs ps)
 ended_runs at [] ps run h = h
 ended_runs at (c ∷ cs) ps run h = (run, h)
 
@@ -86,7 +86,7 @@ pieces_runs at bs (b ∷ text) run =
     by (joins bs b) refl (λ h. pieces_runs (at + 1) (bs ++ b ∷ []) text h) (pieces_runs (at + 1) (if is_blank b then [] else b ∷ []) text (first_run (is_blank b) b))
   where
     by : (t : Bool) → joins bs b ≡ t → (IsRun (bs ++ b ∷ []) → AreRuns (pieces_from (at + 1) (bs ++ b ∷ []) text)) → AreRuns (pieces_from (at + 1) (if is_blank b then [] else b ∷ []) text)
-        → AreRuns (if t then pieces_from (at + 1) (bs ++ b ∷ []) text else ended at bs (pieces_from (at + 1) (if is_blank b then [] else b ∷ []) text))
+        → AreRuns (if t then pieces_from (at + 1) (bs ++ b ∷ []) text else piece_ended at bs (pieces_from (at + 1) (if is_blank b then [] else b ∷ []) text))
     by true e on off = on (joined_run bs b run e)
     by false e on off = ended_runs at bs (pieces_from (at + 1) (if is_blank b then [] else b ∷ []) text) run off
 

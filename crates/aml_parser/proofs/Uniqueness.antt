@@ -10,7 +10,7 @@ use Rattle.aml_tokens.specs.Token.{Token}
 use Rattle.aml_tree.specs.Tree.{TextMethod}
 use Rattle.aml_tree.specs.Grammar.{program_spelling}
 use Rattle.aml_tree.specs.Limits.{program_marks}
-use Rattle.aml_parser.specs.Faults.{Begins, IsClear, IsUnexpected, PassesLimit}
+use Rattle.aml_parser.specs.Faults.{BeginsProgram, IsClear, IsUnexpected, PassesLimit}
 use Rattle.aml_parser.specs.Reading.{Fault, program}
 use Rattle.aml_parser.proofs.ReadLaws.{halt}
 use Rattle.aml_parser.proofs.Firsts.{first_mark, marked_stops, unmarked_before, take_less, alike, program_again, program_sound, read_stops, stops_read, program_cut, cut_begins, limit_begins, end_unexpected}
@@ -81,7 +81,7 @@ unexpected_stops ts k h clear wrong =
                   | inl same ↦ stop.1 ∙ ap (λ (f : Fault). halt (List TextMethod) f) (same_fault f k Unexpected place same)
                   | inr limit ↦
                       let next : suc x.gone ≡ k + 1 = omega (arith, x.place, place) in
-                      absurd (wrong.stops x.values.0 (subst (λ (n : ℕ). Begins (take n ts) x.values.0) next (limit_begins ts f x limit)))
+                      absurd (wrong.stops x.values.0 (subst (λ (n : ℕ). BeginsProgram (take n ts) x.values.0) next (limit_begins ts f x limit)))
                 ]
           ]
     ]

@@ -10,7 +10,7 @@ use Rattle.aml_tokens.specs.Token as token
 use Rattle.aml_parser.specs.declared.readers.Sign.{Sign}
 use Rattle.aml_parser.specs.declared.readers.Sign.TheVariants as fixed
 use Rattle.aml_tree.specs.Tree.{Expr, TextMethod}
-use Rattle.aml_tree.specs.Grammar.{sign, spelling, block_spelling, program_spelling, IsWord, IsAt, IsExpression, IsPrimary, IsBlock, IsMethod}
+use Rattle.aml_tree.specs.Grammar.{sign, spelling, block_spelling, program_spelling, IsWord, IsAtLevel, IsExpression, IsPrimary, IsBlock, IsMethod}
 use Rattle.aml_tree.specs.Limits.{Mark, opened, parameter, named, code_mark, marks, lets, block_marks, methods_marks}
 use Rattle.aml_parser.specs.Items.{Item, Called, New, Parameter, Fixed, Opening, Target, Operand, More, Expression, Argued, Failing, Letting, Block, After, Parameters, MoreParameters, Methods, Closer, To, Arguments, LetRest, Valued, Calling, IfRest, Without, WithElse, Links, Ending, Value, Values, allowed, compares}
 
@@ -186,7 +186,7 @@ all_named (i ∷ is) names vs = all_named is (then_named i names vs.0) vs.1
 
 abbrev pub AreLinks : Bool → Links → Type 0
 AreLinks compared [] = Unit {0}
-AreLinks compared (l ∷ ls) = (allowed compared l.operator ≡ true) × IsAt 0 l.operand × AreLinks (compares compared l.operator) ls
+AreLinks compared (l ∷ ls) = (allowed compared l.operator ≡ true) × IsAtLevel 0 l.operand × AreLinks (compares compared l.operator) ls
 
 abbrev pub IsEnding : (closer : Closer) → Ending closer → Type 0
 IsEnding (To s) a = Unit {0}
@@ -207,7 +207,7 @@ Fits Parameter w = IsWord w
 Fits (Fixed s) v = Unit {0}
 Fits (Opening depth s) v = Unit {0}
 Fits (Target depth) e = IsPrimary e
-Fits (Operand depth) e = IsAt 0 e
+Fits (Operand depth) e = IsAtLevel 0 e
 Fits (More depth compared closer) v = AreLinks compared v.0 × IsEnding closer v.1
 Fits (Expression depth closer) v = IsExpression v.0 × IsEnding closer v.1
 Fits (Argued depth) es = AllByRecursion IsExpression es

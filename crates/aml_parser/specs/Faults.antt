@@ -13,17 +13,17 @@ use Rattle.aml_tree.specs.Limits.{program_marks}
 use Rattle.aml_tree.specs.Programs.{IsUnmarked}
 
 -- a program of the grammar that begins with these tokens
-pub record Begins (front : List Token) (p : List TextMethod) : Type 0 where
+pub record BeginsProgram (front : List Token) (p : List TextMethod) : Type 0 where
   pub grammar : IsGrammatical p
   pub goes : (after : List Token) × (program_spelling p ≡ front ++ after)
 
 -- none does
 abbrev pub IsDeadEnd : List Token → Type 0
-IsDeadEnd front = (p : List TextMethod) → ¬ Begins front p
+IsDeadEnd front = (p : List TextMethod) → ¬ BeginsProgram front p
 
 -- the tokens before the k-th begin a program and pass no limit in it
 abbrev pub IsClear : List Token → ℕ → Type 0
-IsClear ts k = (p : List TextMethod) × Begins (take k ts) p × AllByRecursion IsUnmarked (take k (program_marks p))
+IsClear ts k = (p : List TextMethod) × BeginsProgram (take k ts) p × AllByRecursion IsUnmarked (take k (program_marks p))
 
 -- with the k-th token no program goes on
 pub record IsUnexpected (ts : List Token) (k : ℕ) : Type 0 where
@@ -33,7 +33,7 @@ pub record IsUnexpected (ts : List Token) (k : ℕ) : Type 0 where
 -- a program goes on with the k-th token, but passes a limit
 pub record PassesLimit (ts : List Token) (k : ℕ) (cause : TextCause) : Type 0 where
   pub within : k < length ts
-  pub passes : (p : List TextMethod) × Begins (take (k + 1) ts) p × (slice_get (program_marks p) k ≡ Some (Some cause))
+  pub passes : (p : List TextMethod) × BeginsProgram (take (k + 1) ts) p × (slice_get (program_marks p) k ≡ Some (Some cause))
 
 -- What is wrong behind the last token: the piece there is none, or the text ends too early.
 abbrev pub IsWrongEnd : List ℕ → List Token → Option (ℕ × TextCause) → ℕ → TextCause → Type 0

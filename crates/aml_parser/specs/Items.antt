@@ -130,16 +130,16 @@ joined_values (i ∷ is) behind us vs = (us.0, joined_values is behind us.1 vs)
 
 -- ---- what a token does
 
-pub data Event : Type 0 where
-  Plain : Event
-  Opens : (depth : ℕ) → Event
-  Names : Event
-  Parametrizes : Event
-  Begins : (before : ℕ) → Event
-  Codes : (code : ℕ) → Event
+pub data CountedEvent : Type 0 where
+  Plain : CountedEvent
+  Opens : (depth : ℕ) → CountedEvent
+  Names : CountedEvent
+  Parametrizes : CountedEvent
+  Begins : (before : ℕ) → CountedEvent
+  Codes : (code : ℕ) → CountedEvent
 
 -- where so many names of the method are declared
-abbrev pub mark : ℕ → Event → Mark
+abbrev pub mark : ℕ → CountedEvent → Mark
 mark names Plain = None
 mark names (Opens depth) = opened depth
 mark names Names = named names
@@ -148,7 +148,7 @@ mark names (Begins before) = method before
 mark names (Codes code) = code_mark code
 
 -- how many are declared then
-abbrev pub counted : ℕ → Event → ℕ
+abbrev pub counted : ℕ → CountedEvent → ℕ
 counted names Plain = names
 counted names (Opens depth) = names
 counted names Names = names + 1
@@ -158,7 +158,7 @@ counted names (Codes code) = names
 
 -- What an item's first token does, the items behind it, and the value that theirs make.
 pub record Production (i : Item) : Type 0 where
-  pub event : Event
+  pub event : CountedEvent
   pub items : List Item
   pub make : Values items → Value i
 
@@ -182,7 +182,7 @@ is_sign fixed.Method symbol.Method = true
 is_sign _ _ = false
 
 -- the level that a sign opens at the end of an expression
-abbrev pub closing : ℕ → Sign → Event
+abbrev pub closing : ℕ → Sign → CountedEvent
 closing depth fixed.OpenBrace = Opens depth
 closing depth _ = Plain
 
@@ -216,7 +216,7 @@ on_test true x = Some x
 on_test false x = None
 
 -- a production of one token alone
-abbrev pub single : {i : Item} → Event → Value i → Production i
+abbrev pub single : {i : Item} → CountedEvent → Value i → Production i
 single event v = record { event = event; items = []; make = λ _. v }
 
 abbrev pub target_by_sign : (depth : ℕ) → Symbol → Option (Production (Target depth))

@@ -32,21 +32,21 @@ passing None at read = read
 passing (Some cause) at read = Err (at, cause)
 
 -- behind a first token that is followed so, or with which nothing goes on
-abbrev pub begun : (i : Item) → (s : List Item) → ℕ → ℕ → Option (Production i) → ((p : Production i) → Result (Values (p.items ++ s)) Fault) → Result (Values (i ∷ s)) Fault
-begun i s names at None go = Err (at, Unexpected)
-begun i s names at (Some p) go = passing (mark names p.event) at (go p >>= λ vs. Ok (p.make (front p.items s vs), back p.items s vs))
+abbrev pub production_begun : (i : Item) → (s : List Item) → ℕ → ℕ → Option (Production i) → ((p : Production i) → Result (Values (p.items ++ s)) Fault) → Result (Values (i ∷ s)) Fault
+production_begun i s names at None go = Err (at, Unexpected)
+production_begun i s names at (Some p) go = passing (mark names p.event) at (go p >>= λ vs. Ok (p.make (front p.items s vs), back p.items s vs))
 
 -- A text may end where methods come, if one was there.
-abbrev pub ended : (i : Item) → (s : List Item) → ℕ → Result (Values (i ∷ s)) Fault
-ended (Methods (suc before)) [] at = Ok ([], tt)
-ended _ _ at = Err (at, Unexpected)
+abbrev pub text_ended : (i : Item) → (s : List Item) → ℕ → Result (Values (i ∷ s)) Fault
+text_ended (Methods (suc before)) [] at = Ok ([], tt)
+text_ended _ _ at = Err (at, Unexpected)
 
 -- The items to come as the tokens from a place on have them, where so many names are declared.
 unfoldable pub read : (s : List Item) → ℕ → ℕ → List Token → Result (Values s) Fault
 read [] names at [] = Ok tt
 read [] names at (t ∷ ts) = Err (at, Unexpected)
-read (i ∷ s) names at [] = ended i s at
-read (i ∷ s) names at (t ∷ ts) = begun i s names at (expand i t) (λ p. read (p.items ++ s) (counted names p.event) (at + 1) ts)
+read (i ∷ s) names at [] = text_ended i s at
+read (i ∷ s) names at (t ∷ ts) = production_begun i s names at (expand i t) (λ p. read (p.items ++ s) (counted names p.event) (at + 1) ts)
 
 -- a program
 abbrev pub program : List Token → Result (List TextMethod) Fault

@@ -11,7 +11,7 @@ use Rattle.aml_tokens.specs.Lexing.{stop, tokens}
 use Rattle.aml_tokens.specs.Names.{IsToken}
 use Rattle.aml_tokens.specs.Writing.{nothing_written, with_tokens, in_first_line, IsReadBack}
 use Rattle.aml_tree.specs.Tree.{Expr, Number, Variable, Field, Own, Group, Negative, Binary, Code, End, Let, Call, Set, SetField, If, IfElse, While, Fail, Return, TextMethod, bare_expression, without_lines, bare}
-use Rattle.aml_tree.specs.Grammar.{sign, spelling, listed, block_spelling, name_spelling, read_spelling, method_spelling, program_spelling, IsWord, IsAt, IsExpression, IsPrimary, IsBlock, IsMethod, level, lean}
+use Rattle.aml_tree.specs.Grammar.{sign, spelling, listed, block_spelling, name_spelling, read_spelling, method_spelling, program_spelling, IsWord, IsAtLevel, IsExpression, IsPrimary, IsBlock, IsMethod, level, lean}
 use Rattle.aml_tree.specs.Limits.{Mark, marks, lets, block_marks, parameter_marks, method_marks, methods_marks}
 use Rattle.aml_tree.specs.Programs.{IsUnmarked, IsProgram, IsProgramText, IsTextOf}
 use Rattle.aml_print.specs.Printing.{after}
@@ -132,7 +132,7 @@ program_spelling_lined (m ∷ ms) =
 
 -- ---- grammar
 
-at_lined : (e : Expr Word) (k : ℕ) → IsAt k e → IsAt k (lined e)
+at_lined : (e : Expr Word) (k : ℕ) → IsAtLevel k e → IsAtLevel k (lined e)
 at_lined (Number n) k h = h
 at_lined (Variable w) k h = h
 at_lined (Field f line) k h = h

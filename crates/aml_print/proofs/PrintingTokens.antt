@@ -6,7 +6,7 @@ use Rattle.aml_tokens.specs.declared.tokens.Word.{Word}
 use Rattle.aml_tokens.specs.Token.{Token}
 use Rattle.aml_tokens.specs.Names.{IsToken}
 use Rattle.aml_tree.specs.Tree.{Expr, Number, Variable, Field, Own, Group, Negative, Binary, Code, End, Let, Call, Set, SetField, If, IfElse, While, Fail, Return, TextMethod}
-use Rattle.aml_tree.specs.Grammar.{spelling, listed, block_spelling, name_spelling, read_spelling, method_spelling, program_spelling, IsWord, IsAt, IsExpression, IsPrimary, IsBlock, IsMethod, level, lean}
+use Rattle.aml_tree.specs.Grammar.{spelling, listed, block_spelling, name_spelling, read_spelling, method_spelling, program_spelling, IsWord, IsAtLevel, IsExpression, IsPrimary, IsBlock, IsMethod, level, lean}
 
 abbrev Are : List Token → Type 0
 Are ts = AllByRecursion IsToken ts
@@ -15,7 +15,7 @@ both : (xs ys : List Token) → Are xs → Are ys → Are (xs ++ ys)
 both [] ys h k = k
 both (x ∷ xs) ys h k = (h.0, both xs ys h.1 k)
 
-expression : (e : Expr Word) (k : ℕ) → IsAt k e → Are (spelling e)
+expression : (e : Expr Word) (k : ℕ) → IsAtLevel k e → Are (spelling e)
 expression (Number n) k h = (h, tt)
 expression (Variable w) k h = (h, tt)
 expression (Field f line) k h = (h, tt)

@@ -11,13 +11,13 @@ use Rattle.aml_tokens.specs.declared.tokens.TextCause.{TextCause}
 use Rattle.aml_tree.specs.Tree.{Expr, Number, Variable, Field, Own, Group, Negative, Binary, Code, End, Let, Call, Set, SetField, If, IfElse, While, Fail, Return, TextMethod, CheckedMethod}
 use Rattle.aml_tree.specs.Limits.{Mark, opened, marks, listed_marks, lets, block_marks}
 use Rattle.aml_tree.specs.Programs.{IsUnmarked}
-use Rattle.aml_tree.specs.Grammar.{lean, level, IsAt, IsExpression, IsPrimary, IsBlock}
+use Rattle.aml_tree.specs.Grammar.{lean, level, IsAtLevel, IsExpression, IsPrimary, IsBlock}
 use Rattle.aml_tokens.specs.declared.tokens.TextCause.TheVariants.{NumberRange}
 use Rattle.aml_resolver.specs.declared.faults.CheckFault.{CheckFault}
 use Rattle.aml_resolver.specs.declared.faults.CheckCause.TheVariants.{UnknownName, ArgCount}
 use Rattle.aml_resolver.specs.Names.{place_from, place_of, placed, checked_expression, checked_block, checked_method, checked_program}
 use Rattle.aml_check.specs.Names.{method_names, method_at, no_method, counted_from}
-use Rattle.aml_resolver.specs.Faults.{at, unknown, duplicate, faults, call_faults_at, call_faults, is_writer, promise_faults, block_faults}
+use Rattle.aml_resolver.specs.Faults.{fault_at, unknown, duplicate, faults, call_faults_at, call_faults, is_writer, promise_faults, block_faults}
 use Rattle.aml_check.specs.Closed.{IsClosedExpression, IsClosedCall, IsClosedBlock}
 use Rattle.aml_resolver.proofs.Lookup.{among_from}
 
@@ -76,7 +76,7 @@ place_in k (n ∷ ns) name =
     let e : 1 + length ns ≡ length (n ∷ ns) = omega arith in
     subst P e (place_by (bytes_eq n name) k (length ns) (place_from (k + 1) ns name) (place_in (k + 1) ns name))
 
-known_by : (o : Option ℕ) (w : Word) → (if is_some o then [] else at w UnknownName) ≡ [] → is_some o ≡ true
+known_by : (o : Option ℕ) (w : Word) → (if is_some o then [] else fault_at w UnknownName) ≡ [] → is_some o ≡ true
 known_by (Some j) w e = refl
 known_by None w e = absurd cc
 
@@ -86,12 +86,12 @@ within_by None n e h = absurd cc
 
 pub known_place : (ns : List (List ℕ)) (w : Word) → unknown ns w ≡ [] → placed ns w < length ns
 known_place ns w e =
-    let P : Bool → Type 0 = λ b. (if b then [] else at w UnknownName) ≡ [] in
+    let P : Bool → Type 0 = λ b. (if b then [] else fault_at w UnknownName) ≡ [] in
     within_by (place_of ns w.name) (length ns) (known_by (place_of ns w.name) w (subst P (among_from 0 ns w) e)) (place_in 0 ns w.name)
 
 -- ---- expressions
 
-pub closed_expression : (ns : List (List ℕ)) (k : ℕ) (e : Expr Word) → IsAt k e → faults ns e ≡ [] → IsClosedExpression (length ns) (checked_expression ns e)
+pub closed_expression : (ns : List (List ℕ)) (k : ℕ) (e : Expr Word) → IsAtLevel k e → faults ns e ≡ [] → IsClosedExpression (length ns) (checked_expression ns e)
 closed_expression ns k (Number n) rule none = rule
 closed_expression ns k (Variable w) rule none = known_place ns w none
 closed_expression ns k (Field f line) rule none = rule
@@ -110,7 +110,7 @@ closed_all ns (e ∷ es) rules none = (
   closed_all ns es rules.1 (none_right (faults ns e) (flat_map (faults ns) es) none),
 )
 
-primary_at : (e : Expr Word) → IsPrimary e → IsAt 0 e
+primary_at : (e : Expr Word) → IsPrimary e → IsAtLevel 0 e
 primary_at (Number n) rule = rule
 primary_at (Variable w) rule = rule
 primary_at (Field f line) rule = rule
@@ -142,7 +142,7 @@ same_parameters p place h =
     ap (λ (m : CheckedMethod). length m.parameters) (get_or-map (checked_method (method_names p)) p place no_method no_method h)
     ∙ counted_length 0 (method_at p place).parameters
 
-by_count : (b : Bool) (w : Word) → (if b then [] else at w ArgCount) ≡ [] → b ≡ true
+by_count : (b : Bool) (w : Word) → (if b then [] else fault_at w ArgCount) ≡ [] → b ≡ true
 by_count true w e = refl
 by_count false w e = absurd cc
 

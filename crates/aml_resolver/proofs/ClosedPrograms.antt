@@ -18,7 +18,7 @@ use Rattle.aml_resolver.specs.declared.faults.CheckCause.TheVariants.{Duplicate,
 use Rattle.aml_resolver.specs.declared.faults.CheckFault.{CheckFault}
 use Rattle.aml_resolver.specs.Names.{names_of, checked_block, checked_method, checked_program}
 use Rattle.aml_check.specs.Names.{method_names, counted_from}
-use Rattle.aml_resolver.specs.Faults.{at, is_among, duplicate, repeated, block_faults, last_line, end_faults, method_faults, faults_behind, program_faults, IsCheckedProgram}
+use Rattle.aml_resolver.specs.Faults.{fault_at, is_name_among, duplicate, repeated, block_faults, last_line, end_faults, method_faults, faults_behind, program_faults, IsCheckedProgram}
 use Rattle.aml_check.specs.Closed.{IsClosedBlock, nesting, IsClosedMethod, AreDistinct, IsClosedProgram, if_last, ends}
 use Rattle.aml_resolver.proofs.ClosedParts.{none_left, none_right, all_left, all_right, below, counted_length, closed_block}
 use Rattle.aml_resolver.proofs.Promises.{keeps_promise}
@@ -193,17 +193,17 @@ closed_methods p front i (m ∷ ms) rules none free = (
 
 -- ---- distinct names
 
-by_new : (b : Bool) (w : Word) → (if b then at w Duplicate else []) ≡ [] → b ≡ false
+by_new : (b : Bool) (w : Word) → (if b then fault_at w Duplicate else []) ≡ [] → b ≡ false
 by_new true w e = absurd cc
 by_new false w e = refl
 
-not_here : (front : List (List ℕ)) (w : Word) (i : ℕ) → is_among front w ≡ false → i < length front → get_or front i [] ≢ w.name
+not_here : (front : List (List ℕ)) (w : Word) (i : ℕ) → is_name_among front w ≡ false → i < length front → get_or front i [] ≢ w.name
 not_here front w i new h e =
     let same : bytes_eq (get_or front i []) w.name ≡ true = (bytes_eq-Decides (get_or front i []) w.name).1 e in
-    let found : is_among front w ≡ true = list_any_at (λ (n : List ℕ). bytes_eq n w.name) front i [] h same in
+    let found : is_name_among front w ≡ true = list_any_at (λ (n : List ℕ). bytes_eq n w.name) front i [] h same in
     cc
 
-distinct_push : (front : List (List ℕ)) (w : Word) → AreDistinct front → is_among front w ≡ false → AreDistinct (front ++ w.name ∷ [])
+distinct_push : (front : List (List ℕ)) (w : Word) → AreDistinct front → is_name_among front w ≡ false → AreDistinct (front ++ w.name ∷ [])
 distinct_push front w d new i j hi hj e =
     let whole : length (front ++ w.name ∷ []) ≡ length front + 1 = rw length-append (omega arith) in
     let last : get_or (front ++ w.name ∷ []) (length front) [] ≡ w.name = get_or-append_seam front w.name [] [] in
@@ -225,7 +225,7 @@ distinct_all p front [] d none = subst AreDistinct (sym (append-nil front)) d
 distinct_all p front (m ∷ ms) d none =
     let ns = names_of m.parameters in
     let here = none_left (method_faults p front m) (faults_behind p (front ++ m.name.name ∷ []) ms) none in
-    let new = by_new (is_among front m.name) m.name (none_left (duplicate front m.name) (repeated [] m.parameters ++ (block_faults p m.is_read ns m.body ++ end_faults m.body)) here) in
+    let new = by_new (is_name_among front m.name) m.name (none_left (duplicate front m.name) (repeated [] m.parameters ++ (block_faults p m.is_read ns m.body ++ end_faults m.body)) here) in
     subst AreDistinct (append_assoc front (m.name.name ∷ []) (method_names ms)) (distinct_all p (front ++ m.name.name ∷ []) ms (distinct_push front m.name d new) (none_right (method_faults p front m) (faults_behind p (front ++ m.name.name ∷ []) ms) none))
 
 same_names : (methods : List (List ℕ)) (ms : List TextMethod) → method_names (map (checked_method methods) ms) ≡ method_names ms

@@ -8,7 +8,7 @@ use Rattle.aml_resolver.specs.declared.faults.CheckCause.TheVariants.{UnknownNam
 use Rattle.aml_resolver.specs.declared.faults.CheckFault.{CheckFault}
 use Rattle.aml_resolver.specs.Names.{names_of, place_of}
 use Rattle.aml_check.specs.Names.{method_names, method_at}
-use Rattle.aml_resolver.specs.Faults.{at, is_among, unknown, duplicate, faults, call_faults_at, call_faults, is_writer, promise_faults, block_faults, repeated, last_line, end_faults, method_faults, faults_behind, IsFirstCheckFault}
+use Rattle.aml_resolver.specs.Faults.{fault_at, is_name_among, unknown, duplicate, faults, call_faults_at, call_faults, is_writer, promise_faults, block_faults, repeated, last_line, end_faults, method_faults, faults_behind, IsFirstCheckFault}
 use Rattle.aml_check.specs.Closed.{ends}
 
 abbrev FaultsUpTo : ℕ → List CheckFault → Type 0
@@ -21,16 +21,16 @@ both_up_to most (f ∷ fs) gs a b = (a.0, both_up_to most fs gs a.1 b)
 -- ---- names
 
 unknown_up_to : (most : ℕ) (names : List (List ℕ)) (w : Word) → WordUpTo most w → FaultsUpTo most (unknown names w)
-unknown_up_to most names w h = by (is_among names w)
+unknown_up_to most names w h = by (is_name_among names w)
   where
-    by : (b : Bool) → FaultsUpTo most (if b then [] else at w UnknownName)
+    by : (b : Bool) → FaultsUpTo most (if b then [] else fault_at w UnknownName)
     by true = tt
     by false = (h, tt)
 
 duplicate_up_to : (most : ℕ) (names : List (List ℕ)) (w : Word) → WordUpTo most w → FaultsUpTo most (duplicate names w)
-duplicate_up_to most names w h = by (is_among names w)
+duplicate_up_to most names w h = by (is_name_among names w)
   where
-    by : (b : Bool) → FaultsUpTo most (if b then at w Duplicate else [])
+    by : (b : Bool) → FaultsUpTo most (if b then fault_at w Duplicate else [])
     by true = (h, tt)
     by false = tt
 
@@ -38,7 +38,7 @@ called_up_to : (most : ℕ) (p : List TextMethod) (w : Word) (arguments : ℕ) (
 called_up_to most p w arguments None h = (h, tt)
 called_up_to most p w arguments (Some place) h = by (length (method_at p place).parameters == arguments)
   where
-    by : (b : Bool) → FaultsUpTo most (if b then [] else at w ArgCount)
+    by : (b : Bool) → FaultsUpTo most (if b then [] else fault_at w ArgCount)
     by true = tt
     by false = (h, tt)
 

@@ -11,18 +11,18 @@ use Rattle.aml_resolver.specs.Names.{names_of, place_of, checked_program}
 use Rattle.aml_check.specs.Names.{method_names, method_at}
 use Rattle.aml_check.specs.Closed.{ends}
 
-abbrev pub at : Word → CheckCause → List CheckFault
-at w cause = record { line = w.line; cause = cause } ∷ []
+abbrev pub fault_at : Word → CheckCause → List CheckFault
+fault_at w cause = record { line = w.line; cause = cause } ∷ []
 
-abbrev pub is_among : List (List ℕ) → Word → Bool
-is_among names w = list_any (λ (n : List ℕ). bytes_eq n w.name) names
+abbrev pub is_name_among : List (List ℕ) → Word → Bool
+is_name_among names w = list_any (λ (n : List ℕ). bytes_eq n w.name) names
 
 -- a name that has to be known, and one that has to be new
 abbrev pub unknown : List (List ℕ) → Word → List CheckFault
-unknown names w = if is_among names w then [] else at w UnknownName
+unknown names w = if is_name_among names w then [] else fault_at w UnknownName
 
 abbrev pub duplicate : List (List ℕ) → Word → List CheckFault
-duplicate names w = if is_among names w then at w Duplicate else []
+duplicate names w = if is_name_among names w then fault_at w Duplicate else []
 
 -- names, the visible variables
 abbrev pub faults : List (List ℕ) → Expr Word → List CheckFault
@@ -36,8 +36,8 @@ faults names (Binary o a b) = faults names a ++ faults names b
 
 -- a call, with so many arguments, of the method at a place, if there is one
 abbrev pub call_faults_at : List TextMethod → Word → ℕ → Option ℕ → List CheckFault
-call_faults_at p w arguments None = at w UnknownName
-call_faults_at p w arguments (Some place) = if length (method_at p place).parameters == arguments then [] else at w ArgCount
+call_faults_at p w arguments None = fault_at w UnknownName
+call_faults_at p w arguments (Some place) = if length (method_at p place).parameters == arguments then [] else fault_at w ArgCount
 
 -- a call of a method by its name; the first method of the name counts
 abbrev pub call_faults : List TextMethod → Word → ℕ → List CheckFault

@@ -3,19 +3,19 @@ use Rattle.std.proofs.Common.{◌≡◌, ℕ, zero, suc, ◌+◌, ◌-◌, ◌�
 use Rattle.std.proofs.lemmas.Bool.Decides.{nat_tests}
 use Rattle.std.proofs.lemmas.List.{take_all, length-take}
 use Rattle.aml_tree.specs.Tree.{Expr, Code, While}
-use Rattle.aml_check.specs.Meaning.{◌>>=◌, Progress, Exit, Goes, Gives, Caller, too_many_statements, begun, state_at, value_of, holds, block, behind, turns}
+use Rattle.aml_check.specs.Meaning.{◌>>=◌, Progress, Exit, Goes, Gives, Caller, too_many_statements, statement_begun, state_at, value_of, is_nonzero, block, behind, turns}
 use Rattle.aml_resume.specs.Resuming.{AtLeast, keeping, Rises}
 use Rattle.aml_resume.proofs.Rising.{Going, block_rises}
 
 -- ---- turns
 
-begun_late : (r : Progress) → 10000 ≤ r.statements → begun r ≡ Err too_many_statements
+begun_late : (r : Progress) → 10000 ≤ r.statements → statement_begun r ≡ Err too_many_statements
 begun_late r late =
     let t : nat_lt r.statements 10000 ≡ false = grind (arith, nat_tests) in
     ap (λ (b : Bool). if b then Ok (record r { statements = r.statements + 1 }) else Err too_many_statements) t
 
 abbrev turn : Going → ℕ → Expr ℕ → Going → List ℤ → ℤ → Progress → Result (Exit × Progress) ℕ
-turn next own e body vs v r = if holds v then behind vs (body vs r) next else Ok (Goes vs, r)
+turn next own e body vs v r = if is_nonzero v then behind vs (body vs r) next else Ok (Goes vs, r)
 
 abbrev turn_from : Going → ℕ → Expr ℕ → Going → List ℤ → Progress → Result (Exit × Progress) ℕ
 turn_from next own e body vs r = value_of own vs (state_at r.world own) e >>= λ v. turn next own e body vs v r
@@ -50,7 +50,7 @@ enough_turns (suc n) zero own e body h vs r few less = none_left (suc n) own e b
 enough_turns (suc n) (suc m) own e body h vs r few less =
     same_begun_by (nat_lt r.statements 10000) r (turn_from (turns n own e body) own e body vs) (turn_from (turns m own e body) own e body vs) (λ q one.
     same_value (value_of own vs (state_at q.world own) e) (λ v. turn (turns n own e body) own e body vs v q) (λ v. turn (turns m own e body) own e body vs v q) (λ v.
-    same_test (holds v) (behind vs (body vs q) (turns n own e body)) (behind vs (body vs q) (turns m own e body)) (Ok (Goes vs, q))
+    same_test (is_nonzero v) (behind vs (body vs q) (turns n own e body)) (behind vs (body vs q) (turns m own e body)) (Ok (Goes vs, q))
     (same_behind q.statements vs (body vs q) (turns n own e body) (turns m own e body) (h vs q) (λ ws z l.
     enough_turns n m own e body h ws z (omega (arith, few, one, l)) (omega (arith, less, one, l))))))
 
@@ -81,9 +81,9 @@ short_behind n vs (Err code) next h = tt
 short_turns : (n k own : ℕ) (e : Expr ℕ) (body : Going) (vs : List ℤ) (r : Progress) → length vs ≤ k → NoLonger k (turns n own e body vs r)
 short_turns zero k own e body vs r few = tt
 short_turns (suc n) k own e body vs r few =
-    short_begun k (begun r) (turn_from (turns n own e body) own e body vs) (λ q.
+    short_begun k (statement_begun r) (turn_from (turns n own e body) own e body vs) (λ q.
     short_value k (value_of own vs (state_at q.world own) e) (λ v. turn (turns n own e body) own e body vs v q) (λ v.
-    short_test k (holds v) (behind vs (body vs q) (turns n own e body)) (Ok (Goes vs, q))
+    short_test k (is_nonzero v) (behind vs (body vs q) (turns n own e body)) (Ok (Goes vs, q))
     (short_behind k vs (body vs q) (turns n own e body) (λ ws z l. short_turns n k own e body ws z (omega (arith, l, few))))
     few))
 

@@ -5,7 +5,7 @@ use Rattle.snap_base.specs.declared.transactions.State.{State}
 use Rattle.aml_tree.specs.Tree.{Expr, Code, End, Let, Call, Set, SetField, If, IfElse, While, Fail, Return, CheckedMethod}
 use Rattle.aml_check.specs.declared.limits.TheConstants.{MOST_STATEMENTS}
 use Rattle.aml_check.specs.Closed.{OnlyReads}
-use Rattle.aml_check.specs.Meaning.{holds, values_of}
+use Rattle.aml_check.specs.Meaning.{is_nonzero, values_of}
 use Rattle.aml_resume.specs.declared.places.Spot.{Spot}
 use Rattle.aml_resume.specs.Places.{Standing, behind_some, inner_of, after_inner, place_behind}
 use Rattle.aml_resume.specs.Pausing.{Pause, Through, Returned, Calling, Failed, unless_failed, one_more, counted_value, counting, spot, around, loop_pause, block_pause, pause_from, given_at_end, method_pause}
@@ -35,9 +35,9 @@ test_leaves p s false x y h k = k
 loop_leaves : (p : List CheckedMethod) (more at own : ℕ) (e : Expr ℕ) (body next : List ℤ → State → ℕ → Pause) → Leaves p body → Leaves p next → Leaves p (loop_pause more at own e body next)
 loop_leaves p zero at own e body next h k vs t n = refl
 loop_leaves p (suc more) at own e body next h k vs t n =
-    counting_leaves p own vs t n e (λ x. if holds x.0 then around (spot at false vs) (body vs t x.1) (loop_pause more at own e body next) else next vs t x.1)
+    counting_leaves p own vs t n e (λ x. if is_nonzero x.0 then around (spot at false vs) (body vs t x.1) (loop_pause more at own e body next) else next vs t x.1)
     (λ x.
-    test_leaves p t (holds x.0) (around (spot at false vs) (body vs t x.1) (loop_pause more at own e body next)) (next vs t x.1)
+    test_leaves p t (is_nonzero x.0) (around (spot at false vs) (body vs t x.1) (loop_pause more at own e body next)) (next vs t x.1)
     (around_leaves p t (spot at false vs) (body vs t x.1) (loop_pause more at own e body next) (h vs t x.1) (loop_leaves p more at own e body next h k)) (k vs t x.1))
 
 block_leaves : (p : List CheckedMethod) (own at : ℕ) (b : Code ℕ ℕ) → OnlyReads p b → Leaves p (block_pause own at b)
@@ -51,16 +51,16 @@ block_leaves p own at (Set v e rest) r vs t n =
     counting_leaves p own vs t n e (λ x. block_pause own (at + 1) rest (set vs v x.0) t x.1) (λ x. block_leaves p own (at + 1) rest r (set vs v x.0) t x.1)
 block_leaves p own at (SetField line k e rest) r vs t n = absurd r
 block_leaves p own at (If e first rest) r vs t n =
-    counting_leaves p own vs t n e (λ x. if holds x.0 then around (spot at false vs) (block_pause own 0 first vs t x.1) (block_pause own (at + 1) rest) else block_pause own (at + 1) rest vs t x.1)
+    counting_leaves p own vs t n e (λ x. if is_nonzero x.0 then around (spot at false vs) (block_pause own 0 first vs t x.1) (block_pause own (at + 1) rest) else block_pause own (at + 1) rest vs t x.1)
     (λ x.
-    test_leaves p t (holds x.0) (around (spot at false vs) (block_pause own 0 first vs t x.1) (block_pause own (at + 1) rest)) (block_pause own (at + 1) rest vs t x.1)
+    test_leaves p t (is_nonzero x.0) (around (spot at false vs) (block_pause own 0 first vs t x.1) (block_pause own (at + 1) rest)) (block_pause own (at + 1) rest vs t x.1)
     (around_leaves p t (spot at false vs) (block_pause own 0 first vs t x.1) (block_pause own (at + 1) rest) (block_leaves p own 0 first r.0 vs t x.1) (block_leaves p own (at + 1) rest r.1))
     (block_leaves p own (at + 1) rest r.1 vs t x.1))
 block_leaves p own at (IfElse e first other rest) r vs t n =
     counting_leaves p own vs t n e
-    (λ x. if holds x.0 then around (spot at false vs) (block_pause own 0 first vs t x.1) (block_pause own (at + 1) rest) else around (spot at true vs) (block_pause own 0 other vs t x.1) (block_pause own (at + 1) rest))
+    (λ x. if is_nonzero x.0 then around (spot at false vs) (block_pause own 0 first vs t x.1) (block_pause own (at + 1) rest) else around (spot at true vs) (block_pause own 0 other vs t x.1) (block_pause own (at + 1) rest))
     (λ x.
-    test_leaves p t (holds x.0) (around (spot at false vs) (block_pause own 0 first vs t x.1) (block_pause own (at + 1) rest)) (around (spot at true vs) (block_pause own 0 other vs t x.1) (block_pause own (at + 1) rest))
+    test_leaves p t (is_nonzero x.0) (around (spot at false vs) (block_pause own 0 first vs t x.1) (block_pause own (at + 1) rest)) (around (spot at true vs) (block_pause own 0 other vs t x.1) (block_pause own (at + 1) rest))
     (around_leaves p t (spot at false vs) (block_pause own 0 first vs t x.1) (block_pause own (at + 1) rest) (block_leaves p own 0 first r.0 vs t x.1) (block_leaves p own (at + 1) rest r.2))
     (around_leaves p t (spot at true vs) (block_pause own 0 other vs t x.1) (block_pause own (at + 1) rest) (block_leaves p own 0 other r.1 vs t x.1) (block_leaves p own (at + 1) rest r.2)))
 block_leaves p own at (While e body rest) r vs t n =

@@ -4,11 +4,11 @@ use Rattle.std.proofs.lemmas.List.{length-take, length-set}
 use Rattle.snap_base.specs.declared.transactions.State.{State}
 use Rattle.aml_tree.specs.Tree.{Expr, Code, End, Let, Call, Set, SetField, If, IfElse, While, Fail, Return, CheckedMethod}
 use Rattle.aml_check.specs.Closed.{IsClosedCall}
-use Rattle.aml_check.specs.Meaning.{◌>>=◌, value_of, values_of, with_field, holds}
+use Rattle.aml_check.specs.Meaning.{◌>>=◌, value_of, values_of, with_field, is_nonzero}
 use Rattle.aml_resume.specs.declared.places.Spot.{Spot}
 use Rattle.aml_resume.specs.Places.{behind_some, HasInner, inner_of, after_inner, place_behind, kept, IsPlace, IsRunnable}
 use Rattle.aml_resume.specs.Pausing.{Pause, Through, Returned, Calling, Failed, unless_failed, one_more, counted_value, around, spot, loop_pause, block_pause, pause_from, given_at_end}
-use Rattle.aml_resume.specs.Resuming.{IsAllowed, PausesWhereAllowed}
+use Rattle.aml_resume.specs.Resuming.{IsAllowedPause, PausesWhereAllowed}
 use Rattle.aml_resume.proofs.Behinds.{behind_more}
 use Rattle.aml_resume.proofs.PausesFrom.{behind_place}
 
@@ -66,8 +66,8 @@ turning_placed : (p : List CheckedMethod) (f at own : ℕ) (e : Expr ℕ) (body 
     → (vs : List ℤ) (s : State) (j : ℕ) → length vs ≡ n → Placed p b n (loop_pause f at own e (block_pause own 0 body) next vs s j)
 turning_placed p zero at own e body b next n fits h on vs s j same = tt
 turning_placed p (suc f) at own e body b next n fits h on vs s j same =
-    placed_value p b n s (min (j + 1) 10000) (counted_value own vs s j e) (λ x. if holds x.0 then around (spot at false vs) (block_pause own 0 body vs s x.1) (loop_pause f at own e (block_pause own 0 body) next) else next vs s x.1) (λ x is.
-    placed_test (holds x.0) p b n (around (spot at false vs) (block_pause own 0 body vs s x.1) (loop_pause f at own e (block_pause own 0 body) next)) (next vs s x.1)
+    placed_value p b n s (min (j + 1) 10000) (counted_value own vs s j e) (λ x. if is_nonzero x.0 then around (spot at false vs) (block_pause own 0 body vs s x.1) (loop_pause f at own e (block_pause own 0 body) next) else next vs s x.1) (λ x is.
+    placed_test (is_nonzero x.0) p b n (around (spot at false vs) (block_pause own 0 body vs s x.1) (loop_pause f at own e (block_pause own 0 body) next)) (next vs s x.1)
     (let P : ℕ → Type 0 = λ m. Placed p b n (around (record { at = at; other = false; keep = m }) (block_pause own 0 body vs s x.1) (loop_pause f at own e (block_pause own 0 body) next)) in
     subst P (sym same) (placed_around p b body (record { at = at; other = false; keep = n }) (block_pause own 0 body vs s x.1) (loop_pause f at own e (block_pause own 0 body) next) fits (h vs s x.1 same) (λ ws t k. turning_placed p f at own e body b next n fits h on ws t k)))
     (on vs s x.1 same))
@@ -103,8 +103,8 @@ paused_placed p own (If e first rest) b at here vs s n h =
       inner = ap (inner_of false) here;
       after = subst (IsRunnable p (length vs)) (sym (ap after_inner here)) on;
     } in
-    placed_value p b (length vs) s (min (n + 1) 10000) (counted_value own vs s n e) (λ x. if holds x.0 then around (spot at false vs) (block_pause own 0 first vs s x.1) (block_pause own (at + 1) rest) else block_pause own (at + 1) rest vs s x.1) (λ x is.
-    placed_test (holds x.0) p b (length vs) (around (spot at false vs) (block_pause own 0 first vs s x.1) (block_pause own (at + 1) rest)) (block_pause own (at + 1) rest vs s x.1)
+    placed_value p b (length vs) s (min (n + 1) 10000) (counted_value own vs s n e) (λ x. if is_nonzero x.0 then around (spot at false vs) (block_pause own 0 first vs s x.1) (block_pause own (at + 1) rest) else block_pause own (at + 1) rest vs s x.1) (λ x is.
+    placed_test (is_nonzero x.0) p b (length vs) (around (spot at false vs) (block_pause own 0 first vs s x.1) (block_pause own (at + 1) rest)) (block_pause own (at + 1) rest vs s x.1)
     (placed_around p b first (spot at false vs) (block_pause own 0 first vs s x.1) (block_pause own (at + 1) rest) fits
     (paused_placed p own first first 0 refl vs s x.1 (h.0.1, omega (arith, h.1)))
     (λ ws t k same. subst (λ m. Placed p b m (block_pause own (at + 1) rest ws t k)) same (paused_placed p own rest b (at + 1) more ws t k (subst (λ m. IsRunnable p m rest) (sym same) on))))
@@ -124,8 +124,8 @@ paused_placed p own (IfElse e first other rest) b at here vs s n h =
     } in
     let behind_it : (ws : List ℤ) (t : State) (k : ℕ) → length ws ≡ length vs → Placed p b (length vs) (block_pause own (at + 1) rest ws t k) = λ ws t k same.
     subst (λ m. Placed p b m (block_pause own (at + 1) rest ws t k)) same (paused_placed p own rest b (at + 1) more ws t k (subst (λ m. IsRunnable p m rest) (sym same) on)) in
-    placed_value p b (length vs) s (min (n + 1) 10000) (counted_value own vs s n e) (λ x. if holds x.0 then around (spot at false vs) (block_pause own 0 first vs s x.1) (block_pause own (at + 1) rest) else around (spot at true vs) (block_pause own 0 other vs s x.1) (block_pause own (at + 1) rest)) (λ x is.
-    placed_test (holds x.0) p b (length vs) (around (spot at false vs) (block_pause own 0 first vs s x.1) (block_pause own (at + 1) rest)) (around (spot at true vs) (block_pause own 0 other vs s x.1) (block_pause own (at + 1) rest))
+    placed_value p b (length vs) s (min (n + 1) 10000) (counted_value own vs s n e) (λ x. if is_nonzero x.0 then around (spot at false vs) (block_pause own 0 first vs s x.1) (block_pause own (at + 1) rest) else around (spot at true vs) (block_pause own 0 other vs s x.1) (block_pause own (at + 1) rest)) (λ x is.
+    placed_test (is_nonzero x.0) p b (length vs) (around (spot at false vs) (block_pause own 0 first vs s x.1) (block_pause own (at + 1) rest)) (around (spot at true vs) (block_pause own 0 other vs s x.1) (block_pause own (at + 1) rest))
     (placed_around p b first (spot at false vs) (block_pause own 0 first vs s x.1) (block_pause own (at + 1) rest) fits (paused_placed p own first first 0 refl vs s x.1 (h.0.1, omega (arith, h.1))) behind_it)
     (placed_around p b other (spot at true vs) (block_pause own 0 other vs s x.1) (block_pause own (at + 1) rest) fits_other (paused_placed p own other other 0 refl vs s x.1 (h.0.2, omega (arith, h.1))) behind_it))
 paused_placed p own (While e body rest) b at here vs s n h =
@@ -155,7 +155,7 @@ from_placed p own b (q ∷ qs) next vs s n place =
 
 -- ---- the law
 
-allowed : (p : List CheckedMethod) (b : Code ℕ ℕ) (least : ℕ) (x : Pause) → Placed p b least x → IsAllowed p b (given_at_end x)
+allowed : (p : List CheckedMethod) (b : Code ℕ ℕ) (least : ℕ) (x : Pause) → Placed p b least x → IsAllowedPause p b (given_at_end x)
 allowed p b least (Through vs t k) h = tt
 allowed p b least (Returned v t k) h = tt
 allowed p b least (Calling target m arguments g t k) h = (h.0, h.2)

@@ -4,11 +4,11 @@ use Rattle.std.proofs.lemmas.Bool.Decides.{nat_tests}
 use Rattle.std.proofs.lemmas.List.{take_all, length-take}
 use Rattle.snap_base.specs.declared.transactions.State.{State}
 use Rattle.aml_tree.specs.Tree.{Expr, Code, End, Let, Call, Set, SetField, If, IfElse, While, Fail, Return}
-use Rattle.aml_check.specs.Meaning.{◌>>=◌, Progress, Exit, Goes, Gives, Caller, too_many_statements, begun, state_at, value_of, values_of, with_field, holds, block, behind, turns}
+use Rattle.aml_check.specs.Meaning.{◌>>=◌, Progress, Exit, Goes, Gives, Caller, too_many_statements, statement_begun, state_at, value_of, values_of, with_field, is_nonzero, block, behind, turns}
 use Rattle.aml_resume.specs.declared.places.Spot.{Spot}
 use Rattle.aml_resume.specs.Places.{behind_some, inner_of, after_inner, place_behind}
 use Rattle.aml_resume.specs.Pausing.{Pause, Through, Returned, Calling, Failed, unless_failed, one_more, counted_value, counting, around, spot, loop_pause, block_pause, pause_from}
-use Rattle.aml_resume.specs.Resuming.{AtLeast, IsAt, IsCounted, moved, Rises, resumed, keeping}
+use Rattle.aml_resume.specs.Resuming.{AtLeast, HasReached, IsCounted, moved, Rises, resumed, keeping}
 use Rattle.aml_resume.proofs.Behinds.{behind_more}
 use Rattle.aml_resume.proofs.MovedRuns.{at_moved, moved_twice, moved_same, with_run, counted_result, counted_so, counted_here}
 use Rattle.aml_resume.proofs.Keeping.{behind_keeping, same_after, resumed_rises, keeping_after}
@@ -47,11 +47,11 @@ by_count own b call r s j (Ok x) next go h = h x.0 x.1 refl
 by_count own b call r s j (Err code) next go h = refl
 
 -- a statement that begins with an expression
-by_value : (own : ℕ) (b : Code ℕ ℕ) (call : Caller) (r : Progress) (vs : List ℤ) (s : State) (n : ℕ) (e : Expr ℕ) (next : ℤ → Progress → R) (go : ℤ × ℕ → Pause) → IsAt own s n r
+by_value : (own : ℕ) (b : Code ℕ ℕ) (call : Caller) (r : Progress) (vs : List ℤ) (s : State) (n : ℕ) (e : Expr ℕ) (next : ℤ → Progress → R) (go : ℤ × ℕ → Pause) → HasReached own s n r
     → ((x : ℤ) (k : ℕ) → counted_value own vs s n e ≡ Ok (x, k) → next x (moved own s k r) ≡ block_goes own b call r (go (x, k)))
-    → (begun r >>= λ q. value_of own vs (state_at q.world own) e >>= λ v. next v q) ≡ block_goes own b call r (counting own vs s n e go)
+    → (statement_begun r >>= λ q. value_of own vs (state_at q.world own) e >>= λ v. next v q) ≡ block_goes own b call r (counting own vs s n e go)
 by_value own b call r vs s n e next go h on =
-    joined_run (begun r) (λ q. value_of own vs (state_at q.world own) e) next
+    joined_run (statement_begun r) (λ q. value_of own vs (state_at q.world own) e) next
     ∙ ap (λ (o : Result (ℤ × Progress) ℕ). o >>= λ x. next x.0 x.1) (counted_here own vs s n e r h)
     ∙ by_count own b call r s (min (n + 1) 10000) (counted_value own vs s n e) next go on
 
@@ -149,8 +149,8 @@ counts_on own vs s n e go few h = counts_value n (min (n + 1) 10000) s (counted_
 turning_counts : (f at own : ℕ) (e : Expr ℕ) (body next : List ℤ → State → ℕ → Pause) → ((ws : List ℤ) (t : State) (k : ℕ) → k ≤ 10000 → IsCounted k (body ws t k)) → ((ws : List ℤ) (t : State) (k : ℕ) → k ≤ 10000 → IsCounted k (next ws t k)) → (vs : List ℤ) (s : State) (n : ℕ) → n ≤ 10000 → IsCounted n (loop_pause f at own e body next vs s n)
 turning_counts zero at own e body next h on vs s n few = (omega arith, few)
 turning_counts (suc f) at own e body next h on vs s n few =
-    counts_on own vs s n e (λ x. if holds x.0 then around (spot at false vs) (body vs s x.1) (loop_pause f at own e body next) else next vs s x.1) few (λ x less.
-    counts_test (holds x.0) x.1 (around (spot at false vs) (body vs s x.1) (loop_pause f at own e body next)) (next vs s x.1)
+    counts_on own vs s n e (λ x. if is_nonzero x.0 then around (spot at false vs) (body vs s x.1) (loop_pause f at own e body next) else next vs s x.1) few (λ x less.
+    counts_test (is_nonzero x.0) x.1 (around (spot at false vs) (body vs s x.1) (loop_pause f at own e body next)) (next vs s x.1)
     (counts_around x.1 (spot at false vs) (body vs s x.1) (loop_pause f at own e body next) (h vs s x.1 less) (λ ws t k. turning_counts f at own e body next h on ws t k))
     (on vs s x.1 less))
 
@@ -163,13 +163,13 @@ paused_counts own at (Call line v e m es rest) vs s n few =
 paused_counts own at (Set v e rest) vs s n few = counts_on own vs s n e (λ x. block_pause own (at + 1) rest (set vs v x.0) s x.1) few (λ x. paused_counts own (at + 1) rest (set vs v x.0) s x.1)
 paused_counts own at (SetField line k e rest) vs s n few = counts_on own vs s n e (λ x. block_pause own (at + 1) rest vs (with_field s k x.0) x.1) few (λ x. paused_counts own (at + 1) rest vs (with_field s k x.0) x.1)
 paused_counts own at (If e first rest) vs s n few =
-    counts_on own vs s n e (λ x. if holds x.0 then around (spot at false vs) (block_pause own 0 first vs s x.1) (block_pause own (at + 1) rest) else block_pause own (at + 1) rest vs s x.1) few (λ x less.
-    counts_test (holds x.0) x.1 (around (spot at false vs) (block_pause own 0 first vs s x.1) (block_pause own (at + 1) rest)) (block_pause own (at + 1) rest vs s x.1)
+    counts_on own vs s n e (λ x. if is_nonzero x.0 then around (spot at false vs) (block_pause own 0 first vs s x.1) (block_pause own (at + 1) rest) else block_pause own (at + 1) rest vs s x.1) few (λ x less.
+    counts_test (is_nonzero x.0) x.1 (around (spot at false vs) (block_pause own 0 first vs s x.1) (block_pause own (at + 1) rest)) (block_pause own (at + 1) rest vs s x.1)
     (counts_around x.1 (spot at false vs) (block_pause own 0 first vs s x.1) (block_pause own (at + 1) rest) (paused_counts own 0 first vs s x.1 less) (paused_counts own (at + 1) rest))
     (paused_counts own (at + 1) rest vs s x.1 less))
 paused_counts own at (IfElse e first other rest) vs s n few =
-    counts_on own vs s n e (λ x. if holds x.0 then around (spot at false vs) (block_pause own 0 first vs s x.1) (block_pause own (at + 1) rest) else around (spot at true vs) (block_pause own 0 other vs s x.1) (block_pause own (at + 1) rest)) few (λ x less.
-    counts_test (holds x.0) x.1 (around (spot at false vs) (block_pause own 0 first vs s x.1) (block_pause own (at + 1) rest)) (around (spot at true vs) (block_pause own 0 other vs s x.1) (block_pause own (at + 1) rest))
+    counts_on own vs s n e (λ x. if is_nonzero x.0 then around (spot at false vs) (block_pause own 0 first vs s x.1) (block_pause own (at + 1) rest) else around (spot at true vs) (block_pause own 0 other vs s x.1) (block_pause own (at + 1) rest)) few (λ x less.
+    counts_test (is_nonzero x.0) x.1 (around (spot at false vs) (block_pause own 0 first vs s x.1) (block_pause own (at + 1) rest)) (around (spot at true vs) (block_pause own 0 other vs s x.1) (block_pause own (at + 1) rest))
     (counts_around x.1 (spot at false vs) (block_pause own 0 first vs s x.1) (block_pause own (at + 1) rest) (paused_counts own 0 first vs s x.1 less) (paused_counts own (at + 1) rest))
     (counts_around x.1 (spot at true vs) (block_pause own 0 other vs s x.1) (block_pause own (at + 1) rest) (paused_counts own 0 other vs s x.1 less) (paused_counts own (at + 1) rest)))
 paused_counts own at (While e body rest) vs s n few = turning_counts (10001 - n) at own e (block_pause own 0 body) (block_pause own (at + 1) rest) (paused_counts own 0 body) (paused_counts own (at + 1) rest) vs s n few
@@ -206,15 +206,15 @@ loop_again call rises m own n e b rest first k (Err code) few enough least = ref
 pub record Looping (own at : ℕ) (e : Expr ℕ) (body rest b : Code ℕ ℕ) (call : Caller) : Type 0 where
   pub rises : Rises call
   pub here : behind_some at b ≡ While e body rest
-  pub inside : (vs : List ℤ) (s : State) (n : ℕ) (r : Progress) → IsAt own s n r → block call own body vs r ≡ block_goes own body call r (block_pause own 0 body vs s n)
-  pub behind_it : (vs : List ℤ) (s : State) (n : ℕ) (r : Progress) → IsAt own s n r → block call own rest vs r ≡ block_goes own b call r (block_pause own (at + 1) rest vs s n)
+  pub inside : (vs : List ℤ) (s : State) (n : ℕ) (r : Progress) → HasReached own s n r → block call own body vs r ≡ block_goes own body call r (block_pause own 0 body vs s n)
+  pub behind_it : (vs : List ℤ) (s : State) (n : ℕ) (r : Progress) → HasReached own s n r → block call own rest vs r ≡ block_goes own b call r (block_pause own (at + 1) rest vs s n)
 
 abbrev Turns : ℕ → ℕ → Expr ℕ → Code ℕ ℕ → Code ℕ ℕ → Code ℕ ℕ → Caller → List ℤ → ℕ → Type 0
 Turns own at e body rest b call first f =
-    (vs : List ℤ) (s : State) (n : ℕ) (r : Progress) → length vs ≤ length first → IsAt own s n r → 10001 ≤ f + n
+    (vs : List ℤ) (s : State) (n : ℕ) (r : Progress) → length vs ≤ length first → HasReached own s n r → 10001 ≤ f + n
     → behind first (turns f own e (block call own body) vs r) (block call own rest) ≡ block_goes own b call r (loop_pause f at own e (block_pause own 0 body) (block_pause own (at + 1) rest) vs s n)
 
-turn_goes : (own at : ℕ) (e : Expr ℕ) (body rest b : Code ℕ ℕ) (call : Caller) (first vs : List ℤ) (f n k : ℕ) (s : State) (r : Progress) (x : Pause) → Looping own at e body rest b call → Turns own at e body rest b call first f → length vs ≤ length first → IsAt own s n r → 10001 ≤ f + k → IsCounted k x
+turn_goes : (own at : ℕ) (e : Expr ℕ) (body rest b : Code ℕ ℕ) (call : Caller) (first vs : List ℤ) (f n k : ℕ) (s : State) (r : Progress) (x : Pause) → Looping own at e body rest b call → Turns own at e body rest b call first f → length vs ≤ length first → HasReached own s n r → 10001 ≤ f + k → IsCounted k x
     → behind first (behind vs (block_goes own body call r x) (turns f own e (block call own body))) (block call own rest) ≡ block_goes own b call r (around (spot at false vs) x (loop_pause f at own e (block_pause own 0 body) (block_pause own (at + 1) rest)))
 turn_goes own at e body rest b call first vs f n k s r (Through ws t j) l on few h enough count =
     on (take (length vs) ws) t j (moved own t j r) (omega (arith, length-take (length vs) ws, few)) (at_moved own s t n j r h) (omega (arith, enough, count.0))
@@ -234,7 +234,7 @@ turn_goes own at e body rest b call first vs f n k s r (Calling target m argumen
     ∙ ap (λ (c : Code ℕ ℕ). G >>= λ y. keeping (length vs) (resumed call own (inner_of false c) g.path g.next (g.variables ++ y.0 ∷ []) y.1) (block call own (after_inner c))) (sym l.here)
 turn_goes own at e body rest b call first vs f n k s r (Failed code t j) l on few h enough count = refl
 
-turn_by : (t : Bool) (own at : ℕ) (e : Expr ℕ) (body rest b : Code ℕ ℕ) (call : Caller) (first vs : List ℤ) (f n k : ℕ) (s : State) (r : Progress) → Looping own at e body rest b call → Turns own at e body rest b call first f → length vs ≤ length first → IsAt own s n r → 10001 ≤ f + k → k ≤ 10000
+turn_by : (t : Bool) (own at : ℕ) (e : Expr ℕ) (body rest b : Code ℕ ℕ) (call : Caller) (first vs : List ℤ) (f n k : ℕ) (s : State) (r : Progress) → Looping own at e body rest b call → Turns own at e body rest b call first f → length vs ≤ length first → HasReached own s n r → 10001 ≤ f + k → k ≤ 10000
     → behind first (if t then behind vs (block call own body vs (moved own s k r)) (turns f own e (block call own body)) else Ok (Goes vs, moved own s k r)) (block call own rest)
     ≡ block_goes own b call r (if t then around (spot at false vs) (block_pause own 0 body vs s k) (loop_pause f at own e (block_pause own 0 body) (block_pause own (at + 1) rest)) else block_pause own (at + 1) rest vs s k)
 turn_by true own at e body rest b call first vs f n k s r l on few h enough less =
@@ -248,10 +248,10 @@ turn_by false own at e body rest b call first vs f n k s r l on few h enough les
 loops : (f own at : ℕ) (e : Expr ℕ) (body rest b : Code ℕ ℕ) (call : Caller) (first : List ℤ) → Looping own at e body rest b call → Turns own at e body rest b call first f
 loops zero own at e body rest b call first l vs s n r few h enough = refl
 loops (suc f) own at e body rest b call first l vs s n r few h enough =
-    behind_run first (begun r) (λ q. value_of own vs (state_at q.world own) e) (λ v q. if holds v then behind vs (block call own body vs q) (turns f own e (block call own body)) else Ok (Goes vs, q)) (block call own rest)
-    ∙ by_value own b call r vs s n e (λ v q. behind first (if holds v then behind vs (block call own body vs q) (turns f own e (block call own body)) else Ok (Goes vs, q)) (block call own rest))
-    (λ x. if holds x.0 then around (spot at false vs) (block_pause own 0 body vs s x.1) (loop_pause f at own e (block_pause own 0 body) (block_pause own (at + 1) rest)) else block_pause own (at + 1) rest vs s x.1) h
-    (λ x k is. turn_by (holds x) own at e body rest b call first vs f n k s r l (loops f own at e body rest b call first l) few h (omega (arith, enough, (counted_one own vs s n e x k is).0)) (counted_one own vs s n e x k is).1)
+    behind_run first (statement_begun r) (λ q. value_of own vs (state_at q.world own) e) (λ v q. if is_nonzero v then behind vs (block call own body vs q) (turns f own e (block call own body)) else Ok (Goes vs, q)) (block call own rest)
+    ∙ by_value own b call r vs s n e (λ v q. behind first (if is_nonzero v then behind vs (block call own body vs q) (turns f own e (block call own body)) else Ok (Goes vs, q)) (block call own rest))
+    (λ x. if is_nonzero x.0 then around (spot at false vs) (block_pause own 0 body vs s x.1) (loop_pause f at own e (block_pause own 0 body) (block_pause own (at + 1) rest)) else block_pause own (at + 1) rest vs s x.1) h
+    (λ x k is. turn_by (is_nonzero x) own at e body rest b call first vs f n k s r l (loops f own at e body rest b call first l) few h (omega (arith, enough, (counted_one own vs s n e x k is).0)) (counted_one own vs s n e x k is).1)
 
 -- ---- blocks
 
@@ -279,7 +279,7 @@ by_else true own vs first other rest b call r z x y h k = h
 by_else false own vs first other rest b call r z x y h k = k
 
 -- what stands at a place of a block gives what its pause means
-pub pauses : (call : Caller) → Rises call → (own : ℕ) (c b : Code ℕ ℕ) (at : ℕ) → behind_some at b ≡ c → (vs : List ℤ) (s : State) (n : ℕ) (r : Progress) → IsAt own s n r → block call own c vs r ≡ block_goes own b call r (block_pause own at c vs s n)
+pub pauses : (call : Caller) → Rises call → (own : ℕ) (c b : Code ℕ ℕ) (at : ℕ) → behind_some at b ≡ c → (vs : List ℤ) (s : State) (n : ℕ) (r : Progress) → HasReached own s n r → block call own c vs r ≡ block_goes own b call r (block_pause own at c vs s n)
 pauses call rises own (End line) b at here vs s n r h = ap (λ (z : Progress). let o : R = Ok (Goes vs, z) in o) (sym (moved_same own s n r h))
 pauses call rises own (Let line v e rest) b at here vs s n r h =
     let more : behind_some (at + 1) b ≡ rest = behind_more at b ∙ ap (behind_some 1) here in
@@ -307,9 +307,9 @@ pauses call rises own (If e first rest) b at here vs s n r h =
     let go = block_pause own (at + 1) rest in
     let on : (ws : List ℤ) (t : State) (j : ℕ) → block call own rest ws (moved own t j r) ≡ block_goes own b call r (block_pause own (at + 1) rest ws t j) = λ ws t j.
     pauses call rises own rest b (at + 1) more ws t j (moved own t j r) (at_moved own s t n j r h) ∙ again own b call r t j (block_pause own (at + 1) rest ws t j) in
-    by_value own b call r vs s n e (λ x q. behind vs (if holds x then block call own first vs q else Ok (Goes vs, q)) (block call own rest))
-    (λ x. if holds x.0 then around (spot at false vs) (block_pause own 0 first vs s x.1) (block_pause own (at + 1) rest) else block_pause own (at + 1) rest vs s x.1) h (λ x k is.
-    by_if (holds x) own at vs first rest b call r (moved own s k r) (block_pause own 0 first vs s k) (block_pause own (at + 1) rest) (block_pause own (at + 1) rest vs s k)
+    by_value own b call r vs s n e (λ x q. behind vs (if is_nonzero x then block call own first vs q else Ok (Goes vs, q)) (block call own rest))
+    (λ x. if is_nonzero x.0 then around (spot at false vs) (block_pause own 0 first vs s x.1) (block_pause own (at + 1) rest) else block_pause own (at + 1) rest vs s x.1) h (λ x k is.
+    by_if (is_nonzero x) own at vs first rest b call r (moved own s k r) (block_pause own 0 first vs s k) (block_pause own (at + 1) rest) (block_pause own (at + 1) rest vs s k)
     (entered_goes own at false vs first rest b call r (moved own s k r) (block_pause own 0 first vs s k) (block_pause own (at + 1) rest)
     (pauses call rises own first first 0 refl vs s k (moved own s k r) (at_moved own s s n k r h) ∙ again own first call r s k (block_pause own 0 first vs s k))
     (ap (inner_of false) here) (ap after_inner here) on)
@@ -318,9 +318,9 @@ pauses call rises own (IfElse e first other rest) b at here vs s n r h =
     let more : behind_some (at + 1) b ≡ rest = behind_more at b ∙ ap (behind_some 1) here in
     let on : (ws : List ℤ) (t : State) (j : ℕ) → block call own rest ws (moved own t j r) ≡ block_goes own b call r (block_pause own (at + 1) rest ws t j) = λ ws t j.
     pauses call rises own rest b (at + 1) more ws t j (moved own t j r) (at_moved own s t n j r h) ∙ again own b call r t j (block_pause own (at + 1) rest ws t j) in
-    by_value own b call r vs s n e (λ x q. behind vs (if holds x then block call own first vs q else block call own other vs q) (block call own rest))
-    (λ x. if holds x.0 then around (spot at false vs) (block_pause own 0 first vs s x.1) (block_pause own (at + 1) rest) else around (spot at true vs) (block_pause own 0 other vs s x.1) (block_pause own (at + 1) rest)) h (λ x k is.
-    by_else (holds x) own vs first other rest b call r (moved own s k r) (around (spot at false vs) (block_pause own 0 first vs s k) (block_pause own (at + 1) rest)) (around (spot at true vs) (block_pause own 0 other vs s k) (block_pause own (at + 1) rest))
+    by_value own b call r vs s n e (λ x q. behind vs (if is_nonzero x then block call own first vs q else block call own other vs q) (block call own rest))
+    (λ x. if is_nonzero x.0 then around (spot at false vs) (block_pause own 0 first vs s x.1) (block_pause own (at + 1) rest) else around (spot at true vs) (block_pause own 0 other vs s x.1) (block_pause own (at + 1) rest)) h (λ x k is.
+    by_else (is_nonzero x) own vs first other rest b call r (moved own s k r) (around (spot at false vs) (block_pause own 0 first vs s k) (block_pause own (at + 1) rest)) (around (spot at true vs) (block_pause own 0 other vs s k) (block_pause own (at + 1) rest))
     (entered_goes own at false vs first rest b call r (moved own s k r) (block_pause own 0 first vs s k) (block_pause own (at + 1) rest)
     (pauses call rises own first first 0 refl vs s k (moved own s k r) (at_moved own s s n k r h) ∙ again own first call r s k (block_pause own 0 first vs s k))
     (ap (inner_of false) here) (ap after_inner here) on)

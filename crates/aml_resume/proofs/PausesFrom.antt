@@ -6,7 +6,7 @@ use Rattle.aml_check.specs.Meaning.{◌>>=◌, Progress, Caller, block, given}
 use Rattle.aml_resume.specs.declared.places.Spot.{Spot}
 use Rattle.aml_resume.specs.Places.{Standing, behind_some, HasInner, inner_of, after_inner, place_behind, IsPlace}
 use Rattle.aml_resume.specs.Pausing.{Pause, Through, Returned, Calling, Failed, block_pause, pause_from, given_at_end}
-use Rattle.aml_resume.specs.Resuming.{IsAt, IsCounted, moved, Rises, resumed, keeping, gives, goes_on, PausesAsMeant, CountsRise}
+use Rattle.aml_resume.specs.Resuming.{HasReached, IsCounted, moved, Rises, resumed, keeping, gives, goes_on, PausesAsMeant, CountsRise}
 use Rattle.aml_resume.proofs.Behinds.{behind_more}
 use Rattle.aml_resume.proofs.MovedRuns.{at_moved}
 use Rattle.aml_resume.proofs.Pauses.{R, block_goes, again, inner_goes, pauses, from_counts}
@@ -30,7 +30,7 @@ behind_place true at b (Fail code rest) is h = absurd h
 behind_place false at b (Return e rest) is h = absurd h
 behind_place true at b (Return e rest) is h = absurd h
 
-pub pauses_from : (p : List CheckedMethod) (call : Caller) → Rises call → (own m : ℕ) (b : Code ℕ ℕ) (qs : List Spot) (next : ℕ) (vs : List ℤ) (s : State) (n : ℕ) (r : Progress) → IsPlace p m b qs next → IsAt own s n r
+pub pauses_from : (p : List CheckedMethod) (call : Caller) → Rises call → (own m : ℕ) (b : Code ℕ ℕ) (qs : List Spot) (next : ℕ) (vs : List ℤ) (s : State) (n : ℕ) (r : Progress) → IsPlace p m b qs next → HasReached own s n r
     → resumed call own b qs next vs r ≡ block_goes own b call r (pause_from own b qs next vs s n)
 pauses_from p call rises own m b [] next vs s n r place h = pauses call rises own (behind_some next b) b next refl vs s n r h
 pauses_from p call rises own m b (q ∷ qs) next vs s n r place h =

@@ -4,7 +4,7 @@ use Rattle.std.specs.List.{list_any}
 use Rattle.snap_base.specs.declared.ids.ActorId.{ActorId}
 use Rattle.aml_tree.specs.Tree.{Expr, End, Let, Call, Set, SetField, If, IfElse, While, Fail, Return, CheckedMethod}
 use Rattle.aml_check.specs.Names.{method_at}
-use Rattle.aml_check.specs.Meaning.{◌>>=◌, Progress, Exit, Goes, Gives, too_many_statements, begun, state_at, value_of, values_of, holds, block, behind, turns, called, given, actor_of, admitted, one_call, with_actor, declared, by_declaration, with_left, used}
+use Rattle.aml_check.specs.Meaning.{◌>>=◌, Progress, Exit, Goes, Gives, too_many_statements, statement_begun, state_at, value_of, values_of, is_nonzero, block, behind, turns, called, given, actor_of, admitted, one_call, with_actor, declared, by_declaration, with_left, used}
 use Rattle.aml_resume.specs.Resuming.{AtLeast, BlocksRise, CallsRise, Rises}
 
 -- what goes on behind a block
@@ -58,21 +58,21 @@ begun_by : (b : Bool) (r : Progress) → Reaches r.statements (if b then Ok (rec
 begun_by true r = omega arith
 begun_by false r = tt
 
-pub begun_reaches : (r : Progress) → Reaches r.statements (begun r)
+pub begun_reaches : (r : Progress) → Reaches r.statements (statement_begun r)
 begun_reaches r = begun_by (nat_lt r.statements 10000) r
 
 -- a statement counts, and then goes on
-pub counts : {B : Type 0} (r : Progress) (f : Progress → Result (B × Progress) ℕ) → ((q : Progress) → r.statements ≤ q.statements → AtLeast r.statements (f q)) → AtLeast r.statements (begun r >>= f)
-counts r f h = after_run r.statements (begun r) f (begun_reaches r) h
+pub counts : {B : Type 0} (r : Progress) (f : Progress → Result (B × Progress) ℕ) → ((q : Progress) → r.statements ≤ q.statements → AtLeast r.statements (f q)) → AtLeast r.statements (statement_begun r >>= f)
+counts r f h = after_run r.statements (statement_begun r) f (begun_reaches r) h
 
 -- ---- blocks
 
 turns_rise : (n own : ℕ) (e : Expr ℕ) (body : List ℤ → Progress → Result (Exit × Progress) ℕ) → ((vs : List ℤ) (r : Progress) → AtLeast r.statements (body vs r)) → (vs : List ℤ) (r : Progress) → AtLeast r.statements (turns n own e body vs r)
 turns_rise zero own e body h vs r = tt
 turns_rise (suc n) own e body h vs r =
-    counts r (λ q. value_of own vs (state_at q.world own) e >>= λ v. if holds v then behind vs (body vs q) (turns n own e body) else Ok (Goes vs, q)) (λ q k.
-    after_any r.statements (value_of own vs (state_at q.world own) e) (λ v. if holds v then behind vs (body vs q) (turns n own e body) else Ok (Goes vs, q)) (λ v.
-    by_test r.statements (holds v) (behind vs (body vs q) (turns n own e body)) (Ok (Goes vs, q))
+    counts r (λ q. value_of own vs (state_at q.world own) e >>= λ v. if is_nonzero v then behind vs (body vs q) (turns n own e body) else Ok (Goes vs, q)) (λ q k.
+    after_any r.statements (value_of own vs (state_at q.world own) e) (λ v. if is_nonzero v then behind vs (body vs q) (turns n own e body) else Ok (Goes vs, q)) (λ v.
+    by_test r.statements (is_nonzero v) (behind vs (body vs q) (turns n own e body)) (Ok (Goes vs, q))
     (after_inner r.statements vs (body vs q) (turns n own e body) (fewer r.statements q.statements (body vs q) k (h vs q)) (λ ws z l. fewer r.statements z.statements (turns n own e body ws z) l (turns_rise n own e body h ws z)))
     k))
 
@@ -95,13 +95,13 @@ block_rises call rising own (SetField line k value rest) vs r =
     counts r _ (λ q l. after_any r.statements (value_of own vs (state_at q.world own) value) _ (λ x. fewer r.statements q.statements _ l (block_rises call rising own rest vs _)))
 block_rises call rising own (If condition first rest) vs r =
     counts r _ (λ q k. after_any r.statements (value_of own vs (state_at q.world own) condition) _ (λ x.
-    after_inner r.statements vs (if holds x then block call own first vs q else Ok (Goes vs, q)) (block call own rest)
-    (by_test r.statements (holds x) (block call own first vs q) (Ok (Goes vs, q)) (fewer r.statements q.statements (block call own first vs q) k (block_rises call rising own first vs q)) k)
+    after_inner r.statements vs (if is_nonzero x then block call own first vs q else Ok (Goes vs, q)) (block call own rest)
+    (by_test r.statements (is_nonzero x) (block call own first vs q) (Ok (Goes vs, q)) (fewer r.statements q.statements (block call own first vs q) k (block_rises call rising own first vs q)) k)
     (λ ws z l. fewer r.statements z.statements (block call own rest ws z) l (block_rises call rising own rest ws z))))
 block_rises call rising own (IfElse condition first other rest) vs r =
     counts r _ (λ q k. after_any r.statements (value_of own vs (state_at q.world own) condition) _ (λ x.
-    after_inner r.statements vs (if holds x then block call own first vs q else block call own other vs q) (block call own rest)
-    (by_test r.statements (holds x) (block call own first vs q) (block call own other vs q)
+    after_inner r.statements vs (if is_nonzero x then block call own first vs q else block call own other vs q) (block call own rest)
+    (by_test r.statements (is_nonzero x) (block call own first vs q) (block call own other vs q)
     (fewer r.statements q.statements (block call own first vs q) k (block_rises call rising own first vs q))
     (fewer r.statements q.statements (block call own other vs q) k (block_rises call rising own other vs q)))
     (λ ws z l. fewer r.statements z.statements (block call own rest ws z) l (block_rises call rising own rest ws z))))

@@ -4,7 +4,7 @@ use Rattle.std.proofs.lemmas.List.{drop_all}
 use Rattle.snap_base.specs.declared.transactions.State.{State}
 use Rattle.aml_tree.specs.declared.trees.Statement.{Statement}
 use Rattle.aml_tree.specs.Tree.{Expr, Code, End, While, statement_tree, statements_tree}
-use Rattle.aml_check.specs.Meaning.{holds}
+use Rattle.aml_check.specs.Meaning.{is_nonzero}
 use Rattle.aml_resume.specs.declared.places.Spot.{Spot}
 use Rattle.aml_resume.specs.declared.ways.Way.{Way}
 use Rattle.aml_resume.specs.declared.ways.Way.TheVariants as way
@@ -59,13 +59,13 @@ pub loop_begins : (own at : ℕ) (e : Expr ℕ) (body : Code ℕ ℕ) (first : L
 loop_begins own at e body first s n = (10001 - n, omega arith, λ next. refl)
 
 abbrev turn : ℕ → ℕ → ℕ → Expr ℕ → (List ℤ → State → ℕ → Pause) → (List ℤ → State → ℕ → Pause) → List ℤ → State → ℤ × ℕ → Pause
-turn m at own e body next vs t x = if holds x.0 then around (spot at false vs) (body vs t x.1) (loop_pause m at own e body next) else next vs t x.1
+turn m at own e body next vs t x = if is_nonzero x.0 then around (spot at false vs) (body vs t x.1) (loop_pause m at own e body next) else next vs t x.1
 
 turn_fails : (m at own : ℕ) (e : Expr ℕ) (body next : List ℤ → State → ℕ → Pause) (vs : List ℤ) (t : State) (k code : ℕ) → 10001 ≤ m + k → k ≤ 10000 → counted_value own vs t k e ≡ Err code → loop_pause m at own e body next vs t k ≡ Failed code t (min (k + 1) 10000)
 turn_fails zero at own e body next vs t k code enough few is = absurd (omega (arith, enough, few))
 turn_fails (suc m) at own e body next vs t k code enough few is = ap (λ (o : Result (ℤ × ℕ) ℕ). unless_failed t (min (k + 1) 10000) o (turn m at own e body next vs t)) is
 
-turn_ends : (m at own : ℕ) (e : Expr ℕ) (body next : List ℤ → State → ℕ → Pause) (vs : List ℤ) (t : State) (k : ℕ) (x : ℤ) (j : ℕ) → 10001 ≤ m + k → k ≤ 10000 → counted_value own vs t k e ≡ Ok (x, j) → holds x ≡ false → loop_pause m at own e body next vs t k ≡ next vs t j
+turn_ends : (m at own : ℕ) (e : Expr ℕ) (body next : List ℤ → State → ℕ → Pause) (vs : List ℤ) (t : State) (k : ℕ) (x : ℤ) (j : ℕ) → 10001 ≤ m + k → k ≤ 10000 → counted_value own vs t k e ≡ Ok (x, j) → is_nonzero x ≡ false → loop_pause m at own e body next vs t k ≡ next vs t j
 turn_ends zero at own e body next vs t k x j enough few is test = absurd (omega (arith, enough, few))
 turn_ends (suc m) at own e body next vs t k x j enough few is test =
     ap (λ (o : Result (ℤ × ℕ) ℕ). unless_failed t (min (k + 1) 10000) o (turn m at own e body next vs t)) is
@@ -74,7 +74,7 @@ turn_ends (suc m) at own e body next vs t k x j enough few is test =
 abbrev TurnsOn : ℕ → ℕ → ℕ → Expr ℕ → (List ℤ → State → ℕ → Pause) → List ℤ → State → ℕ → ℕ → Type 0
 TurnsOn m at own e body vs t k j = (i : ℕ) × (m ≡ i + 1) × ((next : List ℤ → State → ℕ → Pause) → loop_pause m at own e body next vs t k ≡ around (spot at false vs) (body vs t j) (loop_pause i at own e body next))
 
-turn_goes : (m at own : ℕ) (e : Expr ℕ) (body : List ℤ → State → ℕ → Pause) (vs : List ℤ) (t : State) (k : ℕ) (x : ℤ) (j : ℕ) → 10001 ≤ m + k → k ≤ 10000 → counted_value own vs t k e ≡ Ok (x, j) → holds x ≡ true → TurnsOn m at own e body vs t k j
+turn_goes : (m at own : ℕ) (e : Expr ℕ) (body : List ℤ → State → ℕ → Pause) (vs : List ℤ) (t : State) (k : ℕ) (x : ℤ) (j : ℕ) → 10001 ≤ m + k → k ≤ 10000 → counted_value own vs t k e ≡ Ok (x, j) → is_nonzero x ≡ true → TurnsOn m at own e body vs t k j
 turn_goes zero at own e body vs t k x j enough few is test = absurd (omega (arith, enough, few))
 turn_goes (suc m) at own e body vs t k x j enough few is test = (
   m,
@@ -88,7 +88,7 @@ pub loop_fails : (own at : ℕ) (e : Expr ℕ) (body : Code ℕ ℕ) (first : Li
 loop_fails own at e body first s n vs t k code g arguments j l few is count rest =
     l.2 (block_pause own (at + 1) rest) ∙ turn_fails l.0 at own e (block_pause own 0 body) (block_pause own (at + 1) rest) vs t k code l.1 few is ∙ ap (Failed code t) (sym count)
 
-pub loop_ends : (own at : ℕ) (e : Expr ℕ) (body : Code ℕ ℕ) (first : List ℤ) (s : State) (n : ℕ) (vs : List ℤ) (t : State) (k : ℕ) (x : ℤ) (j : ℕ) (path : List Spot) (next : ℕ) (arguments : List ℤ) → LoopTurns own at e body first s n vs t k → k ≤ 10000 → counted_value own vs t k e ≡ Ok (x, j) → holds x ≡ false
+pub loop_ends : (own at : ℕ) (e : Expr ℕ) (body : Code ℕ ℕ) (first : List ℤ) (s : State) (n : ℕ) (vs : List ℤ) (t : State) (k : ℕ) (x : ℤ) (j : ℕ) (path : List Spot) (next : ℕ) (arguments : List ℤ) → LoopTurns own at e body first s n vs t k → k ≤ 10000 → counted_value own vs t k e ≡ Ok (x, j) → is_nonzero x ≡ false
     → Runs own at (While e body) first s n (record { path = path; next = next; variables = vs }) arguments t j (Ok way.Goes)
 loop_ends own at e body first s n vs t k x j path next arguments l few is test rest =
     l.2 (block_pause own (at + 1) rest) ∙ turn_ends l.0 at own e (block_pause own 0 body) (block_pause own (at + 1) rest) vs t k x j l.1 few is test
@@ -96,7 +96,7 @@ loop_ends own at e body first s n vs t k x j path next arguments l few is test r
 abbrev pub RunsTurn : ℕ → ℕ → Code ℕ ℕ → List ℤ → State → ℕ → Standing → List ℤ → State → ℕ → Result Way ℕ → Type 0
 RunsTurn own at body vs t j g arguments u i result = RunsInside own body (spot at false vs) vs t j g arguments u i result
 
-pub loop_out : (own at : ℕ) (e : Expr ℕ) (body : Code ℕ ℕ) (first : List ℤ) (s : State) (n : ℕ) (vs : List ℤ) (t : State) (k : ℕ) (x : ℤ) (j : ℕ) (g : Standing) (arguments : List ℤ) (u : State) (i : ℕ) (result : Result Way ℕ) → Past result → LoopTurns own at e body first s n vs t k → k ≤ 10000 → counted_value own vs t k e ≡ Ok (x, j) → holds x ≡ true
+pub loop_out : (own at : ℕ) (e : Expr ℕ) (body : Code ℕ ℕ) (first : List ℤ) (s : State) (n : ℕ) (vs : List ℤ) (t : State) (k : ℕ) (x : ℤ) (j : ℕ) (g : Standing) (arguments : List ℤ) (u : State) (i : ℕ) (result : Result Way ℕ) → Past result → LoopTurns own at e body first s n vs t k → k ≤ 10000 → counted_value own vs t k e ≡ Ok (x, j) → is_nonzero x ≡ true
     → RunsTurn own at body vs t j g arguments u i result → Runs own at (While e body) first s n g arguments u i result
 loop_out own at e body first s n vs t k x j g arguments u i result past l few is test inner rest =
     let o = turn_goes l.0 at own e (block_pause own 0 body) vs t k x j l.1 few is test in
@@ -105,7 +105,7 @@ loop_out own at e body first s n vs t k x j g arguments u i result past l few is
     ∙ inner (loop_pause o.0 at own e (block_pause own 0 body) (block_pause own (at + 1) rest))
     ∙ past_on result g arguments u i (loop_pause o.0 at own e (block_pause own 0 body) (block_pause own (at + 1) rest)) (block_pause own (at + 1) rest) past
 
-pub loop_goes : (own at : ℕ) (e : Expr ℕ) (body : Code ℕ ℕ) (first : List ℤ) (s : State) (n : ℕ) (vs : List ℤ) (t : State) (k : ℕ) (x : ℤ) (j : ℕ) (g : Standing) (arguments : List ℤ) (u : State) (i : ℕ) → LoopTurns own at e body first s n vs t k → k ≤ 10000 → counted_value own vs t k e ≡ Ok (x, j) → holds x ≡ true → k < j → j ≤ i
+pub loop_goes : (own at : ℕ) (e : Expr ℕ) (body : Code ℕ ℕ) (first : List ℤ) (s : State) (n : ℕ) (vs : List ℤ) (t : State) (k : ℕ) (x : ℤ) (j : ℕ) (g : Standing) (arguments : List ℤ) (u : State) (i : ℕ) → LoopTurns own at e body first s n vs t k → k ≤ 10000 → counted_value own vs t k e ≡ Ok (x, j) → is_nonzero x ≡ true → k < j → j ≤ i
     → RunsTurn own at body vs t j g arguments u i (Ok way.Goes) → LoopTurns own at e body first s n g.variables u i
 loop_goes own at e body first s n vs t k x j g arguments u i l few is test one later inner =
     let o = turn_goes l.0 at own e (block_pause own 0 body) vs t k x j l.1 few is test in

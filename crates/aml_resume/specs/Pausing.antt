@@ -4,7 +4,7 @@ use Rattle.std.specs.Prelude.{ℕ, zero, suc, ◌+◌, ◌-◌, min, nat_lt, Boo
 use Rattle.snap_base.specs.declared.transactions.State.{State}
 use Rattle.aml_tree.specs.Tree.{Expr, Code, End, Let, Call, Set, SetField, If, IfElse, While, Fail, Return}
 use Rattle.aml_check.specs.declared.limits.TheConstants.{MOST_STATEMENTS}
-use Rattle.aml_check.specs.Meaning.{◌>>=◌, too_many_statements, with_field, holds, value_of, values_of}
+use Rattle.aml_check.specs.Meaning.{◌>>=◌, too_many_statements, with_field, is_nonzero, value_of, values_of}
 use Rattle.aml_resume.specs.declared.exits.Exit.{Exit}
 use Rattle.aml_resume.specs.declared.exits.Exit.TheVariants as exit
 use Rattle.aml_resume.specs.declared.places.Spot.{Spot}
@@ -56,7 +56,7 @@ abbrev pub loop_pause : ℕ → ℕ → ℕ → Expr ℕ → (List ℤ → State
 loop_pause zero at own condition body next variables s count = Failed too_many_statements s count
 loop_pause (suc more) at own condition body next variables s count =
     counting own variables s count condition (λ x.
-    if holds x.0 then around (spot at false variables) (body variables s x.1) (loop_pause more at own condition body next) else next variables s x.1)
+    if is_nonzero x.0 then around (spot at false variables) (body variables s x.1) (loop_pause more at own condition body next) else next variables s x.1)
 
 -- ---- a block, from the statement at a place on
 
@@ -73,10 +73,10 @@ block_pause own at (SetField line k value rest) variables s count =
     counting own variables s count value (λ x. block_pause own (at + 1) rest variables (with_field s k x.0) x.1)
 block_pause own at (If condition first rest) variables s count =
     counting own variables s count condition (λ x.
-    if holds x.0 then around (spot at false variables) (block_pause own 0 first variables s x.1) (block_pause own (at + 1) rest) else block_pause own (at + 1) rest variables s x.1)
+    if is_nonzero x.0 then around (spot at false variables) (block_pause own 0 first variables s x.1) (block_pause own (at + 1) rest) else block_pause own (at + 1) rest variables s x.1)
 block_pause own at (IfElse condition first other rest) variables s count =
     counting own variables s count condition (λ x.
-    if holds x.0
+    if is_nonzero x.0
     then around (spot at false variables) (block_pause own 0 first variables s x.1) (block_pause own (at + 1) rest)
     else around (spot at true variables) (block_pause own 0 other variables s x.1) (block_pause own (at + 1) rest))
 block_pause own at (While condition body rest) variables s count =

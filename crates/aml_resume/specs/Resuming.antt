@@ -31,7 +31,7 @@ gives call own body f r = given (resumed call own body f.path f.next f.variables
 -- ---- what its pause goes on to
 
 -- the actor's state and the count of statements are these
-pub record IsAt (own : ℕ) (s : State) (n : ℕ) (r : Progress) : Type 0 where
+pub record HasReached (own : ℕ) (s : State) (n : ℕ) (r : Progress) : Type 0 where
   pub known : own < length r.world
   pub state : state_at r.world own ≡ s
   pub statements : r.statements ≡ n
@@ -55,19 +55,19 @@ goes_on call own body r (Failed code s n) = Err code
 
 abbrev pub PausesAsMeant : Type 0
 PausesAsMeant =
-    (p : List CheckedMethod) (call : Caller) (own more : ℕ) (body : Code ℕ ℕ) (f : Standing) (s : State) (n : ℕ) (r : Progress) → Rises call → IsPlace p more body f.path f.next → IsAt own s n r
+    (p : List CheckedMethod) (call : Caller) (own more : ℕ) (body : Code ℕ ℕ) (f : Standing) (s : State) (n : ℕ) (r : Progress) → Rises call → IsPlace p more body f.path f.next → HasReached own s n r
     → gives call own body f r ≡ goes_on call own body r (method_pause own body f s n)
 
 -- a call that the program allows, at a place of the body once the value is there
-abbrev pub IsAllowed : List CheckedMethod → Code ℕ ℕ → Pause → Type 0
-IsAllowed p body (Through variables s n) = ⊤
-IsAllowed p body (Returned v s n) = ⊤
-IsAllowed p body (Calling target m arguments standing s n) = IsPlace p (length standing.variables + 1) body standing.path standing.next × IsClosedCall p m (length arguments)
-IsAllowed p body (Failed code s n) = ⊤
+abbrev pub IsAllowedPause : List CheckedMethod → Code ℕ ℕ → Pause → Type 0
+IsAllowedPause p body (Through variables s n) = ⊤
+IsAllowedPause p body (Returned v s n) = ⊤
+IsAllowedPause p body (Calling target m arguments standing s n) = IsPlace p (length standing.variables + 1) body standing.path standing.next × IsClosedCall p m (length arguments)
+IsAllowedPause p body (Failed code s n) = ⊤
 
 abbrev pub PausesWhereAllowed : Type 0
 PausesWhereAllowed =
-    (p : List CheckedMethod) (own : ℕ) (body : Code ℕ ℕ) (f : Standing) (s : State) (n : ℕ) → IsPlace p (length f.variables) body f.path f.next → IsAllowed p body (method_pause own body f s n)
+    (p : List CheckedMethod) (own : ℕ) (body : Code ℕ ℕ) (f : Standing) (s : State) (n : ℕ) → IsPlace p (length f.variables) body f.path f.next → IsAllowedPause p body (method_pause own body f s n)
 
 -- no fewer statements than so many were begun, and no more than a transaction may begin
 abbrev pub IsCounted : ℕ → Pause → Type 0

@@ -14,7 +14,7 @@ use Rattle.aml_resume.specs.Rooms.{HasRoom}
 
 -- ---- what a run needs and keeps: the room of the activation and of the arguments, and the count of statements
 
-pub record IsReady (a : Activation) (capacity n : ℕ) : Type 0 where
+pub record IsReadyToRun (a : Activation) (capacity n : ℕ) : Type 0 where
   pub room : HasRoom a
   pub arguments_room : MOST_PARAMETERS ≤ capacity
   pub count : n ≤ MOST_STATEMENTS

@@ -7,7 +7,7 @@ ghost use Rattle.aml_check.specs.Checked.{methods_of};
 ghost use Rattle.aml_check.specs.Closed.{IsClosedCall, IsClosedExpression};
 ghost use Rattle.aml_check.specs.Meaning.{values_of};
 ghost use Rattle.aml_resume.specs.Rooms.{standing_of};
-ghost use Rattle.aml_resume.specs.Ways.{IfGoes, IsMeant, IsReady, StaysReady, Runs};
+ghost use Rattle.aml_resume.specs.Ways.{IfGoes, IsMeant, IsReadyToRun, StaysReady, Runs};
 
 use crate::Activation;
 use crate::statements::{counted, put_value};
@@ -63,7 +63,7 @@ pub(crate) fn ask(
     method: u16,
     es: &[Expression<u8>],
 ) -> Result<Way, Code>
-    requires ready { IsReady activation.old (vec_capacity arguments.old) statements.old }
+    requires ready { IsReadyToRun activation.old (vec_capacity arguments.old) statements.old }
     requires small { own < 2 ^ 63 }
     requires at { at < usize.MAX }
     requires path { activation.old.path.items ≡ [] }

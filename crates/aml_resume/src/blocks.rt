@@ -8,7 +8,7 @@ ghost use Rattle.aml_resume.specs.declared.places.Spot.{Spot};
 ghost use Rattle.aml_resume.specs.Places.{behind_some, IsRunnable};
 ghost use Rattle.aml_resume.specs.Pausing.{Through, block_pause, spot};
 ghost use Rattle.aml_resume.specs.Rooms.{standing_of};
-ghost use Rattle.aml_resume.specs.Ways.{IfAsks, IfGoes, IsReady, StaysReady, Runs, RunsInside, declares, then_on};
+ghost use Rattle.aml_resume.specs.Ways.{IfAsks, IfGoes, IsReadyToRun, StaysReady, Runs, RunsInside, declares, then_on};
 
 use crate::arguments::ask;
 use crate::statements::{counted, fail, give, let_value, set, set_field};
@@ -36,7 +36,7 @@ pub(crate) fn block(
     code: &Block<Statement<u8, u16>>,
     from: usize,
 ) -> Result<Way, Code>
-    requires ready { IsReady activation.old (vec_capacity arguments.old) statements.old }
+    requires ready { IsReadyToRun activation.old (vec_capacity arguments.old) statements.old }
     requires small { own < 2 ^ 63 }
     requires path { activation.old.path.items ≡ [] }
     requires runnable { IsRunnable (methods_of program.now) (length activation.old.variables.items) (behind_some from (block_tree code.now)) }
@@ -100,7 +100,7 @@ fn statement(
     statements: &mut u16,
     one: &Statement<u8, u16>,
 ) -> Result<Way, Code>
-    requires ready { IsReady activation.old (vec_capacity arguments.old) statements.old }
+    requires ready { IsReadyToRun activation.old (vec_capacity arguments.old) statements.old }
     requires small { own < 2 ^ 63 }
     requires at { at < usize.MAX }
     requires path { activation.old.path.items ≡ [] }
@@ -194,7 +194,7 @@ fn inner(
     statements: &mut u16,
     code: &Block<Statement<u8, u16>>,
 ) -> Result<Way, Code>
-    requires ready { IsReady activation.old (vec_capacity arguments.old) statements.old }
+    requires ready { IsReadyToRun activation.old (vec_capacity arguments.old) statements.old }
     requires small { own < 2 ^ 63 }
     requires path { activation.old.path.items ≡ [] }
     requires runnable { IsRunnable (methods_of program.now) (length activation.old.variables.items) (block_tree code.now) }
@@ -245,7 +245,7 @@ fn repeat(
     condition: &Expression<u8>,
     body: &Block<Statement<u8, u16>>,
 ) -> Result<Way, Code>
-    requires ready { IsReady activation.old (vec_capacity arguments.old) statements.old }
+    requires ready { IsReadyToRun activation.old (vec_capacity arguments.old) statements.old }
     requires small { own < 2 ^ 63 }
     requires path { activation.old.path.items ≡ [] }
     requires condition { IsClosedExpression (length activation.old.variables.items) (expression_tree condition.now) }
@@ -301,7 +301,7 @@ fn choice(
     condition: &Expression<u8>,
     first: &Block<Statement<u8, u16>>,
 ) -> Result<Way, Code>
-    requires ready { IsReady activation.old (vec_capacity arguments.old) statements.old }
+    requires ready { IsReadyToRun activation.old (vec_capacity arguments.old) statements.old }
     requires small { own < 2 ^ 63 }
     requires path { activation.old.path.items ≡ [] }
     requires condition { IsClosedExpression (length activation.old.variables.items) (expression_tree condition.now) }
@@ -353,7 +353,7 @@ fn either(
     first: &Block<Statement<u8, u16>>,
     other: &Block<Statement<u8, u16>>,
 ) -> Result<Way, Code>
-    requires ready { IsReady activation.old (vec_capacity arguments.old) statements.old }
+    requires ready { IsReadyToRun activation.old (vec_capacity arguments.old) statements.old }
     requires small { own < 2 ^ 63 }
     requires path { activation.old.path.items ≡ [] }
     requires condition { IsClosedExpression (length activation.old.variables.items) (expression_tree condition.now) }

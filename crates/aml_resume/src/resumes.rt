@@ -8,7 +8,7 @@ ghost use Rattle.aml_check.specs.Names.{method_at};
 ghost use Rattle.aml_resume.specs.Places.{HasInner, IsPlace, after_inner, behind_some, inner_of, kept, place_behind};
 ghost use Rattle.aml_resume.specs.Pausing.{Through, method_pause, pause_from, pause_of};
 ghost use Rattle.aml_resume.specs.Rooms.{HasRoom, standing_of};
-ghost use Rattle.aml_resume.specs.Ways.{IfAsks, IfGoes, IsReady, StaysReady, then_on};
+ghost use Rattle.aml_resume.specs.Ways.{IfAsks, IfGoes, IsReadyToRun, StaysReady, then_on};
 
 use crate::blocks::{block, put_spot};
 use crate::ways::Way;
@@ -69,7 +69,7 @@ fn go_on(
     statements: &mut u16,
     code: &Block<Statement<u8, u16>>,
 ) -> Result<Way, Code>
-    requires ready { IsReady activation.old (vec_capacity arguments.old) statements.old }
+    requires ready { IsReadyToRun activation.old (vec_capacity arguments.old) statements.old }
     requires small { own < 2 ^ 63 }
     requires place { IsPlace (methods_of program.now) (length activation.old.variables.items) (block_tree code.now) (reverse activation.old.path.items) activation.old.next }
     requires deep { nesting (block_tree code.now) ≤ levels }

@@ -14,8 +14,8 @@ put_back [] w = w
 put_back (image ∷ images) w = put_back images (slice_set w image.actor image.state)
 
 -- the images are of actors of a world of so many
-abbrev pub IsWithin : ℕ → List BeforeImage → Type 0
-IsWithin count images = AllByRecursion (λ (image : BeforeImage). image.actor < count) images
+abbrev pub AreImagesWithin : ℕ → List BeforeImage → Type 0
+AreImagesWithin count images = AllByRecursion (λ (image : BeforeImage). image.actor < count) images
 
 -- the transaction ended with a value, so what it made of the world stays
 abbrev pub has_value : Result TxResult Memory → Bool

@@ -4,7 +4,7 @@ ghost use Rattle.std.specs.Prelude.{◌≡◌, ◌<◌, ◌==◌, length, slice_
 ghost use Rattle.std.specs.List.{list_any};
 ghost use Rattle.aml_serial.specs.declared.images.BeforeImage.{BeforeImage};
 ghost use Rattle.snap_base.specs.declared.transactions.State.{State};
-ghost use Rattle.aml_serial.specs.Images.{IsWithin, put_back};
+ghost use Rattle.aml_serial.specs.Images.{AreImagesWithin, put_back};
 
 use snap_base::{Memory, State};
 
@@ -19,9 +19,9 @@ pub(crate) struct BeforeImage {
 /// state, the images put the same world back. Without memory nothing is changed.
 pub(crate) fn keep(images: &mut Vec<BeforeImage>, world: &[State], actor: u16) -> Result<(), Memory>
     requires actor { actor < length world.now }
-    requires within { IsWithin (length world.now) images.old.items }
+    requires within { AreImagesWithin (length world.now) images.old.items }
     ensures kept { IfOk result (λ _. (t : State) → put_back images.new.items (slice_set world.now actor t) ≡ put_back images.old.items world.now) }
-    ensures within { IsWithin (length world.now) images.new.items }
+    ensures within { AreImagesWithin (length world.now) images.new.items }
     ensures memory { OnErr result (images.new.items ≡ images.old.items) }
 {
     if is_kept(images, actor) {
@@ -43,7 +43,7 @@ fn is_kept(images: &[BeforeImage], actor: u16) -> bool
 
 /// Puts the states back that were kept.
 pub(crate) fn put_back(world: &mut Vec<State>, images: &[BeforeImage])
-    requires { IsWithin (length world.old.items) images.now }
+    requires { AreImagesWithin (length world.old.items) images.now }
     ensures { world.new.items ≡ put_back images.now world.old.items }
 {
     for image in images {

@@ -7,7 +7,7 @@ ghost use Rattle.aml_check.specs.Meaning.{alone, serial};
 ghost use Rattle.aml_check.specs.Transactions.{IsTransaction};
 ghost use Rattle.aml_slice.specs.Controls.{IsRest};
 ghost use Rattle.aml_slice.specs.Finishing.{finished};
-ghost use Rattle.aml_serial.specs.Images.{IsWithin, has_value, put_back};
+ghost use Rattle.aml_serial.specs.Images.{AreImagesWithin, has_value, put_back};
 
 use crate::images::{BeforeImage, keep, put_back};
 use aml_check::Checked;
@@ -29,10 +29,10 @@ fn finish(
 ) -> Result<TxResult, Memory>
     requires rest { IsRest (methods_of program.now) actors control }
     requires size { length world.old.items ≡ actors }
-    requires within { IsWithin actors images.old.items }
+    requires within { AreImagesWithin actors images.old.items }
     ensures finished { IfOk result (λ r. finished (methods_of program.now) actors control world.old.items ≡ record { result = r; world = world.new.items }) }
     ensures kept { put_back images.new.items world.new.items ≡ put_back images.old.items world.old.items }
-    ensures within { IsWithin actors images.new.items }
+    ensures within { AreImagesWithin actors images.new.items }
     ensures size { length world.new.items ≡ actors }
 {
     each_slice(program);

@@ -9,13 +9,13 @@ use Rattle.snap_base.specs.declared.transactions.TxResult.TheVariants as result
 use Rattle.aml_tree.specs.Tree.{CheckedMethod}
 use Rattle.aml_check.specs.Closed.{IsClosedProgram}
 use Rattle.serial_words.specs.Outcomes.{Alone}
-use Rattle.aml_check.specs.Meaning.{Progress, alone, ended, state_at, admitted, beginning, declaration}
+use Rattle.aml_check.specs.Meaning.{Progress, alone, ended_alone, state_at, admitted, beginning, declaration}
 use Rattle.aml_check.specs.Transactions.{IsTransaction}
 use Rattle.aml_slice.specs.declared.slices.Next.{Next}
 use Rattle.aml_slice.specs.declared.slices.Next.TheVariants.{Go, Ended}
 use Rattle.aml_slice.specs.Controls.{Rest, IsRest, progress_in, moves_left}
 use Rattle.aml_slice.specs.Slicing.{slice_end, started}
-use Rattle.aml_slice.specs.Wholes.{rest_gives, Holds, EndsRest, world_after, Begins}
+use Rattle.aml_slice.specs.Wholes.{rest_gives, Holds, EndsRest, world_after, BeginsTransaction}
 use Rattle.aml_slice.specs.Finishing.{goes_on, after_slice, finished_in, finished}
 use Rattle.aml_slice.proofs.Moving.{PauseLaws}
 use Rattle.aml_slice.proofs.SlicedMoves.{SlicesOn, slices_well, there, admitted_there}
@@ -77,9 +77,9 @@ finishes laws (suc f) p count c w closed is size few =
     on_means p count c w s x.state x.next (finished_in f p count) (record { size = size; state = refl }) (slices_well laws p count c s closed is)
     (λ d rest fewer. finishes laws f p count d (set w c.top.actor x.state) closed rest (length-set w c.top.actor x.state ∙ size) (omega (arith, few, fewer)))
 
-so_ended : (w : List State) (o : Result (ℤ × Progress) ℕ) (r : TxResult) (after : List State) → Means o r after → ended w o ≡ record { result = r; world = world_after r w after }
-so_ended w o (result.Value v) after h = ap (ended w) h.1 ∙ ap (λ (z : List State). let a : Alone = record { result = result.Value v; world = z } in a) h.2
-so_ended w o (result.Fail code) after h = ap (ended w) h
+so_ended : (w : List State) (o : Result (ℤ × Progress) ℕ) (r : TxResult) (after : List State) → Means o r after → ended_alone w o ≡ record { result = r; world = world_after r w after }
+so_ended w o (result.Value v) after h = ap (ended_alone w) h.1 ∙ ap (λ (z : List State). let a : Alone = record { result = result.Value v; world = z } in a) h.2
+so_ended w o (result.Fail code) after h = ap (ended_alone w) h
 
 -- ---- a transaction
 
@@ -93,7 +93,7 @@ started_admits p n tid tx is w =
     admitted_there tx.actor.0 (beginning [] tx) w
     ∙ ap (there w) (r.1 ∙ ap (λ (q : Progress). let o : Result Progress ℕ = Ok q in o) (declared_so tx.actor.0 r.0 (declaration tx.kind tx.uses) r.1))
 
-pub started_begins : (p : List CheckedMethod) (n : ℕ) (tid : Tid) (tx : Tx) → IsClosedProgram p → IsTransaction p n tx → Begins p tid tx (started tid tx)
+pub started_begins : (p : List CheckedMethod) (n : ℕ) (tid : Tid) (tx : Tx) → IsClosedProgram p → IsTransaction p n tx → BeginsTransaction p tid tx (started tid tx)
 started_begins p n tid tx closed is = root_begins p n tid tx (started tid tx) closed is (started_admits p n tid tx is) refl refl refl
 
 -- The slices of a transaction, one after the other on the states that are found, give what it gives alone.

@@ -15,7 +15,7 @@ use Rattle.aml_resume.specs.Resuming.{gives, moved}
 use Rattle.aml_slice.specs.Controls.{Frame, Rest, progress_in, with_given, fresh}
 use Rattle.aml_slice.specs.Wholes.{frame_gives, Holds}
 use Rattle.aml_slice.specs.Moments.{Others, Rise, by_actor, near, value_near, gives_near, elsewhere, EndsWith, CallsAway, ReturnsAway}
-use Rattle.aml_slice.specs.Views.{NextFrame, Enters, Refuses}
+use Rattle.aml_slice.specs.Views.{NextFrame, Enters, RefusesCall}
 use Rattle.aml_slice.proofs.Moving.{Ran, GoesOn}
 use Rattle.aml_slice.proofs.Binding.{bind_assoc}
 use Rattle.aml_slice.proofs.RisingRests.{near_rises}
@@ -154,7 +154,7 @@ size_then count own s t w h = length-set w own t ∙ h.size
 there : (count : ℕ) (target : ℤ) (w : List State) (x : Result ℕ ℕ) → length w ≡ count → actor_of count target ≡ x → actor_of (length w) target ≡ x
 there count target w x size is = ap (λ n. actor_of n target) size ∙ is
 
-near_refused : (p : List CheckedMethod) (count own : ℕ) (o : Others) (d : Rest) (target : ℤ) (m : ℕ) (arguments : List ℤ) (code : ℕ) (w : List State) → length w ≡ count → Refuses count d target code
+near_refused : (p : List CheckedMethod) (count own : ℕ) (o : Others) (d : Rest) (target : ℤ) (m : ℕ) (arguments : List ℤ) (code : ℕ) (w : List State) → length w ≡ count → RefusesCall count d target code
     → near p own o (15 - length d.waiting) target m arguments (progress_in d w) ≡ Err code
 near_refused p count own o d target m arguments code w size (inl none) = near_no_actor p own o (15 - length d.waiting) target m arguments (progress_in d w) code (there count target w (Err code) size none)
 near_refused p count own o d target m arguments code w size (inr (a, is, inl deep)) =
@@ -163,7 +163,7 @@ near_refused p count own o d target m arguments code w size (inr (a, is, inr sto
     near_more p own o (15 - length d.waiting) (14 - length d.waiting) target m arguments (progress_in d w) a (omega (arith, stops.0)) (there count target w (Ok a) size is)
     ∙ ap (λ (x : Result Progress ℕ). x >>= λ q. by_actor p own o (near p own o (14 - length d.waiting)) (14 - length d.waiting) a m arguments q) (stops.1 w)
 
-pub refused : (p : List CheckedMethod) (count : ℕ) (c d : Rest) (s t : State) (arguments : List ℤ) (target : ℤ) (m code : ℕ) → Ran p c d s t arguments (Ok (exit.Asks target m)) → c.top.actor < count → Refuses count d target code → EndsWith p count c s t (result.Fail code)
+pub refused : (p : List CheckedMethod) (count : ℕ) (c d : Rest) (s t : State) (arguments : List ℤ) (target : ℤ) (m code : ℕ) → Ran p c d s t arguments (Ok (exit.Asks target m)) → c.top.actor < count → RefusesCall count d target code → EndsWith p count c s t (result.Fail code)
 refused p count c d s t arguments target m code ran known why o rise w h =
     asked p count c d s t arguments target m ran known o rise w h
     ∙ ap (λ (x : Result (ℤ × Progress) ℕ). x >>= behind_call p c o d) (near_refused p count c.top.actor o d target m arguments code (set w c.top.actor t) (size_then count c.top.actor s t w h) why)

@@ -10,7 +10,7 @@ use Rattle.aml_check.specs.Meaning.{Progress, Caller}
 use Rattle.aml_resume.specs.declared.exits.Exit.{Exit}
 use Rattle.aml_resume.specs.Places.{Standing}
 use Rattle.aml_resume.specs.Pausing.{Pause, pause_of}
-use Rattle.aml_resume.specs.Resuming.{IsAt, Rises, gives, goes_on, IsAllowed, PausesAsMeant, PausesWhereAllowed, CountsRise, BlocksRise, CallsRise}
+use Rattle.aml_resume.specs.Resuming.{HasReached, Rises, gives, goes_on, IsAllowedPause, PausesAsMeant, PausesWhereAllowed, CountsRise, BlocksRise, CallsRise}
 use Rattle.aml_slice.specs.Controls.{Rest, IsRest, RestsOn, moves_left}
 use Rattle.aml_slice.specs.Wholes.{Holds}
 use Rattle.aml_slice.specs.Moments.{Others, Rise, gives_near, elsewhere, EndsWith, GoesAway}
@@ -25,12 +25,12 @@ pub record PauseLaws : Type 0 where
 
 -- a method gives from where it stands on what this pause goes on to
 abbrev pub RunsTo : ℕ → Code ℕ ℕ → Standing → State → ℕ → Pause → Type 0
-RunsTo own body f s n x = (call : Caller) → Rises call → (r : Progress) → IsAt own s n r → gives call own body f r ≡ goes_on call own body r x
+RunsTo own body f s n x = (call : Caller) → Rises call → (r : Progress) → HasReached own s n r → gives call own body f r ≡ goes_on call own body r x
 
 -- the frame that runs has run up to its next call, or to its end
 pub record Ran (p : List CheckedMethod) (c d : Rest) (s t : State) (arguments : List ℤ) (exit : Result Exit ℕ) : Type 0 where
   pub runs : RunsTo c.top.actor (method_at p c.top.method).body c.top.standing s c.statements (pause_of exit d.top.standing arguments t d.statements)
-  pub asks : IsAllowed p (method_at p c.top.method).body (pause_of exit d.top.standing arguments t d.statements)
+  pub asks : IsAllowedPause p (method_at p c.top.method).body (pause_of exit d.top.standing arguments t d.statements)
   pub count : d.statements ≤ 10000
   pub blocks : BlocksRise
   pub others : d ≡ record c { top = record c.top { standing = d.top.standing }; statements = d.statements }

@@ -12,9 +12,9 @@ use Rattle.aml_tree.specs.Tree.{CheckedMethod}
 use Rattle.aml_check.specs.Names.{method_at}
 use Rattle.aml_check.specs.Closed.{IsClosedProgram}
 use Rattle.aml_check.specs.Transactions.{IsUse, IsTransaction, Declares}
-use Rattle.aml_check.specs.Meaning.{◌>>=◌, Progress, admitted, used, before, one_less, by_declaration, with_left, declaration, beginning, block, called, given, alone, ended}
+use Rattle.aml_check.specs.Meaning.{◌>>=◌, Progress, admitted, used, before, one_less, by_declaration, with_left, declaration, beginning, block, called, given, alone, ended_alone}
 use Rattle.aml_slice.specs.Controls.{Frame, Rest, IsFrame, StandsOn, IsLeft, HasLeft, RestsOn, progress_in, fresh}
-use Rattle.aml_slice.specs.Wholes.{rest_gives, Begins}
+use Rattle.aml_slice.specs.Wholes.{rest_gives, BeginsTransaction}
 use Rattle.aml_slice.proofs.Admissions.{Admits, admits}
 use Rattle.aml_slice.proofs.Following.{fresh_frame}
 
@@ -72,10 +72,10 @@ left_among [] a h = absurd h
 left_among (u ∷ us) a (inl here) = (0, omega arith, here.0)
 left_among (u ∷ us) a (inr more) = (let k = left_among us a more in (k.0 + 1, omega (arith, k.1), (let e : k.0 + 1 ≡ suc k.0 = omega arith in rw e k.2)))
 
-pub root_gives : (p : List CheckedMethod) (tid : Tid) (tx : Tx) (c : Rest) (w : List State) → tx.actor.0 < length w → admitted tx.actor.0 (beginning w tx) ≡ Ok (progress_in c w) → c.top ≡ fresh tx.actor.0 tx.method tx.args → c.waiting ≡ [] → alone p w tx ≡ ended w (rest_gives p c w)
+pub root_gives : (p : List CheckedMethod) (tid : Tid) (tx : Tx) (c : Rest) (w : List State) → tx.actor.0 < length w → admitted tx.actor.0 (beginning w tx) ≡ Ok (progress_in c w) → c.top ≡ fresh tx.actor.0 tx.method tx.args → c.waiting ≡ [] → alone p w tx ≡ ended_alone w (rest_gives p c w)
 root_gives p tid tx c w known admits top none =
     let there : nat_lt tx.actor.0 (length w) ≡ true = grind (arith, nat_tests) in
-    ap (ended w)
+    ap (ended_alone w)
     (ap (λ (b : Bool). let o : Result ℕ ℕ = (if b then Ok tx.actor.0 else Err 1004) in (o >>= λ a. admitted a (beginning w tx) >>= λ q. given (block (called p 15) a (method_at p tx.method).body tx.args q))) there
     ∙ ap (λ (o : Result Progress ℕ). o >>= λ q. given (block (called p 15) tx.actor.0 (method_at p tx.method).body tx.args q)) admits
     ∙ sym (last_bind (given (block (called p 15) tx.actor.0 (method_at p tx.method).body tx.args (progress_in c w))))
@@ -95,7 +95,7 @@ root_declared p n tx c a is pact top none left on =
       | inr more ↦ inr (left more)
     ])
 
-pub root_begins : (p : List CheckedMethod) (n : ℕ) (tid : Tid) (tx : Tx) (c : Rest) → IsClosedProgram p → IsTransaction p n tx → ((w : List State) → admitted tx.actor.0 (beginning w tx) ≡ Ok (progress_in c w)) → c.top ≡ fresh tx.actor.0 tx.method tx.args → c.waiting ≡ [] → c.tid ≡ tid → Begins p tid tx c
+pub root_begins : (p : List CheckedMethod) (n : ℕ) (tid : Tid) (tx : Tx) (c : Rest) → IsClosedProgram p → IsTransaction p n tx → ((w : List State) → admitted tx.actor.0 (beginning w tx) ≡ Ok (progress_in c w)) → c.top ≡ fresh tx.actor.0 tx.method tx.args → c.waiting ≡ [] → c.tid ≡ tid → BeginsTransaction p tid tx c
 root_begins p n tid tx c closed is admitting top none id =
     let took : Admits tx.actor.0 (beginning [] tx) (progress_in c []) = admits tx.actor.0 (beginning [] tx) (progress_in c []) (admitting []) in
     record {

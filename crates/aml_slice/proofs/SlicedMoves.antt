@@ -13,7 +13,7 @@ use Rattle.aml_check.specs.Meaning.{◌>>=◌, Progress, actor_of, no_actor, too
 use Rattle.aml_resume.specs.declared.exits.Exit.TheVariants as exit
 use Rattle.aml_resume.specs.Places.{IsPlace, Standing}
 use Rattle.aml_resume.specs.Pausing.{Pause, Through, Returned, Calling, Failed, method_pause}
-use Rattle.aml_resume.specs.Resuming.{IsAllowed, IsCounted}
+use Rattle.aml_resume.specs.Resuming.{IsAllowedPause, IsCounted}
 use Rattle.aml_slice.specs.declared.slices.Next.{Next}
 use Rattle.aml_slice.specs.declared.slices.Next.TheVariants.{Go}
 use Rattle.aml_slice.specs.Controls.{Frame, Rest, IsRest, progress_in, with_given, moves_left}
@@ -127,7 +127,7 @@ by_actor : (p : List CheckedMethod) (count : ℕ) (c : Rest) (s t : State) (targ
 by_actor p count c s t target m arguments g n closed is ran (Ok a) e = by_depth p count c s t target m arguments g n a closed is ran e (nat_lt (length c.waiting) 15) refl
 by_actor p count c s t target m arguments g n closed is ran (Err code) e = refused p count c (mid c g n) s t arguments target m code ran is.top.known (inl e)
 
-by_pause : PauseLaws → (p : List CheckedMethod) (count : ℕ) (c : Rest) (s : State) → IsClosedProgram p → IsRest p count c → (x : Pause) → RunsTo c.top.actor (method_at p c.top.method).body c.top.standing s c.statements x → IsAllowed p (method_at p c.top.method).body x → IsCounted c.statements x
+by_pause : PauseLaws → (p : List CheckedMethod) (count : ℕ) (c : Rest) (s : State) → IsClosedProgram p → IsRest p count c → (x : Pause) → RunsTo c.top.actor (method_at p c.top.method).body c.top.standing s c.statements x → IsAllowedPause p (method_at p c.top.method).body x → IsCounted c.statements x
     → Well p count c s (moved_by count c x)
 by_pause laws p count c s closed is (Through vs t n) runs allowed counts =
     by_waiting p count c s t (pos 0) n is (record { runs = runs; asks = tt; count = counts.1; others = refl; blocks = laws.blocks }) c.waiting refl

@@ -8,9 +8,9 @@ use Rattle.snap_base.specs.declared.transactions.TxResult.{TxResult}
 use Rattle.snap_base.specs.declared.transactions.TxResult.TheVariants as result
 use Rattle.aml_tree.specs.Tree.{CheckedMethod}
 use Rattle.serial_words.specs.Outcomes.{Alone}
-use Rattle.aml_check.specs.Meaning.{Progress, alone, ended}
+use Rattle.aml_check.specs.Meaning.{Progress, alone, ended_alone}
 use Rattle.aml_slice.specs.Controls.{Rest}
-use Rattle.aml_slice.specs.Wholes.{rest_gives, Holds, Begins, Cut, RunsInSlices, world_after}
+use Rattle.aml_slice.specs.Wholes.{rest_gives, Holds, BeginsTransaction, Cut, RunsInSlices, world_after}
 
 -- what the rest gives is this value and world, or this code
 abbrev Gives : Result (ℤ × Progress) ℕ → TxResult → List State → Type 0
@@ -34,11 +34,11 @@ sliced_gives p count c w (cut ∷ cuts) r after size h =
     gives_also (rest_gives p c w) (rest_gives p cut.rest (set w c.top.actor cut.left)) r after (h.1 w holds)
     (sliced_gives p count cut.rest (set w c.top.actor cut.left) cuts r after (length-set w c.top.actor cut.left ∙ size) h.2)
 
-ends_so : (w : List State) (o : Result (ℤ × Progress) ℕ) (r : TxResult) (after : List State) → Gives o r after → ended w o ≡ record { result = r; world = world_after r w after }
-ends_so w o (result.Value v) after h = ap (ended w) h.1 ∙ ap (λ (z : List State). let a : Alone = record { result = result.Value v; world = z } in a) h.2
-ends_so w o (result.Fail code) after h = ap (ended w) h
+ends_so : (w : List State) (o : Result (ℤ × Progress) ℕ) (r : TxResult) (after : List State) → Gives o r after → ended_alone w o ≡ record { result = r; world = world_after r w after }
+ends_so w o (result.Value v) after h = ap (ended_alone w) h.1 ∙ ap (λ (z : List State). let a : Alone = record { result = result.Value v; world = z } in a) h.2
+ends_so w o (result.Fail code) after h = ap (ended_alone w) h
 
 pub add_up : (p : List CheckedMethod) (count : ℕ) (tid : Tid) (tx : Tx) (c : Rest) (w : List State) (cuts : List Cut) (r : TxResult) (after : List State)
-    → Begins p tid tx c → tx.actor.0 < count → length w ≡ count → RunsInSlices p count c w cuts r after → alone p w tx ≡ record { result = r; world = world_after r w after }
+    → BeginsTransaction p tid tx c → tx.actor.0 < count → length w ≡ count → RunsInSlices p count c w cuts r after → alone p w tx ≡ record { result = r; world = world_after r w after }
 add_up p count tid tx c w cuts r after begins known size slice_end =
     begins.whole w (omega (arith, known, size)) ∙ ends_so w (rest_gives p c w) r after (sliced_gives p count c w cuts r after size slice_end)

@@ -99,8 +99,8 @@ pub record Enters (count : ℕ) (c d : Rest) (target : ℤ) (m : ℕ) (arguments
   pub tid : d.tid ≡ c.tid
 
 -- a call that is refused, and why: there is no such actor, too many calls are open, or it is not admitted
-abbrev pub Refuses : ℕ → Rest → ℤ → ℕ → Type 0
-Refuses count c target code =
+abbrev pub RefusesCall : ℕ → Rest → ℤ → ℕ → Type 0
+RefusesCall count c target code =
     (actor_of count target ≡ Err code)
     ⊎ ((a : ℕ) × (actor_of count target ≡ Ok a)
     × (((most_waiting ≤ length c.waiting) × (code ≡ too_deep)) ⊎ ((length c.waiting < most_waiting) × ((w : List State) → admitted a (progress_in c w) ≡ Err code))))

@@ -10,7 +10,7 @@ use Rattle.snap_base.specs.declared.transactions.TxResult.{TxResult}
 use Rattle.snap_base.specs.declared.transactions.TxResult.TheVariants as result
 use Rattle.aml_tree.specs.Tree.{CheckedMethod}
 use Rattle.aml_check.specs.Names.{method_at}
-use Rattle.aml_check.specs.Meaning.{◌>>=◌, Progress, Caller, alone, called, ended, state_at}
+use Rattle.aml_check.specs.Meaning.{◌>>=◌, Progress, Caller, alone, called, ended_alone, state_at}
 use Rattle.aml_resume.specs.Resuming.{gives}
 use Rattle.aml_slice.specs.declared.slices.Next.{Next}
 use Rattle.aml_slice.specs.declared.slices.Next.TheVariants.{Go, Ended}
@@ -39,8 +39,8 @@ rest_gives p c w = frame_gives (called p) p (length c.waiting) c.top (progress_i
 
 -- All of a transaction is left: in every world that has its actor, what the rest gives is what the
 -- transaction gives alone.
-pub record Begins (p : List CheckedMethod) (tid : Tid) (tx : Tx) (c : Rest) : Type 0 where
-  pub whole : (w : List State) → tx.actor.0 < length w → alone p w tx ≡ ended w (rest_gives p c w)
+pub record BeginsTransaction (p : List CheckedMethod) (tid : Tid) (tx : Tx) (c : Rest) : Type 0 where
+  pub whole : (w : List State) → tx.actor.0 < length w → alone p w tx ≡ ended_alone w (rest_gives p c w)
   pub rest : (count : ℕ) → tx.actor.0 < count → IsRest p count c
   pub at : c.top.actor ≡ tx.actor.0
   pub id : c.tid ≡ tid

@@ -15,7 +15,7 @@ ghost use Rattle.aml_slice.specs.Controls.{Rest, IsRest};
 ghost use Rattle.aml_slice.specs.Readers.{AllReading, HandsOnReading};
 ghost use Rattle.aml_slice.specs.declared.slices.Next.{Next};
 ghost use Rattle.aml_slice.specs.Slicing.{slice_end, started};
-ghost use Rattle.aml_slice.specs.Wholes.{Begins, Cut, IsRestKept, RunsInSlices, world_after};
+ghost use Rattle.aml_slice.specs.Wholes.{BeginsTransaction, Cut, IsRestKept, RunsInSlices, world_after};
 ghost use Rattle.aml_slice.specs.Moments.{IsHandedOn, IsMoment, IsSameEnd, IsSameState};
 ghost use Rattle.aml_slice.specs.Finishing.{after_slice, finished};
 
@@ -24,7 +24,7 @@ use aml_resume::{counts_rise, pauses_as_meant, pauses_where_allowed, reading_lea
 
 /// At its beginning all of a transaction is left.
 pub fn transactions_begin(program: &Checked)
-    ensures { (count : ℕ) (tid : Tid) (tx : Tx) → IsTransaction (methods_of program.now) count tx → Begins (methods_of program.now) tid tx (started tid tx) }
+    ensures { (count : ℕ) (tid : Tid) (tx : Tx) → IsTransaction (methods_of program.now) count tx → BeginsTransaction (methods_of program.now) tid tx (started tid tx) }
 {
     known(program);
 }
@@ -49,7 +49,7 @@ pub fn one_moment(_program: &Checked)
 /// However a transaction is cut into slices, it gives what it gives alone on the states that were found,
 /// where nobody else changes these in between.
 pub fn slices_add_up(_program: &Checked)
-    ensures { (count : ℕ) (tid : Tid) (tx : Tx) (c : Rest) (w : List State) (cuts : List Cut) (r : TxResult) (after : List State) → Begins (methods_of _program.now) tid tx c → tx.actor.0 < count → length w ≡ count → RunsInSlices (methods_of _program.now) count c w cuts r after → alone (methods_of _program.now) w tx ≡ record { result = r; world = world_after r w after } }
+    ensures { (count : ℕ) (tid : Tid) (tx : Tx) (c : Rest) (w : List State) (cuts : List Cut) (r : TxResult) (after : List State) → BeginsTransaction (methods_of _program.now) tid tx c → tx.actor.0 < count → length w ≡ count → RunsInSlices (methods_of _program.now) count c w cuts r after → alone (methods_of _program.now) w tx ≡ record { result = r; world = world_after r w after } }
 {}
 
 /// Where nobody else changes the world, a slice keeps what becomes of its control, and what becomes of a control

@@ -47,7 +47,7 @@ fn waits_on(frames: &[Frame], actor: u16) -> bool
 impl Running {
     ghost use Rattle.aml_resume.specs.Pausing.{method_pause, pause_of};
     ghost use Rattle.aml_slice.specs.Controls.{StandsOn, most_waiting};
-    ghost use Rattle.aml_slice.specs.Views.{frame_of, rest_of, Enters, HasPlace, HasRooms, IsEnough, NewFrame, NextFrame, Refuses};
+    ghost use Rattle.aml_slice.specs.Views.{frame_of, rest_of, Enters, HasPlace, HasRooms, IsEnough, NewFrame, NextFrame, RefusesCall};
 
     /// Runs the frame on its actor's state up to its next call, or to its end.
     pub(crate) fn run(&mut self, program: &Checked, state: &mut State) -> Result<Exit, Code>
@@ -75,7 +75,7 @@ impl Running {
     /// that are passed. A call that is refused is told by its code, and no frame is opened for it.
     pub(crate) fn call(&mut self, actors: u16, target: i64, method: u16) -> Result<u16, Code>
         requires rooms { HasRooms self.old }
-        ensures called { MatchResult result (λ a. Enters actors (rest_of self.old) (rest_of self.new) target method self.old.arguments.items a) (λ code. Refuses actors (rest_of self.old) target code) }
+        ensures called { MatchResult result (λ a. Enters actors (rest_of self.old) (rest_of self.new) target method self.old.arguments.items a) (λ code. RefusesCall actors (rest_of self.old) target code) }
         ensures rooms { IfOk result (λ _. HasRooms self.new) }
     {
         let actor = actor_of(actors, target)?;

@@ -4,7 +4,7 @@ use Rattle.std.specs.List.{between}
 use Rattle.std.proofs.lemmas.List.{drop_more}
 use Rattle.std.proofs.lemmas.List.Edits.{between_more, length-between}
 use Rattle.aml_tokens.specs.Bytes.{is_word_byte, begins_comparison}
-use Rattle.aml_tokens.specs.Lexing.{Piece, joins, ended, pieces_from, without_comments}
+use Rattle.aml_tokens.specs.Lexing.{Piece, joins, piece_ended, pieces_from, without_comments}
 use Rattle.aml_tokens.specs.Reading.{pieces_at}
 
 neither : (a b : Bool) → ((a && false) || (b && false)) ≡ false
@@ -28,14 +28,14 @@ comment_ends [] = refl
 comment_ends (c ∷ []) = neither (is_word_byte c) (begins_comparison c)
 comment_ends (c ∷ d ∷ front) = not_both (is_word_byte c)
 
-ends_there : (at : ℕ) (front : List ℕ) (b : ℕ) (bs : List ℕ) → joins front b ≡ false → pieces_from at front (b ∷ bs) ≡ ended at front (pieces_from at [] (b ∷ bs))
+ends_there : (at : ℕ) (front : List ℕ) (b : ℕ) (bs : List ℕ) → joins front b ≡ false → pieces_from at front (b ∷ bs) ≡ piece_ended at front (pieces_from at [] (b ∷ bs))
 ends_there at front b bs h = rw h refl
 
 pub ends_before : (at : ℕ) (front : List ℕ) (b : ℕ) (bs : List ℕ) → joins front b ≡ false
-    → pieces_from at front (without_comments false (b ∷ bs)) ≡ ended at front (pieces_from at [] (without_comments false (b ∷ bs)))
+    → pieces_from at front (without_comments false (b ∷ bs)) ≡ piece_ended at front (pieces_from at [] (without_comments false (b ∷ bs)))
 ends_before at front b bs h = by_first (b == 35) refl
   where
-    by_first : (t : Bool) → (b == 35) ≡ t → pieces_from at front (without_comments false (b ∷ bs)) ≡ ended at front (pieces_from at [] (without_comments false (b ∷ bs)))
+    by_first : (t : Bool) → (b == 35) ≡ t → pieces_from at front (without_comments false (b ∷ bs)) ≡ piece_ended at front (pieces_from at [] (without_comments false (b ∷ bs)))
     by_first true e = rw e (ends_there at front 32 (without_comments true bs) (blank_ends front))
     by_first false e = rw e (ends_there at front b (without_comments false bs) h)
 
@@ -49,7 +49,7 @@ goes_on at front b bs h = by_first (b == 35) refl
         absurd (cc (h, none))
     by_first false e = rw (e, h) refl
 
-pub ended_is : (at start : ℕ) (front : List ℕ) (more : List Piece) → start + length front ≡ at → 0 < length front → ended at front more ≡ record { at = start; bytes = front } ∷ more
+pub ended_is : (at start : ℕ) (front : List ℕ) (more : List Piece) → start + length front ≡ at → 0 < length front → piece_ended at front more ≡ record { at = start; bytes = front } ∷ more
 ended_is at start [] more h some = absurd (omega arith)
 ended_is at start (c ∷ cs) more h some =
     let begun : at - length (c ∷ cs) ≡ start = omega arith in
@@ -63,7 +63,7 @@ piece_ends text start at some lt h =
     let len : length (between start at text) ≡ at - start = length-between text start at (omega arith) in
     let here = ends_before at (between start at text) (get_or text at 0) (drop (at + 1) text) h in
     let rest : drop at text ≡ get_or text at 0 ∷ drop (at + 1) text = drop_more text at 0 lt in
-    let there = subst (λ (bs : List ℕ). pieces_from at (between start at text) (without_comments false bs) ≡ ended at (between start at text) (pieces_from at [] (without_comments false bs))) (sym rest) here in
+    let there = subst (λ (bs : List ℕ). pieces_from at (between start at text) (without_comments false bs) ≡ piece_ended at (between start at text) (pieces_from at [] (without_comments false bs))) (sym rest) here in
     there ∙ ended_is at start (between start at text) (pieces_at text at) (omega arith) (omega arith)
 
 pub piece_goes_on : (text : List ℕ) (start at : ℕ) → start < at → at < length text → joins (between start at text) (get_or text at 0) ≡ true

@@ -4,7 +4,7 @@ use Rattle.std.specs.Prelude.{if◌then◌else◌}
 use Rattle.std.specs.List.{AllByRecursion}
 use Rattle.std.proofs.lemmas.List.{append-nil, append_assoc}
 use Rattle.aml_tokens.specs.Bytes.{is_blank}
-use Rattle.aml_tokens.specs.Lexing.{Piece, joins, ended, pieces_from, without_comments}
+use Rattle.aml_tokens.specs.Lexing.{Piece, joins, piece_ended, pieces_from, without_comments}
 use Rattle.aml_tokens.specs.Writing.{parted}
 use Rattle.aml_tokens.proofs.Fronts.{blank_ends, ends_before, goes_on, ended_is}
 use Rattle.aml_tokens.proofs.Spaced.{Grows, gap}
@@ -38,26 +38,26 @@ clean_read b bs rest at h =
     let first : pieces_from at [] (without_comments false ((b ∷ bs) ++ rest)) ≡ pieces_from (at + 1) (b ∷ []) (without_comments false (bs ++ rest)) = rw (no_comment, no_blank) refl in
     first ∙ grown_read bs (b ∷ []) rest (at + 1) h.2 ∙ moved (at + 1 + length bs) (at + length (b ∷ bs)) (b ∷ bs) (b ∷ bs) (without_comments false rest) (omega arith) refl
 
-behind_blank : (end : ℕ) (last rest : List ℕ) → pieces_from end last (32 ∷ rest) ≡ ended end last (pieces_from (end + 1) [] rest)
+behind_blank : (end : ℕ) (last rest : List ℕ) → pieces_from end last (32 ∷ rest) ≡ piece_ended end last (pieces_from (end + 1) [] rest)
 behind_blank end last rest = rw (blank_ends last) refl
 
-parted_read : (last w rest : List ℕ) (end : ℕ) → IsClean w → pieces_from end last (without_comments false (parted last w ++ rest)) ≡ ended end last (pieces_from (end + gap last w + length w) w (without_comments false rest))
+parted_read : (last w rest : List ℕ) (end : ℕ) → IsClean w → pieces_from end last (without_comments false (parted last w ++ rest)) ≡ piece_ended end last (pieces_from (end + gap last w + length w) w (without_comments false rest))
 parted_read last [] rest end h = absurd h
 parted_read last (b ∷ bs) rest end h = by_join (joins last b) refl
   where
     by_join : (t : Bool) → joins last b ≡ t
-        → pieces_from end last (without_comments false ((if t then 32 ∷ b ∷ bs else b ∷ bs) ++ rest)) ≡ ended end last (pieces_from (end + (if t then 1 else 0) + length (b ∷ bs)) (b ∷ bs) (without_comments false rest))
-    by_join true e = behind_blank end last (without_comments false ((b ∷ bs) ++ rest)) ∙ ap (ended end last) (clean_read b bs rest (end + 1) h)
+        → pieces_from end last (without_comments false ((if t then 32 ∷ b ∷ bs else b ∷ bs) ++ rest)) ≡ piece_ended end last (pieces_from (end + (if t then 1 else 0) + length (b ∷ bs)) (b ∷ bs) (without_comments false rest))
+    by_join true e = behind_blank end last (without_comments false ((b ∷ bs) ++ rest)) ∙ ap (piece_ended end last) (clean_read b bs rest (end + 1) h)
     by_join false e =
         ends_before end last b (bs ++ rest) e
-        ∙ ap (ended end last) (clean_read b bs rest end h ∙ moved (end + length (b ∷ bs)) (end + 0 + length (b ∷ bs)) (b ∷ bs) (b ∷ bs) (without_comments false rest) (omega arith) refl)
+        ∙ ap (piece_ended end last) (clean_read b bs rest end h ∙ moved (end + length (b ∷ bs)) (end + 0 + length (b ∷ bs)) (b ∷ bs) (b ∷ bs) (without_comments false rest) (omega arith) refl)
 
 some_bytes : (w : List ℕ) → IsClean w → 0 < length w
 some_bytes [] h = absurd h
 some_bytes (b ∷ bs) h = omega arith
 
-pub behind_read : (ws : List (List ℕ)) (last : List ℕ) (end : ℕ) → AllByRecursion IsClean ws → pieces_from end last (without_comments false (behind last ws)) ≡ ended end last (placed end last ws)
+pub behind_read : (ws : List (List ℕ)) (last : List ℕ) (end : ℕ) → AllByRecursion IsClean ws → pieces_from end last (without_comments false (behind last ws)) ≡ piece_ended end last (placed end last ws)
 behind_read [] last end h = refl
 behind_read (w ∷ ws) last end h =
     parted_read last w (behind w ws) end h.0
-    ∙ ap (ended end last) (behind_read ws w (end + gap last w + length w) h.1 ∙ ended_is (end + gap last w + length w) (end + gap last w) w (placed (end + gap last w + length w) w ws) refl (some_bytes w h.0))
+    ∙ ap (piece_ended end last) (behind_read ws w (end + gap last w + length w) h.1 ∙ ended_is (end + gap last w + length w) (end + gap last w) w (placed (end + gap last w + length w) w ws) refl (some_bytes w h.0))

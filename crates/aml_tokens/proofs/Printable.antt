@@ -15,7 +15,7 @@ use Rattle.aml_tokens.specs.declared.tokens.TextCause.{TextCause}
 use Rattle.aml_tokens.specs.declared.tokens.TextCause.TheVariants as cause
 use Rattle.aml_tokens.specs.Token.{Token, Sign}
 use Rattle.aml_tokens.specs.Bytes.{is_letter, is_digit, is_word_byte, begins_comparison, symbol_bytes, signs}
-use Rattle.aml_tokens.specs.Lexing.{joins, symbol_of, either, sign_token, token_in, line_at, told}
+use Rattle.aml_tokens.specs.Lexing.{joins, symbol_of, either, sign_token, token_in, line_at, capped}
 use Rattle.aml_tokens.specs.Writing.{parted}
 use Rattle.aml_tokens.proofs.Spaced.{Grows, IsGrown}
 use Rattle.aml_tokens.proofs.Placed.{behind, IsClean}
@@ -172,4 +172,4 @@ one_line (b ∷ bs) (suc at) h =
     sum_by-cons (λ b. cond (b == 10) 1 0) b (take at bs) ∙ rw (none, rest) refl
 
 pub first_line : (w : List ℕ) (at : ℕ) → IsPrinted w → line_at w at ≡ 1
-first_line w at h = ap (λ (n : ℕ). told (1 + n)) (one_line w at h)
+first_line w at h = ap (λ (n : ℕ). capped (1 + n)) (one_line w at h)

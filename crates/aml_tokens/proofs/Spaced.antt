@@ -4,7 +4,7 @@ use Rattle.std.proofs.Common.{◌≡◌, ℕ, ◌+◌, ◌-◌, ◌≤◌, Bool,
 use Rattle.std.specs.Prelude.{if◌then◌else◌}
 use Rattle.std.proofs.lemmas.List.{append-nil, append_assoc, length-append}
 use Rattle.aml_tokens.specs.Bytes.{is_blank}
-use Rattle.aml_tokens.specs.Lexing.{Piece, joins, ended, pieces_from, pieces, without_comments}
+use Rattle.aml_tokens.specs.Lexing.{Piece, joins, piece_ended, pieces_from, pieces, without_comments}
 
 -- each byte goes on with the piece before it
 abbrev pub Grows : List ℕ → List ℕ → Type 0
@@ -58,7 +58,7 @@ open_spaced (b ∷ bs) at [] end last h = open_spaced bs (at + 1) (if is_blank b
 open_spaced (b ∷ bs) at (c ∷ cs) end last h =
     let le = h.1 in
     let n : ℕ = length (c ∷ cs) in
-    either_way (joins (c ∷ cs) b) (Spaced end last) (pieces_from (at + 1) ((c ∷ cs) ++ b ∷ []) bs) (ended at (c ∷ cs) (pieces_from (at + 1) (if is_blank b then [] else b ∷ []) bs))
+    either_way (joins (c ∷ cs) b) (Spaced end last) (pieces_from (at + 1) ((c ∷ cs) ++ b ∷ []) bs) (piece_ended at (c ∷ cs) (pieces_from (at + 1) (if is_blank b then [] else b ∷ []) bs))
     (λ e. open_spaced bs (at + 1) (c ∷ (cs ++ b ∷ [])) end last (grows_more (c ∷ []) cs b h.0 e, omega (arith, length-append cs (b ∷ []))))
     (λ e. (
       omega arith,

@@ -13,11 +13,11 @@ use Rattle.aml_tokens.specs.Token.{Token, Name, Number, Field, Sign, Let, CloseB
 -- ---- places
 
 -- a number that a fault can tell
-abbrev pub told : ℕ → ℕ
-told n = min n (2 ^ 32 - 1)
+abbrev pub capped : ℕ → ℕ
+capped n = min n (2 ^ 32 - 1)
 
 abbrev pub line_at : List ℕ → ℕ → ℕ
-line_at text at = told (1 + count_by (λ b. b == 10) (take at text))
+line_at text at = capped (1 + count_by (λ b. b == 10) (take at text))
 
 -- how many bytes stand behind the last line feed; n are behind it so far
 abbrev pub behind_line_feed : ℕ → List ℕ → ℕ
@@ -25,7 +25,7 @@ behind_line_feed n [] = n
 behind_line_feed n (b ∷ bs) = if b == 10 then behind_line_feed 0 bs else behind_line_feed (n + 1) bs
 
 abbrev pub column_at : List ℕ → ℕ → ℕ
-column_at text at = told (1 + behind_line_feed 0 (take at text))
+column_at text at = capped (1 + behind_line_feed 0 (take at text))
 
 -- ---- pieces
 
@@ -48,18 +48,18 @@ joins (c ∷ []) b = (is_word_byte c && is_word_byte b) || (begins_comparison c 
 joins (c ∷ d ∷ _) b = is_word_byte c && is_word_byte b
 
 -- the piece that ends before a place, if one is open, and those behind it
-abbrev pub ended : ℕ → List ℕ → List Piece → List Piece
-ended at [] pieces = pieces
-ended at (c ∷ cs) pieces = record { at = at - length (c ∷ cs); bytes = c ∷ cs } ∷ pieces
+abbrev pub piece_ended : ℕ → List ℕ → List Piece → List Piece
+piece_ended at [] pieces = pieces
+piece_ended at (c ∷ cs) pieces = record { at = at - length (c ∷ cs); bytes = c ∷ cs } ∷ pieces
 
 -- The pieces of bytes that begin at a place, where a piece is open before them. Each is as long as it
 -- can be, and no blank is in one.
 abbrev pub pieces_from : ℕ → List ℕ → List ℕ → List Piece
-pieces_from at front [] = ended at front []
+pieces_from at front [] = piece_ended at front []
 pieces_from at front (b ∷ bs) =
     if joins front b
     then pieces_from (at + 1) (front ++ b ∷ []) bs
-    else ended at front (pieces_from (at + 1) (if is_blank b then [] else b ∷ []) bs)
+    else piece_ended at front (pieces_from (at + 1) (if is_blank b then [] else b ∷ []) bs)
 
 abbrev pub pieces : List ℕ → List Piece
 pieces text = pieces_from 0 [] (without_comments false text)

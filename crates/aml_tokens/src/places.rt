@@ -2,7 +2,7 @@
 
 ghost use Rattle.std.specs.Prelude.{◌≡◌, ◌==◌, ◌≤◌, length};
 ghost use Rattle.std.specs.List.{count_by};
-ghost use Rattle.aml_tokens.specs.Lexing.{told, line_at, column_at, behind_line_feed};
+ghost use Rattle.aml_tokens.specs.Lexing.{capped, line_at, column_at, behind_line_feed};
 
 /// The line and the column of a place in a text, both from 1 on; of a place behind the text those of
 /// its end. A column counts bytes. What is above 2^32 - 1 is told as that.
@@ -19,7 +19,7 @@ pub fn position(text: &[u8], at: usize) -> (u32, u32)
 
 /// A number as a fault tells it.
 pub fn told(n: usize) -> u32
-    ensures { result ≡ told n }
+    ensures { result ≡ capped n }
 {
     n.min(u32::MAX as usize) as u32
 }

@@ -108,17 +108,17 @@ lean k = if k == 3 then 2 else k
 
 -- An expression of the grammar's rule for a level: 0 operands with signs, 1 products, 2 sums, 3
 -- comparisons, 4 conjunctions, 5 disjunctions, which are all expressions.
-abbrev pub IsAt : ℕ → Expr Word → Type 0
-IsAt k (Number n) = n < 2 ^ 63
-IsAt k (Variable w) = IsWord w
-IsAt k (Field f line) = f < FIELDS
-IsAt k Own = ⊤
-IsAt k (Group e) = IsAt 5 e
-IsAt k (Negative e) = IsAt 0 e
-IsAt k (Binary o a b) = (level o ≤ k) × IsAt (lean (level o)) a × IsAt (level o - 1) b
+abbrev pub IsAtLevel : ℕ → Expr Word → Type 0
+IsAtLevel k (Number n) = n < 2 ^ 63
+IsAtLevel k (Variable w) = IsWord w
+IsAtLevel k (Field f line) = f < FIELDS
+IsAtLevel k Own = ⊤
+IsAtLevel k (Group e) = IsAtLevel 5 e
+IsAtLevel k (Negative e) = IsAtLevel 0 e
+IsAtLevel k (Binary o a b) = (level o ≤ k) × IsAtLevel (lean (level o)) a × IsAtLevel (level o - 1) b
 
 abbrev pub IsExpression : Expr Word → Type 0
-IsExpression e = IsAt 5 e
+IsExpression e = IsAtLevel 5 e
 
 -- an operand without a sign, as the actor of a call is one
 abbrev pub IsPrimary : Expr Word → Type 0
@@ -126,7 +126,7 @@ IsPrimary (Number n) = n < 2 ^ 63
 IsPrimary (Variable w) = IsWord w
 IsPrimary (Field f line) = f < FIELDS
 IsPrimary Own = ⊤
-IsPrimary (Group e) = IsAt 5 e
+IsPrimary (Group e) = IsAtLevel 5 e
 IsPrimary (Negative e) = ⊥
 IsPrimary (Binary o a b) = ⊥
 

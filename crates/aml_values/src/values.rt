@@ -3,7 +3,7 @@
 ghost use Rattle.std.specs.Prelude.{◌≡◌, ◌<◌, ◌^◌, length, slice_index_or, Ok};
 ghost use Rattle.aml_tree.specs.Tree.{chain_tree, expression_tree, link_trees};
 ghost use Rattle.aml_check.specs.Closed.{IsClosedExpression};
-ghost use Rattle.aml_check.specs.Meaning.{decided, divided, holds, in_range, joined, truth, value_of};
+ghost use Rattle.aml_check.specs.Meaning.{decided, divided, is_nonzero, in_range, joined, truth, value_of};
 ghost use Rattle.aml_values.specs.Chains.{along, linked, ClosedLinks};
 
 use crate::codes::{Code, OVERFLOW, ZERO_DIVISOR};
@@ -15,7 +15,7 @@ use snap_base::State;
 
 /// What is not 0 holds.
 pub fn holds(value: i64) -> bool
-    ensures { result ≡ holds value }
+    ensures { result ≡ is_nonzero value }
 {
     value != 0
 }

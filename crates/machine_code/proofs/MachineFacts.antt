@@ -16,7 +16,7 @@ use Rattle.aml_check.specs.Names.{method_at}
 use Rattle.aml_slice.specs.Controls.{Rest, IsRest}
 use Rattle.aml_slice.specs.Readers.{AllReading, HandsOnReading}
 use Rattle.aml_slice.specs.Slicing.{actor_id, slice_end, started, root_used}
-use Rattle.aml_slice.specs.Wholes.{Begins}
+use Rattle.aml_slice.specs.Wholes.{BeginsTransaction}
 use Rattle.aml_slice.specs.Moments.{HandsOn, IsHandedOn}
 use Rattle.aml_slice.specs.Finishing.{goes_on, after_slice, finished}
 use Rattle.protocol.specs.Fixed.{Go, is_pact_kind, declared}
@@ -27,7 +27,7 @@ use Rattle.machine_code.proofs.Naming.{only_named}
 
 -- what the sliced executor promises
 pub record Promises (p : List CheckedMethod) (count : ℕ) : Type 0 where
-  pub begins : (tid : Tid) (tx : Tx) → IsTransaction p count tx → Begins p tid tx (started tid tx)
+  pub begins : (tid : Tid) (tx : Tx) → IsTransaction p count tx → BeginsTransaction p tid tx (started tid tx)
   pub hands_on : (c : Rest) (s : State) → IsRest p count c → IsHandedOn p count c (slice_end p count c s).next
   pub begins_reading : (tid : Tid) (tx : Tx) → IsTrue (method_at p tx.method).is_read → AllReading p (started tid tx)
   pub leaves : (c : Rest) (s : State) → AllReading p c → (slice_end p count c s).state ≡ s

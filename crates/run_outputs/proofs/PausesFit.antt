@@ -3,7 +3,7 @@ use Rattle.std.specs.Prelude.{ℕ, zero, suc, ◌+◌, ◌-◌, ◌<◌, ◌^◌
 use Rattle.snap_base.specs.declared.transactions.State.{State}
 use Rattle.aml_tree.specs.Tree.{Expr, Code, End, Let, Call, Set, SetField, If, IfElse, While, Fail, Return}
 use Rattle.aml_check.specs.declared.limits.TheConstants.{MOST_STATEMENTS}
-use Rattle.aml_check.specs.Meaning.{too_many_statements, with_field, holds, value_of, values_of}
+use Rattle.aml_check.specs.Meaning.{too_many_statements, with_field, is_nonzero, value_of, values_of}
 use Rattle.aml_resume.specs.declared.places.Spot.{Spot}
 use Rattle.aml_resume.specs.Places.{Standing, behind_some, inner_of, after_inner, place_behind}
 use Rattle.aml_resume.specs.Pausing.{Pause, Through, Returned, Calling, Failed, unless_failed, one_more, counted_value, counting, spot, around, loop_pause, block_pause, pause_from, given_at_end, method_pause}
@@ -51,7 +51,7 @@ loop_fit : (more at own : ℕ) (condition : Expr ℕ) (body next : List ℤ → 
 loop_fit zero at own condition body next few small b k = λ vs s n all is. is
 loop_fit (suc more) at own condition body next few small b k = λ vs s n all is.
     counting_fit own vs s n condition _ few all is small (λ x fits.
-    choice (holds x.0) _ _ (around_fit (spot at false vs) (body vs s x.1) (loop_pause more at own condition body next) (b vs s x.1 all is) (loop_fit more at own condition body next few small b k)) (k vs s x.1 all is))
+    choice (is_nonzero x.0) _ _ (around_fit (spot at false vs) (body vs s x.1) (loop_pause more at own condition body next) (b vs s x.1 all is) (loop_fit more at own condition body next few small b k)) (k vs s x.1 all is))
 
 pub block_fit : (own at : ℕ) (b : Code ℕ ℕ) → own < 2 ^ 63 → Each Small b → FitFrom (block_pause own at b)
 block_fit own at (End line) few small = λ vs s n all is. (all, is)
@@ -65,10 +65,10 @@ block_fit own at (SetField line k value rest) few small = λ vs s n all is.
     counting_fit own vs s n value _ few all is small.0 (λ x fits. block_fit own (at + 1) rest few small.1 vs (with_field s k x.0) x.1 all (with_field_is_state s k x.0 fits is))
 block_fit own at (If condition first rest) few small = λ vs s n all is.
     counting_fit own vs s n condition _ few all is small.0 (λ x fits.
-    choice (holds x.0) _ _ (around_fit (spot at false vs) (block_pause own 0 first vs s x.1) (block_pause own (at + 1) rest) (block_fit own 0 first few small.1 vs s x.1 all is) (block_fit own (at + 1) rest few small.2)) (block_fit own (at + 1) rest few small.2 vs s x.1 all is))
+    choice (is_nonzero x.0) _ _ (around_fit (spot at false vs) (block_pause own 0 first vs s x.1) (block_pause own (at + 1) rest) (block_fit own 0 first few small.1 vs s x.1 all is) (block_fit own (at + 1) rest few small.2)) (block_fit own (at + 1) rest few small.2 vs s x.1 all is))
 block_fit own at (IfElse condition first other rest) few small = λ vs s n all is.
     counting_fit own vs s n condition _ few all is small.0 (λ x fits.
-    choice (holds x.0) _ _
+    choice (is_nonzero x.0) _ _
     (around_fit (spot at false vs) (block_pause own 0 first vs s x.1) (block_pause own (at + 1) rest) (block_fit own 0 first few small.1 vs s x.1 all is) (block_fit own (at + 1) rest few small.3))
     (around_fit (spot at true vs) (block_pause own 0 other vs s x.1) (block_pause own (at + 1) rest) (block_fit own 0 other few small.2 vs s x.1 all is) (block_fit own (at + 1) rest few small.3)))
 block_fit own at (While condition body rest) few small = λ vs s n all is.

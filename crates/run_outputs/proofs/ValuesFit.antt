@@ -11,7 +11,7 @@ use Rattle.aml_tree.specs.declared.trees.Operator.{Operator}
 use Rattle.aml_tree.specs.declared.trees.Operator.TheVariants as operator
 use Rattle.aml_tree.specs.Tree.{Expr, Number, Variable, Field, Own, Group, Negative, Binary, Code, End, Let, Call, Set, SetField, If, IfElse, While, Fail, Return, CheckedMethod}
 use Rattle.aml_check.specs.Closed.{IsClosedExpression, IsClosedBlock, IsClosedMethod}
-use Rattle.aml_check.specs.Meaning.{◌>>=◌, overflow, zero_divisor, value_of, values_of, in_range, truth, holds, divided, joined, decided, unless_decided, zero_state, with_field}
+use Rattle.aml_check.specs.Meaning.{◌>>=◌, overflow, zero_divisor, value_of, values_of, in_range, truth, is_nonzero, divided, joined, decided, unless_decided, zero_state, with_field}
 use Rattle.aml_check.specs.Names.{method_at}
 use Rattle.txn_records.specs.Records.{IsState}
 
@@ -114,8 +114,8 @@ joined_fits operator.Over a b h = divided_fits a b
 joined_fits operator.Remainder a b h = has_bind Fits Fits (divided a b) _ (divided_fits a b) (λ q _. remainder_fits a b h)
 
 decided_fits : (o : Operator) (a : ℤ) → IfSome (decided o a) Fits
-decided_fits operator.Or a = either (λ (m : Option ℤ). IfSome m Fits) (holds a) (Some (pos 1)) None one_fits tt
-decided_fits operator.And a = either (λ (m : Option ℤ). IfSome m Fits) (holds a) None (Some (pos 0)) tt nought_fits
+decided_fits operator.Or a = either (λ (m : Option ℤ). IfSome m Fits) (is_nonzero a) (Some (pos 1)) None one_fits tt
+decided_fits operator.And a = either (λ (m : Option ℤ). IfSome m Fits) (is_nonzero a) None (Some (pos 0)) tt nought_fits
 decided_fits operator.Equal a = tt
 decided_fits operator.NotEqual a = tt
 decided_fits operator.Less a = tt

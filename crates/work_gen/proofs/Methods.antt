@@ -6,7 +6,7 @@ use Rattle.aml_tokens.specs.declared.tokens.Word.{Word}
 use Rattle.aml_tokens.specs.Lexing.{tokens, stop}
 use Rattle.aml_tree.specs.declared.trees.Operator.TheVariants as operator
 use Rattle.aml_tree.specs.Tree.{Expr, Number, Variable, Field, Binary, End, Let, Call, SetField, If, Return, TextMethod, CheckedMethod}
-use Rattle.aml_tree.specs.Grammar.{program_spelling, IsAt, IsGrammatical, IsMethod, IsWord}
+use Rattle.aml_tree.specs.Grammar.{program_spelling, IsAtLevel, IsGrammatical, IsMethod, IsWord}
 use Rattle.aml_tree.specs.Limits.{Mark, program_marks}
 use Rattle.aml_tree.specs.Programs.{IsProgramText, IsUnmarked}
 use Rattle.aml_resolver.specs.Faults.{IsCheckedProgram}
@@ -109,7 +109,7 @@ name_s = record { first = refl; bytes = refl; short = omega arith; free = refl }
 name_r : IsWord (word (codes "r") 4)
 name_r = record { first = refl; bytes = refl; short = omega arith; free = refl }
 
-sum_at : (k line : ℕ) → 2 ≤ k → IsAt k (sum line)
+sum_at : (k line : ℕ) → 2 ≤ k → IsAtLevel k (sum line)
 sum_at k line le = (le, omega arith, omega arith)
 
 of_balance : IsMethod balance

@@ -12,11 +12,11 @@ use Rattle.work_gen.specs.declared.draws.Drawn.{Drawn}
 -- ---- what is drawn
 
 -- the words of a seed are those of PCG32 on stream 1: word i is the output of the generator's state after i steps
-abbrev pub generator_of : ℕ → Lcg
-generator_of seed = started 64 multiplier_64 seed (increment_of 64 1)
+abbrev pub text_generator : ℕ → Lcg
+text_generator seed = started 64 multiplier_64 seed (increment_of 64 1)
 
 abbrev pub word : ℕ → ℕ → ℕ
-word seed i = output_xsh_rr (advance 64 multiplier_64 i (generator_of seed)).state
+word seed i = output_xsh_rr (advance 64 multiplier_64 i (text_generator seed)).state
 
 abbrev pub method_of : ℕ → Method
 method_of n =

@@ -3,7 +3,7 @@ use Rattle.std.proofs.lemmas.Int.{to_z-of_z}
 use Rattle.std.proofs.lemmas.Result.{err_from_is_err_and}
 use Rattle.aml_tree.specs.Tree.{End, Onto, expression_tree, block_tree}
 use Rattle.aml_check.specs.Checked.{methods_of}
-use Rattle.aml_check.specs.Meaning.{holds}
+use Rattle.aml_check.specs.Meaning.{is_nonzero}
 use Rattle.aml_tree.specs.TreeRules.{tree_of_let, tree_of_call, tree_of_field, tree_of_if, tree_of_if_else, tree_of_fail, tree_of_return}
 use Rattle.aml_resume.specs.declared.ways.Way.TheVariants as way
 use Rattle.aml_resume.specs.Places.{behind_some}
@@ -69,7 +69,7 @@ pub repeat-loop-value-preserved : goal.repeat-loop-value-preserved
 repeat-loop-value-preserved t c =
     let fits : FitsSigned w64 c.in_ok-value.value = search rules in
     let counts = rw c.as_slice.ensures.value at c.in_ok-value.ensures.meant in
-    let test : holds c.in_ok-value.value ≡ true = sym (rw to_z-of_z at c.holds.ensures) ∙ c.if-not-holds.false in
+    let test : is_nonzero c.in_ok-value.value ≡ true = sym (rw to_z-of_z at c.holds.ensures) ∙ c.if-not-holds.false in
     record {
       same = (rw c.in-Goes.is at c.in_ok-inner.ensures.same) ∙ c.loop-value.invariant.same;
       turns = loop_goes c.args.own c.args.at (expression_tree c.args.condition.now) (block_tree c.args.body.now) c.args.activation.now.variables.items c.args.state.now c.args.statements.now c.loop-value.activation.variables.items c.loop-value.state c.loop-value.statements c.in_ok-value.value c.counted.new.statements (standing_of c.inner.new.activation) c.inner.new.arguments.items c.inner.new.state c.inner.new.statements c.loop-value.invariant.turns c.loop-value.invariant.keeps.count counts test c.in_ok-value.ensures.one c.in_ok-inner.ensures.keeps.risen (rw c.in-Goes.is at c.in_ok-inner.ensures.runs);
@@ -135,14 +135,14 @@ pub repeat-returns-then-not-holds-clause-runs : goal.repeat-returns-then-not-hol
 repeat-returns-then-not-holds-clause-runs t c =
     let fits : FitsSigned w64 c.in_ok-value.value = search rules in
     let counts = rw c.as_slice.ensures.value at c.in_ok-value.ensures.meant in
-    let test : holds c.in_ok-value.value ≡ false = sym (rw to_z-of_z at c.holds.ensures) ∙ c.if-not-holds.true in
+    let test : is_nonzero c.in_ok-value.value ≡ false = sym (rw to_z-of_z at c.holds.ensures) ∙ c.if-not-holds.true in
     loop_ends c.args.own c.args.at (expression_tree c.args.condition.now) (block_tree c.args.body.now) c.args.activation.now.variables.items c.args.state.now c.args.statements.now c.loop-value.activation.variables.items c.loop-value.state c.loop-value.statements c.in_ok-value.value c.counted.new.statements (reverse c.loop-value.activation.path.items) c.loop-value.activation.next c.loop-value.arguments.items c.loop-value.invariant.turns c.loop-value.invariant.keeps.count counts test
 
 pub repeat-returns-in_err-inner-clause-runs : goal.repeat-returns-in_err-inner-clause-runs
 repeat-returns-in_err-inner-clause-runs t c =
     let fits : FitsSigned w64 c.in_ok-value.value = search rules in
     let counts = rw c.as_slice.ensures.value at c.in_ok-value.ensures.meant in
-    let test : holds c.in_ok-value.value ≡ true = sym (rw to_z-of_z at c.holds.ensures) ∙ c.if-not-holds.false in
+    let test : is_nonzero c.in_ok-value.value ≡ true = sym (rw to_z-of_z at c.holds.ensures) ∙ c.if-not-holds.false in
     let p = err_from_is_err_and c.from_residual-in_err-inner.result c.from_residual-in_err-inner.ensures.1 in
     rw (p.1, p.2) (loop_out c.args.own c.args.at (expression_tree c.args.condition.now) (block_tree c.args.body.now) c.args.activation.now.variables.items c.args.state.now c.args.statements.now c.loop-value.activation.variables.items c.loop-value.state c.loop-value.statements c.in_ok-value.value c.counted.new.statements (standing_of c.inner.new.activation) c.inner.new.arguments.items c.inner.new.state c.inner.new.statements (Err c.in_err-inner.field-0.0) tt c.loop-value.invariant.turns c.loop-value.invariant.keeps.count counts test c.in_err-inner.ensures.runs)
 
@@ -150,7 +150,7 @@ pub repeat-returns-in-Gives-clause-runs : goal.repeat-returns-in-Gives-clause-ru
 repeat-returns-in-Gives-clause-runs t c =
     let fits : FitsSigned w64 c.in_ok-value.value = search rules in
     let counts = rw c.as_slice.ensures.value at c.in_ok-value.ensures.meant in
-    let test : holds c.in_ok-value.value ≡ true = sym (rw to_z-of_z at c.holds.ensures) ∙ c.if-not-holds.false in
+    let test : is_nonzero c.in_ok-value.value ≡ true = sym (rw to_z-of_z at c.holds.ensures) ∙ c.if-not-holds.false in
     let fits : FitsSigned w64 c.in-Gives.value = search rules in
     let runs = rw c.in-Gives.is at c.in_ok-inner.ensures.runs in
     rw to_z-of_z (loop_out c.args.own c.args.at (expression_tree c.args.condition.now) (block_tree c.args.body.now) c.args.activation.now.variables.items c.args.state.now c.args.statements.now c.loop-value.activation.variables.items c.loop-value.state c.loop-value.statements c.in_ok-value.value c.counted.new.statements (standing_of c.inner.new.activation) c.inner.new.arguments.items c.inner.new.state c.inner.new.statements (Ok (way.Gives c.in-Gives.value)) tt c.loop-value.invariant.turns c.loop-value.invariant.keeps.count counts test runs)
@@ -159,7 +159,7 @@ pub repeat-returns-in-Asks-clause-runs : goal.repeat-returns-in-Asks-clause-runs
 repeat-returns-in-Asks-clause-runs t c =
     let fits : FitsSigned w64 c.in_ok-value.value = search rules in
     let counts = rw c.as_slice.ensures.value at c.in_ok-value.ensures.meant in
-    let test : holds c.in_ok-value.value ≡ true = sym (rw to_z-of_z at c.holds.ensures) ∙ c.if-not-holds.false in
+    let test : is_nonzero c.in_ok-value.value ≡ true = sym (rw to_z-of_z at c.holds.ensures) ∙ c.if-not-holds.false in
     let fits : FitsSigned w64 c.in-Asks.target = search rules in
     let runs = rw c.in-Asks.is at c.in_ok-inner.ensures.runs in
     rw to_z-of_z (loop_out c.args.own c.args.at (expression_tree c.args.condition.now) (block_tree c.args.body.now) c.args.activation.now.variables.items c.args.state.now c.args.statements.now c.loop-value.activation.variables.items c.loop-value.state c.loop-value.statements c.in_ok-value.value c.counted.new.statements (standing_of c.inner.new.activation) c.inner.new.arguments.items c.inner.new.state c.inner.new.statements (Ok (way.Asks c.in-Asks.target c.in-Asks.method)) tt c.loop-value.invariant.turns c.loop-value.invariant.keeps.count counts test runs)

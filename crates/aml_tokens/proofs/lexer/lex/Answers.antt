@@ -3,7 +3,7 @@ use Rattle.std.specs.List.{between}
 use Rattle.std.proofs.lemmas.List.{map_push}
 use Rattle.std.proofs.lemmas.List.Edits.{length-between}
 use Rattle.aml_tokens.specs.Token.{tokens_of, token_of}
-use Rattle.aml_tokens.specs.Lexing.{Tokens, line_at, told, lexed}
+use Rattle.aml_tokens.specs.Lexing.{Tokens, line_at, capped, lexed}
 use Rattle.aml_tokens.specs.Reading.{pieces_at}
 use Rattle.aml_tokens.proofs.Joined.{stops_at, one_more, more_lines}
 use Rattle.aml_tokens.proofs.lexer.lex.Goals as goal
@@ -15,7 +15,7 @@ stopped c =
     let end = c.piece_end-end.result in
     let behind : at + length (between at end text) ≡ end = omega (arith, length-between text at end (omega arith)) in
     let place : c.told.result ≡ line_at text at =
-    c.told.ensures ∙ ap (λ (n : ℕ). told (1 + n)) (more_lines text c.loop-at.counted at c.loop-at.lines c.line_feeds-lines.result c.loop-at.invariant.order c.loop-at.invariant.lines c.line_feeds-lines.ensures.count c.loop-at.invariant.within) in
+    c.told.ensures ∙ ap (λ (n : ℕ). capped (1 + n)) (more_lines text c.loop-at.counted at c.loop-at.lines c.line_feeds-lines.result c.loop-at.invariant.order c.loop-at.invariant.lines c.line_feeds-lines.ensures.count c.loop-at.invariant.within) in
     sym c.loop-at.invariant.whole
     ∙ stops_at text (tokens_of c.loop-at.tokens.items) c.loop-at.places.items at (between at end text) (pieces_at text end) c.told.result c.in-Err.cause place (c.in-Err.ensures at behind) c.piece_end-end.ensures.piece
 
@@ -35,7 +35,7 @@ loop-at-preserved c =
     let end = c.piece_end-end.result in
     let behind : at + length (between at end text) ≡ end = omega (arith, length-between text at end (omega arith)) in
     let lines = more_lines text c.loop-at.counted at c.loop-at.lines c.line_feeds-lines.result c.loop-at.invariant.order c.loop-at.invariant.lines c.line_feeds-lines.ensures.count c.loop-at.invariant.within in
-    let place : c.told.result ≡ line_at text at = c.told.ensures ∙ ap (λ (n : ℕ). told (1 + n)) lines in
+    let place : c.told.result ≡ line_at text at = c.told.ensures ∙ ap (λ (n : ℕ). capped (1 + n)) lines in
     record {
       whole =
           one_more text (tokens_of c.loop-at.tokens.items) (tokens_of c.push.new.self.items) c.loop-at.places.items c.push-in-Ok.new.self.items (lexed text) at c.next_piece-at-in-loop-at.result (between at end text) (pieces_at text end)
