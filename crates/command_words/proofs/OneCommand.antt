@@ -7,7 +7,7 @@ use Rattle.command_words.proofs.Names.{heads, tails, run_recover, run_gen, recov
 use Rattle.command_words.specs.declared.commands.Command.{Command}
 use Rattle.command_words.specs.declared.commands.Command.TheVariants.{Run, Recover, Migrate, Gen, Bench}
 use Rattle.command_words.specs.Commands.{IsCommand}
-use Rattle.command_words.specs.Words.{Said, nothing, workers, seed, workers_and_seed, seed_and_workers, options, with_workers, MaySay, AreLastWorkers, IsRun, IsGen, IsBench}
+use Rattle.command_words.specs.Words.{Said, nothing, workers, seed, workers_and_seed, seed_and_workers, options, with_workers, MaySay, AreLastWorkers, IsRunCommand, IsGen, IsBench}
 
 -- the word at a place
 word : (k : ℕ) (xs ys : List (List ℕ)) → xs ≡ ys → get_or xs k [] ≡ get_or ys k []
@@ -57,7 +57,7 @@ module _ (n s m t : ℕ) (few : n ≤ 8) (fits : s < 2 ^ 64) (less : m ≤ 8) (b
   same_options seed_and_workers workers_and_seed e x y = absurd (workers_seed (sym (word 0 _ _ e)))
   same_options seed_and_workers seed_and_workers e x y = (x ∙ sym y, same_seed (word 1 _ _ e))
 
-one_run : (words : List (List ℕ)) (n s m t : ℕ) → IsRun words n s → IsRun words m t → Run n s ≡ Run m t
+one_run : (words : List (List ℕ)) (n s m t : ℕ) → IsRunCommand words n s → IsRunCommand words m t → Run n s ≡ Run m t
 one_run words n s m t a b =
     let rests : options a.0 n s ≡ options b.0 m t = tails _ _ (options a.0 n s) (options b.0 m t) (sym a.1 ∙ b.1) in
     let same = same_options n s m t a.3 a.4 b.3 b.4 a.0 b.0 rests a.2 b.2 in

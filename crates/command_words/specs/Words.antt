@@ -40,8 +40,8 @@ MaySay seed_and_workers n s = n ≡ 0
 -- ---- forms
 
 -- Runs the work text: with no workers by the schedule of the seed, and else with so many.
-abbrev pub IsRun : List (List ℕ) → ℕ → ℕ → Type 0
-IsRun words n s = (said : Said) × (words ≡ codes "run" ∷ options said n s) × MaySay said n s × (n ≤ MOST_WORKERS) × (s < 2 ^ 64)
+abbrev pub IsRunCommand : List (List ℕ) → ℕ → ℕ → Type 0
+IsRunCommand words n s = (said : Said) × (words ≡ codes "run" ∷ options said n s) × MaySay said n s × (n ≤ MOST_WORKERS) × (s < 2 ^ 64)
 
 -- prints what the logs recover to
 abbrev pub IsRecover : List (List ℕ) → Type 0
@@ -66,7 +66,7 @@ IsBench words count s n =
 
 abbrev pub IsForm : List (List ℕ) → Type 0
 IsForm words =
-    ((n s : ℕ) × IsRun words n s)
+    ((n s : ℕ) × IsRunCommand words n s)
     ⊎ (IsRecover words ⊎ (((count s : ℕ) × IsGen words count s) ⊎ (((count s n : ℕ) × IsBench words count s n) ⊎ IsMigrate words)))
 
 -- ---- a wrong word

@@ -16,7 +16,7 @@ use Rattle.command_words.specs.declared.commands.Command.{Command}
 use Rattle.command_words.specs.declared.commands.Command.TheVariants.{Run, Recover, Migrate, Gen, Bench}
 use Rattle.command_words.specs.CommandLaws.{OneCommand}
 use Rattle.command_words.specs.Commands.{IsCommand}
-use Rattle.command_words.specs.Words.{AreLastWorkers, IsRun, IsRecover, IsMigrate, IsGen, IsBench, IsForm, IsUsageFault}
+use Rattle.command_words.specs.Words.{AreLastWorkers, IsRunCommand, IsRecover, IsMigrate, IsGen, IsBench, IsForm, IsUsageFault}
 use Rattle.command_words.specs.Workers.{workers_in, AskFor}
 use Rattle.snap_run.specs.Uses.{Reading, Use}
 use Rattle.snap_run.specs.Migrations.{IsMigrateAnswer}
@@ -28,16 +28,16 @@ use Rattle.txn_records.specs.declared.records.Record.{Record}
 
 -- ---- the words ask for one thing
 
-pub not_both : OneCommand → (words : List (List ℕ)) (n seed : ℕ) → IsRun words n seed → IsRecover words → ⊥
+pub not_both : OneCommand → (words : List (List ℕ)) (n seed : ℕ) → IsRunCommand words n seed → IsRecover words → ⊥
 not_both one words n seed run recover = let e : Run n seed ≡ Recover = one words (Run n seed) Recover run recover in cc
 
-pub run_not_gen : OneCommand → (words : List (List ℕ)) (n seed count last : ℕ) → IsRun words n seed → IsGen words count last → ⊥
+pub run_not_gen : OneCommand → (words : List (List ℕ)) (n seed count last : ℕ) → IsRunCommand words n seed → IsGen words count last → ⊥
 run_not_gen one words n seed count last run gen = let e : Run n seed ≡ Gen count last = one words (Run n seed) (Gen count last) run gen in cc
 
 pub recover_not_gen : OneCommand → (words : List (List ℕ)) (count last : ℕ) → IsRecover words → IsGen words count last → ⊥
 recover_not_gen one words count last recover gen = let e : Recover ≡ Gen count last = one words Recover (Gen count last) recover gen in cc
 
-pub run_not_bench : OneCommand → (words : List (List ℕ)) (n seed count last m : ℕ) → IsRun words n seed → IsBench words count last m → ⊥
+pub run_not_bench : OneCommand → (words : List (List ℕ)) (n seed count last m : ℕ) → IsRunCommand words n seed → IsBench words count last m → ⊥
 run_not_bench one words n seed count last m run bench = let e : Run n seed ≡ Bench count last m = one words (Run n seed) (Bench count last m) run bench in cc
 
 pub recover_not_bench : OneCommand → (words : List (List ℕ)) (count last m : ℕ) → IsRecover words → IsBench words count last m → ⊥
@@ -46,7 +46,7 @@ recover_not_bench one words count last m recover bench = let e : Recover ≡ Ben
 pub gen_not_bench : OneCommand → (words : List (List ℕ)) (count seed other last m : ℕ) → IsGen words count seed → IsBench words other last m → ⊥
 gen_not_bench one words count seed other last m gen bench = let e : Gen count seed ≡ Bench other last m = one words (Gen count seed) (Bench other last m) gen bench in cc
 
-pub run_not_migrate : OneCommand → (words : List (List ℕ)) (n seed : ℕ) → IsRun words n seed → IsMigrate words → ⊥
+pub run_not_migrate : OneCommand → (words : List (List ℕ)) (n seed : ℕ) → IsRunCommand words n seed → IsMigrate words → ⊥
 run_not_migrate one words n seed run migrate = let e : Run n seed ≡ Migrate = one words (Run n seed) Migrate run migrate in cc
 
 pub recover_not_migrate : OneCommand → (words : List (List ℕ)) → IsRecover words → IsMigrate words → ⊥
@@ -92,7 +92,7 @@ few_workers last n (inr said) = said.1
 -- ---- the input is refused
 
 -- the run ended before its logs got a call
-pub input_outcome : OneCommand → (u : Use) (n seed : ℕ) (s : Status) → IsRun u.words n seed → TouchesNothing u → IsInputAnswer u.reading s → IsOutcome u s
+pub input_outcome : OneCommand → (u : Use) (n seed : ℕ) (s : Status) → IsRunCommand u.words n seed → TouchesNothing u → IsInputAnswer u.reading s → IsOutcome u s
 input_outcome one u n seed s run nothing a = record {
   answer = inl (n, seed, run, inl (a, nothing));
   opened = λ recover. absurd (not_both one u.words n seed run recover);
@@ -124,7 +124,7 @@ of_text_then r w P of p = (of.0, known r.left_before of.1)
     known None h = tt
     known (Some text) h = (h.0, h.1, subst P (sym h.2) p)
 
-pub run_outcome : OneCommand → (u : Use) (n seed : ℕ) (w : Work) (s : Status) → IsRun u.words n seed → OfText u.reading (λ v. v ≡ w)
+pub run_outcome : OneCommand → (u : Use) (n seed : ℕ) (w : Work) (s : Status) → IsRunCommand u.words n seed → OfText u.reading (λ v. v ≡ w)
     → IsWorkAnswer (ran_of u w (schedule_of n seed)) s → IsOutcome u s
 run_outcome one u n seed w s run of a = record {
   answer = inl (n, seed, run, inr (of_text_then u.reading w (λ v. IsWorkAnswer (ran_of u v (schedule_of n seed)) s) of a));

@@ -10,7 +10,7 @@ use Rattle.snap_work.specs.Works.{Work}
 use Rattle.work_text.specs.Reads.{IsWork, IsFirstWorkFault}
 use Rattle.run_opening.specs.Opens.{MayOpen}
 use Rattle.run_recovery.specs.Schedules.{Schedule, seeded, free}
-use Rattle.command_words.specs.Words.{IsRun, IsRecover, IsMigrate, IsGen, IsBench, IsUsageFault}
+use Rattle.command_words.specs.Words.{IsRunCommand, IsRecover, IsMigrate, IsGen, IsBench, IsUsageFault}
 use Rattle.snap_run.specs.Uses.{Reading, Use}
 use Rattle.run_work.specs.Writings.{Writing, WritesNothing, Writes, WritesFront}
 use Rattle.run_work.specs.Runs.{Ran, IsWorkAnswer, IsBenchAnswer}
@@ -102,7 +102,7 @@ IsUsageAnswer u s = (place : ℕ) × (s ≡ status.Usage place) × IsUsageFault 
 -- there are no workers.
 abbrev pub IsAnswer : Use → Status → Type 0
 IsAnswer u s =
-    ((workers seed : ℕ) × IsRun u.words workers seed × IsRunAnswer u (schedule_of workers seed) s)
+    ((workers seed : ℕ) × IsRunCommand u.words workers seed × IsRunAnswer u (schedule_of workers seed) s)
     ⊎ ((IsRecover u.words × ReadsNothing u.reading × (u.kept ≡ []) × WritesNothing u.tracing × IsRecoverAnswer u.devices_before u.devices_after u.writing s)
     ⊎ (((count seed : ℕ) × IsGen u.words count seed × ReadsNothing u.reading × TakesNoEvent u × IsGenAnswer (generated_text count seed) u.writing s)
     ⊎ (((count seed workers : ℕ) × IsBench u.words count seed workers × ReadsNothing u.reading × IsMeasured u (schedule_of workers 0) count seed s)
@@ -124,7 +124,7 @@ GetsNoCall status.TraceFault = ⊥
 -- The words run the input; it stands for a work; its logs hold records on which a run of it begins, if any; and no count
 -- rises.
 pub record IsUntroubled (u : Use) (input : List ℕ) (w : Work) (records : List (List Record)) (o : Opening) : Type 0 where
-  pub run : (workers seed : ℕ) × IsRun u.words workers seed
+  pub run : (workers seed : ℕ) × IsRunCommand u.words workers seed
   pub known : u.reading.left_before ≡ Some input
   pub work : IsWork input w
   pub opens : MayOpen w.logs w.states u.devices_before u.devices_after records o

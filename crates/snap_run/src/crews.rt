@@ -1,6 +1,6 @@
 //! The call with several workers.
 ghost use Rattle.std.specs.Prelude.{◌≡◌, ◌≢◌, ◌<◌, ◌≤◌, ℕ, List, [], map, string_bytes, vec_len};
-ghost use Rattle.command_words.specs.Words.{IsRun, IsBench};
+ghost use Rattle.command_words.specs.Words.{IsRunCommand, IsBench};
 ghost use Rattle.command_words.specs.Workers.{AskFor};
 ghost use Rattle.command_words.specs.declared.limits.TheConstants.{MOST_WORKERS};
 ghost use Rattle.run_recovery.specs.Schedules.{free};
@@ -89,7 +89,7 @@ fn crew_input<
     requires four { vec_len call.logs ≡ 4 }
     requires some { 0 < workers }
     requires few { workers ≤ MOST_WORKERS }
-    ensures outcome { (words : List (List ℕ)) (seed : ℕ) → IsRun words workers seed
+    ensures outcome { (words : List (List ℕ)) (seed : ℕ) → IsRunCommand words workers seed
         → IsOutcome (use_of words (reading_of I.Source input.old input.new) call result.call result.kept.items) result.status }
     ensures opens { (words : List (List ℕ)) → let u : Use = use_of words (reading_of I.Source input.old input.new) call result.call result.kept.items in
         (text : List ℕ) (w : Work) (records : List (List Record)) (o : Opening) → IsUntroubled u text w records o → ¬ IsOfLogs result.status }

@@ -1,6 +1,6 @@
 //! The call on one thread.
 ghost use Rattle.std.specs.Prelude.{◌≡◌, ◌≢◌, ◌⊎◌, ◌≤◌, ℕ, List, [], map, string_bytes, vec_len};
-ghost use Rattle.command_words.specs.Words.{IsRun, IsBench};
+ghost use Rattle.command_words.specs.Words.{IsRunCommand, IsBench};
 ghost use Rattle.command_words.specs.Workers.{AskFor};
 ghost use Rattle.run_recovery.specs.Schedules.{seeded};
 ghost use Rattle.run_work.specs.Runs.{IsOfLogs, OutStood};
@@ -152,7 +152,7 @@ fn run_input<I: Source, D: LogDev, O: Sink, T: Sink>(
     call: Call<D, O, T>,
 ) -> HasRun<D, O, T>
     requires { vec_len call.logs ≡ 4 }
-    ensures outcome { (words : List (List ℕ)) → IsRun words 0 seed → IsOutcome (use_of words (reading_of I.Source input.old input.new) call result.call result.kept.items) result.status }
+    ensures outcome { (words : List (List ℕ)) → IsRunCommand words 0 seed → IsOutcome (use_of words (reading_of I.Source input.old input.new) call result.call result.kept.items) result.status }
     ensures opens { (words : List (List ℕ)) → let u : Use = use_of words (reading_of I.Source input.old input.new) call result.call result.kept.items in
         (text : List ℕ) (w : Work) (records : List (List Record)) (o : Opening) → IsUntroubled u text w records o → ¬ IsOfLogs result.status }
     ensures untouched { GetsNoCall result.status → result.call.logs ≡ call.logs }

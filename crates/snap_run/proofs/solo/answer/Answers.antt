@@ -9,7 +9,7 @@ use Rattle.snap_outside.proofs.AtFault.{surely}
 use Rattle.snap_outside.specs.Causes.{EndsAtFault}
 use Rattle.snap_run.specs.Outcomes.{IsOutcome}
 use Rattle.command_words.specs.Commands.{IsCommand}
-use Rattle.command_words.specs.Words.{IsRun, IsBench}
+use Rattle.command_words.specs.Words.{IsRunCommand, IsBench}
 use Rattle.snap_run.specs.Uses.{Use, reading_of, use_of}
 use Rattle.command_words.specs.declared.commands.Command.{Command}
 use Rattle.command_words.specs.declared.commands.Command.TheVariants.{Run, Bench}
@@ -20,7 +20,7 @@ pub returns-in-Ok-Run-clause-outcome : goal.returns-in-Ok-Run-clause-outcome
 returns-in-Ok-Run-clause-outcome g c =
     let words = map string_bytes c.args.words.now in
     let own = subst (λ (k : Command). IsCommand words k) c.in-Ok-Run.field-0-is c.in-Ok-Run.ensures in
-    c.run_input.ensures.outcome words (subst (λ (n : ℕ). IsRun words n c.in-Ok-Run.seed) (asked c.one_command.ensures words 0 (Run c.in-Ok-Run.field-0-0 c.in-Ok-Run.seed) c.requires.alone own) own)
+    c.run_input.ensures.outcome words (subst (λ (n : ℕ). IsRunCommand words n c.in-Ok-Run.seed) (asked c.one_command.ensures words 0 (Run c.in-Ok-Run.field-0-0 c.in-Ok-Run.seed) c.requires.alone own) own)
 
 pub returns-in-Ok-Run-clause-opens : goal.returns-in-Ok-Run-clause-opens
 returns-in-Ok-Run-clause-opens g c = c.run_input.ensures.opens (map string_bytes c.args.words.now)
