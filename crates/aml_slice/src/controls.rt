@@ -57,7 +57,7 @@ impl Control {
         ActorId(self.running.top.actor)
     }
 
-    /// The transaction's identifier.
+    /// The identifier that the transaction was started with.
     pub fn tid(&self) -> Tid
         ensures { result ≡ self.now.tid }
     {
