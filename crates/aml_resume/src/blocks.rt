@@ -288,6 +288,7 @@ fn repeat(
     }
 }
 
+/// Runs a block where a condition holds.
 #[cycle(blocks)]
 fn choice(
     program: &Checked,
@@ -339,6 +340,7 @@ fn choice(
     }
 }
 
+/// Runs the first block where a condition holds, and else the other.
 #[cycle(blocks)]
 fn either(
     program: &Checked,
