@@ -1,3 +1,4 @@
+//! The kinds of events.
 use snap_base::{ActorId, Bid, Tid, TxNo};
 
 /// An atomic step of the machine.
@@ -17,11 +18,11 @@ pub enum Event {
     Ask(Tid, ActorId),
     /// A control comes to an actor that its transaction has an entry on.
     Take(Tid, ActorId),
-    /// A slice runs.
+    /// A slice of a transaction runs on an actor.
     Run(Tid, ActorId),
-    /// The control goes to another actor.
+    /// The control of a transaction goes to another actor.
     Send(Tid, ActorId),
-    /// The result is noted.
+    /// The result of a transaction is noted.
     End(Tid, ActorId),
     /// A PACT that ended owes the actor nothing.
     Close(Tid, ActorId),
@@ -33,7 +34,7 @@ pub enum Event {
     Note(Bid, ActorId),
     /// The commit record of a batch is added.
     Commit(Bid),
-    /// It is durable.
+    /// The commit record of a batch is known to be durable.
     Settle(Bid),
     /// A batch failed, and takes all behind it along.
     AbortBatch(Bid),
@@ -45,11 +46,11 @@ pub enum Event {
     DropControl(Tid),
     /// The record of an ACT's state on an actor is added.
     Prepare(Tid, ActorId),
-    /// It is durable.
+    /// The record of an ACT's state on an actor is known to be durable.
     Vouch(Tid, ActorId),
     /// An ACT gets its place in the serial order.
     Decide(Tid),
-    /// Its commit record is durable.
+    /// The commit record of an ACT is known to be durable.
     Seal(Tid),
     /// An ACT leaves an actor.
     Finish(Tid, ActorId),

@@ -1,4 +1,6 @@
+//! Footprints: the numbers of an event's parts.
 ghost use Rattle.std.specs.Prelude.{◌≡◌, ◌<◌, ◌≤◌, Some, [], ◌∷◌, length, slice_get};
+ghost use Rattle.protocol.specs.Words.{is_among};
 
 use std::marker::Model;
 
@@ -36,10 +38,18 @@ impl Footprint {
         self.as_slice()[i]
     }
 
-    fn as_slice(&self) -> &[usize]
+    /// The numbers, in their order.
+    pub fn as_slice(&self) -> &[usize]
         ensures { result.now ≡ self.now }
     {
         &self.parts[..self.count]
+    }
+
+    /// Whether the part of this number is one of them.
+    pub fn has(&self, part: usize) -> bool
+        ensures { result ≡ is_among part self.now }
+    {
+        self.as_slice().iter().any(|number| *number == part)
     }
 
     pub(crate) fn one(a: usize) -> Self

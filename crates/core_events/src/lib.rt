@@ -5,8 +5,12 @@
 
 mod events;
 mod footprints;
+mod numbers;
 mod table;
 
 pub use events::Event;
 pub use footprints::Footprint;
+pub use numbers::{
+    BOOK, DESK, FIRST_LOG, POST, RING, first_cell, part_of_cell, part_of_log, parts_have_numbers,
+};
 pub use table::footprint;
