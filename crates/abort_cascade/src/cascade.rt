@@ -1,3 +1,4 @@
+//! One cascade: which batches it covers, and who failed.
 ghost use Rattle.std.specs.Prelude.{◌≡◌, nat_lt, Some, option_copied, find, slice_get};
 ghost use Rattle.protocol.specs.Settling.{CascadesAscend};
 ghost use Rattle.protocol.specs.Verdicts.{aborted_by};

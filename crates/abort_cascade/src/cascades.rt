@@ -1,3 +1,4 @@
+//! All cascades, in order.
 ghost use Rattle.std.specs.Prelude.{◌≡◌, ◌+◌, ◌<◌, ◌≤◌, ◌++◌, [], ◌∷◌, length, find, slice_get, Some, IfOk};
 ghost use Rattle.std.specs.List.{AllByRecursion};
 ghost use Rattle.std.specs.Option.{option_map};
@@ -29,7 +30,7 @@ impl Model for Cascades {
 }
 
 impl Cascades {
-    /// No cascade yet, and room for `most`.
+    /// No cascade yet, and room for `most`. `Memory` where that room cannot be allocated; no later call takes memory.
     pub fn new(alloc: Global, most: u32) -> Result<Cascades, Memory>
         ensures { IfOk result (λ c. c ≡ record { list = []; most = most }) }
     {

@@ -1,3 +1,4 @@
+//! The two phases of all ACTs that ended, and the number of the next commit.
 ghost use Rattle.std.specs.Prelude.{◌≡◌, ◌+◌, ◌<◌, ◌^◌, not, ◌&&◌, None, IsTrue, IfOk, OnOk, OnErr};
 ghost use Rattle.protocol.specs.BookParts.{no_votes, votes_begin, result_by};
 ghost use Rattle.protocol.specs.OnBook.{act_prepared, act_vouched, act_decided, act_sealed};
@@ -39,8 +40,8 @@ impl Acts {
         })
     }
 
-    /// ACT t, which had not ended, ended so, on the actors that it joined, in that order. For want of memory nothing is
-    /// noted.
+    /// ACT t, which had not ended, ended with result `r`, on the actors that it joined, in that order. For want of memory
+    /// nothing is noted.
     pub fn ended(
         &mut self,
         alloc: Global,
@@ -63,7 +64,7 @@ impl Acts {
         self.votes.change(t, Change::Marked(Mark::Prepared, a));
     }
 
-    /// That record is durable: the ACT is vouched there.
+    /// The record of the state that ACT t left on the actor is durable: the ACT is vouched there.
     pub fn vouched(&mut self, t: Tid, a: ActorId)
         ensures { self.new ≡ act_vouched t.0 a.0 self.old }
     {

@@ -1,3 +1,4 @@
+//! An actor that an ACT joined, with what is noted there.
 ghost use Rattle.std.specs.Prelude.{◌≡◌, not, ◌&&◌, ◌==◌, map, find, option_copied, IfOk};
 ghost use Rattle.std.specs.List.{list_all};
 ghost use Rattle.protocol.specs.BookParts.{not_voted};
@@ -46,6 +47,7 @@ impl Seat {
         }
     }
 
+    /// The actor that the ACT joined.
     pub fn actor(&self) -> ActorId
         ensures { result.0 ≡ self.now.actor }
     {
@@ -58,18 +60,21 @@ impl Seat {
         self.actor == actor
     }
 
+    /// Whether the record of the ACT's state on the actor was added to a log.
     pub fn is_prepared(&self) -> bool
         ensures { result ≡ self.now.prepared }
     {
         self.prepared
     }
 
+    /// Whether that record is known to be durable.
     pub fn is_vouched(&self) -> bool
         ensures { result ≡ self.now.vouched }
     {
         self.vouched
     }
 
+    /// Whether the record of the ACT's state on the actor was not added.
     pub fn is_unprepared(&self) -> bool
         ensures { result ≡ not self.now.prepared }
     {

@@ -1,3 +1,4 @@
+//! How far the commit of an ACT has come.
 ghost use Rattle.std.specs.Prelude.{◌≡◌};
 ghost use Rattle.protocol.specs.OnBook.{decided_status, sealed_status};
 ghost use Rattle.protocol.specs.Words.{is_live_status, is_decided, is_sealed};
@@ -31,6 +32,7 @@ impl Stage {
         }
     }
 
+    /// What a durable commit makes of it: one that is decided is sealed, and any other stays.
     pub fn sealed(self) -> Stage
         ensures { status_of result ≡ sealed_status (status_of self) }
     {
@@ -40,6 +42,7 @@ impl Stage {
         }
     }
 
+    /// Whether it is `Open`.
     pub fn is_open(self) -> bool
         ensures { result ≡ is_live_status (status_of self) }
     {
@@ -49,6 +52,7 @@ impl Stage {
         }
     }
 
+    /// Whether it is `Decided`.
     pub fn is_decided(self) -> bool
         ensures { result ≡ is_decided (status_of self) }
     {
@@ -58,6 +62,7 @@ impl Stage {
         }
     }
 
+    /// Whether it is `Sealed`.
     pub fn is_sealed(self) -> bool
         ensures { result ≡ is_sealed (status_of self) }
     {

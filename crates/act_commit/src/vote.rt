@@ -1,3 +1,4 @@
+//! The votes on one ACT that ended.
 ghost use Rattle.std.specs.Prelude.{◌≡◌, ℕ, ◌==◌, not, ◌&&◌, false, None, Some, map, IsTrue, IfOk};
 ghost use Rattle.protocol.specs.BookParts.{not_voted};
 ghost use Rattle.protocol.specs.Parts.{Live};
@@ -46,7 +47,8 @@ impl Model for Vote {
 }
 
 impl Vote {
-    /// The ACT ended so, on these actors.
+    /// The votes on an ACT that ended with this outcome, having joined the actors in this order: nothing is prepared, vouched
+    /// or decided.
     pub fn new(
         alloc: Global,
         tid: Tid,
@@ -63,12 +65,14 @@ impl Vote {
         })
     }
 
+    /// The tid of the ACT.
     pub fn tid(&self) -> u64
         ensures { result ≡ self.now.tid }
     {
         self.tid.0
     }
 
+    /// Notes what came about of the ACT.
     pub fn change(&mut self, change: Change)
         requires { MayChange change (Some self.old) }
         ensures { self.new ≡ change_of change self.old }
@@ -99,12 +103,14 @@ impl Vote {
         self.stage = self.stage.sealed();
     }
 
+    /// How the ACT ended.
     pub fn result(&self) -> TxResult
         ensures { self.now.result ≡ Some result }
     {
         self.result
     }
 
+    /// Whether the ACT joined the actor and is prepared there.
     pub fn is_prepared(&self, actor: ActorId) -> bool
         ensures { result ≡ holds (λ p. p.prepared) (joined_of actor.0 self.now) }
     {
@@ -114,6 +120,7 @@ impl Vote {
         }
     }
 
+    /// Whether the ACT joined the actor and is vouched there.
     pub fn is_vouched(&self, actor: ActorId) -> bool
         ensures { result ≡ holds (λ p. p.vouched) (joined_of actor.0 self.now) }
     {
@@ -123,6 +130,7 @@ impl Vote {
         }
     }
 
+    /// Whether the ACT joined the actor and is not prepared there.
     pub fn is_unprepared(&self, actor: ActorId) -> bool
         ensures { result ≡ holds (λ p. not p.prepared) (joined_of actor.0 self.now) }
     {
@@ -132,6 +140,7 @@ impl Vote {
         }
     }
 
+    /// Whether the ACT joined the actor and is prepared there, but not vouched.
     pub fn is_unvouched(&self, actor: ActorId) -> bool
         ensures { result ≡ holds (λ p. p.prepared && not p.vouched) (joined_of actor.0 self.now) }
     {
@@ -158,6 +167,7 @@ impl Vote {
         }
     }
 
+    /// Whether the ACT is decided and not sealed.
     pub fn is_decided(&self) -> bool
         ensures decided { result ≡ is_decided self.now.status }
         ensures ready { IsTrue result → IsTrue (is_ready self.now) }
@@ -165,6 +175,7 @@ impl Vote {
         self.stage.is_decided()
     }
 
+    /// Whether the ACT is sealed.
     pub fn is_sealed(&self) -> bool
         ensures sealed { result ≡ is_sealed self.now.status }
         ensures ready { IsTrue result → IsTrue (is_ready self.now) }
@@ -172,12 +183,14 @@ impl Vote {
         self.stage.is_sealed()
     }
 
+    /// The number of its commit; `None` exactly where it is not decided.
     pub fn number(&self) -> Option<u64>
         ensures { result ≡ number_of self.now.status }
     {
         self.stage.number()
     }
 
+    /// The actors that the ACT joined, ascending.
     pub fn actors(&self, alloc: Global) -> Result<Vec<ActorId>, Memory>
         ensures { IfOk result (λ actors. actor_numbers actors.items ≡ ascending (map (λ p. p.actor) self.now.places)) }
     {

@@ -1,3 +1,4 @@
+//! The votes on all ACTs that ended, found by tid.
 ghost use Rattle.std.specs.Prelude.{◌≡◌, ◌++◌, [], ◌∷◌, None, option_copied, IfOk, OnOk, OnErr};
 ghost use Rattle.protocol.specs.OnBook.{changed_act};
 ghost use Rattle.protocol.specs.Words.{act_of};
@@ -34,6 +35,7 @@ impl Model for Votes {
 }
 
 impl Votes {
+    /// No votes, with room for the first ones. `Memory` where that room cannot be allocated.
     pub fn new(alloc: Global) -> Result<Votes, Memory>
         ensures { IfOk result (λ v. v ≡ []) }
     {
@@ -43,7 +45,7 @@ impl Votes {
         })
     }
 
-    /// One more, whose tid is not there.
+    /// Adds the votes on an ACT that has none yet. For want of memory nothing is added.
     pub fn add(&mut self, vote: Vote) -> Result<(), Memory>
         requires { act_of vote.tid self.old ≡ None }
         ensures ok { OnOk result (self.new ≡ self.old ++ vote ∷ []) }
@@ -56,6 +58,7 @@ impl Votes {
         Ok(())
     }
 
+    /// The votes on ACT `t`, in constant time; `None` exactly where it has not ended.
     pub fn get(&self, t: Tid) -> Option<&Vote>
         ensures { option_copied result ≡ act_of t.0 self.now }
     {
@@ -65,7 +68,7 @@ impl Votes {
         }
     }
 
-    /// Notes it of the ACT, if that is there.
+    /// Notes what came about of ACT `t`, if it has votes.
     pub fn change(&mut self, t: Tid, change: Change)
         requires { MayChange change (act_of t.0 self.old) }
         ensures { self.new ≡ changed_act t.0 (change_of change) self.old }

@@ -1,3 +1,4 @@
+//! The cell of an actor: its state, its images and its two floors.
 ghost use Rattle.std.specs.Prelude.{◌≡◌, ◌<◌, false, [], length, not, is_some, filter, IfOk};
 ghost use Rattle.machine_words.specs.Meant.{who_meant};
 ghost use Rattle.protocol.specs.CellParts.{without_image};

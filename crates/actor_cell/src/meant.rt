@@ -1,3 +1,4 @@
+//! Whose images a call speaks of.
 ghost use Rattle.std.specs.Prelude.{◌≡◌};
 ghost use Rattle.machine_words.specs.Meant.{who_meant};
 

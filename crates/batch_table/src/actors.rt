@@ -1,3 +1,4 @@
+//! The actors that a batch declares, and the marks of the batch on them.
 ghost use Rattle.std.specs.Prelude.{◌≡◌, ◌==◌, ◌+◌, ◌-◌, ◌≤◌, ◌^◌, ◌++◌, min, not, map, filter, find, option_copied, IfOk, OnOk};
 ghost use Rattle.std.specs.List.{list_all};
 ghost use Rattle.machine_words.specs.Meant.{actor_number};

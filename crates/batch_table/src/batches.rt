@@ -1,3 +1,4 @@
+//! One batch at the desk.
 ghost use Rattle.std.specs.Prelude.{◌≡◌, ◌-◌, ◌≤◌, ◌^◌, min, not, ◌&&◌, ◌++◌, true, Some, map, option_map, IfOk, OnOk, slice_get};
 ghost use Rattle.std.specs.List.{list_all};
 ghost use Rattle.protocol.specs.Left.{batch_left};
@@ -54,30 +55,35 @@ impl BatchEntry {
         })
     }
 
+    /// Its PACTs, in the order of their tids.
     pub fn pacts(&self) -> &[PactEntry]
         ensures { result.now ≡ self.now.pacts }
     {
         self.pacts.as_slice()
     }
 
+    /// The least tid of its PACTs; 0 where it has none.
     pub fn first_tid(&self) -> u64
         ensures { result ≡ joining.first_of (joining.tids_in self.now.pacts) }
     {
         pacts::first_tid(self.pacts.as_slice())
     }
 
+    /// Whether it has not begun to commit, and is not aborted.
     pub fn is_open(&self) -> bool
         ensures { result ≡ words.is_open self.now }
     {
         self.stage.is_formed() && !self.aborted
     }
 
+    /// Whether it is settled.
     pub fn is_settled(&self) -> bool
         ensures { result ≡ words.is_settled self.now.stage }
     {
         self.stage.is_settled()
     }
 
+    /// Whether it is neither aborted nor trimmed on all its actors.
     pub fn is_live(&self) -> bool
         ensures { result ≡ words.is_live_batch self.now }
     {
@@ -92,6 +98,7 @@ impl BatchEntry {
             || self.stage.is_settled() && actors::are_all_trimmed(self.actors.as_slice()))
     }
 
+    /// Its number.
     pub fn bid(&self) -> Bid
         ensures { result.0 ≡ self.now.bid }
     {
@@ -128,6 +135,7 @@ impl BatchEntry {
         actors::list_unnoted(self.bid, self.actors.as_slice(), logs, log, places)
     }
 
+    /// Whether all its PACTs ended with a value.
     pub fn has_ended_well(&self) -> bool
         ensures { result ≡ list_all (λ p. words.is_value p.result) self.now.pacts }
     {
@@ -141,24 +149,28 @@ impl BatchEntry {
         pacts::values(alloc, self.pacts.as_slice())
     }
 
+    /// Whether it is noted on all its actors.
     pub fn is_noted(&self) -> bool
         ensures { result ≡ list_all (λ p. p.noted) self.now.places }
     {
         actors::are_all_noted(self.actors.as_slice())
     }
 
+    /// Whether it is open, and the actor is one of its own, not noted.
     pub fn awaits_note(&self, actor: ActorId) -> bool
         ensures { result ≡ (words.is_open self.now && words.holds (λ p. not p.noted) (words.declared_of actor.0 self.now)) }
     {
         self.is_open() && actors::lacks_note(self.actors.as_slice(), actor)
     }
 
+    /// Whether its commit record is written, and it is neither settled nor aborted.
     pub fn awaits_settling(&self) -> bool
         ensures { result ≡ (words.is_committing self.now.stage && not self.now.aborted) }
     {
         self.stage.is_committing() && !self.aborted
     }
 
+    /// Whether it is settled and not aborted, and the actor is one of its own, not trimmed.
     pub fn awaits_trim(&self, actor: ActorId) -> bool
         ensures { result ≡ (words.is_settled self.now.stage && (not self.now.aborted && words.holds (λ p. not p.trimmed) (words.declared_of actor.0 self.now))) }
     {
@@ -167,12 +179,14 @@ impl BatchEntry {
             && actors::lacks_trim(self.actors.as_slice(), actor)
     }
 
+    /// Its first PACT that failed, if all before it ended with a value: the transaction and the code.
     pub fn first_failed(&self) -> Option<(TxNo, u16)>
         ensures { result ≡ option_map failure_shown (words.first_failed self.now.pacts) }
     {
         pacts::first_failed(self.pacts.as_slice())
     }
 
+    /// How its PACT with this tid ended; `None` where nothing was noted, or the batch has no such PACT.
     pub fn result_of(&self, tid: Tid) -> Option<TxResult>
         requires { joining.AreConsecutive (joining.tids_in self.now.pacts) }
         ensures { result ≡ words.result_among tid.0 self.now.pacts }
@@ -231,12 +245,14 @@ impl BatchEntry {
         actors::trim(self.actors.as_mut_slice(), actor);
     }
 
+    /// From now on the batch is at this stage. Its marks and results stay.
     pub fn set_stage(&mut self, stage: Stage)
         ensures { self.new ≡ desk.with_stage (stage_meant stage) self.old }
     {
         self.stage = stage;
     }
 
+    /// It is aborted. Its stage, marks and results stay.
     pub fn abort(&mut self)
         ensures { self.new ≡ record self.old { aborted = true } }
     {
@@ -254,7 +270,7 @@ impl BatchEntry {
     }
 }
 
-/// PACTs that have not ended, with these tids and transactions.
+/// PACTs that have not ended, with the tids and transactions of `txs`.
 fn new_pacts(alloc: Global, txs: &[(Tid, TxNo)]) -> Result<Vec<PactEntry>, Memory>
     ensures { IfOk result (λ v. v.items ≡ map batch_pact txs.now) }
 {

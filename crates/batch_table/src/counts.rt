@@ -20,7 +20,7 @@ fn settled_among(batches: &[BatchEntry]) -> usize
     passing(batches)
 }
 
-/// The same, in std's word.
+/// How many batches are settled, in std's word for it.
 fn passing(batches: &[BatchEntry]) -> usize
     ensures { result ≡ count_by (λ b. words.is_settled b.stage) batches.now }
 {

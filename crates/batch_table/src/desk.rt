@@ -1,3 +1,4 @@
+//! The desk: all batches that were formed, and which transactions were replied to.
 ghost use Rattle.std.specs.Prelude.{◌≡◌, ◌+◌, ◌<◌, ◌^◌, ◌++◌, ◌∷◌, [], List, false, map, length, replicate, is_some, option_copied, IsTrue, OnOk, OnErr, IfOk};
 ghost use Rattle.protocol.specs.Parts.{Cascade};
 ghost use Rattle.protocol.specs.Words as words;
@@ -60,8 +61,8 @@ impl Model for Desk {
 }
 
 impl Desk {
-    /// A desk with no batch, for a text of this many transactions; `base` is the greatest batch that was settled
-    /// before.
+    /// A desk with no batch, for a text of this many transactions, none of which was replied to; `base` is the greatest batch
+    /// that was settled before. `Memory` where the lists of transactions cannot be allocated.
     pub fn new(alloc: Global, txs: u32, base: Bid) -> Result<Desk, Memory>
         ensures { IfOk result (λ d. d ≡ record { batches = []; settled = base.0; replied = replicate txs false }) }
     {
@@ -133,7 +134,7 @@ impl Desk {
         }
     }
 
-    /// The batch is complete on this actor, durably.
+    /// Batch `bid`, which is open and not noted on the actor, is complete there, durably: it is noted.
     pub fn note_complete(&mut self, bid: Bid, actor: ActorId)
         requires { IsTrue (askings.awaits_note bid.0 actor.0 self.old.batches) }
         ensures { self.new ≡ desk.batch_noted bid.0 actor.0 self.old }
@@ -158,7 +159,7 @@ impl Desk {
         }
     }
 
-    /// The values of the PACTs of the batch, by their tids.
+    /// The values of the PACTs of the batch, by their tids, 0 for one that has none; none where there is no such batch.
     pub fn values(&self, alloc: Global, bid: Bid) -> Result<Sequence<i64>, Memory>
         ensures { IfOk result (λ values. values ≡ words.values_of (words.batch_of bid.0 self.now.batches)) }
     {
@@ -185,7 +186,7 @@ impl Desk {
         self.is_next(bid) && self.all_ended_well(bid) && self.all_noted(bid)
     }
 
-    /// The next batch begins to commit.
+    /// Batch `bid`, which is the next one, begins to commit.
     pub fn commit(&mut self, bid: Bid)
         requires { IsTrue (askings.may_commit bid.0 self.old.batches) }
         ensures { self.new ≡ desk.batch_committing bid.0 self.old }
@@ -208,7 +209,7 @@ impl Desk {
         }
     }
 
-    /// The batch that commits is settled.
+    /// Batch `bid`, which commits, is settled.
     pub fn settle(&mut self, bid: Bid)
         requires { IsTrue (askings.awaits_settling bid.0 self.old.batches) }
         ensures { self.new ≡ desk.batch_settled bid.0 self.old }
@@ -225,7 +226,7 @@ impl Desk {
         Bid(self.settled)
     }
 
-    /// The first PACT of the batch that failed, if all before it ended with a value: its transaction and its code.
+    /// The first PACT of the batch that failed, if all before it ended with a value: its transaction and its code. Else `None`.
     pub fn first_failed(&self, bid: Bid) -> Option<(TxNo, u16)>
         ensures failed { result ≡ askings.failed_in bid.0 self.now.batches }
         ensures some { is_some result ≡ askings.has_failed bid.0 self.now.batches }
@@ -236,7 +237,7 @@ impl Desk {
         }
     }
 
-    /// The next batch and all from it on are aborted.
+    /// Batch `bid`, which is the next one, and all later ones are aborted.
     pub fn abort_from(&mut self, bid: Bid)
         requires next { IsTrue (askings.is_next bid.0 self.old.batches) }
         requires failed { IsTrue (askings.has_failed bid.0 self.old.batches) }
@@ -256,7 +257,7 @@ impl Desk {
         }
     }
 
-    /// The batch has left this actor.
+    /// Batch `bid`, which is settled, has left the actor: it is trimmed there.
     pub fn trim(&mut self, bid: Bid, actor: ActorId)
         requires { IsTrue (askings.awaits_trim bid.0 actor.0 self.old.batches) }
         ensures { self.new ≡ desk.batch_trimmed bid.0 actor.0 self.old }

@@ -1,3 +1,4 @@
+//! What the desk tells of the PACT of a transaction.
 use crate::Stage;
 use snap_base::{Bid, Tid, TxResult};
 use std::marker::Model;

@@ -67,7 +67,7 @@ impl Desk {
     }
 
     /// Of the transactions below this number, such as those submitted so far, those that were not replied to, ascending. It
-    /// walks the transactions from the first of these on, and none before it.
+    /// walks the transactions from the first one listed on, and none before it.
     pub fn unreplied(&self, alloc: Global, upto: TxNo) -> Result<Vec<TxNo>, Memory>
         ensures { IfOk result (λ txs. map (λ n. n.0) txs.items ≡ unreplied_below upto.0 self.now.replied) }
     {

@@ -1,3 +1,4 @@
+//! The PACTs of a batch, and how each ended.
 ghost use Rattle.std.specs.Prelude.{◌≡◌, ◌==◌, Some, None, map, option_map, IfOk};
 ghost use Rattle.std.specs.List.{list_all};
 ghost use Rattle.protocol.specs.Words as words;
@@ -38,18 +39,21 @@ impl PactEntry {
         }
     }
 
+    /// Its tid.
     pub fn tid(&self) -> Tid
         ensures { result.0 ≡ self.now.tid }
     {
         self.tid
     }
 
+    /// Its transaction.
     pub fn tx(&self) -> TxNo
         ensures { result.0 ≡ self.now.tx }
     {
         self.tx
     }
 
+    /// How it ended; `None` where nothing was noted.
     pub fn result(&self) -> Option<TxResult>
         ensures { result ≡ self.now.result }
     {

@@ -1,3 +1,4 @@
+//! Which transactions were replied to.
 ghost use Rattle.std.specs.Prelude.{◌≡◌, ◌-◌, ◌<◌, ◌^◌, min, true, false, map, take, length, replicate, slice_set, IfOk};
 ghost use Rattle.std.specs.List.{list_all};
 ghost use Rattle.protocol.specs.Left.{reply_left, total};

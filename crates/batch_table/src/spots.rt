@@ -1,3 +1,4 @@
+//! Where the PACT of each transaction is kept.
 ghost use Rattle.std.specs.Prelude.{◌≡◌, ◌<◌, length};
 ghost use Rattle.std.specs.List.{AllByRecursion};
 ghost use Rattle.batch_table.specs.Joining.{AllTxsBelow, txs_in};

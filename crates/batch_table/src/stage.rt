@@ -1,3 +1,4 @@
+//! How far a batch is on its way to be settled.
 ghost use Rattle.std.specs.Prelude.{◌≡◌};
 ghost use Rattle.protocol.specs.Left.{stage_left};
 ghost use Rattle.protocol.specs.Words as words;
@@ -15,6 +16,7 @@ pub enum Stage {
 }
 
 impl Stage {
+    /// Whether it is `Formed`.
     pub fn is_formed(self) -> bool
         ensures { result ≡ words.is_formed (stage_meant self) }
     {
@@ -25,6 +27,7 @@ impl Stage {
         }
     }
 
+    /// Whether it is `Committing`.
     pub fn is_committing(self) -> bool
         ensures { result ≡ words.is_committing (stage_meant self) }
     {
@@ -35,6 +38,7 @@ impl Stage {
         }
     }
 
+    /// Whether it is `Settled`.
     pub fn is_settled(self) -> bool
         ensures { result ≡ words.is_settled (stage_meant self) }
     {

@@ -1,3 +1,4 @@
+//! What the commit record of an ACT says.
 use snap_base::{ActorId, Bid, Sequence, Tid};
 
 /// What the commit record of an ACT says: who it is, the greatest batch that stands before it, the number of the commit,

@@ -1,3 +1,4 @@
+//! The book as one part: orders, votes and cascades, and each event that changes them.
 ghost use Rattle.std.specs.Prelude.{◌≡◌, ℕ, ◌<◌, ◌≤◌, ◌^◌, max, not, [], ◌∷◌, ◌++◌, List, length, map, Some, None, IsTrue, IfOk, OnOk, OnErr};
 ghost use Rattle.std.specs.List.{All, AllByRecursion};
 ghost use Rattle.std.specs.Option.{option_map};
@@ -46,7 +47,8 @@ impl Model for BookPart {
 }
 
 impl BookPart {
-    /// No ACT and no cascade yet; the next commit has this number, and there is room for so many cascades.
+    /// No ACT and no cascade yet; the next commit has number `next_c`, and there is room for `most` cascades. `Memory` where
+    /// that room cannot be allocated.
     pub fn new(alloc: Global, next_c: u64, most: u32) -> Result<Self, Memory>
         ensures { IfOk result (λ h. h ≡ record { orders = no_orders; votes = no_votes next_c; cascades = []; most = most }) }
     {
@@ -76,7 +78,7 @@ impl BookPart {
         self.orders.admit(alloc, t, tx, reader, base)
     }
 
-    /// Batch `bid` arrives on actor `a`, behind these ACTs.
+    /// Batch `bid` arrives on actor `a`, behind the ACTs of `acts`.
     pub fn arrive(&mut self, acts: &[Tid], bid: Bid, a: ActorId)
         ensures { self.new ≡ record self.old { orders = batch_arrived bid.0 a.0 (map tid_number acts.now) self.old.orders } }
     {
@@ -84,7 +86,7 @@ impl BookPart {
     }
 
     /// ACT `t`, which is not given up, asked for actor `a`, where `rivals` has its rivals that hold it or wait for it behind
-    /// the last batch there. Where one of these is older, `t` gives way to the oldest, which is the result. Else it joins the
+    /// the last batch there. Where one of the rivals is older, `t` gives way to the oldest, which is the result. Else it joins the
     /// actor, behind that batch, the floor that counts for it, and those rivals that are not given up. For want of memory all
     /// is as before.
     pub fn ask(
@@ -113,8 +115,8 @@ impl BookPart {
         }
     }
 
-    /// ACT `t`, which had not ended, ended so: votes begin on the actors that it joined. For want of memory all is as
-    /// before.
+    /// ACT `t`, which had not ended, ended with result `r`: votes begin on the actors that it joined. For want of memory all
+    /// is as before.
     pub fn end(&mut self, alloc: Global, t: Tid, r: TxResult) -> Result<(), Memory>
         requires { act_of t.0 self.old.votes.acts ≡ None }
         ensures ok { OnOk result (self.new ≡ record self.old { votes = votes_begin t.0 r (actors_at (act_of t.0 self.old.orders.acts)) self.old.votes }) }
@@ -131,7 +133,7 @@ impl BookPart {
         self.votes.prepared(t, a);
     }
 
-    /// That record is durable.
+    /// The record of the state that ACT `t` left on actor `a` is durable.
     pub fn vouch(&mut self, t: Tid, a: ActorId)
         ensures { self.new ≡ record self.old { votes = act_vouched t.0 a.0 self.old.votes } }
     {

@@ -1,3 +1,4 @@
+//! The boxes of an actor: controls that wait, and outcomes of slices.
 ghost use Rattle.std.specs.Prelude.{◌≡◌, ◌≤◌, not, is_some, true, filter, [], ◌∷◌, ◌++◌, OnOk, IfOk};
 ghost use Rattle.std.specs.Option.{option_map, option_and_then};
 ghost use Rattle.hybrid_schedule.specs.Cuts.{is_cut_off};

@@ -1,3 +1,4 @@
+//! One actor as one part: store, schedule and boxes, and each event that changes them.
 ghost use Rattle.std.specs.Prelude.{◌≡◌, ℕ, ◌+◌, ◌<◌, ◌≤◌, nat_lt, max, true, false, not, is_some, filter, find, map, length, List, Some, None, OnOk, IfOk};
 ghost use Rattle.std.specs.List.{list_all};
 ghost use Rattle.std.specs.Option.{option_map, option_and_then};
@@ -165,7 +166,7 @@ impl<C: Drop> CellPart<C> {
         self.boxes.take_outcome(t)
     }
 
-    /// Close: the PACT, which has its result, is done on the actor.
+    /// Close: PACT `t`, which has its result, is done on the actor.
     pub fn close(&mut self, t: Tid)
         ensures closed { self.new.cell ≡ pact_closed t.0 self.old.cell }
         ensures no_less { KeepsRoom self.old self.new }
@@ -173,7 +174,7 @@ impl<C: Drop> CellPart<C> {
         self.schedule.mark_done(t);
     }
 
-    /// Complete: the batch is complete on the actor.
+    /// Complete: batch `bid` is complete on the actor.
     pub fn complete(&mut self, bid: Bid)
         ensures completed { self.new.cell ≡ batch_completed bid.0 self.old.cell }
         ensures no_less { KeepsRoom self.old self.new }
@@ -213,7 +214,7 @@ impl<C: Drop> CellPart<C> {
         leave_store(&mut self.store, t, undone, sealed, m, reader);
     }
 
-    /// Trim: a settled batch leaves.
+    /// Trim: batch `bid`, which is settled, leaves the actor, with its image.
     pub fn trim(&mut self, bid: Bid)
         ensures left { self.new.cell ≡ batch_left bid.0 self.old.cell }
         ensures no_less { KeepsRoom self.old self.new }
@@ -258,7 +259,7 @@ impl<C: Drop> CellPart<C> {
         self.store.floor(reader)
     }
 
-    /// Whether the actor has seen fewer cascades than these.
+    /// Whether the actor has seen fewer cascades than `epoch`.
     pub fn is_behind(&self, epoch: u64) -> bool
         ensures { result ≡ nat_lt self.now.cell.epoch epoch }
     {

@@ -1,3 +1,4 @@
+//! What is kept in boxes, found by its transaction.
 ghost use Rattle.std.specs.Prelude.{◌≡◌, ◌+◌, ◌≤◌, ◌==◌, ℕ, true, not, is_some, filter, find, position, option_copied, vec_len, vec_capacity};
 
 use snap_base::Tid;

@@ -53,7 +53,7 @@ impl<C: Drop> Boxes<C> {
     }
 }
 
-/// Whose these are, in order.
+/// The transactions of the items, in order.
 fn tids_of<T: Kept>(alloc: Global, items: &[T]) -> Result<Vec<Tid>, Memory>
     ensures { IfOk result (λ tids. map tid_number tids.items ≡ map T.number items.now) }
 {

@@ -1,3 +1,4 @@
+//! Where a slice leaves its transaction.
 use snap_base::{ActorId, TxResult};
 
 /// Where a slice leaves its transaction.

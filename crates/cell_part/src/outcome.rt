@@ -1,3 +1,4 @@
+//! What a slice ended with, and whose it is.
 ghost use Rattle.std.specs.Prelude.{◌≡◌, ◌==◌};
 ghost use Rattle.protocol.specs.Words.{is_going, is_ended};
 ghost use Rattle.cell_part.specs.Contents.{outcome_result};

@@ -1,3 +1,4 @@
+//! A control that waits, and whose it is.
 ghost use Rattle.std.specs.Prelude.{◌≡◌, ◌==◌};
 
 use crate::kept::Kept;

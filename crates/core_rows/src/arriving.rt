@@ -54,7 +54,7 @@ pub fn arrive_refusal<C: Drop>(
     first_no(&[under_way, !aborted, of_epoch, next])
 }
 
-/// Arrive: the sub-batch is placed on the actor, behind all that stands there. The ACTs among these have the batch behind
+/// Arrive: the sub-batch is placed on the actor, behind all that stands there. The ACTs that stand there have the batch behind
 /// them, and an ACT whose numbers cross is given up.
 pub fn arrive<C: Drop>(
     alloc: Global,

@@ -48,21 +48,21 @@ fn next_batch(alloc: Global, ring: &Ring, txs: &[Tx], most: u16) -> Result<Forme
     }
 }
 
-/// Its PACTs.
+/// The PACTs of a planned batch.
 fn pacts_of(plan: &Formed) -> &[(Tid, TxNo)]
     ensures { map batch_pact result.now ≡ plan.now.pacts }
 {
     plan.txs.as_slice()
 }
 
-/// How many actors it has.
+/// How many actors a planned batch has.
 fn actor_count(plan: &Formed) -> usize
     ensures { result ≡ length plan.now.subs }
 {
     plan.subs.len()
 }
 
-/// The actors of these sub-batches.
+/// The actors of the sub-batches.
 fn actors_told(alloc: Global, subs: &[SubBatch]) -> Result<Sequence<ActorId>, Memory>
     ensures { IfOk result (λ v. v ≡ map actor_of (map subs_actor subs.now)) }
 {
@@ -73,7 +73,7 @@ fn actors_told(alloc: Global, subs: &[SubBatch]) -> Result<Sequence<ActorId>, Me
     Ok(Sequence::from_vec(actors))
 }
 
-/// The tids of these PACTs.
+/// The tids of the PACTs.
 fn tids_drawn(alloc: Global, pacts: &[(Tid, TxNo)]) -> Result<Sequence<Tid>, Memory>
     ensures { IfOk result (λ v. v ≡ map tid_of (map (λ p. p.tid) (map batch_pact pacts.now))) }
 {

@@ -43,7 +43,7 @@ pub(crate) fn first_control<C, F: Fn(Tid, &Tx) -> Result<C, Memory>>(
     })
 }
 
-/// The first controls of these PACTs, in order.
+/// The first controls of the PACTs, in order.
 pub(crate) fn first_controls<C: Drop, F: Fn(Tid, &Tx) -> Result<C, Memory>>(
     alloc: Global,
     start: &F,

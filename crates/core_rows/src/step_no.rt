@@ -1,3 +1,4 @@
+//! Why an event did not come about.
 use snap_base::Memory;
 
 /// Why an event did not come about.
@@ -5,7 +6,7 @@ use snap_base::Memory;
 pub enum StepNo {
     /// The event is not allowed: the number of the first of its conditions that is false, from 1 on.
     NotNow {
-        /// That number.
+        /// The number of that condition, from 1 on.
         rule: u8,
     },
     /// There was no memory.

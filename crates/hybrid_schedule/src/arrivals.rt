@@ -1,3 +1,4 @@
+//! Why a sub-batch is not placed.
 use snap_base::Bid;
 
 /// Why a sub-batch is not placed. The first that holds, in this order, is answered.

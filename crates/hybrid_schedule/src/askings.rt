@@ -25,24 +25,28 @@ fn batch_of(entries: &[Entry], k: Bid) -> Option<&Entry>
     entries.iter().find(|e| e.is_batch(k))
 }
 
+/// Whether the transaction runs by one of the entries.
 pub fn has_entry(entries: &[Entry], t: Tid) -> bool
     ensures { result ≡ has_entry t.0 entries.now }
 {
     entries.iter().any(|e| e.is_entry_of(t))
 }
 
+/// Whether one of the entries is the ACT's.
 pub fn has_act(entries: &[Entry], t: Tid) -> bool
     ensures { result ≡ has_act t.0 entries.now }
 {
     entries.iter().any(|e| e.is_act_of(t))
 }
 
+/// Whether an entry names the PACT, which is not done.
 pub fn has_undone(entries: &[Entry], t: Tid) -> bool
     ensures { result ≡ has_undone t.0 entries.now }
 {
     entries.iter().any(|e| e.is_undone(t))
 }
 
+/// Whose the transaction is: of the batch whose entry names it, else an ACT.
 #[tactic(auto, using(crate::proofs::Reaching::who_is_found))]
 pub fn who_on(entries: &[Entry], t: Tid) -> Who
     ensures { who_meant result ≡ who_on t.0 entries.now }
@@ -82,6 +86,7 @@ pub fn is_reader(entries: &[Entry], t: Tid) -> bool
     }
 }
 
+/// Whether the transaction has an entry, in which no PACT has to run before it.
 pub fn has_turn(entries: &[Entry], t: Tid) -> bool
     ensures { result ≡ has_turn t.0 entries.now }
 {
@@ -91,6 +96,7 @@ pub fn has_turn(entries: &[Entry], t: Tid) -> bool
     }
 }
 
+/// Whether the batch has an entry, and is not complete.
 pub fn is_incomplete(entries: &[Entry], k: Bid) -> bool
     ensures { result ≡ is_incomplete k.0 entries.now }
 {
@@ -115,6 +121,7 @@ pub fn is_next(entries: &[Entry], k: Bid) -> bool
     true
 }
 
+/// Whether the batch has an entry, and all its PACTs are done.
 pub fn is_done(entries: &[Entry], k: Bid) -> bool
     ensures { result ≡ is_done k.0 entries.now }
 {

@@ -19,6 +19,7 @@ pub fn push_in_room<T: Drop>(items: &mut Vec<T>, x: T)
     let _full = items.push(x);
 }
 
+/// The PACT is done wherever an entry names it.
 pub fn mark_done(entries: &mut Vec<Entry>, t: Tid)
     ensures items { entries.new.items ≡ map (done_in t.0) entries.old.items }
     ensures len { vec_len entries.new ≡ vec_len entries.old }
@@ -35,6 +36,7 @@ fn mark_each_done(entries: &mut [Entry], t: Tid)
     }
 }
 
+/// The batch is complete, where it has an entry.
 pub fn mark_complete(entries: &mut Vec<Entry>, k: Bid)
     ensures items { entries.new.items ≡ map (complete_in k.0) entries.old.items }
     ensures len { vec_len entries.new ≡ vec_len entries.old }
@@ -51,6 +53,7 @@ fn mark_each_complete(entries: &mut [Entry], k: Bid)
     }
 }
 
+/// The entry of the ACT leaves, where it has one.
 pub fn remove_act(entries: &mut Vec<Entry>, t: Tid)
     ensures items { entries.new.items ≡ filter (λ e. not (is_act_entry t.0 e)) entries.old.items }
     ensures capacity { vec_capacity entries.new ≡ vec_capacity entries.old }
@@ -59,6 +62,7 @@ pub fn remove_act(entries: &mut Vec<Entry>, t: Tid)
     entries.retain(|e| !e.is_act_of(t));
 }
 
+/// The entry of the batch leaves, where it has one.
 pub fn remove_batch(entries: &mut Vec<Entry>, k: Bid)
     ensures items { entries.new.items ≡ filter (λ e. not (is_batch_entry k.0 e)) entries.old.items }
     ensures capacity { vec_capacity entries.new ≡ vec_capacity entries.old }

@@ -1,3 +1,4 @@
+//! One entry of a schedule: a sub-batch or an ACT.
 ghost use Rattle.std.specs.Prelude.{◌≡◌, ℕ, ◌-◌, ◌^◌, nat_lt, min, max, Bool, false, ◌∷◌, ◌++◌, [], not, map, OnOk};
 ghost use Rattle.protocol.specs.Left.{entry_left};
 ghost use Rattle.protocol.specs.Parts.{BatchEntry, ActEntry};
@@ -59,12 +60,14 @@ impl Entry {
         }
     }
 
+    /// The batch or the ACT that the entry is of.
     pub fn owner(&self) -> Who
         ensures { who_meant result ≡ who_of self.now }
     {
         self.owner
     }
 
+    /// Whether the entry is the sub-batch of batch `k`. An ACT's entry is of no batch.
     pub fn is_batch(&self, k: Bid) -> bool
         ensures { result ≡ is_batch_entry k.0 self.now }
     {
@@ -104,6 +107,7 @@ impl Entry {
         }
     }
 
+    /// Whether it is an ACT's.
     pub fn is_act(&self) -> bool
         ensures { result ≡ is_act self.now }
     {
@@ -133,6 +137,7 @@ impl Entry {
         }
     }
 
+    /// Whether it is of a batch that is complete here. An ACT's entry is never complete.
     pub fn is_complete(&self) -> bool
         ensures { result ≡ is_complete_batch self.now }
     {
@@ -162,6 +167,7 @@ impl Entry {
         }
     }
 
+    /// Whether it is of a batch, all of whose PACTs are done here.
     pub fn is_all_done(&self) -> bool
         ensures { result ≡ is_all_done self.now }
     {

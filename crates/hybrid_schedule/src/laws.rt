@@ -11,7 +11,7 @@ pub fn cut_is_at_first_aborted()
         → AreAbortedFrom k cascades h.entries → cut_from k (length cascades) h ≡ cut_at cascades h }
 {}
 
-/// And what goes is what stands from there on.
+/// Where the batches from some number on are the aborted ones, what a rollback takes is what stands from the first of them on.
 pub fn gone_is_from_first_aborted()
     ensures { (cascades : List Cascade) (k : ℕ) (entries : List Entry)
         → AreAbortedFrom k cascades entries → going_from k entries ≡ going cascades entries }

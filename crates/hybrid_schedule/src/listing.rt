@@ -35,7 +35,7 @@ impl Schedule {
     }
 
     /// Of the ACTs behind the last sub-batch those that an ACT which comes can't stand beside, in order. Of a `reader`
-    /// these are the ones that do not only read, and else they are all.
+    /// the ones that do not only read are listed, and else all.
     #[tactic(auto, using(crate::proofs::OfActs::rivals_of_locks))]
     pub fn rivals(&self, alloc: Global, reader: bool) -> Result<Vec<Tid>, Memory>
         ensures { IfOk result (λ tids. map tid_number tids.items ≡ rival_tids reader self.now.schedule.entries) }

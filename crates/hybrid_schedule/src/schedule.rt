@@ -1,3 +1,4 @@
+//! An actor's schedule, and each call on it.
 ghost use Rattle.std.specs.Prelude.{◌≡◌, ℕ, ◌+◌, ◌≤◌, ◌<◌, nat_lt, Bool, Some, None, length, MatchResult, IfOk, OnOk, OnErr, IfErr, IsOk};
 ghost use Rattle.protocol.specs.Words.{has_act, has_entry, has_undone, is_clear, who_on};
 ghost use Rattle.protocol.specs.OnCell.{reads_on};
@@ -48,7 +49,8 @@ impl Model for Schedule {
 }
 
 impl Schedule {
-    /// Nothing stands there, and no batch was placed since this one.
+    /// A schedule with nothing on it, as it is after batch `base` and before any later one. `Memory` where room for its first
+    /// entries cannot be allocated.
     pub fn new(alloc: Global, base: Bid) -> Result<Self, Memory>
         ensures { IfOk result (λ s. s.schedule ≡ opened base.0) }
     {
@@ -77,7 +79,8 @@ impl Schedule {
         Ok(())
     }
 
-    /// Places a sub-batch at the end. A refused one is handed back, and the schedule is as before.
+    /// Places a sub-batch at the end. A sub-batch that is refused, or for which there is no memory, is handed back with the
+    /// reason, and the schedule is as before.
     pub fn arrive(&mut self, alloc: Global, s: SubBatch) -> Result<(), (SubBatch, ArriveNo)>
         ensures ok { OnOk result (self.new.schedule ≡ with_batch s.bid.0 (Some (sub_batch s)) self.old.schedule) }
 
@@ -113,7 +116,8 @@ impl Schedule {
         }
     }
 
-    /// Places an ACT at the end, which only reads or not. It takes the room of one entry.
+    /// Places an ACT at the end, which only reads or not. It takes the room of one entry. `Memory`, which comes only where
+    /// there is no room, leaves the schedule as it was.
     pub fn place_act(&mut self, alloc: Global, t: Tid, reader: bool) -> Result<(), Memory>
         ensures ok { OnOk result (self.new.schedule ≡ with_act (record { tid = t.0; reader = reader }) None self.old.schedule) }
         ensures err { OnErr result (self.new ≡ self.old) }
@@ -147,7 +151,7 @@ impl Schedule {
         self.epoch
     }
 
-    /// Whether it has seen fewer cascades than these.
+    /// Whether it has seen fewer cascades than `epoch`.
     pub fn is_behind(&self, epoch: u64) -> bool
         ensures { result ≡ nat_lt self.now.schedule.epoch epoch }
     {
@@ -211,7 +215,7 @@ impl Schedule {
         askings::is_clear(&self.entries, t) && askings::has_turn(&self.entries, t)
     }
 
-    /// The PACT is done here.
+    /// PACT `t` is done here. Where no sub-batch names it, nothing changes.
     pub fn mark_done(&mut self, t: Tid)
         ensures done { self.new.schedule ≡ with_done t.0 self.old.schedule }
         ensures room { KeepsRoom self.old self.new }
@@ -249,7 +253,7 @@ impl Schedule {
             && askings::is_done(&self.entries, bid)
     }
 
-    /// The batch is complete here.
+    /// Batch `bid` is complete here. Where it does not stand here, nothing changes.
     pub fn complete(&mut self, bid: Bid)
         ensures complete { self.new.schedule ≡ with_complete bid.0 self.old.schedule }
         ensures room { KeepsRoom self.old self.new }
@@ -257,7 +261,7 @@ impl Schedule {
         changes::mark_complete(&mut self.entries, bid);
     }
 
-    /// The ACT leaves.
+    /// ACT `t` leaves. Where it does not stand here, nothing changes.
     pub fn remove_act(&mut self, t: Tid)
         ensures gone { self.new.schedule ≡ without_act t.0 self.old.schedule }
         ensures room { KeepsRoom self.old self.new }
@@ -293,7 +297,7 @@ impl Schedule {
         self.tail = Bid(0);
     }
 
-    /// A settled batch leaves.
+    /// Batch `bid`, which is settled, leaves, and counts as the last one that did if it is greater.
     pub fn trim(&mut self, bid: Bid)
         ensures gone { self.new.schedule ≡ without_batch bid.0 self.old.schedule }
         ensures room { KeepsRoom self.old self.new }

@@ -1,3 +1,4 @@
+//! The slots of a sub-batch: its PACTs, and which of them are done.
 ghost use Rattle.std.specs.Prelude.{◌≡◌, ℕ, ◌-◌, ◌≤◌, ◌==◌, ◌^◌, min, Bool, true, false, not, [], ◌++◌, filter, map, length, vec_capacity, OnOk};
 ghost use Rattle.std.specs.List.{list_any, list_all};
 ghost use Rattle.protocol.specs.Left.{slot_left, total};
@@ -28,24 +29,28 @@ impl Model for Slot {
 }
 
 impl Slot {
+    /// The slot of a PACT that is not done.
     pub fn new(tid: Tid) -> Self
         ensures { result ≡ not_done tid.0 }
     {
         Slot { tid, done: false }
     }
 
+    /// Whether it is the slot of PACT `t`.
     pub fn is_of(&self, t: Tid) -> bool
         ensures { result ≡ is_of t.0 self.now }
     {
         self.tid.0 == t.0
     }
 
+    /// The PACT that it is of.
     pub fn tid(&self) -> Tid
         ensures { result.0 ≡ self.now.tid }
     {
         self.tid
     }
 
+    /// Whether its PACT is done.
     pub fn is_done(&self) -> bool
         ensures { result ≡ self.now.done }
     {
@@ -59,18 +64,21 @@ impl Slot {
         unless(self.done, 1)
     }
 
+    /// Whether PACT `t` need not wait for it: it is done, or not of a smaller tid.
     pub fn lets_run(&self, t: Tid) -> bool
         ensures { result ≡ lets_run t.0 self.now }
     {
         t.0 <= self.tid.0 || self.done
     }
 
+    /// Whether it is the slot of PACT `t`, which is not done.
     pub fn is_undone_of(&self, t: Tid) -> bool
         ensures { result ≡ is_undone_of t.0 self.now }
     {
         self.tid.0 == t.0 && !self.done
     }
 
+    /// PACT `t` is done, if the slot is its own.
     pub fn mark_done(&mut self, t: Tid)
         ensures { self.new ≡ done_if t.0 self.old }
     {
@@ -114,7 +122,7 @@ impl Slots {
         }
     }
 
-    /// One for each of these PACTs, none of them done, in memory that is there for them.
+    /// One for each PACT of `tids`, none of them done, in memory that is there for them.
     pub fn of(tids: &[Tid], memory: Vec<Slot>) -> Self
         requires empty { memory.items ≡ [] }
         requires fits { length tids.now ≤ vec_capacity memory }
@@ -157,6 +165,7 @@ impl Slots {
         all_let_run(self.items.as_slice(), t)
     }
 
+    /// Whether all of them are done.
     pub fn are_done(&self) -> bool
         ensures { result ≡ list_all (λ s. s.done) self.now }
     {

@@ -1,3 +1,4 @@
+//! A pool of slots for states, and the images that stand for the states in it.
 ghost use Rattle.std.specs.Prelude.{◌≡◌, ◌+◌, ◌<◌, Some, None, IfOk};
 ghost use Rattle.image_pool.specs.Region.{state_at, no_states, Changes, IsLive};
 

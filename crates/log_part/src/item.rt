@@ -1,3 +1,4 @@
+//! A record that is spelled before it is added.
 ghost use Rattle.std.specs.Prelude.{◌≡◌, IfOk};
 ghost use Rattle.log_part.specs.Items.{item_of};
 ghost use Rattle.txn_records.specs.Records.{IsRecord};

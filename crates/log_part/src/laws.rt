@@ -1,3 +1,4 @@
+//! Laws of the machine's records and their keys: public functions with empty bodies, whose contracts are the laws.
 ghost use Rattle.log_part.specs.Laws.{KeysOfKinds, ToldOnce};
 
 /// A record is looked up by the key of its kind, and by no other.

@@ -1,3 +1,4 @@
+//! One log as a part of the machine.
 ghost use Rattle.std.specs.Prelude.{◌≡◌, ◌+◌, ◌<◌, ◌≤◌, [], ◌∷◌, drop, map, IsOk, IfOk, OnOk, OnErr};
 ghost use Rattle.log_set.specs.Logs.{no_records, with_record, all_synced};
 ghost use Rattle.txn_records.specs.Records.{key, record_bytes, IsRecord};

@@ -1,3 +1,4 @@
+//! Copies of bytes.
 ghost use Rattle.std.specs.Prelude.{◌≡◌, IfOk};
 
 use snap_base::{Memory, Sequence};

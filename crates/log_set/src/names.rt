@@ -1,3 +1,4 @@
+//! A key as it is looked up.
 ghost use Rattle.std.specs.Prelude.{◌≡◌};
 ghost use Rattle.log_set.specs.Names.{name};
 

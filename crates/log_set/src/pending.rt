@@ -1,3 +1,4 @@
+//! The records of one log by their keys: which are synced, and the bytes of the others.
 ghost use Rattle.std.specs.Prelude.{◌≡◌, ◌+◌, ◌<◌, ◌≤◌, length, IsOk, IfOk, OnOk, OnErr};
 ghost use Rattle.log_set.specs.Logs.{no_records, with_record, all_synced, is_durable};
 

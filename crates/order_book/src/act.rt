@@ -1,3 +1,4 @@
+//! One ACT as the book keeps it.
 ghost use Rattle.std.specs.Prelude.{◌≡◌, ◌==◌, ◌≤◌, not, max, find, List, [], ◌∷◌, ◌++◌, map, if◌then◌else◌, Some, OnOk, OnErr};
 ghost use Rattle.std.specs.List.{list_all};
 ghost use Rattle.std.specs.Option.{option_map};
@@ -111,6 +112,7 @@ impl Act {
         self.under = 0;
     }
 
+    /// The tid of the ACT.
     pub fn tid(&self) -> Tid
         ensures { result.0 ≡ self.now.act.tid }
     {
@@ -201,7 +203,7 @@ impl Act {
         stands_among(self.marks.as_slice(), actor)
     }
 
-    /// Whether an event may change it though it does not name it, where these pairs are left.
+    /// Whether an event may change it though it does not name it, where `pairs` are the pairs that are left.
     pub(crate) fn is_walked(&self, pairs: &[Pair]) -> bool
         ensures { result ≡ is_walked pairs.now self.now.act }
     {

@@ -1,3 +1,4 @@
+//! The ACTs by their places in the list.
 ghost use Rattle.std.specs.Prelude.{◌≡◌, ℕ, ◌==◌, ◌≤◌, ◌+◌, not, List, [], ◌∷◌, ◌++◌, length, map, max, if◌then◌else◌, is_ok, is_some, slice_get, option_copied, OnOk, OnErr};
 ghost use Rattle.std.specs.Option.{option_map};
 ghost use Rattle.protocol.specs.Words.{is_doomed, is_live_status, is_ordered, is_live_act, joined_of, holds};

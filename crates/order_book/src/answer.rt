@@ -1,3 +1,4 @@
+//! The answer of wait-die to an ACT that asks for an actor.
 ghost use Rattle.std.specs.Prelude.{◌≡◌, nat_lt, if◌then◌else◌, List};
 ghost use Rattle.std.specs.Option.{option_map};
 ghost use Rattle.machine_words.specs.Meant.{tid_number};

@@ -1,3 +1,4 @@
+//! The book: the orders of all ACTs, each call that changes them and each asking.
 ghost use Rattle.std.specs.Prelude.{◌≡◌, ℕ, ◌<◌, ◌==◌, not, max, IsTrue, List, [], ◌∷◌, ◌++◌, map, is_some, OnOk, OnErr, Some, None, IfSome, find};
 ghost use Rattle.std.specs.List.{All};
 ghost use Rattle.std.specs.Option.{option_map};
@@ -107,7 +108,7 @@ impl Book {
         Ok(())
     }
 
-    /// Batch `bid` arrives on actor `a`, behind these ACTs. Whose numbers then cross is given up.
+    /// Batch `bid` arrives on actor `a`, behind the ACTs of `acts`. An ACT whose numbers then cross is given up.
     pub fn lower(&mut self, acts: &[Tid], bid: Bid, a: ActorId)
         ensures { self.new ≡ batch_arrived bid.0 a.0 (map tid_number acts.now) self.old }
     {

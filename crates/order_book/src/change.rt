@@ -1,3 +1,4 @@
+//! What may become of one ACT.
 use snap_base::{ActorId, Bid, TxNo, Verdict};
 
 /// What becomes of one ACT and takes no memory.

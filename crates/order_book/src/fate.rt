@@ -1,3 +1,4 @@
+//! How an ACT stands: undecided, given up or placed.
 ghost use Rattle.std.specs.Prelude.{◌≡◌, false, if◌then◌else◌, nat_le};
 ghost use Rattle.std.specs.Option.{option_map};
 ghost use Rattle.protocol.specs.Parts.{Doomed};

@@ -1,3 +1,4 @@
+//! An actor that an ACT joined.
 ghost use Rattle.std.specs.Prelude.{◌≡◌, ◌==◌, false};
 ghost use Rattle.protocol.specs.BookParts.{not_voted};
 ghost use Rattle.protocol.specs.OnBook.{mark_if, has_left};
@@ -32,6 +33,7 @@ impl Mark {
         }
     }
 
+    /// The actor that the ACT joined.
     pub fn actor(&self) -> ActorId
         ensures { result.0 ≡ self.now.actor }
     {

@@ -1,3 +1,4 @@
+//! Pairs: an ACT behind another one on an actor.
 ghost use Rattle.std.specs.Prelude.{◌≡◌, ◌==◌, ◌&&◌};
 ghost use Rattle.order_book.specs.Walking.{is_behind};
 

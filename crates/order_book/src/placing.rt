@@ -1,3 +1,4 @@
+//! What is done where an ACT or a batch comes to an actor.
 ghost use Rattle.std.specs.Prelude.{◌≡◌, List, [], ◌∷◌, ◌++◌, map, OnOk, OnErr, IfOk, if◌then◌else◌};
 ghost use Rattle.machine_words.specs.Meant.{tid_number};
 ghost use Rattle.protocol.specs.OnBook.{joins, lowered, new_pairs};
@@ -37,7 +38,7 @@ fn add_unless(is_left_out: bool, made: &mut Vec<Pair>, pair: Pair) -> Result<(),
     Ok(())
 }
 
-/// The ACT at a place joins an actor, behind a batch and in these pairs. For want of memory all is as before.
+/// The ACT at a place joins an actor, behind a batch and in the pairs made for it. For want of memory all is as before.
 pub(crate) fn join(
     register: &mut Register,
     pairs: &mut Vec<Pair>,
@@ -58,7 +59,7 @@ pub(crate) fn join(
     Ok(())
 }
 
-/// The batch stands behind each of these ACTs.
+/// The batch stands behind each of the ACTs.
 pub(crate) fn lower_each(register: &mut Register, acts: &[Tid], bid: Bid)
     ensures { register.new ≡ map (lowered bid.0 (map tid_number acts.now)) register.old }
 {

@@ -1,3 +1,4 @@
+//! All ACTs, found by tid and by transaction.
 ghost use Rattle.std.specs.Prelude.{◌≡◌, ◌<◌, ◌≤◌, ◌+◌, ◌==◌, ◌^◌, ℕ, map, List, [], ◌∷◌, ◌++◌, length, if◌then◌else◌, OnOk, OnErr, slice_get, slice_index, slice_index_or, find, IfSome, None, drop, vec_len, vec_capacity};
 ghost use Rattle.std.specs.List.{All, position_or_len};
 ghost use Rattle.std.specs.Option.{option_map};

@@ -1,3 +1,4 @@
+//! What an event changes of ACTs that it does not name.
 ghost use Rattle.std.specs.Prelude.{◌≡◌, filter};
 ghost use Rattle.protocol.specs.Spread.{crossed_out};
 ghost use Rattle.order_book.specs.Changes.{changed_by, changed_along, raised_along};

@@ -1,3 +1,4 @@
+//! Tables of calls, and what they answer.
 use snap_base::Memory;
 use std::alloc::Global;
 

@@ -1,3 +1,4 @@
+-- The messages of one kind as contracts see them.
 use Rattle.std.specs.Prelude.{ℕ, List}
 
 -- messages with their keys, in the order of posting, and for how many more there is room

@@ -1,3 +1,4 @@
+-- The post as contracts see it.
 use Rattle.std.specs.Prelude.{ℕ}
 use Rattle.protocol.specs.Parts.{Post}
 

@@ -1,3 +1,4 @@
+//! What a sub-batch under way says before it is taken.
 use snap_base::Bid;
 
 /// What a sub-batch under way says before it is taken.

@@ -1,3 +1,4 @@
+//! What the post keeps of a message beside its key.
 ghost use Rattle.std.specs.Prelude.{◌≡◌, length};
 
 use crate::head::SubHead;

@@ -1,3 +1,4 @@
+//! The key by which a sub-batch under way is found.
 use snap_base::{ActorId, Bid};
 
 /// By what a sub-batch is found.

@@ -1,3 +1,4 @@
+//! The post: sub-batches and controls under way.
 ghost use Rattle.std.specs.Prelude.{◌≡◌, ◌+◌, ◌<◌, ◌≤◌, is_some, None, [], length, IsOk, IfOk, IfErr, OnOk, OnErr};
 ghost use Rattle.std.specs.Option.{option_map};
 ghost use Rattle.protocol.specs.OnPost.{sub_taken, control_taken};
@@ -33,7 +34,7 @@ impl<C> Model for Post<C> {
 }
 
 impl<C: Drop> Post<C> {
-    /// A post with no messages.
+    /// A post with no messages. `Memory` where room for the first ones cannot be allocated.
     pub fn new(alloc: Global) -> Result<Post<C>, Memory>
         ensures { IfOk result (λ post. post.messages ≡ record { subs = []; controls = [] }) }
     {
@@ -151,7 +152,7 @@ impl<C: Drop> Post<C> {
         Some(kept.who)
     }
 
-    /// Takes a transaction's control out. `None` exactly where none is under way; nothing changes then.
+    /// Takes the control of transaction `tid` out. `None` exactly where none is under way; nothing changes then.
     pub fn take_control(&mut self, tid: Tid) -> Option<C>
         ensures value { result ≡ option_map message_control (control_of tid.0 self.old.messages.controls) }
         ensures messages { self.new.messages ≡ control_taken tid.0 self.old.messages }

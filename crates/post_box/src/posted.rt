@@ -1,3 +1,4 @@
+//! Messages of one kind, found by key and kept with their order of posting.
 ghost use Rattle.std.specs.Prelude.{◌≡◌, ◌+◌, ◌^◌, ◌<◌, ◌≤◌, not, is_some, None, [], ◌∷◌, ◌++◌, length, filter, IsOk, IfOk, IfErr, OnOk, OnErr};
 ghost use Rattle.std.specs.Option.{option_copied};
 ghost use Rattle.std.specs.Map.{lookup};

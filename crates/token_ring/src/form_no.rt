@@ -1,3 +1,4 @@
+//! Why no batch is planned.
 use snap_base::Memory;
 
 /// Why no batch is planned.

@@ -1,10 +1,11 @@
+//! The last batch of each actor.
 ghost use Rattle.std.specs.Prelude.{◌≡◌, length, map, replicate, IfOk};
 ghost use Rattle.protocol.specs.OnRing.{with_lasts};
 ghost use Rattle.machine_words.specs.Meant.{subs_actor};
 
 use snap_base::SubBatch;
 
-/// The actors of these sub-batches have this batch as their last one.
+/// The actors of the sub-batches have batch `bid` as their last one.
 pub(crate) fn mark(lasts: &mut [u64], subs: &[SubBatch], bid: u64)
     ensures { lasts.new ≡ with_lasts bid (map subs_actor subs.now) lasts.old }
 {

@@ -1,3 +1,4 @@
+//! What waits at the coordinators, in queues.
 ghost use Rattle.std.specs.Prelude.{◌≡◌, ◌+◌, ◌-◌, ◌<◌, ◌≤◌, ◌^◌, min, not, [], ◌∷◌, ◌++◌, map, take, drop, replicate, IfOk, OnOk, OnErr, slice_index_or, length};
 ghost use Rattle.std.specs.List.{list_all};
 ghost use Rattle.protocol.specs.Left.{busy_from, total};
@@ -27,6 +28,7 @@ impl Model for Queue {
 }
 
 impl Queue {
+    /// A queue with nothing in it. It takes no memory.
     pub fn new(alloc: Global) -> Queue
         ensures { result ≡ [] }
     {
@@ -35,12 +37,14 @@ impl Queue {
         }
     }
 
+    /// Whether no transaction waits.
     pub fn is_empty(&self) -> bool
         ensures { result ≡ is_empty self.now }
     {
         self.waiting.is_empty()
     }
 
+    /// How many transactions wait.
     pub fn len(&self) -> usize
         ensures { result ≡ length self.now }
     {

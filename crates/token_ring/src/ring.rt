@@ -1,3 +1,4 @@
+//! The ring: the coordinators, the token, and the numbers that are drawn next.
 ghost use Rattle.std.specs.Prelude.{◌≡◌, ◌+◌, ◌-◌, ◌%◌, ◌<◌, ◌≤◌, ◌^◌, ◌↔◌, min, true, false, not, ◌&&◌, ◌||◌, length, IfOk, OnOk, OnErr};
 ghost use Rattle.std.specs.Option.{OnSome, IfNone};
 ghost use Rattle.std.specs.Result.{IsErrAnd};
@@ -57,8 +58,9 @@ impl Model for Ring {
 }
 
 impl Ring {
-    /// The ring that a run begins with: coordinator 0 has the token, and nothing waits. `coordinators`
-    /// is at least 1.
+    /// The ring that a run begins with: coordinator 0 has the token, nothing waits, no actor has a last batch, and the next
+    /// numbers are drawn from `next_tid` and `next_bid` on. `coordinators` is at least 1. `Memory` where the queues or the list
+    /// of the actors' last batches cannot be allocated.
     pub fn new(
         alloc: Global,
         coordinators: u8,
@@ -217,7 +219,7 @@ impl Ring {
     }
 
     /// The batch that is formed next: the first PACTs that wait at the holder, at most `most`. Nothing
-    /// changes. `Empty` exactly where no PACT waits there.
+    /// changes. `Empty` exactly where no PACT waits there; `Memory` where the plan cannot be allocated.
     pub fn plan(&self, alloc: Global, txs: &[Tx], most: u16) -> Result<Formed, FormNo>
         requires { self.now.next_tid + most < 2 ^ 64 }
         ensures ok { IfOk result (IsNextBatch txs.now most self.now) }

@@ -1,3 +1,4 @@
+//! The sub-batches of a batch: what each of its actors is told.
 ghost use Rattle.std.specs.Prelude.{◌≡◌, ◌+◌, ◌<◌, ◌≤◌, [], length, map, is_ok, slice_index_or, OnOk, IfOk};
 ghost use Rattle.protocol.specs.Fixed.{no_tx, declared};
 ghost use Rattle.machine_words.specs.Meant.{batch_pact, sub_batch, subs_actor, tid_number};
@@ -15,7 +16,7 @@ pub(crate) struct Heading<'a> {
     pub lasts: &'a [u64],
 }
 
-/// What each actor is told of these PACTs, by actor, ascending. A transaction that does not exist
+/// What each actor is told of the PACTs of a batch, by actor, ascending. A transaction that does not exist
 /// declares nothing, and an actor that does not exist is told nothing.
 pub(crate) fn sub_batches(
     alloc: Global,
@@ -50,7 +51,7 @@ fn tell_pact(
     }
 }
 
-/// These actors are told of a PACT.
+/// The actors that `uses` names are told of a PACT.
 fn tell_uses(
     alloc: Global,
     subs: &mut Vec<SubBatch>,

@@ -1,3 +1,4 @@
+//! The names of events as lines have them.
 ghost use Rattle.std.specs.Prelude.{◌≡◌, Some, IfSome};
 ghost use Rattle.trace_text.specs.declared.names.Name as name;
 ghost use Rattle.trace_text.specs.Lines.{name_text};

@@ -1,3 +1,4 @@
+//! The events of a trace.
 ghost use Rattle.std.specs.Prelude.{◌<◌, ◌^◌, length, MatchResult};
 ghost use Rattle.trace_text.specs.Traces.{IsTrace, IsNo};
 

@@ -92,7 +92,7 @@ fn with_one(name: Name, n: u64) -> Option<Event>
     }
 }
 
-// The event of this name and these numbers, if such an event has two numbers.
+// The event of this name and numbers, if such an event has two numbers.
 fn with_two(name: Name, n: u64, a: ActorId) -> Option<Event>
     ensures { result ≡ with_two name n a.0 }
 {
@@ -127,7 +127,7 @@ fn with_two(name: Name, n: u64, a: ActorId) -> Option<Event>
     }
 }
 
-/// The event of this name and these numbers, if there is one: its numbers are of its types.
+/// The event of this name and numbers, if there is one: each number is of its type.
 pub(crate) fn event_with(name: Name, n: u64, second: Option<u16>) -> Option<Event>
     ensures found { IfSome result (λ e. (event_parts e ≡ (name, n, second)) × AreNumbersOf (name, n, second)) }
     ensures only { AreNumbersOf (name, n, second) → result ≡ with_numbers name n second }

@@ -1,3 +1,4 @@
+//! The line of an event.
 ghost use Rattle.std.specs.Prelude.{◌≡◌, [], ◌∷◌, ◌++◌, IfOk, string_bytes};
 ghost use Rattle.trace_text.specs.Lines.{event_line, IsEvent};
 

@@ -1,3 +1,4 @@
+//! Why a text gives no events.
 ghost use Rattle.std.specs.Prelude.{◌≡◌};
 ghost use Rattle.trace_text.specs.declared.trace_no.TraceNo.TheVariants.{Memory};
 
