@@ -11,6 +11,7 @@ ghost use Rattle.snap_hand.specs.Tables.{AreTables, fixed_of};
 
 use crate::laying::lay_out;
 use crate::rooms::{Beginning, Room};
+use core_events::first_cell;
 use gate_log::{FARTHEST_END, Log};
 use snap_base::Memory;
 use snap_core::Core;
@@ -73,5 +74,5 @@ fn part_count(tables: &Tables) -> usize
     requires { AreTables tables.now }
     ensures { result ≡ 4 + tables.now.work.logs + length tables.now.opening.states }
 {
-    4 + tables.work.logs as usize + tables.opening.states.len()
+    first_cell(tables.work.logs) + tables.opening.states.len()
 }

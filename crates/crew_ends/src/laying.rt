@@ -7,16 +7,11 @@ ghost use Rattle.crew_parts.specs.Besides.{beside_log, beside_none};
 ghost use Rattle.crew_parts.specs.Shares.{output_seen};
 ghost use Rattle.snap_hand.specs.Shown.{shown};
 
+use core_events::{DESK, FIRST_LOG};
 use crew_parts::{Beside, Share};
 use gate_log::Log;
 use snap_hand::Part;
 use snap_outside::{LogDev, Sink};
-
-/// The parts before the desk.
-const BEFORE_DESK: usize = 3;
-
-/// The parts before the logs.
-const BEFORE_LOGS: usize = 4;
 
 /// The shares of all parts, in the order of their numbers, in a list with room for them: beside the logs are their journals,
 /// which leave their list, and beside the desk is the output.
@@ -38,11 +33,11 @@ pub(crate) fn lay_out<D: LogDev, O: Sink>(
 {
     let mut parts = parts;
     let mut shares = room;
-    let cells = parts.len() - BEFORE_LOGS - logs.len();
+    let cells = parts.len() - FIRST_LOG - logs.len();
     lay_bare(&mut parts, &mut shares, cells);
     lay_logs(&mut parts, &mut shares, logs);
     lay_last(&mut parts, &mut shares, Beside::with_output(out));
-    lay_bare(&mut parts, &mut shares, BEFORE_DESK);
+    lay_bare(&mut parts, &mut shares, DESK);
     parts.destroy_empty();
     shares.reverse();
     shares

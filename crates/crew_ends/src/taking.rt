@@ -7,16 +7,11 @@ ghost use Rattle.gate_log.specs.State.{LogState};
 ghost use Rattle.snap_hand.specs.Shown.{shown};
 
 use crate::rooms::Room;
+use core_events::{DESK, FIRST_LOG};
 use crew_parts::{Beside, Share};
 use gate_log::Log;
 use snap_hand::{Hand, Part};
 use snap_outside::{LogDev, Sink};
-
-/// The parts before the desk.
-const BEFORE_DESK: usize = 3;
-
-/// The parts before the logs.
-const BEFORE_LOGS: usize = 4;
 
 /// What shares are made of: the parts, with a hand for them; the journals and the output, and whether the output failed.
 pub(crate) struct Apart<D: LogDev, O: Sink> {
@@ -48,11 +43,11 @@ pub(crate) fn take_apart<D: LogDev + Drop, O: Sink + Drop>(
         mut logs,
     } = room;
     let mut shares = shares;
-    let cells = shares.len() - BEFORE_LOGS - count;
+    let cells = shares.len() - FIRST_LOG - count;
     take_bare(&mut shares, &mut parts, cells);
     take_logs(&mut shares, &mut parts, &mut logs, count);
     let (out, broken) = take_output(&mut shares, &mut parts);
-    take_bare(&mut shares, &mut parts, BEFORE_DESK);
+    take_bare(&mut shares, &mut parts, DESK);
     shares.destroy_empty();
     parts.reverse();
     logs.reverse();

@@ -5,6 +5,7 @@ ghost use Rattle.snap_hand.specs.Shown.{Belongs, part_at, with_part, without};
 ghost use Rattle.snap_hand.specs.Tables.{AreTables, fixed_of};
 ghost use Rattle.turn_table.specs.Places.{IsIdle, at};
 
+use core_events::first_cell;
 use crew_parts::{Beside, Share};
 use snap_base::Memory;
 use snap_hand::{Hand, Tables};
@@ -33,7 +34,7 @@ fn parts_of(tables: &Tables) -> usize
     requires { AreTables tables.now }
     ensures { result ≡ part_count (fixed_of tables.now) }
 {
-    4 + tables.work.logs as usize + tables.opening.states.len()
+    first_cell(tables.work.logs) + tables.opening.states.len()
 }
 
 /// So many places, with nothing in them.

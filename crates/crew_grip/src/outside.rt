@@ -14,7 +14,7 @@ ghost use Rattle.turn_table.specs.Words.{tables_of};
 use crate::Grip;
 use crate::results::NotDone;
 use aml_slice::Control;
-use core_events::Event;
+use core_events::{DESK, Event, part_of_log};
 use crew_parts::Share;
 use gate_log::AppendNo;
 use protocol_laws::allowed_or_refused;
@@ -25,11 +25,6 @@ use snap_outside::{Failed, LogDev, Sink};
 use snap_report::reply_line;
 use std::alloc::Global;
 use turn_table::Turns;
-
-/// The number of the desk among the parts, and that of the first log.
-const DESK: usize = 3;
-
-const FIRST_LOG: usize = 4;
 
 /// Why what stands before a Sync was not done, where the append was refused.
 fn why_of(no: AppendNo) -> NotDone
@@ -84,7 +79,7 @@ impl<D: LogDev + Drop, O: Sink + Drop> Grip<D, O> {
         let Ok(pieces) = self.hand.group(alloc, l) else {
             return Err(NotDone::Memory);
         };
-        match self.append_at(alloc, FIRST_LOG + l as usize, pieces.as_slice()) {
+        match self.append_at(alloc, part_of_log(l), pieces.as_slice()) {
             Ok(()) => Ok(()),
             Err(no) => Err(why_of(no)),
         }

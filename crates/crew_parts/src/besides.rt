@@ -3,6 +3,7 @@ ghost use Rattle.std.specs.Prelude.{◌≡◌, None, Some, false, true, option_m
 ghost use Rattle.crew_parts.specs.Besides.{HasAppended, HasWritten, IsSound, MayAppendTo, MayWriteTo, beside_log, beside_desk, beside_none, has_failed_there, is_ready_journal, is_ready_output, is_shut_there};
 ghost use Rattle.crew_parts.specs.Shares.{output_seen};
 
+use core_events::{DESK, FIRST_LOG};
 use gate_log::{AppendNo, Log};
 use run_journals::append_group;
 use run_outputs::write_all;
@@ -10,11 +11,6 @@ use snap_base::Sequence;
 use snap_outside::{Failed, LogDev, Sink};
 use std::alloc::Global;
 use std::marker::Model;
-
-/// The number of the desk among the parts, and that of the first log.
-const DESK: usize = 3;
-
-const FIRST_LOG: usize = 4;
 
 /// What stands beside a part: beside a log its journal on its device, beside the desk the output, and nothing beside the others.
 pub struct Beside<D: LogDev, O: Sink> {

@@ -10,7 +10,7 @@ ghost use Rattle.snap_hand.specs.Tables.{AreTables, fixed_of};
 use crate::lists::{are_listed, is_listed};
 use crate::moving::move_parts;
 use aml_slice::Control;
-use core_events::{Event, Footprint, footprint};
+use core_events::{BOOK, DESK, Event, Footprint, footprint, part_of_cell};
 use core_rows::runs_go_on;
 use hand_offers::offers;
 use machine_laws::texts_have_the_facts;
@@ -20,11 +20,6 @@ use snap_base::{ActorId, Memory, State, TxNo, Verdict};
 use snap_hand::{Hand, StepNo, Tables, apply, refusal};
 use std::alloc::Global;
 use std::marker::Model;
-
-/// The numbers of the parts that a verdict is told of.
-const BOOK: usize = 1;
-
-const DESK: usize = 3;
 
 /// The tables of a text and the machine's parts, as a core has them; but each event gets just the parts of its footprint.
 pub struct FootprintCore {
@@ -170,7 +165,7 @@ fn state_on(tables: &Tables, hand: &Hand, a: ActorId) -> Option<State>
     if !hand.has_actor(a) {
         return None;
     }
-    if !hand.has(4 + tables.work.logs as usize + a.0 as usize) {
+    if !hand.has(part_of_cell(a, tables.work.logs)) {
         return None;
     }
     Some(hand.state(a))

@@ -3,7 +3,6 @@
 #![tactic(auto)]
 
 mod choosing;
-mod numbers;
 mod of_acts;
 mod of_batches;
 mod of_cells;

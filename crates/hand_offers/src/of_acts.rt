@@ -6,10 +6,9 @@ ghost use Rattle.hand_offers.specs.Listed.{Adds, of_act, of_joined, of_some, on_
 ghost use Rattle.machine_words.specs.Meant.{actor_number, tid_number};
 ghost use Rattle.protocol.specs.Parts.{Book};
 
-use crate::numbers::BOOK;
 use crate::pushing::{push_three, push_two};
 use book_part::BookPart;
-use core_events::Event;
+use core_events::{BOOK, Event};
 use snap_base::{ActorId, Memory, Tid};
 use snap_hand::Hand;
 use std::alloc::Global;

@@ -4,10 +4,9 @@ ghost use Rattle.std.specs.List.{flat_map};
 ghost use Rattle.hand_offers.specs.Listed.{Adds, of_batch, of_declared, of_some, on_desk};
 ghost use Rattle.machine_words.specs.Meant.{actor_number};
 
-use crate::numbers::DESK;
 use crate::pushing::{push_three, push_two};
 use batch_table::Desk;
-use core_events::Event;
+use core_events::{DESK, Event};
 use snap_base::{ActorId, Bid, Memory};
 use snap_hand::Hand;
 use std::alloc::Global;

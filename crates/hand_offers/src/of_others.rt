@@ -5,9 +5,8 @@ ghost use Rattle.hand_offers.specs.Listed.{Adds, of_log, of_reply, of_some, on_r
 ghost use Rattle.protocol.specs.Words.{below};
 ghost use Rattle.snap_hand.specs.Tables.{AreTables, text_of};
 
-use crate::numbers::{DESK, RING};
 use crate::pushing::{push_one, push_two};
-use core_events::Event;
+use core_events::{DESK, Event, RING};
 use snap_base::{Memory, TxNo};
 use snap_hand::{Hand, Tables};
 use std::alloc::Global;

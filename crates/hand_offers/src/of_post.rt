@@ -4,10 +4,9 @@ ghost use Rattle.std.specs.List.{flat_map};
 ghost use Rattle.hand_offers.specs.Listed.{Adds, of_control, of_some, of_sub, on_post};
 ghost use Rattle.post_box.specs.Listed.{control_listed, sub_listed};
 
-use crate::numbers::POST;
 use crate::pushing::{push_three, push_two};
 use aml_slice::Control;
-use core_events::Event;
+use core_events::{Event, POST};
 use post_box::Post;
 use snap_base::{ActorId, Bid, Memory, Tid};
 use snap_hand::Hand;

@@ -14,6 +14,7 @@ ghost use Rattle.snap_hand.specs.declared.parts.Part as one;
 
 use crate::Core;
 use crate::cores::runs_lead;
+use core_events::first_cell;
 use snap_base::Memory;
 use snap_hand::{
     Hand, Part, Tables, places_are_set, places_tell_the_hand, putting_fits, taking_fits,
@@ -73,7 +74,7 @@ fn part_count(tables: &Tables) -> usize
     requires { AreTables tables.now }
     ensures { result ≡ 4 + tables.now.work.logs + length tables.now.opening.states }
 {
-    4 + tables.work.logs as usize + tables.opening.states.len()
+    first_cell(tables.work.logs) + tables.opening.states.len()
 }
 
 // All parts of a whole hand, into a list with room for them, and the hand without them.

@@ -12,6 +12,7 @@ use aml_slice::Control;
 use batch_table::Desk;
 use book_part::BookPart;
 use cell_part::CellPart;
+use core_events::{BOOK, DESK, FIRST_LOG, POST, RING};
 use log_part::LogPart;
 use post_box::Post;
 use snap_base::Memory;
@@ -19,8 +20,8 @@ use std::alloc::Global;
 use std::boxed::Box;
 use token_ring::Ring;
 
-/// One part of the machine. The number that it has in a hand tells its kind: 0 the ring, 1 the book, 2 the post, 3 the desk, from
-/// 4 on the logs, and behind these the cells.
+/// One part of the machine. The number that it has in a hand tells its kind: `RING`, `BOOK`, `POST` and `DESK` of `core_events`,
+/// from `FIRST_LOG` on the logs, and from `first_cell` on the cells.
 pub enum Part {
     Ring(Box<Ring>),
     Book(Box<BookPart>),
@@ -56,10 +57,10 @@ impl Part {
             Part::Book(book) => hand.put_book(book),
             Part::Post(post) => hand.put_post(post),
             Part::Desk(desk) => hand.put_desk(desk),
-            Part::Log(log) => hand.put_log(part - 4, log),
+            Part::Log(log) => hand.put_log(part - FIRST_LOG, log),
             Part::Cell(cell) => {
                 let logs = hand.logs.len();
-                hand.put_cell_in(part - (4 + logs), cell)
+                hand.put_cell_in(part - (FIRST_LOG + logs), cell)
             }
         }
     }
@@ -106,11 +107,11 @@ impl Hand {
         ensures left { self.new ≡ without part self.old }
     {
         match part {
-            0 => ring_part(self.ring.take()),
-            1 => book_part(self.book.take()),
-            2 => post_part(self.post.take()),
-            3 => desk_part(self.desk.take()),
-            _ => self.take_behind(part - 4),
+            RING => ring_part(self.ring.take()),
+            BOOK => book_part(self.book.take()),
+            POST => post_part(self.post.take()),
+            DESK => desk_part(self.desk.take()),
+            _ => self.take_behind(part - FIRST_LOG),
         }
     }
 

@@ -12,6 +12,7 @@ use aml_slice::Control;
 use batch_table::Desk;
 use book_part::BookPart;
 use cell_part::CellPart;
+use core_events::{BOOK, DESK, FIRST_LOG, POST, RING};
 use log_part::LogPart;
 use post_box::Post;
 use snap_base::ActorId;
@@ -38,11 +39,11 @@ impl Hand {
         ensures { result ≡ is_at_hand self.now part }
     {
         match part {
-            0 => self.ring.is_some(),
-            1 => self.book.is_some(),
-            2 => self.post.is_some(),
-            3 => self.desk.is_some(),
-            _ => self.has_behind(part - 4),
+            RING => self.ring.is_some(),
+            BOOK => self.book.is_some(),
+            POST => self.post.is_some(),
+            DESK => self.desk.is_some(),
+            _ => self.has_behind(part - FIRST_LOG),
         }
     }
 
