@@ -1,2 +1,2 @@
-pub mod Naming
 pub mod Placing
+pub mod SameKeys

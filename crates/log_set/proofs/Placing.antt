@@ -5,9 +5,7 @@ use Rattle.std.specs.Prelude.{◌||◌}
 use Rattle.std.specs.List.{list_any, position_from}
 use Rattle.std.specs.Option.{option_or}
 use Rattle.txn_records.specs.declared.keys.Key.{Key}
-use Rattle.log_set.specs.declared.names.Name.{Name}
 use Rattle.log_set.specs.Keys.{is_key}
-use Rattle.log_set.specs.Names.{name}
 use Rattle.log_set.specs.Firsts.{first_place, ArePlaces}
 use Rattle.log_set.specs.Logs.{LogList, is_durable}
 
@@ -20,8 +18,8 @@ position_more test n (x ∷ xs) y =
     (λ e. cond-true (test x) (Some n) (position_from test (n + 1) (xs ++ y ∷ [])) e)
     (λ e. cond-false (test x) (Some n) (position_from test (n + 1) (xs ++ y ∷ [])) e ∙ (position_more test (n + 1) xs y ∙ ap (λ i. option_or (position_from test (n + 1) xs) (cond (test y) (Some i) None)) (omega arith)))
 
-pub places_more : (f g : Name → Option ℕ) (keys : List Key) (key : Key) (place : ℕ) → ArePlaces f keys → place ≡ length keys
-    → ((k : Key) → g (name k) ≡ option_or (f (name k)) (cond (is_key key k) (Some place) None)) → ArePlaces g (keys ++ key ∷ [])
+pub places_more : (f g : Key → Option ℕ) (keys : List Key) (key : Key) (place : ℕ) → ArePlaces f keys → place ≡ length keys
+    → ((k : Key) → g k ≡ option_or (f k) (cond (is_key key k) (Some place) None)) → ArePlaces g (keys ++ key ∷ [])
 places_more f g keys key place h end put k =
     put k ∙ (ap (λ o. option_or o (cond (is_key key k) (Some place) None)) (h k) ∙ (ap (λ i. option_or (first_place k keys) (cond (is_key key k) (Some i) None)) (omega (arith, end)) ∙ sym (position_more (λ x. is_key x k) 0 keys key)))
 

@@ -2,6 +2,7 @@
 use Rattle.std.specs.Prelude.{◌==◌, ◌&&◌, Bool, true, false}
 use Rattle.txn_records.specs.declared.keys.Key.{Key}
 use Rattle.txn_records.specs.declared.keys.Key.TheVariants.{Genesis, Info, Complete, Commit, Prepare, Act}
+use Rattle.txn_records.specs.contracts.keys.KeyPartialEq.TheImpl as comparison
 
 abbrev pub is_key : Key → Key → Bool
 is_key Genesis Genesis = true
@@ -16,3 +17,7 @@ is_key (Complete k a) _ = false
 is_key (Commit k) _ = false
 is_key (Prepare t a) _ = false
 is_key (Act t) _ = false
+
+-- what `==` answers
+abbrev pub key_eq : Key → Key → Bool
+key_eq = (comparison.ghosts).eq

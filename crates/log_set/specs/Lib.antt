@@ -1,4 +1,3 @@
 pub mod Firsts
 pub mod Keys
 pub mod Logs
-pub mod Names

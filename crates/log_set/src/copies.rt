@@ -4,6 +4,7 @@ ghost use Rattle.std.specs.Prelude.{◌≡◌, IfOk};
 use snap_base::{Memory, Sequence};
 use std::alloc::Global;
 
+/// A copy of each piece, in order.
 pub(crate) fn copies_of(
     alloc: Global,
     pieces: &[Sequence<u8>],
@@ -17,6 +18,7 @@ pub(crate) fn copies_of(
     Ok(copies)
 }
 
+/// A copy of one piece.
 fn copy_of(alloc: Global, piece: &Sequence<u8>) -> Result<Sequence<u8>, Memory>
     ensures { IfOk result (λ copy. copy ≡ piece.now) }
 {

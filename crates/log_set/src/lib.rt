@@ -6,7 +6,6 @@
 #![tactic(auto)]
 
 mod copies;
-mod names;
 mod pending;
 mod places;
 

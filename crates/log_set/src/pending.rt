@@ -3,7 +3,6 @@ ghost use Rattle.std.specs.Prelude.{◌≡◌, ◌+◌, ◌<◌, ◌≤◌, leng
 ghost use Rattle.log_set.specs.Logs.{no_records, with_record, all_synced, is_durable};
 
 use crate::copies::copies_of;
-use crate::names::{Name, name_of};
 use crate::places::put_first;
 use snap_base::{Memory, Sequence};
 use std::alloc::Global;
@@ -14,13 +13,13 @@ use txn_records::Key;
 /// So many records are added before room has to grow.
 const FIRST_ROOM: usize = 64;
 
-/// The records of one log. Contracts see, beside its list side, how many more can be added with no new memory.
+/// The records of one log, found by their keys. Contracts see its list side, and how many more can be added with no new memory.
 #[derive(Drop)]
 pub struct Pending {
     /// Of all records, in the order in which they were added.
     keys: Vec<Key>,
     /// Where each key stands first.
-    places: HashMap<Name, usize>,
+    places: HashMap<Key, usize>,
     /// How many records, from the first on, are synced.
     synced: usize,
     /// The bytes of the others.
@@ -31,8 +30,8 @@ impl Model for Pending {
     ghost use Rattle.std.specs.Prelude.{◌≡◌, ◌+◌, ◌-◌, length, min, vec_capacity};
     ghost use Rattle.std.specs.HashMap.{get, spare};
     ghost use Rattle.log_set.specs.Firsts.{ArePlaces};
+    ghost use Rattle.log_set.specs.Keys.{key_eq};
     ghost use Rattle.log_set.specs.Logs.{PendingState};
-    ghost use Rattle.log_set.specs.Names.{name_eq};
 
     ghost Value = { PendingState };
 
@@ -41,11 +40,11 @@ impl Model for Pending {
       spare = min (spare p.places) (min (vec_capacity p.keys - length p.keys.items) (vec_capacity p.waiting - length p.waiting.items));
     } };
 
-    ghost invariant = { λ p. ArePlaces (get name_eq p.places) p.keys.items × (p.synced + length p.waiting.items ≡ length p.keys.items) };
+    ghost invariant = { λ p. ArePlaces (get key_eq p.places) p.keys.items × (p.synced + length p.waiting.items ≡ length p.keys.items) };
 }
 
 impl Pending {
-    /// No record yet.
+    /// A list side with no record. `Memory` where room for the first ones cannot be allocated.
     pub fn new(alloc: Global) -> Result<Pending, Memory>
         ensures { IfOk result (λ p. p.log ≡ no_records) }
     {
@@ -57,7 +56,7 @@ impl Pending {
         })
     }
 
-    /// Makes room for one more record, if there is none.
+    /// Makes room for one more record, if there is none. `Memory` leaves the records as they were.
     pub fn room(&mut self, _alloc: Global) -> Result<(), Memory>
         ensures log { self.new.log ≡ self.old.log }
         ensures spare { self.old.spare ≤ self.new.spare }
@@ -83,6 +82,7 @@ impl Pending {
         Ok(())
     }
 
+    /// Adds a record, for which there is room.
     fn put(&mut self, key: Key, bytes: Vec<u8>)
         requires { 0 < self.old.spare }
         ensures log { self.new.log ≡ with_record key bytes.items self.old.log }
@@ -103,14 +103,14 @@ impl Pending {
         self.waiting.len()
     }
 
-    /// The bytes of the records that are not synced, in the order in which they were added.
+    /// A copy of the bytes of the records that are not synced, in the order in which they were added.
     pub fn group(&self, alloc: Global) -> Result<Sequence<Sequence<u8>>, Memory>
         ensures { IfOk result (λ pieces. pieces ≡ self.now.log.waiting) }
     {
         copies_of(alloc, self.waiting.as_slice())
     }
 
-    /// All records are synced. The bytes of those that waited are given up.
+    /// All records are synced: the device has them durably. The bytes of those that waited are given up.
     pub fn mark_synced(&mut self)
         ensures log { self.new.log ≡ all_synced self.old.log }
         ensures spare { self.old.spare ≤ self.new.spare }
@@ -119,11 +119,11 @@ impl Pending {
         self.waiting.clear();
     }
 
-    /// Whether a record with this key is synced.
+    /// Whether a record with this key is synced, found in constant time.
     pub fn is_durable(&self, key: Key) -> bool
         ensures { result ≡ is_durable key self.now.log }
     {
-        match self.places.get(&name_of(key)) {
+        match self.places.get(&key) {
             Some(place) => *place < self.synced,
             None => false,
         }

@@ -6,7 +6,7 @@ use crate::Record;
 use snap_base::{ActorId, Bid, Tid};
 
 /// What a record is about. Of two records with one key, one is written in vain.
-#[derive(Clone, Copy, Debug, PartialEq, Eq)]
+#[derive(Clone, Copy, Debug, PartialEq, Eq, Hash)]
 pub enum Key {
     Genesis,
     Info(Bid),

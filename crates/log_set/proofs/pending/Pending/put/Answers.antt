@@ -2,7 +2,7 @@ use Rattle.std.proofs.Common.{◌<◌, sym, subst, arith}
 use Rattle.std.specs.Prelude.{IsOk}
 use Rattle.std.specs.HashMap.{get}
 use Rattle.log_set.specs.Logs.{PendingState}
-use Rattle.log_set.specs.Names.{name_eq}
+use Rattle.log_set.specs.Keys.{key_eq}
 use Rattle.log_set.proofs.Placing.{places_more}
 use Rattle.log_set.proofs.pending.Pending.put.Goals as goal
 
@@ -15,4 +15,4 @@ invariant_of-self c =
     let items = rw ok at c.push-key.ensures.items in
     let len = rw ok at c.push-key.ensures.len in
     let len' = rw ok' at c.push-bytes.ensures.len in
-    (rw items (places_more (get name_eq s.places) (get name_eq c.put_first.new.places) s.keys.items c.args.key c.len-place.result c.self.invariant.0 (omega (arith, c.len-place.ensures, s.keys.ok.0)) c.put_first.ensures.places), omega (arith, len, len', c.self.invariant.1, s.keys.ok.0, s.waiting.ok.0, c.push-key.new.self.ok.0, c.push-bytes.new.self.ok.0))
+    (rw items (places_more (get key_eq s.places) (get key_eq c.put_first.new.places) s.keys.items c.args.key c.len-place.result c.self.invariant.0 (omega (arith, c.len-place.ensures, s.keys.ok.0)) c.put_first.ensures.places), omega (arith, len, len', c.self.invariant.1, s.keys.ok.0, s.waiting.ok.0, c.push-key.new.self.ok.0, c.push-bytes.new.self.ok.0))
