@@ -24,7 +24,7 @@ impl Model for Item {
 }
 
 impl Item {
-    /// Spells a record. There is always an item, unless memory is wanting.
+    /// Spells a record: its key and its bytes. `Memory` is the only refusal.
     pub fn of(alloc: Global, written: &Record) -> Result<Item, Memory>
         requires { IsRecord written.now }
         ensures { IfOk result (λ i. i ≡ item_of written.now) }

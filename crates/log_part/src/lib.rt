@@ -1,8 +1,9 @@
-//! One log as a part of the machine: its records as they wait for the device, and which of them are durable.
+//! One log as a part of the machine: the list side of a log, `Pending`, in the machine's words.
 //!
-//! A value is a log's list side: keys, how many records are synced, and the bytes of the others. Contracts tell what each
-//! call means for every log of the machine that the value shows. The machine's core adds records, syncs, and asks what is
-//! durable; a host appends the bytes that `group` gives to the device before a sync.
+//! A `LogPart` adds three things to it. Each contract tells what the call means for every log of the machine that the value
+//! shows. Records are spelled into an `Item` before the event that writes them, so that adding one lacks no memory. Each
+//! condition of the event table that reads a log is one asking. The core adds records, syncs, and asks what is durable; a
+//! host appends the bytes that `group` gives to the device before a sync.
 #![tactic(auto)]
 
 mod askings;

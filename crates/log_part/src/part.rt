@@ -16,7 +16,8 @@ use std::alloc::Global;
 use std::marker::Model;
 use txn_records::Record;
 
-/// The records of one log. Contracts see its list side, and how many more records there is room for.
+/// One log of the machine: a `Pending` whose contracts speak of the logs that it shows. Contracts see its list side, and how
+/// many more records there is room for.
 pub struct LogPart {
     pub(crate) pending: Pending,
 }
@@ -37,7 +38,8 @@ impl Model for LogPart {
 }
 
 impl LogPart {
-    /// No record yet.
+    /// A log with no record, as the machine has it before any event. `Memory` where room for its first records cannot be
+    /// allocated.
     pub fn new(alloc: Global) -> Result<LogPart, Memory>
         ensures log { IfOk result (λ p. p.log ≡ no_records) }
         ensures shows { IfOk result (λ p. ShowsLog p.log no_log) }
@@ -47,7 +49,7 @@ impl LogPart {
         })
     }
 
-    /// Makes room for one more record, if there is none.
+    /// Makes room for one more record, if there is none. `Memory` leaves the records as they were.
     pub fn room(&mut self, alloc: Global) -> Result<(), Memory>
         ensures log { self.new.log ≡ self.old.log }
         ensures spare { self.old.spare ≤ self.new.spare }
@@ -57,7 +59,7 @@ impl LogPart {
         self.pending.room(alloc)
     }
 
-    /// Adds a record that is spelled, where there is room. It waits for the next sync.
+    /// Adds a record that was spelled before, where there is room. It waits for the next sync.
     pub fn put(&mut self, alloc: Global, item: Item)
         requires { 0 < self.old.spare }
         ensures log { self.new.log ≡ with_record item.key item.bytes self.old.log }
@@ -69,7 +71,7 @@ impl LogPart {
         let _added = self.pending.add(alloc, key, bytes);
     }
 
-    /// Adds a record, which waits for the next sync. For want of memory it is not added.
+    /// Spells a record and adds it, to wait for the next sync. For want of memory it is not added.
     pub fn add(&mut self, alloc: Global, written: &Record) -> Result<(), Memory>
         requires { IsRecord written.now }
         ensures ok { OnOk result (self.new.log ≡ with_record (key written.now) (record_bytes written.now) self.old.log) }
@@ -83,7 +85,7 @@ impl LogPart {
         Ok(())
     }
 
-    /// The bytes of the records that wait, in the order in which they were added.
+    /// A copy of the bytes of the records that wait, in the order in which they were added.
     pub fn group(&self, alloc: Global) -> Result<Sequence<Sequence<u8>>, Memory>
         ensures log { IfOk result (λ pieces. pieces ≡ self.now.log.waiting) }
         ensures shows { (l : Log) → ShowsLog self.now.log l → IfOk result (λ pieces. pieces ≡ map told_bytes (drop l.synced l.records)) }
@@ -91,7 +93,7 @@ impl LogPart {
         self.pending.group(alloc)
     }
 
-    /// All records are synced. The bytes of those that waited are given up.
+    /// All records are synced: the device has them durably. The bytes of those that waited are given up.
     pub fn sync(&mut self)
         ensures log { self.new.log ≡ all_synced self.old.log }
         ensures spare { self.old.spare ≤ self.new.spare }
