@@ -1,5 +1,5 @@
 -- What is noted of an ACT that ended.
-use Rattle.std.specs.Prelude.{IsTrue, Option}
+use Rattle.std.specs.Prelude.{IsTrue, Option, ⊤}
 use Rattle.protocol.specs.Parts.{Joined, Act}
 use Rattle.protocol.specs.Words.{holds}
 use Rattle.protocol.specs.OnBook.{marked, is_prepared, is_vouched, decided_as, sealed}
@@ -20,6 +20,6 @@ change_of Sealed = sealed
 
 -- an ACT is decided only where it failed or is vouched on all its actors
 abbrev pub MayChange : Change → Option Act → Type 0
-MayChange (Marked mark actor) x = Unit {0}
+MayChange (Marked mark actor) x = ⊤
 MayChange (Decided number) x = IsTrue (holds is_ready x)
-MayChange Sealed x = Unit {0}
+MayChange Sealed x = ⊤

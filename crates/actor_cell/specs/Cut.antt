@@ -1,5 +1,5 @@
 -- Where a rollback cuts a schedule, and which images there may be.
-use Rattle.std.specs.Prelude.{◌≡◌, ℕ, ◌<◌, nat_le, Bool, true, false, List, [], ◌∷◌}
+use Rattle.std.specs.Prelude.{◌≡◌, ℕ, ◌<◌, nat_le, Bool, true, false, List, [], ◌∷◌, ⊤}
 use Rattle.std.specs.List.{AllByRecursion}
 use Rattle.protocol.specs.OnCell.{is_entry_among, staying, going}
 use Rattle.protocol.specs.Parts.{Cascade, Entry, Image}
@@ -7,7 +7,7 @@ use Rattle.protocol.specs.Words.{is_empty, is_aborted, is_complete_batch, batche
 
 -- each is below all that follow
 abbrev pub Ascends : List ℕ → Type 0
-Ascends [] = Unit {0}
+Ascends [] = ⊤
 Ascends (k ∷ ks) = AllByRecursion (λ j. k < j) ks × Ascends ks
 
 -- of the batches here those from k on are aborted, and no others
@@ -20,7 +20,7 @@ NoneIsAborted cascades entries = AllByRecursion (λ j. is_aborted j cascades ≡
 
 -- behind an entry that is no complete batch, nothing has an image: there nobody ran but who only reads
 abbrev pub HaveRunInOrder : List Entry → List Image → Type 0
-HaveRunInOrder [] images = Unit {0}
+HaveRunInOrder [] images = ⊤
 HaveRunInOrder (e ∷ es) images = (is_complete_batch e ≡ false → AllByRecursion (λ i. is_entry_among i.who es ≡ false) images) × HaveRunInOrder es images
 
 -- A schedule is cut from batch k on, and ACTs are meant too or not.

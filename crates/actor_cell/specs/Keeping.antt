@@ -1,5 +1,5 @@
 -- How a cell keeps its images: whose they are stands beside them, and the states are in the pool.
-use Rattle.std.specs.Prelude.{◌≡◌, ◌≢◌, ℕ, ◌+◌, ◌≤◌, List, [], ◌∷◌, length, map, Option, Some, None}
+use Rattle.std.specs.Prelude.{◌≡◌, ◌≢◌, ℕ, ◌+◌, ◌≤◌, List, [], ◌∷◌, length, map, Option, Some, None, ⊤}
 use Rattle.snap_base.specs.declared.transactions.State.{State}
 use Rattle.image_pool.specs.Region.{Region, state_at, IsLive}
 use Rattle.machine_words.specs.Meant.{who_meant}
@@ -20,12 +20,12 @@ images_of r held = map (image_in r) held
 
 -- nobody holds an image in the slot
 abbrev pub IsFree : ℕ → List Held → Type 0
-IsFree slot [] = Unit {0}
+IsFree slot [] = ⊤
 IsFree slot (h ∷ hs) = (h.image ≢ slot) × IsFree slot hs
 
 -- each holds an image of the pool, in a slot of its own
 abbrev pub AreApart : Region → List Held → Type 0
-AreApart r [] = Unit {0}
+AreApart r [] = ⊤
 AreApart r (h ∷ hs) = IsLive h.image r × (IsFree h.image hs × AreApart r hs)
 
 pub record IsKept (r : Region) (held : List Held) (capacity : ℕ) : Type 0 where

@@ -1,6 +1,6 @@
 -- What the desk keeps, beside what contracts see, so that no call walks the batches: numbers and tids ascend, each
 -- transaction has a spot, the live batches are counted, and all batches below the front are over.
-use Rattle.std.specs.Prelude.{◌≡◌, ℕ, zero, suc, ◌+◌, ◌<◌, ◌≤◌, Bool, true, false, ◌||◌, List, [], ◌∷◌, length, map}
+use Rattle.std.specs.Prelude.{◌≡◌, ℕ, zero, suc, ◌+◌, ◌<◌, ◌≤◌, Bool, true, false, ◌||◌, List, [], ◌∷◌, length, map, ⊤}
 use Rattle.std.specs.List.{AllByRecursion}
 use Rattle.protocol.specs.Parts.{Stage, Batch}
 use Rattle.protocol.specs.Words.{is_formed, is_settled, count, is_live_batch}
@@ -11,7 +11,7 @@ use Rattle.batch_table.specs.Spots.{AreSpotted}
 
 -- each batch has tids, one after another, and above all of the batches before it
 abbrev pub TidsAscend : ℕ → List (List ℕ) → Type 0
-TidsAscend low [] = Unit {0}
+TidsAscend low [] = ⊤
 TidsAscend low (ts ∷ tss) = (low ≤ first_of ts) × (0 < length ts) × AreConsecutive ts × TidsAscend (first_of ts + length ts) tss
 
 -- ---- the front: how many batches are over, all of them ahead of all others
@@ -40,7 +40,7 @@ IsOpen m = (m.aborted ≡ false) × (is_formed m.stage ≡ true)
 
 -- the first so many are over, the next one is not, and those behind it are open
 abbrev pub IsFront : ℕ → List Mark → Type 0
-IsFront zero [] = Unit {0}
+IsFront zero [] = ⊤
 IsFront (suc n) [] = ⊥
 IsFront zero (m ∷ ms) = IsNotOver m × AllByRecursion IsOpen ms
 IsFront (suc n) (m ∷ ms) = IsOver m × IsFront n ms

@@ -1,6 +1,6 @@
 -- Rows of the event table over parts: what a row asks of its parts, what it says where it is taken, and where not. What the
 -- parts show before it, and after it, is told by `Old` and `New`.
-use Rattle.std.specs.Prelude.{◌≡◌, ℕ, ◌≤◌}
+use Rattle.std.specs.Prelude.{◌≡◌, ℕ, ◌≤◌, ⊤}
 use Rattle.protocol.specs.Fixed.{Fixed}
 use Rattle.protocol.specs.Parts.{Machine}
 use Rattle.protocol.specs.Events.{Event}
@@ -29,9 +29,9 @@ module _ {C : Type 0} where
   -- the number of the first condition that is false, or that there was no memory
   abbrev pub IsNo : Event → (Fixed C → Machine C → Type 0) → StepNo → Type 0
   IsNo e Old (NotNow rule) = (1 ≤ rule) × IsRefusal e Old rule
-  IsNo e Old Memory = Unit {0}
+  IsNo e Old Memory = ⊤
 
 -- the number of a condition, and not want of memory
 abbrev pub IsRule : StepNo → Type 0
-IsRule (NotNow rule) = Unit {0}
+IsRule (NotNow rule) = ⊤
 IsRule Memory = ⊥

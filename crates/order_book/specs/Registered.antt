@@ -1,5 +1,5 @@
 -- All ACTs in the order of their admission, with what finds and counts them.
-use Rattle.std.specs.Prelude.{◌≡◌, ℕ, ◌<◌, ◌==◌, max, Bool, true, false, if◌then◌else◌, Option, Some, None, List, [], ◌∷◌, map, slice_get, slice_index_or}
+use Rattle.std.specs.Prelude.{◌≡◌, ℕ, ◌<◌, ◌==◌, max, Bool, true, false, if◌then◌else◌, Option, Some, None, List, [], ◌∷◌, map, slice_get, slice_index_or, ⊤}
 use Rattle.std.specs.List.{AllByRecursion}
 use Rattle.protocol.specs.Parts.{Act, Pair}
 use Rattle.protocol.specs.Words.{count, is_doomed, is_live_act, act_of}
@@ -8,7 +8,7 @@ use Rattle.order_book.specs.Changes.{changed_at}
 
 -- each number is below all that follow
 abbrev pub IsRising : List ℕ → Type 0
-IsRising [] = Unit {0}
+IsRising [] = ⊤
 IsRising (n ∷ ns) = AllByRecursion (λ k. n < k) ns × IsRising ns
 
 abbrev pub tids_of : List Act → List ℕ

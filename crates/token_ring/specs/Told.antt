@@ -1,5 +1,5 @@
 -- How the sub-batches of a batch are collected: PACT by PACT, and of each PACT actor by actor.
-use Rattle.std.specs.Prelude.{ℕ, suc, ◌+◌, ◌==◌, ◌≤◌, nat_lt, Bool, false, if◌then◌else◌, List, [], ◌∷◌, ◌++◌, length, slice_index_or}
+use Rattle.std.specs.Prelude.{ℕ, suc, ◌+◌, ◌==◌, ◌≤◌, nat_lt, Bool, false, if◌then◌else◌, List, [], ◌∷◌, ◌++◌, length, slice_index_or, ⊤}
 use Rattle.snap_base.specs.declared.transactions.Tx.{Tx}
 use Rattle.protocol.specs.Fixed.{no_tx, declared}
 use Rattle.protocol.specs.Parts.{Pact, SubBatch}
@@ -47,5 +47,5 @@ told_all k epoch lasts txs (p ∷ pacts) subs =
 
 -- the actors ascend, from this one on
 abbrev pub Ascend : ℕ → List SubBatch → Type 0
-Ascend low [] = Unit {0}
+Ascend low [] = ⊤
 Ascend low (s ∷ ss) = (low ≤ s.actor) × Ascend (s.actor + 1) ss
