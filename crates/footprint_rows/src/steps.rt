@@ -122,7 +122,9 @@ fn answer_on(
     Ok(if asked == rule { Some(rule) } else { None })
 }
 
-/// The same, where the parts of the footprint are taken out of a hand and put back.
+/// What a hand of just the event's footprint answers, where its parts are taken out of this hand and put back: the rule that
+/// refuses the event, or 0 where it is taken. `None` where that hand answers otherwise than it was asked before, or offers
+/// otherwise.
 fn answer_apart(
     alloc: Global,
     tables: &Tables,
@@ -172,7 +174,7 @@ fn state_on(tables: &Tables, hand: &Hand, a: ActorId) -> Option<State>
 }
 
 impl FootprintCore {
-    /// The core before any event, for an accepted text and what its logs recovered to.
+    /// The core before any event, for an accepted text and what its logs recovered to. An `Err` is want of memory.
     pub fn open(alloc: Global, tables: Tables) -> Result<FootprintCore, Memory>
         requires { AreTables tables }
     {
@@ -181,9 +183,10 @@ impl FootprintCore {
         Ok(FootprintCore { tables, hand })
     }
 
-    /// Takes the event, where it is allowed: the rule that refuses it, or 0 where it is taken. The hand has just its footprint then.
-    /// `None` where that hand is not of one mind: it lacks a part, refuses otherwise than it was asked before, or offers what
-    /// is not among `all` that is allowed, or the event itself exactly where it refuses it.
+    /// Takes the event, where it is allowed: the rule that refuses it, or 0 where it is taken. The hand has just its footprint
+    /// then. `None` where that hand is not of one mind: it lacks a part, refuses otherwise than it was asked before, or offers
+    /// what is not among `all` that is allowed, or the event itself exactly where it refuses it. An `Err` is want of memory:
+    /// either no room for a hand, or the event wants memory itself, and is not taken.
     pub fn answer(
         &mut self,
         alloc: Global,
@@ -193,7 +196,8 @@ impl FootprintCore {
         answer_apart(alloc, &self.tables, &mut self.hand, e, all)
     }
 
-    /// What became of transaction `n` of the text; `None` where it is not known yet.
+    /// What became of transaction `n` of the text, which counts from 0; `None` where it is not known yet, or the text has no such
+    /// transaction.
     pub fn verdict(&self, n: TxNo) -> Option<Verdict> {
         verdict_on(&self.hand, n)
     }

@@ -27,7 +27,9 @@ fn list_joined(t: Tid, actors: &[ActorId], events: &mut Vec<Event>) -> Result<()
     Ok(())
 }
 
-/// What an ACT waits for, where it was admitted; else two events of it that nobody may take.
+/// Lists what the ACT of this number may wait for: Decide and Seal, and on each actor that it has joined Prepare, Vouch and
+/// Finish. Of an ACT that was not admitted it lists the first two, which nobody may take. An `Err` is want of memory, and of the
+/// list nothing is said then.
 pub fn list_act(
     alloc: Global,
     book: &BookPart,
@@ -64,7 +66,8 @@ fn list_live(alloc: Global, book: &BookPart, events: &mut Vec<Event>) -> Result<
     Ok(())
 }
 
-/// What ACTs wait for, where the book is at hand.
+/// Lists what the live ACTs of the book may wait for, and nothing where the book is not at hand. An `Err` is want of memory, and of
+/// the list nothing is said then.
 pub fn list_book(alloc: Global, hand: &Hand, events: &mut Vec<Event>) -> Result<(), Memory>
     ensures { OnOk result ((b : Book) → ((x : Halves) → hand.now.book ≡ Some x → Shows x b) → Adds events.old.items events.new.items (of_some (λ x. on_book b) hand.now.book)) }
 {

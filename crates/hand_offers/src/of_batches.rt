@@ -20,7 +20,9 @@ fn list_declared(k: Bid, actors: &[ActorId], events: &mut Vec<Event>) -> Result<
     Ok(())
 }
 
-/// What a batch waits for, where it was formed; else three events of it that nobody may take.
+/// Lists what the batch of this number may wait for: Commit, Settle and AbortBatch, and on each actor that it declares Note and
+/// Trim. Of a batch that was not formed it lists the first three, which nobody may take. An `Err` is want of memory, and of the
+/// list nothing is said then.
 pub fn list_batch(alloc: Global, desk: &Desk, k: Bid, events: &mut Vec<Event>) -> Result<(), Memory>
     ensures { OnOk result (Adds events.old.items events.new.items (of_batch desk.now k.0)) }
 {
@@ -49,7 +51,8 @@ fn list_batches(
     Ok(())
 }
 
-/// What batches wait for.
+/// Lists what the batches of the desk may wait for that are neither aborted, nor settled and trimmed on all their actors. An
+/// `Err` is want of memory, and of the list nothing is said then.
 pub fn list_going(alloc: Global, desk: &Desk, events: &mut Vec<Event>) -> Result<(), Memory>
     ensures { OnOk result (Adds events.old.items events.new.items (on_desk desk.now)) }
 {
@@ -58,7 +61,8 @@ pub fn list_going(alloc: Global, desk: &Desk, events: &mut Vec<Event>) -> Result
     Ok(())
 }
 
-/// What batches wait for, where the desk is at hand.
+/// Lists what the batches of the desk may wait for that are neither aborted, nor settled and trimmed on all their actors; and
+/// nothing where the desk is not at hand. An `Err` is want of memory, and of the list nothing is said then.
 pub fn list_desk(alloc: Global, hand: &Hand, events: &mut Vec<Event>) -> Result<(), Memory>
     ensures { OnOk result (Adds events.old.items events.new.items (of_some on_desk hand.now.desk)) }
 {

@@ -51,7 +51,8 @@ fn list_incomplete(a: ActorId, bids: &[Bid], events: &mut Vec<Event>) -> Result<
     Ok(())
 }
 
-/// What lies in the boxes of an actor.
+/// Lists the events of what lies in the boxes of the actor: Run of each control that waits there, Send and End of each outcome. An
+/// `Err` is want of memory, and of the list nothing is said then.
 pub fn list_boxes(
     alloc: Global,
     cell: &CellPart<Control>,
@@ -67,7 +68,8 @@ pub fn list_boxes(
     Ok(())
 }
 
-/// What stands on an actor and is not done or not complete.
+/// Lists the events of what stands in the schedule of the actor: Close of each PACT that is not done there, Complete of each
+/// batch that is not complete there. An `Err` is want of memory, and of the list nothing is said then.
 pub fn list_schedule(
     alloc: Global,
     cell: &CellPart<Control>,
@@ -83,7 +85,8 @@ pub fn list_schedule(
     Ok(())
 }
 
-/// What lies at an actor, and its rollback.
+/// Lists the events of what lies at the actor, in its boxes and its schedule, and before them its Rollback. An `Err` is want of
+/// memory, and of the list nothing is said then.
 pub fn list_cell(
     alloc: Global,
     cell: &CellPart<Control>,
@@ -98,7 +101,8 @@ pub fn list_cell(
     Ok(())
 }
 
-/// What lies at an actor, where its cell is at hand.
+/// Lists the events of what lies at the actor, which the text must have, and nothing where its cell is not at hand. An `Err` is
+/// want of memory, and of the list nothing is said then.
 pub fn list_place(
     alloc: Global,
     hand: &Hand,
@@ -114,7 +118,7 @@ pub fn list_place(
     list_cell(alloc, hand.cell(a), a, events)
 }
 
-/// How many actors the text has.
+/// How many actors the text has, from 1 to 256.
 pub fn actor_count(tables: &Tables, _hand: &Hand) -> u16
     requires tables { AreTables tables.now }
     requires places { IsHandOf (fixed_of tables.now) _hand.now }
@@ -123,7 +127,8 @@ pub fn actor_count(tables: &Tables, _hand: &Hand) -> u16
     tables.opening.states.len() as u16
 }
 
-/// What lies at the actors whose cells are at hand.
+/// Lists the events of what lies at the actors whose cells are at hand, by their numbers. An `Err` is want of memory, and of the
+/// list nothing is said then.
 pub fn list_cells(
     alloc: Global,
     tables: &Tables,

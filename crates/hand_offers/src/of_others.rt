@@ -21,7 +21,8 @@ fn next_holder(tables: &Tables, holder: u8) -> u8
     ((holder as u16 + 1) % coordinators) as u8
 }
 
-/// What the ring has next.
+/// Lists what the ring has next: Submit of the next transaction, Pass of the token to the next coordinator, Form of the next batch,
+/// Admit of the next ACT. An `Err` is want of memory, and of the list nothing is said then.
 pub fn list_next(tables: &Tables, ring: &Ring, events: &mut Vec<Event>) -> Result<(), Memory>
     requires { AreTables tables.now }
     ensures { OnOk result (Adds events.old.items events.new.items (on_ring (text_of tables.now).coordinators ring.now)) }
@@ -36,7 +37,8 @@ pub fn list_next(tables: &Tables, ring: &Ring, events: &mut Vec<Event>) -> Resul
     Ok(())
 }
 
-/// What the ring has next, where it is at hand.
+/// Lists the four events that the ring has next, and nothing where it is not at hand. An `Err` is want of memory, and of the list
+/// nothing is said then.
 pub fn list_ring(tables: &Tables, hand: &Hand, events: &mut Vec<Event>) -> Result<(), Memory>
     requires { AreTables tables.now }
     ensures { OnOk result (Adds events.old.items events.new.items (of_some (on_ring (text_of tables.now).coordinators) hand.now.ring)) }
@@ -47,7 +49,7 @@ pub fn list_ring(tables: &Tables, hand: &Hand, events: &mut Vec<Event>) -> Resul
     list_next(tables, hand.ring(), events)
 }
 
-/// Each log.
+/// Lists a Sync of each log of the text, by their numbers. An `Err` is want of memory, and of the list nothing is said then.
 pub fn list_logs(tables: &Tables, events: &mut Vec<Event>) -> Result<(), Memory>
     ensures { OnOk result (Adds events.old.items events.new.items (flat_map of_log (below (text_of tables.now).logs))) }
 {
@@ -69,7 +71,7 @@ fn upto(tables: &Tables, hand: &Hand) -> TxNo
     hand.ring().next_tx()
 }
 
-/// The replies of these transactions.
+/// Lists a Reply of each of these transactions. An `Err` is want of memory, and of the list nothing is said then.
 pub fn list_unreplied(txs: &[TxNo], events: &mut Vec<Event>) -> Result<(), Memory>
     ensures { OnOk result (Adds events.old.items events.new.items (flat_map of_reply (map (λ n. n.0) txs.now))) }
 {
@@ -79,7 +81,8 @@ pub fn list_unreplied(txs: &[TxNo], events: &mut Vec<Event>) -> Result<(), Memor
     Ok(())
 }
 
-/// What waits for a reply, where the desk is at hand.
+/// Lists a Reply of each transaction that has none yet, of those submitted where the ring is at hand, else of all of the text; and
+/// nothing where the desk is not at hand. An `Err` is want of memory, and of the list nothing is said then.
 pub fn list_replies(
     alloc: Global,
     tables: &Tables,

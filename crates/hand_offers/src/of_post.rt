@@ -12,7 +12,8 @@ use snap_base::{ActorId, Bid, Memory, Tid};
 use snap_hand::Hand;
 use std::alloc::Global;
 
-/// The events of these sub-batches.
+/// Lists Arrive and DropSub of each of these sub-batches: a batch, and the actor to which it is under way. An `Err` is want of
+/// memory, and of the list nothing is said then.
 pub fn list_subs(subs: &[(Bid, ActorId)], events: &mut Vec<Event>) -> Result<(), Memory>
     ensures { OnOk result (Adds events.old.items events.new.items (flat_map of_sub (map sub_listed subs.now))) }
 {
@@ -22,7 +23,8 @@ pub fn list_subs(subs: &[(Bid, ActorId)], events: &mut Vec<Event>) -> Result<(),
     Ok(())
 }
 
-/// The events of these controls.
+/// Lists Ask, Take and DropControl of each of these controls: a transaction, and the actor to which it is under way. An `Err` is
+/// want of memory, and of the list nothing is said then.
 pub fn list_controls(controls: &[(Tid, ActorId)], events: &mut Vec<Event>) -> Result<(), Memory>
     ensures { OnOk result (Adds events.old.items events.new.items (flat_map of_control (map control_listed controls.now))) }
 {
@@ -37,7 +39,8 @@ pub fn list_controls(controls: &[(Tid, ActorId)], events: &mut Vec<Event>) -> Re
     Ok(())
 }
 
-/// The events of all that is under way.
+/// Lists the events of all that the post has under way, the sub-batches before the controls. An `Err` is want of memory, and of the
+/// list nothing is said then.
 pub fn list_messages(
     alloc: Global,
     post: &Post<Control>,
@@ -52,7 +55,8 @@ pub fn list_messages(
     Ok(())
 }
 
-/// What is under way, where the post is at hand.
+/// Lists the events of all that the post has under way, and nothing where it is not at hand. An `Err` is want of memory, and of
+/// the list nothing is said then.
 pub fn list_post(alloc: Global, hand: &Hand, events: &mut Vec<Event>) -> Result<(), Memory>
     ensures { OnOk result (Adds events.old.items events.new.items (of_some on_post hand.now.post)) }
 {

@@ -1,3 +1,4 @@
+//! All that the parts at hand list, and what is allowed of it.
 ghost use Rattle.std.specs.Prelude.{◌≡◌, Some, map, IfOk};
 ghost use Rattle.book_part.specs.Halves.{Halves, Shows};
 ghost use Rattle.core_events.specs.Meant.{event_meant};
@@ -42,8 +43,9 @@ fn listed(alloc: Global, tables: &Tables, hand: &Hand) -> Result<Vec<Event>, Mem
     Ok(events)
 }
 
-/// The allowed events whose footprint is at hand, in the order in which a host takes them. With all parts at hand these are
-/// all allowed events. The hand shows a state that some run has come to.
+/// The allowed events whose footprint is at hand, in the order in which a host takes them. With all parts at hand these are all
+/// allowed events. The hand must show a state that some run has come to. It walks through what is live on the parts at hand, and
+/// the transactions from the first one without a reply on. An `Err` is want of memory, and then there is no list.
 pub fn offers(alloc: Global, tables: &Tables, hand: &Hand) -> Result<ReadyList, Memory>
     requires tables { AreTables tables.now }
     requires places { IsHandOf (fixed_of tables.now) hand.now }

@@ -1,4 +1,4 @@
-//! Events behind others. For want of memory nothing is said of the list, here and in what lists by these: all who ask give it up.
+//! Events put behind others in a list, which is given up where memory is wanting.
 ghost use Rattle.std.specs.Prelude.{[], ◌∷◌, OnOk};
 ghost use Rattle.core_events.specs.Meant.{event_meant};
 ghost use Rattle.hand_offers.specs.Listed.{Adds};
@@ -6,7 +6,7 @@ ghost use Rattle.hand_offers.specs.Listed.{Adds};
 use core_events::Event;
 use snap_base::Memory;
 
-/// Lists one event more.
+/// Puts the event behind those of the list. An `Err` is want of memory, and of the list nothing is said then.
 pub fn push_one(events: &mut Vec<Event>, e: Event) -> Result<(), Memory>
     ensures { OnOk result (Adds events.old.items events.new.items (event_meant e ∷ [])) }
 {
@@ -14,7 +14,8 @@ pub fn push_one(events: &mut Vec<Event>, e: Event) -> Result<(), Memory>
     Ok(())
 }
 
-/// Lists two events more.
+/// Puts the events `e` and `f` behind those of the list, in this order. An `Err` is want of memory, and of the list nothing is said
+/// then: it may have got one of them.
 pub fn push_two(events: &mut Vec<Event>, e: Event, f: Event) -> Result<(), Memory>
     ensures { OnOk result (Adds events.old.items events.new.items (event_meant e ∷ event_meant f ∷ [])) }
 {
@@ -23,7 +24,8 @@ pub fn push_two(events: &mut Vec<Event>, e: Event, f: Event) -> Result<(), Memor
     Ok(())
 }
 
-/// Lists three events more.
+/// Puts the events `e`, `f` and `g` behind those of the list, in this order. An `Err` is want of memory, and of the list nothing is
+/// said then: it may have got some of them.
 pub fn push_three(events: &mut Vec<Event>, e: Event, f: Event, g: Event) -> Result<(), Memory>
     ensures { OnOk result (Adds events.old.items events.new.items (event_meant e ∷ event_meant f ∷ event_meant g ∷ [])) }
 {

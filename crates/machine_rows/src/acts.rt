@@ -1,5 +1,6 @@
 //! Transactions under locks.
 
+/// Rows of transactions under locks, in the form that `rows.rt` tells.
 pub const ACTS: &str = "\
 A transfer under locks. It is not decided before its actors are vouched
 1 1 16 8 8 of two: act 0 move 1 30

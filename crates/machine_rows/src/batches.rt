@@ -1,5 +1,6 @@
 //! Declared transactions in batches.
 
+/// Rows of declared transactions in batches, in the form that `rows.rt` tells.
 pub const BATCHES: &str = "\
 A transfer in one batch, by the first allowed event each time
 1 1 16 8 8 of two: pact 0 move 1 30 uses 0:1 1:1

@@ -1,5 +1,6 @@
 //! Batches that fail, and what they take along.
 
+/// Rows of batches that fail, in the form that `rows.rt` tells.
 pub const CASCADES: &str = "\
 The second of three batches fails, and takes the third along and an ACT behind it
 1 1 1 8 8 of three: pact 0 put 1 uses 0:1, pact 1 bad uses 1:1, pact 2 put 1 uses 2:1, act 2 put 7, act 0 put 7

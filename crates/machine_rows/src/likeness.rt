@@ -1,4 +1,4 @@
-//! What has to be alike.
+//! Two cores and two lists of events, compared.
 
 use footprint_rows::FootprintCore;
 use ready_list::ReadyList;
@@ -36,7 +36,8 @@ fn same_state(core: &Core, few: &FootprintCore, a: ActorId) -> bool {
     few.state(a) == Some(core.state(a))
 }
 
-/// Whether both tell the same of all transactions and actors.
+/// Whether both tell the same verdict of each of the first 16 transactions, and the same state of each of the first 16 actors of
+/// the text.
 pub fn tell_the_same(core: &Core, few: &FootprintCore) -> bool {
     for a in 0..MOST as u16 {
         if !same_state(core, few, ActorId(a)) {

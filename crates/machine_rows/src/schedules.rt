@@ -1,5 +1,6 @@
 //! Whole schedules of a few seeds.
 
+/// Rows of whole schedules of some seeds, in the form that `rows.rt` tells.
 pub const SCHEDULES: &str = "\
 A transfer by the first seed
 1 1 16 8 8 of two: pact 0 move 1 30 uses 0:1 1:1

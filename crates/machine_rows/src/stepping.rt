@@ -58,7 +58,8 @@ fn answer_of(alloc: Global, core: &mut Core, event: Event) -> Result<Option<u8>,
 }
 
 impl Machine {
-    /// What a row runs, before any event.
+    /// The machine of the text that the words `asked` of a row tell, before any event. It fails where they tell no work
+    /// text, and where memory ends.
     pub fn open(alloc: Global, asked: &str) -> Result<Machine, Fail> {
         let few = FootprintCore::open(alloc, tables_of(alloc, asked)?)?;
         let core = Core::open(alloc, tables_of(alloc, asked)?)?;
@@ -77,6 +78,7 @@ impl Machine {
         Ok(machine)
     }
 
+    /// The core, lent, to look at what it tells.
     pub fn core(&self) -> &Core {
         &self.core
     }
@@ -128,7 +130,8 @@ impl Machine {
         Ok(())
     }
 
-    /// Tells the events of a script that are answered otherwise.
+    /// Takes the events of a script, in their order, and puts into `told` each of which the answer is not the one `wanted`: 0
+    /// where it is taken, else the rule that refuses it.
     pub fn tell_answers(
         &mut self,
         alloc: Global,
@@ -158,8 +161,8 @@ impl Machine {
         self.tell_answer(alloc, event, 0, told)
     }
 
-    /// Tells the events of a script that the words of a seed do not pick one after the other, or that are not taken; seed 0 picks
-    /// the first event at each step.
+    /// Takes the events of a script, in their order, and puts into `told` each that the next word of the seed does not pick of the
+    /// allowed ones, or that is not taken. Seed 0 picks the first event at each step.
     pub fn tell_picks(
         &mut self,
         alloc: Global,
@@ -176,7 +179,8 @@ impl Machine {
         Ok(())
     }
 
-    /// Takes the first event that is allowed, until none is, and tells where one is not taken.
+    /// Takes the first event that is allowed, until none is, 200 at most. It puts into `told` each that is not taken, and that
+    /// there was no end.
     pub fn go_on(&mut self, alloc: Global, told: &mut String) -> Result<(), Fail> {
         for _step in 0..MOST_STEPS {
             let Some(event) = self.picked(0) else {
@@ -188,7 +192,7 @@ impl Machine {
         Ok(())
     }
 
-    /// Tells an event that is allowed, if there is one.
+    /// Puts into `told` the first event that is allowed, if there is one.
     pub fn tell_allowed(&self, alloc: Global, told: &mut String) -> Result<(), Fail> {
         if let Some(event) = self.picked(0) {
             told.push_str(&format!(in alloc; "{event:?} is allowed; ")?)?;

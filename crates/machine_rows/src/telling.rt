@@ -21,7 +21,8 @@ fn fields_from(alloc: Global, core: &Core, first: u8, count: usize) -> Result<St
     Ok(fields)
 }
 
-/// Tells the first fields of the actors from one on, where they are not those wanted.
+/// Puts into `told` the first fields of the actors from `first` on, as many as are wanted, where they are not those wanted. The
+/// wanted ones stand apart by blanks.
 pub fn tell_fields(
     alloc: Global,
     core: &Core,
@@ -47,7 +48,8 @@ fn replies(alloc: Global, core: &Core) -> Result<String, Memory> {
     Ok(lines.trim_end().replace(alloc, "\n", ", ")?)
 }
 
-/// Tells the replies, where they are not those wanted.
+/// Puts into `told` the lines of the transactions of which it is known what became of them, where they are not those wanted. Lines
+/// stand apart by `, `.
 pub fn tell_replies(
     alloc: Global,
     core: &Core,

@@ -18,7 +18,8 @@ use work_text::{parse_work, transactions_may_run};
 const PROGRAM: &str =
     "method put(n) { f0 = f0 + n; return f0; }\nmethod move(to, n) { if f0 < n { fail 7; } f0 = f0 - n; let r = call to put(n); return r; }\nmethod bad() { f0 = f0 + 1; fail 9; }\n";
 
-/// What stands before and behind the first such piece; all, and nothing, where there is none.
+/// The two parts of a text before and behind the first place where `between` stands in it; the whole text and an empty one where it
+/// stands nowhere.
 pub fn halves<'a>(text: &'a str, between: &str) -> (&'a str, &'a str) {
     text.split_once(between).unwrap_or((text, ""))
 }
@@ -64,7 +65,7 @@ fn work_asked(alloc: Global, text: &str) -> Result<Work, Fail>
     Ok(parse_work(alloc, text.as_bytes())?)
 }
 
-/// The number that a word spells, or 0.
+/// The number from 0 to 255 that the word spells in decimal digits; 0 where it spells none of them.
 pub fn number_of(word: &str) -> u8 {
     word.parse().unwrap_or(0)
 }
@@ -104,8 +105,9 @@ fn begun(alloc: Global, work: Work, drawn: &str) -> Result<Tables, Memory>
     Ok(joined(work, opening))
 }
 
-/// What a row runs: coordinators, logs, transactions of a batch, live batches and live ACTs; behind ` of ` its actors; behind
-/// ` behind ` the last numbers of earlier runs, if there were any; behind `: ` the transactions.
+/// The work and opening that a row runs, of words that tell: coordinators, logs, transactions of a batch, live batches and live
+/// ACTs; behind ` of ` its actors; behind ` behind ` the last numbers of earlier runs, if there were any; behind `: ` the
+/// transactions. It fails where they tell no work text, and where memory ends.
 pub fn tables_of(alloc: Global, asked: &str) -> Result<Tables, Fail>
     ensures { IfOk result AreTables }
 {

@@ -1,3 +1,4 @@
+//! Lists of allowed events, renewed or extended after an event.
 ghost use Rattle.std.specs.Prelude.{◌≡◌, OnErr, OnOk};
 ghost use Rattle.aml_slice.specs.Controls.{Rest};
 ghost use Rattle.core_events.specs.Meant.{event_meant};
@@ -55,7 +56,8 @@ pub fn renew(
 
 /// Makes of events among which all were that were allowed before the event, which was just taken, events among which all are that
 /// are allowed after it: what the event has made allowed is put in, and nothing is taken out. All parts are at hand, as they are
-/// after it. For want of memory the list is as it was. `news` is as in `renew`.
+/// after it. For want of memory the list is as it was. `news` is for lists that are made on the way: what is in it is not read, and
+/// nothing is said of what it has then.
 pub fn extend(
     alloc: Global,
     tables: &Tables,

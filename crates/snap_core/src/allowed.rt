@@ -14,7 +14,8 @@ use std::alloc::Global;
 
 impl Core {
     /// All events that are allowed now, in the order in which a host takes them: by kind, then by the first number, then by
-    /// the second.
+    /// the second. It walks through what is live, and the transactions from the first one without a reply on. An `Err` is want of
+    /// memory, and then there is no list.
     pub fn enabled(&self, alloc: Global) -> Result<ReadyList, Memory>
         ensures { IfOk result (λ l. (es : List machine.Event) → IsAt self.now es → IsEnabled (fixed_of self.now.tables) (state_at self.now es) l.events) }
     {

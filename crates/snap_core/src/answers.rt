@@ -21,14 +21,15 @@ impl Core {
         &self.tables
     }
 
-    /// What became of transaction `n` of the text; `None` where it is not known yet.
+    /// What became of transaction `n` of the text, which counts from 0; `None` where it is not known yet, or the text has no such
+    /// transaction.
     pub fn verdict(&self, n: TxNo) -> Option<Verdict>
         ensures { (es : List machine.Event) → IsAt self.now es → result ≡ verdict n.0 (state_at self.now es).book (state_at self.now es).desk }
     {
         self.hand.verdict(n)
     }
 
-    /// The state of actor `a`, which exists.
+    /// The state of actor `a` as it is now, also what transactions under way have written there. The text must have the actor.
     pub fn state(&self, a: ActorId) -> State
         requires { a.0 < length self.now.tables.opening.states }
         ensures { (es : List machine.Event) → IsAt self.now es → result ≡ (cell_at (state_at self.now es) a.0).state }
@@ -36,7 +37,8 @@ impl Core {
         self.hand.state(a)
     }
 
-    /// The records of log `l`, which exists, that wait for a sync: the bytes of each, in the order in which they were added.
+    /// The records of log `l` that wait for a sync: the bytes of each, in the order in which they were added. The text must have
+    /// the log. Each record is copied; an `Err` is want of memory.
     pub fn group(&self, alloc: Global, l: u8) -> Result<Sequence<Sequence<u8>>, Memory>
         requires { l < self.now.tables.work.logs }
         ensures { IfOk result (λ pieces. (es : List machine.Event) → IsAt self.now es → pieces ≡ map told_bytes (drop (log_at (state_at self.now es) l).synced (log_at (state_at self.now es) l).records)) }

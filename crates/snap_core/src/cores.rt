@@ -1,3 +1,4 @@
+//! The core: a text and all parts of the machine, opened, and stepped by events.
 ghost use Rattle.std.specs.Prelude.{◌≡◌, [], List, IfOk, IfErr, OnOk, OnErr};
 ghost use Rattle.core_rows.specs.OnRuns.{HasRun};
 ghost use Rattle.protocol.specs.Events as machine;
@@ -39,7 +40,8 @@ impl Model for Core {
 }
 
 impl Core {
-    /// The core before any event, for an accepted text and what its logs recovered to.
+    /// The core before any event, for an accepted text and what its logs recovered to. An `Err` is want of memory, and then the
+    /// tables are let go.
     pub fn open(alloc: Global, tables: Tables) -> Result<Core, Memory>
         requires { AreTables tables }
         ensures tables { IfOk result (λ core. core.tables ≡ tables) }
@@ -63,7 +65,8 @@ impl Core {
         apply(alloc, &self.tables, e, &mut self.hand)
     }
 
-    /// Which of the event's conditions is the first false one, from 1 on, or 0 where the event is allowed.
+    /// Which of the event's conditions is the first false one, from 1 on as the event table counts them, or 0 where the event is
+    /// allowed.
     pub fn refusal(&self, e: Event) -> u8
         ensures { IsRefusalBy (event_meant e) self.now result }
     {

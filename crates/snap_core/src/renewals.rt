@@ -37,7 +37,7 @@ impl Core {
 
     /// Makes of events among which all were that were allowed before the event, which was just taken, events among which all are
     /// that are allowed now. It looks only at those that the event may have made allowed. For want of memory the list is as it
-    /// was. `news` is as in `renew`.
+    /// was. `news` is for lists that are made on the way: what is in it is not read, and nothing is said of what it has then.
     pub fn extend(
         &self,
         alloc: Global,

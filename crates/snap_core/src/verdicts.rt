@@ -9,7 +9,7 @@ use snap_base::{Memory, TxNo, Verdict};
 use std::alloc::Global;
 
 impl Core {
-    /// What became of each transaction, in the order of the text; `None` where it is not known yet.
+    /// What became of each transaction, in the order of the text; `None` where it is not known yet. An `Err` is want of memory.
     pub fn verdicts(&self, alloc: Global) -> Result<Vec<Option<Verdict>>, Memory>
         ensures { IfOk result (λ all. (es : List machine.Event) → IsAt self.now es → all.items ≡ verdicts_in (state_at self.now es) (length self.now.tables.work.txs)) }
     {

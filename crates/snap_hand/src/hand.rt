@@ -1,3 +1,5 @@
+//! The hand: parts of the machine by their numbers, as contracts see them.
+
 use aml_slice::Control;
 use batch_table::Desk;
 use book_part::BookPart;

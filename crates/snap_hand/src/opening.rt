@@ -134,7 +134,8 @@ impl Hand {
         Ok(())
     }
 
-    /// All parts, as a run of the text begins with them.
+    /// A hand with all parts, as a run of the text begins with them from the opening of the tables. It makes a box for each part,
+    /// as many as the text has logs and actors, and four more. An `Err` is want of memory, and then there is no hand.
     pub fn open(alloc: Global, tables: &Tables) -> Result<Hand, Memory>
         requires { AreTables tables.now }
         ensures fits { IfOk result (λ h. Fits h (opening (fixed_of tables.now))) }

@@ -67,7 +67,8 @@ impl Part {
 }
 
 impl Hand {
-    /// A hand with places for the logs and the actors of a text, and no part.
+    /// A hand with places for the logs and the actors of a text, and no part. An `Err` is want of memory, and then there is no
+    /// hand.
     pub fn new(alloc: Global, tables: &Tables) -> Result<Hand, Memory>
         ensures none { IfOk result (λ h. h ≡ no_parts tables.now.work.logs (length tables.now.opening.states)) }
         ensures places { IfOk result (IsHandOf (fixed_of tables.now)) }
@@ -115,7 +116,7 @@ impl Hand {
         }
     }
 
-    // The same of the logs and the cells, which stand behind the four others.
+    // Takes out the log or the cell at place `i` of those behind the four other parts, the logs first; `None` where it is not there.
     fn take_behind(&mut self, i: usize) -> Option<Part>
         ensures taken { option_map shown result ≡ option_flatten (slice_get (map (option_map TheLog) self.old.logs ++ map (option_map TheCell) self.old.cells) i) }
         ensures left { self.new ≡ without_behind i self.old }

@@ -20,21 +20,22 @@ use std::boxed::Box;
 use token_ring::Ring;
 
 impl Hand {
-    /// Whether there is such an actor.
+    /// Whether the hand has a place for the cell of this actor: whether the text has such an actor. Its cell may be out.
     pub fn has_actor(&self, a: ActorId) -> bool
         ensures { result ≡ nat_lt a.0 (length self.now.cells) }
     {
         (a.0 as usize) < self.cells.len()
     }
 
-    /// Whether there is such a log.
+    /// Whether the hand has a place for this log, which counts from 0: whether the text has such a log. It may be out.
     pub fn has_log(&self, l: u8) -> bool
         ensures { result ≡ nat_lt l (length self.now.logs) }
     {
         (l as usize) < self.logs.len()
     }
 
-    /// Whether the part of this number is at hand; also where there is no such part.
+    /// Whether the part of this number is at hand: 0 is the ring, 1 the book, 2 the post, 3 the desk, from 4 on the logs, and
+    /// behind these the cells. It is `true` where the text has no part of this number.
     pub fn has(&self, part: usize) -> bool
         ensures { result ≡ is_at_hand self.now part }
     {
@@ -47,7 +48,7 @@ impl Hand {
         }
     }
 
-    // The same of the logs and the cells, which stand behind the four others.
+    // Whether the log or the cell at place `i` of those behind the four other parts, the logs first, is at hand.
     fn has_behind(&self, i: usize) -> bool
         ensures { result ≡ is_not_out (slice_get (map is_some self.now.logs ++ map is_some self.now.cells) i) }
     {
@@ -65,7 +66,7 @@ impl Hand {
         self.logs[l].is_some()
     }
 
-    /// Whether the cell of the actor is at hand; also where there is no such actor.
+    /// Whether the cell of the actor is at hand. It is `true` where the text has no such actor.
     pub fn has_cell(&self, a: ActorId) -> bool
         ensures { result ≡ is_not_out (slice_get (map is_some self.now.cells) a.0) }
     {
@@ -179,7 +180,7 @@ impl Hand {
         self.logs[l] = Some(log);
     }
 
-    /// The ring, which is there.
+    /// The ring, lent. It must be at hand.
     pub fn ring(&self) -> &Ring
         requires { (x : parts.Ring) × (self.now.ring ≡ Some x) }
         ensures { self.now.ring ≡ Some result.now }
@@ -187,7 +188,7 @@ impl Hand {
         self.ring.as_ref().unwrap().as_ref()
     }
 
-    /// The book, which is there.
+    /// The book of ACTs, lent. It must be at hand.
     pub fn book(&self) -> &BookPart
         requires { (x : Halves) × (self.now.book ≡ Some x) }
         ensures { self.now.book ≡ Some result.now }
@@ -195,7 +196,7 @@ impl Hand {
         self.book.as_ref().unwrap().as_ref()
     }
 
-    /// The post, which is there.
+    /// The post, lent: the sub-batches and the controls under way. It must be at hand.
     pub fn post(&self) -> &Post<Control>
         requires { (x : parts.Post Rest) × (self.now.post ≡ Some x) }
         ensures { self.now.post ≡ Some result.now.messages }
@@ -203,7 +204,7 @@ impl Hand {
         self.post.as_ref().unwrap().as_ref()
     }
 
-    /// The desk, which is there.
+    /// The desk, lent: the batches, and the transactions that have their reply. It must be at hand.
     pub fn desk(&self) -> &Desk
         requires { (x : parts.Desk) × (self.now.desk ≡ Some x) }
         ensures { self.now.desk ≡ Some result.now }
@@ -211,7 +212,7 @@ impl Hand {
         self.desk.as_ref().unwrap().as_ref()
     }
 
-    /// The log of this number, which is there.
+    /// The log of this number, lent. The text must have it, and it must be at hand.
     pub fn log(&self, l: usize) -> &LogPart
         requires { (x : LogList) × (slice_get self.now.logs l ≡ Some (Some x)) }
         ensures { slice_get self.now.logs l ≡ Some (Some result.now.log) }
@@ -219,7 +220,8 @@ impl Hand {
         self.logs[l].as_ref().unwrap().as_ref()
     }
 
-    /// The cell of the actor, which is there.
+    /// The cell of the actor, lent: its state, its boxes and its schedule. The text must have the actor, and its cell must be at
+    /// hand.
     pub fn cell(&self, a: ActorId) -> &CellPart<Control>
         requires { (x : Cell Rest) × (slice_get self.now.cells a.0 ≡ Some (Some x)) }
         ensures { slice_get self.now.cells a.0 ≡ Some (Some result.now.cell) }

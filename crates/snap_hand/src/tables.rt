@@ -1,3 +1,4 @@
+//! The tables that events are read with, and what single rows take from them.
 ghost use Rattle.std.specs.Prelude.{◌≡◌, ◌%◌};
 ghost use Rattle.protocol.specs.Fixed as fixed;
 ghost use Rattle.snap_hand.specs.Tables.{AreTables, text_of};
@@ -8,7 +9,9 @@ use snap_work::Work;
 
 /// What events are read with, and what no event changes: the work text, and what earlier runs left.
 pub struct Tables {
+    /// The work that the run is asked for.
     pub work: Work,
+    /// The states and the next numbers with which the run begins.
     pub opening: Opening,
 }
 

@@ -14,7 +14,8 @@ use snap_base::{ActorId, Memory, Sequence, State, TxNo, Verdict};
 use std::alloc::Global;
 
 impl Hand {
-    /// What became of transaction `n` of the text; `None` where it is not known yet. The book and the desk are at hand.
+    /// What became of transaction `n` of the text, which counts from 0; `None` where it is not known yet, or the text has no such
+    /// transaction. The book and the desk must be at hand.
     pub fn verdict(&self, n: TxNo) -> Option<Verdict>
         requires book { Has self.now book }
         requires desk { Has self.now desk }
@@ -23,7 +24,8 @@ impl Hand {
         core_rows::verdict(self.book(), self.desk(), n)
     }
 
-    /// The state of actor `a`, whose cell is at hand.
+    /// The state of actor `a` as its cell has it now, also what transactions under way have written there. The text must have the
+    /// actor, and its cell must be at hand.
     pub fn state(&self, a: ActorId) -> State
         requires actor { a.0 < length self.now.cells }
         requires cell { Has self.now (cell (length self.now.logs) a.0) }
@@ -32,8 +34,9 @@ impl Hand {
         self.cell(a).state()
     }
 
-    /// The records of log `l`, which is at hand, that wait for a sync: the bytes of each, in the order in which they were
-    /// added.
+    /// The records of log `l` that wait for a sync: the bytes of each, in the order in which they were added. The text must have
+    /// the log, and it must be at hand. Each record is copied; an `Err` is want of memory, and the log keeps its records either
+    /// way.
     pub fn group(&self, alloc: Global, l: u8) -> Result<Sequence<Sequence<u8>>, Memory>
         requires exists { l < length self.now.logs }
         requires log { Has self.now (log l) }

@@ -48,7 +48,7 @@ fn given_up_acts(alloc: Global, book: &BookPart) -> Result<Vec<Tid>, Memory>
     Ok(found)
 }
 
-/// The same, where the event may have given some up; else none.
+/// The live ACTs that are given up, where the event is one that may give ACTs up; else none.
 pub(crate) fn given_up_by(alloc: Global, book: &BookPart, e: Event) -> Result<Vec<Tid>, Memory>
     ensures { IfOk result (λ tids. (b : Book) → Shows book.now b → map tid_number tids.items ≡ given_up_by (event_meant e) b) }
 {

@@ -31,14 +31,14 @@ use protocol_laws::{
 };
 use protocol_theorems::sizes_hold;
 
-/// What is new of what the ring has next.
+/// A list in which the events listed by the ring stand tells all that is new of what the ring has next.
 pub fn ring_is_told()
     ensures { (w : Fixed Rest) (e : Event) (s : Machine Rest) (es : List Event) → ((f : Event) → Contains (ring_listed w.text.coordinators e (after w e s).ring) f → Contains es f) → RingTells (is_new w e s) w.text (after w e s).ring es }
 {
     frame::<Control>();
 }
 
-/// What is new of logs that have got a record to sync.
+/// A list in which the Syncs listed by the event stand tells all that is new of the logs: which have got a record to sync.
 pub fn logs_are_told()
     ensures { (w : Fixed Rest) (e : Event) (s : Machine Rest) (h : Parts) (es : List Event) → IsBehind w e s h → ((f : Event) → Contains (logs_listed w.text.logs e) f → Contains es f) → (l : ℕ) (g : Log) → slice_get (after w e s).logs l ≡ Some g → LogTells (is_new w e s) l g es }
 {
@@ -46,7 +46,7 @@ pub fn logs_are_told()
     runs_go_on::<Control>();
 }
 
-/// What is new of what is under way.
+/// A list in which the events listed by the post stand tells all that is new of what is under way.
 pub fn post_is_told()
     ensures { (w : Fixed Rest) (e : Event) (s : Machine Rest) (h : Parts) (es : List Event) → IsBehind w e s h → ((f : Event) → Contains (post_listed e (after w e s).book (after w e s).post) f → Contains es f) → PostTells (is_new w e s) (after w e s).post es }
 {
@@ -54,7 +54,7 @@ pub fn post_is_told()
     runs_go_on::<Control>();
 }
 
-/// What is new of what lies at actors, by a hand with all parts.
+/// A list in which the events listed by the cells stand, on a hand with all parts, tells all that is new of what lies at actors.
 pub fn cells_are_told()
     ensures { (w : Fixed Rest) (e : Event) (s : Machine Rest) (h : Parts) (es : List Event) → IsHandOf w h → IsWhole h → IsBehind w e s h → ((f : Event) → Contains (cells_listed e h) f → Contains es f) → (a : ℕ) (c : Cell Rest) → slice_get (after w e s).cells a ≡ Some c → CellTells (is_new w e s) (epoch (after w e s).book) a c es }
 {
@@ -66,14 +66,16 @@ pub fn cells_are_told()
     parts_list_all::<Control>();
 }
 
-/// What is new of what batches wait for, by which one is the next to commit, and which one commits.
+/// A list in which the events listed by the desk stand tells all that is new of what batches wait for, by which batch is the next
+/// to commit, and which one commits.
 pub fn desk_is_told()
     ensures { (w : Fixed Rest) (e : Event) (s : Machine Rest) (next settling : Option Bid) (es : List Event) → ((k : ℕ) → is_next k (after w e s).desk.batches ≡ is_number k next) → ((k : ℕ) → awaits_settling k (after w e s).desk.batches ≡ is_number k settling) → ((f : Event) → Contains (by_desk w.text.logs next settling (after w e s).desk e) f → Contains es f) → DeskTells (is_new w e s) (after w e s).desk es }
 {
     parts_list_all::<Control>();
 }
 
-/// What is new of what ACTs wait for; some halves show the book.
+/// A list in which the events listed by the book stand tells all that is new of what ACTs wait for, where some halves show the
+/// book.
 pub fn book_is_told()
     ensures { (w : Fixed Rest) (e : Event) (s : Machine Rest) (h : Parts) (x : Halves) (es : List Event) → IsBehind w e s h → Shows x (after w e s).book → ((f : Event) → Contains (by_book w.text.logs (after w e s).book e) f → Contains es f) → BookTells (is_new w e s) (after w e s).book es }
 {
@@ -83,7 +85,7 @@ pub fn book_is_told()
     unbegun_acts_wait_for_nothing();
 }
 
-/// What is new of replies that are due.
+/// A list in which the Replies listed by the answers stand tells all that is new of replies that are due.
 pub fn answers_are_told()
     ensures { (w : Fixed Rest) (e : Event) (s : Machine Rest) (h : Parts) (es : List Event) → IsBehind w e s h → ((f : Event) → Contains (by_answers (after w e s).ring.next_bid (after w e s).book (after w e s).desk e) f → Contains es f) → AnswersTell (is_new w e s) (after w e s).book (after w e s).desk es }
 {

@@ -1,3 +1,4 @@
+//! All that an event may have made allowed, part by part.
 ghost use Rattle.std.specs.Prelude.{map, OnOk};
 ghost use Rattle.aml_slice.specs.Controls.{Rest};
 ghost use Rattle.core_events.specs.Meant.{event_meant};
