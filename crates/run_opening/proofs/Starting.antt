@@ -56,7 +56,7 @@ zip_long R (x ∷ xs) [] all = absurd all
 zip_long R (x ∷ xs) (y ∷ ys) all = omega (arith, zip_long R xs ys all.1)
 
 -- as many as the text gives
-began_long : (logs : List (List Record)) (states : List State) (o : Opening) → IsRecovered logs o → BeganWith logs states → length o.states ≡ length states
+pub began_long : (logs : List (List Record)) (states : List State) (o : Opening) → IsRecovered logs o → BeganWith logs states → length o.states ≡ length states
 began_long logs states o recovered began =
     let same : Genesis (length logs) recovered.begun.0 ∷ [] ≡ Genesis (length logs) states ∷ [] = sym recovered.begun.1.one ∙ began in
     let first : recovered.begun.0 ≡ states = cc in

@@ -1,6 +1,5 @@
 -- A run of a work: what it begins with, how far it goes, and what it leaves on its logs.
 use Rattle.std.specs.Prelude.{◌≡◌, ℕ, ◌<◌, ◌≤◌, ◌==◌, if◌then◌else◌, Bool, true, false, Option, None, Some, List, [], ◌∷◌, ◌++◌, length, drop, map}
-use Rattle.aml_slice.specs.Controls.{Rest}
 use Rattle.core_events.specs.declared.events.Event.{Event}
 use Rattle.core_events.specs.Meant.{event_meant}
 use Rattle.gate_log.specs.declared.limits.TheConstants.{FARTHEST_END}
@@ -8,10 +7,9 @@ use Rattle.gate_log.specs.declared.logs.LogItem.{LogItem}
 use Rattle.gate_log.specs.Opened.{Opened}
 use Rattle.log_opening.specs.Devices.{Device, device_at, HoldNoOld}
 use Rattle.log_opening.specs.Kept.{DeviceHolds}
-use Rattle.machine_laws.specs.Programs.{with_code}
+pub use Rattle.machine_text.specs.Texts.{text_of, machine_of}
 use Rattle.protocol.specs.Conditions.{IsAllowed}
 use Rattle.protocol.specs.Events as machine
-use Rattle.protocol.specs.Fixed.{Text, Fixed}
 use Rattle.protocol.specs.Runs.{IsQuiet, reached}
 use Rattle.protocol_schedule.specs.Draw.{IsFrontOfSeed}
 use Rattle.record_log.specs.Growth.{GrewBy}
@@ -24,23 +22,7 @@ use Rattle.snap_recover.specs.declared.openings.Opening.{Opening}
 use Rattle.snap_work.specs.Works.{Work}
 use Rattle.txn_records.specs.declared.records.Record.{Record}
 
--- ---- a work as the machine's text
-
-abbrev pub text_of : Work → Opening → Text
-text_of w o = record {
-  coordinators = w.coordinators;
-  logs = w.logs;
-  batch = w.batch;
-  batches = w.batches;
-  acts = w.acts;
-  txs = w.txs;
-  opening = record { states = o.states; next_tid = o.next_tid.0; next_bid = o.next_bid.0; next_c = o.next_c };
-}
-
--- with the methods of its program as code
-abbrev pub machine_of : Work → Opening → Fixed Rest
-machine_of w o = with_code w.program (text_of w o)
-
+-- the events, as the machine's definitions speak of them
 abbrev pub meant : List Event → List machine.Event
 meant es = map event_meant es
 

@@ -10,7 +10,6 @@ pub mod LogSteps
 pub mod Begins
 pub mod Opens
 pub mod Waiting
-pub mod TablesHold
 pub mod Numbered
 pub mod PartsFit
 pub mod OneHand

@@ -1,4 +1,4 @@
--- A work that a text stands for is a text of the machine, where an opening has a state for each of its actors and room.
+-- A work that keeps the limits is an accepted text of the machine, with each opening with which it may begin.
 use Rattle.std.proofs.Common.{◌≡◌, ℕ, zero, suc, ◌<◌, ◌≤◌, ◌==◌, ◌||◌, Bool, true, false, List, [], ◌∷◌, length, map, refl, sym, ap, subst, arith}
 use Rattle.std.specs.Prelude.{slice_index_or}
 use Rattle.std.specs.List.{AllByRecursion, list_any}
@@ -7,14 +7,13 @@ use Rattle.snap_base.specs.declared.ids.ActorId.{ActorId}
 use Rattle.snap_base.specs.declared.transactions.Kind.{Kind}
 use Rattle.snap_base.specs.declared.transactions.Kind.TheVariants.{Pact, Act}
 use Rattle.snap_base.specs.declared.transactions.Tx.{Tx}
-use Rattle.aml_check.specs.Checked.{methods_of}
 use Rattle.aml_check.specs.Transactions as asked
 use Rattle.aml_tree.specs.Tree.{CheckedMethod}
 use Rattle.protocol.specs.Fixed.{is_pact_kind, IsTxOf, IsUse, HasFewUses, IsText}
-use Rattle.snap_hand.specs.declared.tables.Tables.{Tables}
-use Rattle.snap_hand.specs.Tables.{text_of, AreTables, MayBegin}
+use Rattle.machine_text.specs.Texts.{text_of, IsAccepted, MayBegin}
+use Rattle.snap_recover.specs.declared.openings.Opening.{Opening}
 use Rattle.snap_work.specs.Kept.{KeepsLimits}
-use Rattle.snap_work.specs.Works.{work_of}
+use Rattle.snap_work.specs.Works.{Work}
 
 -- ---- what a transaction declares
 
@@ -74,35 +73,31 @@ each_so P Q (tx ∷ txs) so all = (so tx all.0, each_so P Q txs so all.1)
 
 -- ---- the text
 
-text_accepted : (t : Tables) → KeepsLimits (work_of t.work) → MayBegin (work_of t.work) t.opening
-    → AllByRecursion (asked.IsTransaction (methods_of t.work.program) (length t.opening.states)) t.work.txs → IsText (text_of t)
-text_accepted t kept begins asks =
-    let p = methods_of t.work.program in
-    let count = length t.opening.states in
-    record {
-      some_coordinators = kept.coordinators.0;
-      few_coordinators = kept.coordinators.1;
-      some_logs = kept.logs.0;
-      few_logs = kept.logs.1;
-      some_batch = kept.batch.0;
-      small_batch = kept.batch.1;
-      some_batches = kept.batches.0;
-      few_batches = kept.batches.1;
-      some_acts = kept.acts.0;
-      few_acts = kept.acts.1;
-      few_actors = omega (arith, begins.actors, kept.few_actors);
-      txs = each_so (asked.IsTransaction p count) (IsTxOf count) t.work.txs (tx_of p count) asks;
-      uses = each_so (asked.IsTransaction p count) HasFewUses t.work.txs (uses_of p count) asks;
-      few_txs = kept.few_transactions;
-      tids = begins.some_tid;
-      tids_fit = omega (arith, begins.tids);
-      bids = begins.some_bid;
-      bids_fit = omega (arith, begins.bids);
-      cs = begins.some_c;
-      cs_fit = omega (arith, begins.cs);
-    }
+text_accepted : (w : Work) (o : Opening) → KeepsLimits w → MayBegin w o → AllByRecursion (asked.IsTransaction w.program (length o.states)) w.txs → IsText (text_of w o)
+text_accepted w o kept begins asks = record {
+  some_coordinators = kept.coordinators.0;
+  few_coordinators = kept.coordinators.1;
+  some_logs = kept.logs.0;
+  few_logs = kept.logs.1;
+  some_batch = kept.batch.0;
+  small_batch = kept.batch.1;
+  some_batches = kept.batches.0;
+  few_batches = kept.batches.1;
+  some_acts = kept.acts.0;
+  few_acts = kept.acts.1;
+  few_actors = omega (arith, begins.actors, kept.few_actors);
+  txs = each_so (asked.IsTransaction w.program (length o.states)) (IsTxOf (length o.states)) w.txs (tx_of w.program (length o.states)) asks;
+  uses = each_so (asked.IsTransaction w.program (length o.states)) HasFewUses w.txs (uses_of w.program (length o.states)) asks;
+  few_txs = kept.few_transactions;
+  tids = begins.some_tid;
+  tids_fit = omega (arith, begins.tids);
+  bids = begins.some_bid;
+  bids_fit = omega (arith, begins.bids);
+  cs = begins.some_c;
+  cs_fit = omega (arith, begins.cs);
+}
 
-pub tables_hold : (t : Tables) → KeepsLimits (work_of t.work) → MayBegin (work_of t.work) t.opening → AreTables t
-tables_hold t kept begins =
-    let asks = subst (λ (count : ℕ). AllByRecursion (asked.IsTransaction (methods_of t.work.program) count) t.work.txs) (sym begins.actors) kept.transactions in
-    record { accepted = text_accepted t kept begins asks; asks = asks }
+pub accepted : (w : Work) (o : Opening) → KeepsLimits w → MayBegin w o → IsAccepted w o
+accepted w o kept begins =
+    let asks = subst (λ (count : ℕ). AllByRecursion (asked.IsTransaction w.program count) w.txs) (sym begins.actors) kept.transactions in
+    record { accepted = text_accepted w o kept begins asks; asks = asks }
