@@ -5,7 +5,7 @@ use Rattle.std.proofs.Common.{◌≡◌, ℕ, zero, suc, ◌+◌, ◌<◌, ◌||
 use Rattle.std.proofs.lemmas.Bool.{true≢false}
 use Rattle.std.proofs.lemmas.Bool.Decides.{eqb_tells}
 use Rattle.std.proofs.lemmas.List.{length-map}
-use Rattle.std.proofs.lemmas.Option.{slice_get-map, slice_get_within}
+use Rattle.std.proofs.lemmas.Option.{same_Some, slice_get-map, slice_get_within}
 use Rattle.aml_slice.specs.Controls.{Rest}
 use Rattle.book_part.specs.Halves.{Shows}
 use Rattle.core_rows.specs.OnRuns.{HasRun}
@@ -17,21 +17,19 @@ use Rattle.protocol.specs.Footprints.{HasLogs, LeavesOthers}
 use Rattle.protocol.specs.Laws.{AfterEveryRun}
 use Rattle.protocol.specs.Parts.{Log, Cell, Machine}
 use Rattle.protocol.specs.Words.{is_among}
+use Rattle.snap_hand.proofs.InLists.{behind}
 use Rattle.snap_hand.specs.Hands.{Parts, Fits, Has, IsHandOf, are_there, is_at_hand, is_not_out}
 use Rattle.snap_hand.specs.Shown.{Shown, TheRing, TheBook, ThePost, TheDesk, TheLog, TheCell, part_at, places, without}
-use Rattle.footprint_rows.specs.Footprints.{AreBoth, Goes}
+use Rattle.footprint_rows.specs.Footprints.{AreBoth, StaysOrGoesOn}
 
 -- ---- lists
-
-some_is : {X : Type 0} (x y : X) → Some x ≡ Some y → x ≡ y
-some_is x y e = cc e
 
 pub each_more : {X : Type 0} (Q : X → Type 0) (xs : List X) (i : ℕ) (x : X) → slice_get xs i ≡ Some x → AllByRecursion Q (take i xs) → Q x → AllByRecursion Q (take (i + 1) xs)
 each_more {X} Q xs i x e so_far q = subst (λ n. AllByRecursion Q (take n xs)) (sym (add-one i)) (at xs i e so_far)
   where
     at : (xs : List X) (i : ℕ) → slice_get xs i ≡ Some x → AllByRecursion Q (take i xs) → AllByRecursion Q (take (suc i) xs)
     at [] i e a = absurd (cc e)
-    at (y ∷ xs) zero e a = (subst Q (some_is x y (sym e)) q, tt)
+    at (y ∷ xs) zero e a = (subst Q (same_Some x y (sym e)) q, tt)
     at (y ∷ xs) (suc i) e a = (a.0, at xs i e a.1)
 
 pub all_taken : {X : Type 0} (Q : X → Type 0) (xs : List X) (n : ℕ) → length xs ≡ n → AllByRecursion Q (take n xs) → AllByRecursion Q xs
@@ -55,11 +53,6 @@ left_some [] ys i x e = absurd (cc e)
 left_some (y ∷ xs) ys zero x e = e
 left_some (y ∷ xs) ys (suc i) x e = left_some xs ys i x e
 
-behind : {X : Type 0} (xs ys : List X) (i n : ℕ) → n ≡ length xs + i → slice_get (xs ++ ys) n ≡ slice_get ys i
-behind [] ys i n e = ap (slice_get ys) (omega (arith, e))
-behind (x ∷ xs) ys i zero e = absurd (omega (arith, e))
-behind (x ∷ xs) ys i (suc n) e = behind xs ys i n (omega (arith, e))
-
 -- ---- a place that is empty
 
 not_out_false : (o : Option Bool) → is_not_out o ≡ false → o ≡ Some false
@@ -67,12 +60,9 @@ not_out_false None h = absurd (true≢false h)
 not_out_false (Some true) h = absurd (true≢false h)
 not_out_false (Some false) h = refl
 
-is_in : (o : Option Bool) → is_not_out o ≡ true → o ≡ Some false → ⊥
-is_in o h e = true≢false (sym h ∙ ap is_not_out e)
-
 -- a part is there, where the test says so
 pub has_it : (h : Parts) (i : ℕ) (b : Bool) → b ≡ is_at_hand h i → b ≡ true → Has h i
-has_it h i b is there = is_in (slice_get (are_there h) i) (sym is ∙ there)
+has_it h i b is there out = true≢false (sym there ∙ is ∙ ap is_not_out out)
 
 none_there : {X : Type 0} (xs : List (Option X)) (i : ℕ) → slice_get (map is_some xs) i ≡ Some false → option_flatten (slice_get xs i) ≡ None
 none_there [] i h = refl
@@ -189,7 +179,7 @@ pub both_after : (w : Fixed Rest) (e : Event) (few new rest : Parts) (s : Machin
     → AfterEveryRun (HasLogs {C = Rest})
     → ((v : Fixed Rest) (d : Event) (u : Machine Rest) → HasLogs v u → LeavesOthers v d u)
     → ((v : Fixed Rest) (d : Event) (u : Machine Rest) → HasRun v u → IsAllowed v d u → HasRun v (after v d u))
-    → HasRun w s → Fits few s → Fits rest s → IsHandOf w rest → AreGone rest (footprint w.text.logs e) → Goes w e few new → AreBoth w new rest
+    → HasRun w s → Fits few s → Fits rest s → IsHandOf w rest → AreGone rest (footprint w.text.logs e) → StaysOrGoesOn w e few new → AreBoth w new rest
 both_after w e few new rest s logs others on run in_few in_rest places gone goes = elim (goes s run in_few) [
   | inl same ↦ record { state = s; run = run; first = same; second = in_rest }
   | inr taken ↦ record {

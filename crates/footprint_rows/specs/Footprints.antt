@@ -26,5 +26,5 @@ pub record IsFootprintCore (t : Tables) (h : Parts) : Type 0 where
   pub some : OnSomeRun (fixed_of t) h
 
 -- Each state that the hand fitted it fits as before; or the event is allowed there, and it fits the state after it.
-abbrev pub Goes : Fixed Rest → Event → Parts → Parts → Type 0
-Goes w e old new = (s : Machine Rest) → HasRun w s → Fits old s → Fits new s ⊎ (IsAllowed w e s × Fits new (after w e s))
+abbrev pub StaysOrGoesOn : Fixed Rest → Event → Parts → Parts → Type 0
+StaysOrGoesOn w e old new = (s : Machine Rest) → HasRun w s → Fits old s → Fits new s ⊎ (IsAllowed w e s × Fits new (after w e s))

@@ -2,7 +2,7 @@
 ghost use Rattle.std.specs.Prelude.{◌≡◌, true};
 ghost use Rattle.std.specs.List.{AllByRecursion};
 ghost use Rattle.core_events.specs.Meant.{event_meant};
-ghost use Rattle.footprint_rows.specs.Footprints.{Goes};
+ghost use Rattle.footprint_rows.specs.Footprints.{StaysOrGoesOn};
 ghost use Rattle.snap_hand.specs.Hands.{Has, IsHandOf};
 ghost use Rattle.snap_hand.specs.Steps.{MayBeAsked, OnSomeRun};
 ghost use Rattle.snap_hand.specs.Tables.{AreTables, fixed_of};
@@ -65,7 +65,7 @@ fn rule_of_step(alloc: Global, tables: &Tables, hand: &mut Hand, e: Event) -> Re
     requires tables { AreTables tables.now }
     requires asked { MayBeAsked (fixed_of tables.now) (event_meant e) hand.old }
     ensures places { IsHandOf (fixed_of tables.now) hand.new }
-    ensures goes { Goes (fixed_of tables.now) (event_meant e) hand.old hand.new }
+    ensures goes { StaysOrGoesOn (fixed_of tables.now) (event_meant e) hand.old hand.new }
 {
     match apply(alloc, tables, e, hand) {
         Ok(()) => Ok(0),
@@ -108,7 +108,7 @@ fn answer_on(
     requires places { IsHandOf (fixed_of tables.now) hand.old }
     requires some { OnSomeRun (fixed_of tables.now) hand.old }
     ensures places { IsHandOf (fixed_of tables.now) hand.new }
-    ensures goes { Goes (fixed_of tables.now) (event_meant e) hand.old hand.new }
+    ensures goes { StaysOrGoesOn (fixed_of tables.now) (event_meant e) hand.old hand.new }
 {
     let parts = footprint(e, tables.work.logs);
     if !has_all(hand, &parts) {

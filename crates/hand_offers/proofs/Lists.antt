@@ -1,16 +1,13 @@
 -- What lists have.
 use Rattle.std.specs.List.{flat_map, list_all}
-use Rattle.std.proofs.Common.{◌≡◌, ℕ, zero, suc, ◌+◌, ◌<◌, get_or, slice_index_or, Bool, true, false, ◌&&◌, ◌⊎◌, Contains, Some, slice_get, List, [], ◌∷◌, length, take, add-one, refl, sym, ap, subst, inl, inr, ◌∙◌, arith}
+use Rattle.std.proofs.Common.{◌≡◌, ℕ, zero, suc, ◌+◌, ◌<◌, slice_index_or, Bool, true, false, ◌&&◌, ◌⊎◌, Contains, Some, slice_get, List, [], ◌∷◌, length, take, add-one, refl, sym, ap, subst, inl, inr, ◌∙◌, arith}
 use Rattle.std.proofs.lemmas.Bool.{cases_lt, true≢false, and_parts}
-use Rattle.std.proofs.lemmas.Option.{get_or_from_slice_get, slice_get_within}
+use Rattle.std.proofs.lemmas.Option.{get_or_from_slice_get, same_Some, slice_get_within}
 use Rattle.std.proofs.lemmas.List.Elements.{Contains-append_left, Contains-append_right}
 use Rattle.protocol.specs.Words.{below}
 
 pub first_of_all : {X : Type 0} (xs : List X) (x : X) → Contains (x ∷ xs) x
 first_of_all xs x = (0, omega arith, refl)
-
-some_is : {X : Type 0} (x y : X) → Some x ≡ Some y → x ≡ y
-some_is x y e = cc e
 
 -- what stands at a place
 pub placed : {X : Type 0} (xs : List X) (i : ℕ) (x : X) → slice_get xs i ≡ Some x → Contains xs x
@@ -47,7 +44,7 @@ all_has p (y ∷ xs) x h c =
 
 pub not_all : {X : Type 0} (p : X → Bool) (xs : List X) (i : ℕ) (x : X) → slice_get xs i ≡ Some x → p x ≡ false → list_all p xs ≡ false
 not_all p [] i x e h = absurd (cc e)
-not_all p (y ∷ xs) zero x e h = by (p y) (ap p (some_is y x e) ∙ h)
+not_all p (y ∷ xs) zero x e h = by (p y) (ap p (same_Some y x e) ∙ h)
   where
     by : (b : Bool) → b ≡ false → (b && list_all p xs) ≡ false
     by true q = absurd (true≢false q)
@@ -63,7 +60,7 @@ all_more {X} p xs i x e so_far h = subst (λ n. list_all p (take n xs) ≡ true)
   where
     at : (xs : List X) (i : ℕ) → slice_get xs i ≡ Some x → list_all p (take i xs) ≡ true → list_all p (take (suc i) xs) ≡ true
     at [] i e g = absurd (cc e)
-    at (y ∷ xs) zero e g = by (p y) (ap p (some_is y x e) ∙ h)
+    at (y ∷ xs) zero e g = by (p y) (ap p (same_Some y x e) ∙ h)
       where
         by : (b : Bool) → b ≡ true → (b && true) ≡ true
         by true q = refl
@@ -75,9 +72,3 @@ all_more {X} p xs i x e so_far h = subst (λ n. list_all p (take n xs) ≡ true)
         by : (b : Bool) → b ≡ true → list_all p (take (suc i) xs) ≡ true → (b && list_all p (take (suc i) xs)) ≡ true
         by true q r = r
         by false q r = q
-
--- what is read within a list does not hang on what is read past it
-pub read_same : {X : Type 0} (xs : List X) (i : ℕ) (d e : X) → i < length xs → get_or xs i d ≡ get_or xs i e
-read_same [] i d e h = absurd (omega (arith, h))
-read_same (x ∷ xs) zero d e h = refl
-read_same (x ∷ xs) (suc i) d e h = read_same xs i d e (omega (arith, h))

@@ -8,6 +8,7 @@ use Rattle.aml_slice.specs.Controls.{Rest}
 use Rattle.protocol.specs.Events.{Event, footprint, cell}
 use Rattle.protocol.specs.Fixed.{Fixed}
 use Rattle.protocol.specs.Parts.{Cell}
+use Rattle.snap_hand.proofs.InLists.{behind, behind_four}
 use Rattle.snap_hand.specs.Hands.{Parts, Has, HasFootprint, are_there, is_at_hand, is_not_out}
 use Rattle.hand_offers.specs.Chosen.{is_asked}
 
@@ -48,18 +49,6 @@ pub at_place : {X : Type 0} (xs : List X) (i : ℕ) → i < length xs → (x : X
 at_place [] i h = absurd (omega (arith, h))
 at_place (x ∷ xs) zero h = (x, refl)
 at_place (x ∷ xs) (suc i) h = at_place xs i (omega (arith, h))
-
-behind : {X : Type 0} (xs ys : List X) (i n : ℕ) → n ≡ length xs + i → slice_get (xs ++ ys) n ≡ slice_get ys i
-behind [] ys i n e = ap (slice_get ys) (omega (arith, e))
-behind (x ∷ xs) ys i zero e = absurd (omega (arith, e))
-behind (x ∷ xs) ys i (suc n) e = behind xs ys i n (omega (arith, e))
-
-behind_four : {X : Type 0} (a b c d : X) (xs : List X) (i n : ℕ) → n ≡ 4 + i → slice_get (a ∷ b ∷ c ∷ d ∷ xs) n ≡ slice_get xs i
-behind_four a b c d xs i zero e = absurd (omega (arith, e))
-behind_four a b c d xs i (suc zero) e = absurd (omega (arith, e))
-behind_four a b c d xs i (suc (suc zero)) e = absurd (omega (arith, e))
-behind_four a b c d xs i (suc (suc (suc zero))) e = absurd (omega (arith, e))
-behind_four a b c d xs i (suc (suc (suc (suc n)))) e = ap (slice_get xs) (omega (arith, e))
 
 -- the cell of an actor, by the place of its part
 pub cell_shown : (h : Parts) (logs a : ℕ) → length h.logs ≡ logs → slice_get (are_there h) (cell logs a) ≡ slice_get (map is_some h.cells) a

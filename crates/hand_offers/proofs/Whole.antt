@@ -5,7 +5,7 @@ use Rattle.std.proofs.Common.{◌≡◌, ℕ, zero, suc, ◌+◌, ◌%◌, ◌<�
 use Rattle.std.proofs.lemmas.Bool.{true≢false, cases_lt}
 use Rattle.std.proofs.lemmas.List.Elements.{Contains-append_left, Contains-append_right}
 use Rattle.std.proofs.lemmas.List.Elements.{filter-append}
-use Rattle.std.proofs.lemmas.Option.{slice_get_within}
+use Rattle.std.proofs.lemmas.Option.{same_Some, slice_get_within}
 use Rattle.aml_slice.specs.Controls.{Rest}
 use Rattle.book_part.specs.Halves.{Halves}
 use Rattle.batch_table.specs.Listed.{is_unreplied, unreplied_below}
@@ -31,9 +31,6 @@ more_below p n (suc m) x h c = elim (cases_lt m n) [
   | inl lt ↦ let same : n ≡ suc m = omega (arith, h, lt) in subst (λ k. Contains (filter p (below k)) x) same c
   | inr le ↦ subst (λ v. Contains v x) (sym (filter-append p (below m) (m ∷ []))) (Contains-append_left (filter p (below m)) (filter p (m ∷ [])) x (more_below p n m x le c))
 ]
-
-same_some : {X : Type 0} (x y : X) → Some x ≡ Some y → x ≡ y
-same_some x y e = cc e
 
 module _ (w : Fixed Rest) (h : Parts) (s : Machine Rest) (fits : Fits h s) (places : IsHandOf w h) (sizes : SizesHold w s) where
   -- a part of what is asked for is there
@@ -138,7 +135,7 @@ module _ (w : Fixed Rest) (h : Parts) (s : Machine Rest) (fits : Fits h s) (plac
               rollback = λ q g. absurd (gone (has_part (Rollback a) (cell w.text.logs a) q 1 refl));
             }
         by (Some x) e =
-            let same : x ≡ c = same_some x c (sym (fits.cells a x e) ∙ at) in
+            let same : x ≡ c = same_Some x c (sym (fits.cells a x e) ∙ at) in
             let had : (f : Event) → Contains (on_cell a x) f → Contains es f = λ f g. more f (in_flat_map (on_place h) (below (length h.cells)) a f (in_below a (length h.cells) (within_cells a c at)) (subst (λ o. Contains (of_place a o) f) (sym e) g)) in
             subst (λ y. CellTells (is_asked w h) (epoch s.book) a y es) same (enough (epoch s.book) a x (cell_lists (is_asked w h) es (epoch s.book) a x had))
 

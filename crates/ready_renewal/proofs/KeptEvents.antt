@@ -19,9 +19,8 @@ use Rattle.protocol_ready.specs.Refusing.{IsRenewed, RenewedAreEnabled, bid_of, 
 use Rattle.protocol_ready.specs.Telling.{PartsTell}
 use Rattle.protocol_ready.specs.Touched.{is_abort, is_touched}
 use Rattle.ready_list.specs.Order.{IsGap, at, is_before}
-use Rattle.ready_renewal.specs.Asked.{AreAsked, AreRefused, IsAllowedOn, IsAsked, IsLooked, IsOwn, IsRefusedOn, IsWith, IsWithout}
-use Rattle.std.specs.List.{AllByRecursion}
-use Rattle.snap_hand.specs.Hands.{Parts, Has, IsWhole}
+use Rattle.ready_renewal.specs.Asked.{AreAsked, AreRefused, IsAllowedOn, IsAsked, IsPutIn, IsOwn, IsRefusedOn, IsWith, IsWithout}
+use Rattle.snap_hand.specs.Hands.{Parts}
 use Rattle.touched_events.specs.New.{IsBehind, is_new}
 
 -- ---- lists
@@ -38,12 +37,6 @@ just_one y = (0, omega arith, refl)
 
 pub none_in : (f : Event) → Contains [] f → ⊥
 none_in f c = omega (arith, c.1)
-
--- what is read within a list does not hang on what is read past it
-pub read_same : {X : Type 0} (xs : List X) (i : ℕ) (d e : X) → i < length xs → get_or xs i d ≡ get_or xs i e
-read_same [] i d e h = absurd (omega (arith, h))
-read_same (x ∷ xs) zero d e h = refl
-read_same (x ∷ xs) (suc i) d e h = read_same xs i d e (omega (arith, h))
 
 -- of one more of those that are gone over
 more_cases : (xs : List code.Event) (i : ℕ) (x : code.Event) (f : Event) → i < length xs → x ≡ get_or xs i x → Contains (map event_meant (take (i + 1) xs)) f
@@ -91,22 +84,22 @@ all_out xs i old new past so_far = subst (λ v. IsWithout (map event_meant v) ol
 pub looked_put : (w : Fixed Rest) (h : Parts) (e : Event) (old new : List Event) → new ≡ put e old
     → ((e : Event) (es : List Event) (f : Event) → Contains (put e es) f ↔ ((f ≡ e) ⊎ Contains es f))
     → ((e : Event) (es : List Event) → Ascends es → Ascends (put e es))
-    → IsAllowedOn w h e → IsLooked w h e old new
-looked_put w h e old new same one order allowed = subst (λ v. IsLooked w h e old v) (sym same) (record {
+    → IsAllowedOn w h e → IsPutIn w h e old new
+looked_put w h e old new same one order allowed = subst (λ v. IsPutIn w h e old v) (sym same) (record {
   only = λ f c. elim ((one e old f).0 c) [ inl s ↦ inr (subst (IsAllowedOn w h) (sym s) allowed) | inr i ↦ inl i ];
   kept = λ f c. (one e old f).1 (inr c);
   due = inl ((one e old e).1 (inl refl));
   ascends = order e old;
 })
 
-pub looked_none : (w : Fixed Rest) (h : Parts) (e : Event) (old : List Event) → IsRefusedOn w h e → IsLooked w h e old old
+pub looked_none : (w : Fixed Rest) (h : Parts) (e : Event) (old : List Event) → IsRefusedOn w h e → IsPutIn w h e old old
 looked_none w h e old refused = record { only = λ f c. inl c; kept = λ f c. c; due = inr refused; ascends = λ a. a }
 
 pub with_none : (w : Fixed Rest) (h : Parts) (es : List Event) → IsWith w h [] es es
 with_none w h es = record { only = λ f c. inl c; kept = λ f c. c; due = λ f c. absurd (none_in f c); ascends = λ a. a }
 
 pub one_in : (w : Fixed Rest) (h : Parts) (xs : List code.Event) (i : ℕ) (x : code.Event) (old list new : List Event) → i < length xs → x ≡ get_or xs i x
-    → IsWith w h (map event_meant (take i xs)) old list → IsLooked w h (event_meant x) list new → IsWith w h (map event_meant (take (i + 1) xs)) old new
+    → IsWith w h (map event_meant (take i xs)) old list → IsPutIn w h (event_meant x) list new → IsWith w h (map event_meant (take (i + 1) xs)) old new
 one_in w h xs i x old list new within is so_far looked = record {
   only = λ f c. elim (looked.only f c) [ inl a ↦ so_far.only f a | inr allowed ↦ inr allowed ];
   kept = λ f c. looked.kept f (so_far.kept f c);
@@ -290,9 +283,3 @@ renewed w h e news gone old middle new on ruled tells enabled told out less more
 
     here : (f : Event) → IsAllowedOn w h f → IsAllowed w f (after w e s)
     here f allowed = allowed (after w e s) later is.fits
-
--- ---- all parts are at hand
-
-pub all_here : (h : Parts) → IsWhole h → (is : List ℕ) → AllByRecursion (Has h) is
-all_here h whole [] = tt
-all_here h whole (i ∷ is) = (whole i, all_here h whole is)

@@ -48,14 +48,14 @@ pub record IsWithout (gone old new : List Event) : Type 0 where
   pub kept : (f : Event) → Contains old f → Contains new f ⊎ Contains gone f
   pub ascends : Ascends old → Ascends new
 
--- one was looked at: it is in where it is allowed, and nothing else is new
-pub record IsLooked (w : Fixed Rest) (h : Parts) (e : Event) (old new : List Event) : Type 0 where
+-- one was looked at, and put in where it is allowed; nothing else is new
+pub record IsPutIn (w : Fixed Rest) (h : Parts) (e : Event) (old new : List Event) : Type 0 where
   pub only : (f : Event) → Contains new f → Contains old f ⊎ IsAllowedOn w h f
   pub kept : (f : Event) → Contains old f → Contains new f
   pub due : Contains new e ⊎ IsRefusedOn w h e
   pub ascends : Ascends old → Ascends new
 
--- the same of some, one after the other
+-- some were looked at, one after the other: they are in where they are allowed, and nothing else is new
 pub record IsWith (w : Fixed Rest) (h : Parts) (news old new : List Event) : Type 0 where
   pub only : (f : Event) → Contains new f → Contains old f ⊎ IsAllowedOn w h f
   pub kept : (f : Event) → Contains old f → Contains new f

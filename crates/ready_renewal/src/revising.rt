@@ -1,7 +1,7 @@
 //! What is taken out of the kept events, and put in.
 ghost use Rattle.std.specs.Prelude.{◌≡◌, ◌+◌, ◌≤◌, map, length};
 ghost use Rattle.core_events.specs.Meant.{event_meant};
-ghost use Rattle.ready_renewal.specs.Asked.{IsLooked, IsWith, IsWithout};
+ghost use Rattle.ready_renewal.specs.Asked.{IsPutIn, IsWith, IsWithout};
 ghost use Rattle.snap_hand.specs.Hands.{IsHandOf, IsWhole};
 ghost use Rattle.snap_hand.specs.Steps.{OnSomeRun};
 ghost use Rattle.snap_hand.specs.Tables.{AreTables, fixed_of};
@@ -31,7 +31,7 @@ fn look(tables: &Tables, hand: &Hand, e: Event, list: &mut ReadyList)
     requires whole { IsWhole hand.now }
     requires some { OnSomeRun (fixed_of tables.now) hand.now }
     requires room { 1 ≤ list.old.spare }
-    ensures looked { IsLooked (fixed_of tables.now) hand.now (event_meant e) list.old.events list.new.events }
+    ensures looked { IsPutIn (fixed_of tables.now) hand.now (event_meant e) list.old.events list.new.events }
     ensures room { list.old.spare ≤ list.new.spare + 1 }
 {
     events_stay_in_order();

@@ -1,7 +1,6 @@
 -- A core whose hand takes an event, and the run that it has come from.
 use Rattle.std.proofs.Common.{◌≡◌, ℕ, Result, Ok, Err, OnOk, OnErr, IfOk, IfErr, Option, Some, None, map, drop, List, [], ◌∷◌, ◌++◌, slice_get, refl, sym, ap, subst, inl, inr, ◌∙◌}
 use Rattle.std.specs.Prelude.{IfSome}
-use Rattle.std.specs.List.{AllByRecursion}
 use Rattle.aml_slice.specs.Controls.{Rest}
 use Rattle.core_events.specs.Meant.{event_meant}
 use Rattle.core_events.specs.declared.events.Event as code
@@ -22,7 +21,8 @@ use Rattle.ready_renewal.specs.Covering.{Covers, CoversStill, HasNoFirst, IsFirs
 use Rattle.ready_renewal.specs.Covering as hands
 use Rattle.snap_core.specs.Kept.{Extends, Sheds}
 use Rattle.snap_core.specs.Cores.{CoreState, IsCore, IsAt, state_at, IsTakenBy, IsRefusalBy, IsNoBy}
-use Rattle.snap_hand.specs.Hands.{Parts, Fits, Has, IsWhole}
+use Rattle.snap_hand.proofs.Held.{all_here}
+use Rattle.snap_hand.specs.Hands.{Parts, Fits}
 use Rattle.snap_hand.specs.Steps.{MayBeAsked, IsRefusalOn, IsStep}
 use Rattle.snap_hand.specs.Tables.{fixed_of}
 use Rattle.touched_events.specs.New.{IsBehind}
@@ -30,10 +30,6 @@ use Rattle.snap_hand.specs.declared.tables.Tables.{Tables}
 
 abbrev pub core_of : Tables → Parts → CoreState
 core_of t h = record { tables = t; hand = h }
-
-all_here : (h : Parts) → IsWhole h → (is : List ℕ) → AllByRecursion (Has h) is
-all_here h whole [] = tt
-all_here h whole (i ∷ is) = (whole i, all_here h whole is)
 
 -- a core may be asked for every event
 pub may_be_asked : (t : Tables) (e : Event) (h : Parts) → IsCore t h → MayBeAsked (fixed_of t) e h

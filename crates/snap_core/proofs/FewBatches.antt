@@ -1,5 +1,5 @@
 -- No more batches are formed than the text has transactions; and the desk of a whole hand.
-use Rattle.std.proofs.Common.{◌≡◌, ◌≤◌, Bool, false, filter, Option, Some, None, is_some, List, length, refl, sym, subst, arith}
+use Rattle.std.proofs.Common.{◌≡◌, ◌≤◌, Bool, filter, Some, List, length, sym, subst, arith}
 use Rattle.std.proofs.lemmas.List.Sums.{count_by-le-length, length-filter}
 use Rattle.aml_slice.specs.Controls.{Rest}
 use Rattle.core_rows.specs.OnRuns.{HasRun}
@@ -9,6 +9,7 @@ use Rattle.protocol.specs.Numbers.{NumbersDrawnOnce}
 use Rattle.protocol.specs.Parts.{Desk, Machine}
 use Rattle.protocol.specs.Runs.{IsRun, reached}
 use Rattle.protocol_theorems.specs.Sizes.{SizesHold}
+use Rattle.snap_hand.proofs.Held.{desk_there}
 use Rattle.snap_hand.specs.Hands.{Parts, IsWhole}
 
 pub few_batches : (w : Fixed Rest) (s : Machine Rest) → HasRun w s
@@ -27,10 +28,5 @@ few_batches w s is sizes drawn =
 pub count_few : {X : Type 0} (p : X → Bool) (xs : List X) → length (filter p xs) ≤ length xs
 count_few p xs = subst (λ n. n ≤ length xs) (sym (length-filter p xs)) (count_by-le-length p xs)
 
--- one is there of which it is not said that it is not
-some_there : {X : Type 0} (o : Option X) → (Some (is_some o) ≡ Some false → ⊥) → (x : X) × (o ≡ Some x)
-some_there None h = absurd (h refl)
-some_there (Some x) h = (x, refl)
-
 pub desk_of_whole : (h : Parts) → IsWhole h → (x : Desk) × (h.desk ≡ Some x)
-desk_of_whole h whole = some_there h.desk (whole 3)
+desk_of_whole h whole = desk_there h (whole 3)

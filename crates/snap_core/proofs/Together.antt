@@ -9,6 +9,7 @@ use Rattle.protocol.specs.Fixed.{Fixed}
 use Rattle.protocol.specs.Parts.{Machine}
 use Rattle.snap_core.specs.Apart.{AreItsParts, ShowSomeRun}
 use Rattle.snap_core.specs.Cores.{CoreState, IsCore, IsAt, state_at}
+use Rattle.snap_hand.proofs.Held.{there_at}
 use Rattle.snap_hand.specs.Hands.{Parts, Fits, IsHandOf, IsWhole, are_there}
 use Rattle.snap_hand.specs.Shown.{Shown, TheLog, TheCell, shown, AreAllParts, Belongs, IsPartOf, no_parts, part_at, places, with_part, without}
 use Rattle.snap_hand.specs.Tables.{AreTables, fixed_of}
@@ -44,12 +45,6 @@ one_less (x ∷ xs) (suc i) = one_less xs i
 
 drop_more : {X : Type 0} (xs ys : List X) (i : ℕ) → drop i xs ≡ drop i ys → drop (suc i) xs ≡ drop (suc i) ys
 drop_more xs ys i same = one_less xs i ∙ (ap (drop 1) same ∙ sym (one_less ys i))
-
-there_at : {X : Type 0} (xs : List (Option X)) (i : ℕ) → i < length xs → (slice_get (map is_some xs) i ≡ Some false → ⊥) → (x : X) × (slice_get xs i ≡ Some (Some x))
-there_at [] i h f = absurd (omega (arith, h))
-there_at (None ∷ xs) zero h f = absurd (f refl)
-there_at (Some x ∷ xs) zero h f = (x, refl)
-there_at (o ∷ xs) (suc i) h f = there_at xs i (omega (arith, h)) f
 
 one_at : {X : Type 0} (xs : List X) (i : ℕ) → i < length xs → (x : X) × (slice_get xs i ≡ Some x)
 one_at [] i h = absurd (omega (arith, h))

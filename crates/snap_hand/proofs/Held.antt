@@ -1,4 +1,5 @@
 -- The parts that a hand has.
+use Rattle.std.specs.List.{AllByRecursion}
 use Rattle.std.proofs.Common.{◌≡◌, ℕ, zero, suc, ◌+◌, ◌<◌, nat_lt, get_or, option_map, true, false, Option, Some, None, is_some, List, [], ◌∷◌, ◌++◌, length, map, slice_get, refl, sym, ap, subst, ◌∙◌, arith}
 use Rattle.std.proofs.lemmas.List.{length-map}
 use Rattle.std.proofs.lemmas.Bool.{ltb-false, ltb-true}
@@ -8,7 +9,7 @@ use Rattle.book_part.specs.Halves.{Halves}
 use Rattle.log_set.specs.Logs.{LogList}
 use Rattle.protocol.specs.Events.{log, cell}
 use Rattle.protocol.specs.Parts.{Ring, Post, Desk, Cell}
-use Rattle.snap_hand.specs.Hands.{Parts, Has}
+use Rattle.snap_hand.specs.Hands.{Parts, Has, IsWhole}
 use Rattle.snap_hand.proofs.InLists.{in_front, behind, behind_four}
 
 -- one is there of which it is not said that it is not
@@ -16,7 +17,7 @@ some_there : {X : Type 0} (o : Option X) → (Some (is_some o) ≡ Some false �
 some_there None h = absurd (h refl)
 some_there (Some x) h = (x, refl)
 
-there_at : {X : Type 0} (xs : List (Option X)) (i : ℕ) → i < length xs → (slice_get (map is_some xs) i ≡ Some false → ⊥) → (x : X) × (slice_get xs i ≡ Some (Some x))
+pub there_at : {X : Type 0} (xs : List (Option X)) (i : ℕ) → i < length xs → (slice_get (map is_some xs) i ≡ Some false → ⊥) → (x : X) × (slice_get xs i ≡ Some (Some x))
 there_at [] i h f = absurd (omega (arith, h))
 there_at (None ∷ xs) zero h f = absurd (f refl)
 there_at (Some x ∷ xs) zero h f = (x, refl)
@@ -45,6 +46,11 @@ pub cell_there : (h : Parts) (logs a : ℕ) → length h.logs ≡ logs → Has h
 cell_there h logs a same f within =
     there_at h.cells a within (λ e. there_behind h (logs + a) (cell logs a) (omega arith) f
     (behind (map is_some h.logs) (map is_some h.cells) a (logs + a) (ap (λ n. n + a) (sym same ∙ sym (length-map h.logs is_some))) ∙ e))
+
+-- where all parts are at hand, some of them are
+pub all_here : (h : Parts) → IsWhole h → (is : List ℕ) → AllByRecursion (Has h) is
+all_here h whole [] = tt
+all_here h whole (i ∷ is) = (whole i, all_here h whole is)
 
 -- ---- whether a log or a cell is there, by what is kept
 

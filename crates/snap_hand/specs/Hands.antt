@@ -42,7 +42,7 @@ are_there h = is_some h.ring ∷ is_some h.book ∷ is_some h.post ∷ is_some h
 abbrev pub Has : Parts → ℕ → Type 0
 Has h i = slice_get (are_there h) i ≡ Some false → ⊥
 
--- the same as a test
+-- whether the part of this number is there, as a test
 abbrev pub is_not_out : Option Bool → Bool
 is_not_out None = true
 is_not_out (Some there) = there

@@ -1,13 +1,13 @@
 -- What is listed of the ACTs that are given up, of all that are live.
 use Rattle.std.specs.List.{flat_map}
 use Rattle.std.proofs.Common.{◌≡◌, ℕ, Bool, true, false, if◌then◌else◌, Option, Some, List, [], ◌∷◌, ◌++◌, filter, map, refl, sym, ap, subst, ◌∙◌}
+use Rattle.std.proofs.lemmas.Option.{same_Some}
 use Rattle.book_part.specs.Halves.{Halves, Shows}
 use Rattle.book_part.specs.Listed.{live_tids}
 use Rattle.machine_words.specs.Meant.{tid_number}
 use Rattle.protocol.specs.Conditions.{is_given_up}
 use Rattle.protocol.specs.Events.{Event, Arrive, Ask, Abort}
 use Rattle.protocol.specs.Parts.{Book, OfAct}
-use Rattle.protocol_ready.proofs.Listing.{some_is}
 use Rattle.snap_base.specs.declared.ids.Tid.{Tid}
 use Rattle.touched_events.specs.GivenUp.{AreGivenUpBy, given_up_by}
 use Rattle.touched_events.specs.InAnswers.{of_acts, of_acts_with}
@@ -43,5 +43,5 @@ book_is logs e b = refl
 -- the tids that a list of the code holds
 pub are_given_up : (e : Event) (o : Option Halves) (h : Halves) (tids slice : List Tid) → o ≡ Some h → slice ≡ tids → ((b : Book) → Shows h b → map tid_number tids ≡ given_up_by e b) → AreGivenUpBy e o (map tid_number slice)
 are_given_up e o h tids slice is same told = λ x b at shows.
-    let q : x ≡ h = some_is x h (sym at ∙ is) in
+    let q : x ≡ h = same_Some x h (sym at ∙ is) in
     ap (map tid_number) same ∙ told b (subst (λ y. Shows y b) q shows)

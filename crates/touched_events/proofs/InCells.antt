@@ -3,7 +3,7 @@ use Rattle.std.specs.Prelude.{◌≡◌, ◌↔◌, nat_le, nat_lt, map, refl, �
 use Rattle.std.specs.List.{list_any, AllByRecursion}
 use Rattle.std.proofs.Common.{arith, sym, ap, subst, inl, inr, ◌∙◌}
 use Rattle.std.proofs.lemmas.Bool.{true≢false, ltb-false, and_parts, eqb-true, cases_Bool}
-use Rattle.std.proofs.lemmas.Option.{slice_get_within}
+use Rattle.std.proofs.lemmas.Option.{same_Some, slice_get_within}
 use Rattle.aml_slice.specs.Controls.{Rest}
 use Rattle.protocol.specs.Conditions.{IsAllowed, conditions, epoch, refusal}
 use Rattle.protocol.specs.Effects.{after, cell_at, no_cell, puts}
@@ -35,7 +35,7 @@ use Rattle.hand_offers.proofs.Told.{cell_lists}
 use Rattle.snap_hand.specs.Hands.{Parts, Fits, IsHandOf, IsWhole}
 use Rattle.touched_events.specs.New.{IsBehind, is_new}
 use Rattle.touched_events.specs.InBook.{only}
-use Rattle.touched_events.specs.InCells.{of_close, close_at, closes, closes_of, ended_at, owes, who_in, cells_listed}
+use Rattle.touched_events.specs.InCells.{of_close, close_at, closes, closes_of, closes_behind, owes, who_in, cells_listed}
 use Rattle.touched_events.proofs.Common.{Among, cell_is_there, desk_there}
 use Rattle.touched_events.proofs.Closing.{declared_where, who_is}
 use Rattle.touched_events.proofs.InPost.{find_gone, numbered_from, left_or}
@@ -138,21 +138,18 @@ everywhere h u a within = in_flat_map (of_close u) (below (length h.cells)) a (C
 entries_of : (t : Machine Rest) → FromDesk t → (a : ℕ) (c : Cell Rest) → slice_get t.cells a ≡ Some c → AllByRecursion (EntryOf a t.desk.batches) c.entries
 entries_of t from a c at = subst (λ z. AllByRecursion (EntryOf a t.desk.batches) z.entries) (at_found t.cells a no_cell c at) (from.entries a)
 
-same_some : {X : Type 0} (x y : X) → Some x ≡ Some y → x ≡ y
-same_some x y e = cc e
-
 owed : (t : Machine Rest) (h : Parts) → Desked t h → (u a : ℕ) (c : Cell Rest) → slice_get t.cells a ≡ Some c → has_undone u c.entries ≡ true → a < length h.cells → Contains (close_at u h a) (Close u a)
 owed t h k u a c at undone within =
     let x = k.there a within in
-    let same : x.0 ≡ c = same_some x.0 c (sym (k.cells a x.0 x.1) ∙ at) in
+    let same : x.0 ≡ c = same_Some x.0 c (sym (k.cells a x.0 x.1) ∙ at) in
     let due : owes u (slice_get h.cells a) ≡ true = ap (owes u) x.1 ∙ (ap (λ z. has_undone u z.entries) same ∙ undone) in
     subst (λ v. Contains (only v (Close u a)) (Close u a)) (sym due) (first_of_all [] (Close u a))
 
 ended_in : (t : Machine Rest) (h : Parts) → Desked t h → (u b a : ℕ) (c : Cell Rest) → slice_get t.cells a ≡ Some c → has_undone u c.entries ≡ true → is_some (pact_result u t.desk.batches) ≡ true → a < length h.cells
-    → Contains (ended_at u (who_in u (slice_get h.cells b)) h.desk h) (Close u a)
+    → Contains (closes_behind u (who_in u (slice_get h.cells b)) h.desk h) (Close u a)
 ended_in t h k u b a c at undone result within =
     let who = who_in u (slice_get h.cells b) in
-    subst (λ o. Contains (ended_at u who o h) (Close u a)) (sym k.desk)
+    subst (λ o. Contains (closes_behind u who o h) (Close u a)) (sym k.desk)
     (subst (λ v. Contains (if v then closes_of u who t.desk h else []) (Close u a)) (sym result) (by (slice_get h.cells b) refl))
   where
     whose : (x : Cell Rest) → slice_get t.cells b ≡ Some x → (who : Who) → who_on u x.entries ≡ who → Contains (closes_of u who t.desk h) (Close u a)
@@ -184,7 +181,7 @@ few_of w t n u = omega (arith, n.tids u, times_append u (flat (map (λ b. map (�
 -- the cell that was put in
 got : (xs : List (Cell Rest)) (i j : ℕ) (y c : Cell Rest) → slice_get (slice_set xs j y) i ≡ Some c → j ≡ i → c ≡ y
 got [] i j y c e h = absurd (cc e)
-got (x ∷ xs) zero zero y c e h = sym (same_some y c e)
+got (x ∷ xs) zero zero y c e h = sym (same_Some y c e)
 got (x ∷ xs) (suc i) zero y c e h = absurd (omega (arith, h))
 got (x ∷ xs) zero (suc j) y c e h = absurd (omega (arith, h))
 got (x ∷ xs) (suc i) (suc j) y c e h = got xs i j y c e (omega (arith, h))
@@ -270,7 +267,7 @@ module _ (asked : Event → Bool) (w : Fixed Rest) (s : Machine Rest) (h : Parts
     end = λ t x y. absurd (went (λ x. is_ended x.next) u b t a c at (g.touched (End t a) x) y);
     close = λ t x y.
         let there = ended_in (after w (End u b) s) h desked t b a c at y (close_result w (after w (End u b) s) t a (g.allowed (Close t a) x)) within in
-        more (Close t a) (subst (λ n. Contains (ended_at n (who_in n (slice_get h.cells b)) h.desk h) (Close t a)) (sym (eqb-true u t (first_only (u == t) (g.touched (Close t a) x)))) there);
+        more (Close t a) (subst (λ n. Contains (closes_behind n (who_in n (slice_get h.cells b)) h.desk h) (Close t a)) (sym (eqb-true u t (first_only (u == t) (g.touched (Close t a) x)))) there);
     complete = λ k x y. no (g.touched (Complete k a) x);
     rollback = λ x y. no (g.touched (Rollback a) x);
   }
@@ -296,7 +293,7 @@ module _ (asked : Event → Bool) (w : Fixed Rest) (s : Machine Rest) (h : Parts
 place_shown : (w : Fixed Rest) (h : Parts) (t : Machine Rest) → IsHandOf w h → IsWhole h → Fits h t → (a : ℕ) (c : Cell Rest) → a < length h.cells → slice_get t.cells a ≡ Some c → on_place h a ≡ on_cell a c
 place_shown w h t places whole fits a c within at =
     let x = cell_is_there h whole w.text.logs a places.logs within in
-    ap (of_place a) x.1 ∙ ap (on_cell a) (same_some x.0 c (sym (fits.cells a x.0 x.1) ∙ at))
+    ap (of_place a) x.1 ∙ ap (on_cell a) (same_Some x.0 c (sym (fits.cells a x.0 x.1) ∙ at))
 
 is_within : (w : Fixed Rest) (h : Parts) (t : Machine Rest) → IsHandOf w h → length t.cells ≡ length w.text.opening.states → (a : ℕ) (c : Cell Rest) → slice_get t.cells a ≡ Some c → a < length h.cells
 is_within w h t places sizes a c at = subst (λ n. a < n) (sizes ∙ sym places.cells) (slice_get_within t.cells a c at)
@@ -335,8 +332,8 @@ none_past (x ∷ xs) (suc i) h = none_past xs i (omega (arith, h))
 pub not_there : (h : Parts) (a : ℕ) → nat_lt a (length h.cells) ≡ false → slice_get h.cells a ≡ None
 not_there h a e = none_past h.cells a (ltb-false a (length h.cells) e)
 
-pub ended_none : (t : ℕ) (who : Who) (h : Parts) (d : Desk) → h.desk ≡ Some d → is_some (pact_result t d.batches) ≡ false → ended_at t who h.desk h ≡ []
-ended_none t who h d is e = ap (λ o. ended_at t who o h) is ∙ ap (λ b. if b then closes_of t who d h else []) e
+pub ended_none : (t : ℕ) (who : Who) (h : Parts) (d : Desk) → h.desk ≡ Some d → is_some (pact_result t d.batches) ≡ false → closes_behind t who h.desk h ≡ []
+ended_none t who h d is e = ap (λ o. closes_behind t who o h) is ∙ ap (λ b. if b then closes_of t who d h else []) e
 
-pub ended_some : (t : ℕ) (who : Who) (h : Parts) (d : Desk) → h.desk ≡ Some d → is_some (pact_result t d.batches) ≡ true → ended_at t who h.desk h ≡ closes_of t who d h
-ended_some t who h d is e = ap (λ o. ended_at t who o h) is ∙ ap (λ b. if b then closes_of t who d h else []) e
+pub ended_some : (t : ℕ) (who : Who) (h : Parts) (d : Desk) → h.desk ≡ Some d → is_some (pact_result t d.batches) ≡ true → closes_behind t who h.desk h ≡ closes_of t who d h
+ended_some t who h d is e = ap (λ o. closes_behind t who o h) is ∙ ap (λ b. if b then closes_of t who d h else []) e

@@ -20,7 +20,7 @@ use Rattle.protocol.specs.Words.{holds, is_settled, batch_of, declared_of, is_op
 use Rattle.protocol_ready.specs.Telling.{DeskTells}
 use Rattle.protocol_ready.specs.Touched.{is_touched}
 use Rattle.protocol_ready.proofs.Listing.{Has, from_has, has_map, has_filter, has_flat_map, held, found_in}
-use Rattle.touched_events.specs.InDesk.{ends_of, settles_of, of_unnoted, by_desk}
+use Rattle.touched_events.specs.InDesk.{next_ends, settles_of, of_unnoted, by_desk}
 use Rattle.touched_events.specs.New.{is_new}
 use Rattle.touched_events.proofs.Common.{Among}
 
@@ -81,7 +81,7 @@ unnoted_has logs l k a d h at =
 
 -- ---- the next batch, and the one that commits
 
-ends_have : (k : ℕ) (next : Option Bid) → is_number k next ≡ true → Contains (ends_of next) (Commit k) × Contains (ends_of next) (Abort k)
+ends_have : (k : ℕ) (next : Option Bid) → is_number k next ≡ true → Contains (next_ends next) (Commit k) × Contains (next_ends next) (Abort k)
 ends_have k None h = absurd (true≢false (sym h))
 ends_have k (Some n) h =
     let e : n.0 ≡ k = eqb-true n.0 k h in (
@@ -114,43 +114,43 @@ module _ (w : Fixed Rest) (s : Machine Rest) (d : Desk) (next settling : Option 
     tells_all asked = enough asked (all asked)
 
     note_listed : (e : Event) (k a : ℕ) → is_touched w e s (Note k a) ≡ true → IsToNote k a d → Contains (by_desk w.text.logs next settling d e) (Note k a)
-    note_listed (Form j) k a h g = Contains-append_left (of_batch d j) (ends_of next) (Note k a) (at_batch j k (λ i. Note i a) false h (λ q. none q) (note_of k a d g))
+    note_listed (Form j) k a h g = Contains-append_left (of_batch d j) (next_ends next) (Note k a) (at_batch j k (λ i. Note i a) false h (λ q. none q) (note_of k a d g))
     note_listed (Commit j) k a h g = at_batch j k (λ i. Note i a) false h (λ q. none q) (note_of k a d g)
-    note_listed (Settle j) k a h g = Contains-append_left (of_batch d j) (ends_of next) (Note k a) (at_batch j k (λ i. Note i a) false h (λ q. none q) (note_of k a d g))
+    note_listed (Settle j) k a h g = Contains-append_left (of_batch d j) (next_ends next) (Note k a) (at_batch j k (λ i. Note i a) false h (λ q. none q) (note_of k a d g))
     note_listed (Note j b) k a h g = either ((j == k) && (b == a)) false h (λ q. let p = and_parts (j == k) (b == a) q in subst (λ i. Contains (Note j b ∷ Commit j ∷ []) (Note i a)) (eqb-true j k p.0) (subst (λ i. Contains (Note j b ∷ Commit j ∷ []) (Note j i)) (eqb-true b a p.1) (first_of_all (Commit j ∷ []) (Note j b)))) (λ q. none q)
-    note_listed (Sync l) k a h g = Contains-append_left (flat_map of_unnoted (unnoted_on w.text.logs l d)) (ends_of next ++ settles_of settling) (Note k a) (unnoted_has w.text.logs l k a d g (and_parts (l == a % w.text.logs) _ h).0)
+    note_listed (Sync l) k a h g = Contains-append_left (flat_map of_unnoted (unnoted_on w.text.logs l d)) (next_ends next ++ settles_of settling) (Note k a) (unnoted_has w.text.logs l k a d g (and_parts (l == a % w.text.logs) _ h).0)
     note_listed (Abort j) k a h g = (tells_all (λ f. true)).note k a refl g
     note_listed _ k a h g = none h
 
     trim_listed : (e : Event) (k a : ℕ) → is_touched w e s (Trim k a) ≡ true → IsToTrim k a d → Contains (by_desk w.text.logs next settling d e) (Trim k a)
-    trim_listed (Form j) k a h g = Contains-append_left (of_batch d j) (ends_of next) (Trim k a) (at_batch j k (λ i. Trim i a) false h (λ q. none q) (trim_of k a d g))
+    trim_listed (Form j) k a h g = Contains-append_left (of_batch d j) (next_ends next) (Trim k a) (at_batch j k (λ i. Trim i a) false h (λ q. none q) (trim_of k a d g))
     trim_listed (Commit j) k a h g = at_batch j k (λ i. Trim i a) false h (λ q. none q) (trim_of k a d g)
-    trim_listed (Settle j) k a h g = Contains-append_left (of_batch d j) (ends_of next) (Trim k a) (at_batch j k (λ i. Trim i a) false h (λ q. none q) (trim_of k a d g))
+    trim_listed (Settle j) k a h g = Contains-append_left (of_batch d j) (next_ends next) (Trim k a) (at_batch j k (λ i. Trim i a) false h (λ q. none q) (trim_of k a d g))
     trim_listed (Trim j b) k a h g = let p = and_parts (j == k) (b == a) h in subst (λ i. Contains (Trim j b ∷ []) (Trim i a)) (eqb-true j k p.0) (subst (λ i. Contains (Trim j b ∷ []) (Trim j i)) (eqb-true b a p.1) (first_of_all [] (Trim j b)))
     trim_listed (Abort j) k a h g = (tells_all (λ f. true)).trim k a refl g
     trim_listed _ k a h g = none h
 
     settle_listed : (e : Event) (k : ℕ) → is_touched w e s (Settle k) ≡ true → awaits_settling k d.batches ≡ true → Contains (by_desk w.text.logs next settling d e) (Settle k)
-    settle_listed (Form j) k h g = Contains-append_left (of_batch d j) (ends_of next) (Settle k) (at_batch j k Settle false h (λ q. none q) (in_ends d k (Settle k) 1 refl))
+    settle_listed (Form j) k h g = Contains-append_left (of_batch d j) (next_ends next) (Settle k) (at_batch j k Settle false h (λ q. none q) (in_ends d k (Settle k) 1 refl))
     settle_listed (Commit j) k h g = at_batch j k Settle false h (λ q. none q) (in_ends d k (Settle k) 1 refl)
-    settle_listed (Settle j) k h g = Contains-append_left (of_batch d j) (ends_of next) (Settle k) (at_batch j k Settle false h (λ q. none q) (in_ends d k (Settle k) 1 refl))
-    settle_listed (Sync l) k h g = Contains-append_right (flat_map of_unnoted (unnoted_on w.text.logs l d)) (ends_of next ++ settles_of settling) (Settle k) (Contains-append_right (ends_of next) (settles_of settling) (Settle k) (settles_have k settling (sym (is_settling k) ∙ g)))
+    settle_listed (Settle j) k h g = Contains-append_left (of_batch d j) (next_ends next) (Settle k) (at_batch j k Settle false h (λ q. none q) (in_ends d k (Settle k) 1 refl))
+    settle_listed (Sync l) k h g = Contains-append_right (flat_map of_unnoted (unnoted_on w.text.logs l d)) (next_ends next ++ settles_of settling) (Settle k) (Contains-append_right (next_ends next) (settles_of settling) (Settle k) (settles_have k settling (sym (is_settling k) ∙ g)))
     settle_listed (Abort j) k h g = (tells_all (λ f. true)).settle k refl g
     settle_listed _ k h g = none h
 
     commit_listed : (e : Event) (k : ℕ) → is_touched w e s (Commit k) ≡ true → is_next k d.batches ≡ true → Contains (by_desk w.text.logs next settling d e) (Commit k)
-    commit_listed (Form j) k h g = Contains-append_right (of_batch d j) (ends_of next) (Commit k) (ends_have k next (sym (is_the_next k) ∙ g)).0
-    commit_listed (Settle j) k h g = Contains-append_right (of_batch d j) (ends_of next) (Commit k) (ends_have k next (sym (is_the_next k) ∙ g)).0
+    commit_listed (Form j) k h g = Contains-append_right (of_batch d j) (next_ends next) (Commit k) (ends_have k next (sym (is_the_next k) ∙ g)).0
+    commit_listed (Settle j) k h g = Contains-append_right (of_batch d j) (next_ends next) (Commit k) (ends_have k next (sym (is_the_next k) ∙ g)).0
     commit_listed (End t b) k h g = (ends_have k next (sym (is_the_next k) ∙ g)).0
-    commit_listed (Sync l) k h g = Contains-append_right (flat_map of_unnoted (unnoted_on w.text.logs l d)) (ends_of next ++ settles_of settling) (Commit k) (Contains-append_left (ends_of next) (settles_of settling) (Commit k) (ends_have k next (sym (is_the_next k) ∙ g)).0)
+    commit_listed (Sync l) k h g = Contains-append_right (flat_map of_unnoted (unnoted_on w.text.logs l d)) (next_ends next ++ settles_of settling) (Commit k) (Contains-append_left (next_ends next) (settles_of settling) (Commit k) (ends_have k next (sym (is_the_next k) ∙ g)).0)
     commit_listed (Commit j) k h g = at_batch j k Commit false h (λ q. none q) (in_ends d k (Commit k) 0 refl)
     commit_listed (Note j b) k h g = either (j == k) false h (λ q. subst (λ i. Contains (Note j b ∷ Commit j ∷ []) (Commit i)) (eqb-true j k q) (placed (Note j b ∷ Commit j ∷ []) 1 (Commit j) refl)) (λ q. none q)
     commit_listed (Abort j) k h g = (tells_all (λ f. true)).commit k refl g
     commit_listed _ k h g = none h
 
     abort_listed : (e : Event) (k : ℕ) → is_touched w e s (Abort k) ≡ true → is_next k d.batches ≡ true → Contains (by_desk w.text.logs next settling d e) (Abort k)
-    abort_listed (Form j) k h g = Contains-append_right (of_batch d j) (ends_of next) (Abort k) (ends_have k next (sym (is_the_next k) ∙ g)).1
-    abort_listed (Settle j) k h g = Contains-append_right (of_batch d j) (ends_of next) (Abort k) (ends_have k next (sym (is_the_next k) ∙ g)).1
+    abort_listed (Form j) k h g = Contains-append_right (of_batch d j) (next_ends next) (Abort k) (ends_have k next (sym (is_the_next k) ∙ g)).1
+    abort_listed (Settle j) k h g = Contains-append_right (of_batch d j) (next_ends next) (Abort k) (ends_have k next (sym (is_the_next k) ∙ g)).1
     abort_listed (End t b) k h g = (ends_have k next (sym (is_the_next k) ∙ g)).1
     abort_listed (Commit j) k h g = at_batch j k Abort false h (λ q. none q) (in_ends d k (Abort k) 2 refl)
     abort_listed (Abort j) k h g = (tells_all (λ f. true)).abort k refl g

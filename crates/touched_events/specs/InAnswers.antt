@@ -47,7 +47,7 @@ of_acts b (Ask t a) = of_tx b t ++ of_given_up b
 of_acts b (Abort k) = of_given_up b
 of_acts b _ = []
 
--- the same, where these are given up
+-- what is listed of the ACTs, where those of these tids are given up
 abbrev pub of_acts_with : Book → Event → List ℕ → List Event
 of_acts_with b (Arrive k a) tids = flat_map (of_tx b) tids
 of_acts_with b (Ask t a) tids = of_tx b t ++ flat_map (of_tx b) tids

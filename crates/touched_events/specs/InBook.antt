@@ -6,6 +6,7 @@ use Rattle.book_part.specs.Listed.{live_tids}
 use Rattle.protocol.specs.Events.{Event, Admit, Arrive, Ask, End, Sync, Settle, Abort, Prepare, Vouch, Decide, Seal, Finish}
 use Rattle.protocol.specs.Parts.{Book}
 use Rattle.protocol.specs.Words.{holds, act_of, joined_of, is_value, is_live_status, is_doomed, is_decided, is_sealed, is_live_act}
+use Rattle.protocol_ready.specs.Refusing.{spreads}
 use Rattle.protocol_theorems.specs.BookFits.{actors_at}
 
 -- what the book alone lets happen: of ACT t on an actor, and of ACT t
@@ -29,12 +30,6 @@ abbrev pub has_begun : Book → ℕ → Bool
 has_begun b t = holds (λ x. is_some x.result || is_doomed x.status) (act_of t b.acts)
 
 -- ---- which of these an event may let happen
-
--- of ACTs nothing but that those which it gives up leave
-abbrev pub only_gives_up : Event → Bool
-only_gives_up (Arrive k a) = true
-only_gives_up (Ask t a) = true
-only_gives_up _ = false
 
 abbrev pub lets_prepare : Event → Bool
 lets_prepare (Arrive k a) = false
@@ -67,7 +62,7 @@ meant_if true b t = holds (λ x. is_doomed x.status) (act_of t b.acts)
 meant_if false b t = has_begun b t
 
 abbrev pub is_meant : Event → Book → ℕ → Bool
-is_meant e b t = meant_if (only_gives_up e) b t
+is_meant e b t = meant_if (spreads e) b t
 
 -- ---- the lists
 
@@ -130,7 +125,7 @@ by_book logs b (Settle k) = of_live (Settle k) b
 by_book logs b (Abort k) = of_live (Abort k) b
 by_book logs b _ = []
 
--- the same, where these are given up
+-- what is listed of ACTs, where those of these tids are given up
 abbrev pub by_book_with : ℕ → Book → Event → List ℕ → List Event
 by_book_with logs b (Arrive k a) tids = flat_map (due_of (Arrive k a) b) tids
 by_book_with logs b (Ask t a) tids = flat_map (due_of (Ask t a) b) tids

@@ -11,16 +11,16 @@ use Rattle.snap_hand.specs.Hands.{Parts}
 use Rattle.touched_events.specs.InBook.{only}
 
 -- the actor whose cell an event changes, where it is not only that something comes or goes
-abbrev pub actor_at : Event → Option ℕ
-actor_at (Arrive k a) = Some a
-actor_at (Ask t a) = Some a
-actor_at (Run t a) = Some a
-actor_at (Close t a) = Some a
-actor_at (Complete k a) = Some a
-actor_at (Rollback a) = Some a
-actor_at (Finish t a) = Some a
-actor_at (Trim k a) = Some a
-actor_at _ = None
+abbrev pub changed_actor : Event → Option ℕ
+changed_actor (Arrive k a) = Some a
+changed_actor (Ask t a) = Some a
+changed_actor (Run t a) = Some a
+changed_actor (Close t a) = Some a
+changed_actor (Complete k a) = Some a
+changed_actor (Rollback a) = Some a
+changed_actor (Finish t a) = Some a
+changed_actor (Trim k a) = Some a
+changed_actor _ = None
 
 -- what lies there
 abbrev pub of_actor : Parts → Option ℕ → List Event
@@ -55,12 +55,12 @@ closes_of t (OfBatch k) d h = flat_map (close_at t h) (actors_in (batch_of k d.b
 closes_of t (OfAct u) d h = closes t h
 
 -- where the desk has its result
-abbrev pub ended_at : ℕ → Who → Option Desk → Parts → List Event
-ended_at t who None h = []
-ended_at t who (Some d) h = if is_some (pact_result t d.batches) then closes_of t who d h else []
+abbrev pub closes_behind : ℕ → Who → Option Desk → Parts → List Event
+closes_behind t who None h = []
+closes_behind t who (Some d) h = if is_some (pact_result t d.batches) then closes_of t who d h else []
 
 abbrev pub cells_listed : Event → Parts → List Event
 cells_listed (Abort k) h = flat_map (on_place h) (below (length h.cells))
 cells_listed (Take t a) h = Run t a ∷ []
-cells_listed (End t a) h = ended_at t (who_in t (slice_get h.cells a)) h.desk h
-cells_listed e h = of_actor h (actor_at e)
+cells_listed (End t a) h = closes_behind t (who_in t (slice_get h.cells a)) h.desk h
+cells_listed e h = of_actor h (changed_actor e)

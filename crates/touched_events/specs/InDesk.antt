@@ -8,9 +8,9 @@ use Rattle.protocol.specs.Events.{Event, Form, End, Sync, Note, Commit, Settle, 
 use Rattle.protocol.specs.Parts.{Desk}
 
 -- how the next batch may end, and how the one that commits
-abbrev pub ends_of : Option Bid → List Event
-ends_of None = []
-ends_of (Some k) = Commit k.0 ∷ Abort k.0 ∷ []
+abbrev pub next_ends : Option Bid → List Event
+next_ends None = []
+next_ends (Some k) = Commit k.0 ∷ Abort k.0 ∷ []
 
 abbrev pub settles_of : Option Bid → List Event
 settles_of None = []
@@ -22,11 +22,11 @@ of_unnoted p = Note p.0 p.1 ∷ []
 
 -- of so many logs, where one batch is the next, and one commits
 abbrev pub by_desk : ℕ → Option Bid → Option Bid → Desk → Event → List Event
-by_desk logs next settling d (Form k) = of_batch d k ++ ends_of next
+by_desk logs next settling d (Form k) = of_batch d k ++ next_ends next
 by_desk logs next settling d (Commit k) = of_batch d k
-by_desk logs next settling d (Settle k) = of_batch d k ++ ends_of next
-by_desk logs next settling d (End t a) = ends_of next
-by_desk logs next settling d (Sync l) = flat_map of_unnoted (unnoted_on logs l d) ++ (ends_of next ++ settles_of settling)
+by_desk logs next settling d (Settle k) = of_batch d k ++ next_ends next
+by_desk logs next settling d (End t a) = next_ends next
+by_desk logs next settling d (Sync l) = flat_map of_unnoted (unnoted_on logs l d) ++ (next_ends next ++ settles_of settling)
 by_desk logs next settling d (Note k a) = Note k a ∷ Commit k ∷ []
 by_desk logs next settling d (Trim k a) = Trim k a ∷ []
 by_desk logs next settling d (Abort k) = on_desk d

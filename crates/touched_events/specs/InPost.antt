@@ -64,7 +64,7 @@ of_drops (Arrive k a) b = given_up_drops b
 of_drops (Ask t a) b = given_up_drops b
 of_drops _ b = []
 
--- the same, where these are given up
+-- the drops of the event, where the ACTs of these tids are those given up
 abbrev pub of_drops_with : Event → List ℕ → List Event
 of_drops_with (Arrive k a) tids = flat_map of_drop tids
 of_drops_with (Ask t a) tids = flat_map of_drop tids

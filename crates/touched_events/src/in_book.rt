@@ -9,11 +9,12 @@ ghost use Rattle.machine_words.specs.Meant.{actor_number, tid_number};
 ghost use Rattle.protocol.specs.Effects.{after};
 ghost use Rattle.protocol.specs.Events.{Decide, Finish, Prepare, Seal, Vouch};
 ghost use Rattle.protocol.specs.Parts.{Book, Machine};
+ghost use Rattle.protocol_ready.specs.Refusing.{spreads};
 ghost use Rattle.protocol_ready.specs.Telling.{BookTells};
 ghost use Rattle.snap_hand.specs.Hands.{IsHandOf, IsWhole};
 ghost use Rattle.snap_hand.specs.Tables.{AreTables, fixed_of};
 ghost use Rattle.touched_events.specs.GivenUp.{AreGivenUpBy};
-ghost use Rattle.touched_events.specs.InBook.{by_book_with, due_if, due_of, due_on, is_meant, lets_decide, lets_finish, lets_prepare, lets_vote, may_decide, may_finish, may_prepare, may_seal, may_vouch, of_live, of_meant, only, only_gives_up};
+ghost use Rattle.touched_events.specs.InBook.{by_book_with, due_if, due_of, due_on, is_meant, lets_decide, lets_finish, lets_prepare, lets_vote, may_decide, may_finish, may_prepare, may_seal, may_vouch, of_live, of_meant, only};
 ghost use Rattle.touched_events.specs.New.{IsBehind, Keeps, is_new};
 
 use crate::in_sync::list_synced;
@@ -49,9 +50,9 @@ fn may_finish(book: &BookPart, t: Tid, a: ActorId) -> bool
     book.may_leave(t) && book.stands_on(t, a)
 }
 
-/// Whether it lets nothing happen of ACTs but that those which it gives up leave.
-fn only_gives_up(e: Event) -> bool
-    ensures { result ≡ only_gives_up (event_meant e) }
+/// Whether the event may give ACTs up, also others than its own. Of ACTs it then lets nothing else happen.
+fn spreads(e: Event) -> bool
+    ensures { result ≡ spreads (event_meant e) }
 {
     match e {
         Event::Arrive(_, _) => true,
@@ -138,7 +139,7 @@ fn seals(book: &BookPart, e: Event, t: Tid) -> bool
 fn is_meant(book: &BookPart, e: Event, t: Tid) -> bool
     ensures { (b : Book) → Shows book.now b → result ≡ is_meant (event_meant e) b t.0 }
 {
-    if only_gives_up(e) {
+    if spreads(e) {
         book.is_given_up(Who::Act(t))
     } else {
         book.has_begun(t)

@@ -14,7 +14,7 @@ ghost use Rattle.protocol.specs.Words.{batch_of, pact_result};
 ghost use Rattle.protocol_ready.specs.Telling.{CellTells};
 ghost use Rattle.snap_hand.specs.Hands.{IsHandOf, IsWhole};
 ghost use Rattle.snap_hand.specs.Tables.{AreTables, fixed_of};
-ghost use Rattle.touched_events.specs.InCells.{actor_at, cells_listed, close_at, closes, closes_of, ended_at, of_actor, owes, who_in};
+ghost use Rattle.touched_events.specs.InCells.{changed_actor, cells_listed, close_at, closes, closes_of, closes_behind, of_actor, owes, who_in};
 ghost use Rattle.touched_events.specs.New.{IsBehind, Keeps, is_new};
 
 use crate::in_book::push_if;
@@ -32,7 +32,7 @@ use std::alloc::Global;
 
 /// The actor whose cell the event changes, where it is not only that something comes or goes.
 fn actor_of(e: Event) -> Option<ActorId>
-    ensures { option_map actor_number result ≡ actor_at (event_meant e) }
+    ensures { option_map actor_number result ≡ changed_actor (event_meant e) }
 {
     match e {
         Event::Arrive(_, a) => Some(a),
@@ -58,7 +58,7 @@ fn list_here(alloc: Global, hand: &Hand, a: ActorId, events: &mut Vec<Event>) ->
 }
 
 fn list_own(alloc: Global, hand: &Hand, e: Event, events: &mut Vec<Event>) -> Result<(), Memory>
-    ensures { OnOk result (Adds events.old.items events.new.items (of_actor hand.now (actor_at (event_meant e)))) }
+    ensures { OnOk result (Adds events.old.items events.new.items (of_actor hand.now (changed_actor (event_meant e)))) }
 {
     match actor_of(e) {
         Some(a) => list_here(alloc, hand, a, events),
@@ -179,7 +179,7 @@ fn list_ended(
     requires tables { AreTables tables.now }
     requires places { IsHandOf (fixed_of tables.now) hand.now }
     requires whole { IsWhole hand.now }
-    ensures { OnOk result (Adds events.old.items events.new.items (ended_at t.0 (who_meant who) hand.now.desk hand.now)) }
+    ensures { OnOk result (Adds events.old.items events.new.items (closes_behind t.0 (who_meant who) hand.now.desk hand.now)) }
 {
     let desk = hand.desk();
     if !has_ended(desk, t) {
@@ -199,7 +199,7 @@ fn list_end(
     requires tables { AreTables tables.now }
     requires places { IsHandOf (fixed_of tables.now) hand.now }
     requires whole { IsWhole hand.now }
-    ensures { OnOk result (Adds events.old.items events.new.items (ended_at t.0 (who_in t.0 (slice_get hand.now.cells a.0)) hand.now.desk hand.now)) }
+    ensures { OnOk result (Adds events.old.items events.new.items (closes_behind t.0 (who_in t.0 (slice_get hand.now.cells a.0)) hand.now.desk hand.now)) }
 {
     let who = who_at(hand, t, a);
     list_ended(alloc, tables, hand, t, who, events)

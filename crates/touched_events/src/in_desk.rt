@@ -10,7 +10,7 @@ ghost use Rattle.protocol.specs.Parts.{Machine};
 ghost use Rattle.protocol_ready.specs.Telling.{DeskTells};
 ghost use Rattle.snap_hand.specs.Hands.{IsHandOf, IsWhole};
 ghost use Rattle.snap_hand.specs.Tables.{AreTables, fixed_of};
-ghost use Rattle.touched_events.specs.InDesk.{by_desk, ends_of, of_unnoted, settles_of};
+ghost use Rattle.touched_events.specs.InDesk.{by_desk, next_ends, of_unnoted, settles_of};
 ghost use Rattle.touched_events.specs.New.{IsBehind, Keeps, is_new};
 
 use aml_slice::Control;
@@ -24,7 +24,7 @@ use std::alloc::Global;
 
 /// How the next batch may end.
 fn push_ends(next: Option<Bid>, events: &mut Vec<Event>) -> Result<(), Memory>
-    ensures { OnOk result (Adds events.old.items events.new.items (ends_of next)) }
+    ensures { OnOk result (Adds events.old.items events.new.items (next_ends next)) }
 {
     if let Some(k) = next {
         push_two(events, Event::Commit(k), Event::AbortBatch(k))?;
@@ -77,7 +77,7 @@ fn list_synced(
     events: &mut Vec<Event>,
 ) -> Result<(), Memory>
     requires { 1 ≤ logs }
-    ensures { OnOk result (Adds events.old.items events.new.items (flat_map of_unnoted (unnoted_on logs l desk.now) ++ (ends_of next ++ settles_of settling))) }
+    ensures { OnOk result (Adds events.old.items events.new.items (flat_map of_unnoted (unnoted_on logs l desk.now) ++ (next_ends next ++ settles_of settling))) }
 {
     list_unnoted(alloc, logs, l, desk, events)?;
     push_ends(next, events)?;
@@ -93,7 +93,7 @@ fn list_batch_and_next(
     next: Option<Bid>,
     events: &mut Vec<Event>,
 ) -> Result<(), Memory>
-    ensures { OnOk result (Adds events.old.items events.new.items (of_batch desk.now k.0 ++ ends_of next)) }
+    ensures { OnOk result (Adds events.old.items events.new.items (of_batch desk.now k.0 ++ next_ends next)) }
 {
     list_batch(alloc, desk, k, events)?;
     push_ends(next, events)?;

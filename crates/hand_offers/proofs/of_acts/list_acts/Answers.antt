@@ -1,13 +1,13 @@
+use Rattle.std.proofs.lemmas.List.{get_or_default}
 use Rattle.machine_words.specs.Meant.{tid_number}
 use Rattle.hand_offers.specs.Listed.{of_act}
 use Rattle.hand_offers.proofs.Adding.{adds_all, adds_more}
-use Rattle.hand_offers.proofs.Lists.{read_same}
 use Rattle.hand_offers.proofs.of_acts.list_acts.Goals as goal
 
 pub loop-t-preserved : goal.loop-t-preserved
 loop-t-preserved c b shows =
     adds_more (of_act b) tid_number c.args.tids.now c.loop-t.t-index _ c.args.events.now.items c.loop-t.events.items c.list_act.new.events.items
-    c.loop-t-test.true (read_same c.args.tids.now c.loop-t.t-index _ _ c.loop-t-test.true) (c.loop-t.invariant b shows) (c.in_ok-list_act.ensures b shows)
+    c.loop-t-test.true (get_or_default c.args.tids.now c.loop-t.t-index _ _ c.loop-t-test.true) (c.loop-t.invariant b shows) (c.in_ok-list_act.ensures b shows)
 
 pub returns : goal.returns
 returns c b shows =

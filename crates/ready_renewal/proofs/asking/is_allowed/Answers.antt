@@ -2,8 +2,8 @@ use Rattle.std.proofs.Common.{sym, ◌∙◌}
 use Rattle.std.proofs.lemmas.Bool.{eq-eqb, eqb-true, true≢false}
 use Rattle.core_events.specs.Meant.{event_meant}
 use Rattle.protocol.specs.Events.{footprint}
+use Rattle.snap_hand.proofs.Held.{all_here}
 use Rattle.snap_hand.specs.Tables.{fixed_of}
-use Rattle.ready_renewal.proofs.KeptEvents.{all_here}
 use Rattle.ready_renewal.proofs.asking.is_allowed.Goals as goal
 
 pub refusal-requires-clause-asked : goal.refusal-requires-clause-asked

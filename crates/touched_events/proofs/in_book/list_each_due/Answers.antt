@@ -1,14 +1,14 @@
+use Rattle.std.proofs.lemmas.List.{get_or_default}
 use Rattle.core_events.specs.Meant.{event_meant}
 use Rattle.machine_words.specs.Meant.{tid_number}
 use Rattle.hand_offers.proofs.Adding.{adds_all, adds_more}
-use Rattle.hand_offers.proofs.Lists.{read_same}
 use Rattle.touched_events.specs.InBook.{due_of}
 use Rattle.touched_events.proofs.in_book.list_each_due.Goals as goal
 
 pub loop-t-preserved : goal.loop-t-preserved
 loop-t-preserved c b shows =
     adds_more (due_of (event_meant c.args.e) b) tid_number c.args.tids.now c.loop-t.t-index _ c.args.events.now.items c.loop-t.events.items c.list_due.new.events.items
-    c.loop-t-test.true (read_same c.args.tids.now c.loop-t.t-index _ _ c.loop-t-test.true) (c.loop-t.invariant b shows) (c.in_ok-list_due.ensures b shows)
+    c.loop-t-test.true (get_or_default c.args.tids.now c.loop-t.t-index _ _ c.loop-t-test.true) (c.loop-t.invariant b shows) (c.in_ok-list_due.ensures b shows)
 
 pub returns : goal.returns
 returns c b shows =

@@ -1,13 +1,13 @@
+use Rattle.std.proofs.lemmas.List.{get_or_default}
 use Rattle.machine_words.specs.Meant.{actor_number}
 use Rattle.hand_offers.proofs.Adding.{adds_all, adds_more}
-use Rattle.hand_offers.proofs.Lists.{read_same}
 use Rattle.touched_events.specs.InCells.{close_at}
 use Rattle.touched_events.proofs.in_cells.push_closes.Goals as goal
 
 pub loop-a-preserved : goal.loop-a-preserved
 loop-a-preserved c =
     adds_more (close_at c.args.t.0 c.args.hand.now) actor_number c.args.actors.now c.loop-a.a-index _ c.args.events.now.items c.loop-a.events.items c.list_close.new.events.items
-    c.loop-a-test.true (read_same c.args.actors.now c.loop-a.a-index _ _ c.loop-a-test.true) c.loop-a.invariant c.in_ok-list_close.ensures
+    c.loop-a-test.true (get_or_default c.args.actors.now c.loop-a.a-index _ _ c.loop-a-test.true) c.loop-a.invariant c.in_ok-list_close.ensures
 
 pub returns : goal.returns
 returns c =

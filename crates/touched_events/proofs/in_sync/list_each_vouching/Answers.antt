@@ -1,13 +1,13 @@
+use Rattle.std.proofs.lemmas.List.{get_or_default}
 use Rattle.machine_words.specs.Meant.{actor_number}
 use Rattle.hand_offers.proofs.Adding.{adds_all, adds_more}
-use Rattle.hand_offers.proofs.Lists.{read_same}
 use Rattle.touched_events.specs.InBook.{vouching_of}
 use Rattle.touched_events.proofs.in_sync.list_each_vouching.Goals as goal
 
 pub loop-a-preserved : goal.loop-a-preserved
 loop-a-preserved c b shows =
     adds_more (vouching_of c.args.logs c.args.log b c.args.t.0) actor_number c.args.actors.now c.loop-a.a-index _ c.args.events.now.items c.loop-a.events.items c.list_vouching.new.events.items
-    c.loop-a-test.true (read_same c.args.actors.now c.loop-a.a-index _ _ c.loop-a-test.true) (c.loop-a.invariant b shows) (c.in_ok-list_vouching.ensures b shows)
+    c.loop-a-test.true (get_or_default c.args.actors.now c.loop-a.a-index _ _ c.loop-a-test.true) (c.loop-a.invariant b shows) (c.in_ok-list_vouching.ensures b shows)
 
 pub returns : goal.returns
 returns c b shows =
