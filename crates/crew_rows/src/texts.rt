@@ -1,15 +1,16 @@
 //! The texts of the runs.
 
 ghost use Rattle.std.specs.Prelude.{IfOk};
-ghost use Rattle.snap_hand.specs.Tables.{AreTables, MayBegin};
+ghost use Rattle.machine_text.specs.Texts.{MayBegin};
+ghost use Rattle.snap_hand.specs.Tables.{AreTables};
 ghost use Rattle.snap_work.specs.Kept.{KeepsLimits};
 ghost use Rattle.snap_work.specs.Works.{work_of};
 
+use machine_text::works_are_texts;
 use rand_core::utils::NextWord;
 use rand_pcg::Pcg32;
 use snap_base::Memory;
 use snap_core::Tables;
-use snap_hand::works_are_tables;
 use snap_recover::{Opening, fresh};
 use snap_work::Work;
 use std::alloc::Global;
@@ -184,7 +185,7 @@ fn joined(work: Work, opening: Opening) -> Tables
     requires begins { MayBegin (work_of work) opening }
     ensures { AreTables result }
 {
-    works_are_tables();
+    works_are_texts();
     Tables { work, opening }
 }
 

@@ -4,11 +4,11 @@ ghost use Rattle.std.specs.List.{AllByRecursion};
 ghost use Rattle.crew_workers.specs.declared.crews.TheConstants.{MOST_WORKERS};
 ghost use Rattle.gate_log.specs.declared.limits.TheConstants.{FARTHEST_END};
 ghost use Rattle.log_opening.specs.Devices.{devices_of};
+ghost use Rattle.machine_text.specs.Texts.{MayBegin};
 ghost use Rattle.run_recovery.specs.Schedules.{seeded, free};
 ghost use Rattle.run_work.specs.Hosts.{HasHosted, HasStood, IsHostedOn};
 ghost use Rattle.run_work.specs.Printings.{printing_of};
 ghost use Rattle.run_work.specs.Writings.{writing_of};
-ghost use Rattle.snap_hand.specs.Tables.{MayBegin};
 ghost use Rattle.snap_outside.specs.Causes.{EndsAtFault};
 ghost use Rattle.snap_work.specs.Kept.{KeepsLimits};
 ghost use Rattle.snap_work.specs.Works.{work_of};
@@ -18,10 +18,11 @@ use core_events::Event;
 use crew_host::{CrewEnd, MOST_WORKERS, drive_crew};
 use gate_log::{FARTHEST_END, Log};
 use log_opening::{LogsNo, close};
+use machine_text::works_are_texts;
 use run_journals::Stop;
 use run_opening::open_run;
 use snap_core::Core;
-use snap_hand::{Tables, works_are_tables};
+use snap_hand::Tables;
 use snap_outside::{Gate, LogDev, NullSink, Sink};
 use snap_recover::Opening;
 use snap_work::Work;
@@ -114,7 +115,7 @@ fn host_on_logs<D: LogDev, O: Sink>(
     ensures once { EndsAtFault (result.hosted.failed ≡ false) (O.faults out) (O.late out) (O.faults result.out) (O.late result.out) }
     ensures as_many { length result.logs.items ≡ length logs.items }
 {
-    works_are_tables();
+    works_are_texts();
     let Ok(mut core) = Core::open(alloc, Tables { work, opening }) else {
         return OnLogs {
             hosted: Hosted {
@@ -248,7 +249,7 @@ fn crew_on_logs<
     ensures once { EndsAtFault (result.hosted.failed ≡ false) (O.faults out) (O.late out) (O.faults result.out) (O.late result.out) }
     ensures as_many { length result.logs.items ≡ length logs.items }
 {
-    works_are_tables();
+    works_are_texts();
     let Ok(core) = Core::open(alloc, Tables { work, opening }) else {
         return OnLogs {
             hosted: Hosted {

@@ -1,7 +1,6 @@
 -- What the tables are in the words of the machine: their work and opening as its text, with the methods of the program as code.
 use Rattle.aml_slice.specs.Controls.{Rest}
 use Rattle.machine_text.specs.Texts as texts
-pub use Rattle.machine_text.specs.Texts.{MayBegin}
 use Rattle.protocol.specs.Fixed.{Text, Fixed}
 use Rattle.snap_hand.specs.declared.tables.Tables.{Tables}
 use Rattle.snap_work.specs.Works.{work_of}

@@ -7,7 +7,6 @@
 mod beginning;
 mod events;
 mod hand;
-mod laws;
 mod left;
 mod on_actors;
 mod on_logs;
@@ -25,7 +24,6 @@ mod tellings;
 pub use core_rows::StepNo;
 pub use events::{apply, refusal};
 pub use hand::Hand;
-pub use laws::works_are_tables;
 pub use part_laws::{
     places_are_set, places_tell_the_hand, putting_fits, taken_is_put_back, taking_fits,
 };

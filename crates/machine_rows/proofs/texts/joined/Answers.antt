@@ -1,4 +1,5 @@
+use Rattle.snap_work.specs.Works.{work_of}
 use Rattle.machine_rows.proofs.texts.joined.Goals as goal
 
 pub returns : goal.returns
-returns c = c.works_are_tables.ensures _ c.requires.limits c.requires.begins
+returns c = c.works_are_texts.ensures (work_of c.args.work) c.args.opening c.requires.limits c.requires.begins

@@ -16,9 +16,7 @@ use Rattle.snap_hand.specs.declared.tables.Tables.{Tables}
 use Rattle.snap_work.specs.Works.{work_of}
 
 pub open-requires : goal.open-requires
-open-requires g c =
-    let t : Tables = record { work = c.args.work; opening = c.args.opening } in
-    c.works_are_tables.ensures t c.requires.limits c.requires.begins
+open-requires g c = c.works_are_texts.ensures (work_of c.args.work) c.args.opening c.requires.limits c.requires.begins
 
 pub returns-in_default-clause-hosted : goal.returns-in_default-clause-hosted
 returns-in_default-clause-hosted g c =
