@@ -1,3 +1,4 @@
+//! What the end line and the summary count: committed and aborted transactions, and settled batches.
 ghost use Rattle.std.specs.Prelude.{◌≡◌, ◌≤◌, ◌*◌, not, List, length, map};
 ghost use Rattle.core_events.specs.Meant.{event_meant};
 ghost use Rattle.protocol.specs.Events as machine;
@@ -25,7 +26,7 @@ pub(crate) struct Counts {
     pub batches: u32,
 }
 
-/// What a run of these events counts, to which the core has come.
+/// The counts of a run that took these events. The core is in the state to which they lead.
 pub(crate) fn counts_of(core: &Core, kept: &[Event]) -> Counts
     requires { IsAt core.now (map event_meant kept.now) }
     ensures committed { result.committed ≡ (report (map event_meant kept.now) (state_at core.now (map event_meant kept.now))).committed }
@@ -56,7 +57,7 @@ fn a_run_is_short(core: &Core, kept: &[Event])
     every_run_ends(&core.tables().work.program);
 }
 
-/// What one event adds.
+/// What one event adds to the counts.
 fn added_by(core: &Core, e: Event) -> Counts
     ensures added { (es : List machine.Event) → IsAt core.now es → IsAddedBy (state_at core.now es) (event_meant e) result }
     ensures few { (result.committed ≤ 1) × (result.aborted ≤ 1) × (result.batches ≤ 1) }
@@ -76,7 +77,7 @@ fn added_by(core: &Core, e: Event) -> Counts
     }
 }
 
-/// What an answer adds.
+/// What a transaction's answer adds to the counts.
 fn answer_of(verdict: Option<Verdict>) -> Counts
     ensures committed { result.committed ≡ one_if (holds is_committed verdict) }
     ensures aborted { result.aborted ≡ one_if (not (holds is_committed verdict)) }

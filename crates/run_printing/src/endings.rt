@@ -1,3 +1,4 @@
+//! The actors' lines and the end line of a run.
 ghost use Rattle.std.specs.Prelude.{◌≡◌, ◌≤◌, ◌++◌, List, map, IfOk, IsErrOf, OnOk, OnErr, string_bytes};
 ghost use Rattle.std.specs.Io.KnownBytes.{Appends};
 ghost use Rattle.core_events.specs.Meant.{event_meant};
@@ -21,7 +22,9 @@ use snap_outside::Sink;
 use snap_report::{actor_line, end_line};
 use std::alloc::Global;
 
-/// Writes the actors' lines and the end line of a run of these events, to which the core has come.
+/// Writes the actors' lines, in the order of their numbers, and the end line of a run that took these events. The core is in the
+/// state to which they lead. `Fault`: the sink failed, and a front of the text is written. `Memory`: there was no memory for the
+/// text, and the sink got no call. The text is made whole before it is written; the counts take one pass over the events.
 pub fn write_ending<O: Sink>(
     alloc: Global,
     core: &Core,
@@ -41,7 +44,7 @@ pub fn write_ending<O: Sink>(
     write_text(out, text.as_str())
 }
 
-/// These lines.
+/// The actors' lines and the end line.
 fn ending_of(alloc: Global, core: &Core, kept: &[Event]) -> Result<String, Memory>
     requires { IsAt core.now (map event_meant kept.now) }
     ensures { IfOk result (λ s. string_bytes s ≡ ending_text (fixed_of core.now.tables) (map event_meant kept.now)) }
@@ -68,7 +71,8 @@ fn push_actors(alloc: Global, text: &mut String, core: &Core) -> Result<(), Memo
     Ok(())
 }
 
-/// Adds the line of an actor that has this state.
+/// Adds to the text the line of an actor that has this state. The only refusal is want of memory; what the text holds then is not
+/// said.
 pub fn push_actor(
     alloc: Global,
     text: &mut String,

@@ -1,3 +1,4 @@
+//! The summary of a run.
 ghost use Rattle.std.specs.Prelude.{◌≡◌, ◌≤◌, map, IfOk, IsErrOf, OnOk, OnErr, string_bytes};
 ghost use Rattle.std.specs.Io.KnownBytes.{Appends};
 ghost use Rattle.core_events.specs.Meant.{event_meant};
@@ -18,7 +19,9 @@ use snap_outside::Sink;
 use snap_report::{Summary, summary_line};
 use std::alloc::Global;
 
-/// Writes the summary of a run of these events, to which the core has come.
+/// Writes the summary line of a run that took these events. The core is in the state to which they lead. `Fault`: the sink failed,
+/// and a front of the line is written. `Memory`: there was no memory for the line, and the sink got no call. It takes one pass over
+/// the events and one over the actors' fields.
 pub fn write_summary<O: Sink>(
     alloc: Global,
     core: &Core,
@@ -38,7 +41,7 @@ pub fn write_summary<O: Sink>(
     write_text(out, line.as_str())
 }
 
-/// Its line.
+/// The line of the summary.
 fn line_of(alloc: Global, core: &Core, kept: &[Event]) -> Result<String, Memory>
     requires { IsAt core.now (map event_meant kept.now) }
     ensures { IfOk result (λ s. string_bytes s ≡ summing_text (fixed_of core.now.tables) (map event_meant kept.now)) }

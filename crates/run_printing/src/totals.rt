@@ -1,3 +1,4 @@
+//! The sum of all fields of all actors.
 ghost use Rattle.std.specs.Prelude.{◌≡◌, ◌≤◌, ◌*◌, ◌^◌, List, length, map, unsigned_abs};
 ghost use Rattle.protocol.specs.Events as machine;
 ghost use Rattle.run_printing.specs.Summed.{sum_of, total_of};

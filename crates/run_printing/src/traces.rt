@@ -1,3 +1,4 @@
+//! The trace of a run: a line for each of its events.
 ghost use Rattle.std.specs.Prelude.{◌≡◌, ◌≤◌, [], IfOk, IsErrOf, OnOk, OnErr, string_bytes};
 ghost use Rattle.std.specs.Io.KnownBytes.{Appends};
 ghost use Rattle.run_printing.specs.Printed.{AppendsLines, IsCut, traced_line};
@@ -15,7 +16,9 @@ use trace_text::print_event;
 /// How many lines go to the sink at once.
 const LINES: usize = 512;
 
-/// Writes a line for each event. Want of memory ends it between two lines. Where there is no event the sink gets no call.
+/// Writes a line for each event, in their order, 512 lines at a time. `Fault`: the sink failed, and the lines of some events that
+/// come first are written, the last of them maybe cut. `Memory`: there was no memory, and whole lines of some events that come first
+/// are written. Where there is no event the sink gets no call.
 pub fn write_trace<T: Sink>(alloc: Global, kept: &[Event], trace: &mut T) -> Result<(), WriteNo>
     ensures whole { OnOk result (Appends (T.taken trace.old) (T.taken trace.new) (trace_of kept.now)) }
     ensures lines { OnErr result (AppendsLines traced_line (T.taken trace.old) (T.taken trace.new) (T.faults trace.old) (T.faults trace.new) kept.now) }

@@ -1,3 +1,4 @@
+//! The lines that tell, where a log's device failed, that it is not known whether a transaction is committed.
 ghost use Rattle.std.specs.Prelude.{◌≡◌, ◌<◌, ◌≤◌, ◌||◌, ℕ, [], ◌∷◌, false, get_or, length, map, IfOk, IsTrue, IsFalse};
 ghost use Rattle.std.specs.Io.KnownBytes.{Appends};
 ghost use Rattle.core_events.specs.Meant.{event_meant};
@@ -13,8 +14,9 @@ use snap_outside::Sink;
 use snap_report::reply_line;
 use std::alloc::Global;
 
-/// Writes for each transaction, of so many, that the events do not answer that it is not known whether it is committed, as
-/// the device of this log failed. Want of memory ends it between two lines, and a sink that fails where it fails.
+/// Writes a line for each transaction that the events do not answer, of `count` transactions, in the order of their numbers: it is
+/// not known whether it is committed, since the device of this log failed. Nothing is told of a failure here: want of memory ends the
+/// lines between two of them, and a sink that fails cuts them. It takes one pass over the events and one over the transactions.
 pub fn write_unsures<O: Sink>(alloc: Global, out: &mut O, log: u8, count: u32, kept: &[Event])
     ensures lines { AppendsLines (unsure_line log) (O.taken out.old) (O.taken out.new) (O.faults out.old) (O.faults out.new) (unanswered (map event_meant kept.now) count) }
     ensures later { O.faults out.old ≤ O.faults out.new }

@@ -1,3 +1,4 @@
+//! A text written whole, or a front of it.
 ghost use Rattle.std.specs.Prelude.{◌≡◌, ◌≤◌, IsErrOf, IsOkUnless, OnOk, OnErr};
 ghost use Rattle.std.specs.Io.KnownBytes.{Appends};
 ghost use Rattle.run_printing.specs.Printed.{AppendsFront};
@@ -7,12 +8,12 @@ use run_outputs::write_all;
 use snap_base::Memory;
 use snap_outside::Sink;
 
-/// Why something is not written whole.
+/// Why a text is not written whole.
 #[derive(Clone, Copy, Debug, PartialEq, Eq)]
 pub enum WriteNo {
-    /// The sink failed.
+    /// The sink failed: a front of the text is written.
     Fault,
-    /// There was no memory.
+    /// There was no memory for the text, or for the next piece of it.
     Memory,
 }
 
