@@ -1,6 +1,6 @@
 -- Runs one behind the other: each is cut off by a crash; behind that may come calls in which no run began; and the next run begins on
 -- the bytes that were left. Any work may follow that is of as many logs and of the same states.
-use Rattle.std.specs.Prelude.{◌≡◌, ℕ, Bool, Some, List, [], ◌∷◌, ◌++◌, length, map}
+use Rattle.std.specs.Prelude.{◌≡◌, ℕ, Bool, Some, List, [], ◌∷◌, ◌++◌, length, map, ⊤}
 use Rattle.std.specs.List.{flat_map}
 use Rattle.log_opening.specs.Devices.{Device}
 use Rattle.machine_laws.specs.Meant.{meant_run}
@@ -59,12 +59,12 @@ pub record IsBehind (x y : CutOff) : Type 0 where
 
 -- P holds of the first of them, where there is one
 abbrev pub OfNext : (CutOff → Type 0) → List CutOff → Type 0
-OfNext P [] = Unit {0}
+OfNext P [] = ⊤
 OfNext P (y ∷ ys) = P y
 
 -- each is behind the one before it
 abbrev pub EachIsBehind : List CutOff → Type 0
-EachIsBehind [] = Unit {0}
+EachIsBehind [] = ⊤
 EachIsBehind (x ∷ xs) = OfNext (IsBehind x) xs × EachIsBehind xs
 
 -- ---- what it left
@@ -106,7 +106,7 @@ pub record BeganOn {x : CutOff} {crash : Crash x.run.devices x.images} (left : L
 
 -- Each of them is recovered, and the next one began with just that.
 abbrev pub GoOn : List CutOff → Type 0
-GoOn [] = Unit {0}
+GoOn [] = ⊤
 GoOn (x ∷ xs) = ((left : Left x x.crash) × OfNext (BeganOn left) xs) × GoOn xs
 
 -- its run found logs as runs leave them
@@ -126,7 +126,7 @@ added_by [] on = []
 added_by (x ∷ xs) on = on.0.0.committed.0 ++ added_by xs on.1
 
 abbrev pub EachAddsMembers : (xs : List CutOff) → GoOn xs → Type 0
-EachAddsMembers [] on = Unit {0}
+EachAddsMembers [] on = ⊤
 EachAddsMembers (x ∷ xs) on = AddsMembers x x.crash on.0.0.committed.0 × EachAddsMembers xs on.1
 
 -- Recovery gives what was committed before the first of them, and behind that what each of them adds: members, with the values that

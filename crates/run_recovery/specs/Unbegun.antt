@@ -1,6 +1,6 @@
 -- Calls in which no run began: the logs were refused, a device failed, or there was no memory; or the call printed what the logs recover
 -- to. Such calls may stand between runs.
-use Rattle.std.specs.Prelude.{◌≡◌, ℕ, ◌<◌, Some, List, [], ◌∷◌, ◌++◌, length}
+use Rattle.std.specs.Prelude.{◌≡◌, ℕ, ◌<◌, Some, List, [], ◌∷◌, ◌++◌, length, ⊤}
 use Rattle.log_opening.specs.Devices.{Device, device_at}
 use Rattle.run_opening.specs.Begins.{AreOfRuns, Begins}
 use Rattle.run_opening.specs.Opens.{AreSafe}
@@ -26,7 +26,7 @@ pub record IsUnbegun (logs : ℕ) (states : List State) (found left : ℕ → Li
 
 -- one behind the other: each found the bytes that the one before it left, and left these
 abbrev pub AreUnbegun : ℕ → List State → (ℕ → List ℕ) → List (ℕ → List ℕ) → Type 0
-AreUnbegun logs states found [] = Unit {0}
+AreUnbegun logs states found [] = ⊤
 AreUnbegun logs states found (left ∷ more) = IsUnbegun logs states found left × AreUnbegun logs states left more
 
 -- what the last of them left

@@ -1,6 +1,6 @@
 -- Only private contracts cite this; the answers are Runs.antt.
 -- What a host makes of a work, wherever its replies go: on open logs, and on all devices.
-use Rattle.std.specs.Prelude.{◌≡◌, ℕ, ◌<◌, ◌≤◌, ◌⊎◌, Bool, true, false, Option, None, Some, Result, Ok, Err, List, length}
+use Rattle.std.specs.Prelude.{◌≡◌, ℕ, ◌<◌, ◌≤◌, ◌⊎◌, Bool, true, false, Option, None, Some, Result, Ok, Err, List, length, ⊤}
 use Rattle.aml_slice.specs.Controls.{Rest}
 use Rattle.gate_log.specs.State.{LogState}
 use Rattle.log_opening.specs.declared.refusals.LogsNo.{LogsNo}
@@ -89,7 +89,7 @@ PrintsUnlessFailed p failed w o es out = failed ≡ false → Writes out (replie
 abbrev pub StopsSo : Printing → Bool → Stop → Type 0
 StopsSo summing failed by = failed ≡ false
 StopsSo reporting failed stop.Quiet = failed ≡ false
-StopsSo reporting failed (stop.LogFault log) = Unit {0}
+StopsSo reporting failed (stop.LogFault log) = ⊤
 StopsSo reporting failed stop.OutFault = failed ≡ true
 StopsSo reporting failed stop.Memory = failed ≡ false
 
@@ -124,4 +124,4 @@ HasHosted p w schedule before after replies (Err why) = IsUnbegun w before after
 -- its output has not failed at the line of a reply
 abbrev pub HasStood : Result Hosted LogsNo → Type 0
 HasStood (Ok h) = h.failed ≡ false
-HasStood (Err why) = Unit {0}
+HasStood (Err why) = ⊤

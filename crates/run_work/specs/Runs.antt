@@ -1,5 +1,5 @@
 -- What a run of a work prints, and the answers of the commands that run one.
-use Rattle.std.specs.Prelude.{◌≡◌, ◌≢◌, ℕ, ◌<◌, ◌⊎◌, Bool, true, List, [], ◌++◌, length, Contains}
+use Rattle.std.specs.Prelude.{◌≡◌, ◌≢◌, ℕ, ◌<◌, ◌⊎◌, Bool, true, List, [], ◌++◌, length, Contains, ⊤}
 use Rattle.aml_slice.specs.Controls.{Rest}
 use Rattle.core_events.specs.declared.events.Event.{Event}
 use Rattle.log_opening.specs.declared.refusals.LogsNo.{LogsNo}
@@ -156,10 +156,10 @@ abbrev pub IsOfLogs : Status → Type 0
 IsOfLogs status.Done = ⊥
 IsOfLogs (status.Usage place) = ⊥
 IsOfLogs (status.Input line cause) = ⊥
-IsOfLogs (status.Logs log offset cause) = Unit {0}
+IsOfLogs (status.Logs log offset cause) = ⊤
 IsOfLogs status.Memory = ⊥
 IsOfLogs status.ReadFault = ⊥
-IsOfLogs (status.LogFault log) = Unit {0}
+IsOfLogs (status.LogFault log) = ⊤
 IsOfLogs status.OutFault = ⊥
 IsOfLogs status.TraceFault = ⊥
 
