@@ -1,6 +1,7 @@
 use Rattle.std.proofs.Common.{arith, map}
 use Rattle.aml_check.specs.Checked.{methods_of}
-use Rattle.run_recovery.proofs.SeveralRuns.{AreRecovered, all_of_them, go_on_behind, one_more}
+use Rattle.machine_recovery.proofs.Programs.{all_of_them, one_more}
+use Rattle.run_recovery.proofs.SeveralRuns.{AreRecovered, go_on_behind}
 use Rattle.run_recovery.proofs.laws.runs_go_on_behind_each_other.Goals as goal
 
 pub returns : goal.returns
