@@ -54,7 +54,7 @@ module _ {P : Type 0} where
   replaced xs (i ∷ is) [] = xs
   replaced xs (i ∷ is) (p ∷ ps) = replaced (slice_set xs i p) is ps
 
-  -- the same of what is held
+  -- what is held, with these values at the numbers
   abbrev pub held_after : List (Option P) → List ℕ → List P → List (Option P)
   held_after hs [] ps = hs
   held_after hs (i ∷ is) [] = hs

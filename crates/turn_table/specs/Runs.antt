@@ -24,7 +24,7 @@ module _ {E : Type 0} (footprint : E → List ℕ) where
   abbrev pub Leaves : ℕ → E → Type 0
   Leaves i e = IsNoneOf i (footprint e)
 
-  -- so do all of them
+  -- none of these events has part i in its footprint
   abbrev pub AllLeave : ℕ → List E → Type 0
   AllLeave i [] = ⊤
   AllLeave i (e ∷ es) = Leaves i e × AllLeave i es
@@ -33,7 +33,7 @@ module _ {E : Type 0} (footprint : E → List ℕ) where
   abbrev pub GoesOnWithout : ℕ → List E → List E → Type 0
   GoesOnWithout i history later = (more : List E) × (later ≡ history ++ more) × AllLeave i more
 
-  -- so do, of these entries, all with a number from n on
+  -- of these entries none with a number from n on has part i in its footprint
   abbrev pub AllLeaveFrom : ℕ → ℕ → List (ℕ × E) → Type 0
   AllLeaveFrom i n [] = ⊤
   AllLeaveFrom i n (e ∷ es) = (n ≤ e.0 → Leaves i e.1) × AllLeaveFrom i n es

@@ -1,3 +1,4 @@
+//! A held turn: the number of its part, with the value or without it.
 /// A turn that a pass holds: the number of its part, and the part's value.
 #[derive(Drop)]
 pub struct Held<P> {

@@ -1,8 +1,9 @@
-/// How many parts a table may have.
+//! How many parts, passes and events a table may have.
+/// The most parts that a table may have. It has at least one.
 pub const MOST_PARTS: usize = 264;
 
-/// How many passes a table may have.
+/// The most passes that a table may have, the first one among them.
 pub const PASSES: u64 = 16;
 
-/// How many events a pass may record.
+/// The most events that a pass may record.
 pub const MOST_ENTRIES: u64 = 4_294_967_296;

@@ -1,3 +1,4 @@
+//! What a worker has of a table: a pass.
 ghost use Rattle.std.specs.Prelude.{◌≡◌, ◌≤◌, [], vec_len};
 ghost use Rattle.turn_table.specs.Places.{Ascending};
 ghost use Rattle.turn_table.specs.declared.limits.TheConstants.{MOST_ENTRIES};
@@ -6,8 +7,8 @@ use crate::pieces::Piece;
 use crate::views::View;
 use atomic_table::Seat;
 
-/// The right to take turns and to record events, with the events that were recorded by it.
-/// Contracts see what it knows: the parts that it holds, with their values, and its entries.
+/// The right to take turns and to record events, with the events that were recorded by it, at most `MOST_ENTRIES`, in the order
+/// of their numbers. Contracts see what it knows: the parts that it holds, with their values, and its entries.
 #[derive(Drop)]
 pub struct Pass<P: Piece> {
     pub(crate) seat: Seat<Option<P>, View<P, P::Event>>,

@@ -1,3 +1,4 @@
+//! What a table asks of its parts and of their events.
 ghost use Rattle.std.specs.Prelude.{ℕ, List};
 
 /// A part of what the workers share, as one turn guards it.
@@ -5,6 +6,7 @@ pub trait Piece: Drop {
     /// The fixed data that events are read with.
     type Tables;
 
+    /// What a worker does to the parts of one footprint at once.
     type Event: Copy;
 
     // The numbers of the parts that an event touches.

@@ -14,6 +14,7 @@ pub struct Start<P, T> {
     pub parts: Snapshot<Vec<P>>,
 }
 
+/// The rule that holds of a table's words, slots and views between any two steps. It is a type alone: no value of it is made.
 pub struct Law<P> {
     part: PhantomData<P>,
 }
@@ -27,7 +28,8 @@ impl<P: Piece> TableRule<Option<P>, View<P, P::Event>, Start<P, P::Tables>> for 
     ghost first = { λ key. whole };
 }
 
-/// What a step cannot see for itself: it knows neither the table's data nor the event.
+/// What a caller tells a step that the step cannot see for itself, since it knows neither the table's data nor the event: what
+/// holds of the view behind the step, and what a record makes of it.
 pub trait Told<P, E> {
     ghost use Rattle.turn_table.specs.declared.views.View.{View};
 
@@ -43,6 +45,8 @@ impl<P, E> Told<P, E> for Brand {
     ghost after = { λ v n. v };
 }
 
+/// The step that takes a turn: the turn's word goes from 0 to 1, where it was 0. The view then holds the part, with the value
+/// in its slot; or it has one refusal more. What is told of the view holds of it where it got the turn.
 pub struct Take<W> {
     told: PhantomData<W>,
 }
@@ -53,6 +57,7 @@ impl<P, E, W: Told<P, E>> Play<Option<P>, View<P, E>> for Take<W> {
     ghost then = { took W.facts };
 }
 
+/// The step by which the slot that the view has out counts as back in its place. It reads the turn's word and changes nothing else.
 pub struct LayDown;
 
 impl<P, E> Play<Option<P>, View<P, E>> for LayDown {
@@ -61,6 +66,8 @@ impl<P, E> Play<Option<P>, View<P, E>> for LayDown {
     ghost then = { laid_down };
 }
 
+/// The step that records an event: the count goes up by 1, and the number found is the event's. What is told says how the view is
+/// then.
 pub struct Record<W> {
     told: PhantomData<W>,
 }
@@ -71,6 +78,7 @@ impl<P, E, W: Told<P, E>> Play<Option<P>, View<P, E>> for Record<W> {
     ghost then = { recorded W.facts W.after };
 }
 
+/// The step by which the view has the slot of a part that it holds out. It reads the turn's word and changes nothing else.
 pub struct PickUp;
 
 impl<P, E> Play<Option<P>, View<P, E>> for PickUp {
@@ -79,6 +87,7 @@ impl<P, E> Play<Option<P>, View<P, E>> for PickUp {
     ghost then = { picked_up };
 }
 
+/// The step that gives a turn back: its word goes to 0, and the view holds the part no more.
 pub struct GiveBack;
 
 impl<P, E> Play<Option<P>, View<P, E>> for GiveBack {
@@ -87,6 +96,8 @@ impl<P, E> Play<Option<P>, View<P, E>> for GiveBack {
     ghost then = { gave };
 }
 
+/// How views are split and joined. A view that is cut off has weight 1 and no splits; of two that are joined the one has what
+/// both had, and the other nothing.
 pub struct Shares;
 
 impl<P, E> Split<View<P, E>> for Shares {

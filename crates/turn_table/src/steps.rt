@@ -16,11 +16,12 @@ use crate::views::View;
 use atomic_table::Seat;
 use std::marker::Brand;
 
-/// There is no room for one more event.
+/// Why there is no room for one more event. Nothing has changed.
 #[derive(Clone, Copy, Debug, PartialEq, Eq)]
 pub enum RoomNo {
     /// The pass has as many events as a pass may record.
     Full { entries: u64 },
+    /// There was no memory.
     Memory,
 }
 
@@ -39,7 +40,7 @@ impl<P: Piece> Turns<P> {
         self.parts
     }
 
-    /// Cuts a new pass off, for another worker. It holds nothing and cannot be split.
+    /// Cuts a new pass off this one, which may be split once less then. The new one holds nothing, has no entry and cannot be split.
     pub fn split(&self, pass: &mut Pass<P>) -> Pass<P>
         requires own { IsOf self.now pass.old.seat }
         requires left { 0 < (knows pass.old.seat).splits }
@@ -55,7 +56,8 @@ impl<P: Piece> Turns<P> {
         }
     }
 
-    /// One try to get a turn. `None` says that it was held at the step of this call.
+    /// One try to get the turn of this part, with the part's value. `None` says that the turn was held at the step of this call;
+    /// the pass then holds what it held before.
     pub fn take(&self, pass: &mut Pass<P>, part: usize) -> Option<Held<P>>
         requires own { IsOf self.now pass.old.seat }
         requires part { part < self.now.parts }
@@ -94,7 +96,8 @@ impl<P: Piece> Turns<P> {
         value
     }
 
-    /// Makes room for one more event of this pass, and leaves all else as it is.
+    /// Makes room for one more event of this pass, and leaves all else as it is. `Full` comes only where the pass has recorded
+    /// `MOST_ENTRIES` events, and `Memory` where there is no memory.
     pub fn room(&self, pass: &mut Pass<P>) -> Result<(), RoomNo>
         ensures ok { OnOk result ((vec_len pass.new.entries < vec_capacity pass.new.entries) × (vec_len pass.new.entries < MOST_ENTRIES)) }
         ensures full { (n : ℕ) → (result ≡ Err (RoomNo.Full n)) ↔ ((n ≡ vec_len pass.old.entries) × (n ≡ MOST_ENTRIES)) }
@@ -110,7 +113,8 @@ impl<P: Piece> Turns<P> {
         Ok(())
     }
 
-    /// Records an event whose parts this pass holds, with the values that it made of them. Gives its number.
+    /// Records an event whose parts this pass holds, with the values that it made of them. Gives its number among the events of
+    /// all passes, from 0 on.
     pub fn record<M: Makes<P, P::Event>>(
         &self,
         pass: &mut Pass<P>,
@@ -153,7 +157,7 @@ impl<P: Piece> Turns<P> {
         self.table.shared.fetch_add::<Record<W>>(seat, 0, 1)
     }
 
-    /// Gives a turn back, with the value that the events of this pass made of the part.
+    /// Gives a turn back, with the value that the events of this pass made of the part. The pass holds it no more.
     pub fn give(&self, pass: &mut Pass<P>, held: Held<P>)
         requires own { IsOf self.now pass.old.seat }
         requires part { part_of held < self.now.parts }
@@ -166,7 +170,8 @@ impl<P: Piece> Turns<P> {
         self.give_part(pass, part, value);
     }
 
-    /// The same by the part's number.
+    /// Gives the turn of the part with this number back, with the value that the events of this pass made of the part. The pass
+    /// holds it no more.
     pub fn give_part(&self, pass: &mut Pass<P>, part: usize, value: P)
         requires own { IsOf self.now pass.old.seat }
         requires part { part < self.now.parts }

@@ -1,3 +1,4 @@
+//! The table that workers share.
 ghost use Rattle.std.specs.Prelude.{◌≡◌, ◌+◌, ◌<◌, ◌≤◌, [], length, vec_len, IfOk, IfErr};
 ghost use Rattle.turn_table.specs.declared.limits.TheConstants.{MOST_PARTS};
 
@@ -7,7 +8,8 @@ use crate::views::View;
 use atomic_table::Table;
 use std::alloc::Global;
 
-/// Parts that several workers share, each under a turn, and the count of the events that they recorded.
+/// Parts that several workers share, 1 to `MOST_PARTS`, numbered from 0, each under a turn; and the count of the events that
+/// they recorded.
 #[derive(Drop)]
 pub struct Turns<P: Piece> {
     pub(crate) tables: P::Tables,
