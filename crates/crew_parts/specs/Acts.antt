@@ -108,7 +108,7 @@ pub record Goes (w : Fixed Rest) (s : Machine Rest) (done : Bool) (e : Event) (i
   pub journal : (l : ℕ) → l < w.text.logs → i ≡ log l → JournalGoes l done e s old.beside.journal new.beside.journal
   pub output : i ≡ desk → OutputGoes done e s old.beside.output new.beside.output
 
--- the same of the parts with these numbers
+-- the event makes the second shares of the first, which are the parts with these numbers
 abbrev pub EachGoes : Fixed Rest → Machine Rest → Bool → Event → List ℕ → List ShareState → List ShareState → Type 0
 EachGoes w s done e [] olds news = (olds ≡ []) × (news ≡ [])
 EachGoes w s done e (i ∷ is) [] news = ⊥

@@ -50,6 +50,7 @@ pub record IsMomentOf (w : Fixed Rest) (acts all : List Act) (begun : ℕ → Bo
   pub so_far : moment.events ≡ kept acts
   pub under_way : moment.has_begun ≡ begun
 
--- the same of what the workers have recorded at two steps of their table
+-- A moment of the run that the workers have recorded at the second step, behind what they have recorded at the first, with one more
+-- append begun on the logs of `begun`.
 abbrev pub FindsMoment : (t : Tables) (start : List ShareState) (s u : CrewTable) → Kept (touched t) (MayDo t) start s → Kept (touched t) (MayDo t) start u → (ℕ → Bool) → Type 0
 FindsMoment t start s u now end begun = IsMomentOf (fixed_of t) now.history end.history begun

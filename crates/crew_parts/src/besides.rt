@@ -90,7 +90,8 @@ impl<D: LogDev, O: Sink> Beside<D, O> {
         }
     }
 
-    /// The journal and the output, where they are here.
+    /// Takes it apart, into the journal and the output, each of which is `None` where it is not here. Whether the output failed
+    /// is not told.
     pub fn open(self) -> (Option<Log<D>>, Option<O>)
         ensures journal { result.0 ≡ self.journal }
     {
@@ -147,7 +148,8 @@ impl<D: LogDev, O: Sink> Beside<D, O> {
         self.journal.is_some() && !self.cut
     }
 
-    /// Appends the pieces to the journal, as one group.
+    /// Appends the pieces, in their order, to the journal, as one group. `Memory` leaves all as it was. `Device` shuts the journal,
+    /// whose device then has a front of the group's operations. `Shut` does not come, since the journal takes appends.
     pub fn append(&mut self, alloc: Global, pieces: &[Sequence<u8>]) -> Result<(), AppendNo>
         requires { MayAppendTo self.old pieces.now }
         ensures { HasAppended self.old self.new pieces.now result }
@@ -162,7 +164,8 @@ impl<D: LogDev, O: Sink> Beside<D, O> {
         result
     }
 
-    /// Writes a line to the output, which has not failed. Where it fails, it took a front of the line.
+    /// Writes a line to the output, which has not failed yet. Where the output fails at it, it took a front of the line, and has
+    /// failed from then on.
     pub fn write(&mut self, line: &[u8]) -> Result<(), Failed>
         requires { MayWriteTo self.old }
         ensures { HasWritten self.old self.new line.now result }

@@ -100,7 +100,8 @@ pub fn runs_lead(tables: &Tables)
     texts_have_the_facts(&tables.work.program);
 }
 
-/// What a pass knows of the shares that it holds: some run from the beginning has come to them. So it is of who holds nothing.
+/// Some run from the beginning has come to the shares that a pass holds, by what the pass knows of them; and some run has come to
+/// none at all, which is what a pass holds that holds nothing.
 pub fn passes_stand(tables: &Tables)
     requires { AreTables tables.now }
     ensures knows { (start : List ShareState) (held : List (Option ShareState)) (entries : List (ℕ × Act)) → Begins (fixed_of tables.now) start → Fits (touched tables.now) (MayDo tables.now) start held entries → Stands (fixed_of tables.now) start held }
@@ -110,7 +111,7 @@ pub fn passes_stand(tables: &Tables)
     runs_lead(tables);
 }
 
-/// No pass is ever full.
+/// No pass is ever full: it has fewer than `MOST_ENTRIES` entries, since acts are few.
 pub fn passes_have_room(tables: &Tables)
     requires { AreTables tables.now }
     ensures { (start : List ShareState) (held : List (Option ShareState)) (entries : List (ℕ × Act)) → Begins (fixed_of tables.now) start → Fits (touched tables.now) (MayDo tables.now) start held entries → Ascending entries → length entries < MOST_ENTRIES }

@@ -31,21 +31,21 @@ impl<D: LogDev + Drop, O: Sink + Drop> Drop for Share<D, O> {
 }
 
 impl<D: LogDev, O: Sink> Share<D, O> {
-    /// The part with this beside it.
+    /// A share of this part, with this beside it.
     pub fn new(part: Part, beside: Beside<D, O>) -> Self
         ensures { result ≡ share_of (shown part) beside }
     {
         Share { part, beside }
     }
 
-    /// What stands beside the part.
+    /// What stands beside the part: a log's journal, the desk's output, or nothing.
     pub fn beside(&self) -> &Beside<D, O>
         ensures { result.now ≡ self.now.beside }
     {
         &self.beside
     }
 
-    /// The part, and what stands beside it.
+    /// Takes the share apart, into the part and what stands beside it. `Share::new` puts these together again.
     pub fn open(self) -> (Part, Beside<D, O>)
         ensures { self ≡ share_of (shown result.0) result.1 }
     {
