@@ -36,7 +36,7 @@ impl<D: LogDev + Drop, O: Sink + Drop> Makes<Share<D, O>, Act> for Grip<D, O> {
 }
 
 impl<D: LogDev + Drop, O: Sink + Drop> Grip<D, O> {
-    /// The events that may be taken with what is held, in the order in which a host takes them.
+    /// The events that may be taken with what is held, in the order in which a host takes them. `Memory` where the list got none.
     pub fn offers(&self, alloc: Global, turns: &Turns<Share<D, O>>) -> Result<ReadyList, Memory>
         requires crew { IsCrew turns.now }
         requires held { IsHeldNow turns.now self.now }
@@ -116,7 +116,8 @@ impl<D: LogDev + Drop, O: Sink + Drop> Grip<D, O> {
     }
 
     /// Does the event, where it is allowed on the parts of its footprint, and records it. No other part is held. A Run passes
-    /// the gate first. `Unready` and `NotNow` only where that is so.
+    /// the gate first. `Done` and `Broken` tell the number under which the act stands in the history; with all others nothing is
+    /// recorded, and the parts are as they were. `Unready` and `NotNow` come only where that is so.
     pub fn act<G: Gate>(
         &mut self,
         alloc: Global,
@@ -148,7 +149,7 @@ impl<D: LogDev + Drop, O: Sink + Drop> Grip<D, O> {
         self.act_allowed(alloc, turns, pass, gate, e)
     }
 
-    /// The same of an event that is allowed, where its parts can go on.
+    /// Does the event, which is allowed, and whose parts are held and can go on, and records it. A Run passes the gate first.
     fn act_allowed<G: Gate>(
         &mut self,
         alloc: Global,

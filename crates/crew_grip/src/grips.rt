@@ -1,3 +1,4 @@
+//! The value that is what a worker holds, and how a part is laid into it and taken out.
 ghost use Rattle.std.specs.Prelude.{◌≡◌, ◌+◌, ◌<◌, None, Some, Option, List, IfOk, is_some, length, replicate, slice_set};
 ghost use Rattle.crew_grip.specs.Grips.{IsGripOf, part_count, share_at};
 ghost use Rattle.crew_parts.specs.Shares.{ShareState};
@@ -49,7 +50,7 @@ fn empty_places<T: Drop>(alloc: Global, count: usize) -> Result<Vec<Option<T>>, 
 }
 
 impl<D: LogDev + Drop, O: Sink + Drop> Grip<D, O> {
-    /// A grip with places for the parts of a text, that holds none.
+    /// A grip with places for all parts of a text, that holds none. `Memory` where there is none for the places.
     pub fn new(alloc: Global, tables: &Tables) -> Result<Self, Memory>
         requires { AreTables tables.now }
         ensures { IfOk result (λ g. (held : List (Option ShareState)) → IsIdle held → IsGripOf (fixed_of tables.now) held g) }
@@ -66,7 +67,7 @@ impl<D: LogDev + Drop, O: Sink + Drop> Grip<D, O> {
         &self.hand
     }
 
-    /// Whether the part of this number is held.
+    /// Whether the part of this number is held. False where the text has no such part.
     pub fn holds(&self, part: usize) -> bool
         ensures { result ≡ is_some (at self.now.besides part) }
     {

@@ -15,7 +15,7 @@ use snap_outside::{LogDev, Sink};
 use turn_table::{Pass, Turns};
 
 impl<D: LogDev + Drop, O: Sink + Drop> Grip<D, O> {
-    /// One try to take this part, where it is not held yet. Whether it is held now.
+    /// One try to take this part, where it is not held yet. Whether it is held now: not, where another pass held its turn at the try.
     pub fn take(
         &mut self,
         turns: &Turns<Share<D, O>>,
@@ -45,7 +45,8 @@ impl<D: LogDev + Drop, O: Sink + Drop> Grip<D, O> {
         true
     }
 
-    /// Takes the parts of a footprint that are not held yet, one after the other, by one try each. Whether all of them are held.
+    /// Takes the parts of a footprint that are not held yet, one after the other, by one try each, up to the first that another pass
+    /// holds. Whether all of them are held now. What was taken stays held.
     pub fn take_parts(
         &mut self,
         turns: &Turns<Share<D, O>>,
@@ -68,7 +69,7 @@ impl<D: LogDev + Drop, O: Sink + Drop> Grip<D, O> {
         true
     }
 
-    /// Gives this part back, where it is held.
+    /// Gives this part back, where it is held; else nothing changes.
     pub fn give(&mut self, turns: &Turns<Share<D, O>>, pass: &mut Pass<Share<D, O>>, part: usize)
         requires crew { IsCrew turns.now }
         requires work { IsAtWork turns.now pass.old.seat self.old }

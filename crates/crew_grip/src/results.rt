@@ -1,3 +1,4 @@
+//! What became of an event on what is held.
 /// What became of an event that a worker looked at.
 #[derive(Clone, Copy, Debug, PartialEq, Eq)]
 pub enum Acted {
