@@ -1,29 +1,14 @@
--- Lists by number: what stands there after one was put, after an event, and in lists that are set.
+-- Lists by number: what stands there after an event, and in lists that are set.
 use Rattle.std.proofs.Common.{◌≡◌, ◌≢◌, ℕ, zero, suc, ◌<◌, ◌==◌, ◌||◌, Bool, true, false, inl, inr, List, [], ◌∷◌, length, map, replicate, get_or, nat_lt, slice_get, slice_set, Option, None, Some, IsSome, is_some, option_map, ap, sym, subst, refl, ◌∙◌, arith}
 use Rattle.std.specs.Option.{option_flatten}
 use Rattle.std.proofs.lemmas.Bool.{true≢false, or_parts, ltb-false, ltb-true}
 use Rattle.std.proofs.lemmas.Bool.Decides.{eqb_tells}
 use Rattle.std.proofs.lemmas.Option.{slice_get_past, slice_get_read}
+use Rattle.turn_table.proofs.ByPlace.{put_here, put_else, some_of}
 use Rattle.turn_table.specs.Places.{at, put_at, Covers, before, values, held_after}
 use Rattle.protocol.specs.Words.{is_among}
 
 module _ {P : Type 0} where
-  pub put_here : (hs : List (Option P)) (i : ℕ) (x : Option P) → at (put_at hs i x) i ≡ x
-  put_here [] zero x = refl
-  put_here [] (suc i) x = put_here [] i x
-  put_here (h ∷ hs) zero x = refl
-  put_here (h ∷ hs) (suc i) x = put_here hs i x
-
-  pub put_else : (hs : List (Option P)) (i j : ℕ) (x : Option P) → i ≢ j → at (put_at hs i x) j ≡ at hs j
-  put_else [] zero zero x n = absurd (n refl)
-  put_else [] zero (suc j) x n = refl
-  put_else [] (suc i) zero x n = refl
-  put_else [] (suc i) (suc j) x n = put_else [] i j x (λ e. n (ap suc e))
-  put_else (h ∷ hs) zero zero x n = absurd (n refl)
-  put_else (h ∷ hs) zero (suc j) x n = refl
-  put_else (h ∷ hs) (suc i) zero x n = refl
-  put_else (h ∷ hs) (suc i) (suc j) x n = put_else hs i j x (λ e. n (ap suc e))
-
   pub set_here : (hs : List (Option P)) (i : ℕ) (x : Option P) → i < length hs → at (slice_set hs i x) i ≡ x
   set_here [] i x h = absurd (omega (arith, h))
   set_here (y ∷ hs) zero x h = refl
@@ -59,10 +44,6 @@ module _ {P : Type 0} where
   at_within (h ∷ hs) zero x e = omega arith
   at_within (h ∷ hs) (suc i) x e = let l = at_within hs i x e in omega (arith, l)
 
-  pub some_of : (o : Option P) → IsSome o → (x : P) × (o ≡ Some x)
-  some_of None h = absurd (true≢false (sym h))
-  some_of (Some x) h = (x, refl)
-
   pub none_of : (o : Option P) → is_some o ≡ false → o ≡ None
   none_of None h = refl
   none_of (Some x) h = absurd (true≢false h)
@@ -85,7 +66,7 @@ module _ {P : Type 0} where
   after_else hs (j ∷ js) [] i n = refl
   after_else hs (j ∷ js) (p ∷ ps) i n =
       let parts = or_parts (j == i) (is_among i js) n in
-      after_else (put_at hs j (Some p)) js ps i parts.1 ∙ put_else hs j i (Some p) (elim (eqb_tells j i) [ inl h ↦ absurd (true≢false (sym h.0 ∙ parts.0)) | inr h ↦ h.1 ])
+      after_else (put_at hs j (Some p)) js ps i parts.1 ∙ put_else hs j i (Some p) (elim (eqb_tells j i) [ inl h ↦ absurd (true≢false (sym h.0 ∙ parts.0)) | inr h ↦ λ e. h.1 (sym e) ])
 
   put_then : (hs : List (Option P)) (f : ℕ → Option P) (j : ℕ) (js : List ℕ) (i : ℕ) (x : P) (b : Bool) → is_among i js ≡ b → is_among i (j ∷ js) ≡ true → f j ≡ Some x
       → ((gs : List (Option P)) → is_among i js ≡ true → at (held_after gs js (values f js)) i ≡ f i)

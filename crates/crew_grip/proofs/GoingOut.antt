@@ -51,7 +51,8 @@ use Rattle.txn_records.specs.declared.records.Record.{Record}
 use Rattle.crew_grip.specs.Acted.{AreSound, BesideGoes, HasGoneOut, IsJust, IsOuter, why_of}
 use Rattle.crew_grip.specs.Grips.{GripState, IsGripOf, beside_in}
 use Rattle.crew_grip.specs.declared.results.NotDone.TheVariants as undone
-use Rattle.crew_grip.proofs.ByNumber.{some_of, set_here, set_else, at_within}
+use Rattle.crew_grip.proofs.ByNumber.{set_here, set_else, at_within}
+use Rattle.turn_table.proofs.ByPlace.{some_of}
 use Rattle.crew_grip.proofs.HandsHold.{stands_fit}
 
 some_same : {X : Type 0} (x y : X) → Some x ≡ Some y → x ≡ y

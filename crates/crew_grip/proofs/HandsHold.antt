@@ -16,7 +16,8 @@ use Rattle.snap_hand.specs.Shown.{Shown, TheRing, TheBook, ThePost, TheDesk, The
 use Rattle.snap_hand.specs.Steps.{OnSomeRun}
 use Rattle.turn_table.specs.Places.{at, Covers}
 use Rattle.crew_grip.specs.Grips.{GripState, IsGripOf, part_count, part_in}
-use Rattle.crew_grip.proofs.ByNumber.{flat_at, map_there, some_of}
+use Rattle.crew_grip.proofs.ByNumber.{flat_at, map_there}
+use Rattle.turn_table.proofs.ByPlace.{some_of}
 
 pub part_is : (h : Parts) (i : ℕ) → part_at h i ≡ at (places h) i
 part_is h i = flat_at (places h) i

@@ -15,7 +15,8 @@ use Rattle.std.proofs.lemmas.Bool.Decides.{eqb_tells}
 use Rattle.turn_table.specs.Places.{at, Covers, before, held_after, values}
 use Rattle.crew_grip.specs.Acted.{HasActed, IsJust}
 use Rattle.crew_grip.specs.Grips.{GripState, IsGripOf, beside_in, joined, part_in, share_at}
-use Rattle.crew_grip.proofs.ByNumber.{some_of, none_of, covered, after_else, after_here, same_there}
+use Rattle.crew_grip.proofs.ByNumber.{none_of, covered, after_else, after_here, same_there}
+use Rattle.turn_table.proofs.ByPlace.{some_of}
 use Rattle.crew_grip.proofs.HandsHold.{part_is, hand_fits, held_part}
 
 module _ (w : Fixed Rest) (s : Machine Rest) where

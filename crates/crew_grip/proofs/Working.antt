@@ -23,7 +23,8 @@ use Rattle.turn_table.specs.Views.{lost}
 use Rattle.turn_table.specs.declared.limits.TheConstants.{MOST_ENTRIES}
 use Rattle.turn_table.specs.declared.views.View.{View}
 use Rattle.crew_grip.specs.Grips.{GripState, IsGripOf, beside_in, joined, part_count, part_in, share_at}
-use Rattle.crew_grip.proofs.ByNumber.{put_here, put_else, set_here, set_else, set_none}
+use Rattle.crew_grip.proofs.ByNumber.{set_here, set_else, set_none}
+use Rattle.turn_table.proofs.ByPlace.{put_here, put_else}
 use Rattle.crew_grip.proofs.HandsHold.{part_is, places_many}
 
 module _ (w : Fixed Rest) (held : List (Option ShareState)) (g : GripState) (grip : IsGripOf w held g) (i : ℕ) where
@@ -36,12 +37,12 @@ module _ (w : Fixed Rest) (held : List (Option ShareState)) (g : GripState) (gri
     parts = λ j. part_is hand j ∙ (ap (λ ps. at ps j) put ∙ elim (eqb_tells i j) [
       | inl h ↦ subst (λ k. at (slice_set (places g.hand) i (Some x.part)) k ≡ part_in (at (put_at held i (Some x)) k)) h.1
           (set_here (places g.hand) i (Some x.part) (omega (arith, within, places_many w g.hand grip.places)) ∙ sym (ap part_in (put_here held i (Some x))))
-      | inr h ↦ set_else (places g.hand) i j (Some x.part) h.1 ∙ (sym (part_is g.hand j) ∙ (grip.parts j ∙ sym (ap part_in (put_else held i j (Some x) h.1))))
+      | inr h ↦ set_else (places g.hand) i j (Some x.part) h.1 ∙ (sym (part_is g.hand j) ∙ (grip.parts j ∙ sym (ap part_in (put_else held i j (Some x) (λ e. h.1 (sym e))))))
     ]);
     besides = λ j. elim (eqb_tells i j) [
       | inl h ↦ subst (λ k. at (slice_set g.besides i (Some x.beside)) k ≡ beside_in (at (put_at held i (Some x)) k)) h.1
           (set_here g.besides i (Some x.beside) (omega (arith, within, grip.many)) ∙ sym (ap beside_in (put_here held i (Some x))))
-      | inr h ↦ set_else g.besides i j (Some x.beside) h.1 ∙ (grip.besides j ∙ sym (ap beside_in (put_else held i j (Some x) h.1)))
+      | inr h ↦ set_else g.besides i j (Some x.beside) h.1 ∙ (grip.besides j ∙ sym (ap beside_in (put_else held i j (Some x) (λ e. h.1 (sym e)))))
     ];
   }
 
@@ -54,12 +55,12 @@ module _ (w : Fixed Rest) (held : List (Option ShareState)) (g : GripState) (gri
     parts = λ j. part_is hand j ∙ (ap (λ ps. at ps j) put ∙ elim (eqb_tells i j) [
       | inl h ↦ subst (λ k. at (slice_set (places g.hand) i None) k ≡ part_in (at (put_at held i None) k)) h.1
           (set_none (places g.hand) i ∙ sym (ap part_in (put_here held i None)))
-      | inr h ↦ set_else (places g.hand) i j None h.1 ∙ (sym (part_is g.hand j) ∙ (grip.parts j ∙ sym (ap part_in (put_else held i j None h.1))))
+      | inr h ↦ set_else (places g.hand) i j None h.1 ∙ (sym (part_is g.hand j) ∙ (grip.parts j ∙ sym (ap part_in (put_else held i j None (λ e. h.1 (sym e))))))
     ]);
     besides = λ j. elim (eqb_tells i j) [
       | inl h ↦ subst (λ k. at (slice_set g.besides i None) k ≡ beside_in (at (put_at held i None) k)) h.1
           (set_none g.besides i ∙ sym (ap beside_in (put_here held i None)))
-      | inr h ↦ set_else g.besides i j None h.1 ∙ (grip.besides j ∙ sym (ap beside_in (put_else held i j None h.1)))
+      | inr h ↦ set_else g.besides i j None h.1 ∙ (grip.besides j ∙ sym (ap beside_in (put_else held i j None (λ e. h.1 (sym e)))))
     ];
   }
 
@@ -93,7 +94,7 @@ still_stands w start held new st fewer = record { events = st.events; now = st.n
 pub fewer : (held : List (Option ShareState)) (i j : ℕ) (x : ShareState) → at (put_at held i None) j ≡ Some x → at held j ≡ Some x
 fewer held i j x e = elim (eqb_tells i j) [
   | inl h ↦ absurd (none_some x (sym (subst (λ k. at (put_at held i None) k ≡ None) h.1 (put_here held i None)) ∙ e))
-  | inr h ↦ sym (put_else held i j None h.1) ∙ e
+  | inr h ↦ sym (put_else held i j None (λ e. h.1 (sym e))) ∙ e
 ] where
   none_some : (x : ShareState) → None ≡ Some x → ⊥
   none_some x q = cc q
@@ -101,7 +102,7 @@ fewer held i j x e = elim (eqb_tells i j) [
 pub stays_none : (held : List (Option ShareState)) (i j : ℕ) → at held j ≡ None → at (put_at held i None) j ≡ None
 stays_none held i j e = elim (eqb_tells i j) [
   | inl h ↦ subst (λ k. at (put_at held i None) k ≡ None) h.1 (put_here held i None)
-  | inr h ↦ put_else held i j None h.1 ∙ e
+  | inr h ↦ put_else held i j None (λ e. h.1 (sym e)) ∙ e
 ]
 
 -- no part has a number past all parts

@@ -1,4 +1,4 @@
-mod ByPlace
+pub mod ByPlace
 mod Sums
 mod Histories
 mod Apart

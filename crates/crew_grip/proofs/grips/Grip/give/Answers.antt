@@ -3,7 +3,8 @@ use Rattle.crew_parts.specs.Shares.{ShareState}
 use Rattle.snap_hand.specs.Tables.{fixed_of}
 use Rattle.turn_table.specs.Places.{at}
 use Rattle.crew_grip.specs.Grips.{IsGripOf}
-use Rattle.crew_grip.proofs.ByNumber.{at_within, none_of, put_here, some_of}
+use Rattle.crew_grip.proofs.ByNumber.{at_within, none_of}
+use Rattle.turn_table.proofs.ByPlace.{put_here, some_of}
 use Rattle.crew_grip.proofs.Working.{gave, gave_fits, gave_stands, nothing_held, share_is, share_there, stays_none}
 use Rattle.crew_grip.proofs.grips.Grip.give.Goals as goal
 

@@ -7,7 +7,8 @@ use Rattle.snap_hand.specs.Tables.{fixed_of}
 use Rattle.turn_table.specs.Places.{at, put_at}
 use Rattle.turn_table.specs.Runs.{Fits}
 use Rattle.crew_grip.specs.Grips.{IsGripOf}
-use Rattle.crew_grip.proofs.ByNumber.{is_some_map, none_of, put_else}
+use Rattle.crew_grip.proofs.ByNumber.{is_some_map, none_of}
+use Rattle.turn_table.proofs.ByPlace.{put_else}
 use Rattle.crew_grip.proofs.Working.{no_part, part_of_run, stands_now, took}
 use Rattle.crew_grip.proofs.grips.Grip.take.Goals as goal
 
@@ -55,4 +56,4 @@ pub returns-clause-held : goal.returns-clause-held
 returns-clause-held g c is = ap is_some c.in-Some.ensures.value
 
 pub returns-clause-others : goal.returns-clause-others
-returns-clause-others g c i other = ap (λ v. at v.held i) c.in-Some.ensures.some.1.1 ∙ put_else _ c.args.part i _ (λ same. other (sym same))
+returns-clause-others g c i other = ap (λ v. at v.held i) c.in-Some.ensures.some.1.1 ∙ put_else _ c.args.part i _ other
