@@ -2,6 +2,6 @@
 //! it at every moment of every run, where each record has a spelling. No code stands here: definitions and laws, for hosts.
 #![tactic(auto)]
 
-mod laws;
+mod sizes;
 
-pub use laws::{groups_fit, logs_are_few, told_are_short, waiting_fits};
+pub use sizes::{groups_fit, logs_are_few, told_are_short, waiting_fits};

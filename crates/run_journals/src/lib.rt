@@ -3,9 +3,9 @@
 #![tactic(auto)]
 
 mod appends;
-mod laws;
+mod drives;
 mod stops;
 
 pub use appends::append_group;
-pub use laws::{appends_drive, runs_of};
+pub use drives::{appends_drive, runs_of};
 pub use stops::Stop;

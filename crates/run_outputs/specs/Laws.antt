@@ -1,4 +1,4 @@
--- How what a run gives grows with one more event. Each is a law of `src/laws.rt` or `src/replies.rt`.
+-- How what a run gives grows with one more event. Each is a law of `src/groups.rt` or `src/replies.rt`.
 use Rattle.std.specs.Prelude.{◌≡◌, ℕ, suc, List, [], ◌∷◌, ◌++◌}
 use Rattle.protocol.specs.Conditions.{IsAllowed}
 use Rattle.protocol.specs.Effects.{log_at}

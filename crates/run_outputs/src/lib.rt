@@ -3,12 +3,12 @@
 //! to a sink, as each of them does.
 #![tactic(auto)]
 
-mod laws;
+mod groups;
 mod recorded;
 mod replies;
 mod writes;
 
-pub use laws::{batches_are_counted, groups_grow};
+pub use groups::{batches_are_counted, groups_grow};
 pub use recorded::groups_are_records;
 pub use replies::{answers_grow, replies_grow};
 pub use writes::write_all;

@@ -2,7 +2,7 @@
 ghost use Rattle.aml_check.specs.Checked.{methods_of};
 ghost use Rattle.run_outputs.specs.Recorded.{GroupsAreRecords};
 
-use crate::laws::groups_grow;
+use crate::groups::groups_grow;
 use aml_check::Checked;
 use aml_slice::Control;
 use core_facts::rows_may_be_taken;

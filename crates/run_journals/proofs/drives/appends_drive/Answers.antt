@@ -1,5 +1,5 @@
 use Rattle.run_journals.proofs.Driving.{driven_same, driven_more, driven_cut_off, pieces_spelled}
-use Rattle.run_journals.proofs.laws.appends_drive.Goals as goal
+use Rattle.run_journals.proofs.drives.appends_drive.Goals as goal
 
 pub returns-clause-nothing : goal.returns-clause-nothing
 returns-clause-nothing c = driven_same

@@ -5,7 +5,7 @@ use Rattle.machine_laws.specs.Programs.{finish_of}
 use Rattle.snap_base.specs.declared.transactions.State.{State}
 use Rattle.snap_hand.specs.Tables.{fixed_of, text_of}
 use Rattle.txn_records.specs.Records.{IsState}
-use Rattle.run_journals.proofs.laws.runs_of.Goals as goal
+use Rattle.run_journals.proofs.drives.runs_of.Goals as goal
 
 pub returns : goal.returns
 returns c =
