@@ -5,7 +5,7 @@ ghost use Rattle.crew_parts.specs.Shares.{output_seen};
 
 use core_events::{DESK, FIRST_LOG};
 use gate_log::{AppendNo, Log};
-use run_journals::append_group;
+use run_journals::append_pieces;
 use run_outputs::write_all;
 use snap_base::Sequence;
 use snap_outside::{Failed, LogDev, Sink};
@@ -155,7 +155,7 @@ impl<D: LogDev, O: Sink> Beside<D, O> {
         ensures { HasAppended self.old self.new pieces.now result }
     {
         let result = match &mut self.journal {
-            Some(log) => append_group(alloc, log, pieces),
+            Some(log) => append_pieces(alloc, log, pieces),
             None => unreachable!(),
         };
         if result == Err(AppendNo::Device) {

@@ -8,7 +8,7 @@ use snap_outside::LogDev;
 use std::alloc::Global;
 
 /// Appends the pieces to an open log of format 2, as one group.
-pub fn append_group<D: LogDev>(
+pub fn append_pieces<D: LogDev>(
     alloc: Global,
     log: &mut Log<D>,
     pieces: &[Sequence<u8>],

@@ -6,6 +6,6 @@ mod appends;
 mod drives;
 mod stops;
 
-pub use appends::append_group;
+pub use appends::append_pieces;
 pub use drives::{appends_drive, runs_of};
 pub use stops::Stop;

@@ -8,7 +8,7 @@ ghost use Rattle.solo_host.specs.Outside.{AreLow, AreOfFormat2, AreOpen, IsSynce
 
 use gate_log::{AppendNo, Log};
 use record_log::history_grows;
-use run_journals::{Stop, append_group};
+use run_journals::{Stop, append_pieces};
 use snap_core::Core;
 use snap_outside::LogDev;
 use std::alloc::Global;
@@ -35,7 +35,7 @@ pub(crate) fn before_sync<D: LogDev>(
     let Ok(pieces) = core.group(alloc, l) else {
         return Err(Stop::Memory);
     };
-    match append_group(alloc, &mut logs[l as usize], pieces.as_slice()) {
+    match append_pieces(alloc, &mut logs[l as usize], pieces.as_slice()) {
         Ok(()) => Ok(()),
         Err(no) => Err(stop_of(no, l)),
     }
