@@ -43,7 +43,7 @@ most_bytes = 2 ^ 30
 abbrev pub all_groups : {C : Type 0} → Fixed C → ℕ → List Event → List (List Record)
 all_groups w l es = groups_of w l es ++ group_behind w l es ∷ []
 
--- at each moment of the run, what waits on log l is so
+-- P holds of what waits on log l at each moment of the run
 abbrev pub AlwaysWaits : {C : Type 0} → Fixed C → ℕ → List Event → (List Record → Type 0) → Type 0
 AlwaysWaits w l es P = (ds rest : List Event) → es ≡ ds ++ rest → IsRun w ds → P (group_behind w l ds)
 

@@ -1,4 +1,4 @@
-//! The laws. `C` is the type of controls.
+//! Laws on the number of records, on their lengths and on the groups of a log. `C` is the type of controls.
 ghost use Rattle.protocol.specs.Laws.{AfterEveryRunWithHistory, OfEveryRun};
 ghost use Rattle.group_sizes.specs.Sizes.{AllGroupsFit, LogsAreFew, ToldAreShort, WaitingFits};
 
@@ -7,20 +7,20 @@ use protocol_theorems::every_run_ends;
 use run_outputs::groups_grow;
 use txn_records::records_are_short;
 
-/// The records of all logs together are at most eighteen for each transaction of the text.
+/// A law of every run, cited by a call: all logs together hold at most 18 records for each transaction of the text.
 pub fn logs_are_few<C>()
     ensures { AfterEveryRunWithHistory (LogsAreFew {C = C}) }
 {
     records_are_few::<C>();
 }
 
-/// A record of the machine that has a spelling has at most 2573 bytes.
+/// A law, cited by a call: a record of the machine that has a spelling has at most 2,573 bytes.
 pub fn told_are_short()
     ensures { ToldAreShort }
 {}
 
-/// Where each record has a spelling, what waits on a log may be appended at a gate that is not near the end of offsets: its
-/// items are neither empty nor too long, and together they are not too long for a group.
+/// A law of every run, cited by a call: if each record that waits on a log has a spelling, they may be appended as one group at a
+/// gate up to `FARTHEST_APPEND + 2^30`: no item is empty or too long, and all items together fit a group.
 pub fn waiting_fits<C>()
     ensures { OfEveryRun (WaitingFits {C = C}) }
 {
@@ -28,8 +28,9 @@ pub fn waiting_fits<C>()
     records_are_few::<C>();
 }
 
-/// Where each record has a spelling, and a log's gate was not near the end of offsets as the run began, each of the run's
-/// groups may be appended behind those before it, and what waits behind all of them; and the gate goes on by little.
+/// A law of every run, cited by a call: if each record has a spelling, and a log's gate was at most `FARTHEST_APPEND` as the run
+/// began, each group of the run may be appended after the earlier ones, and what waits after all of them; and the gate goes on by
+/// at most 2^30 bytes.
 pub fn groups_fit<C>()
     ensures { OfEveryRun (AllGroupsFit {C = C}) }
 {

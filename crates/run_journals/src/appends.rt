@@ -1,3 +1,4 @@
+//! The append of one group to an open log.
 ghost use Rattle.std.specs.Prelude.{◌≡◌, false, MatchResult};
 ghost use Rattle.gate_log.specs.Device.{MayAppend};
 ghost use Rattle.run_journals.specs.Appending.{IsAppended, IsNotAppended};
@@ -7,7 +8,8 @@ use snap_base::Sequence;
 use snap_outside::LogDev;
 use std::alloc::Global;
 
-/// Appends the pieces to an open log of format 2, as one group.
+/// Appends the pieces to an open log of format 2, as one group. Where the device fails, a prefix of what the append writes may
+/// be on it, the gate stands where it stood, and the log is shut. `Memory` leaves the log as it was. `Shut` cannot come.
 pub fn append_pieces<D: LogDev>(
     alloc: Global,
     log: &mut Log<D>,

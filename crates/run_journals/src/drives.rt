@@ -1,4 +1,4 @@
-//! What follows of one append, and of the runs of a text. Each is called to cite it.
+//! Laws on appends to journals, and on all runs of a text, for the hosts that append and print.
 ghost use Rattle.std.specs.List.{AllByRecursion};
 ghost use Rattle.std.specs.Prelude.{◌≡◌, false, None, Some, List, [], ◌∷◌, map};
 ghost use Rattle.gate_log.specs.State.{LogState};
@@ -24,8 +24,8 @@ use snap_base::State;
 use snap_hand::Tables;
 use txn_records::states_fit;
 
-/// An open log got nothing yet; by an append of a group it got that group, and by one that met a fault a front of it. The
-/// pieces that wait are the records that wait, as they are written.
+/// A law, cited by a call: an open log got no group yet; an append of a group gives it that group; an append that met a fault
+/// gives it a prefix of one; and the pieces that wait are the spellings of the records that wait.
 pub fn appends_drive()
     ensures nothing { (a : LogState) → a.shut ≡ false → IsDriven a a [] None }
     ensures group { (a b : LogState) (group : List Record) → MayAppendGroup a.end group → IsAppended a b (spelled group) → IsDriven a b (group ∷ []) None }
@@ -35,8 +35,8 @@ pub fn appends_drive()
     history_grows();
 }
 
-/// What the laws say of the runs of a text: they end; they keep the text's logs; what waits on a log may be appended there; and
-/// with one more event what is appended and printed grows by that of the event.
+/// A law on all runs of a text, cited by a call: they end; they keep the text's logs; what waits on a log may be appended there;
+/// and with one more event what is appended and printed grows by what that event gives.
 pub fn runs_of(tables: &Tables)
     requires { AreTables tables.now }
     ensures { RunsOf (fixed_of tables.now) }
@@ -53,7 +53,7 @@ pub fn runs_of(tables: &Tables)
     replies_grow::<Control>();
 }
 
-/// Every one of the states may stand in a record.
+/// A law, cited by a call: each of the states may stand in a record.
 fn each_fits(states: &[State])
     ensures { AllByRecursion IsState states.now }
 {

@@ -1,3 +1,4 @@
+//! The reasons for which a host ends.
 /// Why a host ended.
 #[derive(Clone, Copy, Debug, PartialEq, Eq)]
 pub enum Stop {

@@ -21,6 +21,7 @@ abbrev pub group_by : {C : Type 0} → ℕ → Event → Machine C → List (Lis
 group_by l (Sync k) s = if k == l then waiting (log_at s l) ∷ [] else []
 group_by l _ s = []
 
+-- the groups that log l gets of these events, which begin in this state
 abbrev pub groups_from : {C : Type 0} → Fixed C → ℕ → List Event → Machine C → List (List Record)
 groups_from w l [] s = []
 groups_from w l (e ∷ es) s = group_by l e s ++ groups_from w l es (after w e s)

@@ -10,7 +10,7 @@ use Rattle.record_log.specs.Growth.{all_records}
 use Rattle.run_outputs.specs.Groups.{durable, group_by, groups_of}
 use Rattle.run_outputs.specs.Lines.{line_in, replies_text}
 
--- one more event gives a log its group, where it is a Sync of the log, and else nothing
+-- a Sync of a log gives that log one group, and any other event gives it none
 abbrev pub GroupsGrow : {C : Type 0} → Fixed C → Type 0
 GroupsGrow w = (l : ℕ) (es : List Event) (e : Event) → groups_of w l (es ++ e ∷ []) ≡ groups_of w l es ++ group_by l e (reached w es)
 
@@ -23,15 +23,16 @@ abbrev pub line_by : {C : Type 0} → Fixed C → List Event → Event → List 
 line_by w es (Reply n) = line_in (reached w es) n
 line_by w es _ = []
 
--- one more event prints its line behind those that were printed
+-- an event prints its line after the lines of the events before it
 abbrev pub RepliesGrow : {C : Type 0} → Fixed C → List Event → Type 0
 RepliesGrow w es = (e : Event) → IsAllowed w e (reached w es) → replies_text w (es ++ e ∷ []) ≡ replies_text w es ++ line_by w es e
 
--- the settled batches are as many as the events that settled one
+-- how many events settle a batch
 abbrev pub settles : List Event → ℕ
 settles [] = 0
 settles (Settle k ∷ es) = suc (settles es)
 settles (_ ∷ es) = settles es
 
+-- the report counts as many batches as events settled one
 abbrev pub BatchesAreCounted : {C : Type 0} → Fixed C → Type 0
 BatchesAreCounted w = (es : List Event) → IsRun w es → (report es (reached w es)).batches ≡ settles es

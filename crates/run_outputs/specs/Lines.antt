@@ -27,10 +27,11 @@ lines_of xs = flat_map (λ x. line_of x.tx x.verdict) xs
 abbrev pub replies_text : {C : Type 0} → Fixed C → List Event → List ℕ
 replies_text w es = lines_of (answers es (reached w es))
 
--- what is printed behind them, where the run is quiet
+-- what is printed after the replies, where the run is quiet: the actors and the end
 abbrev pub ending_of : Report → List ℕ
 ending_of r = actors_text 0 r.states ++ end_text r.committed r.aborted r.batches
 
+-- the actors and the end of a run
 abbrev pub ending_text : {C : Type 0} → Fixed C → List Event → List ℕ
 ending_text w es = ending_of (report es (reached w es))
 

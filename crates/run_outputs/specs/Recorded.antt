@@ -13,7 +13,7 @@ use Rattle.run_outputs.specs.Groups.{group_behind, groups_of}
 abbrev pub AreRecords : List Record → Type 0
 AreRecords rs = AllByRecursion IsRecord rs
 
--- each record of each group of each log is one, and so is each that waits behind the run
+-- the groups that log l got in the run, and what waits there after it, are made of records
 pub record GroupsHoldRecords {C : Type 0} (w : Fixed C) (es : List Event) (l : ℕ) : Type 0 where
   pub groups : AllByRecursion AreRecords (groups_of w l es)
   pub waiting : AreRecords (group_behind w l es)

@@ -1,4 +1,4 @@
-//! That what a run writes are records.
+//! A law on what a run writes to its logs: these are records.
 ghost use Rattle.aml_check.specs.Checked.{methods_of};
 ghost use Rattle.run_outputs.specs.Recorded.{GroupsAreRecords};
 
@@ -9,8 +9,8 @@ use core_facts::rows_may_be_taken;
 use machine_laws::texts_have_the_facts;
 use protocol_laws::frame;
 
-/// In every run of every text of the program whose opening's states are states, each record of each group that a log gets is a
-/// record, and so is each that waits there.
+/// A law, cited by a call: in every run of every text of the program that opens with states, the groups that a log gets and what
+/// waits there are made of records, which have a spelling in bytes.
 pub fn groups_are_records(program: &Checked)
     ensures { GroupsAreRecords (methods_of program.now) }
 {

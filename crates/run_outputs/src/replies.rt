@@ -1,4 +1,4 @@
-//! The laws of replies. `C` is the type of controls.
+//! Laws on the replies that a run gives and the lines that it prints for them. `C` is the type of controls.
 ghost use Rattle.protocol.specs.Fixed.{Fixed};
 ghost use Rattle.protocol.specs.Laws.{OfEveryRun};
 ghost use Rattle.run_outputs.specs.Laws.{RepliesGrow};
@@ -6,8 +6,8 @@ ghost use Rattle.run_outputs.specs.Replies.{AllCountsGrow, AnswersGrow};
 
 use protocol_verdicts::verdicts_have_evidence;
 
-/// One more event answers its transaction, where it is a reply, behind those that were answered, with the verdict that it has
-/// then; and what the report counts of the answers grows by that verdict.
+/// A law of every run, cited by a call: an event that is a Reply adds one answer after the earlier ones, its transaction's verdict
+/// at that moment, and any other event adds none; and the report's counts grow by that verdict.
 pub fn answers_grow<C>()
     ensures grow { OfEveryRun (λ (w : Fixed C) finish es. AnswersGrow w es) }
     ensures counts { OfEveryRun (λ (w : Fixed C) finish es. AllCountsGrow w es) }
@@ -15,7 +15,7 @@ pub fn answers_grow<C>()
     verdicts_have_evidence::<C>();
 }
 
-/// One more event prints its line, where it is a reply, behind those that were printed.
+/// A law of every run, cited by a call: an event that is a Reply prints its line after the earlier ones, any other event nothing.
 pub fn replies_grow<C>()
     ensures { OfEveryRun (λ (w : Fixed C) finish es. RepliesGrow w es) }
 {
