@@ -20,7 +20,7 @@ use snap_outside::{LogDev, Sink};
 use std::alloc::Global;
 
 /// All parts of a new core as shares: beside the logs, as many as the text says, are their journals, which take appends, and
-/// beside the desk is the output. Want of memory gives all back.
+/// beside the desk is the output. Without memory the core, the logs and the output come back as they were.
 pub fn shares_of<D: LogDev, O: Sink>(
     alloc: Global,
     core: Core,

@@ -18,14 +18,18 @@ use snap_outside::{LogDev, Sink};
 
 /// What a crew ended with: its core, its logs in the order of their numbers, and its output.
 pub struct Ended<D: LogDev, O: Sink> {
+    /// The core, with all parts as the crew left them.
     pub core: Core,
+    /// The logs, in the order of their numbers. A log whose device failed is shut.
     pub logs: Vec<Log<D>>,
+    /// The output.
     pub out: O,
     /// Whether the output failed at a line.
     pub broken: bool,
 }
 
-/// The shares to which a crew has come become a core, with the logs and the output that stand beside them.
+/// Makes a core of the shares to which a crew has come, and gives back the logs and the output that stand beside them. It needs no
+/// memory: the room was made at the beginning.
 pub fn core_of<D: LogDev + Drop, O: Sink + Drop>(
     tables: Tables,
     shares: Vec<Share<D, O>>,

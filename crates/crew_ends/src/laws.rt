@@ -1,4 +1,4 @@
-//! What a crew made of the journals and the output. It is called to cite it.
+//! A law on what a crew made of the journals and the output.
 ghost use Rattle.std.specs.Prelude.{◌≡◌, List, Some, length};
 ghost use Rattle.aml_slice.specs.Controls.{Rest};
 ghost use Rattle.crew_ends.specs.Ends.{AreBeside, AreDriven, AreDue};
@@ -8,8 +8,8 @@ ghost use Rattle.gate_log.specs.State.{LogState};
 ghost use Rattle.protocol.specs.Events as machine;
 ghost use Rattle.protocol.specs.Fixed.{Fixed};
 
-/// Where a crew has come from a beginning to some shares, the journals beside them got the groups of its Syncs, the next Sync
-/// of each that is shut is still to come, and the output got the lines of its replies.
+/// A law, cited by a call: if a crew has come from a beginning to some shares, the journals beside them got the groups of its Syncs;
+/// the Sync of each journal that is shut is still to come; and the output got the lines of its replies.
 pub fn crews_drive()
     ensures journals { (w : Fixed Rest) (start now : List ShareState) (es : List machine.Event) (old new : List LogState) (before after : OutputState) →
         Begins w start → HasCome w start es now → AreBeside old before start → AreBeside new after now → length old ≡ w.text.logs → length new ≡ w.text.logs → AreDriven w es old new }

@@ -1,3 +1,4 @@
+//! What a crew begins with, and the room that its end needs.
 use crew_parts::Share;
 use gate_log::Log;
 use snap_hand::{Hand, Part, Tables};
@@ -6,13 +7,16 @@ use std::marker::Model;
 
 /// What a crew begins with: the tables, the shares in the order of their numbers, and the room that its end needs.
 pub struct Beginning<D: LogDev, O: Sink> {
+    /// The work and the opening that the core was made for.
     pub tables: Tables,
+    /// A share for each part of the machine, in the order of the parts' numbers.
     pub shares: Vec<Share<D, O>>,
+    /// The room in which the end of the crew puts parts and logs together again.
     pub room: Room<D>,
 }
 
-/// The hand that the parts came from, and empty lists with room for the parts and the logs that a crew's end gives back. So it
-/// wants no memory. Contracts see the hand, and for how many there is room.
+/// The hand that the parts came from, and empty lists with room for the parts and the logs that a crew's end gives back, so that
+/// the end needs no memory. Contracts see the hand, and for how many parts and logs there is room.
 pub struct Room<D: LogDev> {
     pub(crate) hand: Hand,
     pub(crate) parts: Vec<Part>,

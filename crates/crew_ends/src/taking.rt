@@ -15,10 +15,15 @@ use snap_outside::{LogDev, Sink};
 
 /// What shares are made of: the parts, with a hand for them; the journals and the output, and whether the output failed.
 pub(crate) struct Apart<D: LogDev, O: Sink> {
+    /// A hand for the parts.
     pub hand: Hand,
+    /// The parts, in the order of their numbers.
     pub parts: Vec<Part>,
+    /// The logs, in the order of their numbers.
     pub logs: Vec<Log<D>>,
+    /// The output.
     pub out: O,
+    /// Whether the output failed at a line.
     pub broken: bool,
 }
 

@@ -31,12 +31,17 @@ use std::thread::Threads;
 
 /// What a crew made of a core, its logs and its output: why it ended, and the events that it took, in the order of their numbers.
 pub struct CrewEnd<D: LogDev, O: Sink> {
+    /// The core, to which the events have come.
     pub core: Core,
+    /// The logs, in the order of their numbers. A log whose device failed is shut.
     pub logs: Vec<Log<D>>,
+    /// The output.
     pub out: O,
     /// Whether the output failed at the line of a reply.
     pub failed: bool,
+    /// Why it ended: of several faults the least log's, and a log's before the output's.
     pub stop: Stop,
+    /// The events that happened, in the order of their numbers.
     pub kept: Vec<Event>,
 }
 
@@ -72,7 +77,8 @@ pub fn drive_crew<
     ensures logs { AreDriven (fixed_of core.tables) (map event_meant result.kept.items) logs.items result.logs.items }
     ensures due { AreDue (fixed_of core.tables) (map event_meant result.kept.items) result.logs.items }
     // The output got the lines of its replies, and where it failed a front of one more.
-    ensures printed { OutputIs (fixed_of core.tables) (map event_meant result.kept.items) (Some (output_seen O.taken O.faults O.late false out)) (Some (output_seen O.taken O.faults O.late result.failed result.out)) }
+    ensures printed { OutputIs (fixed_of core.tables) (map event_meant result.kept.items)
+        (Some (output_seen O.taken O.faults O.late false out)) (Some (output_seen O.taken O.faults O.late result.failed result.out)) }
 {
     crews_drive();
     appends_drive();

@@ -21,7 +21,7 @@ pub(crate) fn happened<R: Wait>(rt: &R, alloc: Global, acts: &[Act]) -> Vec<Even
     unreachable!()
 }
 
-/// The same, into a list with room for them.
+/// The events of the acts that happened, in their order, in a list that has room for them.
 fn those_of(acts: &[Act], room: Vec<Event>) -> Vec<Event>
     requires { (room.items ≡ []) × (length acts.now ≤ vec_capacity room) }
     ensures { map event_meant result.items ≡ kept acts.now }

@@ -71,9 +71,10 @@ impl Ran {
     }
 }
 
-/// Opening makes so many operations of a new log, and each append so many.
+/// How many operations the opening of a new log makes on its device.
 pub(crate) const OPENING: usize = 2;
 
+/// How many operations an append makes on a log's device.
 pub(crate) const APPEND: usize = 4;
 
 /// As many operations as there are.

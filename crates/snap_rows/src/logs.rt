@@ -18,30 +18,35 @@ struct Kind {
     width: usize,
 }
 
+/// A number of one byte.
 const BYTE: Kind = Kind {
     is_list: false,
     numbers: 1,
     width: 1,
 };
 
+/// A number of two bytes.
 const SHORT: Kind = Kind {
     is_list: false,
     numbers: 1,
     width: 2,
 };
 
+/// A list of numbers of two bytes.
 const SHORTS: Kind = Kind {
     is_list: true,
     numbers: 1,
     width: 2,
 };
 
+/// A number of eight bytes.
 const LONG: Kind = Kind {
     is_list: false,
     numbers: 1,
     width: 8,
 };
 
+/// A list of numbers of eight bytes.
 const LONGS: Kind = Kind {
     is_list: true,
     numbers: 1,
@@ -55,6 +60,7 @@ const STATE: Kind = Kind {
     width: 8,
 };
 
+/// A list of the fields of actors.
 const STATES: Kind = Kind {
     is_list: true,
     numbers: 16,
@@ -93,6 +99,7 @@ pub fn log_bytes(alloc: Global, word: &str) -> Result<Vec<u8>, Memory> {
     Ok(bytes)
 }
 
+/// Adds the bytes of the groups that stand apart by `;`, and the mark behind them.
 fn push_groups(alloc: Global, bytes: &mut Vec<u8>, groups: &str) -> Result<(), Memory> {
     for group in groups.split(';') {
         let mut items = Vec::new(alloc);
@@ -109,6 +116,7 @@ fn push_groups(alloc: Global, bytes: &mut Vec<u8>, groups: &str) -> Result<(), M
     Ok(bytes.push(0)?)
 }
 
+/// Adds the bytes of a record that a letter and its parts spell, or of an item after `x`.
 fn push_record(item: &mut Vec<u8>, record: &str) -> Result<(), Memory> {
     for (letter, tag, kinds) in RECORDS {
         if let Some(parts) = record.strip_prefix(letter) {
@@ -123,6 +131,7 @@ fn push_record(item: &mut Vec<u8>, record: &str) -> Result<(), Memory> {
     Ok(item.extend_from_slice(bytes.as_bytes())?)
 }
 
+/// Adds the bytes of the words of a record's part, after their number where it is a list.
 fn push_words(item: &mut Vec<u8>, kind: Kind, words: &str) -> Result<(), Memory> {
     if kind.is_list {
         let count = words.split('.').count() as u64;

@@ -57,7 +57,7 @@ fn perform<I: Source>(
     Ok(ran)
 }
 
-/// The same with a text, of which a read gives a byte.
+/// Does what the word asks for with a text as its input, of which a read gives a byte, and four logs.
 pub(crate) fn perform_on(
     alloc: Global,
     word: &str,
@@ -85,6 +85,7 @@ pub(crate) fn call(alloc: Global, asked: &str, failing: Failing) -> Result<Ran, 
 }
 
 impl Ran {
+    /// Whether the status is 0.
     pub(crate) fn is_done(&self) -> bool {
         self.0.status == Status::Done
     }

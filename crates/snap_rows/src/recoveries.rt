@@ -1,5 +1,6 @@
 //! What logs recover to, and why they are refused; and what migrating them leaves.
 
+/// The rows of `recover` and `migrate`.
 pub const RECOVERIES: &str = "\
 recover
 tells Logs { log: 0, offset: 0, cause: NoGenesis }||2 0 0 0|

@@ -1,5 +1,6 @@
 //! Runs of texts on empty and on kept logs.
 
+/// The rows of `run`.
 pub const RUNS: &str = "\
 deposit
 tells Done|tx 0 committed 1.0.1 105/actor 0 105/end committed 1 aborted 0 batches 1/|14 0 0 0||

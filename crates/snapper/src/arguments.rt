@@ -1,3 +1,4 @@
+//! The words of the command line, with room for words of any length.
 use snap_base::Memory;
 use std::alloc::Global;
 use std::env::FillError;

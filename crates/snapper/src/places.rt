@@ -1,3 +1,4 @@
+//! Keeps the places of standard streams that were closed from the files that are opened later.
 use std::fs::OpenOptions;
 use std::rt::Files;
 

@@ -1,5 +1,5 @@
 -- What one thread makes of a core, its logs and its output.
-use Rattle.std.specs.Prelude.{◌≡◌, ℕ, ◌<◌, ◌==◌, if◌then◌else◌, Option, None, Some, List, [], ◌∷◌, ◌++◌, length}
+use Rattle.std.specs.Prelude.{◌≡◌, ⊤, ℕ, ◌<◌, ◌==◌, if◌then◌else◌, Option, None, Some, List, [], ◌∷◌, ◌++◌, length}
 use Rattle.std.specs.Io.KnownBytes.{Appends}
 use Rattle.aml_slice.specs.Controls.{Rest}
 pub use Rattle.gate_log.specs.State.{log_at}
@@ -39,7 +39,7 @@ abbrev pub IsWhy : Fixed Rest → ℕ → List Event → List LogState → List 
 IsWhy w seed es old new out_before out_after stop.Quiet = IsQuiet w (reached w es)
 IsWhy w seed es old new out_before out_after (stop.LogFault l) = (l < length old) × IsNext w seed es (Sync l) × Rose (log_at old l).faults (log_at new l).faults
 IsWhy w seed es old new out_before out_after stop.OutFault = ((n : ℕ) × IsNext w seed es (Reply n)) × Rose out_before out_after
-IsWhy w seed es old new out_before out_after stop.Memory = Unit {0}
+IsWhy w seed es old new out_before out_after stop.Memory = ⊤
 
 -- ---- what is printed
 

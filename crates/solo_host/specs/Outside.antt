@@ -1,5 +1,4 @@
--- Only private contracts cite this; the rule is Drives.antt.
--- What one turn of the host does to the outside: what stands before an event.
+-- What one turn of the host does to the outside before its event. Only private contracts cite it; the rule is in Drives.antt.
 use Rattle.std.specs.Prelude.{◌≡◌, ℕ, ◌+◌, ◌≤◌, ◌<◌, false, Option, None, List, [], ◌++◌, length, slice_get, Some}
 use Rattle.std.specs.Io.KnownBytes.{Appends}
 use Rattle.aml_slice.specs.Controls.{Rest}
@@ -38,11 +37,11 @@ outside logs taken faults = record { logs = logs; taken = taken; faults = faults
 abbrev pub AreOpen : List LogState → Type 0
 AreOpen logs = (l : ℕ) → l < length logs → (log_at logs l).shut ≡ false
 
--- each may be appended to
+-- each is of format 2, which takes appends
 abbrev pub AreOfFormat2 : List LogState → Type 0
 AreOfFormat2 logs = (l : ℕ) → l < length logs → (log_at logs l).format ≡ 2
 
--- what waits may be appended
+-- the gate of each is so low that what waits may be appended
 abbrev pub AreLow : List LogState → Type 0
 AreLow logs = (l : ℕ) → l < length logs → (log_at logs l).end ≤ FARTHEST_APPEND + most_bytes
 
@@ -77,6 +76,7 @@ IsNotSynced w es l _ old new = ⊥
 
 -- ---- before a reply
 
+-- the output took the line of transaction n
 abbrev pub IsReplied : Machine Rest → ℕ → Option (List ℕ) → Option (List ℕ) → Type 0
 IsReplied s n old new = Appends old new (line_in s n)
 
@@ -88,6 +88,7 @@ pub record IsBroken (line : List ℕ) (old new : Option (List ℕ)) (faults_befo
   pub took : Appends old new front
   pub rose : Rose faults_before faults_after
 
+-- it did not: the output failed, or there was no memory for the line
 abbrev pub IsNotReplied : Machine Rest → ℕ → Stop → Option (List ℕ) → Option (List ℕ) → ℕ → ℕ → Type 0
 IsNotReplied s n stop.OutFault old new before now = IsBroken (line_in s n) old new before now
 IsNotReplied s n stop.Memory old new before now = new ≡ old

@@ -1,5 +1,4 @@
--- Only private contracts cite this; the rule is Drives.antt.
--- One turn of the host, on a core.
+-- One turn of the host, on a core. Only private contracts cite it; the rule is in Drives.antt.
 use Rattle.std.specs.Prelude.{◌≡◌, ℕ, ◌≤◌, List, [], ◌∷◌, ◌++◌, ◌⊎◌}
 use Rattle.aml_slice.specs.Controls.{Rest}
 use Rattle.rand_pcg.specs.Lcg.{Lcg, advance}
@@ -44,7 +43,7 @@ pub record HasGoneOn (seed : ℕ) (core now : CoreState) (es kept : List Event) 
   pub at : IsAt now kept
   pub done : IsDone (fixed_of core.tables) es event old new
 
--- none was
+-- no event was taken, and the host ended
 pub record HasEnded (seed : ℕ) (core now : CoreState) (es kept : List Event) (why : Stop) (old new : Outside) : Type 0 where
   pub same : kept ≡ es
   pub at : IsAt now kept

@@ -33,8 +33,12 @@ pub(crate) fn before<D: LogDev, O: Sink>(
     requires format { AreOfFormat2 logs.old.items }
     requires low { AreLow logs.old.items }
     ensures outer { MatchResult result
-        (λ _. (es : List machine.Event) → IsAt core.now es → IsDone (fixed_of core.now.tables) es (event_meant e) (outside logs.old.items (O.taken out.old) (O.faults out.old)) (outside logs.new.items (O.taken out.new) (O.faults out.new)))
-        (λ stop. (es : List machine.Event) → IsAt core.now es → IsGivenUp (fixed_of core.now.tables) es (event_meant e) stop (outside logs.old.items (O.taken out.old) (O.faults out.old)) (outside logs.new.items (O.taken out.new) (O.faults out.new))) }
+        (λ _. (es : List machine.Event) → IsAt core.now es → IsDone (fixed_of core.now.tables) es (event_meant e)
+        (outside logs.old.items (O.taken out.old) (O.faults out.old))
+        (outside logs.new.items (O.taken out.new) (O.faults out.new)))
+        (λ stop. (es : List machine.Event) → IsAt core.now es → IsGivenUp (fixed_of core.now.tables) es (event_meant e) stop
+        (outside logs.old.items (O.taken out.old) (O.faults out.old))
+        (outside logs.new.items (O.taken out.new) (O.faults out.new))) }
     ensures once { EndsAtFault (¬ IsErrOf result Stop.OutFault) (O.faults out.old) (O.late out.old) (O.faults out.new) (O.late out.new) }
 {
     match e {

@@ -1,3 +1,4 @@
+//! A core with its logs and its output, run by one thread.
 ghost use Rattle.std.specs.Prelude.{◌≡◌, ◌≢◌, ◌+◌, ◌≤◌, ◌^◌, [], List, length, map, false};
 ghost use Rattle.std.specs.List.{AllByRecursion};
 ghost use Rattle.core_events.specs.Meant.{event_meant};
@@ -17,17 +18,20 @@ use snap_core::Core;
 use snap_outside::{LogDev, Sink};
 use std::alloc::Global;
 
-/// How a host ended, and the events that it took.
+/// How a host with one thread ended, and the events that it took.
 #[derive(Drop)]
 pub struct Driven {
+    /// Why it ended.
     pub stop: Stop,
+    /// The events that it took, in their order.
     pub kept: Vec<Event>,
 }
 
 /// Takes the events of the core as the seed's schedule picks them, until none is allowed. Seed 0 takes the first allowed event
 /// at each step. Before a Sync the records that wait are appended to the log's device as one group, and before a reply its
 /// line is printed; an event is kept once that is done. The core is a new one, and the logs, as many as the text says and of
-/// format 2, take appends.
+/// format 2, take appends. It ends too where the device of a log or the output fails, or where there is no memory: the event that
+/// was to come next is then not taken, and `stop` tells which.
 pub fn drive<D: LogDev, O: Sink>(
     alloc: Global,
     core: &mut Core,
@@ -50,7 +54,7 @@ pub fn drive<D: LogDev, O: Sink>(
     // The output got the lines of its replies.
     ensures printed { IsPrinted (fixed_of core.old.tables) seed (map event_meant result.kept.items) (O.taken out.old) (O.taken out.new) result.stop }
     ensures later { O.faults out.old ≤ O.faults out.new }
-    // It gets no call behind one that failed.
+    // The output gets no call after one that failed.
     ensures once { EndsAtFault (result.stop ≢ Stop.OutFault) (O.faults out.old) (O.late out.old) (O.faults out.new) (O.late out.new) }
 {
     runs_of(core.tables());

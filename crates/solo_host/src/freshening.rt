@@ -31,7 +31,9 @@ fn go_on(
     list: &mut ReadyList,
     news: &mut Vec<Event>,
 ) -> Result<(), Memory>
-    ensures { OnOk result ((es : List machine.Event) → IsAt core.now (es ++ event_meant e ∷ []) → IsKeptFor seed (fixed_of core.now.tables) (state_at core.now es) list.old.events → IsKeptFor seed (fixed_of core.now.tables) (state_at core.now (es ++ event_meant e ∷ [])) list.new.events) }
+    ensures { OnOk result ((es : List machine.Event) → IsAt core.now (es ++ event_meant e ∷ [])
+        → IsKeptFor seed (fixed_of core.now.tables) (state_at core.now es) list.old.events
+        → IsKeptFor seed (fixed_of core.now.tables) (state_at core.now (es ++ event_meant e ∷ [])) list.new.events) }
 {
     if seed == 0 {
         core.extend(alloc, e, list, news)

@@ -53,9 +53,15 @@ fn by_word(seed: u64, word: u32, enabled: &ReadyList) -> Option<Event>
 
 /// The event that the seed's schedule takes by the word of a step, of those that are kept; `None` exactly where none is allowed.
 fn by_seed(core: &Core, seed: u64, word: u32, list: &mut ReadyList) -> Option<Event>
-    ensures some { IfSome result (λ e. (es : List machine.Event) → IsAt core.now es → word ≡ word_of seed (length es) → IsKeptFor seed (fixed_of core.now.tables) (state_at core.now es) list.old.events → IsPicked (fixed_of core.now.tables) seed es (event_meant e)) }
-    ensures none { result ≡ None → (es : List machine.Event) → IsAt core.now es → IsKeptFor seed (fixed_of core.now.tables) (state_at core.now es) list.old.events → IsQuiet (fixed_of core.now.tables) (state_at core.now es) }
-    ensures kept { (es : List machine.Event) → IsAt core.now es → IsKeptFor seed (fixed_of core.now.tables) (state_at core.now es) list.old.events → IsKeptFor seed (fixed_of core.now.tables) (state_at core.now es) list.new.events }
+    ensures some { IfSome result (λ e. (es : List machine.Event) → IsAt core.now es → word ≡ word_of seed (length es)
+        → IsKeptFor seed (fixed_of core.now.tables) (state_at core.now es) list.old.events
+        → IsPicked (fixed_of core.now.tables) seed es (event_meant e)) }
+    ensures none { result ≡ None → (es : List machine.Event) → IsAt core.now es
+        → IsKeptFor seed (fixed_of core.now.tables) (state_at core.now es) list.old.events
+        → IsQuiet (fixed_of core.now.tables) (state_at core.now es) }
+    ensures kept { (es : List machine.Event) → IsAt core.now es
+        → IsKeptFor seed (fixed_of core.now.tables) (state_at core.now es) list.old.events
+        → IsKeptFor seed (fixed_of core.now.tables) (state_at core.now es) list.new.events }
 {
     if seed == 0 {
         core.first(list)
@@ -72,9 +78,15 @@ pub(crate) fn picked(
     generator: &mut Pcg32,
     list: &mut ReadyList,
 ) -> Option<Event>
-    ensures some { IfSome result (λ e. (es : List machine.Event) → IsAt core.now es → IsBehindWords seed (length es) generator.old → IsKeptFor seed (fixed_of core.now.tables) (state_at core.now es) list.old.events → IsPicked (fixed_of core.now.tables) seed es (event_meant e)) }
-    ensures none { result ≡ None → (es : List machine.Event) → IsAt core.now es → IsKeptFor seed (fixed_of core.now.tables) (state_at core.now es) list.old.events → IsQuiet (fixed_of core.now.tables) (state_at core.now es) }
-    ensures kept { (es : List machine.Event) → IsAt core.now es → IsKeptFor seed (fixed_of core.now.tables) (state_at core.now es) list.old.events → IsKeptFor seed (fixed_of core.now.tables) (state_at core.now es) list.new.events }
+    ensures some { IfSome result (λ e. (es : List machine.Event) → IsAt core.now es → IsBehindWords seed (length es) generator.old
+        → IsKeptFor seed (fixed_of core.now.tables) (state_at core.now es) list.old.events
+        → IsPicked (fixed_of core.now.tables) seed es (event_meant e)) }
+    ensures none { result ≡ None → (es : List machine.Event) → IsAt core.now es
+        → IsKeptFor seed (fixed_of core.now.tables) (state_at core.now es) list.old.events
+        → IsQuiet (fixed_of core.now.tables) (state_at core.now es) }
+    ensures kept { (es : List machine.Event) → IsAt core.now es
+        → IsKeptFor seed (fixed_of core.now.tables) (state_at core.now es) list.old.events
+        → IsKeptFor seed (fixed_of core.now.tables) (state_at core.now es) list.new.events }
     ensures drawn { (step : ℕ) → IsBehindWords seed step generator.old → IsBehindWords seed (step + 1) generator.new }
 {
     let word = draw(generator);

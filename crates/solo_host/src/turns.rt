@@ -21,8 +21,8 @@ use snap_core::Core;
 use snap_outside::{LogDev, Sink};
 use std::alloc::Global;
 
-/// Takes the next event of the seed's schedule and keeps it, or tells why the host ends. The generator and the lists were kept
-/// from the turn before; of `news` only the room is used.
+/// Takes the next event of the seed's schedule and keeps it, or tells why the host ends, with no event taken. The generator and the
+/// lists were kept from the turn before; of `news` only the room is used.
 pub(crate) fn turn<D: LogDev, O: Sink>(
     alloc: Global,
     core: &mut Core,
@@ -43,8 +43,12 @@ pub(crate) fn turn<D: LogDev, O: Sink>(
     requires format { AreOfFormat2 logs.old.items }
     requires low { AreLow logs.old.items }
     ensures goes { MatchOption result
-        (HasGoneOn seed core.old core.new (map event_meant kept.old.items) (map event_meant kept.new.items) (outside logs.old.items (O.taken out.old) (O.faults out.old)) (outside logs.new.items (O.taken out.new) (O.faults out.new)))
-        (λ stop. HasEnded seed core.old core.new (map event_meant kept.old.items) (map event_meant kept.new.items) stop (outside logs.old.items (O.taken out.old) (O.faults out.old)) (outside logs.new.items (O.taken out.new) (O.faults out.new))) }
+        (HasGoneOn seed core.old core.new (map event_meant kept.old.items) (map event_meant kept.new.items)
+        (outside logs.old.items (O.taken out.old) (O.faults out.old))
+        (outside logs.new.items (O.taken out.new) (O.faults out.new)))
+        (λ stop. HasEnded seed core.old core.new (map event_meant kept.old.items) (map event_meant kept.new.items) stop
+        (outside logs.old.items (O.taken out.old) (O.faults out.old))
+        (outside logs.new.items (O.taken out.new) (O.faults out.new))) }
     ensures list { result ≡ None → IsKeptFor seed (fixed_of core.old.tables) (state_at core.old (map event_meant kept.old.items)) list.new.events }
     ensures drawn { result ≡ None → IsBehindWords seed (length (map event_meant kept.new.items)) generator.new }
     ensures tables { core.new.tables ≡ core.old.tables }
@@ -71,7 +75,7 @@ pub(crate) fn turn<D: LogDev, O: Sink>(
     None
 }
 
-// There is room, so it can't fail.
+/// Keeps the event, in a list that has room for it.
 fn keep(kept: &mut Vec<Event>, e: Event)
     requires { vec_len kept.old < vec_capacity kept.old }
     ensures { kept.new.items ≡ kept.old.items ++ e ∷ [] }

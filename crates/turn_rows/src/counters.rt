@@ -1,3 +1,4 @@
+//! Counters as parts of a table of turns, and changes of them as its events.
 ghost use Rattle.std.specs.Prelude.{◌≡◌};
 
 use turn_table::{Makes, Piece};
@@ -5,6 +6,7 @@ use turn_table::{Makes, Piece};
 /// A part that counts, modulo 2^64.
 #[derive(Clone, Copy, Debug, PartialEq, Eq)]
 pub struct Counter {
+    /// What was added to it less what was taken off.
     pub value: u64,
 }
 
@@ -43,12 +45,14 @@ impl Makes<Counter, Change> for Counted {
 impl Counter {
     ghost use Rattle.turn_rows.specs.Changes.{more, less};
 
+    /// Adds an amount, modulo 2^64.
     pub fn add(&mut self, amount: u64)
         ensures { self.new ≡ more self.old amount }
     {
         self.value = self.value.wrapping_add(amount);
     }
 
+    /// Takes an amount off, modulo 2^64.
     pub fn take_off(&mut self, amount: u64)
         ensures { self.new ≡ less self.old amount }
     {

@@ -16,7 +16,9 @@ use turn_table::{MOST_PARTS, Pass, Turns};
 /// What a table ended with: its counters, and the changes in the order of their numbers.
 #[derive(Drop)]
 pub struct Ending {
+    /// A counter for each part, in the order of the parts.
     pub counters: Vec<Counter>,
+    /// All changes that were recorded, in the order of their numbers.
     pub changes: Vec<Change>,
 }
 
@@ -25,12 +27,15 @@ pub struct Ending {
 pub struct Told {
     /// Whether the second pass found the turn free that the first held; none where the first did not get it.
     pub free: Option<bool>,
-    /// The numbers of the changes that they recorded, one after the other.
+    /// The number of the second pass's change; none where there was no memory, or its turn was held.
     pub first_number: Option<u64>,
+    /// The number of the first pass's change; none where there was no memory, or its turn was held.
     pub second_number: Option<u64>,
+    /// The number of the move; none where there is one counter, or there was no memory, or a turn was held.
     pub third_number: Option<u64>,
 }
 
+/// So many counters, all 0.
 fn zeros(alloc: Global, count: usize) -> Result<Vec<Counter>, Memory>
     ensures { IfOk result (λ counters. counters.items ≡ replicate count zero_counter) }
 {

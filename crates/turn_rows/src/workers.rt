@@ -187,7 +187,7 @@ pub fn count<R: Wait>(rt: &R, turns: &Turns<Counter>, pass: &mut Pass<Counter>, 
     }
 }
 
-/// The same by a thread for each pass.
+/// Adds 1 to the counters in turn, so many times by each pass, with a thread for each pass, of at most eight.
 pub fn count_all<R: Threads + Wait + Sync>(
     rt: &R,
     turns: &Turns<Counter>,
