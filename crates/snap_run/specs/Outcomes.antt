@@ -10,9 +10,9 @@ use Rattle.snap_run.specs.Answers.{IsAnswer}
 pub record IsOutcome (u : Use) (s : Status) : Type 0 where
   -- each answer has its cause, and tells what a run printed and what it left on its logs
   pub answer : IsAnswer u s
-  -- the command that prints what the logs recover to makes the calls of opening alone,
+  -- the command that prints what the logs recover to makes the calls of opening alone
   pub opened : IsRecover u.words → AllZip IsOpenedAtMost u.devices_before u.devices_after
-  -- and a crash at any moment loses no record
+  -- a crash at any moment of it loses no record
   pub kept : IsRecover u.words → AllZip (λ (a b : Device). KeepsRecords a.told b.told) u.devices_before u.devices_after
-  -- so does the one that makes logs of format 1 ones of format 2, and the logs recover to the same as before
+  -- a crash at any moment of the command that makes logs of format 1 ones of format 2 loses no record, and the logs recover to what they did before
   pub migrated : IsMigrate u.words → AllZip (λ (a b : Device). KeepsRecords a.told b.told) u.devices_before u.devices_after

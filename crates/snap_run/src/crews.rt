@@ -25,7 +25,7 @@ use std::sync::Wait;
 use std::thread::Threads;
 use work_text::one_work;
 
-/// The words, which ask for workers, then what they ask for.
+/// Reads the words, which ask for workers, and does what they ask for.
 pub(crate) fn crew_answer<
     R: Threads + Wait + Sync,
     I: Source,
@@ -70,7 +70,7 @@ pub(crate) fn crew_answer<
     }
 }
 
-/// Runs the input.
+/// Runs the work that the input stands for, by so many workers, and prints its report.
 fn crew_input<
     R: Threads + Wait + Sync,
     I: Source,
@@ -112,7 +112,7 @@ fn crew_input<
     }
 }
 
-/// Runs the text of so many transactions that the seed draws, and prints its summary.
+/// Runs the text of so many transactions that the seed draws, by so many workers, and prints its summary.
 fn crew_generated<
     R: Threads + Wait + Sync,
     D: LogDev + Drop + Send,

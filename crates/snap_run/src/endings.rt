@@ -20,17 +20,23 @@ use snap_recover::refused_is_not_recovered;
 use snap_report::Status;
 use work_text::fault_or_work;
 
-/// How the top call ended, the events that a run of it took, and what it was given.
+/// How the top call ended, and what it gives back of what it was handed.
 #[derive(Drop)]
 pub struct Outcome<D, O, T> {
+    /// How it ended, with the cause where it is not `Done`. Its number is the exit status of the program.
     pub status: Status,
+    /// The events that the run took, in their order. It is empty where no run began, and for commands that run nothing.
     pub kept: Vec<Event>,
+    /// The four devices that were handed over, in the order of their numbers, with what was written to them.
     pub logs: Vec<D>,
+    /// The output, with the bytes that it took: after a fault a prefix of those that were to be printed.
     pub out: O,
+    /// The trace, with the lines that it took of the events in `kept`.
     pub trace: T,
 }
 
-/// Where nothing stands in the way of what the words ask for, it is done, or there is no memory.
+/// A law, cited by a call: if nothing stands in the way of what the words ask for, the answer is that it is done, or that there was
+/// no memory.
 pub(crate) fn done_or_no_memory()
     ensures complete { (u : Use) (s : Status) (text : List ℕ) (w : Work) (records : List (List Record)) (o : Opening)
         → IsOutcome u s → IsUntroubled u text w records o → ¬ IsOfLogs s → (s ≡ status.Done) ⊎ (s ≡ status.Memory) }

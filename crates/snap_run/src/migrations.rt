@@ -1,3 +1,4 @@
+//! The command that makes the logs of format 1 ones of format 2.
 ghost use Rattle.std.specs.Prelude.{◌≡◌, ◌≢◌, vec_len};
 ghost use Rattle.std.specs.List.{AllZip};
 ghost use Rattle.log_opening.specs.Devices.{Device, devices_of};

@@ -30,7 +30,8 @@ use work_text::one_work;
 /// Does what the words ask for. `run` reads a work text from `input` and runs it on the machine by the schedule of the seed: it
 /// goes on from what the text's logs hold, writes the records of the run there, prints its replies and its end to `out`, and
 /// at last a line of each event to `trace`. The other commands read no input: `recover` prints what the logs recover to, `migrate`
-/// makes those of format 1 ones of format 2, `gen` prints a generated text, and `bench` runs one as `run` runs its input, but prints the summary of the run alone.
+/// makes those of format 1 ones of format 2, `gen` prints a generated text, and `bench` runs one as `run` runs its input, but
+/// prints the summary of the run alone. The words ask for no workers. Each refusal is a status of the outcome. It returns.
 pub fn run_solo<I: Source, D: LogDev, O: Sink, T: Sink>(
     alloc: Global,
     words: &[String],
@@ -64,7 +65,7 @@ pub fn run_solo<I: Source, D: LogDev, O: Sink, T: Sink>(
     ensures untouched { GetsNoCall result.status → result.logs ≡ logs }
     // Where no event is kept, the trace gets none.
     ensures no_trace { result.kept.items ≡ [] → result.trace ≡ trace }
-    // The output, the trace and the input get no call behind one that failed. They did not fail where the status tells so.
+    // The output, the trace and the input get no call after one that failed. They did not fail where the status tells so.
     ensures out_once { EndsAtFault (OutStood result.status) (O.faults out) (O.late out) (O.faults result.out) (O.late result.out) }
     ensures trace_once { EndsAtFault (result.status ≡ status.Done) (T.faults trace) (T.late trace) (T.faults result.trace) (T.late result.trace) }
     ensures input_once { EndsAtFault (result.status ≢ status.ReadFault) (I.faults input.old) (I.late input.old) (I.faults input.new) (I.late input.new) }
@@ -83,7 +84,7 @@ pub fn run_solo<I: Source, D: LogDev, O: Sink, T: Sink>(
     }
 }
 
-/// The words, then what they ask for.
+/// Reads the words and does what they ask for.
 fn answer<I: Source, D: LogDev, O: Sink, T: Sink>(
     alloc: Global,
     words: &[String],
@@ -144,7 +145,7 @@ fn answer<I: Source, D: LogDev, O: Sink, T: Sink>(
     }
 }
 
-/// Runs the input.
+/// Runs the work that the input stands for, by the schedule of the seed, and prints its report.
 fn run_input<I: Source, D: LogDev, O: Sink, T: Sink>(
     alloc: Global,
     input: &mut I,

@@ -28,7 +28,8 @@ use std::thread::Threads;
 /// goes on from what the text's logs hold, writes the records of the run there, prints its replies and its end to `out`, and
 /// at last a line of each event to `trace`. The other commands read no input: `recover` prints what the logs recover to, `migrate`
 /// makes those of format 1 ones of format 2, `gen` prints a generated text, and `bench` runs one as `run` runs its input, but
-/// prints the summary of the run alone. Without workers it returns; whether it returns with some is not promised.
+/// prints the summary of the run alone. Each refusal is a status of the outcome. Without workers it returns; whether it returns with
+/// some is not promised.
 pub fn run<
     R: Threads + Wait + Sync,
     I: Source,
@@ -69,7 +70,7 @@ pub fn run<
     ensures untouched { GetsNoCall result.status → result.logs ≡ logs }
     // Where no event is kept, the trace gets none.
     ensures no_trace { result.kept.items ≡ [] → result.trace ≡ trace }
-    // The output, the trace and the input get no call behind one that failed. They did not fail where the status tells so.
+    // The output, the trace and the input get no call after one that failed. They did not fail where the status tells so.
     ensures out_once { EndsAtFault (OutStood result.status) (O.faults out) (O.late out) (O.faults result.out) (O.late result.out) }
     ensures trace_once { EndsAtFault (result.status ≡ status.Done) (T.faults trace) (T.late trace) (T.faults result.trace) (T.late result.trace) }
     ensures input_once { EndsAtFault (result.status ≢ status.ReadFault) (I.faults input.old) (I.late input.old) (I.faults input.new) (I.late input.new) }
