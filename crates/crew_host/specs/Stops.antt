@@ -1,4 +1,5 @@
--- Why a crew ended, where it is known what failed. Only private contracts cite it; the rule is in Drives.antt.
+-- Only private contracts cite this; the rule is Drives.antt.
+-- Why a crew ended, where it is known what failed.
 use Rattle.std.specs.Prelude.{◌≡◌, ◌⊎◌, Option, None, Some, List}
 use Rattle.aml_slice.specs.Controls.{Rest}
 use Rattle.crew_workers.specs.declared.ends.Fault.{Fault}

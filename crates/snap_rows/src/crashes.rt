@@ -13,7 +13,7 @@ use std::test::Fail;
 /// What any crash leaves of what is not synced: nothing, all, or this byte in its place.
 pub(crate) const CHOICES: [u8; 4] = [0, 1, ALL, 0x7F];
 
-/// It leaves all.
+/// The choice by which a crash leaves all that is not synced.
 const ALL: u8 = 2;
 
 impl Ran {

@@ -38,7 +38,7 @@ pub(crate) const NONE: Failing = Failing {
 };
 
 impl Failing {
-    /// One fails at this place.
+    /// The call with this number fails at this place, and no other call.
     pub(crate) fn at(place: Place, call: u64) -> Failing {
         let mut failing = NONE;
         match place {
@@ -51,7 +51,7 @@ impl Failing {
         failing
     }
 
-    /// Those that a row names.
+    /// The calls that a row names fail: its second part has their numbers for log 0, log 1, the input, the output and the trace.
     pub(crate) fn of(asked: &str) -> Failing {
         let numbers = part(asked, '|', 1);
         Failing {
