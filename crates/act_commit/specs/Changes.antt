@@ -9,12 +9,12 @@ use Rattle.act_commit.specs.declared.seats.Mark.TheVariants.{Prepared, Vouched}
 use Rattle.act_commit.specs.declared.vote.Change.{Change}
 use Rattle.act_commit.specs.declared.vote.Change.TheVariants.{Marked, Decided, Sealed}
 
-abbrev pub mark_of : Mark → Joined → Joined
-mark_of Prepared = is_prepared
-mark_of Vouched = is_vouched
+abbrev pub marking_of : Mark → Joined → Joined
+marking_of Prepared = is_prepared
+marking_of Vouched = is_vouched
 
 abbrev pub change_of : Change → Act → Act
-change_of (Marked mark actor) = marked actor.0 (mark_of mark)
+change_of (Marked mark actor) = marked actor.0 (marking_of mark)
 change_of (Decided number) = decided_as number
 change_of Sealed = sealed
 

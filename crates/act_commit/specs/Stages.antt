@@ -8,10 +8,10 @@ use Rattle.protocol.specs.Parts as parts
 use Rattle.act_commit.specs.declared.stages.Stage.{Stage}
 use Rattle.act_commit.specs.declared.stages.Stage.TheVariants.{Open, Decided, Sealed}
 
-abbrev pub status_of : Stage → Status
-status_of Open = Live
-status_of (Decided c) = parts.Decided c
-status_of (Sealed c) = parts.Sealed c
+abbrev pub status_of_stage : Stage → Status
+status_of_stage Open = Live
+status_of_stage (Decided c) = parts.Decided c
+status_of_stage (Sealed c) = parts.Sealed c
 
 -- who is decided or sealed failed, or is vouched on all its actors
 abbrev pub IsReadyIfDecided : Status → TxResult → List Joined → Type 0

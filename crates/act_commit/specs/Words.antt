@@ -6,15 +6,15 @@ use Rattle.protocol.specs.Words.{is_failure, is_live_status, is_vouched_everywhe
 use Rattle.protocol.specs.Effects.{ascending}
 
 -- the number of an ACT's commit, once it has one
-abbrev pub number_of : Status → Option ℕ
-number_of Live = None
-number_of (Doomed why) = None
-number_of (Decided c) = Some c
-number_of (Sealed c) = Some c
+abbrev pub commit_number_of : Status → Option ℕ
+commit_number_of Live = None
+commit_number_of (Doomed why) = None
+commit_number_of (Decided c) = Some c
+commit_number_of (Sealed c) = Some c
 
 abbrev pub number_by : Option Act → Option ℕ
 number_by None = None
-number_by (Some x) = number_of x.status
+number_by (Some x) = commit_number_of x.status
 
 -- the actors that it joined, as its commit record has them
 abbrev pub actors_by : Option Act → List ℕ
@@ -30,5 +30,5 @@ abbrev pub is_ready : Act → Bool
 is_ready x = is_failure x.result || is_vouched_everywhere x
 
 -- the conditions of a decision that the votes know, and that its batches up to m are settled
-abbrev pub may_decide : ℕ → ℕ → ℕ → Book → Bool
-may_decide t m settled b = holds is_undecided (act_of t b.acts) && (holds is_ready (act_of t b.acts) && nat_le m settled)
+abbrev pub votes_may_decide : ℕ → ℕ → ℕ → Book → Bool
+votes_may_decide t m settled b = holds is_undecided (act_of t b.acts) && (holds is_ready (act_of t b.acts) && nat_le m settled)

@@ -3,7 +3,7 @@ ghost use Rattle.std.specs.Prelude.{◌≡◌, ◌+◌, ◌<◌, ◌^◌, not, �
 ghost use Rattle.protocol.specs.BookParts.{no_votes, votes_begin, result_by};
 ghost use Rattle.protocol.specs.OnBook.{act_prepared, act_vouched, act_decided, act_sealed};
 ghost use Rattle.protocol.specs.Words.{act_of, holds, joined_of, is_decided, is_sealed};
-ghost use Rattle.act_commit.specs.Words.{actor_numbers, number_by, actors_by, is_undecided, is_ready, may_decide};
+ghost use Rattle.act_commit.specs.Words.{actor_numbers, number_by, actors_by, is_undecided, is_ready, votes_may_decide};
 
 use crate::seats::Mark;
 use crate::vote::{Change, Vote};
@@ -172,7 +172,7 @@ impl Acts {
     /// Whether ACT t, which stands behind the batches up to m, may be decided when those up to `settled` are settled.
     /// Whether it is doomed is not known here.
     pub fn may_decide(&self, t: Tid, m: Bid, settled: Bid) -> bool
-        ensures { result ≡ may_decide t.0 m.0 settled.0 self.now }
+        ensures { result ≡ votes_may_decide t.0 m.0 settled.0 self.now }
     {
         self.is_undecided(t) && self.is_ready(t) && m <= settled
     }

@@ -3,7 +3,7 @@ ghost use Rattle.std.specs.Prelude.{◌≡◌, not, ◌&&◌, ◌==◌, map, fin
 ghost use Rattle.std.specs.List.{list_all};
 ghost use Rattle.protocol.specs.BookParts.{not_voted};
 ghost use Rattle.protocol.specs.OnBook.{mark_if};
-ghost use Rattle.act_commit.specs.Changes.{mark_of};
+ghost use Rattle.act_commit.specs.Changes.{marking_of};
 ghost use Rattle.act_commit.specs.Words.{actor_numbers};
 
 use snap_base::{ActorId, Memory};
@@ -90,7 +90,7 @@ impl Seat {
 
     /// Notes it, if this is the actor.
     fn note(&mut self, mark: Mark, actor: ActorId)
-        ensures { self.new ≡ mark_if (self.old.actor == actor.0) (mark_of mark) self.old }
+        ensures { self.new ≡ mark_if (self.old.actor == actor.0) (marking_of mark) self.old }
     {
         if self.actor == actor {
             match mark {
@@ -114,7 +114,7 @@ pub(crate) fn seats_on(alloc: Global, actors: &[ActorId]) -> Result<Vec<Seat>, M
 
 /// Notes it on the actor.
 pub(crate) fn note_on(seats: &mut [Seat], mark: Mark, actor: ActorId)
-    ensures { seats.new ≡ map (λ p. mark_if (p.actor == actor.0) (mark_of mark) p) seats.old }
+    ensures { seats.new ≡ map (λ p. mark_if (p.actor == actor.0) (marking_of mark) p) seats.old }
 {
     for seat in seats.iter_mut() {
         seat.note(mark, actor);

@@ -2,8 +2,8 @@
 ghost use Rattle.std.specs.Prelude.{◌≡◌};
 ghost use Rattle.protocol.specs.OnBook.{decided_status, sealed_status};
 ghost use Rattle.protocol.specs.Words.{is_live_status, is_decided, is_sealed};
-ghost use Rattle.act_commit.specs.Stages.{status_of};
-ghost use Rattle.act_commit.specs.Words.{number_of};
+ghost use Rattle.act_commit.specs.Stages.{status_of_stage};
+ghost use Rattle.act_commit.specs.Words.{commit_number_of};
 
 /// How far the commit of an ACT that ended has come.
 #[derive(Clone, Copy)]
@@ -18,7 +18,7 @@ pub(crate) enum Stage {
 impl Stage {
     /// What a decision makes of it: one with a value is still to be sealed.
     pub fn decided(self, number: u64, has_value: bool) -> Stage
-        ensures { status_of result ≡ decided_status number has_value (status_of self) }
+        ensures { status_of_stage result ≡ decided_status number has_value (status_of_stage self) }
     {
         match self {
             Stage::Open => {
@@ -34,7 +34,7 @@ impl Stage {
 
     /// What a durable commit makes of it: one that is decided is sealed, and any other stays.
     pub fn sealed(self) -> Stage
-        ensures { status_of result ≡ sealed_status (status_of self) }
+        ensures { status_of_stage result ≡ sealed_status (status_of_stage self) }
     {
         match self {
             Stage::Decided(number) => Stage::Sealed(number),
@@ -44,7 +44,7 @@ impl Stage {
 
     /// Whether it is `Open`.
     pub fn is_open(self) -> bool
-        ensures { result ≡ is_live_status (status_of self) }
+        ensures { result ≡ is_live_status (status_of_stage self) }
     {
         match self {
             Stage::Open => true,
@@ -54,7 +54,7 @@ impl Stage {
 
     /// Whether it is `Decided`.
     pub fn is_decided(self) -> bool
-        ensures { result ≡ is_decided (status_of self) }
+        ensures { result ≡ is_decided (status_of_stage self) }
     {
         match self {
             Stage::Decided(_) => true,
@@ -64,7 +64,7 @@ impl Stage {
 
     /// Whether it is `Sealed`.
     pub fn is_sealed(self) -> bool
-        ensures { result ≡ is_sealed (status_of self) }
+        ensures { result ≡ is_sealed (status_of_stage self) }
     {
         match self {
             Stage::Sealed(_) => true,
@@ -74,7 +74,7 @@ impl Stage {
 
     /// The number of the commit, once it has one.
     pub fn number(self) -> Option<u64>
-        ensures { result ≡ number_of (status_of self) }
+        ensures { result ≡ commit_number_of (status_of_stage self) }
     {
         match self {
             Stage::Open => None,

@@ -5,8 +5,8 @@ ghost use Rattle.protocol.specs.Parts.{Live};
 ghost use Rattle.protocol.specs.OnBook.{marked, decided_as, sealed};
 ghost use Rattle.protocol.specs.Words.{holds, joined_of, is_value, is_decided, is_sealed};
 ghost use Rattle.protocol.specs.Effects.{ascending};
-ghost use Rattle.act_commit.specs.Changes.{mark_of, change_of, MayChange};
-ghost use Rattle.act_commit.specs.Words.{actor_numbers, number_of, is_undecided, is_ready};
+ghost use Rattle.act_commit.specs.Changes.{marking_of, change_of, MayChange};
+ghost use Rattle.act_commit.specs.Words.{actor_numbers, commit_number_of, is_undecided, is_ready};
 
 use crate::seats::{Mark, Seat, are_vouched, note_on, seat_on, seats_on};
 use crate::sorted::actors_of;
@@ -37,13 +37,13 @@ pub(crate) struct Vote {
 impl Model for Vote {
     ghost use Rattle.std.specs.Prelude.{false, Some, None};
     ghost use Rattle.protocol.specs.Parts.{Act};
-    ghost use Rattle.act_commit.specs.Stages.{status_of, IsReadyIfDecided};
+    ghost use Rattle.act_commit.specs.Stages.{status_of_stage, IsReadyIfDecided};
 
     ghost Value = { Act };
 
-    ghost view = { λ v. record { tid = v.tid.0; tx = 0; reader = false; m = 0; n = None; places = v.seats.items; result = Some v.result; status = status_of v.stage } };
+    ghost view = { λ v. record { tid = v.tid.0; tx = 0; reader = false; m = 0; n = None; places = v.seats.items; result = Some v.result; status = status_of_stage v.stage } };
 
-    ghost invariant = { λ v. IsReadyIfDecided (status_of v.stage) v.result v.seats.items };
+    ghost invariant = { λ v. IsReadyIfDecided (status_of_stage v.stage) v.result v.seats.items };
 }
 
 impl Vote {
@@ -85,7 +85,7 @@ impl Vote {
     }
 
     fn mark(&mut self, mark: Mark, actor: ActorId)
-        ensures { self.new ≡ marked actor.0 (mark_of mark) self.old }
+        ensures { self.new ≡ marked actor.0 (marking_of mark) self.old }
     {
         note_on(self.seats.as_mut_slice(), mark, actor);
     }
@@ -185,7 +185,7 @@ impl Vote {
 
     /// The number of its commit; `None` exactly where it is not decided.
     pub fn number(&self) -> Option<u64>
-        ensures { result ≡ number_of self.now.status }
+        ensures { result ≡ commit_number_of self.now.status }
     {
         self.stage.number()
     }

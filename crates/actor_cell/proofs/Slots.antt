@@ -4,13 +4,13 @@ use Rattle.std.specs.Prelude.{option_map, option_copied, unwrap_or, is_some, IsS
 use Rattle.std.specs.List.{remove, find}
 use Rattle.std.proofs.lemmas.Bool.{cond_both}
 use Rattle.snap_base.specs.declared.transactions.State.{State}
-use Rattle.image_pool.specs.Region.{Region, state_at, IsLive, Changes}
+use Rattle.image_pool.specs.Region.{Region, state_in_slot, IsLive, Changes}
 use Rattle.machine_words.specs.Meant.{who_meant}
 use Rattle.protocol.specs.OnCell.{state_from}
 use Rattle.protocol.specs.Parts.{Who, Image}
 use Rattle.protocol.specs.Words.{is_who, image_of}
 use Rattle.actor_cell.specs.declared.images.Held.{Held}
-use Rattle.actor_cell.specs.Keeping.{image_in, images_of, IsFree, AreApart}
+use Rattle.actor_cell.specs.Keeping.{image_in, images_of, IsSlotFree, AreApart}
 
 -- ---- a slot changes
 
@@ -20,11 +20,11 @@ live_after other c ne l =
     subst P (sym (c.others other ne)) l
 
 -- who holds other slots keeps its images, and they keep their states
-pub AreApart-frame : (r r' : Region) (slot : ℕ) (x : Option State) (hs : List Held) → Changes r r' slot x → IsFree slot hs → AreApart r hs → AreApart r' hs
+pub AreApart-frame : (r r' : Region) (slot : ℕ) (x : Option State) (hs : List Held) → Changes r r' slot x → IsSlotFree slot hs → AreApart r hs → AreApart r' hs
 AreApart-frame r r' slot x [] c f a = tt
 AreApart-frame r r' slot x (h ∷ hs) c f a = (live_after h.image c f.0 a.0, (a.1.0, AreApart-frame r r' slot x hs c f.1 a.1.1))
 
-pub images_of-frame : (r r' : Region) (slot : ℕ) (x : Option State) (hs : List Held) → Changes r r' slot x → IsFree slot hs → images_of r' hs ≡ images_of r hs
+pub images_of-frame : (r r' : Region) (slot : ℕ) (x : Option State) (hs : List Held) → Changes r r' slot x → IsSlotFree slot hs → images_of r' hs ≡ images_of r hs
 images_of-frame r r' slot x [] c f = refl
 images_of-frame r r' slot x (h ∷ hs) c f =
     rw (c.others h.image f.0) (ap (λ rest. image_in r h ∷ rest) (images_of-frame r r' slot x hs c f.1))
@@ -32,21 +32,21 @@ images_of-frame r r' slot x (h ∷ hs) c f =
 -- ---- one more
 
 -- a slot that was spare is nobody's
-pub slot_is_free : (r : Region) (slot : ℕ) (hs : List Held) → state_at slot r ≡ None → AreApart r hs → IsFree slot hs
+pub slot_is_free : (r : Region) (slot : ℕ) (hs : List Held) → state_in_slot slot r ≡ None → AreApart r hs → IsSlotFree slot hs
 slot_is_free r slot [] n a = tt
 slot_is_free r slot (h ∷ hs) n a = (
   λ e.
-      let P : ℕ → Type 0 = λ k. IsSome (state_at k r) in
-      let live : is_some (state_at slot r) ≡ true = subst P e a.0 in
+      let P : ℕ → Type 0 = λ k. IsSome (state_in_slot k r) in
+      let live : is_some (state_in_slot slot r) ≡ true = subst P e a.0 in
       cc (live, ap is_some n),
   slot_is_free r slot hs n a.1.1,
 )
 
-IsFree-push : (slot : ℕ) (h : Held) (hs : List Held) → IsFree slot hs → h.image ≢ slot → IsFree slot (hs ++ h ∷ [])
+IsFree-push : (slot : ℕ) (h : Held) (hs : List Held) → IsSlotFree slot hs → h.image ≢ slot → IsSlotFree slot (hs ++ h ∷ [])
 IsFree-push slot h [] f ne = (ne, tt)
 IsFree-push slot h (x ∷ xs) f ne = (f.0, IsFree-push slot h xs f.1 ne)
 
-pub AreApart-push : (r : Region) (h : Held) (hs : List Held) → AreApart r hs → IsFree h.image hs → IsLive h.image r → AreApart r (hs ++ h ∷ [])
+pub AreApart-push : (r : Region) (h : Held) (hs : List Held) → AreApart r hs → IsSlotFree h.image hs → IsLive h.image r → AreApart r (hs ++ h ∷ [])
 AreApart-push r h [] a f l = (l, (tt, tt))
 AreApart-push r h (x ∷ xs) a f l = (a.0, (IsFree-push x.image h xs a.1.0 (λ e. f.0 (sym e)), AreApart-push r h xs a.1.1 f.1 l))
 
@@ -59,14 +59,14 @@ live_at r (y ∷ ys) zero h lt e a =
     subst P (sym e) a.0
 live_at r (y ∷ ys) (suc j) h lt e a = live_at r ys j h (omega arith) e a.1.1
 
-IsFree-at : (slot : ℕ) (hs : List Held) (i : ℕ) (h : Held) → i < length hs → h ≡ get_or hs i h → IsFree slot hs → h.image ≢ slot
+IsFree-at : (slot : ℕ) (hs : List Held) (i : ℕ) (h : Held) → i < length hs → h ≡ get_or hs i h → IsSlotFree slot hs → h.image ≢ slot
 IsFree-at slot [] i h lt e f = absurd (omega arith)
 IsFree-at slot (y ∷ ys) zero h lt e f =
     let P : Held → Type 0 = λ z. z.image ≢ slot in
     subst P (sym e) f.0
 IsFree-at slot (y ∷ ys) (suc j) h lt e f = IsFree-at slot ys j h (omega arith) e f.1
 
-IsFree-remove : (slot : ℕ) (hs : List Held) (i : ℕ) → i < length hs → IsFree slot hs → IsFree slot (remove hs i)
+IsFree-remove : (slot : ℕ) (hs : List Held) (i : ℕ) → i < length hs → IsSlotFree slot hs → IsSlotFree slot (remove hs i)
 IsFree-remove slot [] i lt f = absurd (omega arith)
 IsFree-remove slot (y ∷ ys) zero lt f = f.1
 IsFree-remove slot (y ∷ ys) (suc j) lt f = (f.0, IsFree-remove slot ys j (omega arith) f.1)
@@ -74,7 +74,7 @@ IsFree-remove slot (y ∷ ys) (suc j) lt f = (f.0, IsFree-remove slot ys j (omeg
 pub AreApart-remove : (r r' : Region) (x : Option State) (hs : List Held) (i : ℕ) (h : Held) → i < length hs → h ≡ get_or hs i h → Changes r r' h.image x → AreApart r hs → AreApart r' (remove hs i)
 AreApart-remove r r' x [] i h lt e c a = absurd (omega arith)
 AreApart-remove r r' x (y ∷ ys) zero h lt e c a =
-    let P : Held → Type 0 = λ z. IsFree z.image ys in
+    let P : Held → Type 0 = λ z. IsSlotFree z.image ys in
     AreApart-frame r r' h.image x ys c (subst P (sym e) a.1.0) a.1.1
 AreApart-remove r r' x (y ∷ ys) (suc j) h lt e c a =
     let less : j < length ys = omega arith in (
@@ -85,7 +85,7 @@ AreApart-remove r r' x (y ∷ ys) (suc j) h lt e c a =
 pub images_of-remove : (r r' : Region) (x : Option State) (hs : List Held) (i : ℕ) (h : Held) → i < length hs → h ≡ get_or hs i h → Changes r r' h.image x → AreApart r hs → images_of r' (remove hs i) ≡ remove (images_of r hs) i
 images_of-remove r r' x [] i h lt e c a = absurd (omega arith)
 images_of-remove r r' x (y ∷ ys) zero h lt e c a =
-    let P : Held → Type 0 = λ z. IsFree z.image ys in
+    let P : Held → Type 0 = λ z. IsSlotFree z.image ys in
     images_of-frame r r' h.image x ys c (subst P (sym e) a.1.0)
 images_of-remove r r' x (y ∷ ys) (suc j) h lt e c a =
     let less : j < length ys = omega arith in
@@ -93,17 +93,17 @@ images_of-remove r r' x (y ∷ ys) (suc j) h lt e c a =
     rw (c.others y.image (λ q. IsFree-at y.image ys j h less e a.1.0 (sym q))) (ap (λ zs. image_in r y ∷ zs) rest)
 
 -- the last one leaves
-pub last_apart : (r : Region) (h : Held) (hs : List Held) → AreApart r (hs ++ h ∷ []) → IsLive h.image r × (IsFree h.image hs × AreApart r hs)
+pub last_apart : (r : Region) (h : Held) (hs : List Held) → AreApart r (hs ++ h ∷ []) → IsLive h.image r × (IsSlotFree h.image hs × AreApart r hs)
 last_apart r h [] a = (a.0, (tt, tt))
 last_apart r h (y ∷ ys) a =
     let rest = last_apart r h ys a.1.1 in
     (rest.0, ((last_differs y.image h ys a.1.0, rest.1.0), (a.0, (last_is_free y.image h ys a.1.0, rest.1.1))))
   where
-    last_differs : (slot : ℕ) (h : Held) (hs : List Held) → IsFree slot (hs ++ h ∷ []) → slot ≢ h.image
+    last_differs : (slot : ℕ) (h : Held) (hs : List Held) → IsSlotFree slot (hs ++ h ∷ []) → slot ≢ h.image
     last_differs slot h [] f = λ e. f.0 (sym e)
     last_differs slot h (x ∷ xs) f = last_differs slot h xs f.1
 
-    last_is_free : (slot : ℕ) (h : Held) (hs : List Held) → IsFree slot (hs ++ h ∷ []) → IsFree slot hs
+    last_is_free : (slot : ℕ) (h : Held) (hs : List Held) → IsSlotFree slot (hs ++ h ∷ []) → IsSlotFree slot hs
     last_is_free slot h [] f = tt
     last_is_free slot h (x ∷ xs) f = (f.0, last_is_free slot h xs f.1)
 

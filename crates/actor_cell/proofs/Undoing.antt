@@ -7,7 +7,7 @@ use Rattle.protocol.specs.CellParts.{Store, with_undone}
 use Rattle.protocol.specs.OnCell.{is_entry_among, is_cut, staying, going, state_from}
 use Rattle.protocol.specs.Parts.{Cascade, Who, OfBatch, OfAct, Entry, BatchEntry, ActEntry, Image}
 use Rattle.protocol.specs.Words.{is_empty, is_among, is_aborted, is_batch_entry, ahead, is_who, who_of, batches_on, acts_on}
-use Rattle.actor_cell.specs.Calls.{is_from, undone_from}
+use Rattle.actor_cell.specs.Calls.{is_who_from, undone_from}
 use Rattle.actor_cell.specs.Cut.{Ascends, AreAbortedFrom, NoneIsAborted, HaveRunInOrder, IsCutFrom}
 
 -- ---- two tests that agree on a list find and leave the same
@@ -77,11 +77,11 @@ act_agrees t false cs es a m w = sym (w refl)
 
 -- ---- images
 
-who_agrees : (k : ℕ) (acts : Bool) (cs : List Cascade) (es : List Entry) (who : Who) → Ascends (batches_on es) → AreAbortedFrom k cs es → acts ≡ is_empty (acts_on (staying cs es)) → is_entry_among who es ≡ true → (acts ≡ false → is_entry_among who (going cs es) ≡ false) → is_from k acts who ≡ is_entry_among who (going cs es)
+who_agrees : (k : ℕ) (acts : Bool) (cs : List Cascade) (es : List Entry) (who : Who) → Ascends (batches_on es) → AreAbortedFrom k cs es → acts ≡ is_empty (acts_on (staying cs es)) → is_entry_among who es ≡ true → (acts ≡ false → is_entry_among who (going cs es) ≡ false) → is_who_from k acts who ≡ is_entry_among who (going cs es)
 who_agrees k acts cs es (OfBatch j) a c n m w = batch_agrees k j cs es a c m
 who_agrees k acts cs es (OfAct t) a c n m w = act_agrees t acts cs es n m w
 
-all_agree : (k : ℕ) (acts : Bool) (cs : List Cascade) (es : List Entry) (is : List Image) → IsCutFrom k acts cs es is → AllByRecursion (λ i. is_from k acts i.who ≡ is_entry_among i.who (going cs es)) is
+all_agree : (k : ℕ) (acts : Bool) (cs : List Cascade) (es : List Entry) (is : List Image) → IsCutFrom k acts cs es is → AllByRecursion (λ i. is_who_from k acts i.who ≡ is_entry_among i.who (going cs es)) is
 all_agree k acts cs es [] h = tt
 all_agree k acts cs es (i ∷ is) h = (
   who_agrees k acts cs es i.who h.ascends h.aborted h.ahead h.entered.0 (λ f. (h.waited f).0),
@@ -91,7 +91,7 @@ all_agree k acts cs es (i ∷ is) h = (
 pub undone_as_cut : (k : ℕ) (acts : Bool) (cs : List Cascade) (es : List Entry) (s : Store) → IsCutFrom k acts cs es s.images → undone_from k acts s ≡ with_undone (going cs es) s
 undone_as_cut k acts cs es s h =
     let agree = all_agree k acts cs es s.images h in
-    let meant : Image → Bool = λ i. is_from k acts i.who in
+    let meant : Image → Bool = λ i. is_who_from k acts i.who in
     let goes : Image → Bool = λ i. is_entry_among i.who (going cs es) in
     let put : Option Image → List Image → Store = λ first left. record s { state = state_from s.state first; images = left } in
     ap₂ put (find_same meant goes s.images agree) (filter_same meant goes s.images agree)

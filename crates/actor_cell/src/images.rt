@@ -35,11 +35,11 @@ impl Model for Images {
 
     ghost Value = { List Taken };
 
-    ghost use Rattle.actor_cell.specs.Keeping.{images_of, IsKept};
+    ghost use Rattle.actor_cell.specs.Keeping.{images_of, AreImagesKept};
 
     ghost view = { λ i. images_of i.pool i.held.items };
 
-    ghost invariant = { λ i. IsKept i.pool i.held.items (vec_capacity i.held) };
+    ghost invariant = { λ i. AreImagesKept i.pool i.held.items (vec_capacity i.held) };
 }
 
 /// The first that is meant.

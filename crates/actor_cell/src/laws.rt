@@ -6,7 +6,7 @@ ghost use Rattle.protocol.specs.CellParts.{Store, with_undone, parted};
 ghost use Rattle.protocol.specs.OnCell.{is_entry_among, staying, going};
 ghost use Rattle.protocol.specs.Parts.{Act, Cascade, Entry, Image};
 ghost use Rattle.protocol.specs.Words.{is_empty, is_among, is_batch_entry, ahead, batches_on, acts_on};
-ghost use Rattle.actor_cell.specs.Calls.{undone_from, left_by};
+ghost use Rattle.actor_cell.specs.Calls.{undone_from, store_left_by};
 ghost use Rattle.actor_cell.specs.Cut.{Ascends, AreAbortedFrom, NoneIsAborted, HaveRunInOrder, IsCutFrom};
 
 /// Where a schedule is cut from batch `k` on, `undo_from` undoes what the entries that go did.
@@ -33,5 +33,5 @@ pub fn nothing_behind_an_act_has_run()
 /// An ACT that leaves has its entry restored where it is doomed or failed, and finished, and where it is sealed the floor
 /// of its kind is raised to its before number.
 pub fn parting_is_restoring_and_finishing()
-    ensures { (t : ℕ) (x : Act) (s : Store) → left_by t x s ≡ parted t (Some x) s }
+    ensures { (t : ℕ) (x : Act) (s : Store) → store_left_by t x s ≡ parted t (Some x) s }
 {}

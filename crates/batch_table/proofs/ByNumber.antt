@@ -9,7 +9,7 @@ use Rattle.protocol.specs.Words.{batch_of}
 use Rattle.protocol.specs.OnDesk.{change_if, changed_batch}
 use Rattle.protocol.specs.Numbers.{from}
 use Rattle.batch_table.specs.Joining.{bids_of}
-use Rattle.batch_table.specs.Places.{IsPlaceOf, IsNowhere}
+use Rattle.batch_table.specs.Places.{IsPlaceOfBatch, IsNowhere}
 
 -- ---- shapes
 
@@ -71,7 +71,7 @@ set_outside (y ∷ ys) (suc i) x l = ap (λ z. y ∷ z) (set_outside ys i x (ome
 
 -- ---- both together
 
-pub is_place : (k base i : ℕ) (bs : List Batch) → bids_of bs ≡ from (base + 1) (length bs) → i < length bs → k ≡ base + 1 + i → IsPlaceOf k i bs
+pub is_place : (k base i : ℕ) (bs : List Batch) → bids_of bs ≡ from (base + 1) (length bs) → i < length bs → k ≡ base + 1 + i → IsPlaceOfBatch k i bs
 is_place k base i bs e l q = record {
   within = l;
   found = found_at_place k (base + 1) i bs e q;

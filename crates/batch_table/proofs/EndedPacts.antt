@@ -9,23 +9,23 @@ use Rattle.protocol.specs.Parts.{Pact, Batch}
 use Rattle.protocol.specs.Words.{result_among}
 use Rattle.protocol.specs.OnDesk.{with_result, with_results}
 use Rattle.protocol.specs.Numbers.{from}
-use Rattle.batch_table.specs.Joining.{tids_in}
+use Rattle.batch_table.specs.Joining.{pact_tids}
 use Rattle.batch_table.proofs.ByNumber.{cons_parts, cons_same}
 
 -- none of them has the tid
 abbrev pub AreWithout : ℕ → List Pact → Type 0
 AreWithout t ps = AllByRecursion (λ p. (p.tid == t) ≡ false) ps
 
-pub below_without : (t h : ℕ) (ps : List Pact) → tids_in ps ≡ from h (length (tids_in ps)) → t < h → AreWithout t ps
+pub below_without : (t h : ℕ) (ps : List Pact) → pact_tids ps ≡ from h (length (pact_tids ps)) → t < h → AreWithout t ps
 below_without t h [] e l = tt
 below_without t h (p ∷ ps) e l =
-    let parts = cons_parts p.tid h (tids_in ps) (from (h + 1) (length (tids_in ps))) e in
+    let parts = cons_parts p.tid h (pact_tids ps) (from (h + 1) (length (pact_tids ps))) e in
     (ne_eqb p.tid t (λ q. omega (arith, parts.0)), below_without t (h + 1) ps parts.1 (omega arith))
 
-pub above_without : (t h : ℕ) (ps : List Pact) → tids_in ps ≡ from h (length (tids_in ps)) → h + length (tids_in ps) ≤ t → AreWithout t ps
+pub above_without : (t h : ℕ) (ps : List Pact) → pact_tids ps ≡ from h (length (pact_tids ps)) → h + length (pact_tids ps) ≤ t → AreWithout t ps
 above_without t h [] e l = tt
 above_without t h (p ∷ ps) e l =
-    let parts = cons_parts p.tid h (tids_in ps) (from (h + 1) (length (tids_in ps))) e in
+    let parts = cons_parts p.tid h (pact_tids ps) (from (h + 1) (length (pact_tids ps))) e in
     (ne_eqb p.tid t (λ q. omega (arith, parts.0)), above_without t (h + 1) ps parts.1 (omega arith))
 
 -- ---- what that says
@@ -59,24 +59,24 @@ batch_unnoted t r b h =
 abbrev pub ended : TxResult → Pact → Pact
 ended r p = record p { result = Some r }
 
-pub noted_at : (t h i : ℕ) (r : TxResult) (d : Pact) (ps : List Pact) → tids_in ps ≡ from h (length (tids_in ps)) → t ≡ h + i → map (with_result t r) ps ≡ slice_set ps i (ended r (slice_index_or ps i d))
+pub noted_at : (t h i : ℕ) (r : TxResult) (d : Pact) (ps : List Pact) → pact_tids ps ≡ from h (length (pact_tids ps)) → t ≡ h + i → map (with_result t r) ps ≡ slice_set ps i (ended r (slice_index_or ps i d))
 noted_at t h i r d [] e q = refl
 noted_at t h zero r d (p ∷ ps) e q =
-    let parts = cons_parts p.tid h (tids_in ps) (from (h + 1) (length (tids_in ps))) e in
+    let parts = cons_parts p.tid h (pact_tids ps) (from (h + 1) (length (pact_tids ps))) e in
     cons_same (with_result t r p) (ended r p) (map (with_result t r) ps) ps
     (ap (λ x. record p { result = x }) (cond-true (p.tid == t) (Some r) p.result (eq-eqb p.tid t (omega (arith, parts.0)))))
     (without_noted t r ps (below_without t (h + 1) ps parts.1 (omega arith)))
 noted_at t h (suc i) r d (p ∷ ps) e q =
-    let parts = cons_parts p.tid h (tids_in ps) (from (h + 1) (length (tids_in ps))) e in
+    let parts = cons_parts p.tid h (pact_tids ps) (from (h + 1) (length (pact_tids ps))) e in
     cons_same (with_result t r p) p (map (with_result t r) ps) (slice_set ps i (ended r (slice_index_or ps i d)))
     (unnoted t r p (ne_eqb p.tid t (λ x. omega (arith, parts.0))))
     (noted_at t (h + 1) i r d ps parts.1 (omega arith))
 
-pub result_at : (t h i : ℕ) (ps : List Pact) → tids_in ps ≡ from h (length (tids_in ps)) → t ≡ h + i → result_among t ps ≡ option_and_then (λ p. p.result) (slice_get ps i)
+pub result_at : (t h i : ℕ) (ps : List Pact) → pact_tids ps ≡ from h (length (pact_tids ps)) → t ≡ h + i → result_among t ps ≡ option_and_then (λ p. p.result) (slice_get ps i)
 result_at t h i [] e q = refl
 result_at t h zero (p ∷ ps) e q =
-    let parts = cons_parts p.tid h (tids_in ps) (from (h + 1) (length (tids_in ps))) e in
+    let parts = cons_parts p.tid h (pact_tids ps) (from (h + 1) (length (pact_tids ps))) e in
     cond-true (p.tid == t) p.result (result_among t ps) (eq-eqb p.tid t (omega (arith, parts.0)))
 result_at t h (suc i) (p ∷ ps) e q =
-    let parts = cons_parts p.tid h (tids_in ps) (from (h + 1) (length (tids_in ps))) e in
+    let parts = cons_parts p.tid h (pact_tids ps) (from (h + 1) (length (pact_tids ps))) e in
     cond-false (p.tid == t) p.result (result_among t ps) (ne_eqb p.tid t (λ x. omega (arith, parts.0))) ∙ result_at t (h + 1) i ps parts.1 (omega arith)

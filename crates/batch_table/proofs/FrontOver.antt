@@ -10,8 +10,8 @@ use Rattle.protocol.specs.OnDesk.{with_stage, taken}
 use Rattle.protocol.specs.Numbers.{from}
 use Rattle.batch_table.specs.Askings.{is_next, awaits_settling}
 use Rattle.batch_table.specs.Joining.{bids_of}
-use Rattle.batch_table.specs.Places.{IsPlaceOf, gone}
-use Rattle.batch_table.specs.Sound.{mark_of, marks_of, IsOver, IsOpen, IsFront}
+use Rattle.batch_table.specs.Places.{IsPlaceOfBatch, gone}
+use Rattle.batch_table.specs.Sound.{standing_of, standings_of, IsBatchOver, IsOpen, IsFrontCount}
 use Rattle.batch_table.proofs.ByNumber.{cons_parts, cons_same, missing_below}
 
 -- ---- stages and marks
@@ -31,15 +31,15 @@ committing_not_settled stages.Formed e = refl
 committing_not_settled stages.Committing e = refl
 committing_not_settled stages.Settled e = sym e
 
-not_over : (b : Batch) → b.aborted ≡ false → is_settled b.stage ≡ false → IsOver (mark_of b) → ⊥
+not_over : (b : Batch) → b.aborted ≡ false → is_settled b.stage ≡ false → IsBatchOver (standing_of b) → ⊥
 not_over b a s o = false≢true (sym (or_from b.aborted (is_settled b.stage) a s) ∙ o)
 
-open_not_over : (b : Batch) → is_open b ≡ true → IsOver (mark_of b) → ⊥
+open_not_over : (b : Batch) → is_open b ≡ true → IsBatchOver (standing_of b) → ⊥
 open_not_over b h o =
     let parts = and_parts (is_formed b.stage) (not b.aborted) h in
     not_over b (not-true b.aborted parts.1) (formed_not_settled b.stage parts.0) o
 
-pub front_of_open : (bs : List Batch) → AllByRecursion IsOpen (marks_of bs) → IsFront zero (marks_of bs)
+pub front_of_open : (bs : List Batch) → AllByRecursion IsOpen (standings_of bs) → IsFrontCount zero (standings_of bs)
 front_of_open [] h = tt
 front_of_open (b ∷ bs) h = ((h.0.0, formed_not_settled b.stage h.0.1), h.1)
 
@@ -60,7 +60,7 @@ le_suc i n =
       | inr le ↦ le-leb i n le ∙ sym (le-leb (suc i) (suc n) (omega arith))
     ]
 
-smaller_over : (k low i front : ℕ) (bs : List Batch) → bids_of bs ≡ from low (length bs) → IsFront front (marks_of bs) → k ≡ low + i → i < length bs → is_next_to_commit k bs ≡ nat_le i front
+smaller_over : (k low i front : ℕ) (bs : List Batch) → bids_of bs ≡ from low (length bs) → IsFrontCount front (standings_of bs) → k ≡ low + i → i < length bs → is_next_to_commit k bs ≡ nat_le i front
 smaller_over k low i front [] e f q l = absurd (omega arith)
 smaller_over k low zero front (b ∷ bs) e f q l = none_smaller k low (b ∷ bs) e (omega arith) ∙ sym (le-leb zero front (omega arith))
 smaller_over k low (suc i) zero (b ∷ bs) e f q l =
@@ -74,7 +74,7 @@ smaller_over k low (suc i) (suc n) (b ∷ bs) e f q l =
     ∙ (smaller_over k (low + 1) i n bs parts.1 f.1 (omega arith) (omega arith) ∙ le_suc i n)
 
 -- the batch at a place is the next to go on exactly where it is open and no further than the front
-pub next_at : (k base i front : ℕ) (b : Batch) (bs : List Batch) → bids_of bs ≡ from (base + 1) (length bs) → IsFront front (marks_of bs) → IsPlaceOf k i bs → k ≡ base + 1 + i → slice_get bs i ≡ Some b
+pub next_at : (k base i front : ℕ) (b : Batch) (bs : List Batch) → bids_of bs ≡ from (base + 1) (length bs) → IsFrontCount front (standings_of bs) → IsPlaceOfBatch k i bs → k ≡ base + 1 + i → slice_get bs i ≡ Some b
     → is_next k bs ≡ (is_open b && nat_le i front)
 next_at k base i front b bs e f p q g =
     ap (λ o. holds (λ b. is_open b && is_next_to_commit k bs) o) (p.found ∙ g)
@@ -89,7 +89,7 @@ holds_parts x (Some b) h = and_parts (is_open b) x h
 below_next : (k bid low : ℕ) → bid ≡ low → (bid ≡ k → ⊥) → k ≤ bid → k < low + 1
 below_next k bid low e other l = omega arith
 
-open_at_front : (k low front : ℕ) (bs : List Batch) → bids_of bs ≡ from low (length bs) → IsFront front (marks_of bs) → holds is_open (batch_of k bs) ≡ true → is_next_to_commit k bs ≡ true → (k ≡ low + front) × (front < length bs)
+open_at_front : (k low front : ℕ) (bs : List Batch) → bids_of bs ≡ from low (length bs) → IsFrontCount front (standings_of bs) → holds is_open (batch_of k bs) ≡ true → is_next_to_commit k bs ≡ true → (k ≡ low + front) × (front < length bs)
 open_at_front k low front [] e f op nx = absurd (false≢true op)
 open_at_front k low zero (b ∷ bs) e f op nx =
     let parts = cons_parts b.bid low (bids_of bs) (from (low + 1) (length bs)) e in
@@ -110,12 +110,12 @@ open_at_front k low (suc n) (b ∷ bs) e f op nx =
     (omega (arith, later.0), omega (arith, later.1)))
     op
 
-pub next_is_front : (k base front : ℕ) (bs : List Batch) → bids_of bs ≡ from (base + 1) (length bs) → IsFront front (marks_of bs) → is_next k bs ≡ true → (k ≡ base + 1 + front) × (front < length bs)
+pub next_is_front : (k base front : ℕ) (bs : List Batch) → bids_of bs ≡ from (base + 1) (length bs) → IsFrontCount front (standings_of bs) → is_next k bs ≡ true → (k ≡ base + 1 + front) × (front < length bs)
 next_is_front k base front bs e f h =
     let parts = holds_parts (is_next_to_commit k bs) (batch_of k bs) h in
     open_at_front k (base + 1) front bs e f parts.0 parts.1
 
-open_do_not_commit : (k : ℕ) (bs : List Batch) → AllByRecursion IsOpen (marks_of bs) → awaits_settling k bs ≡ true → ⊥
+open_do_not_commit : (k : ℕ) (bs : List Batch) → AllByRecursion IsOpen (standings_of bs) → awaits_settling k bs ≡ true → ⊥
 open_do_not_commit k [] h s = false≢true s
 open_do_not_commit k (b ∷ bs) h s =
     cond_both (b.bid == k) (Some b) (batch_of k bs) (λ o. holds (λ b. is_committing b.stage && not b.aborted) o ≡ true → ⊥)
@@ -123,7 +123,7 @@ open_do_not_commit k (b ∷ bs) h s =
     (λ q g. open_do_not_commit k bs h.1 g)
     s
 
-committing_at_front : (k low front : ℕ) (bs : List Batch) → bids_of bs ≡ from low (length bs) → IsFront front (marks_of bs) → awaits_settling k bs ≡ true → (k ≡ low + front) × (front < length bs)
+committing_at_front : (k low front : ℕ) (bs : List Batch) → bids_of bs ≡ from low (length bs) → IsFrontCount front (standings_of bs) → awaits_settling k bs ≡ true → (k ≡ low + front) × (front < length bs)
 committing_at_front k low front [] e f s = absurd (false≢true s)
 committing_at_front k low zero (b ∷ bs) e f s =
     let parts = cons_parts b.bid low (bids_of bs) (from (low + 1) (length bs)) e in
@@ -142,32 +142,32 @@ committing_at_front k low (suc n) (b ∷ bs) e f s =
     (omega (arith, later.0), omega (arith, later.1)))
     s
 
-pub settling_is_front : (k base front : ℕ) (bs : List Batch) → bids_of bs ≡ from (base + 1) (length bs) → IsFront front (marks_of bs) → awaits_settling k bs ≡ true → (k ≡ base + 1 + front) × (front < length bs)
+pub settling_is_front : (k base front : ℕ) (bs : List Batch) → bids_of bs ≡ from (base + 1) (length bs) → IsFrontCount front (standings_of bs) → awaits_settling k bs ≡ true → (k ≡ base + 1 + front) × (front < length bs)
 settling_is_front k base front bs e f s = committing_at_front k (base + 1) front bs e f s
 
 -- ---- the front after a batch joined, began to commit, settled, or took the rest along
 
-open_joined : (b : Batch) (xs : List Batch) → IsOpen (mark_of b) → AllByRecursion IsOpen (marks_of xs) → AllByRecursion IsOpen (marks_of (xs ++ b ∷ []))
+open_joined : (b : Batch) (xs : List Batch) → IsOpen (standing_of b) → AllByRecursion IsOpen (standings_of xs) → AllByRecursion IsOpen (standings_of (xs ++ b ∷ []))
 open_joined b [] o h = (o, tt)
 open_joined b (x ∷ xs) o h = (h.0, open_joined b xs o h.1)
 
-pub front_joined : (front : ℕ) (b : Batch) (bs : List Batch) → IsOpen (mark_of b) → IsFront front (marks_of bs) → IsFront front (marks_of (bs ++ b ∷ []))
+pub front_joined : (front : ℕ) (b : Batch) (bs : List Batch) → IsOpen (standing_of b) → IsFrontCount front (standings_of bs) → IsFrontCount front (standings_of (bs ++ b ∷ []))
 front_joined zero b [] o f = ((o.0, formed_not_settled b.stage o.1), tt)
 front_joined (suc n) b [] o f = absurd f
 front_joined zero b (x ∷ xs) o f = (f.0, open_joined b xs o f.1)
 front_joined (suc n) b (x ∷ xs) o f = (f.0, front_joined n b xs o f.1)
 
-pub front_committing : (front : ℕ) (d : Batch) (bs : List Batch) → front < length bs → IsFront front (marks_of bs) → IsFront front (marks_of (slice_set bs front (with_stage stages.Committing (slice_index_or bs front d))))
+pub front_committing : (front : ℕ) (d : Batch) (bs : List Batch) → front < length bs → IsFrontCount front (standings_of bs) → IsFrontCount front (standings_of (slice_set bs front (with_stage stages.Committing (slice_index_or bs front d))))
 front_committing front d [] l f = absurd (omega arith)
 front_committing zero d (b ∷ bs) l f = ((f.0.0, refl), f.1)
 front_committing (suc n) d (b ∷ bs) l f = (f.0, front_committing n d bs (omega arith) f.1)
 
-pub front_settled : (front : ℕ) (d : Batch) (bs : List Batch) → front < length bs → IsFront front (marks_of bs) → IsFront (suc front) (marks_of (slice_set bs front (with_stage stages.Settled (slice_index_or bs front d))))
+pub front_settled : (front : ℕ) (d : Batch) (bs : List Batch) → front < length bs → IsFrontCount front (standings_of bs) → IsFrontCount (suc front) (standings_of (slice_set bs front (with_stage stages.Settled (slice_index_or bs front d))))
 front_settled front d [] l f = absurd (omega arith)
 front_settled zero d (b ∷ bs) l f = (or_right b.aborted true refl, front_of_open bs f.1)
 front_settled (suc n) d (b ∷ bs) l f = (f.0, front_settled n d bs (omega arith) f.1)
 
-all_taken : (k low : ℕ) (bs : List Batch) → bids_of bs ≡ from low (length bs) → k ≤ low → IsFront (length bs) (marks_of (map (taken k) bs))
+all_taken : (k low : ℕ) (bs : List Batch) → bids_of bs ≡ from low (length bs) → k ≤ low → IsFrontCount (length bs) (standings_of (map (taken k) bs))
 all_taken k low [] e l = tt
 all_taken k low (b ∷ bs) e l =
     let parts = cons_parts b.bid low (bids_of bs) (from (low + 1) (length bs)) e in
@@ -177,7 +177,7 @@ still_over : (a c s : Bool) → (a || s) ≡ true → ((a || c) || s) ≡ true
 still_over true c s h = refl
 still_over false c s h = or_right c s h
 
-front_taken_from : (k low front : ℕ) (bs : List Batch) → bids_of bs ≡ from low (length bs) → IsFront front (marks_of bs) → k ≡ low + front → IsFront (length bs) (marks_of (map (taken k) bs))
+front_taken_from : (k low front : ℕ) (bs : List Batch) → bids_of bs ≡ from low (length bs) → IsFrontCount front (standings_of bs) → k ≡ low + front → IsFrontCount (length bs) (standings_of (map (taken k) bs))
 front_taken_from k low zero [] e f q = tt
 front_taken_from k low (suc n) [] e f q = absurd f
 front_taken_from k low zero (b ∷ bs) e f q = all_taken k low (b ∷ bs) e (omega arith)
@@ -185,7 +185,7 @@ front_taken_from k low (suc n) (b ∷ bs) e f q =
     let parts = cons_parts b.bid low (bids_of bs) (from (low + 1) (length bs)) e in
     (still_over b.aborted (nat_le k b.bid) (is_settled b.stage) f.0, front_taken_from k (low + 1) n bs parts.1 f.1 (omega arith))
 
-pub front_taken : (k base front : ℕ) (bs : List Batch) → bids_of bs ≡ from (base + 1) (length bs) → IsFront front (marks_of bs) → k ≡ base + 1 + front → IsFront (length bs) (marks_of (map (taken k) bs))
+pub front_taken : (k base front : ℕ) (bs : List Batch) → bids_of bs ≡ from (base + 1) (length bs) → IsFrontCount front (standings_of bs) → k ≡ base + 1 + front → IsFrontCount (length bs) (standings_of (map (taken k) bs))
 front_taken k base front bs e f q = front_taken_from k (base + 1) front bs e f q
 
 -- ---- what an abort changes: the batches from the front on

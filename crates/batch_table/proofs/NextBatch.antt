@@ -11,7 +11,7 @@ use Rattle.protocol.specs.Numbers.{from}
 use Rattle.batch_table.specs.Askings.{is_next, awaits_settling}
 use Rattle.batch_table.specs.Joining.{bids_of}
 use Rattle.batch_table.specs.Listed.{unnoted_at, unnoted_in}
-use Rattle.batch_table.specs.Sound.{marks_of, IsFront}
+use Rattle.batch_table.specs.Sound.{standings_of, IsFrontCount}
 use Rattle.batch_table.proofs.ByNumber.{cons_parts, found_at_place, is_place}
 use Rattle.batch_table.proofs.FrontOver.{next_at, next_is_front, settling_is_front}
 
@@ -32,7 +32,7 @@ bid_at low (suc i) b (x ∷ bs) e g =
     omega (arith, bid_at (low + 1) i b bs parts.1 g)
 
 -- who is at the front goes on where it is open
-front_goes_on : (k base front : ℕ) (bs : List Batch) (o : Option Batch) → bids_of bs ≡ from (base + 1) (length bs) → IsFront front (marks_of bs) → slice_get bs front ≡ o
+front_goes_on : (k base front : ℕ) (bs : List Batch) (o : Option Batch) → bids_of bs ≡ from (base + 1) (length bs) → IsFrontCount front (standings_of bs) → slice_get bs front ≡ o
     → holds (λ b. is_open b && (b.bid == k)) o ≡ true → is_next k bs ≡ true
 front_goes_on k base front bs None e f g h = absurd (false≢true h)
 front_goes_on k base front bs (Some b) e f g h =
@@ -41,7 +41,7 @@ front_goes_on k base front bs (Some b) e f g h =
     next_at k base front front b bs e f (is_place k base front bs e (slice_get_within bs front b g) number) number g
     ∙ and_from (is_open b) (nat_le front front) parts.0 (le-leb front front (omega arith))
 
-goes_on_at_front : (k base front : ℕ) (bs : List Batch) (o : Option Batch) → bids_of bs ≡ from (base + 1) (length bs) → IsFront front (marks_of bs) → slice_get bs front ≡ o
+goes_on_at_front : (k base front : ℕ) (bs : List Batch) (o : Option Batch) → bids_of bs ≡ from (base + 1) (length bs) → IsFrontCount front (standings_of bs) → slice_get bs front ≡ o
     → is_next k bs ≡ true → holds (λ b. is_open b && (b.bid == k)) o ≡ true
 goes_on_at_front k base front bs o e f g h =
     let at = next_is_front k base front bs e f h in
@@ -53,14 +53,14 @@ goes_on_at_front k base front bs o e f g h =
         let parts = and_parts (is_open b) (is_next_to_commit k bs) (ap (λ o. holds (λ b. is_open b && is_next_to_commit k bs) o) (sym q) ∙ h) in
         and_from (is_open b) (b.bid == k) parts.0 (eq-eqb b.bid k (bid_at (base + 1) front b bs e i ∙ sym (next_is_front k base front bs e f h).0))
 
-pub next_at_front : (k base front : ℕ) (bs : List Batch) → bids_of bs ≡ from (base + 1) (length bs) → IsFront front (marks_of bs)
+pub next_at_front : (k base front : ℕ) (bs : List Batch) → bids_of bs ≡ from (base + 1) (length bs) → IsFrontCount front (standings_of bs)
     → is_next k bs ≡ holds (λ b. is_open b && (b.bid == k)) (slice_get bs front)
 next_at_front k base front bs e f =
     one_bool (is_next k bs) (holds (λ b. is_open b && (b.bid == k)) (slice_get bs front)) (goes_on_at_front k base front bs (slice_get bs front) e f refl) (front_goes_on k base front bs (slice_get bs front) e f refl)
 
 -- ---- who commits is at the front
 
-at_front_settles : (k base front : ℕ) (bs : List Batch) (o : Option Batch) → bids_of bs ≡ from (base + 1) (length bs) → IsFront front (marks_of bs) → slice_get bs front ≡ o
+at_front_settles : (k base front : ℕ) (bs : List Batch) (o : Option Batch) → bids_of bs ≡ from (base + 1) (length bs) → IsFrontCount front (standings_of bs) → slice_get bs front ≡ o
     → holds (λ b. (is_committing b.stage && not b.aborted) && (b.bid == k)) o ≡ true → awaits_settling k bs ≡ true
 at_front_settles k base front bs None e f g h = absurd (false≢true h)
 at_front_settles k base front bs (Some b) e f g h =
@@ -68,7 +68,7 @@ at_front_settles k base front bs (Some b) e f g h =
     let number : k ≡ base + 1 + front = sym (eqb-true b.bid k parts.1) ∙ bid_at (base + 1) front b bs e g in
     ap (λ o. holds (λ b. is_committing b.stage && not b.aborted) o) (found_at_place k (base + 1) front bs e number ∙ g) ∙ parts.0
 
-settles_at_front : (k base front : ℕ) (bs : List Batch) (o : Option Batch) → bids_of bs ≡ from (base + 1) (length bs) → IsFront front (marks_of bs) → slice_get bs front ≡ o
+settles_at_front : (k base front : ℕ) (bs : List Batch) (o : Option Batch) → bids_of bs ≡ from (base + 1) (length bs) → IsFrontCount front (standings_of bs) → slice_get bs front ≡ o
     → awaits_settling k bs ≡ true → holds (λ b. (is_committing b.stage && not b.aborted) && (b.bid == k)) o ≡ true
 settles_at_front k base front bs o e f g h =
     let at = settling_is_front k base front bs e f h in
@@ -80,7 +80,7 @@ settles_at_front k base front bs o e f g h =
         and_from (is_committing b.stage && not b.aborted) (b.bid == k) (ap (λ o. holds (λ b. is_committing b.stage && not b.aborted) o) (sym q) ∙ h)
         (eq-eqb b.bid k (bid_at (base + 1) front b bs e i ∙ sym (settling_is_front k base front bs e f h).0))
 
-pub settling_at_front : (k base front : ℕ) (bs : List Batch) → bids_of bs ≡ from (base + 1) (length bs) → IsFront front (marks_of bs)
+pub settling_at_front : (k base front : ℕ) (bs : List Batch) → bids_of bs ≡ from (base + 1) (length bs) → IsFrontCount front (standings_of bs)
     → awaits_settling k bs ≡ holds (λ b. (is_committing b.stage && not b.aborted) && (b.bid == k)) (slice_get bs front)
 settling_at_front k base front bs e f =
     one_bool (awaits_settling k bs) (holds (λ b. (is_committing b.stage && not b.aborted) && (b.bid == k)) (slice_get bs front)) (settles_at_front k base front bs (slice_get bs front) e f refl) (at_front_settles k base front bs (slice_get bs front) e f refl)
@@ -97,12 +97,12 @@ formed_not_settled stages.Formed e = refl
 formed_not_settled stages.Committing e = refl
 formed_not_settled stages.Settled e = sym e
 
-pub front_within : (front : ℕ) (bs : List Batch) → IsFront front (marks_of bs) → front ≤ length bs
+pub front_within : (front : ℕ) (bs : List Batch) → IsFrontCount front (standings_of bs) → front ≤ length bs
 front_within zero bs f = omega arith
 front_within (suc n) [] f = absurd f
 front_within (suc n) (b ∷ bs) f = omega (arith, front_within n bs f.1)
 
-pub none_unnoted : (logs l front : ℕ) (bs : List Batch) → IsFront front (marks_of bs) → flat_map (unnoted_in logs l) (take front bs) ≡ []
+pub none_unnoted : (logs l front : ℕ) (bs : List Batch) → IsFrontCount front (standings_of bs) → flat_map (unnoted_in logs l) (take front bs) ≡ []
 none_unnoted logs l zero bs f = refl
 none_unnoted logs l (suc n) [] f = refl
 none_unnoted logs l (suc n) (b ∷ bs) f =

@@ -9,7 +9,7 @@ use Rattle.protocol.specs.Words.{is_empty, count, greatest, is_live_batch, is_se
 use Rattle.protocol.specs.Conditions.{conditions, queue}
 use Rattle.protocol.specs.OnRing.{numbered}
 use Rattle.protocol.specs.Numbers.{from, flat, times, one_if, once_in}
-use Rattle.batch_table.specs.Joining.{bids_of, tids_in, tids_of, txs_in, txs_of, first_number, first_of, AreConsecutive, AllTidsBelow}
+use Rattle.batch_table.specs.Joining.{bids_of, pact_tids, batch_tids, pact_txs, batch_txs, first_number, first_or_zero, AreConsecutive, AllTidsBelow}
 use Rattle.batch_table.specs.Laws.{PlannedMayJoin}
 use Rattle.batch_table.proofs.ByNumber.{cons_parts}
 use Rattle.batch_table.proofs.LiveCount.{count_head, count_append}
@@ -20,11 +20,11 @@ length_from : (t n : ℕ) → length (from t n) ≡ n
 length_from t zero = refl
 length_from t (suc n) = ap (λ x. suc x) (length_from (t + 1) n)
 
-numbered_tids : (t : ℕ) (ns : List ℕ) → tids_in (numbered t ns) ≡ from t (length ns)
+numbered_tids : (t : ℕ) (ns : List ℕ) → pact_tids (numbered t ns) ≡ from t (length ns)
 numbered_tids t [] = refl
 numbered_tids t (n ∷ ns) = ap (λ x. t ∷ x) (numbered_tids (t + 1) ns)
 
-numbered_txs : (t : ℕ) (ns : List ℕ) → txs_in (numbered t ns) ≡ ns
+numbered_txs : (t : ℕ) (ns : List ℕ) → pact_txs (numbered t ns) ≡ ns
 numbered_txs t [] = refl
 numbered_txs t (n ∷ ns) = ap (λ x. n ∷ x) (numbered_txs (t + 1) ns)
 
@@ -36,7 +36,7 @@ from_consecutive : (t n : ℕ) → AreConsecutive (from t n)
 from_consecutive t zero = refl
 from_consecutive t (suc n) = ap (λ x. from t (suc x)) (sym (length_from (t + 1) n))
 
-first_of_from : (t n : ℕ) → 0 < n → first_of (from t n) ≡ t
+first_of_from : (t n : ℕ) → 0 < n → first_or_zero (from t n) ≡ t
 first_of_from t zero l = absurd (omega arith)
 first_of_from t (suc n) l = refl
 
@@ -97,19 +97,19 @@ planned_may_join w s text drawn placed settling replied k ok =
     let some : 0 < length ns = some_taken w.text.batch (queue r.pacts r.holder) text.some_batch ok.1.0 in
     let own : (n : ℕ) → times n ns ≤ times n (flat r.pacts) = λ n. omega (arith, times_taken n w.text.batch (queue r.pacts r.holder), times_in_flat n r.holder r.pacts) in
     let queued : (n : ℕ) → times n (flat r.pacts) ≤ times n (flat r.pacts ++ flat r.acts) = λ n. omega (arith, count_append (λ y. y == n) (flat r.pacts) (flat r.acts)) in
-    let kept : (n : ℕ) → times n (flat (txs_of s.desk.batches)) ≤ times n (flat (txs_of s.desk.batches) ++ map (λ x. x.tx) s.book.acts) = λ n. omega (arith, count_append (λ y. y == n) (flat (txs_of s.desk.batches)) (map (λ x. x.tx) s.book.acts)) in
-    let whole : (n : ℕ) → times n (flat r.pacts ++ flat r.acts) + times n (flat (txs_of s.desk.batches) ++ map (λ x. x.tx) s.book.acts) ≡ once_in 0 r.next_tx n =
-    λ n. sym (count_append (λ y. y == n) (flat r.pacts ++ flat r.acts) (flat (txs_of s.desk.batches) ++ map (λ x. x.tx) s.book.acts)) ∙ placed n in
+    let kept : (n : ℕ) → times n (flat (batch_txs s.desk.batches)) ≤ times n (flat (batch_txs s.desk.batches) ++ map (λ x. x.tx) s.book.acts) = λ n. omega (arith, count_append (λ y. y == n) (flat (batch_txs s.desk.batches)) (map (λ x. x.tx) s.book.acts)) in
+    let whole : (n : ℕ) → times n (flat r.pacts ++ flat r.acts) + times n (flat (batch_txs s.desk.batches) ++ map (λ x. x.tx) s.book.acts) ≡ once_in 0 r.next_tx n =
+    λ n. sym (count_append (λ y. y == n) (flat r.pacts ++ flat r.acts) (flat (batch_txs s.desk.batches) ++ map (λ x. x.tx) s.book.acts)) ∙ placed n in
     record {
       numbered = next_is w.text.opening.next_bid s.desk.settled k s.desk.batches drawn.bids (eqb-true k r.next_bid ok.0 ∙ drawn.next_bid)
           (λ e. omega (arith, settling.settled_is ∙ nothing_settled (base w.text) s.desk.batches e, text.bids));
       some = omega (arith, some, numbered_length t ns);
       consecutive = subst (λ z. AreConsecutive z) (sym (numbered_tids t ns)) (from_consecutive t (length ns));
-      above = subst (λ z. AllTidsBelow z s.desk.batches) (sym (ap first_of (numbered_tids t ns) ∙ first_of_from t (length ns) some))
-          (all_below t (flat (tids_of s.desk.batches)) (λ n l. in_range w.text.opening.next_tid t n
-          (omega (arith, l, count_append (λ y. y == n) (flat (tids_of s.desk.batches)) (map (λ x. x.tid) s.book.acts), drawn.tids n))));
+      above = subst (λ z. AllTidsBelow z s.desk.batches) (sym (ap first_or_zero (numbered_tids t ns) ∙ first_of_from t (length ns) some))
+          (all_below t (flat (batch_tids s.desk.batches)) (λ n l. in_range w.text.opening.next_tid t n
+          (omega (arith, l, count_append (λ y. y == n) (flat (batch_tids s.desk.batches)) (map (λ x. x.tid) s.book.acts), drawn.tids n))));
       in_text = subst (λ z. AllByRecursion (λ x. x < length s.desk.replied) z) (sym (numbered_txs t ns))
           (all_below (length s.desk.replied) ns (λ n l. omega (arith, replied, in_range 0 r.next_tx n (omega (arith, l, own n, queued n, whole n)))));
-      once = λ n. omega (arith, ap (λ z. times n z) (numbered_txs t ns), count_append (λ y. y == n) (flat (txs_of s.desk.batches)) (txs_in (numbered t ns)), own n, queued n, kept n, whole n, at_most_one (nat_le 0 n && nat_lt n r.next_tx));
+      once = λ n. omega (arith, ap (λ z. times n z) (numbered_txs t ns), count_append (λ y. y == n) (flat (batch_txs s.desk.batches)) (pact_txs (numbered t ns)), own n, queued n, kept n, whole n, at_most_one (nat_le 0 n && nat_lt n r.next_tx));
       few = omega (arith, ltb-true (count is_live_batch s.desk.batches) w.text.batches ok.1.1.0, text.few_batches);
     }

@@ -7,8 +7,8 @@ use Rattle.std.proofs.lemmas.List.{take-append-drop}
 use Rattle.std.proofs.lemmas.List.Elements.{filter-append}
 use Rattle.protocol.specs.Parts.{Batch}
 use Rattle.protocol.specs.Words.{below, count, is_live_batch, is_settled}
-use Rattle.batch_table.specs.Listed.{is_going, is_unreplied, unreplied_below}
-use Rattle.batch_table.specs.Sound.{marks_of, IsFront}
+use Rattle.batch_table.specs.Listed.{is_going_batch, is_unreplied, unreplied_below}
+use Rattle.batch_table.specs.Sound.{standings_of, IsFrontCount}
 use Rattle.batch_table.proofs.LiveCount.{count_append, count_head, count_more}
 use Rattle.protocol.specs.Numbers.{one_if}
 
@@ -25,14 +25,14 @@ over_and_not_live false true true o l = refl
 over_and_not_live false true false o l = l
 over_and_not_live false false trimmed o l = sym o
 
-pub none_going : (n front : ℕ) (bs : List Batch) → n ≤ front → IsFront front (marks_of bs) → count is_live_batch (take n bs) ≤ 0 → filter is_going (take n bs) ≡ []
+pub none_going : (n front : ℕ) (bs : List Batch) → n ≤ front → IsFrontCount front (standings_of bs) → count is_live_batch (take n bs) ≤ 0 → filter is_going_batch (take n bs) ≡ []
 none_going zero front bs l f c = refl
 none_going (suc n) front [] l f c = refl
 none_going (suc n) zero (b ∷ bs) l f c = absurd (omega arith)
 none_going (suc n) (suc front) (b ∷ bs) l f c =
     let head = count_head is_live_batch b (take n bs) in
     let dead : is_live_batch b ≡ false = one_or_none (is_live_batch b) (omega (arith, head)) in
-    cond-false (is_going b) _ _ (over_and_not_live b.aborted (is_settled b.stage) (list_all (λ p. p.trimmed) b.places) f.0 dead)
+    cond-false (is_going_batch b) _ _ (over_and_not_live b.aborted (is_settled b.stage) (list_all (λ p. p.trimmed) b.places) f.0 dead)
     ∙ none_going n front bs (omega arith) f.1 (omega (arith, head))
 
 -- those from a place on have all live ones, so those before it have none

@@ -36,8 +36,8 @@ abbrev pub awaits_trim : ℕ → ℕ → List Batch → Bool
 awaits_trim k a batches = holds (λ b. is_settled b.stage && (not b.aborted && holds (λ p. not p.trimmed) (declared_of a b))) (batch_of k batches)
 
 -- some PACT of it failed, and all before that one ended with a value
-abbrev pub has_failed : ℕ → List Batch → Bool
-has_failed k batches = holds (λ b. is_some (first_failed b.pacts)) (batch_of k batches)
+abbrev pub has_failed_pact : ℕ → List Batch → Bool
+has_failed_pact k batches = holds (λ b. is_some (first_failed b.pacts)) (batch_of k batches)
 
 -- that PACT's transaction and its code
 abbrev pub failure_shown : Failure → TxNo × ℕ

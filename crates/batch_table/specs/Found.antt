@@ -31,10 +31,10 @@ pact_with_tx n [] = None
 pact_with_tx n (b ∷ bs) = or_else (found_in n b b.pacts) (pact_with_tx n bs)
 
 -- what became of transaction n, whose PACT this is: as the cascade over its batch says, or at its place
-abbrev pub verdict_by : Option Cascade → ℕ → Found → Option Verdict
-verdict_by (Some c) n x = Some (aborted_by c n)
-verdict_by None n x = settled_verdict x.stage (pact_place x.bid x.tid) x.result
+abbrev pub verdict_of_found : Option Cascade → ℕ → Found → Option Verdict
+verdict_of_found (Some c) n x = Some (aborted_by c n)
+verdict_of_found None n x = settled_verdict x.stage (pact_place x.bid x.tid) x.result
 
 abbrev pub verdict_found : List Cascade → ℕ → Option Found → Option Verdict
 verdict_found cascades n None = None
-verdict_found cascades n (Some x) = verdict_by (find (covers x.bid) cascades) n x
+verdict_found cascades n (Some x) = verdict_of_found (find (covers x.bid) cascades) n x

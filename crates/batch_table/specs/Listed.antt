@@ -7,11 +7,11 @@ use Rattle.protocol.specs.Parts.{Declared, Batch, Desk}
 use Rattle.protocol.specs.Words.{holds, below, is_open, is_settled}
 
 -- it is neither aborted, nor settled and trimmed on all its actors
-abbrev pub is_going : Batch → Bool
-is_going b = not (b.aborted || (is_settled b.stage && list_all (λ p. p.trimmed) b.places))
+abbrev pub is_going_batch : Batch → Bool
+is_going_batch b = not (b.aborted || (is_settled b.stage && list_all (λ p. p.trimmed) b.places))
 
-abbrev pub going : Desk → List ℕ
-going d = map (λ b. b.bid) (filter is_going d.batches)
+abbrev pub going_batches : Desk → List ℕ
+going_batches d = map (λ b. b.bid) (filter is_going_batch d.batches)
 
 -- the actors that it declares
 abbrev pub actors_in : Option Batch → List ℕ

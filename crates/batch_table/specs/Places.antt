@@ -5,7 +5,7 @@ use Rattle.snap_base.specs.declared.transactions.TxResult.{TxResult}
 use Rattle.protocol.specs.Parts.{Batch}
 use Rattle.protocol.specs.Words.{holds, batch_of, is_live_batch, result_among, pact_result}
 use Rattle.protocol.specs.OnDesk.{changed_batch, marked, is_trimmed, with_results}
-use Rattle.batch_table.specs.Joining.{tids_in, AreConsecutive}
+use Rattle.batch_table.specs.Joining.{pact_tids, AreConsecutive}
 
 -- a batch that was taken along
 abbrev pub gone : Batch → Batch
@@ -16,7 +16,7 @@ abbrev pub is_live_with_trim : ℕ → ℕ → List Batch → Bool
 is_live_with_trim k a batches = holds (λ b. is_live_batch (marked a is_trimmed b)) (batch_of k batches)
 
 -- batch k stands at place i
-pub record IsPlaceOf (k i : ℕ) (batches : List Batch) : Type 0 where
+pub record IsPlaceOfBatch (k i : ℕ) (batches : List Batch) : Type 0 where
   pub within : i < length batches
   pub found : batch_of k batches ≡ slice_get batches i
   pub changed : (f : Batch → Batch) (d : Batch) → changed_batch k f batches ≡ slice_set batches i (f (slice_index_or batches i d))
@@ -29,7 +29,7 @@ pub record IsNowhere (k : ℕ) (batches : List Batch) : Type 0 where
 -- if any batch has the tid, the one at place i does
 pub record IsPlaceOfTid (t i : ℕ) (batches : List Batch) : Type 0 where
   pub within : i < length batches
-  pub consecutive : (d : Batch) → AreConsecutive (tids_in (slice_index_or batches i d).pacts)
+  pub consecutive : (d : Batch) → AreConsecutive (pact_tids (slice_index_or batches i d).pacts)
   pub result : (d : Batch) → pact_result t batches ≡ result_among t (slice_index_or batches i d).pacts
   pub noted : (r : TxResult) (d : Batch) → map (with_results t r) batches ≡ slice_set batches i (with_results t r (slice_index_or batches i d))
 

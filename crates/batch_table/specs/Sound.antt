@@ -6,52 +6,52 @@ use Rattle.protocol.specs.Parts.{Stage, Batch}
 use Rattle.protocol.specs.Words.{is_formed, is_settled, count, is_live_batch}
 use Rattle.protocol.specs.Numbers.{from}
 use Rattle.batch_table.specs.declared.spots.Spot.{Spot}
-use Rattle.batch_table.specs.Joining.{bids_of, tids_of, txs_of, first_of, AreConsecutive}
+use Rattle.batch_table.specs.Joining.{bids_of, batch_tids, batch_txs, first_or_zero, AreConsecutive}
 use Rattle.batch_table.specs.Spots.{AreSpotted}
 
 -- each batch has tids, one after another, and above all of the batches before it
 abbrev pub TidsAscend : ℕ → List (List ℕ) → Type 0
 TidsAscend low [] = ⊤
-TidsAscend low (ts ∷ tss) = (low ≤ first_of ts) × (0 < length ts) × AreConsecutive ts × TidsAscend (first_of ts + length ts) tss
+TidsAscend low (ts ∷ tss) = (low ≤ first_or_zero ts) × (0 < length ts) × AreConsecutive ts × TidsAscend (first_or_zero ts + length ts) tss
 
 -- ---- the front: how many batches are over, all of them ahead of all others
 
 -- whether a batch is aborted, and how far it is
-pub record Mark : Type 0 where
+pub record Standing : Type 0 where
   pub aborted : Bool
   pub stage : Stage
 
-abbrev pub mark_of : Batch → Mark
-mark_of b = record { aborted = b.aborted; stage = b.stage }
+abbrev pub standing_of : Batch → Standing
+standing_of b = record { aborted = b.aborted; stage = b.stage }
 
-abbrev pub marks_of : List Batch → List Mark
-marks_of batches = map mark_of batches
+abbrev pub standings_of : List Batch → List Standing
+standings_of batches = map standing_of batches
 
-abbrev pub IsOver : Mark → Type 0
-IsOver m = (m.aborted || is_settled m.stage) ≡ true
+abbrev pub IsBatchOver : Standing → Type 0
+IsBatchOver m = (m.aborted || is_settled m.stage) ≡ true
 
 -- under way
-abbrev pub IsNotOver : Mark → Type 0
+abbrev pub IsNotOver : Standing → Type 0
 IsNotOver m = (m.aborted ≡ false) × (is_settled m.stage ≡ false)
 
 -- formed, and nothing else
-abbrev pub IsOpen : Mark → Type 0
+abbrev pub IsOpen : Standing → Type 0
 IsOpen m = (m.aborted ≡ false) × (is_formed m.stage ≡ true)
 
 -- the first so many are over, the next one is not, and those behind it are open
-abbrev pub IsFront : ℕ → List Mark → Type 0
-IsFront zero [] = ⊤
-IsFront (suc n) [] = ⊥
-IsFront zero (m ∷ ms) = IsNotOver m × AllByRecursion IsOpen ms
-IsFront (suc n) (m ∷ ms) = IsOver m × IsFront n ms
+abbrev pub IsFrontCount : ℕ → List Standing → Type 0
+IsFrontCount zero [] = ⊤
+IsFrontCount (suc n) [] = ⊥
+IsFrontCount zero (m ∷ ms) = IsNotOver m × AllByRecursion IsOpen ms
+IsFrontCount (suc n) (m ∷ ms) = IsBatchOver m × IsFrontCount n ms
 
 -- ---- all of it
 
-pub record IsSound (base : ℕ) (batches : List Batch) (settled : ℕ) (replied : List Bool) (spots : List Spot) (live front : ℕ) : Type 0 where
+pub record IsSoundDesk (base : ℕ) (batches : List Batch) (settled : ℕ) (replied : List Bool) (spots : List Spot) (live front : ℕ) : Type 0 where
   pub numbered : bids_of batches ≡ from (base + 1) (length batches)
   pub begun : batches ≡ [] → settled ≡ base
-  pub ascending : TidsAscend 0 (tids_of batches)
-  pub spotted : AreSpotted 0 spots (txs_of batches)
+  pub ascending : TidsAscend 0 (batch_tids batches)
+  pub spotted : AreSpotted 0 spots (batch_txs batches)
   pub room : length spots ≡ length replied
   pub counted : live ≡ count is_live_batch batches
-  pub parted : IsFront front (marks_of batches)
+  pub parted : IsFrontCount front (standings_of batches)

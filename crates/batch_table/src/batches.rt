@@ -8,7 +8,7 @@ ghost use Rattle.machine_words.specs.Meant.{actor_number, batch_pact, subs_actor
 ghost use Rattle.batch_table.specs.Askings.{failure_shown};
 ghost use Rattle.batch_table.specs.Found.{found_at, found_if};
 ghost use Rattle.batch_table.specs.Joining as joining;
-ghost use Rattle.batch_table.specs.Listed.{is_going, unnoted_in, unnoted_shown};
+ghost use Rattle.batch_table.specs.Listed.{is_going_batch, unnoted_in, unnoted_shown};
 ghost use Rattle.batch_table.specs.Stages.{stage_meant};
 
 use crate::actors::{self, ActorEntry};
@@ -64,7 +64,7 @@ impl BatchEntry {
 
     /// The least tid of its PACTs; 0 where it has none.
     pub fn first_tid(&self) -> u64
-        ensures { result ≡ joining.first_of (joining.tids_in self.now.pacts) }
+        ensures { result ≡ joining.first_or_zero (joining.pact_tids self.now.pacts) }
     {
         pacts::first_tid(self.pacts.as_slice())
     }
@@ -92,7 +92,7 @@ impl BatchEntry {
 
     /// Whether it is neither aborted, nor settled and trimmed on all its actors.
     pub fn is_going(&self) -> bool
-        ensures { result ≡ is_going self.now }
+        ensures { result ≡ is_going_batch self.now }
     {
         !(self.aborted
             || self.stage.is_settled() && actors::are_all_trimmed(self.actors.as_slice()))
@@ -188,7 +188,7 @@ impl BatchEntry {
 
     /// How its PACT with this tid ended; `None` where nothing was noted, or the batch has no such PACT.
     pub fn result_of(&self, tid: Tid) -> Option<TxResult>
-        requires { joining.AreConsecutive (joining.tids_in self.now.pacts) }
+        requires { joining.AreConsecutive (joining.pact_tids self.now.pacts) }
         ensures { result ≡ words.result_among tid.0 self.now.pacts }
     {
         pacts::result_of(self.pacts.as_slice(), tid)
@@ -261,7 +261,7 @@ impl BatchEntry {
 
     /// Notes how the PACT with this tid ended, if it is one of the batch, and the batch is not aborted.
     pub fn note_end(&mut self, tid: Tid, r: TxResult)
-        requires { joining.AreConsecutive (joining.tids_in self.old.pacts) }
+        requires { joining.AreConsecutive (joining.pact_tids self.old.pacts) }
         ensures { self.new ≡ desk.with_results tid.0 r self.old }
     {
         if !self.aborted {

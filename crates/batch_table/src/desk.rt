@@ -53,11 +53,11 @@ impl Model for Desk {
 
     ghost Value = { parts.Desk };
 
-    ghost use Rattle.batch_table.specs.Sound.{IsSound};
+    ghost use Rattle.batch_table.specs.Sound.{IsSoundDesk};
 
     ghost view = { λ d. record { batches = d.batches.items; settled = d.settled; replied = d.replied } };
 
-    ghost invariant = { λ d. IsSound d.base d.batches.items d.settled d.replied d.spots.items d.live d.front };
+    ghost invariant = { λ d. IsSoundDesk d.base d.batches.items d.settled d.replied d.spots.items d.live d.front };
 }
 
 impl Desk {
@@ -229,7 +229,7 @@ impl Desk {
     /// The first PACT of the batch that failed, if all before it ended with a value: its transaction and its code. Else `None`.
     pub fn first_failed(&self, bid: Bid) -> Option<(TxNo, u16)>
         ensures failed { result ≡ askings.failed_in bid.0 self.now.batches }
-        ensures some { is_some result ≡ askings.has_failed bid.0 self.now.batches }
+        ensures some { is_some result ≡ askings.has_failed_pact bid.0 self.now.batches }
     {
         match self.batch(bid) {
             Some(batch) => batch.first_failed(),
@@ -240,7 +240,7 @@ impl Desk {
     /// Batch `bid`, which is the next one, and all later ones are aborted.
     pub fn abort_from(&mut self, bid: Bid)
         requires next { IsTrue (askings.is_next bid.0 self.old.batches) }
-        requires failed { IsTrue (askings.has_failed bid.0 self.old.batches) }
+        requires failed { IsTrue (askings.has_failed_pact bid.0 self.old.batches) }
         ensures { self.new ≡ desk.batches_aborted bid.0 self.old }
     {
         self.live -= table::abort_from(self.batches.as_mut_slice(), self.front);

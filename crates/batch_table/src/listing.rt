@@ -4,8 +4,8 @@ ghost use Rattle.std.specs.List.{flat_map};
 ghost use Rattle.machine_words.specs.Meant.{actor_number};
 ghost use Rattle.protocol.specs.Words as words;
 ghost use Rattle.batch_table.specs.Askings as askings;
-ghost use Rattle.batch_table.specs.Listed.{actors_in, going, is_going, is_number, txs_at, unnoted_in, unnoted_on, unnoted_shown, unreplied_below};
-ghost use Rattle.batch_table.specs.Sound.{IsFront, marks_of};
+ghost use Rattle.batch_table.specs.Listed.{actors_in, going_batches, is_going_batch, is_number, txs_at, unnoted_in, unnoted_on, unnoted_shown, unreplied_below};
+ghost use Rattle.batch_table.specs.Sound.{IsFrontCount, standings_of};
 
 use crate::batches::BatchEntry;
 use crate::desk::Desk;
@@ -16,7 +16,7 @@ impl Desk {
     /// The batches of which some event may still be allowed: those neither aborted, nor settled and trimmed on all their
     /// actors, in the order of their numbers. It walks the batches from the oldest of them on, and no older one.
     pub fn going(&self, alloc: Global) -> Result<Vec<Bid>, Memory>
-        ensures { IfOk result (λ bids. map (λ k. k.0) bids.items ≡ going self.now) }
+        ensures { IfOk result (λ bids. map (λ k. k.0) bids.items ≡ going_batches self.now) }
     {
         let batches = self.batches.as_slice();
         let first = first_going(batches, self.front, self.live);
@@ -79,9 +79,9 @@ impl Desk {
 /// oldest live one, or the front, whichever is less.
 fn first_going(batches: &[BatchEntry], front: usize, live: u32) -> usize
     requires counted { live ≡ words.count words.is_live_batch batches.now }
-    requires parted { IsFront front (marks_of batches.now) }
+    requires parted { IsFrontCount front (standings_of batches.now) }
     ensures within { result ≤ length batches.now }
-    ensures over { filter is_going (take result batches.now) ≡ [] }
+    ensures over { filter is_going_batch (take result batches.now) ≡ [] }
 {
     let mut first = batches.len();
     let mut found: u32 = 0;
@@ -97,8 +97,8 @@ fn first_going(batches: &[BatchEntry], front: usize, live: u32) -> usize
 /// Those that are going, where none before this place is.
 fn going_from(alloc: Global, batches: &[BatchEntry], first: usize) -> Result<Vec<Bid>, Memory>
     requires within { first ≤ length batches.now }
-    requires over { filter is_going (take first batches.now) ≡ [] }
-    ensures { IfOk result (λ bids. map (λ k. k.0) bids.items ≡ map (λ b. b.bid) (filter is_going batches.now)) }
+    requires over { filter is_going_batch (take first batches.now) ≡ [] }
+    ensures { IfOk result (λ bids. map (λ k. k.0) bids.items ≡ map (λ b. b.bid) (filter is_going_batch batches.now)) }
 {
     let mut bids = Vec::new(alloc);
     for i in first..batches.len() {

@@ -90,7 +90,7 @@ impl PactEntry {
 
 /// The tid of the first one, or 0 where there is none.
 pub(crate) fn first_tid(pacts: &[PactEntry]) -> u64
-    ensures { result ≡ joining.first_of (joining.tids_in pacts.now) }
+    ensures { result ≡ joining.first_or_zero (joining.pact_tids pacts.now) }
 {
     match pacts.first() {
         Some(pact) => pact.tid().0,
@@ -143,7 +143,7 @@ pub(crate) fn first_failed(pacts: &[PactEntry]) -> Option<(TxNo, u16)>
 
 /// How the one with this tid ended, if that was noted. Their tids are one after another.
 pub(crate) fn result_of(pacts: &[PactEntry], tid: Tid) -> Option<TxResult>
-    requires { joining.AreConsecutive (joining.tids_in pacts.now) }
+    requires { joining.AreConsecutive (joining.pact_tids pacts.now) }
     ensures { result ≡ words.result_among tid.0 pacts.now }
 {
     let first = first_tid(pacts);
@@ -158,7 +158,7 @@ pub(crate) fn result_of(pacts: &[PactEntry], tid: Tid) -> Option<TxResult>
 
 /// Notes how the one with this tid ended, if there is one. Their tids are one after another.
 pub(crate) fn note_end(pacts: &mut [PactEntry], tid: Tid, r: TxResult)
-    requires { joining.AreConsecutive (joining.tids_in pacts.old) }
+    requires { joining.AreConsecutive (joining.pact_tids pacts.old) }
     ensures { pacts.new ≡ map (with_result tid.0 r) pacts.old }
 {
     let first = first_tid(pacts);

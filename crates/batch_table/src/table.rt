@@ -8,9 +8,9 @@ ghost use Rattle.protocol.specs.OnDesk as desk;
 ghost use Rattle.protocol.specs.Numbers.{from};
 ghost use Rattle.batch_table.specs.Askings as askings;
 ghost use Rattle.batch_table.specs.Found.{found_if};
-ghost use Rattle.batch_table.specs.Joining.{bids_of, tids_of};
-ghost use Rattle.batch_table.specs.Places.{IsPlaceOf, IsNowhere, IsPlaceOfTid, IsTidNowhere, gone, is_live_with_trim};
-ghost use Rattle.batch_table.specs.Sound.{TidsAscend, IsFront, marks_of};
+ghost use Rattle.batch_table.specs.Joining.{bids_of, batch_tids};
+ghost use Rattle.batch_table.specs.Places.{IsPlaceOfBatch, IsNowhere, IsPlaceOfTid, IsTidNowhere, gone, is_live_with_trim};
+ghost use Rattle.batch_table.specs.Sound.{TidsAscend, IsFrontCount, standings_of};
 ghost use Rattle.batch_table.specs.Stages.{stage_meant};
 
 use crate::batches::BatchEntry;
@@ -21,7 +21,7 @@ use snap_base::{ActorId, Bid, Tid, TxNo, TxResult};
 /// The place of the batch with this number.
 pub(crate) fn place_of(batches: &[BatchEntry], base: u64, bid: Bid) -> Option<usize>
     requires { bids_of batches.now ≡ from (base + 1) (length batches.now) }
-    ensures { MatchOption result (IsNowhere bid.0 batches.now) (λ i. IsPlaceOf bid.0 i batches.now × (bid.0 ≡ base + 1 + i)) }
+    ensures { MatchOption result (IsNowhere bid.0 batches.now) (λ i. IsPlaceOfBatch bid.0 i batches.now × (bid.0 ≡ base + 1 + i)) }
 {
     if bid.0 <= base {
         return None;
@@ -48,7 +48,7 @@ pub(crate) fn batch_of(batches: &[BatchEntry], base: u64, bid: Bid) -> Option<&B
 /// Whether the batch with this number is open, and all smaller ones are over, where so many are over as the front says.
 pub(crate) fn is_next(batches: &[BatchEntry], base: u64, front: usize, bid: Bid) -> bool
     requires numbered { bids_of batches.now ≡ from (base + 1) (length batches.now) }
-    requires parted { IsFront front (marks_of batches.now) }
+    requires parted { IsFrontCount front (standings_of batches.now) }
     ensures { result ≡ askings.is_next bid.0 batches.now }
 {
     match place_of(batches, base, bid) {
@@ -118,7 +118,7 @@ fn abort_all(batches: &mut [BatchEntry]) -> u32
 
 /// The place of the only batch that may have this tid: the last one whose first tid is not above it.
 fn place_of_tid(batches: &[BatchEntry], tid: Tid) -> Option<usize>
-    requires { TidsAscend 0 (tids_of batches.now) }
+    requires { TidsAscend 0 (batch_tids batches.now) }
     ensures { MatchOption result (IsTidNowhere tid.0 batches.now) (λ i. IsPlaceOfTid tid.0 i batches.now) }
 {
     let count = batches.partition_point(|batch| batch.first_tid() <= tid.0);
@@ -127,7 +127,7 @@ fn place_of_tid(batches: &[BatchEntry], tid: Tid) -> Option<usize>
 
 /// How the PACT with this tid ended, if that was noted.
 pub(crate) fn result_of(batches: &[BatchEntry], tid: Tid) -> Option<TxResult>
-    requires { TidsAscend 0 (tids_of batches.now) }
+    requires { TidsAscend 0 (batch_tids batches.now) }
     ensures { result ≡ words.pact_result tid.0 batches.now }
 {
     match place_of_tid(batches, tid) {
@@ -138,7 +138,7 @@ pub(crate) fn result_of(batches: &[BatchEntry], tid: Tid) -> Option<TxResult>
 
 /// Notes how the PACT with this tid ended, if its batch is not aborted.
 pub(crate) fn note_end(batches: &mut [BatchEntry], tid: Tid, r: TxResult)
-    requires { TidsAscend 0 (tids_of batches.old) }
+    requires { TidsAscend 0 (batch_tids batches.old) }
     ensures { batches.new ≡ map (desk.with_results tid.0 r) batches.old }
 {
     if let Some(place) = place_of_tid(batches, tid) {

@@ -13,8 +13,8 @@ use Rattle.protocol.specs.BookParts.{act_by, place_by, result_by}
 use Rattle.protocol_theorems.specs.BookFits.{IsVoted, IsVotedBy, act_with, placed_verdict, verdict_by, verdict_of_halves}
 use Rattle.protocol_theorems.proofs.Lemmas.{found_by, live_count, place_actor, verdict_of}
 use Rattle.book_part.proofs.Mapped.{map_each}
-use Rattle.order_book.specs.Asked.{before_of, doom_in, tid_of}
-use Rattle.act_commit.specs.Words.{actors_by, number_by, number_of}
+use Rattle.order_book.specs.Asked.{before_of, doom_in, tid_of_act}
+use Rattle.act_commit.specs.Words.{actors_by, number_by, commit_number_of}
 use Rattle.book_part.specs.Halves.{Halves, Shows}
 use Rattle.book_part.specs.Told.{told_verdict, sealed_verdict, doom_or_votes}
 use Rattle.book_part.proofs.Shown.{IsAt, is_book, stands, found_tid}
@@ -40,7 +40,7 @@ abbrev pub verdict_at : Option Act → Option Act → Option Verdict
 verdict_at None y = None
 verdict_at (Some x) y = verdict_by y x.m x.status
 
-sealed_told : (m : ℕ) (r : Option TxResult) (st : Status) → is_doomed st ≡ false → sealed_verdict m (is_sealed st) (number_of st) r ≡ act_verdict st m r
+sealed_told : (m : ℕ) (r : Option TxResult) (st : Status) → is_doomed st ≡ false → sealed_verdict m (is_sealed st) (commit_number_of st) r ≡ act_verdict st m r
 sealed_told m r Live d = refl
 sealed_told m r (Doomed why) d = absurd (true≢false d)
 sealed_told m r (Decided c) d = refl
@@ -64,26 +64,26 @@ pub shown_verdict : (h : Halves) (b : Book) (n : ℕ) → Shows h b → verdict_
 shown_verdict h b n s = ap (λ (b : Book). verdict_of_act n b.acts) (is_book h b s) ∙ verdict_of n h.votes.acts h.orders.acts s.0.fits.voted
 
 -- the first ACT of the transaction has this tid
-of_first : (vs : List Act) (t : ℕ) (z : Option Act) → Some t ≡ tid_of z → verdict_at z (act_of t vs) ≡ verdict_of_halves vs z
+of_first : (vs : List Act) (t : ℕ) (z : Option Act) → Some t ≡ tid_of_act z → verdict_at z (act_of t vs) ≡ verdict_of_halves vs z
 of_first vs t None e = absurd (cc e)
 of_first vs t (Some x) e = let i : t ≡ x.tid = cc e in ap (λ k. verdict_by (act_of k vs) x.m x.status) i
 
-some_at : (h : Halves) (b : Book) (n t : ℕ) → Shows h b → Some t ≡ tid_of (act_with n h.orders.acts) → act_of t h.orders.acts ≡ act_with n h.orders.acts → told_verdict (act_of t h.orders.acts) (act_of t h.votes.acts) ≡ verdict_of_act n b.acts
+some_at : (h : Halves) (b : Book) (n t : ℕ) → Shows h b → Some t ≡ tid_of_act (act_with n h.orders.acts) → act_of t h.orders.acts ≡ act_with n h.orders.acts → told_verdict (act_of t h.orders.acts) (act_of t h.votes.acts) ≡ verdict_of_act n b.acts
 some_at h b n t s e f =
     told (act_of t h.orders.acts) (act_of t h.votes.acts) (stands h b t s)
     ∙ (ap (λ z. verdict_at z (act_of t h.votes.acts)) f
     ∙ (of_first h.votes.acts t (act_with n h.orders.acts) e
     ∙ sym (shown_verdict h b n s)))
 
-pub verdict_some : (k h : Halves) → k ≡ h → (b : Book) (n t : ℕ) → Shows h b → Some t ≡ tid_of (act_with n k.orders.acts) → act_of t k.orders.acts ≡ act_with n k.orders.acts → told_verdict (act_of t h.orders.acts) (act_of t h.votes.acts) ≡ verdict_of_act n b.acts
-verdict_some k h i b n t s e f = some_at h b n t s (subst (λ z. Some t ≡ tid_of (act_with n z.orders.acts)) i e) (subst (λ z. act_of t z.orders.acts ≡ act_with n z.orders.acts) i f)
+pub verdict_some : (k h : Halves) → k ≡ h → (b : Book) (n t : ℕ) → Shows h b → Some t ≡ tid_of_act (act_with n k.orders.acts) → act_of t k.orders.acts ≡ act_with n k.orders.acts → told_verdict (act_of t h.orders.acts) (act_of t h.votes.acts) ≡ verdict_of_act n b.acts
+verdict_some k h i b n t s e f = some_at h b n t s (subst (λ z. Some t ≡ tid_of_act (act_with n z.orders.acts)) i e) (subst (λ z. act_of t z.orders.acts ≡ act_with n z.orders.acts) i f)
 
-none_first : (vs : List Act) (z : Option Act) → None ≡ tid_of z → None ≡ verdict_of_halves vs z
+none_first : (vs : List Act) (z : Option Act) → None ≡ tid_of_act z → None ≡ verdict_of_halves vs z
 none_first vs None e = refl
 none_first vs (Some x) e = absurd (cc e)
 
-pub verdict_none : (k h : Halves) → k ≡ h → (b : Book) (n : ℕ) → Shows h b → None ≡ tid_of (act_with n k.orders.acts) → None ≡ verdict_of_act n b.acts
-verdict_none k h i b n s e = none_first h.votes.acts (act_with n h.orders.acts) (subst (λ z. None ≡ tid_of (act_with n z.orders.acts)) i e) ∙ sym (shown_verdict h b n s)
+pub verdict_none : (k h : Halves) → k ≡ h → (b : Book) (n : ℕ) → Shows h b → None ≡ tid_of_act (act_with n k.orders.acts) → None ≡ verdict_of_act n b.acts
+verdict_none k h i b n s e = none_first h.votes.acts (act_with n h.orders.acts) (subst (λ z. None ≡ tid_of_act (act_with n z.orders.acts)) i e) ∙ sym (shown_verdict h b n s)
 
 shown_commits : (h : Halves) (b : Book) (t : ℕ) → Shows h b → act_commit b.next_c (act_of t b.acts) ≡ committed t h.votes.next_c (act_of t h.orders.acts) (act_of t h.votes.acts)
 shown_commits h b t s =

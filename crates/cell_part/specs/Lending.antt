@@ -3,5 +3,5 @@ use Rattle.snap_base.specs.declared.transactions.State.{State}
 use Rattle.cell_part.specs.Room.{Roomed}
 use Rattle.cell_part.specs.Running.{written}
 
-abbrev pub with_state : {C : Type 0} → Roomed C → State → Roomed C
-with_state v s = record v { cell = written s v.cell }
+abbrev pub cell_with_state : {C : Type 0} → Roomed C → State → Roomed C
+cell_with_state v s = record v { cell = written s v.cell }

@@ -3,7 +3,7 @@ ghost use Rattle.std.specs.Prelude.{◌≡◌, ℕ, ◌+◌, ◌<◌, ◌≤◌,
 ghost use Rattle.std.specs.List.{list_all};
 ghost use Rattle.std.specs.Option.{option_map, option_and_then};
 ghost use Rattle.actor_cell.specs.Cut.{IsCutFrom};
-ghost use Rattle.hybrid_schedule.specs.Schedules.{has_turn, is_incomplete, is_next, is_done};
+ghost use Rattle.hybrid_schedule.specs.Schedules.{has_turn, is_incomplete, is_next_here, is_done_here};
 ghost use Rattle.machine_words.specs.Meant.{sub_batch, tid_number, who_meant};
 ghost use Rattle.protocol.specs.OnBook.{met, tids_on};
 ghost use Rattle.protocol.specs.OnCell.{act_left, act_placed, batch_completed, batch_left, batch_placed, control_came, is_undone_act, outcome_taken, pact_closed, reads_on, rolled_back, staying};
@@ -52,7 +52,7 @@ impl<C: Drop> CellPart<C> {
     ghost use Rattle.std.specs.Borrow.{sem, Lends};
     ghost use Rattle.snap_base.specs.contracts.transactions.State.{the_row as state_row};
     ghost use Rattle.cell_part.specs.contracts.cell_part.CellPart.{the_row};
-    ghost use Rattle.cell_part.specs.Lending.{with_state};
+    ghost use Rattle.cell_part.specs.Lending.{cell_with_state};
 
     /// An actor with this state, where nothing has run since batch `base`. `Memory` where what it begins with cannot be
     /// allocated.
@@ -137,7 +137,7 @@ impl<C: Drop> CellPart<C> {
 
     /// Run: the actor's state, to be changed by the slice.
     pub fn state_mut(&mut self) -> &mut State
-        ensures* writes_back { sem 𝓛 (Lends (the_row C.row) state_row self.entry result (with_state self.entry.now)) }
+        ensures* writes_back { sem 𝓛 (Lends (the_row C.row) state_row self.entry result (cell_with_state self.entry.now)) }
         ensures value { result.now ≡ self.old.cell.state }
     {
         self.store.state_mut()
@@ -361,14 +361,14 @@ impl<C: Drop> CellPart<C> {
 
     /// Whether all that stands ahead of the batch is complete.
     pub fn is_next(&self, bid: Bid) -> bool
-        ensures { result ≡ is_next bid.0 self.now.cell.entries }
+        ensures { result ≡ is_next_here bid.0 self.now.cell.entries }
     {
         self.schedule.is_next(bid)
     }
 
     /// Whether the batch stands here, and all its PACTs are done.
     pub fn is_done(&self, bid: Bid) -> bool
-        ensures { result ≡ is_done bid.0 self.now.cell.entries }
+        ensures { result ≡ is_done_here bid.0 self.now.cell.entries }
     {
         self.schedule.is_done(bid)
     }

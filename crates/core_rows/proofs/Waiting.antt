@@ -57,10 +57,10 @@ next_act_is_of_text w s t sizes placed ok =
     omega (arith, in_range 0 s.ring.next_tx n (omega (arith, here, queued, waiting, all, placed n)), sizes.next_tx)
 
 -- the ring tells it with its tid
-pub first_waits : {C : Type 0} (w : Fixed C) (s : Machine C) (t : ℕ) (r : Ring) → IsAllowed w (Admit t) s → s.ring ≡ r → asked.next_act r ≡ Some (record { 0 = t }, record { 0 = next_act s.ring })
+pub first_waits : {C : Type 0} (w : Fixed C) (s : Machine C) (t : ℕ) (r : Ring) → IsAllowed w (Admit t) s → s.ring ≡ r → asked.act_admitted_next r ≡ Some (record { 0 = t }, record { 0 = next_act s.ring })
 unfolding conditions
 first_waits w s t r ok shows =
-    ap asked.next_act (sym shows)
+    ap asked.act_admitted_next (sym shows)
     ∙ (first_of_some s.ring.next_tid (queue s.ring.acts s.ring.holder) ok.1.0
     ∙ ap (λ n. Some (record { 0 = n }, record { 0 = next_act s.ring })) (sym (eqb-true t s.ring.next_tid ok.0)))
   where
@@ -69,16 +69,16 @@ first_waits w s t r ok shows =
     first_of_some t (x ∷ xs) e = refl
 
 -- so the one that it tells has this tid, and is this transaction
-pub admitted_is : {C : Type 0} (w : Fixed C) (s : Machine C) (t : ℕ) (r : Ring) (o : Option (Tid × TxNo)) (x : Tid × TxNo) → IsAllowed w (Admit t) s → s.ring ≡ r → o ≡ asked.next_act r → o ≡ Some x → (x.0.0 ≡ t) × (x.1.0 ≡ next_act s.ring)
+pub admitted_is : {C : Type 0} (w : Fixed C) (s : Machine C) (t : ℕ) (r : Ring) (o : Option (Tid × TxNo)) (x : Tid × TxNo) → IsAllowed w (Admit t) s → s.ring ≡ r → o ≡ asked.act_admitted_next r → o ≡ Some x → (x.0.0 ≡ t) × (x.1.0 ≡ next_act s.ring)
 admitted_is w s t r o x ok shows told is =
     let e : Some x ≡ Some (record { 0 = t }, record { 0 = next_act s.ring }) = sym is ∙ (told ∙ first_waits w s t r ok shows) in
     let p : x ≡ (record { 0 = t }, record { 0 = next_act s.ring }) = cc e in
     (ap (λ y. y.0.0) p, ap (λ y. y.1.0) p)
 
 -- it is told
-pub told_first : {C : Type 0} (w : Fixed C) (s : Machine C) (t : ℕ) (r : Ring) (P : Type 0) → IsAllowed w (Admit t) s → s.ring ≡ r → (o : Option (Tid × TxNo)) → o ≡ asked.next_act r → OnSome o P → P
+pub told_first : {C : Type 0} (w : Fixed C) (s : Machine C) (t : ℕ) (r : Ring) (P : Type 0) → IsAllowed w (Admit t) s → s.ring ≡ r → (o : Option (Tid × TxNo)) → o ≡ asked.act_admitted_next r → OnSome o P → P
 told_first w s t r P ok shows o told on =
-    by (asked.next_act r) (first_waits w s t r ok shows) (subst (λ z. OnSome z P) told on)
+    by (asked.act_admitted_next r) (first_waits w s t r ok shows) (subst (λ z. OnSome z P) told on)
   where
     by : (o : Option (Tid × TxNo)) {x : Tid × TxNo} → o ≡ Some x → OnSome o P → P
     by None e h = absurd (cc e)

@@ -8,7 +8,7 @@ use Rattle.snap_base.specs.declared.memory.Memory.{Memory}
 use Rattle.snap_base.specs.declared.transactions.Tx.{Tx}
 use Rattle.protocol.specs.Fixed.{Fixed, is_reader}
 use Rattle.protocol.specs.Parts.{Ring}
-use Rattle.token_ring.specs.Asked.{next_act}
+use Rattle.token_ring.specs.Asked.{act_admitted_next}
 
 -- each of these transactions may be started, with whichever tid
 abbrev pub MayStart : (Tid → Bor Tx → Type 0) → List Tx → Type 0
@@ -20,4 +20,4 @@ Starts {C} gives w = (t : Tid) (tx : Bor Tx) (control : C) → t.0 < 2 ^ 64 → 
 
 -- where a transaction of the text is the ACT that the ring admits next, this is whether it only reads
 abbrev pub TellsReader : {C : Type 0} → Bool → Ring → Fixed C → Type 0
-TellsReader reader r w = (t : Tid) (n : TxNo) → next_act r ≡ Some (t, n) → n.0 < length w.text.txs → is_reader w n.0 ≡ reader
+TellsReader reader r w = (t : Tid) (n : TxNo) → act_admitted_next r ≡ Some (t, n) → n.0 < length w.text.txs → is_reader w n.0 ≡ reader

@@ -3,7 +3,7 @@ use Rattle.std.specs.List.{flat_map}
 use Rattle.std.proofs.Common.{◌≡◌, ℕ, Bool, Contains, Some, List, [], ◌∷◌, ◌++◌, map, slice_get, refl}
 use Rattle.std.proofs.lemmas.List.Elements.{Contains-append_left, Contains-append_right}
 use Rattle.aml_slice.specs.Controls.{Rest}
-use Rattle.batch_table.specs.Listed.{actors_in, going, unreplied_below}
+use Rattle.batch_table.specs.Listed.{actors_in, going_batches, unreplied_below}
 use Rattle.book_part.specs.Listed.{live_tids}
 use Rattle.hybrid_schedule.specs.Listed.{incomplete_on, undone_on}
 use Rattle.listing_facts.specs.Listing.{PostLists, CellLists, DeskLists, BookLists, AnswersList}
@@ -49,7 +49,7 @@ module _ (asked : Event → Bool) (es : List Event) where
 
   pub desk_lists : (d : Desk) → ((f : Event) → Contains (on_desk d) f → Contains es f) → DeskLists asked d es
   desk_lists d more =
-      let one : (k : ℕ) → Contains (going d) k → (f : Event) → Contains (of_batch d k) f → Contains es f = λ k h f g. more f (in_flat_map (of_batch d) (going d) k f h g) in
+      let one : (k : ℕ) → Contains (going_batches d) k → (f : Event) → Contains (of_batch d k) f → Contains es f = λ k h f g. more f (in_flat_map (of_batch d) (going_batches d) k f h g) in
       let rest : ℕ → List Event = λ k. flat_map (of_declared k) (actors_in (batch_of k d.batches)) in
       let ends : ℕ → List Event = λ k. Commit k ∷ Settle k ∷ Abort k ∷ [] in
       record {

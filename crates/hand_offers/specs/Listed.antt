@@ -2,7 +2,7 @@
 use Rattle.std.specs.Prelude.{◌≡◌, ℕ, ◌+◌, ◌%◌, Option, Some, None, List, [], ◌∷◌, ◌++◌, length, map, slice_get}
 use Rattle.std.specs.List.{flat_map}
 use Rattle.aml_slice.specs.Controls.{Rest}
-use Rattle.batch_table.specs.Listed.{actors_in, going, unreplied_below}
+use Rattle.batch_table.specs.Listed.{actors_in, going_batches, unreplied_below}
 use Rattle.book_part.specs.Listed.{live_tids}
 use Rattle.core_events.specs.Meant.{event_meant}
 use Rattle.core_events.specs.declared.events.Event as code
@@ -67,7 +67,7 @@ abbrev pub of_batch : Desk → ℕ → List Event
 of_batch d k = (Commit k ∷ Settle k ∷ Abort k ∷ []) ++ flat_map (of_declared k) (actors_in (batch_of k d.batches))
 
 abbrev pub on_desk : Desk → List Event
-on_desk d = flat_map (of_batch d) (going d)
+on_desk d = flat_map (of_batch d) (going_batches d)
 
 -- of ACT t, and of it on each of its actors
 abbrev pub of_joined : ℕ → ℕ → List Event

@@ -8,7 +8,7 @@ use Rattle.snap_base.specs.declared.ids.Tid.{Tid}
 use Rattle.protocol.specs.Parts.{Slot}
 use Rattle.protocol.specs.OnCell.{done_if, not_done}
 use Rattle.machine_words.specs.Meant.{tid_number}
-use Rattle.hybrid_schedule.specs.Slots.{is_of, is_undone_of, is_within, are_within}
+use Rattle.hybrid_schedule.specs.Slots.{is_slot_of, is_undone_of, is_within, are_within}
 
 within_more : (least greatest t u : ℕ) → is_within least greatest u ≡ true → is_within (min least t) (max greatest t) u ≡ true
 within_more least greatest t u h =
@@ -28,27 +28,27 @@ are_within_push least greatest t (s ∷ slots) h =
     and_from (is_within (min least t) (max greatest t) s.tid) (are_within (min least t) (max greatest t) (slots ++ not_done t ∷ [])) (within_more least greatest t s.tid parts.0) (are_within_push least greatest t slots parts.1)
 
 -- who lies beyond the bounds has no slot
-pub none_beyond : (least greatest t : ℕ) (slots : List Slot) → are_within least greatest slots ≡ true → is_within least greatest t ≡ false → list_any (is_of t) slots ≡ false
+pub none_beyond : (least greatest t : ℕ) (slots : List Slot) → are_within least greatest slots ≡ true → is_within least greatest t ≡ false → list_any (is_slot_of t) slots ≡ false
 none_beyond least greatest t [] h out = refl
 none_beyond least greatest t (s ∷ slots) h out =
     let parts = and_parts (is_within least greatest s.tid) (are_within least greatest slots) h in
-    or_from (is_of t s) (list_any (is_of t) slots) (ne_eqb s.tid t (λ e. true≢false (sym parts.0 ∙ ap (is_within least greatest) e ∙ out))) (none_beyond least greatest t slots parts.1 out)
+    or_from (is_slot_of t s) (list_any (is_slot_of t) slots) (ne_eqb s.tid t (λ e. true≢false (sym parts.0 ∙ ap (is_within least greatest) e ∙ out))) (none_beyond least greatest t slots parts.1 out)
 
 -- who has no slot has none that is not done, and changes none
-pub none_undone : (t : ℕ) (slots : List Slot) → list_any (is_of t) slots ≡ false → list_any (is_undone_of t) slots ≡ false
+pub none_undone : (t : ℕ) (slots : List Slot) → list_any (is_slot_of t) slots ≡ false → list_any (is_undone_of t) slots ≡ false
 none_undone t [] h = refl
 none_undone t (s ∷ slots) h =
-    let parts = or_parts (is_of t s) (list_any (is_of t) slots) h in
+    let parts = or_parts (is_slot_of t s) (list_any (is_slot_of t) slots) h in
     or_from (is_undone_of t s) (list_any (is_undone_of t) slots) (ap (λ b. b && not s.done) parts.0) (none_undone t slots parts.1)
 
 or_none : (b : Bool) → (b || false) ≡ b
 or_none true = refl
 or_none false = refl
 
-pub none_marked : (t : ℕ) (slots : List Slot) → list_any (is_of t) slots ≡ false → map (done_if t) slots ≡ slots
+pub none_marked : (t : ℕ) (slots : List Slot) → list_any (is_slot_of t) slots ≡ false → map (done_if t) slots ≡ slots
 none_marked t [] h = refl
 none_marked t (s ∷ slots) h =
-    let parts = or_parts (is_of t s) (list_any (is_of t) slots) h in
+    let parts = or_parts (is_slot_of t s) (list_any (is_slot_of t) slots) h in
     let done = ap (λ b. s.done || b) parts.0 ∙ or_none s.done in
     let first : done_if t s ≡ s = ap (λ (b : Bool). let x : Slot = record { tid = s.tid; done = b } in x) done in
     ap (λ x. x ∷ map (done_if t) slots) first ∙ ap (λ xs. s ∷ xs) (none_marked t slots parts.1)

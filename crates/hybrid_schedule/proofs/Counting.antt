@@ -4,12 +4,12 @@ use Rattle.std.specs.Prelude.{if◌then◌else◌}
 use Rattle.protocol.specs.Rivals.{Lock}
 use Rattle.protocol.specs.Parts.{Entry, BatchEntry, ActEntry}
 use Rattle.protocol.specs.Words.{group_behind, tail_group, batches_on, greatest}
-use Rattle.hybrid_schedule.specs.Schedules.{is_act}
+use Rattle.hybrid_schedule.specs.Schedules.{is_any_act}
 
 -- how many ACTs stand behind the last batch, after so many
 abbrev pub tail_count : ℕ → List Entry → ℕ
 tail_count n [] = n
-tail_count n (e ∷ es) = tail_count (if is_act e then n + 1 else 0) es
+tail_count n (e ∷ es) = tail_count (if is_any_act e then n + 1 else 0) es
 
 length-group_behind : (seen : List Lock) (es : List Entry) → length (group_behind seen es) ≡ tail_count (length seen) es
 length-group_behind seen [] = refl

@@ -5,14 +5,14 @@ use Rattle.protocol.specs.Parts.{Cascade, Entry, BatchEntry, ActEntry}
 use Rattle.protocol.specs.Words.{is_aborted, batches_on, greatest}
 use Rattle.protocol.specs.OnCell.{staying, going}
 use Rattle.protocol.specs.CellParts.{HybridSchedule, cut_at}
-use Rattle.hybrid_schedule.specs.Cuts.{is_from, staying_below, going_from, cut_from, AreAbortedFrom}
+use Rattle.hybrid_schedule.specs.Cuts.{is_batch_from, staying_below, going_from, cut_from, AreAbortedFrom}
 
 -- what stays is as many entries as it has
 pub staying_is_front : (k : ℕ) (es : List Entry) → take (length (staying_below k es)) es ≡ staying_below k es
 staying_is_front k [] = refl
 staying_is_front k (e ∷ es) =
     let step = staying_is_front k es in
-    elim (is_from k e) as (λ b. take (length (if b then [] else e ∷ staying_below k es)) (e ∷ es) ≡ (if b then [] else e ∷ staying_below k es))
+    elim (is_batch_from k e) as (λ b. take (length (if b then [] else e ∷ staying_below k es)) (e ∷ es) ≡ (if b then [] else e ∷ staying_below k es))
     [ true ↦ refl | false ↦ ap (λ xs. e ∷ xs) step ]
 
 -- and what goes is the rest
@@ -20,14 +20,14 @@ pub going_is_rest : (k : ℕ) (es : List Entry) → drop (length (staying_below 
 going_is_rest k [] = refl
 going_is_rest k (e ∷ es) =
     let step = going_is_rest k es in
-    elim (is_from k e) as (λ b. drop (length (if b then [] else e ∷ staying_below k es)) (e ∷ es) ≡ (if b then e ∷ es else going_from k es))
+    elim (is_batch_from k e) as (λ b. drop (length (if b then [] else e ∷ staying_below k es)) (e ∷ es) ≡ (if b then e ∷ es else going_from k es))
     [ true ↦ refl | false ↦ step ]
 
 pub staying_fits : (k : ℕ) (es : List Entry) → length (staying_below k es) ≤ length es
 staying_fits k [] = omega arith
 staying_fits k (e ∷ es) =
     let step = staying_fits k es in
-    elim (is_from k e) as (λ b. length (if b then [] else e ∷ staying_below k es) ≤ length (e ∷ es))
+    elim (is_batch_from k e) as (λ b. length (if b then [] else e ∷ staying_below k es) ≤ length (e ∷ es))
     [ true ↦ omega arith | false ↦ omega (arith, step) ]
 
 pub staying_by_number : (cascades : List Cascade) (k : ℕ) (es : List Entry) → AreAbortedFrom k cascades es → staying_below k es ≡ staying cascades es

@@ -5,7 +5,7 @@ use Rattle.std.specs.List.{list_all}
 use Rattle.std.proofs.lemmas.Bool.{true≢false}
 use Rattle.protocol.specs.Parts.{Entry, BatchEntry, ActEntry, Who}
 use Rattle.protocol.specs.Words.{is_empty, holds, is_batch_entry, is_entry_of, is_clear, is_reader_entry, is_complete_batch, is_over_for, ahead, acts_on, who_of, who_on}
-use Rattle.hybrid_schedule.specs.Schedules.{is_act, is_next, is_behind_no_act}
+use Rattle.hybrid_schedule.specs.Schedules.{is_any_act, is_next_here, is_behind_no_act}
 
 -- all that stands ahead of the first one that is meant passes; where none is, this is answered
 abbrev pub reaches : {X : Type 0} → (X → Bool) → (X → Bool) → Bool → List X → Bool
@@ -19,11 +19,11 @@ list_all-ahead meant passes (e ∷ es) =
     elim (meant e) as (λ b. list_all passes (if b then [] else e ∷ ahead meant es) ≡ (if b then true else (passes e && reaches meant passes true es)))
     [ true ↦ refl | false ↦ ap (λ b. passes e && b) step ]
 
-pub is_next_walk : (k : ℕ) (es : List Entry) → is_next k es ≡ reaches (is_batch_entry k) is_complete_batch true es
+pub is_next_walk : (k : ℕ) (es : List Entry) → is_next_here k es ≡ reaches (is_batch_entry k) is_complete_batch true es
 is_next_walk k es = list_all-ahead (is_batch_entry k) is_complete_batch es
 
 abbrev pub is_no_act : Entry → Bool
-is_no_act e = not (is_act e)
+is_no_act e = not (is_any_act e)
 
 no_act_ahead : (meant : Entry → Bool) (es : List Entry) → is_empty (acts_on (ahead meant es)) ≡ reaches meant is_no_act true es
 no_act_ahead meant [] = refl

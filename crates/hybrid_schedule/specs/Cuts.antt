@@ -6,19 +6,19 @@ use Rattle.protocol.specs.Words.{is_aborted, batches_on, greatest, has_entry}
 use Rattle.protocol.specs.CellParts.{HybridSchedule}
 
 -- it is a batch from k on
-abbrev pub is_from : ℕ → Entry → Bool
-is_from k (BatchEntry b) = nat_le k b.bid
-is_from k (ActEntry x) = false
+abbrev pub is_batch_from : ℕ → Entry → Bool
+is_batch_from k (BatchEntry b) = nat_le k b.bid
+is_batch_from k (ActEntry x) = false
 
 -- what stays of a schedule
 abbrev pub staying_below : ℕ → List Entry → List Entry
 staying_below k [] = []
-staying_below k (e ∷ es) = if is_from k e then [] else e ∷ staying_below k es
+staying_below k (e ∷ es) = if is_batch_from k e then [] else e ∷ staying_below k es
 
 -- what goes
 abbrev pub going_from : ℕ → List Entry → List Entry
 going_from k [] = []
-going_from k (e ∷ es) = if is_from k e then e ∷ es else going_from k es
+going_from k (e ∷ es) = if is_batch_from k e then e ∷ es else going_from k es
 
 -- by what the cut takes, the transaction runs
 abbrev pub is_cut_off : ℕ → ℕ → List Entry → Bool

@@ -6,8 +6,8 @@ use Rattle.protocol.specs.Words.{is_empty, holds, is_batch_entry, is_entry_of, i
 use Rattle.protocol.specs.CellParts.{HybridSchedule}
 
 -- nothing was placed since this batch
-abbrev pub opened : ℕ → HybridSchedule
-opened base = record { entries = []; epoch = 0; last = base; last_trimmed = base; tail = 0 }
+abbrev pub empty_since : ℕ → HybridSchedule
+empty_since base = record { entries = []; epoch = 0; last = base; last_trimmed = base; tail = 0 }
 
 -- Of the ACTs behind the last batch those that an ACT which comes can't stand beside: a reader, or one that is none.
 abbrev pub rival_tids : Bool → List Entry → List ℕ
@@ -25,20 +25,20 @@ abbrev pub is_incomplete : ℕ → List Entry → Bool
 is_incomplete k entries = holds (λ e. not (is_complete_batch e)) (find (is_batch_entry k) entries)
 
 -- all that stands ahead of the batch is complete
-abbrev pub is_next : ℕ → List Entry → Bool
-is_next k entries = list_all is_complete_batch (ahead (is_batch_entry k) entries)
+abbrev pub is_next_here : ℕ → List Entry → Bool
+is_next_here k entries = list_all is_complete_batch (ahead (is_batch_entry k) entries)
 
 -- the batch stands here, and all its PACTs are done
-abbrev pub is_done : ℕ → List Entry → Bool
-is_done k entries = holds is_all_done (find (is_batch_entry k) entries)
+abbrev pub is_done_here : ℕ → List Entry → Bool
+is_done_here k entries = holds is_all_done (find (is_batch_entry k) entries)
 
 abbrev pub can_complete : ℕ → List Entry → Bool
-can_complete k entries = is_incomplete k entries && (is_next k entries && is_done k entries)
+can_complete k entries = is_incomplete k entries && (is_next_here k entries && is_done_here k entries)
 
 -- no ACT stands ahead of the batch
 abbrev pub is_behind_no_act : ℕ → List Entry → Bool
 is_behind_no_act k entries = is_empty (acts_on (ahead (is_batch_entry k) entries))
 
-abbrev pub is_act : Entry → Bool
-is_act (BatchEntry b) = false
-is_act (ActEntry x) = true
+abbrev pub is_any_act : Entry → Bool
+is_any_act (BatchEntry b) = false
+is_any_act (ActEntry x) = true

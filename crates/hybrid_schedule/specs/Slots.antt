@@ -4,8 +4,8 @@ use Rattle.std.specs.List.{list_all}
 use Rattle.protocol.specs.Parts.{Slot}
 
 -- the slot of this PACT
-abbrev pub is_of : ℕ → Slot → Bool
-is_of t s = s.tid == t
+abbrev pub is_slot_of : ℕ → Slot → Bool
+is_slot_of t s = s.tid == t
 
 -- a slot that this PACT need not wait for
 abbrev pub lets_run : ℕ → Slot → Bool

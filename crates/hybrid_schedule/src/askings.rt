@@ -5,7 +5,7 @@ ghost use Rattle.protocol.specs.Parts.{ActEntry};
 ghost use Rattle.protocol.specs.Words.{is_batch_entry, is_act_entry, is_entry_of, is_clear, is_turn_of, has_undone, has_act, has_entry, who_on, is_complete_batch, is_all_done, ahead, batches_on, greatest, tail_group};
 ghost use Rattle.protocol.specs.OnCell.{reads_on};
 ghost use Rattle.machine_words.specs.Meant.{who_meant};
-ghost use Rattle.hybrid_schedule.specs.Schedules.{has_turn, is_incomplete, is_next, is_done, is_behind_no_act};
+ghost use Rattle.hybrid_schedule.specs.Schedules.{has_turn, is_incomplete, is_next_here, is_done_here, is_behind_no_act};
 ghost use Rattle.hybrid_schedule.specs.Cuts.{staying_below, is_cut_off};
 
 use crate::entries::Entry;
@@ -108,7 +108,7 @@ pub fn is_incomplete(entries: &[Entry], k: Bid) -> bool
 
 /// Whether all that stands ahead of the batch is complete.
 pub fn is_next(entries: &[Entry], k: Bid) -> bool
-    ensures { result ≡ is_next k.0 entries.now }
+    ensures { result ≡ is_next_here k.0 entries.now }
 {
     for e in entries {
         if e.is_batch(k) {
@@ -123,7 +123,7 @@ pub fn is_next(entries: &[Entry], k: Bid) -> bool
 
 /// Whether the batch has an entry, and all its PACTs are done.
 pub fn is_done(entries: &[Entry], k: Bid) -> bool
-    ensures { result ≡ is_done k.0 entries.now }
+    ensures { result ≡ is_done_here k.0 entries.now }
 {
     match batch_of(entries, k) {
         Some(own) => own.is_all_done(),

@@ -5,8 +5,8 @@ ghost use Rattle.protocol.specs.Parts.{BatchEntry, ActEntry};
 ghost use Rattle.protocol.specs.Words.{is_batch_entry, is_act_entry, is_entry_of, who_of, is_reader_entry, is_complete_batch, is_turn_of, is_undone, is_all_done, batches_on, greatest};
 ghost use Rattle.protocol.specs.OnCell.{done_in, complete_in};
 ghost use Rattle.machine_words.specs.Meant.{tid_number, who_meant};
-ghost use Rattle.hybrid_schedule.specs.Schedules.{is_act};
-ghost use Rattle.hybrid_schedule.specs.Cuts.{is_from};
+ghost use Rattle.hybrid_schedule.specs.Schedules.{is_any_act};
+ghost use Rattle.hybrid_schedule.specs.Cuts.{is_batch_from};
 ghost use Rattle.hybrid_schedule.specs.Listed.{incomplete_of, rival_of, undone_of};
 
 use crate::slots::Slots;
@@ -28,11 +28,11 @@ pub struct Entry {
 
 impl Model for Entry {
     ghost use Rattle.protocol.specs.Parts as protocol;
-    ghost use Rattle.hybrid_schedule.specs.Placing.{placed};
+    ghost use Rattle.hybrid_schedule.specs.Placing.{entry_placed};
 
     ghost Value = { protocol.Entry };
 
-    ghost view = { λ e. placed e.owner e.slots e.complete e.reader };
+    ghost view = { λ e. entry_placed e.owner e.slots e.complete e.reader };
 }
 
 impl Entry {
@@ -79,7 +79,7 @@ impl Entry {
 
     /// Whether it is a batch from this one on.
     pub fn is_from(&self, k: Bid) -> bool
-        ensures { result ≡ is_from k.0 self.now }
+        ensures { result ≡ is_batch_from k.0 self.now }
     {
         match self.owner {
             Who::Batch(bid) => k.0 <= bid.0,
@@ -109,7 +109,7 @@ impl Entry {
 
     /// Whether it is an ACT's.
     pub fn is_act(&self) -> bool
-        ensures { result ≡ is_act self.now }
+        ensures { result ≡ is_any_act self.now }
     {
         match self.owner {
             Who::Batch(_) => false,

@@ -5,7 +5,7 @@ ghost use Rattle.protocol.specs.OnCell.{reads_on};
 ghost use Rattle.protocol.specs.CellParts.{with_batch, with_act, with_done, with_complete, without_act, without_batch};
 ghost use Rattle.machine_words.specs.Meant.{sub_batch, who_meant};
 ghost use Rattle.hybrid_schedule.specs.Room.{KeepsRoom};
-ghost use Rattle.hybrid_schedule.specs.Schedules.{opened, has_turn, can_run, is_incomplete, is_next, is_done, can_complete, is_behind_no_act};
+ghost use Rattle.hybrid_schedule.specs.Schedules.{empty_since, has_turn, can_run, is_incomplete, is_next_here, is_done_here, can_complete, is_behind_no_act};
 ghost use Rattle.hybrid_schedule.specs.Cuts.{cut_from, is_cut_off};
 ghost use Rattle.hybrid_schedule.specs.Arrivals.{refusal, MatchRefusal};
 
@@ -35,9 +35,9 @@ pub struct Schedule {
 
 impl Model for Schedule {
     ghost use Rattle.std.specs.Prelude.{◌≡◌, ◌-◌, [], vec_len, vec_capacity};
-    ghost use Rattle.hybrid_schedule.specs.Room.{Roomed};
+    ghost use Rattle.hybrid_schedule.specs.Room.{RoomedSchedule};
 
-    ghost Value = { Roomed };
+    ghost Value = { RoomedSchedule };
 
     ghost view = { λ s. record {
       schedule = record { entries = s.entries.items; epoch = s.epoch; last = s.last.0; last_trimmed = s.last_trimmed.0; tail = s.tail.0 };
@@ -52,7 +52,7 @@ impl Schedule {
     /// A schedule with nothing on it, as it is after batch `base` and before any later one. `Memory` where room for its first
     /// entries cannot be allocated.
     pub fn new(alloc: Global, base: Bid) -> Result<Self, Memory>
-        ensures { IfOk result (λ s. s.schedule ≡ opened base.0) }
+        ensures { IfOk result (λ s. s.schedule ≡ empty_since base.0) }
     {
         let entries = Vec::with_capacity(alloc, FIRST_ENTRIES)?;
         Ok(Schedule {
@@ -232,14 +232,14 @@ impl Schedule {
 
     /// Whether all that stands ahead of the batch is complete.
     pub fn is_next(&self, bid: Bid) -> bool
-        ensures { result ≡ is_next bid.0 self.now.schedule.entries }
+        ensures { result ≡ is_next_here bid.0 self.now.schedule.entries }
     {
         askings::is_next(&self.entries, bid)
     }
 
     /// Whether the batch stands here, and all its PACTs are done.
     pub fn is_done(&self, bid: Bid) -> bool
-        ensures { result ≡ is_done bid.0 self.now.schedule.entries }
+        ensures { result ≡ is_done_here bid.0 self.now.schedule.entries }
     {
         askings::is_done(&self.entries, bid)
     }

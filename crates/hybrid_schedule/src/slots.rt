@@ -5,7 +5,7 @@ ghost use Rattle.protocol.specs.Left.{slot_left, total};
 ghost use Rattle.protocol.specs.OnCell.{not_done, done_if};
 ghost use Rattle.machine_words.specs.Meant.{tid_number};
 ghost use Rattle.hybrid_schedule.specs.Listed.{undone_in};
-ghost use Rattle.hybrid_schedule.specs.Slots.{is_of, lets_run, is_undone_of, is_within};
+ghost use Rattle.hybrid_schedule.specs.Slots.{is_slot_of, lets_run, is_undone_of, is_within};
 
 use crate::changes::push_in_room;
 use machine_words::unless;
@@ -38,7 +38,7 @@ impl Slot {
 
     /// Whether it is the slot of PACT `t`.
     pub fn is_of(&self, t: Tid) -> bool
-        ensures { result ≡ is_of t.0 self.now }
+        ensures { result ≡ is_slot_of t.0 self.now }
     {
         self.tid.0 == t.0
     }
@@ -145,7 +145,7 @@ impl Slots {
 
     /// Whether one of them is the PACT's.
     pub fn name(&self, t: Tid) -> bool
-        ensures { result ≡ list_any (is_of t.0) self.now }
+        ensures { result ≡ list_any (is_slot_of t.0) self.now }
     {
         self.may_name(t) && is_any_of(self.items.as_slice(), t)
     }
@@ -199,14 +199,14 @@ impl Slots {
     /// False only where none is the PACT's.
     #[tactic(auto, using(crate::proofs::Bounds::none_beyond))]
     fn may_name(&self, t: Tid) -> bool
-        ensures { result ≡ false → list_any (is_of t.0) self.now ≡ false }
+        ensures { result ≡ false → list_any (is_slot_of t.0) self.now ≡ false }
     {
         self.least <= t.0 && t.0 <= self.greatest
     }
 }
 
 fn is_any_of(slots: &[Slot], t: Tid) -> bool
-    ensures { result ≡ list_any (is_of t.0) slots.now }
+    ensures { result ≡ list_any (is_slot_of t.0) slots.now }
 {
     slots.iter().any(|s| s.is_of(t))
 }

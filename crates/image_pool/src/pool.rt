@@ -1,6 +1,6 @@
 //! A pool of slots for states, and the images that stand for the states in it.
 ghost use Rattle.std.specs.Prelude.{◌≡◌, ◌+◌, ◌<◌, Some, None, IfOk};
-ghost use Rattle.image_pool.specs.Region.{state_at, no_states, Changes, IsLive};
+ghost use Rattle.image_pool.specs.Region.{state_in_slot, no_states, Changes, IsLive};
 
 use slab::Slab;
 use snap_base::{Memory, State};
@@ -64,7 +64,7 @@ impl Pool {
     /// Takes an image of a state, in a slot that was spare. The other slots stay as they are.
     pub fn take(&mut self, state: State) -> Image
         requires { 0 < self.old.spare }
-        ensures was_spare { state_at result self.old ≡ None }
+        ensures was_spare { state_in_slot result self.old ≡ None }
         ensures states { Changes self.old self.new result (Some state) }
         ensures spare { self.new.spare + 1 ≡ self.old.spare }
     {
@@ -76,7 +76,7 @@ impl Pool {
     /// The state that an image of this pool was taken of.
     pub fn state(&self, image: &Image) -> State
         requires { IsLive image.now self.now }
-        ensures { state_at image.now self.now ≡ Some result }
+        ensures { state_in_slot image.now self.now ≡ Some result }
     {
         self.states[image.slot]
     }
@@ -85,7 +85,7 @@ impl Pool {
     /// slots stay as they are.
     pub fn put_back(&mut self, image: Image) -> State
         requires { IsLive image self.old }
-        ensures state { state_at image self.old ≡ Some result }
+        ensures state { state_in_slot image self.old ≡ Some result }
         ensures states { Changes self.old self.new image None }
         ensures spare { self.new.spare ≡ self.old.spare + 1 }
     {

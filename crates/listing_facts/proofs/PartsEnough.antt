@@ -12,7 +12,7 @@ use Rattle.protocol_ready.proofs.Offered.{sub_found}
 use Rattle.post_box.specs.Listed.{sub_places, control_places}
 use Rattle.hybrid_schedule.specs.Listed.{incomplete_of, incomplete_on, undone_in, undone_of, undone_on}
 use Rattle.batch_table.specs.Listed as batches
-use Rattle.batch_table.specs.Listed.{going, actors_in}
+use Rattle.batch_table.specs.Listed.{going_batches, actors_in}
 use Rattle.listing_facts.specs.Listing.{PostLists, CellLists, DeskLists}
 
 -- ---- the post
@@ -130,22 +130,22 @@ untrimmed true s t h e = absurd (true≢false (sym h))
 untrimmed false true t h e = ap not e
 untrimmed false false t h e = refl
 
-open_going : (b : Batch) → is_open b ≡ true → batches.is_going b ≡ true
+open_going : (b : Batch) → is_open b ≡ true → batches.is_going_batch b ≡ true
 open_going b h =
     let q = and_parts (is_formed b.stage) (not b.aborted) h in
     unsettled b.stage b.aborted (list_all (λ p. p.trimmed) b.places) (formed_unsettled b.stage q.0) q.1
 
-going_has : (k : ℕ) (d : Desk) (b : Batch) → batch_of k d.batches ≡ Some b → batches.is_going b ≡ true → Contains (going d) k
+going_has : (k : ℕ) (d : Desk) (b : Batch) → batch_of k d.batches ≡ Some b → batches.is_going_batch b ≡ true → Contains (going_batches d) k
 going_has k d b e g =
     let r = found_in (λ b. b.bid == k) d.batches b e in
-    from_has (going d) k (subst (λ n. Has (going d) n) (eqb-true b.bid k r.1) (has_map (λ b. b.bid) (filter batches.is_going d.batches) b (has_filter batches.is_going d.batches b r.0 g)))
+    from_has (going_batches d) k (subst (λ n. Has (going_batches d) n) (eqb-true b.bid k r.1) (has_map (λ b. b.bid) (filter batches.is_going_batch d.batches) b (has_filter batches.is_going_batch d.batches b r.0 g)))
 
 actor_has : (k a : ℕ) (d : Desk) (b : Batch) (p : Declared) → batch_of k d.batches ≡ Some b → declared_of a b ≡ Some p → Contains (actors_in (batch_of k d.batches)) a
 actor_has k a d b p e f =
     let r = found_in (λ p. p.actor == a) b.places p f in
     subst (λ o. Contains (actors_in o) a) (sym e) (from_has (map (λ p. p.actor) b.places) a (subst (λ n. Has (map (λ p. p.actor) b.places) n) (eqb-true p.actor a r.1) (has_map (λ p. p.actor) b.places p r.0)))
 
-next_going : (k : ℕ) (d : Desk) → holds (λ b. is_open b && is_next_to_commit k d.batches) (batch_of k d.batches) ≡ true → Contains (going d) k
+next_going : (k : ℕ) (d : Desk) → holds (λ b. is_open b && is_next_to_commit k d.batches) (batch_of k d.batches) ≡ true → Contains (going_batches d) k
 next_going k d h =
     let b = held (λ b. is_open b && is_next_to_commit k d.batches) (batch_of k d.batches) h in
     going_has k d b.it b.is (open_going b.it (and_parts (is_open b.it) (is_next_to_commit k d.batches) b.does).0)

@@ -11,7 +11,7 @@ use Rattle.protocol_theorems.specs.BookFits.{actors_at}
 use Rattle.protocol_ready.specs.Telling.{BookTells, AnswersTell}
 use Rattle.post_box.specs.Listed.{sub_places, control_places}
 use Rattle.hybrid_schedule.specs.Listed.{incomplete_on, undone_on}
-use Rattle.batch_table.specs.Listed.{going, actors_in, unreplied_below}
+use Rattle.batch_table.specs.Listed.{going_batches, actors_in, unreplied_below}
 use Rattle.book_part.specs.Listed.{live_tids}
 
 -- where it is asked for
@@ -34,8 +34,8 @@ pub record CellLists {C : Type 0} (asked : Event → Bool) (cascades a : ℕ) (c
 
 -- of a batch that is going, and of it on each of its actors
 pub record DeskLists (asked : Event → Bool) (d : Desk) (es : List Event) : Type 0 where
-  pub batches : (k : ℕ) → Contains (going d) k → HasAsked asked es (Commit k) × HasAsked asked es (Settle k) × HasAsked asked es (Abort k)
-  pub actors : (k a : ℕ) → Contains (going d) k → Contains (actors_in (batch_of k d.batches)) a → HasAsked asked es (Note k a) × HasAsked asked es (Trim k a)
+  pub batches : (k : ℕ) → Contains (going_batches d) k → HasAsked asked es (Commit k) × HasAsked asked es (Settle k) × HasAsked asked es (Abort k)
+  pub actors : (k a : ℕ) → Contains (going_batches d) k → Contains (actors_in (batch_of k d.batches)) a → HasAsked asked es (Note k a) × HasAsked asked es (Trim k a)
 
 -- of an ACT that is live, and of it on each of its actors
 pub record BookLists (asked : Event → Bool) (b : Book) (es : List Event) : Type 0 where

@@ -16,12 +16,12 @@ any_told : {X Y : Type 0} (f : X → Y) (p : Y → Bool) (q : X → Bool) (xs : 
 any_told f p q [] same = refl
 any_told f p q (x ∷ xs) same = ap (λ (b : Bool). b || list_any p (map f xs)) (same x) ∙ ap (λ (b : Bool). q x || b) (any_told f p q xs same)
 
-durable_shown : (test : LogRecord → Bool) (k : Key) (list : LogList) (l : Log) → ((r : LogRecord) → is_key (told_key r) k ≡ test r) → ShowsLog list l → lists.is_durable k list ≡ is_durable test l
+durable_shown : (test : LogRecord → Bool) (k : Key) (list : LogList) (l : Log) → ((r : LogRecord) → is_key (told_key r) k ≡ test r) → ShowsLog list l → lists.is_key_durable k list ≡ is_durable test l
 durable_shown test k list l same shows =
     let stands : Key → Bool = λ x. is_key x k in
     ap (λ (n : ℕ). list_any stands (take n list.keys)) shows.synced
     ∙ (ap (λ (ks : List Key). list_any stands (take l.synced ks)) shows.keys
     ∙ (ap (list_any stands) (take-map told_key l.synced l.records) ∙ any_told told_key stands test (take l.synced l.records) same))
 
-pub durable_seen : (test : LogRecord → Bool) (k : Key) (p q : PendingState) → p ≡ q → ((r : LogRecord) → is_key (told_key r) k ≡ test r) → (l : Log) → ShowsLog q.log l → lists.is_durable k p.log ≡ is_durable test l
-durable_seen test k p q seen same l shows = ap (λ (x : PendingState). lists.is_durable k x.log) seen ∙ durable_shown test k q.log l same shows
+pub durable_seen : (test : LogRecord → Bool) (k : Key) (p q : PendingState) → p ≡ q → ((r : LogRecord) → is_key (told_key r) k ≡ test r) → (l : Log) → ShowsLog q.log l → lists.is_key_durable k p.log ≡ is_durable test l
+durable_seen test k p q seen same l shows = ap (λ (x : PendingState). lists.is_key_durable k x.log) seen ∙ durable_shown test k q.log l same shows

@@ -7,7 +7,7 @@ use Rattle.std.specs.Option.{option_or}
 use Rattle.txn_records.specs.declared.keys.Key.{Key}
 use Rattle.log_set.specs.Keys.{is_key}
 use Rattle.log_set.specs.Firsts.{first_place, ArePlaces}
-use Rattle.log_set.specs.Logs.{LogList, is_durable}
+use Rattle.log_set.specs.Logs.{LogList, is_key_durable}
 
 -- ---- one more key
 
@@ -46,7 +46,7 @@ below_in_front test n (suc k) (x ∷ xs) =
     either true p r h = lt-ltb n (n + suc k) (omega arith)
     either false p r h = h
 
-pub durable_by_place : (key : Key) (l : LogList) → is_below l.synced (first_place key l.keys) ≡ is_durable key l
+pub durable_by_place : (key : Key) (l : LogList) → is_below l.synced (first_place key l.keys) ≡ is_key_durable key l
 durable_by_place key l =
     let same : l.synced ≡ 0 + l.synced = omega arith in
     ap (λ m. is_below m (first_place key l.keys)) same ∙ below_in_front (λ k. is_key k key) 0 l.synced l.keys

@@ -28,5 +28,5 @@ abbrev pub all_synced : LogList → LogList
 all_synced l = record l { synced = length l.keys; waiting = [] }
 
 -- one of the synced records has the key
-abbrev pub is_durable : Key → LogList → Bool
-is_durable key l = list_any (λ k. is_key k key) (take l.synced l.keys)
+abbrev pub is_key_durable : Key → LogList → Bool
+is_key_durable key l = list_any (λ k. is_key k key) (take l.synced l.keys)

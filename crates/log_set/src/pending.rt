@@ -1,6 +1,6 @@
 //! The records of one log by their keys: which are synced, and the bytes of the others.
 ghost use Rattle.std.specs.Prelude.{◌≡◌, ◌+◌, ◌<◌, ◌≤◌, length, IsOk, IfOk, OnOk, OnErr};
-ghost use Rattle.log_set.specs.Logs.{no_records, with_record, all_synced, is_durable};
+ghost use Rattle.log_set.specs.Logs.{no_records, with_record, all_synced, is_key_durable};
 
 use crate::copies::copies_of;
 use crate::places::put_first;
@@ -121,7 +121,7 @@ impl Pending {
 
     /// Whether a record with this key is synced, found in constant time.
     pub fn is_durable(&self, key: Key) -> bool
-        ensures { result ≡ is_durable key self.now.log }
+        ensures { result ≡ is_key_durable key self.now.log }
     {
         match self.places.get(&key) {
             Some(place) => *place < self.synced,

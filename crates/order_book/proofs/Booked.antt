@@ -10,7 +10,7 @@ use Rattle.protocol.specs.Spread.{raised, reaches, crossed_out, doomed_by_order}
 use Rattle.protocol.specs.Verdicts.{out_of_order, taken_along}
 use Rattle.protocol.specs.OnBook.{change_if, changed_act, joins, lowered, cascaded, is_doomed_act, new_pairs}
 use Rattle.order_book.specs.Kept.{forgotten}
-use Rattle.order_book.specs.Changes.{changed_along, raised_along, taken_from}
+use Rattle.order_book.specs.Changes.{changed_along, raised_along, taken_along_from}
 use Rattle.order_book.specs.Walking.{is_behind, is_walked, is_walked_at, places_of}
 use Rattle.order_book.proofs.Finding.{eqb_turned}
 use Rattle.order_book.proofs.Walked.{walked_as, raised_walked, crossed_walked, taken_walked, places_same, places_raised, all_refl, kept, gives_up_rests}
@@ -33,20 +33,20 @@ lowered_walked pairs k ts acts new walked was e =
 
 -- ---- a cascade
 
-forgets_taken : (k by : ℕ) (acts : List Act) → map forgotten (map (taken_from k by) acts) ≡ map (cascaded k by) acts
+forgets_taken : (k by : ℕ) (acts : List Act) → map forgotten (map (taken_along_from k by) acts) ≡ map (cascaded k by) acts
 forgets_taken k by [] = refl
 forgets_taken k by (x ∷ xs) = ap (λ (zs : List Act). cascaded k by x ∷ zs) (forgets_taken k by xs)
 
-taken_acts : (pairs : List Pair) (k by : ℕ) (acts mid : List Act) (walked : List ℕ) → walked ≡ places_of (is_walked pairs) 0 acts → mid ≡ changed_along walked (taken_from k by) acts → mid ≡ map (taken_from k by) acts
-taken_acts pairs k by acts mid walked was e = e ∙ (ap (λ (ats : List ℕ). changed_along ats (taken_from k by) acts) was ∙ taken_walked pairs k by acts)
+taken_acts : (pairs : List Pair) (k by : ℕ) (acts mid : List Act) (walked : List ℕ) → walked ≡ places_of (is_walked pairs) 0 acts → mid ≡ changed_along walked (taken_along_from k by) acts → mid ≡ map (taken_along_from k by) acts
+taken_acts pairs k by acts mid walked was e = e ∙ (ap (λ (ats : List ℕ). changed_along ats (taken_along_from k by) acts) was ∙ taken_walked pairs k by acts)
 
-pub cascaded_acts : (pairs : List Pair) (k by : ℕ) (acts mid new : List Act) (walked : List ℕ) → walked ≡ places_of (is_walked pairs) 0 acts → mid ≡ changed_along walked (taken_from k by) acts → new ≡ map forgotten mid → new ≡ map (cascaded k by) acts
+pub cascaded_acts : (pairs : List Pair) (k by : ℕ) (acts mid new : List Act) (walked : List ℕ) → walked ≡ places_of (is_walked pairs) 0 acts → mid ≡ changed_along walked (taken_along_from k by) acts → new ≡ map forgotten mid → new ≡ map (cascaded k by) acts
 cascaded_acts pairs k by acts mid new walked was e f = f ∙ (ap (λ (zs : List Act). map forgotten zs) (taken_acts pairs k by acts mid walked was e) ∙ forgets_taken k by acts)
 
-pub cascaded_left : (pairs : List Pair) (k by : ℕ) (acts mid new : List Act) (walked left : List ℕ) → walked ≡ places_of (is_walked pairs) 0 acts → mid ≡ changed_along walked (taken_from k by) acts → new ≡ map forgotten mid
+pub cascaded_left : (pairs : List Pair) (k by : ℕ) (acts mid new : List Act) (walked left : List ℕ) → walked ≡ places_of (is_walked pairs) 0 acts → mid ≡ changed_along walked (taken_along_from k by) acts → new ≡ map forgotten mid
     → left ≡ filter (is_walked_at pairs mid) walked → left ≡ places_of (is_walked pairs) 0 new
 cascaded_left pairs k by acts mid new walked left was e f told =
-    kept pairs pairs (taken_from k by) acts mid walked left (λ x h. gives_up_rests pairs x.tid x.status (nat_le k x.m) (taken_along k by) h) was (taken_acts pairs k by acts mid walked was e) told
+    kept pairs pairs (taken_along_from k by) acts mid walked left (λ x h. gives_up_rests pairs x.tid x.status (nat_le k x.m) (taken_along k by) h) was (taken_acts pairs k by acts mid walked was e) told
     ∙ (places_same (is_walked pairs) (is_walked pairs) forgotten 0 mid (all_refl (is_walked pairs) (is_walked pairs) forgotten (λ x. refl) mid)
     ∙ ap (λ (zs : List Act). places_of (is_walked pairs) 0 zs) (sym f))
 

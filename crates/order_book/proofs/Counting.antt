@@ -5,7 +5,7 @@ use Rattle.protocol.specs.Parts.{Act}
 use Rattle.protocol.specs.Words.{count, holds, is_live_act}
 use Rattle.order_book.specs.Kept.{forgotten}
 use Rattle.order_book.specs.Changes.{changed_at}
-use Rattle.order_book.specs.Registered.{one_if}
+use Rattle.protocol.specs.Numbers.{one_if}
 
 length_if : (b : Bool) (x : Act) (xs : List Act) → length (if b then x ∷ xs else xs) ≡ one_if b + length xs
 length_if true x xs = omega arith

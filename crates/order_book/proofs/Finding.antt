@@ -11,10 +11,10 @@ use Rattle.machine_words.specs.Meant.{tid_number}
 use Rattle.protocol.specs.Parts.{Act}
 use Rattle.protocol.specs.Words.{act_of}
 use Rattle.protocol.specs.OnBook.{change_if, changed_act}
-use Rattle.order_book.specs.Asked.{tid_of}
+use Rattle.order_book.specs.Asked.{tid_of_act}
 use Rattle.order_book.specs.Changes.{changed_at}
 use Rattle.order_book.specs.Kept.{forgotten}
-use Rattle.order_book.specs.Registered.{tid_with, IsRising, IsPlaceOf, tids_of, first_of}
+use Rattle.order_book.specs.Registered.{tid_with, IsRising, IsPlaceOfAct, act_tids, first_kept}
 
 -- ---- rising numbers
 
@@ -78,41 +78,41 @@ position_between t xs i low high = position_none t xs (λ k lt same. apart t xs 
 
 -- ---- the place of an ACT
 
-position_in_tids : (t : ℕ) (acts : List Act) → position_or_len (λ n. n == t) (tids_of acts) ≡ position_or_len (λ (x : Act). x.tid == t) acts
+position_in_tids : (t : ℕ) (acts : List Act) → position_or_len (λ n. n == t) (act_tids acts) ≡ position_or_len (λ (x : Act). x.tid == t) acts
 position_in_tids t [] = refl
 position_in_tids t (x ∷ xs) = ap (λ (n : ℕ). if not (x.tid == t) then 1 + n else 0) (position_in_tids t xs)
 
 -- the ACT that the search finds is the one at its tid's place
-pub found_at : (t : ℕ) (acts : List Act) → act_of t acts ≡ slice_get acts (position_or_len (λ n. n == t) (tids_of acts))
+pub found_at : (t : ℕ) (acts : List Act) → act_of t acts ≡ slice_get acts (position_or_len (λ n. n == t) (act_tids acts))
 found_at t acts = rw (position_in_tids t acts) (find_at (λ (x : Act). x.tid == t) acts)
 
-untouched : (t : ℕ) (f : Act → Act) (n : ℕ) (acts : List Act) → t ≤ n → AllByRecursion (λ k. n < k) (tids_of acts) → changed_act t f acts ≡ acts
+untouched : (t : ℕ) (f : Act → Act) (n : ℕ) (acts : List Act) → t ≤ n → AllByRecursion (λ k. n < k) (act_tids acts) → changed_act t f acts ≡ acts
 untouched t f n [] le all = refl
 untouched t f n (x ∷ xs) le all =
     ap (λ (b : Bool). change_if b f x ∷ changed_act t f xs) (ne_eqb x.tid t (λ (same : x.tid ≡ t). omega (arith, le, all.0, same)))
     ∙ ap (λ (zs : List Act). x ∷ zs) (untouched t f n xs le all.1)
 
-by_test : (t : ℕ) (f : Act → Act) (x : Act) (xs : List Act) → IsRising (tids_of (x ∷ xs)) → changed_act t f xs ≡ changed_at (position_or_len (λ n. n == t) (tids_of xs)) f xs
-    → (b : Bool) → (x.tid == t) ≡ b → changed_act t f (x ∷ xs) ≡ changed_at (position_or_len (λ n. n == t) (tids_of (x ∷ xs))) f (x ∷ xs)
+by_test : (t : ℕ) (f : Act → Act) (x : Act) (xs : List Act) → IsRising (act_tids (x ∷ xs)) → changed_act t f xs ≡ changed_at (position_or_len (λ n. n == t) (act_tids xs)) f xs
+    → (b : Bool) → (x.tid == t) ≡ b → changed_act t f (x ∷ xs) ≡ changed_at (position_or_len (λ n. n == t) (act_tids (x ∷ xs))) f (x ∷ xs)
 by_test t f x xs up rest true e =
     ap (λ (c : Bool). change_if c f x ∷ changed_act t f xs) e
     ∙ (ap (λ (zs : List Act). f x ∷ zs) (untouched t f x.tid xs (omega (arith, eqb-true x.tid t e)) up.0)
-    ∙ ap (λ (at : ℕ). changed_at at f (x ∷ xs)) (sym (reached x.tid t (tids_of xs) e)))
+    ∙ ap (λ (at : ℕ). changed_at at f (x ∷ xs)) (sym (reached x.tid t (act_tids xs) e)))
 by_test t f x xs up rest false e =
     ap (λ (c : Bool). change_if c f x ∷ changed_act t f xs) e
     ∙ (ap (λ (zs : List Act). x ∷ zs) rest
-    ∙ ap (λ (at : ℕ). changed_at at f (x ∷ xs)) (sym (passed x.tid t (tids_of xs) e)))
+    ∙ ap (λ (at : ℕ). changed_at at f (x ∷ xs)) (sym (passed x.tid t (act_tids xs) e)))
 
-changes_there : (t : ℕ) (f : Act → Act) (acts : List Act) → IsRising (tids_of acts) → changed_act t f acts ≡ changed_at (position_or_len (λ n. n == t) (tids_of acts)) f acts
+changes_there : (t : ℕ) (f : Act → Act) (acts : List Act) → IsRising (act_tids acts) → changed_act t f acts ≡ changed_at (position_or_len (λ n. n == t) (act_tids acts)) f acts
 changes_there t f [] up = refl
 changes_there t f (x ∷ xs) up = by_test t f x xs up (changes_there t f xs up.1) (x.tid == t) refl
 
 -- what is said of each ACT, where its tid is above a number
-all_with : (n : ℕ) (P Q : Act → Type 0) (acts : List Act) → ((x : Act) → n < x.tid → P x → Q x) → AllByRecursion (λ k. n < k) (tids_of acts) → AllByRecursion P acts → AllByRecursion Q acts
+all_with : (n : ℕ) (P Q : Act → Type 0) (acts : List Act) → ((x : Act) → n < x.tid → P x → Q x) → AllByRecursion (λ k. n < k) (act_tids acts) → AllByRecursion P acts → AllByRecursion Q acts
 all_with n P Q [] step above all = tt
 all_with n P Q (x ∷ xs) step above all = (step x above.0 all.0, all_with n P Q xs step above.1 all.1)
 
-only_one : (t : ℕ) (acts : List Act) → IsRising (tids_of acts) → AllByRecursion (λ (x : Act). (x.tid == t) ≡ true → act_of t acts ≡ Some x) acts
+only_one : (t : ℕ) (acts : List Act) → IsRising (act_tids acts) → AllByRecursion (λ (x : Act). (x.tid == t) ≡ true → act_of t acts ≡ Some x) acts
 only_one t [] up = tt
 only_one t (x ∷ xs) up = (
   λ e. cond-true (x.tid == t) (Some x) (act_of t xs) e,
@@ -121,14 +121,14 @@ only_one t (x ∷ xs) up = (
       up.0 (only_one t xs up.1),
 )
 
-pub placed_at : (t : ℕ) (acts : List Act) → IsRising (tids_of acts) → IsPlaceOf t (position_or_len (λ n. n == t) (tids_of acts)) acts
+pub placed_at : (t : ℕ) (acts : List Act) → IsRising (act_tids acts) → IsPlaceOfAct t (position_or_len (λ n. n == t) (act_tids acts)) acts
 placed_at t acts up = record { found = found_at t acts; changes = λ f. changes_there t f acts up; only = only_one t acts up }
 
 -- ---- tids and transactions stay
 
-pub tids_changed : (at : ℕ) (f : Act → Act) (acts : List Act) → ((x : Act) → (f x).tid ≡ x.tid) → tids_of (changed_at at f acts) ≡ tids_of acts
+pub tids_changed : (at : ℕ) (f : Act → Act) (acts : List Act) → ((x : Act) → (f x).tid ≡ x.tid) → act_tids (changed_at at f acts) ≡ act_tids acts
 tids_changed at f [] keeps = refl
-tids_changed zero f (x ∷ xs) keeps = ap (λ (n : ℕ). n ∷ tids_of xs) (keeps x)
+tids_changed zero f (x ∷ xs) keeps = ap (λ (n : ℕ). n ∷ act_tids xs) (keeps x)
 tids_changed (suc at) f (x ∷ xs) keeps = ap (λ (ns : List ℕ). x.tid ∷ ns) (tids_changed at f xs keeps)
 
 pub found_changed : (n at : ℕ) (f : Act → Act) (acts : List Act) → ((x : Act) → (f x).tid ≡ x.tid) → ((x : Act) → (f x).tx ≡ x.tx) → tid_with n (changed_at at f acts) ≡ tid_with n acts
@@ -136,7 +136,7 @@ found_changed n at f [] tid tx = refl
 found_changed n zero f (x ∷ xs) tid tx = ap (λ (k : ℕ). if k == n then Some (f x).tid else tid_with n xs) (tx x) ∙ ap (λ (k : ℕ). if x.tx == n then Some k else tid_with n xs) (tid x)
 found_changed n (suc at) f (x ∷ xs) tid tx = ap (λ (o : Option ℕ). if x.tx == n then Some x.tid else o) (found_changed n at f xs tid tx)
 
-pub tids_forgotten : (acts : List Act) → tids_of (map forgotten acts) ≡ tids_of acts
+pub tids_forgotten : (acts : List Act) → act_tids (map forgotten acts) ≡ act_tids acts
 tids_forgotten [] = refl
 tids_forgotten (x ∷ xs) = ap (λ (ns : List ℕ). x.tid ∷ ns) (tids_forgotten xs)
 
@@ -144,16 +144,16 @@ pub found_forgotten : (n : ℕ) (acts : List Act) → tid_with n (map forgotten 
 found_forgotten n [] = refl
 found_forgotten n (x ∷ xs) = ap (λ (o : Option ℕ). if x.tx == n then Some x.tid else o) (found_forgotten n xs)
 
-first_more : (b c : Bool) (k t : ℕ) (o : Option ℕ) → (if b then Some k else first_of o c t) ≡ first_of (if b then Some k else o) c t
+first_more : (b c : Bool) (k t : ℕ) (o : Option ℕ) → (if b then Some k else first_kept o c t) ≡ first_kept (if b then Some k else o) c t
 first_more true c k t o = refl
 first_more false c k t o = refl
 
 -- one more ACT is the first of its transaction where there was none
-pub found_push : (n : ℕ) (acts : List Act) (x : Act) → tid_with n (acts ++ x ∷ []) ≡ first_of (tid_with n acts) (x.tx == n) x.tid
+pub found_push : (n : ℕ) (acts : List Act) (x : Act) → tid_with n (acts ++ x ∷ []) ≡ first_kept (tid_with n acts) (x.tx == n) x.tid
 found_push n [] x = refl
 found_push n (y ∷ ys) x = ap (λ (o : Option ℕ). if y.tx == n then Some y.tid else o) (found_push n ys x) ∙ first_more (y.tx == n) (x.tx == n) y.tid x.tid (tid_with n ys)
 
-pub tids_below : (t : ℕ) (acts : List Act) → AllByRecursion (λ (x : Act). x.tid < t) acts → AllByRecursion (λ k. k < t) (tids_of acts)
+pub tids_below : (t : ℕ) (acts : List Act) → AllByRecursion (λ (x : Act). x.tid < t) acts → AllByRecursion (λ k. k < t) (act_tids acts)
 tids_below t [] all = tt
 tids_below t (x ∷ xs) all = (all.0, tids_below t xs all.1)
 
@@ -167,11 +167,11 @@ position_small t (x ∷ xs) = position_here t x xs (position_small t xs) (x == t
 
 -- ---- the first ACT of a transaction
 
-tid_of_if : (b : Bool) (x : Act) (o : Option Act) → (if b then Some x.tid else tid_of o) ≡ tid_of (if b then Some x else o)
+tid_of_if : (b : Bool) (x : Act) (o : Option Act) → (if b then Some x.tid else tid_of_act o) ≡ tid_of_act (if b then Some x else o)
 tid_of_if true x o = refl
 tid_of_if false x o = refl
 
-pub first_is : (n : ℕ) (acts : List Act) → tid_with n acts ≡ tid_of (find (λ (x : Act). x.tx == n) acts)
+pub first_is : (n : ℕ) (acts : List Act) → tid_with n acts ≡ tid_of_act (find (λ (x : Act). x.tx == n) acts)
 first_is n [] = refl
 first_is n (x ∷ xs) = ap (λ (o : Option ℕ). if x.tx == n then Some x.tid else o) (first_is n xs) ∙ tid_of_if (x.tx == n) x (find (λ (y : Act). y.tx == n) xs)
 
@@ -179,20 +179,20 @@ above_by : (m n t : ℕ) (b : Bool) (x : Act) (xs : List Act) → m < x.tid → 
 above_by m n t true x xs here rest e = let same : x.tid ≡ t = same_Some x.tid t e in omega (arith, here, same)
 above_by m n t false x xs here rest e = rest e
 
-tid_above : (m n t : ℕ) (xs : List Act) → AllByRecursion (λ k. m < k) (tids_of xs) → tid_with n xs ≡ Some t → m < t
+tid_above : (m n t : ℕ) (xs : List Act) → AllByRecursion (λ k. m < k) (act_tids xs) → tid_with n xs ≡ Some t → m < t
 tid_above m n t [] above e = absurd (none-some t e)
 tid_above m n t (x ∷ xs) above e = above_by m n t (x.tx == n) x xs above.0 (tid_above m n t xs above.1) e
 
-found_by : (n t : ℕ) (b : Bool) (x : Act) (xs : List Act) → AllByRecursion (λ k. x.tid < k) (tids_of xs) → (tid_with n xs ≡ Some t → act_of t xs ≡ find (λ (y : Act). y.tx == n) xs)
+found_by : (n t : ℕ) (b : Bool) (x : Act) (xs : List Act) → AllByRecursion (λ k. x.tid < k) (act_tids xs) → (tid_with n xs ≡ Some t → act_of t xs ≡ find (λ (y : Act). y.tx == n) xs)
     → (if b then Some x.tid else tid_with n xs) ≡ Some t → act_of t (x ∷ xs) ≡ (if b then Some x else find (λ (y : Act). y.tx == n) xs)
 found_by n t true x xs above rest e = cond-true (x.tid == t) (Some x) (act_of t xs) (eq-eqb x.tid t (same_Some x.tid t e))
 found_by n t false x xs above rest e =
     cond-false (x.tid == t) (Some x) (act_of t xs) (ne_eqb x.tid t (λ (same : x.tid ≡ t). omega (arith, same, tid_above x.tid n t xs above e))) ∙ rest e
 
-found_first : (n t : ℕ) (acts : List Act) → IsRising (tids_of acts) → tid_with n acts ≡ Some t → act_of t acts ≡ find (λ (x : Act). x.tx == n) acts
+found_first : (n t : ℕ) (acts : List Act) → IsRising (act_tids acts) → tid_with n acts ≡ Some t → act_of t acts ≡ find (λ (x : Act). x.tx == n) acts
 found_first n t [] up e = absurd (none-some t e)
 found_first n t (x ∷ xs) up e = found_by n t (x.tx == n) x xs up.0 (found_first n t xs up.1) e
 
-pub found_with : (n : ℕ) (acts : List Act) (r : Option Tid) → IsRising (tids_of acts) → option_map tid_number r ≡ tid_with n acts → IfSome r (λ t. act_of t.0 acts ≡ find (λ (x : Act). x.tx == n) acts)
+pub found_with : (n : ℕ) (acts : List Act) (r : Option Tid) → IsRising (act_tids acts) → option_map tid_number r ≡ tid_with n acts → IfSome r (λ t. act_of t.0 acts ≡ find (λ (x : Act). x.tx == n) acts)
 found_with n acts None up e = tt
 found_with n acts (Some t) up e = found_first n t.0 acts up (sym e)

@@ -12,7 +12,8 @@ use Rattle.order_book.specs.declared.change.Change.{Change}
 use Rattle.order_book.specs.declared.change.Change.TheVariants.{Lower, Cross, Raise, Doom, Place, Leave, TakeAlong}
 use Rattle.order_book.specs.Kept.{forgotten}
 use Rattle.order_book.specs.Changes.{changed_at, changed_by}
-use Rattle.order_book.specs.Registered.{IsRegistered, IsRising, one_if, first_of}
+use Rattle.protocol.specs.Numbers.{one_if}
+use Rattle.order_book.specs.Registered.{IsRegistered, IsRising, first_kept}
 use Rattle.order_book.proofs.Finding.{tids_changed, found_changed, tids_forgotten, found_forgotten, found_push, rising_push, tids_below}
 use Rattle.order_book.proofs.Counting.{count_changed, count_small, one_if_small, count_push, count_forgotten}
 
@@ -72,11 +73,11 @@ registered_forgotten acts new tids by_tx live r e = subst (λ (zs : List Act). I
 
 pub registered_pushed : (t n : ℕ) (reader : Bool) (m : ℕ) (acts new : List Act) (tids : List ℕ) (by_tx more : List (Option ℕ)) (live : ℕ) → IsRegistered acts tids by_tx live
     → All (λ (x : Act). x.tid < t) acts → new ≡ acts ++ new_act t n reader m ∷ []
-    → ((k : ℕ) → get_or more k None ≡ first_of (get_or by_tx k None) (n == k) t) → IsRegistered new (tids ++ t ∷ []) more (live + 1)
+    → ((k : ℕ) → get_or more k None ≡ first_kept (get_or by_tx k None) (n == k) t) → IsRegistered new (tids ++ t ∷ []) more (live + 1)
 registered_pushed t n reader m acts new tids by_tx more live r below e noted = subst (λ (zs : List Act). IsRegistered zs (tids ++ t ∷ []) more (live + 1)) (sym e) (record {
   listed = ap (λ (ns : List ℕ). ns ++ t ∷ []) r.listed ∙ sym (map_push (λ (x : Act). x.tid) acts (new_act t n reader m));
   rising = rising_push tids t r.rising (subst (AllByRecursion (λ k. k < t)) (sym r.listed) (tids_below t acts (recursion_from_All (λ (x : Act). x.tid < t) acts below)));
-  found = λ k. noted k ∙ (ap (λ (o : Option ℕ). first_of o (n == k) t) (r.found k) ∙ sym (found_push k acts (new_act t n reader m)));
+  found = λ k. noted k ∙ (ap (λ (o : Option ℕ). first_kept o (n == k) t) (r.found k) ∙ sym (found_push k acts (new_act t n reader m)));
   counted = ap (λ (k : ℕ). k + 1) r.counted ∙ sym (count_push is_live_act acts (new_act t n reader m) refl);
 })
 
@@ -86,24 +87,24 @@ none_more [] (suc n) = refl
 none_more (x ∷ xs) zero = refl
 none_more (x ∷ xs) (suc n) = none_more xs n
 
-first_stays : (o : Option ℕ) (b : Bool) (t : ℕ) → (b ≡ true → is_some o ≡ true) → o ≡ first_of o b t
+first_stays : (o : Option ℕ) (b : Bool) (t : ℕ) → (b ≡ true → is_some o ≡ true) → o ≡ first_kept o b t
 first_stays (Some k) b t there = refl
 first_stays None true t there = absurd (false≢true (there refl))
 first_stays None false t there = refl
 
 -- a transaction that has an ACT keeps it
-pub noted_before : (xs : List (Option ℕ)) (at n t : ℕ) → is_some (get_or xs at None) ≡ true → get_or xs n None ≡ first_of (get_or xs n None) (at == n) t
+pub noted_before : (xs : List (Option ℕ)) (at n t : ℕ) → is_some (get_or xs at None) ≡ true → get_or xs n None ≡ first_kept (get_or xs n None) (at == n) t
 noted_before xs at n t there = first_stays (get_or xs n None) (at == n) t (λ e. ap (λ (k : ℕ). is_some (get_or xs k None)) (sym (eqb-true at n e)) ∙ there)
 
-noted_by : (xs : List (Option ℕ)) (at n t : ℕ) → at < length xs → get_or xs at None ≡ None → (b : Bool) → (at == n) ≡ b → get_or (set xs at (Some t)) n None ≡ first_of (get_or xs n None) b t
+noted_by : (xs : List (Option ℕ)) (at n t : ℕ) → at < length xs → get_or xs at None ≡ None → (b : Bool) → (at == n) ≡ b → get_or (set xs at (Some t)) n None ≡ first_kept (get_or xs n None) b t
 noted_by xs at n t lt none true e =
     ap (λ (k : ℕ). get_or (set xs at (Some t)) k None) (sym (eqb-true at n e))
     ∙ (get_or-set_same xs at (Some t) None lt
-    ∙ ap (λ (o : Option ℕ). first_of o true t) (sym none ∙ ap (λ (k : ℕ). get_or xs k None) (eqb-true at n e)))
+    ∙ ap (λ (o : Option ℕ). first_kept o true t) (sym none ∙ ap (λ (k : ℕ). get_or xs k None) (eqb-true at n e)))
 noted_by xs at n t lt none false e =
     get_or-set_other xs at n (Some t) None (λ same. eqb-false at n e (sym same)) ∙ first_stays (get_or xs n None) false t (λ bad. absurd (false≢true bad))
 
-pub noted_now : (xs : List (Option ℕ)) (at n t : ℕ) → at < length xs → get_or xs at None ≡ None → get_or (set xs at (Some t)) n None ≡ first_of (get_or xs n None) (at == n) t
+pub noted_now : (xs : List (Option ℕ)) (at n t : ℕ) → at < length xs → get_or xs at None ≡ None → get_or (set xs at (Some t)) n None ≡ first_kept (get_or xs n None) (at == n) t
 noted_now xs at n t lt none = noted_by xs at n t lt none (at == n) refl
 
 -- ---- room is made

@@ -4,7 +4,7 @@ use Rattle.std.specs.Prelude.{Option, None}
 use Rattle.std.specs.List.{AllByRecursion}
 use Rattle.std.proofs.lemmas.Bool.{cond-false, ne_eqb}
 use Rattle.protocol.specs.Parts.{Act}
-use Rattle.order_book.specs.Kept.{Kept, seen, cut, forgotten, IsUnder}
+use Rattle.order_book.specs.Kept.{Kept, seen, without_after, forgotten, IsUnder}
 use Rattle.order_book.specs.Changes.{changed_at}
 
 -- a change of a row is a change of the ACT that is seen there
@@ -41,10 +41,10 @@ under_later e [] all = all
 under_later e (x ∷ xs) all = (omega (arith, all.0), under_later e xs all.1)
 
 -- rows that are cut show no after number
-pub seen_cut : (e : ℕ) (rows : List Kept) → map (seen 0) (map cut rows) ≡ map forgotten (map (seen e) rows)
+pub seen_cut : (e : ℕ) (rows : List Kept) → map (seen 0) (map without_after rows) ≡ map forgotten (map (seen e) rows)
 seen_cut e [] = refl
 seen_cut e (x ∷ xs) = ap (λ (zs : List Act). forgotten (seen e x) ∷ zs) (seen_cut e xs)
 
-pub under_cut : (rows : List Kept) → AllByRecursion (IsUnder 0) (map cut rows)
+pub under_cut : (rows : List Kept) → AllByRecursion (IsUnder 0) (map without_after rows)
 under_cut [] = tt
 under_cut (x ∷ xs) = (omega arith, under_cut xs)

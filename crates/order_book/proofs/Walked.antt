@@ -9,7 +9,7 @@ use Rattle.protocol.specs.Words.{is_live_status, is_doomed, is_ordered, holds}
 use Rattle.protocol.specs.Spread.{stands_behind, carried, carries_to, raised, raised_over, reaches, crossed_out}
 use Rattle.protocol.specs.Verdicts.{out_of_order, taken_along}
 use Rattle.protocol.specs.OnBook.{change_if, marked, has_left, decided_status}
-use Rattle.order_book.specs.Changes.{changed_at, changed_along, carried_at, raised_to, raised_along, taken_from}
+use Rattle.order_book.specs.Changes.{changed_at, changed_along, carried_at, raised_to, raised_along, taken_along_from}
 use Rattle.order_book.specs.Walking.{is_behind, is_walked, is_walked_at, places_of}
 use Rattle.order_book.proofs.Carrying.{greatest_none}
 
@@ -97,8 +97,8 @@ raised_walked pairs xs = raised_all pairs (is_walked pairs) (raised_stays pairs)
 pub crossed_walked : (pairs : List Pair) (a : ℕ) (xs : List Act) → changed_along (places_of (is_walked pairs) 0 xs) (crossed_out a) xs ≡ map (crossed_out a) xs
 crossed_walked pairs a xs = along_all (is_walked pairs) (crossed_out a) (λ x e. given_up_stays pairs x (reaches x.m x.n) (out_of_order x.m (unwrap_or x.n 0) a) e) xs
 
-pub taken_walked : (pairs : List Pair) (k by : ℕ) (xs : List Act) → changed_along (places_of (is_walked pairs) 0 xs) (taken_from k by) xs ≡ map (taken_from k by) xs
-taken_walked pairs k by xs = along_all (is_walked pairs) (taken_from k by) (λ x e. given_up_stays pairs x (nat_le k x.m) (taken_along k by) e) xs
+pub taken_walked : (pairs : List Pair) (k by : ℕ) (xs : List Act) → changed_along (places_of (is_walked pairs) 0 xs) (taken_along_from k by) xs ≡ map (taken_along_from k by) xs
+taken_walked pairs k by xs = along_all (is_walked pairs) (taken_along_from k by) (λ x e. given_up_stays pairs x (nat_le k x.m) (taken_along k by) e) xs
 
 -- ---- who is walked afterwards
 

@@ -24,9 +24,9 @@ free_or_wait [] = Free
 free_or_wait (t ∷ ts) = Wait
 
 -- who meets an older rival gives way to the oldest
-abbrev pub answered : Option ℕ → List Tid → Answer
-answered (Some older) rivals = Die (record { 0 = older })
-answered None rivals = free_or_wait rivals
+abbrev pub answer_by : Option ℕ → List Tid → Answer
+answer_by (Some older) rivals = Die (record { 0 = older })
+answer_by None rivals = free_or_wait rivals
 
 -- ---- an ACT, where there is one
 
@@ -51,9 +51,9 @@ abbrev pub after_of : Option Act → Option ℕ
 after_of None = None
 after_of (Some x) = x.n
 
-abbrev pub tid_of : Option Act → Option ℕ
-tid_of None = None
-tid_of (Some x) = Some x.tid
+abbrev pub tid_of_act : Option Act → Option ℕ
+tid_of_act None = None
+tid_of_act (Some x) = Some x.tid
 
 abbrev pub tx_of : Option Act → Option ℕ
 tx_of None = None

@@ -19,8 +19,8 @@ abbrev pub raised_to : ℕ → Act → Act
 raised_to m x = record x { m = max x.m m }
 
 -- it is given up if it stands behind one of the batches from k on
-abbrev pub taken_from : ℕ → ℕ → Act → Act
-taken_from k by x = record x { status = if is_live_status x.status && nat_le k x.m then Doomed (taken_along k by) else x.status }
+abbrev pub taken_along_from : ℕ → ℕ → Act → Act
+taken_along_from k by x = record x { status = if is_live_status x.status && nat_le k x.m then Doomed (taken_along k by) else x.status }
 
 abbrev pub changed_by : Change → Act → Act
 changed_by (Lower k) x = lowered_to k.0 x
@@ -29,7 +29,7 @@ changed_by (Raise m) x = raised_to m.0 x
 changed_by (Doom why) x = doomed_by why x
 changed_by Place x = decided_as 0 x
 changed_by (Leave a) x = marked a.0 has_left x
-changed_by (TakeAlong k by) x = taken_from k.0 by.0 x
+changed_by (TakeAlong k by) x = taken_along_from k.0 by.0 x
 
 -- ---- at places
 

@@ -11,10 +11,10 @@ use Rattle.order_book.specs.declared.fate.Fate.{Fate}
 use Rattle.order_book.specs.declared.fate.Fate.TheVariants.{Undecided, GivenUp, Placed}
 
 -- who has its place shows as sealed with number 0
-abbrev pub status_of : Fate → Status
-status_of Undecided = Live
-status_of (GivenUp why) = Doomed why
-status_of Placed = Sealed 0
+abbrev pub status_of_fate : Fate → Status
+status_of_fate Undecided = Live
+status_of_fate (GivenUp why) = Doomed why
+status_of_fate Placed = Sealed 0
 
 abbrev pub bid_number : Bid → ℕ
 bid_number b = b.0

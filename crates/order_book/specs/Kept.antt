@@ -20,8 +20,8 @@ abbrev pub forgotten : Act → Act
 forgotten x = record x { n = None }
 
 -- with no after number, whatever the number of cascades
-abbrev pub cut : Kept → Kept
-cut x = record { act = forgotten x.act; under = 0 }
+abbrev pub without_after : Kept → Kept
+without_after x = record { act = forgotten x.act; under = 0 }
 
 abbrev pub is_live_kept : Kept → Bool
 is_live_kept x = is_live_act x.act

@@ -1,5 +1,5 @@
 -- All ACTs in the order of their admission, with what finds and counts them.
-use Rattle.std.specs.Prelude.{◌≡◌, ℕ, ◌<◌, ◌==◌, max, Bool, true, false, if◌then◌else◌, Option, Some, None, List, [], ◌∷◌, map, slice_get, slice_index_or, ⊤}
+use Rattle.std.specs.Prelude.{◌≡◌, ℕ, ◌<◌, ◌==◌, max, Bool, true, if◌then◌else◌, Option, Some, None, List, [], ◌∷◌, map, slice_get, slice_index_or, ⊤}
 use Rattle.std.specs.List.{AllByRecursion}
 use Rattle.protocol.specs.Parts.{Act, Pair}
 use Rattle.protocol.specs.Words.{count, is_doomed, is_live_act, act_of}
@@ -11,8 +11,8 @@ abbrev pub IsRising : List ℕ → Type 0
 IsRising [] = ⊤
 IsRising (n ∷ ns) = AllByRecursion (λ k. n < k) ns × IsRising ns
 
-abbrev pub tids_of : List Act → List ℕ
-tids_of acts = map (λ x. x.tid) acts
+abbrev pub act_tids : List Act → List ℕ
+act_tids acts = map (λ x. x.tid) acts
 
 -- the tid of the first ACT of a transaction
 abbrev pub tid_with : ℕ → List Act → Option ℕ
@@ -21,38 +21,34 @@ tid_with n (x ∷ xs) = if x.tx == n then Some x.tid else tid_with n xs
 
 -- the tids ascend; by transaction there is the tid of its first ACT; and so many are live
 pub record IsRegistered (acts : List Act) (tids : List ℕ) (by_tx : List (Option ℕ)) (live : ℕ) : Type 0 where
-  pub listed : tids ≡ tids_of acts
+  pub listed : tids ≡ act_tids acts
   pub rising : IsRising tids
   pub found : (n : ℕ) → slice_index_or by_tx n None ≡ tid_with n acts
   pub counted : live ≡ count is_live_act acts
 
 -- ---- the place of an ACT: the length of the list where there is none
 
-pub record IsPlaceOf (t at : ℕ) (acts : List Act) : Type 0 where
+pub record IsPlaceOfAct (t at : ℕ) (acts : List Act) : Type 0 where
   pub found : act_of t acts ≡ slice_get acts at
   -- who changes the ACT there changes ACT t, and nobody else
   pub changes : (f : Act → Act) → changed_act t f acts ≡ changed_at at f acts
   pub only : AllByRecursion (λ x. (x.tid == t) ≡ true → act_of t acts ≡ Some x) acts
 
--- ---- counting
-
-abbrev pub one_if : Bool → ℕ
-one_if true = 1
-one_if false = 0
+-- ---- by transaction
 
 -- the one that was there, or else this one
-abbrev pub first_of : Option ℕ → Bool → ℕ → Option ℕ
-first_of (Some k) b t = Some k
-first_of None b t = if b then Some t else None
+abbrev pub first_kept : Option ℕ → Bool → ℕ → Option ℕ
+first_kept (Some k) b t = Some k
+first_kept None b t = if b then Some t else None
 
 -- ---- what pairs bring
 
 -- the before number of an ACT that is there and not doomed, or 0
-abbrev pub number_of : Option Act → ℕ
-number_of None = 0
-number_of (Some x) = if is_doomed x.status then 0 else x.m
+abbrev pub before_undoomed : Option Act → ℕ
+before_undoomed None = 0
+before_undoomed (Some x) = if is_doomed x.status then 0 else x.m
 
 -- the greatest number that a pair brings to ACT t from one of the others
 abbrev pub brought_by : List Pair → ℕ → List Act → ℕ
 brought_by [] t others = 0
-brought_by (p ∷ ps) t others = max (if p.behind == t then number_of (act_of p.ahead others) else 0) (brought_by ps t others)
+brought_by (p ∷ ps) t others = max (if p.behind == t then before_undoomed (act_of p.ahead others) else 0) (brought_by ps t others)

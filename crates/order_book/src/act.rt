@@ -5,8 +5,8 @@ ghost use Rattle.std.specs.Option.{option_map};
 ghost use Rattle.protocol.specs.Words.{is_doomed, is_live_status, is_ordered, is_sealed, is_live_act, joined_of, holds, least_of};
 ghost use Rattle.protocol.specs.OnBook.{mark_if, has_left, new_act, joins, doomed_by, marked};
 ghost use Rattle.order_book.specs.Asked.{doom_in};
-ghost use Rattle.order_book.specs.Fates.{bid_number, status_of};
-ghost use Rattle.order_book.specs.Kept.{seen, cut, IsUnder};
+ghost use Rattle.order_book.specs.Fates.{bid_number, status_of_fate};
+ghost use Rattle.order_book.specs.Kept.{seen, without_after, IsUnder};
 ghost use Rattle.order_book.specs.Changes.{changed_by, lowered_to};
 ghost use Rattle.order_book.specs.Walking.{is_walked};
 
@@ -35,12 +35,12 @@ pub struct Act {
 impl Model for Act {
     ghost use Rattle.std.specs.Prelude.{None};
     ghost use Rattle.std.specs.Option.{option_map};
-    ghost use Rattle.order_book.specs.Fates.{bid_number, status_of};
+    ghost use Rattle.order_book.specs.Fates.{bid_number, status_of_fate};
     ghost use Rattle.order_book.specs.Kept.{Kept};
 
     ghost Value = { Kept };
 
-    ghost view = { λ a. record { act = record { tid = a.tid.0; tx = a.tx.0; reader = a.reader; m = a.before.0; n = option_map bid_number a.after; places = a.marks.items; result = None; status = status_of a.fate }; under = a.under } };
+    ghost view = { λ a. record { act = record { tid = a.tid.0; tx = a.tx.0; reader = a.reader; m = a.before.0; n = option_map bid_number a.after; places = a.marks.items; result = None; status = status_of_fate a.fate }; under = a.under } };
 }
 
 impl Act {
@@ -106,7 +106,7 @@ impl Act {
 
     /// It has no after number, whatever the number of cascades.
     pub(crate) fn cut(&mut self)
-        ensures { self.new ≡ cut self.old }
+        ensures { self.new ≡ without_after self.old }
     {
         self.after = None;
         self.under = 0;

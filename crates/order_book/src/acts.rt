@@ -5,7 +5,7 @@ ghost use Rattle.protocol.specs.Words.{is_doomed, is_live_status, is_ordered, is
 ghost use Rattle.protocol.specs.OnBook.{new_act, joins};
 ghost use Rattle.order_book.specs.Asked.{doom_of, before_of, after_of, tx_of, joined_in};
 ghost use Rattle.order_book.specs.Fates.{bid_number, tx_number};
-ghost use Rattle.order_book.specs.Kept.{cut, forgotten, seen};
+ghost use Rattle.order_book.specs.Kept.{without_after, forgotten, seen};
 ghost use Rattle.order_book.specs.Changes.{changed_by, changed_at};
 ghost use Rattle.order_book.specs.Walking.{is_walked_at};
 
@@ -240,7 +240,7 @@ impl Acts {
 }
 
 fn cut_rows(rows: &mut Vec<Act>)
-    ensures { rows.new.items ≡ map cut rows.old.items }
+    ensures { rows.new.items ≡ map without_after rows.old.items }
 {
     for row in rows.iter_mut() {
         row.cut();

@@ -8,7 +8,7 @@ ghost use Rattle.protocol.specs.Words.{act_of, count, holds, is_doomed, is_live_
 ghost use Rattle.protocol.specs.Verdicts.{died};
 ghost use Rattle.protocol.specs.OnBook.{act_admitted, act_asked, act_finished, batch_arrived, changed_act, doomed_by};
 ghost use Rattle.protocol.specs.BookParts.{no_orders, has_place, orders_cascaded};
-ghost use Rattle.order_book.specs.Asked.{AreLocksOf, doom_of, before_of, after_of, tx_of, joined_in, tid_of};
+ghost use Rattle.order_book.specs.Asked.{AreLocksOf, doom_of, before_of, after_of, tx_of, joined_in, tid_of_act};
 ghost use Rattle.order_book.specs.Fates.{bid_number, tx_number};
 ghost use Rattle.order_book.specs.Kept.{seen};
 
@@ -211,7 +211,7 @@ impl Book {
 
     /// The tid of the first ACT of a transaction; `None` exactly where it has none.
     pub fn act_with(&self, tx: TxNo) -> Option<Tid>
-        ensures first { option_map tid_number result ≡ tid_of (find (λ x. x.tx == tx.0) self.now.acts) }
+        ensures first { option_map tid_number result ≡ tid_of_act (find (λ x. x.tx == tx.0) self.now.acts) }
         ensures found { IfSome result (λ t. act_of t.0 self.now.acts ≡ find (λ x. x.tx == tx.0) self.now.acts) }
     {
         self.register.act_with(tx)

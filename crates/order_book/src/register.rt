@@ -5,11 +5,12 @@ ghost use Rattle.std.specs.Option.{option_map};
 ghost use Rattle.machine_words.specs.Meant.{tid_number};
 ghost use Rattle.protocol.specs.Words.{act_of, count, holds, is_doomed, is_live_act};
 ghost use Rattle.protocol.specs.OnBook.{new_act, joins};
-ghost use Rattle.order_book.specs.Asked.{tid_of};
+ghost use Rattle.order_book.specs.Asked.{tid_of_act};
 ghost use Rattle.order_book.specs.Kept.{forgotten};
 ghost use Rattle.order_book.specs.Changes.{changed_by, changed_at, carried_at};
 ghost use Rattle.order_book.specs.Walking.{is_walked_at};
-ghost use Rattle.order_book.specs.Registered.{IsRising, IsPlaceOf, first_of, one_if, tids_of, number_of, brought_by};
+ghost use Rattle.protocol.specs.Numbers.{one_if};
+ghost use Rattle.order_book.specs.Registered.{IsRising, IsPlaceOfAct, first_kept, act_tids, before_undoomed, brought_by};
 
 use crate::acts::Acts;
 use crate::change::Change;
@@ -89,7 +90,7 @@ impl Register {
 
     /// The tid of the first ACT of a transaction.
     pub(crate) fn act_with(&self, tx: TxNo) -> Option<Tid>
-        ensures first { option_map tid_number result ≡ tid_of (find (λ x. x.tx == tx.0) self.now) }
+        ensures first { option_map tid_number result ≡ tid_of_act (find (λ x. x.tx == tx.0) self.now) }
         ensures found { IfSome result (λ t. act_of t.0 self.now ≡ find (λ x. x.tx == tx.0) self.now) }
     {
         tid_at(self.by_tx.as_slice(), tx)
@@ -97,7 +98,7 @@ impl Register {
 
     /// The place of the ACT with this tid, or the length of the list.
     pub(crate) fn place_of(&self, t: Tid) -> usize
-        ensures { IsPlaceOf t.0 result self.now }
+        ensures { IsPlaceOfAct t.0 result self.now }
     {
         place_in(self.tids.as_slice(), t.0)
     }
@@ -168,7 +169,7 @@ impl Register {
     /// The greatest number that one of the pairs brings to the ACT at this place.
     fn brought_by(&self, at: usize, pairs: &[Pair]) -> Bid
         requires { at < length self.now }
-        ensures { result.0 ≡ brought_by pairs.now (slice_index (tids_of self.now) at) (drop (at + 1) self.now) }
+        ensures { result.0 ≡ brought_by pairs.now (slice_index (act_tids self.now) at) (drop (at + 1) self.now) }
     {
         let mut most = Bid(0);
         for pair in pairs {
@@ -182,7 +183,7 @@ impl Register {
     /// The before number of ACT `t` where it stands behind this place in the list and is not doomed, or 0.
     fn number_of(&self, at: usize, t: Tid) -> Bid
         requires { at < length self.now }
-        ensures { result.0 ≡ number_of (act_of t.0 (drop (at + 1) self.now)) }
+        ensures { result.0 ≡ before_undoomed (act_of t.0 (drop (at + 1) self.now)) }
     {
         let tids = self.tids.as_slice();
         let next = at + 1;
@@ -254,7 +255,7 @@ fn grow(by_tx: &mut Vec<Option<u64>>, upto: usize) -> Result<(), Memory>
 /// ACT `t` is one of this transaction; the first stays.
 fn note(by_tx: &mut Vec<Option<u64>>, tx: TxNo, t: Tid)
     requires { tx.0 < length by_tx.old.items }
-    ensures { (n : ℕ) → slice_index_or by_tx.new.items n None ≡ first_of (slice_index_or by_tx.old.items n None) (tx.0 == n) t.0 }
+    ensures { (n : ℕ) → slice_index_or by_tx.new.items n None ≡ first_kept (slice_index_or by_tx.old.items n None) (tx.0 == n) t.0 }
 {
     let place = tx.0 as usize;
     if by_tx[place].is_none() {

@@ -15,7 +15,7 @@ abbrev pub is_before : Event → Event → Bool
 is_before e f = is_rank_below (rank e) (rank f)
 
 -- a list as contracts see it: its events, and for how many more there is room
-pub record Roomed : Type 0 where
+pub record RoomedList : Type 0 where
   pub events : List Event
   pub spare : ℕ
 

@@ -15,7 +15,7 @@ use Rattle.protocol.specs.Fixed.{Fixed}
 use Rattle.protocol.specs.Parts.{Machine}
 use Rattle.protocol.specs.Schedule.{IsEnabled}
 use Rattle.hand_offers.specs.Offers.{AreOffers}
-use Rattle.ready_list.specs.Order.{Roomed}
+use Rattle.ready_list.specs.Order.{RoomedList}
 use Rattle.protocol.specs.Runs.{EachAllowed, IsQuiet, IsRun, state_after, reached, opening}
 use Rattle.ready_renewal.specs.Covering.{Covers, CoversStill, HasNoFirst, IsFirst, IsFirstOf}
 use Rattle.ready_renewal.specs.Covering as hands
@@ -92,7 +92,7 @@ group_at core t h view (Ok pieces) l told = λ es at. told (state_at core es) (s
 -- ---- with all parts at hand all allowed events are offered
 
 enabled_in : {E : Type 0} (t : Tables) (h : Parts) → IsCore t h → ((es : List Event) → IsRun (fixed_of t) es → HasRun (fixed_of t) (reached (fixed_of t) es))
-    → (r : Result Roomed E) → IfOk r (λ l. AreOffers (fixed_of t) h l.events)
+    → (r : Result RoomedList E) → IfOk r (λ l. AreOffers (fixed_of t) h l.events)
     → IfOk r (λ l. (es : List Event) → IsAt (core_of t h) es → IsEnabled (fixed_of t) (state_at (core_of t h) es) l.events)
 enabled_in t h is lead (Err e) offers = tt
 enabled_in t h is lead (Ok l) offers = λ es at.
@@ -106,7 +106,7 @@ enabled_in t h is lead (Ok l) offers = λ es at.
     }
 
 pub enabled_at : {E : Type 0} (core : CoreState) (t : Tables) (h : Parts) → core_of t h ≡ core → IsCore t h → ((es : List Event) → IsRun (fixed_of t) es → HasRun (fixed_of t) (reached (fixed_of t) es))
-    → (r : Result Roomed E) → IfOk r (λ l. AreOffers (fixed_of t) h l.events)
+    → (r : Result RoomedList E) → IfOk r (λ l. AreOffers (fixed_of t) h l.events)
     → IfOk r (λ l. (es : List Event) → IsAt core es → IsEnabled (fixed_of core.tables) (state_at core es) l.events)
 enabled_at core t h view is lead r offers = subst (λ z. IfOk r (λ l. (es : List Event) → IsAt z es → IsEnabled (fixed_of z.tables) (state_at z es) l.events)) view (enabled_in t h is lead r offers)
 

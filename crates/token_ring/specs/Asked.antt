@@ -11,8 +11,8 @@ use Rattle.protocol.specs.Runs.{opening_ring}
 use Rattle.protocol.specs.OnRing.{Formed, submitted, planned, formed}
 
 -- the ring that a run begins with
-abbrev pub fresh : ℕ → ℕ → ℕ → ℕ → Ring
-fresh coordinators actors next_tid next_bid = record {
+abbrev pub fresh_ring : ℕ → ℕ → ℕ → ℕ → Ring
+fresh_ring coordinators actors next_tid next_bid = record {
   holder = 0;
   next_tx = 0;
   next_tid = next_tid;
@@ -24,7 +24,7 @@ fresh coordinators actors next_tid next_bid = record {
 }
 
 -- it is what the machine opens with
-pub fresh_is_opening : {C : Type 0} (w : Fixed C) → opening_ring w ≡ fresh w.text.coordinators (length w.text.opening.states) w.text.opening.next_tid w.text.opening.next_bid
+pub fresh_is_opening : {C : Type 0} (w : Fixed C) → opening_ring w ≡ fresh_ring w.text.coordinators (length w.text.opening.states) w.text.opening.next_tid w.text.opening.next_bid
 fresh_is_opening w = refl
 
 -- transaction n, of this kind, was submitted, whatever else the text says
@@ -48,9 +48,9 @@ abbrev pub IsFormed : Formed → Ring → Ring → Type 0
 IsFormed f old new = (w : Text) → f ≡ planned w old.next_bid old → new ≡ formed f w.batch old
 
 -- the first of some transactions
-abbrev pub first_of : List ℕ → Option TxNo
-first_of [] = None
-first_of (n ∷ ns) = Some (record { 0 = n })
+abbrev pub first_waiting : List ℕ → Option TxNo
+first_waiting [] = None
+first_waiting (n ∷ ns) = Some (record { 0 = n })
 
 -- it, with a tid
 abbrev pub first_with : ℕ → List ℕ → Option (Tid × TxNo)
@@ -58,5 +58,5 @@ first_with t [] = None
 first_with t (n ∷ ns) = Some (record { 0 = t }, record { 0 = n })
 
 -- the ACT that is admitted next, and the tid that it draws
-abbrev pub next_act : Ring → Option (Tid × TxNo)
-next_act r = first_with r.next_tid (queue r.acts r.holder)
+abbrev pub act_admitted_next : Ring → Option (Tid × TxNo)
+act_admitted_next r = first_with r.next_tid (queue r.acts r.holder)

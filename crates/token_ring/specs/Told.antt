@@ -16,8 +16,8 @@ leading a [] = 0
 leading a (b ∷ bs) = if nat_lt b a then suc (leading a bs) else 0
 
 -- of batch k, to an actor: its first PACT
-abbrev pub begun : ℕ → ℕ → List ℕ → ℕ → ℕ → SubBatch
-begun k epoch lasts a t = record { bid = k; actor = a; epoch = epoch; prev = slice_index_or lasts a 0; tids = t ∷ [] }
+abbrev pub first_sub : ℕ → ℕ → List ℕ → ℕ → ℕ → SubBatch
+first_sub k epoch lasts a t = record { bid = k; actor = a; epoch = epoch; prev = slice_index_or lasts a 0; tids = t ∷ [] }
 
 -- one more PACT; a PACT that names the actor twice is told once
 abbrev pub with_tid : ℕ → SubBatch → SubBatch
@@ -29,15 +29,15 @@ told_here t own [] = own ∷ []
 told_here t own (s ∷ ss) = if s.actor == own.actor then with_tid t s ∷ ss else own ∷ (s ∷ ss)
 
 -- PACT t is added to its actor's sub-batch, or its own is put at the actor's place
-abbrev pub told : ℕ → SubBatch → List SubBatch → List SubBatch
-told t own [] = own ∷ []
-told t own (s ∷ ss) = if nat_lt s.actor own.actor then s ∷ told t own ss else told_here t own (s ∷ ss)
+abbrev pub told_among : ℕ → SubBatch → List SubBatch → List SubBatch
+told_among t own [] = own ∷ []
+told_among t own (s ∷ ss) = if nat_lt s.actor own.actor then s ∷ told_among t own ss else told_here t own (s ∷ ss)
 
 -- to those of these actors that exist
 abbrev pub told_to : ℕ → ℕ → List ℕ → ℕ → List ℕ → List SubBatch → List SubBatch
 told_to k epoch lasts t [] subs = subs
 told_to k epoch lasts t (a ∷ actors) subs =
-    told_to k epoch lasts t actors (if nat_lt a (length lasts) then told t (begun k epoch lasts a t) subs else subs)
+    told_to k epoch lasts t actors (if nat_lt a (length lasts) then told_among t (first_sub k epoch lasts a t) subs else subs)
 
 -- of each of the PACTs
 abbrev pub told_all : ℕ → ℕ → List ℕ → List Tx → List Pact → List SubBatch → List SubBatch
@@ -46,6 +46,6 @@ told_all k epoch lasts txs (p ∷ pacts) subs =
     told_all k epoch lasts txs pacts (told_to k epoch lasts p.tid (declared (slice_index_or txs p.tx no_tx)) subs)
 
 -- the actors ascend, from this one on
-abbrev pub Ascend : ℕ → List SubBatch → Type 0
-Ascend low [] = ⊤
-Ascend low (s ∷ ss) = (low ≤ s.actor) × Ascend (s.actor + 1) ss
+abbrev pub ActorsAscend : ℕ → List SubBatch → Type 0
+ActorsAscend low [] = ⊤
+ActorsAscend low (s ∷ ss) = (low ≤ s.actor) × ActorsAscend (s.actor + 1) ss

@@ -5,7 +5,7 @@ ghost use Rattle.protocol.specs.Left.{busy_from, total};
 ghost use Rattle.protocol.specs.Words.{is_empty};
 ghost use Rattle.protocol.specs.OnRing.{numbered, joined_at};
 ghost use Rattle.machine_words.specs.Meant.{batch_pact};
-ghost use Rattle.token_ring.specs.Asked.{first_of};
+ghost use Rattle.token_ring.specs.Asked.{first_waiting};
 
 use snap_base::{Memory, Tid, TxNo};
 use std::alloc::Global;
@@ -53,7 +53,7 @@ impl Queue {
 
     /// The transaction that came first; `None` where none waits.
     pub fn first(&self) -> Option<TxNo>
-        ensures { result ≡ first_of self.now }
+        ensures { result ≡ first_waiting self.now }
     {
         match self.waiting.front() {
             None => None,

@@ -6,7 +6,7 @@ ghost use Rattle.protocol.specs.Words.{is_empty};
 ghost use Rattle.protocol.specs.Conditions.{queue, is_idle_at, is_idle};
 ghost use Rattle.protocol.specs.Left.{busy_from, total, way};
 ghost use Rattle.protocol.specs.OnRing.{passed, admitted, cut};
-ghost use Rattle.token_ring.specs.Asked.{fresh, next_act, MayPass, IsSubmitted, IsNextBatch, IsPlanned, IsFormed};
+ghost use Rattle.token_ring.specs.Asked.{fresh_ring, act_admitted_next, MayPass, IsSubmitted, IsNextBatch, IsPlanned, IsFormed};
 
 use crate::FormNo;
 use crate::lasts::{forget, mark};
@@ -69,7 +69,7 @@ impl Ring {
         next_bid: Bid,
     ) -> Result<Ring, Memory>
         requires { 1 ≤ coordinators }
-        ensures { IfOk result (λ r. r ≡ fresh coordinators actors next_tid.0 next_bid.0) }
+        ensures { IfOk result (λ r. r ≡ fresh_ring coordinators actors next_tid.0 next_bid.0) }
     {
         let lasts = vec![in alloc; 0; actors as usize]?;
         let pacts = empty_queues(alloc, coordinators)?;
@@ -261,7 +261,7 @@ impl Ring {
     /// The ACT that is admitted next, with the tid that it draws. `None` exactly where no ACT waits at
     /// the holder.
     pub fn next_act(&self) -> Option<(Tid, TxNo)>
-        ensures { result ≡ next_act self.now }
+        ensures { result ≡ act_admitted_next self.now }
     {
         match self.acts[self.holder as usize].first() {
             None => None,
@@ -273,7 +273,7 @@ impl Ring {
     /// where no ACT waits at the holder.
     pub fn admit(&mut self) -> Option<(Tid, TxNo)>
         requires { self.old.next_tid + 1 < 2 ^ 64 }
-        ensures value { result ≡ next_act self.old }
+        ensures value { result ≡ act_admitted_next self.old }
         ensures some { OnSome result (self.new ≡ admitted self.old) }
         ensures none { IfNone result (self.new ≡ self.old) }
     {

@@ -2,7 +2,7 @@
 ghost use Rattle.std.specs.Prelude.{◌≡◌, ◌+◌, ◌<◌, ◌≤◌, [], length, map, is_ok, slice_index_or, OnOk, IfOk};
 ghost use Rattle.protocol.specs.Fixed.{no_tx, declared};
 ghost use Rattle.machine_words.specs.Meant.{batch_pact, sub_batch, subs_actor, tid_number};
-ghost use Rattle.token_ring.specs.Told.{ends_with, leading, begun, with_tid, told, told_to, told_all, Ascend};
+ghost use Rattle.token_ring.specs.Told.{ends_with, leading, first_sub, with_tid, told_among, told_to, told_all, ActorsAscend};
 
 use snap_base::{ActorId, Bid, Memory, Sequence, SubBatch, Tid, Tx, TxNo};
 use std::alloc::Global;
@@ -41,9 +41,9 @@ fn tell_pact(
     pact: &(Tid, TxNo),
     txs: &[Tx],
 ) -> Result<(), Memory>
-    requires { Ascend 0 (map sub_batch subs.old.items) }
+    requires { ActorsAscend 0 (map sub_batch subs.old.items) }
     ensures told { OnOk result (map sub_batch subs.new.items ≡ told_to heading.now.bid.0 heading.now.epoch heading.now.lasts.now pact.now.0.0 (declared (slice_index_or txs.now pact.now.1.0 no_tx)) (map sub_batch subs.old.items)) }
-    ensures ascend { OnOk result (Ascend 0 (map sub_batch subs.new.items)) }
+    ensures ascend { OnOk result (ActorsAscend 0 (map sub_batch subs.new.items)) }
 {
     match txs.get(pact.1.0 as usize) {
         None => Ok(()),
@@ -59,9 +59,9 @@ fn tell_uses(
     tid: Tid,
     uses: &[(ActorId, u8)],
 ) -> Result<(), Memory>
-    requires { Ascend 0 (map sub_batch subs.old.items) }
+    requires { ActorsAscend 0 (map sub_batch subs.old.items) }
     ensures told { OnOk result (map sub_batch subs.new.items ≡ told_to heading.now.bid.0 heading.now.epoch heading.now.lasts.now tid.0 (map (λ u. u.0.0) uses.now) (map sub_batch subs.old.items)) }
-    ensures ascend { OnOk result (Ascend 0 (map sub_batch subs.new.items)) }
+    ensures ascend { OnOk result (ActorsAscend 0 (map sub_batch subs.new.items)) }
 {
     for used in uses {
         let actor = used.0;
@@ -81,9 +81,9 @@ fn tell(
     tid: Tid,
 ) -> Result<(), Memory>
     requires exists { actor.0 < length heading.now.lasts.now }
-    requires ascend { Ascend 0 (map sub_batch subs.old.items) }
-    ensures told { OnOk result (map sub_batch subs.new.items ≡ told tid.0 (begun heading.now.bid.0 heading.now.epoch heading.now.lasts.now actor.0 tid.0) (map sub_batch subs.old.items)) }
-    ensures ascend { OnOk result (Ascend 0 (map sub_batch subs.new.items)) }
+    requires ascend { ActorsAscend 0 (map sub_batch subs.old.items) }
+    ensures told { OnOk result (map sub_batch subs.new.items ≡ told_among tid.0 (first_sub heading.now.bid.0 heading.now.epoch heading.now.lasts.now actor.0 tid.0) (map sub_batch subs.old.items)) }
+    ensures ascend { OnOk result (ActorsAscend 0 (map sub_batch subs.new.items)) }
 {
     let at = place_of(subs.as_slice(), actor);
     if at < subs.len() && subs[at].actor == actor {
@@ -97,7 +97,7 @@ fn tell(
 
 /// How many of the sub-batches are for actors below this one.
 fn place_of(subs: &[SubBatch], actor: ActorId) -> usize
-    requires { Ascend 0 (map sub_batch subs.now) }
+    requires { ActorsAscend 0 (map sub_batch subs.now) }
     ensures leading { result ≡ leading actor.0 (map subs_actor subs.now) }
     ensures bound { result ≤ length subs.now }
 {
@@ -107,7 +107,7 @@ fn place_of(subs: &[SubBatch], actor: ActorId) -> usize
 /// The sub-batch of an actor with its first PACT.
 fn begin(alloc: Global, heading: &Heading, actor: ActorId, tid: Tid) -> Result<SubBatch, Memory>
     requires { actor.0 < length heading.now.lasts.now }
-    ensures { IfOk result (λ s. sub_batch s ≡ begun heading.now.bid.0 heading.now.epoch heading.now.lasts.now actor.0 tid.0) }
+    ensures { IfOk result (λ s. sub_batch s ≡ first_sub heading.now.bid.0 heading.now.epoch heading.now.lasts.now actor.0 tid.0) }
 {
     let mut tids = Sequence::new(alloc);
     tids.push(tid)?;

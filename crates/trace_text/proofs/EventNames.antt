@@ -5,7 +5,7 @@ use Rattle.std.specs.Str.{bytes_eq}
 use Rattle.trace_text.specs.declared.names.Name.{Name}
 use Rattle.trace_text.specs.declared.names.Name.TheVariants as name
 use Rattle.trace_text.specs.Lines.{name_text, first_limit}
-use Rattle.trace_text.specs.Reads.{IsFree}
+use Rattle.trace_text.specs.Reads.{LacksByte}
 use Rattle.trace_text.proofs.Cuts.{free_test}
 
 abbrev name_read : List ℕ → Option Name
@@ -73,7 +73,7 @@ name_one k l e =
     let same : Some k ≡ Some l = sym (read_text k) ∙ ap name_read e ∙ read_text l in
     cc
 
-pub name_free : (k : Name) → IsFree 32 (name_text k)
+pub name_free : (k : Name) → LacksByte 32 (name_text k)
 name_free name.Submit = free_test 32 (codes "submit") refl
 name_free name.Pass = free_test 32 (codes "pass") refl
 name_free name.Form = free_test 32 (codes "form") refl
@@ -102,7 +102,7 @@ name_free name.Finish = free_test 32 (codes "finish") refl
 name_free name.Reply = free_test 32 (codes "reply") refl
 name_free name.Trim = free_test 32 (codes "trim") refl
 
-pub name_in_line : (k : Name) → IsFree 10 (name_text k)
+pub name_in_line : (k : Name) → LacksByte 10 (name_text k)
 name_in_line name.Submit = free_test 10 (codes "submit") refl
 name_in_line name.Pass = free_test 10 (codes "pass") refl
 name_in_line name.Form = free_test 10 (codes "form") refl

@@ -7,7 +7,7 @@ use Rattle.core_events.specs.declared.events.Event.{Event}
 use Rattle.core_events.specs.declared.events.Event.TheVariants as event
 use Rattle.trace_text.specs.declared.names.Name.{Name}
 use Rattle.trace_text.specs.Lines.{name_text, event_parts, numbers_text, event_line, AreNumbersOf, IsEvent}
-use Rattle.trace_text.specs.Reads.{IsFree, with_numbers}
+use Rattle.trace_text.specs.Reads.{LacksByte, with_numbers}
 use Rattle.trace_text.proofs.Cuts.{cut_one, no_cut_of, decimal_free, free_append}
 use Rattle.trace_text.proofs.EventNames.{name_one, name_free, name_in_line, first_small}
 
@@ -55,7 +55,7 @@ numbers_one m n (Some a) (Some b) f g h k e =
 
 -- ---- a line is of one event
 
-pub line_cut : (line a b : List ℕ) (e : Event) → line ≡ a ++ 32 ∷ b → IsFree 32 a → line ≡ event_line e → (a ≡ name_text (event_parts e).0) × (b ≡ numbers_text (event_parts e).1 (event_parts e).2)
+pub line_cut : (line a b : List ℕ) (e : Event) → line ≡ a ++ 32 ∷ b → LacksByte 32 a → line ≡ event_line e → (a ≡ name_text (event_parts e).0) × (b ≡ numbers_text (event_parts e).1 (event_parts e).2)
 line_cut line a b e cut free is = cut_one 32 a b (name_text (event_parts e).0) (numbers_text (event_parts e).1 (event_parts e).2) free (name_free (event_parts e).0) (sym cut ∙ is)
 
 parts_one : (k l : Name) (x y : ℕ × Option ℕ) → k ≡ l → x ≡ y → with_numbers k x.0 x.1 ≡ with_numbers l y.0 y.1
@@ -70,23 +70,23 @@ event_one e f he hf is =
 
 -- ---- no line feed is in the line of an event
 
-numbers_in_line : (n : ℕ) (s : Option ℕ) → n < 2 ^ 64 → IfSome s (λ a. a < 2 ^ 16) → IsFree 10 (numbers_text n s)
+numbers_in_line : (n : ℕ) (s : Option ℕ) → n < 2 ^ 64 → IfSome s (λ a. a < 2 ^ 16) → LacksByte 10 (numbers_text n s)
 numbers_in_line n None f h = decimal_free 10 n (omega arith) f
 numbers_in_line n (Some a) f h = free_append 10 (decimal n) (32 ∷ decimal a) (decimal_free 10 n (omega arith) f) (refl, decimal_free 10 a (omega arith) (omega (arith, h)))
 
-pub event_in_line : (e : Event) → IsEvent e → IsFree 10 (event_line e)
+pub event_in_line : (e : Event) → IsEvent e → LacksByte 10 (event_line e)
 event_in_line e h = free_append 10 (name_text (event_parts e).0) (32 ∷ numbers_text (event_parts e).1 (event_parts e).2) (name_in_line (event_parts e).0) (refl, numbers_in_line _ _ (first_small _ _ h.first) h.second)
 
 -- ---- a line's numbers, by its cut
 
-pub numbers_cut : (text a b : List ℕ) (n : ℕ) (s : Option ℕ) → text ≡ a ++ 32 ∷ b → IsFree 32 a → n < 2 ^ 64 → IfSome s (λ a. a < 2 ^ 16) → text ≡ numbers_text n s
+pub numbers_cut : (text a b : List ℕ) (n : ℕ) (s : Option ℕ) → text ≡ a ++ 32 ∷ b → LacksByte 32 a → n < 2 ^ 64 → IfSome s (λ a. a < 2 ^ 16) → text ≡ numbers_text n s
     → (m : ℕ) × (s ≡ Some m) × (m < 2 ^ 16) × (a ≡ decimal n) × (b ≡ decimal m)
 numbers_cut text a b n None cut free small fits is = absurd (no_cut_of 32 (decimal n) a b (decimal_free 32 n (omega arith) small) (sym is ∙ cut))
 numbers_cut text a b n (Some m) cut free small fits is =
     let both = cut_one 32 a b (decimal n) (decimal m) free (decimal_free 32 n (omega arith) small) (sym cut ∙ is) in
     (m, refl, fits, both.0, both.1)
 
-pub numbers_whole : (text : List ℕ) (n : ℕ) (s : Option ℕ) → IsFree 32 text → text ≡ numbers_text n s → (s ≡ None) × (text ≡ decimal n)
+pub numbers_whole : (text : List ℕ) (n : ℕ) (s : Option ℕ) → LacksByte 32 text → text ≡ numbers_text n s → (s ≡ None) × (text ≡ decimal n)
 numbers_whole text n None free is = (refl, is)
 numbers_whole text n (Some m) free is = absurd (no_cut_of 32 text (decimal n) (decimal m) free is)
 

@@ -7,21 +7,21 @@ use Rattle.std.proofs.lemmas.Bool.{eqb-true}
 use Rattle.core_events.specs.declared.events.Event.{Event}
 use Rattle.trace_text.specs.Lines.{event_line, IsEvent}
 use Rattle.trace_text.specs.Traces.{lines, onto_line, trace_of, IsTrace, IsFirstNoEvent}
-use Rattle.trace_text.specs.Reads.{IsFree}
+use Rattle.trace_text.specs.Reads.{LacksByte}
 use Rattle.trace_text.proofs.Events.{event_one, event_in_line}
 
 lines_step : (t : Bool) (b : ℕ) (bs : List ℕ) → eqb b 10 ≡ t → lines (b ∷ bs) ≡ (if t then [] ∷ lines bs else onto_line b (lines bs))
 lines_step t b bs e = ap (λ (t : Bool). if t then [] ∷ lines bs else onto_line b (lines bs)) e
 
-pub lines_front : (front rest : List ℕ) → IsFree 10 front → lines (front ++ 10 ∷ rest) ≡ front ∷ lines rest
+pub lines_front : (front rest : List ℕ) → LacksByte 10 front → lines (front ++ 10 ∷ rest) ≡ front ∷ lines rest
 lines_front [] rest free = refl
 lines_front (b ∷ front) rest free = lines_step false b (front ++ 10 ∷ rest) free.0 ∙ ap (onto_line b) (lines_front front rest free.1)
 
-lines_last : (b : ℕ) (front : List ℕ) → IsFree 10 (b ∷ front) → lines (b ∷ front) ≡ (b ∷ front) ∷ []
+lines_last : (b : ℕ) (front : List ℕ) → LacksByte 10 (b ∷ front) → lines (b ∷ front) ≡ (b ∷ front) ∷ []
 lines_last b [] free = lines_step false b [] free.0
 lines_last b (d ∷ front) free = lines_step false b (d ∷ front) free.0 ∙ ap (onto_line b) (lines_last d front free.1)
 
-pub lines_whole : (rest : List ℕ) → IsFree 10 rest → rest ≢ [] → lines rest ≡ rest ∷ []
+pub lines_whole : (rest : List ℕ) → LacksByte 10 rest → rest ≢ [] → lines rest ≡ rest ∷ []
 lines_whole [] free some = absurd (some refl)
 lines_whole (b ∷ bs) free some = lines_last b bs free
 
@@ -30,7 +30,7 @@ take_none zero = refl
 take_none (suc n) = refl
 
 -- nothing lies behind a line that ends with the text
-pub last_line : (rest : List ℕ) → 0 < length rest → IsFree 10 rest → lines rest ≡ rest ∷ lines (take (length rest - length rest) (drop (length rest) rest))
+pub last_line : (rest : List ℕ) → 0 < length rest → LacksByte 10 rest → lines rest ≡ rest ∷ lines (take (length rest - length rest) (drop (length rest) rest))
 last_line rest some free =
     let none : drop (length rest) rest ≡ [] = drop_all (length rest) rest (omega arith) in
     lines_whole rest free (λ e. omega (arith, some, ap length e)) ∙ ap (λ bs. rest ∷ lines bs) (sym (ap (take (length rest - length rest)) none ∙ take_none (length rest - length rest)))

@@ -69,11 +69,11 @@ abbrev pub numbers_text : ℕ → Option ℕ → List ℕ
 numbers_text n None = decimal n
 numbers_text n (Some a) = decimal n ++ 32 ∷ decimal a
 
-abbrev pub line_of : Name × ℕ × Option ℕ → List ℕ
-line_of p = name_text p.0 ++ 32 ∷ numbers_text p.1 p.2
+abbrev pub line_of_parts : Name × ℕ × Option ℕ → List ℕ
+line_of_parts p = name_text p.0 ++ 32 ∷ numbers_text p.1 p.2
 
 abbrev pub event_line : Event → List ℕ
-event_line e = line_of (event_parts e)
+event_line e = line_of_parts (event_parts e)
 
 -- the first number is below this, by the type of the event
 abbrev pub first_limit : Name → ℕ

@@ -8,8 +8,8 @@ use Rattle.trace_text.specs.declared.names.Name.{Name}
 use Rattle.trace_text.specs.declared.names.Name.TheVariants as name
 
 -- no such byte is in a text
-abbrev pub IsFree : ℕ → List ℕ → Type 0
-IsFree byte text = AllByRecursion (λ b. (b == byte) ≡ false) text
+abbrev pub LacksByte : ℕ → List ℕ → Type 0
+LacksByte byte text = AllByRecursion (λ b. (b == byte) ≡ false) text
 
 -- the events that have one number
 abbrev pub with_one : Name → ℕ → Option Event

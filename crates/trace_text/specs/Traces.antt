@@ -35,6 +35,6 @@ pub record IsFirstNoEvent (text : List ℕ) (line : ℕ) : Type 0 where
   pub events : AllByRecursion IsEvent before
   pub no_event : (e : Event) → IsEvent e → none ≢ event_line e
 
-abbrev pub IsNo : List ℕ → TraceNo → Type 0
-IsNo text (no.Line line) = IsFirstNoEvent text line
-IsNo text no.Memory = ⊤
+abbrev pub IsTraceNo : List ℕ → TraceNo → Type 0
+IsTraceNo text (no.Line line) = IsFirstNoEvent text line
+IsTraceNo text no.Memory = ⊤

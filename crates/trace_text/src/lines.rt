@@ -5,7 +5,7 @@ ghost use Rattle.std.specs.Fmt.{decimal};
 ghost use Rattle.core_events.specs.declared.events.Event as event;
 ghost use Rattle.trace_text.specs.Lines.{event_line, numbers_text, IsEvent};
 ghost use Rattle.trace_text.specs.Traces.{lines};
-ghost use Rattle.trace_text.specs.Reads.{IsFree};
+ghost use Rattle.trace_text.specs.Reads.{LacksByte};
 
 use crate::names::name_of;
 use crate::parts::event_with;
@@ -14,7 +14,7 @@ use decimal_words::natural;
 
 // What stands before the first such byte, and what stands behind it.
 fn cut<'a>(text: &'a [u8], byte: u8) -> Option<(&'a [u8], &'a [u8])>
-    ensures { MatchOption result (IsFree byte text.now) (λ x. (text.now ≡ x.0.now ++ byte ∷ x.1.now) × IsFree byte x.0.now) }
+    ensures { MatchOption result (LacksByte byte text.now) (λ x. (text.now ≡ x.0.now ++ byte ∷ x.1.now) × LacksByte byte x.0.now) }
 {
     for at in 0..text.len() {
         if text[at] == byte {

@@ -1,6 +1,6 @@
 //! The events of a trace.
 ghost use Rattle.std.specs.Prelude.{◌<◌, ◌^◌, length, MatchResult};
-ghost use Rattle.trace_text.specs.Traces.{IsTrace, IsNo};
+ghost use Rattle.trace_text.specs.Traces.{IsTrace, IsTraceNo};
 
 use crate::TraceNo;
 use crate::lines::{event_of, next_line};
@@ -12,7 +12,7 @@ use std::alloc::Global;
 /// is beyond its type.
 pub fn parse_trace(alloc: Global, text: &str) -> Result<Vec<Event>, TraceNo>
     requires { length text.now < 2 ^ 32 }
-    ensures { MatchResult result (λ v. IsTrace text.now v.items) (λ why. IsNo text.now why) }
+    ensures { MatchResult result (λ v. IsTrace text.now v.items) (λ why. IsTraceNo text.now why) }
 {
     let mut events = Vec::new(alloc);
     let mut rest = text.as_bytes();

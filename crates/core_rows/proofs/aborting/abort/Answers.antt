@@ -6,7 +6,7 @@ use Rattle.protocol.specs.Effects.{after}
 use Rattle.protocol.specs.OnRing.{cut}
 use Rattle.protocol.specs.OnDesk.{batches_aborted}
 use Rattle.protocol.specs.Words.{batch_of}
-use Rattle.batch_table.specs.Askings.{is_next, has_failed, failed_in}
+use Rattle.batch_table.specs.Askings.{is_next, has_failed_pact, failed_in}
 use Rattle.book_part.specs.Halves.{Shows}
 use Rattle.core_rows.proofs.Rules.{allowed_where}
 use Rattle.core_rows.proofs.Failing.{failed_is, cascaded_halves}
@@ -16,7 +16,7 @@ pub unwrap-code-requires : goal.unwrap-code-requires
 unfolding conditions
 unwrap-code-requires g c =
     let ok = allowed_where c.requires.text (Abort c.args.k.0) c.requires.state (c.abort_refusal-rule.ensures c.requires.text c.requires.state c.requires.run c.requires.shows.3 ∙ c.if-rule-ne0.false) in
-    c.first_failed.ensures.some ∙ (ap (λ d. has_failed c.args.k.0 d.batches) (sym c.requires.shows.3) ∙ ok.1.0)
+    c.first_failed.ensures.some ∙ (ap (λ d. has_failed_pact c.args.k.0 d.batches) (sym c.requires.shows.3) ∙ ok.1.0)
 
 pub cut-requires : goal.cut-requires
 cut-requires g c =

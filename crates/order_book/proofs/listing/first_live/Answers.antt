@@ -1,6 +1,6 @@
 use Rattle.std.proofs.Common.{◌≤◌, ap, arith}
 use Rattle.order_book.specs.Kept.{is_live_kept}
-use Rattle.order_book.specs.Registered.{one_if}
+use Rattle.protocol.specs.Numbers.{one_if}
 use Rattle.order_book.proofs.Living.{none_before, some_left, counted_before}
 use Rattle.order_book.proofs.listing.first_live.Goals as goal
 

@@ -5,7 +5,7 @@ use Rattle.snap_base.specs.declared.transactions.State.{State}
 use Rattle.machine_words.specs.Meant.{who_meant}
 use Rattle.protocol.specs.Parts.{Image}
 use Rattle.actor_cell.specs.declared.images.Held.{Held}
-use Rattle.actor_cell.specs.Keeping.{image_in, state_in, IsFree}
+use Rattle.actor_cell.specs.Keeping.{image_in, state_or_none, IsSlotFree}
 use Rattle.actor_cell.proofs.Slots.{slot_is_free, AreApart-frame, AreApart-push, images_of-frame}
 use Rattle.actor_cell.proofs.images.Images.keep.Goals as goal
 
@@ -15,7 +15,7 @@ invariant_of-self c =
     let pool = c.self.inside.pool in
     let taken = c.take-image.ensures in
     let h : Held = record { who = c.args.who; image = c.take-image.result } in
-    let free : IsFree c.take-image.result held = slot_is_free pool c.take-image.result held taken.was_spare c.self.invariant.apart in
+    let free : IsSlotFree c.take-image.result held = slot_is_free pool c.take-image.result held taken.was_spare c.self.invariant.apart in
     let apart = AreApart-frame pool c.take-image.new.self c.take-image.result _ held taken.states free c.self.invariant.apart in
     record {
       apart = rw c.push_reserved.ensures.items (AreApart-push c.take-image.new.self h held apart free (ap is_some taken.states.changed));
@@ -29,9 +29,9 @@ returns c =
     let pool = c.self.inside.pool in
     let taken = c.take-image.ensures in
     let h : Held = record { who = c.args.who; image = c.take-image.result } in
-    let free : IsFree c.take-image.result held = slot_is_free pool c.take-image.result held taken.was_spare c.self.invariant.apart in
+    let free : IsSlotFree c.take-image.result held = slot_is_free pool c.take-image.result held taken.was_spare c.self.invariant.apart in
     let image_with : State → Image = λ s. record { who = who_meant c.args.who; state = s } in
     let put : List Image → Image → List Image = λ front last. front ++ last ∷ [] in
     rw (c.push_reserved.ensures.items, ← c.self.view_is)
     (map-append (image_in c.take-image.new.self) held (h ∷ [])
-    ∙ ap₂ put (images_of-frame pool c.take-image.new.self c.take-image.result _ held taken.states free) (ap image_with (ap state_in taken.states.changed)))
+    ∙ ap₂ put (images_of-frame pool c.take-image.new.self c.take-image.result _ held taken.states free) (ap image_with (ap state_or_none taken.states.changed)))

@@ -6,7 +6,7 @@ use Rattle.protocol.specs.OnCell.{state_from}
 use Rattle.protocol.specs.Parts.{Image}
 use Rattle.protocol.specs.Words.{is_who}
 use Rattle.actor_cell.specs.declared.images.Held.{Held}
-use Rattle.actor_cell.specs.Keeping.{image_in, state_in}
+use Rattle.actor_cell.specs.Keeping.{image_in, state_or_none}
 use Rattle.actor_cell.proofs.Slots.{found_is_live, image_of-found}
 use Rattle.actor_cell.proofs.images.Images.state_of.Goals as goal
 
@@ -24,7 +24,7 @@ returns-in-Some c =
     let told : Option (Bor Held) → Option Image = λ o. option_map (image_in pool) (option_copied o) in
     let found = c.first_meant.ensures ∙ ap (find meant) c.deref.ensures.value in
     let image = image_of-found who pool _ _ c.first_meant.result found c.self.view_is ∙ ap told c.in-Some.is in
-    sym (ap (state_from c.args.state) image ∙ ap state_in c.state.ensures)
+    sym (ap (state_from c.args.state) image ∙ ap state_or_none c.state.ensures)
 
 pub returns-in-None : goal.returns-in-None
 returns-in-None c =

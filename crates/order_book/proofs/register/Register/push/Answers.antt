@@ -2,7 +2,7 @@ use Rattle.std.proofs.Common.{◌≡◌, ◌<◌, ◌+◌, ◌^◌, ◌++◌, �
 use Rattle.std.specs.Prelude.{◌==◌, true, is_ok, Option}
 use Rattle.std.specs.List.{All}
 use Rattle.std.proofs.lemmas.Bool.{cond-true}
-use Rattle.order_book.specs.Registered.{first_of}
+use Rattle.order_book.specs.Registered.{first_kept}
 use Rattle.order_book.proofs.Registering.{registered_pushed, count_fits}
 use Rattle.order_book.proofs.register.Register.push.Goals as goal
 
@@ -20,4 +20,4 @@ invariant_of-self-2 c =
     rw listed
     (registered_pushed c.args.t.0 c.args.tx.0 c.args.reader c.args.base.0 c.self.inside.acts c.push.new.self c.self.inside.tids.items c.self.inside.by_tx.items c.note.new.by_tx.items c.self.inside.live
     c.self.invariant (subst (All (λ x. x.tid < c.args.t.0)) (sym c.self.view_is) c.requires) c.in_ok-push.ensures.ok
-    (λ k. c.note.ensures k ∙ ap (λ (o : Option ℕ). first_of o (c.args.tx.0 == k) c.args.t.0) (c.in_ok-make_room.ensures.same k)))
+    (λ k. c.note.ensures k ∙ ap (λ (o : Option ℕ). first_kept o (c.args.tx.0 == k) c.args.t.0) (c.in_ok-make_room.ensures.same k)))
