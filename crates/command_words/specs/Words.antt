@@ -1,8 +1,7 @@
 -- The words of the command line: which lists of them are a form, and which word is the first wrong one.
 use Rattle.std.specs.Prelude.{◌≡◌, ℕ, ◌+◌, ◌<◌, ◌≤◌, ◌^◌, ◌⊎◌, List, [], ◌∷◌, ◌++◌, length, take, codes}
 use Rattle.std.specs.Fmt.{decimal}
-use Rattle.command_words.specs.declared.limits.TheConstants.{MOST_WORKERS}
-use Rattle.snap_work.specs.declared.limits.TheConstants.{MOST_TRANSACTIONS}
+use Rattle.snap_work.specs.declared.limits.TheConstants.{MOST_TRANSACTIONS, MOST_WORKERS}
 
 -- ---- options
 

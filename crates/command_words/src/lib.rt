@@ -4,7 +4,6 @@
 
 mod commands;
 mod laws;
-mod limits;
 mod numbers;
 mod runs;
 mod words;
@@ -12,6 +11,6 @@ mod workers;
 
 pub use commands::Command;
 pub use laws::one_command;
-pub use limits::MOST_WORKERS;
+pub use snap_work::MOST_WORKERS;
 pub use words::read_words;
 pub use workers::workers_of;

@@ -1,12 +1,10 @@
 //! The numbers that words spell.
 ghost use Rattle.std.specs.Prelude.{◌≡◌, ℕ, ◌≤◌, Some, IfSome};
 ghost use Rattle.std.specs.Fmt.{decimal};
-ghost use Rattle.command_words.specs.declared.limits.TheConstants.{MOST_WORKERS};
-ghost use Rattle.snap_work.specs.declared.limits.TheConstants.{MOST_TRANSACTIONS};
+ghost use Rattle.snap_work.specs.declared.limits.TheConstants.{MOST_TRANSACTIONS, MOST_WORKERS};
 
-use crate::limits::MOST_WORKERS;
 use decimal_words::natural;
-use snap_work::MOST_TRANSACTIONS;
+use snap_work::{MOST_TRANSACTIONS, MOST_WORKERS};
 
 /// The number of transactions that a word spells, where a text may have so many.
 pub(crate) fn count_of(word: &[u8]) -> Option<u32>

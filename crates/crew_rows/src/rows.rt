@@ -4,7 +4,7 @@ ghost use Rattle.std.specs.Prelude.{◌≡◌, ◌+◌, ◌≤◌, ◌^◌, fals
 ghost use Rattle.std.specs.List.{AllByRecursion};
 ghost use Rattle.gate_log.specs.declared.limits.TheConstants.{FARTHEST_END};
 ghost use Rattle.snap_hand.specs.Tables.{AreTables};
-ghost use Rattle.crew_workers.specs.declared.crews.TheConstants.{MOST_WORKERS};
+ghost use Rattle.snap_work.specs.declared.limits.TheConstants.{MOST_WORKERS};
 
 use crate::texts::{BY_HAND, TOTAL, drawn, tables_of, text_of};
 use aml_serial::run_alone;

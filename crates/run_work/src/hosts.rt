@@ -1,7 +1,7 @@
 //! The hosts on the logs of a work: one thread, or several workers.
 ghost use Rattle.std.specs.Prelude.{◌≡◌, ◌≢◌, ◌+◌, ◌≤◌, ◌^◌, length, vec_len, true, false};
 ghost use Rattle.std.specs.List.{AllByRecursion};
-ghost use Rattle.crew_workers.specs.declared.crews.TheConstants.{MOST_WORKERS};
+ghost use Rattle.snap_work.specs.declared.limits.TheConstants.{MOST_WORKERS};
 ghost use Rattle.gate_log.specs.declared.limits.TheConstants.{FARTHEST_END};
 ghost use Rattle.log_opening.specs.Devices.{devices_of};
 ghost use Rattle.machine_text.specs.Texts.{MayBegin};

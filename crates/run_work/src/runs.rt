@@ -1,6 +1,6 @@
 //! A run of a work by a host, one thread or several workers: it prints its report, or its summary alone.
 ghost use Rattle.std.specs.Prelude.{◌≡◌, ◌≤◌, List, [], vec_len};
-ghost use Rattle.crew_workers.specs.declared.crews.TheConstants.{MOST_WORKERS};
+ghost use Rattle.snap_work.specs.declared.limits.TheConstants.{MOST_WORKERS};
 ghost use Rattle.run_opening.specs.Opens.{MayOpen};
 ghost use Rattle.run_recovery.specs.Schedules.{seeded, free};
 ghost use Rattle.run_work.specs.Calls.{ran_by};

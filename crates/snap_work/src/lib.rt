@@ -11,6 +11,6 @@ mod works;
 pub use faults::{Limit, ProgramCause, WorkCause, WorkFault, WorkNo};
 pub use limits::{
     LONGEST_WORK, MOST_ACTORS, MOST_ACTS, MOST_BATCHES, MOST_COORDINATORS, MOST_IN_A_BATCH,
-    MOST_LOGS, MOST_TRANSACTIONS,
+    MOST_LOGS, MOST_TRANSACTIONS, MOST_WORKERS,
 };
 pub use works::Work;

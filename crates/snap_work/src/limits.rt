@@ -21,5 +21,8 @@ pub const MOST_ACTS: u64 = 32;
 /// The most actors.
 pub const MOST_ACTORS: u64 = 256;
 
+/// The most workers that a run may have.
+pub const MOST_WORKERS: usize = 8;
+
 /// The most transactions.
 pub const MOST_TRANSACTIONS: usize = 20_000;
