@@ -255,8 +255,7 @@ fn take_on<G: Gate>(
 
 /// A Run passes the gate.
 fn pass_gate<G: Gate>(gate: &G, e: Event) {
-    match e {
-        Event::Run(_, actor) => gate.enter(actor),
-        _ => {}
+    if let Event::Run(_, actor) = e {
+        gate.enter(actor);
     }
 }

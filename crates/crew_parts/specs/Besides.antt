@@ -1,5 +1,5 @@
 -- What stands beside a part: when it can go on, and what an append and a line make of it.
-use Rattle.std.specs.Prelude.{◌≡◌, ℕ, ◌<◌, ◌≤◌, Bool, true, false, not, Option, None, Some, Result, Ok, Err, List, ◌++◌}
+use Rattle.std.specs.Prelude.{◌≡◌, ℕ, ◌<◌, ◌≤◌, Bool, true, false, not, Option, None, Some, Result, Ok, Err, List, ◌++◌, ⊤}
 use Rattle.std.specs.Io.KnownBytes.{Appends}
 use Rattle.crew_parts.specs.Acts.{HasPrinted}
 use Rattle.crew_parts.specs.Shares.{BesideState, OutputState, GetsNoMore}
@@ -38,7 +38,7 @@ is_shut_there (Some j) = j.shut
 
 -- a journal that is there is of format 2, so it may be appended to
 abbrev pub IsOfFormat2 : Option LogState → Type 0
-IsOfFormat2 None = Unit {0}
+IsOfFormat2 None = ⊤
 IsOfFormat2 (Some j) = j.format ≡ 2
 
 -- an output that is there has failed

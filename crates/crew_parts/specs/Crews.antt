@@ -1,6 +1,6 @@
 -- Where a crew begins and what it comes to: a run of the machine, the groups of its Syncs on the logs' devices, and the lines of
 -- its replies in the output.
-use Rattle.std.specs.Prelude.{◌≡◌, ℕ, ◌+◌, ◌<◌, ◌≤◌, if◌then◌else◌, Bool, true, false, Option, None, Some, List, [], ◌∷◌, ◌++◌, length, slice_get}
+use Rattle.std.specs.Prelude.{◌≡◌, ℕ, ◌+◌, ◌<◌, ◌≤◌, if◌then◌else◌, Bool, true, false, Option, None, Some, List, [], ◌∷◌, ◌++◌, length, slice_get, ⊤}
 use Rattle.std.specs.Io.KnownBytes.{Appends}
 use Rattle.aml_slice.specs.Controls.{Rest}
 use Rattle.core_rows.specs.OnRuns.{HasRun}
@@ -64,7 +64,7 @@ JournalIs w es l (Some old) (Some new) = IsDriven old new (groups_of w l es) (if
 
 -- Where its journal is shut, the next Sync of the log is still to come.
 abbrev pub IsStillDue : Fixed Rest → Machine Rest → ℕ → Option LogState → Type 0
-IsStillDue w s l None = Unit {0}
+IsStillDue w s l None = ⊤
 IsStillDue w s l (Some j) = j.shut ≡ true → IsAllowed w (Sync l) s
 
 -- It took the replies, and a front of the line of one that is still to come, where it failed.

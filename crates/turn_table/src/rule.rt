@@ -1,5 +1,5 @@
 //! The rule of the table, and what its steps tell.
-ghost use Rattle.std.specs.Prelude.{ℕ};
+ghost use Rattle.std.specs.Prelude.{ℕ, ⊤};
 
 use crate::pieces::Piece;
 use crate::views::View;
@@ -40,7 +40,7 @@ pub trait Told<P, E> {
 }
 
 impl<P, E> Told<P, E> for Brand {
-    ghost facts = { λ v. Unit {0} };
+    ghost facts = { λ v. ⊤ };
 
     ghost after = { λ v n. v };
 }
