@@ -1,12 +1,11 @@
 -- What a crash leaves of each log while a run begins.
-use Rattle.std.specs.Prelude.{◌≡◌, refl, ℕ, zero, suc, ◌<◌, ◌≤◌, ◌⊎◌, Bool, Option, Some, None, List, [], ◌∷◌, ◌++◌, length, IfSome}
+use Rattle.std.specs.Prelude.{◌≡◌, refl, ℕ, zero, suc, ◌<◌, ◌≤◌, ◌⊎◌, Option, Some, None, List, [], ◌∷◌, ◌++◌, length, IfSome}
 use Rattle.std.proofs.Common.{inl, inr, arith, sym, ap, subst, ◌∙◌}
 use Rattle.std.proofs.lemmas.List.{append-nil}
 use Rattle.std.proofs.lemmas.List.Concat.{flat_map-cons}
 use Rattle.snap_base.specs.declared.transactions.State.{State}
 use Rattle.gate_log.specs.Opened.{Opened, beginning_ops}
-use Rattle.log_opening.specs.Devices.{Device, device_at}
-use Rattle.protocol.specs.Events as machine
+use Rattle.log_opening.specs.Devices.{device_at}
 use Rattle.record_log.specs.Growth.{GrewBy, HoldsWhole, IsGrowth, Leaves, LeavesGroups, MayAppendGroups, all_records, groups_ops}
 use Rattle.record_log.specs.GrowthLaws.{GrowthKeeps}
 use Rattle.record_log.specs.Records.{HoldsRecords, spelled}
@@ -19,10 +18,10 @@ use Rattle.snap_outside.specs.declared.devices.DevOp.{DevOp}
 use Rattle.snap_outside.specs.Disk.{History, IsImage, content, disk, disk_after, settled}
 use Rattle.snap_recover.specs.declared.openings.Opening.{Opening}
 use Rattle.snap_work.specs.Kept.{KeepsLimits}
-use Rattle.snap_work.specs.Works.{Work}
 use Rattle.txn_records.specs.declared.records.Record.{Record}
 use Rattle.run_recovery.specs.Beginnings.{BeginsAgain, CrashBefore, HoldEach, IsFront, KeepsOrBegins}
-use Rattle.run_recovery.specs.Runs.{AreRunDevices, IsRunDevice, machine_of, tried_on}
+use Rattle.run_recovery.specs.OneRun.{TheRun, machine_in}
+use Rattle.run_recovery.specs.Runs.{IsRunDevice, tried_on}
 use Rattle.run_recovery.proofs.SaidLogs.{said_written}
 
 -- ---- the first groups alone
@@ -76,28 +75,27 @@ log_left : (bytes : List ℕ) (end l : ℕ) (rs added : List Record) (made : Lis
 log_left bytes end l rs added made image (inl cut) = inl cut.1
 log_left bytes end l rs added made image (inr x) = groups_left end l rs added x.0 image x.2
 
-each_left : GrowthKeeps → {w : Work} {o : Opening} {es : List machine.Event} {failed : ℕ → Bool} {before after : List Device} (devices : AreRunDevices w o es failed before after) (images : ℕ → List ℕ)
-    → CrashBefore devices images → (l : ℕ) → l < w.logs → Left l (records_at devices.records l) devices.added (images l)
-each_left keeps {w} {o} {es} {failed} {before} {after} devices images crash l lt =
-    log_left (content h) here.end l rs devices.added (crash.made l) (images l)
+each_left : GrowthKeeps → (r : TheRun) (images : ℕ → List ℕ) → CrashBefore r images → (l : ℕ) → l < r.work.logs → Left l (records_at r.devices.records l) r.devices.added (images l)
+each_left keeps r images crash l lt =
+    log_left (content h) here.end l rs r.devices.added (crash.made l) (images l)
     (keeps h here.opened.0 here.end here.opened.1 rs first None (beginning_ops (content h) ++ groups_ops here.end first) opened c.2 held (first_growth (content h) here.end first may) (crash.made l) c.3.0 c.3.1 (images l) c.4)
   where
     first : List (List Record)
-    first = first_groups l devices.added
+    first = first_groups l r.devices.added
 
     rs : List Record
-    rs = records_at devices.records l
+    rs = records_at r.devices.records l
 
     groups : List (List Record)
-    groups = groups_of (machine_of w o) l es
+    groups = groups_of (machine_in r) l r.events
 
     tried : Option (List Record)
-    tried = tried_on failed l (group_behind (machine_of w o) l es)
+    tried = tried_on r.failed l (group_behind (machine_in r) l r.events)
 
-    here : IsRunDevice (device_at before l) (device_at after l) rs (first ++ groups) tried
-    here = devices.each l lt
+    here : IsRunDevice (device_at r.before l) (device_at r.after l) rs (first ++ groups) tried
+    here = r.devices.each l lt
 
-    c : (h : History) × ((device_at before l).told ≡ Some h) × (disk h ≡ settled (content h)) × IsFront (crash.made l) (beginning_ops (content h) ++ groups_ops here.end first) × IsImage (disk_after (crash.made l) (disk h)) (images l)
+    c : (h : History) × ((device_at r.before l).told ≡ Some h) × (disk h ≡ settled (content h)) × IsFront (crash.made l) (beginning_ops (content h) ++ groups_ops here.end first) × IsImage (disk_after (crash.made l) (disk h)) (images l)
     c = crash.each l lt
 
     h : History
@@ -110,7 +108,9 @@ each_left keeps {w} {o} {es} {failed} {before} {after} devices images crash l lt
     held = subst (λ t. IfSome t (λ h. HoldsRecords (content h) rs)) c.1 here.held
 
     may : MayAppendGroups here.end first
-    may = grew_first h (device_at after l).told here.end first groups tried (subst (λ t. GrewBy t (device_at after l).told here.end (first ++ groups) tried) c.1 here.grew)
+    may =
+        grew_first h (device_at r.after l).told here.end first groups tried
+        (subst (λ t. GrewBy t (device_at r.after l).told here.end (first ++ groups) tried) c.1 here.grew)
 
 -- ---- all logs
 
@@ -168,13 +168,13 @@ all_left unwritten written count (rs ∷ rss) states o added images some many (i
         one_more zero lt = more.1
         one_more (suc l) lt = others_left l (records_at rss l) added (images (suc l)) (left (suc l) lt)
 
-pub begins_again : GrowthKeeps → Unwritten → Written → {w : Work} {o : Opening} {es : List machine.Event} {failed : ℕ → Bool} {before after : List Device} → KeepsLimits w
-    → (devices : AreRunDevices w o es failed before after) (images : ℕ → List ℕ) → CrashBefore devices images → BeginsAgain devices images
-begins_again keeps unwritten written {w} {o} limits devices images crash =
-    let all = all_left unwritten written w.logs devices.records w.states o devices.added images limits.logs.0 devices.as_many devices.start (each_left keeps devices images crash) in
+pub begins_again : GrowthKeeps → Unwritten → Written → (r : TheRun) (images : ℕ → List ℕ) → KeepsLimits r.work → CrashBefore r images → BeginsAgain r images
+begins_again keeps unwritten written r images limits crash =
+    let devices = r.devices in
+    let all = all_left unwritten written r.work.logs devices.records r.work.states r.opening devices.added images limits.logs.0 devices.as_many devices.start (each_left keeps r images crash) in
     record {
       kept = all.kept;
-      which = subst (λ n. KeepsOrBegins n w.states devices.records all.kept) devices.as_many all.which;
+      which = subst (λ n. KeepsOrBegins n r.work.states devices.records all.kept) devices.as_many all.which;
       holds = all.holds;
       begins = all.begins;
       said = all.said;

@@ -1,12 +1,10 @@
 -- What a run leaves is what the call that prints what the logs recover to goes by.
-use Rattle.std.specs.Prelude.{◌≡◌, ℕ, suc, ◌<◌, Bool, List, [], ◌∷◌, length, take}
+use Rattle.std.specs.Prelude.{◌≡◌, ℕ, suc, ◌<◌, List, [], ◌∷◌, length, take}
 use Rattle.std.specs.List.{AllZip}
 use Rattle.std.proofs.Common.{inl, inr, arith, sym, subst}
 use Rattle.aml_tree.specs.Tree.{CheckedMethod}
 use Rattle.log_opening.specs.Devices.{Device, device_at}
 use Rattle.log_opening.specs.Kept.{IsSaid}
-use Rattle.protocol.specs.Events as machine
-use Rattle.protocol.specs.Moments.{Moment}
 use Rattle.record_log.specs.Records.{HoldsRecords}
 use Rattle.run_opening.specs.Begins.{AreEmpty, AreOfRuns, Begins}
 use Rattle.run_opening.specs.Opens.{TellsRecords, records_at}
@@ -14,11 +12,10 @@ use Rattle.run_recovery.specs.Beginnings.{BeginsAgain, HoldEach}
 use Rattle.run_recovery.specs.Crashes.{Recovers}
 use Rattle.run_recovery.specs.Next.{GoesOnFrom, opening_left, records_left}
 use Rattle.run_recovery.specs.Recoverable.{AreRecoverable, TellBytes}
-use Rattle.run_recovery.specs.Runs.{AreRunDevices, machine_of}
+use Rattle.run_recovery.specs.OneRun.{TheRun, MomentOf}
 use Rattle.snap_base.specs.declared.transactions.State.{State}
 use Rattle.snap_recover.specs.declared.openings.Opening.{Opening}
 use Rattle.snap_recover.specs.Opening.{IsRecovered}
-use Rattle.snap_work.specs.Works.{Work}
 use Rattle.txn_records.specs.declared.records.Record.{Record}
 use Rattle.run_recovery.proofs.SeveralRuns.{kept_long}
 
@@ -35,9 +32,9 @@ tell_each logs ds images records as_many holds tell =
     let t = tell l here in
     (t.0, t.1, subst (λ (bytes : List ℕ). HoldsRecords bytes (records_at records l)) (sym t.2) (holds l here)))
 
-pub within : {p : List CheckedMethod} {w : Work} {o : Opening} {es : List machine.Event} {failed : ℕ → Bool} {before after : List Device} (devices : AreRunDevices w o es failed before after) (m : Moment (machine_of w o) es) (images : ℕ → List ℕ)
-    (r : Recovers p devices m images) → GoesOnFrom r → AreOfRuns devices.records → (ds : List Device) → TellBytes w.logs ds images → AreRecoverable ds (records_left r) (opening_left r)
-within {p} {w} devices m images r g own ds tell = record { said = g.said own; told = tell_each w.logs ds images (records_left r) g.as_many g.holds tell; recovered = g.recovered }
+pub within : (p : List CheckedMethod) (r : TheRun) (m : MomentOf r) (images : ℕ → List ℕ) (left : Recovers p r m images) → GoesOnFrom left → AreOfRuns r.devices.records
+    → (ds : List Device) → TellBytes r.work.logs ds images → AreRecoverable ds (records_left left) (opening_left left)
+within p r m images left g own ds tell = record { said = g.said own; told = tell_each r.work.logs ds images (records_left left) g.as_many g.holds tell; recovered = g.recovered }
 
 some_recovered : (records : List (List Record)) (states : List State) (o : Opening) → ¬ AreEmpty records → Begins records states o → IsRecovered records o
 some_recovered records states o some (inl fresh) = absurd (some fresh.0)
@@ -47,10 +44,9 @@ some_said : (records : List (List Record)) → ¬ AreEmpty records → AreOfRuns
 some_said records some (inl none) = absurd (some none)
 some_said records some (inr said) = said
 
-pub early : {w : Work} {o : Opening} {es : List machine.Event} {failed : ℕ → Bool} {before after : List Device} (devices : AreRunDevices w o es failed before after) (images : ℕ → List ℕ)
-    (b : BeginsAgain devices images) → ¬ AreEmpty b.kept → AreOfRuns devices.records → (ds : List Device) → TellBytes w.logs ds images → AreRecoverable ds b.kept o
-early {w} {o} devices images b some own ds tell = record {
+pub early : (r : TheRun) (images : ℕ → List ℕ) (b : BeginsAgain r images) → ¬ AreEmpty b.kept → AreOfRuns r.devices.records → (ds : List Device) → TellBytes r.work.logs ds images → AreRecoverable ds b.kept r.opening
+early r images b some own ds tell = record {
   said = some_said b.kept some (b.said own);
-  told = tell_each w.logs ds images b.kept (kept_long devices images b) b.holds tell;
-  recovered = some_recovered b.kept w.states o some b.begins;
+  told = tell_each r.work.logs ds images b.kept (kept_long r images b) b.holds tell;
+  recovered = some_recovered b.kept r.work.states r.opening some b.begins;
 }

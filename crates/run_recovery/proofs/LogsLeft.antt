@@ -9,7 +9,7 @@ use Rattle.std.proofs.Math.Seq.{take-length}
 use Rattle.aml_slice.specs.Controls.{Rest}
 use Rattle.gate_log.specs.Appends.{end_behind}
 use Rattle.gate_log.specs.Opened.{Opened}
-use Rattle.log_opening.specs.Devices.{Device, device_at}
+use Rattle.log_opening.specs.Devices.{device_at}
 use Rattle.protocol.specs.Effects.{log_at}
 use Rattle.protocol.specs.Events as machine
 use Rattle.protocol.specs.Fixed.{Fixed}
@@ -27,12 +27,11 @@ use Rattle.run_outputs.specs.Groups.{durable, group_behind, groups_of, waiting}
 use Rattle.run_outputs.specs.Laws.{GroupsAreDurable}
 use Rattle.snap_outside.specs.declared.devices.DevOp.{DevOp}
 use Rattle.snap_outside.specs.Disk.{History, IsImage, content, disk, disk_after, settled}
-use Rattle.snap_recover.specs.declared.openings.Opening.{Opening}
-use Rattle.snap_work.specs.Works.{Work}
 use Rattle.txn_records.specs.declared.records.Record.{Record}
 use Rattle.run_outputs.specs.Made.{IsMade}
 use Rattle.run_recovery.specs.Crashes.{CrashOn, begun_on, earlier}
-use Rattle.run_recovery.specs.Runs.{AreRunDevices, IsRunDevice, machine_of, tried_on}
+use Rattle.run_recovery.specs.OneRun.{TheRun, MomentOf, machine_in, reached_at}
+use Rattle.run_recovery.specs.Runs.{IsRunDevice, tried_on}
 use Rattle.run_recovery.proofs.NextGroups.{assoc, next_waits}
 
 -- ---- lists of records
@@ -113,62 +112,66 @@ cut_by w es m l failed before image begun (group ∷ later) waits next (inr more
     )
 
 -- what a crash at a moment of a run tells of a log of it
-abbrev CrashAt : {w : Work} {o : Opening} {es : List machine.Event} {failed : ℕ → Bool} {before after : List Device} (devices : AreRunDevices w o es failed before after) (m : Moment (machine_of w o) es) → (ℕ → List ℕ) → (ℕ → List DevOp) → (l : ℕ) → l < w.logs → Type 0
-CrashAt {w} {o} {es} {failed} {before} {after} devices m images made l lt =
-    (h : History) × ((device_at before l).told ≡ Some h) × (disk h ≡ settled (content h))
-    × IsMade m l (content h) (devices.each l lt).end (first_groups l devices.added) (begun_on devices l) (made l)
+abbrev CrashAt : (r : TheRun) → MomentOf r → (ℕ → List ℕ) → (ℕ → List DevOp) → (l : ℕ) → l < r.work.logs → Type 0
+CrashAt r m images made l lt =
+    (h : History) × ((device_at r.before l).told ≡ Some h) × (disk h ≡ settled (content h))
+    × IsMade m l (content h) (r.devices.each l lt).end (first_groups l r.devices.added) (begun_on r l) (made l)
     × IsImage (disk_after (made l) (disk h)) (images l)
 
-pub cut_at : {w : Work} {o : Opening} {es : List machine.Event} {failed : ℕ → Bool} {before after : List Device} (devices : AreRunDevices w o es failed before after) (m : Moment (machine_of w o) es) (images : ℕ → List ℕ)
-    → MomentKeeps → GroupsAreDurable (machine_of w o) → IsRun (machine_of w o) m.events → CrashOn devices m images → (l : ℕ) → l < w.logs
-    → (k : ℕ) × IsCutTo (machine_of w o) es m l k × HoldsCut (machine_of w o) es m l (records_at (earlier devices) l) (images l) k
-cut_at {w} {o} {es} {failed} {before} {after} devices m images keeps synced run crash l lt =
-    cut_by v es m l failed (records_at (earlier devices) l) (images l) made.begun made.later made.waits next (subst (λ xs. HoldsWhole xs made.later made.begun (images l)) is holds)
+pub cut_at : (r : TheRun) (m : MomentOf r) (images : ℕ → List ℕ) → MomentKeeps → GroupsAreDurable (machine_in r) → IsRun (machine_in r) m.events → CrashOn r m images → (l : ℕ) → l < r.work.logs
+    → (k : ℕ) × IsCutTo (machine_in r) r.events m l k × HoldsCut (machine_in r) r.events m l (records_at (earlier r) l) (images l) k
+cut_at r m images keeps synced run crash l lt =
+    cut_by v r.events m l r.failed (records_at (earlier r) l) (images l) made.begun made.later made.waits next (subst (λ xs. HoldsWhole xs made.later made.begun (images l)) is holds)
   where
     v : Fixed Rest
-    v = machine_of w o
+    v = machine_in r
+
+    rs : List Record
+    rs = records_at r.devices.records l
 
     first : List (List Record)
-    first = first_groups l devices.added
+    first = first_groups l r.devices.added
 
     groups : List (List Record)
     groups = groups_of v l m.events
 
     all : List (List Record)
-    all = first ++ groups_of v l es
+    all = first ++ groups_of v l r.events
 
     tried : Option (List Record)
-    tried = tried_on failed l (group_behind v l es)
+    tried = tried_on r.failed l (group_behind v l r.events)
 
-    here : IsRunDevice (device_at before l) (device_at after l) (records_at devices.records l) all tried
-    here = devices.each l lt
+    here : IsRunDevice (device_at r.before l) (device_at r.after l) rs all tried
+    here = r.devices.each l lt
 
-    c : CrashAt devices m images crash.made l lt
+    c : CrashAt r m images crash.made l lt
     c = crash.each l lt
 
     h : History
     h = c.0
 
-    made : IsMade m l (content h) here.end first (begun_on devices l) (crash.made l)
+    made : IsMade m l (content h) here.end first (begun_on r l) (crash.made l)
     made = c.3
 
     opened : Opened (Some h) here.opened.0 here.end here.opened.1
     opened = subst (λ t. Opened t here.opened.0 here.end here.opened.1) c.1 here.opened.2
 
-    held : HoldsRecords (content h) (records_at devices.records l)
-    held = subst (λ t. IfSome t (λ h. HoldsRecords (content h) (records_at devices.records l))) c.1 here.held
+    held : HoldsRecords (content h) rs
+    held = subst (λ t. IfSome t (λ h. HoldsRecords (content h) rs)) c.1 here.held
 
-    may : MayAppendGroups here.end (begun_on devices l)
-    may = grew_may h (device_at after l).told here.end all tried (subst (λ t. GrewBy t (device_at after l).told here.end all tried) c.1 here.grew)
+    may : MayAppendGroups here.end (begun_on r l)
+    may = grew_may h (device_at r.after l).told here.end all tried (subst (λ t. GrewBy t (device_at r.after l).told here.end all tried) c.1 here.grew)
 
-    holds : HoldsWhole (records_at devices.records l ++ all_records (first ++ groups)) made.later made.begun (images l)
-    holds = keeps h here.opened.0 here.end here.opened.1 (records_at devices.records l) (first ++ groups) made.later made.begun opened held (subst (MayAppendGroups here.end) made.splits may) made.next (images l) (subst (λ ops. IsImage (disk_after ops (disk h)) (images l)) made.so_far c.4)
+    holds : HoldsWhole (rs ++ all_records (first ++ groups)) made.later made.begun (images l)
+    holds =
+        keeps h here.opened.0 here.end here.opened.1 rs (first ++ groups) made.later made.begun opened held (subst (MayAppendGroups here.end) made.splits may) made.next (images l)
+        (subst (λ ops. IsImage (disk_after ops (disk h)) (images l)) made.so_far c.4)
 
-    next : (group : List Record) (more : List (List Record)) → made.later ≡ group ∷ more → m.has_begun l ≡ true → group ≡ waiting (log_at (reached v m.events) l)
-    next group more e on = next_waits v es m l failed first group more on (made.splits ∙ ap (λ xs. (first ++ groups) ++ xs) e)
+    next : (group : List Record) (more : List (List Record)) → made.later ≡ group ∷ more → m.has_begun l ≡ true → group ≡ waiting (log_at (reached_at r m) l)
+    next group more e on = next_waits v r.events m l r.failed first group more on (made.splits ∙ ap (λ xs. (first ++ groups) ++ xs) e)
 
-    is : records_at devices.records l ++ all_records (first ++ groups) ≡ records_at (earlier devices) l ++ durable (log_at (reached v m.events) l)
+    is : rs ++ all_records (first ++ groups) ≡ records_at (earlier r) l ++ durable (log_at (reached_at r m) l)
     is =
-        ap (λ xs. records_at devices.records l ++ xs) (flat_map-append (λ (g : List Record). g) first groups ∙ ap (λ xs. all_records first ++ xs) (synced l m.events run))
-        ∙ (sym (assoc (records_at devices.records l) (all_records first) (durable (log_at (reached v m.events) l)))
-        ∙ ap (λ xs. xs ++ durable (log_at (reached v m.events) l)) (sym (first_at devices.records devices.added l (rw devices.as_many lt))))
+        ap (λ xs. rs ++ xs) (flat_map-append (λ (g : List Record). g) first groups ∙ ap (λ xs. all_records first ++ xs) (synced l m.events run))
+        ∙ (sym (assoc rs (all_records first) (durable (log_at (reached_at r m) l)))
+        ∙ ap (λ xs. xs ++ durable (log_at (reached_at r m) l)) (sym (first_at r.devices.records r.devices.added l (rw r.devices.as_many lt))))

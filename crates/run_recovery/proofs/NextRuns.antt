@@ -1,15 +1,12 @@
 -- What a crash leaves of the logs is what the next run begins on.
-use Rattle.std.specs.Prelude.{◌≡◌, refl, ℕ, ◌+◌, ◌≤◌, Bool, List, [], ◌∷◌, ◌++◌, length, filter}
+use Rattle.std.specs.Prelude.{◌≡◌, refl, ℕ, ◌+◌, ◌≤◌, List, [], ◌∷◌, ◌++◌, length, filter}
 use Rattle.std.proofs.Common.{inl, inr, sym, ap, ◌∙◌}
 use Rattle.std.proofs.lemmas.List.{append-nil}
 use Rattle.std.proofs.lemmas.List.Elements.{filter-append}
 use Rattle.aml_tree.specs.Tree.{CheckedMethod}
-use Rattle.log_opening.specs.Devices.{Device}
-use Rattle.protocol.specs.Events as machine
-use Rattle.protocol.specs.Moments.{Moment, left_in}
+use Rattle.protocol.specs.Moments.{left_in}
 use Rattle.protocol.specs.Records as written
 use Rattle.protocol.specs.Records.{LogRecord}
-use Rattle.protocol.specs.Runs.{reached}
 use Rattle.recovery_laws.specs.Grown.{grown, grown_from}
 use Rattle.record_words.specs.Told.{all_told}
 use Rattle.run_opening.specs.Begins.{AreEmpty, BeganWith, Begins}
@@ -20,12 +17,12 @@ use Rattle.snap_recover.specs.declared.openings.Opening.{Opening}
 use Rattle.snap_recover.specs.Logs.{all_of, geneses, is_genesis}
 use Rattle.snap_recover.specs.Opening.{IsRecovered}
 use Rattle.snap_work.specs.Kept.{KeepsLimits}
-use Rattle.snap_work.specs.Works.{Work}
 use Rattle.txn_records.specs.declared.records.Record.{Record}
 use Rattle.txn_records.specs.declared.records.Record.TheVariants.{Genesis}
 use Rattle.run_recovery.specs.Crashes.{Recovers, earlier}
 use Rattle.run_recovery.specs.Next.{GoesOnFrom, opening_left, records_left}
-use Rattle.run_recovery.specs.Runs.{AreRunDevices, machine_of}
+use Rattle.run_recovery.specs.OneRun.{TheRun, MomentOf, reached_at}
+use Rattle.run_recovery.specs.Runs.{AreRunDevices}
 use Rattle.run_recovery.proofs.LogsLeft.{first_long, grown_long}
 use Rattle.run_recovery.proofs.SaidLogs.{said_grown, said_written}
 
@@ -83,25 +80,30 @@ begins_alone : OneOpening → (logs : List (List Record)) (first states : List S
 begins_alone one logs first states o q began recovered (inl new) = absurd (began_some logs first began new.0)
 begins_alone one logs first states o q began recovered (inr on) = (one logs q o on.recovered recovered, one_beginning logs states first on.same began)
 
-pub goes_on : {p : List CheckedMethod} {w : Work} {o : Opening} {es : List machine.Event} {failed : ℕ → Bool} {before after : List Device} → BeginsWritten → OneOpening → KeepsLimits w → (devices : AreRunDevices w o es failed before after) (m : Moment (machine_of w o) es) (images : ℕ → List ℕ)
-    → (r : Recovers p devices m images) → GoesOnFrom r
-goes_on {p} {w} {o} {es} law one limits devices m images r = record {
-  as_many = grown_long 0 (earlier devices) more ∙ (first_long devices.records devices.added ∙ devices.as_many);
-  holds = r.holds;
-  some = began_some (records_left r) w.states same;
-  recovered = r.members.recovered;
+pub goes_on : BeginsWritten → OneOpening → (p : List CheckedMethod) (r : TheRun) (m : MomentOf r) (images : ℕ → List ℕ) → KeepsLimits r.work → (left : Recovers p r m images) → GoesOnFrom left
+goes_on law one p r m images limits left = record {
+  as_many = grown_long 0 (earlier r) more ∙ (first_long devices.records devices.added ∙ devices.as_many);
+  holds = left.holds;
+  some = began_some (records_left left) states same;
+  recovered = left.members.recovered;
   same = same;
-  said = λ own. said_grown (earlier devices) more (said_written devices.records w.states o devices.added (rw devices.as_many limits.logs.0) devices.start own);
-  begins = λ unspent. inr (record { some = began_some (records_left r) w.states same; recovered = r.members.recovered; same = same; unspent = unspent });
-  alone = λ states q begins. begins_alone one (records_left r) w.states states (opening_left r) q same r.members.recovered begins;
+  said = λ own. said_grown (earlier r) more (said_written devices.records states r.opening devices.added (rw devices.as_many limits.logs.0) devices.start own);
+  begins = λ unspent. inr (record { some = began_some (records_left left) states same; recovered = left.members.recovered; same = same; unspent = unspent });
+  alone = λ others q begins. begins_alone one (records_left left) states others (opening_left left) q same left.members.recovered begins;
 }
   where
+    devices : AreRunDevices r.work r.opening r.events r.failed r.before r.after
+    devices = r.devices
+
+    states : List State
+    states = r.work.states
+
     more : ℕ → List LogRecord
-    more = left_in (reached (machine_of w o) m.events) r.kept
+    more = left_in (reached_at r m) left.kept
 
-    once : BeganWith (earlier devices) r.members.recovered.begun.0
-    once = grown_began (earlier devices) r.members.recovered.begun.0 more r.members.recovered.begun.1.one
+    once : BeganWith (earlier r) left.members.recovered.begun.0
+    once = grown_began (earlier r) left.members.recovered.begun.0 more left.members.recovered.begun.1.one
 
-    same : BeganWith (records_left r) w.states
-    same = began_grown (earlier devices) w.states more
-        (begun_same (earlier devices) r.members.recovered.begun.0 w.states o once (law devices.records w.states o devices.added (rw devices.as_many limits.logs.0) devices.start))
+    same : BeganWith (records_left left) states
+    same = began_grown (earlier r) states more
+        (begun_same (earlier r) left.members.recovered.begun.0 states r.opening once (law devices.records states r.opening devices.added (rw devices.as_many limits.logs.0) devices.start))

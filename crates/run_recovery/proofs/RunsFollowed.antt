@@ -13,7 +13,7 @@ use Rattle.protocol.specs.Schedule.{Draw, pick, Follows}
 use Rattle.protocol_schedule.specs.Draw.{draw_of}
 use Rattle.snap_recover.specs.declared.openings.Opening.{Opening}
 use Rattle.snap_work.specs.Works.{Work}
-use Rattle.run_recovery.specs.Runs.{HasRun, IsNext, machine_of}
+use Rattle.run_recovery.specs.Runs.{HasRun, GoesOnWith, machine_of}
 use Rattle.run_recovery.specs.Schedules.{Schedule, seeded, free, IsTakenBy}
 
 found_at : (all : List Event) (n : ℕ) (e : Event) → slice_get all n ≡ Some e → Contains all e
@@ -38,7 +38,7 @@ last_allowed : {C : Type 0} (w : Fixed C) (es : List Event) (e : Event) (s : Mac
 last_allowed w [] e s run = run.0
 last_allowed w (x ∷ es) e s run = last_allowed w es e (after w x s) run.1
 
-pub freed_next : (w : Work) (seed : ℕ) (o : Opening) (es : List Event) (e : Event) → IsNext w (seeded seed) o es e → IsNext w free o es e
+pub freed_next : (w : Work) (seed : ℕ) (o : Opening) (es : List Event) (e : Event) → GoesOnWith w (seeded seed) o es e → GoesOnWith w free o es e
 freed_next w seed o es e next =
     let m = machine_of w o in
     last_allowed m es e (opening m) (taken_run m (seeded seed) (es ++ e ∷ []) next)

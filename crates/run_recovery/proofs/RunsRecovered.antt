@@ -12,7 +12,7 @@ use Rattle.protocol.specs.Events as machine
 use Rattle.protocol.specs.Fixed.{Fixed}
 use Rattle.protocol.specs.Facts.{Alone}
 use Rattle.protocol.specs.History.{History, history}
-use Rattle.protocol.specs.Moments.{Moment, IsLeft, left_in}
+use Rattle.protocol.specs.Moments.{IsLeft, left_in}
 use Rattle.protocol.specs.Parts.{Machine}
 use Rattle.protocol.specs.Runs.{EachAllowed, IsRun, opening, reached}
 use Rattle.protocol_records.specs.Crash.{CrashHolds}
@@ -28,6 +28,7 @@ use Rattle.snap_work.specs.Kept.{KeepsLimits}
 use Rattle.snap_work.specs.Works.{Work}
 use Rattle.run_recovery.specs.Crashes.{CrashOn, Recovers, earlier}
 use Rattle.run_recovery.specs.EachRun.{AfterEachRun, OfEachRun}
+use Rattle.run_recovery.specs.OneRun.{TheRun, MomentOf, machine_in, reached_at, the_run}
 use Rattle.run_recovery.specs.Runs.{AreRunDevices, HasRun, machine_of, text_of}
 use Rattle.run_recovery.specs.Schedules.{Schedule}
 use Rattle.run_recovery.proofs.BegunTexts.{BegunRecovered, begins_with, earlier_recovers, starts_with_as_many, text_begins}
@@ -67,29 +68,35 @@ pub record Laws (p : List CheckedMethod) : Type 0 where
   pub begun : BegunRecovered
 
 -- a log is left with so many, where it is one of the run
-record IsPicked {w : Work} {o : Opening} {es : List machine.Event} {failed : ℕ → Bool} {before after : List Device} (devices : AreRunDevices w o es failed before after) (m : Moment (machine_of w o) es) (images : ℕ → List ℕ) (l k : ℕ) : Type 0 where
-  cut : IsCutTo (machine_of w o) es m l k
-  holds : l < w.logs → HoldsCut (machine_of w o) es m l (records_at (earlier devices) l) (images l) k
+record IsPicked (r : TheRun) (m : MomentOf r) (images : ℕ → List ℕ) (l k : ℕ) : Type 0 where
+  cut : IsCutTo (machine_in r) r.events m l k
+  holds : l < r.work.logs → HoldsCut (machine_in r) r.events m l (records_at (earlier r) l) (images l) k
 
-picked : {w : Work} {o : Opening} {es : List machine.Event} {failed : ℕ → Bool} {before after : List Device} (devices : AreRunDevices w o es failed before after) (m : Moment (machine_of w o) es) (images : ℕ → List ℕ)
-    → MomentKeeps → GroupsAreDurable (machine_of w o) → IsRun (machine_of w o) m.events → CrashOn devices m images → (l : ℕ) → (k : ℕ) × IsPicked devices m images l k
-picked {w} {o} {es} devices m images keeps synced run crash l = by (nat_lt l w.logs) refl
+picked : (r : TheRun) (m : MomentOf r) (images : ℕ → List ℕ) → MomentKeeps → GroupsAreDurable (machine_in r) → IsRun (machine_in r) m.events → CrashOn r m images
+    → (l : ℕ) → (k : ℕ) × IsPicked r m images l k
+picked r m images keeps synced run crash l = by (nat_lt l r.work.logs) refl
   where
-    by : (b : Bool) → nat_lt l w.logs ≡ b → (k : ℕ) × IsPicked devices m images l k
-    by true e = let c = cut_at devices m images keeps synced run crash l (ltb-true l w.logs e) in (c.0, record { cut = c.1; holds = λ lt. c.2 })
-    by false e = ((effects.log_at (reached (machine_of w o) m.events) l).synced, record { cut = cut_synced (machine_of w o) es m l; holds = λ lt. absurd (true≢false (sym (lt-ltb l w.logs lt) ∙ e)) })
+    by : (b : Bool) → nat_lt l r.work.logs ≡ b → (k : ℕ) × IsPicked r m images l k
+    by true e = let c = cut_at r m images keeps synced run crash l (ltb-true l r.work.logs e) in (c.0, record { cut = c.1; holds = λ lt. c.2 })
+    by false e = (
+      (effects.log_at (reached_at r m) l).synced,
+      record { cut = cut_synced (machine_in r) r.events m l; holds = λ lt. absurd (true≢false (sym (lt-ltb l r.work.logs lt) ∙ e)) },
+    )
 
 run_recovers : (w : Work) (schedule : Schedule) (o : Opening) (es : List machine.Event) (failed : ℕ → Bool) (before after : List Device) → Laws w.program → KeepsLimits w → (run : HasRun w schedule o es failed before after)
-    → (m : Moment (machine_of w o) es) (images : ℕ → List ℕ) → CrashOn run.devices m images → Recovers w.program run.devices m images
+    → (m : MomentOf (the_run run)) (images : ℕ → List ℕ) → CrashOn (the_run run) m images → Recovers w.program (the_run run) m images
 run_recovers w schedule o es failed before after laws limits run m images crash = record {
   kept = kept;
   left = left;
-  holds = λ l lt. subst (HoldsRecords (images l)) (sym (grown_at (earlier devices) (left_in now kept) l (rw many lt))) ((pick l).1.holds lt);
-  members = laws.members (text_of w o) es m kept (earlier devices) o text all left many recovered (begins_with w o);
-  meant = laws.meant (text_of w o) es m kept (earlier devices) o text all left many recovered (begins_with w o);
+  holds = λ l lt. subst (HoldsRecords (images l)) (sym (grown_at (earlier r) (left_in now kept) l (rw many lt))) ((pick l).1.holds lt);
+  members = laws.members (text_of w o) es m kept (earlier r) o text all left many recovered (begins_with w o);
+  meant = laws.meant (text_of w o) es m kept (earlier r) o text all left many recovered (begins_with w o);
   stands = (laws.in_order (text_of w o) es m kept text all left).stands;
 }
   where
+    r : TheRun
+    r = the_run run
+
     devices : AreRunDevices w o es failed before after
     devices = run.devices
 
@@ -103,10 +110,10 @@ run_recovers w schedule o es failed before after laws limits run m images crash 
     front = front_allowed (machine_of w o) m.events m.later (opening (machine_of w o)) (subst (IsRun (machine_of w o)) m.splits all)
 
     now : Machine Rest
-    now = reached (machine_of w o) m.events
+    now = reached_at r m
 
-    pick : (l : ℕ) → (k : ℕ) × IsPicked devices m images l k
-    pick = picked devices m images laws.moment (laws.durable (machine_of w o)) front crash
+    pick : (l : ℕ) → (k : ℕ) × IsPicked r m images l k
+    pick = picked r m images laws.moment (laws.durable (machine_of w o)) front crash
 
     kept : ℕ → ℕ
     kept l = (pick l).0
@@ -114,13 +121,13 @@ run_recovers w schedule o es failed before after laws limits run m images crash 
     left : IsLeft (machine_of w o) es m kept
     left = record { same = λ l. (pick l).1.cut.same; whole = λ l. (pick l).1.cut.whole }
 
-    many : length (earlier devices) ≡ w.logs
+    many : length (earlier r) ≡ w.logs
     many = first_long devices.records devices.added ∙ devices.as_many
 
-    recovered : IsRecovered (earlier devices) o
+    recovered : IsRecovered (earlier r) o
     recovered = earlier_recovers laws.begun devices.records w.states o devices.added (rw devices.as_many limits.logs.0) devices.start
 
-pub recovers : (p : List CheckedMethod) → Laws p → (w : Work) (schedule : Schedule) (o : Opening) (es : List machine.Event) (failed : ℕ → Bool) (before after : List Device) → w.program ≡ p → KeepsLimits w → (run : HasRun w schedule o es failed before after)
-    → (m : Moment (machine_of w o) es) (images : ℕ → List ℕ) → CrashOn run.devices m images → Recovers p run.devices m images
+pub recovers : (p : List CheckedMethod) → Laws p → (w : Work) (schedule : Schedule) (o : Opening) (es : List machine.Event) (failed : ℕ → Bool) (before after : List Device) → w.program ≡ p → KeepsLimits w
+    → (run : HasRun w schedule o es failed before after) → (m : MomentOf (the_run run)) (images : ℕ → List ℕ) → CrashOn (the_run run) m images → Recovers p (the_run run) m images
 recovers p laws w schedule o es failed before after e limits run m images crash =
-    subst (λ q. Recovers q run.devices m images) e (run_recovers w schedule o es failed before after (subst Laws (sym e) laws) limits run m images crash)
+    subst (λ q. Recovers q (the_run run) m images) e (run_recovers w schedule o es failed before after (subst Laws (sym e) laws) limits run m images crash)

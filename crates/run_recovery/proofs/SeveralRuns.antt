@@ -8,7 +8,7 @@ use Rattle.log_opening.specs.Devices.{Device, device_at}
 use Rattle.log_opening.specs.Kept.{DeviceHolds}
 use Rattle.machine_recovery.proofs.Programs.{each_at}
 use Rattle.protocol.specs.Events as machine
-use Rattle.protocol.specs.Moments.{Moment, left_in}
+use Rattle.protocol.specs.Moments.{left_in}
 use Rattle.protocol.specs.History.{history}
 use Rattle.protocol.specs.Runs.{reached}
 use Rattle.protocol_records.specs.Crash.{members}
@@ -28,7 +28,8 @@ use Rattle.txn_records.specs.declared.records.Record.{Record}
 use Rattle.run_recovery.specs.Beginnings.{BeginsAgain, CrashBefore, HoldEach, KeepsOrBegins}
 use Rattle.run_recovery.specs.Crashes.{CrashOn, Recovers}
 use Rattle.run_recovery.specs.Next.{GoesOnFrom, opening_left, records_left}
-use Rattle.run_recovery.specs.Runs.{AreRunDevices, HasRun, machine_of}
+use Rattle.run_recovery.specs.OneRun.{TheRun, MomentOf, the_run}
+use Rattle.run_recovery.specs.Runs.{HasRun, machine_of}
 use Rattle.run_recovery.specs.Schedules.{Schedule}
 use Rattle.run_recovery.specs.Several.{AddsMembers, BeganOn, Crash, CutOff, EachIsBehind, Early, FindsRunsLogs, GoOn, IsBehind, Left, LeftBy, OfNext, ValuesStand, Within, added_by, bytes_left}
 use Rattle.run_recovery.specs.Unbegun.{AreKept}
@@ -46,14 +47,12 @@ among P xs x all c = subst P c.2 (each_at P xs c.0 x c.1 all)
 -- what the law runs_are_recovered says of the program
 abbrev pub AreRecovered : List CheckedMethod → Type 0
 AreRecovered p = (w : Work) (schedule : Schedule) (o : Opening) (es : List machine.Event) (failed : ℕ → Bool) (before after : List Device) → w.program ≡ p → KeepsLimits w → (run : HasRun w schedule o es failed before after)
-    → (m : Moment (machine_of w o) es) (images : ℕ → List ℕ) → CrashOn run.devices m images → Recovers p run.devices m images
+    → (m : MomentOf (the_run run)) (images : ℕ → List ℕ) → CrashOn (the_run run) m images → Recovers p (the_run run) m images
 
 -- and what those say that speak of no program
 pub record NextLaws : Type 0 where
-  pub begin : (w : Work) (o : Opening) (es : List machine.Event) (failed : ℕ → Bool) (before after : List Device) → KeepsLimits w → (devices : AreRunDevices w o es failed before after)
-      → (images : ℕ → List ℕ) → CrashBefore devices images → BeginsAgain devices images
-  pub go_on : (p : List CheckedMethod) (w : Work) (o : Opening) (es : List machine.Event) (failed : ℕ → Bool) (before after : List Device) → KeepsLimits w → (devices : AreRunDevices w o es failed before after)
-      → (m : Moment (machine_of w o) es) (images : ℕ → List ℕ) → (r : Recovers p devices m images) → GoesOnFrom r
+  pub begin : (r : TheRun) (images : ℕ → List ℕ) → KeepsLimits r.work → CrashBefore r images → BeginsAgain r images
+  pub go_on : (p : List CheckedMethod) (r : TheRun) (m : MomentOf r) (images : ℕ → List ℕ) → KeepsLimits r.work → (left : Recovers p r m images) → GoesOnFrom left
   pub opening : OneOpening
   pub list : OneListOfRecords
   pub calls : CallsKeep
@@ -66,15 +65,15 @@ one_start one logs states o q (inl x) (inr y) = absurd (y.some x.0)
 one_start one logs states o q (inr x) (inl y) = absurd (x.some y.0)
 one_start one logs states o q (inr x) (inr y) = one logs q o y.recovered x.recovered
 
-pub kept_long : {w : Work} {o : Opening} {es : List machine.Event} {failed : ℕ → Bool} {before after : List Device} (devices : AreRunDevices w o es failed before after) (images : ℕ → List ℕ) (b : BeginsAgain devices images) → length b.kept ≡ w.logs
-kept_long {w} devices images b = by b.which
+pub kept_long : (r : TheRun) (images : ℕ → List ℕ) (b : BeginsAgain r images) → length b.kept ≡ r.work.logs
+kept_long r images b = by b.which
   where
-    by : KeepsOrBegins w.logs w.states devices.records b.kept → length b.kept ≡ w.logs
-    by (inl e) = ap (λ (l : List (List Record)). length l) e ∙ devices.as_many
-    by (inr new) = ap (λ (l : List (List Record)). length l) new.1 ∙ (first_long devices.records (first_record w.logs w.states ∷ []) ∙ devices.as_many)
+    by : KeepsOrBegins r.work.logs r.work.states r.devices.records b.kept → length b.kept ≡ r.work.logs
+    by (inl e) = ap (λ (l : List (List Record)). length l) e ∙ r.devices.as_many
+    by (inr new) = ap (λ (l : List (List Record)). length l) new.1 ∙ (first_long r.devices.records (first_record r.work.logs r.work.states ∷ []) ∙ r.devices.as_many)
 
 -- behind the crash
-record AtCrash (x : CutOff) (crash : Crash x.run.devices x.images) : Type 0 where
+record AtCrash (x : CutOff) (crash : Crash (the_run x.run) x.images) : Type 0 where
   records : List (List Record)
   opening : Opening
   by : LeftBy x crash records opening
@@ -84,14 +83,14 @@ record AtCrash (x : CutOff) (crash : Crash x.run.devices x.images) : Type 0 wher
   said : AreOfRuns x.run.devices.records → AreOfRuns records
   committed : (more : List Kept) × (opening.committed ≡ x.opening.committed ++ more) × AddsMembers x crash more
 
-crashed : NextLaws → (x : CutOff) → AreRecovered x.work.program → (crash : Crash x.run.devices x.images) → AtCrash x crash
+crashed : NextLaws → (x : CutOff) → AreRecovered x.work.program → (crash : Crash (the_run x.run) x.images) → AtCrash x crash
 crashed laws x recovered (Early crash) =
-    let b = laws.begin x.work x.opening x.events x.failed x.before x.after x.limits x.run.devices x.images crash in
+    let b = laws.begin (the_run x.run) x.images x.limits crash in
     record {
       records = b.kept;
       opening = x.opening;
       by = (b, refl, refl);
-      as_many = kept_long x.run.devices x.images b;
+      as_many = kept_long (the_run x.run) x.images b;
       holds = b.holds;
       alone = λ q begins. one_start laws.opening b.kept x.work.states x.opening q b.begins begins;
       said = b.said;
@@ -99,7 +98,7 @@ crashed laws x recovered (Early crash) =
     }
 crashed laws x recovered (Within m crash) =
     let r = recovered x.work x.schedule x.opening x.events x.failed x.before x.after refl x.limits x.run m x.images crash in
-    let g = laws.go_on x.work.program x.work x.opening x.events x.failed x.before x.after x.limits x.run.devices m x.images r in
+    let g = laws.go_on x.work.program (the_run x.run) m x.images x.limits r in
     record {
       records = records_left r;
       opening = opening_left r;
@@ -127,7 +126,7 @@ begins_alone one logs states records images k o alone q begins = by k.which
         one_start one k.kept states (fresh_opening states) q (k.begins (fresh_opening states) fresh) begins ∙ alone (fresh_opening states) fresh
 
 -- behind the calls
-left_by : NextLaws → (x : CutOff) → AreRecovered x.work.program → (crash : Crash x.run.devices x.images) → Left x crash
+left_by : NextLaws → (x : CutOff) → AreRecovered x.work.program → (crash : Crash (the_run x.run) x.images) → Left x crash
 left_by laws x recovered crash =
     let c = crashed laws x recovered crash in
     let k = laws.calls x.work.logs x.work.states c.records x.images x.calls x.limits.logs.0 c.as_many c.holds x.unbegun in
@@ -160,7 +159,7 @@ start_begins : (logs : List (List Record)) (states : List State) (o : Opening) (
 start_begins logs states o added (inl new) = inl (new.0, new.1)
 start_begins logs states o added (inr on) = inr on.0
 
-began_on : NextLaws → (x y : CutOff) (crash : Crash x.run.devices x.images) (left : Left x crash) → IsBehind x y → BeganOn left y
+began_on : NextLaws → (x y : CutOff) (crash : Crash (the_run x.run) x.images) (left : Left x crash) → IsBehind x y → BeganOn left y
 began_on laws x y crash left behind = record {
   records = same;
   opening = left.alone y.opening
@@ -178,7 +177,7 @@ began_on laws x y crash left behind = record {
     same : y.run.devices.records ≡ left.records
     same = same_lists_at y.run.devices.records left.records (y.run.devices.as_many ∙ (behind.logs ∙ sym left.as_many)) (λ l lt. at l (omega (arith, lt, y.run.devices.as_many, behind.logs)))
 
-next_began : NextLaws → (x : CutOff) (crash : Crash x.run.devices x.images) (left : Left x crash) (xs : List CutOff) → OfNext (IsBehind x) xs → OfNext (BeganOn left) xs
+next_began : NextLaws → (x : CutOff) (crash : Crash (the_run x.run) x.images) (left : Left x crash) (xs : List CutOff) → OfNext (IsBehind x) xs → OfNext (BeganOn left) xs
 next_began laws x crash left [] behind = tt
 next_began laws x crash left (y ∷ ys) behind = began_on laws x y crash left behind
 

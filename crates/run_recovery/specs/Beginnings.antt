@@ -1,20 +1,17 @@
 -- What a crash leaves while a run begins: its logs are opened, those of format 1 are upgraded, and what is written before it is
 -- appended.
-use Rattle.std.specs.Prelude.{◌≡◌, ℕ, ◌<◌, ◌⊎◌, Bool, Some, List, [], ◌∷◌, ◌++◌}
+use Rattle.std.specs.Prelude.{◌≡◌, ℕ, ◌<◌, ◌⊎◌, Some, List, [], ◌∷◌, ◌++◌}
 use Rattle.gate_log.specs.Opened.{beginning_ops}
-use Rattle.log_opening.specs.Devices.{Device, device_at}
-use Rattle.protocol.specs.Events as machine
+use Rattle.log_opening.specs.Devices.{device_at}
 use Rattle.record_log.specs.Growth.{groups_ops}
 use Rattle.record_log.specs.Records.{HoldsRecords}
 use Rattle.run_opening.specs.Begins.{AreEmpty, AreOfRuns, Begins}
 use Rattle.run_opening.specs.Opens.{first_groups, records_at, with_first}
 use Rattle.run_opening.specs.Starts.{first_record}
-use Rattle.run_recovery.specs.Runs.{AreRunDevices}
+use Rattle.run_recovery.specs.OneRun.{TheRun}
 use Rattle.snap_base.specs.declared.transactions.State.{State}
 use Rattle.snap_outside.specs.declared.devices.DevOp.{DevOp}
 use Rattle.snap_outside.specs.Disk.{History, content, disk, disk_after, settled, IsImage}
-use Rattle.snap_recover.specs.declared.openings.Opening.{Opening}
-use Rattle.snap_work.specs.Works.{Work}
 use Rattle.txn_records.specs.declared.records.Record.{Record}
 
 -- these are made, from the first on
@@ -23,10 +20,10 @@ IsFront made ops = (left : List DevOp) × (ops ≡ made ++ left)
 
 -- A crash while the run begins: of the operations of opening, of an upgrade where the log was of format 1, and of the groups before
 -- the run a front is made on each log, and these bytes are left. The devices told what they held before, and it was durable.
-pub record CrashBefore {w : Work} {o : Opening} {es : List machine.Event} {failed : ℕ → Bool} {before after : List Device} (devices : AreRunDevices w o es failed before after) (images : ℕ → List ℕ) : Type 0 where
+pub record CrashBefore (r : TheRun) (images : ℕ → List ℕ) : Type 0 where
   pub made : ℕ → List DevOp
-  pub each : (l : ℕ) (lt : l < w.logs) → (h : History) × ((device_at before l).told ≡ Some h) × (disk h ≡ settled (content h))
-      × IsFront (made l) (beginning_ops (content h) ++ groups_ops (devices.each l lt).end (first_groups l devices.added))
+  pub each : (l : ℕ) (lt : l < r.work.logs) → (h : History) × ((device_at r.before l).told ≡ Some h) × (disk h ≡ settled (content h))
+      × IsFront (made l) (beginning_ops (content h) ++ groups_ops (r.devices.each l lt).end (first_groups l r.devices.added))
       × IsImage (disk_after (made l) (disk h)) (images l)
 
 -- these records are the same as those; or, only where these are none, log 0 has Genesis alone
@@ -39,9 +36,9 @@ HoldEach logs images records = (l : ℕ) → l < logs → HoldsRecords (images l
 
 -- Each log is left with the records of before; or, only where no log held one, log 0 with Genesis alone. A run of the same
 -- states begins on them with the same opening. They are as runs leave them, where the run found them so.
-pub record BeginsAgain {w : Work} {o : Opening} {es : List machine.Event} {failed : ℕ → Bool} {before after : List Device} (devices : AreRunDevices w o es failed before after) (images : ℕ → List ℕ) : Type 0 where
+pub record BeginsAgain (r : TheRun) (images : ℕ → List ℕ) : Type 0 where
   pub kept : List (List Record)
-  pub which : KeepsOrBegins w.logs w.states devices.records kept
-  pub holds : HoldEach w.logs images kept
-  pub begins : Begins kept w.states o
-  pub said : AreOfRuns devices.records → AreOfRuns kept
+  pub which : KeepsOrBegins r.work.logs r.work.states r.devices.records kept
+  pub holds : HoldEach r.work.logs images kept
+  pub begins : Begins kept r.work.states r.opening
+  pub said : AreOfRuns r.devices.records → AreOfRuns kept

@@ -24,6 +24,7 @@ OfEachRun p P =
     (w : Work) (schedule : Schedule) (o : Opening) (es : List machine.Event) (failed : ℕ → Bool) (before after : List Device) → w.program ≡ p → KeepsLimits w
     → HasRun w schedule o es failed before after → P (machine_of w o) (finish_of p (text_of w o)) es
 
--- The same of the state that the run reached, and of its history.
+-- Of every run of a work of this program, within its limits, P holds: of the machine, of what becomes of a control alone, and of the
+-- state that the run reached and its history.
 abbrev pub AfterEachRun : List CheckedMethod → (Fixed Rest → (Rest → List State → Alone) → Machine Rest → History → Type 0) → Type 0
 AfterEachRun p P = OfEachRun p (λ w finish es. P w finish (reached w es) (history w es))

@@ -1,5 +1,6 @@
 pub mod Schedules
 pub mod Runs
+pub mod OneRun
 pub mod EachRun
 pub mod Crashes
 pub mod Beginnings

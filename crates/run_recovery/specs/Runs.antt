@@ -29,12 +29,12 @@ meant es = map event_meant es
 -- ---- which logs failed
 
 -- no log
-abbrev pub no_log : ℕ → Bool
-no_log l = false
+abbrev pub none_failed : ℕ → Bool
+none_failed l = false
 
 -- this one alone
-abbrev pub one_log : ℕ → ℕ → Bool
-one_log log l = log == l
+abbrev pub only_failed : ℕ → ℕ → Bool
+only_failed log l = log == l
 
 -- This one did, and none of a lower number.
 pub record IsLeastOf (failed : ℕ → Bool) (log : ℕ) : Type 0 where
@@ -77,9 +77,9 @@ pub record HasRun (w : Work) (schedule : Schedule) (o : Opening) (es : List mach
   pub devices : AreRunDevices w o es failed before after
 
 -- The seed's schedule goes on with this event. With several workers, it is allowed after all of the events.
-abbrev pub IsNext : Work → Schedule → Opening → List machine.Event → machine.Event → Type 0
-IsNext w (seeded seed) o es e = IsFrontOfSeed (machine_of w o) seed (es ++ e ∷ [])
-IsNext w free o es e = IsAllowed (machine_of w o) e (reached (machine_of w o) es)
+abbrev pub GoesOnWith : Work → Schedule → Opening → List machine.Event → machine.Event → Type 0
+GoesOnWith w (seeded seed) o es e = IsFrontOfSeed (machine_of w o) seed (es ++ e ∷ [])
+GoesOnWith w free o es e = IsAllowed (machine_of w o) e (reached (machine_of w o) es)
 
 -- no event is allowed any more
 abbrev pub HasEnded : Work → Opening → List machine.Event → Type 0

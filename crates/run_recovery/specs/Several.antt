@@ -7,14 +7,14 @@ use Rattle.machine_laws.specs.Meant.{meant_run}
 use Rattle.protocol.specs.Chains.{by_place}
 use Rattle.protocol.specs.Events as machine
 use Rattle.protocol.specs.History.{Done}
-use Rattle.protocol.specs.Moments.{Moment}
 use Rattle.recovery_laws.specs.Grown.{PlacedResult, answer_at, answers_of}
 use Rattle.run_opening.specs.Begins.{AreOfRuns, Begins}
 use Rattle.run_recovery.specs.Beginnings.{BeginsAgain, CrashBefore, HoldEach, KeepsOrBegins}
 use Rattle.run_recovery.specs.Crashes.{CrashOn, Recovers}
 use Rattle.run_recovery.specs.Next.{GoesOnFrom, opening_left, records_left}
+use Rattle.run_recovery.specs.OneRun.{TheRun, MomentOf, the_run}
 use Rattle.run_recovery.specs.Recoverable.{TellBytes}
-use Rattle.run_recovery.specs.Runs.{AreRunDevices, HasRun, machine_of}
+use Rattle.run_recovery.specs.Runs.{HasRun, machine_of}
 use Rattle.run_recovery.specs.Schedules.{Schedule}
 use Rattle.run_recovery.specs.Unbegun.{AreUnbegun, left_last}
 use Rattle.snap_recover.specs.declared.openings.Kept.{Kept}
@@ -26,9 +26,9 @@ use Rattle.txn_records.specs.declared.records.Record.{Record}
 -- ---- a run that is cut off
 
 -- a crash while the run begins, or at a moment of it
-pub data Crash {w : Work} {o : Opening} {es : List machine.Event} {failed : ℕ → Bool} {before after : List Device} (devices : AreRunDevices w o es failed before after) (images : ℕ → List ℕ) : Type 0 where
-  Early : (crash : CrashBefore devices images) → Crash devices images
-  Within : (m : Moment (machine_of w o) es) (crash : CrashOn devices m images) → Crash devices images
+pub data Crash (r : TheRun) (images : ℕ → List ℕ) : Type 0 where
+  Early : (crash : CrashBefore r images) → Crash r images
+  Within : (m : MomentOf r) (crash : CrashOn r m images) → Crash r images
 
 -- A run of a work that keeps its limits; the crash, and the bytes that it left; and the calls behind it in which no run began, with
 -- the bytes that each of them left.
@@ -43,7 +43,7 @@ pub record CutOff : Type 0 where
   pub limits : KeepsLimits work
   pub run : HasRun work schedule opening events failed before after
   pub images : ℕ → List ℕ
-  pub crash : Crash run.devices images
+  pub crash : Crash (the_run run) images
   pub calls : List (ℕ → List ℕ)
   pub unbegun : AreUnbegun work.logs work.states images calls
 
@@ -71,14 +71,14 @@ EachIsBehind (x ∷ xs) = OfNext (IsBehind x) xs × EachIsBehind xs
 
 -- What the crash left. Where it came while the run began, no record is lost, and a run begins as this one did. At a moment of the run
 -- its members are left, and a run goes on from them.
-abbrev pub LeftBy : (x : CutOff) → Crash x.run.devices x.images → List (List Record) → Opening → Type 0
-LeftBy x (Early crash) records o = (b : BeginsAgain x.run.devices x.images) × (records ≡ b.kept) × (o ≡ x.opening)
-LeftBy x (Within m crash) records o = (r : Recovers x.work.program x.run.devices m x.images) × GoesOnFrom r × (records ≡ records_left r) × (o ≡ opening_left r)
+abbrev pub LeftBy : (x : CutOff) → Crash (the_run x.run) x.images → List (List Record) → Opening → Type 0
+LeftBy x (Early crash) records o = (b : BeginsAgain (the_run x.run) x.images) × (records ≡ b.kept) × (o ≡ x.opening)
+LeftBy x (Within m crash) records o = (left : Recovers x.work.program (the_run x.run) m x.images) × GoesOnFrom left × (records ≡ records_left left) × (o ≡ opening_left left)
 
 -- What recovery gives of the run beside what was committed before it. Where the crash came while the run began it is nothing. At a
 -- moment of the run it is members of it, in the order of their places; and the values that it gives are the results that these have
 -- one after the other in this order, from the states with which the run began, as the language means each.
-abbrev pub AddsMembers : (x : CutOff) → Crash x.run.devices x.images → List Kept → Type 0
+abbrev pub AddsMembers : (x : CutOff) → Crash (the_run x.run) x.images → List Kept → Type 0
 AddsMembers x (Early crash) more = more ≡ []
 AddsMembers x (Within m crash) more =
     (ds : List Done) × (flat_map answers_of more ≡ map answer_at (by_place ds))
@@ -87,7 +87,7 @@ AddsMembers x (Within m crash) more =
 -- The records with which the crash left the logs, those with which the calls behind it left them, and the opening with which alone a
 -- run of the same states begins on these. What was committed before the run stands first in it. They are as runs leave them, where
 -- the run found them so.
-pub record Left (x : CutOff) (crash : Crash x.run.devices x.images) : Type 0 where
+pub record Left (x : CutOff) (crash : Crash (the_run x.run) x.images) : Type 0 where
   pub crashed : List (List Record)
   pub records : List (List Record)
   pub opening : Opening
@@ -100,7 +100,7 @@ pub record Left (x : CutOff) (crash : Crash x.run.devices x.images) : Type 0 whe
   pub committed : (more : List Kept) × (opening.committed ≡ x.opening.committed ++ more) × AddsMembers x crash more
 
 -- the run y began on these records, with this opening
-pub record BeganOn {x : CutOff} {crash : Crash x.run.devices x.images} (left : Left x crash) (y : CutOff) : Type 0 where
+pub record BeganOn {x : CutOff} {crash : Crash (the_run x.run) x.images} (left : Left x crash) (y : CutOff) : Type 0 where
   pub records : y.run.devices.records ≡ left.records
   pub opening : y.opening ≡ left.opening
 

@@ -5,7 +5,6 @@ ghost use Rattle.aml_check.specs.Checked.{methods_of};
 ghost use Rattle.log_opening.specs.Devices.{Device};
 ghost use Rattle.machine_laws.specs.Meant.{CommittedAsMeant, VerdictsAsMeant};
 ghost use Rattle.protocol.specs.Events as machine;
-ghost use Rattle.protocol.specs.Moments.{Moment};
 ghost use Rattle.protocol_records.specs.AsTold.{ToldStands};
 ghost use Rattle.protocol_theorems.specs.Left.{RunsEnd};
 ghost use Rattle.protocol_theorems.specs.Order.{OrderHolds};
@@ -19,7 +18,8 @@ ghost use Rattle.run_recovery.specs.Crashes.{CrashOn, Recovers};
 ghost use Rattle.run_recovery.specs.EachRun.{AfterEachRun, OfEachRun};
 ghost use Rattle.run_recovery.specs.Next.{GoesOnFrom, opening_left, records_left};
 ghost use Rattle.run_recovery.specs.Recoverable.{AreRecoverable, TellBytes};
-ghost use Rattle.run_recovery.specs.Runs.{AreRunDevices, HasRun, IsNext, machine_of, text_of};
+ghost use Rattle.run_recovery.specs.OneRun.{TheRun, MomentOf, the_run};
+ghost use Rattle.run_recovery.specs.Runs.{HasRun, GoesOnWith};
 ghost use Rattle.run_recovery.specs.Schedules.{Schedule, seeded, free};
 ghost use Rattle.run_recovery.specs.Several.{CutOff, EachIsBehind, FindsRunsLogs, GoOn, OfNext, ValuesStand};
 ghost use Rattle.run_recovery.specs.Stands.{RunStands};
@@ -46,8 +46,9 @@ use snap_recover::{begun_logs_are_recovered, one_opening};
 
 /// What one thread takes by the schedule of a seed is among what several workers may take, and so is the event with which it goes on.
 pub fn seeds_pick_runs()
-    ensures runs { (w : Work) (seed : ℕ) (o : Opening) (es : List machine.Event) (failed : ℕ → Bool) (before after : List Device) → HasRun w (seeded seed) o es failed before after → HasRun w free o es failed before after }
-    ensures next { (w : Work) (seed : ℕ) (o : Opening) (es : List machine.Event) (e : machine.Event) → IsNext w (seeded seed) o es e → IsNext w free o es e }
+    ensures runs { (w : Work) (seed : ℕ) (o : Opening) (es : List machine.Event) (failed : ℕ → Bool) (before after : List Device)
+        → HasRun w (seeded seed) o es failed before after → HasRun w free o es failed before after }
+    ensures next { (w : Work) (seed : ℕ) (o : Opening) (es : List machine.Event) (e : machine.Event) → GoesOnWith w (seeded seed) o es e → GoesOnWith w free o es e }
 {}
 
 /// What a run took are events of a run of the machine: its committed transactions, one by one in the order of their places as the
@@ -78,8 +79,9 @@ pub fn runs_are_as_meant(program: &Checked)
 
 /// Whatever a crash leaves of the logs at any moment of a run recovers.
 pub fn runs_are_recovered(program: &Checked)
-    ensures { (w : Work) (schedule : Schedule) (o : Opening) (es : List machine.Event) (failed : ℕ → Bool) (before after : List Device) → w.program ≡ methods_of program.now → KeepsLimits w → (run : HasRun w schedule o es failed before after)
-        → (m : Moment (machine_of w o) es) (images : ℕ → List ℕ) → CrashOn run.devices m images → Recovers (methods_of program.now) run.devices m images }
+    ensures { (w : Work) (schedule : Schedule) (o : Opening) (es : List machine.Event) (failed : ℕ → Bool) (before after : List Device)
+        → w.program ≡ methods_of program.now → KeepsLimits w → (run : HasRun w schedule o es failed before after)
+        → (m : MomentOf (the_run run)) (images : ℕ → List ℕ) → CrashOn (the_run run) m images → Recovers (methods_of program.now) (the_run run) m images }
 {
     logs_recover_to_the_members(program);
     logs_recover_as_meant(program);
@@ -92,8 +94,7 @@ pub fn runs_are_recovered(program: &Checked)
 /// A crash while a run begins loses no record: the logs hold what they held, or, where they held none, Genesis alone; and a run of
 /// the same states begins on them with the same opening.
 pub fn beginnings_are_recovered()
-    ensures { (w : Work) (o : Opening) (es : List machine.Event) (failed : ℕ → Bool) (before after : List Device) → KeepsLimits w → (devices : AreRunDevices w o es failed before after)
-        → (images : ℕ → List ℕ) → CrashBefore devices images → BeginsAgain devices images }
+    ensures { (r : TheRun) (images : ℕ → List ℕ) → KeepsLimits r.work → CrashBefore r images → BeginsAgain r images }
 {
     groups_are_whole();
     begins_again();
@@ -102,8 +103,7 @@ pub fn beginnings_are_recovered()
 /// What a crash leaves of the logs at any moment of a run is what the next run goes on from: unless a number is spent, a run of any
 /// text of the same states, on as many logs, begins on them with the opening to which they recover; and none begins with another.
 pub fn crashed_runs_go_on()
-    ensures { (p : List CheckedMethod) (w : Work) (o : Opening) (es : List machine.Event) (failed : ℕ → Bool) (before after : List Device) → KeepsLimits w → (devices : AreRunDevices w o es failed before after)
-        → (m : Moment (machine_of w o) es) (images : ℕ → List ℕ) → (r : Recovers p devices m images) → GoesOnFrom r }
+    ensures { (p : List CheckedMethod) (r : TheRun) (m : MomentOf r) (images : ℕ → List ℕ) → KeepsLimits r.work → (left : Recovers p r m images) → GoesOnFrom left }
 {
     begins_again();
     one_opening();
@@ -112,8 +112,8 @@ pub fn crashed_runs_go_on()
 /// Calls in which no run began, one behind the other, each made to its end or cut off by a crash, lose no record: the logs hold what
 /// they held, or, only where they held none, Genesis alone; and a run of the same states begins on them as it began before.
 pub fn unbegun_calls_lose_nothing()
-    ensures { (logs : ℕ) (states : List State) (records : List (List Record)) (found : ℕ → List ℕ) (calls : List (ℕ → List ℕ)) → 1 ≤ logs → length records ≡ logs → HoldEach logs found records
-        → AreUnbegun logs states found calls → AreKept logs states records (left_last found calls) }
+    ensures { (logs : ℕ) (states : List State) (records : List (List Record)) (found : ℕ → List ℕ) (calls : List (ℕ → List ℕ))
+        → 1 ≤ logs → length records ≡ logs → HoldEach logs found records → AreUnbegun logs states found calls → AreKept logs states records (left_last found calls) }
 {
     one_list_of_records();
     begins_again();
@@ -123,12 +123,10 @@ pub fn unbegun_calls_lose_nothing()
 /// behind a crash at any moment of it, and, once Genesis is written, behind one while it begins. So that call prints the opening with
 /// which the next run begins.
 pub fn what_is_left_is_recoverable()
-    ensures within { (p : List CheckedMethod) (w : Work) (o : Opening) (es : List machine.Event) (failed : ℕ → Bool) (before after : List Device) (devices : AreRunDevices w o es failed before after)
-        → (m : Moment (machine_of w o) es) (images : ℕ → List ℕ) → (r : Recovers p devices m images) → GoesOnFrom r → AreOfRuns devices.records
-        → (again : List Device) → TellBytes w.logs again images → AreRecoverable again (records_left r) (opening_left r) }
-    ensures early { (w : Work) (o : Opening) (es : List machine.Event) (failed : ℕ → Bool) (before after : List Device) (devices : AreRunDevices w o es failed before after)
-        → (images : ℕ → List ℕ) → (b : BeginsAgain devices images) → ¬ AreEmpty b.kept → AreOfRuns devices.records
-        → (again : List Device) → TellBytes w.logs again images → AreRecoverable again b.kept o }
+    ensures within { (p : List CheckedMethod) (r : TheRun) (m : MomentOf r) (images : ℕ → List ℕ) (left : Recovers p r m images) → GoesOnFrom left → AreOfRuns r.devices.records
+        → (again : List Device) → TellBytes r.work.logs again images → AreRecoverable again (records_left left) (opening_left left) }
+    ensures early { (r : TheRun) (images : ℕ → List ℕ) (b : BeginsAgain r images) → ¬ AreEmpty b.kept → AreOfRuns r.devices.records
+        → (again : List Device) → TellBytes r.work.logs again images → AreRecoverable again b.kept r.opening }
 {}
 
 /// Of runs one behind the other, each of a work of one of these programs, and each on the bytes that were left before it by a crash,
@@ -160,9 +158,11 @@ pub fn each_run_finds_logs_as_runs_leave_them()
     ensures { (xs : List CutOff) → GoOn xs → OfNext FindsRunsLogs xs → AllByRecursion FindsRunsLogs xs }
 {}
 
-/// All of it, of every run of a work that keeps its limits.
+/// What all these laws say of one run holds of every run of a work of this program that keeps its limits: of its committed
+/// transactions, of what they are told, and of what a crash leaves while it begins and at any moment of it.
 pub fn runs_stand(program: &Checked)
-    ensures { (w : Work) (schedule : Schedule) (o : Opening) (es : List machine.Event) (failed : ℕ → Bool) (before after : List Device) → w.program ≡ methods_of program.now → KeepsLimits w → (run : HasRun w schedule o es failed before after) → RunStands run }
+    ensures { (w : Work) (schedule : Schedule) (o : Opening) (es : List machine.Event) (failed : ℕ → Bool) (before after : List Device)
+        → w.program ≡ methods_of program.now → KeepsLimits w → (run : HasRun w schedule o es failed before after) → RunStands (the_run run) }
 {
     runs_are_as_meant(program);
     runs_are_recovered(program);

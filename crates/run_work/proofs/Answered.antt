@@ -14,14 +14,15 @@ use Rattle.protocol.specs.Fixed.{Fixed}
 use Rattle.protocol.specs.Runs.{reached}
 use Rattle.run_opening.specs.Opens.{IsNoRun, MayOpen}
 use Rattle.run_printing.specs.Printed.{traced_line}
-use Rattle.run_recovery.specs.Runs.{no_log, one_log, HasRun, meant, machine_of, HasEnded}
+use Rattle.run_recovery.specs.Runs.{none_failed, only_failed, HasRun, meant, machine_of, HasEnded}
 use Rattle.run_recovery.specs.Schedules.{Schedule, seeded, free}
+use Rattle.run_recovery.specs.OneRun.{the_run}
 use Rattle.run_recovery.specs.Stands.{RunStands}
 use Rattle.run_work.proofs.Ending.{StopsAtFault, untraced_of}
 use Rattle.run_work.specs.Hosts.{LeftFailed, HasHosted}
 use Rattle.run_work.specs.Runs.{Printing, Ran, AllReplied, HasFailed, IsAnswerOf, LogRose, PrintsFailed, IsOfLogs}
 use Rattle.run_work.specs.Statuses.{logs_status}
-use Rattle.run_work.specs.Untraced.{IsRunEnd, LeftBy, IsNoBeginning, IsUntraced, IsTraced, EndsUntraced, IsCallEnd}
+use Rattle.run_work.specs.Untraced.{IsRunEnd, RunLeft, IsNoBeginning, IsUntraced, IsTraced, EndsUntraced, IsCallEnd}
 use Rattle.run_work.specs.declared.hosts.Hosted.{Hosted}
 use Rattle.run_work.specs.Writings.{Writing, writing_of, WritesNothing, Writes, WritesLines}
 use Rattle.snap_base.specs.declared.transactions.State.{State}
@@ -56,7 +57,7 @@ whole_lines t kept whole = inl (kept, [], sym (append-nil kept), whole)
 
 -- what the laws say of each run that the call may have made
 abbrev pub EachStands : Ran → Type 0
-EachStands r = (o : Opening) (failed : ℕ → Bool) (run : HasRun r.work r.schedule o (meant r.kept) failed r.devices_before r.devices_after) → RunStands run
+EachStands r = (o : Opening) (failed : ℕ → Bool) (run : HasRun r.work r.schedule o (meant r.kept) failed r.devices_before r.devices_after) → RunStands (the_run run)
 
 -- what the law marks_are_replies says
 abbrev pub MarksAreReplies : Type 0
@@ -68,27 +69,27 @@ all_replied : (r : Ran) → EachStands r → MarksAreReplies → (o : Opening) (
 all_replied r stands marks o failed run ended = marks (machine_of r.work o) (meant r.kept) ((stands o failed run).answered ended).0.replied
 
 -- the log that the status names is one of the work's, and its count rose
-rose_there : (r : Ran) (o : Opening) (schedule : Schedule) (log : ℕ) → LeftFailed (LeftBy r o) r.work schedule o (meant r.kept) log → (log < r.work.logs) × LogRose r log
+rose_there : (r : Ran) (o : Opening) (schedule : Schedule) (log : ℕ) → LeftFailed (RunLeft r o) r.work schedule o (meant r.kept) log → (log < r.work.logs) × LogRose r log
 rose_there r o (seeded seed) log left = left.0.rose log (eq-eqb log log refl)
 rose_there r o free log left = left.2.rose log left.1.is
 
 failed_answer : (r : Ran) → EachStands r → (o : Opening) (schedule : Schedule) (log : ℕ) → WritesLines traced_line r.trace [] r.kept
-    → LeftFailed (LeftBy r o) r.work schedule o (meant r.kept) log → (P : Opening → List machine.Event → Type 0) → P o (meant r.kept) → HasFailed r schedule log P
-failed_answer r stands o (seeded seed) log front left P printed = (o, left.0.run, stands o (one_log log) left.0.run, (left.1, printed), front)
+    → LeftFailed (RunLeft r o) r.work schedule o (meant r.kept) log → (P : Opening → List machine.Event → Type 0) → P o (meant r.kept) → HasFailed r schedule log P
+failed_answer r stands o (seeded seed) log front left P printed = (o, left.0.run, stands o (only_failed log) left.0.run, (left.1, printed), front)
 failed_answer r stands o free log front left P printed =
     (left.0, left.1, (o, left.2.run, stands o left.0 left.2.run, (λ l is. ((left.2.rose l is).0, (left.2.rose l is).1, left.3 l is), printed), front))
 
 begun_answer : (p : Printing) (r : Ran) → EachStands r → MarksAreReplies → (o : Opening) (s : Status) → WritesLines traced_line r.trace [] r.kept → (s ≡ status.Done → Writes r.trace (trace_of r.kept))
-    → IsRunEnd p (LeftBy r o) r.work r.schedule o (meant r.kept) r.out s → IsAnswerOf p r s
-begun_answer p r stands marks o status.Done front whole end = ((o, end.0.run, stands o no_log end.0.run, ((end.1, all_replied r stands marks o no_log end.0.run end.1), end.2), front), whole refl)
+    → IsRunEnd p (RunLeft r o) r.work r.schedule o (meant r.kept) r.out s → IsAnswerOf p r s
+begun_answer p r stands marks o status.Done front whole end = ((o, end.0.run, stands o none_failed end.0.run, ((end.1, all_replied r stands marks o none_failed end.0.run end.1), end.2), front), whole refl)
 begun_answer p r stands marks o (status.Usage place) front whole end = end
 begun_answer p r stands marks o (status.Input line cause) front whole end = end
 begun_answer p r stands marks o (status.Logs log offset cause) front whole end = absurd end
-begun_answer p r stands marks o status.Memory front whole end = inr (o, end.0.run, stands o no_log end.0.run, end.1, front)
+begun_answer p r stands marks o status.Memory front whole end = inr (o, end.0.run, stands o none_failed end.0.run, end.1, front)
 begun_answer p r stands marks o status.ReadFault front whole end = end
 begun_answer p r stands marks o (status.LogFault log) front whole end =
     ((rose_there r o r.schedule log end.0).1, inr (failed_answer r stands o r.schedule log front end.0 (λ o es. PrintsFailed p r.work r.schedule log o es r.out) end.1))
-begun_answer p r stands marks o status.OutFault front whole end = (end.1, (o, end.0.run, stands o no_log end.0.run, end.2, front))
+begun_answer p r stands marks o status.OutFault front whole end = (end.1, (o, end.0.run, stands o none_failed end.0.run, end.2, front))
 begun_answer p r stands marks o status.TraceFault front whole end = absurd end
 
 -- where nothing is kept nothing is traced
@@ -112,9 +113,9 @@ done_but_traced p r stands marks after (inl (why, none, is)) front then = absurd
     never (ending.Device log) e = cc
     never ending.Memory e = cc
 done_but_traced p r stands marks after (inr (o, end)) front (inl memory) =
-    subst (λ (t : Status). IsAnswerOf p r t) (sym memory) (inr (o, end.0.run, stands o no_log end.0.run, inr (end.1, end.2), front))
+    subst (λ (t : Status). IsAnswerOf p r t) (sym memory) (inr (o, end.0.run, stands o none_failed end.0.run, inr (end.1, end.2), front))
 done_but_traced p r stands marks after (inr (o, end)) front (inr fault) =
-    subst (λ (t : Status). IsAnswerOf p r t) (sym fault.0) (fault.1, (o, end.0.run, stands o no_log end.0.run, ((end.1, all_replied r stands marks o no_log end.0.run end.1), end.2), front))
+    subst (λ (t : Status). IsAnswerOf p r t) (sym fault.0) (fault.1, (o, end.0.run, stands o none_failed end.0.run, ((end.1, all_replied r stands marks o none_failed end.0.run end.1), end.2), front))
 
 is_done : (s : Status) → (s ≡ status.Done) ⊎ (s ≢ status.Done)
 is_done status.Done = inl refl
@@ -138,7 +139,7 @@ answered p r stands marks before after nothing run (inr (front, other, done)) = 
 
 -- a log on which a run begins is not refused, and where none fails no log ends the run
 begun_not_of_logs : (p : Printing) (r : Ran) (records : List (List Record)) (first : Opening) → MayOpen r.work.logs r.work.states r.devices_before r.devices_after records first
-    → (o : Opening) (s : Status) → IsRunEnd p (LeftBy r o) r.work r.schedule o (meant r.kept) r.out s → ¬ IsOfLogs s
+    → (o : Opening) (s : Status) → IsRunEnd p (RunLeft r o) r.work r.schedule o (meant r.kept) r.out s → ¬ IsOfLogs s
 begun_not_of_logs p r records first may o status.Done end of = of
 begun_not_of_logs p r records first may o (status.Usage place) end of = of
 begun_not_of_logs p r records first may o (status.Input line cause) end of = of

@@ -13,7 +13,7 @@ use Rattle.run_journals.specs.Driven.{IsDriven}
 use Rattle.run_journals.specs.declared.stops.Stop.{Stop}
 use Rattle.run_journals.specs.declared.stops.Stop.TheVariants as stop
 use Rattle.run_outputs.specs.Groups.{groups_of, group_behind}
-use Rattle.run_recovery.specs.Runs.{machine_of, no_log, tried_on, IsLeastOf}
+use Rattle.run_recovery.specs.Runs.{machine_of, none_failed, tried_on, IsLeastOf}
 use Rattle.run_recovery.specs.Schedules.{free}
 use Rattle.run_work.specs.Hosts.{HasDriven, IsStopOf, PrintsStopped, PrintsReplies, PrintsUnlessFailed, StopsSo, IsHostEnd}
 use Rattle.run_work.specs.Runs.{reporting, PrintsNext}
@@ -65,7 +65,7 @@ driven w o es old new run logs = record {
 
 -- where no log is shut none failed
 none_driven : (w : Work) (o : Opening) (es : List machine.Event) (old new : List LogState) → IsRun (machine_of w o) es → crew.AreDriven (machine_of w o) es old new → AreAllOpen new
-    → HasDriven w free o es old new no_log
+    → HasDriven w free o es old new none_failed
 none_driven w o es old new run logs ready = record {
   front = run;
   as_many = logs.0;

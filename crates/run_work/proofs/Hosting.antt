@@ -14,7 +14,7 @@ use Rattle.protocol.specs.Fixed.{Fixed}
 use Rattle.protocol_schedule.specs.Draw.{IsFrontOfSeed}
 use Rattle.record_log.specs.Growth.{GrewBy}
 use Rattle.run_outputs.specs.Groups.{groups_of, group_behind}
-use Rattle.run_recovery.specs.Runs.{machine_of, meant, no_log, one_log, tried_on}
+use Rattle.run_recovery.specs.Runs.{machine_of, meant, none_failed, only_failed, tried_on}
 use Rattle.run_recovery.specs.Schedules.{Schedule, seeded, free, IsTakenBy}
 use Rattle.run_work.specs.declared.hosts.Hosted.{Hosted}
 use Rattle.run_work.specs.Hosts.{HasDriven, LeftFailed, IsStopOf, PrintsStopped, PrintsReplies, PrintsUnlessFailed, StopsSo, IsHostEnd, IsCoreOf, IsMade, HasHosted}
@@ -34,10 +34,10 @@ use Rattle.txn_records.specs.declared.records.Record.{Record}
 
 -- the log that one thread stopped at, where it did
 abbrev failed_by : Stop → ℕ → Bool
-failed_by stop.Quiet = no_log
-failed_by (stop.LogFault log) = one_log log
-failed_by stop.OutFault = no_log
-failed_by stop.Memory = no_log
+failed_by stop.Quiet = none_failed
+failed_by (stop.LogFault log) = only_failed log
+failed_by stop.OutFault = none_failed
+failed_by stop.Memory = none_failed
 
 same_tried : (w : Work) (o : Opening) (es : List machine.Event) (why : Stop) (l : ℕ)
     → host.tried_on (machine_of w o) l es why ≡ tried_on (failed_by why) l (group_behind (machine_of w o) l es)
@@ -167,14 +167,14 @@ no_memory summing = refl
 -- what a run left, on open logs or on all devices
 module _ (P Q : (ℕ → Bool) → Type 0) (then : (failed : ℕ → Bool) → P failed → Q failed) (w : Work) (o : Opening) (es : List machine.Event) where
   failed_as : (schedule : Schedule) (log : ℕ) → LeftFailed P w schedule o es log → LeftFailed Q w schedule o es log
-  failed_as (seeded seed) log left = (then (one_log log) left.0, left.1)
+  failed_as (seeded seed) log left = (then (only_failed log) left.0, left.1)
   failed_as free log left = (left.0, left.1, then left.0 left.2, left.3)
 
   stop_as : (schedule : Schedule) (out : Writing) (by : Stop) → IsStopOf P w schedule o es out by → IsStopOf Q w schedule o es out by
-  stop_as schedule out stop.Quiet why = (then no_log why.0, why.1)
+  stop_as schedule out stop.Quiet why = (then none_failed why.0, why.1)
   stop_as schedule out (stop.LogFault log) why = failed_as schedule log why
-  stop_as schedule out stop.OutFault why = (then no_log why.0, why.1)
-  stop_as schedule out stop.Memory why = then no_log why
+  stop_as schedule out stop.OutFault why = (then none_failed why.0, why.1)
+  stop_as schedule out stop.Memory why = then none_failed why
 
   pub left_as : (p : Printing) (schedule : Schedule) (out : Writing) (by : Stop) → IsHostEnd p P w schedule o es out by → IsHostEnd p Q w schedule o es out by
   left_as p schedule out by h = record { why = stop_as schedule out by h.why; printed = h.printed; later = h.later }

@@ -9,7 +9,7 @@ use Rattle.run_recovery.specs.Runs.{meant}
 use Rattle.run_recovery.specs.Schedules.{Schedule}
 use Rattle.run_work.proofs.Hosting.{made_as}
 use Rattle.run_work.proofs.RunDevices.{has_left}
-use Rattle.run_work.specs.Hosts.{HasDriven, HasLeft, IsHosted, IsHostedOn, IsUnbegun}
+use Rattle.run_work.specs.Hosts.{HasDriven, HasLeft, IsHosted, IsHostedOn, IsWithoutRun}
 use Rattle.run_work.specs.Runs.{Printing}
 use Rattle.run_work.specs.Writings.{Writing}
 use Rattle.run_work.specs.declared.hosts.Hosted.{Hosted}
@@ -30,7 +30,7 @@ hosted_on p w schedule o before after others old new replies h states records ad
     }
 
 pub unbegun : (w : Work) (before after : List Device) (why : LogsNo) (states : List State) → states ≡ w.states → IsNoRun w.logs states before after why → AreSafe w.logs states before after
-    → ((records : List (List Record)) (o : Opening) → MayOpen w.logs states before after records o → why ≡ ending.Memory) → IsUnbegun w before after why
+    → ((records : List (List Record)) (o : Opening) → MayOpen w.logs states before after records o → why ≡ ending.Memory) → IsWithoutRun w before after why
 unbegun w before after why states texts none safe complete = record {
   none = subst (λ (ss : List State). IsNoRun w.logs ss before after why) texts none;
   safe = subst (λ (ss : List State). AreSafe w.logs ss before after) texts safe;

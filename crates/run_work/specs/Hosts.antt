@@ -11,7 +11,7 @@ use Rattle.protocol.specs.Fixed.{Fixed}
 use Rattle.run_opening.specs.Opens.{AreSafe, IsNoRun, MayOpen}
 use Rattle.run_journals.specs.Driven.{IsDriven}
 use Rattle.run_outputs.specs.Groups.{groups_of, group_behind}
-use Rattle.run_recovery.specs.Runs.{HasRun, machine_of, meant, no_log, one_log, IsLeastOf, tried_on, IsNext, HasEnded}
+use Rattle.run_recovery.specs.Runs.{HasRun, machine_of, meant, none_failed, only_failed, IsLeastOf, tried_on, GoesOnWith, HasEnded}
 use Rattle.run_recovery.specs.Schedules.{Schedule, seeded, free, IsTakenBy}
 use Rattle.run_work.specs.Runs.{Printing, reporting, summing, replies_by, PrintsNext}
 use Rattle.run_work.specs.Writings.{Writing, IsSilent, Writes}
@@ -46,15 +46,15 @@ pub record HasLeft (w : Work) (schedule : Schedule) (o : Opening) (es : List mac
 -- What it left, where the device of this log failed, if Left tells that by the logs that failed. One thread stops there, at its next
 -- event. With several workers it is the least of those that failed, and the Sync of each of them could come.
 abbrev pub LeftFailed : ((ℕ → Bool) → Type 0) → Work → Schedule → Opening → List machine.Event → ℕ → Type 0
-LeftFailed Left w (seeded seed) o es log = Left (one_log log) × IsNext w (seeded seed) o es (machine.Sync log)
-LeftFailed Left w free o es log = (failed : ℕ → Bool) × IsLeastOf failed log × Left failed × ((l : ℕ) → failed l ≡ true → IsNext w free o es (machine.Sync l))
+LeftFailed Left w (seeded seed) o es log = Left (only_failed log) × GoesOnWith w (seeded seed) o es (machine.Sync log)
+LeftFailed Left w free o es log = (failed : ℕ → Bool) × IsLeastOf failed log × Left failed × ((l : ℕ) → failed l ≡ true → GoesOnWith w free o es (machine.Sync l))
 
 -- what it left, and why it stopped
 abbrev pub IsStopOf : ((ℕ → Bool) → Type 0) → Work → Schedule → Opening → List machine.Event → Writing → Stop → Type 0
-IsStopOf Left w schedule o es out stop.Quiet = Left no_log × HasEnded w o es
+IsStopOf Left w schedule o es out stop.Quiet = Left none_failed × HasEnded w o es
 IsStopOf Left w schedule o es out (stop.LogFault log) = LeftFailed Left w schedule o es log
-IsStopOf Left w schedule o es out stop.OutFault = Left no_log × Rose out.faults_before out.faults_after
-IsStopOf Left w schedule o es out stop.Memory = Left no_log
+IsStopOf Left w schedule o es out stop.OutFault = Left none_failed × Rose out.faults_before out.faults_after
+IsStopOf Left w schedule o es out stop.Memory = Left none_failed
 
 -- the replies; where the output failed several workers too, these and a front of the next one
 abbrev pub PrintsStopped : Printing → Work → Schedule → Opening → List machine.Event → Writing → Type 0
@@ -111,7 +111,7 @@ pub record IsHosted (p : Printing) (w : Work) (schedule : Schedule) (before afte
 
 -- No run began, for this reason, and a crash at any moment loses no record. Where the logs hold records on which a run begins,
 -- and none fails, it is want of memory.
-pub record IsUnbegun (w : Work) (before after : List Device) (why : LogsNo) : Type 0 where
+pub record IsWithoutRun (w : Work) (before after : List Device) (why : LogsNo) : Type 0 where
   pub none : IsNoRun w.logs w.states before after why
   pub safe : AreSafe w.logs w.states before after
   pub complete : (records : List (List Record)) (o : Opening) → MayOpen w.logs w.states before after records o → why ≡ ending.Memory
@@ -119,7 +119,7 @@ pub record IsUnbegun (w : Work) (before after : List Device) (why : LogsNo) : Ty
 -- What a host leaves of a work: what it made of it, or why no run began, and then the output got no call.
 abbrev pub HasHosted : Printing → Work → Schedule → List Device → List Device → Writing → Result Hosted LogsNo → Type 0
 HasHosted p w schedule before after replies (Ok h) = IsHosted p w schedule before after replies h
-HasHosted p w schedule before after replies (Err why) = IsUnbegun w before after why × IsSilent replies
+HasHosted p w schedule before after replies (Err why) = IsWithoutRun w before after why × IsSilent replies
 
 -- its output has not failed at the line of a reply
 abbrev pub HasStood : Result Hosted LogsNo → Type 0

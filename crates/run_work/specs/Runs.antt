@@ -13,7 +13,8 @@ use Rattle.run_opening.specs.Opens.{AreSafe, IsNoRun}
 use Rattle.run_outputs.specs.Lines.{line_in, replies_text, ending_text}
 use Rattle.run_printing.specs.Printed.{traced_line, unanswered, unsure_line}
 use Rattle.run_printing.specs.Summed.{summing_text}
-use Rattle.run_recovery.specs.Runs.{machine_of, meant, no_log, one_log, IsLeastOf, HasRun, IsNext, HasEnded}
+use Rattle.run_recovery.specs.OneRun.{the_run}
+use Rattle.run_recovery.specs.Runs.{machine_of, meant, none_failed, only_failed, IsLeastOf, HasRun, GoesOnWith, HasEnded}
 use Rattle.run_recovery.specs.Schedules.{Schedule, seeded, free}
 use Rattle.run_recovery.specs.Stands.{RunStands}
 use Rattle.run_work.specs.Writings.{Writing, WritesNothing, Writes, WritesBehind, WritesLines}
@@ -65,7 +66,7 @@ PrintsWhole p w o es out = Writes out (replies_by p (machine_of w o) es) ⊎ (Ha
 -- the replies, and a front of the line of the Reply that comes next
 abbrev pub PrintsNext : Printing → Work → Schedule → Opening → List machine.Event → Writing → Type 0
 PrintsNext reporting w schedule o es out =
-    (n : ℕ) × IsNext w schedule o es (machine.Reply n) × WritesBehind out (replies_text (machine_of w o) es) (line_in (reached (machine_of w o) es) n)
+    (n : ℕ) × GoesOnWith w schedule o es (machine.Reply n) × WritesBehind out (replies_text (machine_of w o) es) (line_in (reached (machine_of w o) es) n)
 PrintsNext summing w schedule o es out = ⊥
 
 -- the replies, and the lines of those that have none
@@ -109,7 +110,7 @@ HasNotBegun r why =
 -- of it that come first.
 abbrev pub HasBegun : Ran → (ℕ → Bool) → (Opening → List machine.Event → Type 0) → Type 0
 HasBegun r failed P =
-    (o : Opening) × (run : HasRun r.work r.schedule o (meant r.kept) failed r.devices_before r.devices_after) × RunStands run
+    (o : Opening) × (run : HasRun r.work r.schedule o (meant r.kept) failed r.devices_before r.devices_after) × RunStands (the_run run)
     × P o (meant r.kept) × WritesLines traced_line r.trace [] r.kept
 
 abbrev pub LogRose : Ran → ℕ → Type 0
@@ -117,29 +118,29 @@ LogRose r log = Rose (device_at r.devices_before log).faults (device_at r.device
 
 -- each log that failed is one of the work's, its count rose, and its Sync could come
 abbrev pub EachFailed : Ran → (ℕ → Bool) → Opening → List machine.Event → Type 0
-EachFailed r failed o es = (l : ℕ) → failed l ≡ true → (l < r.work.logs) × LogRose r l × IsNext r.work free o es (machine.Sync l)
+EachFailed r failed o es = (l : ℕ) → failed l ≡ true → (l < r.work.logs) × LogRose r l × GoesOnWith r.work free o es (machine.Sync l)
 
 -- A run began, and ended since the device of this log failed. One thread stops there, at its next event, so no other log failed. With
 -- several workers others may have failed too, and it is the least of them.
 abbrev pub HasFailed : Ran → Schedule → ℕ → (Opening → List machine.Event → Type 0) → Type 0
-HasFailed r (seeded seed) log P = HasBegun r (one_log log) (λ o es. IsNext r.work (seeded seed) o es (machine.Sync log) × P o es)
+HasFailed r (seeded seed) log P = HasBegun r (only_failed log) (λ o es. GoesOnWith r.work (seeded seed) o es (machine.Sync log) × P o es)
 HasFailed r free log P = (failed : ℕ → Bool) × IsLeastOf failed log × HasBegun r failed (λ o es. EachFailed r failed o es × P o es)
 
 abbrev pub IsAnswerOf : Printing → Ran → Status → Type 0
-IsAnswerOf p r status.Done = HasBegun r no_log (λ o es. HasAnswered r.work o es × PrintsAll p r.work o es r.out) × Writes r.trace (trace_of r.kept)
+IsAnswerOf p r status.Done = HasBegun r none_failed (λ o es. HasAnswered r.work o es × PrintsAll p r.work o es r.out) × Writes r.trace (trace_of r.kept)
 IsAnswerOf p r (status.Usage place) = ⊥
 IsAnswerOf p r (status.Input line cause) = ⊥
 IsAnswerOf p r (status.Logs log offset cause) = HasNotBegun r (ending.Refused log offset cause) × WritesNothing r.out
-IsAnswerOf p r status.Memory = (HasNotBegun r ending.Memory × WritesNothing r.out) ⊎ HasBegun r no_log (λ o es. PrintsWhole p r.work o es r.out)
+IsAnswerOf p r status.Memory = (HasNotBegun r ending.Memory × WritesNothing r.out) ⊎ HasBegun r none_failed (λ o es. PrintsWhole p r.work o es r.out)
 IsAnswerOf p r status.ReadFault = ⊥
 IsAnswerOf p r (status.LogFault log) =
     LogRose r log
     × ((HasNotBegun r (ending.Device log) × TellsUnsure p log [] (length r.work.txs) [] r.out)
     ⊎ HasFailed r r.schedule log (λ o es. PrintsFailed p r.work r.schedule log o es r.out))
 IsAnswerOf p r status.OutFault =
-    Rose r.out.faults_before r.out.faults_after × HasBegun r no_log (λ o es. PrintsNext p r.work r.schedule o es r.out ⊎ PrintsEnding p r.work o es r.out)
+    Rose r.out.faults_before r.out.faults_after × HasBegun r none_failed (λ o es. PrintsNext p r.work r.schedule o es r.out ⊎ PrintsEnding p r.work o es r.out)
 IsAnswerOf p r status.TraceFault =
-    Rose r.trace.faults_before r.trace.faults_after × HasBegun r no_log (λ o es. HasAnswered r.work o es × PrintsAll p r.work o es r.out)
+    Rose r.trace.faults_before r.trace.faults_after × HasBegun r none_failed (λ o es. HasAnswered r.work o es × PrintsAll p r.work o es r.out)
 
 -- of the command that prints the report
 abbrev pub IsWorkAnswer : Ran → Status → Type 0

@@ -7,10 +7,10 @@ use Rattle.log_opening.specs.declared.refusals.LogsNo.{LogsNo}
 use Rattle.log_opening.specs.declared.refusals.LogsNo.TheVariants as ending
 use Rattle.protocol.specs.Events as machine
 use Rattle.protocol.specs.Fixed.{Fixed}
-use Rattle.run_recovery.specs.Runs.{meant, no_log, HasEnded}
+use Rattle.run_recovery.specs.Runs.{meant, none_failed, HasEnded}
 use Rattle.run_recovery.specs.Schedules.{Schedule}
 use Rattle.run_printing.specs.Printed.{traced_line}
-use Rattle.run_work.specs.Hosts.{HasLeft, LeftFailed, IsCoreOf, IsUnbegun}
+use Rattle.run_work.specs.Hosts.{HasLeft, LeftFailed, IsCoreOf, IsWithoutRun}
 use Rattle.run_work.specs.Runs.{Printing, ending_by, Ran, PrintsAll, PrintsEnding, PrintsWhole, PrintsNext, PrintsFailed, TellsUnsure}
 use Rattle.run_work.specs.Statuses.{logs_status}
 use Rattle.run_work.specs.declared.hosts.Hosted.{Hosted}
@@ -38,14 +38,14 @@ IsEnding p m es count stop.Memory out s = (s ≡ status.Memory) × WritesNothing
 -- ---- how a run of these events ended, where Left tells what it left on its logs, by those that failed
 
 abbrev pub IsRunEnd : Printing → ((ℕ → Bool) → Type 0) → Work → Schedule → Opening → List machine.Event → Writing → Status → Type 0
-IsRunEnd p Left w schedule o es out status.Done = Left no_log × HasEnded w o es × PrintsAll p w o es out
+IsRunEnd p Left w schedule o es out status.Done = Left none_failed × HasEnded w o es × PrintsAll p w o es out
 IsRunEnd p Left w schedule o es out (status.Usage place) = ⊥
 IsRunEnd p Left w schedule o es out (status.Input line cause) = ⊥
 IsRunEnd p Left w schedule o es out (status.Logs log offset cause) = ⊥
-IsRunEnd p Left w schedule o es out status.Memory = Left no_log × PrintsWhole p w o es out
+IsRunEnd p Left w schedule o es out status.Memory = Left none_failed × PrintsWhole p w o es out
 IsRunEnd p Left w schedule o es out status.ReadFault = ⊥
 IsRunEnd p Left w schedule o es out (status.LogFault log) = LeftFailed Left w schedule o es log × PrintsFailed p w schedule log o es out
-IsRunEnd p Left w schedule o es out status.OutFault = Left no_log × Rose out.faults_before out.faults_after × (PrintsNext p w schedule o es out ⊎ PrintsEnding p w o es out)
+IsRunEnd p Left w schedule o es out status.OutFault = Left none_failed × Rose out.faults_before out.faults_after × (PrintsNext p w schedule o es out ⊎ PrintsEnding p w o es out)
 IsRunEnd p Left w schedule o es out status.TraceFault = ⊥
 
 -- ---- on all devices
@@ -59,18 +59,18 @@ IsToldUnbegun p count ending.Memory out = WritesNothing out
 -- no run began, for this reason
 pub record IsNoBeginning (p : Printing) (r : Ran) (why : LogsNo) : Type 0 where
   pub kept : r.kept ≡ []
-  pub none : IsUnbegun r.work r.devices_before r.devices_after why
+  pub none : IsWithoutRun r.work r.devices_before r.devices_after why
   pub told : IsToldUnbegun p (length r.work.txs) why r.out
 
 -- what a run left on its logs
-abbrev pub LeftBy : Ran → Opening → (ℕ → Bool) → Type 0
-LeftBy r o failed = HasLeft r.work r.schedule o (meant r.kept) r.devices_before r.devices_after failed
+abbrev pub RunLeft : Ran → Opening → (ℕ → Bool) → Type 0
+RunLeft r o failed = HasLeft r.work r.schedule o (meant r.kept) r.devices_before r.devices_after failed
 
 -- How a run of a work ended before its trace is written: none began, or one began and ended.
 abbrev pub IsUntraced : Printing → Ran → Status → Type 0
 IsUntraced p r s =
     ((why : LogsNo) × IsNoBeginning p r why × (s ≡ logs_status why))
-    ⊎ ((o : Opening) × IsRunEnd p (LeftBy r o) r.work r.schedule o (meant r.kept) r.out s)
+    ⊎ ((o : Opening) × IsRunEnd p (RunLeft r o) r.work r.schedule o (meant r.kept) r.out s)
 
 -- ---- the trace
 

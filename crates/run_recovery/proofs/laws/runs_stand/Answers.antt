@@ -11,6 +11,7 @@ use Rattle.protocol_verdicts.specs.Evidence.{VerdictsStand}
 use Rattle.protocol_verdicts.specs.EvidenceSerial.{VerdictsTell}
 use Rattle.run_recovery.specs.Crashes.{Recovers}
 use Rattle.run_recovery.specs.EachRun.{AfterEachRun, OfEachRun}
+use Rattle.run_recovery.specs.OneRun.{the_run}
 use Rattle.run_recovery.proofs.laws.runs_stand.Goals as goal
 
 pub returns : goal.returns
@@ -27,8 +28,8 @@ returns c w schedule o es failed before after same limits run =
       codes = own (λ q. OfEachRun q VerdictsTell) c.runs_are_as_meant.ensures.codes w schedule o es failed before after refl limits run;
       numbers = own (λ q. AfterEachRun q NumbersStand) c.runs_are_as_meant.ensures.numbers w schedule o es failed before after refl limits run;
       ends = own (λ q. OfEachRun q RunsEnd) c.runs_are_as_meant.ensures.ends w schedule o es failed before after refl limits run;
-      begins = λ images crash. c.beginnings_are_recovered.ensures w o es failed before after limits run.devices images crash;
-      recovers = λ m images crash. subst (λ (q : List CheckedMethod). Recovers q run.devices m images) (sym same)
+      begins = λ images crash. c.beginnings_are_recovered.ensures (the_run run) images limits crash;
+      recovers = λ m images crash. subst (λ (q : List CheckedMethod). Recovers q (the_run run) m images) (sym same)
           (c.runs_are_recovered.ensures w schedule o es failed before after same limits run m images crash);
-      goes_on = λ m images r. c.crashed_runs_go_on.ensures w.program w o es failed before after limits run.devices m images r;
+      goes_on = λ m images left. c.crashed_runs_go_on.ensures w.program (the_run run) m images limits left;
     }
