@@ -4,10 +4,14 @@ ghost use Rattle.run_work.specs.Calls.{CallState, call_of};
 use snap_outside::{LogDev, Sink};
 use std::marker::Model;
 
-/// What a call is handed, and what it gives back: the devices on which its logs lie, its output and its trace.
+/// What a call is handed, and what it gives back. A contract sees the devices and the trace themselves, and what the devices, the
+/// output and the trace tell.
 pub struct Call<D: LogDev, O: Sink, T: Sink> {
+    /// The devices on which the logs lie, log 0 on the first. A run asks for four, whatever the number of its logs.
     pub logs: Vec<D>,
+    /// The sink that gets what is printed.
     pub out: O,
+    /// The sink that gets a line for each event that was taken, at the end.
     pub trace: T,
 }
 

@@ -1,4 +1,4 @@
-//! How a call ends: what comes behind the replies, and the trace.
+//! How a call ends: what is printed behind the replies, the trace, and the status.
 ghost use Rattle.std.specs.Prelude.{◌≡◌, ◌≢◌, ◌≤◌, ℕ, [], map, true, IfSome, IfOk, IsErrOf, OnOk, OnErr};
 ghost use Rattle.aml_slice.specs.Controls.{Rest};
 ghost use Rattle.core_events.specs.Meant.{event_meant};
@@ -209,7 +209,8 @@ fn not_begun<O: Sink>(alloc: Global, told: Told, no: LogsNo, count: u32, out: &m
     status_of(no)
 }
 
-/// How a call ends whose logs are refused, or not opened.
+/// How a call ends in which no run began: `Logs` with the place and the cause where a log is refused, `LogFault` where a device
+/// failed, `Memory` where there was none.
 pub fn status_of(no: LogsNo) -> Status
     ensures { result ≡ logs_status no }
 {
