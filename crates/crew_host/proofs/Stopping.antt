@@ -5,8 +5,9 @@ use Rattle.crew_ends.specs.Ends.{AreBeside, log_at}
 use Rattle.crew_host.specs.Drives.{AreAllOpen, IsCrewStop}
 use Rattle.crew_host.specs.Stops.{IsStopBy}
 use Rattle.crew_parts.specs.Besides.{is_shut_there, has_failed_there}
+use Rattle.crew_parts.specs.Devices.{is_shut, is_shut_at}
 use Rattle.crew_parts.specs.Shares.{OutputState, ShareState}
-use Rattle.crew_workers.specs.Ends.{IsFault, AllOpen, is_shut_at, is_shut_in, has_failed, has_failed_in}
+use Rattle.crew_workers.specs.Ends.{IsFault, AllOpen, has_failed_beside, output_has_failed}
 use Rattle.crew_workers.specs.declared.ends.Fault.{Fault}
 use Rattle.crew_workers.specs.declared.ends.Fault.TheVariants as fault
 use Rattle.gate_log.specs.State.{LogState}
@@ -15,6 +16,7 @@ use Rattle.protocol.specs.Fixed.{Fixed}
 use Rattle.protocol.specs.Parts.{Machine}
 use Rattle.protocol.specs.Runs.{IsQuiet}
 use Rattle.protocol.specs.Schedule.{IsEnabled}
+use Rattle.protocol.specs.Words.{holds}
 use Rattle.run_journals.specs.declared.stops.Stop.{Stop}
 
 -- where nothing is enabled all is quiet
@@ -39,12 +41,12 @@ shut_as : (logs : List LogState) (out : OutputState) (xs : List ShareState) (l :
     → is_shut_at xs l ≡ (log_at logs l).shut
 shut_as logs out xs l beside many lt =
     let x = there xs (log l) (omega (arith, many, lt)) in
-    ap is_shut_in x.1 ∙ ap is_shut_there (beside.logs l x.0 lt x.1 ∙ at_place logs l _ lt)
+    ap (holds is_shut) x.1 ∙ ap is_shut_there (beside.logs l x.0 lt x.1 ∙ at_place logs l _ lt)
 
-failed_as : (logs : List LogState) (out : OutputState) (xs : List ShareState) → AreBeside logs out xs → 4 ≤ length xs → has_failed xs ≡ out.failed
+failed_as : (logs : List LogState) (out : OutputState) (xs : List ShareState) → AreBeside logs out xs → 4 ≤ length xs → output_has_failed xs ≡ out.failed
 failed_as logs out xs beside many =
     let x = there xs desk (omega (arith, many)) in
-    ap has_failed_in x.1 ∙ ap has_failed_there (beside.desk x.0 x.1)
+    ap (holds has_failed_beside) x.1 ∙ ap has_failed_there (beside.desk x.0 x.1)
 
 all_open : (logs : List LogState) (out : OutputState) (xs : List ShareState) (n : ℕ) → AreBeside logs out xs → 4 + length logs ≤ length xs → length logs ≡ n → AllOpen n xs → AreAllOpen logs
 all_open logs out xs n beside many same ready l lt = sym (shut_as logs out xs l beside many lt) ∙ ready l (omega (arith, lt, same))

@@ -8,7 +8,7 @@ ghost use Rattle.crew_host.specs.Drives.{IsCrewStop};
 ghost use Rattle.crew_host.specs.Stops.{IsStopBy};
 ghost use Rattle.crew_parts.specs.Crews.{Begins, HasCome, OutputIs, kept};
 ghost use Rattle.crew_parts.specs.Shares.{ShareState, output_seen};
-ghost use Rattle.crew_workers.specs.declared.crews.TheConstants.{MOST_WORKERS};
+ghost use Rattle.snap_work.specs.declared.limits.TheConstants.{MOST_WORKERS};
 ghost use Rattle.protocol.specs.Events as machine;
 ghost use Rattle.run_journals.specs.declared.stops.Stop.TheVariants as stop;
 ghost use Rattle.snap_core.specs.Cores.{IsAt};
@@ -18,7 +18,7 @@ use crate::happened::happened;
 use core_events::Event;
 use crew_ends::{Beginning, Ended, Room, core_of, crews_drive, shares_of};
 use crew_parts::{Share, acts_are_runs};
-use crew_workers::{Ending, Fault, MOST_WORKERS, fault_of, run_crew};
+use crew_workers::{Ending, Fault, Hiring, fault_of, run_crew};
 use gate_log::{FARTHEST_END, Log};
 use run_journals::{Stop, appends_drive};
 use snap_base::Memory;
@@ -117,7 +117,13 @@ fn run_or_stay<
     ensures come { HasCome (fixed_of tables) shares.items (kept result.acts.items) result.shares.items }
 {
     acts_are_runs(&tables);
-    match run_crew(rt, alloc, tables, shares, gate, workers) {
+    let hiring = Hiring {
+        rt,
+        alloc,
+        gate,
+        workers,
+    };
+    match run_crew(&hiring, tables, shares) {
         Ok(ending) => ending,
         Err((tables, shares, Memory)) => Ending {
             tables,

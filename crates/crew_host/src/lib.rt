@@ -6,5 +6,5 @@
 mod drives;
 mod happened;
 
-pub use crew_workers::MOST_WORKERS;
 pub use drives::{CrewEnd, drive_crew};
+pub use snap_work::MOST_WORKERS;

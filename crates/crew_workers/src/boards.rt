@@ -1,16 +1,16 @@
 //! What the workers of a crew tell each other, besides the parts. All of it is hints: what a worker does it asks for first, with the
-//! parts at hand.
+//! parts at hand. So a hint for which there is no memory is left out, and a look finds the event again.
 ghost use Rattle.std.specs.Prelude.{◌≤◌};
 
 use crate::finds::{Finds, take_first};
-use core_events::{Event, Footprint, footprint};
+use crate::kinds::{Kind, kind_of};
+use core_events::{Event, FIRST_LOG, Footprint, footprint, part_of_log};
 use ready_list::ReadyList;
-use snap_base::Memory;
 use std::alloc::Global;
 use std::sync::atomic::{AtomicU64, Ordering};
 use std::sync::{Mutex, MutexGuard, Wait};
-use std::thread;
 use std::time::Duration;
+use std::{hint, thread};
 
 /// How often a worker that has nothing to do yields before it sleeps.
 const YIELDS: u64 = 64;
@@ -23,9 +23,14 @@ const LONGEST_NAP: u64 = 10;
 /// How often a list is tried that another worker has. It has it for as long as a few of these tries take.
 const TRIES: usize = 32;
 
+/// So many events that wait for a Sync, for each log, are worth one.
+const GROUP: usize = 64;
+
 /// A board that all workers of a crew read and write.
 #[derive(Drop)]
 pub struct Board {
+    /// How many logs there are.
+    logs: u8,
     /// Runs for whoever comes first.
     runs: Mutex<ReadyList>,
     /// What waits for a Sync.
@@ -34,10 +39,23 @@ pub struct Board {
     blocked: Mutex<ReadyList>,
     /// By the number of a part, 1 where an event touched it since a look had it.
     touched: Vec<AtomicU64>,
-    /// 1 while a worker looks, and until it has tried what it found.
+    /// 1 while a worker has the lead.
     looking: AtomicU64,
     /// 1 once a worker has ended.
     ended: AtomicU64,
+    ghost some: { 1 ≤ logs },
+}
+
+/// The lead: who has it looks, and tries what it found, and no other worker looks meanwhile. It is given back when it is dropped.
+pub(crate) struct Lead<'a> {
+    board: &'a Board,
+}
+
+impl<'a> Drop for Lead<'a> {
+    fn drop(self) {
+        let Lead { board } = self;
+        board.looking.store(0, Ordering::SeqCst);
+    }
 }
 
 /// So many words that are 1, as far as there is memory for them.
@@ -58,6 +76,7 @@ fn open(list: &Mutex<ReadyList>) -> Option<MutexGuard<'_, ReadyList>> {
         if opened.is_some() {
             return opened;
         }
+        hint::spin_loop();
     }
     None
 }
@@ -73,45 +92,34 @@ fn put_in(list: &Mutex<ReadyList>, e: Event) -> usize {
     list.count()
 }
 
-/// Whether the event, where there are so many logs, has this part.
-pub(crate) fn has_part(e: Event, part: usize, logs: u8) -> bool
-    requires { 1 ≤ logs }
-{
-    let parts = footprint(e, logs);
+/// Whether one of these parts is a log or a cell. Who has such a part may have it for as long as a sync or a slice takes.
+fn has_long(parts: &Footprint) -> bool {
     for i in 0..parts.len() {
-        if parts.part(i) == part {
+        if parts.part(i) >= FIRST_LOG {
             return true;
         }
     }
     false
 }
 
-/// What has this part, where there are so many logs, stands in the list no more, and is left to try, but for the event that was tried.
-/// Where there is no memory for that, it stays.
-fn take_from(list: &Mutex<ReadyList>, finds: &mut Finds, part: usize, logs: u8, tried: Event)
-    requires { 1 ≤ logs }
-{
-    let Some(mut list) = open(list) else {
-        return;
-    };
-    let count = list.count();
-    for i in 0..count {
-        match list.nth(count - 1 - i) {
-            Some(e) if has_part(e, part, logs) => {
-                if e == tried || finds.put(e).is_ok() {
-                    list.take(e);
-                }
-            }
-            _ => {}
+/// Whether a log or a cell is among both.
+fn share_long(parts: &Footprint, others: &Footprint) -> bool {
+    for i in 0..parts.len() {
+        if parts.part(i) >= FIRST_LOG && others.has(parts.part(i)) {
+            return true;
         }
     }
+    false
 }
 
 impl Board {
-    /// A board for so many parts, none of which a look had yet. Where there is no memory for a part's word, it is taken for
-    /// touched always.
-    pub fn new(alloc: Global, parts: usize) -> Self {
+    /// A board for so many parts, none of which a look had yet, and of which so many are logs. Where there is no memory for a
+    /// part's word, it is taken for touched always.
+    pub fn new(alloc: Global, parts: usize, logs: u8) -> Self
+        requires { 1 ≤ logs }
+    {
         Board {
+            logs,
             runs: Mutex::new(ReadyList::new(alloc)),
             unsynced: Mutex::new(ReadyList::new(alloc)),
             blocked: Mutex::new(ReadyList::new(alloc)),
@@ -121,12 +129,13 @@ impl Board {
         }
     }
 
-    /// An event that was found: a Run is for whoever comes first, and all else is left to who found it. `Memory` leaves it out.
-    pub fn keep(&self, finds: &mut Finds, e: Event) -> Result<(), Memory> {
-        match e {
-            Event::Run(_, _) if self.post_run(e) => Ok(()),
-            _ => finds.put(e),
+    /// An event that was found: a Run is for whoever comes first, and all else is left to who found it. False where there was no
+    /// memory for it.
+    pub fn keep(&self, finds: &mut Finds, e: Event) -> bool {
+        if kind_of(e) == Kind::Slice && self.post_run(e) {
+            return true;
         }
+        finds.put(e)
     }
 
     /// A Run for whoever comes first. False where there was no room for it, or another worker had the list.
@@ -141,22 +150,28 @@ impl Board {
         true
     }
 
-    /// The first Run, which stands here no more; nothing where another worker had the list.
+    /// The first Run, which stands here no more; `None` where there is none, or another worker had the list.
     pub fn take_run(&self) -> Option<Event> {
         let mut runs = open(&self.runs)?;
         take_first(&mut runs)
     }
 
-    /// An event that waits for a Sync. How many do.
-    pub fn wait(&self, e: Event) -> usize {
-        put_in(&self.unsynced, e)
+    /// An event that waits for a Sync. Where much waits, Syncs of the event's logs are left to try.
+    pub fn wait(&self, finds: &mut Finds, e: Event) {
+        if put_in(&self.unsynced, e) < GROUP * self.logs as usize {
+            return;
+        }
+        let parts = footprint(e, self.logs);
+        for l in 0..self.logs {
+            if parts.has(part_of_log(l)) {
+                let _kept = finds.put(Event::Sync(l));
+            }
+        }
     }
 
-    /// The log with this number among the parts was synced, by this event: what waited for that is left to try.
-    pub fn end_wait(&self, finds: &mut Finds, part: usize, logs: u8, done: Event)
-        requires { 1 ≤ logs }
-    {
-        take_from(&self.unsynced, finds, part, logs, done);
+    /// The log of this Sync, which has these parts, was synced: what waited for that is left to try.
+    pub fn end_wait(&self, finds: &mut Finds, parts: &Footprint, sync: Event) {
+        self.take_from(&self.unsynced, finds, parts, sync);
     }
 
     /// An event that lacked a part that another worker had for long. Whether it did not stand here yet: then it is to be tried once more,
@@ -172,11 +187,34 @@ impl Board {
         before < blocked.count()
     }
 
-    /// The part was given back behind this event, done or refused: what lacked it is left to try.
-    pub fn unblock(&self, finds: &mut Finds, part: usize, logs: u8, tried: Event)
-        requires { 1 ≤ logs }
-    {
-        take_from(&self.blocked, finds, part, logs, tried);
+    /// These parts were given back behind this event, done or refused: what lacked a log or a cell among them is left to try. Who
+    /// finds such a part held stands here before it tries again, so one of the two sees the other.
+    pub fn unblock(&self, finds: &mut Finds, parts: &Footprint, tried: Event) {
+        if has_long(parts) {
+            self.take_from(&self.blocked, finds, parts, tried);
+        }
+    }
+
+    /// What shares a log or a cell with these parts stands in the list no more, and is left to try, but for the event that was tried.
+    /// Where there is no memory for that, it stays; and all stays where another worker has the list.
+    fn take_from(
+        &self,
+        list: &Mutex<ReadyList>,
+        finds: &mut Finds,
+        parts: &Footprint,
+        tried: Event,
+    ) {
+        let Some(mut list) = open(list) else {
+            return;
+        };
+        let count = list.count();
+        for i in 0..count {
+            if let Some(e) = list.nth(count - 1 - i) {
+                if share_long(parts, &footprint(e, self.logs)) && (e == tried || finds.put(e)) {
+                    list.take(e);
+                }
+            }
+        }
     }
 
     /// All parts of a look were given back: what lacked one is left to try.
@@ -186,7 +224,7 @@ impl Board {
         };
         for _event in 0..blocked.count() {
             if let Some(e) = take_first(&mut blocked) {
-                let _left = finds.put(e);
+                let _kept = finds.put(e);
             }
         }
     }
@@ -217,14 +255,13 @@ impl Board {
         }
     }
 
-    /// Whether this worker may look: no other one does.
-    pub fn begin_look(&self) -> bool {
-        self.looking.swap(1, Ordering::SeqCst) == 0
-    }
-
-    /// Another worker may look.
-    pub fn end_look(&self) {
-        self.looking.store(0, Ordering::SeqCst);
+    /// The lead, unless a worker has it.
+    pub(crate) fn lead(&self) -> Option<Lead<'_>> {
+        if self.looking.swap(1, Ordering::SeqCst) == 0 {
+            Some(Lead { board: self })
+        } else {
+            None
+        }
     }
 
     /// Whether a worker has ended.

@@ -1,24 +1,21 @@
 //! What a crew ends with.
 ghost use Rattle.std.specs.Prelude.{◌≡◌, ◌+◌, All, IfErr, IfOk, flat_map, sum_by, vec_len};
 ghost use Rattle.crew_grip.specs.Grips.{IsCrew};
-ghost use Rattle.crew_workers.specs.Ends.{IsFault, has_failed, is_shut_at};
+ghost use Rattle.crew_workers.specs.Ends.{IsFault, output_has_failed};
 ghost use Rattle.crew_parts.specs.Crews.{HasCome, kept};
+ghost use Rattle.crew_parts.specs.Devices.{is_shut_at};
 ghost use Rattle.snap_hand.specs.Tables.{fixed_of};
 ghost use Rattle.turn_table.specs.Places.{Records};
 ghost use Rattle.turn_table.specs.Words.{HoldsNothing, IsOf, opening_of, splits_of, tables_of};
 ghost use Rattle.turn_table.specs.declared.limits.TheConstants.{PASSES};
 
+use core_events::{DESK, part_of_log};
 use crew_parts::{Act, Share, acts_are_runs};
 use snap_base::Memory;
 use snap_hand::Tables;
 use snap_outside::{LogDev, Sink};
 use std::alloc::Global;
 use turn_table::{Pass, Turns};
-
-/// The number of the desk among the parts, and that of the first log.
-const DESK: usize = 3;
-
-const FIRST_LOG: usize = 4;
 
 /// What a crew ended with: the tables, the shares in the order of their numbers, and what was done, in the order in which it
 /// was recorded.
@@ -70,7 +67,7 @@ pub enum Fault {
 fn is_shut_at<D: LogDev, O: Sink>(shares: &[Share<D, O>], l: u8) -> bool
     ensures { result ≡ is_shut_at shares.now l }
 {
-    match shares.get(FIRST_LOG + l as usize) {
+    match shares.get(part_of_log(l)) {
         Some(share) => share.beside().is_shut(),
         None => false,
     }
@@ -78,7 +75,7 @@ fn is_shut_at<D: LogDev, O: Sink>(shares: &[Share<D, O>], l: u8) -> bool
 
 /// Whether the output has failed.
 fn has_failed<D: LogDev, O: Sink>(shares: &[Share<D, O>]) -> bool
-    ensures { result ≡ has_failed shares.now }
+    ensures { result ≡ output_has_failed shares.now }
 {
     match shares.get(DESK) {
         Some(share) => share.beside().has_failed(),

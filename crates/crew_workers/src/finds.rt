@@ -1,11 +1,8 @@
 //! What a worker found, and has left to try.
+use crate::kinds::{Kind, kind_of};
 use core_events::Event;
 use ready_list::ReadyList;
-use snap_base::Memory;
 use std::alloc::Global;
-
-/// How many transactions are submitted in a row. Between two rows the batches of the first are under way.
-pub(crate) const SUBMITS_IN_A_ROW: u32 = 256;
 
 /// Events that a worker has left to try, each once: first those that lead to Runs or are on an actor, then those by which batches
 /// and ACTs come and go, then replies, for which nothing waits. Among each of these they stand in the order in which a host takes them.
@@ -26,31 +23,21 @@ impl Finds {
         }
     }
 
-    /// One event more. `Memory` leaves it out.
-    pub fn put(&mut self, e: Event) -> Result<(), Memory> {
-        let list = match e {
-            Event::Reply(_) => &mut self.replies,
-            Event::Submit(_)
-            | Event::Pass(_)
-            | Event::Form(_)
-            | Event::Admit(_)
-            | Event::Sync(_)
-            | Event::Note(_, _)
-            | Event::Commit(_)
-            | Event::Settle(_)
-            | Event::Vouch(_, _)
-            | Event::Decide(_)
-            | Event::Seal(_)
-            | Event::Finish(_, _)
-            | Event::Trim(_, _) => &mut self.far,
-            _ => &mut self.near,
+    /// One event more, unless it stands there. False where there was no memory for it: then it is left out.
+    pub fn put(&mut self, e: Event) -> bool {
+        let list = match kind_of(e) {
+            Kind::Slice | Kind::Near | Kind::Abort => &mut self.near,
+            Kind::Far | Kind::Sync => &mut self.far,
+            Kind::Reply => &mut self.replies,
         };
-        list.room(1)?;
+        if list.room(1).is_err() {
+            return false;
+        }
         list.put(e);
-        Ok(())
+        true
     }
 
-    /// The first of them, which is left no more.
+    /// The first of them, which is left no more; `None` where there is none.
     pub fn next(&mut self) -> Option<Event> {
         take_first(&mut self.near)
             .or_else(|| take_first(&mut self.far))
@@ -58,7 +45,7 @@ impl Finds {
     }
 }
 
-/// The first event, which is taken out.
+/// The first event, which is taken out; `None` where there is none.
 pub(crate) fn take_first(list: &mut ReadyList) -> Option<Event> {
     let e = list.nth(0)?;
     list.take(e);

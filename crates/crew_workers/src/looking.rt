@@ -6,30 +6,16 @@ ghost use Rattle.snap_hand.specs.Hands.{IsHandOf};
 ghost use Rattle.snap_hand.specs.Tables.{AreTables, fixed_of};
 ghost use Rattle.turn_table.specs.Words.{HoldsNothing, splits_of};
 
-use crate::boards::Board;
 use crate::finds::Finds;
-use crate::follows::{list_coming, list_live_answers};
-use crate::numbers::{FIRST_LOG, RING};
-use core_events::Event;
+use crate::follows::{AtHand, list_coming, list_live_answers};
+use crate::leaders::Scope;
+use crate::sharing::Crew;
+use crate::workers::Worker;
+use core_events::{Event, RING, first_cell};
 use crew_grip::Grip;
-use crew_parts::Share;
 use hand_offers::{actor_count, list_book, list_cells, list_desk, list_post, list_ring};
 use snap_base::{ActorId, Memory};
-use snap_hand::{Hand, Tables};
-use snap_outside::{LogDev, Sink};
-use std::alloc::Global;
-use turn_table::{Pass, Turns};
-
-/// How much a look takes, and what it lists.
-#[derive(Clone, Copy, Debug, PartialEq, Eq)]
-pub enum Scope {
-    /// All but the cells that no event touched since a look had them. What lies at actors, comes there, or is next of the ring.
-    Narrow,
-    /// All parts, and all but replies of PACTs; one Sync, where nothing else is found.
-    Full,
-    /// All parts, and all that is allowed there. Replies that wait may be many, and are listed here alone.
-    Wide,
-}
+use snap_outside::{Gate, LogDev, Sink};
 
 /// What a look saw.
 #[derive(Clone, Copy, Debug, PartialEq, Eq)]
@@ -40,199 +26,189 @@ pub enum Seen {
     Nothing { all: bool },
     /// Another worker has the ring.
     Busy,
-    /// There was no memory.
+    /// There was no memory, and nothing to try could be kept.
     Memory,
 }
 
-/// Looks at the parts that are free, as far as the scope goes. What it finds is left to try, and what lacked a part behind that.
-pub fn look<D: LogDev + Drop, O: Sink + Drop>(
-    alloc: Global,
-    turns: &Turns<Share<D, O>>,
-    pass: &mut Pass<Share<D, O>>,
-    grip: &mut Grip<D, O>,
-    board: &Board,
-    finds: &mut Finds,
-    scope: Scope,
-) -> Seen
-    requires crew { IsCrew turns.now }
-    requires work { IsAtWork turns.now pass.old.seat grip.old }
-    ensures work { IsAtWork turns.now pass.new.seat grip.new }
-    ensures idle { HoldsNothing pass.new.seat }
-    ensures rest { (pass.new.entries ≡ pass.old.entries) × (splits_of pass.new.seat ≡ splits_of pass.old.seat) }
-{
-    let seen = match take_free(turns, pass, grip, board, scope) {
-        Some(all) => seen_with(alloc, turns, grip, board, finds, scope, all),
-        None => Seen::Busy,
-    };
-    grip.give_all(turns, pass);
-    board.unblock_all(finds);
-    seen
+/// What was found.
+#[derive(Clone, Copy, Debug, PartialEq, Eq)]
+enum Found {
+    /// Something that is left to try.
+    Something,
+    Nothing,
+    /// Nothing is left to try, and for something there was no memory.
+    Memory,
 }
 
-/// Takes the parts that are free, by one try each, and of the cells only those in the scope. Whether these are all; `None` where
-/// another worker has the ring.
-fn take_free<D: LogDev + Drop, O: Sink + Drop>(
-    turns: &Turns<Share<D, O>>,
-    pass: &mut Pass<Share<D, O>>,
-    grip: &mut Grip<D, O>,
-    board: &Board,
-    scope: Scope,
-) -> Option<bool>
-    requires crew { IsCrew turns.now }
-    requires work { IsAtWork turns.now pass.old.seat grip.old }
-    ensures work { IsAtWork turns.now pass.new.seat grip.new }
-    ensures rest { (pass.new.entries ≡ pass.old.entries) × (splits_of pass.new.seat ≡ splits_of pass.old.seat) }
-{
-    let first_cell = FIRST_LOG + turns.tables().work.logs as usize;
-    let mut all = true;
-    for part in 0..turns.part_count() {
-        if part >= first_cell && scope == Scope::Narrow && !board.is_touched(part) {
-            all = false;
-        } else if grip.take(turns, pass, part) {
-            board.is_looked_at(part);
+impl Found {
+    /// Behind one event more that is allowed, which was kept, or for which there was no memory.
+    fn with_one(self, kept: bool) -> Found {
+        if kept || self == Found::Something {
+            Found::Something
         } else {
-            if part == RING {
-                return None;
+            Found::Memory
+        }
+    }
+
+    /// Where perhaps not all was listed, for want of memory.
+    fn as_listed(self, all: bool) -> Found {
+        if all || self == Found::Something {
+            self
+        } else {
+            Found::Memory
+        }
+    }
+}
+
+impl<'a, D: LogDev + Drop, O: Sink + Drop, G: Gate> Crew<'a, D, O, G> {
+    /// Looks at the parts that are free, as far as the scope goes. What it finds is left to try, and what lacked a part behind that.
+    pub fn look(&self, worker: &mut Worker<D, O>, scope: Scope) -> Seen
+        requires crew { IsCrew self.now.turns.now }
+        requires work { IsAtWork self.now.turns.now worker.old.pass.seat worker.old.grip }
+        ensures work { IsAtWork self.now.turns.now worker.new.pass.seat worker.new.grip }
+        ensures idle { HoldsNothing worker.new.pass.seat }
+        ensures rest { (worker.new.pass.entries ≡ worker.old.pass.entries) × (splits_of worker.new.pass.seat ≡ splits_of worker.old.pass.seat) }
+    {
+        let taken = self.take_free(worker, scope);
+        let Worker { pass, grip, finds } = worker;
+        let seen = match taken {
+            Some(all) => seen_of(self.find(grip, finds, scope), all),
+            None => Seen::Busy,
+        };
+        grip.give_all(self.turns, pass);
+        self.board.unblock_all(finds);
+        seen
+    }
+
+    /// Takes the parts that are free, by one try each, and of the cells only those in the scope. Whether these are all; `None` where
+    /// another worker has the ring.
+    fn take_free(&self, worker: &mut Worker<D, O>, scope: Scope) -> Option<bool>
+        requires crew { IsCrew self.now.turns.now }
+        requires work { IsAtWork self.now.turns.now worker.old.pass.seat worker.old.grip }
+        ensures work { IsAtWork self.now.turns.now worker.new.pass.seat worker.new.grip }
+        ensures rest { (worker.new.pass.entries ≡ worker.old.pass.entries) × (splits_of worker.new.pass.seat ≡ splits_of worker.old.pass.seat) }
+    {
+        let cells = first_cell(self.turns.tables().work.logs);
+        let mut all = true;
+        for part in 0..self.turns.part_count() {
+            if part >= cells && scope == Scope::Narrow && !self.board.is_touched(part) {
+                all = false;
+            } else if worker.grip.take(self.turns, &mut worker.pass, part) {
+                self.board.is_looked_at(part);
+            } else {
+                if part == RING {
+                    return None;
+                }
+                all = false;
             }
-            all = false;
+        }
+        Some(all)
+    }
+
+    /// Finds what is allowed of what the parts at hand list, as far as the scope goes; where there is nothing else, a Sync.
+    fn find(&self, grip: &Grip<D, O>, finds: &mut Finds, scope: Scope) -> Found
+        requires crew { IsCrew self.now.turns.now }
+        requires held { IsHeldNow self.now.turns.now grip.now }
+    {
+        let found = match scope {
+            Scope::Narrow | Scope::Full => self.find_listed(grip, finds, scope),
+            Scope::Wide => self.find_all(grip, finds),
+        };
+        if found == Found::Nothing && scope != Scope::Narrow {
+            self.find_sync(grip, finds)
+        } else {
+            found
         }
     }
-    Some(all)
+
+    /// Finds what is allowed of what the parts at hand list, but Syncs and replies of PACTs.
+    fn find_listed(&self, grip: &Grip<D, O>, finds: &mut Finds, scope: Scope) -> Found
+        requires crew { IsCrew self.now.turns.now }
+        requires held { IsHeldNow self.now.turns.now grip.now }
+    {
+        let at = AtHand {
+            alloc: self.alloc,
+            tables: self.turns.tables(),
+            hand: grip.hand(),
+        };
+        let mut listed = Vec::new(self.alloc);
+        let all = list_hand(&at, scope, &mut listed).is_ok();
+        let mut found = Found::Nothing;
+        for e in &listed {
+            if grip.may_do(self.turns, *e) {
+                found = found.with_one(self.board.keep(finds, *e));
+            }
+        }
+        found.as_listed(all)
+    }
+
+    /// Finds all that is allowed with the parts at hand, but Syncs.
+    fn find_all(&self, grip: &Grip<D, O>, finds: &mut Finds) -> Found
+        requires crew { IsCrew self.now.turns.now }
+        requires held { IsHeldNow self.now.turns.now grip.now }
+    {
+        let Ok(list) = grip.offers(self.alloc, self.turns) else {
+            return Found::Memory;
+        };
+        let mut found = Found::Nothing;
+        for i in 0..list.count() {
+            match list.nth(i) {
+                None => {}
+                Some(Event::Sync(_)) => {}
+                Some(e) => found = found.with_one(self.board.keep(finds, e)),
+            }
+        }
+        found
+    }
+
+    /// Finds the first Sync that is allowed.
+    fn find_sync(&self, grip: &Grip<D, O>, finds: &mut Finds) -> Found
+        requires crew { IsCrew self.now.turns.now }
+        requires held { IsHeldNow self.now.turns.now grip.now }
+    {
+        for l in 0..self.turns.tables().work.logs {
+            if grip.may_do(self.turns, Event::Sync(l)) {
+                return Found::Nothing.with_one(finds.put(Event::Sync(l)));
+            }
+        }
+        Found::Nothing
+    }
 }
 
-/// What is seen with the parts that are held.
-fn seen_with<D: LogDev + Drop, O: Sink + Drop>(
-    alloc: Global,
-    turns: &Turns<Share<D, O>>,
-    grip: &Grip<D, O>,
-    board: &Board,
-    finds: &mut Finds,
-    scope: Scope,
-    all: bool,
-) -> Seen
-    requires crew { IsCrew turns.now }
-    requires held { IsHeldNow turns.now grip.now }
-{
-    let found = match scope {
-        Scope::Narrow | Scope::Full => find(alloc, turns, grip, board, finds, scope),
-        Scope::Wide => find_all(alloc, turns, grip, board, finds),
-    };
+/// What a look saw that had all parts or not, by what it found.
+fn seen_of(found: Found, all: bool) -> Seen {
     match found {
-        Ok(true) => Seen::Something,
-        Ok(false) if scope == Scope::Narrow => Seen::Nothing { all: false },
-        Ok(false) => find_sync(turns, grip, finds, all),
-        Err(_) => Seen::Memory,
+        Found::Something => Seen::Something,
+        Found::Nothing => Seen::Nothing { all },
+        Found::Memory => Seen::Memory,
     }
-}
-
-/// Finds what is allowed of what the parts at hand list. Whether there was any.
-fn find<D: LogDev + Drop, O: Sink + Drop>(
-    alloc: Global,
-    turns: &Turns<Share<D, O>>,
-    grip: &Grip<D, O>,
-    board: &Board,
-    finds: &mut Finds,
-    scope: Scope,
-) -> Result<bool, Memory>
-    requires crew { IsCrew turns.now }
-    requires held { IsHeldNow turns.now grip.now }
-{
-    let mut listed = Vec::new(alloc);
-    list_hand(alloc, turns, grip, scope, &mut listed)?;
-    let mut any = false;
-    for e in &listed {
-        if grip.may_do(turns, *e) {
-            board.keep(finds, *e)?;
-            any = true;
-        }
-    }
-    Ok(any)
 }
 
 /// What the parts at hand list, but Syncs and replies of PACTs. Want of memory leaves some of it.
-fn list_hand<D: LogDev + Drop, O: Sink + Drop>(
-    alloc: Global,
-    turns: &Turns<Share<D, O>>,
-    grip: &Grip<D, O>,
-    scope: Scope,
-    listed: &mut Vec<Event>,
-) -> Result<(), Memory>
-    requires crew { IsCrew turns.now }
-    requires held { IsHeldNow turns.now grip.now }
+fn list_hand(at: &AtHand, scope: Scope, listed: &mut Vec<Event>) -> Result<(), Memory>
+    requires tables { AreTables at.now.tables.now }
+    requires places { IsHandOf (fixed_of at.now.tables.now) at.now.hand.now }
 {
-    let tables = turns.tables();
-    let hand = grip.hand();
-    list_ring(tables, hand, listed)?;
-    list_cells(alloc, tables, hand, listed)?;
-    list_book(alloc, hand, listed)?;
+    list_ring(at.tables, at.hand, listed)?;
+    list_cells(at.alloc, at.tables, at.hand, listed)?;
+    list_book(at.alloc, at.hand, listed)?;
     if scope == Scope::Narrow {
-        return list_comings(alloc, tables, hand, listed);
+        return list_comings(at, listed);
     }
-    list_post(alloc, hand, listed)?;
-    list_desk(alloc, hand, listed)?;
-    list_live_answers(alloc, hand, listed)
+    list_post(at.alloc, at.hand, listed)?;
+    list_desk(at.alloc, at.hand, listed)?;
+    list_live_answers(at, listed)
 }
 
 /// What comes to the actors whose cells are at hand.
-fn list_comings(
-    alloc: Global,
-    tables: &Tables,
-    hand: &Hand,
-    listed: &mut Vec<Event>,
-) -> Result<(), Memory>
-    requires tables { AreTables tables.now }
-    requires places { IsHandOf (fixed_of tables.now) hand.now }
+fn list_comings(at: &AtHand, listed: &mut Vec<Event>) -> Result<(), Memory>
+    requires tables { AreTables at.now.tables.now }
+    requires places { IsHandOf (fixed_of at.now.tables.now) at.now.hand.now }
 {
-    for a in 0..actor_count(tables, hand) {
-        if hand.has_cell(ActorId(a)) {
-            list_coming(alloc, hand, ActorId(a), listed)?;
+    for a in 0..actor_count(at.tables, at.hand) {
+        if at.hand.has_cell(ActorId(a)) {
+            list_coming(at, ActorId(a), listed)?;
         }
     }
     Ok(())
-}
-
-/// Finds all that is allowed with the parts at hand, but Syncs. Whether there was any.
-fn find_all<D: LogDev + Drop, O: Sink + Drop>(
-    alloc: Global,
-    turns: &Turns<Share<D, O>>,
-    grip: &Grip<D, O>,
-    board: &Board,
-    finds: &mut Finds,
-) -> Result<bool, Memory>
-    requires crew { IsCrew turns.now }
-    requires held { IsHeldNow turns.now grip.now }
-{
-    let list = grip.offers(alloc, turns)?;
-    let mut any = false;
-    for i in 0..list.count() {
-        match list.nth(i) {
-            None | Some(Event::Sync(_)) => {}
-            Some(e) => {
-                board.keep(finds, e)?;
-                any = true;
-            }
-        }
-    }
-    Ok(any)
-}
-
-/// The first Sync that is allowed, where nothing else was found.
-fn find_sync<D: LogDev + Drop, O: Sink + Drop>(
-    turns: &Turns<Share<D, O>>,
-    grip: &Grip<D, O>,
-    finds: &mut Finds,
-    all: bool,
-) -> Seen
-    requires crew { IsCrew turns.now }
-    requires held { IsHeldNow turns.now grip.now }
-{
-    for l in 0..turns.tables().work.logs {
-        if grip.may_do(turns, Event::Sync(l)) {
-            return match finds.put(Event::Sync(l)) {
-                Ok(()) => Seen::Something,
-                Err(_) => Seen::Memory,
-            };
-        }
-    }
-    Seen::Nothing { all }
 }

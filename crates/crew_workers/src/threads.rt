@@ -2,7 +2,7 @@
 ghost use Rattle.std.specs.Prelude.{All};
 ghost use Rattle.turn_table.specs.declared.turns.Turns.{Turns};
 
-use crate::crews::MOST_WORKERS;
+use snap_work::MOST_WORKERS;
 use std::sync::Wait;
 use std::thread;
 use std::thread::Threads;

@@ -1,14 +1,16 @@
 //! A worker's loop, and workers in threads.
 ghost use Rattle.std.specs.Prelude.{◌≡◌, ◌+◌, ◌<◌, All, IfOk, OnOk, OnErr};
 ghost use Rattle.crew_grip.specs.Grips.{IsCrew};
-ghost use Rattle.crew_workers.specs.Workers.{IsFree};
+ghost use Rattle.crew_workers.specs.Workers.{IsBetweenRounds};
 ghost use Rattle.turn_table.specs.Words.{HoldsNothing, IsOf, splits_of};
 
 use crate::boards::Board;
-use crate::crews::MOST_WORKERS;
+use crate::crews::Hiring;
 use crate::finds::Finds;
-use crate::looking::{Scope, Seen, look};
-use crate::rounds::{Round, try_event};
+use crate::leaders::{Leader, Next};
+use crate::looking::Seen;
+use crate::rounds::Round;
+use crate::sharing::Crew;
 use crate::threads::{Work, work_in_threads};
 use core_events::Event;
 use crew_grip::{Acted, Grip};
@@ -20,7 +22,7 @@ use std::sync::Wait;
 use std::thread::Threads;
 use turn_table::{Pass, Piece, Turns};
 
-/// A worker: its pass, and what it holds. Between two rounds it holds nothing.
+/// A worker: its pass, what it holds, and what it has left to try. Between two rounds it holds nothing.
 #[derive(Drop)]
 pub struct Worker<D: LogDev + Drop, O: Sink + Drop>
 where
@@ -28,30 +30,11 @@ where
 {
     pub(crate) pass: Pass<Share<D, O>>,
     pub(crate) grip: Grip<D, O>,
-    finds: Finds,
-    /// How far its next look goes.
-    scope: Scope,
-    /// Whether it looked, and has not tried all yet that it found. No other worker looks meanwhile.
-    leads: bool,
-    /// How often it rested since it had something to try.
-    rests: u64,
-}
-
-/// What a worker does after a round.
-#[derive(Clone, Copy, Debug, PartialEq, Eq)]
-enum Next {
-    /// Another round.
-    Again,
-    /// Another round, in which a look takes more.
-    Wider,
-    /// It lets others work for a while.
-    Rest,
-    /// No more rounds.
-    End,
+    pub(crate) finds: Finds,
 }
 
 impl<D: LogDev + Drop, O: Sink + Drop> Worker<D, O> {
-    /// A worker whose pass is cut off the first one.
+    /// A worker whose pass is cut off the first one. `Memory` leaves the first one as it was.
     pub fn new(
         alloc: Global,
         turns: &Turns<Share<D, O>>,
@@ -60,7 +43,7 @@ impl<D: LogDev + Drop, O: Sink + Drop> Worker<D, O> {
         requires crew { IsCrew turns.now }
         requires own { IsOf turns.now first.old.seat }
         requires left { 0 < splits_of first.old.seat }
-        ensures free { IfOk result (λ worker. IsFree turns.now worker.pass.seat worker.grip) }
+        ensures free { IfOk result (λ worker. IsBetweenRounds turns.now worker.pass.seat worker.grip) }
         ensures own { IsOf turns.now first.new.seat }
         ensures idle { HoldsNothing first.old.seat → HoldsNothing first.new.seat }
         ensures cut { OnOk result (splits_of first.new.seat + 1 ≡ splits_of first.old.seat) }
@@ -74,9 +57,6 @@ impl<D: LogDev + Drop, O: Sink + Drop> Worker<D, O> {
             pass,
             grip,
             finds: Finds::new(alloc),
-            scope: Scope::Narrow,
-            leads: false,
-            rests: 0,
         })
     }
 
@@ -88,9 +68,6 @@ impl<D: LogDev + Drop, O: Sink + Drop> Worker<D, O> {
             pass,
             grip: _,
             finds: _,
-            scope: _,
-            leads: _,
-            rests: _,
         } = self;
         pass
     }
@@ -104,126 +81,90 @@ fn after_try(round: Round) -> Next {
         | Round::Looked(Acted::Unready)
         | Round::Looked(Acted::Memory)
         | Round::Memory => Next::End,
-        Round::Busy { again: true } => Next::Rest,
-        _ => Next::Again,
+        Round::Lacking => Next::Rest,
+        Round::Looked(Acted::Done { number: _ }) | Round::Looked(Acted::NotNow) | Round::OnBoard =>
+            Next::Again,
     }
 }
 
-/// What comes after a look. One that found nothing is made again and takes more; but only who had all parts looks wide. That all
-/// is quiet then ends the worker.
-fn after_look(seen: Seen, scope: Scope) -> Next {
+/// What comes after a look. Want of memory ends the worker.
+fn after_look(leader: &mut Leader, seen: Seen) -> Next {
     match seen {
-        Seen::Something => Next::Again,
-        Seen::Nothing { all: _ } if scope == Scope::Narrow => Next::Wider,
-        Seen::Nothing { all: true } if scope == Scope::Full => Next::Wider,
-        Seen::Nothing { all: true } | Seen::Memory => Next::End,
-        Seen::Nothing { all: false } | Seen::Busy => Next::Rest,
-    }
-}
-
-/// The scope of the next look behind an event that was done. What an abort makes allowed lies all over.
-fn scope_behind(e: Event) -> Scope {
-    match e {
-        Event::AbortBatch(_) => Scope::Full,
-        _ => Scope::Narrow,
-    }
-}
-
-/// The scope of the next look, unless an event is done before it.
-fn scope_after(scope: Scope, next: Next) -> Scope {
-    match (next, scope) {
-        (Next::Again | Next::Wider, Scope::Narrow) => Scope::Full,
-        (Next::Wider, _) => Scope::Wide,
-        (Next::Rest, _) => Scope::Narrow,
-        _ => scope,
+        Seen::Something => leader.found(),
+        Seen::Nothing { all } => leader.nothing(all),
+        Seen::Busy => leader.missed(),
+        Seen::Memory => Next::End,
     }
 }
 
 /// What the worker tries next: the first of what it found, or a Run that is for whoever comes first. Before what may take long, a
 /// slice or what goes to a device or to the output, and when it has tried all that it found, another worker may look.
-fn next_try(board: &Board, finds: &mut Finds, leads: &mut bool) -> Option<Event> {
+fn next_try(board: &Board, finds: &mut Finds, leader: &mut Leader) -> Option<Event> {
     let own = finds.next();
-    if *leads
-        && matches!(
-            own,
-            None | Some(Event::Sync(_) | Event::Run(_, _) | Event::Reply(_))
-        )
-    {
-        *leads = false;
-        board.end_look();
-    }
+    leader.goes_on(own);
     if own.is_some() { own } else { board.take_run() }
 }
 
-/// One round of a worker: it tries an event, or looks.
-fn turn<D: LogDev + Drop, O: Sink + Drop, G: Gate>(
-    alloc: Global,
-    turns: &Turns<Share<D, O>>,
-    gate: &G,
-    board: &Board,
-    worker: &mut Worker<D, O>,
-) -> Next
-    requires crew { IsCrew turns.now }
-    requires free { IsFree turns.now worker.old.pass.seat worker.old.grip }
-    ensures { IsFree turns.now worker.new.pass.seat worker.new.grip }
-{
-    let Worker {
-        pass,
-        grip,
-        finds,
-        scope,
-        leads,
-        rests: _,
-    } = worker;
-    if let Some(e) = next_try(board, finds, leads) {
-        let round = try_event(alloc, turns, pass, grip, gate, board, finds, e);
-        if let Round::Looked(Acted::Done { number: _ }) = round {
-            *scope = scope_behind(e);
+impl<'a, D: LogDev + Drop, O: Sink + Drop, G: Gate> Crew<'a, D, O, G> {
+    /// One round of a worker: it tries an event, or looks.
+    fn turn(&self, worker: &mut Worker<D, O>, leader: &mut Leader<'a>) -> Next
+        requires crew { IsCrew self.now.turns.now }
+        requires free { IsBetweenRounds self.now.turns.now worker.old.pass.seat worker.old.grip }
+        ensures { IsBetweenRounds self.now.turns.now worker.new.pass.seat worker.new.grip }
+    {
+        if let Some(e) = next_try(self.board, &mut worker.finds, leader) {
+            return self.turn_of(worker, leader, e);
         }
-        let next = after_try(round);
-        if next == Next::Rest && finds.put(e).is_err() {
-            return Next::End;
-        }
-        return next;
-    }
-    if !board.begin_look() {
-        return Next::Rest;
-    }
-    *leads = true;
-    let seen = look(alloc, turns, pass, grip, board, finds, *scope);
-    let next = after_look(seen, *scope);
-    *scope = scope_after(*scope, next);
-    next
-}
-
-/// The rounds of a worker, until it ends or another one has. Who ends has seen that no event is allowed on all parts together,
-/// or met a fault or want of memory; then all end.
-fn work<R: Wait, D: LogDev + Drop, O: Sink + Drop, G: Gate>(
-    rt: &R,
-    alloc: Global,
-    turns: &Turns<Share<D, O>>,
-    gate: &G,
-    board: &Board,
-    worker: &mut Worker<D, O>,
-)
-    requires crew { IsCrew turns.now }
-    requires free { IsFree turns.now worker.old.pass.seat worker.old.grip }
-    ensures { IsFree turns.now worker.new.pass.seat worker.new.grip }
-{
-    for _ in rt.forever() {
-        if board.has_ended() {
-            break;
-        }
-        match turn(alloc, turns, gate, board, worker) {
-            Next::Again | Next::Wider => worker.rests = 0,
-            Next::Rest => {
-                board.rest(rt, worker.rests);
-                worker.rests = worker.rests.saturating_add(1);
+        match leader.begin(self.board) {
+            Some(scope) => {
+                let seen = self.look(worker, scope);
+                after_look(leader, seen)
             }
-            Next::End => break,
+            None => Next::Rest,
         }
     }
-    board.end();
+
+    /// A round in which the worker tries this event. Where it is to be tried again, it is left to try; where there is no memory for
+    /// that, a look finds it.
+    fn turn_of(&self, worker: &mut Worker<D, O>, leader: &mut Leader<'a>, e: Event) -> Next
+        requires crew { IsCrew self.now.turns.now }
+        requires free { IsBetweenRounds self.now.turns.now worker.old.pass.seat worker.old.grip }
+        ensures { IsBetweenRounds self.now.turns.now worker.new.pass.seat worker.new.grip }
+    {
+        let round = self.try_event(worker, e);
+        if let Round::Looked(Acted::Done { number: _ }) = round {
+            leader.did(e);
+        }
+        if round == Round::Lacking {
+            let _kept = worker.finds.put(e);
+        }
+        after_try(round)
+    }
+
+    /// The rounds of a worker, until it ends or another one has. Who ends has seen that no event is allowed on all parts together,
+    /// or met a fault or want of memory; then all end.
+    fn work<R: Wait>(&self, rt: &R, worker: &mut Worker<D, O>)
+        requires crew { IsCrew self.now.turns.now }
+        requires free { IsBetweenRounds self.now.turns.now worker.old.pass.seat worker.old.grip }
+        ensures { IsBetweenRounds self.now.turns.now worker.new.pass.seat worker.new.grip }
+    {
+        let mut leader = Leader::new();
+        let mut rests = 0;
+        for _ in rt.forever() {
+            if self.board.has_ended() {
+                break;
+            }
+            match self.turn(worker, &mut leader) {
+                Next::Again => rests = 0,
+                Next::Rest => {
+                    self.board.rest(rt, rests);
+                    rests = rests.saturating_add(1);
+                }
+                Next::End => break,
+            }
+        }
+        self.board.end();
+    }
 }
 
 /// What each worker of a crew does.
@@ -236,12 +177,18 @@ struct Rounds<'a, G: Gate> {
 
 impl<'a, D: LogDev + Drop + Send, O: Sink + Drop + Send, G: Gate> Work<Share<D, O>, Worker<D, O>>
     for Rounds<'a, G> {
-    ghost use Rattle.crew_workers.specs.Workers.{IsReady};
+    ghost use Rattle.crew_workers.specs.Workers.{IsOfCrew};
 
-    ghost ready = { λ turns worker. IsReady turns worker.pass.seat worker.grip };
+    ghost ready = { λ turns worker. IsOfCrew turns worker.pass.seat worker.grip };
 
     fn work<R: Wait>(&self, rt: &R, turns: &Turns<Share<D, O>>, worker: &mut Worker<D, O>) {
-        work(rt, self.alloc, turns, self.gate, self.board, worker);
+        let crew = Crew {
+            alloc: self.alloc,
+            turns,
+            gate: self.gate,
+            board: self.board,
+        };
+        crew.work(rt, worker);
     }
 }
 
@@ -251,16 +198,16 @@ pub fn work_together<
     D: LogDev + Drop + Send,
     O: Sink + Drop + Send,
     G: Gate + Sync,
->(rt: &R, alloc: Global, turns: &Turns<Share<D, O>>, gate: &G, workers: &mut [Worker<D, O>])
+>(hiring: &Hiring<R, G>, turns: &Turns<Share<D, O>>, workers: &mut [Worker<D, O>])
     requires crew { IsCrew turns.now }
-    requires free { All (λ worker. IsFree turns.now worker.pass.seat worker.grip) workers.old }
-    ensures { All (λ worker. IsFree turns.now worker.pass.seat worker.grip) workers.new }
+    requires free { All (λ worker. IsBetweenRounds turns.now worker.pass.seat worker.grip) workers.old }
+    ensures { All (λ worker. IsBetweenRounds turns.now worker.pass.seat worker.grip) workers.new }
 {
-    let board = Board::new(alloc, turns.part_count());
+    let board = Board::new(hiring.alloc, turns.part_count(), turns.tables().work.logs);
     let job = Rounds {
-        alloc,
-        gate,
+        alloc: hiring.alloc,
+        gate: hiring.gate,
         board: &board,
     };
-    work_in_threads(rt, turns, &job, workers);
+    work_in_threads(hiring.rt, turns, &job, workers);
 }

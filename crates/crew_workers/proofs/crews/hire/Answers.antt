@@ -1,6 +1,6 @@
 use Rattle.std.proofs.Common.{◌∙◌, ◌++◌, ◌∷◌, [], arith}
 use Rattle.std.proofs.lemmas.List.Elements.{All-same, All-push}
-use Rattle.crew_workers.specs.Workers.{IsFree}
+use Rattle.crew_workers.specs.Workers.{IsBetweenRounds}
 use Rattle.crew_workers.proofs.crews.hire.Goals as goal
 
 pub loop-hired-preserved : goal.loop-hired-preserved
@@ -11,8 +11,8 @@ loop-hired-preserved g c =
       (
         c.new.ensures.idle before.1.0,
         (
-          All-same (λ worker. IsFree c.args.turns.now worker.pass.seat worker.grip) c.push_reserved.new.self.items (c.loop-hired.workers.items ++ c.in-Ok.worker ∷ []) grown.items
-              (All-push (λ worker. IsFree c.args.turns.now worker.pass.seat worker.grip) c.loop-hired.workers.items c.in-Ok.worker before.1.1.0 c.in-Ok.ensures.free),
+          All-same (λ worker. IsBetweenRounds c.args.turns.now worker.pass.seat worker.grip) c.push_reserved.new.self.items (c.loop-hired.workers.items ++ c.in-Ok.worker ∷ []) grown.items
+              (All-push (λ worker. IsBetweenRounds c.args.turns.now worker.pass.seat worker.grip) c.loop-hired.workers.items c.in-Ok.worker before.1.1.0 c.in-Ok.ensures.free),
           (omega (arith, grown.len, c.in-Ok.ensures.cut, before.1.1.1.0), (omega (arith, grown.len, before.1.1.1.1.0), grown.capacity ∙ before.1.1.1.1.1)),
         ),
       ),

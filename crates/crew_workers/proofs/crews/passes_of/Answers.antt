@@ -3,7 +3,7 @@ use Rattle.std.proofs.lemmas.List.Elements.{All-pop, All-push, All-same}
 use Rattle.std.proofs.lemmas.List.Sums.{sum_by_push}
 use Rattle.std.specs.List.{sum_by}
 use Rattle.turn_table.specs.Words.{HoldsNothing}
-use Rattle.crew_workers.specs.Workers.{IsFree}
+use Rattle.crew_workers.specs.Workers.{IsBetweenRounds}
 use Rattle.crew_workers.proofs.crews.passes_of.Goals as goal
 
 pub loop-worker-preserved : goal.loop-worker-preserved
@@ -11,8 +11,8 @@ loop-worker-preserved g c =
     let before = c.loop-worker.invariant in
     let t = c.args.turns.now in
     let grown = c.push_reserved.ensures in
-    let popped = All-pop (λ worker. IsFree t worker.pass.seat worker.grip) c.loop-worker.workers.items c.pop.new.self.items (Some c.in-Some.worker) c.in-Some.ensures.items before.0 in
-    let one : IsFree t c.in-Some.worker.pass.seat c.in-Some.worker.grip = popped.1 in
+    let popped = All-pop (λ worker. IsBetweenRounds t worker.pass.seat worker.grip) c.loop-worker.workers.items c.pop.new.self.items (Some c.in-Some.worker) c.in-Some.ensures.items before.0 in
+    let one : IsBetweenRounds t c.in-Some.worker.pass.seat c.in-Some.worker.grip = popped.1 in
     let is = c.into_pass.ensures in
     let passes = c.loop-worker.passes.items in (
       popped.0,
