@@ -8,7 +8,7 @@ use book_part::BookPart;
 use core_events::{BOOK, DESK, Event, POST};
 use hand_offers::{list_place, list_ring, push_one, push_two};
 use post_box::Post;
-use snap_base::{ActorId, Bid, Memory, Tid, TxNo};
+use snap_base::{ActorId, Bid, Memory, Tid, TxNo, Who};
 use snap_hand::{Hand, Tables};
 use snap_work::MOST_BATCHES;
 use std::alloc::Global;
@@ -59,7 +59,7 @@ impl Follows {
             Event::Arrive(_, a) => list_arrived(at, a, events),
             Event::Ask(t, a) => list_asked(at.hand, t, a, events),
             Event::Take(t, a) => push_one(events, Event::Run(t, a)),
-            Event::Run(t, a) => push_two(events, Event::Send(t, a), Event::End(t, a)),
+            Event::Run(t, a) => list_outcome(at.hand, t, a, events),
             Event::Send(t, _) => list_control(at.hand, t, events),
             Event::End(t, a) => list_ended(at, t, a, events),
             Event::Close(_, a) | Event::Complete(_, a) => list_next(at, a, events),
@@ -185,8 +185,21 @@ fn list_control(hand: &Hand, t: Tid, events: &mut Vec<Event>) -> Result<(), Memo
         return Ok(());
     };
     match post.control_to(t) {
-        Some(a) => push_two(events, Event::Ask(t, a), Event::Take(t, a)),
+        Some(a) => list_comer(post, t, a, events),
         None => Ok(()),
+    }
+}
+
+/// The control comes to this actor; only one of an ACT asks first.
+fn list_comer(
+    post: &Post<Control>,
+    t: Tid,
+    a: ActorId,
+    events: &mut Vec<Event>,
+) -> Result<(), Memory> {
+    match post.control_who(t) {
+        Some(Who::Act(_)) => push_two(events, Event::Ask(t, a), Event::Take(t, a)),
+        Some(Who::Batch(_)) | None => push_one(events, Event::Take(t, a)),
     }
 }
 
@@ -209,20 +222,36 @@ pub(crate) fn list_coming(at: &AtHand, a: ActorId, events: &mut Vec<Event>) -> R
         return Ok(());
     };
     for (t, b) in &post.controls_to(at.alloc, a)? {
-        push_two(events, Event::Ask(*t, *b), Event::Take(*t, *b))?;
+        list_comer(post, *t, *b, events)?;
     }
     Ok(())
 }
 
-/// The ACT, which was placed on the actor or died there, comes there, or is answered.
+/// The ACT, which was placed on the actor or died there, runs, since its control came along, or is answered.
 fn list_asked(hand: &Hand, t: Tid, a: ActorId, events: &mut Vec<Event>) -> Result<(), Memory> {
-    push_one(events, Event::Take(t, a))?;
+    push_one(events, Event::Run(t, a))?;
     list_answer(hand, t, events)
 }
 
-/// The transaction ended on the actor: it leaves the actor there, others follow it, or it is answered.
+/// The control goes on behind the slice, or the transaction ends.
+fn list_outcome(hand: &Hand, t: Tid, a: ActorId, events: &mut Vec<Event>) -> Result<(), Memory> {
+    if !hand.has_actor(a) || !hand.has_cell(a) {
+        return Ok(());
+    }
+    if hand.cell(a).has_going(t) {
+        push_one(events, Event::Send(t, a))
+    } else {
+        push_one(events, Event::End(t, a))
+    }
+}
+
+/// The transaction ended on the actor: an ACT adds its record there, a PACT owes the actor nothing more, others follow it, or it is
+/// answered.
 fn list_ended(at: &AtHand, t: Tid, a: ActorId, events: &mut Vec<Event>) -> Result<(), Memory> {
-    push_two(events, Event::Close(t, a), Event::Prepare(t, a))?;
+    match on_book(at.hand) {
+        Some(book) if book.tx_of(t).is_some() => push_one(events, Event::Prepare(t, a))?,
+        Some(_) | None => push_one(events, Event::Close(t, a))?,
+    }
     list_next(at, a, events)?;
     list_answer(at.hand, t, events)
 }
@@ -314,14 +343,14 @@ fn list_aborted(at: &AtHand, k: Bid, events: &mut Vec<Event>) -> Result<(), Memo
     list_live_answers(at, events)
 }
 
-/// The reply of an ACT's transaction.
+/// The reply of an ACT's transaction, where its verdict is known.
 fn list_answer(hand: &Hand, t: Tid, events: &mut Vec<Event>) -> Result<(), Memory> {
     let Some(book) = on_book(hand) else {
         return Ok(());
     };
     match book.tx_of(t) {
-        Some(n) => push_one(events, Event::Reply(n)),
-        None => Ok(()),
+        Some(n) if book.act_verdict(n).is_some() => push_one(events, Event::Reply(n)),
+        Some(_) | None => Ok(()),
     }
 }
 
@@ -336,15 +365,15 @@ pub(crate) fn list_live_answers(at: &AtHand, events: &mut Vec<Event>) -> Result<
     Ok(())
 }
 
-/// The reply of an ACT's transaction, and that it leaves its actors.
+/// The reply of an ACT's transaction, and that it leaves its actors, where it may.
 fn list_leaving(at: &AtHand, t: Tid, events: &mut Vec<Event>) -> Result<(), Memory> {
     list_answer(at.hand, t, events)?;
     match on_book(at.hand) {
-        Some(book) => push_each(
+        Some(book) if book.may_leave(t) => push_each(
             events,
             &book.actors_of(at.alloc, t)?,
             |a| Event::Finish(t, a),
         ),
-        None => Ok(()),
+        Some(_) | None => Ok(()),
     }
 }
