@@ -1,44 +1,16 @@
 -- Each group of a run waited at some moment of it.
-use Rattle.std.proofs.Common.{◌≡◌, ℕ, ◌==◌, Bool, true, false, if◌then◌else◌, List, [], ◌∷◌, ◌++◌, refl, sym, ap, subst, append-nil}
+use Rattle.std.proofs.Common.{◌≡◌, ℕ, ◌==◌, Bool, true, false, if◌then◌else◌, List, [], ◌∷◌, ◌++◌, refl, sym, subst, append-nil}
 use Rattle.std.specs.List.{AllByRecursion}
 use Rattle.protocol.specs.Effects.{after, log_at}
 use Rattle.protocol.specs.Events.{Event, Sync}
 use Rattle.protocol.specs.Fixed.{Fixed}
 use Rattle.protocol.specs.Parts.{Machine}
-use Rattle.protocol.specs.Runs.{opening, reached, state_after, EachAllowed, IsRun}
+use Rattle.protocol.specs.Runs.{opening, reached, IsRun}
 use Rattle.txn_records.specs.declared.records.Record.{Record}
+use Rattle.run_outputs.proofs.Elements.{all_join}
+use Rattle.run_outputs.proofs.RunsLonger.{allowed_parts, assoc, state_longer}
 use Rattle.run_outputs.specs.Groups.{waiting, group_by, groups_from, groups_of, group_behind}
-use Rattle.group_sizes.specs.Sizes.{all_groups, AlwaysWaits}
-
--- ---- runs in two parts
-
-assoc : {X : Type 0} (xs ys zs : List X) → (xs ++ ys) ++ zs ≡ xs ++ (ys ++ zs)
-assoc [] ys zs = refl
-assoc (x ∷ xs) ys zs = ap (λ us. x ∷ us) (assoc xs ys zs)
-
-state_longer : {C : Type 0} (w : Fixed C) (es fs : List Event) (s : Machine C) → state_after w (es ++ fs) s ≡ state_after w fs (state_after w es s)
-state_longer w [] fs s = refl
-state_longer w (e ∷ es) fs s = state_longer w es fs (after w e s)
-
-front_runs : {C : Type 0} (w : Fixed C) (es fs : List Event) (s : Machine C) → EachAllowed w (es ++ fs) s → EachAllowed w es s
-front_runs w [] fs s run = tt
-front_runs w (e ∷ es) fs s run = (run.0, front_runs w es fs (after w e s) run.1)
-
--- ---- lists
-
-pub all_left : {X : Type 0} (P : X → Type 0) (xs ys : List X) → AllByRecursion P (xs ++ ys) → AllByRecursion P xs
-all_left P [] ys are = tt
-all_left P (x ∷ xs) ys are = (are.0, all_left P xs ys are.1)
-
-pub all_right : {X : Type 0} (P : X → Type 0) (xs ys : List X) → AllByRecursion P (xs ++ ys) → AllByRecursion P ys
-all_right P [] ys are = are
-all_right P (x ∷ xs) ys are = all_right P xs ys are.1
-
-all_join : {X : Type 0} (P : X → Type 0) (xs ys : List X) → AllByRecursion P xs → AllByRecursion P ys → AllByRecursion P (xs ++ ys)
-all_join P [] ys are more = more
-all_join P (x ∷ xs) ys are more = (are.0, all_join P xs ys are.1 more)
-
--- ---- groups
+use Rattle.group_sizes.specs.Sizes.{groups_and_waiting, AlwaysWaits}
 
 by_waiting : (P : List Record → Type 0) (b : Bool) (group : List Record) → P group → AllByRecursion P (if b then group ∷ [] else [])
 by_waiting P true group is = (is, tt)
@@ -52,11 +24,11 @@ behind_waited : {C : Type 0} (P : List Record → Type 0) (w : Fixed C) (l : ℕ
 behind_waited P w l ds [] run are = tt
 behind_waited P w l ds (e ∷ es) run are =
     let s = reached w ds in
-    let here = event_waited P l e s (are ds (e ∷ es) refl (front_runs w ds (e ∷ es) (opening w) run)) in
+    let here = event_waited P l e s (are ds (e ∷ es) refl (allowed_parts w ds (e ∷ es) (opening w) run).0) in
     let same = sym (assoc ds (e ∷ []) es) in
     let later = behind_waited P w l (ds ++ e ∷ []) es (subst (λ fs. IsRun w fs) same run) (subst (λ fs. AlwaysWaits w l fs P) same are) in
     all_join P (group_by l e s) (groups_from w l es (after w e s)) here (subst (λ t. AllByRecursion P (groups_from w l es t)) (state_longer w ds (e ∷ []) (opening w)) later)
 
-pub groups_waited : {C : Type 0} (P : List Record → Type 0) (w : Fixed C) (l : ℕ) (es : List Event) → IsRun w es → AlwaysWaits w l es P → AllByRecursion P (all_groups w l es)
+pub groups_waited : {C : Type 0} (P : List Record → Type 0) (w : Fixed C) (l : ℕ) (es : List Event) → IsRun w es → AlwaysWaits w l es P → AllByRecursion P (groups_and_waiting w l es)
 groups_waited P w l es run are =
     all_join P (groups_of w l es) (group_behind w l es ∷ []) (behind_waited P w l [] es run are) (are es [] (sym (append-nil es)) run, tt)

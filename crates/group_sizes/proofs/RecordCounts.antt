@@ -18,8 +18,9 @@ use Rattle.record_words.specs.Told.{told}
 use Rattle.record_log.specs.Growth.{end_behind_groups}
 use Rattle.run_outputs.specs.Groups.{waiting, durable, group_by, groups_from, groups_of, group_behind}
 use Rattle.run_outputs.specs.Laws.{GroupsAreDurable}
-use Rattle.group_sizes.specs.Sizes.{LogsAreFew, all_groups, AlwaysWaits, AllGroupsFit, WaitingFits}
-use Rattle.group_sizes.proofs.GroupsWaited.{all_left, all_right, groups_waited}
+use Rattle.group_sizes.specs.Sizes.{LogsAreFew, groups_and_waiting, AlwaysWaits, AllGroupsFit, WaitingFits}
+use Rattle.group_sizes.proofs.GroupsWaited.{groups_waited}
+use Rattle.run_outputs.proofs.Elements.{all_left, all_right}
 use Rattle.group_sizes.proofs.GroupSizes.{IsShort, told_short, bytes_each, short_may, way, way_is, way_none, way_on, way_join, groups_end, groups_may}
 
 -- ---- records
@@ -97,7 +98,7 @@ groups_fit law few ends durable_is w finish es facts text run l end are low =
     let are_got = all_left (AllByRecursion IsShort) got (behind ∷ []) are_all in
     let are_behind = (all_right (AllByRecursion IsShort) got (behind ∷ []) are_all).0 in
     let gone = groups_end end got are_got in
-    let every = groups_end end (all_groups w l es) are_all in
+    let every = groups_end end (groups_and_waiting w l es) are_all in
     let joined = way_join got (behind ∷ []) in
     let last = way_on behind [] in
     record {

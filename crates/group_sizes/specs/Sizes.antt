@@ -40,8 +40,8 @@ abbrev pub most_bytes : ℕ
 most_bytes = 2 ^ 30
 
 -- the groups that log l got, and what waits there
-abbrev pub all_groups : {C : Type 0} → Fixed C → ℕ → List Event → List (List Record)
-all_groups w l es = groups_of w l es ++ group_behind w l es ∷ []
+abbrev pub groups_and_waiting : {C : Type 0} → Fixed C → ℕ → List Event → List (List Record)
+groups_and_waiting w l es = groups_of w l es ++ group_behind w l es ∷ []
 
 -- P holds of what waits on log l at each moment of the run
 abbrev pub AlwaysWaits : {C : Type 0} → Fixed C → ℕ → List Event → (List Record → Type 0) → Type 0
@@ -54,7 +54,7 @@ pub record GroupsFit {C : Type 0} (w : Fixed C) (l : ℕ) (es : List Event) (end
   pub next : MayAppendGroup (end_behind_groups end (groups_of w l es)) (group_behind w l es)
   -- the gate has not gone far, nor has it then
   pub gone : end_behind_groups end (groups_of w l es) ≤ end + most_bytes
-  pub goes : end_behind_groups end (all_groups w l es) ≤ end + most_bytes
+  pub goes : end_behind_groups end (groups_and_waiting w l es) ≤ end + most_bytes
 
 -- where each record has a spelling as it waits, and the gate stood no farther than an append may
 abbrev pub AllGroupsFit : {C : Type 0} → Fixed C → (C → List State → Alone) → List Event → Type 0

@@ -1,4 +1,5 @@
 pub mod BatchesSettled
+pub mod Elements
 pub mod GroupsGrown
 pub mod PausesFit
 pub mod Pieces

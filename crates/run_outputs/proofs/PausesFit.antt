@@ -8,7 +8,8 @@ use Rattle.aml_resume.specs.declared.places.Spot.{Spot}
 use Rattle.aml_resume.specs.Places.{Standing, behind_some, inner_of, after_inner, place_behind}
 use Rattle.aml_resume.specs.Pausing.{Pause, Through, Returned, Calling, Failed, unless_failed, one_more, counted_value, counting, spot, around, loop_pause, block_pause, pause_from, given_at_end, method_pause}
 use Rattle.txn_records.specs.Records.{IsState}
-use Rattle.run_outputs.proofs.ValuesFit.{Has, has_bind, all_set, all_take, all_push, Each, Fits, AllFit, Small, nought_fits, value_fits, values_fit, with_field_is_state}
+use Rattle.run_outputs.proofs.Elements.{all_push, all_set, all_take}
+use Rattle.run_outputs.proofs.ValuesFit.{Has, has_bind, Each, Fits, AllFit, Small, nought_fits, value_fits, values_fit, with_field_is_state}
 
 abbrev pub FitPause : Pause → Type 0
 FitPause (Through vs s n) = AllFit vs × IsState s

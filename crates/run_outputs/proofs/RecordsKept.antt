@@ -20,9 +20,9 @@ use Rattle.txn_records.specs.declared.records.Record.{Record}
 use Rattle.txn_records.specs.Records.{IsRecord, actor_numbers, tid_numbers}
 use Rattle.run_outputs.specs.Groups.{durable, groups_of}
 use Rattle.run_outputs.specs.Recorded.{AreRecords, GroupsHoldRecords}
+use Rattle.run_outputs.proofs.Elements.{If, all_at, all_drop, all_found, all_join, all_left, all_right, all_set, all_take}
 use Rattle.run_outputs.proofs.RunsLonger.{allowed_longer, state_longer}
 use Rattle.run_outputs.proofs.StatesKept.{Keeps, LeavesStates, CellKeeps, event_keeps, none_keeps, opening_keeps}
-use Rattle.run_outputs.proofs.StatesKept.{If, all_at, all_found, all_join, all_set}
 use Rattle.run_outputs.proofs.ResultsFit.{ActFits, Frames, ResultsFit, results_stay, value_fits, values_fit}
 use Rattle.run_outputs.proofs.ValuesFit.{Fits}
 
@@ -133,25 +133,11 @@ unfolding IsTold
 all_told_are [] h = tt
 all_told_are (r ∷ rs) h = (h.0, all_told_are rs h.1)
 
-all_take : {X : Type 0} (P : X → Type 0) (n : ℕ) (xs : List X) → AllByRecursion P xs → AllByRecursion P (take n xs)
-all_take P zero xs h = tt
-all_take P (suc n) [] h = tt
-all_take P (suc n) (x ∷ xs) h = (h.0, all_take P n xs h.1)
-
-all_drop : {X : Type 0} (P : X → Type 0) (n : ℕ) (xs : List X) → AllByRecursion P xs → AllByRecursion P (drop n xs)
-all_drop P zero xs h = h
-all_drop P (suc n) [] h = h
-all_drop P (suc n) (x ∷ xs) h = all_drop P n xs h.1
-
-all_parts : (xs ys : List Record) → AreRecords (xs ++ ys) → AreRecords xs × AreRecords ys
-all_parts [] ys h = (tt, h)
-all_parts (x ∷ xs) ys h = let p = all_parts xs ys h.1 in ((h.0, p.0), p.1)
-
 each_group : (groups : List (List Record)) → AreRecords (all_records groups) → AllByRecursion AreRecords groups
 each_group [] h = tt
 each_group (group ∷ groups) h =
-    let p = all_parts group (all_records groups) (subst AreRecords (flat_map-cons (λ (g : List Record). g) group groups) h) in
-    (p.0, each_group groups p.1)
+    let are : AreRecords (group ++ all_records groups) = subst AreRecords (flat_map-cons (λ (g : List Record). g) group groups) h in
+    (all_left IsRecord group (all_records groups) are, each_group groups (all_right IsRecord group (all_records groups) are))
 
 pub groups_hold : {C : Type 0} (w : Fixed C) (Met : C → Type 0) (es : List Event) (l : ℕ) → Frames w → LeavesStates w Met → ((es : List Event) → IsRun w es → RowsMay w (reached w es)) → IsRun w es
     → all_records (groups_of w l es) ≡ durable (log_at (reached w es) l) → GroupsHoldRecords w es l

@@ -15,7 +15,8 @@ use Rattle.protocol.specs.OnRing as ring
 use Rattle.protocol.specs.Parts.{Act, Batch, Machine, Outcome, Pact}
 use Rattle.protocol.specs.Words.{batch_of, has_act, outcome_of, value_of, values_of}
 use Rattle.run_outputs.proofs.ValuesFit.{Fits, nought_fits}
-use Rattle.run_outputs.proofs.StatesKept.{If, Keeps, MetNext, ResultFits, all_join, all_found, here}
+use Rattle.run_outputs.proofs.Elements.{If, all_found, all_join}
+use Rattle.run_outputs.proofs.StatesKept.{Keeps, MetNext, ResultFits, here}
 
 -- what ended has a result within 64 bits
 abbrev pub EndFits : Option TxResult → Type 0

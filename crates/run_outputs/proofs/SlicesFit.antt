@@ -15,7 +15,8 @@ use Rattle.aml_slice.specs.declared.slices.Next.TheVariants.{Go, Ended}
 use Rattle.aml_slice.specs.Controls.{Frame, Rest, progress_in, most_waiting, moves_left}
 use Rattle.aml_slice.specs.Slicing.{Move, To, Out, SliceEnd, returned, unless_refused, called_on, moved_by, move, after_move, slice_end_in, slice_end}
 use Rattle.txn_records.specs.Records.{IsState}
-use Rattle.run_outputs.proofs.ValuesFit.{Has, all_push, Fits, AllFit, nought_fits, method_small}
+use Rattle.run_outputs.proofs.Elements.{all_push}
+use Rattle.run_outputs.proofs.ValuesFit.{Has, Fits, AllFit, nought_fits, method_small}
 use Rattle.run_outputs.proofs.StatesKept.{ResultFits}
 use Rattle.run_outputs.proofs.PausesFit.{FitPause, method_fit}
 

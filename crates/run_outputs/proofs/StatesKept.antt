@@ -1,5 +1,5 @@
 -- Where slices leave states, all states of a run are states: those of the cells, and the images.
-use Rattle.std.specs.Prelude.{refl, ℕ, zero, suc, ◌==◌, Bool, true, false, is_some, if◌then◌else◌, Option, Some, None, List, [], ◌∷◌, ◌++◌, map, filter, find, slice_index_or, slice_set}
+use Rattle.std.specs.Prelude.{refl, ℕ, ◌==◌, Bool, true, false, is_some, if◌then◌else◌, Option, Some, None, List, [], ◌∷◌, ◌++◌, map, filter, slice_set}
 use Rattle.std.specs.List.{AllByRecursion}
 use Rattle.snap_base.specs.declared.transactions.State.{State}
 use Rattle.snap_base.specs.declared.transactions.TxResult.{TxResult}
@@ -14,6 +14,7 @@ use Rattle.protocol.specs.OnRing as ring
 use Rattle.protocol.specs.Parts.{Act, Cell, ControlMessage, Image, Machine, OfAct, OfBatch, Outcome, Pact, Waiting, Who}
 use Rattle.protocol.specs.Runs.{new_cell, opening}
 use Rattle.protocol.specs.Words.{act_of, control_of, image_of, outcome_of, waiting_of}
+use Rattle.run_outputs.proofs.Elements.{If, all_at, all_filter, all_found, all_join, all_set}
 use Rattle.run_outputs.proofs.ValuesFit.{Fits, noughts_fit}
 
 -- ---- what is kept
@@ -44,43 +45,6 @@ pub record CellKeeps {C : Type 0} (Met : C → Type 0) (c : Cell C) : Type 0 whe
 pub record Keeps {C : Type 0} (Met : C → Type 0) (s : Machine C) : Type 0 where
   pub posted : AllByRecursion (λ m. Met m.control) s.post.controls
   pub cells : AllByRecursion (CellKeeps Met) s.cells
-
--- ---- lists
-
-pub all_join : {X : Type 0} (P : X → Type 0) (xs ys : List X) → AllByRecursion P xs → AllByRecursion P ys → AllByRecursion P (xs ++ ys)
-all_join P [] ys h k = k
-all_join P (x ∷ xs) ys h k = (h.0, all_join P xs ys h.1 k)
-
-all_filter : {X : Type 0} (P : X → Type 0) (p : X → Bool) (xs : List X) → AllByRecursion P xs → AllByRecursion P (filter p xs)
-all_filter P p [] h = tt
-all_filter P p (x ∷ xs) h = by (p x) (all_filter P p xs h.1)
-  where
-    by : (b : Bool) → AllByRecursion P (filter p xs) → AllByRecursion P (if b then x ∷ filter p xs else filter p xs)
-    by true k = (h.0, k)
-    by false k = k
-
-pub all_at : {X : Type 0} (P : X → Type 0) (xs : List X) (i : ℕ) (d : X) → P d → AllByRecursion P xs → P (slice_index_or xs i d)
-all_at P [] i d p h = p
-all_at P (x ∷ xs) zero d p h = h.0
-all_at P (x ∷ xs) (suc i) d p h = all_at P xs i d p h.1
-
-pub all_set : {X : Type 0} (P : X → Type 0) (xs : List X) (i : ℕ) (y : X) → P y → AllByRecursion P xs → AllByRecursion P (slice_set xs i y)
-all_set P [] i y p h = tt
-all_set P (x ∷ xs) zero y p h = (p, h.1)
-all_set P (x ∷ xs) (suc i) y p h = (h.0, all_set P xs i y p h.1)
-
--- what is there has it
-abbrev pub If : {X : Type 0} → (X → Type 0) → Option X → Type 0
-If P None = Unit {0}
-If P (Some x) = P x
-
-pub all_found : {X : Type 0} (P : X → Type 0) (p : X → Bool) (xs : List X) → AllByRecursion P xs → If P (find p xs)
-all_found P p [] h = tt
-all_found P p (x ∷ xs) h = by (p x) (all_found P p xs h.1)
-  where
-    by : (b : Bool) → If P (find p xs) → If P (if b then Some x else find p xs)
-    by true k = h.0
-    by false k = k
 
 -- ---- the post
 

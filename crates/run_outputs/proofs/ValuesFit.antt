@@ -1,7 +1,7 @@
 -- Numbers of a program's methods stay within 64 bits, and fields of a state with them.
-use Rattle.std.proofs.Common.{◌≡◌, ℕ, zero, suc, ◌+◌, ◌<◌, ◌≤◌, ◌%◌, ◌^◌, List, [], ◌∷◌, ◌++◌, length, take, get_or, refl, ◌∙◌, ℤ, pos, negsuc, neg_ℤ, Option, None, Some, IfSome, Result, Ok, Err, Bool, true, false, cond, arith, w64, FitsSigned, replicate}
+use Rattle.std.proofs.Common.{◌≡◌, ℕ, zero, suc, ◌+◌, ◌<◌, ◌≤◌, ◌%◌, ◌^◌, List, [], ◌∷◌, ◌++◌, length, get_or, refl, ◌∙◌, ℤ, pos, negsuc, neg_ℤ, Option, None, Some, IfSome, Result, Ok, Err, Bool, true, false, cond, arith, w64, FitsSigned, replicate}
 use Rattle.std.specs.List.{AllByRecursion}
-use Rattle.std.specs.Prelude.{◌+ℤ◌, ◌-ℤ◌, ◌*ℤ◌, int_div, int_rem, unsigned_abs, slice_set}
+use Rattle.std.specs.Prelude.{◌+ℤ◌, ◌-ℤ◌, ◌*ℤ◌, int_div, int_rem, unsigned_abs}
 use Rattle.std.specs.Ordering.{int_eq}
 use Rattle.std.proofs.Math.Nat.{mod-le}
 use Rattle.std.proofs.lemmas.Bool.Decides.{nat_tests}
@@ -14,6 +14,7 @@ use Rattle.aml_check.specs.Closed.{IsClosedExpression, IsClosedBlock, IsClosedMe
 use Rattle.aml_check.specs.Meaning.{◌>>=◌, overflow, zero_divisor, value_of, values_of, in_range, truth, is_nonzero, divided, joined, decided, unless_decided, zero_state, with_field}
 use Rattle.aml_check.specs.Names.{method_at}
 use Rattle.txn_records.specs.Records.{IsState}
+use Rattle.run_outputs.proofs.Elements.{all_set}
 
 -- where there is a value, it has P
 abbrev pub Has : {A : Type 0} → (A → Type 0) → Result A ℕ → Type 0
@@ -35,20 +36,6 @@ pub at_any : {A : Type 0} (P : A → Type 0) (xs : List A) (i : ℕ) (d : A) →
 at_any P [] i d here h = here
 at_any P (x ∷ xs) zero d here h = h.0
 at_any P (x ∷ xs) (suc i) d here h = at_any P xs i d here h.1
-
-pub all_set : {A : Type 0} (P : A → Type 0) (xs : List A) (i : ℕ) (x : A) → P x → AllByRecursion P xs → AllByRecursion P (slice_set xs i x)
-all_set P [] i y p h = h
-all_set P (x ∷ xs) zero y p h = (p, h.1)
-all_set P (x ∷ xs) (suc i) y p h = (h.0, all_set P xs i y p h.1)
-
-pub all_take : {A : Type 0} (P : A → Type 0) (n : ℕ) (xs : List A) → AllByRecursion P xs → AllByRecursion P (take n xs)
-all_take P zero xs h = tt
-all_take P (suc n) [] h = tt
-all_take P (suc n) (x ∷ xs) h = (h.0, all_take P n xs h.1)
-
-pub all_push : {A : Type 0} (P : A → Type 0) (xs : List A) (x : A) → AllByRecursion P xs → P x → AllByRecursion P (xs ++ x ∷ [])
-all_push P [] x h p = (p, tt)
-all_push P (y ∷ xs) x h p = (h.0, all_push P xs x h.1 p)
 
 -- ---- each expression of a block
 
