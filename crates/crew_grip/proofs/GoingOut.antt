@@ -38,7 +38,7 @@ use Rattle.run_journals.specs.Appending.{IsAppended, IsCutOff}
 use Rattle.run_journals.specs.Driven.{IsDriven}
 use Rattle.run_journals.specs.RunsOf.{RunsOf}
 use Rattle.run_outputs.specs.Groups.{group_by, groups_of, waiting}
-use Rattle.run_outputs.specs.Lines.{line_in, line_of}
+use Rattle.run_outputs.specs.Lines.{line_in, verdict_line}
 use Rattle.snap_base.specs.declared.verdicts.Verdict.{Verdict}
 use Rattle.snap_base.specs.declared.ids.TxNo.{TxNo}
 use Rattle.snap_hand.specs.Hands.{Fits}
@@ -344,7 +344,7 @@ module _ (w : Fixed Rest) (laws : Drives) (runs : RunsOf w) (start : List ShareS
 module _ (w : Fixed Rest) (held : List (Option ShareState)) (g : GripState) (n : ℕ) (grip : IsGripOf w held g) (just : IsJust (book ∷ desk ∷ []) held) (sound : AreSound w.text.logs g) where
   -- the line of a verdict that is known
   pub line_is : (v : Verdict) (line : List ℕ) → line ≡ reply_text n v → ((s : Machine Rest) → Fits g.hand s → Some v ≡ verdict n s.book s.desk) → (s : Machine Rest) → Fits g.hand s → line ≡ line_in s n
-  line_is v line is known s fits = is ∙ ap (line_of n) (known s fits)
+  line_is v line is known s fits = is ∙ ap (verdict_line n) (known s fits)
 
   pub written_out : (line : List ℕ) → ((s : Machine Rest) → Fits g.hand s → line ≡ line_in s n) → (b c : BesideState) (new : GripState) → at g.besides desk ≡ Some b → HasWritten b c line (Ok tt)
       → new ≡ record { hand = g.hand; besides = slice_set g.besides desk (Some c) } → HasGoneOut w true (Reply n) g new

@@ -20,7 +20,7 @@ use Rattle.protocol.specs.Verdicts.{verdict}
 use Rattle.protocol.specs.Words.{holds, is_among}
 use Rattle.run_outputs.specs.Groups.{group_by, group_behind, groups_of, waiting}
 use Rattle.run_outputs.specs.Laws.{GroupsGrow, RepliesGrow, line_by}
-use Rattle.run_outputs.specs.Lines.{line_in, line_of, replies_text}
+use Rattle.run_outputs.specs.Lines.{line_in, verdict_line, replies_text}
 use Rattle.crew_parts.proofs.Replacing.{some_of}
 use Rattle.run_journals.specs.Driven.{IsDriven}
 use Rattle.run_journals.proofs.Driving.{driven_join}
@@ -126,7 +126,7 @@ reply_stays w es ds tx same go ok =
     let told = some_of (verdict tx (reached w es).book (reached w es).desk) ok.1.0 in
     let still = go tx told.0 told.1 in (
       (subst (λ (d : Desk). holds not (slice_get d.replied tx) ≡ true) same ok.0, (ap is_some still, tt)),
-      ap (line_of tx) (still ∙ sym told.1),
+      ap (verdict_line tx) (still ∙ sym told.1),
     )
 
 rose_on : (a b c : ℕ) → a ≤ b → Rose b c → Rose a c

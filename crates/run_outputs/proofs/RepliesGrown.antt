@@ -17,9 +17,9 @@ use Rattle.protocol.specs.Runs.{opening, reached, EachAllowed, IsRun}
 use Rattle.protocol.specs.Verdicts.{verdict}
 use Rattle.protocol.specs.Words.{count, holds}
 use Rattle.protocol_verdicts.specs.Evidence.{VerdictsStay}
-use Rattle.run_outputs.specs.Replies.{answer_by, committed_by, aborted_by, CountsGrow}
+use Rattle.run_outputs.specs.Replies.{answer_by, commits_of, aborts_of, CountsGrow}
 use Rattle.run_outputs.specs.Laws.{line_by}
-use Rattle.run_outputs.specs.Lines.{line_of, line_in, lines_of, replies_text}
+use Rattle.run_outputs.specs.Lines.{verdict_line, line_in, answer_lines, replies_text}
 use Rattle.run_outputs.proofs.RunsLonger.{state_longer, assoc}
 
 -- ---- who was answered
@@ -76,16 +76,16 @@ answers_grow w es e run now later =
 
 -- ---- lines
 
-lines_join : (xs ys : List Answer) → lines_of (xs ++ ys) ≡ lines_of xs ++ lines_of ys
-lines_join xs ys = flat_map-append (λ (x : Answer). line_of x.tx x.verdict) xs ys
+lines_join : (xs ys : List Answer) → answer_lines (xs ++ ys) ≡ answer_lines xs ++ answer_lines ys
+lines_join xs ys = flat_map-append (λ (x : Answer). verdict_line x.tx x.verdict) xs ys
 
-line_is : {C : Type 0} (w : Fixed C) (es : List Event) (e : Event) → lines_of (answer_by (reached w es) e) ≡ line_by w es e
-line_is w es (Reply n) = flat_map-cons (λ (x : Answer). line_of x.tx x.verdict) (answer (reached w es) n) [] ∙ append-nil (line_in (reached w es) n)
+line_is : {C : Type 0} (w : Fixed C) (es : List Event) (e : Event) → answer_lines (answer_by (reached w es) e) ≡ line_by w es e
+line_is w es (Reply n) = flat_map-cons (λ (x : Answer). verdict_line x.tx x.verdict) (answer (reached w es) n) [] ∙ append-nil (line_in (reached w es) n)
 line_is w es e = refl
 
 pub lines_grow : {C : Type 0} (w : Fixed C) (es : List Event) (e : Event) → answers (es ++ e ∷ []) (reached w (es ++ e ∷ [])) ≡ answers es (reached w es) ++ answer_by (reached w es) e
     → replies_text w (es ++ e ∷ []) ≡ replies_text w es ++ line_by w es e
-lines_grow w es e h = ap lines_of h ∙ (lines_join (answers es (reached w es)) (answer_by (reached w es) e) ∙ ap (λ text. replies_text w es ++ text) (line_is w es e))
+lines_grow w es e h = ap answer_lines h ∙ (lines_join (answers es (reached w es)) (answer_by (reached w es) e) ∙ ap (λ text. replies_text w es ++ text) (line_is w es e))
 
 -- ---- counts
 
@@ -104,11 +104,11 @@ count_join p (x ∷ xs) ys = by (p x) (count_join p xs ys)
     by true h = omega (arith, h)
     by false h = h
 
-committed_is : {C : Type 0} (s : Machine C) (e : Event) → count (λ x. holds is_committed x.verdict) (answer_by s e) ≡ committed_by s e
+committed_is : {C : Type 0} (s : Machine C) (e : Event) → count (λ x. holds is_committed x.verdict) (answer_by s e) ≡ commits_of s e
 committed_is s (Reply n) = count_one (λ x. holds is_committed x.verdict) (answer s n)
 committed_is s e = refl
 
-aborted_is : {C : Type 0} (s : Machine C) (e : Event) → count (λ x. not (holds is_committed x.verdict)) (answer_by s e) ≡ aborted_by s e
+aborted_is : {C : Type 0} (s : Machine C) (e : Event) → count (λ x. not (holds is_committed x.verdict)) (answer_by s e) ≡ aborts_of s e
 aborted_is s (Reply n) = count_one (λ x. not (holds is_committed x.verdict)) (answer s n)
 aborted_is s e = refl
 

@@ -11,21 +11,21 @@ use Rattle.protocol.specs.Verdicts.{verdict}
 use Rattle.snap_report.specs.Lines.{reply_text, actors_text, end_text}
 
 -- the line of a transaction, where its verdict is known
-abbrev pub line_of : ℕ → Option Verdict → List ℕ
-line_of n None = []
-line_of n (Some v) = reply_text n v
+abbrev pub verdict_line : ℕ → Option Verdict → List ℕ
+verdict_line n None = []
+verdict_line n (Some v) = reply_text n v
 
 -- the line of transaction n in a state
 abbrev pub line_in : {C : Type 0} → Machine C → ℕ → List ℕ
-line_in s n = line_of n (verdict n s.book s.desk)
+line_in s n = verdict_line n (verdict n s.book s.desk)
 
 -- the lines of these replies
-abbrev pub lines_of : List Answer → List ℕ
-lines_of xs = flat_map (λ x. line_of x.tx x.verdict) xs
+abbrev pub answer_lines : List Answer → List ℕ
+answer_lines xs = flat_map (λ x. verdict_line x.tx x.verdict) xs
 
 -- what the replies of a run print
 abbrev pub replies_text : {C : Type 0} → Fixed C → List Event → List ℕ
-replies_text w es = lines_of (answers es (reached w es))
+replies_text w es = answer_lines (answers es (reached w es))
 
 -- what is printed after the replies, where the run is quiet: the actors and the end
 abbrev pub ending_of : Report → List ℕ

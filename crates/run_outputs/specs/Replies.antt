@@ -22,18 +22,18 @@ AnswersGrow w es =
     → answers (es ++ e ∷ []) (reached w (es ++ e ∷ [])) ≡ answers es (reached w es) ++ answer_by (reached w es) e
 
 -- whether the event answers that a transaction committed, and whether it answers anything else
-abbrev pub committed_by : {C : Type 0} → Machine C → Event → ℕ
-committed_by s (Reply n) = one_if (holds is_committed (verdict n s.book s.desk))
-committed_by s _ = 0
+abbrev pub commits_of : {C : Type 0} → Machine C → Event → ℕ
+commits_of s (Reply n) = one_if (holds is_committed (verdict n s.book s.desk))
+commits_of s _ = 0
 
-abbrev pub aborted_by : {C : Type 0} → Machine C → Event → ℕ
-aborted_by s (Reply n) = one_if (not (holds is_committed (verdict n s.book s.desk)))
-aborted_by s _ = 0
+abbrev pub aborts_of : {C : Type 0} → Machine C → Event → ℕ
+aborts_of s (Reply n) = one_if (not (holds is_committed (verdict n s.book s.desk)))
+aborts_of s _ = 0
 
 -- The counts grow by the verdict of the reply.
 pub record CountsGrow {C : Type 0} (w : Fixed C) (es : List Event) (e : Event) : Type 0 where
-  pub committed : (report (es ++ e ∷ []) (reached w (es ++ e ∷ []))).committed ≡ (report es (reached w es)).committed + committed_by (reached w es) e
-  pub aborted : (report (es ++ e ∷ []) (reached w (es ++ e ∷ []))).aborted ≡ (report es (reached w es)).aborted + aborted_by (reached w es) e
+  pub committed : (report (es ++ e ∷ []) (reached w (es ++ e ∷ []))).committed ≡ (report es (reached w es)).committed + commits_of (reached w es) e
+  pub aborted : (report (es ++ e ∷ []) (reached w (es ++ e ∷ []))).aborted ≡ (report es (reached w es)).aborted + aborts_of (reached w es) e
 
 abbrev pub AllCountsGrow : {C : Type 0} → Fixed C → List Event → Type 0
 AllCountsGrow w es = (e : Event) → IsAllowed w e (reached w es) → CountsGrow w es e

@@ -11,7 +11,7 @@ use Rattle.protocol.specs.Verdicts.{verdict}
 use Rattle.protocol.specs.Words.{count, holds}
 use Rattle.protocol.specs.Left.{total}
 use Rattle.run_outputs.specs.Laws.{settles}
-use Rattle.run_outputs.specs.Replies.{committed_by, aborted_by}
+use Rattle.run_outputs.specs.Replies.{commits_of, aborts_of}
 use Rattle.run_printing.specs.Counted.{settled_by}
 
 count_one : {X : Type 0} (test : X → Bool) (x : X) (xs : List X) → count test (x ∷ xs) ≡ one_if (test x) + count test xs
@@ -23,14 +23,14 @@ count_one test x xs = go (test x) refl where
 none_more : (n : ℕ) → n ≡ 0 + n
 none_more n = omega arith
 
-pub committed_total : {C : Type 0} (s : Machine C) (es : List Event) → count (λ x. holds is_committed x.verdict) (answers es s) ≡ total (committed_by s) es
+pub committed_total : {C : Type 0} (s : Machine C) (es : List Event) → count (λ x. holds is_committed x.verdict) (answers es s) ≡ total (commits_of s) es
 committed_total s [] = refl
 committed_total s (Reply n ∷ es) =
     count_one (λ (x : Answer). holds is_committed x.verdict) (answer s n) (answers es s)
     ∙ ap (λ m. one_if (holds is_committed (verdict n s.book s.desk)) + m) (committed_total s es)
 committed_total s (_ ∷ es) = committed_total s es ∙ none_more _
 
-pub aborted_total : {C : Type 0} (s : Machine C) (es : List Event) → count (λ x. not (holds is_committed x.verdict)) (answers es s) ≡ total (aborted_by s) es
+pub aborted_total : {C : Type 0} (s : Machine C) (es : List Event) → count (λ x. not (holds is_committed x.verdict)) (answers es s) ≡ total (aborts_of s) es
 aborted_total s [] = refl
 aborted_total s (Reply n ∷ es) =
     count_one (λ (x : Answer). not (holds is_committed x.verdict)) (answer s n) (answers es s)

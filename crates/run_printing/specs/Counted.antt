@@ -3,7 +3,7 @@
 use Rattle.std.specs.Prelude.{◌≡◌, ℕ}
 use Rattle.protocol.specs.Events.{Event, Settle}
 use Rattle.protocol.specs.Parts.{Machine}
-use Rattle.run_outputs.specs.Replies.{committed_by, aborted_by}
+use Rattle.run_outputs.specs.Replies.{commits_of, aborts_of}
 use Rattle.run_printing.specs.declared.counts.Counts.{Counts}
 
 -- whether the event settles a batch
@@ -12,6 +12,6 @@ settled_by (Settle k) = 1
 settled_by _ = 0
 
 pub record IsAddedBy {C : Type 0} (s : Machine C) (e : Event) (c : Counts) : Type 0 where
-  pub committed : c.committed ≡ committed_by s e
-  pub aborted : c.aborted ≡ aborted_by s e
+  pub committed : c.committed ≡ commits_of s e
+  pub aborted : c.aborted ≡ aborts_of s e
   pub batches : c.batches ≡ settled_by e

@@ -26,7 +26,7 @@ use Rattle.record_log.specs.GrowthLaws.{GroupGrows, FaultGrows}
 use Rattle.record_log.specs.Records.{spelled}
 use Rattle.run_outputs.specs.Groups.{group_by, group_behind}
 use Rattle.run_outputs.specs.Laws.{line_by}
-use Rattle.run_outputs.specs.Lines.{line_in, line_of}
+use Rattle.run_outputs.specs.Lines.{line_in, verdict_line}
 use Rattle.snap_base.specs.declared.ids.TxNo.{TxNo}
 use Rattle.snap_outside.specs.Causes.{Rose}
 use Rattle.core_events.specs.declared.events.Event as code
@@ -151,7 +151,7 @@ log_exists w l s is = holds_within (λ (g : Log). nat_lt g.synced (length g.reco
 
 -- where there is no verdict there is no line
 pub no_line : (s : Machine Rest) (n : ℕ) (taken : Option (List ℕ)) → None ≡ verdict n s.book s.desk → Appends taken taken (line_in s n)
-no_line s n taken is = subst (λ v. Appends taken taken (line_of n v)) is (Appends-nil taken)
+no_line s n taken is = subst (λ v. Appends taken taken (verdict_line n v)) is (Appends-nil taken)
 
 -- ---- any other event
 

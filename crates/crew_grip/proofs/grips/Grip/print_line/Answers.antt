@@ -2,7 +2,7 @@ use Rattle.std.proofs.Common.{◌≡◌, ◌∙◌, ap, refl, subst, sym}
 use Rattle.aml_slice.specs.Controls.{Rest}
 use Rattle.protocol.specs.Events.{book, desk}
 use Rattle.protocol.specs.Parts.{Machine}
-use Rattle.run_outputs.specs.Lines.{line_in, line_of}
+use Rattle.run_outputs.specs.Lines.{line_in, verdict_line}
 use Rattle.crew_grip.specs.Grips.{GripState}
 use Rattle.snap_hand.specs.Hands.{Fits, Has}
 use Rattle.snap_hand.specs.Tables.{fixed_of}
@@ -24,7 +24,7 @@ verdict-requires-clause-desk g c =
 
 pub returns-in_default : goal.returns-in_default
 returns-in_default g c =
-    no_line_before (fixed_of c.args.turns.now.table.shared.key.tables.value) c.appends_drive.ensures.nothing c.args.n.0 c.args.self.now c.requires.sound (λ s fits. ap (line_of c.args.n.0) (sym (c.in_default.ensures s (subst (λ (g : GripState). Fits g.hand s) (sym c.self.view_is) fits))))
+    no_line_before (fixed_of c.args.turns.now.table.shared.key.tables.value) c.appends_drive.ensures.nothing c.args.n.0 c.args.self.now c.requires.sound (λ s fits. ap (verdict_line c.args.n.0) (sym (c.in_default.ensures s (subst (λ (g : GripState). Fits g.hand s) (sym c.self.view_is) fits))))
 
 pub write_at-requires : goal.write_at-requires
 write_at-requires g c =
