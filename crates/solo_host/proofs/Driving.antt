@@ -19,7 +19,7 @@ use Rattle.run_outputs.specs.Lines.{replies_text}
 use Rattle.snap_outside.specs.Causes.{Rose}
 use Rattle.solo_host.specs.Drives.{log_at, AreDriven, IsWhy, IsPrinted, tried_on}
 use Rattle.run_journals.specs.RunsOf.{RunsOf}
-use Rattle.solo_host.specs.Outside.{Outside, Got, no_group, no_fault, AreLow, AreOfFormat2, AreOpen, IsDone, IsPicked, IsEnd}
+use Rattle.solo_host.specs.Outside.{Outside, Got, no_group, no_fault, AreLow, AreOfFormat2, AreAllOpen, IsPrepared, IsPicked, IsEnd}
 use Rattle.run_journals.specs.declared.stops.Stop.{Stop}
 use Rattle.run_journals.specs.declared.stops.Stop.TheVariants as stop
 use Rattle.solo_host.proofs.GotGroups.{got_nothing, got_join, got_open, got_same}
@@ -32,11 +32,11 @@ pub record IsDriving (w : Fixed Rest) (seed : ℕ) (es : List Event) (start now 
   pub printed : Appends start.taken now.taken (replies_text w es)
   pub later : start.faults ≤ now.faults
 
-pub begins : (w : Fixed Rest) (seed : ℕ) (start : Outside) → AreOpen start.logs → IsDriving w seed [] start start
+pub begins : (w : Fixed Rest) (seed : ℕ) (start : Outside) → AreAllOpen start.logs → IsDriving w seed [] start start
 begins w seed start ready = record { front = tt; logs = got_nothing start.logs ready; printed = Appends-nil start.taken; later = omega arith }
 
 -- no append has met a fault, and what waits may be appended
-pub still_open : (w : Fixed Rest) (seed : ℕ) (es : List Event) (start now : Outside) → IsDriving w seed es start now → AreOpen now.logs
+pub still_open : (w : Fixed Rest) (seed : ℕ) (es : List Event) (start now : Outside) → IsDriving w seed es start now → AreAllOpen now.logs
 still_open w seed es start now driving = got_open start.logs now.logs (λ l. groups_of w l es) driving.logs
 
 pub still_of_format : (w : Fixed Rest) (seed : ℕ) (es : List Event) (start now : Outside) → AreOfFormat2 start.logs → IsDriving w seed es start now → AreOfFormat2 now.logs
@@ -55,7 +55,7 @@ still_low w seed es start now runs run low driving l within =
 
 -- one more event
 pub goes_further : (w : Fixed Rest) (seed : ℕ) (es : List Event) (e : Event) (start now new : Outside) → RunsOf w → IsRun w es
-    → IsDriving w seed es start now → IsPicked w seed es e → IsDone w es e now new → IsDriving w seed (es ++ e ∷ []) start new
+    → IsDriving w seed es start now → IsPicked w seed es e → IsPrepared w es e now new → IsDriving w seed (es ++ e ∷ []) start new
 goes_further w seed es e start now new runs run driving picked done = record {
   front = goes_on w seed es e driving.front picked;
   logs = got_same start.logs new.logs (λ l. groups_of w l es ++ group_by l e (reached w es)) (λ l. groups_of w l (es ++ e ∷ [])) no_fault (λ l. sym (runs.grow l es e))
@@ -134,7 +134,7 @@ all_at P [] l all within = absurd (omega (arith, within))
 all_at P (x ∷ logs) zero all within = all.0
 all_at P (x ∷ logs) (suc l) all within = all_at P logs l all.1 (omega (arith, within))
 
-pub are_open : (logs : List LogState) → AllByRecursion (λ (l : LogState). l.shut ≡ false) logs → AreOpen logs
+pub are_open : (logs : List LogState) → AllByRecursion (λ (l : LogState). l.shut ≡ false) logs → AreAllOpen logs
 are_open logs all l within = all_at (λ (x : LogState). x.shut ≡ false) logs l all within
 
 pub are_of_format : (logs : List LogState) → AllByRecursion (λ (l : LogState). l.format ≡ 2) logs → AreOfFormat2 logs

@@ -4,10 +4,10 @@ use Rattle.gate_log.specs.State.{LogState}
 use Rattle.run_journals.specs.Driven.{IsDriven}
 use Rattle.run_journals.proofs.Driving.{driven_join, driven_same}
 use Rattle.solo_host.specs.Drives.{log_at}
-use Rattle.solo_host.specs.Outside.{Got, no_group, no_fault, AreOpen}
+use Rattle.solo_host.specs.Outside.{Got, no_group, no_fault, AreAllOpen}
 use Rattle.txn_records.specs.declared.records.Record.{Record}
 
-pub got_nothing : (logs : List LogState) → AreOpen logs → Got logs logs no_group no_fault
+pub got_nothing : (logs : List LogState) → AreAllOpen logs → Got logs logs no_group no_fault
 got_nothing logs ready = record { many = refl; each = λ l within. driven_same (log_at logs l) (ready l within) }
 
 pub got_join : (a b c : List LogState) (xs ys : ℕ → List (List Record)) (tried : ℕ → Option (List Record)) → Got a b xs no_fault → Got b c ys tried → Got a c (λ l. xs l ++ ys l) tried
@@ -21,5 +21,5 @@ pub got_same : (a b : List LogState) (xs ys : ℕ → List (List Record)) (tried
 got_same a b xs ys tried same p = record { many = p.many; each = λ l within. subst (λ gs. IsDriven (log_at a l) (log_at b l) gs (tried l)) (same l) (p.each l within) }
 
 -- logs that met no fault are open
-pub got_open : (a b : List LogState) (xs : ℕ → List (List Record)) → Got a b xs no_fault → AreOpen b
+pub got_open : (a b : List LogState) (xs : ℕ → List (List Record)) → Got a b xs no_fault → AreAllOpen b
 got_open a b xs p l within = (p.each l (omega (arith, within, p.many))).shut

@@ -11,7 +11,7 @@ use Rattle.protocol.specs.Parts.{Machine}
 use Rattle.protocol.specs.Runs.{IsQuiet, opening, reached, state_after}
 use Rattle.protocol.specs.Schedule.{Draw, Follows, IsEnabled, pick}
 use Rattle.protocol_schedule.specs.Draw.{draw_of, IsFrontOfSeed}
-use Rattle.solo_host.specs.Drives.{IsNext}
+use Rattle.solo_host.specs.Drives.{IsNextOfSeed}
 use Rattle.solo_host.specs.Outside.{IsPicked}
 
 abbrev IsPickedAt : Fixed Rest → Draw → ℕ → Event → Machine Rest → Type 0
@@ -24,7 +24,7 @@ follows_on w draw step (x ∷ xs) e s front next =
     let same : step + length (x ∷ xs) ≡ step + 1 + length xs = omega arith in
     (front.0, follows_on w draw (step + 1) xs e (after w x s) front.1 (subst (λ n. IsPickedAt w draw n e (state_after w xs (after w x s))) same next))
 
-pub goes_on : (w : Fixed Rest) (seed : ℕ) (es : List Event) (e : Event) → IsFrontOfSeed w seed es → IsPicked w seed es e → IsNext w seed es e
+pub goes_on : (w : Fixed Rest) (seed : ℕ) (es : List Event) (e : Event) → IsFrontOfSeed w seed es → IsPicked w seed es e → IsNextOfSeed w seed es e
 goes_on w seed es e front next =
     follows_on w (draw_of seed) 0 es e (opening w) front
     (subst (λ n. IsPickedAt w (draw_of seed) n e (reached w es)) (sym (zero-add (length es))) (next.all, next.enabled, next.place))

@@ -37,7 +37,7 @@ use Rattle.run_journals.specs.Driven.{IsDriven}
 use Rattle.run_journals.specs.RunsOf.{RunsOf}
 use Rattle.run_journals.proofs.Driving.{pieces_spelled, driven_same, driven_none, driven_more, driven_cut_off}
 use Rattle.solo_host.specs.Drives.{log_at, tried_on}
-use Rattle.solo_host.specs.Outside.{Got, no_group, no_fault, AreLow, AreOfFormat2, AreOpen, IsDone, IsGivenUp, IsSynced, IsNotSynced, outside, stop_of}
+use Rattle.solo_host.specs.Outside.{Got, no_group, no_fault, AreLow, AreOfFormat2, AreAllOpen, IsPrepared, IsGivenUp, IsSynced, IsNotSynced, outside, stop_of}
 use Rattle.run_journals.specs.declared.stops.Stop.{Stop}
 use Rattle.run_journals.specs.declared.stops.Stop.TheVariants as stop
 use Rattle.txn_records.specs.declared.records.Record.{Record}
@@ -55,7 +55,7 @@ elsewhere logs l k b other ready =
     subst (λ x. IsDriven (log_at logs k) x [] None) (sym (get_or-set_other logs l k b _ (λ e. other (sym e)))) (driven_same (log_at logs k) ready)
 
 -- the others got nothing
-pub got_set : (logs : List LogState) (l : ℕ) (b : LogState) (xs : ℕ → List (List Record)) (tried : ℕ → Option (List Record)) → l < length logs → AreOpen logs
+pub got_set : (logs : List LogState) (l : ℕ) (b : LogState) (xs : ℕ → List (List Record)) (tried : ℕ → Option (List Record)) → l < length logs → AreAllOpen logs
     → IsDriven (log_at logs l) b (xs l) (tried l) → ((k : ℕ) → l ≢ k → (xs k ≡ []) × (tried k ≡ None)) → Got logs (set logs l b) xs tried
 got_set logs l b xs tried within ready driven others = record {
   many = length-set logs l b;
@@ -74,14 +74,14 @@ if_same l x y = ap (λ t. if t then x else y) (eq-eqb l l refl)
 if_other : {X : Type 0} (l k : ℕ) (x y : X) → l ≢ k → (if nat_eq l k then x else y) ≡ y
 if_other l k x y other = elim (eqb_tells l k) [ inl h ↦ absurd (other h.1) | inr h ↦ ap (λ t. if t then x else y) h.0 ]
 
-pub synced : GroupGrows → (w : Fixed Rest) (es : List Event) (l : ℕ) (logs : List LogState) (b : LogState) → l < length logs → AreOpen logs
+pub synced : GroupGrows → (w : Fixed Rest) (es : List Event) (l : ℕ) (logs : List LogState) (b : LogState) → l < length logs → AreAllOpen logs
     → MayAppendGroup (log_at logs l).end (group_behind w l es) → IsAppended (log_at logs l) b (spelled (group_behind w l es)) → IsSynced w es l logs (set logs l b)
 synced law w es l logs b within ready may is =
     got_set logs l b (λ k. group_by k (Sync l) (reached w es)) no_fault within ready
     (subst (λ gs. IsDriven (log_at logs l) b gs None) (sym (if_same l (group_behind w l es ∷ []) [])) (driven_more law (log_at logs l) b (group_behind w l es) may is))
     (λ k other. (if_other l k (group_behind w k es ∷ []) [] other, refl))
 
-pub cut_off : FaultGrows → (w : Fixed Rest) (es : List Event) (l : ℕ) (logs : List LogState) (b : LogState) → l < length logs → AreOpen logs
+pub cut_off : FaultGrows → (w : Fixed Rest) (es : List Event) (l : ℕ) (logs : List LogState) (b : LogState) → l < length logs → AreAllOpen logs
     → MayAppendGroup (log_at logs l).end (group_behind w l es) → IsCutOff (log_at logs l) b (spelled (group_behind w l es)) → IsNotSynced w es l (stop.LogFault l) logs (set logs l b)
 cut_off law w es l logs b within ready may is = (
   refl,
@@ -91,7 +91,7 @@ cut_off law w es l logs b within ready may is = (
       (λ k other. (refl, if_other l k (Some (group_behind w k es)) None other)),
 )
 
-pub not_touched : (l : ℕ) (logs : List LogState) (b : LogState) → l < length logs → AreOpen logs → IsUntouched (log_at logs l) b → Got logs (set logs l b) no_group no_fault
+pub not_touched : (l : ℕ) (logs : List LogState) (b : LogState) → l < length logs → AreAllOpen logs → IsUntouched (log_at logs l) b → Got logs (set logs l b) no_group no_fault
 not_touched l logs b within ready same =
     got_set logs l b no_group no_fault within ready (driven_none (log_at logs l) b same (ready l within)) (λ k other. (refl, refl))
 
@@ -121,13 +121,13 @@ may_append w es l logs x pieces runs run within low is waits =
     (subst (MayAppend (log_at logs l).end) (sym (are_spelled w l es pieces waits)) (may_on w es l logs runs run within low).may)
 
 pub has_synced : GroupGrows → (w : Fixed Rest) (es : List Event) (l : ℕ) (logs : List LogState) (x b : LogState) (pieces : List (List ℕ)) → RunsOf w → IsRun w es
-    → l < length logs → AreLow logs → AreOpen logs → x ≡ get_or logs l x → IsWhatWaits w l es pieces → IsAppended x b pieces → IsSynced w es l logs (set logs l b)
+    → l < length logs → AreLow logs → AreAllOpen logs → x ≡ get_or logs l x → IsWhatWaits w l es pieces → IsAppended x b pieces → IsSynced w es l logs (set logs l b)
 has_synced law w es l logs x b pieces runs run within low ready is waits done =
     synced law w es l logs b within ready (may_on w es l logs runs run within low)
     (subst (λ y. IsAppended y b (spelled (group_behind w l es))) (sym (at_place logs l x within is)) (subst (IsAppended x b) (are_spelled w l es pieces waits) done))
 
 pub has_not_synced : FaultGrows → (w : Fixed Rest) (es : List Event) (l : ℕ) (logs : List LogState) (x b : LogState) (pieces : List (List ℕ)) (why : AppendNo) → RunsOf w → IsRun w es
-    → l < length logs → AreLow logs → AreOpen logs → x ≡ get_or logs l x → IsWhatWaits w l es pieces → IsNotAppended x b pieces why → IsNotSynced w es l (stop_of why l) logs (set logs l b)
+    → l < length logs → AreLow logs → AreAllOpen logs → x ≡ get_or logs l x → IsWhatWaits w l es pieces → IsNotAppended x b pieces why → IsNotSynced w es l (stop_of why l) logs (set logs l b)
 has_not_synced law w es l logs x b pieces append.Device runs run within low ready is waits done =
     cut_off law w es l logs b within ready (may_on w es l logs runs run within low)
     (subst (λ y. IsCutOff y b (spelled (group_behind w l es))) (sym (at_place logs l x within is)) (subst (IsCutOff x b) (are_spelled w l es pieces waits) done))
@@ -165,7 +165,7 @@ asks_nothing w es e sync reply = ((λ l. refl), refl)
 -- ---- before a Sync all else stays
 
 pub done_of_sync : (w : Fixed Rest) (es : List Event) (l : ℕ) (old new : List LogState) (taken : Option (List ℕ)) (faults : ℕ) → IsSynced w es l old new
-    → IsDone w es (Sync l) (outside old taken faults) (outside new taken faults)
+    → IsPrepared w es (Sync l) (outside old taken faults) (outside new taken faults)
 done_of_sync w es l old new taken faults is = record { logs = is; printed = Appends-nil taken; later = omega arith }
 
 pub given_up_of_sync : (w : Fixed Rest) (es : List Event) (l : ℕ) (why : Stop) (old new : List LogState) (taken : Option (List ℕ)) (faults : ℕ) → l < length old

@@ -23,8 +23,8 @@ use Rattle.snap_hand.specs.declared.tables.Tables.{Tables}
 use Rattle.run_journals.specs.Driven.{IsDriven}
 use Rattle.solo_host.specs.Drives.{log_at, tried_on}
 use Rattle.run_journals.specs.RunsOf.{RunsOf}
-use Rattle.solo_host.specs.Outside.{Outside, outside, IsSynced, IsNotSynced, no_group, no_fault, AreOpen, IsDone, IsFailure, IsGivenUp, IsPicked, IsEnd}
-use Rattle.solo_host.specs.Turns.{HasGoneOn, HasEnded}
+use Rattle.solo_host.specs.Outside.{Outside, outside, IsSynced, IsNotSynced, no_group, no_fault, AreAllOpen, IsPrepared, IsFailure, IsGivenUp, IsPicked, IsEnd}
+use Rattle.solo_host.specs.Turns.{HasGoneOn, HasStopped}
 use Rattle.run_journals.specs.declared.stops.Stop.{Stop}
 use Rattle.run_journals.specs.declared.stops.Stop.TheVariants as stop
 use Rattle.solo_host.proofs.Preparing.{done_of_sync, given_up_of_sync, log_exists}
@@ -44,8 +44,8 @@ wants_no_line w es e is = refl
 -- ---- the ends
 
 -- nothing was done, and nothing is allowed or there was no memory
-pub idle : (seed : ℕ) (core : CoreState) (es : List Event) (why : Stop) (now : Outside) → IsAt core es → AreOpen now.logs
-    → ((l : ℕ) → tried_on (fixed_of core.tables) l es why ≡ None) → IsEnd (fixed_of core.tables) seed es why now now → HasEnded seed core core es es why now now
+pub idle : (seed : ℕ) (core : CoreState) (es : List Event) (why : Stop) (now : Outside) → IsAt core es → AreAllOpen now.logs
+    → ((l : ℕ) → tried_on (fixed_of core.tables) l es why ≡ None) → IsEnd (fixed_of core.tables) seed es why now now → HasStopped seed core core es es why now now
 idle seed core es why now at ready untried end = record {
   same = refl;
   at = at;
@@ -61,7 +61,7 @@ ends_by w seed es e stop.Memory old new picked is = is
 ends_by w seed es e stop.Quiet old new picked is = absurd is
 
 pub given_up : (seed : ℕ) (core : CoreState) (es : List Event) (e : Event) (why : Stop) (old new : Outside) → IsAt core es
-    → IsPicked (fixed_of core.tables) seed es e → IsGivenUp (fixed_of core.tables) es e why old new → HasEnded seed core core es es why old new
+    → IsPicked (fixed_of core.tables) seed es e → IsGivenUp (fixed_of core.tables) es e why old new → HasStopped seed core core es es why old new
 given_up seed core es e why old new at picked is = record {
   same = refl;
   at = at;
@@ -72,7 +72,7 @@ given_up seed core es e why old new at picked is = record {
 
 -- the step found no memory, so nothing was asked for before it
 pub not_stepped : (seed : ℕ) (core now : CoreState) (es : List Event) (e : Event) (old new : Outside) → now ≡ core → IsAt core es
-    → may_want e ≡ true → IsDone (fixed_of core.tables) es e old new → HasEnded seed core now es es stop.Memory old new
+    → may_want e ≡ true → IsPrepared (fixed_of core.tables) es e old new → HasStopped seed core now es es stop.Memory old new
 not_stepped seed core now es e old new unchanged at wants done = record {
   same = refl;
   at = subst (λ c. IsAt c es) (sym unchanged) at;
@@ -86,10 +86,10 @@ not_stepped seed core now es e old new unchanged at wants done = record {
 pub before_a_sync : {T : Type 0} (r : Result T Stop) (core : CoreState) (e : code.Event) (l : ℕ) (old new : List LogState) (taken : Option (List ℕ)) (faults : ℕ) → e ≡ events.Sync l → l < length old
     → MatchResult r (λ _. (es : List Event) → IsAt core es → IsSynced (fixed_of core.tables) es l old new) (λ why. (es : List Event) → IsAt core es → IsNotSynced (fixed_of core.tables) es l why old new)
     → MatchResult r
-    (λ _. (es : List Event) → IsAt core es → IsDone (fixed_of core.tables) es (event_meant e) (outside old taken faults) (outside new taken faults))
+    (λ _. (es : List Event) → IsAt core es → IsPrepared (fixed_of core.tables) es (event_meant e) (outside old taken faults) (outside new taken faults))
     (λ why. (es : List Event) → IsAt core es → IsGivenUp (fixed_of core.tables) es (event_meant e) why (outside old taken faults) (outside new taken faults))
 before_a_sync (Ok x) core e l old new taken faults is within said = λ es at.
-    subst (λ d. IsDone (fixed_of core.tables) es (event_meant d) (outside old taken faults) (outside new taken faults)) (sym is)
+    subst (λ d. IsPrepared (fixed_of core.tables) es (event_meant d) (outside old taken faults) (outside new taken faults)) (sym is)
     (done_of_sync (fixed_of core.tables) es l old new taken faults (said es at))
 before_a_sync (Err why) core e l old new taken faults is within said = λ es at.
     subst (λ d. IsGivenUp (fixed_of core.tables) es (event_meant d) why (outside old taken faults) (outside new taken faults)) (sym is)
@@ -109,7 +109,7 @@ pub kept_more : (old mid new : List code.Event) (e : code.Event) → mid ≡ old
 kept_more old mid new e same more = ap (map event_meant) (more ∙ ap (λ xs. xs ++ e ∷ []) same) ∙ map_more old e
 
 pub gone_on : (seed : ℕ) (core now : CoreState) (es kept : List Event) (e : Event) (old new : Outside) → kept ≡ es ++ e ∷ [] → IsPicked (fixed_of core.tables) seed es e
-    → IsAt now (es ++ e ∷ []) → IsDone (fixed_of core.tables) es e old new → HasGoneOn seed core now es kept old new
+    → IsAt now (es ++ e ∷ []) → IsPrepared (fixed_of core.tables) es e old new → HasGoneOn seed core now es kept old new
 gone_on seed core now es kept e old new more picked at done = record { event = e; more = more; picked = picked; at = subst (IsAt now) (sym more) at; done = done }
 
 -- ---- along the turns, whose core keeps its text
@@ -124,7 +124,7 @@ stays_driving t seed core now es kept start old new same runs at driving gone =
     (subst (λ (z : Tables). IsDriving (fixed_of z) seed es start old) (sym same) driving) gone.picked gone.done))
 
 pub has_driven : (t : Tables) (seed : ℕ) (core now : CoreState) (es kept : List Event) (why : Stop) (start old new : Outside) → core.tables ≡ t
-    → IsDriving (fixed_of t) seed es start old → HasEnded seed core now es kept why old new → IsOver (fixed_of t) seed kept why start new
+    → IsDriving (fixed_of t) seed es start old → HasStopped seed core now es kept why old new → IsOver (fixed_of t) seed kept why start new
 has_driven t seed core now es kept why start old new same driving ended =
     let w = fixed_of core.tables in
     subst (λ (z : Tables). IsOver (fixed_of z) seed kept why start new) same

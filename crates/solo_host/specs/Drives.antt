@@ -30,15 +30,15 @@ AreDriven w es why old new = (length new ≡ length old) × ((l : ℕ) → l < l
 -- ---- why it ended
 
 -- the schedule goes on with this event
-abbrev pub IsNext : Fixed Rest → ℕ → List Event → Event → Type 0
-IsNext w seed es e = IsFrontOfSeed w seed (es ++ e ∷ [])
+abbrev pub IsNextOfSeed : Fixed Rest → ℕ → List Event → Event → Type 0
+IsNextOfSeed w seed es e = IsFrontOfSeed w seed (es ++ e ∷ [])
 
 -- No event is allowed; or the next one is a Sync of a log whose device failed, or a reply whose line the output did not take;
 -- or there was no memory.
 abbrev pub IsWhy : Fixed Rest → ℕ → List Event → List LogState → List LogState → ℕ → ℕ → Stop → Type 0
 IsWhy w seed es old new out_before out_after stop.Quiet = IsQuiet w (reached w es)
-IsWhy w seed es old new out_before out_after (stop.LogFault l) = (l < length old) × IsNext w seed es (Sync l) × Rose (log_at old l).faults (log_at new l).faults
-IsWhy w seed es old new out_before out_after stop.OutFault = ((n : ℕ) × IsNext w seed es (Reply n)) × Rose out_before out_after
+IsWhy w seed es old new out_before out_after (stop.LogFault l) = (l < length old) × IsNextOfSeed w seed es (Sync l) × Rose (log_at old l).faults (log_at new l).faults
+IsWhy w seed es old new out_before out_after stop.OutFault = ((n : ℕ) × IsNextOfSeed w seed es (Reply n)) × Rose out_before out_after
 IsWhy w seed es old new out_before out_after stop.Memory = ⊤
 
 -- ---- what is printed
@@ -46,5 +46,5 @@ IsWhy w seed es old new out_before out_after stop.Memory = ⊤
 -- The replies of the events are printed; and of the line of the next one a front, where the output did not take it.
 abbrev pub IsPrinted : Fixed Rest → ℕ → List Event → Option (List ℕ) → Option (List ℕ) → Stop → Type 0
 IsPrinted w seed es old new stop.OutFault =
-    (n : ℕ) × (front rest : List ℕ) × IsNext w seed es (Reply n) × (line_in (reached w es) n ≡ front ++ rest) × Appends old new (replies_text w es ++ front)
+    (n : ℕ) × (front rest : List ℕ) × IsNextOfSeed w seed es (Reply n) × (line_in (reached w es) n ≡ front ++ rest) × Appends old new (replies_text w es ++ front)
 IsPrinted w seed es old new _ = Appends old new (replies_text w es)

@@ -1,4 +1,5 @@
--- What one turn of the host does to the outside before its event. Only private contracts cite it; the rule is in Drives.antt.
+-- Only private contracts cite this; the rule is Drives.antt.
+-- What one turn of the host does to the outside, before its event.
 use Rattle.std.specs.Prelude.{◌≡◌, ℕ, ◌+◌, ◌≤◌, ◌<◌, false, Option, None, List, [], ◌++◌, length, slice_get, Some}
 use Rattle.std.specs.Io.KnownBytes.{Appends}
 use Rattle.aml_slice.specs.Controls.{Rest}
@@ -34,8 +35,8 @@ abbrev pub outside : List LogState → Option (List ℕ) → ℕ → Outside
 outside logs taken faults = record { logs = logs; taken = taken; faults = faults }
 
 -- no append has met a fault
-abbrev pub AreOpen : List LogState → Type 0
-AreOpen logs = (l : ℕ) → l < length logs → (log_at logs l).shut ≡ false
+abbrev pub AreAllOpen : List LogState → Type 0
+AreAllOpen logs = (l : ℕ) → l < length logs → (log_at logs l).shut ≡ false
 
 -- each is of format 2, which takes appends
 abbrev pub AreOfFormat2 : List LogState → Type 0
@@ -97,7 +98,7 @@ IsNotReplied s n _ old new before now = ⊥
 -- ---- before an event
 
 -- what the event asks for was done
-pub record IsDone (w : Fixed Rest) (es : List Event) (e : Event) (old new : Outside) : Type 0 where
+pub record IsPrepared (w : Fixed Rest) (es : List Event) (e : Event) (old new : Outside) : Type 0 where
   pub logs : Got old.logs new.logs (λ l. group_by l e (reached w es)) no_fault
   pub printed : Appends old.taken new.taken (line_by w es e)
   pub later : old.faults ≤ new.faults

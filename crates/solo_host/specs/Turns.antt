@@ -1,4 +1,5 @@
--- One turn of the host, on a core. Only private contracts cite it; the rule is in Drives.antt.
+-- Only private contracts cite this; the rule is Drives.antt.
+-- One turn of the host, on a core.
 use Rattle.std.specs.Prelude.{◌≡◌, ℕ, ◌≤◌, List, [], ◌∷◌, ◌++◌, ◌⊎◌}
 use Rattle.aml_slice.specs.Controls.{Rest}
 use Rattle.rand_pcg.specs.Lcg.{Lcg, advance}
@@ -13,7 +14,7 @@ use Rattle.ready_renewal.specs.Covering.{Covers}
 use Rattle.snap_core.specs.Cores.{CoreState, IsAt}
 use Rattle.snap_hand.specs.Tables.{fixed_of}
 use Rattle.solo_host.specs.Drives.{tried_on}
-use Rattle.solo_host.specs.Outside.{Outside, Got, no_group, IsDone, IsPicked, IsEnd}
+use Rattle.solo_host.specs.Outside.{Outside, Got, no_group, IsPrepared, IsPicked, IsEnd}
 use Rattle.run_journals.specs.declared.stops.Stop.{Stop}
 
 -- The generator has drawn the words of so many steps of the seed.
@@ -41,10 +42,10 @@ pub record HasGoneOn (seed : ℕ) (core now : CoreState) (es kept : List Event) 
   pub more : kept ≡ es ++ event ∷ []
   pub picked : IsPicked (fixed_of core.tables) seed es event
   pub at : IsAt now kept
-  pub done : IsDone (fixed_of core.tables) es event old new
+  pub done : IsPrepared (fixed_of core.tables) es event old new
 
 -- no event was taken, and the host ended
-pub record HasEnded (seed : ℕ) (core now : CoreState) (es kept : List Event) (why : Stop) (old new : Outside) : Type 0 where
+pub record HasStopped (seed : ℕ) (core now : CoreState) (es kept : List Event) (why : Stop) (old new : Outside) : Type 0 where
   pub same : kept ≡ es
   pub at : IsAt now kept
   pub logs : Got old.logs new.logs no_group (λ l. tried_on (fixed_of core.tables) l es why)

@@ -7,7 +7,7 @@ ghost use Rattle.snap_core.specs.Cores.{IsAt, state_at};
 ghost use Rattle.snap_hand.specs.Tables.{fixed_of};
 ghost use Rattle.snap_outside.specs.Causes.{EndsAtFault};
 ghost use Rattle.run_journals.specs.RunsOf.{RunsOf};
-ghost use Rattle.solo_host.specs.Outside.{AreLow, AreOfFormat2, AreOpen, outside, IsDone, IsGivenUp};
+ghost use Rattle.solo_host.specs.Outside.{AreLow, AreOfFormat2, AreAllOpen, outside, IsPrepared, IsGivenUp};
 
 use crate::groups::before_sync;
 use crate::replies::before_reply;
@@ -29,11 +29,11 @@ pub(crate) fn before<D: LogDev, O: Sink>(
     requires runs { RunsOf (fixed_of core.now.tables) }
     requires allowed { (es : List machine.Event) × IsAt core.now es × IsAllowed (fixed_of core.now.tables) (event_meant e) (state_at core.now es) }
     requires logs { length logs.old.items ≡ core.now.tables.work.logs }
-    requires open { AreOpen logs.old.items }
+    requires open { AreAllOpen logs.old.items }
     requires format { AreOfFormat2 logs.old.items }
     requires low { AreLow logs.old.items }
     ensures outer { MatchResult result
-        (λ _. (es : List machine.Event) → IsAt core.now es → IsDone (fixed_of core.now.tables) es (event_meant e)
+        (λ _. (es : List machine.Event) → IsAt core.now es → IsPrepared (fixed_of core.now.tables) es (event_meant e)
         (outside logs.old.items (O.taken out.old) (O.faults out.old))
         (outside logs.new.items (O.taken out.new) (O.faults out.new)))
         (λ stop. (es : List machine.Event) → IsAt core.now es → IsGivenUp (fixed_of core.now.tables) es (event_meant e) stop

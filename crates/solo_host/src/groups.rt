@@ -4,7 +4,7 @@ ghost use Rattle.protocol.specs.Events as machine;
 ghost use Rattle.snap_core.specs.Cores.{IsAt};
 ghost use Rattle.snap_hand.specs.Tables.{fixed_of};
 ghost use Rattle.run_journals.specs.RunsOf.{RunsOf};
-ghost use Rattle.solo_host.specs.Outside.{AreLow, AreOfFormat2, AreOpen, IsSynced, IsNotSynced, stop_of};
+ghost use Rattle.solo_host.specs.Outside.{AreLow, AreOfFormat2, AreAllOpen, IsSynced, IsNotSynced, stop_of};
 
 use gate_log::{AppendNo, Log};
 use record_log::history_grows;
@@ -24,7 +24,7 @@ pub(crate) fn before_sync<D: LogDev>(
     requires at { (es : List machine.Event) × IsAt core.now es }
     requires exists { l < core.now.tables.work.logs }
     requires logs { length logs.old.items ≡ core.now.tables.work.logs }
-    requires open { AreOpen logs.old.items }
+    requires open { AreAllOpen logs.old.items }
     requires format { AreOfFormat2 logs.old.items }
     requires low { AreLow logs.old.items }
     ensures { MatchResult result

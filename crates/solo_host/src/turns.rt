@@ -5,8 +5,8 @@ ghost use Rattle.snap_core.specs.Cores.{IsAt, state_at};
 ghost use Rattle.snap_hand.specs.Tables.{fixed_of};
 ghost use Rattle.snap_outside.specs.Causes.{EndsAtFault};
 ghost use Rattle.run_journals.specs.RunsOf.{RunsOf};
-ghost use Rattle.solo_host.specs.Outside.{AreLow, AreOfFormat2, AreOpen, outside};
-ghost use Rattle.solo_host.specs.Turns.{HasGoneOn, HasEnded, IsBehindWords, IsKeptFor, IsOneBehind};
+ghost use Rattle.solo_host.specs.Outside.{AreLow, AreOfFormat2, AreAllOpen, outside};
+ghost use Rattle.solo_host.specs.Turns.{HasGoneOn, HasStopped, IsBehindWords, IsKeptFor, IsOneBehind};
 
 use crate::befores::before;
 use crate::freshening::freshen;
@@ -39,14 +39,14 @@ pub(crate) fn turn<D: LogDev, O: Sink>(
     requires drawn { IsBehindWords seed (length (map event_meant kept.old.items)) generator.old }
     requires behind { IsOneBehind seed (fixed_of core.old.tables) (map event_meant kept.old.items) list.old.events }
     requires logs { length logs.old.items ≡ core.old.tables.work.logs }
-    requires open { AreOpen logs.old.items }
+    requires open { AreAllOpen logs.old.items }
     requires format { AreOfFormat2 logs.old.items }
     requires low { AreLow logs.old.items }
     ensures goes { MatchOption result
         (HasGoneOn seed core.old core.new (map event_meant kept.old.items) (map event_meant kept.new.items)
         (outside logs.old.items (O.taken out.old) (O.faults out.old))
         (outside logs.new.items (O.taken out.new) (O.faults out.new)))
-        (λ stop. HasEnded seed core.old core.new (map event_meant kept.old.items) (map event_meant kept.new.items) stop
+        (λ stop. HasStopped seed core.old core.new (map event_meant kept.old.items) (map event_meant kept.new.items) stop
         (outside logs.old.items (O.taken out.old) (O.faults out.old))
         (outside logs.new.items (O.taken out.new) (O.faults out.new))) }
     ensures list { result ≡ None → IsKeptFor seed (fixed_of core.old.tables) (state_at core.old (map event_meant kept.old.items)) list.new.events }

@@ -4,7 +4,7 @@ use Rattle.core_events.specs.declared.events.Event as code
 use Rattle.core_events.specs.Meant.{event_meant}
 use Rattle.snap_hand.specs.Tables.{fixed_of}
 use Rattle.solo_host.specs.Outside.{outside}
-use Rattle.solo_host.specs.Turns.{HasEnded}
+use Rattle.solo_host.specs.Turns.{HasStopped}
 use Rattle.run_journals.specs.declared.stops.Stop.TheVariants as stop
 use Rattle.solo_host.proofs.Picking.{picked_allowed}
 use Rattle.solo_host.proofs.Turning.{idle, given_up, not_stepped, kept_more, gone_on}
@@ -33,7 +33,7 @@ returns-in-Err-clause-goes g c =
     let picked = c.in-Some.ensures.some es c.requires.at c.requires.drawn c.in-Ok.ensures in
     let old = outside c.args.logs.now.items (g.O.Sink.taken c.args.out.now) (g.O.Sink.faults c.args.out.now) in
     let new = outside c.before-2.new.logs.items (g.O.Sink.taken c.before-2.new.out) (g.O.Sink.faults c.before-2.new.out) in
-    subst (λ (ks : List code.Event). HasEnded c.args.seed c.args.core.now c.args.core.now es (map event_meant ks) c.in-Err.stop old new) (sym c.reserve.ensures.items)
+    subst (λ (ks : List code.Event). HasStopped c.args.seed c.args.core.now c.args.core.now es (map event_meant ks) c.in-Err.stop old new) (sym c.reserve.ensures.items)
     (given_up c.args.seed c.args.core.now es (event_meant c.in-Some.e) c.in-Err.stop old new c.requires.at picked (c.in-Err.ensures.outer es c.requires.at))
 
 pub returns-in-Err-clause-once : goal.returns-in-Err-clause-once
@@ -51,7 +51,7 @@ returns-in-Err-take_step-clause-goes g c =
     let es = map event_meant c.args.kept.now.items in
     let old = outside c.args.logs.now.items (g.O.Sink.taken c.args.out.now) (g.O.Sink.faults c.args.out.now) in
     let new = outside c.before-2.new.logs.items (g.O.Sink.taken c.before-2.new.out) (g.O.Sink.faults c.before-2.new.out) in
-    subst (λ (ks : List code.Event). HasEnded c.args.seed c.args.core.now c.take_step.new.core es (map event_meant ks) stop.Memory old new) (sym c.reserve.ensures.items)
+    subst (λ (ks : List code.Event). HasStopped c.args.seed c.args.core.now c.take_step.new.core es (map event_meant ks) stop.Memory old new) (sym c.reserve.ensures.items)
     (not_stepped c.args.seed c.args.core.now c.take_step.new.core es (event_meant c.in-Some.e) old new c.in-Err-take_step.ensures.unchanged c.requires.at c.in-Err-take_step.ensures.no
     (c.in-Ok-before.ensures.outer es c.requires.at))
 
