@@ -11,6 +11,6 @@ pub record RoomState : Type 0 where
   pub logs : ℕ
 
 -- The hand is for the parts of the text and has none, and there is room for the parts and the logs.
-abbrev pub HasRoom : {C : Type 0} → Fixed C → RoomState → Type 0
-HasRoom w room =
+abbrev pub IsRoomFor : {C : Type 0} → Fixed C → RoomState → Type 0
+IsRoomFor w room =
     (room.hand ≡ no_parts w.text.logs (length w.text.opening.states)) × (4 + w.text.logs + length w.text.opening.states ≤ room.parts) × (w.text.logs ≤ room.logs)

@@ -1,7 +1,7 @@
 //! What a crew ends with.
 ghost use Rattle.std.specs.Prelude.{◌≡◌, List, length};
 ghost use Rattle.crew_ends.specs.Ends.{AreBeside, IsSomeEnd};
-ghost use Rattle.crew_ends.specs.Rooms.{HasRoom};
+ghost use Rattle.crew_ends.specs.Rooms.{IsRoomFor};
 ghost use Rattle.crew_parts.specs.Crews.{HasCome};
 ghost use Rattle.crew_parts.specs.Shares.{ShareState, output_seen};
 ghost use Rattle.protocol.specs.Events as machine;
@@ -37,7 +37,7 @@ pub fn core_of<D: LogDev + Drop, O: Sink + Drop>(
 ) -> Ended<D, O>
     requires tables { AreTables tables }
     requires come { IsSomeEnd (fixed_of tables) shares.items }
-    requires room { HasRoom (fixed_of tables) room }
+    requires room { IsRoomFor (fixed_of tables) room }
     // The core is where the events have come to.
     ensures tables { result.core.tables ≡ tables }
     ensures core { (start : List ShareState) (es : List machine.Event) → HasCome (fixed_of tables) start es shares.items → IsAt result.core es }

@@ -3,7 +3,7 @@ ghost use Rattle.std.specs.Prelude.{◌≡◌, ◌+◌, ◌<◌, ◌≤◌, ◌^
 ghost use Rattle.std.specs.List.{AllByRecursion};
 ghost use Rattle.core_events.specs.Meant.{event_meant};
 ghost use Rattle.crew_ends.specs.Ends.{AreBeside, AreDriven, AreDue};
-ghost use Rattle.crew_ends.specs.Rooms.{HasRoom};
+ghost use Rattle.crew_ends.specs.Rooms.{IsRoomFor};
 ghost use Rattle.crew_host.specs.Drives.{IsCrewStop};
 ghost use Rattle.crew_host.specs.Stops.{IsStopBy};
 ghost use Rattle.crew_parts.specs.Crews.{Begins, HasCome, OutputIs, kept};
@@ -167,7 +167,7 @@ fn ended<R: Wait, D: LogDev + Drop, O: Sink + Drop>(
 ) -> CrewEnd<D, O>
     requires tables { AreTables ending.tables }
     requires come { (start : List ShareState) × (Begins (fixed_of ending.tables) start × HasCome (fixed_of ending.tables) start (kept ending.acts.items) ending.shares.items) }
-    requires room { HasRoom (fixed_of ending.tables) room }
+    requires room { IsRoomFor (fixed_of ending.tables) room }
     ensures tables { result.core.tables ≡ ending.tables }
     ensures kept { map event_meant result.kept.items ≡ kept ending.acts.items }
     ensures core { IsAt result.core (kept ending.acts.items) }
