@@ -18,7 +18,7 @@ use work_gen::generate;
 /// How often a slice that waits for another looks for it, at most.
 const PATIENCE: u64 = 20_000_000;
 
-/// The same where none will come.
+/// How often a slice looks for another that will not come.
 const LITTLE: u64 = 1_000;
 
 /// A gate where the slices of two actors wait for each other, but not for ever.
@@ -31,6 +31,7 @@ struct Meeting {
 }
 
 impl Meeting {
+    /// A gate at which no slice has arrived, and waits look so often for the other.
     fn new(patience: u64) -> Meeting {
         Meeting {
             patience,
@@ -71,6 +72,7 @@ struct Crossing {
 }
 
 impl Crossing {
+    /// A gate at which no slice has arrived.
     fn new() -> Crossing {
         Crossing {
             arrived: AtomicU64::new(0),
@@ -110,6 +112,7 @@ impl Drop for Ran {
 }
 
 impl Ran {
+    /// What was printed.
     fn output(&self) -> &str {
         str::from_utf8(self.0.out.bytes()).unwrap_or("no text")
     }
@@ -327,6 +330,7 @@ fn have_committed<R: Threads + Wait + Sync>(
     Ok(replies.committed == 2 && wrong.is_empty())
 }
 
+/// Two slices wait for each other inside the gate: two workers meet there, and one worker does not.
 #[test]
 fn slices_of_two_workers_meet_on_two_actors(rt: HostRuntime) -> Result<(), Fail> {
     let alloc = rt.alloc();
@@ -353,6 +357,7 @@ fn slices_of_two_workers_meet_on_two_actors(rt: HostRuntime) -> Result<(), Fail>
     Ok(())
 }
 
+/// What the command prints with workers is what its transactions give one by one, and its logs recover to these states.
 #[test]
 fn workers_print_what_one_by_one_gives(rt: HostRuntime) -> Result<(), Fail> {
     let alloc = rt.alloc();

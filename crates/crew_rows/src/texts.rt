@@ -30,6 +30,7 @@ method bad(to) { f0 = f0 + 1; let there = call to put(1); fail 9; }
 /// How many actors each text has. It is a prime number, so that actors of one distance are all of them.
 const ACTORS: u32 = 5;
 
+/// The lines of the actors, each with 100 in its first field.
 const STATES: &str = "actors 5\nactor 0 100\nactor 1 100\nactor 2 100\nactor 3 100\nactor 4 100\n";
 
 /// What the first fields of all actors sum up to.
