@@ -19,9 +19,10 @@ use Rattle.command_words.specs.Commands.{IsCommand}
 use Rattle.command_words.specs.Words.{AreLastWorkers, IsRunCommand, IsRecover, IsMigrate, IsGen, IsBench, IsForm, IsUsageFault}
 use Rattle.command_words.specs.Workers.{workers_in, AskFor}
 use Rattle.snap_run.specs.Uses.{Reading, Use}
-use Rattle.snap_run.specs.Migrations.{IsMigrateAnswer}
-use Rattle.snap_run.specs.Recoveries.{IsRecoverAnswer}
-use Rattle.snap_run.specs.Answers.{OfText, schedule_of, ran_of, ReadsNothing, IsInputAnswer, TouchesNothing, TakesNoEvent, IsGenAnswer, IsMeasured, GetsNoCall, IsUntroubled, MayBeMeasured}
+use Rattle.snap_run.specs.Migrations.{IsMigrateAnswer, migrate_done, migrate_refused, migrate_memory, migrate_log_fault, migrate_out_fault}
+use Rattle.snap_run.specs.Recoveries.{IsRecoverAnswer, recover_done, recover_refused, recover_memory, recover_log_fault, recover_out_fault}
+use Rattle.snap_run.specs.Answers.{OfText, schedule_asked, ran_of, ReadsNothing, IsInputAnswer, input_refused, input_memory, input_read_fault, TouchesNothing, TakesNoEvent, IsGenAnswer}
+use Rattle.snap_run.specs.Answers.{IsMeasured, ran, recovered, generated, measured, migrated, refused, GetsNoCall, IsUntroubled, MayBeMeasured}
 use Rattle.work_gen.specs.Generated.{generated_text}
 use Rattle.snap_run.specs.Outcomes.{IsOutcome}
 use Rattle.txn_records.specs.declared.records.Record.{Record}
@@ -94,22 +95,16 @@ few_workers last n (inr said) = said.1
 -- the run ended before its logs got a call
 pub input_outcome : OneCommand → (u : Use) (n seed : ℕ) (s : Status) → IsRunCommand u.words n seed → TouchesNothing u → IsInputAnswer u.reading s → IsOutcome u s
 input_outcome one u n seed s run nothing a = record {
-  answer = inl (n, seed, run, inl (a, nothing));
+  answer = ran n seed run (inl (a, nothing));
   opened = λ recover. absurd (not_both one u.words n seed run recover);
   kept = λ recover. absurd (not_both one u.words n seed run recover);
   migrated = λ migrate. absurd (run_not_migrate one u.words n seed run migrate);
 }
 
 pub input_not_of_logs : (r : Reading) (s : Status) → IsInputAnswer r s → ¬ IsOfLogs s
-input_not_of_logs r status.Done a of = of
-input_not_of_logs r (status.Usage place) a of = of
-input_not_of_logs r (status.Input line cause) a of = of
-input_not_of_logs r (status.Logs log offset cause) a of = a
-input_not_of_logs r status.Memory a of = of
-input_not_of_logs r status.ReadFault a of = of
-input_not_of_logs r (status.LogFault log) a of = a
-input_not_of_logs r status.OutFault a of = of
-input_not_of_logs r status.TraceFault a of = of
+input_not_of_logs r s (input_refused line cause enough fault) of = of
+input_not_of_logs r s input_memory of = of
+input_not_of_logs r s (input_read_fault rose) of = of
 
 -- ---- the input is run
 
@@ -125,16 +120,16 @@ of_text_then r w P of p = (of.0, known r.left_before of.1)
     known (Some text) h = (h.0, h.1, subst P (sym h.2) p)
 
 pub run_outcome : OneCommand → (u : Use) (n seed : ℕ) (w : Work) (s : Status) → IsRunCommand u.words n seed → OfText u.reading (λ v. v ≡ w)
-    → IsWorkAnswer (ran_of u w (schedule_of n seed)) s → IsOutcome u s
+    → IsWorkAnswer (ran_of u w (schedule_asked n seed)) s → IsOutcome u s
 run_outcome one u n seed w s run of a = record {
-  answer = inl (n, seed, run, inr (of_text_then u.reading w (λ v. IsWorkAnswer (ran_of u v (schedule_of n seed)) s) of a));
+  answer = ran n seed run (inr (of_text_then u.reading w (λ v. IsWorkAnswer (ran_of u v (schedule_asked n seed)) s) of a));
   opened = λ recover. absurd (not_both one u.words n seed run recover);
   kept = λ recover. absurd (not_both one u.words n seed run recover);
   migrated = λ migrate. absurd (run_not_migrate one u.words n seed run migrate);
 }
 
 -- several workers take any schedule
-pub by_crew : (n seed : ℕ) → 0 < n → schedule_of n seed ≡ free
+pub by_crew : (n seed : ℕ) → 0 < n → schedule_asked n seed ≡ free
 by_crew zero seed some = absurd (omega (arith, some))
 by_crew (suc n) seed some = refl
 
@@ -165,41 +160,33 @@ run_calls p r status.TraceFault a none = none
 -- ---- the other command, and no command
 
 pub recover_calls : (before after : List Device) (out : Writing) (s : Status) → IsRecoverAnswer before after out s → GetsNoCall s → ⊥
-recover_calls before after out status.Done a none = none
-recover_calls before after out (status.Usage place) a none = a
-recover_calls before after out (status.Input line cause) a none = a
-recover_calls before after out (status.Logs log offset cause) a none = none
-recover_calls before after out status.Memory a none = none
-recover_calls before after out status.ReadFault a none = a
-recover_calls before after out (status.LogFault log) a none = none
-recover_calls before after out status.OutFault a none = none
-recover_calls before after out status.TraceFault a none = none
+recover_calls before after out s (recover_done o is writes) none = none
+recover_calls before after out s (recover_refused log offset cause is nothing) none = none
+recover_calls before after out s (recover_memory lacks nothing) none = none
+recover_calls before after out s (recover_log_fault log failed nothing) none = none
+recover_calls before after out s (recover_out_fault o is front rose) none = none
 
 pub recover_outcome : OneCommand → (u : Use) (s : Status) → IsRecover u.words → ReadsNothing u.reading → u.kept ≡ [] → WritesNothing u.tracing
     → AllZip IsOpenedAtMost u.devices_before u.devices_after → AllZip (λ (a b : Device). KeepsRecords a.told b.told) u.devices_before u.devices_after
     → IsRecoverAnswer u.devices_before u.devices_after u.writing s → IsOutcome u s
 recover_outcome one u s recover nothing none untraced opened kept a = record {
-  answer = inr (inl (recover, nothing, none, untraced, a));
+  answer = recovered recover nothing none untraced a;
   opened = λ _. opened;
   kept = λ _. kept;
   migrated = λ migrate. absurd (recover_not_migrate one u.words recover migrate);
 }
 
 pub migrate_calls : (before after : List Device) (out : Writing) (s : Status) → IsMigrateAnswer before after out s → GetsNoCall s → ⊥
-migrate_calls before after out status.Done a none = none
-migrate_calls before after out (status.Usage place) a none = a
-migrate_calls before after out (status.Input line cause) a none = a
-migrate_calls before after out (status.Logs log offset cause) a none = none
-migrate_calls before after out status.Memory a none = none
-migrate_calls before after out status.ReadFault a none = a
-migrate_calls before after out (status.LogFault log) a none = none
-migrate_calls before after out status.OutFault a none = none
-migrate_calls before after out status.TraceFault a none = none
+migrate_calls before after out s (migrate_done count is writes) none = none
+migrate_calls before after out s (migrate_refused log offset cause is nothing) none = none
+migrate_calls before after out s (migrate_memory lacks nothing) none = none
+migrate_calls before after out s (migrate_log_fault log failed nothing) none = none
+migrate_calls before after out s (migrate_out_fault count is front rose) none = none
 
 pub migrate_outcome : OneCommand → (u : Use) (s : Status) → IsMigrate u.words → ReadsNothing u.reading → u.kept ≡ [] → WritesNothing u.tracing
     → AllZip (λ (a b : Device). KeepsRecords a.told b.told) u.devices_before u.devices_after → IsMigrateAnswer u.devices_before u.devices_after u.writing s → IsOutcome u s
 migrate_outcome one u s migrate nothing none untraced kept a = record {
-  answer = inr (inr (inr (inr (inl (migrate, nothing, none, untraced, a)))));
+  answer = migrated migrate nothing none untraced a;
   opened = λ recover. absurd (recover_not_migrate one u.words recover migrate);
   kept = λ recover. absurd (recover_not_migrate one u.words recover migrate);
   migrated = λ _. kept;
@@ -207,7 +194,7 @@ migrate_outcome one u s migrate nothing none untraced kept a = record {
 
 pub usage_outcome : (u : Use) (place : ℕ) → IsUsageFault u.words place → ReadsNothing u.reading → TouchesNothing u → IsOutcome u (status.Usage place)
 usage_outcome u place fault reads nothing = record {
-  answer = inr (inr (inr (inr (inr ((place, refl, fault), reads, nothing)))));
+  answer = refused place refl fault reads nothing;
   opened = λ recover. absurd (fault.no_form (inr (inl recover)));
   kept = λ recover. absurd (fault.no_form (inr (inl recover)));
   migrated = λ migrate. absurd (fault.no_form (inr (inr (inr (inr migrate)))));
@@ -215,16 +202,16 @@ usage_outcome u place fault reads nothing = record {
 
 pub gen_outcome : OneCommand → (u : Use) (count seed : ℕ) (s : Status) → IsGen u.words count seed → ReadsNothing u.reading → TakesNoEvent u → IsGenAnswer (generated_text count seed) u.writing s → IsOutcome u s
 gen_outcome one u count seed s gen reads nothing a = record {
-  answer = inr (inr (inl (count, seed, gen, reads, nothing, a)));
+  answer = generated count seed gen reads nothing a;
   opened = λ recover. absurd (recover_not_gen one u.words count seed recover gen);
   kept = λ recover. absurd (recover_not_gen one u.words count seed recover gen);
   migrated = λ migrate. absurd (gen_not_migrate one u.words count seed gen migrate);
 }
 
-pub bench_outcome : OneCommand → (u : Use) (count seed n : ℕ) (s : Status) → IsBench u.words count seed n → ReadsNothing u.reading → IsMeasured u (schedule_of n 0) count seed s
+pub bench_outcome : OneCommand → (u : Use) (count seed n : ℕ) (s : Status) → IsBench u.words count seed n → ReadsNothing u.reading → IsMeasured u (schedule_asked n 0) count seed s
     → IsOutcome u s
 bench_outcome one u count seed n s bench reads a = record {
-  answer = inr (inr (inr (inl (count, seed, n, bench, reads, a))));
+  answer = measured count seed n bench reads a;
   opened = λ recover. absurd (recover_not_bench one u.words count seed n recover bench);
   kept = λ recover. absurd (recover_not_bench one u.words count seed n recover bench);
   migrated = λ migrate. absurd (bench_not_migrate one u.words count seed n bench migrate);

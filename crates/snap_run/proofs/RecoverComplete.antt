@@ -26,9 +26,9 @@ use Rattle.log_opening.specs.Kept.{logs_said, DeviceHolds, AreGiven, IsLogAsked,
 use Rattle.run_opening.specs.Opens.{TellsRecords}
 use Rattle.run_recovery.specs.Recoverable.{AreRecoverable}
 use Rattle.snap_run.specs.Uses.{Use}
-use Rattle.snap_run.specs.Answers.{IsAnswer}
-use Rattle.snap_run.specs.Migrations.{IsMigrateAnswer}
-use Rattle.snap_run.specs.Recoveries.{IsRecoverAnswer}
+use Rattle.snap_run.specs.Answers.{IsAnswer, ran, recovered, generated, measured, migrated, refused}
+use Rattle.snap_run.specs.Migrations.{IsMigrateAnswer, migrate_done, migrate_refused, migrate_memory, migrate_log_fault, migrate_out_fault}
+use Rattle.snap_run.specs.Recoveries.{IsRecoverAnswer, recover_done, recover_refused, recover_memory, recover_log_fault, recover_out_fault}
 use Rattle.snap_run.proofs.Outcomes.{not_both, recover_not_gen, recover_not_bench, run_not_migrate, recover_not_migrate, gen_not_migrate, bench_not_migrate}
 
 -- what the law refused_is_not_recovered of snap_recover says
@@ -141,40 +141,32 @@ module _ (one : OneCommand) (laws : RecordLaws) (never : NeverBoth) (u : Use) (l
     -- ---- the answers that are left
 
     recover_completed : (s : Status) → IsRecoverAnswer u.devices_before u.devices_after u.writing s → (s ≡ status.Done) ⊎ (s ≡ status.Memory)
-    recover_completed status.Done a = inl refl
-    recover_completed status.Memory a = inr refl
-    recover_completed (status.Usage place) a = absurd a
-    recover_completed (status.Input line c) a = absurd a
-    recover_completed (status.Logs log offset c) a = absurd (none_refused u.devices_after log offset c a.0)
-    recover_completed status.ReadFault a = absurd a
-    recover_completed (status.LogFault log) a = absurd (quiet log a.0.0 a.0.1)
-    recover_completed status.OutFault a = absurd (sink a.6)
-    recover_completed status.TraceFault a = absurd a
+    recover_completed s (recover_done o is writes) = inl refl
+    recover_completed s (recover_refused log offset c is nothing) = absurd (none_refused u.devices_after log offset c is)
+    recover_completed s (recover_memory lacks nothing) = inr refl
+    recover_completed s (recover_log_fault log failed nothing) = absurd (quiet log failed.0 failed.1)
+    recover_completed s (recover_out_fault o is front rose) = absurd (sink rose)
 
     migrate_completed : (s : Status) → IsMigrateAnswer u.devices_before u.devices_after u.writing s → (s ≡ status.Done) ⊎ (s ≡ status.Memory)
-    migrate_completed status.Done a = inl refl
-    migrate_completed status.Memory a = inr refl
-    migrate_completed (status.Usage place) a = absurd a
-    migrate_completed (status.Input line c) a = absurd a
-    migrate_completed (status.Logs log offset c) a = absurd (none_refused u.devices_after log offset c a.0)
-    migrate_completed status.ReadFault a = absurd a
-    migrate_completed (status.LogFault log) (inl failed, nothing) = absurd (quiet log failed.0 failed.1)
-    migrate_completed (status.LogFault log) (inr fails, nothing) = absurd (quiet log fails.fails.there fails.fails.rose)
-    migrate_completed status.OutFault a = absurd (sink a.3)
-    migrate_completed status.TraceFault a = absurd a
+    migrate_completed s (migrate_done count is writes) = inl refl
+    migrate_completed s (migrate_refused log offset c is nothing) = absurd (none_refused u.devices_after log offset c is)
+    migrate_completed s (migrate_memory lacks nothing) = inr refl
+    migrate_completed s (migrate_log_fault log (inl failed) nothing) = absurd (quiet log failed.0 failed.1)
+    migrate_completed s (migrate_log_fault log (inr fails) nothing) = absurd (quiet log fails.fails.there fails.fails.rose)
+    migrate_completed s (migrate_out_fault count is front rose) = absurd (sink rose)
 
     pub completed_recover : IsRecover u.words → (s : Status) → IsAnswer u s → (s ≡ status.Done) ⊎ (s ≡ status.Memory)
-    completed_recover recover s (inl x) = absurd (not_both one u.words x.0 x.1 x.2 recover)
-    completed_recover recover s (inr (inl x)) = recover_completed s x.4
-    completed_recover recover s (inr (inr (inl x))) = absurd (recover_not_gen one u.words x.0 x.1 recover x.2)
-    completed_recover recover s (inr (inr (inr (inl x)))) = absurd (recover_not_bench one u.words x.0 x.1 x.2 recover x.3)
-    completed_recover recover s (inr (inr (inr (inr (inl x))))) = absurd (recover_not_migrate one u.words recover x.0)
-    completed_recover recover s (inr (inr (inr (inr (inr x))))) = absurd (x.0.2.no_form (inr (inl recover)))
+    completed_recover recover s (ran n seed run _) = absurd (not_both one u.words n seed run recover)
+    completed_recover recover s (recovered _ _ _ _ a) = recover_completed s a
+    completed_recover recover s (generated count seed gen _ _ _) = absurd (recover_not_gen one u.words count seed recover gen)
+    completed_recover recover s (measured count seed n bench _ _) = absurd (recover_not_bench one u.words count seed n recover bench)
+    completed_recover recover s (migrated migrate _ _ _ _) = absurd (recover_not_migrate one u.words recover migrate)
+    completed_recover recover s (refused place is fault _ _) = absurd (fault.no_form (inr (inl recover)))
 
     pub completed_migrate : IsMigrate u.words → (s : Status) → IsAnswer u s → (s ≡ status.Done) ⊎ (s ≡ status.Memory)
-    completed_migrate migrate s (inl x) = absurd (run_not_migrate one u.words x.0 x.1 x.2 migrate)
-    completed_migrate migrate s (inr (inl x)) = absurd (recover_not_migrate one u.words x.0 migrate)
-    completed_migrate migrate s (inr (inr (inl x))) = absurd (gen_not_migrate one u.words x.0 x.1 x.2 migrate)
-    completed_migrate migrate s (inr (inr (inr (inl x)))) = absurd (bench_not_migrate one u.words x.0 x.1 x.2 x.3 migrate)
-    completed_migrate migrate s (inr (inr (inr (inr (inl x))))) = migrate_completed s x.4
-    completed_migrate migrate s (inr (inr (inr (inr (inr x))))) = absurd (x.0.2.no_form (inr (inr (inr (inr migrate)))))
+    completed_migrate migrate s (ran n seed run _) = absurd (run_not_migrate one u.words n seed run migrate)
+    completed_migrate migrate s (recovered recover _ _ _ _) = absurd (recover_not_migrate one u.words recover migrate)
+    completed_migrate migrate s (generated count seed gen _ _ _) = absurd (gen_not_migrate one u.words count seed gen migrate)
+    completed_migrate migrate s (measured count seed n bench _ _) = absurd (bench_not_migrate one u.words count seed n bench migrate)
+    completed_migrate migrate s (migrated _ _ _ _ a) = migrate_completed s a
+    completed_migrate migrate s (refused place is fault _ _) = absurd (fault.no_form (inr (inr (inr (inr migrate)))))

@@ -1,11 +1,12 @@
--- Why the top call answers what it answers: one table by cases on the status, for each form of the words.
-use Rattle.std.specs.Prelude.{◌≡◌, ◌+◌, ◌⊎◌, ℕ, zero, suc, List, [], length, Some, IfSome}
+-- Why the top call answers what it answers: for each form of the words, one table of the answers that exist.
+use Rattle.std.specs.Prelude.{◌≡◌, ◌+◌, ◌⊎◌, ⊤, ℕ, zero, suc, List, [], length, Some, IfSome}
 use Rattle.std.specs.Io.KnownBytes.{Keeps, Consumes, IsAtEnd}
 use Rattle.snap_outside.specs.Causes.{Rose}
 use Rattle.txn_records.specs.declared.records.Record.{Record}
 use Rattle.snap_recover.specs.declared.openings.Opening.{Opening}
 use Rattle.snap_report.specs.declared.statuses.Status.{Status}
 use Rattle.snap_report.specs.declared.statuses.Status.TheVariants as status
+use Rattle.snap_work.specs.declared.faults.WorkCause.{WorkCause}
 use Rattle.snap_work.specs.Works.{Work}
 use Rattle.work_text.specs.Reads.{IsWork, IsFirstWorkFault}
 use Rattle.run_opening.specs.Opens.{MayOpen}
@@ -28,9 +29,9 @@ abbrev pub OfText : Reading → (Work → Type 0) → Type 0
 OfText r P = IsAtEnd r.left_after × IfSome r.left_before (λ input. (w : Work) × IsWork input w × P w)
 
 -- the schedule of a run with so many workers: where there are none it is that of the seed
-abbrev pub schedule_of : ℕ → ℕ → Schedule
-schedule_of zero seed = seeded seed
-schedule_of (suc n) seed = free
+abbrev pub schedule_asked : ℕ → ℕ → Schedule
+schedule_asked zero seed = seeded seed
+schedule_asked (suc n) seed = free
 
 -- a run of this work, by what the call was given and left
 abbrev pub ran_of : Use → Work → Schedule → Ran
@@ -39,24 +40,25 @@ ran_of u w schedule = record { work = w; schedule = schedule; kept = u.kept; dev
 abbrev pub OfWork : Use → Schedule → Status → Type 0
 OfWork u schedule s = OfText u.reading (λ w. IsWorkAnswer (ran_of u w schedule) s)
 
--- what reading and parsing may answer in place of a work; a text that is refused is told with its first fault
-abbrev pub IsInputAnswer : Reading → Status → Type 0
-IsInputAnswer r (status.Input line cause) = ReadsEnough r × IfSome r.left_before (λ input. IsFirstWorkFault input (record { line = line; cause = cause }))
-IsInputAnswer r status.Memory = Unit {0}
-IsInputAnswer r status.ReadFault = Rose r.faults_before r.faults_after
-IsInputAnswer r status.Done = ⊥
-IsInputAnswer r (status.Usage place) = ⊥
-IsInputAnswer r (status.Logs log offset cause) = ⊥
-IsInputAnswer r (status.LogFault log) = ⊥
-IsInputAnswer r status.OutFault = ⊥
-IsInputAnswer r status.TraceFault = ⊥
+-- what reading and parsing may answer in place of a work
+pub data IsInputAnswer (r : Reading) : Status → Type 0 where
+  -- the text is refused, and told with its first fault
+  input_refused : (line : ℕ) (cause : WorkCause) → ReadsEnough r → IfSome r.left_before (λ input. IsFirstWorkFault input (record { line = line; cause = cause }))
+      → IsInputAnswer r (status.Input line cause)
+  -- there was no memory for the text or for its work
+  input_memory : IsInputAnswer r status.Memory
+  -- the source failed
+  input_read_fault : Rose r.faults_before r.faults_after → IsInputAnswer r status.ReadFault
 
--- nothing but the input was touched: no event was taken, nothing written, and no log called
-pub record TouchesNothing (u : Use) : Type 0 where
+-- no event was taken, nothing traced, and no log called
+pub record TakesNoEvent (u : Use) : Type 0 where
   pub kept : u.kept ≡ []
-  pub out : WritesNothing u.writing
   pub trace : WritesNothing u.tracing
   pub devices : u.devices_after ≡ u.devices_before
+
+-- nothing but the input was touched: no event was taken, nothing written, and no log called
+abbrev pub TouchesNothing : Use → Type 0
+TouchesNothing u = TakesNoEvent u × WritesNothing u.writing
 
 -- The answers of the command that runs the input: there is no work, and nothing but the input was touched; or it is one of
 -- a run of the work.
@@ -67,23 +69,13 @@ IsRunAnswer u schedule s = (IsInputAnswer u.reading s × TouchesNothing u) ⊎ O
 abbrev pub ReadsNothing : Reading → Type 0
 ReadsNothing r = Keeps r.left_before r.left_after
 
--- The answers of the command that prints a generated text. For want of memory nothing of it is printed.
-abbrev pub IsGenAnswer : List ℕ → Writing → Status → Type 0
-IsGenAnswer text out status.Done = Writes out text
-IsGenAnswer text out (status.Usage place) = ⊥
-IsGenAnswer text out (status.Input line cause) = ⊥
-IsGenAnswer text out (status.Logs log offset cause) = ⊥
-IsGenAnswer text out status.Memory = WritesNothing out
-IsGenAnswer text out status.ReadFault = ⊥
-IsGenAnswer text out (status.LogFault log) = ⊥
-IsGenAnswer text out status.OutFault = WritesFront out text × Rose out.faults_before out.faults_after
-IsGenAnswer text out status.TraceFault = ⊥
-
--- no log was called, and no event taken
-pub record TakesNoEvent (u : Use) : Type 0 where
-  pub kept : u.kept ≡ []
-  pub trace : WritesNothing u.tracing
-  pub devices : u.devices_after ≡ u.devices_before
+-- the answers of the command that prints a generated text
+pub data IsGenAnswer (text : List ℕ) (out : Writing) : Status → Type 0 where
+  gen_done : Writes out text → IsGenAnswer text out status.Done
+  -- for want of memory nothing of it is printed
+  gen_memory : WritesNothing out → IsGenAnswer text out status.Memory
+  -- the output failed, and has taken a front of it
+  gen_out_fault : WritesFront out text → Rose out.faults_before out.faults_after → IsGenAnswer text out status.OutFault
 
 -- the text of so many transactions that the seed draws stands for a work of as many, of which this holds
 abbrev pub OfGenerated : ℕ → ℕ → (Work → Type 0) → Type 0
@@ -94,29 +86,29 @@ OfGenerated count seed P = (w : Work) × IsWork (generated_text count seed) w ×
 abbrev pub IsMeasured : Use → Schedule → ℕ → ℕ → Status → Type 0
 IsMeasured u schedule count seed s = ((s ≡ status.Memory) × TouchesNothing u) ⊎ OfGenerated count seed (λ w. IsBenchAnswer (ran_of u w schedule) s)
 
--- the words are no form
-abbrev pub IsUsageAnswer : Use → Status → Type 0
-IsUsageAnswer u s = (place : ℕ) × (s ≡ status.Usage place) × IsUsageFault u.words place
-
--- What the call answers, for each command that the words may ask for. A generated text is run by the schedule of seed 0 where
--- there are no workers.
-abbrev pub IsAnswer : Use → Status → Type 0
-IsAnswer u s =
-    ((workers seed : ℕ) × IsRunCommand u.words workers seed × IsRunAnswer u (schedule_of workers seed) s)
-    ⊎ ((IsRecover u.words × ReadsNothing u.reading × (u.kept ≡ []) × WritesNothing u.tracing × IsRecoverAnswer u.devices_before u.devices_after u.writing s)
-    ⊎ (((count seed : ℕ) × IsGen u.words count seed × ReadsNothing u.reading × TakesNoEvent u × IsGenAnswer (generated_text count seed) u.writing s)
-    ⊎ (((count seed workers : ℕ) × IsBench u.words count seed workers × ReadsNothing u.reading × IsMeasured u (schedule_of workers 0) count seed s)
-    ⊎ ((IsMigrate u.words × ReadsNothing u.reading × (u.kept ≡ []) × WritesNothing u.tracing × IsMigrateAnswer u.devices_before u.devices_after u.writing s)
-    ⊎ (IsUsageAnswer u s × ReadsNothing u.reading × TouchesNothing u)))))
+-- What the call answers, for each command that the words may ask for.
+pub data IsAnswer (u : Use) (s : Status) : Type 0 where
+  -- the input is run
+  ran : (workers seed : ℕ) → IsRunCommand u.words workers seed → IsRunAnswer u (schedule_asked workers seed) s → IsAnswer u s
+  -- what the logs recover to is printed
+  recovered : IsRecover u.words → ReadsNothing u.reading → u.kept ≡ [] → WritesNothing u.tracing → IsRecoverAnswer u.devices_before u.devices_after u.writing s → IsAnswer u s
+  -- a generated text is printed
+  generated : (count seed : ℕ) → IsGen u.words count seed → ReadsNothing u.reading → TakesNoEvent u → IsGenAnswer (generated_text count seed) u.writing s → IsAnswer u s
+  -- a generated text is run, by the schedule of seed 0 where there are no workers
+  measured : (count seed workers : ℕ) → IsBench u.words count seed workers → ReadsNothing u.reading → IsMeasured u (schedule_asked workers 0) count seed s → IsAnswer u s
+  -- the logs of format 1 are made ones of format 2
+  migrated : IsMigrate u.words → ReadsNothing u.reading → u.kept ≡ [] → WritesNothing u.tracing → IsMigrateAnswer u.devices_before u.devices_after u.writing s → IsAnswer u s
+  -- the words are no form
+  refused : (place : ℕ) → s ≡ status.Usage place → IsUsageFault u.words place → ReadsNothing u.reading → TouchesNothing u → IsAnswer u s
 
 -- the call ended before a log was needed
 abbrev pub GetsNoCall : Status → Type 0
 GetsNoCall status.Done = ⊥
-GetsNoCall (status.Usage place) = Unit {0}
-GetsNoCall (status.Input line cause) = Unit {0}
+GetsNoCall (status.Usage place) = ⊤
+GetsNoCall (status.Input line cause) = ⊤
 GetsNoCall (status.Logs log offset cause) = ⊥
 GetsNoCall status.Memory = ⊥
-GetsNoCall status.ReadFault = Unit {0}
+GetsNoCall status.ReadFault = ⊤
 GetsNoCall (status.LogFault log) = ⊥
 GetsNoCall status.OutFault = ⊥
 GetsNoCall status.TraceFault = ⊥

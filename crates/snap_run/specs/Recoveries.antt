@@ -3,6 +3,7 @@ use Rattle.std.specs.Prelude.{ℕ, ◌<◌, List, ◌++◌, length}
 use Rattle.snap_outside.specs.Causes.{Rose}
 use Rattle.txn_records.specs.declared.records.Record.{Record}
 use Rattle.run_recovery.specs.Recoverable.{AreRecoverable}
+use Rattle.snap_recover.specs.declared.causes.LogCause.{LogCause}
 use Rattle.snap_recover.specs.declared.openings.Opening.{Opening}
 use Rattle.snap_recover.specs.Opening.{IsRecovered}
 use Rattle.snap_report.specs.Lines.{actors_text, all_kept_text, recovered_text}
@@ -18,19 +19,23 @@ use Rattle.command_words.specs.Words.{IsRecover}
 abbrev pub recovered_report : Opening → List ℕ
 recovered_report o = actors_text 0 o.states ++ (all_kept_text o.committed ++ recovered_text o)
 
-abbrev pub IsRecoverAnswer : List Device → List Device → Writing → Status → Type 0
-IsRecoverAnswer before after out status.Done =
-    (logs : List (List Record)) × (o : Opening) × AreGiven before logs × IsRecovered logs o × AreOpened (length logs) before after × Writes out (recovered_report o)
-IsRecoverAnswer before after out (status.Usage place) = ⊥
-IsRecoverAnswer before after out (status.Input line cause) = ⊥
-IsRecoverAnswer before after out (status.Logs log offset c) = IsLogRefused before after log offset c × WritesNothing out
-IsRecoverAnswer before after out status.Memory = LacksMemory (λ log. IsLogAsked before log) before after × WritesNothing out
-IsRecoverAnswer before after out status.ReadFault = ⊥
-IsRecoverAnswer before after out (status.LogFault log) = HasFailedDevice before after log × WritesNothing out
-IsRecoverAnswer before after out status.OutFault =
-    (logs : List (List Record)) × (o : Opening) × AreGiven before logs × IsRecovered logs o × AreOpened (length logs) before after × WritesFront out (recovered_report o)
-    × Rose out.faults_before out.faults_after
-IsRecoverAnswer before after out status.TraceFault = ⊥
+-- the logs, as many as log 0 says, recover to this opening, and were opened for it
+pub record AreRecovered (before after : List Device) (o : Opening) : Type 0 where
+  pub logs : List (List Record)
+  pub given : AreGiven before logs
+  pub recovered : IsRecovered logs o
+  pub opened : AreOpened (length logs) before after
+
+-- the answers of the command that prints what the logs recover to
+pub data IsRecoverAnswer (before after : List Device) (out : Writing) : Status → Type 0 where
+  recover_done : (o : Opening) → AreRecovered before after o → Writes out (recovered_report o) → IsRecoverAnswer before after out status.Done
+  recover_refused : (log offset : ℕ) (cause : LogCause) → IsLogRefused before after log offset cause → WritesNothing out
+      → IsRecoverAnswer before after out (status.Logs log offset cause)
+  recover_memory : LacksMemory (λ log. IsLogAsked before log) before after → WritesNothing out → IsRecoverAnswer before after out status.Memory
+  recover_log_fault : (log : ℕ) → HasFailedDevice before after log → WritesNothing out → IsRecoverAnswer before after out (status.LogFault log)
+  -- the output failed, and has taken a front of the report
+  recover_out_fault : (o : Opening) → AreRecovered before after o → WritesFront out (recovered_report o) → Rose out.faults_before out.faults_after
+      → IsRecoverAnswer before after out status.OutFault
 
 -- The words print what the logs recover to; the logs are as many as log 0 says, hold these records, and recover; and no count rises.
 pub record IsRecoverable (u : Use) (logs : List (List Record)) : Type 0 where

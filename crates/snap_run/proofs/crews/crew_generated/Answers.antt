@@ -13,4 +13,4 @@ returns-in-Ok-clause-opens g c = λ words reading w records o may.
     c.crew_work.ensures.opens records o (subst (λ (x : Work). MayOpen x.logs x.states c.args.call.devices c.crew_work.result.call.devices records o) same may.opens)
 
 pub returns-in-Err-clause-answer : goal.returns-in-Err-clause-answer
-returns-in-Err-clause-answer g c = λ words reading. inl (refl, record { kept = c.new.ensures.items; out = Keeps-refl _; trace = Keeps-refl _; devices = refl })
+returns-in-Err-clause-answer g c = λ words reading. inl (refl, (record { kept = c.new.ensures.items; trace = Keeps-refl _; devices = refl }, Keeps-refl _))

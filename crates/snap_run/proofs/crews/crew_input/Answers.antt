@@ -1,7 +1,8 @@
-use Rattle.std.proofs.Common.{sym, subst}
+use Rattle.std.proofs.Common.{refl, sym, subst}
+use Rattle.std.proofs.KnownBytes.{Keeps-refl}
 use Rattle.run_recovery.specs.Schedules.{Schedule}
 use Rattle.run_work.specs.Runs.{IsWorkAnswer}
-use Rattle.snap_run.proofs.Outcomes.{by_crew, run_outcome, run_not_of_logs}
+use Rattle.snap_run.proofs.Outcomes.{by_crew, input_not_of_logs, input_outcome, run_outcome, run_not_of_logs}
 use Rattle.snap_run.proofs.crews.crew_input.Goals as goal
 use Rattle.snap_run.specs.Answers.{ran_of}
 use Rattle.snap_run.specs.Uses.{Use, reading_of, use_of}
@@ -25,3 +26,12 @@ returns-in-Ok-clause-input_once g c = surely _ _ _ _ (λ no is. cc is) c.in-Ok.e
 
 pub returns-in-Err-clause-input_once : goal.returns-in-Err-clause-input_once
 returns-in-Err-clause-input_once g c = surely _ _ _ _ (λ no is. no (cc is)) c.in-Err.ensures.once
+
+pub returns-in-Err-clause-outcome : goal.returns-in-Err-clause-outcome
+returns-in-Err-clause-outcome g c = λ words seed run.
+    let u : Use = use_of words (reading_of g.I.Source c.args.input.now c.read_work.new.input) c.args.call c.args.call c.new.result.items in
+    input_outcome c.one_command.ensures u c.args.workers seed c.in-Err.status run (record { kept = c.new.ensures.items; trace = Keeps-refl _; devices = refl }, Keeps-refl _) c.in-Err.ensures.answer
+
+pub returns-in-Err-clause-opens : goal.returns-in-Err-clause-opens
+returns-in-Err-clause-opens g c = λ words text w records o untroubled.
+    input_not_of_logs (reading_of g.I.Source c.args.input.now c.read_work.new.input) c.in-Err.status c.in-Err.ensures.answer

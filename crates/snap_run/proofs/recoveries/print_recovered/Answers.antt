@@ -1,10 +1,11 @@
-use Rattle.std.proofs.Common.{inl, length}
+use Rattle.std.proofs.Common.{◌∙◌, inl, length, rules, subst}
 use Rattle.std.proofs.KnownBytes.{Keeps-refl}
 use Rattle.log_opening.specs.Devices.{devices_of}
 use Rattle.log_opening.proofs.Refusing.{given_asked}
-use Rattle.run_work.specs.Writings.{Writing, writing_of}
+use Rattle.run_work.specs.Writings.{Writing, Writes, WritesFront, writing_of}
 use Rattle.snap_run.proofs.Recovering.{recovery_refused}
 use Rattle.snap_run.proofs.recoveries.print_recovered.Goals as goal
+use Rattle.snap_run.specs.Recoveries.{AreRecovered, recover_done, recover_memory, recover_out_fault}
 
 pub returns-in-Err-clause-answer : goal.returns-in-Err-clause-answer
 returns-in-Err-clause-answer g c =
@@ -17,4 +18,22 @@ pub returns-in_default-clause-answer : goal.returns-in_default-clause-answer
 returns-in_default-clause-answer g c =
     let before = devices_of g.D.LogDev.told g.D.LogDev.faults c.args.devices.now.items in
     let is = c.in-Ok.ensures.recovered in
-    (inl (length is.0, given_asked before is.0 is.1, is.3), Keeps-refl _)
+    recover_memory (inl (length is.0, given_asked before is.0 is.1, is.3)) (Keeps-refl _)
+
+pub returns-then-is_err-clause-answer : goal.returns-then-is_err-clause-answer
+returns-then-is_err-clause-answer g c =
+    let before = devices_of g.D.LogDev.told g.D.LogDev.faults c.args.devices.now.items in
+    let after = devices_of g.D.LogDev.told g.D.LogDev.faults c.recover_kept.new.devices.items in
+    let out : Writing = writing_of g.O.Sink c.args.out.now c.write_all.new.out in
+    let is = c.in-Ok.ensures.recovered in
+    let are : AreRecovered before after c.in-Ok.opening = record { logs = is.0; given = is.1; recovered = is.2; opened = is.3 } in
+    recover_out_fault c.in-Ok.opening are (subst (λ bytes. WritesFront out bytes) (c.as_bytes.ensures.value ∙ c.in-Ok-report_of.ensures) (search rules)) (search rules)
+
+pub returns-clause-answer : goal.returns-clause-answer
+returns-clause-answer g c =
+    let before = devices_of g.D.LogDev.told g.D.LogDev.faults c.args.devices.now.items in
+    let after = devices_of g.D.LogDev.told g.D.LogDev.faults c.recover_kept.new.devices.items in
+    let out : Writing = writing_of g.O.Sink c.args.out.now c.write_all.new.out in
+    let is = c.in-Ok.ensures.recovered in
+    let are : AreRecovered before after c.in-Ok.opening = record { logs = is.0; given = is.1; recovered = is.2; opened = is.3 } in
+    recover_done c.in-Ok.opening are (subst (λ bytes. Writes out bytes) (c.as_bytes.ensures.value ∙ c.in-Ok-report_of.ensures) (search rules))

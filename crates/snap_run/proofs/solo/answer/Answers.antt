@@ -134,4 +134,4 @@ returns-in-Ok-Migrate-clause-out_once g c =
 pub returns-in-Err-clause-outcome : goal.returns-in-Err-clause-outcome
 returns-in-Err-clause-outcome g c =
     let u : Use = use_of (map string_bytes c.args.words.now) (reading_of g.I.Source c.args.input.now c.args.input.now) c.args.call c.args.call c.new-in-Err.result.items in
-    usage_outcome u c.in-Err.word c.in-Err.ensures (Keeps-refl _) (record { kept = c.new-in-Err.ensures.items; out = Keeps-refl _; trace = Keeps-refl _; devices = refl })
+    usage_outcome u c.in-Err.word c.in-Err.ensures (Keeps-refl _) (record { kept = c.new-in-Err.ensures.items; trace = Keeps-refl _; devices = refl }, Keeps-refl _)

@@ -1,4 +1,6 @@
-use Rattle.snap_run.proofs.Outcomes.{run_outcome, run_not_of_logs}
+use Rattle.std.proofs.Common.{refl}
+use Rattle.std.proofs.KnownBytes.{Keeps-refl}
+use Rattle.snap_run.proofs.Outcomes.{input_not_of_logs, input_outcome, run_outcome, run_not_of_logs}
 use Rattle.snap_run.proofs.solo.run_input.Goals as goal
 use Rattle.snap_run.specs.Uses.{Use, reading_of, use_of}
 use Rattle.snap_work.specs.Works.{work_of}
@@ -19,3 +21,12 @@ returns-in-Ok-clause-input_once g c = surely _ _ _ _ (λ no is. cc is) c.in-Ok.e
 
 pub returns-in-Err-clause-input_once : goal.returns-in-Err-clause-input_once
 returns-in-Err-clause-input_once g c = surely _ _ _ _ (λ no is. no (cc is)) c.in-Err.ensures.once
+
+pub returns-in-Err-clause-outcome : goal.returns-in-Err-clause-outcome
+returns-in-Err-clause-outcome g c = λ words run.
+    let u : Use = use_of words (reading_of g.I.Source c.args.input.now c.read_work.new.input) c.args.call c.args.call c.new.result.items in
+    input_outcome c.one_command.ensures u 0 c.args.seed c.in-Err.status run (record { kept = c.new.ensures.items; trace = Keeps-refl _; devices = refl }, Keeps-refl _) c.in-Err.ensures.answer
+
+pub returns-in-Err-clause-opens : goal.returns-in-Err-clause-opens
+returns-in-Err-clause-opens g c = λ words text w records o untroubled.
+    input_not_of_logs (reading_of g.I.Source c.args.input.now c.read_work.new.input) c.in-Err.status c.in-Err.ensures.answer

@@ -1,6 +1,7 @@
-use Rattle.std.proofs.Common.{◌≤◌, ap, sym, length, subst, Err}
+use Rattle.std.proofs.Common.{◌≤◌, ap, sym, length, rules, subst, Err}
 use Rattle.std.specs.Io.KnownBytes.{Consumes, IsAtEnd}
 use Rattle.snap_work.specs.Works.{work_of}
+use Rattle.snap_run.specs.Answers.{input_refused, input_memory, input_read_fault}
 use Rattle.snap_run.specs.Uses.{Reading, reading_of}
 use Rattle.snap_run.proofs.InputLaws.{reads_enough, fault_of_input, of_text}
 use Rattle.snap_run.proofs.works.read_work.Goals as goal
@@ -20,7 +21,15 @@ returns-in-Err-Fault-parse_work-clause-answer g c =
     let r : Reading = reading_of g.I.Source c.args.input.now c.read_input.new.input in
     let is = ap Err c.in-Err-Fault-parse_work.field-0-is in
     let moved = subst (Consumes (g.I.Source.left c.args.input.now) (g.I.Source.left c.read_input.new.input)) (sym c.as_slice.ensures.value) c.in-Ok.ensures.moved in
-    let whole = subst (λ l. length l ≤ 8388608 → IsAtEnd (g.I.Source.left c.read_input.new.input)) (sym c.as_slice.ensures.value) c.in-Ok.ensures.whole in (
-      reads_enough r c.as_slice.result.now moved whole (subst (λ l. length l ≤ 8388609) (sym c.as_slice.ensures.value) c.in-Ok.ensures.most),
-      fault_of_input _ _ c.as_slice.result.now _ moved whole (c.in-Err-Fault-parse_work.ensures.fault _ is),
-    )
+    let whole = subst (λ l. length l ≤ 8388608 → IsAtEnd (g.I.Source.left c.read_input.new.input)) (sym c.as_slice.ensures.value) c.in-Ok.ensures.whole in
+    input_refused _ _ (reads_enough r c.as_slice.result.now moved whole (subst (λ l. length l ≤ 8388609) (sym c.as_slice.ensures.value) c.in-Ok.ensures.most))
+    (fault_of_input _ _ c.as_slice.result.now _ moved whole (c.in-Err-Fault-parse_work.ensures.fault _ is))
+
+pub returns-in-Err-Fault-clause-answer : goal.returns-in-Err-Fault-clause-answer
+returns-in-Err-Fault-clause-answer g c = input_read_fault (search rules)
+
+pub returns-in-Err-Memory-clause-answer : goal.returns-in-Err-Memory-clause-answer
+returns-in-Err-Memory-clause-answer g c = input_memory
+
+pub returns-clause-answer : goal.returns-clause-answer
+returns-clause-answer g c = input_memory
