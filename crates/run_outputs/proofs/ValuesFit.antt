@@ -1,5 +1,5 @@
 -- Numbers of a program's methods stay within 64 bits, and fields of a state with them.
-use Rattle.std.proofs.Common.{◌≡◌, ℕ, zero, suc, ◌+◌, ◌<◌, ◌≤◌, ◌%◌, ◌^◌, List, [], ◌∷◌, ◌++◌, length, get_or, refl, ◌∙◌, ℤ, pos, negsuc, neg_ℤ, Option, None, Some, IfSome, Result, Ok, Err, Bool, true, false, cond, arith, w64, FitsSigned, replicate}
+use Rattle.std.proofs.Common.{◌≡◌, ℕ, zero, suc, ◌+◌, ◌<◌, ◌≤◌, ◌%◌, ◌^◌, List, [], ◌∷◌, length, get_or, refl, ◌∙◌, ℤ, pos, negsuc, neg_ℤ, Option, None, Some, IfSome, Result, Ok, Err, Bool, true, false, cond, arith, w64, FitsSigned, replicate}
 use Rattle.std.specs.List.{AllByRecursion}
 use Rattle.std.specs.Prelude.{◌+ℤ◌, ◌-ℤ◌, ◌*ℤ◌, int_div, int_rem, unsigned_abs}
 use Rattle.std.specs.Ordering.{int_eq}
