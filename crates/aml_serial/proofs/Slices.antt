@@ -10,15 +10,15 @@ use Rattle.aml_tree.specs.Tree.{CheckedMethod}
 use Rattle.serial_words.specs.Outcomes.{Alone}
 use Rattle.aml_check.specs.Meaning.{state_at, zero_state}
 use Rattle.aml_slice.specs.Controls.{Rest}
-use Rattle.aml_slice.specs.declared.slices.Next.{Next}
-use Rattle.aml_slice.specs.declared.slices.Next.TheVariants.{Go}
+use Rattle.snap_base.specs.declared.next.Next.{Next}
+use Rattle.snap_base.specs.declared.next.Next.TheVariants.{Go}
 use Rattle.aml_slice.specs.Slicing.{SliceEnd, slice_end}
 use Rattle.aml_slice.specs.Wholes.{world_after}
 use Rattle.aml_slice.specs.Moments.{HandsOn, IsHandedOn}
 use Rattle.aml_slice.specs.Finishing.{after_slice, finished}
 use Rattle.aml_serial.specs.Images.{has_value}
 
-abbrev end_at : State → Next → SliceEnd
+abbrev end_at : State → Next Rest → SliceEnd
 end_at t next = record { state = t; next = next }
 
 -- the state that is read at an actor
@@ -32,7 +32,7 @@ pub handed_on : (p : List CheckedMethod) (count : ℕ) (c : Rest) (s t : State) 
 handed_on p count c s t b d on slice = let P : SliceEnd → Type 0 = λ x. IsHandedOn p count c x.next in subst P (sym slice) on
 
 -- what becomes of a control is what becomes of it behind a slice
-pub finishes : (p : List CheckedMethod) (count : ℕ) (c : Rest) (w : List State) (s t : State) (next : Next)
+pub finishes : (p : List CheckedMethod) (count : ℕ) (c : Rest) (w : List State) (s t : State) (next : Next Rest)
     → finished p count c w ≡ after_slice (finished p count) c w (slice_end p count c (state_at w c.top.actor)) → state_at w c.top.actor ≡ s → end_at t next ≡ slice_end p count c s
     → finished p count c w ≡ after_slice (finished p count) c w (end_at t next)
 finishes p count c w s t next keeps here slice =

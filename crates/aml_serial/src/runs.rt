@@ -11,8 +11,8 @@ ghost use Rattle.aml_serial.specs.Images.{AreImagesWithin, has_value, put_back};
 
 use crate::images::{BeforeImage, keep, put_back};
 use aml_check::Checked;
-use aml_slice::{Control, Next, each_slice, slice, slices_finish, transactions_begin};
-use snap_base::{Memory, Sequence, State, Tid, Tx, TxResult};
+use aml_slice::{Control, each_slice, slice, slices_finish, transactions_begin};
+use snap_base::{Memory, Next, Sequence, State, Tid, Tx, TxResult};
 use std::alloc::Global;
 
 /// The identifier of each transaction here, since nobody asks for it.

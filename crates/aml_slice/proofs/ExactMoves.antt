@@ -5,7 +5,7 @@ use Rattle.snap_base.specs.declared.transactions.State.{State}
 use Rattle.snap_base.specs.declared.transactions.TxResult.{TxResult}
 use Rattle.aml_tree.specs.Tree.{CheckedMethod}
 use Rattle.aml_check.specs.Closed.{IsClosedProgram}
-use Rattle.aml_slice.specs.declared.slices.Next.TheVariants.{Go, Ended}
+use Rattle.snap_base.specs.declared.next.Next.TheVariants.{Go, Ended}
 use Rattle.aml_slice.specs.Controls.{Rest, IsRest, moves_left}
 use Rattle.aml_slice.specs.Slicing.{Move, To, Out, move, actor_id, after_move, slice_end_in, slice_end}
 use Rattle.aml_slice.proofs.Moving.{PauseLaws, Follows}

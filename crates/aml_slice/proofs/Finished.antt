@@ -11,8 +11,8 @@ use Rattle.aml_check.specs.Closed.{IsClosedProgram}
 use Rattle.serial_words.specs.Outcomes.{Alone}
 use Rattle.aml_check.specs.Meaning.{Progress, alone, ended_alone, state_at, admitted, beginning, declaration}
 use Rattle.aml_check.specs.Transactions.{IsTransaction}
-use Rattle.aml_slice.specs.declared.slices.Next.{Next}
-use Rattle.aml_slice.specs.declared.slices.Next.TheVariants.{Go, Ended}
+use Rattle.snap_base.specs.declared.next.Next.{Next}
+use Rattle.snap_base.specs.declared.next.Next.TheVariants.{Go, Ended}
 use Rattle.aml_slice.specs.Controls.{Rest, IsRest, progress_in, moves_left}
 use Rattle.aml_slice.specs.Slicing.{slice_end, started}
 use Rattle.aml_slice.specs.Wholes.{rest_gives, Holds, EndsRest, world_after, BeginsTransaction}
@@ -24,7 +24,7 @@ use Rattle.aml_slice.proofs.ExactStarts.{declared_so}
 
 -- ---- fuel
 
-same_on : (p : List CheckedMethod) (count : ℕ) (c : Rest) (s t : State) (w : List State) (x : Next) (more other : Rest → List State → Alone) → SlicesOn p count c s t x
+same_on : (p : List CheckedMethod) (count : ℕ) (c : Rest) (s t : State) (w : List State) (x : Next Rest) (more other : Rest → List State → Alone) → SlicesOn p count c s t x
     → ((d : Rest) (v : List State) → IsRest p count d → moves_left d + 1 ≤ moves_left c → more d v ≡ other d v) → goes_on more w x ≡ goes_on other w x
 same_on p count c s t w (Go b d) more other well h = h d w well.handed_on.rest well.handed_on.fewer
 same_on p count c s t w (Ended r) more other well h = refl
@@ -62,7 +62,7 @@ ends_mean : (p : List CheckedMethod) (count : ℕ) (c : Rest) (w : List State) (
 ends_mean p count c w s t (result.Value v) h ends = ends w h
 ends_mean p count c w s t (result.Fail code) h ends = ends w h
 
-on_means : (p : List CheckedMethod) (count : ℕ) (c : Rest) (w : List State) (s t : State) (x : Next) (more : Rest → List State → Alone) → Holds count c.top.actor s w → SlicesOn p count c s t x
+on_means : (p : List CheckedMethod) (count : ℕ) (c : Rest) (w : List State) (s t : State) (x : Next Rest) (more : Rest → List State → Alone) → Holds count c.top.actor s w → SlicesOn p count c s t x
     → ((d : Rest) → IsRest p count d → moves_left d + 1 ≤ moves_left c → Means (rest_gives p d (set w c.top.actor t)) (more d (set w c.top.actor t)).result (more d (set w c.top.actor t)).world)
     → Means (rest_gives p c w) (goes_on more (set w c.top.actor t) x).result (goes_on more (set w c.top.actor t) x).world
 on_means p count c w s t (Go b d) more h well rest =

@@ -7,8 +7,8 @@ use Rattle.snap_base.specs.declared.transactions.TxResult.{TxResult}
 use Rattle.snap_base.specs.declared.transactions.TxResult.TheVariants as result
 use Rattle.aml_tree.specs.Tree.{CheckedMethod}
 use Rattle.aml_check.specs.Meaning.{Progress, state_at, field_at, zero_state}
-use Rattle.aml_slice.specs.declared.slices.Next.{Next}
-use Rattle.aml_slice.specs.declared.slices.Next.TheVariants.{Go, Ended}
+use Rattle.snap_base.specs.declared.next.Next.{Next}
+use Rattle.snap_base.specs.declared.next.Next.TheVariants.{Go, Ended}
 use Rattle.aml_slice.specs.Controls.{Frame, Rest}
 use Rattle.aml_slice.specs.Wholes.{Holds}
 use Rattle.aml_slice.specs.Moments.{Others, Rise, gives_near, EndsWith, CallsAway, ReturnsAway, GoesAway, IsMoment, IsSameEnd, IsSameState}
@@ -107,7 +107,7 @@ same_result p count c s t u (result.Fail code) (result.Value w) known x y =
 same_result p count c s t u (result.Fail m) (result.Fail n) known x y =
     ap (λ z. result.Fail z) (same_code m n (sym (fail_told p count c s t m 0 0 known x) ∙ fail_told p count c s u n 0 0 known y))
 
-pub one_end : (p : List CheckedMethod) (count : ℕ) (c : Rest) (s t u : State) (m n : Next) → c.top.actor < count → IsMoment p count c s t m → IsMoment p count c s u n → IsSameEnd m n
+pub one_end : (p : List CheckedMethod) (count : ℕ) (c : Rest) (s t u : State) (m n : Next Rest) → c.top.actor < count → IsMoment p count c s t m → IsMoment p count c s u n → IsSameEnd m n
 one_end p count c s t u (Go b d) (Go a e) known x y = same_actor p count c s t u d e known x y
 one_end p count c s t u (Go b d) (Ended r) known x y = away_and_ended p count c s t u d r known x y
 one_end p count c s t u (Ended r) (Go a e) known x y = away_and_ended p count c s u t e r known y x
@@ -164,7 +164,7 @@ same_left p count c s t u v w known x y =
     ∙ ap (λ z. state_at z c.top.actor) (sym a.2 ∙ ap (λ (q : Progress). q.world) (same_run v w a.0 b.0 (sym a.1 ∙ b.1)) ∙ b.2)
     ∙ left_there count c.top.actor s u known
 
-pub one_state : (p : List CheckedMethod) (count : ℕ) (c : Rest) (s t u : State) (m n : Next) → c.top.actor < count → IsMoment p count c s t m → IsMoment p count c s u n → IsSameState m t u
+pub one_state : (p : List CheckedMethod) (count : ℕ) (c : Rest) (s t u : State) (m n : Next Rest) → c.top.actor < count → IsMoment p count c s t m → IsMoment p count c s u n → IsSameState m t u
 one_state p count c s t u (Go b d) (Go a e) known x y = λ k. number_one (field_at t k) (field_at u k) (same_code (number_of (field_at t k)) (number_of (field_at u k)) (sym (away_shown p count c s t d k known x) ∙ away_shown p count c s u e k known y))
 one_state p count c s t u (Go b d) (Ended r) known x y = absurd (away_and_ended p count c s t u d r known x y)
 one_state p count c s t u (Ended (result.Fail code)) n known x y = tt

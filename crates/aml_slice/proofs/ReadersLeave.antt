@@ -17,7 +17,7 @@ use Rattle.aml_check.specs.Names.{method_at, no_method}
 use Rattle.aml_resume.specs.Places.{Standing}
 use Rattle.aml_resume.specs.Pausing.{Pause, Through, Returned, Calling, Failed, method_pause}
 use Rattle.aml_resume.specs.Reading.{LeavesState, ReadingLeaves}
-use Rattle.aml_slice.specs.declared.slices.Next.TheVariants.{Go}
+use Rattle.snap_base.specs.declared.next.Next.TheVariants.{Go}
 use Rattle.aml_slice.specs.Controls.{Frame, Rest, progress_in, most_waiting, moves_left}
 use Rattle.aml_slice.specs.Readers.{IsReading, AllReading, HandsOnReading}
 use Rattle.aml_slice.specs.Slicing.{Move, To, Out, unless_refused, returned, entered, called_on, moved_by, move, SliceEnd, actor_id, after_move, slice_end_in, slice_end, started}

@@ -14,8 +14,8 @@ use Rattle.aml_resume.specs.declared.exits.Exit.TheVariants as exit
 use Rattle.aml_resume.specs.Places.{IsPlace, Standing}
 use Rattle.aml_resume.specs.Pausing.{Pause, Through, Returned, Calling, Failed, method_pause}
 use Rattle.aml_resume.specs.Resuming.{IsAllowedPause, IsCounted}
-use Rattle.aml_slice.specs.declared.slices.Next.{Next}
-use Rattle.aml_slice.specs.declared.slices.Next.TheVariants.{Go}
+use Rattle.snap_base.specs.declared.next.Next.{Next}
+use Rattle.snap_base.specs.declared.next.Next.TheVariants.{Go}
 use Rattle.aml_slice.specs.Controls.{Frame, Rest, IsRest, progress_in, with_given, moves_left}
 use Rattle.aml_slice.specs.Slicing.{Move, To, Out, unless_refused, returned, entered, moved_by, move, SliceEnd, actor_id, after_move, slice_end_in, slice_end}
 use Rattle.aml_slice.specs.Wholes.{IsRestKept}
@@ -149,7 +149,7 @@ one_move laws p count c s closed is =
 
 -- ---- slices
 
-pub record SlicesOn (p : List CheckedMethod) (count : ℕ) (c : Rest) (s t : State) (n : Next) : Type 0 where
+pub record SlicesOn (p : List CheckedMethod) (count : ℕ) (c : Rest) (s t : State) (n : Next Rest) : Type 0 where
   pub moment : IsMoment p count c s t n
   pub kept : IsRestKept p count c s t n
   pub handed_on : IsHandedOn p count c n

@@ -5,13 +5,13 @@ use Rattle.snap_base.specs.declared.transactions.TxResult.TheVariants as result
 use Rattle.aml_tree.specs.Tree.{CheckedMethod}
 use Rattle.serial_words.specs.Outcomes.{Alone}
 use Rattle.aml_check.specs.Meaning.{state_at, too_many_statements}
-use Rattle.aml_slice.specs.declared.slices.Next.{Next}
-use Rattle.aml_slice.specs.declared.slices.Next.TheVariants.{Go, Ended}
+use Rattle.snap_base.specs.declared.next.Next.{Next}
+use Rattle.snap_base.specs.declared.next.Next.TheVariants.{Go, Ended}
 use Rattle.aml_slice.specs.Controls.{Rest, moves_left}
 use Rattle.aml_slice.specs.Slicing.{SliceEnd, slice_end}
 
 -- what is left after a slice gives; a failure leaves what its statements made of the world
-abbrev pub goes_on : (Rest → List State → Alone) → List State → Next → Alone
+abbrev pub goes_on : (Rest → List State → Alone) → List State → Next Rest → Alone
 goes_on more w (Go b d) = more d w
 goes_on more w (Ended r) = record { result = r; world = w }
 

@@ -9,8 +9,8 @@ use Rattle.snap_base.specs.declared.transactions.TxResult.TheVariants as result
 use Rattle.aml_tree.specs.Tree.{CheckedMethod}
 use Rattle.aml_check.specs.Names.{method_at}
 use Rattle.aml_check.specs.Meaning.{◌>>=◌, Progress, Caller, actor_of, admitted, too_deep, block, field_at, given, called}
-use Rattle.aml_slice.specs.declared.slices.Next.{Next}
-use Rattle.aml_slice.specs.declared.slices.Next.TheVariants.{Go, Ended}
+use Rattle.snap_base.specs.declared.next.Next.{Next}
+use Rattle.snap_base.specs.declared.next.Next.TheVariants.{Go, Ended}
 use Rattle.aml_slice.specs.Controls.{Frame, Rest, IsRest, RestsOn, most_waiting, moves_left, progress_in, with_given}
 use Rattle.aml_slice.specs.Wholes.{Callers, Holds, frame_gives, value_to}
 
@@ -95,7 +95,7 @@ GoesAway p count c s t d = CallsAway p count c s t d ⊎ ReturnsAway p count c s
 
 -- A slice ends at the first moment at which the transaction calls or returns to another actor, or ends: this
 -- is what it does whatever other actors make of calls and values.
-abbrev pub IsMoment : List CheckedMethod → ℕ → Rest → State → State → Next → Type 0
+abbrev pub IsMoment : List CheckedMethod → ℕ → Rest → State → State → Next Rest → Type 0
 IsMoment p count c s t (Go b d) = GoesAway p count c s t d
 IsMoment p count c s t (Ended r) = EndsWith p count c s t r
 
@@ -113,21 +113,21 @@ pub record HandsOn (p : List CheckedMethod) (count : ℕ) (c : Rest) (b : ActorI
   pub declares : (us : List (ActorId × ℕ)) → c.left ≡ Some us → (vs : List (ActorId × ℕ)) × (d.left ≡ Some vs)
   pub rests : (us : List (ActorId × ℕ)) → c.left ≡ Some us → (a : ℕ) → RestsOn d a → RestsOn c a
 
-abbrev pub IsHandedOn : List CheckedMethod → ℕ → Rest → Next → Type 0
+abbrev pub IsHandedOn : List CheckedMethod → ℕ → Rest → Next Rest → Type 0
 IsHandedOn p count c (Go b d) = HandsOn p count c b d
 IsHandedOn p count c (Ended r) = ⊤
 
 -- ---- two ends of one slice
 
 -- to the same actor, or with the same result
-abbrev pub IsSameEnd : Next → Next → Type 0
+abbrev pub IsSameEnd : Next Rest → Next Rest → Type 0
 IsSameEnd (Go b d) (Go c e) = d.top.actor ≡ e.top.actor
 IsSameEnd (Go b d) (Ended r) = ⊥
 IsSameEnd (Ended r) (Go c e) = ⊥
 IsSameEnd (Ended r) (Ended q) = r ≡ q
 
 -- with the same state, where the transaction goes on or has a value
-abbrev pub IsSameState : Next → State → State → Type 0
+abbrev pub IsSameState : Next Rest → State → State → Type 0
 IsSameState (Go b d) t u = (k : ℕ) → field_at t k ≡ field_at u k
 IsSameState (Ended (result.Value v)) t u = (k : ℕ) → field_at t k ≡ field_at u k
 IsSameState (Ended (result.Fail code)) t u = ⊤

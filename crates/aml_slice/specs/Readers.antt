@@ -3,8 +3,8 @@ use Rattle.std.specs.Prelude.{IsTrue, List, ◌∷◌, ⊤}
 use Rattle.std.specs.List.{AllByRecursion}
 use Rattle.aml_tree.specs.Tree.{CheckedMethod}
 use Rattle.aml_check.specs.Names.{method_at}
-use Rattle.aml_slice.specs.declared.slices.Next.{Next}
-use Rattle.aml_slice.specs.declared.slices.Next.TheVariants.{Go, Ended}
+use Rattle.snap_base.specs.declared.next.Next.{Next}
+use Rattle.snap_base.specs.declared.next.Next.TheVariants.{Go, Ended}
 use Rattle.aml_slice.specs.Controls.{Frame, Rest}
 
 abbrev pub IsReading : List CheckedMethod → Frame → Type 0
@@ -14,6 +14,6 @@ abbrev pub AllReading : List CheckedMethod → Rest → Type 0
 AllReading p c = AllByRecursion (IsReading p) (c.top ∷ c.waiting)
 
 -- so is what a slice hands on
-abbrev pub HandsOnReading : List CheckedMethod → Next → Type 0
+abbrev pub HandsOnReading : List CheckedMethod → Next Rest → Type 0
 HandsOnReading p (Go b d) = AllReading p d
 HandsOnReading p (Ended r) = ⊤

@@ -12,8 +12,8 @@ use Rattle.aml_check.specs.Names.{method_at}
 use Rattle.aml_check.specs.Meaning.{Progress, actor_of, admitted, too_deep, too_many_statements, used, declaration}
 use Rattle.aml_resume.specs.Places.{Standing}
 use Rattle.aml_resume.specs.Pausing.{Pause, Through, Returned, Calling, Failed, method_pause}
-use Rattle.aml_slice.specs.declared.slices.Next.{Next}
-use Rattle.aml_slice.specs.declared.slices.Next.TheVariants.{Go, Ended}
+use Rattle.snap_base.specs.declared.next.Next.{Next}
+use Rattle.snap_base.specs.declared.next.Next.TheVariants.{Go, Ended}
 use Rattle.aml_slice.specs.Controls.{Frame, Rest, fresh, progress_in, with_given, most_waiting, moves_left}
 
 -- ---- the beginning
@@ -87,7 +87,7 @@ move p count c s = moved_by count c (method_pause c.top.actor (method_at p c.top
 -- how a slice leaves its actor, and its transaction: on another actor, or at its end
 pub record SliceEnd : Type 0 where
   pub state : State
-  pub next : Next
+  pub next : Next Rest
 
 abbrev pub actor_id : ℕ → ActorId
 actor_id a = record { 0 = a }

@@ -12,8 +12,8 @@ use Rattle.aml_tree.specs.Tree.{CheckedMethod}
 use Rattle.aml_check.specs.Names.{method_at}
 use Rattle.aml_check.specs.Meaning.{◌>>=◌, Progress, Caller, alone, called, ended_alone, state_at}
 use Rattle.aml_resume.specs.Resuming.{gives}
-use Rattle.aml_slice.specs.declared.slices.Next.{Next}
-use Rattle.aml_slice.specs.declared.slices.Next.TheVariants.{Go, Ended}
+use Rattle.snap_base.specs.declared.next.Next.{Next}
+use Rattle.snap_base.specs.declared.next.Next.TheVariants.{Go, Ended}
 use Rattle.aml_slice.specs.Controls.{Frame, Rest, IsRest, RestsOn, most_waiting, moves_left, progress_in, with_given}
 
 -- ---- what the rest of a transaction gives
@@ -68,7 +68,7 @@ EndsRest p count c s t (result.Fail code) =
     (w : List State) → Holds count c.top.actor s w → rest_gives p c w ≡ Err code
 
 -- What the rest of the transaction gives stays the same, in each world with the state that was found.
-abbrev pub IsRestKept : List CheckedMethod → ℕ → Rest → State → State → Next → Type 0
+abbrev pub IsRestKept : List CheckedMethod → ℕ → Rest → State → State → Next Rest → Type 0
 IsRestKept p count c s t (Go b d) = KeepsRest p count c s t d
 IsRestKept p count c s t (Ended r) = EndsRest p count c s t r
 

@@ -13,7 +13,7 @@ ghost use Rattle.aml_check.specs.Transactions.{IsTransaction};
 ghost use Rattle.aml_resume.specs.Resuming.{BlocksRise, CallsRise, CountsRise, PausesAsMeant, PausesWhereAllowed};
 ghost use Rattle.aml_slice.specs.Controls.{Rest, IsRest};
 ghost use Rattle.aml_slice.specs.Readers.{AllReading, HandsOnReading};
-ghost use Rattle.aml_slice.specs.declared.slices.Next.{Next};
+ghost use Rattle.snap_base.specs.declared.next.Next.{Next};
 ghost use Rattle.aml_slice.specs.Slicing.{slice_end, started};
 ghost use Rattle.aml_slice.specs.Wholes.{BeginsTransaction, Cut, IsRestKept, RunsInSlices, world_after};
 ghost use Rattle.aml_slice.specs.Moments.{IsHandedOn, IsMoment, IsSameEnd, IsSameState};
@@ -42,8 +42,8 @@ pub fn each_slice(program: &Checked)
 /// A slice has one end: whether the transaction goes to another actor, to which, or with which result it
 /// ends, and what state it leaves, save for a failure.
 pub fn one_moment(_program: &Checked)
-    ensures state { (count : ℕ) (c : Rest) (s t u : State) (m n : Next) → c.top.actor < count → IsMoment (methods_of _program.now) count c s t m → IsMoment (methods_of _program.now) count c s u n → IsSameState m t u }
-    ensures end { (count : ℕ) (c : Rest) (s t u : State) (m n : Next) → c.top.actor < count → IsMoment (methods_of _program.now) count c s t m → IsMoment (methods_of _program.now) count c s u n → IsSameEnd m n }
+    ensures state { (count : ℕ) (c : Rest) (s t u : State) (m n : Next Rest) → c.top.actor < count → IsMoment (methods_of _program.now) count c s t m → IsMoment (methods_of _program.now) count c s u n → IsSameState m t u }
+    ensures end { (count : ℕ) (c : Rest) (s t u : State) (m n : Next Rest) → c.top.actor < count → IsMoment (methods_of _program.now) count c s t m → IsMoment (methods_of _program.now) count c s u n → IsSameEnd m n }
 {}
 
 /// However a transaction is cut into slices, it gives what it gives alone on the states that were found,

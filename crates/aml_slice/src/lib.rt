@@ -18,4 +18,4 @@ pub use controls::Control;
 pub use laws::{
     each_slice, one_moment, readers_leave, slices_add_up, slices_finish, transactions_begin,
 };
-pub use slices::{Next, slice};
+pub use slices::slice;

@@ -11,16 +11,7 @@ use crate::laws::known;
 use crate::running::Running;
 use aml_check::Checked;
 use aml_resume::Exit;
-use snap_base::{ActorId, State, TxResult};
-
-/// How a slice has ended.
-#[derive(Drop)]
-pub enum Next {
-    /// The transaction has come to stand on another actor, by a call or by a return.
-    Go(ActorId, Control),
-    /// The transaction has ended: with its value, or with the code of its failure.
-    Ended(TxResult),
-}
+use snap_base::{ActorId, Next, State, TxResult};
 
 /// One move of a control on the actor where it stands: the actor where it stands then, or what became of
 /// the transaction.
@@ -53,7 +44,7 @@ fn advance(
 /// to another actor, or ends. A call of the own actor is run on. It takes no memory, and ends for every
 /// control of a transaction of this program. Where the transaction fails, the state is what its statements
 /// made of it so far.
-pub fn slice(program: &Checked, actors: u16, state: &mut State, control: Control) -> Next
+pub fn slice(program: &Checked, actors: u16, state: &mut State, control: Control) -> Next<Control>
     requires { IsRest (methods_of program.now) actors control }
     ensures exactly { record { state = state.new; next = result } ≡ slice_end (methods_of program.now) actors control state.old }
 {

@@ -4,23 +4,22 @@ ghost use Rattle.std.specs.List.{list_all};
 ghost use Rattle.std.specs.Option.{option_map, option_and_then};
 ghost use Rattle.actor_cell.specs.Cut.{IsCutFrom};
 ghost use Rattle.hybrid_schedule.specs.Schedules.{has_turn, is_incomplete, is_next_here, is_done_here};
-ghost use Rattle.machine_words.specs.Meant.{sub_batch, tid_number, who_meant};
+ghost use Rattle.machine_words.specs.Meant.{sub_batch, tid_number, who_meant, next_meant};
 ghost use Rattle.protocol.specs.OnBook.{met, tids_on};
 ghost use Rattle.protocol.specs.OnCell.{act_left, act_placed, batch_completed, batch_left, batch_placed, control_came, is_undone_act, outcome_taken, pact_closed, reads_on, rolled_back, staying};
 ghost use Rattle.protocol.specs.Parts.{Act, Cascade, ControlMessage};
 ghost use Rattle.protocol.specs.Runs.{new_cell};
 ghost use Rattle.protocol.specs.Words.{acts_on, floor_for, has_act, has_entry, has_undone, holds, image_of, is_clear, is_empty, is_ended, is_going, is_sealed, outcome_of, waiting_of, who_on};
-ghost use Rattle.cell_part.specs.Contents.{next_meant, outcome_next, outcome_result, waiting_control};
+ghost use Rattle.cell_part.specs.Contents.{outcome_next, outcome_result, waiting_control};
 ghost use Rattle.cell_part.specs.Cutting.{cut_back};
 ghost use Rattle.cell_part.specs.Room.{KeepsRoom, KeepsRoomBut};
 ghost use Rattle.cell_part.specs.Running.{begun, ended};
 
 use crate::boxes::Boxes;
 use crate::leaving::{leave_boxes, leave_store};
-use crate::next::Next;
 use actor_cell::{Cell, MOST_IMAGES, undoing_is_rollback};
 use hybrid_schedule::{Schedule, cut_is_at_first_aborted, gone_is_from_first_aborted};
-use snap_base::{Bid, Memory, State, SubBatch, Tid, TxResult, Who};
+use snap_base::{Bid, Memory, Next, State, SubBatch, Tid, TxResult, Who};
 use std::alloc::Global;
 use std::marker::Model;
 

@@ -4,10 +4,10 @@ ghost use Rattle.protocol.specs.Left.{cell_left, outcome_left, total, waiting_le
 
 use crate::boxes::Boxes;
 use crate::cell_part::CellPart;
-use crate::next::Next;
 use crate::outcome::Outcome;
 use crate::waiting::Waiting;
 use machine_words::Visits;
+use snap_base::Next;
 
 impl<C: Drop> CellPart<C> {
     /// How many events the actor may still bring where there were so many cascades, and `u64::MAX` where more: a rollback for

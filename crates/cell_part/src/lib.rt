@@ -12,10 +12,8 @@ mod laws;
 mod leaving;
 mod left;
 mod listing;
-mod next;
 mod outcome;
 mod waiting;
 
 pub use cell_part::CellPart;
 pub use laws::{run_is_begin_slice_end, what_is_found_has_its_number, who_gives_way_is_not_placed};
-pub use next::Next;

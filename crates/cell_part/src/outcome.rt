@@ -4,8 +4,7 @@ ghost use Rattle.protocol.specs.Words.{is_going, is_ended};
 ghost use Rattle.cell_part.specs.Contents.{outcome_result};
 
 use crate::kept::Kept;
-use crate::next::Next;
-use snap_base::{Tid, TxResult};
+use snap_base::{Next, Tid, TxResult};
 use std::marker::Model;
 
 /// What a slice of this transaction ended with. Contracts see the machine's `Outcome`.

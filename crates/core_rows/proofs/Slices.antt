@@ -1,15 +1,15 @@
 -- A slice that the code's closure ran is the slice of the machine.
 use Rattle.std.proofs.Common.{◌≡◌, ℕ, Bool, Some, MutBor, ap, sym, subst, ◌∙◌}
 use Rattle.std.specs.Fn.{Once, FnOnceReturns}
+use Rattle.machine_words.specs.Meant.{next_meant}
 use Rattle.snap_base.specs.declared.transactions.State.{State}
 use Rattle.protocol.specs.Fixed.{Code, Sliced}
 use Rattle.protocol.specs.Fixed as machine
 use Rattle.protocol.specs.OnCell.{is_through, slice_run}
 use Rattle.protocol.specs.Parts.{Cell, Waiting}
 use Rattle.protocol.specs.Words.{waiting_of}
-use Rattle.cell_part.specs.Contents.{next_meant}
 use Rattle.cell_part.specs.Running.{begun, written, ended}
-use Rattle.cell_part.specs.declared.next.Next.{Next}
+use Rattle.snap_base.specs.declared.next.Next.{Next}
 use Rattle.core_rows.specs.Slices.{Slices}
 
 -- a cell that ends as the code's slice leaves it, and through where that is through

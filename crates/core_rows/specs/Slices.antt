@@ -3,13 +3,13 @@
 use Rattle.std.specs.Prelude.{◌≡◌, ℕ, Bool, Some}
 use Rattle.std.specs.Borrow.{MutBor}
 use Rattle.std.specs.Fn.{Once, FnOnceReturns}
+use Rattle.machine_words.specs.Meant.{next_meant}
 use Rattle.snap_base.specs.declared.transactions.State.{State}
 use Rattle.protocol.specs.Fixed.{Code}
 use Rattle.protocol.specs.OnCell.{is_through}
 use Rattle.protocol.specs.Parts.{Waiting, Cell}
 use Rattle.protocol.specs.Words.{waiting_of}
-use Rattle.cell_part.specs.declared.next.Next.{Next}
-use Rattle.cell_part.specs.Contents.{next_meant}
+use Rattle.snap_base.specs.declared.next.Next.{Next}
 
 module _ {C F : Type 0} (g : Once F (MutBor State × (C × Unit {0})) ((Next C × Bool) × (MutBor State × Unit {0}))) where
   -- it may be called at the state of the cell and the control of transaction t that waits there

@@ -8,8 +8,8 @@ ghost use Rattle.core_rows.specs.Taken.{IsOfRun, IsTaken, IsRefusal, IsNo, IsRul
 use crate::StepNo;
 use crate::asking::first_no;
 use crate::laws::rows_may;
-use cell_part::{CellPart, Next, run_is_begin_slice_end};
-use snap_base::{ActorId, State, Tid};
+use cell_part::{CellPart, run_is_begin_slice_end};
+use snap_base::{ActorId, Next, State, Tid};
 
 /// Run: which of its conditions is the first false one, or 0.
 pub fn run_refusal<C: Drop>(cell: &CellPart<C>, t: Tid, a: ActorId) -> u8

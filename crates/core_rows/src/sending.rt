@@ -4,17 +4,16 @@ ghost use Rattle.protocol.specs.Events.{Send};
 ghost use Rattle.protocol.specs.Parts.{Outcome};
 ghost use Rattle.protocol.specs.OnPost.{sent};
 ghost use Rattle.protocol.specs.Words.{control_of};
-ghost use Rattle.machine_words.specs.Meant.{who_meant};
-ghost use Rattle.cell_part.specs.Contents.{next_meant};
+ghost use Rattle.machine_words.specs.Meant.{who_meant, next_meant};
 ghost use Rattle.core_rows.specs.Showing.{ShowsCell, ShowsPost};
 ghost use Rattle.core_rows.specs.Taken.{IsOfRun, IsTaken, IsRefusal, IsNo};
 
 use crate::StepNo;
 use crate::asking::first_no;
 use crate::laws::rows_may;
-use cell_part::{CellPart, Next, what_is_found_has_its_number};
+use cell_part::{CellPart, what_is_found_has_its_number};
 use post_box::Post;
-use snap_base::{ActorId, Tid, Who};
+use snap_base::{ActorId, Next, Tid, Who};
 use std::alloc::Global;
 
 /// Send: 1 where its condition is false, or 0.

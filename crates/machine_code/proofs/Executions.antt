@@ -11,8 +11,8 @@ use Rattle.aml_tree.specs.Tree.{CheckedMethod}
 use Rattle.aml_check.specs.Meaning.{state_at}
 use Rattle.aml_check.specs.Meaning as meaning
 use Rattle.aml_check.specs.Transactions.{IsTransaction}
-use Rattle.aml_slice.specs.declared.slices.Next.{Next}
-use Rattle.aml_slice.specs.declared.slices.Next.TheVariants.{Go, Ended}
+use Rattle.snap_base.specs.declared.next.Next.{Next}
+use Rattle.snap_base.specs.declared.next.Next.TheVariants.{Go, Ended}
 use Rattle.aml_slice.specs.Controls.{Rest, moves_left}
 use Rattle.aml_slice.specs.Slicing.{slice_end, started}
 use Rattle.aml_slice.specs.Wholes.{world_after}
@@ -38,7 +38,7 @@ alone_so p count w tx promised size is =
 
 -- ---- a world keeps its actors
 
-goes_on_size : (n : ℕ) (more : Rest → List State → Alone) (w : List State) (next : Next) → length w ≡ n → ((d : Rest) → length (more d w).world ≡ n) → length (goes_on more w next).world ≡ n
+goes_on_size : (n : ℕ) (more : Rest → List State → Alone) (w : List State) (next : Next Rest) → length w ≡ n → ((d : Rest) → length (more d w).world ≡ n) → length (goes_on more w next).world ≡ n
 goes_on_size n more w (Go b d) size on = on d
 goes_on_size n more w (Ended r) size on = size
 

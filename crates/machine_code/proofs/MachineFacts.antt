@@ -1,6 +1,7 @@
 -- The facts that the machine uses, from what the sliced executor promises of beginnings and slices.
 use Rattle.std.proofs.Common.{◌≡◌, ℕ, ◌<◌, inl, true, Some, unwrap_or, List, set, refl, ◌∙◌, subst, arith}
 use Rattle.std.specs.Prelude.{IsTrue}
+use Rattle.machine_words.specs.Meant.{next_meant}
 use Rattle.snap_base.specs.declared.ids.ActorId.{ActorId}
 use Rattle.snap_base.specs.declared.ids.Tid.{Tid}
 use Rattle.snap_base.specs.declared.transactions.Kind.{Kind}
@@ -10,8 +11,8 @@ use Rattle.snap_base.specs.declared.transactions.Tx.{Tx}
 use Rattle.aml_tree.specs.Tree.{CheckedMethod}
 use Rattle.aml_check.specs.Meaning.{state_at, declaration, used}
 use Rattle.aml_check.specs.Transactions.{IsTransaction}
-use Rattle.aml_slice.specs.declared.slices.Next as slices
-use Rattle.aml_slice.specs.declared.slices.Next.TheVariants as slice
+use Rattle.snap_base.specs.declared.next.Next as slices
+use Rattle.snap_base.specs.declared.next.Next.TheVariants as slice
 use Rattle.aml_check.specs.Names.{method_at}
 use Rattle.aml_slice.specs.Controls.{Rest, IsRest}
 use Rattle.aml_slice.specs.Readers.{AllReading, HandsOnReading}
@@ -21,7 +22,7 @@ use Rattle.aml_slice.specs.Moments.{HandsOn, IsHandedOn}
 use Rattle.aml_slice.specs.Finishing.{goes_on, after_slice, finished}
 use Rattle.protocol.specs.Fixed.{Go, is_pact_kind, declared}
 use Rattle.protocol.specs.Facts.{Facts, rest_of}
-use Rattle.machine_code.specs.MethodCode.{tid_of, as_next, method_code, IsRestOf, finish}
+use Rattle.machine_code.specs.MethodCode.{tid_of, method_code, IsRestOf, finish}
 use Rattle.machine_code.proofs.Askings.{rests_told, rests_tells, among_told, among_tells}
 use Rattle.machine_code.proofs.Naming.{only_named}
 
@@ -44,7 +45,7 @@ declares_some Pact uses a h = (unwrap_or (used a uses) uses, refl)
 declares_some Act uses a h = absurd cc
 
 -- what goes to another actor was handed on
-handed_by : (p : List CheckedMethod) (count : ℕ) (c : Rest) (b : ℕ) (d : Rest) (next : slices.Next) → IsHandedOn p count c next → as_next next ≡ Go b d → HandsOn p count c (actor_id b) d
+handed_by : (p : List CheckedMethod) (count : ℕ) (c : Rest) (b : ℕ) (d : Rest) (next : slices.Next Rest) → IsHandedOn p count c next → next_meant next ≡ Go b d → HandsOn p count c (actor_id b) d
 handed_by p count c b d (slice.Go e f) on is =
     let there : e.0 ≡ b = cc in
     let same : f ≡ d = cc in
@@ -53,18 +54,18 @@ handed_by p count c b d (slice.Go e f) on is =
     subst P there (subst Q same on)
 handed_by p count c b d (slice.Ended r) on is = absurd cc
 
-handed : (p : List CheckedMethod) (count : ℕ) (tx : Tx) (c d : Rest) (s : State) (b : ℕ) → Promises p count → IsRestOf p count tx c → as_next (slice_end p count c s).next ≡ Go b d → HandsOn p count c (actor_id b) d
+handed : (p : List CheckedMethod) (count : ℕ) (tx : Tx) (c d : Rest) (s : State) (b : ℕ) → Promises p count → IsRestOf p count tx c → next_meant (slice_end p count c s).next ≡ Go b d → HandsOn p count c (actor_id b) d
 handed p count tx c d s b promises is e = handed_by p count c b d (slice_end p count c s).next (promises.hands_on c s is.rest) e
 
 -- of a transaction that only reads, so does what was handed on
-reading_by : (p : List CheckedMethod) (b : ℕ) (d : Rest) (next : slices.Next) → HandsOnReading p next → as_next next ≡ Go b d → AllReading p d
+reading_by : (p : List CheckedMethod) (b : ℕ) (d : Rest) (next : slices.Next Rest) → HandsOnReading p next → next_meant next ≡ Go b d → AllReading p d
 reading_by p b d (slice.Go e f) on is =
     let same : f ≡ d = cc in
     subst (AllReading p) same on
 reading_by p b d (slice.Ended r) on is = absurd cc
 
 -- what becomes of a transaction behind a slice
-finish_behind : (p : List CheckedMethod) (count : ℕ) (w : List State) (next : slices.Next) → goes_on (finished p count) w next ≡ rest_of (finish p count) (as_next next) w
+finish_behind : (p : List CheckedMethod) (count : ℕ) (w : List State) (next : slices.Next Rest) → goes_on (finished p count) w next ≡ rest_of (finish p count) (next_meant next) w
 finish_behind p count w (slice.Go b d) = refl
 finish_behind p count w (slice.Ended r) = refl
 

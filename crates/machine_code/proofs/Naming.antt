@@ -9,8 +9,8 @@ use Rattle.serial_words.specs.Outcomes.{Alone}
 use Rattle.aml_check.specs.Meaning.{Progress, state_at, actor_of, admitted, too_deep}
 use Rattle.aml_resume.specs.Places.{Standing}
 use Rattle.aml_resume.specs.Pausing.{Pause, Through, Returned, Calling, Failed, method_pause}
-use Rattle.aml_slice.specs.declared.slices.Next.{Next}
-use Rattle.aml_slice.specs.declared.slices.Next.TheVariants.{Go, Ended}
+use Rattle.snap_base.specs.declared.next.Next.{Next}
+use Rattle.snap_base.specs.declared.next.Next.TheVariants.{Go, Ended}
 use Rattle.aml_slice.specs.Controls.{Frame, Rest, progress_in, most_waiting, moves_left}
 use Rattle.aml_slice.specs.Slicing.{Move, To, Out, unless_refused, returned, entered, moved_by, move, SliceEnd, actor_id, after_move, slice_end_in, slice_end}
 use Rattle.aml_slice.specs.Finishing.{goes_on, after_slice, finished_in, finished}
@@ -22,7 +22,7 @@ abbrev moved_as : Tid → Move → Move
 moved_as t (To d s) = To (named t d) s
 moved_as t (Out r s) = Out r s
 
-abbrev on_as : Tid → Next → Next
+abbrev on_as : Tid → Next Rest → Next Rest
 on_as t (Go b d) = Go b (named t d)
 on_as t (Ended r) = Ended r
 
@@ -68,7 +68,7 @@ ended_in_as t zero p count own c s = refl
 ended_in_as t (suc f) p count own c s =
     ap (after_move own (slice_end_in f p count own)) (moved_by_as t count c (method_pause c.top.actor (method_at p c.top.method).body c.top.standing s c.statements)) ∙ after_as t own (slice_end_in f p count own) (λ d u. ended_in_as t f p count own d u) (move p count c s)
 
-on_named : (t : Tid) (more : Rest → List State → Alone) (w : List State) → ((d : Rest) (v : List State) → more (named t d) v ≡ more d v) → (x : Next) → goes_on more w (on_as t x) ≡ goes_on more w x
+on_named : (t : Tid) (more : Rest → List State → Alone) (w : List State) → ((d : Rest) (v : List State) → more (named t d) v ≡ more d v) → (x : Next Rest) → goes_on more w (on_as t x) ≡ goes_on more w x
 on_named t more w h (Go b d) = h d w
 on_named t more w h (Ended r) = refl
 

@@ -7,13 +7,12 @@ use Rattle.snap_base.specs.declared.ids.Tid.{Tid}
 use Rattle.snap_base.specs.declared.transactions.State.{State}
 use Rattle.snap_base.specs.declared.transactions.Tx.{Tx}
 use Rattle.aml_tree.specs.Tree.{CheckedMethod}
-use Rattle.aml_slice.specs.declared.slices.Next as slices
-use Rattle.aml_slice.specs.declared.slices.Next.TheVariants as slice
 use Rattle.aml_check.specs.Names.{method_at}
 use Rattle.aml_slice.specs.Controls.{Frame, Rest, IsRest, moves_left}
 use Rattle.aml_slice.specs.Readers.{AllReading}
 use Rattle.aml_slice.specs.Slicing.{SliceEnd, slice_end, started}
 use Rattle.aml_slice.specs.Finishing.{finished}
+use Rattle.machine_words.specs.Meant.{next_meant}
 use Rattle.protocol.specs.Fixed.{Next, Go, Ended, Sliced, Code, is_pact}
 use Rattle.protocol.specs.Facts.{Alone}
 
@@ -34,13 +33,8 @@ rests_on c a = is_stood_on (c.top ∷ c.waiting) a || is_left c.left a
 abbrev pub tid_of : ℕ → Tid
 tid_of n = record { 0 = n }
 
--- where a slice leaves its transaction
-abbrev pub as_next : slices.Next → Next Rest
-as_next (slice.Go b d) = Go b.0 d
-as_next (slice.Ended r) = Ended r
-
 abbrev pub as_sliced : SliceEnd → Sliced Rest
-as_sliced x = record { state = x.state; next = as_next x.next }
+as_sliced x = record { state = x.state; next = next_meant x.next }
 
 -- whether the root of the transaction is a method that promises only to read
 abbrev pub only_reads : List CheckedMethod → Tx → Bool

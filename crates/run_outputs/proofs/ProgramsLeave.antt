@@ -2,14 +2,16 @@
 use Rattle.std.specs.Prelude.{ℕ, zero, suc, ◌<◌, ◌≤◌, ◌^◌, List, [], ◌∷◌, length, slice_index_or}
 use Rattle.std.specs.List.{AllByRecursion}
 use Rattle.std.proofs.Common.{arith}
+use Rattle.aml_slice.specs.Controls.{Rest}
+use Rattle.machine_words.specs.Meant.{next_meant}
 use Rattle.snap_base.specs.declared.transactions.Tx.{Tx}
 use Rattle.aml_tree.specs.Tree.{CheckedMethod}
 use Rattle.aml_check.specs.Closed.{IsClosedProgram}
 use Rattle.aml_check.specs.Transactions.{IsTransaction}
-use Rattle.aml_slice.specs.declared.slices.Next as slices
-use Rattle.aml_slice.specs.declared.slices.Next.TheVariants as slice
+use Rattle.snap_base.specs.declared.next.Next as slices
+use Rattle.snap_base.specs.declared.next.Next.TheVariants as slice
 use Rattle.aml_slice.specs.Slicing.{slice_end, started}
-use Rattle.machine_code.specs.MethodCode.{as_next, tid_of}
+use Rattle.machine_code.specs.MethodCode.{tid_of}
 use Rattle.machine_laws.specs.Programs.{IsTextOf, with_code}
 use Rattle.protocol.specs.Fixed.{Text, no_tx, tx_at}
 use Rattle.txn_records.specs.Records.{IsState}
@@ -30,7 +32,7 @@ begins_at p count (tx ∷ txs) (suc n) few h = begins_at p count txs n few h.1
 started_fits : (t : ℕ) (tx : Tx) → Begins tx → FitRest (started (tid_of t) tx)
 started_fits t tx b = record { top = record { actor = b.actor; variables = b.values }; waiting = tt }
 
-next_met : (x : slices.Next) → FitNext x → MetNext FitRest (as_next x)
+next_met : (x : slices.Next Rest) → FitNext x → MetNext FitRest (next_meant x)
 next_met (slice.Go b d) h = h
 next_met (slice.Ended r) h = h
 

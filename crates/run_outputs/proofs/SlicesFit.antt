@@ -10,8 +10,8 @@ use Rattle.aml_check.specs.Names.{method_at}
 use Rattle.aml_check.specs.Meaning.{actor_of, admitted, no_actor}
 use Rattle.aml_resume.specs.Places.{Standing}
 use Rattle.aml_resume.specs.Pausing.{Pause, Through, Returned, Calling, Failed}
-use Rattle.aml_slice.specs.declared.slices.Next.{Next}
-use Rattle.aml_slice.specs.declared.slices.Next.TheVariants.{Go, Ended}
+use Rattle.snap_base.specs.declared.next.Next.{Next}
+use Rattle.snap_base.specs.declared.next.Next.TheVariants.{Go, Ended}
 use Rattle.aml_slice.specs.Controls.{Frame, Rest, progress_in, most_waiting, moves_left}
 use Rattle.aml_slice.specs.Slicing.{Move, To, Out, SliceEnd, returned, unless_refused, called_on, moved_by, move, after_move, slice_end_in, slice_end}
 use Rattle.txn_records.specs.Records.{IsState}
@@ -32,7 +32,7 @@ abbrev pub FitMove : Move → Type 0
 FitMove (To d t) = FitRest d × IsState t
 FitMove (Out r t) = ResultFits r × IsState t
 
-abbrev pub FitNext : Next → Type 0
+abbrev pub FitNext : Next Rest → Type 0
 FitNext (Go b d) = FitRest d
 FitNext (Ended r) = ResultFits r
 

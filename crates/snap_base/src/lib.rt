@@ -5,12 +5,14 @@
 
 mod ids;
 mod memory;
+mod next;
 mod sequences;
 mod transactions;
 mod verdicts;
 
 pub use ids::{ActorId, Bid, Tid, TxNo};
 pub use memory::Memory;
+pub use next::Next;
 pub use sequences::Sequence;
 pub use transactions::{FIELDS, Kind, State, SubBatch, Tx, TxResult, Who};
 pub use verdicts::{Place, Verdict};

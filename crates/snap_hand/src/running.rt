@@ -2,8 +2,8 @@
 ghost use Rattle.std.specs.Prelude.{◌≡◌, length};
 ghost use Rattle.aml_check.specs.Checked.{methods_of};
 ghost use Rattle.aml_slice.specs.Controls.{IsRest};
-ghost use Rattle.cell_part.specs.Contents.{next_meant};
 ghost use Rattle.machine_code.specs.MethodCode.{method_code};
+ghost use Rattle.machine_words.specs.Meant.{next_meant};
 ghost use Rattle.protocol.specs.Events as event;
 ghost use Rattle.protocol.specs.OnCell.{is_through};
 ghost use Rattle.snap_hand.specs.Steps.{MayBeAsked, IsRefusalOn, IsStep};
@@ -12,11 +12,10 @@ ghost use Rattle.snap_hand.specs.Tables.{AreTables, fixed_of, text_of};
 use crate::{Hand, Tables};
 use aml_check::Checked;
 use aml_slice::{Control, slice};
-use cell_part::Next;
 use core_rows::{StepNo, nothing_happens_nowhere, rows_may};
 use machine_code::askings_are_the_controls;
 use machine_laws::controls_may_run;
-use snap_base::{ActorId, State, Tid};
+use snap_base::{ActorId, Next, State, Tid};
 
 /// How many actors there are.
 fn actors_of(tables: &Tables) -> u16
@@ -40,13 +39,12 @@ fn slice_on(
     ensures through { is_through (method_code (methods_of program.now) actors) a.0 (next_meant result.0) ≡ result.1 }
 {
     askings_are_the_controls();
-    match slice(program, actors, state, control) {
-        aml_slice::Next::Ended(result) => (Next::Ended(result), true),
-        aml_slice::Next::Go(to, rest) => {
-            let rests = rest.rests_on(a);
-            (Next::Go(to, rest), !rests)
-        }
-    }
+    let next = slice(program, actors, state, control);
+    let through = match &next {
+        Next::Ended(_) => true,
+        Next::Go(_, rest) => !rest.rests_on(a),
+    };
+    (next, through)
 }
 
 /// Which of the conditions of Run is the first false one, or 0.

@@ -1,6 +1,6 @@
 use Rattle.std.proofs.Common.{◌≡◌, ◌≢◌, ℕ, sym, ap, ◌∙◌, subst, arith}
 use Rattle.aml_check.specs.Checked.{methods_of}
-use Rattle.aml_slice.specs.declared.slices.Next.TheVariants.{Go}
+use Rattle.snap_base.specs.declared.next.Next.TheVariants.{Go}
 use Rattle.aml_slice.specs.Controls.{Rest, IsRest}
 use Rattle.aml_slice.specs.Slicing.{SliceEnd, actor_id, slice_end}
 use Rattle.aml_slice.specs.Views.{rest_of}

@@ -1,9 +1,9 @@
 use Rattle.std.proofs.Common.{◌≡◌, Some, length, refl, sym, ap, subst, ◌∙◌, rules}
 use Rattle.aml_check.specs.Checked.{methods_of}
 use Rattle.aml_slice.specs.Controls.{IsRest}
-use Rattle.cell_part.specs.Contents.{next_meant}
 use Rattle.core_rows.specs.Showing.{ShowsCell}
 use Rattle.machine_code.specs.MethodCode.{method_code}
+use Rattle.machine_words.specs.Meant.{next_meant}
 use Rattle.protocol.specs.Effects.{after}
 use Rattle.protocol.specs.Events.{Run}
 use Rattle.protocol.specs.OnCell.{is_through}
