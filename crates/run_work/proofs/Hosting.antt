@@ -17,9 +17,9 @@ use Rattle.run_outputs.specs.Groups.{groups_of, group_behind}
 use Rattle.run_recovery.specs.Runs.{machine_of, meant, none_failed, only_failed, tried_on}
 use Rattle.run_recovery.specs.Schedules.{Schedule, seeded, free, IsTakenBy}
 use Rattle.run_work.specs.declared.hosts.Hosted.{Hosted}
-use Rattle.run_work.specs.Hosts.{HasDriven, LeftFailed, IsStopOf, PrintsStopped, PrintsReplies, PrintsUnlessFailed, StopsSo, IsHostEnd, IsCoreOf, IsMade, HasHosted}
+use Rattle.run_work.specs.Hosts.{HasDriven, HasLeft, LeftFailed, IsStopOf, PrintsStopped, PrintsReplies, PrintsUnlessFailed, StopsSo, IsHostEnd, IsCoreOf, IsMade, IsHosted, HasHosted}
 use Rattle.run_work.specs.Runs.{Printing, reporting, summing, replies_by}
-use Rattle.run_work.specs.Writings.{Writing, WritesNothing, Writes}
+use Rattle.run_work.specs.Writings.{Writing, WritesNothing, IsSilent, Writes}
 use Rattle.snap_core.specs.Cores.{CoreState, IsAt}
 use Rattle.snap_outside.specs.Causes.{Rose}
 use Rattle.snap_recover.specs.declared.openings.Opening.{Opening}
@@ -198,6 +198,23 @@ unheard Left w schedule o es replies out stop.Memory quiet nothing later h = rec
 pub made_as : (P Q : (ℕ → Bool) → Type 0) → ((failed : ℕ → Bool) → P failed → Q failed) → (p : Printing) (w : Work) (schedule : Schedule) (o : Opening) (replies : Writing) (h : Hosted)
     → IsMade p P w schedule o replies h → IsMade p Q w schedule o replies h
 made_as P Q then p w schedule o replies h is = record { ends = left_as P Q then w o (meant h.kept.items) p schedule replies h.stop is.ends; core = is.core; whole = is.whole; stops = is.stops }
+
+-- on all devices, where the replies went where nothing fails
+pub unheard_host : (w : Work) (schedule : Schedule) (before after : List Device) (replies out : Writing) (h : Hosted) → ¬ Rose replies.faults_before replies.faults_after → IsSilent out
+    → IsHosted reporting w schedule before after replies h
+    → IsHosted summing w schedule before after out (record { core = h.core; stop = h.stop; kept = h.kept; failed = false })
+unheard_host w schedule before after replies out h quiet silent is =
+    let es = meant h.kept.items in
+    let nothing : Writes out [] = subst (λ (t : Option (List ℕ)). Writes (record out { taken_after = t }) []) (sym silent.0) (Appends-nil out.taken_before) in
+    record {
+      opening = is.opening;
+      made = record {
+        ends = unheard (HasLeft w schedule is.opening es before after) w schedule is.opening es replies out h.stop quiet nothing (omega (arith, silent.1)) is.made.ends;
+        core = is.made.core;
+        whole = λ _. nothing;
+        stops = refl;
+      };
+    }
 
 -- a core that has come to the events is there where there is one
 core_at : (m : Fixed Rest) (es : List machine.Event) (by : Stop) (core : Option CoreState) → IsCoreOf m es by core → IfSome core (λ c. IsAt c es)

@@ -14,4 +14,4 @@ mod runs;
 pub use calls::Call;
 pub use endings::status_of;
 pub use printings::Told;
-pub use runs::{HasRun, crew_work, run_work};
+pub use runs::{HasRun, crew_summary, crew_work, run_work};

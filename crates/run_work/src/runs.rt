@@ -5,7 +5,7 @@ ghost use Rattle.run_opening.specs.Opens.{MayOpen};
 ghost use Rattle.run_recovery.specs.Schedules.{seeded, free};
 ghost use Rattle.run_work.specs.Calls.{ran_by};
 ghost use Rattle.run_work.specs.Printings.{printing_of};
-ghost use Rattle.run_work.specs.Runs.{IsAnswerOf, IsOfLogs, OutStoodOf};
+ghost use Rattle.run_work.specs.Runs.{reporting, summing, IsAnswerOf, IsOfLogs, OutStoodOf};
 ghost use Rattle.snap_outside.specs.Causes.{EndsAtFault};
 ghost use Rattle.snap_recover.specs.declared.openings.Opening.{Opening};
 ghost use Rattle.snap_work.specs.Kept.{KeepsLimits};
@@ -14,7 +14,7 @@ ghost use Rattle.txn_records.specs.declared.records.Record.{Record};
 
 use crate::calls::Call;
 use crate::endings::end_run;
-use crate::hosts::{HostRan, host_crew, host_work};
+use crate::hosts::{HostRan, crew_unheard, host_crew, host_work};
 use crate::printings::Told;
 use crate::replies::marks_are_replies;
 use aml_slice::Control;
@@ -28,17 +28,24 @@ use std::alloc::Global;
 use std::sync::Wait;
 use std::thread::Threads;
 
-/// What a run of a work ends with: the events that were taken, in the order of their numbers, how the call ends, and what it was
-/// handed.
+/// What a run of a work ends with.
 pub struct HasRun<D: LogDev, O: Sink, T: Sink> {
+    /// The events that were taken, in their order. None where no run began.
     pub kept: Vec<Event>,
+    /// How the call ends, with its cause.
     pub status: Status,
+    /// The devices, the output and the trace that the call was handed, as it leaves them.
     pub call: Call<D, O, T>,
 }
 
-/// Runs a work on the machine, by the schedule of the seed, and prints its report, or its summary alone. Its logs lie on the
-/// first devices of the call; the others get no call. The events that were taken come back; a line of each is written to the
-/// trace at the end.
+/// Runs a work on the machine, on one thread, by the schedule of the seed. Its logs lie on the first devices of the call, which are
+/// four; the others get no call. A report prints each reply as it comes, and at the end the actors and the end line; a summary prints
+/// its line alone. At last a line of each event that was taken is written to the trace.
+///
+/// The status is `Done`, or tells what stopped the call: `Logs`, a log is refused and no run began; `LogFault`, a log's device failed
+/// before the run or in it; `OutFault`, the output failed; `TraceFault`, all was done but the trace; `Memory`, there was no memory,
+/// before the run or in it. With each of them it is stated what was printed and traced, and what is left on the logs recovers. A work
+/// has a limited number of events, so it returns.
 pub fn run_work<D: LogDev, O: Sink, T: Sink>(
     alloc: Global,
     work: Work,
@@ -82,9 +89,14 @@ pub fn run_work<D: LogDev, O: Sink, T: Sink>(
     }
 }
 
-/// Runs a work on the machine by so many workers, each of which takes the events that it comes to, and prints its report, or its
-/// summary alone. Its logs lie on the first devices of the call; the others get no call. The events that were taken come back; a
-/// line of each is written to the trace at the end. Whether it returns is not promised.
+/// Runs a work on the machine by so many workers, each of which takes the events that it comes to and passes the gate before a slice.
+/// Its logs lie on the first devices of the call, which are four; the others get no call. It prints each reply as it comes, and at the
+/// end the actors and the end line. At last a line of each event that was taken is written to the trace.
+///
+/// The status is `Done`, or tells what stopped the call: `Logs`, a log is refused and no run began; `LogFault`, a log's device failed
+/// before the run or in it, and of several that failed in it the one of the least number is named; `OutFault`, the output failed;
+/// `TraceFault`, all was done but the trace; `Memory`, there was no memory, before the run or in it. With each of them it is stated
+/// what was printed and traced, and what is left on the logs recovers. Whether it returns is not promised.
 pub fn crew_work<
     R: Threads + Wait + Sync,
     D: LogDev + Drop + Send,
@@ -95,7 +107,6 @@ pub fn crew_work<
     rt: &R,
     alloc: Global,
     work: Work,
-    told: Told,
     workers: usize,
     gate: &G,
     call: Call<D, O, T>,
@@ -103,11 +114,11 @@ pub fn crew_work<
     requires four { vec_len call.logs ≡ 4 }
     requires limits { KeepsLimits (work_of work) }
     requires workers { workers ≤ MOST_WORKERS }
-    ensures answer { IsAnswerOf (printing_of told) (ran_by (work_of work) free call result.call result.kept.items) result.status }
+    ensures answer { IsAnswerOf reporting (ran_by (work_of work) free call result.call result.kept.items) result.status }
     // Where no event is kept the trace gets no call.
     ensures untouched { result.kept.items ≡ [] → result.call.trace ≡ call.trace }
     // The output and the trace get no call behind one that failed.
-    ensures out_once { EndsAtFault (OutStoodOf (printing_of told) result.status) call.output.faults call.output.late result.call.output.faults result.call.output.late }
+    ensures out_once { EndsAtFault (OutStoodOf reporting result.status) call.output.faults call.output.late result.call.output.faults result.call.output.late }
     ensures trace_once { EndsAtFault (result.status ≡ Status.Done) call.tracing.faults call.tracing.late result.call.tracing.faults result.call.tracing.late }
     // Where the logs hold records on which a run begins, and none fails, it does not end for a log.
     ensures opens { (records : List (List Record)) (o : Opening)
@@ -122,10 +133,70 @@ pub fn crew_work<
         hosted,
         devices,
         out,
-    } = host_crew(rt, alloc, work, told, workers, gate, logs, out);
+    } = host_crew(rt, alloc, work, workers, gate, logs, out);
     let mut out = out;
     let mut trace = trace;
-    let (kept, status) = end_run(alloc, told, count, hosted, &mut out, &mut trace);
+    let (kept, status) = end_run(alloc, Told::Report, count, hosted, &mut out, &mut trace);
+    HasRun {
+        kept,
+        status,
+        call: Call {
+            logs: devices,
+            out,
+            trace,
+        },
+    }
+}
+
+/// Runs a work on the machine by so many workers, each of which takes the events that it comes to and passes the gate before a slice.
+/// Its logs lie on the first devices of the call, which are four; the others get no call. The replies go nowhere, so the output stays
+/// with the caller's thread: where the run has ended the line of its summary is printed, and nothing else. At last a line of each
+/// event that was taken is written to the trace.
+///
+/// The status is `Done`, or tells what stopped the call: `Logs`, a log is refused and no run began; `LogFault`, a log's device failed
+/// before the run or in it, and of several that failed in it the one of the least number is named; `OutFault`, the output failed;
+/// `TraceFault`, all was done but the trace; `Memory`, there was no memory, before the run or in it. With each of them it is stated
+/// what was printed and traced, and what is left on the logs recovers. Whether it returns is not promised.
+pub fn crew_summary<
+    R: Threads + Wait + Sync,
+    D: LogDev + Drop + Send,
+    O: Sink,
+    T: Sink,
+    G: Gate + Sync,
+>(
+    rt: &R,
+    alloc: Global,
+    work: Work,
+    workers: usize,
+    gate: &G,
+    call: Call<D, O, T>,
+) -> HasRun<D, O, T>
+    requires four { vec_len call.logs ≡ 4 }
+    requires limits { KeepsLimits (work_of work) }
+    requires workers { workers ≤ MOST_WORKERS }
+    ensures answer { IsAnswerOf summing (ran_by (work_of work) free call result.call result.kept.items) result.status }
+    // Where no event is kept the trace gets no call.
+    ensures untouched { result.kept.items ≡ [] → result.call.trace ≡ call.trace }
+    // The output and the trace get no call behind one that failed.
+    ensures out_once { EndsAtFault (OutStoodOf summing result.status) call.output.faults call.output.late result.call.output.faults result.call.output.late }
+    ensures trace_once { EndsAtFault (result.status ≡ Status.Done) call.tracing.faults call.tracing.late result.call.tracing.faults result.call.tracing.late }
+    // Where the logs hold records on which a run begins, and none fails, it does not end for a log.
+    ensures opens { (records : List (List Record)) (o : Opening)
+        → MayOpen (work_of work).logs (work_of work).states call.devices result.call.devices records o → ¬ IsOfLogs result.status }
+    ensures four { vec_len result.call.logs ≡ 4 }
+{
+    runs_stand(&work.program);
+    marks_are_replies::<Control>();
+    let count = work.txs.len() as u32;
+    let Call { logs, out, trace } = call;
+    let HostRan {
+        hosted,
+        devices,
+        out,
+    } = crew_unheard(rt, alloc, work, workers, gate, logs, out);
+    let mut out = out;
+    let mut trace = trace;
+    let (kept, status) = end_run(alloc, Told::Summary, count, hosted, &mut out, &mut trace);
     HasRun {
         kept,
         status,

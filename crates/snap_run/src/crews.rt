@@ -16,7 +16,7 @@ ghost use Rattle.txn_records.specs.declared.records.Record.{Record};
 
 use crate::works::{generated_work, read_work};
 use command_words::{Command, one_command, read_words};
-use run_work::{Call, HasRun, Told, crew_work};
+use run_work::{Call, HasRun, crew_summary, crew_work};
 use snap_outside::{Gate, LogDev, Sink, Source};
 use snap_report::Status;
 use std::alloc::Global;
@@ -102,7 +102,7 @@ fn crew_input<
     one_command();
     one_work();
     match read_work(alloc, input) {
-        Ok(work) => crew_work(rt, alloc, work, Told::Report, workers as usize, gate, call),
+        Ok(work) => crew_work(rt, alloc, work, workers as usize, gate, call),
         Err(status) => HasRun {
             kept: Vec::new(alloc),
             status,
@@ -141,7 +141,7 @@ fn crew_generated<
 {
     one_work();
     match generated_work(alloc, count, seed) {
-        Ok(work) => crew_work(rt, alloc, work, Told::Summary, workers as usize, gate, call),
+        Ok(work) => crew_summary(rt, alloc, work, workers as usize, gate, call),
         Err(_) => HasRun {
             kept: Vec::new(alloc),
             status: Status::Memory,

@@ -5,7 +5,7 @@ use Rattle.run_recovery.specs.Schedules.{free}
 use Rattle.run_work.proofs.OnDevices.{hosted_on, unbegun}
 use Rattle.run_work.proofs.RunDevices.{each_log, mapped_behind}
 use Rattle.run_work.proofs.hosts.host_crew.Goals as goal
-use Rattle.run_work.specs.Printings.{printing_of}
+use Rattle.run_work.specs.Runs.{reporting}
 use Rattle.run_work.specs.Writings.{Writing, writing_of}
 use Rattle.snap_work.specs.Works.{work_of}
 
@@ -35,7 +35,7 @@ returns-in-Ok-clause-left g c =
     let out : Writing = writing_of g.O.Sink c.args.out made.out in
     let is = c.in-Ok.ensures in
     let rest : others ≡ _ = ap (λ items. devices_of told faults items) is.rest ∙ mapped_behind (λ d. record { told = told d; faults = faults d }) w.logs c.args.devices.items in
-    hosted_on (printing_of c.args.told) w free c.in-Ok.opening before after others c.in-Ok.logs.items made.logs.items out made.hosted c.as_slice.result.now is.opens.0 is.opens.1
+    hosted_on reporting w free c.in-Ok.opening before after others c.in-Ok.logs.items made.logs.items out made.hosted c.as_slice.result.now is.opens.0 is.opens.1
     c.as_slice.ensures is.opens.3 is.opens.2 is.room c.close.ensures.devices rest c.crew_on_logs-hosted.ensures.hosted
 
 pub returns-in-Err-clause-left : goal.returns-in-Err-clause-left

@@ -1,45 +1,27 @@
-use Rattle.std.proofs.Common.{◌≡◌, ◌≤◌, ◌∙◌, ap, arith, false, refl}
-use Rattle.gate_log.specs.State.{LogState}
+use Rattle.std.proofs.Common.{None, arith, refl, sym, subst}
 use Rattle.log_opening.specs.Devices.{devices_of}
 use Rattle.run_recovery.specs.Schedules.{seeded}
-use Rattle.run_work.proofs.OnDevices.{hosted_on, unbegun}
-use Rattle.run_work.proofs.RunDevices.{each_log, mapped_behind}
 use Rattle.run_work.proofs.hosts.host_work.Goals as goal
+use Rattle.run_work.specs.Hosts.{HasHosted}
 use Rattle.run_work.specs.Printings.{printing_of}
 use Rattle.run_work.specs.Writings.{Writing, writing_of}
+use Rattle.run_work.specs.declared.printings.Told.{Told}
 use Rattle.snap_work.specs.Works.{work_of}
 
-pub host_on_logs-hosted-requires-clause-open : goal.host_on_logs-hosted-requires-clause-open
-host_on_logs-hosted-requires-clause-open g c =
-    let opens = c.in-Ok.ensures.opens in
-    each_log (λ (l : LogState). l.shut ≡ false) c.in-Ok.logs.items (λ n lt. (opens.3.log n (omega (arith, lt, opens.3.as_many))).1.ready)
-
-pub host_on_logs-hosted-requires-clause-format : goal.host_on_logs-hosted-requires-clause-format
-host_on_logs-hosted-requires-clause-format g c =
-    let opens = c.in-Ok.ensures.opens in
-    each_log (λ (l : LogState). l.format ≡ 2) c.in-Ok.logs.items (λ n lt. (opens.3.log n (omega (arith, lt, opens.3.as_many))).1.second)
-
-pub host_on_logs-hosted-requires-clause-ends : goal.host_on_logs-hosted-requires-clause-ends
-host_on_logs-hosted-requires-clause-ends g c =
-    each_log (λ (l : LogState). l.end ≤ 9223372041149743104) c.in-Ok.logs.items (λ n lt. omega (arith, c.in-Ok.ensures.ends n (omega (arith, lt, c.in-Ok.ensures.logs.0))))
-
-pub returns-in-Ok-clause-left : goal.returns-in-Ok-clause-left
-returns-in-Ok-clause-left g c =
-    let told = g.D.LogDev.told in
-    let faults = g.D.LogDev.faults in
-    let w = work_of c.args.work in
-    let before = devices_of told faults c.args.devices.items in
-    let after = devices_of told faults c.close.new.devices.items in
-    let others = devices_of told faults c.open_run.new.devices.items in
-    let made = c.host_on_logs-hosted.result in
-    let out : Writing = writing_of g.O.Sink c.args.out made.out in
-    let is = c.in-Ok.ensures in
-    let rest : others ≡ _ = ap (λ items. devices_of told faults items) is.rest ∙ mapped_behind (λ d. record { told = told d; faults = faults d }) w.logs c.args.devices.items in
-    hosted_on (printing_of c.args.told) w (seeded c.args.seed) c.in-Ok.opening before after others c.in-Ok.logs.items made.logs.items out made.hosted c.as_slice.result.now is.opens.0 is.opens.1
-    c.as_slice.ensures is.opens.3 is.opens.2 is.room c.close.ensures.devices rest c.host_on_logs-hosted.ensures.hosted
-
-pub returns-in-Err-clause-left : goal.returns-in-Err-clause-left
-returns-in-Err-clause-left g c =
+pub returns-in-Report-clause-left : goal.returns-in-Report-clause-left
+returns-in-Report-clause-left g c =
+    let ran = c.host_solo.result in
     let before = devices_of g.D.LogDev.told g.D.LogDev.faults c.args.devices.items in
-    let after = devices_of g.D.LogDev.told g.D.LogDev.faults c.open_run.new.devices.items in
-    (unbegun (work_of c.args.work) before after c.in-Err.no c.as_slice.result.now c.as_slice.ensures c.in-Err.ensures.refused c.in-Err.ensures.safe c.in-Err.ensures.complete, (refl, refl))
+    let after = devices_of g.D.LogDev.told g.D.LogDev.faults ran.devices.items in
+    let out : Writing = writing_of g.O.Sink c.args.out ran.out in
+    subst (λ (t : Told). HasHosted (printing_of t) (work_of c.args.work) (seeded c.args.seed) before after out ran.hosted) (sym c.in-Report.is) c.host_solo.ensures.left
+
+pub returns-in-Summary-clause-left : goal.returns-in-Summary-clause-left
+returns-in-Summary-clause-left g c =
+    let ran = c.unheard.result in
+    let before = devices_of g.D.LogDev.told g.D.LogDev.faults c.args.devices.items in
+    let after = devices_of g.D.LogDev.told g.D.LogDev.faults ran.devices.items in
+    let nowhere : Writing = record { taken_before = None; taken_after = None; faults_before = 0; faults_after = 0 } in
+    let out : Writing = writing_of g.O.Sink c.args.out ran.out in
+    subst (λ (t : Told). HasHosted (printing_of t) (work_of c.args.work) (seeded c.args.seed) before after out ran.hosted) (sym c.in-Summary.is)
+    (c.unheard.ensures.left (work_of c.args.work) (seeded c.args.seed) before nowhere (λ rose. omega (arith, rose)) c.host_solo-in-Summary.ensures.left)
