@@ -20,7 +20,7 @@ use Rattle.run_recovery.specs.OneRun.{the_run}
 use Rattle.run_recovery.specs.Stands.{RunStands}
 use Rattle.run_work.proofs.Ending.{StopsAtFault, untraced_of}
 use Rattle.run_work.specs.Hosts.{LeftFailed, HasHosted}
-use Rattle.run_work.specs.Runs.{Printing, Ran, AllReplied, HasFailed, IsAnswerOf, LogRose, PrintsFailed, IsOfLogs}
+use Rattle.run_work.specs.Runs.{Printing, Ran, AllReplied, HasFailed, IsAnswerOf, LogRose, PrintsFailed, IsOfLogs, printed_of}
 use Rattle.run_work.specs.Statuses.{logs_status}
 use Rattle.run_work.specs.Untraced.{IsRunEnd, RunLeft, IsNoBeginning, IsUntraced, IsTraced, EndsUntraced, IsCallEnd}
 use Rattle.run_work.specs.declared.hosts.Hosted.{Hosted}
@@ -80,7 +80,7 @@ failed_answer r stands o free log front left P printed =
     (left.0, left.1, (o, left.2.run, stands o left.0 left.2.run, (λ l is. ((left.2.rose l is).0, (left.2.rose l is).1, left.3 l is), printed), front))
 
 begun_answer : (p : Printing) (r : Ran) → EachStands r → MarksAreReplies → (o : Opening) (s : Status) → WritesLines traced_line r.trace [] r.kept → (s ≡ status.Done → Writes r.trace (trace_of r.kept))
-    → IsRunEnd p (RunLeft r o) r.work r.schedule o (meant r.kept) r.out s → IsAnswerOf p r s
+    → IsRunEnd (RunLeft r o) (printed_of p r o (meant r.kept)) s → IsAnswerOf p r s
 begun_answer p r stands marks o status.Done front whole end = ((o, end.0.run, stands o none_failed end.0.run, ((end.1, all_replied r stands marks o none_failed end.0.run end.1), end.2), front), whole refl)
 begun_answer p r stands marks o (status.Usage place) front whole end = end
 begun_answer p r stands marks o (status.Input line cause) front whole end = end
@@ -88,7 +88,7 @@ begun_answer p r stands marks o (status.Logs log offset cause) front whole end =
 begun_answer p r stands marks o status.Memory front whole end = inr (o, end.0.run, stands o none_failed end.0.run, end.1, front)
 begun_answer p r stands marks o status.ReadFault front whole end = end
 begun_answer p r stands marks o (status.LogFault log) front whole end =
-    ((rose_there r o r.schedule log end.0).1, inr (failed_answer r stands o r.schedule log front end.0 (λ o es. PrintsFailed p r.work r.schedule log o es r.out) end.1))
+    ((rose_there r o r.schedule log end.0).1, inr (failed_answer r stands o r.schedule log front end.0 (λ o es. PrintsFailed log (printed_of p r o es)) end.1))
 begun_answer p r stands marks o status.OutFault front whole end = (end.1, (o, end.0.run, stands o none_failed end.0.run, end.2, front))
 begun_answer p r stands marks o status.TraceFault front whole end = absurd end
 
@@ -139,7 +139,7 @@ answered p r stands marks before after nothing run (inr (front, other, done)) = 
 
 -- a log on which a run begins is not refused, and where none fails no log ends the run
 begun_not_of_logs : (p : Printing) (r : Ran) (records : List (List Record)) (first : Opening) → MayOpen r.work.logs r.work.states r.devices_before r.devices_after records first
-    → (o : Opening) (s : Status) → IsRunEnd p (RunLeft r o) r.work r.schedule o (meant r.kept) r.out s → ¬ IsOfLogs s
+    → (o : Opening) (s : Status) → IsRunEnd (RunLeft r o) (printed_of p r o (meant r.kept)) s → ¬ IsOfLogs s
 begun_not_of_logs p r records first may o status.Done end of = of
 begun_not_of_logs p r records first may o (status.Usage place) end of = of
 begun_not_of_logs p r records first may o (status.Input line cause) end of = of

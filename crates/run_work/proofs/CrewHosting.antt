@@ -16,7 +16,7 @@ use Rattle.run_outputs.specs.Groups.{groups_of, group_behind}
 use Rattle.run_recovery.specs.Runs.{machine_of, none_failed, tried_on, IsLeastOf}
 use Rattle.run_recovery.specs.Schedules.{free}
 use Rattle.run_work.specs.Hosts.{HasDriven, IsStopOf, PrintsStopped, PrintsReplies, PrintsUnlessFailed, StopsSo, IsHostEnd}
-use Rattle.run_work.specs.Runs.{reporting, PrintsNext}
+use Rattle.run_work.specs.Runs.{reporting, PrintsNext, as_printed}
 use Rattle.run_work.specs.Writings.{Writing}
 use Rattle.snap_outside.specs.Causes.{Rose}
 use Rattle.snap_recover.specs.declared.openings.Opening.{Opening}
@@ -93,17 +93,17 @@ rose_out : (w : Work) (o : Opening) (es : List machine.Event) (failed : Bool) (o
 rose_out w o es true out heard is = heard.2.1.rose
 rose_out w o es false out heard is = absurd (true≢false (sym is))
 
-whole : (w : Work) (o : Opening) (es : List machine.Event) (failed : Bool) (out : Writing) → Heard (machine_of w o) es failed out → PrintsUnlessFailed reporting failed w o es out
+whole : (w : Work) (o : Opening) (es : List machine.Event) (failed : Bool) (out : Writing) → Heard (machine_of w o) es failed out → PrintsUnlessFailed failed (as_printed reporting w free o es out)
 whole w o es true out heard is = absurd (true≢false is)
 whole w o es false out heard is = heard.2.1
 
-next : (w : Work) (o : Opening) (es : List machine.Event) (out : Writing) → Heard (machine_of w o) es true out → PrintsNext reporting w free o es out
+next : (w : Work) (o : Opening) (es : List machine.Event) (out : Writing) → Heard (machine_of w o) es true out → PrintsNext (as_printed reporting w free o es out)
 next w o es out heard = let b = heard.2.1 in (b.tx, b.allowed, (b.front, b.rest, b.line, b.taken))
 
 -- why they ended
 stopped : (w : Work) (o : Opening) (es : List machine.Event) (old new : List LogState) (failed : Bool) (out : Writing) (by : Stop) → IsRun (machine_of w o) es
     → crew.AreDriven (machine_of w o) es old new → crew.AreDue (machine_of w o) es new → IsCrewStop (machine_of w o) es new failed by → Heard (machine_of w o) es failed out
-    → IsStopOf (HasDriven w free o es old new) w free o es out by
+    → IsStopOf (HasDriven w free o es old new) (as_printed reporting w free o es out) by
 stopped w o es old new failed out stop.Quiet run logs due why heard = (none_driven w o es old new run logs why.0, why.2)
 stopped w o es old new failed out (stop.LogFault log) run logs due why heard = (
   failed_logs new,
@@ -114,16 +114,16 @@ stopped w o es old new failed out (stop.LogFault log) run logs due why heard = (
 stopped w o es old new failed out stop.OutFault run logs due why heard = (none_driven w o es old new run logs why.0, rose_out w o es failed out heard why.1)
 stopped w o es old new failed out stop.Memory run logs due why heard = none_driven w o es old new run logs why.0
 
-broke_off : (w : Work) (o : Opening) (es : List machine.Event) (failed : Bool) (out : Writing) → failed ≡ true → Heard (machine_of w o) es failed out → PrintsNext reporting w free o es out
+broke_off : (w : Work) (o : Opening) (es : List machine.Event) (failed : Bool) (out : Writing) → failed ≡ true → Heard (machine_of w o) es failed out → PrintsNext (as_printed reporting w free o es out)
 broke_off w o es true out is heard = next w o es out heard
 broke_off w o es false out is heard = absurd (true≢false (sym is))
 
-at_logs : (w : Work) (o : Opening) (es : List machine.Event) (failed : Bool) (out : Writing) → Heard (machine_of w o) es failed out → PrintsStopped reporting w free o es out
+at_logs : (w : Work) (o : Opening) (es : List machine.Event) (failed : Bool) (out : Writing) → Heard (machine_of w o) es failed out → PrintsStopped (as_printed reporting w free o es out)
 at_logs w o es true out heard = inr (heard.2.1.rose, next w o es out heard)
 at_logs w o es false out heard = inl heard.2.1
 
 printed : (w : Work) (o : Opening) (es : List machine.Event) (new : List LogState) (failed : Bool) (out : Writing) (by : Stop) → IsCrewStop (machine_of w o) es new failed by
-    → Heard (machine_of w o) es failed out → PrintsReplies reporting w free o es out by
+    → Heard (machine_of w o) es failed out → PrintsReplies (as_printed reporting w free o es out) by
 printed w o es new failed out stop.Quiet why heard = whole w o es failed out heard why.1
 printed w o es new failed out (stop.LogFault log) why heard = at_logs w o es failed out heard
 printed w o es new failed out stop.OutFault why heard = broke_off w o es failed out why.1 heard
@@ -144,11 +144,11 @@ module _
     heard_by : Heard (machine_of w o) es failed out
     heard_by = subst (λ (x : Fixed Rest). Heard x es failed out) same heard
 
-    pub crew_whole : PrintsUnlessFailed reporting failed w o es out
+    pub crew_whole : PrintsUnlessFailed failed (as_printed reporting w free o es out)
     crew_whole = whole w o es failed out heard_by
 
     pub crew_hosted : IsRun m es → crew.AreDriven m es old new → crew.AreDue m es new → IsCrewStop m es new failed by
-        → IsHostEnd reporting (HasDriven w free o es old new) w free o es out by
+        → IsHostEnd (HasDriven w free o es old new) (as_printed reporting w free o es out) by
     crew_hosted run logs due why =
         let why_by : IsCrewStop (machine_of w o) es new failed by = subst (λ (x : Fixed Rest). IsCrewStop x es new failed by) same why in
         record {

@@ -12,7 +12,7 @@ use Rattle.run_recovery.specs.Runs.{machine_of, meant}
 use Rattle.run_recovery.specs.Schedules.{Schedule, seeded, free}
 use Rattle.run_work.proofs.RunDevices.{rose_earlier}
 use Rattle.run_work.specs.Hosts.{HasLeft, IsHostEnd, PrintsStopped, PrintsUnlessFailed, StopsSo, IsHosted, HasHosted}
-use Rattle.run_work.specs.Runs.{Printing, reporting, summing, replies_by, ending_by, unsure_by, Ran, PrintsNext, PrintsFailed, PrintsUnsure, TellsUnsure}
+use Rattle.run_work.specs.Runs.{Printing, reporting, summing, replies_by, ending_by, unsure_by, Ran, PrintsNext, PrintsFailed, PrintsUnsure, TellsUnsure, as_printed}
 use Rattle.run_work.specs.Untraced.{IsEnding, IsRunEnd, IsToldUnbegun, IsUntraced, IsEndOf, EndsUntraced}
 use Rattle.run_work.specs.declared.hosts.Hosted.{Hosted}
 use Rattle.run_work.specs.Writings.{Writing, WritesNothing, IsSilent, Writes, WritesFront, WritesBehind, WritesLines}
@@ -51,8 +51,8 @@ and_lines line a b x xs on later first (inr cut) = inr (
   and_front a b x (flat_map line xs) on first cut.1,
 )
 
-next_kept : (p : Printing) (w : Work) (schedule : Schedule) (o : Opening) (es : List machine.Event) (a b : Writing) → GoesOn a b → WritesNothing b → PrintsNext p w schedule o es a
-    → PrintsNext p w schedule o es (joined a b)
+next_kept : (p : Printing) (w : Work) (schedule : Schedule) (o : Opening) (es : List machine.Event) (a b : Writing) → GoesOn a b → WritesNothing b → PrintsNext (as_printed p w schedule o es a)
+    → PrintsNext (as_printed p w schedule o es (joined a b))
 next_kept reporting w schedule o es a b on nothing next =
     (next.0, next.1, (next.2.0, next.2.1, next.2.2, and_nothing a b (replies_text (machine_of w o) es ++ next.2.0) on next.2.3 nothing))
 next_kept summing w schedule o es a b on nothing next = next
@@ -64,28 +64,28 @@ abbrev pub MayTell : Printing → Work → Opening → List machine.Event → Wr
 MayTell p w o es a b by = (log : ℕ) → by ≡ stop.LogFault log → Writes a (replies_by p (machine_of w o) es) ⊎ WritesNothing b
 
 -- unless the output failed all replies are printed, and where it did nothing comes behind
-tells : (p : Printing) (w : Work) (o : Opening) (es : List machine.Event) (a b : Writing) (by : Stop) (failed : Bool) → PrintsUnlessFailed p failed w o es a → (failed ≡ true → WritesNothing b)
-    → MayTell p w o es a b by
-tells p w o es a b by true whole silent log is = inr (silent refl)
-tells p w o es a b by false whole silent log is = inl (whole refl)
+tells : (p : Printing) (w : Work) (schedule : Schedule) (o : Opening) (es : List machine.Event) (a b : Writing) (by : Stop) (failed : Bool) → PrintsUnlessFailed failed (as_printed p w schedule o es a)
+    → (failed ≡ true → WritesNothing b) → MayTell p w o es a b by
+tells p w schedule o es a b by true whole silent log is = inr (silent refl)
+tells p w schedule o es a b by false whole silent log is = inl (whole refl)
 
 module _ (p : Printing) (Left : (ℕ → Bool) → Type 0) (w : Work) (o : Opening) (es : List machine.Event) where
   abbrev End : Schedule → Writing → Status → Type 0
-  End schedule out s = IsRunEnd p Left w schedule o es out s
+  End schedule out s = IsRunEnd Left (as_printed p w schedule o es out) s
 
-  unsure : (log : ℕ) (a b : Writing) → GoesOn a b → a.faults_before ≤ a.faults_after → Writes a (replies_by p (machine_of w o) es) → TellsUnsure p log es (length w.txs) [] b
-      → PrintsUnsure p w log o es (joined a b)
-  unsure log a b on earlier whole lines = and_lines (unsure_line log) a b (replies_by p (machine_of w o) es) (unsure_by p es (length w.txs)) on earlier whole lines
+  unsure : (schedule : Schedule) (log : ℕ) (a b : Writing) → GoesOn a b → a.faults_before ≤ a.faults_after → Writes a (replies_by p (machine_of w o) es) → TellsUnsure p log es (length w.txs) [] b
+      → PrintsUnsure log (as_printed p w schedule o es (joined a b))
+  unsure schedule log a b on earlier whole lines = and_lines (unsure_line log) a b (replies_by p (machine_of w o) es) (unsure_by p es (length w.txs)) on earlier whole lines
 
-  told : (schedule : Schedule) (log : ℕ) (a b : Writing) → GoesOn a b → a.faults_before ≤ a.faults_after → b.faults_before ≤ b.faults_after → PrintsStopped p w schedule o es a
-      → Writes a (replies_by p (machine_of w o) es) ⊎ WritesNothing b → TellsUnsure p log es (length w.txs) [] b → PrintsFailed p w schedule log o es (joined a b)
-  told (seeded seed) log a b on earlier later printed may lines = unsure log a b on earlier printed lines
-  told free log a b on earlier later (inl whole) may lines = inl (unsure log a b on earlier whole lines)
-  told free log a b on earlier later (inr cut) (inl whole) lines = inl (unsure log a b on earlier whole lines)
+  told : (schedule : Schedule) (log : ℕ) (a b : Writing) → GoesOn a b → a.faults_before ≤ a.faults_after → b.faults_before ≤ b.faults_after → PrintsStopped (as_printed p w schedule o es a)
+      → Writes a (replies_by p (machine_of w o) es) ⊎ WritesNothing b → TellsUnsure p log es (length w.txs) [] b → PrintsFailed log (as_printed p w schedule o es (joined a b))
+  told (seeded seed) log a b on earlier later printed may lines = unsure (seeded seed) log a b on earlier printed lines
+  told free log a b on earlier later (inl whole) may lines = inl (unsure free log a b on earlier whole lines)
+  told free log a b on earlier later (inr cut) (inl whole) lines = inl (unsure free log a b on earlier whole lines)
   told free log a b on earlier later (inr cut) (inr nothing) lines =
       inr (rose_earlier a.faults_before a.faults_before a.faults_after b.faults_after (omega arith) (omega (arith, later, on.1)) cut.0, next_kept p w free o es a b on nothing cut.1)
 
-  ended_quiet : (schedule : Schedule) (a b : Writing) (s : Status) → GoesOn a b → b.faults_before ≤ b.faults_after → IsHostEnd p Left w schedule o es a stop.Quiet
+  ended_quiet : (schedule : Schedule) (a b : Writing) (s : Status) → GoesOn a b → b.faults_before ≤ b.faults_after → IsHostEnd Left (as_printed p w schedule o es a) stop.Quiet
       → IsEnding p (machine_of w o) es (length w.txs) stop.Quiet b s → End schedule (joined a b) s
   ended_quiet schedule a b s on later h (inl done) =
       subst (λ (t : Status). End schedule (joined a b) t) (sym done.0)
@@ -100,7 +100,7 @@ module _ (p : Printing) (Left : (ℕ → Bool) → Type 0) (w : Work) (o : Openi
         inr (h.why.1, and_front a b (replies_by p (machine_of w o) es) (ending_by p (machine_of w o) es) on h.printed cut.2),
       )
 
-  ended : (schedule : Schedule) (a b : Writing) (why : Stop) (s : Status) → GoesOn a b → b.faults_before ≤ b.faults_after → IsHostEnd p Left w schedule o es a why
+  ended : (schedule : Schedule) (a b : Writing) (why : Stop) (s : Status) → GoesOn a b → b.faults_before ≤ b.faults_after → IsHostEnd Left (as_printed p w schedule o es a) why
       → MayTell p w o es a b why → IsEnding p (machine_of w o) es (length w.txs) why b s → End schedule (joined a b) s
   ended schedule a b stop.Quiet s on later h may ending = ended_quiet schedule a b s on later h ending
   ended schedule a b (stop.LogFault l) s on later h may ending =
@@ -138,7 +138,7 @@ module _ (p : Printing) (w : Work) (schedule : Schedule) (before after : List De
       let es = meant h.kept.items in
       subst (λ (kept : List Event). IsUntraced p (RunOf kept) s) (sym end.same) (inr (
         o,
-        ended p (HasLeft w schedule o es before after) w o es schedule a b h.stop s on end.later is.made.ends (tells p w o es a b h.stop h.failed is.made.whole (silent is.made.stops))
+        ended p (HasLeft w schedule o es before after) w o es schedule a b h.stop s on end.later is.made.ends (tells p w schedule o es a b h.stop h.failed is.made.whole (silent is.made.stops))
             (end.ending (machine_of w o) is.made.core),
       ))
 

@@ -18,7 +18,7 @@ use Rattle.run_recovery.specs.Runs.{machine_of, meant, none_failed, only_failed,
 use Rattle.run_recovery.specs.Schedules.{Schedule, seeded, free, IsTakenBy}
 use Rattle.run_work.specs.declared.hosts.Hosted.{Hosted}
 use Rattle.run_work.specs.Hosts.{HasDriven, HasLeft, LeftFailed, IsStopOf, PrintsStopped, PrintsReplies, PrintsUnlessFailed, StopsSo, IsHostEnd, IsCoreOf, IsMade, IsHosted, HasHosted}
-use Rattle.run_work.specs.Runs.{Printing, reporting, summing, replies_by}
+use Rattle.run_work.specs.Runs.{Printing, reporting, summing, replies_by, as_printed}
 use Rattle.run_work.specs.Writings.{Writing, WritesNothing, IsSilent, Writes}
 use Rattle.snap_core.specs.Cores.{CoreState, IsAt}
 use Rattle.snap_outside.specs.Causes.{Rose}
@@ -64,14 +64,14 @@ driven w seed o es old new a b by front why logs = record {
 }
 
 stopped : (w : Work) (seed : ℕ) (o : Opening) (es : List machine.Event) (old new : List LogState) (out : Writing) (by : Stop) → HasDriven w (seeded seed) o es old new (failed_by by)
-    → host.IsWhy (machine_of w o) seed es old new out.faults_before out.faults_after by → IsStopOf (HasDriven w (seeded seed) o es old new) w (seeded seed) o es out by
+    → host.IsWhy (machine_of w o) seed es old new out.faults_before out.faults_after by → IsStopOf (HasDriven w (seeded seed) o es old new) (as_printed reporting w (seeded seed) o es out) by
 stopped w seed o es old new out stop.Quiet left why = (left, why)
 stopped w seed o es old new out (stop.LogFault k) left why = (left, why.1)
 stopped w seed o es old new out stop.OutFault left why = (left, why.1)
 stopped w seed o es old new out stop.Memory left why = left
 
 replies_printed : (w : Work) (seed : ℕ) (o : Opening) (es : List machine.Event) (out : Writing) (by : Stop)
-    → host.IsPrinted (machine_of w o) seed es out.taken_before out.taken_after by → PrintsReplies reporting w (seeded seed) o es out by
+    → host.IsPrinted (machine_of w o) seed es out.taken_before out.taken_after by → PrintsReplies (as_printed reporting w (seeded seed) o es out) by
 replies_printed w seed o es out stop.Quiet is = is
 replies_printed w seed o es out (stop.LogFault k) is = is
 replies_printed w seed o es out stop.OutFault is = (is.0, is.3, (is.1, is.2, is.4, is.5))
@@ -80,7 +80,7 @@ replies_printed w seed o es out stop.Memory is = is
 hosted_by : (w : Work) (seed : ℕ) (o : Opening) (es : List machine.Event) (old new : List LogState) (out : Writing) (by : Stop) → IsFrontOfSeed (machine_of w o) seed es
     → host.IsWhy (machine_of w o) seed es old new out.faults_before out.faults_after by → host.AreDriven (machine_of w o) es by old new
     → host.IsPrinted (machine_of w o) seed es out.taken_before out.taken_after by → out.faults_before ≤ out.faults_after
-    → IsHostEnd reporting (HasDriven w (seeded seed) o es old new) w (seeded seed) o es out by
+    → IsHostEnd (HasDriven w (seeded seed) o es old new) (as_printed reporting w (seeded seed) o es out) by
 hosted_by w seed o es old new out by front why logs printed later = record {
   why = stopped w seed o es old new out by (driven w seed o es old new out.faults_before out.faults_after by front why logs) why;
   printed = replies_printed w seed o es out by printed;
@@ -90,7 +90,7 @@ hosted_by w seed o es old new out by front why logs printed later = record {
 pub hosted : (w : Work) (seed : ℕ) (o : Opening) (es : List machine.Event) (old new : List LogState) (out : Writing) (by : Stop) (m : Fixed Rest) → m ≡ machine_of w o
     → IsFrontOfSeed m seed es → host.IsWhy m seed es old new out.faults_before out.faults_after by → host.AreDriven m es by old new
     → host.IsPrinted m seed es out.taken_before out.taken_after by → out.faults_before ≤ out.faults_after
-    → IsHostEnd reporting (HasDriven w (seeded seed) o es old new) w (seeded seed) o es out by
+    → IsHostEnd (HasDriven w (seeded seed) o es old new) (as_printed reporting w (seeded seed) o es out) by
 hosted w seed o es old new out by m same front why logs printed later =
     hosted_by w seed o es old new out by (subst (λ (x : Fixed Rest). IsFrontOfSeed x seed es) same front)
     (subst (λ (x : Fixed Rest). host.IsWhy x seed es old new out.faults_before out.faults_after by) same why) (subst (λ (x : Fixed Rest). host.AreDriven x es by old new) same logs)
@@ -98,14 +98,14 @@ hosted w seed o es old new out by m same front why logs printed later =
 
 -- unless it stopped for the output, all replies are printed
 whole_by : (w : Work) (seed : ℕ) (o : Opening) (es : List machine.Event) (out : Writing) (by : Stop) (failed : Bool) → (by ≡ stop.OutFault → failed ≡ true)
-    → host.IsPrinted (machine_of w o) seed es out.taken_before out.taken_after by → PrintsUnlessFailed reporting failed w o es out
+    → host.IsPrinted (machine_of w o) seed es out.taken_before out.taken_after by → PrintsUnlessFailed failed (as_printed reporting w (seeded seed) o es out)
 whole_by w seed o es out stop.Quiet failed told is stood = is
 whole_by w seed o es out (stop.LogFault k) failed told is stood = is
 whole_by w seed o es out stop.OutFault failed told is stood = absurd (true≢false (sym (told refl) ∙ stood))
 whole_by w seed o es out stop.Memory failed told is stood = is
 
 pub whole : (w : Work) (seed : ℕ) (o : Opening) (es : List machine.Event) (out : Writing) (by : Stop) (failed : Bool) (m : Fixed Rest) → m ≡ machine_of w o → (by ≡ stop.OutFault → failed ≡ true)
-    → host.IsPrinted m seed es out.taken_before out.taken_after by → PrintsUnlessFailed reporting failed w o es out
+    → host.IsPrinted m seed es out.taken_before out.taken_after by → PrintsUnlessFailed failed (as_printed reporting w (seeded seed) o es out)
 whole w seed o es out by failed m same told is =
     whole_by w seed o es out by failed told (subst (λ (x : Fixed Rest). host.IsPrinted x seed es out.taken_before out.taken_after by) same is)
 
@@ -145,7 +145,7 @@ no_replies summing m out nothing = nothing
 
 -- there was no memory for a core
 no_core_ends : (p : Printing) (w : Work) (schedule : Schedule) (o : Opening) (logs : List LogState) (out : Writing) → AllByRecursion (λ (l : LogState). l.shut ≡ false) logs → WritesNothing out
-    → out.faults_before ≤ out.faults_after → IsHostEnd p (HasDriven w schedule o [] logs logs) w schedule o [] out stop.Memory
+    → out.faults_before ≤ out.faults_after → IsHostEnd (HasDriven w schedule o [] logs logs) (as_printed p w schedule o [] out) stop.Memory
 no_core_ends p w schedule o logs out ready nothing later = record {
   why = record { front = none_taken (machine_of w o) schedule; as_many = refl; each = λ l lt. nothing_grew (host.log_at logs l) (shut_at logs l lt ready); rose = λ l is. absurd (true≢false (sym is)) };
   printed = no_replies p (machine_of w o) out (nothing_written out nothing);
@@ -154,9 +154,9 @@ no_core_ends p w schedule o logs out ready nothing later = record {
 
 pub no_core : (p : Printing) (w : Work) (schedule : Schedule) (o : Opening) (logs : List LogState) (out : Writing) (kept : List Event) → kept ≡ []
     → AllByRecursion (λ (l : LogState). l.shut ≡ false) logs → WritesNothing out → out.faults_before ≤ out.faults_after
-    → IsHostEnd p (HasDriven w schedule o (meant kept) logs logs) w schedule o (meant kept) out stop.Memory
+    → IsHostEnd (HasDriven w schedule o (meant kept) logs logs) (as_printed p w schedule o (meant kept) out) stop.Memory
 no_core p w schedule o logs out kept none ready nothing later =
-    subst (λ (es : List Event). IsHostEnd p (HasDriven w schedule o (meant es) logs logs) w schedule o (meant es) out stop.Memory) (sym none) (no_core_ends p w schedule o logs out ready nothing later)
+    subst (λ (es : List Event). IsHostEnd (HasDriven w schedule o (meant es) logs logs) (as_printed p w schedule o (meant es) out) stop.Memory) (sym none) (no_core_ends p w schedule o logs out ready nothing later)
 
 pub no_memory : (p : Printing) → StopsSo p false stop.Memory
 no_memory reporting = refl
@@ -170,23 +170,23 @@ module _ (P Q : (ℕ → Bool) → Type 0) (then : (failed : ℕ → Bool) → P
   failed_as (seeded seed) log left = (then (only_failed log) left.0, left.1)
   failed_as free log left = (left.0, left.1, then left.0 left.2, left.3)
 
-  stop_as : (schedule : Schedule) (out : Writing) (by : Stop) → IsStopOf P w schedule o es out by → IsStopOf Q w schedule o es out by
-  stop_as schedule out stop.Quiet why = (then none_failed why.0, why.1)
-  stop_as schedule out (stop.LogFault log) why = failed_as schedule log why
-  stop_as schedule out stop.OutFault why = (then none_failed why.0, why.1)
-  stop_as schedule out stop.Memory why = then none_failed why
+  stop_as : (p : Printing) (schedule : Schedule) (out : Writing) (by : Stop) → IsStopOf P (as_printed p w schedule o es out) by → IsStopOf Q (as_printed p w schedule o es out) by
+  stop_as p schedule out stop.Quiet why = (then none_failed why.0, why.1)
+  stop_as p schedule out (stop.LogFault log) why = failed_as schedule log why
+  stop_as p schedule out stop.OutFault why = (then none_failed why.0, why.1)
+  stop_as p schedule out stop.Memory why = then none_failed why
 
-  pub left_as : (p : Printing) (schedule : Schedule) (out : Writing) (by : Stop) → IsHostEnd p P w schedule o es out by → IsHostEnd p Q w schedule o es out by
-  left_as p schedule out by h = record { why = stop_as schedule out by h.why; printed = h.printed; later = h.later }
+  pub left_as : (p : Printing) (schedule : Schedule) (out : Writing) (by : Stop) → IsHostEnd P (as_printed p w schedule o es out) by → IsHostEnd Q (as_printed p w schedule o es out) by
+  left_as p schedule out by h = record { why = stop_as p schedule out by h.why; printed = h.printed; later = h.later }
 
-nothing_stopped : (w : Work) (schedule : Schedule) (o : Opening) (es : List machine.Event) (out : Writing) → Writes out [] → PrintsStopped summing w schedule o es out
+nothing_stopped : (w : Work) (schedule : Schedule) (o : Opening) (es : List machine.Event) (out : Writing) → Writes out [] → PrintsStopped (as_printed summing w schedule o es out)
 nothing_stopped w (seeded seed) o es out nothing = nothing
 nothing_stopped w free o es out nothing = inl nothing
 
 -- the replies went where nothing fails, and nothing was printed
 pub unheard : (Left : (ℕ → Bool) → Type 0) (w : Work) (schedule : Schedule) (o : Opening) (es : List machine.Event) (replies out : Writing) (by : Stop)
     → ¬ Rose replies.faults_before replies.faults_after → Writes out [] → out.faults_before ≤ out.faults_after
-    → IsHostEnd reporting Left w schedule o es replies by → IsHostEnd summing Left w schedule o es out by
+    → IsHostEnd Left (as_printed reporting w schedule o es replies) by → IsHostEnd Left (as_printed summing w schedule o es out) by
 unheard Left w schedule o es replies out stop.Quiet quiet nothing later h = record { why = h.why; printed = nothing; later = later }
 unheard Left w schedule o es replies out (stop.LogFault k) quiet nothing later h = record { why = h.why; printed = nothing_stopped w schedule o es out nothing; later = later }
 unheard Left w schedule o es replies out stop.OutFault quiet nothing later h = absurd (quiet h.why.1)

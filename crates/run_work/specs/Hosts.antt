@@ -13,7 +13,7 @@ use Rattle.run_journals.specs.Driven.{IsDriven}
 use Rattle.run_outputs.specs.Groups.{groups_of, group_behind}
 use Rattle.run_recovery.specs.Runs.{HasRun, machine_of, meant, none_failed, only_failed, IsLeastOf, tried_on, GoesOnWith, HasEnded}
 use Rattle.run_recovery.specs.Schedules.{Schedule, seeded, free, IsTakenBy}
-use Rattle.run_work.specs.Runs.{Printing, reporting, summing, replies_by, PrintsNext}
+use Rattle.run_work.specs.Runs.{Printing, Printed, reporting, summing, replies_in, PrintsNext, as_printed}
 use Rattle.run_work.specs.Writings.{Writing, IsSilent, Writes}
 use Rattle.run_work.specs.declared.hosts.Hosted.{Hosted}
 use Rattle.snap_core.specs.Cores.{CoreState, IsAt}
@@ -50,29 +50,32 @@ LeftFailed Left w (seeded seed) o es log = Left (only_failed log) × GoesOnWith 
 LeftFailed Left w free o es log = (failed : ℕ → Bool) × IsLeastOf failed log × Left failed × ((l : ℕ) → failed l ≡ true → GoesOnWith w free o es (machine.Sync l))
 
 -- what it left, and why it stopped
-abbrev pub IsStopOf : ((ℕ → Bool) → Type 0) → Work → Schedule → Opening → List machine.Event → Writing → Stop → Type 0
-IsStopOf Left w schedule o es out stop.Quiet = Left none_failed × HasEnded w o es
-IsStopOf Left w schedule o es out (stop.LogFault log) = LeftFailed Left w schedule o es log
-IsStopOf Left w schedule o es out stop.OutFault = Left none_failed × Rose out.faults_before out.faults_after
-IsStopOf Left w schedule o es out stop.Memory = Left none_failed
+abbrev pub IsStopOf : ((ℕ → Bool) → Type 0) → Printed → Stop → Type 0
+IsStopOf Left d stop.Quiet = Left none_failed × HasEnded d.work d.opening d.events
+IsStopOf Left d (stop.LogFault log) = LeftFailed Left d.work d.schedule d.opening d.events log
+IsStopOf Left d stop.OutFault = Left none_failed × Rose d.out.faults_before d.out.faults_after
+IsStopOf Left d stop.Memory = Left none_failed
 
 -- the replies; where the output failed several workers too, these and a front of the next one
-abbrev pub PrintsStopped : Printing → Work → Schedule → Opening → List machine.Event → Writing → Type 0
-PrintsStopped p w (seeded seed) o es out = Writes out (replies_by p (machine_of w o) es)
-PrintsStopped p w free o es out = Writes out (replies_by p (machine_of w o) es) ⊎ (Rose out.faults_before out.faults_after × PrintsNext p w free o es out)
+abbrev pub StoppedBy : Schedule → Printed → Type 0
+StoppedBy (seeded seed) d = Writes d.out (replies_in d)
+StoppedBy free d = Writes d.out (replies_in d) ⊎ (Rose d.out.faults_before d.out.faults_after × PrintsNext d)
+
+abbrev pub PrintsStopped : Printed → Type 0
+PrintsStopped d = StoppedBy d.schedule d
 
 -- what its replies printed
-abbrev pub PrintsReplies : Printing → Work → Schedule → Opening → List machine.Event → Writing → Stop → Type 0
-PrintsReplies p w schedule o es out stop.Quiet = Writes out (replies_by p (machine_of w o) es)
-PrintsReplies p w schedule o es out (stop.LogFault log) = PrintsStopped p w schedule o es out
-PrintsReplies p w schedule o es out stop.OutFault = PrintsNext p w schedule o es out
-PrintsReplies p w schedule o es out stop.Memory = Writes out (replies_by p (machine_of w o) es)
+abbrev pub PrintsReplies : Printed → Stop → Type 0
+PrintsReplies d stop.Quiet = Writes d.out (replies_in d)
+PrintsReplies d (stop.LogFault log) = PrintsStopped d
+PrintsReplies d stop.OutFault = PrintsNext d
+PrintsReplies d stop.Memory = Writes d.out (replies_in d)
 
 -- both
-pub record IsHostEnd (p : Printing) (Left : (ℕ → Bool) → Type 0) (w : Work) (schedule : Schedule) (o : Opening) (es : List machine.Event) (out : Writing) (by : Stop) : Type 0 where
-  pub why : IsStopOf Left w schedule o es out by
-  pub printed : PrintsReplies p w schedule o es out by
-  pub later : out.faults_before ≤ out.faults_after
+pub record IsHostEnd (Left : (ℕ → Bool) → Type 0) (d : Printed) (by : Stop) : Type 0 where
+  pub why : IsStopOf Left d by
+  pub printed : PrintsReplies d by
+  pub later : d.out.faults_before ≤ d.out.faults_after
 
 -- the core to which these events have come, if there was memory for one
 abbrev pub IsCoreOf : Fixed Rest → List machine.Event → Stop → Option CoreState → Type 0
@@ -82,8 +85,8 @@ IsCoreOf m es by (Some core) = (fixed_of core.tables ≡ m) × IsAt core es
 -- ---- in one
 
 -- where the output has not failed at the line of a reply, all replies are printed
-abbrev pub PrintsUnlessFailed : Printing → Bool → Work → Opening → List machine.Event → Writing → Type 0
-PrintsUnlessFailed p failed w o es out = failed ≡ false → Writes out (replies_by p (machine_of w o) es)
+abbrev pub PrintsUnlessFailed : Bool → Printed → Type 0
+PrintsUnlessFailed failed d = failed ≡ false → Writes d.out (replies_in d)
 
 -- Where it has, the host stopped for it, or for a log. It has not where no reply is printed.
 abbrev pub StopsSo : Printing → Bool → Stop → Type 0
@@ -95,9 +98,9 @@ StopsSo reporting failed stop.Memory = failed ≡ false
 
 -- What a host made of a work from this opening, where Left tells what it left on its logs, by those that failed.
 pub record IsMade (p : Printing) (Left : (ℕ → Bool) → Type 0) (w : Work) (schedule : Schedule) (o : Opening) (replies : Writing) (h : Hosted) : Type 0 where
-  pub ends : IsHostEnd p Left w schedule o (meant h.kept.items) replies h.stop
+  pub ends : IsHostEnd Left (as_printed p w schedule o (meant h.kept.items) replies) h.stop
   pub core : IsCoreOf (machine_of w o) (meant h.kept.items) h.stop h.core
-  pub whole : PrintsUnlessFailed p h.failed w o (meant h.kept.items) replies
+  pub whole : PrintsUnlessFailed h.failed (as_printed p w schedule o (meant h.kept.items) replies)
   pub stops : StopsSo p h.failed h.stop
 
 -- on open logs

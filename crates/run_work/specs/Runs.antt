@@ -47,37 +47,64 @@ abbrev pub unsure_by : Printing → List machine.Event → ℕ → List ℕ
 unsure_by reporting es count = unanswered es count
 unsure_by summing es count = []
 
--- behind these bytes their lines, where the device of this log failed
+-- behind these bytes the lines of those who are told so, where the device of this log failed
 abbrev pub TellsUnsure : Printing → ℕ → List machine.Event → ℕ → List ℕ → Writing → Type 0
 TellsUnsure p log es count before out = WritesLines (unsure_line log) out before (unsure_by p es count)
 
+-- What was printed of a run: what it prints, the run as it began and the events that it took, and what was written to the output.
+pub record Printed : Type 0 where
+  pub printing : Printing
+  pub work : Work
+  pub schedule : Schedule
+  pub opening : Opening
+  pub events : List machine.Event
+  pub out : Writing
+
+abbrev pub as_printed : Printing → Work → Schedule → Opening → List machine.Event → Writing → Printed
+as_printed p w schedule o es out = record { printing = p; work = w; schedule = schedule; opening = o; events = es; out = out }
+
+-- what its replies print
+abbrev pub replies_in : Printed → List ℕ
+replies_in d = replies_by d.printing (machine_of d.work d.opening) d.events
+
+-- what is printed behind them, where it has ended
+abbrev pub ending_in : Printed → List ℕ
+ending_in d = ending_by d.printing (machine_of d.work d.opening) d.events
+
 -- all of it
-abbrev pub PrintsAll : Printing → Work → Opening → List machine.Event → Writing → Type 0
-PrintsAll p w o es out = Writes out (replies_by p (machine_of w o) es ++ ending_by p (machine_of w o) es)
+abbrev pub PrintsAll : Printed → Type 0
+PrintsAll d = Writes d.out (replies_in d ++ ending_in d)
 
 -- the run has ended, and behind the replies a front of what comes behind them is printed
-abbrev pub PrintsEnding : Printing → Work → Opening → List machine.Event → Writing → Type 0
-PrintsEnding p w o es out = HasEnded w o es × WritesBehind out (replies_by p (machine_of w o) es) (ending_by p (machine_of w o) es)
+abbrev pub PrintsEnding : Printed → Type 0
+PrintsEnding d = HasEnded d.work d.opening d.events × WritesBehind d.out (replies_in d) (ending_in d)
 
 -- the replies alone, or where the run has ended all of it
-abbrev pub PrintsWhole : Printing → Work → Opening → List machine.Event → Writing → Type 0
-PrintsWhole p w o es out = Writes out (replies_by p (machine_of w o) es) ⊎ (HasEnded w o es × PrintsAll p w o es out)
+abbrev pub PrintsWhole : Printed → Type 0
+PrintsWhole d = Writes d.out (replies_in d) ⊎ (HasEnded d.work d.opening d.events × PrintsAll d)
 
--- the replies, and a front of the line of the Reply that comes next
-abbrev pub PrintsNext : Printing → Work → Schedule → Opening → List machine.Event → Writing → Type 0
-PrintsNext reporting w schedule o es out =
-    (n : ℕ) × GoesOnWith w schedule o es (machine.Reply n) × WritesBehind out (replies_text (machine_of w o) es) (line_in (reached (machine_of w o) es) n)
-PrintsNext summing w schedule o es out = ⊥
+-- the replies, and a front of the line of the Reply that comes next; a summary has none
+abbrev pub CutsNext : Printing → Printed → Type 0
+CutsNext reporting d =
+    (n : ℕ) × GoesOnWith d.work d.schedule d.opening d.events (machine.Reply n)
+    × WritesBehind d.out (replies_text (machine_of d.work d.opening) d.events) (line_in (reached (machine_of d.work d.opening) d.events) n)
+CutsNext summing d = ⊥
+
+abbrev pub PrintsNext : Printed → Type 0
+PrintsNext d = CutsNext d.printing d
 
 -- the replies, and the lines of those that have none
-abbrev pub PrintsUnsure : Printing → Work → ℕ → Opening → List machine.Event → Writing → Type 0
-PrintsUnsure p w log o es out = TellsUnsure p log es (length w.txs) (replies_by p (machine_of w o) es) out
+abbrev pub PrintsUnsure : ℕ → Printed → Type 0
+PrintsUnsure log d = TellsUnsure d.printing log d.events (length d.work.txs) (replies_in d) d.out
 
 -- What is printed where the device of this log failed. With several workers the output may have failed too, and then nothing
 -- comes behind a front of the next reply.
-abbrev pub PrintsFailed : Printing → Work → Schedule → ℕ → Opening → List machine.Event → Writing → Type 0
-PrintsFailed p w (seeded seed) log o es out = PrintsUnsure p w log o es out
-PrintsFailed p w free log o es out = PrintsUnsure p w log o es out ⊎ (Rose out.faults_before out.faults_after × PrintsNext p w free o es out)
+abbrev pub FailsBy : Schedule → ℕ → Printed → Type 0
+FailsBy (seeded seed) log d = PrintsUnsure log d
+FailsBy free log d = PrintsUnsure log d ⊎ (Rose d.out.faults_before d.out.faults_after × PrintsNext d)
+
+abbrev pub PrintsFailed : ℕ → Printed → Type 0
+PrintsFailed log d = FailsBy d.schedule log d
 
 -- each of so many transactions has its Reply among these events
 abbrev pub AllReplied : ℕ → List machine.Event → Type 0
@@ -98,6 +125,10 @@ pub record Ran : Type 0 where
   pub devices_after : List Device
   pub out : Writing
   pub trace : Writing
+
+-- what was printed of it, where it began with this opening and took these events
+abbrev pub printed_of : Printing → Ran → Opening → List machine.Event → Printed
+printed_of p r o es = as_printed p r.work r.schedule o es r.out
 
 -- no run began, for this reason; nothing was traced; and a crash at any moment of the call loses no record
 abbrev pub HasNotBegun : Ran → LogsNo → Type 0
@@ -127,20 +158,20 @@ HasFailed r (seeded seed) log P = HasBegun r (only_failed log) (λ o es. GoesOnW
 HasFailed r free log P = (failed : ℕ → Bool) × IsLeastOf failed log × HasBegun r failed (λ o es. EachFailed r failed o es × P o es)
 
 abbrev pub IsAnswerOf : Printing → Ran → Status → Type 0
-IsAnswerOf p r status.Done = HasBegun r none_failed (λ o es. HasAnswered r.work o es × PrintsAll p r.work o es r.out) × Writes r.trace (trace_of r.kept)
+IsAnswerOf p r status.Done = HasBegun r none_failed (λ o es. HasAnswered r.work o es × PrintsAll (printed_of p r o es)) × Writes r.trace (trace_of r.kept)
 IsAnswerOf p r (status.Usage place) = ⊥
 IsAnswerOf p r (status.Input line cause) = ⊥
 IsAnswerOf p r (status.Logs log offset cause) = HasNotBegun r (ending.Refused log offset cause) × WritesNothing r.out
-IsAnswerOf p r status.Memory = (HasNotBegun r ending.Memory × WritesNothing r.out) ⊎ HasBegun r none_failed (λ o es. PrintsWhole p r.work o es r.out)
+IsAnswerOf p r status.Memory = (HasNotBegun r ending.Memory × WritesNothing r.out) ⊎ HasBegun r none_failed (λ o es. PrintsWhole (printed_of p r o es))
 IsAnswerOf p r status.ReadFault = ⊥
 IsAnswerOf p r (status.LogFault log) =
     LogRose r log
     × ((HasNotBegun r (ending.Device log) × TellsUnsure p log [] (length r.work.txs) [] r.out)
-    ⊎ HasFailed r r.schedule log (λ o es. PrintsFailed p r.work r.schedule log o es r.out))
+    ⊎ HasFailed r r.schedule log (λ o es. PrintsFailed log (printed_of p r o es)))
 IsAnswerOf p r status.OutFault =
-    Rose r.out.faults_before r.out.faults_after × HasBegun r none_failed (λ o es. PrintsNext p r.work r.schedule o es r.out ⊎ PrintsEnding p r.work o es r.out)
+    Rose r.out.faults_before r.out.faults_after × HasBegun r none_failed (λ o es. PrintsNext (printed_of p r o es) ⊎ PrintsEnding (printed_of p r o es))
 IsAnswerOf p r status.TraceFault =
-    Rose r.trace.faults_before r.trace.faults_after × HasBegun r none_failed (λ o es. HasAnswered r.work o es × PrintsAll p r.work o es r.out)
+    Rose r.trace.faults_before r.trace.faults_after × HasBegun r none_failed (λ o es. HasAnswered r.work o es × PrintsAll (printed_of p r o es))
 
 -- of the command that prints the report
 abbrev pub IsWorkAnswer : Ran → Status → Type 0
@@ -170,7 +201,8 @@ IsOfLogs status.TraceFault = ⊥
 abbrev pub OutStood : Status → Type 0
 OutStood s = (s ≢ status.OutFault) × ((log : ℕ) → s ≢ status.LogFault log)
 
--- the same by what is printed: where it is the summary alone, nothing is printed behind a log's fault
+-- By what is printed, the status tells that it did not: where it is the summary alone, nothing is printed behind a log's fault, so
+-- such a fault hides none.
 abbrev pub OutStoodOf : Printing → Status → Type 0
 OutStoodOf reporting s = OutStood s
 OutStoodOf summing s = s ≢ status.OutFault

@@ -11,7 +11,7 @@ use Rattle.run_recovery.specs.Runs.{meant, none_failed, HasEnded}
 use Rattle.run_recovery.specs.Schedules.{Schedule}
 use Rattle.run_printing.specs.Printed.{traced_line}
 use Rattle.run_work.specs.Hosts.{HasLeft, LeftFailed, IsCoreOf, IsWithoutRun}
-use Rattle.run_work.specs.Runs.{Printing, ending_by, Ran, PrintsAll, PrintsEnding, PrintsWhole, PrintsNext, PrintsFailed, TellsUnsure}
+use Rattle.run_work.specs.Runs.{Printing, Printed, ending_by, Ran, PrintsAll, PrintsEnding, PrintsWhole, PrintsNext, PrintsFailed, TellsUnsure, printed_of}
 use Rattle.run_work.specs.Statuses.{logs_status}
 use Rattle.run_work.specs.declared.hosts.Hosted.{Hosted}
 use Rattle.run_work.specs.Writings.{Writing, WritesNothing, Writes, WritesFront, WritesLines}
@@ -35,18 +35,18 @@ IsEnding p m es count (stop.LogFault log) out s = (s ≡ status.LogFault log) ×
 IsEnding p m es count stop.OutFault out s = (s ≡ status.OutFault) × WritesNothing out
 IsEnding p m es count stop.Memory out s = (s ≡ status.Memory) × WritesNothing out
 
--- ---- how a run of these events ended, where Left tells what it left on its logs, by those that failed
+-- ---- how a run ended, where Left tells what it left on its logs, by those that failed
 
-abbrev pub IsRunEnd : Printing → ((ℕ → Bool) → Type 0) → Work → Schedule → Opening → List machine.Event → Writing → Status → Type 0
-IsRunEnd p Left w schedule o es out status.Done = Left none_failed × HasEnded w o es × PrintsAll p w o es out
-IsRunEnd p Left w schedule o es out (status.Usage place) = ⊥
-IsRunEnd p Left w schedule o es out (status.Input line cause) = ⊥
-IsRunEnd p Left w schedule o es out (status.Logs log offset cause) = ⊥
-IsRunEnd p Left w schedule o es out status.Memory = Left none_failed × PrintsWhole p w o es out
-IsRunEnd p Left w schedule o es out status.ReadFault = ⊥
-IsRunEnd p Left w schedule o es out (status.LogFault log) = LeftFailed Left w schedule o es log × PrintsFailed p w schedule log o es out
-IsRunEnd p Left w schedule o es out status.OutFault = Left none_failed × Rose out.faults_before out.faults_after × (PrintsNext p w schedule o es out ⊎ PrintsEnding p w o es out)
-IsRunEnd p Left w schedule o es out status.TraceFault = ⊥
+abbrev pub IsRunEnd : ((ℕ → Bool) → Type 0) → Printed → Status → Type 0
+IsRunEnd Left d status.Done = Left none_failed × HasEnded d.work d.opening d.events × PrintsAll d
+IsRunEnd Left d (status.Usage place) = ⊥
+IsRunEnd Left d (status.Input line cause) = ⊥
+IsRunEnd Left d (status.Logs log offset cause) = ⊥
+IsRunEnd Left d status.Memory = Left none_failed × PrintsWhole d
+IsRunEnd Left d status.ReadFault = ⊥
+IsRunEnd Left d (status.LogFault log) = LeftFailed Left d.work d.schedule d.opening d.events log × PrintsFailed log d
+IsRunEnd Left d status.OutFault = Left none_failed × Rose d.out.faults_before d.out.faults_after × (PrintsNext d ⊎ PrintsEnding d)
+IsRunEnd Left d status.TraceFault = ⊥
 
 -- ---- on all devices
 
@@ -70,7 +70,7 @@ RunLeft r o failed = HasLeft r.work r.schedule o (meant r.kept) r.devices_before
 abbrev pub IsUntraced : Printing → Ran → Status → Type 0
 IsUntraced p r s =
     ((why : LogsNo) × IsNoBeginning p r why × (s ≡ logs_status why))
-    ⊎ ((o : Opening) × IsRunEnd p (RunLeft r o) r.work r.schedule o (meant r.kept) r.out s)
+    ⊎ ((o : Opening) × IsRunEnd (RunLeft r o) (printed_of p r o (meant r.kept)) s)
 
 -- ---- the trace
 
@@ -90,7 +90,7 @@ pub record IsEndOf (p : Printing) (h : Hosted) (count : ℕ) (events : List Even
   pub ending : (m : Fixed Rest) → IsCoreOf m (meant h.kept.items) h.stop h.core → IsEnding p m (meant h.kept.items) count h.stop out s
   pub later : out.faults_before ≤ out.faults_after
 
--- the same where none may have begun
+-- how a call ends before its trace, where a run may not have begun
 abbrev pub EndsUntraced : Printing → Result Hosted LogsNo → ℕ → List Event → Writing → Status → Type 0
 EndsUntraced p (Ok h) count events out s = IsEndOf p h count events out s
 EndsUntraced p (Err why) count events out s = (events ≡ []) × (s ≡ logs_status why) × IsToldUnbegun p count why out
