@@ -8,7 +8,6 @@ use Rattle.log_opening.specs.declared.refusals.LogsNo.TheVariants as ending
 use Rattle.protocol.specs.Events as machine
 use Rattle.protocol.specs.Fixed.{Fixed}
 use Rattle.run_recovery.specs.Runs.{meant, none_failed, HasEnded}
-use Rattle.run_recovery.specs.Schedules.{Schedule}
 use Rattle.run_printing.specs.Printed.{traced_line}
 use Rattle.run_work.specs.Hosts.{HasLeft, LeftFailed, IsCoreOf, IsWithoutRun}
 use Rattle.run_work.specs.Runs.{Printing, Printed, ending_by, Ran, PrintsAll, PrintsEnding, PrintsWhole, PrintsNext, PrintsFailed, TellsUnsure, printed_of}
@@ -19,7 +18,6 @@ use Rattle.snap_outside.specs.Causes.{Rose}
 use Rattle.snap_recover.specs.declared.openings.Opening.{Opening}
 use Rattle.snap_report.specs.declared.statuses.Status.{Status}
 use Rattle.snap_report.specs.declared.statuses.Status.TheVariants as status
-use Rattle.snap_work.specs.Works.{Work}
 use Rattle.run_journals.specs.declared.stops.Stop.{Stop}
 use Rattle.run_journals.specs.declared.stops.Stop.TheVariants as stop
 use Rattle.trace_text.specs.Traces.{trace_of}

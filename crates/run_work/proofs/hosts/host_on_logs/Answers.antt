@@ -1,4 +1,4 @@
-use Rattle.std.proofs.Common.{sym, ◌∙◌, ap, Some}
+use Rattle.std.proofs.Common.{sym, ◌∙◌, ap}
 use Rattle.std.proofs.lemmas.Bool.{true≢false}
 use Rattle.run_recovery.specs.Runs.{meant}
 use Rattle.run_recovery.specs.Schedules.{seeded}

@@ -1,4 +1,4 @@
-use Rattle.std.proofs.Common.{None, arith, refl, sym, subst}
+use Rattle.std.proofs.Common.{None, arith, sym, subst}
 use Rattle.log_opening.specs.Devices.{devices_of}
 use Rattle.run_recovery.specs.Schedules.{seeded}
 use Rattle.run_work.proofs.hosts.host_work.Goals as goal

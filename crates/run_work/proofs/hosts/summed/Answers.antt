@@ -1,4 +1,4 @@
-use Rattle.std.proofs.Common.{Result, sym, subst}
+use Rattle.std.proofs.Common.{Result, subst}
 use Rattle.log_opening.specs.declared.refusals.LogsNo.{LogsNo}
 use Rattle.run_work.proofs.Hosting.{unheard_host}
 use Rattle.run_work.proofs.hosts.summed.Goals as goal
