@@ -5,7 +5,7 @@ use Rattle.std.specs.List.{remove, find}
 use Rattle.std.proofs.lemmas.Bool.{cond_both}
 use Rattle.snap_base.specs.declared.transactions.State.{State}
 use Rattle.image_pool.specs.Region.{Region, state_in_slot, IsLive, Changes}
-use Rattle.machine_words.specs.Meant.{who_meant}
+use Rattle.protocol.specs.Meant.{who_meant}
 use Rattle.protocol.specs.OnCell.{state_from}
 use Rattle.protocol.specs.Parts.{Who, Image}
 use Rattle.protocol.specs.Words.{is_who, image_of}

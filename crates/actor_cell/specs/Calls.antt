@@ -1,6 +1,6 @@
 -- What the calls of a cell do to its store, where the machine has no word for it.
 use Rattle.std.specs.Prelude.{ℕ, nat_le, Bool, not, if◌then◌else◌, Some, filter, find}
-use Rattle.machine_words.specs.Meant.{who_meant}
+use Rattle.protocol.specs.Meant.{who_meant}
 use Rattle.protocol.specs.CellParts.{Store}
 use Rattle.protocol.specs.OnCell.{state_from, is_undone_act, raised_floors}
 use Rattle.protocol.specs.Parts.{Act, Who, OfBatch, OfAct}

@@ -2,7 +2,7 @@
 use Rattle.std.specs.Prelude.{◌≡◌, ◌≢◌, ℕ, ◌+◌, ◌≤◌, List, [], ◌∷◌, length, map, Option, Some, None, ⊤}
 use Rattle.snap_base.specs.declared.transactions.State.{State}
 use Rattle.image_pool.specs.Region.{Region, state_in_slot, IsLive}
-use Rattle.machine_words.specs.Meant.{who_meant}
+use Rattle.protocol.specs.Meant.{who_meant}
 use Rattle.protocol.specs.Fixed.{no_state}
 use Rattle.protocol.specs.Parts.{Image}
 use Rattle.actor_cell.specs.declared.images.Held.{Held}

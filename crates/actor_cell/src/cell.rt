@@ -1,6 +1,6 @@
 //! The cell of an actor: its state, its images and its two floors.
 ghost use Rattle.std.specs.Prelude.{◌≡◌, ◌<◌, false, [], length, not, is_some, filter, IfOk};
-ghost use Rattle.machine_words.specs.Meant.{who_meant};
+ghost use Rattle.protocol.specs.Meant.{who_meant};
 ghost use Rattle.protocol.specs.CellParts.{without_image};
 ghost use Rattle.protocol.specs.OnCell.{with_image, raised_floors, state_from};
 ghost use Rattle.protocol.specs.Words.{floor_for, image_of, is_who};

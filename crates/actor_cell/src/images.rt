@@ -1,7 +1,7 @@
 //! The images of one actor, each with the batch or the ACT that it was taken for.
 ghost use Rattle.std.specs.Prelude.{◌≡◌, ◌<◌, [], ◌∷◌, ◌++◌, length, not, is_some, filter, find, slice_index_or, option_copied, IfOk};
 ghost use Rattle.std.specs.List.{remove};
-ghost use Rattle.machine_words.specs.Meant.{who_meant};
+ghost use Rattle.protocol.specs.Meant.{who_meant};
 ghost use Rattle.protocol.specs.OnCell.{state_from};
 ghost use Rattle.protocol.specs.Parts.{Image as Taken};
 ghost use Rattle.protocol.specs.Words.{image_of};

@@ -1,6 +1,6 @@
 //! Whose images a call speaks of.
 ghost use Rattle.std.specs.Prelude.{◌≡◌};
-ghost use Rattle.machine_words.specs.Meant.{who_meant};
+ghost use Rattle.protocol.specs.Meant.{who_meant};
 
 use snap_base::{Bid, Who};
 

@@ -14,7 +14,7 @@ use Rattle.aml_tree.specs.declared.trees.Operator.TheVariants as operator
 use Rattle.aml_tree.specs.Tree.{Expr, Number, Variable, Field, Own, Group, Negative, Binary, Code, End, Let, Call, Set, SetField, If, IfElse, While, Fail, Return, CheckedMethod}
 use Rattle.aml_check.specs.declared.limits.TheConstants.{MOST_CALLED_ACTORS, MOST_CALLS, MOST_OPEN_CALLS, MOST_STATEMENTS}
 use Rattle.aml_check.specs.Names.{method_at}
-use Rattle.serial_words.specs.Outcomes.{Alone, Serial}
+use Rattle.snap_base.specs.Outcomes.{Alone, Serial}
 
 -- ---- the codes of failures
 

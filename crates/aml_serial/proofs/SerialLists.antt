@@ -6,7 +6,7 @@ use Rattle.snap_base.specs.declared.transactions.State.{State}
 use Rattle.snap_base.specs.declared.transactions.Tx.{Tx}
 use Rattle.snap_base.specs.declared.transactions.TxResult.{TxResult}
 use Rattle.aml_tree.specs.Tree.{CheckedMethod}
-use Rattle.serial_words.specs.Outcomes.{Alone, Serial}
+use Rattle.snap_base.specs.Outcomes.{Alone, Serial}
 use Rattle.aml_check.specs.Meaning.{alone, serial}
 
 abbrev pub serial_run : List TxResult → List State → Serial

@@ -7,7 +7,7 @@ use Rattle.snap_base.specs.declared.transactions.State.{State}
 use Rattle.snap_base.specs.declared.transactions.TxResult.{TxResult}
 use Rattle.snap_base.specs.declared.transactions.TxResult.TheVariants as result
 use Rattle.aml_tree.specs.Tree.{CheckedMethod}
-use Rattle.serial_words.specs.Outcomes.{Alone}
+use Rattle.snap_base.specs.Outcomes.{Alone}
 use Rattle.aml_check.specs.Meaning.{state_at, zero_state}
 use Rattle.aml_slice.specs.Controls.{Rest}
 use Rattle.snap_base.specs.declared.next.Next.{Next}

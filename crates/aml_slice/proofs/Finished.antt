@@ -8,7 +8,7 @@ use Rattle.snap_base.specs.declared.transactions.TxResult.{TxResult}
 use Rattle.snap_base.specs.declared.transactions.TxResult.TheVariants as result
 use Rattle.aml_tree.specs.Tree.{CheckedMethod}
 use Rattle.aml_check.specs.Closed.{IsClosedProgram}
-use Rattle.serial_words.specs.Outcomes.{Alone}
+use Rattle.snap_base.specs.Outcomes.{Alone}
 use Rattle.aml_check.specs.Meaning.{Progress, alone, ended_alone, state_at, admitted, beginning, declaration}
 use Rattle.aml_check.specs.Transactions.{IsTransaction}
 use Rattle.snap_base.specs.declared.next.Next.{Next}

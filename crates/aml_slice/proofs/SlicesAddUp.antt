@@ -7,7 +7,7 @@ use Rattle.snap_base.specs.declared.transactions.Tx.{Tx}
 use Rattle.snap_base.specs.declared.transactions.TxResult.{TxResult}
 use Rattle.snap_base.specs.declared.transactions.TxResult.TheVariants as result
 use Rattle.aml_tree.specs.Tree.{CheckedMethod}
-use Rattle.serial_words.specs.Outcomes.{Alone}
+use Rattle.snap_base.specs.Outcomes.{Alone}
 use Rattle.aml_check.specs.Meaning.{Progress, alone, ended_alone}
 use Rattle.aml_slice.specs.Controls.{Rest}
 use Rattle.aml_slice.specs.Wholes.{rest_gives, Holds, BeginsTransaction, Cut, RunsInSlices, world_after}

@@ -3,7 +3,7 @@ use Rattle.std.specs.Prelude.{ℕ, zero, suc, ◌+◌, List, slice_set}
 use Rattle.snap_base.specs.declared.transactions.State.{State}
 use Rattle.snap_base.specs.declared.transactions.TxResult.TheVariants as result
 use Rattle.aml_tree.specs.Tree.{CheckedMethod}
-use Rattle.serial_words.specs.Outcomes.{Alone}
+use Rattle.snap_base.specs.Outcomes.{Alone}
 use Rattle.aml_check.specs.Meaning.{state_at, too_many_statements}
 use Rattle.snap_base.specs.declared.next.Next.{Next}
 use Rattle.snap_base.specs.declared.next.Next.TheVariants.{Go, Ended}

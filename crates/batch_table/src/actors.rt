@@ -1,13 +1,13 @@
 //! The actors that a batch declares, and the marks of the batch on them.
 ghost use Rattle.std.specs.Prelude.{◌≡◌, ◌==◌, ◌+◌, ◌-◌, ◌≤◌, ◌^◌, ◌++◌, min, not, map, filter, find, option_copied, IfOk, OnOk};
 ghost use Rattle.std.specs.List.{list_all};
-ghost use Rattle.machine_words.specs.Meant.{actor_number};
+ghost use Rattle.protocol.specs.Meant.{actor_number};
 ghost use Rattle.protocol.specs.Left.{declared_left, total};
 ghost use Rattle.protocol.specs.Words.{holds};
 ghost use Rattle.protocol.specs.OnDesk as desk;
 ghost use Rattle.batch_table.specs.Listed.{is_unnoted, unnoted_shown};
 
-use machine_words::unless;
+use protocol::unless;
 use snap_base::{ActorId, Bid, Memory};
 use std::alloc::Global;
 use std::marker::Model;

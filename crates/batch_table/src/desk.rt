@@ -12,7 +12,7 @@ use crate::batches::BatchEntry;
 use crate::replies::Replies;
 use crate::spots::{Spot, write_spots};
 use crate::{FoundPact, Stage, table};
-use machine_words::Formed;
+use protocol::Formed;
 use snap_base::{ActorId, Bid, Memory, Sequence, Tid, TxNo, TxResult};
 use std::alloc::Global;
 use std::marker::Model;

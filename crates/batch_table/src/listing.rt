@@ -1,7 +1,7 @@
 //! What is asked of the desk when all events that batches may have are looked for.
 ghost use Rattle.std.specs.Prelude.{◌≡◌, ◌==◌, ◌&&◌, ◌≤◌, ℕ, not, map, take, filter, length, slice_get, [], IfOk};
 ghost use Rattle.std.specs.List.{flat_map};
-ghost use Rattle.machine_words.specs.Meant.{actor_number};
+ghost use Rattle.protocol.specs.Meant.{actor_number};
 ghost use Rattle.protocol.specs.Words as words;
 ghost use Rattle.batch_table.specs.Askings as askings;
 ghost use Rattle.batch_table.specs.Listed.{actors_in, going_batches, is_going_batch, is_number, txs_at, unnoted_in, unnoted_on, unnoted_shown, unreplied_below};

@@ -3,7 +3,7 @@ ghost use Rattle.std.specs.Prelude.{◌≡◌, ◌==◌, Some, None, map, option
 ghost use Rattle.std.specs.List.{list_all};
 ghost use Rattle.protocol.specs.Words as words;
 ghost use Rattle.protocol.specs.OnDesk.{with_result};
-ghost use Rattle.machine_words.specs.Meant.{batch_pact};
+ghost use Rattle.protocol.specs.Meant.{batch_pact};
 ghost use Rattle.batch_table.specs.Askings.{failure_shown};
 ghost use Rattle.batch_table.specs.Joining as joining;
 

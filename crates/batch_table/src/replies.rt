@@ -4,7 +4,7 @@ ghost use Rattle.std.specs.List.{list_all};
 ghost use Rattle.protocol.specs.Left.{reply_left, total};
 ghost use Rattle.batch_table.specs.Listed.{is_unreplied, unreplied_below};
 
-use machine_words::unless;
+use protocol::unless;
 use snap_base::{Memory, TxNo};
 use std::alloc::Global;
 use std::marker::Model;

@@ -1,7 +1,7 @@
 //! What the conditions of the events ask of the book. Each answer is about whatever book the halves show.
 ghost use Rattle.std.specs.Prelude.{◌≡◌, ◌<◌, ◌==◌, nat_le, not, ◌&&◌, ◌||◌, Some, is_some, length, slice_get, find, IfOk};
 ghost use Rattle.std.specs.Option.{option_map};
-ghost use Rattle.machine_words.specs.Meant.{who_meant};
+ghost use Rattle.protocol.specs.Meant.{who_meant};
 ghost use Rattle.protocol.specs.Conditions.{epoch, is_given_up};
 ghost use Rattle.protocol.specs.Effects.{act_commit};
 ghost use Rattle.protocol.specs.OnCell.{is_undone_act};

@@ -9,8 +9,8 @@ ghost use Rattle.book_part.specs.Told.{left_told};
 
 use crate::part::BookPart;
 use act_commit::Acts;
-use machine_words::unless;
 use order_book::{Act, Mark};
+use protocol::unless;
 use snap_base::Tid;
 
 impl BookPart {

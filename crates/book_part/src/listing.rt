@@ -2,7 +2,7 @@
 //! halves show.
 ghost use Rattle.std.specs.Prelude.{◌≡◌, ◌||◌, map, is_some, IfOk};
 ghost use Rattle.std.specs.Option.{option_map};
-ghost use Rattle.machine_words.specs.Meant.{tid_number};
+ghost use Rattle.protocol.specs.Meant.{tid_number};
 ghost use Rattle.protocol.specs.Parts.{Book};
 ghost use Rattle.protocol.specs.Words.{act_of, holds, is_doomed};
 ghost use Rattle.protocol_theorems.specs.BookFits.{actors_at};

@@ -2,7 +2,7 @@
 ghost use Rattle.std.specs.Prelude.{◌≡◌, ℕ, ◌<◌, ◌≤◌, ◌^◌, max, not, [], ◌∷◌, ◌++◌, List, length, map, Some, None, IsTrue, IfOk, OnOk, OnErr};
 ghost use Rattle.std.specs.List.{All, AllByRecursion};
 ghost use Rattle.std.specs.Option.{option_map};
-ghost use Rattle.machine_words.specs.Meant.{tid_number};
+ghost use Rattle.protocol.specs.Meant.{tid_number};
 ghost use Rattle.protocol.specs.BookParts.{has_place, no_orders, no_votes, orders_cascaded, votes_begin};
 ghost use Rattle.protocol.specs.OnBook.{act_admitted, act_asked, act_decided, act_finished, act_prepared, act_sealed, act_vouched, batch_arrived};
 ghost use Rattle.protocol.specs.Rivals.{Lock};

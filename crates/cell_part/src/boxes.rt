@@ -2,7 +2,7 @@
 ghost use Rattle.std.specs.Prelude.{◌≡◌, ◌≤◌, not, is_some, true, filter, [], ◌∷◌, ◌++◌, OnOk, IfOk};
 ghost use Rattle.std.specs.Option.{option_map, option_and_then};
 ghost use Rattle.hybrid_schedule.specs.Cuts.{is_cut_off};
-ghost use Rattle.machine_words.specs.Meant.{next_meant};
+ghost use Rattle.protocol.specs.Meant.{next_meant};
 ghost use Rattle.protocol.specs.CellParts.{taken_from};
 ghost use Rattle.protocol.specs.Words.{holds, is_going, is_ended, waiting_of, without_waiting, outcome_of, without_outcome};
 ghost use Rattle.cell_part.specs.Contents.{waiting_control, outcome_next, outcome_result};

@@ -4,7 +4,7 @@ ghost use Rattle.std.specs.List.{list_all};
 ghost use Rattle.std.specs.Option.{option_map, option_and_then};
 ghost use Rattle.actor_cell.specs.Cut.{IsCutFrom};
 ghost use Rattle.hybrid_schedule.specs.Schedules.{has_turn, is_incomplete, is_next_here, is_done_here};
-ghost use Rattle.machine_words.specs.Meant.{sub_batch, tid_number, who_meant, next_meant};
+ghost use Rattle.protocol.specs.Meant.{sub_batch, tid_number, who_meant, next_meant};
 ghost use Rattle.protocol.specs.OnBook.{met, tids_on};
 ghost use Rattle.protocol.specs.OnCell.{act_left, act_placed, batch_completed, batch_left, batch_placed, control_came, is_undone_act, outcome_taken, pact_closed, reads_on, rolled_back, staying};
 ghost use Rattle.protocol.specs.Parts.{Act, Cascade, ControlMessage};

@@ -6,7 +6,7 @@ use crate::boxes::Boxes;
 use crate::cell_part::CellPart;
 use crate::outcome::Outcome;
 use crate::waiting::Waiting;
-use machine_words::Visits;
+use protocol::Visits;
 use snap_base::Next;
 
 impl<C: Drop> CellPart<C> {

@@ -1,6 +1,6 @@
 //! What is asked of an actor when all events that it may have are looked for.
 ghost use Rattle.std.specs.Prelude.{◌≡◌, map, IfOk};
-ghost use Rattle.machine_words.specs.Meant.{tid_number};
+ghost use Rattle.protocol.specs.Meant.{tid_number};
 ghost use Rattle.hybrid_schedule.specs.Listed.{incomplete_on, undone_on};
 
 use crate::boxes::Boxes;

@@ -19,7 +19,7 @@ impl<C> Model for Outcome<C> {
 
     ghost Value = { Left C };
 
-    ghost use Rattle.machine_words.specs.Meant.{next_meant};
+    ghost use Rattle.protocol.specs.Meant.{next_meant};
 
     ghost view = { λ o. record { tid = o.tid.0; next = next_meant o.next } };
 }

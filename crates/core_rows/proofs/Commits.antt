@@ -13,7 +13,7 @@ use Rattle.protocol.specs.Words.{act_of, is_value, value_of}
 use Rattle.book_part.specs.Commits.{records_of}
 use Rattle.book_part.specs.declared.commit.Commit.{Commit}
 use Rattle.core_facts.specs.RowsMay.{IsActRecord}
-use Rattle.record_words.specs.Told.{actor_of, told}
+use Rattle.log_set.specs.Told.{actor_of, told}
 use Rattle.txn_records.specs.Records.{Ascend, actor_numbers, IsAct, IsActDone}
 use Rattle.txn_records.specs.declared.records.Record.TheVariants as records
 use Rattle.core_rows.specs.Commits.{HasSpelling}

@@ -1,7 +1,7 @@
 -- An ACT that asks, and the cell that it asks.
 use Rattle.std.proofs.Common.{◌≡◌, ℕ, true, false, Option, Some, None, is_some, List, [], ◌∷◌, map, refl, ap, sym, ◌∙◌}
 use Rattle.snap_base.specs.declared.ids.Tid.{Tid}
-use Rattle.machine_words.specs.Meant.{tid_number}
+use Rattle.protocol.specs.Meant.{tid_number}
 use Rattle.order_book.specs.Asked.{AreLocksOf, locks_of}
 use Rattle.protocol.specs.OnBook.{act_asked, met}
 use Rattle.protocol.specs.Parts.{Entry}

@@ -9,7 +9,7 @@ use Rattle.protocol.specs.Conditions.{IsAllowed, conditions}
 use Rattle.protocol.specs.OnRing.{Formed, planned}
 use Rattle.protocol.specs.OnPost.{first_control, posted_batch}
 use Rattle.token_ring.specs.Asked.{IsNextBatch}
-use Rattle.record_words.specs.Told.{actor_of, tid_of, bid_of}
+use Rattle.log_set.specs.Told.{actor_of, tid_of, bid_of}
 use Rattle.txn_records.specs.Records.{actor_numbers, tid_numbers, IsInfo}
 use Rattle.core_facts.specs.RowsMay.{RowsMay}
 

@@ -1,7 +1,7 @@
 -- A slice that the code's closure ran is the slice of the machine.
 use Rattle.std.proofs.Common.{◌≡◌, ℕ, Bool, Some, MutBor, ap, sym, subst, ◌∙◌}
 use Rattle.std.specs.Fn.{Once, FnOnceReturns}
-use Rattle.machine_words.specs.Meant.{next_meant}
+use Rattle.protocol.specs.Meant.{next_meant}
 use Rattle.snap_base.specs.declared.transactions.State.{State}
 use Rattle.protocol.specs.Fixed.{Code, Sliced}
 use Rattle.protocol.specs.Fixed as machine

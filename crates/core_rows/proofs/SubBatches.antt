@@ -5,7 +5,7 @@ use Rattle.std.specs.Option.{option_map}
 use Rattle.std.proofs.lemmas.Bool.{and_parts, eqb-true}
 use Rattle.std.proofs.lemmas.List.{length-map}
 use Rattle.snap_base.specs.declared.transactions.SubBatch as base
-use Rattle.machine_words.specs.Meant.{sub_batch, tid_number}
+use Rattle.protocol.specs.Meant.{sub_batch, tid_number}
 use Rattle.protocol.specs.OnBook.{batch_arrived}
 use Rattle.protocol.specs.Parts.{SubBatch, Cell, Machine}
 use Rattle.protocol.specs.Events.{Arrive}

@@ -7,7 +7,7 @@ use Rattle.post_box.specs.PostBox.{PostBox}
 use Rattle.book_part.specs.Halves.{Halves, Shows}
 use Rattle.cell_part.specs.Room.{Roomed}
 use Rattle.log_set.specs.Logs.{PendingState}
-use Rattle.log_part.specs.Shown.{ShowsLog}
+use Rattle.log_set.specs.Shown.{ShowsLog}
 
 module _ {C : Type 0} where
   -- these are the transactions of the text

@@ -3,7 +3,7 @@
 use Rattle.std.specs.Prelude.{◌≡◌, ℕ, Bool, Some}
 use Rattle.std.specs.Borrow.{MutBor}
 use Rattle.std.specs.Fn.{Once, FnOnceReturns}
-use Rattle.machine_words.specs.Meant.{next_meant}
+use Rattle.protocol.specs.Meant.{next_meant}
 use Rattle.snap_base.specs.declared.transactions.State.{State}
 use Rattle.protocol.specs.Fixed.{Code}
 use Rattle.protocol.specs.OnCell.{is_through}

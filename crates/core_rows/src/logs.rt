@@ -8,7 +8,7 @@ use crate::StepNo;
 use crate::asking::first_no;
 use crate::laws::rows_may;
 use batch_table::Desk;
-use log_part::LogPart;
+use log_set::LogPart;
 use snap_base::Bid;
 use std::alloc::Global;
 use txn_records::{Record, values_fit};

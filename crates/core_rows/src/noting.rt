@@ -7,7 +7,7 @@ ghost use Rattle.core_rows.specs.Taken.{IsOfRun, IsTaken, IsRefusal, IsNo, IsRul
 use crate::StepNo;
 use crate::asking::first_no;
 use batch_table::Desk;
-use log_part::LogPart;
+use log_set::LogPart;
 use snap_base::{ActorId, Bid};
 
 /// Note: which of its conditions is the first false one, or 0.

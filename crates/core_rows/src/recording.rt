@@ -9,7 +9,7 @@ use crate::asking::first_no;
 use crate::laws::{books_go_on, rows_may};
 use book_part::BookPart;
 use cell_part::CellPart;
-use log_part::LogPart;
+use log_set::LogPart;
 use snap_base::{ActorId, Bid, Tid};
 use std::alloc::Global;
 use txn_records::{Record, states_fit};

@@ -4,7 +4,7 @@ ghost use Rattle.protocol.specs.Events.{Send};
 ghost use Rattle.protocol.specs.Parts.{Outcome};
 ghost use Rattle.protocol.specs.OnPost.{sent};
 ghost use Rattle.protocol.specs.Words.{control_of};
-ghost use Rattle.machine_words.specs.Meant.{who_meant, next_meant};
+ghost use Rattle.protocol.specs.Meant.{who_meant, next_meant};
 ghost use Rattle.core_rows.specs.Showing.{ShowsCell, ShowsPost};
 ghost use Rattle.core_rows.specs.Taken.{IsOfRun, IsTaken, IsRefusal, IsNo};
 

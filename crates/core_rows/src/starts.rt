@@ -4,7 +4,7 @@ ghost use Rattle.protocol.specs.Fixed.{Fixed};
 ghost use Rattle.protocol.specs.Parts as parts;
 ghost use Rattle.protocol.specs.OnPost.{first_control};
 ghost use Rattle.protocol.specs.Words.{control_of};
-ghost use Rattle.machine_words.specs.Meant.{batch_pact, who_meant};
+ghost use Rattle.protocol.specs.Meant.{batch_pact, who_meant};
 ghost use Rattle.batch_table.specs.Joining.{AllTxsBelow};
 ghost use Rattle.post_box.specs.Posting.{control_posted};
 ghost use Rattle.core_rows.specs.Begun.{first_message};

@@ -8,7 +8,7 @@ use crate::StepNo;
 use crate::asking::first_no;
 use crate::laws::books_go_on;
 use book_part::BookPart;
-use log_part::LogPart;
+use log_set::LogPart;
 use snap_base::{ActorId, Tid};
 
 /// Vouch: which of its conditions is the first false one, or 0.

@@ -9,8 +9,8 @@ use Rattle.protocol.specs.Conditions.{IsAllowed}
 use Rattle.protocol.specs.Events.{Event, Sync, desk, log}
 use Rattle.protocol.specs.Fixed.{Fixed}
 use Rattle.protocol.specs.Runs.{reached}
-use Rattle.run_journals.specs.Driven.{IsDriven}
-use Rattle.run_outputs.specs.Groups.{group_behind, groups_of}
+use Rattle.run_effects.specs.Driven.{IsDriven}
+use Rattle.run_effects.specs.Groups.{group_behind, groups_of}
 use Rattle.txn_records.specs.declared.records.Record.{Record}
 
 -- ---- beside the shares

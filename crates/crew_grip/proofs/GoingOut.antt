@@ -19,8 +19,8 @@ use Rattle.gate_log.specs.Device.{MayAppend}
 use Rattle.gate_log.specs.State.{LogState}
 use Rattle.gate_log.specs.declared.logs.AppendNo.{AppendNo}
 use Rattle.gate_log.specs.declared.logs.AppendNo.TheVariants as append
-use Rattle.group_sizes.specs.Sizes.{most_bytes}
-use Rattle.log_part.specs.Shown.{told_bytes}
+use Rattle.run_effects.specs.Sizes.{most_bytes}
+use Rattle.log_set.specs.Shown.{told_bytes}
 use Rattle.protocol.specs.Conditions.{IsAllowed, conditions, refusal}
 use Rattle.protocol.specs.Effects.{log_at}
 use Rattle.protocol.specs.Events.{Event, Sync, Reply, book, desk, log}
@@ -33,12 +33,12 @@ use Rattle.protocol.specs.Words.{holds, is_among}
 use Rattle.record_log.specs.Growth.{MayAppendGroup, end_behind_groups}
 use Rattle.record_log.specs.Records.{spelled}
 use Rattle.record_log.specs.declared.limits.TheConstants.{FARTHEST_APPEND}
-use Rattle.record_words.specs.Told.{all_told}
-use Rattle.run_journals.specs.Appending.{IsAppended, IsCutOff}
-use Rattle.run_journals.specs.Driven.{IsDriven}
-use Rattle.run_journals.specs.RunsOf.{RunsOf}
-use Rattle.run_outputs.specs.Groups.{group_by, groups_of, waiting}
-use Rattle.run_outputs.specs.Lines.{line_in, verdict_line}
+use Rattle.log_set.specs.Told.{all_told}
+use Rattle.run_effects.specs.Appending.{IsAppended, IsCutOff}
+use Rattle.run_effects.specs.Driven.{IsDriven}
+use Rattle.run_effects.specs.RunsOf.{RunsOf}
+use Rattle.run_effects.specs.Groups.{group_by, groups_of, waiting}
+use Rattle.run_effects.specs.Lines.{line_in, verdict_line}
 use Rattle.snap_base.specs.declared.verdicts.Verdict.{Verdict}
 use Rattle.snap_base.specs.declared.ids.TxNo.{TxNo}
 use Rattle.snap_hand.specs.Hands.{Fits}

@@ -6,7 +6,7 @@ use Rattle.std.proofs.lemmas.List.{length-append, length-map}
 use Rattle.aml_slice.specs.Controls.{Rest}
 use Rattle.crew_parts.specs.Crews.{Stands}
 use Rattle.crew_parts.specs.Shares.{ShareState}
-use Rattle.log_part.specs.Shown.{ShowsLog}
+use Rattle.log_set.specs.Shown.{ShowsLog}
 use Rattle.log_set.specs.Logs.{LogList}
 use Rattle.protocol.specs.Fixed.{Fixed}
 use Rattle.protocol.specs.Parts.{Cell, Log, Machine}

@@ -6,7 +6,7 @@ ghost use Rattle.crew_grip.specs.Acted.{AreReady, AreSound, HasActed, IsJust, Is
 ghost use Rattle.crew_grip.specs.Grips.{GripState, IsAtWork, IsCrew, IsGripOf, IsHeldNow};
 ghost use Rattle.crew_parts.specs.Acts.{meant};
 ghost use Rattle.crew_parts.specs.declared.acts.Act.{Act};
-ghost use Rattle.hand_offers.specs.Offers.{AreOffers};
+ghost use Rattle.ready_listing.specs.Offers.{AreOffers};
 ghost use Rattle.protocol.specs.Events as machine;
 ghost use Rattle.protocol.specs.Words.{is_among};
 ghost use Rattle.snap_hand.specs.Steps.{IsRefusalOn, IsStep, MayBeAsked, may_want};
@@ -42,7 +42,7 @@ impl<D: LogDev + Drop, O: Sink + Drop> Grip<D, O> {
         requires held { IsHeldNow turns.now self.now }
         ensures { IfOk result (λ l. AreOffers (fixed_of (tables_of turns.now)) self.now.hand l.events) }
     {
-        hand_offers::offers(alloc, turns.tables(), &self.hand)
+        ready_listing::offers(alloc, turns.tables(), &self.hand)
     }
 
     /// Whether all parts of a footprint are held, and can go on.

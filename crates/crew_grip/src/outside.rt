@@ -18,7 +18,7 @@ use core_events::{DESK, Event, part_of_log};
 use crew_parts::Share;
 use gate_log::AppendNo;
 use protocol_laws::allowed_or_refused;
-use run_journals::{appends_drive, runs_of};
+use run_effects::{appends_drive, runs_of};
 use snap_base::{Sequence, TxNo};
 use snap_hand::places_are_set;
 use snap_outside::{Failed, LogDev, Sink};

@@ -11,8 +11,8 @@ use Rattle.crew_parts.specs.Shares.{OutputState}
 use Rattle.snap_outside.proofs.AtFault.{no_call}
 use Rattle.gate_log.specs.State.{LogState}
 use Rattle.protocol.specs.Fixed.{Fixed}
-use Rattle.run_journals.specs.Driven.{IsDriven}
-use Rattle.run_outputs.specs.Groups.{group_behind}
+use Rattle.run_effects.specs.Driven.{IsDriven}
+use Rattle.run_effects.specs.Groups.{group_behind}
 
 pub are_open : (logs : List LogState) → AllByRecursion (λ (l : LogState). l.shut ≡ false) logs → AreAllOpen logs
 are_open [] all l lt = absurd (omega (arith, lt))

@@ -17,7 +17,7 @@ use Rattle.protocol.specs.Parts.{Machine}
 use Rattle.protocol.specs.Runs.{IsQuiet}
 use Rattle.protocol.specs.Schedule.{IsEnabled}
 use Rattle.protocol.specs.Words.{holds}
-use Rattle.run_journals.specs.declared.stops.Stop.{Stop}
+use Rattle.run_effects.specs.declared.stops.Stop.{Stop}
 
 -- where nothing is enabled all is quiet
 pub none_enabled : (w : Fixed Rest) (s : Machine Rest) (all : List Event) → IsEnabled w s all → length all ≡ 0 → IsQuiet w s

@@ -7,8 +7,8 @@ use Rattle.crew_workers.specs.declared.ends.Fault.TheVariants as fault
 use Rattle.protocol.specs.Events.{Event}
 use Rattle.protocol.specs.Fixed.{Fixed}
 use Rattle.protocol.specs.Runs.{IsQuiet, reached}
-use Rattle.run_journals.specs.declared.stops.Stop.{Stop}
-use Rattle.run_journals.specs.declared.stops.Stop.TheVariants as stop
+use Rattle.run_effects.specs.declared.stops.Stop.{Stop}
+use Rattle.run_effects.specs.declared.stops.Stop.TheVariants as stop
 
 abbrev pub IsStopBy : Fixed Rest → List Event → Option Fault → Stop → Type 0
 IsStopBy w es None by = ((by ≡ stop.Quiet) × IsQuiet w (reached w es)) ⊎ (by ≡ stop.Memory)

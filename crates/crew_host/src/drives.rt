@@ -10,7 +10,7 @@ ghost use Rattle.crew_parts.specs.Crews.{Begins, HasCome, OutputIs, kept};
 ghost use Rattle.crew_parts.specs.Shares.{ShareState, output_seen};
 ghost use Rattle.snap_work.specs.declared.limits.TheConstants.{MOST_WORKERS};
 ghost use Rattle.protocol.specs.Events as machine;
-ghost use Rattle.run_journals.specs.declared.stops.Stop.TheVariants as stop;
+ghost use Rattle.run_effects.specs.declared.stops.Stop.TheVariants as stop;
 ghost use Rattle.snap_core.specs.Cores.{IsAt};
 ghost use Rattle.snap_hand.specs.Tables.{AreTables, fixed_of};
 
@@ -20,7 +20,7 @@ use crew_ends::{Beginning, Ended, Room, core_of, crews_drive, shares_of};
 use crew_parts::{Share, acts_are_runs};
 use crew_workers::{Ending, Fault, Hiring, fault_of, run_crew};
 use gate_log::{FARTHEST_END, Log};
-use run_journals::{Stop, appends_drive};
+use run_effects::{Stop, appends_drive};
 use snap_base::Memory;
 use snap_core::Core;
 use snap_hand::Tables;

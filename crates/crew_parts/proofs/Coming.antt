@@ -15,9 +15,9 @@ use Rattle.protocol.specs.Footprints.{HasLogs}
 use Rattle.protocol.specs.Parts.{Machine}
 use Rattle.protocol.specs.Runs.{EachAllowed, IsRun, opening, reached, state_after}
 use Rattle.protocol.specs.Words.{is_among}
-use Rattle.run_outputs.specs.Groups.{group_behind, waiting}
+use Rattle.run_effects.specs.Groups.{group_behind, waiting}
 use Rattle.snap_hand.specs.Shown.{IsPartOf}
-use Rattle.run_journals.specs.Driven.{IsDriven}
+use Rattle.run_effects.specs.Driven.{IsDriven}
 use Rattle.std.proofs.KnownBytes.{Appends-nil}
 use Rattle.snap_outside.proofs.AtFault.{no_call}
 use Rattle.turn_table.specs.Places.{values, replaced}
@@ -25,7 +25,7 @@ use Rattle.turn_table.specs.Runs.{May, Run}
 use Rattle.crew_parts.proofs.Replacing.{as_long, replaced_tells, covered_are_shown, goes_as_many, came_from}
 use Rattle.crew_parts.proofs.PartsStay.{desk_is, log_stays, part_stays, same_log_at}
 use Rattle.crew_parts.proofs.Outsides.{due_goes, due_none, due_stays, journal_goes, journal_stays, no_group, no_line, output_goes, output_stays}
-use Rattle.run_journals.proofs.Driving.{driven_same}
+use Rattle.run_effects.proofs.Driving.{driven_same}
 
 one_more : (w : Fixed Rest) (es : List Event) (e : Event) (s : Machine Rest) → EachAllowed w es s → IsAllowed w e (state_after w es s) → EachAllowed w (es ++ e ∷ []) s
 one_more w [] e s run ok = (ok, tt)

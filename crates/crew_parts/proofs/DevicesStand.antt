@@ -19,7 +19,7 @@ use Rattle.protocol.specs.Parts.{Machine}
 use Rattle.protocol.specs.Runs.{IsRun, reached}
 use Rattle.protocol.specs.Words.{holds, is_among}
 use Rattle.record_log.specs.Growth.{GrewBy, IsNextBegun, begun_groups, end_behind_groups}
-use Rattle.run_outputs.specs.Groups.{group_behind, group_by, groups_of, waiting}
+use Rattle.run_effects.specs.Groups.{group_behind, group_by, groups_of, waiting}
 use Rattle.protocol.specs.Effects.{log_at}
 use Rattle.snap_outside.specs.Disk.{History, content, with_ops}
 use Rattle.snap_outside.specs.declared.devices.DevOp.{DevOp}

@@ -22,7 +22,7 @@ use Rattle.protocol.specs.Parts.{Log, Machine}
 use Rattle.protocol.specs.Runs.{reached}
 use Rattle.protocol.specs.Words.{holds, is_among}
 use Rattle.protocol_theorems.specs.Left.{most_events}
-use Rattle.run_outputs.specs.Groups.{waiting}
+use Rattle.run_effects.specs.Groups.{waiting}
 use Rattle.turn_table.specs.Places.{Ascending, Covers, Stand, count_if, numbers, replaced, values}
 use Rattle.turn_table.specs.Runs.{Run}
 use Rattle.crew_parts.proofs.Coming.{acts_come, begins, one_act}

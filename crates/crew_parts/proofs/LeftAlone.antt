@@ -12,7 +12,7 @@ use Rattle.protocol.specs.Moments.{NoneTouches}
 use Rattle.protocol.specs.Parts.{Machine}
 use Rattle.protocol.specs.Runs.{EachAllowed, IsRun, opening, reached}
 use Rattle.protocol.specs.Words.{is_among}
-use Rattle.run_outputs.specs.Groups.{group_behind, group_by, groups_of, waiting}
+use Rattle.run_effects.specs.Groups.{group_behind, group_by, groups_of, waiting}
 use Rattle.turn_table.specs.Places.{IsNoneOf}
 use Rattle.turn_table.specs.Runs.{AllLeave}
 use Rattle.txn_records.specs.declared.records.Record.{Record}

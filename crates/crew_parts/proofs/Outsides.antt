@@ -18,12 +18,12 @@ use Rattle.protocol.specs.Parts.{Desk, Log, Machine}
 use Rattle.protocol.specs.Runs.{reached}
 use Rattle.protocol.specs.Verdicts.{verdict}
 use Rattle.protocol.specs.Words.{holds, is_among}
-use Rattle.run_outputs.specs.Groups.{group_by, group_behind, groups_of, waiting}
-use Rattle.run_outputs.specs.Laws.{GroupsGrow, RepliesGrow, line_by}
-use Rattle.run_outputs.specs.Lines.{line_in, verdict_line, replies_text}
+use Rattle.run_effects.specs.Groups.{group_by, group_behind, groups_of, waiting}
+use Rattle.run_effects.specs.Laws.{GroupsGrow, RepliesGrow, line_by}
+use Rattle.run_effects.specs.Lines.{line_in, verdict_line, replies_text}
 use Rattle.crew_parts.proofs.Replacing.{some_of}
-use Rattle.run_journals.specs.Driven.{IsDriven}
-use Rattle.run_journals.proofs.Driving.{driven_join}
+use Rattle.run_effects.specs.Driven.{IsDriven}
+use Rattle.run_effects.proofs.Driving.{driven_join}
 use Rattle.snap_outside.specs.Causes.{Rose}
 use Rattle.snap_outside.proofs.AtFault.{calls_join}
 use Rattle.txn_records.specs.declared.records.Record.{Record}

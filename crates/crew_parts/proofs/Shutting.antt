@@ -16,7 +16,7 @@ use Rattle.protocol.specs.Events.{Event, Sync, footprint, log}
 use Rattle.protocol.specs.Fixed.{Fixed}
 use Rattle.protocol.specs.Parts.{Machine}
 use Rattle.protocol.specs.Words.{holds, is_among}
-use Rattle.run_outputs.specs.Groups.{waiting}
+use Rattle.run_effects.specs.Groups.{waiting}
 use Rattle.turn_table.specs.Places.{Covers, before, replaced, values}
 use Rattle.crew_parts.proofs.Replacing.{as_long, came_from, goes_as_many, replaced_tells, some_of}
 

@@ -13,13 +13,13 @@ use Rattle.protocol.specs.Effects.{after, log_at}
 use Rattle.protocol.specs.Events.{Event, Sync, Reply, desk, log, footprint}
 use Rattle.protocol.specs.Fixed.{Fixed}
 use Rattle.protocol.specs.Parts.{Machine}
-use Rattle.run_outputs.specs.Groups.{group_by, waiting}
-use Rattle.run_outputs.specs.Lines.{line_in}
+use Rattle.run_effects.specs.Groups.{group_by, waiting}
+use Rattle.run_effects.specs.Lines.{line_in}
 use Rattle.snap_hand.specs.Shown.{IsPartOf}
 use Rattle.snap_hand.specs.Tables.{fixed_of, text_of}
 use Rattle.snap_hand.specs.declared.tables.Tables.{Tables}
 use Rattle.snap_outside.specs.Causes.{Rose}
-use Rattle.run_journals.specs.Driven.{IsDriven}
+use Rattle.run_effects.specs.Driven.{IsDriven}
 use Rattle.txn_records.specs.declared.records.Record.{Record}
 
 abbrev pub meant : Act → Event

@@ -8,7 +8,7 @@ use Rattle.gate_log.specs.State.{LogState}
 use Rattle.gate_log.specs.declared.logs.AppendNo.{AppendNo}
 use Rattle.gate_log.specs.declared.logs.AppendNo.TheVariants as append
 use Rattle.protocol.specs.Events.{desk, log}
-use Rattle.run_journals.specs.Appending.{IsAppended, IsCutOff}
+use Rattle.run_effects.specs.Appending.{IsAppended, IsCutOff}
 use Rattle.snap_outside.specs.Causes.{Rose}
 use Rattle.snap_outside.specs.declared.schedules.Failed.{Failed}
 

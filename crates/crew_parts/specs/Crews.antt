@@ -14,11 +14,11 @@ use Rattle.protocol.specs.Fixed.{Fixed}
 use Rattle.protocol.specs.Parts.{Machine}
 use Rattle.protocol.specs.Runs.{IsRun, opening, reached}
 use Rattle.record_log.specs.declared.limits.TheConstants.{FARTHEST_APPEND}
-use Rattle.run_outputs.specs.Groups.{group_behind, groups_of}
-use Rattle.run_outputs.specs.Lines.{line_in, replies_text}
+use Rattle.run_effects.specs.Groups.{group_behind, groups_of}
+use Rattle.run_effects.specs.Lines.{line_in, replies_text}
 use Rattle.snap_hand.specs.Shown.{IsPartOf}
 use Rattle.snap_outside.specs.Causes.{Rose}
-use Rattle.run_journals.specs.Driven.{IsDriven}
+use Rattle.run_effects.specs.Driven.{IsDriven}
 use Rattle.turn_table.specs.Places.{at}
 
 -- ---- the beginning

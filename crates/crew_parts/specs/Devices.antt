@@ -13,8 +13,8 @@ use Rattle.protocol.specs.Fixed.{Fixed}
 use Rattle.protocol.specs.Moments.{Moment}
 use Rattle.protocol.specs.Words.{holds}
 use Rattle.record_log.specs.Growth.{GrewBy, begun_groups, end_behind_groups}
-use Rattle.run_outputs.specs.Groups.{group_behind, groups_of}
-use Rattle.run_outputs.specs.Made.{IsMade}
+use Rattle.run_effects.specs.Groups.{group_behind, groups_of}
+use Rattle.run_effects.specs.Made.{IsMade}
 use Rattle.snap_hand.specs.Tables.{fixed_of}
 use Rattle.snap_hand.specs.declared.tables.Tables.{Tables}
 use Rattle.snap_outside.specs.Disk.{History, AddsAll, content, with_ops}

@@ -9,7 +9,7 @@ use Rattle.protocol.specs.Footprints.{HasLogs, LeavesOthers}
 use Rattle.protocol.specs.Parts.{Machine}
 use Rattle.protocol.specs.Runs.{IsRun, reached}
 use Rattle.protocol.specs.Verdicts.{verdict}
-use Rattle.run_journals.specs.RunsOf.{RunsOf}
+use Rattle.run_effects.specs.RunsOf.{RunsOf}
 use Rattle.snap_base.specs.declared.verdicts.Verdict.{Verdict}
 
 -- what becomes of a transaction stays, from the first events to the others

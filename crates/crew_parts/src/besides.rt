@@ -5,8 +5,7 @@ ghost use Rattle.crew_parts.specs.Shares.{output_seen};
 
 use core_events::{DESK, FIRST_LOG};
 use gate_log::{AppendNo, Log};
-use run_journals::append_pieces;
-use run_outputs::write_all;
+use run_effects::{append_pieces, write_all};
 use snap_base::Sequence;
 use snap_outside::{Failed, LogDev, Sink};
 use std::alloc::Global;

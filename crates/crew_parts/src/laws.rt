@@ -22,7 +22,7 @@ use crate::shares::Share;
 use aml_slice::Control;
 use machine_laws::{texts_have_the_facts, verdicts_have_evidence};
 use protocol_laws::events_leave_other_parts;
-use run_journals::runs_of;
+use run_effects::runs_of;
 use snap_hand::Tables;
 use snap_outside::{LogDev, Sink};
 use turn_table::{histories_go_on, one_view_holds_it, runs_join, what_is_held_is_left};

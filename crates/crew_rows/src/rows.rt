@@ -11,7 +11,7 @@ use aml_serial::run_alone;
 use core_events::Event;
 use crew_host::{CrewEnd, MOST_WORKERS, drive_crew};
 use gate_log::{FARTHEST_END, Log};
-use run_journals::Stop;
+use run_effects::Stop;
 use snap_base::{ActorId, Memory, Place, State, TxNo, TxResult, Verdict};
 use snap_core::{Core, StepNo};
 use snap_hand::Tables;

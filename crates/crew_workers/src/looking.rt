@@ -13,7 +13,7 @@ use crate::sharing::Crew;
 use crate::workers::Worker;
 use core_events::{Event, RING, first_cell};
 use crew_grip::Grip;
-use hand_offers::{actor_count, list_book, list_cells, list_desk, list_post, list_ring};
+use ready_listing::{actor_count, list_book, list_cells, list_desk, list_post, list_ring};
 use snap_base::{ActorId, Memory};
 use snap_outside::{Gate, LogDev, Sink};
 

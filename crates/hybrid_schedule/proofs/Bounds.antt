@@ -7,7 +7,7 @@ use Rattle.std.proofs.lemmas.List.{take_more, map-append}
 use Rattle.snap_base.specs.declared.ids.Tid.{Tid}
 use Rattle.protocol.specs.Parts.{Slot}
 use Rattle.protocol.specs.OnCell.{done_if, not_done}
-use Rattle.machine_words.specs.Meant.{tid_number}
+use Rattle.protocol.specs.Meant.{tid_number}
 use Rattle.hybrid_schedule.specs.Slots.{is_slot_of, is_undone_of, is_within, are_within}
 
 within_more : (least greatest t u : ℕ) → is_within least greatest u ≡ true → is_within (min least t) (max greatest t) u ≡ true

@@ -4,7 +4,7 @@ ghost use Rattle.std.specs.List.{list_any, list_all};
 ghost use Rattle.protocol.specs.Parts.{ActEntry};
 ghost use Rattle.protocol.specs.Words.{is_batch_entry, is_act_entry, is_entry_of, is_clear, is_turn_of, has_undone, has_act, has_entry, who_on, is_complete_batch, is_all_done, ahead, batches_on, greatest, tail_group};
 ghost use Rattle.protocol.specs.OnCell.{reads_on};
-ghost use Rattle.machine_words.specs.Meant.{who_meant};
+ghost use Rattle.protocol.specs.Meant.{who_meant};
 ghost use Rattle.hybrid_schedule.specs.Schedules.{has_turn, is_incomplete, is_next_here, is_done_here, is_behind_no_act};
 ghost use Rattle.hybrid_schedule.specs.Cuts.{staying_below, is_cut_off};
 

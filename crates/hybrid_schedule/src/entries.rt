@@ -4,13 +4,13 @@ ghost use Rattle.protocol.specs.Left.{entry_left};
 ghost use Rattle.protocol.specs.Parts.{BatchEntry, ActEntry};
 ghost use Rattle.protocol.specs.Words.{is_batch_entry, is_act_entry, is_entry_of, who_of, is_reader_entry, is_complete_batch, is_turn_of, is_undone, is_all_done, batches_on, greatest};
 ghost use Rattle.protocol.specs.OnCell.{done_in, complete_in};
-ghost use Rattle.machine_words.specs.Meant.{tid_number, who_meant};
+ghost use Rattle.protocol.specs.Meant.{tid_number, who_meant};
 ghost use Rattle.hybrid_schedule.specs.Schedules.{is_any_act};
 ghost use Rattle.hybrid_schedule.specs.Cuts.{is_batch_from};
 ghost use Rattle.hybrid_schedule.specs.Listed.{incomplete_of, rival_of, undone_of};
 
 use crate::slots::Slots;
-use machine_words::unless;
+use protocol::unless;
 use snap_base::{Bid, Memory, Tid, Who};
 use std::alloc::Global;
 use std::marker::Model;

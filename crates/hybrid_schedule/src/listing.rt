@@ -1,7 +1,7 @@
 //! What stands on a schedule, listed. Each walks what stands there once.
 ghost use Rattle.std.specs.Prelude.{◌≡◌, map, IfOk};
 ghost use Rattle.protocol.specs.OnBook.{tids_on};
-ghost use Rattle.machine_words.specs.Meant.{tid_number};
+ghost use Rattle.protocol.specs.Meant.{tid_number};
 ghost use Rattle.hybrid_schedule.specs.Listed.{incomplete_on, rivals_among, undone_on};
 ghost use Rattle.hybrid_schedule.specs.Schedules.{rival_tids};
 

@@ -3,7 +3,7 @@ ghost use Rattle.std.specs.Prelude.{◌≡◌, ℕ, ◌+◌, ◌≤◌, ◌<◌,
 ghost use Rattle.protocol.specs.Words.{has_act, has_entry, has_undone, is_clear, who_on};
 ghost use Rattle.protocol.specs.OnCell.{reads_on};
 ghost use Rattle.protocol.specs.CellParts.{with_batch, with_act, with_done, with_complete, without_act, without_batch};
-ghost use Rattle.machine_words.specs.Meant.{sub_batch, who_meant};
+ghost use Rattle.protocol.specs.Meant.{sub_batch, who_meant};
 ghost use Rattle.hybrid_schedule.specs.Room.{KeepsRoom};
 ghost use Rattle.hybrid_schedule.specs.Schedules.{empty_since, has_turn, can_run, is_incomplete, is_next_here, is_done_here, can_complete, is_behind_no_act};
 ghost use Rattle.hybrid_schedule.specs.Cuts.{cut_from, is_cut_off};

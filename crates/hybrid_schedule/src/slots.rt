@@ -3,12 +3,12 @@ ghost use Rattle.std.specs.Prelude.{◌≡◌, ℕ, ◌-◌, ◌≤◌, ◌==◌
 ghost use Rattle.std.specs.List.{list_any, list_all};
 ghost use Rattle.protocol.specs.Left.{slot_left, total};
 ghost use Rattle.protocol.specs.OnCell.{not_done, done_if};
-ghost use Rattle.machine_words.specs.Meant.{tid_number};
+ghost use Rattle.protocol.specs.Meant.{tid_number};
 ghost use Rattle.hybrid_schedule.specs.Listed.{undone_in};
 ghost use Rattle.hybrid_schedule.specs.Slots.{is_slot_of, lets_run, is_undone_of, is_within};
 
 use crate::changes::push_in_room;
-use machine_words::unless;
+use protocol::unless;
 use snap_base::{Memory, Tid};
 use std::alloc::Global;
 use std::marker::Model;

@@ -1,2 +1,5 @@
 pub mod Placing
 pub mod SameKeys
+pub mod Durable
+pub mod Naming
+pub mod Telling

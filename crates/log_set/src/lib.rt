@@ -5,8 +5,15 @@
 //! host appends what `group` gives to the device, syncs it, and then says so by `mark_synced`.
 #![tactic(auto)]
 
+mod askings;
 mod copies;
+mod item;
+mod laws;
+mod part;
 mod pending;
 mod places;
 
+pub use item::Item;
+pub use laws::{records_are_told_once, records_have_the_keys_of_their_kinds};
+pub use part::LogPart;
 pub use pending::Pending;

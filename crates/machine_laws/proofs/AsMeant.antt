@@ -22,7 +22,7 @@ use Rattle.protocol_laws.specs.Linked.{IsExplained}
 use Rattle.protocol_theorems.specs.Order.{OrderHolds}
 use Rattle.protocol_records.specs.AsTold.{told_committed, ToldStands}
 use Rattle.protocol_records.specs.Crash.{CrashHolds, members}
-use Rattle.machine_code.specs.MethodCode.{finish, method_code}
+use Rattle.machine_laws.specs.MethodCode.{finish, method_code}
 use Rattle.machine_laws.specs.Programs.{IsTextOf, with_code, finish_of}
 use Rattle.machine_laws.specs.Meant.{meant_run, MeansWhatItDid, CommittedAsMeant, RecoveredAsMeant}
 use Rattle.machine_laws.proofs.Instances.{each_at}

@@ -8,7 +8,7 @@ use Rattle.aml_check.specs.Transactions.{IsTransaction}
 use Rattle.protocol.specs.Fixed.{Text, no_tx}
 use Rattle.protocol.specs.Facts.{Facts}
 use Rattle.protocol.specs.Rests.{HasFacts, IsTxIn, facts_of_rests}
-use Rattle.machine_code.specs.MethodCode.{method_code, finish, IsRestOf}
+use Rattle.machine_laws.specs.MethodCode.{method_code, finish, IsRestOf}
 use Rattle.machine_laws.specs.Programs.{IsTextOf, with_code, finish_of}
 
 -- what holds of each holds of the one at a number below the length

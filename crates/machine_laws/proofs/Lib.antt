@@ -3,3 +3,7 @@ pub mod Instances
 pub mod RestsMeant
 pub mod TextTxs
 pub mod ToldMeant
+pub mod Naming
+pub mod Askings
+pub mod MachineFacts
+pub mod Executions

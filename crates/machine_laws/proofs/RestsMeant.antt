@@ -13,7 +13,7 @@ use Rattle.protocol.specs.Effects.{cell_at}
 use Rattle.protocol.specs.History.{History}
 use Rattle.protocol.specs.Rests.{Leads}
 use Rattle.protocol_theorems.specs.Controls.{IsRestOn, GoesOnAsRest, ControlsAreRests}
-use Rattle.machine_code.specs.MethodCode.{method_code, finish, IsRestOf}
+use Rattle.machine_laws.specs.MethodCode.{method_code, finish, IsRestOf}
 use Rattle.machine_laws.specs.Controls.{MayRunOn, MayGoOn, ControlsMayRun}
 use Rattle.machine_laws.specs.Programs.{IsTextOf, with_code}
 use Rattle.machine_laws.proofs.Instances.{HaveFacts, may_be_asked}

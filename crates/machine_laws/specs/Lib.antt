@@ -1,3 +1,4 @@
 pub mod Controls
 pub mod Meant
 pub mod Programs
+pub mod MethodCode

@@ -25,7 +25,7 @@ use Rattle.protocol_laws.specs.Linked.{Agrees}
 use Rattle.protocol_records.specs.AsTold.{told_committed}
 use Rattle.protocol_records.specs.Crash.{members, recovered_state}
 use Rattle.protocol_verdicts.specs.EvidenceSerial.{counts, counted, ByTid}
-use Rattle.serial_words.specs.Outcomes.{Serial}
+use Rattle.snap_base.specs.Outcomes.{Serial}
 
 -- These, one after the other in the order of their places, from the opening's states.
 abbrev pub meant_run : List CheckedMethod → Fixed Rest → List Done → Serial

@@ -15,7 +15,7 @@ use Rattle.protocol.specs.Runs.{IsRun, reached}
 use Rattle.protocol.specs.History.{History, history}
 use Rattle.protocol.specs.Records.{LogRecord}
 use Rattle.protocol.specs.Moments.{Moment, IsLeft, left_in}
-use Rattle.machine_code.specs.MethodCode.{method_code, finish}
+use Rattle.machine_laws.specs.MethodCode.{method_code, finish}
 
 -- An accepted text of the program: within the limits, and each of its transactions may be asked of the program, over as many
 -- actors as the opening has states.

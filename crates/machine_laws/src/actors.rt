@@ -5,9 +5,9 @@ ghost use Rattle.protocol_theorems.specs.OnActors.{AllLieInOrder, LimitsHold, Re
 ghost use Rattle.machine_laws.specs.Controls.{ControlsMayRun};
 ghost use Rattle.machine_laws.specs.Programs.{AfterEveryRunOf};
 
+use crate::code_has_the_facts;
 use aml_check::Checked;
 use aml_slice::Control;
-use machine_code::code_has_the_facts;
 
 /// On every actor batches ascend, each image is of an entry, and nothing has run behind an entry that is no complete batch,
 /// ACTs that only read aside. A cell that has not seen all cascades holds aborted batches exactly from the first one of the

@@ -6,9 +6,9 @@ ghost use Rattle.protocol_theorems.specs.BookFits.{HalvesGoOn};
 ghost use Rattle.protocol_theorems.specs.OrderCases.{CasesHold, SchedulesInOrder};
 ghost use Rattle.machine_laws.specs.Programs.{AfterEveryRunOf};
 
+use crate::code_has_the_facts;
 use aml_check::Checked;
 use aml_slice::Control;
-use machine_code::code_has_the_facts;
 
 /// An allowed event finds in the halves of the book what it asks of them, and they go on as the halves of the book after it.
 pub fn halves_go_on(program: &Checked)

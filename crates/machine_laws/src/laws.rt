@@ -16,9 +16,9 @@ ghost use Rattle.protocol_theorems.specs.Waits.{WaitsEnd};
 ghost use Rattle.machine_laws.specs.Meant.{CommittedAsMeant, RecoveredAsMeant, VerdictsAsMeant};
 ghost use Rattle.machine_laws.specs.Programs.{AfterEveryRunOf, AtEveryMomentOf, OfEveryRunOf};
 
+use crate::{alone_as_meant, code_has_the_facts, serial_as_meant};
 use aml_check::Checked;
 use aml_slice::Control;
-use machine_code::{alone_as_meant, code_has_the_facts, serial_as_meant};
 
 /// Run one after the other in the order of their places, the transactions that committed give the results that they
 /// had; no two places are equal; on each actor states link in the order of placing, and places rise, but for two ACTs that

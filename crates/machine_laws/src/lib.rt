@@ -6,6 +6,7 @@
 
 mod actors;
 mod cases;
+mod code;
 mod laws;
 mod records;
 mod texts;
@@ -14,6 +15,7 @@ pub use actors::{actors_lie_in_order, controls_may_run, limits_hold, readers_see
 pub use cases::{
     cases_of_order, halves_go_on, schedules_are_in_order, undo_gives_the_state_before,
 };
+pub use code::{alone_as_meant, askings_are_the_controls, code_has_the_facts, serial_as_meant};
 pub use laws::{
     committed_transactions_are_as_meant, committed_transactions_are_in_order,
     conditions_are_as_agreed, every_run_ends, nobody_waits_in_a_circle,

@@ -6,9 +6,9 @@ ghost use Rattle.protocol_records.specs.NextNumbers.{NextNumbersStand};
 ghost use Rattle.protocol_records.specs.RecordLaws.{MarksAreDurable, RecordsAddedOnce, RecordsAreFew, RecordsTell};
 ghost use Rattle.machine_laws.specs.Programs.{AfterEveryRunOf, AtEveryMomentOf};
 
+use crate::code_has_the_facts;
 use aml_check::Checked;
 use aml_slice::Control;
-use machine_code::code_has_the_facts;
 
 /// Each record lies in the log of its batch, actor or ACT, and no two of a run are about the same.
 pub fn records_are_added_once(program: &Checked)

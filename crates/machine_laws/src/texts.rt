@@ -3,8 +3,8 @@
 ghost use Rattle.aml_check.specs.Checked.{methods_of};
 ghost use Rattle.machine_laws.specs.Programs.{TextsHaveFacts};
 
+use crate::code_has_the_facts;
 use aml_check::Checked;
-use machine_code::code_has_the_facts;
 
 /// The code of each text of the program has the facts that the machine uses, of the text's own transactions.
 pub fn texts_have_the_facts(program: &Checked)

@@ -7,7 +7,7 @@ use Rattle.std.specs.Option.{option_map}
 use Rattle.std.proofs.lemmas.List.Folds.{find_at}
 use Rattle.std.proofs.lemmas.Option.{same_Some, none-some}
 use Rattle.snap_base.specs.declared.ids.Tid.{Tid}
-use Rattle.machine_words.specs.Meant.{tid_number}
+use Rattle.protocol.specs.Meant.{tid_number}
 use Rattle.protocol.specs.Parts.{Act}
 use Rattle.protocol.specs.Words.{act_of}
 use Rattle.protocol.specs.OnBook.{change_if, changed_act}

@@ -1,7 +1,7 @@
 //! The answer of wait-die to an ACT that asks for an actor.
 ghost use Rattle.std.specs.Prelude.{◌≡◌, nat_lt, if◌then◌else◌, List};
 ghost use Rattle.std.specs.Option.{option_map};
-ghost use Rattle.machine_words.specs.Meant.{tid_number};
+ghost use Rattle.protocol.specs.Meant.{tid_number};
 ghost use Rattle.protocol.specs.Rivals.{Lock};
 ghost use Rattle.protocol.specs.Words.{least_of, least_older};
 ghost use Rattle.order_book.specs.Asked.{AreLocksOf, locks_of, answer_by};

@@ -2,7 +2,7 @@
 ghost use Rattle.std.specs.Prelude.{◌≡◌, ℕ, ◌<◌, ◌==◌, not, max, IsTrue, List, [], ◌∷◌, ◌++◌, map, is_some, OnOk, OnErr, Some, None, IfSome, find};
 ghost use Rattle.std.specs.List.{All};
 ghost use Rattle.std.specs.Option.{option_map};
-ghost use Rattle.machine_words.specs.Meant.{tid_number};
+ghost use Rattle.protocol.specs.Meant.{tid_number};
 ghost use Rattle.protocol.specs.Rivals.{Lock};
 ghost use Rattle.protocol.specs.Words.{act_of, count, holds, is_doomed, is_live_act, is_live_status, is_ordered, joined_of};
 ghost use Rattle.protocol.specs.Verdicts.{died};

@@ -1,6 +1,6 @@
 //! What is asked of the orders when all events that ACTs may have are looked for.
 ghost use Rattle.std.specs.Prelude.{◌≡◌, ◌≤◌, [], map, take, filter, length, IfOk};
-ghost use Rattle.machine_words.specs.Meant.{tid_number};
+ghost use Rattle.protocol.specs.Meant.{tid_number};
 ghost use Rattle.protocol.specs.Words.{count, is_live_act};
 ghost use Rattle.order_book.specs.Kept.{is_live_kept, tid_kept};
 ghost use Rattle.order_book.specs.Registered.{act_tids};

@@ -1,6 +1,6 @@
 //! What is done where an ACT or a batch comes to an actor.
 ghost use Rattle.std.specs.Prelude.{◌≡◌, List, [], ◌∷◌, ◌++◌, map, OnOk, OnErr, IfOk, if◌then◌else◌};
-ghost use Rattle.machine_words.specs.Meant.{tid_number};
+ghost use Rattle.protocol.specs.Meant.{tid_number};
 ghost use Rattle.protocol.specs.OnBook.{joins, lowered, new_pairs};
 ghost use Rattle.order_book.specs.Asked.{locks_of};
 ghost use Rattle.order_book.specs.Changes.{changed_at};

@@ -2,7 +2,7 @@
 ghost use Rattle.std.specs.Prelude.{◌≡◌, ◌<◌, ◌≤◌, ◌+◌, ◌==◌, ◌^◌, ℕ, map, List, [], ◌∷◌, ◌++◌, length, if◌then◌else◌, OnOk, OnErr, slice_get, slice_index, slice_index_or, find, IfSome, None, drop, vec_len, vec_capacity};
 ghost use Rattle.std.specs.List.{All, position_or_len};
 ghost use Rattle.std.specs.Option.{option_map};
-ghost use Rattle.machine_words.specs.Meant.{tid_number};
+ghost use Rattle.protocol.specs.Meant.{tid_number};
 ghost use Rattle.protocol.specs.Words.{act_of, count, holds, is_doomed, is_live_act};
 ghost use Rattle.protocol.specs.OnBook.{new_act, joins};
 ghost use Rattle.order_book.specs.Asked.{tid_of_act};

@@ -1,6 +1,6 @@
 -- What is counted of messages: in the order of posting as much as in any.
 use Rattle.std.proofs.Common.{◌≡◌, ℕ, zero, suc, ◌+◌, eqb, List, [], ◌∷◌, refl, ap, ◌∙◌, arith}
-use Rattle.machine_words.proofs.Totals.{total-append, total-cond, total-map}
+use Rattle.protocol.proofs.Totals.{total-append, total-cond, total-map}
 use Rattle.protocol.specs.Left.{total}
 use Rattle.post_box.specs.declared.numbered.Numbered.{Numbered}
 use Rattle.post_box.specs.Order.{numbered, in_order, IsNumbered}

@@ -1,7 +1,7 @@
 -- What is kept of messages, as the machine's messages.
 use Rattle.std.specs.Prelude.{ℕ, map}
 use Rattle.snap_base.specs.declared.ids.Tid.{Tid}
-use Rattle.machine_words.specs.Meant.{tid_number, who_meant}
+use Rattle.protocol.specs.Meant.{tid_number, who_meant}
 use Rattle.protocol.specs.Parts.{SubBatch, ControlMessage}
 use Rattle.post_box.specs.declared.keys.SubKey.{SubKey}
 use Rattle.post_box.specs.declared.kept.SubRest.{SubRest}

@@ -10,7 +10,7 @@ use crate::numbered::Numbered;
 use crate::post::Post;
 use crate::posted::Posted;
 use indexmap::IndexMap;
-use machine_words::Visits;
+use protocol::Visits;
 use snap_base::Tid;
 
 impl<C: Drop> Post<C> {

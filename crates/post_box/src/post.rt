@@ -3,7 +3,7 @@ ghost use Rattle.std.specs.Prelude.{◌≡◌, ◌+◌, ◌<◌, ◌≤◌, is_s
 ghost use Rattle.std.specs.Option.{option_map};
 ghost use Rattle.protocol.specs.OnPost.{sub_taken, control_taken};
 ghost use Rattle.protocol.specs.Words.{sub_of, control_of};
-ghost use Rattle.machine_words.specs.Meant.{actor_number, sub_batch, who_meant};
+ghost use Rattle.protocol.specs.Meant.{actor_number, sub_batch, who_meant};
 ghost use Rattle.post_box.specs.Posting.{sub_posted, control_posted, control_message, message_control, message_to, message_who};
 
 use crate::head::SubHead;

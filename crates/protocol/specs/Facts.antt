@@ -5,7 +5,7 @@ use Rattle.snap_base.specs.declared.transactions.State.{State}
 use Rattle.snap_base.specs.declared.transactions.Tx.{Tx}
 use Rattle.snap_base.specs.declared.transactions.TxResult.{TxResult}
 use Rattle.snap_base.specs.declared.transactions.TxResult.TheVariants.{Value, Fail}
-pub use Rattle.serial_words.specs.Outcomes.{Alone, Serial}
+pub use Rattle.snap_base.specs.Outcomes.{Alone, Serial}
 use Rattle.protocol.specs.Fixed.{Next, Go, Ended, Code, no_state, is_pact, root, declared}
 use Rattle.protocol.specs.Words.{is_among}
 

@@ -33,3 +33,4 @@ pub mod Spread
 pub mod Standing
 pub mod Verdicts
 pub mod Words
+pub mod Meant

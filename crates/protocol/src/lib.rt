@@ -2,3 +2,9 @@
 //! what it does. `specs/` is to be read in the order that docs/protocol.md gives. The laws are in
 //! protocol_laws, worked runs in protocol_runs.
 #![tactic(auto)]
+
+mod formed;
+mod left;
+
+pub use formed::Formed;
+pub use left::{Visits, unless};

@@ -15,7 +15,7 @@ use Rattle.ready_renewal.specs.Asked.{IsWith}
 use Rattle.ready_renewal.specs.Covering.{Covers}
 use Rattle.ready_renewal.proofs.KeptEvents.{new_is}
 use Rattle.snap_hand.specs.Hands.{Parts}
-use Rattle.touched_events.specs.New.{IsBehind, is_new}
+use Rattle.ready_news.specs.New.{IsBehind, is_new}
 
 pub extended : (w : Fixed Rest) (h : Parts) (e : Event) (news old new : List Event)
     → ((w : Fixed Rest) (e : Event) (s : Machine Rest) → HasRun w s → IsAllowed w e s → HasRun w (after w e s))

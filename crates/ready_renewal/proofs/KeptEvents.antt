@@ -21,7 +21,7 @@ use Rattle.protocol_ready.specs.Touched.{is_abort, is_touched}
 use Rattle.ready_list.specs.Order.{IsGap, at, is_before}
 use Rattle.ready_renewal.specs.Asked.{AreAsked, AreRefused, IsAllowedOn, IsAsked, IsPutIn, IsOwn, IsRefusedOn, IsWith, IsWithout}
 use Rattle.snap_hand.specs.Hands.{Parts}
-use Rattle.touched_events.specs.New.{IsBehind, is_new}
+use Rattle.ready_news.specs.New.{IsBehind, is_new}
 
 -- ---- lists
 

@@ -9,7 +9,7 @@ ghost use Rattle.ready_renewal.specs.Covering.{Covers, Extends};
 ghost use Rattle.snap_hand.specs.Hands.{IsHandOf, IsWhole};
 ghost use Rattle.snap_hand.specs.Steps.{OnSomeRun};
 ghost use Rattle.snap_hand.specs.Tables.{AreTables, fixed_of};
-ghost use Rattle.touched_events.specs.New.{IsBehind};
+ghost use Rattle.ready_news.specs.New.{IsBehind};
 
 use crate::refused::refused;
 use crate::revising::{put_in, take_out};
@@ -19,10 +19,10 @@ use core_rows::runs_go_on;
 use protocol_laws::allowed_or_refused;
 use protocol_ready::{parts_tell_all, renewed_are_enabled, states_are_sound, untouched_stay};
 use ready_list::ReadyList;
+use ready_news::touched;
 use snap_base::Memory;
 use snap_hand::{Hand, Tables};
 use std::alloc::Global;
-use touched_events::touched;
 
 /// Makes of all allowed events before the event, which was just taken, all allowed events after it. All parts are at hand, as
 /// they are after it. For want of memory the list is as it was. `news` is for lists that are made on the way: what is in it is

@@ -27,7 +27,7 @@ use Rattle.snap_recover.specs.Opening.{IsIn, IsInfoOf, HasItsValues, IsActOf, ac
 use Rattle.snap_recover.proofs.Lists.{all_append, all_weaker, all_both, contains_here, contains_there, contains_left, contains_right}
 use Rattle.snap_recover.proofs.Greatest.{each_below}
 use Rattle.protocol_laws.proofs.Lemmas.{found_bid, found_tid}
-use Rattle.record_words.specs.Told.{bid_of, tid_of, tids_of, actors_of}
+use Rattle.log_set.specs.Told.{bid_of, tid_of, tids_of, actors_of}
 use Rattle.recovery_laws.specs.Grown.{grown, recovered_batch, commit_number_of, told_value, recovered_act, recovered_batches, all_in}
 use Rattle.recovery_laws.proofs.KnownLogs.{Apart, Known, all_at, old_low, in_old, in_cases, in_stays, in_new, old_acts_low, act_cases}
 use Rattle.recovery_laws.proofs.WholesGrown.{info_stays, info_new, done_stays, done_new, commit_stays, commit_new}

@@ -13,7 +13,7 @@ use Rattle.snap_recover.specs.declared.openings.Kept.{Kept}
 use Rattle.snap_recover.specs.declared.openings.Kept.TheVariants as kept
 use Rattle.snap_recover.specs.Opening.{ComesBefore}
 use Rattle.snap_recover.proofs.Lists.{all_append, all_weaker, contains_cases, contains_here, contains_there}
-use Rattle.record_words.specs.Told.{bid_of, tid_of}
+use Rattle.log_set.specs.Told.{bid_of, tid_of}
 use Rattle.recovery_laws.specs.Grown.{comes_before, put_recovered, commit_number_of, told_value, recovered_act, with_acts}
 use Rattle.recovery_laws.proofs.KnownLogs.{Apart}
 

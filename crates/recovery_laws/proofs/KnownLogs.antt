@@ -22,7 +22,7 @@ use Rattle.snap_recover.specs.Opening.{IsIn, IsActIn, IsInRange, IsRecovered}
 use Rattle.snap_recover.proofs.Lists.{all_left, all_right, all_contains, contains_unmap}
 use Rattle.snap_recover.proofs.Growing.{has_left, has_right, has_cases}
 use Rattle.snap_recover.proofs.Greatest.{each_below}
-use Rattle.record_words.specs.Told.{bid_of, tid_of, all_told}
+use Rattle.log_set.specs.Told.{bid_of, tid_of, all_told}
 use Rattle.recovery_laws.specs.Grown.{grown, BeginsWith}
 use Rattle.recovery_laws.proofs.WrittenLists.{has_commit, commit_has, has_act, act_has, act_tids, act_from, batch_bids, commit_from, grown_length, grown_at}
 

@@ -13,7 +13,7 @@ use Rattle.snap_recover.specs.declared.openings.Opening.{Opening}
 use Rattle.snap_recover.specs.Logs.{tids_in, bids_in, commits_in}
 use Rattle.snap_recover.specs.Opening.{IsStateOf, greatest, IsInRange, IsRecovered}
 use Rattle.snap_recover.proofs.Lists.{zip_length}
-use Rattle.record_words.specs.Told.{all_told}
+use Rattle.log_set.specs.Told.{all_told}
 use Rattle.recovery_laws.specs.Grown.{grown, opening_after}
 use Rattle.recovery_laws.proofs.WrittenLists.{tids_written, bids_written, cs_written, grown_length, grown_genesis, grown_all, all_from, grown_greatest, greatest_written}
 use Rattle.recovery_laws.proofs.KnownLogs.{Known}

@@ -26,7 +26,7 @@ use Rattle.snap_recover.specs.declared.openings.Opening.{Opening}
 use Rattle.snap_recover.specs.declared.ranges.TheConstants.{GREATEST_NUMBER}
 use Rattle.snap_recover.specs.Opening.{IsInRange, IsRecovered}
 use Rattle.snap_recover.proofs.Lists.{all_weaker}
-use Rattle.record_words.specs.Told.{told, all_told}
+use Rattle.log_set.specs.Told.{told, all_told}
 use Rattle.recovery_laws.specs.Grown.{BeginsWith}
 use Rattle.protocol_records.specs.SeveralRuns.{recovered_from}
 use Rattle.protocol_theorems.specs.Sizes.{SizesHold}

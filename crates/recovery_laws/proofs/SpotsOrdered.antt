@@ -18,7 +18,7 @@ use Rattle.snap_recover.specs.declared.openings.Kept.{Kept}
 use Rattle.snap_recover.specs.declared.openings.Kept.TheVariants as kept
 use Rattle.snap_recover.specs.Opening.{ComesBefore}
 use Rattle.snap_recover.proofs.Lists.{all_append, all_both, all_of_each, all_contains, contains_cases, contains_here, contains_there, contains_none, contains_left, contains_right}
-use Rattle.record_words.specs.Told.{tids_of}
+use Rattle.log_set.specs.Told.{tids_of}
 use Rattle.recovery_laws.specs.Grown.{PlacedResult, answer_of, answer_at, batch_answers, answers_of}
 use Rattle.recovery_laws.proofs.InOrder.{Rises}
 

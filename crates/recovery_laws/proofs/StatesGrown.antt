@@ -17,7 +17,7 @@ use Rattle.snap_recover.specs.Logs.{log_of, tids_in, bids_in}
 use Rattle.snap_recover.specs.Opening.{Counts, IsStateOf}
 use Rattle.snap_recover.specs.Passes.{StateOver}
 use Rattle.snap_recover.proofs.StatesOver.{Agree, over_alike}
-use Rattle.record_words.specs.Told.{bid_of, tid_of}
+use Rattle.log_set.specs.Told.{bid_of, tid_of}
 use Rattle.recovery_laws.specs.Grown.{grown}
 use Rattle.recovery_laws.proofs.WrittenLists.{act_tids, batch_bids, Counted, over_written}
 use Rattle.recovery_laws.proofs.KnownLogs.{Known, log_grown, old_low, in_old, in_cases, in_stays, in_new, new_low, old_acts_low, act_old, act_cases, act_stays, act_new, new_act_low}

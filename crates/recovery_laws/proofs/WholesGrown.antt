@@ -21,7 +21,7 @@ use Rattle.snap_recover.specs.Logs.{HasKey, log_of}
 use Rattle.snap_recover.specs.Opening.{IsIn, IsInfoOf, IsCommitOf, HasCompleted, IsBatchWhole, IsActIn, IsActOf, act_record, HasPrepared, IsActWhole}
 use Rattle.snap_recover.proofs.Lists.{all_append, all_weaker}
 use Rattle.snap_recover.proofs.Growing.{has_left, has_right}
-use Rattle.record_words.specs.Told.{bid_of, tid_of, actor_of, tids_of, actors_of, all_told}
+use Rattle.log_set.specs.Told.{bid_of, tid_of, actor_of, tids_of, actors_of, all_told}
 use Rattle.recovery_laws.specs.Grown.{grown}
 use Rattle.recovery_laws.proofs.WrittenLists.{written_join, complete_has, prepare_has, no_act, no_info, no_done, info_above}
 use Rattle.recovery_laws.proofs.KnownLogs.{Known, log_grown, in_old, in_cases, new_low, act_old, act_cases, new_act_low}

@@ -22,7 +22,7 @@ use Rattle.snap_recover.specs.Passes.{StateOver}
 use Rattle.snap_recover.proofs.Lists.{contains_here, contains_there, contains_cases, contains_none, all_append}
 use Rattle.snap_recover.proofs.Greatest.{greatest_of}
 use Rattle.snap_recover.proofs.StatesOver.{over_quiet, over_counts}
-use Rattle.record_words.specs.Told.{bid_of, tid_of, actor_of, tids_of, actors_of, told, all_told}
+use Rattle.log_set.specs.Told.{bid_of, tid_of, actor_of, tids_of, actors_of, told, all_told}
 use Rattle.recovery_laws.specs.Grown.{grown_from}
 
 -- ---- joins

@@ -13,7 +13,7 @@ use Rattle.protocol.specs.History.{Done}
 use Rattle.protocol_records.specs.Crash.{is_in}
 use Rattle.protocol_records.specs.NextNumbers.{next_tid_of, next_bid_of, next_c_of}
 use Rattle.protocol_records.specs.SeveralRuns.{recovered_from}
-use Rattle.record_words.specs.Told.{bid_of, tid_of, tids_of, all_told}
+use Rattle.log_set.specs.Told.{bid_of, tid_of, tids_of, all_told}
 use Rattle.txn_records.specs.declared.records.Record.{Record}
 use Rattle.snap_recover.specs.declared.openings.Kept.{Kept}
 use Rattle.snap_recover.specs.declared.openings.Kept.TheVariants as kept

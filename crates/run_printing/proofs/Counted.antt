@@ -10,8 +10,8 @@ use Rattle.protocol.specs.Report.{Answer, answer, answers, is_committed}
 use Rattle.protocol.specs.Verdicts.{verdict}
 use Rattle.protocol.specs.Words.{count, holds}
 use Rattle.protocol.specs.Left.{total}
-use Rattle.run_outputs.specs.Laws.{settles}
-use Rattle.run_outputs.specs.Replies.{commits_of, aborts_of}
+use Rattle.run_effects.specs.Laws.{settles}
+use Rattle.run_effects.specs.Replies.{commits_of, aborts_of}
 use Rattle.run_printing.specs.Counted.{settled_by}
 
 count_one : {X : Type 0} (test : X → Bool) (x : X) (xs : List X) → count test (x ∷ xs) ≡ one_if (test x) + count test xs

@@ -3,7 +3,7 @@
 use Rattle.std.specs.Prelude.{◌≡◌, ℕ}
 use Rattle.protocol.specs.Events.{Event, Settle}
 use Rattle.protocol.specs.Parts.{Machine}
-use Rattle.run_outputs.specs.Replies.{commits_of, aborts_of}
+use Rattle.run_effects.specs.Replies.{commits_of, aborts_of}
 use Rattle.run_printing.specs.declared.counts.Counts.{Counts}
 
 -- whether the event settles a batch

@@ -13,7 +13,7 @@ ghost use Rattle.snap_core.specs.Cores.{IsAt, state_at};
 use aml_slice::Control;
 use core_events::Event;
 use machine_laws::every_run_ends;
-use run_outputs::batches_are_counted;
+use run_effects::batches_are_counted;
 use snap_base::Verdict;
 use snap_core::Core;
 

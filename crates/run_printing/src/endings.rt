@@ -3,7 +3,7 @@ ghost use Rattle.std.specs.Prelude.{◌≡◌, ◌≤◌, ◌++◌, List, map, I
 ghost use Rattle.std.specs.Io.KnownBytes.{Appends};
 ghost use Rattle.core_events.specs.Meant.{event_meant};
 ghost use Rattle.protocol.specs.Events as machine;
-ghost use Rattle.run_outputs.specs.Lines.{ending_text};
+ghost use Rattle.run_effects.specs.Lines.{ending_text};
 ghost use Rattle.run_printing.specs.Printed.{AppendsFront};
 ghost use Rattle.snap_core.specs.Cores.{IsAt, state_at};
 ghost use Rattle.snap_hand.specs.Tables.{fixed_of};

@@ -4,7 +4,7 @@ ghost use Rattle.std.specs.Io.KnownBytes.{Appends};
 ghost use Rattle.run_printing.specs.Printed.{AppendsFront};
 ghost use Rattle.snap_outside.specs.Causes.{Rose, EndsAtFault};
 
-use run_outputs::write_all;
+use run_effects::write_all;
 use snap_base::Memory;
 use snap_outside::Sink;
 

@@ -13,7 +13,7 @@ use Rattle.gate_log.specs.Appends.{end_behind}
 use Rattle.run_opening.specs.Begins.{AreOfRuns, Begins}
 use Rattle.run_opening.specs.Opens.{first_groups, records_at, with_first}
 use Rattle.run_opening.specs.Starts.{IsStart}
-use Rattle.run_outputs.specs.Groups.{group_behind, groups_of}
+use Rattle.run_effects.specs.Groups.{group_behind, groups_of}
 use Rattle.snap_outside.specs.declared.devices.DevOp.{DevOp}
 use Rattle.snap_outside.specs.Disk.{History, IsImage, content, disk, disk_after, settled}
 use Rattle.snap_recover.specs.declared.openings.Opening.{Opening}

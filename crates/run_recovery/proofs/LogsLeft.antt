@@ -20,15 +20,15 @@ use Rattle.protocol.specs.Runs.{IsRun, reached}
 use Rattle.record_log.specs.Growth.{HoldsWhole, IsTried, MayAppendGroup, MayAppendGroups, GrewBy, all_records, begun_groups, end_behind_groups}
 use Rattle.record_log.specs.GrowthLaws.{MomentKeeps}
 use Rattle.record_log.specs.Records.{HoldsRecords, spelled}
-use Rattle.record_words.specs.Told.{all_told, told}
+use Rattle.log_set.specs.Told.{all_told, told}
 use Rattle.recovery_laws.specs.Grown.{grown, grown_from}
 use Rattle.run_opening.specs.Opens.{as_groups, first_groups, records_at, with_first}
-use Rattle.run_outputs.specs.Groups.{durable, group_behind, groups_of, waiting}
-use Rattle.run_outputs.specs.Laws.{GroupsAreDurable}
+use Rattle.run_effects.specs.Groups.{durable, group_behind, groups_of, waiting}
+use Rattle.run_effects.specs.Laws.{GroupsAreDurable}
 use Rattle.snap_outside.specs.declared.devices.DevOp.{DevOp}
 use Rattle.snap_outside.specs.Disk.{History, IsImage, content, disk, disk_after, settled}
 use Rattle.txn_records.specs.declared.records.Record.{Record}
-use Rattle.run_outputs.specs.Made.{IsMade}
+use Rattle.run_effects.specs.Made.{IsMade}
 use Rattle.run_recovery.specs.Crashes.{CrashOn, begun_on, earlier}
 use Rattle.run_recovery.specs.OneRun.{TheRun, MomentOf, machine_in, reached_at}
 use Rattle.run_recovery.specs.Runs.{IsRunDevice, tried_on}

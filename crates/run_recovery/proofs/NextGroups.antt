@@ -11,7 +11,7 @@ use Rattle.protocol.specs.Parts.{Log, Machine}
 use Rattle.protocol.specs.Runs.{opening, reached, state_after}
 use Rattle.protocol.specs.Words.{is_among}
 use Rattle.record_log.specs.Growth.{begun_groups}
-use Rattle.run_outputs.specs.Groups.{group_behind, group_by, groups_from, groups_of, waiting}
+use Rattle.run_effects.specs.Groups.{group_behind, group_by, groups_from, groups_of, waiting}
 use Rattle.txn_records.specs.declared.records.Record.{Record}
 use Rattle.run_recovery.specs.Runs.{tried_on}
 

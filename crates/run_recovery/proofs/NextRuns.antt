@@ -8,7 +8,7 @@ use Rattle.protocol.specs.Moments.{left_in}
 use Rattle.protocol.specs.Records as written
 use Rattle.protocol.specs.Records.{LogRecord}
 use Rattle.recovery_laws.specs.Grown.{grown, grown_from}
-use Rattle.record_words.specs.Told.{all_told}
+use Rattle.log_set.specs.Told.{all_told}
 use Rattle.run_opening.specs.Begins.{AreEmpty, BeganWith, Begins}
 use Rattle.run_opening.specs.Opens.{with_first}
 use Rattle.run_opening.specs.Starts.{IsStart}

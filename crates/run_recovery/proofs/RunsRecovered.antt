@@ -20,7 +20,7 @@ use Rattle.record_log.specs.GrowthLaws.{MomentKeeps}
 use Rattle.record_log.specs.Records.{HoldsRecords}
 use Rattle.recovery_laws.specs.Joined.{RecoversToMembers}
 use Rattle.run_opening.specs.Opens.{records_at}
-use Rattle.run_outputs.specs.Laws.{GroupsAreDurable}
+use Rattle.run_effects.specs.Laws.{GroupsAreDurable}
 use Rattle.snap_base.specs.declared.transactions.State.{State}
 use Rattle.snap_recover.specs.declared.openings.Opening.{Opening}
 use Rattle.snap_recover.specs.Opening.{IsRecovered}

@@ -5,7 +5,7 @@ use Rattle.std.proofs.lemmas.List.{append-nil}
 use Rattle.log_opening.specs.Kept.{IsSaid, logs_said}
 use Rattle.protocol.specs.Records as written
 use Rattle.protocol.specs.Records.{LogRecord}
-use Rattle.record_words.specs.Told.{all_told}
+use Rattle.log_set.specs.Told.{all_told}
 use Rattle.recovery_laws.specs.Grown.{grown, grown_from}
 use Rattle.run_opening.specs.Begins.{AreOfRuns}
 use Rattle.run_opening.specs.Opens.{with_first}

@@ -10,8 +10,8 @@ use Rattle.record_log.specs.Records.{HoldsRecords}
 use Rattle.recovery_laws.specs.Grown.{grown}
 use Rattle.recovery_laws.specs.Joined.{RecoversToMembers}
 use Rattle.run_opening.specs.Opens.{first_groups, records_at, with_first}
-use Rattle.run_outputs.specs.Groups.{groups_of, group_behind}
-use Rattle.run_outputs.specs.Made.{IsMade}
+use Rattle.run_effects.specs.Groups.{groups_of, group_behind}
+use Rattle.run_effects.specs.Made.{IsMade}
 use Rattle.run_recovery.specs.OneRun.{TheRun, MomentOf, alone_in, history_at, machine_in, reached_at}
 use Rattle.run_recovery.specs.Runs.{tried_on}
 use Rattle.snap_outside.specs.declared.devices.DevOp.{DevOp}

@@ -15,7 +15,7 @@ use Rattle.protocol_schedule.specs.Draw.{IsFrontOfSeed}
 use Rattle.record_log.specs.Growth.{GrewBy}
 use Rattle.run_opening.specs.Opens.{HasRoomToBegin, first_groups, records_at}
 use Rattle.run_opening.specs.Starts.{IsStart}
-use Rattle.run_outputs.specs.Groups.{groups_of, group_behind}
+use Rattle.run_effects.specs.Groups.{groups_of, group_behind}
 use Rattle.run_recovery.specs.Schedules.{Schedule, seeded, free, IsTakenBy}
 use Rattle.snap_outside.specs.Disk.{History}
 use Rattle.snap_recover.specs.declared.openings.Opening.{Opening}

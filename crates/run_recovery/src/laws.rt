@@ -40,8 +40,8 @@ use machine_laws::{
 };
 use machine_recovery::{logs_recover_as_meant, logs_recover_to_the_members};
 use record_log::{groups_are_whole, one_list_of_records};
+use run_effects::groups_grow;
 use run_opening::begins_again;
-use run_outputs::groups_grow;
 use snap_recover::{begun_logs_are_recovered, one_opening};
 
 /// What one thread takes by the schedule of a seed is among what several workers may take, and so is the event with which it goes on.

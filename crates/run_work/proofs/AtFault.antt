@@ -7,8 +7,8 @@ use Rattle.log_opening.specs.Devices.{Device}
 use Rattle.log_opening.specs.declared.refusals.LogsNo.{LogsNo}
 use Rattle.protocol.specs.Events as machine
 use Rattle.protocol.specs.Fixed.{Fixed}
-use Rattle.run_journals.specs.declared.stops.Stop.{Stop}
-use Rattle.run_journals.specs.declared.stops.Stop.TheVariants as stop
+use Rattle.run_effects.specs.declared.stops.Stop.{Stop}
+use Rattle.run_effects.specs.declared.stops.Stop.TheVariants as stop
 use Rattle.run_recovery.specs.Runs.{machine_of, meant}
 use Rattle.run_recovery.specs.Schedules.{Schedule}
 use Rattle.run_work.proofs.Ending.{StopsAtFault}

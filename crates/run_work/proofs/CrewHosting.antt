@@ -9,10 +9,10 @@ use Rattle.gate_log.specs.State.{LogState}
 use Rattle.protocol.specs.Events as machine
 use Rattle.protocol.specs.Fixed.{Fixed}
 use Rattle.protocol.specs.Runs.{IsRun}
-use Rattle.run_journals.specs.Driven.{IsDriven}
-use Rattle.run_journals.specs.declared.stops.Stop.{Stop}
-use Rattle.run_journals.specs.declared.stops.Stop.TheVariants as stop
-use Rattle.run_outputs.specs.Groups.{groups_of, group_behind}
+use Rattle.run_effects.specs.Driven.{IsDriven}
+use Rattle.run_effects.specs.declared.stops.Stop.{Stop}
+use Rattle.run_effects.specs.declared.stops.Stop.TheVariants as stop
+use Rattle.run_effects.specs.Groups.{groups_of, group_behind}
 use Rattle.run_recovery.specs.Runs.{machine_of, none_failed, tried_on, IsLeastOf}
 use Rattle.run_recovery.specs.Schedules.{free}
 use Rattle.run_work.specs.Hosts.{HasDriven, IsStopOf, PrintsStopped, PrintsReplies, PrintsUnlessFailed, StopsSo, IsHostEnd}

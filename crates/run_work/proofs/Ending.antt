@@ -6,7 +6,7 @@ use Rattle.core_events.specs.declared.events.Event.{Event}
 use Rattle.log_opening.specs.Devices.{Device}
 use Rattle.log_opening.specs.declared.refusals.LogsNo.{LogsNo}
 use Rattle.protocol.specs.Events as machine
-use Rattle.run_outputs.specs.Lines.{replies_text}
+use Rattle.run_effects.specs.Lines.{replies_text}
 use Rattle.run_printing.specs.Printed.{unsure_line}
 use Rattle.run_recovery.specs.Runs.{machine_of, meant}
 use Rattle.run_recovery.specs.Schedules.{Schedule, seeded, free}
@@ -19,8 +19,8 @@ use Rattle.run_work.specs.Writings.{Writing, WritesNothing, IsSilent, Writes, Wr
 use Rattle.snap_recover.specs.declared.openings.Opening.{Opening}
 use Rattle.snap_report.specs.declared.statuses.Status.{Status}
 use Rattle.snap_work.specs.Works.{Work}
-use Rattle.run_journals.specs.declared.stops.Stop.{Stop}
-use Rattle.run_journals.specs.declared.stops.Stop.TheVariants as stop
+use Rattle.run_effects.specs.declared.stops.Stop.{Stop}
+use Rattle.run_effects.specs.declared.stops.Stop.TheVariants as stop
 
 -- ---- what is written, one after the other
 

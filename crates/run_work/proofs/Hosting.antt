@@ -13,7 +13,7 @@ use Rattle.protocol.specs.Events as machine
 use Rattle.protocol.specs.Fixed.{Fixed}
 use Rattle.protocol_schedule.specs.Draw.{IsFrontOfSeed}
 use Rattle.record_log.specs.Growth.{GrewBy}
-use Rattle.run_outputs.specs.Groups.{groups_of, group_behind}
+use Rattle.run_effects.specs.Groups.{groups_of, group_behind}
 use Rattle.run_recovery.specs.Runs.{machine_of, meant, none_failed, only_failed, tried_on}
 use Rattle.run_recovery.specs.Schedules.{Schedule, seeded, free, IsTakenBy}
 use Rattle.run_work.specs.declared.hosts.Hosted.{Hosted}
@@ -24,10 +24,10 @@ use Rattle.snap_core.specs.Cores.{CoreState, IsAt}
 use Rattle.snap_outside.specs.Causes.{Rose}
 use Rattle.snap_recover.specs.declared.openings.Opening.{Opening}
 use Rattle.snap_work.specs.Works.{Work}
-use Rattle.run_journals.specs.Driven.{IsDriven}
+use Rattle.run_effects.specs.Driven.{IsDriven}
 use Rattle.solo_host.specs.Drives as host
-use Rattle.run_journals.specs.declared.stops.Stop.{Stop}
-use Rattle.run_journals.specs.declared.stops.Stop.TheVariants as stop
+use Rattle.run_effects.specs.declared.stops.Stop.{Stop}
+use Rattle.run_effects.specs.declared.stops.Stop.TheVariants as stop
 use Rattle.txn_records.specs.declared.records.Record.{Record}
 
 -- ---- how it ended

@@ -7,7 +7,7 @@ use Rattle.protocol.specs.Events as machine
 use Rattle.record_log.specs.Growth.{GrewBy}
 use Rattle.run_opening.specs.Opens.{HasRoomToBegin, OpensRun, IsRunLog, first_groups, records_at}
 use Rattle.run_opening.specs.Starts.{IsStart}
-use Rattle.run_outputs.specs.Groups.{groups_of, group_behind}
+use Rattle.run_effects.specs.Groups.{groups_of, group_behind}
 use Rattle.run_recovery.specs.Runs.{IsRunDevice, HasRun, tried_on, machine_of}
 use Rattle.run_recovery.specs.Schedules.{Schedule}
 use Rattle.run_work.specs.Hosts.{HasDriven, HasLeft}
@@ -15,7 +15,7 @@ use Rattle.snap_base.specs.declared.transactions.State.{State}
 use Rattle.snap_outside.specs.Causes.{Rose}
 use Rattle.snap_recover.specs.declared.openings.Opening.{Opening}
 use Rattle.snap_work.specs.Works.{Work}
-use Rattle.run_journals.specs.Driven.{IsDriven}
+use Rattle.run_effects.specs.Driven.{IsDriven}
 use Rattle.txn_records.specs.declared.records.Record.{Record}
 
 -- ---- logs and devices by their numbers

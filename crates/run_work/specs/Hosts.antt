@@ -9,8 +9,8 @@ use Rattle.log_opening.specs.Devices.{Device, device_at}
 use Rattle.protocol.specs.Events as machine
 use Rattle.protocol.specs.Fixed.{Fixed}
 use Rattle.run_opening.specs.Opens.{AreSafe, IsNoRun, MayOpen}
-use Rattle.run_journals.specs.Driven.{IsDriven}
-use Rattle.run_outputs.specs.Groups.{groups_of, group_behind}
+use Rattle.run_effects.specs.Driven.{IsDriven}
+use Rattle.run_effects.specs.Groups.{groups_of, group_behind}
 use Rattle.run_recovery.specs.Runs.{HasRun, machine_of, meant, none_failed, only_failed, IsLeastOf, tried_on, GoesOnWith, HasEnded}
 use Rattle.run_recovery.specs.Schedules.{Schedule, seeded, free, IsTakenBy}
 use Rattle.run_work.specs.Runs.{Printing, Printed, reporting, summing, replies_in, PrintsNext, as_printed}
@@ -22,8 +22,8 @@ use Rattle.snap_outside.specs.Causes.{Rose}
 use Rattle.snap_recover.specs.declared.openings.Opening.{Opening}
 use Rattle.snap_work.specs.Works.{Work}
 use Rattle.solo_host.specs.Drives.{log_at}
-use Rattle.run_journals.specs.declared.stops.Stop.{Stop}
-use Rattle.run_journals.specs.declared.stops.Stop.TheVariants as stop
+use Rattle.run_effects.specs.declared.stops.Stop.{Stop}
+use Rattle.run_effects.specs.declared.stops.Stop.TheVariants as stop
 use Rattle.txn_records.specs.declared.records.Record.{Record}
 
 -- ---- what it leaves on its logs

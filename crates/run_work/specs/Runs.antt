@@ -10,7 +10,7 @@ use Rattle.protocol.specs.Fixed.{Fixed}
 use Rattle.protocol.specs.Report.{replied}
 use Rattle.protocol.specs.Runs.{reached}
 use Rattle.run_opening.specs.Opens.{AreSafe, IsNoRun}
-use Rattle.run_outputs.specs.Lines.{line_in, replies_text, ending_text}
+use Rattle.run_effects.specs.Lines.{line_in, replies_text, ending_text}
 use Rattle.run_printing.specs.Printed.{traced_line, unanswered, unsure_line}
 use Rattle.run_printing.specs.Summed.{summing_text}
 use Rattle.run_recovery.specs.OneRun.{the_run}

@@ -17,7 +17,7 @@ use crate::hosts::Hosted;
 use crate::printings::Told;
 use core_events::Event;
 use log_opening::LogsNo;
-use run_journals::Stop;
+use run_effects::Stop;
 use run_printing::{WriteNo, write_ending, write_summary, write_trace, write_unsures};
 use snap_core::Core;
 use snap_outside::Sink;

@@ -22,7 +22,7 @@ use crew_host::{CrewEnd, MOST_WORKERS, drive_crew};
 use gate_log::{FARTHEST_END, Log};
 use log_opening::{LogsNo, close};
 use machine_text::works_are_texts;
-use run_journals::Stop;
+use run_effects::Stop;
 use run_opening::open_run;
 use snap_core::Core;
 use snap_hand::Tables;

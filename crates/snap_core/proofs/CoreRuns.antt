@@ -8,13 +8,13 @@ use Rattle.core_rows.specs.OnRuns.{HasRun}
 use Rattle.core_rows.specs.declared.step_no.StepNo.{StepNo}
 use Rattle.core_rows.specs.declared.step_no.StepNo.TheVariants.{NotNow, Memory}
 use Rattle.protocol.specs.Conditions.{IsAllowed}
-use Rattle.log_part.specs.Shown.{told_bytes}
+use Rattle.log_set.specs.Shown.{told_bytes}
 use Rattle.protocol.specs.Effects.{after, log_at}
 use Rattle.protocol.specs.Events.{Event, footprint}
 use Rattle.protocol.specs.Fixed.{Fixed}
 use Rattle.protocol.specs.Parts.{Machine}
 use Rattle.protocol.specs.Schedule.{IsEnabled}
-use Rattle.hand_offers.specs.Offers.{AreOffers}
+use Rattle.ready_listing.specs.Offers.{AreOffers}
 use Rattle.ready_list.specs.Order.{RoomedList}
 use Rattle.protocol.specs.Runs.{EachAllowed, IsQuiet, IsRun, state_after, reached, opening}
 use Rattle.ready_renewal.specs.Covering.{Covers, CoversStill, HasNoFirst, IsFirst, IsFirstOf}
@@ -25,7 +25,7 @@ use Rattle.snap_hand.proofs.Held.{all_here}
 use Rattle.snap_hand.specs.Hands.{Parts, Fits}
 use Rattle.snap_hand.specs.Steps.{MayBeAsked, IsRefusalOn, IsStep}
 use Rattle.snap_hand.specs.Tables.{fixed_of}
-use Rattle.touched_events.specs.New.{IsBehind}
+use Rattle.ready_news.specs.New.{IsBehind}
 use Rattle.snap_hand.specs.declared.tables.Tables.{Tables}
 
 abbrev pub core_of : Tables → Parts → CoreState

@@ -7,8 +7,8 @@ ghost use Rattle.snap_hand.specs.Tables.{fixed_of};
 
 use crate::Core;
 use crate::cores::runs_lead;
-use hand_offers::offers;
 use ready_list::ReadyList;
+use ready_listing::offers;
 use snap_base::Memory;
 use std::alloc::Global;
 

@@ -4,7 +4,7 @@ use Rattle.std.proofs.lemmas.List.{length-map, length-drop}
 use Rattle.aml_slice.specs.Controls.{Rest}
 use Rattle.book_part.specs.Halves.{Halves, Shows}
 use Rattle.book_part.proofs.Shown.{is_book}
-use Rattle.log_part.specs.Shown.{ShowsLog, told_bytes}
+use Rattle.log_set.specs.Shown.{ShowsLog, told_bytes}
 use Rattle.log_set.specs.Logs.{LogList}
 use Rattle.protocol.specs.BookParts.{with_votes}
 use Rattle.protocol.specs.Conditions.{epoch}

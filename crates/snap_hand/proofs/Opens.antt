@@ -4,7 +4,7 @@ use Rattle.std.proofs.lemmas.List.{length-map, length-replicate}
 use Rattle.snap_base.specs.declared.transactions.State.{State}
 use Rattle.aml_slice.specs.Controls.{Rest}
 use Rattle.book_part.specs.Halves.{Halves, Shows}
-use Rattle.log_part.specs.Shown.{ShowsLog}
+use Rattle.log_set.specs.Shown.{ShowsLog}
 use Rattle.log_set.specs.Logs.{LogList, no_records}
 use Rattle.protocol.specs.Effects.{no_log}
 use Rattle.protocol.specs.Fixed.{Fixed, base}

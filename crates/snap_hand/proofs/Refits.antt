@@ -5,7 +5,7 @@ use mathlib.Core.Logic.{dite}
 use native.Mathlib.Decide.{ℕ_discrete}
 use Rattle.aml_slice.specs.Controls.{Rest}
 use Rattle.book_part.specs.Halves.{Halves, Shows}
-use Rattle.log_part.specs.Shown.{ShowsLog}
+use Rattle.log_set.specs.Shown.{ShowsLog}
 use Rattle.log_set.specs.Logs.{LogList}
 use Rattle.protocol.specs.Fixed.{Fixed}
 use Rattle.protocol.specs.Parts.{Ring, Book, Post, Desk, Log, Cell, Machine}

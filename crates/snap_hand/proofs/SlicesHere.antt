@@ -9,7 +9,7 @@ use Rattle.aml_tree.specs.Tree.{CheckedMethod}
 use Rattle.aml_check.specs.Checked.{methods_of}
 use Rattle.aml_slice.specs.Controls.{Rest, IsRest, RestsOn}
 use Rattle.core_rows.specs.OnRuns.{HasRun}
-use Rattle.machine_code.specs.MethodCode.{method_code, rests_on}
+use Rattle.machine_laws.specs.MethodCode.{method_code, rests_on}
 use Rattle.machine_laws.specs.Controls.{MayRunOn, ControlsMayRun}
 use Rattle.machine_laws.specs.Programs.{AfterEveryRunOf}
 use Rattle.protocol.specs.Effects.{cell_at, no_cell}

@@ -3,7 +3,7 @@ use Rattle.std.specs.Prelude.{◌≡◌, ℕ, ◌≤◌, Bool, true, false, ◌�
 use Rattle.std.specs.List.{AllByRecursion}
 use Rattle.aml_slice.specs.Controls.{Rest}
 use Rattle.book_part.specs.Halves.{Halves, Shows}
-use Rattle.log_part.specs.Shown.{ShowsLog}
+use Rattle.log_set.specs.Shown.{ShowsLog}
 use Rattle.log_set.specs.Logs.{LogList}
 use Rattle.protocol.specs.Events.{Event, footprint}
 use Rattle.protocol.specs.Fixed.{Fixed}

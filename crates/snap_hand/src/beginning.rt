@@ -14,7 +14,7 @@ use aml_slice::Control;
 use batch_table::Desk;
 use book_part::BookPart;
 use core_rows::StepNo;
-use log_part::LogPart;
+use log_set::LogPart;
 use post_box::Post;
 use snap_base::{Bid, Tid, Tx};
 use std::alloc::Global;

@@ -4,7 +4,7 @@ use aml_slice::Control;
 use batch_table::Desk;
 use book_part::BookPart;
 use cell_part::CellPart;
-use log_part::LogPart;
+use log_set::LogPart;
 use post_box::Post;
 use std::boxed::Box;
 use std::marker::Model;

@@ -15,7 +15,7 @@ use aml_slice::Control;
 use batch_table::Desk;
 use book_part::{BookPart, halves_stay_of_their_book};
 use cell_part::CellPart;
-use log_part::LogPart;
+use log_set::LogPart;
 use post_box::Post;
 use snap_base::{Bid, Memory, State};
 use std::alloc::Global;

@@ -13,7 +13,7 @@ use batch_table::Desk;
 use book_part::BookPart;
 use cell_part::CellPart;
 use core_events::{BOOK, DESK, FIRST_LOG, POST, RING};
-use log_part::LogPart;
+use log_set::LogPart;
 use post_box::Post;
 use snap_base::Memory;
 use std::alloc::Global;

@@ -2,8 +2,8 @@
 ghost use Rattle.std.specs.Prelude.{◌≡◌, length};
 ghost use Rattle.aml_check.specs.Checked.{methods_of};
 ghost use Rattle.aml_slice.specs.Controls.{IsRest};
-ghost use Rattle.machine_code.specs.MethodCode.{method_code};
-ghost use Rattle.machine_words.specs.Meant.{next_meant};
+ghost use Rattle.machine_laws.specs.MethodCode.{method_code};
+ghost use Rattle.protocol.specs.Meant.{next_meant};
 ghost use Rattle.protocol.specs.Events as event;
 ghost use Rattle.protocol.specs.OnCell.{is_through};
 ghost use Rattle.snap_hand.specs.Steps.{MayBeAsked, IsRefusalOn, IsStep};
@@ -13,8 +13,7 @@ use crate::{Hand, Tables};
 use aml_check::Checked;
 use aml_slice::{Control, slice};
 use core_rows::{StepNo, nothing_happens_nowhere, rows_may};
-use machine_code::askings_are_the_controls;
-use machine_laws::controls_may_run;
+use machine_laws::{askings_are_the_controls, controls_may_run};
 use snap_base::{ActorId, Next, State, Tid};
 
 /// How many actors there are.

@@ -8,7 +8,7 @@ ghost use Rattle.snap_outside.specs.Causes.{EndsAtFault};
 ghost use Rattle.snap_run.specs.Migrations.{IsMigrateAnswer};
 
 use log_migration::migrate;
-use run_outputs::write_all;
+use run_effects::write_all;
 use run_work::status_of;
 use snap_outside::{LogDev, Sink};
 use snap_report::Status;

@@ -9,7 +9,7 @@ ghost use Rattle.run_work.specs.Writings.{writing_of};
 ghost use Rattle.snap_run.specs.Recoveries.{recovered_report, IsRecoverAnswer};
 
 use log_opening::recover_kept;
-use run_outputs::write_all;
+use run_effects::write_all;
 use run_printing::push_actor;
 use run_work::status_of;
 use snap_base::{ActorId, Bid, Memory, Place, State, Tid};

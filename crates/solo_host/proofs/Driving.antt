@@ -10,18 +10,18 @@ use Rattle.protocol.specs.Events.{Event, Sync, Reply}
 use Rattle.protocol.specs.Fixed.{Fixed}
 use Rattle.protocol.specs.Runs.{IsRun, reached}
 use Rattle.protocol_schedule.specs.Draw.{IsFrontOfSeed}
-use Rattle.group_sizes.specs.Sizes.{most_bytes}
+use Rattle.run_effects.specs.Sizes.{most_bytes}
 use Rattle.record_log.specs.Growth.{end_behind_groups}
 use Rattle.record_log.specs.declared.limits.TheConstants.{FARTHEST_APPEND}
-use Rattle.run_outputs.specs.Groups.{groups_of, group_by}
-use Rattle.run_outputs.specs.Laws.{line_by}
-use Rattle.run_outputs.specs.Lines.{replies_text}
+use Rattle.run_effects.specs.Groups.{groups_of, group_by}
+use Rattle.run_effects.specs.Laws.{line_by}
+use Rattle.run_effects.specs.Lines.{replies_text}
 use Rattle.snap_outside.specs.Causes.{Rose}
 use Rattle.solo_host.specs.Drives.{log_at, AreDriven, IsWhy, IsPrinted, tried_on}
-use Rattle.run_journals.specs.RunsOf.{RunsOf}
+use Rattle.run_effects.specs.RunsOf.{RunsOf}
 use Rattle.solo_host.specs.Outside.{Outside, Got, no_group, no_fault, AreLow, AreOfFormat2, AreAllOpen, IsPrepared, IsPicked, IsEnd}
-use Rattle.run_journals.specs.declared.stops.Stop.{Stop}
-use Rattle.run_journals.specs.declared.stops.Stop.TheVariants as stop
+use Rattle.run_effects.specs.declared.stops.Stop.{Stop}
+use Rattle.run_effects.specs.declared.stops.Stop.TheVariants as stop
 use Rattle.solo_host.proofs.GotGroups.{got_nothing, got_join, got_open, got_same}
 use Rattle.solo_host.proofs.Picking.{goes_on, picked_allowed}
 

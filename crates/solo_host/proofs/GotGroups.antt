@@ -1,8 +1,8 @@
 -- Logs that got groups, one call after the other.
 use Rattle.std.proofs.Common.{◌≡◌, ℕ, Option, List, ◌++◌, refl, subst, ◌∙◌, arith}
 use Rattle.gate_log.specs.State.{LogState}
-use Rattle.run_journals.specs.Driven.{IsDriven}
-use Rattle.run_journals.proofs.Driving.{driven_join, driven_same}
+use Rattle.run_effects.specs.Driven.{IsDriven}
+use Rattle.run_effects.proofs.Driving.{driven_join, driven_same}
 use Rattle.solo_host.specs.Drives.{log_at}
 use Rattle.solo_host.specs.Outside.{Got, no_group, no_fault, AreAllOpen}
 use Rattle.txn_records.specs.declared.records.Record.{Record}

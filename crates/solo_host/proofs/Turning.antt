@@ -13,23 +13,23 @@ use Rattle.protocol.specs.Events.{Event, Sync, Reply}
 use Rattle.protocol.specs.Fixed.{Fixed}
 use Rattle.protocol.specs.Parts.{Machine}
 use Rattle.protocol.specs.Runs.{IsRun, reached}
-use Rattle.run_outputs.specs.Groups.{group_by}
-use Rattle.run_outputs.specs.Laws.{line_by}
+use Rattle.run_effects.specs.Groups.{group_by}
+use Rattle.run_effects.specs.Laws.{line_by}
 use Rattle.snap_core.specs.Cores.{CoreState, IsAt}
 use Rattle.snap_hand.specs.Steps.{may_want}
 use Rattle.protocol_theorems.specs.Left.{most_events}
 use Rattle.snap_hand.specs.Tables.{fixed_of}
 use Rattle.snap_hand.specs.declared.tables.Tables.{Tables}
-use Rattle.run_journals.specs.Driven.{IsDriven}
+use Rattle.run_effects.specs.Driven.{IsDriven}
 use Rattle.solo_host.specs.Drives.{log_at, tried_on}
-use Rattle.run_journals.specs.RunsOf.{RunsOf}
+use Rattle.run_effects.specs.RunsOf.{RunsOf}
 use Rattle.solo_host.specs.Outside.{Outside, outside, IsSynced, IsNotSynced, no_group, no_fault, AreAllOpen, IsPrepared, IsFailure, IsGivenUp, IsPicked, IsEnd}
 use Rattle.solo_host.specs.Turns.{HasGoneOn, HasStopped}
-use Rattle.run_journals.specs.declared.stops.Stop.{Stop}
-use Rattle.run_journals.specs.declared.stops.Stop.TheVariants as stop
+use Rattle.run_effects.specs.declared.stops.Stop.{Stop}
+use Rattle.run_effects.specs.declared.stops.Stop.TheVariants as stop
 use Rattle.solo_host.proofs.Preparing.{done_of_sync, given_up_of_sync, log_exists}
 use Rattle.solo_host.proofs.Driving.{IsDriving, IsOver, goes_further, is_over}
-use Rattle.run_journals.proofs.Driving.{driven_same}
+use Rattle.run_effects.proofs.Driving.{driven_same}
 use Rattle.solo_host.proofs.GotGroups.{got_same}
 
 -- an event that may want memory asks for nothing before it

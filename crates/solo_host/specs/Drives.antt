@@ -8,12 +8,12 @@ use Rattle.protocol.specs.Events.{Event, Sync, Reply}
 use Rattle.protocol.specs.Fixed.{Fixed}
 use Rattle.protocol.specs.Runs.{IsQuiet, reached}
 use Rattle.protocol_schedule.specs.Draw.{IsFrontOfSeed}
-use Rattle.run_journals.specs.Driven.{IsDriven}
-use Rattle.run_outputs.specs.Groups.{groups_of, group_behind}
-use Rattle.run_outputs.specs.Lines.{line_in, replies_text}
+use Rattle.run_effects.specs.Driven.{IsDriven}
+use Rattle.run_effects.specs.Groups.{groups_of, group_behind}
+use Rattle.run_effects.specs.Lines.{line_in, replies_text}
 use Rattle.snap_outside.specs.Causes.{Rose}
-use Rattle.run_journals.specs.declared.stops.Stop.{Stop}
-use Rattle.run_journals.specs.declared.stops.Stop.TheVariants as stop
+use Rattle.run_effects.specs.declared.stops.Stop.{Stop}
+use Rattle.run_effects.specs.declared.stops.Stop.TheVariants as stop
 use Rattle.txn_records.specs.declared.records.Record.{Record}
 
 -- ---- the logs

@@ -12,16 +12,16 @@ use Rattle.protocol.specs.Parts.{Machine}
 use Rattle.protocol.specs.Runs.{IsQuiet, reached}
 use Rattle.protocol.specs.Schedule.{IsEnabled, pick}
 use Rattle.protocol_schedule.specs.Draw.{draw_of}
-use Rattle.group_sizes.specs.Sizes.{most_bytes}
+use Rattle.run_effects.specs.Sizes.{most_bytes}
 use Rattle.record_log.specs.declared.limits.TheConstants.{FARTHEST_APPEND}
-use Rattle.run_journals.specs.Driven.{IsDriven}
-use Rattle.run_outputs.specs.Groups.{group_by}
-use Rattle.run_outputs.specs.Laws.{line_by}
-use Rattle.run_outputs.specs.Lines.{line_in}
+use Rattle.run_effects.specs.Driven.{IsDriven}
+use Rattle.run_effects.specs.Groups.{group_by}
+use Rattle.run_effects.specs.Laws.{line_by}
+use Rattle.run_effects.specs.Lines.{line_in}
 use Rattle.snap_outside.specs.Causes.{Rose}
 use Rattle.solo_host.specs.Drives.{log_at, tried_on}
-use Rattle.run_journals.specs.declared.stops.Stop.{Stop}
-use Rattle.run_journals.specs.declared.stops.Stop.TheVariants as stop
+use Rattle.run_effects.specs.declared.stops.Stop.{Stop}
+use Rattle.run_effects.specs.declared.stops.Stop.TheVariants as stop
 use Rattle.txn_records.specs.declared.records.Record.{Record}
 
 -- ---- the outside: the logs, what the output took, and how often it failed

@@ -15,7 +15,7 @@ use Rattle.snap_core.specs.Cores.{CoreState, IsAt}
 use Rattle.snap_hand.specs.Tables.{fixed_of}
 use Rattle.solo_host.specs.Drives.{tried_on}
 use Rattle.solo_host.specs.Outside.{Outside, Got, no_group, IsPrepared, IsPicked, IsEnd}
-use Rattle.run_journals.specs.declared.stops.Stop.{Stop}
+use Rattle.run_effects.specs.declared.stops.Stop.{Stop}
 
 -- The generator has drawn the words of so many steps of the seed.
 abbrev pub IsBehindWords : ℕ → ℕ → Lcg → Type 0

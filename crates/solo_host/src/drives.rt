@@ -13,7 +13,7 @@ use crate::turns::turn;
 use core_events::Event;
 use gate_log::{FARTHEST_END, Log};
 use ready_list::ReadyList;
-use run_journals::{Stop, runs_of};
+use run_effects::{Stop, runs_of};
 use snap_core::Core;
 use snap_outside::{LogDev, Sink};
 use std::alloc::Global;

@@ -5,8 +5,7 @@ ghost use Rattle.snap_core.specs.Cores.{IsAt, state_at};
 ghost use Rattle.snap_outside.specs.Causes.{EndsAtFault};
 ghost use Rattle.solo_host.specs.Outside.{IsReplied, IsNotReplied};
 
-use run_journals::Stop;
-use run_outputs::write_all;
+use run_effects::{Stop, write_all};
 use snap_base::TxNo;
 use snap_core::Core;
 use snap_outside::Sink;

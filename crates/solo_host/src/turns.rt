@@ -4,7 +4,7 @@ ghost use Rattle.core_events.specs.Meant.{event_meant};
 ghost use Rattle.snap_core.specs.Cores.{IsAt, state_at};
 ghost use Rattle.snap_hand.specs.Tables.{fixed_of};
 ghost use Rattle.snap_outside.specs.Causes.{EndsAtFault};
-ghost use Rattle.run_journals.specs.RunsOf.{RunsOf};
+ghost use Rattle.run_effects.specs.RunsOf.{RunsOf};
 ghost use Rattle.solo_host.specs.Outside.{AreLow, AreOfFormat2, AreAllOpen, outside};
 ghost use Rattle.solo_host.specs.Turns.{HasGoneOn, HasStopped, IsBehindWords, IsKeptFor, IsOneBehind};
 
@@ -16,7 +16,7 @@ use core_events::Event;
 use gate_log::Log;
 use rand_pcg::Pcg32;
 use ready_list::ReadyList;
-use run_journals::Stop;
+use run_effects::Stop;
 use snap_core::Core;
 use snap_outside::{LogDev, Sink};
 use std::alloc::Global;

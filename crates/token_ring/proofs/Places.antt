@@ -8,7 +8,7 @@ use Rattle.std.proofs.lemmas.List.Sorted.{IsPartitionedBy-ltb}
 use Rattle.snap_base.specs.declared.transactions.SubBatch as base
 use Rattle.protocol.specs.Parts.{SubBatch}
 use Rattle.snap_base.specs.declared.ids.Tid.{Tid}
-use Rattle.machine_words.specs.Meant.{sub_batch, subs_actor, tid_number}
+use Rattle.protocol.specs.Meant.{sub_batch, subs_actor, tid_number}
 use Rattle.token_ring.specs.Told.{ends_with, leading, with_tid, told_here, told_among, ActorsAscend}
 
 abbrev pub sub_actor : SubBatch → ℕ

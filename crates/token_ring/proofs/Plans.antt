@@ -8,7 +8,7 @@ use Rattle.protocol.specs.Fixed.{Text}
 use Rattle.protocol.specs.Parts.{Ring, SubBatch}
 use Rattle.protocol.specs.Conditions.{queue}
 use Rattle.protocol.specs.OnRing.{numbered, next_pacts, next_actors, first_sub, Formed, planned, formed, with_lasts}
-use Rattle.machine_words.specs.Meant.{sub_batch, subs_actor, batch_pact}
+use Rattle.protocol.specs.Meant.{sub_batch, subs_actor, batch_pact}
 use Rattle.token_ring.specs.Told.{told_all}
 use Rattle.token_ring.proofs.Places.{sub_actor, actors_meant}
 use Rattle.token_ring.proofs.Collected.{collected, subs_first}

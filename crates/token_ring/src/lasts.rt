@@ -1,7 +1,7 @@
 //! The last batch of each actor.
 ghost use Rattle.std.specs.Prelude.{◌≡◌, length, map, replicate, IfOk};
 ghost use Rattle.protocol.specs.OnRing.{with_lasts};
-ghost use Rattle.machine_words.specs.Meant.{subs_actor};
+ghost use Rattle.protocol.specs.Meant.{subs_actor};
 
 use snap_base::SubBatch;
 

@@ -4,7 +4,7 @@ ghost use Rattle.std.specs.List.{list_all};
 ghost use Rattle.protocol.specs.Left.{busy_from, total};
 ghost use Rattle.protocol.specs.Words.{is_empty};
 ghost use Rattle.protocol.specs.OnRing.{numbered, joined_at};
-ghost use Rattle.machine_words.specs.Meant.{batch_pact};
+ghost use Rattle.protocol.specs.Meant.{batch_pact};
 ghost use Rattle.token_ring.specs.Asked.{first_waiting};
 
 use snap_base::{Memory, Tid, TxNo};

@@ -12,7 +12,7 @@ use crate::FormNo;
 use crate::lasts::{forget, mark};
 use crate::queue::{Queue, all_empty, empty_queues, is_busy_from, join_at, waiting_in};
 use crate::subs::{Heading, sub_batches};
-use machine_words::{Formed, unless};
+use protocol::{Formed, unless};
 use snap_base::{Bid, Kind, Memory, Tid, Tx, TxNo};
 use std::alloc::Global;
 use std::marker::Model;

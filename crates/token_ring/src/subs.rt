@@ -1,7 +1,7 @@
 //! The sub-batches of a batch: what each of its actors is told.
 ghost use Rattle.std.specs.Prelude.{◌≡◌, ◌+◌, ◌<◌, ◌≤◌, [], length, map, is_ok, slice_index_or, OnOk, IfOk};
 ghost use Rattle.protocol.specs.Fixed.{no_tx, declared};
-ghost use Rattle.machine_words.specs.Meant.{batch_pact, sub_batch, subs_actor, tid_number};
+ghost use Rattle.protocol.specs.Meant.{batch_pact, sub_batch, subs_actor, tid_number};
 ghost use Rattle.token_ring.specs.Told.{ends_with, leading, first_sub, with_tid, told_among, told_to, told_all, ActorsAscend};
 
 use snap_base::{ActorId, Bid, Memory, Sequence, SubBatch, Tid, Tx, TxNo};

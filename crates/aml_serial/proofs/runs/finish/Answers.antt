@@ -2,7 +2,7 @@ use Rattle.std.proofs.Common.{◌≡◌, sym, ap, ◌∙◌, subst, rules, arith
 use Rattle.std.proofs.lemmas.List.{length-set}
 use Rattle.snap_base.specs.declared.transactions.State.{State}
 use Rattle.aml_check.specs.Checked.{methods_of}
-use Rattle.serial_words.specs.Outcomes.{Alone}
+use Rattle.snap_base.specs.Outcomes.{Alone}
 use Rattle.snap_base.specs.declared.next.Next.TheVariants.{Go, Ended}
 use Rattle.aml_slice.specs.Moments.{HandsOn}
 use Rattle.aml_slice.specs.Finishing.{finished}

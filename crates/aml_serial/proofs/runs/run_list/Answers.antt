@@ -1,7 +1,7 @@
 use Rattle.std.proofs.Common.{◌+◌, ap, sym, ◌∙◌, arith}
 use Rattle.std.proofs.lemmas.Result.{err_from_is_err_and}
 use Rattle.aml_check.specs.Checked.{methods_of}
-use Rattle.serial_words.specs.Outcomes.{Serial}
+use Rattle.snap_base.specs.Outcomes.{Serial}
 use Rattle.aml_serial.proofs.SerialLists.{serial_more}
 use Rattle.aml_serial.proofs.runs.run_list.Goals as goal
 

@@ -1,5 +1,5 @@
 use Rattle.std.proofs.Common.{◌≡◌, map, take}
-use Rattle.machine_words.specs.Meant.{actor_number}
+use Rattle.protocol.specs.Meant.{actor_number}
 use Rattle.batch_table.proofs.actors.ids.Given as goal
 
 abbrev pub invariant-loop-entry : goal.invariant-loop-entry

@@ -1,5 +1,5 @@
 use Rattle.std.proofs.Common.{arith}
-use Rattle.machine_words.proofs.Totals.{counted_all}
+use Rattle.protocol.proofs.Totals.{counted_all}
 use Rattle.protocol.specs.Left.{declared_left}
 use Rattle.batch_table.proofs.actors.left_on.Goals as goal
 

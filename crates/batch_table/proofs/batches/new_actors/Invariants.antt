@@ -1,5 +1,5 @@
 use Rattle.std.proofs.Common.{◌≡◌, map, take}
-use Rattle.machine_words.specs.Meant.{subs_actor}
+use Rattle.protocol.specs.Meant.{subs_actor}
 use Rattle.protocol.specs.OnDesk as desk
 use Rattle.batch_table.proofs.batches.new_actors.Given as goal
 

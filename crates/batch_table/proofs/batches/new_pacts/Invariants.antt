@@ -1,5 +1,5 @@
 use Rattle.std.proofs.Common.{◌≡◌, map, take}
-use Rattle.machine_words.specs.Meant.{batch_pact}
+use Rattle.protocol.specs.Meant.{batch_pact}
 use Rattle.batch_table.proofs.batches.new_pacts.Given as goal
 
 abbrev pub invariant-loop-pair : goal.invariant-loop-pair

@@ -1,5 +1,5 @@
 use Rattle.std.proofs.Common.{arith}
-use Rattle.machine_words.proofs.Totals.{counted_all}
+use Rattle.protocol.proofs.Totals.{counted_all}
 use Rattle.protocol.specs.Left.{batch_left}
 use Rattle.batch_table.proofs.left.left_among.Goals as goal
 

@@ -1,4 +1,4 @@
-use Rattle.machine_words.proofs.Totals.{IsCounted}
+use Rattle.protocol.proofs.Totals.{IsCounted}
 use Rattle.protocol.specs.Left.{reply_left}
 use Rattle.batch_table.proofs.replies.left_of.Given as goal
 

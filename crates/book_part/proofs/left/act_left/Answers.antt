@@ -1,5 +1,5 @@
 use Rattle.std.proofs.Common.{◌≡◌, map, sym, ◌∙◌, arith}
-use Rattle.machine_words.proofs.Totals.{total-map}
+use Rattle.protocol.proofs.Totals.{total-map}
 use Rattle.protocol.specs.BookParts.{place_by}
 use Rattle.protocol.specs.Left.{joined_left, total}
 use Rattle.protocol.specs.Words.{act_of}

@@ -1,5 +1,5 @@
 use Rattle.std.proofs.Common.{arith}
-use Rattle.machine_words.proofs.Totals.{counted_all}
+use Rattle.protocol.proofs.Totals.{counted_all}
 use Rattle.protocol.specs.BookParts.{act_by}
 use Rattle.protocol.specs.Left.{act_left}
 use Rattle.protocol.specs.Words.{act_of}

@@ -1,4 +1,4 @@
-use Rattle.machine_words.proofs.Totals.{IsCounted}
+use Rattle.protocol.proofs.Totals.{IsCounted}
 use Rattle.protocol.specs.BookParts.{place_by}
 use Rattle.protocol.specs.Left.{joined_left}
 use Rattle.protocol.specs.Words.{act_of}

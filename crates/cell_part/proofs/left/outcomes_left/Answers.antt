@@ -1,5 +1,5 @@
 use Rattle.std.proofs.Common.{arith}
-use Rattle.machine_words.proofs.Totals.{counted_all}
+use Rattle.protocol.proofs.Totals.{counted_all}
 use Rattle.protocol.specs.Left.{outcome_left}
 use Rattle.cell_part.proofs.left.outcomes_left.Goals as goal
 

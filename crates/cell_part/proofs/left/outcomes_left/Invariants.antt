@@ -1,4 +1,4 @@
-use Rattle.machine_words.proofs.Totals.{IsCounted}
+use Rattle.protocol.proofs.Totals.{IsCounted}
 use Rattle.protocol.specs.Left.{outcome_left}
 use Rattle.cell_part.proofs.left.outcomes_left.Given as goal
 

@@ -1,4 +1,4 @@
-use Rattle.machine_words.proofs.Totals.{IsCounted}
+use Rattle.protocol.proofs.Totals.{IsCounted}
 use Rattle.protocol.specs.Left.{waiting_left}
 use Rattle.cell_part.proofs.left.waiting_left.Given as goal
 

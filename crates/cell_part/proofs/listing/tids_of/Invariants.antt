@@ -1,5 +1,5 @@
 use Rattle.std.proofs.Common.{◌≡◌, map, take}
-use Rattle.machine_words.specs.Meant.{tid_number}
+use Rattle.protocol.specs.Meant.{tid_number}
 use Rattle.cell_part.proofs.listing.tids_of.Given as goal
 
 abbrev pub invariant-loop-item : goal.invariant-loop-item

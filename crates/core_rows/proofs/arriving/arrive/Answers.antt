@@ -1,6 +1,6 @@
 use Rattle.std.proofs.Common.{Some, map, ap, sym, subst, arith, ◌∙◌}
 use Rattle.std.specs.Option.{option_map}
-use Rattle.machine_words.specs.Meant.{sub_batch, tid_number}
+use Rattle.protocol.specs.Meant.{sub_batch, tid_number}
 use Rattle.protocol.specs.Events.{Arrive}
 use Rattle.protocol.specs.Effects.{after}
 use Rattle.protocol.specs.OnBook.{tids_on}

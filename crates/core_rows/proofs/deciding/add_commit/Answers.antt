@@ -2,7 +2,7 @@ use Rattle.std.proofs.Common.{rules, ℤ, FitsSigned, ap, sym, subst, ◌∙◌}
 use Rattle.protocol.specs.Effects.{added}
 use Rattle.protocol.specs.Records.{ActDone}
 use Rattle.book_part.specs.Commits.{records_of}
-use Rattle.log_part.specs.Shown.{ShowsLog}
+use Rattle.log_set.specs.Shown.{ShowsLog}
 use Rattle.txn_records.specs.Records.{actor_numbers, IsActDone}
 use Rattle.std.proofs.Math.Facts.{to_z-of_z}
 use Rattle.std.specs.Int.{w64}

@@ -4,7 +4,7 @@ use Rattle.protocol.specs.Conditions.{conditions}
 use Rattle.protocol.specs.Effects.{after, act_commit, added}
 use Rattle.protocol.specs.Words.{act_of}
 use Rattle.book_part.specs.Halves.{Shows}
-use Rattle.log_part.specs.Shown.{ShowsLog}
+use Rattle.log_set.specs.Shown.{ShowsLog}
 use Rattle.core_rows.proofs.Rules.{allowed_where}
 use Rattle.core_rows.proofs.Placing.{log_there}
 use Rattle.core_rows.proofs.Commits.{act_number, spelled}

@@ -1,6 +1,6 @@
 use Rattle.std.proofs.Common.{◌≡◌, map, take}
-use Rattle.machine_words.specs.Meant.{subs_actor}
-use Rattle.record_words.specs.Told.{actor_of}
+use Rattle.protocol.specs.Meant.{subs_actor}
+use Rattle.log_set.specs.Told.{actor_of}
 use Rattle.core_rows.proofs.forming.actors_told.Given as goal
 
 abbrev pub invariant-loop-sub : goal.invariant-loop-sub

@@ -7,9 +7,9 @@ use Rattle.protocol.specs.OnRing.{formed, planned, next_actors, next_pacts}
 use Rattle.protocol.specs.Parts.{OfBatch}
 use Rattle.protocol.specs.Records.{BatchInfo}
 use Rattle.batch_table.specs.Joining.{AllTxsBelow, MayJoin}
-use Rattle.log_part.specs.Items.{item_of}
-use Rattle.log_part.specs.Shown.{ShowsLog}
-use Rattle.record_words.specs.Told.{told}
+use Rattle.log_set.specs.Items.{item_of}
+use Rattle.log_set.specs.Shown.{ShowsLog}
+use Rattle.log_set.specs.Told.{told}
 use Rattle.txn_records.specs.Records.{IsRecord}
 use Rattle.core_rows.specs.Begun.{ControlsAreNew, SubsAreNew, first_message}
 use Rattle.core_rows.proofs.Begun.{controls_are_new}

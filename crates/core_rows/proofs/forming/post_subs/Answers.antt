@@ -2,7 +2,7 @@ use Rattle.std.proofs.Common.{◌≡◌, None, [], ◌∷◌, ◌++◌, length, 
 use Rattle.std.specs.Vec.Iter.{into_iter_items}
 use Rattle.protocol.specs.Words.{sub_of}
 use Rattle.post_box.specs.Posting.{sub_posted}
-use Rattle.machine_words.specs.Meant.{sub_batch}
+use Rattle.protocol.specs.Meant.{sub_batch}
 use Rattle.core_rows.proofs.Begun.{middle, one_more, nothing_left}
 use Rattle.core_rows.proofs.forming.post_subs.Goals as goal
 

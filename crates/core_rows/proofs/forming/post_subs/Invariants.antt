@@ -1,6 +1,6 @@
 use Rattle.std.proofs.Common.{◌≡◌, ◌≤◌, ◌++◌, length, map}
 use Rattle.std.specs.Vec.Iter.{into_iter_items, into_iter_len}
-use Rattle.machine_words.specs.Meant.{sub_batch}
+use Rattle.protocol.specs.Meant.{sub_batch}
 use Rattle.core_rows.proofs.forming.post_subs.Given as goal
 
 abbrev pub invariant-loop-sub : goal.invariant-loop-sub

@@ -1,6 +1,6 @@
 use Rattle.std.proofs.Common.{◌≡◌, map, take}
-use Rattle.machine_words.specs.Meant.{batch_pact}
-use Rattle.record_words.specs.Told.{tid_of}
+use Rattle.protocol.specs.Meant.{batch_pact}
+use Rattle.log_set.specs.Told.{tid_of}
 use Rattle.core_rows.proofs.forming.tids_drawn.Given as goal
 
 abbrev pub invariant-loop-pact : goal.invariant-loop-pact

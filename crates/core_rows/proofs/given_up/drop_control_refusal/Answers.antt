@@ -1,7 +1,7 @@
 use Rattle.std.proofs.Common.{is_some, ap, sym, ◌∙◌}
 use Rattle.protocol.specs.Conditions.{conditions, is_given_up}
 use Rattle.protocol.specs.Words.{holds, control_of}
-use Rattle.machine_words.specs.Meant.{actor_number}
+use Rattle.protocol.specs.Meant.{actor_number}
 use Rattle.post_box.specs.Posting.{message_to}
 use Rattle.core_rows.proofs.Rules.{refused, two}
 use Rattle.core_rows.proofs.Found.{same_some}

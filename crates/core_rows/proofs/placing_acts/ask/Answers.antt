@@ -1,6 +1,6 @@
 use Rattle.std.proofs.Common.{◌≡◌, not, is_some, map, max, Some, None, ap, sym, subst, ◌∙◌}
 use Rattle.std.specs.Option.{option_map}
-use Rattle.machine_words.specs.Meant.{tid_number}
+use Rattle.protocol.specs.Meant.{tid_number}
 use Rattle.protocol.specs.Events.{Ask}
 use Rattle.protocol.specs.Conditions.{conditions}
 use Rattle.protocol.specs.Effects.{after, cell_at}

@@ -3,7 +3,7 @@ use Rattle.protocol.specs.Events.{Complete}
 use Rattle.protocol.specs.Effects.{after, added, cell_at}
 use Rattle.protocol.specs.OnCell.{batch_completed}
 use Rattle.protocol.specs.Records.{BatchComplete}
-use Rattle.record_words.specs.Told.{told}
+use Rattle.log_set.specs.Told.{told}
 use Rattle.core_rows.proofs.Rules.{allowed_where}
 use Rattle.core_rows.proofs.Placing.{is_at, put_there, log_there}
 use Rattle.core_rows.proofs.recording.complete.Goals as goal

@@ -3,7 +3,7 @@ use Rattle.protocol.specs.Events.{Prepare}
 use Rattle.protocol.specs.Effects.{after, added, cell_at}
 use Rattle.protocol.specs.Records.{ActPrepare}
 use Rattle.book_part.specs.Halves.{Shows}
-use Rattle.record_words.specs.Told.{told}
+use Rattle.log_set.specs.Told.{told}
 use Rattle.core_rows.proofs.Rules.{allowed_where}
 use Rattle.core_rows.proofs.Placing.{is_at, log_there}
 use Rattle.core_rows.proofs.recording.prepare.Goals as goal

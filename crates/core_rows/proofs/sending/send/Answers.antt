@@ -6,7 +6,7 @@ use Rattle.protocol.specs.Effects.{after}
 use Rattle.protocol.specs.Words.{holds, is_going, outcome_of, control_of, who_on}
 use Rattle.protocol.specs.OnPost.{sent}
 use Rattle.protocol.specs.OnCell.{outcome_taken}
-use Rattle.machine_words.specs.Meant.{who_meant, next_meant}
+use Rattle.protocol.specs.Meant.{who_meant, next_meant}
 use Rattle.cell_part.specs.Contents.{outcome_next}
 use Rattle.core_rows.proofs.Rules.{allowed_where}
 use Rattle.core_rows.proofs.Placing.{is_at, put_there}

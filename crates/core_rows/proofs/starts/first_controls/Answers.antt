@@ -1,7 +1,7 @@
 use Rattle.std.proofs.Common.{length, map, ap, ◌∙◌}
 use Rattle.std.proofs.lemmas.List.{take_all}
 use Rattle.protocol.specs.OnPost.{first_control}
-use Rattle.machine_words.specs.Meant.{batch_pact}
+use Rattle.protocol.specs.Meant.{batch_pact}
 use Rattle.core_rows.specs.Begun.{first_message}
 use Rattle.core_rows.proofs.Begun.{grown, tx_below}
 use Rattle.core_rows.proofs.starts.first_controls.Goals as goal

@@ -2,7 +2,7 @@ use Rattle.std.proofs.Common.{◌≡◌, map, take}
 use Rattle.protocol.specs.Fixed.{Fixed}
 use Rattle.protocol.specs.Parts.{Who}
 use Rattle.protocol.specs.OnPost.{first_control}
-use Rattle.machine_words.specs.Meant.{batch_pact}
+use Rattle.protocol.specs.Meant.{batch_pact}
 use Rattle.core_rows.specs.Begun.{first_message}
 use Rattle.core_rows.specs.Showing.{ShowsTxs}
 use Rattle.core_rows.specs.Starts.{Starts}

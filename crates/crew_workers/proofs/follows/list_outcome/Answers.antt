@@ -1,6 +1,6 @@
 use Rattle.std.proofs.Common.{length, sym, ◌∙◌}
 use Rattle.std.proofs.lemmas.Bool.{ltb-true}
-use Rattle.hand_offers.proofs.Parts.{cell_there}
+use Rattle.ready_listing.proofs.Parts.{cell_there}
 use Rattle.crew_workers.proofs.follows.list_outcome.Goals as goal
 
 pub cell-requires : goal.cell-requires

@@ -1,5 +1,5 @@
 use Rattle.std.proofs.Common.{◌≡◌, map, take}
-use Rattle.machine_words.specs.Meant.{tid_number}
+use Rattle.protocol.specs.Meant.{tid_number}
 use Rattle.hybrid_schedule.specs.Listed.{undone_on}
 use Rattle.hybrid_schedule.proofs.listing.undone_among.Given as goal
 

@@ -1,5 +1,5 @@
 use Rattle.std.proofs.Common.{arith}
-use Rattle.machine_words.proofs.Totals.{counted_all}
+use Rattle.protocol.proofs.Totals.{counted_all}
 use Rattle.protocol.specs.Left.{slot_left}
 use Rattle.hybrid_schedule.proofs.slots.left_of.Goals as goal
 

@@ -1,4 +1,4 @@
-use Rattle.machine_words.proofs.Totals.{IsCounted}
+use Rattle.protocol.proofs.Totals.{IsCounted}
 use Rattle.protocol.specs.Left.{slot_left}
 use Rattle.hybrid_schedule.proofs.slots.left_of.Given as goal
 

@@ -1,6 +1,6 @@
 use Rattle.std.proofs.Common.{sym, ap, ◌∙◌}
 use Rattle.std.specs.Option.{option_map}
-use Rattle.machine_words.specs.Meant.{tid_number}
+use Rattle.protocol.specs.Meant.{tid_number}
 use Rattle.order_book.specs.Asked.{answer_by}
 use Rattle.order_book.proofs.Locks.{older_of_tids, some_wait}
 use Rattle.order_book.proofs.answer.ask.Goals as goal

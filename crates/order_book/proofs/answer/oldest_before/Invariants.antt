@@ -1,6 +1,6 @@
 use Rattle.std.proofs.Common.{◌≡◌, drop}
 use Rattle.std.specs.Option.{option_map}
-use Rattle.machine_words.specs.Meant.{tid_number}
+use Rattle.protocol.specs.Meant.{tid_number}
 use Rattle.protocol.specs.Words.{least_older}
 use Rattle.order_book.specs.Asked.{locks_of}
 use Rattle.order_book.proofs.Oldest.{older_in}

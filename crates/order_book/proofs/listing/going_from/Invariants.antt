@@ -1,6 +1,6 @@
 use Rattle.std.proofs.Common.{◌≡◌, ◌≤◌, map, take, length}
 use Rattle.std.specs.Prelude.{filter}
-use Rattle.machine_words.specs.Meant.{tid_number}
+use Rattle.protocol.specs.Meant.{tid_number}
 use Rattle.order_book.specs.Kept.{is_live_kept, tid_kept}
 use Rattle.order_book.proofs.listing.going_from.Given as goal
 

@@ -1,7 +1,7 @@
 use Rattle.std.proofs.Common.{ℕ, List, ap, sym, ◌∙◌, get_or, map, take}
 use Rattle.std.proofs.lemmas.List.{map_more}
 use Rattle.snap_base.specs.declared.ids.Tid.{Tid}
-use Rattle.machine_words.specs.Meant.{tid_number}
+use Rattle.protocol.specs.Meant.{tid_number}
 use Rattle.protocol.specs.Parts.{Act}
 use Rattle.protocol.specs.OnBook.{changed_act, lowered}
 use Rattle.order_book.specs.Changes.{lowered_to}

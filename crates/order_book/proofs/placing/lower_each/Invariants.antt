@@ -1,5 +1,5 @@
 use Rattle.std.proofs.Common.{◌≡◌, take, map}
-use Rattle.machine_words.specs.Meant.{tid_number}
+use Rattle.protocol.specs.Meant.{tid_number}
 use Rattle.protocol.specs.OnBook.{lowered}
 use Rattle.order_book.proofs.placing.lower_each.Given as goal
 

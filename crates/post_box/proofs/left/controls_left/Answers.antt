@@ -1,5 +1,5 @@
 use Rattle.std.proofs.Common.{sym, ◌∙◌, arith}
-use Rattle.machine_words.proofs.Totals.{counted_all, counted_more}
+use Rattle.protocol.proofs.Totals.{counted_all, counted_more}
 use Rattle.protocol.specs.Left.{control_left}
 use Rattle.post_box.specs.Kept.{entry_message}
 use Rattle.post_box.specs.Shown.{control_shown}

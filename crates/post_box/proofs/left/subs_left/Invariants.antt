@@ -1,5 +1,5 @@
 use Rattle.std.proofs.Common.{◌≤◌, length}
-use Rattle.machine_words.proofs.Totals.{IsCounted}
+use Rattle.protocol.proofs.Totals.{IsCounted}
 use Rattle.protocol.specs.Left.{sub_left}
 use Rattle.post_box.specs.Kept.{entry_message}
 use Rattle.post_box.specs.Shown.{sub_shown}

@@ -3,7 +3,7 @@ use Rattle.std.proofs.Math.Seq.{take-length}
 use Rattle.core_events.specs.declared.events.Event.TheVariants as events
 use Rattle.core_events.specs.Meant.{event_meant}
 use Rattle.protocol.specs.Left.{total}
-use Rattle.run_outputs.specs.Replies.{commits_of, aborts_of}
+use Rattle.run_effects.specs.Replies.{commits_of, aborts_of}
 use Rattle.run_printing.specs.Counted.{settled_by}
 use Rattle.run_printing.proofs.Counted.{committed_total, aborted_total, settles_total, total_more}
 use Rattle.snap_core.specs.Cores.{state_at}

@@ -1,7 +1,7 @@
 use Rattle.std.proofs.Common.{◌≡◌, ◌≤◌, map, take}
 use Rattle.core_events.specs.Meant.{event_meant}
 use Rattle.protocol.specs.Left.{total}
-use Rattle.run_outputs.specs.Replies.{commits_of, aborts_of}
+use Rattle.run_effects.specs.Replies.{commits_of, aborts_of}
 use Rattle.run_printing.specs.Counted.{settled_by}
 use Rattle.snap_core.specs.Cores.{state_at}
 use Rattle.run_printing.proofs.counts.counts_of.Given as goal

@@ -4,8 +4,8 @@ use Rattle.aml_slice.specs.Controls.{Rest}
 use Rattle.core_events.specs.Meant.{event_meant}
 use Rattle.protocol.specs.Events as machine
 use Rattle.protocol.specs.Fixed.{Fixed}
-use Rattle.run_journals.specs.declared.stops.Stop.{Stop}
-use Rattle.run_journals.specs.declared.stops.Stop.TheVariants as stop
+use Rattle.run_effects.specs.declared.stops.Stop.{Stop}
+use Rattle.run_effects.specs.declared.stops.Stop.TheVariants as stop
 use Rattle.run_work.proofs.endings.end_hosted.Goals as goal
 use Rattle.run_work.specs.Printings.{printing_of}
 use Rattle.run_work.specs.Runs.{Printing, unsure_by}

@@ -10,8 +10,8 @@ use Rattle.run_work.specs.Untraced.{IsEnding}
 use Rattle.run_work.specs.Writings.{Writing, writing_of}
 use Rattle.snap_core.specs.Cores.{CoreState}
 use Rattle.snap_report.specs.declared.statuses.Status.TheVariants as status
-use Rattle.run_journals.specs.declared.stops.Stop.{Stop}
-use Rattle.run_journals.specs.declared.stops.Stop.TheVariants as stop
+use Rattle.run_effects.specs.declared.stops.Stop.{Stop}
+use Rattle.run_effects.specs.declared.stops.Stop.TheVariants as stop
 
 pub returns-in-Some-clause-ending : goal.returns-in-Some-clause-ending
 returns-in-Some-clause-ending g c = λ m is.

@@ -1,5 +1,5 @@
 use Rattle.std.proofs.Common.{arith, option_map}
-use Rattle.machine_words.proofs.Totals.{counted_all}
+use Rattle.protocol.proofs.Totals.{counted_all}
 use Rattle.protocol.specs.Left.{cell_left}
 use Rattle.snap_hand.specs.Left.{of_part}
 use Rattle.snap_hand.proofs.left.cells_left.Goals as goal

@@ -1,5 +1,5 @@
 use Rattle.std.proofs.Common.{option_map}
-use Rattle.machine_words.proofs.Totals.{IsCounted}
+use Rattle.protocol.proofs.Totals.{IsCounted}
 use Rattle.protocol.specs.Left.{cell_left}
 use Rattle.snap_hand.specs.Left.{of_part}
 use Rattle.snap_hand.proofs.left.cells_left.Given as goal

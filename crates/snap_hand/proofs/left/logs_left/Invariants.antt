@@ -1,5 +1,5 @@
 use Rattle.std.proofs.Common.{length, option_map}
-use Rattle.machine_words.proofs.Totals.{IsCounted}
+use Rattle.protocol.proofs.Totals.{IsCounted}
 use Rattle.snap_hand.specs.Left.{of_part}
 use Rattle.snap_hand.proofs.left.logs_left.Given as goal
 

@@ -2,8 +2,8 @@ use Rattle.std.proofs.Common.{◌≡◌, Some, length, refl, sym, ap, subst, ◌
 use Rattle.aml_check.specs.Checked.{methods_of}
 use Rattle.aml_slice.specs.Controls.{IsRest}
 use Rattle.core_rows.specs.Showing.{ShowsCell}
-use Rattle.machine_code.specs.MethodCode.{method_code}
-use Rattle.machine_words.specs.Meant.{next_meant}
+use Rattle.machine_laws.specs.MethodCode.{method_code}
+use Rattle.protocol.specs.Meant.{next_meant}
 use Rattle.protocol.specs.Effects.{after}
 use Rattle.protocol.specs.Events.{Run}
 use Rattle.protocol.specs.OnCell.{is_through}

@@ -1,5 +1,5 @@
 use Rattle.std.proofs.Common.{sym, ap}
-use Rattle.machine_code.specs.MethodCode.{as_sliced}
+use Rattle.machine_laws.specs.MethodCode.{as_sliced}
 use Rattle.snap_hand.proofs.SlicesHere.{through_told}
 use Rattle.snap_hand.proofs.running.slice_on.Goals as goal
 

@@ -5,7 +5,7 @@ use Rattle.protocol.specs.Runs.{IsRun}
 use Rattle.snap_core.specs.Cores.{IsAt}
 use Rattle.snap_hand.specs.Tables.{fixed_of}
 use Rattle.snap_hand.specs.declared.tables.Tables.{Tables}
-use Rattle.run_journals.specs.RunsOf.{RunsOf}
+use Rattle.run_effects.specs.RunsOf.{RunsOf}
 use Rattle.solo_host.specs.Outside.{outside}
 use Rattle.solo_host.specs.Turns.{IsBehindWords, IsOneBehind}
 use Rattle.solo_host.proofs.KeptList.{first_behind, now_behind}

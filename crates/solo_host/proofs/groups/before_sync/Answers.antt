@@ -2,7 +2,7 @@ use Rattle.std.proofs.Common.{◌<◌, length, set, subst, sym, ◌∙◌, arith
 use Rattle.snap_hand.specs.Tables.{fixed_of}
 use Rattle.solo_host.proofs.Preparing.{may_append, of_format, has_synced, has_not_synced}
 use Rattle.solo_host.specs.Outside.{IsNotSynced}
-use Rattle.run_journals.specs.declared.stops.Stop.{Stop}
+use Rattle.run_effects.specs.declared.stops.Stop.{Stop}
 use Rattle.solo_host.proofs.groups.before_sync.Goals as goal
 
 pub append_pieces-requires-clause-may : goal.append_pieces-requires-clause-may

@@ -5,7 +5,7 @@ use Rattle.core_events.specs.Meant.{event_meant}
 use Rattle.snap_hand.specs.Tables.{fixed_of}
 use Rattle.solo_host.specs.Outside.{outside}
 use Rattle.solo_host.specs.Turns.{HasStopped}
-use Rattle.run_journals.specs.declared.stops.Stop.TheVariants as stop
+use Rattle.run_effects.specs.declared.stops.Stop.TheVariants as stop
 use Rattle.solo_host.proofs.Picking.{picked_allowed}
 use Rattle.solo_host.proofs.Turning.{idle, given_up, not_stepped, kept_more, gone_on}
 use Rattle.solo_host.proofs.Words.{drawn_on}

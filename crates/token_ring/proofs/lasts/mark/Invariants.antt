@@ -1,6 +1,6 @@
 use Rattle.std.proofs.Common.{◌≡◌, map, drop}
 use Rattle.protocol.specs.OnRing.{with_lasts}
-use Rattle.machine_words.specs.Meant.{subs_actor}
+use Rattle.protocol.specs.Meant.{subs_actor}
 use Rattle.token_ring.proofs.lasts.mark.Given as goal
 
 abbrev pub invariant-loop-sub : goal.invariant-loop-sub

@@ -1,5 +1,5 @@
 use Rattle.std.proofs.Common.{arith, length}
-use Rattle.machine_words.proofs.Totals.{counted_all}
+use Rattle.protocol.proofs.Totals.{counted_all}
 use Rattle.token_ring.proofs.queue.waiting_in.Goals as goal
 
 pub returns : goal.returns

@@ -1,5 +1,5 @@
 use Rattle.std.proofs.Common.{length}
-use Rattle.machine_words.proofs.Totals.{IsCounted}
+use Rattle.protocol.proofs.Totals.{IsCounted}
 use Rattle.token_ring.proofs.queue.waiting_in.Given as goal
 
 abbrev pub invariant-loop-queue : goal.invariant-loop-queue

@@ -1,6 +1,6 @@
 use Rattle.std.proofs.Common.{ltb, rules}
 use Rattle.std.proofs.lemmas.List.Sorted.{IsPartitionPoint-from_clause}
-use Rattle.machine_words.specs.Meant.{subs_actor}
+use Rattle.protocol.specs.Meant.{subs_actor}
 use Rattle.token_ring.proofs.Places.{ascend_partitioned, leading_at}
 use Rattle.token_ring.proofs.subs.place_of.Goals as goal
 

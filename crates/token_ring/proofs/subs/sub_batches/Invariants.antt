@@ -1,5 +1,5 @@
 use Rattle.std.proofs.Common.{◌≡◌, [], map, drop}
-use Rattle.machine_words.specs.Meant.{sub_batch, batch_pact}
+use Rattle.protocol.specs.Meant.{sub_batch, batch_pact}
 use Rattle.token_ring.specs.Told.{told_all, ActorsAscend}
 use Rattle.token_ring.proofs.subs.sub_batches.Given as goal
 

@@ -2,7 +2,7 @@ use Rattle.std.proofs.Common.{◌≡◌, ◌<◌, length, map, get_or, set, ap, 
 use Rattle.std.proofs.lemmas.Bool.{eqb-true, eqb-false}
 use Rattle.std.proofs.lemmas.List.{get_or_default}
 use Rattle.std.proofs.lemmas.Result.{on_ok_weaker}
-use Rattle.machine_words.specs.Meant.{sub_batch, subs_actor}
+use Rattle.protocol.specs.Meant.{sub_batch, subs_actor}
 use Rattle.token_ring.specs.Told.{leading, first_sub, with_tid}
 use Rattle.token_ring.proofs.Places.{told_in_place, told_inserted, ascends_after}
 use Rattle.token_ring.proofs.subs.tell.Goals as goal

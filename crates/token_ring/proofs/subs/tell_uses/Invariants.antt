@@ -1,5 +1,5 @@
 use Rattle.std.proofs.Common.{◌≡◌, map, drop}
-use Rattle.machine_words.specs.Meant.{sub_batch}
+use Rattle.protocol.specs.Meant.{sub_batch}
 use Rattle.token_ring.specs.Told.{told_to, ActorsAscend}
 use Rattle.token_ring.proofs.subs.tell_uses.Given as goal
 

@@ -2,7 +2,7 @@ use Rattle.std.proofs.Common.{◌≡◌, ℕ, ◌+◌, ◌-◌, ◌<◌, Bool, t
 use Rattle.std.specs.Prelude.{option_map, unwrap_or}
 use Rattle.std.specs.List.{find}
 use Rattle.snap_base.specs.declared.transactions.State.{State}
-use Rattle.machine_words.specs.Meant.{who_meant}
+use Rattle.protocol.specs.Meant.{who_meant}
 use Rattle.protocol.specs.Parts.{Image}
 use Rattle.actor_cell.specs.Calls.{is_meant}
 use Rattle.actor_cell.proofs.Backwards.{left_from, same_place, taken_out, left_in, found_here, not_here}

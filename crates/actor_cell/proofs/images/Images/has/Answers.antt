@@ -1,7 +1,7 @@
 use Rattle.std.proofs.Common.{sym, ap, ◌∙◌}
 use Rattle.std.specs.Prelude.{is_some}
 use Rattle.std.specs.List.{find}
-use Rattle.machine_words.specs.Meant.{who_meant}
+use Rattle.protocol.specs.Meant.{who_meant}
 use Rattle.protocol.specs.Words.{is_who}
 use Rattle.actor_cell.proofs.Slots.{image_of-found, is_some-found}
 use Rattle.actor_cell.proofs.images.Images.has.Goals as goal

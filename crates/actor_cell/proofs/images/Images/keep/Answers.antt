@@ -2,7 +2,7 @@ use Rattle.std.proofs.Common.{List, [], ◌∷◌, ◌++◌, ap, ap₂, ◌∙�
 use Rattle.std.specs.Prelude.{is_some}
 use Rattle.std.proofs.lemmas.List.{map-append}
 use Rattle.snap_base.specs.declared.transactions.State.{State}
-use Rattle.machine_words.specs.Meant.{who_meant}
+use Rattle.protocol.specs.Meant.{who_meant}
 use Rattle.protocol.specs.Parts.{Image}
 use Rattle.actor_cell.specs.declared.images.Held.{Held}
 use Rattle.actor_cell.specs.Keeping.{image_in, state_or_none, IsSlotFree}

@@ -1,7 +1,7 @@
 use Rattle.std.proofs.Common.{Bool, Option, Bor, sym, ap, ◌∙◌}
 use Rattle.std.specs.Prelude.{option_map, option_copied}
 use Rattle.std.specs.List.{find}
-use Rattle.machine_words.specs.Meant.{who_meant}
+use Rattle.protocol.specs.Meant.{who_meant}
 use Rattle.protocol.specs.OnCell.{state_from}
 use Rattle.protocol.specs.Parts.{Image}
 use Rattle.protocol.specs.Words.{is_who}

@@ -1,5 +1,5 @@
 use Rattle.std.proofs.Common.{sym, ap, ◌∙◌}
-use Rattle.machine_words.specs.Meant.{who_meant}
+use Rattle.protocol.specs.Meant.{who_meant}
 use Rattle.protocol.specs.Conditions.{is_given_up}
 use Rattle.book_part.proofs.Asked.{doomed_shown}
 use Rattle.book_part.proofs.part.BookPart.is_given_up.Goals as goal

@@ -1,7 +1,7 @@
 use Rattle.std.proofs.Common.{◌≡◌, ◌≤◌, true, length, map, take}
 use Rattle.std.specs.Prelude.{vec_capacity}
 use Rattle.protocol.specs.OnCell.{not_done}
-use Rattle.machine_words.specs.Meant.{tid_number}
+use Rattle.protocol.specs.Meant.{tid_number}
 use Rattle.hybrid_schedule.specs.Slots.{are_within}
 use Rattle.hybrid_schedule.proofs.slots.Slots.of.Given as goal
 

@@ -1,5 +1,5 @@
 use Rattle.std.proofs.Common.{◌≡◌, ◌∙◌, List, ap, map, refl}
-use Rattle.machine_words.specs.Meant.{tid_number}
+use Rattle.protocol.specs.Meant.{tid_number}
 use Rattle.protocol.specs.Parts.{Act}
 use Rattle.protocol.specs.Spread.{doomed_by_order}
 use Rattle.protocol.specs.OnBook.{lowered}

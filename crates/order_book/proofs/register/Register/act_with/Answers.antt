@@ -1,7 +1,7 @@
 use Rattle.std.proofs.Common.{◌≡◌, ℕ, List, ap, ◌∙◌, subst}
 use Rattle.std.specs.Prelude.{None, Option, slice_index_or}
 use Rattle.std.specs.Option.{option_map}
-use Rattle.machine_words.specs.Meant.{tid_number}
+use Rattle.protocol.specs.Meant.{tid_number}
 use Rattle.order_book.specs.Registered.{tid_with, IsRising}
 use Rattle.order_book.proofs.Finding.{first_is, found_with}
 use Rattle.order_book.proofs.register.Register.act_with.Goals as goal

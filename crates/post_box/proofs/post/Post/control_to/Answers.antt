@@ -1,6 +1,6 @@
 use Rattle.std.proofs.Common.{ap, sym, ◌∙◌}
 use Rattle.std.specs.Option.{option_map}
-use Rattle.machine_words.specs.Meant.{actor_number}
+use Rattle.protocol.specs.Meant.{actor_number}
 use Rattle.protocol.specs.Words.{control_of}
 use Rattle.post_box.specs.Posting.{message_to}
 use Rattle.post_box.specs.declared.kept.Control.{Control}

@@ -1,7 +1,7 @@
 use Rattle.std.proofs.Common.{◌-◌, ◌^◌, min, ap, sym, ◌∙◌}
 use Rattle.protocol.specs.Left.{control_left, total}
 use Rattle.post_box.specs.Shown.{control_shown}
-use Rattle.machine_words.proofs.Totals.{total-map}
+use Rattle.protocol.proofs.Totals.{total-map}
 use Rattle.post_box.proofs.post.Post.controls_left.Goals as goal
 
 pub returns : goal.returns

@@ -1,6 +1,6 @@
 use Rattle.std.proofs.Common.{Some, map, length, ap, sym, ◌∙◌}
 use Rattle.std.specs.Option.{option_map}
-use Rattle.machine_words.specs.Meant.{tid_number}
+use Rattle.protocol.specs.Meant.{tid_number}
 use Rattle.protocol.specs.Words.{sub_of}
 use Rattle.post_box.specs.declared.head.SubHead.{SubHead}
 use Rattle.post_box.specs.declared.kept.SubRest.{SubRest}

@@ -1,6 +1,6 @@
 use Rattle.std.proofs.Common.{Some, map, ap, sym, ◌∙◌}
 use Rattle.std.specs.Option.{option_map}
-use Rattle.machine_words.specs.Meant.{sub_batch}
+use Rattle.protocol.specs.Meant.{sub_batch}
 use Rattle.protocol.specs.OnPost.{sub_taken}
 use Rattle.protocol.specs.Words.{sub_of}
 use Rattle.post_box.specs.Shown.{sub_whole, sub_shown, control_shown}

@@ -1,7 +1,7 @@
 use Rattle.std.proofs.Common.{◌+◌, ◌<◌, ◌∷◌, [], ◌++◌, length, map, take, ap, sym, ◌∙◌, None, arith}
 use Rattle.std.proofs.lemmas.List.{map_push}
 use Rattle.protocol.specs.OnRing.{numbered}
-use Rattle.machine_words.specs.Meant.{batch_pact}
+use Rattle.protocol.specs.Meant.{batch_pact}
 use Rattle.token_ring.proofs.Plans.{numbered_more}
 use Rattle.token_ring.proofs.queue.Queue.numbered.Goals as goal
 

@@ -1,6 +1,6 @@
 use Rattle.std.proofs.Common.{◌≡◌, map, take}
 use Rattle.protocol.specs.OnRing.{numbered}
-use Rattle.machine_words.specs.Meant.{batch_pact}
+use Rattle.protocol.specs.Meant.{batch_pact}
 use Rattle.token_ring.proofs.queue.Queue.numbered.Given as goal
 
 abbrev pub invariant-loop-i : goal.invariant-loop-i

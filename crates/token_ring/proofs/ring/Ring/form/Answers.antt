@@ -2,7 +2,7 @@ use Rattle.std.proofs.Common.{◌≡◌, ◌+◌, [], length, map, drop, get_or,
 use Rattle.std.proofs.lemmas.List.{get_or_read, with_items_is, length-map}
 use Rattle.std.specs.Vec.{with_items, with_item}
 use Rattle.protocol.specs.OnRing.{planned, formed, with_lasts}
-use Rattle.machine_words.specs.Meant.{batch_pact, subs_actor}
+use Rattle.protocol.specs.Meant.{batch_pact, subs_actor}
 use Rattle.token_ring.specs.contracts.ring.Ring.{the_view}
 use Rattle.token_ring.proofs.Plans.{form_is}
 use Rattle.token_ring.proofs.ring.Ring.form.Goals as goal

@@ -1,7 +1,7 @@
 use Rattle.std.proofs.Common.{◌≡◌, [], map, take, get_or, subst, ap, sym, ◌∙◌}
 use Rattle.std.proofs.lemmas.List.{get_or_read}
 use Rattle.protocol.specs.OnRing.{numbered, planned}
-use Rattle.machine_words.specs.Meant.{batch_pact, sub_batch, subs_actor}
+use Rattle.protocol.specs.Meant.{batch_pact, sub_batch, subs_actor}
 use Rattle.token_ring.specs.Told.{told_all}
 use Rattle.token_ring.specs.contracts.ring.Ring.{the_view}
 use Rattle.token_ring.proofs.Plans.{plan_is}

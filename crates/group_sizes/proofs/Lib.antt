@@ -1,4 +1,0 @@
-mod ToldSizes
-mod GroupSizes
-mod GroupsWaited
-mod RecordCounts

@@ -1,8 +1,0 @@
-use Rattle.std.specs.List.{flat_map}
-use Rattle.std.proofs.Common.{map, take}
-use Rattle.post_box.specs.Listed.{control_listed}
-use Rattle.hand_offers.specs.Listed.{Adds, of_control}
-use Rattle.hand_offers.proofs.of_post.list_controls.Given as goal
-
-abbrev pub invariant-loop-p : goal.invariant-loop-p
-invariant-loop-p l = Adds l.initial.events.items l.events.items (flat_map of_control (map control_listed (take l.p-index l.controls)))

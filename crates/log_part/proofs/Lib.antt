@@ -1,3 +1,0 @@
-pub mod Durable
-pub mod Naming
-pub mod Telling

@@ -1,4 +1,0 @@
-pub mod Naming
-pub mod Askings
-pub mod MachineFacts
-pub mod Executions

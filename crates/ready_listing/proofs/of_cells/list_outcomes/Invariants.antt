@@ -1,0 +1,8 @@
+use Rattle.std.specs.List.{flat_map}
+use Rattle.std.proofs.Common.{map, take}
+use Rattle.protocol.specs.Meant.{tid_number}
+use Rattle.ready_listing.specs.Listed.{Adds, of_outcome}
+use Rattle.ready_listing.proofs.of_cells.list_outcomes.Given as goal
+
+abbrev pub invariant-loop-t : goal.invariant-loop-t
+invariant-loop-t l = Adds l.initial.events.items l.events.items (flat_map (of_outcome l.a.0) (map tid_number (take l.t-index l.tids)))

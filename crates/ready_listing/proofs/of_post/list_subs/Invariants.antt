@@ -1,0 +1,8 @@
+use Rattle.std.specs.List.{flat_map}
+use Rattle.std.proofs.Common.{map, take}
+use Rattle.post_box.specs.Listed.{sub_listed}
+use Rattle.ready_listing.specs.Listed.{Adds, of_sub}
+use Rattle.ready_listing.proofs.of_post.list_subs.Given as goal
+
+abbrev pub invariant-loop-p : goal.invariant-loop-p
+invariant-loop-p l = Adds l.initial.events.items l.events.items (flat_map of_sub (map sub_listed (take l.p-index l.subs)))

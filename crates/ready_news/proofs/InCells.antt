@@ -1,0 +1,339 @@
+-- What is listed of the actors tells what is new there.
+use Rattle.std.specs.Prelude.{◌≡◌, ◌↔◌, nat_le, nat_lt, map, refl, ℕ, zero, suc, ◌+◌, ◌<◌, ◌≤◌, ◌==◌, Bool, true, false, ◌&&◌, ◌||◌, if◌then◌else◌, is_some, Option, Some, None, List, [], ◌∷◌, ◌++◌, length, take, slice_get, slice_set, Contains}
+use Rattle.std.specs.List.{list_any, AllByRecursion}
+use Rattle.std.proofs.Common.{arith, sym, ap, subst, inl, inr, ◌∙◌}
+use Rattle.std.proofs.lemmas.Bool.{true≢false, ltb-false, and_parts, eqb-true, cases_Bool}
+use Rattle.std.proofs.lemmas.Option.{same_Some, slice_get_within}
+use Rattle.aml_slice.specs.Controls.{Rest}
+use Rattle.protocol.specs.Conditions.{IsAllowed, conditions, epoch, refusal}
+use Rattle.protocol.specs.Effects.{after, cell_at, no_cell, puts}
+use Rattle.protocol.specs.Events.{Event, Form, Arrive, Ask, Take, Run, Send, End, Close, Complete, Abort, Rollback, Finish, Trim}
+use Rattle.protocol.specs.Fixed.{Fixed}
+use Rattle.protocol.specs.Laws.{AfterEveryRun}
+use Rattle.core_rows.specs.OnRuns.{HasRun}
+use Rattle.protocol.specs.OnCell.{outcome_taken}
+use Rattle.protocol.specs.OnDesk.{new_batch}
+use Rattle.protocol.specs.OnRing.{next_actors, next_pacts, numbered}
+use Rattle.protocol.specs.Parts.{Who, OfBatch, OfAct, Pact, Batch, Desk, Outcome, Cell, Machine}
+use Rattle.protocol.specs.Numbers.{NumbersDrawnOnce, flat, one_if, times}
+use Rattle.protocol.specs.Rests.{IsRest, IsTxIn}
+use Rattle.protocol.specs.Words.{batch_of, below, has_undone, holds, is_ended, is_going, names_pact, outcome_of, pact_result, result_among, who_on}
+use Rattle.protocol_laws.specs.FromDesk.{EntryOf, FromDesk}
+use Rattle.protocol_laws.proofs.first.Times.{times_append}
+use Rattle.protocol_laws.proofs.machine.AllGood.{all_good}
+use Rattle.batch_table.specs.Listed.{actors_in}
+use Rattle.protocol_laws.specs.Ranges.{BatchInRange, IsDrawnTid, NumbersInRange}
+use Rattle.protocol_theorems.specs.Sizes.{SizesHold}
+use Rattle.protocol_ready.specs.Telling.{CellTells}
+use Rattle.protocol_ready.specs.Touched.{is_touched, is_abort, changes_entries, changes_done, changes_result}
+use Rattle.protocol_ready.proofs.Listing.{from_has, any_of, at_found}
+use Rattle.protocol_ready.proofs.TouchedListed.{no}
+use Rattle.listing_facts.specs.Listing.{CellLists}
+use Rattle.ready_listing.specs.Listed.{on_cell, on_place, of_place}
+use Rattle.ready_listing.proofs.Lists.{first_of_all, in_flat_map, in_below}
+use Rattle.ready_listing.proofs.Told.{cell_lists}
+use Rattle.snap_hand.specs.Hands.{Parts, Fits, IsHandOf, IsWhole}
+use Rattle.ready_news.specs.New.{IsBehind, is_new}
+use Rattle.ready_news.specs.InBook.{only}
+use Rattle.ready_news.specs.InCells.{of_close, close_at, closes, closes_of, closes_behind, owes, who_in, cells_listed}
+use Rattle.ready_news.proofs.Common.{Among, cell_is_there, desk_there}
+use Rattle.ready_news.proofs.Closing.{declared_where, who_is}
+use Rattle.ready_news.proofs.InPost.{find_gone, numbered_from, left_or}
+use Rattle.ready_news.proofs.PostTold.{Asks, asks_of, first_only}
+
+-- ---- elsewhere nothing is touched
+
+-- the event is on this actor
+abbrev here : Event → ℕ → Bool
+here (Arrive k b) a = b == a
+here (Ask t b) a = b == a
+here (Run t b) a = b == a
+here (Close t b) a = b == a
+here (Complete k b) a = b == a
+here (Rollback b) a = b == a
+here (Finish t b) a = b == a
+here (Trim k b) a = b == a
+here _ a = false
+
+-- more than that something comes or goes
+abbrev is_plain : Event → Bool
+is_plain (Take t b) = false
+is_plain (Send t b) = false
+is_plain (End t b) = false
+is_plain _ = true
+
+record Away (w : Fixed Rest) (e : Event) (s : Machine Rest) (a : ℕ) : Type 0 where
+  pub run : (t : ℕ) → is_touched w e s (Run t a) ≡ false
+  pub send : (t : ℕ) → is_touched w e s (Send t a) ≡ false
+  pub end : (t : ℕ) → is_touched w e s (End t a) ≡ false
+  pub done : (t : ℕ) → (changes_entries e a || changes_done w e s t a) ≡ false
+  pub complete : (k : ℕ) → is_touched w e s (Complete k a) ≡ false
+  pub rollback : is_touched w e s (Rollback a) ≡ false
+
+away : (w : Fixed Rest) (e : Event) (s : Machine Rest) (a : ℕ) → is_plain e ≡ true → is_abort e ≡ false → here e a ≡ false → Away w e s a
+away w (Arrive k b) s a y z h = record { run = λ t. rw h refl; send = λ t. refl; end = λ t. refl; done = λ t. rw h refl; complete = λ k. rw h refl; rollback = refl }
+away w (Ask u b) s a y z h = record { run = λ t. rw h refl; send = λ t. refl; end = λ t. refl; done = λ t. rw h refl; complete = λ k. rw h refl; rollback = refl }
+away w (Take u b) s a y z h = no y
+away w (Run u b) s a y z h = record { run = λ t. rw h refl; send = λ t. rw h refl; end = λ t. rw h refl; done = λ t. rw h refl; complete = λ k. rw h refl; rollback = refl }
+away w (Send u b) s a y z h = no y
+away w (End u b) s a y z h = no y
+away w (Close u b) s a y z h = record { run = λ t. rw h refl; send = λ t. refl; end = λ t. refl; done = λ t. rw h refl; complete = λ k. rw h refl; rollback = refl }
+away w (Complete k b) s a y z h = record { run = λ t. rw h refl; send = λ t. refl; end = λ t. refl; done = λ t. refl; complete = λ k. rw h refl; rollback = refl }
+away w (Rollback b) s a y z h = record { run = λ t. rw h refl; send = λ t. rw h refl; end = λ t. rw h refl; done = λ t. rw h refl; complete = λ k. rw h refl; rollback = rw h refl }
+away w (Finish u b) s a y z h = record { run = λ t. rw h refl; send = λ t. rw h refl; end = λ t. rw h refl; done = λ t. rw h refl; complete = λ k. rw h refl; rollback = refl }
+away w (Trim k b) s a y z h = record { run = λ t. rw h refl; send = λ t. refl; end = λ t. refl; done = λ t. rw h refl; complete = λ k. rw h refl; rollback = refl }
+away w (Abort k) s a y z h = absurd (true≢false z)
+away w _ s a y z h = record { run = λ t. refl; send = λ t. refl; end = λ t. refl; done = λ t. refl; complete = λ k. refl; rollback = refl }
+
+-- ---- a PACT of a new batch has no result
+
+unnamed_among : (t n : ℕ) (ps : List Pact) → AllByRecursion (λ p. p.tid < n) ps → n ≤ t → list_any (λ p. p.tid == t) ps ≡ false
+unnamed_among t n [] h g = refl
+unnamed_among t n (p ∷ ps) h g = by (p.tid == t) refl (unnamed_among t n ps h.1 g)
+  where
+    by : (b : Bool) → (p.tid == t) ≡ b → list_any (λ p. p.tid == t) ps ≡ false → (b || list_any (λ p. p.tid == t) ps) ≡ false
+    by true e i = absurd (omega (arith, eqb-true p.tid t e, h.0, g))
+    by false e i = i
+
+drawn_below : (w : Fixed Rest) (s : Machine Rest) (ps : List Pact) → AllByRecursion (λ p. IsDrawnTid w s p.tid) ps → AllByRecursion (λ p. p.tid < s.ring.next_tid) ps
+drawn_below w s [] h = tt
+drawn_below w s (p ∷ ps) h = (h.0.below, drawn_below w s ps h.1)
+
+none_noted : (t n : ℕ) (ns : List ℕ) → result_among t (numbered n ns) ≡ None
+none_noted t n [] = refl
+none_noted t n (m ∷ ns) = by (n == t) (none_noted t (n + 1) ns)
+  where
+    by : (b : Bool) → result_among t (numbered (n + 1) ns) ≡ None → (if b then None else result_among t (numbered (n + 1) ns)) ≡ None
+    by true i = refl
+    by false i = i
+
+new_unended : (w : Fixed Rest) (s : Machine Rest) (t : ℕ) (b : Batch) (bs : List Batch) → AllByRecursion (BatchInRange w s) bs → s.ring.next_tid ≤ t → result_among t b.pacts ≡ None → pact_result t (bs ++ b ∷ []) ≡ None
+new_unended w s t b [] h g none = by (names_pact t b)
+  where
+    by : (c : Bool) → (if c then result_among t b.pacts else None) ≡ None
+    by true = none
+    by false = refl
+new_unended w s t b (x ∷ bs) h g none = rw (unnamed_among t s.ring.next_tid x.pacts (drawn_below w s x.pacts h.0.tids) g) (new_unended w s t b bs h.1 g none)
+
+form_closes : (w : Fixed Rest) (k : ℕ) (s : Machine Rest) (t a : ℕ) → AllByRecursion (BatchInRange w s) s.desk.batches → list_any (λ p. p.tid == t) (next_pacts w.text s.ring) ≡ true → IsAllowed w (Close t a) (after w (Form k) s) → ⊥
+unfolding conditions after
+form_closes w k s t a ranges h c =
+    let q = any_of (λ p. p.tid == t) (next_pacts w.text s.ring) h in
+    let new : s.ring.next_tid ≤ t = subst (λ n. s.ring.next_tid ≤ n) (eqb-true q.it.tid t q.does) (numbered_from s.ring.next_tid (take w.text.batch _) q.it q.has) in
+    true≢false (sym c.0 ∙ ap is_some (new_unended w s t (new_batch k (next_actors w.text s.ring) (next_pacts w.text s.ring)) s.desk.batches ranges new (none_noted t s.ring.next_tid (take w.text.batch _))))
+
+-- ---- a PACT that ended
+
+-- what is known of the state in which it is looked for
+record Desked (t : Machine Rest) (h : Parts) : Type 0 where
+  pub from : FromDesk t
+  pub few : (u : ℕ) → times u (flat (map (λ b. map (λ p. p.tid) b.pacts) t.desk.batches)) ≤ 1
+  pub desk : h.desk ≡ Some t.desk
+  pub cells : (b : ℕ) (x : Cell Rest) → slice_get h.cells b ≡ Some (Some x) → slice_get t.cells b ≡ Some x
+  pub there : (b : ℕ) → b < length h.cells → (x : Cell Rest) × (slice_get h.cells b ≡ Some (Some x))
+
+everywhere : (h : Parts) (u a : ℕ) → a < length h.cells → Contains (closes u h) (Close u a)
+everywhere h u a within = in_flat_map (of_close u) (below (length h.cells)) a (Close u a) (in_below a (length h.cells) within) (first_of_all [] (Close u a))
+
+entries_of : (t : Machine Rest) → FromDesk t → (a : ℕ) (c : Cell Rest) → slice_get t.cells a ≡ Some c → AllByRecursion (EntryOf a t.desk.batches) c.entries
+entries_of t from a c at = subst (λ z. AllByRecursion (EntryOf a t.desk.batches) z.entries) (at_found t.cells a no_cell c at) (from.entries a)
+
+owed : (t : Machine Rest) (h : Parts) → Desked t h → (u a : ℕ) (c : Cell Rest) → slice_get t.cells a ≡ Some c → has_undone u c.entries ≡ true → a < length h.cells → Contains (close_at u h a) (Close u a)
+owed t h k u a c at undone within =
+    let x = k.there a within in
+    let same : x.0 ≡ c = same_Some x.0 c (sym (k.cells a x.0 x.1) ∙ at) in
+    let due : owes u (slice_get h.cells a) ≡ true = ap (owes u) x.1 ∙ (ap (λ z. has_undone u z.entries) same ∙ undone) in
+    subst (λ v. Contains (only v (Close u a)) (Close u a)) (sym due) (first_of_all [] (Close u a))
+
+ended_in : (t : Machine Rest) (h : Parts) → Desked t h → (u b a : ℕ) (c : Cell Rest) → slice_get t.cells a ≡ Some c → has_undone u c.entries ≡ true → is_some (pact_result u t.desk.batches) ≡ true → a < length h.cells
+    → Contains (closes_behind u (who_in u (slice_get h.cells b)) h.desk h) (Close u a)
+ended_in t h k u b a c at undone result within =
+    let who = who_in u (slice_get h.cells b) in
+    subst (λ o. Contains (closes_behind u who o h) (Close u a)) (sym k.desk)
+    (subst (λ v. Contains (if v then closes_of u who t.desk h else []) (Close u a)) (sym result) (by (slice_get h.cells b) refl))
+  where
+    whose : (x : Cell Rest) → slice_get t.cells b ≡ Some x → (who : Who) → who_on u x.entries ≡ who → Contains (closes_of u who t.desk h) (Close u a)
+    whose x is (OfAct v) q = everywhere h u a within
+    whose x is (OfBatch j) q =
+        let of_j = who_is b u j t.desk.batches x.entries (entries_of t k.from b x is) q in
+        let actors = actors_in (batch_of j t.desk.batches) in
+        in_flat_map (close_at u h) actors a (Close u a) (from_has actors a (declared_where a u j t.desk.batches c.entries (entries_of t k.from a c at) (k.few u) of_j undone)) (owed t h k u a c at undone within)
+
+    by : (o : Option (Option (Cell Rest))) → slice_get h.cells b ≡ o → Contains (closes_of u (who_in u o) t.desk h) (Close u a)
+    by None e = everywhere h u a within
+    by (Some None) e = everywhere h u a within
+    by (Some (Some x)) e = whose x (k.cells b x e) (who_on u x.entries) refl
+
+close_result : (w : Fixed Rest) (t : Machine Rest) (u a : ℕ) → IsAllowed w (Close u a) t → is_some (pact_result u t.desk.batches) ≡ true
+unfolding conditions
+close_result w t u a c = c.0
+
+from_run : (w : Fixed Rest) (t : Machine Rest) → HasRun w t → 1 ≤ length w.text.opening.states → FromDesk t
+from_run w t run some = subst FromDesk (sym run.is_reached) (all_good w (IsRest w.code (IsTxIn w.text)) run.finish run.events (record { text = run.text; actors = some; facts = run.facts }) run.run).good.from_desk
+
+one_few : (b : Bool) → one_if b ≤ 1
+one_few true = omega arith
+one_few false = omega arith
+
+few_of : (w : Fixed Rest) (t : Machine Rest) → NumbersDrawnOnce w t → (u : ℕ) → times u (flat (map (λ b. map (λ p. p.tid) b.pacts) t.desk.batches)) ≤ 1
+few_of w t n u = omega (arith, n.tids u, times_append u (flat (map (λ b. map (λ p. p.tid) b.pacts) t.desk.batches)) (map (λ x. x.tid) t.book.acts), one_few (nat_le w.text.opening.next_tid u && nat_lt u t.ring.next_tid))
+
+-- the cell that was put in
+got : (xs : List (Cell Rest)) (i j : ℕ) (y c : Cell Rest) → slice_get (slice_set xs j y) i ≡ Some c → j ≡ i → c ≡ y
+got [] i j y c e h = absurd (cc e)
+got (x ∷ xs) zero zero y c e h = sym (same_Some y c e)
+got (x ∷ xs) (suc i) zero y c e h = absurd (omega (arith, h))
+got (x ∷ xs) zero (suc j) y c e h = absurd (omega (arith, h))
+got (x ∷ xs) (suc i) (suc j) y c e h = got xs i j y c e (omega (arith, h))
+
+-- ---- one actor
+
+module _ (asked : Event → Bool) (w : Fixed Rest) (s : Machine Rest) (h : Parts) (es : List Event) where
+  -- what is told of an actor where the event is not
+  told_away : (e : Event) → Asks asked w s e → AllByRecursion (BatchInRange w s) s.desk.batches → Desked (after w e s) h → (cascades a : ℕ) (c : Cell Rest) → a < length h.cells → slice_get (after w e s).cells a ≡ Some c → is_plain e ≡ true → is_abort e ≡ false → here e a ≡ false → Among (cells_listed e h) es → CellTells asked cascades a c es
+  told_away e g ranges desked cascades a c within at plain z q more =
+      let far = away w e s a plain z q in
+      record {
+        run = λ t x y. absurd (true≢false (sym (g.touched (Run t a) x) ∙ far.run t));
+        send = λ t x y. absurd (true≢false (sym (g.touched (Send t a) x) ∙ far.send t));
+        end = λ t x y. absurd (true≢false (sym (g.touched (End t a) x) ∙ far.end t));
+        close = λ t x y. closed e g plain t x (left_or (changes_result w e s t) _ (left_or_right (is_abort e) _ (g.touched (Close t a) x) z) (λ v. absurd (true≢false (sym v ∙ far.done t))));
+        complete = λ k x y. absurd (true≢false (sym (g.touched (Complete k a) x) ∙ far.complete k));
+        rollback = λ x y. absurd (true≢false (sym (g.touched (Rollback a) x) ∙ far.rollback));
+      }
+    where
+      left_or_right : (b d : Bool) → (b || d) ≡ true → b ≡ false → d ≡ true
+      left_or_right true d x e = absurd (true≢false e)
+      left_or_right false d x e = x
+
+      closed : (e : Event) → Asks asked w s e → is_plain e ≡ true → (t : ℕ) → asked (Close t a) ≡ true → changes_result w e s t ≡ true → Contains es (Close t a)
+      closed (Form k) g plain t x v = absurd (form_closes w k s t a ranges v (g.allowed (Close t a) x))
+      closed (End u b) g plain t x v = no plain
+      closed _ g plain t x v = no v
+
+  -- where it is
+  here_listed : (e : Event) (a : ℕ) → here e a ≡ true → Among (cells_listed e h) es → Among (on_place h a) es
+  here_listed (Arrive k b) a q more f c = more f (subst (λ n. Contains (on_place h n) f) (sym (eqb-true b a q)) c)
+  here_listed (Ask u b) a q more f c = more f (subst (λ n. Contains (on_place h n) f) (sym (eqb-true b a q)) c)
+  here_listed (Run u b) a q more f c = more f (subst (λ n. Contains (on_place h n) f) (sym (eqb-true b a q)) c)
+  here_listed (Close u b) a q more f c = more f (subst (λ n. Contains (on_place h n) f) (sym (eqb-true b a q)) c)
+  here_listed (Complete k b) a q more f c = more f (subst (λ n. Contains (on_place h n) f) (sym (eqb-true b a q)) c)
+  here_listed (Rollback b) a q more f c = more f (subst (λ n. Contains (on_place h n) f) (sym (eqb-true b a q)) c)
+  here_listed (Finish u b) a q more f c = more f (subst (λ n. Contains (on_place h n) f) (sym (eqb-true b a q)) c)
+  here_listed (Trim k b) a q more f c = more f (subst (λ n. Contains (on_place h n) f) (sym (eqb-true b a q)) c)
+  here_listed _ a q more f c = no q
+
+  -- after a cascade all
+  abort_listed : (e : Event) (a : ℕ) → a < length h.cells → is_abort e ≡ true → Among (cells_listed e h) es → Among (on_place h a) es
+  abort_listed (Abort k) a within z more f c = more f (in_flat_map (on_place h) (below (length h.cells)) a f (in_below a (length h.cells) within) c)
+  abort_listed _ a within z more f c = no z
+
+  -- a control comes
+  took : (u b : ℕ) → Asks asked w s (Take u b) → (cascades a : ℕ) (c : Cell Rest) → Among (cells_listed (Take u b) h) es → CellTells asked cascades a c es
+  took u b g cascades a c more = record {
+    run = λ t x y.
+        let q = and_parts (b == a) (u == t) (first_only ((b == a) && (u == t)) (g.touched (Run t a) x)) in
+        subst (λ n. Contains es (Run n a)) (eqb-true u t q.1) (subst (λ n. Contains es (Run u n)) (eqb-true b a q.0) (more (Run u b) (first_of_all [] (Run u b))));
+    send = λ t x y. no (g.touched (Send t a) x);
+    end = λ t x y. no (g.touched (End t a) x);
+    close = λ t x y. no (g.touched (Close t a) x);
+    complete = λ k x y. no (g.touched (Complete k a) x);
+    rollback = λ x y. no (g.touched (Rollback a) x);
+  }
+
+  -- an outcome goes
+  went : (p : Outcome Rest → Bool) (u b t a : ℕ) (c : Cell Rest) → slice_get (puts s b (outcome_taken u (cell_at s b))) a ≡ Some c → ((b == a) && (u == t)) ≡ true → holds p (outcome_of t c.outbox) ≡ true → ⊥
+  went p u b t a c at same y =
+      let q = and_parts (b == a) (u == t) same in
+      let is = got s.cells a b (outcome_taken u (cell_at s b)) c at (eqb-true b a q.0) in
+      true≢false (sym y ∙ ap (λ z. holds p (outcome_of t z.outbox)) is ∙ ap (λ n. holds p (outcome_of n (outcome_taken u (cell_at s b)).outbox)) (sym (eqb-true u t q.1)) ∙ ap (holds p) (find_gone (λ x. x.tid == u) (cell_at s b).outbox))
+
+  sent_on : (u b : ℕ) → Asks asked w s (Send u b) → (cascades a : ℕ) (c : Cell Rest) → slice_get (after w (Send u b) s).cells a ≡ Some c → CellTells asked cascades a c es
+  unfolding after
+  sent_on u b g cascades a c at = record {
+    run = λ t x y. no (g.touched (Run t a) x);
+    send = λ t x y. absurd (went (λ x. is_going x.next) u b t a c at (g.touched (Send t a) x) y);
+    end = λ t x y. absurd (went (λ x. is_ended x.next) u b t a c at (g.touched (End t a) x) y);
+    close = λ t x y. no (g.touched (Close t a) x);
+    complete = λ k x y. no (g.touched (Complete k a) x);
+    rollback = λ x y. no (g.touched (Rollback a) x);
+  }
+
+  ended : (u b : ℕ) → Asks asked w s (End u b) → Desked (after w (End u b) s) h → (cascades a : ℕ) (c : Cell Rest) → a < length h.cells → slice_get (after w (End u b) s).cells a ≡ Some c → Among (cells_listed (End u b) h) es → CellTells asked cascades a c es
+  unfolding after
+  ended u b g desked cascades a c within at more = record {
+    run = λ t x y. no (g.touched (Run t a) x);
+    send = λ t x y. absurd (went (λ x. is_going x.next) u b t a c at (g.touched (Send t a) x) y);
+    end = λ t x y. absurd (went (λ x. is_ended x.next) u b t a c at (g.touched (End t a) x) y);
+    close = λ t x y.
+        let there = ended_in (after w (End u b) s) h desked t b a c at y (close_result w (after w (End u b) s) t a (g.allowed (Close t a) x)) within in
+        more (Close t a) (subst (λ n. Contains (closes_behind n (who_in n (slice_get h.cells b)) h.desk h) (Close t a)) (sym (eqb-true u t (first_only (u == t) (g.touched (Close t a) x)))) there);
+    complete = λ k x y. no (g.touched (Complete k a) x);
+    rollback = λ x y. no (g.touched (Rollback a) x);
+  }
+
+  module _ (ranges : AllByRecursion (BatchInRange w s) s.desk.batches) (enough : (cascades a : ℕ) (c : Cell Rest) → CellLists asked cascades a c es → CellTells asked cascades a c es) where
+    plain_told : (e : Event) → is_plain e ≡ true → Asks asked w s e → Desked (after w e s) h → (cascades a : ℕ) (c : Cell Rest) → a < length h.cells → slice_get (after w e s).cells a ≡ Some c → on_place h a ≡ on_cell a c → Among (cells_listed e h) es → CellTells asked cascades a c es
+    plain_told e plain g desked cascades a c within at shown more = elim (cases_Bool (is_abort e)) [
+      | inl z ↦ all (abort_listed e a within z more)
+      | inr z ↦ elim (cases_Bool (here e a)) [ inl q ↦ all (here_listed e a q more) | inr q ↦ told_away e g ranges desked cascades a c within at plain z q more ]
+    ]
+      where
+        all : Among (on_place h a) es → CellTells asked cascades a c es
+        all among = enough cascades a c (cell_lists asked es cascades a c (λ f x. among f (subst (λ v. Contains v f) (sym shown) x)))
+
+    cell_told : (e : Event) → Asks asked w s e → Desked (after w e s) h → (cascades a : ℕ) (c : Cell Rest) → a < length h.cells → slice_get (after w e s).cells a ≡ Some c → on_place h a ≡ on_cell a c → Among (cells_listed e h) es → CellTells asked cascades a c es
+    cell_told (Take u b) g desked cascades a c within at shown more = took u b g cascades a c more
+    cell_told (Send u b) g desked cascades a c within at shown more = sent_on u b g cascades a c at
+    cell_told (End u b) g desked cascades a c within at shown more = ended u b g desked cascades a c within at more
+    cell_told _ g desked cascades a c within at shown more = plain_told _ refl g desked cascades a c within at shown more
+
+-- ---- what the hand shows
+
+place_shown : (w : Fixed Rest) (h : Parts) (t : Machine Rest) → IsHandOf w h → IsWhole h → Fits h t → (a : ℕ) (c : Cell Rest) → a < length h.cells → slice_get t.cells a ≡ Some c → on_place h a ≡ on_cell a c
+place_shown w h t places whole fits a c within at =
+    let x = cell_is_there h whole w.text.logs a places.logs within in
+    ap (of_place a) x.1 ∙ ap (on_cell a) (same_Some x.0 c (sym (fits.cells a x.0 x.1) ∙ at))
+
+is_within : (w : Fixed Rest) (h : Parts) (t : Machine Rest) → IsHandOf w h → length t.cells ≡ length w.text.opening.states → (a : ℕ) (c : Cell Rest) → slice_get t.cells a ≡ Some c → a < length h.cells
+is_within w h t places sizes a c at = subst (λ n. a < n) (sizes ∙ sym places.cells) (slice_get_within t.cells a c at)
+
+pub all_cells_told : (w : Fixed Rest) (e : Event) (s : Machine Rest) (h : Parts) (es : List Event) → IsHandOf w h → IsWhole h → IsBehind w e s h
+    → ((w : Fixed Rest) (e : Event) (s : Machine Rest) → (refusal w e s ≡ 0) ↔ IsAllowed w e s)
+    → ((w : Fixed Rest) (e : Event) (s : Machine Rest) → HasRun w s → IsAllowed w e s → HasRun w (after w e s))
+    → AfterEveryRun (NumbersDrawnOnce {C = Rest}) → AfterEveryRun (NumbersInRange {C = Rest}) → AfterEveryRun (SizesHold {C = Rest})
+    → ((asked : Event → Bool) (cascades a : ℕ) (c : Cell Rest) (es : List Event) → CellLists asked cascades a c es → CellTells asked cascades a c es)
+    → Among (cells_listed e h) es → (a : ℕ) (c : Cell Rest) → slice_get (after w e s).cells a ≡ Some c → CellTells (is_new w e s) (epoch (after w e s).book) a c es
+all_cells_told w e s h es places whole behind ruled goes drawn ranges sizes enough more a c at =
+    let run = behind.run in
+    let next = goes w e s run behind.allowed in
+    let ranged : NumbersInRange w s = subst (NumbersInRange w) (sym run.is_reached) (ranges w run.events run.text run.run) in
+    let sized : SizesHold w (after w e s) = subst (SizesHold w) (sym next.is_reached) (sizes w next.events next.text next.run) in
+    let within = is_within w h (after w e s) places sized.cells a c at in
+    let once : NumbersDrawnOnce w (after w e s) = subst (NumbersDrawnOnce w) (sym next.is_reached) (drawn w next.events next.text next.run) in
+    let desk = desk_there h whole in
+    let desked : Desked (after w e s) h = record {
+      from = from_run w (after w e s) next (omega (arith, within, places.cells));
+      few = few_of w (after w e s) once;
+      desk = desk.1 ∙ ap Some (sym (behind.fits.desk desk.0 desk.1));
+      cells = behind.fits.cells;
+      there = λ b inside. cell_is_there h whole w.text.logs b places.logs inside;
+    } in
+    cell_told (is_new w e s) w s h es ranged.batches (λ cascades a c. enough (is_new w e s) cascades a c es) e (asks_of w e s ruled) desked (epoch (after w e s).book) a c within at
+    (place_shown w h (after w e s) places whole behind.fits a c within at) more
+
+-- ---- what the code finds
+
+none_past : {X : Type 0} (xs : List X) (i : ℕ) → length xs ≤ i → slice_get xs i ≡ None
+none_past [] i h = refl
+none_past (x ∷ xs) zero h = absurd (omega (arith, h))
+none_past (x ∷ xs) (suc i) h = none_past xs i (omega (arith, h))
+
+pub not_there : (h : Parts) (a : ℕ) → nat_lt a (length h.cells) ≡ false → slice_get h.cells a ≡ None
+not_there h a e = none_past h.cells a (ltb-false a (length h.cells) e)
+
+pub ended_none : (t : ℕ) (who : Who) (h : Parts) (d : Desk) → h.desk ≡ Some d → is_some (pact_result t d.batches) ≡ false → closes_behind t who h.desk h ≡ []
+ended_none t who h d is e = ap (λ o. closes_behind t who o h) is ∙ ap (λ b. if b then closes_of t who d h else []) e
+
+pub ended_some : (t : ℕ) (who : Who) (h : Parts) (d : Desk) → h.desk ≡ Some d → is_some (pact_result t d.batches) ≡ true → closes_behind t who h.desk h ≡ closes_of t who d h
+ended_some t who h d is e = ap (λ o. closes_behind t who o h) is ∙ ap (λ b. if b then closes_of t who d h else []) e

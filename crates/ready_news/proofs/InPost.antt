@@ -1,0 +1,146 @@
+-- What is listed of the post tells what is new there.
+use Rattle.std.specs.Prelude.{◌≡◌, refl, ℕ, ◌+◌, ◌≤◌, ◌==◌, not, Bool, true, false, ◌||◌, if◌then◌else◌, is_some, max, unwrap_or, Option, Some, None, List, [], ◌∷◌, map, filter, find, Contains}
+use Rattle.std.specs.List.{flat_map}
+use Rattle.std.specs.Option.{option_map}
+use Rattle.std.proofs.Common.{arith, sym, ap, subst, inl, inr, ◌∙◌}
+use Rattle.std.proofs.lemmas.Bool.{true≢false, eqb-true, eq-eqb}
+use Rattle.std.proofs.lemmas.List.Elements.{Contains-append_left, Contains-append_right}
+use Rattle.aml_slice.specs.Controls.{Rest}
+use Rattle.protocol.specs.Events.{Event, Arrive, DropControl}
+use Rattle.protocol.specs.OnBook.{changed_act, change_if}
+use Rattle.protocol.specs.OnRing.{numbered}
+use Rattle.protocol.specs.Parts.{Act, Pair, Doomed, Pact, SubBatch, ControlMessage, Post}
+use Rattle.protocol.specs.Spread.{carried, raised, crossed_out, is_crossed}
+use Rattle.protocol.specs.Verdicts.{out_of_order}
+use Rattle.protocol.specs.Words.{act_of, control_of, has_control_to, holds, is_doomed, sub_of}
+use Rattle.protocol_ready.proofs.Listing.{Has, from_has, has_filter, has_flat_map, has_map, held, some, found_in}
+use Rattle.protocol_ready.proofs.Offered.{sub_found}
+use Rattle.protocol_ready.proofs.TouchedListed.{no}
+use Rattle.post_box.specs.Listed.{control_places, places_to, sub_places}
+use Rattle.post_box.specs.Posting.{message_to}
+use Rattle.ready_listing.specs.Listed.{of_control, of_sub, on_post}
+use Rattle.ready_news.specs.InPost.{of_arrival, of_coming, of_target, arrivals_to, comings_to, on_control}
+
+-- ---- words
+
+pub left_or : (b c : Bool) → (b || c) ≡ true → (c ≡ true → b ≡ true) → b ≡ true
+left_or true c h g = refl
+left_or false c h g = g h
+
+pub find_gone : {X : Type 0} (p : X → Bool) (xs : List X) → find p (filter (λ x. not (p x)) xs) ≡ None
+find_gone p [] = refl
+find_gone p (x ∷ xs) = by (p x) refl (find_gone p xs)
+  where
+    by : (b : Bool) → p x ≡ b → find p (filter (λ x. not (p x)) xs) ≡ None → find p (if not b then x ∷ filter (λ x. not (p x)) xs else filter (λ x. not (p x)) xs) ≡ None
+    by true e i = i
+    by false e i = rw e i
+
+pub nowhere : {X : Type 0} (p : X → Bool) (o : Option X) → o ≡ None → holds p o ≡ true → ⊥
+nowhere p o e h = true≢false (sym h ∙ ap (holds p) e)
+
+pub nothing : {X : Type 0} (o : Option X) → o ≡ None → is_some o ≡ true → ⊥
+nothing o e h = true≢false (sym h ∙ ap is_some e)
+
+-- ---- what is under way is among what is listed of it
+
+sub_there : (k a : ℕ) (subs : List SubBatch) → is_some (sub_of k a subs) ≡ true → Has (sub_places subs) (k, a)
+sub_there k a subs h =
+    let m = sub_found k a subs h in
+    let same : (m.it.bid, m.it.actor) ≡ (k, a) = λ j. (m.bid j, m.actor j) in
+    subst (λ x. Has (sub_places subs) x) same (has_map (λ m. (m.bid, m.actor)) subs m.it m.has)
+
+control_there : (t a : ℕ) (controls : List (ControlMessage Rest)) (m : ControlMessage Rest) → control_of t controls ≡ Some m → m.to ≡ a → Has (control_places controls) (t, a)
+control_there t a controls m is to =
+    let r = found_in (λ m. m.tid == t) controls m is in
+    let same : (m.tid, m.to) ≡ (t, a) = λ j. (eqb-true m.tid t r.1 j, to j) in
+    subst (λ x. Has (control_places controls) x) same (has_map (λ m. (m.tid, m.to)) controls m r.0)
+
+place_in : (f : ℕ × ℕ → List Event) (places : List (ℕ × ℕ)) (p : ℕ × ℕ) (e : Event) → Has places p → Has (f p) e → Contains (flat_map f places) e
+place_in f places p e h g = from_has (flat_map f places) e (has_flat_map f places p e h g)
+
+-- of those that go to an actor
+place_to : (f : ℕ × ℕ → List Event) (places : List (ℕ × ℕ)) (n a b : ℕ) (e : Event) → Has places (n, a) → (b == a) ≡ true → Has (f (n, a)) e → Contains (flat_map f (places_to b places)) e
+place_to f places n a b e h same g = place_in f (places_to b places) (n, a) e (has_filter (λ p. p.1 == b) places (n, a) h (eq-eqb a b (sym (eqb-true b a same)))) g
+
+module _ (p : Post Rest) where
+  pub arrival_in : (k a b : ℕ) → is_some (sub_of k a p.subs) ≡ true → (b == a) ≡ true → Contains (arrivals_to b p) (Arrive k a)
+  arrival_in k a b h e = place_to of_arrival (sub_places p.subs) k a b (Arrive k a) (sub_there k a p.subs h) e (inl refl)
+
+  pub coming_in : (t a b : ℕ) (e : Event) → has_control_to t a p.controls ≡ true → (b == a) ≡ true → Has (of_coming (t, a)) e → Contains (comings_to b p) e
+  coming_in t a b e h same g =
+      let m = held (λ m. m.to == a) (control_of t p.controls) h in
+      place_to of_coming (control_places p.controls) t a b e (control_there t a p.controls m.it m.is (eqb-true m.it.to a m.does)) same g
+
+  pub in_control : (t a : ℕ) (e : Event) → has_control_to t a p.controls ≡ true → Has (of_control (t, a)) e → Contains (on_control t p) e
+  in_control t a e h g =
+      let m = held (λ m. m.to == a) (control_of t p.controls) h in
+      subst (λ o. Contains (of_target t (option_map message_to o)) e) (sym m.is) (subst (λ n. Contains (of_control (t, n)) e) (sym (eqb-true m.it.to a m.does)) (from_has (of_control (t, a)) e g))
+
+  pub drop_in_control : (t : ℕ) → is_some (control_of t p.controls) ≡ true → Contains (on_control t p) (DropControl t)
+  drop_in_control t h =
+      let m = some (control_of t p.controls) h in
+      subst (λ o. Contains (of_target t (option_map message_to o)) (DropControl t)) (sym m.is) (from_has (of_control (t, m.it.to)) (DropControl t) (inr (inr (inl refl))))
+
+  -- ---- all that is under way
+
+  pub all_subs : (k a : ℕ) (e : Event) → is_some (sub_of k a p.subs) ≡ true → Has (of_sub (k, a)) e → Contains (on_post p) e
+  all_subs k a e h g = Contains-append_left (flat_map of_sub (sub_places p.subs)) (flat_map of_control (control_places p.controls)) e (place_in of_sub (sub_places p.subs) (k, a) e (sub_there k a p.subs h) g)
+
+  pub all_controls : (t a : ℕ) (e : Event) → has_control_to t a p.controls ≡ true → Has (of_control (t, a)) e → Contains (on_post p) e
+  all_controls t a e h g =
+      let m = held (λ m. m.to == a) (control_of t p.controls) h in
+      Contains-append_right (flat_map of_sub (sub_places p.subs)) (flat_map of_control (control_places p.controls)) e (place_in of_control (control_places p.controls) (t, a) e (control_there t a p.controls m.it m.is (eqb-true m.it.to a m.does)) g)
+
+  pub all_drops : (t : ℕ) → is_some (control_of t p.controls) ≡ true → Contains (on_post p) (DropControl t)
+  all_drops t h =
+      let m = some (control_of t p.controls) h in
+      Contains-append_right (flat_map of_sub (sub_places p.subs)) (flat_map of_control (control_places p.controls)) (DropControl t) (place_in of_control (control_places p.controls) (t, m.it.to) (DropControl t) (control_there t m.it.to p.controls m.it m.is refl) (inr (inr (inl refl))))
+
+-- ---- a batch is formed
+
+pub numbered_from : (n : ℕ) (ns : List ℕ) (q : Pact) → Has (numbered n ns) q → n ≤ q.tid
+numbered_from n [] q h = absurd h
+numbered_from n (m ∷ ns) q (inl e) = omega (arith, ap (λ x. x.tid) e)
+numbered_from n (m ∷ ns) q (inr h) = omega (arith, numbered_from (n + 1) ns q h)
+
+-- ---- an ACT that is not given up was not
+
+pub holds_back : {X : Type 0} (p q : X → Bool) (f : X → X) → ((x : X) → q (f x) ≡ q x) → ((x : X) → p (f x) ≡ true → p x ≡ true) → (xs : List X) → holds p (find q (map f xs)) ≡ true → holds p (find q xs) ≡ true
+holds_back p q f same back [] h = h
+holds_back p q f same back (x ∷ xs) h = by (q x) (subst (λ b. holds p (if b then Some (f x) else find q (map f xs)) ≡ true) (same x) h) (holds_back p q f same back xs)
+  where
+    by : (b : Bool) → holds p (if b then Some (f x) else find q (map f xs)) ≡ true → (holds p (find q (map f xs)) ≡ true → holds p (find q xs) ≡ true) → holds p (if b then Some x else find q xs) ≡ true
+    by true g i = back x g
+    by false g i = i g
+
+pub crossed_back : (a : ℕ) (t : ℕ) (xs : List Act) → holds (λ x. not (is_doomed x.status)) (act_of t (map (crossed_out a) xs)) ≡ true → holds (λ x. not (is_doomed x.status)) (act_of t xs) ≡ true
+crossed_back a t xs h = holds_back (λ x. not (is_doomed x.status)) (λ x. x.tid == t) (crossed_out a) (λ x. refl) back xs h
+  where
+    back : (x : Act) → not (is_doomed (crossed_out a x).status) ≡ true → not (is_doomed x.status) ≡ true
+    back x g = by (is_crossed x) g
+      where
+        by : (b : Bool) → not (is_doomed (if b then Doomed (out_of_order x.m (unwrap_or x.n 0) a) else x.status)) ≡ true → not (is_doomed x.status) ≡ true
+        by true i = no i
+        by false i = i
+
+-- a test that no higher number passes where this one does not
+pub raised_back : (p : Act → Bool) → ((x : Act) (k : ℕ) → p (record x { m = max x.m k }) ≡ true → p x ≡ true) → (pairs : List Pair) (t : ℕ) (xs : List Act) → holds p (act_of t (raised pairs xs)) ≡ true → holds p (act_of t xs) ≡ true
+raised_back p back pairs t [] h = h
+raised_back p back pairs t (x ∷ xs) h = by (x.tid == t) h (raised_back p back pairs t xs)
+  where
+    by : (b : Bool) → holds p (if b then Some (record x { m = max x.m (carried pairs x (raised pairs xs)) }) else act_of t (raised pairs xs)) ≡ true
+        → (holds p (act_of t (raised pairs xs)) ≡ true → holds p (act_of t xs) ≡ true)
+        → holds p (if b then Some x else act_of t xs) ≡ true
+    by true g i = back x (carried pairs x (raised pairs xs)) g
+    by false g i = i g
+
+pub changed_back : (p : Act → Bool) (u : ℕ) (f : Act → Act) → ((x : Act) → (f x).tid ≡ x.tid) → ((x : Act) → p (f x) ≡ true → p x ≡ true) → (t : ℕ) (xs : List Act) → holds p (act_of t (changed_act u f xs)) ≡ true → holds p (act_of t xs) ≡ true
+changed_back p u f tid back t xs h = holds_back p (λ x. x.tid == t) (λ x. change_if (x.tid == u) f x) (λ x. same x (x.tid == u)) (λ x. undo x (x.tid == u)) xs h
+  where
+    same : (x : Act) (b : Bool) → ((change_if b f x).tid == t) ≡ (x.tid == t)
+    same x true = ap (λ n. n == t) (tid x)
+    same x false = refl
+
+    undo : (x : Act) (b : Bool) → p (change_if b f x) ≡ true → p x ≡ true
+    undo x true g = back x g
+    undo x false g = g

@@ -1,0 +1,16 @@
+use Rattle.protocol.specs.Effects.{after}
+use Rattle.ready_news.proofs.AfterRuns.{holding}
+use Rattle.ready_news.proofs.Behind.{book_enough}
+use Rattle.ready_news.proofs.AfterAsk.{besides}
+use Rattle.ready_news.proofs.InBook.{Unbegun, book_told}
+use Rattle.ready_news.proofs.laws.book_is_told.Goals as goal
+
+pub returns : goal.returns
+returns c w e s h x es behind shows more =
+    let b = (after w e s).book in
+    let none = c.unbegun_acts_wait_for_nothing.ensures in
+    let u : Unbegun b = record { decided = λ t n. none.decided x b t shows n; sealed = λ t n. none.sealed x b t shows n; vouched = λ t n a. none.vouched x b t shows n a } in
+    book_told w e s b es u
+    (book_enough c.runs_go_on.ensures w e s h behind c.run_parts_list_all.ensures)
+    (besides w e s (holding w s behind.run) (holding w (after w e s) (c.runs_go_on.ensures w e s behind.run behind.allowed)).known.once behind.allowed c.allowed_or_refused.ensures u)
+    more

@@ -1,0 +1,18 @@
+pub mod BatchesSettled
+pub mod Elements
+pub mod GroupsGrown
+pub mod PausesFit
+pub mod Pieces
+pub mod ProgramsLeave
+pub mod RecordsKept
+pub mod RepliesGrown
+pub mod ResultsFit
+pub mod RunsLonger
+pub mod SlicesFit
+pub mod StatesKept
+pub mod ValuesFit
+mod ToldSizes
+mod GroupSizes
+mod GroupsWaited
+mod RecordCounts
+pub mod Driving

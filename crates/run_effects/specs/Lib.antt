@@ -1,0 +1,10 @@
+pub mod Groups
+pub mod Made
+pub mod Lines
+pub mod Laws
+pub mod Recorded
+pub mod Replies
+pub mod Sizes
+pub mod Driven
+pub mod Appending
+pub mod RunsOf

@@ -1,3 +1,0 @@
-pub mod Driven
-pub mod Appending
-pub mod RunsOf

@@ -1,5 +1,0 @@
-use Rattle.run_outputs.proofs.BatchesSettled.{batches_counted}
-use Rattle.run_outputs.proofs.groups.batches_are_counted.Goals as goal
-
-pub returns : goal.returns
-returns g c w es run = batches_counted w es c.frame.ensures run

@@ -1,5 +1,0 @@
-use Rattle.run_outputs.proofs.RepliesGrown.{lines_grow}
-use Rattle.run_outputs.proofs.replies.replies_grow.Goals as goal
-
-pub returns : goal.returns
-returns g c w finish es f text run e ok = lines_grow w es e (c.answers_grow.ensures.grow w finish es f text run e ok)

@@ -1,9 +1,0 @@
-use Rattle.std.specs.List.{flat_map}
-use Rattle.std.proofs.Common.{map, take}
-use Rattle.post_box.specs.Listed.{sub_listed}
-use Rattle.hand_offers.specs.Listed.{Adds}
-use Rattle.touched_events.specs.InPost.{of_arrival}
-use Rattle.touched_events.proofs.in_post.push_arrivals.Given as goal
-
-abbrev pub invariant-loop-p : goal.invariant-loop-p
-invariant-loop-p l = Adds l.initial.events.items l.events.items (flat_map of_arrival (map sub_listed (take l.p-index l.subs)))

@@ -1,8 +1,0 @@
-use Rattle.std.proofs.Common.{subst}
-use Rattle.hand_offers.specs.Listed.{Adds}
-use Rattle.protocol.specs.Events.{Seal}
-use Rattle.touched_events.specs.InBook.{only}
-use Rattle.touched_events.proofs.in_sync.list_sealing.Goals as goal
-
-pub returns : goal.returns
-returns c = λ b s. subst (λ p. Adds c.args.events.now.items c.push_if.new.events.items (only p (Seal c.args.t.0))) (c.is_sealing-due.ensures b s) c.in_ok-push_if.ensures

@@ -1,6 +1,0 @@
-use Rattle.touched_events.proofs.Behind.{run_after}
-use Rattle.touched_events.proofs.InRing.{logs_told}
-use Rattle.touched_events.proofs.laws.logs_are_told.Goals as goal
-
-pub returns : goal.returns
-returns c w e s h es behind more = logs_told w e s es c.logs_stay.ensures (run_after c.runs_go_on.ensures w e s h behind) more
