@@ -1,7 +1,8 @@
-//! The machine with the language: the great laws of the protocol for every checked program, every accepted text whose
-//! transactions may be asked of it, and every run. `specs/Programs.antt` says what such a text is. The laws stand over
-//! any method code that has some facts (protocol_laws, protocol_theorems), and the code of a program has them
-//! (machine_code), so here no premise on code is left. No code stands here; each law is called to cite it.
+//! The machine with the language. Checked programs are method code as the machine asks for it: a control is what is left of a
+//! transaction, and a slice is that of the sliced executor. They have all the facts that the machine uses of method code, and a
+//! serial execution in the machine's words is the one that the language means. So the great laws of the protocol, which stand
+//! over any method code with these facts, hold with no premise on code: for every checked program, every accepted text whose
+//! transactions may be asked of it (`specs/Programs.antt`), and every run. No code stands here; each law is called to cite it.
 #![tactic(auto)]
 
 mod actors;

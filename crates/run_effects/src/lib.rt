@@ -1,6 +1,8 @@
-//! What the events of a run give to the outside: the groups of records that each log gets, and the lines that are printed, and
-//! how what a run gives grows with one more event. Hosts and the top call stand on it. The one piece of code here writes bytes
-//! to a sink, as each of them does.
+//! What the events of a run give to the outside: the groups of records that each log gets, the lines that are printed, and how
+//! these grow with one more event. What waits on a log may be appended to it at every moment of every run, since the records of
+//! a run are few and short. A log's journal gets the groups of the log's Syncs, one append for each, and then perhaps a prefix
+//! of one that met a fault. The definitions, the laws, the append and the reasons why a host ends are for every host, whoever
+//! takes the events.
 #![tactic(auto)]
 
 mod appends;
